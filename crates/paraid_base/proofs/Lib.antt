@@ -1,0 +1,10 @@
+pub mod ToldLemmas
+pub mod BytesLemmas
+pub mod XorLemmas
+pub mod SumsLemmas
+pub mod HistoryLemmas
+pub mod SkipsLemmas
+pub mod CellsLemmas
+pub mod SoftLemmas
+pub mod PlacesLemmas
+pub mod RegionsLemmas

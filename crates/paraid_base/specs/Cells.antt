@@ -1,0 +1,17 @@
+-- Where blocks and cells lie
+use Rattle.std.specs.Prelude.{ℕ, ◌+◌, ◌-◌, ◌*◌, ◌/◌, ◌%◌}
+use Rattle.paraid_base.specs.Skips.{place_among, skip}
+
+-- the parity disk of a row, of `n` disks
+abbrev pub parity_disk : ℕ → ℕ → ℕ
+parity_disk n r = n - 1 - r % n
+
+abbrev pub home_row : ℕ → ℕ → ℕ
+home_row n b = b / (n - 1)
+
+abbrev pub home_disk : ℕ → ℕ → ℕ
+home_disk n b = skip (parity_disk n (home_row n b)) (b % (n - 1))
+
+-- the block of a cell that holds no parity
+abbrev pub block_of : ℕ → ℕ → ℕ → ℕ
+block_of n r d = r * (n - 1) + place_among (parity_disk n r) d

@@ -1,0 +1,11 @@
+pub mod Told
+pub mod Bytes
+pub mod Xor
+pub mod Sums
+pub mod History
+pub mod Skips
+pub mod Cells
+pub mod Soft
+pub mod Places
+pub mod Regions
+pub mod Gears

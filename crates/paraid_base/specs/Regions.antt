@@ -1,0 +1,30 @@
+-- Where the parts of a disk of one geometry begin
+use Rattle.std.specs.Prelude.{◌≡◌, ℕ, ◌+◌, ◌/◌, if◌then◌else◌, slice_index_or, true, false}
+use Rattle.paraid_base.specs.declared.geometry.Geometry.{Geometry}
+use Rattle.paraid_base.specs.Places.{sum_before}
+use Rattle.paraid_base.specs.Soft.{stripe_count}
+
+abbrev pub IsGear : Geometry → ℕ → Type 0
+IsGear g a = slice_index_or g.gears a false ≡ true
+
+-- how many stripes the region of `a` has; a number that is no gear has no region
+abbrev pub region_size : Geometry → ℕ → ℕ
+region_size g a = if slice_index_or g.gears a false then stripe_count g.disks g.rows a else 0
+
+abbrev pub map_count : Geometry → ℕ
+map_count g = (g.rows + 511) / 512
+
+abbrev pub map_place_of : Geometry → ℕ → ℕ
+map_place_of g r = 100 + r / 512
+
+abbrev pub hard_place_of : Geometry → ℕ → ℕ
+hard_place_of g r = 100 + map_count g + r
+
+abbrev pub soft_start : Geometry → ℕ → ℕ
+soft_start g a = 100 + map_count g + g.rows + sum_before (region_size g) a
+
+abbrev pub soft_place_of : Geometry → ℕ → ℕ → ℕ
+soft_place_of g a s = soft_start g a + s
+
+abbrev pub disk_size : Geometry → ℕ
+disk_size g = soft_start g (g.disks + 1)

@@ -1,0 +1,32 @@
+-- Where the copies of parked disks' cells lie
+use Rattle.std.specs.Prelude.{ℕ, ◌+◌, ◌-◌, ◌*◌, ◌/◌, ◌%◌}
+use Rattle.paraid_base.specs.Skips.{skip}
+
+-- the number of cell `(r, d)` among the cells of disks `a` to `n - 1`
+abbrev pub cell_number : ℕ → ℕ → ℕ → ℕ → ℕ
+cell_number n a r d = r * (n - a) + (d - a)
+
+abbrev pub row_of_number : ℕ → ℕ → ℕ → ℕ
+row_of_number n a c = c / (n - a)
+
+abbrev pub disk_of_number : ℕ → ℕ → ℕ → ℕ
+disk_of_number n a c = a + c % (n - a)
+
+abbrev pub soft_stripe : ℕ → ℕ → ℕ → ℕ → ℕ
+soft_stripe n a r d = cell_number n a r d / (a - 1)
+
+abbrev pub soft_index : ℕ → ℕ → ℕ → ℕ → ℕ
+soft_index n a r d = cell_number n a r d % (a - 1)
+
+abbrev pub soft_parity_disk : ℕ → ℕ → ℕ
+soft_parity_disk a s = a - 1 - s % a
+
+abbrev pub soft_disk : ℕ → ℕ → ℕ → ℕ → ℕ
+soft_disk n a r d = skip (soft_parity_disk a (soft_stripe n a r d)) (soft_index n a r d)
+
+abbrev pub number_at : ℕ → ℕ → ℕ → ℕ
+number_at a s i = s * (a - 1) + i
+
+-- how many stripes region `a` has
+abbrev pub stripe_count : ℕ → ℕ → ℕ → ℕ
+stripe_count n rows a = (rows * (n - a) + (a - 2)) / (a - 1)

@@ -1,0 +1,24 @@
+-- What an object of the outside may tell: bytes, and how often its calls have failed.
+use Rattle.std.specs.Prelude.{◌≡◌, ℕ, ◌<◌, ◌≤◌, ◌-◌, ◌^◌, ◌⊎◌, List, [], ◌++◌, Option, IsSome, unwrap_or}
+
+-- the bytes that are told, none where nothing is told
+abbrev pub told : Option (List ℕ) → List ℕ
+told o = unwrap_or o []
+
+-- What was left is this piece and what is left now. What is told now was told before.
+pub record Gives (old new : Option (List ℕ)) (piece : List ℕ) : Type 0 where
+  pub before : IsSome new → IsSome old
+  pub bytes : IsSome new → told old ≡ piece ++ told new
+
+-- What is written grew by this piece. What is told now was told before.
+pub record Grows (old new : Option (List ℕ)) (piece : List ℕ) : Type 0 where
+  pub before : IsSome new → IsSome old
+  pub bytes : IsSome new → told new ≡ told old ++ piece
+
+-- where it is told, nothing is left
+abbrev pub AtEnd : Option (List ℕ) → Type 0
+AtEnd left = IsSome left → told left ≡ []
+
+-- A count of faults has risen. A count that has come to the end of its type stays there.
+pub record HasRisen (before now : ℕ) : Type 0 where
+  pub risen : (before < now) ⊎ (2 ^ 64 - 1 ≤ now)
