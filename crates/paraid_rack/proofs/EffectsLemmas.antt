@@ -1,0 +1,45 @@
+-- What a write or a sync keeps and gives, done, failed or left out.
+use Rattle.std.proofs.Common.{◌≡◌, ◌≢◌, ℕ, Bool}
+use Rattle.paraid_rack.specs.declared.call.Power.TheVariants.{Absent}
+use Rattle.paraid_rack.specs.declared.call.Call.TheVariants.{Write, Sync}
+use Rattle.paraid_base.specs.declared.block.Block.{Block}
+use Rattle.paraid_rack.specs.Disks.{Disks, step}
+use Rattle.paraid_rack.specs.Atoms.{Sure, Seen}
+use Rattle.paraid_rack.proofs.AtomsLemmas.{write_sure, write_seen, write_here, sync_sure, sync_seen, sync_here, absent_sure, absent_seen}
+
+pub record Wrote (s s' : Disks) (d0 p0 : ℕ) (b : Block) : Type 1 where
+  pub sure : (d p : ℕ) (Q : Block → Type 0) → (d ≡ d0 → p ≢ p0) → Sure s d p Q → Sure s' d p Q
+  pub seen : (d p : ℕ) (Q : Block → Type 0) → (d ≡ d0 → p ≢ p0) → Seen s d p Q → Seen s' d p Q
+  pub here : (Q : Block → Type 0) → Q b → Seen s' d0 p0 Q
+
+pub record Synced (s s' : Disks) (d0 : ℕ) : Type 1 where
+  pub sure : (d p : ℕ) (Q : Block → Type 0) → Sure s d p Q → Sure s' d p Q
+  pub seen : (d p : ℕ) (Q : Block → Type 0) → Seen s d p Q → Seen s' d p Q
+  pub here : (p : ℕ) (Q : Block → Type 0) → Seen s d0 p Q → Sure s' d0 p Q
+
+pub wrote_step : (s : Disks) (d0 p0 : ℕ) (b : Block) (done : Bool) → Wrote s (step (Write d0 p0 b done) s) d0 p0 b
+wrote_step s d0 p0 b done = record {
+  sure = λ d p Q apart h. write_sure s d0 p0 b done d p Q apart h;
+  seen = λ d p Q apart h. write_seen s d0 p0 b done d p Q apart h;
+  here = λ Q q. write_here s d0 p0 b done Q q;
+}
+
+pub wrote_none : (s : Disks) (d0 p0 : ℕ) (b : Block) → s.power d0 ≡ Absent → Wrote s s d0 p0 b
+wrote_none s d0 p0 b gone = record { sure = λ d p Q apart h. h; seen = λ d p Q apart h. h; here = λ Q q. absent_seen s d0 p0 Q gone }
+
+pub synced_step : (s : Disks) (d0 : ℕ) (done : Bool) → Synced s (step (Sync d0 done) s) d0
+synced_step s d0 done = record {
+  sure = λ d p Q h. sync_sure s d0 done d p Q h;
+  seen = λ d p Q h. sync_seen s d0 done d p Q h;
+  here = λ p Q h. sync_here s d0 done p Q h;
+}
+
+pub synced_none : (s : Disks) (d0 : ℕ) → s.power d0 ≡ Absent → Synced s s d0
+synced_none s d0 gone = record { sure = λ d p Q h. h; seen = λ d p Q h. h; here = λ p Q h. absent_sure s d0 p Q gone }
+
+-- seen, and not loose
+pub dry_sure : {s : Disks} {d p : ℕ} {Q : Block → Type 0} → Seen s d p Q → Sure s d p (λ b. Unit {0}) → Sure s d p Q
+dry_sure seen dry = record { holds = λ here. ((dry.holds here).0, seen.holds here) }
+
+pub sure_dry : {s : Disks} {d p : ℕ} {Q : Block → Type 0} → Sure s d p Q → Sure s d p (λ b. Unit {0})
+sure_dry sure = record { holds = λ here. ((sure.holds here).0, tt) }

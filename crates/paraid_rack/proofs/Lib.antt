@@ -1,0 +1,3 @@
+pub mod TrailsLemmas
+pub mod AtomsLemmas
+pub mod EffectsLemmas

@@ -1,0 +1,6 @@
+pub mod Disks
+pub mod Slots
+pub mod Trail
+pub mod Told
+pub mod Lawful
+pub mod Atoms
