@@ -61,7 +61,7 @@ module _ (s : Disks) where
   sync_present d0 done d h = kept_present s d0 done d h
 
   -- a write elsewhere
-  write_block_other : (d0 p0 : ℕ) (b : Block) (done : Bool) (d p : ℕ) → (d ≡ d0 → p ≢ p0) → (step (Write d0 p0 b done) s).block d p ≡ s.block d p
+  pub write_block_other : (d0 p0 : ℕ) (b : Block) (done : Bool) (d p : ℕ) → (d ≡ d0 → p ≢ p0) → (step (Write d0 p0 b done) s).block d p ≡ s.block d p
   unfolding step
   write_block_other d0 p0 b done d p apart =
       at_case (λ (f : ℕ → Block). f p ≡ s.block d p) s.block d0 (with_at (s.block d0) p0 b) d
@@ -75,7 +75,7 @@ module _ (s : Disks) where
       (λ is. with_at_other (s.loose d0) p0 true p (apart is) ∙ ap (λ (k : ℕ). s.loose k p) (sym is))
       (λ not. refl)
 
-  write_block_same : (d0 p0 : ℕ) (b : Block) (done : Bool) → (step (Write d0 p0 b done) s).block d0 p0 ≡ b
+  pub write_block_same : (d0 p0 : ℕ) (b : Block) (done : Bool) → (step (Write d0 p0 b done) s).block d0 p0 ≡ b
   unfolding step
   write_block_same d0 p0 b done = ap (λ (f : ℕ → Block). f p0) (with_at_same s.block d0 (with_at (s.block d0) p0 b) d0 refl) ∙ with_at_same (s.block d0) p0 b p0 refl
 
@@ -94,7 +94,7 @@ module _ (s : Disks) where
   pub write_here : (d0 p0 : ℕ) (b : Block) (done : Bool) (Q : Block → Type 0) → Q b → Seen (step (Write d0 p0 b done) s) d0 p0 Q
   write_here d0 p0 b done Q q = record { holds = λ here. subst Q (sym (write_block_same d0 p0 b done)) q }
 
-  sync_block : (d0 : ℕ) (done : Bool) (d p : ℕ) → (step (Sync d0 done) s).block d p ≡ s.block d p
+  pub sync_block : (d0 : ℕ) (done : Bool) (d p : ℕ) → (step (Sync d0 done) s).block d p ≡ s.block d p
   unfolding step
   sync_block d0 done d p = refl
 
@@ -162,3 +162,7 @@ lost_left s i x image = record {
       (λ is now. absurd (false≢true now)) (λ not now. ap is_present (sym (image.power d)) ∙ now) here;
   block = image.block;
 }
+
+pub read_block-same : (s : Disks) (d0 p0 : ℕ) (done : Bool) → (step (Read d0 p0 done) s).block ≡ s.block
+unfolding step
+read_block-same s d0 p0 done = refl

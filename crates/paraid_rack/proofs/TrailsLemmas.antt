@@ -1,6 +1,7 @@
 -- Parts of a program, one after the other.
 use Rattle.std.proofs.Common.{◌≡◌, ℕ, zero, suc, ◌+◌, ◌-◌, ◌≤◌, List, [], ◌∷◌, ◌++◌, length, take, Option, Some, refl, sym, ◌∙◌, ap, subst, arith, append_assoc, length-append}
 use Rattle.std.proofs.lemmas.List.{append-nil}
+use Rattle.paraid_rack.specs.Lawful.{Lawful}
 use Rattle.paraid_rack.specs.declared.call.Call.{Call}
 use Rattle.paraid_rack.specs.Disks.{Disks, step}
 use Rattle.paraid_rack.specs.Trail.{Trail, run, now, disks, initial, extend, moments}
@@ -109,3 +110,42 @@ moments_of P A B old new ran t tells =
                 subst P (sym there) (at_moment P (now s) r.calls (m - moments s) b.0),
           ),
     )
+
+-- calls that have Q, for any Q that holds of two parts where it holds of each
+pub Ran-none : (Q : Disks → List Call → Type 0) → ((s : Disks) → Q s []) → (told : Option Trail) → Ran told told Q
+Ran-none Q none told t tells = record {
+  from = t;
+  was = tells;
+  calls = [];
+  is = ap (λ (l : List Call). record { start = t.start; calls = l }) (sym (append-nil t.calls));
+  holds = none (now t);
+}
+
+pub Ran-call : (Q : Disks → List Call → Type 0) (old new : Option Trail) (c : Call) → Grows old new c → ((s : Trail) → old ≡ Some s → Q (now s) (c ∷ [])) → Ran old new Q
+Ran-call Q old new c grows has t tells =
+    let g = grows t tells in
+    record { from = g.0; was = g.1; calls = c ∷ []; is = g.2; holds = has g.0 g.1 }
+
+pub Ran-then : (Q : Disks → List Call → Type 0) → ((s : Disks) (cs ds : List Call) → Q s cs → Q (run s cs) ds → Q s (cs ++ ds)) → (old mid new : Option Trail)
+    → Ran old mid Q → Ran mid new Q → Ran old new Q
+Ran-then Q both old mid new first second t tells =
+    let later = second t tells in
+    let before = first later.from later.was in
+    let here : now later.from ≡ run (now before.from) before.calls = ap now before.is ∙ now-extend before.from before.calls in
+    record {
+      from = before.from;
+      was = before.was;
+      calls = before.calls ++ later.calls;
+      is = later.is ∙ ap (λ (r : Trail). extend r later.calls) before.is ∙ extend-extend before.from before.calls later.calls;
+      holds = both (now before.from) before.calls later.calls before.holds (subst (λ (s : Disks). Q s later.calls) here later.holds);
+    }
+
+-- the disks after one more call
+pub now-more : (old new : Option Trail) (c : Call) → Grows old new c → (t : Trail) → new ≡ Some t → (s : Trail) × (old ≡ Some s) × (now t ≡ step c (now s))
+now-more old new c grows t tells =
+    let g = grows t tells in
+    (g.0, g.1, ap now g.2 ∙ now-extend g.0 (c ∷ []))
+
+pub Lawful-append : (s : Disks) (cs ds : List Call) → Lawful s cs → Lawful (run s cs) ds → Lawful s (cs ++ ds)
+Lawful-append s [] ds first second = second
+Lawful-append s (c ∷ cs) ds first second = (first.0, Lawful-append (step c s) cs ds first.1 second)

@@ -21,12 +21,6 @@ pub trait Rack {
     /// The start and the calls since then, where the rack tells them.
     ghost told: { Self → Option Trail };
 
-    /// What holds of the slots at any time.
-    ghost slots_hold: { (rack : Self) → AreSlots (slot_count rack) (slot rack) };
-
-    /// What is told of the calls agrees with what is always told.
-    ghost agrees: { (rack : Self) (t : Trail) → told rack ≡ Some t → Agrees (now t) (slot rack) };
-
     /// The number of slots, at most 8.
     fn slots(&self) -> u8
         ensures { result ≡ slot_count self.now };
@@ -107,4 +101,10 @@ pub trait Rack {
             (slot self.old disk).unsynced (is_ok result) }
         ensures told { Grows (told self.old) (told self.new)
             (Call.Attach disk size (is_ok result)) };
+
+    /// What holds of the slots at any time.
+    ghost slots_hold: { (rack : Self) → AreSlots (slot_count rack) (slot rack) };
+
+    /// What is told of the calls agrees with what is always told.
+    ghost agrees: { (rack : Self) (t : Trail) → told rack ≡ Some t → Agrees (now t) (slot rack) };
 }
