@@ -1,2 +1,7 @@
 pub mod Filled
 pub mod Trace
+pub mod Stands
+pub mod Heard
+pub mod Session
+pub mod Output
+pub mod Ends

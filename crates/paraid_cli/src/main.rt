@@ -4,6 +4,13 @@
 mod event;
 mod parse;
 mod reply;
+mod hear;
+mod run;
+mod status;
+mod top;
+mod serve;
+mod session;
+mod stdio;
 mod text;
 
 fn main(rt: HostRuntime) {}
