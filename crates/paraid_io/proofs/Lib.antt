@@ -1,3 +1,4 @@
 pub mod LineLemmas
-pub mod Midway
+pub mod NewlineLemmas
 pub mod BufferLemmas
+pub mod Midway

@@ -1,5 +1,6 @@
 -- What a reader keeps while it looks for the end of a line.
-use Rattle.std.proofs.Common.{◌≡◌, ℕ, ◌+◌, ◌^◌, ◌<◌, ◌≤◌, Bool, true, false, List, [], ◌∷◌, ◌++◌, length, IsTrue, Option, Some, None, Ok, Err, refl, sym, ap, ◌∙◌, subst, inl, inr, arith, length-append, ◌==◌}
+use Rattle.std.proofs.Common.{◌≡◌, ℕ, ◌+◌, ◌^◌, ◌<◌, ◌≤◌, Bool, true, false, List, [], ◌∷◌, ◌++◌, length, take, IsTrue, Option, Some, None, Ok, Err, refl, sym, ap, ◌∙◌, subst, inl, inr, arith, length-append, ◌==◌}
+use Rattle.std.proofs.Math.Seq.{take-append_seam}
 use Rattle.std.proofs.lemmas.List.{append_assoc, append-nil, nil_from_length}
 use Rattle.std.proofs.lemmas.Bool.Decides.{nat_tests}
 use Rattle.std.proofs.lemmas.Bool.{cases_lt, cases_eq, false≢true}
@@ -8,8 +9,8 @@ use Rattle.paraid_io.specs.declared.line.Line.{Line}
 use Rattle.paraid_io.specs.declared.line.Line.TheVariants.{Whole, Long, End}
 use Rattle.paraid_io.specs.declared.line.LineFault.{LineFault}
 use Rattle.paraid_io.specs.Lines.{NoNewline}
-use Rattle.paraid_io.specs.Reading.{Reading, CutsOff, Answers, Step, Takes}
-use Rattle.paraid_io.proofs.LineLemmas.{NoNewline-append}
+use Rattle.paraid_io.specs.Reading.{Reading, CutsOff, Answers, Step, Takes, NeedsNoCall}
+use Rattle.paraid_io.proofs.LineLemmas.{NoNewline-append, NoNewline-front, whole_lines-rest}
 use Rattle.paraid_base.proofs.ToldLemmas.{Gives-none, Gives-then}
 
 -- These bytes were taken, and those are gone from the buffer.
@@ -195,3 +196,23 @@ held_same {before} {now} {old} {at} {after} {d} {e} m plain is sum = (
   subst NoNewline (sym (ap (λ x. x.rest) is)) plain,
   ap (λ x. x.ended) is,
 )
+
+-- What was held before is the first part of what is held after more was taken.
+pub scanned_within : {before after : Option (List ℕ)} {old new : Reading} {n : ℕ} → Takes before after old new n → length old.rest ≤ length new.rest
+scanned_within {before} {after} {old} {new} {n} t = rw (t.held, length-append old.rest t.got) (omega arith)
+
+pub scanned_plain : {before after : Option (List ℕ)} {old new : Reading} {n : ℕ} → Takes before after old new n → NoNewline old.rest → NoNewline (take (length old.rest) new.rest)
+scanned_plain {before} {after} {old} {new} {n} t plain = rw t.held (subst NoNewline (sym (take-append_seam old.rest t.got)) plain)
+
+-- the source is called only where the answer was not known without it
+pub needs_a_call : {before now : Option (List ℕ)} {old at : Reading} {d : ℕ} → Midway before now old at d → at.ended ≡ false → NoNewline at.rest → at.taken < 2 ^ 40
+    → NeedsNoCall old → ⊥
+needs_a_call {before} {now} {old} {at} {d} m unended plain short none =
+    let input : NoNewline (old.rest ++ m.got) = subst NoNewline (sym m.input) (NoNewline-append m.gone at.rest m.plain plain) in
+    elim none [
+      | inl ended ↦ false≢true (sym unended ∙ m.stays_ended ended)
+      | inr other ↦ elim other [
+        | inl whole ↦ whole (whole_lines-rest old.rest (NoNewline-front old.rest m.got input))
+        | inr full ↦ absurd (omega (arith, m.taken))
+      ]
+    ]

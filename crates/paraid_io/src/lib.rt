@@ -9,6 +9,7 @@ mod line;
 mod memory;
 mod plan;
 mod reader;
+mod scan;
 mod sink;
 mod source;
 

@@ -1,36 +1,24 @@
 ghost use Rattle.std.specs.Prelude.{◌≡◌, ℕ, ◌+◌, ◌-◌, ◌^◌, ◌<◌, ◌≤◌, List, [], ◌∷◌, ◌++◌, length, take, drop, MatchOption, IfSome, IfNone, IfOk, OnErr, ◌==◌, ◌↔◌, IsTrue};
 ghost use Rattle.paraid_base.specs.Told.{Gives, HasRisen};
 ghost use Rattle.paraid_io.specs.Lines.{NoNewline};
-ghost use Rattle.paraid_io.specs.Reading.{Reading, fresh, Takes, Step, HasCause};
+ghost use Rattle.paraid_io.specs.Reading.{Reading, fresh, Takes, Step, HasCause, NeedsNoCall};
 
+use crate::scan::{PIECE, make_room, newline_at};
 use crate::{Line, LineFault, Source};
 use paraid_base::Failed;
 use std::marker::Model;
 
-// Where the first newline stands.
-fn newline_at(bytes: &[u8]) -> Option<usize>
-    ensures { MatchOption result (NoNewline bytes.now) (λ k. (k < length bytes.now)
-        × NoNewline (take k bytes.now)
-        × (bytes.now ≡ take k bytes.now ++ 10 ∷ drop (k + 1) bytes.now)) }
-{
-    for (i, b) in bytes.iter().enumerate() {
-        if *b == b'\n' {
-            return Some(i);
-        }
-    }
-    None
-}
-
 /// How many bytes a reader holds at most.
-const BUFFER: usize = 4096;
+const BUFFER: usize = 2 * PIECE;
 
-/// The longest line that is held.
+/// The longest line that is held, in bytes.
 pub const MAX_LINE: usize = 1100;
 
 /// How many bytes are taken at most, 2^40.
 pub const MAX_TAKEN: u64 = 1 << 40;
 
-/// Reads lines from a source through a buffer of fixed size.
+/// Reads lines from a source through a buffer of fixed size. It takes no memory, and looks at each
+/// byte once for a newline.
 #[derive(Drop)]
 pub struct LineReader {
     buffer: [u8; BUFFER],
@@ -54,8 +42,8 @@ impl Model for LineReader {
       fault = r.fault;
     } };
 
-    ghost invariant = { λ r. (r.start ≤ r.end) × (r.end ≤ 4096) × (r.line_start + r.line_length ≤ 4096)
-        × (r.end - r.start ≤ r.taken) × (r.taken ≤ 2 ^ 40) × (length r.buffer ≡ 4096) };
+    ghost invariant = { λ r. (r.start ≤ r.end) × (r.end ≤ 8192) × (r.line_start + r.line_length ≤ 8192)
+        × (r.end - r.start ≤ r.taken) × (r.taken ≤ 2 ^ 40) × (length r.buffer ≡ 8192) };
 }
 
 impl LineReader {
@@ -90,8 +78,10 @@ impl LineReader {
         &self.buffer[self.line_start..self.line_start + self.line_length]
     }
 
-    // The next line, if its newline is held.
-    fn take_line(&mut self) -> Option<usize>
+    // The next line, if its newline is held. None stands in the first `scanned` bytes.
+    fn take_line(&mut self, scanned: usize) -> Option<usize>
+        requires within { scanned ≤ length self.old.rest }
+        requires plain { NoNewline (take scanned self.old.rest) }
         ensures found { IfSome result (λ n. (length self.new.line ≡ n) × NoNewline self.new.line
             × (self.old.rest ≡ self.new.line ++ 10 ∷ self.new.rest)) }
         ensures none { IfNone result (NoNewline self.old.rest × (self.new ≡ self.old)) }
@@ -99,7 +89,7 @@ impl LineReader {
         ensures ended { self.new.ended ≡ self.old.ended }
         ensures fault { self.new.fault ≡ self.old.fault }
     {
-        let at = newline_at(&self.buffer[self.start..self.end])?;
+        let at = scanned + newline_at(&self.buffer[self.start + scanned..self.end])?;
         self.line_start = self.start;
         self.line_length = at;
         self.start += at + 1;
@@ -123,22 +113,23 @@ impl LineReader {
         requires held { length self.old.rest ≤ 1100 }
         requires room { self.old.taken < 2 ^ 40 }
         ensures got { IfOk result (λ n. Takes (S.left source.old) (S.left source.new) self.old self.new n) }
-        ensures keeps { OnErr result (Gives (S.left source.old) (S.left source.new) [] × (self.new.rest ≡ self.old.rest) × (self.new.taken ≡ self.old.taken) × (self.new.ended ≡ self.old.ended)) }
+        ensures keeps { OnErr result (Gives (S.left source.old) (S.left source.new) []
+            × (self.new.rest ≡ self.old.rest) × (self.new.taken ≡ self.old.taken)
+            × (self.new.ended ≡ self.old.ended)) }
         ensures ended { IfOk result (λ n. self.new.ended ≡ (n == 0)) }
         ensures fault { self.new.fault ≡ self.old.fault }
         ensures later { S.faults source.old ≤ S.faults source.new }
         ensures cause { OnErr result (HasRisen (S.faults source.old) (S.faults source.new)) }
     {
         let held = self.end - self.start;
-        self.buffer.copy_within(self.start..self.end, 0);
-        self.start = 0;
-        self.end = held;
+        self.start = make_room(&mut self.buffer, self.start, self.end);
+        self.end = self.start + held;
         self.line_start = 0;
         self.line_length = 0;
-        let left = MAX_TAKEN - self.taken;
-        let most = if left < 2048 { left as usize } else { 2048 };
-        let n = source.read_some(&mut self.buffer[held..held + most])?;
-        self.end = held + n;
+        let room = (BUFFER - self.end) as u64;
+        let most = room.min(MAX_TAKEN - self.taken) as usize;
+        let n = source.read_some(&mut self.buffer[self.end..self.end + most])?;
+        self.end += n;
         self.taken += n as u64;
         self.ended = n == 0;
         Ok(n)
@@ -146,13 +137,12 @@ impl LineReader {
 
     // How many bytes are held.
     fn held(&self) -> usize
-        ensures held { result ≡ length self.now.rest }
-        ensures within { length self.now.rest ≤ self.now.taken }
-        ensures limit { self.now.taken ≤ 2 ^ 40 }
+        ensures { result ≡ length self.now.rest }
     {
         self.end - self.start
     }
 
+    // Whether the source gave its end.
     fn ended(&self) -> bool
         ensures { result ≡ self.now.ended }
     {
@@ -166,8 +156,11 @@ impl LineReader {
         MAX_TAKEN - self.taken
     }
 
+    // The fault that was met.
     fn fault(&self) -> Option<LineFault>
-        ensures { result ≡ self.now.fault }
+        ensures value { result ≡ self.now.fault }
+        ensures held { length self.now.rest ≤ self.now.taken }
+        ensures limit { self.now.taken ≤ 2 ^ 40 }
     {
         self.fault
     }
@@ -183,15 +176,18 @@ impl LineReader {
 
     // The next line where no fault was met.
     fn read_line<S: Source>(&mut self, source: &mut S) -> Result<Line, LineFault>
-        requires { self.old.fault ≡ None }
+        requires well { self.old.fault ≡ None }
+        requires held { length self.old.rest ≤ self.old.taken }
+        requires limit { self.old.taken ≤ 2 ^ 40 }
         ensures step { Step (S.left source.old) (S.left source.new) self.old self.new result }
         ensures cause { HasCause result self.new (S.faults source.old) (S.faults source.new) }
+        ensures quiet { NeedsNoCall self.old → source.new ≡ source.old }
         ensures later { S.faults source.old ≤ S.faults source.new }
     {
         let mut dropped = 0;
-        let _held = self.held();
+        let mut scanned = 0;
         loop {
-            if let Some(length) = self.take_line() {
+            if let Some(length) = self.take_line(scanned) {
                 return Ok(line_of(dropped, length));
             }
             if self.ended() {
@@ -204,18 +200,26 @@ impl LineReader {
             if self.room() == 0 {
                 return Err(self.fail(LineFault::TooLong { bytes: MAX_TAKEN }));
             }
+            scanned = self.held();
             let Ok(_taken) = self.fill(source) else {
                 return Err(self.fail(LineFault::Source));
             };
         }
     }
 
-    /// The next line. After a fault each further call answers it.
+    /// The next line, the end, or a fault, which each further call answers again. `Source` comes
+    /// only where a call of the source failed, and `TooLong` exactly where 2^40 bytes were taken
+    /// and no whole line of them is left. The source is not called where the answer is known
+    /// without it, and nothing but the reader and the source changes.
     pub fn next<S: Source>(&mut self, source: &mut S) -> Result<Line, LineFault>
-        ensures step { self.old.fault ≡ None → Step (S.left source.old) (S.left source.new) self.old self.new result }
-        ensures cause { self.old.fault ≡ None → HasCause result self.new (S.faults source.old) (S.faults source.new) }
+        ensures step { self.old.fault ≡ None
+            → Step (S.left source.old) (S.left source.new) self.old self.new result }
+        ensures cause { self.old.fault ≡ None
+            → HasCause result self.new (S.faults source.old) (S.faults source.new) }
         ensures later { S.faults source.old ≤ S.faults source.new }
-        ensures again { (f : _) → self.old.fault ≡ Some f → (result ≡ Err f) × (self.new ≡ self.old) × (source.new ≡ source.old) }
+        ensures quiet { NeedsNoCall self.old → source.new ≡ source.old }
+        ensures again { (f : LineFault) → self.old.fault ≡ Some f
+            → (result ≡ Err f) × (self.new ≡ self.old) × (source.new ≡ source.old) }
     {
         match self.fault() {
             Some(fault) => Err(fault),
