@@ -1,0 +1,13 @@
+-- What is always told of the slots agrees with what is told of the calls.
+use Rattle.std.specs.Prelude.{ℕ}
+use Rattle.paraid_rack.specs.Disks.{Disks}
+use Rattle.paraid_rack.specs.Slots.{Agrees}
+use Rattle.paraid_memrack.specs.Slots.{View, slot_of}
+use Rattle.paraid_memrack.specs.Tells.{Holds}
+
+abbrev pub agrees_of : (s : Disks) (views : ℕ → View) → ((d : ℕ) → Holds s d (views d)) → Agrees s (λ d. slot_of (views d))
+agrees_of s views holds = record {
+  power = λ d. (holds d).power;
+  size = λ d. (holds d).size;
+  loose = λ d p. (holds d).loose p;
+}

@@ -1,0 +1,51 @@
+-- What decides which calls of a rack in memory fail, and what it tells.
+use Rattle.std.specs.Prelude.{◌≡◌, ℕ, Bool, false, List, [], length, replicate, Option}
+use Rattle.paraid_rack.specs.declared.call.Power.TheVariants.{Absent}
+use Rattle.paraid_rack.specs.declared.call.Call.{Call}
+use Rattle.paraid_rack.specs.Slots.{Slot}
+use Rattle.paraid_rack.specs.Trail.{Trail}
+use Rattle.paraid_memrack.specs.declared.plan.Planned.{Planned}
+use Rattle.paraid_memrack.specs.declared.rack.MemRack.{MemRack}
+use Rattle.paraid_memrack.specs.Plan.{has_room, is_planned, listed_after}
+use Rattle.paraid_memrack.specs.Slots.{slot_at}
+use Rattle.paraid_memrack.specs.Tells.{told_by, told_after}
+
+-- the plan, how many calls are listed at most, and how many blocks an attach may have
+pub record Rules : Type 0 where
+  pub plan : List Planned
+  pub most : ℕ
+  pub room : ℕ
+
+unfoldable pub rules_of : MemRack → Rules
+rules_of m = record { plan = m.log.plan.items; most = m.log.most; room = m.room }
+
+-- the calls that are listed
+unfoldable pub listed : MemRack → List Call
+listed m = m.log.calls.items
+
+abbrev pub count_of : MemRack → ℕ
+count_of m = length m.slots.items
+
+abbrev pub slots_of : MemRack → ℕ → Slot
+slots_of m = slot_at m.slots.items
+
+abbrev pub told_of : MemRack → Option Trail
+told_of m = told_by m.log.tells m.log.start.items m.log.calls.items
+
+-- whether the next call is to fail, if it is on this disk
+unfoldable pub fails_next : MemRack → ℕ → Bool
+fails_next m disk = is_planned m.log.most m.log.plan.items m.log.calls.items disk
+
+-- The rules are as before, and this call is listed and told where the list was not full.
+pub record Notes (old new : MemRack) (c : Call) : Type 0 where
+  pub rules : rules_of new ≡ rules_of old
+  pub listed : listed new ≡ listed_after (rules_of old).most (listed old) c
+  pub told : told_of new ≡ told_after (has_room (rules_of old).most (listed old)) (told_of old) c
+
+-- no slot has a disk at the start, and no call was made
+abbrev pub no_disks : ℕ → Trail
+no_disks count = record { start = replicate count (record { power = Absent; blocks = [] }); calls = [] }
+
+-- a slot with no disk that never failed
+abbrev pub no_disk : Slot
+no_disk = record { power = Absent; size = 0; unsynced = false; faults = 0 }

@@ -1,0 +1,41 @@
+-- What the slots of a rack in memory hold.
+use Rattle.std.specs.Prelude.{◌≡◌, ◌≢◌, ℕ, ◌+◌, min, Bool, false, List, [], length, map, get_or}
+use Rattle.paraid_base.specs.declared.block.Block.{Block}
+use Rattle.paraid_rack.specs.declared.call.Power.{Power}
+use Rattle.paraid_rack.specs.declared.call.Power.TheVariants.{Absent}
+use Rattle.paraid_rack.specs.Slots.{Slot}
+use Rattle.paraid_memrack.specs.declared.slot.MemSlot.{MemSlot}
+
+-- a slot with its blocks
+pub record View : Type 0 where
+  pub power : Power
+  pub blocks : List Block
+  pub unsynced : Bool
+  pub faults : ℕ
+
+abbrev pub view_of : MemSlot → View
+view_of s = record { power = s.power; blocks = s.blocks.items; unsynced = s.unsynced; faults = s.faults }
+
+-- a slot that does not exist
+abbrev pub nothing : View
+nothing = record { power = Absent; blocks = []; unsynced = false; faults = 0 }
+
+unfoldable pub view_at : List MemSlot → ℕ → View
+view_at slots d = get_or (map view_of slots) d nothing
+
+-- what is told of it
+abbrev pub slot_of : View → Slot
+slot_of v = record { power = v.power; size = length v.blocks; unsynced = v.unsynced; faults = v.faults }
+
+abbrev pub slot_at : List MemSlot → ℕ → Slot
+slot_at slots d = slot_of (view_at slots d)
+
+-- after a failed call
+abbrev pub wrecked : Bool → View → View
+wrecked dirt v = record { power = Absent; blocks = []; unsynced = dirt; faults = min (v.faults + 1) 18446744073709551615 }
+
+-- this slot has become so, and every other is as before
+pub record Becomes (old new : List MemSlot) (disk : ℕ) (leaves : View) : Type 0 where
+  pub same_length : length new ≡ length old
+  pub here : view_at new disk ≡ leaves
+  pub others : (d : ℕ) → d ≢ disk → view_at new d ≡ view_at old d

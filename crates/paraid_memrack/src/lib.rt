@@ -1,0 +1,16 @@
+//! A rack in memory, which tells all: its start, each call that it lists, and so its contents.
+//!
+//! It fails exactly the calls that its plan names, and an attach that is larger than its room or
+//! finds no memory. So a test can say at which call which disk is lost.
+#![tactic(auto)]
+
+mod log;
+mod plan;
+mod rack;
+mod slot;
+
+pub use plan::Planned;
+pub use rack::MemRack;
+
+#[cfg(test)]
+mod tests;

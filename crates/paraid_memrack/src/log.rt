@@ -1,0 +1,86 @@
+// What a rack in memory tells, and which of its calls are to fail.
+ghost use Rattle.std.specs.Prelude.{◌≡◌, ℕ, ◌<◌, ◌≤◌, List, [], length, slice_index, true, vec_capacity, IfOk};
+ghost use Rattle.paraid_memrack.specs.Plan.{disk_of, count_on, is_planned, listed_after, has_room};
+ghost use Rattle.paraid_memrack.specs.Counted.{IsCounted};
+
+use crate::plan::Planned;
+use paraid_base::{Block, DiskNo, NoMemory};
+use paraid_rack::{Call, Power};
+use std::alloc::Global;
+
+/// How a slot is at the start.
+#[derive(Drop)]
+pub struct Start {
+    pub power: Power,
+    pub blocks: Vec<Block>,
+}
+
+/// The start, the calls that are listed since then, and the plan of failures.
+#[derive(Drop)]
+pub struct Log {
+    pub start: Vec<Start>,
+    pub calls: Vec<Call>,
+    pub tells: bool,
+    pub most: u32,
+    pub plan: Vec<Planned>,
+    counts: [u32; 8],
+    ghost room: { most ≤ vec_capacity calls },
+    ghost few: { length calls.items ≤ most },
+    ghost counted: { IsCounted counts calls.items },
+}
+
+impl Log {
+    /// No call yet. It takes the memory for its list.
+    pub fn new(
+        alloc: Global,
+        start: Vec<Start>,
+        most: u32,
+        plan: Vec<Planned>,
+    ) -> Result<Self, NoMemory>
+        ensures start { IfOk result (λ log. log.start.items ≡ start.items) }
+        ensures calls { IfOk result (λ log. log.calls.items ≡ []) }
+        ensures tells { IfOk result (λ log. log.tells ≡ true) }
+        ensures most { IfOk result (λ log. log.most ≡ most) }
+        ensures plan { IfOk result (λ log. log.plan.items ≡ plan.items) }
+    {
+        let Ok(calls) = Vec::with_capacity(alloc, most as usize) else {
+            return Err(NoMemory);
+        };
+        Ok(Log {
+            start,
+            calls,
+            tells: true,
+            most,
+            plan,
+            counts: [0; 8],
+        })
+    }
+
+    /// Whether the next call is to fail, if it is on this disk.
+    pub fn is_planned(&self, disk: DiskNo) -> bool
+        requires { disk < 8 }
+        ensures { result ≡ is_planned self.now.most self.now.plan.items self.now.calls.items disk }
+    {
+        let at = self.calls.len() as u32;
+        let nth = self.counts[disk as usize];
+        at < self.most && self.plan.iter().any(|planned| planned.names(at, disk, nth))
+    }
+
+    /// Lists a call on this disk, or tells nothing from now on where the list is full.
+    pub fn note(&mut self, disk: DiskNo, call: Call)
+        requires exists { disk < 8 }
+        requires on { disk_of call ≡ disk }
+        ensures most { self.new.most ≡ self.old.most }
+        ensures plan { self.new.plan ≡ self.old.plan }
+        ensures start { self.new.start ≡ self.old.start }
+        ensures calls { self.new.calls.items ≡ listed_after self.old.most self.old.calls.items call }
+        ensures tells { self.new.tells ≡ (has_room self.old.most self.old.calls.items && self.old.tells) }
+    {
+        if (self.calls.len() as u32) < self.most {
+            self.calls.push_reserved(call);
+            self.counts[disk as usize] += 1;
+        } else {
+            self.tells = false;
+        }
+    }
+}

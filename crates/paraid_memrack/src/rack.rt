@@ -1,0 +1,344 @@
+ghost use Rattle.std.specs.Prelude.{◌≡◌, ℕ, ◌<◌, ◌≤◌, ◌^◌, length, true, false, not, Option, Some, [], OnOk, IfOk, is_ok, replicate, map, slice_get, IsTrue};
+ghost use Rattle.paraid_rack.specs.Slots.{Slot, Touched, AreSlots, Agrees};
+ghost use Rattle.paraid_rack.specs.declared.call.Power.TheVariants.{Absent};
+ghost use Rattle.paraid_rack.specs.Trail.{Trail, now};
+ghost use Rattle.paraid_rack.specs.Told.{Grows};
+ghost use Rattle.paraid_memrack.specs.Slots.{slot_at, view_at};
+ghost use Rattle.paraid_memrack.specs.Tells.{told_by, beginning_of, AllHold};
+
+use crate::log::{Log, Start};
+use crate::plan::Planned;
+use crate::slot::{MemSlot, absent_slots, copy_of, fail, fill, put, settle, turn, zeros};
+use paraid_base::{Block, DiskNo, Failed, NoMemory, Place};
+use paraid_rack::{Call, Power, Rack};
+use std::alloc::Global;
+
+/// Up to 8 slots in memory.
+///
+/// It tells its start and its calls until a call is made on a full list.
+#[derive(Drop)]
+pub struct MemRack {
+    alloc: Global,
+    room: u32,
+    slots: Vec<MemSlot>,
+    log: Log,
+    ghost sound: { AreSlots (length slots.items) (slot_at slots.items) },
+    ghost small: { (d : ℕ) → (slot_at slots.items d).size < 2 ^ 32 },
+    ghost keeps: { AllHold (told_by log.tells log.start.items log.calls.items) (view_at slots.items) },
+}
+
+impl MemRack {
+    ghost use Rattle.paraid_base.specs.Xor.{zeroed};
+    ghost use Rattle.paraid_memrack.specs.Plan.{disk_of, done_of, dirt_after};
+    ghost use Rattle.paraid_memrack.specs.Rules.{
+      count_of,
+      slots_of,
+      told_of,
+      rules_of,
+      listed,
+      fails_next,
+      Notes,
+      no_disks,
+      no_disk,
+    };
+
+    /// A rack of absent slots. An attach may have at most `room` blocks, and at most `calls` calls
+    /// are listed. All memory but that for the blocks of a disk is taken here.
+    pub fn new(
+        alloc: Global,
+        slots: u8,
+        room: u32,
+        calls: u32,
+        plan: Vec<Planned>,
+    ) -> Result<Self, NoMemory>
+        requires { slots ≤ 8 }
+        ensures slots { IfOk result (λ rack. count_of rack ≡ slots) }
+        ensures absent { IfOk result (λ rack. (d : ℕ) → slots_of rack d ≡ no_disk) }
+        ensures told { IfOk result (λ rack. told_of rack ≡ Some (no_disks slots)) }
+        ensures listed { IfOk result (λ rack. listed rack ≡ []) }
+        ensures rules { IfOk result (λ rack. rules_of rack
+            ≡ record { plan = plan.items; most = calls; room = room }) }
+    {
+        let start = absent_start(alloc, slots)?;
+        let log = Log::new(alloc, start, calls, plan)?;
+        let slots = absent_slots(alloc, slots)?;
+        Ok(MemRack {
+            alloc,
+            room,
+            slots,
+            log,
+        })
+    }
+
+    /// The number of calls that are listed.
+    pub fn calls(&self) -> u32
+        ensures value { result ≡ length (listed self.now) }
+        ensures told { (t : Trail) → told_of self.now ≡ Some t → t.calls ≡ listed self.now }
+    {
+        self.log.calls.len() as u32
+    }
+
+    /// A listed call, by its number from 0.
+    pub fn call(&self, m: u32) -> &Call
+        requires { m < length (listed self.now) }
+        ensures { slice_get (listed self.now) m ≡ Some result.now }
+    {
+        &self.log.calls[m as usize]
+    }
+
+    /// A block as a read would give it. No call is made.
+    pub fn block(&self, disk: DiskNo, place: Place) -> &Block
+        requires exists { disk < count_of self.now }
+        requires within { place < (slots_of self.now disk).size }
+        ensures { (t : Trail) → told_of self.now ≡ Some t
+            → result.now ≡ (now t).block disk place }
+    {
+        &self.slots[disk as usize].blocks[place as usize]
+    }
+
+    // A call on this disk fails, and leaves it so unsynced.
+    fn fail(&mut self, disk: DiskNo, call: Call, dirt: bool)
+        requires exists { disk < count_of self.old }
+        requires on { disk_of call ≡ disk }
+        requires failed { done_of call ≡ false }
+        requires dirt { dirt ≡ dirt_after call (slots_of self.old disk).unsynced }
+        ensures slots { count_of self.new ≡ count_of self.old }
+        ensures slot { (leaves : Slot)
+            → Touched (slots_of self.old) (slots_of self.new) disk leaves dirt false }
+        ensures told { Grows (told_of self.old) (told_of self.new) call }
+        ensures notes { Notes self.old self.new call }
+    {
+        self.log.note(disk, call);
+        fail(&mut self.slots, self.alloc, disk, dirt);
+    }
+
+    // The blocks of a fresh disk, unless the next call is to fail.
+    fn fresh(&self, disk: DiskNo, size: u32) -> Result<Vec<Block>, NoMemory>
+        requires { disk < count_of self.now }
+        ensures zeros { IfOk result (λ blocks. blocks.items ≡ replicate size zeroed) }
+        ensures planned { fails_next self.now disk ≡ true → is_ok result ≡ false }
+        ensures large { (rules_of self.now).room < size → is_ok result ≡ false }
+    {
+        if self.log.is_planned(disk) || self.room < size {
+            return Err(NoMemory);
+        }
+        zeros(self.alloc, size)
+    }
+}
+
+// No slot has a disk.
+fn absent_start(alloc: Global, count: u8) -> Result<Vec<Start>, NoMemory>
+    ensures { IfOk result (λ start. map beginning_of start.items
+        ≡ replicate count (record { power = Absent; blocks = [] })) }
+{
+    let Ok(mut start) = Vec::with_capacity(alloc, count as usize) else {
+        return Err(NoMemory);
+    };
+    for _i in 0..count {
+        start.push_reserved(Start {
+            power: Power::Absent,
+            blocks: Vec::new(alloc),
+        });
+    }
+    Ok(start)
+}
+
+impl Rack for MemRack {
+    ghost use Rattle.paraid_memrack.specs.Rules.{count_of, slots_of, told_of, rules_of, fails_next, Notes};
+    ghost use Rattle.paraid_memrack.specs.Laws.{agrees_of};
+
+    ghost slot_count = { count_of };
+
+    ghost slot = { slots_of };
+
+    ghost told = { told_of };
+
+    ghost slots_hold = { λ rack. rack.sound };
+
+    ghost agrees = { λ rack t is. agrees_of (now t) (view_at rack.slots.items) (rack.keeps t is) };
+
+    fn slots(&self) -> u8 {
+        self.slots.len() as u8
+    }
+
+    fn size(&self, disk: DiskNo) -> u32 {
+        self.slots[disk as usize].blocks.len() as u32
+    }
+
+    fn power(&self, disk: DiskNo) -> Power {
+        self.slots[disk as usize].power
+    }
+
+    fn unsynced(&self, disk: DiskNo) -> bool {
+        self.slots[disk as usize].unsynced
+    }
+
+    fn read(&mut self, disk: DiskNo, place: Place, into: &mut Block) -> Result<(), Failed>
+        ensures slots { count_of self.new ≡ count_of self.old }
+        ensures slot { Touched (slots_of self.old) (slots_of self.new) disk
+            (slots_of self.old disk) (slots_of self.old disk).unsynced (is_ok result) }
+        ensures told { Grows (told_of self.old) (told_of self.new)
+            (Call.Read disk place (is_ok result)) }
+        ensures bytes { OnOk result ((t : Trail) → told_of self.old ≡ Some t
+            → into.new ≡ (now t).block disk place) }
+        // It fails exactly where the plan names it.
+        ensures planned { is_ok result ≡ not (fails_next self.old disk) }
+        ensures notes { Notes self.old self.new (Call.Read disk place (is_ok result)) }
+    {
+        if self.log.is_planned(disk) {
+            let dirt = self.slots[disk as usize].unsynced;
+            self.fail(
+                disk,
+                Call::Read {
+                    disk,
+                    place,
+                    done: false,
+                },
+                dirt,
+            );
+            return Err(Failed);
+        }
+        self.log.note(
+            disk,
+            Call::Read {
+                disk,
+                place,
+                done: true,
+            },
+        );
+        into.copy_from(&self.slots[disk as usize].blocks[place as usize]);
+        Ok(())
+    }
+
+    fn write(&mut self, disk: DiskNo, place: Place, block: &Block) -> Result<(), Failed>
+        ensures slots { count_of self.new ≡ count_of self.old }
+        ensures slot { Touched (slots_of self.old) (slots_of self.new) disk
+            (record (slots_of self.old disk) { unsynced = true }) true (is_ok result) }
+        ensures told { Grows (told_of self.old) (told_of self.new)
+            (Call.Write disk place block.now (is_ok result)) }
+        // It fails exactly where the plan names it.
+        ensures planned { is_ok result ≡ not (fails_next self.old disk) }
+        ensures notes { Notes self.old self.new (Call.Write disk place block.now (is_ok result)) }
+    {
+        let bytes = copy_of(block);
+        if self.log.is_planned(disk) {
+            self.fail(
+                disk,
+                Call::Write {
+                    disk,
+                    place,
+                    bytes,
+                    done: false,
+                },
+                true,
+            );
+            return Err(Failed);
+        }
+        self.log.note(
+            disk,
+            Call::Write {
+                disk,
+                place,
+                bytes,
+                done: true,
+            },
+        );
+        put(&mut self.slots, disk, place, block);
+        Ok(())
+    }
+
+    fn sync(&mut self, disk: DiskNo) -> Result<(), Failed>
+        ensures slots { count_of self.new ≡ count_of self.old }
+        ensures slot { Touched (slots_of self.old) (slots_of self.new) disk
+            (record (slots_of self.old disk) { unsynced = false }) (slots_of self.old disk).unsynced (is_ok result) }
+        ensures told { Grows (told_of self.old) (told_of self.new)
+            (Call.Sync disk (is_ok result)) }
+        // It fails exactly where the plan names it.
+        ensures planned { is_ok result ≡ not (fails_next self.old disk) }
+        ensures notes { Notes self.old self.new (Call.Sync disk (is_ok result)) }
+    {
+        if self.log.is_planned(disk) {
+            let dirt = self.slots[disk as usize].unsynced;
+            self.fail(disk, Call::Sync { disk, done: false }, dirt);
+            return Err(Failed);
+        }
+        self.log.note(disk, Call::Sync { disk, done: true });
+        settle(&mut self.slots, disk);
+        Ok(())
+    }
+
+    fn park(&mut self, disk: DiskNo) -> Result<(), Failed>
+        ensures slots { count_of self.new ≡ count_of self.old }
+        ensures slot { Touched (slots_of self.old) (slots_of self.new) disk
+            (record (slots_of self.old disk) { power = Power.Parked }) false (is_ok result) }
+        ensures told { Grows (told_of self.old) (told_of self.new)
+            (Call.Park disk (is_ok result)) }
+        // It fails exactly where the plan names it.
+        ensures planned { is_ok result ≡ not (fails_next self.old disk) }
+        ensures notes { Notes self.old self.new (Call.Park disk (is_ok result)) }
+    {
+        if self.log.is_planned(disk) {
+            self.fail(disk, Call::Park { disk, done: false }, false);
+            return Err(Failed);
+        }
+        self.log.note(disk, Call::Park { disk, done: true });
+        turn(&mut self.slots, disk, Power::Parked);
+        Ok(())
+    }
+
+    fn spin_up(&mut self, disk: DiskNo) -> Result<(), Failed>
+        ensures slots { count_of self.new ≡ count_of self.old }
+        ensures slot { Touched (slots_of self.old) (slots_of self.new) disk
+            (record (slots_of self.old disk) { power = Power.Spinning }) false (is_ok result) }
+        ensures told { Grows (told_of self.old) (told_of self.new)
+            (Call.SpinUp disk (is_ok result)) }
+        // It fails exactly where the plan names it.
+        ensures planned { is_ok result ≡ not (fails_next self.old disk) }
+        ensures notes { Notes self.old self.new (Call.SpinUp disk (is_ok result)) }
+    {
+        if self.log.is_planned(disk) {
+            self.fail(disk, Call::SpinUp { disk, done: false }, false);
+            return Err(Failed);
+        }
+        self.log.note(disk, Call::SpinUp { disk, done: true });
+        turn(&mut self.slots, disk, Power::Spinning);
+        Ok(())
+    }
+
+    fn attach(&mut self, disk: DiskNo, size: u32) -> Result<(), Failed>
+        ensures slots { count_of self.new ≡ count_of self.old }
+        ensures slot { Touched (slots_of self.old) (slots_of self.new) disk
+            (record (slots_of self.old disk) { power = Power.Spinning; size = size; unsynced = false })
+            (slots_of self.old disk).unsynced (is_ok result) }
+        ensures told { Grows (told_of self.old) (told_of self.new)
+            (Call.Attach disk size (is_ok result)) }
+        // It fails where the plan names it, where it is larger than the room, and for want of memory.
+        ensures planned { fails_next self.old disk ≡ true → is_ok result ≡ false }
+        ensures large { (rules_of self.old).room < size → is_ok result ≡ false }
+        ensures notes { Notes self.old self.new (Call.Attach disk size (is_ok result)) }
+    {
+        let Ok(blocks) = self.fresh(disk, size) else {
+            let dirt = self.slots[disk as usize].unsynced;
+            self.fail(
+                disk,
+                Call::Attach {
+                    disk,
+                    size,
+                    done: false,
+                },
+                dirt,
+            );
+            return Err(Failed);
+        };
+        self.log.note(
+            disk,
+            Call::Attach {
+                disk,
+                size,
+                done: true,
+            },
+        );
+        fill(&mut self.slots, disk, blocks);
+        Ok(())
+    }
+}

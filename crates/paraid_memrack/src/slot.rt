@@ -1,0 +1,108 @@
+// The slots of a rack in memory, and what each call makes of one.
+ghost use Rattle.std.specs.Prelude.{◌≡◌, ℕ, ◌<◌, ◌+◌, ◌^◌, ◌-◌, true, false, length, slice_set, min, replicate, IfOk, []};
+ghost use Rattle.paraid_base.specs.Xor.{zeroed};
+ghost use Rattle.paraid_rack.specs.declared.call.Power.TheVariants.{Absent, Spinning};
+ghost use Rattle.paraid_memrack.specs.Slots.{Becomes, view_at, wrecked};
+
+use paraid_base::{Block, DiskNo, NoMemory, Place};
+use paraid_rack::Power;
+use std::alloc::Global;
+
+/// A slot with its disk, or with no block where it is absent.
+#[derive(Drop)]
+pub struct MemSlot {
+    pub power: Power,
+    pub blocks: Vec<Block>,
+    pub unsynced: bool,
+    pub faults: u64,
+}
+
+/// So many slots with no disk.
+pub fn absent_slots(alloc: Global, count: u8) -> Result<Vec<MemSlot>, NoMemory> {
+    let Ok(mut slots) = Vec::with_capacity(alloc, count as usize) else {
+        return Err(NoMemory);
+    };
+    for _i in 0..count {
+        slots.push_reserved(MemSlot {
+            power: Power::Absent,
+            blocks: Vec::new(alloc),
+            unsynced: false,
+            faults: 0,
+        });
+    }
+    Ok(slots)
+}
+
+/// So many blocks of zeros.
+pub fn zeros(alloc: Global, size: u32) -> Result<Vec<Block>, NoMemory>
+    ensures { IfOk result (λ blocks. blocks.items ≡ replicate size zeroed) }
+{
+    let Ok(mut blocks) = Vec::with_capacity(alloc, size as usize) else {
+        return Err(NoMemory);
+    };
+    for _i in 0..size {
+        blocks.push_reserved(Block::zero());
+    }
+    Ok(blocks)
+}
+
+/// The same block again.
+pub fn copy_of(block: &Block) -> Block
+    ensures { result ≡ block.now }
+{
+    Block::from_array(block.bytes)
+}
+
+/// The disk has failed, and gives its blocks back.
+pub fn fail(slots: &mut Vec<MemSlot>, alloc: Global, disk: DiskNo, dirt: bool)
+    requires { disk < length slots.old.items }
+    ensures { Becomes slots.old.items slots.new.items disk (wrecked dirt (view_at slots.old.items disk)) }
+{
+    let slot = &mut slots[disk as usize];
+    slot.power = Power::Absent;
+    slot.blocks = Vec::new(alloc);
+    slot.unsynced = dirt;
+    slot.faults = slot.faults.saturating_add(1);
+}
+
+/// A block is written.
+pub fn put(slots: &mut Vec<MemSlot>, disk: DiskNo, place: Place, block: &Block)
+    requires exists { disk < length slots.old.items }
+    requires within { place < length (view_at slots.old.items disk).blocks }
+    ensures { let was = view_at slots.old.items disk in Becomes slots.old.items slots.new.items disk
+        (record was { blocks = slice_set was.blocks place block.now; unsynced = true }) }
+{
+    let slot = &mut slots[disk as usize];
+    slot.blocks[place as usize].copy_from(block);
+    slot.unsynced = true;
+}
+
+/// What was written is kept.
+pub fn settle(slots: &mut Vec<MemSlot>, disk: DiskNo)
+    requires { disk < length slots.old.items }
+    ensures { Becomes slots.old.items slots.new.items disk
+        (record (view_at slots.old.items disk) { unsynced = false }) }
+{
+    slots[disk as usize].unsynced = false;
+}
+
+/// The disk is powered otherwise.
+pub fn turn(slots: &mut Vec<MemSlot>, disk: DiskNo, power: Power)
+    requires { disk < length slots.old.items }
+    ensures { Becomes slots.old.items slots.new.items disk
+        (record (view_at slots.old.items disk) { power = power }) }
+{
+    slots[disk as usize].power = power;
+}
+
+/// A fresh disk with these blocks is in the slot.
+pub fn fill(slots: &mut Vec<MemSlot>, disk: DiskNo, blocks: Vec<Block>)
+    requires { disk < length slots.old.items }
+    ensures { Becomes slots.old.items slots.new.items disk
+        (record (view_at slots.old.items disk) { power = Spinning; blocks = blocks.items; unsynced = false }) }
+{
+    let slot = &mut slots[disk as usize];
+    slot.power = Power::Spinning;
+    slot.blocks = blocks;
+    slot.unsynced = false;
+}
