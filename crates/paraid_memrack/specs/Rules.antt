@@ -16,11 +16,11 @@ pub record Rules : Type 0 where
   pub most : ℕ
   pub room : ℕ
 
-unfoldable pub rules_of : MemRack → Rules
+abbrev pub rules_of : MemRack → Rules
 rules_of m = record { plan = m.log.plan.items; most = m.log.most; room = m.room }
 
 -- the calls that are listed
-unfoldable pub listed : MemRack → List Call
+abbrev pub listed : MemRack → List Call
 listed m = m.log.calls.items
 
 abbrev pub count_of : MemRack → ℕ
@@ -33,14 +33,14 @@ abbrev pub told_of : MemRack → Option Trail
 told_of m = told_by m.log.tells m.log.start.items m.log.calls.items
 
 -- whether the next call is to fail, if it is on this disk
-unfoldable pub fails_next : MemRack → ℕ → Bool
+abbrev pub fails_next : MemRack → ℕ → Bool
 fails_next m disk = is_planned m.log.most m.log.plan.items m.log.calls.items disk
 
 -- The rules are as before, and this call is listed and told where the list was not full.
 pub record Notes (old new : MemRack) (c : Call) : Type 0 where
   pub rules : rules_of new ≡ rules_of old
-  pub listed : listed new ≡ listed_after (rules_of old).most (listed old) c
-  pub told : told_of new ≡ told_after (has_room (rules_of old).most (listed old)) (told_of old) c
+  pub list : listed new ≡ listed_after (rules_of old).most (listed old) c
+  pub tells : told_of new ≡ told_after (has_room (rules_of old).most (listed old)) (told_of old) c
 
 -- no slot has a disk at the start, and no call was made
 abbrev pub no_disks : ℕ → Trail

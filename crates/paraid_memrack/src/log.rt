@@ -1,6 +1,7 @@
 // What a rack in memory tells, and which of its calls are to fail.
-ghost use Rattle.std.specs.Prelude.{◌≡◌, ℕ, ◌<◌, ◌≤◌, List, [], length, slice_index, true, vec_capacity, IfOk};
-ghost use Rattle.paraid_memrack.specs.Plan.{disk_of, count_on, is_planned, listed_after, has_room};
+ghost use Rattle.std.specs.Prelude.{◌≡◌, ℕ, ◌<◌, ◌≤◌, ◌^◌, List, [], length, slice_index, true, vec_capacity, IfOk};
+ghost use Rattle.std.specs.List.{list_any};
+ghost use Rattle.paraid_memrack.specs.Plan.{names, disk_of, count_on, is_planned, listed_after, has_room};
 ghost use Rattle.paraid_memrack.specs.Counted.{IsCounted};
 
 use crate::plan::Planned;
@@ -24,12 +25,16 @@ pub struct Log {
     pub most: u32,
     pub plan: Vec<Planned>,
     counts: [u32; 8],
+    ghost wide: { length counts ≡ 8 },
+    ghost short: { most < 2 ^ 32 },
     ghost room: { most ≤ vec_capacity calls },
     ghost few: { length calls.items ≤ most },
     ghost counted: { IsCounted counts calls.items },
 }
 
 impl Log {
+    ghost use Rattle.paraid_memrack.specs.Tells.{told_by, told_after};
+
     /// No call yet. It takes the memory for its list.
     pub fn new(
         alloc: Global,
@@ -63,7 +68,7 @@ impl Log {
     {
         let at = self.calls.len() as u32;
         let nth = self.counts[disk as usize];
-        at < self.most && self.plan.iter().any(|planned| planned.names(at, disk, nth))
+        at < self.most && names_any(&self.plan, at, disk, nth)
     }
 
     /// Lists a call on this disk, or tells nothing from now on where the list is full.
@@ -72,9 +77,10 @@ impl Log {
         requires on { disk_of call ≡ disk }
         ensures most { self.new.most ≡ self.old.most }
         ensures plan { self.new.plan ≡ self.old.plan }
-        ensures start { self.new.start ≡ self.old.start }
         ensures calls { self.new.calls.items ≡ listed_after self.old.most self.old.calls.items call }
-        ensures tells { self.new.tells ≡ (has_room self.old.most self.old.calls.items && self.old.tells) }
+        ensures told { told_by self.new.tells self.new.start.items self.new.calls.items
+            ≡ told_after (has_room self.old.most self.old.calls.items)
+            (told_by self.old.tells self.old.start.items self.old.calls.items) call }
     {
         if (self.calls.len() as u32) < self.most {
             self.calls.push_reserved(call);
@@ -83,4 +89,11 @@ impl Log {
             self.tells = false;
         }
     }
+}
+
+// Whether one of the plan names call `at`, which is call `nth` on its disk.
+fn names_any(plan: &Vec<Planned>, at: u32, disk: DiskNo, nth: u32) -> bool
+    ensures { result ≡ list_any (names at disk nth) plan.now.items }
+{
+    plan.iter().any(|planned| planned.names(at, disk, nth))
 }

@@ -113,16 +113,19 @@ impl MemRack {
     }
 
     // The blocks of a fresh disk, unless the next call is to fail.
-    fn fresh(&self, disk: DiskNo, size: u32) -> Result<Vec<Block>, NoMemory>
+    fn fresh(&self, disk: DiskNo, size: u32) -> Result<Vec<Block>, Failed>
         requires { disk < count_of self.now }
         ensures zeros { IfOk result (λ blocks. blocks.items ≡ replicate size zeroed) }
         ensures planned { fails_next self.now disk ≡ true → is_ok result ≡ false }
         ensures large { (rules_of self.now).room < size → is_ok result ≡ false }
     {
         if self.log.is_planned(disk) || self.room < size {
-            return Err(NoMemory);
+            return Err(Failed);
         }
-        zeros(self.alloc, size)
+        let Ok(blocks) = zeros(self.alloc, size) else {
+            return Err(Failed);
+        };
+        Ok(blocks)
     }
 }
 
@@ -174,6 +177,9 @@ impl Rack for MemRack {
     }
 
     fn read(&mut self, disk: DiskNo, place: Place, into: &mut Block) -> Result<(), Failed>
+        requires exists { disk < count_of self.old }
+        requires spinning { (slots_of self.old disk).power ≡ Power.Spinning }
+        requires within { place < (slots_of self.old disk).size }
         ensures slots { count_of self.new ≡ count_of self.old }
         ensures slot { Touched (slots_of self.old) (slots_of self.new) disk
             (slots_of self.old disk) (slots_of self.old disk).unsynced (is_ok result) }
@@ -186,7 +192,7 @@ impl Rack for MemRack {
         ensures notes { Notes self.old self.new (Call.Read disk place (is_ok result)) }
     {
         if self.log.is_planned(disk) {
-            let dirt = self.slots[disk as usize].unsynced;
+            let dirt = self.unsynced(disk);
             self.fail(
                 disk,
                 Call::Read {
@@ -211,6 +217,9 @@ impl Rack for MemRack {
     }
 
     fn write(&mut self, disk: DiskNo, place: Place, block: &Block) -> Result<(), Failed>
+        requires exists { disk < count_of self.old }
+        requires spinning { (slots_of self.old disk).power ≡ Power.Spinning }
+        requires within { place < (slots_of self.old disk).size }
         ensures slots { count_of self.new ≡ count_of self.old }
         ensures slot { Touched (slots_of self.old) (slots_of self.new) disk
             (record (slots_of self.old disk) { unsynced = true }) true (is_ok result) }
@@ -248,6 +257,8 @@ impl Rack for MemRack {
     }
 
     fn sync(&mut self, disk: DiskNo) -> Result<(), Failed>
+        requires exists { disk < count_of self.old }
+        requires spinning { (slots_of self.old disk).power ≡ Power.Spinning }
         ensures slots { count_of self.new ≡ count_of self.old }
         ensures slot { Touched (slots_of self.old) (slots_of self.new) disk
             (record (slots_of self.old disk) { unsynced = false }) (slots_of self.old disk).unsynced (is_ok result) }
@@ -258,7 +269,7 @@ impl Rack for MemRack {
         ensures notes { Notes self.old self.new (Call.Sync disk (is_ok result)) }
     {
         if self.log.is_planned(disk) {
-            let dirt = self.slots[disk as usize].unsynced;
+            let dirt = self.unsynced(disk);
             self.fail(disk, Call::Sync { disk, done: false }, dirt);
             return Err(Failed);
         }
@@ -268,6 +279,9 @@ impl Rack for MemRack {
     }
 
     fn park(&mut self, disk: DiskNo) -> Result<(), Failed>
+        requires exists { disk < count_of self.old }
+        requires spinning { (slots_of self.old disk).power ≡ Power.Spinning }
+        requires synced { (slots_of self.old disk).unsynced ≡ false }
         ensures slots { count_of self.new ≡ count_of self.old }
         ensures slot { Touched (slots_of self.old) (slots_of self.new) disk
             (record (slots_of self.old disk) { power = Power.Parked }) false (is_ok result) }
@@ -287,6 +301,8 @@ impl Rack for MemRack {
     }
 
     fn spin_up(&mut self, disk: DiskNo) -> Result<(), Failed>
+        requires exists { disk < count_of self.old }
+        requires parked { (slots_of self.old disk).power ≡ Power.Parked }
         ensures slots { count_of self.new ≡ count_of self.old }
         ensures slot { Touched (slots_of self.old) (slots_of self.new) disk
             (record (slots_of self.old disk) { power = Power.Spinning }) false (is_ok result) }
@@ -306,6 +322,7 @@ impl Rack for MemRack {
     }
 
     fn attach(&mut self, disk: DiskNo, size: u32) -> Result<(), Failed>
+        requires exists { disk < count_of self.old }
         ensures slots { count_of self.new ≡ count_of self.old }
         ensures slot { Touched (slots_of self.old) (slots_of self.new) disk
             (record (slots_of self.old disk) { power = Power.Spinning; size = size; unsynced = false })
@@ -318,7 +335,7 @@ impl Rack for MemRack {
         ensures notes { Notes self.old self.new (Call.Attach disk size (is_ok result)) }
     {
         let Ok(blocks) = self.fresh(disk, size) else {
-            let dirt = self.slots[disk as usize].unsynced;
+            let dirt = self.unsynced(disk);
             self.fail(
                 disk,
                 Call::Attach {

@@ -1,8 +1,8 @@
 // The slots of a rack in memory, and what each call makes of one.
-ghost use Rattle.std.specs.Prelude.{◌≡◌, ℕ, ◌<◌, ◌+◌, ◌^◌, ◌-◌, true, false, length, slice_set, min, replicate, IfOk, []};
+ghost use Rattle.std.specs.Prelude.{◌≡◌, ℕ, ◌<◌, ◌≤◌, ◌+◌, ◌^◌, ◌-◌, true, false, length, slice_set, min, replicate, IfOk, []};
 ghost use Rattle.paraid_base.specs.Xor.{zeroed};
 ghost use Rattle.paraid_rack.specs.declared.call.Power.TheVariants.{Absent, Spinning};
-ghost use Rattle.paraid_memrack.specs.Slots.{Becomes, view_at, wrecked};
+ghost use Rattle.paraid_memrack.specs.Slots.{Becomes, view_at, nothing, wrecked};
 
 use paraid_base::{Block, DiskNo, NoMemory, Place};
 use paraid_rack::Power;
@@ -18,7 +18,10 @@ pub struct MemSlot {
 }
 
 /// So many slots with no disk.
-pub fn absent_slots(alloc: Global, count: u8) -> Result<Vec<MemSlot>, NoMemory> {
+pub fn absent_slots(alloc: Global, count: u8) -> Result<Vec<MemSlot>, NoMemory>
+    ensures length { IfOk result (λ slots. length slots.items ≡ count) }
+    ensures absent { IfOk result (λ slots. (d : ℕ) → view_at slots.items d ≡ nothing) }
+{
     let Ok(mut slots) = Vec::with_capacity(alloc, count as usize) else {
         return Err(NoMemory);
     };
@@ -56,13 +59,16 @@ pub fn copy_of(block: &Block) -> Block
 /// The disk has failed, and gives its blocks back.
 pub fn fail(slots: &mut Vec<MemSlot>, alloc: Global, disk: DiskNo, dirt: bool)
     requires { disk < length slots.old.items }
-    ensures { Becomes slots.old.items slots.new.items disk (wrecked dirt (view_at slots.old.items disk)) }
+    ensures becomes { Becomes slots.old.items slots.new.items disk
+        (wrecked dirt (view_at slots.old.items disk)) }
+    ensures later { (view_at slots.old.items disk).faults ≤ (view_at slots.new.items disk).faults }
 {
     let slot = &mut slots[disk as usize];
     slot.power = Power::Absent;
     slot.blocks = Vec::new(alloc);
     slot.unsynced = dirt;
-    slot.faults = slot.faults.saturating_add(1);
+    let before = slot.faults;
+    slot.faults = before.saturating_add(1);
 }
 
 /// A block is written.

@@ -1,0 +1,137 @@
+-- The slots after one of them was changed.
+use Rattle.std.proofs.Common.{◌≡◌, ◌≢◌, inl, inr, ℕ, min, ◌+◌, ◌<◌, ◌≤◌, ◌^◌, Bool, true, false, List, [], ◌∷◌, ◌++◌, length, map, get_or, set, replicate, refl, sym, ◌∙◌, ap, subst, arith, zero, suc, add-one}
+use Rattle.std.proofs.lemmas.Bool.{cases_eq, cases_lt, false≢true, true≢false}
+use Rattle.std.proofs.lemmas.List.{map-set, get_or-set_same, get_or-set_other, length-set, length-map, get_or-map, get_or_past}
+use Rattle.paraid_base.specs.Told.{HasRisen}
+use Rattle.paraid_rack.specs.declared.call.Power.TheVariants.{Absent, Parked}
+use Rattle.paraid_rack.specs.Slots.{Slot, Touched, AreSlots}
+use Rattle.paraid_memrack.specs.declared.slot.MemSlot.{MemSlot}
+use Rattle.paraid_memrack.specs.Slots.{View, view_of, view_at, nothing, slot_of, slot_at, wrecked, Becomes}
+
+pub same_view : {v w : View} → v.power ≡ w.power → v.blocks ≡ w.blocks → v.unsynced ≡ w.unsynced → v.faults ≡ w.faults → v ≡ w
+same_view p b u f = λ i. record { power = p i; blocks = b i; unsynced = u i; faults = f i }
+
+-- what a read of a slot gives
+pub view_here : (slots : List MemSlot) (d : ℕ) (y : MemSlot) → d < length slots → y ≡ get_or slots d y → view_at slots d ≡ view_of y
+unfolding view_at
+view_here slots d y within is = get_or-map view_of slots d y nothing within ∙ ap view_of (sym is)
+
+pub view_past : (slots : List MemSlot) (d : ℕ) → length slots ≤ d → view_at slots d ≡ nothing
+unfolding view_at
+view_past slots d past = get_or_past (map view_of slots) d nothing (simp length-map past)
+
+view_set_same : (slots : List MemSlot) (d : ℕ) (x : MemSlot) → d < length slots → view_at (set slots d x) d ≡ view_of x
+unfolding view_at
+view_set_same slots d x within =
+    ap (λ (l : List View). get_or l d nothing) (map-set view_of slots d x)
+    ∙ get_or-set_same (map view_of slots) d (view_of x) nothing (simp length-map within)
+
+view_set_other : (slots : List MemSlot) (d : ℕ) (x : MemSlot) (e : ℕ) → e ≢ d → view_at (set slots d x) e ≡ view_at slots e
+unfolding view_at
+view_set_other slots d x e not =
+    ap (λ (l : List View). get_or l e nothing) (map-set view_of slots d x)
+    ∙ get_or-set_other (map view_of slots) d e (view_of x) nothing not
+
+-- a slot was put in the place of one
+pub becomes_set : (slots : List MemSlot) (d : ℕ) (x : MemSlot) (leaves : View) → d < length slots → view_of x ≡ leaves → Becomes slots (set slots d x) d leaves
+becomes_set slots d x leaves within is = record {
+  same_length = length-set slots d x;
+  here = view_set_same slots d x within ∙ is;
+  others = view_set_other slots d x;
+}
+
+module _ {old new : List MemSlot} {d : ℕ} {leaves : View} (b : Becomes old new d leaves) where
+  -- what holds of each slot before, and of this one after, holds of each after
+  pub each_after : (P : View → Type 0) → ((e : ℕ) → P (view_at old e)) → P leaves → (e : ℕ) → P (view_at new e)
+  each_after P was is e = elim (cases_eq e d) [
+    | inl same ↦ subst (λ (k : ℕ). P (view_at new k)) (sym same) (subst P (sym b.here) is)
+    | inr not ↦ subst P (sym (b.others e not)) (was e)
+  ]
+
+  pub small_after : ((e : ℕ) → (slot_at old e).size < 2 ^ 32) → length leaves.blocks < 2 ^ 32 → (e : ℕ) → (slot_at new e).size < 2 ^ 32
+  small_after was is = each_after (λ v. length v.blocks < 2 ^ 32) was is
+
+  pub slots_after : AreSlots (length old) (slot_at old) → d < length old → (leaves.power ≡ Absent → length leaves.blocks ≡ 0) → (leaves.power ≡ Parked → leaves.unsynced ≡ false)
+      → AreSlots (length new) (slot_at new)
+  slots_after was within absent parked = record {
+    few = omega (arith, b.same_length, was.few);
+    missing = λ e past.
+        let past' : length old ≤ e = omega (arith, b.same_length, past) in
+        let not : e ≢ d = λ same. omega (arith, same, past', within) in
+        ap (λ (v : View). v.power) (b.others e not) ∙ was.missing e past';
+    absent = each_after (λ v. v.power ≡ Absent → length v.blocks ≡ 0) was.absent absent;
+    parked = each_after (λ v. v.power ≡ Parked → v.unsynced ≡ false) was.parked parked;
+  }
+
+  pub touched_done : (told : Slot) (dirt : Bool) → slot_of leaves ≡ told → Touched (slot_at old) (slot_at new) d told dirt true
+  touched_done told dirt is = record {
+    others = λ e not. ap slot_of (b.others e not);
+    done = λ _. ap slot_of b.here ∙ is;
+    absent = λ bad. absurd (true≢false bad);
+    empty = λ bad. absurd (true≢false bad);
+    unsynced = λ bad. absurd (true≢false bad);
+    risen = λ bad. absurd (true≢false bad);
+    later = λ bad. absurd (true≢false bad);
+  }
+
+risen : (was now : ℕ) → now ≡ min (was + 1) 18446744073709551615 → HasRisen was now
+risen was now sum = elim (cases_lt was 18446744073709551615) [
+  | inl lt ↦ record { risen = inl (omega arith) }
+  | inr le ↦ record { risen = inr (omega arith) }
+]
+
+pub touched_failed : {old new : List MemSlot} {d : ℕ} {dirt : Bool} → Becomes old new d (wrecked dirt (view_at old d)) → (view_at old d).faults ≤ (view_at new d).faults → (leaves : Slot)
+    → Touched (slot_at old) (slot_at new) d leaves dirt false
+touched_failed {old} {new} {d} {dirt} b grows leaves = record {
+  others = λ e not. ap slot_of (b.others e not);
+  done = λ bad. absurd (false≢true bad);
+  absent = λ _. ap (λ (v : View). v.power) b.here;
+  empty = λ _. ap (λ (v : View). length v.blocks) b.here;
+  unsynced = λ _. ap (λ (v : View). v.unsynced) b.here;
+  risen = λ _. risen (view_at old d).faults (view_at new d).faults (ap (λ (v : View). v.faults) b.here);
+  later = λ _. grows;
+}
+
+pub touched_none : (slots : ℕ → Slot) (d : ℕ) (dirt : Bool) → Touched slots slots d (slots d) dirt true
+touched_none slots d dirt = record {
+  others = λ e not. refl;
+  done = λ _. refl;
+  absent = λ bad. absurd (true≢false bad);
+  empty = λ bad. absurd (true≢false bad);
+  unsynced = λ bad. absurd (true≢false bad);
+  risen = λ bad. absurd (true≢false bad);
+  later = λ bad. absurd (true≢false bad);
+}
+
+pushed : {A : Type 0} (n : ℕ) (x : A) → replicate n x ++ x ∷ [] ≡ x ∷ replicate n x
+pushed zero x = refl
+pushed {A} (suc n) x = ap (λ (l : List A). x ∷ l) (pushed n x)
+
+pub one_more : {A : Type 0} (n : ℕ) (x : A) → replicate n x ++ x ∷ [] ≡ replicate (n + 1) x
+one_more n x = rw add-one (pushed n x)
+
+pub map_push : {A B : Type 0} (f : A → B) (xs : List A) (x : A) → map f (xs ++ x ∷ []) ≡ map f xs ++ f x ∷ []
+map_push f [] x = refl
+map_push f (y ∷ xs) x = ap (λ l. f y ∷ l) (map_push f xs x)
+
+default_push : {A : Type 0} (xs : List A) (x : A) → ((d : ℕ) → get_or xs d x ≡ x) → (d : ℕ) → get_or (xs ++ x ∷ []) d x ≡ x
+default_push [] x all zero = refl
+default_push [] x all (suc d) = refl
+default_push (y ∷ xs) x all zero = all 0
+default_push (y ∷ xs) x all (suc d) = default_push xs x (λ e. all (suc e)) d
+
+-- one more slot with no disk
+pub nothing_push : (slots : List MemSlot) (x : MemSlot) → view_of x ≡ nothing → ((d : ℕ) → view_at slots d ≡ nothing) → (d : ℕ) → view_at (slots ++ x ∷ []) d ≡ nothing
+unfolding view_at
+nothing_push slots x is all d =
+    ap (λ (l : List View). get_or l d nothing) (map_push view_of slots x ∙ ap (λ (v : View). map view_of slots ++ v ∷ []) is)
+    ∙ default_push (map view_of slots) nothing all d
+
+pub no_slots : (slots : List MemSlot) → slots ≡ [] → (d : ℕ) → view_at slots d ≡ nothing
+unfolding view_at
+no_slots slots none d = ap (λ (l : List MemSlot). view_at l d) none
+
+-- a count that rises by one, or stands at its end, does not fall
+pub faults_after : {old new : List MemSlot} {d : ℕ} {dirt : Bool} → Becomes old new d (wrecked dirt (view_at old d)) → (y : MemSlot) → view_at old d ≡ view_of y → y.faults < 2 ^ 64
+    → (view_at old d).faults ≤ (view_at new d).faults
+faults_after b y is fits = omega (arith, ap (λ (v : View). v.faults) b.here, ap (λ (v : View). v.faults) is)

@@ -1,0 +1,25 @@
+use Rattle.std.proofs.Common.{refl, sym, ap, true}
+use Rattle.paraid_rack.specs.declared.call.Call.TheVariants.{SpinUp}
+use Rattle.paraid_memrack.specs.Slots.{view_at}
+use Rattle.paraid_memrack.proofs.ViewLemmas.{touched_done}
+use Rattle.paraid_memrack.proofs.StepLemmas.{holds_spin_up}
+use Rattle.paraid_memrack.proofs.NoteLemmas.{keeps_after, grows_told}
+use Rattle.paraid_memrack.proofs.RackLemmas.{notes_of}
+use Rattle.paraid_memrack.proofs.rack.MemRackRack.spin_up.Goals as goal
+
+pub fail-requires-clause-dirt : goal.fail-requires-clause-dirt
+fail-requires-clause-dirt c = sym (c.args.self.now.sound.parked c.args.disk c.requires.parked)
+
+pub invariant_of-self-clause-keeps : goal.invariant_of-self-clause-keeps
+invariant_of-self-clause-keeps c =
+    let rack = c.args.self.now in
+    keeps_after _ (SpinUp c.args.disk true) c.note.ensures.told refl c.turn.ensures rack.keeps (λ s h. holds_spin_up s c.args.disk (view_at rack.slots.items c.args.disk) h c.requires.parked)
+
+pub returns-clause-slot : goal.returns-clause-slot
+returns-clause-slot c = touched_done c.turn.ensures _ _ refl
+
+pub returns-clause-told : goal.returns-clause-told
+returns-clause-told c = grows_told _ _ _ _ c.note.ensures.told
+
+pub returns-clause-notes : goal.returns-clause-notes
+returns-clause-notes c = notes_of (ap (λ v. v.items) c.note.ensures.plan) c.note.ensures.most refl c.note.ensures.calls c.note.ensures.told
