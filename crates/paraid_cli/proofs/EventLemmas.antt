@@ -117,11 +117,11 @@ line_of-event_of [] not = absurd (not refl)
 line_of-event_of (c ∷ []) not = chosen (c == 102) (c ∷ []) Flush Later (λ is. λ n. ap (λ k. k ∷ []) (eqb-true c 102 is)) (λ is. λ n. later_line (c ∷ []) n) not
 line_of-event_of (c ∷ s ∷ rest) not = chosen (c == 114 && s == 32) (c ∷ s ∷ rest) (read_event (block_of rest)) (if c == 119 && s == 32 then write_of rest else Later)
     (λ is. λ n.
-        let t = both (c == 114) (s == 32) is in
-        ap (λ k. k ∷ s ∷ rest) (eqb-true c 114 t.0) ∙ ap (λ k. 114 ∷ k ∷ rest) (eqb-true s 32 t.1) ∙ read_line rest (block_of rest) refl n)
+    let t = both (c == 114) (s == 32) is in
+    ap (λ k. k ∷ s ∷ rest) (eqb-true c 114 t.0) ∙ ap (λ k. 114 ∷ k ∷ rest) (eqb-true s 32 t.1) ∙ read_line rest (block_of rest) refl n)
     (λ was. λ m. chosen (c == 119 && s == 32) (c ∷ s ∷ rest) (write_of rest) Later
-        (λ is. λ n.
-            let t = both (c == 119) (s == 32) is in
-            ap (λ k. k ∷ s ∷ rest) (eqb-true c 119 t.0) ∙ ap (λ k. 119 ∷ k ∷ rest) (eqb-true s 32 t.1) ∙ write_of_line rest n)
-        (λ is. λ n. later_line (c ∷ s ∷ rest) n) m)
+    (λ is. λ n.
+    let t = both (c == 119) (s == 32) is in
+    ap (λ k. k ∷ s ∷ rest) (eqb-true c 119 t.0) ∙ ap (λ k. 119 ∷ k ∷ rest) (eqb-true s 32 t.1) ∙ write_of_line rest n)
+    (λ is. λ n. later_line (c ∷ s ∷ rest) n) m)
     not

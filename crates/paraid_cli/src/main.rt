@@ -1,16 +1,63 @@
-//! Serves a trace.
+//! Serves a trace of reads, writes and flushes over four disks in memory.
+//!
+//! `paraid` is the program over any source, sink and rack; its contract says what is written at
+//! each status and what the disks hold. `main` hands it the standard streams.
 #![tactic(auto)]
 
 mod event;
+mod hear;
 mod parse;
 mod reply;
-mod hear;
 mod run;
-mod status;
-mod top;
 mod serve;
 mod session;
+mod status;
 mod stdio;
 mod text;
+mod top;
 
-fn main(rt: HostRuntime) {}
+use paraid_base::NoMemory;
+use paraid_memrack::MemRack;
+use paraid_rack::Rack;
+use serve::DISKS;
+use std::alloc::Global;
+use std::process::ExitCode;
+use std::{env, io};
+use stdio::{StdSink, StdSource};
+use top::{Ended, PLACES, paraid};
+
+/// The most calls that the rack lists.
+const CALLS: u32 = 20_000;
+
+// Four fresh disks in memory.
+fn fresh_rack(alloc: Global) -> Result<MemRack, NoMemory> {
+    let mut rack = MemRack::new(alloc, DISKS, PLACES, CALLS, Vec::new(alloc))?;
+    for disk in 0..DISKS {
+        let Ok(()) = rack.attach(disk, PLACES) else {
+            return Err(NoMemory);
+        };
+    }
+    Ok(rack)
+}
+
+fn main(rt: HostRuntime) -> ExitCode {
+    let Ok(args) = env::args(&rt) else {
+        return ExitCode::from(status::NO_MEMORY);
+    };
+    let mut words = Vec::new(rt.alloc());
+    for word in args.skip(1) {
+        if let Err(_) = words.push(word) {
+            return ExitCode::from(status::NO_MEMORY);
+        }
+    }
+    let Ok(rack) = fresh_rack(rt.alloc()) else {
+        return ExitCode::from(status::NO_MEMORY);
+    };
+    let mut source = StdSource::new(rt.reader());
+    let mut sink = StdSink::new(io::writer(&rt));
+    let Ended {
+        status,
+        rack: _rack,
+    } = paraid(&words, &mut source, &mut sink, rack);
+    ExitCode::from(status)
+}

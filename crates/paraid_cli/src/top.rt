@@ -144,8 +144,8 @@ pub fn paraid<S: Source, K: Sink, R: Rack>(
 ) -> Ended<R>
     ensures run { IsRun (map string_bytes words.now.items)
         → Run (R.slot_count rack) (R.slot rack) (R.slot result.rack)
-            (S.left source.old) (S.left source.new) (K.written sink.old) (K.written sink.new)
-            (R.told rack) (R.told result.rack) result.status }
+        (S.left source.old) (S.left source.new) (K.written sink.old) (K.written sink.new)
+        (R.told rack) (R.told result.rack) result.status }
     ensures status { IsRun (map string_bytes words.now.items) → IsRunStatus result.status }
 
     ensures words { (IsRun (map string_bytes words.now.items) → ⊥)
