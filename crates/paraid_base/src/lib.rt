@@ -6,12 +6,14 @@
 #![tactic(auto)]
 
 mod block;
+mod blocks;
 mod event;
 mod fault;
 mod geometry;
 mod state;
 
 pub use block::{BLOCK_SIZE, Block};
+pub use blocks::Blocks;
 pub use event::{Answer, Event};
 pub use fault::{BlockFault, Failed, Halt, NoMemory, Two};
 pub use geometry::{GeoFault, Geometry};
