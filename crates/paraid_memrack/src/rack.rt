@@ -15,7 +15,8 @@ use std::alloc::Global;
 
 /// Up to 8 slots in memory.
 ///
-/// It tells its start and its calls until a call is made on a full list.
+/// It tells its start and its calls. Once a call is made on a full list it tells them no more, and
+/// a later call is neither listed nor planned, but each slot and each block stays right.
 #[derive(Drop)]
 pub struct MemRack {
     alloc: Global,
@@ -24,26 +25,19 @@ pub struct MemRack {
     log: Log,
     ghost sound: { AreSlots (length slots.items) (slot_at slots.items) },
     ghost small: { (d : ℕ) → (slot_at slots.items d).size < 2 ^ 32 },
-    ghost keeps: { AllHold (told_by log.tells log.start.items log.calls.items) (view_at slots.items) },
+    ghost keeps: { AllHold (told_by log.tells log.start.items log.calls.items)
+        (view_at slots.items) },
 }
 
 impl MemRack {
     ghost use Rattle.paraid_base.specs.Xor.{zeroed};
     ghost use Rattle.paraid_memrack.specs.Plan.{disk_of, done_of, dirt_after};
-    ghost use Rattle.paraid_memrack.specs.Rules.{
-      count_of,
-      slots_of,
-      told_of,
-      rules_of,
-      listed,
-      fails_next,
-      Notes,
-      no_disks,
-      no_disk,
-    };
+    ghost use Rattle.paraid_memrack.specs.Rules.{count_of, slots_of, told_of, rules_of, listed, fails_next, Notes, no_disks, no_disk};
 
-    /// A rack of absent slots. An attach may have at most `room` blocks, and at most `calls` calls
-    /// are listed. All memory but that for the blocks of a disk is taken here.
+    /// A rack of `slots` absent slots, whose calls fail as `plan` says.
+    ///
+    /// An attach of more than `room` blocks fails, and so does one that finds no memory. At most
+    /// `calls` calls are listed. All memory but that for the blocks of a disk is taken here.
     pub fn new(
         alloc: Global,
         slots: u8,
@@ -261,7 +255,8 @@ impl Rack for MemRack {
         requires spinning { (slots_of self.old disk).power ≡ Power.Spinning }
         ensures slots { count_of self.new ≡ count_of self.old }
         ensures slot { Touched (slots_of self.old) (slots_of self.new) disk
-            (record (slots_of self.old disk) { unsynced = false }) (slots_of self.old disk).unsynced (is_ok result) }
+            (record (slots_of self.old disk) { unsynced = false })
+            (slots_of self.old disk).unsynced (is_ok result) }
         ensures told { Grows (told_of self.old) (told_of self.new)
             (Call.Sync disk (is_ok result)) }
         // It fails exactly where the plan names it.
@@ -325,11 +320,12 @@ impl Rack for MemRack {
         requires exists { disk < count_of self.old }
         ensures slots { count_of self.new ≡ count_of self.old }
         ensures slot { Touched (slots_of self.old) (slots_of self.new) disk
-            (record (slots_of self.old disk) { power = Power.Spinning; size = size; unsynced = false })
+            (record (slots_of self.old disk)
+            { power = Power.Spinning; size = size; unsynced = false })
             (slots_of self.old disk).unsynced (is_ok result) }
         ensures told { Grows (told_of self.old) (told_of self.new)
             (Call.Attach disk size (is_ok result)) }
-        // It fails where the plan names it, where it is larger than the room, and for want of memory.
+        // It fails where the plan names it or it is larger than the room, and for want of memory.
         ensures planned { fails_next self.old disk ≡ true → is_ok result ≡ false }
         ensures large { (rules_of self.old).room < size → is_ok result ≡ false }
         ensures notes { Notes self.old self.new (Call.Attach disk size (is_ok result)) }

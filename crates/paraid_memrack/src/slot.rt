@@ -75,7 +75,8 @@ pub fn fail(slots: &mut Vec<MemSlot>, alloc: Global, disk: DiskNo, dirt: bool)
 pub fn put(slots: &mut Vec<MemSlot>, disk: DiskNo, place: Place, block: &Block)
     requires exists { disk < length slots.old.items }
     requires within { place < length (view_at slots.old.items disk).blocks }
-    ensures { let was = view_at slots.old.items disk in Becomes slots.old.items slots.new.items disk
+    ensures { let was = view_at slots.old.items disk in
+        Becomes slots.old.items slots.new.items disk
         (record was { blocks = slice_set was.blocks place block.now; unsynced = true }) }
 {
     let slot = &mut slots[disk as usize];
@@ -104,8 +105,8 @@ pub fn turn(slots: &mut Vec<MemSlot>, disk: DiskNo, power: Power)
 /// A fresh disk with these blocks is in the slot.
 pub fn fill(slots: &mut Vec<MemSlot>, disk: DiskNo, blocks: Vec<Block>)
     requires { disk < length slots.old.items }
-    ensures { Becomes slots.old.items slots.new.items disk
-        (record (view_at slots.old.items disk) { power = Spinning; blocks = blocks.items; unsynced = false }) }
+    ensures { Becomes slots.old.items slots.new.items disk (record (view_at slots.old.items disk)
+        { power = Spinning; blocks = blocks.items; unsynced = false }) }
 {
     let slot = &mut slots[disk as usize];
     slot.power = Power::Spinning;

@@ -106,8 +106,63 @@ fn exactly_the_planned_calls_fail(rt: HostRuntime) {
         (3, Planned::AtCall(3), on(1, 2), b"..........."),
     ];
     for (calls, first, second, want) in rows {
-        let plan = vec![in alloc; first, second].expect(&rt, "memory");
-        let mut rack = MemRack::new(alloc, 2, 4, calls, plan).expect(&rt, "memory");
+        let plan = vec![in alloc; first, second].expect(&rt, "there is memory");
+        let mut rack = MemRack::new(alloc, 2, 4, calls, plan).expect(&rt, "there is memory");
         assert_eq!(rt; &walk(&mut rack), want);
     }
+}
+
+// Whether the listed call of this number is a done write of this byte to block 2 of disk 1.
+fn is_write(rack: &MemRack, m: u32, byte: u8) -> bool {
+    m < rack.calls()
+        && match rack.call(m) {
+            Call::Write {
+                disk: 1,
+                place: 2,
+                bytes,
+                done: true,
+            } => bytes.bytes[0] == byte,
+            _ => false,
+        }
+}
+
+// The first byte of a block, 255 where there is no such block.
+fn first_byte(rack: &MemRack, disk: DiskNo, place: Place) -> u8 {
+    if disk < rack.slots() && place < rack.size(disk) {
+        rack.block(disk, place).bytes[0]
+    } else {
+        255
+    }
+}
+
+#[test]
+fn a_full_list_takes_no_call_and_the_contents_stay_right(rt: HostRuntime) {
+    let alloc = rt.alloc();
+    for (calls, listed) in [(100, 11), (4, 4), (3, 3)] {
+        let mut rack = MemRack::new(alloc, 2, 4, calls, Vec::new(alloc)).expect(
+            &rt,
+            "there is memory",
+        );
+        walk(&mut rack);
+        assert_eq!(rt; rack.calls(), listed);
+        assert_eq!(rt; is_write(&rack, 3, 9), calls > 3);
+        assert_eq!(rt; first_byte(&rack, 0, 1), 7);
+        assert_eq!(rt; first_byte(&rack, 1, 2), 9);
+        assert_eq!(rt; first_byte(&rack, 1, 3), 0);
+    }
+}
+
+#[test]
+fn an_attach_larger_than_the_room_takes_the_disk_away(rt: HostRuntime) {
+    let alloc = rt.alloc();
+    let mut rack = MemRack::new(alloc, 1, 4, 9, Vec::new(alloc)).expect(&rt, "there is memory");
+    let marks = [
+        attach(&mut rack, 0, 4),
+        write(&mut rack, 0, 3, 5),
+        attach(&mut rack, 0, 5),
+        read(&mut rack, 0, 3, 5),
+        attach(&mut rack, 0, 4),
+        read(&mut rack, 0, 3, 0),
+    ];
+    assert_eq!(rt; &marks, b"..x-..");
 }
