@@ -1,0 +1,5 @@
+pub mod SpellingLemmas
+pub mod PenLemmas
+pub mod GearLemmas
+pub mod GeometryLemmas
+pub mod PartLemmas

@@ -1,0 +1,55 @@
+-- The numbers that stand for modes, phases and disks that are out, and the lists of gears and windows
+use Rattle.std.specs.Prelude.{ℕ, ◌+◌, Bool, true, false, List, [], ◌∷◌, ◌++◌, if◌then◌else◌, nat_lt, count_by, slice_index_or}
+use Rattle.std.proofs.Common.{zero, suc}
+use Rattle.paraid_base.specs.declared.geometry.Geometry.{Geometry}
+use Rattle.paraid_base.specs.declared.state.Phase.{Phase}
+use Rattle.paraid_base.specs.declared.state.Phase.TheVariants.{Steady, Down, Up}
+use Rattle.paraid_base.specs.declared.state.Out.{Out}
+use Rattle.paraid_base.specs.declared.state.Out.TheVariants.{No, Gone, Fresh}
+use Rattle.paraid_record.specs.declared.meta.Mode.{Mode}
+use Rattle.paraid_record.specs.declared.meta.Mode.TheVariants.{Whole, Access}
+
+abbrev pub mode_code : Mode → ℕ
+mode_code Whole = 0
+mode_code Access = 1
+
+abbrev pub phase_code : Phase → ℕ
+phase_code Steady = 0
+phase_code (Down to) = 1
+phase_code (Up to) = 2
+
+-- the gear that a shift goes to, 0 where there is no shift
+abbrev pub phase_to : Phase → ℕ
+phase_to Steady = 0
+phase_to (Down to) = to
+phase_to (Up to) = to
+
+-- the disk that is out, 255 where none is
+abbrev pub out_code : Out → ℕ
+out_code No = 255
+out_code (Gone disk) = disk
+out_code (Fresh disk rebuilt) = disk
+
+abbrev pub fresh_code : Out → ℕ
+fresh_code No = 0
+fresh_code (Gone disk) = 0
+fresh_code (Fresh disk rebuilt) = 1
+
+-- how many units of the disk that is out are rebuilt
+abbrev pub rebuilt_count : Out → ℕ
+rebuilt_count No = 0
+rebuilt_count (Gone disk) = 0
+rebuilt_count (Fresh disk rebuilt) = rebuilt
+
+-- the gears below `a`, in ascending order
+unfoldable pub gears_below : Geometry → ℕ → List ℕ
+gears_below g zero = []
+gears_below g (suc a) = if slice_index_or g.gears a false then gears_below g a ++ a ∷ [] else gears_below g a
+
+-- all gears, in ascending order
+abbrev pub gear_list : Geometry → List ℕ
+gear_list g = gears_below g 9
+
+-- how many windows are used; an unused one has length 0
+abbrev pub window_count : List ℕ → ℕ
+window_count windows = count_by (nat_lt 0) windows

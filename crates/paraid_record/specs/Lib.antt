@@ -1,0 +1,4 @@
+pub mod Spelling
+pub mod Codes
+pub mod Range
+pub mod Meta

@@ -1,0 +1,109 @@
+-- Which setups and metas are in range
+use Rattle.std.specs.Prelude.{◌≡◌, ℕ, ◌+◌, ◌^◌, ◌<◌, ◌≤◌, Bool, true, false, List, length, slice_index, slice_index_or, nat_lt, if◌then◌else◌}
+use Rattle.paraid_base.specs.declared.geometry.Geometry.{Geometry}
+use Rattle.paraid_base.specs.declared.state.Phase.{Phase}
+use Rattle.paraid_base.specs.declared.state.Phase.TheVariants.{Steady, Down, Up}
+use Rattle.paraid_base.specs.declared.state.Out.{Out}
+use Rattle.paraid_base.specs.declared.state.Out.TheVariants.{No, Gone, Fresh}
+use Rattle.paraid_base.specs.Regions.{IsGear, map_count}
+use Rattle.paraid_base.specs.Soft.{stripe_count}
+use Rattle.paraid_record.specs.declared.meta.Setup.{Setup}
+use Rattle.paraid_record.specs.declared.meta.Meta.{Meta}
+
+abbrev pub Within : ℕ → ℕ → ℕ → Type 0
+Within low high x = (low ≤ x) × (x ≤ high)
+
+-- one to three windows of 1 to 1,024 samples, the used ones first, and 0 for an unused one
+pub record AreWindows (windows : List ℕ) : Type 0 where
+  pub three : length windows ≡ 3
+  pub first : Within 1 1024 (slice_index windows 0)
+  pub second : slice_index windows 1 ≤ 1024
+  pub third : slice_index windows 2 ≤ 1024
+  pub in_order : slice_index windows 1 ≡ 0 → slice_index windows 2 ≡ 0
+
+pub record IsSetupInRange (s : Setup) : Type 0 where
+  pub rate : Within 1 65536 s.rate
+  pub service : Within 1 1048576 s.service
+  pub up : Within 1 100 s.up
+  pub down : Within 1 100 s.down
+  pub windows : AreWindows s.windows
+  pub ration : Within 1 65535 s.ration
+  pub spinning : s.spinning_mj ≤ 1048576
+  pub parked : s.parked_mj ≤ 1048576
+  pub spinup : s.spinup_mj ≤ 1048576
+
+-- two gears with none between them
+pub record AreNextGears (g : Geometry) (lower higher : ℕ) : Type 0 where
+  pub below : lower < higher
+  pub lower_gear : IsGear g lower
+  pub higher_gear : IsGear g higher
+  pub between : (a : ℕ) → lower < a → a < higher → slice_index_or g.gears a false ≡ false
+
+-- a shift goes to the next gear
+abbrev pub IsPhaseInRange : Geometry → ℕ → Phase → Type 0
+IsPhaseInRange g gear Steady = Unit {0}
+IsPhaseInRange g gear (Down to) = AreNextGears g to gear
+IsPhaseInRange g gear (Up to) = AreNextGears g gear to
+
+-- how many stripes of the region of the new gear can be filled
+abbrev pub fill_limit : Geometry → Phase → ℕ
+fill_limit g Steady = 0
+fill_limit g (Down to) = stripe_count g.disks g.rows to
+fill_limit g (Up to) = stripe_count g.disks g.rows to
+
+-- the units of a rebuild of `disk`: the rows, for a disk below the gear its stripes, and for
+-- disks 0 and 1 the blocks of the dirty map
+abbrev pub rebuild_units : Geometry → ℕ → ℕ → ℕ
+rebuild_units g gear disk =
+    g.rows + (if nat_lt disk gear then stripe_count g.disks g.rows gear else 0) + (if nat_lt disk 2 then map_count g else 0)
+
+abbrev pub IsOutInRange : Geometry → ℕ → Out → Type 0
+IsOutInRange g gear No = Unit {0}
+IsOutInRange g gear (Gone disk) = disk < g.disks
+IsOutInRange g gear (Fresh disk rebuilt) = (disk < g.disks) × (rebuilt ≤ rebuild_units g gear disk)
+
+abbrev pub is_down : Phase → Bool
+is_down Steady = false
+is_down (Down to) = true
+is_down (Up to) = false
+
+-- whether a disk is out
+abbrev pub has_out : Out → Bool
+has_out No = false
+has_out (Gone disk) = true
+has_out (Fresh disk rebuilt) = true
+
+-- the first disk that a shift under way, or the gear, leaves parked
+abbrev pub first_parked : ℕ → Phase → ℕ
+first_parked gear Steady = gear
+first_parked gear (Down to) = to
+first_parked gear (Up to) = to
+
+-- the spin-ups of a disk: below the ration where it is parked, at most the ration, and none past the last disk
+pub record IsSpinCount (m : Meta) (disk : ℕ) : Type 0 where
+  pub within : slice_index m.spins disk ≤ m.setup.ration
+  pub parked : first_parked m.gear m.phase ≤ disk → disk < m.setup.geometry.disks → slice_index m.spins disk < m.setup.ration
+  pub unused : m.setup.geometry.disks ≤ disk → slice_index m.spins disk ≡ 0
+
+-- the fill mark is within the region of the new gear; with a disk out there is no shift down and nothing is filled
+pub record IsShiftInRange (m : Meta) : Type 0 where
+  pub fill : m.fill ≤ fill_limit m.setup.geometry m.phase
+  pub down : is_down m.phase ≡ true → has_out m.out ≡ false
+  pub still : has_out m.out ≡ true → m.fill ≡ 0
+
+-- numbers of 64 bits, and an epoch that a commit has
+pub record AreCountersInRange (epoch writes ticks : ℕ) : Type 0 where
+  pub first : 1 ≤ epoch
+  pub epoch_fits : epoch < 2 ^ 64
+  pub writes_fit : writes < 2 ^ 64
+  pub ticks_fit : ticks < 2 ^ 64
+
+pub record IsInRange (m : Meta) : Type 0 where
+  pub setup : IsSetupInRange m.setup
+  pub counters : AreCountersInRange m.epoch m.writes m.ticks
+  pub gear : IsGear m.setup.geometry m.gear
+  pub phase : IsPhaseInRange m.setup.geometry m.gear m.phase
+  pub out : IsOutInRange m.setup.geometry m.gear m.out
+  pub shift : IsShiftInRange m
+  pub eight : length m.spins ≡ 8
+  pub spins : (disk : ℕ) → disk < 8 → IsSpinCount m disk

@@ -1,0 +1,19 @@
+//! The records of an array's log: the meta, which holds the setup and the state of an array, and
+//! the list of targets of a batch.
+//!
+//! A value in range has one spelling of 512 bytes. Writing gives that spelling, and reading
+//! answers exactly for the spellings of values in range, with the value that was spelled.
+#![tactic(auto)]
+
+mod codes;
+mod meta;
+mod pen;
+mod range;
+mod read;
+mod reader;
+mod write;
+
+pub use meta::{Meta, Mode, Setup};
+pub use range::rebuild_units;
+pub use read::read_meta;
+pub use write::write_meta;

@@ -1,0 +1,55 @@
+use paraid_base::{Geometry, Out, Phase};
+
+/// What a read may do during a shift up.
+#[derive(Clone, Copy, Debug, PartialEq, Eq)]
+pub enum Mode {
+    /// A read changes nothing.
+    Whole,
+    /// A read of a dirty cell makes it clean.
+    Access,
+}
+
+/// What an array is configured to be. It never changes once the array is formatted.
+#[derive(Clone, Copy)]
+pub struct Setup {
+    pub geometry: Geometry,
+    pub mode: Mode,
+    /// The most units that a tick moves, 1 to 65,536.
+    pub rate: u32,
+    /// How many reads and writes a powered disk serves between two ticks, 1 to 1,048,576.
+    pub service: u32,
+    /// The load in percent from which on a shift up is due, 1 to 100.
+    pub up: u8,
+    /// The load in percent up to which a shift down is due, 1 to 100.
+    pub down: u8,
+    /// The lengths of the windows in samples, 1 to 1,024. An unused window is 0.
+    pub windows: [u16; 3],
+    /// The most spin-ups of a disk, 1 to 65,535.
+    pub ration: u16,
+    /// The energy of a spinning disk between two ticks, in millijoules, 0 to 1,048,576.
+    pub spinning_mj: u32,
+    /// The energy of a parked disk between two ticks, in millijoules, 0 to 1,048,576.
+    pub parked_mj: u32,
+    /// The energy of a spin-up, in millijoules, 0 to 1,048,576.
+    pub spinup_mj: u32,
+}
+
+/// The setup and the state of an array, as its log disks keep them.
+#[derive(Clone, Copy)]
+pub struct Meta {
+    pub setup: Setup,
+    /// The number of the commit that wrote it, from 1.
+    pub epoch: u64,
+    /// The number of writes that were accepted.
+    pub writes: u64,
+    /// The number of ticks that were counted.
+    pub ticks: u64,
+    /// The number of disks that are powered when no shift is under way, one of the gears.
+    pub gear: u8,
+    pub phase: Phase,
+    /// How many stripes of the region of the new gear are filled.
+    pub fill: u32,
+    pub out: Out,
+    /// The recorded spin-ups of each disk since its last attach, 0 past the last disk.
+    pub spins: [u16; 8],
+}
