@@ -85,7 +85,7 @@ same_flag g flags marks a =
           ] refl
     ] refl
 
-same_flags : (g h : Geometry) → Marks (gear_list g) (length (gear_list g)) h.gears → h.gears ≡ g.gears
+pub same_flags : (g h : Geometry) → Marks (gear_list g) (length (gear_list g)) h.gears → h.gears ≡ g.gears
 same_flags g h marks = same_lists h.gears g.gears (h.long ∙ sym g.long) (λ k d l.
     get_or_default h.gears k d false l
     ∙ same_flag g h.gears marks k

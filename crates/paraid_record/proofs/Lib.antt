@@ -3,3 +3,5 @@ pub mod PenLemmas
 pub mod GearLemmas
 pub mod GeometryLemmas
 pub mod PartLemmas
+pub mod TargetLemmas
+pub mod OneSpelling

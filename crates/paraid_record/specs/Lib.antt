@@ -2,3 +2,4 @@ pub mod Spelling
 pub mod Codes
 pub mod Range
 pub mod Meta
+pub mod Targets

@@ -6,14 +6,18 @@
 #![tactic(auto)]
 
 mod codes;
+mod law;
 mod meta;
 mod pen;
 mod range;
 mod read;
 mod reader;
+mod targets;
 mod write;
 
+pub use law::spellings_differ;
 pub use meta::{Meta, Mode, Setup};
 pub use range::rebuild_units;
 pub use read::read_meta;
+pub use targets::{Target, Targets, read_targets, write_targets};
 pub use write::write_meta;

@@ -19,6 +19,8 @@ use paraid_base::{Block, Geometry};
 /// The meta in range that a block spells, if it spells one.
 pub fn read_meta(block: &Block) -> Option<Meta>
     ensures some { IfSome result (λ m. IsInRange m × (block.now.bytes ≡ meta_bytes m)) }
+    ensures value { (m : MetaType) → IsInRange m → block.now.bytes ≡ meta_bytes m
+        → result ≡ Some m }
     ensures none { IfNone result ((m : MetaType) → IsInRange m → block.now.bytes ≢ meta_bytes m) }
 {
     let meta = take_meta(&mut Reader::new(block.as_slice()))?;

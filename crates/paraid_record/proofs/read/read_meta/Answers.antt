@@ -30,3 +30,18 @@ returns-else-is_in_range-clause-none c = λ m range e.
           let told = w.if-is_in_range.false in
           absurd (cc)
     ]
+
+pub returns-in_err-meta-clause-value : goal.returns-in_err-meta-clause-value
+returns-in_err-meta-clause-value c = λ m range e.
+    let read = c.take_meta.ensures m _ range (c.new.ensures ∙ c.as_slice.ensures.value ∙ e ∙ meta-parts m) in
+    let was = c.in_err-meta.was in
+    absurd (cc)
+
+pub returns-then-is_spelling-clause-value : goal.returns-then-is_spelling-clause-value
+returns-then-is_spelling-clause-value c = λ m range e.
+    let read = c.take_meta.ensures m _ range (c.new.ensures ∙ c.as_slice.ensures.value ∙ e ∙ meta-parts m) in
+    let was = c.in_ok-meta.was in
+    cc
+
+pub returns-else-is_in_range-clause-value : goal.returns-else-is_in_range-clause-value
+returns-else-is_in_range-clause-value c = λ m range e. absurd (returns-else-is_in_range-clause-none c m range e)
