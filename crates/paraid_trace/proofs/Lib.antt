@@ -1,0 +1,4 @@
+pub mod RepeatsLemmas
+pub mod HexLemmas
+pub mod NumberLemmas
+pub mod LineLemmas

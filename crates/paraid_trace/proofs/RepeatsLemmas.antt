@@ -1,0 +1,45 @@
+-- Blocks that repeat a list of bytes
+use Rattle.std.proofs.Common.{◌≡◌, ℕ, zero, suc, ◌+◌, ◌%◌, ◌<◌, ◌≤◌, List, [], ◌∷◌, length, get_or, refl, sym, ap, ◌∙◌, arith}
+use Rattle.std.specs.Prelude.{slice_index}
+use Rattle.paraid_base.specs.declared.block.Block.{Block}
+use Rattle.paraid_base.proofs.XorLemmas.{same_block}
+use Rattle.paraid_trace.specs.Repeats.{Repeats, byte_of, length-listed, listed, repeated}
+
+pub get_or-listed : (f : ℕ → ℕ) (n k : ℕ) → k < n → get_or (listed f n) k 0 ≡ f k
+get_or-listed f zero k lt = absurd (omega arith)
+get_or-listed f (suc n) zero lt = refl
+get_or-listed f (suc n) (suc k) lt = get_or-listed (λ i. f (suc i)) n k (omega arith)
+
+-- lists of one length that agree at each place are one list
+pub same_list : (a b : List ℕ) → length a ≡ length b → ((k : ℕ) → k < length b → get_or a k 0 ≡ get_or b k 0) → a ≡ b
+same_list [] [] e h = refl
+same_list [] (y ∷ b) e h = absurd (omega arith)
+same_list (x ∷ a) [] e h = absurd (omega arith)
+same_list (x ∷ a) (y ∷ b) e h =
+    let head : x ≡ y = h 0 (omega arith) in
+    let tail : a ≡ b = same_list a b (omega arith) (λ k lt. h (suc k) (omega arith)) in
+    cc
+
+-- a block of bytes that agree with the repetition is the repetition
+pub repeated-from_places : (pattern : List ℕ) (block : Block) → ((k : ℕ) → k < 512 → get_or block.bytes k 0 ≡ byte_of pattern k) → block ≡ repeated pattern
+unfolding repeated
+repeated-from_places pattern block h =
+    same_block _ _ (same_list block.bytes (listed (byte_of pattern) 512) (block.whole ∙ sym (length-listed (byte_of pattern) 512)) (λ k lt.
+    let below : k < 512 = omega (arith, length-listed (byte_of pattern) 512) in
+    h k below ∙ sym (get_or-listed (byte_of pattern) 512 k below)))
+
+-- the block that the definition by place describes
+pub repeated-Repeats : (pattern : List ℕ) (block : Block) → Repeats pattern block → block ≡ repeated pattern
+repeated-Repeats pattern block h = repeated-from_places pattern block (λ k lt.
+    let each = h.each k lt in
+    let small = block.small k in
+    omega arith)
+
+pub Repeats-repeated : (pattern : List ℕ) → ((k : ℕ) → slice_index pattern k < 256) → Repeats pattern (repeated pattern)
+unfolding repeated
+Repeats-repeated pattern small = record {
+  each = λ k lt.
+      let byte = get_or-listed (byte_of pattern) 512 k lt in
+      let below = small (k % length pattern) in
+      omega arith;
+}
