@@ -1,4 +1,5 @@
 pub mod RepeatsLemmas
 pub mod HexLemmas
 pub mod NumberLemmas
+pub mod PeriodLemmas
 pub mod LineLemmas

@@ -5,7 +5,14 @@
 //! a `Text`, and `generate` makes the events of a generated trace. None of them takes memory.
 #![tactic(auto)]
 
+mod generator;
 mod hexes;
 mod line;
+mod periods;
+mod replies;
+mod text;
 
+pub use generator::generate;
 pub use line::parse_line;
+pub use replies::reply;
+pub use text::{MAX_TEXT, Text};

@@ -1,0 +1,29 @@
+-- The text of an array's state
+use Rattle.std.specs.Prelude.{ℕ, List, ◌++◌, take, codes, decimal}
+use Rattle.std.specs.List.{flat_map}
+use Rattle.paraid_base.specs.declared.state.Phase.{Phase}
+use Rattle.paraid_base.specs.declared.state.Phase.TheVariants.{Steady, Down, Up}
+use Rattle.paraid_base.specs.declared.state.Out.{Out}
+use Rattle.paraid_base.specs.declared.state.Out.TheVariants.{No, Gone, Fresh}
+use Rattle.paraid_base.specs.declared.state.Status.{Status}
+
+abbrev pub phase_text : Phase → List ℕ
+phase_text Steady = codes "steady"
+phase_text (Down to) = codes "down " ++ decimal to
+phase_text (Up to) = codes "up " ++ decimal to
+
+abbrev pub out_text : Out → List ℕ
+out_text No = codes "none"
+out_text (Gone disk) = decimal disk ++ codes " gone"
+out_text (Fresh disk rebuilt) = decimal disk ++ codes " rebuilt " ++ decimal rebuilt
+
+-- one space and a number for each disk
+abbrev pub spins_text : List ℕ → List ℕ
+spins_text spins = flat_map (λ count. codes " " ++ decimal count) spins
+
+-- the state of an array of so many disks
+abbrev pub state_text : Status → ℕ → List ℕ
+state_text status disks =
+    codes "state " ++ decimal status.gear ++ codes " " ++ phase_text status.phase
+    ++ codes " dirty " ++ decimal status.dirty ++ codes " fill " ++ decimal status.fill
+    ++ codes " out " ++ out_text status.out ++ codes " spins" ++ spins_text (take disks status.spins)
