@@ -61,3 +61,6 @@ fn main(rt: HostRuntime) -> ExitCode {
     } = paraid(&words, &mut source, &mut sink, rack);
     ExitCode::from(status)
 }
+
+#[cfg(test)]
+mod tests;

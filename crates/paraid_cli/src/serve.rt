@@ -119,6 +119,8 @@ pub fn answer<R: Rack>(
     ensures number { OnOk result ((h : History) → length h ≡ writes.old
         → length (next h event) ≡ writes.new) }
     ensures bound { OnOk result (writes.new ≤ writes.old + 1) }
+    ensures synced { OnOk result (event ≡ Event.Flush
+        → (d : ℕ) → d < 4 → (R.slot rack.new d).unsynced ≡ false) }
     ensures fits { OnOk result (Fits (R.slot_count rack.new) (R.slot rack.new)) }
     ensures no_fall { NoFall (R.slot rack.old) (R.slot rack.new) }
     ensures cause { IfErr result (HasFailed (R.slot rack.old) (R.slot rack.new)) }
