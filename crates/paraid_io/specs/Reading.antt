@@ -33,15 +33,18 @@ pub record Takes (before after : Option (List ℕ)) (old new : Reading) (n : ℕ
   pub limit : new.taken ≤ 2 ^ 40
   pub end : n ≡ 0 → AtEnd after
 
--- The first line of the input is this one, and this is the rest. The last line may lack its newline, at the end.
+-- The first line of the input is this one, and this is the rest. The last line may lack its
+-- newline, at the end.
 pub record CutsOff (input line rest : List ℕ) (ended : Bool) : Type 0 where
   pub plain : NoNewline line
   pub cut : (input ≡ line ++ 10 ∷ rest) ⊎ ((input ≡ line) × (line ≢ []) × (rest ≡ []) × IsTrue ended)
 
 -- what an answer says of the bytes that were held before and taken in the call
 abbrev pub Answers : Result Line LineFault → List ℕ → Reading → Type 0
-Answers (Ok (Whole n)) input new = CutsOff input new.line new.rest new.ended × (length new.line ≡ n) × (n ≤ 1100)
-Answers (Ok (Long n)) input new = (line : List ℕ) × CutsOff input line new.rest new.ended × (length line ≡ n) × (1100 < n)
+Answers (Ok (Whole n)) input new =
+    CutsOff input new.line new.rest new.ended × (length new.line ≡ n) × (n ≤ 1100)
+Answers (Ok (Long n)) input new =
+    (line : List ℕ) × CutsOff input line new.rest new.ended × (length line ≡ n) × (1100 < n)
 Answers (Ok End) input new = (input ≡ []) × (new.rest ≡ []) × IsTrue new.ended
 Answers (Err fault) input new = NoNewline input × (new.fault ≡ Some fault) × (new.ended ≡ false)
 
@@ -57,7 +60,8 @@ abbrev pub NeedsNoCall : Reading → Type 0
 NeedsNoCall r = IsTrue r.ended ⊎ (whole_lines r.rest ≢ []) ⊎ (r.taken ≡ 2 ^ 40)
 
 -- One call of a reader that has met no fault: these bytes were taken.
-pub record Step (before after : Option (List ℕ)) (old new : Reading) (result : Result Line LineFault) : Type 0 where
+pub record Step (before after : Option (List ℕ)) (old new : Reading)
+    (result : Result Line LineFault) : Type 0 where
   pub got : List ℕ
   pub given : Gives before after got
   pub taken : new.taken ≡ old.taken + length got

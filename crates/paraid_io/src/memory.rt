@@ -97,10 +97,12 @@ impl Source for MemSource {
     fn read_some(&mut self, into: &mut [u8]) -> Result<usize, Failed>
         requires { 0 < length into.old }
         ensures within { IfOk result (λ n. n ≤ length into.old) }
-        ensures gives { IfOk result (λ n. Gives (Some (left_in self.old)) (Some (left_in self.new)) (take n into.new)) }
+        ensures gives { IfOk result (λ n. Gives (Some (left_in self.old)) (Some (left_in self.new))
+            (take n into.new)) }
         ensures end { IfOk result (λ n. n ≡ 0 → AtEnd (Some (left_in self.new))) }
         ensures some { IfOk result (λ n. left_in self.old ≢ [] → 0 < n) }
-        ensures keeps { OnErr result (Gives (Some (left_in self.old)) (Some (left_in self.new)) []) }
+        ensures keeps { OnErr result (Gives (Some (left_in self.old))
+            (Some (left_in self.new)) []) }
         ensures later { faults_in self.old ≤ faults_in self.new }
         ensures cause { OnErr result (HasRisen (faults_in self.old) (faults_in self.new)) }
 
@@ -166,8 +168,10 @@ impl Sink for MemSink {
         requires { 0 < length bytes.now }
         ensures some { IfOk result (λ n. 0 < n) }
         ensures within { IfOk result (λ n. n ≤ length bytes.now) }
-        ensures grows { IfOk result (λ n. Grows (Some (written_to self.old)) (Some (written_to self.new)) (take n bytes.now)) }
-        ensures keeps { OnErr result (Grows (Some (written_to self.old)) (Some (written_to self.new)) []) }
+        ensures grows { IfOk result (λ n. Grows (Some (written_to self.old))
+            (Some (written_to self.new)) (take n bytes.now)) }
+        ensures keeps { OnErr result (Grows (Some (written_to self.old))
+            (Some (written_to self.new)) []) }
         ensures later { faults_of self.old ≤ faults_of self.new }
         ensures cause { OnErr result (HasRisen (faults_of self.old) (faults_of self.new)) }
 

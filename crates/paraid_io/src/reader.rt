@@ -42,8 +42,9 @@ impl Model for LineReader {
       fault = r.fault;
     } };
 
-    ghost invariant = { λ r. (r.start ≤ r.end) × (r.end ≤ 8192) × (r.line_start + r.line_length ≤ 8192)
-        × (r.end - r.start ≤ r.taken) × (r.taken ≤ 2 ^ 40) × (length r.buffer ≡ 8192) };
+    ghost invariant = { λ r. (r.start ≤ r.end) × (r.end ≤ 8192)
+        × (r.line_start + r.line_length ≤ 8192) × (r.end - r.start ≤ r.taken)
+        × (r.taken ≤ 2 ^ 40) × (length r.buffer ≡ 8192) };
 }
 
 impl LineReader {
@@ -112,7 +113,8 @@ impl LineReader {
     fn fill<S: Source>(&mut self, source: &mut S) -> Result<usize, Failed>
         requires held { length self.old.rest ≤ 1100 }
         requires room { self.old.taken < 2 ^ 40 }
-        ensures got { IfOk result (λ n. Takes (S.left source.old) (S.left source.new) self.old self.new n) }
+        ensures got { IfOk result (λ n. Takes (S.left source.old) (S.left source.new)
+            self.old self.new n) }
         ensures keeps { OnErr result (Gives (S.left source.old) (S.left source.new) []
             × (self.new.rest ≡ self.old.rest) × (self.new.taken ≡ self.old.taken)
             × (self.new.ended ≡ self.old.ended)) }

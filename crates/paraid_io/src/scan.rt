@@ -23,7 +23,8 @@ pub(crate) fn make_room(buffer: &mut [u8], start: usize, end: usize) -> usize
     requires within { end ≤ length buffer.old }
     requires few { (end - start) + PIECE ≤ length buffer.old }
     ensures room { result + (end - start) + PIECE ≤ length buffer.old }
-    ensures same { take (end - start) (drop result buffer.new) ≡ take (end - start) (drop start buffer.old) }
+    ensures same { take (end - start) (drop result buffer.new)
+        ≡ take (end - start) (drop start buffer.old) }
 {
     if PIECE <= buffer.len() - end {
         return start;

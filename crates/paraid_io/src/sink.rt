@@ -17,7 +17,8 @@ pub trait Sink {
         requires { 0 < length bytes.now }
         ensures some { IfOk result (λ n. 0 < n) }
         ensures within { IfOk result (λ n. n ≤ length bytes.now) }
-        ensures grows { IfOk result (λ n. Grows (written self.old) (written self.new) (take n bytes.now)) }
+        ensures grows { IfOk result (λ n. Grows (written self.old) (written self.new)
+            (take n bytes.now)) }
         ensures keeps { OnErr result (Grows (written self.old) (written self.new) []) }
         ensures later { faults self.old ≤ faults self.new }
         ensures cause { OnErr result (HasRisen (faults self.old) (faults self.new)) };

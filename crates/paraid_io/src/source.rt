@@ -19,7 +19,8 @@ pub trait Source {
         ensures within { IfOk result (λ n. n ≤ length into.old) }
         ensures gives { IfOk result (λ n. Gives (left self.old) (left self.new) (take n into.new)) }
         ensures end { IfOk result (λ n. n ≡ 0 → AtEnd (left self.new)) }
-        ensures some { IfOk result (λ n. IsSome (left self.new) → told (left self.old) ≢ [] → 0 < n) }
+        ensures some { IfOk result (λ n. IsSome (left self.new)
+            → told (left self.old) ≢ [] → 0 < n) }
         ensures keeps { OnErr result (Gives (left self.old) (left self.new) []) }
         ensures later { faults self.old ≤ faults self.new }
         ensures cause { OnErr result (HasRisen (faults self.old) (faults self.new)) };
