@@ -1,0 +1,9 @@
+use Rattle.std.proofs.Common.{true, false}
+use Rattle.paraid_rack.specs.declared.call.Power.TheVariants.{Spinning}
+use Rattle.paraid_rack.specs.Slots.{Slot}
+use Rattle.paraid_imgrack.proofs.ImagesLemmas.{touched_at}
+use Rattle.paraid_imgrack.proofs.rack.ImageRackRack.attach.Goals as goal
+
+pub returns-clause-slot : goal.returns-clause-slot
+returns-clause-slot g c = touched_at c.args.self.now.images.items c.args.disk c.index_mut.result.now _
+    (λ (s : Slot). record s { power = Spinning; size = c.args.size; unsynced = false }) (λ (s : Slot). s.unsynced) _ c.requires.exists c.index_mut.ensures.value c.attach.ensures

@@ -1,0 +1,39 @@
+-- What is always told of a slot, as its image has it.
+use Rattle.std.specs.Prelude.{◌≡◌, ◌≤◌, ℕ, Bool, true, false, List, map, get_or}
+use Rattle.paraid_base.specs.Told.{HasRisen}
+use Rattle.paraid_rack.specs.declared.call.Power.TheVariants.{Spinning, Absent}
+use Rattle.paraid_rack.specs.Slots.{Slot}
+use Rattle.paraid_imgrack.specs.declared.image.Image.{Image}
+
+-- a slot that does not exist
+abbrev pub vacant : Slot
+vacant = record { power = Absent; size = 0; unsynced = false; faults = 0 }
+
+abbrev pub slot_of : Image → Slot
+slot_of i = record { power = i.power; size = i.size; unsynced = i.unsynced; faults = i.faults }
+
+abbrev pub slot_at : List Image → ℕ → Slot
+slot_at images d = get_or (map slot_of images) d vacant
+
+-- a slot of a rack on which no call was made
+pub record IsLoaded (s : Slot) : Type 0 where
+  pub faults : s.faults ≡ 0
+  pub unsynced : s.power ≡ Spinning → s.unsynced ≡ true
+
+-- after a call that failed
+pub record HasFailed (old new : Slot) : Type 0 where
+  pub absent : new.power ≡ Absent
+  pub empty : new.size ≡ 0
+  pub unsynced : new.unsynced ≡ old.unsynced
+  pub risen : HasRisen old.faults new.faults
+  pub later : old.faults ≤ new.faults
+
+-- A done call leaves the slot so; a failed one leaves it absent, with its count risen and so
+-- unsynced.
+pub record Becomes (old new leaves : Slot) (dirt ok : Bool) : Type 0 where
+  pub done : ok ≡ true → new ≡ leaves
+  pub absent : ok ≡ false → new.power ≡ Absent
+  pub empty : ok ≡ false → new.size ≡ 0
+  pub unsynced : ok ≡ false → new.unsynced ≡ dirt
+  pub risen : ok ≡ false → HasRisen old.faults new.faults
+  pub later : ok ≡ false → old.faults ≤ new.faults

@@ -1,0 +1,236 @@
+//! One disk of the rack: a call on it is done, or it leaves the disk absent and counted as failed.
+ghost use Rattle.std.specs.Prelude.{◌≡◌, ◌<◌, false};
+ghost use Rattle.paraid_rack.specs.declared.call.Power.TheVariants.{Spinning, Parked, Absent};
+
+use crate::power::Names;
+use paraid_base::{BLOCK_SIZE, Block, DiskNo, Failed, NoMemory, Place};
+use paraid_rack::Power;
+use std::alloc::Global;
+use std::fs::{File, Files, OpenOptions};
+use std::io;
+use std::os::unix::fs::FileExt;
+
+/// The disk of a slot, or that there is none.
+#[derive(Drop)]
+pub(crate) struct Image {
+    names: Names,
+    /// The open image, where the disk is present.
+    file: Option<File>,
+    pub(crate) power: Power,
+    /// The number of blocks.
+    pub(crate) size: u32,
+    pub(crate) unsynced: bool,
+    faults: u64,
+    pub ghost empty: { power ≡ Absent → size ≡ 0 },
+    pub ghost still: { power ≡ Parked → unsynced ≡ false },
+}
+
+impl Image {
+    ghost use Rattle.std.specs.Prelude.{true, is_ok, IfOk};
+    ghost use Rattle.paraid_imgrack.specs.Images.{slot_of, IsLoaded, HasFailed, Becomes};
+
+    /// The disk as its files tell it.
+    ///
+    /// What an earlier process wrote may not have reached the disk, so a spinning one is unsynced.
+    pub(crate) fn load<F: Files<File = File>>(
+        files: &F,
+        alloc: Global,
+        disk: DiskNo,
+    ) -> Result<Image, NoMemory>
+        ensures { IfOk result (λ image. IsLoaded (slot_of image)) }
+    {
+        let names = Names::new(alloc, disk)?;
+        let power = names.load(files);
+        if power == Power::Absent {
+            return Ok(Image::absent(names));
+        }
+        match open_image(files, names.image.as_str()) {
+            Ok((file, size)) => Ok(Image {
+                names,
+                file: Some(file),
+                power,
+                size,
+                unsynced: power == Power::Spinning,
+                faults: 0,
+            }),
+            Err(_) => Ok(Image::absent(names)),
+        }
+    }
+
+    /// No disk.
+    fn absent(names: Names) -> Image
+        ensures { IsLoaded (slot_of result) }
+    {
+        Image {
+            names,
+            file: None,
+            power: Power::Absent,
+            size: 0,
+            unsynced: false,
+            faults: 0,
+        }
+    }
+
+    pub(crate) fn read<F: Files<File = File>>(
+        &mut self,
+        files: &F,
+        place: Place,
+        into: &mut Block,
+    ) -> Result<(), Failed>
+        ensures { Becomes (slot_of self.old) (slot_of self.new) (slot_of self.old)
+            (slot_of self.old).unsynced (is_ok result) }
+    {
+        match read_block(&self.file, place, into) {
+            Ok(()) => Ok(()),
+            Err(_) => Err(self.fail(files)),
+        }
+    }
+
+    pub(crate) fn write<F: Files<File = File>>(
+        &mut self,
+        files: &F,
+        place: Place,
+        block: &Block,
+    ) -> Result<(), Failed>
+        requires { (slot_of self.old).power ≡ Spinning }
+        ensures { Becomes (slot_of self.old) (slot_of self.new)
+            (record (slot_of self.old) { unsynced = true }) true (is_ok result) }
+    {
+        self.unsynced = true;
+        match write_block(&self.file, place, block) {
+            Ok(()) => Ok(()),
+            Err(_) => Err(self.fail(files)),
+        }
+    }
+
+    pub(crate) fn sync<F: Files<File = File>>(&mut self, files: &F) -> Result<(), Failed>
+        ensures { Becomes (slot_of self.old) (slot_of self.new)
+            (record (slot_of self.old) { unsynced = false })
+            (slot_of self.old).unsynced (is_ok result) }
+    {
+        match sync_blocks(&self.file) {
+            Ok(()) => {
+                self.unsynced = false;
+                Ok(())
+            }
+            Err(_) => Err(self.fail(files)),
+        }
+    }
+
+    pub(crate) fn park<F: Files<File = File>>(&mut self, files: &F) -> Result<(), Failed>
+        requires spinning { (slot_of self.old).power ≡ Spinning }
+        requires synced { (slot_of self.old).unsynced ≡ false }
+        ensures { Becomes (slot_of self.old) (slot_of self.new)
+            (record (slot_of self.old) { power = Parked }) false (is_ok result) }
+    {
+        match self.names.store(files, Power::Parked) {
+            Ok(()) => {
+                self.power = Power::Parked;
+                Ok(())
+            }
+            Err(_) => Err(self.fail(files)),
+        }
+    }
+
+    pub(crate) fn spin_up<F: Files<File = File>>(&mut self, files: &F) -> Result<(), Failed>
+        requires { (slot_of self.old).power ≡ Parked }
+        ensures { Becomes (slot_of self.old) (slot_of self.new)
+            (record (slot_of self.old) { power = Spinning }) false (is_ok result) }
+    {
+        match self.names.store(files, Power::Spinning) {
+            Ok(()) => {
+                self.power = Power::Spinning;
+                Ok(())
+            }
+            Err(_) => Err(self.fail(files)),
+        }
+    }
+
+    pub(crate) fn attach<F: Files<File = File>>(
+        &mut self,
+        files: &F,
+        size: u32,
+    ) -> Result<(), Failed>
+        ensures { Becomes (slot_of self.old) (slot_of self.new)
+            (record (slot_of self.old) { power = Spinning; size = size; unsynced = false })
+            (slot_of self.old).unsynced (is_ok result) }
+    {
+        match make_image(files, &self.names, size) {
+            Ok(file) => {
+                self.file = Some(file);
+                self.power = Power::Spinning;
+                self.size = size;
+                self.unsynced = false;
+                Ok(())
+            }
+            Err(_) => Err(self.fail(files)),
+        }
+    }
+
+    /// There is no disk from now on, and one more fault.
+    fn fail<F: Files<File = File>>(&mut self, files: &F) -> Failed
+        ensures { HasFailed (slot_of self.old) (slot_of self.new) }
+    {
+        self.names.store_failed(files);
+        self.file = None;
+        self.power = Power::Absent;
+        self.size = 0;
+        self.faults = self.faults.saturating_add(1);
+        Failed
+    }
+}
+
+/// The offset of a block in an image, in bytes.
+fn offset(place: Place) -> u64 {
+    place as u64 * BLOCK_SIZE as u64
+}
+
+/// An error of an image that is not open.
+fn not_open() -> io::Error {
+    io::Error::from(io::ErrorKind::NotFound)
+}
+
+fn open_image<F: Files<File = File>>(files: &F, name: &str) -> io::Result<(File, u32)> {
+    let file = OpenOptions::new().read(true).write(true).open(files, name)?;
+    let blocks = file.metadata()?.len() / BLOCK_SIZE as u64;
+    Ok((file, u32::try_from(blocks).unwrap_or(u32::MAX)))
+}
+
+/// A fresh image of zeros. Until it is whole on the disk, the sidecar tells of no disk.
+fn make_image<F: Files<File = File>>(files: &F, names: &Names, size: u32) -> io::Result<File> {
+    names.store(files, Power::Absent)?;
+    let file = OpenOptions::new()
+        .read(true)
+        .write(true)
+        .create(true)
+        .truncate(true)
+        .open(files, names.image.as_str())?;
+    file.set_len(offset(size))?;
+    file.sync_all()?;
+    names.store(files, Power::Spinning)?;
+    Ok(file)
+}
+
+fn read_block(file: &Option<File>, place: Place, into: &mut Block) -> io::Result<()> {
+    let Some(file) = file else {
+        return Err(not_open());
+    };
+    let mut bytes = [0; BLOCK_SIZE];
+    file.read_exact_at(&mut bytes, offset(place))?;
+    *into = Block::from_array(bytes);
+    Ok(())
+}
+
+fn write_block(file: &Option<File>, place: Place, block: &Block) -> io::Result<()> {
+    let Some(file) = file else {
+        return Err(not_open());
+    };
+    file.write_all_at(block.as_slice(), offset(place))
+}
+
+fn sync_blocks(file: &Option<File>) -> io::Result<()> {
+    match file {
+        Some(file) => file.sync_data(),
+        None => Err(not_open()),
+    }
+}

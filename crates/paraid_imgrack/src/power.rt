@@ -1,0 +1,108 @@
+//! A sidecar is replaced whole, so that a stop leaves the old text or the new one.
+use paraid_base::{DiskNo, NoMemory};
+use paraid_rack::Power;
+use std::alloc::Global;
+use std::fs::{self, File, Files, OpenOptions};
+use std::io::{self, Write};
+use std::os::unix::fs::FileExt;
+
+/// A sidecar of more bytes is unknown.
+const LONGEST: usize = 64;
+
+/// The names of a disk's files in the current folder.
+#[derive(Drop)]
+pub(crate) struct Names {
+    /// The image, which holds the blocks one after another.
+    pub(crate) image: String,
+    /// The sidecar, which holds the power.
+    sidecar: String,
+    /// A sidecar that is being written.
+    next: String,
+}
+
+impl Names {
+    pub(crate) fn new(alloc: Global, disk: DiskNo) -> Result<Names, NoMemory> {
+        let Ok(image) = format!(in alloc; "disk-{disk}.img") else {
+            return Err(NoMemory);
+        };
+        let Ok(sidecar) = format!(in alloc; "disk-{disk}.power") else {
+            return Err(NoMemory);
+        };
+        let Ok(next) = format!(in alloc; "disk-{disk}.power.next") else {
+            return Err(NoMemory);
+        };
+        Ok(Names {
+            image,
+            sidecar,
+            next,
+        })
+    }
+
+    /// The power that the sidecar tells. A missing one tells `Spinning`, and one that is unknown or
+    /// cannot be read tells `Absent`.
+    pub(crate) fn load<F: Files<File = File>>(&self, files: &F) -> Power {
+        match read_power(files, self.sidecar.as_str()) {
+            Ok(power) => power,
+            Err(error) if error.kind() == io::ErrorKind::NotFound => Power::Spinning,
+            Err(_) => Power::Absent,
+        }
+    }
+
+    /// Replaces the sidecar by one of this power. When it returns, the disk has the new one.
+    pub(crate) fn store<F: Files<File = File>>(&self, files: &F, power: Power) -> io::Result<()> {
+        let mut file = fs::create(files, self.next.as_str())?;
+        file.write_all(text(power).as_bytes())?;
+        file.sync_all()?;
+        fs::rename(files, self.next.as_str(), self.sidecar.as_str())?;
+        fs::open(files, ".")?.sync_all()
+    }
+
+    /// Makes the sidecar tell that the disk has failed, as far as that can be done.
+    ///
+    /// A full file system may have no room for a new sidecar. Then the text is written over the old
+    /// one. If a stop comes in the middle, the text is unknown, which tells the same.
+    pub(crate) fn store_failed<F: Files<File = File>>(&self, files: &F) {
+        if self.store(files, Power::Absent).is_err() {
+            let _ = overwrite(files, self.sidecar.as_str(), "failed   \n");
+        }
+    }
+}
+
+/// The text of a sidecar.
+fn text(power: Power) -> &'static str {
+    match power {
+        Power::Spinning => "spinning\n",
+        Power::Parked => "parked\n",
+        Power::Absent => "failed\n",
+    }
+}
+
+/// The power that a text tells. White space at its end does not count.
+fn power_of(text: &[u8]) -> Power {
+    match text.trim_ascii_end() {
+        b"spinning" => Power::Spinning,
+        b"parked" => Power::Parked,
+        _ => Power::Absent,
+    }
+}
+
+fn read_power<F: Files<File = File>>(files: &F, name: &str) -> io::Result<Power> {
+    let file = fs::open(files, name)?;
+    let length = file.metadata()?.len();
+    if length > LONGEST as u64 {
+        return Ok(Power::Absent);
+    }
+    let mut bytes = [0; LONGEST];
+    let text = &mut bytes[..length as usize];
+    file.read_exact_at(text, 0)?;
+    Ok(power_of(text))
+}
+
+fn overwrite<F: Files<File = File>>(files: &F, name: &str, text: &str) -> io::Result<()> {
+    let file = OpenOptions::new()
+        .write(true)
+        .create(true)
+        .open(files, name)?;
+    file.write_all_at(text.as_bytes(), 0)?;
+    file.sync_all()
+}

@@ -1,0 +1,104 @@
+//! Each call of the rack is a call on one image.
+ghost use Rattle.std.specs.Prelude.{◌≡◌, ℕ, ◌≤◌, length};
+
+use crate::image::Image;
+use paraid_base::{Block, DiskNo, Failed, NoMemory, Place};
+use paraid_rack::{Power, Rack};
+use std::alloc::Global;
+use std::fs::{File, Files};
+
+/// The slots of the disks of the current folder.
+///
+/// A missing image, and a sidecar whose text is neither `spinning` nor `parked`, is an absent disk.
+/// An image with no sidecar is a spinning disk. After a failed call the sidecar says `failed`.
+/// One process has the folder at a time.
+#[derive(Drop)]
+pub struct ImageRack<F> {
+    files: F,
+    images: Vec<Image>,
+    ghost few: { length images.items ≤ 8 },
+}
+
+impl<F: Files<File = File> + Drop> ImageRack<F> {
+    ghost use Rattle.std.specs.Prelude.{◌<◌, IfOk, None};
+    ghost use Rattle.paraid_imgrack.specs.Images.{IsLoaded};
+
+    /// The rack of the disks 0 to `slots - 1`, as their files tell them.
+    ///
+    /// Its one error is want of memory for the names and slots. A file that cannot be opened is no
+    /// error: its slot is absent. The calls of the rack take no memory.
+    pub fn load(files: F, alloc: Global, slots: u8) -> Result<ImageRack<F>, NoMemory>
+        requires { slots ≤ 8 }
+        ensures slots { IfOk result (λ rack. ⟦<ImageRack<F> as Rack>⟧.slot_count rack ≡ slots) }
+        ensures told { IfOk result (λ rack. ⟦<ImageRack<F> as Rack>⟧.told rack ≡ None) }
+        ensures loaded { IfOk result (λ rack. (d : ℕ) → d < slots
+            → IsLoaded (⟦<ImageRack<F> as Rack>⟧.slot rack d)) }
+    {
+        let Ok(mut images) = Vec::with_capacity(alloc, slots as usize) else {
+            return Err(NoMemory);
+        };
+        for disk in 0..slots {
+            let image = Image::load(&files, alloc, disk)?;
+            let Ok(()) = images.push(image) else {
+                return Err(NoMemory);
+            };
+        }
+        Ok(ImageRack { files, images })
+    }
+}
+
+impl<F: Files<File = File> + Drop> Rack for ImageRack<F> {
+    ghost use Rattle.std.specs.Prelude.{None};
+    ghost use Rattle.paraid_imgrack.specs.Images.{slot_at};
+    ghost use Rattle.paraid_imgrack.specs.Laws.{are_slots, nothing_told};
+
+    ghost slot_count = { λ rack. length rack.images.items };
+
+    ghost slot = { λ rack. slot_at rack.images.items };
+
+    ghost told = { λ rack. None };
+
+    ghost slots_hold = { λ rack. are_slots rack.images.items rack.few };
+
+    ghost agrees = { λ rack trail told. nothing_told trail told };
+
+    fn slots(&self) -> u8 {
+        self.images.len() as u8
+    }
+
+    fn size(&self, disk: DiskNo) -> u32 {
+        self.images[disk as usize].size
+    }
+
+    fn power(&self, disk: DiskNo) -> Power {
+        self.images[disk as usize].power
+    }
+
+    fn unsynced(&self, disk: DiskNo) -> bool {
+        self.images[disk as usize].unsynced
+    }
+
+    fn read(&mut self, disk: DiskNo, place: Place, into: &mut Block) -> Result<(), Failed> {
+        self.images[disk as usize].read(&self.files, place, into)
+    }
+
+    fn write(&mut self, disk: DiskNo, place: Place, block: &Block) -> Result<(), Failed> {
+        self.images[disk as usize].write(&self.files, place, block)
+    }
+
+    fn sync(&mut self, disk: DiskNo) -> Result<(), Failed> {
+        self.images[disk as usize].sync(&self.files)
+    }
+
+    fn park(&mut self, disk: DiskNo) -> Result<(), Failed> {
+        self.images[disk as usize].park(&self.files)
+    }
+
+    fn spin_up(&mut self, disk: DiskNo) -> Result<(), Failed> {
+        self.images[disk as usize].spin_up(&self.files)
+    }
+
+    fn attach(&mut self, disk: DiskNo, size: u32) -> Result<(), Failed> {
+        self.images[disk as usize].attach(&self.files, size)
+    }
+}
