@@ -1,1 +1,2 @@
 pub mod ImagesLemmas
+pub mod SidecarLemmas

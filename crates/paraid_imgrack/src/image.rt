@@ -1,5 +1,5 @@
 //! One disk of the rack: a call on it is done, or it leaves the disk absent and counted as failed.
-ghost use Rattle.std.specs.Prelude.{◌≡◌, ◌<◌, false};
+ghost use Rattle.std.specs.Prelude.{◌≡◌, ◌*◌, ◌/◌, min, false};
 ghost use Rattle.paraid_rack.specs.declared.call.Power.TheVariants.{Spinning, Parked, Absent};
 
 use crate::power::Names;
@@ -26,7 +26,7 @@ pub(crate) struct Image {
 }
 
 impl Image {
-    ghost use Rattle.std.specs.Prelude.{true, is_ok, IfOk};
+    ghost use Rattle.std.specs.Prelude.{◌≢◌, true, is_ok, IfOk};
     ghost use Rattle.paraid_imgrack.specs.Images.{slot_of, IsLoaded, HasFailed, Becomes};
 
     /// The disk as its files tell it.
@@ -109,12 +109,10 @@ impl Image {
             (slot_of self.old).unsynced (is_ok result) }
     {
         match sync_blocks(&self.file) {
-            Ok(()) => {
-                self.unsynced = false;
-                Ok(())
-            }
-            Err(_) => Err(self.fail(files)),
+            Ok(()) => self.unsynced = false,
+            Err(_) => return Err(self.fail(files)),
         }
+        Ok(())
     }
 
     pub(crate) fn park<F: Files<File = File>>(&mut self, files: &F) -> Result<(), Failed>
@@ -123,13 +121,7 @@ impl Image {
         ensures { Becomes (slot_of self.old) (slot_of self.new)
             (record (slot_of self.old) { power = Parked }) false (is_ok result) }
     {
-        match self.names.store(files, Power::Parked) {
-            Ok(()) => {
-                self.power = Power::Parked;
-                Ok(())
-            }
-            Err(_) => Err(self.fail(files)),
-        }
+        self.switch(files, Power::Parked)
     }
 
     pub(crate) fn spin_up<F: Files<File = File>>(&mut self, files: &F) -> Result<(), Failed>
@@ -137,13 +129,21 @@ impl Image {
         ensures { Becomes (slot_of self.old) (slot_of self.new)
             (record (slot_of self.old) { power = Spinning }) false (is_ok result) }
     {
-        match self.names.store(files, Power::Spinning) {
-            Ok(()) => {
-                self.power = Power::Spinning;
-                Ok(())
-            }
-            Err(_) => Err(self.fail(files)),
+        self.switch(files, Power::Spinning)
+    }
+
+    /// A synced disk gets this power.
+    fn switch<F: Files<File = File>>(&mut self, files: &F, power: Power) -> Result<(), Failed>
+        requires present { power ≢ Absent }
+        requires synced { (slot_of self.old).unsynced ≡ false }
+        ensures { Becomes (slot_of self.old) (slot_of self.new)
+            (record (slot_of self.old) { power = power }) false (is_ok result) }
+    {
+        match self.names.store(files, power) {
+            Ok(()) => self.power = power,
+            Err(_) => return Err(self.fail(files)),
         }
+        Ok(())
     }
 
     pub(crate) fn attach<F: Files<File = File>>(
@@ -181,7 +181,9 @@ impl Image {
 }
 
 /// The offset of a block in an image, in bytes.
-fn offset(place: Place) -> u64 {
+fn offset(place: Place) -> u64
+    ensures { result ≡ place * 512 }
+{
     place as u64 * BLOCK_SIZE as u64
 }
 
@@ -190,10 +192,18 @@ fn not_open() -> io::Error {
     io::Error::from(io::ErrorKind::NotFound)
 }
 
+/// The image, and how many blocks it has.
 fn open_image<F: Files<File = File>>(files: &F, name: &str) -> io::Result<(File, u32)> {
     let file = OpenOptions::new().read(true).write(true).open(files, name)?;
-    let blocks = file.metadata()?.len() / BLOCK_SIZE as u64;
-    Ok((file, u32::try_from(blocks).unwrap_or(u32::MAX)))
+    let size = whole_blocks(file.metadata()?.len());
+    Ok((file, size))
+}
+
+/// How many whole blocks a file of this many bytes has, at most `u32::MAX`.
+fn whole_blocks(length: u64) -> u32
+    ensures { result ≡ min (length / 512) 4294967295 }
+{
+    (length / BLOCK_SIZE as u64).min(u32::MAX as u64) as u32
 }
 
 /// A fresh image of zeros. Until it is whole on the disk, the sidecar tells of no disk.

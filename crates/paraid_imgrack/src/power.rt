@@ -1,4 +1,7 @@
 //! A sidecar is replaced whole, so that a stop leaves the old text or the new one.
+ghost use Rattle.std.specs.Prelude.{◌≡◌, ◌↔◌};
+ghost use Rattle.paraid_imgrack.specs.Sidecar.{word, trimmed};
+
 use paraid_base::{DiskNo, NoMemory};
 use paraid_rack::Power;
 use std::alloc::Global;
@@ -68,8 +71,10 @@ impl Names {
     }
 }
 
-/// The text of a sidecar.
-fn text(power: Power) -> &'static str {
+/// The text of a sidecar, which is the power's word on a line.
+fn text(power: Power) -> &'static str
+    ensures { trimmed result.now ≡ word power }
+{
     match power {
         Power::Spinning => "spinning\n",
         Power::Parked => "parked\n",
@@ -77,12 +82,19 @@ fn text(power: Power) -> &'static str {
     }
 }
 
-/// The power that a text tells. White space at its end does not count.
-fn power_of(text: &[u8]) -> Power {
-    match text.trim_ascii_end() {
-        b"spinning" => Power::Spinning,
-        b"parked" => Power::Parked,
-        _ => Power::Absent,
+/// The power that a text tells, which is `Absent` where no word is known. White space at the end
+/// does not count.
+fn power_of(text: &[u8]) -> Power
+    ensures spinning { (result ≡ Power.Spinning) ↔ (trimmed text.now ≡ word Power.Spinning) }
+    ensures parked { (result ≡ Power.Parked) ↔ (trimmed text.now ≡ word Power.Parked) }
+{
+    let said = text.trim_ascii_end();
+    if said == b"spinning".as_slice() {
+        Power::Spinning
+    } else if said == b"parked".as_slice() {
+        Power::Parked
+    } else {
+        Power::Absent
     }
 }
 

@@ -1,4 +1,4 @@
-use Rattle.std.proofs.Common.{true, false}
+use Rattle.std.proofs.Common.{true}
 use Rattle.paraid_rack.specs.Slots.{Slot}
 use Rattle.paraid_imgrack.proofs.ImagesLemmas.{touched_at}
 use Rattle.paraid_imgrack.proofs.rack.ImageRackRack.write.Goals as goal
