@@ -150,7 +150,7 @@ state-cancel a b r s f g e =
     let to = big_endian-cancel 1 (phase_to a.phase) (phase_to b.phase) _ _ (phase_to_small ga a.gear a.phase f.phase) (phase_to_small gb b.gear b.phase g.phase) code.1 in
     let disk = big_endian-cancel 1 (out_code a.out) (out_code b.out) _ _ (out_code_small ga a.gear a.out f.out) (out_code_small gb b.gear b.out g.out) to.1 in
     let fresh = big_endian-cancel 1 (fresh_code a.out) (fresh_code b.out) _ _ (fresh_code_small a.out) (fresh_code_small b.out) disk.1 in
-    let fill = big_endian-cancel 4 a.fill b.fill _ _ (fill_small ga a.gear a.fill a.phase f.phase f.shift.fill) (fill_small gb b.gear b.fill b.phase g.phase g.shift.fill) fresh.1 in
+    let fill = big_endian-cancel 4 a.fill b.fill _ _ (fill_small ga a.gear a.fill a.phase f.phase f.shift.fill) (fill_small gb b.gear b.fill b.phase g.phase g.shift.fill) (ap (drop 3) fresh.1) in
     let rebuilt = big_endian-cancel 4 (rebuilt_count a.out) (rebuilt_count b.out) _ _ (rebuilt_small ga a.gear a.out f.gear f.out) (rebuilt_small gb b.gear b.out g.gear g.out) fill.1 in
     let spins = shorts-cancel a.spins b.spins r s (f.eight ∙ sym g.eight) (spins_small a f) (spins_small b g) rebuilt.1 in
     (record {

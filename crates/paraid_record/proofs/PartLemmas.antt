@@ -43,7 +43,7 @@ clock-parts m rest = simp (append_assoc, append-nil)
 
 pub state-parts : (m : Meta) (rest : List ℕ) → state_bytes m ++ rest
     ≡ big_endian 1 m.gear ++ (big_endian 1 (phase_code m.phase) ++ (big_endian 1 (phase_to m.phase)
-        ++ (big_endian 1 (out_code m.out) ++ (big_endian 1 (fresh_code m.out) ++ rest))))
+        ++ (big_endian 1 (out_code m.out) ++ (big_endian 1 (fresh_code m.out) ++ (replicate 3 0 ++ rest)))))
 unfolding state_bytes
 state-parts m rest = simp (append_assoc, append-nil)
 
@@ -131,7 +131,7 @@ gear_small g gear member = let a = g.gears_high gear member in let b = g.disks_h
 -- the clocks, the state and the counts of a meta, field by field
 pub state_left : (m : Meta) (rest : List ℕ) → clock_bytes m ++ (state_bytes m ++ (count_bytes m ++ rest))
     ≡ big_endian 8 m.epoch ++ (big_endian 8 m.writes ++ (big_endian 8 m.ticks ++ (big_endian 1 m.gear ++ (big_endian 1 (phase_code m.phase) ++ (big_endian 1 (phase_to m.phase)
-        ++ (big_endian 1 (out_code m.out) ++ (big_endian 1 (fresh_code m.out) ++ (big_endian 4 m.fill ++ (big_endian 4 (rebuilt_count m.out) ++ (shorts m.spins ++ rest))))))))))
+        ++ (big_endian 1 (out_code m.out) ++ (big_endian 1 (fresh_code m.out) ++ (replicate 3 0 ++ (big_endian 4 m.fill ++ (big_endian 4 (rebuilt_count m.out) ++ (shorts m.spins ++ rest)))))))))))
 state_left m rest = rw (count-parts m rest, state-parts m _, clock-parts m _) refl
 
 pub figure_small : (x : ℕ) → x ≤ 1048576 → x < 4294967296

@@ -1,5 +1,5 @@
 -- The bytes of a meta, field by field in the order in which they stand
-use Rattle.std.specs.Prelude.{ℕ, List, [], ◌∷◌, length, codes}
+use Rattle.std.specs.Prelude.{ℕ, List, [], ◌∷◌, length, replicate, codes}
 use Rattle.paraid_base.specs.declared.geometry.Geometry.{Geometry}
 use Rattle.paraid_record.specs.declared.meta.Setup.{Setup}
 use Rattle.paraid_record.specs.declared.meta.Meta.{Meta}
@@ -44,6 +44,7 @@ state_bytes m = joined
   ∷ big_endian 1 (phase_to m.phase)
   ∷ big_endian 1 (out_code m.out)
   ∷ big_endian 1 (fresh_code m.out)
+  ∷ replicate 3 0
   ∷ [])
 
 unfoldable pub count_bytes : Meta → List ℕ

@@ -12,7 +12,7 @@ ghost use Rattle.paraid_record.specs.Range.{IsInRange, IsSetupInRange};
 
 use crate::codes::{mode_of, out_of, phase_of};
 use crate::reader::Reader;
-use crate::write::{MAGIC, write_meta};
+use crate::write::{GAP, MAGIC, write_meta};
 use crate::{Meta, Setup};
 use paraid_base::{Block, Geometry};
 
@@ -118,11 +118,11 @@ fn take_policy(reader: &mut Reader, geometry: Geometry) -> Option<Setup>
 
 /// Takes the state of an array with this setup.
 fn take_state(reader: &mut Reader, setup: Setup) -> Option<Meta>
-    requires { 53 ≤ length reader.old }
+    requires { 56 ≤ length reader.old }
     ensures reads { (m : MetaType) (rest : List ℕ) → IsInRange m
         → reader.old ≡ clock_bytes m ++ (state_bytes m ++ (count_bytes m ++ rest))
         → (result ≡ Some (record m { setup = setup })) × (reader.new ≡ rest) }
-    ensures length { length reader.new + 53 ≡ length reader.old }
+    ensures length { length reader.new + 56 ≡ length reader.old }
 {
     let epoch = reader.take_u64();
     let writes = reader.take_u64();
@@ -132,6 +132,7 @@ fn take_state(reader: &mut Reader, setup: Setup) -> Option<Meta>
     let to = reader.take_u8();
     let disk = reader.take_u8();
     let fresh = reader.take_u8();
+    reader.skip(GAP.len());
     let fill = reader.take_u32();
     let rebuilt = reader.take_u32();
     let mut spins = [0; 8];

@@ -19,6 +19,9 @@ pub const MAGIC: [u8; 8] = *b"PARAIDAR";
 /// The version of the spelling.
 const VERSION: u16 = 1;
 
+/// The bytes between the flag of a fresh disk and the fill mark, which say nothing.
+pub const GAP: [u8; 3] = [0; 3];
+
 /// Writes the one spelling of a meta, 512 bytes.
 pub fn write_meta(meta: &Meta, into: &mut Block)
     requires { IsInRange meta.now }
@@ -82,15 +85,16 @@ fn put_clocks(pen: &mut Pen, meta: &Meta)
 }
 
 fn put_state(pen: &mut Pen, meta: &Meta)
-    requires { length pen.old + 5 ≤ 512 }
+    requires { length pen.old + 8 ≤ 512 }
     ensures value { pen.new ≡ pen.old ++ state_bytes meta.now }
-    ensures length { length pen.new ≡ length pen.old + 5 }
+    ensures length { length pen.new ≡ length pen.old + 8 }
 {
     pen.put_u8(meta.gear);
     pen.put_u8(phase_code(meta.phase));
     pen.put_u8(phase_to(meta.phase));
     pen.put_u8(out_code(meta.out));
     pen.put_u8(fresh_code(meta.out));
+    pen.put_bytes(&GAP);
 }
 
 fn put_counts(pen: &mut Pen, meta: &Meta)

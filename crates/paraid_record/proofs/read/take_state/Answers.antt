@@ -1,4 +1,4 @@
-use Rattle.std.specs.Prelude.{◌≡◌, ◌≤◌, ◌<◌, ◌++◌, ℕ, List, Some, None, length, slice_index}
+use Rattle.std.specs.Prelude.{◌≡◌, ◌≤◌, ◌<◌, ◌++◌, ℕ, List, Some, None, length, slice_index, drop}
 use Rattle.std.proofs.Common.{arith, ap, sym, ◌∙◌}
 use Rattle.paraid_record.specs.Codes.{phase_code, phase_to, out_code, fresh_code, rebuilt_count}
 use Rattle.paraid_record.proofs.PartLemmas.{state_left, clock-parts, count-parts, state-parts, fill_small, fresh_code_small, gear_small, out_code_small, phase_code_small, phase_to_small, rebuilt_small, spins_small}
@@ -28,7 +28,7 @@ returns-clause-reads c = λ m rest range e.
     let to = c.take_u8-to.ensures.reads (phase_to m.phase) _ (phase_to_small g m.gear m.phase range.phase) code.1 in
     let disk = c.take_u8-disk.ensures.reads (out_code m.out) _ (out_code_small g m.gear m.out range.out) to.1 in
     let fresh = c.take_u8-fresh.ensures.reads (fresh_code m.out) _ (fresh_code_small m.out) disk.1 in
-    let fill = c.take_u32-fill.ensures.reads m.fill _ (fill_small g m.gear m.fill m.phase range.phase range.shift.fill) fresh.1 in
+    let fill = c.take_u32-fill.ensures.reads m.fill _ (fill_small g m.gear m.fill m.phase range.phase range.shift.fill) (c.skip.ensures.rest ∙ ap (drop 3) fresh.1) in
     let rebuilt = c.take_u32-rebuilt.ensures.reads (rebuilt_count m.out) _ (rebuilt_small g m.gear m.out range.gear range.out) fill.1 in
     let spins = c.take_shorts.ensures.reads m.spins rest range.eight (spins_small m range) rebuilt.1 in
     let known = c.phase_of.ensures m.phase code.0 to.0 in
