@@ -1,12 +1,12 @@
 -- A line says the event whose line it is.
-use Rattle.std.proofs.Common.{◌≡◌, ◌≢◌, ℕ, ◌+◌, ◌-◌, ◌*◌, ◌/◌, ◌%◌, ◌<◌, ◌≤◌, ◌⊎◌, Bool, true, false, ◌&&◌, List, [], ◌∷◌, ◌++◌, Option, Some, None, codes, decimal, refl, sym, ap, ◌∙◌, inl, inr, arith, cond}
-use Rattle.std.specs.Prelude.{nat_le, nat_lt, if◌then◌else◌, ◌==◌}
+use Rattle.std.proofs.Common.{◌≡◌, ◌≢◌, ℕ, ◌+◌, ◌-◌, ◌*◌, ◌/◌, ◌%◌, ◌<◌, ◌≤◌, Bool, true, false, ◌&&◌, List, [], ◌∷◌, ◌++◌, Option, Some, None, codes, decimal, refl, sym, ap, ◌∙◌, inl, inr, arith}
+use Rattle.std.specs.Prelude.{nat_le, if◌then◌else◌, ◌==◌}
 use Rattle.std.proofs.lemmas.Bool.{cases_lt, eqb-true}
 use Rattle.std.proofs.lemmas.Bool.Decides.{nat_tests}
 use Rattle.std.proofs.lemmas.Fmt.{decimal_digit, decimal_step}
 use Rattle.paraid_cli.specs.declared.event.Event.{Event}
 use Rattle.paraid_cli.specs.declared.event.Event.TheVariants.{Read, Write, Flush, Later}
-use Rattle.paraid_cli.specs.Trace.{IsValid, hex_digit, hex, line_of, is_digit, block_of, hex_value, byte_of, read_event, write_event, write_of, event_of}
+use Rattle.paraid_cli.specs.Trace.{IsValid, hex_digit, line_of, is_digit, block_of, hex_value, byte_of, read_event, write_event, write_of, event_of}
 
 decimal_two : (b : ℕ) → 10 ≤ b → b < 100 → decimal b ≡ (48 + b / 10) ∷ (48 + b % 10) ∷ []
 decimal_two b low high = decimal_step b low (omega arith) ∙ ap (λ ds. ds ++ (48 + b % 10) ∷ []) (decimal_digit (b / 10) (omega arith))

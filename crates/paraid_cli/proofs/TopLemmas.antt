@@ -1,6 +1,6 @@
 -- The whole text of a run.
 use Rattle.std.proofs.Common.{◌≡◌, ◌≢◌, ℕ, ◌^◌, ◌<◌, ◌≤◌, ◌⊎◌, Bool, true, false, List, [], ◌∷◌, ◌++◌, length, take, drop, codes, Option, Some, None, Result, Ok, Err, refl, sym, ap, ◌∙◌, inl, inr, arith, subst, take-append-drop}
-use Rattle.std.specs.Prelude.{MatchOption, IsSome}
+use Rattle.std.specs.Prelude.{MatchOption}
 use Rattle.std.proofs.lemmas.List.{append_assoc, drop_all}
 use Rattle.std.proofs.lemmas.Bool.{false≢true}
 use Rattle.paraid_base.specs.Told.{Grows}
@@ -23,7 +23,6 @@ use Rattle.paraid_cli.specs.Session.{Session, Answered, Kept, IsFull}
 use Rattle.paraid_cli.specs.Output.{Run, Wrote, Output, HasFailed, mounted, end_line, disk_line}
 use Rattle.paraid_cli.specs.Output.Output.{done, source, too_long, disk, last_sync, misfit}
 use Rattle.paraid_cli.specs.Ends.{Ends, IsSettled}
-use Rattle.paraid_cli.proofs.ServeLemmas.{some_told}
 
 transcript-append : (h : History) (xs ys : List (List ℕ)) → transcript h (xs ++ ys) ≡ transcript h xs ++ transcript (history_of h xs) ys
 transcript-append h [] ys = refl

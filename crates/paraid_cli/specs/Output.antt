@@ -1,5 +1,5 @@
 -- The whole text of a run, by its status.
-use Rattle.std.specs.Prelude.{◌≡◌, ℕ, ◌<◌, ◌^◌, ◌≤◌, ◌⊎◌, List, [], ◌∷◌, ◌++◌, length, codes, decimal, Option, IsSome}
+use Rattle.std.specs.Prelude.{◌≡◌, ℕ, ◌<◌, ◌^◌, ◌⊎◌, List, [], ◌∷◌, ◌++◌, length, codes, decimal, Option, IsSome}
 use Rattle.paraid_base.specs.Told.{Gives, Grows, HasRisen}
 use Rattle.paraid_io.specs.Lines.{lines_of, whole_lines}
 use Rattle.paraid_rack.specs.Slots.{Slot}

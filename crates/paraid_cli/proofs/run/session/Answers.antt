@@ -1,6 +1,5 @@
 use Rattle.std.proofs.Common.{arith}
-use Rattle.paraid_base.proofs.ToldLemmas.{HasRisen-sooner}
-use Rattle.paraid_cli.proofs.ServeLemmas.{served_then, failed_since}
+use Rattle.paraid_cli.proofs.ServeLemmas.{served_then}
 use Rattle.paraid_cli.proofs.Sofar.{sofar_start, sofar_more, ends_well, ends_at_last, ends_at_disk, ends_at_source, ends_too_long, ends_at_sink}
 use Rattle.paraid_cli.proofs.run.session.Goals as goal
 

@@ -1,4 +1,4 @@
-use Rattle.paraid_cli.proofs.ServeLemmas.{served_none, served_call, spins_told, stands_sync}
+use Rattle.paraid_cli.proofs.ServeLemmas.{served_call, spins_told, stands_sync}
 use Rattle.paraid_cli.proofs.serve.sync_one.Goals as goal
 
 pub returns-in_default-clause-served : goal.returns-in_default-clause-served
