@@ -1,5 +1,5 @@
 -- The function from lines to events meets the grammar
-use Rattle.std.proofs.Common.{◌≡◌, ◌≢◌, ℕ, zero, suc, ◌+◌, ◌^◌, ◌%◌, ◌<◌, ◌≤◌, List, [], ◌∷◌, ◌++◌, length, take, drop, get_or, Option, Some, None, Result, Ok, Err, Bool, true, false, cond, not, ◌&&◌, ◌||◌, ◌==◌, refl, sym, ap, ◌∙◌, subst, arith}
+use Rattle.std.proofs.Common.{◌≡◌, ◌≢◌, ℕ, zero, suc, ◌+◌, ◌^◌, ◌%◌, ◌<◌, ◌≤◌, List, [], ◌∷◌, ◌++◌, length, take, drop, get_or, Option, Some, None, Result, Ok, Err, Bool, true, false, cond, not, ◌&&◌, ◌||◌, ◌==◌, refl, sym, ap, ◌∙◌, subst, arith, length-append}
 use Rattle.std.specs.Prelude.{codes, decimal, if◌then◌else◌}
 use Rattle.std.specs.List.{list_any, position, position_or_len}
 use Rattle.std.specs.Str.{bytes_eq}
@@ -10,7 +10,7 @@ use Rattle.std.proofs.lemmas.List.{append_assoc, drop_at, length_push, take_at}
 use Rattle.std.proofs.lemmas.List.Sums.{passes_at_first, split_at_first}
 use Rattle.std.proofs.lemmas.Option.{cond_some}
 use Rattle.std.proofs.lemmas.Slice.Eq.{bytes_eq-Decides}
-use Rattle.std.proofs.lemmas.Fmt.{decimal_is_IsNumeral}
+use Rattle.std.proofs.lemmas.Fmt.{decimal_is_IsNumeral, length-decimal-le}
 use Rattle.std.proofs.lemmas.Grind.{common_steps}
 use Rattle.std.proofs.lemmas.Bool.Decides.{nat_tests}
 use Rattle.hex.specs.Hex.{decode_of}
@@ -180,3 +180,47 @@ pub asked_nothing : (line : List ℕ) (answer : Event) → answer ≡ event_of l
 asked_nothing line answer is bad e h =
     let same : e ≡ Bad = sym (asked_only line answer is e h) ∙ bad in
     rw same at h
+
+-- ---- long lines
+
+number_short : (digits : List ℕ) (n : ℕ) → IsNumber digits n → length digits ≤ 10
+number_short digits n h = rw h.printed (length-decimal-le 10 n (omega arith) (omega (arith, h.below)) (omega (arith, h.below)))
+
+numbered_short : (word line : List ℕ) (n : ℕ) → length word ≤ 7 → IsNumbered word line n → length line ≤ 1100
+numbered_short word line n few h = rw h.printed (simp (length-append) (let some = number_short h.digits n h.number in omega arith))
+
+write_short : (line : List ℕ) (n : ℕ) (block : Block) → IsWrite line n block → length line ≤ 1100
+write_short line n block h = rw h.printed (simp (length-append) (let some = number_short h.digits n h.number in let more = h.bytes.high in omega arith))
+
+-- no line of an event has more than 1,100 bytes
+pub IsLineOf-short : (line : List ℕ) (e : Event) → IsLineOf line e → length line ≤ 1100
+IsLineOf-short line (Read block) h = numbered_short (codes "r") line block (omega arith) h
+IsLineOf-short line (Write block bytes) h = write_short line block bytes h
+IsLineOf-short line Flush h = rw h (omega arith)
+IsLineOf-short line Tick h = rw h (omega arith)
+IsLineOf-short line Up h = rw h (omega arith)
+IsLineOf-short line Down h = rw h (omega arith)
+IsLineOf-short line (Fail disk) h = numbered_short (codes "fail") line disk (omega arith) h
+IsLineOf-short line (Replace disk) h = numbered_short (codes "replace") line disk (omega arith) h
+IsLineOf-short line State h = rw h (omega arith)
+IsLineOf-short line Energy h = rw h (omega arith)
+IsLineOf-short line Bad h = absurd h
+
+too_long : (line : List ℕ) (e : Event) → 1100 < length line → IsLineOf line e → ⊥
+too_long line e long h = let short = IsLineOf-short line e h in omega arith
+
+bad_unless : (e : Event) → (e ≢ Bad → ⊥) → e ≡ Bad
+bad_unless (Read block) h = absurd (h (λ same. cc))
+bad_unless (Write block bytes) h = absurd (h (λ same. cc))
+bad_unless Flush h = absurd (h (λ same. cc))
+bad_unless Tick h = absurd (h (λ same. cc))
+bad_unless Up h = absurd (h (λ same. cc))
+bad_unless Down h = absurd (h (λ same. cc))
+bad_unless (Fail disk) h = absurd (h (λ same. cc))
+bad_unless (Replace disk) h = absurd (h (λ same. cc))
+bad_unless State h = absurd (h (λ same. cc))
+bad_unless Energy h = absurd (h (λ same. cc))
+bad_unless Bad h = refl
+
+pub event_of-long : (line : List ℕ) → 1100 < length line → event_of line ≡ Bad
+event_of-long line long = bad_unless (event_of line) (λ some. too_long line (event_of line) long (IsLineOf-event_of line some))

@@ -1,8 +1,8 @@
-//! The lines of a trace: what each asks for, what each answer is told as, and a trace made up by
-//! numbers.
+//! The lines of a trace: the event that each line asks for, the line that tells each answer, and
+//! the events of the trace that a number stands for.
 //!
-//! `parse_line` is the grammar of lines read backwards, `reply` writes each answer as one line into
-//! a `Text`, and `generate` makes the events of a generated trace. None of them takes memory.
+//! The grammar stands in `specs/Grammar.antt` as printed text, and `parse_line` answers an event
+//! exactly for its lines. `reply` writes a line from a table of answers. Nothing here takes memory.
 #![tactic(auto)]
 
 mod generator;
@@ -11,6 +11,8 @@ mod line;
 mod periods;
 mod replies;
 mod text;
+#[cfg(test)]
+mod tests;
 
 pub use generator::generate;
 pub use line::parse_line;

@@ -1,4 +1,4 @@
-ghost use Rattle.std.specs.Prelude.{◌≡◌, ◌≢◌, ◌<◌, ◌^◌};
+ghost use Rattle.std.specs.Prelude.{◌≡◌, ◌≢◌, ◌<◌, ◌^◌, length};
 ghost use Rattle.std.specs.Option.{SomeIff};
 ghost use Rattle.std.specs.Char.{digit_value};
 ghost use Rattle.std.specs.Str.Parse.{IsNumeral, digits_value};
@@ -12,11 +12,12 @@ use crate::hexes::block;
 use paraid_base::{Block, Event};
 
 /// The event that a line of the trace asks for, and `Bad` where it asks for none. The line comes
-/// without its newline.
+/// without its newline. A line of more than 1,100 bytes asks for none.
 pub fn parse_line(line: &[u8]) -> Event
     ensures value { result ≡ event_of line.now }
     ensures event { result ≢ Bad → IsLineOf line.now result }
     ensures only { (e : Event) → IsLineOf line.now e → result ≡ e }
+    ensures long { 1100 < length line.now → result ≡ Bad }
     ensures bad { result ≡ Bad → (e : Event) → IsLineOf line.now e → ⊥ }
 {
     event(line)

@@ -1,4 +1,5 @@
-use Rattle.paraid_trace.proofs.LineLemmas.{asked, asked_nothing, asked_only}
+use Rattle.std.proofs.Common.{◌∙◌}
+use Rattle.paraid_trace.proofs.LineLemmas.{asked, asked_nothing, asked_only, event_of-long}
 use Rattle.paraid_trace.proofs.line.parse_line.Goals as goal
 
 pub returns-clause-event : goal.returns-clause-event
@@ -9,3 +10,6 @@ returns-clause-only c = asked_only _ _ c.event.ensures
 
 pub returns-clause-bad : goal.returns-clause-bad
 returns-clause-bad c = asked_nothing _ _ c.event.ensures
+
+pub returns-clause-long : goal.returns-clause-long
+returns-clause-long c = λ long. c.event.ensures ∙ event_of-long _ long
