@@ -1,25 +1,22 @@
 -- The function from lines to events meets the grammar
-use Rattle.std.proofs.Common.{◌≡◌, ◌≢◌, ℕ, zero, suc, ◌+◌, ◌^◌, ◌%◌, ◌<◌, ◌≤◌, List, [], ◌∷◌, ◌++◌, length, take, drop, get_or, Option, Some, None, Result, Ok, Err, Bool, true, false, cond, not, ◌&&◌, ◌||◌, ◌==◌, refl, sym, ap, ◌∙◌, subst, arith, length-append}
+use Rattle.std.proofs.Common.{◌≡◌, ◌≢◌, ℕ, ◌+◌, ◌<◌, ◌≤◌, List, [], ◌∷◌, ◌++◌, length, take, drop, get_or, Option, Some, None, Bool, true, false, refl, sym, ap, ◌∙◌, arith, length-append}
 use Rattle.std.specs.Prelude.{codes, decimal, if◌then◌else◌}
 use Rattle.std.specs.List.{list_any, position, position_or_len}
 use Rattle.std.specs.Str.{bytes_eq}
 use Rattle.std.specs.Char.{digit_value}
 use Rattle.std.specs.Str.Parse.{AllDigits}
-use Rattle.std.proofs.lemmas.Bool.{and_parts, cases_Bool, cond-true, cond-false, eqb-true, leb-true, lt-ltb, ltb-true, ne_eqb, or_parts, or_from, and_from, le-leb}
+use Rattle.std.proofs.lemmas.Bool.{cond-true, eqb-true, lt-ltb, ltb-true, ne_eqb, or_parts, or_from}
 use Rattle.std.proofs.lemmas.List.{append_assoc, drop_at, length_push, take_at}
 use Rattle.std.proofs.lemmas.List.Sums.{passes_at_first, split_at_first}
 use Rattle.std.proofs.lemmas.Option.{cond_some}
 use Rattle.std.proofs.lemmas.Slice.Eq.{bytes_eq-Decides}
 use Rattle.std.proofs.lemmas.Fmt.{decimal_is_IsNumeral, length-decimal-le}
 use Rattle.std.proofs.lemmas.Grind.{common_steps}
-use Rattle.std.proofs.lemmas.Bool.Decides.{nat_tests}
-use Rattle.hex.specs.Hex.{decode_of}
-use Rattle.hex.specs.declared.error.FromHexError.{FromHexError}
 use Rattle.paraid_base.specs.declared.block.Block.{Block}
 use Rattle.paraid_base.specs.declared.event.Event.{Event}
 use Rattle.paraid_base.specs.declared.event.Event.TheVariants.{Read, Write, Flush, Tick, Up, Down, Fail, Replace, State, Energy, Bad}
-use Rattle.paraid_trace.specs.Grammar.{IsHexOf, IsLineOf, IsNumber, IsNumbered, IsWrite}
-use Rattle.paraid_trace.specs.Lines.{block_of, event_at, event_of, fail_of, is_space, named_event, number_of, read_of, repeated_if_ok, replace_event, replace_of, word_event, write_at, write_of}
+use Rattle.paraid_trace.specs.Grammar.{IsLineOf, IsNumber, IsNumbered, IsWrite}
+use Rattle.paraid_trace.specs.Lines.{block_of, event_at, event_of, fail_of, is_space, named_event, number_of, read_of, replace_of, word_event, write_at, write_of}
 use Rattle.paraid_trace.proofs.HexLemmas.{IsHexOf-block_of, block_of-IsHexOf}
 use Rattle.paraid_trace.proofs.NumberLemmas.{IsNumber-number_of, number_of-IsNumber}
 

@@ -1,7 +1,6 @@
 -- The least period of a block
-use Rattle.std.proofs.Common.{◌≡◌, ◌≢◌, ℕ, zero, suc, ◌+◌, ◌-◌, ◌%◌, ◌<◌, ◌≤◌, List, [], ◌∷◌, length, take, drop, get_or, Bool, true, false, cond, refl, sym, ap, ◌∙◌, arith, inl, inr, length-drop}
+use Rattle.std.proofs.Common.{◌≡◌, ℕ, zero, suc, ◌+◌, ◌-◌, ◌%◌, ◌<◌, ◌≤◌, List, length, take, drop, get_or, Bool, true, false, sym, ap, ◌∙◌, arith, inl, inr, length-drop}
 use Rattle.std.specs.Prelude.{slice_index}
-use Rattle.std.specs.Str.{bytes_eq}
 use Rattle.std.proofs.lemmas.Bool.{both_ways, cases_lt, cond-false, cond-true}
 use Rattle.std.proofs.lemmas.List.{get_or-drop, get_or-take, length-take-le}
 use Rattle.std.proofs.lemmas.Slice.Eq.{bytes_eq-Decides}
@@ -58,11 +57,13 @@ Repeats-period block p low high h = record { each = each }
   where
     front : length (take p block.bytes) ≡ p
     front = length-take-le p block.bytes (omega (arith, block.whole))
+
     place : (k : ℕ) → k < 512 → get_or block.bytes k 0 ≡ get_or block.bytes (k % p) 0
     place k lt = elim (cases_lt p 512) [
       | inl short ↦ reduced block.bytes p (suc k) k low (h short) (omega arith) lt
       | inr long ↦ ap (λ i. get_or block.bytes i 0) (sym (mod-eq_of_lt (omega arith)))
     ]
+
     each : (k : ℕ) → k < 512 → slice_index block.bytes k ≡ slice_index (take p block.bytes) (k % length (take p block.bytes))
     each k lt = rw front (place k lt ∙ sym (get_or-take p block.bytes (k % p) 0 (mod_below k p low)))
 
@@ -73,8 +74,10 @@ period-from_Repeats block other some high h =
   where
     front : length (take (512 - length other) block.bytes) ≡ 512 - length other
     front = length-take-le (512 - length other) block.bytes (omega (arith, block.whole))
+
     sizes : length (drop (length other) block.bytes) ≡ length (take (512 - length other) block.bytes)
     sizes = omega (arith, block.whole, front, length-drop (length other) block.bytes)
+
     each : (k : ℕ) → k < length (take (512 - length other) block.bytes) → get_or (drop (length other) block.bytes) k 0 ≡ get_or (take (512 - length other) block.bytes) k 0
     each k lt =
         let below : k < 512 - length other = omega (arith, front) in

@@ -1,7 +1,6 @@
 -- Blocks that repeat a list of bytes
-use Rattle.std.specs.Prelude.{◌≡◌, ℕ, ◌+◌, ◌*◌, ◌%◌, ◌^◌, ◌<◌, List, [], ◌∷◌, length, slice_index, refl}
+use Rattle.std.specs.Prelude.{◌≡◌, ℕ, ◌%◌, ◌<◌, List, [], ◌∷◌, length, slice_index, refl}
 use Rattle.std.proofs.Common.{ap, arith, zero, suc}
-use Rattle.std.proofs.lemmas.Nat.{mod_below}
 use Rattle.paraid_base.specs.declared.block.Block.{Block}
 
 -- the block is the repetition of the list, cut at 512 bytes

@@ -6,7 +6,9 @@ use paraid_base::Event;
 
 // Odd numbers that spread the bits of a factor over 32 bits.
 const NUMBER_FACTOR: u64 = 2654435761;
+
 const LINE_FACTOR: u64 = 1597334677;
+
 const SQUARE_FACTOR: u64 = 668265263;
 
 /// Line `i`, from 0, of the trace that a number stands for, on an array of so many blocks. Of 256

@@ -10,9 +10,9 @@ mod hexes;
 mod line;
 mod periods;
 mod replies;
-mod text;
 #[cfg(test)]
 mod tests;
+mod text;
 
 pub use generator::generate;
 pub use line::parse_line;

@@ -97,7 +97,12 @@ fn a_write_has_at_most_1024_digits(rt: HostRuntime) {
     let mut line = [b'a'; 1100];
     line[..4].copy_from_slice(b"w 3 ");
     let mut text = Text::new();
-    for (digits, event) in [(1022, "w 3 aa"), (1023, "bad"), (1024, "w 3 aa"), (1026, "bad")] {
+    for (digits, event) in [
+        (1022, "w 3 aa"),
+        (1023, "bad"),
+        (1024, "w 3 aa"),
+        (1026, "bad"),
+    ] {
         spell(&parse_line(&line[..4 + digits]), &mut text);
         assert_eq!(rt; text.as_slice(), event.as_bytes());
     }
@@ -240,10 +245,26 @@ fn a_state_is_told_with_its_spins(rt: HostRuntime) {
         rebuilt: 7,
     };
     let cases = [
-        (Phase::Steady, Out::No, "state 4 steady dirty 1 fill 0 out none spins 0 0 0 0 9\n"),
-        (Phase::Steady, Out::Gone { disk: 1 }, "state 4 steady dirty 1 fill 0 out 1 gone spins 0 0 0 0 9\n"),
-        (Phase::Up { to: 5 }, Out::No, "state 4 up 5 dirty 1 fill 0 out none spins 0 0 0 0 9\n"),
-        (Phase::Down { to: 3 }, fresh, "state 4 down 3 dirty 1 fill 0 out 0 rebuilt 7 spins 0 0 0 0 9\n"),
+        (
+            Phase::Steady,
+            Out::No,
+            "state 4 steady dirty 1 fill 0 out none spins 0 0 0 0 9\n",
+        ),
+        (
+            Phase::Steady,
+            Out::Gone { disk: 1 },
+            "state 4 steady dirty 1 fill 0 out 1 gone spins 0 0 0 0 9\n",
+        ),
+        (
+            Phase::Up { to: 5 },
+            Out::No,
+            "state 4 up 5 dirty 1 fill 0 out none spins 0 0 0 0 9\n",
+        ),
+        (
+            Phase::Down { to: 3 },
+            fresh,
+            "state 4 down 3 dirty 1 fill 0 out 0 rebuilt 7 spins 0 0 0 0 9\n",
+        ),
     ];
     let mut text = Text::new();
     for (phase, out, line) in cases {

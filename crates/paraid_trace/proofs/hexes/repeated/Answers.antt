@@ -1,4 +1,4 @@
-use Rattle.std.proofs.Common.{arith, ap, get_or, length, ◌%◌, ◌∙◌}
+use Rattle.std.proofs.Common.{arith, ap, get_or, length, ◌%◌}
 use Rattle.paraid_trace.proofs.RepeatsLemmas.{repeated-from_places}
 use Rattle.paraid_trace.proofs.hexes.repeated.Goals as goal
 

@@ -1,8 +1,7 @@
-use Rattle.std.proofs.Common.{arith, ap, sym, ◌∙◌, ◌≡◌, take, length}
+use Rattle.std.proofs.Common.{arith, ◌≡◌, take}
 use Rattle.std.proofs.lemmas.List.{take_all}
 use Rattle.std.proofs.lemmas.Int.Digits.{digits_value_more}
 use Rattle.std.proofs.lemmas.Bool.Decides.{nat_tests}
-use Rattle.std.specs.Str.Parse.{AllDigits, digits_value}
 use Rattle.paraid_trace.proofs.NumberLemmas.{AllDigits-more, no_numeral-digit, no_numeral-large}
 use Rattle.paraid_trace.proofs.line.value.Goals as goal
 

@@ -1,4 +1,4 @@
-use Rattle.std.proofs.Common.{ap, arith, sym, ◌∙◌, ◌++◌, take}
+use Rattle.std.proofs.Common.{ap, sym, ◌∙◌, ◌++◌, take}
 use Rattle.hex.specs.Hex.{encode_lower}
 use Rattle.paraid_trace.proofs.PeriodLemmas.{IsBlockText-period, block_text-is}
 use Rattle.paraid_trace.proofs.text.Text.push_block.Goals as goal
