@@ -1,5 +1,5 @@
 -- Lists of gears
-use Rattle.std.specs.Prelude.{◌≡◌, ℕ, ◌+◌, ◌-◌, ◌≤◌, ◌<◌, List, [], ◌∷◌, ◌++◌, Bool, true, false, length, replicate, slice_index, slice_index_or, slice_set, refl, if◌then◌else◌}
+use Rattle.std.specs.Prelude.{◌≡◌, ℕ, ◌+◌, ◌-◌, ◌≤◌, ◌<◌, List, [], ◌∷◌, ◌++◌, true, false, length, replicate, slice_index, slice_index_or, slice_set, refl, if◌then◌else◌}
 use Rattle.std.proofs.Common.{arith, ap, sym, subst, inl, inr, ◌∙◌, zero, suc, add-one}
 use Rattle.std.proofs.lemmas.List.{append_assoc, get_or_at, get_or_append_left, set_at, length-append}
 use Rattle.std.proofs.lemmas.Bool.{cases_lt}
@@ -45,9 +45,10 @@ gear_step-yes g a count count' list list' small flagged e f e' f' =
     let few = length-gears_below g a in
     let grown : gears_below g (a + 1) ≡ gears_below g a ++ a ∷ [] = ap (gears_below g) (add-one a) ∙ gears_below-yes g a flagged in
     let pushed = filled_push 8 a (gears_below g a) (omega arith) in
-    let long = length-append (gears_below g a) (a ∷ []) in
-    (e' ∙ ap (λ (xs : List ℕ). slice_set xs count a) e ∙ ap (λ (n : ℕ). slice_set (filled 8 (gears_below g a)) n a) f ∙ pushed ∙ ap (filled 8) (sym grown),
-     f' ∙ ap (λ (n : ℕ). n + 1) f ∙ sym long ∙ ap length (sym grown))
+    let long = length-append (gears_below g a) (a ∷ []) in (
+      e' ∙ ap (λ (xs : List ℕ). slice_set xs count a) e ∙ ap (λ (n : ℕ). slice_set (filled 8 (gears_below g a)) n a) f ∙ pushed ∙ ap (filled 8) (sym grown),
+      f' ∙ ap (λ (n : ℕ). n + 1) f ∙ sym long ∙ ap length (sym grown),
+    )
 
 pub gear_step-no : (g : Geometry) (a : ℕ) → slice_index_or g.gears a false ≡ false → gears_below g (a + 1) ≡ gears_below g a
 gear_step-no g a flagged = ap (gears_below g) (add-one a) ∙ gears_below-no g a flagged

@@ -1,6 +1,6 @@
 -- A geometry is made again from the list of its gears
-use Rattle.std.specs.Prelude.{◌≡◌, ℕ, ◌+◌, ◌-◌, ◌≤◌, ◌<◌, List, Bool, true, false, Result, Ok, Err, IfOk, IfErr, length, get_or, slice_index, slice_index_or, refl}
-use Rattle.std.proofs.Common.{arith, ap, sym, subst, inl, inr, ◌∙◌, zero, suc}
+use Rattle.std.specs.Prelude.{◌≡◌, ℕ, ◌-◌, ◌≤◌, ◌<◌, List, Bool, true, false, Result, Ok, Err, IfOk, IfErr, length, slice_index, slice_index_or, refl}
+use Rattle.std.proofs.Common.{arith, ap, sym, subst, inl, inr, ◌∙◌, suc}
 use Rattle.std.proofs.Props.{props}
 use Rattle.std.proofs.lemmas.Bool.{cases_lt}
 use Rattle.std.proofs.lemmas.Grind.{common_steps}
@@ -9,9 +9,9 @@ use mathlib.Core.HLevel.{is_prop→PathP}
 use Rattle.paraid_base.specs.declared.geometry.Geometry.{Geometry}
 use Rattle.paraid_base.specs.declared.geometry.GeoFault.{GeoFault}
 use Rattle.paraid_base.specs.declared.geometry.GeoFault.TheVariants.{Disks, Rows, Gears}
-use Rattle.paraid_base.specs.Gears.{IsGearList, IsGearsFault, IsGeoFault, Marks, is_bad_gear}
-use Rattle.paraid_record.specs.Codes.{gears_below, gear_list}
-use Rattle.paraid_record.proofs.GearLemmas.{Ascends, ascends}
+use Rattle.paraid_base.specs.Gears.{IsGearList, IsGeoFault, Marks, is_bad_gear}
+use Rattle.paraid_record.specs.Codes.{gear_list}
+use Rattle.paraid_record.proofs.GearLemmas.{ascends}
 
 pub same_geometry : (a b : Geometry) → a.disks ≡ b.disks → a.rows ≡ b.rows → a.gears ≡ b.gears → a ≡ b
 same_geometry a b d r f = λ i. record {
@@ -37,10 +37,10 @@ gear_list-good g k l =
     let up = ascends g 9 in
     let flagged = up.member k l in
     let before : 0 < k → slice_index (gear_list g) (k - 1) < slice_index (gear_list g) k = λ p.
-        let s : suc (k - 1) ≡ k = omega arith in
-        let inside : suc (k - 1) < length (gear_list g) = omega arith in
-        let a : slice_index (gear_list g) (k - 1) < slice_index (gear_list g) (suc (k - 1)) = up.ascend (k - 1) inside in
-        rw s at a in
+    let s : suc (k - 1) ≡ k = omega arith in
+    let inside : suc (k - 1) < length (gear_list g) = omega arith in
+    let a : slice_index (gear_list g) (k - 1) < slice_index (gear_list g) (suc (k - 1)) = up.ascend (k - 1) inside in
+    rw s at a in
     good_gear g.disks k (slice_index (gear_list g) k) (slice_index (gear_list g) (k - 1)) (g.gears_low _ flagged) (g.gears_high _ flagged) before (gear_list g) refl refl
 
 gear_list-last : (g : Geometry) → (0 < length (gear_list g)) × (slice_index (gear_list g) (length (gear_list g) - 1) ≡ g.disks)

@@ -1,7 +1,7 @@
 -- Values with the same spelling are the same
-use Rattle.std.specs.Prelude.{◌≡◌, ℕ, ◌+◌, ◌-◌, ◌≤◌, ◌<◌, ◌^◌, List, [], ◌∷◌, ◌++◌, Bool, true, false, All, length, take, drop, replicate, slice_index, refl}
-use Rattle.std.proofs.Common.{arith, ap, sym, subst, zero, suc, ◌∙◌}
-use Rattle.std.proofs.lemmas.List.{append_assoc, append_cancel_left, drop_at, take_at, length-append, length-replicate}
+use Rattle.std.specs.Prelude.{◌≡◌, ℕ, ◌≤◌, ◌<◌, List, [], ◌∷◌, ◌++◌, All, length, take, drop, slice_index, refl}
+use Rattle.std.proofs.Common.{arith, ap, sym, subst, suc, ◌∙◌}
+use Rattle.std.proofs.lemmas.List.{append_assoc, append_cancel_left, drop_at, take_at}
 use Rattle.paraid_base.specs.declared.geometry.Geometry.{Geometry}
 use Rattle.paraid_base.specs.declared.state.Phase.{Phase}
 use Rattle.paraid_base.specs.declared.state.Phase.TheVariants.{Steady, Down, Up}
@@ -14,20 +14,21 @@ use Rattle.paraid_record.specs.declared.meta.Setup.{Setup}
 use Rattle.paraid_record.specs.declared.meta.Meta.{Meta}
 use Rattle.paraid_record.specs.declared.targets.Target.{Target}
 use Rattle.paraid_record.specs.Codes.{mode_code, phase_code, phase_to, out_code, fresh_code, rebuilt_count, gear_list, window_count}
-use Rattle.paraid_record.specs.Range.{AreWindows, IsInRange, IsOutInRange, IsSetupInRange}
+use Rattle.paraid_record.specs.Range.{IsInRange, IsOutInRange, IsSetupInRange}
 use Rattle.paraid_record.specs.Spelling.{big_endian, filled, shorts}
-use Rattle.paraid_record.specs.Meta.{clock_bytes, count_bytes, energy_bytes, geometry_bytes, heading_bytes, meta_bytes, policy_bytes, state_bytes}
+use Rattle.paraid_record.specs.Meta.{clock_bytes, count_bytes, geometry_bytes, heading_bytes, meta_bytes, policy_bytes, state_bytes}
 use Rattle.paraid_record.specs.Targets.{Fits, no_target, places_bytes, targets_bytes}
 use Rattle.paraid_record.proofs.GearLemmas.{ascends, length-gears_below}
 use Rattle.paraid_record.proofs.GeometryLemmas.{same_flags, same_geometry}
-use Rattle.paraid_record.proofs.PartLemmas.{clock-parts, count-parts, energy-parts, figure_small, fill_small, fresh_code_small, gear_small, geometry-parts, length-filled, meta-parts, mode_code_small, out_code_small, phase_code_small, phase_to_small, policy-parts, rebuilt_small, spins_small, state_left, window_count_small, windows_small}
+use Rattle.paraid_record.proofs.PartLemmas.{energy-parts, figure_small, fill_small, fresh_code_small, gear_small, geometry-parts, length-filled, meta-parts, mode_code_small, out_code_small, phase_code_small, phase_to_small, policy-parts, rebuilt_small, spins_small, state_left, window_count_small, windows_small}
 use Rattle.paraid_record.proofs.SpellingLemmas.{big_endian-cancel}
 use Rattle.paraid_record.proofs.TargetLemmas.{targets-parts}
 
 same_front : (xs ys r s : List ℕ) → length xs ≡ length ys → xs ++ r ≡ ys ++ s → (xs ≡ ys) × (r ≡ s)
-same_front xs ys r s l e =
-    (sym (take_at xs r (length xs) refl) ∙ ap (take (length xs)) e ∙ take_at ys s (length xs) (sym l),
-     sym (drop_at xs r (length xs) refl) ∙ ap (drop (length xs)) e ∙ drop_at ys s (length xs) (sym l))
+same_front xs ys r s l e = (
+  sym (take_at xs r (length xs) refl) ∙ ap (take (length xs)) e ∙ take_at ys s (length xs) (sym l),
+  sym (drop_at xs r (length xs) refl) ∙ ap (drop (length xs)) e ∙ drop_at ys s (length xs) (sym l),
+)
 
 shorts-cancel : (xs ys r s : List ℕ) → length xs ≡ length ys → ((k : ℕ) → slice_index xs k < 65536) → ((k : ℕ) → slice_index ys k < 65536)
     → shorts xs ++ r ≡ shorts ys ++ s → (xs ≡ ys) × (r ≡ s)
@@ -36,7 +37,7 @@ shorts-cancel [] (y ∷ ys) r s l f g e = absurd (omega arith)
 shorts-cancel (x ∷ xs) [] r s l f g e = absurd (omega arith)
 shorts-cancel (x ∷ xs) (y ∷ ys) r s l f g e =
     let head = big_endian-cancel 2 x y (shorts xs ++ r) (shorts ys ++ s) (f 0) (g 0)
-        (sym (append_assoc (big_endian 2 x) (shorts xs) r) ∙ e ∙ append_assoc (big_endian 2 y) (shorts ys) s) in
+    (sym (append_assoc (big_endian 2 x) (shorts xs) r) ∙ e ∙ append_assoc (big_endian 2 y) (shorts ys) s) in
     let tail = shorts-cancel xs ys r s (omega arith) (λ k. f (suc k)) (λ k. g (suc k)) head.1 in
     ((λ i. head.0 i ∷ tail.0 i), tail.1)
 
@@ -86,10 +87,10 @@ geometry-cancel g h r s e =
     let a = length-gears_below g 9 in
     let b = length-gears_below h 9 in
     let disks = big_endian-cancel 1 g.disks h.disks _ _ (let t = g.disks_high in omega arith) (let t = h.disks_high in omega arith)
-        (sym (geometry-parts g r) ∙ e ∙ geometry-parts h s) in
+    (sym (geometry-parts g r) ∙ e ∙ geometry-parts h s) in
     let count = big_endian-cancel 1 (length (gear_list g)) (length (gear_list h)) _ _ (omega arith) (omega arith) disks.1 in
     let gears = same_front (filled 8 (gear_list g)) (filled 8 (gear_list h)) _ _
-        (length-filled 8 (gear_list g) (omega arith) ∙ sym (length-filled 8 (gear_list h) (omega arith))) count.1 in
+    (length-filled 8 (gear_list g) (omega arith) ∙ sym (length-filled 8 (gear_list h) (omega arith))) count.1 in
     let rows = big_endian-cancel 4 g.rows h.rows r s (let t = g.rows_high in omega arith) (let t = h.rows_high in omega arith) gears.1 in
     let list = filled-cancel (gear_list g) (gear_list h) count.0 gears.0 in
     let P : List ℕ → Type 0 = λ xs. Marks xs (length xs) h.gears in
@@ -115,16 +116,18 @@ policy-cancel a b r s f g e =
     let mode = big_endian-cancel 1 (mode_code a.mode) (mode_code b.mode) _ _ (mode_code_small a.mode) (mode_code_small b.mode) down.1 in
     let count = big_endian-cancel 1 (window_count a.windows) (window_count b.windows) _ _ (window_count_small a.windows f.windows) (window_count_small b.windows g.windows) mode.1 in
     let windows = shorts-cancel a.windows b.windows _ _ (f.windows.three ∙ sym g.windows.three) (windows_small a.windows f.windows) (windows_small b.windows g.windows) count.1 in
-    let ration = big_endian-cancel 2 a.ration b.ration r s (omega (arith, f.ration)) (omega (arith, g.ration)) windows.1 in
-    (record {
-      rate = rate.0;
-      service = service.0;
-      up = up.0;
-      down = down.0;
-      mode = same_mode a.mode b.mode mode.0;
-      windows = windows.0;
-      ration = ration.0;
-    }, ration.1)
+    let ration = big_endian-cancel 2 a.ration b.ration r s (omega (arith, f.ration)) (omega (arith, g.ration)) windows.1 in (
+      record {
+        rate = rate.0;
+        service = service.0;
+        up = up.0;
+        down = down.0;
+        mode = same_mode a.mode b.mode mode.0;
+        windows = windows.0;
+        ration = ration.0;
+      },
+      ration.1,
+    )
 
 -- the state of an array but its setup
 record SameState (a b : Meta) : Type 0 where
@@ -152,17 +155,19 @@ state-cancel a b r s f g e =
     let fresh = big_endian-cancel 1 (fresh_code a.out) (fresh_code b.out) _ _ (fresh_code_small a.out) (fresh_code_small b.out) disk.1 in
     let fill = big_endian-cancel 4 a.fill b.fill _ _ (fill_small ga a.gear a.fill a.phase f.phase f.shift.fill) (fill_small gb b.gear b.fill b.phase g.phase g.shift.fill) (ap (drop 3) fresh.1) in
     let rebuilt = big_endian-cancel 4 (rebuilt_count a.out) (rebuilt_count b.out) _ _ (rebuilt_small ga a.gear a.out f.gear f.out) (rebuilt_small gb b.gear b.out g.gear g.out) fill.1 in
-    let spins = shorts-cancel a.spins b.spins r s (f.eight ∙ sym g.eight) (spins_small a f) (spins_small b g) rebuilt.1 in
-    (record {
-      epoch = epoch.0;
-      writes = writes.0;
-      ticks = ticks.0;
-      gear = gear.0;
-      phase = same_phase a.phase b.phase code.0 to.0;
-      fill = fill.0;
-      out = same_out ga gb a.gear b.gear a.out b.out f.out g.out disk.0 fresh.0 rebuilt.0;
-      spins = spins.0;
-    }, spins.1)
+    let spins = shorts-cancel a.spins b.spins r s (f.eight ∙ sym g.eight) (spins_small a f) (spins_small b g) rebuilt.1 in (
+      record {
+        epoch = epoch.0;
+        writes = writes.0;
+        ticks = ticks.0;
+        gear = gear.0;
+        phase = same_phase a.phase b.phase code.0 to.0;
+        fill = fill.0;
+        out = same_out ga gb a.gear b.gear a.out b.out f.out g.out disk.0 fresh.0 rebuilt.0;
+        spins = spins.0;
+      },
+      spins.1,
+    )
 
 pub meta_bytes-cancel : (a b : Meta) → IsInRange a → IsInRange b → meta_bytes a ≡ meta_bytes b → a ≡ b
 meta_bytes-cancel a b f g e =
@@ -171,7 +176,7 @@ meta_bytes-cancel a b f g e =
     let policy = policy-cancel a.setup b.setup _ _ f.setup g.setup geometry.1 in
     let state = state-cancel a b _ _ f g policy.1 in
     let spinning = big_endian-cancel 4 a.setup.spinning_mj b.setup.spinning_mj _ _ (figure_small _ f.setup.spinning) (figure_small _ g.setup.spinning)
-        (sym (energy-parts a.setup _) ∙ state.1 ∙ energy-parts b.setup _) in
+    (sym (energy-parts a.setup _) ∙ state.1 ∙ energy-parts b.setup _) in
     let parked = big_endian-cancel 4 a.setup.parked_mj b.setup.parked_mj _ _ (figure_small _ f.setup.parked) (figure_small _ g.setup.parked) spinning.1 in
     let spinup = big_endian-cancel 4 a.setup.spinup_mj b.setup.spinup_mj _ _ (figure_small _ f.setup.spinup) (figure_small _ g.setup.spinup) parked.1 in
     λ i. record {
@@ -207,8 +212,8 @@ places-cancel (x ∷ a) (y ∷ b) r s l f g e =
     let fx = f 0 no_target (omega arith) in
     let fy = g 0 no_target (omega arith) in
     let first : (t : Target) (ts : List Target) (rest : List ℕ) → places_bytes (t ∷ ts) ++ rest ≡ big_endian 1 t.disk ++ (big_endian 4 t.place ++ (places_bytes ts ++ rest)) =
-        λ t ts rest. append_assoc (big_endian 1 t.disk) (big_endian 4 t.place ++ places_bytes ts) rest
-            ∙ ap (λ (xs : List ℕ). big_endian 1 t.disk ++ xs) (append_assoc (big_endian 4 t.place) (places_bytes ts) rest) in
+    λ t ts rest. append_assoc (big_endian 1 t.disk) (big_endian 4 t.place ++ places_bytes ts) rest
+    ∙ ap (λ (xs : List ℕ). big_endian 1 t.disk ++ xs) (append_assoc (big_endian 4 t.place) (places_bytes ts) rest) in
     let disk = big_endian-cancel 1 x.disk y.disk _ _ fx.0 fy.0 (sym (first x a r) ∙ e ∙ first y b s) in
     let place = big_endian-cancel 4 x.place y.place _ _ fx.1 fy.1 disk.1 in
     let tail = places-cancel a b r s (omega arith) (λ k d h. f (suc k) d (omega arith)) (λ k d h. g (suc k) d (omega arith)) place.1 in

@@ -1,11 +1,11 @@
 -- The fields of each part of a meta before the rest of the block, and equal metas
-use Rattle.std.specs.Prelude.{◌≡◌, ℕ, ◌+◌, ◌-◌, ◌≤◌, ◌<◌, List, [], ◌∷◌, ◌++◌, length, replicate, refl, nat_lt, slice_index, Option, Some, None, IfNone}
-use Rattle.std.proofs.Common.{arith, ap, sym, inl, inr, zero, suc, ◌∙◌}
+use Rattle.std.specs.Prelude.{◌≡◌, ℕ, ◌+◌, ◌-◌, ◌≤◌, ◌<◌, List, [], ◌++◌, length, replicate, refl, nat_lt, slice_index, Option, Some, None, IfNone}
+use Rattle.std.proofs.Common.{arith, inl, inr, zero, suc}
 use Rattle.std.proofs.lemmas.List.{append_assoc, append-nil, length-append, length-replicate, get_or_past}
 use Rattle.std.proofs.lemmas.List.Sums.{count_by-le-length}
 use Rattle.std.proofs.lemmas.Bool.{cases_lt}
 use Rattle.std.proofs.Math.Nat.{div-le_self}
-use Rattle.paraid_base.specs.Regions.{IsGear, map_count}
+use Rattle.paraid_base.specs.Regions.{IsGear}
 use Rattle.paraid_base.specs.Soft.{stripe_count}
 use Rattle.paraid_base.specs.declared.state.Phase.{Phase}
 use Rattle.paraid_base.specs.declared.state.Phase.TheVariants.{Steady, Down, Up}
@@ -14,7 +14,7 @@ use Rattle.paraid_base.specs.declared.state.Out.TheVariants.{No, Gone, Fresh}
 use Rattle.paraid_base.proofs.RegionsLemmas.{stripe_count_small}
 use Rattle.paraid_record.specs.declared.meta.Mode.{Mode}
 use Rattle.paraid_record.specs.declared.meta.Mode.TheVariants.{Whole, Access}
-use Rattle.paraid_record.specs.Range.{AreWindows, IsInRange, IsOutInRange, IsPhaseInRange, fill_limit, rebuild_units}
+use Rattle.paraid_record.specs.Range.{AreWindows, IsInRange, IsOutInRange, IsPhaseInRange, fill_limit}
 use Rattle.paraid_base.specs.declared.geometry.Geometry.{Geometry}
 use Rattle.paraid_record.specs.declared.meta.Setup.{Setup}
 use Rattle.paraid_record.specs.declared.meta.Meta.{Meta}
@@ -33,7 +33,7 @@ geometry-parts g rest = simp (append_assoc, append-nil)
 
 pub policy-parts : (s : Setup) (rest : List ℕ) → policy_bytes s ++ rest
     ≡ big_endian 4 s.rate ++ (big_endian 4 s.service ++ (big_endian 1 s.up ++ (big_endian 1 s.down ++ (big_endian 1 (mode_code s.mode)
-        ++ (big_endian 1 (window_count s.windows) ++ (shorts s.windows ++ (big_endian 2 s.ration ++ rest)))))))
+    ++ (big_endian 1 (window_count s.windows) ++ (shorts s.windows ++ (big_endian 2 s.ration ++ rest)))))))
 unfolding policy_bytes
 policy-parts s rest = simp (append_assoc, append-nil)
 
@@ -43,7 +43,7 @@ clock-parts m rest = simp (append_assoc, append-nil)
 
 pub state-parts : (m : Meta) (rest : List ℕ) → state_bytes m ++ rest
     ≡ big_endian 1 m.gear ++ (big_endian 1 (phase_code m.phase) ++ (big_endian 1 (phase_to m.phase)
-        ++ (big_endian 1 (out_code m.out) ++ (big_endian 1 (fresh_code m.out) ++ (replicate 3 0 ++ rest)))))
+    ++ (big_endian 1 (out_code m.out) ++ (big_endian 1 (fresh_code m.out) ++ (replicate 3 0 ++ rest)))))
 unfolding state_bytes
 state-parts m rest = simp (append_assoc, append-nil)
 
@@ -62,7 +62,7 @@ zeros_after m = replicate (512 - length (heading_bytes ++ (geometry_bytes m.setu
 
 pub meta-parts : (m : Meta) → meta_bytes m
     ≡ heading_bytes ++ (geometry_bytes m.setup.geometry ++ (policy_bytes m.setup
-        ++ (clock_bytes m ++ (state_bytes m ++ (count_bytes m ++ (energy_bytes m.setup ++ zeros_after m))))))
+    ++ (clock_bytes m ++ (state_bytes m ++ (count_bytes m ++ (energy_bytes m.setup ++ zeros_after m))))))
 unfolding meta_bytes filled zeros_after
 meta-parts m = simp append_assoc
 
@@ -131,7 +131,7 @@ gear_small g gear member = let a = g.gears_high gear member in let b = g.disks_h
 -- the clocks, the state and the counts of a meta, field by field
 pub state_left : (m : Meta) (rest : List ℕ) → clock_bytes m ++ (state_bytes m ++ (count_bytes m ++ rest))
     ≡ big_endian 8 m.epoch ++ (big_endian 8 m.writes ++ (big_endian 8 m.ticks ++ (big_endian 1 m.gear ++ (big_endian 1 (phase_code m.phase) ++ (big_endian 1 (phase_to m.phase)
-        ++ (big_endian 1 (out_code m.out) ++ (big_endian 1 (fresh_code m.out) ++ (replicate 3 0 ++ (big_endian 4 m.fill ++ (big_endian 4 (rebuilt_count m.out) ++ (shorts m.spins ++ rest)))))))))))
+    ++ (big_endian 1 (out_code m.out) ++ (big_endian 1 (fresh_code m.out) ++ (replicate 3 0 ++ (big_endian 4 m.fill ++ (big_endian 4 (rebuilt_count m.out) ++ (shorts m.spins ++ rest)))))))))))
 state_left m rest = rw (count-parts m rest, state-parts m _, clock-parts m _) refl
 
 pub figure_small : (x : ℕ) → x ≤ 1048576 → x < 4294967296

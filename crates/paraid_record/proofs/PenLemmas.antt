@@ -1,10 +1,10 @@
 -- Bytes written after those that a pen has written
-use Rattle.std.specs.Prelude.{◌≡◌, ℕ, ◌+◌, ◌-◌, ◌≤◌, List, [], ◌∷◌, ◌++◌, length, take, drop, replicate, refl}
+use Rattle.std.specs.Prelude.{◌≡◌, ℕ, ◌+◌, ◌-◌, ◌≤◌, List, ◌++◌, length, take, drop, replicate}
 use Rattle.std.proofs.Common.{arith, ap, sym, ◌∙◌}
-use Rattle.std.proofs.lemmas.List.{append_assoc, append-nil, drop-drop, length-append, length-drop, length-replicate, length-take-le, take-append-drop, take_all, drop-replicate}
-use Rattle.std.proofs.lemmas.Slice.{take-put_mid, drop-put_mid}
+use Rattle.std.proofs.lemmas.List.{drop-drop, length-append, length-drop, length-take-le, take-append-drop, drop-replicate}
+use Rattle.std.proofs.lemmas.Slice.{drop-put_mid}
 use borrow.Rule.Slice.PartMut.{put_mid}
-use Rattle.paraid_record.specs.Spelling.{big_endian, filled}
+use Rattle.paraid_record.specs.Spelling.{filled}
 
 -- a pen that stands at `at` in a block whose rest is zeros
 abbrev pub IsPen : ℕ → List ℕ → Type 0
@@ -23,12 +23,12 @@ pub pen_put : (at k end : ℕ) (bytes new : List ℕ) → IsPen at bytes → k �
     → IsPen end (put_mid at k bytes new)
 pen_put at k end bytes new p e f l =
     let back : drop end (put_mid at k bytes new) ≡ replicate (512 - end) 0 =
-        drop-put_mid at k bytes new end (omega arith) (omega arith) (sym e)
-        ∙ ap (λ (n : ℕ). drop n bytes) f
-        ∙ sym (drop-drop (length new) at bytes)
-        ∙ ap (drop (length new)) p.2
-        ∙ drop-replicate (length new) (512 - at) 0
-        ∙ ap (λ (n : ℕ). replicate n 0) (let d : 512 - at - length new ≡ 512 - end = omega arith in d) in
+    drop-put_mid at k bytes new end (omega arith) (omega arith) (sym e)
+    ∙ ap (λ (n : ℕ). drop n bytes) f
+    ∙ sym (drop-drop (length new) at bytes)
+    ∙ ap (drop (length new)) p.2
+    ∙ drop-replicate (length new) (512 - at) 0
+    ∙ ap (λ (n : ℕ). replicate n 0) (let d : 512 - at - length new ≡ 512 - end = omega arith in d) in
     (l, length-put at k bytes new p e (omega arith), back)
 
 pub pen_finish : (at : ℕ) (bytes : List ℕ) → IsPen at bytes → bytes ≡ filled 512 (take at bytes)

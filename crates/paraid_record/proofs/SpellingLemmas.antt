@@ -1,10 +1,10 @@
 -- Numbers in bytes, read back and told apart
-use Rattle.std.specs.Prelude.{◌≡◌, ℕ, ◌+◌, ◌-◌, ◌^◌, ◌<◌, ◌≤◌, List, [], ◌∷◌, ◌++◌, length, take, drop, get_or, replicate, refl, set}
+use Rattle.std.specs.Prelude.{◌≡◌, ℕ, ◌+◌, ◌-◌, ◌^◌, ◌<◌, List, [], ◌∷◌, ◌++◌, length, take, drop, get_or, refl, set}
 use Rattle.std.proofs.Common.{arith, ap, sym, ◌∙◌, zero, suc, add-one}
-use Rattle.std.proofs.lemmas.List.{append_assoc, append-nil, append_cancel_left, length-append, length-replicate, take_all, take_more, take_more_set, drop-replicate}
-use Rattle.byteorder.specs.Endian.{big_number, big_bytes}
+use Rattle.std.proofs.lemmas.List.{append_assoc, append-nil, length-append, take_all, take_more, take_more_set}
+use Rattle.byteorder.specs.Endian.{big_number}
 use Rattle.byteorder.specs.Numbers.{big_number-reads_back, length-bytes_high_first}
-use Rattle.paraid_record.specs.Spelling.{big_endian, filled, shorts, Reads}
+use Rattle.paraid_record.specs.Spelling.{big_endian, shorts, Reads}
 use Rattle.paraid_record.specs.Meta.{heading_bytes}
 
 pub length-big_endian : (width x : ℕ) → length (big_endian width x) ≡ width
@@ -25,9 +25,10 @@ number-big_endian width x rest fits = big_number-reads_back width x rest fits
 
 pub big_endian-cancel : (width x y : ℕ) (r s : List ℕ) → x < 256 ^ width → y < 256 ^ width
     → big_endian width x ++ r ≡ big_endian width y ++ s → (x ≡ y) × (r ≡ s)
-big_endian-cancel width x y r s fx fy e =
-    (sym (number-big_endian width x r fx) ∙ ap (big_number width) e ∙ number-big_endian width y s fy,
-     sym (drop-big_endian width x r) ∙ ap (drop width) e ∙ drop-big_endian width y s)
+big_endian-cancel width x y r s fx fy e = (
+  sym (number-big_endian width x r fx) ∙ ap (big_number width) e ∙ number-big_endian width y s fy,
+  sym (drop-big_endian width x r) ∙ ap (drop width) e ∙ drop-big_endian width y s,
+)
 
 pub reads_back : (width : ℕ) (bytes : List ℕ) → Reads width bytes (take (length bytes - width) (drop width bytes)) (big_number width bytes)
 reads_back width bytes x rest fits e =
@@ -66,7 +67,8 @@ pub shorts_step : (xs rest bytes left into : List ℕ) (i value : ℕ) → i < l
     → (left ≡ shorts (drop (i + 1) xs) ++ rest) × (take (i + 1) (set into i value) ≡ take (i + 1) xs)
 shorts_step xs rest bytes left into i value l same fits reads e f =
     let next : bytes ≡ big_endian 2 (get_or xs i 0) ++ (shorts (drop (suc i) xs) ++ rest) =
-        e ∙ ap (λ (s : List ℕ). s ++ rest) (shorts-drop xs i l) ∙ append_assoc (big_endian 2 (get_or xs i 0)) (shorts (drop (suc i) xs)) rest in
-    let read = reads (get_or xs i 0) (shorts (drop (suc i) xs) ++ rest) fits next in
-    (read.1 ∙ ap (λ (n : ℕ). shorts (drop n xs) ++ rest) (sym (add-one i)),
-     take_more_set into i value (omega arith) ∙ ap (λ (s : List ℕ). s ++ value ∷ []) f ∙ ap (λ (n : ℕ). take i xs ++ n ∷ []) read.0 ∙ sym (take_more xs i 0 l))
+    e ∙ ap (λ (s : List ℕ). s ++ rest) (shorts-drop xs i l) ∙ append_assoc (big_endian 2 (get_or xs i 0)) (shorts (drop (suc i) xs)) rest in
+    let read = reads (get_or xs i 0) (shorts (drop (suc i) xs) ++ rest) fits next in (
+      read.1 ∙ ap (λ (n : ℕ). shorts (drop n xs) ++ rest) (sym (add-one i)),
+      take_more_set into i value (omega arith) ∙ ap (λ (s : List ℕ). s ++ value ∷ []) f ∙ ap (λ (n : ℕ). take i xs ++ n ∷ []) read.0 ∙ sym (take_more xs i 0 l),
+    )

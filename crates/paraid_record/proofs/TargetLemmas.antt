@@ -1,7 +1,6 @@
 -- Lists of targets and their bytes
-use Rattle.std.specs.Prelude.{◌≡◌, ◌≢◌, ℕ, ◌+◌, ◌-◌, ◌^◌, ◌<◌, ◌≤◌, List, [], ◌∷◌, ◌++◌, All, Contains, get_or, length, set, take, drop, replicate, refl}
-use Rattle.std.proofs.Common.{arith, ap, sym, ◌∙◌, zero, suc, add-one, inl, inr}
-use Rattle.std.proofs.lemmas.Bool.{cases_lt}
+use Rattle.std.specs.Prelude.{◌≡◌, ℕ, ◌+◌, ◌-◌, ◌^◌, ◌<◌, List, [], ◌∷◌, ◌++◌, All, Contains, get_or, length, set, take, drop, replicate, refl}
+use Rattle.std.proofs.Common.{arith, ap, sym, ◌∙◌, zero, suc, add-one}
 use Rattle.std.proofs.lemmas.List.{append_assoc, append-nil, get_or_default, length-take-le, take_more, take_more_set}
 use Rattle.paraid_base.specs.declared.geometry.Geometry.{Geometry}
 use Rattle.paraid_base.specs.Regions.{disk_size}
@@ -38,15 +37,16 @@ pub places_step : (ts list : List Target) (rest bytes middle left : List ℕ) (i
 places_step ts list rest bytes middle left i disk place l r fits read_disk read_place e f =
     let fit = fits i no_target l in
     let next : bytes ≡ big_endian 1 (get_or ts i no_target).disk ++ (big_endian 4 (get_or ts i no_target).place ++ (places_bytes (drop (suc i) ts) ++ rest)) =
-        e ∙ ap (λ (s : List ℕ). s ++ rest) (places_bytes-drop ts i l) ∙ simp append_assoc in
+    e ∙ ap (λ (s : List ℕ). s ++ rest) (places_bytes-drop ts i l) ∙ simp append_assoc in
     let first = read_disk (get_or ts i no_target).disk _ fit.0 next in
     let second = read_place (get_or ts i no_target).place _ fit.1 first.1 in
-    let target : ◌≡◌ {A = Target} (record { disk = disk; place = place }) (get_or ts i no_target) = λ j. record { disk = first.0 j; place = second.0 j } in
-    (second.1 ∙ ap (λ (n : ℕ). places_bytes (drop n ts) ++ rest) (sym (add-one i)),
-     take_more_set list i (record { disk = disk; place = place }) r
-        ∙ ap (λ (s : List Target). s ++ record { disk = disk; place = place } ∷ []) f
-        ∙ ap (λ (t : Target). take i ts ++ t ∷ []) target
-        ∙ sym (take_more ts i no_target l))
+    let target : ◌≡◌ {A = Target} (record { disk = disk; place = place }) (get_or ts i no_target) = λ j. record { disk = first.0 j; place = second.0 j } in (
+      second.1 ∙ ap (λ (n : ℕ). places_bytes (drop n ts) ++ rest) (sym (add-one i)),
+      take_more_set list i (record { disk = disk; place = place }) r
+          ∙ ap (λ (s : List Target). s ++ record { disk = disk; place = place } ∷ []) f
+          ∙ ap (λ (t : Target). take i ts ++ t ∷ []) target
+          ∙ sym (take_more ts i no_target l),
+    )
 
 pub drop-set_front : (list : List Target) (i : ℕ) (t : Target) → drop (suc i) (set list i t) ≡ drop (suc i) list
 drop-set_front [] i t = refl
@@ -82,9 +82,11 @@ pub stands_before : (ts : List Target) (i at : ℕ) (d : Target) → i < at → 
 stands_before ts i at d less l e =
     let few : length (take at ts) ≡ at = length-take-le at ts (omega arith) in
     let inside : i < length (take at ts) = omega arith in
-    let here : i < length ts = omega arith in
-    (i, inside,
-     get_or-take_below ts i at (get_or ts at no_target) less ∙ get_or_default ts i (get_or ts at no_target) d here ∙ e ∙ get_or_default ts at d no_target l)
+    let here : i < length ts = omega arith in (
+      i,
+      inside,
+      get_or-take_below ts i at (get_or ts at no_target) less ∙ get_or_default ts i (get_or ts at no_target) d here ∙ e ∙ get_or_default ts at d no_target l,
+    )
 
 pub All-fits : (g : Geometry) (ts : List Target) → AreTargets g ts → disk_size g < 2 ^ 32 → All Fits ts
 All-fits g ts targets small = λ k d l.

@@ -12,63 +12,63 @@ heading_bytes = joined (codes "PARAIDAR" ∷ big_endian 2 1 ∷ [])
 
 unfoldable pub geometry_bytes : Geometry → List ℕ
 geometry_bytes g = joined
-  ( big_endian 1 g.disks
-  ∷ big_endian 1 (length (gear_list g))
-  ∷ filled 8 (gear_list g)
-  ∷ big_endian 4 g.rows
-  ∷ [])
+    (big_endian 1 g.disks
+    ∷ big_endian 1 (length (gear_list g))
+    ∷ filled 8 (gear_list g)
+    ∷ big_endian 4 g.rows
+    ∷ [])
 
 unfoldable pub policy_bytes : Setup → List ℕ
 policy_bytes s = joined
-  ( big_endian 4 s.rate
-  ∷ big_endian 4 s.service
-  ∷ big_endian 1 s.up
-  ∷ big_endian 1 s.down
-  ∷ big_endian 1 (mode_code s.mode)
-  ∷ big_endian 1 (window_count s.windows)
-  ∷ shorts s.windows
-  ∷ big_endian 2 s.ration
-  ∷ [])
+    (big_endian 4 s.rate
+    ∷ big_endian 4 s.service
+    ∷ big_endian 1 s.up
+    ∷ big_endian 1 s.down
+    ∷ big_endian 1 (mode_code s.mode)
+    ∷ big_endian 1 (window_count s.windows)
+    ∷ shorts s.windows
+    ∷ big_endian 2 s.ration
+    ∷ [])
 
 unfoldable pub clock_bytes : Meta → List ℕ
 clock_bytes m = joined
-  ( big_endian 8 m.epoch
-  ∷ big_endian 8 m.writes
-  ∷ big_endian 8 m.ticks
-  ∷ [])
+    (big_endian 8 m.epoch
+    ∷ big_endian 8 m.writes
+    ∷ big_endian 8 m.ticks
+    ∷ [])
 
 unfoldable pub state_bytes : Meta → List ℕ
 state_bytes m = joined
-  ( big_endian 1 m.gear
-  ∷ big_endian 1 (phase_code m.phase)
-  ∷ big_endian 1 (phase_to m.phase)
-  ∷ big_endian 1 (out_code m.out)
-  ∷ big_endian 1 (fresh_code m.out)
-  ∷ replicate 3 0
-  ∷ [])
+    (big_endian 1 m.gear
+    ∷ big_endian 1 (phase_code m.phase)
+    ∷ big_endian 1 (phase_to m.phase)
+    ∷ big_endian 1 (out_code m.out)
+    ∷ big_endian 1 (fresh_code m.out)
+    ∷ replicate 3 0
+    ∷ [])
 
 unfoldable pub count_bytes : Meta → List ℕ
 count_bytes m = joined
-  ( big_endian 4 m.fill
-  ∷ big_endian 4 (rebuilt_count m.out)
-  ∷ shorts m.spins
-  ∷ [])
+    (big_endian 4 m.fill
+    ∷ big_endian 4 (rebuilt_count m.out)
+    ∷ shorts m.spins
+    ∷ [])
 
 unfoldable pub energy_bytes : Setup → List ℕ
 energy_bytes s = joined
-  ( big_endian 4 s.spinning_mj
-  ∷ big_endian 4 s.parked_mj
-  ∷ big_endian 4 s.spinup_mj
-  ∷ [])
+    (big_endian 4 s.spinning_mj
+    ∷ big_endian 4 s.parked_mj
+    ∷ big_endian 4 s.spinup_mj
+    ∷ [])
 
 -- the whole block: the fields, and then zeros
 unfoldable pub meta_bytes : Meta → List ℕ
 meta_bytes m = filled 512 (joined
-  ( heading_bytes
-  ∷ geometry_bytes m.setup.geometry
-  ∷ policy_bytes m.setup
-  ∷ clock_bytes m
-  ∷ state_bytes m
-  ∷ count_bytes m
-  ∷ energy_bytes m.setup
-  ∷ []))
+    (heading_bytes
+    ∷ geometry_bytes m.setup.geometry
+    ∷ policy_bytes m.setup
+    ∷ clock_bytes m
+    ∷ state_bytes m
+    ∷ count_bytes m
+    ∷ energy_bytes m.setup
+    ∷ []))

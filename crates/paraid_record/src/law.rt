@@ -14,5 +14,4 @@ pub fn spellings_differ()
         → meta_bytes a ≡ meta_bytes b → a ≡ b }
     ensures targets { (a b : List TargetType) → length a ≤ 96 → length b ≤ 96
         → All Fits a → All Fits b → targets_bytes a ≡ targets_bytes b → a ≡ b }
-{
-}
+{}

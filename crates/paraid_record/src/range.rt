@@ -115,11 +115,7 @@ fn are_windows(windows: &[u16; 3]) -> bool
     ensures { IsTrue result ↔ AreWindows windows.now }
 {
     let [first, second, third] = *windows;
-    first >= 1
-        && first <= 1024
-        && second <= 1024
-        && third <= 1024
-        && (second > 0 || third == 0)
+    first >= 1 && first <= 1024 && second <= 1024 && third <= 1024 && (second > 0 || third == 0)
 }
 
 /// The first disk that the shift under way, or the gear, leaves parked.

@@ -44,7 +44,7 @@ fn take_meta(reader: &mut Reader) -> Option<Meta>
     requires { 112 ≤ length reader.old }
     ensures { (m : MetaType) (rest : List ℕ) → IsInRange m
         → reader.old ≡ heading_bytes ++ (geometry_bytes m.setup.geometry ++ (policy_bytes m.setup
-            ++ (clock_bytes m ++ (state_bytes m ++ (count_bytes m ++ (energy_bytes m.setup ++ rest))))))
+        ++ (clock_bytes m ++ (state_bytes m ++ (count_bytes m ++ (energy_bytes m.setup ++ rest))))))
         → result ≡ Some m }
 {
     skip_heading(reader);

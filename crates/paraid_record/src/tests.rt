@@ -1,9 +1,11 @@
 ghost use Rattle.std.specs.Prelude.{◌≤◌, ◌<◌, length};
 
-use crate::{Meta, Mode, Setup, Target, Targets, read_meta, read_targets, write_meta, write_targets};
+use crate::{
+    Meta, Mode, Setup, Target, Targets, read_meta, read_targets, write_meta, write_targets,
+};
 use paraid_base::{Block, Geometry, Out, Phase};
 
-/// The meta of a new array of five disks, with a battery of one window.
+/// The meta of a new array of five disks, in mode whole with one window.
 fn fresh_meta(geometry: Geometry) -> Meta {
     Meta {
         setup: Setup {
@@ -113,7 +115,10 @@ fn a_block_with_one_byte_changed_is_refused_where_the_meta_is_out_of_range(rt: H
     ];
     for (at, byte, accepted) in changes {
         if at < 512 {
-            assert!(rt; read_meta(&fresh_with(at, byte)).is_some() == accepted, "byte {at}");
+            assert!(rt;
+                read_meta(&fresh_with(at, byte)).is_some() == accepted,
+                "byte {at}"
+            );
         }
     }
 }
@@ -146,8 +151,14 @@ fn a_parked_disk_has_spins_left_and_a_shift_down_has_no_disk_out(rt: HostRuntime
 fn targets_have_their_bytes_and_are_read_back(rt: HostRuntime) {
     let geometry = Geometry::new(5, 5, &[4, 5]).ok().expect(&rt, "five disks");
     let mut list = [Target { disk: 0, place: 0 }; 96];
-    list[0] = Target { disk: 1, place: 100 };
-    list[1] = Target { disk: 4, place: 107 };
+    list[0] = Target {
+        disk: 1,
+        place: 100,
+    };
+    list[1] = Target {
+        disk: 4,
+        place: 107,
+    };
     let mut block = Block::zero();
     write_targets(&Targets { count: 2, list }, &mut block);
     let bytes = [0, 2, 1, 0, 0, 0, 100, 4, 0, 0, 0, 107];

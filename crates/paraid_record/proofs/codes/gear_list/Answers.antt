@@ -1,6 +1,4 @@
-use Rattle.std.specs.Prelude.{◌≡◌, ◌+◌, ◌-◌, ◌≤◌, length, slice_set}
-use Rattle.std.proofs.Common.{arith, ap, refl, sym, ◌∙◌, add-one}
-use Rattle.std.proofs.lemmas.List.{length-append}
+use Rattle.std.proofs.Common.{arith, refl, sym, ◌∙◌}
 use Rattle.paraid_record.specs.Codes.{gears_below}
 use Rattle.paraid_record.specs.Spelling.{filled}
 use Rattle.paraid_record.proofs.GearLemmas.{gear_step-no, gear_step-yes, length-gears_below}

@@ -1,5 +1,5 @@
-use Rattle.std.specs.Prelude.{◌≡◌, ◌≢◌, ◌≤◌, ◌<◌, ◌++◌, ℕ, List, Some, None, true, false}
-use Rattle.std.proofs.Common.{ap, sym, subst, ◌∙◌}
+use Rattle.std.specs.Prelude.{◌≡◌, ◌≢◌}
+use Rattle.std.proofs.Common.{ap, subst, ◌∙◌}
 use Rattle.paraid_record.specs.declared.meta.Meta.{Meta}
 use Rattle.paraid_record.specs.Meta.{meta_bytes}
 use Rattle.paraid_record.specs.Range.{IsInRange}
@@ -10,9 +10,9 @@ use Rattle.paraid_record.proofs.read.read_meta.Goals.{else-is_in_range-via-then-
 pub returns-in_err-meta-clause-none : goal.returns-in_err-meta-clause-none
 returns-in_err-meta-clause-none c =
     let none : (m : Meta) → IsInRange m → c.args.block.now.bytes ≢ meta_bytes m = λ m range e.
-        let read = c.take_meta.ensures m _ range (c.new.ensures ∙ c.as_slice.ensures.value ∙ e ∙ meta-parts m) in
-        let was = c.in_err-meta.was in
-        absurd (cc) in
+    let read = c.take_meta.ensures m _ range (c.new.ensures ∙ c.as_slice.ensures.value ∙ e ∙ meta-parts m) in
+    let was = c.in_err-meta.was in
+    absurd (cc) in
     holds_if_none _ _ none
 
 pub returns-else-is_in_range-clause-none : goal.returns-else-is_in_range-clause-none

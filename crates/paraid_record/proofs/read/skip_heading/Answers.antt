@@ -1,4 +1,4 @@
-use Rattle.std.specs.Prelude.{ℕ, List, drop}
+use Rattle.std.specs.Prelude.{drop}
 use Rattle.std.proofs.Common.{arith, ap, ◌∙◌}
 use Rattle.paraid_record.proofs.SpellingLemmas.{heading-dropped}
 use Rattle.paraid_record.proofs.read.skip_heading.Goals as goal

@@ -1,8 +1,7 @@
-use Rattle.std.specs.Prelude.{◌≡◌, ◌≤◌, ◌<◌, ℕ, List, length, take, slice_index}
+use Rattle.std.specs.Prelude.{◌≡◌, length, take}
 use Rattle.std.specs.Result.{result_ok}
 use Rattle.std.proofs.Common.{arith, ap, ◌∙◌}
 use Rattle.std.proofs.lemmas.List.{take_at}
-use Rattle.paraid_base.specs.declared.geometry.Geometry.{Geometry}
 use Rattle.paraid_record.specs.Codes.{gear_list}
 use Rattle.paraid_record.specs.Spelling.{filled}
 use Rattle.paraid_record.proofs.GearLemmas.{length-gears_below}
@@ -29,6 +28,6 @@ returns-clause-reads c = λ g rest e.
     let gears = c.take_eight-gears.ensures.reads (filled 8 (gear_list g)) _ (length-filled 8 (gear_list g) (omega arith)) count.1 in
     let rows = c.take_u32-rows.ensures.reads g.rows rest (omega arith) gears.1 in
     let list : take c.take_u8-count.result c.take_eight-gears.result ≡ gear_list g =
-        rw (count.0, gears.0) (take_at (gear_list g) _ (length (gear_list g)) (λ i. length (gear_list g))) in
+    rw (count.0, gears.0) (take_at (gear_list g) _ (length (gear_list g)) (λ i. length (gear_list g))) in
     let made = made_again g _ _ _ c.new.result disks.0 rows.0 list c.new.ensures.numbers c.new.ensures.gears c.new.ensures.err in
     (c.ok.ensures.value ∙ ap result_ok made, rows.1)

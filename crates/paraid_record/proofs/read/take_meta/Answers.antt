@@ -1,7 +1,5 @@
-use Rattle.std.specs.Prelude.{◌≡◌, ◌≤◌, ◌<◌, ◌++◌, ℕ, List, Some, None}
-use Rattle.std.proofs.Common.{arith, ap, sym, ◌∙◌}
-use Rattle.paraid_base.specs.declared.geometry.Geometry.{Geometry}
-use Rattle.paraid_record.specs.declared.meta.Meta.{Meta}
+use Rattle.std.specs.Prelude.{◌≡◌, Some}
+use Rattle.std.proofs.Common.{◌∙◌}
 use Rattle.paraid_record.specs.declared.meta.Setup.{Setup}
 use Rattle.paraid_record.proofs.PartLemmas.{energy-parts, figure_small}
 use Rattle.paraid_record.proofs.read.take_meta.Goals as goal
@@ -13,10 +11,10 @@ returns c = λ m rest range e.
     let same : m.setup.geometry ≡ c.in_ok-geometry.geometry = let was = c.in_ok-geometry.was in let is = geometry.0 in cc in
     let policy = c.take_policy.ensures.reads m.setup _ range.setup same geometry.1 in
     let setup : c.in_ok-setup.setup ≡ record m.setup { spinning_mj = 0; parked_mj = 0; spinup_mj = 0 } =
-        let was = c.in_ok-setup.was in let is = policy.0 in cc in
+    let was = c.in_ok-setup.was in let is = policy.0 in cc in
     let state = c.take_state.ensures.reads m _ range policy.1 in
     let meta : c.in_ok-meta.meta ≡ record m { setup = c.in_ok-setup.setup } =
-        let was = c.in_ok-meta.was in let is = state.0 in cc in
+    let was = c.in_ok-meta.was in let is = state.0 in cc in
     let spinning = c.take_u32-meta.ensures.reads m.setup.spinning_mj _ (figure_small _ range.setup.spinning) (state.1 ∙ energy-parts m.setup rest) in
     let parked = c.take_u32-meta-2.ensures.reads m.setup.parked_mj _ (figure_small _ range.setup.parked) spinning.1 in
     let spinup = c.take_u32-meta-3.ensures.reads m.setup.spinup_mj _ (figure_small _ range.setup.spinup) parked.1 in

@@ -1,5 +1,5 @@
-use Rattle.std.specs.Prelude.{◌≡◌, ◌≤◌, ◌<◌, ℕ, List, Some, None, length, slice_index}
-use Rattle.std.proofs.Common.{arith, ap, sym, ◌∙◌}
+use Rattle.std.specs.Prelude.{◌≡◌, Some}
+use Rattle.std.proofs.Common.{arith, sym, ◌∙◌}
 use Rattle.paraid_record.specs.Codes.{mode_code, window_count}
 use Rattle.paraid_record.proofs.PartLemmas.{policy-parts, windows_small, window_count_small, mode_code_small}
 use Rattle.paraid_record.proofs.read.take_policy.Goals as goal
@@ -26,17 +26,19 @@ returns-clause-reads c = λ s rest range same e.
     let windows = c.take_shorts.ensures.reads s.windows _ range.windows.three (windows_small s.windows range.windows) count.1 in
     let ration = c.take_u16-ration.ensures.reads s.ration rest (omega (arith, range.ration)) windows.1 in
     let known = c.mode_of.ensures s.mode mode.0 in
-    let found : c.in_ok-mode_of.field-0 ≡ s.mode = let was = c.in_ok-mode_of.was in cc in
-    (λ i. Some (record {
-      geometry = sym same i;
-      mode = found i;
-      rate = rate.0 i;
-      service = service.0 i;
-      up = up.0 i;
-      down = down.0 i;
-      windows = windows.0 i;
-      ration = ration.0 i;
-      spinning_mj = 0;
-      parked_mj = 0;
-      spinup_mj = 0;
-    }), ration.1)
+    let found : c.in_ok-mode_of.field-0 ≡ s.mode = let was = c.in_ok-mode_of.was in cc in (
+      λ i. Some (record {
+        geometry = sym same i;
+        mode = found i;
+        rate = rate.0 i;
+        service = service.0 i;
+        up = up.0 i;
+        down = down.0 i;
+        windows = windows.0 i;
+        ration = ration.0 i;
+        spinning_mj = 0;
+        parked_mj = 0;
+        spinup_mj = 0;
+      }),
+      ration.1,
+    )

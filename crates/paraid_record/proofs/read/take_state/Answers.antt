@@ -1,7 +1,7 @@
-use Rattle.std.specs.Prelude.{◌≡◌, ◌≤◌, ◌<◌, ◌++◌, ℕ, List, Some, None, length, slice_index, drop}
-use Rattle.std.proofs.Common.{arith, ap, sym, ◌∙◌}
+use Rattle.std.specs.Prelude.{◌≡◌, Some, drop}
+use Rattle.std.proofs.Common.{ap, ◌∙◌}
 use Rattle.paraid_record.specs.Codes.{phase_code, phase_to, out_code, fresh_code, rebuilt_count}
-use Rattle.paraid_record.proofs.PartLemmas.{state_left, clock-parts, count-parts, state-parts, fill_small, fresh_code_small, gear_small, out_code_small, phase_code_small, phase_to_small, rebuilt_small, spins_small}
+use Rattle.paraid_record.proofs.PartLemmas.{state_left, fill_small, fresh_code_small, gear_small, out_code_small, phase_code_small, phase_to_small, rebuilt_small, spins_small}
 use Rattle.paraid_record.proofs.read.take_state.Goals as goal
 
 pub returns-in_err-phase_of-clause-reads : goal.returns-in_err-phase_of-clause-reads
@@ -33,15 +33,17 @@ returns-clause-reads c = λ m rest range e.
     let spins = c.take_shorts.ensures.reads m.spins rest range.eight (spins_small m range) rebuilt.1 in
     let known = c.phase_of.ensures m.phase code.0 to.0 in
     let phase : c.in_ok-phase_of.field-0 ≡ m.phase = let was = c.in_ok-phase_of.was in cc in
-    let out = c.out_of.ensures g m.gear m.out range.out disk.0 fresh.0 rebuilt.0 in
-    (λ i. Some (record {
-      setup = c.args.setup;
-      epoch = epoch.0 i;
-      writes = writes.0 i;
-      ticks = ticks.0 i;
-      gear = gear.0 i;
-      phase = phase i;
-      fill = fill.0 i;
-      out = out i;
-      spins = spins.0 i;
-    }), spins.1)
+    let out = c.out_of.ensures g m.gear m.out range.out disk.0 fresh.0 rebuilt.0 in (
+      λ i. Some (record {
+        setup = c.args.setup;
+        epoch = epoch.0 i;
+        writes = writes.0 i;
+        ticks = ticks.0 i;
+        gear = gear.0 i;
+        phase = phase i;
+        fill = fill.0 i;
+        out = out i;
+        spins = spins.0 i;
+      }),
+      spins.1,
+    )

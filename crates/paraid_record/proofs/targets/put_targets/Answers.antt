@@ -9,4 +9,4 @@ unfolding targets_bytes
 returns c =
     c.finish.ensures
     ∙ ap (filled 512) (c.put_places.ensures ∙ ap (λ (s : List ℕ). s ++ places_bytes c.args.targets.now)
-        (c.put_u16.ensures.value ∙ ap (λ (s : List ℕ). s ++ big_endian 2 (length c.args.targets.now)) c.new-pen.ensures))
+    (c.put_u16.ensures.value ∙ ap (λ (s : List ℕ). s ++ big_endian 2 (length c.args.targets.now)) c.new-pen.ensures))

@@ -46,8 +46,8 @@ returns-in_err-targets-clause-none c =
     let small : disk_size c.args.geometry.now < 2 ^ 32 = let t = c.size-size.type_inv in omega (arith, c.size-size.ensures) in
     let P : List Target → Option Targets → Type 0 = λ ts o. IsSomeAnd o (λ t. targets_of t ≡ ts) in
     let none : (ts : List Target) → AreTargets c.args.geometry.now ts → c.args.block.now.bytes ≢ targets_bytes ts = λ ts range e.
-        let read = c.take_targets.ensures.value ts _ range.few (All-fits _ ts range small) (c.new.ensures ∙ c.as_slice.ensures.value ∙ e ∙ targets-parts ts) in
-        absurd (subst (P ts) c.in_err-targets.was read) in
+    let read = c.take_targets.ensures.value ts _ range.few (All-fits _ ts range small) (c.new.ensures ∙ c.as_slice.ensures.value ∙ e ∙ targets-parts ts) in
+    absurd (subst (P ts) c.in_err-targets.was read) in
     holds_if_none _ _ none
 
 pub returns-else-are_in_range-clause-none : goal.returns-else-are_in_range-clause-none

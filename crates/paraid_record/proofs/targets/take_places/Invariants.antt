@@ -10,5 +10,5 @@ invariant-loop-at l = record {
   long : length l.list ≡ 96;
   rest : drop l.at l.list ≡ replicate (96 - l.at) no_target;
   reads : (ts : List Target) (rest : List ℕ) → length ts ≡ l.fn.count → All Fits ts → l.fn.reader ≡ places_bytes ts ++ rest
-    → (l.reader ≡ places_bytes (drop l.at ts) ++ rest) × (take l.at l.list ≡ take l.at ts);
+      → (l.reader ≡ places_bytes (drop l.at ts) ++ rest) × (take l.at l.list ≡ take l.at ts);
 }

@@ -1,4 +1,3 @@
-use Rattle.std.specs.Prelude.{ℕ, List}
 use Rattle.std.proofs.Common.{ap, ◌∙◌}
 use Rattle.paraid_record.specs.Spelling.{filled}
 use Rattle.paraid_record.proofs.PenLemmas.{pen_finish}

@@ -12,10 +12,10 @@ loop-at-preserved c =
       room = omega (arith, known.room);
       same = (length-set c.loop-at.into c.loop-at.at c.take_u16.result ∙ known.same.0, λ i. length c.args.into.now);
       reads = λ xs rest l small e.
-        let before = known.reads xs rest l small e in
-        let inside : c.loop-at.at < length xs = omega (arith, l, known.same.1) in
-        shorts_step xs rest c.loop-at.self c.take_u16.new.self c.loop-at.into c.loop-at.at c.take_u16.result inside (known.same.0 ∙ sym l)
-            (small c.loop-at.at) c.take_u16.ensures.reads before.0 before.1;
+          let before = known.reads xs rest l small e in
+          let inside : c.loop-at.at < length xs = omega (arith, l, known.same.1) in
+          shorts_step xs rest c.loop-at.self c.take_u16.new.self c.loop-at.into c.loop-at.at c.take_u16.result inside (known.same.0 ∙ sym l)
+          (small c.loop-at.at) c.take_u16.ensures.reads before.0 before.1;
     }
 
 pub returns-clause-reads : goal.returns-clause-reads
