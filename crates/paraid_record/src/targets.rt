@@ -10,9 +10,6 @@ use crate::pen::Pen;
 use crate::reader::Reader;
 use paraid_base::{Block, DiskNo, Geometry, Place};
 
-/// The most targets of a batch.
-pub const MOST_TARGETS: usize = 96;
-
 /// A block of a disk that a batch writes.
 #[derive(Clone, Copy, Debug, PartialEq, Eq)]
 pub struct Target {
