@@ -1,0 +1,4 @@
+pub mod Gears
+pub mod Window
+pub mod Windows
+pub mod Decision

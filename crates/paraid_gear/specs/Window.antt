@@ -1,0 +1,34 @@
+-- What one window means
+use Rattle.std.specs.Prelude.{◌≡◌, ℕ, ◌-◌, ◌*◌, ◌^◌, ◌&&◌, nat_le, Bool, List, length, sum, sum_by}
+use Rattle.circular_buffer.specs.Buffer.{keep_last}
+
+-- a window's length, and the samples that it holds, the oldest first
+pub record Held : Type 0 where
+  pub span : ℕ
+  pub samples : List ℕ
+
+abbrev pub held : ℕ → List ℕ → Held
+held span samples = record { span = span; samples = samples }
+
+-- of all these samples, the window holds as many of the last as its length, or all
+pub record HoldsLast (window : Held) (samples : List ℕ) : Type 0 where
+  pub holds : window.samples ≡ keep_last window.span samples
+
+-- the sum of the squares
+abbrev pub sum_squares : List ℕ → ℕ
+sum_squares = sum_by (λ x. x * x)
+
+-- there are as many samples as the window is long
+abbrev pub is_full : ℕ → List ℕ → Bool
+is_full span samples = nat_le span (length samples)
+
+-- The mean of the samples is at least the load. A load is in hundredths of a sample.
+abbrev pub is_busy : ℕ → ℕ → List ℕ → Bool
+is_busy load span samples = nat_le (load * span) (100 * sum samples)
+
+-- The mean of the samples and their deviation together are at most the load. The square of
+-- `span` times the deviation is `span * sum_squares - sum * sum`.
+abbrev pub is_quiet : ℕ → ℕ → List ℕ → Bool
+is_quiet load span samples =
+    nat_le (100 * sum samples) (load * span)
+    && nat_le (10000 * (span * sum_squares samples - sum samples * sum samples)) ((load * span - 100 * sum samples) ^ 2)

@@ -1,0 +1,10 @@
+/// What the samples ask for.
+#[derive(Clone, Copy, Debug, PartialEq, Eq)]
+pub enum Decision {
+    /// To stay in this gear.
+    Stay,
+    /// To shift up to the next higher gear.
+    Up { to: u8 },
+    /// To shift down to the next lower gear.
+    Down { to: u8 },
+}

@@ -1,0 +1,129 @@
+//! One window: the last samples, as many as it is long.
+
+ghost use Rattle.std.specs.Prelude.{◌≡◌, ◌*◌, ◌^◌, ◌<◌, ◌≤◌, [], ◌∷◌, ◌++◌, length, sum, IfOk};
+ghost use Rattle.circular_buffer.specs.Buffer.{keep_last};
+ghost use Rattle.paraid_gear.specs.Window.{held, sum_squares, is_full as is_full_at, is_busy as is_busy_at, is_quiet as is_quiet_at};
+
+use circular_buffer::HeapCircularBuffer;
+use paraid_base::NoMemory;
+use std::alloc::Global;
+use std::marker::Model;
+
+/// The greatest length of a window, in samples.
+const LONGEST: usize = 1024;
+
+/// The last samples. It holds no more than its length, and its ring has room for the longest.
+#[derive(Drop)]
+pub(crate) struct Window {
+    ring: HeapCircularBuffer<u32>,
+    span: u16,
+}
+
+impl Model for Window {
+    ghost use Rattle.std.specs.Prelude.{◌≡◌, ◌≤◌, length};
+    ghost use Rattle.paraid_gear.specs.Window.{Held};
+
+    ghost Value = { Held };
+
+    ghost view = { λ w. record { span = w.span; samples = w.ring.items } };
+
+    ghost invariant = { λ w. (w.ring.capacity ≡ 1024) × (w.span ≤ 1024) × (length w.ring.items ≤ w.span) };
+}
+
+/// The sum of at most 1,024 samples.
+fn sum_of(samples: &[u32]) -> u128
+    requires { length samples.now ≤ 1024 }
+    ensures value { result ≡ sum samples.now }
+    ensures small { result ≤ 2 ^ 42 }
+{
+    samples.iter().map(|sample| *sample as u128).sum()
+}
+
+/// The sum of the squares of at most 1,024 samples.
+fn squares_of(samples: &[u32]) -> u128
+    requires { length samples.now ≤ 1024 }
+    ensures value { result ≡ sum_squares samples.now }
+    ensures small { result ≤ 2 ^ 74 }
+{
+    samples
+        .iter()
+        .map(|sample| *sample as u128 * *sample as u128)
+        .sum()
+}
+
+impl Window {
+    /// A window of length 0.
+    pub fn new(alloc: Global) -> Result<Window, NoMemory>
+        ensures { IfOk result (λ window. window ≡ held 0 []) }
+    {
+        match HeapCircularBuffer::with_capacity(alloc, LONGEST) {
+            Ok(ring) => Ok(Window { ring, span: 0 }),
+            Err(_) => Err(NoMemory),
+        }
+    }
+
+    /// Makes it a window of this length that holds no sample.
+    pub fn start(&mut self, length: u16)
+        requires { length ≤ 1024 }
+        ensures { self.new ≡ held length [] }
+    {
+        self.ring.clear();
+        self.span = length;
+    }
+
+    /// Takes in a sample. A window that is full gives up its oldest; one of length 0 stays empty.
+    pub fn push(&mut self, sample: u32)
+        ensures { self.new ≡ held self.old.span
+            (keep_last self.old.span (self.old.samples ++ sample ∷ [])) }
+    {
+        self.ring.push_back(sample);
+        self.ring.truncate_front(self.span as usize);
+    }
+
+    /// Whether it holds as many samples as it is long.
+    pub fn is_full(&self) -> bool
+        ensures { result ≡ is_full_at self.now.span self.now.samples }
+    {
+        self.span as usize <= self.ring.len()
+    }
+
+    /// The sum of the samples.
+    fn sum(&self) -> u128
+        ensures value { result ≡ sum self.now.samples }
+        ensures small { result ≤ 2 ^ 43 }
+    {
+        let (front, back) = self.ring.as_slices();
+        sum_of(front) + sum_of(back)
+    }
+
+    /// The sum of the squares of the samples.
+    fn squares(&self) -> u128
+        ensures value { result ≡ sum_squares self.now.samples }
+        ensures small { result ≤ 2 ^ 75 }
+    {
+        let (front, back) = self.ring.as_slices();
+        squares_of(front) + squares_of(back)
+    }
+
+    /// Whether the mean of the samples is at least `load` hundredths.
+    pub fn is_busy(&self, load: u128) -> bool
+        requires { load < 2 ^ 48 }
+        ensures { result ≡ is_busy_at load self.now.span self.now.samples }
+    {
+        load * self.span as u128 <= 100 * self.sum()
+    }
+
+    /// Whether the mean of the samples and their deviation together are at most `load` hundredths.
+    pub fn is_quiet(&self, load: u128) -> bool
+        requires { load < 2 ^ 48 }
+        ensures { result ≡ is_quiet_at load self.now.span self.now.samples }
+    {
+        let bound = load * self.span as u128;
+        let sum = self.sum();
+        if bound < 100 * sum {
+            return false;
+        }
+        let spread = (self.span as u128 * self.squares()).saturating_sub(sum * sum);
+        10000 * spread <= (bound - 100 * sum).pow(2)
+    }
+}
