@@ -112,16 +112,16 @@ fn exactly_the_planned_calls_fail(rt: HostRuntime) {
     }
 }
 
-// Whether the listed call of this number is a done write of this byte to block 2 of disk 1.
-fn is_write(rack: &MemRack, m: u32, byte: u8) -> bool {
+// Whether the listed call of this number is a done write of block 2 of disk 1.
+fn is_write(rack: &MemRack, m: u32) -> bool {
     m < rack.calls()
-        && match rack.call(m) {
+        && match *rack.call(m) {
             Call::Write {
-                disk: 1,
-                place: 2,
-                bytes,
-                done: true,
-            } => bytes.bytes[0] == byte,
+                disk,
+                place,
+                done,
+                ..
+            } => disk == 1 && place == 2 && done,
             _ => false,
         }
 }
@@ -145,7 +145,7 @@ fn a_full_list_takes_no_call_and_the_contents_stay_right(rt: HostRuntime) {
         );
         walk(&mut rack);
         assert_eq!(rt; rack.calls(), listed);
-        assert_eq!(rt; is_write(&rack, 3, 9), calls > 3);
+        assert_eq!(rt; is_write(&rack, 3), calls > 3);
         assert_eq!(rt; first_byte(&rack, 0, 1), 7);
         assert_eq!(rt; first_byte(&rack, 1, 2), 9);
         assert_eq!(rt; first_byte(&rack, 1, 3), 0);
