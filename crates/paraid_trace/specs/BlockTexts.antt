@@ -23,10 +23,12 @@ period_of bytes = least_from (is_period bytes) 1 511
 unfoldable pub block_text : Block → List ℕ
 block_text block = encode_lower (take (period_of block.bytes) block.bytes)
 
--- the text spells, in lower case, the shortest list of bytes whose repetition cut at 512 is the block
+-- the text spells, in lower case, the shortest list of bytes whose repetition, cut at 512 bytes,
+-- is the block
 pub record IsBlockText (text : List ℕ) (block : Block) : Type 0 where
   pub pattern : List ℕ
   pub spelt : text ≡ encode_lower pattern
   pub some : 0 < length pattern
   pub repeats : Repeats pattern block
-  pub shortest : (other : List ℕ) → 0 < length other → Repeats other block → length pattern ≤ length other
+  pub shortest : (other : List ℕ) → 0 < length other → Repeats other block
+      → length pattern ≤ length other

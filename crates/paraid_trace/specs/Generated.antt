@@ -24,4 +24,5 @@ event_of_kind kind block i =
 
 -- line `i` of the trace of a number, for an array of so many blocks
 unfoldable pub generated : ℕ → ℕ → ℕ → Event
-generated number i blocks = event_of_kind (mixed number i / 2 ^ 24) (mixed number i % 2 ^ 24 % blocks) i
+generated number i blocks =
+    event_of_kind (mixed number i / 2 ^ 24) (mixed number i % 2 ^ 24 % blocks) i

@@ -11,7 +11,8 @@ pub record IsNumber (digits : List ℕ) (n : ℕ) : Type 0 where
   pub below : n < 2 ^ 32
   pub printed : digits ≡ decimal n
 
--- 2 to 1,024 hexadecimal digits of either case, an even number of them, for the bytes that the block repeats
+-- 2 to 1,024 hexadecimal digits of either case, an even number of them, for the bytes that the
+-- block repeats
 pub record IsHexOf (digits : List ℕ) (block : Block) : Type 0 where
   pub low : 2 ≤ length digits
   pub high : length digits ≤ 1024

@@ -23,7 +23,8 @@ repeated_if_ok (Err e) = None
 -- the block of 2 to 1,024 hexadecimal digits
 unfoldable pub block_of : List ℕ → Option Block
 block_of digits =
-    if nat_le 2 (length digits) && nat_le (length digits) 1024 then repeated_if_ok (decode_of digits) else None
+    if nat_le 2 (length digits) && nat_le (length digits) 1024
+    then repeated_if_ok (decode_of digits) else None
 
 -- the event of a line of one word
 abbrev pub word_event : List ℕ → Event

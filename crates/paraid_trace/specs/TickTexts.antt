@@ -17,4 +17,5 @@ tick_word (Ration disk) = codes "ration " ++ decimal disk
 
 abbrev pub tick_text : GearReport → List ℕ
 tick_text report =
-    codes "tick " ++ decimal report.gear ++ codes " moved " ++ decimal report.moved ++ codes " " ++ tick_word report.event
+    codes "tick " ++ decimal report.gear ++ codes " moved " ++ decimal report.moved
+    ++ codes " " ++ tick_word report.event

@@ -135,7 +135,8 @@ fn number(digits: &[u8]) -> Option<u32>
 // The number that one or more digits write, if it is below 2^32.
 fn value(digits: &[u8]) -> Option<u32>
     ensures { SomeIff result
-        (IsNumeral 10 digits.now × (digits_value 10 digits.now < 2 ^ 32)) (digits_value 10 digits.now) }
+        (IsNumeral 10 digits.now × (digits_value 10 digits.now < 2 ^ 32))
+        (digits_value 10 digits.now) }
 {
     if digits.is_empty() {
         return None;

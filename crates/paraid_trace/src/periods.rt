@@ -10,7 +10,8 @@ pub fn period(block: &Block) -> usize
     ensures low { 1 ≤ result }
     ensures high { result ≤ 512 }
     ensures repeats { Repeats (take result block.now.bytes) block.now }
-    ensures least { (other : List ℕ) → 0 < length other → Repeats other block.now → result ≤ length other }
+    ensures least { (other : List ℕ) → 0 < length other → Repeats other block.now
+        → result ≤ length other }
 {
     let bytes = block.as_slice();
     for p in 1..BLOCK_SIZE {

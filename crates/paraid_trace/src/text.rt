@@ -85,8 +85,8 @@ impl Text {
         }
     }
 
-    /// Appends the text of a block, which takes at most 1,024 bytes: in lower case the shortest list
-    /// of bytes whose repetition is the block.
+    /// Appends the text of a block, which takes at most 1,024 bytes: in lower case the shortest
+    /// list of bytes whose repetition is the block.
     pub fn push_block(&mut self, block: &Block)
         requires room { length self.old ≤ 176 }
         ensures value { self.new ≡ self.old ++ block_text block.now }
