@@ -1,0 +1,23 @@
+-- The energy of the disks of an array, in millijoules
+use Rattle.std.specs.Prelude.{ℕ, ◌+◌, ◌-◌, ◌*◌, ◌^◌, min}
+use Rattle.paraid_record.specs.declared.meta.Setup.{Setup}
+
+-- what a disk uses between two ticks, spinning and parked, what a spin-up uses, and the sum
+pub record Account : Type 0 where
+  pub spinning_mj : ℕ
+  pub parked_mj : ℕ
+  pub spinup_mj : ℕ
+  pub total : ℕ
+
+abbrev pub opened : Setup → Account
+opened s = record { spinning_mj = s.spinning_mj; parked_mj = s.parked_mj; spinup_mj = s.spinup_mj; total = 0 }
+
+-- the account with so much more used; the sum stays at the greatest number of 64 bits
+abbrev pub with_used : Account → ℕ → Account
+with_used a used = record a { total = min (a.total + used) (2 ^ 64 - 1) }
+
+abbrev pub ticked : Account → ℕ → ℕ → Account
+ticked a spinning parked = with_used a (a.spinning_mj * spinning + a.parked_mj * parked)
+
+abbrev pub spun_up : Account → ℕ → Account
+spun_up a disks = with_used a (a.spinup_mj * disks)

@@ -1,0 +1,109 @@
+ghost use Rattle.std.specs.Prelude.{◌≡◌, ◌*◌, ◌<◌, ◌^◌};
+ghost use Rattle.paraid_energy.specs.Account.{Account, opened, spun_up, ticked, with_used};
+
+use paraid_record::Setup;
+use std::marker::Model;
+
+/// The energy used since the ledger was made.
+#[derive(Drop)]
+pub struct Ledger {
+    spinning_mj: u32,
+    parked_mj: u32,
+    spinup_mj: u32,
+    total: u64,
+}
+
+impl Model for Ledger {
+    ghost Value = { Account };
+
+    ghost view = { λ l. record {
+      spinning_mj = l.spinning_mj;
+      parked_mj = l.parked_mj;
+      spinup_mj = l.spinup_mj;
+      total = l.total;
+    } };
+}
+
+impl Ledger {
+    /// A ledger with the figures of a setup, and nothing used.
+    pub fn new(setup: &Setup) -> Self
+        ensures { result ≡ opened setup.now }
+    {
+        Ledger {
+            spinning_mj: setup.spinning_mj,
+            parked_mj: setup.parked_mj,
+            spinup_mj: setup.spinup_mj,
+            total: 0,
+        }
+    }
+
+    /// Counts what so many spinning and so many parked disks use between two ticks.
+    pub fn tick(&mut self, spinning: u8, parked: u8)
+        ensures { self.new ≡ ticked self.old spinning parked }
+    {
+        let used = energy(self.spinning_mj, spinning) + energy(self.parked_mj, parked);
+        self.add(used);
+    }
+
+    /// Counts the spin-ups of so many disks.
+    pub fn spin_up(&mut self, disks: u8)
+        ensures { self.new ≡ spun_up self.old disks }
+    {
+        let used = energy(self.spinup_mj, disks);
+        self.add(used);
+    }
+
+    fn add(&mut self, used: u64)
+        ensures { self.new ≡ with_used self.old used }
+    {
+        self.total = self.total.saturating_add(used);
+    }
+
+    /// The sum in millijoules, at most the greatest u64.
+    pub fn total(&self) -> u64
+        ensures { result ≡ self.now.total }
+    {
+        self.total
+    }
+}
+
+/// What so many disks use, each so many millijoules.
+fn energy(each: u32, disks: u8) -> u64
+    ensures value { result ≡ each * disks }
+    ensures small { result < 2 ^ 40 }
+{
+    each as u64 * disks as u64
+}
+
+#[cfg(test)]
+mod tests {
+    use super::*;
+    use paraid_base::Geometry;
+    use paraid_record::Mode;
+
+    #[test]
+    fn a_shift_down_of_five_disks_and_the_ticks_around_it(rt: HostRuntime) {
+        let geometry = Geometry::new(5, 5, &[4, 5]).ok().expect(&rt, "five disks");
+        let setup = Setup {
+            geometry,
+            mode: Mode::Whole,
+            rate: 1,
+            service: 100,
+            up: 80,
+            down: 60,
+            windows: [1000, 0, 0],
+            ration: 100,
+            spinning_mj: 9000,
+            parked_mj: 900,
+            spinup_mj: 60000,
+        };
+        let mut ledger = Ledger::new(&setup);
+        ledger.tick(5, 0);
+        ledger.tick(5, 0);
+        assert!(rt; ledger.total() == 90000);
+        ledger.tick(4, 1);
+        assert!(rt; ledger.total() == 126900);
+        ledger.spin_up(1);
+        assert!(rt; ledger.total() == 186900);
+    }
+}
