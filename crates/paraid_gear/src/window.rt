@@ -123,7 +123,7 @@ impl Window {
         if bound < 100 * sum {
             return false;
         }
-        let spread = (self.span as u128 * self.squares()).saturating_sub(sum * sum);
+        let spread = self.span as u128 * self.squares() - sum * sum;
         10000 * spread <= (bound - 100 * sum).pow(2)
     }
 }
