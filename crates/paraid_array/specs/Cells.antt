@@ -1,0 +1,49 @@
+-- What the rows of an array hold: a block in each cell, by row and disk.
+use Rattle.std.specs.Prelude.{◌≡◌, ℕ, ◌-◌, ◌*◌, ◌<◌, ◌==◌, ◌&&◌, if◌then◌else◌, Option, Some}
+use Rattle.paraid_base.specs.declared.block.Block.{Block}
+use Rattle.paraid_base.specs.declared.geometry.Geometry.{Geometry}
+use Rattle.paraid_base.specs.Cells.{home_disk, home_row, parity_disk}
+use Rattle.paraid_base.specs.History.{History, held}
+use Rattle.paraid_base.specs.Regions.{hard_place_of}
+use Rattle.paraid_base.specs.Sums.{xor_upto}
+use Rattle.paraid_base.specs.Xor.{xor, zeroed}
+use Rattle.paraid_rack.specs.Atoms.{Seen}
+use Rattle.paraid_rack.specs.Disks.{Disks}
+use Rattle.paraid_rack.specs.Trail.{Trail, now}
+
+-- the block of each cell, by row and disk
+abbrev pub Cells : Type 0
+Cells = ℕ → ℕ → Block
+
+-- the cells, with these bytes in one of them
+unfoldable pub with_cell : Cells → ℕ → ℕ → Block → Cells
+with_cell cells r d bytes q e = if (q == r) && (e == d) then bytes else cells q e
+
+-- the cells after a write of one that holds no parity, with the row's parity brought in line
+abbrev pub rewritten : ℕ → Cells → ℕ → ℕ → Block → Cells
+rewritten n cells r d bytes =
+    with_cell (with_cell cells r d bytes) r (parity_disk n r) (xor (cells r (parity_disk n r)) (xor (cells r d) bytes))
+
+-- the cells of each row sum to zero
+abbrev pub RowsZero : Geometry → Cells → Type 0
+RowsZero g cells = (r : ℕ) → r < g.rows → xor_upto (cells r) g.disks ≡ zeroed
+
+-- each block holds the last write of it, at its home
+abbrev pub Holds : Geometry → Cells → History → Type 0
+Holds g cells h = (b : ℕ) → b < g.rows * (g.disks - 1) → cells (home_row g.disks b) (home_disk g.disks b) ≡ held h b
+
+-- each disk that is present stores its cells
+pub record Stores (g : Geometry) (s : Disks) (cells : Cells) : Type 0 where
+  pub cell : (r d : ℕ) → r < g.rows → d < g.disks → Seen s d (hard_place_of g r) (λ b. b ≡ cells r d)
+
+-- where the record is told, the disks store these cells
+abbrev pub Keeps : Geometry → Option Trail → Cells → Type 0
+Keeps g told cells = (t : Trail) → told ≡ Some t → Stores g (now t) cells
+
+-- The disks store cells whose rows sum to zero and which hold the last write of each block. So a
+-- cell of a disk that is absent is the sum of the others of its row.
+pub record Stands (g : Geometry) (told : Option Trail) (h : History) : Type 0 where
+  pub cells : Cells
+  pub zero : RowsZero g cells
+  pub holds : Holds g cells h
+  pub keeps : Keeps g told cells

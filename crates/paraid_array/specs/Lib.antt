@@ -1,0 +1,5 @@
+pub mod Cells
+pub mod Powers
+pub mod Losses
+pub mod Mount
+pub mod Arrays

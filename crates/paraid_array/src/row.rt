@@ -1,0 +1,241 @@
+//! Reads and writes of the cells of a row, of which one disk may be out.
+ghost use Rattle.std.specs.Prelude.{◌≡◌, ◌≢◌, ℕ, ◌+◌, ◌-◌, ◌*◌, ◌<◌, true, false, Some, IsSome, IsTrue, OnOk, IfOk, IfErr};
+ghost use Rattle.paraid_base.specs.Cells.{parity_disk as parity_disk_of};
+ghost use Rattle.paraid_base.specs.Sums.{xor_upto, without};
+ghost use Rattle.paraid_base.specs.Xor.{xor};
+ghost use Rattle.paraid_array.specs.Cells.{Cells, Keeps, RowsZero, with_cell, rewritten};
+ghost use Rattle.paraid_array.specs.Losses.{IsTwo, Lasts};
+ghost use Rattle.paraid_array.specs.Powers.{Fits};
+
+use crate::loss::{follow, is_out};
+use paraid_base::{Block, DiskNo, Geometry, Row, Two};
+use paraid_layout::{hard_place, parity_disk};
+use paraid_parity::xor_into;
+use paraid_rack::Rack;
+
+// Reads a cell from its own disk, unless that is out or fails: false.
+fn read_stored<R: Rack>(
+    rack: &mut R,
+    geometry: &Geometry,
+    out: &mut Option<DiskNo>,
+    row: Row,
+    disk: DiskNo,
+    into: &mut Block,
+) -> Result<bool, Two>
+    requires row { row < geometry.now.rows }
+    requires disk { disk < geometry.now.disks }
+    requires fits { Fits geometry.now out.old (R.slot_count rack.old) (R.slot rack.old) }
+    ensures value { IfOk result (λ done. done ≡ true → (cells : Cells)
+        → IsSome (R.told rack.new) → Keeps geometry.now (R.told rack.old) cells
+        → into.new ≡ cells row disk) }
+    ensures out { IfOk result (λ done. done ≡ false → out.new ≡ Some disk) }
+    ensures keeps { (cells : Cells) → Keeps geometry.now (R.told rack.old) cells
+        → Keeps geometry.now (R.told rack.new) cells }
+    ensures fits { OnOk result
+        (Fits geometry.now out.new (R.slot_count rack.new) (R.slot rack.new)) }
+    ensures lasts { Lasts geometry.now.disks out.old out.new (R.slot rack.old) (R.slot rack.new)
+        (R.told rack.old) (R.told rack.new) }
+    ensures two { IfErr result (IsTwo out.old (R.slot rack.old) (R.slot rack.new)) }
+{
+    if is_out(*out, disk) {
+        return Ok(false);
+    }
+    let place = hard_place(geometry, row);
+    let answer = rack.read(disk, place, into);
+    follow(out, disk, answer)
+}
+
+// Adds a cell to the sum of the cells before it, unless it is of the disk that is out.
+fn add_cell<R: Rack>(
+    rack: &mut R,
+    geometry: &Geometry,
+    out: DiskNo,
+    row: Row,
+    disk: DiskNo,
+    sum: &mut Block,
+) -> Result<(), Two>
+    requires row { row < geometry.now.rows }
+    requires disk { disk < geometry.now.disks }
+    requires fits { Fits geometry.now (Some out) (R.slot_count rack.old) (R.slot rack.old) }
+    ensures value { OnOk result ((cells : Cells)
+        → IsSome (R.told rack.new) → Keeps geometry.now (R.told rack.old) cells
+        → sum.old ≡ xor_upto (without (cells row) out) disk
+        → sum.new ≡ xor_upto (without (cells row) out) (disk + 1)) }
+    ensures keeps { (cells : Cells) → Keeps geometry.now (R.told rack.old) cells
+        → Keeps geometry.now (R.told rack.new) cells }
+    ensures fits { OnOk result
+        (Fits geometry.now (Some out) (R.slot_count rack.new) (R.slot rack.new)) }
+    ensures lasts { Lasts geometry.now.disks (Some out) (Some out) (R.slot rack.old)
+        (R.slot rack.new) (R.told rack.old) (R.told rack.new) }
+    ensures two { IfErr result (IsTwo (Some out) (R.slot rack.old) (R.slot rack.new)) }
+{
+    if disk == out {
+        return Ok(());
+    }
+    let place = hard_place(geometry, row);
+    let mut cell = Block::zero();
+    let Ok(()) = rack.read(disk, place, &mut cell) else {
+        return Err(Two {
+            first: out,
+            second: disk,
+        });
+    };
+    xor_into(sum, &cell);
+    Ok(())
+}
+
+// Sums up the cells of a row that are not on the disk that is out.
+fn read_others<R: Rack>(
+    rack: &mut R,
+    geometry: &Geometry,
+    out: DiskNo,
+    row: Row,
+    into: &mut Block,
+) -> Result<(), Two>
+    requires row { row < geometry.now.rows }
+    requires fits { Fits geometry.now (Some out) (R.slot_count rack.old) (R.slot rack.old) }
+    ensures value { OnOk result ((cells : Cells)
+        → IsSome (R.told rack.new) → Keeps geometry.now (R.told rack.old) cells
+        → into.new ≡ xor_upto (without (cells row) out) geometry.now.disks) }
+    ensures keeps { (cells : Cells) → Keeps geometry.now (R.told rack.old) cells
+        → Keeps geometry.now (R.told rack.new) cells }
+    ensures fits { OnOk result
+        (Fits geometry.now (Some out) (R.slot_count rack.new) (R.slot rack.new)) }
+    ensures lasts { Lasts geometry.now.disks (Some out) (Some out) (R.slot rack.old)
+        (R.slot rack.new) (R.told rack.old) (R.told rack.new) }
+    ensures two { IfErr result (IsTwo (Some out) (R.slot rack.old) (R.slot rack.new)) }
+{
+    *into = Block::zero();
+    for disk in 0..geometry.disks {
+        add_cell(rack, geometry, out, row, disk, into)?;
+    }
+    Ok(())
+}
+
+// Reads a cell from its disk, or as the sum of the row's other cells.
+pub(crate) fn read_cell<R: Rack>(
+    rack: &mut R,
+    geometry: &Geometry,
+    out: &mut Option<DiskNo>,
+    row: Row,
+    disk: DiskNo,
+    into: &mut Block,
+) -> Result<(), Two>
+    requires row { row < geometry.now.rows }
+    requires disk { disk < geometry.now.disks }
+    requires fits { Fits geometry.now out.old (R.slot_count rack.old) (R.slot rack.old) }
+    ensures value { OnOk result ((cells : Cells) → RowsZero geometry.now cells
+        → IsSome (R.told rack.new) → Keeps geometry.now (R.told rack.old) cells
+        → into.new ≡ cells row disk) }
+    ensures keeps { (cells : Cells) → Keeps geometry.now (R.told rack.old) cells
+        → Keeps geometry.now (R.told rack.new) cells }
+    ensures fits { OnOk result
+        (Fits geometry.now out.new (R.slot_count rack.new) (R.slot rack.new)) }
+    ensures lasts { Lasts geometry.now.disks out.old out.new (R.slot rack.old) (R.slot rack.new)
+        (R.told rack.old) (R.told rack.new) }
+    ensures two { IfErr result (IsTwo out.old (R.slot rack.old) (R.slot rack.new)) }
+{
+    if read_stored(rack, geometry, out, row, disk, into)? {
+        return Ok(());
+    }
+    read_others(rack, geometry, disk, row, into)?;
+    Ok(())
+}
+
+// Writes a cell to its own disk, unless that is out or fails: false.
+fn put<R: Rack>(
+    rack: &mut R,
+    geometry: &Geometry,
+    out: &mut Option<DiskNo>,
+    row: Row,
+    disk: DiskNo,
+    bytes: &Block,
+) -> Result<bool, Two>
+    requires row { row < geometry.now.rows }
+    requires disk { disk < geometry.now.disks }
+    requires fits { Fits geometry.now out.old (R.slot_count rack.old) (R.slot rack.old) }
+    ensures keeps { (cells : Cells) → Keeps geometry.now (R.told rack.old) cells
+        → Keeps geometry.now (R.told rack.new) (with_cell cells row disk bytes.now) }
+    ensures fits { OnOk result
+        (Fits geometry.now out.new (R.slot_count rack.new) (R.slot rack.new)) }
+    ensures lasts { Lasts geometry.now.disks out.old out.new (R.slot rack.old) (R.slot rack.new)
+        (R.told rack.old) (R.told rack.new) }
+    ensures two { IfErr result (IsTwo out.old (R.slot rack.old) (R.slot rack.new)) }
+{
+    if is_out(*out, disk) {
+        return Ok(false);
+    }
+    let place = hard_place(geometry, row);
+    let answer = rack.write(disk, place, bytes);
+    follow(out, disk, answer)
+}
+
+// The parity of a row once a cell of it holds these bytes.
+fn new_parity<R: Rack>(
+    rack: &mut R,
+    geometry: &Geometry,
+    out: &mut Option<DiskNo>,
+    row: Row,
+    disk: DiskNo,
+    bytes: &Block,
+    into: &mut Block,
+) -> Result<(), Two>
+    requires row { row < geometry.now.rows }
+    requires disk { disk < geometry.now.disks }
+    requires fits { Fits geometry.now out.old (R.slot_count rack.old) (R.slot rack.old) }
+    ensures value { OnOk result ((cells : Cells) → RowsZero geometry.now cells
+        → IsSome (R.told rack.new) → Keeps geometry.now (R.told rack.old) cells
+        → into.new ≡ xor (cells row (parity_disk_of geometry.now.disks row))
+        (xor (cells row disk) bytes.now)) }
+    ensures keeps { (cells : Cells) → Keeps geometry.now (R.told rack.old) cells
+        → Keeps geometry.now (R.told rack.new) cells }
+    ensures fits { OnOk result
+        (Fits geometry.now out.new (R.slot_count rack.new) (R.slot rack.new)) }
+    ensures lasts { Lasts geometry.now.disks out.old out.new (R.slot rack.old) (R.slot rack.new)
+        (R.told rack.old) (R.told rack.new) }
+    ensures two { IfErr result (IsTwo out.old (R.slot rack.old) (R.slot rack.new)) }
+{
+    let mut change = Block::zero();
+    read_cell(rack, geometry, out, row, disk, &mut change)?;
+    read_cell(rack, geometry, out, row, parity_disk(geometry, row), into)?;
+    xor_into(&mut change, bytes);
+    xor_into(into, &change);
+    Ok(())
+}
+
+// Writes a cell that holds no parity, and brings the row's parity in line with it. All is read
+// before anything is written.
+pub(crate) fn write_cell<R: Rack>(
+    rack: &mut R,
+    geometry: &Geometry,
+    out: &mut Option<DiskNo>,
+    row: Row,
+    disk: DiskNo,
+    bytes: &Block,
+) -> Result<(), Two>
+    requires row { row < geometry.now.rows }
+    requires disk { disk < geometry.now.disks }
+    requires fits { Fits geometry.now out.old (R.slot_count rack.old) (R.slot rack.old) }
+    ensures keeps { OnOk result ((cells : Cells) → RowsZero geometry.now cells
+        → Keeps geometry.now (R.told rack.old) cells
+        → Keeps geometry.now (R.told rack.new)
+        (rewritten geometry.now.disks cells row disk bytes.now)) }
+    ensures fits { OnOk result
+        (Fits geometry.now out.new (R.slot_count rack.new) (R.slot rack.new)) }
+    ensures lasts { Lasts geometry.now.disks out.old out.new (R.slot rack.old) (R.slot rack.new)
+        (R.told rack.old) (R.told rack.new) }
+    ensures two { IfErr result (IsTwo out.old (R.slot rack.old) (R.slot rack.new)) }
+{
+    let mut parity = Block::zero();
+    new_parity(rack, geometry, out, row, disk, bytes, &mut parity)?;
+    put(rack, geometry, out, row, disk, bytes)?;
+    put(
+        rack,
+        geometry,
+        out,
+        row,
+        parity_disk(geometry, row),
+        &parity,
+    )?;
+    Ok(())
+}

@@ -1,0 +1,108 @@
+use crate::{Array, MountFault, MountRefused};
+use paraid_base::{Block, BlockFault, BlockNo, Halt, Two};
+use paraid_memrack::{MemRack, Planned};
+use paraid_rack::Rack;
+use std::process::Abort;
+
+// Zero disks of these sizes, and none where the size is 0, in a rack with these plans.
+fn zero_disks(
+    rt: &(impl Abort + AllocGlobal),
+    sizes: [u32; 5],
+    first: Planned,
+    second: Planned,
+) -> MemRack {
+    let alloc = rt.alloc();
+    let plan = vec![in alloc; first, second].expect(rt, "there is memory");
+    let mut rack = MemRack::new(alloc, 5, 200, 1000, plan).expect(rt, "there is memory");
+    for disk in 0..5u8 {
+        let size = sizes[disk as usize];
+        if size > 0 && disk < rack.slots() {
+            rack.attach(disk, size).expect(rt, "the disk is attached");
+        }
+    }
+    rack
+}
+
+fn mounted(rt: &(impl Abort + AllocGlobal), first: Planned, second: Planned) -> Array<MemRack> {
+    match Array::mount(zero_disks(rt, [108; 5], first, second)) {
+        Ok(array) => array,
+        Err(_) => panic!(rt; "the disks fit"),
+    }
+}
+
+// Writes a block of this byte.
+fn write(array: &mut Array<MemRack>, block: BlockNo, byte: u8) -> Result<u64, BlockFault> {
+    array.write(block, &Block::from_array([byte; 512]))
+}
+
+// The first byte of a block.
+fn read(array: &mut Array<MemRack>, block: BlockNo) -> Result<u8, BlockFault> {
+    let mut bytes = Block::zero();
+    array.read(block, &mut bytes)?;
+    Ok(bytes.bytes[0])
+}
+
+#[test]
+fn a_lost_disk_changes_no_answer(rt: HostRuntime) {
+    // The first call on a disk is its attach. From the sixth on none of these is made.
+    for disk in 0..5u8 {
+        for nth in 1..9u32 {
+            let none = Planned::AtCall(999);
+            let mut array = mounted(&rt, Planned::OnDisk { disk, nth }, none);
+            assert_eq!(rt; write(&mut array, 3, 0x11), Ok(1));
+            assert_eq!(rt; write(&mut array, 7, 0x22), Ok(2));
+            assert_eq!(rt; array.flush(), Ok(2));
+            assert_eq!(rt; read(&mut array, 3), Ok(0x11));
+            assert_eq!(rt; read(&mut array, 7), Ok(0x22));
+            assert_eq!(rt; read(&mut array, 2), Ok(0));
+            assert_eq!(rt; write(&mut array, 3, 0x33), Ok(3));
+            assert_eq!(rt; read(&mut array, 3), Ok(0x33));
+            let missing = BlockFault::NoBlock { block: 20 };
+            assert_eq!(rt; read(&mut array, 20), Err(missing));
+            assert_eq!(rt; write(&mut array, 20, 0x44), Err(missing));
+            assert_eq!(rt; array.flush(), Ok(3));
+        }
+    }
+}
+
+#[test]
+fn a_second_lost_disk_halts_every_call(rt: HostRuntime) {
+    let mut array = mounted(
+        &rt,
+        Planned::OnDisk { disk: 2, nth: 1 },
+        Planned::OnDisk { disk: 3, nth: 1 },
+    );
+    let halt = Halt::Two(Two {
+        first: 2,
+        second: 3,
+    });
+    assert_eq!(rt; write(&mut array, 2, 0x11), Err(BlockFault::Halt(halt)));
+    assert_eq!(rt; read(&mut array, 2), Err(BlockFault::Halt(halt)));
+    assert_eq!(rt; read(&mut array, 20), Err(BlockFault::Halt(halt)));
+    assert_eq!(rt; array.flush(), Err(halt));
+    // Five attaches, the failed read of disk 2, the reads of disks 0 and 1, and the failed one.
+    let rack = array.unmount();
+    assert_eq!(rt; rack.calls(), 9);
+}
+
+#[test]
+fn the_least_disk_that_does_not_fit_is_named(rt: HostRuntime) {
+    let none = Planned::AtCall(999);
+    let rows = [
+        ([107, 108, 108, 108, 108], 0, 107),
+        ([108, 0, 107, 108, 108], 1, 0),
+        ([109, 200, 108, 108, 1], 4, 1),
+    ];
+    for (sizes, disk, found) in rows {
+        let refused = Array::mount(zero_disks(&rt, sizes, none, none)).err();
+        let fault = refused.map(|refused: MountRefused<MemRack>| refused.fault);
+        assert_eq!(rt;
+            fault,
+            Some(MountFault::Size {
+                disk,
+                found,
+                needed: 108,
+            })
+        );
+    }
+}
