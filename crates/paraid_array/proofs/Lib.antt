@@ -1,0 +1,4 @@
+pub mod LossLemmas
+pub mod PowerLemmas
+pub mod StoresLemmas
+pub mod RowsLemmas

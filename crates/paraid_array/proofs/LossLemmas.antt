@@ -1,0 +1,113 @@
+-- What calls one after the other leave of the disks, and why they halt.
+use Rattle.std.proofs.Common.{◌≡◌, ◌≢◌, ℕ, ◌<◌, ◌≤◌, Bool, true, false, List, [], ◌∷◌, ◌++◌, Option, Some, None, Result, Ok, Err, refl, sym, ap, ◌∙◌, subst, inl, inr, arith}
+use Rattle.std.specs.Prelude.{IfErr}
+use Rattle.std.proofs.lemmas.Bool.{cases_eq}
+use Rattle.paraid_base.specs.declared.fault.Two.{Two}
+use Rattle.paraid_base.specs.Told.{HasRisen}
+use Rattle.paraid_base.proofs.ToldLemmas.{HasRisen-later, HasRisen-sooner}
+use Rattle.paraid_rack.specs.declared.call.Power.TheVariants.{Spinning}
+use Rattle.paraid_rack.specs.declared.call.Call.{Call}
+use Rattle.paraid_rack.specs.Disks.{Disks, step, is_present, IsPresent}
+use Rattle.paraid_rack.specs.Lawful.{IsLawful}
+use Rattle.paraid_rack.specs.Slots.{Slot, Touched, Agrees}
+use Rattle.paraid_rack.specs.Told.{Grows, Ran}
+use Rattle.paraid_rack.specs.Trail.{Trail, now, run}
+use Rattle.paraid_rack.proofs.TrailsLemmas.{Ran-none, Ran-call, Ran-then}
+use Rattle.paraid_array.specs.Losses.{disk_of, Served, WasLost, Lasts, IsTwo, Follows}
+
+Served-append : (n : ℕ) (s : Disks) (cs ds : List Call) → Served n s cs → Served n (run s cs) ds → Served n s (cs ++ ds)
+Served-append n s [] ds first second = second
+Served-append n s (c ∷ cs) ds first second = (first.0, Served-append n (step c s) cs ds first.1 second)
+
+-- two numbers that are one as options
+pub same_some : (a b : ℕ) → Some a ≡ Some b → a ≡ b
+same_some a b e = cc
+
+pub none_is_not_some : (out : Option ℕ) (d : ℕ) → out ≡ None → out ≡ Some d → ⊥
+none_is_not_some out d none some = cc
+
+-- a disk that spins by its slot spins by the record
+pub spins_told : (told : Option Trail) (slot : ℕ → Slot) (d : ℕ) → ((t : Trail) → told ≡ Some t → Agrees (now t) slot) → (slot d).power ≡ Spinning
+    → (s : Trail) → told ≡ Some s → (now s).power d ≡ Spinning
+spins_told told slot d agrees spins s tells = (agrees s tells).power d ∙ spins
+
+-- no call
+pub lasts_none : (n : ℕ) (out : Option ℕ) (slot : ℕ → Slot) (told : Option Trail) → Lasts n out out slot slot told told
+lasts_none n out slot told = record {
+  served = Ran-none (Served n) (λ s. tt) told;
+  no_fall = λ d. omega arith;
+  stays = λ d is. is;
+  lost = λ d is. inl is;
+}
+
+none_before : (a b : Option ℕ) → ((d : ℕ) → a ≡ Some d → b ≡ Some d) → b ≡ None → a ≡ None
+none_before None b stays none = refl
+none_before (Some d) b stays none = absurd (none_is_not_some b d none (stays d refl))
+
+was_lost_then : (n : ℕ) (a b c : Option ℕ) (x y z : ℕ → Slot) (p q r : Option Trail) → Lasts n a b x y p q → Lasts n b c y z q r
+    → (d : ℕ) → WasLost b y z d → WasLost a x z d
+was_lost_then n a b c x y z p q r first second d was = elim was [
+  | inl is ↦ elim (first.lost d is) [
+    | inl was_out ↦ inl was_out
+    | inr risen ↦ inr (risen.0, HasRisen-later (x d).faults (y d).faults (z d).faults risen.1 (second.no_fall d))
+  ]
+  | inr risen ↦ inr (none_before a b first.stays risen.0, HasRisen-sooner (x d).faults (y d).faults (z d).faults (first.no_fall d) risen.1)
+]
+
+-- one part after the other
+pub lasts_then : (n : ℕ) (a b c : Option ℕ) (x y z : ℕ → Slot) (p q r : Option Trail) → Lasts n a b x y p q → Lasts n b c y z q r → Lasts n a c x z p r
+lasts_then n a b c x y z p q r first second = record {
+  served = Ran-then (Served n) (Served-append n) p q r first.served second.served;
+  no_fall = λ d. (let before = first.no_fall d in let after = second.no_fall d in omega arith);
+  stays = λ d is. second.stays d (first.stays d is);
+  lost = λ d is. was_lost_then n a b c x y z p q r first second d (second.lost d is);
+}
+
+-- two disks are down in the second part, so they are in the whole
+pub two_then : (n : ℕ) (a b c : Option ℕ) (x y z : ℕ → Slot) (p q r : Option Trail) (two : Two) → Lasts n a b x y p q → Lasts n b c y z q r → IsTwo b y z two → IsTwo a x z two
+two_then n a b c x y z p q r two first second is = record {
+  first = was_lost_then n a b c x y z p q r first second two.first is.first;
+  apart = is.apart;
+  second = HasRisen-sooner (x two.second).faults (y two.second).faults (z two.second).faults (first.no_fall two.second) is.second;
+}
+
+touched_no_fall : (old new : ℕ → Slot) (disk : ℕ) (leaves : Slot) (dirt done : Bool) → Touched old new disk leaves dirt done → leaves.faults ≡ (old disk).faults
+    → (d : ℕ) → (old d).faults ≤ (new d).faults
+touched_no_fall old new disk leaves dirt done touched same d = elim (cases_eq d disk) [
+  | inl is ↦ subst (λ (k : ℕ). (old k).faults ≤ (new k).faults) (sym is) (here done touched)
+  | inr not ↦ (let e : (new d).faults ≡ (old d).faults = ap (λ (s : Slot). s.faults) (touched.others d not) in omega arith)
+]
+  where
+    here : (b : Bool) → Touched old new disk leaves dirt b → (old disk).faults ≤ (new disk).faults
+    here true t = (let e : (new disk).faults ≡ leaves.faults = ap (λ (s : Slot). s.faults) (t.done refl) in omega arith)
+    here false t = t.later refl
+
+-- a call on a disk that was not out, and what followed
+pub lasts_follow : (n : ℕ) (out new_out : Option ℕ) (old new : ℕ → Slot) (told new_told : Option Trail) (disk : ℕ) (leaves : Slot) (dirt done : Bool) (c : Call) (result : Result Bool Two)
+    → Touched old new disk leaves dirt done → leaves.faults ≡ (old disk).faults → Grows told new_told c → ((s : Trail) → told ≡ Some s → IsLawful (now s) c) → disk_of c < n
+    → Follows out new_out disk done result → Lasts n out new_out old new told new_told
+lasts_follow n out new_out old new told new_told disk leaves dirt done c result touched same grows lawful below follows = record {
+  served = Ran-call (Served n) told new_told c grows (λ s tells. ((lawful s tells, below), tt));
+  no_fall = touched_no_fall old new disk leaves dirt done touched same;
+  stays = stays result follows;
+  lost = lost result follows;
+}
+  where
+    stays : (r : Result Bool Two) → Follows out new_out disk done r → (d : ℕ) → out ≡ Some d → new_out ≡ Some d
+    stays (Ok true) f d is = f.1 ∙ is
+    stays (Ok false) f d is = absurd (none_is_not_some out d f.1 is)
+    stays (Err two) f d is = f.3 ∙ is
+
+    lost : (r : Result Bool Two) → Follows out new_out disk done r → (d : ℕ) → new_out ≡ Some d → WasLost out old new d
+    lost (Ok true) f d is = inl (sym f.1 ∙ is)
+    lost (Ok false) f d is = inr (f.1, subst (λ (k : ℕ). HasRisen (old k).faults (new k).faults) (same_some disk d (sym f.2 ∙ is)) (touched.risen f.0))
+    lost (Err two) f d is = inl (sym f.3 ∙ is)
+
+pub two_follow : (out new_out : Option ℕ) (old new : ℕ → Slot) (disk : ℕ) (leaves : Slot) (dirt done : Bool) (result : Result Bool Two)
+    → Touched old new disk leaves dirt done → out ≢ Some disk → Follows out new_out disk done result → IfErr result (IsTwo out old new)
+two_follow out new_out old new disk leaves dirt done (Ok b) touched not follows = tt
+two_follow out new_out old new disk leaves dirt done (Err two) touched not follows = record {
+  first = inl follows.1;
+  apart = λ e. not (follows.1 ∙ ap Some (e ∙ follows.2));
+  second = subst (λ (k : ℕ). HasRisen (old k).faults (new k).faults) (sym follows.2) (touched.risen follows.0);
+}

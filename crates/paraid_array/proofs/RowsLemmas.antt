@@ -1,0 +1,126 @@
+-- What a write of one cell and its parity does to the rows, and what disks of zeros hold.
+use Rattle.std.proofs.Common.{◌≡◌, ◌≢◌, ℕ, zero, suc, ◌+◌, ◌-◌, ◌*◌, ◌<◌, ◌≤◌, [], ◌∷◌, ◌++◌, Option, Some, refl, sym, ap, ◌∙◌, subst, inl, inr, arith}
+use Rattle.std.proofs.lemmas.Bool.{cases_eq}
+use Rattle.paraid_base.specs.declared.block.Block.{Block}
+use Rattle.paraid_base.specs.declared.geometry.Geometry.{Geometry}
+use Rattle.paraid_base.specs.Cells.{block_of, home_disk, home_row, parity_disk}
+use Rattle.paraid_base.specs.History.{History, held}
+use Rattle.paraid_base.specs.Regions.{hard_place_of}
+use Rattle.paraid_base.specs.Sums.{xor_upto}
+use Rattle.paraid_base.specs.Xor.{xor, zeroed}
+use Rattle.paraid_base.proofs.CellsLemmas.{block_of-home, home_disk_below, home_disk_other, home_row_below, parity_disk_below}
+use Rattle.paraid_base.proofs.HistoryLemmas.{held-none, held-other, held-written}
+use Rattle.paraid_base.proofs.SumsLemmas.{parity_kept, xor_upto_same}
+use Rattle.paraid_base.proofs.XorLemmas.{xor_upto_more, xor_upto_none, xor_zero}
+use Rattle.paraid_rack.specs.Trail.{Trail, now}
+use Rattle.paraid_array.specs.Cells.{Cells, with_cell, rewritten, RowsZero, Holds, Keeps, Stands}
+use Rattle.paraid_array.specs.Mount.{AreZeros}
+use Rattle.paraid_array.proofs.StoresLemmas.{with_cell-same, with_cell-other_row, with_cell-other_disk}
+
+module _ (n : ℕ) (cells : Cells) (r d : ℕ) (bytes : Block) where
+  p : ℕ
+  p = parity_disk n r
+
+  parity : Block
+  parity = xor (cells r (parity_disk n r)) (xor (cells r d) bytes)
+
+  rewritten-other_row : (q e : ℕ) → q ≢ r → rewritten n cells r d bytes q e ≡ cells q e
+  rewritten-other_row q e not =
+      with_cell-other_row (with_cell cells r d bytes) r (parity_disk n r) (xor (cells r (parity_disk n r)) (xor (cells r d) bytes)) q e not
+      ∙ with_cell-other_row cells r d bytes q e not
+
+  rewritten-other_disk : (q e : ℕ) → e ≢ d → e ≢ parity_disk n r → rewritten n cells r d bytes q e ≡ cells q e
+  rewritten-other_disk q e not_d not_p =
+      with_cell-other_disk (with_cell cells r d bytes) r (parity_disk n r) (xor (cells r (parity_disk n r)) (xor (cells r d) bytes)) q e not_p
+      ∙ with_cell-other_disk cells r d bytes q e not_d
+
+  rewritten-cell : d ≢ parity_disk n r → rewritten n cells r d bytes r d ≡ bytes
+  rewritten-cell not =
+      with_cell-other_disk (with_cell cells r d bytes) r (parity_disk n r) (xor (cells r (parity_disk n r)) (xor (cells r d) bytes)) r d not
+      ∙ with_cell-same cells r d bytes r d refl refl
+
+  rewritten-parity : rewritten n cells r d bytes r (parity_disk n r) ≡ xor (cells r (parity_disk n r)) (xor (cells r d) bytes)
+  rewritten-parity = with_cell-same (with_cell cells r d bytes) r (parity_disk n r) (xor (cells r (parity_disk n r)) (xor (cells r d) bytes)) r (parity_disk n r) refl refl
+
+  rewritten-zero : d < n → d ≢ parity_disk n r → xor_upto (cells r) n ≡ zeroed → xor_upto (rewritten n cells r d bytes r) n ≡ zeroed
+  rewritten-zero below not zero =
+      parity_kept (cells r) (rewritten n cells r d bytes r) d (parity_disk n r) n below (parity_disk_below n r (omega arith)) not
+      (λ e l not_d not_p. rewritten-other_disk r e not_d not_p)
+      (rewritten-parity ∙ ap (λ (b : Block). xor (cells r (parity_disk n r)) (xor (cells r d) b)) (sym (rewritten-cell not)))
+      zero
+
+-- the rows still sum to zero
+rows_rewritten : (g : Geometry) (cells : Cells) (r d : ℕ) (bytes : Block) → d < g.disks → d ≢ parity_disk g.disks r → RowsZero g cells → RowsZero g (rewritten g.disks cells r d bytes)
+rows_rewritten g cells r d bytes below not zero q lq = elim (cases_eq q r) [
+  | inl is ↦ subst (λ (k : ℕ). xor_upto (rewritten g.disks cells r d bytes k) g.disks ≡ zeroed) (sym is)
+      (rewritten-zero g.disks cells r d bytes below not (subst (λ (k : ℕ). xor_upto (cells k) g.disks ≡ zeroed) is (zero q lq)))
+  | inr other ↦ xor_upto_same (rewritten g.disks cells r d bytes q) (cells q) g.disks (λ e l. rewritten-other_row g.disks cells r d bytes q e other) ∙ zero q lq
+]
+
+-- a block has a home of its own
+one_home : (n a b : ℕ) → home_row n a ≡ home_row n b → home_disk n a ≡ home_disk n b → a ≡ b
+one_home n a b row disk =
+    sym (block_of-home n a) ∙ ap (λ (r : ℕ). block_of n r (home_disk n a)) row ∙ ap (block_of n (home_row n b)) disk ∙ block_of-home n b
+
+-- the cells hold the history with the write
+holds_rewritten : (g : Geometry) (cells : Cells) (h : History) (block : ℕ) (bytes : Block) → Holds g cells h
+    → Holds g (rewritten g.disks cells (home_row g.disks block) (home_disk g.disks block) bytes) (h ++ (block, bytes) ∷ [])
+holds_rewritten g cells h block bytes holds b below = elim (cases_eq block b) [
+  | inl is ↦
+      subst (λ (k : ℕ). rewritten n cells (home_row n block) (home_disk n block) bytes (home_row n k) (home_disk n k) ≡ held (h ++ (block, bytes) ∷ []) k) is
+      (rewritten-cell n cells (home_row n block) (home_disk n block) bytes (home_disk_other n block) ∙ sym (held-written h block bytes))
+  | inr not ↦ there not ∙ holds b below ∙ sym (held-other h block b bytes not)
+]
+  where
+    n : ℕ
+    n = g.disks
+
+    there : block ≢ b → rewritten g.disks cells (home_row g.disks block) (home_disk g.disks block) bytes (home_row g.disks b) (home_disk g.disks b) ≡ cells (home_row g.disks b) (home_disk g.disks b)
+    there not = elim (cases_eq (home_row g.disks b) (home_row g.disks block)) [
+      | inr other ↦ rewritten-other_row g.disks cells (home_row g.disks block) (home_disk g.disks block) bytes (home_row g.disks b) (home_disk g.disks b) other
+      | inl row ↦
+          rewritten-other_disk g.disks cells (home_row g.disks block) (home_disk g.disks block) bytes (home_row g.disks b) (home_disk g.disks b)
+          (λ disk. not (sym (one_home g.disks b block row disk)))
+          (λ disk. home_disk_other g.disks b (disk ∙ ap (parity_disk g.disks) (sym row)))
+    ]
+
+-- a write of a block, with its parity
+pub stands_written : (g : Geometry) (old new : Option Trail) (block row disk : ℕ) (bytes : Block) → row ≡ home_row g.disks block → disk ≡ home_disk g.disks block
+    → ((cells : Cells) → RowsZero g cells → Keeps g old cells → Keeps g new (rewritten g.disks cells row disk bytes))
+    → (h : History) → Stands g old h → Stands g new (h ++ (block, bytes) ∷ [])
+stands_written g old new block row disk bytes is_row is_disk keeps h stands =
+    let n = g.disks in
+    let low : 3 ≤ n = g.disks_low in
+    let r = home_row n block in
+    let d = home_disk n block in
+    let kept : Keeps g new (rewritten n stands.cells row disk bytes) = keeps stands.cells stands.zero stands.keeps in
+    record {
+      cells = rewritten n stands.cells r d bytes;
+      zero = rows_rewritten g stands.cells r d bytes (home_disk_below n block (omega arith)) (home_disk_other n block) stands.zero;
+      holds = holds_rewritten g stands.cells h block bytes stands.holds;
+      keeps = subst (λ (q : ℕ). Keeps g new (rewritten n stands.cells q d bytes)) is_row (subst (λ (e : ℕ). Keeps g new (rewritten n stands.cells row e bytes)) is_disk kept);
+    }
+
+-- calls that change no cell
+pub stands_kept : (g : Geometry) (old new : Option Trail) → ((cells : Cells) → Keeps g old cells → Keeps g new cells) → (h : History) → Stands g old h → Stands g new h
+stands_kept g old new keeps h stands = record { cells = stands.cells; zero = stands.zero; holds = stands.holds; keeps = keeps stands.cells stands.keeps }
+
+-- a block that was read
+pub value_held : (g : Geometry) (told : Option Trail) (block row disk : ℕ) (into : Block) → row ≡ home_row g.disks block → disk ≡ home_disk g.disks block → block < g.rows * (g.disks - 1)
+    → (h : History) → (stands : Stands g told h) → into ≡ stands.cells row disk → into ≡ held h block
+value_held g told block row disk into is_row is_disk below h stands is =
+    is ∙ ap (λ (r : ℕ). stands.cells r disk) is_row ∙ ap (λ (d : ℕ). stands.cells (home_row g.disks block) d) is_disk ∙ stands.holds block below
+
+sum_of_zeros : (n : ℕ) → xor_upto (λ d. zeroed) n ≡ zeroed
+unfolding xor_upto
+sum_of_zeros zero = refl
+sum_of_zeros (suc n) = ap (λ (b : Block). xor b zeroed) (sum_of_zeros n) ∙ xor_zero zeroed
+
+-- disks of zeros hold no write
+pub stands_zeros : (g : Geometry) (n : ℕ) (told : Option Trail) → g.disks ≡ n → AreZeros n told → Stands g told []
+stands_zeros g n told is zeros = record {
+  cells = λ r d. zeroed;
+  zero = λ r l. sum_of_zeros g.disks;
+  holds = λ b l. sym (held-none b);
+  keeps = λ t tells. record { cell = λ r d l k. record { holds = λ here. zeros t tells d (hard_place_of g r) (omega arith) } };
+}
