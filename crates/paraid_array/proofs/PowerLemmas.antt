@@ -1,5 +1,5 @@
 -- Which disks can be used after a call.
-use Rattle.std.proofs.Common.{◌≡◌, ◌≢◌, ℕ, ◌<◌, ◌≤◌, Bool, true, false, Option, Some, None, Result, Ok, Err, refl, sym, ap, ◌∙◌, subst, inl, inr, arith}
+use Rattle.std.proofs.Common.{◌≡◌, ◌≢◌, ℕ, ◌+◌, ◌<◌, ◌≤◌, Bool, true, false, Option, Some, None, Result, Ok, Err, refl, sym, ap, ◌∙◌, subst, inl, inr, arith}
 use Rattle.std.specs.Prelude.{OnOk}
 use Rattle.std.proofs.lemmas.Bool.{cases_eq}
 use Rattle.paraid_base.specs.declared.fault.Two.{Two}
@@ -53,3 +53,12 @@ pub synced_follow : (out new_out : Option ℕ) (old new : ℕ → Slot) (disk : 
 synced_follow out new_out old new disk leaves dirt done (Ok true) touched synced f = λ not. ap (λ (s : Slot). s.unsynced) (touched.done f.0) ∙ synced
 synced_follow out new_out old new disk leaves dirt done (Ok false) touched synced f = λ not. absurd (not f.2)
 synced_follow out new_out old new disk leaves dirt done (Err two) touched synced f = tt
+
+-- one more disk is synced
+pub synced_more : (out new_out : Option ℕ) (old new : ℕ → Slot) (disk : ℕ) → ((d : ℕ) → d < disk → out ≢ Some d → (old d).unsynced ≡ false) → (new_out ≢ Some disk → (new disk).unsynced ≡ false)
+    → ((d : ℕ) → d ≢ disk → new d ≡ old d) → ((d : ℕ) → out ≡ Some d → new_out ≡ Some d)
+    → (d : ℕ) → d < disk + 1 → new_out ≢ Some d → (new d).unsynced ≡ false
+synced_more out new_out old new disk before here others stays d below not = elim (cases_eq d disk) [
+  | inl is ↦ ap (λ (k : ℕ). (new k).unsynced) is ∙ here (λ e. not (e ∙ ap Some (sym is)))
+  | inr other ↦ ap (λ (s : Slot). s.unsynced) (others d other) ∙ before d (omega arith) (λ e. not (stays d e))
+]

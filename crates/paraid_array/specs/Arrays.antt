@@ -1,8 +1,14 @@
 -- What contracts see of an array.
-use Rattle.std.specs.Prelude.{ℕ, Option}
+use Rattle.std.specs.Prelude.{◌≡◌, ℕ, ◌<◌, ◌≢◌, ◌-◌, ◌*◌, length, false, Option, Some, None}
 use Rattle.paraid_base.specs.declared.geometry.Geometry.{Geometry}
 use Rattle.paraid_base.specs.declared.fault.Halt.{Halt}
+use Rattle.paraid_base.specs.History.{History}
+use Rattle.paraid_rack.specs.Slots.{Slot}
+use Rattle.paraid_rack.specs.Trail.{Trail, now}
 use Rattle.paraid_array.specs.declared.array.Array.{Array}
+use Rattle.paraid_array.specs.Cells.{Stands}
+use Rattle.paraid_array.specs.Losses.{Lasts, IsCause}
+use Rattle.paraid_array.specs.Powers.{Fits}
 
 -- the rack that it was mounted on
 abbrev pub rack_of : {R : Type 0} {g : _} → Array R g → R
@@ -10,6 +16,10 @@ rack_of array = array.rack
 
 abbrev pub geometry_of : {R : Type 0} {g : _} → Array R g → Geometry
 geometry_of array = array.geometry
+
+-- how many blocks it has
+abbrev pub count_of : {R : Type 0} {g : _} → Array R g → ℕ
+count_of array = array.geometry.rows * (array.geometry.disks - 1)
 
 -- the disk that is out
 abbrev pub out_of : {R : Type 0} {g : _} → Array R g → Option ℕ
@@ -22,3 +32,27 @@ writes_of array = array.writes
 -- the halt that each call gives from now on
 abbrev pub halted : {R : Type 0} {g : _} → Array R g → Option Halt
 halted array = array.halt
+
+-- It has accepted these writes, and its disks hold them.
+abbrev pub StandsFor : {R : Type 0} {g : _} → (R → Option Trail) → Array R g → History → Type 0
+StandsFor told array h = (array.writes ≡ length h) × Stands array.geometry (told array.rack) h
+
+-- while it has not halted, its disks can be used
+abbrev pub IsReady : {R : Type 0} {g : _} → (R → ℕ) → (R → ℕ → Slot) → Array R g → Type 0
+IsReady slot_count slot array = array.halt ≡ None → Fits array.geometry array.out (slot_count array.rack) (slot array.rack)
+
+-- what a call leaves of the disks
+abbrev pub LastsFor : {R : Type 0} {g : _} → (R → ℕ → Slot) → (R → Option Trail) → Array R g → Array R g → Type 0
+LastsFor slot told old new = Lasts old.geometry.disks old.out new.out (slot old.rack) (slot new.rack) (told old.rack) (told new.rack)
+
+-- A halt that comes in this call has a cause in it.
+abbrev pub HaltsFor : {R : Type 0} {g : _} → (R → ℕ → Slot) → Array R g → Array R g → Type 0
+HaltsFor slot old new = (halt : Halt) → old.halt ≡ None → new.halt ≡ Some halt → IsCause old.writes old.out (slot old.rack) (slot new.rack) halt
+
+-- after a halt it stays as it is, with the same halt
+abbrev pub StaysHalted : {R : Type 0} {g : _} → Array R g → Array R g → Type 0
+StaysHalted old new = (halt : Halt) → old.halt ≡ Some halt → (new.halt ≡ Some halt) × (new.rack ≡ old.rack)
+
+-- where the record is told, no block of a disk that is not out is loose
+abbrev pub IsSettled : {R : Type 0} {g : _} → (R → Option Trail) → Array R g → Type 0
+IsSettled told array = (t : Trail) → told array.rack ≡ Some t → (d p : ℕ) → d < array.geometry.disks → array.out ≢ Some d → (now t).loose d p ≡ false

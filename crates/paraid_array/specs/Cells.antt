@@ -24,6 +24,14 @@ abbrev pub rewritten : ℕ → Cells → ℕ → ℕ → Block → Cells
 rewritten n cells r d bytes =
     with_cell (with_cell cells r d bytes) r (parity_disk n r) (xor (cells r (parity_disk n r)) (xor (cells r d) bytes))
 
+-- the row and the disk of a block that there is
+pub record IsHome (g : Geometry) (b : ℕ) (at : ℕ × ℕ) : Type 0 where
+  pub below : b < g.rows * (g.disks - 1)
+  pub row : at.0 ≡ home_row g.disks b
+  pub disk : at.1 ≡ home_disk g.disks b
+  pub row_below : at.0 < g.rows
+  pub disk_below : at.1 < g.disks
+
 -- the cells of each row sum to zero
 abbrev pub RowsZero : Geometry → Cells → Type 0
 RowsZero g cells = (r : ℕ) → r < g.rows → xor_upto (cells r) g.disks ≡ zeroed

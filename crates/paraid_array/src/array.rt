@@ -1,20 +1,15 @@
-ghost use Rattle.std.specs.Prelude.{◌≡◌, ◌≢◌, ℕ, ◌+◌, ◌-◌, ◌*◌, ◌^◌, ◌<◌, ◌≤◌, ◌∷◌, ◌++◌, [], length, false, Option, Some, None, IsSome, IsNone, OnOk, IfOk, IfErr};
-ghost use Rattle.paraid_base.specs.BlockAnswers.{halt_of, flush_halt_of, RefusesMissing};
+ghost use Rattle.std.specs.Prelude.{◌≡◌, ◌≢◌, ℕ, ◌^◌, ◌<◌, ◌≤◌, [], false, Some, None, IsSome, OnOk, IfOk, IfErr};
+ghost use Rattle.paraid_base.specs.BlockAnswers.{halt_of, flush_halt_of, RefusesMissing, AfterRead, AfterWrite, AfterFlush};
 ghost use Rattle.paraid_base.specs.History.{History, held};
 ghost use Rattle.paraid_base.specs.Regions.{disk_size};
-ghost use Rattle.paraid_base.specs.declared.fault.Halt.{Halt};
-ghost use Rattle.paraid_rack.specs.Trail.{Trail, now};
-ghost use Rattle.paraid_array.specs.Cells.{Stands};
-ghost use Rattle.paraid_array.specs.Losses.{Lasts, IsCause};
 ghost use Rattle.paraid_array.specs.Mount.{AreZeros, IsMountFault};
 ghost use Rattle.paraid_array.specs.Powers.{Fits};
 
 use crate::mount::{geometry, misfit};
-use crate::row::{read_cell, write_cell};
+use crate::row::{home_of, read_cell, write_cell};
 use crate::sync::sync_all;
-use crate::{MountFault, MountRefused};
+use crate::MountRefused;
 use paraid_base::{Block, BlockFault, BlockNo, DiskNo, Geometry, Halt};
-use paraid_layout::home;
 use paraid_rack::Rack;
 
 /// An array that has accepted so many writes is worn: each call gives `Halt::Worn`.
@@ -33,8 +28,21 @@ pub struct Array<R: Rack> {
     ghost ready: { halt ≡ None → Fits geometry out (R.slot_count rack) (R.slot rack) },
 }
 
+// The halt that a call gives after this halt and so many writes, if there is one.
+fn stop(halt: Option<Halt>, writes: u64) -> Option<Halt>
+    ensures again { IsSome halt → result ≡ halt }
+    ensures worn { halt ≡ None → 2 ^ 62 ≤ writes → result ≡ Some (Halt.Worn writes) }
+    ensures fresh { halt ≡ None → writes < 2 ^ 62 → result ≡ None }
+{
+    match halt {
+        Some(halt) => Some(halt),
+        None if writes >= WORN => Some(Halt::Worn { count: writes }),
+        None => None,
+    }
+}
+
 impl<R: Rack> Array<R> {
-    ghost use Rattle.paraid_array.specs.Arrays.{rack_of, geometry_of, out_of, writes_of, halted};
+    ghost use Rattle.paraid_array.specs.Arrays.{rack_of, geometry_of, count_of, out_of, writes_of, halted, StandsFor, IsReady, LastsFor, HaltsFor, StaysHalted, IsSettled};
 
     /// Mounts an array of five disks and five rows. It makes no call of the rack.
     ///
@@ -47,14 +55,13 @@ impl<R: Rack> Array<R> {
         ensures rack { IfOk result (λ array. rack_of array ≡ rack) }
         ensures geometry { IfOk result (λ array. ((geometry_of array).disks ≡ 5)
             × ((geometry_of array).rows ≡ 5) × (disk_size (geometry_of array) ≡ 108)) }
-        ensures powers { IfOk result (λ array. Fits (geometry_of array) None
-            (R.slot_count rack) (R.slot rack)) }
+        ensures powers { IfOk result (IsReady R.slot_count R.slot) }
         ensures start { IfOk result (λ array. (out_of array ≡ None) × (writes_of array ≡ 0)
             × (halted array ≡ None)) }
 
         // On disks of zeros no block was written yet.
         ensures zeros { AreZeros 5 (R.told rack)
-            → IfOk result (λ array. Stands (geometry_of array) (R.told rack) []) }
+            → IfOk result (λ array. StandsFor R.told array []) }
     {
         let geometry = geometry();
         if let Some(fault) = misfit(&rack, &geometry) {
@@ -69,38 +76,31 @@ impl<R: Rack> Array<R> {
         })
     }
 
-    // The halt that this call and each later one gives, if there is one.
-    fn stop(&mut self) -> Option<Halt>
-        ensures result { result ≡ halted self.new }
-        ensures rack { rack_of self.new ≡ rack_of self.old }
-        ensures geometry { geometry_of self.new ≡ geometry_of self.old }
-        ensures out { out_of self.new ≡ out_of self.old }
-        ensures writes { writes_of self.new ≡ writes_of self.old }
-        ensures again { IsSome (halted self.old) → halted self.new ≡ halted self.old }
-        ensures worn { IsNone (halted self.old) → IsSome (halted self.new)
-            → (2 ^ 62 ≤ writes_of self.old)
-            × (halted self.new ≡ Some (Halt.Worn (writes_of self.old))) }
-        ensures fresh { IsNone (halted self.new) → writes_of self.old < 2 ^ 62 }
-    {
-        if self.halt.is_none() && self.writes >= WORN {
-            self.halt = Some(Halt::Worn { count: self.writes });
-        }
-        self.halt
-    }
-
     /// Reads a block: the bytes last written to it, or zeros. After a refusal `into` holds any
     /// bytes.
     pub fn read(&mut self, block: BlockNo, into: &mut Block) -> Result<(), BlockFault>
-        ensures missing { RefusesMissing
-            ((geometry_of self.old).rows * ((geometry_of self.old).disks - 1)) block result }
+        ensures missing { RefusesMissing (count_of self.old) block result }
+        ensures value { OnOk result ((h : History) → StandsFor R.told self.old h
+            → IsSome (R.told (rack_of self.new)) → into.new ≡ held h block) }
+        ensures history { (h : History) → StandsFor R.told self.old h
+            → AfterRead (StandsFor R.told self.new) h result }
+        ensures halt { halted self.new ≡ halt_of result }
+
+        ensures lasts { LastsFor R.slot R.told self.old self.new }
+        ensures powers { IsReady R.slot_count R.slot self.new }
+        ensures geometry { geometry_of self.new ≡ geometry_of self.old }
+
+        ensures again { StaysHalted self.old self.new }
+        ensures cause { HaltsFor R.slot self.old self.new }
+        ensures worn { 2 ^ 62 ≤ writes_of self.old → IsSome (halted self.new) }
     {
-        if let Some(halt) = self.stop() {
+        if let Some(halt) = stop(self.halt, self.writes) {
+            self.halt = Some(halt);
             return Err(BlockFault::Halt(halt));
         }
-        if block >= self.geometry.blocks() {
+        let Some((row, disk)) = home_of(&self.geometry, block) else {
             return Err(BlockFault::NoBlock { block });
-        }
-        let (row, disk) = home(&self.geometry, block);
+        };
         let answer = read_cell(
             &mut self.rack,
             &self.geometry,
@@ -122,16 +122,26 @@ impl<R: Rack> Array<R> {
     /// Writes a block. Ok gives the number of this write, from 1. After a halt in this call the
     /// write is not accepted.
     pub fn write(&mut self, block: BlockNo, bytes: &Block) -> Result<u64, BlockFault>
-        ensures missing { RefusesMissing
-            ((geometry_of self.old).rows * ((geometry_of self.old).disks - 1)) block result }
+        ensures missing { RefusesMissing (count_of self.old) block result }
+        ensures history { (h : History) → StandsFor R.told self.old h
+            → AfterWrite (StandsFor R.told self.new) h block bytes.now result }
+        ensures halt { halted self.new ≡ halt_of result }
+
+        ensures lasts { LastsFor R.slot R.told self.old self.new }
+        ensures powers { IsReady R.slot_count R.slot self.new }
+        ensures geometry { geometry_of self.new ≡ geometry_of self.old }
+
+        ensures again { StaysHalted self.old self.new }
+        ensures cause { HaltsFor R.slot self.old self.new }
+        ensures worn { 2 ^ 62 ≤ writes_of self.old → IsSome (halted self.new) }
     {
-        if let Some(halt) = self.stop() {
+        if let Some(halt) = stop(self.halt, self.writes) {
+            self.halt = Some(halt);
             return Err(BlockFault::Halt(halt));
         }
-        if block >= self.geometry.blocks() {
+        let Some((row, disk)) = home_of(&self.geometry, block) else {
             return Err(BlockFault::NoBlock { block });
-        }
-        let (row, disk) = home(&self.geometry, block);
+        };
         let answer = write_cell(
             &mut self.rack,
             &self.geometry,
@@ -155,9 +165,23 @@ impl<R: Rack> Array<R> {
 
     /// Syncs the disks, so that no stop takes away a write. Ok gives the number of writes.
     pub fn flush(&mut self) -> Result<u64, Halt>
+        ensures history { (h : History) → StandsFor R.told self.old h
+            → AfterFlush (StandsFor R.told self.new) h result }
+        ensures halt { halted self.new ≡ flush_halt_of result }
+        ensures settled { OnOk result (IsSettled R.told self.new) }
+        ensures synced { OnOk result ((d : ℕ) → d < (geometry_of self.new).disks
+            → out_of self.new ≢ Some d → (R.slot (rack_of self.new) d).unsynced ≡ false) }
+
+        ensures lasts { LastsFor R.slot R.told self.old self.new }
+        ensures powers { IsReady R.slot_count R.slot self.new }
         ensures geometry { geometry_of self.new ≡ geometry_of self.old }
+
+        ensures again { StaysHalted self.old self.new }
+        ensures cause { HaltsFor R.slot self.old self.new }
+        ensures worn { 2 ^ 62 ≤ writes_of self.old → IsSome (halted self.new) }
     {
-        if let Some(halt) = self.stop() {
+        if let Some(halt) = stop(self.halt, self.writes) {
+            self.halt = Some(halt);
             return Err(halt);
         }
         match sync_all(&mut self.rack, &self.geometry, &mut self.out) {

@@ -1,17 +1,28 @@
 //! Reads and writes of the cells of a row, of which one disk may be out.
-ghost use Rattle.std.specs.Prelude.{◌≡◌, ◌≢◌, ℕ, ◌+◌, ◌-◌, ◌*◌, ◌<◌, true, false, Some, IsSome, IsTrue, OnOk, IfOk, IfErr};
+ghost use Rattle.std.specs.Prelude.{◌≡◌, ◌≢◌, ℕ, ◌+◌, ◌-◌, ◌*◌, ◌<◌, ◌≤◌, true, false, Some, IsSome, IsTrue, OnOk, IfOk, IfErr, MatchOption};
 ghost use Rattle.paraid_base.specs.Cells.{parity_disk as parity_disk_of};
 ghost use Rattle.paraid_base.specs.Sums.{xor_upto, without};
 ghost use Rattle.paraid_base.specs.Xor.{xor};
-ghost use Rattle.paraid_array.specs.Cells.{Cells, Keeps, RowsZero, with_cell, rewritten};
+ghost use Rattle.paraid_array.specs.Cells.{Cells, Keeps, RowsZero, with_cell, rewritten, IsHome};
 ghost use Rattle.paraid_array.specs.Losses.{IsTwo, Lasts};
 ghost use Rattle.paraid_array.specs.Powers.{Fits};
 
 use crate::loss::{follow, is_out};
-use paraid_base::{Block, DiskNo, Geometry, Row, Two};
-use paraid_layout::{hard_place, parity_disk};
+use paraid_base::{Block, BlockNo, DiskNo, Geometry, Row, Two};
+use paraid_layout::{hard_place, home, parity_disk};
 use paraid_parity::xor_into;
 use paraid_rack::Rack;
+
+// The row and the disk of a block, or None where there is no such block.
+pub(crate) fn home_of(geometry: &Geometry, block: BlockNo) -> Option<(Row, DiskNo)>
+    ensures { MatchOption result (geometry.now.rows * (geometry.now.disks - 1) ≤ block)
+        (IsHome geometry.now block) }
+{
+    if block >= geometry.blocks() {
+        return None;
+    }
+    Some(home(geometry, block))
+}
 
 // Reads a cell from its own disk, unless that is out or fails: false.
 fn read_stored<R: Rack>(

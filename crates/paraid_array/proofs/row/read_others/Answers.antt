@@ -32,9 +32,6 @@ returns-in_err-add_cell-clause-keeps g c cells keeps = c.in_err-add_cell.ensures
 pub returns-in_err-add_cell-clause-lasts : goal.returns-in_err-add_cell-clause-lasts
 returns-in_err-add_cell-clause-lasts g c = lasts_then _ _ _ _ _ _ _ _ _ _ c.loop-disk.invariant.lasts c.in_err-add_cell.ensures.lasts
 
-pub returns-in_err-add_cell-clause-two : goal.returns-in_err-add_cell-clause-two
-returns-in_err-add_cell-clause-two g c = ?
-
 pub returns-clause-value : goal.returns-clause-value
 returns-clause-value g c cells some keeps =
     let all : c.loop-disk.disk ≡ c.args.geometry.now.disks = omega arith in

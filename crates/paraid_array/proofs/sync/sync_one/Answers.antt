@@ -8,8 +8,8 @@ use Rattle.paraid_array.proofs.sync.sync_one.Goals as goal
 pub returns-then-is_out-clause-lasts : goal.returns-then-is_out-clause-lasts
 returns-then-is_out-clause-lasts g c = lasts_none _ _ _ _
 
-pub returns-then-unsynced-clause-lasts : goal.returns-then-unsynced-clause-lasts
-returns-then-unsynced-clause-lasts g c = lasts_none _ _ _ _
+pub returns-then-not-unsynced-clause-lasts : goal.returns-then-not-unsynced-clause-lasts
+returns-then-not-unsynced-clause-lasts g c = lasts_none _ _ _ _
 
 pub returns-clause-synced : goal.returns-clause-synced
 returns-clause-synced g c = synced_follow _ _ _ _ _ _ _ _ _ c.sync-answer.ensures.slot refl c.follow.ensures
