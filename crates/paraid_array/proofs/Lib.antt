@@ -2,3 +2,4 @@ pub mod LossLemmas
 pub mod PowerLemmas
 pub mod StoresLemmas
 pub mod RowsLemmas
+pub mod MountLemmas

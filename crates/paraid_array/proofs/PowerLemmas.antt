@@ -1,13 +1,14 @@
 -- Which disks can be used after a call.
-use Rattle.std.proofs.Common.{◌≡◌, ◌≢◌, ℕ, ◌+◌, ◌<◌, ◌≤◌, Bool, true, false, Option, Some, None, Result, Ok, Err, refl, sym, ap, ◌∙◌, subst, inl, inr, arith}
+use Rattle.std.proofs.Common.{◌≡◌, ◌≢◌, ℕ, ◌+◌, ◌<◌, ◌≤◌, ◌⊎◌, Bool, true, false, Option, Some, None, Result, Ok, Err, refl, sym, ap, ◌∙◌, subst, inl, inr, arith}
 use Rattle.std.specs.Prelude.{OnOk}
-use Rattle.std.proofs.lemmas.Bool.{cases_eq}
+use Rattle.std.proofs.lemmas.Bool.{cases_eq, false≢true}
 use Rattle.paraid_base.specs.declared.fault.Two.{Two}
 use Rattle.paraid_base.specs.declared.geometry.Geometry.{Geometry}
 use Rattle.paraid_base.specs.Regions.{disk_size}
 use Rattle.paraid_rack.specs.declared.call.Power.{Power}
 use Rattle.paraid_rack.specs.declared.call.Power.TheVariants.{Spinning, Absent}
-use Rattle.paraid_rack.specs.Slots.{Slot, Touched}
+use Rattle.paraid_rack.specs.Disks.{Disks}
+use Rattle.paraid_rack.specs.Slots.{Slot, Touched, Agrees}
 use Rattle.paraid_array.specs.Losses.{Follows}
 use Rattle.paraid_array.specs.Powers.{Fits}
 use Rattle.paraid_array.proofs.LossLemmas.{same_some, none_is_not_some}
@@ -61,4 +62,15 @@ pub synced_more : (out new_out : Option ℕ) (old new : ℕ → Slot) (disk : �
 synced_more out new_out old new disk before here others stays d below not = elim (cases_eq d disk) [
   | inl is ↦ ap (λ (k : ℕ). (new k).unsynced) is ∙ here (λ e. not (e ∙ ap Some (sym is)))
   | inr other ↦ ap (λ (s : Slot). s.unsynced) (others d other) ∙ before d (omega arith) (λ e. not (stays d e))
+]
+
+cases_bool : (b : Bool) → (b ≡ true) ⊎ (b ≡ false)
+cases_bool true = inl refl
+cases_bool false = inr refl
+
+-- no block of a synced disk is loose
+pub dry_of_synced : (slot : ℕ → Slot) (s : Disks) (d p : ℕ) → Agrees s slot → (slot d).unsynced ≡ false → s.loose d p ≡ false
+dry_of_synced slot s d p agrees synced = elim (cases_bool (s.loose d p)) [
+  | inl loose ↦ absurd (false≢true (sym synced ∙ agrees.loose d p loose))
+  | inr dry ↦ dry
 ]

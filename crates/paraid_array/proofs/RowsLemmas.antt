@@ -18,12 +18,6 @@ use Rattle.paraid_array.specs.Mount.{AreZeros}
 use Rattle.paraid_array.proofs.StoresLemmas.{with_cell-same, with_cell-other_row, with_cell-other_disk}
 
 module _ (n : ℕ) (cells : Cells) (r d : ℕ) (bytes : Block) where
-  p : ℕ
-  p = parity_disk n r
-
-  parity : Block
-  parity = xor (cells r (parity_disk n r)) (xor (cells r d) bytes)
-
   rewritten-other_row : (q e : ℕ) → q ≢ r → rewritten n cells r d bytes q e ≡ cells q e
   rewritten-other_row q e not =
       with_cell-other_row (with_cell cells r d bytes) r (parity_disk n r) (xor (cells r (parity_disk n r)) (xor (cells r d) bytes)) q e not
@@ -43,18 +37,18 @@ module _ (n : ℕ) (cells : Cells) (r d : ℕ) (bytes : Block) where
   rewritten-parity = with_cell-same (with_cell cells r d bytes) r (parity_disk n r) (xor (cells r (parity_disk n r)) (xor (cells r d) bytes)) r (parity_disk n r) refl refl
 
   rewritten-zero : d < n → d ≢ parity_disk n r → xor_upto (cells r) n ≡ zeroed → xor_upto (rewritten n cells r d bytes r) n ≡ zeroed
-  rewritten-zero below not zero =
+  rewritten-zero below not sums =
       parity_kept (cells r) (rewritten n cells r d bytes r) d (parity_disk n r) n below (parity_disk_below n r (omega arith)) not
       (λ e l not_d not_p. rewritten-other_disk r e not_d not_p)
       (rewritten-parity ∙ ap (λ (b : Block). xor (cells r (parity_disk n r)) (xor (cells r d) b)) (sym (rewritten-cell not)))
-      zero
+      sums
 
 -- the rows still sum to zero
 rows_rewritten : (g : Geometry) (cells : Cells) (r d : ℕ) (bytes : Block) → d < g.disks → d ≢ parity_disk g.disks r → RowsZero g cells → RowsZero g (rewritten g.disks cells r d bytes)
-rows_rewritten g cells r d bytes below not zero q lq = elim (cases_eq q r) [
+rows_rewritten g cells r d bytes below not sums q lq = elim (cases_eq q r) [
   | inl is ↦ subst (λ (k : ℕ). xor_upto (rewritten g.disks cells r d bytes k) g.disks ≡ zeroed) (sym is)
-      (rewritten-zero g.disks cells r d bytes below not (subst (λ (k : ℕ). xor_upto (cells k) g.disks ≡ zeroed) is (zero q lq)))
-  | inr other ↦ xor_upto_same (rewritten g.disks cells r d bytes q) (cells q) g.disks (λ e l. rewritten-other_row g.disks cells r d bytes q e other) ∙ zero q lq
+      (rewritten-zero g.disks cells r d bytes below not (subst (λ (k : ℕ). xor_upto (cells k) g.disks ≡ zeroed) is (sums q lq)))
+  | inr other ↦ xor_upto_same (rewritten g.disks cells r d bytes q) (cells q) g.disks (λ e l. rewritten-other_row g.disks cells r d bytes q e other) ∙ sums q lq
 ]
 
 -- a block has a home of its own

@@ -101,16 +101,16 @@ pub some_told : (o : Option Trail) → IsSome o → (t : Trail) × (o ≡ Some t
 some_told (Some t) is = (t, refl)
 some_told None is = absurd (false≢true is)
 
-is_some : (o : Option Trail) (t : Trail) → o ≡ Some t → IsSome o
-is_some (Some s) t is = refl
-is_some None t is = cc
+pub told_some : (o : Option Trail) (t : Trail) → o ≡ Some t → IsSome o
+told_some (Some s) t is = refl
+told_some None t is = cc
 
 -- what is told after a part of the program was told before it
 pub told_before : (Q : Disks → List Call → Type 0) (old new : Option Trail) → Ran old new Q → IsSome new → IsSome old
 told_before Q old new ran is =
     let t = some_told new is in
     let came = ran t.0 t.1 in
-    is_some old came.from came.was
+    told_some old came.from came.was
 
 -- a cell that was read from its disk
 pub read_value : (g : Geometry) (old new : Option Trail) (r d p : ℕ) (done : Bool) (into : Block) → p ≡ hard_place_of g r → r < g.rows → d < g.disks → Grows old new (Read d p done)

@@ -1,0 +1,6 @@
+use Rattle.std.proofs.Common.{refl}
+use Rattle.paraid_array.proofs.RowsLemmas.{stands_zeros}
+use Rattle.paraid_array.proofs.array.Array.mount.Goals as goal
+
+pub returns-clause-zeros : goal.returns-clause-zeros
+returns-clause-zeros g c zeros = (refl, stands_zeros c.geometry-geometry.result 5 (g.R.Rack.told c.args.rack) c.geometry-geometry.ensures.disks zeros)
