@@ -7,10 +7,10 @@ use Rattle.paraid_base.specs.Told.{HasRisen}
 use Rattle.paraid_base.proofs.ToldLemmas.{HasRisen-later, HasRisen-sooner}
 use Rattle.paraid_rack.specs.declared.call.Power.TheVariants.{Spinning}
 use Rattle.paraid_rack.specs.declared.call.Call.{Call}
-use Rattle.paraid_rack.specs.Disks.{Disks, step, is_present, IsPresent}
+use Rattle.paraid_rack.specs.Disks.{Disks, step}
 use Rattle.paraid_rack.specs.Lawful.{IsLawful}
 use Rattle.paraid_rack.specs.Slots.{Slot, Touched, Agrees}
-use Rattle.paraid_rack.specs.Told.{Grows, Ran}
+use Rattle.paraid_rack.specs.Told.{Grows}
 use Rattle.paraid_rack.specs.Trail.{Trail, now, run}
 use Rattle.paraid_rack.proofs.TrailsLemmas.{Ran-none, Ran-call, Ran-then}
 use Rattle.paraid_array.specs.Losses.{disk_of, Served, WasLost, Lasts, IsTwo, Follows}

@@ -1,5 +1,5 @@
 -- What a write of one cell and its parity does to the rows, and what disks of zeros hold.
-use Rattle.std.proofs.Common.{◌≡◌, ◌≢◌, ℕ, zero, suc, ◌+◌, ◌-◌, ◌*◌, ◌<◌, ◌≤◌, [], ◌∷◌, ◌++◌, Option, Some, refl, sym, ap, ◌∙◌, subst, inl, inr, arith}
+use Rattle.std.proofs.Common.{◌≡◌, ◌≢◌, ℕ, zero, suc, ◌-◌, ◌*◌, ◌<◌, ◌≤◌, [], ◌∷◌, ◌++◌, Option, refl, sym, ap, ◌∙◌, subst, inl, inr, arith}
 use Rattle.std.proofs.lemmas.Bool.{cases_eq}
 use Rattle.paraid_base.specs.declared.block.Block.{Block}
 use Rattle.paraid_base.specs.declared.geometry.Geometry.{Geometry}
@@ -8,11 +8,11 @@ use Rattle.paraid_base.specs.History.{History, held}
 use Rattle.paraid_base.specs.Regions.{hard_place_of}
 use Rattle.paraid_base.specs.Sums.{xor_upto}
 use Rattle.paraid_base.specs.Xor.{xor, zeroed}
-use Rattle.paraid_base.proofs.CellsLemmas.{block_of-home, home_disk_below, home_disk_other, home_row_below, parity_disk_below}
+use Rattle.paraid_base.proofs.CellsLemmas.{block_of-home, home_disk_below, home_disk_other, parity_disk_below}
 use Rattle.paraid_base.proofs.HistoryLemmas.{held-none, held-other, held-written}
 use Rattle.paraid_base.proofs.SumsLemmas.{parity_kept, xor_upto_same}
-use Rattle.paraid_base.proofs.XorLemmas.{xor_upto_more, xor_upto_none, xor_zero}
-use Rattle.paraid_rack.specs.Trail.{Trail, now}
+use Rattle.paraid_base.proofs.XorLemmas.{xor_zero}
+use Rattle.paraid_rack.specs.Trail.{Trail}
 use Rattle.paraid_array.specs.Cells.{Cells, with_cell, rewritten, RowsZero, Holds, Keeps, Stands}
 use Rattle.paraid_array.specs.Mount.{AreZeros}
 use Rattle.paraid_array.proofs.StoresLemmas.{with_cell-same, with_cell-other_row, with_cell-other_disk}

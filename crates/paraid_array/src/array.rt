@@ -5,10 +5,10 @@ ghost use Rattle.paraid_base.specs.Regions.{disk_size};
 ghost use Rattle.paraid_array.specs.Mount.{AreZeros, IsMountFault};
 ghost use Rattle.paraid_array.specs.Powers.{Fits};
 
+use crate::MountRefused;
 use crate::mount::{geometry, misfit};
 use crate::row::{home_of, read_cell, write_cell};
 use crate::sync::sync_all;
-use crate::MountRefused;
 use paraid_base::{Block, BlockFault, BlockNo, DiskNo, Geometry, Halt};
 use paraid_rack::Rack;
 

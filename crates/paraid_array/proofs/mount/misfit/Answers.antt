@@ -1,14 +1,17 @@
-use Rattle.std.proofs.Common.{◌≡◌, ℕ, ◌<◌, ◌≤◌, arith}
+use Rattle.std.proofs.Common.{◌≡◌, arith}
 use Rattle.paraid_array.proofs.MountLemmas.{fits_found}
 use Rattle.paraid_array.proofs.mount.misfit.Goals as goal
 
 pub returns-then-found-needed : goal.returns-then-found-needed
-returns-then-found-needed g c = (c.size-needed.ensures, record {
-  below = omega arith;
-  found_there = c.found-found.ensures;
-  few = c.if-found-needed.true;
-  before = c.loop-disk.invariant;
-})
+returns-then-found-needed g c = (
+  c.size-needed.ensures,
+  record {
+    below = omega arith;
+    found_there = c.found-found.ensures;
+    few = c.if-found-needed.true;
+    before = c.loop-disk.invariant;
+  },
+)
 
 pub returns : goal.returns
 returns g c =

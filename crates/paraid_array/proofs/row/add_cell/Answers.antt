@@ -1,4 +1,4 @@
-use Rattle.std.proofs.Common.{◌≡◌, ◌≢◌, ℕ, ◌∙◌, Option, Some, Bool, true, false, Result, Ok, Err, refl, sym, ap}
+use Rattle.std.proofs.Common.{◌≡◌, ◌≢◌, ◌∙◌, Some, true, Ok, Err, refl, sym, ap}
 use Rattle.paraid_base.specs.declared.fault.Two.{Two}
 use Rattle.paraid_base.proofs.SumsLemmas.{others_read, others_skip}
 use Rattle.paraid_rack.specs.Disks.{is_present}
@@ -29,9 +29,9 @@ returns-clause-value g c cells some keeps is =
     let rack = c.args.rack.now in
     let not : Some c.args.out ≢ Some c.args.disk = λ e. c.if-disk-out.false (sym (same_some _ _ e)) in
     let cell : c.read.new.into ≡ cells c.args.row c.args.disk = read_value c.args.geometry.now _ _ c.args.row c.args.disk _ _ _ c.hard_place-place.ensures.value c.requires.row c.requires.disk
-      c.in-Ok.ensures.told c.in-Ok.ensures.bytes
-      (λ t tells. ap is_present (spins_told (g.R.Rack.told rack) (g.R.Rack.slot rack) _ (g.met.R.Rack.agrees rack) (c.requires.fits.spins c.args.disk c.requires.disk not) t tells))
-      cells some keeps in
+    c.in-Ok.ensures.told c.in-Ok.ensures.bytes
+    (λ t tells. ap is_present (spins_told (g.R.Rack.told rack) (g.R.Rack.slot rack) _ (g.met.R.Rack.agrees rack) (c.requires.fits.spins c.args.disk c.requires.disk not) t tells))
+    cells some keeps in
     others_read (cells c.args.row) c.args.out c.args.disk _ _ _ c.if-disk-out.false is cell c.xor_into.ensures
 
 pub returns-clause-keeps : goal.returns-clause-keeps

@@ -1,4 +1,4 @@
-use Rattle.std.proofs.Common.{◌≡◌, ◌∙◌, ap, sym}
+use Rattle.std.proofs.Common.{◌≡◌}
 use Rattle.paraid_base.specs.Cells.{parity_disk as parity_disk_of}
 use Rattle.paraid_base.specs.Xor.{xor}
 use Rattle.paraid_array.proofs.LossLemmas.{lasts_then}

@@ -12,7 +12,7 @@ returns-in_err-read_others-clause-lasts g c =
     let out : c.read_stored.new.out ≡ Some c.args.disk = c.in_ok-read_stored.ensures.out c.if-branch.false in
     lasts_then _ _ _ _ _ _ _ _ _ _ c.read_stored.ensures.lasts
     (subst (λ (o : Option ℕ). Lasts c.args.geometry.now.disks o o (g.R.Rack.slot c.read_stored.new.rack) (g.R.Rack.slot c.read_others.new.rack)
-      (g.R.Rack.told c.read_stored.new.rack) (g.R.Rack.told c.read_others.new.rack)) (sym out) c.read_others.ensures.lasts)
+    (g.R.Rack.told c.read_stored.new.rack) (g.R.Rack.told c.read_others.new.rack)) (sym out) c.read_others.ensures.lasts)
 
 pub returns-clause-value : goal.returns-clause-value
 returns-clause-value g c cells zero some keeps =
@@ -27,4 +27,4 @@ returns-clause-lasts g c =
     let out : c.read_stored.new.out ≡ Some c.args.disk = c.in_ok-read_stored.ensures.out c.if-branch.false in
     lasts_then _ _ _ _ _ _ _ _ _ _ c.read_stored.ensures.lasts
     (subst (λ (o : Option ℕ). Lasts c.args.geometry.now.disks o o (g.R.Rack.slot c.read_stored.new.rack) (g.R.Rack.slot c.read_others.new.rack)
-      (g.R.Rack.told c.read_stored.new.rack) (g.R.Rack.told c.read_others.new.rack)) (sym out) c.read_others.ensures.lasts)
+    (g.R.Rack.told c.read_stored.new.rack) (g.R.Rack.told c.read_others.new.rack)) (sym out) c.read_others.ensures.lasts)

@@ -1,9 +1,7 @@
-use Rattle.std.proofs.Common.{◌≡◌, ℕ, ◌∙◌, ap, sym, arith}
-use Rattle.paraid_base.specs.declared.block.Block.{Block}
+use Rattle.std.proofs.Common.{◌≡◌, ◌∙◌, ap, arith}
 use Rattle.paraid_base.specs.Sums.{xor_upto, without}
 use Rattle.paraid_base.proofs.SumsLemmas.{others_none}
-use Rattle.paraid_array.specs.Losses.{Served}
-use Rattle.paraid_array.proofs.LossLemmas.{lasts_none, lasts_then, two_then}
+use Rattle.paraid_array.proofs.LossLemmas.{lasts_none, lasts_then}
 use Rattle.paraid_array.proofs.StoresLemmas.{told_before}
 use Rattle.paraid_array.proofs.row.read_others.Goals as goal
 

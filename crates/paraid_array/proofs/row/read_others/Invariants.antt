@@ -1,4 +1,4 @@
-use Rattle.std.proofs.Common.{◌≡◌, ℕ, Some}
+use Rattle.std.proofs.Common.{◌≡◌, Some}
 use Rattle.std.specs.Prelude.{IsSome}
 use Rattle.paraid_base.specs.Sums.{xor_upto, without}
 use Rattle.paraid_array.specs.Cells.{Cells, Keeps}

@@ -1,5 +1,4 @@
-use Rattle.std.proofs.Common.{◌≡◌, ◌≢◌, ℕ, ◌∙◌, Some, refl, sym, ap}
-use Rattle.std.specs.Prelude.{is_ok}
+use Rattle.std.proofs.Common.{◌≢◌, ◌∙◌, Some, refl, sym, ap}
 use Rattle.std.proofs.lemmas.Bool.{false≢true}
 use Rattle.paraid_rack.specs.Disks.{is_present}
 use Rattle.paraid_array.proofs.LossLemmas.{lasts_none, lasts_follow, two_follow, spins_told}

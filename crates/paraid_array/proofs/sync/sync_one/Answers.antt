@@ -1,4 +1,4 @@
-use Rattle.std.proofs.Common.{◌≡◌, ◌≢◌, ℕ, ◌∙◌, Some, refl, sym, ap}
+use Rattle.std.proofs.Common.{◌≢◌, ◌∙◌, Some, refl, sym}
 use Rattle.std.proofs.lemmas.Bool.{false≢true}
 use Rattle.paraid_array.proofs.LossLemmas.{lasts_none, lasts_follow, two_follow, spins_told}
 use Rattle.paraid_array.proofs.PowerLemmas.{fits_follow, synced_follow}

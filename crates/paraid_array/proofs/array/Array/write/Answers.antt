@@ -1,4 +1,4 @@
-use Rattle.std.proofs.Common.{◌≡◌, ◌+◌, ◌∷◌, [], arith, length, length-append}
+use Rattle.std.proofs.Common.{◌≡◌, ◌∷◌, [], arith, length, length-append}
 use Rattle.paraid_array.proofs.RowsLemmas.{stands_written}
 use Rattle.paraid_array.proofs.array.Array.write.Goals as goal
 
@@ -11,6 +11,6 @@ returns-in-Ok-clause-history g c h stands =
       (
         omega arith,
         stands_written c.args.self.now.geometry (g.R.Rack.told c.args.self.now.rack) (g.R.Rack.told c.write_cell-answer.new.rack) c.args.block c.in-Some-home_of.row c.in-Some-home_of.disk
-        c.args.bytes.now home.row home.disk c.in-Ok.ensures.keeps h stands.1,
+            c.args.bytes.now home.row home.disk c.in-Ok.ensures.keeps h stands.1,
       ),
     )
