@@ -3,3 +3,4 @@ pub mod PowerLemmas
 pub mod StoresLemmas
 pub mod RowsLemmas
 pub mod MountLemmas
+pub mod KeptLemmas

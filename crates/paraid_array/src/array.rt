@@ -1,7 +1,8 @@
-ghost use Rattle.std.specs.Prelude.{◌≡◌, ◌≢◌, ℕ, ◌^◌, ◌<◌, ◌≤◌, [], false, Some, None, IsSome, OnOk, IfOk, IfErr};
+ghost use Rattle.std.specs.Prelude.{◌≡◌, ◌≢◌, ℕ, ◌+◌, ◌^◌, ◌<◌, ◌≤◌, [], false, Some, None, IsSome, OnOk, OnErr, IfOk, IfErr};
 ghost use Rattle.paraid_base.specs.BlockAnswers.{halt_of, flush_halt_of, RefusesMissing, AfterRead, AfterWrite, AfterFlush};
 ghost use Rattle.paraid_base.specs.History.{History, held};
 ghost use Rattle.paraid_base.specs.Regions.{disk_size};
+ghost use Rattle.paraid_array.specs.Kept.{Kept};
 ghost use Rattle.paraid_array.specs.Mount.{AreZeros, IsMountFault};
 ghost use Rattle.paraid_array.specs.Powers.{Fits};
 
@@ -62,6 +63,8 @@ impl<R: Rack> Array<R> {
         // On disks of zeros no block was written yet.
         ensures zeros { AreZeros 5 (R.told rack)
             → IfOk result (λ array. StandsFor R.told array []) }
+        ensures kept { AreZeros 5 (R.told rack)
+            → IfOk result (λ array. Kept (count_of array) (halted array) (StandsFor R.told array) []) }
     {
         let geometry = geometry();
         if let Some(fault) = misfit(&rack, &geometry) {
@@ -76,6 +79,13 @@ impl<R: Rack> Array<R> {
         })
     }
 
+    /// The number of blocks.
+    pub fn blocks(&self) -> u32
+        ensures { result ≡ count_of self.now }
+    {
+        self.geometry.blocks()
+    }
+
     /// Reads a block: the bytes last written to it, or zeros. After a refusal `into` holds any
     /// bytes.
     pub fn read(&mut self, block: BlockNo, into: &mut Block) -> Result<(), BlockFault>
@@ -85,6 +95,7 @@ impl<R: Rack> Array<R> {
         ensures history { (h : History) → StandsFor R.told self.old h
             → AfterRead (StandsFor R.told self.new) h result }
         ensures halt { halted self.new ≡ halt_of result }
+        ensures writes { writes_of self.new ≡ writes_of self.old }
 
         ensures lasts { LastsFor R.slot R.told self.old self.new }
         ensures powers { IsReady R.slot_count R.slot self.new }
@@ -126,6 +137,9 @@ impl<R: Rack> Array<R> {
         ensures history { (h : History) → StandsFor R.told self.old h
             → AfterWrite (StandsFor R.told self.new) h block bytes.now result }
         ensures halt { halted self.new ≡ halt_of result }
+        ensures number { IfOk result (λ number. (number ≡ writes_of self.old + 1)
+            × (writes_of self.new ≡ number)) }
+        ensures refused { OnErr result (writes_of self.new ≡ writes_of self.old) }
 
         ensures lasts { LastsFor R.slot R.told self.old self.new }
         ensures powers { IsReady R.slot_count R.slot self.new }
@@ -168,6 +182,8 @@ impl<R: Rack> Array<R> {
         ensures history { (h : History) → StandsFor R.told self.old h
             → AfterFlush (StandsFor R.told self.new) h result }
         ensures halt { halted self.new ≡ flush_halt_of result }
+        ensures number { IfOk result (λ number. number ≡ writes_of self.old) }
+        ensures writes { writes_of self.new ≡ writes_of self.old }
         ensures settled { OnOk result (IsSettled R.told self.new) }
         ensures synced { OnOk result ((d : ℕ) → d < (geometry_of self.new).disks
             → out_of self.new ≢ Some d → (R.slot (rack_of self.new) d).unsynced ≡ false) }

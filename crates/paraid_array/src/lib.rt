@@ -7,6 +7,7 @@
 #![tactic(auto)]
 
 mod array;
+mod device;
 mod fault;
 mod loss;
 mod mount;

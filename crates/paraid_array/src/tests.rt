@@ -1,5 +1,5 @@
 use crate::{Array, MountFault, MountRefused};
-use paraid_base::{Block, BlockFault, BlockNo, Halt, Two};
+use paraid_base::{Block, BlockFault, BlockNo, Blocks, Halt, Two};
 use paraid_memrack::{MemRack, Planned};
 use paraid_rack::Rack;
 use std::process::Abort;
@@ -83,6 +83,34 @@ fn a_second_lost_disk_halts_every_call(rt: HostRuntime) {
     // Five attaches, the failed read of disk 2, the reads of disks 0 and 1, and the failed one.
     let rack = array.unmount();
     assert_eq!(rt; rack.calls(), 9);
+}
+
+// Writes a block to a device, and reads it back.
+fn written_and_read<B: Blocks>(
+    device: &mut B,
+    block: BlockNo,
+    bytes: &Block,
+    into: &mut Block,
+) -> Result<u64, BlockFault> {
+    let number = device.write(block, bytes)?;
+    device.read(block, into)?;
+    Ok(number)
+}
+
+fn flushed<B: Blocks>(device: &mut B) -> (u32, Result<u64, Halt>) {
+    (device.blocks(), device.flush())
+}
+
+#[test]
+fn an_array_is_a_block_device(rt: HostRuntime) {
+    let none = Planned::AtCall(999);
+    let mut array = mounted(&rt, Planned::OnDisk { disk: 1, nth: 1 }, none);
+    let bytes = Block::from_array([0x5a; 512]);
+    let mut into = Block::zero();
+    assert_eq!(rt; written_and_read(&mut array, 19, &bytes, &mut into), Ok(1));
+    let last = into.bytes[511];
+    assert_eq!(rt; last, 0x5a);
+    assert_eq!(rt; flushed(&mut array), (20, Ok(1)));
 }
 
 #[test]

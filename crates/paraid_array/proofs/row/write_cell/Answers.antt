@@ -1,9 +1,9 @@
-use Rattle.std.proofs.Common.{◌≡◌, ℕ, subst}
-use Rattle.paraid_base.specs.declared.block.Block.{Block}
+use Rattle.std.proofs.Common.{◌≡◌}
 use Rattle.paraid_base.specs.Cells.{parity_disk as parity_disk_of}
 use Rattle.paraid_rack.specs.Trail.{now}
 use Rattle.paraid_array.specs.Cells.{Cells, with_cell, Stores}
 use Rattle.paraid_array.proofs.LossLemmas.{lasts_then}
+use Rattle.paraid_array.proofs.RowsLemmas.{stores_rewritten}
 use Rattle.paraid_array.proofs.StoresLemmas.{told_before, told_some}
 use Rattle.paraid_array.proofs.row.write_cell.Goals as goal
 
@@ -23,8 +23,7 @@ returns-clause-keeps g c cells zero keeps t tells =
     let stored : Stores c.args.geometry.now (now t) (with_cell written row c.parity_disk.result c.new_parity.new.into) =
     c.put-2.ensures.keeps written (c.put.ensures.keeps cells (c.new_parity.ensures.keeps cells keeps)) t tells in
     let disk : c.parity_disk.result ≡ parity_disk_of c.args.geometry.now.disks row = c.parity_disk.ensures.value in
-    subst (λ (b : Block). Stores c.args.geometry.now (now t) (with_cell written row (parity_disk_of c.args.geometry.now.disks row) b)) parity
-    (subst (λ (d : ℕ). Stores c.args.geometry.now (now t) (with_cell written row d c.new_parity.new.into)) disk stored)
+    stores_rewritten c.args.geometry.now (now t) c.args.geometry.now.disks cells row c.args.disk c.parity_disk.result c.args.bytes.now c.new_parity.new.into disk parity stored
 
 pub returns-clause-lasts : goal.returns-clause-lasts
 returns-clause-lasts g c =

@@ -1,0 +1,31 @@
+-- The events that an array was asked for, with its answers, since it stood for no write.
+use Rattle.std.specs.Prelude.{◌≡◌, ℕ, ◌+◌, ◌<◌, ◌≤◌, [], ◌∷◌, ◌++◌, length, Option, Some, None}
+use Rattle.paraid_base.specs.declared.block.Block.{Block}
+use Rattle.paraid_base.specs.declared.event.Answer.TheVariants.{Value, NoBlock, Wrote, Flushed, Halted}
+use Rattle.paraid_base.specs.declared.event.Event.{Event}
+use Rattle.paraid_base.specs.declared.event.Event.TheVariants.{Read, Write, Flush}
+use Rattle.paraid_base.specs.declared.fault.Halt.{Halt}
+use Rattle.paraid_base.specs.BlockAnswers.{Answers}
+use Rattle.paraid_base.specs.History.{History, held}
+
+-- Events of a device of so many blocks: the writes that were accepted, the halt, and the answers.
+pub data Session (count : ℕ) : History → Option Halt → Answers → Type 0 where
+  begun : Session count [] None []
+  -- a read gives what the writes before it left
+  read : (h : History) (events : Answers) (b : ℕ) → b < count → Session count h None events → Session count h None (events ++ (Read b, Value b (held h b)) ∷ [])
+  -- a write is accepted and gives its number
+  write : (h : History) (events : Answers) (b : ℕ) (bytes : Block) → b < count → Session count h None events
+      → Session count (h ++ (b, bytes) ∷ []) None (events ++ (Write b bytes, Wrote (length h + 1)) ∷ [])
+  flush : (h : History) (events : Answers) → Session count h None events → Session count h None (events ++ (Flush, Flushed (length h)) ∷ [])
+  -- there is no such block
+  no_read : (h : History) (events : Answers) (b : ℕ) → count ≤ b → Session count h None events → Session count h None (events ++ (Read b, NoBlock b) ∷ [])
+  no_write : (h : History) (events : Answers) (b : ℕ) (bytes : Block) → count ≤ b → Session count h None events → Session count h None (events ++ (Write b bytes, NoBlock b) ∷ [])
+  -- any event may meet a halt, and each later one is answered with it
+  halts : (h : History) (events : Answers) (event : Event) (halt : Halt) → Session count h None events → Session count h (Some halt) (events ++ (event, Halted halt) ∷ [])
+  halts_again : (h : History) (events : Answers) (event : Event) (halt : Halt) → Session count h (Some halt) events → Session count h (Some halt) (events ++ (event, Halted halt) ∷ [])
+
+-- These events were answered, and until a halt the writes that were accepted are stood for.
+pub record Kept (count : ℕ) (halt : Option Halt) (holds : History → Type 0) (events : Answers) : Type 0 where
+  pub accepted : History
+  pub session : Session count accepted halt events
+  pub stands : halt ≡ None → holds accepted
