@@ -1,0 +1,46 @@
+//! The setup that a table says.
+
+use crate::list::{gears, windows};
+use crate::number::{mode, number};
+use crate::unknown::first_unknown;
+use crate::{ConfigFault, Key};
+use paraid_base::Geometry;
+use paraid_record::Setup;
+use std::alloc::Global;
+use toml::Table;
+
+/// The setup that a table says.
+pub fn setup_of(alloc: Global, table: &Table) -> Result<Setup, ConfigFault> {
+    if let Some(at) = first_unknown(table) {
+        return Err(ConfigFault::Unknown { at });
+    }
+    let disks = number(table, Key::Disks)? as u8;
+    let rows = number(table, Key::Rows)?;
+    let gears = gears(alloc, table)?;
+    let mode = mode(table)?;
+    let rate = number(table, Key::Rate)?;
+    let service = number(table, Key::Service)?;
+    let up = number(table, Key::Up)? as u8;
+    let down = number(table, Key::Down)? as u8;
+    let windows = windows(alloc, table)?;
+    let ration = number(table, Key::Ration)? as u16;
+    let spinning_mj = number(table, Key::SpinningMj)?;
+    let parked_mj = number(table, Key::ParkedMj)?;
+    let spinup_mj = number(table, Key::SpinupMj)?;
+    match Geometry::new(disks, rows, &gears) {
+        Ok(geometry) => Ok(Setup {
+            geometry,
+            mode,
+            rate,
+            service,
+            up,
+            down,
+            windows,
+            ration,
+            spinning_mj,
+            parked_mj,
+            spinup_mj,
+        }),
+        Err(fault) => Err(ConfigFault::Geometry(fault)),
+    }
+}
