@@ -14,6 +14,7 @@ mod setup;
 #[cfg(test)]
 mod tests;
 mod unknown;
+mod value;
 
 pub use fault::ConfigFault;
 pub use key::Key;

@@ -1,11 +1,25 @@
 //! The values that are one number or one word.
 
+ghost use Rattle.std.specs.Prelude.{◌≡◌, ℕ, ◌≤◌, pos, Some, None, IfOk, IfErr, OnOk, MatchOption};
+ghost use Rattle.toml.specs.Data.{string};
+ghost use Rattle.toml.specs.View.{table_view};
+ghost use Rattle.paraid_config.specs.declared.key.Key.TheVariants as key;
+ghost use Rattle.paraid_config.specs.Keys.{low_of, high_of};
+ghost use Rattle.paraid_config.specs.Values.{range_fault, number_fault, mode_fault, mode_fault_in, mode_name, value_at, IsNumberAt};
+
+use crate::value::{integer_at, word_at};
 use crate::{ConfigFault, Key};
 use paraid_record::Mode;
-use toml::{Table, Value};
+use toml::Table;
 
 /// The number, if it is in the range of the key.
-pub fn in_range(key: Key, value: i64) -> Result<u32, ConfigFault> {
+pub fn in_range(key: Key, value: i64) -> Result<u32, ConfigFault>
+    ensures value { IfOk result (λ n. value ≡ pos n) }
+    ensures low { IfOk result (λ n. low_of key ≤ n) }
+    ensures high { IfOk result (λ n. n ≤ high_of key) }
+    ensures accepted { OnOk result (range_fault key value ≡ None) }
+    ensures err { IfErr result (λ fault. range_fault key value ≡ Some fault) }
+{
     let (low, high) = key.limits();
     if value < low as i64 || value > high as i64 {
         return Err(ConfigFault::Range { key, value });
@@ -14,18 +28,25 @@ pub fn in_range(key: Key, value: i64) -> Result<u32, ConfigFault> {
 }
 
 /// The number at a key.
-pub fn number(table: &Table, key: Key) -> Result<u32, ConfigFault> {
-    let Some(value) = table.get(key.name()) else {
-        return Err(ConfigFault::Missing { key });
-    };
-    let Some(value) = value.as_integer() else {
-        return Err(ConfigFault::Kind { key });
-    };
-    in_range(key, value)
+pub fn number(table: &Table, key: Key) -> Result<u32, ConfigFault>
+    ensures value { IfOk result (λ n. IsNumberAt (table_view table.now) key n) }
+    ensures low { IfOk result (λ n. low_of key ≤ n) }
+    ensures high { IfOk result (λ n. n ≤ high_of key) }
+    ensures accepted { OnOk result (number_fault (table_view table.now) key ≡ None) }
+    ensures err { IfErr result (λ fault. number_fault (table_view table.now) key ≡ Some fault) }
+{
+    match integer_at(table, key) {
+        Ok(value) => in_range(key, value),
+        Err(fault) => Err(fault),
+    }
 }
 
 /// The mode that a word names.
-fn mode_named(word: &str) -> Option<Mode> {
+fn mode_named(word: &str) -> Option<Mode>
+    ensures { MatchOption result
+        (mode_fault_in (Some (string word.now)) ≡ Some (ConfigFault.Kind key.Mode))
+        (λ mode. (word.now ≡ mode_name mode) × (mode_fault_in (Some (string word.now)) ≡ None)) }
+{
     if word == "whole" {
         Some(Mode::Whole)
     } else if word == "access" {
@@ -36,16 +57,17 @@ fn mode_named(word: &str) -> Option<Mode> {
 }
 
 /// The mode at its key.
-pub fn mode(table: &Table) -> Result<Mode, ConfigFault> {
-    let key = Key::Mode;
-    let Some(value) = table.get(key.name()) else {
-        return Err(ConfigFault::Missing { key });
-    };
-    let Some(word) = value.as_str() else {
-        return Err(ConfigFault::Kind { key });
-    };
-    match mode_named(word) {
-        Some(mode) => Ok(mode),
-        None => Err(ConfigFault::Kind { key }),
+pub fn mode(table: &Table) -> Result<Mode, ConfigFault>
+    ensures value { IfOk result (λ mode.
+        value_at (table_view table.now) key.Mode ≡ Some (string (mode_name mode))) }
+    ensures accepted { OnOk result (mode_fault (table_view table.now) ≡ None) }
+    ensures err { IfErr result (λ fault. mode_fault (table_view table.now) ≡ Some fault) }
+{
+    match word_at(table) {
+        Ok(word) => match mode_named(word) {
+            Some(mode) => Ok(mode),
+            None => Err(ConfigFault::Kind { key: Key::Mode }),
+        },
+        Err(fault) => Err(fault),
     }
 }

@@ -1,0 +1,71 @@
+-- How far a list of a document was read, and what the rest of it adds
+use Rattle.std.proofs.Common.{◌≡◌, ℕ, ◌<◌, ◌≤◌, ◌+◌, ℤ, pos, zero, suc, List, [], ◌∷◌, ◌++◌, All, length, get_or, take, drop, map, Option, Some, None, option_map, refl, sym, ap, ◌∙◌, rules, arith}
+use Rattle.std.proofs.Common.{w64, SFits, to_z, of_z}
+use Rattle.std.proofs.lemmas.Int.{to_z-of_z}
+use Rattle.std.proofs.lemmas.List.{drop_more, take_more, map-append}
+use Rattle.paraid_config.specs.declared.fault.ConfigFault.{ConfigFault}
+use Rattle.std.proofs.lemmas.List.Elements.{All-push}
+use Rattle.toml.specs.Data.{Data, string, integer, float, boolean, datetime, array, table, Items, no_items, item, Members}
+use Rattle.paraid_config.specs.declared.key.Key.{Key}
+use Rattle.paraid_config.specs.Keys.{high_of}
+use Rattle.paraid_config.specs.Values.{integers_of, integer_items, range_fault, member_fault, members_fault, list_fault, value_at, IsListAt, IsFaultOf}
+
+-- the members before place `i` are these numbers, and none of them is out of range
+pub record AreRead (k : Key) (members : List ℤ) (numbers : List ℕ) (i : ℕ) : Type 0 where
+  pub fault : member_fault k members ≡ member_fault k (drop i members)
+  pub same : map pos numbers ≡ take i members
+  pub high : All (λ n. n ≤ high_of k) numbers
+
+-- the items before a place are these integers, and the rest is still to be read
+pub record AreIntegers (all rest : Items) (members : List ℤ) : Type 0 where
+  pub holds : integers_of all ≡ option_map (λ zs. members ++ zs) (integers_of rest)
+
+-- a list that begins with an integer
+pub integers_of-integer : (z : ℤ) (ds : Items) (zs : List ℤ) → ((ys : List ℤ) → integers_of ds ≡ Some ys → ds ≡ integer_items ys)
+    → (rest : Option (List ℤ)) → integers_of ds ≡ rest → option_map (λ ys. z ∷ ys) rest ≡ Some zs → item (integer z) ds ≡ integer_items zs
+integers_of-integer z ds zs ih None e h = cc
+integers_of-integer z ds zs ih (Some ys) e h =
+    let tail : ds ≡ integer_items ys = ih ys e in
+    let all : z ∷ ys ≡ zs = cc in
+    rw (← all) (ap (item (integer z)) tail)
+
+pub integer_items-integers_of : (ds : Items) (zs : List ℤ) → integers_of ds ≡ Some zs → ds ≡ integer_items zs
+integer_items-integers_of no_items zs h = cc
+integer_items-integers_of (item (string s) ds) zs h = cc
+integer_items-integers_of (item (float x) ds) zs h = cc
+integer_items-integers_of (item (boolean b) ds) zs h = cc
+integer_items-integers_of (item (datetime dt) ds) zs h = cc
+integer_items-integers_of (item (array es) ds) zs h = cc
+integer_items-integers_of (item (table ms) ds) zs h = cc
+integer_items-integers_of (item (integer z) ds) zs h = integers_of-integer z ds zs (integer_items-integers_of ds) (integers_of ds) refl h
+
+-- a list of integers has no other members
+pub members_before : (k : Key) (members : List ℤ) (numbers : List ℕ) (i : ℕ) (z : ℤ) (f : ConfigFault) → AreRead k members numbers i → i < length members
+    → get_or members i (pos 0) ≡ z → range_fault k z ≡ Some f → member_fault k members ≡ Some f
+members_before k members numbers i z f r h e g = r.fault ∙ rw (drop_more members i (pos 0) h, e, g)
+
+pub AreRead-more : (k : Key) (members : List ℤ) (numbers : List ℕ) (i n : ℕ) → AreRead k members numbers i → i < length members
+    → get_or members i (pos 0) ≡ pos n → n ≤ high_of k → range_fault k (pos n) ≡ None → AreRead k members (numbers ++ n ∷ []) (i + 1)
+AreRead-more k members numbers i n r h e high g = record {
+  fault = r.fault ∙ rw (drop_more members i (pos 0) h, e, g);
+  same = map-append pos numbers (n ∷ []) ∙ rw (take_more members i (pos 0) h, e, r.same);
+  high = All-push (λ x. x ≤ high_of k) numbers n r.high high;
+}
+
+-- read back as it was written
+pub AreRead_wide : (k : Key) (members : List ℤ) (numbers : List ℕ) (i n : ℕ) → AreRead k members numbers i → i < length members → SFits w64 (get_or members i (pos 0))
+    → to_z w64 (of_z w64 (get_or members i (pos 0))) ≡ pos n → n ≤ high_of k → range_fault k (to_z w64 (of_z w64 (get_or members i (pos 0)))) ≡ None
+    → AreRead k members (numbers ++ n ∷ []) (i + 1)
+AreRead_wide k members numbers i n r h fits e high g =
+    let same : to_z w64 (of_z w64 (get_or members i (pos 0))) ≡ get_or members i (pos 0) = to_z-of_z w64 (get_or members i (pos 0)) fits in
+    let value : get_or members i (pos 0) ≡ pos n = sym same ∙ e in
+    AreRead-more k members numbers i n r h value high (ap (range_fault k) (sym e) ∙ g)
+
+-- the list at a key, read whole
+pub IsListAt-read : (document : Members) (k : Key) (ds : Items) (zs : List ℤ) (ns : List ℕ) → value_at document k ≡ Some (array ds) → integers_of ds ≡ Some zs
+    → zs ≡ map pos ns → IsListAt document k ns
+IsListAt-read document k ds zs ns at read same = rw (at, integer_items-integers_of ds zs read, same)
+
+pub list_fault-members : (document : Members) (k : Key) (few many : ℕ) (ds : Items) (f : ConfigFault) → value_at document k ≡ Some (array ds)
+    → IsFaultOf (members_fault k few many (integers_of ds)) f → IsFaultOf (list_fault document k few many) f
+list_fault-members document k few many ds f at h = rw at h

@@ -1,0 +1,17 @@
+use Rattle.std.proofs.Common.{◌≡◌, ℤ, pos, get_or, rules, w64, SFits, to_z, of_z, ap, sym, ◌∙◌}
+use Rattle.std.proofs.lemmas.Int.{to_z-of_z}
+use Rattle.paraid_config.specs.Values.{range_fault}
+use Rattle.paraid_config.proofs.FaultLemmas.{IsFaultOf-cause}
+use Rattle.paraid_config.proofs.ListLemmas.{members_before, AreRead_wide}
+use Rattle.paraid_config.proofs.list.members_in_range.Goals as goal
+
+pub returns-in-Err-clause-err : goal.returns-in-Err-clause-err
+returns-in-Err-clause-err c =
+    let fits : SFits w64 (get_or c.args.members.now c.loop-member.member-index (pos 0)) = search rules in
+    let same = to_z-of_z w64 (get_or c.args.members.now c.loop-member.member-index (pos 0)) fits in
+    IsFaultOf-cause _ _ (members_before c.args.key c.args.members.now c.loop-member.numbers.items c.loop-member.member-index _ c.in-Err.fault c.loop-member.invariant c.loop-member-test.true (sym same) c.in-Err.ensures.err)
+
+pub loop-member-preserved : goal.loop-member-preserved
+loop-member-preserved c =
+    let fits : SFits w64 (get_or c.args.members.now c.loop-member.member-index (pos 0)) = search rules in
+    rw c.in-Ok-push.ensures.items (AreRead_wide c.args.key c.args.members.now c.loop-member.numbers.items c.loop-member.member-index c.in-Ok.number c.loop-member.invariant c.loop-member-test.true fits c.in-Ok.ensures.value c.in-Ok.ensures.high c.in-Ok.ensures.accepted)
