@@ -1,5 +1,10 @@
 //! The setup that a table says.
 
+ghost use Rattle.std.specs.Prelude.{◌≡◌, ◌≤◌, None, IfOk, IfErr, OnOk};
+ghost use Rattle.toml.specs.View.{table_view};
+ghost use Rattle.paraid_record.specs.Range.{IsSetupInRange};
+ghost use Rattle.paraid_config.specs.Config.{document_fault, IsDocumentFault, IsSetupOf};
+
 use crate::list::{gears, windows};
 use crate::number::{mode, number};
 use crate::unknown::first_unknown;
@@ -10,7 +15,16 @@ use std::alloc::Global;
 use toml::Table;
 
 /// The setup that a table says.
-pub fn setup_of(alloc: Global, table: &Table) -> Result<Setup, ConfigFault> {
+///
+/// It is refused by the first cause in this order: a key that is not known, then for each key in
+/// the order of `Key` a missing value, one of another kind or one out of range, and last the
+/// geometry. Want of memory may come at any list.
+pub fn setup_of(alloc: Global, table: &Table) -> Result<Setup, ConfigFault>
+    ensures ok { IfOk result (IsSetupOf (table_view table.now)) }
+    ensures range { IfOk result IsSetupInRange }
+    ensures accepted { OnOk result (document_fault (table_view table.now) ≡ None) }
+    ensures err { IfErr result (IsDocumentFault (table_view table.now)) }
+{
     if let Some(at) = first_unknown(table) {
         return Err(ConfigFault::Unknown { at });
     }
