@@ -45,9 +45,9 @@ known_among : (known names : List (List ℕ)) (q : List ℕ) → ((k : ℕ) → 
     → is_member bytes_eq names q ≡ true → is_member bytes_eq known q ≡ true
 known_among known [] q h m = cc
 known_among known (n ∷ names) q h m = elim (cases_Bool (bytes_eq q n)) [
-    | inl same ↦ rw ((bytes_eq-Decides q n).0 same) (h 0 (omega arith))
-    | inr other ↦ known_among known names q (λ k below. h (suc k) (omega arith)) (rw other at m)
-  ]
+  | inl same ↦ rw ((bytes_eq-Decides q n).0 same) (h 0 (omega arith))
+  | inr other ↦ known_among known names q (λ k below. h (suc k) (omega arith)) (rw other at m)
+]
 
 true_from_not : (b : Bool) → not b ≡ false → b ≡ true
 true_from_not true h = refl
