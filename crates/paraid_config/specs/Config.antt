@@ -1,15 +1,14 @@
 -- Which setup a text says, and by which cause it is refused
-use Rattle.std.specs.Prelude.{◌≡◌, ℕ, ◌<◌, ◌≤◌, ◌-◌, not, List, [], ◌∷◌, ◌++◌, Bool, Option, Some, None, length, option_map, position, replicate, IsUtf8}
+use Rattle.std.specs.Prelude.{◌≡◌, ℕ, ◌<◌, ◌≤◌, ◌-◌, not, List, [], ◌∷◌, ◌++◌, Option, Some, None, length, option_map, position, replicate, IsUtf8}
 use Rattle.toml.specs.Data.{Members, no_members, member, string}
 use Rattle.toml.specs.Parse.{parse_document}
 use Rattle.paraid_base.specs.declared.geometry.GeoFault.{GeoFault}
 use Rattle.paraid_base.specs.declared.geometry.Geometry.{Geometry as GeometryType}
 use Rattle.paraid_base.specs.Gears.{IsGeoFault, IsGearList, Marks}
 use Rattle.paraid_record.specs.declared.meta.Setup.{Setup}
-use Rattle.paraid_record.specs.Spelling.{filled}
 use Rattle.paraid_config.specs.declared.key.Key.TheVariants.{Disks, Rows, Gears, Mode, Rate, Service, Up, Down, Windows, Ration, SpinningMj, ParkedMj, SpinupMj}
 use Rattle.paraid_config.specs.declared.fault.ConfigFault.{ConfigFault}
-use Rattle.paraid_config.specs.declared.fault.ConfigFault.TheVariants.{Long, NotToml, Unknown, Missing, Kind, Range, Geometry, NoMemory}
+use Rattle.paraid_config.specs.declared.fault.ConfigFault.TheVariants.{Long, NotToml, Unknown, Geometry, NoMemory}
 use Rattle.paraid_config.specs.Keys.{is_known}
 use Rattle.paraid_config.specs.Values.{value_at, first_fault, number_fault, list_fault, mode_fault, mode_name, IsNumberAt, IsListAt, IsFaultOf}
 

@@ -22,22 +22,26 @@ const LINES: [&str; 13] = [
     "spinup_mj = 60000\n",
 ];
 
+/// Adds a piece to a text.
+fn add(text: &mut Vec<u8>, piece: &str) -> Result<(), ConfigFault> {
+    match text.extend_from_slice(piece.as_bytes()) {
+        Ok(()) => Ok(()),
+        Err(_) => Err(ConfigFault::NoMemory),
+    }
+}
+
 /// The lines with one of them replaced; 13 replaces none and adds one.
 fn text_with(alloc: Global, place: usize, line: &str) -> Result<Vec<u8>, ConfigFault> {
     let mut text = Vec::new(alloc);
-    for at in 0..14 {
-        let next = if at == place {
-            line
-        } else if at < 13 {
-            LINES[at]
+    for at in 0..13 {
+        if at == place {
+            add(&mut text, line)?;
         } else {
-            ""
-        };
-        for byte in next.as_bytes() {
-            let Ok(()) = text.push(*byte) else {
-                return Err(ConfigFault::NoMemory);
-            };
+            add(&mut text, LINES[at])?;
         }
+    }
+    if place == 13 {
+        add(&mut text, line)?;
     }
     Ok(text)
 }

@@ -1,6 +1,5 @@
-use Rattle.std.proofs.Common.{◌≡◌, ℤ, pos, get_or, rules, w64, SFits, to_z, of_z, ap, sym, ◌∙◌}
+use Rattle.std.proofs.Common.{pos, get_or, rules, w64, SFits, sym}
 use Rattle.std.proofs.lemmas.Int.{to_z-of_z}
-use Rattle.paraid_config.specs.Values.{range_fault}
 use Rattle.paraid_config.proofs.FaultLemmas.{IsFaultOf-cause}
 use Rattle.paraid_config.proofs.ListLemmas.{members_before, AreRead_wide}
 use Rattle.paraid_config.proofs.list.members_in_range.Goals as goal

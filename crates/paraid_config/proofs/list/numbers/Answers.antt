@@ -1,7 +1,7 @@
 use Rattle.std.proofs.Common.{◌≡◌, Some, rules}
 use Rattle.std.proofs.lemmas.Result.{IfOk-weaker}
 use Rattle.toml.specs.View.{array_view}
-use Rattle.paraid_config.specs.Values.{integers_of, members_fault, IsFaultOf}
+use Rattle.paraid_config.specs.Values.{integers_of}
 use Rattle.paraid_config.proofs.ListLemmas.{IsListAt-read, list_fault-members}
 use Rattle.paraid_config.proofs.list.numbers.Goals as goal
 

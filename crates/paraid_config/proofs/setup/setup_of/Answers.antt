@@ -1,10 +1,10 @@
-use Rattle.std.proofs.Common.{◌≡◌, None, Some, option_map, ◌∙◌}
+use Rattle.std.proofs.Common.{◌≡◌, None, option_map, ◌∙◌}
 use Rattle.paraid_config.specs.declared.fault.ConfigFault.TheVariants.{Unknown}
 use Rattle.std.proofs.lemmas.Result.{err_from_is_err_and}
 use Rattle.toml.specs.View.{table_view}
 use Rattle.paraid_config.specs.declared.key.Key.TheVariants as key
 use Rattle.paraid_config.specs.Config.{first_unknown}
-use Rattle.paraid_config.specs.Values.{number_fault, list_fault, mode_fault}
+use Rattle.paraid_config.specs.Values.{number_fault, list_fault}
 use Rattle.paraid_config.proofs.FaultLemmas.{IsDocumentFault-found, IsFaultOf-cause, number_fault-of_a_key, list_fault-of_a_key, first_fault-None, first_fault-Some}
 use Rattle.paraid_config.proofs.setup.setup_of.Goals as goal
 
