@@ -1,0 +1,3 @@
+pub mod SidesLemmas
+pub mod StandingLemmas
+pub mod HeldLemmas

@@ -1,0 +1,57 @@
+//! That the definitions fit together. Each law is the contract of a function that does nothing.
+ghost use Rattle.std.specs.Prelude.{◌≡◌, ℕ, ◌≤◌, ◌++◌, false, Option, Some, None};
+ghost use Rattle.paraid_base.specs.History.{History};
+ghost use Rattle.paraid_rack.specs.Disks.{Disks, IsImage};
+ghost use Rattle.paraid_rack.specs.Trail.{Trail, disks, initial};
+ghost use Rattle.paraid_txn.specs.HeldAt.{HeldAt, IsHeld};
+ghost use Rattle.paraid_txn.specs.Out.{IsWeak};
+ghost use Rattle.paraid_txn.specs.Sides.{IsSide, Said, Says, Side};
+ghost use Rattle.paraid_txn.specs.Sound.{Sound};
+ghost use Rattle.paraid_txn.specs.Standing.{Stands, standing};
+
+/// A log disk says one thing, one log disk stands, and it is the one that the sides in short give.
+pub fn one_log_disk_stands()
+    ensures says { (i : Disks) (x : ℕ) (a b : Said) → Says i x a → Says i x b → a ≡ b }
+    ensures disk { (i : Disks) (x y : ℕ) (a b : Said) → Stands i x a → Stands i y b → x ≡ y }
+    ensures said { (i : Disks) (x y : ℕ) (a b : Said) → Stands i x a → Stands i y b → a ≡ b }
+    ensures by_sides { (i : Disks) (a b : Side) (x : ℕ) → IsSide i 0 a → IsSide i 1 b
+        → standing a b ≡ Some x → (said : Said) × Stands i x said }
+{}
+
+/// An image has at most one weak disk.
+pub fn one_disk_is_weak()
+    ensures { (i : Disks) (w v : ℕ) → IsWeak i w → IsWeak i v → w ≡ v }
+{}
+
+/// An image holds first parts of histories of one length only.
+pub fn one_length_is_held()
+    ensures { (slots : ℕ) (i : Disks) (h g : History) (k j : ℕ) → Sound slots i h k
+        → Sound slots i g j → k ≡ j }
+{}
+
+/// What is held is held for each longer history, and with each smaller bound.
+pub fn what_is_held_stays_held()
+    ensures { (slots : ℕ) (s : Disks) (h more : History) (lo less : ℕ) (down : Option ℕ)
+        → less ≤ lo → IsHeld slots s h lo down → IsHeld slots s (h ++ more) less down }
+{}
+
+/// Where nothing is loose, a stop leaves the disks as they are and nothing else.
+pub fn dry_disks_are_their_image()
+    ensures is { (s : Disks) → ((d p : ℕ) → s.loose d p ≡ false) → IsImage s s }
+    ensures only { (s i : Disks) → ((d p : ℕ) → s.loose d p ≡ false) → IsImage s i → i ≡ s }
+{}
+
+/// What a stop leaves of what is held is a start at which the same is held, with its own weak disk
+/// as the one that is down. So nothing more needs to be said of chains of stops.
+pub fn an_image_of_what_is_held_is_held()
+    ensures image { (slots : ℕ) (s i : Disks) (h : History) (lo : ℕ) (down : Option ℕ)
+        → IsImage s i → IsHeld slots s h lo down → IsHeld slots i h lo down }
+    ensures weak { (slots : ℕ) (s i : Disks) (h : History) (lo : ℕ) (down : Option ℕ) (w : ℕ)
+        → IsImage s i → IsWeak i w → IsHeld slots s h lo down → IsHeld slots i h lo (Some w) }
+    ensures strong { (slots : ℕ) (s i : Disks) (h : History) (lo : ℕ) (down : Option ℕ)
+        → IsImage s i → ((w : ℕ) → IsWeak i w → ⊥) → IsHeld slots s h lo down
+        → IsHeld slots i h lo None }
+    ensures start { (slots : ℕ) (t u : Trail) (m : ℕ) (h : History) (lo : ℕ) (down : Option ℕ)
+        → IsImage (disks t m) (initial u.start)
+        → HeldAt slots t m h lo down → HeldAt slots u 0 h lo down }
+{}
