@@ -1,3 +1,4 @@
 pub mod SidesLemmas
 pub mod StandingLemmas
 pub mod HeldLemmas
+pub mod NeutralLemmas

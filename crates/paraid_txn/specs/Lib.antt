@@ -6,3 +6,7 @@ pub mod Value
 pub mod Content
 pub mod Sound
 pub mod HeldAt
+pub mod Neutral
+pub mod Power
+pub mod Course
+pub mod Lawful

@@ -1,13 +1,15 @@
 //! That the definitions fit together. Each law is the contract of a function that does nothing.
 ghost use Rattle.std.specs.Prelude.{◌≡◌, ℕ, ◌≤◌, ◌++◌, false, Option, Some, None};
+ghost use Rattle.paraid_base.specs.declared.block.Block.{Block as BlockType};
 ghost use Rattle.paraid_base.specs.History.{History};
 ghost use Rattle.paraid_rack.specs.Disks.{Disks, IsImage};
 ghost use Rattle.paraid_rack.specs.Trail.{Trail, disks, initial};
 ghost use Rattle.paraid_txn.specs.HeldAt.{HeldAt, IsHeld};
+ghost use Rattle.paraid_txn.specs.Neutral.{IsNeutral, overwrite};
 ghost use Rattle.paraid_txn.specs.Out.{IsWeak};
 ghost use Rattle.paraid_txn.specs.Sides.{IsSide, Said, Says, Side};
 ghost use Rattle.paraid_txn.specs.Sound.{Sound};
-ghost use Rattle.paraid_txn.specs.Standing.{Stands, standing};
+ghost use Rattle.paraid_txn.specs.Standing.{Stands, contents as contents_of, standing};
 
 /// A log disk says one thing, one log disk stands, and it is the one that the sides in short give.
 pub fn one_log_disk_stands()
@@ -54,4 +56,22 @@ pub fn an_image_of_what_is_held_is_held()
     ensures start { (slots : ℕ) (t u : Trail) (m : ℕ) (h : History) (lo : ℕ) (down : Option ℕ)
         → IsImage (disks t m) (initial u.start)
         → HeldAt slots t m h lo down → HeldAt slots u 0 h lo down }
+{}
+
+/// Any bytes in a neutral place leave the log disk that stands, what it says, the weak disk and
+/// what the image holds as they are.
+pub fn neutral_places_do_not_matter()
+    ensures stands { (i : Disks) (d p : ℕ) (b : BlockType) (x : ℕ) (said : Said) → IsNeutral i d p
+        → Stands i x said → Stands (overwrite i d p b) x said }
+    ensures stood { (i : Disks) (d p : ℕ) (b : BlockType) (x : ℕ) (said : Said) → IsNeutral i d p
+        → Stands (overwrite i d p b) x said → Stands i x said }
+    ensures contents { (i : Disks) (d p : ℕ) (b : BlockType) (x : ℕ) (said : Said)
+        → IsNeutral i d p → Stands i x said
+        → contents_of (overwrite i d p b) said.batch ≡ contents_of i said.batch }
+    ensures weak { (i : Disks) (d p : ℕ) (b : BlockType) (w : ℕ) → IsNeutral i d p
+        → IsWeak i w → IsWeak (overwrite i d p b) w }
+    ensures was_weak { (i : Disks) (d p : ℕ) (b : BlockType) (w : ℕ) → IsNeutral i d p
+        → IsWeak (overwrite i d p b) w → IsWeak i w }
+    ensures sound { (slots : ℕ) (i : Disks) (d p : ℕ) (b : BlockType) (h : History) (k : ℕ)
+        → IsNeutral i d p → Sound slots i h k → Sound slots (overwrite i d p b) h k }
 {}
