@@ -36,11 +36,11 @@ overwritten_else i d p b x q apart =
     (λ is. with_at_other (i.block d) p b q (apart is) ∙ ap (λ (k : ℕ). i.block k q) (sym is))
     (λ not. refl)
 
-where_there : (there : Bool) (x y : Block) → (there ≡ true → x ≡ y) → (if there then x else zeroed) ≡ (if there then y else zeroed)
+pub where_there : (there : Bool) (x y : Block) → (there ≡ true → x ≡ y) → (if there then x else zeroed) ≡ (if there then y else zeroed)
 where_there true x y h = h refl
 where_there false x y h = refl
 
-past_log : (low there : Bool) (x y : Block) → (low ≡ false → there ≡ true → x ≡ y)
+pub past_log : (low there : Bool) (x y : Block) → (low ≡ false → there ≡ true → x ≡ y)
     → (if low then zeroed else (if there then x else zeroed)) ≡ (if low then zeroed else (if there then y else zeroed))
 past_log true there x y h = refl
 past_log false there x y h = where_there there x y (h refl)
@@ -96,13 +96,13 @@ few_logged false log m batch s = rw s.empty (omega arith)
 few_logged true log m batch s = let few = s.in_range.few in let same = length-targets batch in omega arith
 
 -- the places that are looked at of the log of disk `x` hold the same
-record IsLogKept (i j : Disks) (x : ℕ) : Type 0 where
-  power : j.power x ≡ i.power x
-  gate : stored j x 0 ≡ stored i x 0
-  meta : is_open (stored i x 0) ≡ false → stored j x 1 ≡ stored i x 1
-  rest : is_open (stored i x 0) ≡ true → (said : Said) → (Says i x said ⊎ Says j x said) → (q : ℕ) → 2 ≤ q → q < 4 + length said.batch → stored j x q ≡ stored i x q
+pub record IsLogKept (i j : Disks) (x : ℕ) : Type 0 where
+  pub power : j.power x ≡ i.power x
+  pub gate : stored j x 0 ≡ stored i x 0
+  pub meta : is_open (stored i x 0) ≡ false → stored j x 1 ≡ stored i x 1
+  pub rest : is_open (stored i x 0) ≡ true → (said : Said) → (Says i x said ⊎ Says j x said) → (q : ℕ) → 2 ≤ q → q < 4 + length said.batch → stored j x q ≡ stored i x q
 
-says_forth : (i j : Disks) (x : ℕ) (said : Said) → IsLogKept i j x → Says i x said → Says j x said
+pub says_forth : (i j : Disks) (x : ℕ) (said : Said) → IsLogKept i j x → Says i x said → Says j x said
 says_forth i j x said kept s = record {
   present = rw kept.power s.present;
   gate = ap is_open kept.gate ∙ s.gate;
@@ -110,7 +110,7 @@ says_forth i j x said kept s = record {
       (λ closed. kept.meta (s.gate ∙ closed)) (λ opened. kept.rest (s.gate ∙ opened) said (inl s)) s.log;
 }
 
-says_back : (i j : Disks) (x : ℕ) (said : Said) → IsLogKept i j x → Says j x said → Says i x said
+pub says_back : (i j : Disks) (x : ℕ) (said : Said) → IsLogKept i j x → Says j x said → Says i x said
 says_back i j x said kept s =
     let gate : is_open (stored i x 0) ≡ said.opened = ap is_open (sym kept.gate) ∙ s.gate in
     record {
@@ -120,16 +120,23 @@ says_back i j x said kept s =
           (λ closed. sym (kept.meta (gate ∙ closed))) (λ opened q low high. sym (kept.rest (gate ∙ opened) said (inr s) q low high)) s.log;
     }
 
--- what a write leaves as it was, for all that is said of an image
-pub record Keeps (i : Disks) (d p : ℕ) (b : Block) : Type 0 where
-  pub forth : (x : ℕ) (said : Said) → x < 2 → Says i x said → Says (overwrite i d p b) x said
-  pub back : (x : ℕ) (said : Said) → x < 2 → Says (overwrite i d p b) x said → Says i x said
-  pub gate : (x : ℕ) → x < 2 → is_open (stored (overwrite i d p b) x 0) ≡ is_open (stored i x 0)
-  pub contents : (x : ℕ) (said : Said) → Stands i x said → contents (overwrite i d p b) said.batch ≡ contents i said.batch
+-- the disks with these blocks
+abbrev pub with_blocks : Disks → (ℕ → ℕ → Block) → Disks
+with_blocks i f = record i { block = f }
 
-module _ (i : Disks) (d p : ℕ) (b : Block) (keeps : Keeps i d p b) where
+abbrev pub written : Disks → ℕ → ℕ → Block → ℕ → ℕ → Block
+written i d p b = with_at i.block d (with_at (i.block d) p b)
+
+-- other blocks leave as it was all that is said of an image
+pub record Keeps (i : Disks) (f : ℕ → ℕ → Block) : Type 0 where
+  pub forth : (x : ℕ) (said : Said) → x < 2 → Says i x said → Says (with_blocks i f) x said
+  pub back : (x : ℕ) (said : Said) → x < 2 → Says (with_blocks i f) x said → Says i x said
+  pub gate : (x : ℕ) → x < 2 → is_open (stored (with_blocks i f) x 0) ≡ is_open (stored i x 0)
+  pub contents : (x : ℕ) (said : Said) → Stands i x said → contents (with_blocks i f) said.batch ≡ contents i said.batch
+
+module _ (i : Disks) (f : ℕ → ℕ → Block) (keeps : Keeps i f) where
   abbrev new : Disks
-  new = overwrite i d p b
+  new = with_blocks i f
 
   pub stands_forth : (x : ℕ) (said : Said) → Stands i x said → Stands new x said
   stands_forth x said s = record {
@@ -171,18 +178,18 @@ module _ (i : Disks) (d p : ℕ) (b : Block) (keeps : Keeps i d p b) where
     disk = s.disk;
     said = s.said;
     log = log_forth s.disk s.said k s.log;
-    content = subst (λ (f : Contents). ContentOk slots i.power i.size (view_by s.said.meta i.power f) h k)
+    content = subst (λ (g : Contents). ContentOk slots i.power i.size (view_by s.said.meta i.power g) h k)
         (sym (keeps.contents s.disk s.said s.log.stands)) s.content;
   }
 
   pub is_sound_forth : (slots : ℕ) (h : History) (lo : ℕ) → IsSound slots i h lo → IsSound slots new h lo
   is_sound_forth slots h lo s = record { k = s.k; low = s.low; high = s.high; sound = sound_forth slots h s.k s.sound }
 
-keeps_by : (i : Disks) (d p : ℕ) (b : Block) → ((x : ℕ) → x < 2 → IsLogKept i (overwrite i d p b) x)
-    → ((x : ℕ) (said : Said) → Stands i x said → contents (overwrite i d p b) said.batch ≡ contents i said.batch) → Keeps i d p b
-keeps_by i d p b kept same = record {
-  forth = λ x said l s. says_forth i (overwrite i d p b) x said (kept x l) s;
-  back = λ x said l s. says_back i (overwrite i d p b) x said (kept x l) s;
+pub keeps_by : (i : Disks) (f : ℕ → ℕ → Block) → ((x : ℕ) → x < 2 → IsLogKept i (with_blocks i f) x)
+    → ((x : ℕ) (said : Said) → Stands i x said → contents (with_blocks i f) said.batch ≡ contents i said.batch) → Keeps i f
+keeps_by i f kept same = record {
+  forth = λ x said l s. says_forth i (with_blocks i f) x said (kept x l) s;
+  back = λ x said l s. says_back i (with_blocks i f) x said (kept x l) s;
   gate = λ x l. ap is_open ((kept x l).gate);
   contents = same;
 }
@@ -191,8 +198,8 @@ keeps_by i d p b kept same = record {
 contents_log : (i : Disks) (d p : ℕ) (b : Block) → p < 100 → (x : ℕ) (said : Said) → Stands i x said → contents (overwrite i d p b) said.batch ≡ contents i said.batch
 contents_log i d p b l x said s = contents_over i d p b said.batch (λ y q is at past there. absurd (omega arith))
 
-keeps_nowhere : (i : Disks) (d p : ℕ) (b : Block) → has_place i d p ≡ false → Keeps i d p b
-keeps_nowhere i d p b none = keeps_by i d p b
+pub keeps_nowhere : (i : Disks) (d p : ℕ) (b : Block) → has_place i d p ≡ false → Keeps i (written i d p b)
+keeps_nowhere i d p b none = keeps_by i (written i d p b)
     (λ x l. record {
       power = refl;
       gate = stored_else i d p b x 0 (λ is at. none);
@@ -202,8 +209,8 @@ keeps_nowhere i d p b none = keeps_by i d p b
     (λ x said s. contents_over i d p b said.batch (λ y q is at past there.
       let not_there : has_place i y q ≡ false = rw (is, at) none in absurd (false≢true (sym not_there ∙ there))))
 
-keeps_no_log : (i : Disks) (d p : ℕ) (b : Block) → 2 ≤ d → p < 100 → Keeps i d p b
-keeps_no_log i d p b far l = keeps_by i d p b
+pub keeps_no_log : (i : Disks) (d p : ℕ) (b : Block) → 2 ≤ d → p < 100 → Keeps i (written i d p b)
+keeps_no_log i d p b far l = keeps_by i (written i d p b)
     (λ x low. record {
       power = refl;
       gate = stored_else i d p b x 0 (λ is at. absurd (omega arith));
@@ -212,8 +219,8 @@ keeps_no_log i d p b far l = keeps_by i d p b
     })
     (contents_log i d p b l)
 
-keeps_shut : (i : Disks) (d p : ℕ) (b : Block) → is_open (stored i d 0) ≡ false → 2 ≤ p → p < 100 → Keeps i d p b
-keeps_shut i d p b closed far l = keeps_by i d p b
+pub keeps_shut : (i : Disks) (d p : ℕ) (b : Block) → is_open (stored i d 0) ≡ false → 2 ≤ p → p < 100 → Keeps i (written i d p b)
+keeps_shut i d p b closed far l = keeps_by i (written i d p b)
     (λ x low. record {
       power = refl;
       gate = stored_else i d p b x 0 (λ is at. absurd (omega arith));
@@ -223,8 +230,8 @@ keeps_shut i d p b closed far l = keeps_by i d p b
     })
     (contents_log i d p b l)
 
-keeps_settled_meta : (i : Disks) (d p : ℕ) (b : Block) → is_open (stored i d 0) ≡ true → p ≡ 1 → Keeps i d p b
-keeps_settled_meta i d p b opened one = keeps_by i d p b
+pub keeps_settled_meta : (i : Disks) (d p : ℕ) (b : Block) → is_open (stored i d 0) ≡ true → p ≡ 1 → Keeps i (written i d p b)
+keeps_settled_meta i d p b opened one = keeps_by i (written i d p b)
     (λ x low. record {
       power = refl;
       gate = stored_else i d p b x 0 (λ is at. absurd (omega arith));
@@ -249,10 +256,10 @@ same_said : (i : Disks) (d p : ℕ) (b : Block) (said other : Said) → Says i d
 same_said i d p b said other s t (inl u) = ap (λ (z : Said). length z.batch) (Says-same i d other said u s)
 same_said i d p b said other s t (inr u) = ap (λ (z : Said). length z.batch) (Says-same (overwrite i d p b) d other said u t)
 
-keeps_unused : (i : Disks) (d p : ℕ) (b : Block) (said : Said) → Says i d said → said.opened ≡ true → 4 + length said.batch ≤ p → p < 100 → Keeps i d p b
+pub keeps_unused : (i : Disks) (d p : ℕ) (b : Block) (said : Said) → Says i d said → said.opened ≡ true → 4 + length said.batch ≤ p → p < 100 → Keeps i (written i d p b)
 keeps_unused i d p b said s opened past l =
     let t = unused_forth i d p b said s opened past in
-    keeps_by i d p b
+    keeps_by i (written i d p b)
     (λ x low. record {
       power = refl;
       gate = stored_else i d p b x 0 (λ is at. absurd (omega arith));
@@ -284,7 +291,7 @@ named_past g (w ∷ batch) d p all h = elim (cases_Bool (w.0.disk == d && w.0.pl
       named_past g batch d p (λ k e l. all (suc k) e (omega arith)) later
 ]
 
-target_past : (opened : Bool) (log : ℕ → Block) (m : Meta) (batch : Batch) (d p : ℕ) → SaysBy opened log m batch → names batch d p ≡ true → 100 ≤ p
+pub target_past : (opened : Bool) (log : ℕ → Block) (m : Meta) (batch : Batch) (d p : ℕ) → SaysBy opened log m batch → names batch d p ≡ true → 100 ≤ p
 target_past false log m batch d p s h =
     absurd (false≢true (ap (λ (ws : Batch). names ws d p) (sym s.empty) ∙ h))
 target_past true log m batch d p s h = named_past m.setup.geometry batch d p s.in_range.each h
@@ -305,12 +312,12 @@ log_kept_past i d p b far x = record {
 
 -- every standing batch names the place
 pub keeps_target : (i : Disks) (d p : ℕ) (b : Block) → 100 ≤ p
-    → ((x : ℕ) (said : Said) → Stands i x said → names said.batch d p ≡ true) → Keeps i d p b
-keeps_target i d p b far all = keeps_by i d p b (λ x low. log_kept_past i d p b far x)
+    → ((x : ℕ) (said : Said) → Stands i x said → names said.batch d p ≡ true) → Keeps i (written i d p b)
+keeps_target i d p b far all = keeps_by i (written i d p b) (λ x low. log_kept_past i d p b far x)
     (λ x said s. contents_over i d p b said.batch (λ y q is at past there.
       laid-named said.batch y q b (i.block y q) (rw (is, at) (all x said s))))
 
-pub keeps_neutral : (i : Disks) (d p : ℕ) (b : Block) → IsNeutral i d p → Keeps i d p b
+pub keeps_neutral : (i : Disks) (d p : ℕ) (b : Block) → IsNeutral i d p → Keeps i (written i d p b)
 keeps_neutral i d p b (nowhere none) = keeps_nowhere i d p b none
 keeps_neutral i d p b (no_log far l) = keeps_no_log i d p b far l
 keeps_neutral i d p b (shut closed far l) = keeps_shut i d p b closed far l

@@ -1,8 +1,9 @@
 //! That the definitions fit together. Each law is the contract of a function that does nothing.
-ghost use Rattle.std.specs.Prelude.{◌≡◌, ℕ, ◌≤◌, ◌++◌, false, Option, Some, None};
+ghost use Rattle.std.specs.Prelude.{◌≡◌, ℕ, ◌≤◌, ◌++◌, true, false, Option, Some, None};
 ghost use Rattle.paraid_base.specs.declared.block.Block.{Block as BlockType};
 ghost use Rattle.paraid_base.specs.History.{History};
-ghost use Rattle.paraid_rack.specs.Disks.{Disks, IsImage};
+ghost use Rattle.paraid_rack.specs.declared.call.Call.TheVariants.{Read, Sync, Write};
+ghost use Rattle.paraid_rack.specs.Disks.{Disks, IsImage, step};
 ghost use Rattle.paraid_rack.specs.Trail.{Trail, disks, initial};
 ghost use Rattle.paraid_txn.specs.HeldAt.{HeldAt, IsHeld};
 ghost use Rattle.paraid_txn.specs.Neutral.{IsNeutral, overwrite};
@@ -74,4 +75,19 @@ pub fn neutral_places_do_not_matter()
         → IsWeak (overwrite i d p b) w → IsWeak i w }
     ensures sound { (slots : ℕ) (i : Disks) (d p : ℕ) (b : BlockType) (h : History) (k : ℕ)
         → IsNeutral i d p → Sound slots i h k → Sound slots (overwrite i d p b) h k }
+{}
+
+/// A read or a sync that is done, and a write of a place that is neutral in each image, leave what
+/// is held.
+pub fn neutral_calls_leave_what_is_held()
+    ensures fewer { (slots : ℕ) (s t : Disks) (h : History) (lo : ℕ) (down : Option ℕ)
+        → ((i : Disks) → IsImage t i → IsImage s i) → IsHeld slots s h lo down
+        → IsHeld slots t h lo down }
+    ensures read { (slots : ℕ) (s : Disks) (h : History) (lo : ℕ) (down : Option ℕ) (d p : ℕ)
+        → IsHeld slots s h lo down → IsHeld slots (step (Read d p true) s) h lo down }
+    ensures sync { (slots : ℕ) (s : Disks) (h : History) (lo : ℕ) (down : Option ℕ) (d : ℕ)
+        → IsHeld slots s h lo down → IsHeld slots (step (Sync d true) s) h lo down }
+    ensures write { (slots : ℕ) (s : Disks) (h : History) (lo : ℕ) (down : Option ℕ) (d p : ℕ)
+        (b : BlockType) → ((i : Disks) → IsImage s i → IsNeutral i d p)
+        → IsHeld slots s h lo down → IsHeld slots (step (Write d p b true) s) h lo down }
 {}
