@@ -3,3 +3,5 @@ pub mod StandingLemmas
 pub mod HeldLemmas
 pub mod NeutralLemmas
 pub mod StepLemmas
+pub mod OutLemmas
+pub mod LossLemmas

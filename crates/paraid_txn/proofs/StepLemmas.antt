@@ -107,27 +107,27 @@ back_again j d p b = λ t. record {
 
 -- a lost disk
 
-place_lost : (i : Disks) (e x q : ℕ) → x ≡ e → has_place (lose e i) x q ≡ false
+pub place_lost : (i : Disks) (e x q : ℕ) → x ≡ e → has_place (lose e i) x q ≡ false
 place_lost i e x q is = ap (λ (w : Power). is_present w && nat_lt q (with_at i.size e 0 x)) (with_at_same i.power e Absent x is)
 
-place_kept : (i : Disks) (e x q : ℕ) → x ≢ e → has_place (lose e i) x q ≡ has_place i x q
+pub place_kept : (i : Disks) (e x q : ℕ) → x ≢ e → has_place (lose e i) x q ≡ has_place i x q
 place_kept i e x q not =
     ap (λ (w : Power). is_present w && nat_lt q (with_at i.size e 0 x)) (with_at_other i.power e Absent x not)
     ∙ ap (λ (z : ℕ). is_present (i.power x) && nat_lt q z) (with_at_other i.size e 0 x not)
 
-stored_lost : (i : Disks) (e x q : ℕ) → x ≡ e → stored (lose e i) x q ≡ zeroed
+pub stored_lost : (i : Disks) (e x q : ℕ) → x ≡ e → stored (lose e i) x q ≡ zeroed
 unfolding stored
 stored_lost i e x q is = ap (λ (t : Bool). if t then i.block x q else zeroed) (place_lost i e x q is)
 
-stored_kept : (i : Disks) (e x q : ℕ) → x ≢ e → stored (lose e i) x q ≡ stored i x q
+pub stored_kept : (i : Disks) (e x q : ℕ) → x ≢ e → stored (lose e i) x q ≡ stored i x q
 unfolding stored
 stored_kept i e x q not = ap (λ (t : Bool). if t then i.block x q else zeroed) (place_kept i e x q not)
 
-zeroed_closed : is_open zeroed ≡ false
+pub zeroed_closed : is_open zeroed ≡ false
 unfolding is_open zeroed
 zeroed_closed = refl
 
-lose_kept : (i : Disks) (e x : ℕ) → x ≢ e → IsLogKept i (lose e i) x
+pub lose_kept : (i : Disks) (e x : ℕ) → x ≢ e → IsLogKept i (lose e i) x
 lose_kept i e x not = record {
   power = with_at_other i.power e Absent x not;
   gate = stored_kept i e x 0 not;
@@ -135,20 +135,20 @@ lose_kept i e x not = record {
   rest = λ opened said says q low high. stored_kept i e x q not;
 }
 
-says_not_lost : (i : Disks) (e x : ℕ) (said : Said) → Says (lose e i) x said → x ≢ e
+pub says_not_lost : (i : Disks) (e x : ℕ) (said : Said) → Says (lose e i) x said → x ≢ e
 says_not_lost i e x said s is = false≢true (sym (ap is_present (with_at_same i.power e Absent x is)) ∙ s.present)
 
 pub says_of_lost : (i : Disks) (e x : ℕ) (said : Said) → Says (lose e i) x said → Says i x said
 says_of_lost i e x said s = says_back i (lose e i) x said (lose_kept i e x (says_not_lost i e x said s)) s
 
-decide_some : (o : Option ℕ) (y : ℕ) → (o ≡ Some y) ⊎ (o ≢ Some y)
+pub decide_some : (o : Option ℕ) (y : ℕ) → (o ≡ Some y) ⊎ (o ≢ Some y)
 decide_some None y = inr (λ e. cc)
 decide_some (Some z) y = elim (cases_eq z y) [
   | inl is ↦ inl (ap Some is)
   | inr not ↦ inr (λ e. let k : z ≡ y = cc in not k)
 ]
 
-out_named : (power : ℕ → Power) (m : Meta) (y : ℕ) → named_out m.out ≡ Some y → out_disk power m ≡ Some y
+pub out_named : (power : ℕ → Power) (m : Meta) (y : ℕ) → named_out m.out ≡ Some y → out_disk power m ≡ Some y
 out_named power m y h = ap (λ o. or_else o (first_absent power m.setup.geometry.disks)) h
 
 -- where the other disks can be spared, the standing batch names the place with a disk lost too

@@ -1,11 +1,14 @@
 //! That the definitions fit together. Each law is the contract of a function that does nothing.
-ghost use Rattle.std.specs.Prelude.{◌≡◌, ℕ, ◌≤◌, ◌++◌, true, false, Option, Some, None};
+ghost use Rattle.std.specs.Prelude.{◌≡◌, ℕ, ◌<◌, ◌≤◌, ◌++◌, true, false, Option, Some, None};
 ghost use Rattle.paraid_base.specs.declared.block.Block.{Block as BlockType};
 ghost use Rattle.paraid_base.specs.History.{History};
+ghost use Rattle.paraid_rack.specs.declared.call.Call.{Call as CallType};
 ghost use Rattle.paraid_rack.specs.declared.call.Call.TheVariants.{Read, Sync, Write};
-ghost use Rattle.paraid_rack.specs.Disks.{Disks, IsImage, step};
+ghost use Rattle.paraid_rack.specs.Disks.{Disks, IsImage, IsPresent, step};
 ghost use Rattle.paraid_rack.specs.Trail.{Trail, disks, initial};
 ghost use Rattle.paraid_txn.specs.HeldAt.{HeldAt, IsHeld};
+ghost use Rattle.paraid_txn.specs.Course.{disk_of, is_done};
+ghost use Rattle.paraid_txn.specs.Loss.{IsLoss};
 ghost use Rattle.paraid_txn.specs.Neutral.{IsNeutral, overwrite};
 ghost use Rattle.paraid_txn.specs.Out.{IsWeak};
 ghost use Rattle.paraid_txn.specs.Sides.{IsSide, Said, Says, Side};
@@ -90,4 +93,17 @@ pub fn neutral_calls_leave_what_is_held()
     ensures write { (slots : ℕ) (s : Disks) (h : History) (lo : ℕ) (down : Option ℕ) (d p : ℕ)
         (b : BlockType) → ((i : Disks) → IsImage s i → IsNeutral i d p)
         → IsHeld slots s h lo down → IsHeld slots (step (Write d p b true) s) h lo down }
+{}
+
+/// A failed call loses its disk and changes nothing else. Where no other disk is weak, what is
+/// held is held with this disk down.
+pub fn a_lost_disk_leaves_what_is_held()
+    ensures failed { (s : Disks) (c : CallType) → is_done c ≡ false
+        → IsLoss s (step c s) (disk_of c) }
+    ensures held { (slots : ℕ) (s t : Disks) (h : History) (lo : ℕ) (down : Option ℕ) (d : ℕ)
+        → IsLoss s t d → IsPresent s d
+        → ((i : Disks) (x : ℕ) (said : Said) → IsImage s i → x < 2 → Says i x said
+            → d < said.meta.setup.geometry.disks)
+        → ((i : Disks) (w : ℕ) → IsImage s i → IsWeak i w → w ≡ d)
+        → IsHeld slots s h lo down → IsHeld slots t h lo (Some d) }
 {}
