@@ -5,3 +5,5 @@ pub mod NeutralLemmas
 pub mod StepLemmas
 pub mod OutLemmas
 pub mod LossLemmas
+pub mod ViewLemmas
+pub mod LoseLemmas

@@ -1,19 +1,19 @@
 //! That the definitions fit together. Each law is the contract of a function that does nothing.
-ghost use Rattle.std.specs.Prelude.{◌≡◌, ℕ, ◌<◌, ◌≤◌, ◌++◌, true, false, Option, Some, None};
+ghost use Rattle.std.specs.Prelude.{◌≡◌, ◌≢◌, ℕ, ◌<◌, ◌≤◌, ◌⊎◌, ◌++◌, true, false, Option, Some, None};
 ghost use Rattle.paraid_base.specs.declared.block.Block.{Block as BlockType};
 ghost use Rattle.paraid_base.specs.History.{History};
 ghost use Rattle.paraid_rack.specs.declared.call.Call.{Call as CallType};
 ghost use Rattle.paraid_rack.specs.declared.call.Call.TheVariants.{Read, Sync, Write};
-ghost use Rattle.paraid_rack.specs.Disks.{Disks, IsImage, IsPresent, step};
+ghost use Rattle.paraid_rack.specs.Disks.{Disks, IsImage, IsPresent, lose, step};
 ghost use Rattle.paraid_rack.specs.Trail.{Trail, disks, initial};
-ghost use Rattle.paraid_txn.specs.HeldAt.{HeldAt, IsHeld};
+ghost use Rattle.paraid_txn.specs.HeldAt.{HeldAt, IsHeld, MayLose};
 ghost use Rattle.paraid_txn.specs.Course.{disk_of, is_done};
 ghost use Rattle.paraid_txn.specs.Loss.{IsLoss};
 ghost use Rattle.paraid_txn.specs.Neutral.{IsNeutral, overwrite};
 ghost use Rattle.paraid_txn.specs.Out.{IsWeak};
 ghost use Rattle.paraid_txn.specs.Sides.{IsSide, Said, Says, Side};
 ghost use Rattle.paraid_txn.specs.Sound.{Sound};
-ghost use Rattle.paraid_txn.specs.Standing.{Stands, contents as contents_of, standing};
+ghost use Rattle.paraid_txn.specs.Standing.{Stands, contents as contents_of, other_log, standing};
 
 /// A log disk says one thing, one log disk stands, and it is the one that the sides in short give.
 pub fn one_log_disk_stands()
@@ -106,4 +106,12 @@ pub fn a_lost_disk_leaves_what_is_held()
             → d < said.meta.setup.geometry.disks)
         → ((i : Disks) (w : ℕ) → IsImage s i → IsWeak i w → w ≡ d)
         → IsHeld slots s h lo down → IsHeld slots t h lo (Some d) }
+{}
+
+/// An image holds what it holds also with one more disk lost: the weak one where there is one, and
+/// not the log disk that stands unless the other one says the same.
+pub fn one_disk_can_be_lost()
+    ensures { (slots : ℕ) (i : Disks) (h : History) (k d x : ℕ) (said : Said)
+        → Sound slots i h k → Stands i x said → (d ≢ x) ⊎ Says i (other_log x) said
+        → MayLose i d → Sound slots (lose d i) h k }
 {}
