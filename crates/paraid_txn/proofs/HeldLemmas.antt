@@ -1,13 +1,12 @@
 -- What is held stays held for a longer history and a smaller bound, and for an image as a start.
-use Rattle.std.specs.Prelude.{◌≡◌, ℕ, ◌≤◌, ◌++◌, false, Option, Some, None, length, take}
+use Rattle.std.specs.Prelude.{◌≡◌, ℕ, ◌≤◌, ◌++◌, false, Option, Some, None, length}
 use Rattle.std.proofs.Common.{refl, sym, ◌∙◌, ap, subst, arith, length-append}
 use Rattle.std.proofs.lemmas.List.{take-append-le}
 use Rattle.paraid_base.specs.History.{History, after, last_of}
 use Rattle.paraid_base.specs.Xor.{zeroed}
 use Rattle.paraid_rack.specs.declared.call.Power.{Power}
 use Rattle.paraid_rack.specs.Disks.{Disks, IsImage, lose}
-use Rattle.paraid_rack.specs.Trail.{Trail, initial}
-use Rattle.paraid_txn.specs.HeldAt.{HeldAt, IsHeld, IsSound, MayLose}
+use Rattle.paraid_txn.specs.HeldAt.{IsHeld, IsSound}
 use Rattle.paraid_txn.specs.Out.{IsWeak}
 use Rattle.paraid_txn.specs.Sound.{ContentOk, Sound}
 use Rattle.paraid_txn.specs.Spot.{View}

@@ -1,29 +1,26 @@
 -- An image holds what it held with one disk lost.
-use Rattle.std.specs.Prelude.{◌≡◌, ◌≢◌, ℕ, ◌+◌, ◌<◌, ◌≤◌, ◌⊎◌, nat_lt, Bool, true, false, Option, Some, None, if◌then◌else◌}
+use Rattle.std.specs.Prelude.{◌≡◌, ◌≢◌, ℕ, ◌+◌, ◌<◌, ◌⊎◌, nat_lt, Bool, false, Option, Some, None, if◌then◌else◌}
 use Rattle.std.proofs.Common.{refl, sym, ◌∙◌, ap, subst, arith, inl, inr}
 use Rattle.std.proofs.lemmas.Bool.{cases_eq, false≢true, true≢false}
-use Rattle.paraid_base.specs.declared.block.Block.{Block}
-use Rattle.paraid_base.specs.declared.state.Out.TheVariants.{Fresh}
 use Rattle.paraid_base.specs.History.{History}
 use Rattle.paraid_base.specs.Regions.{map_count}
 use Rattle.paraid_base.specs.Xor.{zeroed}
-use Rattle.paraid_rack.specs.declared.call.Power.{Power}
 use Rattle.paraid_rack.specs.declared.call.Power.TheVariants.{Absent, Parked}
-use Rattle.paraid_rack.specs.Disks.{Disks, IsPresent, is_present, lose, with_at}
-use Rattle.paraid_rack.proofs.AtomsLemmas.{at_case, with_at_other, with_at_same}
+use Rattle.paraid_rack.specs.Disks.{Disks, is_present, lose}
+use Rattle.paraid_rack.proofs.AtomsLemmas.{with_at_other, with_at_same}
 use Rattle.paraid_record.specs.declared.meta.Meta.{Meta}
 use Rattle.paraid_record.specs.Range.{IsInRange}
-use Rattle.paraid_txn.specs.Content.{view_by, view_of}
+use Rattle.paraid_txn.specs.Content.{view_of}
 use Rattle.paraid_txn.specs.HeldAt.{MayLose}
-use Rattle.paraid_txn.specs.Out.{IsMissing, IsWeak, named_out, out_disk}
+use Rattle.paraid_txn.specs.Out.{IsMissing, named_out, out_disk}
 use Rattle.paraid_txn.specs.Out.IsWeak.{out}
-use Rattle.paraid_txn.specs.Sides.{Batch, Said, Says, has_place, stored}
+use Rattle.paraid_txn.specs.Sides.{Batch, Said, Says, stored}
 use Rattle.paraid_txn.specs.Sound.{AreDisks, ContentOk, IsFresh, LogOk, Sound}
 use Rattle.paraid_txn.specs.Spot.{map_bit, map_disk}
 use Rattle.paraid_txn.specs.Standing.{Contents, Stands, contents, laid, other_log}
-use Rattle.paraid_txn.proofs.OutLemmas.{first_absent_is, missing_is_out, says_in_range}
+use Rattle.paraid_txn.proofs.OutLemmas.{missing_is_out, says_in_range}
 use Rattle.paraid_txn.proofs.StandingLemmas.{Stands-same}
-use Rattle.paraid_txn.proofs.StepLemmas.{decide_some, lose_kept, out_named, place_kept, says_not_lost, says_of_lost}
+use Rattle.paraid_txn.proofs.StepLemmas.{lose_kept, out_named, place_kept, says_not_lost, says_of_lost}
 use Rattle.paraid_txn.proofs.NeutralLemmas.{says_forth}
 use Rattle.paraid_txn.proofs.ViewLemmas.{content_without, dirty_without}
 
@@ -34,11 +31,14 @@ contents_kept i d batch x q not =
 
 -- the log disk that stands is not the one that is lost
 stands_spared : (i : Disks) (d x : ℕ) (said : Said) → Stands i x said → d ≢ x → (y : ℕ) × Stands (lose d i) y said
-stands_spared i d x said s apart = (x, record {
-  log_disk = s.log_disk;
-  says = says_forth i (lose d i) x said (lose_kept i d x (λ e. apart (sym e))) s.says;
-  first = λ other t. s.first other (says_of_lost i d (other_log x) other t);
-})
+stands_spared i d x said s apart = (
+  x,
+  record {
+    log_disk = s.log_disk;
+    says = says_forth i (lose d i) x said (lose_kept i d x (λ e. apart (sym e))) s.says;
+    first = λ other t. s.first other (says_of_lost i d (other_log x) other t);
+  },
+)
 
 -- or both log disks say the same
 stands_lost : (i : Disks) (d x : ℕ) (said : Said) → Stands i x said → (d ≢ x) ⊎ Says i (other_log x) said → (y : ℕ) × Stands (lose d i) y said
@@ -47,12 +47,14 @@ stands_lost i d x said s (inr alike) = elim (cases_eq d x) [
   | inr apart ↦ stands_spared i d x said s apart
   | inl is ↦
       let low : x < 2 = s.log_disk in
-      let away : other_log x ≢ d = (λ e. absurd (omega arith)) in
-      (other_log x, record {
-        log_disk = omega arith;
-        says = says_forth i (lose d i) (other_log x) said (lose_kept i d (other_log x) away) alike;
-        first = λ other t. absurd (says_not_lost i d (other_log (other_log x)) other t (omega arith));
-      })
+      let away : other_log x ≢ d = (λ e. absurd (omega arith)) in (
+        other_log x,
+        record {
+          log_disk = omega arith;
+          says = says_forth i (lose d i) (other_log x) said (lose_kept i d (other_log x) away) alike;
+          first = λ other t. absurd (says_not_lost i d (other_log (other_log x)) other t (omega arith));
+        },
+      )
 ]
 
 module _ (slots : ℕ) (i : Disks) (h : History) (k : ℕ) (d x : ℕ) (said : Said) (sound : Sound slots i h k)
@@ -192,8 +194,8 @@ module _ (slots : ℕ) (i : Disks) (h : History) (k : ℕ) (d x : ℕ) (said : S
       subst (λ (o : Option ℕ). ContentOk slots lost.power lost.size (record { meta = said.meta; dirty = dirty_by o t; out = o; block = t }) h k)
       (sym out_now)
       (content_without said.meta (dirty_by out_was f) (dirty_by (Some d) t) out_was f t d was_out kept
-          (dirty_without said.meta.setup.geometry out_was f t d was_out kept mirrored) in_range
-          slots i.power lost.power i.size lost.size h k no_fresh ready content)
+      (dirty_without said.meta.setup.geometry out_was f t d was_out kept mirrored) in_range
+      slots i.power lost.power i.size lost.size h k no_fresh ready content)
 
   pub Sound-lost : Sound slots lost h k
   Sound-lost =

@@ -1,12 +1,11 @@
 -- How a failed call keeps what is held.
-use Rattle.std.specs.Prelude.{◌≡◌, ◌≢◌, ℕ, ◌<◌, ◌≤◌, nat_lt, Bool, true, false, Option, Some, None}
-use Rattle.std.proofs.Common.{refl, sym, ◌∙◌, ap, subst, arith, inl, inr}
+use Rattle.std.specs.Prelude.{◌≡◌, ◌≢◌, ℕ, ◌<◌, nat_lt, true, false, Option, Some}
+use Rattle.std.proofs.Common.{refl, sym, ◌∙◌, ap, subst, inl}
 use Rattle.std.proofs.lemmas.Bool.{false≢true, true≢false}
 use Rattle.paraid_base.specs.declared.block.Block.{Block}
 use Rattle.paraid_base.specs.History.{History}
 use Rattle.paraid_rack.specs.declared.call.Call.{Call}
 use Rattle.paraid_rack.specs.declared.call.Call.TheVariants.{Read, Write, Sync, Park, SpinUp, Attach}
-use Rattle.paraid_rack.specs.declared.call.Power.{Power}
 use Rattle.paraid_rack.specs.declared.call.Power.TheVariants.{Absent}
 use Rattle.paraid_rack.specs.Disks.{Disks, IsImage, IsPresent, is_present, lose, step, with_at}
 use Rattle.paraid_rack.proofs.AtomsLemmas.{at_case, with_at_other, with_at_same}
@@ -79,7 +78,6 @@ keeps_others i d f same = keeps_by (lose d i) f
 module _ (slots : ℕ) (s t : Disks) (h : History) (lo : ℕ) (down : Option ℕ) (d : ℕ) (loss : IsLoss s t d) (present : IsPresent s d)
     (within : (i : Disks) (x : ℕ) (said : Said) → IsImage s i → x < 2 → Says i x said → d < said.meta.setup.geometry.disks)
     (alone : (i : Disks) (w : ℕ) → IsImage s i → IsWeak i w → w ≡ d) (held : IsHeld slots s h lo down) where
-
   -- the image before the loss
   abbrev before : Disks → Disks
   before j = record { power = s.power; size = s.size; block = with_at j.block d (s.block d); loose = j.loose }
@@ -127,12 +125,12 @@ module _ (slots : ℕ) (s t : Disks) (h : History) (lo : ℕ) (down : Option ℕ
       let sound = (holds j e).sound in
       let stands = sound.log.stands in
       let lost_stands = stands_back (lose d (before j)) j.block (keeps j) sound.disk sound.said
-          (subst (λ (k : Disks). Stands k sound.disk sound.said) (sym (after_is j e)) stands) in
+      (subst (λ (k : Disks). Stands k sound.disk sound.said) (sym (after_is j e)) stands) in
       let below = within (before j) sound.disk sound.said (before_is j e) stands.log_disk
-          (says_of_lost (before j) d sound.disk sound.said lost_stands.says) in
+      (says_of_lost (before j) d sound.disk sound.said lost_stands.says) in
       out sound.disk sound.said stands (missing_is_out j.power sound.said.meta d
-          (says_in_range sound.said.opened (stored j sound.disk) sound.said.meta sound.said.batch stands.says.log) sound.log.single
-          (record { disk = below; is = inl (absent j e) }) (absent j e))
+      (says_in_range sound.said.opened (stored j sound.disk) sound.said.meta sound.said.batch stands.says.log) sound.log.single
+      (record { disk = below; is = inl (absent j e) }) (absent j e))
 
   pub IsHeld-lost : IsHeld slots t h lo (Some d)
   IsHeld-lost = record {

@@ -1,16 +1,15 @@
 -- Any bytes in a neutral place leave what an image stands for as it is.
-use Rattle.std.specs.Prelude.{◌≡◌, ◌≢◌, ℕ, ◌+◌, ◌<◌, ◌≤◌, ◌==◌, ◌&&◌, ◌||◌, nat_lt, Bool, true, false, not, List, [], ◌∷◌, Option, Some, None, All, length, if◌then◌else◌, ◌⊎◌}
-use Rattle.std.proofs.Common.{refl, sym, ◌∙◌, ap, subst, arith, inl, inr, zero, suc, cond, eqb}
-use Rattle.std.proofs.lemmas.Bool.{cases_Bool, cases_eq, false≢true, true≢false}
+use Rattle.std.specs.Prelude.{◌≡◌, ◌≢◌, ℕ, ◌+◌, ◌<◌, ◌≤◌, ◌==◌, ◌&&◌, ◌||◌, nat_lt, Bool, true, false, not, [], ◌∷◌, All, length, if◌then◌else◌, ◌⊎◌}
+use Rattle.std.proofs.Common.{refl, sym, ◌∙◌, ap, subst, arith, inl, inr, suc}
+use Rattle.std.proofs.lemmas.Bool.{cases_Bool, cases_eq, false≢true}
 use Rattle.std.proofs.lemmas.Bool.Decides.{nat_tests}
 use Rattle.paraid_base.specs.declared.block.Block.{Block}
 use Rattle.paraid_base.specs.declared.geometry.Geometry.{Geometry}
 use Rattle.paraid_base.specs.History.{History}
 use Rattle.paraid_base.specs.Xor.{zeroed}
-use Rattle.paraid_rack.specs.Disks.{Disks, IsPresent, with_at}
+use Rattle.paraid_rack.specs.Disks.{Disks, with_at}
 use Rattle.paraid_rack.proofs.AtomsLemmas.{at_case, with_at_other, with_at_same}
 use Rattle.paraid_record.specs.declared.meta.Meta.{Meta}
-use Rattle.paraid_record.specs.declared.targets.Target.{Target}
 use Rattle.paraid_record.specs.Targets.{IsTargetInRange, no_target}
 use Rattle.paraid_txn.specs.Content.{view_by}
 use Rattle.paraid_txn.specs.HeldAt.{IsSound}
@@ -59,13 +58,13 @@ contents_over : (i : Disks) (d p : ℕ) (b : Block) (batch : Batch)
 unfolding contents
 contents_over i d p b batch h = λ t. λ x q. (past_log (nat_lt q 100) (has_place i x q)
     (laid batch x q ((overwrite i d p b).block x q)) (laid batch x q (i.block x q)) (λ low there.
-      elim (cases_eq x d) [
-        | inl is ↦ elim (cases_eq q p) [
-          | inl at ↦ ap (laid batch x q) (overwritten_here i d p b x q is at) ∙ h x q is at (above q low) there
-          | inr off ↦ ap (laid batch x q) (overwritten_else i d p b x q (λ e. off))
-        ]
-        | inr off ↦ ap (laid batch x q) (overwritten_else i d p b x q (λ e. absurd (off e)))
-      ])) t
+    elim (cases_eq x d) [
+      | inl is ↦ elim (cases_eq q p) [
+        | inl at ↦ ap (laid batch x q) (overwritten_here i d p b x q is at) ∙ h x q is at (above q low) there
+        | inr off ↦ ap (laid batch x q) (overwritten_else i d p b x q (λ e. off))
+      ]
+      | inr off ↦ ap (laid batch x q) (overwritten_else i d p b x q (λ e. absurd (off e)))
+    ])) t
 
 -- what log disks say
 
@@ -207,7 +206,7 @@ keeps_nowhere i d p b none = keeps_by i (written i d p b)
       rest = λ opened said says q low high. stored_else i d p b x q (λ is at. none);
     })
     (λ x said s. contents_over i d p b said.batch (λ y q is at past there.
-      let not_there : has_place i y q ≡ false = rw (is, at) none in absurd (false≢true (sym not_there ∙ there))))
+    let not_there : has_place i y q ≡ false = rw (is, at) none in absurd (false≢true (sym not_there ∙ there))))
 
 pub keeps_no_log : (i : Disks) (d p : ℕ) (b : Block) → 2 ≤ d → p < 100 → Keeps i (written i d p b)
 keeps_no_log i d p b far l = keeps_by i (written i d p b)
@@ -315,7 +314,7 @@ pub keeps_target : (i : Disks) (d p : ℕ) (b : Block) → 100 ≤ p
     → ((x : ℕ) (said : Said) → Stands i x said → names said.batch d p ≡ true) → Keeps i (written i d p b)
 keeps_target i d p b far all = keeps_by i (written i d p b) (λ x low. log_kept_past i d p b far x)
     (λ x said s. contents_over i d p b said.batch (λ y q is at past there.
-      laid-named said.batch y q b (i.block y q) (rw (is, at) (all x said s))))
+    laid-named said.batch y q b (i.block y q) (rw (is, at) (all x said s))))
 
 pub keeps_neutral : (i : Disks) (d p : ℕ) (b : Block) → IsNeutral i d p → Keeps i (written i d p b)
 keeps_neutral i d p b (nowhere none) = keeps_nowhere i d p b none

@@ -1,19 +1,17 @@
 -- A log disk says one thing.
-use Rattle.std.specs.Prelude.{◌≡◌, ◌≢◌, ℕ, ◌+◌, ◌*◌, ◌<◌, ◌≤◌, ◌^◌, Bool, true, false, List, [], ◌∷◌, All, length, slice_index, slice_index_or}
+use Rattle.std.specs.Prelude.{◌≡◌, ◌≢◌, ℕ, ◌+◌, ◌*◌, ◌<◌, ◌≤◌, ◌^◌, Bool, true, false, List, [], ◌∷◌, slice_index, slice_index_or}
 use Rattle.std.proofs.Common.{refl, sym, ◌∙◌, ap, subst, arith, inl, inr, zero, suc}
 use Rattle.std.proofs.lemmas.Bool.{cases_Bool, false≢true}
 use Rattle.paraid_base.specs.declared.block.Block.{Block}
 use Rattle.paraid_base.specs.declared.geometry.Geometry.{Geometry}
 use Rattle.paraid_base.specs.Places.{sum_before}
-use Rattle.paraid_base.specs.Regions.{disk_size, map_count, region_size}
+use Rattle.paraid_base.specs.Regions.{disk_size, region_size}
 use Rattle.paraid_base.specs.Xor.{zeroed}
 use Rattle.paraid_base.proofs.RegionsLemmas.{region_size_gear, region_size_none, stripe_count_small}
-use Rattle.paraid_rack.specs.Disks.{Disks, IsPresent, is_present}
+use Rattle.paraid_rack.specs.Disks.{Disks}
 use Rattle.paraid_record.specs.declared.meta.Meta.{Meta}
-use Rattle.paraid_record.specs.declared.targets.Target.{Target}
 use Rattle.paraid_record.specs.Meta.{meta_bytes, heading_bytes}
 use Rattle.paraid_record.specs.Spelling.{filled}
-use Rattle.paraid_record.specs.Targets.{AreTargets, Fits, targets_bytes}
 use Rattle.paraid_record.proofs.OneSpelling.{meta_bytes-cancel, targets_bytes-cancel}
 use Rattle.paraid_record.proofs.TargetLemmas.{All-fits}
 use Rattle.paraid_txn.specs.Sides.{AreLogged, Batch, IsSide, Said, Says, SaysBy, Side, Spells, is_open, stored, targets}

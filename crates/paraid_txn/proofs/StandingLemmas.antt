@@ -1,10 +1,9 @@
 -- One log disk stands, and an image holds one number of writes.
-use Rattle.std.specs.Prelude.{◌≡◌, ◌≢◌, ℕ, ◌<◌, Bool, true, false, not, Option, Some, None}
-use Rattle.std.proofs.Common.{refl, sym, ◌∙◌, ap, subst, arith, inl, inr, zero, suc}
-use Rattle.std.proofs.lemmas.Bool.{cases_Bool, false≢true, true≢false}
+use Rattle.std.specs.Prelude.{◌≡◌, ℕ, ◌<◌, Bool, true, false, not, Option, Some, None}
+use Rattle.std.proofs.Common.{refl, sym, ◌∙◌, ap, subst, arith, zero, suc}
+use Rattle.std.proofs.lemmas.Bool.{false≢true}
 use Rattle.paraid_base.specs.History.{History}
 use Rattle.paraid_rack.specs.Disks.{Disks}
-use Rattle.paraid_record.specs.declared.meta.Meta.{Meta}
 use Rattle.paraid_txn.specs.Out.{IsWeak, named_out, out_disk}
 use Rattle.paraid_txn.specs.Out.IsWeak.{out, named}
 use Rattle.paraid_txn.specs.Sides.{IsSide, Said, Says, Side}
@@ -38,19 +37,23 @@ stands_alone i x said l p silent = record { log_disk = l; says = p; first = λ o
 stands_of_two : (i : Disks) (a b : Said) → Says i 0 a → Says i 1 b → (first : Bool) → is_first a b ≡ first → (x : ℕ) → (if_first : Option ℕ) → if_first ≡ Some x
     → ((first ≡ true) → if_first ≡ Some 0) → ((first ≡ false) → if_first ≡ Some 1) → (said : Said) × Stands i x said
 stands_of_two i a b p q true is x o e first second =
-    let at : 0 ≡ x = let k : Some 0 ≡ Some x = sym (first refl) ∙ e in cc in
-    (a, subst (λ (y : ℕ). Stands i y a) at (record {
-      log_disk = omega arith;
-      says = p;
-      first = λ other r. ap (is_first a) (Says-same i 1 other b r q) ∙ is;
-    }))
+    let at : 0 ≡ x = let k : Some 0 ≡ Some x = sym (first refl) ∙ e in cc in (
+      a,
+      subst (λ (y : ℕ). Stands i y a) at (record {
+        log_disk = omega arith;
+        says = p;
+        first = λ other r. ap (is_first a) (Says-same i 1 other b r q) ∙ is;
+      }),
+    )
 stands_of_two i a b p q false is x o e first second =
-    let at : 1 ≡ x = let k : Some 1 ≡ Some x = sym (second refl) ∙ e in cc in
-    (b, subst (λ (y : ℕ). Stands i y b) at (record {
-      log_disk = omega arith;
-      says = q;
-      first = λ other r. ap (λ (s : Said). not (is_first s b)) (Says-same i 0 other a r p) ∙ ap not is;
-    }))
+    let at : 1 ≡ x = let k : Some 1 ≡ Some x = sym (second refl) ∙ e in cc in (
+      b,
+      subst (λ (y : ℕ). Stands i y b) at (record {
+        log_disk = omega arith;
+        says = q;
+        first = λ other r. ap (λ (s : Said). not (is_first s b)) (Says-same i 0 other a r p) ∙ ap not is;
+      }),
+    )
 
 first_alone : (i : Disks) (a : Said) (b : Side) (x : ℕ) → Says i 0 a → IsSide i 1 b → is_formed b ≡ false → Some 0 ≡ Some x → (said : Said) × Stands i x said
 first_alone i a b x p q not e =

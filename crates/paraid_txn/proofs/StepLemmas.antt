@@ -1,24 +1,24 @@
 -- How calls keep what is held.
-use Rattle.std.specs.Prelude.{◌≡◌, ◌≢◌, ℕ, ◌+◌, ◌<◌, ◌≤◌, ◌&&◌, nat_lt, Bool, true, false, Option, Some, None, if◌then◌else◌, ◌⊎◌, length}
-use Rattle.std.proofs.Common.{refl, sym, ◌∙◌, ap, subst, arith, inl, inr, zero, suc}
-use Rattle.std.proofs.lemmas.Bool.{cases_Bool, cases_eq, false≢true, true≢false}
+use Rattle.std.specs.Prelude.{◌≡◌, ◌≢◌, ℕ, ◌<◌, ◌&&◌, nat_lt, Bool, true, false, Option, Some, None, if◌then◌else◌, ◌⊎◌}
+use Rattle.std.proofs.Common.{refl, sym, ◌∙◌, ap, subst, arith, inl, inr}
+use Rattle.std.proofs.lemmas.Bool.{cases_eq, false≢true}
 use Rattle.paraid_base.specs.declared.block.Block.{Block}
 use Rattle.paraid_base.specs.History.{History}
 use Rattle.paraid_base.specs.Xor.{zeroed}
 use Rattle.paraid_rack.specs.declared.call.Power.{Power}
 use Rattle.paraid_rack.specs.declared.call.Power.TheVariants.{Absent}
 use Rattle.paraid_rack.specs.declared.call.Call.TheVariants.{Read, Write, Sync}
-use Rattle.paraid_rack.specs.Disks.{Disks, IsImage, IsPresent, is_present, lose, settled, step, with_at}
+use Rattle.paraid_rack.specs.Disks.{Disks, IsImage, is_present, lose, step, with_at}
 use Rattle.paraid_rack.proofs.AtomsLemmas.{at_case, with_at_other, with_at_same, write_block_other}
 use Rattle.paraid_record.specs.declared.meta.Meta.{Meta}
 use Rattle.paraid_txn.specs.HeldAt.{IsHeld, IsSound, MayLose}
 use Rattle.paraid_txn.specs.Neutral.{IsNeutral, names, overwrite}
 use Rattle.paraid_txn.specs.Neutral.IsNeutral.{nowhere, no_log, shut, settled_meta, unused, target}
 use Rattle.paraid_txn.specs.Out.{IsWeak, named_out, or_else, out_disk, first_absent}
-use Rattle.paraid_txn.specs.Out.IsWeak.{out, named}
+use Rattle.paraid_txn.specs.Out.IsWeak.{out}
 use Rattle.paraid_txn.specs.Sides.{Said, Says, has_place, is_open, stored}
 use Rattle.paraid_txn.specs.Standing.{Stands, other_log}
-use Rattle.paraid_txn.proofs.NeutralLemmas.{IsLogKept, Keeps, is_sound_forth, keeps_neutral, keeps_no_log, keeps_nowhere, keeps_settled_meta, keeps_shut, keeps_target, keeps_unused, overwritten_else, overwritten_here, says_back, says_forth, stands_back, target_past, weak_back, weak_forth, where_there, with_blocks, written}
+use Rattle.paraid_txn.proofs.NeutralLemmas.{IsLogKept, Keeps, is_sound_forth, keeps_neutral, keeps_no_log, keeps_nowhere, keeps_settled_meta, keeps_shut, keeps_target, keeps_unused, overwritten_else, overwritten_here, says_back, says_forth, stands_back, target_past, weak_back, weak_forth, with_blocks, written}
 use Rattle.paraid_txn.proofs.SidesLemmas.{Says-same}
 
 -- where there are no more images, what is held is held
@@ -219,8 +219,8 @@ neutral_write_holds slots s h lo down d p b neutral held =
           let spare = may_lose_back (before j) (written (before j) d p (j.block d p)) f (keeps j e) (subst (λ (k : Disks). MayLose k f) (sym (is j)) may) in
           subst (λ (k : Disks). IsSound slots (lose f k) h lo) (is j)
           (is_sound_forth (lose f (before j)) (written (before j) d p (j.block d p))
-              (keeps_lost (before j) f d p (j.block d p) spare (neutral (before j) (write_image s d p b j e))) slots h lo
-              (held.lost (before j) f (write_image s d p b j e) spare));
+          (keeps_lost (before j) f d p (j.block d p) spare (neutral (before j) (write_image s d p b j e))) slots h lo
+          (held.lost (before j) f (write_image s d p b j e) spare));
       weak = λ j w e weak. held.weak (before j) w (write_image s d p b j e)
           (weak_back (before j) (written (before j) d p (j.block d p)) (keeps j e) w (subst (λ (k : Disks). IsWeak k w) (sym (is j)) weak));
     }

@@ -1,8 +1,8 @@
 -- What blocks stand for does not change with the disk that goes out.
-use Rattle.std.specs.Prelude.{◌≡◌, ◌≢◌, ℕ, ◌+◌, ◌-◌, ◌*◌, ◌/◌, ◌%◌, ◌<◌, ◌≤◌, ◌⊎◌, ◌==◌, ◌&&◌, ◌||◌, nat_lt, Bool, true, false, not, Option, Some, None, slice_index, if◌then◌else◌}
-use Rattle.std.proofs.Common.{refl, sym, ◌∙◌, ap, subst, arith, inl, inr, zero, suc, cond, eqb}
+use Rattle.std.specs.Prelude.{◌≡◌, ◌≢◌, ℕ, ◌+◌, ◌*◌, ◌/◌, ◌%◌, ◌<◌, ◌≤◌, ◌⊎◌, ◌==◌, ◌&&◌, ◌||◌, nat_lt, Bool, true, false, not, Option, Some, None, slice_index, if◌then◌else◌}
+use Rattle.std.proofs.Common.{refl, sym, ◌∙◌, ap, arith, inl, inr}
 use Rattle.std.specs.Int.{bit_at}
-use Rattle.std.proofs.lemmas.Bool.{cases_Bool, cases_eq, false≢true, true≢false}
+use Rattle.std.proofs.lemmas.Bool.{cases_eq, false≢true}
 use Rattle.std.proofs.lemmas.Bool.Decides.{nat_tests}
 use Rattle.paraid_base.specs.declared.block.Block.{Block}
 use Rattle.paraid_base.specs.declared.geometry.Geometry.{Geometry}
@@ -76,7 +76,7 @@ module _ (m : Meta) (dirty dirty_after : ℕ → ℕ → Bool) (out_before : Opt
       ≡ (if is_out out_before x then stripe_rest g block m.gear s x else stripe g block m.gear s x)
   copy_same s x true is lx ls stripes = elim was [
     | inl none ↦ rw none (rest_same s x (out_is x d is) ∙ sym (lost_member (stripe g block m.gear s) x m.gear lx
-          (stripes (λ e h. let k : None ≡ Some e = sym none ∙ h in cc) s ls)))
+        (stripes (λ e h. let k : None ≡ Some e = sym none ∙ h in cc) s ls)))
     | inr some ↦ rw (some, is) (rest_same s x (out_is x d is))
   ]
   copy_same s x false is lx ls stripes = elim was [

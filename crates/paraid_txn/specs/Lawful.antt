@@ -1,5 +1,5 @@
 -- Which calls a session may make, beyond what the power of a disk allows.
-use Rattle.std.specs.Prelude.{◌≡◌, ◌≢◌, ℕ, ◌+◌, ◌-◌, ◌*◌, ◌^◌, ◌<◌, ◌≤◌, ◌==◌, ◌&&◌, min, nat_le, nat_lt, Bool, true, false, List, [], ◌∷◌, Some, slice_index, take, if◌then◌else◌}
+use Rattle.std.specs.Prelude.{◌≡◌, ◌≢◌, ℕ, ◌+◌, ◌-◌, ◌*◌, ◌^◌, ◌<◌, ◌≤◌, ◌==◌, ◌&&◌, min, nat_le, nat_lt, Bool, true, false, List, [], ◌∷◌, slice_index, take, if◌then◌else◌}
 use Rattle.paraid_base.specs.declared.state.Out.TheVariants.{Gone}
 use Rattle.paraid_base.specs.Regions.{disk_size}
 use Rattle.paraid_rack.specs.declared.call.Call.{Call}
@@ -8,7 +8,7 @@ use Rattle.paraid_rack.specs.declared.call.Power.{Power}
 use Rattle.paraid_rack.specs.declared.call.Power.TheVariants.{Spinning, Parked, Absent}
 use Rattle.paraid_rack.specs.Disks.{Disks, IsImage, lose}
 use Rattle.paraid_record.specs.declared.meta.Meta.{Meta}
-use Rattle.paraid_txn.specs.Course.{Calls, Course, IsCallOf, IsDown, IsInPart, IsReplace, IsServing, IsTakenOut, answered, disk_of, disks_at, is_done, mark, part_begin}
+use Rattle.paraid_txn.specs.Course.{Calls, Course, IsCallOf, IsDown, IsInPart, IsReplace, IsServing, IsTakenOut, disk_of, disks_at, is_done, mark}
 use Rattle.paraid_txn.specs.Sides.{Said}
 use Rattle.paraid_txn.specs.Spot.{rising_to}
 use Rattle.paraid_txn.specs.Standing.{Stands}

@@ -31,5 +31,5 @@ pub data IsNeutral (i : Disks) (d p : ℕ) : Type 0 where
   -- a target of the standing batch, which the other log disk has too if it is not out
   target : (x : ℕ) (said : Said) → Stands i x said → names said.batch d p ≡ true
       → ((other : Said) → Says i (other_log x) other → named_out said.meta.out ≢ Some (other_log x)
-        → names other.batch d p ≡ true)
+      → names other.batch d p ≡ true)
       → IsNeutral i d p

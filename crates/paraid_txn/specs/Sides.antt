@@ -3,7 +3,7 @@
 -- Place 0 of a log disk is its gate and place 1 its meta. Under an open gate there are also a
 -- batch that is on its way, and the meta that it brings: the meta at place 2, the list of its
 -- targets at place 3, and a block for each target, in their order, from place 4 on.
-use Rattle.std.specs.Prelude.{◌≡◌, ◌≢◌, ℕ, ◌==◌, ◌&&◌, nat_lt, Bool, true, false, not, List, [], ◌∷◌, Option, Some, None, slice_index, if◌then◌else◌}
+use Rattle.std.specs.Prelude.{◌≡◌, ◌≢◌, ℕ, ◌==◌, ◌&&◌, nat_lt, Bool, true, false, not, List, [], ◌∷◌, slice_index, if◌then◌else◌}
 use Rattle.std.proofs.Common.{suc}
 use Rattle.paraid_base.specs.declared.block.Block.{Block}
 use Rattle.paraid_base.specs.Xor.{zeroed}

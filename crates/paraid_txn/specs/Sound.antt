@@ -1,10 +1,9 @@
 -- Which images hold a history.
-use Rattle.std.specs.Prelude.{◌≡◌, ◌≢◌, ℕ, ◌+◌, ◌-◌, ◌*◌, ◌<◌, ◌≤◌, ◌⊎◌, Bool, true, false, nat_lt, List, Option, Some, None, Contains, slice_index, if◌then◌else◌}
-use Rattle.paraid_base.specs.declared.geometry.Geometry.{Geometry}
+use Rattle.std.specs.Prelude.{◌≡◌, ◌≢◌, ℕ, ◌+◌, ◌-◌, ◌*◌, ◌<◌, ◌≤◌, Bool, true, false, nat_lt, Option, Some, None, Contains, slice_index, if◌then◌else◌}
 use Rattle.paraid_base.specs.declared.state.Out.TheVariants.{Fresh}
 use Rattle.paraid_base.specs.declared.state.Phase.TheVariants.{Up}
 use Rattle.paraid_base.specs.History.{History, after}
-use Rattle.paraid_base.specs.Regions.{disk_size, hard_place_of, map_count, soft_place_of}
+use Rattle.paraid_base.specs.Regions.{disk_size, hard_place_of, map_count}
 use Rattle.paraid_base.specs.Skips.{skip}
 use Rattle.paraid_base.specs.Soft.{soft_disk, soft_parity_disk, soft_stripe, stripe_count}
 use Rattle.paraid_base.specs.Sums.{xor_upto}
@@ -20,7 +19,7 @@ use Rattle.paraid_txn.specs.Content.{blocks_of, view_of}
 use Rattle.paraid_txn.specs.Out.{IsMissing, named_out, out_disk}
 use Rattle.paraid_txn.specs.Sides.{Said, Says, is_open, stored, targets}
 use Rattle.paraid_txn.specs.Spot.{View}
-use Rattle.paraid_txn.specs.Standing.{Contents, Stands, other_log}
+use Rattle.paraid_txn.specs.Standing.{Stands, other_log}
 use Rattle.paraid_txn.specs.Value.{stripe, stripe_rest, value}
 
 -- `a` is an open log whose batch is on its way, and `b` a closed one of the commit before it

@@ -5,7 +5,7 @@ use Rattle.paraid_base.specs.declared.block.Block.{Block}
 use Rattle.paraid_base.specs.Xor.{zeroed}
 use Rattle.paraid_rack.specs.Disks.{Disks}
 use Rattle.paraid_txn.specs.Sides.{Batch, Said, Says, Side, has_place}
-use Rattle.paraid_txn.specs.Sides.Side.{absent, blank, bad, formed}
+use Rattle.paraid_txn.specs.Sides.Side.{formed}
 
 -- whether disk 0 stands where the two log disks say this: it has the greater epoch; or the epochs
 -- are the same, and its gate is closed or that of disk 1 is open

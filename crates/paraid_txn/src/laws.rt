@@ -103,7 +103,7 @@ pub fn a_lost_disk_leaves_what_is_held()
     ensures held { (slots : ℕ) (s t : Disks) (h : History) (lo : ℕ) (down : Option ℕ) (d : ℕ)
         → IsLoss s t d → IsPresent s d
         → ((i : Disks) (x : ℕ) (said : Said) → IsImage s i → x < 2 → Says i x said
-            → d < said.meta.setup.geometry.disks)
+        → d < said.meta.setup.geometry.disks)
         → ((i : Disks) (w : ℕ) → IsImage s i → IsWeak i w → w ≡ d)
         → IsHeld slots s h lo down → IsHeld slots t h lo (Some d) }
 {}
