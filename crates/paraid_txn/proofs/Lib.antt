@@ -7,3 +7,4 @@ pub mod OutLemmas
 pub mod LossLemmas
 pub mod ViewLemmas
 pub mod LoseLemmas
+pub mod AgreeLemmas

@@ -29,7 +29,7 @@ out_is d e h = grind (arith, nat_tests)
 out_is_not : (d e : ℕ) → (d == e) ≡ false → d ≢ e
 out_is_not d e h = grind (arith, nat_tests)
 
-not_below : (d a : ℕ) (b : Bool) → (nat_lt d a || b) ≡ false → a ≤ d
+pub not_below : (d a : ℕ) (b : Bool) → (nat_lt d a || b) ≡ false → a ≤ d
 not_below d a b h = grind (arith, nat_tests)
 
 -- a view, and the view after disk `d` has gone out or, if it was out, has changed
@@ -186,7 +186,7 @@ module _ (m : Meta) (dirty dirty_after : ℕ → ℕ → Bool) (out_before : Opt
         ∙ c.blocks b l;
   }
 
-map_bit_same : (g : Geometry) (f h : ℕ → Block) (r e : ℕ) → f (map_place_of g r) ≡ h (map_place_of g r) → map_bit g f r e ≡ map_bit g h r e
+pub map_bit_same : (g : Geometry) (f h : ℕ → Block) (r e : ℕ) → f (map_place_of g r) ≡ h (map_place_of g r) → map_bit g f r e ≡ map_bit g h r e
 unfolding map_bit
 map_bit_same g f h r e is = ap (λ (b : Block). bit_at (slice_index b.bytes (r % 512)) e == 1) is
 
@@ -194,7 +194,7 @@ map_bit_same g f h r e is = ap (λ (b : Block). bit_at (slice_index b.bytes (r %
 map_disk_first : (d : ℕ) → d ≢ 0 → map_disk (Some d) ≡ 0
 map_disk_first d not = grind (arith, nat_tests)
 
-map_disk_other : (d : ℕ) → map_disk (Some d) ≢ d
+pub map_disk_other : (d : ℕ) → map_disk (Some d) ≢ d
 map_disk_other d e = elim (cases_eq d 0) [
   | inl is ↦ let k : map_disk (Some 0) ≡ 0 = ap (λ (x : ℕ). map_disk (Some x)) (sym is) ∙ e ∙ is in let z : ◌≡◌ {A = ℕ} 1 0 = k in absurd (omega arith)
   | inr not ↦ not (sym e ∙ map_disk_first d not)

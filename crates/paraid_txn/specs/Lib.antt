@@ -7,6 +7,7 @@ pub mod Content
 pub mod Sound
 pub mod HeldAt
 pub mod Neutral
+pub mod Free
 pub mod Loss
 pub mod Power
 pub mod Course
