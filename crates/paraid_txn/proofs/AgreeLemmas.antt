@@ -68,7 +68,7 @@ map_disk_low o = low (is_out o 0)
     low true = omega arith
     low false = omega arith
 
-stripes_gear : (d a count s : ℕ) → s < (if nat_lt d a then count else 0) → (d < a) × (s < count)
+pub stripes_gear : (d a count s : ℕ) → s < (if nat_lt d a then count else 0) → (d < a) × (s < count)
 stripes_gear d a count s l = elim (cases_Bool (nat_lt d a)) [
   | inl is ↦ let below : d < a = grind (arith, nat_tests) in (below, rw is at l)
   | inr not ↦ let none : s < 0 = rw not at l in absurd (omega arith)

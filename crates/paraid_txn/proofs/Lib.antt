@@ -8,3 +8,5 @@ pub mod LossLemmas
 pub mod ViewLemmas
 pub mod LoseLemmas
 pub mod AgreeLemmas
+pub mod FreeLemmas
+pub mod UnseenLemmas

@@ -1,5 +1,5 @@
 -- An image holds what it held with one disk lost.
-use Rattle.std.specs.Prelude.{◌≡◌, ◌≢◌, ℕ, ◌+◌, ◌<◌, ◌⊎◌, nat_lt, Bool, false, Option, Some, None, if◌then◌else◌}
+use Rattle.std.specs.Prelude.{◌≡◌, ◌≢◌, ℕ, ◌+◌, ◌*◌, ◌<◌, ◌⊎◌, nat_lt, Bool, false, Option, Some, None, if◌then◌else◌}
 use Rattle.std.proofs.Common.{refl, sym, ◌∙◌, ap, subst, arith, inl, inr}
 use Rattle.std.proofs.lemmas.Bool.{cases_eq, false≢true, true≢false}
 use Rattle.paraid_base.specs.History.{History}
@@ -30,7 +30,7 @@ contents_kept i d batch x q not =
     ap (λ (t : Bool). if nat_lt q 100 then zeroed else (if t then laid batch x q (i.block x q) else zeroed)) (place_kept i d x q not)
 
 -- the log disk that stands is not the one that is lost
-stands_spared : (i : Disks) (d x : ℕ) (said : Said) → Stands i x said → d ≢ x → (y : ℕ) × Stands (lose d i) y said
+pub stands_spared : (i : Disks) (d x : ℕ) (said : Said) → Stands i x said → d ≢ x → (y : ℕ) × Stands (lose d i) y said
 stands_spared i d x said s apart = (
   x,
   record {
@@ -185,6 +185,13 @@ module _ (slots : ℕ) (i : Disks) (h : History) (k : ℕ) (d x : ℕ) (said : S
   mirrored : (j : ℕ) → j < map_count said.meta.setup.geometry → out_was ≡ None
       → contents i said.batch 0 (100 + j) ≡ contents i said.batch 1 (100 + j)
   mirrored j l none = content.map.mirrored j l (λ e. let z : None ≡ Some 0 = sym none ∙ e in cc) (λ e. let z : None ≡ Some 1 = sym none ∙ e in cc)
+
+  pub dirty_lost : (r e : ℕ) → r < 512 * map_count said.meta.setup.geometry → (view_of lost said).dirty r e ≡ (view_of i said).dirty r e
+  dirty_lost r e l =
+      let f : Contents = contents i said.batch in
+      let t : Contents = contents lost said.batch in
+      ap (λ (o : Option ℕ). dirty_by o t r e) out_now
+      ∙ dirty_without said.meta.setup.geometry out_was f t d was_out (λ y q not. contents_kept i d said.batch y q not) mirrored r e l
 
   content_lost : ContentOk slots lost.power lost.size (view_of lost said) h k
   content_lost =

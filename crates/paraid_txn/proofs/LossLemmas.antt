@@ -124,7 +124,7 @@ module _ (slots : ℕ) (s t : Disks) (h : History) (lo : ℕ) (down : Option ℕ
   weak_now j e =
       let sound = (holds j e).sound in
       let stands = sound.log.stands in
-      let lost_stands = stands_back (lose d (before j)) j.block (keeps j) sound.disk sound.said
+      let lost_stands = stands_back (lose d (before j)) j.block ((keeps j).log) sound.disk sound.said
       (subst (λ (k : Disks). Stands k sound.disk sound.said) (sym (after_is j e)) stands) in
       let below = within (before j) sound.disk sound.said (before_is j e) stands.log_disk
       (says_of_lost (before j) d sound.disk sound.said lost_stands.says) in

@@ -66,6 +66,12 @@ contents_over i d p b batch h = λ t. λ x q. (past_log (nat_lt q 100) (has_plac
       | inr off ↦ ap (laid batch x q) (overwritten_else i d p b x q (λ e. absurd (off e)))
     ])) t
 
+pub contents_else : (i : Disks) (d p : ℕ) (b : Block) (batch : Batch) (x q : ℕ) → (x ≡ d → q ≢ p) → contents (overwrite i d p b) batch x q ≡ contents i batch x q
+unfolding contents
+contents_else i d p b batch x q apart = past_log (nat_lt q 100) (has_place i x q)
+    (laid batch x q ((overwrite i d p b).block x q)) (laid batch x q (i.block x q))
+    (λ low there. ap (laid batch x q) (overwritten_else i d p b x q apart))
+
 -- what log disks say
 
 AreLogged-kept : (f g : ℕ → Block) (p : ℕ) (batch : Batch) → ((q : ℕ) → p ≤ q → q < p + length batch → g q ≡ f q) → AreLogged f p batch → AreLogged g p batch
@@ -126,14 +132,18 @@ with_blocks i f = record i { block = f }
 abbrev pub written : Disks → ℕ → ℕ → Block → ℕ → ℕ → Block
 written i d p b = with_at i.block d (with_at (i.block d) p b)
 
--- other blocks leave as it was all that is said of an image
-pub record Keeps (i : Disks) (f : ℕ → ℕ → Block) : Type 0 where
+-- other blocks leave what log disks say
+pub record KeepsLog (i : Disks) (f : ℕ → ℕ → Block) : Type 0 where
   pub forth : (x : ℕ) (said : Said) → x < 2 → Says i x said → Says (with_blocks i f) x said
   pub back : (x : ℕ) (said : Said) → x < 2 → Says (with_blocks i f) x said → Says i x said
   pub gate : (x : ℕ) → x < 2 → is_open (stored (with_blocks i f) x 0) ≡ is_open (stored i x 0)
+
+-- and the contents too
+pub record Keeps (i : Disks) (f : ℕ → ℕ → Block) : Type 0 where
+  pub log : KeepsLog i f
   pub contents : (x : ℕ) (said : Said) → Stands i x said → contents (with_blocks i f) said.batch ≡ contents i said.batch
 
-module _ (i : Disks) (f : ℕ → ℕ → Block) (keeps : Keeps i f) where
+module _ (i : Disks) (f : ℕ → ℕ → Block) (keeps : KeepsLog i f) where
   abbrev new : Disks
   new = with_blocks i f
 
@@ -159,7 +169,7 @@ module _ (i : Disks) (f : ℕ → ℕ → Block) (keeps : Keeps i f) where
   weak_back w (out x said s e) = out x said (stands_back x said s) e
   weak_back w (named x said other s none q e) = named x said other (stands_back x said s) none (keeps.back (other_log x) other (omega arith) q) e
 
-  log_forth : (x : ℕ) (said : Said) (k : ℕ) → LogOk i x said k → LogOk new x said k
+  pub log_forth : (x : ℕ) (said : Said) (k : ℕ) → LogOk i x said k → LogOk new x said k
   log_forth x said k ok = record {
     stands = stands_forth x said ok.stands;
     writes = ok.writes;
@@ -172,26 +182,29 @@ module _ (i : Disks) (f : ℕ → ℕ → Block) (keeps : Keeps i f) where
         ok.paired a c (keeps.back 0 a (omega arith) says_a) (keeps.back 1 c (omega arith) says_c) in_first in_second;
   }
 
-  pub sound_forth : (slots : ℕ) (h : History) (k : ℕ) → Sound slots i h k → Sound slots new h k
+module _ (i : Disks) (f : ℕ → ℕ → Block) (keeps : Keeps i f) where
+  pub sound_forth : (slots : ℕ) (h : History) (k : ℕ) → Sound slots i h k → Sound slots (with_blocks i f) h k
   sound_forth slots h k s = record {
     disk = s.disk;
     said = s.said;
-    log = log_forth s.disk s.said k s.log;
+    log = log_forth i f keeps.log s.disk s.said k s.log;
     content = subst (λ (g : Contents). ContentOk slots i.power i.size (view_by s.said.meta i.power g) h k)
         (sym (keeps.contents s.disk s.said s.log.stands)) s.content;
   }
 
-  pub is_sound_forth : (slots : ℕ) (h : History) (lo : ℕ) → IsSound slots i h lo → IsSound slots new h lo
+  pub is_sound_forth : (slots : ℕ) (h : History) (lo : ℕ) → IsSound slots i h lo → IsSound slots (with_blocks i f) h lo
   is_sound_forth slots h lo s = record { k = s.k; low = s.low; high = s.high; sound = sound_forth slots h s.k s.sound }
 
-pub keeps_by : (i : Disks) (f : ℕ → ℕ → Block) → ((x : ℕ) → x < 2 → IsLogKept i (with_blocks i f) x)
-    → ((x : ℕ) (said : Said) → Stands i x said → contents (with_blocks i f) said.batch ≡ contents i said.batch) → Keeps i f
-keeps_by i f kept same = record {
+pub keeps_log_by : (i : Disks) (f : ℕ → ℕ → Block) → ((x : ℕ) → x < 2 → IsLogKept i (with_blocks i f) x) → KeepsLog i f
+keeps_log_by i f kept = record {
   forth = λ x said l s. says_forth i (with_blocks i f) x said (kept x l) s;
   back = λ x said l s. says_back i (with_blocks i f) x said (kept x l) s;
   gate = λ x l. ap is_open ((kept x l).gate);
-  contents = same;
 }
+
+pub keeps_by : (i : Disks) (f : ℕ → ℕ → Block) → ((x : ℕ) → x < 2 → IsLogKept i (with_blocks i f) x)
+    → ((x : ℕ) (said : Said) → Stands i x said → contents (with_blocks i f) said.batch ≡ contents i said.batch) → Keeps i f
+keeps_by i f kept same = record { log = keeps_log_by i f kept; contents = same }
 
 -- a write of the log leaves the contents
 contents_log : (i : Disks) (d p : ℕ) (b : Block) → p < 100 → (x : ℕ) (said : Said) → Stands i x said → contents (overwrite i d p b) said.batch ≡ contents i said.batch
@@ -296,7 +309,7 @@ target_past false log m batch d p s h =
 target_past true log m batch d p s h = named_past m.setup.geometry batch d p s.in_range.each h
 
 -- a place past the log is in no log
-log_kept_past : (i : Disks) (d p : ℕ) (b : Block) → 100 ≤ p → (x : ℕ) → IsLogKept i (overwrite i d p b) x
+pub log_kept_past : (i : Disks) (d p : ℕ) (b : Block) → 100 ≤ p → (x : ℕ) → IsLogKept i (overwrite i d p b) x
 log_kept_past i d p b far x = record {
   power = refl;
   gate = stored_else i d p b x 0 (λ is at. absurd (omega arith));

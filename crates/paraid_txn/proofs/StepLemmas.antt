@@ -18,7 +18,7 @@ use Rattle.paraid_txn.specs.Out.{IsWeak, named_out, or_else, out_disk, first_abs
 use Rattle.paraid_txn.specs.Out.IsWeak.{out}
 use Rattle.paraid_txn.specs.Sides.{Said, Says, has_place, is_open, stored}
 use Rattle.paraid_txn.specs.Standing.{Stands, other_log}
-use Rattle.paraid_txn.proofs.NeutralLemmas.{IsLogKept, Keeps, is_sound_forth, keeps_neutral, keeps_no_log, keeps_nowhere, keeps_settled_meta, keeps_shut, keeps_target, keeps_unused, overwritten_else, overwritten_here, says_back, says_forth, stands_back, target_past, weak_back, weak_forth, with_blocks, written}
+use Rattle.paraid_txn.proofs.NeutralLemmas.{IsLogKept, Keeps, KeepsLog, is_sound_forth, keeps_neutral, keeps_no_log, keeps_nowhere, keeps_settled_meta, keeps_shut, keeps_target, keeps_unused, overwritten_else, overwritten_here, says_back, says_forth, stands_back, target_past, weak_back, weak_forth, with_blocks, written}
 use Rattle.paraid_txn.proofs.SidesLemmas.{Says-same}
 
 -- where there are no more images, what is held is held
@@ -67,7 +67,7 @@ unfolding step
 sizes_after_write s d p b x = with_at_self s.size d x
 
 -- an image after a write, with the block put back, is one before it
-write_image : (s : Disks) (d p : ℕ) (b : Block) (j : Disks) → IsImage (step (Write d p b true) s) j → IsImage s (overwrite j d p (s.block d p))
+pub write_image : (s : Disks) (d p : ℕ) (b : Block) (j : Disks) → IsImage (step (Write d p b true) s) j → IsImage s (overwrite j d p (s.block d p))
 write_image s d p b j e = record {
   power = λ x. e.power x ∙ powers_after_write s d p b x;
   size = λ x. e.size x ∙ sizes_after_write s d p b x;
@@ -85,7 +85,7 @@ write_image s d p b j e = record {
 }
 
 -- a block that is changed and put back
-back_again : (j : Disks) (d p : ℕ) (b : Block) → overwrite (overwrite j d p b) d p (j.block d p) ≡ j
+pub back_again : (j : Disks) (d p : ℕ) (b : Block) → overwrite (overwrite j d p b) d p (j.block d p) ≡ j
 back_again j d p b = λ t. record {
   power = j.power;
   size = j.size;
@@ -172,7 +172,7 @@ lost_names i e d p x said may s is others y other t =
     ]
 
 -- a neutral place is neutral with a disk lost
-keeps_lost : (i : Disks) (e d p : ℕ) (b : Block) → MayLose i e → IsNeutral i d p → Keeps (lose e i) (written i d p b)
+pub keeps_lost : (i : Disks) (e d p : ℕ) (b : Block) → MayLose i e → IsNeutral i d p → Keeps (lose e i) (written i d p b)
 keeps_lost i e d p b may (nowhere none) = elim (cases_eq d e) [
   | inl is ↦ keeps_nowhere (lose e i) d p b (place_lost i e d p is)
   | inr not ↦ keeps_nowhere (lose e i) d p b (place_kept i e d p not ∙ none)
@@ -194,7 +194,7 @@ keeps_lost i e d p b may (target x said s is others) =
     keeps_target (lose e i) d p b (target_past said.opened (stored i x) said.meta said.batch d p s.says.log is)
     (lost_names i e d p x said may s is others)
 
-may_lose_back : (i : Disks) (f : ℕ → ℕ → Block) (e : ℕ) → Keeps i f → MayLose (with_blocks i f) e → MayLose i e
+pub may_lose_back : (i : Disks) (f : ℕ → ℕ → Block) (e : ℕ) → KeepsLog i f → MayLose (with_blocks i f) e → MayLose i e
 may_lose_back i f e keeps may = record {
   standing = may.standing;
   said = may.said;
@@ -203,24 +203,3 @@ may_lose_back i f e keeps may = record {
   present = may.present;
   weak = λ w weak. may.weak w (weak_forth i f keeps w weak);
 }
-
--- a write of a place that is neutral in each image
-pub neutral_write_holds : (slots : ℕ) (s : Disks) (h : History) (lo : ℕ) (down : Option ℕ) (d p : ℕ) (b : Block)
-    → ((i : Disks) → IsImage s i → IsNeutral i d p) → IsHeld slots s h lo down → IsHeld slots (step (Write d p b true) s) h lo down
-neutral_write_holds slots s h lo down d p b neutral held =
-    let before : Disks → Disks = λ (j : Disks). overwrite j d p (s.block d p) in
-    let is : (j : Disks) → overwrite (before j) d p (j.block d p) ≡ j = λ (j : Disks). back_again j d p (s.block d p) in
-    let keeps : (j : Disks) → IsImage (step (Write d p b true) s) j → Keeps (before j) (written (before j) d p (j.block d p)) =
-    λ j e. keeps_neutral (before j) d p (j.block d p) (neutral (before j) (write_image s d p b j e)) in
-    record {
-      whole = λ j e. subst (λ (k : Disks). IsSound slots k h lo) (is j)
-          (is_sound_forth (before j) (written (before j) d p (j.block d p)) (keeps j e) slots h lo (held.whole (before j) (write_image s d p b j e)));
-      lost = λ j f e may.
-          let spare = may_lose_back (before j) (written (before j) d p (j.block d p)) f (keeps j e) (subst (λ (k : Disks). MayLose k f) (sym (is j)) may) in
-          subst (λ (k : Disks). IsSound slots (lose f k) h lo) (is j)
-          (is_sound_forth (lose f (before j)) (written (before j) d p (j.block d p))
-          (keeps_lost (before j) f d p (j.block d p) spare (neutral (before j) (write_image s d p b j e))) slots h lo
-          (held.lost (before j) f (write_image s d p b j e) spare));
-      weak = λ j w e weak. held.weak (before j) w (write_image s d p b j e)
-          (weak_back (before j) (written (before j) d p (j.block d p)) (keeps j e) w (subst (λ (k : Disks). IsWeak k w) (sym (is j)) weak));
-    }

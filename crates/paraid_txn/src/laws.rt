@@ -6,7 +6,9 @@ ghost use Rattle.paraid_rack.specs.declared.call.Call.{Call as CallType};
 ghost use Rattle.paraid_rack.specs.declared.call.Call.TheVariants.{Read, Sync, Write};
 ghost use Rattle.paraid_rack.specs.Disks.{Disks, IsImage, IsPresent, lose, step};
 ghost use Rattle.paraid_rack.specs.Trail.{Trail, disks, initial};
+ghost use Rattle.paraid_txn.specs.Free.{IsFree, IsUnseen};
 ghost use Rattle.paraid_txn.specs.HeldAt.{HeldAt, IsHeld, MayLose};
+ghost use Rattle.paraid_txn.specs.Content.{view_of};
 ghost use Rattle.paraid_txn.specs.Course.{disk_of, is_done};
 ghost use Rattle.paraid_txn.specs.Loss.{IsLoss};
 ghost use Rattle.paraid_txn.specs.Neutral.{IsNeutral, overwrite};
@@ -80,9 +82,16 @@ pub fn neutral_places_do_not_matter()
         → IsNeutral i d p → Sound slots i h k → Sound slots (overwrite i d p b) h k }
 {}
 
-/// A read or a sync that is done, and a write of a place that is neutral in each image, leave what
+/// Any bytes in a free place leave what the image holds as it is.
+pub fn free_places_do_not_matter()
+    ensures { (slots : ℕ) (i : Disks) (d p : ℕ) (b : BlockType) (h : History) (k x : ℕ)
+        (said : Said) → Stands i x said → IsFree (view_of i said) d p → Sound slots i h k
+        → Sound slots (overwrite i d p b) h k }
+{}
+
+/// A read or a sync that is done, and a write of a place that is not seen in any image, leave what
 /// is held.
-pub fn neutral_calls_leave_what_is_held()
+pub fn unseen_calls_leave_what_is_held()
     ensures fewer { (slots : ℕ) (s t : Disks) (h : History) (lo : ℕ) (down : Option ℕ)
         → ((i : Disks) → IsImage t i → IsImage s i) → IsHeld slots s h lo down
         → IsHeld slots t h lo down }
@@ -91,7 +100,7 @@ pub fn neutral_calls_leave_what_is_held()
     ensures sync { (slots : ℕ) (s : Disks) (h : History) (lo : ℕ) (down : Option ℕ) (d : ℕ)
         → IsHeld slots s h lo down → IsHeld slots (step (Sync d true) s) h lo down }
     ensures write { (slots : ℕ) (s : Disks) (h : History) (lo : ℕ) (down : Option ℕ) (d p : ℕ)
-        (b : BlockType) → ((i : Disks) → IsImage s i → IsNeutral i d p)
+        (b : BlockType) → ((i : Disks) → IsImage s i → IsUnseen i d p)
         → IsHeld slots s h lo down → IsHeld slots (step (Write d p b true) s) h lo down }
 {}
 
