@@ -10,3 +10,4 @@ pub mod LoseLemmas
 pub mod AgreeLemmas
 pub mod FreeLemmas
 pub mod UnseenLemmas
+pub mod FormattedLemmas

@@ -6,6 +6,7 @@ pub mod Value
 pub mod Content
 pub mod Sound
 pub mod HeldAt
+pub mod Formatted
 pub mod Neutral
 pub mod Free
 pub mod Loss

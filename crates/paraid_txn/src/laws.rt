@@ -1,11 +1,13 @@
 //! That the definitions fit together. Each law is the contract of a function that does nothing.
-ghost use Rattle.std.specs.Prelude.{◌≡◌, ◌≢◌, ℕ, ◌<◌, ◌≤◌, ◌⊎◌, ◌++◌, true, false, Option, Some, None};
+ghost use Rattle.std.specs.Prelude.{◌≡◌, ◌≢◌, ℕ, ◌<◌, ◌≤◌, ◌⊎◌, ◌++◌, [], true, false, Option, Some, None};
 ghost use Rattle.paraid_base.specs.declared.block.Block.{Block as BlockType};
 ghost use Rattle.paraid_base.specs.History.{History};
 ghost use Rattle.paraid_rack.specs.declared.call.Call.{Call as CallType};
 ghost use Rattle.paraid_rack.specs.declared.call.Call.TheVariants.{Read, Sync, Write};
 ghost use Rattle.paraid_rack.specs.Disks.{Disks, IsImage, IsPresent, lose, step};
 ghost use Rattle.paraid_rack.specs.Trail.{Trail, disks, initial};
+ghost use Rattle.paraid_record.specs.declared.meta.Meta.{Meta as MetaType};
+ghost use Rattle.paraid_txn.specs.Formatted.{IsFormatted};
 ghost use Rattle.paraid_txn.specs.Free.{IsFree, IsUnseen};
 ghost use Rattle.paraid_txn.specs.HeldAt.{HeldAt, IsHeld, MayLose};
 ghost use Rattle.paraid_txn.specs.Content.{view_of};
@@ -123,4 +125,10 @@ pub fn one_disk_can_be_lost()
     ensures { (slots : ℕ) (i : Disks) (h : History) (k d x : ℕ) (said : Said)
         → Sound slots i h k → Stands i x said → (d ≢ x) ⊎ Says i (other_log x) said
         → MayLose i d → Sound slots (lose d i) h k }
+{}
+
+/// A formatted array holds the history without a write.
+pub fn a_formatted_array_holds_nothing()
+    ensures { (slots : ℕ) (s : Disks) (m : MetaType) → IsFormatted slots s m
+        → IsHeld slots s [] 0 None }
 {}
