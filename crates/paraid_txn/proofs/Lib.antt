@@ -11,3 +11,4 @@ pub mod AgreeLemmas
 pub mod FreeLemmas
 pub mod UnseenLemmas
 pub mod FormattedLemmas
+pub mod TurnLemmas

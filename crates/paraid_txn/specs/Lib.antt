@@ -10,6 +10,7 @@ pub mod Formatted
 pub mod Neutral
 pub mod Free
 pub mod Loss
+pub mod Turns
 pub mod Power
 pub mod Course
 pub mod Lawful

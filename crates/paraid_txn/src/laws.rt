@@ -3,7 +3,8 @@ ghost use Rattle.std.specs.Prelude.{◌≡◌, ◌≢◌, ℕ, ◌<◌, ◌≤�
 ghost use Rattle.paraid_base.specs.declared.block.Block.{Block as BlockType};
 ghost use Rattle.paraid_base.specs.History.{History};
 ghost use Rattle.paraid_rack.specs.declared.call.Call.{Call as CallType};
-ghost use Rattle.paraid_rack.specs.declared.call.Call.TheVariants.{Read, Sync, Write};
+ghost use Rattle.paraid_rack.specs.declared.call.Call.TheVariants.{Park, Read, SpinUp, Sync, Write};
+ghost use Rattle.paraid_rack.specs.declared.call.Power.TheVariants.{Parked, Spinning};
 ghost use Rattle.paraid_rack.specs.Disks.{Disks, IsImage, IsPresent, lose, step};
 ghost use Rattle.paraid_rack.specs.Trail.{Trail, disks, initial};
 ghost use Rattle.paraid_record.specs.declared.meta.Meta.{Meta as MetaType};
@@ -18,6 +19,7 @@ ghost use Rattle.paraid_txn.specs.Out.{IsWeak};
 ghost use Rattle.paraid_txn.specs.Sides.{IsSide, Said, Says, Side};
 ghost use Rattle.paraid_txn.specs.Sound.{Sound};
 ghost use Rattle.paraid_txn.specs.Standing.{Stands, contents as contents_of, other_log, standing};
+ghost use Rattle.paraid_txn.specs.Turns.{MayPark};
 
 /// A log disk says one thing, one log disk stands, and it is the one that the sides in short give.
 pub fn one_log_disk_stands()
@@ -131,4 +133,16 @@ pub fn one_disk_can_be_lost()
 pub fn a_formatted_array_holds_nothing()
     ensures { (slots : ℕ) (s : Disks) (m : MetaType) → IsFormatted slots s m
         → IsHeld slots s [] 0 None }
+{}
+
+/// A disk that is spun up, or parked where no log disk asks that it spins, leaves what is held.
+pub fn turns_leave_what_is_held()
+    ensures spin_up { (slots : ℕ) (s : Disks) (h : History) (lo : ℕ) (down : Option ℕ) (d : ℕ)
+        → s.power d ≡ Parked → IsHeld slots s h lo down
+        → IsHeld slots (step (SpinUp d true) s) h lo down }
+    ensures park { (slots : ℕ) (s : Disks) (h : History) (lo : ℕ) (down : Option ℕ) (d : ℕ)
+        → s.power d ≡ Spinning
+        → ((i : Disks) (x : ℕ) (said : Said) → IsImage s i → x < 2 → Says i x said
+            → MayPark said d)
+        → IsHeld slots s h lo down → IsHeld slots (step (Park d true) s) h lo down }
 {}
