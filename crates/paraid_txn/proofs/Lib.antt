@@ -12,3 +12,4 @@ pub mod FreeLemmas
 pub mod UnseenLemmas
 pub mod FormattedLemmas
 pub mod TurnLemmas
+pub mod CloseLemmas

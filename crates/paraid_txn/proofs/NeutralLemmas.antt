@@ -44,7 +44,7 @@ pub past_log : (low there : Bool) (x y : Block) → (low ≡ false → there ≡
 past_log true there x y h = refl
 past_log false there x y h = where_there there x y (h refl)
 
-stored_else : (i : Disks) (d p : ℕ) (b : Block) (x q : ℕ) → (x ≡ d → q ≡ p → has_place i d p ≡ false) → stored (overwrite i d p b) x q ≡ stored i x q
+pub stored_else : (i : Disks) (d p : ℕ) (b : Block) (x q : ℕ) → (x ≡ d → q ≡ p → has_place i d p ≡ false) → stored (overwrite i d p b) x q ≡ stored i x q
 unfolding stored
 stored_else i d p b x q apart = where_there (has_place i x q) _ _ (λ there.
     overwritten_else i d p b x q (λ is at. let none : has_place i x q ≡ false = rw (is, at) (apart is at) in false≢true (sym none ∙ there)))
@@ -52,7 +52,7 @@ stored_else i d p b x q apart = where_there (has_place i x q) _ _ (λ there.
 above : (q : ℕ) → nat_lt q 100 ≡ false → 100 ≤ q
 above q h = grind (arith, nat_tests)
 
-contents_over : (i : Disks) (d p : ℕ) (b : Block) (batch : Batch)
+pub contents_over : (i : Disks) (d p : ℕ) (b : Block) (batch : Batch)
     → ((x q : ℕ) → x ≡ d → q ≡ p → 100 ≤ q → has_place i x q ≡ true → laid batch x q b ≡ laid batch x q (i.block x q))
     → contents (overwrite i d p b) batch ≡ contents i batch
 unfolding contents
@@ -207,7 +207,7 @@ pub keeps_by : (i : Disks) (f : ℕ → ℕ → Block) → ((x : ℕ) → x < 2 
 keeps_by i f kept same = record { log = keeps_log_by i f kept; contents = same }
 
 -- a write of the log leaves the contents
-contents_log : (i : Disks) (d p : ℕ) (b : Block) → p < 100 → (x : ℕ) (said : Said) → Stands i x said → contents (overwrite i d p b) said.batch ≡ contents i said.batch
+pub contents_log : (i : Disks) (d p : ℕ) (b : Block) → p < 100 → (x : ℕ) (said : Said) → Stands i x said → contents (overwrite i d p b) said.batch ≡ contents i said.batch
 contents_log i d p b l x said s = contents_over i d p b said.batch (λ y q is at past there. absurd (omega arith))
 
 pub keeps_nowhere : (i : Disks) (d p : ℕ) (b : Block) → has_place i d p ≡ false → Keeps i (written i d p b)

@@ -36,7 +36,7 @@ pairing_closed a b (first_done s) p q = absurd (false≢true (sym p ∙ s.opened
 pairing_closed a b (second_done s) p q = absurd (false≢true (sym q ∙ s.opened))
 
 -- the log disk that stands is not out
-standing_not_out : (i : Disks) (x : ℕ) (said : Said) (k : ℕ) → LogOk i x said k → out_disk i.power said.meta ≢ Some x
+pub standing_not_out : (i : Disks) (x : ℕ) (said : Said) (k : ℕ) → LogOk i x said k → out_disk i.power said.meta ≢ Some x
 standing_not_out i x said k ok = split (named_out said.meta.out) refl
   where
     split : (o : Option ℕ) → named_out said.meta.out ≡ o → or_else o (first_absent i.power said.meta.setup.geometry.disks) ≡ Some x → ⊥

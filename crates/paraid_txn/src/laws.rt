@@ -11,12 +11,13 @@ ghost use Rattle.paraid_record.specs.declared.meta.Meta.{Meta as MetaType};
 ghost use Rattle.paraid_txn.specs.Formatted.{IsFormatted};
 ghost use Rattle.paraid_txn.specs.Free.{IsFree, IsUnseen};
 ghost use Rattle.paraid_txn.specs.HeldAt.{HeldAt, IsHeld, MayLose};
+ghost use Rattle.paraid_txn.specs.Close.{IsLaidBelow};
 ghost use Rattle.paraid_txn.specs.Content.{view_of};
 ghost use Rattle.paraid_txn.specs.Course.{disk_of, is_done};
 ghost use Rattle.paraid_txn.specs.Loss.{IsLoss};
 ghost use Rattle.paraid_txn.specs.Neutral.{IsNeutral, overwrite};
 ghost use Rattle.paraid_txn.specs.Out.{IsWeak};
-ghost use Rattle.paraid_txn.specs.Sides.{IsSide, Said, Says, Side};
+ghost use Rattle.paraid_txn.specs.Sides.{IsSide, Said, Says, Side, is_open};
 ghost use Rattle.paraid_txn.specs.Sound.{Sound};
 ghost use Rattle.paraid_txn.specs.Standing.{Stands, contents as contents_of, other_log, standing};
 ghost use Rattle.paraid_txn.specs.Turns.{MayPark};
@@ -145,4 +146,21 @@ pub fn turns_leave_what_is_held()
         → ((i : Disks) (x : ℕ) (said : Said) → IsImage s i → x < 2 → Says i x said
             → MayPark said d)
         → IsHeld slots s h lo down → IsHeld slots (step (Park d true) s) h lo down }
+{}
+
+/// Where all that stands, also with a disk lost, says that so many writes are held, so many are.
+pub fn what_stands_bounds_what_is_held()
+    ensures { (slots : ℕ) (s : Disks) (h : History) (lo high : ℕ) (down : Option ℕ)
+        → ((i : Disks) (x : ℕ) (said : Said) → IsImage s i → Stands i x said
+            → high ≤ said.meta.writes)
+        → ((i : Disks) (d x : ℕ) (said : Said) → IsImage s i → MayLose i d
+            → Stands (lose d i) x said → high ≤ said.meta.writes)
+        → IsHeld slots s h lo down → IsHeld slots s h high down }
+{}
+
+/// Closing a gate whose batch has been laid in place leaves what the image holds.
+pub fn a_gate_can_be_closed()
+    ensures { (slots : ℕ) (i : Disks) (h : History) (k x : ℕ) (said : Said) (b : BlockType)
+        → IsLaidBelow i x said → is_open b ≡ false → Sound slots i h k
+        → Sound slots (overwrite i x 0 b) h k }
 {}
