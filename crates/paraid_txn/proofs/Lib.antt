@@ -13,3 +13,4 @@ pub mod UnseenLemmas
 pub mod FormattedLemmas
 pub mod TurnLemmas
 pub mod CloseLemmas
+pub mod OpenLemmas

@@ -79,7 +79,7 @@ AreLogged-kept f g p [] h logged = tt
 AreLogged-kept f g p (w ∷ batch) h logged =
     (h p (omega arith) (omega arith) ∙ logged.0, AreLogged-kept f g (suc p) batch (λ q low high. h q (omega arith) (omega arith)) logged.1)
 
-SaysBy-kept : (opened : Bool) (f g : ℕ → Block) (m : Meta) (batch : Batch) → (opened ≡ false → g 1 ≡ f 1)
+pub SaysBy-kept : (opened : Bool) (f g : ℕ → Block) (m : Meta) (batch : Batch) → (opened ≡ false → g 1 ≡ f 1)
     → (opened ≡ true → (q : ℕ) → 2 ≤ q → q < 4 + length batch → g q ≡ f q) → SaysBy opened f m batch → SaysBy opened g m batch
 SaysBy-kept false f g m batch one rest s = record {
   meta = subst (λ (b : Block). Spells b m) (sym (one refl)) s.meta;
@@ -96,7 +96,7 @@ length-targets : (batch : Batch) → length (targets batch) ≡ length batch
 length-targets [] = refl
 length-targets (w ∷ batch) = ap suc (length-targets batch)
 
-few_logged : (opened : Bool) (log : ℕ → Block) (m : Meta) (batch : Batch) → SaysBy opened log m batch → length batch ≤ 96
+pub few_logged : (opened : Bool) (log : ℕ → Block) (m : Meta) (batch : Batch) → SaysBy opened log m batch → length batch ≤ 96
 few_logged false log m batch s = rw s.empty (omega arith)
 few_logged true log m batch s = let few = s.in_range.few in let same = length-targets batch in omega arith
 

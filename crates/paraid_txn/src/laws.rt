@@ -16,6 +16,7 @@ ghost use Rattle.paraid_txn.specs.Content.{view_of};
 ghost use Rattle.paraid_txn.specs.Course.{disk_of, is_done};
 ghost use Rattle.paraid_txn.specs.Loss.{IsLoss};
 ghost use Rattle.paraid_txn.specs.Neutral.{IsNeutral, overwrite};
+ghost use Rattle.paraid_txn.specs.Open.{IsLoggedNext};
 ghost use Rattle.paraid_txn.specs.Out.{IsWeak};
 ghost use Rattle.paraid_txn.specs.Sides.{IsSide, Said, Says, Side, is_open};
 ghost use Rattle.paraid_txn.specs.Sound.{Sound};
@@ -163,4 +164,20 @@ pub fn a_gate_can_be_closed()
     ensures { (slots : ℕ) (i : Disks) (h : History) (k x : ℕ) (said : Said) (b : BlockType)
         → IsLaidBelow i x said → is_open b ≡ false → Sound slots i h k
         → Sound slots (overwrite i x 0 b) h k }
+{}
+
+/// Opening a gate over the next batch makes the image hold what the batch brings.
+pub fn a_gate_can_be_opened()
+    ensures { (slots : ℕ) (i : Disks) (h : History) (k x : ℕ) (new : Said) (b : BlockType)
+        → IsLoggedNext slots i x new h k → is_open b ≡ true
+        → Sound slots (overwrite i x 0 b) h k }
+{}
+
+/// What a stop may leave after a write is what it may leave before it, with any bytes in that
+/// place.
+pub fn a_write_leaves_any_bytes()
+    ensures before { (s : Disks) (d p : ℕ) (b : BlockType) (j : Disks)
+        → IsImage (step (Write d p b true) s) j → IsImage s (overwrite j d p (s.block d p)) }
+    ensures after { (j : Disks) (d p : ℕ) (b : BlockType)
+        → overwrite (overwrite j d p b) d p (j.block d p) ≡ j }
 {}
