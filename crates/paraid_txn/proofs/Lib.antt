@@ -14,3 +14,4 @@ pub mod FormattedLemmas
 pub mod TurnLemmas
 pub mod CloseLemmas
 pub mod OpenLemmas
+pub mod GateLemmas

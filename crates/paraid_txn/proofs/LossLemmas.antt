@@ -14,7 +14,7 @@ use Rattle.paraid_txn.specs.HeldAt.{IsHeld, IsSound, MayLose}
 use Rattle.paraid_txn.specs.Loss.{IsLoss}
 use Rattle.paraid_txn.specs.Out.{IsWeak}
 use Rattle.paraid_txn.specs.Out.IsWeak.{out}
-use Rattle.paraid_txn.specs.Sides.{Said, Says, has_place, stored}
+use Rattle.paraid_txn.specs.Sides.{Said, Says, has_place, is_open, stored}
 use Rattle.paraid_txn.specs.Standing.{Stands, contents, laid}
 use Rattle.paraid_txn.proofs.NeutralLemmas.{Keeps, is_sound_forth, keeps_by, past_log, stands_back, where_there, with_blocks}
 use Rattle.paraid_txn.proofs.OutLemmas.{missing_is_out, says_in_range}
@@ -69,7 +69,7 @@ keeps_others : (i : Disks) (d : ℕ) (f : ℕ → ℕ → Block) → ((x q : ℕ
 keeps_others i d f same = keeps_by (lose d i) f
     (λ x l. record {
       power = refl;
-      gate = stored_same i d f same x 0;
+      gate = ap is_open (stored_same i d f same x 0);
       meta = λ closed. stored_same i d f same x 1;
       rest = λ opened said says q low high. stored_same i d f same x q;
     })

@@ -49,6 +49,11 @@ unfolding stored
 stored_else i d p b x q apart = where_there (has_place i x q) _ _ (λ there.
     overwritten_else i d p b x q (λ is at. let none : has_place i x q ≡ false = rw (is, at) (apart is at) in false≢true (sym none ∙ there)))
 
+stored_written : (i : Disks) (d : ℕ) (b : Block) → has_place i d 0 ≡ true → stored (overwrite i d 0 b) d 0 ≡ b
+unfolding stored
+stored_written i d b there =
+    ap (λ (t : Bool). if t then (overwrite i d 0 b).block d 0 else zeroed) there ∙ overwritten_here i d 0 b d 0 refl refl
+
 above : (q : ℕ) → nat_lt q 100 ≡ false → 100 ≤ q
 above q h = grind (arith, nat_tests)
 
@@ -103,21 +108,21 @@ few_logged true log m batch s = let few = s.in_range.few in let same = length-ta
 -- the places that are looked at of the log of disk `x` hold the same
 pub record IsLogKept (i j : Disks) (x : ℕ) : Type 0 where
   pub power : j.power x ≡ i.power x
-  pub gate : stored j x 0 ≡ stored i x 0
+  pub gate : is_open (stored j x 0) ≡ is_open (stored i x 0)
   pub meta : is_open (stored i x 0) ≡ false → stored j x 1 ≡ stored i x 1
   pub rest : is_open (stored i x 0) ≡ true → (said : Said) → (Says i x said ⊎ Says j x said) → (q : ℕ) → 2 ≤ q → q < 4 + length said.batch → stored j x q ≡ stored i x q
 
 pub says_forth : (i j : Disks) (x : ℕ) (said : Said) → IsLogKept i j x → Says i x said → Says j x said
 says_forth i j x said kept s = record {
   present = rw kept.power s.present;
-  gate = ap is_open kept.gate ∙ s.gate;
+  gate = kept.gate ∙ s.gate;
   log = SaysBy-kept said.opened (stored i x) (stored j x) said.meta said.batch
       (λ closed. kept.meta (s.gate ∙ closed)) (λ opened. kept.rest (s.gate ∙ opened) said (inl s)) s.log;
 }
 
 pub says_back : (i j : Disks) (x : ℕ) (said : Said) → IsLogKept i j x → Says j x said → Says i x said
 says_back i j x said kept s =
-    let gate : is_open (stored i x 0) ≡ said.opened = ap is_open (sym kept.gate) ∙ s.gate in
+    let gate : is_open (stored i x 0) ≡ said.opened = sym kept.gate ∙ s.gate in
     record {
       present = rw (sym kept.power) s.present;
       gate = gate;
@@ -199,7 +204,7 @@ pub keeps_log_by : (i : Disks) (f : ℕ → ℕ → Block) → ((x : ℕ) → x 
 keeps_log_by i f kept = record {
   forth = λ x said l s. says_forth i (with_blocks i f) x said (kept x l) s;
   back = λ x said l s. says_back i (with_blocks i f) x said (kept x l) s;
-  gate = λ x l. ap is_open ((kept x l).gate);
+  gate = λ x l. (kept x l).gate;
 }
 
 pub keeps_by : (i : Disks) (f : ℕ → ℕ → Block) → ((x : ℕ) → x < 2 → IsLogKept i (with_blocks i f) x)
@@ -214,7 +219,7 @@ pub keeps_nowhere : (i : Disks) (d p : ℕ) (b : Block) → has_place i d p ≡ 
 keeps_nowhere i d p b none = keeps_by i (written i d p b)
     (λ x l. record {
       power = refl;
-      gate = stored_else i d p b x 0 (λ is at. none);
+      gate = ap is_open (stored_else i d p b x 0 (λ is at. none));
       meta = λ closed. stored_else i d p b x 1 (λ is at. none);
       rest = λ opened said says q low high. stored_else i d p b x q (λ is at. none);
     })
@@ -225,7 +230,7 @@ pub keeps_no_log : (i : Disks) (d p : ℕ) (b : Block) → 2 ≤ d → p < 100 �
 keeps_no_log i d p b far l = keeps_by i (written i d p b)
     (λ x low. record {
       power = refl;
-      gate = stored_else i d p b x 0 (λ is at. absurd (omega arith));
+      gate = ap is_open (stored_else i d p b x 0 (λ is at. absurd (omega arith)));
       meta = λ closed. stored_else i d p b x 1 (λ is at. absurd (omega arith));
       rest = λ opened said says q lower high. stored_else i d p b x q (λ is at. absurd (omega arith));
     })
@@ -235,7 +240,7 @@ pub keeps_shut : (i : Disks) (d p : ℕ) (b : Block) → is_open (stored i d 0) 
 keeps_shut i d p b closed far l = keeps_by i (written i d p b)
     (λ x low. record {
       power = refl;
-      gate = stored_else i d p b x 0 (λ is at. absurd (omega arith));
+      gate = ap is_open (stored_else i d p b x 0 (λ is at. absurd (omega arith)));
       meta = λ shut_too. stored_else i d p b x 1 (λ is at. absurd (omega arith));
       rest = λ opened said says q lower high. stored_else i d p b x q (λ is at.
           absurd (false≢true (sym closed ∙ ap (λ (y : ℕ). is_open (stored i y 0)) (sym is) ∙ opened)));
@@ -246,7 +251,7 @@ pub keeps_settled_meta : (i : Disks) (d p : ℕ) (b : Block) → is_open (stored
 keeps_settled_meta i d p b opened one = keeps_by i (written i d p b)
     (λ x low. record {
       power = refl;
-      gate = stored_else i d p b x 0 (λ is at. absurd (omega arith));
+      gate = ap is_open (stored_else i d p b x 0 (λ is at. absurd (omega arith)));
       meta = λ closed. stored_else i d p b x 1 (λ is at.
           absurd (false≢true (sym closed ∙ ap (λ (y : ℕ). is_open (stored i y 0)) is ∙ opened)));
       rest = λ opened_too said says q lower high. stored_else i d p b x q (λ is at. absurd (omega arith));
@@ -274,7 +279,7 @@ keeps_unused i d p b said s opened past l =
     keeps_by i (written i d p b)
     (λ x low. record {
       power = refl;
-      gate = stored_else i d p b x 0 (λ is at. absurd (omega arith));
+      gate = ap is_open (stored_else i d p b x 0 (λ is at. absurd (omega arith)));
       meta = λ closed. stored_else i d p b x 1 (λ is at. absurd (omega arith));
       rest = λ opened_too other says q lower high. stored_else i d p b x q (λ is at.
           let there = subst (λ (y : ℕ). Says i y other ⊎ Says (overwrite i d p b) y other) is says in
@@ -282,6 +287,26 @@ keeps_unused i d p b said s opened past l =
           absurd (omega arith));
     })
     (contents_log i d p b l)
+
+-- a gate is only open or closed
+gate_written : (i : Disks) (d : ℕ) (b : Block) → is_open b ≡ is_open (stored i d 0) → is_open (stored (overwrite i d 0 b) d 0) ≡ is_open (stored i d 0)
+gate_written i d b same = elim (cases_Bool (has_place i d 0)) [
+  | inl there ↦ ap is_open (stored_written i d b there) ∙ same
+  | inr none ↦ ap is_open (stored_else i d 0 b d 0 (λ is at. none))
+]
+
+pub keeps_gate : (i : Disks) (d : ℕ) (b : Block) → is_open b ≡ is_open (stored i d 0) → Keeps i (written i d 0 b)
+keeps_gate i d b same = keeps_by i (written i d 0 b)
+    (λ x l. record {
+      power = refl;
+      gate = elim (cases_eq x d) [
+        | inl is ↦ ap (λ (z : ℕ). is_open (stored (overwrite i d 0 b) z 0)) is ∙ gate_written i d b same ∙ ap (λ (z : ℕ). is_open (stored i z 0)) (sym is)
+        | inr not ↦ ap is_open (stored_else i d 0 b x 0 (λ is at. absurd (not is)))
+      ];
+      meta = λ closed. stored_else i d 0 b x 1 (λ is at. absurd (omega arith));
+      rest = λ opened said says q low high. stored_else i d 0 b x q (λ is at. absurd (omega arith));
+    })
+    (contents_log i d 0 b (omega arith))
 
 -- targets
 
@@ -312,7 +337,7 @@ target_past true log m batch d p s h = named_past m.setup.geometry batch d p s.i
 pub log_kept_past : (i : Disks) (d p : ℕ) (b : Block) → 100 ≤ p → (x : ℕ) → IsLogKept i (overwrite i d p b) x
 log_kept_past i d p b far x = record {
   power = refl;
-  gate = stored_else i d p b x 0 (λ is at. absurd (omega arith));
+  gate = ap is_open (stored_else i d p b x 0 (λ is at. absurd (omega arith)));
   meta = λ closed. stored_else i d p b x 1 (λ is at. absurd (omega arith));
   rest = λ opened said says q low high. stored_else i d p b x q (λ is at.
       let few : length said.batch ≤ 96 = elim says [

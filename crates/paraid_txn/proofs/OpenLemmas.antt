@@ -67,7 +67,7 @@ module _ (slots : ℕ) (i : Disks) (h : History) (k x : ℕ) (new : Said) (b : B
   kept : (z : ℕ) → z ≢ x → IsLogKept i now z
   kept z not = record {
     power = refl;
-    gate = stored_else i x 0 b z 0 (λ is at. absurd (not is));
+    gate = ap is_open (stored_else i x 0 b z 0 (λ is at. absurd (not is)));
     meta = λ c. stored_else i x 0 b z 1 (λ is at. absurd (not is));
     rest = λ c o says q lo hi. stored_else i x 0 b z q (λ is at. absurd (not is));
   }

@@ -130,7 +130,7 @@ zeroed_closed = refl
 pub lose_kept : (i : Disks) (e x : ℕ) → x ≢ e → IsLogKept i (lose e i) x
 lose_kept i e x not = record {
   power = with_at_other i.power e Absent x not;
-  gate = stored_kept i e x 0 not;
+  gate = ap is_open (stored_kept i e x 0 not);
   meta = λ closed. stored_kept i e x 1 not;
   rest = λ opened said says q low high. stored_kept i e x q not;
 }

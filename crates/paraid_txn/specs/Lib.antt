@@ -11,6 +11,7 @@ pub mod Neutral
 pub mod Free
 pub mod Loss
 pub mod Turns
+pub mod Gate
 pub mod Open
 pub mod Close
 pub mod Power

@@ -10,6 +10,7 @@ ghost use Rattle.paraid_rack.specs.Trail.{Trail, disks, initial};
 ghost use Rattle.paraid_record.specs.declared.meta.Meta.{Meta as MetaType};
 ghost use Rattle.paraid_txn.specs.Formatted.{IsFormatted};
 ghost use Rattle.paraid_txn.specs.Free.{IsFree, IsUnseen};
+ghost use Rattle.paraid_txn.specs.Gate.{GateTurns};
 ghost use Rattle.paraid_txn.specs.HeldAt.{HeldAt, IsHeld, MayLose};
 ghost use Rattle.paraid_txn.specs.Close.{IsLaidBelow};
 ghost use Rattle.paraid_txn.specs.Content.{view_of};
@@ -180,4 +181,12 @@ pub fn a_write_leaves_any_bytes()
         → IsImage (step (Write d p b true) s) j → IsImage s (overwrite j d p (s.block d p)) }
     ensures after { (j : Disks) (d p : ℕ) (b : BlockType)
         → overwrite (overwrite j d p b) d p (j.block d p) ≡ j }
+{}
+
+/// A gate is only open or closed: a write of one leaves what is held, if in each image the bytes
+/// that turn it do.
+pub fn a_gate_is_open_or_closed()
+    ensures { (slots : ℕ) (s : Disks) (h : History) (lo : ℕ) (down : Option ℕ) (x : ℕ)
+        (b : BlockType) → ((i : Disks) → IsImage s i → GateTurns slots i x h lo down)
+        → IsHeld slots s h lo down → IsHeld slots (step (Write x 0 b true) s) h lo down }
 {}
