@@ -1,7 +1,7 @@
 -- A gate that is closed over what it brought leaves what an image holds.
-use Rattle.std.specs.Prelude.{◌≡◌, ◌≢◌, ℕ, ◌+◌, ◌-◌, ◌<◌, ◌≤◌, ◌⊎◌, ◌==◌, ◌&&◌, ◌||◌, nat_lt, Bool, true, false, not, [], Option, Some, None}
-use Rattle.std.proofs.Common.{refl, sym, ◌∙◌, ap, subst, arith, inl, inr, zero, suc, cond, eqb}
-use Rattle.std.proofs.lemmas.Bool.{cases_Bool, cases_eq, false≢true, true≢false}
+use Rattle.std.specs.Prelude.{◌≡◌, ◌≢◌, ℕ, ◌<◌, ◌≤◌, ◌⊎◌, ◌==◌, ◌&&◌, ◌||◌, nat_lt, Bool, true, false, not, [], Option, Some}
+use Rattle.std.proofs.Common.{refl, sym, ◌∙◌, ap, subst, arith, inl, inr, zero, suc}
+use Rattle.std.proofs.lemmas.Bool.{cases_Bool, cases_eq}
 use Rattle.std.proofs.lemmas.Bool.Decides.{nat_tests}
 use Rattle.paraid_base.specs.declared.block.Block.{Block}
 use Rattle.paraid_base.specs.History.{History}
@@ -9,19 +9,16 @@ use Rattle.paraid_rack.specs.Disks.{Disks, IsImage, IsPresent, lose}
 use Rattle.paraid_record.specs.declared.meta.Meta.{Meta}
 use Rattle.paraid_txn.specs.Close.{IsLaidBelow, shut_of}
 use Rattle.paraid_txn.specs.Content.{view_by, view_of}
-use Rattle.paraid_txn.specs.HeldAt.{IsHeld, IsSound, MayLose}
+use Rattle.paraid_txn.specs.HeldAt.{IsHeld, MayLose}
 use Rattle.paraid_txn.specs.Neutral.{overwrite}
 use Rattle.paraid_txn.specs.Out.{IsMissing, named_out, out_disk}
-use Rattle.paraid_txn.specs.Sides.{Said, Says, SaysBy, Spells, has_place, is_open, stored}
+use Rattle.paraid_txn.specs.Sides.{Said, Says, Spells, has_place, is_open, stored}
 use Rattle.paraid_txn.specs.Sound.{ContentOk, IsDone, IsFresh, LogOk, Pairing, Sound}
 use Rattle.paraid_txn.specs.Sound.Pairing.{alike, first_done, second_done}
 use Rattle.paraid_txn.specs.Standing.{Contents, Stands, contents, is_first, other_log, stands_before}
 use Rattle.paraid_txn.proofs.NeutralLemmas.{IsLogKept, contents_over, overwritten_here, says_back, says_forth, stored_else}
-use Rattle.paraid_txn.proofs.OutLemmas.{first_absent_is}
 use Rattle.paraid_txn.proofs.SidesLemmas.{Says-same}
-use Rattle.paraid_txn.proofs.StandingLemmas.{Stands-same}
 use Rattle.paraid_txn.proofs.StepLemmas.{out_named, zeroed_closed}
-use Rattle.paraid_txn.proofs.UnseenLemmas.{standing_not_out}
 
 -- what stands says at least so many writes
 pub IsHeld-raised : (slots : ℕ) (s : Disks) (h : History) (lo high : ℕ) (down : Option ℕ)
@@ -162,24 +159,31 @@ module _ (slots : ℕ) (i : Disks) (h : History) (k x : ℕ) (said : Said) (b : 
   -- both are closed over the same meta
   both_shut : Says i y shut → named_out said.meta.out ≢ Some y → StandsIn
   both_shut s y_in = elim (cases_eq x 0) [
-    | inl is ↦ (0, record {
+    | inl is ↦ (
+      0,
+      record {
         log_disk = omega arith;
         says = subst (λ (z : ℕ). Says now z shut) is says_x;
         first = λ o t.
             let there : Says now y o = subst (λ (z : ℕ). Says now z o) (let l = low in omega arith) t in
             ap (is_first shut) (Says-same now y o shut there (y_now shut s)) ∙ same_epoch said.meta.epoch false;
-      }, subst (λ (z : ℕ). named_out said.meta.out ≢ Some z) is x_in)
+      },
+      subst (λ (z : ℕ). named_out said.meta.out ≢ Some z) is x_in,
+    )
     | inr not ↦
         let l = low in
         let y_is : y ≡ 0 = omega arith in
-        let x_is : x ≡ 1 = omega arith in
-        (0, record {
-          log_disk = omega arith;
-          says = subst (λ (z : ℕ). Says now z shut) y_is (y_now shut s);
-          first = λ o t.
-              let there : Says now x o = subst (λ (z : ℕ). Says now z o) (sym x_is) t in
-              ap (is_first shut) (Says-same now x o shut there says_x) ∙ same_epoch said.meta.epoch false;
-        }, subst (λ (z : ℕ). named_out said.meta.out ≢ Some z) y_is y_in)
+        let x_is : x ≡ 1 = omega arith in (
+          0,
+          record {
+            log_disk = omega arith;
+            says = subst (λ (z : ℕ). Says now z shut) y_is (y_now shut s);
+            first = λ o t.
+                let there : Says now x o = subst (λ (z : ℕ). Says now z o) (sym x_is) t in
+                ap (is_first shut) (Says-same now x o shut there says_x) ∙ same_epoch said.meta.epoch false;
+          },
+          subst (λ (z : ℕ). named_out said.meta.out ≢ Some z) y_is y_in,
+        )
   ]
 
   -- the closed one stands before the open one

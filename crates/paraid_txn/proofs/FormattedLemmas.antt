@@ -1,19 +1,17 @@
 -- A formatted array holds the history without a write.
-use Rattle.std.specs.Prelude.{◌≡◌, ◌≢◌, ℕ, ◌+◌, ◌-◌, ◌*◌, ◌/◌, ◌%◌, ◌<◌, ◌≤◌, ◌==◌, ◌&&◌, ◌||◌, nat_eq, nat_lt, Bool, true, false, not, List, [], ◌∷◌, Option, Some, None, replicate, slice_index, if◌then◌else◌}
+use Rattle.std.specs.Prelude.{◌≡◌, ◌≢◌, ℕ, ◌+◌, ◌*◌, ◌%◌, ◌<◌, ◌≤◌, ◌==◌, ◌&&◌, ◌||◌, nat_lt, Bool, true, false, not, [], Option, Some, None, replicate, slice_index, if◌then◌else◌}
 use Rattle.std.specs.Int.{bit_at}
-use Rattle.std.proofs.Common.{refl, sym, ◌∙◌, ap, subst, arith, inl, inr, zero, suc, cond, eqb}
-use Rattle.std.proofs.lemmas.Bool.{and_from, cases_eq, false≢true, true≢false}
+use Rattle.std.proofs.Common.{refl, sym, ◌∙◌, ap, subst, arith, inl, inr, zero, suc}
+use Rattle.std.proofs.lemmas.Bool.{and_from, false≢true}
 use Rattle.std.proofs.lemmas.Bool.Decides.{nat_tests}
 use Rattle.std.proofs.lemmas.Nat.Bits.{bit_at-zero}
 use Rattle.paraid_base.specs.declared.block.Block.{Block}
 use Rattle.paraid_base.specs.declared.geometry.Geometry.{Geometry}
 use Rattle.paraid_base.specs.declared.state.Out.TheVariants.{No, Fresh}
-use Rattle.paraid_base.specs.declared.state.Phase.{Phase}
-use Rattle.paraid_base.specs.declared.state.Phase.TheVariants.{Steady, Down, Up}
+use Rattle.paraid_base.specs.declared.state.Phase.TheVariants.{Steady, Up}
 use Rattle.paraid_base.specs.Cells.{home_disk, home_row}
-use Rattle.paraid_base.specs.History.{History, after, last_of}
+use Rattle.paraid_base.specs.History.{after}
 use Rattle.paraid_base.specs.Regions.{disk_size, hard_place_of, map_count, map_place_of, soft_place_of}
-use Rattle.paraid_base.specs.Soft.{stripe_count}
 use Rattle.paraid_base.specs.Sums.{xor_upto}
 use Rattle.paraid_base.specs.Xor.{xor, zeroed}
 use Rattle.paraid_base.proofs.CellsLemmas.{home_disk_below, home_row_below}
@@ -21,19 +19,18 @@ use Rattle.paraid_base.proofs.RegionsLemmas.{hard_place_below, soft_place_below}
 use Rattle.paraid_base.proofs.XorLemmas.{xor_zero}
 use Rattle.paraid_rack.specs.declared.call.Power.{Power}
 use Rattle.paraid_rack.specs.declared.call.Power.TheVariants.{Spinning, Parked}
-use Rattle.paraid_rack.specs.Disks.{Disks, IsImage, is_present, lose}
+use Rattle.paraid_rack.specs.Disks.{Disks, is_present, lose}
 use Rattle.paraid_record.specs.declared.meta.Meta.{Meta}
 use Rattle.paraid_record.specs.Range.{fill_limit}
-use Rattle.paraid_txn.specs.Content.{view_of}
 use Rattle.paraid_txn.specs.Formatted.{IsFormatted}
 use Rattle.paraid_txn.specs.HeldAt.{IsHeld, IsSound, MayLose}
-use Rattle.paraid_txn.specs.Out.{IsMissing, IsWeak, first_absent, is_out, named_out, or_else, out_disk}
+use Rattle.paraid_txn.specs.Out.{IsMissing, IsWeak, first_absent, named_out, or_else, out_disk}
 use Rattle.paraid_txn.specs.Out.IsWeak.{out, named}
-use Rattle.paraid_txn.specs.Sides.{Batch, Said, Says, has_place, is_open, stored}
-use Rattle.paraid_txn.specs.Sound.{AreDisks, ContentOk, IsFresh, LogOk, Pairing, Sound}
+use Rattle.paraid_txn.specs.Sides.{Said, Says, has_place, is_open, stored}
+use Rattle.paraid_txn.specs.Sound.{AreDisks, ContentOk, IsFresh, LogOk, Sound}
 use Rattle.paraid_txn.specs.Sound.Pairing.{alike}
 use Rattle.paraid_txn.specs.Spot.{View, is_hard, map_bit, map_disk, rising_to}
-use Rattle.paraid_txn.specs.Standing.{Contents, Stands, contents, is_first, laid, other_log, stands_before}
+use Rattle.paraid_txn.specs.Standing.{Contents, Stands, contents, is_first, other_log}
 use Rattle.paraid_txn.specs.Value.{near, stripe, value}
 use Rattle.paraid_txn.proofs.HeldLemmas.{image_is}
 use Rattle.paraid_txn.proofs.LoseLemmas.{Sound-lost}

@@ -1,11 +1,10 @@
 -- Any bytes in a free place leave what an image holds.
-use Rattle.std.specs.Prelude.{◌≡◌, ◌≢◌, ℕ, ◌+◌, ◌-◌, ◌*◌, ◌/◌, ◌<◌, ◌≤◌, ◌⊎◌, nat_lt, Bool, true, false, Option, Some, None, slice_index_or}
-use Rattle.std.proofs.Common.{refl, sym, ◌∙◌, ap, subst, arith, inl, inr}
-use Rattle.std.proofs.lemmas.Bool.{cases_eq, false≢true, true≢false}
+use Rattle.std.specs.Prelude.{◌≡◌, ◌≢◌, ℕ, ◌+◌, ◌<◌, ◌≤◌, true, false, Some, None}
+use Rattle.std.proofs.Common.{sym, ◌∙◌, ap, subst, arith, inl, inr}
+use Rattle.std.proofs.lemmas.Bool.{false≢true}
 use Rattle.paraid_base.specs.declared.block.Block.{Block}
 use Rattle.paraid_base.specs.declared.geometry.Geometry.{Geometry}
-use Rattle.paraid_base.specs.declared.state.Out.{Out}
-use Rattle.paraid_base.specs.declared.state.Out.TheVariants.{No, Gone, Fresh}
+use Rattle.paraid_base.specs.declared.state.Out.TheVariants.{Gone, Fresh}
 use Rattle.paraid_base.specs.declared.state.Phase.{Phase}
 use Rattle.paraid_base.specs.declared.state.Phase.TheVariants.{Steady, Down, Up}
 use Rattle.paraid_base.specs.History.{History}
@@ -20,15 +19,14 @@ use Rattle.paraid_record.specs.Range.{IsInRange, IsPhaseInRange}
 use Rattle.paraid_txn.specs.Content.{view_of}
 use Rattle.paraid_txn.specs.Free.{IsFree, IsShiftTo}
 use Rattle.paraid_txn.specs.Free.IsFree.{dirty_cell, unfilled, gone, row, stripe, map_block}
-use Rattle.paraid_txn.specs.HeldAt.{IsSound}
 use Rattle.paraid_txn.specs.Neutral.{overwrite}
 use Rattle.paraid_txn.specs.Out.{named_out, out_disk}
 use Rattle.paraid_txn.specs.Sides.{Said, stored}
-use Rattle.paraid_txn.specs.Sound.{ContentOk, IsFresh, LogOk, Sound, stripes_on}
+use Rattle.paraid_txn.specs.Sound.{IsFresh, Sound, stripes_on}
 use Rattle.paraid_txn.specs.Spot.{View}
 use Rattle.paraid_txn.specs.Standing.{Contents, Stands, contents}
 use Rattle.paraid_txn.proofs.AgreeLemmas.{AgreeSeen, content_agrees, stripes_gear}
-use Rattle.paraid_txn.proofs.NeutralLemmas.{KeepsLog, contents_else, keeps_log_by, log_forth, log_kept_past, with_blocks, written}
+use Rattle.paraid_txn.proofs.NeutralLemmas.{KeepsLog, contents_else, keeps_log_by, log_forth, log_kept_past, written}
 use Rattle.paraid_txn.proofs.OutLemmas.{says_in_range}
 use Rattle.paraid_txn.proofs.StandingLemmas.{Stands-same}
 use Rattle.paraid_txn.proofs.StepLemmas.{out_named}

@@ -1,7 +1,7 @@
 -- A write of a gate, of which a stop may leave any bytes.
 use Rattle.std.specs.Prelude.{◌≡◌, ◌≢◌, ℕ, ◌⊎◌, Bool, true, false, Option, Some}
 use Rattle.std.proofs.Common.{refl, sym, ◌∙◌, ap, subst, inl, inr}
-use Rattle.std.proofs.lemmas.Bool.{cases_Bool, cases_eq, false≢true, true≢false}
+use Rattle.std.proofs.lemmas.Bool.{cases_eq, false≢true, true≢false}
 use Rattle.paraid_base.specs.declared.block.Block.{Block}
 use Rattle.paraid_base.specs.History.{History}
 use Rattle.paraid_rack.specs.declared.call.Call.TheVariants.{Write}
@@ -11,7 +11,7 @@ use Rattle.paraid_txn.specs.HeldAt.{IsHeld, IsSound, MayLose}
 use Rattle.paraid_txn.specs.Neutral.{overwrite}
 use Rattle.paraid_txn.specs.Out.{IsWeak}
 use Rattle.paraid_txn.specs.Sides.{is_open, stored}
-use Rattle.paraid_txn.proofs.NeutralLemmas.{Keeps, is_sound_forth, keeps_gate, keeps_nowhere, weak_back, with_blocks, written}
+use Rattle.paraid_txn.proofs.NeutralLemmas.{Keeps, is_sound_forth, keeps_gate, keeps_nowhere, weak_back, written}
 use Rattle.paraid_txn.proofs.StepLemmas.{back_again, may_lose_back, place_lost, stored_kept, write_image}
 
 same_bool : (a b : Bool) → (a ≡ b) ⊎ (a ≢ b)
@@ -49,9 +49,9 @@ gate_write_holds slots s h lo down x b turns held =
     let before : Disks → Disks = λ (j : Disks). overwrite j x 0 (s.block x 0) in
     let is : (j : Disks) → overwrite (before j) x 0 (j.block x 0) ≡ j = λ (j : Disks). back_again j x 0 (s.block x 0) in
     let leaves : (j : Disks) → IsImage (step (Write x 0 b true) s) j → TurnsSound slots (before j) x (j.block x 0) h lo down = λ j e.
-        let image = write_image s x 0 b j e in
-        gate_leaves slots (before j) x (j.block x 0) h lo down (turns (before j) image) (held.whole (before j) image)
-        (λ f may. held.lost (before j) f image may) (λ w weak. held.weak (before j) w image weak) in
+    let image = write_image s x 0 b j e in
+    gate_leaves slots (before j) x (j.block x 0) h lo down (turns (before j) image) (held.whole (before j) image)
+    (λ f may. held.lost (before j) f image may) (λ w weak. held.weak (before j) w image weak) in
     record {
       whole = λ j e. subst (λ (k : Disks). IsSound slots k h lo) (is j) ((leaves j e).whole);
       lost = λ j f e may. subst (λ (k : Disks). IsSound slots (lose f k) h lo) (is j)

@@ -15,3 +15,4 @@ pub mod TurnLemmas
 pub mod CloseLemmas
 pub mod OpenLemmas
 pub mod GateLemmas
+pub mod SpotLemmas

@@ -1,21 +1,20 @@
 -- Opening a gate makes an image hold what the log brings.
-use Rattle.std.specs.Prelude.{◌≡◌, ◌≢◌, ℕ, ◌-◌, ◌<◌, ◌≤◌, ◌⊎◌, ◌==◌, ◌&&◌, ◌||◌, nat_lt, Bool, true, false, not, Option, Some, if◌then◌else◌}
-use Rattle.std.proofs.Common.{refl, sym, ◌∙◌, ap, subst, arith, inl, inr, zero, suc, cond, eqb}
-use Rattle.std.proofs.lemmas.Bool.{cases_eq, false≢true, true≢false}
+use Rattle.std.specs.Prelude.{◌≡◌, ◌≢◌, ℕ, ◌<◌, ◌==◌, ◌&&◌, ◌||◌, nat_lt, Bool, true, false, not, Some, if◌then◌else◌}
+use Rattle.std.proofs.Common.{refl, sym, ◌∙◌, ap, subst, arith, inl, inr, zero, suc}
+use Rattle.std.proofs.lemmas.Bool.{cases_eq}
 use Rattle.std.proofs.lemmas.Bool.Decides.{nat_tests}
 use Rattle.paraid_base.specs.declared.block.Block.{Block}
 use Rattle.paraid_base.specs.History.{History}
 use Rattle.paraid_base.specs.Xor.{zeroed}
 use Rattle.paraid_rack.specs.Disks.{Disks, IsPresent}
-use Rattle.paraid_record.specs.declared.meta.Meta.{Meta}
 use Rattle.paraid_txn.specs.Content.{view_by, view_of}
 use Rattle.paraid_txn.specs.Neutral.{overwrite}
-use Rattle.paraid_txn.specs.Open.{IsLatest, IsLoggedNext}
+use Rattle.paraid_txn.specs.Open.{IsLoggedNext}
 use Rattle.paraid_txn.specs.Out.{named_out, out_disk}
-use Rattle.paraid_txn.specs.Sides.{Batch, Said, Says, SaysBy, SaysOpen, has_place, is_open, stored}
-use Rattle.paraid_txn.specs.Sound.{ContentOk, IsAhead, IsFresh, LogOk, Pairing, Sound}
+use Rattle.paraid_txn.specs.Sides.{Said, Says, SaysBy, is_open, stored}
+use Rattle.paraid_txn.specs.Sound.{ContentOk, IsAhead, LogOk, Pairing, Sound}
 use Rattle.paraid_txn.specs.Sound.Pairing.{alike, first_ahead, second_ahead}
-use Rattle.paraid_txn.specs.Standing.{Contents, Stands, contents, is_first, other_log, stands_before}
+use Rattle.paraid_txn.specs.Standing.{Contents, Stands, is_first, other_log, stands_before}
 use Rattle.paraid_txn.proofs.NeutralLemmas.{IsLogKept, SaysBy-kept, contents_over, few_logged, overwritten_here, says_back, says_forth, stored_else}
 use Rattle.paraid_txn.proofs.SidesLemmas.{Says-same}
 
@@ -56,8 +55,8 @@ module _ (slots : ℕ) (i : Disks) (h : History) (k x : ℕ) (new : Said) (b : B
   says_x =
       let logged : SaysBy true (stored i x) new.meta new.batch = next.logged in
       let there : SaysBy true (stored now x) new.meta new.batch = SaysBy-kept true (stored i x) (stored now x) new.meta new.batch
-          (λ c. stored_else i x 0 b x 1 (λ is at. absurd (omega arith)))
-          (λ c q lo hi. stored_else i x 0 b x q (λ is at. absurd (omega arith))) logged in
+      (λ c. stored_else i x 0 b x 1 (λ is at. absurd (omega arith)))
+      (λ c q lo hi. stored_else i x 0 b x q (λ is at. absurd (omega arith))) logged in
       record {
         present = next.present;
         gate = gate_here ∙ sym next.opened;
@@ -83,34 +82,45 @@ module _ (slots : ℕ) (i : Disks) (h : History) (k x : ℕ) (new : Said) (b : B
 
   both : Says i y new → StandsIn
   both s = elim (cases_eq x 0) [
-    | inl is ↦ (0, record {
+    | inl is ↦ (
+      0,
+      record {
         log_disk = omega arith;
         says = subst (λ (z : ℕ). Says now z new) is says_x;
         first = λ o t.
             let there : Says now y o = subst (λ (z : ℕ). Says now z o) (let l = low in omega arith) t in
             ap (is_first new) (Says-same now y o new there (y_now new s)) ∙ same_before new.meta.epoch new.opened;
-      }, subst (λ (z : ℕ). named_out new.meta.out ≢ Some z) is next.in_array)
+      },
+      subst (λ (z : ℕ). named_out new.meta.out ≢ Some z) is next.in_array,
+    )
     | inr not ↦
         let l = low in
         let y_is : y ≡ 0 = omega arith in
-        let x_is : x ≡ 1 = omega arith in
-        (0, record {
-          log_disk = omega arith;
-          says = subst (λ (z : ℕ). Says now z new) y_is (y_now new s);
-          first = λ o t.
-              let there : Says now x o = subst (λ (z : ℕ). Says now z o) (sym x_is) t in
-              ap (is_first new) (Says-same now x o new there says_x) ∙ same_before new.meta.epoch new.opened;
-        }, subst (λ (z : ℕ). named_out new.meta.out ≢ Some z) y_is (next.other_in s))
+        let x_is : x ≡ 1 = omega arith in (
+          0,
+          record {
+            log_disk = omega arith;
+            says = subst (λ (z : ℕ). Says now z new) y_is (y_now new s);
+            first = λ o t.
+                let there : Says now x o = subst (λ (z : ℕ). Says now z o) (sym x_is) t in
+                ap (is_first new) (Says-same now x o new there says_x) ∙ same_before new.meta.epoch new.opened;
+          },
+          subst (λ (z : ℕ). named_out new.meta.out ≢ Some z) y_is (next.other_in s),
+        )
   ]
 
   by_standing : StandsIn
   by_standing = elim next.latest [
     | inl s ↦ both s
-    | inr older ↦ (x, record {
+    | inr older ↦ (
+      x,
+      record {
         log_disk = low;
         says = says_x;
         first = λ o s. greater_before x new o (older o (y_then o s));
-      }, next.in_array)
+      },
+      next.in_array,
+    )
   ]
 
   pair : (a c : Said) → Says now 0 a → Says now 1 c → out_disk i.power new.meta ≢ Some 0 → out_disk i.power new.meta ≢ Some 1 → Pairing a c

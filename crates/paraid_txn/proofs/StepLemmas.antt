@@ -11,14 +11,14 @@ use Rattle.paraid_rack.specs.declared.call.Call.TheVariants.{Read, Write, Sync}
 use Rattle.paraid_rack.specs.Disks.{Disks, IsImage, is_present, lose, step, with_at}
 use Rattle.paraid_rack.proofs.AtomsLemmas.{at_case, with_at_other, with_at_same, write_block_other}
 use Rattle.paraid_record.specs.declared.meta.Meta.{Meta}
-use Rattle.paraid_txn.specs.HeldAt.{IsHeld, IsSound, MayLose}
+use Rattle.paraid_txn.specs.HeldAt.{IsHeld, MayLose}
 use Rattle.paraid_txn.specs.Neutral.{IsNeutral, names, overwrite}
 use Rattle.paraid_txn.specs.Neutral.IsNeutral.{nowhere, no_log, shut, settled_meta, unused, target}
-use Rattle.paraid_txn.specs.Out.{IsWeak, named_out, or_else, out_disk, first_absent}
+use Rattle.paraid_txn.specs.Out.{named_out, or_else, out_disk, first_absent}
 use Rattle.paraid_txn.specs.Out.IsWeak.{out}
 use Rattle.paraid_txn.specs.Sides.{Said, Says, has_place, is_open, stored}
 use Rattle.paraid_txn.specs.Standing.{Stands, other_log}
-use Rattle.paraid_txn.proofs.NeutralLemmas.{IsLogKept, Keeps, KeepsLog, is_sound_forth, keeps_neutral, keeps_no_log, keeps_nowhere, keeps_settled_meta, keeps_shut, keeps_target, keeps_unused, overwritten_else, overwritten_here, says_back, says_forth, stands_back, target_past, weak_back, weak_forth, with_blocks, written}
+use Rattle.paraid_txn.proofs.NeutralLemmas.{IsLogKept, Keeps, KeepsLog, keeps_no_log, keeps_nowhere, keeps_settled_meta, keeps_shut, keeps_target, keeps_unused, overwritten_else, overwritten_here, says_back, says_forth, stands_back, target_past, weak_forth, with_blocks, written}
 use Rattle.paraid_txn.proofs.SidesLemmas.{Says-same}
 
 -- where there are no more images, what is held is held

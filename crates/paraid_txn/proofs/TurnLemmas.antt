@@ -1,16 +1,15 @@
 -- Parking a disk and spinning it up leave what is held.
-use Rattle.std.specs.Prelude.{◌≡◌, ◌≢◌, ℕ, ◌<◌, ◌≤◌, ◌⊎◌, ◌&&◌, nat_lt, Bool, true, false, Contains, Option, Some, None, slice_index, if◌then◌else◌}
+use Rattle.std.specs.Prelude.{◌≡◌, ◌≢◌, ℕ, ◌<◌, ◌⊎◌, ◌&&◌, nat_lt, Bool, true, Contains, Option, Some, None, if◌then◌else◌}
 use Rattle.std.proofs.Common.{refl, sym, ◌∙◌, ap, subst, arith, inl, inr, zero, suc}
-use Rattle.std.proofs.lemmas.Bool.{cases_eq, false≢true, true≢false}
+use Rattle.std.proofs.lemmas.Bool.{cases_eq}
 use Rattle.paraid_base.specs.declared.block.Block.{Block}
 use Rattle.paraid_base.specs.declared.state.Out.TheVariants.{Fresh}
-use Rattle.paraid_base.specs.declared.state.Phase.TheVariants.{Up}
 use Rattle.paraid_base.specs.History.{History}
 use Rattle.paraid_base.specs.Xor.{zeroed}
 use Rattle.paraid_rack.specs.declared.call.Call.TheVariants.{Park, SpinUp}
 use Rattle.paraid_rack.specs.declared.call.Power.{Power}
 use Rattle.paraid_rack.specs.declared.call.Power.TheVariants.{Spinning, Parked, Absent}
-use Rattle.paraid_rack.specs.Disks.{Disks, IsImage, IsPresent, is_present, lose, step, with_at}
+use Rattle.paraid_rack.specs.Disks.{Disks, IsImage, is_present, lose, step, with_at}
 use Rattle.paraid_rack.proofs.AtomsLemmas.{at_case, with_at_other, with_at_same}
 use Rattle.paraid_record.specs.declared.meta.Meta.{Meta}
 use Rattle.paraid_record.specs.declared.targets.Target.{Target}
@@ -19,7 +18,7 @@ use Rattle.paraid_txn.specs.HeldAt.{IsHeld, IsSound, MayLose}
 use Rattle.paraid_txn.specs.Out.{IsMissing, IsWeak, first_absent, named_out, or_else, out_disk}
 use Rattle.paraid_txn.specs.Out.IsWeak.{out, named}
 use Rattle.paraid_txn.specs.Sides.{Batch, Said, Says, SaysBy, has_place, is_open, stored, targets}
-use Rattle.paraid_txn.specs.Sound.{AreDisks, ContentOk, IsFresh, LogOk, Sound}
+use Rattle.paraid_txn.specs.Sound.{AreDisks, ContentOk, IsFresh, LogOk}
 use Rattle.paraid_txn.specs.Spot.{map_bit, map_disk, rising_to}
 use Rattle.paraid_txn.specs.Standing.{Contents, Stands, contents, laid, other_log}
 use Rattle.paraid_txn.specs.Turns.{MayPark}
@@ -285,7 +284,7 @@ module _ (slots : ℕ) (s t : Disks) (h : History) (lo : ℕ) (down : Option ℕ
         is_sound_now (lose f (before j)) (with_at j.power f Absent)
         (turn_present d a b (with_at s.power f Absent) (with_at j.power f Absent) pa pb turns_lost) slots h lo
         (λ y said l says. asks (before j) y said (before_is j e) l (says_of_lost (before j) f y said says)
-            (with_at s.power f Absent) (with_at j.power f Absent) turns_lost)
+        (with_at s.power f Absent) (with_at j.power f Absent) turns_lost)
         (held.lost (before j) f (before_is j e) (may_then j e f may));
     weak = λ j w e weak. held.weak (before j) w (before_is j e) (weak_then (before j) j.power (same_present j e) w weak);
   }

@@ -1,13 +1,11 @@
 -- A write of a place that is not seen leaves what is held.
-use Rattle.std.specs.Prelude.{◌≡◌, ◌≢◌, ℕ, ◌+◌, ◌*◌, ◌<◌, ◌⊎◌, Bool, true, false, Option, Some, None}
-use Rattle.std.proofs.Common.{refl, sym, ◌∙◌, ap, subst, arith, inl, inr}
-use Rattle.std.proofs.lemmas.Bool.{cases_eq, false≢true, true≢false}
+use Rattle.std.specs.Prelude.{◌≡◌, ◌≢◌, ℕ, ◌<◌, ◌⊎◌, true, false, Option, Some, None}
+use Rattle.std.proofs.Common.{refl, sym, ◌∙◌, subst, arith, inl, inr}
+use Rattle.std.proofs.lemmas.Bool.{cases_eq, false≢true}
 use Rattle.paraid_base.specs.declared.block.Block.{Block}
 use Rattle.paraid_base.specs.History.{History}
-use Rattle.paraid_rack.specs.declared.call.Power.{Power}
 use Rattle.paraid_rack.specs.declared.call.Call.TheVariants.{Write}
-use Rattle.paraid_rack.specs.Disks.{Disks, IsImage, is_present, lose, step}
-use Rattle.paraid_record.specs.declared.meta.Meta.{Meta}
+use Rattle.paraid_rack.specs.Disks.{Disks, IsImage, lose, step}
 use Rattle.paraid_txn.specs.Content.{view_of}
 use Rattle.paraid_txn.specs.Free.{AreGatesClosed, IsFree, IsUnseen}
 use Rattle.paraid_txn.specs.Free.IsFree.{dirty_cell, unfilled, gone, row, stripe, map_block}
@@ -17,12 +15,12 @@ use Rattle.paraid_txn.specs.Neutral.{overwrite}
 use Rattle.paraid_txn.specs.Out.{IsWeak, first_absent, named_out, or_else, out_disk}
 use Rattle.paraid_txn.specs.Out.IsWeak.{out}
 use Rattle.paraid_txn.specs.Sides.{Said, Says}
-use Rattle.paraid_txn.specs.Sound.{LogOk, Pairing, Sound}
+use Rattle.paraid_txn.specs.Sound.{LogOk, Pairing}
 use Rattle.paraid_txn.specs.Sound.Pairing.{alike, first_ahead, second_ahead, first_done, second_done}
 use Rattle.paraid_txn.specs.Standing.{Stands, other_log}
 use Rattle.paraid_txn.proofs.FreeLemmas.{Sound-free, free_log, free_past}
-use Rattle.paraid_txn.proofs.LoseLemmas.{dirty_lost, stands_spared}
-use Rattle.paraid_txn.proofs.NeutralLemmas.{KeepsLog, is_sound_forth, keeps_neutral, stands_back, weak_back, with_blocks, written}
+use Rattle.paraid_txn.proofs.LoseLemmas.{dirty_lost}
+use Rattle.paraid_txn.proofs.NeutralLemmas.{KeepsLog, is_sound_forth, keeps_neutral, weak_back, written}
 use Rattle.paraid_txn.proofs.OutLemmas.{first_absent_is}
 use Rattle.paraid_txn.proofs.SidesLemmas.{Says-same}
 use Rattle.paraid_txn.proofs.StandingLemmas.{Stands-same}
@@ -52,17 +50,17 @@ pair_same i x y a b k ok says low apart not p q = elim (cases_eq x 0) [
   | inl first ↦
       let second : y ≡ 1 = omega arith in
       sym (pairing_closed a b (ok.paired a b
-          (subst (λ (z : ℕ). Says i z a) first ok.stands.says) (subst (λ (z : ℕ). Says i z b) second says)
-          (subst (λ (z : ℕ). out_disk i.power a.meta ≢ Some z) first (standing_not_out i x a k ok))
-          (subst (λ (z : ℕ). out_disk i.power a.meta ≢ Some z) second not)) p q)
+      (subst (λ (z : ℕ). Says i z a) first ok.stands.says) (subst (λ (z : ℕ). Says i z b) second says)
+      (subst (λ (z : ℕ). out_disk i.power a.meta ≢ Some z) first (standing_not_out i x a k ok))
+      (subst (λ (z : ℕ). out_disk i.power a.meta ≢ Some z) second not)) p q)
   | inr later ↦
       let low_too : x < 2 = ok.stands.log_disk in
       let second : x ≡ 1 = omega arith in
       let first : y ≡ 0 = omega arith in
       pairing_closed b a (ok.paired b a
-          (subst (λ (z : ℕ). Says i z b) first says) (subst (λ (z : ℕ). Says i z a) second ok.stands.says)
-          (subst (λ (z : ℕ). out_disk i.power a.meta ≢ Some z) first not)
-          (subst (λ (z : ℕ). out_disk i.power a.meta ≢ Some z) second (standing_not_out i x a k ok))) q p
+      (subst (λ (z : ℕ). Says i z b) first says) (subst (λ (z : ℕ). Says i z a) second ok.stands.says)
+      (subst (λ (z : ℕ). out_disk i.power a.meta ≢ Some z) first not)
+      (subst (λ (z : ℕ). out_disk i.power a.meta ≢ Some z) second (standing_not_out i x a k ok))) q p
 ]
 
 -- with closed gates, and with a disk lost, the same is said

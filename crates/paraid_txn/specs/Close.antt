@@ -2,7 +2,7 @@
 use Rattle.std.specs.Prelude.{◌≡◌, ◌≢◌, ℕ, ◌<◌, ◌⊎◌, true, false, [], Some}
 use Rattle.paraid_rack.specs.Disks.{Disks}
 use Rattle.paraid_txn.specs.Out.{out_disk}
-use Rattle.paraid_txn.specs.Sides.{Said, Says, Spells, has_place, stored}
+use Rattle.paraid_txn.specs.Sides.{Said, Says, Spells, stored}
 use Rattle.paraid_txn.specs.Standing.{Stands, contents, other_log}
 
 -- what a log disk says once its gate is closed over the meta of its batch

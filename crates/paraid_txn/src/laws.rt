@@ -4,25 +4,28 @@ ghost use Rattle.paraid_base.specs.declared.block.Block.{Block as BlockType};
 ghost use Rattle.paraid_base.specs.History.{History};
 ghost use Rattle.paraid_rack.specs.declared.call.Call.{Call as CallType};
 ghost use Rattle.paraid_rack.specs.declared.call.Call.TheVariants.{Park, Read, SpinUp, Sync, Write};
+ghost use Rattle.paraid_rack.specs.declared.call.Power.{Power as PowerType};
 ghost use Rattle.paraid_rack.specs.declared.call.Power.TheVariants.{Parked, Spinning};
 ghost use Rattle.paraid_rack.specs.Disks.{Disks, IsImage, IsPresent, lose, step};
 ghost use Rattle.paraid_rack.specs.Trail.{Trail, disks, initial};
 ghost use Rattle.paraid_record.specs.declared.meta.Meta.{Meta as MetaType};
+ghost use Rattle.paraid_txn.specs.Close.{IsLaidBelow};
+ghost use Rattle.paraid_txn.specs.Content.{view_of};
+ghost use Rattle.paraid_txn.specs.Course.{disk_of, is_done};
 ghost use Rattle.paraid_txn.specs.Formatted.{IsFormatted};
 ghost use Rattle.paraid_txn.specs.Free.{IsFree, IsUnseen};
 ghost use Rattle.paraid_txn.specs.Gate.{GateTurns};
 ghost use Rattle.paraid_txn.specs.HeldAt.{HeldAt, IsHeld, MayLose};
-ghost use Rattle.paraid_txn.specs.Close.{IsLaidBelow};
-ghost use Rattle.paraid_txn.specs.Content.{view_of};
-ghost use Rattle.paraid_txn.specs.Course.{disk_of, is_done};
 ghost use Rattle.paraid_txn.specs.Loss.{IsLoss};
 ghost use Rattle.paraid_txn.specs.Neutral.{IsNeutral, overwrite};
 ghost use Rattle.paraid_txn.specs.Open.{IsLoggedNext};
-ghost use Rattle.paraid_txn.specs.Out.{IsWeak};
+ghost use Rattle.paraid_txn.specs.Out.{IsDouble, IsMissing, IsWeak, is_out};
 ghost use Rattle.paraid_txn.specs.Sides.{IsSide, Said, Says, Side, is_open};
 ghost use Rattle.paraid_txn.specs.Sound.{Sound};
+ghost use Rattle.paraid_txn.specs.Spot.{View, spot_of};
 ghost use Rattle.paraid_txn.specs.Standing.{Stands, contents as contents_of, other_log, standing};
 ghost use Rattle.paraid_txn.specs.Turns.{MayPark};
+ghost use Rattle.paraid_txn.specs.Value.{value};
 
 /// A log disk says one thing, one log disk stands, and it is the one that the sides in short give.
 pub fn one_log_disk_stands()
@@ -146,7 +149,7 @@ pub fn turns_leave_what_is_held()
     ensures park { (slots : ℕ) (s : Disks) (h : History) (lo : ℕ) (down : Option ℕ) (d : ℕ)
         → s.power d ≡ Spinning
         → ((i : Disks) (x : ℕ) (said : Said) → IsImage s i → x < 2 → Says i x said
-            → MayPark said d)
+        → MayPark said d)
         → IsHeld slots s h lo down → IsHeld slots (step (Park d true) s) h lo down }
 {}
 
@@ -154,9 +157,9 @@ pub fn turns_leave_what_is_held()
 pub fn what_stands_bounds_what_is_held()
     ensures { (slots : ℕ) (s : Disks) (h : History) (lo high : ℕ) (down : Option ℕ)
         → ((i : Disks) (x : ℕ) (said : Said) → IsImage s i → Stands i x said
-            → high ≤ said.meta.writes)
+        → high ≤ said.meta.writes)
         → ((i : Disks) (d x : ℕ) (said : Said) → IsImage s i → MayLose i d
-            → Stands (lose d i) x said → high ≤ said.meta.writes)
+        → Stands (lose d i) x said → high ≤ said.meta.writes)
         → IsHeld slots s h lo down → IsHeld slots s h high down }
 {}
 
@@ -189,4 +192,19 @@ pub fn a_gate_is_open_or_closed()
     ensures { (slots : ℕ) (s : Disks) (h : History) (lo : ℕ) (down : Option ℕ) (x : ℕ)
         (b : BlockType) → ((i : Disks) → IsImage s i → GateTurns slots i x h lo down)
         → IsHeld slots s h lo down → IsHeld slots (step (Write x 0 b true) s) h lo down }
+{}
+
+/// A cell's value is the block at its spot, where this is not on the out disk.
+pub fn values_live_at_their_spots()
+    ensures { (v : View) (r d : ℕ) → is_out v.out (spot_of v r d).disk ≡ false
+        → value v r d ≡ v.block (spot_of v r d).disk (spot_of v r d).place }
+{}
+
+/// An image is double exactly where two disks of the array are missing.
+pub fn double_is_two_missing()
+    ensures single { (power : ℕ → PowerType) (m : MetaType)
+        → ((d e : ℕ) → IsMissing power m d → IsMissing power m e → d ≡ e)
+        → IsDouble power m → ⊥ }
+    ensures double { (power : ℕ → PowerType) (m : MetaType) → (IsDouble power m → ⊥)
+        → (d e : ℕ) → IsMissing power m d → IsMissing power m e → d ≡ e }
 {}
