@@ -16,3 +16,4 @@ pub mod CloseLemmas
 pub mod OpenLemmas
 pub mod GateLemmas
 pub mod SpotLemmas
+pub mod SwapLemmas

@@ -21,7 +21,7 @@ use Rattle.paraid_txn.proofs.OutLemmas.{missing_is_out, says_in_range}
 use Rattle.paraid_txn.proofs.StandingLemmas.{IsWeak-same}
 use Rattle.paraid_txn.proofs.StepLemmas.{place_lost, says_of_lost}
 
-others_keep : {A : Type 0} (f : ℕ → ℕ → A) (d : ℕ) (g : ℕ → A) (x p : ℕ) → x ≢ d → with_at f d g x p ≡ f x p
+pub others_keep : {A : Type 0} (f : ℕ → ℕ → A) (d : ℕ) (g : ℕ → A) (x p : ℕ) → x ≢ d → with_at f d g x p ≡ f x p
 others_keep f d g x p not = ap (λ h. h p) (with_at_other f d g x not)
 
 -- a failed call loses its disk

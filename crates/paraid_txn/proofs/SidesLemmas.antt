@@ -91,7 +91,7 @@ Spells-not_zeroed b m p e =
     let same : slice_index (meta_bytes m) 0 ≡ slice_index zeroed.bytes 0 = ap (λ (xs : List ℕ). slice_index xs 0) (sym p.bytes ∙ ap (λ (c : Block). c.bytes) e) in
     omega arith
 
-blank_says_nothing : (i : Disks) (x : ℕ) (said : Said) → is_open (stored i x 0) ≡ false → stored i x 1 ≡ zeroed → Says i x said → ⊥
+pub blank_says_nothing : (i : Disks) (x : ℕ) (said : Said) → is_open (stored i x 0) ≡ false → stored i x 1 ≡ zeroed → Says i x said → ⊥
 blank_says_nothing i x said shut zero_meta p =
     let closed : said.opened ≡ false = sym p.gate ∙ shut in
     let log = subst (λ (o : Bool). SaysBy o (stored i x) said.meta said.batch) closed p.log in

@@ -1,9 +1,10 @@
 //! That the definitions fit together. Each law is the contract of a function that does nothing.
 ghost use Rattle.std.specs.Prelude.{◌≡◌, ◌≢◌, ℕ, ◌<◌, ◌≤◌, ◌⊎◌, ◌++◌, [], true, false, Option, Some, None};
 ghost use Rattle.paraid_base.specs.declared.block.Block.{Block as BlockType};
+ghost use Rattle.paraid_base.specs.declared.state.Out.TheVariants.{Gone};
 ghost use Rattle.paraid_base.specs.History.{History};
 ghost use Rattle.paraid_rack.specs.declared.call.Call.{Call as CallType};
-ghost use Rattle.paraid_rack.specs.declared.call.Call.TheVariants.{Park, Read, SpinUp, Sync, Write};
+ghost use Rattle.paraid_rack.specs.declared.call.Call.TheVariants.{Attach, Park, Read, SpinUp, Sync, Write};
 ghost use Rattle.paraid_rack.specs.declared.call.Power.{Power as PowerType};
 ghost use Rattle.paraid_rack.specs.declared.call.Power.TheVariants.{Parked, Spinning};
 ghost use Rattle.paraid_rack.specs.Disks.{Disks, IsImage, IsPresent, lose, step};
@@ -207,4 +208,12 @@ pub fn double_is_two_missing()
         → IsDouble power m → ⊥ }
     ensures double { (power : ℕ → PowerType) (m : MetaType) → (IsDouble power m → ⊥)
         → (d e : ℕ) → IsMissing power m d → IsMissing power m e → d ≡ e }
+{}
+
+/// A disk that is attached in the place of one that is gone by all that stands leaves what is held.
+pub fn an_attach_leaves_what_is_held()
+    ensures { (slots : ℕ) (s : Disks) (h : History) (lo : ℕ) (down : Option ℕ) (d size : ℕ)
+        → ((i : Disks) (x : ℕ) (said : Said) → IsImage s i → Stands i x said
+        → said.meta.out ≡ Gone d)
+        → IsHeld slots s h lo down → IsHeld slots (step (Attach d size true) s) h lo down }
 {}
