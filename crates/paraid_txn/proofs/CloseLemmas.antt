@@ -1,23 +1,29 @@
 -- A gate that is closed over what it brought leaves what an image holds.
-use Rattle.std.specs.Prelude.{◌≡◌, ◌≢◌, ℕ, ◌<◌, ◌≤◌, ◌⊎◌, ◌==◌, ◌&&◌, ◌||◌, nat_lt, Bool, true, false, not, [], Option, Some}
+use Rattle.std.specs.Prelude.{◌≡◌, ◌≢◌, ℕ, ◌<◌, ◌≤◌, ◌⊎◌, ◌==◌, ◌&&◌, ◌||◌, nat_lt, Bool, true, false, not, [], Option, Some, None}
 use Rattle.std.proofs.Common.{refl, sym, ◌∙◌, ap, subst, arith, inl, inr, zero, suc}
 use Rattle.std.proofs.lemmas.Bool.{cases_Bool, cases_eq}
 use Rattle.std.proofs.lemmas.Bool.Decides.{nat_tests}
 use Rattle.paraid_base.specs.declared.block.Block.{Block}
 use Rattle.paraid_base.specs.History.{History}
-use Rattle.paraid_rack.specs.Disks.{Disks, IsImage, IsPresent, lose}
+use Rattle.paraid_rack.specs.declared.call.Call.TheVariants.{Write}
+use Rattle.paraid_rack.specs.Disks.{Disks, IsImage, IsPresent, lose, step}
 use Rattle.paraid_record.specs.declared.meta.Meta.{Meta}
 use Rattle.paraid_txn.specs.Close.{IsLaidBelow, shut_of}
 use Rattle.paraid_txn.specs.Content.{view_by, view_of}
-use Rattle.paraid_txn.specs.HeldAt.{IsHeld, MayLose}
+use Rattle.paraid_txn.specs.Gate.{GateTurns, TurnsSound}
+use Rattle.paraid_txn.specs.HeldAt.{IsHeld, IsSound, MayLose}
 use Rattle.paraid_txn.specs.Neutral.{overwrite}
-use Rattle.paraid_txn.specs.Out.{IsMissing, named_out, out_disk}
+use Rattle.paraid_txn.specs.Out.{IsMissing, IsWeak, named_out, out_disk}
+use Rattle.paraid_txn.specs.Out.IsWeak.{out, named}
 use Rattle.paraid_txn.specs.Sides.{Said, Says, Spells, has_place, is_open, stored}
 use Rattle.paraid_txn.specs.Sound.{ContentOk, IsDone, IsFresh, LogOk, Pairing, Sound}
 use Rattle.paraid_txn.specs.Sound.Pairing.{alike, first_done, second_done}
 use Rattle.paraid_txn.specs.Standing.{Contents, Stands, contents, is_first, other_log, stands_before}
-use Rattle.paraid_txn.proofs.NeutralLemmas.{IsLogKept, contents_over, overwritten_here, says_back, says_forth, stored_else}
+use Rattle.paraid_txn.proofs.GateLemmas.{gate_write_holds}
+use Rattle.paraid_txn.proofs.LossLemmas.{keeps_others}
+use Rattle.paraid_txn.proofs.NeutralLemmas.{IsLogKept, contents_over, overwritten_else, overwritten_here, is_sound_forth, written, says_back, says_forth, stored_else}
 use Rattle.paraid_txn.proofs.SidesLemmas.{Says-same}
+use Rattle.paraid_txn.proofs.StandingLemmas.{Stands-same}
 use Rattle.paraid_txn.proofs.StepLemmas.{out_named, zeroed_closed}
 
 -- what stands says at least so many writes
@@ -263,3 +269,96 @@ module _ (slots : ℕ) (i : Disks) (h : History) (k x : ℕ) (said : Said) (b : 
 
   pub Sound-closed : Sound slots now h k
   Sound-closed = record { disk = by_standing.0; said = shut; log = log_now by_standing.0 by_standing.1 by_standing.2; content = content }
+
+  -- where no disk is out, every log disk says this meta
+  then_meta : (z : ℕ) (o : Said) → z < 2 → Says i z o → out_disk i.power said.meta ≡ None → o.meta ≡ said.meta
+  then_meta z o l s none = elim (cases_eq z x) [
+    | inl is ↦ ap (λ (q : Said). q.meta) (Says-same i x o said (subst (λ (q : ℕ). Says i q o) is s) laid.says)
+    | inr not ↦
+        let l_too = low in
+        let at : z ≡ y = omega arith in
+        is_said o (laid.other o (subst (λ (q : ℕ). Says i q o) at s) (λ e. let w : None ≡ Some y = sym none ∙ e in cc))
+  ]
+
+  now_meta : (z : ℕ) (o : Said) → z < 2 → Says now z o → out_disk i.power said.meta ≡ None → o.meta ≡ said.meta
+  now_meta z o l s none = elim (cases_eq z x) [
+    | inl is ↦ ap (λ (q : Said). q.meta) (Says-same now x o shut (subst (λ (q : ℕ). Says now q o) is s) says_x)
+    | inr not ↦
+        let l_too = low in
+        let at : z ≡ y = omega arith in
+        then_meta y o (omega arith) (y_then o (subst (λ (q : ℕ). Says now q o) at s)) none
+  ]
+
+  none_named : (o : Said) (w : ℕ) → o.meta ≡ said.meta → out_disk i.power said.meta ≡ None → named_out o.meta.out ≡ Some w → ⊥
+  none_named o w is none n =
+      let out_is = out_named i.power said.meta w (ap (λ (m : Meta). named_out m.out) (sym is) ∙ n) in
+      let k : None ≡ Some w = sym none ∙ out_is in
+      cc
+
+  pub weak_then : (w : ℕ) → IsWeak now w → IsWeak i w
+  weak_then w (out z o s e) =
+      let is = (Stands-same now z by_standing.0 o shut s by_standing.1).1 in
+      out sound.disk sound.said sound.log.stands
+      (ap (out_disk i.power) meta_is ∙ ap (λ (q : Said). out_disk i.power q.meta) (sym is) ∙ e)
+  weak_then w (named z o other s none t n) =
+      let is = (Stands-same now z by_standing.0 o shut s by_standing.1).1 in
+      let nobody : out_disk i.power said.meta ≡ None = ap (λ (q : Said). out_disk i.power q.meta) (sym is) ∙ none in
+      absurd (none_named other w (now_meta (other_log z) other (let l = s.log_disk in omega arith) t nobody) nobody n)
+
+  pub weak_now : (w : ℕ) → IsWeak i w → IsWeak now w
+  weak_now w (out z o s e) =
+      let is = is_said o (laid.stands z o s) in
+      out by_standing.0 shut by_standing.1 (ap (out_disk i.power) (sym is) ∙ e)
+  weak_now w (named z o other s none t n) =
+      let is = is_said o (laid.stands z o s) in
+      let nobody : out_disk i.power said.meta ≡ None = ap (out_disk i.power) (sym is) ∙ none in
+      absurd (none_named other w (then_meta (other_log z) other (let l = s.log_disk in omega arith) t nobody) nobody n)
+
+  pub may_then : (e : ℕ) → MayLose now e → MayLose i e
+  may_then e may = record {
+    standing = sound.disk;
+    said = sound.said;
+    stands = sound.log.stands;
+    disk =
+        let is = (Stands-same now may.standing by_standing.0 may.said shut may.stands by_standing.1).1 in
+        subst (λ (m : Meta). e < m.setup.geometry.disks) (ap (λ (q : Said). q.meta) is ∙ sym meta_is) may.disk;
+    present = may.present;
+    weak = λ w weak. may.weak w (weak_now w weak);
+  }
+
+-- closing the gate, as the image is and with a disk lost
+turns_closed : (slots : ℕ) (i : Disks) (h : History) (lo : ℕ) (down : Option ℕ) (x : ℕ) (said : Said) → IsLaidBelow i x said
+    → ((e : ℕ) → MayLose i e → e ≢ x → IsLaidBelow (lose e i) x said) → IsSound slots i h lo
+    → ((e : ℕ) → MayLose i e → IsSound slots (lose e i) h lo) → ((w : ℕ) → IsWeak i w → down ≡ Some w) → GateTurns slots i x h lo down
+turns_closed slots i h lo down x said laid laid_lost s lost weak b turned =
+    let was_open : is_open (stored i x 0) ≡ true = laid.says.gate ∙ laid.opened in
+    let closed : is_open b ≡ false = elim (cases_Bool (is_open b)) [
+      | inl opened ↦ absurd (turned (opened ∙ sym was_open))
+      | inr shut ↦ shut
+    ] in
+    record {
+      whole = record { k = s.k; low = s.low; high = s.high; sound = Sound-closed slots i h s.k x said b laid closed s.sound };
+      lost = λ e may.
+          let may_i = may_then slots i h s.k x said b laid closed s.sound e may in
+          let l = lost e may_i in
+          elim (cases_eq x e) [
+            | inl is ↦
+                is_sound_forth (lose e i) (written i x 0 b)
+                (keeps_others i e (written i x 0 b) (λ z q not. overwritten_else i x 0 b z q (λ at. absurd (not (at ∙ is))))) slots h lo l
+            | inr not ↦ record {
+                k = l.k;
+                low = l.low;
+                high = l.high;
+                sound = Sound-closed slots (lose e i) h l.k x said b (laid_lost e may_i (λ is. not (sym is))) closed l.sound;
+              }
+          ];
+      weak = λ w is. weak w (weak_then slots i h s.k x said b laid closed s.sound w is);
+    }
+
+pub close_holds : (slots : ℕ) (s : Disks) (h : History) (lo : ℕ) (down : Option ℕ) (x : ℕ) (b : Block) (said : Said)
+    → ((i : Disks) → IsImage s i → IsLaidBelow i x said)
+    → ((i : Disks) (e : ℕ) → IsImage s i → MayLose i e → e ≢ x → IsLaidBelow (lose e i) x said)
+    → IsHeld slots s h lo down → IsHeld slots (step (Write x 0 b true) s) h lo down
+close_holds slots s h lo down x b said laid laid_lost held =
+    gate_write_holds slots s h lo down x b (λ i e. turns_closed slots i h lo down x said (laid i e) (λ f may. laid_lost i f e may)
+        (held.whole i e) (λ f may. held.lost i f e may) (λ w weak. held.weak i w e weak)) held

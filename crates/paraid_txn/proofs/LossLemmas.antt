@@ -65,7 +65,7 @@ contents_same i d f said same = λ t. λ x q. (past_log (nat_lt q 100) (has_plac
     (laid said.batch x q (f x q)) (laid said.batch x q (i.block x q))
     (λ low there. ap (laid said.batch x q) (same x q (λ is. false≢true (sym (place_lost i d x q is) ∙ there))))) t
 
-keeps_others : (i : Disks) (d : ℕ) (f : ℕ → ℕ → Block) → ((x q : ℕ) → x ≢ d → f x q ≡ i.block x q) → Keeps (lose d i) f
+pub keeps_others : (i : Disks) (d : ℕ) (f : ℕ → ℕ → Block) → ((x q : ℕ) → x ≢ d → f x q ≡ i.block x q) → Keeps (lose d i) f
 keeps_others i d f same = keeps_by (lose d i) f
     (λ x l. record {
       power = refl;

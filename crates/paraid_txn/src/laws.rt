@@ -164,11 +164,17 @@ pub fn what_stands_bounds_what_is_held()
         → IsHeld slots s h lo down → IsHeld slots s h high down }
 {}
 
-/// Closing a gate whose batch has been laid in place leaves what the image holds.
+/// Closing a gate whose batch has been laid in place leaves what the image holds, and what is held
+/// where that is so in each image, as it is and with a disk lost.
 pub fn a_gate_can_be_closed()
-    ensures { (slots : ℕ) (i : Disks) (h : History) (k x : ℕ) (said : Said) (b : BlockType)
+    ensures sound { (slots : ℕ) (i : Disks) (h : History) (k x : ℕ) (said : Said) (b : BlockType)
         → IsLaidBelow i x said → is_open b ≡ false → Sound slots i h k
         → Sound slots (overwrite i x 0 b) h k }
+    ensures held { (slots : ℕ) (s : Disks) (h : History) (lo : ℕ) (down : Option ℕ) (x : ℕ)
+        (b : BlockType) (said : Said) → ((i : Disks) → IsImage s i → IsLaidBelow i x said)
+        → ((i : Disks) (e : ℕ) → IsImage s i → MayLose i e → e ≢ x
+            → IsLaidBelow (lose e i) x said)
+        → IsHeld slots s h lo down → IsHeld slots (step (Write x 0 b true) s) h lo down }
 {}
 
 /// Opening a gate over the next batch makes the image hold what the batch brings.

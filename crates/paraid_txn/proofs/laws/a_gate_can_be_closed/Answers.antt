@@ -1,5 +1,5 @@
-use Rattle.paraid_txn.proofs.CloseLemmas.{Sound-closed}
+use Rattle.paraid_txn.proofs.CloseLemmas.{Sound-closed, close_holds}
 use Rattle.paraid_txn.proofs.laws.a_gate_can_be_closed.Goals as goal
 
 pub returns : goal.returns
-returns c = Sound-closed
+returns c = record { sound = Sound-closed; held = close_holds }
