@@ -10,7 +10,7 @@ use Rattle.paraid_rack.specs.Disks.{Disks, IsImage, IsPresent, lose, step}
 use Rattle.paraid_record.specs.declared.meta.Meta.{Meta}
 use Rattle.paraid_txn.specs.Close.{IsLaidBelow, shut_of}
 use Rattle.paraid_txn.specs.Content.{view_by, view_of}
-use Rattle.paraid_txn.specs.Gate.{GateTurns, TurnsSound}
+use Rattle.paraid_txn.specs.Gate.{GateTurns}
 use Rattle.paraid_txn.specs.HeldAt.{IsHeld, IsSound, MayLose}
 use Rattle.paraid_txn.specs.Neutral.{overwrite}
 use Rattle.paraid_txn.specs.Out.{IsMissing, IsWeak, named_out, out_disk}
@@ -346,11 +346,11 @@ turns_closed slots i h lo down x said laid laid_lost s lost weak b turned =
                 is_sound_forth (lose e i) (written i x 0 b)
                 (keeps_others i e (written i x 0 b) (λ z q not. overwritten_else i x 0 b z q (λ at. absurd (not (at ∙ is))))) slots h lo l
             | inr not ↦ record {
-                k = l.k;
-                low = l.low;
-                high = l.high;
-                sound = Sound-closed slots (lose e i) h l.k x said b (laid_lost e may_i (λ is. not (sym is))) closed l.sound;
-              }
+              k = l.k;
+              low = l.low;
+              high = l.high;
+              sound = Sound-closed slots (lose e i) h l.k x said b (laid_lost e may_i (λ is. not (sym is))) closed l.sound;
+            }
           ];
       weak = λ w is. weak w (weak_then slots i h s.k x said b laid closed s.sound w is);
     }
@@ -361,4 +361,4 @@ pub close_holds : (slots : ℕ) (s : Disks) (h : History) (lo : ℕ) (down : Opt
     → IsHeld slots s h lo down → IsHeld slots (step (Write x 0 b true) s) h lo down
 close_holds slots s h lo down x b said laid laid_lost held =
     gate_write_holds slots s h lo down x b (λ i e. turns_closed slots i h lo down x said (laid i e) (λ f may. laid_lost i f e may)
-        (held.whole i e) (λ f may. held.lost i f e may) (λ w weak. held.weak i w e weak)) held
+    (held.whole i e) (λ f may. held.lost i f e may) (λ w weak. held.weak i w e weak)) held

@@ -1,21 +1,26 @@
 -- Opening a gate makes an image hold what the log brings.
-use Rattle.std.specs.Prelude.{◌≡◌, ◌≢◌, ℕ, ◌<◌, ◌==◌, ◌&&◌, ◌||◌, nat_lt, Bool, true, false, not, Some, if◌then◌else◌}
+use Rattle.std.specs.Prelude.{◌≡◌, ◌≢◌, ℕ, ◌<◌, ◌==◌, ◌&&◌, ◌||◌, nat_lt, Bool, true, false, not, Some, if◌then◌else◌, Option}
 use Rattle.std.proofs.Common.{refl, sym, ◌∙◌, ap, subst, arith, inl, inr, zero, suc}
-use Rattle.std.proofs.lemmas.Bool.{cases_eq}
+use Rattle.std.proofs.lemmas.Bool.{cases_Bool, cases_eq}
 use Rattle.std.proofs.lemmas.Bool.Decides.{nat_tests}
 use Rattle.paraid_base.specs.declared.block.Block.{Block}
 use Rattle.paraid_base.specs.History.{History}
 use Rattle.paraid_base.specs.Xor.{zeroed}
-use Rattle.paraid_rack.specs.Disks.{Disks, IsPresent}
+use Rattle.paraid_rack.specs.declared.call.Call.TheVariants.{Write}
+use Rattle.paraid_rack.specs.Disks.{Disks, IsImage, IsPresent, lose, step}
 use Rattle.paraid_txn.specs.Content.{view_by, view_of}
 use Rattle.paraid_txn.specs.Neutral.{overwrite}
-use Rattle.paraid_txn.specs.Open.{IsLoggedNext}
+use Rattle.paraid_txn.specs.Gate.{GateTurns}
+use Rattle.paraid_txn.specs.HeldAt.{IsHeld, IsSound, MayLose}
+use Rattle.paraid_txn.specs.Open.{CanOpen, IsLoggedNext}
 use Rattle.paraid_txn.specs.Out.{named_out, out_disk}
 use Rattle.paraid_txn.specs.Sides.{Said, Says, SaysBy, is_open, stored}
 use Rattle.paraid_txn.specs.Sound.{ContentOk, IsAhead, LogOk, Pairing, Sound}
 use Rattle.paraid_txn.specs.Sound.Pairing.{alike, first_ahead, second_ahead}
 use Rattle.paraid_txn.specs.Standing.{Contents, Stands, is_first, other_log, stands_before}
-use Rattle.paraid_txn.proofs.NeutralLemmas.{IsLogKept, SaysBy-kept, contents_over, few_logged, overwritten_here, says_back, says_forth, stored_else}
+use Rattle.paraid_txn.proofs.GateLemmas.{gate_write_holds}
+use Rattle.paraid_txn.proofs.LossLemmas.{keeps_others}
+use Rattle.paraid_txn.proofs.NeutralLemmas.{IsLogKept, SaysBy-kept, contents_over, few_logged, is_sound_forth, overwritten_else, overwritten_here, says_back, says_forth, stored_else, written}
 use Rattle.paraid_txn.proofs.SidesLemmas.{Says-same}
 
 greater_first : (e f : ℕ) (rest : Bool) → f < e → (nat_lt f e || rest) ≡ true
@@ -175,3 +180,35 @@ module _ (slots : ℕ) (i : Disks) (h : History) (k x : ℕ) (new : Said) (b : B
 
   pub Sound-opened : Sound slots now h k
   Sound-opened = record { disk = by_standing.0; said = new; log = log_now by_standing.0 by_standing.1 by_standing.2; content = content }
+
+-- opening the gate, as the image is and with a disk lost
+turns_opened : (slots : ℕ) (i : Disks) (h : History) (k lo : ℕ) (down : Option ℕ) (x : ℕ) (new : Said) → CanOpen slots i x new h k lo down
+    → ((e : ℕ) → MayLose i e → IsSound slots (lose e i) h lo) → GateTurns slots i x h lo down
+turns_opened slots i h k lo down x new can lost b turned =
+    let opened : is_open b ≡ true = elim (cases_Bool (is_open b)) [
+      | inl opened ↦ opened
+      | inr shut ↦ absurd (turned (shut ∙ sym can.shut))
+    ] in
+    record {
+      whole = record { k = k; low = can.low; high = can.high; sound = Sound-opened slots i h k x new b can.next opened };
+      lost = λ e may. elim (cases_eq x e) [
+        | inl is ↦
+            let here = can.spare b opened (subst (λ (z : ℕ). MayLose (overwrite i x 0 b) z) (sym is) may) in
+            is_sound_forth (lose e i) (written i x 0 b)
+            (keeps_others i e (written i x 0 b) (λ z q not. overwritten_else i x 0 b z q (λ at. absurd (not (at ∙ is))))) slots h lo
+            (lost e (subst (MayLose i) is here))
+        | inr not ↦ record {
+          k = k;
+          low = can.low;
+          high = can.high;
+          sound = Sound-opened slots (lose e i) h k x new b (can.lost b e opened may (λ is. not (sym is))) opened;
+        }
+      ];
+      weak = λ w is. can.weak b w opened is;
+    }
+
+pub open_holds : (slots : ℕ) (s : Disks) (h : History) (k lo : ℕ) (down : Option ℕ) (x : ℕ) (b : Block) (new : Said)
+    → ((i : Disks) → IsImage s i → CanOpen slots i x new h k lo down)
+    → IsHeld slots s h lo down → IsHeld slots (step (Write x 0 b true) s) h lo down
+open_holds slots s h k lo down x b new can held =
+    gate_write_holds slots s h lo down x b (λ i e. turns_opened slots i h k lo down x new (can i e) (λ f may. held.lost i f e may)) held

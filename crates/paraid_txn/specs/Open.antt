@@ -1,11 +1,14 @@
 -- A gate that can be opened.
-use Rattle.std.specs.Prelude.{◌≡◌, ◌≢◌, ℕ, ◌<◌, ◌⊎◌, true, false, Contains, Some}
+use Rattle.std.specs.Prelude.{◌≡◌, ◌≢◌, ℕ, ◌<◌, ◌⊎◌, true, false, Contains, Some, ◌≤◌, Option, length}
+use Rattle.paraid_base.specs.declared.block.Block.{Block}
 use Rattle.paraid_base.specs.History.{History}
 use Rattle.paraid_rack.specs.declared.call.Power.TheVariants.{Spinning}
-use Rattle.paraid_rack.specs.Disks.{Disks, IsPresent}
+use Rattle.paraid_rack.specs.Disks.{Disks, IsPresent, lose}
 use Rattle.paraid_record.specs.declared.targets.Target.{Target}
 use Rattle.paraid_txn.specs.Content.{view_by}
-use Rattle.paraid_txn.specs.Out.{IsMissing, named_out, out_disk}
+use Rattle.paraid_txn.specs.HeldAt.{MayLose}
+use Rattle.paraid_txn.specs.Neutral.{overwrite}
+use Rattle.paraid_txn.specs.Out.{IsMissing, IsWeak, named_out, out_disk}
 use Rattle.paraid_txn.specs.Sides.{Said, Says, SaysOpen, has_place, is_open, stored, targets}
 use Rattle.paraid_txn.specs.Sound.{ContentOk, IsAhead, IsFresh}
 use Rattle.paraid_txn.specs.Standing.{contents, other_log}
@@ -37,3 +40,15 @@ pub record IsLoggedNext (slots : ℕ) (i : Disks) (x : ℕ) (new : Said) (h : Hi
   pub paired : (o : Said) → Says i (other_log x) o → out_disk i.power new.meta ≢ Some (other_log x)
       → (o ≡ new) ⊎ IsAhead new o
   pub content : ContentOk slots i.power i.size (view_by new.meta i.power (contents i new.batch)) h k
+
+-- With its gate open the image holds what the batch brings, as it is and with a disk lost. Where
+-- log disk `x` itself can be lost then, it can be lost before.
+pub record CanOpen (slots : ℕ) (i : Disks) (x : ℕ) (new : Said) (h : History) (k lo : ℕ) (down : Option ℕ) : Type 0 where
+  pub shut : is_open (stored i x 0) ≡ false
+  pub low : lo ≤ k
+  pub high : k ≤ length h
+  pub next : IsLoggedNext slots i x new h k
+  pub lost : (b : Block) (e : ℕ) → is_open b ≡ true → MayLose (overwrite i x 0 b) e → e ≢ x
+      → IsLoggedNext slots (lose e i) x new h k
+  pub spare : (b : Block) → is_open b ≡ true → MayLose (overwrite i x 0 b) x → MayLose i x
+  pub weak : (b : Block) (w : ℕ) → is_open b ≡ true → IsWeak (overwrite i x 0 b) w → down ≡ Some w

@@ -19,7 +19,7 @@ ghost use Rattle.paraid_txn.specs.Gate.{GateTurns};
 ghost use Rattle.paraid_txn.specs.HeldAt.{HeldAt, IsHeld, MayLose};
 ghost use Rattle.paraid_txn.specs.Loss.{IsLoss};
 ghost use Rattle.paraid_txn.specs.Neutral.{IsNeutral, overwrite};
-ghost use Rattle.paraid_txn.specs.Open.{IsLoggedNext};
+ghost use Rattle.paraid_txn.specs.Open.{CanOpen, IsLoggedNext};
 ghost use Rattle.paraid_txn.specs.Out.{IsDouble, IsMissing, IsWeak, is_out};
 ghost use Rattle.paraid_txn.specs.Sides.{IsSide, Said, Says, Side, is_open};
 ghost use Rattle.paraid_txn.specs.Sound.{Sound};
@@ -173,15 +173,20 @@ pub fn a_gate_can_be_closed()
     ensures held { (slots : ℕ) (s : Disks) (h : History) (lo : ℕ) (down : Option ℕ) (x : ℕ)
         (b : BlockType) (said : Said) → ((i : Disks) → IsImage s i → IsLaidBelow i x said)
         → ((i : Disks) (e : ℕ) → IsImage s i → MayLose i e → e ≢ x
-            → IsLaidBelow (lose e i) x said)
+        → IsLaidBelow (lose e i) x said)
         → IsHeld slots s h lo down → IsHeld slots (step (Write x 0 b true) s) h lo down }
 {}
 
-/// Opening a gate over the next batch makes the image hold what the batch brings.
+/// Opening a gate over the next batch makes the image hold what the batch brings, and leaves what
+/// is held where that is so in each image.
 pub fn a_gate_can_be_opened()
-    ensures { (slots : ℕ) (i : Disks) (h : History) (k x : ℕ) (new : Said) (b : BlockType)
+    ensures sound { (slots : ℕ) (i : Disks) (h : History) (k x : ℕ) (new : Said) (b : BlockType)
         → IsLoggedNext slots i x new h k → is_open b ≡ true
         → Sound slots (overwrite i x 0 b) h k }
+    ensures held { (slots : ℕ) (s : Disks) (h : History) (k lo : ℕ) (down : Option ℕ) (x : ℕ)
+        (b : BlockType) (new : Said)
+        → ((i : Disks) → IsImage s i → CanOpen slots i x new h k lo down)
+        → IsHeld slots s h lo down → IsHeld slots (step (Write x 0 b true) s) h lo down }
 {}
 
 /// What a stop may leave after a write is what it may leave before it, with any bytes in that
