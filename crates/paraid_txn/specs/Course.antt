@@ -25,6 +25,7 @@ use Rattle.paraid_txn.specs.Standing.{Stands}
 -- event 1. The disk that is out is the one of the state at mark 0.
 pub record Course : Type 0 where
   pub entry : Disks
+  pub dry : (d p : ℕ) → entry.loose d p ≡ false
   pub standing : ℕ
   pub said : Said
   pub stands : Stands entry standing said
