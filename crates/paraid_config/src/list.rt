@@ -1,6 +1,6 @@
 //! The values that are a list of numbers.
 
-ghost use Rattle.std.specs.Prelude.{◌≡◌, ℕ, ◌≤◌, ◌<◌, ◌-◌, ◌++◌, All, Some, None, IfOk, IfErr, OnOk, length, map, pos, slice_index_or};
+ghost use Rattle.std.specs.Prelude.{◌≡◌, ℕ, ◌≤◌, ◌<◌, All, Some, None, IfOk, IfErr, OnOk, length, map, pos, slice_index_or};
 ghost use Rattle.toml.specs.View.{table_view, items_view};
 ghost use Rattle.paraid_config.specs.declared.key.Key.TheVariants as key_of;
 ghost use Rattle.paraid_config.specs.Keys.{high_of};
