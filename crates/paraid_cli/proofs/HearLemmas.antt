@@ -8,9 +8,10 @@ use Rattle.paraid_io.specs.declared.line.Line.{Line}
 use Rattle.paraid_io.specs.declared.line.Line.TheVariants.{Whole, Long}
 use Rattle.paraid_io.specs.declared.line.LineFault.{LineFault}
 use Rattle.paraid_io.proofs.LineLemmas.{lines_of-cut, lines_of-last, whole_lines-cut, whole_lines-rest}
-use Rattle.paraid_cli.specs.Trace.{event_of, block_of, write_of}
-use Rattle.paraid_cli.specs.declared.event.Event.{Event}
-use Rattle.paraid_cli.specs.declared.event.Event.TheVariants.{Later}
+use Rattle.paraid_trace.specs.Lines.{event_of}
+use Rattle.paraid_trace.proofs.LineLemmas.{event_of-long}
+use Rattle.paraid_base.specs.declared.event.Event.{Event}
+use Rattle.paraid_base.specs.declared.event.Event.TheVariants.{Bad}
 use Rattle.paraid_cli.specs.Heard.{NextLine, Heard, Says}
 
 cut_lines : (line rest more : List ℕ) → NoNewline line → lines_of ((line ++ 10 ∷ rest) ++ more) ≡ line ∷ lines_of (rest ++ more)
@@ -40,34 +41,6 @@ next_line input line new c = elim c.cut [
   }
 ]
 
-block_of-long : (r : List ℕ) → 2 < length r → block_of r ≡ None
-block_of-long [] h = absurd (omega arith)
-block_of-long (a ∷ []) h = absurd (omega arith)
-block_of-long (a ∷ b ∷ []) h = absurd (omega arith)
-block_of-long (a ∷ b ∷ c ∷ more) h = refl
-
-write_of-long : (r : List ℕ) → 5 < length r → write_of r ≡ Later
-write_of-long [] h = absurd (omega arith)
-write_of-long (a ∷ []) h = absurd (omega arith)
-write_of-long (a ∷ b ∷ []) h = absurd (omega arith)
-write_of-long (a ∷ b ∷ c ∷ []) h = absurd (omega arith)
-write_of-long (a ∷ b ∷ c ∷ d ∷ []) h = absurd (omega arith)
-write_of-long (a ∷ b ∷ c ∷ d ∷ e ∷ []) h = absurd (omega arith)
-write_of-long (a ∷ b ∷ c ∷ d ∷ e ∷ f ∷ more) h = refl
-
-cond_same : (b : Bool) (x : Event) → cond b x x ≡ x
-cond_same true x = refl
-cond_same false x = refl
-
--- no event has so long a line
-pub event_of-long : (line : List ℕ) → 1100 < length line → event_of line ≡ Later
-event_of-long [] h = absurd (omega arith)
-event_of-long (c ∷ []) h = absurd (omega arith)
-event_of-long (c ∷ s ∷ rest) h =
-    let b : block_of rest ≡ None = block_of-long rest (omega arith) in
-    let w : write_of rest ≡ Later = write_of-long rest (omega arith) in
-    rw (b, w, cond_same, cond_same) refl
-
 heard_from : {before after : Option (List ℕ)} {old new : Reading} {r : Result Line LineFault} → (s : Step before after old new r) (e : Result (Option Event) LineFault)
     → Says e (old.rest ++ s.got) new → Heard before after old new e
 heard_from {before} {after} {old} {new} {r} s e says = record {
@@ -86,10 +59,10 @@ pub heard_whole : {before after : Option (List ℕ)} {old new : Reading} {n : �
     → Heard before after old new (Ok (Some event))
 heard_whole {before} {after} {old} {new} {n} {event} s e = heard_from s (Ok (Some event)) (new.line, e, next_line (old.rest ++ s.got) new.line new s.answer.0)
 
-pub heard_long : {before after : Option (List ℕ)} {old new : Reading} {n : ℕ} → Step before after old new (Ok (Long n)) → Heard before after old new (Ok (Some Later))
+pub heard_long : {before after : Option (List ℕ)} {old new : Reading} {n : ℕ} → Step before after old new (Ok (Long n)) → Heard before after old new (Ok (Some Bad))
 heard_long {before} {after} {old} {new} {n} s =
     let a = s.answer in
-    heard_from s (Ok (Some Later)) (a.0, sym (event_of-long a.0 (omega (arith, a.2, a.3))), next_line (old.rest ++ s.got) a.0 new a.1)
+    heard_from s (Ok (Some Bad)) (a.0, sym (event_of-long a.0 (omega (arith, a.2, a.3))), next_line (old.rest ++ s.got) a.0 new a.1)
 
 pub heard_fault : {before after : Option (List ℕ)} {old new : Reading} {fault : LineFault} → Step before after old new (Err fault) → Heard before after old new (Err fault)
 heard_fault {before} {after} {old} {new} {fault} s = heard_from s (Err fault) (whole_lines-rest (old.rest ++ s.got) s.answer.0, s.answer.2)

@@ -1,6 +1,5 @@
-pub mod EventLemmas
-pub mod ServeLemmas
-pub mod HearLemmas
-pub mod Sofar
-pub mod TopLemmas
 pub mod WordLemmas
+pub mod HearLemmas
+pub mod ServeLemmas
+pub mod Since
+pub mod Sofar

@@ -1,10 +1,11 @@
 -- How the program may end, over every source, sink and rack.
-use Rattle.std.specs.Prelude.{◌≡◌, ℕ, ◌<◌, ◌≤◌, ◌⊎◌, false, List, [], ◌∷◌, length, take, codes, Option, Some}
+use Rattle.std.specs.Prelude.{◌≡◌, ◌≢◌, ℕ, ◌<◌, ◌≤◌, ◌⊎◌, false, List, [], ◌∷◌, length, take, codes, Option, Some}
+use Rattle.paraid_base.specs.declared.fault.Two.{Two}
 use Rattle.paraid_base.specs.Told.{Grows}
 use Rattle.paraid_rack.specs.Slots.{Slot}
 use Rattle.paraid_rack.specs.Trail.{Trail, now}
-use Rattle.paraid_cli.specs.Stands.{IsMisfit}
-use Rattle.paraid_cli.specs.Output.{HasFailed}
+use Rattle.paraid_array.specs.Mount.{IsMisfit}
+use Rattle.paraid_cli.specs.Calls.{HasFailed, HaveFailed}
 
 -- the words are the one word `run`
 abbrev pub IsRun : List (List ℕ) → Type 0
@@ -22,13 +23,22 @@ pub record Ends (before after : Option (List ℕ)) (line : List ℕ) (code statu
 
 -- the statuses of a run
 abbrev pub IsRunStatus : ℕ → Type 0
-IsRunStatus status = (status ≡ 0) ⊎ (status ≡ 3) ⊎ (status ≡ 4) ⊎ (status ≡ 10) ⊎ (status ≡ 11)
+IsRunStatus status = (status ≡ 0) ⊎ (status ≡ 3) ⊎ (status ≡ 4) ⊎ (status ≡ 5) ⊎ (status ≡ 6) ⊎ (status ≡ 10) ⊎ (status ≡ 12)
 
--- a disk may be named where it has failed in the run, or is the least that does not fit
-abbrev pub MayName : ℕ → (ℕ → Slot) → (ℕ → Slot) → ℕ → Type 0
-MayName slots old new d = HasFailed old new d ⊎ IsMisfit slots old d
+-- two different disks have failed in the run
+abbrev pub TwoFailed : (ℕ → Slot) → (ℕ → Slot) → Type 0
+TwoFailed old new = (two : Two) × HaveFailed old new two
 
--- No block of the four disks is loose, and of the others the same blocks are loose as before.
-pub record IsSettled (start final : Option Trail) : Type 0 where
-  pub four : (t : Trail) → final ≡ Some t → (d p : ℕ) → d < 4 → (now t).loose d p ≡ false
-  pub others : (s t : Trail) → start ≡ Some s → final ≡ Some t → (d p : ℕ) → 4 ≤ d → (now t).loose d p ≡ (now s).loose d p
+-- no two different disks have failed in the run
+abbrev pub OneFailed : (ℕ → Slot) → (ℕ → Slot) → Type 0
+OneFailed old new = (d e : ℕ) → HasFailed old new d → HasFailed old new e → d ≡ e
+
+-- one of the five slots does not fit
+abbrev pub HasMisfit : ℕ → (ℕ → Slot) → Type 0
+HasMisfit slots slot = (d found : ℕ) × IsMisfit 5 slots slot 108 d found
+
+-- No block of the five disks is loose, but for one disk that may have failed in the run.
+pub record IsSettled (old new : ℕ → Slot) (final : Option Trail) : Type 0 where
+  pub out : Option ℕ
+  pub failed : (d : ℕ) → out ≡ Some d → HasFailed old new d
+  pub others : (t : Trail) → final ≡ Some t → (d p : ℕ) → d < 5 → out ≢ Some d → (now t).loose d p ≡ false

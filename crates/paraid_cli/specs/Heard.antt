@@ -4,8 +4,8 @@ use Rattle.paraid_base.specs.Told.{Gives, AtEnd}
 use Rattle.paraid_io.specs.declared.line.LineFault.{LineFault}
 use Rattle.paraid_io.specs.Lines.{lines_of, whole_lines}
 use Rattle.paraid_io.specs.Reading.{Reading}
-use Rattle.paraid_cli.specs.declared.event.Event.{Event}
-use Rattle.paraid_cli.specs.Trace.{event_of}
+use Rattle.paraid_base.specs.declared.event.Event.{Event}
+use Rattle.paraid_trace.specs.Lines.{event_of}
 
 -- The bytes that are in no line yet begin with this line, whatever follows them, and these are left.
 pub record NextLine (bytes line : List ℕ) (new : Reading) : Type 0 where

@@ -1,6 +1,5 @@
-pub mod Filled
 pub mod Trace
-pub mod Stands
+pub mod Calls
 pub mod Heard
 pub mod Session
 pub mod Output

@@ -1,95 +1,99 @@
--- What a line of the trace says, what is answered, and the whole text of a session.
-use Rattle.std.specs.Prelude.{ℕ, ◌+◌, ◌-◌, ◌*◌, ◌/◌, ◌%◌, ◌<◌, Bool, ◌&&◌, ◌==◌, nat_le, nat_lt, if◌then◌else◌, List, [], ◌∷◌, ◌++◌, length, Option, Some, None, codes, decimal, slice_index}
+-- What is answered to the lines of a trace, and which writes they leave.
+use Rattle.std.specs.Prelude.{◌≡◌, ℕ, ◌+◌, nat_lt, if◌then◌else◌, ⊤, List, [], ◌∷◌, ◌++◌, length, Option, Some, None}
+use Rattle.paraid_base.specs.declared.event.Event.{Event}
+use Rattle.paraid_base.specs.declared.event.Event.TheVariants.{Read, Write, Flush, Tick, Up, Down, Fail, Replace, State, Energy, Bad}
+use Rattle.paraid_base.specs.declared.event.Answer.{Answer}
+use Rattle.paraid_base.specs.declared.event.Answer.TheVariants.{Value, NoBlock, Wrote, Flushed, Later, Halted, Bad as IsBad}
+use Rattle.paraid_base.specs.declared.fault.Halt.{Halt}
 use Rattle.paraid_base.specs.History.{History, held}
-use Rattle.paraid_cli.specs.declared.event.Event.{Event}
-use Rattle.paraid_cli.specs.declared.event.Event.TheVariants.{Read, Write, Flush, Later}
-use Rattle.paraid_cli.specs.Filled.{filled}
+use Rattle.paraid_trace.specs.Lines.{event_of}
+use Rattle.paraid_trace.specs.Replies.{reply_of}
 
--- the block of an event is one of the 40, and its byte is one
-abbrev pub IsValid : Event → Type 0
-IsValid (Read block) = block < 40
-IsValid (Write block byte) = (block < 40) × (byte < 256)
-IsValid Flush = Unit {0}
-IsValid Later = Unit {0}
+-- an event that the array is asked for
+abbrev pub IsServed : Event → Type 0
+IsServed (Read block) = ⊤
+IsServed (Write block bytes) = ⊤
+IsServed Flush = ⊤
+IsServed Tick = ⊥
+IsServed Up = ⊥
+IsServed Down = ⊥
+IsServed (Fail disk) = ⊥
+IsServed (Replace disk) = ⊥
+IsServed State = ⊥
+IsServed Energy = ⊥
+IsServed Bad = ⊥
 
-abbrev pub hex_digit : ℕ → ℕ
-hex_digit n = if nat_lt n 10 then 48 + n else 87 + n
+-- What an array of 20 blocks that has accepted these writes answers, while it has not halted.
+abbrev pub answer_to : History → Event → Answer
+answer_to h (Read block) = if nat_lt block 20 then Value block (held h block) else NoBlock block
+answer_to h (Write block bytes) = if nat_lt block 20 then Wrote (length h + 1) else NoBlock block
+answer_to h Flush = Flushed (length h)
+answer_to h Tick = Later
+answer_to h Up = Later
+answer_to h Down = Later
+answer_to h (Fail disk) = Later
+answer_to h (Replace disk) = Later
+answer_to h State = Later
+answer_to h Energy = Later
+answer_to h Bad = IsBad
 
--- two hexadecimal digits in lower case
-abbrev pub hex : ℕ → List ℕ
-hex byte = hex_digit (byte / 16) ∷ hex_digit (byte % 16) ∷ []
+-- what is answered after a halt
+abbrev pub halt_answer : Halt → Event → Answer
+halt_answer halt (Read block) = Halted halt
+halt_answer halt (Write block bytes) = Halted halt
+halt_answer halt Flush = Halted halt
+halt_answer halt Tick = Halted halt
+halt_answer halt Up = Halted halt
+halt_answer halt Down = Halted halt
+halt_answer halt (Fail disk) = Halted halt
+halt_answer halt (Replace disk) = Halted halt
+halt_answer halt State = Halted halt
+halt_answer halt Energy = Halted halt
+halt_answer halt Bad = IsBad
 
--- How the line of an event is printed. `Later` stands for every line that is of no other event.
-abbrev pub line_of : Event → List ℕ
-line_of (Read block) = codes "r " ++ decimal block
-line_of (Write block byte) = codes "w " ++ decimal block ++ codes " " ++ hex byte
-line_of Flush = codes "f"
-line_of Later = []
+-- the halt that an answer tells
+abbrev pub halt_told : Answer → Option Halt
+halt_told (Halted halt) = Some halt
+halt_told answer = None
 
--- a digit
-abbrev pub is_digit : ℕ → Bool
-is_digit c = nat_le 48 c && nat_le c 57
-
--- a number below 40 in digits without a leading zero
-abbrev pub block_of : List ℕ → Option ℕ
-block_of [] = None
-block_of (a ∷ []) = if is_digit a then Some (a - 48) else None
-block_of (a ∷ b ∷ []) = if nat_le 49 a && nat_le a 51 && is_digit b then Some ((a - 48) * 10 + (b - 48)) else None
-block_of (a ∷ b ∷ c ∷ more) = None
-
--- a hexadecimal digit in lower case
-abbrev pub hex_value : ℕ → Option ℕ
-hex_value c = if is_digit c then Some (c - 48) else (if nat_le 97 c && nat_le c 102 then Some (c - 87) else None)
-
-abbrev pub byte_of : Option ℕ → Option ℕ → Option ℕ
-byte_of (Some high) (Some low) = Some (16 * high + low)
-byte_of (Some high) None = None
-byte_of None low = None
-
-abbrev pub read_event : Option ℕ → Event
-read_event (Some block) = Read block
-read_event None = Later
-
-abbrev pub write_event : Option ℕ → Option ℕ → Event
-write_event (Some block) (Some byte) = Write block byte
-write_event (Some block) None = Later
-write_event None byte = Later
-
--- a block, a space and two hexadecimal digits
-abbrev pub write_of : List ℕ → Event
-write_of (a ∷ s ∷ x ∷ y ∷ []) = if s == 32 then write_event (block_of (a ∷ [])) (byte_of (hex_value x) (hex_value y)) else Later
-write_of (a ∷ b ∷ s ∷ x ∷ y ∷ []) = if s == 32 then write_event (block_of (a ∷ b ∷ [])) (byte_of (hex_value x) (hex_value y)) else Later
-write_of rest = Later
-
--- What a line says: the event whose line it is, and `Later` where it is of none. The contract of
--- `parse_line` ties it to `line_of` both ways.
-abbrev pub event_of : List ℕ → Event
-event_of [] = Later
-event_of (c ∷ []) = if c == 102 then Flush else Later
-event_of (c ∷ s ∷ rest) =
-    if c == 114 && s == 32 then read_event (block_of rest)
-    else (if c == 119 && s == 32 then write_of rest else Later)
-
--- what is answered
-abbrev pub reply : History → Event → List ℕ
-reply history (Read block) = decimal block ++ codes "=" ++ hex (slice_index (held history block).bytes 0) ++ codes "\n"
-reply history (Write block byte) = codes "wrote " ++ decimal (length history + 1) ++ codes "\n"
-reply history Flush = codes "flushed " ++ decimal (length history) ++ codes "\n"
-reply history Later = codes "later\n"
-
--- the writes after an event
+-- the writes that are accepted with an event
 abbrev pub next : History → Event → History
-next history (Read block) = history
-next history (Write block byte) = history ++ (block, filled byte) ∷ []
-next history Flush = history
-next history Later = history
+next h (Read block) = h
+next h (Write block bytes) = if nat_lt block 20 then h ++ (block, bytes) ∷ [] else h
+next h Flush = h
+next h Tick = h
+next h Up = h
+next h Down = h
+next h (Fail disk) = h
+next h (Replace disk) = h
+next h State = h
+next h Energy = h
+next h Bad = h
 
--- the writes after these lines
+-- What is answered to an event by an array that has accepted these writes and has not halted. The
+-- halt that it is left with came in this event.
+abbrev pub Replied : Option Halt → History → Event → Answer → Type 0
+Replied None h event answer = answer ≡ answer_to h event
+Replied (Some halt) h event answer = IsServed event × (answer ≡ Halted halt)
+
+-- the writes after these lines, where no halt came
 abbrev pub history_of : History → List (List ℕ) → History
-history_of history [] = history
-history_of history (line ∷ lines) = history_of (next history (event_of line)) lines
+history_of h [] = h
+history_of h (line ∷ lines) = history_of (next h (event_of line)) lines
 
--- the answers to these lines
+-- the answers to these lines, where no halt came
 abbrev pub transcript : History → List (List ℕ) → List ℕ
-transcript history [] = []
-transcript history (line ∷ lines) = reply history (event_of line) ++ transcript (next history (event_of line)) lines
+transcript h [] = []
+transcript h (line ∷ lines) = reply_of (answer_to h (event_of line)) ++ transcript (next h (event_of line)) lines
+
+-- the answers to these lines after a halt
+abbrev pub halt_transcript : Halt → List (List ℕ) → List ℕ
+halt_transcript halt [] = []
+halt_transcript halt (line ∷ lines) = reply_of (halt_answer halt (event_of line)) ++ halt_transcript halt lines
+
+-- The text was answered to these lines. A halt came in one of them, which is a read, a write or a
+-- flush, and from there on it is the answer.
+abbrev pub Told : Option Halt → List (List ℕ) → List ℕ → Type 0
+Told None lines text = text ≡ transcript [] lines
+Told (Some halt) lines text = (before after : List (List ℕ)) × (line : List ℕ) × (lines ≡ before ++ line ∷ after)
+    × IsServed (event_of line) × (text ≡ transcript [] before ++ halt_transcript halt (line ∷ after))

@@ -1,35 +1,37 @@
-//! Serves a trace of reads, writes and flushes over four disks in memory.
+//! Serves a trace over an array of five disks in memory, of which one may be lost.
 //!
 //! `paraid` is the program over any source, sink and rack; its contract says what is written at
-//! each status and what the disks hold. `main` hands it the standard streams.
+//! each status, which losses a status has for its cause, and what the disks hold. `main` hands it
+//! the standard streams.
 #![tactic(auto)]
 
-mod event;
 mod hear;
-mod parse;
-mod reply;
 mod run;
 mod serve;
 mod session;
 mod status;
 mod stdio;
-mod text;
 mod top;
 
 use paraid_base::NoMemory;
 use paraid_memrack::MemRack;
 use paraid_rack::Rack;
-use serve::DISKS;
 use std::alloc::Global;
 use std::process::ExitCode;
 use std::{env, io};
 use stdio::{StdSink, StdSource};
-use top::{Ended, PLACES, paraid};
+use top::{Ended, paraid};
+
+/// The number of disks of the array.
+const DISKS: u8 = 5;
+
+/// The number of blocks of each disk.
+const PLACES: u32 = 108;
 
 /// The most calls that the rack lists.
 const CALLS: u32 = 20_000;
 
-// Four fresh disks in memory.
+// Five fresh disks in memory.
 fn fresh_rack(alloc: Global) -> Result<MemRack, NoMemory> {
     let mut rack = MemRack::new(alloc, DISKS, PLACES, CALLS, Vec::new(alloc))?;
     for disk in 0..DISKS {

@@ -1,44 +1,48 @@
-ghost use Rattle.std.specs.Prelude.{◌≡◌, ℕ, ◌^◌, ◌<◌, ◌≤◌, false, IsErrOf, OnOk, IfOk};
+ghost use Rattle.std.specs.Prelude.{◌≡◌, ◌≤◌, [], None, Some, IsErrOf, OnOk};
+ghost use Rattle.paraid_base.specs.declared.fault.Halt.{Halt};
 ghost use Rattle.paraid_base.specs.Told.{AtEnd, HasRisen};
-ghost use Rattle.paraid_rack.specs.Told.{Ran};
-ghost use Rattle.paraid_cli.specs.Stands.{Fits, NoFall, Served};
-ghost use Rattle.paraid_cli.specs.Output.{HasFailed};
+ghost use Rattle.paraid_array.specs.Arrays.{rack_of, geometry_of, out_of, halted, StandsFor, IsReady, IsSettled};
+ghost use Rattle.paraid_cli.specs.Calls.{IsFive, Since};
 ghost use Rattle.paraid_cli.specs.Session.{Session};
 
 use crate::hear::hear;
-use crate::serve::{answer, sync_all};
+use crate::serve::answer;
 use crate::session::Stop;
-use crate::text::Text;
+use paraid_array::Array;
 use paraid_io::{LineFault, LineReader, Sink, Source, write_all};
 use paraid_rack::Rack;
+use paraid_trace::{Text, reply};
 
-/// Answers each line, and syncs at the end. It gives the number of writes.
+/// Answers each line, and flushes at the end. It gives the number of writes.
 pub fn session<S: Source, K: Sink, R: Rack>(
     source: &mut S,
     sink: &mut K,
-    rack: &mut R,
+    array: &mut Array<R>,
 ) -> Result<u64, Stop>
-    requires { Fits (R.slot_count rack.old) (R.slot rack.old) }
-    ensures session { Session (S.left source.old) (S.left source.new)
-        (K.written sink.old) (K.written sink.new) (R.told rack.old) (R.told rack.new) result }
-    ensures served { Ran (R.told rack.old) (R.told rack.new) Served }
-    ensures synced { OnOk result ((d : ℕ) → d < 4 → (R.slot rack.new d).unsynced ≡ false) }
+    requires five { IsFive (geometry_of array.old) }
+    requires ready { IsReady R.slot_count R.slot array.old }
+    requires fresh { halted array.old ≡ None }
+    requires whole { out_of array.old ≡ None }
+    ensures session { Session (StandsFor R.told array.old []) (StandsFor R.told array.new)
+        (R.slot (rack_of array.old)) (R.slot (rack_of array.new))
+        (S.left source.old) (S.left source.new) (K.written sink.old) (K.written sink.new)
+        (R.told (rack_of array.new)) result }
+    ensures since { Since (StandsFor R.told array.old [])
+        (R.slot (rack_of array.old)) (R.slot (rack_of array.new)) (out_of array.new)
+        (halted array.new) (R.told (rack_of array.old)) (R.told (rack_of array.new)) }
+    ensures five { IsFive (geometry_of array.new) }
+    ensures halt { (halt : Halt) → IsErrOf result (Stop.Halt halt) → halted array.new ≡ Some halt }
+    ensures settled { OnOk result (IsSettled R.told array.new) }
     ensures end { OnOk result (AtEnd (S.left source.new)) }
-    ensures small { IfOk result (λ writes. writes ≤ 2 ^ 40) }
     ensures source { IsErrOf result Stop.Source
         → HasRisen (S.faults source.old) (S.faults source.new) }
     ensures sink { IsErrOf result Stop.Sink → HasRisen (K.faults sink.old) (K.faults sink.new) }
-    ensures disk { (d : ℕ) → IsErrOf result (Stop.Disk d)
-        → HasFailed (R.slot rack.old) (R.slot rack.new) d }
-    ensures last { (d : ℕ) → IsErrOf result (Stop.Last d)
-        → HasFailed (R.slot rack.old) (R.slot rack.new) d }
     ensures later_source { S.faults source.old ≤ S.faults source.new }
     ensures later_sink { K.faults sink.old ≤ K.faults sink.new }
-    ensures no_fall { NoFall (R.slot rack.old) (R.slot rack.new) }
 {
     let mut reader = LineReader::new();
     let mut text = Text::new();
-    let mut writes = 0;
+    let mut halt = None;
     'lines: loop {
         let event = match hear(&mut reader, source) {
             Ok(Some(event)) => event,
@@ -46,15 +50,14 @@ pub fn session<S: Source, K: Sink, R: Rack>(
             Err(LineFault::Source) => return Err(Stop::Source),
             Err(LineFault::TooLong { .. }) => return Err(Stop::TooLong),
         };
-        if let Err(disk) = answer(rack, &mut writes, event, &mut text) {
-            return Err(Stop::Disk(disk));
-        }
+        let answered = answer(array, &mut halt, event);
+        reply(&answered, &mut text);
         let Ok(()) = write_all(sink, text.as_slice()) else {
             return Err(Stop::Sink);
         };
     }
-    if let Err(disk) = sync_all(rack) {
-        return Err(Stop::Last(disk));
+    match array.flush() {
+        Ok(writes) => Ok(writes),
+        Err(halt) => Err(Stop::Halt(halt)),
     }
-    Ok(writes)
 }

@@ -1,152 +1,128 @@
-ghost use Rattle.std.specs.Prelude.{◌≡◌, ◌≢◌, ℕ, ◌+◌, ◌/◌, ◌%◌, ◌^◌, ◌<◌, ◌≤◌, false, List, [], ◌∷◌, ◌++◌, length, slice_index, IsSome, OnOk, IfErr, IfOk};
-ghost use Rattle.paraid_base.specs.History.{History, held};
-ghost use Rattle.paraid_base.specs.Told.{HasRisen};
-ghost use Rattle.paraid_rack.specs.Told.{Ran};
-ghost use Rattle.paraid_cli.specs.Filled.{filled};
-ghost use Rattle.paraid_cli.specs.Trace.{IsValid, reply as reply_of, next};
-ghost use Rattle.paraid_cli.specs.Stands.{Stands, Fits, NoFall, Served, Meets};
-ghost use Rattle.paraid_cli.specs.Output.{HasFailed};
+ghost use Rattle.std.specs.Prelude.{◌≡◌, None, Some, IsSome};
+ghost use Rattle.paraid_base.specs.declared.event.Event.TheVariants.{Read as ReadEvent, Write as WriteEvent, Flush as FlushEvent};
+ghost use Rattle.paraid_base.specs.declared.fault.Halt.{Halt};
+ghost use Rattle.paraid_base.specs.History.{History};
+ghost use Rattle.paraid_array.specs.Arrays.{rack_of, geometry_of, halted, StandsFor, IsReady};
+ghost use Rattle.paraid_trace.specs.Replies.{HasFewDisks};
+ghost use Rattle.paraid_cli.specs.Trace.{Replied, halt_answer, halt_told, next};
+ghost use Rattle.paraid_cli.specs.Calls.{IsFive, Leaves};
 
-use crate::event::Event;
-use crate::reply;
-use crate::text::Text;
-use paraid_base::{Block, DiskNo};
+use paraid_array::Array;
+use paraid_base::{Answer, Block, BlockFault, BlockNo, Event, Halt};
 use paraid_rack::Rack;
 
-/// The number of disks that hold the blocks.
-pub const DISKS: u8 = 4;
-
-// Syncs a disk that is unsynced.
-fn sync_one<R: Rack>(rack: &mut R, disk: DiskNo) -> Result<(), DiskNo>
-    requires disk { disk < 4 }
-    requires fits { Fits (R.slot_count rack.old) (R.slot rack.old) }
-    ensures served { Ran (R.told rack.old) (R.told rack.new) Served }
-    ensures stands { (h : History) → Stands (R.told rack.old) h → Stands (R.told rack.new) h }
-    ensures synced { OnOk result ((R.slot rack.new disk).unsynced ≡ false) }
-    ensures others { OnOk result ((d : ℕ) → d ≢ disk → R.slot rack.new d ≡ R.slot rack.old d) }
-    ensures fits { OnOk result (Fits (R.slot_count rack.new) (R.slot rack.new)) }
-    ensures no_fall { NoFall (R.slot rack.old) (R.slot rack.new) }
-    ensures cause { IfErr result (HasFailed (R.slot rack.old) (R.slot rack.new)) }
+// The answer to a read.
+fn read_block<R: Rack>(array: &mut Array<R>, block: BlockNo) -> Answer
+    requires five { IsFive (geometry_of array.old) }
+    ensures reply { (h : History) → StandsFor R.told array.old h
+        → IsSome (R.told (rack_of array.new))
+        → Replied (halted array.new) h (ReadEvent block) result }
+    ensures history { (h : History) → StandsFor R.told array.old h → halted array.new ≡ None
+        → StandsFor R.told array.new (next h (ReadEvent block)) }
+    ensures halt { halted array.new ≡ halt_told result }
+    ensures leaves { Leaves R.slot_count R.slot R.told array.old array.new }
+    ensures few { HasFewDisks result }
 {
-    if !rack.unsynced(disk) {
-        return Ok(());
+    let mut bytes = Block::zero();
+    match array.read(block, &mut bytes) {
+        Ok(()) => Answer::Value { block, bytes },
+        Err(BlockFault::NoBlock { block }) => Answer::NoBlock { block },
+        Err(BlockFault::Halt(halt)) => Answer::Halted(halt),
     }
-    let Ok(()) = rack.sync(disk) else {
-        return Err(disk);
-    };
-    Ok(())
 }
 
-/// Syncs each disk that is unsynced.
-pub fn sync_all<R: Rack>(rack: &mut R) -> Result<(), DiskNo>
-    requires { Fits (R.slot_count rack.old) (R.slot rack.old) }
-    ensures served { Ran (R.told rack.old) (R.told rack.new) Served }
-    ensures stands { (h : History) → Stands (R.told rack.old) h → Stands (R.told rack.new) h }
-    ensures synced { OnOk result ((d : ℕ) → d < 4 → (R.slot rack.new d).unsynced ≡ false) }
-    ensures fits { OnOk result (Fits (R.slot_count rack.new) (R.slot rack.new)) }
-    ensures no_fall { NoFall (R.slot rack.old) (R.slot rack.new) }
-    ensures cause { IfErr result (HasFailed (R.slot rack.old) (R.slot rack.new)) }
+// The answer to a write.
+fn write_block<R: Rack>(array: &mut Array<R>, block: BlockNo, bytes: &Block) -> Answer
+    requires five { IsFive (geometry_of array.old) }
+    ensures reply { (h : History) → StandsFor R.told array.old h
+        → IsSome (R.told (rack_of array.new))
+        → Replied (halted array.new) h (WriteEvent block bytes.now) result }
+    ensures history { (h : History) → StandsFor R.told array.old h → halted array.new ≡ None
+        → StandsFor R.told array.new (next h (WriteEvent block bytes.now)) }
+    ensures halt { halted array.new ≡ halt_told result }
+    ensures leaves { Leaves R.slot_count R.slot R.told array.old array.new }
+    ensures few { HasFewDisks result }
 {
-    for disk in 0..DISKS {
-        sync_one(rack, disk)?;
+    match array.write(block, bytes) {
+        Ok(number) => Answer::Wrote { number },
+        Err(BlockFault::NoBlock { block }) => Answer::NoBlock { block },
+        Err(BlockFault::Halt(halt)) => Answer::Halted(halt),
     }
-    Ok(())
 }
 
-/// Reads the first byte of a block.
-pub fn read_block<R: Rack>(rack: &mut R, block: u8) -> Result<u8, DiskNo>
-    requires block { block < 40 }
-    requires fits { Fits (R.slot_count rack.old) (R.slot rack.old) }
-    ensures byte { IfOk result (λ byte. (h : History) → IsSome (R.told rack.new)
-        → Stands (R.told rack.old) h → byte ≡ slice_index (held h block).bytes 0) }
-    ensures served { Ran (R.told rack.old) (R.told rack.new) Served }
-    ensures stands { (h : History) → Stands (R.told rack.old) h → Stands (R.told rack.new) h }
-    ensures fits { OnOk result (Fits (R.slot_count rack.new) (R.slot rack.new)) }
-    ensures no_fall { NoFall (R.slot rack.old) (R.slot rack.new) }
-    ensures cause { IfErr result (HasFailed (R.slot rack.old) (R.slot rack.new)) }
-    ensures disk { IfErr result (λ disk. disk ≡ block % 4) }
+// The answer to a flush.
+fn flush<R: Rack>(array: &mut Array<R>) -> Answer
+    ensures reply { (h : History) → StandsFor R.told array.old h
+        → IsSome (R.told (rack_of array.new))
+        → Replied (halted array.new) h FlushEvent result }
+    ensures history { (h : History) → StandsFor R.told array.old h → halted array.new ≡ None
+        → StandsFor R.told array.new (next h FlushEvent) }
+    ensures halt { halted array.new ≡ halt_told result }
+    ensures leaves { Leaves R.slot_count R.slot R.told array.old array.new }
+    ensures few { HasFewDisks result }
 {
-    let disk = block % DISKS;
-    let mut block_read = Block::zero();
-    let Ok(()) = rack.read(disk, u32::from(block / DISKS), &mut block_read) else {
-        return Err(disk);
-    };
-    Ok(block_read.as_slice()[0])
+    match array.flush() {
+        Ok(writes) => Answer::Flushed { writes },
+        Err(halt) => Answer::Halted(halt),
+    }
 }
 
-/// Fills a block with a byte.
-pub fn write_block<R: Rack>(rack: &mut R, block: u8, byte: u8) -> Result<(), DiskNo>
-    requires block { block < 40 }
-    requires fits { Fits (R.slot_count rack.old) (R.slot rack.old) }
-    ensures served { Ran (R.told rack.old) (R.told rack.new) Served }
-    ensures stands { (h : History) → Stands (R.told rack.old) h
-        → Stands (R.told rack.new) (h ++ (block, filled byte) ∷ []) }
-    ensures fits { OnOk result (Fits (R.slot_count rack.new) (R.slot rack.new)) }
-    ensures no_fall { NoFall (R.slot rack.old) (R.slot rack.new) }
-    ensures cause { IfErr result (HasFailed (R.slot rack.old) (R.slot rack.new)) }
-    ensures disk { IfErr result (λ disk. disk ≡ block % 4) }
+// The answer of an array that has not halted.
+fn serve<R: Rack>(array: &mut Array<R>, event: Event) -> Answer
+    requires five { IsFive (geometry_of array.old) }
+    requires fresh { halted array.old ≡ None }
+    requires ready { IsReady R.slot_count R.slot array.old }
+    ensures reply { (h : History) → StandsFor R.told array.old h
+        → IsSome (R.told (rack_of array.new))
+        → Replied (halted array.new) h event result }
+    ensures history { (h : History) → StandsFor R.told array.old h → halted array.new ≡ None
+        → StandsFor R.told array.new (next h event) }
+    ensures halt { halted array.new ≡ halt_told result }
+    ensures leaves { Leaves R.slot_count R.slot R.told array.old array.new }
+    ensures few { HasFewDisks result }
 {
-    let disk = block % DISKS;
-    let bytes = filled_block(byte);
-    let Ok(()) = rack.write(disk, u32::from(block / DISKS), &bytes) else {
-        return Err(disk);
-    };
-    Ok(())
-}
-
-// The block of this byte alone.
-fn filled_block(byte: u8) -> Block
-    ensures { result ≡ filled byte }
-{
-    Block::from_array([byte; 512])
-}
-
-/// Does what an event asks for. `text` becomes its answer.
-pub fn answer<R: Rack>(
-    rack: &mut R,
-    writes: &mut u64,
-    event: Event,
-    text: &mut Text,
-) -> Result<(), DiskNo>
-    requires valid { IsValid event }
-    requires count { writes.old < 2 ^ 60 }
-    requires fits { Fits (R.slot_count rack.old) (R.slot rack.old) }
-    ensures text { OnOk result ((h : History) → length h ≡ writes.old → IsSome (R.told rack.new)
-        → Stands (R.told rack.old) h → text.new ≡ reply_of h event) }
-    ensures served { Ran (R.told rack.old) (R.told rack.new) Served }
-    ensures stands { OnOk result ((h : History) → Stands (R.told rack.old) h
-        → Stands (R.told rack.new) (next h event)) }
-    ensures number { OnOk result ((h : History) → length h ≡ writes.old
-        → length (next h event) ≡ writes.new) }
-    ensures bound { OnOk result (writes.new ≤ writes.old + 1) }
-    ensures synced { OnOk result (event ≡ Event.Flush
-        → (d : ℕ) → d < 4 → (R.slot rack.new d).unsynced ≡ false) }
-    ensures fits { OnOk result (Fits (R.slot_count rack.new) (R.slot rack.new)) }
-    ensures no_fall { NoFall (R.slot rack.old) (R.slot rack.new) }
-    ensures cause { IfErr result (HasFailed (R.slot rack.old) (R.slot rack.new)) }
-    ensures meets { IfErr result (Meets event) }
-{
-    text.clear();
     match event {
-        Event::Read { block } => {
-            let byte = read_block(rack, block)?;
-            reply::read(text, block, byte);
-            Ok(())
-        }
-        Event::Write { block, byte } => {
-            write_block(rack, block, byte)?;
-            *writes += 1;
-            reply::wrote(text, *writes);
-            Ok(())
-        }
-        Event::Flush => {
-            sync_all(rack)?;
-            reply::flushed(text, *writes);
-            Ok(())
-        }
-        Event::Later => {
-            reply::later(text);
-            Ok(())
-        }
+        Event::Read { block } => read_block(array, block),
+        Event::Write { block, bytes } => write_block(array, block, &bytes),
+        Event::Flush => flush(array),
+        Event::Bad => Answer::Bad,
+        _ => Answer::Later,
     }
+}
+
+// The halt that an answer tells.
+fn halt_in(answer: &Answer) -> Option<Halt>
+    ensures { result ≡ halt_told answer.now }
+{
+    match answer {
+        Answer::Halted(halt) => Some(*halt),
+        _ => None,
+    }
+}
+
+/// The answer to an event. `halt` is the array's. After a halt only a line that is no event is
+/// answered otherwise than by the halt, and no call is made.
+pub fn answer<R: Rack>(array: &mut Array<R>, halt: &mut Option<Halt>, event: Event) -> Answer
+    requires five { IsFive (geometry_of array.old) }
+    requires ready { IsReady R.slot_count R.slot array.old }
+    requires halt { halt.old ≡ halted array.old }
+    ensures reply { halt.old ≡ None → (h : History) → StandsFor R.told array.old h
+        → IsSome (R.told (rack_of array.new)) → Replied halt.new h event result }
+    ensures history { halt.old ≡ None → (h : History) → StandsFor R.told array.old h
+        → halt.new ≡ None → StandsFor R.told array.new (next h event) }
+    ensures again { (was : Halt) → halt.old ≡ Some was
+        → (halt.new ≡ Some was) × (result ≡ halt_answer was event) }
+    ensures halt { halt.new ≡ halted array.new }
+    ensures leaves { Leaves R.slot_count R.slot R.told array.old array.new }
+    ensures few { HasFewDisks result }
+{
+    if let Event::Bad = event {
+        return Answer::Bad;
+    }
+    if let Some(halt) = *halt {
+        return Answer::Halted(halt);
+    }
+    let answer = serve(array, event);
+    *halt = halt_in(&answer);
+    answer
 }

@@ -1,4 +1,4 @@
-use paraid_base::DiskNo;
+use paraid_base::Halt;
 
 /// Why a session ended before its last line.
 #[derive(Clone, Copy, Debug, PartialEq, Eq)]
@@ -9,8 +9,6 @@ pub enum Stop {
     TooLong,
     /// The sink has failed.
     Sink,
-    /// This disk has failed in a line.
-    Disk(DiskNo),
-    /// This disk has failed in the sync after the last line.
-    Last(DiskNo),
+    /// The input has ended, and the array has halted.
+    Halt(Halt),
 }

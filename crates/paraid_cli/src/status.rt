@@ -12,11 +12,17 @@ pub const SOURCE: u8 = 3;
 /// The sink has failed.
 pub const SINK: u8 = 4;
 
+/// Two disks are down.
+pub const TWO: u8 = 5;
+
+/// The disks in the slots make no array.
+pub const NOT_AN_ARRAY: u8 = 6;
+
 /// There was no memory for the disks, before the run began.
 pub const NO_MEMORY: u8 = 7;
 
 /// All that may be taken of a trace was taken, and no whole line is left.
 pub const TOO_LONG: u8 = 10;
 
-/// A disk has failed, or does not fit.
-pub const DISK: u8 = 11;
+/// So many writes were accepted that the array takes no more.
+pub const WORN: u8 = 12;

@@ -1,21 +1,14 @@
-use Rattle.std.proofs.Common.{◌%◌, ◌<◌, arith}
-use Rattle.paraid_cli.proofs.ServeLemmas.{served_call, spins_told, stands_write}
+use Rattle.std.proofs.Common.{ℕ}
+use Rattle.paraid_base.specs.History.{History}
+use Rattle.paraid_array.specs.Arrays.{StandsFor}
+use Rattle.paraid_cli.proofs.ServeLemmas.{below_twenty, past_twenty, next_written, next_missing}
 use Rattle.paraid_cli.proofs.serve.write_block.Goals as goal
 
-pub returns-in_default-clause-served : goal.returns-in_default-clause-served
-returns-in_default-clause-served g c =
-    let rack = c.args.rack.now in
-    let small : c.args.block % 4 < 4 = omega arith in
-    served_call _ _ _ c.in_default.ensures.told (spins_told (g.R.Rack.told rack) (g.R.Rack.slot rack) _ (g.met.R.Rack.agrees rack) (c.requires.fits.each (c.args.block % 4) small).spins) small
+pub returns-in-Ok-clause-history : goal.returns-in-Ok-clause-history
+returns-in-Ok-clause-history g c h stands fresh =
+    next_written (λ (x : History). StandsFor g.R.Rack.told c.write.new.self x) h c.args.block c.args.bytes.now (below_twenty c.args.array.now.geometry c.args.block c.requires.five c.in-Ok.ensures.missing) (c.in-Ok.ensures.history h stands).1
 
-pub returns-in_default-clause-stands : goal.returns-in_default-clause-stands
-returns-in_default-clause-stands g c h stands = stands_write _ _ c.args.block _ _ _ (rw c.filled_block-bytes.ensures at c.in_default.ensures.told) c.from.ensures h stands
-
-pub returns-clause-served : goal.returns-clause-served
-returns-clause-served g c =
-    let rack = c.args.rack.now in
-    let small : c.args.block % 4 < 4 = omega arith in
-    served_call _ _ _ c.in-Ok.ensures.told (spins_told (g.R.Rack.told rack) (g.R.Rack.slot rack) _ (g.met.R.Rack.agrees rack) (c.requires.fits.each (c.args.block % 4) small).spins) small
-
-pub returns-clause-stands : goal.returns-clause-stands
-returns-clause-stands g c h stands = stands_write _ _ c.args.block _ _ _ (rw c.filled_block-bytes.ensures at c.in-Ok.ensures.told) c.from.ensures h stands
+pub returns-in-Err-NoBlock-clause-history : goal.returns-in-Err-NoBlock-clause-history
+returns-in-Err-NoBlock-clause-history g c h stands fresh =
+    let missing = rw c.in-Err-NoBlock.field-0-is at c.in-Err-NoBlock.ensures.missing in
+    next_missing (λ (x : History). StandsFor g.R.Rack.told c.write.new.self x) h c.args.block c.args.bytes.now (past_twenty c.args.array.now.geometry c.args.block c.requires.five missing.1) (rw c.in-Err-NoBlock.field-0-is at (c.in-Err-NoBlock.ensures.history h stands))
