@@ -1,6 +1,5 @@
 -- What a session keeps from line to line.
 use Rattle.std.proofs.Common.{◌≡◌, ℕ, ◌+◌, ◌^◌, ◌<◌, ◌≤◌, ◌⊎◌, Bool, true, false, List, [], ◌∷◌, ◌++◌, length, take, drop, IsTrue, Option, Some, None, IsSome, Result, Ok, Err, refl, sym, ap, ◌∙◌, subst, inl, inr, arith, length-append, take-append-drop}
-use Rattle.std.specs.Prelude.{nat_lt}
 use Rattle.std.proofs.lemmas.List.{append_assoc, append-nil}
 use Rattle.std.proofs.lemmas.Bool.{false≢true}
 use Rattle.std.proofs.lemmas.Option.{none-some}
@@ -37,7 +36,6 @@ pub record Sofar (known : Type 0) (left_before left written_before written : Opt
   pub at_end : IsTrue reader.ended → AtEnd left
   pub fault : reader.fault ≡ None
   pub limit : reader.taken ≤ 2 ^ 40
-  pub held : length answered + length reader.rest ≤ reader.taken
   pub count : reader.taken ≡ length bytes
   pub grows : Grows written_before written said
   pub text : IsSome now → known → Told halt answered said
@@ -54,7 +52,6 @@ sofar_start left written start stood = record {
   at_end = λ e. absurd (false≢true e);
   fault = refl;
   limit = omega arith;
-  held = omega arith;
   count = refl;
   grows = Grows-none written;
   text = λ s z. refl;
@@ -83,28 +80,6 @@ halt_transcript-append halt (x ∷ xs) ys =
     ap (λ t. reply_of (halt_answer halt (event_of x)) ++ t) (halt_transcript-append halt xs ys)
     ∙ sym (append_assoc (reply_of (halt_answer halt (event_of x))) (halt_transcript halt xs) (halt_transcript halt ys))
 
-length_next : (h : History) (e : Event) → length (next h e) ≤ length h + 1
-length_next h (Read block) = omega arith
-length_next h (Write block bytes) = length_written (nat_lt block 20)
-  where
-    length_written : (b : Bool) → length (Rattle.std.specs.Bool.if◌then◌else◌ b (h ++ (block, bytes) ∷ []) h) ≤ length h + 1
-    length_written true = omega (arith, length-append h ((block, bytes) ∷ []))
-    length_written false = omega arith
-length_next h Flush = omega arith
-length_next h Tick = omega arith
-length_next h Up = omega arith
-length_next h Down = omega arith
-length_next h (Fail disk) = omega arith
-length_next h (Replace disk) = omega arith
-length_next h State = omega arith
-length_next h Energy = omega arith
-length_next h Bad = omega arith
-
--- a line accepts one write at most
-pub length_history : (h : History) (lines : List (List ℕ)) → length (history_of h lines) ≤ length h + length lines
-length_history h [] = omega arith
-length_history h (line ∷ lines) = omega (arith, length_history (next h (event_of line)) lines, length_next h (event_of line))
-
 served_halts : (halt : Halt) (e : Event) → IsServed e → halt_answer halt e ≡ Halted halt
 served_halts halt (Read block) s = refl
 served_halts halt (Write block bytes) s = refl
@@ -117,9 +92,6 @@ served_halts halt (Replace disk) s = absurd s
 served_halts halt State s = absurd s
 served_halts halt Energy s = absurd s
 served_halts halt Bad s = absurd s
-
-same_halt : (a b : Halt) → Some a ≡ Some b → a ≡ b
-same_halt a b e = cc
 
 -- one line more
 pub told_more : (halt new_halt : Option Halt) (lines : List (List ℕ)) (said line : List ℕ) (answer : Answer) → Told halt lines said
@@ -148,6 +120,13 @@ told_more (Some was) new_halt lines said line answer told replied again =
   where
     halt_push : (halt : Halt) (lines : List (List ℕ)) (line : List ℕ) → halt_transcript halt (lines ++ line ∷ []) ≡ halt_transcript halt lines ++ reply_of (halt_answer halt (event_of line))
     halt_push halt lines line = halt_transcript-append halt lines (line ∷ []) ∙ ap (λ x. halt_transcript halt lines ++ x) (append-nil (reply_of (halt_answer halt (event_of line))))
+
+-- an event is a line, and accepts one write at most
+pub few_more : {before after : Option (List ℕ)} {old new : Reading} {event : Event} → Heard before after old new (Ok (Some event)) → (writes new_writes : ℕ) → writes + length old.rest ≤ old.taken → new_writes ≤ writes + 1
+    → new_writes + length new.rest ≤ new.taken
+few_more {before} {after} {old} {new} {event} h writes new_writes few more =
+    let n : NextLine (old.rest ++ h.got) h.says.0 new = h.says.2 in
+    omega (arith, few, more, h.taken, n.shorter, length-append old.rest h.got)
 
 -- no byte comes after the end
 none_more : {a b : Option (List ℕ)} {got : List ℕ} → Gives a b got → got ≡ [] → AtEnd a → AtEnd b
@@ -210,7 +189,6 @@ module _ {known : Type 0} {left_before left after written_before written : Optio
         at_end = λ e. heard_end h s.at_end e;
         fault = fault;
         limit = h.limit;
-        held = omega (arith, s.held, h.taken, n.shorter, length-append old.rest h.got, length-append s.answered (line ∷ []));
         count = omega (arith, s.count, h.taken, length-append s.bytes h.got);
         grows = Grows-then written_before written wrote s.said (reply_of answer) s.grows grew;
         text = one_more h new_halt answer later tells replied again;
@@ -219,10 +197,6 @@ module _ {known : Type 0} {left_before left after written_before written : Optio
           | inr was ↦ absurd (none-some was.0 (sym none ∙ (again was.0 was.1).0))
         ];
       }
-
-  -- the array has accepted few writes
-  pub few_writes : (writes : ℕ) → ((history : History) → stood history → writes ≡ length history) → known → halt ≡ None → writes < 2 ^ 62
-  few_writes writes counted k none = omega (arith, counted (history_of [] s.answered) (s.stands none k), length_history [] s.answered, s.held, s.limit)
 
   -- the input has ended, and all lines are answered
   all_lines : (h : Heard left after old new (Ok None)) → lines_of (s.bytes ++ h.got) ≡ s.answered
@@ -245,7 +219,7 @@ module _ {known : Type 0} {left_before left after written_before written : Optio
 
     -- the array has halted, and all lines are answered
     pub ends_halted : (h : Heard left after old new (Ok None)) → (final : Option Trail) (final_stood : History → Type 0) (x : Halt) → (IsSome final → IsSome now)
-        → ((was : Halt) → halt ≡ Some was → was ≡ x) → (known → IsDown first last x)
+        → ((was : Halt) → halt ≡ Some was → was ≡ x) → IsDown first last x
         → Session known final_stood first last left_before after written_before written final (Err (Halts x))
     ends_halted h final final_stood x tells same down = record {
       bytes = s.bytes ++ h.got;
@@ -255,7 +229,7 @@ module _ {known : Type 0} {left_before left after written_before written : Optio
       grows = s.grows;
       full = tt;
       kept = λ t k. tt;
-      answered = λ t k. (sym (all_lines h), down k, elim (none_or_some halt) [
+      answered = λ t k. (sym (all_lines h), down, elim (none_or_some halt) [
         | inl none ↦ inl (subst (λ (o : Option Halt). Told o s.answered s.said) none (s.text (tells t) k))
         | inr was ↦ inr (subst (λ (o : Option Halt). Told o s.answered s.said) (was.1 ∙ ap (λ (y : Halt). Some y) (same was.0 was.1)) (s.text (tells t) k))
       ]);
@@ -264,7 +238,7 @@ module _ {known : Type 0} {left_before left after written_before written : Optio
     fault_lines : {fault : LineFault} (h : Heard left after old new (Err fault)) → s.answered ≡ whole_lines (s.bytes ++ h.got)
     fault_lines h = sym (s.whole (was_open h.stays_ended h.says.1) h.got ∙ ap (λ x. s.answered ++ x) h.says.0 ∙ append-nil s.answered)
 
-    pub ends_at_source : {fault : LineFault} (h : Heard left after old new (Err fault)) → (known → MayBeDown first last halt) → Session known stood first last left_before after written_before written now (Err Source)
+    pub ends_at_source : {fault : LineFault} (h : Heard left after old new (Err fault)) → MayBeDown first last halt → Session known stood first last left_before after written_before written now (Err Source)
     ends_at_source h down = record {
       bytes = s.bytes ++ h.got;
       lines = s.answered;
@@ -273,10 +247,10 @@ module _ {known : Type 0} {left_before left after written_before written : Optio
       grows = s.grows;
       full = tt;
       kept = λ t k. tt;
-      answered = λ t k. (fault_lines h, halt, down k, s.text t k);
+      answered = λ t k. (fault_lines h, halt, down, s.text t k);
     }
 
-    pub ends_too_long : {fault : LineFault} (h : Heard left after old new (Err fault)) → new.taken ≡ 2 ^ 40 → (known → MayBeDown first last halt)
+    pub ends_too_long : {fault : LineFault} (h : Heard left after old new (Err fault)) → new.taken ≡ 2 ^ 40 → MayBeDown first last halt
         → Session known stood first last left_before after written_before written now (Err TooLong)
     ends_too_long h full down = record {
       bytes = s.bytes ++ h.got;
@@ -286,14 +260,14 @@ module _ {known : Type 0} {left_before left after written_before written : Optio
       grows = s.grows;
       full = omega (arith, s.count, h.taken, length-append s.bytes h.got, full);
       kept = λ t k. tt;
-      answered = λ t k. (fault_lines h, halt, down k, s.text t k);
+      answered = λ t k. (fault_lines h, halt, down, s.text t k);
     }
 
     -- an answer could not be written
     pub ends_at_sink : {event : Event} (h : Heard left after old new (Ok (Some event))) → (new_halt : Option Halt) (answer : Answer) (later wrote : Option _) (new_stood : History → Type 0) (n : ℕ) → (IsSome later → IsSome now)
         → (halt ≡ None → (history : History) → stood history → IsSome later → Replied new_halt history event answer)
         → ((was : Halt) → halt ≡ Some was → (new_halt ≡ Some was) × (answer ≡ halt_answer was event))
-        → (known → MayBeDown first last new_halt)
+        → MayBeDown first last new_halt
         → Grows written wrote (take n (reply_of answer)) → Session known new_stood first last left_before after written_before wrote later (Err Sink)
     ends_at_sink {event} h new_halt answer later wrote new_stood n tells replied again down grew =
         let line : List ℕ = h.says.0 in
@@ -313,7 +287,7 @@ module _ {known : Type 0} {left_before left after written_before written : Optio
                 ∙ ap (λ x. s.answered ++ x) (next_line.lines [] (λ e. refl)) ∙ ap (λ x. s.answered ++ line ∷ lines_of x) (append-nil new.rest)
                 ∙ sym (append_assoc s.answered (line ∷ []) (lines_of new.rest)),
             new_halt,
-            down k,
+            down,
             subst (λ (x : List ℕ). Told new_halt (s.answered ++ line ∷ []) x) (ap (λ x. s.said ++ x) (sym (take-append-drop n (reply_of answer))) ∙ sym (append_assoc s.said (take n (reply_of answer)) (drop n (reply_of answer)))) (one_more h new_halt answer later tells replied again t k),
           );
         }

@@ -37,7 +37,7 @@ pub record HaveFailed (old new : ℕ → Slot) (two : Two) : Type 0 where
   pub first : HasFailed old new two.first
   pub second : HasFailed old new two.second
 
--- why a run halts: it takes too few bytes for so many writes
+-- Why a run halts. It takes too few bytes to wear an array out.
 abbrev pub IsDown : (ℕ → Slot) → (ℕ → Slot) → Halt → Type 0
 IsDown old new (HaltTwo two) = HaveFailed old new two
 IsDown old new (Worn count) = ⊥
@@ -47,15 +47,10 @@ abbrev pub MayBeDown : (ℕ → Slot) → (ℕ → Slot) → Option Halt → Typ
 MayBeDown old new None = Unit {0}
 MayBeDown old new (Some halt) = IsDown old new halt
 
--- The cause of a halt since the start of a run. It is not worn, if what was known at the start is so.
-abbrev pub IsCauseSince : Type 0 → (ℕ → Slot) → (ℕ → Slot) → Halt → Type 0
-IsCauseSince known old new (HaltTwo two) = HaveFailed old new two
-IsCauseSince known old new (Worn count) = known → ⊥
-
 -- What a run has done to the disks since its start: lawful calls on the five disks alone. No count
--- has fallen, and a disk that is out has failed since the start.
-pub record Since (known : Type 0) (old new : ℕ → Slot) (out : Option ℕ) (halt : Option Halt) (start told : Option Trail) : Type 0 where
+-- has fallen, and a disk that is out has failed since the start. A halt has two for its cause.
+pub record Since (old new : ℕ → Slot) (out : Option ℕ) (halt : Option Halt) (start told : Option Trail) : Type 0 where
   pub served : Ran start told (Served 5)
   pub no_fall : NoFall old new
   pub lost : (d : ℕ) → out ≡ Some d → HasFailed old new d
-  pub cause : (h : Halt) → halt ≡ Some h → IsCauseSince known old new h
+  pub cause : (h : Halt) → halt ≡ Some h → IsDown old new h

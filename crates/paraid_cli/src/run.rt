@@ -1,7 +1,7 @@
 ghost use Rattle.std.specs.Prelude.{◌≡◌, ◌≤◌, [], None, Some, IsErrOf, OnOk};
 ghost use Rattle.paraid_base.specs.declared.fault.Halt.{Halt};
 ghost use Rattle.paraid_base.specs.Told.{AtEnd, HasRisen};
-ghost use Rattle.paraid_array.specs.Arrays.{rack_of, geometry_of, out_of, halted, StandsFor, IsReady, IsSettled};
+ghost use Rattle.paraid_array.specs.Arrays.{rack_of, geometry_of, out_of, writes_of, halted, StandsFor, IsReady, IsSettled};
 ghost use Rattle.paraid_cli.specs.Calls.{IsFive, Since};
 ghost use Rattle.paraid_cli.specs.Session.{Session};
 
@@ -23,13 +23,14 @@ pub fn session<S: Source, K: Sink, R: Rack>(
     requires ready { IsReady R.slot_count R.slot array.old }
     requires fresh { halted array.old ≡ None }
     requires whole { out_of array.old ≡ None }
+    requires none { writes_of array.old ≡ 0 }
     ensures session { Session (StandsFor R.told array.old []) (StandsFor R.told array.new)
         (R.slot (rack_of array.old)) (R.slot (rack_of array.new))
         (S.left source.old) (S.left source.new) (K.written sink.old) (K.written sink.new)
         (R.told (rack_of array.new)) result }
-    ensures since { Since (StandsFor R.told array.old [])
-        (R.slot (rack_of array.old)) (R.slot (rack_of array.new)) (out_of array.new)
-        (halted array.new) (R.told (rack_of array.old)) (R.told (rack_of array.new)) }
+    ensures since { Since (R.slot (rack_of array.old)) (R.slot (rack_of array.new))
+        (out_of array.new) (halted array.new)
+        (R.told (rack_of array.old)) (R.told (rack_of array.new)) }
     ensures five { IsFive (geometry_of array.new) }
     ensures halt { (halt : Halt) → IsErrOf result (Stop.Halt halt) → halted array.new ≡ Some halt }
     ensures settled { OnOk result (IsSettled R.told array.new) }

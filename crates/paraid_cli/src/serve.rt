@@ -1,8 +1,8 @@
-ghost use Rattle.std.specs.Prelude.{◌≡◌, None, Some, IsSome};
+ghost use Rattle.std.specs.Prelude.{◌≡◌, ◌+◌, ◌≤◌, None, Some, IsSome};
 ghost use Rattle.paraid_base.specs.declared.event.Event.TheVariants.{Read as ReadEvent, Write as WriteEvent, Flush as FlushEvent};
 ghost use Rattle.paraid_base.specs.declared.fault.Halt.{Halt};
 ghost use Rattle.paraid_base.specs.History.{History};
-ghost use Rattle.paraid_array.specs.Arrays.{rack_of, geometry_of, halted, StandsFor, IsReady};
+ghost use Rattle.paraid_array.specs.Arrays.{rack_of, geometry_of, writes_of, halted, StandsFor, IsReady};
 ghost use Rattle.paraid_trace.specs.Replies.{HasFewDisks};
 ghost use Rattle.paraid_cli.specs.Trace.{Replied, halt_answer, halt_told, next};
 ghost use Rattle.paraid_cli.specs.Calls.{IsFive, Leaves};
@@ -21,6 +21,7 @@ fn read_block<R: Rack>(array: &mut Array<R>, block: BlockNo) -> Answer
         → StandsFor R.told array.new (next h (ReadEvent block)) }
     ensures halt { halted array.new ≡ halt_told result }
     ensures leaves { Leaves R.slot_count R.slot R.told array.old array.new }
+    ensures writes { writes_of array.new ≤ writes_of array.old + 1 }
     ensures few { HasFewDisks result }
 {
     let mut bytes = Block::zero();
@@ -41,6 +42,7 @@ fn write_block<R: Rack>(array: &mut Array<R>, block: BlockNo, bytes: &Block) -> 
         → StandsFor R.told array.new (next h (WriteEvent block bytes.now)) }
     ensures halt { halted array.new ≡ halt_told result }
     ensures leaves { Leaves R.slot_count R.slot R.told array.old array.new }
+    ensures writes { writes_of array.new ≤ writes_of array.old + 1 }
     ensures few { HasFewDisks result }
 {
     match array.write(block, bytes) {
@@ -59,6 +61,7 @@ fn flush<R: Rack>(array: &mut Array<R>) -> Answer
         → StandsFor R.told array.new (next h FlushEvent) }
     ensures halt { halted array.new ≡ halt_told result }
     ensures leaves { Leaves R.slot_count R.slot R.told array.old array.new }
+    ensures writes { writes_of array.new ≤ writes_of array.old + 1 }
     ensures few { HasFewDisks result }
 {
     match array.flush() {
@@ -79,6 +82,7 @@ fn serve<R: Rack>(array: &mut Array<R>, event: Event) -> Answer
         → StandsFor R.told array.new (next h event) }
     ensures halt { halted array.new ≡ halt_told result }
     ensures leaves { Leaves R.slot_count R.slot R.told array.old array.new }
+    ensures writes { writes_of array.new ≤ writes_of array.old + 1 }
     ensures few { HasFewDisks result }
 {
     match event {
@@ -114,6 +118,7 @@ pub fn answer<R: Rack>(array: &mut Array<R>, halt: &mut Option<Halt>, event: Eve
         → (halt.new ≡ Some was) × (result ≡ halt_answer was event) }
     ensures halt { halt.new ≡ halted array.new }
     ensures leaves { Leaves R.slot_count R.slot R.told array.old array.new }
+    ensures writes { writes_of array.new ≤ writes_of array.old + 1 }
     ensures few { HasFewDisks result }
 {
     if let Event::Bad = event {

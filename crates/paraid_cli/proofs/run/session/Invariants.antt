@@ -1,5 +1,5 @@
 use Rattle.std.proofs.Common.{◌≡◌, ◌≤◌, ◌+◌, ◌-◌, ◌^◌, length, []}
-use Rattle.paraid_array.specs.Arrays.{rack_of, geometry_of, out_of, halted, StandsFor, IsReady}
+use Rattle.paraid_array.specs.Arrays.{rack_of, geometry_of, out_of, writes_of, halted, StandsFor, IsReady}
 use Rattle.paraid_cli.specs.Calls.{IsFive, Since}
 use Rattle.paraid_cli.proofs.Sofar.{Sofar}
 use Rattle.paraid_cli.proofs.run.session.Given as goal
@@ -7,7 +7,8 @@ use Rattle.paraid_cli.proofs.run.session.Given as goal
 abbrev pub invariant-lines : goal.invariant-lines
 invariant-lines g l = record {
   sofar : Sofar (StandsFor g.R.Rack.told l.initial.array []) (g.S.Source.left l.initial.source) (g.S.Source.left l.source) (g.K.Sink.written l.initial.sink) (g.K.Sink.written l.sink) (g.R.Rack.told (rack_of l.array)) l.halt (StandsFor g.R.Rack.told l.array) l.reader;
-  since : Since (StandsFor g.R.Rack.told l.initial.array []) (g.R.Rack.slot (rack_of l.initial.array)) (g.R.Rack.slot (rack_of l.array)) (out_of l.array) l.halt (g.R.Rack.told (rack_of l.initial.array)) (g.R.Rack.told (rack_of l.array));
+  since : Since (g.R.Rack.slot (rack_of l.initial.array)) (g.R.Rack.slot (rack_of l.array)) (out_of l.array) l.halt (g.R.Rack.told (rack_of l.initial.array)) (g.R.Rack.told (rack_of l.array));
+  few : writes_of l.array + length l.reader.rest ≤ l.reader.taken;
   five : IsFive (geometry_of l.array);
   ready : IsReady g.R.Rack.slot_count g.R.Rack.slot l.array;
   halt : l.halt ≡ halted l.array;

@@ -13,5 +13,6 @@ returns g c =
       again = λ was is. absurd (c.in_default-halt.not-Some was is);
       halt = sym came;
       leaves = e.leaves;
+      writes = e.writes;
       few = e.few;
     }

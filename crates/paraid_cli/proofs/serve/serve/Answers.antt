@@ -1,4 +1,4 @@
-use Rattle.std.proofs.Common.{◌≡◌, Option, sym, subst, refl, ◌∙◌}
+use Rattle.std.proofs.Common.{arith, ◌≡◌, Option, sym, subst, refl, ◌∙◌}
 use Rattle.paraid_base.specs.declared.fault.Halt.{Halt}
 use Rattle.paraid_base.specs.declared.event.Answer.TheVariants.{Later}
 use Rattle.std.proofs.lemmas.Option.{none-some}
@@ -29,5 +29,6 @@ returns-in_default g c =
       history = λ h stands fresh. subst (λ (x : History). StandsFor g.R.Rack.told c.args.array.now x) (sym (later h).1) stands;
       halt = c.requires.fresh;
       leaves = (lasts_none _ _ _ _, c.requires.ready, refl, λ halt none some. absurd (none-some halt (sym none ∙ some)));
+      writes = omega arith;
       few = tt;
     }
