@@ -1,5 +1,7 @@
 -- How the program may end, over every source, sink and rack.
 use Rattle.std.specs.Prelude.{◌≡◌, ◌≢◌, ℕ, ◌<◌, ◌≤◌, ◌⊎◌, false, List, [], ◌∷◌, length, take, codes, Option, Some}
+use Rattle.paraid_base.specs.declared.fault.Halt.{Halt}
+use Rattle.paraid_base.specs.declared.fault.Halt.TheVariants.{Two as HaltTwo, Worn}
 use Rattle.paraid_base.specs.declared.fault.Two.{Two}
 use Rattle.paraid_base.specs.Told.{Grows}
 use Rattle.paraid_rack.specs.Slots.{Slot}
@@ -23,7 +25,16 @@ pub record Ends (before after : Option (List ℕ)) (line : List ℕ) (code statu
 
 -- the statuses of a run
 abbrev pub IsRunStatus : ℕ → Type 0
-IsRunStatus status = (status ≡ 0) ⊎ (status ≡ 3) ⊎ (status ≡ 4) ⊎ (status ≡ 5) ⊎ (status ≡ 6) ⊎ (status ≡ 10) ⊎ (status ≡ 12)
+IsRunStatus status = (status ≡ 0) ⊎ (status ≡ 3) ⊎ (status ≡ 4) ⊎ (status ≡ 5) ⊎ (status ≡ 6) ⊎ (status ≡ 10)
+
+-- the statuses of a run on an array that is mounted
+abbrev pub IsServedStatus : ℕ → Type 0
+IsServedStatus status = (status ≡ 0) ⊎ (status ≡ 3) ⊎ (status ≡ 4) ⊎ (status ≡ 5) ⊎ (status ≡ 10)
+
+-- the status of a halt
+abbrev pub status_of : Halt → ℕ
+status_of (HaltTwo two) = 5
+status_of (Worn count) = 12
 
 -- two different disks have failed in the run
 abbrev pub TwoFailed : (ℕ → Slot) → (ℕ → Slot) → Type 0

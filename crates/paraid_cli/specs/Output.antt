@@ -8,8 +8,10 @@ use Rattle.paraid_base.specs.Told.{Gives, Grows}
 use Rattle.paraid_io.specs.Lines.{lines_of, whole_lines}
 use Rattle.paraid_rack.specs.Slots.{Slot}
 use Rattle.paraid_rack.specs.Trail.{Trail}
+use Rattle.paraid_array.specs.declared.fault.MountFault.{MountFault}
+use Rattle.paraid_array.specs.declared.fault.MountFault.TheVariants.{Size}
 use Rattle.paraid_array.specs.Cells.{Stands}
-use Rattle.paraid_array.specs.Mount.{AreZeros, IsMisfit, found_in}
+use Rattle.paraid_array.specs.Mount.{IsMountFault, found_in}
 use Rattle.paraid_trace.specs.Replies.{reply_of}
 use Rattle.paraid_cli.specs.Trace.{history_of, transcript, Told}
 use Rattle.paraid_cli.specs.Calls.{IsFive, IsDown, MayBeDown}
@@ -20,8 +22,8 @@ mounted = codes "mounted 0 gear 5\n"
 abbrev pub end_line : ℕ → List ℕ
 end_line writes = codes "end " ++ decimal writes ++ codes "\n"
 
-abbrev pub size_line : ℕ → ℕ → List ℕ
-size_line disk found = codes "size " ++ decimal disk ++ codes " " ++ decimal found ++ codes " 108\n"
+abbrev pub fault_line : MountFault → List ℕ
+fault_line (Size disk found needed) = codes "size " ++ decimal disk ++ codes " " ++ decimal found ++ codes " " ++ decimal needed ++ codes "\n"
 
 abbrev pub halt_line : Halt → List ℕ
 halt_line halt = reply_of (Halted halt)
@@ -43,7 +45,7 @@ pub data Output (slots : ℕ) (old new : ℕ → Slot) (bytes : List ℕ) : ℕ 
   too_long : Fits slots old → length bytes ≡ 2 ^ 40 → (halt : Option Halt) (text : List ℕ) → MayBeDown old new halt → Told halt (whole_lines bytes) text
       → Output slots old new bytes 10 (mounted ++ text ++ codes "toolong\n")
   -- a slot does not fit, and nothing was taken
-  misfit : (d found : ℕ) → IsMisfit 5 slots old 108 d found → bytes ≡ [] → Output slots old new bytes 6 (size_line d found)
+  misfit : (fault : MountFault) → IsMountFault 5 slots old 108 fault → bytes ≡ [] → Output slots old new bytes 6 (fault_line fault)
 
 -- at 4 a first part of such a text, else the whole of it
 pub record Wrote (slots : ℕ) (old new : ℕ → Slot) (bytes : List ℕ) (status : ℕ) (text : List ℕ) : Type 0 where
@@ -61,14 +63,14 @@ pub record Holds (final : Option Trail) (h : History) : Type 0 where
   pub stands : Stands geometry final h
 
 -- A run took these bytes and wrote this text. What it wrote is known where source, sink and rack
--- tell and the five disks start as zeros.
-pub record Run (slots : ℕ) (old new : ℕ → Slot) (left_before left written_before written : Option (List ℕ)) (start final : Option Trail) (status : ℕ) : Type 0 where
+-- tell, and where that is so which was to be known at the start.
+pub record Run (known : Type 0) (slots : ℕ) (old new : ℕ → Slot) (left_before left written_before written : Option (List ℕ)) (final : Option Trail) (status : ℕ) : Type 0 where
   pub bytes : List ℕ
   pub text : List ℕ
   pub given : Gives left_before left bytes
   pub grows : Grows written_before written text
   -- all that may be taken was taken at 10
   pub full : status ≡ 10 → length bytes ≡ 2 ^ 40
-  pub wrote : IsSome final → AreZeros 5 start → Wrote slots old new bytes status text
+  pub wrote : IsSome final → known → Wrote slots old new bytes status text
   -- the disks hold the last write of each block at 0
-  pub held : IsSome final → AreZeros 5 start → status ≡ 0 → Holds final (history_of [] (lines_of bytes))
+  pub held : IsSome final → known → status ≡ 0 → Holds final (history_of [] (lines_of bytes))

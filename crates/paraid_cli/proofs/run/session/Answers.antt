@@ -54,7 +54,7 @@ returns-in_default-clause-session g c =
     let e = c.answer-answered.ensures in
     let p = c.in_default.ensures.part in
     let h = rw c.in-Ok-Some.field-0-is at c.in-Ok-Some.ensures.heard in
-    let since = since_more _ _ _ _ _ _ _ c.answer-answered.new.halt _ _ i.since _ i.five.disks e.leaves.0 _ (omega (arith, i.few, i.sofar.limit)) (λ halt none some. e.leaves.3 halt (sym i.halt ∙ none) (sym e.halt ∙ some)) (λ was is. (e.again was is).0) in
+    let since = since_more _ _ _ _ _ _ c.answer-answered.new.halt _ _ _ i.since _ i.five.disks e.leaves.0 _ (omega (arith, i.few, i.sofar.limit)) (λ halt none some. e.leaves.3 halt (sym i.halt ∙ none) (sym e.halt ∙ some)) (λ was is. (e.again was is).0) in
     ends_at_sink i.sofar _ _ h c.answer-answered.new.halt c.answer-answered.result _ _ _ p.0 (lasts_told _ _ _ _ _ _ _ e.leaves.0) e.reply e.again (may_be_down _ _ _ since.cause) (rw (c.as_slice.ensures.value, c.reply.ensures.value) at p.2)
 
 pub returns-in-Ok-flush-clause-since : goal.returns-in-Ok-flush-clause-since
@@ -80,5 +80,5 @@ pub returns-in-Err-clause-session : goal.returns-in-Err-clause-session
 returns-in-Err-clause-session g c =
     let i = c.lines.invariant in
     let f = c.in-Err.ensures in
-    let since = since_more _ _ _ _ _ _ _ c.flush.new.self.halt _ _ i.since _ i.five.disks f.lasts _ (omega (arith, i.few, i.sofar.limit)) (λ halt none some. f.cause halt (sym i.halt ∙ none) some) (λ was is. (f.again was (sym i.halt ∙ is)).0) in
+    let since = since_more _ _ _ _ _ _ c.flush.new.self.halt _ _ _ i.since _ i.five.disks f.lasts _ (omega (arith, i.few, i.sofar.limit)) (λ halt none some. f.cause halt (sym i.halt ∙ none) some) (λ was is. (f.again was (sym i.halt ∙ is)).0) in
     ends_halted i.sofar _ _ (rw c.in-Ok-None.field-0-is at c.in-Ok-None.ensures.heard) _ _ c.in-Err.halt (lasts_told _ _ _ _ _ _ _ f.lasts) (λ was is. same_halt c.flush.new.self.halt was c.in-Err.halt (f.again was (sym i.halt ∙ is)).0 f.halt) (since.cause c.in-Err.halt f.halt)
