@@ -3,3 +3,4 @@ pub mod HearLemmas
 pub mod ServeLemmas
 pub mod Since
 pub mod Sofar
+pub mod TopLemmas
