@@ -1,21 +1,15 @@
 -- What one event does to what an array stands for.
-use Rattle.std.proofs.Common.{◌≡◌, ℕ, ◌+◌, ◌-◌, ◌*◌, ◌<◌, ◌≤◌, true, false, List, [], ◌∷◌, ◌++◌, length, Option, Some, None, refl, sym, ap, ◌∙◌, subst, inl, inr, arith}
-use Rattle.std.specs.Prelude.{nat_lt}
+use Rattle.std.proofs.Common.{◌≡◌, ℕ, ◌-◌, ◌*◌, ◌<◌, ◌≤◌, [], ◌∷◌, ◌++◌, Option, refl, inl, arith}
 use Rattle.std.proofs.lemmas.Bool.{lt-ltb, le-ltb}
-use Rattle.std.proofs.lemmas.Option.{none-some}
 use Rattle.paraid_base.specs.declared.block.Block.{Block}
 use Rattle.paraid_base.specs.declared.event.Event.{Event}
 use Rattle.paraid_base.specs.declared.event.Event.TheVariants.{Read, Write, Flush, Tick, Up, Down, Fail, Replace, State, Energy, Bad}
 use Rattle.paraid_base.specs.declared.event.Answer.TheVariants.{Later}
-use Rattle.paraid_base.specs.declared.fault.Halt.{Halt}
 use Rattle.paraid_base.specs.declared.geometry.Geometry.{Geometry}
 use Rattle.paraid_base.specs.History.{History}
-use Rattle.paraid_rack.specs.Disks.{Disks, step}
-use Rattle.paraid_rack.specs.declared.call.Call.{Call}
 use Rattle.paraid_rack.specs.Slots.{Slot}
-use Rattle.paraid_rack.specs.Trail.{Trail, run}
-use Rattle.paraid_rack.specs.Told.{Ran}
-use Rattle.paraid_rack.proofs.TrailsLemmas.{Ran-none, Ran-then}
+use Rattle.paraid_rack.specs.Trail.{Trail}
+use Rattle.paraid_rack.proofs.TrailsLemmas.{Ran-none}
 use Rattle.paraid_array.specs.Losses.{Served, Lasts}
 use Rattle.paraid_cli.specs.Trace.{answer_to, next}
 use Rattle.paraid_cli.specs.Calls.{IsFive}

@@ -1,11 +1,10 @@
 -- What a run does to the disks from its start on.
-use Rattle.std.proofs.Common.{◌≡◌, ℕ, ◌^◌, ◌<◌, ◌≤◌, ◌++◌, List, [], ◌∷◌, Option, Some, None, refl, sym, ap, ◌∙◌, subst, inl, inr, arith}
+use Rattle.std.proofs.Common.{◌≡◌, ℕ, ◌^◌, ◌<◌, ◌++◌, List, [], ◌∷◌, Option, Some, None, refl, sym, ◌∙◌, subst, inl, inr, arith}
 use Rattle.std.specs.Prelude.{◌⊎◌, IsSome}
 use Rattle.std.proofs.lemmas.Option.{none-some}
 use Rattle.std.proofs.lemmas.Bool.{false≢true}
 use Rattle.paraid_base.specs.declared.fault.Halt.{Halt}
 use Rattle.paraid_base.specs.declared.fault.Halt.TheVariants.{Two as HaltTwo, Worn}
-use Rattle.paraid_base.specs.declared.fault.Two.{Two}
 use Rattle.paraid_base.proofs.ToldLemmas.{HasRisen-sooner, HasRisen-later}
 use Rattle.paraid_rack.specs.declared.call.Call.{Call}
 use Rattle.paraid_rack.specs.Disks.{Disks, step}
@@ -13,8 +12,8 @@ use Rattle.paraid_rack.specs.Slots.{Slot}
 use Rattle.paraid_rack.specs.Trail.{Trail, run}
 use Rattle.paraid_rack.specs.Told.{Ran}
 use Rattle.paraid_rack.proofs.TrailsLemmas.{Ran-none, Ran-then}
-use Rattle.paraid_array.specs.Losses.{Served, Lasts, WasLost, IsTwo, IsCause}
-use Rattle.paraid_cli.specs.Calls.{NoFall, HasFailed, HaveFailed, IsDown, MayBeDown, Since}
+use Rattle.paraid_array.specs.Losses.{Served, Lasts, WasLost, IsCause}
+use Rattle.paraid_cli.specs.Calls.{NoFall, HasFailed, IsDown, MayBeDown, Since}
 
 Served-append : (n : ℕ) (s : Disks) (cs ds : List Call) → Served n s cs → Served n (run s cs) ds → Served n s (cs ++ ds)
 Served-append n s [] ds first second = second

@@ -1,5 +1,5 @@
 -- What a session keeps from line to line.
-use Rattle.std.proofs.Common.{◌≡◌, ℕ, ◌+◌, ◌^◌, ◌<◌, ◌≤◌, ◌⊎◌, Bool, true, false, List, [], ◌∷◌, ◌++◌, length, take, drop, IsTrue, Option, Some, None, IsSome, Result, Ok, Err, refl, sym, ap, ◌∙◌, subst, inl, inr, arith, length-append, take-append-drop}
+use Rattle.std.proofs.Common.{◌≡◌, ℕ, ◌+◌, ◌^◌, ◌≤◌, ◌⊎◌, Bool, true, false, List, [], ◌∷◌, ◌++◌, length, take, drop, IsTrue, Option, Some, None, IsSome, Result, Ok, Err, refl, sym, ap, ◌∙◌, subst, inl, inr, arith, length-append, take-append-drop}
 use Rattle.std.proofs.lemmas.List.{append_assoc, append-nil}
 use Rattle.std.proofs.lemmas.Bool.{false≢true}
 use Rattle.std.proofs.lemmas.Option.{none-some}
@@ -101,22 +101,31 @@ pub told_more : (halt new_halt : Option Halt) (lines : List (List ℕ)) (said li
 told_more None None lines said line answer told replied again =
     ap (λ x. x ++ reply_of answer) told ∙ ap (λ (a : Answer). transcript [] lines ++ reply_of a) (replied refl) ∙ sym (transcript-push [] lines line)
 told_more None (Some halt) lines said line answer told replied again =
-    let came = replied refl in
-    (lines, [], line, refl, came.0,
+    let came = replied refl in (
+      lines,
+      [],
+      line,
+      refl,
+      came.0,
       ap (λ x. x ++ reply_of answer) told
-      ∙ ap (λ (a : Answer). transcript [] lines ++ reply_of a) (came.1 ∙ sym (served_halts halt (event_of line) came.0))
-      ∙ ap (λ x. transcript [] lines ++ x) (sym (append-nil (reply_of (halt_answer halt (event_of line))))))
+          ∙ ap (λ (a : Answer). transcript [] lines ++ reply_of a) (came.1 ∙ sym (served_halts halt (event_of line) came.0))
+          ∙ ap (λ x. transcript [] lines ++ x) (sym (append-nil (reply_of (halt_answer halt (event_of line))))),
+    )
 told_more (Some was) new_halt lines said line answer told replied again =
     let stays = again was refl in
     let before : List (List ℕ) = told.0 in
     let after : List (List ℕ) = told.1 in
     let at : List ℕ = told.2 in
-    subst (λ (o : Option Halt). Told o (lines ++ line ∷ []) (said ++ reply_of answer)) (sym stays.0) (before, after ++ line ∷ [], at,
+    subst (λ (o : Option Halt). Told o (lines ++ line ∷ []) (said ++ reply_of answer)) (sym stays.0) (
+      before,
+      after ++ line ∷ [],
+      at,
       ap (λ (ls : List (List ℕ)). ls ++ line ∷ []) told.3 ∙ append_assoc before (at ∷ after) (line ∷ []),
       told.4,
       ap (λ x. x ++ reply_of answer) told.5
-      ∙ append_assoc (transcript [] before) (halt_transcript was (at ∷ after)) (reply_of answer)
-      ∙ ap (λ x. transcript [] before ++ x) (ap (λ (a : Answer). halt_transcript was (at ∷ after) ++ reply_of a) stays.1 ∙ sym (halt_push was (at ∷ after) line)))
+          ∙ append_assoc (transcript [] before) (halt_transcript was (at ∷ after)) (reply_of answer)
+          ∙ ap (λ x. transcript [] before ++ x) (ap (λ (a : Answer). halt_transcript was (at ∷ after) ++ reply_of a) stays.1 ∙ sym (halt_push was (at ∷ after) line)),
+    )
   where
     halt_push : (halt : Halt) (lines : List (List ℕ)) (line : List ℕ) → halt_transcript halt (lines ++ line ∷ []) ≡ halt_transcript halt lines ++ reply_of (halt_answer halt (event_of line))
     halt_push halt lines line = halt_transcript-append halt lines (line ∷ []) ∙ ap (λ x. halt_transcript halt lines ++ x) (append-nil (reply_of (halt_answer halt (event_of line))))
@@ -165,8 +174,8 @@ module _ {known : Type 0} {left_before left after written_before written : Optio
   one_more {event} h new_halt answer later tells replied again t k =
       let is : event ≡ event_of h.says.0 = h.says.1 in
       told_more halt new_halt s.answered s.said h.says.0 answer (s.text (tells t) k)
-        (λ none. subst (λ (e : Event). Replied new_halt (history_of [] s.answered) e answer) is (replied none (history_of [] s.answered) (s.stands none k) t))
-        (λ was some. subst (λ (e : Event). (new_halt ≡ Some was) × (answer ≡ halt_answer was e)) is (again was some))
+      (λ none. subst (λ (e : Event). Replied new_halt (history_of [] s.answered) e answer) is (replied none (history_of [] s.answered) (s.stands none k) t))
+      (λ was some. subst (λ (e : Event). (new_halt ≡ Some was) × (answer ≡ halt_answer was e)) is (again was some))
 
   pub sofar_more : {event : Event} (h : Heard left after old new (Ok (Some event))) → new.fault ≡ None → (new_halt : Option Halt) (answer : Answer) (later wrote : Option _) (new_stood : History → Type 0) → (IsSome later → IsSome now)
       → (halt ≡ None → (history : History) → stood history → IsSome later → Replied new_halt history event answer)
@@ -229,10 +238,14 @@ module _ {known : Type 0} {left_before left after written_before written : Optio
       grows = s.grows;
       full = tt;
       kept = λ t k. tt;
-      answered = λ t k. (sym (all_lines h), down, elim (none_or_some halt) [
-        | inl none ↦ inl (subst (λ (o : Option Halt). Told o s.answered s.said) none (s.text (tells t) k))
-        | inr was ↦ inr (subst (λ (o : Option Halt). Told o s.answered s.said) (was.1 ∙ ap (λ (y : Halt). Some y) (same was.0 was.1)) (s.text (tells t) k))
-      ]);
+      answered = λ t k. (
+        sym (all_lines h),
+        down,
+        elim (none_or_some halt) [
+          | inl none ↦ inl (subst (λ (o : Option Halt). Told o s.answered s.said) none (s.text (tells t) k))
+          | inr was ↦ inr (subst (λ (o : Option Halt). Told o s.answered s.said) (was.1 ∙ ap (λ (y : Halt). Some y) (same was.0 was.1)) (s.text (tells t) k))
+        ],
+      );
     }
 
     fault_lines : {fault : LineFault} (h : Heard left after old new (Err fault)) → s.answered ≡ whole_lines (s.bytes ++ h.got)

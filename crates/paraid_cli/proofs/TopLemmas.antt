@@ -1,5 +1,5 @@
 -- The whole text of a run.
-use Rattle.std.proofs.Common.{◌≡◌, ◌≢◌, ℕ, ◌^◌, ◌<◌, ◌≤◌, ◌⊎◌, true, false, List, [], ◌∷◌, ◌++◌, length, take, drop, codes, Option, Some, None, IsSome, Result, Ok, Err, refl, sym, ap, ◌∙◌, inl, inr, arith, subst, take-append-drop}
+use Rattle.std.proofs.Common.{◌≡◌, ◌≢◌, ℕ, ◌^◌, ◌<◌, ◌≤◌, ◌⊎◌, true, List, [], ◌∷◌, ◌++◌, length, take, drop, codes, Option, Some, None, Result, Ok, Err, refl, sym, ap, ◌∙◌, inl, inr, arith, subst, take-append-drop}
 use Rattle.std.specs.Prelude.{nat_lt}
 use Rattle.std.proofs.lemmas.Bool.{lt-ltb}
 use Rattle.std.proofs.lemmas.List.{append_assoc, drop_all}
@@ -11,15 +11,15 @@ use Rattle.paraid_base.specs.Told.{Grows}
 use Rattle.paraid_base.specs.History.{History}
 use Rattle.paraid_base.specs.Regions.{disk_size}
 use Rattle.paraid_base.proofs.ToldLemmas.{Gives-none, Grows-then}
-use Rattle.paraid_io.specs.Lines.{lines_of, whole_lines}
+use Rattle.paraid_io.specs.Lines.{lines_of}
 use Rattle.paraid_rack.specs.Slots.{Slot}
 use Rattle.paraid_rack.specs.Trail.{Trail}
 use Rattle.paraid_array.specs.declared.fault.MountFault.{MountFault}
 use Rattle.paraid_array.specs.declared.fault.MountFault.TheVariants.{Size}
-use Rattle.paraid_array.specs.Mount.{IsMisfit, IsMountFault, found_in, spinning_size}
+use Rattle.paraid_array.specs.Mount.{IsMisfit, IsMountFault}
 use Rattle.paraid_array.specs.Powers.{Fits as FitsArray}
 use Rattle.paraid_cli.specs.Trace.{history_of, transcript, halt_transcript, Told}
-use Rattle.paraid_cli.specs.Calls.{IsFive, IsDown, MayBeDown, HaveFailed, HasFailed}
+use Rattle.paraid_cli.specs.Calls.{IsDown, MayBeDown}
 use Rattle.paraid_cli.specs.declared.session.Stop.{Stop}
 use Rattle.paraid_cli.specs.declared.session.Stop.TheVariants.{Source, TooLong, Sink, Halt as Halts}
 use Rattle.paraid_cli.specs.Session.{Session, Answered, Kept, IsFull}
@@ -79,13 +79,19 @@ told_rest None lines more text told = (transcript (history_of [] lines) more, ap
 told_rest (Some halt) lines more text told =
     let before : List (List ℕ) = told.0 in
     let after : List (List ℕ) = told.1 in
-    let line : List ℕ = told.2 in
-    (halt_transcript halt more, (before, after ++ more, line,
-      ap (λ (ls : List (List ℕ)). ls ++ more) told.3 ∙ append_assoc before (line ∷ after) more,
-      told.4,
-      ap (λ x. x ++ halt_transcript halt more) told.5
-      ∙ append_assoc (transcript [] before) (halt_transcript halt (line ∷ after)) (halt_transcript halt more)
-      ∙ ap (λ x. transcript [] before ++ x) (sym (halt_transcript-append halt (line ∷ after) more))))
+    let line : List ℕ = told.2 in (
+      halt_transcript halt more,
+      (
+        before,
+        after ++ more,
+        line,
+        ap (λ (ls : List (List ℕ)). ls ++ more) told.3 ∙ append_assoc before (line ∷ after) more,
+        told.4,
+        ap (λ x. x ++ halt_transcript halt more) told.5
+            ∙ append_assoc (transcript [] before) (halt_transcript halt (line ∷ after)) (halt_transcript halt more)
+            ∙ ap (λ x. transcript [] before ++ x) (sym (halt_transcript-append halt (line ∷ after) more)),
+      ),
+    )
 
 module _ (known : Type 0) (stands : History → Type 0) (slots : ℕ) (old new : ℕ → Slot) (left_before left first second third last_text : Option (List ℕ)) (final : Option Trail) (status : ℕ) (fits : Fits slots old) (head : Grows first second mounted) where
   pub done_run : (writes : ℕ) → ((h : History) → stands h → Holds final h) → Session known stands old new left_before left second third final (Ok writes) → Ends third last_text (end_line writes) 0 status

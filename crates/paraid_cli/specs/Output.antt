@@ -1,5 +1,5 @@
 -- The whole text of a run, by its status.
-use Rattle.std.specs.Prelude.{◌≡◌, ℕ, ◌<◌, ◌≤◌, ◌^◌, ◌⊎◌, List, [], ◌∷◌, ◌++◌, length, codes, decimal, Option, Some, None, IsSome}
+use Rattle.std.specs.Prelude.{◌≡◌, ℕ, ◌<◌, ◌≤◌, ◌^◌, ◌⊎◌, List, [], ◌++◌, length, codes, decimal, Option, Some, None, IsSome}
 use Rattle.paraid_base.specs.declared.event.Answer.TheVariants.{Halted}
 use Rattle.paraid_base.specs.declared.fault.Halt.{Halt}
 use Rattle.paraid_base.specs.declared.geometry.Geometry.{Geometry}

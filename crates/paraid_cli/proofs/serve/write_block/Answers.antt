@@ -1,4 +1,3 @@
-use Rattle.std.proofs.Common.{ℕ}
 use Rattle.paraid_base.specs.History.{History}
 use Rattle.paraid_array.specs.Arrays.{StandsFor}
 use Rattle.paraid_cli.proofs.ServeLemmas.{below_twenty, past_twenty, next_written, next_missing}

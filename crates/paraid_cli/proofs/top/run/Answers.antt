@@ -1,4 +1,3 @@
-use Rattle.std.proofs.Common.{sym}
 use Rattle.paraid_cli.proofs.TopLemmas.{run_from, misfit_run}
 use Rattle.paraid_cli.proofs.top.run.Goals as goal
 
