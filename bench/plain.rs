@@ -1,63 +1,116 @@
-// The first trace as a plain Rust program: the same lines, answers and order of calls as the
-// proved one, with no list of calls. It is the peer that bench/run compares with.
+// The program as plain Rust: the same lines, answers and device writes as the proved one, on five
+// disks in memory of which none fails, with no list of calls. It is the peer that bench/run
+// compares with.
 use std::io::{self, Read, Write};
 
 const BUFFER: usize = 8192;
 const MAX_LINE: usize = 1100;
+const DISKS: usize = 5;
+const ROWS: usize = 5;
+const HARD: usize = 101;
+
+type Block = [u8; 512];
 
 struct Disk {
-    blocks: Vec<[u8; 512]>,
+    blocks: Vec<Block>,
     unsynced: bool,
 }
 
 enum Event {
-    Read(usize),
-    Write(usize, u8),
+    Read(u32),
+    Write(u32, Block),
     Flush,
     Later,
+    Bad,
 }
 
-fn block(digits: &[u8]) -> Option<usize> {
-    let b = match digits {
-        [a @ b'0'..=b'9'] => (a - b'0') as usize,
-        [a @ b'1'..=b'3', b @ b'0'..=b'9'] => (a - b'0') as usize * 10 + (b - b'0') as usize,
-        _ => return None,
-    };
-    Some(b)
+fn number(digits: &[u8]) -> Option<u32> {
+    if digits.is_empty() || digits.len() > 10 || (digits.len() > 1 && digits[0] == b'0') {
+        return None;
+    }
+    let mut n = 0u64;
+    for d in digits {
+        if !d.is_ascii_digit() {
+            return None;
+        }
+        n = n * 10 + u64::from(d - b'0');
+    }
+    u32::try_from(n).ok()
 }
 
 fn hex(c: u8) -> Option<u8> {
-    match c {
-        b'0'..=b'9' => Some(c - b'0'),
-        b'a'..=b'f' => Some(c - b'a' + 10),
-        _ => None,
+    (c as char).to_digit(16).map(|d| d as u8)
+}
+
+fn bytes_of(digits: &[u8]) -> Option<Block> {
+    if digits.len() < 2 || digits.len() > 1024 || digits.len() % 2 == 1 {
+        return None;
     }
+    let mut pattern = [0; 512];
+    for (byte, pair) in pattern.iter_mut().zip(digits.chunks(2)) {
+        *byte = 16 * hex(pair[0])? + hex(pair[1])?;
+    }
+    let length = digits.len() / 2;
+    for k in length..512 {
+        pattern[k] = pattern[k - length];
+    }
+    Some(pattern)
 }
 
 fn parse(line: &[u8]) -> Event {
     let event = match line {
         b"f" => Some(Event::Flush),
-        [b'r', b' ', rest @ ..] => block(rest).map(Event::Read),
-        [b'w', b' ', rest @ .., b' ', x, y] => match (block(rest), hex(*x), hex(*y)) {
-            (Some(b), Some(x), Some(y)) => Some(Event::Write(b, 16 * x + y)),
-            _ => None,
-        },
-        _ => None,
+        b"t" | b"up" | b"down" | b"s" | b"e" => Some(Event::Later),
+        [b'r', b' ', rest @ ..] => number(rest).map(Event::Read),
+        [b'w', b' ', rest @ ..] => rest.iter().position(|&c| c == b' ').and_then(|at| {
+            Some(Event::Write(number(&rest[..at])?, bytes_of(&rest[at + 1..])?))
+        }),
+        _ => line
+            .strip_prefix(b"fail ")
+            .or_else(|| line.strip_prefix(b"replace "))
+            .and_then(number)
+            .map(|_| Event::Later),
     };
-    event.unwrap_or(Event::Later)
+    event.unwrap_or(Event::Bad)
+}
+
+fn home(block: usize) -> (usize, usize, usize) {
+    let row = block / (DISKS - 1);
+    let index = block % (DISKS - 1);
+    let parity = DISKS - 1 - row % DISKS;
+    (row, if index < parity { index } else { index + 1 }, parity)
+}
+
+fn period(block: &Block) -> usize {
+    (1..512).find(|&p| block[p..] == block[..512 - p]).unwrap_or(512)
 }
 
 fn answer(disks: &mut [Disk], writes: &mut u64, line: Option<&[u8]>, text: &mut Vec<u8>) {
     text.clear();
-    match line.map_or(Event::Later, parse) {
-        Event::Read(b) => {
-            let byte = disks[b % 4].blocks[b / 4][0];
-            writeln!(text, "{b}={byte:02x}").unwrap();
+    match line.map_or(Event::Bad, parse) {
+        Event::Read(b) | Event::Write(b, _) if b as usize >= ROWS * (DISKS - 1) => {
+            writeln!(text, "noblock {b}").unwrap();
         }
-        Event::Write(b, byte) => {
-            let disk = &mut disks[b % 4];
-            disk.blocks[b / 4] = [byte; 512];
-            disk.unsynced = true;
+        Event::Read(b) => {
+            let (row, disk, _) = home(b as usize);
+            let block = disks[disk].blocks[HARD + row];
+            write!(text, "{b}=").unwrap();
+            for byte in &block[..period(&block)] {
+                write!(text, "{byte:02x}").unwrap();
+            }
+            text.push(b'\n');
+        }
+        Event::Write(b, bytes) => {
+            let (row, disk, parity) = home(b as usize);
+            let old = disks[disk].blocks[HARD + row];
+            let mut sum = disks[parity].blocks[HARD + row];
+            for k in 0..512 {
+                sum[k] ^= old[k] ^ bytes[k];
+            }
+            disks[disk].blocks[HARD + row] = bytes;
+            disks[disk].unsynced = true;
+            disks[parity].blocks[HARD + row] = sum;
+            disks[parity].unsynced = true;
             *writes += 1;
             writeln!(text, "wrote {writes}").unwrap();
         }
@@ -68,18 +121,17 @@ fn answer(disks: &mut [Disk], writes: &mut u64, line: Option<&[u8]>, text: &mut 
             writeln!(text, "flushed {writes}").unwrap();
         }
         Event::Later => text.extend_from_slice(b"later\n"),
+        Event::Bad => text.extend_from_slice(b"bad\n"),
     }
 }
 
 fn main() -> io::Result<()> {
-    let mut disks: Vec<Disk> = (0..4)
-        .map(|_| Disk { blocks: vec![[0; 512]; 10], unsynced: false })
+    let mut disks: Vec<Disk> = (0..DISKS)
+        .map(|_| Disk { blocks: vec![[0; 512]; 108], unsynced: false })
         .collect();
     let mut source = io::stdin().lock();
-    let mut sink = std::fs::File::from(std::os::fd::OwnedFd::from(
-        std::os::fd::AsFd::as_fd(&io::stdout()).try_clone_to_owned()?,
-    ));
-    sink.write_all(b"mounted 0 gear 4\n")?;
+    let mut sink = std::fs::File::from(std::os::fd::AsFd::as_fd(&io::stdout()).try_clone_to_owned()?);
+    sink.write_all(b"mounted 0 gear 5\n")?;
     let mut buffer = [0; BUFFER];
     let (mut start, mut end, mut long) = (0, 0, false);
     let (mut writes, mut text) = (0, Vec::new());
