@@ -46,7 +46,8 @@ fn read_stored<R: Rack>(
         (Fits geometry.now out.new (R.slot_count rack.new) (R.slot rack.new)) }
     ensures lasts { Lasts geometry.now.disks out.old out.new (R.slot rack.old) (R.slot rack.new)
         (R.told rack.old) (R.told rack.new) }
-    ensures two { IfErr result (IsTwo out.old (R.slot rack.old) (R.slot rack.new)) }
+    ensures two { IfErr result (IsTwo geometry.now.disks out.old (R.slot rack.old)
+        (R.slot rack.new)) }
 {
     if is_out(*out, disk) {
         return Ok(false);
@@ -78,7 +79,8 @@ fn add_cell<R: Rack>(
         (Fits geometry.now (Some out) (R.slot_count rack.new) (R.slot rack.new)) }
     ensures lasts { Lasts geometry.now.disks (Some out) (Some out) (R.slot rack.old)
         (R.slot rack.new) (R.told rack.old) (R.told rack.new) }
-    ensures two { IfErr result (IsTwo (Some out) (R.slot rack.old) (R.slot rack.new)) }
+    ensures two { IfErr result (IsTwo geometry.now.disks (Some out) (R.slot rack.old)
+        (R.slot rack.new)) }
 {
     if disk == out {
         return Ok(());
@@ -114,7 +116,8 @@ fn read_others<R: Rack>(
         (Fits geometry.now (Some out) (R.slot_count rack.new) (R.slot rack.new)) }
     ensures lasts { Lasts geometry.now.disks (Some out) (Some out) (R.slot rack.old)
         (R.slot rack.new) (R.told rack.old) (R.told rack.new) }
-    ensures two { IfErr result (IsTwo (Some out) (R.slot rack.old) (R.slot rack.new)) }
+    ensures two { IfErr result (IsTwo geometry.now.disks (Some out) (R.slot rack.old)
+        (R.slot rack.new)) }
 {
     *into = Block::zero();
     for disk in 0..geometry.disks {
@@ -144,7 +147,8 @@ pub(crate) fn read_cell<R: Rack>(
         (Fits geometry.now out.new (R.slot_count rack.new) (R.slot rack.new)) }
     ensures lasts { Lasts geometry.now.disks out.old out.new (R.slot rack.old) (R.slot rack.new)
         (R.told rack.old) (R.told rack.new) }
-    ensures two { IfErr result (IsTwo out.old (R.slot rack.old) (R.slot rack.new)) }
+    ensures two { IfErr result (IsTwo geometry.now.disks out.old (R.slot rack.old)
+        (R.slot rack.new)) }
 {
     if read_stored(rack, geometry, out, row, disk, into)? {
         return Ok(());
@@ -171,7 +175,8 @@ fn put<R: Rack>(
         (Fits geometry.now out.new (R.slot_count rack.new) (R.slot rack.new)) }
     ensures lasts { Lasts geometry.now.disks out.old out.new (R.slot rack.old) (R.slot rack.new)
         (R.told rack.old) (R.told rack.new) }
-    ensures two { IfErr result (IsTwo out.old (R.slot rack.old) (R.slot rack.new)) }
+    ensures two { IfErr result (IsTwo geometry.now.disks out.old (R.slot rack.old)
+        (R.slot rack.new)) }
 {
     if is_out(*out, disk) {
         return Ok(false);
@@ -204,7 +209,8 @@ fn new_parity<R: Rack>(
         (Fits geometry.now out.new (R.slot_count rack.new) (R.slot rack.new)) }
     ensures lasts { Lasts geometry.now.disks out.old out.new (R.slot rack.old) (R.slot rack.new)
         (R.told rack.old) (R.told rack.new) }
-    ensures two { IfErr result (IsTwo out.old (R.slot rack.old) (R.slot rack.new)) }
+    ensures two { IfErr result (IsTwo geometry.now.disks out.old (R.slot rack.old)
+        (R.slot rack.new)) }
 {
     let mut change = Block::zero();
     read_cell(rack, geometry, out, row, disk, &mut change)?;
@@ -235,7 +241,8 @@ pub(crate) fn write_cell<R: Rack>(
         (Fits geometry.now out.new (R.slot_count rack.new) (R.slot rack.new)) }
     ensures lasts { Lasts geometry.now.disks out.old out.new (R.slot rack.old) (R.slot rack.new)
         (R.told rack.old) (R.told rack.new) }
-    ensures two { IfErr result (IsTwo out.old (R.slot rack.old) (R.slot rack.new)) }
+    ensures two { IfErr result (IsTwo geometry.now.disks out.old (R.slot rack.old)
+        (R.slot rack.new)) }
 {
     let mut parity = Block::zero();
     new_parity(rack, geometry, out, row, disk, bytes, &mut parity)?;
