@@ -63,6 +63,11 @@ lasts_then n a b c x y z p q r first second = record {
   lost = λ d is. was_lost_then n a b c x y z p q r first second d (second.lost d is);
 }
 
+-- the same where the first part left a disk out and the second began with it
+pub lasts_then_lost : (n : ℕ) (a b : Option ℕ) (d : ℕ) (x y z : ℕ → Slot) (p q r : Option Trail) → b ≡ Some d → Lasts n a b x y p q → Lasts n (Some d) (Some d) y z q r → Lasts n a b x z p r
+lasts_then_lost n a b d x y z p q r lost first second =
+    lasts_then n a b b x y z p q r first (subst (λ (o : Option ℕ). Lasts n o o y z q r) (sym lost) second)
+
 -- two disks are down in the second part, so they are in the whole
 pub two_then : (n : ℕ) (a b c : Option ℕ) (x y z : ℕ → Slot) (p q r : Option Trail) (two : Two) → Lasts n a b x y p q → Lasts n b c y z q r → IsTwo n b y z two → IsTwo n a x z two
 two_then n a b c x y z p q r two first second is = record {

@@ -45,12 +45,10 @@ module _ (n : ℕ) (cells : Cells) (r d : ℕ) (bytes : Block) where
       sums
 
 -- a cell was written, and then what its row's parity is to be
-pub stores_rewritten : (g : Geometry) (s : Disks) (n : ℕ) (cells : Cells) (r d p : ℕ) (bytes parity : Block) → p ≡ parity_disk n r
-    → parity ≡ xor (cells r (parity_disk n r)) (xor (cells r d) bytes)
-    → Stores g s (with_cell (with_cell cells r d bytes) r p parity) → Stores g s (rewritten n cells r d bytes)
-stores_rewritten g s n cells r d p bytes parity is_disk is_parity stores =
-    subst (λ (b : Block). Stores g s (with_cell (with_cell cells r d bytes) r (parity_disk n r) b)) is_parity
-    (subst (λ (k : ℕ). Stores g s (with_cell (with_cell cells r d bytes) r k parity)) is_disk stores)
+pub keeps_rewritten : (g : Geometry) (told : Option Trail) (n : ℕ) (cells : Cells) (r d p : ℕ) (bytes : Block) → p ≡ parity_disk n r
+    → Keeps g told (with_cell (with_cell cells r d bytes) r p (xor (cells r (parity_disk n r)) (xor (cells r d) bytes))) → Keeps g told (rewritten n cells r d bytes)
+keeps_rewritten g told n cells r d p bytes is =
+    subst (λ (k : ℕ). Keeps g told (with_cell (with_cell cells r d bytes) r k (xor (cells r (parity_disk n r)) (xor (cells r d) bytes)))) is
 
 -- the rows still sum to zero
 rows_rewritten : (g : Geometry) (cells : Cells) (r d : ℕ) (bytes : Block) → d < g.disks → d ≢ parity_disk g.disks r → RowsZero g cells → RowsZero g (rewritten g.disks cells r d bytes)
