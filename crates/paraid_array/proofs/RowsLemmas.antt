@@ -12,9 +12,8 @@ use Rattle.paraid_base.proofs.CellsLemmas.{block_of-home, home_disk_below, home_
 use Rattle.paraid_base.proofs.HistoryLemmas.{held-none, held-other, held-written}
 use Rattle.paraid_base.proofs.SumsLemmas.{parity_kept, xor_upto_same}
 use Rattle.paraid_base.proofs.XorLemmas.{xor_zero}
-use Rattle.paraid_rack.specs.Disks.{Disks}
 use Rattle.paraid_rack.specs.Trail.{Trail}
-use Rattle.paraid_array.specs.Cells.{Cells, with_cell, rewritten, RowsZero, Holds, Stores, Keeps, Stands}
+use Rattle.paraid_array.specs.Cells.{Cells, with_cell, rewritten, RowsZero, Holds, Keeps, Stands}
 use Rattle.paraid_array.specs.Mount.{AreZeros}
 use Rattle.paraid_array.proofs.StoresLemmas.{with_cell-same, with_cell-other_row, with_cell-other_disk}
 
