@@ -85,8 +85,8 @@ fn a_second_lost_disk_halts_every_call(rt: HostRuntime) {
     assert_eq!(rt; rack.calls(), 9);
 }
 
-// How many reads a write of this block makes, where this call fails: in a read of block `lost`
-// before the write, if that is given.
+// How many reads a write of this block makes, all before anything is written. This call fails: in
+// the write or, where a block `lost` is given, in a read of that before it.
 fn reads_of_write(
     rt: &(impl Abort + AllocGlobal),
     fails: Planned,
@@ -103,9 +103,14 @@ fn reads_of_write(
     assert_eq!(rt; write(&mut array, block, 0x11), Ok(1));
     let rack = array.unmount();
     let mut reads = 0;
+    let mut wrote = false;
     for call in first..rack.calls() {
-        if let Call::Read { .. } = rack.call(call) {
-            reads += 1;
+        match rack.call(call) {
+            Call::Read { .. } => {
+                assert!(rt; !wrote);
+                reads += 1;
+            }
+            _ => wrote = true,
         }
     }
     reads
@@ -114,8 +119,8 @@ fn reads_of_write(
 #[test]
 fn a_write_reads_no_more_than_the_smaller_rule_needs(rt: HostRuntime) {
     // Blocks 0 to 3 are on disks 0 to 3, with their parity on disk 4, and block 7 is on disk 4, with
-    // its parity on disk 3. The reads are two where data and parity are there, the three other
-    // data where the data is lost, and none where the parity is.
+    // its parity on disk 3. By the disk that is lost before: of data and parity there are two
+    // reads, without the data the three others of the row, without the parity none.
     let rows = [
         (0, [3, 2, 2, 2, 0]),
         (1, [2, 3, 2, 2, 0]),
@@ -134,8 +139,8 @@ fn a_write_reads_no_more_than_the_smaller_rule_needs(rt: HostRuntime) {
                 reads[disk as usize]
             );
         }
-        // The read of the old data fails, and then the three other data are read. The read of the
-        // old parity fails, and then no more is.
+        // The read of the old data fails, and the three others are read. The read of the old parity
+        // fails, and nothing more is read.
         assert_eq!(rt; reads_of_write(&rt, Planned::AtCall(5), None, block), 4);
         assert_eq!(rt; reads_of_write(&rt, Planned::AtCall(6), None, block), 2);
     }
