@@ -5,12 +5,17 @@
 #![tactic(auto)]
 
 mod log;
+mod past;
 mod plan;
 mod rack;
+mod replay;
 mod slot;
+mod stop;
+mod versions;
 
 pub use plan::Planned;
 pub use rack::MemRack;
+pub use stop::Pick;
 
 #[cfg(test)]
 mod tests;
