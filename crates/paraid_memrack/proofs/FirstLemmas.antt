@@ -1,13 +1,13 @@
 -- A rack before any call: its slots are as its start says.
-use Rattle.std.proofs.Common.{◌≡◌, ◌≢◌, inl, inr, ℕ, zero, suc, ◌<◌, ◌≤◌, ◌^◌, Bool, true, false, List, [], ◌∷◌, length, map, get_or, set, Option, Some, None, refl, sym, ◌∙◌, ap, subst, arith}
+use Rattle.std.proofs.Common.{◌≡◌, ◌≢◌, inl, inr, ℕ, zero, suc, ◌<◌, ◌≤◌, ◌^◌, Bool, true, false, List, [], ◌∷◌, length, map, get_or, set, Option, Some, refl, sym, ◌∙◌, ap, subst, arith}
 use Rattle.std.specs.Option.{is_some}
 use Rattle.std.proofs.Math.ListN.{get_or-map as get_or-map_default}
 use Rattle.std.proofs.lemmas.Bool.{cases_eq, false≢true}
-use Rattle.std.proofs.lemmas.List.{get_or-set_same, get_or-set_other, length-map, length-set}
+use Rattle.std.proofs.lemmas.List.{get_or-set_same, get_or-set_other, length-map}
 use Rattle.paraid_base.specs.Xor.{zeroed}
-use Rattle.paraid_rack.specs.declared.call.Power.TheVariants.{Absent, Parked}
+use Rattle.paraid_rack.specs.declared.call.Power.TheVariants.{Absent}
 use Rattle.paraid_rack.specs.declared.call.Call.{Call}
-use Rattle.paraid_rack.specs.Alike.{HasPlace, IsAlike}
+use Rattle.paraid_rack.specs.Alike.{IsAlike}
 use Rattle.paraid_rack.specs.Disks.{Disks, is_present, lose, with_at}
 use Rattle.paraid_rack.specs.Slots.{AreSlots}
 use Rattle.paraid_rack.specs.Trail.{Beginning, Trail, beginning, initial, now}

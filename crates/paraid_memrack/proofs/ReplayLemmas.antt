@@ -7,7 +7,7 @@ use Rattle.paraid_base.specs.declared.block.Block.{Block}
 use Rattle.paraid_base.specs.Xor.{zeroed}
 use Rattle.paraid_rack.specs.declared.call.Call.{Call}
 use Rattle.paraid_rack.specs.Disks.{Disks, step}
-use Rattle.paraid_rack.specs.Trail.{Beginning, Trail, beginning, disks, initial, now, run}
+use Rattle.paraid_rack.specs.Trail.{Beginning, Trail, beginning, disks, initial, run}
 use Rattle.paraid_rack.proofs.TrailsLemmas.{now-extend}
 use Rattle.paraid_memrack.specs.declared.past.PastSlot.{PastSlot}
 use Rattle.paraid_memrack.specs.Plan.{disk_of}

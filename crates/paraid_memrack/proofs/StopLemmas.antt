@@ -10,11 +10,10 @@ use Rattle.paraid_rack.specs.Disks.{Disks, IsImage}
 use Rattle.paraid_rack.specs.Trail.{Beginning, Trail, beginning, disks, initial}
 use Rattle.paraid_memrack.specs.declared.past.PastSlot.{PastSlot}
 use Rattle.paraid_memrack.specs.declared.stop.Pick.{Pick}
-use Rattle.paraid_memrack.specs.declared.versions.Versions.{Versions}
 use Rattle.paraid_memrack.specs.Stop.{IsPicked, kept_at, picked}
 use Rattle.paraid_memrack.specs.Tells.{no_beginning}
 use Rattle.paraid_memrack.specs.Versions.{firm, left_bytes, versions_in}
-use Rattle.paraid_memrack.specs.Past.{Past, past_of, past_at, no_past, IsPast, AllPast, AllPastAt, InBytes, in_bytes, left_in_bytes}
+use Rattle.paraid_memrack.specs.Past.{past_of, past_at, no_past, AllPast, AllPastAt, InBytes, in_bytes, left_in_bytes}
 
 bytes_of : Block → List ℕ
 bytes_of b = b.bytes

@@ -25,14 +25,25 @@ fn attach<R: Rack>(rack: &mut R, disk: DiskNo, size: u32) -> u8 {
     }
 }
 
-fn write<R: Rack>(rack: &mut R, disk: DiskNo, place: Place, byte: u8) -> u8 {
+fn put<R: Rack>(rack: &mut R, disk: DiskNo, place: Place, block: &Block) -> u8 {
     if disk < rack.slots() && rack.power(disk) == Power::Spinning && place < rack.size(disk) {
-        let mut block = Block::zero();
-        block.set(0, byte);
-        mark(rack.write(disk, place, &block))
+        mark(rack.write(disk, place, block))
     } else {
         NOT
     }
+}
+
+// Writes this byte and then zeros.
+fn write<R: Rack>(rack: &mut R, disk: DiskNo, place: Place, byte: u8) -> u8 {
+    let mut block = Block::zero();
+    block.set(0, byte);
+    put(rack, disk, place, &block)
+}
+
+// Writes 512 times this byte.
+fn fill<R: Rack>(rack: &mut R, disk: DiskNo, place: Place, byte: u8) -> u8 {
+    let block = Block::from_array([byte; 512]);
+    put(rack, disk, place, &block)
 }
 
 fn read<R: Rack>(rack: &mut R, disk: DiskNo, place: Place, byte: u8) -> u8 {
@@ -168,15 +179,6 @@ fn an_attach_larger_than_the_room_takes_the_disk_away(rt: HostRuntime) {
     assert_eq!(rt; &marks, b"..x-..");
 }
 
-// Writes 512 times this byte.
-fn fill<R: Rack>(rack: &mut R, disk: DiskNo, place: Place, byte: u8) -> u8 {
-    if disk < rack.slots() && rack.power(disk) == Power::Spinning && place < rack.size(disk) {
-        mark(rack.write(disk, place, &Block::from_array([byte; 512])))
-    } else {
-        NOT
-    }
-}
-
 // Bytes 0, 255, 256 and 511 of a block, 238 where there is no such block.
 fn ends(rack: &MemRack, disk: DiskNo, place: Place) -> [u8; 4] {
     if disk < rack.slots() && place < rack.size(disk) {
@@ -250,6 +252,15 @@ fn stop(alloc: Global, rack: &MemRack, moment: u32, pick: Pick) -> Option<MemRac
     }
 }
 
+// How many blocks a disk has, 255 where there is no such slot.
+fn size(rack: &MemRack, disk: DiskNo) -> u32 {
+    if disk < rack.slots() {
+        rack.size(disk)
+    } else {
+        255
+    }
+}
+
 // How the first slots are powered, as letters.
 fn powers(rack: &MemRack) -> [u8; 4] {
     let mut letters = [b'?'; 4];
@@ -289,16 +300,16 @@ fn a_stop_keeps_powers_and_leaves_absent_slots_absent(rt: HostRuntime) {
         (6, b"SAPA", 0, [238; 4]),
         (7, b"SASA", 0, [238; 4]),
     ];
-    for (moment, want, size, block) in rows {
+    for (moment, want, blocks, block) in rows {
         let stopped = stop(alloc, &rack, moment, Pick::New).expect(&rt, "there is memory");
         assert_eq!(rt; &powers(&stopped), want);
-        assert_eq!(rt; stopped.size(1), size);
+        assert_eq!(rt; size(&stopped, 1), blocks);
         assert_eq!(rt; ends(&stopped, 1, 2), block);
     }
 }
 
-// Whether the disk was lost: no call was made on a rack that tells its calls.
-fn lose_first(alloc: Global, rack: &MemRack, moment: u32, disk: DiskNo) -> Option<MemRack> {
+// The rack after a stop, with one disk lost before any call.
+fn stop_and_lose(alloc: Global, rack: &MemRack, moment: u32, disk: DiskNo) -> Option<MemRack> {
     if moment <= rack.calls() {
         let mut stopped = rack
             .stopped(alloc, moment, Pick::New, 9, Vec::new(alloc))
@@ -323,9 +334,9 @@ fn a_stopped_rack_loses_a_disk_serves_and_stops_again(rt: HostRuntime) {
         fill(&mut rack, 1, 1, 8),
     ];
     assert_eq!(rt; &before, b"....");
-    let mut stopped = lose_first(alloc, &rack, 4, 1).expect(&rt, "there is memory");
+    let mut stopped = stop_and_lose(alloc, &rack, 4, 1).expect(&rt, "there is memory");
     assert_eq!(rt; &powers(&stopped), b"SAAA");
-    assert_eq!(rt; stopped.size(1), 0);
+    assert_eq!(rt; size(&stopped, 1), 0);
     assert_eq!(rt; ends(&stopped, 1, 1), [238; 4]);
     let after = [
         read(&mut stopped, 0, 1, 7),

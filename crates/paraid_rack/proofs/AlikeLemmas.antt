@@ -3,7 +3,7 @@ use Rattle.std.proofs.Common.{◌≡◌, ◌<◌, ℕ, Bool, true, false, cond, 
 use Rattle.std.proofs.lemmas.Bool.{false≢true}
 use Rattle.paraid_base.specs.declared.block.Block.{Block}
 use Rattle.paraid_rack.specs.declared.call.Power.TheVariants.{Absent}
-use Rattle.paraid_rack.specs.Disks.{Disks, IsImage, IsPresent, is_present, lose, with_at}
+use Rattle.paraid_rack.specs.Disks.{Disks, IsImage, is_present, lose, with_at}
 use Rattle.paraid_rack.specs.Alike.{HasPlace, IsAlike}
 use Rattle.paraid_rack.proofs.AtomsLemmas.{at_use, with_at_other}
 

@@ -1,4 +1,4 @@
-use Rattle.std.proofs.Common.{List, [], ◌∷◌, ◌++◌, length, refl, ◌∙◌, ap, arith}
+use Rattle.std.proofs.Common.{List, [], ◌∷◌, ◌++◌, refl, ◌∙◌, ap, arith}
 use Rattle.paraid_rack.specs.Trail.{Beginning}
 use Rattle.paraid_memrack.specs.Tells.{beginning_of, no_beginning}
 use Rattle.paraid_memrack.proofs.PushLemmas.{length_pushed, map_pushed}

@@ -1,4 +1,4 @@
-use Rattle.std.proofs.Common.{◌≡◌, ◌<◌, length, sym, ◌∙◌, arith}
+use Rattle.std.proofs.Common.{◌<◌, length, arith}
 use Rattle.paraid_memrack.proofs.ReplayLemmas.{all_follow}
 use Rattle.paraid_memrack.proofs.replay.follow.Goals as goal
 

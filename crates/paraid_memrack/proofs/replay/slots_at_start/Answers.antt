@@ -1,4 +1,4 @@
-use Rattle.std.proofs.Common.{◌≡◌, length, map, take, sym, ◌∙◌, ap, arith}
+use Rattle.std.proofs.Common.{length, map, sym, ◌∙◌, ap, arith}
 use Rattle.std.proofs.lemmas.List.{take_all}
 use Rattle.std.proofs.lemmas.Simd.{map-map}
 use Rattle.paraid_memrack.specs.declared.log.Start.{Start}

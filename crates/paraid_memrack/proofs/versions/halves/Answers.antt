@@ -1,4 +1,4 @@
-use Rattle.std.proofs.Common.{sym, ◌∙◌, arith, length-take}
+use Rattle.std.proofs.Common.{arith, length-take}
 use Rattle.paraid_memrack.proofs.versions.halves.Goals as goal
 
 pub slice_bounds-copy_from_slice-end : goal.slice_bounds-copy_from_slice-end

@@ -1,5 +1,5 @@
 use Rattle.std.proofs.Common.{◌≡◌, ◌<◌, length, map, ◌∙◌, ap, arith}
-use Rattle.std.proofs.lemmas.List.{length-map, get_or_read}
+use Rattle.std.proofs.lemmas.List.{length-map}
 use Rattle.paraid_rack.specs.Trail.{Trail, disks}
 use Rattle.paraid_memrack.specs.Past.{past_of, past_start}
 use Rattle.paraid_memrack.specs.Stop.{kept_at}

@@ -1,4 +1,4 @@
-use Rattle.std.proofs.Common.{true, false, refl, sym, ◌∙◌, subst}
+use Rattle.std.proofs.Common.{refl, sym, ◌∙◌, subst}
 use Rattle.paraid_rack.specs.declared.call.Call.TheVariants.{Read, Write, Sync, Park, SpinUp, Attach}
 use Rattle.paraid_memrack.specs.Past.{Past, past_of, Follows}
 use Rattle.paraid_memrack.proofs.PastLemmas.{follows_as, follows_failed, follows_read, follows_write, follows_sync, follows_park, follows_spin_up, follows_attach}

@@ -1,4 +1,4 @@
-use Rattle.std.proofs.Common.{◌≡◌, ℕ, Bool, true, cond, List, replicate, sym, ◌∙◌, ap}
+use Rattle.std.proofs.Common.{◌≡◌, ℕ, Bool, true, cond, replicate, sym, ◌∙◌, ap}
 use Rattle.paraid_memrack.specs.declared.stop.Pick.{Pick}
 use Rattle.paraid_memrack.specs.declared.stop.Pick.TheVariants.{Filled}
 use Rattle.paraid_memrack.specs.declared.versions.Versions.{Versions}
