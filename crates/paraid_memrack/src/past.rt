@@ -11,7 +11,7 @@ use paraid_base::{Block, NoMemory, Place};
 use paraid_rack::{Call, Power};
 use std::alloc::Global;
 
-/// A slot with its disk, or with no block where it is absent.
+/// A slot at an earlier moment, with no block where it is absent.
 #[derive(Drop)]
 pub struct PastSlot {
     pub power: Power,
@@ -79,7 +79,8 @@ impl PastSlot {
         };
     }
 
-    // A block is written, where there is such a place.
+    // A block is written, where there is such a place: so a replay need not know that a listed write
+    // was within its disk.
     fn write(&mut self, place: Place, block: &Block)
         ensures { past_of self.new
             ≡ record (past_of self.old)

@@ -74,11 +74,11 @@ impl MemRack {
         })
     }
 
-    /// A rack as a stop at this moment leaves it, with no call made since then.
+    /// A rack as a stop before the listed call number `moment` leaves it, before any call on it.
     ///
-    /// The moment is before the listed call of this number. It is taken by the calls that are
-    /// listed, also where others were made. `pick` says what each loose block holds. The new rack
-    /// has the same slots and the same room, and its own plan and number of calls.
+    /// `pick` says what each loose block holds. The new rack has as many slots and the same room,
+    /// no fault, and its own plan and number of calls. Calls that were made on a full list are left
+    /// out.
     pub fn stopped(
         &self,
         alloc: Global,
@@ -88,7 +88,7 @@ impl MemRack {
         plan: Vec<Planned>,
     ) -> Result<Self, NoMemory>
         requires { moment ≤ length (listed self.now) }
-        // Without the blocks that do not exist, it begins as an image at that moment.
+        // It begins as an image at that moment, in all that exists.
         ensures image { IfOk result (λ rack. (t : Trail) → told_of self.now ≡ Some t
             → (i : Disks) × IsImage (disks t moment) i × IsAlike i (initial (start_of rack))) }
         ensures picked { IfOk result (λ rack. (t : Trail) → told_of self.now ≡ Some t
@@ -113,7 +113,7 @@ impl MemRack {
         })
     }
 
-    /// The disk of a slot is lost before any call is made: its slot is absent from the start on.
+    /// The disk of a slot is lost before any call was made: the slot is absent from the start on.
     pub fn lose(&mut self, disk: DiskNo)
         requires exists { disk < count_of self.old }
         requires tells { IsSome (told_of self.old) }
