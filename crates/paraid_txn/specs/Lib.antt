@@ -17,3 +17,6 @@ pub mod Close
 pub mod Power
 pub mod Course
 pub mod Lawful
+pub mod Staging
+pub mod Losses
+pub mod Stores
