@@ -20,3 +20,6 @@ pub mod Lawful
 pub mod Staging
 pub mod Losses
 pub mod Stores
+pub mod Commit
+pub mod Stages
+pub mod Ready

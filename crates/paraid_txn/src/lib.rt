@@ -9,6 +9,7 @@
 
 mod batch;
 mod calls;
+mod commit;
 pub mod laws;
 mod losses;
 mod store;
