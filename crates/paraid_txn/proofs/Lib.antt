@@ -18,3 +18,4 @@ pub mod GateLemmas
 pub mod SpotLemmas
 pub mod SwapLemmas
 pub mod WholeLemmas
+pub mod SpokenLemmas
