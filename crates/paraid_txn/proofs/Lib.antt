@@ -19,3 +19,4 @@ pub mod SpotLemmas
 pub mod SwapLemmas
 pub mod WholeLemmas
 pub mod SpokenLemmas
+pub mod StandsForLemmas
