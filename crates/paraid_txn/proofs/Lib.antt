@@ -20,3 +20,4 @@ pub mod SwapLemmas
 pub mod WholeLemmas
 pub mod SpokenLemmas
 pub mod StandsForLemmas
+pub mod CommitLemmas

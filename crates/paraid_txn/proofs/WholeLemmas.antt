@@ -44,7 +44,7 @@ logged_from log p (w ∷ batch) each = (
   logged_from log (suc p) batch (λ k lt. let e : suc p + k ≡ p + suc k = omega arith in ap log e ∙ each (suc k) (omega arith)),
 )
 
-left_kept : (j : Job) (s i : Disks) → IsKept j s → IsLeft s i → IsKept j i
+pub left_kept : (j : Job) (s i : Disks) → IsKept j s → IsLeft s i → IsKept j i
 left_kept j s i k left = record {
   present = λ d here. k.present d (left.present d here);
   power = λ d here. left.power d here ∙ k.power d (left.present d here);
