@@ -21,3 +21,4 @@ pub mod WholeLemmas
 pub mod SpokenLemmas
 pub mod StandsForLemmas
 pub mod CommitLemmas
+pub mod StoreLemmas

@@ -50,7 +50,7 @@ gone_named (Fresh e rebuilt) d is = cc
 none_in_empty : (t : Target) → Contains {X = Target} [] t → ⊥
 none_in_empty t c = let lt : c.0 < 0 = c.1 in omega arith
 
-all_contained : {X : Type 0} (P : X → Type 0) (xs : List X) (x : X) → ((k : ℕ) (d : X) → k < length xs → P (slice_index_or xs k d)) → Contains xs x → P x
+pub all_contained : {X : Type 0} (P : X → Type 0) (xs : List X) (x : X) → ((k : ℕ) (d : X) → k < length xs → P (slice_index_or xs k d)) → Contains xs x → P x
 all_contained P xs x all c = subst P c.2 (all c.0 x c.1)
 
 module _ (j : Job) (before : Meta) (begun : IsBegun j before) where

@@ -69,3 +69,13 @@ IsLostBy out disk old new (LostOne lost) =
     (lost ≡ disk) × HasRisen (old disk).faults (new disk).faults × ((first : ℕ) → out ≡ Some first → first ≡ disk)
 IsLostBy out disk old new (LostTwo two) =
     (two.second ≡ disk) × HasRisen (old disk).faults (new disk).faults × (out ≡ Some two.first) × (two.first ≢ disk)
+
+-- Only a slot that becomes absent changes its power or size, and no count falls.
+pub record IsSpared (old new : ℕ → Slot) : Type 0 where
+  pub power : (d : ℕ) → is_present (new d).power ≡ true → (new d).power ≡ (old d).power
+  pub size : (d : ℕ) → is_present (new d).power ≡ true → (new d).size ≡ (old d).size
+  pub no_fall : (d : ℕ) → (old d).faults ≤ (new d).faults
+
+-- disk `d` has failed in this call, and is absent
+pub record IsLostNow (old new : ℕ → Slot) (d : ℕ) : Type 0 where
+  pub risen : HasRisen (old d).faults (new d).faults

@@ -22,21 +22,29 @@
 //!
 //! A log disk that the meta names out is left alone, and so are the targets on a disk that is gone.
 //! A disk that fails is left out of the rest.
-ghost use Rattle.std.specs.Prelude.{◌≡◌, ◌≢◌, ℕ, ◌+◌, ◌<◌, ◌≤◌, true, false, length, Some, OnOk, IfErr, All};
+ghost use Rattle.std.specs.Prelude.{◌≡◌, ◌≢◌, ℕ, ◌+◌, ◌<◌, ◌≤◌, true, false, length, Some, OnOk, OnErr, IfErr, IfOk, All, ◌-◌, ◌^◌};
 ghost use Rattle.paraid_record.specs.declared.targets.Target.{Target as TargetType};
 ghost use Rattle.paraid_rack.specs.Disks.{Disks};
 ghost use Rattle.paraid_rack.specs.Told.{Ran, Runs};
-ghost use Rattle.paraid_txn.specs.Losses.{AreDry, AreDryBut, AreOthersWell, CanWrite, IsDryAt, IsTwo, Lasts};
+ghost use Rattle.paraid_txn.specs.Losses.{AreDry, AreDryBut, AreOthersWell, CanWrite, IsDryAt, IsLostNow, IsSpared, IsTwo, Lasts};
 ghost use Rattle.paraid_txn.specs.Ready.{AreTargetsReady, IsLogReady};
 ghost use Rattle.paraid_txn.specs.Sides.{is_open, targets};
 ghost use Rattle.paraid_txn.specs.Staging.{names_disk};
-ghost use Rattle.paraid_txn.specs.Stages.{Close, IsSpelled, Job, LayIn, Log, LogIn, Mark, Open, SettleIn, Whole, gone, named};
+ghost use Rattle.paraid_txn.specs.Stages.{Close, IsSpelled, Job, LayIn, Log, LogIn, Mark, Open, SettleIn, Whole, gone, job, named};
+ghost use Rattle.paraid_txn.specs.Commit.{Commits, IsWholeOrAbsent, gone_out as gone_of};
+ghost use Rattle.paraid_txn.specs.Out.{named_out as named_of, or_else};
+ghost use Rattle.paraid_record.specs.declared.meta.Meta.{Meta as MetaType};
+ghost use Rattle.paraid_record.specs.Meta.{meta_bytes};
+ghost use Rattle.paraid_record.specs.Range.{IsInRange};
+ghost use Rattle.paraid_record.specs.Targets.{AreTargets, IsTargetInRange, targets_bytes};
 
 use crate::batch::Batch;
 use crate::calls::{put, settle};
 use crate::losses::Losses;
-use paraid_base::{Block, DiskNo, Two};
+use crate::store::{Store, named_out};
+use paraid_base::{Block, DiskNo, Out, Two};
 use paraid_rack::Rack;
+use paraid_record::{Meta, write_meta, write_targets};
 
 /// An open gate, or a closed one.
 fn gate(opened: bool) -> Block
@@ -435,4 +443,147 @@ fn finish<R: Rack>(
     close_gate(rack, losses, skip, 0, &closed)?;
     close_gate(rack, losses, skip, 1, &closed)?;
     Ok(())
+}
+
+// The five steps.
+fn run<R: Rack>(
+    rack: &mut R,
+    losses: &mut Losses,
+    meta: &Meta,
+    batch: &Batch,
+    list: &Block,
+    spelled: &Block,
+) -> Result<(), Two>
+    requires exists { meta.now.setup.geometry.disks ≤ R.slot_count rack.old }
+    requires log { IsLogReady (named_of meta.now.out) (R.slot rack.old) }
+    requires ready { AreTargetsReady (gone_of meta.now.out) (R.slot_count rack.old)
+        (R.slot rack.old) (targets batch.now) }
+    requires in_range { AreTargets meta.now.setup.geometry (targets batch.now) }
+    ensures slots { R.slot_count rack.new ≡ R.slot_count rack.old }
+    ensures lasts { Lasts losses.old losses.new (R.slot rack.old) (R.slot rack.new) }
+    ensures well { OnOk result
+        (AreOthersWell losses.new (R.slot rack.old) (R.slot rack.new)) }
+    ensures dry { OnOk result (AreDry (R.slot rack.old) (R.slot rack.new)) }
+    ensures two { IfErr result
+        (IsTwo losses.old.down (R.slot rack.old) (R.slot rack.new)) }
+    ensures moments { (start : Disks) → IsSpelled (job start meta.now batch.now spelled.now list.now)
+        → Ran (R.told rack.old) (R.told rack.new)
+        (Runs (Whole (job start meta.now batch.now spelled.now list.now))
+        (Log (job start meta.now batch.now spelled.now list.now) 0)
+        (Whole (job start meta.now batch.now spelled.now list.now))) }
+    ensures done { OnOk result ((start : Disks)
+        → IsSpelled (job start meta.now batch.now spelled.now list.now)
+        → Ran (R.told rack.old) (R.told rack.new)
+        (Runs (Whole (job start meta.now batch.now spelled.now list.now))
+        (Log (job start meta.now batch.now spelled.now list.now) 0)
+        (Close (job start meta.now batch.now spelled.now list.now) 2))) }
+{
+    let named = named_out(meta.out);
+    write_logs(rack, losses, named, batch, list, spelled)?;
+    open_gates(rack, losses, named)?;
+    lay_all(
+        rack,
+        losses,
+        gone_out(meta.out),
+        batch,
+        meta.setup.geometry.disks,
+    )?;
+    finish(rack, losses, named, spelled)?;
+    Ok(())
+}
+
+// The disk that a meta names out and gone: its targets are left out.
+fn gone_out(out: Out) -> Option<DiskNo>
+    ensures { result ≡ gone_of out }
+{
+    match out {
+        Out::Gone { disk } => Some(disk),
+        _ => None,
+    }
+}
+
+// The block that spells the targets of a batch.
+fn spell_targets(batch: &Batch) -> Block
+    ensures { result.bytes ≡ targets_bytes (targets batch.now) }
+{
+    let mut list = Block::zero();
+    write_targets(&batch.targets(), &mut list);
+    list
+}
+
+// The block that spells a meta.
+fn spell_meta(meta: &Meta) -> Block
+    requires { IsInRange meta.now }
+    ensures { result.bytes ≡ meta_bytes meta.now }
+{
+    let mut spelled = Block::zero();
+    write_meta(meta, &mut spelled);
+    spelled
+}
+
+impl<R: Rack> Store<R> {
+    ghost use Rattle.paraid_txn.specs.Stores.{disks_of, epoch_of, named_of as named_by, out_of, rack_of};
+
+    /// Lays a batch and the next meta over what the disks hold: whole or not at all, whatever
+    /// stops it and whatever one disk is lost.
+    ///
+    /// The epoch of the meta given does not count: it becomes one greater than the last commit's.
+    /// It answers the disk that failed in it, if one did; the commit went on without it. Where a
+    /// second disk is down it ends and names both.
+    ///
+    /// No log disk comes in again by it: the clauses on moments ask that a log disk which was
+    /// named out, and is there, is named out again.
+    pub fn commit(&mut self, batch: &Batch, meta: &Meta) -> Result<Option<DiskNo>, Two>
+        requires in_range { IsInRange meta.now }
+        requires epoch { epoch_of self.old < 2 ^ 64 - 1 }
+        requires array { meta.now.setup.geometry.disks ≡ disks_of self.old }
+        requires targets { All (IsTargetInRange meta.now.setup.geometry) (targets batch.now) }
+        requires log { IsLogReady (named_of meta.now.out) (R.slot (rack_of self.old)) }
+        requires ready { AreTargetsReady (gone_of meta.now.out) (R.slot_count (rack_of self.old))
+            (R.slot (rack_of self.old)) (targets batch.now) }
+
+        ensures slots { R.slot_count (rack_of self.new) ≡ R.slot_count (rack_of self.old) }
+        ensures disks { disks_of self.new ≡ disks_of self.old }
+        ensures powers { IsSpared (R.slot (rack_of self.old)) (R.slot (rack_of self.new)) }
+        ensures synced { OnOk result
+            (AreDry (R.slot (rack_of self.old)) (R.slot (rack_of self.new))) }
+
+        ensures epoch { OnOk result (epoch_of self.new ≡ epoch_of self.old + 1) }
+        ensures named { OnOk result (named_by self.new ≡ named_of meta.now.out) }
+        ensures ended { OnErr result ((epoch_of self.new ≡ epoch_of self.old)
+            × (named_by self.new ≡ named_by self.old)) }
+
+        // The disk that is answered is the one whose count has risen.
+        ensures lost { IfOk result (λ lost. (d : ℕ) → lost ≡ Some d
+            → IsLostNow (R.slot (rack_of self.old)) (R.slot (rack_of self.new)) d) }
+        ensures well { IfOk result (λ lost. (d : ℕ) → lost ≢ Some d
+            → (R.slot (rack_of self.new) d).faults ≡ (R.slot (rack_of self.old) d).faults) }
+        ensures two { IfErr result (IsTwo
+            (or_else (out_of R.slot self.old) (named_of meta.now.out))
+            (R.slot (rack_of self.old)) (R.slot (rack_of self.new))) }
+
+        // At each moment the old contents or the new ones; at the end only these.
+        ensures any_moment { (before : MetaType)
+            → IsWholeOrAbsent (R.told (rack_of self.old)) (R.told (rack_of self.new)) before
+            (record meta.now { epoch = epoch_of self.old + 1 }) batch.now }
+        ensures committed { OnOk result ((before : MetaType)
+            → Commits (R.told (rack_of self.old)) (R.told (rack_of self.new)) before
+            (record meta.now { epoch = epoch_of self.old + 1 }) batch.now) }
+    {
+        let next = Meta {
+            epoch: self.epoch + 1,
+            ..*meta
+        };
+        let list = spell_targets(batch);
+        let spelled = spell_meta(&next);
+        let named = named_out(meta.out);
+        let mut losses = Losses {
+            down: self.out().or(named),
+            lost: None,
+        };
+        run(&mut self.rack, &mut losses, &next, batch, &list, &spelled)?;
+        self.epoch = next.epoch;
+        self.named = named;
+        Ok(losses.lost)
+    }
 }
