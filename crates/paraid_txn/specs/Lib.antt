@@ -23,3 +23,4 @@ pub mod Stores
 pub mod Commit
 pub mod Stages
 pub mod Ready
+pub mod Session
