@@ -17,3 +17,4 @@ pub mod OpenLemmas
 pub mod GateLemmas
 pub mod SpotLemmas
 pub mod SwapLemmas
+pub mod DownLemmas
