@@ -1,6 +1,6 @@
 -- What calls of a commit, one after the other, leave of the slots, and why two disks are down.
-use Rattle.std.proofs.Common.{◌≡◌, ◌≢◌, ℕ, ◌≤◌, ◌⊎◌, true, false, Option, Some, Result, Ok, Err, refl, sym, ◌∙◌, ap, subst, inl, inr, arith}
-use Rattle.std.specs.Prelude.{IfErr}
+use Rattle.std.proofs.Common.{◌≡◌, ◌≢◌, ℕ, ◌≤◌, ◌⊎◌, Bool, true, false, Option, Some, Result, Ok, Err, refl, sym, ◌∙◌, ap, subst, inl, inr, arith}
+use Rattle.std.specs.Prelude.{IfErr, IsErrAnd}
 use Rattle.std.proofs.lemmas.Bool.{true≢false}
 use Rattle.paraid_base.specs.declared.fault.Two.{Two}
 use Rattle.paraid_base.specs.Told.{HasRisen}
@@ -51,9 +51,9 @@ pub AreOthersWell-none : (a : Losses) (s : ℕ → Slot) → AreOthersWell a s s
 AreOthersWell-none a s = λ d not. refl
 
 -- what was lost in the first part stays lost in the second
-pub AreOthersWell-then : (b c : Losses) (s t u : ℕ → Slot) → Lasts b c t u → AreOthersWell b s t → AreOthersWell c t u
+pub AreOthersWell-then : (a b c : Losses) (s t u : ℕ → Slot) → Lasts a b s t → Lasts b c t u → AreOthersWell b s t → AreOthersWell c t u
     → AreOthersWell c s u
-AreOthersWell-then b c s t u lasts first second d not = second d not ∙ first d (λ is. not (lasts.stays d is))
+AreOthersWell-then a b c s t u before lasts first second d not = second d not ∙ first d (λ is. not (lasts.stays d is))
 
 -- no call
 pub AreDryBut-none : (may : ℕ → Type 0) (s : ℕ → Slot) → AreDryBut may s s
@@ -65,25 +65,31 @@ AreDryBut-weaker may less s t more dry d there unsynced =
     elim (dry d there unsynced) [ inl was ↦ inl was | inr is ↦ inr (more d is) ]
 
 -- what each of two parts may write
-pub AreDryBut-then : (may later : ℕ → Type 0) (b c : Losses) (s t u : ℕ → Slot) → Lasts b c t u → AreDryBut may s t → AreDryBut later t u
-    → AreDryBut (λ d. may d ⊎ later d) s u
-AreDryBut-then may later b c s t u lasts first second d there unsynced = elim (second d there unsynced) [
+pub AreDryBut-then : (may later : ℕ → Type 0) (a b c : Losses) (s t u : ℕ → Slot) → Lasts a b s t → Lasts b c t u
+    → AreDryBut may s t → AreDryBut later t u → AreDryBut (λ d. may d ⊎ later d) s u
+AreDryBut-then may later a b c s t u before lasts first second d there unsynced = elim (second d there unsynced) [
   | inl was ↦ elim (first d (Lasts-present b c t u d lasts there) was) [ inl at_first ↦ inl at_first | inr is ↦ inr (inl is) ]
   | inr is ↦ inr (inr is)
 ]
 
 -- two parts that may write the same disks
-pub AreDryBut-both : (may : ℕ → Type 0) (b c : Losses) (s t u : ℕ → Slot) → Lasts b c t u → AreDryBut may s t → AreDryBut may t u
-    → AreDryBut may s u
-AreDryBut-both may b c s t u lasts first second d there unsynced = elim (second d there unsynced) [
+pub AreDryBut-both : (may : ℕ → Type 0) (a b c : Losses) (s t u : ℕ → Slot) → Lasts a b s t → Lasts b c t u
+    → AreDryBut may s t → AreDryBut may t u → AreDryBut may s u
+AreDryBut-both may a b c s t u before lasts first second d there unsynced = elim (second d there unsynced) [
   | inl was ↦ first d (Lasts-present b c t u d lasts there) was
   | inr is ↦ inr is
 ]
 
+-- a second part that leaves no disk unsynced
+pub AreDryBut-dry : (may : ℕ → Type 0) (a b c : Losses) (s t u : ℕ → Slot) → Lasts a b s t → Lasts b c t u
+    → AreDryBut may s t → AreDry t u → AreDryBut may s u
+AreDryBut-dry may a b c s t u before lasts first second =
+    AreDryBut-both may a b c s t u before lasts first (AreDryBut-weaker may (λ d. ⊥) t u (λ d none. absurd none) second)
+
 -- each disk that the first part may have written is settled after the second, or may stay unsynced
-pub AreDryBut-settled : (may still : ℕ → Type 0) (b c : Losses) (s t u : ℕ → Slot) → Lasts b c t u → AreDryBut may s t → AreDryBut still t u
-    → ((d : ℕ) → may d → still d ⊎ IsDryAt u d) → AreDryBut still s u
-AreDryBut-settled may still b c s t u lasts first second settled d there unsynced = elim (second d there unsynced) [
+pub AreDryBut-settled : (may still : ℕ → Type 0) (a b c : Losses) (s t u : ℕ → Slot) → Lasts a b s t → Lasts b c t u
+    → AreDryBut may s t → AreDryBut still t u → ((d : ℕ) → may d → still d ⊎ IsDryAt u d) → AreDryBut still s u
+AreDryBut-settled may still a b c s t u before lasts first second settled d there unsynced = elim (second d there unsynced) [
   | inl was ↦ elim (first d (Lasts-present b c t u d lasts there) was) [
     | inl at_first ↦ inl at_first
     | inr is ↦ elim (settled d is) [ inl may_stay ↦ inr may_stay | inr dry ↦ absurd (true≢false (sym unsynced ∙ dry there)) ]
@@ -92,17 +98,35 @@ AreDryBut-settled may still b c s t u lasts first second settled d there unsynce
 ]
 
 -- what is written on one disk, and then settled
-pub AreDry-settled : (skip : Option ℕ) (disk : ℕ) (b c : Losses) (s t u : ℕ → Slot) → Lasts b c t u
+pub AreDry-settled : (skip : Option ℕ) (disk : ℕ) (a b c : Losses) (s t u : ℕ → Slot) → Lasts a b s t → Lasts b c t u
     → AreDryBut (λ d. (d ≡ disk) × (skip ≢ Some d)) s t → AreDry t u → (skip ≢ Some disk → IsDryAt u disk) → AreDry s u
-AreDry-settled skip disk b c s t u lasts first second settled =
-    AreDryBut-settled (λ d. (d ≡ disk) × (skip ≢ Some d)) (λ d. ⊥) b c s t u lasts first second
+AreDry-settled skip disk a b c s t u before lasts first second settled =
+    AreDryBut-settled (λ d. (d ≡ disk) × (skip ≢ Some d)) (λ d. ⊥) a b c s t u before lasts first second
     (λ d is. inr (subst (λ (k : ℕ). IsDryAt u k) (sym is.0) (settled (λ e. is.1 (e ∙ ap Some (sym is.0))))))
+
+-- a settled disk stays so where no disk is left unsynced
+pub IsDryAt-later : (b c : Losses) (t u : ℕ → Slot) (d : ℕ) → Lasts b c t u → AreDry t u → IsDryAt t d → IsDryAt u d
+IsDryAt-later b c t u d lasts dry settled there = split (u d).unsynced refl
+  where
+    split : (unsynced : Bool) → (u d).unsynced ≡ unsynced → unsynced ≡ false
+    split false is = refl
+    split true is = elim (dry d there is) [
+      | inl was ↦ absurd (true≢false (sym was ∙ settled (Lasts-present b c t u d lasts there)))
+      | inr none ↦ absurd none
+    ]
 
 -- a disk that can be written before some calls can be written after them
 pub CanWrite-later : (a b : Losses) (s t : ℕ → Slot) (d p : ℕ) → Lasts a b s t → CanWrite s d p → CanWrite t d p
 CanWrite-later a b s t d p lasts can = record {
   spins = λ there. lasts.power d there ∙ can.spins (Lasts-present a b s t d lasts there);
   within = λ there. (let same = lasts.size d there in let low = can.within (Lasts-present a b s t d lasts there) in omega arith);
+}
+
+-- a disk that can be written at a place can be written at any lower one
+pub CanWrite-lower : (s : ℕ → Slot) (d p q : ℕ) → p ≤ q → CanWrite s d q → CanWrite s d p
+CanWrite-lower s d p q below can = record {
+  spins = can.spins;
+  within = λ there. (let low = can.within there in omega arith);
 }
 
 -- a disk that is down in the second part was down before, or has failed in one of the parts
@@ -139,13 +163,9 @@ IsTwo-first down b c s t u two second is = record {
   second = HasRisen-later (s two.second).faults (t two.second).faults (u two.second).faults is.second (second.no_fall two.second);
 }
 
--- the same of an answer
-pub IfErr-two-later : {A : Type 0} (r : Result A Two) (a b c : Losses) (s t u : ℕ → Slot) → Lasts a b s t → Lasts b c t u
-    → IfErr r (IsTwo b.down t u) → IfErr r (IsTwo a.down s u)
-IfErr-two-later (Ok it) a b c s t u first second is = tt
-IfErr-two-later (Err two) a b c s t u first second is = IsTwo-later a b c s t u two first second is
-
-pub IfErr-two-first : {A : Type 0} (r : Result A Two) (down : Option ℕ) (b c : Losses) (s t u : ℕ → Slot) → Lasts b c t u
-    → IfErr r (IsTwo down s t) → IfErr r (IsTwo down s u)
-IfErr-two-first (Ok it) down b c s t u second is = tt
-IfErr-two-first (Err two) down b c s t u second is = IsTwo-first down b c s t u two second is
+-- the same where a `?` hands on the second part's error
+pub IfErr-two-later : {A : Type 0} (r : Result A Two) (two : Two) (a b c : Losses) (s t u : ℕ → Slot) → IsErrAnd r (λ other. other ≡ two)
+    → Lasts a b s t → Lasts b c t u → IsTwo b.down t u two → IfErr r (IsTwo a.down s u)
+IfErr-two-later (Ok it) two a b c s t u is first second down = tt
+IfErr-two-later (Err other) two a b c s t u is first second down =
+    subst (IsTwo a.down s u) (sym is) (IsTwo-later a b c s t u two first second down)
