@@ -18,3 +18,4 @@ pub mod GateLemmas
 pub mod SpotLemmas
 pub mod SwapLemmas
 pub mod DownLemmas
+pub mod StagingLemmas
