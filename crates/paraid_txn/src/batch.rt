@@ -1,5 +1,5 @@
 //! Blocks that are written together, each with the place where it belongs.
-ghost use Rattle.std.specs.Prelude.{◌≡◌, ◌≢◌, ℕ, ◌<◌, ◌≤◌, true, false, [], length, slice_index, get_or, vec_capacity, map, AllPairs, IfOk, IfErr, OnOk, MatchOption, is_ok, ◌||◌, nat_lt, ◌==◌};
+ghost use Rattle.std.specs.Prelude.{◌≡◌, ◌≢◌, ℕ, ◌<◌, ◌≤◌, ◌⊎◌, true, false, [], length, slice_index, get_or, vec_capacity, map, AllPairs, IfOk, IfErr, OnOk, MatchOption, is_ok, ◌||◌, nat_lt, ◌==◌};
 ghost use Rattle.std.specs.List.{list_any};
 ghost use Rattle.paraid_base.specs.declared.block.Block.{Block as BlockType};
 ghost use Rattle.paraid_base.specs.Xor.{zeroed};
@@ -79,6 +79,8 @@ impl Batch {
             ≡ with_target self.old (record { disk = disk; place = place }) block.now) }
         ensures full { IfErr result (λ full. (full.count ≡ 96) × (length self.old ≡ 96)
             × (names self.old disk place ≡ false) × (self.new ≡ self.old)) }
+        ensures room { OnOk result
+            ((names self.old disk place ≡ true) ⊎ (length self.old < 96)) }
     {
         let target = Target { disk, place };
         if let Some(at) = self.find(target) {

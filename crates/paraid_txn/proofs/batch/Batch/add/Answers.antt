@@ -1,10 +1,10 @@
-use Rattle.std.proofs.Common.{◌≢◌, ◌∙◌, ap, arith, rules, subst, sym}
+use Rattle.std.proofs.Common.{◌≢◌, ◌∙◌, ap, arith, inl, rules, subst, sym}
 use Rattle.std.specs.Prelude.{AllPairs}
 use Rattle.paraid_base.proofs.XorLemmas.{same_block}
 use Rattle.paraid_record.specs.declared.targets.Target.{Target}
 use Rattle.paraid_txn.specs.declared.batch.Staged.{Staged}
 use Rattle.paraid_txn.specs.Staging.{with_target}
-use Rattle.paraid_txn.proofs.StagingLemmas.{apart-push, held, held-push, held-set, length-view}
+use Rattle.paraid_txn.proofs.StagingLemmas.{apart-push, held, held-push, held-set, length-view, names-at}
 use Rattle.paraid_txn.proofs.batch.Batch.add.Goals as goal
 
 pub returns-in-Some-clause-ok : goal.returns-in-Some-clause-ok
@@ -17,6 +17,11 @@ returns-in-Some-clause-ok c =
     held-set items batch c.self.view_is c.in-Some.at c.index_mut.result.now t c.copy_from.new.self c.self.invariant.2
     (omega arith) c.index_mut.ensures.value found.1
     ∙ ap (with_target batch t) c.copy_from.ensures
+
+pub returns-in-Some-clause-room : goal.returns-in-Some-clause-room
+returns-in-Some-clause-room c =
+    let found = c.in-Some.ensures in
+    inl (names-at c.args.self.now c.in-Some.at (record { disk = c.args.disk; place = c.args.place }) found.0 found.1)
 
 pub invariant_of-self-2 : goal.invariant_of-self-2
 invariant_of-self-2 c =
