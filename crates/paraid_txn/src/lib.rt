@@ -12,6 +12,8 @@ mod calls;
 pub mod laws;
 mod losses;
 mod store;
+#[cfg(test)]
+mod tests;
 
 pub use batch::{Batch, Full};
 pub use store::{Lost, Store};
