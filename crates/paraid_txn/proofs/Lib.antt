@@ -22,3 +22,5 @@ pub mod SpokenLemmas
 pub mod StandsForLemmas
 pub mod CommitLemmas
 pub mod StoreLemmas
+pub mod DownLemmas
+pub mod StagingLemmas

@@ -1,5 +1,6 @@
 //! Blocks that are written together, each with the place where it belongs.
-ghost use Rattle.std.specs.Prelude.{◌≡◌, ◌≢◌, ℕ, ◌<◌, ◌≤◌, true, false, [], length, slice_index, get_or, vec_capacity, map, AllPairs, IfOk, IfErr, OnOk, MatchOption, is_ok, ◌||◌, nat_lt};
+ghost use Rattle.std.specs.Prelude.{◌≡◌, ◌≢◌, ℕ, ◌<◌, ◌≤◌, ◌⊎◌, true, false, [], length, slice_index, get_or, vec_capacity, map, AllPairs, IfOk, IfErr, OnOk, MatchOption, is_ok, ◌||◌, nat_lt, ◌==◌};
+ghost use Rattle.std.specs.List.{list_any};
 ghost use Rattle.paraid_base.specs.declared.block.Block.{Block as BlockType};
 ghost use Rattle.paraid_base.specs.Xor.{zeroed};
 ghost use Rattle.paraid_record.specs.Targets.{no_target, targets_of};
@@ -78,6 +79,8 @@ impl Batch {
             ≡ with_target self.old (record { disk = disk; place = place }) block.now) }
         ensures full { IfErr result (λ full. (full.count ≡ 96) × (length self.old ≡ 96)
             × (names self.old disk place ≡ false) × (self.new ≡ self.old)) }
+        ensures room { OnOk result
+            ((names self.old disk place ≡ true) ⊎ (length self.old < 96)) }
     {
         let target = Target { disk, place };
         if let Some(at) = self.find(target) {
@@ -161,6 +164,13 @@ impl Batch {
     pub fn has_disk(&self, disk: DiskNo) -> bool
         ensures { result ≡ names_disk self.now disk }
     {
-        self.staged.iter().any(|staged| staged.target.disk == disk)
+        is_one_on(&self.staged, disk)
     }
+}
+
+// Whether one of these is on this disk.
+fn is_one_on(staged: &[Staged], disk: DiskNo) -> bool
+    ensures { result ≡ list_any (λ s. s.target.disk == disk) staged.now }
+{
+    staged.iter().any(|one| one.target.disk == disk)
 }

@@ -13,6 +13,8 @@ mod commit;
 pub mod laws;
 mod losses;
 mod store;
+#[cfg(test)]
+mod tests;
 
 pub use batch::{Batch, Full};
 pub use store::{Lost, Store};

@@ -60,8 +60,10 @@ fn find_absent<R: Rack>(rack: &R, disks: u8) -> Option<DiskNo>
 
 // A call on this disk has failed, where this disk was out before it.
 fn loss_of(out: Option<DiskNo>, disk: DiskNo) -> Lost
-    ensures one { (d : ℕ) → result ≡ Lost.One d → (d ≡ disk) × ((first : ℕ) → out ≡ Some first → first ≡ disk) }
-    ensures two { (two : _) → result ≡ Lost.Two two → (two.second ≡ disk) × (out ≡ Some two.first) × (two.first ≢ disk) }
+    ensures one { (d : ℕ) → result ≡ Lost.One d
+        → (d ≡ disk) × ((first : ℕ) → out ≡ Some first → first ≡ disk) }
+    ensures two { (two : _) → result ≡ Lost.Two two
+        → (two.second ≡ disk) × (out ≡ Some two.first) × (two.first ≢ disk) }
 {
     if let Some(first) = out {
         if first != disk {
