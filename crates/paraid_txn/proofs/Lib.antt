@@ -18,3 +18,5 @@ pub mod GateLemmas
 pub mod SpotLemmas
 pub mod SwapLemmas
 pub mod WholeLemmas
+pub mod PutsLemmas
+pub mod StepsLemmas
