@@ -20,3 +20,5 @@ pub mod SwapLemmas
 pub mod WholeLemmas
 pub mod PutsLemmas
 pub mod StepsLemmas
+pub mod PartsLemmas
+pub mod ReadyLemmas

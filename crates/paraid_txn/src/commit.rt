@@ -127,6 +127,7 @@ fn write_log<R: Rack>(
 }
 
 // Step 2 on one log disk.
+#[tactic(auto, using(crate::proofs::ReadyLemmas::log_stays_ready))]
 fn open_gate<R: Rack>(
     rack: &mut R,
     losses: &mut Losses,
@@ -262,6 +263,7 @@ fn settle_all<R: Rack>(
 }
 
 // Step 4 on one log disk.
+#[tactic(auto, using(crate::proofs::ReadyLemmas::log_stays_ready))]
 fn mark<R: Rack>(
     rack: &mut R,
     losses: &mut Losses,
@@ -292,6 +294,7 @@ fn mark<R: Rack>(
 }
 
 // Step 5 on one log disk.
+#[tactic(auto, using(crate::proofs::ReadyLemmas::log_stays_ready))]
 fn close_gate<R: Rack>(
     rack: &mut R,
     losses: &mut Losses,

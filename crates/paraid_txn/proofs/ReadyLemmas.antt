@@ -1,0 +1,26 @@
+-- What can be written before some calls of a commit can be written after them.
+use Rattle.std.specs.Prelude.{◌≡◌, ◌≢◌, ℕ, ◌<◌, true, List, Option, Some}
+use Rattle.std.proofs.Common.{sym, ap, subst, ◌∙◌, arith}
+use Rattle.paraid_rack.specs.Disks.{is_present}
+use Rattle.paraid_rack.specs.Slots.{Slot}
+use Rattle.paraid_record.specs.declared.targets.Target.{Target}
+use Rattle.paraid_txn.specs.declared.losses.Losses.{Losses}
+use Rattle.paraid_txn.specs.Losses.{CanWrite, Lasts}
+use Rattle.paraid_txn.specs.Ready.{AreTargetsReady, IsLogReady}
+
+pub can_still_write : {from to : Losses} {old new : ℕ → Slot} {d p : ℕ} → Lasts from to old new → CanWrite old d p → CanWrite new d p
+can_still_write {old} {new} {d} {p} lasts can =
+    let was : is_present (new d).power ≡ true → is_present (old d).power ≡ true = λ here. ap is_present (sym (lasts.power d here)) ∙ here in
+    record {
+      spins = λ here. lasts.power d here ∙ can.spins (was here);
+      within = λ here. subst (λ (n : ℕ). p < n) (sym (lasts.size d here)) (can.within (was here));
+    }
+
+pub log_stays_ready : {from to : Losses} {old new : ℕ → Slot} {skip : Option ℕ} → Lasts from to old new → IsLogReady skip old → IsLogReady skip new
+log_stays_ready lasts ready = record { can = λ x low not. can_still_write lasts (ready.can x low not) }
+
+pub targets_stay_ready : {from to : Losses} {old new : ℕ → Slot} (skip : Option ℕ) (count now : ℕ) (ts : List Target)
+    → Lasts from to old new → now ≡ count → AreTargetsReady skip count old ts → AreTargetsReady skip now new ts
+targets_stay_ready skip count now ts lasts same ready k t lt =
+    let was = ready k t lt in
+    (omega arith, λ not. can_still_write lasts (was.1 not))
