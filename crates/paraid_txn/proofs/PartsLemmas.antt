@@ -1,6 +1,6 @@
 -- The calls of a commit, from stage to stage, whole at each moment.
 use Rattle.std.specs.Prelude.{◌≡◌, ◌≢◌, ℕ, ◌+◌, ◌<◌, ◌≤◌, Bool, true, false, length, get_or, Option, Some}
-use Rattle.std.proofs.Common.{sym, subst}
+use Rattle.std.proofs.Common.{refl, sym, subst}
 use Rattle.paraid_base.specs.declared.block.Block.{Block}
 use Rattle.paraid_base.specs.Xor.{zeroed}
 use Rattle.paraid_rack.specs.declared.call.Call.{Call}
@@ -32,6 +32,10 @@ from {P} {A} {A'} {B} {old} {new} is ran = weaker P A A' B B old new is (λ s b.
 -- and one from which another stage follows at its end
 pub upto : {P A B B' : Disks → Type 0} {old new : Option Trail} → ((s : Disks) → B s → B' s) → Ran old new (Runs P A B) → Ran old new (Runs P A B')
 upto {P} {A} {B} {B'} {old} {new} is ran = weaker P A A B B' old new (λ s a. a) is ran
+
+-- no call
+pub nothing_ran : {P A : Disks → Type 0} {told : Option Trail} → ((s : Disks) → A s → P s) → Ran told told (Runs P A A)
+nothing_ran {P} {A} {told} is = stays P A A told is (λ t tells a. a)
 
 module _ (j : Job) (good : IsSpelled j) where
   pub log_whole : (k : ℕ) (s : Disks) → Log j k s → Whole j s
@@ -74,22 +78,22 @@ by : {old new : Option Trail} {slot : ℕ → Slot} {as_named skip : Option ℕ}
     → MayDo old new slot skip k call → MayDo old new slot as_named k call
 by {old} {new} {slot} {k} {call} is may = subst (λ (o : Option ℕ). MayDo old new slot o k call) (sym is) may
 
--- the block that is written, by what the job says of it
-of : {old new : Option Trail} {slot : ℕ → Slot} {skip : Option ℕ} {k d p : ℕ} {b b' : Block} → b ≡ b'
-    → MayDo old new slot skip k (λ done. Write d p b' done) → MayDo old new slot skip k (λ done. Write d p b done)
-of {old} {new} {slot} {skip} {k} {d} {p} is may = subst (λ (u : Block). MayDo old new slot skip k (λ done. Write d p u done)) (sym is) may
+-- what is written and where, by what the job says of it
+of : {old new : Option Trail} {slot : ℕ → Slot} {skip : Option ℕ} {d d' p p' : ℕ} {b b' : Block} → d ≡ d' → p ≡ p' → b ≡ b'
+    → MayDo old new slot skip d' (λ done. Write d' p' b' done) → MayDo old new slot skip d (λ done. Write d p b done)
+of is at same may = rw (is, at, same) may
 
 module _ (j : Job) (good : IsSpelled j) {old new : Option Trail} {slot : ℕ → Slot} (agrees : (t : Trail) → old ≡ Some t → Agrees (now t) slot) {skip : Option ℕ} where
   module _ (is : named j ≡ skip) (k : ℕ) where
     pub log_meta_ran : {b : Block} → j.spelled ≡ b → MayDo old new slot skip k (λ done. Write k 2 b done) → Ran old new (Runs (Whole j) (Log j k) (LogMeta j k))
-    log_meta_ran same may = put_ran agrees (of same (by is may)) (log_whole j good k) (log_meta_whole j good k) (log_meta j good k)
+    log_meta_ran same may = put_ran agrees (of refl refl same (by is may)) (log_whole j good k) (log_meta_whole j good k) (log_meta j good k)
 
     pub log_list_ran : {b : Block} → j.list ≡ b → MayDo old new slot skip k (λ done. Write k 3 b done) → Ran old new (Runs (Whole j) (LogMeta j k) (LogIn j k 0))
-    log_list_ran same may = put_ran agrees (of same (by is may)) (log_meta_whole j good k) (log_in_whole j good k 0) (log_list j good k)
+    log_list_ran same may = put_ran agrees (of refl refl same (by is may)) (log_meta_whole j good k) (log_in_whole j good k 0) (log_list j good k)
 
-    pub log_block_ran : (n : ℕ) {b : Block} → n < length j.batch → body j n ≡ b → MayDo old new slot skip k (λ done. Write k (4 + n) b done)
+    pub log_block_ran : (n : ℕ) {p : ℕ} {b : Block} → n < length j.batch → 4 + n ≡ p → body j n ≡ b → MayDo old new slot skip k (λ done. Write k p b done)
         → Ran old new (Runs (Whole j) (LogIn j k n) (LogIn j k (n + 1)))
-    log_block_ran n lt same may = put_ran agrees (of same (by is may)) (log_in_whole j good k n) (log_in_whole j good k (n + 1)) (λ s s' w a. log_block j good k n s s' lt w a)
+    log_block_ran n lt at same may = put_ran agrees (of refl at same (by is may)) (log_in_whole j good k n) (log_in_whole j good k (n + 1)) (λ s s' w a. log_block j good k n s s' lt w a)
 
     pub log_sync_ran : MayDo old new slot skip k (λ done. Sync k done) → Ran old new (Runs (Whole j) (LogIn j k (length j.batch)) (Log j (k + 1)))
     log_sync_ran may = settle_ran agrees (by is may) (log_in_whole j good k (length j.batch)) (log_whole j good (k + 1)) (log_sync j good k)
@@ -101,7 +105,7 @@ module _ (j : Job) (good : IsSpelled j) {old new : Option Trail} {slot : ℕ →
     open_sync_ran may = settle_ran agrees (by is may) (open_in_whole j good k) (open_whole j good (k + 1)) (open_sync j good k)
 
     pub mark_write_ran : {b : Block} → j.spelled ≡ b → MayDo old new slot skip k (λ done. Write k 1 b done) → Ran old new (Runs (Whole j) (Mark j k) (MarkIn j k))
-    mark_write_ran same may = put_ran agrees (of same (by is may)) (mark_whole j good k) (mark_in_whole j good k) (mark_write j good k)
+    mark_write_ran same may = put_ran agrees (of refl refl same (by is may)) (mark_whole j good k) (mark_in_whole j good k) (mark_write j good k)
 
     pub mark_sync_ran : MayDo old new slot skip k (λ done. Sync k done) → Ran old new (Runs (Whole j) (MarkIn j k) (Mark j (k + 1)))
     mark_sync_ran may = settle_ran agrees (by is may) (mark_in_whole j good k) (mark_whole j good (k + 1)) (mark_sync j good k)

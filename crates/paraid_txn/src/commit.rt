@@ -50,6 +50,7 @@ fn gate(opened: bool) -> Block
 }
 
 // Step 1: the blocks of the batch, on one log disk.
+#[tactic(auto, using(crate::proofs::ReadyLemmas::log_stays_ready))]
 fn put_blocks<R: Rack>(
     rack: &mut R,
     losses: &mut Losses,
@@ -90,6 +91,7 @@ fn put_blocks<R: Rack>(
 }
 
 // Step 1 on one log disk.
+#[tactic(auto, using(crate::proofs::ReadyLemmas::log_stays_ready))]
 fn write_log<R: Rack>(
     rack: &mut R,
     losses: &mut Losses,
