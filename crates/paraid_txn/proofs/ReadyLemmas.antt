@@ -24,3 +24,9 @@ pub targets_stay_ready : {from to : Losses} {old new : ℕ → Slot} (skip : Opt
 targets_stay_ready skip count now ts lasts same ready k t lt =
     let was = ready k t lt in
     (omega arith, λ not. can_still_write lasts (was.1 not))
+
+-- each place of the log can be written
+pub log_can : {slot : ℕ → Slot} {skip : Option ℕ} {d : ℕ} (p : ℕ) → IsLogReady skip slot → d < 2 → p < 100 → skip ≢ Some d → CanWrite slot d p
+log_can p ready log_disk low not =
+    let can = ready.can _ log_disk not in
+    record { spins = can.spins; within = λ here. let all = can.within here in omega arith }
