@@ -19,6 +19,7 @@ pub mod SpotLemmas
 pub mod SwapLemmas
 pub mod WholeLemmas
 pub mod PutsLemmas
+pub mod TargetsLemmas
 pub mod StepsLemmas
 pub mod PartsLemmas
 pub mod ReadyLemmas

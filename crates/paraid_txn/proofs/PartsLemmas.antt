@@ -1,6 +1,6 @@
 -- The calls of a commit, from stage to stage, whole at each moment.
 use Rattle.std.specs.Prelude.{◌≡◌, ◌≢◌, ℕ, ◌+◌, ◌<◌, ◌≤◌, Bool, true, false, length, get_or, Option, Some}
-use Rattle.std.proofs.Common.{refl, sym, subst}
+use Rattle.std.proofs.Common.{refl, sym, ap, subst}
 use Rattle.paraid_base.specs.declared.block.Block.{Block}
 use Rattle.paraid_base.specs.Xor.{zeroed}
 use Rattle.paraid_rack.specs.declared.call.Call.{Call}
@@ -9,12 +9,14 @@ use Rattle.paraid_rack.specs.Disks.{Disks}
 use Rattle.paraid_rack.specs.Slots.{Agrees, Slot}
 use Rattle.paraid_rack.specs.Told.{Ran, Runs}
 use Rattle.paraid_rack.specs.Trail.{Trail, now}
+use Rattle.paraid_record.specs.declared.targets.Target.{Target}
 use Rattle.paraid_rack.proofs.TrailsLemmas.{stays, then, weaker}
 use Rattle.paraid_txn.specs.Losses.{MayDo}
 use Rattle.paraid_txn.specs.Sides.{is_open}
 use Rattle.paraid_txn.specs.Stages.{Close, CloseIn, IsSpelled, Job, LayIn, Log, LogIn, LogMeta, Mark, MarkIn, Open, OpenIn, SettleIn, Whole, body, gone, named}
 use Rattle.paraid_txn.proofs.PutsLemmas.{put_ran, settle_ran}
-use Rattle.paraid_txn.proofs.StepsLemmas.{close_sync, close_write, lay_end, lay_one, log_block, log_end, log_list, log_meta, log_sync, mark_end, mark_sync, mark_write, open_end, open_sync, open_write, settle_end, settle_none, settle_one, target_at}
+use Rattle.paraid_txn.proofs.StepsLemmas.{close_sync, close_write, lay_end, lay_one, log_block, log_end, log_list, log_meta, log_sync, mark_end, mark_sync, mark_write, open_end, open_sync, open_write, settle_end, settle_none, settle_one}
+use Rattle.paraid_txn.proofs.TargetsLemmas.{target_at}
 use Rattle.paraid_txn.proofs.WholeLemmas.{closing_whole, laying_whole, logging_whole, marking_whole, opening_whole}
 
 -- one part after the other, with its stages found from the parts
@@ -117,10 +119,10 @@ module _ (j : Job) (good : IsSpelled j) {old new : Option Trail} {slot : ℕ →
     close_sync_ran may = settle_ran agrees (by is may) (close_in_whole j good k) (close_whole j good (k + 1)) (close_sync j good k)
 
   module _ (is : gone j ≡ skip) (n : ℕ) where
-    pub lay_ran : n < length j.batch → 100 ≤ (target_at j.batch n).place
-        → MayDo old new slot skip (target_at j.batch n).disk (λ done. Write (target_at j.batch n).disk (target_at j.batch n).place (body j n) done)
-        → Ran old new (Runs (Whole j) (LayIn j n) (LayIn j (n + 1)))
-    lay_ran lt far may = put_ran agrees (by is may) (lay_whole j good n) (lay_whole j good (n + 1)) (λ s s' w a. lay_one j good n s s' lt far w a)
+    pub lay_ran : (t : Target) {b : Block} → n < length j.batch → target_at j.batch n ≡ t → 100 ≤ t.place → body j n ≡ b
+        → MayDo old new slot skip t.disk (λ done. Write t.disk t.place b done) → Ran old new (Runs (Whole j) (LayIn j n) (LayIn j (n + 1)))
+    lay_ran t lt at far same may = put_ran agrees (of (ap (λ (u : Target). u.disk) at) (ap (λ (u : Target). u.place) at) same (by is may))
+        (lay_whole j good n) (lay_whole j good (n + 1)) (λ s s' w a. lay_one j good n s s' lt (subst (λ (u : Target). 100 ≤ u.place) (sym at) far) w a)
 
     pub settle_one_ran : MayDo old new slot skip n (λ done. Sync n done) → Ran old new (Runs (Whole j) (SettleIn j n) (SettleIn j (n + 1)))
     settle_one_ran may = settle_ran agrees (by is may) (settle_whole j good n) (settle_whole j good (n + 1)) (settle_one j good n)

@@ -1,11 +1,11 @@
 -- What can be written before some calls of a commit can be written after them.
 use Rattle.std.specs.Prelude.{◌≡◌, ◌≢◌, ℕ, ◌<◌, true, List, Option, Some}
-use Rattle.std.proofs.Common.{sym, ap, subst, ◌∙◌, arith}
+use Rattle.std.proofs.Common.{sym, ap, subst, ◌∙◌, inl, inr, ⊎_elim, arith}
 use Rattle.paraid_rack.specs.Disks.{is_present}
 use Rattle.paraid_rack.specs.Slots.{Slot}
 use Rattle.paraid_record.specs.declared.targets.Target.{Target}
 use Rattle.paraid_txn.specs.declared.losses.Losses.{Losses}
-use Rattle.paraid_txn.specs.Losses.{CanWrite, Lasts}
+use Rattle.paraid_txn.specs.Losses.{AreDryBut, CanWrite, Lasts}
 use Rattle.paraid_txn.specs.Ready.{AreTargetsReady, IsLogReady}
 
 pub can_still_write : {from to : Losses} {old new : ℕ → Slot} {d p : ℕ} → Lasts from to old new → CanWrite old d p → CanWrite new d p
@@ -30,3 +30,13 @@ pub log_can : {slot : ℕ → Slot} {skip : Option ℕ} {d : ℕ} (p : ℕ) → 
 log_can p ready log_disk low not =
     let can = ready.can _ log_disk not in
     record { spins = can.spins; within = λ here. let all = can.within here in omega arith }
+
+-- what is wet after some calls was so before them, or may be by the one part or the other
+pub dry_then : {from to : Losses} (old : ℕ → Slot) {mid new : ℕ → Slot} (first second may : ℕ → Type 0) → Lasts from to mid new
+    → ((d : ℕ) → first d → may d) → ((d : ℕ) → second d → may d)
+    → AreDryBut first old mid → AreDryBut second mid new → AreDryBut may old new
+dry_then old first second may lasts of_first of_second before after d here wet =
+    elim (after d here wet) [
+      | inl was ↦ ⊎_elim (λ dirty. inl dirty) (λ is. inr (of_first d is)) (before d (ap is_present (sym (lasts.power d here)) ∙ here) was)
+      | inr is ↦ inr (of_second d is)
+    ]

@@ -17,64 +17,7 @@ use Rattle.paraid_txn.specs.Staging.{blocks}
 use Rattle.paraid_txn.specs.Stages.{AllDry, Close, CloseIn, Dry, DryBut, Is, IsAside, IsBeside, IsIn, IsKept, IsLive, IsSpelled, Job, Laid, LayIn, Laying, Log, LogIn, LogMeta, Logged, Logging, Mark, MarkIn, OldMetas, Open, OpenIn, Opened, SettleIn, Shut, Untouched, becomes, body, gone, named, was}
 use Rattle.paraid_txn.specs.Standing.{laid}
 use Rattle.paraid_txn.proofs.PutsLemmas.{Puts, Settles, skips}
-
--- Lists of targets
-
-length-targets : (batch : Batch) → length (targets batch) ≡ length batch
-length-targets [] = refl
-length-targets (w ∷ batch) = ap suc (length-targets batch)
-
-or_true : (x : Bool) → (x || true) ≡ true
-or_true true = refl
-or_true false = refl
-
-abbrev pub target_at : Batch → ℕ → Target
-target_at batch n = get_or (targets batch) n no_target
-
-is_at : (d0 p0 d p : ℕ) → d ≡ d0 → p ≡ p0 → (d0 == d && p0 == p) ≡ true
-is_at d0 p0 d p is at = and_from (d0 == d) (p0 == p) (eq-eqb d0 d (sym is)) (eq-eqb p0 p (sym at))
-
-is_not_at : (d0 p0 d p : ℕ) → (d ≡ d0 → p ≢ p0) → (d0 == d && p0 == p) ≡ false
-is_not_at d0 p0 d p apart = elim (cases_Bool (d0 == d && p0 == p)) [
-  | inl on ↦ let parts = and_parts (d0 == d) (p0 == p) on in
-      absurd (apart (sym (eqb-true d0 d parts.0)) (sym (eqb-true p0 p parts.1)))
-  | inr off ↦ off
-]
-
-pub names-target_at : (batch : Batch) (n : ℕ) → n < length batch → names batch (target_at batch n).disk (target_at batch n).place ≡ true
-names-target_at [] n lt = absurd (omega arith)
-names-target_at (w ∷ batch) zero lt = ap (λ (t : Bool). t || names batch w.0.disk w.0.place)
-    (is_at w.0.disk w.0.place w.0.disk w.0.place refl refl)
-names-target_at (w ∷ batch) (suc n) lt =
-    let t = target_at batch n in
-    ap (λ (b : Bool). (w.0.disk == t.disk && w.0.place == t.place) || b) (names-target_at batch n (omega arith))
-    ∙ or_true (w.0.disk == t.disk && w.0.place == t.place)
-
--- one more target is laid over what the first ones leave
-laid-next : (batch : Batch) (n d p : ℕ) (b : Block) → n < length batch
-    → laid (take (suc n) batch) d p b ≡ (if (target_at batch n).disk == d && (target_at batch n).place == p
-    then get_or (blocks batch) n zeroed else laid (take n batch) d p b)
-laid-next [] n d p b lt = absurd (omega arith)
-laid-next (w ∷ batch) zero d p b lt = refl
-laid-next (w ∷ batch) (suc n) d p b lt = laid-next batch n d p (if w.0.disk == d && w.0.place == p then w.1 else b) (omega arith)
-
-pub laid-next_here : (batch : Batch) (n d p : ℕ) (b : Block) → n < length batch
-    → d ≡ (target_at batch n).disk → p ≡ (target_at batch n).place
-    → laid (take (n + 1) batch) d p b ≡ get_or (blocks batch) n zeroed
-laid-next_here batch n d p b lt is at =
-    let t = target_at batch n in
-    let more : n + 1 ≡ suc n = omega arith in
-    ap (λ (k : ℕ). laid (take k batch) d p b) more ∙ laid-next batch n d p b lt
-    ∙ ap (λ (c : Bool). if c then get_or (blocks batch) n zeroed else laid (take n batch) d p b) (is_at t.disk t.place d p is at)
-
-pub laid-next_else : (batch : Batch) (n d p : ℕ) (b : Block) → n < length batch
-    → (d ≡ (target_at batch n).disk → p ≢ (target_at batch n).place)
-    → laid (take (n + 1) batch) d p b ≡ laid (take n batch) d p b
-laid-next_else batch n d p b lt apart =
-    let t = target_at batch n in
-    let more : n + 1 ≡ suc n = omega arith in
-    ap (λ (k : ℕ). laid (take k batch) d p b) more ∙ laid-next batch n d p b lt
-    ∙ ap (λ (c : Bool). if c then get_or (blocks batch) n zeroed else laid (take n batch) d p b) (is_not_at t.disk t.place d p apart)
+use Rattle.paraid_txn.proofs.TargetsLemmas.{laid-next_else, laid-next_here, length-targets, names-target_at, target_at}
 
 -- this place, or another
 same_or_apart : (d p d0 p0 : ℕ) → ((d ≡ d0) × (p ≡ p0)) ⊎ (d ≡ d0 → p ≢ p0)

@@ -20,7 +20,8 @@ next g c j good is same =
     let n = c.loop-at.at in
     let long : length j.batch ≡ length c.args.batch.now = ap length same in
     let lt : n < length j.batch = omega arith in
-    let block : body j n ≡ c.block.result.now = ap (λ (batch : Batch). get_or (blocks batch) n zeroed) same ∙ sym c.block.ensures in
+    let held : get_or (blocks c.args.batch.now) n zeroed ≡ c.block.result.now = cc in
+    let block : body j n ≡ c.block.result.now = ap (λ (batch : Batch). get_or (blocks batch) n zeroed) same ∙ held in
     andthen (c.loop-at.invariant.ran j good is same)
     (log_block_ran j good (g.met.R.Rack.agrees c.loop-at.rack) is c.args.disk n lt (omega arith) block c.put.ensures.does)
 
