@@ -14,9 +14,10 @@ use Rattle.paraid_rack.proofs.TrailsLemmas.{stays, then, weaker}
 use Rattle.paraid_txn.specs.Losses.{MayDo}
 use Rattle.paraid_txn.specs.Sides.{is_open}
 use Rattle.paraid_txn.specs.Stages.{Close, CloseIn, IsSpelled, Job, LayIn, Log, LogIn, LogMeta, Mark, MarkIn, Open, OpenIn, SettleIn, Whole, body, gone, named}
+use Rattle.paraid_txn.specs.Staging.{names_disk}
 use Rattle.paraid_txn.proofs.PutsLemmas.{put_ran, settle_ran}
 use Rattle.paraid_txn.proofs.StepsLemmas.{close_sync, close_write, lay_end, lay_one, log_block, log_end, log_list, log_meta, log_sync, mark_end, mark_sync, mark_write, open_end, open_sync, open_write, settle_end, settle_none, settle_one}
-use Rattle.paraid_txn.proofs.TargetsLemmas.{target_at}
+use Rattle.paraid_txn.proofs.TargetsLemmas.{names-no_disk, target_at}
 use Rattle.paraid_txn.proofs.WholeLemmas.{closing_whole, laying_whole, logging_whole, marking_whole, opening_whole}
 
 -- one part after the other, with its stages found from the parts
@@ -126,3 +127,9 @@ module _ (j : Job) (good : IsSpelled j) {old new : Option Trail} {slot : ℕ →
 
     pub settle_one_ran : MayDo old new slot skip n (λ done. Sync n done) → Ran old new (Runs (Whole j) (SettleIn j n) (SettleIn j (n + 1)))
     settle_one_ran may = settle_ran agrees (by is may) (settle_whole j good n) (settle_whole j good (n + 1)) (settle_one j good n)
+
+-- a disk that has no targets gets no sync
+module _ (j : Job) (good : IsSpelled j) {told : Option Trail} where
+  pub settle_none_ran : (n : ℕ) → names_disk j.batch n ≡ false → Ran told told (Runs (Whole j) (SettleIn j n) (SettleIn j (n + 1)))
+  settle_none_ran n off = stays (Whole j) (SettleIn j n) (SettleIn j (n + 1)) told (settle_whole j good (n + 1))
+      (λ t tells a. settle_none j good n (now t) (λ p. names-no_disk j.batch n p off) a)

@@ -1,12 +1,16 @@
 -- What can be written before some calls of a commit can be written after them.
 use Rattle.std.specs.Prelude.{◌≡◌, ◌≢◌, ℕ, ◌<◌, true, List, Option, Some}
 use Rattle.std.proofs.Common.{sym, ap, subst, ◌∙◌, inl, inr, ⊎_elim, arith}
+use Rattle.std.proofs.lemmas.Bool.{cases_Bool, false≢true}
 use Rattle.paraid_rack.specs.Disks.{is_present}
 use Rattle.paraid_rack.specs.Slots.{Slot}
 use Rattle.paraid_record.specs.declared.targets.Target.{Target}
 use Rattle.paraid_txn.specs.declared.losses.Losses.{Losses}
-use Rattle.paraid_txn.specs.Losses.{AreDryBut, CanWrite, Lasts}
+use Rattle.paraid_txn.specs.Losses.{AreDry, AreDryBut, CanWrite, IsDryAt, Lasts}
 use Rattle.paraid_txn.specs.Ready.{AreTargetsReady, IsLogReady}
+use Rattle.paraid_txn.specs.Sides.{Batch, targets}
+use Rattle.paraid_txn.specs.Staging.{names_disk}
+use Rattle.paraid_txn.proofs.TargetsLemmas.{target_on}
 
 pub can_still_write : {from to : Losses} {old new : ℕ → Slot} {d p : ℕ} → Lasts from to old new → CanWrite old d p → CanWrite new d p
 can_still_write {old} {new} {d} {p} lasts can =
@@ -40,3 +44,18 @@ dry_then old first second may lasts of_first of_second before after d here wet =
       | inl was ↦ ⊎_elim (λ dirty. inl dirty) (λ is. inr (of_first d is)) (before d (ap is_present (sym (lasts.power d here)) ∙ here) was)
       | inr is ↦ inr (of_second d is)
     ]
+
+-- a disk that has targets can be synced
+pub disk_can : {slot : ℕ → Slot} {skip : Option ℕ} {count : ℕ} (batch : Batch) (d : ℕ) → AreTargetsReady skip count slot (targets batch)
+    → names_disk batch d ≡ true → skip ≢ Some d → CanWrite slot d 0
+disk_can {slot} {skip} {count} batch d ready on not =
+    let t = target_on (λ (t : Target). (t.disk < count) × (skip ≢ Some t.disk → CanWrite slot t.disk t.place)) batch d ready on in
+    let can = t.2.1 (λ is. not (rw (← (t.1)) is)) in
+    rw (← (t.1)) (record { spins = can.spins; within = λ here. let most = can.within here in omega arith })
+
+-- a disk that is dry stays so where no other gets wet
+pub stays_dry : {from to : Losses} (old : ℕ → Slot) {new : ℕ → Slot} (d : ℕ) → Lasts from to old new → AreDry old new → IsDryAt old d → IsDryAt new d
+stays_dry old {new} d lasts dry was here = elim (cases_Bool (new d).unsynced) [
+  | inl wet ↦ ⊎_elim (λ dirty. absurd (false≢true (sym (was (ap is_present (sym (lasts.power d here)) ∙ here)) ∙ dirty))) (λ none. absurd none) (dry d here wet)
+  | inr off ↦ off
+]

@@ -1,6 +1,6 @@
 -- From stage to stage of a commit.
 use Rattle.std.specs.Prelude.{◌≡◌, ◌≢◌, ◌⊎◌, ℕ, ◌+◌, ◌<◌, ◌≤◌, ◌==◌, ◌&&◌, ◌||◌, Bool, true, false, [], ◌∷◌, length, take, get_or, Option, Some, if◌then◌else◌}
-use Rattle.std.proofs.Common.{zero, suc, refl, sym, ap, subst, ◌∙◌, inl, inr, ⊎_elim, arith}
+use Rattle.std.proofs.Common.{zero, suc, refl, sym, ap, subst, ◌∙◌, inl, inr, ⊎_elim, arith, below_more}
 use Rattle.std.proofs.lemmas.Bool.{and_from, cases_Bool, cases_eq, cases_lt, eq-eqb, eqb-true, and_parts, false≢true}
 use Rattle.std.proofs.lemmas.List.{take_all}
 use Rattle.paraid_base.specs.declared.block.Block.{Block}
@@ -24,13 +24,6 @@ same_or_apart : (d p d0 p0 : ℕ) → ((d ≡ d0) × (p ≡ p0)) ⊎ (d ≡ d0 �
 same_or_apart d p d0 p0 = elim (cases_eq d d0) [
   | inl is ↦ elim (cases_eq p p0) [ inl there ↦ inl (is, there) | inr not ↦ inr (λ _. not) ]
   | inr not ↦ inr (λ is. absurd (not is))
-]
-
--- what holds below k and at k
-up_to : (P : ℕ → Type 0) (k : ℕ) → ((x : ℕ) → x < k → P x) → P k → (x : ℕ) → x < k + 1 → P x
-up_to P k below here x lt = elim (cases_eq x k) [
-  | inl is ↦ subst P (sym is) here
-  | inr not ↦ below x (omega arith)
 ]
 
 -- a place of the batch in the log is apart from the gate, the meta and what is past the log
@@ -155,7 +148,7 @@ module _ (j : Job) (good : IsSpelled j) where
         dry = dry_wrote (named j) s s' k (4 + n) (body j n) w c.dry;
         meta = λ not. w.seen k 2 _ (λ _ at there. omega arith) (c.meta not);
         list = λ not. w.seen k 3 _ (λ _ at there. omega arith) (c.list not);
-        blocks = up_to (λ m. named j ≢ Some k → Seen s' k (4 + m) (Is (body j m))) n
+        blocks = below_more (λ m. named j ≢ Some k → Seen s' k (4 + m) (Is (body j m))) n
             (λ m below not. w.seen k (4 + m) _ (λ _ at there. omega arith) (c.blocks m below not)) (λ not. w.here _ not refl);
       }
 
@@ -165,7 +158,7 @@ module _ (j : Job) (good : IsSpelled j) where
       beside = beside_synced j (named j) s s' k w c.core.beside;
       meta = λ x live. w.sure x 1 _ (c.core.meta x live);
       shut = λ x live. w.sure x 0 _ (c.core.shut x live);
-      logged = up_to (λ x. IsLive j x → Logged j s' x) k
+      logged = below_more (λ x. IsLive j x → Logged j s' x) k
           (λ x below live. logged_synced (named j) s s' k x w (c.core.logged x below live))
           (λ live. record {
             meta = w.here 2 _ live.1 (c.meta live.1);
@@ -210,7 +203,7 @@ module _ (j : Job) (good : IsSpelled j) where
       beside = beside_synced j (named j) s s' k w c.core.beside;
       meta = λ x live. w.sure x 1 _ (c.core.meta x live);
       logged = λ x live. logged_synced (named j) s s' k x w (c.core.logged x live);
-      opened = up_to (λ x. IsLive j x → Opened s' x) k
+      opened = below_more (λ x. IsLive j x → Opened s' x) k
           (λ x below live. w.sure x 0 _ (c.core.opened x below live)) (λ live. w.here 0 _ live.1 (c.gate live.1));
       held = untouched_synced j (named j) s s' k w c.core.held;
     };
@@ -287,7 +280,7 @@ module _ (j : Job) (good : IsSpelled j) where
   settle_one n s s' w c = record {
     core = laying_synced s s' n w c.core;
     held = λ d p isin far. w.seen d p _ (c.held d p isin far);
-    settled = λ d p lt. up_to (λ e. (q : ℕ) → Dry s' e q) n (λ e below q. w.sure e q _ (c.settled e q below)) here d lt p;
+    settled = λ d p lt. below_more (λ e. (q : ℕ) → Dry s' e q) n (λ e below q. w.sure e q _ (c.settled e q below)) here d lt p;
   }
     where
       here : (q : ℕ) → Dry s' n q
@@ -301,7 +294,7 @@ module _ (j : Job) (good : IsSpelled j) where
   settle_none n s off c = record {
     core = c.core;
     held = c.held;
-    settled = λ d p lt. up_to (λ e. (q : ℕ) → Dry s e q) n (λ e below q. c.settled e q below)
+    settled = λ d p lt. below_more (λ e. (q : ℕ) → Dry s e q) n (λ e below q. c.settled e q below)
         (λ q. ⊎_elim (λ on. absurd (false≢true (sym (off q) ∙ on.0))) (λ dry. dry) (c.core.dry n q)) d lt p;
   }
 
@@ -344,7 +337,7 @@ module _ (j : Job) (good : IsSpelled j) where
       beside = beside_synced j (named j) s s' k w c.core.beside;
       logged = λ x live. logged_synced (named j) s s' k x w (c.core.logged x live);
       opened = λ x live. w.sure x 0 _ (c.core.opened x live);
-      meta = up_to (λ x. IsLive j x → Sure s' x 1 (Is j.spelled)) k
+      meta = below_more (λ x. IsLive j x → Sure s' x 1 (Is j.spelled)) k
           (λ x below live. w.sure x 1 _ (c.core.meta x below live)) (λ live. w.here 1 _ live.1 (c.meta live.1));
       held = laid_synced j (named j) s s' k w c.core.held;
     };
@@ -384,7 +377,7 @@ module _ (j : Job) (good : IsSpelled j) where
       beside = beside_synced j (named j) s s' k w c.core.beside;
       logged = λ x live. logged_synced (named j) s s' k x w (c.core.logged x live);
       meta = λ x live. w.sure x 1 _ (c.core.meta x live);
-      shut = up_to (λ x. IsLive j x → Shut s' x) k
+      shut = below_more (λ x. IsLive j x → Shut s' x) k
           (λ x below live. w.sure x 0 _ (c.core.shut x below live)) (λ live. w.here 0 _ live.1 (c.gate live.1));
       held = laid_synced j (named j) s s' k w c.core.held;
     };

@@ -97,3 +97,11 @@ names_disk-below batch n d below on = elim (cases_lt d n) [
   | inl lt ↦ lt
   | inr le ↦ absurd (false≢true (sym (names_disk-above batch n d below le) ∙ on))
 ]
+
+-- what holds of all targets holds of one on each disk that has targets
+pub target_on : (P : Target → Type 0) (batch : Batch) (d : ℕ) → All P (targets batch) → names_disk batch d ≡ true → (t : Target) × (t.disk ≡ d) × P t
+target_on P [] d all on = absurd (false≢true on)
+target_on P (w ∷ batch) d all on = elim (cases_Bool (w.0.disk == d)) [
+  | inl is ↦ (w.0, eqb-true w.0.disk d is, All-head P w.0 (targets batch) all)
+  | inr not ↦ target_on P batch d (All-tail P w.0 (targets batch) all) (ap (λ (b : Bool). b || names_disk batch d) (sym not) ∙ on)
+]
