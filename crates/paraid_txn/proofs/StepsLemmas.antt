@@ -260,10 +260,10 @@ module _ (j : Job) (good : IsSpelled j) where
         ];
       }
 
-  pub lay_end : (s : Disks) → LayIn j (length j.batch) s → SettleIn j 0 s
-  lay_end s c = record {
+  pub lay_end : (n : ℕ) → length j.batch ≡ n → (s : Disks) → LayIn j n s → SettleIn j 0 s
+  lay_end n all s c = record {
     core = c.core;
-    held = λ d p isin far. subst (λ (l : Batch). Seen s d p (Is (laid l d p (was j d p)))) (take_all (length j.batch) j.batch (omega arith)) (c.held d p isin far);
+    held = λ d p isin far. subst (λ (l : Batch). Seen s d p (Is (laid l d p (was j d p)))) (take_all n j.batch (omega arith)) (c.held d p isin far);
     settled = λ d p lt. absurd (omega arith);
   }
 

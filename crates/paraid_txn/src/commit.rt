@@ -328,6 +328,7 @@ fn close_gate<R: Rack>(
 }
 
 // Step 1 on both log disks.
+#[tactic(auto, using(crate::proofs::ReadyLemmas::log_stays_ready))]
 fn write_logs<R: Rack>(
     rack: &mut R,
     losses: &mut Losses,
@@ -360,6 +361,7 @@ fn write_logs<R: Rack>(
 }
 
 // Step 2 on both log disks.
+#[tactic(auto, using(crate::proofs::ReadyLemmas::log_stays_ready))]
 fn open_gates<R: Rack>(rack: &mut R, losses: &mut Losses, skip: Option<DiskNo>) -> Result<(), Two>
     requires exists { 2 ≤ R.slot_count rack.old }
     requires log { IsLogReady skip (R.slot rack.old) }
@@ -414,6 +416,7 @@ fn lay_all<R: Rack>(
 }
 
 // Steps 4 and 5 on both log disks.
+#[tactic(auto, using(crate::proofs::ReadyLemmas::log_stays_ready))]
 fn finish<R: Rack>(
     rack: &mut R,
     losses: &mut Losses,
