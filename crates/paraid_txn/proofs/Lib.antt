@@ -24,3 +24,8 @@ pub mod CommitLemmas
 pub mod StoreLemmas
 pub mod DownLemmas
 pub mod StagingLemmas
+pub mod PutsLemmas
+pub mod TargetsLemmas
+pub mod StepsLemmas
+pub mod PartsLemmas
+pub mod ReadyLemmas

@@ -58,6 +58,7 @@ fn gate(opened: bool) -> Block
 }
 
 // Step 1: the blocks of the batch, on one log disk.
+#[tactic(auto, using(crate::proofs::ReadyLemmas::log_stays_ready))]
 fn put_blocks<R: Rack>(
     rack: &mut R,
     losses: &mut Losses,
@@ -98,6 +99,7 @@ fn put_blocks<R: Rack>(
 }
 
 // Step 1 on one log disk.
+#[tactic(auto, using(crate::proofs::ReadyLemmas::log_stays_ready))]
 fn write_log<R: Rack>(
     rack: &mut R,
     losses: &mut Losses,
@@ -135,6 +137,7 @@ fn write_log<R: Rack>(
 }
 
 // Step 2 on one log disk.
+#[tactic(auto, using(crate::proofs::ReadyLemmas::log_stays_ready))]
 fn open_gate<R: Rack>(
     rack: &mut R,
     losses: &mut Losses,
@@ -270,6 +273,7 @@ fn settle_all<R: Rack>(
 }
 
 // Step 4 on one log disk.
+#[tactic(auto, using(crate::proofs::ReadyLemmas::log_stays_ready))]
 fn mark<R: Rack>(
     rack: &mut R,
     losses: &mut Losses,
@@ -300,6 +304,7 @@ fn mark<R: Rack>(
 }
 
 // Step 5 on one log disk.
+#[tactic(auto, using(crate::proofs::ReadyLemmas::log_stays_ready))]
 fn close_gate<R: Rack>(
     rack: &mut R,
     losses: &mut Losses,
@@ -331,6 +336,7 @@ fn close_gate<R: Rack>(
 }
 
 // Step 1 on both log disks.
+#[tactic(auto, using(crate::proofs::ReadyLemmas::log_stays_ready))]
 fn write_logs<R: Rack>(
     rack: &mut R,
     losses: &mut Losses,
@@ -363,6 +369,7 @@ fn write_logs<R: Rack>(
 }
 
 // Step 2 on both log disks.
+#[tactic(auto, using(crate::proofs::ReadyLemmas::log_stays_ready))]
 fn open_gates<R: Rack>(rack: &mut R, losses: &mut Losses, skip: Option<DiskNo>) -> Result<(), Two>
     requires exists { 2 ≤ R.slot_count rack.old }
     requires log { IsLogReady skip (R.slot rack.old) }
@@ -417,6 +424,7 @@ fn lay_all<R: Rack>(
 }
 
 // Steps 4 and 5 on both log disks.
+#[tactic(auto, using(crate::proofs::ReadyLemmas::log_stays_ready))]
 fn finish<R: Rack>(
     rack: &mut R,
     losses: &mut Losses,
