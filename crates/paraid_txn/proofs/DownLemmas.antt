@@ -1,5 +1,5 @@
 -- What calls of a commit, one after the other, leave of the slots, and why two disks are down.
-use Rattle.std.proofs.Common.{◌≡◌, ◌≢◌, ℕ, ◌≤◌, ◌⊎◌, Bool, true, false, Option, Some, Result, Ok, Err, refl, sym, ◌∙◌, ap, subst, inl, inr, arith}
+use Rattle.std.proofs.Common.{◌≡◌, ◌≢◌, ℕ, ◌≤◌, ◌⊎◌, Bool, true, false, Option, Some, None, Result, Ok, Err, refl, sym, ◌∙◌, ap, subst, inl, inr, arith}
 use Rattle.std.specs.Prelude.{IfErr, IsErrAnd}
 use Rattle.std.proofs.lemmas.Bool.{true≢false}
 use Rattle.paraid_base.specs.declared.fault.Two.{Two}
@@ -45,6 +45,14 @@ Lasts-then a b c s t u first second = record {
     | inr risen ↦ inr (HasRisen-sooner (s d).faults (t d).faults (u d).faults (first.no_fall d) risen)
   ];
 }
+
+-- where no disk was lost before, the count of a lost one has risen
+pub Lasts-risen : (a b : Losses) (s t : ℕ → Slot) (d : ℕ) → Lasts a b s t → a.lost ≡ None → b.lost ≡ Some d
+    → HasRisen (s d).faults (t d).faults
+Lasts-risen a b s t d lasts none is = elim (lasts.lost d is) [
+  | inl was ↦ (let never : None ≡ Some d = sym none ∙ was in cc)
+  | inr risen ↦ risen
+]
 
 -- no call
 pub AreOthersWell-none : (a : Losses) (s : ℕ → Slot) → AreOthersWell a s s
