@@ -22,7 +22,7 @@
 //!
 //! A log disk that the meta names out is left alone, and so are the targets on a disk that is gone.
 //! A disk that fails is left out of the rest.
-ghost use Rattle.std.specs.Prelude.{◌≡◌, ◌≢◌, ℕ, ◌+◌, ◌<◌, ◌≤◌, true, false, length, Some, OnOk, OnErr, IfErr, IfOk, All, ◌-◌, ◌^◌};
+ghost use Rattle.std.specs.Prelude.{◌≡◌, ◌≢◌, ℕ, ◌+◌, ◌<◌, ◌≤◌, true, false, length, Some, OnOk, OnErr, IfErr, IfOk, All, AllPairs, ◌-◌, ◌^◌};
 ghost use Rattle.paraid_record.specs.declared.targets.Target.{Target as TargetType};
 ghost use Rattle.paraid_rack.specs.Disks.{Disks};
 ghost use Rattle.paraid_rack.specs.Told.{Ran, Runs};
@@ -512,7 +512,9 @@ fn gone_out(out: Out) -> Option<DiskNo>
 
 // The block that spells the targets of a batch.
 fn spell_targets(batch: &Batch) -> Block
-    ensures { result.bytes ≡ targets_bytes (targets batch.now) }
+    ensures value { result.bytes ≡ targets_bytes (targets batch.now) }
+    ensures few { length (targets batch.now) ≤ 96 }
+    ensures distinct { AllPairs (λ s t. s ≢ t) (targets batch.now) }
 {
     let mut list = Block::zero();
     write_targets(&batch.targets(), &mut list);

@@ -51,5 +51,5 @@ returns-clause-moments g c j good is same = ends (settle_whole j good c.loop-dis
 pub returns-clause-done : goal.returns-clause-done
 returns-clause-done g c j good is same =
     let above : (d p : ℕ) → c.loop-disk.disk ≤ d → names j.batch d p ≡ false = λ d p le.
-        rw same (names-no_disk c.args.batch.now d p (names_disk-above c.args.batch.now c.args.disks d c.requires.below (omega arith))) in
+    rw same (names-no_disk c.args.batch.now d p (names_disk-above c.args.batch.now c.args.disks d c.requires.below (omega arith))) in
     upto (λ s a. settle_end j good c.loop-disk.disk s above a) (c.loop-disk.invariant.ran j good is same)
