@@ -6,7 +6,7 @@ use Rattle.paraid_rack.specs.declared.call.Power.{Power}
 use Rattle.paraid_rack.specs.declared.call.Power.TheVariants.{Absent}
 use Rattle.paraid_rack.specs.declared.call.Call.TheVariants.{Read, Write, Sync}
 use Rattle.paraid_base.specs.declared.block.Block.{Block}
-use Rattle.paraid_rack.specs.Disks.{Disks, IsPresent, is_present, with_at, power_after, settled, step, IsImage, lose}
+use Rattle.paraid_rack.specs.Disks.{Disks, IsPresent, is_present, with_at, power_after, settled, size_after, step, IsImage, lose}
 use Rattle.paraid_rack.specs.Atoms.{Sure, Seen, IsLeft}
 
 pub with_at_same : {A : Type 0} (f : ℕ → A) (k : ℕ) (v : A) (j : ℕ) → j ≡ k → with_at f k v j ≡ v
@@ -47,6 +47,17 @@ done_there : (s : Disks) (d0 : ℕ) (done : Bool) (d : ℕ) → d ≡ d0 → is_
 done_there s d0 true d is h = refl
 done_there s d0 false d is h = absurd (false≢true (sym (ap is_present (with_at_same s.power d0 Absent d is)) ∙ h))
 
+-- such a call leaves the power and the size of a disk that is present after it
+kept_power : (s : Disks) (d0 : ℕ) (done : Bool) (d : ℕ) → is_present (with_at s.power d0 (power_after done (s.power d0)) d) ≡ true
+    → with_at s.power d0 (power_after done (s.power d0)) d ≡ s.power d
+kept_power s d0 done d h = at_case (λ p. p ≡ s.power d) s.power d0 (power_after done (s.power d0)) d
+    (λ is. ap (λ (b : Bool). power_after b (s.power d0)) (done_there s d0 done d is h) ∙ ap s.power (sym is)) (λ not. refl)
+
+kept_size : (s : Disks) (d0 : ℕ) (done : Bool) (d : ℕ) → is_present (with_at s.power d0 (power_after done (s.power d0)) d) ≡ true
+    → with_at s.size d0 (size_after done (s.size d0)) d ≡ s.size d
+kept_size s d0 done d h = at_case (λ n. n ≡ s.size d) s.size d0 (size_after done (s.size d0)) d
+    (λ is. ap (λ (b : Bool). size_after b (s.size d0)) (done_there s d0 done d is h) ∙ ap s.size (sym is)) (λ not. refl)
+
 module _ (s : Disks) where
   pub read_present : (d0 p0 : ℕ) (done : Bool) (d : ℕ) → IsPresent (step (Read d0 p0 done) s) d → IsPresent s d
   unfolding step
@@ -55,6 +66,22 @@ module _ (s : Disks) where
   pub write_present : (d0 p0 : ℕ) (b : Block) (done : Bool) (d : ℕ) → IsPresent (step (Write d0 p0 b done) s) d → IsPresent s d
   unfolding step
   write_present d0 p0 b done d h = kept_present s d0 done d h
+
+  pub write_power : (d0 p0 : ℕ) (b : Block) (done : Bool) (d : ℕ) → IsPresent (step (Write d0 p0 b done) s) d → (step (Write d0 p0 b done) s).power d ≡ s.power d
+  unfolding step
+  write_power d0 p0 b done d h = kept_power s d0 done d h
+
+  pub write_size : (d0 p0 : ℕ) (b : Block) (done : Bool) (d : ℕ) → IsPresent (step (Write d0 p0 b done) s) d → (step (Write d0 p0 b done) s).size d ≡ s.size d
+  unfolding step
+  write_size d0 p0 b done d h = kept_size s d0 done d h
+
+  pub sync_power : (d0 : ℕ) (done : Bool) (d : ℕ) → IsPresent (step (Sync d0 done) s) d → (step (Sync d0 done) s).power d ≡ s.power d
+  unfolding step
+  sync_power d0 done d h = kept_power s d0 done d h
+
+  pub sync_size : (d0 : ℕ) (done : Bool) (d : ℕ) → IsPresent (step (Sync d0 done) s) d → (step (Sync d0 done) s).size d ≡ s.size d
+  unfolding step
+  sync_size d0 done d h = kept_size s d0 done d h
 
   pub sync_present : (d0 : ℕ) (done : Bool) (d : ℕ) → IsPresent (step (Sync d0 done) s) d → IsPresent s d
   unfolding step
@@ -153,13 +180,21 @@ left_sure {s} {i} {d} {p} {Q} sure left here =
 pub image_left : (s i : Disks) → IsImage s i → IsLeft s i
 image_left s i image = record {
   present = λ d here. ap is_present (sym (image.power d)) ∙ here;
+  power = λ d here. image.power d;
+  size = λ d here. image.size d;
   block = image.block;
 }
+
+-- a slot that is there though slot x is lost is another one
+pub lost_apart : (i : Disks) (x d : ℕ) → IsPresent (lose x i) d → d ≢ x
+lost_apart i x d here is = false≢true (sym (ap is_present (with_at_same i.power x Absent d is)) ∙ here)
 
 pub lost_left : (s i : Disks) (x : ℕ) → IsImage s i → IsLeft s (lose x i)
 lost_left s i x image = record {
   present = λ d here. at_use (λ p. is_present p ≡ true) (IsPresent s d) i.power x Absent d
       (λ is now. absurd (false≢true now)) (λ not now. ap is_present (sym (image.power d)) ∙ now) here;
+  power = λ d here. with_at_other i.power x Absent d (lost_apart i x d here) ∙ image.power d;
+  size = λ d here. with_at_other i.size x 0 d (lost_apart i x d here) ∙ image.size d;
   block = image.block;
 }
 

@@ -111,6 +111,23 @@ moments_of P A B old new ran t tells =
           ),
     )
 
+-- the same, where what is said of the moments depends on the disks with which the part began
+pub moments_from : (P A B : Disks → Disks → Type 0) (old new : Option Trail) → ((start : Disks) → Ran old new (Runs (P start) (A start) (B start))) → (t : Trail) → new ≡ Some t
+    → (s : Trail) × (old ≡ Some s) × (moments s ≤ moments t) × (A (now s) (now s) → B (now s) (now t) × ((m : ℕ) → moments s ≤ m → m ≤ moments t → P (now s) (disks t m)))
+moments_from P A B old new ran t tells =
+    let first = ran (initial []) t tells in
+    let start = now first.from in
+    let r = moments_of (P start) (A start) (B start) old new (ran start) t tells in
+    let same : r.0 ≡ first.from = (let e : Some r.0 ≡ Some first.from = sym r.1 ∙ first.was in cc) in
+    let here : now r.0 ≡ start = ap now same in (
+      first.from,
+      first.was,
+      subst (λ (u : Trail). moments u ≤ moments t) same r.2,
+      λ a.
+          let b = r.3 (subst (λ (s : Disks). A start s) (sym here) a) in
+          (b.0, λ m from to. b.1 m (subst (λ (u : Trail). moments u ≤ m) (sym same) from) to),
+    )
+
 -- calls that have Q, for any Q that holds of two parts where it holds of each
 pub Ran-none : (Q : Disks → List Call → Type 0) → ((s : Disks) → Q s []) → (told : Option Trail) → Ran told told Q
 Ran-none Q none told t tells = record {

@@ -14,4 +14,6 @@ pub record Seen (s : Disks) (d p : ℕ) (Q : Block → Type 0) : Type 0 where
 -- what a stop may leave, with any slots lost
 pub record IsLeft (s i : Disks) : Type 0 where
   pub present : (d : ℕ) → IsPresent i d → IsPresent s d
+  pub power : (d : ℕ) → IsPresent i d → i.power d ≡ s.power d
+  pub size : (d : ℕ) → IsPresent i d → i.size d ≡ s.size d
   pub block : (d p : ℕ) → s.loose d p ≡ false → i.block d p ≡ s.block d p

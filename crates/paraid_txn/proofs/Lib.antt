@@ -18,3 +18,15 @@ pub mod GateLemmas
 pub mod SpotLemmas
 pub mod SwapLemmas
 pub mod AlikeLemmas
+pub mod WholeLemmas
+pub mod SpokenLemmas
+pub mod StandsForLemmas
+pub mod CommitLemmas
+pub mod StoreLemmas
+pub mod DownLemmas
+pub mod StagingLemmas
+pub mod PutsLemmas
+pub mod TargetsLemmas
+pub mod StepsLemmas
+pub mod PartsLemmas
+pub mod ReadyLemmas

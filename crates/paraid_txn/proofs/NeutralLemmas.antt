@@ -97,7 +97,7 @@ SaysBy-kept true f g m batch one rest s = record {
   blocks = AreLogged-kept f g 4 batch (λ q low high. rest refl q (omega arith) high) s.blocks;
 }
 
-length-targets : (batch : Batch) → length (targets batch) ≡ length batch
+pub length-targets : (batch : Batch) → length (targets batch) ≡ length batch
 length-targets [] = refl
 length-targets (w ∷ batch) = ap suc (length-targets batch)
 
@@ -310,7 +310,7 @@ keeps_gate i d b same = keeps_by i (written i d 0 b)
 
 -- targets
 
-laid-named : (batch : Batch) (d p : ℕ) (b c : Block) → names batch d p ≡ true → laid batch d p b ≡ laid batch d p c
+pub laid-named : (batch : Batch) (d p : ℕ) (b c : Block) → names batch d p ≡ true → laid batch d p b ≡ laid batch d p c
 laid-named [] d p b c h = absurd (false≢true h)
 laid-named (w ∷ batch) d p b c h = elim (cases_Bool (w.0.disk == d && w.0.place == p)) [
   | inl is ↦ rw is refl

@@ -29,7 +29,7 @@ greater_first e f rest l = grind (arith, nat_tests)
 greater_second : (e f : ℕ) (rest : Bool) → f < e → not (nat_lt e f || (f == e && rest)) ≡ true
 greater_second e f rest l = grind (arith, nat_tests)
 
-greater_before : (x : ℕ) (new o : Said) → o.meta.epoch < new.meta.epoch → stands_before x new o ≡ true
+pub greater_before : (x : ℕ) (new o : Said) → o.meta.epoch < new.meta.epoch → stands_before x new o ≡ true
 greater_before zero new o l = greater_first new.meta.epoch o.meta.epoch _ l
 greater_before (suc x) new o l = greater_second new.meta.epoch o.meta.epoch _ l
 

@@ -52,7 +52,7 @@ first_absent_finds power (suc n) d l absent = split (λ below. first_absent_find
       | inr not ↦ let found = smaller (omega arith) in let k : None ≡ Some found.0 = sym is ∙ found.1 in cc
     ]
 
-named_below : (g : Geometry) (gear : ℕ) (o : Out) (u : ℕ) → IsOutInRange g gear o → named_out o ≡ Some u → u < g.disks
+pub named_below : (g : Geometry) (gear : ℕ) (o : Out) (u : ℕ) → IsOutInRange g gear o → named_out o ≡ Some u → u < g.disks
 named_below g gear No u range e = cc
 named_below g gear (Gone d) u range e = let same : d ≡ u = cc in omega (arith, range)
 named_below g gear (Fresh d rebuilt) u range e = let same : d ≡ u = cc in let l = range.0 in omega arith

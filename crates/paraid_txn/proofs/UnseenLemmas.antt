@@ -26,7 +26,7 @@ use Rattle.paraid_txn.proofs.SidesLemmas.{Says-same}
 use Rattle.paraid_txn.proofs.StandingLemmas.{Stands-same}
 use Rattle.paraid_txn.proofs.StepLemmas.{back_again, keeps_lost, may_lose_back, out_named, says_not_lost, says_of_lost, write_image}
 
-pairing_closed : (a b : Said) → Pairing a b → a.opened ≡ false → b.opened ≡ false → a ≡ b
+pub pairing_closed : (a b : Said) → Pairing a b → a.opened ≡ false → b.opened ≡ false → a ≡ b
 pairing_closed a b (alike e) p q = e
 pairing_closed a b (first_ahead s) p q = absurd (false≢true (sym p ∙ s.opened))
 pairing_closed a b (second_ahead s) p q = absurd (false≢true (sym q ∙ s.opened))
@@ -44,7 +44,7 @@ standing_not_out i x said k ok = split (named_out said.meta.out) refl
         false≢true (sym absent ∙ ok.stands.says.present)
 
 -- two log disks that are not out and are closed say the same
-pair_same : (i : Disks) (x y : ℕ) (a b : Said) (k : ℕ) → LogOk i x a k → Says i y b → y < 2 → y ≢ x
+pub pair_same : (i : Disks) (x y : ℕ) (a b : Said) (k : ℕ) → LogOk i x a k → Says i y b → y < 2 → y ≢ x
     → out_disk i.power a.meta ≢ Some y → a.opened ≡ false → b.opened ≡ false → b ≡ a
 pair_same i x y a b k ok says low apart not p q = elim (cases_eq x 0) [
   | inl first ↦

@@ -17,3 +17,10 @@ pub mod Close
 pub mod Power
 pub mod Course
 pub mod Lawful
+pub mod Staging
+pub mod Losses
+pub mod Stores
+pub mod Commit
+pub mod Stages
+pub mod Ready
+pub mod Session

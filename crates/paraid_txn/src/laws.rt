@@ -1,6 +1,8 @@
 //! That the definitions fit together. Each law is the contract of a function that does nothing.
-ghost use Rattle.std.specs.Prelude.{◌≡◌, ◌≢◌, ℕ, ◌<◌, ◌≤◌, ◌⊎◌, ◌++◌, [], true, false, Option, Some, None};
+ghost use Rattle.std.specs.Prelude.{◌≡◌, ◌≢◌, ℕ, ◌<◌, ◌≤◌, ◌⊎◌, ◌++◌, [], true, false, Option, Some, None, take};
 ghost use Rattle.paraid_base.specs.declared.block.Block.{Block as BlockType};
+ghost use Rattle.paraid_base.specs.declared.event.Answer.TheVariants.{Flushed};
+ghost use Rattle.paraid_base.specs.declared.event.Event.{Event as EventType};
 ghost use Rattle.paraid_base.specs.declared.state.Out.TheVariants.{Gone};
 ghost use Rattle.paraid_base.specs.History.{History};
 ghost use Rattle.paraid_rack.specs.declared.call.Call.{Call as CallType};
@@ -13,15 +15,17 @@ ghost use Rattle.paraid_rack.specs.Trail.{Trail, disks, initial};
 ghost use Rattle.paraid_record.specs.declared.meta.Meta.{Meta as MetaType};
 ghost use Rattle.paraid_txn.specs.Close.{IsLaidBelow};
 ghost use Rattle.paraid_txn.specs.Content.{view_of};
-ghost use Rattle.paraid_txn.specs.Course.{disk_of, is_done};
+ghost use Rattle.paraid_txn.specs.Course.{Course, IsServing, answered, disk_of, disks_at, is_done, mark};
 ghost use Rattle.paraid_txn.specs.Formatted.{IsFormatted};
 ghost use Rattle.paraid_txn.specs.Free.{IsFree, IsUnseen};
 ghost use Rattle.paraid_txn.specs.Gate.{GateTurns};
-ghost use Rattle.paraid_txn.specs.HeldAt.{HeldAt, IsHeld, MayLose};
+ghost use Rattle.paraid_txn.specs.HeldAt.{HeldAt, IsHeld, IsSound, MayLose};
 ghost use Rattle.paraid_txn.specs.Loss.{IsLoss};
 ghost use Rattle.paraid_txn.specs.Neutral.{IsNeutral, overwrite};
 ghost use Rattle.paraid_txn.specs.Open.{CanOpen, IsLoggedNext};
 ghost use Rattle.paraid_txn.specs.Out.{IsDouble, IsMissing, IsWeak, is_out};
+ghost use Rattle.paraid_txn.specs.Power.{State};
+ghost use Rattle.paraid_txn.specs.Session.{AreDown, IsSession, history_after};
 ghost use Rattle.paraid_txn.specs.Sides.{Batch, IsSide, Said, Says, Side, is_open};
 ghost use Rattle.paraid_txn.specs.Sound.{Sound};
 ghost use Rattle.paraid_txn.specs.Spot.{View, spot_of};
@@ -245,4 +249,15 @@ pub fn blocks_that_do_not_exist_do_not_matter()
     ensures start { (slots : ℕ) (t u : Trail) (m : ℕ) (i : Disks) (h : History) (lo : ℕ)
         (down : Option ℕ) → IsImage (disks t m) i → IsAlike i (initial u.start)
         → HeldAt slots t m h lo down → HeldAt slots u 0 h lo down }
+{}
+
+/// In a session a flush keeps the writes that it answers: after it each stop leaves a first part
+/// of the accepted writes that has at least so many.
+pub fn a_flush_keeps_its_writes()
+    ensures { (slots : ℕ) (c : Course) (h : History) (lo k : ℕ) (states : ℕ → State)
+        (j number : ℕ) (event : EventType) (down : Option ℕ) (i : Disks)
+        → IsSession slots c h lo k states → answered c j ≡ Some (event, Flushed number)
+        → IsServing c j (mark c j) → AreDown c j (mark c j) down
+        → IsImage (disks_at c (mark c j)) i
+        → IsSound slots i (history_after c (take k h) j) number }
 {}

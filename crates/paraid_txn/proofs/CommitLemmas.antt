@@ -1,0 +1,366 @@
+-- The promise of a commit, from its stages.
+use Rattle.std.specs.Prelude.{◌≡◌, ◌≢◌, ◌⊎◌, ℕ, ◌+◌, ◌-◌, ◌<◌, ◌≤◌, Bool, true, false, List, [], Option, Some, None, Contains}
+use Rattle.std.proofs.Common.{refl, sym, ◌∙◌, ap, subst, arith, inl, inr, ⊎_elim}
+use Rattle.std.proofs.lemmas.Bool.{cases_Bool, cases_eq, false≢true}
+use Rattle.paraid_base.specs.declared.block.Block.{Block}
+use Rattle.paraid_rack.specs.declared.call.Power.{Power}
+use Rattle.paraid_rack.specs.declared.call.Power.TheVariants.{Spinning, Absent}
+use Rattle.paraid_rack.specs.Atoms.{IsLeft, Sure}
+use Rattle.paraid_rack.specs.Disks.{Disks, IsImage, IsPresent, is_present, lose, with_at}
+use Rattle.paraid_rack.proofs.AtomsLemmas.{at_use, image_left, lost_left, with_at_other, with_at_same}
+use Rattle.paraid_record.specs.declared.meta.Meta.{Meta}
+use Rattle.paraid_record.specs.declared.targets.Target.{Target}
+use Rattle.paraid_record.specs.Range.{IsInRange}
+use Rattle.paraid_txn.specs.Commit.{AreShut, IsAtRest, IsCommitted, IsDrained, IsEachImage, IsEitherMissing, IsNext, IsOneMissing, StandsFor, StandsForEither, closed_over, gone_out}
+use Rattle.paraid_txn.specs.Out.{IsMissing, IsWeak, first_absent, named_out, or_else, out_disk}
+use Rattle.paraid_txn.specs.Out.IsWeak.{out as out_weak, named as named_weak}
+use Rattle.paraid_txn.specs.Sides.{Said, Says, SaysBy, is_open, stored}
+use Rattle.paraid_txn.specs.Sound.{LogOk}
+use Rattle.paraid_txn.specs.Stages.{Close, Closing, Early, IsKept, IsLive, IsSpelled, Job, Late, Log, Whole, named, open_with}
+use Rattle.paraid_txn.specs.Standing.{Stands, other_log}
+use Rattle.paraid_txn.proofs.OutLemmas.{first_absent_finds, first_absent_is, named_below}
+use Rattle.paraid_txn.proofs.SidesLemmas.{Says-same}
+use Rattle.paraid_txn.proofs.SpokenLemmas.{IsBegun, before_in_range, other_other, stands_alone, stored_start}
+use Rattle.paraid_txn.proofs.StandsForLemmas.{aside_old, early_for_new, early_for_old, early_stands, late_for, late_stands}
+use Rattle.paraid_txn.proofs.StepLemmas.{decide_some, out_named, says_of_lost}
+use Rattle.paraid_txn.proofs.WholeLemmas.{closing_late, closing_whole, left_kept, stored_here}
+
+-- the out disk is missing
+out_missing : (power : ℕ → Power) (m : Meta) (w : ℕ) → IsInRange m → out_disk power m ≡ Some w → IsMissing power m w
+out_missing power m w range is = split (named_out m.out) refl is
+  where
+    split : (o : Option ℕ) → named_out m.out ≡ o → or_else o (first_absent power m.setup.geometry.disks) ≡ Some w → IsMissing power m w
+    split (Some e) name same = record { disk = named_below m.setup.geometry m.gear m.out w range.out (name ∙ same); is = inr (name ∙ same) }
+    split None name same = let a = first_absent_is power m.setup.geometry.disks w same in record { disk = a.0; is = inl a.1 }
+
+-- where a disk is absent, some disk is out
+absent_out : (power : ℕ → Power) (m : Meta) (e : ℕ) → e < m.setup.geometry.disks → is_present (power e) ≡ false → (w : ℕ) × (out_disk power m ≡ Some w)
+absent_out power m e low gone = split (named_out m.out) refl
+  where
+    split : (o : Option ℕ) → named_out m.out ≡ o → (w : ℕ) × (or_else o (first_absent power m.setup.geometry.disks) ≡ Some w)
+    split (Some d) name = (d, refl)
+    split None name = first_absent_finds power m.setup.geometry.disks e low gone
+
+-- what a closed gate says
+closed_said : (i : Disks) (z : ℕ) (said : Said) (m : Meta) → Says i z said → said.opened ≡ false → said.meta ≡ m → said ≡ closed_over m
+closed_said i z said m says shut is =
+    let log : SaysBy false (stored i z) said.meta said.batch = subst (λ (o : Bool). SaysBy o (stored i z) said.meta said.batch) shut says.log in
+    λ t. record { opened = shut t; meta = is t; batch = log.empty t }
+
+decide_out : (o : Option ℕ) → ((w : ℕ) × (o ≡ Some w)) ⊎ (o ≡ None)
+decide_out (Some w) = inl (w, refl)
+decide_out None = inr refl
+
+module _ (j : Job) (before : Meta) (begun : IsBegun j before) where
+  same_disks : j.meta.setup.geometry.disks ≡ before.setup.geometry.disks
+  same_disks = ap (λ s. s.geometry.disks) begun.next.setup
+
+  enough : 3 ≤ before.setup.geometry.disks
+  enough = before.setup.geometry.disks_low
+
+  -- what a log disk's meta is
+  abbrev IsOneOf : Meta → Type 0
+  IsOneOf m = (m ≡ before) ⊎ (m ≡ j.meta)
+
+  in_range : (m : Meta) → IsOneOf m → IsInRange m
+  in_range m (inl is) = subst IsInRange (sym is) (before_in_range j before begun)
+  in_range m (inr is) = subst IsInRange (sym is) begun.good.meta.in_range
+
+  either : (power : ℕ → Power) (m : Meta) (d : ℕ) → IsOneOf m → IsMissing power m d → IsEitherMissing power before j.meta d
+  either power m d (inl is) missing = inl (subst (λ (n : Meta). IsMissing power n d) is missing)
+  either power m d (inr is) missing = inr (subst (λ (n : Meta). IsMissing power n d) is missing)
+
+  disk_count : (m : Meta) → IsOneOf m → m.setup.geometry.disks ≡ before.setup.geometry.disks
+  disk_count m (inl is) = ap (λ (n : Meta). n.setup.geometry.disks) is
+  disk_count m (inr is) = ap (λ (n : Meta). n.setup.geometry.disks) is ∙ same_disks
+
+  single : (power : ℕ → Power) (m : Meta) → IsOneOf m → IsOneMissing power before j.meta → (d e : ℕ) → IsMissing power m d → IsMissing power m e → d ≡ e
+  single power m is one d e p q = one.one d e (either power m d is p) (either power m e is q)
+
+  -- a log disk that is not missing is live and there
+  live_or_missing : (i : Disks) (x : ℕ) → x < 2 → IsEitherMissing i.power before j.meta x ⊎ (IsLive j x × IsPresent i x)
+  live_or_missing i x low = elim (cases_Bool (is_present (i.power x))) [
+    | inr gone ↦ inl (inl (record { disk = (let n = enough in omega arith); is = inl gone }))
+    | inl here ↦ elim (decide_some (named j) x) [
+      | inl is ↦ inl (inr (record { disk = (let n = enough in let s = same_disks in omega arith); is = inr is }))
+      | inr not ↦ inr ((low, not), here)
+    ]
+  ]
+
+  one_live : (i : Disks) → IsOneMissing i.power before j.meta → (x : ℕ) × IsLive j x × IsPresent i x
+  one_live i one = elim (live_or_missing i 0 (omega arith)) [
+    | inr a ↦ (0, a.0, a.1)
+    | inl a ↦ elim (live_or_missing i 1 (omega arith)) [
+      | inr b ↦ (1, b.0, b.1)
+      | inl b ↦ let bad : ◌≡◌ {A = ℕ} 0 1 = one.one 0 1 a b in absurd (omega (arith, bad))
+    ]
+  ]
+
+  -- an image in which some log disk stands by one of the two metas
+  module _ (i : Disks) (one : IsOneMissing i.power before j.meta) (d : ℕ) (weak : (w : ℕ) → IsWeak i w → w ≡ d)
+      (z : ℕ) (said : Said) (stands : Stands i z said) (one_of : IsOneOf said.meta) where
+    -- the out disk is the one that is lost
+    out_lost : (w : ℕ) → out_disk i.power said.meta ≡ Some w → w ≡ d
+    out_lost w is = weak w (out_weak z said stands is)
+
+    -- so is each that is absent
+    absent_lost : (e : ℕ) → e < before.setup.geometry.disks → is_present (i.power e) ≡ false → e ≡ d
+    absent_lost e low gone =
+        let low_too : e < said.meta.setup.geometry.disks = (let n = disk_count said.meta one_of in omega arith) in
+        let w = absent_out i.power said.meta e low_too gone in
+        one.one e w.0 (either i.power said.meta e one_of (record { disk = low_too; is = inl gone }))
+        (either i.power said.meta w.0 one_of (out_missing i.power said.meta w.0 (in_range said.meta one_of) w.1))
+        ∙ out_lost w.0 w.1
+
+    -- and each that a meta names out by which some log disk stands once the disk is lost
+    named_lost : (y : ℕ) (other : Said) → y < 2 → Says i y other → IsOneOf other.meta → (e : ℕ) → named_out other.meta.out ≡ Some e → e ≡ d
+    named_lost y other low says of_two e name = elim (cases_eq y z) [
+      | inl is ↦
+          let same = Says-same i z other said (subst (λ (w : ℕ). Says i w other) is says) stands.says in
+          out_lost e (out_named i.power said.meta e (ap (λ (o : Said). named_out o.meta.out) (sym same) ∙ name))
+      | inr apart ↦
+          let here : y ≡ other_log z = (let l = stands.log_disk in omega arith) in
+          elim (decide_out (out_disk i.power said.meta)) [
+            | inr none ↦ weak e (named_weak z said other stands none (subst (λ (w : ℕ). Says i w other) here says) name)
+            | inl w ↦
+                one.one e w.0 (either i.power other.meta e of_two (record { disk = named_below other.meta.setup.geometry other.meta.gear other.meta.out e (in_range other.meta of_two).out name; is = inr name }))
+                (either i.power said.meta w.0 one_of (out_missing i.power said.meta w.0 (in_range said.meta one_of) w.1))
+                ∙ out_lost w.0 w.1
+          ]
+    ]
+
+    missing_lost : (y : ℕ) (other : Said) (m : Meta) → y < 2 → Says (lose d i) y other → other.meta ≡ m → IsOneOf m → (e : ℕ) → IsMissing (lose d i).power m e → e ≡ d
+    missing_lost y other m low says is of_two e missing = elim missing.is [
+      | inl gone ↦ at_use (λ (p : Power). is_present p ≡ false) (e ≡ d) i.power d Absent e (λ same now. same)
+          (λ apart now. absent_lost e (let n = disk_count m of_two in let l = missing.disk in omega arith) now) gone
+      | inr name ↦ named_lost y other low (says_of_lost i d y other says) (subst IsOneOf (sym is) of_two) e (ap (λ (n : Meta). named_out n.out) is ∙ name)
+    ]
+
+    single_lost : (y : ℕ) (other : Said) (m : Meta) → y < 2 → Says (lose d i) y other → other.meta ≡ m → IsOneOf m
+        → (e f : ℕ) → IsMissing (lose d i).power m e → IsMissing (lose d i).power m f → e ≡ f
+    single_lost y other m low says is of_two e f p q = missing_lost y other m low says is of_two e p ∙ sym (missing_lost y other m low says is of_two f q)
+
+    -- a log disk that is missing, but not lost, is there, and is named out by the new meta alone
+    left_behind : IsKept j i → (y : ℕ) → y < 2 → y ≢ d → IsEitherMissing i.power before j.meta y
+        → IsPresent i y × (named j ≡ Some y) × (named_out said.meta.out ≢ Some y)
+    left_behind kept y low apart missing = elim (cases_Bool (is_present (i.power y))) [
+      | inr gone ↦ absurd (apart (absent_lost y (let n = enough in omega arith) gone))
+      | inl here ↦ (here, name here, λ e. apart (out_lost y (out_named i.power said.meta y e)))
+    ]
+      where
+        named_by : (m : Meta) → IsPresent i y → IsMissing i.power m y → named_out m.out ≡ Some y
+        named_by m here p = elim p.is [ inl gone ↦ absurd (false≢true (sym gone ∙ here)) | inr is ↦ is ]
+
+        name : IsPresent i y → named j ≡ Some y
+        name here = elim missing [
+          | inl p ↦ begun.next.stays_out y low (kept.present y here) (named_by before here p)
+          | inr p ↦ named_by j.meta here p
+        ]
+
+  still : (i : Disks) (d x : ℕ) → x ≢ d → IsPresent i x → IsPresent (lose d i) x
+  still i d x apart here = ap is_present (with_at_other i.power d Absent x apart) ∙ here
+
+  lost : (i : Disks) (d x : ℕ) → x ≡ d → is_present ((lose d i).power x) ≡ false
+  lost i d x is = ap is_present (with_at_same i.power d Absent x is)
+
+  -- with a disk lost, some live log disk is there, or a log disk that was missing is alone
+  abbrev IsAlone : Disks → ℕ → ℕ → Type 0
+  IsAlone i d y = (y < 2) × (y ≢ d) × IsEitherMissing i.power before j.meta y × (is_present ((lose d i).power (other_log y)) ≡ false)
+
+  abbrev IsFound : Disks → ℕ → Type 0
+  IsFound i d = ((x : ℕ) × IsLive j x × IsPresent (lose d i) x) ⊎ ((y : ℕ) × IsAlone i d y)
+
+  found_but_first : (i : Disks) (d : ℕ) → 0 ≡ d → IsFound i d
+  found_but_first i d is = elim (live_or_missing i 1 (omega arith)) [
+    | inr b ↦ inl (1, b.0, still i d 1 (λ e. omega arith) b.1)
+    | inl b ↦ inr (1, (omega arith, (λ e. omega arith), b, lost i d 0 is))
+  ]
+
+  found_but_second : (i : Disks) (d : ℕ) → IsOneMissing i.power before j.meta → IsEitherMissing i.power before j.meta 0 → IsFound i d
+  found_but_second i d one a = elim (live_or_missing i 1 (omega arith)) [
+    | inl b ↦ let bad : ◌≡◌ {A = ℕ} 0 1 = one.one 0 1 a b in absurd (omega (arith, bad))
+    | inr b ↦ elim (cases_eq 1 d) [
+      | inr apart ↦ inl (1, b.0, still i d 1 apart b.1)
+      | inl is ↦ inr (0, (omega arith, (λ e. omega arith), a, lost i d 1 is))
+    ]
+  ]
+
+  found : (i : Disks) (d : ℕ) → IsOneMissing i.power before j.meta → IsFound i d
+  found i d one = elim (live_or_missing i 0 (omega arith)) [
+    | inl a ↦ found_but_second i d one a
+    | inr a ↦ elim (cases_eq 0 d) [
+      | inl is ↦ found_but_first i d is
+      | inr apart ↦ inl (0, a.0, still i d 0 apart a.1)
+    ]
+  ]
+
+  abbrev LeftAside : Disks → Type 0
+  LeftAside i = (y p : ℕ) → named j ≡ Some y → p < 100 → IsPresent i y → i.block y p ≡ j.start.block y p
+
+  abbrev Either : Disks → Type 0
+  Either = StandsForEither j.start before j.meta j.batch
+
+  abbrev New : Disks → Type 0
+  New i = StandsFor j.start i j.meta j.batch
+
+  -- before the targets are touched
+  module _ (i : Disks) (aside : LeftAside i) (early : Early j i) where
+    early_for : (x : ℕ) → IsLive j x → IsPresent i x
+        → ((z : ℕ) (said : Said) (m : Meta) → Stands i z said → said.meta ≡ m → IsOneOf m → (e f : ℕ) → IsMissing i.power m e → IsMissing i.power m f → e ≡ f) → Either i
+    early_for x live here single_of =
+        let e = early_stands j before begun i early.kept aside early x live here in
+        elim e.3 [
+          | inl is ↦ inl (early_for_old j before begun i early.kept aside early e.0 e.1 e.2 is.0 is.1 (single_of e.0 e.1 before e.2 (ap (λ (o : Said). o.meta) is.0) (inl refl)))
+          | inr is ↦ inr (early_for_new j before begun i early.kept aside early e.0 e.1 e.2 is.0 is.1 (single_of e.0 e.1 j.meta e.2 (ap (λ (o : Said). o.meta) is.0) (inr refl)))
+        ]
+
+    early_whole : IsOneMissing i.power before j.meta → Either i
+    early_whole one =
+        let l = one_live i one in
+        early_for l.0 l.1 l.2 (λ z said m s is of_two. single i.power m of_two one)
+
+    early_kind : (z : ℕ) (said : Said) → ((said ≡ closed_over before) × (named_out before.out ≢ Some z)) ⊎ ((said ≡ open_with j) × IsLive j z) → IsOneOf said.meta
+    early_kind z said (inl is) = inl (ap (λ (o : Said). o.meta) is.0)
+    early_kind z said (inr is) = inr (ap (λ (o : Said). o.meta) is.0)
+
+    module _ (one : IsOneMissing i.power before j.meta) (d : ℕ) (weak : (w : ℕ) → IsWeak i w → w ≡ d) (aside_too : LeftAside (lose d i)) (early_too : Early j (lose d i)) where
+      -- where the log disk that is left was to be left alone, the old contents stand
+      early_alone : (y : ℕ) → IsAlone i d y → Either (lose d i)
+      early_alone y alone =
+          let l = one_live i one in
+          let e = early_stands j before begun i early.kept aside early l.0 l.1 l.2 in
+          let b = left_behind i one d weak e.0 e.1 e.2 (early_kind e.0 e.1 e.3) early.kept y alone.0 alone.1 alone.2 in
+          elim e.3 [
+            | inr is ↦ absurd (b.2 (ap (λ (o : Said). named_out o.meta.out) is.0 ∙ b.1))
+            | inl is ↦
+                let not : named_out before.out ≢ Some y = λ q. b.2 (ap (λ (o : Said). named_out o.meta.out) is.0 ∙ q) in
+                let says = aside_old j before begun (lose d i) early_too.kept aside_too y alone.0 b.1 (still i d y alone.1 b.0) not in
+                inl (early_for_old j before begun (lose d i) early_too.kept aside_too early_too y (closed_over before) (stands_alone (lose d i) y (closed_over before) alone.0 says alone.3) refl not
+                (single_lost i one d weak e.0 e.1 e.2 (early_kind e.0 e.1 e.3) y (closed_over before) before alone.0 says refl (inl refl)))
+          ]
+
+  early_lost : (i : Disks) (aside : LeftAside i) (early : Early j i) (one : IsOneMissing i.power before j.meta) (d : ℕ) (weak : (w : ℕ) → IsWeak i w → w ≡ d)
+      (aside_too : LeftAside (lose d i)) (early_too : Early j (lose d i)) → Either (lose d i)
+  early_lost i aside early one d weak aside_too early_too =
+      let l = one_live i one in
+      let e = early_stands j before begun i early.kept aside early l.0 l.1 l.2 in
+      elim (found i d one) [
+        | inr alone ↦ early_alone i aside early one d weak aside_too early_too alone.0 alone.1
+        | inl live ↦ early_for (lose d i) aside_too early_too live.0 live.1 live.2
+            (λ z said m s is of_two. single_lost i one d weak e.0 e.1 e.2 (early_kind i aside early e.0 e.1 e.3) z said m s.log_disk s.says is of_two)
+      ]
+
+  -- and from then on
+  late_of : (i : Disks) → LeftAside i → Late j i → (x : ℕ) → IsLive j x → IsPresent i x
+      → ((z : ℕ) (said : Said) → Stands i z said → said.meta ≡ j.meta → (e f : ℕ) → IsMissing i.power j.meta e → IsMissing i.power j.meta f → e ≡ f) → New i
+  late_of i aside late x live here single_of =
+      let e = late_stands j before begun i late.kept aside late x live here in
+      late_for j before begun i late.kept aside late e.0 e.1 e.2 e.3 e.4 (single_of e.0 e.1 e.2 (late_meta e.1 e.3))
+    where
+      late_meta : (said : Said) → (said ≡ open_with j) ⊎ (said ≡ closed_over j.meta) → said.meta ≡ j.meta
+      late_meta said (inl is) = ap (λ (o : Said). o.meta) is
+      late_meta said (inr is) = ap (λ (o : Said). o.meta) is
+
+  late_whole : (i : Disks) → LeftAside i → Late j i → IsOneMissing i.power before j.meta → New i
+  late_whole i aside late one =
+      let l = one_live i one in
+      late_of i aside late l.0 l.1 l.2 (λ z said s is. single i.power j.meta (inr refl) one)
+
+  late_lost : (i : Disks) → LeftAside i → Late j i → IsOneMissing i.power before j.meta → (d : ℕ) → ((w : ℕ) → IsWeak i w → w ≡ d)
+      → LeftAside (lose d i) → Late j (lose d i) → New (lose d i)
+  late_lost i aside late one d weak aside_too late_too =
+      let whole = late_whole i aside late one in
+      let of_two : IsOneOf whole.said.meta = inr whole.meta in
+      elim (found i d one) [
+        | inl live ↦ late_of (lose d i) aside_too late_too live.0 live.1 live.2
+            (λ z said s is. single_lost i one d weak whole.disk whole.said whole.log.stands of_two z said j.meta s.log_disk s.says is (inr refl))
+        | inr alone ↦
+            let b = left_behind i one d weak whole.disk whole.said whole.log.stands of_two late.kept alone.0 alone.1.0 alone.1.1 alone.1.2 in
+            absurd (b.2 (ap (λ (m : Meta). named_out m.out) whole.meta ∙ b.1))
+      ]
+
+  pub late_images : (s : Disks) → ((i : Disks) → IsLeft s i → Late j i) → ((i : Disks) → IsLeft s i → LeftAside i) → IsEachImage before j.meta New s
+  late_images s late aside = record {
+    whole = λ i image one. let left = image_left s i image in late_whole i (aside i left) (late i left) one;
+    lost = λ i d image one weak.
+        let left = image_left s i image in
+        let left_too = lost_left s i d image in
+        late_lost i (aside i left) (late i left) one d weak (aside (lose d i) left_too) (late (lose d i) left_too);
+  }
+
+  early_images : (s : Disks) → ((i : Disks) → IsLeft s i → Early j i) → ((i : Disks) → IsLeft s i → LeftAside i) → IsEachImage before j.meta Either s
+  early_images s early aside = record {
+    whole = λ i image one. let left = image_left s i image in early_whole i (aside i left) (early i left) one;
+    lost = λ i d image one weak.
+        let left = image_left s i image in
+        let left_too = lost_left s i d image in
+        early_lost i (aside i left) (early i left) one d weak (aside (lose d i) left_too) (early (lose d i) left_too);
+  }
+
+  pub whole_images : (s : Disks) → Whole j s → IsEachImage before j.meta Either s
+  whole_images s w = elim w.either [
+    | inl early ↦ early_images s early w.aside
+    | inr late ↦
+        let new = late_images s late w.aside in
+        record { whole = λ i image one. inr (new.whole i image one); lost = λ i d image one weak. inr (new.lost i d image one weak) }
+  ]
+
+  -- the first stage holds at the start
+  pub start_log : ((x : ℕ) → IsLive j x → IsPresent j.start x → 100 ≤ j.start.size x) → Log j 0 j.start
+  start_log large = record {
+    core = record {
+      beside = record {
+        kept = record { present = λ d here. here; power = λ d here. refl; size = λ d here. refl; large = large };
+        aside = record { log = λ y p is lt. record { holds = λ here. (begun.rest.dry y p here, refl) } };
+      };
+      meta = λ x live. record { holds = λ here. (begun.rest.dry x 1 here, refl) };
+      shut = λ x live. record {
+        holds = λ here.
+            let enough_places = large x live here in
+            (begun.rest.dry x 0 here, ap is_open (sym (stored_here j.start x 0 here (omega arith))) ∙ begun.rest.shut x live.0 here (live_was_in x live here));
+      };
+      logged = λ x lt live. absurd (omega arith);
+      held = λ d p far. record { holds = λ here. (begun.rest.dry d p here, refl) };
+    };
+    dry = record { dry = λ d p. record { holds = λ here. (begun.rest.dry d p here, tt) } };
+  }
+    where
+      live_was_in : (x : ℕ) → IsLive j x → IsPresent j.start x → named_out before.out ≢ Some x
+      live_was_in x live here is = live.1 (begun.next.stays_out x live.0 here is)
+
+  -- the last stage is what a commit promises at its end
+  module _ (s : Disks) (c : Close j 2 s) where
+    self_left : IsLeft s s
+    self_left = record { present = λ d here. here; power = λ d here. refl; size = λ d here. refl; block = λ d p dry. refl }
+
+    all_shut : AreShut s j.meta
+    all_shut x low here not =
+        let large = c.core.beside.kept.large x (low, not) here in
+        ap is_open (stored_here s x 0 here (omega arith)) ∙ ((c.core.shut x low (low, not)).holds here).1
+
+    all_dry : IsDrained s
+    all_dry d p here = ((c.dry.dry d p).holds here).0
+
+    whole : Whole j s
+    whole = closing_whole j begun.good 2 s c.core
+
+    at_rest : IsOneMissing s.power before j.meta → IsAtRest s j.meta
+    at_rest one =
+        let late = closing_late j begun.good 2 s c.core s self_left in
+        let for = late_whole s (whole.aside s self_left) late one in
+        let in_array : named j ≢ Some for.disk = λ e. for.log.standing_in (ap (λ (m : Meta). named_out m.out) for.meta ∙ e) in
+        let closed : for.said.opened ≡ false = sym for.log.stands.says.gate ∙ all_shut for.disk for.log.stands.log_disk for.log.stands.says.present in_array in
+        record {
+          dry = all_dry;
+          disk = for.disk;
+          log = subst (λ (o : Said). LogOk s for.disk o j.meta.writes) (closed_said s for.disk for.said j.meta for.log.stands.says closed for.meta) for.log;
+          shut = all_shut;
+        }
+
+    pub is_committed : IsCommitted j.start s before j.meta j.batch
+    is_committed = record {
+      images = late_images s (closing_late j begun.good 2 s c.core) whole.aside;
+      dry = all_dry;
+      shut = all_shut;
+      rest = at_rest;
+    }

@@ -1,0 +1,149 @@
+-- What the log disks say while a commit goes on.
+use Rattle.std.specs.Prelude.{◌≡◌, ◌≢◌, ◌⊎◌, ℕ, ◌+◌, ◌-◌, ◌<◌, ◌≤◌, ◌==◌, ◌&&◌, ◌||◌, nat_lt, Bool, true, false, not, List, [], Option, Some, None, Contains, if◌then◌else◌}
+use Rattle.std.proofs.Common.{refl, sym, ◌∙◌, ap, subst, arith, inl, inr, ⊎_elim, zero, suc}
+use Rattle.std.proofs.lemmas.Bool.{cases_Bool, cases_eq, false≢true}
+use Rattle.std.proofs.lemmas.Bool.Decides.{nat_tests}
+use Rattle.paraid_base.specs.declared.block.Block.{Block}
+use Rattle.paraid_base.specs.Xor.{zeroed}
+use Rattle.paraid_rack.specs.declared.call.Power.{Power}
+use Rattle.paraid_rack.specs.declared.call.Power.TheVariants.{Spinning}
+use Rattle.paraid_rack.specs.Disks.{Disks, IsPresent, is_present}
+use Rattle.paraid_record.specs.declared.meta.Meta.{Meta}
+use Rattle.paraid_record.specs.declared.targets.Target.{Target}
+use Rattle.paraid_record.specs.Range.{IsInRange}
+use Rattle.paraid_record.specs.Targets.{AreTargets}
+use Rattle.paraid_txn.specs.Commit.{AreShut, IsAtRest, IsNext, closed_over, gone_out}
+use Rattle.paraid_txn.specs.Out.{first_absent, named_out, or_else, out_disk}
+use Rattle.paraid_txn.specs.Sides.{Said, Says, SaysBy, Spells, has_place, is_open, stored, targets}
+use Rattle.paraid_txn.specs.Sound.{LogOk}
+use Rattle.paraid_txn.specs.Stages.{Early, IsKept, IsLive, IsSpelled, Job, gone, named, open_with}
+use Rattle.paraid_txn.specs.Standing.{Stands, is_first, other_log, stands_before}
+use Rattle.paraid_txn.proofs.NeutralLemmas.{SaysBy-kept, few_logged}
+use Rattle.paraid_txn.proofs.OpenLemmas.{greater_before}
+use Rattle.paraid_txn.proofs.OutLemmas.{first_absent_is}
+use Rattle.paraid_txn.proofs.SidesLemmas.{Says-same}
+use Rattle.paraid_txn.proofs.UnseenLemmas.{pair_same}
+use Rattle.paraid_txn.proofs.WholeLemmas.{stored_here}
+
+-- which log disk stands
+
+pub first_or_second : (x : ℕ) (a b : Said) → x < 2 → (stands_before x a b ≡ true) ⊎ (stands_before (other_log x) b a ≡ true)
+first_or_second zero a b low = elim (cases_Bool (is_first a b)) [ inl is ↦ inl is | inr off ↦ inr (ap not off) ]
+first_or_second (suc zero) a b low = elim (cases_Bool (is_first b a)) [ inl is ↦ inr is | inr off ↦ inl (ap not off) ]
+first_or_second (suc (suc x)) a b low = absurd (omega arith)
+
+pub stands_over : (i : Disks) (x : ℕ) (a b : Said) → x < 2 → Says i x a → Says i (other_log x) b → stands_before x a b ≡ true → Stands i x a
+stands_over i x a b low p q before = record {
+  log_disk = low;
+  says = p;
+  first = λ o r. ap (stands_before x a) (Says-same i (other_log x) o b r q) ∙ before;
+}
+
+pub other_other : (x : ℕ) → x < 2 → other_log (other_log x) ≡ x
+other_other x low = omega arith
+
+pub stands_alone : (i : Disks) (x : ℕ) (a : Said) → x < 2 → Says i x a → (is_present (i.power (other_log x)) ≡ false) → Stands i x a
+stands_alone i x a low p gone = record { log_disk = low; says = p; first = λ o r. absurd (false≢true (sym gone ∙ r.present)) }
+
+-- what comes second has no greater epoch
+second_epoch : (e f : ℕ) (rest : Bool) → (nat_lt f e || (e == f && rest)) ≡ true → f ≤ e
+second_epoch e f rest is = grind (arith, nat_tests)
+
+second_epoch_too : (e f : ℕ) (rest : Bool) → not (nat_lt e f || (f == e && rest)) ≡ true → f ≤ e
+second_epoch_too e f rest is = grind (arith, nat_tests)
+
+pub after_epoch : (x : ℕ) (a o : Said) → stands_before x a o ≡ true → o.meta.epoch ≤ a.meta.epoch
+after_epoch zero a o is = second_epoch a.meta.epoch o.meta.epoch _ is
+after_epoch (suc x) a o is = second_epoch_too a.meta.epoch o.meta.epoch _ is
+
+-- a disk that is there is the out disk only where it is named
+pub out_present : (power : ℕ → Power) (m : Meta) (y : ℕ) → is_present (power y) ≡ true → named_out m.out ≢ Some y → out_disk power m ≢ Some y
+out_present power m y here not = split (named_out m.out) refl
+  where
+    split : (o : Option ℕ) → named_out m.out ≡ o → or_else o (first_absent power m.setup.geometry.disks) ≡ Some y → ⊥
+    split (Some e) is same = not (is ∙ same)
+    split None is same = false≢true (sym (first_absent_is power m.setup.geometry.disks y same).1 ∙ here)
+
+-- what is known of the disks with which a commit begins
+pub record IsBegun (j : Job) (before : Meta) : Type 0 where
+  pub good : IsSpelled j
+  pub rest : IsAtRest j.start before
+  pub next : IsNext j.start before j.meta
+  pub spins : (t : Target) → Contains (targets j.batch) t → gone j ≢ Some t.disk → IsPresent j.start t.disk → j.start.power t.disk ≡ Spinning
+
+module _ (j : Job) (before : Meta) (begun : IsBegun j before) where
+  abbrev old : Said
+  old = closed_over before
+
+  pub before_in_range : IsInRange before
+  before_in_range = begun.rest.log.stands.says.log.meta.in_range
+
+  -- a live log disk was in the array
+  pub live_in : (x : ℕ) → IsLive j x → IsPresent j.start x → named_out before.out ≢ Some x
+  live_in x live here is = live.1 (begun.next.stays_out x live.0 here is)
+
+  -- a log disk that was in the array says the old meta
+  pub start_says : (y : ℕ) → y < 2 → IsPresent j.start y → named_out before.out ≢ Some y → Says j.start y old
+  start_says y low here not =
+      let out = out_present j.start.power before y here not in
+      let there = begun.rest.log.formed y low here out in
+      let shut : there.0.opened ≡ false = sym there.1.gate ∙ begun.rest.shut y low here not in
+      elim (cases_eq y begun.rest.disk) [
+        | inl is ↦ subst (λ (z : ℕ). Says j.start z old) (sym is) begun.rest.log.stands.says
+        | inr apart ↦ subst (λ (o : Said). Says j.start y o) (pair_same j.start begun.rest.disk y old there.0 before.writes begun.rest.log there.1 low apart out refl shut) there.1
+      ]
+
+  -- a log disk that was not in the array came second
+  pub start_second : (y : ℕ) (o : Said) → y < 2 → Says j.start y o → named_out before.out ≡ Some y → stands_before (other_log y) old o ≡ true
+  start_second y o low says is =
+      let apart : begun.rest.disk ≢ y = λ e. begun.rest.log.standing_in (is ∙ ap Some (sym e)) in
+      let low_too = begun.rest.log.stands.log_disk in
+      let here : begun.rest.disk ≡ other_log y = omega arith in
+      let back : other_log begun.rest.disk ≡ y = ap other_log here ∙ other_other y low in
+      subst (λ (z : ℕ). stands_before z old o ≡ true) here (begun.rest.log.stands.first o (subst (λ (z : ℕ). Says j.start z o) (sym back) says))
+
+  module _ (i : Disks) (kept : IsKept j i) where
+    -- the same block in a place that is there
+    pub stored_start : (y p : ℕ) → IsPresent i y → i.block y p ≡ j.start.block y p → stored i y p ≡ stored j.start y p
+    unfolding stored
+    stored_start y p here same =
+        ap (λ (t : Power). if (is_present t && nat_lt p (i.size y)) then i.block y p else zeroed) (kept.power y here)
+        ∙ ap (λ (n : ℕ). if (is_present (j.start.power y) && nat_lt p n) then i.block y p else zeroed) (kept.size y here)
+        ∙ ap (λ (b : Block). if (is_present (j.start.power y) && nat_lt p (j.start.size y)) then b else zeroed) same
+
+    pub place_start : (d p : ℕ) → has_place i d p ≡ true → IsPresent i d → has_place j.start d p ≡ true
+    place_start d p there here =
+        ap (λ (t : Power). is_present t && nat_lt p (j.start.size d)) (sym (kept.power d here))
+        ∙ ap (λ (n : ℕ). is_present (i.power d) && nat_lt p n) (sym (kept.size d here)) ∙ there
+
+    -- a log disk that is left alone says what it said
+    module _ (y : ℕ) (here : IsPresent i y) (same : (p : ℕ) → p < 100 → i.block y p ≡ j.start.block y p) where
+      at : (p : ℕ) → p < 100 → stored i y p ≡ stored j.start y p
+      at p lt = stored_start y p here (same p lt)
+
+      pub aside_said : (o : Said) → Says i y o → Says j.start y o
+      aside_said o s = record {
+        present = kept.present y here;
+        gate = ap is_open (sym (at 0 (omega arith))) ∙ s.gate;
+        log = SaysBy-kept o.opened (stored i y) (stored j.start y) o.meta o.batch (λ shut. sym (at 1 (omega arith)))
+            (λ opened q low high. let few = few_logged o.opened (stored i y) o.meta o.batch s.log in sym (at q (omega arith))) s.log;
+      }
+
+      pub aside_says : (o : Said) → Says j.start y o → Says i y o
+      aside_says o s = record {
+        present = here;
+        gate = ap is_open (at 0 (omega arith)) ∙ s.gate;
+        log = SaysBy-kept o.opened (stored j.start y) (stored i y) o.meta o.batch (λ shut. at 1 (omega arith))
+            (λ opened q low high. let few = few_logged o.opened (stored j.start y) o.meta o.batch s.log in at q (omega arith)) s.log;
+      }
+
+    -- a live log disk that is closed as it was says the old meta
+    pub live_says_old : (x : ℕ) → IsLive j x → IsPresent i x → is_open (i.block x 0) ≡ false → i.block x 1 ≡ j.start.block x 1 → Says i x old
+    live_says_old x live here shut same =
+        let large = kept.large x live here in
+        let was = start_says x live.0 (kept.present x here) (live_in x live (kept.present x here)) in
+        record {
+          present = here;
+          gate = ap is_open (stored_here i x 0 here (omega arith)) ∙ shut;
+          log = record { meta = subst (λ (b : Block). Spells b before) (sym (stored_start x 1 here same)) was.log.meta; empty = refl };
+        }

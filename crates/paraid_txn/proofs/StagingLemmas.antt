@@ -1,0 +1,214 @@
+-- What a batch holds, by the place of a target in its order and by the target.
+use Rattle.std.proofs.Common.{◌≡◌, ◌≢◌, ℕ, zero, suc, ◌<◌, Bool, true, false, ◌&&◌, ◌||◌, List, [], ◌∷◌, ◌++◌, length, get_or, set, map, refl, sym, ◌∙◌, ap, subst, inl, inr, arith}
+use Rattle.std.specs.Prelude.{◌==◌, AllPairs}
+use Rattle.std.specs.List.{list_any}
+use Rattle.std.proofs.lemmas.Bool.{and_from, and_parts, eq-eqb, eqb-true, false_from_ne_true, or_cases, or_from, or_left, or_parts, or_right, true≢false}
+use Rattle.std.proofs.lemmas.List.{length-map, map-set, map_push}
+use Rattle.std.proofs.lemmas.List.Quantifiers.{all_pairs_push}
+use Rattle.paraid_base.specs.declared.block.Block.{Block}
+use Rattle.paraid_base.specs.Xor.{zeroed}
+use Rattle.paraid_record.specs.declared.targets.Target.{Target}
+use Rattle.paraid_record.specs.Targets.{no_target}
+use Rattle.paraid_txn.specs.declared.batch.Staged.{Staged}
+use Rattle.paraid_txn.specs.Neutral.{names}
+use Rattle.paraid_txn.specs.Sides.{Batch, targets}
+use Rattle.paraid_txn.specs.Staging.{blocks, names_disk, with_target}
+use Rattle.paraid_txn.specs.Standing.{laid}
+
+-- whether two targets are the same, as the definitions test it
+abbrev pub is_same : Target → Target → Bool
+is_same s t = s.disk == t.disk && s.place == t.place
+
+pub same_target : (s t : Target) → is_same s t ≡ true → s ≡ t
+same_target s t h =
+    let both = and_parts (s.disk == t.disk) (s.place == t.place) h in
+    λ u. record { disk = eqb-true s.disk t.disk both.0 u; place = eqb-true s.place t.place both.1 u }
+
+pub is_same-true : (s t : Target) → s ≡ t → is_same s t ≡ true
+is_same-true s t e = and_from (s.disk == t.disk) (s.place == t.place)
+    (eq-eqb s.disk t.disk (ap (λ (x : Target). x.disk) e)) (eq-eqb s.place t.place (ap (λ (x : Target). x.place) e))
+
+pub is_same-false : (s t : Target) → s ≢ t → is_same s t ≡ false
+is_same-false s t not = false_from_ne_true (is_same s t) (λ h. not (same_target s t h))
+
+pub other_target : (s t : Target) → is_same s t ≡ false → s ≢ t
+other_target s t h e = true≢false (sym (is_same-true s t e) ∙ h)
+
+-- the lists of targets and blocks are maps
+
+pub targets-map : (b : Batch) → targets b ≡ map (λ w. w.0) b
+targets-map [] = refl
+targets-map (w ∷ b) = ap (λ l. w.0 ∷ l) (targets-map b)
+
+pub blocks-map : (b : Batch) → blocks b ≡ map (λ w. w.1) b
+blocks-map [] = refl
+blocks-map (w ∷ b) = ap (λ l. w.1 ∷ l) (blocks-map b)
+
+pub length-targets : (b : Batch) → length (targets b) ≡ length b
+length-targets [] = refl
+length-targets (w ∷ b) = ap suc (length-targets b)
+
+pub length-blocks : (b : Batch) → length (blocks b) ≡ length b
+length-blocks [] = refl
+length-blocks (w ∷ b) = ap suc (length-blocks b)
+
+-- a batch that does not name a target
+
+pub names-off : (b : Batch) (t : Target) → ((k : ℕ) → k < length b → get_or (targets b) k no_target ≢ t) → names b t.disk t.place ≡ false
+names-off [] t off = refl
+names-off (w ∷ b) t off = or_from (is_same w.0 t) (names b t.disk t.place)
+    (is_same-false w.0 t (off zero (omega arith)))
+    (names-off b t (λ k below. off (suc k) (omega arith)))
+
+-- no target stands twice
+abbrev pub AreApart : List Target → Type 0
+AreApart = AllPairs (λ s t. s ≢ t)
+
+pub AreApart-rest : (w : Target × Block) (b : Batch) → AreApart (targets (w ∷ b)) → AreApart (targets b)
+AreApart-rest w b apart i j d low high = apart (suc i) (suc j) d (omega arith) (omega arith)
+
+-- none of the others is the first
+pub names-rest : (w : Target × Block) (b : Batch) → AreApart (targets (w ∷ b)) → names b w.0.disk w.0.place ≡ false
+names-rest w b apart = names-off b w.0 (λ k below e.
+    let far : suc k < length (targets (w ∷ b)) = (let same = length-targets b in omega arith) in
+    apart zero (suc k) no_target (omega arith) far (sym e))
+
+pub names-at : (b : Batch) (at : ℕ) (t : Target) → at < length b → get_or (targets b) at no_target ≡ t → names b t.disk t.place ≡ true
+names-at [] at t below is = absurd (omega arith)
+names-at (w ∷ b) zero t below is = or_left (is_same w.0 t) (names b t.disk t.place) (is_same-true w.0 t is)
+names-at (w ∷ b) (suc at) t below is = or_right (is_same w.0 t) (names b t.disk t.place) (names-at b at t (omega arith) is)
+
+-- a place that is named is that of some target
+pub names-found : (b : Batch) (d p : ℕ) → names b d p ≡ true
+    → (k : ℕ) × (k < length b) × (get_or (targets b) k no_target ≡ record { disk = d; place = p })
+names-found [] d p named = absurd (true≢false (sym named))
+names-found (w ∷ b) d p named = elim (or_cases (w.0.disk == d && w.0.place == p) (names b d p) named) [
+  | inl here ↦ (zero, omega arith, same_target w.0 (record { disk = d; place = p }) here)
+  | inr there ↦ let found = names-found b d p there in (suc found.0, omega (arith, found.1), found.2)
+]
+
+-- whether a target is on a disk
+
+pub names_disk-at : (b : Batch) (at : ℕ) → at < length b → names_disk b (get_or (targets b) at no_target).disk ≡ true
+names_disk-at [] at below = absurd (omega arith)
+names_disk-at (w ∷ b) zero below = or_left (w.0.disk == w.0.disk) (names_disk b w.0.disk) (eq-eqb w.0.disk w.0.disk refl)
+names_disk-at (w ∷ b) (suc at) below =
+    let d = (get_or (targets b) at no_target).disk in
+    or_right (w.0.disk == d) (names_disk b d) (names_disk-at b at (omega arith))
+
+pub names_disk-named : (b : Batch) (d p : ℕ) → names b d p ≡ true → names_disk b d ≡ true
+names_disk-named b d p named =
+    let found = names-found b d p named in
+    subst (λ (t : Target). names_disk b t.disk ≡ true) found.2 (names_disk-at b found.0 found.1)
+
+-- a later target is not the first
+first-differs : (w : Target × Block) (b : Batch) (at : ℕ) (t : Target) → at < length b → get_or (targets b) at no_target ≡ t
+    → AreApart (targets (w ∷ b)) → is_same w.0 t ≡ false
+first-differs w b at t below is apart = is_same-false w.0 t (λ e.
+    let high : suc at < length (targets (w ∷ b)) = (let same = length-targets b in omega arith) in
+    apart zero (suc at) no_target (omega arith) high (e ∙ sym is))
+
+-- with the block of a target
+
+pub with_target-at : (b : Batch) (at : ℕ) (t : Target) (x : Block) → at < length b → get_or (targets b) at no_target ≡ t
+    → AreApart (targets b) → with_target b t x ≡ set b at (t, x)
+with_target-at [] at t x below is apart = absurd (omega arith)
+with_target-at (w ∷ b) zero t x below is apart = rw (is_same-true w.0 t is) (ap (λ (s : Target). (s, x) ∷ b) is)
+with_target-at (w ∷ b) (suc at) t x below is apart =
+    rw (first-differs w b at t (omega arith) is apart) (ap (λ (l : Batch). w ∷ l) (with_target-at b at t x (omega arith) is (AreApart-rest w b apart)))
+
+pub with_target-new : (b : Batch) (t : Target) (x : Block) → names b t.disk t.place ≡ false → with_target b t x ≡ b ++ (t, x) ∷ []
+with_target-new [] t x not = refl
+with_target-new (w ∷ b) t x not =
+    let parts = or_parts (is_same w.0 t) (names b t.disk t.place) not in
+    rw parts.0 (ap (λ (l : Batch). w ∷ l) (with_target-new b t x parts.1))
+
+-- what is laid
+
+pub laid-other : (b : Batch) (d p : ℕ) (below : Block) → names b d p ≡ false → laid b d p below ≡ below
+laid-other [] d p below not = refl
+laid-other (w ∷ b) d p below not =
+    let parts = or_parts (w.0.disk == d && w.0.place == p) (names b d p) not in
+    rw parts.0 (laid-other b d p below parts.1)
+
+pub laid-at : (b : Batch) (at : ℕ) (t : Target) (any : Block) → at < length b → get_or (targets b) at no_target ≡ t
+    → AreApart (targets b) → laid b t.disk t.place any ≡ get_or (blocks b) at zeroed
+laid-at [] at t any below is apart = absurd (omega arith)
+laid-at (w ∷ b) zero t any below is apart =
+    let not : names b t.disk t.place ≡ false = subst (λ (s : Target). names b s.disk s.place ≡ false) is (names-rest w b apart) in
+    rw (is_same-true w.0 t is) (laid-other b t.disk t.place w.1 not)
+laid-at (w ∷ b) (suc at) t any below is apart =
+    rw (first-differs w b at t (omega arith) is apart) (laid-at b at t any (omega arith) is (AreApart-rest w b apart))
+
+-- as the program keeps a batch
+
+abbrev pub AreHeldApart : List Staged → Type 0
+AreHeldApart = AllPairs (λ s t. s.target ≢ t.target)
+
+abbrev pub held : List Staged → Batch
+held items = map (λ s. (s.target, s.block)) items
+
+pub length-held : (items : List Staged) → length (held items) ≡ length items
+length-held items = length-map items (λ s. (s.target, s.block))
+
+pub targets-held : (items : List Staged) (at : ℕ) (d : Staged) (e : Target) → at < length items
+    → get_or (targets (held items)) at e ≡ (get_or items at d).target
+targets-held [] at d e below = absurd (omega arith)
+targets-held (s ∷ items) zero d e below = refl
+targets-held (s ∷ items) (suc at) d e below = targets-held items at d e (omega arith)
+
+pub blocks-held : (items : List Staged) (at : ℕ) (d : Staged) (e : Block) → at < length items
+    → get_or (blocks (held items)) at e ≡ (get_or items at d).block
+blocks-held [] at d e below = absurd (omega arith)
+blocks-held (s ∷ items) zero d e below = refl
+blocks-held (s ∷ items) (suc at) d e below = blocks-held items at d e (omega arith)
+
+pub names_disk-held : (items : List Staged) (d : ℕ) → names_disk (held items) d ≡ list_any (λ s. s.target.disk == d) items
+names_disk-held [] d = refl
+names_disk-held (s ∷ items) d = ap (λ (b : Bool). s.target.disk == d || b) (names_disk-held items d)
+
+-- what is read of the list that stands for batch `b`
+module _ (items : List Staged) (b : Batch) (view : held items ≡ b) where
+  pub length-view : length items ≡ length b
+  length-view = sym (length-held items) ∙ ap length view
+
+  pub target-read : (at : ℕ) (s : Staged) → at < length items → s ≡ get_or items at s → get_or (targets b) at no_target ≡ s.target
+  target-read at s below read =
+      ap (λ (w : Batch). get_or (targets w) at no_target) (sym view) ∙ targets-held items at s no_target below ∙ ap (λ (x : Staged). x.target) (sym read)
+
+  pub block-read : (at : ℕ) (s : Staged) → at < length items → s ≡ get_or items at s → get_or (blocks b) at zeroed ≡ s.block
+  block-read at s below read =
+      ap (λ (w : Batch). get_or (blocks w) at zeroed) (sym view) ∙ blocks-held items at s zeroed below ∙ ap (λ (x : Staged). x.block) (sym read)
+
+  pub targets-apart : AreHeldApart items → AreApart (targets b)
+  targets-apart apart i j d low high e =
+      let all = length-targets b in
+      let below : j < length items = omega (arith, length-view) in
+      let s : Staged = record { target = d; block = zeroed } in
+      apart i j s low below (sym (targets-held items i s d (omega arith))
+      ∙ ap (λ (w : Batch). get_or (targets w) i d) view ∙ e ∙ ap (λ (w : Batch). get_or (targets w) j d) (sym view)
+      ∙ targets-held items j s d below)
+
+  -- the block of a held target is replaced
+  pub held-set : (at : ℕ) (s : Staged) (t : Target) (x : Block) → AreHeldApart items → at < length items
+      → s ≡ get_or items at s → get_or (targets b) at no_target ≡ t
+      → held (set items at (record { target = s.target; block = x })) ≡ with_target b t x
+  held-set at s t x apart below read is =
+      map-set (λ (z : Staged). (z.target, z.block)) items at (record { target = s.target; block = x })
+      ∙ ap (λ (w : Batch). set w at (s.target, x)) view
+      ∙ ap (λ (u : Target). set b at (u, x)) (sym (target-read at s below read) ∙ is)
+      ∙ sym (with_target-at b at t x (omega (arith, length-view)) is (targets-apart apart))
+
+  -- a new target
+  pub held-push : (s : Staged) → names b s.target.disk s.target.place ≡ false → held (items ++ s ∷ []) ≡ with_target b s.target s.block
+  held-push s new = map_push (λ (z : Staged). (z.target, z.block)) items s ∙ ap (λ (w : Batch). w ++ (s.target, s.block) ∷ []) view
+      ∙ sym (with_target-new b s.target s.block new)
+
+  pub apart-push : (s : Staged) → AreHeldApart items → names b s.target.disk s.target.place ≡ false
+      → AreHeldApart (items ++ s ∷ [])
+  apart-push s apart new = all_pairs_push (λ s t. s.target ≢ t.target) items s apart
+      (λ k d below e. true≢false (sym (names-read k d below e) ∙ new))
+    where
+      names-read : (k : ℕ) (d : Staged) → k < length items → (get_or items k d).target ≡ s.target → names b s.target.disk s.target.place ≡ true
+      names-read k d below e = names-at b k s.target (omega (arith, length-view))
+          (ap (λ (w : Batch). get_or (targets w) k no_target) (sym view) ∙ targets-held items k d no_target below ∙ e)

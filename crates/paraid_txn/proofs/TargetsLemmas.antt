@@ -1,0 +1,107 @@
+-- The targets of a batch, one after the other.
+use Rattle.std.specs.Prelude.{◌≡◌, ◌≢◌, ℕ, ◌+◌, ◌<◌, ◌≤◌, ◌==◌, ◌&&◌, ◌||◌, Bool, true, false, [], ◌∷◌, All, length, take, get_or, if◌then◌else◌}
+use Rattle.std.proofs.Common.{zero, suc, refl, sym, ap, ◌∙◌, inl, inr, arith}
+use Rattle.std.proofs.lemmas.Bool.{and_from, and_left, and_parts, cases_Bool, cases_lt, eq-eqb, eqb-true, false≢true, ne_eqb, or_from, or_parts}
+use Rattle.std.proofs.lemmas.List.Elements.{All-head, All-tail}
+use Rattle.paraid_base.specs.declared.block.Block.{Block}
+use Rattle.paraid_base.specs.Xor.{zeroed}
+use Rattle.paraid_record.specs.declared.targets.Target.{Target}
+use Rattle.paraid_record.specs.Targets.{no_target}
+use Rattle.paraid_txn.specs.Neutral.{names}
+use Rattle.paraid_txn.specs.Sides.{Batch, targets}
+use Rattle.paraid_txn.specs.Staging.{blocks, names_disk}
+use Rattle.paraid_txn.specs.Standing.{laid}
+
+pub length-targets : (batch : Batch) → length (targets batch) ≡ length batch
+length-targets [] = refl
+length-targets (w ∷ batch) = ap suc (length-targets batch)
+
+or_true : (x : Bool) → (x || true) ≡ true
+or_true true = refl
+or_true false = refl
+
+abbrev pub target_at : Batch → ℕ → Target
+target_at batch n = get_or (targets batch) n no_target
+
+is_at : (d0 p0 d p : ℕ) → d ≡ d0 → p ≡ p0 → (d0 == d && p0 == p) ≡ true
+is_at d0 p0 d p is at = and_from (d0 == d) (p0 == p) (eq-eqb d0 d (sym is)) (eq-eqb p0 p (sym at))
+
+is_not_at : (d0 p0 d p : ℕ) → (d ≡ d0 → p ≢ p0) → (d0 == d && p0 == p) ≡ false
+is_not_at d0 p0 d p apart = elim (cases_Bool (d0 == d && p0 == p)) [
+  | inl on ↦ let parts = and_parts (d0 == d) (p0 == p) on in
+      absurd (apart (sym (eqb-true d0 d parts.0)) (sym (eqb-true p0 p parts.1)))
+  | inr off ↦ off
+]
+
+pub names-target_at : (batch : Batch) (n : ℕ) → n < length batch → names batch (target_at batch n).disk (target_at batch n).place ≡ true
+names-target_at [] n lt = absurd (omega arith)
+names-target_at (w ∷ batch) zero lt = ap (λ (t : Bool). t || names batch w.0.disk w.0.place)
+    (is_at w.0.disk w.0.place w.0.disk w.0.place refl refl)
+names-target_at (w ∷ batch) (suc n) lt =
+    let t = target_at batch n in
+    ap (λ (b : Bool). (w.0.disk == t.disk && w.0.place == t.place) || b) (names-target_at batch n (omega arith))
+    ∙ or_true (w.0.disk == t.disk && w.0.place == t.place)
+
+-- one more target is laid over what the first ones leave
+laid-next : (batch : Batch) (n d p : ℕ) (b : Block) → n < length batch
+    → laid (take (suc n) batch) d p b ≡ (if (target_at batch n).disk == d && (target_at batch n).place == p
+    then get_or (blocks batch) n zeroed else laid (take n batch) d p b)
+laid-next [] n d p b lt = absurd (omega arith)
+laid-next (w ∷ batch) zero d p b lt = refl
+laid-next (w ∷ batch) (suc n) d p b lt = laid-next batch n d p (if w.0.disk == d && w.0.place == p then w.1 else b) (omega arith)
+
+pub laid-next_here : (batch : Batch) (n d p : ℕ) (b : Block) → n < length batch
+    → d ≡ (target_at batch n).disk → p ≡ (target_at batch n).place
+    → laid (take (n + 1) batch) d p b ≡ get_or (blocks batch) n zeroed
+laid-next_here batch n d p b lt is at =
+    let t = target_at batch n in
+    let more : n + 1 ≡ suc n = omega arith in
+    ap (λ (k : ℕ). laid (take k batch) d p b) more ∙ laid-next batch n d p b lt
+    ∙ ap (λ (c : Bool). if c then get_or (blocks batch) n zeroed else laid (take n batch) d p b) (is_at t.disk t.place d p is at)
+
+pub laid-next_else : (batch : Batch) (n d p : ℕ) (b : Block) → n < length batch
+    → (d ≡ (target_at batch n).disk → p ≢ (target_at batch n).place)
+    → laid (take (n + 1) batch) d p b ≡ laid (take n batch) d p b
+laid-next_else batch n d p b lt apart =
+    let t = target_at batch n in
+    let more : n + 1 ≡ suc n = omega arith in
+    ap (λ (k : ℕ). laid (take k batch) d p b) more ∙ laid-next batch n d p b lt
+    ∙ ap (λ (c : Bool). if c then get_or (blocks batch) n zeroed else laid (take n batch) d p b) (is_not_at t.disk t.place d p apart)
+
+-- a disk that has no target
+pub names-no_disk : (batch : Batch) (d p : ℕ) → names_disk batch d ≡ false → names batch d p ≡ false
+names-no_disk [] d p off = refl
+names-no_disk (w ∷ batch) d p off =
+    let parts = or_parts (w.0.disk == d) (names_disk batch d) off in
+    or_from (w.0.disk == d && w.0.place == p) (names batch d p) (and_left (w.0.disk == d) (w.0.place == p) parts.0) (names-no_disk batch d p parts.1)
+
+pub names_disk-target_at : (batch : Batch) (n : ℕ) → n < length batch → names_disk batch (target_at batch n).disk ≡ true
+names_disk-target_at batch n lt = elim (cases_Bool (names_disk batch (target_at batch n).disk)) [
+  | inl on ↦ on
+  | inr off ↦
+      let none = names-no_disk batch (target_at batch n).disk (target_at batch n).place off in
+      absurd (false≢true (sym none ∙ names-target_at batch n lt))
+]
+
+-- all targets are on the first `n` disks
+pub names_disk-above : (batch : Batch) (n d : ℕ) → All (λ (t : Target). t.disk < n) (targets batch) → n ≤ d → names_disk batch d ≡ false
+names_disk-above [] n d below le = refl
+names_disk-above (w ∷ batch) n d below le =
+    let P = λ (t : Target). t.disk < n in
+    let low : w.0.disk < n = All-head P w.0 (targets batch) below in
+    or_from (w.0.disk == d) (names_disk batch d) (ne_eqb w.0.disk d (λ is. omega arith))
+    (names_disk-above batch n d (All-tail P w.0 (targets batch) below) le)
+
+pub names_disk-below : (batch : Batch) (n d : ℕ) → All (λ (t : Target). t.disk < n) (targets batch) → names_disk batch d ≡ true → d < n
+names_disk-below batch n d below on = elim (cases_lt d n) [
+  | inl lt ↦ lt
+  | inr le ↦ absurd (false≢true (sym (names_disk-above batch n d below le) ∙ on))
+]
+
+-- what holds of all targets holds of one on each disk that has targets
+pub target_on : (P : Target → Type 0) (batch : Batch) (d : ℕ) → All P (targets batch) → names_disk batch d ≡ true → (t : Target) × (t.disk ≡ d) × P t
+target_on P [] d all on = absurd (false≢true on)
+target_on P (w ∷ batch) d all on = elim (cases_Bool (w.0.disk == d)) [
+  | inl is ↦ (w.0, eqb-true w.0.disk d is, All-head P w.0 (targets batch) all)
+  | inr not ↦ target_on P batch d (All-tail P w.0 (targets batch) all) (ap (λ (b : Bool). b || names_disk batch d) (sym not) ∙ on)
+]

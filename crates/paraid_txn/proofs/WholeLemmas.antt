@@ -1,0 +1,159 @@
+-- Each stage of a commit leaves the old contents or the new ones.
+use Rattle.std.specs.Prelude.{◌≡◌, ◌≢◌, ◌⊎◌, ℕ, ◌+◌, ◌<◌, ◌≤◌, ◌==◌, ◌&&◌, ◌||◌, nat_lt, Bool, true, false, List, [], ◌∷◌, length, get_or, if◌then◌else◌, Some}
+use Rattle.std.proofs.Common.{refl, sym, ◌∙◌, ap, subst, arith, inl, inr, zero, suc}
+use Rattle.std.proofs.lemmas.Bool.{cases_Bool, false≢true, and_from, lt-ltb, or_parts}
+use Rattle.paraid_base.specs.declared.block.Block.{Block}
+use Rattle.paraid_base.specs.Xor.{zeroed}
+use Rattle.paraid_rack.specs.Atoms.{IsLeft, Seen, Sure}
+use Rattle.paraid_rack.specs.Disks.{Disks, IsPresent, is_present}
+use Rattle.paraid_rack.proofs.AtomsLemmas.{left_sure}
+use Rattle.paraid_record.specs.declared.targets.Target.{Target}
+use Rattle.paraid_txn.specs.Commit.{closed_over}
+use Rattle.paraid_txn.specs.Neutral.{names}
+use Rattle.paraid_txn.specs.Sides.{AreLogged, Batch, Says, SaysBy, Spells, has_place, is_open, stored}
+use Rattle.paraid_txn.specs.Staging.{blocks}
+use Rattle.paraid_txn.specs.Standing.{laid}
+use Rattle.paraid_txn.specs.Stages.{Closing, Early, Is, IsBeside, IsIn, IsKept, IsLive, IsSpelled, Job, Laid, Late, Laying, Logged, Logging, Marking, Opening, Untouched, Whole, becomes, body, named, open_with, was}
+use Rattle.paraid_txn.proofs.NeutralLemmas.{laid-named, length-targets}
+
+-- where no target is, the batch lays nothing
+pub laid-unnamed : (batch : Batch) (d p : ℕ) (b : Block) → names batch d p ≡ false → laid batch d p b ≡ b
+laid-unnamed [] d p b off = refl
+laid-unnamed (w ∷ batch) d p b off =
+    let parts = or_parts (w.0.disk == d && w.0.place == p) (names batch d p) off in
+    ap (λ (t : Bool). laid batch d p (if t then w.1 else b)) parts.0 ∙ laid-unnamed batch d p b parts.1
+
+-- what is laid again stays
+pub laid-laid : (batch : Batch) (d p : ℕ) (b : Block) → laid batch d p (laid batch d p b) ≡ laid batch d p b
+laid-laid batch d p b = elim (cases_Bool (names batch d p)) [
+  | inl on ↦ laid-named batch d p (laid batch d p b) b on
+  | inr off ↦ ap (laid batch d p) (laid-unnamed batch d p b off)
+]
+
+-- a place of the log, on a disk that is there and large enough
+pub stored_here : (i : Disks) (x p : ℕ) → IsPresent i x → p < i.size x → stored i x p ≡ i.block x p
+unfolding stored
+stored_here i x p here lt =
+    ap (λ (t : Bool). if t then i.block x p else zeroed) (and_from (is_present (i.power x)) (nat_lt p (i.size x)) here (lt-ltb p (i.size x) lt))
+
+-- a batch that stands block by block from a place on is logged there
+logged_from : (log : ℕ → Block) (p : ℕ) (batch : Batch) → ((k : ℕ) → k < length batch → log (p + k) ≡ get_or (blocks batch) k zeroed) → AreLogged log p batch
+logged_from log p [] each = tt
+logged_from log p (w ∷ batch) each = (
+  (let e : p ≡ p + 0 = omega arith in ap log e ∙ each 0 (omega arith)),
+  logged_from log (suc p) batch (λ k lt. let e : suc p + k ≡ p + suc k = omega arith in ap log e ∙ each (suc k) (omega arith)),
+)
+
+pub left_kept : (j : Job) (s i : Disks) → IsKept j s → IsLeft s i → IsKept j i
+left_kept j s i k left = record {
+  present = λ d here. k.present d (left.present d here);
+  power = λ d here. left.power d here ∙ k.power d (left.present d here);
+  size = λ d here. left.size d here ∙ k.size d (left.present d here);
+  large = λ x live here. let a = k.large x live (left.present x here) in let b = left.size x here in omega arith;
+}
+
+left_aside : (j : Job) (s : Disks) → IsBeside j s → (i : Disks) → IsLeft s i → (y p : ℕ) → named j ≡ Some y → p < 100 → IsPresent i y → i.block y p ≡ j.start.block y p
+left_aside j s beside i left y p is lt here = left_sure (beside.aside.log y p is lt) left here
+
+module _ (j : Job) (good : IsSpelled j) (s i : Disks) (left : IsLeft s i) where
+  -- a live log disk whose log is the batch, by an open gate
+  open_says : IsKept j s → (x : ℕ) → IsLive j x → IsPresent i x → Logged j s x → is_open (i.block x 0) ≡ true → Says i x (open_with j)
+  open_says kept x live here logged gate = record {
+    present = here;
+    gate = ap is_open (at 0 (omega arith)) ∙ gate;
+    log = record {
+      meta = subst (λ (b : Block). Spells b j.meta) (sym (at 2 (omega arith) ∙ left_sure logged.meta left here)) good.meta;
+      in_range = good.in_range;
+      list = ap (λ (b : Block). b.bytes) (at 3 (omega arith) ∙ left_sure logged.list left here) ∙ good.list;
+      blocks = logged_from (stored i x) 4 j.batch (λ k lt.
+          let few = few_targets in
+          at (4 + k) (omega arith) ∙ left_sure (logged.blocks k lt) left here);
+    };
+  }
+    where
+      at : (p : ℕ) → p < 100 → stored i x p ≡ i.block x p
+      at p lt = let large = (left_kept j s i kept left).large x live here in stored_here i x p here (omega arith)
+
+      few_targets : length j.batch ≤ 96
+      few_targets = let n = length-targets j.batch in let few = good.in_range.few in omega arith
+
+  -- a live log disk that is closed over the new meta
+  closed_says : IsKept j s → (x : ℕ) → IsLive j x → IsPresent i x → Sure s x 1 (Is j.spelled) → is_open (i.block x 0) ≡ false → Says i x (closed_over j.meta)
+  closed_says kept x live here meta gate = record {
+    present = here;
+    gate = ap is_open (at 0 (omega arith)) ∙ gate;
+    log = record { meta = subst (λ (b : Block). Spells b j.meta) (sym (at 1 (omega arith) ∙ left_sure meta left here)) good.meta; empty = refl };
+  }
+    where
+      at : (p : ℕ) → p < 100 → stored i x p ≡ i.block x p
+      at p lt = let large = (left_kept j s i kept left).large x live here in stored_here i x p here (omega arith)
+
+  -- an open gate is not closed over the new meta
+  not_closed : IsKept j s → (x : ℕ) → IsLive j x → IsPresent i x → is_open (i.block x 0) ≡ true → Says i x (closed_over j.meta) → ⊥
+  not_closed kept x live here gate says =
+      let large = (left_kept j s i kept left).large x live here in
+      let at = stored_here i x 0 here (omega arith) in
+      false≢true (sym says.gate ∙ ap is_open at ∙ gate)
+
+module _ (j : Job) (good : IsSpelled j) where
+  pub logging_whole : (k : ℕ) (s : Disks) → Logging j k s → Whole j s
+  logging_whole k s c = record {
+    either = inl (λ i left. record {
+      kept = left_kept j s i c.beside.kept left;
+      sides = λ x live here. inl (left_sure (c.shut x live) left here, left_sure (c.meta x live) left here);
+      held = λ d p here far. left_sure (c.held d p far) left here;
+    });
+    aside = left_aside j s c.beside;
+  }
+
+  pub opening_whole : (k : ℕ) (s : Disks) → Opening j k s → Whole j s
+  opening_whole k s c = record {
+    either = inl (λ i left. record {
+      kept = left_kept j s i c.beside.kept left;
+      sides = λ x live here. elim (cases_Bool (is_open (i.block x 0))) [
+        | inl gate ↦ inr (open_says j good s i left c.beside.kept x live here (c.logged x live) gate)
+        | inr shut ↦ inl (shut, left_sure (c.meta x live) left here)
+      ];
+      held = λ d p here far. left_sure (c.held d p far) left here;
+    });
+    aside = left_aside j s c.beside;
+  }
+
+  pub laying_whole : (s : Disks) → Laying j s → Whole j s
+  laying_whole s c = record {
+    either = inr (λ i left. record {
+      kept = left_kept j s i c.beside.kept left;
+      sides = λ x live here. inl (open_says j good s i left c.beside.kept x live here (c.logged x live) (left_sure (c.opened x live) left here));
+      held = λ d p ins here far. elim (c.others d p far) [
+        | inl on ↦ laid-named j.batch d p (i.block d p) (was j d p) on
+        | inr sure ↦ ap (laid j.batch d p) (left_sure sure left here)
+      ];
+      done = λ x d p live here says ins there far. absurd (not_closed j good s i left c.beside.kept x live here (left_sure (c.opened x live) left here) says);
+    });
+    aside = left_aside j s c.beside;
+  }
+
+  pub marking_whole : (k : ℕ) (s : Disks) → Marking j k s → Whole j s
+  marking_whole k s c = record {
+    either = inr (λ i left. record {
+      kept = left_kept j s i c.beside.kept left;
+      sides = λ x live here. inl (open_says j good s i left c.beside.kept x live here (c.logged x live) (left_sure (c.opened x live) left here));
+      held = λ d p ins here far. ap (laid j.batch d p) (left_sure (c.held d p ins far) left here) ∙ laid-laid j.batch d p (was j d p);
+      done = λ x d p live here says ins there far. left_sure (c.held d p ins far) left there;
+    });
+    aside = left_aside j s c.beside;
+  }
+
+  pub closing_late : (k : ℕ) (s : Disks) → Closing j k s → (i : Disks) → IsLeft s i → Late j i
+  closing_late k s c i left = record {
+    kept = left_kept j s i c.beside.kept left;
+    sides = λ x live here. elim (cases_Bool (is_open (i.block x 0))) [
+      | inl gate ↦ inl (open_says j good s i left c.beside.kept x live here (c.logged x live) gate)
+      | inr shut ↦ inr (closed_says j good s i left c.beside.kept x live here (c.meta x live) shut)
+    ];
+    held = λ d p ins here far. ap (laid j.batch d p) (left_sure (c.held d p ins far) left here) ∙ laid-laid j.batch d p (was j d p);
+    done = λ x d p live here says ins there far. left_sure (c.held d p ins far) left there;
+  }
+
+  pub closing_whole : (k : ℕ) (s : Disks) → Closing j k s → Whole j s
+  closing_whole k s c = record { either = inr (closing_late k s c); aside = left_aside j s c.beside }

@@ -1,0 +1,96 @@
+use Rattle.std.specs.Prelude.{◌≡◌, ◌≢◌, ℕ, ◌+◌, ◌<◌, ◌≤◌, true, get_or, length, Some}
+use Rattle.std.proofs.Common.{ap, arith, refl, rules, subst, sym, ◌∙◌}
+use Rattle.paraid_base.specs.Xor.{zeroed}
+use Rattle.paraid_rack.specs.Told.{Ran, Runs}
+use Rattle.paraid_record.specs.declared.targets.Target.{Target}
+use Rattle.paraid_record.specs.Targets.{no_target}
+use Rattle.paraid_txn.specs.Losses.{AreDryBut, CanWrite}
+use Rattle.paraid_txn.specs.Sides.{Batch, targets}
+use Rattle.paraid_txn.specs.Stages.{IsSpelled, Job, LayIn, Whole, body, gone}
+use Rattle.paraid_txn.specs.Staging.{blocks, names_disk}
+use Rattle.paraid_txn.proofs.PartsLemmas.{andthen, ends, lay_ran, lay_whole, nothing_ran}
+use Rattle.paraid_txn.proofs.ReadyLemmas.{dry_then, targets_stay_ready}
+use Rattle.paraid_txn.proofs.TargetsLemmas.{length-targets, names_disk-target_at, target_at}
+use Rattle.paraid_txn.proofs.commit.lay.Given.{Over}
+use Rattle.paraid_txn.proofs.commit.lay.Goals as goal
+use Rattle.paraid_txn.proofs.commit.lay.Goals.{After-block, After-put}
+
+-- the next target is on a slot that exists and can be written
+ready : (g : Over) (c : After-block g) → let t = c.target-target.result in (t.disk < g.R.Rack.slot_count c.loop-at.rack)
+    × (c.args.skip ≢ Some t.disk → CanWrite (g.R.Rack.slot c.loop-at.rack) t.disk t.place)
+ready g c =
+    let long = length-targets c.args.batch.now in
+    rw c.target-target.ensures (c.loop-at.invariant.ready c.loop-at.at no_target (omega arith))
+
+-- and past the log
+past_log : (g : Over) (c : After-put g) → 100 ≤ c.target-target.result.place
+past_log g c =
+    let long = length-targets c.args.batch.now in
+    rw c.target-target.ensures (c.requires.past_log c.loop-at.at no_target (omega arith))
+
+-- a disk that is wet after it is one that has targets
+wet : (g : Over) (c : After-put g) → AreDryBut (λ d. (names_disk c.args.batch.now d ≡ true) × (c.args.skip ≢ Some d))
+    (g.R.Rack.slot c.args.rack.now) (g.R.Rack.slot c.put.new.rack)
+wet g c =
+    let there : target_at c.args.batch.now c.loop-at.at ≡ c.target-target.result = cc in
+    let on : names_disk c.args.batch.now c.target-target.result.disk ≡ true =
+    subst (λ (t : Target). names_disk c.args.batch.now t.disk ≡ true) there (names_disk-target_at c.args.batch.now c.loop-at.at (omega arith)) in
+    dry_then (g.R.Rack.slot c.args.rack.now) _ _ (λ d. (names_disk c.args.batch.now d ≡ true) × (c.args.skip ≢ Some d)) c.put.ensures.lasts
+    (λ d is. is) (λ d is. (rw is.0 on, is.1)) c.loop-at.invariant.dry c.put.ensures.dry
+
+pub put-requires-clause-exists : goal.put-requires-clause-exists
+put-requires-clause-exists g c = (ready g c).0
+
+pub put-requires-clause-can : goal.put-requires-clause-can
+put-requires-clause-can g c not = (ready g c).1 not
+
+-- one more target
+next : (g : Over) (c : After-put g) (j : Job) → IsSpelled j → gone j ≡ c.args.skip → j.batch ≡ c.args.batch.now
+    → Ran (g.R.Rack.told c.args.rack.now) (g.R.Rack.told c.put.new.rack) (Runs (Whole j) (LayIn j 0) (LayIn j (c.loop-at.at + 1)))
+next g c j good is same =
+    let n = c.loop-at.at in
+    let t = c.target-target.result in
+    let long : length j.batch ≡ length c.args.batch.now = ap length same in
+    let lt : n < length j.batch = omega arith in
+    let held : get_or (blocks c.args.batch.now) n zeroed ≡ c.block.result.now = cc in
+    let block : body j n ≡ c.block.result.now = ap (λ (batch : Batch). get_or (blocks batch) n zeroed) same ∙ held in
+    let there : target_at c.args.batch.now n ≡ t = cc in
+    let target : target_at j.batch n ≡ t = ap (λ (batch : Batch). target_at batch n) same ∙ there in
+    andthen (c.loop-at.invariant.ran j good is same)
+    (lay_ran j good (g.met.R.Rack.agrees c.loop-at.rack) is n t lt target (past_log g c) block c.put.ensures.does)
+
+pub loop-at-init : goal.loop-at-init
+loop-at-init g c = record {
+  slots = refl;
+  ready = c.requires.ready;
+  lasts = search rules;
+  well = search rules;
+  dry = search rules;
+  ran = λ j good is same. nothing_ran (lay_whole j good 0);
+}
+
+pub loop-at-preserved : goal.loop-at-preserved
+loop-at-preserved g c = record {
+  slots = c.put.ensures.slots ∙ c.loop-at.invariant.slots;
+  ready = targets_stay_ready _ _ _ _ c.put.ensures.lasts c.put.ensures.slots c.loop-at.invariant.ready;
+  lasts = search rules;
+  well = search rules;
+  dry = wet g (goal.at.loop-at-preserved g c).After-put;
+  ran = next g (goal.at.loop-at-preserved g c).After-put;
+}
+
+pub returns-in_err-put-clause-dry : goal.returns-in_err-put-clause-dry
+returns-in_err-put-clause-dry g c = wet g (goal.at.returns-in_err-put-clause-dry g c).After-put
+
+pub returns-in_err-put-clause-moments : goal.returns-in_err-put-clause-moments
+returns-in_err-put-clause-moments g c j good is same =
+    ends (lay_whole j good (c.loop-at.at + 1)) (next g (goal.at.returns-in_err-put-clause-moments g c).After-put j good is same)
+
+pub returns-clause-moments : goal.returns-clause-moments
+returns-clause-moments g c j good is same = ends (lay_whole j good c.loop-at.at) (c.loop-at.invariant.ran j good is same)
+
+pub returns-clause-done : goal.returns-clause-done
+returns-clause-done g c j good is same =
+    let all : c.loop-at.at ≡ length c.args.batch.now = omega arith in
+    subst (λ (n : ℕ). Ran (g.R.Rack.told c.args.rack.now) (g.R.Rack.told c.loop-at.rack) (Runs (Whole j) (LayIn j 0) (LayIn j n)))
+    all (c.loop-at.invariant.ran j good is same)

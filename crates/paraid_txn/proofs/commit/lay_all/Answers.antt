@@ -1,0 +1,17 @@
+use Rattle.std.specs.Prelude.{length}
+use Rattle.std.proofs.Common.{ap}
+use Rattle.paraid_txn.proofs.PartsLemmas.{andthen, ends, from, mark_whole}
+use Rattle.paraid_txn.proofs.StepsLemmas.{lay_end}
+use Rattle.paraid_txn.proofs.commit.lay_all.Goals as goal
+
+pub returns-in_err-settle_all-clause-moments : goal.returns-in_err-settle_all-clause-moments
+returns-in_err-settle_all-clause-moments g c j good is same =
+    andthen (c.in_ok-lay.ensures.done j good is same) (from (lay_end j good (length c.args.batch.now) (ap length same)) (c.settle_all.ensures.moments j good is same))
+
+pub returns-clause-moments : goal.returns-clause-moments
+returns-clause-moments g c j good is same =
+    andthen (c.in_ok-lay.ensures.done j good is same) (from (lay_end j good (length c.args.batch.now) (ap length same)) (c.settle_all.ensures.moments j good is same))
+
+pub returns-clause-done : goal.returns-clause-done
+returns-clause-done g c j good is same =
+    andthen (c.in_ok-lay.ensures.done j good is same) (from (lay_end j good (length c.args.batch.now) (ap length same)) (c.in_ok-settle_all.ensures.done j good is same))

@@ -1,0 +1,60 @@
+use Rattle.std.specs.Prelude.{◌≡◌, ℕ, ◌+◌, ◌<◌, get_or, length}
+use Rattle.paraid_base.specs.Xor.{zeroed}
+use Rattle.std.proofs.Common.{ap, rules, subst, sym, ◌∙◌, refl, arith}
+use Rattle.paraid_rack.specs.Told.{Ran, Runs}
+use Rattle.paraid_rack.proofs.TrailsLemmas.{stays}
+use Rattle.paraid_txn.specs.Sides.{Batch}
+use Rattle.paraid_txn.specs.Stages.{IsSpelled, Job, LogIn, Whole, body, named}
+use Rattle.paraid_txn.specs.Staging.{blocks}
+use Rattle.paraid_txn.proofs.PartsLemmas.{andthen, ends, log_block_ran, log_in_whole, nothing_ran}
+use Rattle.paraid_txn.proofs.ReadyLemmas.{log_stays_ready}
+use Rattle.paraid_txn.proofs.commit.put_blocks.Given.{Over}
+use Rattle.paraid_txn.proofs.commit.put_blocks.Goals as goal
+use Rattle.paraid_txn.proofs.commit.put_blocks.Goals.{After-put}
+
+-- one more block
+next : (g : Over) (c : After-put g) (j : Job) → IsSpelled j → named j ≡ c.args.skip → j.batch ≡ c.args.batch.now
+    → Ran (g.R.Rack.told c.args.rack.now) (g.R.Rack.told c.put.new.rack)
+    (Runs (Whole j) (LogIn j c.args.disk 0) (LogIn j c.args.disk (c.loop-at.at + 1)))
+next g c j good is same =
+    let n = c.loop-at.at in
+    let long : length j.batch ≡ length c.args.batch.now = ap length same in
+    let lt : n < length j.batch = omega arith in
+    let held : get_or (blocks c.args.batch.now) n zeroed ≡ c.block.result.now = cc in
+    let block : body j n ≡ c.block.result.now = ap (λ (batch : Batch). get_or (blocks batch) n zeroed) same ∙ held in
+    andthen (c.loop-at.invariant.ran j good is same)
+    (log_block_ran j good (g.met.R.Rack.agrees c.loop-at.rack) is c.args.disk n lt (omega arith) block c.put.ensures.does)
+
+pub loop-at-init : goal.loop-at-init
+loop-at-init g c = record {
+  slots = refl;
+  log = c.requires.log;
+  lasts = search rules;
+  well = search rules;
+  dry = search rules;
+  ran = λ j good is same. nothing_ran (log_in_whole j good c.args.disk 0);
+}
+
+pub loop-at-preserved : goal.loop-at-preserved
+loop-at-preserved g c = record {
+  slots = c.put.ensures.slots ∙ c.loop-at.invariant.slots;
+  log = log_stays_ready c.put.ensures.lasts c.loop-at.invariant.log;
+  lasts = search rules;
+  well = search rules;
+  dry = search rules;
+  ran = next g (goal.at.loop-at-preserved g c).After-put;
+}
+
+pub returns-in_err-put-clause-moments : goal.returns-in_err-put-clause-moments
+returns-in_err-put-clause-moments g c j good is same =
+    ends (log_in_whole j good c.args.disk (c.loop-at.at + 1)) (next g (goal.at.returns-in_err-put-clause-moments g c).After-put j good is same)
+
+pub returns-clause-moments : goal.returns-clause-moments
+returns-clause-moments g c j good is same =
+    ends (log_in_whole j good c.args.disk c.loop-at.at) (c.loop-at.invariant.ran j good is same)
+
+pub returns-clause-done : goal.returns-clause-done
+returns-clause-done g c j good is same =
+    let all : c.loop-at.at ≡ length c.args.batch.now = omega arith in
+    subst (λ (n : ℕ). Ran (g.R.Rack.told c.args.rack.now) (g.R.Rack.told c.loop-at.rack) (Runs (Whole j) (LogIn j c.args.disk 0) (LogIn j c.args.disk n)))
+    all (c.loop-at.invariant.ran j good is same)

@@ -1,0 +1,55 @@
+use Rattle.std.specs.Prelude.{◌≡◌, ◌≢◌, ℕ, ◌+◌, ◌<◌, ◌≤◌, true, false, Some}
+use Rattle.std.proofs.Common.{ap, arith, below_more, refl, rules, sym, ◌∙◌}
+use Rattle.paraid_rack.specs.Told.{Ran, Runs}
+use Rattle.paraid_txn.specs.Losses.{IsDryAt}
+use Rattle.paraid_txn.specs.Neutral.{names}
+use Rattle.paraid_txn.specs.Sides.{Batch}
+use Rattle.paraid_txn.specs.Stages.{IsSpelled, Job, Mark, SettleIn, Whole, gone}
+use Rattle.paraid_txn.specs.Staging.{names_disk}
+use Rattle.paraid_txn.proofs.PartsLemmas.{andthen, ends, nothing_ran, settle_whole, upto}
+use Rattle.paraid_txn.proofs.ReadyLemmas.{stays_dry, targets_stay_ready}
+use Rattle.paraid_txn.proofs.StepsLemmas.{settle_end}
+use Rattle.paraid_txn.proofs.TargetsLemmas.{names-no_disk, names_disk-above, names_disk-below}
+use Rattle.paraid_txn.proofs.commit.settle_all.Goals as goal
+
+pub loop-disk-init : goal.loop-disk-init
+loop-disk-init g c = record {
+  slots = refl;
+  ready = c.requires.ready;
+  lasts = search rules;
+  well = search rules;
+  dry = search rules;
+  settled = λ d lt on not. absurd (omega arith);
+  ran = λ j good is same. nothing_ran (settle_whole j good 0);
+}
+
+pub loop-disk-preserved : goal.loop-disk-preserved
+loop-disk-preserved g c = record {
+  slots = c.settle_one.ensures.slots ∙ c.loop-disk.invariant.slots;
+  ready = targets_stay_ready _ _ _ _ c.settle_one.ensures.lasts c.settle_one.ensures.slots c.loop-disk.invariant.ready;
+  lasts = search rules;
+  well = search rules;
+  dry = search rules;
+  settled = below_more (λ d. names_disk c.args.batch.now d ≡ true → c.args.skip ≢ Some d → IsDryAt (g.R.Rack.slot c.settle_one.new.rack) d) c.loop-disk.disk
+      (λ d lt on not. stays_dry (g.R.Rack.slot c.loop-disk.rack) d c.settle_one.ensures.lasts c.settle_one.ensures.dry (c.loop-disk.invariant.settled d lt on not))
+      c.settle_one.ensures.settled;
+  ran = λ j good is same. andthen (c.loop-disk.invariant.ran j good is same) (c.in_ok-settle_one.ensures.done j good is same);
+}
+
+pub returns-in_err-settle_one-clause-moments : goal.returns-in_err-settle_one-clause-moments
+returns-in_err-settle_one-clause-moments g c j good is same =
+    andthen (c.loop-disk.invariant.ran j good is same) (c.settle_one.ensures.moments j good is same)
+
+pub returns-clause-settled : goal.returns-clause-settled
+returns-clause-settled g c d on not =
+    let below : d < c.args.disks = names_disk-below c.args.batch.now c.args.disks d c.requires.below on in
+    c.loop-disk.invariant.settled d (omega arith) on not
+
+pub returns-clause-moments : goal.returns-clause-moments
+returns-clause-moments g c j good is same = ends (settle_whole j good c.loop-disk.disk) (c.loop-disk.invariant.ran j good is same)
+
+pub returns-clause-done : goal.returns-clause-done
+returns-clause-done g c j good is same =
+    let above : (d p : ℕ) → c.loop-disk.disk ≤ d → names j.batch d p ≡ false = λ d p le.
+    rw same (names-no_disk c.args.batch.now d p (names_disk-above c.args.batch.now c.args.disks d c.requires.below (omega arith))) in
+    upto (λ s a. settle_end j good c.loop-disk.disk s above a) (c.loop-disk.invariant.ran j good is same)

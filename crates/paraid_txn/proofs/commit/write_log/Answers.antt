@@ -1,0 +1,71 @@
+use Rattle.std.specs.Prelude.{◌≡◌, ◌+◌, length}
+use Rattle.std.proofs.Common.{ap, subst, sym, arith}
+use Rattle.paraid_rack.specs.Told.{Ran, Runs}
+use Rattle.paraid_txn.specs.Sides.{Batch}
+use Rattle.paraid_txn.specs.Stages.{IsSpelled, Job, Log, LogIn, LogMeta, Whole, named}
+use Rattle.paraid_txn.proofs.PartsLemmas.{andthen, ends, log_in_whole, log_list_ran, log_meta_ran, log_meta_whole, log_sync_ran, log_whole}
+use Rattle.paraid_txn.proofs.ReadyLemmas.{log_can}
+use Rattle.paraid_txn.proofs.DownLemmas.{IfErr-two-later, Lasts-then}
+use Rattle.paraid_txn.proofs.commit.write_log.Given.{Over}
+use Rattle.paraid_txn.proofs.commit.write_log.Goals as goal
+use Rattle.paraid_txn.proofs.commit.write_log.Goals.{After-put, After-put-2, After-put_blocks, After-settle}
+
+pub settle-requires-clause-can : goal.settle-requires-clause-can
+settle-requires-clause-can g c not = log_can 0 c.put_blocks.ensures.log c.requires.log_disk (omega arith) not
+
+-- with the meta of the batch written
+first : (g : Over) (c : After-put g) (j : Job) → IsSpelled j → named j ≡ c.args.skip → j.spelled ≡ c.args.meta.now
+    → Ran (g.R.Rack.told c.args.rack.now) (g.R.Rack.told c.put.new.rack) (Runs (Whole j) (Log j c.args.disk) (LogMeta j c.args.disk))
+first g c j good is spelled = log_meta_ran j good (g.met.R.Rack.agrees c.args.rack.now) is c.args.disk spelled c.put.ensures.does
+
+-- and the list of its targets
+second : (g : Over) (c : After-put-2 g) (j : Job) → IsSpelled j → named j ≡ c.args.skip → j.list ≡ c.args.list.now
+    → Ran (g.R.Rack.told c.put.new.rack) (g.R.Rack.told c.put-2.new.rack) (Runs (Whole j) (LogMeta j c.args.disk) (LogIn j c.args.disk 0))
+second g c j good is list = log_list_ran j good (g.met.R.Rack.agrees c.put.new.rack) is c.args.disk list c.put-2.ensures.does
+
+-- the sync, after all blocks
+last : (g : Over) (c : After-settle g) (j : Job) → IsSpelled j → named j ≡ c.args.skip → j.batch ≡ c.args.batch.now
+    → Ran (g.R.Rack.told c.put_blocks.new.rack) (g.R.Rack.told c.settle.new.rack)
+    (Runs (Whole j) (LogIn j c.args.disk (length c.args.batch.now)) (Log j (c.args.disk + 1)))
+last g c j good is same =
+    rw (← (ap length same)) (log_sync_ran j good (g.met.R.Rack.agrees c.put_blocks.new.rack) is c.args.disk c.settle.ensures.does)
+
+pub returns-in_err-put-clause-moments : goal.returns-in_err-put-clause-moments
+returns-in_err-put-clause-moments g c j good is same list spelled =
+    ends (log_meta_whole j good c.args.disk) (first g (goal.at.returns-in_err-put-clause-moments g c).After-put j good is spelled)
+
+pub returns-in_err-put-2-clause-moments : goal.returns-in_err-put-2-clause-moments
+returns-in_err-put-2-clause-moments g c j good is same list spelled =
+    let at = goal.at.returns-in_err-put-2-clause-moments g c in
+    ends (log_in_whole j good c.args.disk 0) (andthen (first g at.After-put j good is spelled) (second g at.After-put-2 j good is list))
+
+pub returns-in_err-put_blocks-clause-moments : goal.returns-in_err-put_blocks-clause-moments
+returns-in_err-put_blocks-clause-moments g c j good is same list spelled =
+    let at = goal.at.returns-in_err-put_blocks-clause-moments g c in
+    andthen (first g at.After-put j good is spelled) (andthen (second g at.After-put-2 j good is list) (c.put_blocks.ensures.moments j good is same))
+
+pub returns-in_err-settle-clause-moments : goal.returns-in_err-settle-clause-moments
+returns-in_err-settle-clause-moments g c j good is same list spelled =
+    let at = goal.at.returns-in_err-settle-clause-moments g c in
+    ends (log_whole j good (c.args.disk + 1))
+    (andthen (first g at.After-put j good is spelled) (andthen (second g at.After-put-2 j good is list)
+    (andthen (c.in_ok-put_blocks.ensures.done j good is same) (last g at.After-settle j good is same))))
+
+pub returns-clause-moments : goal.returns-clause-moments
+returns-clause-moments g c j good is same list spelled =
+    let at = goal.at.returns-clause-moments g c in
+    ends (log_whole j good (c.args.disk + 1))
+    (andthen (first g at.After-put j good is spelled) (andthen (second g at.After-put-2 j good is list)
+    (andthen (c.in_ok-put_blocks.ensures.done j good is same) (last g at.After-settle j good is same))))
+
+pub returns-clause-done : goal.returns-clause-done
+returns-clause-done g c j good is same list spelled =
+    let at = goal.at.returns-clause-done g c in
+    andthen (first g at.After-put j good is spelled) (andthen (second g at.After-put-2 j good is list)
+    (andthen (c.in_ok-put_blocks.ensures.done j good is same) (last g at.After-settle j good is same)))
+
+pub returns-in_err-settle-clause-two : goal.returns-in_err-settle-clause-two
+returns-in_err-settle-clause-two g c =
+    let heads = Lasts-then _ _ _ _ _ _ c.put.ensures.lasts c.put-2.ensures.lasts in
+    let before = Lasts-then _ _ _ _ _ _ heads c.put_blocks.ensures.lasts in
+    IfErr-two-later _ _ _ _ _ _ _ _ c.from_residual-in_err-settle.ensures.1 before c.settle.ensures.lasts c.in_err-settle.ensures.two

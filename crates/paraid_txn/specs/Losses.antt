@@ -1,0 +1,83 @@
+-- Which disks are out of a commit, and what its calls leave of the slots.
+use Rattle.std.specs.Prelude.{◌≡◌, ◌≢◌, ℕ, ◌<◌, ◌≤◌, ◌⊎◌, Bool, true, false, Option, Some, Result, Ok, Err}
+use Rattle.paraid_base.specs.declared.fault.Two.{Two}
+use Rattle.paraid_base.specs.Told.{HasRisen}
+use Rattle.paraid_rack.specs.declared.call.Call.{Call}
+use Rattle.paraid_rack.specs.declared.call.Power.TheVariants.{Spinning, Absent}
+use Rattle.paraid_rack.specs.Disks.{is_present}
+use Rattle.paraid_rack.specs.Slots.{Slot}
+use Rattle.paraid_rack.specs.Told.{Grows}
+use Rattle.paraid_rack.specs.Trail.{Trail}
+use Rattle.paraid_txn.specs.declared.losses.Losses.{Losses}
+use Rattle.paraid_txn.specs.declared.store.Lost.{Lost as LostType}
+use Rattle.paraid_txn.specs.declared.store.Lost.TheVariants.{One as LostOne, Two as LostTwo}
+
+-- Two disks are down: the first was so, or has failed since, and then the second has failed.
+pub record IsTwo (down : Option ℕ) (old new : ℕ → Slot) (two : Two) : Type 0 where
+  pub first : (down ≡ Some two.first) ⊎ HasRisen (old two.first).faults (new two.first).faults
+  pub apart : two.first ≢ two.second
+  pub second : HasRisen (old two.second).faults (new two.second).faults
+
+-- what follows the answer of a call on a disk: a failure is borne, unless another disk is down
+abbrev pub Follows : Losses → Losses → ℕ → Bool → Result (Unit {0}) Two → Type 0
+Follows from to disk done (Ok it) =
+    ((done ≡ true) × (to ≡ from)) ⊎ ((done ≡ false) × (to.down ≡ Some disk) × (to.lost ≡ Some disk)
+    × ((first : ℕ) → from.down ≡ Some first → first ≡ disk))
+Follows from to disk done (Err two) =
+    (done ≡ false) × (to ≡ from) × (from.down ≡ Some two.first) × (two.first ≢ disk) × (two.second ≡ disk)
+
+-- Some calls of a commit: a disk that is there after them has its power and size, no count has
+-- fallen, and a disk that is down now, but was not, was lost by one of them.
+pub record Lasts (from to : Losses) (old new : ℕ → Slot) : Type 0 where
+  pub power : (d : ℕ) → is_present (new d).power ≡ true → (new d).power ≡ (old d).power
+  pub size : (d : ℕ) → is_present (new d).power ≡ true → (new d).size ≡ (old d).size
+  pub no_fall : (d : ℕ) → (old d).faults ≤ (new d).faults
+  pub down : (d : ℕ) → to.down ≡ Some d → (from.down ≡ Some d) ⊎ (to.lost ≡ Some d)
+  pub stays : (d : ℕ) → from.lost ≡ Some d → to.lost ≡ Some d
+  pub lost : (d : ℕ) → to.lost ≡ Some d → (from.lost ≡ Some d) ⊎ HasRisen (old d).faults (new d).faults
+  pub absent : (d : ℕ) → to.lost ≡ Some d → (from.lost ≡ Some d) ⊎ ((new d).power ≡ Absent)
+
+-- no count has risen but that of the disk that is lost
+abbrev pub AreOthersWell : Losses → (ℕ → Slot) → (ℕ → Slot) → Type 0
+AreOthersWell to old new = (d : ℕ) → to.lost ≢ Some d → (new d).faults ≡ (old d).faults
+
+-- a disk that is unsynced now was so before, but for those of which `may` holds
+abbrev pub AreDryBut : (ℕ → Type 0) → (ℕ → Slot) → (ℕ → Slot) → Type 0
+AreDryBut may old new = (d : ℕ) → is_present (new d).power ≡ true → (new d).unsynced ≡ true
+    → ((old d).unsynced ≡ true) ⊎ may d
+
+abbrev pub AreDry : (ℕ → Slot) → (ℕ → Slot) → Type 0
+AreDry old new = AreDryBut (λ d. ⊥) old new
+
+-- this disk, if it is there, has nothing that is unsynced
+abbrev pub IsDryAt : (ℕ → Slot) → ℕ → Type 0
+IsDryAt slot d = is_present (slot d).power ≡ true → (slot d).unsynced ≡ false
+
+-- This call on the disk, done or failed; or none, where the disk is skipped or absent.
+pub data MayDo (old new : Option Trail) (slot : ℕ → Slot) (skip : Option ℕ) (disk : ℕ) (call : Bool → Call) : Type 0 where
+  skipped : skip ≡ Some disk → new ≡ old → MayDo old new slot skip disk call
+  absent : (slot disk).power ≡ Absent → new ≡ old → MayDo old new slot skip disk call
+  called : skip ≢ Some disk → (done : Bool) → Grows old new (call done) → MayDo old new slot skip disk call
+
+-- this disk can be written at `place`, unless it is absent
+pub record CanWrite (slot : ℕ → Slot) (disk place : ℕ) : Type 0 where
+  pub spins : is_present (slot disk).power ≡ true → (slot disk).power ≡ Spinning
+  pub within : is_present (slot disk).power ≡ true → place < (slot disk).size
+
+-- why a call on a disk answers so: it has failed, and no other disk was out, or this one
+abbrev pub IsLostBy : Option ℕ → ℕ → (ℕ → Slot) → (ℕ → Slot) → LostType → Type 0
+IsLostBy out disk old new (LostOne lost) =
+    (lost ≡ disk) × HasRisen (old disk).faults (new disk).faults × ((first : ℕ) → out ≡ Some first → first ≡ disk)
+IsLostBy out disk old new (LostTwo two) =
+    (two.second ≡ disk) × HasRisen (old disk).faults (new disk).faults × (out ≡ Some two.first) × (two.first ≢ disk)
+
+-- Only a slot that becomes absent changes its power or size, and no count falls.
+pub record IsSpared (old new : ℕ → Slot) : Type 0 where
+  pub power : (d : ℕ) → is_present (new d).power ≡ true → (new d).power ≡ (old d).power
+  pub size : (d : ℕ) → is_present (new d).power ≡ true → (new d).size ≡ (old d).size
+  pub no_fall : (d : ℕ) → (old d).faults ≤ (new d).faults
+
+-- disk `d` has failed in this call, and is absent
+pub record IsLostNow (old new : ℕ → Slot) (d : ℕ) : Type 0 where
+  pub risen : HasRisen (old d).faults (new d).faults
+  pub absent : (new d).power ≡ Absent

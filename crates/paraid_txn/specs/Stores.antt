@@ -1,0 +1,31 @@
+-- What contracts see of a store.
+use Rattle.std.specs.Prelude.{◌≡◌, ℕ, Option}
+use Rattle.paraid_rack.specs.Slots.{Slot}
+use Rattle.paraid_txn.specs.declared.store.Store.{Store}
+use Rattle.paraid_txn.specs.Out.{first_absent, or_else}
+
+-- the rack that it owns
+abbrev pub rack_of : {R : Type 0} {g : _} → Store R g → R
+rack_of store = store.rack
+
+-- the number of disks of the array
+abbrev pub disks_of : {R : Type 0} {g : _} → Store R g → ℕ
+disks_of store = store.disks
+
+-- the epoch of the last commit
+abbrev pub epoch_of : {R : Type 0} {g : _} → Store R g → ℕ
+epoch_of store = store.epoch
+
+-- the disk that the last meta names out
+abbrev pub named_of : {R : Type 0} {g : _} → Store R g → Option ℕ
+named_of store = store.named
+
+-- the disk that is out: the one that the last meta names, or else the least absent one
+abbrev pub out_of : {R : Type 0} {g : _} → (R → ℕ → Slot) → Store R g → Option ℕ
+out_of slot store = or_else store.named (first_absent (λ d. (slot store.rack d).power) store.disks)
+
+-- a call on one disk leaves all but the rack
+pub record IsSameStore {R : Type 0} {g : _} (old new : Store R g) : Type 0 where
+  pub disks : new.disks ≡ old.disks
+  pub epoch : new.epoch ≡ old.epoch
+  pub named : new.named ≡ old.named

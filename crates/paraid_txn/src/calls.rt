@@ -1,0 +1,101 @@
+//! The calls that a commit makes of the rack: a disk that is skipped or absent gets none, the
+//! first loss is borne, and the second is too many.
+ghost use Rattle.std.specs.Prelude.{◌≡◌, ◌≢◌, ℕ, ◌<◌, ◌≤◌, Bool, true, false, Some, None, OnOk, IfErr, is_ok};
+ghost use Rattle.paraid_rack.specs.declared.call.Call.TheVariants.{Sync, Write};
+ghost use Rattle.paraid_rack.specs.declared.call.Power.TheVariants.{Absent};
+ghost use Rattle.paraid_rack.specs.Disks.{is_present};
+ghost use Rattle.paraid_txn.specs.Losses.{AreDryBut, AreOthersWell, CanWrite, Follows, IsDryAt, IsTwo, Lasts, MayDo};
+
+use crate::losses::Losses;
+use paraid_base::{Block, DiskNo, Failed, Place, Two};
+use paraid_rack::{Power, Rack};
+
+// What follows the answer of a call on a disk.
+fn follow(losses: &mut Losses, disk: DiskNo, answer: Result<(), Failed>) -> Result<(), Two>
+    ensures { Follows losses.old losses.new disk (is_ok answer) result }
+{
+    let Err(Failed) = answer else {
+        return Ok(());
+    };
+    if let Some(first) = losses.down {
+        if first != disk {
+            return Err(Two {
+                first,
+                second: disk,
+            });
+        }
+    }
+    *losses = Losses {
+        down: Some(disk),
+        lost: Some(disk),
+    };
+    Ok(())
+}
+
+// Whether a disk gets no call: it is the one that is skipped, or it is absent.
+fn is_passed<R: Rack>(rack: &R, skip: Option<DiskNo>, disk: DiskNo) -> bool
+    requires { disk < R.slot_count rack.now }
+    ensures passed { result ≡ true → skip ≢ Some disk → (R.slot rack.now disk).power ≡ Absent }
+    ensures called { result ≡ false → skip ≢ Some disk }
+    ensures present { result ≡ false → is_present (R.slot rack.now disk).power ≡ true }
+{
+    skip == Some(disk) || rack.power(disk) == Power::Absent
+}
+
+/// Writes a block, unless the disk is skipped or absent.
+pub fn put<R: Rack>(
+    rack: &mut R,
+    losses: &mut Losses,
+    skip: Option<DiskNo>,
+    disk: DiskNo,
+    place: Place,
+    block: &Block,
+) -> Result<(), Two>
+    requires exists { disk < R.slot_count rack.old }
+    requires can { skip ≢ Some disk → CanWrite (R.slot rack.old) disk place }
+    ensures slots { R.slot_count rack.new ≡ R.slot_count rack.old }
+    ensures does { MayDo (R.told rack.old) (R.told rack.new) (R.slot rack.old) skip disk
+        (λ done. Write disk place block.now done) }
+    ensures lasts { Lasts losses.old losses.new (R.slot rack.old) (R.slot rack.new) }
+    ensures well { OnOk result
+        (AreOthersWell losses.new (R.slot rack.old) (R.slot rack.new)) }
+    ensures dry { AreDryBut (λ d. (d ≡ disk) × (skip ≢ Some d))
+        (R.slot rack.old) (R.slot rack.new) }
+    ensures two { IfErr result
+        (IsTwo losses.old.down (R.slot rack.old) (R.slot rack.new)) }
+{
+    if is_passed(rack, skip, disk) {
+        return Ok(());
+    }
+    let answer = rack.write(disk, place, block);
+    follow(losses, disk, answer)?;
+    Ok(())
+}
+
+/// Makes the disk keep all that was written, unless it is skipped or absent.
+pub fn settle<R: Rack>(
+    rack: &mut R,
+    losses: &mut Losses,
+    skip: Option<DiskNo>,
+    disk: DiskNo,
+) -> Result<(), Two>
+    requires exists { disk < R.slot_count rack.old }
+    requires can { skip ≢ Some disk → CanWrite (R.slot rack.old) disk 0 }
+    ensures slots { R.slot_count rack.new ≡ R.slot_count rack.old }
+    ensures does { MayDo (R.told rack.old) (R.told rack.new) (R.slot rack.old) skip disk
+        (λ done. Sync disk done) }
+    ensures lasts { Lasts losses.old losses.new (R.slot rack.old) (R.slot rack.new) }
+    ensures well { OnOk result
+        (AreOthersWell losses.new (R.slot rack.old) (R.slot rack.new)) }
+    ensures dry { AreDryBut (λ d. ⊥) (R.slot rack.old) (R.slot rack.new) }
+    ensures settled { skip ≢ Some disk → IsDryAt (R.slot rack.new) disk }
+    ensures two { IfErr result
+        (IsTwo losses.old.down (R.slot rack.old) (R.slot rack.new)) }
+{
+    if is_passed(rack, skip, disk) {
+        return Ok(());
+    }
+    let answer = rack.sync(disk);
+    follow(losses, disk, answer)?;
+    Ok(())
+}

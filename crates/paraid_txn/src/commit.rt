@@ -1,0 +1,599 @@
+//! A commit that a stop leaves whole or absent, whatever one disk is lost.
+//!
+//! All that an array keeps goes through here. Disks 0 and 1 each have a log, so that either can be
+//! lost:
+//!
+//!     place 0          the gate: closed, or open
+//!     place 1          the meta
+//!     places 2, 3      of a batch on its way: its meta, and the list of its targets
+//!     places 4 to 99   its blocks, one for each target
+//!     from 100 on      what the targets name, here and on all other disks
+//!
+//! 1. On each log disk the batch is written to places 2 to 99 under the closed gate, and synced.
+//!    Until the next step a stop leaves the old contents.
+//! 2. On each log disk the gate is opened, and synced. An open gate stands before the closed one of
+//!    the commit before: its epoch is greater by one. From here on a stop leaves the new contents,
+//!    if the open gate is kept: the batch is laid over the image.
+//! 3. Each target is written in place, and each disk that was written is synced. Whatever a stop
+//!    leaves of a target, the batch is laid over it.
+//! 4. On each log disk the meta is written to place 1, and synced. It is not looked at yet.
+//! 5. On each log disk the gate is closed, and synced. The meta at place 1 is that of the batch,
+//!    and the targets hold what the batch would lay.
+//!
+//! A log disk that the meta names out is left alone, and so are the targets on a disk that is gone.
+//! A disk that fails is left out of the rest.
+ghost use Rattle.std.specs.Prelude.{◌≡◌, ◌≢◌, ℕ, ◌+◌, ◌<◌, ◌≤◌, true, false, length, Some, OnOk, OnErr, IfErr, IfOk, All, AllPairs, ◌-◌, ◌^◌};
+ghost use Rattle.paraid_record.specs.declared.targets.Target.{Target as TargetType};
+ghost use Rattle.paraid_rack.specs.Disks.{Disks};
+ghost use Rattle.paraid_rack.specs.Told.{Ran, Runs};
+ghost use Rattle.paraid_txn.specs.Losses.{AreDry, AreDryBut, AreOthersWell, CanWrite, IsDryAt, IsLostNow, IsSpared, IsTwo, Lasts};
+ghost use Rattle.paraid_txn.specs.Ready.{AreTargetsReady, IsLogReady};
+ghost use Rattle.paraid_txn.specs.Sides.{is_open, targets};
+ghost use Rattle.paraid_txn.specs.Staging.{names_disk};
+ghost use Rattle.paraid_txn.specs.Stages.{Close, IsSpelled, Job, LayIn, Log, LogIn, Mark, Open, SettleIn, Whole, gone, job, named};
+ghost use Rattle.paraid_txn.specs.Commit.{Commits, IsWholeOrAbsent, gone_out as gone_of};
+ghost use Rattle.paraid_txn.specs.Out.{named_out as named_of, or_else};
+ghost use Rattle.paraid_record.specs.declared.meta.Meta.{Meta as MetaType};
+ghost use Rattle.paraid_record.specs.Meta.{meta_bytes};
+ghost use Rattle.paraid_record.specs.Range.{IsInRange};
+ghost use Rattle.paraid_record.specs.Targets.{AreTargets, IsTargetInRange, targets_bytes};
+
+use crate::batch::Batch;
+use crate::calls::{put, settle};
+use crate::losses::Losses;
+use crate::store::{Store, named_out};
+use paraid_base::{Block, DiskNo, Out, Two};
+use paraid_rack::Rack;
+use paraid_record::{Meta, write_meta, write_targets};
+
+/// An open gate, or a closed one.
+fn gate(opened: bool) -> Block
+    ensures { is_open result ≡ opened }
+{
+    let mut block = Block::zero();
+    if opened {
+        block.set(0, 1);
+    }
+    block
+}
+
+// Step 1: the blocks of the batch, on one log disk.
+#[tactic(auto, using(crate::proofs::ReadyLemmas::log_stays_ready))]
+fn put_blocks<R: Rack>(
+    rack: &mut R,
+    losses: &mut Losses,
+    skip: Option<DiskNo>,
+    disk: DiskNo,
+    batch: &Batch,
+) -> Result<(), Two>
+    requires exists { disk < R.slot_count rack.old }
+    requires log_disk { disk < 2 }
+    requires log { IsLogReady skip (R.slot rack.old) }
+    requires few { length batch.now ≤ 96 }
+    ensures slots { R.slot_count rack.new ≡ R.slot_count rack.old }
+    ensures log { IsLogReady skip (R.slot rack.new) }
+    ensures lasts { Lasts losses.old losses.new (R.slot rack.old) (R.slot rack.new) }
+    ensures well { OnOk result
+        (AreOthersWell losses.new (R.slot rack.old) (R.slot rack.new)) }
+    ensures dry { AreDryBut (λ d. (d ≡ disk) × (skip ≢ Some d))
+        (R.slot rack.old) (R.slot rack.new) }
+    ensures two { IfErr result
+        (IsTwo losses.old.down (R.slot rack.old) (R.slot rack.new)) }
+    ensures moments { (j : Job) → IsSpelled j → named j ≡ skip → j.batch ≡ batch.now
+        → Ran (R.told rack.old) (R.told rack.new) (Runs (Whole j) (LogIn j disk 0) (Whole j)) }
+    ensures done { OnOk result ((j : Job) → IsSpelled j → named j ≡ skip → j.batch ≡ batch.now
+        → Ran (R.told rack.old) (R.told rack.new)
+        (Runs (Whole j) (LogIn j disk 0) (LogIn j disk (length batch.now)))) }
+{
+    for at in 0..batch.count() {
+        put(
+            rack,
+            losses,
+            skip,
+            disk,
+            4 + u32::from(at),
+            batch.block(at as usize),
+        )?;
+    }
+    Ok(())
+}
+
+// Step 1 on one log disk.
+#[tactic(auto, using(crate::proofs::ReadyLemmas::log_stays_ready))]
+fn write_log<R: Rack>(
+    rack: &mut R,
+    losses: &mut Losses,
+    skip: Option<DiskNo>,
+    disk: DiskNo,
+    batch: &Batch,
+    list: &Block,
+    meta: &Block,
+) -> Result<(), Two>
+    requires exists { disk < R.slot_count rack.old }
+    requires log_disk { disk < 2 }
+    requires log { IsLogReady skip (R.slot rack.old) }
+    requires few { length batch.now ≤ 96 }
+    ensures slots { R.slot_count rack.new ≡ R.slot_count rack.old }
+    ensures log { IsLogReady skip (R.slot rack.new) }
+    ensures lasts { Lasts losses.old losses.new (R.slot rack.old) (R.slot rack.new) }
+    ensures well { OnOk result
+        (AreOthersWell losses.new (R.slot rack.old) (R.slot rack.new)) }
+    ensures dry { OnOk result (AreDry (R.slot rack.old) (R.slot rack.new)) }
+    ensures two { IfErr result
+        (IsTwo losses.old.down (R.slot rack.old) (R.slot rack.new)) }
+    ensures moments { (j : Job) → IsSpelled j → named j ≡ skip → j.batch ≡ batch.now
+        → j.list ≡ list.now → j.spelled ≡ meta.now
+        → Ran (R.told rack.old) (R.told rack.new) (Runs (Whole j) (Log j disk) (Whole j)) }
+    ensures done { OnOk result ((j : Job) → IsSpelled j → named j ≡ skip → j.batch ≡ batch.now
+        → j.list ≡ list.now → j.spelled ≡ meta.now
+        → Ran (R.told rack.old) (R.told rack.new)
+        (Runs (Whole j) (Log j disk) (Log j (disk + 1)))) }
+{
+    put(rack, losses, skip, disk, 2, meta)?;
+    put(rack, losses, skip, disk, 3, list)?;
+    put_blocks(rack, losses, skip, disk, batch)?;
+    settle(rack, losses, skip, disk)?;
+    Ok(())
+}
+
+// Step 2 on one log disk.
+#[tactic(auto, using(crate::proofs::ReadyLemmas::log_stays_ready))]
+fn open_gate<R: Rack>(
+    rack: &mut R,
+    losses: &mut Losses,
+    skip: Option<DiskNo>,
+    disk: DiskNo,
+    gate: &Block,
+) -> Result<(), Two>
+    requires exists { disk < R.slot_count rack.old }
+    requires log_disk { disk < 2 }
+    requires log { IsLogReady skip (R.slot rack.old) }
+    requires opens { is_open gate.now ≡ true }
+    ensures slots { R.slot_count rack.new ≡ R.slot_count rack.old }
+    ensures log { IsLogReady skip (R.slot rack.new) }
+    ensures lasts { Lasts losses.old losses.new (R.slot rack.old) (R.slot rack.new) }
+    ensures well { OnOk result
+        (AreOthersWell losses.new (R.slot rack.old) (R.slot rack.new)) }
+    ensures dry { OnOk result (AreDry (R.slot rack.old) (R.slot rack.new)) }
+    ensures two { IfErr result
+        (IsTwo losses.old.down (R.slot rack.old) (R.slot rack.new)) }
+    ensures moments { (j : Job) → IsSpelled j → named j ≡ skip
+        → Ran (R.told rack.old) (R.told rack.new) (Runs (Whole j) (Open j disk) (Whole j)) }
+    ensures done { OnOk result ((j : Job) → IsSpelled j → named j ≡ skip
+        → Ran (R.told rack.old) (R.told rack.new)
+        (Runs (Whole j) (Open j disk) (Open j (disk + 1)))) }
+{
+    put(rack, losses, skip, disk, 0, gate)?;
+    settle(rack, losses, skip, disk)?;
+    Ok(())
+}
+
+// Step 3: the targets in place.
+fn lay<R: Rack>(
+    rack: &mut R,
+    losses: &mut Losses,
+    skip: Option<DiskNo>,
+    batch: &Batch,
+) -> Result<(), Two>
+    requires ready { AreTargetsReady skip (R.slot_count rack.old) (R.slot rack.old)
+        (targets batch.now) }
+    requires past_log { All (λ (t : TargetType). 100 ≤ t.place) (targets batch.now) }
+    requires few { length batch.now ≤ 96 }
+    ensures slots { R.slot_count rack.new ≡ R.slot_count rack.old }
+    ensures lasts { Lasts losses.old losses.new (R.slot rack.old) (R.slot rack.new) }
+    ensures well { OnOk result
+        (AreOthersWell losses.new (R.slot rack.old) (R.slot rack.new)) }
+    ensures dry { AreDryBut (λ d. (names_disk batch.now d ≡ true) × (skip ≢ Some d))
+        (R.slot rack.old) (R.slot rack.new) }
+    ensures two { IfErr result
+        (IsTwo losses.old.down (R.slot rack.old) (R.slot rack.new)) }
+    ensures moments { (j : Job) → IsSpelled j → gone j ≡ skip → j.batch ≡ batch.now
+        → Ran (R.told rack.old) (R.told rack.new) (Runs (Whole j) (LayIn j 0) (Whole j)) }
+    ensures done { OnOk result ((j : Job) → IsSpelled j → gone j ≡ skip → j.batch ≡ batch.now
+        → Ran (R.told rack.old) (R.told rack.new)
+        (Runs (Whole j) (LayIn j 0) (LayIn j (length batch.now)))) }
+{
+    for at in 0..batch.count() {
+        let target = batch.target(at as usize);
+        put(
+            rack,
+            losses,
+            skip,
+            target.disk,
+            target.place,
+            batch.block(at as usize),
+        )?;
+    }
+    Ok(())
+}
+
+// Step 3: a disk that has targets is synced.
+fn settle_one<R: Rack>(
+    rack: &mut R,
+    losses: &mut Losses,
+    skip: Option<DiskNo>,
+    batch: &Batch,
+    disk: DiskNo,
+) -> Result<(), Two>
+    requires exists { disk < R.slot_count rack.old }
+    requires ready { AreTargetsReady skip (R.slot_count rack.old) (R.slot rack.old)
+        (targets batch.now) }
+    ensures slots { R.slot_count rack.new ≡ R.slot_count rack.old }
+    ensures lasts { Lasts losses.old losses.new (R.slot rack.old) (R.slot rack.new) }
+    ensures well { OnOk result
+        (AreOthersWell losses.new (R.slot rack.old) (R.slot rack.new)) }
+    ensures dry { AreDry (R.slot rack.old) (R.slot rack.new) }
+    ensures settled { names_disk batch.now disk ≡ true → skip ≢ Some disk
+        → IsDryAt (R.slot rack.new) disk }
+    ensures two { IfErr result
+        (IsTwo losses.old.down (R.slot rack.old) (R.slot rack.new)) }
+    ensures moments { (j : Job) → IsSpelled j → gone j ≡ skip → j.batch ≡ batch.now
+        → Ran (R.told rack.old) (R.told rack.new) (Runs (Whole j) (SettleIn j disk) (Whole j)) }
+    ensures done { OnOk result ((j : Job) → IsSpelled j → gone j ≡ skip → j.batch ≡ batch.now
+        → Ran (R.told rack.old) (R.told rack.new)
+        (Runs (Whole j) (SettleIn j disk) (SettleIn j (disk + 1)))) }
+{
+    if !batch.has_disk(disk) {
+        return Ok(());
+    }
+    settle(rack, losses, skip, disk)?;
+    Ok(())
+}
+
+// Step 3: each disk that has targets is synced, in ascending order.
+fn settle_all<R: Rack>(
+    rack: &mut R,
+    losses: &mut Losses,
+    skip: Option<DiskNo>,
+    batch: &Batch,
+    disks: u8,
+) -> Result<(), Two>
+    requires exists { disks ≤ R.slot_count rack.old }
+    requires ready { AreTargetsReady skip (R.slot_count rack.old) (R.slot rack.old)
+        (targets batch.now) }
+    requires below { All (λ (t : TargetType). t.disk < disks) (targets batch.now) }
+    ensures slots { R.slot_count rack.new ≡ R.slot_count rack.old }
+    ensures lasts { Lasts losses.old losses.new (R.slot rack.old) (R.slot rack.new) }
+    ensures well { OnOk result
+        (AreOthersWell losses.new (R.slot rack.old) (R.slot rack.new)) }
+    ensures dry { AreDry (R.slot rack.old) (R.slot rack.new) }
+    ensures settled { OnOk result ((d : ℕ) → names_disk batch.now d ≡ true → skip ≢ Some d
+        → IsDryAt (R.slot rack.new) d) }
+    ensures two { IfErr result
+        (IsTwo losses.old.down (R.slot rack.old) (R.slot rack.new)) }
+    ensures moments { (j : Job) → IsSpelled j → gone j ≡ skip → j.batch ≡ batch.now
+        → Ran (R.told rack.old) (R.told rack.new) (Runs (Whole j) (SettleIn j 0) (Whole j)) }
+    ensures done { OnOk result ((j : Job) → IsSpelled j → gone j ≡ skip → j.batch ≡ batch.now
+        → Ran (R.told rack.old) (R.told rack.new) (Runs (Whole j) (SettleIn j 0) (Mark j 0))) }
+{
+    for disk in 0..disks {
+        settle_one(rack, losses, skip, batch, disk)?;
+    }
+    Ok(())
+}
+
+// Step 4 on one log disk.
+#[tactic(auto, using(crate::proofs::ReadyLemmas::log_stays_ready))]
+fn mark<R: Rack>(
+    rack: &mut R,
+    losses: &mut Losses,
+    skip: Option<DiskNo>,
+    disk: DiskNo,
+    meta: &Block,
+) -> Result<(), Two>
+    requires exists { disk < R.slot_count rack.old }
+    requires log_disk { disk < 2 }
+    requires log { IsLogReady skip (R.slot rack.old) }
+    ensures slots { R.slot_count rack.new ≡ R.slot_count rack.old }
+    ensures log { IsLogReady skip (R.slot rack.new) }
+    ensures lasts { Lasts losses.old losses.new (R.slot rack.old) (R.slot rack.new) }
+    ensures well { OnOk result
+        (AreOthersWell losses.new (R.slot rack.old) (R.slot rack.new)) }
+    ensures dry { OnOk result (AreDry (R.slot rack.old) (R.slot rack.new)) }
+    ensures two { IfErr result
+        (IsTwo losses.old.down (R.slot rack.old) (R.slot rack.new)) }
+    ensures moments { (j : Job) → IsSpelled j → named j ≡ skip → j.spelled ≡ meta.now
+        → Ran (R.told rack.old) (R.told rack.new) (Runs (Whole j) (Mark j disk) (Whole j)) }
+    ensures done { OnOk result ((j : Job) → IsSpelled j → named j ≡ skip → j.spelled ≡ meta.now
+        → Ran (R.told rack.old) (R.told rack.new)
+        (Runs (Whole j) (Mark j disk) (Mark j (disk + 1)))) }
+{
+    put(rack, losses, skip, disk, 1, meta)?;
+    settle(rack, losses, skip, disk)?;
+    Ok(())
+}
+
+// Step 5 on one log disk.
+#[tactic(auto, using(crate::proofs::ReadyLemmas::log_stays_ready))]
+fn close_gate<R: Rack>(
+    rack: &mut R,
+    losses: &mut Losses,
+    skip: Option<DiskNo>,
+    disk: DiskNo,
+    gate: &Block,
+) -> Result<(), Two>
+    requires exists { disk < R.slot_count rack.old }
+    requires log_disk { disk < 2 }
+    requires log { IsLogReady skip (R.slot rack.old) }
+    requires shuts { is_open gate.now ≡ false }
+    ensures slots { R.slot_count rack.new ≡ R.slot_count rack.old }
+    ensures log { IsLogReady skip (R.slot rack.new) }
+    ensures lasts { Lasts losses.old losses.new (R.slot rack.old) (R.slot rack.new) }
+    ensures well { OnOk result
+        (AreOthersWell losses.new (R.slot rack.old) (R.slot rack.new)) }
+    ensures dry { OnOk result (AreDry (R.slot rack.old) (R.slot rack.new)) }
+    ensures two { IfErr result
+        (IsTwo losses.old.down (R.slot rack.old) (R.slot rack.new)) }
+    ensures moments { (j : Job) → IsSpelled j → named j ≡ skip
+        → Ran (R.told rack.old) (R.told rack.new) (Runs (Whole j) (Close j disk) (Whole j)) }
+    ensures done { OnOk result ((j : Job) → IsSpelled j → named j ≡ skip
+        → Ran (R.told rack.old) (R.told rack.new)
+        (Runs (Whole j) (Close j disk) (Close j (disk + 1)))) }
+{
+    put(rack, losses, skip, disk, 0, gate)?;
+    settle(rack, losses, skip, disk)?;
+    Ok(())
+}
+
+// Step 1 on both log disks.
+#[tactic(auto, using(crate::proofs::ReadyLemmas::log_stays_ready))]
+fn write_logs<R: Rack>(
+    rack: &mut R,
+    losses: &mut Losses,
+    skip: Option<DiskNo>,
+    batch: &Batch,
+    list: &Block,
+    meta: &Block,
+) -> Result<(), Two>
+    requires exists { 2 ≤ R.slot_count rack.old }
+    requires log { IsLogReady skip (R.slot rack.old) }
+    requires few { length batch.now ≤ 96 }
+    ensures slots { R.slot_count rack.new ≡ R.slot_count rack.old }
+    ensures log { IsLogReady skip (R.slot rack.new) }
+    ensures lasts { Lasts losses.old losses.new (R.slot rack.old) (R.slot rack.new) }
+    ensures well { OnOk result
+        (AreOthersWell losses.new (R.slot rack.old) (R.slot rack.new)) }
+    ensures dry { OnOk result (AreDry (R.slot rack.old) (R.slot rack.new)) }
+    ensures two { IfErr result
+        (IsTwo losses.old.down (R.slot rack.old) (R.slot rack.new)) }
+    ensures moments { (j : Job) → IsSpelled j → named j ≡ skip → j.batch ≡ batch.now
+        → j.list ≡ list.now → j.spelled ≡ meta.now
+        → Ran (R.told rack.old) (R.told rack.new) (Runs (Whole j) (Log j 0) (Whole j)) }
+    ensures done { OnOk result ((j : Job) → IsSpelled j → named j ≡ skip → j.batch ≡ batch.now
+        → j.list ≡ list.now → j.spelled ≡ meta.now
+        → Ran (R.told rack.old) (R.told rack.new) (Runs (Whole j) (Log j 0) (Open j 0))) }
+{
+    write_log(rack, losses, skip, 0, batch, list, meta)?;
+    write_log(rack, losses, skip, 1, batch, list, meta)?;
+    Ok(())
+}
+
+// Step 2 on both log disks.
+#[tactic(auto, using(crate::proofs::ReadyLemmas::log_stays_ready))]
+fn open_gates<R: Rack>(rack: &mut R, losses: &mut Losses, skip: Option<DiskNo>) -> Result<(), Two>
+    requires exists { 2 ≤ R.slot_count rack.old }
+    requires log { IsLogReady skip (R.slot rack.old) }
+    ensures slots { R.slot_count rack.new ≡ R.slot_count rack.old }
+    ensures log { IsLogReady skip (R.slot rack.new) }
+    ensures lasts { Lasts losses.old losses.new (R.slot rack.old) (R.slot rack.new) }
+    ensures well { OnOk result
+        (AreOthersWell losses.new (R.slot rack.old) (R.slot rack.new)) }
+    ensures dry { OnOk result (AreDry (R.slot rack.old) (R.slot rack.new)) }
+    ensures two { IfErr result
+        (IsTwo losses.old.down (R.slot rack.old) (R.slot rack.new)) }
+    ensures moments { (j : Job) → IsSpelled j → named j ≡ skip
+        → Ran (R.told rack.old) (R.told rack.new) (Runs (Whole j) (Open j 0) (Whole j)) }
+    ensures done { OnOk result ((j : Job) → IsSpelled j → named j ≡ skip
+        → Ran (R.told rack.old) (R.told rack.new) (Runs (Whole j) (Open j 0) (LayIn j 0))) }
+{
+    let opened = gate(true);
+    open_gate(rack, losses, skip, 0, &opened)?;
+    open_gate(rack, losses, skip, 1, &opened)?;
+    Ok(())
+}
+
+// Step 3.
+fn lay_all<R: Rack>(
+    rack: &mut R,
+    losses: &mut Losses,
+    skip: Option<DiskNo>,
+    batch: &Batch,
+    disks: u8,
+) -> Result<(), Two>
+    requires exists { disks ≤ R.slot_count rack.old }
+    requires ready { AreTargetsReady skip (R.slot_count rack.old) (R.slot rack.old)
+        (targets batch.now) }
+    requires past_log { All (λ (t : TargetType). 100 ≤ t.place) (targets batch.now) }
+    requires below { All (λ (t : TargetType). t.disk < disks) (targets batch.now) }
+    requires few { length batch.now ≤ 96 }
+    ensures slots { R.slot_count rack.new ≡ R.slot_count rack.old }
+    ensures lasts { Lasts losses.old losses.new (R.slot rack.old) (R.slot rack.new) }
+    ensures well { OnOk result
+        (AreOthersWell losses.new (R.slot rack.old) (R.slot rack.new)) }
+    ensures dry { OnOk result (AreDry (R.slot rack.old) (R.slot rack.new)) }
+    ensures two { IfErr result
+        (IsTwo losses.old.down (R.slot rack.old) (R.slot rack.new)) }
+    ensures moments { (j : Job) → IsSpelled j → gone j ≡ skip → j.batch ≡ batch.now
+        → Ran (R.told rack.old) (R.told rack.new) (Runs (Whole j) (LayIn j 0) (Whole j)) }
+    ensures done { OnOk result ((j : Job) → IsSpelled j → gone j ≡ skip → j.batch ≡ batch.now
+        → Ran (R.told rack.old) (R.told rack.new) (Runs (Whole j) (LayIn j 0) (Mark j 0))) }
+{
+    lay(rack, losses, skip, batch)?;
+    settle_all(rack, losses, skip, batch, disks)?;
+    Ok(())
+}
+
+// Steps 4 and 5 on both log disks.
+#[tactic(auto, using(crate::proofs::ReadyLemmas::log_stays_ready))]
+fn finish<R: Rack>(
+    rack: &mut R,
+    losses: &mut Losses,
+    skip: Option<DiskNo>,
+    meta: &Block,
+) -> Result<(), Two>
+    requires exists { 2 ≤ R.slot_count rack.old }
+    requires log { IsLogReady skip (R.slot rack.old) }
+    ensures slots { R.slot_count rack.new ≡ R.slot_count rack.old }
+    ensures lasts { Lasts losses.old losses.new (R.slot rack.old) (R.slot rack.new) }
+    ensures well { OnOk result
+        (AreOthersWell losses.new (R.slot rack.old) (R.slot rack.new)) }
+    ensures dry { OnOk result (AreDry (R.slot rack.old) (R.slot rack.new)) }
+    ensures two { IfErr result
+        (IsTwo losses.old.down (R.slot rack.old) (R.slot rack.new)) }
+    ensures moments { (j : Job) → IsSpelled j → named j ≡ skip → j.spelled ≡ meta.now
+        → Ran (R.told rack.old) (R.told rack.new) (Runs (Whole j) (Mark j 0) (Whole j)) }
+    ensures done { OnOk result ((j : Job) → IsSpelled j → named j ≡ skip → j.spelled ≡ meta.now
+        → Ran (R.told rack.old) (R.told rack.new) (Runs (Whole j) (Mark j 0) (Close j 2))) }
+{
+    mark(rack, losses, skip, 0, meta)?;
+    mark(rack, losses, skip, 1, meta)?;
+    let closed = gate(false);
+    close_gate(rack, losses, skip, 0, &closed)?;
+    close_gate(rack, losses, skip, 1, &closed)?;
+    Ok(())
+}
+
+// The five steps.
+fn run<R: Rack>(
+    rack: &mut R,
+    losses: &mut Losses,
+    meta: &Meta,
+    batch: &Batch,
+    list: &Block,
+    spelled: &Block,
+) -> Result<(), Two>
+    requires exists { meta.now.setup.geometry.disks ≤ R.slot_count rack.old }
+    requires log { IsLogReady (named_of meta.now.out) (R.slot rack.old) }
+    requires ready { AreTargetsReady (gone_of meta.now.out) (R.slot_count rack.old)
+        (R.slot rack.old) (targets batch.now) }
+    requires in_range { AreTargets meta.now.setup.geometry (targets batch.now) }
+    ensures slots { R.slot_count rack.new ≡ R.slot_count rack.old }
+    ensures lasts { Lasts losses.old losses.new (R.slot rack.old) (R.slot rack.new) }
+    ensures well { OnOk result
+        (AreOthersWell losses.new (R.slot rack.old) (R.slot rack.new)) }
+    ensures dry { OnOk result (AreDry (R.slot rack.old) (R.slot rack.new)) }
+    ensures two { IfErr result
+        (IsTwo losses.old.down (R.slot rack.old) (R.slot rack.new)) }
+    ensures moments { (start : Disks) → IsSpelled (job start meta.now batch.now spelled.now list.now)
+        → Ran (R.told rack.old) (R.told rack.new)
+        (Runs (Whole (job start meta.now batch.now spelled.now list.now))
+        (Log (job start meta.now batch.now spelled.now list.now) 0)
+        (Whole (job start meta.now batch.now spelled.now list.now))) }
+    ensures done { OnOk result ((start : Disks)
+        → IsSpelled (job start meta.now batch.now spelled.now list.now)
+        → Ran (R.told rack.old) (R.told rack.new)
+        (Runs (Whole (job start meta.now batch.now spelled.now list.now))
+        (Log (job start meta.now batch.now spelled.now list.now) 0)
+        (Close (job start meta.now batch.now spelled.now list.now) 2))) }
+{
+    let named = named_out(meta.out);
+    write_logs(rack, losses, named, batch, list, spelled)?;
+    open_gates(rack, losses, named)?;
+    lay_all(
+        rack,
+        losses,
+        gone_out(meta.out),
+        batch,
+        meta.setup.geometry.disks,
+    )?;
+    finish(rack, losses, named, spelled)?;
+    Ok(())
+}
+
+// The disk that a meta names out and gone: its targets are left out.
+fn gone_out(out: Out) -> Option<DiskNo>
+    ensures { result ≡ gone_of out }
+{
+    match out {
+        Out::Gone { disk } => Some(disk),
+        _ => None,
+    }
+}
+
+// The block that spells the targets of a batch.
+fn spell_targets(batch: &Batch) -> Block
+    ensures value { result.bytes ≡ targets_bytes (targets batch.now) }
+    ensures few { length (targets batch.now) ≤ 96 }
+    ensures distinct { AllPairs (λ s t. s ≢ t) (targets batch.now) }
+{
+    let mut list = Block::zero();
+    write_targets(&batch.targets(), &mut list);
+    list
+}
+
+// The block that spells a meta.
+fn spell_meta(meta: &Meta) -> Block
+    requires { IsInRange meta.now }
+    ensures { result.bytes ≡ meta_bytes meta.now }
+{
+    let mut spelled = Block::zero();
+    write_meta(meta, &mut spelled);
+    spelled
+}
+
+impl<R: Rack> Store<R> {
+    ghost use Rattle.paraid_txn.specs.Stores.{disks_of, epoch_of, named_of as named_by, out_of, rack_of};
+
+    /// Lays a batch and the next meta over what the disks hold: whole or not at all, whatever
+    /// stops it and whatever one disk is lost.
+    ///
+    /// The epoch of the meta given does not count: it becomes one greater than the last commit's.
+    /// It answers the disk that failed in it, if one did; the commit went on without it. Where a
+    /// second disk is down it ends and names both.
+    ///
+    /// No log disk comes in again by it: the clauses on moments ask that a log disk which was
+    /// named out, and is there, is named out again.
+    pub fn commit(&mut self, batch: &Batch, meta: &Meta) -> Result<Option<DiskNo>, Two>
+        requires in_range { IsInRange meta.now }
+        requires epoch { epoch_of self.old < 2 ^ 64 - 1 }
+        requires array { meta.now.setup.geometry.disks ≡ disks_of self.old }
+        requires targets { All (IsTargetInRange meta.now.setup.geometry) (targets batch.now) }
+        requires log { IsLogReady (named_of meta.now.out) (R.slot (rack_of self.old)) }
+        requires ready { AreTargetsReady (gone_of meta.now.out) (R.slot_count (rack_of self.old))
+            (R.slot (rack_of self.old)) (targets batch.now) }
+
+        ensures slots { R.slot_count (rack_of self.new) ≡ R.slot_count (rack_of self.old) }
+        ensures disks { disks_of self.new ≡ disks_of self.old }
+        ensures powers { IsSpared (R.slot (rack_of self.old)) (R.slot (rack_of self.new)) }
+        ensures synced { OnOk result
+            (AreDry (R.slot (rack_of self.old)) (R.slot (rack_of self.new))) }
+
+        ensures epoch { OnOk result (epoch_of self.new ≡ epoch_of self.old + 1) }
+        ensures named { OnOk result (named_by self.new ≡ named_of meta.now.out) }
+        ensures ended { OnErr result ((epoch_of self.new ≡ epoch_of self.old)
+            × (named_by self.new ≡ named_by self.old)) }
+
+        // The disk that is answered is the one whose count has risen.
+        ensures lost { IfOk result (λ lost. (d : ℕ) → lost ≡ Some d
+            → IsLostNow (R.slot (rack_of self.old)) (R.slot (rack_of self.new)) d) }
+        ensures well { IfOk result (λ lost. (d : ℕ) → lost ≢ Some d
+            → (R.slot (rack_of self.new) d).faults ≡ (R.slot (rack_of self.old) d).faults) }
+        ensures two { IfErr result (IsTwo
+            (or_else (out_of R.slot self.old) (named_of meta.now.out))
+            (R.slot (rack_of self.old)) (R.slot (rack_of self.new))) }
+
+        // At each moment the old contents or the new ones; at the end only these.
+        ensures any_moment { (before : MetaType)
+            → IsWholeOrAbsent (R.told (rack_of self.old)) (R.told (rack_of self.new)) before
+            (record meta.now { epoch = epoch_of self.old + 1 }) batch.now }
+        ensures committed { OnOk result ((before : MetaType)
+            → Commits (R.told (rack_of self.old)) (R.told (rack_of self.new)) before
+            (record meta.now { epoch = epoch_of self.old + 1 }) batch.now) }
+    {
+        let next = Meta {
+            epoch: self.epoch + 1,
+            ..*meta
+        };
+        let list = spell_targets(batch);
+        let spelled = spell_meta(&next);
+        let named = named_out(meta.out);
+        let mut losses = Losses {
+            down: self.out().or(named),
+            lost: None,
+        };
+        run(&mut self.rack, &mut losses, &next, batch, &list, &spelled)?;
+        self.epoch = next.epoch;
+        self.named = named;
+        Ok(losses.lost)
+    }
+}

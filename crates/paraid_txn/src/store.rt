@@ -1,0 +1,216 @@
+//! The disks of an array as its layers above see them: a rack of which at most one disk is out.
+ghost use Rattle.std.specs.Prelude.{◌≡◌, ◌≢◌, ℕ, ◌<◌, ◌≤◌, true, false, Some, None, OnOk, IfErr, is_ok};
+ghost use Rattle.paraid_rack.specs.declared.call.Call.TheVariants.{Park, Read, SpinUp, Sync};
+ghost use Rattle.paraid_rack.specs.declared.call.Power.TheVariants.{Absent, Parked, Spinning};
+ghost use Rattle.paraid_rack.specs.Slots.{Touched};
+ghost use Rattle.paraid_rack.specs.Told.{Grows};
+ghost use Rattle.paraid_rack.specs.Trail.{Trail, now};
+ghost use Rattle.paraid_txn.specs.Losses.{IsLostBy};
+ghost use Rattle.paraid_txn.specs.Out.{first_absent, named_out as named_of_out};
+
+use paraid_base::{Block, DiskNo, Failed, Out, Place, Two};
+use paraid_rack::{Power, Rack};
+use paraid_record::Meta;
+
+/// Why a call on one disk was not done: that disk is lost.
+#[derive(Clone, Copy, Debug, PartialEq, Eq)]
+pub enum Lost {
+    /// No other disk is out.
+    One { disk: DiskNo },
+    /// Another disk was out.
+    Two(Two),
+}
+
+/// Owns the rack of an array, and knows the epoch of its last commit and the disk that the last
+/// meta names out.
+///
+/// It takes no memory. The array's number of disks is that of the meta with which it was made.
+#[derive(Drop)]
+pub struct Store<R: Rack> {
+    pub(crate) rack: R,
+    pub(crate) disks: u8,
+    pub(crate) epoch: u64,
+    pub(crate) named: Option<DiskNo>,
+    ghost exists: { disks ≤ R.slot_count rack },
+}
+
+/// The disk that a meta names out.
+pub(crate) fn named_out(out: Out) -> Option<DiskNo>
+    ensures { result ≡ named_of_out out }
+{
+    match out {
+        Out::No => None,
+        Out::Gone { disk } => Some(disk),
+        Out::Fresh { disk, .. } => Some(disk),
+    }
+}
+
+// The least absent slot of the first ones.
+fn find_absent<R: Rack>(rack: &R, disks: u8) -> Option<DiskNo>
+    requires { disks ≤ R.slot_count rack.now }
+    ensures { result ≡ first_absent (λ d. (R.slot rack.now d).power) disks }
+{
+    for disk in 0..disks {
+        if rack.power(disk) == Power::Absent {
+            return Some(disk);
+        }
+    }
+    None
+}
+
+// A call on this disk has failed, where this disk was out before it.
+fn loss_of(out: Option<DiskNo>, disk: DiskNo) -> Lost
+    ensures one { (d : ℕ) → result ≡ Lost.One d
+        → (d ≡ disk) × ((first : ℕ) → out ≡ Some first → first ≡ disk) }
+    ensures two { (two : _) → result ≡ Lost.Two two
+        → (two.second ≡ disk) × (out ≡ Some two.first) × (two.first ≢ disk) }
+{
+    if let Some(first) = out {
+        if first != disk {
+            return Lost::Two(Two {
+                first,
+                second: disk,
+            });
+        }
+    }
+    Lost::One { disk }
+}
+
+impl<R: Rack> Store<R> {
+    ghost use Rattle.paraid_txn.specs.Stores.{IsSameStore, disks_of, epoch_of, named_of, out_of, rack_of};
+
+    /// Takes over a rack whose last meta is this one. It makes no call of the rack.
+    pub fn adopt(rack: R, meta: &Meta) -> Store<R>
+        requires exists { meta.now.setup.geometry.disks ≤ R.slot_count rack }
+        ensures rack { rack_of result ≡ rack }
+        ensures disks { disks_of result ≡ meta.now.setup.geometry.disks }
+        ensures epoch { epoch_of result ≡ meta.now.epoch }
+        ensures named { named_of result ≡ named_of_out meta.now.out }
+    {
+        Store {
+            rack,
+            disks: meta.setup.geometry.disks,
+            epoch: meta.epoch,
+            named: named_out(meta.out),
+        }
+    }
+
+    /// Gives the rack back. It makes no call of it.
+    pub fn close(self) -> R
+        ensures { result ≡ rack_of self }
+    {
+        self.rack
+    }
+
+    /// The epoch of the last commit.
+    pub fn epoch(&self) -> u64
+        ensures { result ≡ epoch_of self.now }
+    {
+        self.epoch
+    }
+
+    /// How a disk is powered.
+    pub fn power(&self, disk: DiskNo) -> Power
+        requires { disk < R.slot_count (rack_of self.now) }
+        ensures { result ≡ (R.slot (rack_of self.now) disk).power }
+    {
+        self.rack.power(disk)
+    }
+
+    /// The disk that is out: the one that the last meta names, or else the least absent one.
+    pub fn out(&self) -> Option<DiskNo>
+        ensures { result ≡ out_of R.slot self.now }
+    {
+        if self.named.is_some() {
+            return self.named;
+        }
+        find_absent(&self.rack, self.disks)
+    }
+
+    /// Reads a block. After a failure `into` holds any bytes.
+    pub fn read(&mut self, disk: DiskNo, place: Place, into: &mut Block) -> Result<(), Lost>
+        requires exists { disk < R.slot_count (rack_of self.old) }
+        requires spinning { (R.slot (rack_of self.old) disk).power ≡ Spinning }
+        requires within { place < (R.slot (rack_of self.old) disk).size }
+        ensures slots { R.slot_count (rack_of self.new) ≡ R.slot_count (rack_of self.old) }
+        ensures same { IsSameStore self.old self.new }
+        ensures slot { Touched (R.slot (rack_of self.old)) (R.slot (rack_of self.new)) disk
+            (R.slot (rack_of self.old) disk) (R.slot (rack_of self.old) disk).unsynced
+            (is_ok result) }
+        ensures told { Grows (R.told (rack_of self.old)) (R.told (rack_of self.new))
+            (Read disk place (is_ok result)) }
+        ensures bytes { OnOk result ((t : Trail) → R.told (rack_of self.old) ≡ Some t
+            → into.new ≡ (now t).block disk place) }
+        ensures lost { IfErr result (IsLostBy (out_of R.slot self.old) disk
+            (R.slot (rack_of self.old)) (R.slot (rack_of self.new))) }
+    {
+        let out = self.out();
+        let Ok(()) = self.rack.read(disk, place, into) else {
+            return Err(loss_of(out, disk));
+        };
+        Ok(())
+    }
+
+    /// Makes a disk keep all that was written.
+    pub fn sync(&mut self, disk: DiskNo) -> Result<(), Lost>
+        requires exists { disk < R.slot_count (rack_of self.old) }
+        requires spinning { (R.slot (rack_of self.old) disk).power ≡ Spinning }
+        ensures slots { R.slot_count (rack_of self.new) ≡ R.slot_count (rack_of self.old) }
+        ensures same { IsSameStore self.old self.new }
+        ensures slot { Touched (R.slot (rack_of self.old)) (R.slot (rack_of self.new)) disk
+            (record (R.slot (rack_of self.old) disk) { unsynced = false })
+            (R.slot (rack_of self.old) disk).unsynced (is_ok result) }
+        ensures told { Grows (R.told (rack_of self.old)) (R.told (rack_of self.new))
+            (Sync disk (is_ok result)) }
+        ensures lost { IfErr result (IsLostBy (out_of R.slot self.old) disk
+            (R.slot (rack_of self.old)) (R.slot (rack_of self.new))) }
+    {
+        let out = self.out();
+        let Ok(()) = self.rack.sync(disk) else {
+            return Err(loss_of(out, disk));
+        };
+        Ok(())
+    }
+
+    /// Parks a spinning disk of which nothing is unsynced.
+    pub fn park(&mut self, disk: DiskNo) -> Result<(), Lost>
+        requires exists { disk < R.slot_count (rack_of self.old) }
+        requires spinning { (R.slot (rack_of self.old) disk).power ≡ Spinning }
+        requires synced { (R.slot (rack_of self.old) disk).unsynced ≡ false }
+        ensures slots { R.slot_count (rack_of self.new) ≡ R.slot_count (rack_of self.old) }
+        ensures same { IsSameStore self.old self.new }
+        ensures slot { Touched (R.slot (rack_of self.old)) (R.slot (rack_of self.new)) disk
+            (record (R.slot (rack_of self.old) disk) { power = Parked }) false (is_ok result) }
+        ensures told { Grows (R.told (rack_of self.old)) (R.told (rack_of self.new))
+            (Park disk (is_ok result)) }
+        ensures lost { IfErr result (IsLostBy (out_of R.slot self.old) disk
+            (R.slot (rack_of self.old)) (R.slot (rack_of self.new))) }
+    {
+        let out = self.out();
+        let Ok(()) = self.rack.park(disk) else {
+            return Err(loss_of(out, disk));
+        };
+        Ok(())
+    }
+
+    /// Spins up a parked disk.
+    pub fn spin_up(&mut self, disk: DiskNo) -> Result<(), Lost>
+        requires exists { disk < R.slot_count (rack_of self.old) }
+        requires parked { (R.slot (rack_of self.old) disk).power ≡ Parked }
+        ensures slots { R.slot_count (rack_of self.new) ≡ R.slot_count (rack_of self.old) }
+        ensures same { IsSameStore self.old self.new }
+        ensures slot { Touched (R.slot (rack_of self.old)) (R.slot (rack_of self.new)) disk
+            (record (R.slot (rack_of self.old) disk) { power = Spinning }) false
+            (is_ok result) }
+        ensures told { Grows (R.told (rack_of self.old)) (R.told (rack_of self.new))
+            (SpinUp disk (is_ok result)) }
+        ensures lost { IfErr result (IsLostBy (out_of R.slot self.old) disk
+            (R.slot (rack_of self.old)) (R.slot (rack_of self.new))) }
+    {
+        let out = self.out();
+        let Ok(()) = self.rack.spin_up(disk) else {
+            return Err(loss_of(out, disk));
+        };
+        Ok(())
+    }
+}
