@@ -132,7 +132,7 @@ fn write_log<R: Rack>(
     put(rack, losses, skip, disk, 2, meta)?;
     put(rack, losses, skip, disk, 3, list)?;
     put_blocks(rack, losses, skip, disk, batch)?;
-    settle(rack, losses, skip, disk)?;
+    settle(rack, losses, skip, disk)?; // before its gate opens
     Ok(())
 }
 
@@ -164,7 +164,7 @@ fn open_gate<R: Rack>(
         (Runs (Whole j) (Open j disk) (Open j (disk + 1)))) }
 {
     put(rack, losses, skip, disk, 0, gate)?;
-    settle(rack, losses, skip, disk)?;
+    settle(rack, losses, skip, disk)?; // before a target is touched
     Ok(())
 }
 
@@ -299,7 +299,7 @@ fn mark<R: Rack>(
         (Runs (Whole j) (Mark j disk) (Mark j (disk + 1)))) }
 {
     put(rack, losses, skip, disk, 1, meta)?;
-    settle(rack, losses, skip, disk)?;
+    settle(rack, losses, skip, disk)?; // before its gate closes
     Ok(())
 }
 
