@@ -17,6 +17,16 @@ pub struct Target {
     pub place: Place,
 }
 
+impl Target {
+    /// Whether it is a place past the log, on a disk of the array, and on disk 0 or 1 where it is
+    /// of the dirty map.
+    pub fn is_in_range(self, geometry: &Geometry) -> bool
+        ensures { IsTrue result ↔ IsTargetInRange geometry.now self }
+    {
+        is_in_range(self, geometry, geometry.size())
+    }
+}
+
 /// The targets of a batch, in its order. Those past the count say nothing.
 #[derive(Clone, Copy)]
 pub struct Targets {

@@ -27,7 +27,7 @@ ghost use Rattle.paraid_record.specs.declared.targets.Target.{Target as TargetTy
 ghost use Rattle.paraid_rack.specs.Disks.{Disks};
 ghost use Rattle.paraid_rack.specs.Told.{Ran, Runs};
 ghost use Rattle.paraid_txn.specs.Losses.{AreDry, AreDryBut, AreOthersWell, CanWrite, IsDryAt, IsLostNow, IsSpared, IsTwo, Lasts};
-ghost use Rattle.paraid_txn.specs.Ready.{AreTargetsReady, IsLogReady};
+ghost use Rattle.paraid_txn.specs.Ready.{AreTargetsReady, CanCommit, IsLogReady};
 ghost use Rattle.paraid_txn.specs.Sides.{is_open, targets};
 ghost use Rattle.paraid_txn.specs.Staging.{names_disk};
 ghost use Rattle.paraid_txn.specs.Stages.{Close, IsSpelled, Job, LayIn, Log, LogIn, Mark, Open, SettleIn, Whole, gone, job, named};
@@ -41,8 +41,8 @@ ghost use Rattle.paraid_record.specs.Targets.{AreTargets, IsTargetInRange, targe
 use crate::batch::Batch;
 use crate::calls::{put, settle};
 use crate::losses::Losses;
-use crate::store::{Store, named_out};
-use paraid_base::{Block, DiskNo, Out, Two};
+use crate::store::{Store, gone_out, named_out};
+use paraid_base::{Block, DiskNo, Two};
 use paraid_rack::Rack;
 use paraid_record::{Meta, write_meta, write_targets};
 
@@ -500,16 +500,6 @@ fn run<R: Rack>(
     Ok(())
 }
 
-// The disk that a meta names out and gone: its targets are left out.
-fn gone_out(out: Out) -> Option<DiskNo>
-    ensures { result ≡ gone_of out }
-{
-    match out {
-        Out::Gone { disk } => Some(disk),
-        _ => None,
-    }
-}
-
 // The block that spells the targets of a batch.
 fn spell_targets(batch: &Batch) -> Block
     ensures value { result.bytes ≡ targets_bytes (targets batch.now) }
@@ -544,13 +534,8 @@ impl<R: Rack> Store<R> {
     /// No log disk comes in again by it: the clauses on moments ask that a log disk which was
     /// named out, and is there, is named out again.
     pub fn commit(&mut self, batch: &Batch, meta: &Meta) -> Result<Option<DiskNo>, Two>
-        requires in_range { IsInRange meta.now }
-        requires epoch { epoch_of self.old < 2 ^ 64 - 1 }
-        requires array { meta.now.setup.geometry.disks ≡ disks_of self.old }
-        requires targets { All (IsTargetInRange meta.now.setup.geometry) (targets batch.now) }
-        requires log { IsLogReady (named_of meta.now.out) (R.slot (rack_of self.old)) }
-        requires ready { AreTargetsReady (gone_of meta.now.out) (R.slot_count (rack_of self.old))
-            (R.slot (rack_of self.old)) (targets batch.now) }
+        requires { CanCommit (epoch_of self.old) (disks_of self.old)
+            (R.slot_count (rack_of self.old)) (R.slot (rack_of self.old)) batch.now meta.now }
 
         ensures slots { R.slot_count (rack_of self.new) ≡ R.slot_count (rack_of self.old) }
         ensures disks { disks_of self.new ≡ disks_of self.old }

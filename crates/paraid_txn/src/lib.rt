@@ -12,6 +12,7 @@ mod calls;
 mod commit;
 pub mod laws;
 mod losses;
+mod ready;
 mod store;
 #[cfg(test)]
 mod tests;

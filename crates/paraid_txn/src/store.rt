@@ -5,6 +5,7 @@ ghost use Rattle.paraid_rack.specs.declared.call.Power.TheVariants.{Absent, Park
 ghost use Rattle.paraid_rack.specs.Slots.{Touched};
 ghost use Rattle.paraid_rack.specs.Told.{Grows};
 ghost use Rattle.paraid_rack.specs.Trail.{Trail, now};
+ghost use Rattle.paraid_txn.specs.Commit.{gone_out as gone_of_out};
 ghost use Rattle.paraid_txn.specs.Losses.{IsLostBy};
 ghost use Rattle.paraid_txn.specs.Out.{first_absent, named_out as named_of_out};
 
@@ -42,6 +43,16 @@ pub(crate) fn named_out(out: Out) -> Option<DiskNo>
         Out::No => None,
         Out::Gone { disk } => Some(disk),
         Out::Fresh { disk, .. } => Some(disk),
+    }
+}
+
+/// The disk that a meta names out and gone: its targets are left out.
+pub(crate) fn gone_out(out: Out) -> Option<DiskNo>
+    ensures { result ≡ gone_of_out out }
+{
+    match out {
+        Out::Gone { disk } => Some(disk),
+        _ => None,
     }
 }
 

@@ -8,14 +8,14 @@ use Rattle.paraid_txn.proofs.store.Store.commit.Goals.{After-run}
 
 pub run-requires-clause-in_range : goal.run-requires-clause-in_range
 run-requires-clause-in_range g c =
-    record { few = c.spell_targets-list.ensures.few; each = c.requires.targets; distinct = c.spell_targets-list.ensures.distinct }
+    record { few = c.spell_targets-list.ensures.few; each = c.requires.each; distinct = c.spell_targets-list.ensures.distinct }
 
 -- the blocks spell the next meta and the targets
 spelled : (g : Over) (c : After-run g) (start : Disks)
     → IsSpelled (job start (record c.args.meta.now { epoch = c.args.self.now.epoch + 1 }) c.args.batch.now c.spell_meta-spelled.result c.spell_targets-list.result)
 spelled g c start = record {
   meta = record { in_range = next_in_range c.args.meta.now c.args.self.now.epoch c.requires.in_range c.requires.epoch; bytes = c.spell_meta-spelled.ensures };
-  in_range = record { few = c.spell_targets-list.ensures.few; each = c.requires.targets; distinct = c.spell_targets-list.ensures.distinct };
+  in_range = record { few = c.spell_targets-list.ensures.few; each = c.requires.each; distinct = c.spell_targets-list.ensures.distinct };
   list = c.spell_targets-list.ensures.value;
 }
 
