@@ -1,0 +1,3 @@
+pub mod Props
+pub mod Images
+pub mod Statements
