@@ -1,3 +1,4 @@
 pub mod Props
 pub mod Images
 pub mod Statements
+pub mod Views

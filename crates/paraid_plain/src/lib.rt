@@ -9,8 +9,12 @@ mod image;
 mod side;
 mod standing;
 mod statement;
+mod value;
+mod view;
 
 pub use image::{Image, ImageSlot};
 pub use side::{side_of, statement_of};
 pub use standing::standing_of;
 pub use statement::{Side, Statement};
+pub use value::{block_of, value_of};
+pub use view::{content, is_dirty, out_of};
