@@ -1,3 +1,5 @@
 pub mod ImageLemmas
 pub mod StatementLemmas
 pub mod ViewLemmas
+pub mod SumLemmas
+pub mod SameLemmas

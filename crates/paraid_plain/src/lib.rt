@@ -6,9 +6,12 @@
 #![tactic(auto)]
 
 mod image;
+mod rows;
+mod same;
 mod side;
 mod standing;
 mod statement;
+mod stripes;
 mod value;
 mod view;
 
