@@ -1,5 +1,5 @@
 -- A batch laid target by target.
-use Rattle.std.specs.Prelude.{◌≡◌, ℕ, ◌+◌, ◌<◌, ◌≤◌, ◌==◌, ◌&&◌, nat_lt, Bool, true, false, List, [], ◌∷◌, length, take, if◌then◌else◌}
+use Rattle.std.specs.Prelude.{◌≡◌, ℕ, ◌+◌, ◌%◌, ◌<◌, ◌≤◌, ◌==◌, ◌&&◌, nat_lt, Bool, true, false, List, [], ◌∷◌, length, take, slice_index, if◌then◌else◌}
 use Rattle.std.proofs.Common.{refl, sym, ◌∙◌, ap, arith, add-one, drop, drop-cons, get_or, zero, suc}
 use Rattle.std.proofs.lemmas.Bool.Decides.{nat_tests}
 use Rattle.std.proofs.lemmas.List.{drop_all, get_or-take, get_or_default, length-take, length-take-le}
@@ -9,7 +9,13 @@ use Rattle.paraid_record.specs.declared.targets.Target.{Target}
 use Rattle.paraid_rack.specs.Disks.{Disks}
 use Rattle.paraid_txn.specs.Sides.{Batch, has_place, stored}
 use Rattle.paraid_txn.specs.Standing.{contents, laid}
+use Rattle.paraid_base.specs.Regions.{map_place_of}
+use Rattle.paraid_txn.specs.Spot.{map_bit, map_disk}
+use Rattle.std.proofs.lemmas.Nat.Bits.{bit_at_above}
+use Rattle.paraid_plain.specs.declared.image.Image.{Image}
+use Rattle.paraid_plain.specs.declared.statement.Statement.{Statement}
 use Rattle.paraid_plain.specs.Statements.{batch_at}
+use Rattle.paraid_plain.specs.Views.{block_at, dirty_at, out_at}
 
 -- the batch from its target `at` on, laid over a block
 abbrev pub laid_from : (ℕ → Block) → List Target → ℕ → ℕ → ℕ → Block → Block
@@ -59,3 +65,10 @@ laid_end log list count d p at b past =
 pub contents-there : (i : Disks) (batch : Batch) (d p : ℕ) → 100 ≤ p → has_place i d p ≡ true → contents i batch d p ≡ laid batch d p (stored i d p)
 unfolding contents stored
 contents-there i batch d p past has = let not : nat_lt p 100 ≡ false = grind (arith, nat_tests) in rw (not, has) refl
+
+-- a byte has eight bits
+pub dirty_at-above : (image : Image) (says : Statement) (r d : ℕ) → 8 ≤ d → dirty_at image says r d ≡ false
+unfolding dirty_at map_bit
+dirty_at-above image says r d above =
+    let map : Block = block_at image says (map_disk (out_at image says)) (map_place_of says.meta.setup.geometry r) in
+    ap (λ (n : ℕ). n == 1) (bit_at_above (slice_index map.bytes (r % 512)) 8 d (map.small (r % 512)) above)

@@ -2,3 +2,4 @@ pub mod Props
 pub mod Images
 pub mod Statements
 pub mod Views
+pub mod Parts

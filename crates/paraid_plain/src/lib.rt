@@ -5,7 +5,13 @@
 //! image itself.
 #![tactic(auto)]
 
+mod clean;
+mod disks;
+mod filled;
+mod history;
 mod image;
+mod map;
+mod rebuilt;
 mod rows;
 mod same;
 mod side;
