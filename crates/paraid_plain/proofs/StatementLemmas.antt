@@ -77,3 +77,9 @@ module _ (image : Image) where
       → IfSome r StandsBy → (x : ℕ) (said : Said) → Stands (disks_of image) x said → IsSomeAnd r (IsWhatStands x said)
   value_of_none None first second found x said stands = absurd (none_stands (disks_of image) first second x said stands)
   value_of_none (Some s) first second found x said stands = value_of_some s found x said stands
+
+-- what holds of both log disks
+pub both_logs : (P : ℕ → Type 0) → P 0 → P 1 → (y : ℕ) → y < 2 → P y
+both_logs P first second zero l = first
+both_logs P first second (suc zero) l = second
+both_logs P first second (suc (suc y)) l = absurd (omega arith)

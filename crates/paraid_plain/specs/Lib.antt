@@ -3,3 +3,4 @@ pub mod Images
 pub mod Statements
 pub mod Views
 pub mod Parts
+pub mod LogParts

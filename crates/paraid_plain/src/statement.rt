@@ -1,5 +1,5 @@
 //! What a log disk says, as a value.
-ghost use Rattle.std.specs.Prelude.{◌<◌, ◌≤◌};
+ghost use Rattle.std.specs.Prelude.{◌≡◌, ◌<◌, ◌≤◌, length};
 ghost use Rattle.paraid_record.specs.Range.{IsInRange};
 ghost use Rattle.paraid_plain.specs.Props.{IsInRange-prop};
 
@@ -17,6 +17,7 @@ pub struct Statement {
     pub ghost log_disk: { disk < 2 },
     pub ghost in_range: { IsInRange meta } by { IsInRange-prop meta },
     pub ghost few: { targets.count ≤ 96 },
+    pub ghost long: { length targets.list ≡ 96 },
 }
 
 /// The side of a log disk in short.
