@@ -6,3 +6,4 @@ pub mod SameLemmas
 pub mod TestLemmas
 pub mod BatchLemmas
 pub mod OutLemmas
+pub mod SoundLemmas

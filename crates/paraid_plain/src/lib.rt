@@ -17,14 +17,17 @@ mod rebuilt;
 mod rows;
 mod same;
 mod side;
+mod sound;
 mod standing;
 mod statement;
 mod stripes;
 mod value;
 mod view;
 
+pub use history::block_after;
 pub use image::{Image, ImageSlot};
 pub use side::{side_of, statement_of};
+pub use sound::is_sound;
 pub use standing::standing_of;
 pub use statement::{Side, Statement};
 pub use value::{block_of, value_of};
