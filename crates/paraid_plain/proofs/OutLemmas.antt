@@ -1,0 +1,14 @@
+-- Which disk is out.
+use Rattle.std.specs.Prelude.{◌≡◌, ◌≢◌, ℕ, ◌==◌, Bool, true, false, Option, Some, None}
+use Rattle.std.proofs.Common.{refl, sym, ◌∙◌, ap, arith}
+use Rattle.std.proofs.lemmas.Bool.{false≢true}
+use Rattle.std.proofs.lemmas.Bool.Decides.{nat_tests}
+use Rattle.paraid_txn.specs.Out.{is_out}
+
+is_out-itself : (o : Option ℕ) (d : ℕ) → o ≡ Some d → is_out o d ≡ true
+is_out-itself None d e = cc
+is_out-itself (Some x) d e = let same : x ≡ d = cc in grind (arith, nat_tests)
+
+-- a disk that tests as not out is not
+pub not_out : (o : Option ℕ) (d : ℕ) (test : Bool) → test ≡ is_out o d → test ≡ false → o ≢ Some d
+not_out o d test told is e = false≢true (sym is ∙ told ∙ is_out-itself o d e)

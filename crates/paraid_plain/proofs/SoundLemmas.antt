@@ -1,0 +1,43 @@
+-- An image is sound by the log disk that stands.
+use Rattle.std.specs.Prelude.{◌≡◌, ℕ}
+use Rattle.std.proofs.Common.{refl, sym, ap, subst}
+use Rattle.paraid_base.specs.History.{History}
+use Rattle.paraid_rack.specs.Disks.{Disks}
+use Rattle.paraid_txn.specs.Content.{view_of}
+use Rattle.paraid_txn.specs.Sides.{Said}
+use Rattle.paraid_txn.specs.Sound.{ContentOk, LogOk, Sound}
+use Rattle.paraid_txn.specs.Spot.{View}
+use Rattle.paraid_txn.specs.Standing.{Stands}
+use Rattle.paraid_txn.proofs.StandingLemmas.{Stands-same}
+use Rattle.paraid_plain.specs.declared.image.Image.{Image}
+use Rattle.paraid_plain.specs.declared.statement.Statement.{Statement}
+use Rattle.paraid_plain.specs.Images.{disks_of}
+use Rattle.paraid_plain.specs.Statements.{said_of}
+use Rattle.paraid_plain.specs.Views.{block_at, dirty_at, out_at, view_at}
+
+pub view_of-said : (image : Image) (s : Statement) → view_of (disks_of image) (said_of image s) ≡ view_at image s
+unfolding block_at dirty_at out_at
+view_of-said image s = refl
+
+module _ (image : Image) (s : Statement) (slots : ℕ) (h : History) (k : ℕ) (stands : Stands (disks_of image) s.disk (said_of image s)) where
+  abbrev i : Disks
+  i = disks_of image
+
+  pub sound_from : LogOk i s.disk (said_of image s) k → ContentOk slots i.power i.size (view_at image s) h k → Sound slots i h k
+  sound_from log content = record {
+    disk = s.disk;
+    said = said_of image s;
+    log = log;
+    content = subst (λ (v : View). ContentOk slots i.power i.size v h k) (sym (view_of-said image s)) content;
+  }
+
+  pub sound_log : Sound slots i h k → LogOk i s.disk (said_of image s) k
+  sound_log sound =
+      let same = Stands-same i sound.disk s.disk sound.said (said_of image s) sound.log.stands stands in
+      subst (λ (x : ℕ). LogOk i x (said_of image s) k) same.0 (subst (λ (said : Said). LogOk i sound.disk said k) same.1 sound.log)
+
+  pub sound_content : Sound slots i h k → ContentOk slots i.power i.size (view_at image s) h k
+  sound_content sound =
+      let same = Stands-same i sound.disk s.disk sound.said (said_of image s) sound.log.stands stands in
+      subst (λ (v : View). ContentOk slots i.power i.size v h k) (view_of-said image s)
+      (subst (λ (said : Said). ContentOk slots i.power i.size (view_of i said) h k) same.1 sound.content)

@@ -1,0 +1,16 @@
+use Rattle.std.proofs.Common.{length}
+use Rattle.paraid_txn.specs.Sound.{Sound}
+use Rattle.paraid_plain.specs.Images.{disks_of}
+use Rattle.paraid_plain.proofs.SoundLemmas.{sound_content, sound_from}
+use Rattle.paraid_plain.proofs.TestLemmas.{reworded}
+use Rattle.paraid_plain.proofs.sound.is_sound.Goals as goal
+
+pub returns-then-is_log_ok : goal.returns-then-is_log_ok
+returns-then-is_log_ok c =
+    let image = c.args.image.now in
+    let slots = length image.slots.items in
+    let says = c.in-Some.says in
+    let stands = c.in-Some.ensures.some in
+    reworded (Sound slots (disks_of image) c.args.history.now c.args.writes) c.is_content_ok.result c.is_content_ok.ensures
+    (sound_from image says slots c.args.history.now c.args.writes stands (c.is_log_ok.ensures.0 c.if-is_log_ok.true))
+    (sound_content image says slots c.args.history.now c.args.writes stands)

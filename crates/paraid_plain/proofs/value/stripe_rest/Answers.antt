@@ -1,0 +1,20 @@
+use Rattle.std.proofs.Common.{◌≡◌, ℕ, sym, ◌∙◌}
+use Rattle.paraid_base.specs.declared.block.Block.{Block}
+use Rattle.paraid_base.proofs.SumsLemmas.{others_none, others_read, others_skip}
+use Rattle.paraid_txn.specs.Value.{stripe}
+use Rattle.paraid_plain.specs.Views.{block_at}
+use Rattle.paraid_plain.proofs.value.stripe_rest.Goals as goal
+use Rattle.paraid_plain.proofs.value.stripe_rest.Goals.{then-other-disk, else-other-disk}
+
+pub loop-other-init : goal.loop-other-init
+loop-other-init c = c.zero-sum.ensures ∙ others_none _ _
+
+pub loop-other-preserved : goal.loop-other-preserved
+loop-other-preserved c =
+    let says = c.args.says.now in
+    let blocks : ℕ → Block = stripe says.meta.setup.geometry (block_at c.args.image.now says) c.args.gear c.args.stripe in
+    elim c.if-other-disk.branch [
+      | then-other-disk w ↦
+          others_read blocks c.args.disk c.loop-other.other _ _ _ w.if-other-disk.true c.loop-other.invariant w.stripe_block.ensures (w.sum-is ∙ w.xor_into.ensures)
+      | else-other-disk w ↦ w.sum-is ∙ c.loop-other.invariant ∙ others_skip blocks c.args.disk c.loop-other.other w.if-other-disk.false
+    ]

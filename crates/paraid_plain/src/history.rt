@@ -1,0 +1,56 @@
+//! The blocks of the array hold what the first writes of a history leave.
+ghost use Rattle.std.specs.Prelude.{◌≡◌, ℕ, ◌-◌, ◌*◌, ◌<◌, ◌≤◌, ◌==◌, ◌↔◌, if◌then◌else◌, length, take, IsTrue};
+ghost use Rattle.paraid_base.specs.History.{after, last_of as last_in};
+ghost use Rattle.paraid_base.specs.Xor.{zeroed};
+ghost use Rattle.paraid_txn.specs.Content.{blocks_of};
+ghost use Rattle.paraid_plain.specs.Views.{view_at};
+
+use crate::image::Image;
+use crate::same::is_same_block;
+use crate::statement::Statement;
+use crate::value::home_value;
+use paraid_base::{Block, BlockNo};
+
+pub(crate) fn are_blocks_held(
+    image: &Image,
+    says: &Statement,
+    history: &[(BlockNo, Block)],
+    writes: u64,
+) -> bool
+    ensures { IsTrue result ↔ ((b : ℕ)
+        → b < says.now.meta.setup.geometry.rows * (says.now.meta.setup.geometry.disks - 1)
+        → blocks_of (view_at image.now says.now) b ≡ after history.now writes b) }
+{
+    for block in 0..says.meta.setup.geometry.blocks() {
+        let held = home_value(image, says, block);
+        if !is_same_block(&held, &block_after(history, writes, block)) {
+            return false;
+        }
+    }
+    true
+}
+
+/// A block after the first writes of a history: the bytes of the last that names it, or zeros.
+#[tactic(auto, unfolding(paraid_base::specs::History::after))]
+pub fn block_after(history: &[(BlockNo, Block)], writes: u64, block: BlockNo) -> Block
+    ensures { result ≡ after history.now writes block }
+{
+    let count = history.len();
+    if writes < count as u64 {
+        last_of(&history[..writes as usize], block)
+    } else {
+        last_of(history, block)
+    }
+}
+
+fn last_of(history: &[(BlockNo, Block)], block: BlockNo) -> Block
+    ensures { result ≡ last_in block zeroed history.now }
+{
+    let mut bytes = Block::zero();
+    for write in history {
+        if write.0 == block {
+            bytes.copy_from(&write.1);
+        }
+    }
+    bytes
+}

@@ -1,0 +1,54 @@
+//! Whether an image holds a history.
+ghost use Rattle.std.specs.Prelude.{◌≡◌, ℕ, ◌<◌, ◌↔◌, length, IsTrue};
+ghost use Rattle.paraid_txn.specs.Sound.{ContentOk, Sound};
+ghost use Rattle.paraid_plain.specs.Images.{disks_of};
+ghost use Rattle.paraid_plain.specs.Views.{view_at};
+
+use crate::clean::are_clean_stored;
+use crate::disks::are_disks;
+use crate::filled::are_filled;
+use crate::history::are_blocks_held;
+use crate::image::Image;
+use crate::log::is_log_ok;
+use crate::map::is_map;
+use crate::rebuilt::is_fresh_rebuilt;
+use crate::rows::are_rows_zero;
+use crate::standing::standing_of;
+use crate::statement::Statement;
+use crate::stripes::are_stripes_zero;
+use paraid_base::{Block, BlockNo};
+
+/// Whether an image holds the first `writes` writes of a history, each a block number and bytes.
+pub fn is_sound(image: &Image, history: &[(BlockNo, Block)], writes: u64) -> bool
+    ensures { IsTrue result ↔ Sound (length image.now.slots.items) (disks_of image.now)
+        history.now writes }
+{
+    match standing_of(image) {
+        None => false,
+        Some(says) => {
+            is_log_ok(image, &says, writes) && is_content_ok(image, &says, history, writes)
+        }
+    }
+}
+
+/// What is asked of the blocks past the log and of the disks.
+fn is_content_ok(
+    image: &Image,
+    says: &Statement,
+    history: &[(BlockNo, Block)],
+    writes: u64,
+) -> bool
+    ensures { IsTrue result ↔ ContentOk (length image.now.slots.items) (disks_of image.now).power
+        (disks_of image.now).size (view_at image.now says.now) history.now writes }
+{
+    if !are_rows_zero(image, says) || !are_stripes_zero(image, says) {
+        return false;
+    }
+    if !are_filled(image, says) || !are_clean_stored(image, says) {
+        return false;
+    }
+    if !is_fresh_rebuilt(image, says) || !is_map(image, says) {
+        return false;
+    }
+    are_disks(image, says) && are_blocks_held(image, says, history, writes)
+}
