@@ -1,11 +1,10 @@
 use Rattle.std.specs.Prelude.{◌≡◌, ◌≢◌, ℕ, ◌+◌, ◌<◌, ◌≤◌, true, get_or, length, Some}
-use Rattle.std.proofs.Common.{inl, ap, arith, refl, rules, subst, sym, ◌∙◌}
+use Rattle.std.proofs.Common.{inl, ap, arith, refl, subst, ◌∙◌}
 use Rattle.paraid_base.specs.Xor.{zeroed}
 use Rattle.paraid_rack.specs.Told.{Ran, Runs}
-use Rattle.paraid_record.specs.declared.targets.Target.{Target}
 use Rattle.paraid_record.specs.Targets.{no_target}
 use Rattle.paraid_txn.specs.Losses.{AreDryBut, CanWrite}
-use Rattle.paraid_txn.specs.Sides.{Batch, targets}
+use Rattle.paraid_txn.specs.Sides.{Batch}
 use Rattle.paraid_txn.specs.Stages.{IsSpelled, Job, LayIn, Whole, body, gone}
 use Rattle.paraid_txn.specs.Staging.{blocks, names_disk}
 use Rattle.paraid_txn.proofs.PartsLemmas.{andthen, ends, lay_ran, lay_whole, nothing_ran}

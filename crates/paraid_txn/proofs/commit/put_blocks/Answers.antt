@@ -1,8 +1,7 @@
 use Rattle.std.specs.Prelude.{◌≡◌, ℕ, ◌+◌, ◌<◌, get_or, length}
 use Rattle.paraid_base.specs.Xor.{zeroed}
-use Rattle.std.proofs.Common.{inl, ap, rules, subst, sym, ◌∙◌, refl, arith}
+use Rattle.std.proofs.Common.{inl, ap, subst, ◌∙◌, refl, arith}
 use Rattle.paraid_rack.specs.Told.{Ran, Runs}
-use Rattle.paraid_rack.proofs.TrailsLemmas.{stays}
 use Rattle.paraid_txn.specs.Sides.{Batch}
 use Rattle.paraid_txn.specs.Stages.{IsSpelled, Job, LogIn, Whole, body, named}
 use Rattle.paraid_txn.specs.Staging.{blocks}

@@ -1,10 +1,7 @@
-use Rattle.std.specs.Prelude.{◌≡◌, ◌≢◌, ℕ, ◌+◌, ◌<◌, ◌≤◌, true, false, Some}
-use Rattle.std.proofs.Common.{inl, ap, arith, below_more, refl, rules, sym, ◌∙◌}
-use Rattle.paraid_rack.specs.Told.{Ran, Runs}
+use Rattle.std.specs.Prelude.{◌≡◌, ◌≢◌, ℕ, ◌<◌, ◌≤◌, true, false, Some}
+use Rattle.std.proofs.Common.{inl, arith, below_more, refl, ◌∙◌}
 use Rattle.paraid_txn.specs.Losses.{IsDryAt}
 use Rattle.paraid_txn.specs.Neutral.{names}
-use Rattle.paraid_txn.specs.Sides.{Batch}
-use Rattle.paraid_txn.specs.Stages.{IsSpelled, Job, Mark, SettleIn, Whole, gone}
 use Rattle.paraid_txn.specs.Staging.{names_disk}
 use Rattle.paraid_txn.proofs.PartsLemmas.{andthen, ends, nothing_ran, settle_whole, upto}
 use Rattle.paraid_txn.proofs.ReadyLemmas.{targets_stay_ready}
@@ -52,5 +49,5 @@ returns-clause-moments g c j good is same = ends (settle_whole j good c.loop-dis
 pub returns-clause-done : goal.returns-clause-done
 returns-clause-done g c j good is same =
     let above : (d p : ℕ) → c.loop-disk.disk ≤ d → names j.batch d p ≡ false = λ d p le.
-        rw same (names-no_disk c.args.batch.now d p (names_disk-above c.args.batch.now c.args.disks d c.requires.below (omega arith))) in
+    rw same (names-no_disk c.args.batch.now d p (names_disk-above c.args.batch.now c.args.disks d c.requires.below (omega arith))) in
     upto (λ s a. settle_end j good c.loop-disk.disk s above a) (c.loop-disk.invariant.ran j good is same)

@@ -1,5 +1,5 @@
 use Rattle.std.specs.Prelude.{◌≡◌, ◌≢◌, ℕ, ◌+◌, length, Some}
-use Rattle.std.proofs.Common.{ap, subst, sym, arith}
+use Rattle.std.proofs.Common.{ap, arith}
 use Rattle.paraid_rack.specs.Told.{Ran, Runs}
 use Rattle.paraid_txn.specs.Stages.{IsSpelled, Job, Log, LogIn, LogMeta, Whole, named}
 use Rattle.paraid_txn.proofs.DownLemmas.{AreDry-settled, AreDryBut-both, Lasts-then}
@@ -19,9 +19,9 @@ returns-clause-dry g c =
     let heads = Lasts-then _ _ _ _ _ _ c.put.ensures.lasts c.put-2.ensures.lasts in
     let written = Lasts-then _ _ _ _ _ _ heads c.put_blocks.ensures.lasts in
     let wet_heads = AreDryBut-both may _ _ _ (slot c.args.rack.now) (slot c.put.new.rack) (slot c.put-2.new.rack)
-        c.put.ensures.lasts c.put-2.ensures.lasts c.put.ensures.dry c.put-2.ensures.dry in
+    c.put.ensures.lasts c.put-2.ensures.lasts c.put.ensures.dry c.put-2.ensures.dry in
     let wet = AreDryBut-both may _ _ _ (slot c.args.rack.now) (slot c.put-2.new.rack) (slot c.put_blocks.new.rack)
-        heads c.put_blocks.ensures.lasts wet_heads c.put_blocks.ensures.dry in
+    heads c.put_blocks.ensures.lasts wet_heads c.put_blocks.ensures.dry in
     AreDry-settled c.args.skip c.args.disk _ _ _ (slot c.args.rack.now) (slot c.put_blocks.new.rack) (slot c.settle.new.rack)
     written c.settle.ensures.lasts wet c.settle.ensures.dry c.settle.ensures.settled
 
