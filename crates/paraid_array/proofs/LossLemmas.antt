@@ -63,12 +63,19 @@ lasts_then n a b c x y z p q r first second = record {
   lost = λ d is. was_lost_then n a b c x y z p q r first second d (second.lost d is);
 }
 
+-- the same where the first part left a disk out and the second began with it
+pub lasts_then_lost : (n : ℕ) (a b : Option ℕ) (d : ℕ) (x y z : ℕ → Slot) (p q r : Option Trail) → b ≡ Some d → Lasts n a b x y p q → Lasts n (Some d) (Some d) y z q r → Lasts n a b x z p r
+lasts_then_lost n a b d x y z p q r lost first second =
+    lasts_then n a b b x y z p q r first (subst (λ (o : Option ℕ). Lasts n o o y z q r) (sym lost) second)
+
 -- two disks are down in the second part, so they are in the whole
-pub two_then : (n : ℕ) (a b c : Option ℕ) (x y z : ℕ → Slot) (p q r : Option Trail) (two : Two) → Lasts n a b x y p q → Lasts n b c y z q r → IsTwo b y z two → IsTwo a x z two
+pub two_then : (n : ℕ) (a b c : Option ℕ) (x y z : ℕ → Slot) (p q r : Option Trail) (two : Two) → Lasts n a b x y p q → Lasts n b c y z q r → IsTwo n b y z two → IsTwo n a x z two
 two_then n a b c x y z p q r two first second is = record {
   first = was_lost_then n a b c x y z p q r first second two.first is.first;
   apart = is.apart;
   second = HasRisen-sooner (x two.second).faults (y two.second).faults (z two.second).faults (first.no_fall two.second) is.second;
+  first_below = is.first_below;
+  second_below = is.second_below;
 }
 
 touched_no_fall : (old new : ℕ → Slot) (disk : ℕ) (leaves : Slot) (dirt done : Bool) → Touched old new disk leaves dirt done → leaves.faults ≡ (old disk).faults
@@ -103,11 +110,13 @@ lasts_follow n out new_out old new told new_told disk leaves dirt done c result 
     lost (Ok false) f d is = inr (f.1, subst (λ (k : ℕ). HasRisen (old k).faults (new k).faults) (same_some disk d (sym f.2 ∙ is)) (touched.risen f.0))
     lost (Err two) f d is = inl (sym f.3 ∙ is)
 
-pub two_follow : (out new_out : Option ℕ) (old new : ℕ → Slot) (disk : ℕ) (leaves : Slot) (dirt done : Bool) (result : Result Bool Two)
-    → Touched old new disk leaves dirt done → out ≢ Some disk → Follows out new_out disk done result → IfErr result (IsTwo out old new)
-two_follow out new_out old new disk leaves dirt done (Ok b) touched not follows = tt
-two_follow out new_out old new disk leaves dirt done (Err two) touched not follows = record {
+pub two_follow : (n : ℕ) (out new_out : Option ℕ) (old new : ℕ → Slot) (disk : ℕ) (leaves : Slot) (dirt done : Bool) (result : Result Bool Two)
+    → ((d : ℕ) → out ≡ Some d → d < n) → disk < n → Touched old new disk leaves dirt done → out ≢ Some disk → Follows out new_out disk done result → IfErr result (IsTwo n out old new)
+two_follow n out new_out old new disk leaves dirt done (Ok b) outs below touched not follows = tt
+two_follow n out new_out old new disk leaves dirt done (Err two) outs below touched not follows = record {
   first = inl follows.1;
   apart = λ e. not (follows.1 ∙ ap Some (e ∙ follows.2));
   second = subst (λ (k : ℕ). HasRisen (old k).faults (new k).faults) (sym follows.2) (touched.risen follows.0);
+  first_below = outs two.first follows.1;
+  second_below = subst (λ (k : ℕ). k < n) (sym follows.2) below;
 }

@@ -12,9 +12,8 @@ use Rattle.paraid_base.proofs.CellsLemmas.{block_of-home, home_disk_below, home_
 use Rattle.paraid_base.proofs.HistoryLemmas.{held-none, held-other, held-written}
 use Rattle.paraid_base.proofs.SumsLemmas.{parity_kept, xor_upto_same}
 use Rattle.paraid_base.proofs.XorLemmas.{xor_zero}
-use Rattle.paraid_rack.specs.Disks.{Disks}
 use Rattle.paraid_rack.specs.Trail.{Trail}
-use Rattle.paraid_array.specs.Cells.{Cells, with_cell, rewritten, RowsZero, Holds, Stores, Keeps, Stands}
+use Rattle.paraid_array.specs.Cells.{Cells, with_cell, rewritten, RowsZero, Holds, Keeps, Stands}
 use Rattle.paraid_array.specs.Mount.{AreZeros}
 use Rattle.paraid_array.proofs.StoresLemmas.{with_cell-same, with_cell-other_row, with_cell-other_disk}
 
@@ -45,12 +44,10 @@ module _ (n : ℕ) (cells : Cells) (r d : ℕ) (bytes : Block) where
       sums
 
 -- a cell was written, and then what its row's parity is to be
-pub stores_rewritten : (g : Geometry) (s : Disks) (n : ℕ) (cells : Cells) (r d p : ℕ) (bytes parity : Block) → p ≡ parity_disk n r
-    → parity ≡ xor (cells r (parity_disk n r)) (xor (cells r d) bytes)
-    → Stores g s (with_cell (with_cell cells r d bytes) r p parity) → Stores g s (rewritten n cells r d bytes)
-stores_rewritten g s n cells r d p bytes parity is_disk is_parity stores =
-    subst (λ (b : Block). Stores g s (with_cell (with_cell cells r d bytes) r (parity_disk n r) b)) is_parity
-    (subst (λ (k : ℕ). Stores g s (with_cell (with_cell cells r d bytes) r k parity)) is_disk stores)
+pub keeps_rewritten : (g : Geometry) (told : Option Trail) (n : ℕ) (cells : Cells) (r d p : ℕ) (bytes : Block) → p ≡ parity_disk n r
+    → Keeps g told (with_cell (with_cell cells r d bytes) r p (xor (cells r (parity_disk n r)) (xor (cells r d) bytes))) → Keeps g told (rewritten n cells r d bytes)
+keeps_rewritten g told n cells r d p bytes is =
+    subst (λ (k : ℕ). Keeps g told (with_cell (with_cell cells r d bytes) r k (xor (cells r (parity_disk n r)) (xor (cells r d) bytes)))) is
 
 -- the rows still sum to zero
 rows_rewritten : (g : Geometry) (cells : Cells) (r d : ℕ) (bytes : Block) → d < g.disks → d ≢ parity_disk g.disks r → RowsZero g cells → RowsZero g (rewritten g.disks cells r d bytes)

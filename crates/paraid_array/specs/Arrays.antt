@@ -47,7 +47,7 @@ LastsFor slot told old new = Lasts old.geometry.disks old.out new.out (slot old.
 
 -- A halt that comes in this call has a cause in it.
 abbrev pub HaltsFor : {R : Type 0} {g : _} → (R → ℕ → Slot) → Array R g → Array R g → Type 0
-HaltsFor slot old new = (halt : Halt) → old.halt ≡ None → new.halt ≡ Some halt → IsCause old.writes old.out (slot old.rack) (slot new.rack) halt
+HaltsFor slot old new = (halt : Halt) → old.halt ≡ None → new.halt ≡ Some halt → IsCause old.geometry.disks old.writes old.out (slot old.rack) (slot new.rack) halt
 
 -- after a halt it stays as it is, with the same halt
 abbrev pub StaysHalted : {R : Type 0} {g : _} → Array R g → Array R g → Type 0

@@ -37,16 +37,19 @@ pub record Lasts (n : ℕ) (out new_out : Option ℕ) (old new : ℕ → Slot) (
   pub stays : (d : ℕ) → out ≡ Some d → new_out ≡ Some d
   pub lost : (d : ℕ) → new_out ≡ Some d → WasLost out old new d
 
--- Two disks are down: the first was out, or has failed since, and then the second has failed.
-pub record IsTwo (out : Option ℕ) (old new : ℕ → Slot) (two : Two) : Type 0 where
+-- Two different disks of n are down: the first was out, or has failed since, and then the second has
+-- failed.
+pub record IsTwo (n : ℕ) (out : Option ℕ) (old new : ℕ → Slot) (two : Two) : Type 0 where
   pub first : WasLost out old new two.first
   pub apart : two.first ≢ two.second
   pub second : HasRisen (old two.second).faults (new two.second).faults
+  pub first_below : two.first < n
+  pub second_below : two.second < n
 
--- why a call that began with so many writes gives this halt
-abbrev pub IsCause : ℕ → Option ℕ → (ℕ → Slot) → (ℕ → Slot) → Halt → Type 0
-IsCause writes out old new (HaltTwo two) = IsTwo out old new two
-IsCause writes out old new (Worn count) = (2 ^ 62 ≤ writes) × (count ≡ writes)
+-- why a call on n disks that began with so many writes gives this halt
+abbrev pub IsCause : ℕ → ℕ → Option ℕ → (ℕ → Slot) → (ℕ → Slot) → Halt → Type 0
+IsCause n writes out old new (HaltTwo two) = IsTwo n out old new two
+IsCause n writes out old new (Worn count) = (2 ^ 62 ≤ writes) × (count ≡ writes)
 
 -- What follows a call on a disk that was not out. Done, it leaves all as it is. Failed, it puts the
 -- disk out, or there are two where another was out.

@@ -46,7 +46,8 @@ fn read_stored<R: Rack>(
         (Fits geometry.now out.new (R.slot_count rack.new) (R.slot rack.new)) }
     ensures lasts { Lasts geometry.now.disks out.old out.new (R.slot rack.old) (R.slot rack.new)
         (R.told rack.old) (R.told rack.new) }
-    ensures two { IfErr result (IsTwo out.old (R.slot rack.old) (R.slot rack.new)) }
+    ensures two { IfErr result (IsTwo geometry.now.disks out.old (R.slot rack.old)
+        (R.slot rack.new)) }
 {
     if is_out(*out, disk) {
         return Ok(false);
@@ -56,11 +57,13 @@ fn read_stored<R: Rack>(
     follow(out, disk, answer)
 }
 
-// Adds a cell to the sum of the cells before it, unless it is of the disk that is out.
+// Adds a cell to the sum of the cells before it, unless it is on the disk that is out or on the
+// one that is skipped.
 fn add_cell<R: Rack>(
     rack: &mut R,
     geometry: &Geometry,
     out: DiskNo,
+    skipped: DiskNo,
     row: Row,
     disk: DiskNo,
     sum: &mut Block,
@@ -70,17 +73,18 @@ fn add_cell<R: Rack>(
     requires fits { Fits geometry.now (Some out) (R.slot_count rack.old) (R.slot rack.old) }
     ensures value { OnOk result ((cells : Cells)
         → IsSome (R.told rack.new) → Keeps geometry.now (R.told rack.old) cells
-        → sum.old ≡ xor_upto (without (cells row) out) disk
-        → sum.new ≡ xor_upto (without (cells row) out) (disk + 1)) }
+        → sum.old ≡ xor_upto (without (without (cells row) out) skipped) disk
+        → sum.new ≡ xor_upto (without (without (cells row) out) skipped) (disk + 1)) }
     ensures keeps { (cells : Cells) → Keeps geometry.now (R.told rack.old) cells
         → Keeps geometry.now (R.told rack.new) cells }
     ensures fits { OnOk result
         (Fits geometry.now (Some out) (R.slot_count rack.new) (R.slot rack.new)) }
     ensures lasts { Lasts geometry.now.disks (Some out) (Some out) (R.slot rack.old)
         (R.slot rack.new) (R.told rack.old) (R.told rack.new) }
-    ensures two { IfErr result (IsTwo (Some out) (R.slot rack.old) (R.slot rack.new)) }
+    ensures two { IfErr result (IsTwo geometry.now.disks (Some out) (R.slot rack.old)
+        (R.slot rack.new)) }
 {
-    if disk == out {
+    if disk == out || disk == skipped {
         return Ok(());
     }
     let place = hard_place(geometry, row);
@@ -95,11 +99,13 @@ fn add_cell<R: Rack>(
     Ok(())
 }
 
-// Sums up the cells of a row that are not on the disk that is out.
+// Sums up the cells of a row that are neither on the disk that is out nor on the one that is
+// skipped. They may be one disk.
 fn read_others<R: Rack>(
     rack: &mut R,
     geometry: &Geometry,
     out: DiskNo,
+    skipped: DiskNo,
     row: Row,
     into: &mut Block,
 ) -> Result<(), Two>
@@ -107,18 +113,19 @@ fn read_others<R: Rack>(
     requires fits { Fits geometry.now (Some out) (R.slot_count rack.old) (R.slot rack.old) }
     ensures value { OnOk result ((cells : Cells)
         → IsSome (R.told rack.new) → Keeps geometry.now (R.told rack.old) cells
-        → into.new ≡ xor_upto (without (cells row) out) geometry.now.disks) }
+        → into.new ≡ xor_upto (without (without (cells row) out) skipped) geometry.now.disks) }
     ensures keeps { (cells : Cells) → Keeps geometry.now (R.told rack.old) cells
         → Keeps geometry.now (R.told rack.new) cells }
     ensures fits { OnOk result
         (Fits geometry.now (Some out) (R.slot_count rack.new) (R.slot rack.new)) }
     ensures lasts { Lasts geometry.now.disks (Some out) (Some out) (R.slot rack.old)
         (R.slot rack.new) (R.told rack.old) (R.told rack.new) }
-    ensures two { IfErr result (IsTwo (Some out) (R.slot rack.old) (R.slot rack.new)) }
+    ensures two { IfErr result (IsTwo geometry.now.disks (Some out) (R.slot rack.old)
+        (R.slot rack.new)) }
 {
     *into = Block::zero();
     for disk in 0..geometry.disks {
-        add_cell(rack, geometry, out, row, disk, into)?;
+        add_cell(rack, geometry, out, skipped, row, disk, into)?;
     }
     Ok(())
 }
@@ -144,16 +151,18 @@ pub(crate) fn read_cell<R: Rack>(
         (Fits geometry.now out.new (R.slot_count rack.new) (R.slot rack.new)) }
     ensures lasts { Lasts geometry.now.disks out.old out.new (R.slot rack.old) (R.slot rack.new)
         (R.told rack.old) (R.told rack.new) }
-    ensures two { IfErr result (IsTwo out.old (R.slot rack.old) (R.slot rack.new)) }
+    ensures two { IfErr result (IsTwo geometry.now.disks out.old (R.slot rack.old)
+        (R.slot rack.new)) }
 {
     if read_stored(rack, geometry, out, row, disk, into)? {
         return Ok(());
     }
-    read_others(rack, geometry, disk, row, into)?;
+    read_others(rack, geometry, disk, disk, row, into)?;
     Ok(())
 }
 
-// Writes a cell to its own disk, unless that is out or fails: false.
+// Writes a cell to its own disk, unless that is out or fails: false. The cell of a disk that is
+// out may be thought to hold anything.
 fn put<R: Rack>(
     rack: &mut R,
     geometry: &Geometry,
@@ -165,13 +174,15 @@ fn put<R: Rack>(
     requires row { row < geometry.now.rows }
     requires disk { disk < geometry.now.disks }
     requires fits { Fits geometry.now out.old (R.slot_count rack.old) (R.slot rack.old) }
-    ensures keeps { (cells : Cells) → Keeps geometry.now (R.told rack.old) cells
-        → Keeps geometry.now (R.told rack.new) (with_cell cells row disk bytes.now) }
+    ensures keeps { (cells : Cells) (block : Block) → (out.old ≢ Some disk → block ≡ bytes.now)
+        → Keeps geometry.now (R.told rack.old) cells
+        → Keeps geometry.now (R.told rack.new) (with_cell cells row disk block) }
     ensures fits { OnOk result
         (Fits geometry.now out.new (R.slot_count rack.new) (R.slot rack.new)) }
     ensures lasts { Lasts geometry.now.disks out.old out.new (R.slot rack.old) (R.slot rack.new)
         (R.told rack.old) (R.told rack.new) }
-    ensures two { IfErr result (IsTwo out.old (R.slot rack.old) (R.slot rack.new)) }
+    ensures two { IfErr result (IsTwo geometry.now.disks out.old (R.slot rack.old)
+        (R.slot rack.new)) }
 {
     if is_out(*out, disk) {
         return Ok(false);
@@ -181,7 +192,46 @@ fn put<R: Rack>(
     follow(out, disk, answer)
 }
 
-// The parity of a row once a cell of it holds these bytes.
+// Sums up the data of a row but for one cell: as the sum of that cell and the parity or, where the
+// cell's disk is out, from the other data. With the parity's disk out `into` holds any bytes.
+fn read_rest<R: Rack>(
+    rack: &mut R,
+    geometry: &Geometry,
+    out: &mut Option<DiskNo>,
+    row: Row,
+    disk: DiskNo,
+    parity: DiskNo,
+    into: &mut Block,
+) -> Result<(), Two>
+    requires row { row < geometry.now.rows }
+    requires disk { disk < geometry.now.disks }
+    requires parity { parity < geometry.now.disks }
+    requires fits { Fits geometry.now out.old (R.slot_count rack.old) (R.slot rack.old) }
+    ensures value { OnOk result (out.new ≢ Some parity → (cells : Cells)
+        → RowsZero geometry.now cells → IsSome (R.told rack.new)
+        → Keeps geometry.now (R.told rack.old) cells
+        → into.new ≡ xor (cells row disk) (cells row parity)) }
+    ensures keeps { (cells : Cells) → Keeps geometry.now (R.told rack.old) cells
+        → Keeps geometry.now (R.told rack.new) cells }
+    ensures fits { OnOk result
+        (Fits geometry.now out.new (R.slot_count rack.new) (R.slot rack.new)) }
+    ensures lasts { Lasts geometry.now.disks out.old out.new (R.slot rack.old) (R.slot rack.new)
+        (R.told rack.old) (R.told rack.new) }
+    ensures two { IfErr result (IsTwo geometry.now.disks out.old (R.slot rack.old)
+        (R.slot rack.new)) }
+{
+    if !read_stored(rack, geometry, out, row, disk, into)? {
+        read_others(rack, geometry, disk, parity, row, into)?;
+        return Ok(());
+    }
+    let mut old = Block::zero();
+    read_stored(rack, geometry, out, row, parity, &mut old)?;
+    xor_into(into, &old);
+    Ok(())
+}
+
+// The parity of a row once a cell of it holds these bytes: their sum with the rest of the row's
+// data. With the parity's disk out it is not needed, and `into` holds any bytes.
 fn new_parity<R: Rack>(
     rack: &mut R,
     geometry: &Geometry,
@@ -194,8 +244,9 @@ fn new_parity<R: Rack>(
     requires row { row < geometry.now.rows }
     requires disk { disk < geometry.now.disks }
     requires fits { Fits geometry.now out.old (R.slot_count rack.old) (R.slot rack.old) }
-    ensures value { OnOk result ((cells : Cells) → RowsZero geometry.now cells
-        → IsSome (R.told rack.new) → Keeps geometry.now (R.told rack.old) cells
+    ensures value { OnOk result (out.new ≢ Some (parity_disk_of geometry.now.disks row)
+        → (cells : Cells) → RowsZero geometry.now cells → IsSome (R.told rack.new)
+        → Keeps geometry.now (R.told rack.old) cells
         → into.new ≡ xor (cells row (parity_disk_of geometry.now.disks row))
         (xor (cells row disk) bytes.now)) }
     ensures keeps { (cells : Cells) → Keeps geometry.now (R.told rack.old) cells
@@ -204,13 +255,15 @@ fn new_parity<R: Rack>(
         (Fits geometry.now out.new (R.slot_count rack.new) (R.slot rack.new)) }
     ensures lasts { Lasts geometry.now.disks out.old out.new (R.slot rack.old) (R.slot rack.new)
         (R.told rack.old) (R.told rack.new) }
-    ensures two { IfErr result (IsTwo out.old (R.slot rack.old) (R.slot rack.new)) }
+    ensures two { IfErr result (IsTwo geometry.now.disks out.old (R.slot rack.old)
+        (R.slot rack.new)) }
 {
-    let mut change = Block::zero();
-    read_cell(rack, geometry, out, row, disk, &mut change)?;
-    read_cell(rack, geometry, out, row, parity_disk(geometry, row), into)?;
-    xor_into(&mut change, bytes);
-    xor_into(into, &change);
+    let parity = parity_disk(geometry, row);
+    if is_out(*out, parity) {
+        return Ok(());
+    }
+    read_rest(rack, geometry, out, row, disk, parity, into)?;
+    xor_into(into, bytes);
     Ok(())
 }
 
@@ -235,7 +288,8 @@ pub(crate) fn write_cell<R: Rack>(
         (Fits geometry.now out.new (R.slot_count rack.new) (R.slot rack.new)) }
     ensures lasts { Lasts geometry.now.disks out.old out.new (R.slot rack.old) (R.slot rack.new)
         (R.told rack.old) (R.told rack.new) }
-    ensures two { IfErr result (IsTwo out.old (R.slot rack.old) (R.slot rack.new)) }
+    ensures two { IfErr result (IsTwo geometry.now.disks out.old (R.slot rack.old)
+        (R.slot rack.new)) }
 {
     let mut parity = Block::zero();
     new_parity(rack, geometry, out, row, disk, bytes, &mut parity)?;

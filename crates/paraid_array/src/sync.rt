@@ -25,7 +25,8 @@ fn sync_one<R: Rack>(
         (Fits geometry.now out.new (R.slot_count rack.new) (R.slot rack.new)) }
     ensures lasts { Lasts geometry.now.disks out.old out.new (R.slot rack.old) (R.slot rack.new)
         (R.told rack.old) (R.told rack.new) }
-    ensures two { IfErr result (IsTwo out.old (R.slot rack.old) (R.slot rack.new)) }
+    ensures two { IfErr result (IsTwo geometry.now.disks out.old (R.slot rack.old)
+        (R.slot rack.new)) }
 {
     if is_out(*out, disk) {
         return Ok(false);
@@ -52,7 +53,8 @@ pub(crate) fn sync_all<R: Rack>(
         (Fits geometry.now out.new (R.slot_count rack.new) (R.slot rack.new)) }
     ensures lasts { Lasts geometry.now.disks out.old out.new (R.slot rack.old) (R.slot rack.new)
         (R.told rack.old) (R.told rack.new) }
-    ensures two { IfErr result (IsTwo out.old (R.slot rack.old) (R.slot rack.new)) }
+    ensures two { IfErr result (IsTwo geometry.now.disks out.old (R.slot rack.old)
+        (R.slot rack.new)) }
 {
     for disk in 0..geometry.disks {
         sync_one(rack, geometry, out, disk)?;

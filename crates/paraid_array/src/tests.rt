@@ -1,7 +1,7 @@
 use crate::{Array, MountFault, MountRefused};
 use paraid_base::{Block, BlockFault, BlockNo, Blocks, Halt, Two};
 use paraid_memrack::{MemRack, Planned};
-use paraid_rack::Rack;
+use paraid_rack::{Call, Rack};
 use std::process::Abort;
 
 // Zero disks of these sizes, and none where the size is 0, in a rack with these plans.
@@ -83,6 +83,67 @@ fn a_second_lost_disk_halts_every_call(rt: HostRuntime) {
     // Five attaches, the failed read of disk 2, the reads of disks 0 and 1, and the failed one.
     let rack = array.unmount();
     assert_eq!(rt; rack.calls(), 9);
+}
+
+// How many reads a write of this block makes, all before anything is written. This call fails: in
+// the write or, where a block `lost` is given, in a read of that before it.
+fn reads_of_write(
+    rt: &(impl Abort + AllocGlobal),
+    fails: Planned,
+    lost: Option<BlockNo>,
+    block: BlockNo,
+) -> u32 {
+    let mut array = mounted(rt, fails, Planned::AtCall(999));
+    // Five attaches, the failed read of the lost disk, and the reads of the four others.
+    let mut first = 5;
+    if let Some(lost) = lost {
+        assert_eq!(rt; read(&mut array, lost), Ok(0));
+        first = 10;
+    }
+    assert_eq!(rt; write(&mut array, block, 0x11), Ok(1));
+    let rack = array.unmount();
+    let mut reads = 0;
+    let mut wrote = false;
+    for call in first..rack.calls() {
+        match rack.call(call) {
+            Call::Read { .. } => {
+                assert!(rt; !wrote);
+                reads += 1;
+            }
+            _ => wrote = true,
+        }
+    }
+    reads
+}
+
+#[test]
+fn a_write_reads_no_more_than_the_smaller_rule_needs(rt: HostRuntime) {
+    // Blocks 0 to 3 are on disks 0 to 3, with their parity on disk 4, and block 7 is on disk 4, with
+    // its parity on disk 3. By the disk that is lost before: of data and parity there are two
+    // reads, without the data the three others of the row, without the parity none.
+    let rows = [
+        (0, [3, 2, 2, 2, 0]),
+        (1, [2, 3, 2, 2, 0]),
+        (2, [2, 2, 3, 2, 0]),
+        (3, [2, 2, 2, 3, 0]),
+        (7, [2, 2, 2, 0, 3]),
+    ];
+    for (block, reads) in rows {
+        let never = Planned::AtCall(999);
+        assert_eq!(rt; reads_of_write(&rt, never, None, block), 2);
+        for disk in 0..5u8 {
+            let first = Planned::OnDisk { disk, nth: 1 };
+            let lost = [0, 1, 2, 3, 7][disk as usize];
+            assert_eq!(rt;
+                reads_of_write(&rt, first, Some(lost), block),
+                reads[disk as usize]
+            );
+        }
+        // The read of the old data fails, and the three others are read. The read of the old parity
+        // fails, and nothing more is read.
+        assert_eq!(rt; reads_of_write(&rt, Planned::AtCall(5), None, block), 4);
+        assert_eq!(rt; reads_of_write(&rt, Planned::AtCall(6), None, block), 2);
+    }
 }
 
 // Writes a block to a device, and reads it back.

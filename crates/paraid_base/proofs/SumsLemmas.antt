@@ -1,5 +1,5 @@
 -- How the XOR of a row changes with one member
-use Rattle.std.specs.Prelude.{◌≡◌, ℕ, refl, ◌<◌, ◌≢◌, ◌+◌, ◌==◌, if◌then◌else◌}
+use Rattle.std.specs.Prelude.{◌≡◌, ℕ, refl, ◌<◌, ◌≢◌, ◌+◌, ◌==◌, ◌⊎◌, if◌then◌else◌}
 use Rattle.paraid_base.specs.declared.block.Block.{Block}
 use Rattle.std.proofs.Common.{arith, ap, ◌∙◌, sym, zero, suc, inl, inr}
 use Rattle.std.proofs.lemmas.Bool.{cases_eq}
@@ -41,6 +41,14 @@ lost_member f i n l e =
     let c = xor_upto_change f (without f i) i n l (λ d k ne. without_other f i d ne) in
     sym (c ∙ ap (λ z. xor z (xor (f i) (without f i i))) e ∙ ap (λ z. xor zeroed (xor (f i) z)) (without_same f i) ∙ xor_zero _ ∙ xor_zero_right (f i))
 
+-- with two members left out, the others of such a row sum up to the two
+pub lost_members : (f : ℕ → Block) (i j n : ℕ) → i < n → j < n → i ≢ j → xor_upto f n ≡ zeroed → xor_upto (without (without f i) j) n ≡ xor (f i) (f j)
+lost_members f i j n li lj ne e =
+    let c = xor_upto_change (without f i) (without (without f i) j) j n lj (λ d k m. without_other (without f i) j d m) in
+    c ∙ ap (λ z. xor z (xor (without f i j) (without (without f i) j j))) (sym (lost_member f i n li e))
+    ∙ ap (λ z. xor (f i) (xor (without f i j) z)) (without_same (without f i) j)
+    ∙ ap (xor (f i)) (xor_zero_right (without f i j) ∙ without_other f i j (λ q. ne (sym q)))
+
 -- the same, from what the loop over the others reads
 pub whole_from_others : (f : ℕ → Block) (i n : ℕ) → i < n → xor_upto f n ≡ xor (xor_upto (without f i) n) (f i)
 whole_from_others f i n l =
@@ -74,6 +82,16 @@ others_skip f i d e = sym (xor_upto_more (without f i) d ∙ ap (xor (xor_upto (
 -- one more of the others is read and added
 pub others_read : (f : ℕ → Block) (i d : ℕ) (sum part after : Block) → d ≢ i → sum ≡ xor_upto (without f i) d → part ≡ f d → after ≡ xor sum part → after ≡ xor_upto (without f i) (d + 1)
 others_read f i d sum part after ne s p a = a ∙ rw (s, p) (others_more f i d ne)
+
+-- the same where two are left out
+pub two_skip : (f : ℕ → Block) (i j d : ℕ) → (d ≡ i) ⊎ (d ≡ j) → xor_upto (without (without f i) j) d ≡ xor_upto (without (without f i) j) (d + 1)
+two_skip f i j d which =
+    let none : without (without f i) j d ≡ zeroed = elim which [ inl e ↦ grind (arith, nat_tests) | inr e ↦ grind (arith, nat_tests) ] in
+    sym (xor_upto_more (without (without f i) j) d ∙ ap (xor (xor_upto (without (without f i) j) d)) none ∙ xor_zero_right _)
+
+pub two_read : (f : ℕ → Block) (i j d : ℕ) (sum part after : Block) → d ≢ i → d ≢ j → sum ≡ xor_upto (without (without f i) j) d → part ≡ f d → after ≡ xor sum part
+    → after ≡ xor_upto (without (without f i) j) (d + 1)
+two_read f i j d sum part after ni nj s p a = others_read (without f i) j d sum part after nj s (p ∙ sym (without_other f i d ni)) a
 
 -- the others are the same: their XOR is the same
 pub others_same : (f g : ℕ → Block) (i n : ℕ) → ((d : ℕ) → d < n → d ≢ i → f d ≡ g d) → xor_upto (without f i) n ≡ xor_upto (without g i) n

@@ -53,9 +53,11 @@ module _ (old mid new : ℕ → Slot) (out new_out : Option ℕ) (halt new_halt 
   was_lost : (d : ℕ) → WasLost out mid new d → HasFailed old new d
   was_lost d lost = elim lost [ inl is ↦ failed_later old mid new d lasts.no_fall (s.lost d is) | inr risen ↦ failed_sooner old mid new d s.no_fall risen.1 ]
 
-  since_cause : (writes : ℕ) → writes < 2 ^ 62 → (h : Halt) → IsCause writes out mid new h → IsDown old new h
+  since_cause : (writes : ℕ) → writes < 2 ^ 62 → (h : Halt) → IsCause n writes out mid new h → IsDown old new h
   since_cause writes small (HaltTwo two) is = record {
     apart = is.apart;
+    first_below = omega (arith, five, is.first_below);
+    second_below = omega (arith, five, is.second_below);
     first = was_lost two.first is.first;
     second = failed_sooner old mid new two.second s.no_fall is.second;
   }
@@ -64,12 +66,14 @@ module _ (old mid new : ℕ → Slot) (out new_out : Option ℕ) (halt new_halt 
   cause_later : (h : Halt) → IsDown old mid h → IsDown old new h
   cause_later (HaltTwo two) is = record {
     apart = is.apart;
+    first_below = is.first_below;
+    second_below = is.second_below;
     first = failed_later old mid new two.first lasts.no_fall is.first;
     second = failed_later old mid new two.second lasts.no_fall is.second;
   }
   cause_later (Worn count) is = is
 
-  pub since_more : (writes : ℕ) → writes < 2 ^ 62 → ((h : Halt) → halt ≡ None → new_halt ≡ Some h → IsCause writes out mid new h) → ((h : Halt) → halt ≡ Some h → new_halt ≡ Some h)
+  pub since_more : (writes : ℕ) → writes < 2 ^ 62 → ((h : Halt) → halt ≡ None → new_halt ≡ Some h → IsCause n writes out mid new h) → ((h : Halt) → halt ≡ Some h → new_halt ≡ Some h)
       → Since old new new_out new_halt start new_told
   since_more writes small halts again = record {
     served = served_then start told new_told s.served (subst (λ (k : ℕ). Ran told new_told (Served k)) five lasts.served);

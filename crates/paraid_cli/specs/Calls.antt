@@ -1,5 +1,5 @@
 -- What calls on an array of five disks leave of it, and which losses a halt has for its cause.
-use Rattle.std.specs.Prelude.{◌≡◌, ◌≢◌, ℕ, ◌≤◌, Option, Some, None}
+use Rattle.std.specs.Prelude.{◌≡◌, ◌≢◌, ℕ, ◌<◌, ◌≤◌, Option, Some, None}
 use Rattle.paraid_base.specs.declared.geometry.Geometry.{Geometry}
 use Rattle.paraid_base.specs.declared.fault.Halt.{Halt}
 use Rattle.paraid_base.specs.declared.fault.Halt.TheVariants.{Two as HaltTwo, Worn}
@@ -31,9 +31,11 @@ NoFall old new = (d : ℕ) → (old d).faults ≤ (new d).faults
 abbrev pub HasFailed : (ℕ → Slot) → (ℕ → Slot) → ℕ → Type 0
 HasFailed old new d = HasRisen (old d).faults (new d).faults
 
--- two different disks have failed in the run
+-- two different disks of the five have failed in the run
 pub record HaveFailed (old new : ℕ → Slot) (two : Two) : Type 0 where
   pub apart : two.first ≢ two.second
+  pub first_below : two.first < 5
+  pub second_below : two.second < 5
   pub first : HasFailed old new two.first
   pub second : HasFailed old new two.second
 

@@ -36,7 +36,7 @@ abbrev pub status_of : Halt → ℕ
 status_of (HaltTwo two) = 5
 status_of (Worn count) = 12
 
--- two different disks have failed in the run
+-- two different disks of the five have failed in the run
 abbrev pub TwoFailed : (ℕ → Slot) → (ℕ → Slot) → Type 0
 TwoFailed old new = (two : Two) × HaveFailed old new two
 

@@ -1,5 +1,10 @@
+pub mod PushLemmas
+pub mod PastLemmas
+pub mod ReplayLemmas
+pub mod StopLemmas
 pub mod ViewLemmas
 pub mod StepLemmas
 pub mod NoteLemmas
 pub mod PlanLemmas
 pub mod RackLemmas
+pub mod FirstLemmas

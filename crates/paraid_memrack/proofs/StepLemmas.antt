@@ -14,7 +14,7 @@ use Rattle.paraid_memrack.specs.Plan.{disk_of, done_of, dirt_after}
 use Rattle.paraid_memrack.specs.Slots.{View}
 use Rattle.paraid_memrack.specs.Tells.{Holds}
 
-holds_same : (s n : Disks) (e : ℕ) (v : View) → n.power e ≡ s.power e → n.size e ≡ s.size e → n.loose e ≡ s.loose e → n.block e ≡ s.block e → Holds s e v → Holds n e v
+pub holds_same : (s n : Disks) (e : ℕ) (v : View) → n.power e ≡ s.power e → n.size e ≡ s.size e → n.loose e ≡ s.loose e → n.block e ≡ s.block e → Holds s e v → Holds n e v
 holds_same s n e v power size loose block h = record {
   power = power ∙ h.power;
   size = size ∙ h.size;

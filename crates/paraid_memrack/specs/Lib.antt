@@ -2,5 +2,8 @@ pub mod Plan
 pub mod Counted
 pub mod Slots
 pub mod Tells
+pub mod Stop
+pub mod Versions
+pub mod Past
 pub mod Rules
 pub mod Laws

@@ -1,14 +1,14 @@
 -- What decides which calls of a rack in memory fail, and what it tells.
-use Rattle.std.specs.Prelude.{◌≡◌, ℕ, Bool, false, List, [], length, replicate, Option}
+use Rattle.std.specs.Prelude.{◌≡◌, ℕ, Bool, false, List, [], length, map, replicate, Option}
 use Rattle.paraid_rack.specs.declared.call.Power.TheVariants.{Absent}
 use Rattle.paraid_rack.specs.declared.call.Call.{Call}
 use Rattle.paraid_rack.specs.Slots.{Slot}
-use Rattle.paraid_rack.specs.Trail.{Trail}
+use Rattle.paraid_rack.specs.Trail.{Beginning, Trail, beginning}
 use Rattle.paraid_memrack.specs.declared.plan.Planned.{Planned}
 use Rattle.paraid_memrack.specs.declared.rack.MemRack.{MemRack}
 use Rattle.paraid_memrack.specs.Plan.{has_room, is_planned, listed_after}
 use Rattle.paraid_memrack.specs.Slots.{slot_at}
-use Rattle.paraid_memrack.specs.Tells.{told_by, told_after}
+use Rattle.paraid_memrack.specs.Tells.{told_by, told_after, beginning_of, no_beginning}
 
 -- the plan, how many calls are listed at most, and how many blocks an attach may have
 pub record Rules : Type 0 where
@@ -42,9 +42,21 @@ pub record Notes (old new : MemRack) (c : Call) : Type 0 where
   pub list : listed new ≡ listed_after (rules_of old).most (listed old) c
   pub tells : told_of new ≡ told_after (has_room (rules_of old).most (listed old)) (told_of old) c
 
+-- how each slot was at the start
+abbrev pub start_of : MemRack → List Beginning
+start_of m = map beginning_of m.log.start.items
+
+-- no call was made since this start
+abbrev pub untouched : List Beginning → Trail
+untouched start = record { start = start; calls = [] }
+
 -- no slot has a disk at the start, and no call was made
 abbrev pub no_disks : ℕ → Trail
-no_disks count = record { start = replicate count (record { power = Absent; blocks = [] }); calls = [] }
+no_disks count = untouched (replicate count no_beginning)
+
+-- a slot of a rack that begins so, before any call
+abbrev pub first_slot : List Beginning → ℕ → Slot
+first_slot start d = record { power = (beginning start d).power; size = length (beginning start d).blocks; unsynced = false; faults = 0 }
 
 -- a slot with no disk that never failed
 abbrev pub no_disk : Slot

@@ -4,6 +4,7 @@ use Rattle.paraid_base.specs.declared.block.Block.{Block}
 use Rattle.paraid_rack.specs.declared.call.Power.{Power}
 use Rattle.paraid_rack.specs.declared.call.Power.TheVariants.{Absent}
 use Rattle.paraid_rack.specs.Slots.{Slot}
+use Rattle.paraid_rack.specs.Trail.{Beginning}
 use Rattle.paraid_memrack.specs.declared.slot.MemSlot.{MemSlot}
 
 -- a slot with its blocks
@@ -33,6 +34,10 @@ slot_at slots d = slot_of (view_at slots d)
 -- after a failed call
 abbrev pub wrecked : Bool → View → View
 wrecked dirt v = record { power = Absent; blocks = []; unsynced = dirt; faults = min (v.faults + 1) 18446744073709551615 }
+
+-- a slot as it is at the start
+abbrev pub view_from : Beginning → View
+view_from b = record { power = b.power; blocks = b.blocks; unsynced = false; faults = 0 }
 
 -- this slot has become so, and every other is as before
 pub record Becomes (old new : List MemSlot) (disk : ℕ) (leaves : View) : Type 0 where

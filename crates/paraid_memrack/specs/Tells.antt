@@ -1,6 +1,7 @@
 -- What a rack in memory tells.
 use Rattle.std.specs.Prelude.{◌≡◌, ℕ, Bool, true, false, List, [], ◌∷◌, length, map, get_or, Option, Some, None}
 use Rattle.paraid_base.specs.Xor.{zeroed}
+use Rattle.paraid_rack.specs.declared.call.Power.TheVariants.{Absent}
 use Rattle.paraid_rack.specs.declared.call.Call.{Call}
 use Rattle.paraid_rack.specs.Disks.{Disks, is_present}
 use Rattle.paraid_rack.specs.Trail.{Trail, Beginning, now, extend}
@@ -9,6 +10,10 @@ use Rattle.paraid_memrack.specs.Slots.{View}
 
 abbrev pub beginning_of : Start → Beginning
 beginning_of s = record { power = s.power; blocks = s.blocks.items }
+
+-- a slot with no disk at the start
+abbrev pub no_beginning : Beginning
+no_beginning = record { power = Absent; blocks = [] }
 
 -- the start and the calls, where it tells
 unfoldable pub told_by : Bool → List Start → List Call → Option Trail

@@ -1,19 +1,24 @@
 // What a rack in memory tells, and which of its calls are to fail.
-ghost use Rattle.std.specs.Prelude.{◌≡◌, ℕ, ◌<◌, ◌≤◌, ◌^◌, List, [], length, slice_index, true, vec_capacity, IfOk};
+ghost use Rattle.std.specs.Prelude.{◌≡◌, ℕ, ◌<◌, ◌≤◌, ◌^◌, List, [], length, map, slice_index, slice_set, true, vec_capacity, IfOk};
+ghost use Rattle.paraid_rack.specs.declared.call.Power.TheVariants.{Absent};
 ghost use Rattle.std.specs.List.{list_any};
 ghost use Rattle.paraid_memrack.specs.Plan.{names, disk_of, count_on, is_planned, listed_after, has_room};
-ghost use Rattle.paraid_memrack.specs.Counted.{IsCounted};
+ghost use Rattle.paraid_memrack.specs.Counted.{IsCounted, AreOnSlots};
 
+use crate::past::PastSlot;
 use crate::plan::Planned;
+use crate::replay::{follow, slots_at_start};
 use paraid_base::{Block, DiskNo, NoMemory};
 use paraid_rack::{Call, Power};
 use std::alloc::Global;
 
-/// How a slot is at the start.
+/// How a slot is at the start, with no block where it is absent.
 #[derive(Drop)]
 pub struct Start {
     pub power: Power,
     pub blocks: Vec<Block>,
+    ghost small: { length blocks.items < 2 ^ 32 },
+    ghost empty: { power ≡ Absent → blocks.items ≡ [] },
 }
 
 /// The start, the calls that are listed since then, and the plan of failures.
@@ -30,10 +35,12 @@ pub struct Log {
     ghost room: { most ≤ vec_capacity calls },
     ghost few: { length calls.items ≤ most },
     ghost counted: { IsCounted counts calls.items },
+    ghost on_slots: { AreOnSlots (length start.items) calls.items },
 }
 
 impl Log {
-    ghost use Rattle.paraid_memrack.specs.Tells.{told_by, told_after};
+    ghost use Rattle.paraid_memrack.specs.Tells.{told_by, told_after, beginning_of, no_beginning};
+    ghost use Rattle.paraid_memrack.specs.Past.{AllPastAt};
 
     /// No call yet. It takes the memory for its list.
     pub fn new(
@@ -73,8 +80,10 @@ impl Log {
 
     /// Lists a call on this disk, or tells nothing from now on where the list is full.
     pub fn note(&mut self, disk: DiskNo, call: Call)
-        requires exists { disk < 8 }
+        requires small { disk < 8 }
+        requires exists { disk < length self.old.start.items }
         requires on { disk_of call ≡ disk }
+        ensures start { self.new.start ≡ self.old.start }
         ensures most { self.new.most ≡ self.old.most }
         ensures plan { self.new.plan ≡ self.old.plan }
         ensures calls { self.new.calls.items ≡ listed_after self.old.most self.old.calls.items call }
@@ -88,6 +97,38 @@ impl Log {
         } else {
             self.tells = false;
         }
+    }
+
+    /// The slots before call `moment`, by the calls that are listed.
+    pub fn slots_at(&self, alloc: Global, moment: u32) -> Result<Vec<PastSlot>, NoMemory>
+        requires { moment ≤ length self.now.calls.items }
+        ensures length { IfOk result (λ slots. length slots.items ≡ length self.now.start.items) }
+        ensures slots { IfOk result (λ slots. AllPastAt
+            (record { start = map beginning_of self.now.start.items; calls = self.now.calls.items })
+            moment slots.items) }
+    {
+        let mut slots = slots_at_start(alloc, &self.start)?;
+        for m in 0..moment {
+            follow(&mut slots, alloc, &self.calls[m as usize])?;
+        }
+        Ok(slots)
+    }
+
+    /// The disk of a slot is not there at the start.
+    pub fn lose(&mut self, alloc: Global, disk: DiskNo)
+        requires exists { disk < length self.old.start.items }
+        requires unused { self.old.calls.items ≡ [] }
+        ensures start { map beginning_of self.new.start.items
+            ≡ slice_set (map beginning_of self.old.start.items) disk no_beginning }
+        ensures calls { self.new.calls ≡ self.old.calls }
+        ensures tells { self.new.tells ≡ self.old.tells }
+        ensures most { self.new.most ≡ self.old.most }
+        ensures plan { self.new.plan ≡ self.old.plan }
+    {
+        self.start[disk as usize] = Start {
+            power: Power::Absent,
+            blocks: Vec::new(alloc),
+        };
     }
 }
 

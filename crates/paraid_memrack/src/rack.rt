@@ -1,4 +1,4 @@
-ghost use Rattle.std.specs.Prelude.{◌≡◌, ℕ, ◌<◌, ◌≤◌, ◌^◌, length, true, false, not, Option, Some, [], OnOk, IfOk, is_ok, replicate, map, slice_get, IsTrue};
+ghost use Rattle.std.specs.Prelude.{◌≡◌, ◌≢◌, ℕ, ◌<◌, ◌≤◌, ◌^◌, length, true, false, not, Option, Some, [], OnOk, IfOk, is_ok, replicate, map, slice_get, slice_set, IsSome, IsTrue};
 ghost use Rattle.paraid_rack.specs.Slots.{Slot, Touched, AreSlots, Agrees};
 ghost use Rattle.paraid_rack.specs.declared.call.Power.TheVariants.{Absent};
 ghost use Rattle.paraid_rack.specs.Trail.{Trail, now};
@@ -8,7 +8,11 @@ ghost use Rattle.paraid_memrack.specs.Tells.{told_by, beginning_of, AllHold};
 
 use crate::log::{Log, Start};
 use crate::plan::Planned;
-use crate::slot::{MemSlot, absent_slots, copy_of, fail, fill, put, settle, turn, zeros};
+use crate::replay::left;
+use crate::slot::{
+    MemSlot, absent_slots, copy_of, fail, fill, first_slots, put, remove, settle, turn, zeros,
+};
+use crate::stop::Pick;
 use paraid_base::{Block, DiskNo, Failed, NoMemory, Place};
 use paraid_rack::{Call, Power, Rack};
 use std::alloc::Global;
@@ -27,12 +31,18 @@ pub struct MemRack {
     ghost small: { (d : ℕ) → (slot_at slots.items d).size < 2 ^ 32 },
     ghost keeps: { AllHold (told_by log.tells log.start.items log.calls.items)
         (view_at slots.items) },
+    ghost same: { length log.start.items ≡ length slots.items },
 }
 
 impl MemRack {
     ghost use Rattle.paraid_base.specs.Xor.{zeroed};
     ghost use Rattle.paraid_memrack.specs.Plan.{disk_of, done_of, dirt_after};
-    ghost use Rattle.paraid_memrack.specs.Rules.{count_of, slots_of, told_of, rules_of, listed, fails_next, Notes, no_disks, no_disk};
+    ghost use Rattle.paraid_rack.specs.Alike.{IsAlike};
+    ghost use Rattle.paraid_rack.specs.Disks.{Disks, IsImage, lose};
+    ghost use Rattle.paraid_rack.specs.Trail.{disks, initial};
+    ghost use Rattle.paraid_memrack.specs.Stop.{IsPicked};
+    ghost use Rattle.paraid_memrack.specs.Tells.{no_beginning};
+    ghost use Rattle.paraid_memrack.specs.Rules.{count_of, slots_of, told_of, rules_of, listed, fails_next, Notes, no_disks, no_disk, start_of, untouched, first_slot};
 
     /// A rack of `slots` absent slots, whose calls fail as `plan` says.
     ///
@@ -62,6 +72,65 @@ impl MemRack {
             slots,
             log,
         })
+    }
+
+    /// A rack as a stop before the listed call number `moment` leaves it, before any call on it.
+    ///
+    /// `pick` says what each loose block holds. The new rack has as many slots and the same room,
+    /// no fault, and its own plan and number of calls. Calls that were made on a full list are left
+    /// out.
+    pub fn stopped(
+        &self,
+        alloc: Global,
+        moment: u32,
+        pick: Pick,
+        calls: u32,
+        plan: Vec<Planned>,
+    ) -> Result<Self, NoMemory>
+        requires { moment ≤ length (listed self.now) }
+        // It begins as an image at that moment, in all that exists.
+        ensures image { IfOk result (λ rack. (t : Trail) → told_of self.now ≡ Some t
+            → (i : Disks) × IsImage (disks t moment) i × IsAlike i (initial (start_of rack))) }
+        ensures picked { IfOk result (λ rack. (t : Trail) → told_of self.now ≡ Some t
+            → IsPicked pick t moment (initial (start_of rack))) }
+        ensures told { IfOk result (λ rack. told_of rack ≡ Some (untouched (start_of rack))) }
+        ensures slot { IfOk result (λ rack. (d : ℕ)
+            → slots_of rack d ≡ first_slot (start_of rack) d) }
+        ensures slots { IfOk result (λ rack. count_of rack ≡ count_of self.now) }
+        ensures listed { IfOk result (λ rack. listed rack ≡ []) }
+        ensures rules { IfOk result (λ rack. rules_of rack
+            ≡ record { plan = plan.items; most = calls; room = (rules_of self.now).room }) }
+    {
+        let past = self.log.slots_at(alloc, moment)?;
+        let start = left(alloc, &past, pick)?;
+        let slots = first_slots(alloc, &start)?;
+        let log = Log::new(alloc, start, calls, plan)?;
+        Ok(MemRack {
+            alloc,
+            room: self.room,
+            slots,
+            log,
+        })
+    }
+
+    /// The disk of a slot is lost before any call was made: the slot is absent from the start on.
+    pub fn lose(&mut self, disk: DiskNo)
+        requires exists { disk < count_of self.old }
+        requires tells { IsSome (told_of self.old) }
+        requires unused { listed self.old ≡ [] }
+        ensures start { start_of self.new ≡ slice_set (start_of self.old) disk no_beginning }
+        ensures lost { IsAlike (lose disk (initial (start_of self.old)))
+            (initial (start_of self.new)) }
+        ensures told { told_of self.new ≡ Some (untouched (start_of self.new)) }
+        ensures slot { slots_of self.new disk
+            ≡ record (slots_of self.old disk) { power = Absent; size = 0 } }
+        ensures others { (d : ℕ) → d ≢ disk → slots_of self.new d ≡ slots_of self.old d }
+        ensures slots { count_of self.new ≡ count_of self.old }
+        ensures listed { listed self.new ≡ [] }
+        ensures rules { rules_of self.new ≡ rules_of self.old }
+    {
+        self.log.lose(self.alloc, disk);
+        remove(&mut self.slots, self.alloc, disk);
     }
 
     /// The number of calls that are listed.

@@ -1,9 +1,11 @@
 // The slots of a rack in memory, and what each call makes of one.
-ghost use Rattle.std.specs.Prelude.{◌≡◌, ℕ, ◌<◌, ◌≤◌, ◌+◌, ◌^◌, ◌-◌, true, false, length, slice_set, min, replicate, IfOk, []};
+ghost use Rattle.std.specs.Prelude.{◌≡◌, ℕ, ◌<◌, ◌≤◌, ◌+◌, ◌^◌, ◌-◌, true, false, length, map, slice_set, min, replicate, IfOk, []};
 ghost use Rattle.paraid_base.specs.Xor.{zeroed};
 ghost use Rattle.paraid_rack.specs.declared.call.Power.TheVariants.{Absent, Spinning};
-ghost use Rattle.paraid_memrack.specs.Slots.{Becomes, view_at, nothing, wrecked};
+ghost use Rattle.paraid_memrack.specs.Slots.{Becomes, view_of, view_at, view_from, nothing, wrecked};
+ghost use Rattle.paraid_memrack.specs.Tells.{beginning_of};
 
+use crate::log::Start;
 use paraid_base::{Block, DiskNo, NoMemory, Place};
 use paraid_rack::Power;
 use std::alloc::Global;
@@ -34,6 +36,38 @@ pub fn absent_slots(alloc: Global, count: u8) -> Result<Vec<MemSlot>, NoMemory>
         });
     }
     Ok(slots)
+}
+
+/// The slots as they are at the start.
+pub fn first_slots(alloc: Global, start: &Vec<Start>) -> Result<Vec<MemSlot>, NoMemory>
+    ensures { IfOk result (λ slots.
+        map view_of slots.items ≡ map view_from (map beginning_of start.now.items)) }
+{
+    let Ok(mut slots) = Vec::with_capacity(alloc, start.len()) else {
+        return Err(NoMemory);
+    };
+    for slot in start.iter() {
+        slots.push_reserved(MemSlot {
+            power: slot.power,
+            blocks: copies_of(alloc, &slot.blocks)?,
+            unsynced: false,
+            faults: 0,
+        });
+    }
+    Ok(slots)
+}
+
+// The same blocks again.
+fn copies_of(alloc: Global, blocks: &Vec<Block>) -> Result<Vec<Block>, NoMemory>
+    ensures { IfOk result (λ copies. copies.items ≡ blocks.now.items) }
+{
+    let Ok(mut copies) = Vec::with_capacity(alloc, blocks.len()) else {
+        return Err(NoMemory);
+    };
+    for block in blocks.iter() {
+        copies.push_reserved(copy_of(block));
+    }
+    Ok(copies)
 }
 
 /// So many blocks of zeros.
@@ -69,6 +103,17 @@ pub fn fail(slots: &mut Vec<MemSlot>, alloc: Global, disk: DiskNo, dirt: bool)
     slot.unsynced = dirt;
     let before = slot.faults;
     slot.faults = before.saturating_add(1);
+}
+
+/// There is no disk any more.
+pub fn remove(slots: &mut Vec<MemSlot>, alloc: Global, disk: DiskNo)
+    requires { disk < length slots.old.items }
+    ensures { Becomes slots.old.items slots.new.items disk
+        (record (view_at slots.old.items disk) { power = Absent; blocks = [] }) }
+{
+    let lost = &mut slots[disk as usize];
+    lost.power = Power::Absent;
+    lost.blocks = Vec::new(alloc);
 }
 
 /// A block is written.

@@ -1,3 +1,4 @@
 pub mod TrailsLemmas
 pub mod AtomsLemmas
 pub mod EffectsLemmas
+pub mod AlikeLemmas

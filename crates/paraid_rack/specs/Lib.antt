@@ -4,3 +4,4 @@ pub mod Trail
 pub mod Told
 pub mod Lawful
 pub mod Atoms
+pub mod Alike

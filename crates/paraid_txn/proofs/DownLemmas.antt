@@ -5,6 +5,8 @@ use Rattle.std.proofs.lemmas.Bool.{true≢false}
 use Rattle.paraid_base.specs.declared.fault.Two.{Two}
 use Rattle.paraid_base.specs.Told.{HasRisen}
 use Rattle.paraid_base.proofs.ToldLemmas.{HasRisen-later, HasRisen-sooner}
+use Rattle.paraid_rack.specs.declared.call.Power.{Power}
+use Rattle.paraid_rack.specs.declared.call.Power.TheVariants.{Absent, Parked, Spinning}
 use Rattle.paraid_rack.specs.Disks.{is_present}
 use Rattle.paraid_rack.specs.Slots.{Slot}
 use Rattle.paraid_txn.specs.declared.losses.Losses.{Losses}
@@ -19,7 +21,13 @@ Lasts-none a s = record {
   down = λ d is. inl is;
   stays = λ d is. is;
   lost = λ d is. inl is;
+  absent = λ d is. inl is;
 }
+
+no_disk : (p : Power) → (is_present p ≡ true → ⊥) → p ≡ Absent
+no_disk Absent not = refl
+no_disk Parked not = absurd (not refl)
+no_disk Spinning not = absurd (not refl)
 
 -- a disk that is there after some calls was there before them
 pub Lasts-present : (a b : Losses) (s t : ℕ → Slot) (d : ℕ) → Lasts a b s t
@@ -44,6 +52,13 @@ Lasts-then a b c s t u first second = record {
     ]
     | inr risen ↦ inr (HasRisen-sooner (s d).faults (t d).faults (u d).faults (first.no_fall d) risen)
   ];
+  absent = λ d is. elim (second.absent d is) [
+    | inr gone ↦ inr gone
+    | inl was ↦ elim (first.absent d was) [
+      | inl at_first ↦ inl at_first
+      | inr gone ↦ inr (no_disk (u d).power (λ there. true≢false (sym (Lasts-present b c t u d second there) ∙ ap is_present gone)))
+    ]
+  ];
 }
 
 -- where no disk was lost before, the count of a lost one has risen
@@ -52,6 +67,14 @@ pub Lasts-risen : (a b : Losses) (s t : ℕ → Slot) (d : ℕ) → Lasts a b s 
 Lasts-risen a b s t d lasts none is = elim (lasts.lost d is) [
   | inl was ↦ (let never : None ≡ Some d = sym none ∙ was in cc)
   | inr risen ↦ risen
+]
+
+-- and it is absent
+pub Lasts-absent : (a b : Losses) (s t : ℕ → Slot) (d : ℕ) → Lasts a b s t → a.lost ≡ None → b.lost ≡ Some d
+    → (t d).power ≡ Absent
+Lasts-absent a b s t d lasts none is = elim (lasts.absent d is) [
+  | inl was ↦ (let never : None ≡ Some d = sym none ∙ was in cc)
+  | inr gone ↦ gone
 ]
 
 -- no call

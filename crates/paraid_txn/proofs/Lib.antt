@@ -17,6 +17,7 @@ pub mod OpenLemmas
 pub mod GateLemmas
 pub mod SpotLemmas
 pub mod SwapLemmas
+pub mod AlikeLemmas
 pub mod WholeLemmas
 pub mod SpokenLemmas
 pub mod StandsForLemmas

@@ -1,5 +1,5 @@
 -- The promise of a commit of a store, by the moments of its record.
-use Rattle.std.specs.Prelude.{◌≡◌, ◌≢◌, ℕ, ◌<◌, ◌≤◌, true, Option, Some, All, Contains}
+use Rattle.std.specs.Prelude.{◌≡◌, ◌≢◌, ℕ, ◌+◌, ◌-◌, ◌^◌, ◌<◌, ◌≤◌, true, Option, Some, All, Contains}
 use Rattle.std.proofs.Common.{refl, sym, ◌∙◌, ap, subst, arith}
 use Rattle.paraid_base.specs.declared.block.Block.{Block}
 use Rattle.paraid_rack.specs.declared.call.Power.{Power}
@@ -11,6 +11,7 @@ use Rattle.paraid_rack.specs.Trail.{Trail, now}
 use Rattle.paraid_rack.proofs.TrailsLemmas.{moments_from}
 use Rattle.paraid_record.specs.declared.meta.Meta.{Meta}
 use Rattle.paraid_record.specs.declared.targets.Target.{Target}
+use Rattle.paraid_record.specs.Range.{IsInRange}
 use Rattle.paraid_txn.specs.Commit.{Commits, IsAtRest, IsNext, IsWholeOrAbsent, gone_out}
 use Rattle.paraid_txn.specs.Losses.{CanWrite}
 use Rattle.paraid_txn.specs.Out.{named_out}
@@ -20,6 +21,19 @@ use Rattle.paraid_txn.specs.Stages.{Close, IsLive, IsSpelled, Job, Log, Whole, j
 use Rattle.paraid_txn.proofs.CommitLemmas.{is_committed, start_log, whole_images}
 use Rattle.paraid_txn.proofs.SpokenLemmas.{IsBegun}
 use Rattle.paraid_txn.proofs.StandsForLemmas.{all_contained}
+
+-- a meta with the next epoch is in range
+pub next_in_range : (m : Meta) (e : ℕ) → IsInRange m → e < 2 ^ 64 - 1 → IsInRange (record m { epoch = e + 1 })
+next_in_range m e range low = record {
+  setup = range.setup;
+  counters = record { first = omega arith; epoch_fits = omega arith; writes_fit = range.counters.writes_fit; ticks_fit = range.counters.ticks_fit };
+  gear = range.gear;
+  phase = range.phase;
+  out = range.out;
+  shift = record { fill = range.shift.fill; down = range.shift.down; still = range.shift.still };
+  eight = range.eight;
+  spins = λ disk lt. let s = range.spins disk lt in record { within = s.within; parked = s.parked; unused = s.unused };
+}
 
 -- the disks with which a commit begins have what it asks of the slots
 pub record IsStartReady (meta : Meta) (batch : Batch) (start : Disks) : Type 0 where

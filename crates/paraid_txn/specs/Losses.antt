@@ -35,6 +35,7 @@ pub record Lasts (from to : Losses) (old new : ℕ → Slot) : Type 0 where
   pub down : (d : ℕ) → to.down ≡ Some d → (from.down ≡ Some d) ⊎ (to.lost ≡ Some d)
   pub stays : (d : ℕ) → from.lost ≡ Some d → to.lost ≡ Some d
   pub lost : (d : ℕ) → to.lost ≡ Some d → (from.lost ≡ Some d) ⊎ HasRisen (old d).faults (new d).faults
+  pub absent : (d : ℕ) → to.lost ≡ Some d → (from.lost ≡ Some d) ⊎ ((new d).power ≡ Absent)
 
 -- no count has risen but that of the disk that is lost
 abbrev pub AreOthersWell : Losses → (ℕ → Slot) → (ℕ → Slot) → Type 0
@@ -79,3 +80,4 @@ pub record IsSpared (old new : ℕ → Slot) : Type 0 where
 -- disk `d` has failed in this call, and is absent
 pub record IsLostNow (old new : ℕ → Slot) (d : ℕ) : Type 0 where
   pub risen : HasRisen (old d).faults (new d).faults
+  pub absent : (new d).power ≡ Absent

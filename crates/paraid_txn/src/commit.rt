@@ -22,7 +22,7 @@
 //!
 //! A log disk that the meta names out is left alone, and so are the targets on a disk that is gone.
 //! A disk that fails is left out of the rest.
-ghost use Rattle.std.specs.Prelude.{◌≡◌, ◌≢◌, ℕ, ◌+◌, ◌<◌, ◌≤◌, true, false, length, Some, OnOk, OnErr, IfErr, IfOk, All, ◌-◌, ◌^◌};
+ghost use Rattle.std.specs.Prelude.{◌≡◌, ◌≢◌, ℕ, ◌+◌, ◌<◌, ◌≤◌, true, false, length, Some, OnOk, OnErr, IfErr, IfOk, All, AllPairs, ◌-◌, ◌^◌};
 ghost use Rattle.paraid_record.specs.declared.targets.Target.{Target as TargetType};
 ghost use Rattle.paraid_rack.specs.Disks.{Disks};
 ghost use Rattle.paraid_rack.specs.Told.{Ran, Runs};
@@ -132,7 +132,7 @@ fn write_log<R: Rack>(
     put(rack, losses, skip, disk, 2, meta)?;
     put(rack, losses, skip, disk, 3, list)?;
     put_blocks(rack, losses, skip, disk, batch)?;
-    settle(rack, losses, skip, disk)?;
+    settle(rack, losses, skip, disk)?; // before its gate opens
     Ok(())
 }
 
@@ -164,7 +164,7 @@ fn open_gate<R: Rack>(
         (Runs (Whole j) (Open j disk) (Open j (disk + 1)))) }
 {
     put(rack, losses, skip, disk, 0, gate)?;
-    settle(rack, losses, skip, disk)?;
+    settle(rack, losses, skip, disk)?; // before a target is touched
     Ok(())
 }
 
@@ -299,7 +299,7 @@ fn mark<R: Rack>(
         (Runs (Whole j) (Mark j disk) (Mark j (disk + 1)))) }
 {
     put(rack, losses, skip, disk, 1, meta)?;
-    settle(rack, losses, skip, disk)?;
+    settle(rack, losses, skip, disk)?; // before its gate closes
     Ok(())
 }
 
@@ -512,7 +512,9 @@ fn gone_out(out: Out) -> Option<DiskNo>
 
 // The block that spells the targets of a batch.
 fn spell_targets(batch: &Batch) -> Block
-    ensures { result.bytes ≡ targets_bytes (targets batch.now) }
+    ensures value { result.bytes ≡ targets_bytes (targets batch.now) }
+    ensures few { length (targets batch.now) ≤ 96 }
+    ensures distinct { AllPairs (λ s t. s ≢ t) (targets batch.now) }
 {
     let mut list = Block::zero();
     write_targets(&batch.targets(), &mut list);

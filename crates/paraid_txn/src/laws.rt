@@ -9,6 +9,7 @@ ghost use Rattle.paraid_rack.specs.declared.call.Call.{Call as CallType};
 ghost use Rattle.paraid_rack.specs.declared.call.Call.TheVariants.{Attach, Park, Read, SpinUp, Sync, Write};
 ghost use Rattle.paraid_rack.specs.declared.call.Power.{Power as PowerType};
 ghost use Rattle.paraid_rack.specs.declared.call.Power.TheVariants.{Parked, Spinning};
+ghost use Rattle.paraid_rack.specs.Alike.{IsAlike};
 ghost use Rattle.paraid_rack.specs.Disks.{Disks, IsImage, IsPresent, lose, step};
 ghost use Rattle.paraid_rack.specs.Trail.{Trail, disks, initial};
 ghost use Rattle.paraid_record.specs.declared.meta.Meta.{Meta as MetaType};
@@ -25,7 +26,7 @@ ghost use Rattle.paraid_txn.specs.Open.{CanOpen, IsLoggedNext};
 ghost use Rattle.paraid_txn.specs.Out.{IsDouble, IsMissing, IsWeak, is_out};
 ghost use Rattle.paraid_txn.specs.Power.{State};
 ghost use Rattle.paraid_txn.specs.Session.{AreDown, IsSession, history_after};
-ghost use Rattle.paraid_txn.specs.Sides.{IsSide, Said, Says, Side, is_open};
+ghost use Rattle.paraid_txn.specs.Sides.{Batch, IsSide, Said, Says, Side, is_open};
 ghost use Rattle.paraid_txn.specs.Sound.{Sound};
 ghost use Rattle.paraid_txn.specs.Spot.{View, spot_of};
 ghost use Rattle.paraid_txn.specs.Standing.{Stands, contents as contents_of, other_log, standing};
@@ -231,6 +232,23 @@ pub fn an_attach_leaves_what_is_held()
         → ((i : Disks) (x : ℕ) (said : Said) → IsImage s i → Stands i x said
         → said.meta.out ≡ Gone d)
         → IsHeld slots s h lo down → IsHeld slots (step (Attach d size true) s) h lo down }
+{}
+
+/// Blocks that do not exist do not matter: disks that agree in all that exists stand for the same
+/// and hold the same. So a rack that begins alike to an image holds what the image holds.
+pub fn blocks_that_do_not_exist_do_not_matter()
+    ensures stands { (i j : Disks) (x : ℕ) (said : Said) → IsAlike i j → Stands i x said
+        → Stands j x said }
+    ensures contents { (i j : Disks) (batch : Batch) → IsAlike i j
+        → contents_of j batch ≡ contents_of i batch }
+    ensures weak { (i j : Disks) (w : ℕ) → IsAlike i j → IsWeak i w → IsWeak j w }
+    ensures sound { (slots : ℕ) (i j : Disks) (h : History) (k : ℕ) → IsAlike i j
+        → Sound slots i h k → Sound slots j h k }
+    ensures held { (slots : ℕ) (i j : Disks) (h : History) (lo : ℕ) (down : Option ℕ)
+        → IsAlike i j → IsHeld slots i h lo down → IsHeld slots j h lo down }
+    ensures start { (slots : ℕ) (t u : Trail) (m : ℕ) (i : Disks) (h : History) (lo : ℕ)
+        (down : Option ℕ) → IsImage (disks t m) i → IsAlike i (initial u.start)
+        → HeldAt slots t m h lo down → HeldAt slots u 0 h lo down }
 {}
 
 /// In a session a flush keeps the writes that it answers: after it each stop leaves a first part

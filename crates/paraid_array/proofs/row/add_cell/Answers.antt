@@ -1,13 +1,17 @@
-use Rattle.std.proofs.Common.{◌≡◌, ◌≢◌, ◌∙◌, Some, true, Ok, Err, refl, sym, ap}
+use Rattle.std.proofs.Common.{◌≡◌, ◌≢◌, ◌∙◌, ◌⊎◌, Some, true, Ok, Err, refl, sym, ap, inl, inr}
 use Rattle.paraid_base.specs.declared.fault.Two.{Two}
-use Rattle.paraid_base.proofs.SumsLemmas.{others_read, others_skip}
+use Rattle.paraid_base.proofs.SumsLemmas.{two_read, two_skip}
 use Rattle.paraid_rack.specs.Disks.{is_present}
 use Rattle.paraid_array.proofs.LossLemmas.{lasts_none, lasts_follow, spins_told, same_some}
 use Rattle.paraid_array.proofs.StoresLemmas.{keeps_read, read_value}
 use Rattle.paraid_array.proofs.row.add_cell.Goals as goal
+use Rattle.paraid_array.proofs.row.add_cell.Goals.{then-disk-out-via-then-disk-out, then-disk-out-via-else-disk-out+then-disk-skipped}
 
 pub returns-then-disk-out-clause-value : goal.returns-then-disk-out-clause-value
-returns-then-disk-out-clause-value g c cells some keeps is = is ∙ others_skip (cells c.args.row) c.args.out c.args.disk c.if-disk-out.true
+returns-then-disk-out-clause-value g c cells some keeps is = is ∙ two_skip (cells c.args.row) c.args.out c.args.skipped c.args.disk which
+  where
+    which : (c.args.disk ≡ c.args.out) ⊎ (c.args.disk ≡ c.args.skipped)
+    which = elim c.then-disk-out.branch [ then-disk-out-via-then-disk-out w ↦ inl w.if-disk-out.true | then-disk-out-via-else-disk-out+then-disk-skipped w ↦ inr w.if-disk-skipped.true ]
 
 pub returns-then-disk-out-clause-lasts : goal.returns-then-disk-out-clause-lasts
 returns-then-disk-out-clause-lasts g c = lasts_none _ _ _ _
@@ -32,7 +36,7 @@ returns-clause-value g c cells some keeps is =
     c.in-Ok.ensures.told c.in-Ok.ensures.bytes
     (λ t tells. ap is_present (spins_told (g.R.Rack.told rack) (g.R.Rack.slot rack) _ (g.met.R.Rack.agrees rack) (c.requires.fits.spins c.args.disk c.requires.disk not) t tells))
     cells some keeps in
-    others_read (cells c.args.row) c.args.out c.args.disk _ _ _ c.if-disk-out.false is cell c.xor_into.ensures
+    two_read (cells c.args.row) c.args.out c.args.skipped c.args.disk _ _ _ c.if-disk-out.false c.if-disk-skipped.false is cell c.xor_into.ensures
 
 pub returns-clause-keeps : goal.returns-clause-keeps
 returns-clause-keeps g c cells keeps = keeps_read _ _ _ _ _ _ c.in-Ok.ensures.told cells keeps

@@ -1,29 +1,17 @@
-use Rattle.std.proofs.Common.{◌≡◌}
+use Rattle.std.proofs.Common.{◌≡◌, ℕ, ◌∙◌, Some, ap}
+use Rattle.paraid_base.specs.declared.block.Block.{Block}
 use Rattle.paraid_base.specs.Cells.{parity_disk as parity_disk_of}
 use Rattle.paraid_base.specs.Xor.{xor}
-use Rattle.paraid_array.proofs.LossLemmas.{lasts_then}
-use Rattle.paraid_array.proofs.StoresLemmas.{told_before}
+use Rattle.paraid_base.proofs.XorLemmas.{xor_comm, xor_turn}
 use Rattle.paraid_array.proofs.row.new_parity.Goals as goal
 
-pub returns-in_err-read_cell-2-clause-keeps : goal.returns-in_err-read_cell-2-clause-keeps
-returns-in_err-read_cell-2-clause-keeps g c cells keeps = c.read_cell-2.ensures.keeps cells (c.read_cell.ensures.keeps cells keeps)
-
-pub returns-in_err-read_cell-2-clause-lasts : goal.returns-in_err-read_cell-2-clause-lasts
-returns-in_err-read_cell-2-clause-lasts g c = lasts_then _ _ _ _ _ _ _ _ _ _ c.read_cell.ensures.lasts c.read_cell-2.ensures.lasts
-
 pub returns-clause-value : goal.returns-clause-value
-returns-clause-value g c cells zero some keeps =
-    let row = c.args.row in
-    let before = told_before _ _ _ c.read_cell-2.ensures.lasts.served some in
-    let was : c.read_cell.new.into ≡ cells row c.args.disk = c.in_ok-read_cell.ensures.value cells zero before keeps in
-    let parity : c.read_cell-2.new.into ≡ cells row c.parity_disk.result = c.in_ok-read_cell-2.ensures.value cells zero some (c.read_cell.ensures.keeps cells keeps) in
-    let disk : c.parity_disk.result ≡ parity_disk_of c.args.geometry.now.disks row = c.parity_disk.ensures.value in
-    let change : c.xor_into.new.to ≡ xor c.read_cell.new.into c.args.bytes.now = c.xor_into.ensures in
-    let into : c.xor_into-2.new.to ≡ xor c.read_cell-2.new.into c.xor_into.new.to = c.xor_into-2.ensures in
-    cc
-
-pub returns-clause-keeps : goal.returns-clause-keeps
-returns-clause-keeps g c cells keeps = c.read_cell-2.ensures.keeps cells (c.read_cell.ensures.keeps cells keeps)
-
-pub returns-clause-lasts : goal.returns-clause-lasts
-returns-clause-lasts g c = lasts_then _ _ _ _ _ _ _ _ _ _ c.read_cell.ensures.lasts c.read_cell-2.ensures.lasts
+returns-clause-value g c not cells zero some keeps =
+    let row = cells c.args.row in
+    let bytes : Block = c.args.bytes.now in
+    let disk : c.parity_disk-parity.result ≡ parity_disk_of c.args.geometry.now.disks c.args.row = c.parity_disk-parity.ensures.value in
+    c.xor_into.ensures
+    ∙ ap (λ (b : Block). xor b bytes) (c.in_ok-read_rest.ensures.value (λ e. not (e ∙ ap Some disk)) cells zero some keeps)
+    ∙ ap (λ (p : ℕ). xor (xor (row c.args.disk) (row p)) bytes) disk
+    ∙ xor_turn (row c.args.disk) (row (parity_disk_of c.args.geometry.now.disks c.args.row)) bytes
+    ∙ xor_comm (xor (row c.args.disk) bytes) (row (parity_disk_of c.args.geometry.now.disks c.args.row))

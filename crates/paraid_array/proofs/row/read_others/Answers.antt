@@ -33,4 +33,4 @@ returns-in_err-add_cell-clause-lasts g c = lasts_then _ _ _ _ _ _ _ _ _ _ c.loop
 pub returns-clause-value : goal.returns-clause-value
 returns-clause-value g c cells some keeps =
     let all : c.loop-disk.disk ≡ c.args.geometry.now.disks = omega arith in
-    c.loop-disk.invariant.value cells some keeps ∙ ap (xor_upto (without (cells c.args.row) c.args.out)) all
+    c.loop-disk.invariant.value cells some keeps ∙ ap (xor_upto (without (without (cells c.args.row) c.args.out) c.args.skipped)) all

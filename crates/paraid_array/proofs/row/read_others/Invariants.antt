@@ -8,7 +8,7 @@ use Rattle.paraid_array.proofs.row.read_others.Given as goal
 
 abbrev pub invariant-loop-disk : goal.invariant-loop-disk
 invariant-loop-disk g l = record {
-  value : (cells : Cells) → IsSome (g.R.Rack.told l.rack) → Keeps l.fn.geometry (g.R.Rack.told l.fn.rack) cells → l.into ≡ xor_upto (without (cells l.fn.row) l.fn.out) l.disk;
+  value : (cells : Cells) → IsSome (g.R.Rack.told l.rack) → Keeps l.fn.geometry (g.R.Rack.told l.fn.rack) cells → l.into ≡ xor_upto (without (without (cells l.fn.row) l.fn.out) l.fn.skipped) l.disk;
   keeps : (cells : Cells) → Keeps l.fn.geometry (g.R.Rack.told l.fn.rack) cells → Keeps l.fn.geometry (g.R.Rack.told l.rack) cells;
   fits : Fits l.fn.geometry (Some l.fn.out) (g.R.Rack.slot_count l.rack) (g.R.Rack.slot l.rack);
   lasts : Lasts l.fn.geometry.disks (Some l.fn.out) (Some l.fn.out) (g.R.Rack.slot l.fn.rack) (g.R.Rack.slot l.rack) (g.R.Rack.told l.fn.rack) (g.R.Rack.told l.rack);

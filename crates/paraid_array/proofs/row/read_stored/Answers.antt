@@ -41,4 +41,4 @@ returns-clause-lasts g c =
 pub returns-clause-two : goal.returns-clause-two
 returns-clause-two g c =
     let not : c.args.out.now ≢ Some c.args.disk = λ e. false≢true (sym c.if-is_out.false ∙ c.is_out.ensures.1 e) in
-    two_follow _ _ _ _ _ _ _ _ _ c.read-answer.ensures.slot not c.follow.ensures
+    two_follow _ _ _ _ _ _ _ _ _ _ c.requires.fits.below c.requires.disk c.read-answer.ensures.slot not c.follow.ensures

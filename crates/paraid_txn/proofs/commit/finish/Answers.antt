@@ -3,6 +3,7 @@ use Rattle.paraid_rack.specs.Told.{Ran, Runs}
 use Rattle.paraid_txn.specs.Stages.{Close, IsSpelled, Job, Mark, Whole, named}
 use Rattle.paraid_txn.proofs.PartsLemmas.{andthen, close_whole, ends, upto}
 use Rattle.paraid_txn.proofs.StepsLemmas.{mark_end}
+use Rattle.paraid_txn.proofs.DownLemmas.{IfErr-two-later, Lasts-then}
 use Rattle.paraid_txn.proofs.commit.finish.Given.{Over}
 use Rattle.paraid_txn.proofs.commit.finish.Goals as goal
 use Rattle.paraid_txn.proofs.commit.finish.Goals.{In_ok-mark-2}
@@ -37,3 +38,9 @@ pub returns-clause-done : goal.returns-clause-done
 returns-clause-done g c j good is spelled =
     let at = goal.at.returns-clause-done g c in
     andthen (marked g at.In_ok-mark-2 j good is spelled) (andthen (c.in_ok-close_gate.ensures.done j good is) (c.in_ok-close_gate-2.ensures.done j good is))
+
+pub returns-in_err-close_gate-2-clause-two : goal.returns-in_err-close_gate-2-clause-two
+returns-in_err-close_gate-2-clause-two g c =
+    let marked = Lasts-then _ _ _ _ _ _ c.mark.ensures.lasts c.mark-2.ensures.lasts in
+    let before = Lasts-then _ _ _ _ _ _ marked c.close_gate.ensures.lasts in
+    IfErr-two-later _ _ _ _ _ _ _ _ c.from_residual-in_err-close_gate-2.ensures.1 before c.close_gate-2.ensures.lasts c.in_err-close_gate-2.ensures.two

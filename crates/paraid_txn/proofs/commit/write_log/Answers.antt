@@ -5,6 +5,7 @@ use Rattle.paraid_txn.specs.Stages.{IsSpelled, Job, Log, LogIn, LogMeta, Whole, 
 use Rattle.paraid_txn.proofs.DownLemmas.{AreDry-settled, AreDryBut-both, Lasts-then}
 use Rattle.paraid_txn.proofs.PartsLemmas.{andthen, ends, log_in_whole, log_list_ran, log_meta_ran, log_meta_whole, log_sync_ran, log_whole}
 use Rattle.paraid_txn.proofs.ReadyLemmas.{log_can}
+use Rattle.paraid_txn.proofs.DownLemmas.{IfErr-two-later, Lasts-then}
 use Rattle.paraid_txn.proofs.commit.write_log.Given.{Over}
 use Rattle.paraid_txn.proofs.commit.write_log.Goals as goal
 use Rattle.paraid_txn.proofs.commit.write_log.Goals.{After-put, After-put-2, After-put_blocks, After-settle}
@@ -75,3 +76,9 @@ returns-clause-done g c j good is same list spelled =
     let at = goal.at.returns-clause-done g c in
     andthen (first g at.After-put j good is spelled) (andthen (second g at.After-put-2 j good is list)
     (andthen (c.in_ok-put_blocks.ensures.done j good is same) (last g at.After-settle j good is same)))
+
+pub returns-in_err-settle-clause-two : goal.returns-in_err-settle-clause-two
+returns-in_err-settle-clause-two g c =
+    let heads = Lasts-then _ _ _ _ _ _ c.put.ensures.lasts c.put-2.ensures.lasts in
+    let before = Lasts-then _ _ _ _ _ _ heads c.put_blocks.ensures.lasts in
+    IfErr-two-later _ _ _ _ _ _ _ _ c.from_residual-in_err-settle.ensures.1 before c.settle.ensures.lasts c.in_err-settle.ensures.two

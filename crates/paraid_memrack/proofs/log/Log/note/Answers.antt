@@ -1,4 +1,7 @@
-use Rattle.std.proofs.Common.{◌∙◌, sym, arith}
+use Rattle.std.proofs.Common.{◌<◌, ◌∙◌, length, sym, arith}
+use Rattle.std.proofs.lemmas.List.Elements.{All-push, All-same}
+use Rattle.paraid_rack.specs.declared.call.Call.{Call}
+use Rattle.paraid_memrack.specs.Plan.{disk_of}
 use Rattle.paraid_memrack.proofs.PlanLemmas.{lt_true, lt_false, counted_push, count_on-le-length, listed_more, listed_same}
 use Rattle.paraid_memrack.proofs.NoteLemmas.{told_more, told_none}
 use Rattle.paraid_memrack.proofs.log.Log.note.Goals as goal
@@ -9,12 +12,12 @@ overflow_cast-len c = omega (arith, c.len.ensures, c.args.self.now.calls.ok.0, c
 pub overflow_add-self : goal.overflow_add-self
 overflow_add-self c =
     let log = c.args.self.now in
-    omega (arith, c.len.ensures, log.calls.ok.0, log.short, c.if-len-self.true, log.counted c.args.disk c.requires.exists, count_on-le-length c.args.disk log.calls.items)
+    omega (arith, c.len.ensures, log.calls.ok.0, log.short, c.if-len-self.true, log.counted c.args.disk c.requires.small, count_on-le-length c.args.disk log.calls.items)
 
 pub invariant_of-self-clause-counted : goal.invariant_of-self-clause-counted
 invariant_of-self-clause-counted c =
     let log = c.args.self.now in
-    counted_push log.counts log.calls.items _ c.args.call c.args.disk c.requires.on (omega (arith, log.wide, c.requires.exists)) c.requires.exists c.push_reserved.ensures.items log.counted
+    counted_push log.counts log.calls.items _ c.args.call c.args.disk c.requires.on (omega (arith, log.wide, c.requires.small)) c.requires.small c.push_reserved.ensures.items log.counted
 
 pub returns-then-len-self-clause-calls : goal.returns-then-len-self-clause-calls
 returns-then-len-self-clause-calls c =
@@ -35,3 +38,10 @@ pub returns-else-len-self-clause-told : goal.returns-else-len-self-clause-told
 returns-else-len-self-clause-told c =
     let log = c.args.self.now in
     told_none log.tells log.start.items log.calls.items c.args.call _ (lt_false _ _ (omega (arith, c.len.ensures, log.calls.ok.0, c.if-len-self.false)))
+
+pub invariant_of-self-clause-on_slots : goal.invariant_of-self-clause-on_slots
+invariant_of-self-clause-on_slots c =
+    let log = c.args.self.now in
+    let on_slot = λ (call : Call). disk_of call < length log.start.items in
+    let here : disk_of c.args.call < length log.start.items = omega (arith, c.requires.on, c.requires.exists) in
+    All-same on_slot _ _ c.push_reserved.ensures.items (All-push on_slot log.calls.items c.args.call log.on_slots here)
