@@ -17,7 +17,9 @@ use Rattle.paraid_txn.specs.Staging.{blocks}
 use Rattle.paraid_txn.specs.Stages.{AllDry, Close, CloseIn, Dry, DryBut, Is, IsAside, IsBeside, IsIn, IsKept, IsLive, IsSpelled, Job, Laid, LayIn, Laying, Log, LogIn, LogMeta, Logged, Logging, Mark, MarkIn, OldMetas, Open, OpenIn, Opened, SettleIn, Shut, Untouched, becomes, body, gone, named, was}
 use Rattle.paraid_txn.specs.Standing.{laid}
 use Rattle.paraid_txn.proofs.PutsLemmas.{Puts, Settles, skips}
-use Rattle.paraid_txn.proofs.TargetsLemmas.{laid-next_else, laid-next_here, length-targets, names-target_at, target_at}
+use Rattle.paraid_txn.proofs.NeutralLemmas.{length-targets}
+use Rattle.paraid_txn.proofs.StagingLemmas.{names-at}
+use Rattle.paraid_txn.proofs.TargetsLemmas.{laid-next_else, laid-next_here, target_at}
 
 -- this place, or another
 same_or_apart : (d p d0 p0 : ℕ) → ((d ≡ d0) × (p ≡ p0)) ⊎ (d ≡ d0 → p ≢ p0)
@@ -251,7 +253,7 @@ module _ (j : Job) (good : IsSpelled j) where
   lay_one n s s' lt far w c =
       let t = target_at j.batch n in
       record {
-        core = laying_wrote t.disk t.place (body j n) s s' (names-target_at j.batch n lt) far w c.core;
+        core = laying_wrote t.disk t.place (body j n) s s' (names-at j.batch n t lt refl) far w c.core;
         held = λ d p isin high. elim (same_or_apart d p t.disk t.place) [
           | inl at ↦
               let here : Seen s' t.disk t.place (Is (body j n)) = w.here _ (subst (IsIn j) at.0 isin) refl in

@@ -11,14 +11,7 @@ use Rattle.paraid_txn.specs.Neutral.{names}
 use Rattle.paraid_txn.specs.Sides.{Batch, targets}
 use Rattle.paraid_txn.specs.Staging.{blocks, names_disk}
 use Rattle.paraid_txn.specs.Standing.{laid}
-
-pub length-targets : (batch : Batch) → length (targets batch) ≡ length batch
-length-targets [] = refl
-length-targets (w ∷ batch) = ap suc (length-targets batch)
-
-or_true : (x : Bool) → (x || true) ≡ true
-or_true true = refl
-or_true false = refl
+use Rattle.paraid_txn.proofs.StagingLemmas.{names_disk-named}
 
 abbrev pub target_at : Batch → ℕ → Target
 target_at batch n = get_or (targets batch) n no_target
@@ -32,15 +25,6 @@ is_not_at d0 p0 d p apart = elim (cases_Bool (d0 == d && p0 == p)) [
       absurd (apart (sym (eqb-true d0 d parts.0)) (sym (eqb-true p0 p parts.1)))
   | inr off ↦ off
 ]
-
-pub names-target_at : (batch : Batch) (n : ℕ) → n < length batch → names batch (target_at batch n).disk (target_at batch n).place ≡ true
-names-target_at [] n lt = absurd (omega arith)
-names-target_at (w ∷ batch) zero lt = ap (λ (t : Bool). t || names batch w.0.disk w.0.place)
-    (is_at w.0.disk w.0.place w.0.disk w.0.place refl refl)
-names-target_at (w ∷ batch) (suc n) lt =
-    let t = target_at batch n in
-    ap (λ (b : Bool). (w.0.disk == t.disk && w.0.place == t.place) || b) (names-target_at batch n (omega arith))
-    ∙ or_true (w.0.disk == t.disk && w.0.place == t.place)
 
 -- one more target is laid over what the first ones leave
 laid-next : (batch : Batch) (n d p : ℕ) (b : Block) → n < length batch
@@ -70,17 +54,9 @@ laid-next_else batch n d p b lt apart =
 
 -- a disk that has no target
 pub names-no_disk : (batch : Batch) (d p : ℕ) → names_disk batch d ≡ false → names batch d p ≡ false
-names-no_disk [] d p off = refl
-names-no_disk (w ∷ batch) d p off =
-    let parts = or_parts (w.0.disk == d) (names_disk batch d) off in
-    or_from (w.0.disk == d && w.0.place == p) (names batch d p) (and_left (w.0.disk == d) (w.0.place == p) parts.0) (names-no_disk batch d p parts.1)
-
-pub names_disk-target_at : (batch : Batch) (n : ℕ) → n < length batch → names_disk batch (target_at batch n).disk ≡ true
-names_disk-target_at batch n lt = elim (cases_Bool (names_disk batch (target_at batch n).disk)) [
-  | inl on ↦ on
-  | inr off ↦
-      let none = names-no_disk batch (target_at batch n).disk (target_at batch n).place off in
-      absurd (false≢true (sym none ∙ names-target_at batch n lt))
+names-no_disk batch d p off = elim (cases_Bool (names batch d p)) [
+  | inl on ↦ absurd (false≢true (sym off ∙ names_disk-named batch d p on))
+  | inr none ↦ none
 ]
 
 -- all targets are on the first `n` disks

@@ -1,7 +1,7 @@
 use Rattle.std.specs.Prelude.{◌≡◌}
 use Rattle.paraid_rack.specs.Told.{Ran, Runs}
 use Rattle.paraid_txn.specs.Stages.{Close, IsSpelled, Job, Mark, Whole, named}
-use Rattle.paraid_txn.proofs.PartsLemmas.{andthen, close_whole, ends, from, upto}
+use Rattle.paraid_txn.proofs.PartsLemmas.{andthen, close_whole, ends, upto}
 use Rattle.paraid_txn.proofs.StepsLemmas.{mark_end}
 use Rattle.paraid_txn.proofs.DownLemmas.{IfErr-two-later, Lasts-then}
 use Rattle.paraid_txn.proofs.commit.finish.Given.{Over}

@@ -1,16 +1,18 @@
 use Rattle.std.specs.Prelude.{◌≡◌, ◌≢◌, ℕ, ◌+◌, ◌<◌, ◌≤◌, true, get_or, length, Some}
-use Rattle.std.proofs.Common.{ap, arith, refl, rules, subst, sym, ◌∙◌}
+use Rattle.std.proofs.Common.{inl, ap, arith, refl, subst, ◌∙◌}
 use Rattle.paraid_base.specs.Xor.{zeroed}
 use Rattle.paraid_rack.specs.Told.{Ran, Runs}
-use Rattle.paraid_record.specs.declared.targets.Target.{Target}
 use Rattle.paraid_record.specs.Targets.{no_target}
 use Rattle.paraid_txn.specs.Losses.{AreDryBut, CanWrite}
-use Rattle.paraid_txn.specs.Sides.{Batch, targets}
+use Rattle.paraid_txn.specs.Sides.{Batch}
 use Rattle.paraid_txn.specs.Stages.{IsSpelled, Job, LayIn, Whole, body, gone}
 use Rattle.paraid_txn.specs.Staging.{blocks, names_disk}
 use Rattle.paraid_txn.proofs.PartsLemmas.{andthen, ends, lay_ran, lay_whole, nothing_ran}
-use Rattle.paraid_txn.proofs.ReadyLemmas.{dry_then, targets_stay_ready}
-use Rattle.paraid_txn.proofs.TargetsLemmas.{length-targets, names_disk-target_at, target_at}
+use Rattle.paraid_txn.proofs.ReadyLemmas.{targets_stay_ready}
+use Rattle.paraid_txn.proofs.DownLemmas.{AreDryBut-both, AreDryBut-weaker, AreOthersWell-then, Lasts-none, Lasts-then}
+use Rattle.paraid_txn.proofs.NeutralLemmas.{length-targets}
+use Rattle.paraid_txn.proofs.StagingLemmas.{names_disk-at}
+use Rattle.paraid_txn.proofs.TargetsLemmas.{target_at}
 use Rattle.paraid_txn.proofs.commit.lay.Given.{Over}
 use Rattle.paraid_txn.proofs.commit.lay.Goals as goal
 use Rattle.paraid_txn.proofs.commit.lay.Goals.{After-block, After-put}
@@ -32,11 +34,11 @@ past_log g c =
 wet : (g : Over) (c : After-put g) → AreDryBut (λ d. (names_disk c.args.batch.now d ≡ true) × (c.args.skip ≢ Some d))
     (g.R.Rack.slot c.args.rack.now) (g.R.Rack.slot c.put.new.rack)
 wet g c =
-    let there : target_at c.args.batch.now c.loop-at.at ≡ c.target-target.result = cc in
-    let on : names_disk c.args.batch.now c.target-target.result.disk ≡ true =
-    subst (λ (t : Target). names_disk c.args.batch.now t.disk ≡ true) there (names_disk-target_at c.args.batch.now c.loop-at.at (omega arith)) in
-    dry_then (g.R.Rack.slot c.args.rack.now) _ _ (λ d. (names_disk c.args.batch.now d ≡ true) × (c.args.skip ≢ Some d)) c.put.ensures.lasts
-    (λ d is. is) (λ d is. (rw is.0 on, is.1)) c.loop-at.invariant.dry c.put.ensures.dry
+    let may : ℕ → Type 0 = λ d. (names_disk c.args.batch.now d ≡ true) × (c.args.skip ≢ Some d) in
+    let on = names_disk-at c.args.batch.now c.loop-at.at (omega arith) in
+    let this : (d : ℕ) → (d ≡ c.target-target.result.disk) × (c.args.skip ≢ Some d) → may d = λ d is.
+    (rw (is.0, c.target-target.ensures) on, is.1) in
+    AreDryBut-both may _ _ _ _ (g.R.Rack.slot c.loop-at.rack) _ c.loop-at.invariant.lasts c.put.ensures.lasts c.loop-at.invariant.dry (AreDryBut-weaker may _ (g.R.Rack.slot c.loop-at.rack) (g.R.Rack.slot c.put.new.rack) this c.put.ensures.dry)
 
 pub put-requires-clause-exists : goal.put-requires-clause-exists
 put-requires-clause-exists g c = (ready g c).0
@@ -63,9 +65,9 @@ pub loop-at-init : goal.loop-at-init
 loop-at-init g c = record {
   slots = refl;
   ready = c.requires.ready;
-  lasts = search rules;
-  well = search rules;
-  dry = search rules;
+  lasts = Lasts-none _ _;
+  well = λ d not. refl;
+  dry = λ d here wet. inl wet;
   ran = λ j good is same. nothing_ran (lay_whole j good 0);
 }
 
@@ -73,8 +75,8 @@ pub loop-at-preserved : goal.loop-at-preserved
 loop-at-preserved g c = record {
   slots = c.put.ensures.slots ∙ c.loop-at.invariant.slots;
   ready = targets_stay_ready _ _ _ _ c.put.ensures.lasts c.put.ensures.slots c.loop-at.invariant.ready;
-  lasts = search rules;
-  well = search rules;
+  lasts = Lasts-then _ _ _ _ _ _ c.loop-at.invariant.lasts c.put.ensures.lasts;
+  well = AreOthersWell-then _ _ _ _ _ _ c.loop-at.invariant.lasts c.put.ensures.lasts c.loop-at.invariant.well c.in_ok-put.ensures.well;
   dry = wet g (goal.at.loop-at-preserved g c).After-put;
   ran = next g (goal.at.loop-at-preserved g c).After-put;
 }

@@ -1,6 +1,6 @@
 use Rattle.std.specs.Prelude.{length}
 use Rattle.std.proofs.Common.{ap}
-use Rattle.paraid_txn.proofs.PartsLemmas.{andthen, ends, from, mark_whole}
+use Rattle.paraid_txn.proofs.PartsLemmas.{andthen, from}
 use Rattle.paraid_txn.proofs.StepsLemmas.{lay_end}
 use Rattle.paraid_txn.proofs.commit.lay_all.Goals as goal
 

@@ -1,13 +1,13 @@
 use Rattle.std.specs.Prelude.{◌≡◌, ℕ, ◌+◌, ◌<◌, get_or, length}
 use Rattle.paraid_base.specs.Xor.{zeroed}
-use Rattle.std.proofs.Common.{ap, rules, subst, sym, ◌∙◌, refl, arith}
+use Rattle.std.proofs.Common.{inl, ap, subst, ◌∙◌, refl, arith}
 use Rattle.paraid_rack.specs.Told.{Ran, Runs}
-use Rattle.paraid_rack.proofs.TrailsLemmas.{stays}
 use Rattle.paraid_txn.specs.Sides.{Batch}
 use Rattle.paraid_txn.specs.Stages.{IsSpelled, Job, LogIn, Whole, body, named}
 use Rattle.paraid_txn.specs.Staging.{blocks}
 use Rattle.paraid_txn.proofs.PartsLemmas.{andthen, ends, log_block_ran, log_in_whole, nothing_ran}
 use Rattle.paraid_txn.proofs.ReadyLemmas.{log_stays_ready}
+use Rattle.paraid_txn.proofs.DownLemmas.{AreDryBut-both, AreOthersWell-then, Lasts-none, Lasts-then}
 use Rattle.paraid_txn.proofs.commit.put_blocks.Given.{Over}
 use Rattle.paraid_txn.proofs.commit.put_blocks.Goals as goal
 use Rattle.paraid_txn.proofs.commit.put_blocks.Goals.{After-put}
@@ -29,9 +29,9 @@ pub loop-at-init : goal.loop-at-init
 loop-at-init g c = record {
   slots = refl;
   log = c.requires.log;
-  lasts = search rules;
-  well = search rules;
-  dry = search rules;
+  lasts = Lasts-none _ _;
+  well = λ d not. refl;
+  dry = λ d here wet. inl wet;
   ran = λ j good is same. nothing_ran (log_in_whole j good c.args.disk 0);
 }
 
@@ -39,9 +39,9 @@ pub loop-at-preserved : goal.loop-at-preserved
 loop-at-preserved g c = record {
   slots = c.put.ensures.slots ∙ c.loop-at.invariant.slots;
   log = log_stays_ready c.put.ensures.lasts c.loop-at.invariant.log;
-  lasts = search rules;
-  well = search rules;
-  dry = search rules;
+  lasts = Lasts-then _ _ _ _ _ _ c.loop-at.invariant.lasts c.put.ensures.lasts;
+  well = AreOthersWell-then _ _ _ _ _ _ c.loop-at.invariant.lasts c.put.ensures.lasts c.loop-at.invariant.well c.in_ok-put.ensures.well;
+  dry = AreDryBut-both _ _ _ _ (g.R.Rack.slot c.args.rack.now) (g.R.Rack.slot c.loop-at.rack) (g.R.Rack.slot c.put.new.rack) c.loop-at.invariant.lasts c.put.ensures.lasts c.loop-at.invariant.dry c.put.ensures.dry;
   ran = next g (goal.at.loop-at-preserved g c).After-put;
 }
 

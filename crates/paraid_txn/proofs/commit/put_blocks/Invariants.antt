@@ -1,4 +1,4 @@
-use Rattle.std.specs.Prelude.{◌≡◌, ◌≢◌, ℕ, ◌≤◌, length, Some}
+use Rattle.std.specs.Prelude.{◌≡◌, ◌≢◌, Some}
 use Rattle.paraid_rack.specs.Told.{Ran, Runs}
 use Rattle.paraid_txn.specs.Losses.{AreDryBut, AreOthersWell, Lasts}
 use Rattle.paraid_txn.specs.Ready.{IsLogReady}

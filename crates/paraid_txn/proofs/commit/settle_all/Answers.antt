@@ -1,13 +1,11 @@
-use Rattle.std.specs.Prelude.{◌≡◌, ◌≢◌, ℕ, ◌+◌, ◌<◌, ◌≤◌, true, false, Some}
-use Rattle.std.proofs.Common.{ap, arith, below_more, refl, rules, sym, ◌∙◌}
-use Rattle.paraid_rack.specs.Told.{Ran, Runs}
+use Rattle.std.specs.Prelude.{◌≡◌, ◌≢◌, ℕ, ◌<◌, ◌≤◌, true, false, Some}
+use Rattle.std.proofs.Common.{inl, arith, below_more, refl, ◌∙◌}
 use Rattle.paraid_txn.specs.Losses.{IsDryAt}
 use Rattle.paraid_txn.specs.Neutral.{names}
-use Rattle.paraid_txn.specs.Sides.{Batch}
-use Rattle.paraid_txn.specs.Stages.{IsSpelled, Job, Mark, SettleIn, Whole, gone}
 use Rattle.paraid_txn.specs.Staging.{names_disk}
 use Rattle.paraid_txn.proofs.PartsLemmas.{andthen, ends, nothing_ran, settle_whole, upto}
-use Rattle.paraid_txn.proofs.ReadyLemmas.{stays_dry, targets_stay_ready}
+use Rattle.paraid_txn.proofs.ReadyLemmas.{targets_stay_ready}
+use Rattle.paraid_txn.proofs.DownLemmas.{AreDryBut-both, AreOthersWell-then, IsDryAt-later, Lasts-none, Lasts-then}
 use Rattle.paraid_txn.proofs.StepsLemmas.{settle_end}
 use Rattle.paraid_txn.proofs.TargetsLemmas.{names-no_disk, names_disk-above, names_disk-below}
 use Rattle.paraid_txn.proofs.commit.settle_all.Goals as goal
@@ -16,9 +14,9 @@ pub loop-disk-init : goal.loop-disk-init
 loop-disk-init g c = record {
   slots = refl;
   ready = c.requires.ready;
-  lasts = search rules;
-  well = search rules;
-  dry = search rules;
+  lasts = Lasts-none _ _;
+  well = λ d not. refl;
+  dry = λ d here wet. inl wet;
   settled = λ d lt on not. absurd (omega arith);
   ran = λ j good is same. nothing_ran (settle_whole j good 0);
 }
@@ -27,11 +25,11 @@ pub loop-disk-preserved : goal.loop-disk-preserved
 loop-disk-preserved g c = record {
   slots = c.settle_one.ensures.slots ∙ c.loop-disk.invariant.slots;
   ready = targets_stay_ready _ _ _ _ c.settle_one.ensures.lasts c.settle_one.ensures.slots c.loop-disk.invariant.ready;
-  lasts = search rules;
-  well = search rules;
-  dry = search rules;
+  lasts = Lasts-then _ _ _ _ _ _ c.loop-disk.invariant.lasts c.settle_one.ensures.lasts;
+  well = AreOthersWell-then _ _ _ _ _ _ c.loop-disk.invariant.lasts c.settle_one.ensures.lasts c.loop-disk.invariant.well c.in_ok-settle_one.ensures.well;
+  dry = AreDryBut-both _ _ _ _ (g.R.Rack.slot c.args.rack.now) (g.R.Rack.slot c.loop-disk.rack) (g.R.Rack.slot c.settle_one.new.rack) c.loop-disk.invariant.lasts c.settle_one.ensures.lasts c.loop-disk.invariant.dry c.settle_one.ensures.dry;
   settled = below_more (λ d. names_disk c.args.batch.now d ≡ true → c.args.skip ≢ Some d → IsDryAt (g.R.Rack.slot c.settle_one.new.rack) d) c.loop-disk.disk
-      (λ d lt on not. stays_dry (g.R.Rack.slot c.loop-disk.rack) d c.settle_one.ensures.lasts c.settle_one.ensures.dry (c.loop-disk.invariant.settled d lt on not))
+      (λ d lt on not. IsDryAt-later _ _ _ _ d c.settle_one.ensures.lasts c.settle_one.ensures.dry (c.loop-disk.invariant.settled d lt on not))
       c.settle_one.ensures.settled;
   ran = λ j good is same. andthen (c.loop-disk.invariant.ran j good is same) (c.in_ok-settle_one.ensures.done j good is same);
 }

@@ -1,5 +1,5 @@
 use Rattle.std.specs.Prelude.{◌≡◌, ◌+◌, false}
-use Rattle.std.proofs.Common.{ap, sym, ◌∙◌}
+use Rattle.std.proofs.Common.{ap, ◌∙◌}
 use Rattle.paraid_rack.specs.Told.{Ran, Runs}
 use Rattle.paraid_txn.specs.Sides.{Batch}
 use Rattle.paraid_txn.specs.Stages.{IsSpelled, Job, SettleIn, Whole, gone}

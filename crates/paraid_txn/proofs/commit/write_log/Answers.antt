@@ -1,8 +1,8 @@
-use Rattle.std.specs.Prelude.{◌≡◌, ◌+◌, length}
-use Rattle.std.proofs.Common.{ap, subst, sym, arith}
+use Rattle.std.specs.Prelude.{◌≡◌, ◌≢◌, ℕ, ◌+◌, length, Some}
+use Rattle.std.proofs.Common.{ap, arith}
 use Rattle.paraid_rack.specs.Told.{Ran, Runs}
-use Rattle.paraid_txn.specs.Sides.{Batch}
 use Rattle.paraid_txn.specs.Stages.{IsSpelled, Job, Log, LogIn, LogMeta, Whole, named}
+use Rattle.paraid_txn.proofs.DownLemmas.{AreDry-settled, AreDryBut-both, Lasts-then}
 use Rattle.paraid_txn.proofs.PartsLemmas.{andthen, ends, log_in_whole, log_list_ran, log_meta_ran, log_meta_whole, log_sync_ran, log_whole}
 use Rattle.paraid_txn.proofs.ReadyLemmas.{log_can}
 use Rattle.paraid_txn.proofs.DownLemmas.{IfErr-two-later, Lasts-then}
@@ -12,6 +12,19 @@ use Rattle.paraid_txn.proofs.commit.write_log.Goals.{After-put, After-put-2, Aft
 
 pub settle-requires-clause-can : goal.settle-requires-clause-can
 settle-requires-clause-can g c not = log_can 0 c.put_blocks.ensures.log c.requires.log_disk (omega arith) not
+
+pub returns-clause-dry : goal.returns-clause-dry
+returns-clause-dry g c =
+    let may : ℕ → Type 0 = λ d. (d ≡ c.args.disk) × (c.args.skip ≢ Some d) in
+    let slot = g.R.Rack.slot in
+    let heads = Lasts-then _ _ _ _ _ _ c.put.ensures.lasts c.put-2.ensures.lasts in
+    let written = Lasts-then _ _ _ _ _ _ heads c.put_blocks.ensures.lasts in
+    let wet_heads = AreDryBut-both may _ _ _ (slot c.args.rack.now) (slot c.put.new.rack) (slot c.put-2.new.rack)
+    c.put.ensures.lasts c.put-2.ensures.lasts c.put.ensures.dry c.put-2.ensures.dry in
+    let wet = AreDryBut-both may _ _ _ (slot c.args.rack.now) (slot c.put-2.new.rack) (slot c.put_blocks.new.rack)
+    heads c.put_blocks.ensures.lasts wet_heads c.put_blocks.ensures.dry in
+    AreDry-settled c.args.skip c.args.disk _ _ _ (slot c.args.rack.now) (slot c.put_blocks.new.rack) (slot c.settle.new.rack)
+    written c.settle.ensures.lasts wet c.settle.ensures.dry c.settle.ensures.settled
 
 -- with the meta of the batch written
 first : (g : Over) (c : After-put g) (j : Job) → IsSpelled j → named j ≡ c.args.skip → j.spelled ≡ c.args.meta.now
