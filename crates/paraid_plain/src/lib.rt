@@ -6,6 +6,8 @@
 #![tactic(auto)]
 
 mod clean;
+#[cfg(test)]
+mod commit_tests;
 mod disks;
 mod filled;
 mod history;

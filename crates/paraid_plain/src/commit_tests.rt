@@ -1,0 +1,308 @@
+//! Commits to a rack in memory: what each stop leaves, and how many calls they make.
+use crate::{Image, content, standing_of};
+use paraid_base::{Block, DiskNo, Two};
+use paraid_memrack::{MemRack, Pick, Planned};
+use paraid_rack::{Call, Power, Rack};
+use paraid_record::read_meta;
+use paraid_txn::{Batch, Store};
+use std::alloc::Global;
+
+/// The bytes of the meta of a formatted array before its zeros: five disks and five rows, gears 4
+/// and 5, epoch 1, no write, gear 5, no disk out.
+const META: [u8; 112] = [
+    0x50, 0x41, 0x52, 0x41, 0x49, 0x44, 0x41, 0x52, 0x00, 0x01, 0x05, 0x02, 0x04, 0x05, 0x00, 0x00,
+    0x00, 0x00, 0x00, 0x00, 0x00, 0x00, 0x00, 0x05, 0x00, 0x00, 0x00, 0x01, 0x00, 0x00, 0x00, 0x64,
+    0x50, 0x3c, 0x00, 0x01, 0x03, 0xe8, 0x00, 0x00, 0x00, 0x00, 0x00, 0x64, 0x00, 0x00, 0x00, 0x00,
+    0x00, 0x00, 0x00, 0x01, 0x00, 0x00, 0x00, 0x00, 0x00, 0x00, 0x00, 0x00, 0x00, 0x00, 0x00, 0x00,
+    0x00, 0x00, 0x00, 0x00, 0x05, 0x00, 0x00, 0xff, 0x00, 0x00, 0x00, 0x00, 0x00, 0x00, 0x00, 0x00,
+    0x00, 0x00, 0x00, 0x00, 0x00, 0x00, 0x00, 0x00, 0x00, 0x00, 0x00, 0x00, 0x00, 0x00, 0x00, 0x00,
+    0x00, 0x00, 0x00, 0x00, 0x00, 0x00, 0x23, 0x28, 0x00, 0x00, 0x03, 0x84, 0x00, 0x00, 0xea, 0x60,
+];
+
+/// An array of five disks: how many rows it has, and how many blocks a disk needs for them.
+#[derive(Clone, Copy)]
+struct Shape {
+    rows: u8,
+    size: u32,
+}
+
+const SMALL: Shape = Shape { rows: 5, size: 108 };
+
+/// 100 places of the log, one of the map, 40 rows, and a region of a third of them.
+const LARGE: Shape = Shape {
+    rows: 40,
+    size: 155,
+};
+
+fn meta_block(shape: Shape) -> Block {
+    let mut block = Block::zero();
+    for at in 0..META.len() {
+        if at < 512 {
+            block.set(at, META[at]);
+        }
+    }
+    block.set(23, shape.rows);
+    block
+}
+
+fn filled_with(byte: u8) -> Block {
+    Block::from_array([byte; 512])
+}
+
+// A disk in a slot, with the meta at place 1 if it is a log disk.
+fn add_disk(rack: &mut MemRack, shape: Shape, disk: DiskNo) -> bool {
+    if disk >= rack.slots() || rack.attach(disk, shape.size).is_err() {
+        return false;
+    }
+    if disk >= 2 {
+        return true;
+    }
+    if rack.power(disk) != Power::Spinning || rack.size(disk) <= 1 {
+        return false;
+    }
+    rack.write(disk, 1, &meta_block(shape)).is_ok()
+}
+
+// The formatted array as a start, whose calls fail as the plan says.
+fn formatted(alloc: Global, shape: Shape, plan: Vec<Planned>) -> Option<MemRack> {
+    let mut rack = MemRack::new(alloc, 5, shape.size, 100, Vec::new(alloc)).ok()?;
+    for disk in 0..5 {
+        if !add_disk(&mut rack, shape, disk) {
+            return None;
+        }
+    }
+    rack.stopped(alloc, rack.calls(), Pick::New, 1000, plan)
+        .ok()
+}
+
+// The array after one commit of this batch, and what it answered.
+fn committed(
+    alloc: Global,
+    shape: Shape,
+    batch: &Batch,
+    plan: Vec<Planned>,
+) -> Option<(MemRack, Result<Option<DiskNo>, Two>)> {
+    let meta = read_meta(&meta_block(shape))?;
+    let rack = formatted(alloc, shape, plan)?;
+    if meta.setup.geometry.disks > rack.slots() {
+        return None;
+    }
+    let mut store = Store::adopt(rack, &meta);
+    if !store.can_commit(batch, &meta) || store.epoch() != 1 {
+        return None;
+    }
+    let answer = store.commit(batch, &meta);
+    Some((store.close(), answer))
+}
+
+fn copy_disk(rack: &MemRack, disk: DiskNo, image: &mut Image) {
+    if disk >= rack.slots() {
+        return;
+    }
+    for place in 0..rack.size(disk) {
+        if (place as usize) < image.size(disk) {
+            image.set_block(disk, place, rack.block(disk, place));
+        }
+    }
+}
+
+// What the disks of a rack hold now.
+fn image_of(alloc: Global, rack: &MemRack) -> Option<Image> {
+    let mut image = Image::new(alloc);
+    for disk in 0..rack.slots() {
+        image.add(alloc, rack.power(disk), rack.size(disk)).ok()?;
+        copy_disk(rack, disk, &mut image);
+    }
+    Some(image)
+}
+
+// The image that a stop leaves, with a disk lost or none.
+fn left_at(
+    alloc: Global,
+    rack: &MemRack,
+    moment: u32,
+    pick: Pick,
+    lost: Option<DiskNo>,
+) -> Option<Image> {
+    if moment > rack.calls() {
+        return None;
+    }
+    let mut left = rack.stopped(alloc, moment, pick, 0, Vec::new(alloc)).ok()?;
+    if let Some(disk) = lost {
+        if disk < left.slots() {
+            left.lose(disk);
+        }
+    }
+    image_of(alloc, &left)
+}
+
+// The epoch that stands, and whether the target holds the old block or the new one by it. With
+// the target's disk lost only the epoch counts.
+fn epoch_left(image: &Image, lost: Option<DiskNo>) -> Option<u64> {
+    let says = standing_of(image)?;
+    let block = content(image, &says, 2, 101);
+    let want = match says.meta.epoch {
+        1 => 0,
+        2 => 255,
+        _ => return None,
+    };
+    let is_right = lost == Some(2) || block.as_slice() == filled_with(want).as_slice();
+    if is_right {
+        Some(says.meta.epoch)
+    } else {
+        None
+    }
+}
+
+fn one_target(alloc: Global) -> Option<Batch> {
+    let mut batch = Batch::new(alloc).ok()?;
+    batch.add(2, 101, &filled_with(255)).ok()?;
+    Some(batch)
+}
+
+const LOSSES: [Option<DiskNo>; 6] = [None, Some(0), Some(1), Some(2), Some(3), Some(4)];
+
+const PICKS: [Pick; 4] = [Pick::Old, Pick::New, Pick::Filled(165), Pick::Mixed];
+
+// How many of the images that stops at a moment leave stand at epoch 1 and at epoch 2; None where
+// one of them stands for neither the old contents nor the new ones.
+fn epochs_at(alloc: Global, rack: &MemRack, moment: u32) -> Option<(u32, u32)> {
+    let mut counts = (0, 0);
+    for pick in PICKS {
+        for lost in LOSSES {
+            let image = left_at(alloc, rack, moment, pick, lost)?;
+            match epoch_left(&image, lost)? {
+                1 => counts.0 += 1,
+                _ => counts.1 += 1,
+            }
+        }
+    }
+    Some(counts)
+}
+
+// How many images stand at epoch 1 and at epoch 2 after so many calls of the commit of one target:
+// three blocks and a sync on each log disk; then each gate with its sync; and the rest.
+fn expected_at(moment: u32) -> (u32, u32) {
+    match moment {
+        // no gate was written
+        0..=8 => (24, 0),
+        // the gate of disk 0 is loose: closed by one pick of four, or disk 0 is lost
+        9 => (9, 15),
+        // it is open, but disk 0 may be lost
+        10 => (4, 20),
+        // with disk 0 lost the gate of disk 1 is loose
+        11 => (1, 23),
+        _ => (0, 24),
+    }
+}
+
+#[test]
+fn a_commit_is_whole_or_absent_at_every_stop(rt: HostRuntime) {
+    let alloc = rt.alloc();
+    let batch = one_target(alloc).expect(&rt, "memory");
+    let (rack, answer) = committed(alloc, SMALL, &batch, Vec::new(alloc)).expect(
+        &rt,
+        "a formatted array",
+    );
+    assert!(rt; answer == Ok(None));
+    assert!(rt; rack.calls() == 22);
+    for moment in 0..23 {
+        let found = epochs_at(alloc, &rack, moment);
+        assert!(rt; found == Some(expected_at(moment)));
+    }
+}
+
+// How many calls the commit of one target makes on a disk: ten on a log disk, and a write and a
+// sync on that of the target.
+fn calls_on(disk: DiskNo) -> u32 {
+    match disk {
+        0 | 1 => 10,
+        2 => 2,
+        _ => 0,
+    }
+}
+
+// Whether the commit goes on without a disk whose call fails: it is answered, it gets no call
+// after that one, the others get the same calls, and the new contents stand.
+fn goes_on_without(alloc: Global, batch: &Batch, disk: DiskNo, nth: u32) -> Option<bool> {
+    let plan = vec![in alloc; Planned::OnDisk { disk, nth }].ok()?;
+    let (rack, answer) = committed(alloc, SMALL, batch, plan)?;
+    let image = image_of(alloc, &rack)?;
+    let left_out = calls_on(disk).saturating_sub(nth + 1);
+    let is_told = answer == Ok(Some(disk)) && rack.calls() + left_out == 22;
+    Some(is_told && epoch_left(&image, Some(disk)) == Some(2))
+}
+
+#[test]
+fn a_commit_goes_on_without_a_disk_that_fails(rt: HostRuntime) {
+    let alloc = rt.alloc();
+    let batch = one_target(alloc).expect(&rt, "memory");
+    for disk in 0..3 {
+        for nth in 0..calls_on(disk) {
+            assert!(rt; goes_on_without(alloc, &batch, disk, nth) == Some(true));
+        }
+    }
+    // a second loss is named with the first
+    let plan = vec![in alloc;
+        Planned::OnDisk { disk: 1, nth: 3 },
+        Planned::OnDisk { disk: 2, nth: 0 },
+    ]
+    .expect(&rt, "memory");
+    let (rack, answer) = committed(alloc, SMALL, &batch, plan).expect(&rt, "a formatted array");
+    assert!(rt;
+        answer
+            == Err(Two {
+                first: 1,
+                second: 2
+            })
+    );
+    // four on each log disk, the gate of disk 0 with its sync, and the write that failed
+    assert!(rt; rack.calls() == 11);
+}
+
+// So many targets on disks 4, 3, 2, 1 and 0, from the last place down.
+fn many_targets(alloc: Global, count: u32) -> Option<Batch> {
+    let mut batch = Batch::new(alloc).ok()?;
+    for at in 0..count {
+        let disk = (4 - at % 5) as DiskNo;
+        batch
+            .add(disk, 140u32.saturating_sub(at / 5), &filled_with(1))
+            .ok()?;
+    }
+    Some(batch)
+}
+
+// The writes and the syncs of a commit of so many targets.
+fn cost_of(alloc: Global, count: u32) -> Option<(u32, u32)> {
+    let batch = many_targets(alloc, count)?;
+    let (rack, answer) = committed(alloc, LARGE, &batch, Vec::new(alloc))?;
+    let mut writes = 0;
+    let mut syncs = 0;
+    for at in 0..rack.calls() {
+        match rack.call(at) {
+            Call::Write { .. } => writes += 1,
+            Call::Sync { .. } => syncs += 1,
+            _ => return None,
+        }
+    }
+    if answer == Ok(None) {
+        Some((writes, syncs))
+    } else {
+        None
+    }
+}
+
+#[test]
+fn a_commit_costs_three_writes_a_target_and_ten_more(rt: HostRuntime) {
+    let alloc = rt.alloc();
+    // targets, disks with targets, writes, syncs
+    for (targets, disks, writes, syncs) in [
+        (0, 0, 10, 8),
+        (1, 1, 13, 9),
+        (10, 5, 40, 13),
+        (96, 5, 298, 13),
+    ] {
+        let _ = println!(rt; "{targets} targets on {disks} disks: {writes} writes, {syncs} syncs");
+        assert!(rt; cost_of(alloc, targets) == Some((writes, syncs)));
+    }
+}
