@@ -167,13 +167,13 @@ const PICKS: [Pick; 4] = [Pick::Old, Pick::New, Pick::Filled(165), Pick::Mixed];
 // How many of the images that stops at a moment leave stand at epoch 1 and at epoch 2; None where
 // one of them stands for neither the old contents nor the new ones.
 fn epochs_at(alloc: Global, rack: &MemRack, moment: u32) -> Option<(u32, u32)> {
-    let mut counts = (0, 0);
+    let mut counts = (0u32, 0u32);
     for pick in PICKS {
         for lost in LOSSES {
             let image = left_at(alloc, rack, moment, pick, lost)?;
             match epoch_left(&image, lost)? {
-                1 => counts.0 += 1,
-                _ => counts.1 += 1,
+                1 => counts.0 = u32::saturating_add(counts.0, 1),
+                _ => counts.1 = u32::saturating_add(counts.1, 1),
             }
         }
     }
@@ -228,8 +228,8 @@ fn goes_on_without(alloc: Global, batch: &Batch, disk: DiskNo, nth: u32) -> Opti
     let plan = vec![in alloc; Planned::OnDisk { disk, nth }].ok()?;
     let (rack, answer) = committed(alloc, SMALL, batch, plan)?;
     let image = image_of(alloc, &rack)?;
-    let left_out = calls_on(disk).saturating_sub(nth + 1);
-    let is_told = answer == Ok(Some(disk)) && rack.calls() + left_out == 22;
+    let left_out = calls_on(disk).saturating_sub(nth.saturating_add(1));
+    let is_told = answer == Ok(Some(disk)) && rack.calls().saturating_add(left_out) == 22;
     Some(is_told && epoch_left(&image, Some(disk)) == Some(2))
 }
 
@@ -276,12 +276,12 @@ fn many_targets(alloc: Global, count: u32) -> Option<Batch> {
 fn cost_of(alloc: Global, count: u32) -> Option<(u32, u32)> {
     let batch = many_targets(alloc, count)?;
     let (rack, answer) = committed(alloc, LARGE, &batch, Vec::new(alloc))?;
-    let mut writes = 0;
-    let mut syncs = 0;
+    let mut writes = 0u32;
+    let mut syncs = 0u32;
     for at in 0..rack.calls() {
         match rack.call(at) {
-            Call::Write { .. } => writes += 1,
-            Call::Sync { .. } => syncs += 1,
+            Call::Write { .. } => writes = writes.saturating_add(1),
+            Call::Sync { .. } => syncs = syncs.saturating_add(1),
             _ => return None,
         }
     }
