@@ -52,9 +52,9 @@ module _ (log other : ℕ → Block) where
       let target : t ≡ u = first.0 in
       let block : log p ≡ other p = ap log (sym place) ∙ first.1 ∙ ap other place in
       let rest = batch_at-from (suc p) ts us (omega arith) (λ k l.
-        let next : p + suc k ≡ suc p + k = omega arith in
-        let part = f (suc k) (omega arith) in
-        (part.0, ap log (sym next) ∙ part.1 ∙ ap other next)) in
+      let next : p + suc k ≡ suc p + k = omega arith in
+      let part = f (suc k) (omega arith) in
+      (part.0, ap log (sym next) ∙ part.1 ∙ ap other next)) in
       λ i. (target i, block i) ∷ rest i
 
 module _ (image : Image) (a b : Statement) where
@@ -91,9 +91,9 @@ module _ (image : Image) (a b : Statement) where
       batch_at-from (log_of a) (log_of b) 4 (targets_of a.targets) (targets_of b.targets)
       (targets-length a ∙ count ∙ sym (targets-length b))
       (λ k l.
-        let below : k < a.targets.count = omega arith in
-        let part = f k below in
-        (targets-at a k below ∙ part.0 ∙ sym (targets-at b k (omega arith)), part.1))
+      let below : k < a.targets.count = omega arith in
+      let part = f k below in
+      (targets-at a k below ∙ part.0 ∙ sym (targets-at b k (omega arith)), part.1))
 
 -- what holds of each target of a statement
 module _ (image : Image) (s : Statement) (P : Target → Type 0) where

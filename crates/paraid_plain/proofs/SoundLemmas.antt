@@ -31,11 +31,6 @@ module _ (image : Image) (s : Statement) (slots : ℕ) (h : History) (k : ℕ) (
     content = subst (λ (v : View). ContentOk slots i.power i.size v h k) (sym (view_of-said image s)) content;
   }
 
-  pub sound_log : Sound slots i h k → LogOk i s.disk (said_of image s) k
-  sound_log sound =
-      let same = Stands-same i sound.disk s.disk sound.said (said_of image s) sound.log.stands stands in
-      subst (λ (x : ℕ). LogOk i x (said_of image s) k) same.0 (subst (λ (said : Said). LogOk i sound.disk said k) same.1 sound.log)
-
   pub sound_content : Sound slots i h k → ContentOk slots i.power i.size (view_at image s) h k
   sound_content sound =
       let same = Stands-same i sound.disk s.disk sound.said (said_of image s) sound.log.stands stands in

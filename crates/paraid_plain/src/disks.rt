@@ -60,9 +60,7 @@ fn is_large(image: &Image, says: &Statement, disk: DiskNo) -> bool
     ensures { IsTrue result
         ↔ IsLarge (disks_of image.now) says.now.meta (out_at image.now says.now) disk }
 {
-    !image.is_present(disk)
-        || is_out_disk(image, says, disk)
-        || has_room(image, says, disk)
+    !image.is_present(disk) || is_out_disk(image, says, disk) || has_room(image, says, disk)
 }
 
 /// Whether a disk has as many blocks as each disk of the array needs.

@@ -89,14 +89,7 @@ fn are_copied_of(image: &Image, says: &Statement, gear: u8, at: u32, row: Row) -
     true
 }
 
-fn is_copied(
-    image: &Image,
-    says: &Statement,
-    gear: u8,
-    at: u32,
-    row: Row,
-    disk: DiskNo,
-) -> bool
+fn is_copied(image: &Image, says: &Statement, gear: u8, at: u32, row: Row, disk: DiskNo) -> bool
     requires gear { IsGear says.now.meta.setup.geometry gear }
     requires stripe { at < stripe_count says.now.meta.setup.geometry.disks
         says.now.meta.setup.geometry.rows gear }

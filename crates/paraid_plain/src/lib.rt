@@ -23,6 +23,8 @@ mod sound;
 mod standing;
 mod statement;
 mod stripes;
+#[cfg(test)]
+mod tests;
 mod value;
 mod view;
 

@@ -111,7 +111,11 @@ fn are_targets_spinning(image: &Image, says: &Statement) -> bool
     ensures { IsTrue result ↔ AreTargetsSpinning (disks_of image.now).power
         (said_of image.now says.now) (out_at image.now says.now) }
 {
-    are_spinning_on(image, says, &says.targets.list[..says.targets.count as usize])
+    are_spinning_on(
+        image,
+        says,
+        &says.targets.list[..says.targets.count as usize],
+    )
 }
 
 fn are_spinning_on(image: &Image, says: &Statement, targets: &[Target]) -> bool

@@ -33,7 +33,10 @@ fn are_mirrors(image: &Image, says: &Statement) -> bool
         → block_at image.now says.now 0 (100 + j) ≡ block_at image.now says.now 1 (100 + j)) }
 {
     for at in 0..says.meta.setup.geometry.map_blocks() {
-        if !is_same_block(&content(image, says, 0, 100 + at), &content(image, says, 1, 100 + at)) {
+        if !is_same_block(
+            &content(image, says, 0, 100 + at),
+            &content(image, says, 1, 100 + at),
+        ) {
             return false;
         }
     }

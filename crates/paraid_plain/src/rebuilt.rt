@@ -50,13 +50,7 @@ fn are_rows_rebuilt(image: &Image, says: &Statement, disk: DiskNo, rebuilt: u32)
     true
 }
 
-fn is_row_rebuilt(
-    image: &Image,
-    says: &Statement,
-    disk: DiskNo,
-    rebuilt: u32,
-    row: Row,
-) -> bool
+fn is_row_rebuilt(image: &Image, says: &Statement, disk: DiskNo, rebuilt: u32, row: Row) -> bool
     requires disk { disk < says.now.meta.setup.geometry.disks }
     requires row { row < says.now.meta.setup.geometry.rows }
     ensures { IsTrue result ↔ IsRowRebuilt (view_at image.now says.now) disk rebuilt row }
@@ -96,13 +90,7 @@ fn stripe_units(says: &Statement, disk: DiskNo) -> u32
     }
 }
 
-fn is_stripe_rebuilt(
-    image: &Image,
-    says: &Statement,
-    disk: DiskNo,
-    rebuilt: u32,
-    at: u32,
-) -> bool
+fn is_stripe_rebuilt(image: &Image, says: &Statement, disk: DiskNo, rebuilt: u32, at: u32) -> bool
     requires { at < stripe_count says.now.meta.setup.geometry.disks
         says.now.meta.setup.geometry.rows says.now.meta.gear }
     ensures { IsTrue result ↔ IsStripeRebuilt (view_at image.now says.now) disk rebuilt at }

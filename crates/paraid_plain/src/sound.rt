@@ -32,12 +32,7 @@ pub fn is_sound(image: &Image, history: &[(BlockNo, Block)], writes: u64) -> boo
 }
 
 /// What is asked of the blocks past the log and of the disks.
-fn is_content_ok(
-    image: &Image,
-    says: &Statement,
-    history: &[(BlockNo, Block)],
-    writes: u64,
-) -> bool
+fn is_content_ok(image: &Image, says: &Statement, history: &[(BlockNo, Block)], writes: u64) -> bool
     ensures { IsTrue result ↔ ContentOk (length image.now.slots.items) (disks_of image.now).power
         (disks_of image.now).size (view_at image.now says.now) history.now writes }
 {
