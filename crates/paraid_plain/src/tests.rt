@@ -12,7 +12,7 @@ use paraid_record::{Meta, Mode, Setup, write_meta};
 use std::alloc::Global;
 
 /// The bytes of the meta before its zeros, by hand from the layout of the block.
-const META: [u8; 112] = [
+pub const META: [u8; 112] = [
     0x50, 0x41, 0x52, 0x41, 0x49, 0x44, 0x41, 0x52, 0x00, 0x01, 0x05, 0x02, 0x04, 0x05, 0x00, 0x00,
     0x00, 0x00, 0x00, 0x00, 0x00, 0x00, 0x00, 0x05, 0x00, 0x00, 0x00, 0x01, 0x00, 0x00, 0x00, 0x64,
     0x50, 0x3c, 0x00, 0x01, 0x03, 0xe8, 0x00, 0x00, 0x00, 0x00, 0x00, 0x64, 0x00, 0x00, 0x00, 0x00,
@@ -65,7 +65,7 @@ enum Change {
 use Change::{Byte, Fill, Log, MetaByte, Nothing, Powered, Short};
 
 /// A block of these bytes and then zeros.
-fn block_with(bytes: &[u8]) -> Block {
+pub fn block_with(bytes: &[u8]) -> Block {
     let mut block = Block::zero();
     for at in 0..bytes.len() {
         if at < 512 {
@@ -75,7 +75,7 @@ fn block_with(bytes: &[u8]) -> Block {
     block
 }
 
-fn filled_with(byte: u8) -> Block {
+pub fn filled_with(byte: u8) -> Block {
     Block::from_array([byte; 512])
 }
 

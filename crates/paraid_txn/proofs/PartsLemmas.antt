@@ -1,8 +1,7 @@
 -- The calls of a commit, from stage to stage, whole at each moment.
-use Rattle.std.specs.Prelude.{◌≡◌, ◌≢◌, ℕ, ◌+◌, ◌<◌, ◌≤◌, Bool, true, false, length, get_or, Option, Some}
+use Rattle.std.specs.Prelude.{◌≡◌, ℕ, ◌+◌, ◌<◌, ◌≤◌, Bool, true, false, length, Option, Some}
 use Rattle.std.proofs.Common.{refl, sym, ap, subst}
 use Rattle.paraid_base.specs.declared.block.Block.{Block}
-use Rattle.paraid_base.specs.Xor.{zeroed}
 use Rattle.paraid_rack.specs.declared.call.Call.{Call}
 use Rattle.paraid_rack.specs.declared.call.Call.TheVariants.{Sync, Write}
 use Rattle.paraid_rack.specs.Disks.{Disks}
@@ -16,7 +15,7 @@ use Rattle.paraid_txn.specs.Sides.{is_open}
 use Rattle.paraid_txn.specs.Stages.{Close, CloseIn, IsSpelled, Job, LayIn, Log, LogIn, LogMeta, Mark, MarkIn, Open, OpenIn, SettleIn, Whole, body, gone, named}
 use Rattle.paraid_txn.specs.Staging.{names_disk}
 use Rattle.paraid_txn.proofs.PutsLemmas.{put_ran, settle_ran}
-use Rattle.paraid_txn.proofs.StepsLemmas.{close_sync, close_write, lay_end, lay_one, log_block, log_end, log_list, log_meta, log_sync, mark_end, mark_sync, mark_write, open_end, open_sync, open_write, settle_end, settle_none, settle_one}
+use Rattle.paraid_txn.proofs.StepsLemmas.{close_sync, close_write, lay_one, log_block, log_list, log_meta, log_sync, mark_sync, mark_write, open_sync, open_write, settle_none, settle_one}
 use Rattle.paraid_txn.proofs.TargetsLemmas.{names-no_disk, target_at}
 use Rattle.paraid_txn.proofs.WholeLemmas.{closing_whole, laying_whole, logging_whole, marking_whole, opening_whole}
 

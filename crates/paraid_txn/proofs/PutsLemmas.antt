@@ -1,6 +1,6 @@
 -- A write or a sync of a commit: done, failed, or left out where the disk is skipped or absent.
-use Rattle.std.specs.Prelude.{◌≡◌, ◌≢◌, ◌⊎◌, ℕ, Bool, Option, Some, None}
-use Rattle.std.proofs.Common.{refl, sym, ap, subst, ◌∙◌, inl, inr}
+use Rattle.std.specs.Prelude.{◌≡◌, ◌≢◌, ◌⊎◌, ℕ, Option, Some, None}
+use Rattle.std.proofs.Common.{sym, ap, subst, ◌∙◌, inl, inr}
 use Rattle.std.proofs.lemmas.Bool.{cases_eq}
 use Rattle.paraid_base.specs.declared.block.Block.{Block}
 use Rattle.paraid_rack.specs.declared.call.Power.TheVariants.{Absent}

@@ -1,20 +1,16 @@
 -- From stage to stage of a commit.
-use Rattle.std.specs.Prelude.{◌≡◌, ◌≢◌, ◌⊎◌, ℕ, ◌+◌, ◌<◌, ◌≤◌, ◌==◌, ◌&&◌, ◌||◌, Bool, true, false, [], ◌∷◌, length, take, get_or, Option, Some, if◌then◌else◌}
-use Rattle.std.proofs.Common.{zero, suc, refl, sym, ap, subst, ◌∙◌, inl, inr, ⊎_elim, arith, below_more}
-use Rattle.std.proofs.lemmas.Bool.{and_from, cases_Bool, cases_eq, cases_lt, eq-eqb, eqb-true, and_parts, false≢true}
+use Rattle.std.specs.Prelude.{◌≡◌, ◌≢◌, ◌⊎◌, ℕ, ◌+◌, ◌<◌, ◌≤◌, true, false, length, Option, Some}
+use Rattle.std.proofs.Common.{refl, sym, ap, subst, ◌∙◌, inl, inr, ⊎_elim, arith, below_more}
+use Rattle.std.proofs.lemmas.Bool.{cases_eq, cases_lt, false≢true}
 use Rattle.std.proofs.lemmas.List.{take_all}
 use Rattle.paraid_base.specs.declared.block.Block.{Block}
-use Rattle.paraid_base.specs.Xor.{zeroed}
 use Rattle.paraid_rack.specs.Atoms.{Seen, Sure}
-use Rattle.paraid_rack.specs.Disks.{Disks, IsPresent}
+use Rattle.paraid_rack.specs.Disks.{Disks}
 use Rattle.paraid_rack.proofs.AtomsLemmas.{seen_sure}
 use Rattle.paraid_rack.proofs.EffectsLemmas.{Keeps, dry_sure}
-use Rattle.paraid_record.specs.declared.targets.Target.{Target}
-use Rattle.paraid_record.specs.Targets.{no_target}
 use Rattle.paraid_txn.specs.Neutral.{names}
-use Rattle.paraid_txn.specs.Sides.{Batch, is_open, targets}
-use Rattle.paraid_txn.specs.Staging.{blocks}
-use Rattle.paraid_txn.specs.Stages.{AllDry, Close, CloseIn, Dry, DryBut, Is, IsAside, IsBeside, IsIn, IsKept, IsLive, IsSpelled, Job, Laid, LayIn, Laying, Log, LogIn, LogMeta, Logged, Logging, Mark, MarkIn, OldMetas, Open, OpenIn, Opened, SettleIn, Shut, Untouched, becomes, body, gone, named, was}
+use Rattle.paraid_txn.specs.Sides.{Batch, is_open}
+use Rattle.paraid_txn.specs.Stages.{AllDry, Close, CloseIn, Dry, DryBut, Is, IsBeside, IsIn, IsKept, IsLive, IsSpelled, Job, Laid, LayIn, Laying, Log, LogIn, LogMeta, Logged, Logging, Mark, MarkIn, Open, OpenIn, Opened, SettleIn, Shut, Untouched, body, gone, named, was}
 use Rattle.paraid_txn.specs.Standing.{laid}
 use Rattle.paraid_txn.proofs.PutsLemmas.{Puts, Settles, skips}
 use Rattle.paraid_txn.proofs.NeutralLemmas.{length-targets}

@@ -44,3 +44,14 @@ returns-in_err-close_gate-2-clause-two g c =
     let marked = Lasts-then _ _ _ _ _ _ c.mark.ensures.lasts c.mark-2.ensures.lasts in
     let before = Lasts-then _ _ _ _ _ _ marked c.close_gate.ensures.lasts in
     IfErr-two-later _ _ _ _ _ _ _ _ c.from_residual-in_err-close_gate-2.ensures.1 before c.close_gate-2.ensures.lasts c.in_err-close_gate-2.ensures.two
+
+pub returns-in_err-close_gate-2-clause-lasts : goal.returns-in_err-close_gate-2-clause-lasts
+returns-in_err-close_gate-2-clause-lasts g c =
+    let marked = Lasts-then _ _ _ _ _ _ c.mark.ensures.lasts c.mark-2.ensures.lasts in
+    let before = Lasts-then _ _ _ _ _ _ marked c.close_gate.ensures.lasts in
+    Lasts-then _ _ _ _ _ _ before c.close_gate-2.ensures.lasts
+
+pub returns-in_err-close_gate-clause-two : goal.returns-in_err-close_gate-clause-two
+returns-in_err-close_gate-clause-two g c =
+    let marked = Lasts-then _ _ _ _ _ _ c.mark.ensures.lasts c.mark-2.ensures.lasts in
+    IfErr-two-later _ _ _ _ _ _ _ _ c.from_residual-in_err-close_gate.ensures.1 marked c.close_gate.ensures.lasts c.in_err-close_gate.ensures.two

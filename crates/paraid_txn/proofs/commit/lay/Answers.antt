@@ -96,3 +96,6 @@ returns-clause-done g c j good is same =
     let all : c.loop-at.at ≡ length c.args.batch.now = omega arith in
     subst (λ (n : ℕ). Ran (g.R.Rack.told c.args.rack.now) (g.R.Rack.told c.loop-at.rack) (Runs (Whole j) (LayIn j 0) (LayIn j n)))
     all (c.loop-at.invariant.ran j good is same)
+
+pub returns-in_err-put-clause-lasts : goal.returns-in_err-put-clause-lasts
+returns-in_err-put-clause-lasts g c = Lasts-then _ _ _ _ _ _ c.loop-at.invariant.lasts c.put.ensures.lasts

@@ -1,5 +1,4 @@
-use Rattle.std.proofs.Common.{◌≡◌, length, arith, refl, sym, Option}
-use Rattle.paraid_txn.specs.Stages.{job}
+use Rattle.std.proofs.Common.{arith, refl, sym}
 use Rattle.paraid_txn.proofs.NeutralLemmas.{length-targets}
 use Rattle.paraid_txn.proofs.PartsLemmas.{andthen}
 use Rattle.paraid_txn.proofs.ReadyLemmas.{log_stays_ready}
@@ -52,3 +51,14 @@ returns-in_err-finish-clause-two g c =
     let logged = Lasts-then _ _ _ _ _ _ c.write_logs.ensures.lasts c.open_gates.ensures.lasts in
     let before = Lasts-then _ _ _ _ _ _ logged c.lay_all.ensures.lasts in
     IfErr-two-later _ _ _ _ _ _ _ _ c.from_residual-in_err-finish.ensures.1 before c.finish.ensures.lasts c.in_err-finish.ensures.two
+
+pub returns-in_err-finish-clause-lasts : goal.returns-in_err-finish-clause-lasts
+returns-in_err-finish-clause-lasts g c =
+    let logged = Lasts-then _ _ _ _ _ _ c.write_logs.ensures.lasts c.open_gates.ensures.lasts in
+    let before = Lasts-then _ _ _ _ _ _ logged c.lay_all.ensures.lasts in
+    Lasts-then _ _ _ _ _ _ before c.finish.ensures.lasts
+
+pub returns-in_err-lay_all-clause-two : goal.returns-in_err-lay_all-clause-two
+returns-in_err-lay_all-clause-two g c =
+    let logged = Lasts-then _ _ _ _ _ _ c.write_logs.ensures.lasts c.open_gates.ensures.lasts in
+    IfErr-two-later _ _ _ _ _ _ _ _ c.from_residual-in_err-lay_all.ensures.1 logged c.lay_all.ensures.lasts c.in_err-lay_all.ensures.two

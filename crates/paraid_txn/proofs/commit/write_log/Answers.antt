@@ -2,10 +2,9 @@ use Rattle.std.specs.Prelude.{◌≡◌, ◌≢◌, ℕ, ◌+◌, length, Some}
 use Rattle.std.proofs.Common.{ap, arith}
 use Rattle.paraid_rack.specs.Told.{Ran, Runs}
 use Rattle.paraid_txn.specs.Stages.{IsSpelled, Job, Log, LogIn, LogMeta, Whole, named}
-use Rattle.paraid_txn.proofs.DownLemmas.{AreDry-settled, AreDryBut-both, Lasts-then}
+use Rattle.paraid_txn.proofs.DownLemmas.{AreDry-settled, AreDryBut-both, IfErr-two-later, Lasts-then}
 use Rattle.paraid_txn.proofs.PartsLemmas.{andthen, ends, log_in_whole, log_list_ran, log_meta_ran, log_meta_whole, log_sync_ran, log_whole}
 use Rattle.paraid_txn.proofs.ReadyLemmas.{log_can}
-use Rattle.paraid_txn.proofs.DownLemmas.{IfErr-two-later, Lasts-then}
 use Rattle.paraid_txn.proofs.commit.write_log.Given.{Over}
 use Rattle.paraid_txn.proofs.commit.write_log.Goals as goal
 use Rattle.paraid_txn.proofs.commit.write_log.Goals.{After-put, After-put-2, After-put_blocks, After-settle}
@@ -82,3 +81,14 @@ returns-in_err-settle-clause-two g c =
     let heads = Lasts-then _ _ _ _ _ _ c.put.ensures.lasts c.put-2.ensures.lasts in
     let before = Lasts-then _ _ _ _ _ _ heads c.put_blocks.ensures.lasts in
     IfErr-two-later _ _ _ _ _ _ _ _ c.from_residual-in_err-settle.ensures.1 before c.settle.ensures.lasts c.in_err-settle.ensures.two
+
+pub returns-in_err-settle-clause-lasts : goal.returns-in_err-settle-clause-lasts
+returns-in_err-settle-clause-lasts g c =
+    let heads = Lasts-then _ _ _ _ _ _ c.put.ensures.lasts c.put-2.ensures.lasts in
+    let before = Lasts-then _ _ _ _ _ _ heads c.put_blocks.ensures.lasts in
+    Lasts-then _ _ _ _ _ _ before c.settle.ensures.lasts
+
+pub returns-in_err-put_blocks-clause-two : goal.returns-in_err-put_blocks-clause-two
+returns-in_err-put_blocks-clause-two g c =
+    let heads = Lasts-then _ _ _ _ _ _ c.put.ensures.lasts c.put-2.ensures.lasts in
+    IfErr-two-later _ _ _ _ _ _ _ _ c.from_residual-in_err-put_blocks.ensures.1 heads c.put_blocks.ensures.lasts c.in_err-put_blocks.ensures.two
