@@ -1,29 +1,27 @@
 -- The promise of a commit, from its stages.
-use Rattle.std.specs.Prelude.{◌≡◌, ◌≢◌, ◌⊎◌, ℕ, ◌+◌, ◌-◌, ◌<◌, ◌≤◌, Bool, true, false, List, [], Option, Some, None, Contains}
-use Rattle.std.proofs.Common.{refl, sym, ◌∙◌, ap, subst, arith, inl, inr, ⊎_elim}
+use Rattle.std.specs.Prelude.{◌≡◌, ◌≢◌, ◌⊎◌, ℕ, ◌<◌, ◌≤◌, Bool, false, Option, Some, None}
+use Rattle.std.proofs.Common.{refl, sym, ◌∙◌, ap, subst, arith, inl, inr}
 use Rattle.std.proofs.lemmas.Bool.{cases_Bool, cases_eq, false≢true}
-use Rattle.paraid_base.specs.declared.block.Block.{Block}
 use Rattle.paraid_rack.specs.declared.call.Power.{Power}
-use Rattle.paraid_rack.specs.declared.call.Power.TheVariants.{Spinning, Absent}
-use Rattle.paraid_rack.specs.Atoms.{IsLeft, Sure}
-use Rattle.paraid_rack.specs.Disks.{Disks, IsImage, IsPresent, is_present, lose, with_at}
+use Rattle.paraid_rack.specs.declared.call.Power.TheVariants.{Absent}
+use Rattle.paraid_rack.specs.Atoms.{IsLeft}
+use Rattle.paraid_rack.specs.Disks.{Disks, IsPresent, is_present, lose}
 use Rattle.paraid_rack.proofs.AtomsLemmas.{at_use, image_left, lost_left, with_at_other, with_at_same}
 use Rattle.paraid_record.specs.declared.meta.Meta.{Meta}
-use Rattle.paraid_record.specs.declared.targets.Target.{Target}
 use Rattle.paraid_record.specs.Range.{IsInRange}
-use Rattle.paraid_txn.specs.Commit.{AreShut, IsAtRest, IsCommitted, IsDrained, IsEachImage, IsEitherMissing, IsNext, IsOneMissing, StandsFor, StandsForEither, closed_over, gone_out}
+use Rattle.paraid_txn.specs.Commit.{AreShut, IsAtRest, IsCommitted, IsDrained, IsEachImage, IsEitherMissing, IsOneMissing, StandsFor, StandsForEither, closed_over}
 use Rattle.paraid_txn.specs.Out.{IsMissing, IsWeak, first_absent, named_out, or_else, out_disk}
 use Rattle.paraid_txn.specs.Out.IsWeak.{out as out_weak, named as named_weak}
 use Rattle.paraid_txn.specs.Sides.{Said, Says, SaysBy, is_open, stored}
 use Rattle.paraid_txn.specs.Sound.{LogOk}
-use Rattle.paraid_txn.specs.Stages.{Close, Closing, Early, IsKept, IsLive, IsSpelled, Job, Late, Log, Whole, named, open_with}
+use Rattle.paraid_txn.specs.Stages.{Close, Early, IsKept, IsLive, Job, Late, Log, Whole, named, open_with}
 use Rattle.paraid_txn.specs.Standing.{Stands, other_log}
 use Rattle.paraid_txn.proofs.OutLemmas.{first_absent_finds, first_absent_is, named_below}
 use Rattle.paraid_txn.proofs.SidesLemmas.{Says-same}
-use Rattle.paraid_txn.proofs.SpokenLemmas.{IsBegun, before_in_range, other_other, stands_alone, stored_start}
+use Rattle.paraid_txn.proofs.SpokenLemmas.{IsBegun, before_in_range, stands_alone}
 use Rattle.paraid_txn.proofs.StandsForLemmas.{aside_old, early_for_new, early_for_old, early_stands, late_for, late_stands}
 use Rattle.paraid_txn.proofs.StepLemmas.{decide_some, out_named, says_of_lost}
-use Rattle.paraid_txn.proofs.WholeLemmas.{closing_late, closing_whole, left_kept, stored_here}
+use Rattle.paraid_txn.proofs.WholeLemmas.{closing_late, closing_whole, stored_here}
 
 -- the out disk is missing
 out_missing : (power : ℕ → Power) (m : Meta) (w : ℕ) → IsInRange m → out_disk power m ≡ Some w → IsMissing power m w

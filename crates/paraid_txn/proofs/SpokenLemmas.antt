@@ -1,6 +1,6 @@
 -- What the log disks say while a commit goes on.
-use Rattle.std.specs.Prelude.{◌≡◌, ◌≢◌, ◌⊎◌, ℕ, ◌+◌, ◌-◌, ◌<◌, ◌≤◌, ◌==◌, ◌&&◌, ◌||◌, nat_lt, Bool, true, false, not, List, [], Option, Some, None, Contains, if◌then◌else◌}
-use Rattle.std.proofs.Common.{refl, sym, ◌∙◌, ap, subst, arith, inl, inr, ⊎_elim, zero, suc}
+use Rattle.std.specs.Prelude.{◌≡◌, ◌≢◌, ◌⊎◌, ℕ, ◌<◌, ◌≤◌, ◌==◌, ◌&&◌, ◌||◌, nat_lt, Bool, true, false, not, Option, Some, None, Contains, if◌then◌else◌}
+use Rattle.std.proofs.Common.{refl, sym, ◌∙◌, ap, subst, arith, inl, inr, zero, suc}
 use Rattle.std.proofs.lemmas.Bool.{cases_Bool, cases_eq, false≢true}
 use Rattle.std.proofs.lemmas.Bool.Decides.{nat_tests}
 use Rattle.paraid_base.specs.declared.block.Block.{Block}
@@ -11,15 +11,12 @@ use Rattle.paraid_rack.specs.Disks.{Disks, IsPresent, is_present}
 use Rattle.paraid_record.specs.declared.meta.Meta.{Meta}
 use Rattle.paraid_record.specs.declared.targets.Target.{Target}
 use Rattle.paraid_record.specs.Range.{IsInRange}
-use Rattle.paraid_record.specs.Targets.{AreTargets}
-use Rattle.paraid_txn.specs.Commit.{AreShut, IsAtRest, IsNext, closed_over, gone_out}
+use Rattle.paraid_txn.specs.Commit.{IsAtRest, IsNext, closed_over}
 use Rattle.paraid_txn.specs.Out.{first_absent, named_out, or_else, out_disk}
-use Rattle.paraid_txn.specs.Sides.{Said, Says, SaysBy, Spells, has_place, is_open, stored, targets}
-use Rattle.paraid_txn.specs.Sound.{LogOk}
-use Rattle.paraid_txn.specs.Stages.{Early, IsKept, IsLive, IsSpelled, Job, gone, named, open_with}
+use Rattle.paraid_txn.specs.Sides.{Said, Says, Spells, has_place, is_open, stored, targets}
+use Rattle.paraid_txn.specs.Stages.{IsKept, IsLive, IsSpelled, Job, gone}
 use Rattle.paraid_txn.specs.Standing.{Stands, is_first, other_log, stands_before}
 use Rattle.paraid_txn.proofs.NeutralLemmas.{SaysBy-kept, few_logged}
-use Rattle.paraid_txn.proofs.OpenLemmas.{greater_before}
 use Rattle.paraid_txn.proofs.OutLemmas.{first_absent_is}
 use Rattle.paraid_txn.proofs.SidesLemmas.{Says-same}
 use Rattle.paraid_txn.proofs.UnseenLemmas.{pair_same}

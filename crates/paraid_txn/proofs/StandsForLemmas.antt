@@ -1,13 +1,11 @@
 -- What an image stands for while a commit goes on.
-use Rattle.std.specs.Prelude.{◌≡◌, ◌≢◌, ◌⊎◌, ℕ, ◌+◌, ◌-◌, ◌<◌, ◌≤◌, ◌==◌, ◌&&◌, ◌||◌, nat_lt, Bool, true, false, not, List, [], Option, Some, None, Contains, length, slice_index_or, if◌then◌else◌}
-use Rattle.std.proofs.Common.{refl, sym, ◌∙◌, ap, subst, arith, inl, inr, ⊎_elim, zero, suc}
-use Rattle.std.proofs.lemmas.Bool.{cases_Bool, cases_eq, false≢true}
+use Rattle.std.specs.Prelude.{◌≡◌, ◌≢◌, ◌⊎◌, ℕ, ◌+◌, ◌<◌, ◌≤◌, ◌&&◌, nat_lt, Bool, true, false, not, List, [], Some, Contains, length, slice_index_or, if◌then◌else◌}
+use Rattle.std.proofs.Common.{refl, sym, ◌∙◌, ap, subst, arith, inl, inr}
+use Rattle.std.proofs.lemmas.Bool.{cases_Bool, false≢true}
 use Rattle.std.proofs.lemmas.Bool.Decides.{nat_tests}
-use Rattle.paraid_base.specs.declared.block.Block.{Block}
 use Rattle.paraid_base.specs.declared.state.Out.{Out}
 use Rattle.paraid_base.specs.declared.state.Out.TheVariants.{No, Gone, Fresh}
 use Rattle.paraid_base.specs.Xor.{zeroed}
-use Rattle.paraid_rack.specs.declared.call.Power.{Power}
 use Rattle.paraid_rack.specs.declared.call.Power.TheVariants.{Spinning}
 use Rattle.paraid_rack.specs.Disks.{Disks, IsPresent, is_present}
 use Rattle.paraid_record.specs.declared.meta.Meta.{Meta}
@@ -19,7 +17,7 @@ use Rattle.paraid_txn.specs.Out.{IsMissing, named_out, out_disk}
 use Rattle.paraid_txn.specs.Sides.{Batch, Said, Says, has_place, is_open, stored, targets}
 use Rattle.paraid_txn.specs.Sound.{IsAhead, IsDone, IsFresh, LogOk, Pairing}
 use Rattle.paraid_txn.specs.Sound.Pairing.{alike, first_ahead, second_ahead, first_done, second_done}
-use Rattle.paraid_txn.specs.Stages.{Early, IsKept, IsLive, IsSpelled, Job, Late, gone, named, open_with}
+use Rattle.paraid_txn.specs.Stages.{Early, IsKept, IsLive, Job, Late, gone, named, open_with}
 use Rattle.paraid_txn.specs.Standing.{Stands, contents, laid, other_log, stands_before}
 use Rattle.paraid_txn.proofs.OpenLemmas.{greater_before}
 use Rattle.paraid_txn.proofs.OutLemmas.{missing_is_out}

@@ -1,8 +1,7 @@
 -- The promise of a commit of a store, by the moments of its record.
-use Rattle.std.specs.Prelude.{◌≡◌, ◌≢◌, ℕ, ◌+◌, ◌-◌, ◌^◌, ◌<◌, ◌≤◌, true, Option, Some, All, Contains}
-use Rattle.std.proofs.Common.{refl, sym, ◌∙◌, ap, subst, arith}
+use Rattle.std.specs.Prelude.{◌≡◌, ◌≢◌, ℕ, ◌+◌, ◌-◌, ◌^◌, ◌<◌, ◌≤◌, Option, Some, Contains}
+use Rattle.std.proofs.Common.{sym, ◌∙◌, ap, arith}
 use Rattle.paraid_base.specs.declared.block.Block.{Block}
-use Rattle.paraid_rack.specs.declared.call.Power.{Power}
 use Rattle.paraid_rack.specs.declared.call.Power.TheVariants.{Spinning}
 use Rattle.paraid_rack.specs.Disks.{Disks, IsPresent, is_present}
 use Rattle.paraid_rack.specs.Slots.{Agrees, Slot}
@@ -17,7 +16,7 @@ use Rattle.paraid_txn.specs.Losses.{CanWrite}
 use Rattle.paraid_txn.specs.Out.{named_out}
 use Rattle.paraid_txn.specs.Ready.{AreTargetsReady, IsLogReady}
 use Rattle.paraid_txn.specs.Sides.{Batch, targets}
-use Rattle.paraid_txn.specs.Stages.{Close, IsLive, IsSpelled, Job, Log, Whole, job}
+use Rattle.paraid_txn.specs.Stages.{Close, IsSpelled, Job, Log, Whole, job}
 use Rattle.paraid_txn.proofs.CommitLemmas.{is_committed, start_log, whole_images}
 use Rattle.paraid_txn.proofs.SpokenLemmas.{IsBegun}
 use Rattle.paraid_txn.proofs.StandsForLemmas.{all_contained}

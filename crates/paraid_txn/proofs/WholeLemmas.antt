@@ -1,19 +1,18 @@
 -- Each stage of a commit leaves the old contents or the new ones.
-use Rattle.std.specs.Prelude.{◌≡◌, ◌≢◌, ◌⊎◌, ℕ, ◌+◌, ◌<◌, ◌≤◌, ◌==◌, ◌&&◌, ◌||◌, nat_lt, Bool, true, false, List, [], ◌∷◌, length, get_or, if◌then◌else◌, Some}
-use Rattle.std.proofs.Common.{refl, sym, ◌∙◌, ap, subst, arith, inl, inr, zero, suc}
+use Rattle.std.specs.Prelude.{◌≡◌, ℕ, ◌+◌, ◌<◌, ◌≤◌, ◌==◌, ◌&&◌, nat_lt, Bool, true, false, [], ◌∷◌, length, get_or, if◌then◌else◌, Some}
+use Rattle.std.proofs.Common.{refl, sym, ◌∙◌, ap, subst, arith, inl, inr, suc}
 use Rattle.std.proofs.lemmas.Bool.{cases_Bool, false≢true, and_from, lt-ltb, or_parts}
 use Rattle.paraid_base.specs.declared.block.Block.{Block}
 use Rattle.paraid_base.specs.Xor.{zeroed}
-use Rattle.paraid_rack.specs.Atoms.{IsLeft, Seen, Sure}
+use Rattle.paraid_rack.specs.Atoms.{IsLeft, Sure}
 use Rattle.paraid_rack.specs.Disks.{Disks, IsPresent, is_present}
 use Rattle.paraid_rack.proofs.AtomsLemmas.{left_sure}
-use Rattle.paraid_record.specs.declared.targets.Target.{Target}
 use Rattle.paraid_txn.specs.Commit.{closed_over}
 use Rattle.paraid_txn.specs.Neutral.{names}
-use Rattle.paraid_txn.specs.Sides.{AreLogged, Batch, Says, SaysBy, Spells, has_place, is_open, stored}
+use Rattle.paraid_txn.specs.Sides.{AreLogged, Batch, Says, Spells, is_open, stored}
 use Rattle.paraid_txn.specs.Staging.{blocks}
 use Rattle.paraid_txn.specs.Standing.{laid}
-use Rattle.paraid_txn.specs.Stages.{Closing, Early, Is, IsBeside, IsIn, IsKept, IsLive, IsSpelled, Job, Laid, Late, Laying, Logged, Logging, Marking, Opening, Untouched, Whole, becomes, body, named, open_with, was}
+use Rattle.paraid_txn.specs.Stages.{Closing, Is, IsBeside, IsKept, IsLive, IsSpelled, Job, Late, Laying, Logged, Logging, Marking, Opening, Whole, named, open_with, was}
 use Rattle.paraid_txn.proofs.NeutralLemmas.{laid-named, length-targets}
 
 -- where no target is, the batch lays nothing

@@ -1,5 +1,4 @@
 use Rattle.std.proofs.Common.{ℕ, ◌<◌, get_or}
-use Rattle.paraid_record.specs.declared.targets.Target.{Target as TargetType}
 use Rattle.paraid_record.specs.Targets.{IsTargetInRange, no_target}
 use Rattle.paraid_txn.specs.Sides.{targets}
 use Rattle.paraid_txn.proofs.ready.are_in_range.Given as goal

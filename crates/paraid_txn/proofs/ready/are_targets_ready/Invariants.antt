@@ -1,5 +1,4 @@
 use Rattle.std.proofs.Common.{◌≢◌, ℕ, ◌<◌, get_or, Some}
-use Rattle.paraid_record.specs.declared.targets.Target.{Target as TargetType}
 use Rattle.paraid_record.specs.Targets.{no_target}
 use Rattle.paraid_txn.specs.Losses.{CanWrite}
 use Rattle.paraid_txn.specs.Sides.{targets}

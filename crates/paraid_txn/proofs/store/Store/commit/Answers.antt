@@ -1,4 +1,4 @@
-use Rattle.std.proofs.Common.{◌≡◌, ◌+◌}
+use Rattle.std.proofs.Common.{◌+◌}
 use Rattle.paraid_rack.specs.Disks.{Disks}
 use Rattle.paraid_txn.specs.Stages.{IsSpelled, job}
 use Rattle.paraid_txn.proofs.StoreLemmas.{commits, next_in_range, start_ready, whole_or_absent}
