@@ -1,5 +1,5 @@
 //! An image of the disks in memory: for each slot its power and its blocks.
-ghost use Rattle.std.specs.Prelude.{◌≡◌, ◌≢◌, ℕ, ◌<◌, ◌↔◌, ◌++◌, [], ◌∷◌, true, false, length, slice_set, replicate, map, OnOk, IfOk, IsTrue};
+ghost use Rattle.std.specs.Prelude.{◌≡◌, ◌≢◌, ℕ, ◌<◌, ◌↔◌, ◌++◌, [], ◌∷◌, true, false, length, slice_set, replicate, map, OnOk, OnErr, IfOk, IsTrue};
 ghost use Rattle.paraid_base.specs.declared.block.Block.{Block as BlockType};
 ghost use Rattle.paraid_base.specs.Xor.{zeroed};
 ghost use Rattle.paraid_rack.specs.Disks.{is_present, with_at};
@@ -37,9 +37,10 @@ impl Image {
 
     /// One more slot, with a disk of so many blocks of zeros.
     pub fn add(&mut self, alloc: Global, power: Power, size: u32) -> Result<(), NoMemory>
-        ensures { OnOk result (map beginning_of self.new.slots.items
+        ensures done { OnOk result (map beginning_of self.new.slots.items
             ≡ map beginning_of self.old.slots.items
             ++ record { power = power; blocks = replicate size zeroed } ∷ []) }
+        ensures failed { OnErr result (self.new.slots.items ≡ self.old.slots.items) }
     {
         let blocks = zeros(alloc, size)?;
         let Ok(()) = self.slots.push(ImageSlot { power, blocks }) else {
@@ -102,8 +103,9 @@ impl Image {
     /// Powers a slot otherwise.
     pub fn set_power(&mut self, disk: DiskNo, power: Power)
         requires { disk < length self.old.slots.items }
-        ensures { disks_of self.new
+        ensures disks { disks_of self.new
             ≡ record (disks_of self.old) { power = with_at (disks_of self.old).power disk power } }
+        ensures slots { length self.new.slots.items ≡ length self.old.slots.items }
     {
         self.slots[disk as usize].power = power;
     }
@@ -111,7 +113,8 @@ impl Image {
     /// Changes a block.
     pub fn set_block(&mut self, disk: DiskNo, place: Place, block: &Block)
         requires { place < (disks_of self.old).size disk }
-        ensures { disks_of self.new ≡ overwrite (disks_of self.old) disk place block.now }
+        ensures disks { disks_of self.new ≡ overwrite (disks_of self.old) disk place block.now }
+        ensures slots { length self.new.slots.items ≡ length self.old.slots.items }
     {
         self.slots[disk as usize].blocks[place as usize].copy_from(block);
     }
@@ -120,9 +123,10 @@ impl Image {
     pub fn set_byte(&mut self, disk: DiskNo, place: Place, at: usize, byte: u8)
         requires place { place < (disks_of self.old).size disk }
         requires at { at < 512 }
-        ensures { (b : BlockType)
+        ensures disks { (b : BlockType)
             → b.bytes ≡ slice_set ((disks_of self.old).block disk place).bytes at byte
             → disks_of self.new ≡ overwrite (disks_of self.old) disk place b }
+        ensures slots { length self.new.slots.items ≡ length self.old.slots.items }
     {
         self.slots[disk as usize].blocks[place as usize].set(at, byte);
     }

@@ -12,6 +12,7 @@ mod disks;
 mod filled;
 mod history;
 mod image;
+pub mod laws;
 mod log;
 mod map;
 mod pairing;

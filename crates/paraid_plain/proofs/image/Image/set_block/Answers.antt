@@ -16,8 +16,8 @@ index_mut-requires-2 c =
     let size = size_here slots c.args.disk y exists c.index_mut.ensures.value in
     omega (arith, y.blocks.ok.0, c.requires)
 
-pub returns : goal.returns
-returns c =
+pub returns-clause-disks : goal.returns-clause-disks
+returns-clause-disks c =
     let slots = c.args.self.now.slots.items in
     let exists = slot_exists slots c.args.disk c.args.place c.requires in
     let size = size_here slots c.args.disk c.index_mut.result.now exists c.index_mut.ensures.value in

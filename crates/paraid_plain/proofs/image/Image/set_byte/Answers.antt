@@ -18,8 +18,8 @@ index_mut-requires-2 c =
     let size = size_here slots c.args.disk y exists c.index_mut.ensures.value in
     omega (arith, y.blocks.ok.0, c.requires.place)
 
-pub returns : goal.returns
-returns c = λ b is.
+pub returns-clause-disks : goal.returns-clause-disks
+returns-clause-disks c = λ b is.
     let slots = c.args.self.now.slots.items in
     let exists = slot_exists slots c.args.disk c.args.place c.requires.place in
     let size = size_here slots c.args.disk c.index_mut.result.now exists c.index_mut.ensures.value in
