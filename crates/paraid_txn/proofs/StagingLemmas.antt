@@ -11,6 +11,7 @@ use Rattle.paraid_record.specs.declared.targets.Target.{Target}
 use Rattle.paraid_record.specs.Targets.{no_target}
 use Rattle.paraid_txn.specs.declared.batch.Staged.{Staged}
 use Rattle.paraid_txn.specs.Neutral.{names}
+use Rattle.paraid_txn.proofs.NeutralLemmas.{length-targets}
 use Rattle.paraid_txn.specs.Sides.{Batch, targets}
 use Rattle.paraid_txn.specs.Staging.{blocks, names_disk, with_target}
 use Rattle.paraid_txn.specs.Standing.{laid}
@@ -43,10 +44,6 @@ targets-map (w ∷ b) = ap (λ l. w.0 ∷ l) (targets-map b)
 pub blocks-map : (b : Batch) → blocks b ≡ map (λ w. w.1) b
 blocks-map [] = refl
 blocks-map (w ∷ b) = ap (λ l. w.1 ∷ l) (blocks-map b)
-
-pub length-targets : (b : Batch) → length (targets b) ≡ length b
-length-targets [] = refl
-length-targets (w ∷ b) = ap suc (length-targets b)
 
 pub length-blocks : (b : Batch) → length (blocks b) ≡ length b
 length-blocks [] = refl
