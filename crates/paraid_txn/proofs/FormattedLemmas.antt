@@ -22,6 +22,7 @@ use Rattle.paraid_rack.specs.declared.call.Power.TheVariants.{Spinning, Parked}
 use Rattle.paraid_rack.specs.Disks.{Disks, is_present, lose}
 use Rattle.paraid_record.specs.declared.meta.Meta.{Meta}
 use Rattle.paraid_record.specs.Range.{fill_limit}
+use Rattle.paraid_txn.specs.Commit.{IsAtRest}
 use Rattle.paraid_txn.specs.Formatted.{IsFormatted}
 use Rattle.paraid_txn.specs.HeldAt.{IsHeld, IsSound, MayLose}
 use Rattle.paraid_txn.specs.Out.{IsMissing, IsWeak, first_absent, named_out, or_else, out_disk}
@@ -255,4 +256,12 @@ module _ (slots : ℕ) (s : Disks) (m : Meta) (f : IsFormatted slots s m) where
         let same = image_is s i f.dry e in
         subst (λ (k : Disks). IsSound slots (lose d k) [] 0) (sym same) (lost_sound d (subst (λ (k : Disks). MayLose k d) same may));
     weak = λ i w e weak. absurd (strong w (subst (λ (k : Disks). IsWeak k w) (image_is s i f.dry e) weak));
+  }
+
+  pub IsAtRest-formatted : IsAtRest s m
+  IsAtRest-formatted = record {
+    dry = λ d p here. f.dry d p;
+    disk = 0;
+    log = subst (λ (k : ℕ). LogOk s 0 said k) (sym f.writes) log;
+    shut = λ x l here not. (says x l).gate;
   }

@@ -14,6 +14,7 @@ ghost use Rattle.paraid_rack.specs.Disks.{Disks, IsImage, IsPresent, lose, step}
 ghost use Rattle.paraid_rack.specs.Trail.{Trail, disks, initial};
 ghost use Rattle.paraid_record.specs.declared.meta.Meta.{Meta as MetaType};
 ghost use Rattle.paraid_txn.specs.Close.{IsLaidBelow};
+ghost use Rattle.paraid_txn.specs.Commit.{IsAtRest};
 ghost use Rattle.paraid_txn.specs.Content.{view_of};
 ghost use Rattle.paraid_txn.specs.Course.{Course, IsServing, answered, disk_of, disks_at, is_done, mark};
 ghost use Rattle.paraid_txn.specs.Formatted.{IsFormatted};
@@ -145,6 +146,11 @@ pub fn one_disk_can_be_lost()
 pub fn a_formatted_array_holds_nothing()
     ensures { (slots : ℕ) (s : Disks) (m : MetaType) → IsFormatted slots s m
         → IsHeld slots s [] 0 None }
+{}
+
+/// A formatted array is at rest, so a commit can begin there.
+pub fn a_formatted_array_is_at_rest()
+    ensures { (slots : ℕ) (s : Disks) (m : MetaType) → IsFormatted slots s m → IsAtRest s m }
 {}
 
 /// A disk that is spun up, or parked where no log disk asks that it spins, leaves what is held.
