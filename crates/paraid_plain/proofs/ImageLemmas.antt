@@ -1,5 +1,5 @@
 -- What the slots of an image hold, before and after one of them changes.
-use Rattle.std.proofs.Common.{◌≡◌, ◌≢◌, ℕ, ◌<◌, ◌≤◌, ◌&&◌, nat_lt, Bool, true, false, List, [], length, map, get_or, set, refl, sym, ◌∙◌, ap, inl, inr, arith, if◌then◌else◌}
+use Rattle.std.proofs.Common.{◌≡◌, ◌≢◌, ℕ, ◌<◌, ◌≤◌, ◌&&◌, nat_lt, Bool, true, false, List, [], length, map, get_or, set, refl, sym, ◌∙◌, ap, inl, inr, arith}
 use Rattle.std.proofs.lemmas.Bool.{cases_eq, cases_lt}
 use Rattle.std.proofs.lemmas.Bool.Decides.{nat_tests}
 use Rattle.std.proofs.lemmas.List.{map-set, get_or-set_same, get_or-set_other, length-map, length-set, get_or-map, get_or_default, get_or_past}
@@ -9,7 +9,7 @@ use Rattle.paraid_rack.specs.declared.call.Power.{Power}
 use Rattle.paraid_rack.specs.declared.call.Power.TheVariants.{Absent}
 use Rattle.paraid_rack.specs.Disks.{Disks, is_present, with_at}
 use Rattle.paraid_rack.specs.Trail.{Beginning, beginning, initial}
-use Rattle.paraid_rack.proofs.AtomsLemmas.{at_case, with_at_other, with_at_same}
+use Rattle.paraid_rack.proofs.AtomsLemmas.{at_case}
 use Rattle.paraid_txn.specs.Neutral.{overwrite}
 use Rattle.paraid_txn.specs.Sides.{has_place, stored}
 use Rattle.paraid_plain.specs.declared.image.ImageSlot.{ImageSlot}

@@ -1,9 +1,6 @@
 -- What is equal field by field is equal.
-use Rattle.std.specs.Prelude.{◌≡◌, ℕ, List, Bool, true, IsTrue, ◌↔◌}
+use Rattle.std.specs.Prelude.{◌≡◌, Bool, IsTrue, ◌↔◌}
 use Rattle.std.proofs.Common.{sym, ◌∙◌, ap}
-use Rattle.std.proofs.lemmas.Slice.Eq.{slice_eq-Decides}
-use Rattle.std.specs.Cmp.{unsigned_Decides}
-use Rattle.std.specs.Cmp.Lexicographic.{pointwise}
 use Rattle.paraid_base.specs.declared.block.Block.{Block}
 use Rattle.paraid_base.proofs.XorLemmas.{same_block}
 use Rattle.paraid_record.specs.declared.meta.Meta.{Meta}

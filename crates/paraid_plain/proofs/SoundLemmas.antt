@@ -1,6 +1,6 @@
 -- An image is sound by the log disk that stands.
 use Rattle.std.specs.Prelude.{◌≡◌, ℕ}
-use Rattle.std.proofs.Common.{refl, sym, ap, subst}
+use Rattle.std.proofs.Common.{refl, sym, subst}
 use Rattle.paraid_base.specs.History.{History}
 use Rattle.paraid_rack.specs.Disks.{Disks}
 use Rattle.paraid_txn.specs.Content.{view_of}

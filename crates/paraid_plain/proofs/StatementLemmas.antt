@@ -5,7 +5,7 @@ use Rattle.paraid_base.specs.declared.block.Block.{Block}
 use Rattle.paraid_record.specs.declared.targets.Target.{Target}
 use Rattle.std.proofs.lemmas.Bool.{true≢false}
 use Rattle.paraid_rack.specs.Disks.{Disks}
-use Rattle.paraid_txn.specs.Sides.{AreLogged, Batch, Said, Says, targets}
+use Rattle.paraid_txn.specs.Sides.{AreLogged, Said, Says, targets}
 use Rattle.paraid_txn.specs.Standing.{Stands, is_first, other_log, stands_before}
 use Rattle.paraid_txn.proofs.SidesLemmas.{Says-same}
 use Rattle.paraid_txn.proofs.StandingLemmas.{Stands-same}

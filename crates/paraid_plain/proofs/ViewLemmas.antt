@@ -1,6 +1,6 @@
 -- A batch laid target by target.
-use Rattle.std.specs.Prelude.{◌≡◌, ℕ, ◌+◌, ◌%◌, ◌<◌, ◌≤◌, ◌==◌, ◌&&◌, nat_lt, Bool, true, false, List, [], ◌∷◌, length, take, slice_index, if◌then◌else◌}
-use Rattle.std.proofs.Common.{refl, sym, ◌∙◌, ap, arith, add-one, drop, drop-cons, get_or, zero, suc}
+use Rattle.std.specs.Prelude.{◌≡◌, ℕ, ◌+◌, ◌%◌, ◌<◌, ◌≤◌, ◌==◌, ◌&&◌, nat_lt, Bool, true, false, List, ◌∷◌, length, take, slice_index, if◌then◌else◌}
+use Rattle.std.proofs.Common.{refl, sym, ◌∙◌, ap, arith, add-one, drop, drop-cons, get_or, suc}
 use Rattle.std.proofs.lemmas.Bool.Decides.{nat_tests}
 use Rattle.std.proofs.lemmas.List.{drop_all, get_or-take, get_or_default, length-take, length-take-le}
 use Rattle.paraid_record.specs.Targets.{no_target}

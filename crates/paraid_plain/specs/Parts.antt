@@ -1,5 +1,5 @@
 -- The parts of what is asked of an image, at one row, stripe, unit or disk.
-use Rattle.std.specs.Prelude.{◌≡◌, ◌≢◌, ℕ, ◌+◌, ◌-◌, ◌<◌, ◌≤◌, Bool, true, false, Option, Some, slice_index}
+use Rattle.std.specs.Prelude.{◌≡◌, ◌≢◌, ℕ, ◌+◌, ◌-◌, ◌<◌, ◌≤◌, true, false, Option, Some, slice_index}
 use Rattle.paraid_base.specs.declared.state.Phase.TheVariants.{Up}
 use Rattle.paraid_base.specs.Regions.{disk_size, hard_place_of}
 use Rattle.paraid_base.specs.Skips.{skip}

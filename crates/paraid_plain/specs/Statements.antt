@@ -1,5 +1,5 @@
 -- What a log disk of an image says, in the words of the definitions.
-use Rattle.std.specs.Prelude.{ℕ, List, [], ◌∷◌, Bool, true, false, ◌≡◌}
+use Rattle.std.specs.Prelude.{ℕ, List, [], ◌∷◌}
 use Rattle.std.proofs.Common.{suc}
 use Rattle.paraid_base.specs.declared.block.Block.{Block}
 use Rattle.paraid_record.specs.declared.targets.Target.{Target}

@@ -1,7 +1,6 @@
 -- What an image holds past the log, under what a log disk says: the batch is laid, and the out
 -- disk and the dirty bits are told.
 use Rattle.std.specs.Prelude.{ℕ, Bool, Option}
-use Rattle.paraid_rack.specs.Disks.{Disks}
 use Rattle.paraid_txn.specs.Out.{out_disk}
 use Rattle.paraid_txn.specs.Spot.{View, map_bit, map_disk}
 use Rattle.paraid_txn.specs.Standing.{Contents, contents}

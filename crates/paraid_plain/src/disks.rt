@@ -1,10 +1,9 @@
 //! The disks are there, are large enough and are powered as they should be.
-ghost use Rattle.std.specs.Prelude.{◌≡◌, ◌≢◌, ℕ, ◌<◌, ◌≤◌, ◌↔◌, Some, true, length, slice_index, IsTrue};
-ghost use Rattle.paraid_base.specs.declared.state.Phase.TheVariants.{Up as UpTo};
+ghost use Rattle.std.specs.Prelude.{◌≡◌, ◌≢◌, ℕ, ◌<◌, ◌≤◌, ◌↔◌, true, length, IsTrue};
 ghost use Rattle.paraid_base.specs.Regions.{disk_size};
 ghost use Rattle.paraid_rack.specs.declared.call.Power.TheVariants.{Parked, Spinning};
 ghost use Rattle.paraid_rack.specs.Disks.{is_present};
-ghost use Rattle.paraid_txn.specs.Sound.{AreDisks, IsFresh};
+ghost use Rattle.paraid_txn.specs.Sound.{AreDisks};
 ghost use Rattle.paraid_plain.specs.Images.{disks_of};
 ghost use Rattle.paraid_plain.specs.Parts.{AreLarge, AreRecorded, AreSpinning, IsFreshReady, IsLarge, IsRecorded, IsSpinning};
 ghost use Rattle.paraid_plain.specs.Views.{out_at};

@@ -1,15 +1,12 @@
 //! The stripes of the new gear below the fill mark are filled, while no disk is out.
 ghost use Rattle.std.specs.Prelude.{◌≡◌, ℕ, ◌-◌, ◌<◌, ◌≤◌, ◌↔◌, IsTrue};
 ghost use Rattle.paraid_base.specs.Regions.{IsGear};
-ghost use Rattle.paraid_base.specs.Skips.{skip};
-ghost use Rattle.paraid_base.specs.Soft.{soft_disk, soft_parity_disk, soft_stripe, stripe_count};
-ghost use Rattle.paraid_base.specs.Xor.{zeroed};
-ghost use Rattle.paraid_layout.specs.Pads.{IsPad};
+ghost use Rattle.paraid_base.specs.Soft.{stripe_count};
 ghost use Rattle.paraid_record.specs.Codes.{phase_to};
 ghost use Rattle.paraid_txn.specs.Sound.{AreFilled, IsFilled};
 ghost use Rattle.paraid_txn.specs.Value.{stripe, value};
 ghost use Rattle.paraid_plain.specs.Parts.{AreCopied, ArePadsZero, IsCopied, IsPadZero};
-ghost use Rattle.paraid_plain.specs.Views.{block_at, view_at};
+ghost use Rattle.paraid_plain.specs.Views.{view_at};
 
 use crate::image::Image;
 use crate::same::is_same_block;

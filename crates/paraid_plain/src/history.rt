@@ -1,5 +1,5 @@
 //! The blocks of the array hold what the first writes of a history leave.
-ghost use Rattle.std.specs.Prelude.{◌≡◌, ℕ, ◌-◌, ◌*◌, ◌<◌, ◌≤◌, ◌==◌, ◌↔◌, if◌then◌else◌, length, take, IsTrue};
+ghost use Rattle.std.specs.Prelude.{◌≡◌, ℕ, ◌-◌, ◌*◌, ◌<◌, ◌==◌, ◌↔◌, IsTrue};
 ghost use Rattle.paraid_base.specs.History.{after, last_of as last_in};
 ghost use Rattle.paraid_base.specs.Xor.{zeroed};
 ghost use Rattle.paraid_txn.specs.Content.{blocks_of};

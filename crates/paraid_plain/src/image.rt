@@ -1,12 +1,11 @@
 //! An image of the disks in memory: for each slot its power and its blocks.
-ghost use Rattle.std.specs.Prelude.{◌≡◌, ◌≢◌, ℕ, ◌<◌, ◌↔◌, ◌++◌, [], ◌∷◌, true, false, length, slice_set, replicate, map, OnOk, OnErr, IfOk, IsTrue};
+ghost use Rattle.std.specs.Prelude.{◌≡◌, ◌<◌, ◌++◌, [], ◌∷◌, length, slice_set, replicate, map, OnOk, OnErr, IfOk};
 ghost use Rattle.paraid_base.specs.declared.block.Block.{Block as BlockType};
 ghost use Rattle.paraid_base.specs.Xor.{zeroed};
 ghost use Rattle.paraid_rack.specs.Disks.{is_present, with_at};
-ghost use Rattle.paraid_rack.specs.Trail.{initial};
 ghost use Rattle.paraid_txn.specs.Neutral.{overwrite};
 ghost use Rattle.paraid_txn.specs.Sides.{has_place, stored};
-ghost use Rattle.paraid_plain.specs.Images.{beginning_of, disks_by, disks_of};
+ghost use Rattle.paraid_plain.specs.Images.{beginning_of, disks_of};
 
 use paraid_base::{Block, DiskNo, NoMemory, Place};
 use paraid_rack::Power;

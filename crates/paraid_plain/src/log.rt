@@ -1,5 +1,5 @@
 //! What is asked of the log disks and of the powers of the targets.
-ghost use Rattle.std.specs.Prelude.{◌≡◌, ◌≢◌, ℕ, ◌<◌, ◌↔◌, Some, true, All, IsTrue};
+ghost use Rattle.std.specs.Prelude.{◌≡◌, ◌≢◌, ◌<◌, ◌↔◌, Some, true, All, IsTrue};
 ghost use Rattle.paraid_rack.specs.Disks.{is_present};
 ghost use Rattle.paraid_txn.specs.Out.{IsMissing, named_out as named_by};
 ghost use Rattle.paraid_txn.specs.Sides.{Said, Says};

@@ -1,10 +1,7 @@
 //! Whether what two log disks say fits together: it is the same, or one is a step ahead.
-ghost use Rattle.std.specs.Prelude.{◌≡◌, ℕ, ◌+◌, ◌<◌, ◌↔◌, Some, true, false, get_or, IsTrue};
-ghost use Rattle.paraid_record.specs.Targets.{no_target};
-ghost use Rattle.paraid_txn.specs.Out.{named_out as named_by};
+ghost use Rattle.std.specs.Prelude.{◌≡◌, ◌+◌, ◌<◌, ◌↔◌, Some, true, false, IsTrue};
 ghost use Rattle.paraid_txn.specs.Sides.{stored};
 ghost use Rattle.paraid_txn.specs.Sound.{IsAhead, IsDone, Pairing};
-ghost use Rattle.paraid_plain.specs.Images.{disks_of};
 ghost use Rattle.paraid_plain.specs.LogParts.{AreOutAlike, IsSameTarget};
 ghost use Rattle.paraid_plain.specs.Statements.{batch_of, said_of};
 

@@ -1,8 +1,7 @@
 //! What each log disk says.
-ghost use Rattle.std.specs.Prelude.{◌≡◌, ◌≢◌, ℕ, ◌<◌, ◌≤◌, ◌↔◌, true, false, [], IfSome, IfNone, IsTrue};
+ghost use Rattle.std.specs.Prelude.{◌≡◌, ◌<◌, ◌↔◌, true, false, [], IfSome, IfNone, IsTrue};
 ghost use Rattle.paraid_base.specs.Xor.{zeroed};
 ghost use Rattle.paraid_record.specs.declared.meta.Meta.{Meta as MetaType};
-ghost use Rattle.paraid_record.specs.Range.{IsInRange};
 ghost use Rattle.paraid_record.specs.Targets.{targets_of};
 ghost use Rattle.paraid_txn.specs.Sides.{Batch, IsSide, Said, Says, SaysClosed, SaysOpen, is_open, stored};
 ghost use Rattle.paraid_plain.specs.Images.{disks_of};

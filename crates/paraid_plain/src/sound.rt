@@ -1,5 +1,5 @@
 //! Whether an image holds a history.
-ghost use Rattle.std.specs.Prelude.{◌≡◌, ℕ, ◌<◌, ◌↔◌, length, IsTrue};
+ghost use Rattle.std.specs.Prelude.{◌↔◌, length, IsTrue};
 ghost use Rattle.paraid_txn.specs.Sound.{ContentOk, Sound};
 ghost use Rattle.paraid_plain.specs.Images.{disks_of};
 ghost use Rattle.paraid_plain.specs.Views.{view_at};

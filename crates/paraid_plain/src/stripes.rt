@@ -1,6 +1,6 @@
 //! Each stripe of the gear's region sums to zero as it is stored, unless one of its blocks is on
 //! the out disk.
-ghost use Rattle.std.specs.Prelude.{◌≡◌, ◌<◌, ◌≤◌, ◌↔◌, IsTrue};
+ghost use Rattle.std.specs.Prelude.{◌≡◌, ◌<◌, ◌↔◌, IsTrue};
 ghost use Rattle.paraid_base.specs.Regions.{IsGear};
 ghost use Rattle.paraid_base.specs.Soft.{stripe_count};
 ghost use Rattle.paraid_base.specs.Sums.{xor_upto};

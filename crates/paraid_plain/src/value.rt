@@ -1,9 +1,7 @@
 //! What a cell is worth, and what a block of the array holds.
-ghost use Rattle.std.specs.Prelude.{◌≡◌, ℕ, ◌-◌, ◌*◌, ◌<◌, ◌≤◌, ◌↔◌, true, false, IsTrue};
+ghost use Rattle.std.specs.Prelude.{◌≡◌, ◌-◌, ◌*◌, ◌<◌, ◌≤◌};
 ghost use Rattle.paraid_base.specs.Regions.{IsGear, hard_place_of};
 ghost use Rattle.paraid_base.specs.Soft.{stripe_count};
-ghost use Rattle.paraid_base.specs.Sums.{xor_upto};
-ghost use Rattle.paraid_base.specs.Xor.{zeroed};
 ghost use Rattle.paraid_txn.specs.Content.{blocks_of, view_of};
 ghost use Rattle.paraid_txn.specs.Spot.{is_hard as is_hard_in};
 ghost use Rattle.paraid_txn.specs.Value.{far as far_in, near as near_in, soft_value as soft_value_in, stripe as stripe_of, stripe_rest as rest_of_stripe, value};
@@ -32,7 +30,8 @@ pub fn value_of(image: &Image, says: &Statement, row: Row, disk: DiskNo) -> Bloc
 /// What a block of the array holds, by what a log disk says.
 #[tactic(auto, unfolding(crate::specs::Views::block_at, crate::specs::Views::out_at, crate::specs::Views::dirty_at))]
 pub fn block_of(image: &Image, says: &Statement, block: BlockNo) -> Block
-    requires { block < says.now.meta.setup.geometry.rows * (says.now.meta.setup.geometry.disks - 1) }
+    requires { block
+        < says.now.meta.setup.geometry.rows * (says.now.meta.setup.geometry.disks - 1) }
     ensures { result
         ≡ blocks_of (view_of (disks_of image.now) (said_of image.now says.now)) block }
 {
@@ -40,7 +39,8 @@ pub fn block_of(image: &Image, says: &Statement, block: BlockNo) -> Block
 }
 
 pub(crate) fn home_value(image: &Image, says: &Statement, block: BlockNo) -> Block
-    requires { block < says.now.meta.setup.geometry.rows * (says.now.meta.setup.geometry.disks - 1) }
+    requires { block
+        < says.now.meta.setup.geometry.rows * (says.now.meta.setup.geometry.disks - 1) }
     ensures { result ≡ blocks_of (view_at image.now says.now) block }
 {
     let (row, disk) = home(&says.meta.setup.geometry, block);

@@ -1,4 +1,3 @@
-use Rattle.paraid_txn.specs.Sound.{AreDisks}
 use Rattle.paraid_plain.proofs.disks.are_disks.Goals as goal
 
 pub returns : goal.returns

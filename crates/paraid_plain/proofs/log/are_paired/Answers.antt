@@ -1,6 +1,5 @@
-use Rattle.std.proofs.Common.{◌≡◌, ◌≢◌, ℕ, Option, Some, sym, ◌∙◌, subst}
-use Rattle.std.proofs.lemmas.Bool.{false≢true}
-use Rattle.paraid_txn.specs.Sides.{Said, Says}
+use Rattle.std.proofs.Common.{subst}
+use Rattle.paraid_txn.specs.Sides.{Said}
 use Rattle.paraid_txn.specs.Sound.{Pairing}
 use Rattle.paraid_txn.proofs.SidesLemmas.{Says-same}
 use Rattle.paraid_plain.specs.Images.{disks_of}

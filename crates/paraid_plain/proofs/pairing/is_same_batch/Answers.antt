@@ -1,4 +1,4 @@
-use Rattle.std.proofs.Common.{◌≡◌, ◌<◌, ◌≤◌, refl, sym, arith}
+use Rattle.std.proofs.Common.{◌≡◌, arith}
 use Rattle.paraid_plain.specs.Statements.{batch_of}
 use Rattle.paraid_plain.proofs.BatchLemmas.{batch_of-count, batch_of-from, batch_of-parts}
 use Rattle.paraid_plain.proofs.TestLemmas.{accepted, refused}

@@ -1,10 +1,10 @@
-use Rattle.std.proofs.Common.{◌≡◌, List, sym, ◌∙◌, ap, subst, rules}
+use Rattle.std.proofs.Common.{List, sym, ◌∙◌, ap, subst, rules}
 use Rattle.paraid_base.specs.declared.block.Block.{Block}
 use Rattle.paraid_record.specs.declared.targets.Target.{Target}
 use Rattle.paraid_record.specs.Targets.{AreTargets, targets_bytes, targets_of}
 use Rattle.paraid_txn.specs.Sides.{stored}
 use Rattle.paraid_plain.specs.Images.{disks_of}
-use Rattle.paraid_plain.specs.Statements.{batch_at, batch_of}
+use Rattle.paraid_plain.specs.Statements.{batch_of}
 use Rattle.paraid_plain.proofs.StatementLemmas.{batch_at-logged, targets-batch_at}
 use Rattle.paraid_plain.proofs.side.open_statement.Goals as goal
 

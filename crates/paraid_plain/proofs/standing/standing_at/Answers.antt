@@ -1,4 +1,4 @@
-use Rattle.std.proofs.Common.{sym, ◌∙◌}
+use Rattle.std.proofs.Common.{sym}
 use Rattle.paraid_plain.specs.Images.{disks_of}
 use Rattle.paraid_plain.specs.Statements.{said_of}
 use Rattle.paraid_plain.proofs.StatementLemmas.{stands_first, stands_second}

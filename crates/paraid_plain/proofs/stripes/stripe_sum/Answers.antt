@@ -1,4 +1,4 @@
-use Rattle.std.proofs.Common.{◌≡◌, ℕ}
+use Rattle.std.proofs.Common.{ℕ}
 use Rattle.paraid_base.specs.declared.block.Block.{Block}
 use Rattle.paraid_txn.specs.Value.{stripe}
 use Rattle.paraid_plain.specs.Views.{block_at}

@@ -1,4 +1,4 @@
-use Rattle.std.proofs.Common.{◌≡◌, ℕ, sym, ◌∙◌}
+use Rattle.std.proofs.Common.{ℕ, ◌∙◌}
 use Rattle.paraid_base.specs.declared.block.Block.{Block}
 use Rattle.paraid_base.proofs.SumsLemmas.{others_none, others_read, others_skip}
 use Rattle.paraid_txn.specs.Value.{near}

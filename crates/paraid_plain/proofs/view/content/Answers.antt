@@ -1,6 +1,4 @@
-use Rattle.std.proofs.Common.{◌≡◌, ap, sym, ◌∙◌, arith}
-use Rattle.std.proofs.lemmas.Bool.Decides.{nat_tests}
-use Rattle.paraid_base.specs.declared.block.Block.{Block}
+use Rattle.std.proofs.Common.{sym, ◌∙◌}
 use Rattle.paraid_plain.proofs.view.content.Goals as goal
 use Rattle.paraid_plain.proofs.ViewLemmas.{contents-there}
 use Rattle.paraid_plain.specs.Images.{disks_of}

@@ -1,4 +1,4 @@
-use Rattle.std.proofs.Common.{set, refl, ap, ◌∙◌, arith}
+use Rattle.std.proofs.Common.{set, refl, ap, arith}
 use Rattle.paraid_plain.proofs.ImageLemmas.{disks-set_block, size_here, slot_exists}
 use Rattle.paraid_plain.proofs.image.Image.set_block.Goals as goal
 

@@ -1,4 +1,4 @@
-use Rattle.std.proofs.Common.{◌≡◌, List, set, refl, sym, ap, ◌∙◌, arith}
+use Rattle.std.proofs.Common.{set, refl, sym, ap, ◌∙◌, arith}
 use Rattle.paraid_base.specs.declared.block.Block.{Block}
 use Rattle.paraid_base.proofs.XorLemmas.{same_block}
 use Rattle.paraid_plain.proofs.ImageLemmas.{block_here, disks-set_block, read_here, size_here, slot_exists}

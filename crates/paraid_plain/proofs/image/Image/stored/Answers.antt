@@ -1,5 +1,4 @@
 use Rattle.std.proofs.Common.{sym, ◌∙◌, arith}
-use Rattle.paraid_base.specs.Xor.{zeroed}
 use Rattle.paraid_plain.proofs.ImageLemmas.{block_here, has_place_parts, read_here, size_here, slot_exists, stored_none, stored_some}
 use Rattle.paraid_plain.specs.Images.{disks_of}
 use Rattle.paraid_plain.proofs.image.Image.stored.Goals as goal
