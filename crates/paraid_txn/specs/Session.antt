@@ -1,5 +1,5 @@
 -- What a session owes of its disks: which writes each stop leaves, and what the state shows.
-use Rattle.std.specs.Prelude.{◌≡◌, ℕ, ◌<◌, nat_lt, [], ◌∷◌, ◌++◌, Option, Some, take, if◌then◌else◌}
+use Rattle.std.specs.Prelude.{◌≡◌, ℕ, ◌<◌, true, nat_lt, [], ◌∷◌, ◌++◌, Option, Some, take, if◌then◌else◌}
 use Rattle.std.proofs.Common.{zero, suc}
 use Rattle.paraid_base.specs.declared.event.Answer.{Answer}
 use Rattle.paraid_base.specs.declared.event.Answer.TheVariants.{Flushed, Wrote}
@@ -7,9 +7,10 @@ use Rattle.paraid_base.specs.declared.event.Event.{Event}
 use Rattle.paraid_base.specs.declared.event.Event.TheVariants.{Write}
 use Rattle.paraid_base.specs.BlockAnswers.{Answers}
 use Rattle.paraid_base.specs.History.{History}
+use Rattle.paraid_rack.specs.declared.call.Call.{Call}
 use Rattle.paraid_rack.specs.declared.call.Power.{Power}
 use Rattle.paraid_rack.specs.Disks.{Disks, IsImage}
-use Rattle.paraid_txn.specs.Course.{Course, IsDown, IsInPart, IsServing, answered, disks_at, mark}
+use Rattle.paraid_txn.specs.Course.{Calls, Course, IsDown, IsInPart, IsServing, answered, disks_at, is_done, mark}
 use Rattle.paraid_txn.specs.HeldAt.{IsHeld}
 use Rattle.paraid_txn.specs.Lawful.{disk_count}
 use Rattle.paraid_txn.specs.Power.{State, initial_state, power_of}
@@ -57,14 +58,30 @@ pub record IsShown (state shown : State) : Type 0 where
   pub out : shown.out ≡ state.out
   pub spins : shown.spins ≡ state.spins
 
+-- a state with which events begin: the one that is shown, with its ticks, and no sample yet
+pub record IsBeginning (state shown : State) : Type 0 where
+  pub shows : IsShown state shown
+  pub ticks : state.ticks ≡ shown.ticks
+  pub samples : state.samples ≡ []
+  pub served : state.served ≡ 0
+
+-- no call failed in the mount
+abbrev pub IsQuietMount : Course → Type 0
+IsQuietMount c = (m : ℕ) (call : Call) → m < mark c 0 → Calls c m call → is_done call ≡ true
+
 -- While at most one disk is down: in the mount each stop leaves a first part of `h` of at least
--- `lo` writes. From then on, in the part of event `j`, it leaves a first part of the writes after
--- that event, which has at least the last flush's number, that of a flush at its own mark. At each
--- mark the disks are powered as the state says, and each image shows the state; after a flush it
--- shows the dirty cells too.
+-- `lo` writes. At its end every image holds `k` writes, and shows the state with which events
+-- begin; where no call failed in it, these are those of the entry. From then on, in the part of
+-- event `j`, each stop leaves a first part of the writes after that event, which has at least the
+-- last flush's number, that of a flush at its own mark. At each mark the disks are powered as the
+-- state says, and each image shows the state; after a flush it shows the dirty cells too.
 pub record IsSession (slots : ℕ) (c : Course) (h : History) (lo k : ℕ) (states : ℕ → State) : Type 0 where
   pub mounting : (m : ℕ) (down : Option ℕ) → IsInPart c 0 m → IsServing c 0 m → AreDown c 0 m down
       → IsHeld slots (disks_at c m) h lo down
+  pub begins : (x : ℕ) (i : Disks) (said : Said) → IsServing c 0 (mark c 0) → IsImage (disks_at c (mark c 0)) i
+      → Stands i x said → (said.meta.writes ≡ k) × IsBeginning (states 0) (initial_state i said)
+  pub quiet : IsServing c 0 (mark c 0) → IsQuietMount c
+      → (k ≡ c.said.meta.writes) × IsBeginning (states 0) (initial_state c.entry c.said)
   pub held : (j m : ℕ) (down : Option ℕ) → IsInPart c (suc j) m → IsServing c (suc j) m
       → AreDown c (suc j) m down
       → IsHeld slots (disks_at c m) (history_after c (take k h) (suc j)) (low_in c k (suc j)) down
