@@ -1,10 +1,10 @@
 //! Commits to a rack in memory: what each stop leaves, and how many calls they make.
 use crate::tests::{META, block_with, filled_with};
-use crate::{Image, content, standing_of};
+use crate::{Image, content, is_sound, standing_of};
 use paraid_base::{Block, DiskNo, Two};
 use paraid_memrack::{MemRack, Pick, Planned};
 use paraid_rack::{Call, Power, Rack};
-use paraid_record::read_meta;
+use paraid_record::{Meta, read_meta};
 use paraid_txn::{Batch, Store};
 use std::alloc::Global;
 
@@ -56,14 +56,19 @@ fn formatted(alloc: Global, shape: Shape, plan: Vec<Planned>) -> Option<MemRack>
         .ok()
 }
 
-// The array after one commit of this batch, and what it answered.
+// The array after one commit of this batch, under a meta of so many writes, and what it answered.
 fn committed(
     alloc: Global,
     shape: Shape,
     batch: &Batch,
+    writes: u64,
     plan: Vec<Planned>,
 ) -> Option<(MemRack, Result<Option<DiskNo>, Two>)> {
-    let meta = read_meta(&meta_block(shape))?;
+    let formatted_meta = read_meta(&meta_block(shape))?;
+    let meta = Meta {
+        writes,
+        ..formatted_meta
+    };
     let rack = formatted(alloc, shape, plan)?;
     if meta.setup.geometry.disks > rack.slots() {
         return None;
@@ -181,7 +186,7 @@ fn expected_at(moment: u32) -> (u32, u32) {
 fn a_commit_is_whole_or_absent_at_every_stop(rt: HostRuntime) {
     let alloc = rt.alloc();
     let batch = one_target(alloc).expect(&rt, "memory");
-    let (rack, answer) = committed(alloc, SMALL, &batch, Vec::new(alloc)).expect(
+    let (rack, answer) = committed(alloc, SMALL, &batch, 0, Vec::new(alloc)).expect(
         &rt,
         "a formatted array",
     );
@@ -207,7 +212,7 @@ fn calls_on(disk: DiskNo) -> u32 {
 // after that one, the others get the same calls, and the new contents stand.
 fn goes_on_without(alloc: Global, batch: &Batch, disk: DiskNo, nth: u32) -> Option<bool> {
     let plan = vec![in alloc; Planned::OnDisk { disk, nth }].ok()?;
-    let (rack, answer) = committed(alloc, SMALL, batch, plan)?;
+    let (rack, answer) = committed(alloc, SMALL, batch, 0, plan)?;
     let image = image_of(alloc, &rack)?;
     let left_out = calls_on(disk).saturating_sub(nth.saturating_add(1));
     let is_told = answer == Ok(Some(disk)) && rack.calls().saturating_add(left_out) == 22;
@@ -229,7 +234,7 @@ fn a_commit_goes_on_without_a_disk_that_fails(rt: HostRuntime) {
         Planned::OnDisk { disk: 2, nth: 0 },
     ]
     .expect(&rt, "memory");
-    let (rack, answer) = committed(alloc, SMALL, &batch, plan).expect(&rt, "a formatted array");
+    let (rack, answer) = committed(alloc, SMALL, &batch, 0, plan).expect(&rt, "a formatted array");
     assert!(rt;
         answer
             == Err(Two {
@@ -256,7 +261,7 @@ fn many_targets(alloc: Global, count: u32) -> Option<Batch> {
 // The writes and the syncs of a commit of so many targets.
 fn cost_of(alloc: Global, count: u32) -> Option<(u32, u32)> {
     let batch = many_targets(alloc, count)?;
-    let (rack, answer) = committed(alloc, LARGE, &batch, Vec::new(alloc))?;
+    let (rack, answer) = committed(alloc, LARGE, &batch, 0, Vec::new(alloc))?;
     let mut writes = 0u32;
     let mut syncs = 0u32;
     for at in 0..rack.calls() {
@@ -285,5 +290,50 @@ fn a_commit_costs_three_writes_a_target_and_ten_more(rt: HostRuntime) {
     ] {
         let _ = println!(rt; "{targets} targets on {disks} disks: {writes} writes, {syncs} syncs");
         assert!(rt; cost_of(alloc, targets) == Some((writes, syncs)));
+    }
+}
+
+// The write of block 7, which is the cell of row 1 and disk 4, with the parity of its row.
+fn one_write(alloc: Global) -> Option<Batch> {
+    let mut batch = Batch::new(alloc).ok()?;
+    batch.add(4, 102, &filled_with(0x77)).ok()?;
+    batch.add(3, 102, &filled_with(0x77)).ok()?;
+    Some(batch)
+}
+
+// How many images that stops at a moment leave hold no write, and how many hold the write; None
+// where one of them holds neither.
+fn sound_at(alloc: Global, rack: &MemRack, moment: u32) -> Option<(u32, u32)> {
+    let history = [(7, filled_with(0x77))];
+    let mut counts = (0u32, 0u32);
+    for pick in PICKS {
+        for lost in LOSSES {
+            let image = left_at(alloc, rack, moment, pick, lost)?;
+            if is_sound(&image, &history, 0) {
+                counts.0 = u32::saturating_add(counts.0, 1);
+            } else if is_sound(&image, &history, 1) {
+                counts.1 = u32::saturating_add(counts.1, 1);
+            } else {
+                return None;
+            }
+        }
+    }
+    Some(counts)
+}
+
+#[test]
+fn every_stop_in_the_commit_of_a_write_is_sound(rt: HostRuntime) {
+    let alloc = rt.alloc();
+    let batch = one_write(alloc).expect(&rt, "memory");
+    let (rack, answer) = committed(alloc, SMALL, &batch, 1, Vec::new(alloc)).expect(
+        &rt,
+        "a formatted array",
+    );
+    assert!(rt; answer == Ok(None));
+    assert!(rt; rack.calls() == 26);
+    // two more calls before the gates: each log disk gets one block more
+    for moment in 0..27u32 {
+        let found = sound_at(alloc, &rack, moment);
+        assert!(rt; found == Some(expected_at(moment.saturating_sub(2))));
     }
 }
