@@ -60,9 +60,11 @@ enum Change {
     Powered(DiskNo, Power),
     /// A disk has one block less.
     Short(DiskNo),
+    /// There is one slot less.
+    Fewer,
 }
 
-use Change::{Byte, Fill, Log, MetaByte, Nothing, Powered, Short};
+use Change::{Byte, Fewer, Fill, Log, MetaByte, Nothing, Powered, Short};
 
 /// A block of these bytes and then zeros.
 pub fn block_with(bytes: &[u8]) -> Block {
@@ -132,6 +134,9 @@ fn apply(image: &mut Image, change: Change) {
                 slot.blocks.pop();
             }
         }
+        Fewer => {
+            image.slots.pop();
+        }
     }
 }
 
@@ -164,17 +169,6 @@ fn holds(
     Ok(is_sound(&image, history, writes))
 }
 
-/// Whether the formatted array with these changes holds so many writes of none.
-fn holds_none(
-    alloc: Global,
-    base: &[Change],
-    changes: &[Change],
-    writes: u64,
-) -> Result<bool, NoMemory> {
-    let none: [(BlockNo, Block); 0] = [];
-    holds(alloc, base, changes, &none, writes)
-}
-
 /// The array after a shift down to gear 4.
 const DOWN: [Change; 4] = [
     MetaByte(EPOCH, 5),
@@ -184,7 +178,7 @@ const DOWN: [Change; 4] = [
 ];
 
 /// The array after a shift down to gear 4 and the write of block 7.
-const WRITTEN: [Change; 13] = [
+const WRITTEN: [Change; 12] = [
     MetaByte(EPOCH, 6),
     MetaByte(WRITES, 1),
     MetaByte(TICKS, 2),
@@ -197,7 +191,6 @@ const WRITTEN: [Change; 13] = [
     Fill(3, 102, 0x77),
     Byte(0, 100, 1, 16),
     Byte(1, 100, 1, 16),
-    Nothing,
 ];
 
 /// The array in the commit of that write, when the gate of disk 0 is open.
@@ -211,20 +204,56 @@ const OPENED: [Change; 7] = [
     Byte(0, 0, 0, 1),
 ];
 
-/// Whether the array after the write of block 7, with these changes, holds such a history.
-fn written_holds(
-    alloc: Global,
-    changes: &[Change],
-    history: &[(BlockNo, Block)],
-    writes: u64,
-) -> Result<bool, NoMemory> {
-    holds(alloc, &WRITTEN, changes, history, writes)
+/// Whether the formatted array with these changes holds so many writes, and none are known.
+fn formatted_holds(alloc: Global, changes: [Change; 2], writes: u64) -> Result<bool, NoMemory> {
+    let none: [(BlockNo, Block); 0] = [];
+    holds(alloc, &[], &changes, &none, writes)
 }
 
-/// The same of the array in the commit of that write.
-fn opened_holds(alloc: Global, changes: &[Change], writes: u64) -> Result<bool, NoMemory> {
+/// The same in a shift or a rebuild, of no write.
+fn shifting_holds(
+    alloc: Global,
+    base: [Change; 3],
+    changes: [Change; 2],
+) -> Result<bool, NoMemory> {
+    let none: [(BlockNo, Block); 0] = [];
+    holds(alloc, &base, &changes, &none, 0)
+}
+
+/// Whether the array after the shift down holds no write.
+fn down_holds(alloc: Global) -> Result<bool, NoMemory> {
+    let none: [(BlockNo, Block); 0] = [];
+    holds(alloc, &DOWN, &[], &none, 0)
+}
+
+/// Whether the array after the write of block 7, with these changes, holds that write.
+fn written_holds(alloc: Global, changes: [Change; 2]) -> Result<bool, NoMemory> {
     let history = [(7, filled_with(0x77))];
-    holds(alloc, &OPENED, changes, &history, writes)
+    holds(alloc, &WRITTEN, &changes, &history, 1)
+}
+
+/// Whether it holds so many writes of another history, which ends with the same bytes.
+fn written_holds_other(alloc: Global, writes: u64) -> Result<bool, NoMemory> {
+    let history = [(7, filled_with(0x78)), (7, filled_with(0x77))];
+    holds(alloc, &WRITTEN, &[], &history, writes)
+}
+
+/// Whether the array in the commit of that write, with these changes, holds so many writes.
+fn opened_holds(alloc: Global, changes: [Change; 2], writes: u64) -> Result<bool, NoMemory> {
+    let history = [(7, filled_with(0x77))];
+    holds(alloc, &OPENED, &changes, &history, writes)
+}
+
+/// The same with one more target, on disk 4 at a place that may hold any bytes.
+fn opened_holds_by_target(alloc: Global, power: Power) -> Result<bool, NoMemory> {
+    let history = [(7, filled_with(0x77))];
+    let changes = [
+        Byte(0, 3, 1, 6),
+        Byte(0, 3, 27, 4),
+        Byte(0, 3, 31, 102),
+        Powered(4, power),
+    ];
+    holds(alloc, &OPENED, &changes, &history, 1)
 }
 
 /// The first byte of the value of a cell.
@@ -279,15 +308,16 @@ fn a_formatted_array_holds_no_write(rt: HostRuntime) {
         ([Powered(2, Power::Absent), MetaByte(OUT, 3)], 0, false),
         ([Powered(2, Power::Parked), Nothing], 0, false),
         ([Powered(1, Power::Parked), Nothing], 0, false),
+        ([Powered(1, Power::Parked), MetaByte(OUT, 1)], 0, false),
         ([Short(3), Nothing], 0, false),
         ([Short(3), MetaByte(OUT, 3)], 0, true),
+        ([Fewer, Nothing], 0, false),
         // The standing disk is named out.
         ([MetaByte(OUT, 0), Nothing], 0, false),
         ([MetaByte(OUT, 1), Nothing], 0, true),
     ];
-    let base = [Nothing];
     for (changes, writes, expected) in cases {
-        let found = holds_none(rt.alloc(), &base, &changes, writes)
+        let found = formatted_holds(rt.alloc(), changes, writes)
             .ok()
             .expect(&rt, "memory");
         assert!(rt; found == expected);
@@ -325,31 +355,27 @@ fn a_write_in_a_low_gear_is_held_by_its_copy(rt: HostRuntime) {
         ([Powered(1, Power::Absent), Nothing], true),
         ([Powered(3, Power::Absent), Nothing], true),
         ([Powered(0, Power::Absent), Nothing], true),
+        ([Powered(2, Power::Absent), Nothing], true),
         ([Powered(4, Power::Absent), Nothing], true),
+        ([MetaByte(OUT, 2), Nothing], true),
+        ([MetaByte(OUT, 2), Powered(4, Power::Absent)], false),
         ([Powered(4, Power::Spinning), Nothing], true),
         ([Powered(3, Power::Parked), Nothing], false),
         ([Short(4), Nothing], false),
     ];
-    let history = [(7, filled_with(0x77))];
     for (changes, expected) in cases {
-        let found = written_holds(rt.alloc(), &changes, &history, 1)
+        let found = written_holds(rt.alloc(), changes)
             .ok()
             .expect(&rt, "memory");
         assert!(rt; found == expected);
     }
-    let none = [Nothing];
-    let other = [(7, filled_with(0x78)), (7, filled_with(0x77))];
-    for (writes, expected) in [(1, false), (2, false)] {
-        let found = written_holds(rt.alloc(), &none, &other, writes)
+    for writes in [1, 2] {
+        let found = written_holds_other(rt.alloc(), writes)
             .ok()
             .expect(&rt, "memory");
-        assert!(rt; found == expected);
+        assert!(rt; !found);
     }
-    assert!(rt;
-        holds_none(rt.alloc(), &DOWN, &none, 0)
-            .ok()
-            .expect(&rt, "memory")
-    );
+    assert!(rt; down_holds(rt.alloc()).ok().expect(&rt, "memory"));
 }
 
 #[test]
@@ -373,24 +399,17 @@ fn an_open_gate_stands_for_its_batch(rt: HostRuntime) {
         ([Byte(1, 1, TICKS, 1), Nothing], 1, true),
     ];
     for (changes, writes, expected) in cases {
-        let found = opened_holds(rt.alloc(), &changes, writes)
+        let found = opened_holds(rt.alloc(), changes, writes)
             .ok()
             .expect(&rt, "memory");
         assert!(rt; found == expected);
     }
-    // A target on disk 4, at a place that may hold any bytes.
     for (power, expected) in [
         (Power::Parked, false),
         (Power::Spinning, true),
         (Power::Absent, true),
     ] {
-        let target = [
-            Byte(0, 3, 1, 6),
-            Byte(0, 3, 27, 4),
-            Byte(0, 3, 31, 102),
-            Powered(4, power),
-        ];
-        let found = opened_holds(rt.alloc(), &target, 1)
+        let found = opened_holds_by_target(rt.alloc(), power)
             .ok()
             .expect(&rt, "memory");
         assert!(rt; found == expected);
@@ -437,7 +456,7 @@ fn shifts_and_rebuilds_are_asked_as_far_as_they_have_come(rt: HostRuntime) {
         (low, [MetaByte(OUT, 2), Byte(2, 107, 0, 1)], true),
     ];
     for (base, changes, expected) in cases {
-        let found = holds_none(rt.alloc(), &base, &changes, 0)
+        let found = shifting_holds(rt.alloc(), base, changes)
             .ok()
             .expect(&rt, "memory");
         assert!(rt; found == expected);

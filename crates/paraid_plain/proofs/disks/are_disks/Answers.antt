@@ -1,4 +1,10 @@
+use Rattle.std.proofs.Common.{length}
+use Rattle.paraid_txn.specs.Sound.{AreDisks}
+use Rattle.paraid_plain.specs.Images.{disks_of}
+use Rattle.paraid_plain.specs.Views.{out_at}
+use Rattle.paraid_plain.proofs.TestLemmas.{refused}
 use Rattle.paraid_plain.proofs.disks.are_disks.Goals as goal
+use Rattle.paraid_plain.proofs.disks.are_disks.Goals.{then-not-are_spinning-via-then-not-are_spinning, then-not-are_spinning-via-else-not-are_spinning+then-not-is_fresh_ready}
 
 pub returns : goal.returns
 returns c =
@@ -17,3 +23,16 @@ returns c =
       },
       λ all. c.are_recorded.ensures.1 all.recorded,
     )
+
+pub returns-then-not-are_spinning : goal.returns-then-not-are_spinning
+returns-then-not-are_spinning c =
+    let image = c.args.image.now in
+    let says = c.args.says.now in
+    let Whole : Type 0 = AreDisks (length image.slots.items) (disks_of image).power (disks_of image).size says.meta (out_at image says) in
+    elim c.then-not-are_spinning.branch [
+      | then-not-are_spinning-via-then-not-are_spinning w ↦
+          refused Whole c.are_spinning.result c.are_spinning.ensures w.if-not-are_spinning.true (λ all. all.below_gear)
+      | then-not-are_spinning-via-else-not-are_spinning+then-not-is_fresh_ready w ↦
+          refused Whole w.is_fresh_ready.result w.is_fresh_ready.ensures w.if-not-is_fresh_ready.true
+          (λ all d rebuilt is. (all.fresh_large d rebuilt is, all.fresh_spins d rebuilt is))
+    ]
