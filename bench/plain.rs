@@ -8,17 +8,26 @@ const MAX_LINE: usize = 1100;
 const DISKS: usize = 5;
 const ROWS: usize = 5;
 const HARD: usize = 101;
+const PAIRS: usize = 8;
 
 type Block = [u8; 512];
+
+const HEX: &[u8; 16] = b"0123456789abcdef";
 
 struct Disk {
     blocks: Vec<Block>,
     unsynced: bool,
 }
 
+struct Array {
+    disks: Vec<Disk>,
+    writes: u64,
+    pairs: Vec<(u32, Block)>,
+}
+
 enum Event {
     Read(u32),
-    Write(u32, Block),
+    Write,
     Flush,
     Later,
     Bad,
@@ -42,6 +51,7 @@ fn hex(c: u8) -> Option<u8> {
     (c as char).to_digit(16).map(|d| d as u8)
 }
 
+// The bytes of hexadecimal digits, repeated.
 fn bytes_of(digits: &[u8]) -> Option<Block> {
     if digits.len() < 2 || digits.len() > 1024 || digits.len() % 2 == 1 {
         return None;
@@ -50,21 +60,39 @@ fn bytes_of(digits: &[u8]) -> Option<Block> {
     for (byte, pair) in pattern.iter_mut().zip(digits.chunks(2)) {
         *byte = 16 * hex(pair[0])? + hex(pair[1])?;
     }
-    let length = digits.len() / 2;
-    for k in length..512 {
-        pattern[k] = pattern[k - length];
+    let mut done = digits.len() / 2;
+    while done < 512 {
+        let more = done.min(512 - done);
+        pattern.copy_within(..more, done);
+        done += more;
     }
     Some(pattern)
 }
 
-fn parse(line: &[u8]) -> Event {
+// The one to eight pairs of a write.
+fn pairs_of(mut text: &[u8], pairs: &mut Vec<(u32, Block)>) -> Option<()> {
+    pairs.clear();
+    loop {
+        let at = text.iter().position(|&c| c == b' ')?;
+        let hex = &text[at + 1..];
+        let end = hex.iter().position(|&c| c == b' ').unwrap_or(hex.len());
+        if pairs.len() == PAIRS {
+            return None;
+        }
+        pairs.push((number(&text[..at])?, bytes_of(&hex[..end])?));
+        if end == hex.len() {
+            return Some(());
+        }
+        text = &hex[end + 1..];
+    }
+}
+
+fn parse(line: &[u8], pairs: &mut Vec<(u32, Block)>) -> Event {
     let event = match line {
         b"f" => Some(Event::Flush),
         b"t" | b"up" | b"down" | b"s" | b"e" => Some(Event::Later),
         [b'r', b' ', rest @ ..] => number(rest).map(Event::Read),
-        [b'w', b' ', rest @ ..] => rest.iter().position(|&c| c == b' ').and_then(|at| {
-            Some(Event::Write(number(&rest[..at])?, bytes_of(&rest[at + 1..])?))
-        }),
+        [b'w', b' ', rest @ ..] => pairs_of(rest, pairs).map(|()| Event::Write),
         _ => line
             .strip_prefix(b"fail ")
             .or_else(|| line.strip_prefix(b"replace "))
@@ -85,32 +113,46 @@ fn period(block: &Block) -> usize {
     (1..512).find(|&p| block[p..] == block[..512 - p]).unwrap_or(512)
 }
 
-fn answer(disks: &mut [Disk], writes: &mut u64, line: Option<&[u8]>, text: &mut Vec<u8>) {
+fn write_block(disks: &mut [Disk], block: usize, bytes: &Block) {
+    let (row, disk, parity) = home(block);
+    let old = disks[disk].blocks[HARD + row];
+    let mut sum = disks[parity].blocks[HARD + row];
+    for k in 0..512 {
+        sum[k] ^= old[k] ^ bytes[k];
+    }
+    disks[disk].blocks[HARD + row] = *bytes;
+    disks[disk].unsynced = true;
+    disks[parity].blocks[HARD + row] = sum;
+    disks[parity].unsynced = true;
+}
+
+fn is_missing(block: u32) -> bool {
+    block as usize >= ROWS * (DISKS - 1)
+}
+
+fn answer(array: &mut Array, line: Option<&[u8]>, text: &mut Vec<u8>) {
+    let Array { disks, writes, pairs } = array;
     text.clear();
-    match line.map_or(Event::Bad, parse) {
-        Event::Read(b) | Event::Write(b, _) if b as usize >= ROWS * (DISKS - 1) => {
-            writeln!(text, "noblock {b}").unwrap();
-        }
+    match line.map_or(Event::Bad, |line| parse(line, pairs)) {
+        Event::Read(b) if is_missing(b) => writeln!(text, "noblock {b}").unwrap(),
         Event::Read(b) => {
             let (row, disk, _) = home(b as usize);
-            let block = disks[disk].blocks[HARD + row];
+            let block = &disks[disk].blocks[HARD + row];
             write!(text, "{b}=").unwrap();
-            for byte in &block[..period(&block)] {
-                write!(text, "{byte:02x}").unwrap();
+            for byte in &block[..period(block)] {
+                text.push(HEX[(byte >> 4) as usize]);
+                text.push(HEX[(byte & 15) as usize]);
             }
             text.push(b'\n');
         }
-        Event::Write(b, bytes) => {
-            let (row, disk, parity) = home(b as usize);
-            let old = disks[disk].blocks[HARD + row];
-            let mut sum = disks[parity].blocks[HARD + row];
-            for k in 0..512 {
-                sum[k] ^= old[k] ^ bytes[k];
+        Event::Write => {
+            if let Some((b, _)) = pairs.iter().find(|(b, _)| is_missing(*b)) {
+                writeln!(text, "noblock {b}").unwrap();
+                return;
             }
-            disks[disk].blocks[HARD + row] = bytes;
-            disks[disk].unsynced = true;
-            disks[parity].blocks[HARD + row] = sum;
-            disks[parity].unsynced = true;
+            for (b, bytes) in pairs.iter() {
+                write_block(disks, *b as usize, bytes);
+            }
             *writes += 1;
             writeln!(text, "wrote {writes}").unwrap();
         }
@@ -126,20 +168,19 @@ fn answer(disks: &mut [Disk], writes: &mut u64, line: Option<&[u8]>, text: &mut 
 }
 
 fn main() -> io::Result<()> {
-    let mut disks: Vec<Disk> = (0..DISKS)
-        .map(|_| Disk { blocks: vec![[0; 512]; 108], unsynced: false })
-        .collect();
+    let disks = (0..DISKS).map(|_| Disk { blocks: vec![[0; 512]; 108], unsynced: false }).collect();
+    let mut array = Array { disks, writes: 0, pairs: Vec::with_capacity(PAIRS) };
     let mut source = io::stdin().lock();
     let mut sink = std::fs::File::from(std::os::fd::AsFd::as_fd(&io::stdout()).try_clone_to_owned()?);
     sink.write_all(b"mounted 0 gear 5\n")?;
     let mut buffer = [0; BUFFER];
     let (mut start, mut end, mut long) = (0, 0, false);
-    let (mut writes, mut text) = (0, Vec::new());
+    let mut text = Vec::new();
     loop {
         while let Some(at) = buffer[start..end].iter().position(|&b| b == b'\n') {
             let line = &buffer[start..start + at];
             let whole = !long && line.len() <= MAX_LINE;
-            answer(&mut disks, &mut writes, whole.then_some(line), &mut text);
+            answer(&mut array, whole.then_some(line), &mut text);
             sink.write_all(&text)?;
             start += at + 1;
             long = false;
@@ -159,8 +200,8 @@ fn main() -> io::Result<()> {
     }
     if long || end > 0 {
         let whole = !long && end <= MAX_LINE;
-        answer(&mut disks, &mut writes, whole.then_some(&buffer[..end]), &mut text);
+        answer(&mut array, whole.then_some(&buffer[..end]), &mut text);
         sink.write_all(&text)?;
     }
-    sink.write_all(format!("end {writes}\n").as_bytes())
+    sink.write_all(format!("end {}\n", array.writes).as_bytes())
 }

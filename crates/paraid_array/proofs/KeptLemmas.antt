@@ -9,8 +9,10 @@ use Rattle.paraid_base.specs.declared.event.Event.TheVariants.{Read, Write, Flus
 use Rattle.paraid_base.specs.declared.fault.BlockFault.{BlockFault}
 use Rattle.paraid_base.specs.declared.fault.BlockFault.TheVariants.{NoBlock as BlockMissing, Halt as BlockHalt}
 use Rattle.paraid_base.specs.declared.fault.Halt.{Halt}
-use Rattle.paraid_base.specs.BlockAnswers.{Answers, answer_to_read, answer_to_write, answer_to_flush, halt_of, flush_halt_of, RefusesMissing, AfterRead, AfterWrite, AfterFlush}
+use Rattle.paraid_base.specs.BlockAnswers.{Answers, answer_to_read, answer_to_write, answer_to_flush, halt_of, flush_halt_of, RefusesMissing, RefusesMany, AfterRead, AfterWrite, AfterFlush}
+use Rattle.paraid_base.specs.declared.pairs.Pairs.{Pairs}
 use Rattle.paraid_base.specs.History.{History, held}
+use Rattle.paraid_base.specs.Pairs.{pairs_of}
 use Rattle.paraid_base.specs.Told.{HasRisen}
 use Rattle.paraid_array.specs.Kept.{Session, read, write, flush, no_read, no_write, halts, halts_again, Kept}
 
@@ -75,27 +77,27 @@ module _ (count : ℕ) (old : Option Halt) (holds after : History → Type 0) (e
       }
   kept_read_by b bytes (Err (BlockHalt halt)) stays refuses T value told history kept = kept_halt (Read b) halt stays kept
 
-  kept_write_by : (b : ℕ) (bytes : Block) (result : Result ℕ BlockFault) → Stays old (halt_of result) → RefusesMissing count b result
-      → ((h : History) → holds h → AfterWrite after h b bytes result)
-      → Kept count old holds events → Kept count (halt_of result) after (events ++ (Write b bytes, answer_to_write result) ∷ [])
-  kept_write_by b bytes (Ok number) stays below history kept =
+  kept_write_by : (p : Pairs) (result : Result ℕ BlockFault) → Stays old (halt_of result) → RefusesMany count (pairs_of p) result
+      → ((h : History) → holds h → AfterWrite after h (pairs_of p) result)
+      → Kept count old holds events → Kept count (halt_of result) after (events ++ (Write p, answer_to_write result) ∷ [])
+  kept_write_by p (Ok number) stays below history kept =
       let none : old ≡ None = not_halted stays in
       let was : Session count kept.accepted None events = subst (λ (o : Option Halt). Session count kept.accepted o events) none kept.session in
       let now = history kept.accepted (kept.stands none) in
       record {
-        accepted = kept.accepted ++ (b, bytes) ∷ [];
-        session = subst (λ (x : ℕ). Session count (kept.accepted ++ (b, bytes) ∷ []) None (events ++ (Write b bytes, Wrote x) ∷ [])) (sym now.0) (write kept.accepted events b bytes below was);
+        accepted = kept.accepted ++ pairs_of p ∷ [];
+        session = subst (λ (x : ℕ). Session count (kept.accepted ++ pairs_of p ∷ []) None (events ++ (Write p, Wrote x) ∷ [])) (sym now.0) (write kept.accepted events p below was);
         stands = λ is. now.1;
       }
-  kept_write_by b bytes (Err (BlockMissing missing)) stays refuses history kept =
+  kept_write_by p (Err (BlockMissing missing)) stays refuses history kept =
       let none : old ≡ None = not_halted stays in
       let was : Session count kept.accepted None events = subst (λ (o : Option Halt). Session count kept.accepted o events) none kept.session in
       record {
         accepted = kept.accepted;
-        session = subst (λ (x : ℕ). Session count kept.accepted None (events ++ (Write b bytes, NoBlock x) ∷ [])) (sym refuses.0) (no_write kept.accepted events b bytes refuses.1 was);
+        session = no_write kept.accepted events p missing refuses was;
         stands = λ is. history kept.accepted (kept.stands none);
       }
-  kept_write_by b bytes (Err (BlockHalt halt)) stays refuses history kept = kept_halt (Write b bytes) halt stays kept
+  kept_write_by p (Err (BlockHalt halt)) stays refuses history kept = kept_halt (Write p) halt stays kept
 
   kept_flush_by : (result : Result ℕ Halt) → Stays old (flush_halt_of result) → ((h : History) → holds h → AfterFlush after h result)
       → Kept count old holds events → Kept count (flush_halt_of result) after (events ++ (Flush, answer_to_flush result) ∷ [])
@@ -122,12 +124,12 @@ module _ (count new_count : ℕ) (old new : Option Halt) (holds after : History 
       settle (events ++ (Read b, answer_to_read b bytes result) ∷ []) (halt_of result) is
       (kept_read_by count old holds after events b bytes result (λ halt was. sym is ∙ stays halt was) refuses T value told history kept)
 
-  pub kept_write : (b : ℕ) (bytes : Block) (result : Result ℕ BlockFault) → Stays old new → RefusesMissing count b result → new ≡ halt_of result
-      → ((h : History) → holds h → AfterWrite after h b bytes result)
-      → Kept count old holds events → Kept new_count new after (events ++ (Write b bytes, answer_to_write result) ∷ [])
-  kept_write b bytes result stays refuses is history kept =
-      settle (events ++ (Write b bytes, answer_to_write result) ∷ []) (halt_of result) is
-      (kept_write_by count old holds after events b bytes result (λ halt was. sym is ∙ stays halt was) refuses history kept)
+  pub kept_write : (p : Pairs) (result : Result ℕ BlockFault) → Stays old new → RefusesMany count (pairs_of p) result → new ≡ halt_of result
+      → ((h : History) → holds h → AfterWrite after h (pairs_of p) result)
+      → Kept count old holds events → Kept new_count new after (events ++ (Write p, answer_to_write result) ∷ [])
+  kept_write p result stays refuses is history kept =
+      settle (events ++ (Write p, answer_to_write result) ∷ []) (halt_of result) is
+      (kept_write_by count old holds after events p result (λ halt was. sym is ∙ stays halt was) refuses history kept)
 
   pub kept_flush : (result : Result ℕ Halt) → Stays old new → new ≡ flush_halt_of result → ((h : History) → holds h → AfterFlush after h result)
       → Kept count old holds events → Kept new_count new after (events ++ (Flush, answer_to_flush result) ∷ [])

@@ -1,19 +1,24 @@
 -- What a write of one cell and its parity does to the rows, and what disks of zeros hold.
 use Rattle.std.proofs.Common.{◌≡◌, ◌≢◌, ℕ, zero, suc, ◌-◌, ◌*◌, ◌<◌, ◌≤◌, [], ◌∷◌, ◌++◌, Option, refl, sym, ap, ◌∙◌, subst, inl, inr, arith}
-use Rattle.std.proofs.lemmas.Bool.{cases_eq}
+use Rattle.std.specs.Prelude.{◌==◌, All, get_or, if◌then◌else◌}
+use Rattle.std.proofs.lemmas.List.{get_or-take}
+use Rattle.paraid_base.specs.declared.pairs.Pairs.{Pairs}
+use Rattle.paraid_base.specs.Pairs.{pairs_of, zipped}
+use Rattle.paraid_base.proofs.PairsLemmas.{get_or-zipped, length-pairs_of}
+use Rattle.std.proofs.lemmas.Bool.{cases_eq, cond-false, cond-true, eq-eqb, ne_eqb}
 use Rattle.paraid_base.specs.declared.block.Block.{Block}
 use Rattle.paraid_base.specs.declared.geometry.Geometry.{Geometry}
 use Rattle.paraid_base.specs.Cells.{block_of, home_disk, home_row, parity_disk}
-use Rattle.paraid_base.specs.History.{History, held}
+use Rattle.paraid_base.specs.History.{Entry, History, held, last_of}
 use Rattle.paraid_base.specs.Regions.{hard_place_of}
 use Rattle.paraid_base.specs.Sums.{xor_upto}
 use Rattle.paraid_base.specs.Xor.{xor, zeroed}
 use Rattle.paraid_base.proofs.CellsLemmas.{block_of-home, home_disk_below, home_disk_other, parity_disk_below}
-use Rattle.paraid_base.proofs.HistoryLemmas.{held-none, held-other, held-written}
+use Rattle.paraid_base.proofs.HistoryLemmas.{held-append, held-none, last_of-append}
 use Rattle.paraid_base.proofs.SumsLemmas.{parity_kept, xor_upto_same}
 use Rattle.paraid_base.proofs.XorLemmas.{xor_zero}
 use Rattle.paraid_rack.specs.Trail.{Trail}
-use Rattle.paraid_array.specs.Cells.{Cells, with_cell, rewritten, RowsZero, Holds, Keeps, Stands}
+use Rattle.paraid_array.specs.Cells.{Cells, with_cell, rewritten, RowsZero, Holds, Keeps, Contains, Stands}
 use Rattle.paraid_array.specs.Mount.{AreZeros}
 use Rattle.paraid_array.proofs.StoresLemmas.{with_cell-same, with_cell-other_row, with_cell-other_disk}
 
@@ -62,14 +67,14 @@ one_home : (n a b : ℕ) → home_row n a ≡ home_row n b → home_disk n a ≡
 one_home n a b row disk =
     sym (block_of-home n a) ∙ ap (λ (r : ℕ). block_of n r (home_disk n a)) row ∙ ap (block_of n (home_row n b)) disk ∙ block_of-home n b
 
--- the cells hold the history with the write
-holds_rewritten : (g : Geometry) (cells : Cells) (h : History) (block : ℕ) (bytes : Block) → Holds g cells h
-    → Holds g (rewritten g.disks cells (home_row g.disks block) (home_disk g.disks block) bytes) (h ++ (block, bytes) ∷ [])
-holds_rewritten g cells h block bytes holds b below = elim (cases_eq block b) [
+-- the cells hold the bytes that were written, and each other block as it was
+holds_rewritten : (g : Geometry) (cells : Cells) (f : ℕ → Block) (block : ℕ) (bytes : Block) → Holds g cells f
+    → Holds g (rewritten g.disks cells (home_row g.disks block) (home_disk g.disks block) bytes) (λ b. if block == b then bytes else f b)
+holds_rewritten g cells f block bytes holds b below = elim (cases_eq block b) [
   | inl is ↦
-      subst (λ (k : ℕ). rewritten n cells (home_row n block) (home_disk n block) bytes (home_row n k) (home_disk n k) ≡ held (h ++ (block, bytes) ∷ []) k) is
-      (rewritten-cell n cells (home_row n block) (home_disk n block) bytes (home_disk_other n block) ∙ sym (held-written h block bytes))
-  | inr not ↦ there not ∙ holds b below ∙ sym (held-other h block b bytes not)
+      subst (λ (k : ℕ). rewritten n cells (home_row n block) (home_disk n block) bytes (home_row n k) (home_disk n k) ≡ (if block == k then bytes else f k)) is
+      (rewritten-cell n cells (home_row n block) (home_disk n block) bytes (home_disk_other n block) ∙ sym (cond-true _ _ _ (eq-eqb block block refl)))
+  | inr not ↦ there not ∙ holds b below ∙ sym (cond-false _ _ _ (ne_eqb block b not))
 ]
   where
     n : ℕ
@@ -85,10 +90,10 @@ holds_rewritten g cells h block bytes holds b below = elim (cases_eq block b) [
     ]
 
 -- a write of a block, with its parity
-pub stands_written : (g : Geometry) (old new : Option Trail) (block row disk : ℕ) (bytes : Block) → row ≡ home_row g.disks block → disk ≡ home_disk g.disks block
+pub contains_written : (g : Geometry) (old new : Option Trail) (block row disk : ℕ) (bytes : Block) → row ≡ home_row g.disks block → disk ≡ home_disk g.disks block
     → ((cells : Cells) → RowsZero g cells → Keeps g old cells → Keeps g new (rewritten g.disks cells row disk bytes))
-    → (h : History) → Stands g old h → Stands g new (h ++ (block, bytes) ∷ [])
-stands_written g old new block row disk bytes is_row is_disk keeps h stands =
+    → (f : ℕ → Block) → Contains g old f → Contains g new (λ b. if block == b then bytes else f b)
+contains_written g old new block row disk bytes is_row is_disk keeps f stands =
     let n = g.disks in
     let low : 3 ≤ n = g.disks_low in
     let r = home_row n block in
@@ -97,9 +102,34 @@ stands_written g old new block row disk bytes is_row is_disk keeps h stands =
     record {
       cells = rewritten n stands.cells r d bytes;
       zero = rows_rewritten g stands.cells r d bytes (home_disk_below n block (omega arith)) (home_disk_other n block) stands.zero;
-      holds = holds_rewritten g stands.cells h block bytes stands.holds;
+      holds = holds_rewritten g stands.cells f block bytes stands.holds;
       keeps = subst (λ (q : ℕ). Keeps g new (rewritten n stands.cells q d bytes)) is_row (subst (λ (e : ℕ). Keeps g new (rewritten n stands.cells row e bytes)) is_disk kept);
     }
+
+-- the same blocks
+pub contains_as : (g : Geometry) (told : Option Trail) (f k : ℕ → Block) → ((b : ℕ) → f b ≡ k b) → Contains g told f → Contains g told k
+contains_as g told f k same is = record { cells = is.cells; zero = is.zero; holds = λ b below. is.holds b below ∙ same b; keeps = is.keeps }
+
+-- blocks with an entry laid over them
+abbrev pub with_entry : (ℕ → Block) → Entry → ℕ → Block
+with_entry f entry b = last_of b (f b) entry
+
+-- the entry is one write more
+pub stands_entry : (g : Geometry) (told : Option Trail) (h : History) (entry : Entry) → Contains g told (with_entry (held h) entry) → Stands g told (h ++ entry ∷ [])
+stands_entry g told h entry = contains_as g told _ _ (λ b. sym (held-append h entry b))
+
+-- one pair more
+pub contains_more : (g : Geometry) (told : Option Trail) (f : ℕ → Block) (entry : Entry) (block : ℕ) (bytes : Block) (longer : Entry) → longer ≡ entry ++ (block, bytes) ∷ []
+    → Contains g told (λ b. if block == b then bytes else with_entry f entry b) → Contains g told (with_entry f longer)
+contains_more g told f entry block bytes longer is = contains_as g told _ _ (λ b. sym (ap (last_of b (f b)) is ∙ last_of-append b (f b) entry ((block, bytes) ∷ [])))
+
+-- each pair is of a block that there is
+pub pair_below : (count : ℕ) (p : Pairs) (i : ℕ) → All (λ (pair : ℕ × Block). pair.0 < count) (pairs_of p) → i < p.count → get_or p.blocks i 0 < count
+unfolding pairs_of
+pair_below count p i all l =
+    let long = length-pairs_of p in
+    let here = get_or-take p.count (zipped p.blocks p.bytes) i (0, zeroed) l ∙ get_or-zipped p.blocks p.bytes i 0 zeroed (p.blocks_whole ∙ sym p.bytes_whole) in
+    subst (λ (pair : ℕ × Block). pair.0 < count) here (all i (0, zeroed) (omega (arith, l, long)))
 
 -- calls that change no cell
 pub stands_kept : (g : Geometry) (old new : Option Trail) → ((cells : Cells) → Keeps g old cells → Keeps g new cells) → (h : History) → Stands g old h → Stands g new h

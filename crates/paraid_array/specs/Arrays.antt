@@ -1,5 +1,7 @@
 -- What contracts see of an array.
-use Rattle.std.specs.Prelude.{◌≡◌, ℕ, ◌<◌, ◌≢◌, ◌-◌, ◌*◌, length, false, Option, Some, None}
+use Rattle.std.specs.Prelude.{◌≡◌, ℕ, ◌<◌, ◌≤◌, ◌≢◌, ◌-◌, ◌*◌, ◌^◌, length, false, Option, Some, None}
+use Rattle.std.proofs.Common.{arith}
+use Rattle.std.proofs.Math.Nat.{mul-le-mul}
 use Rattle.paraid_base.specs.declared.geometry.Geometry.{Geometry}
 use Rattle.paraid_base.specs.declared.fault.Halt.{Halt}
 use Rattle.paraid_base.specs.History.{History}
@@ -20,6 +22,14 @@ geometry_of array = array.geometry
 -- how many blocks it has
 abbrev pub count_of : {R : Type 0} {g : _} → Array R g → ℕ
 count_of array = array.geometry.rows * (array.geometry.disks - 1)
+
+pub count_small : (g : Geometry) → g.rows * (g.disks - 1) < 2 ^ 32
+count_small g =
+    let rows = g.rows_high in
+    let disks = g.disks_high in
+    let few : g.disks - 1 ≤ 7 = omega (arith, disks) in
+    let most : g.rows * (g.disks - 1) ≤ 65536 * 7 = mul-le-mul rows few in
+    omega (arith, most)
 
 -- the disk that is out
 abbrev pub out_of : {R : Type 0} {g : _} → Array R g → Option ℕ

@@ -36,9 +36,9 @@ pub record IsHome (g : Geometry) (b : ℕ) (at : ℕ × ℕ) : Type 0 where
 abbrev pub RowsZero : Geometry → Cells → Type 0
 RowsZero g cells = (r : ℕ) → r < g.rows → xor_upto (cells r) g.disks ≡ zeroed
 
--- each block holds the last write of it, at its home
-abbrev pub Holds : Geometry → Cells → History → Type 0
-Holds g cells h = (b : ℕ) → b < g.rows * (g.disks - 1) → cells (home_row g.disks b) (home_disk g.disks b) ≡ held h b
+-- each block holds this, at its home
+abbrev pub Holds : Geometry → Cells → (ℕ → Block) → Type 0
+Holds g cells f = (b : ℕ) → b < g.rows * (g.disks - 1) → cells (home_row g.disks b) (home_disk g.disks b) ≡ f b
 
 -- each disk that is present stores its cells
 pub record Stores (g : Geometry) (s : Disks) (cells : Cells) : Type 0 where
@@ -48,10 +48,14 @@ pub record Stores (g : Geometry) (s : Disks) (cells : Cells) : Type 0 where
 abbrev pub Keeps : Geometry → Option Trail → Cells → Type 0
 Keeps g told cells = (t : Trail) → told ≡ Some t → Stores g (now t) cells
 
--- The disks store cells whose rows sum to zero and which hold the last write of each block. So a
--- cell of a disk that is absent is the sum of the others of its row.
-pub record Stands (g : Geometry) (told : Option Trail) (h : History) : Type 0 where
+-- The disks store cells whose rows sum to zero and which hold these blocks. So a cell of a disk that
+-- is absent is the sum of the others of its row.
+pub record Contains (g : Geometry) (told : Option Trail) (f : ℕ → Block) : Type 0 where
   pub cells : Cells
   pub zero : RowsZero g cells
-  pub holds : Holds g cells h
+  pub holds : Holds g cells f
   pub keeps : Keeps g told cells
+
+-- the disks hold what these writes left
+abbrev pub Stands : Geometry → Option Trail → History → Type 0
+Stands g told h = Contains g told (held h)

@@ -1,12 +1,14 @@
 -- The events that an array was asked for, with its answers, since it stood for no write.
-use Rattle.std.specs.Prelude.{◌≡◌, ℕ, ◌+◌, ◌<◌, ◌≤◌, [], ◌∷◌, ◌++◌, length, Option, Some, None}
+use Rattle.std.specs.Prelude.{◌≡◌, ℕ, ◌+◌, ◌<◌, ◌≤◌, [], ◌∷◌, ◌++◌, length, All, Option, Some, None}
 use Rattle.paraid_base.specs.declared.block.Block.{Block}
 use Rattle.paraid_base.specs.declared.event.Answer.TheVariants.{Value, NoBlock, Wrote, Flushed, Halted}
 use Rattle.paraid_base.specs.declared.event.Event.{Event}
 use Rattle.paraid_base.specs.declared.event.Event.TheVariants.{Read, Write, Flush}
 use Rattle.paraid_base.specs.declared.fault.Halt.{Halt}
-use Rattle.paraid_base.specs.BlockAnswers.{Answers}
+use Rattle.paraid_base.specs.BlockAnswers.{Answers, IsFirstMissing}
+use Rattle.paraid_base.specs.declared.pairs.Pairs.{Pairs}
 use Rattle.paraid_base.specs.History.{History, held}
+use Rattle.paraid_base.specs.Pairs.{pairs_of}
 
 -- Events of a device of so many blocks: the writes that were accepted, the halt, and the answers.
 pub data Session (count : ℕ) : History → Option Halt → Answers → Type 0 where
@@ -14,12 +16,13 @@ pub data Session (count : ℕ) : History → Option Halt → Answers → Type 0 
   -- a read gives what the writes before it left
   read : (h : History) (events : Answers) (b : ℕ) → b < count → Session count h None events → Session count h None (events ++ (Read b, Value b (held h b)) ∷ [])
   -- a write is accepted and gives its number
-  write : (h : History) (events : Answers) (b : ℕ) (bytes : Block) → b < count → Session count h None events
-      → Session count (h ++ (b, bytes) ∷ []) None (events ++ (Write b bytes, Wrote (length h + 1)) ∷ [])
+  write : (h : History) (events : Answers) (pairs : Pairs) → All (λ (pair : ℕ × Block). pair.0 < count) (pairs_of pairs) → Session count h None events
+      → Session count (h ++ pairs_of pairs ∷ []) None (events ++ (Write pairs, Wrote (length h + 1)) ∷ [])
   flush : (h : History) (events : Answers) → Session count h None events → Session count h None (events ++ (Flush, Flushed (length h)) ∷ [])
   -- there is no such block
   no_read : (h : History) (events : Answers) (b : ℕ) → count ≤ b → Session count h None events → Session count h None (events ++ (Read b, NoBlock b) ∷ [])
-  no_write : (h : History) (events : Answers) (b : ℕ) (bytes : Block) → count ≤ b → Session count h None events → Session count h None (events ++ (Write b bytes, NoBlock b) ∷ [])
+  no_write : (h : History) (events : Answers) (pairs : Pairs) (missing : ℕ) → IsFirstMissing count (pairs_of pairs) missing → Session count h None events
+      → Session count h None (events ++ (Write pairs, NoBlock missing) ∷ [])
   -- any event may meet a halt, and each later one is answered with it
   halts : (h : History) (events : Answers) (event : Event) (halt : Halt) → Session count h None events → Session count h (Some halt) (events ++ (event, Halted halt) ∷ [])
   halts_again : (h : History) (events : Answers) (event : Event) (halt : Halt) → Session count h (Some halt) events → Session count h (Some halt) (events ++ (event, Halted halt) ∷ [])

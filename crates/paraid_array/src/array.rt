@@ -1,16 +1,18 @@
 ghost use Rattle.std.specs.Prelude.{◌≡◌, ◌≢◌, ℕ, ◌+◌, ◌^◌, ◌<◌, ◌≤◌, [], false, Some, None, IsSome, OnOk, OnErr, IfOk, IfErr};
-ghost use Rattle.paraid_base.specs.BlockAnswers.{halt_of, flush_halt_of, RefusesMissing, AfterRead, AfterWrite, AfterFlush};
+ghost use Rattle.paraid_base.specs.BlockAnswers.{halt_of, flush_halt_of, RefusesMissing, RefusesMany, AfterRead, AfterWrite, AfterFlush};
 ghost use Rattle.paraid_base.specs.History.{History, held};
+ghost use Rattle.paraid_base.specs.Pairs.{pairs_of};
 ghost use Rattle.paraid_base.specs.Regions.{disk_size};
 ghost use Rattle.paraid_array.specs.Kept.{Kept};
 ghost use Rattle.paraid_array.specs.Mount.{AreZeros, IsMountFault};
 ghost use Rattle.paraid_array.specs.Powers.{Fits};
 
 use crate::MountRefused;
+use crate::entry::write_pairs;
 use crate::mount::{geometry, misfit};
-use crate::row::{home_of, read_cell, write_cell};
+use crate::row::{home_of, read_cell};
 use crate::sync::sync_all;
-use paraid_base::{Block, BlockFault, BlockNo, DiskNo, Geometry, Halt};
+use paraid_base::{Block, BlockFault, BlockNo, DiskNo, Geometry, Halt, Pairs};
 use paraid_rack::Rack;
 
 /// An array that has accepted so many writes is worn: each call gives `Halt::Worn`.
@@ -86,6 +88,13 @@ impl<R: Rack> Array<R> {
         self.geometry.blocks()
     }
 
+    /// The halt that each call gives from now on, if it has halted.
+    pub fn halt(&self) -> Option<Halt>
+        ensures { result ≡ halted self.now }
+    {
+        self.halt
+    }
+
     /// Reads a block: the bytes last written to it, or zeros. After a refusal `into` holds any
     /// bytes.
     pub fn read(&mut self, block: BlockNo, into: &mut Block) -> Result<(), BlockFault>
@@ -130,12 +139,12 @@ impl<R: Rack> Array<R> {
         }
     }
 
-    /// Writes a block. Ok gives the number of this write, from 1. After a halt in this call the
-    /// write is not accepted.
-    pub fn write(&mut self, block: BlockNo, bytes: &Block) -> Result<u64, BlockFault>
-        ensures missing { RefusesMissing (count_of self.old) block result }
+    /// Writes one to eight blocks, or none of them where one of them does not exist. Ok gives the
+    /// number of this write, from 1. After a halt in this call the write is not accepted.
+    pub fn write_many(&mut self, pairs: &Pairs) -> Result<u64, BlockFault>
+        ensures missing { RefusesMany (count_of self.old) (pairs_of pairs.now) result }
         ensures history { (h : History) → StandsFor R.told self.old h
-            → AfterWrite (StandsFor R.told self.new) h block bytes.now result }
+            → AfterWrite (StandsFor R.told self.new) h (pairs_of pairs.now) result }
         ensures halt { halted self.new ≡ halt_of result }
         ensures number { IfOk result (λ number. (number ≡ writes_of self.old + 1)
             × (writes_of self.new ≡ number)) }
@@ -153,18 +162,10 @@ impl<R: Rack> Array<R> {
             self.halt = Some(halt);
             return Err(BlockFault::Halt(halt));
         }
-        let Some((row, disk)) = home_of(&self.geometry, block) else {
+        if let Some(block) = pairs.missing(self.geometry.blocks()) {
             return Err(BlockFault::NoBlock { block });
-        };
-        let answer = write_cell(
-            &mut self.rack,
-            &self.geometry,
-            &mut self.out,
-            row,
-            disk,
-            bytes,
-        );
-        match answer {
+        }
+        match write_pairs(&mut self.rack, &self.geometry, &mut self.out, pairs) {
             Ok(()) => {
                 self.writes += 1;
                 Ok(self.writes)

@@ -3,11 +3,11 @@ ghost use Rattle.std.specs.Prelude.{is_some, if◌then◌else◌};
 ghost use Rattle.paraid_array.specs.Kept.{Kept};
 
 use crate::Array;
-use paraid_base::{Block, BlockFault, BlockNo, Blocks, Halt};
+use paraid_base::{Block, BlockFault, BlockNo, Blocks, Halt, Pairs};
 use paraid_rack::Rack;
 
 impl<R: Rack> Blocks for Array<R> {
-    ghost use Rattle.paraid_array.specs.Arrays.{rack_of, count_of, halted as halt_now, StandsFor};
+    ghost use Rattle.paraid_array.specs.Arrays.{rack_of, geometry_of, count_of, count_small, halted as halt_now, StandsFor};
 
     ghost block_count = { λ array. count_of array };
 
@@ -21,6 +21,8 @@ impl<R: Rack> Blocks for Array<R> {
 
     ghost kept = { λ array. Kept (count_of array) (halt_now array) (StandsFor R.told array) };
 
+    ghost small = { λ array. count_small (geometry_of array) };
+
     fn blocks(&self) -> u32 {
         Array::blocks(self)
     }
@@ -29,8 +31,8 @@ impl<R: Rack> Blocks for Array<R> {
         Array::read(self, block, into)
     }
 
-    fn write(&mut self, block: BlockNo, bytes: &Block) -> Result<u64, BlockFault> {
-        Array::write(self, block, bytes)
+    fn write_many(&mut self, pairs: &Pairs) -> Result<u64, BlockFault> {
+        Array::write_many(self, pairs)
     }
 
     fn flush(&mut self) -> Result<u64, Halt> {

@@ -8,13 +8,12 @@
 
 mod array;
 mod device;
+mod entry;
 mod fault;
 mod loss;
 mod mount;
 mod row;
 mod sync;
-#[cfg(test)]
-mod tests;
 
 pub use array::Array;
 pub use fault::{MountFault, MountRefused};

@@ -3,6 +3,7 @@ pub mod BytesLemmas
 pub mod XorLemmas
 pub mod SumsLemmas
 pub mod HistoryLemmas
+pub mod PairsLemmas
 pub mod SkipsLemmas
 pub mod CellsLemmas
 pub mod SoftLemmas

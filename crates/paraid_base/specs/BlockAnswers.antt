@@ -1,5 +1,5 @@
 -- What a block device answers, and what its answers say of its history
-use Rattle.std.specs.Prelude.{◌≡◌, ℕ, ◌<◌, ◌≤◌, ◌+◌, List, [], ◌∷◌, ◌++◌, length, Option, Some, None, Result, Ok, Err}
+use Rattle.std.specs.Prelude.{◌≡◌, ℕ, ◌<◌, ◌≤◌, ◌+◌, List, [], ◌∷◌, ◌++◌, length, All, Option, Some, None, Result, Ok, Err}
 use Rattle.paraid_base.specs.declared.block.Block.{Block}
 use Rattle.paraid_base.specs.declared.event.Answer.{Answer}
 use Rattle.paraid_base.specs.declared.event.Answer.TheVariants.{Value, NoBlock, Wrote, Flushed, Halted}
@@ -7,7 +7,7 @@ use Rattle.paraid_base.specs.declared.event.Event.{Event}
 use Rattle.paraid_base.specs.declared.fault.BlockFault.{BlockFault}
 use Rattle.paraid_base.specs.declared.fault.BlockFault.TheVariants.{NoBlock as BlockMissing, Halt as BlockHalt}
 use Rattle.paraid_base.specs.declared.fault.Halt.{Halt}
-use Rattle.paraid_base.specs.History.{History}
+use Rattle.paraid_base.specs.History.{Entry, History}
 
 -- events with their answers, the first event first
 abbrev pub Answers : Type 0
@@ -51,12 +51,27 @@ AfterRead stands h (Ok done) = stands h
 AfterRead stands h (Err (BlockMissing missing)) = stands h
 AfterRead stands h (Err (BlockHalt halt)) = Unit {0}
 
--- a write is appended to the history and gives its new length, or there is no such block and
--- the history stays
-abbrev pub AfterWrite : (History → Type 0) → History → ℕ → Block → Result ℕ BlockFault → Type 0
-AfterWrite stands h block bytes (Ok number) = (number ≡ length h + 1) × stands (h ++ (block, bytes) ∷ [])
-AfterWrite stands h block bytes (Err (BlockMissing missing)) = stands h
-AfterWrite stands h block bytes (Err (BlockHalt halt)) = Unit {0}
+-- block `block` is the first of these pairs that is past the last of `count` blocks
+pub record IsFirstMissing (count : ℕ) (entry : Entry) (block : ℕ) : Type 0 where
+  pub before : Entry
+  pub bytes : Block
+  pub rest : Entry
+  pub is : entry ≡ before ++ (block, bytes) ∷ rest
+  pub below : All (λ (pair : ℕ × Block). pair.0 < count) before
+  pub missing : count ≤ block
+
+-- of `count` blocks, pairs of which one is past the last one are refused, by the first such
+abbrev pub RefusesMany : {A : Type 0} → ℕ → Entry → Result A BlockFault → Type 0
+RefusesMany count entry (Ok value) = All (λ (pair : ℕ × Block). pair.0 < count) entry
+RefusesMany count entry (Err (BlockMissing missing)) = IsFirstMissing count entry missing
+RefusesMany count entry (Err (BlockHalt halt)) = Unit {0}
+
+-- a write is appended to the history as one entry and gives its new length, or there is no such
+-- block and the history stays
+abbrev pub AfterWrite : (History → Type 0) → History → Entry → Result ℕ BlockFault → Type 0
+AfterWrite stands h entry (Ok number) = (number ≡ length h + 1) × stands (h ++ entry ∷ [])
+AfterWrite stands h entry (Err (BlockMissing missing)) = stands h
+AfterWrite stands h entry (Err (BlockHalt halt)) = Unit {0}
 
 -- a flush gives the length of the history, which stays
 abbrev pub AfterFlush : (History → Type 0) → History → Result ℕ Halt → Type 0

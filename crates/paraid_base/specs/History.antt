@@ -1,20 +1,29 @@
 -- The writes that were accepted, and what a block holds after them.
-use Rattle.std.specs.Prelude.{ℕ, ◌==◌, if◌then◌else◌, List, [], ◌∷◌, length, take}
+use Rattle.std.specs.Prelude.{ℕ, ◌==◌, if◌then◌else◌, List, [], ◌∷◌, ◌++◌, length, take}
 use Rattle.paraid_base.specs.declared.block.Block.{Block}
 use Rattle.paraid_base.specs.Xor.{zeroed}
 
--- each write's block number and bytes, the first write first
+-- the pairs of one write: block numbers and bytes, the first pair first
+abbrev pub Entry : Type 0
+Entry = List (ℕ × Block)
+
+-- the entry of each write, the first write first
 abbrev pub History : Type 0
-History = List (ℕ × Block)
+History = List Entry
+
+-- the entries joined in order
+abbrev pub joined : History → Entry
+joined [] = []
+joined (entry ∷ entries) = entry ++ joined entries
 
 -- the bytes of the last pair that names block `b`, or these bytes where none does
-abbrev pub last_of : ℕ → Block → History → Block
+abbrev pub last_of : ℕ → Block → Entry → Block
 last_of b bytes [] = bytes
-last_of b bytes (write ∷ writes) = last_of b (if write.0 == b then write.1 else bytes) writes
+last_of b bytes (pair ∷ pairs) = last_of b (if pair.0 == b then pair.1 else bytes) pairs
 
--- block `b` after the first `k` writes: the last that names it, or zeros where none does
+-- block `b` after the first `k` writes: the last pair that names it, or zeros where none does
 unfoldable pub after : History → ℕ → ℕ → Block
-after h k b = last_of b zeroed (take k h)
+after h k b = last_of b zeroed (joined (take k h))
 
 -- block `b` after all writes
 abbrev pub held : History → ℕ → Block

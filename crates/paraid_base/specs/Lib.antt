@@ -3,6 +3,7 @@ pub mod Bytes
 pub mod Xor
 pub mod Sums
 pub mod History
+pub mod Pairs
 pub mod BlockAnswers
 pub mod Skips
 pub mod Cells

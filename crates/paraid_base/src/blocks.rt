@@ -1,11 +1,12 @@
-ghost use Rattle.std.specs.Prelude.{◌≡◌, ℕ, ◌≤◌, [], ◌∷◌, ◌++◌, Bool, IsTrue, Option, IsSome, IsNone, OnOk};
+ghost use Rattle.std.specs.Prelude.{◌≡◌, ℕ, ◌≤◌, ◌<◌, ◌^◌, [], ◌∷◌, ◌++◌, Bool, IsTrue, Option, IsSome, IsNone, OnOk};
 ghost use Rattle.paraid_base.specs.declared.fault.Halt.{Halt};
 ghost use Rattle.paraid_base.specs.declared.event.Event.TheVariants.{Read, Write, Flush};
-ghost use Rattle.paraid_base.specs.BlockAnswers.{Answers, answer_to_read, answer_to_write, answer_to_flush, halt_of, flush_halt_of, RefusesMissing, AfterRead, AfterWrite, AfterFlush};
+ghost use Rattle.paraid_base.specs.BlockAnswers.{Answers, answer_to_read, answer_to_write, answer_to_flush, halt_of, flush_halt_of, RefusesMissing, RefusesMany, AfterRead, AfterWrite, AfterFlush};
 ghost use Rattle.paraid_base.specs.History.{History, held};
+ghost use Rattle.paraid_base.specs.Pairs.{pairs_of, one};
 ghost use Rattle.paraid_base.specs.Told.{HasRisen};
 
-use crate::{Block, BlockFault, BlockNo, Halt};
+use crate::{Block, BlockFault, BlockNo, Halt, Pairs};
 
 /// A block device: blocks of zeros that are read and written by number.
 ///
@@ -57,8 +58,26 @@ pub trait Blocks {
         ensures events { (events : Answers) → kept self.old events → IsTrue (tells self.new)
             → kept self.new (events ++ (Read block, answer_to_read block into.new result) ∷ []) };
 
-    /// Writes a block. Ok gives the number of this write, from 1: the length of the history with
-    /// it. After a halt in this call the write is not accepted.
+    /// Writes one to eight blocks, all or none of them. Ok gives the number of this write, from 1:
+    /// the length of the history with it. Of blocks that do not exist the first is named. After
+    /// a halt in this call the write is not accepted.
+    fn write_many(&mut self, pairs: &Pairs) -> Result<u64, BlockFault>
+        ensures size { block_count self.new ≡ block_count self.old }
+        ensures missing { RefusesMany (block_count self.old) (pairs_of pairs.now) result }
+
+        ensures halt { halted self.new ≡ halt_of result }
+        ensures again { IsSome (halted self.old) → halted self.new ≡ halted self.old }
+        ensures later { halts self.old ≤ halts self.new }
+        ensures cause { IsNone (halted self.old) → IsSome (halted self.new)
+            → HasRisen (halts self.old) (halts self.new) }
+
+        ensures told { IsTrue (tells self.new) → IsTrue (tells self.old) }
+        ensures history { (h : History) → stands self.old h → IsTrue (tells self.new)
+            → AfterWrite (stands self.new) h (pairs_of pairs.now) result }
+        ensures events { (events : Answers) → kept self.old events → IsTrue (tells self.new)
+            → kept self.new (events ++ (Write pairs.now, answer_to_write result) ∷ []) };
+
+    /// Writes a block, as a write of one pair.
     fn write(&mut self, block: BlockNo, bytes: &Block) -> Result<u64, BlockFault>
         ensures size { block_count self.new ≡ block_count self.old }
         ensures missing { RefusesMissing (block_count self.old) block result }
@@ -71,9 +90,12 @@ pub trait Blocks {
 
         ensures told { IsTrue (tells self.new) → IsTrue (tells self.old) }
         ensures history { (h : History) → stands self.old h → IsTrue (tells self.new)
-            → AfterWrite (stands self.new) h block bytes.now result }
+            → AfterWrite (stands self.new) h ((block, bytes.now) ∷ []) result }
         ensures events { (events : Answers) → kept self.old events → IsTrue (tells self.new)
-            → kept self.new (events ++ (Write block bytes.now, answer_to_write result) ∷ []) };
+            → kept self.new (events ++ (Write (one block bytes.now), answer_to_write result) ∷ []) }
+    {
+        self.write_many(&Pairs::one(block, bytes))
+    }
 
     /// Keeps all writes that were accepted: no stop takes one of them away. Ok gives their number.
     fn flush(&mut self) -> Result<u64, Halt>
@@ -90,7 +112,7 @@ pub trait Blocks {
             → AfterFlush (stands self.new) h result }
         ensures events { (events : Answers) → kept self.old events → IsTrue (tells self.new)
             → kept self.new (events ++ (Flush, answer_to_flush result) ∷ []) };
-}
 
-#[cfg(test)]
-mod tests;
+    /// A device has fewer than 2^32 blocks.
+    ghost small: { (device : Self) → block_count device < 2 ^ 32 };
+}

@@ -1,12 +1,12 @@
-use crate::{Block, BlockNo, DiskNo, GearReport, Halt, Status};
+use crate::{Block, BlockNo, DiskNo, GearReport, Halt, Pairs, Status};
 
 /// What a line of the trace asks for.
 #[derive(Drop)]
 pub enum Event {
     /// Read a block.
     Read { block: BlockNo },
-    /// Write these bytes to a block.
-    Write { block: BlockNo, bytes: Block },
+    /// Write these bytes to these blocks, all or none of them.
+    Write { pairs: Pairs },
     /// Keep all writes that were accepted.
     Flush,
     /// A unit of time has passed.

@@ -10,6 +10,8 @@ mod blocks;
 mod event;
 mod fault;
 mod geometry;
+mod laws;
+mod pairs;
 mod state;
 
 pub use block::{BLOCK_SIZE, Block};
@@ -17,6 +19,8 @@ pub use blocks::Blocks;
 pub use event::{Answer, Event};
 pub use fault::{BlockFault, Failed, Halt, NoMemory, Two};
 pub use geometry::{GeoFault, Geometry};
+pub use laws::pairs_decide_a_value;
+pub use pairs::Pairs;
 pub use state::{GearReport, Out, Phase, Status, TickEvent};
 
 /// The number of a disk, from 0. It is also the number of its slot in a rack.

@@ -1,26 +1,16 @@
-//! Serves a trace over an array of five disks in memory, of which one may be lost.
-//!
-//! `paraid` is the program over any source, sink and rack; its contract says what is written at
-//! each status, which losses a status has for its cause, and what the disks hold. `main` hands it
-//! the standard streams.
+//! Hands the program the standard streams and five fresh disks in memory.
 #![tactic(auto)]
 
-mod hear;
-mod run;
-mod serve;
-mod session;
-mod status;
 mod stdio;
-mod top;
 
 use paraid_base::NoMemory;
 use paraid_memrack::MemRack;
+use paraid_program::{Ended, paraid, status};
 use paraid_rack::Rack;
 use std::alloc::Global;
 use std::process::ExitCode;
 use std::{env, io};
 use stdio::{StdSink, StdSource};
-use top::{Ended, paraid};
 
 /// The number of disks of the array.
 const DISKS: u8 = 5;
@@ -63,6 +53,3 @@ fn main(rt: HostRuntime) -> ExitCode {
     } = paraid(&words, &mut source, &mut sink, rack);
     ExitCode::from(status)
 }
-
-#[cfg(test)]
-mod tests;

@@ -10,7 +10,7 @@ use Rattle.paraid_config.specs.Keys.{low_of, high_of}
 use Rattle.paraid_config.specs.Config.{first_unknown, document_fault, IsDocumentFault, IsDocumentOf, IsRefusal}
 use Rattle.paraid_config.specs.declared.fault.ConfigFault.{ConfigFault}
 use Rattle.paraid_config.specs.declared.fault.ConfigFault.TheVariants.{Long, NotToml, Unknown, Missing, Kind, Range, Geometry, NoMemory}
-use Rattle.paraid_config.specs.Values.{IsFaultOf, first_fault, is_between, range_fault, number_fault, number_fault_in, integers_of, member_fault, members_fault, list_fault, list_fault_in, mode_fault_in, mode_name, value_at}
+use Rattle.paraid_config.specs.Values.{IsFaultOf, first_fault, is_between, range_fault, number_fault, number_fault_in, number_in, optional_fault_in, integers_of, member_fault, members_fault, list_fault, list_fault_in, mode_fault_in, mode_name, value_at}
 
 IsFaultOf-itself : (f : ConfigFault) → IsFaultOf (Some f) f
 IsFaultOf-itself Long = refl
@@ -77,6 +77,16 @@ number_of_a_key k (Some (table ms)) = refl
 pub number_fault-of_a_key : (document : Members) (k : Key) → IsOfAKey (number_fault document k)
 number_fault-of_a_key document k = number_of_a_key k (value_at document k)
 
+pub optional_of_a_key : (k : Key) (high : ℕ) (d : Option Data) → IsOfAKey (optional_fault_in k high d)
+optional_of_a_key k high None = tt
+optional_of_a_key k high (Some (string s)) = refl
+optional_of_a_key k high (Some (integer z)) = range_of_a_key (is_between (low_of k) high z) k z
+optional_of_a_key k high (Some (float x)) = refl
+optional_of_a_key k high (Some (boolean b)) = refl
+optional_of_a_key k high (Some (datetime dt)) = refl
+optional_of_a_key k high (Some (array ds)) = refl
+optional_of_a_key k high (Some (table ms)) = refl
+
 first_of_a_key : (x : Option ConfigFault) (xs : List (Option ConfigFault)) → IsOfAKey x → IsOfAKey (first_fault xs) → IsOfAKey (first_fault (x ∷ xs))
 first_of_a_key None xs here rest = rest
 first_of_a_key (Some f) xs here rest = here
@@ -139,9 +149,11 @@ document_fault-of_a_key document =
     (first_of_a_key _ _ (number_fault-of_a_key document key.Down)
     (first_of_a_key _ _ (list_fault-of_a_key document key.Windows 1 3)
     (first_of_a_key _ _ (number_fault-of_a_key document key.Ration)
+    (first_of_a_key _ _ (optional_of_a_key key.Burst (number_in (value_at document key.Ration)) (value_at document key.Burst))
+    (first_of_a_key _ _ (optional_of_a_key key.Period (high_of key.Period) (value_at document key.Period))
     (first_of_a_key _ _ (number_fault-of_a_key document key.SpinningMj)
     (first_of_a_key _ _ (number_fault-of_a_key document key.ParkedMj)
-    (first_of_a_key _ _ (number_fault-of_a_key document key.SpinupMj) tt)))))))))))))
+    (first_of_a_key _ _ (number_fault-of_a_key document key.SpinupMj) tt)))))))))))))))
 
 -- what refuses a document refuses its text
 pub IsRefusal-document : (text : List ℕ) (document : Members) (f : ConfigFault) → IsDocumentOf text document → IsDocumentFault document f → IsRefusal text f

@@ -54,7 +54,7 @@ true_from_not true h = refl
 true_from_not false h = cc
 
 -- no more than the known names stand before the first that is not known
-pub position-few : (names : List (List ℕ)) (at : ℕ) → IsDistinct bytes_eq names → position (λ name. not (is_known name)) names ≡ Some at → at ≤ 13
+pub position-few : (names : List (List ℕ)) (at : ℕ) → IsDistinct bytes_eq names → position (λ name. not (is_known name)) names ≡ Some at → at ≤ 15
 position-few names at distinct e =
     let first = position-Some (λ name. not (is_known name)) names at [] e in
     let within : at ≤ length names = omega (arith, first.0) in
@@ -76,6 +76,6 @@ position-map p f xs = rw (prefix_len-map (λ y. not (p y)) f xs, length-map xs f
 pub position-names : (es : List Entry) → position (λ k. not (is_known (string_bytes k))) (keys_of es) ≡ position (λ name. not (is_known name)) (member_names (members_view es))
 position-names es = position-map (λ name. not (is_known name)) string_bytes (keys_of es) ∙ rw (member_names-view es)
 
-pub few_unknown : (es : List Entry) (at : ℕ) → IsStrictlySortedBy string_cmp (keys_of es) → position (λ k. not (is_known (string_bytes k))) (keys_of es) ≡ Some at → at ≤ 13
+pub few_unknown : (es : List Entry) (at : ℕ) → IsStrictlySortedBy string_cmp (keys_of es) → position (λ k. not (is_known (string_bytes k))) (keys_of es) ≡ Some at → at ≤ 15
 few_unknown es at sorted e =
     position-few (map string_bytes (keys_of es)) at (names_differ (keys_of es) sorted) (sym (position-map (λ name. not (is_known name)) string_bytes (keys_of es)) ∙ e)

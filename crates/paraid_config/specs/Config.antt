@@ -6,11 +6,11 @@ use Rattle.paraid_base.specs.declared.geometry.GeoFault.{GeoFault}
 use Rattle.paraid_base.specs.declared.geometry.Geometry.{Geometry as GeometryType}
 use Rattle.paraid_base.specs.Gears.{IsGeoFault, IsGearList, Marks}
 use Rattle.paraid_record.specs.declared.meta.Setup.{Setup}
-use Rattle.paraid_config.specs.declared.key.Key.TheVariants.{Disks, Rows, Gears, Mode, Rate, Service, Up, Down, Windows, Ration, SpinningMj, ParkedMj, SpinupMj}
+use Rattle.paraid_config.specs.declared.key.Key.TheVariants.{Disks, Rows, Gears, Mode, Rate, Service, Up, Down, Windows, Ration, Burst, Period, SpinningMj, ParkedMj, SpinupMj}
 use Rattle.paraid_config.specs.declared.fault.ConfigFault.{ConfigFault}
 use Rattle.paraid_config.specs.declared.fault.ConfigFault.TheVariants.{Long, NotToml, Unknown, Geometry, NoMemory}
 use Rattle.paraid_config.specs.Keys.{is_known}
-use Rattle.paraid_config.specs.Values.{value_at, first_fault, number_fault, list_fault, mode_fault, mode_name, IsNumberAt, IsListAt, IsFaultOf}
+use Rattle.paraid_config.specs.Values.{value_at, first_fault, number_fault, list_fault, mode_fault, burst_fault, period_fault, mode_name, IsNumberAt, IsNumberOr, IsListAt, IsFaultOf}
 
 -- the keys of a document, which stand in the order of their bytes
 abbrev pub member_names : Members → List (List ℕ)
@@ -35,6 +35,8 @@ document_fault document = first_fault
     ∷ number_fault document Down
     ∷ list_fault document Windows 1 3
     ∷ number_fault document Ration
+    ∷ burst_fault document
+    ∷ period_fault document
     ∷ number_fault document SpinningMj
     ∷ number_fault document ParkedMj
     ∷ number_fault document SpinupMj
@@ -80,6 +82,8 @@ pub record IsSetupOf (document : Members) (s : Setup) : Type 0 where
   pub down : IsNumberAt document Down s.down
   pub windows : AreWindowsOf document s.windows
   pub ration : IsNumberAt document Ration s.ration
+  pub burst : IsNumberOr document Burst s.ration s.burst
+  pub period : IsNumberOr document Period 1 s.period
   pub spinning : IsNumberAt document SpinningMj s.spinning_mj
   pub parked : IsNumberAt document ParkedMj s.parked_mj
   pub spinup : IsNumberAt document SpinupMj s.spinup_mj

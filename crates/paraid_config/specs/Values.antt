@@ -1,5 +1,5 @@
 -- What stands at a key of a document, and why it is refused
-use Rattle.std.specs.Prelude.{◌≡◌, ℕ, ◌&&◌, ◌||◌, ℤ, pos, negsuc, nat_le, List, [], ◌∷◌, Bool, false, Option, Some, None, if◌then◌else◌, length, codes, option_map, map}
+use Rattle.std.specs.Prelude.{◌≡◌, ◌⊎◌, ℕ, ◌&&◌, ◌||◌, ℤ, pos, negsuc, nat_le, List, [], ◌∷◌, Bool, false, Option, Some, None, if◌then◌else◌, length, codes, option_map, map}
 use Rattle.std.specs.Str.{bytes_eq}
 use Rattle.toml.specs.Data.{Data, string, integer, array, Items, no_items, item, Members, get_member}
 use Rattle.paraid_record.specs.declared.meta.Mode.{Mode}
@@ -18,9 +18,12 @@ abbrev pub is_between : ℕ → ℕ → ℤ → Bool
 is_between low high (pos n) = nat_le low n && nat_le n high
 is_between low high (negsuc n) = false
 
--- a number out of the range of a key is named by its value
+-- a number out of range is named by its value
+abbrev pub bounds_fault : Key → ℕ → ℕ → ℤ → Option ConfigFault
+bounds_fault k low high z = if is_between low high z then None else Some (Range k z)
+
 abbrev pub range_fault : Key → ℤ → Option ConfigFault
-range_fault k z = if is_between (low_of k) (high_of k) z then None else Some (Range k z)
+range_fault k z = bounds_fault k (low_of k) (high_of k) z
 
 -- one number is asked for
 abbrev pub number_fault_in : Key → Option Data → Option ConfigFault
@@ -30,6 +33,24 @@ number_fault_in k (Some _) = Some (Kind k)
 
 abbrev pub number_fault : Members → Key → Option ConfigFault
 number_fault document k = number_fault_in k (value_at document k)
+
+-- one number, at most `high`, is asked for where there is something at the key
+abbrev pub optional_fault_in : Key → ℕ → Option Data → Option ConfigFault
+optional_fault_in k high None = None
+optional_fault_in k high (Some (integer z)) = bounds_fault k (low_of k) high z
+optional_fault_in k high (Some _) = Some (Kind k)
+
+-- the number at a key, 0 where none is
+abbrev pub number_in : Option Data → ℕ
+number_in (Some (integer (pos n))) = n
+number_in _ = 0
+
+-- a burst is at most the ration
+abbrev pub burst_fault : Members → Option ConfigFault
+burst_fault document = optional_fault_in key.Burst (number_in (value_at document key.Ration)) (value_at document key.Burst)
+
+abbrev pub period_fault : Members → Option ConfigFault
+period_fault document = optional_fault_in key.Period (high_of key.Period) (value_at document key.Period)
 
 -- the integers of a list that has nothing else
 abbrev pub integers_of : Items → Option (List ℤ)
@@ -83,6 +104,10 @@ integer_items (z ∷ zs) = item (integer z) (integer_items zs)
 -- the number at a key
 abbrev pub IsNumberAt : Members → Key → ℕ → Type 0
 IsNumberAt document k n = value_at document k ≡ Some (integer (pos n))
+
+-- the number at a key, or this one where nothing is there
+abbrev pub IsNumberOr : Members → Key → ℕ → ℕ → Type 0
+IsNumberOr document k absent n = IsNumberAt document k n ⊎ ((value_at document k ≡ None) × (n ≡ absent))
 
 -- the list of numbers at a key
 abbrev pub IsListAt : Members → Key → List ℕ → Type 0

@@ -14,13 +14,15 @@ pub enum Key {
     Down,
     Windows,
     Ration,
+    Burst,
+    Period,
     SpinningMj,
     ParkedMj,
     SpinupMj,
 }
 
 /// Every key.
-const KEYS: [Key; 13] = [
+const KEYS: [Key; 15] = [
     Key::Disks,
     Key::Rows,
     Key::Gears,
@@ -31,6 +33,8 @@ const KEYS: [Key; 13] = [
     Key::Down,
     Key::Windows,
     Key::Ration,
+    Key::Burst,
+    Key::Period,
     Key::SpinningMj,
     Key::ParkedMj,
     Key::SpinupMj,
@@ -52,13 +56,16 @@ impl Key {
             Key::Down => "down",
             Key::Windows => "windows",
             Key::Ration => "ration",
+            Key::Burst => "burst",
+            Key::Period => "period",
             Key::SpinningMj => "spinning_mj",
             Key::ParkedMj => "parked_mj",
             Key::SpinupMj => "spinup_mj",
         }
     }
 
-    /// The least and the greatest number at the key, or in its list. A mode has none.
+    /// The least and the greatest number at the key, or in its list. A mode has none, and a burst is
+    /// at most the ration besides.
     pub(crate) fn limits(self) -> (u32, u32)
         ensures low { result.0 ≡ low_of self }
         ensures high { result.1 ≡ high_of self }
@@ -71,7 +78,8 @@ impl Key {
             Key::Service => (1, 1048576),
             Key::Up | Key::Down => (1, 100),
             Key::Windows => (1, 1024),
-            Key::Ration => (1, 65535),
+            Key::Ration | Key::Burst => (1, 65535),
+            Key::Period => (1, 4294967295),
             Key::SpinningMj | Key::ParkedMj | Key::SpinupMj => (0, 1048576),
         }
     }

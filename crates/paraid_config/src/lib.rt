@@ -11,8 +11,6 @@ mod list;
 mod number;
 mod read;
 mod setup;
-#[cfg(test)]
-mod tests;
 mod unknown;
 mod value;
 

@@ -6,7 +6,7 @@ ghost use Rattle.paraid_record.specs.Range.{IsSetupInRange};
 ghost use Rattle.paraid_config.specs.Config.{document_fault, IsDocumentFault, IsSetupOf};
 
 use crate::list::{gears, windows};
-use crate::number::{mode, number};
+use crate::number::{burst, mode, number, period};
 use crate::unknown::first_unknown;
 use crate::{ConfigFault, Key};
 use paraid_base::Geometry;
@@ -38,6 +38,8 @@ pub fn setup_of(alloc: Global, table: &Table) -> Result<Setup, ConfigFault>
     let down = number(table, Key::Down)? as u8;
     let windows = windows(alloc, table)?;
     let ration = number(table, Key::Ration)? as u16;
+    let burst = burst(table, ration)?;
+    let period = period(table)?;
     let spinning_mj = number(table, Key::SpinningMj)?;
     let parked_mj = number(table, Key::ParkedMj)?;
     let spinup_mj = number(table, Key::SpinupMj)?;
@@ -51,6 +53,8 @@ pub fn setup_of(alloc: Global, table: &Table) -> Result<Setup, ConfigFault>
             down,
             windows,
             ration,
+            burst,
+            period,
             spinning_mj,
             parked_mj,
             spinup_mj,

@@ -16,7 +16,7 @@ fn unknown_place(table: &Table) -> Option<usize>
     table.keys().position(|key| !is_known(key.as_str()))
 }
 
-/// The place of the first key of the table that no configuration has. There are at most 13 keys
+/// The place of the first key of the table that no configuration has. There are at most 15 keys
 /// before it, as no two keys are the same.
 pub fn first_unknown(table: &Table) -> Option<u32>
     ensures { result ≡ first_unknown_of (table_view table.now) }

@@ -4,7 +4,7 @@ ghost use Rattle.std.specs.Prelude.{◌≡◌, ℕ, Some, IfOk, IfErr, option_ma
 ghost use Rattle.toml.specs.Data.{integer, string, array};
 ghost use Rattle.toml.specs.View.{view, table_view, array_view};
 ghost use Rattle.paraid_config.specs.declared.key.Key.TheVariants as key_of;
-ghost use Rattle.paraid_config.specs.Values.{value_at as value_of, number_fault, list_fault, mode_fault};
+ghost use Rattle.paraid_config.specs.Values.{value_at as value_of, optional_fault_in, number_fault, list_fault, mode_fault};
 
 use crate::{ConfigFault, Key};
 use toml::value::Array;
@@ -27,6 +27,22 @@ pub fn integer_at(table: &Table, key: Key) -> Result<i64, ConfigFault>
     };
     match value.as_integer() {
         Some(number) => Ok(number),
+        None => Err(ConfigFault::Kind { key }),
+    }
+}
+
+/// The integer at a key, if something is there.
+pub fn optional_at(table: &Table, key: Key) -> Result<Option<i64>, ConfigFault>
+    ensures value { IfOk result (λ found.
+        value_of (table_view table.now) key ≡ option_map (λ z. integer z) found) }
+    ensures err { IfErr result (λ fault. (high : ℕ)
+        → optional_fault_in key high (value_of (table_view table.now) key) ≡ Some fault) }
+{
+    let Some(value) = value_at(table, key) else {
+        return Ok(None);
+    };
+    match value.as_integer() {
+        Some(number) => Ok(Some(number)),
         None => Err(ConfigFault::Kind { key }),
     }
 }

@@ -1,2 +1,5 @@
-pub mod TableLemmas
 pub mod MaskLemmas
+pub mod BitsLemmas
+pub mod SearchLemmas
+pub mod TableLemmas
+pub mod CountLemmas

@@ -1,106 +1,233 @@
--- The bits of a table of bytes
-use Rattle.std.proofs.Common.{◌≡◌, ◌≢◌, ℕ, ◌<◌, ◌≤◌, ◌==◌, Bool, true, false, List, [], map, length, get_or, set, bit_and, bit_or, ◌-◌, ◌*◌, ◌%◌, ◌^◌, w8, replicate, sym, ◌∙◌, ap, arith, zero-add, inl, inr}
+-- The cells of a table in the bits of its words
+use Rattle.std.specs.Prelude.{◌≡◌, ◌≢◌, ◌⊎◌, ℕ, ◌+◌, ◌*◌, ◌/◌, ◌%◌, ◌^◌, ◌<◌, ◌≤◌, ◌==◌, ◌&&◌, nat_le, nat_lt, Bool, true, false, List, [], length, get_or, replicate, if◌then◌else◌}
+use Rattle.std.proofs.Common.{arith, ap, inl, inr, sym, ◌∙◌, bit_and, zero-add}
+use Rattle.std.specs.Int.{bit_at}
 use Rattle.std.proofs.lemmas.Bool.{cases_lt, cases_eq}
 use Rattle.std.proofs.lemmas.Bool.Decides.{nat_tests}
-use Rattle.std.proofs.lemmas.List.{get_or-map, get_or_past, length-map, get_or-set_same, get_or_read, length-replicate, get_or-replicate, get_or-set_other, length-set}
+use Rattle.std.proofs.lemmas.List.{get_or_past, get_or-replicate, length-replicate}
 use Rattle.std.proofs.lemmas.List.FromFn.{get_or-map-range_with_len, length-map-range_with_len}
-use Rattle.std.proofs.lemmas.Nat.Bits.{bit_at-zero, bit_at_set_same, bit_at_set_other, bit_at_clear_same, bit_at_clear_other}
-use Rattle.paraid_dirty.proofs.MaskLemmas.{IsRow}
-use Rattle.paraid_dirty.specs.Table.{bit_of, row_bits, is_dirty, changed}
+use Rattle.std.proofs.lemmas.Nat.{and_le_r, shr-shr}
+use Rattle.std.proofs.lemmas.Nat.Bits.{bit_at_and, bit_at-lt, bit_at_above, bit_at_ones}
+use Rattle.paraid_dirty.specs.Bits.{bit_of, bit_in, on_disks, AreClear, IsFirstBit}
+use Rattle.paraid_dirty.specs.Table.{changed, is_dirty, row_bits, rows_of, IsCleanFrom, IsFirstFrom, IsFrom, IsTable}
+use Rattle.paraid_dirty.proofs.BitsLemmas.{bit_false, bit_in-past, bit_of-zero, chosen_here, chosen_other}
 
--- the bit of a cell inside the table
-pub is_dirty-byte : (bytes : List ℕ) (r d : ℕ) → r < length bytes → d < 8 → is_dirty (map row_bits bytes) r d ≡ bit_of (get_or bytes r 0) d
+pub is_dirty-bit : (words marks : List ℕ) (rows r d : ℕ) → IsTable words marks rows → d < 8 → is_dirty (rows_of words rows) r d ≡ bit_in words (8 * r + d)
 unfolding is_dirty row_bits
-is_dirty-byte bytes r d row disk =
-    ap (λ (bits : List Bool). get_or bits d false) (get_or-map row_bits bytes r 0 [] row)
-    ∙ get_or-map-range_with_len (bit_of (get_or bytes r 0)) 0 8 d d false disk (zero-add d)
+is_dirty-bit words marks rows r d table low = elim (cases_lt r rows) [
+  | inl row ↦
+      ap (λ (bits : List Bool). get_or bits d false) (get_or-map-range_with_len (row_bits words) 0 rows r r [] row (zero-add r))
+      ∙ get_or-map-range_with_len (λ e. bit_in words (8 * r + e)) 0 8 d d false low (zero-add d)
+  | inr past ↦
+      ap (λ (bits : List Bool). get_or bits d false) (get_or_past (rows_of words rows) r [] (rw (length-map-range_with_len (row_bits words) 0 rows) past))
+      ∙ sym (table.unused (8 * r + d) (omega arith))
+]
 
-pub is_dirty-past_row : (bytes : List ℕ) (r d : ℕ) → length bytes ≤ r → is_dirty (map row_bits bytes) r d ≡ false
-unfolding is_dirty
-is_dirty-past_row bytes r d past =
-    ap (λ (bits : List Bool). get_or bits d false) (get_or_past (map row_bits bytes) r [] (rw (length-map bytes row_bits) past))
-
-pub is_dirty-past_disk : (bytes : List ℕ) (r d : ℕ) → 8 ≤ d → is_dirty (map row_bits bytes) r d ≡ false
+pub is_dirty-past_disk : (words : List ℕ) (rows r d : ℕ) → 8 ≤ d → is_dirty (rows_of words rows) r d ≡ false
 unfolding is_dirty row_bits
-is_dirty-past_disk bytes r d past =
-    elim (cases_lt r (length bytes)) [
-      | inl row ↦
-          ap (λ (bits : List Bool). get_or bits d false) (get_or-map row_bits bytes r 0 [] row)
-          ∙ get_or_past (row_bits (get_or bytes r 0)) d false (rw (length-map-range_with_len (bit_of (get_or bytes r 0)) 0 8) past)
-      | inr out ↦ is_dirty-past_row bytes r d out
-    ]
+is_dirty-past_disk words rows r d past = elim (cases_lt r rows) [
+  | inl row ↦
+      ap (λ (bits : List Bool). get_or bits d false) (get_or-map-range_with_len (row_bits words) 0 rows r r [] row (zero-add r))
+      ∙ get_or_past (row_bits words r) d false (rw (length-map-range_with_len (λ e. bit_in words (8 * r + e)) 0 8) past)
+  | inr out ↦ ap (λ (bits : List Bool). get_or bits d false) (get_or_past (rows_of words rows) r [] (rw (length-map-range_with_len (row_bits words) 0 rows) out))
+]
 
-pub changed_here : (dirty : ℕ → ℕ → Bool) (r d : ℕ) (bit : Bool) (q e : ℕ) → q ≡ r → e ≡ d → changed dirty r d bit q e ≡ bit
+changed_here : (dirty : ℕ → ℕ → Bool) (r d : ℕ) (bit : Bool) (q e : ℕ) → q ≡ r → e ≡ d → changed dirty r d bit q e ≡ bit
 changed_here dirty r d bit q e row disk = grind (arith, nat_tests)
 
-pub changed_other : (dirty : ℕ → ℕ → Bool) (r d : ℕ) (bit : Bool) (q e : ℕ) → (q ≡ r → e ≢ d) → changed dirty r d bit q e ≡ dirty q e
+changed_other : (dirty : ℕ → ℕ → Bool) (r d : ℕ) (bit : Bool) (q e : ℕ) → (q ≡ r → e ≢ d) → changed dirty r d bit q e ≡ dirty q e
 changed_other dirty r d bit q e other = grind (arith, nat_tests)
 
--- a byte that differs from row `r`'s in bit `d` alone changes one cell
-pub is_dirty-set : (bytes : List ℕ) (r d byte : ℕ) (bit : Bool) → r < length bytes → d < 8 → bit_of byte d ≡ bit → ((i : ℕ) → i < 8 → i ≢ d → bit_of byte i ≡ bit_of (get_or bytes r 0) i) → (q e : ℕ) → is_dirty (map row_bits (set bytes r byte)) q e ≡ changed (is_dirty (map row_bits bytes)) r d bit q e
-is_dirty-set bytes r d byte bit row disk here others q e =
-    elim (cases_lt q (length bytes)) [
-      | inr past ↦
-          is_dirty-past_row (set bytes r byte) q e (rw (length-set bytes r byte) past)
-          ∙ sym (changed_other (is_dirty (map row_bits bytes)) r d bit q e (λ same. absurd (omega arith)) ∙ is_dirty-past_row bytes q e past)
-      | inl inside ↦ elim (cases_lt e 8) [
-        | inr past ↦
-            is_dirty-past_disk (set bytes r byte) q e past
-            ∙ sym (changed_other (is_dirty (map row_bits bytes)) r d bit q e (λ _ same. omega arith) ∙ is_dirty-past_disk bytes q e past)
-        | inl low ↦
-            let now = is_dirty-byte (set bytes r byte) q e (rw (length-set bytes r byte) inside) low in
-            let was = is_dirty-byte bytes q e inside low in
-            elim (cases_eq q r) [
-              | inr other ↦
-                  now ∙ ap (λ b. bit_of b e) (get_or-set_other bytes r q byte 0 other) ∙ sym was
-                  ∙ sym (changed_other (is_dirty (map row_bits bytes)) r d bit q e (λ same. absurd (other same)))
-              | inl same ↦
-                  let at : get_or (set bytes r byte) q 0 ≡ byte = rw same (get_or-set_same bytes r byte 0 row) in
-                  elim (cases_eq e d) [
-                    | inl this ↦ now ∙ ap (λ b. bit_of b e) at ∙ ap (bit_of byte) this ∙ here
-                        ∙ sym (changed_here (is_dirty (map row_bits bytes)) r d bit q e same this)
-                    | inr that ↦
-                        now ∙ ap (λ b. bit_of b e) at ∙ others e low that ∙ sym (was ∙ ap (λ x. bit_of (get_or bytes x 0) e) same)
-                        ∙ sym (changed_other (is_dirty (map row_bits bytes)) r d bit q e (λ _. that))
-                  ]
-            ]
+-- words that differ in one bit are tables that differ in one cell
+pub cell_changed : (words after marks marks_after : List ℕ) (rows r d : ℕ) (bit : Bool) → IsTable words marks rows → IsTable after marks_after rows → d < 8
+    → ((k : ℕ) → bit_in after k ≡ (if k == 8 * r + d then bit else bit_in words k))
+    → (q e : ℕ) → is_dirty (rows_of after rows) q e ≡ changed (is_dirty (rows_of words rows)) r d bit q e
+cell_changed words after marks marks_after rows r d bit table table_after low change q e = elim (cases_lt e 8) [
+  | inr past ↦
+      is_dirty-past_disk after rows q e past
+      ∙ sym (changed_other (is_dirty (rows_of words rows)) r d bit q e (λ _ same. omega arith) ∙ is_dirty-past_disk words rows q e past)
+  | inl disk ↦
+      let now = is_dirty-bit after marks_after rows q e table_after disk ∙ change (8 * q + e) in
+      elim (cases_eq (8 * q + e) (8 * r + d)) [
+        | inl same ↦
+            now ∙ chosen_here (8 * q + e) (8 * r + d) bit (bit_in words (8 * q + e)) same
+            ∙ sym (changed_here (is_dirty (rows_of words rows)) r d bit q e (omega arith) (omega arith))
+        | inr other ↦
+            now ∙ chosen_other (8 * q + e) (8 * r + d) bit (bit_in words (8 * q + e)) other
+            ∙ sym (is_dirty-bit words marks rows q e table disk)
+            ∙ sym (changed_other (is_dirty (rows_of words rows)) r d bit q e (λ row disk_same. other (omega arith)))
       ]
-    ]
+]
 
-pub set_bit : (bytes : List ℕ) (r d old : ℕ) → r < length bytes → d < 8 → old ≡ get_or bytes r old → (q e : ℕ) → is_dirty (map row_bits (set bytes r (bit_or old (1 * 2 ^ d % 256)))) q e ≡ changed (is_dirty (map row_bits bytes)) r d true q e
-set_bit bytes r d old row disk read =
-    is_dirty-set bytes r d (bit_or old (1 * 2 ^ d % 256)) true row disk
-    (ap (λ (b : ℕ). b == 1) (bit_at_set_same w8 old d disk))
-    (λ i low other. ap (λ (b : ℕ). b == 1) (bit_at_set_other w8 old d disk i other) ∙ ap (λ b. bit_of b i) (get_or_read bytes r old row read 0))
+pub word_of_cell : (r d : ℕ) → d < 8 → (8 * r + d) / 64 ≡ r / 8
+word_of_cell r d low = omega arith
 
-pub clear_bit : (bytes : List ℕ) (r d old : ℕ) → r < length bytes → d < 8 → old ≡ get_or bytes r old → (q e : ℕ) → is_dirty (map row_bits (set bytes r (bit_and old (255 - 1 * 2 ^ d % 256)))) q e ≡ changed (is_dirty (map row_bits bytes)) r d false q e
-clear_bit bytes r d old row disk read =
-    is_dirty-set bytes r d (bit_and old (255 - 1 * 2 ^ d % 256)) false row disk
-    (ap (λ (b : ℕ). b == 1) (bit_at_clear_same w8 old d disk))
-    (λ i low other. ap (λ (b : ℕ). b == 1) (bit_at_clear_other w8 old d disk i low other) ∙ ap (λ b. bit_of b i) (get_or_read bytes r old row read 0))
+pub bit_of_cell : (r d : ℕ) → d < 8 → (8 * r + d) % 64 ≡ 8 * (r % 8) + d
+bit_of_cell r d low = omega arith
 
-pub is_dirty-replicate : (n r d : ℕ) → is_dirty (map row_bits (replicate n 0)) r d ≡ false
-is_dirty-replicate n r d =
+-- a cell has a bit in the words, and its word one in the marks
+pub cell_room : (words marks : List ℕ) (rows r d : ℕ) → IsTable words marks rows → r < rows → d < 8 → ((8 * r + d) / 64 < length words) × (r / 8 / 64 < length marks)
+cell_room words marks rows r d table row low =
+    let room = table.room in
+    let marks_room = table.marks_room in
+    (omega arith, omega arith)
+
+pub set_table : (words after marks marks_after : List ℕ) (rows r d : ℕ) → IsTable words marks rows → r < rows → d < 8
+    → length after ≡ length words → ((k : ℕ) → bit_in after k ≡ (if k == 8 * r + d then true else bit_in words k))
+    → ((w : ℕ) → w ≢ (8 * r + d) / 64 → get_or after w 0 ≡ get_or words w 0)
+    → length marks_after ≡ length marks → ((k : ℕ) → bit_in marks_after k ≡ (if k == r / 8 then true else bit_in marks k))
+    → IsTable after marks_after rows
+set_table words after marks marks_after rows r d table row low size bits others marks_size mark =
+    let small = table.small in
+    let room = table.room in
+    let marks_small = table.marks_small in
+    let marks_room = table.marks_room in
+    record {
+      few = table.few;
+      small = omega arith;
+      room = omega arith;
+      marks_small = omega arith;
+      marks_room = omega arith;
+      unused = λ p past. bits p ∙ chosen_other p (8 * r + d) true (bit_in words p) (λ same. absurd (omega arith)) ∙ table.unused p past;
+      marked = λ w none. elim (cases_eq w (r / 8)) [
+        | inl same ↦ absurd (let yes_it = mark w ∙ chosen_here w (r / 8) true (bit_in marks w) same in cc)
+        | inr other ↦
+            let was : bit_in marks w ≡ false = sym (mark w ∙ chosen_other w (r / 8) true (bit_in marks w) other) ∙ none in
+            others w (λ same. other (same ∙ word_of_cell r d low)) ∙ table.marked w was
+      ];
+    }
+
+pub clear_table : (words after marks marks_after : List ℕ) (rows r d word : ℕ) → IsTable words marks rows → r < rows → d < 8
+    → length after ≡ length words → ((k : ℕ) → bit_in after k ≡ (if k == 8 * r + d then false else bit_in words k))
+    → ((w : ℕ) → get_or after w 0 ≤ get_or words w 0) → word ≡ get_or after (r / 8) 0
+    → length marks_after ≡ length marks → ((w : ℕ) → bit_in marks_after w ≡ false → (bit_in marks w ≡ false) ⊎ ((w ≡ r / 8) × (word ≡ 0)))
+    → IsTable after marks_after rows
+clear_table words after marks marks_after rows r d word table row low size bits lower is_word marks_size mark =
+    let small = table.small in
+    let room = table.room in
+    let marks_small = table.marks_small in
+    let marks_room = table.marks_room in
+    record {
+      few = table.few;
+      small = omega arith;
+      room = omega arith;
+      marks_small = omega arith;
+      marks_room = omega arith;
+      unused = λ p past. bits p ∙ chosen_other p (8 * r + d) false (bit_in words p) (λ same. absurd (omega arith)) ∙ table.unused p past;
+      marked = λ w none. elim (mark w none) [
+        | inl was ↦ (let before = table.marked w was in let under = lower w in omega arith)
+        | inr is ↦ ap (λ (n : ℕ). get_or after n 0) is.0 ∙ sym is_word ∙ is.1
+      ];
+    }
+
+get_or-zeros : (n i : ℕ) → ◌≡◌ {A = ℕ} (get_or (replicate n 0) i 0) 0
+get_or-zeros n i = elim (cases_lt i n) [
+  | inl inside ↦ get_or-replicate n i 0 0 inside
+  | inr past ↦ get_or_past (replicate n 0) i 0 (rw (length-replicate {A = ℕ} n 0) past)
+]
+
+pub zeros_clear : (n p : ℕ) → bit_in (replicate n 0) p ≡ false
+unfolding bit_in
+zeros_clear n p = ap (λ (w : ℕ). bit_of w (p % 64)) (get_or-zeros n (p / 64)) ∙ bit_of-zero (p % 64)
+
+pub new_table : (words marks : List ℕ) (count sets rows : ℕ) → words ≡ replicate count 0 → marks ≡ replicate sets 0 → rows ≤ 65536
+    → count ≤ 8192 → rows ≤ 8 * count → sets ≤ 128 → count ≤ 64 * sets → IsTable words marks rows
+new_table words marks count sets rows is_words is_marks few small room sets_small sets_room =
+    let size : length words ≡ count = ap length is_words ∙ length-replicate {A = ℕ} count 0 in
+    let marks_size : length marks ≡ sets = ap length is_marks ∙ length-replicate {A = ℕ} sets 0 in
+    record {
+      few = few;
+      small = omega arith;
+      room = omega arith;
+      marks_small = omega arith;
+      marks_room = omega arith;
+      unused = λ p past. ap (λ (ws : List ℕ). bit_in ws p) is_words ∙ zeros_clear count p;
+      marked = λ w none. ap (λ (ws : List ℕ). get_or ws w 0) is_words ∙ get_or-zeros count w;
+    }
+
+pub new_clean : (words marks : List ℕ) (count rows : ℕ) → words ≡ replicate count 0 → IsTable words marks rows → (r d : ℕ) → is_dirty (rows_of words rows) r d ≡ false
+new_clean words marks count rows is table r d = elim (cases_lt d 8) [
+  | inl low ↦ is_dirty-bit words marks rows r d table low ∙ ap (λ (ws : List ℕ). bit_in ws (8 * r + d)) is ∙ zeros_clear count (8 * r + d)
+  | inr past ↦ is_dirty-past_disk words rows r d past
+]
+
+-- the bits of a row in its word
+pub row_of_word : (words marks : List ℕ) (rows r d : ℕ) → IsTable words marks rows
+    → bit_of (bit_and (get_or words (r / 8) 0 / 2 ^ (8 * (r % 8))) 255) d ≡ is_dirty (rows_of words rows) r d
+unfolding bit_in
+row_of_word words marks rows r d table =
+    let word = get_or words (r / 8) 0 in
+    let low_eight = and_le_r (word / 2 ^ (8 * (r % 8))) 255 in
     elim (cases_lt d 8) [
-      | inr past ↦ is_dirty-past_disk (replicate n 0) r d past
-      | inl low ↦ elim (cases_lt r n) [
-        | inr past ↦ is_dirty-past_row (replicate n 0) r d (rw (length-replicate {A = ℕ} n 0) past)
-        | inl row ↦
-            is_dirty-byte (replicate n 0) r d (rw (length-replicate {A = ℕ} n 0) row) low
-            ∙ ap (λ b. bit_of b d) (get_or-replicate n r 0 0 row)
-            ∙ ap (λ (b : ℕ). b == 1) (bit_at-zero d)
-      ]
+      | inr past ↦ bit_false _ d (bit_at_above _ 8 d (omega arith) past) ∙ sym (is_dirty-past_disk words rows r d past)
+      | inl low ↦
+          let both = bit_at_and (word / 2 ^ (8 * (r % 8))) 255 d in
+          let ones = bit_at_ones 8 d low in
+          let small = bit_at-lt (word / 2 ^ (8 * (r % 8))) d in
+          let same : bit_at (bit_and (word / 2 ^ (8 * (r % 8))) 255) d ≡ bit_at (word / 2 ^ (8 * (r % 8))) d = omega arith in
+          let moved : bit_at (word / 2 ^ (8 * (r % 8))) d ≡ bit_at word (8 * (r % 8) + d) = ap (λ (x : ℕ). x % 2) (shr-shr word (8 * (r % 8)) d) in
+          ap (λ (b : ℕ). b == 1) (same ∙ moved)
+          ∙ ap (λ (n : ℕ). bit_of word n) (sym (bit_of_cell r d low))
+          ∙ ap (λ (n : ℕ). bit_of (get_or words n 0) ((8 * r + d) % 64)) (sym (word_of_cell r d low))
+          ∙ sym (is_dirty-bit words marks rows r d table low)
     ]
 
--- a byte that was read at `r` is the row of that number
-pub is_row : (bytes : List ℕ) (table : List (List Bool)) (r byte : ℕ) → map row_bits bytes ≡ table → r < length bytes → byte ≡ get_or bytes r byte → IsRow (is_dirty table) r byte
-is_row bytes table r byte view row read = record {
-  bits = λ d low.
-      ap (λ (t : List (List Bool)). is_dirty t r d) (sym view)
-      ∙ is_dirty-byte bytes r d row low
-      ∙ ap (λ b. bit_of b d) (sym (get_or_read bytes r byte row read 0));
-}
+pub row_past : (words marks : List ℕ) (rows r d : ℕ) → IsTable words marks rows → length words ≤ r / 8 → bit_of 0 d ≡ is_dirty (rows_of words rows) r d
+row_past words marks rows r d table past = bit_of-zero d ∙ sym (elim (cases_lt d 8) [
+  | inl low ↦ is_dirty-bit words marks rows r d table low ∙ bit_in-past words (8 * r + d) (omega arith)
+  | inr above ↦ is_dirty-past_disk words rows r d above
+])
 
-pub past_all : (bytes : List ℕ) (table : List (List Bool)) (r d : ℕ) → map row_bits bytes ≡ table → length bytes ≤ r → is_dirty table r d ≡ false
-past_all bytes table r d view past =
-    ap (λ (t : List (List Bool)). is_dirty t r d) (sym view) ∙ is_dirty-past_row bytes r d past
+on_inside : (lo hi n : ℕ) (b : Bool) → lo ≤ n → n < hi → ((nat_le lo n && nat_lt n hi) && b) ≡ b
+on_inside lo hi n b low high = grind (arith, nat_tests)
+
+on_parts : (lo hi n : ℕ) (b : Bool) → ((nat_le lo n && nat_lt n hi) && b) ≡ true → (lo ≤ n) × (n < hi) × (b ≡ true)
+on_parts lo hi n b is = grind (arith, nat_tests)
+
+module _ (words marks : List ℕ) (rows r d lo hi : ℕ) (table : IsTable words marks rows) (few : d ≤ 8) (high : hi ≤ 8) where
+  -- a cell from the given one on whose bit is known to be clear
+  cell_clear : (q e : ℕ) → lo ≤ e → e < hi → on_disks lo hi (bit_in words) (8 * q + e) ≡ false → is_dirty (rows_of words rows) q e ≡ false
+  cell_clear q e low under clear =
+      let disk : (8 * q + e) % 8 ≡ e = omega arith in
+      is_dirty-bit words marks rows q e table (omega arith)
+      ∙ sym (on_inside lo hi ((8 * q + e) % 8) (bit_in words (8 * q + e)) (omega arith) (omega arith))
+      ∙ clear
+
+  start_before : (q e : ℕ) → IsFrom r d q e → 8 * r + d ≤ 8 * q + e
+  start_before q e from = elim from [
+    | inl below ↦ omega arith
+    | inr same ↦ (let row = same.0 in let disk = same.1 in omega arith)
+  ]
+
+  pub cells_clean : AreClear (on_disks lo hi (bit_in words)) (8 * r + d) (64 * length words) → IsCleanFrom (is_dirty (rows_of words rows)) r d lo hi
+  cells_clean none = record {
+    clean = λ q e from low under. elim (cases_lt (8 * q + e) (64 * length words)) [
+      | inl inside ↦ cell_clear q e low under (none.clear (8 * q + e) (start_before q e from) inside)
+      | inr past ↦ is_dirty-bit words marks rows q e table (omega arith) ∙ bit_in-past words (8 * q + e) past
+    ];
+  }
+
+  pub cell_first : (p : ℕ) → IsFirstBit (on_disks lo hi (bit_in words)) (8 * r + d) p → IsFirstFrom (is_dirty (rows_of words rows)) r d lo hi (p / 8) (p % 8) × (p / 8 < rows)
+  cell_first p first =
+      let on = on_parts lo hi (p % 8) (bit_in words p) first.is in
+      let place : p ≡ 8 * (p / 8) + p % 8 = omega arith in
+      let start = first.from_on in (
+        record {
+          low = on.0;
+          high = on.1;
+          from = elim (cases_lt r (p / 8)) [
+            | inl below ↦ inl below
+            | inr at ↦ inr (omega arith, omega arith)
+          ];
+          is = is_dirty-bit words marks rows (p / 8) (p % 8) table (omega arith) ∙ ap (bit_in words) (sym place) ∙ on.2;
+          rows_before = λ q e from before low under. cell_clear q e low under (first.before (8 * q + e) (start_before q e from) (omega arith));
+          disks_before = λ e from low before. cell_clear (p / 8) e low (omega (arith, on.1)) (first.before (8 * (p / 8) + e) (start_before (p / 8) e from) (omega arith));
+        },
+        elim (cases_lt (p / 8) rows) [
+          | inl inside ↦ inside
+          | inr past ↦ absurd (let none = table.unused p (omega arith) in let some = on.2 in cc)
+        ],
+      )
+
+pub rows_length : (words : List ℕ) (rows : ℕ) → length (rows_of words rows) ≡ rows
+rows_length words rows = length-map-range_with_len (row_bits words) 0 rows

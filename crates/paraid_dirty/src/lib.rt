@@ -1,9 +1,12 @@
-//! The dirty table: for each cell of the array, whether its newest bytes are in its soft copy.
+//! The table of dirty cells: those whose newest bytes stand only in the region of the gear.
 //!
-//! A table is a list of rows of eight bits, one bit for each disk. The layer above relies on it
-//! to name each dirty cell once, in order of row and then of disk, and to count them.
+//! It has one bit for each row and disk. It is changed a cell at a time, counts the dirty cells of
+//! some disks, gives the first of them from a cell on, and writes the blocks of the map in which a
+//! log disk keeps it.
 #![tactic(auto)]
 
+mod bits;
+mod search;
 mod table;
 
 pub use table::DirtyTable;

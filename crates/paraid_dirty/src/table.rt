@@ -1,50 +1,63 @@
-ghost use Rattle.std.specs.Prelude.{◌≡◌, ℕ, ◌<◌, ◌≤◌, ◌-◌, ◌^◌, ◌==◌, length, true, false, IfOk, IfSome, IfNone};
+ghost use Rattle.std.specs.Prelude.{◌≡◌, ◌⊎◌, ℕ, ◌+◌, ◌*◌, ◌/◌, ◌%◌, ◌<◌, ◌≤◌, ◌-◌, ◌^◌, ◌==◌, length, true, false, slice_index, IfOk, IfSome, IfNone};
 ghost use Rattle.paraid_base.specs.Places.{sum_before};
-ghost use Rattle.paraid_dirty.specs.Table.{bit_of, is_dirty, changed, dirty_count, IsClean, IsFirst};
+ghost use Rattle.paraid_dirty.specs.Bits.{bit_of, bit_in, AreClear, IsFirstBit};
+ghost use Rattle.paraid_dirty.specs.Table.{is_dirty, changed, dirty_count, row_bits, IsClean, IsCleanFrom, IsFirst, IsFirstFrom, ShowsBits};
 
-use paraid_base::{DiskNo, NoMemory, Row};
+use crate::bits::{clear_bit, has_bit, set_bit};
+use crate::search::{first_on_disks, pattern};
+use paraid_base::{Block, DiskNo, NoMemory, Row};
 use std::alloc::Global;
 use std::marker::Model;
 
 /// Which cells of an array are dirty, for up to 65,536 rows and eight disks.
 ///
-/// It is seen as a list of rows, each a list of eight bits, and takes one byte for each row.
+/// It is seen as a list of rows, each a list of eight bits. Eight rows stand in a word, and a mark
+/// of one bit tells which words have a dirty cell, so that a search passes 512 clean rows at once.
 #[derive(Drop)]
 pub struct DirtyTable {
-    bytes: Vec<u8>,
+    words: Vec<u64>,
+    marks: Vec<u64>,
+    rows: u32,
 }
 
 impl Model for DirtyTable {
-    ghost use Rattle.std.specs.Prelude.{List, Bool, map, length, ◌≤◌};
-    ghost use Rattle.paraid_dirty.specs.Table.{row_bits};
+    ghost use Rattle.std.specs.Prelude.{List, Bool};
+    ghost use Rattle.paraid_dirty.specs.Table.{rows_of, IsTable};
 
     ghost Value = { List (List Bool) };
 
-    ghost view = { λ t. map row_bits t.bytes.items };
+    ghost view = { λ t. rows_of t.words.items t.rows };
 
-    ghost invariant = { λ t. length t.bytes.items ≤ 65536 };
+    ghost invariant = { λ t. IsTable t.words.items t.marks.items t.rows };
 }
 
-/// The byte with the bits of disks from `lo` to `hi - 1`.
-fn mask(lo: DiskNo, hi: DiskNo) -> u8
-    requires order { lo ≤ hi }
-    requires high { hi ≤ 8 }
-    ensures { result ≡ 2 ^ hi - 2 ^ lo }
+/// Takes the mark of a word away if the word is 0.
+fn unmark(marks: &mut [u64], at: usize, word: u64)
+    requires { at / 64 < length marks.old }
+    ensures length { length marks.new ≡ length marks.old }
+    ensures marks { (w : ℕ) → bit_in marks.new w ≡ false
+        → (bit_in marks.old w ≡ false) ⊎ ((w ≡ at) × (word ≡ 0)) }
 {
-    ((1u16 << hi) - (1u16 << lo)) as u8
+    if word == 0 {
+        clear_bit(marks, at);
+    }
 }
 
 impl DirtyTable {
-    /// A table of `rows` rows, all clean. It takes `rows` bytes.
+    /// A table of `rows` rows, all clean. It takes about `rows` bytes.
     pub fn new(alloc: Global, rows: u32) -> Result<DirtyTable, NoMemory>
         requires { rows ≤ 65536 }
         ensures rows { IfOk result (λ table. length table ≡ rows) }
         ensures clean { IfOk result (λ table. (r d : ℕ) → is_dirty table r d ≡ false) }
     {
-        match vec![in alloc; 0u8; rows as usize] {
-            Ok(bytes) => Ok(DirtyTable { bytes }),
-            Err(_) => Err(NoMemory),
-        }
+        let count = rows.div_ceil(8) as usize;
+        let Ok(words) = vec![in alloc; 0u64; count] else {
+            return Err(NoMemory);
+        };
+        let Ok(marks) = vec![in alloc; 0u64; count.div_ceil(64)] else {
+            return Err(NoMemory);
+        };
+        Ok(DirtyTable { words, marks, rows })
     }
 
     /// The number of rows, at most 65,536.
@@ -52,7 +65,7 @@ impl DirtyTable {
         ensures value { result ≡ length self.now }
         ensures small { result ≤ 65536 }
     {
-        self.bytes.len() as u32
+        self.rows
     }
 
     /// Makes the cell of row `r` and disk `d` dirty.
@@ -62,7 +75,8 @@ impl DirtyTable {
         ensures rows { length self.new ≡ length self.old }
         ensures cells { (q e : ℕ) → is_dirty self.new q e ≡ changed (is_dirty self.old) r d true q e }
     {
-        self.bytes[r as usize] |= 1 << d;
+        set_bit(&mut self.words, 8 * r as usize + d as usize);
+        set_bit(&mut self.marks, r as usize / 8);
     }
 
     /// Makes the cell of row `r` and disk `d` clean.
@@ -72,7 +86,10 @@ impl DirtyTable {
         ensures rows { length self.new ≡ length self.old }
         ensures cells { (q e : ℕ) → is_dirty self.new q e ≡ changed (is_dirty self.old) r d false q e }
     {
-        self.bytes[r as usize] &= !(1 << d);
+        clear_bit(&mut self.words, 8 * r as usize + d as usize);
+        let at = r as usize / 8;
+        let word = self.words[at];
+        unmark(&mut self.marks, at, word);
     }
 
     /// Whether the cell of row `r` and disk `d` is dirty.
@@ -81,7 +98,7 @@ impl DirtyTable {
         requires disk { d < 8 }
         ensures { result ≡ is_dirty self.now r d }
     {
-        self.bytes[r as usize] >> d & 1 == 1
+        has_bit(&self.words, 8 * r as usize + d as usize)
     }
 
     /// The number of dirty cells on disks from `lo` to `hi - 1`.
@@ -90,10 +107,10 @@ impl DirtyTable {
         requires high { hi ≤ 8 }
         ensures { result ≡ dirty_count (is_dirty self.now) (length self.now) lo hi }
     {
-        let mask = mask(lo, hi);
+        let pattern = pattern(lo, hi);
         let mut count = 0;
-        for row in 0..self.bytes.len() {
-            count += (self.bytes[row] & mask).count_ones();
+        for at in 0..self.words.len() {
+            count += (self.words[at] & pattern).count_ones();
         }
         count
     }
@@ -106,35 +123,46 @@ impl DirtyTable {
         ensures first { IfSome result (λ cell. IsFirst (is_dirty self.now) lo hi cell.0 cell.1) }
         ensures within { IfSome result (λ cell. cell.0 < length self.now) }
     {
-        let mask = mask(lo, hi);
-        for row in 0..self.bytes.len() {
-            let byte = self.bytes[row] & mask;
-            if byte != 0 {
-                return Some((row as u32, byte.trailing_zeros() as u8));
-            }
-        }
-        None
+        self.next_from(0, 0, lo, hi)
     }
-}
 
-#[cfg(test)]
-mod tests {
-    use super::*;
+    /// From the cell of row `r` and disk `d` on, the first dirty one, by row and then by disk, on
+    /// disks from `lo` to `hi - 1`.
+    pub fn next_from(&self, r: Row, d: DiskNo, lo: DiskNo, hi: DiskNo) -> Option<(Row, DiskNo)>
+        requires disk { d ≤ 8 }
+        requires order { lo ≤ hi }
+        requires high { hi ≤ 8 }
+        ensures none { IfNone result (IsCleanFrom (is_dirty self.now) r d lo hi) }
+        ensures first { IfSome result (λ cell.
+            IsFirstFrom (is_dirty self.now) r d lo hi cell.0 cell.1) }
+        ensures within { IfSome result (λ cell. cell.0 < length self.now) }
+    {
+        let from = 8 * r as usize + d as usize;
+        match first_on_disks(&self.words, &self.marks, from, lo, hi) {
+            Some(at) => Some(((at / 8) as u32, (at % 8) as u8)),
+            None => None,
+        }
+    }
 
-    #[test]
-    fn the_last_cell_of_the_greatest_table_is_found(rt: HostRuntime) {
-        let Ok(mut table) = DirtyTable::new(rt.alloc(), 65536) else {
-            panic!(rt; "no memory for 65536 bytes");
-        };
-        assert_eq!(rt; table.rows(), 65536);
-        assert_eq!(rt; table.next(0, 8), None);
-        assert_eq!(rt; table.count(0, 8), 0);
-        table.set(65535, 7);
-        assert_eq!(rt; table.next(0, 8), Some((65535, 7)));
-        assert_eq!(rt; table.count(0, 8), 1);
-        assert_eq!(rt; table.next(0, 7), None);
-        assert!(rt; table.has(65535, 7) && !table.has(65535, 6));
-        table.clear(65535, 7);
-        assert_eq!(rt; table.next(0, 8), None);
+    /// Writes block `j` of the map: the bits of 512 rows, one row a byte.
+    pub fn map_block(&self, j: u32, into: &mut Block)
+        ensures { ShowsBits into.new j (is_dirty self.now) }
+    {
+        let mut bytes = [0; 512];
+        for i in 0..512 {
+            bytes[i] = self.row_byte(512 * j as usize + i);
+        }
+        *into = Block::from_array(bytes);
+    }
+
+    /// The bits of a row, none past the table.
+    fn row_byte(&self, r: usize) -> u8
+        ensures { (d : ℕ) → bit_of result d ≡ is_dirty self.now r d }
+    {
+        if r / 8 < self.words.len() {
+            (self.words[r / 8] >> (8 * (r % 8)) & 255) as u8
+        } else {
+            0
+        }
     }
 }

@@ -74,36 +74,3 @@ fn energy(each: u32, disks: u8) -> u64
 {
     each as u64 * disks as u64
 }
-
-#[cfg(test)]
-mod tests {
-    use super::*;
-    use paraid_base::Geometry;
-    use paraid_record::Mode;
-
-    #[test]
-    fn a_shift_down_of_five_disks_and_the_ticks_around_it(rt: HostRuntime) {
-        let geometry = Geometry::new(5, 5, &[4, 5]).ok().expect(&rt, "five disks");
-        let setup = Setup {
-            geometry,
-            mode: Mode::Whole,
-            rate: 1,
-            service: 100,
-            up: 80,
-            down: 60,
-            windows: [1000, 0, 0],
-            ration: 100,
-            spinning_mj: 9000,
-            parked_mj: 900,
-            spinup_mj: 60000,
-        };
-        let mut ledger = Ledger::new(&setup);
-        ledger.tick(5, 0);
-        ledger.tick(5, 0);
-        assert!(rt; ledger.total() == 90000);
-        ledger.tick(4, 1);
-        assert!(rt; ledger.total() == 126900);
-        ledger.spin_up(1);
-        assert!(rt; ledger.total() == 186900);
-    }
-}

@@ -1,5 +1,5 @@
 -- What one window means
-use Rattle.std.specs.Prelude.{◌≡◌, ℕ, ◌-◌, ◌*◌, ◌^◌, ◌&&◌, nat_le, Bool, List, length, sum, sum_by}
+use Rattle.std.specs.Prelude.{◌≡◌, ℕ, ◌-◌, ◌*◌, ◌^◌, ◌≤◌, ◌&&◌, nat_le, Bool, List, All, length, sum, sum_by}
 use Rattle.circular_buffer.specs.Buffer.{keep_last}
 
 -- a window's length, and the samples that it holds, the oldest first
@@ -17,6 +17,12 @@ pub record HoldsLast (window : Held) (samples : List ℕ) : Type 0 where
 -- the sum of the squares
 abbrev pub sum_squares : List ℕ → ℕ
 sum_squares = sum_by (λ x. x * x)
+
+-- the sum of small samples, and that of their squares
+pub record AreSums (samples : List ℕ) (total squares : ℕ) : Type 0 where
+  pub small : All (λ x. x ≤ 1048576) samples
+  pub total_is : total ≡ sum samples
+  pub squares_is : squares ≡ sum_squares samples
 
 -- there are as many samples as the window is long
 abbrev pub is_full : ℕ → List ℕ → Bool

@@ -1,6 +1,6 @@
 //! One window: the last samples, as many as it is long.
 
-ghost use Rattle.std.specs.Prelude.{◌≡◌, ◌*◌, ◌^◌, ◌<◌, ◌≤◌, [], ◌∷◌, ◌++◌, length, sum, IfOk};
+ghost use Rattle.std.specs.Prelude.{◌≡◌, ◌-◌, ◌*◌, ◌^◌, ◌<◌, ◌≤◌, [], ◌∷◌, ◌++◌, length, sum, IfOk};
 ghost use Rattle.circular_buffer.specs.Buffer.{keep_last};
 ghost use Rattle.paraid_gear.specs.Window.{held, sum_squares, is_full as is_full_at, is_busy as is_busy_at, is_quiet as is_quiet_at};
 
@@ -12,43 +12,25 @@ use std::marker::Model;
 /// The greatest length of a window, in samples.
 const LONGEST: usize = 1024;
 
-/// The last samples. It holds no more than its length, and its ring has room for the longest.
+/// The last samples. It holds no more than its length, and its ring has room for the longest. Their
+/// sum and that of their squares are kept beside them.
 #[derive(Drop)]
 pub(crate) struct Window {
     ring: HeapCircularBuffer<u32>,
     span: u16,
+    sum: u64,
+    squares: u64,
 }
 
 impl Model for Window {
     ghost use Rattle.std.specs.Prelude.{◌≡◌, ◌≤◌, length};
-    ghost use Rattle.paraid_gear.specs.Window.{Held};
+    ghost use Rattle.paraid_gear.specs.Window.{AreSums, Held};
 
     ghost Value = { Held };
 
     ghost view = { λ w. record { span = w.span; samples = w.ring.items } };
 
-    ghost invariant = { λ w. (w.ring.capacity ≡ 1024) × (w.span ≤ 1024) × (length w.ring.items ≤ w.span) };
-}
-
-/// The sum of at most 1,024 samples.
-fn sum_of(samples: &[u32]) -> u128
-    requires { length samples.now ≤ 1024 }
-    ensures value { result ≡ sum samples.now }
-    ensures small { result ≤ 2 ^ 42 }
-{
-    samples.iter().map(|sample| *sample as u128).sum()
-}
-
-/// The sum of the squares of at most 1,024 samples.
-fn squares_of(samples: &[u32]) -> u128
-    requires { length samples.now ≤ 1024 }
-    ensures value { result ≡ sum_squares samples.now }
-    ensures small { result ≤ 2 ^ 74 }
-{
-    samples
-        .iter()
-        .map(|sample| *sample as u128 * *sample as u128)
-        .sum()
+    ghost invariant = { λ w. (w.ring.capacity ≡ 1024) × (w.span ≤ 1024) × (length w.ring.items ≤ w.span) × AreSums w.ring.items w.sum w.squares };
 }
 
 impl Window {
@@ -57,7 +39,12 @@ impl Window {
         ensures { IfOk result (λ window. window ≡ held 0 []) }
     {
         match HeapCircularBuffer::with_capacity(alloc, LONGEST) {
-            Ok(ring) => Ok(Window { ring, span: 0 }),
+            Ok(ring) => Ok(Window {
+                ring,
+                span: 0,
+                sum: 0,
+                squares: 0,
+            }),
             Err(_) => Err(NoMemory),
         }
     }
@@ -69,15 +56,37 @@ impl Window {
     {
         self.ring.clear();
         self.span = length;
+        self.sum = 0;
+        self.squares = 0;
     }
 
     /// Takes in a sample. A window that is full gives up its oldest; one of length 0 stays empty.
     pub fn push(&mut self, sample: u32)
+        requires { sample ≤ 1048576 }
         ensures { self.new ≡ held self.old.span
             (keep_last self.old.span (self.old.samples ++ sample ∷ [])) }
     {
+        if self.span == 0 {
+            return;
+        }
+        self.make_room();
         self.ring.push_back(sample);
-        self.ring.truncate_front(self.span as usize);
+        self.sum += sample as u64;
+        self.squares += sample as u64 * sample as u64;
+    }
+
+    /// Gives up the oldest sample of a full window.
+    fn make_room(&mut self)
+        requires { 1 ≤ self.old.span }
+        ensures { self.new ≡ held self.old.span (keep_last (self.old.span - 1) self.old.samples) }
+    {
+        if self.ring.len() < self.span as usize {
+            return;
+        }
+        if let Some(oldest) = self.ring.pop_front() {
+            self.sum -= oldest as u64;
+            self.squares -= oldest as u64 * oldest as u64;
+        }
     }
 
     /// Whether it holds as many samples as it is long.
@@ -92,8 +101,7 @@ impl Window {
         ensures value { result ≡ sum self.now.samples }
         ensures small { result ≤ 2 ^ 43 }
     {
-        let (front, back) = self.ring.as_slices();
-        sum_of(front) + sum_of(back)
+        self.sum as u128
     }
 
     /// The sum of the squares of the samples.
@@ -101,8 +109,7 @@ impl Window {
         ensures value { result ≡ sum_squares self.now.samples }
         ensures small { result ≤ 2 ^ 75 }
     {
-        let (front, back) = self.ring.as_slices();
-        squares_of(front) + squares_of(back)
+        self.squares as u128
     }
 
     /// Whether the mean of the samples is at least `load` hundredths.

@@ -21,7 +21,7 @@ pub record IsLoaded (s : Slot) : Type 0 where
   pub unsynced : s.power ≡ Spinning → s.unsynced ≡ true
 
 -- after a call that failed
-pub record HasFailed (old new : Slot) : Type 0 where
+pub record IsFailedSlot (old new : Slot) : Type 0 where
   pub absent : new.power ≡ Absent
   pub empty : new.size ≡ 0
   pub unsynced : new.unsynced ≡ old.unsynced

@@ -6,7 +6,7 @@ use crate::power::Names;
 use paraid_base::{BLOCK_SIZE, Block, DiskNo, Failed, NoMemory, Place};
 use paraid_rack::Power;
 use std::alloc::Global;
-use std::fs::{File, Files, OpenOptions};
+use std::fs::{self, File, Files, OpenOptions};
 use std::io;
 use std::os::unix::fs::FileExt;
 
@@ -27,7 +27,7 @@ pub(crate) struct Image {
 
 impl Image {
     ghost use Rattle.std.specs.Prelude.{◌≢◌, true, is_ok, IfOk};
-    ghost use Rattle.paraid_imgrack.specs.Images.{slot_of, IsLoaded, HasFailed, Becomes};
+    ghost use Rattle.paraid_imgrack.specs.Images.{slot_of, IsLoaded, IsFailedSlot, Becomes};
 
     /// The disk as its files tell it.
     ///
@@ -169,7 +169,7 @@ impl Image {
 
     /// There is no disk from now on, and one more fault.
     fn fail<F: Files<File = File>>(&mut self, files: &F) -> Failed
-        ensures { HasFailed (slot_of self.old) (slot_of self.new) }
+        ensures { IsFailedSlot (slot_of self.old) (slot_of self.new) }
     {
         self.names.store_failed(files);
         self.file = None;
@@ -192,8 +192,11 @@ fn not_open() -> io::Error {
     io::Error::from(io::ErrorKind::NotFound)
 }
 
-/// The image, and how many blocks it has.
+/// The image, and how many blocks it has. What is no file, as a pipe, is refused unopened.
 fn open_image<F: Files<File = File>>(files: &F, name: &str) -> io::Result<(File, u32)> {
+    if !fs::metadata(files, name)?.is_file() {
+        return Err(not_open());
+    }
     let file = OpenOptions::new().read(true).write(true).open(files, name)?;
     let size = whole_blocks(file.metadata()?.len());
     Ok((file, size))

@@ -8,7 +8,5 @@
 mod image;
 mod power;
 mod rack;
-#[cfg(test)]
-mod tests;
 
 pub use rack::ImageRack;

@@ -57,7 +57,7 @@ impl Names {
         file.write_all(text(power).as_bytes())?;
         file.sync_all()?;
         fs::rename(files, self.next.as_str(), self.sidecar.as_str())?;
-        fs::open(files, ".")?.sync_all()
+        sync_folder(files)
     }
 
     /// Makes the sidecar tell that the disk has failed, as far as that can be done.
@@ -98,7 +98,12 @@ fn power_of(text: &[u8]) -> Power
     }
 }
 
+/// The power that a sidecar tells. Opening a pipe would wait for its other end, so what is no file
+/// is not opened.
 fn read_power<F: Files<File = File>>(files: &F, name: &str) -> io::Result<Power> {
+    if !fs::metadata(files, name)?.is_file() {
+        return Ok(Power::Absent);
+    }
     let file = fs::open(files, name)?;
     let length = file.metadata()?.len();
     if length > LONGEST as u64 {
@@ -116,5 +121,11 @@ fn overwrite<F: Files<File = File>>(files: &F, name: &str, text: &str) -> io::Re
         .create(true)
         .open(files, name)?;
     file.write_all_at(text.as_bytes(), 0)?;
-    file.sync_all()
+    file.sync_all()?;
+    sync_folder(files)
+}
+
+/// When it returns, the names of the folder are on the disk.
+fn sync_folder<F: Files<File = File>>(files: &F) -> io::Result<()> {
+    fs::open(files, ".")?.sync_all()
 }

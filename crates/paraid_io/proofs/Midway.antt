@@ -9,7 +9,7 @@ use Rattle.paraid_io.specs.declared.line.Line.{Line}
 use Rattle.paraid_io.specs.declared.line.Line.TheVariants.{Whole, Long, End}
 use Rattle.paraid_io.specs.declared.line.LineFault.{LineFault}
 use Rattle.paraid_io.specs.Lines.{NoNewline}
-use Rattle.paraid_io.specs.Reading.{Reading, CutsOff, Answers, Step, Takes, NeedsNoCall}
+use Rattle.paraid_io.specs.Reading.{Reading, CutsOff, IsAnswer, Step, ReaderTakes, NeedsNoCall}
 use Rattle.paraid_io.proofs.LineLemmas.{NoNewline-append, NoNewline-front, whole_lines-rest}
 use Rattle.paraid_base.proofs.ToldLemmas.{Gives-none, Gives-then}
 
@@ -76,7 +76,7 @@ was_not_ended {before} {now} {old} {at} {dropped} m e =
 
 -- more bytes came, or the end
 pub midway_more : {before now after : Option (List ℕ)} {old at new : Reading} {dropped n : ℕ} → Midway before now old at dropped → at.ended ≡ false → at.taken < 2 ^ 40
-    → Takes now after at new n → new.ended ≡ (n == 0) → new.fault ≡ at.fault → Midway before after old new dropped
+    → ReaderTakes now after at new n → new.ended ≡ (n == 0) → new.fault ≡ at.fault → Midway before after old new dropped
 midway_more {before} {now} {after} {old} {at} {new} {dropped} {n} m unended short t ended fault = record {
   got = m.got ++ t.got;
   gone = m.gone;
@@ -99,13 +99,13 @@ small_is_none d big le = elim (cases_lt 0 d) [ inl lt ↦ absurd (omega (arith, 
 
 -- a line of which some bytes are gone
 line_answer : (r : Line) (d n : ℕ) (input gone : List ℕ) (new : Reading) → (d + n ≤ 1100 → r ≡ Whole n) → (1100 < d + n → r ≡ Long (d + n)) → (0 < d → 1100 < d)
-    → CutsOff input (gone ++ new.line) new.rest new.ended → length gone ≡ d → length new.line ≡ n → Answers (Ok r) input new
+    → CutsOff input (gone ++ new.line) new.rest new.ended → length gone ≡ d → length new.line ≡ n → IsAnswer (Ok r) input new
 line_answer r d n input gone new whole long big cut many held = elim (cases_lt 1100 (d + n)) [
-  | inl lt ↦ subst (λ x. Answers (Ok x) input new) (sym (long lt)) (gone ++ new.line, cut, length-append gone new.line ∙ omega (arith, many, held), lt)
+  | inl lt ↦ subst (λ x. IsAnswer (Ok x) input new) (sym (long lt)) (gone ++ new.line, cut, length-append gone new.line ∙ omega (arith, many, held), lt)
   | inr le ↦
       let zero_gone : length gone ≡ 0 = many ∙ small_is_none d big (omega (arith, le)) in
       let none_gone : gone ≡ [] = nil_from_length gone zero_gone in
-      subst (λ x. Answers (Ok x) input new) (sym (whole le)) (subst (λ g. CutsOff input (g ++ new.line) new.rest new.ended) none_gone cut, held, omega (arith, le))
+      subst (λ x. IsAnswer (Ok x) input new) (sym (whole le)) (subst (λ g. CutsOff input (g ++ new.line) new.rest new.ended) none_gone cut, held, omega (arith, le))
 ]
 
 -- the newline is held
@@ -145,7 +145,7 @@ step_last {before} {now} {old} {at} {d} m r n new end whole long plain ended man
     | inl e ↦
         let none_gone : m.gone ≡ [] = nil_from_length m.gone (omega (arith, m.many)) in
         let none_left : at.rest ≡ [] = nil_from_length at.rest (omega (arith, many)) in
-        subst (λ x. Answers (Ok x) (old.rest ++ m.got) new) (sym (end e)) (m.input ∙ ap (λ x. x ++ at.rest) none_gone ∙ none_left, ap (λ x. x.rest) is, ap (λ x. x.ended) is ∙ ended)
+        subst (λ x. IsAnswer (Ok x) (old.rest ++ m.got) new) (sym (end e)) (m.input ∙ ap (λ x. x ++ at.rest) none_gone ∙ none_left, ap (λ x. x.rest) is, ap (λ x. x.ended) is ∙ ended)
     | inr e ↦
         let some : 0 < d + n = omega arith in
         line_answer r d n (old.rest ++ m.got) m.gone new (whole some) long m.long
@@ -198,10 +198,10 @@ held_same {before} {now} {old} {at} {after} {d} {e} m plain is sum = (
 )
 
 -- What was held before is the first part of what is held after more was taken.
-pub scanned_within : {before after : Option (List ℕ)} {old new : Reading} {n : ℕ} → Takes before after old new n → length old.rest ≤ length new.rest
+pub scanned_within : {before after : Option (List ℕ)} {old new : Reading} {n : ℕ} → ReaderTakes before after old new n → length old.rest ≤ length new.rest
 scanned_within {before} {after} {old} {new} {n} t = rw (t.held, length-append old.rest t.got) (omega arith)
 
-pub scanned_plain : {before after : Option (List ℕ)} {old new : Reading} {n : ℕ} → Takes before after old new n → NoNewline old.rest → NoNewline (take (length old.rest) new.rest)
+pub scanned_plain : {before after : Option (List ℕ)} {old new : Reading} {n : ℕ} → ReaderTakes before after old new n → NoNewline old.rest → NoNewline (take (length old.rest) new.rest)
 scanned_plain {before} {after} {old} {new} {n} t plain = rw t.held (subst NoNewline (sym (take-append_seam old.rest t.got)) plain)
 
 -- the source is called only where the answer was not known without it

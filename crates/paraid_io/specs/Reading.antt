@@ -24,7 +24,7 @@ abbrev pub fresh : ℕ → Reading
 fresh taken = record { rest = []; line = []; taken = taken; ended = false; fault = None }
 
 -- The reader took these many bytes from the source, or none at its end.
-pub record Takes (before after : Option (List ℕ)) (old new : Reading) (n : ℕ) : Type 0 where
+pub record ReaderTakes (before after : Option (List ℕ)) (old new : Reading) (n : ℕ) : Type 0 where
   pub got : List ℕ
   pub many : length got ≡ n
   pub given : Gives before after got
@@ -40,13 +40,13 @@ pub record CutsOff (input line rest : List ℕ) (ended : Bool) : Type 0 where
   pub cut : (input ≡ line ++ 10 ∷ rest) ⊎ ((input ≡ line) × (line ≢ []) × (rest ≡ []) × IsTrue ended)
 
 -- what an answer says of the bytes that were held before and taken in the call
-abbrev pub Answers : Result Line LineFault → List ℕ → Reading → Type 0
-Answers (Ok (Whole n)) input new =
+abbrev pub IsAnswer : Result Line LineFault → List ℕ → Reading → Type 0
+IsAnswer (Ok (Whole n)) input new =
     CutsOff input new.line new.rest new.ended × (length new.line ≡ n) × (n ≤ 1100)
-Answers (Ok (Long n)) input new =
+IsAnswer (Ok (Long n)) input new =
     (line : List ℕ) × CutsOff input line new.rest new.ended × (length line ≡ n) × (1100 < n)
-Answers (Ok End) input new = (input ≡ []) × (new.rest ≡ []) × IsTrue new.ended
-Answers (Err fault) input new = NoNewline input × (new.fault ≡ Some fault) × (new.ended ≡ false)
+IsAnswer (Ok End) input new = (input ≡ []) × (new.rest ≡ []) × IsTrue new.ended
+IsAnswer (Err fault) input new = NoNewline input × (new.fault ≡ Some fault) × (new.ended ≡ false)
 
 -- a fault comes only here: a count has risen, or all that may be taken was taken
 abbrev pub HasCause : Result Line LineFault → Reading → ℕ → ℕ → Type 0
@@ -67,7 +67,7 @@ pub record Step (before after : Option (List ℕ)) (old new : Reading)
   pub taken : new.taken ≡ old.taken + length got
   pub limit : new.taken ≤ 2 ^ 40
   pub held : length new.rest ≤ new.taken
-  pub answer : Answers result (old.rest ++ got) new
+  pub answer : IsAnswer result (old.rest ++ got) new
   -- after the end nothing more is taken, and the end comes only where nothing is left
   pub ended_before : IsTrue old.ended → got ≡ []
   pub stays_ended : IsTrue old.ended → IsTrue new.ended

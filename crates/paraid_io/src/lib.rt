@@ -12,8 +12,6 @@ mod reader;
 mod scan;
 mod sink;
 mod source;
-#[cfg(test)]
-mod tests;
 
 pub use line::{Line, LineFault};
 pub use memory::{MemSink, MemSource, SureSource};

@@ -1,7 +1,7 @@
 ghost use Rattle.std.specs.Prelude.{◌≡◌, ℕ, ◌+◌, ◌-◌, ◌^◌, ◌<◌, ◌≤◌, List, [], ◌∷◌, ◌++◌, length, take, drop, MatchOption, IfSome, IfNone, IfOk, OnErr, ◌==◌, ◌↔◌, IsTrue};
 ghost use Rattle.paraid_base.specs.Told.{Gives, HasRisen};
 ghost use Rattle.paraid_io.specs.Lines.{NoNewline};
-ghost use Rattle.paraid_io.specs.Reading.{Reading, fresh, Takes, Step, HasCause, NeedsNoCall};
+ghost use Rattle.paraid_io.specs.Reading.{Reading, fresh, ReaderTakes, Step, HasCause, NeedsNoCall};
 
 use crate::scan::{PIECE, make_room, newline_at};
 use crate::{Line, LineFault, Source};
@@ -113,7 +113,7 @@ impl LineReader {
     fn fill<S: Source>(&mut self, source: &mut S) -> Result<usize, Failed>
         requires held { length self.old.rest ≤ 1100 }
         requires room { self.old.taken < 2 ^ 40 }
-        ensures got { IfOk result (λ n. Takes (S.left source.old) (S.left source.new)
+        ensures got { IfOk result (λ n. ReaderTakes (S.left source.old) (S.left source.new)
             self.old self.new n) }
         ensures keeps { OnErr result (Gives (S.left source.old) (S.left source.new) []
             × (self.new.rest ≡ self.old.rest) × (self.new.taken ≡ self.old.taken)

@@ -11,8 +11,6 @@ mod index;
 pub mod laws;
 mod place;
 mod soft;
-#[cfg(test)]
-mod tests;
 
 pub use cell::{block_at, home, parity_disk};
 pub use place::{hard_place, map_place, soft_place};

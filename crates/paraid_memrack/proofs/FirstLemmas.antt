@@ -14,8 +14,8 @@ use Rattle.paraid_rack.specs.Trail.{Beginning, Trail, beginning, initial, now}
 use Rattle.paraid_rack.proofs.AtomsLemmas.{with_at_same, with_at_other}
 use Rattle.paraid_memrack.specs.declared.log.Start.{Start}
 use Rattle.paraid_memrack.specs.declared.slot.MemSlot.{MemSlot}
-use Rattle.paraid_memrack.specs.Slots.{View, view_of, view_at, view_from, slot_at, nothing, Becomes}
-use Rattle.paraid_memrack.specs.Tells.{told_by, beginning_of, no_beginning, Holds, AllHold}
+use Rattle.paraid_memrack.specs.Slots.{FullSlot, full_slot, full_slot_at, full_slot_from, slot_at, no_slot, ChangesSlot}
+use Rattle.paraid_memrack.specs.Tells.{told_by, beginning_of, no_beginning, IsSlotOf, AreSlotsOf}
 use Rattle.paraid_memrack.specs.Rules.{first_slot, untouched}
 use Rattle.paraid_memrack.proofs.NoteLemmas.{none_some, some_same}
 use Rattle.paraid_memrack.proofs.StepLemmas.{holds_same}
@@ -43,37 +43,37 @@ each_start P none each [] d = none
 each_start P none each (s ∷ start) zero = each s
 each_start P none each (s ∷ start) (suc d) = each_start P none each start d
 
-holds_first : (start : List Beginning) (d : ℕ) → Holds (initial start) d (view_from (beginning start d))
+holds_first : (start : List Beginning) (d : ℕ) → IsSlotOf (initial start) d (full_slot_from (beginning start d))
 unfolding initial
 holds_first start d = record { power = refl; size = refl; loose = λ p bad. absurd (false≢true bad); block = λ here p. refl }
 
-module _ (slots : List MemSlot) (start : List Start) (same : map view_of slots ≡ map view_from (map beginning_of start)) where
-  view_first : (d : ℕ) → view_at slots d ≡ view_from (beginning (map beginning_of start) d)
-  unfolding view_at
-  view_first d = ap (λ (l : List View). get_or l d nothing) same ∙ get_or-map_default view_from (map beginning_of start) d no_beginning
+module _ (slots : List MemSlot) (start : List Start) (same : map full_slot slots ≡ map full_slot_from (map beginning_of start)) where
+  view_first : (d : ℕ) → full_slot_at slots d ≡ full_slot_from (beginning (map beginning_of start) d)
+  unfolding full_slot_at
+  view_first d = ap (λ (l : List FullSlot). get_or l d no_slot) same ∙ get_or-map_default full_slot_from (map beginning_of start) d no_beginning
 
   pub slot_first : (d : ℕ) → slot_at slots d ≡ first_slot (map beginning_of start) d
-  slot_first d = ap (λ (v : View). record { power = v.power; size = length v.blocks; unsynced = v.unsynced; faults = v.faults }) (view_first d)
+  slot_first d = ap (λ (v : FullSlot). record { power = v.power; size = length v.blocks; unsynced = v.unsynced; faults = v.faults }) (view_first d)
 
   pub length_first : length slots ≡ length start
-  length_first = omega (arith, ap length same, length-map slots view_of, length-map (map beginning_of start) view_from, length-map start beginning_of)
+  length_first = omega (arith, ap length same, length-map slots full_slot, length-map (map beginning_of start) full_slot_from, length-map start beginning_of)
 
   pub small_first : (d : ℕ) → (slot_at slots d).size < 2 ^ 32
-  small_first d = subst (λ (v : View). length v.blocks < 2 ^ 32) (sym (view_first d)) (each_start (λ b. length b.blocks < 2 ^ 32) (omega arith) (λ s. s.small) start d)
+  small_first d = subst (λ (v : FullSlot). length v.blocks < 2 ^ 32) (sym (view_first d)) (each_start (λ b. length b.blocks < 2 ^ 32) (omega arith) (λ s. s.small) start d)
 
   pub sound_first : length slots ≤ 8 → AreSlots (length slots) (slot_at slots)
   sound_first few = record {
     few = few;
-    missing = λ d past. ap (λ (v : View). v.power) (view_past slots d past);
-    absent = λ d. subst (λ (v : View). v.power ≡ Absent → length v.blocks ≡ 0) (sym (view_first d))
+    missing = λ d past. ap (λ (v : FullSlot). v.power) (view_past slots d past);
+    absent = λ d. subst (λ (v : FullSlot). v.power ≡ Absent → length v.blocks ≡ 0) (sym (view_first d))
         (each_start (λ b. b.power ≡ Absent → length b.blocks ≡ 0) (λ _. refl) (λ s gone. ap length (s.empty gone)) start d);
-    parked = λ d _. ap (λ (v : View). v.unsynced) (view_first d);
+    parked = λ d _. ap (λ (v : FullSlot). v.unsynced) (view_first d);
   }
 
-  pub keeps_first : (told : Option Trail) → told ≡ Some (untouched (map beginning_of start)) → AllHold told (view_at slots)
+  pub keeps_first : (told : Option Trail) → told ≡ Some (untouched (map beginning_of start)) → AreSlotsOf told (full_slot_at slots)
   keeps_first told is t tells d =
-      subst (λ (u : Trail). Holds (now u) d (view_at slots d)) (some_same (sym is ∙ tells))
-      (subst (Holds (initial (map beginning_of start)) d) (sym (view_first d)) (holds_first (map beginning_of start) d))
+      subst (λ (u : Trail). IsSlotOf (now u) d (full_slot_at slots d)) (some_same (sym is ∙ tells))
+      (subst (IsSlotOf (initial (map beginning_of start)) d) (sym (view_first d)) (holds_first (map beginning_of start) d))
 
 module _ (start : List Beginning) (d : ℕ) (within : d < length start) where
   lost_here : (e : ℕ) → e ≡ d → beginning (set start d no_beginning) e ≡ no_beginning
@@ -104,13 +104,13 @@ module _ (start : List Beginning) (d : ℕ) (within : d < length start) where
   }
 
   -- the slots hold what is told after the loss
-  pub keeps_lost : (slots slots' : List MemSlot) (v : View) → Becomes slots slots' d v → v.power ≡ Absent → v.blocks ≡ [] → ((e : ℕ) → Holds (initial start) e (view_at slots e))
-      → (e : ℕ) → Holds (initial (set start d no_beginning)) e (view_at slots' e)
+  pub keeps_lost : (slots slots' : List MemSlot) (v : FullSlot) → ChangesSlot slots slots' d v → v.power ≡ Absent → v.blocks ≡ [] → ((e : ℕ) → IsSlotOf (initial start) e (full_slot_at slots e))
+      → (e : ℕ) → IsSlotOf (initial (set start d no_beginning)) e (full_slot_at slots' e)
   unfolding initial
   keeps_lost slots slots' v b gone empty was e =
       let after : Disks = initial (set start d no_beginning) in
       elim (cases_eq e d) [
-        | inl is ↦ subst (λ (k : ℕ). Holds after e (view_at slots' k)) (sym is) (subst (Holds after e) (sym b.here) (record {
+        | inl is ↦ subst (λ (k : ℕ). IsSlotOf after e (full_slot_at slots' k)) (sym is) (subst (IsSlotOf after e) (sym b.here) (record {
           power = ap (λ (x : Beginning). x.power) (lost_here e is) ∙ sym gone;
           size = ap (λ (x : Beginning). length x.blocks) (lost_here e is) ∙ sym (ap length empty);
           loose = λ p bad. absurd (false≢true bad);
@@ -118,6 +118,6 @@ module _ (start : List Beginning) (d : ℕ) (within : d < length start) where
         }))
         | inr not ↦
             let same = lost_other e not in
-            subst (Holds after e) (sym (b.others e not)) (holds_same (initial start) after e (view_at slots e)
+            subst (IsSlotOf after e) (sym (b.others e not)) (holds_same (initial start) after e (full_slot_at slots e)
             (ap (λ (x : Beginning). x.power) same) (ap (λ (x : Beginning). length x.blocks) same) refl (ap (λ (x : Beginning). λ (p : ℕ). get_or x.blocks p zeroed) same) (was e))
       ]

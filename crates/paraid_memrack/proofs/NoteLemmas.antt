@@ -9,8 +9,8 @@ use Rattle.paraid_rack.proofs.TrailsLemmas.{now-extend}
 use Rattle.paraid_memrack.specs.declared.log.Start.{Start}
 use Rattle.paraid_memrack.specs.declared.slot.MemSlot.{MemSlot}
 use Rattle.paraid_memrack.specs.Plan.{disk_of}
-use Rattle.paraid_memrack.specs.Slots.{View, view_at, Becomes}
-use Rattle.paraid_memrack.specs.Tells.{told_by, told_after, Holds, AllHold}
+use Rattle.paraid_memrack.specs.Slots.{FullSlot, full_slot_at, ChangesSlot}
+use Rattle.paraid_memrack.specs.Tells.{told_by, told_after, IsSlotOf, AreSlotsOf}
 use Rattle.paraid_memrack.proofs.StepLemmas.{holds_other}
 
 pub none_some : {A : Type 0} {x : A} → ◌≡◌ {A = Option A} None (Some x) → ⊥
@@ -50,21 +50,21 @@ pub told_none : (tells : Bool) (start : List Start) (calls : List Call) (c : Cal
 told_none tells start calls c more is = nothing_after (told_by tells start calls) start calls c ∙ ap (λ (b : Bool). told_after b (told_by tells start calls) c) (sym is)
 
 -- the slots hold what is told after a call on disk d
-pub keeps_after : {old new : Option Trail} (more : Bool) (c : Call) {d : ℕ} {slots slots' : List MemSlot} {leaves : View} → new ≡ told_after more old c → disk_of c ≡ d → Becomes slots slots' d leaves
-    → AllHold old (view_at slots) → ((s : Disks) → Holds s d (view_at slots d) → Holds (step c s) d leaves) → AllHold new (view_at slots')
+pub keeps_after : {old new : Option Trail} (more : Bool) (c : Call) {d : ℕ} {slots slots' : List MemSlot} {leaves : FullSlot} → new ≡ told_after more old c → disk_of c ≡ d → ChangesSlot slots slots' d leaves
+    → AreSlotsOf old (full_slot_at slots) → ((s : Disks) → IsSlotOf s d (full_slot_at slots d) → IsSlotOf (step c s) d leaves) → AreSlotsOf new (full_slot_at slots')
 keeps_after {old} {new} more c {d} {slots} {slots'} {leaves} is on b was here t tells e =
     let g = grows_told old new more c is t tells in
     let now_is : now t ≡ step c (now g.0) = ap now g.2 ∙ now-extend g.0 (c ∷ []) in
-    subst (λ (s : Disks). Holds s e (view_at slots' e)) (sym now_is) (elim (cases_eq e d) [
+    subst (λ (s : Disks). IsSlotOf s e (full_slot_at slots' e)) (sym now_is) (elim (cases_eq e d) [
       | inl same ↦
-          subst (λ (k : ℕ). Holds (step c (now g.0)) k (view_at slots' k)) (sym same)
-          (subst (Holds (step c (now g.0)) d) (sym b.here) (here (now g.0) (was g.0 g.1 d)))
+          subst (λ (k : ℕ). IsSlotOf (step c (now g.0)) k (full_slot_at slots' k)) (sym same)
+          (subst (IsSlotOf (step c (now g.0)) d) (sym b.here) (here (now g.0) (was g.0 g.1 d)))
       | inr not ↦
-          subst (Holds (step c (now g.0)) e) (sym (b.others e not))
-          (holds_other c (now g.0) e (view_at slots e) (λ same. not (same ∙ on)) (was g.0 g.1 e))
+          subst (IsSlotOf (step c (now g.0)) e) (sym (b.others e not))
+          (holds_other c (now g.0) e (full_slot_at slots e) (λ same. not (same ∙ on)) (was g.0 g.1 e))
     ])
 
 -- and after one that leaves its slot as it was
 pub keeps_still : {old new : Option Trail} (more : Bool) (c : Call) {d : ℕ} (slots : List MemSlot) → new ≡ told_after more old c → disk_of c ≡ d
-    → AllHold old (view_at slots) → ((s : Disks) → Holds s d (view_at slots d) → Holds (step c s) d (view_at slots d)) → AllHold new (view_at slots)
-keeps_still more c {d} slots is on was here = keeps_after more c {leaves = view_at slots d} is on (record { same_length = refl; here = refl; others = λ e not. refl }) was here
+    → AreSlotsOf old (full_slot_at slots) → ((s : Disks) → IsSlotOf s d (full_slot_at slots d) → IsSlotOf (step c s) d (full_slot_at slots d)) → AreSlotsOf new (full_slot_at slots)
+keeps_still more c {d} slots is on was here = keeps_after more c {leaves = full_slot_at slots d} is on (record { same_length = refl; here = refl; others = λ e not. refl }) was here

@@ -12,8 +12,8 @@ use Rattle.paraid_rack.proofs.AtomsLemmas.{with_at_same, with_at_other}
 use Rattle.paraid_memrack.specs.declared.versions.Versions.{Versions}
 use Rattle.paraid_memrack.specs.Plan.{disk_of, done_of}
 use Rattle.paraid_memrack.specs.Stop.{kept_after}
-use Rattle.paraid_memrack.specs.Versions.{firm, settled_to, versions_in, written_to}
-use Rattle.paraid_memrack.specs.Past.{Past, no_past, IsPast, Follows}
+use Rattle.paraid_memrack.specs.Versions.{firm, settled_to, versions_in, write_version}
+use Rattle.paraid_memrack.specs.Past.{Past, no_past, IsPast, MakesPast}
 
 pub same_versions : {v w : Versions} → v.written ≡ w.written → v.kept ≡ w.kept → v.loose ≡ w.loose → v ≡ w
 same_versions written kept loose = λ i. record { written = written i; kept = kept i; loose = loose i }
@@ -53,7 +53,7 @@ past_other (Attach d size done) s kept e v not h =
 gone : (n : Disks) (kept : ℕ → ℕ → Block) (d : ℕ) → n.power d ≡ Absent → n.size d ≡ 0 → IsPast n kept d no_past
 gone n kept d power size = record { power = power; size = size; blocks = λ p within. absurd (omega arith) }
 
-pub follows_failed : (c : Call) (v : Past) → done_of c ≡ false → Follows c v no_past
+pub follows_failed : (c : Call) (v : Past) → done_of c ≡ false → MakesPast c v no_past
 unfolding step
 follows_failed (Read d p true) v bad = absurd (true≢false bad)
 follows_failed (Read d p false) v bad = record { follows = λ s kept h. gone _ _ d (here s.power d Absent) (here s.size d 0) }
@@ -69,26 +69,26 @@ follows_failed (Attach d size true) v bad = absurd (true≢false bad)
 follows_failed (Attach d size false) v bad = record { follows = λ s kept h. gone _ _ d (here s.power d Absent) (here s.size d 0) }
 
 -- done calls
-pub follows_read : (d p : ℕ) (v : Past) → Follows (Read d p true) v v
+pub follows_read : (d p : ℕ) (v : Past) → MakesPast (Read d p true) v v
 unfolding step kept_after
 follows_read d p v = record {
   follows = λ s kept h. past_same s _ kept kept d v (here s.power d (s.power d)) (here s.size d (s.size d)) refl refl refl h;
 }
 
-pub follows_park : (d : ℕ) (v : Past) → Follows (Park d true) v (record v { power = Parked })
+pub follows_park : (d : ℕ) (v : Past) → MakesPast (Park d true) v (record v { power = Parked })
 unfolding step kept_after
 follows_park d v = record {
   follows = λ s kept h. record { power = here s.power d Parked; size = here s.size d (s.size d) ∙ h.size; blocks = h.blocks };
 }
 
-pub follows_spin_up : (d : ℕ) (v : Past) → Follows (SpinUp d true) v (record v { power = Spinning })
+pub follows_spin_up : (d : ℕ) (v : Past) → MakesPast (SpinUp d true) v (record v { power = Spinning })
 unfolding step kept_after
 follows_spin_up d v = record {
   follows = λ s kept h. record { power = here s.power d Spinning; size = here s.size d (s.size d) ∙ h.size; blocks = h.blocks };
 }
 
 write_versions : (s : Disks) (kept : ℕ → ℕ → Block) (d p : ℕ) (b : Block) (v : Past) → IsPast s kept d v → (q : ℕ) → q < length v.versions
-    → get_or (written_to v.versions p b) q (firm zeroed) ≡ versions_in (step (Write d p b true) s) kept d q
+    → get_or (write_version v.versions p b) q (firm zeroed) ≡ versions_in (step (Write d p b true) s) kept d q
 unfolding step
 write_versions s kept d p b v h q within =
     let x : Versions = record (get_or v.versions p (firm zeroed)) { written = b; loose = true } in
@@ -106,7 +106,7 @@ write_versions s kept d p b v h q within =
           ∙ same_versions (sym (block ∙ with_at_other (s.block d) p b q not)) refl (sym (loose ∙ with_at_other (s.loose d) p true q not))
     ]
 
-pub follows_write : (d p : ℕ) (b : Block) (v : Past) → Follows (Write d p b true) v (record v { versions = written_to v.versions p b })
+pub follows_write : (d p : ℕ) (b : Block) (v : Past) → MakesPast (Write d p b true) v (record v { versions = write_version v.versions p b })
 unfolding step kept_after
 follows_write d p b v =
     let x : Versions = record (get_or v.versions p (firm zeroed)) { written = b; loose = true } in
@@ -119,7 +119,7 @@ follows_write d p b v =
       };
     }
 
-pub follows_sync : (d : ℕ) (v : Past) → Follows (Sync d true) v (record v { versions = map settled_to v.versions })
+pub follows_sync : (d : ℕ) (v : Past) → MakesPast (Sync d true) v (record v { versions = map settled_to v.versions })
 unfolding step kept_after
 follows_sync d v = record {
   follows = λ s kept h. record {
@@ -132,7 +132,7 @@ follows_sync d v = record {
   };
 }
 
-pub follows_attach : (d size : ℕ) (v : Past) → Follows (Attach d size true) v (record { power = Spinning; versions = replicate size (firm zeroed) })
+pub follows_attach : (d size : ℕ) (v : Past) → MakesPast (Attach d size true) v (record { power = Spinning; versions = replicate size (firm zeroed) })
 unfolding step kept_after
 follows_attach d size v = record {
   follows = λ s kept h. record {
@@ -145,7 +145,7 @@ follows_attach d size v = record {
 }
 
 -- a done call that is one of these
-pub follows_as : {c : Call} {v w x : Past} (k : Bool → Call) (done : Bool) → ((b : Bool) → done_of (k b) ≡ b) → c ≡ k done → done_of c ≡ true → Follows (k true) v x → w ≡ x → Follows c v w
+pub follows_as : {c : Call} {v w x : Past} (k : Bool → Call) (done : Bool) → ((b : Bool) → done_of (k b) ≡ b) → c ≡ k done → done_of c ≡ true → MakesPast (k true) v x → w ≡ x → MakesPast c v w
 follows_as {c} {v} {w} {x} k done says is good follows same =
     let was_done : done ≡ true = sym (says done) ∙ ap done_of (sym is) ∙ good in
-    subst (λ (y : Past). Follows c v y) (sym same) (subst (λ (a : Call). Follows a v x) (sym (is ∙ ap k was_done)) follows)
+    subst (λ (y : Past). MakesPast c v y) (sym same) (subst (λ (a : Call). MakesPast a v x) (sym (is ∙ ap k was_done)) follows)

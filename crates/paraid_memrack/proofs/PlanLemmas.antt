@@ -7,7 +7,7 @@ use Rattle.std.proofs.lemmas.List.{get_or-set_same, get_or-set_other, get_or-rep
 use Rattle.std.proofs.lemmas.List.Sums.{sum_by-append, count_by-le-length}
 use Rattle.paraid_rack.specs.declared.call.Call.{Call}
 use Rattle.paraid_memrack.specs.declared.plan.Planned.{Planned}
-use Rattle.paraid_memrack.specs.Plan.{disk_of, count_on, names, is_planned, listed_after}
+use Rattle.paraid_memrack.specs.Plan.{disk_of, count_on, names_call, is_planned, listed_after}
 use Rattle.paraid_memrack.specs.Counted.{IsCounted}
 
 pub lt_true : (a b : ℕ) → a < b → nat_lt a b ≡ true
@@ -55,11 +55,11 @@ counted_push counts calls after c disk on within small longer was d lt = elim (c
 
 -- the test in the code is the one that is defined
 pub planned_is : (most at nth disk : ℕ) (plan : List Planned) (calls : List Call) → at ≡ length calls → nth ≡ count_on disk calls
-    → (nat_lt at most && list_any (names at disk nth) plan) ≡ is_planned most plan calls disk
+    → (nat_lt at most && list_any (names_call at disk nth) plan) ≡ is_planned most plan calls disk
 unfolding is_planned
 planned_is most at nth disk plan calls here counted =
-    ap (λ (k : ℕ). nat_lt k most && list_any (names k disk nth) plan) here
-    ∙ ap (λ (k : ℕ). nat_lt (length calls) most && list_any (names (length calls) disk k) plan) counted
+    ap (λ (k : ℕ). nat_lt k most && list_any (names_call k disk nth) plan) here
+    ∙ ap (λ (k : ℕ). nat_lt (length calls) most && list_any (names_call (length calls) disk k) plan) counted
 
 -- a call on a list that has room, or has none
 pub listed_more : (most n : ℕ) (calls : List Call) (c : Call) → n ≡ length calls → n < most → listed_after most calls c ≡ calls ++ c ∷ []

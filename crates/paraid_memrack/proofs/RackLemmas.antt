@@ -14,8 +14,8 @@ use Rattle.paraid_memrack.specs.declared.log.Start.{Start}
 use Rattle.paraid_memrack.specs.declared.slot.MemSlot.{MemSlot}
 use Rattle.paraid_memrack.specs.declared.rack.MemRack.{MemRack}
 use Rattle.paraid_memrack.specs.Plan.{has_room, listed_after}
-use Rattle.paraid_memrack.specs.Slots.{View, view_of, view_at, slot_at, nothing}
-use Rattle.paraid_memrack.specs.Tells.{told_by, told_after, beginning_of, Holds, AllHold}
+use Rattle.paraid_memrack.specs.Slots.{FullSlot, full_slot, full_slot_at, slot_at, no_slot}
+use Rattle.paraid_memrack.specs.Tells.{told_by, told_after, beginning_of, IsSlotOf, AreSlotsOf}
 use Rattle.paraid_memrack.specs.Rules.{Rules, told_of, Notes, no_disks}
 use Rattle.paraid_memrack.proofs.NoteLemmas.{none_some, some_same}
 
@@ -36,10 +36,10 @@ pub present : {count : ℕ} {slot : ℕ → Slot} → AreSlots count slot → (d
 present {count} {slot} sound d p within = present_power (slot d).power (λ gone. omega (arith, sound.absent d gone, within))
 
 -- a block in a slot is the one that is told
-pub block_told : (slots : List MemSlot) (d p : ℕ) (y : MemSlot) (b : Block) (s : Disks) → view_at slots d ≡ view_of y → p < (slot_at slots d).size → is_present (slot_at slots d).power ≡ true
-    → b ≡ get_or y.blocks.items p b → Holds s d (view_at slots d) → b ≡ s.block d p
+pub block_told : (slots : List MemSlot) (d p : ℕ) (y : MemSlot) (b : Block) (s : Disks) → full_slot_at slots d ≡ full_slot y → p < (slot_at slots d).size → is_present (slot_at slots d).power ≡ true
+    → b ≡ get_or y.blocks.items p b → IsSlotOf s d (full_slot_at slots d) → b ≡ s.block d p
 block_told slots d p y b s is within here read h =
-    let same : (view_at slots d).blocks ≡ y.blocks.items = ap (λ (v : View). v.blocks) is in
+    let same : (full_slot_at slots d).blocks ≡ y.blocks.items = ap (λ (v : FullSlot). v.blocks) is in
     get_or_read y.blocks.items p b (omega (arith, within, ap length same)) read zeroed
     ∙ ap (λ (l : List Block). get_or l p zeroed) (sym same) ∙ sym (h.block here p)
 
@@ -50,7 +50,7 @@ same_default n d x = elim (cases_lt d n) [
   | inr past ↦ get_or_past (replicate n x) d x (omega (arith, length-replicate n x, past))
 ]
 
-begins : (n d : ℕ) → Holds (now (no_disks n)) d nothing
+begins : (n d : ℕ) → IsSlotOf (now (no_disks n)) d no_slot
 unfolding initial
 begins n d =
     let x : Beginning = record { power = Absent; blocks = [] } in
@@ -62,9 +62,9 @@ begins n d =
       block = λ bad. absurd (false≢true bad);
     }
 
-pub starts : (told : Option Trail) (n : ℕ) (views : ℕ → View) → told ≡ Some (no_disks n) → ((d : ℕ) → views d ≡ nothing) → AllHold told views
+pub starts : (told : Option Trail) (n : ℕ) (views : ℕ → FullSlot) → told ≡ Some (no_disks n) → ((d : ℕ) → views d ≡ no_slot) → AreSlotsOf told views
 starts told n views is none t tells d =
-    subst (λ (u : Trail). Holds (now u) d (views d)) (some_same (sym is ∙ tells)) (subst (Holds (now (no_disks n)) d) (sym (none d)) (begins n d))
+    subst (λ (u : Trail). IsSlotOf (now u) d (views d)) (some_same (sym is ∙ tells)) (subst (IsSlotOf (now (no_disks n)) d) (sym (none d)) (begins n d))
 
 pub told_start : (tells : Bool) (start : List Start) (calls : List Call) (n : ℕ) → tells ≡ true → map beginning_of start ≡ replicate n (record { power = Absent; blocks = [] }) → calls ≡ []
     → told_by tells start calls ≡ Some (no_disks n)
@@ -73,12 +73,12 @@ told_start false start calls n bad begin none = absurd (false≢true bad)
 told_start true start calls n is begin none =
     ap (λ (b : List Beginning). Some (record { start = b; calls = calls })) begin ∙ ap (λ (l : List Call). Some (record { start = (no_disks n).start; calls = l })) none
 
-pub slots_none : (slots : List MemSlot) (n : ℕ) → length slots ≡ n → n ≤ 8 → ((d : ℕ) → view_at slots d ≡ nothing) → AreSlots (length slots) (slot_at slots)
+pub slots_none : (slots : List MemSlot) (n : ℕ) → length slots ≡ n → n ≤ 8 → ((d : ℕ) → full_slot_at slots d ≡ no_slot) → AreSlots (length slots) (slot_at slots)
 slots_none slots n is few none = record {
   few = omega arith;
-  missing = λ d past. ap (λ (v : View). v.power) (none d);
-  absent = λ d gone. ap (λ (v : View). length v.blocks) (none d);
-  parked = λ d stands. ap (λ (v : View). v.unsynced) (none d);
+  missing = λ d past. ap (λ (v : FullSlot). v.power) (none d);
+  absent = λ d gone. ap (λ (v : FullSlot). length v.blocks) (none d);
+  parked = λ d stands. ap (λ (v : FullSlot). v.unsynced) (none d);
 }
 
 pub told_calls : (tells : Bool) (start : List Start) (calls : List Call) (t : Trail) → told_by tells start calls ≡ Some t → t.calls ≡ calls

@@ -14,7 +14,7 @@ use Rattle.paraid_memrack.specs.Plan.{disk_of}
 use Rattle.paraid_memrack.specs.Stop.{kept_after, kept_by}
 use Rattle.paraid_memrack.specs.Tells.{no_beginning}
 use Rattle.paraid_memrack.specs.Versions.{firm}
-use Rattle.paraid_memrack.specs.Past.{Past, past_of, past_at, past_start, no_past, IsPast, Follows, AllPast, AllPastAt}
+use Rattle.paraid_memrack.specs.Past.{Past, past_of, past_at, past_start, no_past, IsPast, MakesPast, AllPast, AllPastAt}
 use Rattle.paraid_memrack.proofs.PastLemmas.{past_other}
 
 past_here : (slots : List PastSlot) (d : ℕ) (y : PastSlot) → d < length slots → y ≡ get_or slots d y → past_at slots d ≡ past_of y
@@ -34,7 +34,7 @@ past_set_other slots d x e not =
     ∙ get_or-set_other (map past_of slots) d e (past_of x) no_past not
 
 -- one slot follows a call on it, and so all do
-pub all_follow : (c : Call) (slots : List PastSlot) (d : ℕ) (y x : PastSlot) → d ≡ disk_of c → d < length slots → y ≡ get_or slots d y → Follows c (past_of y) (past_of x)
+pub all_follow : (c : Call) (slots : List PastSlot) (d : ℕ) (y x : PastSlot) → d ≡ disk_of c → d < length slots → y ≡ get_or slots d y → MakesPast c (past_of y) (past_of x)
     → (s : Disks) (kept : ℕ → ℕ → Block) → AllPast s kept slots → AllPast (step c s) (kept_after c s kept) (set slots d x)
 all_follow c slots d y x on within read f s kept was e =
     let n : Disks = step c s in

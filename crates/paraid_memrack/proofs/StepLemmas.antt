@@ -11,10 +11,10 @@ use Rattle.paraid_rack.specs.declared.call.Call.TheVariants.{Read, Write, Sync, 
 use Rattle.paraid_rack.specs.Disks.{Disks, with_at, step, is_present, power_after, size_after}
 use Rattle.paraid_rack.proofs.AtomsLemmas.{with_at_same, with_at_other, at_case}
 use Rattle.paraid_memrack.specs.Plan.{disk_of, done_of, dirt_after}
-use Rattle.paraid_memrack.specs.Slots.{View}
-use Rattle.paraid_memrack.specs.Tells.{Holds}
+use Rattle.paraid_memrack.specs.Slots.{FullSlot}
+use Rattle.paraid_memrack.specs.Tells.{IsSlotOf}
 
-pub holds_same : (s n : Disks) (e : ℕ) (v : View) → n.power e ≡ s.power e → n.size e ≡ s.size e → n.loose e ≡ s.loose e → n.block e ≡ s.block e → Holds s e v → Holds n e v
+pub holds_same : (s n : Disks) (e : ℕ) (v : FullSlot) → n.power e ≡ s.power e → n.size e ≡ s.size e → n.loose e ≡ s.loose e → n.block e ≡ s.block e → IsSlotOf s e v → IsSlotOf n e v
 holds_same s n e v power size loose block h = record {
   power = power ∙ h.power;
   size = size ∙ h.size;
@@ -23,7 +23,7 @@ holds_same s n e v power size loose block h = record {
 }
 
 -- a call on another disk
-pub holds_other : (c : Call) (s : Disks) (e : ℕ) (v : View) → e ≢ disk_of c → Holds s e v → Holds (step c s) e v
+pub holds_other : (c : Call) (s : Disks) (e : ℕ) (v : FullSlot) → e ≢ disk_of c → IsSlotOf s e v → IsSlotOf (step c s) e v
 unfolding step
 holds_other (Read d p done) s e v not h = holds_same s _ e v (with_at_other s.power d _ e not) (with_at_other s.size d _ e not) refl refl h
 holds_other (Write d p b done) s e v not h = holds_same s _ e v (with_at_other s.power d _ e not) (with_at_other s.size d _ e not) (with_at_other s.loose d _ e not) (with_at_other s.block d _ e not) h
@@ -45,7 +45,7 @@ here_block : (s : Disks) (d : ℕ) (f : ℕ → Block) (p : ℕ) → with_at s.b
 here_block s d f p = ap (λ (g : ℕ → Block). g p) (with_at_same s.block d f d refl)
 
 -- a failed call on this disk
-wreck : (n : Disks) (d : ℕ) (w : View) → n.power d ≡ Absent → n.size d ≡ 0 → ((p : ℕ) → n.loose d p ≡ true → w.unsynced ≡ true) → w.power ≡ Absent → w.blocks ≡ [] → Holds n d w
+wreck : (n : Disks) (d : ℕ) (w : FullSlot) → n.power d ≡ Absent → n.size d ≡ 0 → ((p : ℕ) → n.loose d p ≡ true → w.unsynced ≡ true) → w.power ≡ Absent → w.blocks ≡ [] → IsSlotOf n d w
 wreck n d w power size loose gone empty = record {
   power = power ∙ sym gone;
   size = size ∙ sym (ap length empty);
@@ -53,10 +53,10 @@ wreck n d w power size loose gone empty = record {
   block = λ here. absurd (false≢true (sym (ap is_present gone) ∙ here));
 }
 
-dirty : {v : View} (w : View) {s : Disks} {d : ℕ} → Holds s d v → w.unsynced ≡ v.unsynced → (p : ℕ) → s.loose d p ≡ true → w.unsynced ≡ true
+dirty : {v : FullSlot} (w : FullSlot) {s : Disks} {d : ℕ} → IsSlotOf s d v → w.unsynced ≡ v.unsynced → (p : ℕ) → s.loose d p ≡ true → w.unsynced ≡ true
 dirty w h same p is = same ∙ h.loose p is
 
-pub holds_failed : (c : Call) (s : Disks) (v w : View) → done_of c ≡ false → w.power ≡ Absent → w.blocks ≡ [] → w.unsynced ≡ dirt_after c v.unsynced → Holds s (disk_of c) v → Holds (step c s) (disk_of c) w
+pub holds_failed : (c : Call) (s : Disks) (v w : FullSlot) → done_of c ≡ false → w.power ≡ Absent → w.blocks ≡ [] → w.unsynced ≡ dirt_after c v.unsynced → IsSlotOf s (disk_of c) v → IsSlotOf (step c s) (disk_of c) w
 unfolding step
 holds_failed (Read d p true) s v w bad gone empty dirt h = absurd (true≢false bad)
 holds_failed (Read d p false) s v w bad gone empty dirt h = wreck _ d w (here_power s d false (s.power d)) (here_size s d false (s.size d)) (dirty w h dirt) gone empty
@@ -73,12 +73,12 @@ holds_failed (Attach d size true) s v w bad gone empty dirt h = absurd (true≢f
 holds_failed (Attach d size false) s v w bad gone empty dirt h =
     wreck _ d w (here_power s d false Spinning) (here_size s d false size) (λ q is. dirty w h dirt q (sym (here_loose s d (s.loose d) q) ∙ is)) gone empty
 
-module _ (s : Disks) (d : ℕ) (v : View) (h : Holds s d v) where
-  pub holds_read : (p : ℕ) → Holds (step (Read d p true) s) d v
+module _ (s : Disks) (d : ℕ) (v : FullSlot) (h : IsSlotOf s d v) where
+  pub holds_read : (p : ℕ) → IsSlotOf (step (Read d p true) s) d v
   unfolding step
   holds_read p = holds_same s _ d v (here_power s d true (s.power d)) (here_size s d true (s.size d)) refl refl h
 
-  pub holds_write : (p : ℕ) (b : Block) → v.power ≡ Spinning → p < length v.blocks → Holds (step (Write d p b true) s) d (record v { blocks = set v.blocks p b; unsynced = true })
+  pub holds_write : (p : ℕ) (b : Block) → v.power ≡ Spinning → p < length v.blocks → IsSlotOf (step (Write d p b true) s) d (record v { blocks = set v.blocks p b; unsynced = true })
   unfolding step
   holds_write p b spins inside = record {
     power = here_power s d true (s.power d) ∙ h.power;
@@ -92,7 +92,7 @@ module _ (s : Disks) (d : ℕ) (v : View) (h : Holds s d v) where
           (λ e. sym (ap (λ (k : ℕ). get_or (set v.blocks p b) k zeroed) e ∙ get_or-set_same v.blocks p b zeroed inside))
           (λ not. h.block here q ∙ sym (get_or-set_other v.blocks p q b zeroed not))
 
-  pub holds_sync : Holds (step (Sync d true) s) d (record v { unsynced = false })
+  pub holds_sync : IsSlotOf (step (Sync d true) s) d (record v { unsynced = false })
   unfolding step
   holds_sync = record {
     power = here_power s d true (s.power d) ∙ h.power;
@@ -101,7 +101,7 @@ module _ (s : Disks) (d : ℕ) (v : View) (h : Holds s d v) where
     block = h.block;
   }
 
-  pub holds_park : v.power ≡ Spinning → Holds (step (Park d true) s) d (record v { power = Parked })
+  pub holds_park : v.power ≡ Spinning → IsSlotOf (step (Park d true) s) d (record v { power = Parked })
   unfolding step
   holds_park spins = record {
     power = here_power s d true Parked;
@@ -110,7 +110,7 @@ module _ (s : Disks) (d : ℕ) (v : View) (h : Holds s d v) where
     block = λ here. h.block (ap is_present spins);
   }
 
-  pub holds_spin_up : v.power ≡ Parked → Holds (step (SpinUp d true) s) d (record v { power = Spinning })
+  pub holds_spin_up : v.power ≡ Parked → IsSlotOf (step (SpinUp d true) s) d (record v { power = Spinning })
   unfolding step
   holds_spin_up stands = record {
     power = here_power s d true Spinning;
@@ -126,8 +126,8 @@ at_zeros n q = elim (cases_lt q n) [
   | inr past ↦ get_or_past (replicate n zeroed) q zeroed (omega (arith, length-replicate {A = Block} n zeroed, past))
 ]
 
-pub holds_attach : (s : Disks) (d : ℕ) (v : View) (blocks : List Block) (size : ℕ) → blocks ≡ replicate size zeroed
-    → Holds (step (Attach d size true) s) d (record v { power = Spinning; blocks = blocks; unsynced = false })
+pub holds_attach : (s : Disks) (d : ℕ) (v : FullSlot) (blocks : List Block) (size : ℕ) → blocks ≡ replicate size zeroed
+    → IsSlotOf (step (Attach d size true) s) d (record v { power = Spinning; blocks = blocks; unsynced = false })
 unfolding step
 holds_attach s d v blocks size zeros = record {
   power = here_power s d true Spinning;

@@ -6,45 +6,45 @@ use Rattle.paraid_base.specs.Told.{HasRisen}
 use Rattle.paraid_rack.specs.declared.call.Power.TheVariants.{Absent, Parked}
 use Rattle.paraid_rack.specs.Slots.{Slot, Touched, AreSlots}
 use Rattle.paraid_memrack.specs.declared.slot.MemSlot.{MemSlot}
-use Rattle.paraid_memrack.specs.Slots.{View, view_of, view_at, nothing, slot_of, slot_at, wrecked, Becomes}
+use Rattle.paraid_memrack.specs.Slots.{FullSlot, full_slot, full_slot_at, no_slot, slot_of, slot_at, wrecked, ChangesSlot}
 
-pub same_view : {v w : View} → v.power ≡ w.power → v.blocks ≡ w.blocks → v.unsynced ≡ w.unsynced → v.faults ≡ w.faults → v ≡ w
+pub same_view : {v w : FullSlot} → v.power ≡ w.power → v.blocks ≡ w.blocks → v.unsynced ≡ w.unsynced → v.faults ≡ w.faults → v ≡ w
 same_view p b u f = λ i. record { power = p i; blocks = b i; unsynced = u i; faults = f i }
 
 -- what a read of a slot gives
-pub view_here : (slots : List MemSlot) (d : ℕ) (y : MemSlot) → d < length slots → y ≡ get_or slots d y → view_at slots d ≡ view_of y
-unfolding view_at
-view_here slots d y within is = get_or-map view_of slots d y nothing within ∙ ap view_of (sym is)
+pub view_here : (slots : List MemSlot) (d : ℕ) (y : MemSlot) → d < length slots → y ≡ get_or slots d y → full_slot_at slots d ≡ full_slot y
+unfolding full_slot_at
+view_here slots d y within is = get_or-map full_slot slots d y no_slot within ∙ ap full_slot (sym is)
 
-pub view_past : (slots : List MemSlot) (d : ℕ) → length slots ≤ d → view_at slots d ≡ nothing
-unfolding view_at
-view_past slots d past = get_or_past (map view_of slots) d nothing (simp length-map past)
+pub view_past : (slots : List MemSlot) (d : ℕ) → length slots ≤ d → full_slot_at slots d ≡ no_slot
+unfolding full_slot_at
+view_past slots d past = get_or_past (map full_slot slots) d no_slot (simp length-map past)
 
-view_set_same : (slots : List MemSlot) (d : ℕ) (x : MemSlot) → d < length slots → view_at (set slots d x) d ≡ view_of x
-unfolding view_at
+view_set_same : (slots : List MemSlot) (d : ℕ) (x : MemSlot) → d < length slots → full_slot_at (set slots d x) d ≡ full_slot x
+unfolding full_slot_at
 view_set_same slots d x within =
-    ap (λ (l : List View). get_or l d nothing) (map-set view_of slots d x)
-    ∙ get_or-set_same (map view_of slots) d (view_of x) nothing (simp length-map within)
+    ap (λ (l : List FullSlot). get_or l d no_slot) (map-set full_slot slots d x)
+    ∙ get_or-set_same (map full_slot slots) d (full_slot x) no_slot (simp length-map within)
 
-view_set_other : (slots : List MemSlot) (d : ℕ) (x : MemSlot) (e : ℕ) → e ≢ d → view_at (set slots d x) e ≡ view_at slots e
-unfolding view_at
+view_set_other : (slots : List MemSlot) (d : ℕ) (x : MemSlot) (e : ℕ) → e ≢ d → full_slot_at (set slots d x) e ≡ full_slot_at slots e
+unfolding full_slot_at
 view_set_other slots d x e not =
-    ap (λ (l : List View). get_or l e nothing) (map-set view_of slots d x)
-    ∙ get_or-set_other (map view_of slots) d e (view_of x) nothing not
+    ap (λ (l : List FullSlot). get_or l e no_slot) (map-set full_slot slots d x)
+    ∙ get_or-set_other (map full_slot slots) d e (full_slot x) no_slot not
 
 -- a slot was put in the place of one
-pub becomes_set : (slots : List MemSlot) (d : ℕ) (x : MemSlot) (leaves : View) → d < length slots → view_of x ≡ leaves → Becomes slots (set slots d x) d leaves
+pub becomes_set : (slots : List MemSlot) (d : ℕ) (x : MemSlot) (leaves : FullSlot) → d < length slots → full_slot x ≡ leaves → ChangesSlot slots (set slots d x) d leaves
 becomes_set slots d x leaves within is = record {
   same_length = length-set slots d x;
   here = view_set_same slots d x within ∙ is;
   others = view_set_other slots d x;
 }
 
-module _ {old new : List MemSlot} {d : ℕ} {leaves : View} (b : Becomes old new d leaves) where
+module _ {old new : List MemSlot} {d : ℕ} {leaves : FullSlot} (b : ChangesSlot old new d leaves) where
   -- what holds of each slot before, and of this one after, holds of each after
-  pub each_after : (P : View → Type 0) → ((e : ℕ) → P (view_at old e)) → P leaves → (e : ℕ) → P (view_at new e)
+  pub each_after : (P : FullSlot → Type 0) → ((e : ℕ) → P (full_slot_at old e)) → P leaves → (e : ℕ) → P (full_slot_at new e)
   each_after P was is e = elim (cases_eq e d) [
-    | inl same ↦ subst (λ (k : ℕ). P (view_at new k)) (sym same) (subst P (sym b.here) is)
+    | inl same ↦ subst (λ (k : ℕ). P (full_slot_at new k)) (sym same) (subst P (sym b.here) is)
     | inr not ↦ subst P (sym (b.others e not)) (was e)
   ]
 
@@ -58,7 +58,7 @@ module _ {old new : List MemSlot} {d : ℕ} {leaves : View} (b : Becomes old new
     missing = λ e past.
         let past' : length old ≤ e = omega (arith, b.same_length, past) in
         let not : e ≢ d = λ same. omega (arith, same, past', within) in
-        ap (λ (v : View). v.power) (b.others e not) ∙ was.missing e past';
+        ap (λ (v : FullSlot). v.power) (b.others e not) ∙ was.missing e past';
     absent = each_after (λ v. v.power ≡ Absent → length v.blocks ≡ 0) was.absent absent;
     parked = each_after (λ v. v.power ≡ Parked → v.unsynced ≡ false) was.parked parked;
   }
@@ -80,15 +80,15 @@ risen was now sum = elim (cases_lt was 18446744073709551615) [
   | inr le ↦ record { risen = inr (omega arith) }
 ]
 
-pub touched_failed : {old new : List MemSlot} {d : ℕ} {dirt : Bool} → Becomes old new d (wrecked dirt (view_at old d)) → (view_at old d).faults ≤ (view_at new d).faults → (leaves : Slot)
+pub touched_failed : {old new : List MemSlot} {d : ℕ} {dirt : Bool} → ChangesSlot old new d (wrecked dirt (full_slot_at old d)) → (full_slot_at old d).faults ≤ (full_slot_at new d).faults → (leaves : Slot)
     → Touched (slot_at old) (slot_at new) d leaves dirt false
 touched_failed {old} {new} {d} {dirt} b grows leaves = record {
   others = λ e not. ap slot_of (b.others e not);
   done = λ bad. absurd (false≢true bad);
-  absent = λ _. ap (λ (v : View). v.power) b.here;
-  empty = λ _. ap (λ (v : View). length v.blocks) b.here;
-  unsynced = λ _. ap (λ (v : View). v.unsynced) b.here;
-  risen = λ _. risen (view_at old d).faults (view_at new d).faults (ap (λ (v : View). v.faults) b.here);
+  absent = λ _. ap (λ (v : FullSlot). v.power) b.here;
+  empty = λ _. ap (λ (v : FullSlot). length v.blocks) b.here;
+  unsynced = λ _. ap (λ (v : FullSlot). v.unsynced) b.here;
+  risen = λ _. risen (full_slot_at old d).faults (full_slot_at new d).faults (ap (λ (v : FullSlot). v.faults) b.here);
   later = λ _. grows;
 }
 
@@ -121,17 +121,17 @@ default_push (y ∷ xs) x all zero = all 0
 default_push (y ∷ xs) x all (suc d) = default_push xs x (λ e. all (suc e)) d
 
 -- one more slot with no disk
-pub nothing_push : (slots : List MemSlot) (x : MemSlot) → view_of x ≡ nothing → ((d : ℕ) → view_at slots d ≡ nothing) → (d : ℕ) → view_at (slots ++ x ∷ []) d ≡ nothing
-unfolding view_at
+pub nothing_push : (slots : List MemSlot) (x : MemSlot) → full_slot x ≡ no_slot → ((d : ℕ) → full_slot_at slots d ≡ no_slot) → (d : ℕ) → full_slot_at (slots ++ x ∷ []) d ≡ no_slot
+unfolding full_slot_at
 nothing_push slots x is all d =
-    ap (λ (l : List View). get_or l d nothing) (map_push view_of slots x ∙ ap (λ (v : View). map view_of slots ++ v ∷ []) is)
-    ∙ default_push (map view_of slots) nothing all d
+    ap (λ (l : List FullSlot). get_or l d no_slot) (map_push full_slot slots x ∙ ap (λ (v : FullSlot). map full_slot slots ++ v ∷ []) is)
+    ∙ default_push (map full_slot slots) no_slot all d
 
-pub no_slots : (slots : List MemSlot) → slots ≡ [] → (d : ℕ) → view_at slots d ≡ nothing
-unfolding view_at
-no_slots slots none d = ap (λ (l : List MemSlot). view_at l d) none
+pub no_slots : (slots : List MemSlot) → slots ≡ [] → (d : ℕ) → full_slot_at slots d ≡ no_slot
+unfolding full_slot_at
+no_slots slots none d = ap (λ (l : List MemSlot). full_slot_at l d) none
 
 -- a count that rises by one, or stands at its end, does not fall
-pub faults_after : {old new : List MemSlot} {d : ℕ} {dirt : Bool} → Becomes old new d (wrecked dirt (view_at old d)) → (y : MemSlot) → view_at old d ≡ view_of y → y.faults < 2 ^ 64
-    → (view_at old d).faults ≤ (view_at new d).faults
-faults_after b y is fits = omega (arith, ap (λ (v : View). v.faults) b.here, ap (λ (v : View). v.faults) is)
+pub faults_after : {old new : List MemSlot} {d : ℕ} {dirt : Bool} → ChangesSlot old new d (wrecked dirt (full_slot_at old d)) → (y : MemSlot) → full_slot_at old d ≡ full_slot y → y.faults < 2 ^ 64
+    → (full_slot_at old d).faults ≤ (full_slot_at new d).faults
+faults_after b y is fits = omega (arith, ap (λ (v : FullSlot). v.faults) b.here, ap (λ (v : FullSlot). v.faults) is)

@@ -40,7 +40,7 @@ pub record IsPast (s : Disks) (kept : ℕ → ℕ → Block) (d : ℕ) (v : Past
   pub blocks : (p : ℕ) → p < length v.versions → get_or v.versions p (firm zeroed) ≡ versions_in s kept d p
 
 -- a call makes the slot w of the slot v of its disk
-pub record Follows (c : Call) (v w : Past) : Type 0 where
+pub record MakesPast (c : Call) (v w : Past) : Type 0 where
   pub follows : (s : Disks) (kept : ℕ → ℕ → Block) → IsPast s kept (disk_of c) v
       → IsPast (step c s) (kept_after c s kept) (disk_of c) w
 

@@ -37,9 +37,9 @@ unfoldable pub count_on : ℕ → List Call → ℕ
 count_on disk calls = count_by (λ c. disk_of c == disk) calls
 
 -- whether this names the call number m, which is the call number k on its disk
-abbrev pub names : ℕ → ℕ → ℕ → Planned → Bool
-names m disk k (AtCall n) = n == m
-names m disk k (OnDisk d n) = (d == disk) && (n == k)
+abbrev pub names_call : ℕ → ℕ → ℕ → Planned → Bool
+names_call m disk k (AtCall n) = n == m
+names_call m disk k (OnDisk d n) = (d == disk) && (n == k)
 
 -- whether one more call than these is listed, where at most so many are
 abbrev pub has_room : ℕ → List Call → Bool
@@ -53,4 +53,4 @@ listed_after most calls c = if has_room most calls then calls ++ c ∷ [] else c
 -- has no number, and is not named
 unfoldable pub is_planned : ℕ → List Planned → List Call → ℕ → Bool
 is_planned most plan calls disk =
-    has_room most calls && list_any (names (length calls) disk (count_on disk calls)) plan
+    has_room most calls && list_any (names_call (length calls) disk (count_on disk calls)) plan

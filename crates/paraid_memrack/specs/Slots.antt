@@ -8,39 +8,39 @@ use Rattle.paraid_rack.specs.Trail.{Beginning}
 use Rattle.paraid_memrack.specs.declared.slot.MemSlot.{MemSlot}
 
 -- a slot with its blocks
-pub record View : Type 0 where
+pub record FullSlot : Type 0 where
   pub power : Power
   pub blocks : List Block
   pub unsynced : Bool
   pub faults : ℕ
 
-abbrev pub view_of : MemSlot → View
-view_of s = record { power = s.power; blocks = s.blocks.items; unsynced = s.unsynced; faults = s.faults }
+abbrev pub full_slot : MemSlot → FullSlot
+full_slot s = record { power = s.power; blocks = s.blocks.items; unsynced = s.unsynced; faults = s.faults }
 
 -- a slot that does not exist
-abbrev pub nothing : View
-nothing = record { power = Absent; blocks = []; unsynced = false; faults = 0 }
+abbrev pub no_slot : FullSlot
+no_slot = record { power = Absent; blocks = []; unsynced = false; faults = 0 }
 
-unfoldable pub view_at : List MemSlot → ℕ → View
-view_at slots d = get_or (map view_of slots) d nothing
+unfoldable pub full_slot_at : List MemSlot → ℕ → FullSlot
+full_slot_at slots d = get_or (map full_slot slots) d no_slot
 
 -- what is told of it
-abbrev pub slot_of : View → Slot
+abbrev pub slot_of : FullSlot → Slot
 slot_of v = record { power = v.power; size = length v.blocks; unsynced = v.unsynced; faults = v.faults }
 
 abbrev pub slot_at : List MemSlot → ℕ → Slot
-slot_at slots d = slot_of (view_at slots d)
+slot_at slots d = slot_of (full_slot_at slots d)
 
 -- after a failed call
-abbrev pub wrecked : Bool → View → View
+abbrev pub wrecked : Bool → FullSlot → FullSlot
 wrecked dirt v = record { power = Absent; blocks = []; unsynced = dirt; faults = min (v.faults + 1) 18446744073709551615 }
 
 -- a slot as it is at the start
-abbrev pub view_from : Beginning → View
-view_from b = record { power = b.power; blocks = b.blocks; unsynced = false; faults = 0 }
+abbrev pub full_slot_from : Beginning → FullSlot
+full_slot_from b = record { power = b.power; blocks = b.blocks; unsynced = false; faults = 0 }
 
 -- this slot has become so, and every other is as before
-pub record Becomes (old new : List MemSlot) (disk : ℕ) (leaves : View) : Type 0 where
+pub record ChangesSlot (old new : List MemSlot) (disk : ℕ) (leaves : FullSlot) : Type 0 where
   pub same_length : length new ≡ length old
-  pub here : view_at new disk ≡ leaves
-  pub others : (d : ℕ) → d ≢ disk → view_at new d ≡ view_at old d
+  pub here : full_slot_at new disk ≡ leaves
+  pub others : (d : ℕ) → d ≢ disk → full_slot_at new d ≡ full_slot_at old d

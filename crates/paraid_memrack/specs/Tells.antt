@@ -6,7 +6,7 @@ use Rattle.paraid_rack.specs.declared.call.Call.{Call}
 use Rattle.paraid_rack.specs.Disks.{Disks, is_present}
 use Rattle.paraid_rack.specs.Trail.{Trail, Beginning, now, extend}
 use Rattle.paraid_memrack.specs.declared.log.Start.{Start}
-use Rattle.paraid_memrack.specs.Slots.{View}
+use Rattle.paraid_memrack.specs.Slots.{FullSlot}
 
 abbrev pub beginning_of : Start → Beginning
 beginning_of s = record { power = s.power; blocks = s.blocks.items }
@@ -27,12 +27,12 @@ told_after true None c = None
 told_after false told c = None
 
 -- disk d is in this state exactly as the slot has it; of an absent disk the blocks do not count
-pub record Holds (s : Disks) (d : ℕ) (v : View) : Type 0 where
+pub record IsSlotOf (s : Disks) (d : ℕ) (v : FullSlot) : Type 0 where
   pub power : s.power d ≡ v.power
   pub size : s.size d ≡ length v.blocks
   pub loose : (p : ℕ) → s.loose d p ≡ true → v.unsynced ≡ true
   pub block : is_present v.power ≡ true → (p : ℕ) → s.block d p ≡ get_or v.blocks p zeroed
 
 -- the slots hold what is told
-abbrev pub AllHold : Option Trail → (ℕ → View) → Type 0
-AllHold told views = (t : Trail) → told ≡ Some t → (d : ℕ) → Holds (now t) d (views d)
+abbrev pub AreSlotsOf : Option Trail → (ℕ → FullSlot) → Type 0
+AreSlotsOf told views = (t : Trail) → told ≡ Some t → (d : ℕ) → IsSlotOf (now t) d (views d)

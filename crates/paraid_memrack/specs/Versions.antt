@@ -12,8 +12,8 @@ abbrev pub firm : Block → Versions
 firm b = record { written = b; kept = b; loose = false }
 
 -- a block is written, where there is such a place
-abbrev pub written_to : List Versions → ℕ → Block → List Versions
-written_to blocks p b = set blocks p (record (get_or blocks p (firm zeroed)) { written = b; loose = true })
+abbrev pub write_version : List Versions → ℕ → Block → List Versions
+write_version blocks p b = set blocks p (record (get_or blocks p (firm zeroed)) { written = b; loose = true })
 
 -- a block is kept as it was written last
 abbrev pub settled_to : Versions → Versions

@@ -17,6 +17,3 @@ mod versions;
 pub use plan::Planned;
 pub use rack::MemRack;
 pub use stop::Pick;
-
-#[cfg(test)]
-mod tests;

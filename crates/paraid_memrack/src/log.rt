@@ -2,7 +2,7 @@
 ghost use Rattle.std.specs.Prelude.{◌≡◌, ℕ, ◌<◌, ◌≤◌, ◌^◌, List, [], length, map, slice_index, slice_set, true, vec_capacity, IfOk};
 ghost use Rattle.paraid_rack.specs.declared.call.Power.TheVariants.{Absent};
 ghost use Rattle.std.specs.List.{list_any};
-ghost use Rattle.paraid_memrack.specs.Plan.{names, disk_of, count_on, is_planned, listed_after, has_room};
+ghost use Rattle.paraid_memrack.specs.Plan.{names_call, disk_of, count_on, is_planned, listed_after, has_room};
 ghost use Rattle.paraid_memrack.specs.Counted.{IsCounted, AreOnSlots};
 
 use crate::past::PastSlot;
@@ -134,7 +134,7 @@ impl Log {
 
 // Whether one of the plan names call `at`, which is call `nth` on its disk.
 fn names_any(plan: &Vec<Planned>, at: u32, disk: DiskNo, nth: u32) -> bool
-    ensures { result ≡ list_any (names at disk nth) plan.now.items }
+    ensures { result ≡ list_any (names_call at disk nth) plan.now.items }
 {
     plan.iter().any(|planned| planned.names(at, disk, nth))
 }

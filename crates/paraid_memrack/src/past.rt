@@ -21,8 +21,8 @@ pub struct PastSlot {
 }
 
 impl PastSlot {
-    ghost use Rattle.paraid_memrack.specs.Versions.{firm, settled_to, written_to};
-    ghost use Rattle.paraid_memrack.specs.Past.{past_of, past_start, no_past, Follows, in_bytes, left_in_bytes};
+    ghost use Rattle.paraid_memrack.specs.Versions.{firm, settled_to, write_version};
+    ghost use Rattle.paraid_memrack.specs.Past.{past_of, past_start, no_past, MakesPast, in_bytes, left_in_bytes};
     ghost use Rattle.paraid_memrack.specs.Tells.{beginning_of};
 
     /// A slot at the start.
@@ -38,7 +38,7 @@ impl PastSlot {
 
     /// The slot after this call on it.
     pub fn follow(&mut self, alloc: Global, call: &Call) -> Result<(), NoMemory>
-        ensures { OnOk result (Follows call.now (past_of self.old) (past_of self.new)) }
+        ensures { OnOk result (MakesPast call.now (past_of self.old) (past_of self.new)) }
     {
         if !was_done(call) {
             self.vanish(alloc);
@@ -84,7 +84,7 @@ impl PastSlot {
     fn write(&mut self, place: Place, block: &Block)
         ensures { past_of self.new
             ≡ record (past_of self.old)
-            { versions = written_to self.old.versions.items place block.now } }
+            { versions = write_version self.old.versions.items place block.now } }
     {
         if (place as usize) < self.versions.len() {
             let version = &mut self.versions[place as usize];

@@ -1,5 +1,5 @@
 ghost use Rattle.std.specs.Prelude.{◌≡◌};
-ghost use Rattle.paraid_memrack.specs.Plan.{names};
+ghost use Rattle.paraid_memrack.specs.Plan.{names_call};
 
 use paraid_base::DiskNo;
 
@@ -15,7 +15,7 @@ pub enum Planned {
 impl Planned {
     /// Whether it names call `at`, which is call `nth` on its disk.
     pub fn names(&self, at: u32, disk: DiskNo, nth: u32) -> bool
-        ensures { result ≡ names at disk nth self.now }
+        ensures { result ≡ names_call at disk nth self.now }
     {
         match *self {
             Planned::AtCall(call) => call == at,

@@ -3,8 +3,8 @@ ghost use Rattle.paraid_rack.specs.Slots.{Slot, Touched, AreSlots, Agrees};
 ghost use Rattle.paraid_rack.specs.declared.call.Power.TheVariants.{Absent};
 ghost use Rattle.paraid_rack.specs.Trail.{Trail, now};
 ghost use Rattle.paraid_rack.specs.Told.{Grows};
-ghost use Rattle.paraid_memrack.specs.Slots.{slot_at, view_at};
-ghost use Rattle.paraid_memrack.specs.Tells.{told_by, beginning_of, AllHold};
+ghost use Rattle.paraid_memrack.specs.Slots.{slot_at, full_slot_at};
+ghost use Rattle.paraid_memrack.specs.Tells.{told_by, beginning_of, AreSlotsOf};
 
 use crate::log::{Log, Start};
 use crate::plan::Planned;
@@ -29,8 +29,8 @@ pub struct MemRack {
     log: Log,
     ghost sound: { AreSlots (length slots.items) (slot_at slots.items) },
     ghost small: { (d : ℕ) → (slot_at slots.items d).size < 2 ^ 32 },
-    ghost keeps: { AllHold (told_by log.tells log.start.items log.calls.items)
-        (view_at slots.items) },
+    ghost keeps: { AreSlotsOf (told_by log.tells log.start.items log.calls.items)
+        (full_slot_at slots.items) },
     ghost same: { length log.start.items ≡ length slots.items },
 }
 
@@ -221,7 +221,7 @@ impl Rack for MemRack {
 
     ghost slots_hold = { λ rack. rack.sound };
 
-    ghost agrees = { λ rack t is. agrees_of (now t) (view_at rack.slots.items) (rack.keeps t is) };
+    ghost agrees = { λ rack t is. agrees_of (now t) (full_slot_at rack.slots.items) (rack.keeps t is) };
 
     fn slots(&self) -> u8 {
         self.slots.len() as u8

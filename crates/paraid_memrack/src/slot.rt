@@ -2,7 +2,7 @@
 ghost use Rattle.std.specs.Prelude.{◌≡◌, ℕ, ◌<◌, ◌≤◌, ◌+◌, ◌^◌, ◌-◌, true, false, length, map, slice_set, min, replicate, IfOk, []};
 ghost use Rattle.paraid_base.specs.Xor.{zeroed};
 ghost use Rattle.paraid_rack.specs.declared.call.Power.TheVariants.{Absent, Spinning};
-ghost use Rattle.paraid_memrack.specs.Slots.{Becomes, view_of, view_at, view_from, nothing, wrecked};
+ghost use Rattle.paraid_memrack.specs.Slots.{ChangesSlot, full_slot, full_slot_at, full_slot_from, no_slot, wrecked};
 ghost use Rattle.paraid_memrack.specs.Tells.{beginning_of};
 
 use crate::log::Start;
@@ -22,7 +22,7 @@ pub struct MemSlot {
 /// So many slots with no disk.
 pub fn absent_slots(alloc: Global, count: u8) -> Result<Vec<MemSlot>, NoMemory>
     ensures length { IfOk result (λ slots. length slots.items ≡ count) }
-    ensures absent { IfOk result (λ slots. (d : ℕ) → view_at slots.items d ≡ nothing) }
+    ensures absent { IfOk result (λ slots. (d : ℕ) → full_slot_at slots.items d ≡ no_slot) }
 {
     let Ok(mut slots) = Vec::with_capacity(alloc, count as usize) else {
         return Err(NoMemory);
@@ -41,7 +41,7 @@ pub fn absent_slots(alloc: Global, count: u8) -> Result<Vec<MemSlot>, NoMemory>
 /// The slots as they are at the start.
 pub fn first_slots(alloc: Global, start: &Vec<Start>) -> Result<Vec<MemSlot>, NoMemory>
     ensures { IfOk result (λ slots.
-        map view_of slots.items ≡ map view_from (map beginning_of start.now.items)) }
+        map full_slot slots.items ≡ map full_slot_from (map beginning_of start.now.items)) }
 {
     let Ok(mut slots) = Vec::with_capacity(alloc, start.len()) else {
         return Err(NoMemory);
@@ -93,9 +93,9 @@ pub fn copy_of(block: &Block) -> Block
 /// The disk has failed, and gives its blocks back.
 pub fn fail(slots: &mut Vec<MemSlot>, alloc: Global, disk: DiskNo, dirt: bool)
     requires { disk < length slots.old.items }
-    ensures becomes { Becomes slots.old.items slots.new.items disk
-        (wrecked dirt (view_at slots.old.items disk)) }
-    ensures later { (view_at slots.old.items disk).faults ≤ (view_at slots.new.items disk).faults }
+    ensures becomes { ChangesSlot slots.old.items slots.new.items disk
+        (wrecked dirt (full_slot_at slots.old.items disk)) }
+    ensures later { (full_slot_at slots.old.items disk).faults ≤ (full_slot_at slots.new.items disk).faults }
 {
     let slot = &mut slots[disk as usize];
     slot.power = Power::Absent;
@@ -108,8 +108,8 @@ pub fn fail(slots: &mut Vec<MemSlot>, alloc: Global, disk: DiskNo, dirt: bool)
 /// There is no disk any more.
 pub fn remove(slots: &mut Vec<MemSlot>, alloc: Global, disk: DiskNo)
     requires { disk < length slots.old.items }
-    ensures { Becomes slots.old.items slots.new.items disk
-        (record (view_at slots.old.items disk) { power = Absent; blocks = [] }) }
+    ensures { ChangesSlot slots.old.items slots.new.items disk
+        (record (full_slot_at slots.old.items disk) { power = Absent; blocks = [] }) }
 {
     let lost = &mut slots[disk as usize];
     lost.power = Power::Absent;
@@ -119,9 +119,9 @@ pub fn remove(slots: &mut Vec<MemSlot>, alloc: Global, disk: DiskNo)
 /// A block is written.
 pub fn put(slots: &mut Vec<MemSlot>, disk: DiskNo, place: Place, block: &Block)
     requires exists { disk < length slots.old.items }
-    requires within { place < length (view_at slots.old.items disk).blocks }
-    ensures { let was = view_at slots.old.items disk in
-        Becomes slots.old.items slots.new.items disk
+    requires within { place < length (full_slot_at slots.old.items disk).blocks }
+    ensures { let was = full_slot_at slots.old.items disk in
+        ChangesSlot slots.old.items slots.new.items disk
         (record was { blocks = slice_set was.blocks place block.now; unsynced = true }) }
 {
     let slot = &mut slots[disk as usize];
@@ -132,8 +132,8 @@ pub fn put(slots: &mut Vec<MemSlot>, disk: DiskNo, place: Place, block: &Block)
 /// What was written is kept.
 pub fn settle(slots: &mut Vec<MemSlot>, disk: DiskNo)
     requires { disk < length slots.old.items }
-    ensures { Becomes slots.old.items slots.new.items disk
-        (record (view_at slots.old.items disk) { unsynced = false }) }
+    ensures { ChangesSlot slots.old.items slots.new.items disk
+        (record (full_slot_at slots.old.items disk) { unsynced = false }) }
 {
     slots[disk as usize].unsynced = false;
 }
@@ -141,8 +141,8 @@ pub fn settle(slots: &mut Vec<MemSlot>, disk: DiskNo)
 /// The disk is powered otherwise.
 pub fn turn(slots: &mut Vec<MemSlot>, disk: DiskNo, power: Power)
     requires { disk < length slots.old.items }
-    ensures { Becomes slots.old.items slots.new.items disk
-        (record (view_at slots.old.items disk) { power = power }) }
+    ensures { ChangesSlot slots.old.items slots.new.items disk
+        (record (full_slot_at slots.old.items disk) { power = power }) }
 {
     slots[disk as usize].power = power;
 }
@@ -150,7 +150,7 @@ pub fn turn(slots: &mut Vec<MemSlot>, disk: DiskNo, power: Power)
 /// A fresh disk with these blocks is in the slot.
 pub fn fill(slots: &mut Vec<MemSlot>, disk: DiskNo, blocks: Vec<Block>)
     requires { disk < length slots.old.items }
-    ensures { Becomes slots.old.items slots.new.items disk (record (view_at slots.old.items disk)
+    ensures { ChangesSlot slots.old.items slots.new.items disk (record (full_slot_at slots.old.items disk)
         { power = Spinning; blocks = blocks.items; unsynced = false }) }
 {
     let slot = &mut slots[disk as usize];

@@ -10,9 +10,6 @@ ghost use Rattle.paraid_base.specs.Xor.{xor, zeroed};
 
 use paraid_base::Block;
 
-#[cfg(test)]
-mod tests;
-
 /// Adds a block: each byte of `to` becomes its XOR with the byte of `from` at the same place.
 pub fn xor_into(to: &mut Block, from: &Block)
     ensures { to.new ≡ xor to.old from.now }

@@ -6,13 +6,13 @@ use Rattle.paraid_base.specs.declared.block.Block.{Block}
 use Rattle.paraid_record.specs.declared.targets.Target.{Target}
 use Rattle.paraid_record.specs.Targets.{no_target, targets_of}
 use Rattle.std.proofs.lemmas.List.Elements.{All-contains, All-contains_itself}
-use Rattle.paraid_txn.specs.Sides.{stored, targets}
+use Rattle.paraid_image.specs.Sides.{stored, targets}
 use Rattle.paraid_plain.proofs.StatementLemmas.{targets-batch_at}
 use Rattle.paraid_plain.specs.declared.image.Image.{Image}
 use Rattle.paraid_plain.specs.declared.statement.Statement.{Statement}
-use Rattle.paraid_plain.specs.Images.{disks_of}
+use Rattle.paraid_plain.specs.Images.{disks_in}
 use Rattle.paraid_plain.specs.LogParts.{IsSameTarget}
-use Rattle.paraid_plain.specs.Statements.{batch_at, batch_of}
+use Rattle.paraid_plain.specs.Statements.{batch_at, batch_in}
 
 -- target `k` and its block are the same
 abbrev IsSameAt : (ℕ → Block) → (ℕ → Block) → ℕ → List Target → List Target → ℕ → Type 0
@@ -59,7 +59,7 @@ module _ (log other : ℕ → Block) where
 
 module _ (image : Image) (a b : Statement) where
   abbrev log_of : Statement → ℕ → Block
-  log_of s = stored (disks_of image) s.disk
+  log_of s = stored (disks_in image) s.disk
 
   targets-length : (s : Statement) → length (targets_of s.targets) ≡ s.targets.count
   targets-length s =
@@ -70,23 +70,23 @@ module _ (image : Image) (a b : Statement) where
   targets-at : (s : Statement) (k : ℕ) → k < s.targets.count → get_or (targets_of s.targets) k no_target ≡ get_or s.targets.list k no_target
   targets-at s k l = get_or-take s.targets.count s.targets.list k no_target l
 
-  pub batch_of-count : batch_of image a ≡ batch_of image b → a.targets.count ≡ b.targets.count
-  unfolding batch_of
-  batch_of-count e =
+  pub batch_in-count : batch_in image a ≡ batch_in image b → a.targets.count ≡ b.targets.count
+  unfolding batch_in
+  batch_in-count e =
       let same = batch_at-length (log_of a) (log_of b) 4 (targets_of a.targets) (targets_of b.targets) e in
       sym (targets-length a) ∙ same ∙ targets-length b
 
-  pub batch_of-parts : batch_of image a ≡ batch_of image b → (k : ℕ) → k < a.targets.count → IsSameTarget image a b k
-  unfolding batch_of
-  batch_of-parts e k l =
-      let count = batch_of-count e in
+  pub batch_in-parts : batch_in image a ≡ batch_in image b → (k : ℕ) → k < a.targets.count → IsSameTarget image a b k
+  unfolding batch_in
+  batch_in-parts e k l =
+      let count = batch_in-count e in
       let long = targets-length a in
       let part = batch_at-parts (log_of a) (log_of b) 4 (targets_of a.targets) (targets_of b.targets) e k (omega arith) in
       (sym (targets-at a k l) ∙ part.0 ∙ targets-at b k (omega arith), part.1)
 
-  pub batch_of-from : a.targets.count ≡ b.targets.count → ((k : ℕ) → k < a.targets.count → IsSameTarget image a b k) → batch_of image a ≡ batch_of image b
-  unfolding batch_of
-  batch_of-from count f =
+  pub batch_in-from : a.targets.count ≡ b.targets.count → ((k : ℕ) → k < a.targets.count → IsSameTarget image a b k) → batch_in image a ≡ batch_in image b
+  unfolding batch_in
+  batch_in-from count f =
       let long = targets-length a in
       batch_at-from (log_of a) (log_of b) 4 (targets_of a.targets) (targets_of b.targets)
       (targets-length a ∙ count ∙ sym (targets-length b))
@@ -97,14 +97,14 @@ module _ (image : Image) (a b : Statement) where
 
 -- what holds of each target of a statement
 module _ (image : Image) (s : Statement) (P : Target → Type 0) where
-  same_targets : targets (batch_of image s) ≡ targets_of s.targets
-  unfolding batch_of
-  same_targets = targets-batch_at (stored (disks_of image) s.disk) 4 (targets_of s.targets)
+  same_targets : targets (batch_in image s) ≡ targets_of s.targets
+  unfolding batch_in
+  same_targets = targets-batch_at (stored (disks_in image) s.disk) 4 (targets_of s.targets)
 
-  pub targets_each : All P (targets_of s.targets) → (t : Target) → Contains (targets (batch_of image s)) t → P t
+  pub targets_each : All P (targets_of s.targets) → (t : Target) → Contains (targets (batch_in image s)) t → P t
   targets_each all t here = All-contains P (targets_of s.targets) t all (subst (λ (l : List Target). Contains l t) same_targets here)
 
-  pub targets_all : ((t : Target) → Contains (targets (batch_of image s)) t → P t) → All P (targets_of s.targets)
+  pub targets_all : ((t : Target) → Contains (targets (batch_in image s)) t → P t) → All P (targets_of s.targets)
   targets_all each k d l =
       each (get_or (targets_of s.targets) k d)
       (subst (λ (l : List Target). Contains l (get_or (targets_of s.targets) k d)) (sym same_targets) (All-contains_itself (targets_of s.targets) k d l))

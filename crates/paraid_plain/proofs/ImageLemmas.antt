@@ -10,10 +10,10 @@ use Rattle.paraid_rack.specs.declared.call.Power.TheVariants.{Absent}
 use Rattle.paraid_rack.specs.Disks.{Disks, is_present, with_at}
 use Rattle.paraid_rack.specs.Trail.{Beginning, beginning, initial}
 use Rattle.paraid_rack.proofs.AtomsLemmas.{at_case}
-use Rattle.paraid_txn.specs.Neutral.{overwrite}
-use Rattle.paraid_txn.specs.Sides.{has_place, stored}
+use Rattle.paraid_image.specs.Neutral.{overwrite}
+use Rattle.paraid_image.specs.Sides.{has_place, stored}
 use Rattle.paraid_plain.specs.declared.image.ImageSlot.{ImageSlot}
-use Rattle.paraid_plain.specs.Images.{beginning_of, disks_by}
+use Rattle.paraid_plain.specs.Images.{beginning_in, disks_by}
 
 -- a slot that does not exist
 abbrev nothing : Beginning
@@ -21,10 +21,10 @@ nothing = record { power = Absent; blocks = [] }
 
 -- the slots as a start
 abbrev start_of : List ImageSlot → List Beginning
-start_of slots = map beginning_of slots
+start_of slots = map beginning_in slots
 
-beginning_here : (slots : List ImageSlot) (d : ℕ) (y : ImageSlot) → d < length slots → y ≡ get_or slots d y → beginning (start_of slots) d ≡ beginning_of y
-beginning_here slots d y within is = get_or-map beginning_of slots d y nothing within ∙ ap beginning_of (sym is)
+beginning_here : (slots : List ImageSlot) (d : ℕ) (y : ImageSlot) → d < length slots → y ≡ get_or slots d y → beginning (start_of slots) d ≡ beginning_in y
+beginning_here slots d y within is = get_or-map beginning_in slots d y nothing within ∙ ap beginning_in (sym is)
 
 beginning_past : (slots : List ImageSlot) (d : ℕ) → length slots ≤ d → beginning (start_of slots) d ≡ nothing
 beginning_past slots d past = get_or_past (start_of slots) d nothing (simp length-map past)
@@ -89,19 +89,19 @@ same_disks a b power size block loose = λ i. record {
 
 -- a slot after one of them was replaced
 module _ (slots : List ImageSlot) (d : ℕ) (x y : ImageSlot) (within : d < length slots) (is : y ≡ get_or slots d y) where
-  set_same : (e : ℕ) → e ≡ d → beginning (start_of (set slots d x)) e ≡ beginning_of x
+  set_same : (e : ℕ) → e ≡ d → beginning (start_of (set slots d x)) e ≡ beginning_in x
   set_same e same =
       ap (beginning (start_of (set slots d x))) same
-      ∙ ap (λ (start : List Beginning). beginning start d) (map-set beginning_of slots d x)
-      ∙ get_or-set_same (start_of slots) d (beginning_of x) nothing (simp length-map within)
+      ∙ ap (λ (start : List Beginning). beginning start d) (map-set beginning_in slots d x)
+      ∙ get_or-set_same (start_of slots) d (beginning_in x) nothing (simp length-map within)
 
   set_other : (e : ℕ) → e ≢ d → beginning (start_of (set slots d x)) e ≡ beginning (start_of slots) e
   set_other e not =
-      ap (λ (start : List Beginning). beginning start e) (map-set beginning_of slots d x)
-      ∙ get_or-set_other (start_of slots) d e (beginning_of x) nothing not
+      ap (λ (start : List Beginning). beginning start e) (map-set beginning_in slots d x)
+      ∙ get_or-set_other (start_of slots) d e (beginning_in x) nothing not
 
   -- what stays the same of this slot stays the same of each
-  set_keeps : {A : Type 0} (f : Beginning → A) → f (beginning_of x) ≡ f (beginning_of y) → (e : ℕ)
+  set_keeps : {A : Type 0} (f : Beginning → A) → f (beginning_in x) ≡ f (beginning_in y) → (e : ℕ)
       → f (beginning (start_of (set slots d x)) e) ≡ f (beginning (start_of slots) e)
   set_keeps {A} f kept e = elim (cases_eq e d) [
     | inl same ↦ ap f (set_same e same) ∙ kept ∙ sym (ap f (ap (beginning (start_of slots)) same ∙ beginning_here slots d y within is))

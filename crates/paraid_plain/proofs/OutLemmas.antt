@@ -3,7 +3,7 @@ use Rattle.std.specs.Prelude.{◌≡◌, ◌≢◌, ℕ, Bool, true, false, Opti
 use Rattle.std.proofs.Common.{sym, ◌∙◌, arith}
 use Rattle.std.proofs.lemmas.Bool.{false≢true}
 use Rattle.std.proofs.lemmas.Bool.Decides.{nat_tests}
-use Rattle.paraid_txn.specs.Out.{is_out}
+use Rattle.paraid_image.specs.Out.{is_out}
 
 is_out-itself : (o : Option ℕ) (d : ℕ) → o ≡ Some d → is_out o d ≡ true
 is_out-itself None d e = cc

@@ -3,25 +3,25 @@ use Rattle.std.specs.Prelude.{◌≡◌, ℕ}
 use Rattle.std.proofs.Common.{refl, sym, subst}
 use Rattle.paraid_base.specs.History.{History}
 use Rattle.paraid_rack.specs.Disks.{Disks}
-use Rattle.paraid_txn.specs.Content.{view_of}
-use Rattle.paraid_txn.specs.Sides.{Said}
-use Rattle.paraid_txn.specs.Sound.{ContentOk, LogOk, Sound}
-use Rattle.paraid_txn.specs.Spot.{View}
-use Rattle.paraid_txn.specs.Standing.{Stands}
-use Rattle.paraid_txn.proofs.StandingLemmas.{Stands-same}
+use Rattle.paraid_image.specs.Content.{view_of}
+use Rattle.paraid_image.specs.Sides.{Said}
+use Rattle.paraid_image.specs.Sound.{ContentOk, LogOk, Sound}
+use Rattle.paraid_image.specs.Spot.{View}
+use Rattle.paraid_image.specs.Standing.{Stands}
+use Rattle.paraid_image.proofs.StandingLemmas.{Stands-same}
 use Rattle.paraid_plain.specs.declared.image.Image.{Image}
 use Rattle.paraid_plain.specs.declared.statement.Statement.{Statement}
-use Rattle.paraid_plain.specs.Images.{disks_of}
+use Rattle.paraid_plain.specs.Images.{disks_in}
 use Rattle.paraid_plain.specs.Statements.{said_of}
 use Rattle.paraid_plain.specs.Views.{block_at, dirty_at, out_at, view_at}
 
-pub view_of-said : (image : Image) (s : Statement) → view_of (disks_of image) (said_of image s) ≡ view_at image s
+pub view_of-said : (image : Image) (s : Statement) → view_of (disks_in image) (said_of image s) ≡ view_at image s
 unfolding block_at dirty_at out_at
 view_of-said image s = refl
 
-module _ (image : Image) (s : Statement) (slots : ℕ) (h : History) (k : ℕ) (stands : Stands (disks_of image) s.disk (said_of image s)) where
+module _ (image : Image) (s : Statement) (slots : ℕ) (h : History) (k : ℕ) (stands : Stands (disks_in image) s.disk (said_of image s)) where
   abbrev i : Disks
-  i = disks_of image
+  i = disks_in image
 
   pub sound_from : LogOk i s.disk (said_of image s) k → ContentOk slots i.power i.size (view_at image s) h k → Sound slots i h k
   sound_from log content = record {

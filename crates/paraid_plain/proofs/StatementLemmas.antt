@@ -5,13 +5,13 @@ use Rattle.paraid_base.specs.declared.block.Block.{Block}
 use Rattle.paraid_record.specs.declared.targets.Target.{Target}
 use Rattle.std.proofs.lemmas.Bool.{true≢false}
 use Rattle.paraid_rack.specs.Disks.{Disks}
-use Rattle.paraid_txn.specs.Sides.{AreLogged, Said, Says, targets}
-use Rattle.paraid_txn.specs.Standing.{Stands, is_first, other_log, stands_before}
-use Rattle.paraid_txn.proofs.SidesLemmas.{Says-same}
-use Rattle.paraid_txn.proofs.StandingLemmas.{Stands-same}
+use Rattle.paraid_image.specs.Sides.{AreLogged, Said, Says, targets}
+use Rattle.paraid_image.specs.Standing.{Stands, is_first, other_log, stands_before}
+use Rattle.paraid_image.proofs.SidesLemmas.{Says-same}
+use Rattle.paraid_image.proofs.StandingLemmas.{Stands-same}
 use Rattle.paraid_plain.specs.declared.image.Image.{Image}
 use Rattle.paraid_plain.specs.declared.statement.Statement.{Statement}
-use Rattle.paraid_plain.specs.Images.{disks_of}
+use Rattle.paraid_plain.specs.Images.{disks_in}
 use Rattle.paraid_plain.specs.Statements.{batch_at, said_of}
 
 pub targets-batch_at : (log : ℕ → Block) (p : ℕ) (ts : List Target) → targets (batch_at log p ts) ≡ ts
@@ -60,22 +60,22 @@ none_stands i first second (suc (suc x)) said stands = let l : suc (suc x) < 2 =
 -- what the two log disks are found to say, the first one first
 module _ (image : Image) where
   abbrev StandsBy : Statement → Type 0
-  StandsBy s = Stands (disks_of image) s.disk (said_of image s)
+  StandsBy s = Stands (disks_in image) s.disk (said_of image s)
 
   abbrev IsWhatStands : ℕ → Said → Statement → Type 0
   IsWhatStands x said s = (s.disk ≡ x) × (said_of image s ≡ said)
 
-  pub value_of_some : (s : Statement) → StandsBy s → (x : ℕ) (said : Said) → Stands (disks_of image) x said → IsWhatStands x said s
-  value_of_some s found x said stands = Stands-same (disks_of image) s.disk x (said_of image s) said found stands
+  pub value_of_some : (s : Statement) → StandsBy s → (x : ℕ) (said : Said) → Stands (disks_in image) x said → IsWhatStands x said s
+  value_of_some s found x said stands = Stands-same (disks_in image) s.disk x (said_of image s) said found stands
 
-  pub neither_stands : (r : Option Statement) → ((said : Said) → Stands (disks_of image) 0 said → ⊥) → IfNone r ((said : Said) → Stands (disks_of image) 1 said → ⊥)
-      → IfNone r ((x : ℕ) (said : Said) → Stands (disks_of image) x said → ⊥)
-  neither_stands None first second = none_stands (disks_of image) first second
+  pub neither_stands : (r : Option Statement) → ((said : Said) → Stands (disks_in image) 0 said → ⊥) → IfNone r ((said : Said) → Stands (disks_in image) 1 said → ⊥)
+      → IfNone r ((x : ℕ) (said : Said) → Stands (disks_in image) x said → ⊥)
+  neither_stands None first second = none_stands (disks_in image) first second
   neither_stands (Some s) first second = tt
 
-  pub value_of_none : (r : Option Statement) → ((said : Said) → Stands (disks_of image) 0 said → ⊥) → IfNone r ((said : Said) → Stands (disks_of image) 1 said → ⊥)
-      → IfSome r StandsBy → (x : ℕ) (said : Said) → Stands (disks_of image) x said → IsSomeAnd r (IsWhatStands x said)
-  value_of_none None first second found x said stands = absurd (none_stands (disks_of image) first second x said stands)
+  pub value_of_none : (r : Option Statement) → ((said : Said) → Stands (disks_in image) 0 said → ⊥) → IfNone r ((said : Said) → Stands (disks_in image) 1 said → ⊥)
+      → IfSome r StandsBy → (x : ℕ) (said : Said) → Stands (disks_in image) x said → IsSomeAnd r (IsWhatStands x said)
+  value_of_none None first second found x said stands = absurd (none_stands (disks_in image) first second x said stands)
   value_of_none (Some s) first second found x said stands = value_of_some s found x said stands
 
 -- what holds of both log disks

@@ -7,10 +7,10 @@ use Rattle.paraid_record.specs.Targets.{no_target}
 use Rattle.paraid_base.specs.declared.block.Block.{Block}
 use Rattle.paraid_record.specs.declared.targets.Target.{Target}
 use Rattle.paraid_rack.specs.Disks.{Disks}
-use Rattle.paraid_txn.specs.Sides.{Batch, has_place, stored}
-use Rattle.paraid_txn.specs.Standing.{contents, laid}
+use Rattle.paraid_image.specs.Sides.{Batch, has_place, stored}
+use Rattle.paraid_image.specs.Standing.{contents, laid}
 use Rattle.paraid_base.specs.Regions.{map_place_of}
-use Rattle.paraid_txn.specs.Spot.{map_bit, map_disk}
+use Rattle.paraid_image.specs.Spot.{map_bit, map_disk}
 use Rattle.std.proofs.lemmas.Nat.Bits.{bit_at_above}
 use Rattle.paraid_plain.specs.declared.image.Image.{Image}
 use Rattle.paraid_plain.specs.declared.statement.Statement.{Statement}

@@ -6,13 +6,13 @@ use Rattle.paraid_plain.specs.declared.image.Image.{Image}
 use Rattle.paraid_plain.specs.declared.image.ImageSlot.{ImageSlot}
 
 -- a slot as a disk at the start of a record
-abbrev pub beginning_of : ImageSlot → Beginning
-beginning_of slot = record { power = slot.power; blocks = slot.blocks.items }
+abbrev pub beginning_in : ImageSlot → Beginning
+beginning_in slot = record { power = slot.power; blocks = slot.blocks.items }
 
 -- the disks of these slots; none of their blocks is loose
 unfoldable pub disks_by : List ImageSlot → Disks
-disks_by slots = initial (map beginning_of slots)
+disks_by slots = initial (map beginning_in slots)
 
 -- the disks of an image
-abbrev pub disks_of : Image → Disks
-disks_of image = disks_by image.slots.items
+abbrev pub disks_in : Image → Disks
+disks_in image = disks_by image.slots.items

@@ -7,12 +7,12 @@ use Rattle.paraid_rack.specs.Disks.{Disks, IsPresent}
 use Rattle.paraid_record.specs.declared.meta.Meta.{Meta}
 use Rattle.paraid_record.specs.declared.targets.Target.{Target}
 use Rattle.paraid_record.specs.Targets.{no_target}
-use Rattle.paraid_txn.specs.Out.{IsMissing, named_out}
-use Rattle.paraid_txn.specs.Sides.{Said, Says, is_open, stored, targets}
-use Rattle.paraid_txn.specs.Sound.{IsFresh, Pairing}
+use Rattle.paraid_image.specs.Out.{IsMissing, named_out}
+use Rattle.paraid_image.specs.Sides.{Said, Says, is_open, stored, targets}
+use Rattle.paraid_image.specs.Sound.{IsFresh, Pairing}
 use Rattle.paraid_plain.specs.declared.image.Image.{Image}
 use Rattle.paraid_plain.specs.declared.statement.Statement.{Statement}
-use Rattle.paraid_plain.specs.Images.{disks_of}
+use Rattle.paraid_plain.specs.Images.{disks_in}
 
 -- where disk `d` is missing, no other one is
 abbrev pub IsSingleWith : (ℕ → Power) → Meta → ℕ → Type 0
@@ -51,4 +51,4 @@ AreOutAlike a b = (d e : ℕ) → named_out a ≡ Some d → named_out b ≡ Som
 -- target `k` and its block are the same in two statements
 abbrev pub IsSameTarget : Image → Statement → Statement → ℕ → Type 0
 IsSameTarget image a b k = (get_or a.targets.list k no_target ≡ get_or b.targets.list k no_target)
-    × (stored (disks_of image) a.disk (4 + k) ≡ stored (disks_of image) b.disk (4 + k))
+    × (stored (disks_in image) a.disk (4 + k) ≡ stored (disks_in image) b.disk (4 + k))

@@ -10,10 +10,10 @@ use Rattle.paraid_rack.specs.declared.call.Power.{Power}
 use Rattle.paraid_rack.specs.declared.call.Power.TheVariants.{Parked, Spinning}
 use Rattle.paraid_rack.specs.Disks.{Disks, is_present}
 use Rattle.paraid_record.specs.declared.meta.Meta.{Meta}
-use Rattle.paraid_txn.specs.Sound.{AreRebuilt, IsFresh, stripes_on}
-use Rattle.paraid_txn.specs.Spot.{View}
-use Rattle.paraid_txn.specs.Standing.{other_log}
-use Rattle.paraid_txn.specs.Value.{stripe, stripe_rest, value}
+use Rattle.paraid_image.specs.Sound.{AreRebuilt, IsFresh, stripes_on}
+use Rattle.paraid_image.specs.Spot.{View}
+use Rattle.paraid_image.specs.Standing.{other_log}
+use Rattle.paraid_image.specs.Value.{stripe, stripe_rest, value}
 
 -- where the cell of row `r` and disk `d` is of stripe `s` of gear `a`, the stripe stores its value
 abbrev pub IsCopied : View → ℕ → ℕ → ℕ → ℕ → Type 0

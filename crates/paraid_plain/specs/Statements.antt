@@ -4,14 +4,14 @@ use Rattle.std.proofs.Common.{suc}
 use Rattle.paraid_base.specs.declared.block.Block.{Block}
 use Rattle.paraid_record.specs.declared.targets.Target.{Target}
 use Rattle.paraid_record.specs.Targets.{targets_of}
-use Rattle.paraid_txn.specs.Sides.{Batch, Said, stored}
-use Rattle.paraid_txn.specs.Sides.{Side as SideOf}
-use Rattle.paraid_txn.specs.Sides.Side.{absent, blank, bad, formed}
+use Rattle.paraid_image.specs.Sides.{Batch, Said, stored}
+use Rattle.paraid_image.specs.Sides.{Side as SideOf}
+use Rattle.paraid_image.specs.Sides.Side.{absent, blank, bad, formed}
 use Rattle.paraid_plain.specs.declared.image.Image.{Image}
 use Rattle.paraid_plain.specs.declared.statement.Side.{Side}
 use Rattle.paraid_plain.specs.declared.statement.Side.TheVariants.{Absent, Blank, Bad, Formed}
 use Rattle.paraid_plain.specs.declared.statement.Statement.{Statement}
-use Rattle.paraid_plain.specs.Images.{disks_of}
+use Rattle.paraid_plain.specs.Images.{disks_in}
 
 -- targets, each with its block of the log, which stand one after the other from place `p` on
 abbrev pub batch_at : (ℕ → Block) → ℕ → List Target → Batch
@@ -19,16 +19,16 @@ batch_at log p [] = []
 batch_at log p (t ∷ ts) = (t, log p) ∷ batch_at log (suc p) ts
 
 -- the batch that a statement stands for
-unfoldable pub batch_of : Image → Statement → Batch
-batch_of image s = batch_at (stored (disks_of image) s.disk) 4 (targets_of s.targets)
+unfoldable pub batch_in : Image → Statement → Batch
+batch_in image s = batch_at (stored (disks_in image) s.disk) 4 (targets_of s.targets)
 
 -- what a statement stands for
 abbrev pub said_of : Image → Statement → Said
-said_of image s = record { opened = s.opened; meta = s.meta; batch = batch_of image s }
+said_of image s = record { opened = s.opened; meta = s.meta; batch = batch_in image s }
 
 -- the side in the words of the definitions
-abbrev pub side_by : Image → Side → SideOf
-side_by image Absent = absent
-side_by image Blank = blank
-side_by image Bad = bad
-side_by image (Formed s) = formed (said_of image s)
+abbrev pub side_in : Image → Side → SideOf
+side_in image Absent = absent
+side_in image Blank = blank
+side_in image Bad = bad
+side_in image (Formed s) = formed (said_of image s)

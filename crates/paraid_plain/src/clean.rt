@@ -1,6 +1,6 @@
 //! A clean cell of a disk from the gear on has its value in its hard place too.
 ghost use Rattle.std.specs.Prelude.{◌<◌, ◌↔◌, IsTrue};
-ghost use Rattle.paraid_txn.specs.Sound.{AreCleanStored};
+ghost use Rattle.paraid_image.specs.Sound.{AreCleanStored};
 ghost use Rattle.paraid_plain.specs.Parts.{AreRowCleanStored, IsCleanStored};
 ghost use Rattle.paraid_plain.specs.Views.{view_at};
 

@@ -3,8 +3,8 @@ ghost use Rattle.std.specs.Prelude.{◌≡◌, ℕ, ◌-◌, ◌<◌, ◌≤◌,
 ghost use Rattle.paraid_base.specs.Regions.{IsGear};
 ghost use Rattle.paraid_base.specs.Soft.{stripe_count};
 ghost use Rattle.paraid_record.specs.Codes.{phase_to};
-ghost use Rattle.paraid_txn.specs.Sound.{AreFilled, IsFilled};
-ghost use Rattle.paraid_txn.specs.Value.{stripe, value};
+ghost use Rattle.paraid_image.specs.Sound.{AreFilled, IsFilled};
+ghost use Rattle.paraid_image.specs.Value.{stripe, value};
 ghost use Rattle.paraid_plain.specs.Parts.{AreCopied, ArePadsZero, IsCopied, IsPadZero};
 ghost use Rattle.paraid_plain.specs.Views.{view_at};
 

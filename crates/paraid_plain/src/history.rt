@@ -1,25 +1,26 @@
 //! The blocks of the array hold what the first writes of a history leave.
-ghost use Rattle.std.specs.Prelude.{◌≡◌, ℕ, ◌-◌, ◌*◌, ◌<◌, ◌==◌, ◌↔◌, IsTrue};
-ghost use Rattle.paraid_base.specs.History.{after, last_of as last_in};
+ghost use Rattle.std.specs.Prelude.{◌≡◌, ℕ, ◌-◌, ◌*◌, ◌<◌, ◌==◌, ◌↔◌, IsTrue, map, take, List};
+ghost use Rattle.paraid_base.specs.History.{after, joined, last_of as last_in};
+ghost use Rattle.paraid_base.specs.Pairs.{pairs_of};
 ghost use Rattle.paraid_base.specs.Xor.{zeroed};
-ghost use Rattle.paraid_txn.specs.Content.{blocks_of};
+ghost use Rattle.paraid_image.specs.Content.{blocks_of};
 ghost use Rattle.paraid_plain.specs.Views.{view_at};
 
 use crate::image::Image;
 use crate::same::is_same_block;
 use crate::statement::Statement;
 use crate::value::home_value;
-use paraid_base::{Block, BlockNo};
+use paraid_base::{Block, BlockNo, Pairs};
 
 pub(crate) fn are_blocks_held(
     image: &Image,
     says: &Statement,
-    history: &[(BlockNo, Block)],
+    history: &[Pairs],
     writes: u64,
 ) -> bool
     ensures { IsTrue result ↔ ((b : ℕ)
         → b < says.now.meta.setup.geometry.rows * (says.now.meta.setup.geometry.disks - 1)
-        → blocks_of (view_at image.now says.now) b ≡ after history.now writes b) }
+        → blocks_of (view_at image.now says.now) b ≡ after (map pairs_of history.now) writes b) }
 {
     for block in 0..says.meta.setup.geometry.blocks() {
         let held = home_value(image, says, block);
@@ -32,8 +33,8 @@ pub(crate) fn are_blocks_held(
 
 /// A block after the first writes of a history: the bytes of the last that names it, or zeros.
 #[tactic(auto, unfolding(paraid_base::specs::History::after))]
-pub fn block_after(history: &[(BlockNo, Block)], writes: u64, block: BlockNo) -> Block
-    ensures { result ≡ after history.now writes block }
+pub fn block_after(history: &[Pairs], writes: u64, block: BlockNo) -> Block
+    ensures { result ≡ after (map pairs_of history.now) writes block }
 {
     let count = history.len();
     if writes < count as u64 {
@@ -43,14 +44,24 @@ pub fn block_after(history: &[(BlockNo, Block)], writes: u64, block: BlockNo) ->
     }
 }
 
-fn last_of(history: &[(BlockNo, Block)], block: BlockNo) -> Block
-    ensures { result ≡ last_in block zeroed history.now }
+fn last_of(history: &[Pairs], block: BlockNo) -> Block
+    ensures { result ≡ last_in block zeroed (joined (map pairs_of history.now)) }
 {
     let mut bytes = Block::zero();
     for write in history {
-        if write.0 == block {
-            bytes.copy_from(&write.1);
-        }
+        lay(write, block, &mut bytes);
     }
     bytes
+}
+
+/// Lays the pairs of a write that name the block over its bytes.
+#[tactic(auto, unfolding(paraid_base::specs::Pairs::pairs_of))]
+fn lay(write: &Pairs, block: BlockNo, bytes: &mut Block)
+    ensures { bytes.new ≡ last_in block bytes.old (pairs_of write.now) }
+{
+    for at in 0..write.count as usize {
+        if write.blocks[at] == block {
+            bytes.copy_from(&write.bytes[at]);
+        }
+    }
 }

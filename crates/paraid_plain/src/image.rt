@@ -3,9 +3,9 @@ ghost use Rattle.std.specs.Prelude.{◌≡◌, ◌<◌, ◌++◌, [], ◌∷◌,
 ghost use Rattle.paraid_base.specs.declared.block.Block.{Block as BlockType};
 ghost use Rattle.paraid_base.specs.Xor.{zeroed};
 ghost use Rattle.paraid_rack.specs.Disks.{is_present, with_at};
-ghost use Rattle.paraid_txn.specs.Neutral.{overwrite};
-ghost use Rattle.paraid_txn.specs.Sides.{has_place, stored};
-ghost use Rattle.paraid_plain.specs.Images.{beginning_of, disks_of};
+ghost use Rattle.paraid_image.specs.Neutral.{overwrite};
+ghost use Rattle.paraid_image.specs.Sides.{has_place, stored};
+ghost use Rattle.paraid_plain.specs.Images.{beginning_in, disks_in};
 
 use paraid_base::{Block, DiskNo, NoMemory, Place};
 use paraid_rack::Power;
@@ -36,8 +36,8 @@ impl Image {
 
     /// One more slot, with a disk of so many blocks of zeros.
     pub fn add(&mut self, alloc: Global, power: Power, size: u32) -> Result<(), NoMemory>
-        ensures done { OnOk result (map beginning_of self.new.slots.items
-            ≡ map beginning_of self.old.slots.items
+        ensures done { OnOk result (map beginning_in self.new.slots.items
+            ≡ map beginning_in self.old.slots.items
             ++ record { power = power; blocks = replicate size zeroed } ∷ []) }
         ensures failed { OnErr result (self.new.slots.items ≡ self.old.slots.items) }
     {
@@ -57,7 +57,7 @@ impl Image {
 
     /// How a slot is powered.
     pub fn power(&self, disk: DiskNo) -> Power
-        ensures { result ≡ (disks_of self.now).power disk }
+        ensures { result ≡ (disks_in self.now).power disk }
     {
         match self.slots.get(disk as usize) {
             Some(slot) => slot.power,
@@ -67,14 +67,14 @@ impl Image {
 
     /// Whether there is a disk in a slot.
     pub fn is_present(&self, disk: DiskNo) -> bool
-        ensures { result ≡ is_present ((disks_of self.now).power disk) }
+        ensures { result ≡ is_present ((disks_in self.now).power disk) }
     {
         self.power(disk) != Power::Absent
     }
 
     /// How many blocks a slot has.
     pub fn size(&self, disk: DiskNo) -> usize
-        ensures { result ≡ (disks_of self.now).size disk }
+        ensures { result ≡ (disks_in self.now).size disk }
     {
         match self.slots.get(disk as usize) {
             Some(slot) => slot.blocks.len(),
@@ -84,14 +84,14 @@ impl Image {
 
     /// Whether a disk is there and has this place.
     pub fn has_place(&self, disk: DiskNo, place: Place) -> bool
-        ensures { result ≡ has_place (disks_of self.now) disk place }
+        ensures { result ≡ has_place (disks_in self.now) disk place }
     {
         self.is_present(disk) && (place as usize) < self.size(disk)
     }
 
     /// The block at a place, zeros where there is no such place.
     pub fn stored(&self, disk: DiskNo, place: Place) -> Block
-        ensures { result ≡ stored (disks_of self.now) disk place }
+        ensures { result ≡ stored (disks_in self.now) disk place }
     {
         if !self.has_place(disk, place) {
             return Block::zero();
@@ -102,8 +102,8 @@ impl Image {
     /// Powers a slot otherwise.
     pub fn set_power(&mut self, disk: DiskNo, power: Power)
         requires { disk < length self.old.slots.items }
-        ensures disks { disks_of self.new
-            ≡ record (disks_of self.old) { power = with_at (disks_of self.old).power disk power } }
+        ensures disks { disks_in self.new
+            ≡ record (disks_in self.old) { power = with_at (disks_in self.old).power disk power } }
         ensures slots { length self.new.slots.items ≡ length self.old.slots.items }
     {
         self.slots[disk as usize].power = power;
@@ -111,8 +111,8 @@ impl Image {
 
     /// Changes a block.
     pub fn set_block(&mut self, disk: DiskNo, place: Place, block: &Block)
-        requires { place < (disks_of self.old).size disk }
-        ensures disks { disks_of self.new ≡ overwrite (disks_of self.old) disk place block.now }
+        requires { place < (disks_in self.old).size disk }
+        ensures disks { disks_in self.new ≡ overwrite (disks_in self.old) disk place block.now }
         ensures slots { length self.new.slots.items ≡ length self.old.slots.items }
     {
         self.slots[disk as usize].blocks[place as usize].copy_from(block);
@@ -120,11 +120,11 @@ impl Image {
 
     /// Changes one byte of a block.
     pub fn set_byte(&mut self, disk: DiskNo, place: Place, at: usize, byte: u8)
-        requires place { place < (disks_of self.old).size disk }
+        requires place { place < (disks_in self.old).size disk }
         requires at { at < 512 }
         ensures disks { (b : BlockType)
-            → b.bytes ≡ slice_set ((disks_of self.old).block disk place).bytes at byte
-            → disks_of self.new ≡ overwrite (disks_of self.old) disk place b }
+            → b.bytes ≡ slice_set ((disks_in self.old).block disk place).bytes at byte
+            → disks_in self.new ≡ overwrite (disks_in self.old) disk place b }
         ensures slots { length self.new.slots.items ≡ length self.old.slots.items }
     {
         self.slots[disk as usize].blocks[place as usize].set(at, byte);

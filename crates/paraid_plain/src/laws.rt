@@ -1,10 +1,10 @@
 //! That what the calls of this crate speak of is what the definitions of an image speak of. The
 //! law is the contract of a function that does nothing.
 ghost use Rattle.std.specs.Prelude.{◌≡◌};
-ghost use Rattle.paraid_txn.specs.Content.{view_of};
+ghost use Rattle.paraid_image.specs.Content.{view_of};
 ghost use Rattle.paraid_plain.specs.declared.image.Image.{Image as ImageType};
 ghost use Rattle.paraid_plain.specs.declared.statement.Statement.{Statement as StatementType};
-ghost use Rattle.paraid_plain.specs.Images.{disks_of};
+ghost use Rattle.paraid_plain.specs.Images.{disks_in};
 ghost use Rattle.paraid_plain.specs.Statements.{said_of};
 ghost use Rattle.paraid_plain.specs.Views.{view_at};
 
@@ -12,5 +12,5 @@ ghost use Rattle.paraid_plain.specs.Views.{view_at};
 /// stands for.
 pub fn a_view_is_what_is_stood_for()
     ensures { (image : ImageType) (s : StatementType)
-        → view_at image s ≡ view_of (disks_of image) (said_of image s) }
+        → view_at image s ≡ view_of (disks_in image) (said_of image s) }
 {}

@@ -1,11 +1,11 @@
 //! What is asked of the log disks and of the powers of the targets.
 ghost use Rattle.std.specs.Prelude.{◌≡◌, ◌≢◌, ◌<◌, ◌↔◌, Some, true, All, IsTrue};
 ghost use Rattle.paraid_rack.specs.Disks.{is_present};
-ghost use Rattle.paraid_txn.specs.Out.{IsMissing, named_out as named_by};
-ghost use Rattle.paraid_txn.specs.Sides.{Said, Says};
-ghost use Rattle.paraid_txn.specs.Sound.{LogOk, Pairing};
-ghost use Rattle.paraid_txn.specs.Standing.{Stands};
-ghost use Rattle.paraid_plain.specs.Images.{disks_of};
+ghost use Rattle.paraid_image.specs.Out.{IsMissing, named_out as named_by};
+ghost use Rattle.paraid_image.specs.Sides.{Said, Says};
+ghost use Rattle.paraid_image.specs.Sound.{LogOk, Pairing};
+ghost use Rattle.paraid_image.specs.Standing.{Stands};
+ghost use Rattle.paraid_plain.specs.Images.{disks_in};
 ghost use Rattle.paraid_plain.specs.LogParts.{AreFormed, ArePaired, AreTargetsSpinning, IsFormed, IsFreshShut, IsSingle, IsSingleWith, IsTargetSpinning};
 ghost use Rattle.paraid_plain.specs.Statements.{said_of};
 ghost use Rattle.paraid_plain.specs.Views.{out_at};
@@ -21,8 +21,8 @@ use paraid_record::Target;
 
 #[tactic(auto, unfolding(crate::specs::Views::out_at))]
 pub(crate) fn is_log_ok(image: &Image, says: &Statement, writes: u64) -> bool
-    requires { Stands (disks_of image.now) says.now.disk (said_of image.now says.now) }
-    ensures { IsTrue result ↔ LogOk (disks_of image.now) says.now.disk
+    requires { Stands (disks_in image.now) says.now.disk (said_of image.now says.now) }
+    ensures { IsTrue result ↔ LogOk (disks_in image.now) says.now.disk
         (said_of image.now says.now) writes }
 {
     if says.meta.writes != writes {
@@ -39,7 +39,7 @@ pub(crate) fn is_log_ok(image: &Image, says: &Statement, writes: u64) -> bool
 
 /// At most one disk of the array is missing.
 fn is_single(image: &Image, says: &Statement) -> bool
-    ensures { IsTrue result ↔ IsSingle (disks_of image.now).power says.now.meta }
+    ensures { IsTrue result ↔ IsSingle (disks_in image.now).power says.now.meta }
 {
     for disk in 0..says.meta.setup.geometry.disks {
         if !is_single_with(image, says, disk) {
@@ -52,7 +52,7 @@ fn is_single(image: &Image, says: &Statement) -> bool
 /// Where a disk is missing, no other one is.
 fn is_single_with(image: &Image, says: &Statement, disk: DiskNo) -> bool
     requires { disk < says.now.meta.setup.geometry.disks }
-    ensures { IsTrue result ↔ IsSingleWith (disks_of image.now).power says.now.meta disk }
+    ensures { IsTrue result ↔ IsSingleWith (disks_in image.now).power says.now.meta disk }
 {
     if !is_missing(image, says, disk) {
         return true;
@@ -68,7 +68,7 @@ fn is_single_with(image: &Image, says: &Statement, disk: DiskNo) -> bool
 /// Another disk is not missing.
 fn is_alone_beside(image: &Image, says: &Statement, disk: DiskNo, other: DiskNo) -> bool
     requires { other < says.now.meta.setup.geometry.disks }
-    ensures { IsTrue result ↔ (IsMissing (disks_of image.now).power says.now.meta other
+    ensures { IsTrue result ↔ (IsMissing (disks_in image.now).power says.now.meta other
         → disk ≡ other) }
 {
     disk == other || !is_missing(image, says, other)
@@ -76,7 +76,7 @@ fn is_alone_beside(image: &Image, says: &Statement, disk: DiskNo, other: DiskNo)
 
 fn is_missing(image: &Image, says: &Statement, disk: DiskNo) -> bool
     requires { disk < says.now.meta.setup.geometry.disks }
-    ensures { IsTrue result ↔ IsMissing (disks_of image.now).power says.now.meta disk }
+    ensures { IsTrue result ↔ IsMissing (disks_in image.now).power says.now.meta disk }
 {
     !image.is_present(disk) || is_named_out(says, disk)
 }
@@ -95,7 +95,7 @@ fn is_standing_in(says: &Statement) -> bool
 
 /// A log disk that is being rebuilt has its gate closed.
 fn is_fresh_shut(image: &Image, says: &Statement) -> bool
-    ensures { IsTrue result ↔ IsFreshShut (disks_of image.now) says.now.meta }
+    ensures { IsTrue result ↔ IsFreshShut (disks_in image.now) says.now.meta }
 {
     match says.meta.out {
         Out::No => true,
@@ -108,7 +108,7 @@ fn is_fresh_shut(image: &Image, says: &Statement) -> bool
 
 /// The disks of the targets spin, unless they are out.
 fn are_targets_spinning(image: &Image, says: &Statement) -> bool
-    ensures { IsTrue result ↔ AreTargetsSpinning (disks_of image.now).power
+    ensures { IsTrue result ↔ AreTargetsSpinning (disks_in image.now).power
         (said_of image.now says.now) (out_at image.now says.now) }
 {
     are_spinning_on(
@@ -119,7 +119,7 @@ fn are_targets_spinning(image: &Image, says: &Statement) -> bool
 }
 
 fn are_spinning_on(image: &Image, says: &Statement, targets: &[Target]) -> bool
-    ensures { IsTrue result ↔ All (IsTargetSpinning (disks_of image.now).power
+    ensures { IsTrue result ↔ All (IsTargetSpinning (disks_in image.now).power
         (out_at image.now says.now)) targets.now }
 {
     for target in targets {
@@ -132,14 +132,14 @@ fn are_spinning_on(image: &Image, says: &Statement, targets: &[Target]) -> bool
 
 /// Each log disk that is there and not out is well formed.
 fn are_formed(image: &Image, says: &Statement) -> bool
-    ensures { IsTrue result ↔ AreFormed (disks_of image.now) (out_at image.now says.now) }
+    ensures { IsTrue result ↔ AreFormed (disks_in image.now) (out_at image.now says.now) }
 {
     is_formed(image, says, 0) && is_formed(image, says, 1)
 }
 
 fn is_formed(image: &Image, says: &Statement, disk: DiskNo) -> bool
     requires { disk < 2 }
-    ensures { IsTrue result ↔ IsFormed (disks_of image.now) (out_at image.now says.now) disk }
+    ensures { IsTrue result ↔ IsFormed (disks_in image.now) (out_at image.now says.now) disk }
 {
     if !image.is_present(disk) || is_out_disk(image, says, disk) {
         return true;
@@ -152,7 +152,7 @@ fn is_formed(image: &Image, says: &Statement, disk: DiskNo) -> bool
 
 /// What the two log disks say fits together, if neither is out.
 fn are_paired(image: &Image, says: &Statement) -> bool
-    ensures { IsTrue result ↔ ArePaired (disks_of image.now) (out_at image.now says.now) }
+    ensures { IsTrue result ↔ ArePaired (disks_in image.now) (out_at image.now says.now) }
 {
     if is_out_disk(image, says, 0) || is_out_disk(image, says, 1) {
         return true;
@@ -164,7 +164,7 @@ fn are_paired(image: &Image, says: &Statement) -> bool
 }
 
 fn is_paired_with(image: &Image, first: &Statement) -> bool
-    ensures { IsTrue result ↔ ((b : Said) → Says (disks_of image.now) 1 b
+    ensures { IsTrue result ↔ ((b : Said) → Says (disks_in image.now) 1 b
         → Pairing (said_of image.now first.now) b) }
 {
     match statement_of(image, 1) {

@@ -1,7 +1,7 @@
 //! The two dirty maps agree, and each dirty bit is of a cell of a disk from the gear on.
 ghost use Rattle.std.specs.Prelude.{◌≡◌, ◌≢◌, ℕ, ◌+◌, ◌*◌, ◌<◌, ◌↔◌, Some, true, IsTrue};
 ghost use Rattle.paraid_base.specs.Regions.{map_count};
-ghost use Rattle.paraid_txn.specs.Sound.{IsMap};
+ghost use Rattle.paraid_image.specs.Sound.{IsMap};
 ghost use Rattle.paraid_plain.specs.Parts.{IsBitOfCell};
 ghost use Rattle.paraid_plain.specs.Views.{block_at, dirty_at, out_at, view_at};
 

@@ -1,9 +1,9 @@
 //! Whether what two log disks say fits together: it is the same, or one is a step ahead.
 ghost use Rattle.std.specs.Prelude.{◌≡◌, ◌+◌, ◌<◌, ◌↔◌, Some, true, false, IsTrue};
-ghost use Rattle.paraid_txn.specs.Sides.{stored};
-ghost use Rattle.paraid_txn.specs.Sound.{IsAhead, IsDone, Pairing};
+ghost use Rattle.paraid_image.specs.Sides.{stored};
+ghost use Rattle.paraid_image.specs.Sound.{IsAhead, IsDone, Pairing};
 ghost use Rattle.paraid_plain.specs.LogParts.{AreOutAlike, IsSameTarget};
-ghost use Rattle.paraid_plain.specs.Statements.{batch_of, said_of};
+ghost use Rattle.paraid_plain.specs.Statements.{batch_in, said_of};
 
 use crate::image::Image;
 use crate::same::{is_same_block, is_same_meta, is_same_setup};
@@ -27,7 +27,7 @@ fn is_alike(image: &Image, a: &Statement, b: &Statement) -> bool
 }
 
 fn is_same_batch(image: &Image, a: &Statement, b: &Statement) -> bool
-    ensures { IsTrue result ↔ (batch_of image.now a.now ≡ batch_of image.now b.now) }
+    ensures { IsTrue result ↔ (batch_in image.now a.now ≡ batch_in image.now b.now) }
 {
     if a.targets.count != b.targets.count {
         return false;

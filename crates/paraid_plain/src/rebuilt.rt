@@ -3,8 +3,8 @@
 ghost use Rattle.std.specs.Prelude.{◌≡◌, ℕ, ◌+◌, ◌<◌, ◌≤◌, ◌↔◌, IsTrue, nat_lt, if◌then◌else◌};
 ghost use Rattle.paraid_base.specs.Regions.{map_count};
 ghost use Rattle.paraid_base.specs.Soft.{stripe_count};
-ghost use Rattle.paraid_txn.specs.Sound.{AreRebuilt, stripes_on};
-ghost use Rattle.paraid_plain.specs.Images.{disks_of};
+ghost use Rattle.paraid_image.specs.Sound.{AreRebuilt, stripes_on};
+ghost use Rattle.paraid_plain.specs.Images.{disks_in};
 ghost use Rattle.paraid_plain.specs.Parts.{IsFreshRebuilt, IsMapRebuilt, IsRowRebuilt, IsStripeRebuilt};
 ghost use Rattle.paraid_plain.specs.Views.{view_at};
 
@@ -16,7 +16,7 @@ use crate::view::{content, is_dirty};
 use paraid_base::{DiskNo, Out, Row};
 
 pub(crate) fn is_fresh_rebuilt(image: &Image, says: &Statement) -> bool
-    ensures { IsTrue result ↔ IsFreshRebuilt (disks_of image.now).power
+    ensures { IsTrue result ↔ IsFreshRebuilt (disks_in image.now).power
         (view_at image.now says.now) }
 {
     match says.meta.out {

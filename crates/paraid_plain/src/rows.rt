@@ -1,8 +1,8 @@
 //! The values of each row sum to zero.
 ghost use Rattle.std.specs.Prelude.{◌≡◌, ◌<◌, ◌↔◌, IsTrue};
 ghost use Rattle.paraid_base.specs.Sums.{xor_upto};
-ghost use Rattle.paraid_txn.specs.Sound.{AreRowsZero};
-ghost use Rattle.paraid_txn.specs.Value.{value};
+ghost use Rattle.paraid_image.specs.Sound.{AreRowsZero};
+ghost use Rattle.paraid_image.specs.Value.{value};
 ghost use Rattle.paraid_plain.specs.Views.{view_at};
 
 use crate::image::Image;

@@ -29,6 +29,7 @@ pub(crate) fn is_same_setup(a: &Setup, b: &Setup) -> bool
 {
     is_same_geometry(&a.geometry, &b.geometry)
         && is_same_policy(a, b)
+        && is_same_allowance(a, b)
         && is_same_energy(a, b)
         && is_same_mode(a.mode, b.mode)
         && are_same_windows(&a.windows, &b.windows)
@@ -36,13 +37,16 @@ pub(crate) fn is_same_setup(a: &Setup, b: &Setup) -> bool
 
 fn is_same_policy(a: &Setup, b: &Setup) -> bool
     ensures { IsTrue result ↔ ((a.now.rate ≡ b.now.rate) × (a.now.service ≡ b.now.service)
-        × (a.now.up ≡ b.now.up) × (a.now.down ≡ b.now.down) × (a.now.ration ≡ b.now.ration)) }
+        × (a.now.up ≡ b.now.up) × (a.now.down ≡ b.now.down)) }
 {
-    a.rate == b.rate
-        && a.service == b.service
-        && a.up == b.up
-        && a.down == b.down
-        && a.ration == b.ration
+    a.rate == b.rate && a.service == b.service && a.up == b.up && a.down == b.down
+}
+
+fn is_same_allowance(a: &Setup, b: &Setup) -> bool
+    ensures { IsTrue result ↔ ((a.now.ration ≡ b.now.ration) × (a.now.burst ≡ b.now.burst)
+        × (a.now.period ≡ b.now.period)) }
+{
+    a.ration == b.ration && a.burst == b.burst && a.period == b.period
 }
 
 fn is_same_energy(a: &Setup, b: &Setup) -> bool

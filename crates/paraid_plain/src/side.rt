@@ -3,9 +3,9 @@ ghost use Rattle.std.specs.Prelude.{◌≡◌, ◌<◌, ◌↔◌, true, false, 
 ghost use Rattle.paraid_base.specs.Xor.{zeroed};
 ghost use Rattle.paraid_record.specs.declared.meta.Meta.{Meta as MetaType};
 ghost use Rattle.paraid_record.specs.Targets.{targets_of};
-ghost use Rattle.paraid_txn.specs.Sides.{Batch, IsSide, Said, Says, SaysClosed, SaysOpen, is_open, stored};
-ghost use Rattle.paraid_plain.specs.Images.{disks_of};
-ghost use Rattle.paraid_plain.specs.Statements.{batch_of, said_of, side_by};
+ghost use Rattle.paraid_image.specs.Sides.{Batch, IsSide, Said, Says, SaysClosed, SaysOpen, is_open, stored};
+ghost use Rattle.paraid_plain.specs.Images.{disks_in};
+ghost use Rattle.paraid_plain.specs.Statements.{batch_in, said_of, side_in};
 
 use crate::image::Image;
 use crate::statement::{Side, Statement};
@@ -17,8 +17,8 @@ use paraid_record::{Meta, Target, Targets, read_meta, read_targets};
 pub fn statement_of(image: &Image, disk: DiskNo) -> Option<Statement>
     requires { disk < 2 }
     ensures disk { IfSome result (λ s. s.disk ≡ disk) }
-    ensures some { IfSome result (λ s. Says (disks_of image.now) disk (said_of image.now s)) }
-    ensures none { IfNone result ((said : Said) → Says (disks_of image.now) disk said → ⊥) }
+    ensures some { IfSome result (λ s. Says (disks_in image.now) disk (said_of image.now s)) }
+    ensures none { IfNone result ((said : Said) → Says (disks_in image.now) disk said → ⊥) }
 {
     if !image.is_present(disk) {
         return None;
@@ -33,7 +33,7 @@ pub fn statement_of(image: &Image, disk: DiskNo) -> Option<Statement>
 /// The side of a log disk.
 pub fn side_of(image: &Image, disk: DiskNo) -> Side
     requires { disk < 2 }
-    ensures { IsSide (disks_of image.now) disk (side_by image.now result) }
+    ensures { IsSide (disks_in image.now) disk (side_in image.now result) }
 {
     if !image.is_present(disk) {
         return Side::Absent;
@@ -46,15 +46,15 @@ pub fn side_of(image: &Image, disk: DiskNo) -> Side
 }
 
 fn is_blank(image: &Image, disk: DiskNo) -> bool
-    ensures { IsTrue result ↔ ((is_open (stored (disks_of image.now) disk 0) ≡ false)
-        × (stored (disks_of image.now) disk 1 ≡ zeroed)) }
+    ensures { IsTrue result ↔ ((is_open (stored (disks_in image.now) disk 0) ≡ false)
+        × (stored (disks_in image.now) disk 1 ≡ zeroed)) }
 {
     !is_gate_open(image, disk) && is_zero(&image.stored(disk, 1))
 }
 
 /// Whether the gate of a log disk is open.
 pub(crate) fn is_gate_open(image: &Image, disk: DiskNo) -> bool
-    ensures { result ≡ is_open (stored (disks_of image.now) disk 0) }
+    ensures { result ≡ is_open (stored (disks_in image.now) disk 0) }
 {
     image.stored(disk, 0).bytes[0] != 0
 }
@@ -64,9 +64,9 @@ fn closed_statement(image: &Image, disk: DiskNo) -> Option<Statement>
     ensures disk { IfSome result (λ s. s.disk ≡ disk) }
     ensures shut { IfSome result (λ s. s.opened ≡ false) }
     ensures some { IfSome result (λ s.
-        SaysClosed (stored (disks_of image.now) disk) s.meta (batch_of image.now s)) }
+        SaysClosed (stored (disks_in image.now) disk) s.meta (batch_in image.now s)) }
     ensures none { IfNone result ((m : MetaType) (batch : Batch)
-        → SaysClosed (stored (disks_of image.now) disk) m batch → ⊥) }
+        → SaysClosed (stored (disks_in image.now) disk) m batch → ⊥) }
 {
     let meta = read_meta(&image.stored(disk, 1))?;
     Some(Statement {
@@ -82,9 +82,9 @@ fn open_statement(image: &Image, disk: DiskNo) -> Option<Statement>
     ensures disk { IfSome result (λ s. s.disk ≡ disk) }
     ensures opened { IfSome result (λ s. s.opened ≡ true) }
     ensures some { IfSome result (λ s.
-        SaysOpen (stored (disks_of image.now) disk) s.meta (batch_of image.now s)) }
+        SaysOpen (stored (disks_in image.now) disk) s.meta (batch_in image.now s)) }
     ensures none { IfNone result ((m : MetaType) (batch : Batch)
-        → SaysOpen (stored (disks_of image.now) disk) m batch → ⊥) }
+        → SaysOpen (stored (disks_in image.now) disk) m batch → ⊥) }
 {
     let meta = read_meta(&image.stored(disk, 2))?;
     let targets = read_targets(&image.stored(disk, 3), &meta.setup.geometry)?;

@@ -1,7 +1,8 @@
 //! Whether an image holds a history.
-ghost use Rattle.std.specs.Prelude.{◌↔◌, length, IsTrue};
-ghost use Rattle.paraid_txn.specs.Sound.{ContentOk, Sound};
-ghost use Rattle.paraid_plain.specs.Images.{disks_of};
+ghost use Rattle.std.specs.Prelude.{◌↔◌, length, map, IsTrue};
+ghost use Rattle.paraid_base.specs.Pairs.{pairs_of};
+ghost use Rattle.paraid_image.specs.Sound.{ContentOk, IsWellKept, Sound};
+ghost use Rattle.paraid_plain.specs.Images.{disks_in};
 ghost use Rattle.paraid_plain.specs.Views.{view_at};
 
 use crate::clean::are_clean_stored;
@@ -16,12 +17,12 @@ use crate::rows::are_rows_zero;
 use crate::standing::standing_of;
 use crate::statement::Statement;
 use crate::stripes::are_stripes_zero;
-use paraid_base::{Block, BlockNo};
+use paraid_base::Pairs;
 
-/// Whether an image holds the first `writes` writes of a history, each a block number and bytes.
-pub fn is_sound(image: &Image, history: &[(BlockNo, Block)], writes: u64) -> bool
-    ensures { IsTrue result ↔ Sound (length image.now.slots.items) (disks_of image.now)
-        history.now writes }
+/// Whether an image holds the first `writes` writes of a history.
+pub fn is_sound(image: &Image, history: &[Pairs], writes: u64) -> bool
+    ensures { IsTrue result ↔ Sound (length image.now.slots.items) (disks_in image.now)
+        (map pairs_of history.now) writes }
 {
     match standing_of(image) {
         None => false,
@@ -32,9 +33,17 @@ pub fn is_sound(image: &Image, history: &[(BlockNo, Block)], writes: u64) -> boo
 }
 
 /// What is asked of the blocks past the log and of the disks.
-fn is_content_ok(image: &Image, says: &Statement, history: &[(BlockNo, Block)], writes: u64) -> bool
-    ensures { IsTrue result ↔ ContentOk (length image.now.slots.items) (disks_of image.now).power
-        (disks_of image.now).size (view_at image.now says.now) history.now writes }
+fn is_content_ok(image: &Image, says: &Statement, history: &[Pairs], writes: u64) -> bool
+    ensures { IsTrue result ↔ ContentOk (length image.now.slots.items) (disks_in image.now).power
+        (disks_in image.now).size (view_at image.now says.now) (map pairs_of history.now) writes }
+{
+    is_well_kept(image, says) && are_blocks_held(image, says, history, writes)
+}
+
+/// The same, whatever history they hold.
+fn is_well_kept(image: &Image, says: &Statement) -> bool
+    ensures { IsTrue result ↔ IsWellKept (length image.now.slots.items) (disks_in image.now).power
+        (disks_in image.now).size (view_at image.now says.now) }
 {
     if !are_rows_zero(image, says) || !are_stripes_zero(image, says) {
         return false;
@@ -45,5 +54,5 @@ fn is_content_ok(image: &Image, says: &Statement, history: &[(BlockNo, Block)], 
     if !is_fresh_rebuilt(image, says) || !is_map(image, says) {
         return false;
     }
-    are_disks(image, says) && are_blocks_held(image, says, history, writes)
+    are_disks(image, says)
 }

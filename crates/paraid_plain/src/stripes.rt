@@ -4,8 +4,8 @@ ghost use Rattle.std.specs.Prelude.{◌≡◌, ◌<◌, ◌↔◌, IsTrue};
 ghost use Rattle.paraid_base.specs.Regions.{IsGear};
 ghost use Rattle.paraid_base.specs.Soft.{stripe_count};
 ghost use Rattle.paraid_base.specs.Sums.{xor_upto};
-ghost use Rattle.paraid_txn.specs.Sound.{AreStripesZero, IsOffStripes, IsStripeZero};
-ghost use Rattle.paraid_txn.specs.Value.{stripe};
+ghost use Rattle.paraid_image.specs.Sound.{AreStripesZero, IsOffStripes, IsStripeZero};
+ghost use Rattle.paraid_image.specs.Value.{stripe};
 ghost use Rattle.paraid_plain.specs.Views.{block_at, out_at, view_at};
 
 use crate::image::Image;

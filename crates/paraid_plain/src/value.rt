@@ -2,10 +2,10 @@
 ghost use Rattle.std.specs.Prelude.{◌≡◌, ◌-◌, ◌*◌, ◌<◌, ◌≤◌};
 ghost use Rattle.paraid_base.specs.Regions.{IsGear, hard_place_of};
 ghost use Rattle.paraid_base.specs.Soft.{stripe_count};
-ghost use Rattle.paraid_txn.specs.Content.{blocks_of, view_of};
-ghost use Rattle.paraid_txn.specs.Spot.{is_hard as is_hard_in};
-ghost use Rattle.paraid_txn.specs.Value.{far as far_in, near as near_in, soft_value as soft_value_in, stripe as stripe_of, stripe_rest as rest_of_stripe, value};
-ghost use Rattle.paraid_plain.specs.Images.{disks_of};
+ghost use Rattle.paraid_image.specs.Content.{blocks_of, view_of};
+ghost use Rattle.paraid_image.specs.Spot.{is_hard as is_hard_in};
+ghost use Rattle.paraid_image.specs.Value.{far as far_in, near as near_in, soft_value as soft_value_in, stripe as stripe_of, stripe_rest as rest_of_stripe, value};
+ghost use Rattle.paraid_plain.specs.Images.{disks_in};
 ghost use Rattle.paraid_plain.specs.Statements.{said_of};
 ghost use Rattle.paraid_plain.specs.Views.{block_at, view_at};
 
@@ -22,7 +22,7 @@ pub fn value_of(image: &Image, says: &Statement, row: Row, disk: DiskNo) -> Bloc
     requires row { row < says.now.meta.setup.geometry.rows }
     requires disk { disk < says.now.meta.setup.geometry.disks }
     ensures { result
-        ≡ value (view_of (disks_of image.now) (said_of image.now says.now)) row disk }
+        ≡ value (view_of (disks_in image.now) (said_of image.now says.now)) row disk }
 {
     cell_value(image, says, row, disk)
 }
@@ -33,7 +33,7 @@ pub fn block_of(image: &Image, says: &Statement, block: BlockNo) -> Block
     requires { block
         < says.now.meta.setup.geometry.rows * (says.now.meta.setup.geometry.disks - 1) }
     ensures { result
-        ≡ blocks_of (view_of (disks_of image.now) (said_of image.now says.now)) block }
+        ≡ blocks_of (view_of (disks_in image.now) (said_of image.now says.now)) block }
 {
     home_value(image, says, block)
 }
@@ -47,7 +47,7 @@ pub(crate) fn home_value(image: &Image, says: &Statement, block: BlockNo) -> Blo
     cell_value(image, says, row, disk)
 }
 
-#[tactic(auto, unfolding(paraid_txn::specs::Value::value))]
+#[tactic(auto, unfolding(paraid_image::specs::Value::value))]
 pub(crate) fn cell_value(image: &Image, says: &Statement, row: Row, disk: DiskNo) -> Block
     requires row { row < says.now.meta.setup.geometry.rows }
     requires disk { disk < says.now.meta.setup.geometry.disks }
@@ -61,7 +61,7 @@ pub(crate) fn cell_value(image: &Image, says: &Statement, row: Row, disk: DiskNo
 }
 
 /// Whether the value of a cell lives on its hard place.
-#[tactic(auto, unfolding(paraid_txn::specs::Spot::is_hard))]
+#[tactic(auto, unfolding(paraid_image::specs::Spot::is_hard))]
 fn is_hard(image: &Image, says: &Statement, row: Row, disk: DiskNo) -> bool
     requires { disk < says.now.meta.setup.geometry.disks }
     ensures { result ≡ is_hard_in (view_at image.now says.now) row disk }
@@ -71,7 +71,7 @@ fn is_hard(image: &Image, says: &Statement, row: Row, disk: DiskNo) -> bool
 }
 
 /// The XOR of the values of the row's other cells.
-#[tactic(auto, unfolding(paraid_txn::specs::Value::far))]
+#[tactic(auto, unfolding(paraid_image::specs::Value::far))]
 fn far(image: &Image, says: &Statement, row: Row, disk: DiskNo) -> Block
     requires row { row < says.now.meta.setup.geometry.rows }
     requires disk { disk < says.now.meta.setup.geometry.disks }
@@ -87,7 +87,7 @@ fn far(image: &Image, says: &Statement, row: Row, disk: DiskNo) -> Block
 }
 
 /// The value of a cell that is not the hard place of the out disk.
-#[tactic(auto, unfolding(paraid_txn::specs::Value::near))]
+#[tactic(auto, unfolding(paraid_image::specs::Value::near))]
 fn near(image: &Image, says: &Statement, row: Row, disk: DiskNo) -> Block
     requires row { row < says.now.meta.setup.geometry.rows }
     requires disk { disk < says.now.meta.setup.geometry.disks }
@@ -115,7 +115,7 @@ pub(crate) fn hard_block(image: &Image, says: &Statement, row: Row, disk: DiskNo
 }
 
 /// The copy of a cell, or where that is on the out disk the XOR of the rest of its stripe.
-#[tactic(auto, unfolding(paraid_txn::specs::Value::soft_value))]
+#[tactic(auto, unfolding(paraid_image::specs::Value::soft_value))]
 fn soft_value(image: &Image, says: &Statement, row: Row, disk: DiskNo) -> Block
     requires row { row < says.now.meta.setup.geometry.rows }
     requires parked { says.now.meta.gear ≤ disk }

@@ -1,12 +1,12 @@
 //! What an image holds past the log, under what a log disk says of it.
 ghost use Rattle.std.specs.Prelude.{◌≡◌, ◌+◌, ◌<◌, ◌==◌, ◌&&◌, None, Some, Option, if◌then◌else◌};
 ghost use Rattle.paraid_rack.specs.Disks.{is_present};
-ghost use Rattle.paraid_txn.specs.Out.{first_absent as first_absent_of, is_out, named_out as named_by, or_else};
-ghost use Rattle.paraid_txn.specs.Sides.{stored};
-ghost use Rattle.paraid_txn.specs.Spot.{rising_to as rising_by};
-ghost use Rattle.paraid_txn.specs.Standing.{laid as laid_over};
-ghost use Rattle.paraid_plain.specs.Images.{disks_of};
-ghost use Rattle.paraid_plain.specs.Statements.{batch_of};
+ghost use Rattle.paraid_image.specs.Out.{first_absent as first_absent_of, is_out, named_out as named_by, or_else};
+ghost use Rattle.paraid_image.specs.Sides.{stored};
+ghost use Rattle.paraid_image.specs.Spot.{rising_to as rising_by};
+ghost use Rattle.paraid_image.specs.Standing.{laid as laid_over};
+ghost use Rattle.paraid_plain.specs.Images.{disks_in};
+ghost use Rattle.paraid_plain.specs.Statements.{batch_in};
 ghost use Rattle.paraid_plain.specs.Views.{block_at, dirty_at, out_at};
 
 use crate::image::Image;
@@ -37,7 +37,7 @@ pub fn out_of(image: &Image, says: &Statement) -> Option<DiskNo>
 }
 
 fn first_absent(image: &Image, count: u8) -> Option<DiskNo>
-    ensures { result ≡ first_absent_of (disks_of image.now).power count }
+    ensures { result ≡ first_absent_of (disks_in image.now).power count }
 {
     let mut found = None;
     for disk in 0..count {
@@ -48,7 +48,7 @@ fn first_absent(image: &Image, count: u8) -> Option<DiskNo>
 
 fn or_absent(image: &Image, found: Option<DiskNo>, disk: DiskNo) -> Option<DiskNo>
     ensures { result ≡ or_else found
-        (if is_present ((disks_of image.now).power disk) then None else Some disk) }
+        (if is_present ((disks_in image.now).power disk) then None else Some disk) }
 {
     match found {
         Some(lower) => Some(lower),
@@ -73,7 +73,7 @@ pub(crate) fn is_out_disk(image: &Image, says: &Statement, disk: DiskNo) -> bool
 }
 
 /// The block at a place past the log, with the batch laid over it; zeros where there is none.
-#[tactic(auto, unfolding(crate::specs::Views::block_at, paraid_txn::specs::Standing::contents))]
+#[tactic(auto, unfolding(crate::specs::Views::block_at, paraid_image::specs::Standing::contents))]
 pub fn content(image: &Image, says: &Statement, disk: DiskNo, place: Place) -> Block
     ensures { result ≡ block_at image.now says.now disk place }
 {
@@ -85,8 +85,8 @@ pub fn content(image: &Image, says: &Statement, disk: DiskNo, place: Place) -> B
 
 /// The block at a place, or what the last target there gets.
 fn laid(image: &Image, says: &Statement, disk: DiskNo, place: Place) -> Block
-    ensures { result ≡ laid_over (batch_of image.now says.now) disk place
-        (stored (disks_of image.now) disk place) }
+    ensures { result ≡ laid_over (batch_in image.now says.now) disk place
+        (stored (disks_in image.now) disk place) }
 {
     let mut block = image.stored(disk, place);
     for at in 0..says.targets.count {
@@ -104,7 +104,7 @@ fn is_target(target: Target, disk: DiskNo, place: Place) -> bool
 }
 
 /// Whether a cell is dirty, by the map of the lower log disk that is not out.
-#[tactic(auto, unfolding(crate::specs::Views::dirty_at, paraid_txn::specs::Spot::map_bit))]
+#[tactic(auto, unfolding(crate::specs::Views::dirty_at, paraid_image::specs::Spot::map_bit))]
 pub fn is_dirty(image: &Image, says: &Statement, row: Row, disk: DiskNo) -> bool
     requires { disk < 8 }
     ensures { result ≡ dirty_at image.now says.now row disk }

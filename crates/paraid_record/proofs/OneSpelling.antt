@@ -1,7 +1,8 @@
 -- Values with the same spelling are the same
 use Rattle.std.specs.Prelude.{◌≡◌, ℕ, ◌≤◌, ◌<◌, List, [], ◌∷◌, ◌++◌, All, length, take, drop, slice_index, refl}
-use Rattle.std.proofs.Common.{arith, ap, sym, subst, suc, ◌∙◌}
-use Rattle.std.proofs.lemmas.List.{append_assoc, append_cancel_left, drop_at, take_at}
+use Rattle.std.proofs.Common.{arith, ap, inl, inr, sym, subst, suc, ◌∙◌}
+use Rattle.std.proofs.lemmas.Bool.{cases_lt}
+use Rattle.std.proofs.lemmas.List.{append_assoc, drop_at, take_at}
 use Rattle.paraid_base.specs.declared.geometry.Geometry.{Geometry}
 use Rattle.paraid_base.specs.declared.state.Phase.{Phase}
 use Rattle.paraid_base.specs.declared.state.Phase.TheVariants.{Steady, Down, Up}
@@ -13,15 +14,15 @@ use Rattle.paraid_record.specs.declared.meta.Mode.TheVariants.{Whole, Access}
 use Rattle.paraid_record.specs.declared.meta.Setup.{Setup}
 use Rattle.paraid_record.specs.declared.meta.Meta.{Meta}
 use Rattle.paraid_record.specs.declared.targets.Target.{Target}
-use Rattle.paraid_record.specs.Codes.{mode_code, phase_code, phase_to, out_code, fresh_code, rebuilt_count, gear_list, window_count}
-use Rattle.paraid_record.specs.Range.{IsInRange, IsOutInRange, IsSetupInRange}
+use Rattle.paraid_record.specs.Codes.{mode_code, phase_code, phase_to, out_code, fresh_code, rebuilt_count, gear_list, window_count, burst_code, period_code}
+use Rattle.paraid_record.specs.Range.{IsInRange, IsOutInRange, IsSetupInRange, IsVersionInRange}
 use Rattle.paraid_record.specs.Spelling.{big_endian, filled, shorts}
-use Rattle.paraid_record.specs.Meta.{clock_bytes, count_bytes, geometry_bytes, heading_bytes, meta_bytes, policy_bytes, state_bytes}
+use Rattle.paraid_record.specs.Meta.{clock_bytes, count_bytes, geometry_bytes, growth_bytes, heading_bytes, meta_bytes, policy_bytes, state_bytes}
 use Rattle.paraid_record.specs.Targets.{Fits, no_target, places_bytes, targets_bytes}
 use Rattle.paraid_record.proofs.GearLemmas.{ascends, length-gears_below}
 use Rattle.paraid_record.proofs.GeometryLemmas.{same_flags, same_geometry}
-use Rattle.paraid_record.proofs.PartLemmas.{energy-parts, figure_small, fill_small, fresh_code_small, gear_small, geometry-parts, length-filled, meta-parts, mode_code_small, out_code_small, phase_code_small, phase_to_small, policy-parts, rebuilt_small, spins_small, state_left, window_count_small, windows_small}
-use Rattle.paraid_record.proofs.SpellingLemmas.{big_endian-cancel}
+use Rattle.paraid_record.proofs.PartLemmas.{burst_code_small, burst_small, energy-parts, figure_small, fill_small, fresh_code_small, gear_small, geometry-parts, growth-parts, length-filled, meta-parts, mode_code_small, out_code_small, period_code_small, period_small, phase_code_small, phase_to_small, policy-parts, rebuilt_small, spins_small, state_left, window_count_small, windows_small}
+use Rattle.paraid_record.proofs.SpellingLemmas.{big_endian-cancel, heading-dropped}
 use Rattle.paraid_record.proofs.TargetLemmas.{targets-parts}
 
 same_front : (xs ys r s : List ℕ) → length xs ≡ length ys → xs ++ r ≡ ys ++ s → (xs ≡ ys) × (r ≡ s)
@@ -97,7 +98,7 @@ geometry-cancel g h r s e =
     let flags = same_flags g h (subst P (sym list) (marks_of h)) in
     (same_geometry g h disks.0 rows.0 (sym flags), rows.1)
 
--- what a setup says but its energy figures
+-- what a setup says but its energy figures, the burst and the period
 record SamePolicy (a b : Setup) : Type 0 where
   rate : a.rate ≡ b.rate
   service : a.service ≡ b.service
@@ -169,16 +170,49 @@ state-cancel a b r s f g e =
       spins.1,
     )
 
+heading-cancel : (a b : ℕ) (r s : List ℕ) (c : Setup) (d : Setup) → IsVersionInRange a c → IsVersionInRange b d
+    → heading_bytes a ++ r ≡ heading_bytes b ++ s → (a ≡ b) × (r ≡ s)
+heading-cancel a b r s c d f g e =
+    let low = f.known in
+    let high = g.known in
+    big_endian-cancel 2 a b r s (omega arith) (omega arith) (sym (heading-dropped a r) ∙ ap (drop 8) e ∙ heading-dropped b s)
+
+-- the burst and the period: of version 1 they are known, and version 2 spells them
+growth_of : (version : ℕ) (a b : Setup) → a.ration ≡ b.ration → IsVersionInRange version a → IsVersionInRange version b
+    → burst_code version a ≡ burst_code version b → period_code version a ≡ period_code version b → (a.burst ≡ b.burst) × (a.period ≡ b.period)
+growth_of version a b same f g e h =
+    let known = f.known in
+    elim (cases_lt 1 version) [
+      | inl more ↦
+          let two : version ≡ 2 = omega arith in
+          let burst : ℕ → Type 0 = λ n. burst_code n a ≡ burst_code n b in
+          let period : ℕ → Type 0 = λ n. period_code n a ≡ period_code n b in
+          (subst burst two e, subst period two h)
+      | inr less ↦
+          let one : version ≡ 1 = omega arith in
+          (f.burst one ∙ same ∙ sym (g.burst one), f.period one ∙ sym (g.period one))
+    ]
+
+growth-cancel : (v w : ℕ) (a b : Setup) (r s : List ℕ) → v ≡ w → a.ration ≡ b.ration → IsSetupInRange a → IsSetupInRange b
+    → IsVersionInRange v a → IsVersionInRange w b → growth_bytes v a ++ r ≡ growth_bytes w b ++ s → (a.burst ≡ b.burst) × (a.period ≡ b.period)
+growth-cancel v w a b r s same ration fa fb f g e =
+    let burst = big_endian-cancel 2 (burst_code v a) (burst_code w b) _ _ (burst_code_small v a (burst_small a fa)) (burst_code_small w b (burst_small b fb))
+    (sym (growth-parts v a r) ∙ e ∙ growth-parts w b s) in
+    let period = big_endian-cancel 4 (period_code v a) (period_code w b) r s (period_code_small v a (period_small a fa)) (period_code_small w b (period_small b fb)) burst.1 in
+    let back : ℕ → Type 0 = λ n. IsVersionInRange n b in
+    growth_of v a b ration f (subst back (sym same) g) (burst.0 ∙ ap (λ (n : ℕ). burst_code n b) (sym same)) (period.0 ∙ ap (λ (n : ℕ). period_code n b) (sym same))
+
 pub meta_bytes-cancel : (a b : Meta) → IsInRange a → IsInRange b → meta_bytes a ≡ meta_bytes b → a ≡ b
 meta_bytes-cancel a b f g e =
-    let body = append_cancel_left heading_bytes _ _ (sym (meta-parts a) ∙ e ∙ meta-parts b) in
-    let geometry = geometry-cancel a.setup.geometry b.setup.geometry _ _ body in
+    let heading = heading-cancel a.version b.version _ _ a.setup b.setup f.version g.version (sym (meta-parts a) ∙ e ∙ meta-parts b) in
+    let geometry = geometry-cancel a.setup.geometry b.setup.geometry _ _ heading.1 in
     let policy = policy-cancel a.setup b.setup _ _ f.setup g.setup geometry.1 in
     let state = state-cancel a b _ _ f g policy.1 in
     let spinning = big_endian-cancel 4 a.setup.spinning_mj b.setup.spinning_mj _ _ (figure_small _ f.setup.spinning) (figure_small _ g.setup.spinning)
     (sym (energy-parts a.setup _) ∙ state.1 ∙ energy-parts b.setup _) in
     let parked = big_endian-cancel 4 a.setup.parked_mj b.setup.parked_mj _ _ (figure_small _ f.setup.parked) (figure_small _ g.setup.parked) spinning.1 in
     let spinup = big_endian-cancel 4 a.setup.spinup_mj b.setup.spinup_mj _ _ (figure_small _ f.setup.spinup) (figure_small _ g.setup.spinup) parked.1 in
+    let growth = growth-cancel a.version b.version a.setup b.setup _ _ heading.0 policy.0.ration f.setup g.setup f.version g.version spinup.1 in
     λ i. record {
       setup = record {
         geometry = geometry.0 i;
@@ -189,10 +223,13 @@ meta_bytes-cancel a b f g e =
         down = policy.0.down i;
         windows = policy.0.windows i;
         ration = policy.0.ration i;
+        burst = growth.0 i;
+        period = growth.1 i;
         spinning_mj = spinning.0 i;
         parked_mj = parked.0 i;
         spinup_mj = spinup.0 i;
       };
+      version = heading.0 i;
       epoch = state.0.epoch i;
       writes = state.0.writes i;
       ticks = state.0.ticks i;

@@ -1,5 +1,5 @@
 -- The fields of each part of a meta before the rest of the block, and equal metas
-use Rattle.std.specs.Prelude.{◌≡◌, ℕ, ◌+◌, ◌-◌, ◌≤◌, ◌<◌, List, [], ◌++◌, length, replicate, refl, nat_lt, slice_index, Option, Some, None, IfNone}
+use Rattle.std.specs.Prelude.{◌≡◌, ℕ, ◌+◌, ◌-◌, ◌≤◌, ◌<◌, Bool, true, false, if◌then◌else◌, List, [], ◌++◌, length, replicate, refl, nat_lt, slice_index, Option, Some, None, IfNone}
 use Rattle.std.proofs.Common.{arith, inl, inr, zero, suc}
 use Rattle.std.proofs.lemmas.List.{append_assoc, append-nil, length-append, length-replicate, get_or_past}
 use Rattle.std.proofs.lemmas.List.Sums.{count_by-le-length}
@@ -12,15 +12,16 @@ use Rattle.paraid_base.specs.declared.state.Phase.TheVariants.{Steady, Down, Up}
 use Rattle.paraid_base.specs.declared.state.Out.{Out}
 use Rattle.paraid_base.specs.declared.state.Out.TheVariants.{No, Gone, Fresh}
 use Rattle.paraid_base.proofs.RegionsLemmas.{stripe_count_small}
+use Rattle.paraid_ration.proofs.AllowanceLemmas.{allowance-le}
 use Rattle.paraid_record.specs.declared.meta.Mode.{Mode}
 use Rattle.paraid_record.specs.declared.meta.Mode.TheVariants.{Whole, Access}
-use Rattle.paraid_record.specs.Range.{AreWindows, IsInRange, IsOutInRange, IsPhaseInRange, fill_limit}
+use Rattle.paraid_record.specs.Range.{AreWindows, IsInRange, IsOutInRange, IsPhaseInRange, IsSetupInRange, fill_limit}
 use Rattle.paraid_base.specs.declared.geometry.Geometry.{Geometry}
 use Rattle.paraid_record.specs.declared.meta.Setup.{Setup}
 use Rattle.paraid_record.specs.declared.meta.Meta.{Meta}
-use Rattle.paraid_record.specs.Codes.{mode_code, phase_code, phase_to, out_code, fresh_code, rebuilt_count, gear_list, window_count}
+use Rattle.paraid_record.specs.Codes.{mode_code, phase_code, phase_to, out_code, fresh_code, rebuilt_count, gear_list, window_count, burst_code, period_code}
 use Rattle.paraid_record.specs.Spelling.{big_endian, filled, shorts}
-use Rattle.paraid_record.specs.Meta.{clock_bytes, count_bytes, energy_bytes, geometry_bytes, heading_bytes, meta_bytes, policy_bytes, state_bytes}
+use Rattle.paraid_record.specs.Meta.{clock_bytes, count_bytes, energy_bytes, geometry_bytes, growth_bytes, heading_bytes, meta_bytes, policy_bytes, state_bytes}
 
 pub length-filled : (size : ℕ) (xs : List ℕ) → length xs ≤ size → length (filled size xs) ≡ size
 unfolding filled
@@ -55,14 +56,18 @@ pub energy-parts : (s : Setup) (rest : List ℕ) → energy_bytes s ++ rest ≡ 
 unfolding energy_bytes
 energy-parts s rest = simp (append_assoc, append-nil)
 
+pub growth-parts : (version : ℕ) (s : Setup) (rest : List ℕ) → growth_bytes version s ++ rest ≡ big_endian 2 (burst_code version s) ++ (big_endian 4 (period_code version s) ++ rest)
+unfolding growth_bytes
+growth-parts version s rest = simp (append_assoc, append-nil)
+
 -- the bytes after the fields of a meta
 pub zeros_after : Meta → List ℕ
-zeros_after m = replicate (512 - length (heading_bytes ++ (geometry_bytes m.setup.geometry ++ (policy_bytes m.setup
-    ++ (clock_bytes m ++ (state_bytes m ++ (count_bytes m ++ (energy_bytes m.setup ++ [])))))))) 0
+zeros_after m = replicate (512 - length (heading_bytes m.version ++ (geometry_bytes m.setup.geometry ++ (policy_bytes m.setup
+    ++ (clock_bytes m ++ (state_bytes m ++ (count_bytes m ++ (energy_bytes m.setup ++ (growth_bytes m.version m.setup ++ []))))))))) 0
 
 pub meta-parts : (m : Meta) → meta_bytes m
-    ≡ heading_bytes ++ (geometry_bytes m.setup.geometry ++ (policy_bytes m.setup
-    ++ (clock_bytes m ++ (state_bytes m ++ (count_bytes m ++ (energy_bytes m.setup ++ zeros_after m))))))
+    ≡ heading_bytes m.version ++ (geometry_bytes m.setup.geometry ++ (policy_bytes m.setup
+    ++ (clock_bytes m ++ (state_bytes m ++ (count_bytes m ++ (energy_bytes m.setup ++ (growth_bytes m.version m.setup ++ zeros_after m)))))))
 unfolding meta_bytes filled zeros_after
 meta-parts m = simp append_assoc
 
@@ -121,7 +126,10 @@ windows_small windows range (suc (suc (suc k))) =
 
 pub spins_small : (m : Meta) → IsInRange m → (k : ℕ) → slice_index m.spins k < 65536
 spins_small m range k = elim (cases_lt k 8) [
-  | inl h ↦ let w = (range.spins k h).within in let r = range.setup.ration in omega arith
+  | inl h ↦ let w = (range.spins k h).within in
+      let most = allowance-le m.setup.ration m.setup.burst m.setup.period m.ticks in
+      let r = range.setup.ration in
+      omega arith
   | inr h ↦ let past : slice_index m.spins k ≡ 0 = get_or_past m.spins k 0 (omega (arith, range.eight)) in omega arith
 ]
 
@@ -133,6 +141,22 @@ pub state_left : (m : Meta) (rest : List ℕ) → clock_bytes m ++ (state_bytes 
     ≡ big_endian 8 m.epoch ++ (big_endian 8 m.writes ++ (big_endian 8 m.ticks ++ (big_endian 1 m.gear ++ (big_endian 1 (phase_code m.phase) ++ (big_endian 1 (phase_to m.phase)
     ++ (big_endian 1 (out_code m.out) ++ (big_endian 1 (fresh_code m.out) ++ (replicate 3 0 ++ (big_endian 4 m.fill ++ (big_endian 4 (rebuilt_count m.out) ++ (shorts m.spins ++ rest)))))))))))
 state_left m rest = rw (count-parts m rest, state-parts m _, clock-parts m _) refl
+
+chosen_small : (is : Bool) (x most : ℕ) → x < most → (if is then x else 0) < most
+chosen_small true x most l = l
+chosen_small false x most l = omega arith
+
+pub burst_code_small : (version : ℕ) (s : Setup) → s.burst < 65536 → burst_code version s < 65536
+burst_code_small version s l = chosen_small (nat_lt 1 version) s.burst 65536 l
+
+pub period_code_small : (version : ℕ) (s : Setup) → s.period < 4294967296 → period_code version s < 4294967296
+period_code_small version s l = chosen_small (nat_lt 1 version) s.period 4294967296 l
+
+pub burst_small : (s : Setup) → IsSetupInRange s → s.burst < 65536
+burst_small s range = let b = range.burst in let r = range.ration in omega arith
+
+pub period_small : (s : Setup) → IsSetupInRange s → s.period < 4294967296
+period_small s range = let p = range.period in omega arith
 
 pub figure_small : (x : ℕ) → x ≤ 1048576 → x < 4294967296
 figure_small x l = omega arith

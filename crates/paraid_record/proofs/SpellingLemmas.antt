@@ -51,9 +51,9 @@ pub shorts-more : (xs : List ℕ) (i : ℕ) → i < length xs → shorts (take (
 shorts-more xs i l =
     ap shorts (take_more xs i 0 l) ∙ shorts-append (take i xs) (get_or xs i 0 ∷ []) ∙ ap (λ (s : List ℕ). shorts (take i xs) ++ s) (append-nil _)
 
-pub heading-dropped : (rest : List ℕ) → drop 8 (heading_bytes ++ rest) ≡ big_endian 2 1 ++ rest
+pub heading-dropped : (version : ℕ) (rest : List ℕ) → drop 8 (heading_bytes version ++ rest) ≡ big_endian 2 version ++ rest
 unfolding heading_bytes
-heading-dropped rest = ap (λ (s : List ℕ). s ++ rest) (append-nil (big_endian 2 1))
+heading-dropped version rest = ap (λ (s : List ℕ). s ++ rest) (append-nil (big_endian 2 version))
 
 pub shorts-drop : (xs : List ℕ) (i : ℕ) → i < length xs → shorts (drop i xs) ≡ big_endian 2 (get_or xs i 0) ++ shorts (drop (suc i) xs)
 shorts-drop [] i l = absurd (omega arith)

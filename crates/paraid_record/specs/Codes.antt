@@ -6,6 +6,7 @@ use Rattle.paraid_base.specs.declared.state.Phase.{Phase}
 use Rattle.paraid_base.specs.declared.state.Phase.TheVariants.{Steady, Down, Up}
 use Rattle.paraid_base.specs.declared.state.Out.{Out}
 use Rattle.paraid_base.specs.declared.state.Out.TheVariants.{No, Gone, Fresh}
+use Rattle.paraid_record.specs.declared.meta.Setup.{Setup}
 use Rattle.paraid_record.specs.declared.meta.Mode.{Mode}
 use Rattle.paraid_record.specs.declared.meta.Mode.TheVariants.{Whole, Access}
 
@@ -40,6 +41,13 @@ abbrev pub rebuilt_count : Out → ℕ
 rebuilt_count No = 0
 rebuilt_count (Gone disk) = 0
 rebuilt_count (Fresh disk rebuilt) = rebuilt
+
+-- the burst and the period as they are spelled: version 1 has zeros in their place
+abbrev pub burst_code : ℕ → Setup → ℕ
+burst_code version s = if nat_lt 1 version then s.burst else 0
+
+abbrev pub period_code : ℕ → Setup → ℕ
+period_code version s = if nat_lt 1 version then s.period else 0
 
 -- the gears below `a`, in ascending order
 unfoldable pub gears_below : Geometry → ℕ → List ℕ

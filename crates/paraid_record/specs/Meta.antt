@@ -3,12 +3,12 @@ use Rattle.std.specs.Prelude.{ℕ, List, [], ◌∷◌, length, replicate, codes
 use Rattle.paraid_base.specs.declared.geometry.Geometry.{Geometry}
 use Rattle.paraid_record.specs.declared.meta.Setup.{Setup}
 use Rattle.paraid_record.specs.declared.meta.Meta.{Meta}
-use Rattle.paraid_record.specs.Codes.{mode_code, phase_code, phase_to, out_code, fresh_code, rebuilt_count, gear_list, window_count}
+use Rattle.paraid_record.specs.Codes.{mode_code, phase_code, phase_to, out_code, fresh_code, rebuilt_count, gear_list, window_count, burst_code, period_code}
 use Rattle.paraid_record.specs.Spelling.{big_endian, joined, shorts, filled}
 
--- the text PARAIDAR and version 1
-unfoldable pub heading_bytes : List ℕ
-heading_bytes = joined (codes "PARAIDAR" ∷ big_endian 2 1 ∷ [])
+-- the text PARAIDAR and the version
+unfoldable pub heading_bytes : ℕ → List ℕ
+heading_bytes version = joined (codes "PARAIDAR" ∷ big_endian 2 version ∷ [])
 
 unfoldable pub geometry_bytes : Geometry → List ℕ
 geometry_bytes g = joined
@@ -61,14 +61,19 @@ energy_bytes s = joined
     ∷ big_endian 4 s.spinup_mj
     ∷ [])
 
+-- how the allowance of spin-ups grows
+unfoldable pub growth_bytes : ℕ → Setup → List ℕ
+growth_bytes version s = joined (big_endian 2 (burst_code version s) ∷ big_endian 4 (period_code version s) ∷ [])
+
 -- the whole block: the fields, and then zeros
 unfoldable pub meta_bytes : Meta → List ℕ
 meta_bytes m = filled 512 (joined
-    (heading_bytes
+    (heading_bytes m.version
     ∷ geometry_bytes m.setup.geometry
     ∷ policy_bytes m.setup
     ∷ clock_bytes m
     ∷ state_bytes m
     ∷ count_bytes m
     ∷ energy_bytes m.setup
+    ∷ growth_bytes m.version m.setup
     ∷ []))

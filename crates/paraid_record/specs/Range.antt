@@ -7,6 +7,7 @@ use Rattle.paraid_base.specs.declared.state.Out.{Out}
 use Rattle.paraid_base.specs.declared.state.Out.TheVariants.{No, Gone, Fresh}
 use Rattle.paraid_base.specs.Regions.{IsGear, map_count}
 use Rattle.paraid_base.specs.Soft.{stripe_count}
+use Rattle.paraid_ration.specs.Ration.{allowance}
 use Rattle.paraid_record.specs.declared.meta.Setup.{Setup}
 use Rattle.paraid_record.specs.declared.meta.Meta.{Meta}
 
@@ -28,6 +29,8 @@ pub record IsSetupInRange (s : Setup) : Type 0 where
   pub down : Within 1 100 s.down
   pub windows : AreWindows s.windows
   pub ration : Within 1 65535 s.ration
+  pub burst : Within 1 s.ration s.burst
+  pub period : Within 1 4294967295 s.period
   pub spinning : s.spinning_mj ≤ 1048576
   pub parked : s.parked_mj ≤ 1048576
   pub spinup : s.spinup_mj ≤ 1048576
@@ -79,10 +82,14 @@ first_parked gear Steady = gear
 first_parked gear (Down to) = to
 first_parked gear (Up to) = to
 
--- the spin-ups of a disk: below the ration where it is parked, at most the ration, and none past the last disk
+-- the spin-ups that a disk may have by the ticks of the meta itself
+abbrev pub allowed_spins : Meta → ℕ
+allowed_spins m = allowance m.setup.ration m.setup.burst m.setup.period m.ticks
+
+-- the spin-ups of a disk: at most what is allowed, below it where the disk is parked, and none past the last disk
 pub record IsSpinCount (m : Meta) (disk : ℕ) : Type 0 where
-  pub within : slice_index m.spins disk ≤ m.setup.ration
-  pub parked : first_parked m.gear m.phase ≤ disk → disk < m.setup.geometry.disks → slice_index m.spins disk < m.setup.ration
+  pub within : slice_index m.spins disk ≤ allowed_spins m
+  pub parked : first_parked m.gear m.phase ≤ disk → disk < m.setup.geometry.disks → slice_index m.spins disk < allowed_spins m
   pub unused : m.setup.geometry.disks ≤ disk → slice_index m.spins disk ≡ 0
 
 -- the fill mark is within the region of the new gear; with a disk out there is no shift down and nothing is filled
@@ -90,6 +97,12 @@ pub record IsShiftInRange (m : Meta) : Type 0 where
   pub fill : m.fill ≤ fill_limit m.setup.geometry m.phase
   pub down : is_down m.phase ≡ true → has_out m.out ≡ false
   pub still : has_out m.out ≡ true → m.fill ≡ 0
+
+-- version 2, or version 1 of a setup that allows the whole ration at once
+pub record IsVersionInRange (version : ℕ) (s : Setup) : Type 0 where
+  pub known : Within 1 2 version
+  pub burst : version ≡ 1 → s.burst ≡ s.ration
+  pub period : version ≡ 1 → s.period ≡ 1
 
 -- numbers of 64 bits, and an epoch that a commit has
 pub record AreCountersInRange (epoch writes ticks : ℕ) : Type 0 where
@@ -100,6 +113,7 @@ pub record AreCountersInRange (epoch writes ticks : ℕ) : Type 0 where
 
 pub record IsInRange (m : Meta) : Type 0 where
   pub setup : IsSetupInRange m.setup
+  pub version : IsVersionInRange m.version m.setup
   pub counters : AreCountersInRange m.epoch m.writes m.ticks
   pub gear : IsGear m.setup.geometry m.gear
   pub phase : IsPhaseInRange m.setup.geometry m.gear m.phase

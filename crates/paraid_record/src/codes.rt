@@ -5,11 +5,11 @@ ghost use Rattle.paraid_base.specs.declared.geometry.Geometry.{Geometry as Geome
 ghost use Rattle.paraid_base.specs.declared.state.Phase.{Phase as PhaseType};
 ghost use Rattle.paraid_base.specs.declared.state.Out.{Out as OutType};
 ghost use Rattle.paraid_record.specs.declared.meta.Mode.{Mode as ModeType};
-ghost use Rattle.paraid_record.specs.Codes.{mode_code as code_of_mode, phase_code as code_of_phase, phase_to as to_of_phase, out_code as code_of_out, fresh_code as code_of_fresh, rebuilt_count as rebuilt_of, window_count as count_of_windows, gear_list as list_of_gears};
+ghost use Rattle.paraid_record.specs.Codes.{mode_code as code_of_mode, phase_code as code_of_phase, phase_to as to_of_phase, out_code as code_of_out, fresh_code as code_of_fresh, rebuilt_count as rebuilt_of, window_count as count_of_windows, gear_list as list_of_gears, burst_code as code_of_burst, period_code as code_of_period};
 ghost use Rattle.paraid_record.specs.Range.{IsOutInRange};
 ghost use Rattle.paraid_record.specs.Spelling.{filled};
 
-use crate::Mode;
+use crate::{Mode, Setup};
 use paraid_base::{DiskNo, Geometry, Out, Phase};
 
 /// The disk number that stands for no disk.
@@ -109,6 +109,20 @@ pub fn out_of(disk: DiskNo, fresh: u8, rebuilt: u32) -> Out
     } else {
         Out::Fresh { disk, rebuilt }
     }
+}
+
+/// The burst as it is spelled, 0 in version 1.
+pub fn burst_code(version: u8, setup: &Setup) -> u16
+    ensures { result ≡ code_of_burst version setup.now }
+{
+    if version > 1 { setup.burst } else { 0 }
+}
+
+/// The period as it is spelled, 0 in version 1.
+pub fn period_code(version: u8, setup: &Setup) -> u32
+    ensures { result ≡ code_of_period version setup.now }
+{
+    if version > 1 { setup.period } else { 0 }
 }
 
 /// How many windows are used.

@@ -13,8 +13,6 @@ mod range;
 mod read;
 mod reader;
 mod targets;
-#[cfg(test)]
-mod tests;
 mod write;
 
 pub use law::spellings_differ;

@@ -26,6 +26,10 @@ pub struct Setup {
     pub windows: [u16; 3],
     /// The most spin-ups of a disk, 1 to 65,535.
     pub ration: u16,
+    /// The spin-ups that a disk may have at once, 1 to the ration.
+    pub burst: u16,
+    /// After how many ticks a disk may have one spin-up more, 1 to 4,294,967,295.
+    pub period: u32,
     /// The energy of a spinning disk between two ticks, in millijoules, 0 to 1,048,576.
     pub spinning_mj: u32,
     /// The energy of a parked disk between two ticks, in millijoules, 0 to 1,048,576.
@@ -38,6 +42,8 @@ pub struct Setup {
 #[derive(Clone, Copy)]
 pub struct Meta {
     pub setup: Setup,
+    /// How it is spelled: version 2 spells the burst and the period, and version 1 does not.
+    pub version: u8,
     /// The number of the commit that wrote it, from 1.
     pub epoch: u64,
     /// The number of writes that were accepted.

@@ -2,10 +2,11 @@
 
 ghost use Rattle.std.specs.Prelude.{◌≡◌, ℕ, ◌+◌, ◌<◌, ◌≤◌, ◌↔◌, IsTrue, length, slice_index, slice_index_or, true, false};
 ghost use Rattle.paraid_base.specs.Regions.{IsGear};
-ghost use Rattle.paraid_record.specs.Range.{AreCountersInRange, AreNextGears, AreWindows, IsInRange, IsOutInRange, IsPhaseInRange, IsSetupInRange, IsSpinCount, IsShiftInRange, Within, fill_limit as limit_of_fill, first_parked as parked_from, has_out as is_some_out, is_down as is_some_down, rebuild_units as units_of_rebuild};
+ghost use Rattle.paraid_record.specs.Range.{AreCountersInRange, AreNextGears, AreWindows, IsInRange, IsOutInRange, IsPhaseInRange, IsSetupInRange, IsSpinCount, IsShiftInRange, IsVersionInRange, Within, allowed_spins, fill_limit as limit_of_fill, first_parked as parked_from, has_out as is_some_out, is_down as is_some_down, rebuild_units as units_of_rebuild};
 
 use crate::{Meta, Setup};
 use paraid_base::{DiskNo, Geometry, Out, Phase};
+use paraid_ration::allowance;
 
 /// How many units a rebuild of a disk has at a gear: its rows, the stripes of the gear's region
 /// where the disk is below the gear, and the blocks of the dirty map on disks 0 and 1.
@@ -32,7 +33,7 @@ impl Setup {
             && is_within(1, self.up as u32, 100)
             && is_within(1, self.down as u32, 100)
             && are_windows(&self.windows)
-            && self.ration >= 1
+            && is_growth_in_range(self.ration, self.burst, self.period)
             && self.spinning_mj <= 1048576
             && self.parked_mj <= 1048576
             && self.spinup_mj <= 1048576
@@ -47,6 +48,7 @@ impl Meta {
         let meta = *self;
         let geometry = &meta.setup.geometry;
         if !meta.setup.is_in_range()
+            || !is_version_in_range(meta.version, &meta.setup)
             || !are_counters_in_range(meta.epoch, meta.writes, meta.ticks)
             || !geometry.is_gear(meta.gear)
         {
@@ -73,28 +75,51 @@ impl Meta {
     }
 
     fn are_spins_in_range(&self) -> bool
+        requires { 1 ≤ self.now.setup.period }
         ensures { IsTrue result ↔ ((disk : ℕ) → disk < 8 → IsSpinCount self.now disk) }
     {
+        let setup = &self.setup;
+        let allowed = allowance(setup.ration, setup.burst, setup.period, self.ticks);
         for disk in 0..8 {
-            if !self.is_spin_count(disk) {
+            if !self.is_spin_count(disk, allowed) {
                 return false;
             }
         }
         true
     }
 
-    fn is_spin_count(&self, disk: DiskNo) -> bool
-        requires { disk < 8 }
+    fn is_spin_count(&self, disk: DiskNo, allowed: u16) -> bool
+        requires disk { disk < 8 }
+        requires allowed { allowed ≡ allowed_spins self.now }
         ensures { IsTrue result ↔ IsSpinCount self.now disk }
     {
         let spins = self.spins[disk as usize];
         if disk >= self.setup.geometry.disks {
             spins == 0
         } else if disk >= first_parked(self.gear, self.phase) {
-            spins < self.setup.ration
+            spins < allowed
         } else {
-            spins <= self.setup.ration
+            spins <= allowed
         }
+    }
+}
+
+/// Whether a ration is one, and the burst and the period fit it.
+fn is_growth_in_range(ration: u16, burst: u16, period: u32) -> bool
+    ensures { IsTrue result ↔ (Within 1 65535 ration × (Within 1 ration burst
+        × Within 1 4294967295 period)) }
+{
+    ration >= 1 && burst >= 1 && burst <= ration && period >= 1
+}
+
+/// Whether the version is known, and a setup of version 1 allows the whole ration at once.
+fn is_version_in_range(version: u8, setup: &Setup) -> bool
+    ensures { IsTrue result ↔ IsVersionInRange version setup.now }
+{
+    match version {
+        1 => setup.burst == setup.ration && setup.period == 1,
+        2 => true,
+        _ => false,
     }
 }
 

@@ -7,8 +7,10 @@ ghost use Rattle.std.specs.Prelude.{◌≡◌, ◌≢◌, ℕ, ◌+◌, ◌*◌,
 ghost use Rattle.paraid_base.specs.declared.geometry.Geometry.{Geometry as GeometryType};
 ghost use Rattle.paraid_record.specs.declared.meta.Meta.{Meta as MetaType};
 ghost use Rattle.paraid_record.specs.declared.meta.Setup.{Setup as SetupType};
-ghost use Rattle.paraid_record.specs.Meta.{clock_bytes, count_bytes, energy_bytes, geometry_bytes, heading_bytes, meta_bytes, policy_bytes, state_bytes};
-ghost use Rattle.paraid_record.specs.Range.{IsInRange, IsSetupInRange};
+ghost use Rattle.paraid_record.specs.Codes.{burst_code, period_code};
+ghost use Rattle.paraid_record.specs.Spelling.{big_endian};
+ghost use Rattle.paraid_record.specs.Meta.{clock_bytes, count_bytes, energy_bytes, geometry_bytes, growth_bytes, heading_bytes, meta_bytes, policy_bytes, state_bytes};
+ghost use Rattle.paraid_record.specs.Range.{IsInRange, IsSetupInRange, IsVersionInRange, Within};
 
 use crate::codes::{mode_of, out_of, phase_of};
 use crate::reader::Reader;
@@ -41,30 +43,65 @@ fn is_spelling(meta: &Meta, block: &Block) -> bool
 }
 
 fn take_meta(reader: &mut Reader) -> Option<Meta>
-    requires { 112 ≤ length reader.old }
+    requires { 118 ≤ length reader.old }
     ensures { (m : MetaType) (rest : List ℕ) → IsInRange m
-        → reader.old ≡ heading_bytes ++ (geometry_bytes m.setup.geometry ++ (policy_bytes m.setup
-        ++ (clock_bytes m ++ (state_bytes m ++ (count_bytes m ++ (energy_bytes m.setup ++ rest))))))
+        → reader.old ≡ heading_bytes m.version ++ (geometry_bytes m.setup.geometry
+        ++ (policy_bytes m.setup ++ (clock_bytes m ++ (state_bytes m ++ (count_bytes m
+        ++ (energy_bytes m.setup ++ (growth_bytes m.version m.setup ++ rest)))))))
         → result ≡ Some m }
 {
-    skip_heading(reader);
+    let version = take_heading(reader)?;
     let geometry = take_geometry(reader)?;
     let setup = take_policy(reader, geometry)?;
-    let mut meta = take_state(reader, setup)?;
+    let mut meta = take_state(reader, version, setup)?;
     meta.setup.spinning_mj = reader.take_u32();
     meta.setup.parked_mj = reader.take_u32();
     meta.setup.spinup_mj = reader.take_u32();
+    meta.setup.burst = take_burst(reader, version, meta.setup.ration);
+    meta.setup.period = take_period(reader, version);
     Some(meta)
 }
 
-/// Passes over the text and the version, which are compared with the whole spelling.
-fn skip_heading(reader: &mut Reader)
+/// Passes over the text, which is compared with the whole spelling, and takes the version.
+fn take_heading(reader: &mut Reader) -> Option<u8>
     requires { 10 ≤ length reader.old }
-    ensures reads { (rest : List ℕ) → reader.old ≡ heading_bytes ++ rest → reader.new ≡ rest }
+    ensures reads { (version : ℕ) (rest : List ℕ) → Within 1 2 version
+        → reader.old ≡ heading_bytes version ++ rest
+        → (result ≡ Some version) × (reader.new ≡ rest) }
     ensures length { length reader.new + 10 ≡ length reader.old }
 {
     reader.skip(MAGIC.len());
-    let _version = reader.take_u16();
+    let version = reader.take_u16();
+    if version > 2 {
+        return None;
+    }
+    Some(version as u8)
+}
+
+/// Takes the burst, which is the ration in version 1.
+fn take_burst(reader: &mut Reader, version: u8, ration: u16) -> u16
+    requires { 2 ≤ length reader.old }
+    ensures reads { (s : SetupType) (rest : List ℕ) → IsVersionInRange version s
+        → s.burst < 65536 → s.ration ≡ ration
+        → reader.old ≡ big_endian 2 (burst_code version s) ++ rest
+        → (result ≡ s.burst) × (reader.new ≡ rest) }
+    ensures length { length reader.new + 2 ≡ length reader.old }
+{
+    let burst = reader.take_u16();
+    if version > 1 { burst } else { ration }
+}
+
+/// Takes the period, which is 1 in version 1.
+fn take_period(reader: &mut Reader, version: u8) -> u32
+    requires { 4 ≤ length reader.old }
+    ensures reads { (s : SetupType) (rest : List ℕ) → IsVersionInRange version s
+        → s.period < 4294967296
+        → reader.old ≡ big_endian 4 (period_code version s) ++ rest
+        → (result ≡ s.period) × (reader.new ≡ rest) }
+    ensures length { length reader.new + 4 ≡ length reader.old }
+{
+    let period = reader.take_u32();
+    if version > 1 { period } else { 1 }
 }
 
 fn take_geometry(reader: &mut Reader) -> Option<Geometry>
@@ -83,12 +120,13 @@ fn take_geometry(reader: &mut Reader) -> Option<Geometry>
     Geometry::new(disks, rows, &gears[..count]).ok()
 }
 
-/// Takes what a setup says but its energy figures, which stand further on.
+/// Takes what a setup says but its energy figures, the burst and the period, which stand further
+/// on.
 fn take_policy(reader: &mut Reader, geometry: Geometry) -> Option<Setup>
     requires { 20 ≤ length reader.old }
     ensures reads { (s : SetupType) (rest : List ℕ) → IsSetupInRange s → s.geometry ≡ geometry
         → reader.old ≡ policy_bytes s ++ rest
-        → (result ≡ Some (record s { spinning_mj = 0; parked_mj = 0; spinup_mj = 0 }))
+        → (result ≡ Some (record s { burst = 0; period = 0; spinning_mj = 0; parked_mj = 0; spinup_mj = 0 }))
         × (reader.new ≡ rest) }
     ensures length { length reader.new + 20 ≡ length reader.old }
 {
@@ -110,18 +148,20 @@ fn take_policy(reader: &mut Reader, geometry: Geometry) -> Option<Setup>
         down,
         windows,
         ration,
+        burst: 0,
+        period: 0,
         spinning_mj: 0,
         parked_mj: 0,
         spinup_mj: 0,
     })
 }
 
-/// Takes the state of an array with this setup.
-fn take_state(reader: &mut Reader, setup: Setup) -> Option<Meta>
+/// Takes the state of an array with this setup, in this version.
+fn take_state(reader: &mut Reader, version: u8, setup: Setup) -> Option<Meta>
     requires { 56 ≤ length reader.old }
     ensures reads { (m : MetaType) (rest : List ℕ) → IsInRange m
         → reader.old ≡ clock_bytes m ++ (state_bytes m ++ (count_bytes m ++ rest))
-        → (result ≡ Some (record m { setup = setup })) × (reader.new ≡ rest) }
+        → (result ≡ Some (record m { setup = setup; version = version })) × (reader.new ≡ rest) }
     ensures length { length reader.new + 56 ≡ length reader.old }
 {
     let epoch = reader.take_u64();
@@ -139,6 +179,7 @@ fn take_state(reader: &mut Reader, setup: Setup) -> Option<Meta>
     reader.take_shorts(&mut spins);
     Some(Meta {
         setup,
+        version,
         epoch,
         writes,
         ticks,

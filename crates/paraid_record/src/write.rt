@@ -2,12 +2,13 @@
 
 ghost use Rattle.std.specs.Prelude.{◌≡◌, ℕ, ◌+◌, ◌*◌, ◌≤◌, ◌++◌, length};
 ghost use Rattle.paraid_base.specs.declared.geometry.Geometry.{Geometry as GeometryType};
-ghost use Rattle.paraid_record.specs.Meta.{clock_bytes, count_bytes, energy_bytes, geometry_bytes, heading_bytes, meta_bytes, policy_bytes, state_bytes};
+ghost use Rattle.paraid_record.specs.Meta.{clock_bytes, count_bytes, energy_bytes, geometry_bytes, growth_bytes, heading_bytes, meta_bytes, policy_bytes, state_bytes};
 ghost use Rattle.paraid_record.specs.Range.{IsInRange};
 ghost use Rattle.paraid_record.specs.Spelling.{shorts};
 
 use crate::codes::{
-    fresh_code, gear_list, mode_code, out_code, phase_code, phase_to, rebuilt_count, window_count,
+    burst_code, fresh_code, gear_list, mode_code, out_code, period_code, phase_code, phase_to,
+    rebuilt_count, window_count,
 };
 use crate::pen::Pen;
 use crate::{Meta, Setup};
@@ -15,9 +16,6 @@ use paraid_base::{Block, Geometry};
 
 /// The first bytes of a meta.
 pub const MAGIC: [u8; 8] = *b"PARAIDAR";
-
-/// The version of the spelling.
-const VERSION: u16 = 1;
 
 /// The bytes between the flag of a fresh disk and the fill mark, which say nothing.
 pub const GAP: [u8; 3] = [0; 3];
@@ -28,23 +26,24 @@ pub fn write_meta(meta: &Meta, into: &mut Block)
     ensures { into.new.bytes ≡ meta_bytes meta.now }
 {
     let mut pen = Pen::new();
-    put_heading(&mut pen);
+    put_heading(&mut pen, meta.version);
     put_geometry(&mut pen, &meta.setup.geometry);
     put_policy(&mut pen, &meta.setup);
     put_clocks(&mut pen, meta);
     put_state(&mut pen, meta);
     put_counts(&mut pen, meta);
     put_energy(&mut pen, &meta.setup);
+    put_growth(&mut pen, meta.version, &meta.setup);
     pen.finish(into);
 }
 
-fn put_heading(pen: &mut Pen)
+fn put_heading(pen: &mut Pen, version: u8)
     requires { length pen.old + 10 ≤ 512 }
-    ensures value { pen.new ≡ pen.old ++ heading_bytes }
+    ensures value { pen.new ≡ pen.old ++ heading_bytes version }
     ensures length { length pen.new ≡ length pen.old + 10 }
 {
     pen.put_bytes(&MAGIC);
-    pen.put_u16(VERSION);
+    pen.put_u16(version as u16);
 }
 
 fn put_geometry(pen: &mut Pen, geometry: &Geometry)
@@ -115,6 +114,15 @@ fn put_energy(pen: &mut Pen, setup: &Setup)
     pen.put_u32(setup.spinning_mj);
     pen.put_u32(setup.parked_mj);
     pen.put_u32(setup.spinup_mj);
+}
+
+fn put_growth(pen: &mut Pen, version: u8, setup: &Setup)
+    requires { length pen.old + 6 ≤ 512 }
+    ensures value { pen.new ≡ pen.old ++ growth_bytes version setup.now }
+    ensures length { length pen.new ≡ length pen.old + 6 }
+{
+    pen.put_u16(burst_code(version, setup));
+    pen.put_u32(period_code(version, setup));
 }
 
 fn put_shorts(pen: &mut Pen, values: &[u16])

@@ -43,3 +43,11 @@ Repeats-repeated pattern small = record {
       let below = small (k % length pattern) in
       omega arith;
 }
+
+-- bytes that agree with the repetition are its bytes
+pub repeated-bytes : (pattern bytes : List ℕ) → length bytes ≡ 512 → ((k : ℕ) → k < 512 → get_or bytes k 0 ≡ byte_of pattern k) → bytes ≡ (repeated pattern).bytes
+unfolding repeated
+repeated-bytes pattern bytes whole h =
+    same_list bytes (listed (byte_of pattern) 512) (whole ∙ sym (length-listed (byte_of pattern) 512)) (λ k lt.
+    let below : k < 512 = omega (arith, length-listed (byte_of pattern) 512) in
+    h k below ∙ sym (get_or-listed (byte_of pattern) 512 k below))

@@ -2,6 +2,7 @@
 use Rattle.std.specs.Prelude.{ℕ, ◌+◌, ◌*◌, ◌/◌, ◌%◌, ◌^◌, nat_lt, if◌then◌else◌, List, [], ◌∷◌}
 use Rattle.paraid_base.specs.declared.event.Event.{Event}
 use Rattle.paraid_base.specs.declared.event.Event.TheVariants.{Read, Write, Flush, Tick, Up, Down}
+use Rattle.paraid_base.specs.Pairs.{one}
 use Rattle.paraid_trace.specs.Repeats.{repeated}
 
 -- the mixed number of line `i` of the trace of a number
@@ -16,7 +17,7 @@ low_bytes i = (i / 256 % 256) ∷ (i % 256) ∷ []
 abbrev pub event_of_kind : ℕ → ℕ → ℕ → Event
 event_of_kind kind block i =
     if nat_lt kind 140 then Read block
-    else if nat_lt kind 230 then Write block (repeated (low_bytes i))
+    else if nat_lt kind 230 then Write (one block (repeated (low_bytes i)))
     else if nat_lt kind 240 then Flush
     else if nat_lt kind 254 then Tick
     else if nat_lt kind 255 then Up

@@ -1,9 +1,12 @@
 -- What a line of each event looks like
-use Rattle.std.specs.Prelude.{◌≡◌, ℕ, ◌^◌, ◌<◌, ◌≤◌, List, ◌++◌, length, Ok, codes, decimal}
+use Rattle.std.specs.Prelude.{◌≡◌, ℕ, ◌^◌, ◌<◌, ◌≤◌, List, [], ◌∷◌, ◌++◌, length, Ok, codes, decimal}
 use Rattle.hex.specs.Hex.{decode_of}
 use Rattle.paraid_base.specs.declared.block.Block.{Block}
 use Rattle.paraid_base.specs.declared.event.Event.{Event}
 use Rattle.paraid_base.specs.declared.event.Event.TheVariants.{Read, Write, Flush, Tick, Up, Down, Fail, Replace, State, Energy, Bad}
+use Rattle.paraid_base.specs.declared.pairs.Pairs.{Pairs}
+use Rattle.paraid_base.specs.History.{Entry}
+use Rattle.paraid_base.specs.Pairs.{pairs_of}
 use Rattle.paraid_trace.specs.Repeats.{Repeats}
 
 -- a number below 2^32 in decimal digits, with no zero before another digit
@@ -26,18 +29,32 @@ pub record IsNumbered (word line : List ℕ) (n : ℕ) : Type 0 where
   pub number : IsNumber digits n
   pub printed : line ≡ word ++ codes " " ++ digits
 
--- `w`, one space, the number of a block, one space, and hexadecimal digits
-pub record IsWrite (line : List ℕ) (n : ℕ) (block : Block) : Type 0 where
+-- one space, the number of a block, one space, hexadecimal digits, and a rest
+pub record IsGroup (pair : ℕ × Block) (IsRest : List ℕ → Type 0) (text : List ℕ) : Type 0 where
   pub digits : List ℕ
   pub hex : List ℕ
-  pub number : IsNumber digits n
-  pub bytes : IsHexOf hex block
-  pub printed : line ≡ codes "w " ++ digits ++ codes " " ++ hex
+  pub rest : List ℕ
+  pub number : IsNumber digits pair.0
+  pub bytes : IsHexOf hex pair.1
+  pub printed : text ≡ codes " " ++ (digits ++ (codes " " ++ (hex ++ rest)))
+  pub others : IsRest rest
+
+-- a group for each pair, and nothing else
+abbrev pub AreGroups : Entry → List ℕ → Type 0
+AreGroups [] text = text ≡ []
+AreGroups (pair ∷ pairs) text = IsGroup pair (AreGroups pairs) text
+
+-- `w` and a group for each of the one to eight pairs, in at most 1,100 bytes
+pub record IsWrite (line : List ℕ) (pairs : Pairs) : Type 0 where
+  pub groups : List ℕ
+  pub printed : line ≡ codes "w" ++ groups
+  pub each : AreGroups (pairs_of pairs) groups
+  pub short : length line ≤ 1100
 
 -- The line asks for the event. No line asks for `Bad`: it stands for the lines of no event.
 abbrev pub IsLineOf : List ℕ → Event → Type 0
 IsLineOf line (Read block) = IsNumbered (codes "r") line block
-IsLineOf line (Write block bytes) = IsWrite line block bytes
+IsLineOf line (Write pairs) = IsWrite line pairs
 IsLineOf line Flush = line ≡ codes "f"
 IsLineOf line Tick = line ≡ codes "t"
 IsLineOf line Up = line ≡ codes "up"

@@ -1,6 +1,7 @@
 pub mod Repeats
 pub mod Grammar
 pub mod Lines
+pub mod Asked
 pub mod BlockTexts
 pub mod StateTexts
 pub mod TickTexts

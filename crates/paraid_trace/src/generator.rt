@@ -2,7 +2,7 @@ ghost use Rattle.std.specs.Prelude.{◌≡◌, ◌<◌, ◌*◌, ◌+◌, ◌%�
 ghost use Rattle.paraid_trace.specs.Generated.{event_of_kind as event_of, generated, mixed as mixed_of};
 
 use crate::hexes::repeated;
-use paraid_base::Event;
+use paraid_base::{Event, Pairs};
 
 // Odd numbers that spread the bits of a factor over 32 bits.
 const NUMBER_FACTOR: u64 = 2654435761;
@@ -40,8 +40,7 @@ fn event_of_kind(kind: u32, block: u32, i: u32) -> Event
     match kind {
         0..=139 => Event::Read { block },
         140..=229 => Event::Write {
-            block,
-            bytes: repeated(&[(i / 256 % 256) as u8, (i % 256) as u8]),
+            pairs: Pairs::one(block, &repeated(&[(i / 256 % 256) as u8, (i % 256) as u8])),
         },
         230..=239 => Event::Flush,
         240..=253 => Event::Tick,

@@ -5,16 +5,16 @@
 //! exactly for its lines. `reply` writes a line from a table of answers. Nothing here takes memory.
 #![tactic(auto)]
 
+mod asked;
 mod generator;
 mod hexes;
 mod line;
 mod periods;
 mod replies;
-#[cfg(test)]
-mod tests;
 mod text;
 
+pub use asked::Asked;
 pub use generator::generate;
-pub use line::parse_line;
+pub use line::{parse_line, read_line};
 pub use replies::reply;
 pub use text::{MAX_TEXT, Text};

@@ -1,35 +1,77 @@
-ghost use Rattle.std.specs.Prelude.{◌≡◌, ◌≢◌, ◌<◌, ◌^◌, length};
+ghost use Rattle.std.specs.Prelude.{◌≡◌, ◌≢◌, ◌<◌, ◌≤◌, ◌^◌, ◌==◌, length, IfSome};
 ghost use Rattle.std.specs.Option.{SomeIff};
 ghost use Rattle.std.specs.Char.{digit_value};
 ghost use Rattle.std.specs.Str.Parse.{IsNumeral, digits_value};
-ghost use Rattle.std.specs.List.{position};
-ghost use Rattle.paraid_base.specs.declared.event.Event.{Event};
+ghost use Rattle.std.specs.List.{position, position_or_len};
+ghost use Rattle.paraid_base.specs.declared.event.Event.{Event as EventType};
 ghost use Rattle.paraid_base.specs.declared.event.Event.TheVariants.{Bad};
+ghost use Rattle.paraid_base.specs.declared.pairs.Pairs.{Pairs as PairsType};
 ghost use Rattle.paraid_trace.specs.Grammar.{IsLineOf};
-ghost use Rattle.paraid_trace.specs.Lines.{block_of, event_of, fail_of, is_space, named_event as event_of_name, number_of, read_of, replace_event as event_of_replace, replace_of, word_event as event_of_word, write_at, write_of};
+ghost use Rattle.paraid_trace.specs.Lines.{entry_of, event_at, event_of, fail_of, group_of, is_space, named_event as event_of_name, number_of, read_of, replace_event as event_of_replace, replace_of, word_event as event_of_word, write_of};
+ghost use Rattle.paraid_trace.specs.Asked.{event_with, group_in};
 
+use crate::Asked;
 use crate::hexes::block;
-use paraid_base::{Block, Event};
+use paraid_base::{Block, BlockNo, Event, Pairs};
+
+/// The most bytes of a line that asks for something.
+const MAX_LINE: usize = 1100;
 
 /// The event that a line of the trace asks for, and `Bad` where it asks for none. The line comes
 /// without its newline. A line of more than 1,100 bytes asks for none.
 pub fn parse_line(line: &[u8]) -> Event
     ensures value { result ≡ event_of line.now }
     ensures event { result ≢ Bad → IsLineOf line.now result }
-    ensures only { (e : Event) → IsLineOf line.now e → result ≡ e }
+    ensures only { (e : EventType) → IsLineOf line.now e → result ≡ e }
     ensures long { 1100 < length line.now → result ≡ Bad }
-    ensures bad { result ≡ Bad → (e : Event) → IsLineOf line.now e → ⊥ }
+    ensures bad { result ≡ Bad → (e : EventType) → IsLineOf line.now e → ⊥ }
 {
-    event(line)
+    let mut pairs = Pairs::one(0, &Block::zero());
+    let asked = read_line(line, &mut pairs);
+    event(asked, pairs)
+}
+
+fn event(asked: Asked, pairs: Pairs) -> Event
+    ensures { result ≡ event_with asked pairs }
+{
+    match asked {
+        Asked::Read { block } => Event::Read { block },
+        Asked::Write => Event::Write { pairs },
+        Asked::Flush => Event::Flush,
+        Asked::Tick => Event::Tick,
+        Asked::Up => Event::Up,
+        Asked::Down => Event::Down,
+        Asked::Fail { disk } => Event::Fail { disk },
+        Asked::Replace { disk } => Event::Replace { disk },
+        Asked::State => Event::State,
+        Asked::Energy => Event::Energy,
+        Asked::Bad => Event::Bad,
+    }
+}
+
+/// The same, with the pairs of a write kept in `pairs`. Where the line asks for no write they may
+/// be any.
+pub fn read_line(line: &[u8], pairs: &mut Pairs) -> Asked
+    ensures value { event_with result pairs.new ≡ event_of line.now }
+    ensures event { event_with result pairs.new ≢ Bad
+        → IsLineOf line.now (event_with result pairs.new) }
+    ensures only { (e : EventType) → IsLineOf line.now e → event_with result pairs.new ≡ e }
+    ensures long { 1100 < length line.now → event_with result pairs.new ≡ Bad }
+    ensures bad { event_with result pairs.new ≡ Bad → (e : EventType) → IsLineOf line.now e → ⊥ }
+{
+    asked(line, pairs)
 }
 
 #[tactic(auto, unfolding(crate::specs::Lines::event_of))]
-fn event(line: &[u8]) -> Event
-    ensures { result ≡ event_of line.now }
+fn asked(line: &[u8], pairs: &mut Pairs) -> Asked
+    ensures { event_with result pairs.new ≡ event_of line.now }
 {
+    if line.len() > MAX_LINE {
+        return Asked::Bad;
+    }
     match first_space(line) {
-        Some(at) => named_event(&line[..at], &line[at + 1..]),
-        None => word_event(line),
+        Some(at) => named(&line[..at], &line[at + 1..], pairs),
+        None => word(line),
     }
 }
 
@@ -39,87 +81,122 @@ fn first_space(text: &[u8]) -> Option<usize>
     text.iter().position(|c| *c == b' ')
 }
 
+// The place of the first space, or of the end.
+fn until_space(text: &[u8]) -> usize
+    ensures value { result ≡ position_or_len is_space text.now }
+    ensures within { result ≤ length text.now }
+{
+    match first_space(text) {
+        Some(at) => at,
+        None => text.len(),
+    }
+}
+
 // A line of one word.
-fn word_event(word: &[u8]) -> Event
-    ensures { result ≡ event_of_word word.now }
+fn word(word: &[u8]) -> Asked
+    ensures { (p : PairsType) → event_with result p ≡ event_of_word word.now }
 {
     match word {
-        b"f" => Event::Flush,
-        b"t" => Event::Tick,
-        b"up" => Event::Up,
-        b"down" => Event::Down,
-        b"s" => Event::State,
-        b"e" => Event::Energy,
-        _ => Event::Bad,
+        b"f" => Asked::Flush,
+        b"t" => Asked::Tick,
+        b"up" => Asked::Up,
+        b"down" => Asked::Down,
+        b"s" => Asked::State,
+        b"e" => Asked::Energy,
+        _ => Asked::Bad,
     }
 }
 
 // A line of a word and what follows its space.
-fn named_event(word: &[u8], rest: &[u8]) -> Event
-    ensures { result ≡ event_of_name word.now rest.now }
+fn named(word: &[u8], rest: &[u8], pairs: &mut Pairs) -> Asked
+    ensures { event_with result pairs.new ≡ event_of_name word.now rest.now }
 {
     match word {
         b"r" => read(number(rest)),
-        b"w" => write(rest),
+        b"w" => write(rest, pairs),
         b"fail" => fail(number(rest)),
-        _ => replace_event(word, rest),
+        _ => replace_named(word, rest),
     }
 }
 
-fn replace_event(word: &[u8], rest: &[u8]) -> Event
-    ensures { result ≡ event_of_replace word.now rest.now }
+fn replace_named(word: &[u8], rest: &[u8]) -> Asked
+    ensures { (p : PairsType) → event_with result p ≡ event_of_replace word.now rest.now }
 {
     if word == b"replace".as_slice() {
         replace(number(rest))
     } else {
-        Event::Bad
+        Asked::Bad
     }
 }
 
-fn read(block: Option<u32>) -> Event
-    ensures { result ≡ read_of block }
+fn read(block: Option<u32>) -> Asked
+    ensures { (p : PairsType) → event_with result p ≡ read_of block }
 {
     match block {
-        Some(block) => Event::Read { block },
-        None => Event::Bad,
+        Some(block) => Asked::Read { block },
+        None => Asked::Bad,
     }
 }
 
-fn fail(disk: Option<u32>) -> Event
-    ensures { result ≡ fail_of disk }
+fn fail(disk: Option<u32>) -> Asked
+    ensures { (p : PairsType) → event_with result p ≡ fail_of disk }
 {
     match disk {
-        Some(disk) => Event::Fail { disk },
-        None => Event::Bad,
+        Some(disk) => Asked::Fail { disk },
+        None => Asked::Bad,
     }
 }
 
-fn replace(disk: Option<u32>) -> Event
-    ensures { result ≡ replace_of disk }
+fn replace(disk: Option<u32>) -> Asked
+    ensures { (p : PairsType) → event_with result p ≡ replace_of disk }
 {
     match disk {
-        Some(disk) => Event::Replace { disk },
-        None => Event::Bad,
+        Some(disk) => Asked::Replace { disk },
+        None => Asked::Bad,
     }
 }
 
-// A number, a space and hexadecimal digits.
-fn write(rest: &[u8]) -> Event
-    ensures { result ≡ write_at (position is_space rest.now) rest.now }
+// One to eight groups of a number, a space and hexadecimal digits, with a space between them.
+fn write(text: &[u8], pairs: &mut Pairs) -> Asked
+    ensures { event_with result pairs.new ≡ write_of (entry_of 8 text.now) }
 {
-    match first_space(rest) {
-        Some(at) => write_event(number(&rest[..at]), block(&rest[at + 1..])),
-        None => Event::Bad,
+    let mut bytes = Block::zero();
+    let Some((block, end)) = group(text, &mut bytes) else {
+        return Asked::Bad;
+    };
+    pairs.set_one(block, &bytes);
+    let mut end = end;
+    while end < text.len() {
+        if pairs.is_full() {
+            return Asked::Bad;
+        }
+        let Some((block, length)) = group(&text[end + 1..], &mut bytes) else {
+            return Asked::Bad;
+        };
+        pairs.add(block, &bytes);
+        end += 1 + length;
     }
+    Asked::Write
 }
 
-fn write_event(block: Option<u32>, bytes: Option<Block>) -> Event
-    ensures { result ≡ write_of block bytes }
+// Reads the first group of a text: its block, its bytes, and the place behind it.
+#[tactic(auto, unfolding(crate::specs::Lines::group_of))]
+fn group(text: &[u8], bytes: &mut Block) -> Option<(BlockNo, usize)>
+    ensures group { group_of text.now ≡ group_in result bytes.new }
+    ensures within { IfSome result (λ found. found.1 ≤ length text.now) }
 {
-    match (block, bytes) {
-        (Some(block), Some(bytes)) => Event::Write { block, bytes },
-        _ => Event::Bad,
+    let Some(at) = first_space(text) else {
+        return None;
+    };
+    let digits = &text[at + 1..];
+    let length = until_space(digits);
+    let Some(number) = number(&text[..at]) else {
+        return None;
+    };
+    if !block(&digits[..length], bytes) {
+        return None;
     }
+    Some((number, at + 1 + length))
 }
 
 // A number below 2^32 in decimal digits, with no zero before another digit.

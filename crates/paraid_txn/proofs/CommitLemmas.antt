@@ -9,22 +9,24 @@ use Rattle.paraid_rack.specs.Disks.{Disks, IsPresent, is_present, lose}
 use Rattle.paraid_rack.proofs.AtomsLemmas.{at_use, image_left, lost_left, with_at_other, with_at_same}
 use Rattle.paraid_record.specs.declared.meta.Meta.{Meta}
 use Rattle.paraid_record.specs.Range.{IsInRange}
-use Rattle.paraid_txn.specs.Commit.{AreShut, IsAtRest, IsCommitted, IsDrained, IsEachImage, IsEitherMissing, IsOneMissing, StandsFor, StandsForEither, closed_over}
-use Rattle.paraid_txn.specs.Out.{IsMissing, IsWeak, first_absent, named_out, or_else, out_disk}
-use Rattle.paraid_txn.specs.Out.IsWeak.{out as out_weak, named as named_weak}
-use Rattle.paraid_txn.specs.Sides.{Said, Says, SaysBy, is_open, stored}
-use Rattle.paraid_txn.specs.Sound.{LogOk}
-use Rattle.paraid_txn.specs.Stages.{Close, Early, IsKept, IsLive, Job, Late, Log, Whole, named, open_with}
-use Rattle.paraid_txn.specs.Standing.{Stands, other_log}
-use Rattle.paraid_txn.proofs.OutLemmas.{first_absent_finds, first_absent_is, named_below}
-use Rattle.paraid_txn.proofs.SidesLemmas.{Says-same}
-use Rattle.paraid_txn.proofs.SpokenLemmas.{IsBegun, before_in_range, stands_alone}
-use Rattle.paraid_txn.proofs.StandsForLemmas.{aside_old, early_for_new, early_for_old, early_stands, late_for, late_stands}
-use Rattle.paraid_txn.proofs.StepLemmas.{decide_some, out_named, says_of_lost}
+use Rattle.paraid_image.specs.Rest.{AreShut, IsAtRest, IsDrained, closed_over}
+use Rattle.paraid_txn.specs.Commit.{IsCommitted, IsEachImage, IsEitherMissing, IsOldOrNew, IsOneMissing, StandsFor, StandsForEither}
+use Rattle.paraid_image.specs.Out.{IsMissing, IsWeak, first_absent, named_out, or_else, out_disk}
+use Rattle.paraid_image.specs.Out.IsWeak.{out as out_weak, named as named_weak}
+use Rattle.paraid_image.specs.Sides.{Said, Says, SaysBy, is_open, stored}
+use Rattle.paraid_image.specs.Sound.{LogOk}
+use Rattle.paraid_txn.specs.Stages.{Close, Early, IsLive, Job, Late, Later, Log, Whole, named, open_with}
+use Rattle.paraid_image.specs.Standing.{Stands, other_log}
+use Rattle.paraid_image.proofs.OutLemmas.{first_absent_finds, first_absent_is, named_below}
+use Rattle.paraid_image.proofs.SidesLemmas.{Says-same}
+use Rattle.paraid_image.proofs.StandingLemmas.{Stands-same}
+use Rattle.paraid_txn.proofs.SpokenLemmas.{IsBegun, before_in_range, begun_brought, joining_shut, stands_alone}
+use Rattle.paraid_txn.proofs.StandsForLemmas.{IsPaired, aside_old, early_for_new, early_for_old, early_joining, early_other, early_stands, late_for, late_other, late_stands}
+use Rattle.paraid_image.proofs.StepLemmas.{decide_some, out_named, says_of_lost}
 use Rattle.paraid_txn.proofs.WholeLemmas.{closing_late, closing_whole, stored_here}
 
 -- the out disk is missing
-out_missing : (power : ℕ → Power) (m : Meta) (w : ℕ) → IsInRange m → out_disk power m ≡ Some w → IsMissing power m w
+pub out_missing : (power : ℕ → Power) (m : Meta) (w : ℕ) → IsInRange m → out_disk power m ≡ Some w → IsMissing power m w
 out_missing power m w range is = split (named_out m.out) refl is
   where
     split : (o : Option ℕ) → named_out m.out ≡ o → or_else o (first_absent power m.setup.geometry.disks) ≡ Some w → IsMissing power m w
@@ -32,7 +34,7 @@ out_missing power m w range is = split (named_out m.out) refl is
     split None name same = let a = first_absent_is power m.setup.geometry.disks w same in record { disk = a.0; is = inl a.1 }
 
 -- where a disk is absent, some disk is out
-absent_out : (power : ℕ → Power) (m : Meta) (e : ℕ) → e < m.setup.geometry.disks → is_present (power e) ≡ false → (w : ℕ) × (out_disk power m ≡ Some w)
+pub absent_out : (power : ℕ → Power) (m : Meta) (e : ℕ) → e < m.setup.geometry.disks → is_present (power e) ≡ false → (w : ℕ) × (out_disk power m ≡ Some w)
 absent_out power m e low gone = split (named_out m.out) refl
   where
     split : (o : Option ℕ) → named_out m.out ≡ o → (w : ℕ) × (or_else o (first_absent power m.setup.geometry.disks) ≡ Some w)
@@ -40,12 +42,12 @@ absent_out power m e low gone = split (named_out m.out) refl
     split None name = first_absent_finds power m.setup.geometry.disks e low gone
 
 -- what a closed gate says
-closed_said : (i : Disks) (z : ℕ) (said : Said) (m : Meta) → Says i z said → said.opened ≡ false → said.meta ≡ m → said ≡ closed_over m
+pub closed_said : (i : Disks) (z : ℕ) (said : Said) (m : Meta) → Says i z said → said.opened ≡ false → said.meta ≡ m → said ≡ closed_over m
 closed_said i z said m says shut is =
     let log : SaysBy false (stored i z) said.meta said.batch = subst (λ (o : Bool). SaysBy o (stored i z) said.meta said.batch) shut says.log in
     λ t. record { opened = shut t; meta = is t; batch = log.empty t }
 
-decide_out : (o : Option ℕ) → ((w : ℕ) × (o ≡ Some w)) ⊎ (o ≡ None)
+pub decide_out : (o : Option ℕ) → ((w : ℕ) × (o ≡ Some w)) ⊎ (o ≡ None)
 decide_out (Some w) = inl (w, refl)
 decide_out None = inr refl
 
@@ -75,22 +77,32 @@ module _ (j : Job) (before : Meta) (begun : IsBegun j before) where
   single : (power : ℕ → Power) (m : Meta) → IsOneOf m → IsOneMissing power before j.meta → (d e : ℕ) → IsMissing power m d → IsMissing power m e → d ≡ e
   single power m is one d e p q = one.one d e (either power m d is p) (either power m e is q)
 
-  -- a log disk that is not missing is live and there
-  live_or_missing : (i : Disks) (x : ℕ) → x < 2 → IsEitherMissing i.power before j.meta x ⊎ (IsLive j x × IsPresent i x)
-  live_or_missing i x low = elim (cases_Bool (is_present (i.power x))) [
-    | inr gone ↦ inl (inl (record { disk = (let n = enough in omega arith); is = inl gone }))
+  -- a log disk that is absent, or is left alone
+  abbrev IsShunned : Disks → ℕ → Type 0
+  IsShunned i x = (is_present (i.power x) ≡ false) ⊎ (named j ≡ Some x)
+
+  shunned_missing : (i : Disks) (x : ℕ) → x < 2 → IsShunned i x → IsEitherMissing i.power before j.meta x
+  shunned_missing i x low (inl gone) = inl (record { disk = (let n = enough in omega arith); is = inl gone })
+  shunned_missing i x low (inr is) = inr (record { disk = (let n = enough in let s = same_disks in omega arith); is = inr (sym begun.names ∙ is) })
+
+  -- every other one is live and there
+  live_or_shunned : (i : Disks) (x : ℕ) → x < 2 → IsShunned i x ⊎ (IsLive j x × IsPresent i x)
+  live_or_shunned i x low = elim (cases_Bool (is_present (i.power x))) [
+    | inr gone ↦ inl (inl gone)
     | inl here ↦ elim (decide_some (named j) x) [
-      | inl is ↦ inl (inr (record { disk = (let n = enough in let s = same_disks in omega arith); is = inr is }))
+      | inl is ↦ inl (inr is)
       | inr not ↦ inr ((low, not), here)
     ]
   ]
 
   one_live : (i : Disks) → IsOneMissing i.power before j.meta → (x : ℕ) × IsLive j x × IsPresent i x
-  one_live i one = elim (live_or_missing i 0 (omega arith)) [
+  one_live i one = elim (live_or_shunned i 0 (omega arith)) [
     | inr a ↦ (0, a.0, a.1)
-    | inl a ↦ elim (live_or_missing i 1 (omega arith)) [
+    | inl a ↦ elim (live_or_shunned i 1 (omega arith)) [
       | inr b ↦ (1, b.0, b.1)
-      | inl b ↦ let bad : ◌≡◌ {A = ℕ} 0 1 = one.one 0 1 a b in absurd (omega (arith, bad))
+      | inl b ↦
+          let bad : ◌≡◌ {A = ℕ} 0 1 = one.one 0 1 (shunned_missing i 0 (omega arith) a) (shunned_missing i 1 (omega arith) b) in
+          absurd (omega (arith, bad))
     ]
   ]
 
@@ -138,22 +150,17 @@ module _ (j : Job) (before : Meta) (begun : IsBegun j before) where
         → (e f : ℕ) → IsMissing (lose d i).power m e → IsMissing (lose d i).power m f → e ≡ f
     single_lost y other m low says is of_two e f p q = missing_lost y other m low says is of_two e p ∙ sym (missing_lost y other m low says is of_two f q)
 
-    -- a log disk that is missing, but not lost, is there, and is named out by the new meta alone
-    left_behind : IsKept j i → (y : ℕ) → y < 2 → y ≢ d → IsEitherMissing i.power before j.meta y
+    -- a log disk that is absent or left alone, but not lost, is there, and is named out by the new
+    -- meta alone
+    left_behind : (y : ℕ) → y < 2 → y ≢ d → IsShunned i y
         → IsPresent i y × (named j ≡ Some y) × (named_out said.meta.out ≢ Some y)
-    left_behind kept y low apart missing = elim (cases_Bool (is_present (i.power y))) [
+    left_behind y low apart shunned = elim (cases_Bool (is_present (i.power y))) [
       | inr gone ↦ absurd (apart (absent_lost y (let n = enough in omega arith) gone))
       | inl here ↦ (here, name here, λ e. apart (out_lost y (out_named i.power said.meta y e)))
     ]
       where
-        named_by : (m : Meta) → IsPresent i y → IsMissing i.power m y → named_out m.out ≡ Some y
-        named_by m here p = elim p.is [ inl gone ↦ absurd (false≢true (sym gone ∙ here)) | inr is ↦ is ]
-
         name : IsPresent i y → named j ≡ Some y
-        name here = elim missing [
-          | inl p ↦ begun.next.stays_out y low (kept.present y here) (named_by before here p)
-          | inr p ↦ named_by j.meta here p
-        ]
+        name here = elim shunned [ inl gone ↦ absurd (false≢true (sym gone ∙ here)) | inr is ↦ is ]
 
   still : (i : Disks) (d x : ℕ) → x ≢ d → IsPresent i x → IsPresent (lose d i) x
   still i d x apart here = ap is_present (with_at_other i.power d Absent x apart) ∙ here
@@ -161,22 +168,24 @@ module _ (j : Job) (before : Meta) (begun : IsBegun j before) where
   lost : (i : Disks) (d x : ℕ) → x ≡ d → is_present ((lose d i).power x) ≡ false
   lost i d x is = ap is_present (with_at_same i.power d Absent x is)
 
-  -- with a disk lost, some live log disk is there, or a log disk that was missing is alone
+  -- with a disk lost, some live log disk is there, or one that is left alone or was absent is alone
   abbrev IsAlone : Disks → ℕ → ℕ → Type 0
-  IsAlone i d y = (y < 2) × (y ≢ d) × IsEitherMissing i.power before j.meta y × (is_present ((lose d i).power (other_log y)) ≡ false)
+  IsAlone i d y = (y < 2) × (y ≢ d) × IsShunned i y × (is_present ((lose d i).power (other_log y)) ≡ false)
 
   abbrev IsFound : Disks → ℕ → Type 0
   IsFound i d = ((x : ℕ) × IsLive j x × IsPresent (lose d i) x) ⊎ ((y : ℕ) × IsAlone i d y)
 
   found_but_first : (i : Disks) (d : ℕ) → 0 ≡ d → IsFound i d
-  found_but_first i d is = elim (live_or_missing i 1 (omega arith)) [
+  found_but_first i d is = elim (live_or_shunned i 1 (omega arith)) [
     | inr b ↦ inl (1, b.0, still i d 1 (λ e. omega arith) b.1)
     | inl b ↦ inr (1, (omega arith, (λ e. omega arith), b, lost i d 0 is))
   ]
 
-  found_but_second : (i : Disks) (d : ℕ) → IsOneMissing i.power before j.meta → IsEitherMissing i.power before j.meta 0 → IsFound i d
-  found_but_second i d one a = elim (live_or_missing i 1 (omega arith)) [
-    | inl b ↦ let bad : ◌≡◌ {A = ℕ} 0 1 = one.one 0 1 a b in absurd (omega (arith, bad))
+  found_but_second : (i : Disks) (d : ℕ) → IsOneMissing i.power before j.meta → IsShunned i 0 → IsFound i d
+  found_but_second i d one a = elim (live_or_shunned i 1 (omega arith)) [
+    | inl b ↦
+        let bad : ◌≡◌ {A = ℕ} 0 1 = one.one 0 1 (shunned_missing i 0 (omega arith) a) (shunned_missing i 1 (omega arith) b) in
+        absurd (omega (arith, bad))
     | inr b ↦ elim (cases_eq 1 d) [
       | inr apart ↦ inl (1, b.0, still i d 1 apart b.1)
       | inl is ↦ inr (0, (omega arith, (λ e. omega arith), a, lost i d 1 is))
@@ -184,7 +193,7 @@ module _ (j : Job) (before : Meta) (begun : IsBegun j before) where
   ]
 
   found : (i : Disks) (d : ℕ) → IsOneMissing i.power before j.meta → IsFound i d
-  found i d one = elim (live_or_missing i 0 (omega arith)) [
+  found i d one = elim (live_or_shunned i 0 (omega arith)) [
     | inl a ↦ found_but_second i d one a
     | inr a ↦ elim (cases_eq 0 d) [
       | inl is ↦ found_but_first i d is
@@ -193,7 +202,7 @@ module _ (j : Job) (before : Meta) (begun : IsBegun j before) where
   ]
 
   abbrev LeftAside : Disks → Type 0
-  LeftAside i = (y p : ℕ) → named j ≡ Some y → p < 100 → IsPresent i y → i.block y p ≡ j.start.block y p
+  LeftAside i = (y p : ℕ) → y < 2 → named j ≡ Some y → p < 100 → IsPresent i y → i.block y p ≡ j.start.block y p
 
   abbrev Either : Disks → Type 0
   Either = StandsForEither j.start before j.meta j.batch
@@ -203,10 +212,25 @@ module _ (j : Job) (before : Meta) (begun : IsBegun j before) where
 
   -- before the targets are touched
   module _ (i : Disks) (aside : LeftAside i) (early : Early j i) where
-    early_for : (x : ℕ) → IsLive j x → IsPresent i x
+    abbrev Paired : Type 0
+    Paired = IsPaired j before begun i early.kept aside early
+
+    -- where a log disk comes in again, no other one is missing
+    pair_whole : IsOneMissing i.power before j.meta → Paired
+    pair_whole one q live here joining = elim (cases_Bool (is_present (i.power (other_log q)))) [
+      | inl there ↦ there
+      | inr gone ↦
+          let low : other_log q < 2 = (let l = live.0 in omega arith) in
+          let same = one.one (other_log q) q (shunned_missing i (other_log q) low (inl gone))
+          (inl (record { disk = (let n = enough in let l = live.0 in omega arith); is = inr joining.0 })) in
+          let l = live.0 in
+          absurd (omega arith)
+    ]
+
+    early_for : Paired → (x : ℕ) → IsLive j x → IsPresent i x
         → ((z : ℕ) (said : Said) (m : Meta) → Stands i z said → said.meta ≡ m → IsOneOf m → (e f : ℕ) → IsMissing i.power m e → IsMissing i.power m f → e ≡ f) → Either i
-    early_for x live here single_of =
-        let e = early_stands j before begun i early.kept aside early x live here in
+    early_for pair x live here single_of =
+        let e = early_stands j before begun i early.kept aside early pair x live here in
         elim e.3 [
           | inl is ↦ inl (early_for_old j before begun i early.kept aside early e.0 e.1 e.2 is.0 is.1 (single_of e.0 e.1 before e.2 (ap (λ (o : Said). o.meta) is.0) (inl refl)))
           | inr is ↦ inr (early_for_new j before begun i early.kept aside early e.0 e.1 e.2 is.0 is.1 (single_of e.0 e.1 j.meta e.2 (ap (λ (o : Said). o.meta) is.0) (inr refl)))
@@ -215,7 +239,7 @@ module _ (j : Job) (before : Meta) (begun : IsBegun j before) where
     early_whole : IsOneMissing i.power before j.meta → Either i
     early_whole one =
         let l = one_live i one in
-        early_for l.0 l.1 l.2 (λ z said m s is of_two. single i.power m of_two one)
+        early_for (pair_whole one) l.0 l.1 l.2 (λ z said m s is of_two. single i.power m of_two one)
 
     early_kind : (z : ℕ) (said : Said) → ((said ≡ closed_over before) × (named_out before.out ≢ Some z)) ⊎ ((said ≡ open_with j) × IsLive j z) → IsOneOf said.meta
     early_kind z said (inl is) = inl (ap (λ (o : Said). o.meta) is.0)
@@ -226,10 +250,10 @@ module _ (j : Job) (before : Meta) (begun : IsBegun j before) where
       early_alone : (y : ℕ) → IsAlone i d y → Either (lose d i)
       early_alone y alone =
           let l = one_live i one in
-          let e = early_stands j before begun i early.kept aside early l.0 l.1 l.2 in
-          let b = left_behind i one d weak e.0 e.1 e.2 (early_kind e.0 e.1 e.3) early.kept y alone.0 alone.1 alone.2 in
+          let e = early_stands j before begun i early.kept aside early (pair_whole one) l.0 l.1 l.2 in
+          let b = left_behind i one d weak e.0 e.1 e.2 (early_kind e.0 e.1 e.3) y alone.0 alone.1 alone.2 in
           elim e.3 [
-            | inr is ↦ absurd (b.2 (ap (λ (o : Said). named_out o.meta.out) is.0 ∙ b.1))
+            | inr is ↦ absurd (b.2 (ap (λ (o : Said). named_out o.meta.out) is.0 ∙ sym begun.names ∙ b.1))
             | inl is ↦
                 let not : named_out before.out ≢ Some y = λ q. b.2 (ap (λ (o : Said). named_out o.meta.out) is.0 ∙ q) in
                 let says = aside_old j before begun (lose d i) early_too.kept aside_too y alone.0 b.1 (still i d y alone.1 b.0) not in
@@ -241,19 +265,57 @@ module _ (j : Job) (before : Meta) (begun : IsBegun j before) where
       (aside_too : LeftAside (lose d i)) (early_too : Early j (lose d i)) → Either (lose d i)
   early_lost i aside early one d weak aside_too early_too =
       let l = one_live i one in
-      let e = early_stands j before begun i early.kept aside early l.0 l.1 l.2 in
+      let pair = pair_whole i aside early one in
+      let e = early_stands j before begun i early.kept aside early pair l.0 l.1 l.2 in
       elim (found i d one) [
         | inr alone ↦ early_alone i aside early one d weak aside_too early_too alone.0 alone.1
-        | inl live ↦ early_for (lose d i) aside_too early_too live.0 live.1 live.2
+        | inl live ↦ early_for (lose d i) aside_too early_too (pair_lost pair) live.0 live.1 live.2
             (λ z said m s is of_two. single_lost i one d weak e.0 e.1 e.2 (early_kind i aside early e.0 e.1 e.3) z said m s.log_disk s.says is of_two)
       ]
+    where
+      -- the one that comes in again is then the weak disk, so the other one is not the one that is lost
+      pair_lost : IsPaired j before begun i early.kept aside early → IsPaired j before begun (lose d i) early_too.kept aside_too early_too
+      pair_lost pair q live here joining = elim (cases_eq q d) [
+        | inl is ↦ absurd (false≢true (sym (lost i d q is) ∙ here))
+        | inr apart ↦
+            let here_was : IsPresent i q = ap is_present (sym (with_at_other i.power d Absent q apart)) ∙ here in
+            let there = pair q live here_was joining in
+            let s = early_joining j before begun i early.kept aside early q live here_was joining there in
+            let is = weak q (out_weak (other_log q) (closed_over before) s.0 (out_named i.power before q joining.0)) in
+            absurd (apart is)
+      ]
+
+  -- the weak disk is missing by one of the two metas
+  weak_missing : (i : Disks) (x : ℕ) (said : Said) → Stands i x said → IsOneOf said.meta
+      → (out_disk i.power said.meta ≡ None → (o : Said) → Says i (other_log x) o → IsOneOf o.meta) → (w : ℕ) → IsWeak i w → IsEitherMissing i.power before j.meta w
+  weak_missing i x said s of_two others w (out_weak y o t is) =
+      let same = (Stands-same i x y said o s t).1 in
+      let is_now : out_disk i.power said.meta ≡ Some w = ap (λ (u : Said). out_disk i.power u.meta) same ∙ is in
+      either i.power said.meta w of_two (out_missing i.power said.meta w (in_range said.meta of_two) is_now)
+  weak_missing i x said s of_two others w (named_weak y o other t none says name) =
+      let same = Stands-same i x y said o s t in
+      let none_now : out_disk i.power said.meta ≡ None = ap (λ (u : Said). out_disk i.power u.meta) same.1 ∙ none in
+      let other_two = others none_now other (subst (λ (z : ℕ). Says i (other_log z) other) (sym same.0) says) in
+      either i.power other.meta w other_two (record { disk = named_below other.meta.setup.geometry other.meta.gear other.meta.out w (in_range other.meta other_two).out name; is = inr name })
+
+  early_weak : (i : Disks) (aside : LeftAside i) (early : Early j i) → IsOneMissing i.power before j.meta → (w : ℕ) → IsWeak i w → IsEitherMissing i.power before j.meta w
+  early_weak i aside early one w weak =
+      let l = one_live i one in
+      let e = early_stands j before begun i early.kept aside early (pair_whole i aside early one) l.0 l.1 l.2 in
+      weak_missing i e.0 e.1 e.2 (early_kind i aside early e.0 e.1 e.3)
+      (λ none o says. one_of o (early_other j before begun i early.kept aside early e.0 e.1 e.2 e.3 none o says)) w weak
+    where
+      one_of : (o : Said) → (o ≡ closed_over before) ⊎ (o ≡ open_with j) → IsOneOf o.meta
+      one_of o (inl is) = inl (ap (λ (u : Said). u.meta) is)
+      one_of o (inr is) = inr (ap (λ (u : Said). u.meta) is)
 
   -- and from then on
   late_of : (i : Disks) → LeftAside i → Late j i → (x : ℕ) → IsLive j x → IsPresent i x
       → ((z : ℕ) (said : Said) → Stands i z said → said.meta ≡ j.meta → (e f : ℕ) → IsMissing i.power j.meta e → IsMissing i.power j.meta f → e ≡ f) → New i
   late_of i aside late x live here single_of =
-      let e = late_stands j before begun i late.kept aside late x live here in
-      late_for j before begun i late.kept aside late e.0 e.1 e.2 e.3 e.4 (single_of e.0 e.1 e.2 (late_meta e.1 e.3))
+      let b = begun_brought j before begun in
+      let e = late_stands j b i late.kept aside late x live here in
+      late_for j b i late.kept aside late e.0 e.1 e.2 e.3 e.4 (single_of e.0 e.1 e.2 (late_meta e.1 e.3))
     where
       late_meta : (said : Said) → (said ≡ open_with j) ⊎ (said ≡ closed_over j.meta) → said.meta ≡ j.meta
       late_meta said (inl is) = ap (λ (o : Said). o.meta) is
@@ -273,9 +335,15 @@ module _ (j : Job) (before : Meta) (begun : IsBegun j before) where
         | inl live ↦ late_of (lose d i) aside_too late_too live.0 live.1 live.2
             (λ z said s is. single_lost i one d weak whole.disk whole.said whole.log.stands of_two z said j.meta s.log_disk s.says is (inr refl))
         | inr alone ↦
-            let b = left_behind i one d weak whole.disk whole.said whole.log.stands of_two late.kept alone.0 alone.1.0 alone.1.1 alone.1.2 in
-            absurd (b.2 (ap (λ (m : Meta). named_out m.out) whole.meta ∙ b.1))
+            let b = left_behind i one d weak whole.disk whole.said whole.log.stands of_two alone.0 alone.1.0 alone.1.1 alone.1.2 in
+            absurd (b.2 (ap (λ (m : Meta). named_out m.out) whole.meta ∙ sym begun.names ∙ b.1))
       ]
+
+  late_weak : (i : Disks) → LeftAside i → Late j i → IsOneMissing i.power before j.meta → (w : ℕ) → IsWeak i w → IsEitherMissing i.power before j.meta w
+  late_weak i aside late one w weak =
+      let whole = late_whole i aside late one in
+      weak_missing i whole.disk whole.said whole.log.stands (inr whole.meta)
+      (λ none o says. inr (late_other j (begun_brought j before begun) i late.kept aside late whole.disk whole.said whole.log.stands whole.meta none o says)) w weak
 
   pub late_images : (s : Disks) → ((i : Disks) → IsLeft s i → Late j i) → ((i : Disks) → IsLeft s i → LeftAside i) → IsEachImage before j.meta New s
   late_images s late aside = record {
@@ -295,12 +363,18 @@ module _ (j : Job) (before : Meta) (begun : IsBegun j before) where
         early_lost i (aside i left) (early i left) one d weak (aside (lose d i) left_too) (early (lose d i) left_too);
   }
 
-  pub whole_images : (s : Disks) → Whole j s → IsEachImage before j.meta Either s
+  pub whole_images : (s : Disks) → Whole j s → IsOldOrNew j.start before j.meta j.batch s
   whole_images s w = elim w.either [
-    | inl early ↦ early_images s early w.aside
+    | inl early ↦ record {
+      images = early_images s early w.aside;
+      weak = λ i d image one weak. let left = image_left s i image in early_weak i (w.aside i left) (early i left) one d weak;
+    }
     | inr late ↦
         let new = late_images s late w.aside in
-        record { whole = λ i image one. inr (new.whole i image one); lost = λ i d image one weak. inr (new.lost i d image one weak) }
+        record {
+          images = record { whole = λ i image one. inr (new.whole i image one); lost = λ i d image one weak. inr (new.lost i d image one weak) };
+          weak = λ i d image one weak. let left = image_left s i image in late_weak i (w.aside i left) (late i left) one d weak;
+        }
   ]
 
   -- the first stage holds at the start
@@ -309,13 +383,13 @@ module _ (j : Job) (before : Meta) (begun : IsBegun j before) where
     core = record {
       beside = record {
         kept = record { present = λ d here. here; power = λ d here. refl; size = λ d here. refl; large = large };
-        aside = record { log = λ y p is lt. record { holds = λ here. (begun.rest.dry y p here, refl) } };
+        aside = record { log = λ y p log_disk is lt. record { holds = λ here. (begun.rest.dry y p here, refl) } };
       };
       meta = λ x live. record { holds = λ here. (begun.rest.dry x 1 here, refl) };
       shut = λ x live. record {
         holds = λ here.
             let enough_places = large x live here in
-            (begun.rest.dry x 0 here, ap is_open (sym (stored_here j.start x 0 here (omega arith))) ∙ begun.rest.shut x live.0 here (live_was_in x live here));
+            (begun.rest.dry x 0 here, ap is_open (sym (stored_here j.start x 0 here (omega arith))) ∙ was_shut x live here);
       };
       logged = λ x lt live. absurd (omega arith);
       held = λ d p far. record { holds = λ here. (begun.rest.dry d p here, refl) };
@@ -323,8 +397,11 @@ module _ (j : Job) (before : Meta) (begun : IsBegun j before) where
     dry = record { dry = λ d p. record { holds = λ here. (begun.rest.dry d p here, tt) } };
   }
     where
-      live_was_in : (x : ℕ) → IsLive j x → IsPresent j.start x → named_out before.out ≢ Some x
-      live_was_in x live here is = live.1 (begun.next.stays_out x live.0 here is)
+      was_shut : (x : ℕ) → IsLive j x → IsPresent j.start x → is_open (stored j.start x 0) ≡ false
+      was_shut x live here = elim (decide_some (named_out before.out) x) [
+        | inl is ↦ joining_shut j before begun x live here is
+        | inr not ↦ begun.rest.shut x live.0 here not
+      ]
 
   -- the last stage is what a commit promises at its end
   module _ (s : Disks) (c : Close j 2 s) where
@@ -333,20 +410,21 @@ module _ (j : Job) (before : Meta) (begun : IsBegun j before) where
 
     all_shut : AreShut s j.meta
     all_shut x low here not =
-        let large = c.core.beside.kept.large x (low, not) here in
-        ap is_open (stored_here s x 0 here (omega arith)) ∙ ((c.core.shut x low (low, not)).holds here).1
+        let live : IsLive j x = (low, λ e. not (sym begun.names ∙ e)) in
+        let large = c.core.beside.kept.large x live here in
+        ap is_open (stored_here s x 0 here (omega arith)) ∙ ((c.core.shut x low live).holds here).1
 
     all_dry : IsDrained s
     all_dry d p here = ((c.dry.dry d p).holds here).0
 
-    whole : Whole j s
+    whole : Later j s
     whole = closing_whole j begun.good 2 s c.core
 
     at_rest : IsOneMissing s.power before j.meta → IsAtRest s j.meta
     at_rest one =
         let late = closing_late j begun.good 2 s c.core s self_left in
         let for = late_whole s (whole.aside s self_left) late one in
-        let in_array : named j ≢ Some for.disk = λ e. for.log.standing_in (ap (λ (m : Meta). named_out m.out) for.meta ∙ e) in
+        let in_array : named_out j.meta.out ≢ Some for.disk = λ e. for.log.standing_in (ap (λ (m : Meta). named_out m.out) for.meta ∙ e) in
         let closed : for.said.opened ≡ false = sym for.log.stands.says.gate ∙ all_shut for.disk for.log.stands.log_disk for.log.stands.says.present in_array in
         record {
           dry = all_dry;

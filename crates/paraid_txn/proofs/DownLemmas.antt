@@ -18,7 +18,9 @@ Lasts-none a s = record {
   power = λ d there. refl;
   size = λ d there. refl;
   no_fall = λ d. omega arith;
+  each = λ d. inr (record { faults = refl; power = refl; size = refl });
   down = λ d is. inl is;
+  remains = λ d is. is;
   stays = λ d is. is;
   lost = λ d is. inl is;
   absent = λ d is. inl is;
@@ -40,6 +42,14 @@ Lasts-then a b c s t u first second = record {
   power = λ d there. second.power d there ∙ first.power d (Lasts-present b c t u d second there);
   size = λ d there. second.size d there ∙ first.size d (Lasts-present b c t u d second there);
   no_fall = λ d. (let before = first.no_fall d in let after = second.no_fall d in omega arith);
+  each = λ d. elim (second.each d) [
+    | inl risen ↦ inl (HasRisen-sooner (s d).faults (t d).faults (u d).faults (first.no_fall d) risen)
+    | inr well ↦ elim (first.each d) [
+      | inl risen ↦ inl (HasRisen-later (s d).faults (t d).faults (u d).faults risen (second.no_fall d))
+      | inr was ↦ inr (record { faults = well.faults ∙ was.faults; power = well.power ∙ was.power; size = well.size ∙ was.size })
+    ]
+  ];
+  remains = λ d is. second.remains d (first.remains d is);
   down = λ d is. elim (second.down d is) [
     | inl was ↦ elim (first.down d was) [ inl at_first ↦ inl at_first | inr lost ↦ inr (second.stays d lost) ]
     | inr lost ↦ inr lost
@@ -79,12 +89,15 @@ Lasts-absent a b s t d lasts none is = elim (lasts.absent d is) [
 
 -- no call
 pub AreOthersWell-none : (a : Losses) (s : ℕ → Slot) → AreOthersWell a s s
-AreOthersWell-none a s = λ d not. refl
+AreOthersWell-none a s = λ d not. record { faults = refl; power = refl; size = refl }
 
 -- what was lost in the first part stays lost in the second
 pub AreOthersWell-then : (a b c : Losses) (s t u : ℕ → Slot) → Lasts a b s t → Lasts b c t u → AreOthersWell b s t → AreOthersWell c t u
     → AreOthersWell c s u
-AreOthersWell-then a b c s t u before lasts first second d not = second d not ∙ first d (λ is. not (lasts.stays d is))
+AreOthersWell-then a b c s t u before lasts first second d not =
+    let one = first d (λ is. not (lasts.stays d is)) in
+    let two = second d not in
+    record { faults = two.faults ∙ one.faults; power = two.power ∙ one.power; size = two.size ∙ one.size }
 
 -- no call
 pub AreDryBut-none : (may : ℕ → Type 0) (s : ℕ → Slot) → AreDryBut may s s

@@ -11,10 +11,11 @@ use Rattle.paraid_rack.specs.Trail.{Trail, now}
 use Rattle.paraid_record.specs.declared.targets.Target.{Target}
 use Rattle.paraid_rack.proofs.TrailsLemmas.{stays, then, weaker}
 use Rattle.paraid_txn.specs.Losses.{MayDo}
-use Rattle.paraid_txn.specs.Sides.{is_open}
-use Rattle.paraid_txn.specs.Stages.{Close, CloseIn, IsSpelled, Job, LayIn, Log, LogIn, LogMeta, Mark, MarkIn, Open, OpenIn, SettleIn, Whole, body, gone, named}
+use Rattle.paraid_image.specs.Sides.{is_open}
+use Rattle.paraid_txn.specs.Stages.{Close, CloseIn, Earlier, IsSpelled, Job, Later, LayIn, Log, LogIn, LogMeta, Mark, MarkIn, Open, OpenIn, SettleIn, body, gone, named, turn}
 use Rattle.paraid_txn.specs.Staging.{names_disk}
 use Rattle.paraid_txn.proofs.PutsLemmas.{put_ran, settle_ran}
+use Rattle.paraid_txn.proofs.RanLemmas.{through_milder}
 use Rattle.paraid_txn.proofs.StepsLemmas.{close_sync, close_write, lay_one, log_block, log_list, log_meta, log_sync, mark_sync, mark_write, open_sync, open_write, settle_none, settle_one}
 use Rattle.paraid_txn.proofs.TargetsLemmas.{names-no_disk, target_at}
 use Rattle.paraid_txn.proofs.WholeLemmas.{closing_whole, laying_whole, logging_whole, marking_whole, opening_whole}
@@ -35,42 +36,54 @@ from {P} {A} {A'} {B} {old} {new} is ran = weaker P A A' B B old new is (λ s b.
 pub upto : {P A B B' : Disks → Type 0} {old new : Option Trail} → ((s : Disks) → B s → B' s) → Ran old new (Runs P A B) → Ran old new (Runs P A B')
 upto {P} {A} {B} {B'} {old} {new} is ran = weaker P A A B B' old new (λ s a. a) is ran
 
+-- one of which less is said at each moment
+pub milder : {P Q A B : Disks → Type 0} {old new : Option Trail} → ((s : Disks) → P s → Q s) → Ran old new (Runs P A B) → Ran old new (Runs Q A B)
+milder {P} {Q} {A} {B} {old} {new} is ran t tells =
+    let r = ran t tells in
+    record {
+      from = r.from;
+      was = r.was;
+      calls = r.calls;
+      is = r.is;
+      holds = record { goes = λ a. let b = r.holds.goes a in (through_milder P Q is (now r.from) r.calls b.0, b.1) };
+    }
+
 -- no call
 pub nothing_ran : {P A : Disks → Type 0} {told : Option Trail} → ((s : Disks) → A s → P s) → Ran told told (Runs P A A)
 nothing_ran {P} {A} {told} is = stays P A A told is (λ t tells a. a)
 
 module _ (j : Job) (good : IsSpelled j) where
-  pub log_whole : (k : ℕ) (s : Disks) → Log j k s → Whole j s
+  pub log_whole : (k : ℕ) (s : Disks) → Log j k s → Earlier j s
   log_whole k s c = logging_whole j good k s c.core
 
-  pub log_meta_whole : (k : ℕ) (s : Disks) → LogMeta j k s → Whole j s
+  pub log_meta_whole : (k : ℕ) (s : Disks) → LogMeta j k s → Earlier j s
   log_meta_whole k s c = logging_whole j good k s c.core
 
-  pub log_in_whole : (k n : ℕ) (s : Disks) → LogIn j k n s → Whole j s
+  pub log_in_whole : (k n : ℕ) (s : Disks) → LogIn j k n s → Earlier j s
   log_in_whole k n s c = logging_whole j good k s c.core
 
-  pub open_whole : (k : ℕ) (s : Disks) → Open j k s → Whole j s
+  pub open_whole : (k : ℕ) (s : Disks) → Open j k s → Earlier j s
   open_whole k s c = opening_whole j good k s c.core
 
-  pub open_in_whole : (k : ℕ) (s : Disks) → OpenIn j k s → Whole j s
+  pub open_in_whole : (k : ℕ) (s : Disks) → OpenIn j k s → Earlier j s
   open_in_whole k s c = opening_whole j good k s c.core
 
-  pub lay_whole : (n : ℕ) (s : Disks) → LayIn j n s → Whole j s
+  pub lay_whole : (n : ℕ) (s : Disks) → LayIn j n s → Later j s
   lay_whole n s c = laying_whole j good s c.core
 
-  pub settle_whole : (n : ℕ) (s : Disks) → SettleIn j n s → Whole j s
+  pub settle_whole : (n : ℕ) (s : Disks) → SettleIn j n s → Later j s
   settle_whole n s c = laying_whole j good s c.core
 
-  pub mark_whole : (k : ℕ) (s : Disks) → Mark j k s → Whole j s
+  pub mark_whole : (k : ℕ) (s : Disks) → Mark j k s → Later j s
   mark_whole k s c = marking_whole j good k s c.core
 
-  pub mark_in_whole : (k : ℕ) (s : Disks) → MarkIn j k s → Whole j s
+  pub mark_in_whole : (k : ℕ) (s : Disks) → MarkIn j k s → Later j s
   mark_in_whole k s c = marking_whole j good k s c.core
 
-  pub close_whole : (k : ℕ) (s : Disks) → Close j k s → Whole j s
+  pub close_whole : (k : ℕ) (s : Disks) → Close j k s → Later j s
   close_whole k s c = closing_whole j good k s c.core
 
-  pub close_in_whole : (k : ℕ) (s : Disks) → CloseIn j k s → Whole j s
+  pub close_in_whole : (k : ℕ) (s : Disks) → CloseIn j k s → Later j s
   close_in_whole k s c = closing_whole j good k s c.core
 
 -- Each call by itself
@@ -85,50 +98,56 @@ of : {old new : Option Trail} {slot : ℕ → Slot} {skip : Option ℕ} {d d' p 
     → MayDo old new slot skip d' (λ done. Write d' p' b' done) → MayDo old new slot skip d (λ done. Write d p b done)
 of is at same may = rw (is, at, same) may
 
+of_sync : {old new : Option Trail} {slot : ℕ → Slot} {skip : Option ℕ} {d d' : ℕ} → d ≡ d'
+    → MayDo old new slot skip d' (λ done. Sync d' done) → MayDo old new slot skip d (λ done. Sync d done)
+of_sync is may = rw is may
+
 module _ (j : Job) (good : IsSpelled j) {old new : Option Trail} {slot : ℕ → Slot} (agrees : (t : Trail) → old ≡ Some t → Agrees (now t) slot) {skip : Option ℕ} where
   module _ (is : named j ≡ skip) (k : ℕ) where
-    pub log_meta_ran : {b : Block} → j.spelled ≡ b → MayDo old new slot skip k (λ done. Write k 2 b done) → Ran old new (Runs (Whole j) (Log j k) (LogMeta j k))
+    pub log_meta_ran : {b : Block} → j.spelled ≡ b → MayDo old new slot skip k (λ done. Write k 2 b done) → Ran old new (Runs (Earlier j) (Log j k) (LogMeta j k))
     log_meta_ran same may = put_ran agrees (of refl refl same (by is may)) (log_whole j good k) (log_meta_whole j good k) (log_meta j good k)
 
-    pub log_list_ran : {b : Block} → j.list ≡ b → MayDo old new slot skip k (λ done. Write k 3 b done) → Ran old new (Runs (Whole j) (LogMeta j k) (LogIn j k 0))
+    pub log_list_ran : {b : Block} → j.list ≡ b → MayDo old new slot skip k (λ done. Write k 3 b done) → Ran old new (Runs (Earlier j) (LogMeta j k) (LogIn j k 0))
     log_list_ran same may = put_ran agrees (of refl refl same (by is may)) (log_meta_whole j good k) (log_in_whole j good k 0) (log_list j good k)
 
     pub log_block_ran : (n : ℕ) {p : ℕ} {b : Block} → n < length j.batch → 4 + n ≡ p → body j n ≡ b → MayDo old new slot skip k (λ done. Write k p b done)
-        → Ran old new (Runs (Whole j) (LogIn j k n) (LogIn j k (n + 1)))
+        → Ran old new (Runs (Earlier j) (LogIn j k n) (LogIn j k (n + 1)))
     log_block_ran n lt at same may = put_ran agrees (of refl at same (by is may)) (log_in_whole j good k n) (log_in_whole j good k (n + 1)) (λ s s' w a. log_block j good k n s s' lt w a)
 
-    pub log_sync_ran : MayDo old new slot skip k (λ done. Sync k done) → Ran old new (Runs (Whole j) (LogIn j k (length j.batch)) (Log j (k + 1)))
+    pub log_sync_ran : MayDo old new slot skip k (λ done. Sync k done) → Ran old new (Runs (Earlier j) (LogIn j k (length j.batch)) (Log j (k + 1)))
     log_sync_ran may = settle_ran agrees (by is may) (log_in_whole j good k (length j.batch)) (log_whole j good (k + 1)) (log_sync j good k)
 
-    pub open_write_ran : (b : Block) → is_open b ≡ true → MayDo old new slot skip k (λ done. Write k 0 b done) → Ran old new (Runs (Whole j) (Open j k) (OpenIn j k))
-    open_write_ran b opens may = put_ran agrees (by is may) (open_whole j good k) (open_in_whole j good k) (λ s s' w a. open_write j good k b s s' opens w a)
+    -- the disk whose turn it is
+    pub open_write_ran : {d : ℕ} (b : Block) → k < 2 → turn j k ≡ d → is_open b ≡ true → MayDo old new slot skip d (λ done. Write d 0 b done)
+        → Ran old new (Runs (Earlier j) (Open j k) (OpenIn j k))
+    open_write_ran b low at opens may = put_ran agrees (of at refl refl (by is may)) (open_whole j good k) (open_in_whole j good k) (λ s s' w a. open_write j good k b s s' low opens w a)
 
-    pub open_sync_ran : MayDo old new slot skip k (λ done. Sync k done) → Ran old new (Runs (Whole j) (OpenIn j k) (Open j (k + 1)))
-    open_sync_ran may = settle_ran agrees (by is may) (open_in_whole j good k) (open_whole j good (k + 1)) (open_sync j good k)
+    pub open_sync_ran : {d : ℕ} → turn j k ≡ d → MayDo old new slot skip d (λ done. Sync d done) → Ran old new (Runs (Earlier j) (OpenIn j k) (Open j (k + 1)))
+    open_sync_ran at may = settle_ran agrees (of_sync at (by is may)) (open_in_whole j good k) (open_whole j good (k + 1)) (open_sync j good k)
 
-    pub mark_write_ran : {b : Block} → j.spelled ≡ b → MayDo old new slot skip k (λ done. Write k 1 b done) → Ran old new (Runs (Whole j) (Mark j k) (MarkIn j k))
+    pub mark_write_ran : {b : Block} → j.spelled ≡ b → MayDo old new slot skip k (λ done. Write k 1 b done) → Ran old new (Runs (Later j) (Mark j k) (MarkIn j k))
     mark_write_ran same may = put_ran agrees (of refl refl same (by is may)) (mark_whole j good k) (mark_in_whole j good k) (mark_write j good k)
 
-    pub mark_sync_ran : MayDo old new slot skip k (λ done. Sync k done) → Ran old new (Runs (Whole j) (MarkIn j k) (Mark j (k + 1)))
+    pub mark_sync_ran : MayDo old new slot skip k (λ done. Sync k done) → Ran old new (Runs (Later j) (MarkIn j k) (Mark j (k + 1)))
     mark_sync_ran may = settle_ran agrees (by is may) (mark_in_whole j good k) (mark_whole j good (k + 1)) (mark_sync j good k)
 
-    pub close_write_ran : (b : Block) → is_open b ≡ false → MayDo old new slot skip k (λ done. Write k 0 b done) → Ran old new (Runs (Whole j) (Close j k) (CloseIn j k))
+    pub close_write_ran : (b : Block) → is_open b ≡ false → MayDo old new slot skip k (λ done. Write k 0 b done) → Ran old new (Runs (Later j) (Close j k) (CloseIn j k))
     close_write_ran b shuts may = put_ran agrees (by is may) (close_whole j good k) (close_in_whole j good k) (λ s s' w a. close_write j good k b s s' shuts w a)
 
-    pub close_sync_ran : MayDo old new slot skip k (λ done. Sync k done) → Ran old new (Runs (Whole j) (CloseIn j k) (Close j (k + 1)))
+    pub close_sync_ran : MayDo old new slot skip k (λ done. Sync k done) → Ran old new (Runs (Later j) (CloseIn j k) (Close j (k + 1)))
     close_sync_ran may = settle_ran agrees (by is may) (close_in_whole j good k) (close_whole j good (k + 1)) (close_sync j good k)
 
   module _ (is : gone j ≡ skip) (n : ℕ) where
     pub lay_ran : (t : Target) {b : Block} → n < length j.batch → target_at j.batch n ≡ t → 100 ≤ t.place → body j n ≡ b
-        → MayDo old new slot skip t.disk (λ done. Write t.disk t.place b done) → Ran old new (Runs (Whole j) (LayIn j n) (LayIn j (n + 1)))
+        → MayDo old new slot skip t.disk (λ done. Write t.disk t.place b done) → Ran old new (Runs (Later j) (LayIn j n) (LayIn j (n + 1)))
     lay_ran t lt at far same may = put_ran agrees (of (ap (λ (u : Target). u.disk) at) (ap (λ (u : Target). u.place) at) same (by is may))
         (lay_whole j good n) (lay_whole j good (n + 1)) (λ s s' w a. lay_one j good n s s' lt (subst (λ (u : Target). 100 ≤ u.place) (sym at) far) w a)
 
-    pub settle_one_ran : MayDo old new slot skip n (λ done. Sync n done) → Ran old new (Runs (Whole j) (SettleIn j n) (SettleIn j (n + 1)))
+    pub settle_one_ran : MayDo old new slot skip n (λ done. Sync n done) → Ran old new (Runs (Later j) (SettleIn j n) (SettleIn j (n + 1)))
     settle_one_ran may = settle_ran agrees (by is may) (settle_whole j good n) (settle_whole j good (n + 1)) (settle_one j good n)
 
 -- a disk that has no targets gets no sync
 module _ (j : Job) (good : IsSpelled j) {told : Option Trail} where
-  pub settle_none_ran : (n : ℕ) → names_disk j.batch n ≡ false → Ran told told (Runs (Whole j) (SettleIn j n) (SettleIn j (n + 1)))
-  settle_none_ran n off = stays (Whole j) (SettleIn j n) (SettleIn j (n + 1)) told (settle_whole j good (n + 1))
+  pub settle_none_ran : (n : ℕ) → names_disk j.batch n ≡ false → Ran told told (Runs (Later j) (SettleIn j n) (SettleIn j (n + 1)))
+  settle_none_ran n off = stays (Later j) (SettleIn j n) (SettleIn j (n + 1)) told (settle_whole j good (n + 1))
       (λ t tells a. settle_none j good n (now t) (λ p. names-no_disk j.batch n p off) a)

@@ -6,7 +6,7 @@ use Rattle.paraid_record.specs.declared.targets.Target.{Target}
 use Rattle.paraid_txn.specs.declared.losses.Losses.{Losses}
 use Rattle.paraid_txn.specs.Losses.{CanWrite, Lasts}
 use Rattle.paraid_txn.specs.Ready.{AreTargetsReady, IsLogReady}
-use Rattle.paraid_txn.specs.Sides.{Batch, targets}
+use Rattle.paraid_image.specs.Sides.{Batch, targets}
 use Rattle.paraid_txn.specs.Staging.{names_disk}
 use Rattle.paraid_txn.proofs.DownLemmas.{CanWrite-later, CanWrite-lower}
 use Rattle.paraid_txn.proofs.TargetsLemmas.{target_on}

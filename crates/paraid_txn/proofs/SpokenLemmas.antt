@@ -11,15 +11,19 @@ use Rattle.paraid_rack.specs.Disks.{Disks, IsPresent, is_present}
 use Rattle.paraid_record.specs.declared.meta.Meta.{Meta}
 use Rattle.paraid_record.specs.declared.targets.Target.{Target}
 use Rattle.paraid_record.specs.Range.{IsInRange}
-use Rattle.paraid_txn.specs.Commit.{IsAtRest, IsNext, closed_over}
-use Rattle.paraid_txn.specs.Out.{first_absent, named_out, or_else, out_disk}
-use Rattle.paraid_txn.specs.Sides.{Said, Says, Spells, has_place, is_open, stored, targets}
-use Rattle.paraid_txn.specs.Stages.{IsKept, IsLive, IsSpelled, Job, gone}
-use Rattle.paraid_txn.specs.Standing.{Stands, is_first, other_log, stands_before}
-use Rattle.paraid_txn.proofs.NeutralLemmas.{SaysBy-kept, few_logged}
-use Rattle.paraid_txn.proofs.OutLemmas.{first_absent_is}
-use Rattle.paraid_txn.proofs.SidesLemmas.{Says-same}
-use Rattle.paraid_txn.proofs.UnseenLemmas.{pair_same}
+use Rattle.paraid_image.specs.Rest.{IsAtRest, closed_over}
+use Rattle.paraid_txn.specs.Commit.{IsNext}
+use Rattle.paraid_image.specs.Out.{first_absent, named_out, or_else, out_disk}
+use Rattle.paraid_image.specs.Sides.{Said, Says, Spells, has_place, is_open, stored, targets}
+use Rattle.paraid_image.specs.Sound.{IsFresh}
+use Rattle.paraid_txn.specs.Stages.{IsKept, IsLive, IsSpelled, Job, gone, named, open_with}
+use Rattle.paraid_image.specs.Standing.{Stands, is_first, other_log, stands_before}
+use Rattle.paraid_image.proofs.NeutralLemmas.{SaysBy-kept, few_logged}
+use Rattle.paraid_image.proofs.OpenLemmas.{greater_before}
+use Rattle.paraid_image.proofs.OutLemmas.{first_absent_is}
+use Rattle.paraid_image.proofs.SidesLemmas.{Says-same}
+use Rattle.paraid_image.proofs.StepLemmas.{decide_some}
+use Rattle.paraid_image.proofs.UnseenLemmas.{pair_same}
 use Rattle.paraid_txn.proofs.WholeLemmas.{stored_here}
 
 -- which log disk stands
@@ -61,11 +65,57 @@ out_present power m y here not = split (named_out m.out) refl
     split (Some e) is same = not (is ∙ same)
     split None is same = false≢true (sym (first_absent_is power m.setup.geometry.disks y same).1 ∙ here)
 
+-- What is known of the disks with which the batch stands in the log of each live log disk: a log
+-- disk that is left alone comes second.
+pub record IsBrought (j : Job) : Type 0 where
+  pub good : IsSpelled j
+  pub names : named j ≡ named_out j.meta.out
+  pub fresh_shut : (d rebuilt : ℕ) → IsFresh j.start.power j.meta d rebuilt → d < 2 → is_open (stored j.start d 0) ≡ false
+  pub second : (y : ℕ) (o : Said) → y < 2 → named j ≡ Some y → Says j.start y o → stands_before (other_log y) (open_with j) o ≡ true
+  pub spins : (t : Target) → Contains (targets j.batch) t → gone j ≢ Some t.disk → IsPresent j.start t.disk → j.start.power t.disk ≡ Spinning
+
+module _ (j : Job) (i : Disks) (kept : IsKept j i) where
+  -- the same block in a place that is there
+  pub stored_start : (y p : ℕ) → IsPresent i y → i.block y p ≡ j.start.block y p → stored i y p ≡ stored j.start y p
+  unfolding stored
+  stored_start y p here same =
+      ap (λ (t : Power). if (is_present t && nat_lt p (i.size y)) then i.block y p else zeroed) (kept.power y here)
+      ∙ ap (λ (n : ℕ). if (is_present (j.start.power y) && nat_lt p n) then i.block y p else zeroed) (kept.size y here)
+      ∙ ap (λ (b : Block). if (is_present (j.start.power y) && nat_lt p (j.start.size y)) then b else zeroed) same
+
+  pub place_start : (d p : ℕ) → has_place i d p ≡ true → IsPresent i d → has_place j.start d p ≡ true
+  place_start d p there here =
+      ap (λ (t : Power). is_present t && nat_lt p (j.start.size d)) (sym (kept.power d here))
+      ∙ ap (λ (n : ℕ). is_present (i.power d) && nat_lt p n) (sym (kept.size d here)) ∙ there
+
+  -- a log disk that is left alone says what it said
+  module _ (y : ℕ) (here : IsPresent i y) (same : (p : ℕ) → p < 100 → i.block y p ≡ j.start.block y p) where
+    at : (p : ℕ) → p < 100 → stored i y p ≡ stored j.start y p
+    at p lt = stored_start y p here (same p lt)
+
+    pub aside_said : (o : Said) → Says i y o → Says j.start y o
+    aside_said o s = record {
+      present = kept.present y here;
+      gate = ap is_open (sym (at 0 (omega arith))) ∙ s.gate;
+      log = SaysBy-kept o.opened (stored i y) (stored j.start y) o.meta o.batch (λ shut. sym (at 1 (omega arith)))
+          (λ opened q low high. let few = few_logged o.opened (stored i y) o.meta o.batch s.log in sym (at q (omega arith))) s.log;
+    }
+
+    pub aside_says : (o : Said) → Says j.start y o → Says i y o
+    aside_says o s = record {
+      present = here;
+      gate = ap is_open (at 0 (omega arith)) ∙ s.gate;
+      log = SaysBy-kept o.opened (stored j.start y) (stored i y) o.meta o.batch (λ shut. at 1 (omega arith))
+          (λ opened q low high. let few = few_logged o.opened (stored j.start y) o.meta o.batch s.log in at q (omega arith)) s.log;
+    }
+
 -- what is known of the disks with which a commit begins
 pub record IsBegun (j : Job) (before : Meta) : Type 0 where
   pub good : IsSpelled j
+  pub names : named j ≡ named_out j.meta.out
   pub rest : IsAtRest j.start before
   pub next : IsNext j.start before j.meta
+  pub joins_first : (x : ℕ) → x < 2 → named_out before.out ≡ Some x → named_out j.meta.out ≢ Some x → j.first ≡ x
   pub spins : (t : Target) → Contains (targets j.batch) t → gone j ≢ Some t.disk → IsPresent j.start t.disk → j.start.power t.disk ≡ Spinning
 
 module _ (j : Job) (before : Meta) (begun : IsBegun j before) where
@@ -75,9 +125,11 @@ module _ (j : Job) (before : Meta) (begun : IsBegun j before) where
   pub before_in_range : IsInRange before
   before_in_range = begun.rest.log.stands.says.log.meta.in_range
 
-  -- a live log disk was in the array
-  pub live_in : (x : ℕ) → IsLive j x → IsPresent j.start x → named_out before.out ≢ Some x
-  live_in x live here is = live.1 (begun.next.stays_out x live.0 here is)
+  -- a log disk that comes in again has its gate closed
+  pub joining_shut : (q : ℕ) → IsLive j q → IsPresent j.start q → named_out before.out ≡ Some q → is_open (stored j.start q 0) ≡ false
+  joining_shut q live here is =
+      let was = begun.next.comes_in q live.0 here is (λ e. live.1 (begun.names ∙ e)) in
+      begun.rest.log.fresh_shut q was.0 (record { is = was.1; present = here }) live.0
 
   -- a log disk that was in the array says the old meta
   pub start_says : (y : ℕ) → y < 2 → IsPresent j.start y → named_out before.out ≢ Some y → Says j.start y old
@@ -99,48 +151,47 @@ module _ (j : Job) (before : Meta) (begun : IsBegun j before) where
       let back : other_log begun.rest.disk ≡ y = ap other_log here ∙ other_other y low in
       subst (λ (z : ℕ). stands_before z old o ≡ true) here (begun.rest.log.stands.first o (subst (λ (z : ℕ). Says j.start z o) (sym back) says))
 
+  -- a live log disk that is closed as it was says the old meta
   module _ (i : Disks) (kept : IsKept j i) where
-    -- the same block in a place that is there
-    pub stored_start : (y p : ℕ) → IsPresent i y → i.block y p ≡ j.start.block y p → stored i y p ≡ stored j.start y p
-    unfolding stored
-    stored_start y p here same =
-        ap (λ (t : Power). if (is_present t && nat_lt p (i.size y)) then i.block y p else zeroed) (kept.power y here)
-        ∙ ap (λ (n : ℕ). if (is_present (j.start.power y) && nat_lt p n) then i.block y p else zeroed) (kept.size y here)
-        ∙ ap (λ (b : Block). if (is_present (j.start.power y) && nat_lt p (j.start.size y)) then b else zeroed) same
-
-    pub place_start : (d p : ℕ) → has_place i d p ≡ true → IsPresent i d → has_place j.start d p ≡ true
-    place_start d p there here =
-        ap (λ (t : Power). is_present t && nat_lt p (j.start.size d)) (sym (kept.power d here))
-        ∙ ap (λ (n : ℕ). is_present (i.power d) && nat_lt p n) (sym (kept.size d here)) ∙ there
-
-    -- a log disk that is left alone says what it said
-    module _ (y : ℕ) (here : IsPresent i y) (same : (p : ℕ) → p < 100 → i.block y p ≡ j.start.block y p) where
-      at : (p : ℕ) → p < 100 → stored i y p ≡ stored j.start y p
-      at p lt = stored_start y p here (same p lt)
-
-      pub aside_said : (o : Said) → Says i y o → Says j.start y o
-      aside_said o s = record {
-        present = kept.present y here;
-        gate = ap is_open (sym (at 0 (omega arith))) ∙ s.gate;
-        log = SaysBy-kept o.opened (stored i y) (stored j.start y) o.meta o.batch (λ shut. sym (at 1 (omega arith)))
-            (λ opened q low high. let few = few_logged o.opened (stored i y) o.meta o.batch s.log in sym (at q (omega arith))) s.log;
-      }
-
-      pub aside_says : (o : Said) → Says j.start y o → Says i y o
-      aside_says o s = record {
-        present = here;
-        gate = ap is_open (at 0 (omega arith)) ∙ s.gate;
-        log = SaysBy-kept o.opened (stored j.start y) (stored i y) o.meta o.batch (λ shut. at 1 (omega arith))
-            (λ opened q low high. let few = few_logged o.opened (stored j.start y) o.meta o.batch s.log in at q (omega arith)) s.log;
-      }
-
-    -- a live log disk that is closed as it was says the old meta
-    pub live_says_old : (x : ℕ) → IsLive j x → IsPresent i x → is_open (i.block x 0) ≡ false → i.block x 1 ≡ j.start.block x 1 → Says i x old
-    live_says_old x live here shut same =
+    -- a live log disk that was in the array and is closed as it was says the old meta
+    pub live_says_old : (x : ℕ) → IsLive j x → IsPresent i x → named_out before.out ≢ Some x → is_open (i.block x 0) ≡ false → i.block x 1 ≡ j.start.block x 1
+        → Says i x old
+    live_says_old x live here not shut same =
         let large = kept.large x live here in
-        let was = start_says x live.0 (kept.present x here) (live_in x live (kept.present x here)) in
+        let was = start_says x live.0 (kept.present x here) not in
         record {
           present = here;
           gate = ap is_open (stored_here i x 0 here (omega arith)) ∙ shut;
-          log = record { meta = subst (λ (b : Block). Spells b before) (sym (stored_start x 1 here same)) was.log.meta; empty = refl };
+          log = record { meta = subst (λ (b : Block). Spells b before) (sym (stored_start j i kept x 1 here same)) was.log.meta; empty = refl };
         }
+
+    -- and one that comes in again says what it said, which comes second
+    pub joining_second : (q : ℕ) → IsLive j q → IsPresent i q → named_out before.out ≡ Some q → is_open (i.block q 0) ≡ false → i.block q 1 ≡ j.start.block q 1
+        → (o : Said) → Says i q o → stands_before (other_log q) old o ≡ true
+    joining_second q live here is shut same o s =
+        let large = kept.large q live here in
+        let closed : o.opened ≡ false = sym s.gate ∙ ap is_open (stored_here i q 0 here (omega arith)) ∙ shut in
+        let was_shut = joining_shut q live (kept.present q here) is in
+        start_second q o live.0 (record {
+          present = kept.present q here;
+          gate = was_shut ∙ sym closed;
+          log = SaysBy-kept o.opened (stored i q) (stored j.start q) o.meta o.batch (λ z. sym (stored_start j i kept q 1 here same))
+              (λ opened p low high. absurd (false≢true (sym closed ∙ opened))) s.log;
+        }) is
+
+  -- a log disk that is left alone has no greater epoch
+  pub start_epoch : (y : ℕ) (o : Said) → y < 2 → named j ≡ Some y → Says j.start y o → o.meta.epoch ≤ before.epoch
+  start_epoch y o low is says = elim (decide_some (named_out before.out) y) [
+    | inl was ↦ after_epoch (other_log y) old o (start_second y o low says was)
+    | inr not ↦ let same = ap (λ (s : Said). s.meta.epoch) (Says-same j.start y o old says (start_says y low says.present not)) in omega arith
+  ]
+
+  pub begun_brought : IsBrought j
+  begun_brought = record {
+    good = begun.good;
+    names = begun.names;
+    fresh_shut = begun.next.fresh_shut;
+    second = λ y o low is says. greater_before (other_log y) (open_with j) o
+        (let e = start_epoch y o low is says in let next = begun.next.epoch in omega arith);
+    spins = begun.spins;
+  }

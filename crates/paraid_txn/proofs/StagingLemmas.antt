@@ -10,11 +10,11 @@ use Rattle.paraid_base.specs.Xor.{zeroed}
 use Rattle.paraid_record.specs.declared.targets.Target.{Target}
 use Rattle.paraid_record.specs.Targets.{no_target}
 use Rattle.paraid_txn.specs.declared.batch.Staged.{Staged}
-use Rattle.paraid_txn.specs.Neutral.{names}
-use Rattle.paraid_txn.proofs.NeutralLemmas.{length-targets}
-use Rattle.paraid_txn.specs.Sides.{Batch, targets}
+use Rattle.paraid_image.specs.Neutral.{names}
+use Rattle.paraid_image.proofs.NeutralLemmas.{length-targets}
+use Rattle.paraid_image.specs.Sides.{Batch, targets}
 use Rattle.paraid_txn.specs.Staging.{blocks, names_disk, with_target}
-use Rattle.paraid_txn.specs.Standing.{laid}
+use Rattle.paraid_image.specs.Standing.{laid}
 
 -- whether two targets are the same, as the definitions test it
 abbrev pub is_same : Target → Target → Bool

@@ -1,6 +1,6 @@
 -- From stage to stage of a commit.
 use Rattle.std.specs.Prelude.{◌≡◌, ◌≢◌, ◌⊎◌, ℕ, ◌+◌, ◌<◌, ◌≤◌, true, false, length, Option, Some}
-use Rattle.std.proofs.Common.{refl, sym, ap, subst, ◌∙◌, inl, inr, ⊎_elim, arith, below_more}
+use Rattle.std.proofs.Common.{refl, sym, ap, subst, ◌∙◌, inl, inr, ⊎_elim, arith, below_more, zero, suc}
 use Rattle.std.proofs.lemmas.Bool.{cases_eq, cases_lt, false≢true}
 use Rattle.std.proofs.lemmas.List.{take_all}
 use Rattle.paraid_base.specs.declared.block.Block.{Block}
@@ -8,12 +8,12 @@ use Rattle.paraid_rack.specs.Atoms.{Seen, Sure}
 use Rattle.paraid_rack.specs.Disks.{Disks}
 use Rattle.paraid_rack.proofs.AtomsLemmas.{seen_sure}
 use Rattle.paraid_rack.proofs.EffectsLemmas.{Keeps, dry_sure}
-use Rattle.paraid_txn.specs.Neutral.{names}
-use Rattle.paraid_txn.specs.Sides.{Batch, is_open}
-use Rattle.paraid_txn.specs.Stages.{AllDry, Close, CloseIn, Dry, DryBut, Is, IsBeside, IsIn, IsKept, IsLive, IsSpelled, Job, Laid, LayIn, Laying, Log, LogIn, LogMeta, Logged, Logging, Mark, MarkIn, Open, OpenIn, Opened, SettleIn, Shut, Untouched, body, gone, named, was}
-use Rattle.paraid_txn.specs.Standing.{laid}
+use Rattle.paraid_image.specs.Neutral.{names}
+use Rattle.paraid_image.specs.Sides.{Batch, is_open}
+use Rattle.paraid_txn.specs.Stages.{AllDry, Close, CloseIn, Dry, DryBut, Is, IsBeside, IsIn, IsKept, IsLive, IsSpelled, Job, Laid, LayIn, Laying, Log, LogIn, LogMeta, Logged, Logging, Mark, MarkIn, Open, OpenIn, Opened, SettleIn, Shut, Untouched, body, gone, named, turn, was}
+use Rattle.paraid_image.specs.Standing.{laid}
 use Rattle.paraid_txn.proofs.PutsLemmas.{Puts, Settles, skips}
-use Rattle.paraid_txn.proofs.NeutralLemmas.{length-targets}
+use Rattle.paraid_image.proofs.NeutralLemmas.{length-targets}
 use Rattle.paraid_txn.proofs.StagingLemmas.{names-at}
 use Rattle.paraid_txn.proofs.TargetsLemmas.{laid-next_else, laid-next_here, target_at}
 
@@ -32,7 +32,7 @@ elsewhere p q (inr far) from to = λ is. omega arith
 -- What every step keeps
 
 module _ (j : Job) where
-  kept_on : (s s' : Disks) → Keeps s s' → IsKept j s → IsKept j s'
+  pub kept_on : (s s' : Disks) → Keeps s s' → IsKept j s → IsKept j s'
   kept_on s s' w k = record {
     present = λ d here. k.present d (w.present d here);
     power = λ d here. w.power d here ∙ k.power d (w.present d here);
@@ -45,7 +45,7 @@ module _ (j : Job) where
   beside_logged s s' d0 p0 b w c = record {
     kept = kept_on s s' w.keeps c.kept;
     aside = record {
-      log = λ y p is low. w.sure y p _ (λ not at. absurd (not (is ∙ ap (λ (x : ℕ). Some x) at))) (c.aside.log y p is low);
+      log = λ y p log_disk is low. w.sure y p _ (λ not at. absurd (not (is ∙ ap (λ (x : ℕ). Some x) at))) (c.aside.log y p log_disk is low);
     };
   }
 
@@ -53,13 +53,13 @@ module _ (j : Job) where
   beside_past : (skip : Option ℕ) (s s' : Disks) (d0 p0 : ℕ) (b : Block) → 100 ≤ p0 → Puts skip s s' d0 p0 b → IsBeside j s → IsBeside j s'
   beside_past skip s s' d0 p0 b far w c = record {
     kept = kept_on s s' w.keeps c.kept;
-    aside = record { log = λ y p is low. w.sure y p _ (λ not at there. omega arith) (c.aside.log y p is low) };
+    aside = record { log = λ y p log_disk is low. w.sure y p _ (λ not at there. omega arith) (c.aside.log y p log_disk is low) };
   }
 
   beside_synced : (skip : Option ℕ) (s s' : Disks) (d0 : ℕ) → Settles skip s s' d0 → IsBeside j s → IsBeside j s'
   beside_synced skip s s' d0 w c = record {
     kept = kept_on s s' w.keeps c.kept;
-    aside = record { log = λ y p is low. w.sure y p _ (c.aside.log y p is low) };
+    aside = record { log = λ y p log_disk is low. w.sure y p _ (c.aside.log y p log_disk is low) };
   }
 
   untouched_logged : (skip : Option ℕ) (s s' : Disks) (d0 p0 : ℕ) (b : Block) → p0 < 100 → Puts skip s s' d0 p0 b → Untouched j s → Untouched j s'
@@ -77,13 +77,13 @@ module _ (j : Job) where
 -- Which disks are dry
 
 module _ (skip : Option ℕ) (s s' : Disks) (k : ℕ) where
-  dry_wrote : (p0 : ℕ) (b : Block) → Puts skip s s' k p0 b → DryBut skip k s → DryBut skip k s'
+  pub dry_wrote : (p0 : ℕ) (b : Block) → Puts skip s s' k p0 b → DryBut skip k s → DryBut skip k s'
   dry_wrote p0 b w dry = record { dry = λ d p apart. w.sure d p _ (λ not at. absurd (apart not at)) (dry.dry d p apart) }
 
-  dry_but : (p0 : ℕ) (b : Block) → Puts skip s s' k p0 b → AllDry s → DryBut skip k s'
+  pub dry_but : (p0 : ℕ) (b : Block) → Puts skip s s' k p0 b → AllDry s → DryBut skip k s'
   dry_but p0 b w dry = record { dry = λ d p apart. w.sure d p _ (λ not at. absurd (apart not at)) (dry.dry d p) }
 
-  dry_synced : Settles skip s s' k → DryBut skip k s → AllDry s'
+  pub dry_synced : Settles skip s s' k → DryBut skip k s → AllDry s'
   dry_synced w dry = record {
     dry = λ d p. elim (skips skip k) [
       | inl is ↦ w.sure d p _ (dry.dry d p (λ not. absurd (not is)))
@@ -168,13 +168,30 @@ module _ (j : Job) (good : IsSpelled j) where
     dry = dry_synced (named j) s s' k w c.dry;
   }
 
+  turn_below : (n : ℕ) → turn j n < 2
+  turn_below zero = good.first
+  turn_below (suc n) = let low = good.first in omega arith
+
+  turns_apart : (n k : ℕ) → n < 2 → k < 2 → n ≢ k → turn j n ≢ turn j k
+  turns_apart zero zero ln lk apart = absurd (apart refl)
+  turns_apart zero (suc k) ln lk apart = let low = good.first in λ is. omega arith
+  turns_apart (suc n) zero ln lk apart = let low = good.first in λ is. omega arith
+  turns_apart (suc n) (suc k) ln lk apart = absurd (apart (omega arith))
+
+  turn_of : (x : ℕ) → x < 2 → (n : ℕ) × (n < 2) × (turn j n ≡ x)
+  turn_of x low = elim (cases_eq j.first x) [
+    | inl is ↦ (0, omega arith, is)
+    | inr apart ↦ (1, omega arith, let l = good.first in omega arith)
+  ]
+
   pub log_end : (s : Disks) → Log j 2 s → Open j 0 s
   log_end s c = record {
     core = record {
       beside = c.core.beside;
       meta = c.core.meta;
       logged = λ x live. c.core.logged x live.0 live;
-      opened = λ x lt live. absurd (omega arith);
+      opened = λ n lt live. absurd (omega arith);
+      waiting = λ n lt low live. c.core.shut (turn j n) live;
       held = c.core.held;
     };
     dry = c.dry;
@@ -182,30 +199,34 @@ module _ (j : Job) (good : IsSpelled j) where
 
   -- Step 2
 
-  pub open_write : (k : ℕ) (b : Block) (s s' : Disks) → is_open b ≡ true → Puts (named j) s s' k 0 b → Open j k s → OpenIn j k s'
-  open_write k b s s' opens w c = record {
+  pub open_write : (k : ℕ) (b : Block) (s s' : Disks) → k < 2 → is_open b ≡ true → Puts (named j) s s' (turn j k) 0 b → Open j k s → OpenIn j k s'
+  open_write k b s s' low opens w c = record {
     core = record {
-      beside = beside_logged j s s' k 0 b w c.core.beside;
+      beside = beside_logged j s s' (turn j k) 0 b w c.core.beside;
       meta = λ x live. w.sure x 1 _ (λ not at there. omega arith) (c.core.meta x live);
-      logged = λ x live. logged_wrote (named j) s s' k 0 b x w (λ not at. inl (omega arith)) (c.core.logged x live);
-      opened = λ x below live. w.sure x 0 _ (λ not at. absurd (omega arith)) (c.core.opened x below live);
-      held = untouched_logged j (named j) s s' k 0 b (omega arith) w c.core.held;
+      logged = λ x live. logged_wrote (named j) s s' (turn j k) 0 b x w (λ not at. inl (omega arith)) (c.core.logged x live);
+      opened = λ n below live. w.sure (turn j n) 0 _
+          (λ not at. absurd (turns_apart n k (omega arith) low (λ is. omega arith) at)) (c.core.opened n below live);
+      waiting = λ n above low_too live. w.sure (turn j n) 0 _
+          (λ not at. absurd (turns_apart n k low_too low (λ is. omega arith) at)) (c.core.waiting n above low_too live);
+      held = untouched_logged j (named j) s s' (turn j k) 0 b (omega arith) w c.core.held;
     };
-    dry = dry_but (named j) s s' k 0 b w c.dry;
+    dry = dry_but (named j) s s' (turn j k) 0 b w c.dry;
     gate = λ not. w.here _ not opens;
   }
 
-  pub open_sync : (k : ℕ) (s s' : Disks) → Settles (named j) s s' k → OpenIn j k s → Open j (k + 1) s'
+  pub open_sync : (k : ℕ) (s s' : Disks) → Settles (named j) s s' (turn j k) → OpenIn j k s → Open j (k + 1) s'
   open_sync k s s' w c = record {
     core = record {
-      beside = beside_synced j (named j) s s' k w c.core.beside;
+      beside = beside_synced j (named j) s s' (turn j k) w c.core.beside;
       meta = λ x live. w.sure x 1 _ (c.core.meta x live);
-      logged = λ x live. logged_synced (named j) s s' k x w (c.core.logged x live);
-      opened = below_more (λ x. IsLive j x → Opened s' x) k
-          (λ x below live. w.sure x 0 _ (c.core.opened x below live)) (λ live. w.here 0 _ live.1 (c.gate live.1));
-      held = untouched_synced j (named j) s s' k w c.core.held;
+      logged = λ x live. logged_synced (named j) s s' (turn j k) x w (c.core.logged x live);
+      opened = below_more (λ n. IsLive j (turn j n) → Opened s' (turn j n)) k
+          (λ n below live. w.sure (turn j n) 0 _ (c.core.opened n below live)) (λ live. w.here 0 _ live.1 (c.gate live.1));
+      waiting = λ n above low_too live. w.sure (turn j n) 0 _ (c.core.waiting n (omega arith) low_too live);
+      held = untouched_synced j (named j) s s' (turn j k) w c.core.held;
     };
-    dry = dry_synced (named j) s s' k w c.dry;
+    dry = dry_synced (named j) s s' (turn j k) w c.dry;
   }
 
   pub open_end : (s : Disks) → Open j 2 s → LayIn j 0 s
@@ -213,7 +234,9 @@ module _ (j : Job) (good : IsSpelled j) where
     core = record {
       beside = c.core.beside;
       logged = c.core.logged;
-      opened = λ x live. c.core.opened x live.0 live;
+      opened = λ x live.
+          let n = turn_of x live.0 in
+          subst (λ (y : ℕ). Opened s y) n.2 (c.core.opened n.0 n.1 (subst (IsLive j) (sym n.2) live));
       others = λ d p far. inr (c.core.held d p far);
       dry = λ d p. inr (c.dry.dry d p);
     };

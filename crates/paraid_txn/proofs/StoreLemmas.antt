@@ -1,23 +1,24 @@
--- The promise of a commit of a store, by the moments of its record.
+-- The promise of a commit of a store, by its calls.
 use Rattle.std.specs.Prelude.{◌≡◌, ◌≢◌, ℕ, ◌+◌, ◌-◌, ◌^◌, ◌<◌, ◌≤◌, Option, Some, Contains}
-use Rattle.std.proofs.Common.{sym, ◌∙◌, ap, arith}
+use Rattle.std.proofs.Common.{refl, sym, ◌∙◌, ap, arith}
 use Rattle.paraid_base.specs.declared.block.Block.{Block}
 use Rattle.paraid_rack.specs.declared.call.Power.TheVariants.{Spinning}
 use Rattle.paraid_rack.specs.Disks.{Disks, IsPresent, is_present}
 use Rattle.paraid_rack.specs.Slots.{Agrees, Slot}
 use Rattle.paraid_rack.specs.Told.{Ran, Runs}
-use Rattle.paraid_rack.specs.Trail.{Trail, now}
-use Rattle.paraid_rack.proofs.TrailsLemmas.{moments_from}
+use Rattle.paraid_rack.specs.Trail.{Trail, now, run}
 use Rattle.paraid_record.specs.declared.meta.Meta.{Meta}
 use Rattle.paraid_record.specs.declared.targets.Target.{Target}
 use Rattle.paraid_record.specs.Range.{IsInRange}
-use Rattle.paraid_txn.specs.Commit.{Commits, IsAtRest, IsNext, IsWholeOrAbsent, gone_out}
+use Rattle.paraid_image.specs.Rest.{IsAtRest}
+use Rattle.paraid_txn.specs.Commit.{Commits, IsNext, IsOldOrNew, IsWholeOrAbsent, gone_out}
 use Rattle.paraid_txn.specs.Losses.{CanWrite}
-use Rattle.paraid_txn.specs.Out.{named_out}
+use Rattle.paraid_image.specs.Out.{named_out}
 use Rattle.paraid_txn.specs.Ready.{AreTargetsReady, IsLogReady}
-use Rattle.paraid_txn.specs.Sides.{Batch, targets}
+use Rattle.paraid_image.specs.Sides.{Batch, targets}
 use Rattle.paraid_txn.specs.Stages.{Close, IsSpelled, Job, Log, Whole, job}
 use Rattle.paraid_txn.proofs.CommitLemmas.{is_committed, start_log, whole_images}
+use Rattle.paraid_txn.proofs.RanLemmas.{ran_from, through_milder}
 use Rattle.paraid_txn.proofs.SpokenLemmas.{IsBegun}
 use Rattle.paraid_txn.proofs.StandsForLemmas.{all_contained}
 
@@ -25,6 +26,7 @@ use Rattle.paraid_txn.proofs.StandsForLemmas.{all_contained}
 pub next_in_range : (m : Meta) (e : ℕ) → IsInRange m → e < 2 ^ 64 - 1 → IsInRange (record m { epoch = e + 1 })
 next_in_range m e range low = record {
   setup = range.setup;
+  version = range.version;
   counters = record { first = omega arith; epoch_fits = omega arith; writes_fit = range.counters.writes_fit; ticks_fit = range.counters.ticks_fit };
   gear = range.gear;
   phase = range.phase;
@@ -51,28 +53,39 @@ start_ready meta batch start slot count agrees log ready = record {
       agrees.power t.disk ∙ can.spins (ap is_present (sym (agrees.power t.disk)) ∙ here);
 }
 
-module _ (meta : Meta) (batch : Batch) (spelled list : Block) (good : (start : Disks) → IsSpelled (job start meta batch spelled list))
-    (old new : Option Trail) (ready : (s : Trail) → old ≡ Some s → IsStartReady meta batch (now s)) (before : Meta) where
+module _ (meta : Meta) (batch : Batch) (spelled list : Block) (turn : ℕ) (good : (start : Disks) → IsSpelled (job start meta batch spelled list turn))
+    (old new : Option Trail) (ready : (s : Trail) → old ≡ Some s → IsStartReady meta batch (now s)) (before : Meta)
+    (joins : (x : ℕ) → x < 2 → named_out before.out ≡ Some x → named_out meta.out ≢ Some x → turn ≡ x) where
   abbrev it : Disks → Job
-  it start = job start meta batch spelled list
+  it start = job start meta batch spelled list turn
 
   begun : (s : Trail) → old ≡ Some s → IsAtRest (now s) before → IsNext (now s) before meta → IsBegun (it (now s)) before
-  begun s is rest next = record { good = good (now s); rest = rest; next = next; spins = (ready s is).spins }
+  begun s is rest next = record { good = good (now s); names = refl; rest = rest; next = next; joins_first = joins; spins = (ready s is).spins }
 
   first : (s : Trail) (is : old ≡ Some s) (rest : IsAtRest (now s) before) (next : IsNext (now s) before meta) → Log (it (now s)) 0 (now s)
   first s is rest next = start_log (it (now s)) before (begun s is rest next) (λ x live. (ready s is).large x live.0 live.1)
 
   pub whole_or_absent : ((start : Disks) → Ran old new (Runs (Whole (it start)) (Log (it start) 0) (Whole (it start)))) → IsWholeOrAbsent old new before meta batch
   whole_or_absent ran t tells =
-      let r = moments_from (λ start. Whole (it start)) (λ start. Log (it start) 0) (λ start. Whole (it start)) old new ran t tells in (
-        r.0,
-        r.1,
-        r.2,
-        λ rest next m from to.
-            whole_images (it (now r.0)) before (begun r.0 r.1 rest next) _ ((r.3 (first r.0 r.1 rest next)).1 m from to),
-      )
+      let r = ran_from (λ start. Whole (it start)) (λ start. Log (it start) 0) (λ start. Whole (it start)) old new ran t tells in
+      record {
+        from = r.from;
+        was = r.was;
+        calls = r.calls;
+        is = r.is;
+        holds = λ rest next.
+            through_milder (Whole (it (now r.from))) (IsOldOrNew (now r.from) before meta batch)
+            (whole_images (it (now r.from)) before (begun r.from r.was rest next)) (now r.from) r.calls (r.holds (first r.from r.was rest next)).0;
+      }
 
   pub commits : ((start : Disks) → Ran old new (Runs (Whole (it start)) (Log (it start) 0) (Close (it start) 2))) → Commits old new before meta batch
   commits ran t tells =
-      let r = moments_from (λ start. Whole (it start)) (λ start. Log (it start) 0) (λ start. Close (it start) 2) old new ran t tells in
-      (r.0, r.1, λ rest next. is_committed (it (now r.0)) before (begun r.0 r.1 rest next) (now t) ((r.3 (first r.0 r.1 rest next)).0))
+      let r = ran_from (λ start. Whole (it start)) (λ start. Log (it start) 0) (λ start. Close (it start) 2) old new ran t tells in
+      record {
+        from = r.from;
+        was = r.was;
+        calls = r.calls;
+        is = r.is;
+        holds = λ rest next.
+            is_committed (it (now r.from)) before (begun r.from r.was rest next) (run (now r.from) r.calls) (r.holds (first r.from r.was rest next)).1;
+      }

@@ -7,10 +7,10 @@ use Rattle.paraid_base.specs.declared.block.Block.{Block}
 use Rattle.paraid_base.specs.Xor.{zeroed}
 use Rattle.paraid_record.specs.declared.targets.Target.{Target}
 use Rattle.paraid_record.specs.Targets.{no_target}
-use Rattle.paraid_txn.specs.Neutral.{names}
-use Rattle.paraid_txn.specs.Sides.{Batch, targets}
+use Rattle.paraid_image.specs.Neutral.{names}
+use Rattle.paraid_image.specs.Sides.{Batch, targets}
 use Rattle.paraid_txn.specs.Staging.{blocks, names_disk}
-use Rattle.paraid_txn.specs.Standing.{laid}
+use Rattle.paraid_image.specs.Standing.{laid}
 use Rattle.paraid_txn.proofs.StagingLemmas.{names_disk-named}
 
 abbrev pub target_at : Batch → ℕ → Target

@@ -1,19 +1,19 @@
 -- Each stage of a commit leaves the old contents or the new ones.
 use Rattle.std.specs.Prelude.{◌≡◌, ℕ, ◌+◌, ◌<◌, ◌≤◌, ◌==◌, ◌&&◌, nat_lt, Bool, true, false, [], ◌∷◌, length, get_or, if◌then◌else◌, Some}
 use Rattle.std.proofs.Common.{refl, sym, ◌∙◌, ap, subst, arith, inl, inr, suc}
-use Rattle.std.proofs.lemmas.Bool.{cases_Bool, false≢true, and_from, lt-ltb, or_parts}
+use Rattle.std.proofs.lemmas.Bool.{cases_Bool, cases_eq, cases_lt, false≢true, and_from, lt-ltb, or_parts}
 use Rattle.paraid_base.specs.declared.block.Block.{Block}
 use Rattle.paraid_base.specs.Xor.{zeroed}
 use Rattle.paraid_rack.specs.Atoms.{IsLeft, Sure}
 use Rattle.paraid_rack.specs.Disks.{Disks, IsPresent, is_present}
 use Rattle.paraid_rack.proofs.AtomsLemmas.{left_sure}
-use Rattle.paraid_txn.specs.Commit.{closed_over}
-use Rattle.paraid_txn.specs.Neutral.{names}
-use Rattle.paraid_txn.specs.Sides.{AreLogged, Batch, Says, Spells, is_open, stored}
+use Rattle.paraid_image.specs.Rest.{closed_over}
+use Rattle.paraid_image.specs.Neutral.{names}
+use Rattle.paraid_image.specs.Sides.{AreLogged, Batch, Says, Spells, is_open, stored}
 use Rattle.paraid_txn.specs.Staging.{blocks}
-use Rattle.paraid_txn.specs.Standing.{laid}
-use Rattle.paraid_txn.specs.Stages.{Closing, Is, IsBeside, IsKept, IsLive, IsSpelled, Job, Late, Laying, Logged, Logging, Marking, Opening, Whole, named, open_with, was}
-use Rattle.paraid_txn.proofs.NeutralLemmas.{laid-named, length-targets}
+use Rattle.paraid_image.specs.Standing.{laid, other_log}
+use Rattle.paraid_txn.specs.Stages.{Closing, Earlier, Is, IsBeside, IsKept, IsLive, IsSpelled, Job, Late, Later, Laying, Logged, Logging, Marking, Opening, Shut, Whole, named, open_with, was}
+use Rattle.paraid_image.proofs.NeutralLemmas.{laid-named, length-targets}
 
 -- where no target is, the batch lays nothing
 pub laid-unnamed : (batch : Batch) (d p : ℕ) (b : Block) → names batch d p ≡ false → laid batch d p b ≡ b
@@ -51,8 +51,8 @@ left_kept j s i k left = record {
   large = λ x live here. let a = k.large x live (left.present x here) in let b = left.size x here in omega arith;
 }
 
-left_aside : (j : Job) (s : Disks) → IsBeside j s → (i : Disks) → IsLeft s i → (y p : ℕ) → named j ≡ Some y → p < 100 → IsPresent i y → i.block y p ≡ j.start.block y p
-left_aside j s beside i left y p is lt here = left_sure (beside.aside.log y p is lt) left here
+left_aside : (j : Job) (s : Disks) → IsBeside j s → (i : Disks) → IsLeft s i → (y p : ℕ) → y < 2 → named j ≡ Some y → p < 100 → IsPresent i y → i.block y p ≡ j.start.block y p
+left_aside j s beside i left y p log_disk is lt here = left_sure (beside.aside.log y p log_disk is lt) left here
 
 module _ (j : Job) (good : IsSpelled j) (s i : Disks) (left : IsLeft s i) where
   -- a live log disk whose log is the batch, by an open gate
@@ -95,32 +95,44 @@ module _ (j : Job) (good : IsSpelled j) (s i : Disks) (left : IsLeft s i) where
       false≢true (sym says.gate ∙ ap is_open at ∙ gate)
 
 module _ (j : Job) (good : IsSpelled j) where
-  pub logging_whole : (k : ℕ) (s : Disks) → Logging j k s → Whole j s
+  pub logging_whole : (k : ℕ) (s : Disks) → Logging j k s → Earlier j s
   logging_whole k s c = record {
-    either = inl (λ i left. record {
+    early = (λ i left. record {
       kept = left_kept j s i c.beside.kept left;
       sides = λ x live here. inl (left_sure (c.shut x live) left here, left_sure (c.meta x live) left here);
+      in_order = λ live here shut y live_too here_too. left_sure (c.shut y live_too) left here_too;
       held = λ d p here far. left_sure (c.held d p far) left here;
     });
     aside = left_aside j s c.beside;
   }
 
-  pub opening_whole : (k : ℕ) (s : Disks) → Opening j k s → Whole j s
+  pub opening_whole : (k : ℕ) (s : Disks) → Opening j k s → Earlier j s
   opening_whole k s c = record {
-    either = inl (λ i left. record {
+    early = (λ i left. record {
       kept = left_kept j s i c.beside.kept left;
       sides = λ x live here. elim (cases_Bool (is_open (i.block x 0))) [
         | inl gate ↦ inr (open_says j good s i left c.beside.kept x live here (c.logged x live) gate)
         | inr shut ↦ inl (shut, left_sure (c.meta x live) left here)
+      ];
+      in_order = λ live here shut y live_too here_too. elim (cases_eq y j.first) [
+        | inl is ↦ ap (λ (z : ℕ). is_open (i.block z 0)) is ∙ shut
+        | inr apart ↦ elim (cases_lt 0 k) [
+          | inl begun ↦ absurd (false≢true (sym shut ∙ left_sure (c.opened 0 begun live) left here))
+          | inr none ↦
+              let low = good.first in
+              let second : other_log j.first ≡ y = (let l = live_too.0 in omega arith) in
+              let closed : Shut s y = subst (Shut s) second (c.waiting 1 (omega arith) (omega arith) (subst (IsLive j) (sym second) live_too)) in
+              left_sure closed left here_too
+        ]
       ];
       held = λ d p here far. left_sure (c.held d p far) left here;
     });
     aside = left_aside j s c.beside;
   }
 
-  pub laying_whole : (s : Disks) → Laying j s → Whole j s
+  pub laying_whole : (s : Disks) → Laying j s → Later j s
   laying_whole s c = record {
-    either = inr (λ i left. record {
+    late = (λ i left. record {
       kept = left_kept j s i c.beside.kept left;
       sides = λ x live here. inl (open_says j good s i left c.beside.kept x live here (c.logged x live) (left_sure (c.opened x live) left here));
       held = λ d p ins here far. elim (c.others d p far) [
@@ -132,9 +144,9 @@ module _ (j : Job) (good : IsSpelled j) where
     aside = left_aside j s c.beside;
   }
 
-  pub marking_whole : (k : ℕ) (s : Disks) → Marking j k s → Whole j s
+  pub marking_whole : (k : ℕ) (s : Disks) → Marking j k s → Later j s
   marking_whole k s c = record {
-    either = inr (λ i left. record {
+    late = (λ i left. record {
       kept = left_kept j s i c.beside.kept left;
       sides = λ x live here. inl (open_says j good s i left c.beside.kept x live here (c.logged x live) (left_sure (c.opened x live) left here));
       held = λ d p ins here far. ap (laid j.batch d p) (left_sure (c.held d p ins far) left here) ∙ laid-laid j.batch d p (was j d p);
@@ -154,5 +166,11 @@ module _ (j : Job) (good : IsSpelled j) where
     done = λ x d p live here says ins there far. left_sure (c.held d p ins far) left there;
   }
 
-  pub closing_whole : (k : ℕ) (s : Disks) → Closing j k s → Whole j s
-  closing_whole k s c = record { either = inr (closing_late k s c); aside = left_aside j s c.beside }
+  pub closing_whole : (k : ℕ) (s : Disks) → Closing j k s → Later j s
+  closing_whole k s c = record { late = closing_late k s c; aside = left_aside j s c.beside }
+
+pub earlier_whole : (j : Job) (s : Disks) → Earlier j s → Whole j s
+earlier_whole j s e = record { either = inl e.early; aside = e.aside }
+
+pub later_whole : (j : Job) (s : Disks) → Later j s → Whole j s
+later_whole j s l = record { either = inr l.late; aside = l.aside }

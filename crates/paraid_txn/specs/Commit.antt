@@ -5,12 +5,14 @@ use Rattle.paraid_base.specs.declared.state.Out.{Out}
 use Rattle.paraid_base.specs.declared.state.Out.TheVariants.{No, Gone, Fresh}
 use Rattle.paraid_rack.specs.declared.call.Power.{Power}
 use Rattle.paraid_rack.specs.Disks.{Disks, IsImage, IsPresent, lose}
-use Rattle.paraid_rack.specs.Trail.{Trail, disks, moments, now}
+use Rattle.paraid_rack.specs.Told.{Ran, Through}
+use Rattle.paraid_rack.specs.Trail.{Trail, run}
 use Rattle.paraid_record.specs.declared.meta.Meta.{Meta}
-use Rattle.paraid_txn.specs.Out.{IsMissing, IsWeak, named_out}
-use Rattle.paraid_txn.specs.Sides.{Batch, Said, has_place, is_open, stored}
-use Rattle.paraid_txn.specs.Sound.{IsFresh, LogOk}
-use Rattle.paraid_txn.specs.Standing.{contents}
+use Rattle.paraid_image.specs.Out.{IsMissing, IsWeak, named_out}
+use Rattle.paraid_image.specs.Sides.{Batch, Said, has_place, is_open, stored}
+use Rattle.paraid_image.specs.Rest.{AreShut, IsAtRest, IsDrained}
+use Rattle.paraid_image.specs.Sound.{IsFresh, LogOk}
+use Rattle.paraid_image.specs.Standing.{contents}
 
 -- the disk that a meta names out and gone; a disk that is being rebuilt is written like the others
 abbrev pub gone_out : Out → Option ℕ
@@ -18,17 +20,21 @@ gone_out No = None
 gone_out (Gone disk) = Some disk
 gone_out (Fresh disk rebuilt) = None
 
--- what a log disk says by a gate that is closed over this meta
-abbrev pub closed_over : Meta → Said
-closed_over m = record { opened = false; meta = m; batch = [] }
+-- Each disk that is there has the power and the size that it had at the start.
+pub record AreKept (start i : Disks) : Type 0 where
+  pub present : (d : ℕ) → IsPresent i d → IsPresent start d
+  pub power : (d : ℕ) → IsPresent i d → i.power d ≡ start.power d
+  pub size : (d : ℕ) → IsPresent i d → i.size d ≡ start.size d
 
 -- Image `i` stands for meta `m` and for the blocks of `start` with this batch laid over, on every
--- disk that is not gone; and its log is in order.
+-- disk that is not gone; its log is in order; and a disk that is there has the power and the size
+-- that it had.
 pub record StandsFor (start i : Disks) (m : Meta) (batch : Batch) : Type 0 where
   pub disk : ℕ
   pub said : Said
   pub log : LogOk i disk said m.writes
   pub meta : said.meta ≡ m
+  pub kept : AreKept start i
   pub blocks : (d p : ℕ) → gone_out m.out ≢ Some d → has_place i d p ≡ true → 100 ≤ p
       → contents i said.batch d p ≡ contents start batch d p
 
@@ -52,40 +58,30 @@ pub record IsEachImage (before after : Meta) (P : Disks → Type 0) (s : Disks) 
   pub lost : (i : Disks) (d : ℕ) → IsImage s i → IsOneMissing i.power before after
       → ((w : ℕ) → IsWeak i w → w ≡ d) → P (lose d i)
 
--- no block of a disk that is there is loose
-abbrev pub IsDrained : Disks → Type 0
-IsDrained s = (d p : ℕ) → IsPresent s d → s.loose d p ≡ false
+-- So each image of `s` stands for what `start` held or for that with batch and meta laid over; and
+-- its weak disk is absent or named out by one of the two metas.
+pub record IsOldOrNew (start : Disks) (before after : Meta) (batch : Batch) (s : Disks) : Type 0 where
+  pub images : IsEachImage before after (StandsForEither start before after batch) s
+  pub weak : (i : Disks) (w : ℕ) → IsImage s i → IsOneMissing i.power before after → IsWeak i w
+      → IsEitherMissing i.power before after w
 
--- the gates of the log disks that are there and are not named out are closed
-abbrev pub AreShut : Disks → Meta → Type 0
-AreShut s m = (x : ℕ) → x < 2 → IsPresent s x → named_out m.out ≢ Some x
-    → is_open (stored s x 0) ≡ false
-
--- Between two commits: nothing is loose, this meta stands, and the gates are closed.
-pub record IsAtRest (s : Disks) (m : Meta) : Type 0 where
-  pub dry : IsDrained s
-  pub disk : ℕ
-  pub log : LogOk s disk (closed_over m) m.writes
-  pub shut : AreShut s m
-
--- This meta can be the next one. No log disk that was out and is there comes in again by it, and
--- one that is to be rebuilt has its gate closed.
+-- This meta can be the next one. A log disk that comes in again by it was being rebuilt, and one
+-- that is to be rebuilt has its gate closed.
 pub record IsNext (s : Disks) (before after : Meta) : Type 0 where
   pub epoch : after.epoch ≡ before.epoch + 1
   pub setup : after.setup ≡ before.setup
   pub out : (d e : ℕ) → named_out after.out ≡ Some d → named_out before.out ≡ Some e → d ≡ e
-  pub stays_out : (x : ℕ) → x < 2 → IsPresent s x → named_out before.out ≡ Some x
-      → named_out after.out ≡ Some x
+  pub comes_in : (x : ℕ) → x < 2 → IsPresent s x → named_out before.out ≡ Some x
+      → named_out after.out ≢ Some x → (rebuilt : ℕ) × (before.out ≡ Fresh x rebuilt)
   pub fresh_shut : (x rebuilt : ℕ) → IsFresh s.power after x rebuilt → x < 2
       → is_open (stored s x 0) ≡ false
 
--- From a rest under the meta before, each moment from the one record to the other leaves the old
--- contents or the new ones.
+-- The calls from the one record to the other, if they begin at a rest under the meta before, leave
+-- the old contents or the new ones at each moment.
 abbrev pub IsWholeOrAbsent : Option Trail → Option Trail → Meta → Meta → Batch → Type 0
-IsWholeOrAbsent old new before after batch = (t : Trail) → new ≡ Some t → (s : Trail) × (old ≡ Some s)
-    × (moments s ≤ moments t)
-    × (IsAtRest (now s) before → IsNext (now s) before after → (m : ℕ) → moments s ≤ m → m ≤ moments t
-    → IsEachImage before after (StandsForEither (now s) before after batch) (disks t m))
+IsWholeOrAbsent old new before after batch = Ran old new (λ start calls.
+    IsAtRest start before → IsNext start before after
+    → Through (IsOldOrNew start before after batch) start calls)
 
 -- What a commit that ends leaves: only the new contents, nothing loose, the gates closed; and where
 -- at most one disk is out, a rest under the new meta.
@@ -97,6 +93,6 @@ pub record IsCommitted (start end : Disks) (before after : Meta) (batch : Batch)
 
 -- so it is after these calls, if they began at a rest
 abbrev pub Commits : Option Trail → Option Trail → Meta → Meta → Batch → Type 0
-Commits old new before after batch = (t : Trail) → new ≡ Some t → (s : Trail) × (old ≡ Some s)
-    × (IsAtRest (now s) before → IsNext (now s) before after
-    → IsCommitted (now s) (now t) before after batch)
+Commits old new before after batch = Ran old new (λ start calls.
+    IsAtRest start before → IsNext start before after
+    → IsCommitted start (run start calls) before after batch)

@@ -3,6 +3,7 @@ use Rattle.std.specs.Prelude.{◌≡◌, ◌≢◌, ℕ, ◌<◌, ◌≤◌, ◌
 use Rattle.paraid_base.specs.declared.fault.Two.{Two}
 use Rattle.paraid_base.specs.Told.{HasRisen}
 use Rattle.paraid_rack.specs.declared.call.Call.{Call}
+use Rattle.paraid_rack.specs.declared.call.Power.{Power}
 use Rattle.paraid_rack.specs.declared.call.Power.TheVariants.{Spinning, Absent}
 use Rattle.paraid_rack.specs.Disks.{is_present}
 use Rattle.paraid_rack.specs.Slots.{Slot}
@@ -26,20 +27,33 @@ Follows from to disk done (Ok it) =
 Follows from to disk done (Err two) =
     (done ≡ false) × (to ≡ from) × (from.down ≡ Some two.first) × (two.first ≢ disk) × (two.second ≡ disk)
 
+-- A disk has not failed: its count, its power and its size are as they were.
+pub record IsWell (old new : Slot) : Type 0 where
+  pub faults : new.faults ≡ old.faults
+  pub power : new.power ≡ old.power
+  pub size : new.size ≡ old.size
+
+-- a disk whose count has not risen is as it was
+abbrev pub AreFailedOrWell : (ℕ → Slot) → (ℕ → Slot) → Type 0
+AreFailedOrWell old new = (d : ℕ) → HasRisen (old d).faults (new d).faults ⊎ IsWell (old d) (new d)
+
 -- Some calls of a commit: a disk that is there after them has its power and size, no count has
--- fallen, and a disk that is down now, but was not, was lost by one of them.
+-- fallen, a disk whose count has not risen is as it was, a disk that is down stays so, and a disk
+-- that is down now, but was not, was lost by one of them.
 pub record Lasts (from to : Losses) (old new : ℕ → Slot) : Type 0 where
   pub power : (d : ℕ) → is_present (new d).power ≡ true → (new d).power ≡ (old d).power
   pub size : (d : ℕ) → is_present (new d).power ≡ true → (new d).size ≡ (old d).size
   pub no_fall : (d : ℕ) → (old d).faults ≤ (new d).faults
+  pub each : AreFailedOrWell old new
   pub down : (d : ℕ) → to.down ≡ Some d → (from.down ≡ Some d) ⊎ (to.lost ≡ Some d)
+  pub remains : (d : ℕ) → from.down ≡ Some d → to.down ≡ Some d
   pub stays : (d : ℕ) → from.lost ≡ Some d → to.lost ≡ Some d
   pub lost : (d : ℕ) → to.lost ≡ Some d → (from.lost ≡ Some d) ⊎ HasRisen (old d).faults (new d).faults
   pub absent : (d : ℕ) → to.lost ≡ Some d → (from.lost ≡ Some d) ⊎ ((new d).power ≡ Absent)
 
--- no count has risen but that of the disk that is lost
+-- no disk has failed but the one that is lost
 abbrev pub AreOthersWell : Losses → (ℕ → Slot) → (ℕ → Slot) → Type 0
-AreOthersWell to old new = (d : ℕ) → to.lost ≢ Some d → (new d).faults ≡ (old d).faults
+AreOthersWell to old new = (d : ℕ) → to.lost ≢ Some d → IsWell (old d) (new d)
 
 -- a disk that is unsynced now was so before, but for those of which `may` holds
 abbrev pub AreDryBut : (ℕ → Type 0) → (ℕ → Slot) → (ℕ → Slot) → Type 0
@@ -81,3 +95,20 @@ pub record IsSpared (old new : ℕ → Slot) : Type 0 where
 pub record IsLostNow (old new : ℕ → Slot) (d : ℕ) : Type 0 where
   pub risen : HasRisen (old d).faults (new d).faults
   pub absent : (new d).power ≡ Absent
+
+-- Disk `e` is out as a commit begins: it is absent, or the last meta or the one given names it out.
+pub data IsOut (power : ℕ → Power) (disks : ℕ) (before after : Option ℕ) (e : ℕ) : Type 0 where
+  is_absent : e < disks → power e ≡ Absent → IsOut power disks before after e
+  was_named : before ≡ Some e → IsOut power disks before after e
+  is_named : after ≡ Some e → IsOut power disks before after e
+
+-- Two disks are down: the first was out, or has failed since, and then the second has failed.
+pub record IsTwoBeside (out : ℕ → Type 0) (old new : ℕ → Slot) (two : Two) : Type 0 where
+  pub first : out two.first ⊎ HasRisen (old two.first).faults (new two.first).faults
+  pub apart : two.first ≢ two.second
+  pub second : HasRisen (old two.second).faults (new two.second).faults
+
+-- disk `d` is one of the array, and no other one was out
+pub record IsAlone (disks : ℕ) (out : ℕ → Type 0) (d : ℕ) : Type 0 where
+  pub below : d < disks
+  pub alone : (e : ℕ) → out e → e ≡ d

@@ -7,8 +7,8 @@ use Rattle.paraid_record.specs.Range.{IsInRange}
 use Rattle.paraid_record.specs.Targets.{IsTargetInRange}
 use Rattle.paraid_txn.specs.Commit.{gone_out}
 use Rattle.paraid_txn.specs.Losses.{CanWrite}
-use Rattle.paraid_txn.specs.Out.{named_out}
-use Rattle.paraid_txn.specs.Sides.{Batch, targets}
+use Rattle.paraid_image.specs.Out.{named_out}
+use Rattle.paraid_image.specs.Sides.{Batch, targets}
 
 -- each log disk that is not skipped spins and has all places of the log, unless it is absent
 pub record IsLogReady (skip : Option ℕ) (slot : ℕ → Slot) : Type 0 where

@@ -1,40 +1,61 @@
 -- The stages of a commit, each as a fact about the disks at a moment.
 use Rattle.std.specs.Prelude.{◌≡◌, ◌≢◌, ◌⊎◌, ◌<◌, ◌≤◌, ◌+◌, ℕ, true, false, length, take, get_or, Option, Some}
+use Rattle.std.proofs.Common.{zero, suc}
 use Rattle.paraid_base.specs.declared.block.Block.{Block}
 use Rattle.paraid_base.specs.Xor.{zeroed}
 use Rattle.paraid_rack.specs.Atoms.{IsLeft, Seen, Sure}
 use Rattle.paraid_rack.specs.Disks.{Disks, IsPresent}
 use Rattle.paraid_record.specs.declared.meta.Meta.{Meta}
 use Rattle.paraid_record.specs.Targets.{AreTargets, targets_bytes}
-use Rattle.paraid_txn.specs.Commit.{closed_over, gone_out}
-use Rattle.paraid_txn.specs.Neutral.{names}
-use Rattle.paraid_txn.specs.Out.{named_out}
-use Rattle.paraid_txn.specs.Sides.{Batch, Said, Says, Spells, is_open, targets}
+use Rattle.paraid_image.specs.Rest.{closed_over}
+use Rattle.paraid_txn.specs.Commit.{gone_out}
+use Rattle.paraid_image.specs.Neutral.{names}
+use Rattle.paraid_image.specs.Out.{named_out}
+use Rattle.paraid_image.specs.Sides.{Batch, Said, Says, Spells, is_open, targets}
 use Rattle.paraid_txn.specs.Staging.{blocks}
-use Rattle.paraid_txn.specs.Standing.{laid}
+use Rattle.paraid_image.specs.Standing.{laid, other_log}
 
--- What a commit does: the disks with which it begins, the batch, the meta that it brings, and the
--- blocks that spell meta and targets.
+-- What a commit does: the disks with which it begins, the batch, the meta that it brings, the
+-- blocks that spell meta and targets, the log disk that it leaves alone, if any, and the log disk
+-- whose gate it opens first.
 pub record Job : Type 0 where
   pub start : Disks
   pub meta : Meta
   pub batch : Batch
   pub spelled : Block
   pub list : Block
+  pub left : Option ℕ
+  pub first : ℕ
 
-abbrev pub job : Disks → Meta → Batch → Block → Block → Job
-job start meta batch spelled list =
-    record { start = start; meta = meta; batch = batch; spelled = spelled; list = list }
+abbrev pub job : Disks → Meta → Batch → Block → Block → ℕ → Job
+job start meta batch spelled list first = record {
+  start = start;
+  meta = meta;
+  batch = batch;
+  spelled = spelled;
+  list = list;
+  left = named_out meta.out;
+  first = first;
+}
+
+-- the log disk whose gate is opened first, and the other one
+abbrev pub turn_from : ℕ → ℕ → ℕ
+turn_from first zero = first
+turn_from first (suc n) = other_log first
+
+abbrev pub turn : Job → ℕ → ℕ
+turn j n = turn_from j.first n
 
 -- the blocks spell what they are to spell
 pub record IsSpelled (j : Job) : Type 0 where
   pub meta : Spells j.spelled j.meta
   pub in_range : AreTargets j.meta.setup.geometry (targets j.batch)
   pub list : j.list.bytes ≡ targets_bytes (targets j.batch)
+  pub first : j.first < 2
 
 -- the log disk that the commit leaves alone, and the disk whose targets it leaves out
 abbrev pub named : Job → Option ℕ
-named j = named_out j.meta.out
+named j = j.left
 
 abbrev pub gone : Job → Option ℕ
 gone j = gone_out j.meta.out
@@ -75,7 +96,7 @@ pub record IsKept (j : Job) (s : Disks) : Type 0 where
 
 -- the log of a log disk that is left alone is as it was
 pub record IsAside (j : Job) (s : Disks) : Type 0 where
-  pub log : (y p : ℕ) → named j ≡ Some y → p < 100 → Sure s y p (Is (j.start.block y p))
+  pub log : (y p : ℕ) → y < 2 → named j ≡ Some y → p < 100 → Sure s y p (Is (j.start.block y p))
 
 -- what holds at every moment of a commit, whatever the step
 pub record IsBeside (j : Job) (s : Disks) : Type 0 where
@@ -144,23 +165,25 @@ pub record LogIn (j : Job) (k n : ℕ) (s : Disks) : Type 0 where
   pub list : named j ≢ Some k → Seen s k 3 (Is j.list)
   pub blocks : (m : ℕ) → m < n → named j ≢ Some k → Seen s k (4 + m) (Is (body j m))
 
--- Step 2: all live log disks are logged, and the gates of those below `k` are open.
+-- Step 2: all live log disks are logged, and the gates of the first `k` are open; those after the
+-- next one are closed.
 pub record Opening (j : Job) (k : ℕ) (s : Disks) : Type 0 where
   pub beside : IsBeside j s
   pub meta : OldMetas j s
   pub logged : (x : ℕ) → IsLive j x → Logged j s x
-  pub opened : (x : ℕ) → x < k → IsLive j x → Opened s x
+  pub opened : (n : ℕ) → n < k → IsLive j (turn j n) → Opened s (turn j n)
+  pub waiting : (n : ℕ) → k < n → n < 2 → IsLive j (turn j n) → Shut s (turn j n)
   pub held : Untouched j s
 
 pub record Open (j : Job) (k : ℕ) (s : Disks) : Type 0 where
   pub core : Opening j k s
   pub dry : AllDry s
 
--- with the gate of disk `k` written
+-- with the next gate written
 pub record OpenIn (j : Job) (k : ℕ) (s : Disks) : Type 0 where
   pub core : Opening j k s
-  pub dry : DryBut (named j) k s
-  pub gate : named j ≢ Some k → Seen s k 0 (λ b. is_open b ≡ true)
+  pub dry : DryBut (named j) (turn j k) s
+  pub gate : named j ≢ Some (turn j k) → Seen s (turn j k) 0 (λ b. is_open b ≡ true)
 
 -- Step 3: all gates are open, and what is no target is as it was.
 pub record Laying (j : Job) (s : Disks) : Type 0 where
@@ -218,11 +241,13 @@ pub record CloseIn (j : Job) (k : ℕ) (s : Disks) : Type 0 where
   pub gate : named j ≢ Some k → Seen s k 0 (λ b. is_open b ≡ false)
 
 -- What a stop may leave before the targets are touched: each live log disk is closed as it was, or
--- open with the batch.
+-- open with the batch; and where the first one is closed, so is the other.
 pub record Early (j : Job) (i : Disks) : Type 0 where
   pub kept : IsKept j i
   pub sides : (x : ℕ) → IsLive j x → IsPresent i x
       → ((is_open (i.block x 0) ≡ false) × (i.block x 1 ≡ j.start.block x 1)) ⊎ Says i x (open_with j)
+  pub in_order : IsLive j j.first → IsPresent i j.first → is_open (i.block j.first 0) ≡ false
+      → (y : ℕ) → IsLive j y → IsPresent i y → is_open (i.block y 0) ≡ false
   pub held : (d p : ℕ) → IsPresent i d → 100 ≤ p → i.block d p ≡ was j d p
 
 -- And from then on: each live log disk is open with the batch, or closed over the new meta with
@@ -236,8 +261,20 @@ pub record Late (j : Job) (i : Disks) : Type 0 where
   pub done : (x d p : ℕ) → IsLive j x → IsPresent i x → Says i x (closed_over j.meta) → IsIn j d
       → IsPresent i d → 100 ≤ p → i.block d p ≡ becomes j d p
 
+-- what holds at every moment before the targets are touched, of all that a stop may leave there
+pub record Earlier (j : Job) (s : Disks) : Type 0 where
+  pub early : (i : Disks) → IsLeft s i → Early j i
+  pub aside : (i : Disks) → IsLeft s i → (y p : ℕ) → y < 2 → named j ≡ Some y → p < 100 → IsPresent i y
+      → i.block y p ≡ j.start.block y p
+
+-- and from then on
+pub record Later (j : Job) (s : Disks) : Type 0 where
+  pub late : (i : Disks) → IsLeft s i → Late j i
+  pub aside : (i : Disks) → IsLeft s i → (y p : ℕ) → y < 2 → named j ≡ Some y → p < 100 → IsPresent i y
+      → i.block y p ≡ j.start.block y p
+
 -- what holds at every moment of a commit, of all that a stop may leave there, with any slots lost
 pub record Whole (j : Job) (s : Disks) : Type 0 where
   pub either : ((i : Disks) → IsLeft s i → Early j i) ⊎ ((i : Disks) → IsLeft s i → Late j i)
-  pub aside : (i : Disks) → IsLeft s i → (y p : ℕ) → named j ≡ Some y → p < 100 → IsPresent i y
+  pub aside : (i : Disks) → IsLeft s i → (y p : ℕ) → y < 2 → named j ≡ Some y → p < 100 → IsPresent i y
       → i.block y p ≡ j.start.block y p

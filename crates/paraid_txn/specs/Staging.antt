@@ -3,7 +3,7 @@ use Rattle.std.specs.Prelude.{ℕ, ◌==◌, ◌&&◌, Bool, List, [], ◌∷◌
 use Rattle.std.specs.List.{list_any}
 use Rattle.paraid_base.specs.declared.block.Block.{Block}
 use Rattle.paraid_record.specs.declared.targets.Target.{Target}
-use Rattle.paraid_txn.specs.Sides.{Batch}
+use Rattle.paraid_image.specs.Sides.{Batch}
 
 -- the batch with this block at this target, in place of the one that it has there, or at its end
 abbrev pub with_target : Batch → Target → Block → Batch

@@ -2,7 +2,7 @@
 use Rattle.std.specs.Prelude.{◌≡◌, ℕ, Option}
 use Rattle.paraid_rack.specs.Slots.{Slot}
 use Rattle.paraid_txn.specs.declared.store.Store.{Store}
-use Rattle.paraid_txn.specs.Out.{first_absent, or_else}
+use Rattle.paraid_image.specs.Out.{first_absent, or_else}
 
 -- the rack that it owns
 abbrev pub rack_of : {R : Type 0} {g : _} → Store R g → R

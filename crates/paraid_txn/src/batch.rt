@@ -4,10 +4,10 @@ ghost use Rattle.std.specs.List.{list_any};
 ghost use Rattle.paraid_base.specs.declared.block.Block.{Block as BlockType};
 ghost use Rattle.paraid_base.specs.Xor.{zeroed};
 ghost use Rattle.paraid_record.specs.Targets.{no_target, targets_of};
-ghost use Rattle.paraid_txn.specs.Neutral.{names};
-ghost use Rattle.paraid_txn.specs.Sides.{targets};
+ghost use Rattle.paraid_image.specs.Neutral.{names};
+ghost use Rattle.paraid_image.specs.Sides.{targets};
 ghost use Rattle.paraid_txn.specs.Staging.{blocks, names_disk, with_target};
-ghost use Rattle.paraid_txn.specs.Standing.{laid};
+ghost use Rattle.paraid_image.specs.Standing.{laid};
 
 use paraid_base::{Block, DiskNo, NoMemory, Place};
 use paraid_record::{Target, Targets};
@@ -42,7 +42,7 @@ impl Model for Batch {
     ghost use Rattle.std.specs.Prelude.{List, map, length, ◌≤◌, ◌≢◌, AllPairs, vec_capacity};
     ghost use Rattle.paraid_base.specs.declared.block.Block.{Block as BlockType};
     ghost use Rattle.paraid_record.specs.declared.targets.Target.{Target as TargetType};
-    ghost use Rattle.paraid_txn.specs.Sides.{targets};
+    ghost use Rattle.paraid_image.specs.Sides.{targets};
 
     ghost Value = { List (TargetType × BlockType) };
 

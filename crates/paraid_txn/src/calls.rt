@@ -1,10 +1,13 @@
 //! The calls that a commit makes of the rack: a disk that is skipped or absent gets none, the
 //! first loss is borne, and the second is too many.
-ghost use Rattle.std.specs.Prelude.{◌≡◌, ◌≢◌, ℕ, ◌<◌, ◌≤◌, Bool, true, false, Some, None, OnOk, IfErr, is_ok};
-ghost use Rattle.paraid_rack.specs.declared.call.Call.TheVariants.{Sync, Write};
+ghost use Rattle.std.specs.Prelude.{◌≡◌, ◌≢◌, ℕ, ◌<◌, ◌≤◌, Bool, true, false, Some, None, Ok, is_ok};
+ghost use Rattle.paraid_rack.specs.Trail.{Trail, now};
+ghost use Rattle.paraid_rack.specs.declared.call.Call.TheVariants.{Read, Sync, Write};
 ghost use Rattle.paraid_rack.specs.declared.call.Power.TheVariants.{Absent};
 ghost use Rattle.paraid_rack.specs.Disks.{is_present};
-ghost use Rattle.paraid_txn.specs.Losses.{AreDryBut, AreOthersWell, CanWrite, Follows, IsDryAt, IsTwo, Lasts, MayDo};
+ghost use Rattle.paraid_txn.specs.CommitPart.{CommitPart};
+ghost use Rattle.paraid_txn.specs.Losses.{AreDryBut, CanWrite, Follows, IsDryAt, MayDo};
+ghost use Rattle.paraid_txn.specs.Uses.{IsThisCall};
 
 use crate::losses::Losses;
 use paraid_base::{Block, DiskNo, Failed, Place, Two};
@@ -56,13 +59,10 @@ pub fn put<R: Rack>(
     ensures slots { R.slot_count rack.new ≡ R.slot_count rack.old }
     ensures does { MayDo (R.told rack.old) (R.told rack.new) (R.slot rack.old) skip disk
         (λ done. Write disk place block.now done) }
-    ensures lasts { Lasts losses.old losses.new (R.slot rack.old) (R.slot rack.new) }
-    ensures well { OnOk result
-        (AreOthersWell losses.new (R.slot rack.old) (R.slot rack.new)) }
+    ensures part { CommitPart R.Rack (IsThisCall skip disk (λ done. Write disk place block.now done)) losses.old losses.new rack.old rack.new
+        result }
     ensures dry { AreDryBut (λ d. (d ≡ disk) × (skip ≢ Some d))
         (R.slot rack.old) (R.slot rack.new) }
-    ensures two { IfErr result
-        (IsTwo losses.old.down (R.slot rack.old) (R.slot rack.new)) }
 {
     if is_passed(rack, skip, disk) {
         return Ok(());
@@ -84,13 +84,10 @@ pub fn settle<R: Rack>(
     ensures slots { R.slot_count rack.new ≡ R.slot_count rack.old }
     ensures does { MayDo (R.told rack.old) (R.told rack.new) (R.slot rack.old) skip disk
         (λ done. Sync disk done) }
-    ensures lasts { Lasts losses.old losses.new (R.slot rack.old) (R.slot rack.new) }
-    ensures well { OnOk result
-        (AreOthersWell losses.new (R.slot rack.old) (R.slot rack.new)) }
+    ensures part { CommitPart R.Rack (IsThisCall skip disk (λ done. Sync disk done)) losses.old losses.new rack.old rack.new
+        result }
     ensures dry { AreDryBut (λ d. ⊥) (R.slot rack.old) (R.slot rack.new) }
     ensures settled { skip ≢ Some disk → IsDryAt (R.slot rack.new) disk }
-    ensures two { IfErr result
-        (IsTwo losses.old.down (R.slot rack.old) (R.slot rack.new)) }
 {
     if is_passed(rack, skip, disk) {
         return Ok(());
@@ -98,4 +95,38 @@ pub fn settle<R: Rack>(
     let answer = rack.sync(disk);
     follow(losses, disk, answer)?;
     Ok(())
+}
+
+/// Reads a block, unless the disk is skipped or absent. It answers whether it was read.
+pub fn take<R: Rack>(
+    rack: &mut R,
+    losses: &mut Losses,
+    skip: Option<DiskNo>,
+    disk: DiskNo,
+    place: Place,
+    into: &mut Block,
+) -> Result<bool, Two>
+    requires exists { disk < R.slot_count rack.old }
+    requires can { skip ≢ Some disk → CanWrite (R.slot rack.old) disk place }
+    ensures slots { R.slot_count rack.new ≡ R.slot_count rack.old }
+    ensures does { MayDo (R.told rack.old) (R.told rack.new) (R.slot rack.old) skip disk
+        (λ done. Read disk place done) }
+    ensures part { CommitPart R.Rack (IsThisCall skip disk (λ done. Read disk place done)) losses.old losses.new rack.old rack.new
+        result }
+    ensures dry { AreDryBut (λ d. ⊥) (R.slot rack.old) (R.slot rack.new) }
+    ensures bytes { result ≡ Ok true → (t : Trail) → R.told rack.old ≡ Some t
+        → into.new ≡ (now t).block disk place }
+    ensures read { result ≡ Ok true → skip ≢ Some disk }
+    ensures present { result ≡ Ok true
+        → is_present (R.slot rack.old disk).power ≡ true }
+    ensures passed { result ≡ Ok false → skip ≢ Some disk
+        → (R.slot rack.new disk).power ≡ Absent }
+{
+    if is_passed(rack, skip, disk) {
+        return Ok(false);
+    }
+    let answer = rack.read(disk, place, into);
+    let read = answer.is_ok();
+    follow(losses, disk, answer)?;
+    Ok(read)
 }

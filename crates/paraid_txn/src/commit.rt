@@ -11,7 +11,8 @@
 //!
 //! 1. On each log disk the batch is written to places 2 to 99 under the closed gate, and synced.
 //!    Until the next step a stop leaves the old contents.
-//! 2. On each log disk the gate is opened, and synced. An open gate stands before the closed one of
+//! 2. On each log disk the gate is opened, and synced; first on one that comes in again, which says
+//!    nothing before. An open gate stands before the closed one of
 //!    the commit before: its epoch is greater by one. From here on a stop leaves the new contents,
 //!    if the open gate is kept: the batch is laid over the image.
 //! 3. Each target is written in place, and each disk that was written is synced. Whatever a stop
@@ -22,17 +23,20 @@
 //!
 //! A log disk that the meta names out is left alone, and so are the targets on a disk that is gone.
 //! A disk that fails is left out of the rest.
-ghost use Rattle.std.specs.Prelude.{◌≡◌, ◌≢◌, ℕ, ◌+◌, ◌<◌, ◌≤◌, true, false, length, Some, OnOk, OnErr, IfErr, IfOk, All, AllPairs, ◌-◌, ◌^◌};
+ghost use Rattle.std.specs.Prelude.{◌≡◌, ◌≢◌, ℕ, ◌+◌, ◌<◌, ◌≤◌, true, false, length, Some, None, OnOk, OnErr, IfErr, IfOk, All, AllPairs, ◌-◌, ◌^◌};
+ghost use Rattle.paraid_base.specs.declared.fault.Two.{Two as TwoType};
 ghost use Rattle.paraid_record.specs.declared.targets.Target.{Target as TargetType};
 ghost use Rattle.paraid_rack.specs.Disks.{Disks};
 ghost use Rattle.paraid_rack.specs.Told.{Ran, Runs};
-ghost use Rattle.paraid_txn.specs.Losses.{AreDry, AreDryBut, AreOthersWell, CanWrite, IsDryAt, IsLostNow, IsSpared, IsTwo, Lasts};
+ghost use Rattle.paraid_txn.specs.CommitPart.{CommitPart};
+ghost use Rattle.paraid_txn.specs.Losses.{AreDry, AreDryBut, AreFailedOrWell, CanWrite, IsAlone, IsDryAt, IsLostNow, IsOut, IsSpared, IsTwoBeside, IsWell};
+ghost use Rattle.paraid_txn.specs.Uses.{EachCall, Uses, UsesLog, UsesTarget};
 ghost use Rattle.paraid_txn.specs.Ready.{AreTargetsReady, CanCommit, IsLogReady};
-ghost use Rattle.paraid_txn.specs.Sides.{is_open, targets};
+ghost use Rattle.paraid_image.specs.Sides.{is_open, targets};
 ghost use Rattle.paraid_txn.specs.Staging.{names_disk};
-ghost use Rattle.paraid_txn.specs.Stages.{Close, IsSpelled, Job, LayIn, Log, LogIn, Mark, Open, SettleIn, Whole, gone, job, named};
+ghost use Rattle.paraid_txn.specs.Stages.{Close, Earlier, IsSpelled, Job, Later, LayIn, Log, LogIn, Mark, Open, SettleIn, Whole, gone, job, named, turn};
 ghost use Rattle.paraid_txn.specs.Commit.{Commits, IsWholeOrAbsent, gone_out as gone_of};
-ghost use Rattle.paraid_txn.specs.Out.{named_out as named_of, or_else};
+ghost use Rattle.paraid_image.specs.Out.{named_out as named_of};
 ghost use Rattle.paraid_record.specs.declared.meta.Meta.{Meta as MetaType};
 ghost use Rattle.paraid_record.specs.Meta.{meta_bytes};
 ghost use Rattle.paraid_record.specs.Range.{IsInRange};
@@ -41,13 +45,13 @@ ghost use Rattle.paraid_record.specs.Targets.{AreTargets, IsTargetInRange, targe
 use crate::batch::Batch;
 use crate::calls::{put, settle};
 use crate::losses::Losses;
-use crate::store::{Store, gone_out, named_out};
+use crate::store::{Store, find_absent, gone_out, named_out, out_first};
 use paraid_base::{Block, DiskNo, Two};
 use paraid_rack::Rack;
 use paraid_record::{Meta, write_meta, write_targets};
 
 /// An open gate, or a closed one.
-fn gate(opened: bool) -> Block
+pub fn gate(opened: bool) -> Block
     ensures { is_open result ≡ opened }
 {
     let mut block = Block::zero();
@@ -58,7 +62,6 @@ fn gate(opened: bool) -> Block
 }
 
 // Step 1: the blocks of the batch, on one log disk.
-#[tactic(auto, using(crate::proofs::ReadyLemmas::log_stays_ready))]
 fn put_blocks<R: Rack>(
     rack: &mut R,
     losses: &mut Losses,
@@ -71,19 +74,15 @@ fn put_blocks<R: Rack>(
     requires log { IsLogReady skip (R.slot rack.old) }
     requires few { length batch.now ≤ 96 }
     ensures slots { R.slot_count rack.new ≡ R.slot_count rack.old }
-    ensures log { IsLogReady skip (R.slot rack.new) }
-    ensures lasts { Lasts losses.old losses.new (R.slot rack.old) (R.slot rack.new) }
-    ensures well { OnOk result
-        (AreOthersWell losses.new (R.slot rack.old) (R.slot rack.new)) }
+    ensures part { CommitPart R.Rack (UsesLog skip) losses.old losses.new rack.old rack.new
+        result }
     ensures dry { AreDryBut (λ d. (d ≡ disk) × (skip ≢ Some d))
         (R.slot rack.old) (R.slot rack.new) }
-    ensures two { IfErr result
-        (IsTwo losses.old.down (R.slot rack.old) (R.slot rack.new)) }
     ensures moments { (j : Job) → IsSpelled j → named j ≡ skip → j.batch ≡ batch.now
-        → Ran (R.told rack.old) (R.told rack.new) (Runs (Whole j) (LogIn j disk 0) (Whole j)) }
+        → Ran (R.told rack.old) (R.told rack.new) (Runs (Earlier j) (LogIn j disk 0) (Earlier j)) }
     ensures done { OnOk result ((j : Job) → IsSpelled j → named j ≡ skip → j.batch ≡ batch.now
         → Ran (R.told rack.old) (R.told rack.new)
-        (Runs (Whole j) (LogIn j disk 0) (LogIn j disk (length batch.now)))) }
+        (Runs (Earlier j) (LogIn j disk 0) (LogIn j disk (length batch.now)))) }
 {
     for at in 0..batch.count() {
         put(
@@ -99,8 +98,7 @@ fn put_blocks<R: Rack>(
 }
 
 // Step 1 on one log disk.
-#[tactic(auto, using(crate::proofs::ReadyLemmas::log_stays_ready))]
-fn write_log<R: Rack>(
+pub fn write_log<R: Rack>(
     rack: &mut R,
     losses: &mut Losses,
     skip: Option<DiskNo>,
@@ -114,20 +112,16 @@ fn write_log<R: Rack>(
     requires log { IsLogReady skip (R.slot rack.old) }
     requires few { length batch.now ≤ 96 }
     ensures slots { R.slot_count rack.new ≡ R.slot_count rack.old }
-    ensures log { IsLogReady skip (R.slot rack.new) }
-    ensures lasts { Lasts losses.old losses.new (R.slot rack.old) (R.slot rack.new) }
-    ensures well { OnOk result
-        (AreOthersWell losses.new (R.slot rack.old) (R.slot rack.new)) }
+    ensures part { CommitPart R.Rack (UsesLog skip) losses.old losses.new rack.old rack.new
+        result }
     ensures dry { OnOk result (AreDry (R.slot rack.old) (R.slot rack.new)) }
-    ensures two { IfErr result
-        (IsTwo losses.old.down (R.slot rack.old) (R.slot rack.new)) }
     ensures moments { (j : Job) → IsSpelled j → named j ≡ skip → j.batch ≡ batch.now
         → j.list ≡ list.now → j.spelled ≡ meta.now
-        → Ran (R.told rack.old) (R.told rack.new) (Runs (Whole j) (Log j disk) (Whole j)) }
+        → Ran (R.told rack.old) (R.told rack.new) (Runs (Earlier j) (Log j disk) (Earlier j)) }
     ensures done { OnOk result ((j : Job) → IsSpelled j → named j ≡ skip → j.batch ≡ batch.now
         → j.list ≡ list.now → j.spelled ≡ meta.now
         → Ran (R.told rack.old) (R.told rack.new)
-        (Runs (Whole j) (Log j disk) (Log j (disk + 1)))) }
+        (Runs (Earlier j) (Log j disk) (Log j (disk + 1)))) }
 {
     put(rack, losses, skip, disk, 2, meta)?;
     put(rack, losses, skip, disk, 3, list)?;
@@ -137,8 +131,7 @@ fn write_log<R: Rack>(
 }
 
 // Step 2 on one log disk.
-#[tactic(auto, using(crate::proofs::ReadyLemmas::log_stays_ready))]
-fn open_gate<R: Rack>(
+pub fn open_gate<R: Rack>(
     rack: &mut R,
     losses: &mut Losses,
     skip: Option<DiskNo>,
@@ -150,18 +143,14 @@ fn open_gate<R: Rack>(
     requires log { IsLogReady skip (R.slot rack.old) }
     requires opens { is_open gate.now ≡ true }
     ensures slots { R.slot_count rack.new ≡ R.slot_count rack.old }
-    ensures log { IsLogReady skip (R.slot rack.new) }
-    ensures lasts { Lasts losses.old losses.new (R.slot rack.old) (R.slot rack.new) }
-    ensures well { OnOk result
-        (AreOthersWell losses.new (R.slot rack.old) (R.slot rack.new)) }
+    ensures part { CommitPart R.Rack (UsesLog skip) losses.old losses.new rack.old rack.new
+        result }
     ensures dry { OnOk result (AreDry (R.slot rack.old) (R.slot rack.new)) }
-    ensures two { IfErr result
-        (IsTwo losses.old.down (R.slot rack.old) (R.slot rack.new)) }
-    ensures moments { (j : Job) → IsSpelled j → named j ≡ skip
-        → Ran (R.told rack.old) (R.told rack.new) (Runs (Whole j) (Open j disk) (Whole j)) }
-    ensures done { OnOk result ((j : Job) → IsSpelled j → named j ≡ skip
-        → Ran (R.told rack.old) (R.told rack.new)
-        (Runs (Whole j) (Open j disk) (Open j (disk + 1)))) }
+    ensures moments { (j : Job) (k : ℕ) → IsSpelled j → named j ≡ skip → k < 2 → turn j k ≡ disk
+        → Ran (R.told rack.old) (R.told rack.new) (Runs (Earlier j) (Open j k) (Earlier j)) }
+    ensures done { OnOk result ((j : Job) (k : ℕ) → IsSpelled j → named j ≡ skip → k < 2
+        → turn j k ≡ disk → Ran (R.told rack.old) (R.told rack.new)
+        (Runs (Earlier j) (Open j k) (Open j (k + 1)))) }
 {
     put(rack, losses, skip, disk, 0, gate)?;
     settle(rack, losses, skip, disk)?; // before a target is touched
@@ -180,18 +169,15 @@ fn lay<R: Rack>(
     requires past_log { All (λ (t : TargetType). 100 ≤ t.place) (targets batch.now) }
     requires few { length batch.now ≤ 96 }
     ensures slots { R.slot_count rack.new ≡ R.slot_count rack.old }
-    ensures lasts { Lasts losses.old losses.new (R.slot rack.old) (R.slot rack.new) }
-    ensures well { OnOk result
-        (AreOthersWell losses.new (R.slot rack.old) (R.slot rack.new)) }
+    ensures part { CommitPart R.Rack (UsesTarget skip batch.now) losses.old losses.new rack.old rack.new
+        result }
     ensures dry { AreDryBut (λ d. (names_disk batch.now d ≡ true) × (skip ≢ Some d))
         (R.slot rack.old) (R.slot rack.new) }
-    ensures two { IfErr result
-        (IsTwo losses.old.down (R.slot rack.old) (R.slot rack.new)) }
     ensures moments { (j : Job) → IsSpelled j → gone j ≡ skip → j.batch ≡ batch.now
-        → Ran (R.told rack.old) (R.told rack.new) (Runs (Whole j) (LayIn j 0) (Whole j)) }
+        → Ran (R.told rack.old) (R.told rack.new) (Runs (Later j) (LayIn j 0) (Later j)) }
     ensures done { OnOk result ((j : Job) → IsSpelled j → gone j ≡ skip → j.batch ≡ batch.now
         → Ran (R.told rack.old) (R.told rack.new)
-        (Runs (Whole j) (LayIn j 0) (LayIn j (length batch.now)))) }
+        (Runs (Later j) (LayIn j 0) (LayIn j (length batch.now)))) }
 {
     for at in 0..batch.count() {
         let target = batch.target(at as usize);
@@ -219,19 +205,16 @@ fn settle_one<R: Rack>(
     requires ready { AreTargetsReady skip (R.slot_count rack.old) (R.slot rack.old)
         (targets batch.now) }
     ensures slots { R.slot_count rack.new ≡ R.slot_count rack.old }
-    ensures lasts { Lasts losses.old losses.new (R.slot rack.old) (R.slot rack.new) }
-    ensures well { OnOk result
-        (AreOthersWell losses.new (R.slot rack.old) (R.slot rack.new)) }
+    ensures part { CommitPart R.Rack (UsesTarget skip batch.now) losses.old losses.new rack.old rack.new
+        result }
     ensures dry { AreDry (R.slot rack.old) (R.slot rack.new) }
     ensures settled { names_disk batch.now disk ≡ true → skip ≢ Some disk
         → IsDryAt (R.slot rack.new) disk }
-    ensures two { IfErr result
-        (IsTwo losses.old.down (R.slot rack.old) (R.slot rack.new)) }
     ensures moments { (j : Job) → IsSpelled j → gone j ≡ skip → j.batch ≡ batch.now
-        → Ran (R.told rack.old) (R.told rack.new) (Runs (Whole j) (SettleIn j disk) (Whole j)) }
+        → Ran (R.told rack.old) (R.told rack.new) (Runs (Later j) (SettleIn j disk) (Later j)) }
     ensures done { OnOk result ((j : Job) → IsSpelled j → gone j ≡ skip → j.batch ≡ batch.now
         → Ran (R.told rack.old) (R.told rack.new)
-        (Runs (Whole j) (SettleIn j disk) (SettleIn j (disk + 1)))) }
+        (Runs (Later j) (SettleIn j disk) (SettleIn j (disk + 1)))) }
 {
     if !batch.has_disk(disk) {
         return Ok(());
@@ -253,18 +236,15 @@ fn settle_all<R: Rack>(
         (targets batch.now) }
     requires below { All (λ (t : TargetType). t.disk < disks) (targets batch.now) }
     ensures slots { R.slot_count rack.new ≡ R.slot_count rack.old }
-    ensures lasts { Lasts losses.old losses.new (R.slot rack.old) (R.slot rack.new) }
-    ensures well { OnOk result
-        (AreOthersWell losses.new (R.slot rack.old) (R.slot rack.new)) }
+    ensures part { CommitPart R.Rack (UsesTarget skip batch.now) losses.old losses.new rack.old rack.new
+        result }
     ensures dry { AreDry (R.slot rack.old) (R.slot rack.new) }
     ensures settled { OnOk result ((d : ℕ) → names_disk batch.now d ≡ true → skip ≢ Some d
         → IsDryAt (R.slot rack.new) d) }
-    ensures two { IfErr result
-        (IsTwo losses.old.down (R.slot rack.old) (R.slot rack.new)) }
     ensures moments { (j : Job) → IsSpelled j → gone j ≡ skip → j.batch ≡ batch.now
-        → Ran (R.told rack.old) (R.told rack.new) (Runs (Whole j) (SettleIn j 0) (Whole j)) }
+        → Ran (R.told rack.old) (R.told rack.new) (Runs (Later j) (SettleIn j 0) (Later j)) }
     ensures done { OnOk result ((j : Job) → IsSpelled j → gone j ≡ skip → j.batch ≡ batch.now
-        → Ran (R.told rack.old) (R.told rack.new) (Runs (Whole j) (SettleIn j 0) (Mark j 0))) }
+        → Ran (R.told rack.old) (R.told rack.new) (Runs (Later j) (SettleIn j 0) (Mark j 0))) }
 {
     for disk in 0..disks {
         settle_one(rack, losses, skip, batch, disk)?;
@@ -273,7 +253,6 @@ fn settle_all<R: Rack>(
 }
 
 // Step 4 on one log disk.
-#[tactic(auto, using(crate::proofs::ReadyLemmas::log_stays_ready))]
 fn mark<R: Rack>(
     rack: &mut R,
     losses: &mut Losses,
@@ -285,18 +264,14 @@ fn mark<R: Rack>(
     requires log_disk { disk < 2 }
     requires log { IsLogReady skip (R.slot rack.old) }
     ensures slots { R.slot_count rack.new ≡ R.slot_count rack.old }
-    ensures log { IsLogReady skip (R.slot rack.new) }
-    ensures lasts { Lasts losses.old losses.new (R.slot rack.old) (R.slot rack.new) }
-    ensures well { OnOk result
-        (AreOthersWell losses.new (R.slot rack.old) (R.slot rack.new)) }
+    ensures part { CommitPart R.Rack (UsesLog skip) losses.old losses.new rack.old rack.new
+        result }
     ensures dry { OnOk result (AreDry (R.slot rack.old) (R.slot rack.new)) }
-    ensures two { IfErr result
-        (IsTwo losses.old.down (R.slot rack.old) (R.slot rack.new)) }
     ensures moments { (j : Job) → IsSpelled j → named j ≡ skip → j.spelled ≡ meta.now
-        → Ran (R.told rack.old) (R.told rack.new) (Runs (Whole j) (Mark j disk) (Whole j)) }
+        → Ran (R.told rack.old) (R.told rack.new) (Runs (Later j) (Mark j disk) (Later j)) }
     ensures done { OnOk result ((j : Job) → IsSpelled j → named j ≡ skip → j.spelled ≡ meta.now
         → Ran (R.told rack.old) (R.told rack.new)
-        (Runs (Whole j) (Mark j disk) (Mark j (disk + 1)))) }
+        (Runs (Later j) (Mark j disk) (Mark j (disk + 1)))) }
 {
     put(rack, losses, skip, disk, 1, meta)?;
     settle(rack, losses, skip, disk)?; // before its gate closes
@@ -304,7 +279,6 @@ fn mark<R: Rack>(
 }
 
 // Step 5 on one log disk.
-#[tactic(auto, using(crate::proofs::ReadyLemmas::log_stays_ready))]
 fn close_gate<R: Rack>(
     rack: &mut R,
     losses: &mut Losses,
@@ -317,18 +291,14 @@ fn close_gate<R: Rack>(
     requires log { IsLogReady skip (R.slot rack.old) }
     requires shuts { is_open gate.now ≡ false }
     ensures slots { R.slot_count rack.new ≡ R.slot_count rack.old }
-    ensures log { IsLogReady skip (R.slot rack.new) }
-    ensures lasts { Lasts losses.old losses.new (R.slot rack.old) (R.slot rack.new) }
-    ensures well { OnOk result
-        (AreOthersWell losses.new (R.slot rack.old) (R.slot rack.new)) }
+    ensures part { CommitPart R.Rack (UsesLog skip) losses.old losses.new rack.old rack.new
+        result }
     ensures dry { OnOk result (AreDry (R.slot rack.old) (R.slot rack.new)) }
-    ensures two { IfErr result
-        (IsTwo losses.old.down (R.slot rack.old) (R.slot rack.new)) }
     ensures moments { (j : Job) → IsSpelled j → named j ≡ skip
-        → Ran (R.told rack.old) (R.told rack.new) (Runs (Whole j) (Close j disk) (Whole j)) }
+        → Ran (R.told rack.old) (R.told rack.new) (Runs (Later j) (Close j disk) (Later j)) }
     ensures done { OnOk result ((j : Job) → IsSpelled j → named j ≡ skip
         → Ran (R.told rack.old) (R.told rack.new)
-        (Runs (Whole j) (Close j disk) (Close j (disk + 1)))) }
+        (Runs (Later j) (Close j disk) (Close j (disk + 1)))) }
 {
     put(rack, losses, skip, disk, 0, gate)?;
     settle(rack, losses, skip, disk)?;
@@ -336,7 +306,6 @@ fn close_gate<R: Rack>(
 }
 
 // Step 1 on both log disks.
-#[tactic(auto, using(crate::proofs::ReadyLemmas::log_stays_ready))]
 fn write_logs<R: Rack>(
     rack: &mut R,
     losses: &mut Losses,
@@ -349,51 +318,48 @@ fn write_logs<R: Rack>(
     requires log { IsLogReady skip (R.slot rack.old) }
     requires few { length batch.now ≤ 96 }
     ensures slots { R.slot_count rack.new ≡ R.slot_count rack.old }
-    ensures log { IsLogReady skip (R.slot rack.new) }
-    ensures lasts { Lasts losses.old losses.new (R.slot rack.old) (R.slot rack.new) }
-    ensures well { OnOk result
-        (AreOthersWell losses.new (R.slot rack.old) (R.slot rack.new)) }
+    ensures part { CommitPart R.Rack (UsesLog skip) losses.old losses.new rack.old rack.new
+        result }
     ensures dry { OnOk result (AreDry (R.slot rack.old) (R.slot rack.new)) }
-    ensures two { IfErr result
-        (IsTwo losses.old.down (R.slot rack.old) (R.slot rack.new)) }
     ensures moments { (j : Job) → IsSpelled j → named j ≡ skip → j.batch ≡ batch.now
         → j.list ≡ list.now → j.spelled ≡ meta.now
-        → Ran (R.told rack.old) (R.told rack.new) (Runs (Whole j) (Log j 0) (Whole j)) }
+        → Ran (R.told rack.old) (R.told rack.new) (Runs (Earlier j) (Log j 0) (Earlier j)) }
     ensures done { OnOk result ((j : Job) → IsSpelled j → named j ≡ skip → j.batch ≡ batch.now
         → j.list ≡ list.now → j.spelled ≡ meta.now
-        → Ran (R.told rack.old) (R.told rack.new) (Runs (Whole j) (Log j 0) (Open j 0))) }
+        → Ran (R.told rack.old) (R.told rack.new) (Runs (Earlier j) (Log j 0) (Open j 0))) }
 {
     write_log(rack, losses, skip, 0, batch, list, meta)?;
     write_log(rack, losses, skip, 1, batch, list, meta)?;
     Ok(())
 }
 
-// Step 2 on both log disks.
-#[tactic(auto, using(crate::proofs::ReadyLemmas::log_stays_ready))]
-fn open_gates<R: Rack>(rack: &mut R, losses: &mut Losses, skip: Option<DiskNo>) -> Result<(), Two>
+// Step 2 on both log disks, on one of them first.
+fn open_gates<R: Rack>(
+    rack: &mut R,
+    losses: &mut Losses,
+    skip: Option<DiskNo>,
+    first: DiskNo,
+) -> Result<(), Two>
     requires exists { 2 ≤ R.slot_count rack.old }
+    requires log_disk { first < 2 }
     requires log { IsLogReady skip (R.slot rack.old) }
     ensures slots { R.slot_count rack.new ≡ R.slot_count rack.old }
-    ensures log { IsLogReady skip (R.slot rack.new) }
-    ensures lasts { Lasts losses.old losses.new (R.slot rack.old) (R.slot rack.new) }
-    ensures well { OnOk result
-        (AreOthersWell losses.new (R.slot rack.old) (R.slot rack.new)) }
+    ensures part { CommitPart R.Rack (UsesLog skip) losses.old losses.new rack.old rack.new
+        result }
     ensures dry { OnOk result (AreDry (R.slot rack.old) (R.slot rack.new)) }
-    ensures two { IfErr result
-        (IsTwo losses.old.down (R.slot rack.old) (R.slot rack.new)) }
-    ensures moments { (j : Job) → IsSpelled j → named j ≡ skip
-        → Ran (R.told rack.old) (R.told rack.new) (Runs (Whole j) (Open j 0) (Whole j)) }
-    ensures done { OnOk result ((j : Job) → IsSpelled j → named j ≡ skip
-        → Ran (R.told rack.old) (R.told rack.new) (Runs (Whole j) (Open j 0) (LayIn j 0))) }
+    ensures moments { (j : Job) → IsSpelled j → named j ≡ skip → j.first ≡ first
+        → Ran (R.told rack.old) (R.told rack.new) (Runs (Earlier j) (Open j 0) (Earlier j)) }
+    ensures done { OnOk result ((j : Job) → IsSpelled j → named j ≡ skip → j.first ≡ first
+        → Ran (R.told rack.old) (R.told rack.new) (Runs (Earlier j) (Open j 0) (LayIn j 0))) }
 {
     let opened = gate(true);
-    open_gate(rack, losses, skip, 0, &opened)?;
-    open_gate(rack, losses, skip, 1, &opened)?;
+    open_gate(rack, losses, skip, first, &opened)?;
+    open_gate(rack, losses, skip, 1 - first, &opened)?;
     Ok(())
 }
 
 // Step 3.
-fn lay_all<R: Rack>(
+pub fn lay_all<R: Rack>(
     rack: &mut R,
     losses: &mut Losses,
     skip: Option<DiskNo>,
@@ -407,16 +373,13 @@ fn lay_all<R: Rack>(
     requires below { All (λ (t : TargetType). t.disk < disks) (targets batch.now) }
     requires few { length batch.now ≤ 96 }
     ensures slots { R.slot_count rack.new ≡ R.slot_count rack.old }
-    ensures lasts { Lasts losses.old losses.new (R.slot rack.old) (R.slot rack.new) }
-    ensures well { OnOk result
-        (AreOthersWell losses.new (R.slot rack.old) (R.slot rack.new)) }
+    ensures part { CommitPart R.Rack (UsesTarget skip batch.now) losses.old losses.new rack.old rack.new
+        result }
     ensures dry { OnOk result (AreDry (R.slot rack.old) (R.slot rack.new)) }
-    ensures two { IfErr result
-        (IsTwo losses.old.down (R.slot rack.old) (R.slot rack.new)) }
     ensures moments { (j : Job) → IsSpelled j → gone j ≡ skip → j.batch ≡ batch.now
-        → Ran (R.told rack.old) (R.told rack.new) (Runs (Whole j) (LayIn j 0) (Whole j)) }
+        → Ran (R.told rack.old) (R.told rack.new) (Runs (Later j) (LayIn j 0) (Later j)) }
     ensures done { OnOk result ((j : Job) → IsSpelled j → gone j ≡ skip → j.batch ≡ batch.now
-        → Ran (R.told rack.old) (R.told rack.new) (Runs (Whole j) (LayIn j 0) (Mark j 0))) }
+        → Ran (R.told rack.old) (R.told rack.new) (Runs (Later j) (LayIn j 0) (Mark j 0))) }
 {
     lay(rack, losses, skip, batch)?;
     settle_all(rack, losses, skip, batch, disks)?;
@@ -424,8 +387,7 @@ fn lay_all<R: Rack>(
 }
 
 // Steps 4 and 5 on both log disks.
-#[tactic(auto, using(crate::proofs::ReadyLemmas::log_stays_ready))]
-fn finish<R: Rack>(
+pub fn finish<R: Rack>(
     rack: &mut R,
     losses: &mut Losses,
     skip: Option<DiskNo>,
@@ -434,16 +396,13 @@ fn finish<R: Rack>(
     requires exists { 2 ≤ R.slot_count rack.old }
     requires log { IsLogReady skip (R.slot rack.old) }
     ensures slots { R.slot_count rack.new ≡ R.slot_count rack.old }
-    ensures lasts { Lasts losses.old losses.new (R.slot rack.old) (R.slot rack.new) }
-    ensures well { OnOk result
-        (AreOthersWell losses.new (R.slot rack.old) (R.slot rack.new)) }
+    ensures part { CommitPart R.Rack (UsesLog skip) losses.old losses.new rack.old rack.new
+        result }
     ensures dry { OnOk result (AreDry (R.slot rack.old) (R.slot rack.new)) }
-    ensures two { IfErr result
-        (IsTwo losses.old.down (R.slot rack.old) (R.slot rack.new)) }
     ensures moments { (j : Job) → IsSpelled j → named j ≡ skip → j.spelled ≡ meta.now
-        → Ran (R.told rack.old) (R.told rack.new) (Runs (Whole j) (Mark j 0) (Whole j)) }
+        → Ran (R.told rack.old) (R.told rack.new) (Runs (Later j) (Mark j 0) (Later j)) }
     ensures done { OnOk result ((j : Job) → IsSpelled j → named j ≡ skip → j.spelled ≡ meta.now
-        → Ran (R.told rack.old) (R.told rack.new) (Runs (Whole j) (Mark j 0) (Close j 2))) }
+        → Ran (R.told rack.old) (R.told rack.new) (Runs (Later j) (Mark j 0) (Close j 2))) }
 {
     mark(rack, losses, skip, 0, meta)?;
     mark(rack, losses, skip, 1, meta)?;
@@ -461,34 +420,33 @@ fn run<R: Rack>(
     batch: &Batch,
     list: &Block,
     spelled: &Block,
+    first: DiskNo,
 ) -> Result<(), Two>
+    requires log_disk { first < 2 }
     requires exists { meta.now.setup.geometry.disks ≤ R.slot_count rack.old }
     requires log { IsLogReady (named_of meta.now.out) (R.slot rack.old) }
     requires ready { AreTargetsReady (gone_of meta.now.out) (R.slot_count rack.old)
         (R.slot rack.old) (targets batch.now) }
     requires in_range { AreTargets meta.now.setup.geometry (targets batch.now) }
     ensures slots { R.slot_count rack.new ≡ R.slot_count rack.old }
-    ensures lasts { Lasts losses.old losses.new (R.slot rack.old) (R.slot rack.new) }
-    ensures well { OnOk result
-        (AreOthersWell losses.new (R.slot rack.old) (R.slot rack.new)) }
+    ensures part { CommitPart R.Rack (Uses meta.now batch.now) losses.old losses.new rack.old rack.new
+        result }
     ensures dry { OnOk result (AreDry (R.slot rack.old) (R.slot rack.new)) }
-    ensures two { IfErr result
-        (IsTwo losses.old.down (R.slot rack.old) (R.slot rack.new)) }
-    ensures moments { (start : Disks) → IsSpelled (job start meta.now batch.now spelled.now list.now)
+    ensures moments { (start : Disks) → IsSpelled (job start meta.now batch.now spelled.now list.now first)
         → Ran (R.told rack.old) (R.told rack.new)
-        (Runs (Whole (job start meta.now batch.now spelled.now list.now))
-        (Log (job start meta.now batch.now spelled.now list.now) 0)
-        (Whole (job start meta.now batch.now spelled.now list.now))) }
+        (Runs (Whole (job start meta.now batch.now spelled.now list.now first))
+        (Log (job start meta.now batch.now spelled.now list.now first) 0)
+        (Whole (job start meta.now batch.now spelled.now list.now first))) }
     ensures done { OnOk result ((start : Disks)
-        → IsSpelled (job start meta.now batch.now spelled.now list.now)
+        → IsSpelled (job start meta.now batch.now spelled.now list.now first)
         → Ran (R.told rack.old) (R.told rack.new)
-        (Runs (Whole (job start meta.now batch.now spelled.now list.now))
-        (Log (job start meta.now batch.now spelled.now list.now) 0)
-        (Close (job start meta.now batch.now spelled.now list.now) 2))) }
+        (Runs (Whole (job start meta.now batch.now spelled.now list.now first))
+        (Log (job start meta.now batch.now spelled.now list.now first) 0)
+        (Close (job start meta.now batch.now spelled.now list.now first) 2))) }
 {
     let named = named_out(meta.out);
     write_logs(rack, losses, named, batch, list, spelled)?;
-    open_gates(rack, losses, named)?;
+    open_gates(rack, losses, named, first)?;
     lay_all(
         rack,
         losses,
@@ -500,8 +458,37 @@ fn run<R: Rack>(
     Ok(())
 }
 
+// The log disk whose gate opens first: one that comes in again, by who was named out and who is.
+fn opens_first(was: Option<DiskNo>, now: Option<DiskNo>) -> DiskNo
+    ensures log_disk { result < 2 }
+    ensures joins { (x : ℕ) → x < 2 → was ≡ Some x → now ≢ Some x → result ≡ x }
+{
+    match was {
+        Some(1) => 1,
+        _ => 0,
+    }
+}
+
+// Two disks are down where one was lost beside another one that the meta names out.
+fn find_second(lost: Option<DiskNo>, named: Option<DiskNo>) -> Option<Two>
+    ensures none { result ≡ None → (d e : ℕ) → lost ≡ Some d → named ≡ Some e → e ≡ d }
+    ensures two { (two : TwoType) → result ≡ Some two
+        → (named ≡ Some two.first) × (lost ≡ Some two.second) × (two.first ≢ two.second) }
+{
+    let Some(second) = lost else {
+        return None;
+    };
+    let Some(first) = named else {
+        return None;
+    };
+    if first == second {
+        return None;
+    }
+    Some(Two { first, second })
+}
+
 // The block that spells the targets of a batch.
-fn spell_targets(batch: &Batch) -> Block
+pub fn spell_targets(batch: &Batch) -> Block
     ensures value { result.bytes ≡ targets_bytes (targets batch.now) }
     ensures few { length (targets batch.now) ≤ 96 }
     ensures distinct { AllPairs (λ s t. s ≢ t) (targets batch.now) }
@@ -512,7 +499,7 @@ fn spell_targets(batch: &Batch) -> Block
 }
 
 // The block that spells a meta.
-fn spell_meta(meta: &Meta) -> Block
+pub fn spell_meta(meta: &Meta) -> Block
     requires { IsInRange meta.now }
     ensures { result.bytes ≡ meta_bytes meta.now }
 {
@@ -522,7 +509,7 @@ fn spell_meta(meta: &Meta) -> Block
 }
 
 impl<R: Rack> Store<R> {
-    ghost use Rattle.paraid_txn.specs.Stores.{disks_of, epoch_of, named_of as named_by, out_of, rack_of};
+    ghost use Rattle.paraid_txn.specs.Stores.{disks_of, epoch_of, named_of as named_by, rack_of};
 
     /// Lays a batch and the next meta over what the disks hold: whole or not at all, whatever
     /// stops it and whatever one disk is lost.
@@ -531,8 +518,8 @@ impl<R: Rack> Store<R> {
     /// It answers the disk that failed in it, if one did; the commit went on without it. Where a
     /// second disk is down it ends and names both.
     ///
-    /// No log disk comes in again by it: the clauses on moments ask that a log disk which was
-    /// named out, and is there, is named out again.
+    /// A log disk that was being rebuilt comes in again where the meta given names none out; its
+    /// gate is opened first.
     pub fn commit(&mut self, batch: &Batch, meta: &Meta) -> Result<Option<DiskNo>, Two>
         requires { CanCommit (epoch_of self.old) (disks_of self.old)
             (R.slot_count (rack_of self.old)) (R.slot (rack_of self.old)) batch.now meta.now }
@@ -548,20 +535,28 @@ impl<R: Rack> Store<R> {
         ensures ended { OnErr result ((epoch_of self.new ≡ epoch_of self.old)
             × (named_by self.new ≡ named_by self.old)) }
 
-        // The disk that is answered is the one whose count has risen.
+        // The disk that is answered is the one whose count has risen, and no other one was out.
         ensures lost { IfOk result (λ lost. (d : ℕ) → lost ≡ Some d
             → IsLostNow (R.slot (rack_of self.old)) (R.slot (rack_of self.new)) d) }
+        ensures alone { IfOk result (λ lost. (d : ℕ) → lost ≡ Some d
+            → IsAlone (disks_of self.old) (IsOut (λ e. (R.slot (rack_of self.old) e).power)
+            (disks_of self.old) (named_by self.old) (named_of meta.now.out)) d) }
         ensures well { IfOk result (λ lost. (d : ℕ) → lost ≢ Some d
-            → (R.slot (rack_of self.new) d).faults ≡ (R.slot (rack_of self.old) d).faults) }
-        ensures two { IfErr result (IsTwo
-            (or_else (out_of R.slot self.old) (named_of meta.now.out))
+            → IsWell (R.slot (rack_of self.old) d) (R.slot (rack_of self.new) d)) }
+        ensures each { AreFailedOrWell (R.slot (rack_of self.old)) (R.slot (rack_of self.new)) }
+        ensures two { IfErr result (IsTwoBeside (IsOut (λ e. (R.slot (rack_of self.old) e).power)
+            (disks_of self.old) (named_by self.old) (named_of meta.now.out))
             (R.slot (rack_of self.old)) (R.slot (rack_of self.new))) }
 
+        // Which calls are made.
+        ensures calls { Ran (R.told (rack_of self.old)) (R.told (rack_of self.new))
+            (EachCall (Uses meta.now batch.now)) }
+
         // At each moment the old contents or the new ones; at the end only these.
-        ensures any_moment { (before : MetaType)
+        ensures any_moment { (before : MetaType) → named_by self.old ≡ named_of before.out
             → IsWholeOrAbsent (R.told (rack_of self.old)) (R.told (rack_of self.new)) before
             (record meta.now { epoch = epoch_of self.old + 1 }) batch.now }
-        ensures committed { OnOk result ((before : MetaType)
+        ensures committed { OnOk result ((before : MetaType) → named_by self.old ≡ named_of before.out
             → Commits (R.told (rack_of self.old)) (R.told (rack_of self.new)) before
             (record meta.now { epoch = epoch_of self.old + 1 }) batch.now) }
     {
@@ -572,11 +567,24 @@ impl<R: Rack> Store<R> {
         let list = spell_targets(batch);
         let spelled = spell_meta(&next);
         let named = named_out(meta.out);
+        let absent = find_absent(&self.rack, self.disks);
         let mut losses = Losses {
-            down: self.out().or(named),
+            down: out_first(absent, self.named, named),
             lost: None,
         };
-        run(&mut self.rack, &mut losses, &next, batch, &list, &spelled)?;
+        let first = opens_first(self.named, named);
+        run(
+            &mut self.rack,
+            &mut losses,
+            &next,
+            batch,
+            &list,
+            &spelled,
+            first,
+        )?;
+        if let Some(two) = find_second(losses.lost, named) {
+            return Err(two);
+        }
         self.epoch = next.epoch;
         self.named = named;
         Ok(losses.lost)

@@ -1,269 +1,42 @@
 //! That the definitions fit together. Each law is the contract of a function that does nothing.
-ghost use Rattle.std.specs.Prelude.{◌≡◌, ◌≢◌, ℕ, ◌<◌, ◌≤◌, ◌⊎◌, ◌++◌, [], true, false, Option, Some, None, take};
-ghost use Rattle.paraid_base.specs.declared.block.Block.{Block as BlockType};
-ghost use Rattle.paraid_base.specs.declared.event.Answer.TheVariants.{Flushed};
-ghost use Rattle.paraid_base.specs.declared.event.Event.{Event as EventType};
-ghost use Rattle.paraid_base.specs.declared.state.Out.TheVariants.{Gone};
+ghost use Rattle.std.specs.Prelude.{◌≡◌, ◌≢◌, ℕ, ◌^◌, ◌<◌, ◌≤◌, ◌⊎◌, ◌++◌, [], false, Option, Some};
 ghost use Rattle.paraid_base.specs.History.{History};
-ghost use Rattle.paraid_rack.specs.declared.call.Call.{Call as CallType};
-ghost use Rattle.paraid_rack.specs.declared.call.Call.TheVariants.{Attach, Park, Read, SpinUp, Sync, Write};
-ghost use Rattle.paraid_rack.specs.declared.call.Power.{Power as PowerType};
-ghost use Rattle.paraid_rack.specs.declared.call.Power.TheVariants.{Parked, Spinning};
-ghost use Rattle.paraid_rack.specs.Alike.{IsAlike};
-ghost use Rattle.paraid_rack.specs.Disks.{Disks, IsImage, IsPresent, lose, step};
-ghost use Rattle.paraid_rack.specs.Trail.{Trail, disks, initial};
+ghost use Rattle.paraid_rack.specs.Disks.{Disks, is_present};
+ghost use Rattle.paraid_rack.specs.Trail.{disks};
 ghost use Rattle.paraid_record.specs.declared.meta.Meta.{Meta as MetaType};
-ghost use Rattle.paraid_txn.specs.Close.{IsLaidBelow};
-ghost use Rattle.paraid_txn.specs.Commit.{IsAtRest};
-ghost use Rattle.paraid_txn.specs.Content.{view_of};
-ghost use Rattle.paraid_txn.specs.Course.{Course, IsServing, answered, disk_of, disks_at, is_done, mark};
-ghost use Rattle.paraid_txn.specs.Formatted.{IsFormatted};
-ghost use Rattle.paraid_txn.specs.Free.{IsFree, IsUnseen};
-ghost use Rattle.paraid_txn.specs.Gate.{GateTurns};
-ghost use Rattle.paraid_txn.specs.HeldAt.{HeldAt, IsHeld, IsSound, MayLose};
-ghost use Rattle.paraid_txn.specs.Loss.{IsLoss};
-ghost use Rattle.paraid_txn.specs.Neutral.{IsNeutral, overwrite};
-ghost use Rattle.paraid_txn.specs.Open.{CanOpen, IsLoggedNext};
-ghost use Rattle.paraid_txn.specs.Out.{IsDouble, IsMissing, IsWeak, is_out};
-ghost use Rattle.paraid_txn.specs.Power.{State};
-ghost use Rattle.paraid_txn.specs.Session.{AreDown, IsSession, history_after};
-ghost use Rattle.paraid_txn.specs.Sides.{Batch, IsSide, Said, Says, Side, is_open};
-ghost use Rattle.paraid_txn.specs.Sound.{Sound};
-ghost use Rattle.paraid_txn.specs.Spot.{View, spot_of};
-ghost use Rattle.paraid_txn.specs.Standing.{Stands, contents as contents_of, other_log, standing};
-ghost use Rattle.paraid_txn.specs.Turns.{MayPark};
-ghost use Rattle.paraid_txn.specs.Value.{value};
+ghost use Rattle.paraid_image.specs.Rest.{IsDrained};
+ghost use Rattle.paraid_txn.specs.Commit.{IsEachImage, IsEitherMissing, IsOldOrNew, StandsForEither};
+ghost use Rattle.paraid_txn.specs.Resume.{IsBroken, Resumes};
+ghost use Rattle.paraid_image.specs.HeldAt.{IsHeld};
+ghost use Rattle.paraid_image.specs.Holds.{Holds};
+ghost use Rattle.paraid_image.specs.Out.{IsWeak};
+ghost use Rattle.paraid_image.specs.Sides.{Batch, Said};
 
-/// A log disk says one thing, one log disk stands, and it is the one that the sides in short give.
-pub fn one_log_disk_stands()
-    ensures says { (i : Disks) (x : ℕ) (a b : Said) → Says i x a → Says i x b → a ≡ b }
-    ensures disk { (i : Disks) (x y : ℕ) (a b : Said) → Stands i x a → Stands i y b → x ≡ y }
-    ensures said { (i : Disks) (x y : ℕ) (a b : Said) → Stands i x a → Stands i y b → a ≡ b }
-    ensures by_sides { (i : Disks) (a b : Side) (x : ℕ) → IsSide i 0 a → IsSide i 1 b
-        → standing a b ≡ Some x → (said : Said) × Stands i x said }
+/// What a stop in a commit leaves can be resumed, also where a log disk comes in again by it.
+pub fn a_stop_in_a_commit_can_be_resumed()
+    ensures { (start i : Disks) (before after : MetaType) (batch : Batch)
+        → StandsForEither start before after batch i → IsDrained i
+        → (x : ℕ) × (said : Said) × IsBroken i x said
+        × ((said.meta ≡ before) ⊎ (said.meta ≡ after)) }
 {}
 
-/// An image has at most one weak disk.
-pub fn one_disk_is_weak()
-    ensures { (i : Disks) (w v : ℕ) → IsWeak i w → IsWeak i v → w ≡ v }
+/// The end of an interrupted commit leaves what is held, where each disk that is absent or was weak
+/// is the one that is down.
+pub fn an_ended_commit_leaves_what_is_held()
+    ensures { (slots : ℕ) (s t : Disks) (x : ℕ) (said : Said) (h : History) (lo : ℕ)
+        (was down : Option ℕ) → IsBroken s x said
+        → IsHeld slots s h lo was
+        → ((d : ℕ) → d < said.meta.setup.geometry.disks → is_present (t.power d) ≡ false
+        → down ≡ Some d)
+        → ((w : ℕ) → IsWeak s w → down ≡ Some w)
+        → IsEachImage said.meta said.meta (Resumes s x said) t → IsHeld slots t h lo down }
 {}
 
-/// An image holds first parts of histories of one length only.
-pub fn one_length_is_held()
-    ensures { (slots : ℕ) (i : Disks) (h g : History) (k j : ℕ) → Sound slots i h k
-        → Sound slots i g j → k ≡ j }
-{}
-
-/// What is held is held for each longer history, and with each smaller bound.
-pub fn what_is_held_stays_held()
-    ensures { (slots : ℕ) (s : Disks) (h more : History) (lo less : ℕ) (down : Option ℕ)
-        → less ≤ lo → IsHeld slots s h lo down → IsHeld slots s (h ++ more) less down }
-{}
-
-/// Where nothing is loose, a stop leaves the disks as they are and nothing else.
-pub fn dry_disks_are_their_image()
-    ensures is { (s : Disks) → ((d p : ℕ) → s.loose d p ≡ false) → IsImage s s }
-    ensures only { (s i : Disks) → ((d p : ℕ) → s.loose d p ≡ false) → IsImage s i → i ≡ s }
-{}
-
-/// What a stop leaves of what is held is a start at which the same is held, with its own weak disk
-/// as the one that is down. So nothing more needs to be said of chains of stops.
-pub fn an_image_of_what_is_held_is_held()
-    ensures image { (slots : ℕ) (s i : Disks) (h : History) (lo : ℕ) (down : Option ℕ)
-        → IsImage s i → IsHeld slots s h lo down → IsHeld slots i h lo down }
-    ensures weak { (slots : ℕ) (s i : Disks) (h : History) (lo : ℕ) (down : Option ℕ) (w : ℕ)
-        → IsImage s i → IsWeak i w → IsHeld slots s h lo down → IsHeld slots i h lo (Some w) }
-    ensures strong { (slots : ℕ) (s i : Disks) (h : History) (lo : ℕ) (down : Option ℕ)
-        → IsImage s i → ((w : ℕ) → IsWeak i w → ⊥) → IsHeld slots s h lo down
-        → IsHeld slots i h lo None }
-    ensures start { (slots : ℕ) (t u : Trail) (m : ℕ) (h : History) (lo : ℕ) (down : Option ℕ)
-        → IsImage (disks t m) (initial u.start)
-        → HeldAt slots t m h lo down → HeldAt slots u 0 h lo down }
-{}
-
-/// Any bytes in a neutral place leave the log disk that stands, what it says, the weak disk and
-/// what the image holds as they are.
-pub fn neutral_places_do_not_matter()
-    ensures stands { (i : Disks) (d p : ℕ) (b : BlockType) (x : ℕ) (said : Said) → IsNeutral i d p
-        → Stands i x said → Stands (overwrite i d p b) x said }
-    ensures stood { (i : Disks) (d p : ℕ) (b : BlockType) (x : ℕ) (said : Said) → IsNeutral i d p
-        → Stands (overwrite i d p b) x said → Stands i x said }
-    ensures contents { (i : Disks) (d p : ℕ) (b : BlockType) (x : ℕ) (said : Said)
-        → IsNeutral i d p → Stands i x said
-        → contents_of (overwrite i d p b) said.batch ≡ contents_of i said.batch }
-    ensures weak { (i : Disks) (d p : ℕ) (b : BlockType) (w : ℕ) → IsNeutral i d p
-        → IsWeak i w → IsWeak (overwrite i d p b) w }
-    ensures was_weak { (i : Disks) (d p : ℕ) (b : BlockType) (w : ℕ) → IsNeutral i d p
-        → IsWeak (overwrite i d p b) w → IsWeak i w }
-    ensures sound { (slots : ℕ) (i : Disks) (d p : ℕ) (b : BlockType) (h : History) (k : ℕ)
-        → IsNeutral i d p → Sound slots i h k → Sound slots (overwrite i d p b) h k }
-{}
-
-/// Any bytes in a free place leave what the image holds as it is.
-pub fn free_places_do_not_matter()
-    ensures { (slots : ℕ) (i : Disks) (d p : ℕ) (b : BlockType) (h : History) (k x : ℕ)
-        (said : Said) → Stands i x said → IsFree (view_of i said) d p → Sound slots i h k
-        → Sound slots (overwrite i d p b) h k }
-{}
-
-/// A read or a sync that is done, and a write of a place that is not seen in any image, leave what
-/// is held.
-pub fn unseen_calls_leave_what_is_held()
-    ensures fewer { (slots : ℕ) (s t : Disks) (h : History) (lo : ℕ) (down : Option ℕ)
-        → ((i : Disks) → IsImage t i → IsImage s i) → IsHeld slots s h lo down
-        → IsHeld slots t h lo down }
-    ensures read { (slots : ℕ) (s : Disks) (h : History) (lo : ℕ) (down : Option ℕ) (d p : ℕ)
-        → IsHeld slots s h lo down → IsHeld slots (step (Read d p true) s) h lo down }
-    ensures sync { (slots : ℕ) (s : Disks) (h : History) (lo : ℕ) (down : Option ℕ) (d : ℕ)
-        → IsHeld slots s h lo down → IsHeld slots (step (Sync d true) s) h lo down }
-    ensures write { (slots : ℕ) (s : Disks) (h : History) (lo : ℕ) (down : Option ℕ) (d p : ℕ)
-        (b : BlockType) → ((i : Disks) → IsImage s i → IsUnseen i d p)
-        → IsHeld slots s h lo down → IsHeld slots (step (Write d p b true) s) h lo down }
-{}
-
-/// A failed call loses its disk and changes nothing else. Where no other disk is weak, what is
-/// held is held with this disk down.
-pub fn a_lost_disk_leaves_what_is_held()
-    ensures failed { (s : Disks) (c : CallType) → is_done c ≡ false
-        → IsLoss s (step c s) (disk_of c) }
-    ensures held { (slots : ℕ) (s t : Disks) (h : History) (lo : ℕ) (down : Option ℕ) (d : ℕ)
-        → IsLoss s t d → IsPresent s d
-        → ((i : Disks) (x : ℕ) (said : Said) → IsImage s i → x < 2 → Says i x said
-        → d < said.meta.setup.geometry.disks)
-        → ((i : Disks) (w : ℕ) → IsImage s i → IsWeak i w → w ≡ d)
-        → IsHeld slots s h lo down → IsHeld slots t h lo (Some d) }
-{}
-
-/// An image holds what it holds also with one more disk lost: the weak one where there is one, and
-/// not the log disk that stands unless the other one says the same.
-pub fn one_disk_can_be_lost()
-    ensures { (slots : ℕ) (i : Disks) (h : History) (k d x : ℕ) (said : Said)
-        → Sound slots i h k → Stands i x said → (d ≢ x) ⊎ Says i (other_log x) said
-        → MayLose i d → Sound slots (lose d i) h k }
-{}
-
-/// A formatted array holds the history without a write.
-pub fn a_formatted_array_holds_nothing()
-    ensures { (slots : ℕ) (s : Disks) (m : MetaType) → IsFormatted slots s m
-        → IsHeld slots s [] 0 None }
-{}
-
-/// A formatted array is at rest, so a commit can begin there.
-pub fn a_formatted_array_is_at_rest()
-    ensures { (slots : ℕ) (s : Disks) (m : MetaType) → IsFormatted slots s m → IsAtRest s m }
-{}
-
-/// A disk that is spun up, or parked where no log disk asks that it spins, leaves what is held.
-pub fn turns_leave_what_is_held()
-    ensures spin_up { (slots : ℕ) (s : Disks) (h : History) (lo : ℕ) (down : Option ℕ) (d : ℕ)
-        → s.power d ≡ Parked → IsHeld slots s h lo down
-        → IsHeld slots (step (SpinUp d true) s) h lo down }
-    ensures park { (slots : ℕ) (s : Disks) (h : History) (lo : ℕ) (down : Option ℕ) (d : ℕ)
-        → s.power d ≡ Spinning
-        → ((i : Disks) (x : ℕ) (said : Said) → IsImage s i → x < 2 → Says i x said
-        → MayPark said d)
-        → IsHeld slots s h lo down → IsHeld slots (step (Park d true) s) h lo down }
-{}
-
-/// Where all that stands, also with a disk lost, says that so many writes are held, so many are.
-pub fn what_stands_bounds_what_is_held()
-    ensures { (slots : ℕ) (s : Disks) (h : History) (lo high : ℕ) (down : Option ℕ)
-        → ((i : Disks) (x : ℕ) (said : Said) → IsImage s i → Stands i x said
-        → high ≤ said.meta.writes)
-        → ((i : Disks) (d x : ℕ) (said : Said) → IsImage s i → MayLose i d
-        → Stands (lose d i) x said → high ≤ said.meta.writes)
-        → IsHeld slots s h lo down → IsHeld slots s h high down }
-{}
-
-/// Closing a gate whose batch has been laid in place leaves what the image holds, and what is held
-/// where that is so in each image, as it is and with a disk lost.
-pub fn a_gate_can_be_closed()
-    ensures sound { (slots : ℕ) (i : Disks) (h : History) (k x : ℕ) (said : Said) (b : BlockType)
-        → IsLaidBelow i x said → is_open b ≡ false → Sound slots i h k
-        → Sound slots (overwrite i x 0 b) h k }
-    ensures held { (slots : ℕ) (s : Disks) (h : History) (lo : ℕ) (down : Option ℕ) (x : ℕ)
-        (b : BlockType) (said : Said) → ((i : Disks) → IsImage s i → IsLaidBelow i x said)
-        → ((i : Disks) (e : ℕ) → IsImage s i → MayLose i e → e ≢ x
-        → IsLaidBelow (lose e i) x said)
-        → IsHeld slots s h lo down → IsHeld slots (step (Write x 0 b true) s) h lo down }
-{}
-
-/// Opening a gate over the next batch makes the image hold what the batch brings, and leaves what
-/// is held where that is so in each image.
-pub fn a_gate_can_be_opened()
-    ensures sound { (slots : ℕ) (i : Disks) (h : History) (k x : ℕ) (new : Said) (b : BlockType)
-        → IsLoggedNext slots i x new h k → is_open b ≡ true
-        → Sound slots (overwrite i x 0 b) h k }
-    ensures held { (slots : ℕ) (s : Disks) (h : History) (k lo : ℕ) (down : Option ℕ) (x : ℕ)
-        (b : BlockType) (new : Said)
-        → ((i : Disks) → IsImage s i → CanOpen slots i x new h k lo down)
-        → IsHeld slots s h lo down → IsHeld slots (step (Write x 0 b true) s) h lo down }
-{}
-
-/// What a stop may leave after a write is what it may leave before it, with any bytes in that
-/// place.
-pub fn a_write_leaves_any_bytes()
-    ensures before { (s : Disks) (d p : ℕ) (b : BlockType) (j : Disks)
-        → IsImage (step (Write d p b true) s) j → IsImage s (overwrite j d p (s.block d p)) }
-    ensures after { (j : Disks) (d p : ℕ) (b : BlockType)
-        → overwrite (overwrite j d p b) d p (j.block d p) ≡ j }
-{}
-
-/// A gate is only open or closed: a write of one leaves what is held, if in each image the bytes
-/// that turn it do.
-pub fn a_gate_is_open_or_closed()
-    ensures { (slots : ℕ) (s : Disks) (h : History) (lo : ℕ) (down : Option ℕ) (x : ℕ)
-        (b : BlockType) → ((i : Disks) → IsImage s i → GateTurns slots i x h lo down)
-        → IsHeld slots s h lo down → IsHeld slots (step (Write x 0 b true) s) h lo down }
-{}
-
-/// A cell's value is the block at its spot, where this is not on the out disk.
-pub fn values_live_at_their_spots()
-    ensures { (v : View) (r d : ℕ) → is_out v.out (spot_of v r d).disk ≡ false
-        → value v r d ≡ v.block (spot_of v r d).disk (spot_of v r d).place }
-{}
-
-/// An image is double exactly where two disks of the array are missing.
-pub fn double_is_two_missing()
-    ensures single { (power : ℕ → PowerType) (m : MetaType)
-        → ((d e : ℕ) → IsMissing power m d → IsMissing power m e → d ≡ e)
-        → IsDouble power m → ⊥ }
-    ensures double { (power : ℕ → PowerType) (m : MetaType) → (IsDouble power m → ⊥)
-        → (d e : ℕ) → IsMissing power m d → IsMissing power m e → d ≡ e }
-{}
-
-/// A disk that is attached in the place of one that is gone by all that stands leaves what is held.
-pub fn an_attach_leaves_what_is_held()
-    ensures { (slots : ℕ) (s : Disks) (h : History) (lo : ℕ) (down : Option ℕ) (d size : ℕ)
-        → ((i : Disks) (x : ℕ) (said : Said) → IsImage s i → Stands i x said
-        → said.meta.out ≡ Gone d)
-        → IsHeld slots s h lo down → IsHeld slots (step (Attach d size true) s) h lo down }
-{}
-
-/// Blocks that do not exist do not matter: disks that agree in all that exists stand for the same
-/// and hold the same. So a rack that begins alike to an image holds what the image holds.
-pub fn blocks_that_do_not_exist_do_not_matter()
-    ensures stands { (i j : Disks) (x : ℕ) (said : Said) → IsAlike i j → Stands i x said
-        → Stands j x said }
-    ensures contents { (i j : Disks) (batch : Batch) → IsAlike i j
-        → contents_of j batch ≡ contents_of i batch }
-    ensures weak { (i j : Disks) (w : ℕ) → IsAlike i j → IsWeak i w → IsWeak j w }
-    ensures sound { (slots : ℕ) (i j : Disks) (h : History) (k : ℕ) → IsAlike i j
-        → Sound slots i h k → Sound slots j h k }
-    ensures held { (slots : ℕ) (i j : Disks) (h : History) (lo : ℕ) (down : Option ℕ)
-        → IsAlike i j → IsHeld slots i h lo down → IsHeld slots j h lo down }
-    ensures start { (slots : ℕ) (t u : Trail) (m : ℕ) (i : Disks) (h : History) (lo : ℕ)
-        (down : Option ℕ) → IsImage (disks t m) i → IsAlike i (initial u.start)
-        → HeldAt slots t m h lo down → HeldAt slots u 0 h lo down }
-{}
-
-/// In a session a flush keeps the writes that it answers: after it each stop leaves a first part
-/// of the accepted writes that has at least so many.
-pub fn a_flush_keeps_its_writes()
-    ensures { (slots : ℕ) (c : Course) (h : History) (lo k : ℕ) (states : ℕ → State)
-        (j number : ℕ) (event : EventType) (down : Option ℕ) (i : Disks)
-        → IsSession slots c h lo k states → answered c j ≡ Some (event, Flushed number)
-        → IsServing c j (mark c j) → AreDown c j (mark c j) down
-        → IsImage (disks_at c (mark c j)) i
-        → IsSound slots i (history_after c (take k h) j) number }
+/// A commit leaves what is held, where what the batch brings holds a first part of the history too,
+/// and each disk that is absent or named out by one of the two metas is the one that is down.
+pub fn a_commit_leaves_what_is_held()
+    ensures { (slots : ℕ) (s t : Disks) (before after : MetaType) (batch : Batch) (h : History)
+        (lo : ℕ) (down : Option ℕ) → Holds slots s before [] h lo → Holds slots s after batch h lo
+        → ((d : ℕ) → IsEitherMissing t.power before after d → down ≡ Some d)
+        → IsOldOrNew s before after batch t → IsHeld slots t h lo down }
 {}

@@ -1,10 +1,9 @@
-//! What a stop may leave on the disks of an array, what such an image stands for, and the commit,
-//! through which all that an array keeps is written: whole or absent at every stop.
+//! The commit, through which all that an array keeps is written: whole or absent at every stop; and
+//! its resumption after one.
 //!
-//! The definitions stand in `specs/`: what a log disk says, which log disk stands, which disk is
-//! out or weak, where a cell's value lives and what it is worth, and which images hold a history.
-//! The module `laws` says how they fit together. `Store` owns the disks, and `Store::commit` lays
-//! a `Batch` and a meta over them.
+//! `Store` owns the disks. `Store::commit` lays a `Batch` and a meta over them, and
+//! `Store::resume` ends what a stop left half done. What images of the disks stand for is said by
+//! the definitions of `paraid_image`.
 #![tactic(auto)]
 
 mod batch;
@@ -13,9 +12,10 @@ mod commit;
 pub mod laws;
 mod losses;
 mod ready;
+mod resume;
 mod store;
-#[cfg(test)]
-mod tests;
+mod sync;
 
 pub use batch::{Batch, Full};
+pub use resume::ResumeRefused;
 pub use store::{Lost, Store};

@@ -4,7 +4,7 @@ ghost use Rattle.paraid_record.specs.declared.targets.Target.{Target as TargetTy
 ghost use Rattle.paraid_record.specs.Targets.{IsTargetInRange};
 ghost use Rattle.paraid_txn.specs.Losses.{CanWrite};
 ghost use Rattle.paraid_txn.specs.Ready.{AreTargetsReady, CanCommit, IsLogReady};
-ghost use Rattle.paraid_txn.specs.Sides.{targets};
+ghost use Rattle.paraid_image.specs.Sides.{targets};
 
 use crate::batch::Batch;
 use crate::store::{Store, gone_out, named_out};

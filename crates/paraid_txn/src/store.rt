@@ -1,13 +1,13 @@
 //! The disks of an array as its layers above see them: a rack of which at most one disk is out.
 ghost use Rattle.std.specs.Prelude.{◌≡◌, ◌≢◌, ℕ, ◌<◌, ◌≤◌, true, false, Some, None, OnOk, IfErr, is_ok};
-ghost use Rattle.paraid_rack.specs.declared.call.Call.TheVariants.{Park, Read, SpinUp, Sync};
+ghost use Rattle.paraid_rack.specs.declared.call.Call.TheVariants.{Park, Read, SpinUp, Sync, Write};
 ghost use Rattle.paraid_rack.specs.declared.call.Power.TheVariants.{Absent, Parked, Spinning};
 ghost use Rattle.paraid_rack.specs.Slots.{Touched};
 ghost use Rattle.paraid_rack.specs.Told.{Grows};
 ghost use Rattle.paraid_rack.specs.Trail.{Trail, now};
 ghost use Rattle.paraid_txn.specs.Commit.{gone_out as gone_of_out};
 ghost use Rattle.paraid_txn.specs.Losses.{IsLostBy};
-ghost use Rattle.paraid_txn.specs.Out.{first_absent, named_out as named_of_out};
+ghost use Rattle.paraid_image.specs.Out.{first_absent, named_out as named_of_out, or_else};
 
 use paraid_base::{Block, DiskNo, Failed, Out, Place, Two};
 use paraid_rack::{Power, Rack};
@@ -57,7 +57,7 @@ pub(crate) fn gone_out(out: Out) -> Option<DiskNo>
 }
 
 // The least absent slot of the first ones.
-fn find_absent<R: Rack>(rack: &R, disks: u8) -> Option<DiskNo>
+pub(crate) fn find_absent<R: Rack>(rack: &R, disks: u8) -> Option<DiskNo>
     requires { disks ≤ R.slot_count rack.now }
     ensures { result ≡ first_absent (λ d. (R.slot rack.now d).power) disks }
 {
@@ -67,6 +67,24 @@ fn find_absent<R: Rack>(rack: &R, disks: u8) -> Option<DiskNo>
         }
     }
     None
+}
+
+// The disk that is down as a commit begins: an absent one, which gets no call; or else the one that
+// the last meta names out, or the one that the meta given names.
+pub(crate) fn out_first(
+    absent: Option<DiskNo>,
+    before: Option<DiskNo>,
+    after: Option<DiskNo>,
+) -> Option<DiskNo>
+    ensures { result ≡ or_else absent (or_else before after) }
+{
+    if absent.is_some() {
+        return absent;
+    }
+    if before.is_some() {
+        return before;
+    }
+    after
 }
 
 // A call on this disk has failed, where this disk was out before it.
@@ -178,6 +196,28 @@ impl<R: Rack> Store<R> {
     {
         let out = self.out();
         let Ok(()) = self.rack.sync(disk) else {
+            return Err(loss_of(out, disk));
+        };
+        Ok(())
+    }
+
+    /// Writes a block past the log. Whatever a stop leaves of it, what is held stays held if the
+    /// place is free and the gates are closed.
+    pub fn write_free(&mut self, disk: DiskNo, place: Place, block: &Block) -> Result<(), Lost>
+        requires exists { disk < R.slot_count (rack_of self.old) }
+        requires spinning { (R.slot (rack_of self.old) disk).power ≡ Spinning }
+        requires within { place < (R.slot (rack_of self.old) disk).size }
+        ensures slots { R.slot_count (rack_of self.new) ≡ R.slot_count (rack_of self.old) }
+        ensures same { IsSameStore self.old self.new }
+        ensures slot { Touched (R.slot (rack_of self.old)) (R.slot (rack_of self.new)) disk
+            (record (R.slot (rack_of self.old) disk) { unsynced = true }) true (is_ok result) }
+        ensures told { Grows (R.told (rack_of self.old)) (R.told (rack_of self.new))
+            (Write disk place block.now (is_ok result)) }
+        ensures lost { IfErr result (IsLostBy (out_of R.slot self.old) disk
+            (R.slot (rack_of self.old)) (R.slot (rack_of self.new))) }
+    {
+        let out = self.out();
+        let Ok(()) = self.rack.write(disk, place, block) else {
             return Err(loss_of(out, disk));
         };
         Ok(())

@@ -27,4 +27,4 @@ returns-in_err-spinning_mj-clause-err c =
     let document = table_view c.args.table.now in
     let none : option_map (λ at. Unknown at) (first_unknown document) ≡ None = rw (← c.first_unknown.ensures, c.in_default.is) in
     let p = err_from_is_err_and c.from_residual-in_err-spinning_mj.result c.from_residual-in_err-spinning_mj.ensures.1 in
-    rw (p.1, p.2) (IsDocumentFault-found document _ (number_fault document key.SpinningMj) (number_fault-of_a_key document key.SpinningMj) (IsFaultOf-cause _ _ c.in_err-spinning_mj.ensures.err) (λ e h. first_fault-None _ _ none ∙ first_fault-None _ _ c.in_ok-disks.ensures.accepted ∙ first_fault-None _ _ c.in_ok-rows.ensures.accepted ∙ first_fault-None _ _ c.in_ok-gears.ensures.accepted ∙ first_fault-None _ _ c.in_ok-mode.ensures.accepted ∙ first_fault-None _ _ c.in_ok-rate.ensures.accepted ∙ first_fault-None _ _ c.in_ok-service.ensures.accepted ∙ first_fault-None _ _ c.in_ok-up.ensures.accepted ∙ first_fault-None _ _ c.in_ok-down.ensures.accepted ∙ first_fault-None _ _ c.in_ok-windows.ensures.accepted ∙ first_fault-None _ _ c.in_ok-ration.ensures.accepted ∙ first_fault-Some _ _ e h))
+    rw (p.1, p.2) (IsDocumentFault-found document _ (number_fault document key.SpinningMj) (number_fault-of_a_key document key.SpinningMj) (IsFaultOf-cause _ _ c.in_err-spinning_mj.ensures.err) (λ e h. first_fault-None _ _ none ∙ first_fault-None _ _ c.in_ok-disks.ensures.accepted ∙ first_fault-None _ _ c.in_ok-rows.ensures.accepted ∙ first_fault-None _ _ c.in_ok-gears.ensures.accepted ∙ first_fault-None _ _ c.in_ok-mode.ensures.accepted ∙ first_fault-None _ _ c.in_ok-rate.ensures.accepted ∙ first_fault-None _ _ c.in_ok-service.ensures.accepted ∙ first_fault-None _ _ c.in_ok-up.ensures.accepted ∙ first_fault-None _ _ c.in_ok-down.ensures.accepted ∙ first_fault-None _ _ c.in_ok-windows.ensures.accepted ∙ first_fault-None _ _ c.in_ok-ration.ensures.accepted ∙ first_fault-None _ _ c.in_ok-burst.ensures.accepted ∙ first_fault-None _ _ c.in_ok-period.ensures.accepted ∙ first_fault-Some _ _ e h))

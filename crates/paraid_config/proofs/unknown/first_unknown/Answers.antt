@@ -4,7 +4,7 @@ use Rattle.paraid_config.proofs.unknown.first_unknown.Goals as goal
 
 pub overflow_cast-result : goal.overflow_cast-result
 overflow_cast-result c =
-    let few : c.in-Some.at ≤ 13 = few_unknown c.args.table.now.entries c.in-Some.at c.len-ordered.ensures.ordered (sym c.in-Some.ensures) in
+    let few : c.in-Some.at ≤ 15 = few_unknown c.args.table.now.entries c.in-Some.at c.len-ordered.ensures.ordered (sym c.in-Some.ensures) in
     omega arith
 
 pub returns-in-Some : goal.returns-in-Some

@@ -2,7 +2,7 @@ use Rattle.std.proofs.Common.{false, List, length, refl, ◌∙◌, ap, arith}
 use Rattle.std.proofs.lemmas.List.{length_push}
 use Rattle.paraid_rack.specs.declared.call.Power.TheVariants.{Absent}
 use Rattle.paraid_memrack.specs.declared.slot.MemSlot.{MemSlot}
-use Rattle.paraid_memrack.specs.Slots.{view_at}
+use Rattle.paraid_memrack.specs.Slots.{full_slot_at}
 use Rattle.paraid_memrack.proofs.ViewLemmas.{same_view, nothing_push, no_slots}
 use Rattle.paraid_memrack.proofs.slot.absent_slots.Goals as goal
 
@@ -14,7 +14,7 @@ loop-i-preserved c =
     let x : MemSlot = record { power = Absent; blocks = c.new.result; unsynced = false; faults = 0 } in (
       c.push_reserved.ensures.capacity ∙ c.loop-i.invariant.0,
       omega (arith, c.loop-i.invariant.1, ap length c.push_reserved.ensures.items, length_push c.loop-i.slots.items x),
-      λ d. ap (λ (l : List MemSlot). view_at l d) c.push_reserved.ensures.items ∙ nothing_push c.loop-i.slots.items x (same_view refl c.new.ensures.items refl refl) c.loop-i.invariant.2 d,
+      λ d. ap (λ (l : List MemSlot). full_slot_at l d) c.push_reserved.ensures.items ∙ nothing_push c.loop-i.slots.items x (same_view refl c.new.ensures.items refl refl) c.loop-i.invariant.2 d,
     )
 
 pub loop-i-init : goal.loop-i-init

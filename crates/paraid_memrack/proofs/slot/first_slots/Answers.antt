@@ -2,13 +2,13 @@ use Rattle.std.proofs.Common.{length, map, sym, ◌∙◌, ap, arith}
 use Rattle.std.proofs.lemmas.List.{take_all}
 use Rattle.std.proofs.lemmas.Simd.{map-map}
 use Rattle.paraid_memrack.specs.declared.log.Start.{Start}
-use Rattle.paraid_memrack.specs.Slots.{view_from}
+use Rattle.paraid_memrack.specs.Slots.{full_slot_from}
 use Rattle.paraid_memrack.specs.Tells.{beginning_of}
 use Rattle.paraid_memrack.proofs.slot.first_slots.Goals as goal
 
 pub returns : goal.returns
 returns c =
     let start = c.args.start.now.items in
-    let f = λ (s : Start). view_from (beginning_of s) in
+    let f = λ (s : Start). full_slot_from (beginning_of s) in
     c.loop-slot.invariant.1 ∙ ap (map f) (take_all c.loop-slot.slot-index start (omega (arith, c.loop-slot-test.false, ap length c.deref-slot-items.ensures.value)))
-    ∙ sym (map-map view_from beginning_of start)
+    ∙ sym (map-map full_slot_from beginning_of start)

@@ -1,9 +1,9 @@
 use Rattle.std.proofs.Common.{refl, sym, ap}
-use Rattle.paraid_memrack.specs.Slots.{View}
+use Rattle.paraid_memrack.specs.Slots.{FullSlot}
 use Rattle.paraid_memrack.proofs.ViewLemmas.{view_here, same_view, becomes_set}
 use Rattle.paraid_memrack.proofs.slot.remove.Goals as goal
 
 pub returns : goal.returns
 returns c =
     let was = sym (view_here c.args.slots.now.items c.args.disk c.index_mut-lost.result.now c.requires c.index_mut-lost.ensures.value) in
-    becomes_set _ _ _ _ c.requires (same_view refl c.new.ensures.items (ap (λ (v : View). v.unsynced) was) (ap (λ (v : View). v.faults) was))
+    becomes_set _ _ _ _ c.requires (same_view refl c.new.ensures.items (ap (λ (v : FullSlot). v.unsynced) was) (ap (λ (v : FullSlot). v.faults) was))

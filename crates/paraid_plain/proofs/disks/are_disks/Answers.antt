@@ -1,6 +1,6 @@
 use Rattle.std.proofs.Common.{length}
-use Rattle.paraid_txn.specs.Sound.{AreDisks}
-use Rattle.paraid_plain.specs.Images.{disks_of}
+use Rattle.paraid_image.specs.Sound.{AreDisks}
+use Rattle.paraid_plain.specs.Images.{disks_in}
 use Rattle.paraid_plain.specs.Views.{out_at}
 use Rattle.paraid_plain.proofs.TestLemmas.{refused}
 use Rattle.paraid_plain.proofs.disks.are_disks.Goals as goal
@@ -28,7 +28,7 @@ pub returns-then-not-are_spinning : goal.returns-then-not-are_spinning
 returns-then-not-are_spinning c =
     let image = c.args.image.now in
     let says = c.args.says.now in
-    let Whole : Type 0 = AreDisks (length image.slots.items) (disks_of image).power (disks_of image).size says.meta (out_at image says) in
+    let Whole : Type 0 = AreDisks (length image.slots.items) (disks_in image).power (disks_in image).size says.meta (out_at image says) in
     elim c.then-not-are_spinning.branch [
       | then-not-are_spinning-via-then-not-are_spinning w ↦
           refused Whole c.are_spinning.result c.are_spinning.ensures w.if-not-are_spinning.true (λ all. all.below_gear)

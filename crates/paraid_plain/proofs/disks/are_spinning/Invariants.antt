@@ -1,8 +1,8 @@
 use Rattle.std.proofs.Common.{ℕ, ◌<◌}
-use Rattle.paraid_plain.specs.Images.{disks_of}
+use Rattle.paraid_plain.specs.Images.{disks_in}
 use Rattle.paraid_plain.specs.Parts.{IsSpinning}
 use Rattle.paraid_plain.specs.Views.{out_at}
 use Rattle.paraid_plain.proofs.disks.are_spinning.Given as goal
 
 abbrev pub invariant-loop-disk : goal.invariant-loop-disk
-invariant-loop-disk l = (d : ℕ) → d < l.disk → IsSpinning (disks_of l.image).power (out_at l.image l.says) d
+invariant-loop-disk l = (d : ℕ) → d < l.disk → IsSpinning (disks_in l.image).power (out_at l.image l.says) d

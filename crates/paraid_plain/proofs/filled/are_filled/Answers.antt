@@ -1,5 +1,5 @@
 use Rattle.std.proofs.Common.{ℕ, below_more, subst}
-use Rattle.paraid_txn.specs.Sound.{IsFilled}
+use Rattle.paraid_image.specs.Sound.{IsFilled}
 use Rattle.paraid_plain.specs.Views.{view_at}
 use Rattle.paraid_plain.proofs.filled.are_filled.Goals as goal
 

@@ -1,6 +1,6 @@
 use Rattle.std.proofs.Common.{ℕ, ◌<◌}
 use Rattle.paraid_record.specs.Codes.{phase_to}
-use Rattle.paraid_txn.specs.Sound.{IsFilled}
+use Rattle.paraid_image.specs.Sound.{IsFilled}
 use Rattle.paraid_plain.specs.Views.{view_at}
 use Rattle.paraid_plain.proofs.filled.are_filled.Given as goal
 

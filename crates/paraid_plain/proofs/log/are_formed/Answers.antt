@@ -1,5 +1,5 @@
 use Rattle.std.proofs.Common.{arith}
-use Rattle.paraid_plain.specs.Images.{disks_of}
+use Rattle.paraid_plain.specs.Images.{disks_in}
 use Rattle.paraid_plain.specs.LogParts.{AreFormed, IsFormed}
 use Rattle.paraid_plain.specs.Views.{out_at}
 use Rattle.paraid_plain.proofs.StatementLemmas.{both_logs}
@@ -8,7 +8,7 @@ use Rattle.paraid_plain.proofs.log.are_formed.Goals as goal
 
 pub returns-then-is_formed : goal.returns-then-is_formed
 returns-then-is_formed c =
-    let i = disks_of c.args.image.now in
+    let i = disks_in c.args.image.now in
     let out = out_at c.args.image.now c.args.says.now in
     reworded (AreFormed i out) c.is_formed-then-is_formed.result c.is_formed-then-is_formed.ensures
     (λ second. both_logs (IsFormed i out) (c.is_formed.ensures.0 c.if-is_formed.true) second)

@@ -1,5 +1,5 @@
-use Rattle.paraid_txn.specs.Sound.{LogOk}
-use Rattle.paraid_plain.specs.Images.{disks_of}
+use Rattle.paraid_image.specs.Sound.{LogOk}
+use Rattle.paraid_plain.specs.Images.{disks_in}
 use Rattle.paraid_plain.specs.Statements.{said_of}
 use Rattle.paraid_plain.specs.Views.{out_at}
 use Rattle.paraid_plain.proofs.TestLemmas.{failed, refused, reworded}
@@ -8,7 +8,7 @@ use Rattle.paraid_plain.proofs.log.is_log_ok.Goals.{then-not-is_single-via-then-
 
 pub returns-then-not-is_single : goal.returns-then-not-is_single
 returns-then-not-is_single c =
-    let Whole : Type 0 = LogOk (disks_of c.args.image.now) c.args.says.now.disk (said_of c.args.image.now c.args.says.now) c.args.writes in
+    let Whole : Type 0 = LogOk (disks_in c.args.image.now) c.args.says.now.disk (said_of c.args.image.now c.args.says.now) c.args.writes in
     elim c.then-not-is_single.branch [
       | then-not-is_single-via-then-not-is_single w ↦ refused Whole c.is_single.result c.is_single.ensures w.if-not-is_single.true (λ all. all.single)
       | then-not-is_single-via-else-not-is_single+then-not-is_standing_in w ↦
@@ -18,7 +18,7 @@ returns-then-not-is_single c =
 pub returns-then-not-is_fresh_shut : goal.returns-then-not-is_fresh_shut
 unfolding out_at
 returns-then-not-is_fresh_shut c =
-    let Whole : Type 0 = LogOk (disks_of c.args.image.now) c.args.says.now.disk (said_of c.args.image.now c.args.says.now) c.args.writes in
+    let Whole : Type 0 = LogOk (disks_in c.args.image.now) c.args.says.now.disk (said_of c.args.image.now c.args.says.now) c.args.writes in
     elim c.then-not-is_fresh_shut.branch [
       | then-not-is_fresh_shut-via-then-not-is_fresh_shut w ↦
           refused Whole c.is_fresh_shut.result c.is_fresh_shut.ensures w.if-not-is_fresh_shut.true (λ all. all.fresh_shut)
@@ -31,7 +31,7 @@ unfolding out_at
 returns-then-are_formed c =
     let image = c.args.image.now in
     let says = c.args.says.now in
-    reworded (LogOk (disks_of image) says.disk (said_of image says) c.args.writes) c.are_paired.result c.are_paired.ensures
+    reworded (LogOk (disks_in image) says.disk (said_of image says) c.args.writes) c.are_paired.result c.are_paired.ensures
     (λ paired. record {
       stands = c.requires;
       writes = c.if-says-writes.false;
@@ -49,4 +49,4 @@ unfolding out_at
 returns-else-are_formed c =
     let image = c.args.image.now in
     let says = c.args.says.now in
-    failed (LogOk (disks_of image) says.disk (said_of image says) c.args.writes) c.are_formed.result c.are_formed.ensures c.if-are_formed.false (λ all. all.formed)
+    failed (LogOk (disks_in image) says.disk (said_of image says) c.args.writes) c.are_formed.result c.are_formed.ensures c.if-are_formed.false (λ all. all.formed)

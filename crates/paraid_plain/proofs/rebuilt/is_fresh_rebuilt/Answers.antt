@@ -1,7 +1,7 @@
 use Rattle.std.proofs.Common.{◌≡◌, ℕ, sym, ◌∙◌, subst}
 use Rattle.paraid_base.specs.declared.state.Out.TheVariants.{Fresh}
-use Rattle.paraid_txn.specs.Sound.{AreRebuilt}
-use Rattle.paraid_plain.specs.Images.{disks_of}
+use Rattle.paraid_image.specs.Sound.{AreRebuilt}
+use Rattle.paraid_plain.specs.Images.{disks_in}
 use Rattle.paraid_plain.specs.Parts.{IsFreshRebuilt}
 use Rattle.paraid_plain.specs.Views.{view_at}
 use Rattle.paraid_plain.proofs.TestLemmas.{reworded}
@@ -13,7 +13,7 @@ returns-else-not-is_present c =
     let view = view_at image c.args.says.now in
     let disk = c.in-Fresh.disk in
     let units = c.in-Fresh.rebuilt in
-    reworded (IsFreshRebuilt (disks_of image).power view) c.are_rebuilt.result c.are_rebuilt.ensures
+    reworded (IsFreshRebuilt (disks_in image).power view) c.are_rebuilt.result c.are_rebuilt.ensures
     (λ rebuilt d n is.
     let both : Fresh disk units ≡ Fresh d n = sym c.in-Fresh.is ∙ is.is in
     let same : disk ≡ d = cc in

@@ -1,7 +1,7 @@
 use Rattle.std.proofs.Common.{◌≡◌, ℕ, ◌<◌}
 use Rattle.paraid_base.specs.Sums.{xor_upto}
 use Rattle.paraid_base.specs.Xor.{zeroed}
-use Rattle.paraid_txn.specs.Value.{value}
+use Rattle.paraid_image.specs.Value.{value}
 use Rattle.paraid_plain.specs.Views.{view_at}
 use Rattle.paraid_plain.proofs.rows.are_rows_zero.Given as goal
 

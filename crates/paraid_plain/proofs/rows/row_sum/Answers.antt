@@ -1,4 +1,4 @@
-use Rattle.paraid_txn.specs.Value.{value}
+use Rattle.paraid_image.specs.Value.{value}
 use Rattle.paraid_plain.specs.Views.{view_at}
 use Rattle.paraid_plain.proofs.SumLemmas.{sum_more, sum_none}
 use Rattle.paraid_plain.proofs.rows.row_sum.Goals as goal

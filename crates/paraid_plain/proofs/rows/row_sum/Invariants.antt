@@ -1,6 +1,6 @@
 use Rattle.std.proofs.Common.{◌≡◌}
 use Rattle.paraid_base.specs.Sums.{xor_upto}
-use Rattle.paraid_txn.specs.Value.{value}
+use Rattle.paraid_image.specs.Value.{value}
 use Rattle.paraid_plain.specs.Views.{view_at}
 use Rattle.paraid_plain.proofs.rows.row_sum.Given as goal
 

@@ -1,6 +1,6 @@
 use Rattle.std.proofs.Common.{ap}
 use Rattle.paraid_base.specs.declared.block.Block.{Block}
-use Rattle.paraid_txn.specs.Sides.{is_open}
+use Rattle.paraid_image.specs.Sides.{is_open}
 use Rattle.paraid_plain.proofs.side.is_gate_open.Goals as goal
 
 pub returns : goal.returns

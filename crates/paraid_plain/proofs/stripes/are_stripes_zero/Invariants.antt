@@ -1,5 +1,5 @@
 use Rattle.std.proofs.Common.{ℕ, ◌<◌}
-use Rattle.paraid_txn.specs.Sound.{IsStripeZero}
+use Rattle.paraid_image.specs.Sound.{IsStripeZero}
 use Rattle.paraid_plain.specs.Views.{view_at}
 use Rattle.paraid_plain.proofs.stripes.are_stripes_zero.Given as goal
 

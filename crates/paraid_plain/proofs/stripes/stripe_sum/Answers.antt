@@ -1,6 +1,6 @@
 use Rattle.std.proofs.Common.{ℕ}
 use Rattle.paraid_base.specs.declared.block.Block.{Block}
-use Rattle.paraid_txn.specs.Value.{stripe}
+use Rattle.paraid_image.specs.Value.{stripe}
 use Rattle.paraid_plain.specs.Views.{block_at}
 use Rattle.paraid_plain.proofs.SumLemmas.{sum_more, sum_none}
 use Rattle.paraid_plain.proofs.stripes.stripe_sum.Goals as goal

@@ -1,6 +1,6 @@
 use Rattle.std.proofs.Common.{◌≡◌}
 use Rattle.paraid_base.specs.Sums.{xor_upto}
-use Rattle.paraid_txn.specs.Value.{stripe}
+use Rattle.paraid_image.specs.Value.{stripe}
 use Rattle.paraid_plain.specs.Views.{block_at}
 use Rattle.paraid_plain.proofs.stripes.stripe_sum.Given as goal
 

@@ -1,7 +1,7 @@
 use Rattle.std.proofs.Common.{ℕ, ◌∙◌}
 use Rattle.paraid_base.specs.declared.block.Block.{Block}
 use Rattle.paraid_base.proofs.SumsLemmas.{others_none, others_read, others_skip}
-use Rattle.paraid_txn.specs.Value.{near}
+use Rattle.paraid_image.specs.Value.{near}
 use Rattle.paraid_plain.specs.Views.{view_at}
 use Rattle.paraid_plain.proofs.value.far.Goals as goal
 use Rattle.paraid_plain.proofs.value.far.Goals.{then-other-disk, else-other-disk}

@@ -1,6 +1,6 @@
 use Rattle.std.proofs.Common.{◌≡◌}
 use Rattle.paraid_base.specs.Sums.{without, xor_upto}
-use Rattle.paraid_txn.specs.Value.{near}
+use Rattle.paraid_image.specs.Value.{near}
 use Rattle.paraid_plain.specs.Views.{view_at}
 use Rattle.paraid_plain.proofs.value.far.Given as goal
 

@@ -1,6 +1,6 @@
 use Rattle.std.proofs.Common.{sym, ◌∙◌}
-use Rattle.paraid_txn.specs.Spot.{is_hard}
-use Rattle.paraid_txn.proofs.ViewLemmas.{not_below}
+use Rattle.paraid_image.specs.Spot.{is_hard}
+use Rattle.paraid_image.proofs.ViewLemmas.{not_below}
 use Rattle.paraid_plain.proofs.value.near.Goals as goal
 
 pub soft_value-requires-clause-parked : goal.soft_value-requires-clause-parked

@@ -1,7 +1,7 @@
 use Rattle.std.proofs.Common.{ℕ, ◌∙◌}
 use Rattle.paraid_base.specs.declared.block.Block.{Block}
 use Rattle.paraid_base.proofs.SumsLemmas.{others_none, others_read, others_skip}
-use Rattle.paraid_txn.specs.Value.{stripe}
+use Rattle.paraid_image.specs.Value.{stripe}
 use Rattle.paraid_plain.specs.Views.{block_at}
 use Rattle.paraid_plain.proofs.value.stripe_rest.Goals as goal
 use Rattle.paraid_plain.proofs.value.stripe_rest.Goals.{then-other-disk, else-other-disk}

@@ -36,6 +36,7 @@ returns-clause-reads c = λ m rest range e.
     let out = c.out_of.ensures g m.gear m.out range.out disk.0 fresh.0 rebuilt.0 in (
       λ i. Some (record {
         setup = c.args.setup;
+        version = c.args.version;
         epoch = epoch.0 i;
         writes = writes.0 i;
         ticks = ticks.0 i;

@@ -1,17 +1,19 @@
 use Rattle.std.specs.Prelude.{◌≡◌, ◌≢◌, ℕ, ◌+◌, ◌<◌, ◌≤◌, true, get_or, length, Some}
-use Rattle.std.proofs.Common.{inl, ap, arith, refl, subst, ◌∙◌}
+use Rattle.std.proofs.Common.{inl, ap, arith, refl, subst, sym, ◌∙◌}
 use Rattle.paraid_base.specs.Xor.{zeroed}
 use Rattle.paraid_rack.specs.Told.{Ran, Runs}
 use Rattle.paraid_record.specs.Targets.{no_target}
 use Rattle.paraid_txn.specs.Losses.{AreDryBut, CanWrite}
-use Rattle.paraid_txn.specs.Sides.{Batch}
-use Rattle.paraid_txn.specs.Stages.{IsSpelled, Job, LayIn, Whole, body, gone}
+use Rattle.paraid_image.specs.Neutral.{names}
+use Rattle.paraid_image.specs.Sides.{Batch}
+use Rattle.paraid_txn.specs.Stages.{IsSpelled, Job, LayIn, Later, body, gone}
 use Rattle.paraid_txn.specs.Staging.{blocks, names_disk}
 use Rattle.paraid_txn.proofs.PartsLemmas.{andthen, ends, lay_ran, lay_whole, nothing_ran}
 use Rattle.paraid_txn.proofs.ReadyLemmas.{targets_stay_ready}
-use Rattle.paraid_txn.proofs.DownLemmas.{AreDryBut-both, AreDryBut-weaker, AreOthersWell-then, Lasts-none, Lasts-then}
-use Rattle.paraid_txn.proofs.NeutralLemmas.{length-targets}
-use Rattle.paraid_txn.proofs.StagingLemmas.{names_disk-at}
+use Rattle.paraid_txn.proofs.DownLemmas.{AreDryBut-both, AreDryBut-weaker}
+use Rattle.paraid_txn.proofs.CommitPartLemmas.{CommitPart_answer, CommitPart_none, CommitPart_raised, CommitPart_then, writes_target}
+use Rattle.paraid_image.proofs.NeutralLemmas.{length-targets}
+use Rattle.paraid_txn.proofs.StagingLemmas.{names-at, names_disk-at}
 use Rattle.paraid_txn.proofs.TargetsLemmas.{target_at}
 use Rattle.paraid_txn.proofs.commit.lay.Given.{Over}
 use Rattle.paraid_txn.proofs.commit.lay.Goals as goal
@@ -30,6 +32,10 @@ past_log g c =
     let long = length-targets c.args.batch.now in
     rw c.target-target.ensures (c.requires.past_log c.loop-at.at no_target (omega arith))
 
+-- it is a target of the batch
+named : (g : Over) (c : After-put g) → let t = c.target-target.result in names c.args.batch.now t.disk t.place ≡ true
+named g c = names-at c.args.batch.now c.loop-at.at c.target-target.result (omega arith) (sym c.target-target.ensures)
+
 -- a disk that is wet after it is one that has targets
 wet : (g : Over) (c : After-put g) → AreDryBut (λ d. (names_disk c.args.batch.now d ≡ true) × (c.args.skip ≢ Some d))
     (g.R.Rack.slot c.args.rack.now) (g.R.Rack.slot c.put.new.rack)
@@ -38,7 +44,7 @@ wet g c =
     let on = names_disk-at c.args.batch.now c.loop-at.at (omega arith) in
     let this : (d : ℕ) → (d ≡ c.target-target.result.disk) × (c.args.skip ≢ Some d) → may d = λ d is.
     (rw (is.0, c.target-target.ensures) on, is.1) in
-    AreDryBut-both may _ _ _ _ (g.R.Rack.slot c.loop-at.rack) _ c.loop-at.invariant.lasts c.put.ensures.lasts c.loop-at.invariant.dry (AreDryBut-weaker may _ (g.R.Rack.slot c.loop-at.rack) (g.R.Rack.slot c.put.new.rack) this c.put.ensures.dry)
+    AreDryBut-both may _ _ _ _ (g.R.Rack.slot c.loop-at.rack) _ c.loop-at.invariant.part.lasts c.put.ensures.part.lasts c.loop-at.invariant.dry (AreDryBut-weaker may _ (g.R.Rack.slot c.loop-at.rack) (g.R.Rack.slot c.put.new.rack) this c.put.ensures.dry)
 
 pub put-requires-clause-exists : goal.put-requires-clause-exists
 put-requires-clause-exists g c = (ready g c).0
@@ -48,7 +54,7 @@ put-requires-clause-can g c not = (ready g c).1 not
 
 -- one more target
 next : (g : Over) (c : After-put g) (j : Job) → IsSpelled j → gone j ≡ c.args.skip → j.batch ≡ c.args.batch.now
-    → Ran (g.R.Rack.told c.args.rack.now) (g.R.Rack.told c.put.new.rack) (Runs (Whole j) (LayIn j 0) (LayIn j (c.loop-at.at + 1)))
+    → Ran (g.R.Rack.told c.args.rack.now) (g.R.Rack.told c.put.new.rack) (Runs (Later j) (LayIn j 0) (LayIn j (c.loop-at.at + 1)))
 next g c j good is same =
     let n = c.loop-at.at in
     let t = c.target-target.result in
@@ -65,8 +71,7 @@ pub loop-at-init : goal.loop-at-init
 loop-at-init g c = record {
   slots = refl;
   ready = c.requires.ready;
-  lasts = Lasts-none _ _;
-  well = λ d not. refl;
+  part = CommitPart_none _ _ _ _ tt;
   dry = λ d here wet. inl wet;
   ran = λ j good is same. nothing_ran (lay_whole j good 0);
 }
@@ -74,9 +79,8 @@ loop-at-init g c = record {
 pub loop-at-preserved : goal.loop-at-preserved
 loop-at-preserved g c = record {
   slots = c.put.ensures.slots ∙ c.loop-at.invariant.slots;
-  ready = targets_stay_ready _ _ _ _ c.put.ensures.lasts c.put.ensures.slots c.loop-at.invariant.ready;
-  lasts = Lasts-then _ _ _ _ _ _ c.loop-at.invariant.lasts c.put.ensures.lasts;
-  well = AreOthersWell-then _ _ _ _ _ _ c.loop-at.invariant.lasts c.put.ensures.lasts c.loop-at.invariant.well c.in_ok-put.ensures.well;
+  ready = targets_stay_ready _ _ _ _ c.put.ensures.part.lasts c.put.ensures.slots c.loop-at.invariant.ready;
+  part = CommitPart_answer tt (CommitPart_then c.loop-at.invariant.part (writes_target c.args.batch.now _ (named g (goal.at.loop-at-preserved g c).After-put) c.in_ok-put.ensures.part));
   dry = wet g (goal.at.loop-at-preserved g c).After-put;
   ran = next g (goal.at.loop-at-preserved g c).After-put;
 }
@@ -94,8 +98,13 @@ returns-clause-moments g c j good is same = ends (lay_whole j good c.loop-at.at)
 pub returns-clause-done : goal.returns-clause-done
 returns-clause-done g c j good is same =
     let all : c.loop-at.at ≡ length c.args.batch.now = omega arith in
-    subst (λ (n : ℕ). Ran (g.R.Rack.told c.args.rack.now) (g.R.Rack.told c.loop-at.rack) (Runs (Whole j) (LayIn j 0) (LayIn j n)))
+    subst (λ (n : ℕ). Ran (g.R.Rack.told c.args.rack.now) (g.R.Rack.told c.loop-at.rack) (Runs (Later j) (LayIn j 0) (LayIn j n)))
     all (c.loop-at.invariant.ran j good is same)
 
-pub returns-in_err-put-clause-lasts : goal.returns-in_err-put-clause-lasts
-returns-in_err-put-clause-lasts g c = Lasts-then _ _ _ _ _ _ c.loop-at.invariant.lasts c.put.ensures.lasts
+pub returns-in_err-put-clause-part : goal.returns-in_err-put-clause-part
+returns-in_err-put-clause-part g c =
+    CommitPart_raised _ c.from_residual.ensures.1
+    (CommitPart_then c.loop-at.invariant.part (writes_target c.args.batch.now _ (named g (goal.at.returns-in_err-put-clause-part g c).After-put) c.in_err-put.ensures.part))
+
+pub returns-clause-part : goal.returns-clause-part
+returns-clause-part g c = CommitPart_answer tt c.loop-at.invariant.part

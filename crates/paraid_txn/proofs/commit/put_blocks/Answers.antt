@@ -2,12 +2,13 @@ use Rattle.std.specs.Prelude.{◌≡◌, ℕ, ◌+◌, ◌<◌, get_or, length}
 use Rattle.paraid_base.specs.Xor.{zeroed}
 use Rattle.std.proofs.Common.{inl, ap, subst, ◌∙◌, refl, arith}
 use Rattle.paraid_rack.specs.Told.{Ran, Runs}
-use Rattle.paraid_txn.specs.Sides.{Batch}
-use Rattle.paraid_txn.specs.Stages.{IsSpelled, Job, LogIn, Whole, body, named}
+use Rattle.paraid_image.specs.Sides.{Batch}
+use Rattle.paraid_txn.specs.Stages.{IsSpelled, Job, LogIn, Earlier, body, named}
 use Rattle.paraid_txn.specs.Staging.{blocks}
 use Rattle.paraid_txn.proofs.PartsLemmas.{andthen, ends, log_block_ran, log_in_whole, nothing_ran}
-use Rattle.paraid_txn.proofs.ReadyLemmas.{log_stays_ready}
-use Rattle.paraid_txn.proofs.DownLemmas.{AreDryBut-both, AreOthersWell-then, Lasts-none, Lasts-then}
+use Rattle.paraid_txn.proofs.ReadyLemmas.{log_can, log_stays_ready}
+use Rattle.paraid_txn.proofs.DownLemmas.{AreDryBut-both}
+use Rattle.paraid_txn.proofs.CommitPartLemmas.{CommitPart_answer, CommitPart_none, CommitPart_raised, CommitPart_then, logs_write}
 use Rattle.paraid_txn.proofs.commit.put_blocks.Given.{Over}
 use Rattle.paraid_txn.proofs.commit.put_blocks.Goals as goal
 use Rattle.paraid_txn.proofs.commit.put_blocks.Goals.{After-put}
@@ -15,7 +16,7 @@ use Rattle.paraid_txn.proofs.commit.put_blocks.Goals.{After-put}
 -- one more block
 next : (g : Over) (c : After-put g) (j : Job) → IsSpelled j → named j ≡ c.args.skip → j.batch ≡ c.args.batch.now
     → Ran (g.R.Rack.told c.args.rack.now) (g.R.Rack.told c.put.new.rack)
-    (Runs (Whole j) (LogIn j c.args.disk 0) (LogIn j c.args.disk (c.loop-at.at + 1)))
+    (Runs (Earlier j) (LogIn j c.args.disk 0) (LogIn j c.args.disk (c.loop-at.at + 1)))
 next g c j good is same =
     let n = c.loop-at.at in
     let long : length j.batch ≡ length c.args.batch.now = ap length same in
@@ -29,8 +30,7 @@ pub loop-at-init : goal.loop-at-init
 loop-at-init g c = record {
   slots = refl;
   log = c.requires.log;
-  lasts = Lasts-none _ _;
-  well = λ d not. refl;
+  part = CommitPart_none _ _ _ _ tt;
   dry = λ d here wet. inl wet;
   ran = λ j good is same. nothing_ran (log_in_whole j good c.args.disk 0);
 }
@@ -38,10 +38,9 @@ loop-at-init g c = record {
 pub loop-at-preserved : goal.loop-at-preserved
 loop-at-preserved g c = record {
   slots = c.put.ensures.slots ∙ c.loop-at.invariant.slots;
-  log = log_stays_ready c.put.ensures.lasts c.loop-at.invariant.log;
-  lasts = Lasts-then _ _ _ _ _ _ c.loop-at.invariant.lasts c.put.ensures.lasts;
-  well = AreOthersWell-then _ _ _ _ _ _ c.loop-at.invariant.lasts c.put.ensures.lasts c.loop-at.invariant.well c.in_ok-put.ensures.well;
-  dry = AreDryBut-both _ _ _ _ (g.R.Rack.slot c.args.rack.now) (g.R.Rack.slot c.loop-at.rack) (g.R.Rack.slot c.put.new.rack) c.loop-at.invariant.lasts c.put.ensures.lasts c.loop-at.invariant.dry c.put.ensures.dry;
+  log = log_stays_ready c.put.ensures.part.lasts c.loop-at.invariant.log;
+  part = CommitPart_answer tt (CommitPart_then c.loop-at.invariant.part (logs_write (4 + c.from.result) c.requires.log_disk (omega arith) c.in_ok-put.ensures.part));
+  dry = AreDryBut-both _ _ _ _ (g.R.Rack.slot c.args.rack.now) (g.R.Rack.slot c.loop-at.rack) (g.R.Rack.slot c.put.new.rack) c.loop-at.invariant.part.lasts c.put.ensures.part.lasts c.loop-at.invariant.dry c.put.ensures.dry;
   ran = next g (goal.at.loop-at-preserved g c).After-put;
 }
 
@@ -56,5 +55,16 @@ returns-clause-moments g c j good is same =
 pub returns-clause-done : goal.returns-clause-done
 returns-clause-done g c j good is same =
     let all : c.loop-at.at ≡ length c.args.batch.now = omega arith in
-    subst (λ (n : ℕ). Ran (g.R.Rack.told c.args.rack.now) (g.R.Rack.told c.loop-at.rack) (Runs (Whole j) (LogIn j c.args.disk 0) (LogIn j c.args.disk n)))
+    subst (λ (n : ℕ). Ran (g.R.Rack.told c.args.rack.now) (g.R.Rack.told c.loop-at.rack) (Runs (Earlier j) (LogIn j c.args.disk 0) (LogIn j c.args.disk n)))
     all (c.loop-at.invariant.ran j good is same)
+
+pub put-requires-clause-can : goal.put-requires-clause-can
+put-requires-clause-can g c not = log_can (4 + c.from.result) c.loop-at.invariant.log c.requires.log_disk (omega arith) not
+
+pub returns-in_err-put-clause-part : goal.returns-in_err-put-clause-part
+returns-in_err-put-clause-part g c =
+    CommitPart_raised _ c.from_residual.ensures.1
+    (CommitPart_then c.loop-at.invariant.part (logs_write (4 + c.from.result) c.requires.log_disk (omega arith) c.in_err-put.ensures.part))
+
+pub returns-clause-part : goal.returns-clause-part
+returns-clause-part g c = CommitPart_answer tt c.loop-at.invariant.part

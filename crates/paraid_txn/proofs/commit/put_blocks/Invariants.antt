@@ -1,17 +1,18 @@
-use Rattle.std.specs.Prelude.{◌≡◌, ◌≢◌, Some}
+use Rattle.std.specs.Prelude.{◌≡◌, ◌≢◌, Some, Ok}
 use Rattle.paraid_rack.specs.Told.{Ran, Runs}
-use Rattle.paraid_txn.specs.Losses.{AreDryBut, AreOthersWell, Lasts}
+use Rattle.paraid_txn.specs.Losses.{AreDryBut}
 use Rattle.paraid_txn.specs.Ready.{IsLogReady}
-use Rattle.paraid_txn.specs.Stages.{IsSpelled, Job, LogIn, Whole, named}
+use Rattle.paraid_txn.specs.Stages.{IsSpelled, Job, LogIn, Earlier, named}
+use Rattle.paraid_txn.specs.CommitPart.{CommitPart}
+use Rattle.paraid_txn.specs.Uses.{UsesLog}
 use Rattle.paraid_txn.proofs.commit.put_blocks.Given as goal
 
 abbrev pub invariant-loop-at : goal.invariant-loop-at
 invariant-loop-at g l = record {
   slots : g.R.Rack.slot_count l.rack ≡ g.R.Rack.slot_count l.fn.rack;
   log : IsLogReady l.skip (g.R.Rack.slot l.rack);
-  lasts : Lasts l.fn.losses l.losses (g.R.Rack.slot l.fn.rack) (g.R.Rack.slot l.rack);
-  well : AreOthersWell l.losses (g.R.Rack.slot l.fn.rack) (g.R.Rack.slot l.rack);
+  part : CommitPart {A = Unit {0}} g.R.Rack (UsesLog l.skip) l.fn.losses l.losses l.fn.rack l.rack (Ok tt);
   dry : AreDryBut (λ d. (d ≡ l.disk) × (l.skip ≢ Some d)) (g.R.Rack.slot l.fn.rack) (g.R.Rack.slot l.rack);
   ran : (j : Job) → IsSpelled j → named j ≡ l.skip → j.batch ≡ l.batch
-      → Ran (g.R.Rack.told l.fn.rack) (g.R.Rack.told l.rack) (Runs (Whole j) (LogIn j l.disk 0) (LogIn j l.disk l.at));
+      → Ran (g.R.Rack.told l.fn.rack) (g.R.Rack.told l.rack) (Runs (Earlier j) (LogIn j l.disk 0) (LogIn j l.disk l.at));
 }

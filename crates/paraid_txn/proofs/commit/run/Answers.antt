@@ -1,8 +1,14 @@
 use Rattle.std.proofs.Common.{arith, refl, sym}
-use Rattle.paraid_txn.proofs.NeutralLemmas.{length-targets}
-use Rattle.paraid_txn.proofs.PartsLemmas.{andthen}
+use Rattle.paraid_image.proofs.NeutralLemmas.{length-targets}
+use Rattle.paraid_rack.specs.Disks.{Disks}
+use Rattle.paraid_rack.specs.Told.{Ran, Runs}
+use Rattle.paraid_txn.specs.Stages.{IsSpelled, LayIn, Log, Mark, Whole, job}
+use Rattle.paraid_txn.proofs.PartsLemmas.{andthen, ends, milder}
+use Rattle.paraid_txn.proofs.WholeLemmas.{earlier_whole, later_whole}
+use Rattle.paraid_txn.proofs.CommitPartLemmas.{CommitPart_logs, CommitPart_raised, CommitPart_targets, CommitPart_then}
+use Rattle.paraid_txn.proofs.commit.run.Given.{Over}
+use Rattle.paraid_txn.proofs.commit.run.Goals.{In_ok-open_gates, In_ok-lay_all}
 use Rattle.paraid_txn.proofs.ReadyLemmas.{log_stays_ready}
-use Rattle.paraid_txn.proofs.DownLemmas.{IfErr-two-later, Lasts-then}
 use Rattle.paraid_txn.proofs.commit.run.Goals as goal
 
 pub write_logs-requires-clause-few : goal.write_logs-requires-clause-few
@@ -12,53 +18,78 @@ pub lay_all-requires-clause-few : goal.lay_all-requires-clause-few
 lay_all-requires-clause-few g c = let n = length-targets c.args.batch.now in let few = c.requires.in_range.few in omega arith
 
 pub finish-requires-clause-log : goal.finish-requires-clause-log
-finish-requires-clause-log g c = log_stays_ready c.lay_all.ensures.lasts c.open_gates.ensures.log
+finish-requires-clause-log g c = log_stays_ready c.lay_all.ensures.part.lasts (log_stays_ready c.open_gates.ensures.part.lasts (log_stays_ready c.write_logs.ensures.part.lasts (rw c.named_out-named.ensures c.requires.log)))
+
+pub open_gates-requires-clause-log : goal.open_gates-requires-clause-log
+open_gates-requires-clause-log g c = log_stays_ready c.write_logs.ensures.part.lasts (rw c.named_out-named.ensures c.requires.log)
+
+-- with all gates open
+logged : (g : Over) (c : In_ok-open_gates g) (start : Disks) → IsSpelled (job start c.args.meta.now c.args.batch.now c.args.spelled.now c.args.list.now c.args.first)
+    → let j = job start c.args.meta.now c.args.batch.now c.args.spelled.now c.args.list.now c.args.first in
+    Ran (g.R.Rack.told c.args.rack.now) (g.R.Rack.told c.open_gates.new.rack) (Runs (Whole j) (Log j 0) (LayIn j 0))
+logged g c start good =
+    let name = sym c.named_out-named.ensures in
+    milder (earlier_whole _) (andthen (c.in_ok-write_logs.ensures.done _ good name refl refl refl) (c.in_ok-open_gates.ensures.done _ good name refl))
+
+-- and the targets laid
+laid : (g : Over) (c : In_ok-lay_all g) (start : Disks) → IsSpelled (job start c.args.meta.now c.args.batch.now c.args.spelled.now c.args.list.now c.args.first)
+    → let j = job start c.args.meta.now c.args.batch.now c.args.spelled.now c.args.list.now c.args.first in
+    Ran (g.R.Rack.told c.args.rack.now) (g.R.Rack.told c.lay_all.new.rack) (Runs (Whole j) (Log j 0) (Mark j 0))
+laid g c start good =
+    let name = sym c.named_out-named.ensures in
+    andthen (milder (earlier_whole _) (andthen (c.in_ok-write_logs.ensures.done _ good name refl refl refl) (c.in_ok-open_gates.ensures.done _ good name refl)))
+    (milder (later_whole _) (c.in_ok-lay_all.ensures.done _ good (sym c.gone_out.ensures) refl))
+
+pub returns-in_err-write_logs-clause-moments : goal.returns-in_err-write_logs-clause-moments
+returns-in_err-write_logs-clause-moments g c start good =
+    let name = sym c.named_out-named.ensures in
+    ends (earlier_whole _) (milder (earlier_whole _) (c.write_logs.ensures.moments _ good name refl refl refl))
 
 pub returns-in_err-open_gates-clause-moments : goal.returns-in_err-open_gates-clause-moments
 returns-in_err-open_gates-clause-moments g c start good =
     let name = sym c.named_out-named.ensures in
-    andthen (c.in_ok-write_logs.ensures.done _ good name refl refl refl) (c.open_gates.ensures.moments _ good name)
+    ends (earlier_whole _) (milder (earlier_whole _) (andthen (c.in_ok-write_logs.ensures.done _ good name refl refl refl) (c.open_gates.ensures.moments _ good name refl)))
 
 pub returns-in_err-lay_all-clause-moments : goal.returns-in_err-lay_all-clause-moments
 returns-in_err-lay_all-clause-moments g c start good =
-    let name = sym c.named_out-named.ensures in
-    let logged = andthen (c.in_ok-write_logs.ensures.done _ good name refl refl refl) (c.in_ok-open_gates.ensures.done _ good name) in
-    andthen logged (c.lay_all.ensures.moments _ good (sym c.gone_out.ensures) refl)
+    let at = goal.at.returns-in_err-lay_all-clause-moments g c in
+    andthen (logged g at.In_ok-open_gates start good) (ends (later_whole _) (milder (later_whole _) (c.lay_all.ensures.moments _ good (sym c.gone_out.ensures) refl)))
 
 pub returns-in_err-finish-clause-moments : goal.returns-in_err-finish-clause-moments
 returns-in_err-finish-clause-moments g c start good =
-    let name = sym c.named_out-named.ensures in
-    let logged = andthen (c.in_ok-write_logs.ensures.done _ good name refl refl refl) (c.in_ok-open_gates.ensures.done _ good name) in
-    let laid = andthen logged (c.in_ok-lay_all.ensures.done _ good (sym c.gone_out.ensures) refl) in
-    andthen laid (c.finish.ensures.moments _ good name refl)
+    let at = goal.at.returns-in_err-finish-clause-moments g c in
+    andthen (laid g at.In_ok-lay_all start good) (ends (later_whole _) (milder (later_whole _) (c.finish.ensures.moments _ good (sym c.named_out-named.ensures) refl)))
 
 pub returns-clause-moments : goal.returns-clause-moments
 returns-clause-moments g c start good =
-    let name = sym c.named_out-named.ensures in
-    let logged = andthen (c.in_ok-write_logs.ensures.done _ good name refl refl refl) (c.in_ok-open_gates.ensures.done _ good name) in
-    let laid = andthen logged (c.in_ok-lay_all.ensures.done _ good (sym c.gone_out.ensures) refl) in
-    andthen laid (c.finish.ensures.moments _ good name refl)
+    let at = goal.at.returns-clause-moments g c in
+    andthen (laid g at.In_ok-lay_all start good) (ends (later_whole _) (milder (later_whole _) (c.finish.ensures.moments _ good (sym c.named_out-named.ensures) refl)))
 
 pub returns-clause-done : goal.returns-clause-done
 returns-clause-done g c start good =
-    let name = sym c.named_out-named.ensures in
-    let logged = andthen (c.in_ok-write_logs.ensures.done _ good name refl refl refl) (c.in_ok-open_gates.ensures.done _ good name) in
-    let laid = andthen logged (c.in_ok-lay_all.ensures.done _ good (sym c.gone_out.ensures) refl) in
-    andthen laid (c.in_ok-finish.ensures.done _ good name refl)
+    let at = goal.at.returns-clause-done g c in
+    andthen (laid g at.In_ok-lay_all start good) (milder (later_whole _) (c.in_ok-finish.ensures.done _ good (sym c.named_out-named.ensures) refl))
 
-pub returns-in_err-finish-clause-two : goal.returns-in_err-finish-clause-two
-returns-in_err-finish-clause-two g c =
-    let logged = Lasts-then _ _ _ _ _ _ c.write_logs.ensures.lasts c.open_gates.ensures.lasts in
-    let before = Lasts-then _ _ _ _ _ _ logged c.lay_all.ensures.lasts in
-    IfErr-two-later _ _ _ _ _ _ _ _ c.from_residual-in_err-finish.ensures.1 before c.finish.ensures.lasts c.in_err-finish.ensures.two
+pub returns-in_err-write_logs-clause-part : goal.returns-in_err-write_logs-clause-part
+returns-in_err-write_logs-clause-part g c =
+    CommitPart_raised _ c.from_residual.ensures.1
+    (CommitPart_logs c.args.meta.now c.args.batch.now c.named_out-named.ensures c.in_err-write_logs.ensures.part)
 
-pub returns-in_err-finish-clause-lasts : goal.returns-in_err-finish-clause-lasts
-returns-in_err-finish-clause-lasts g c =
-    let logged = Lasts-then _ _ _ _ _ _ c.write_logs.ensures.lasts c.open_gates.ensures.lasts in
-    let before = Lasts-then _ _ _ _ _ _ logged c.lay_all.ensures.lasts in
-    Lasts-then _ _ _ _ _ _ before c.finish.ensures.lasts
+pub returns-in_err-open_gates-clause-part : goal.returns-in_err-open_gates-clause-part
+returns-in_err-open_gates-clause-part g c =
+    CommitPart_raised _ c.from_residual-in_err-open_gates.ensures.1
+    (CommitPart_then (CommitPart_logs c.args.meta.now c.args.batch.now c.named_out-named.ensures c.in_ok-write_logs.ensures.part) (CommitPart_logs c.args.meta.now c.args.batch.now c.named_out-named.ensures c.in_err-open_gates.ensures.part))
 
-pub returns-in_err-lay_all-clause-two : goal.returns-in_err-lay_all-clause-two
-returns-in_err-lay_all-clause-two g c =
-    let logged = Lasts-then _ _ _ _ _ _ c.write_logs.ensures.lasts c.open_gates.ensures.lasts in
-    IfErr-two-later _ _ _ _ _ _ _ _ c.from_residual-in_err-lay_all.ensures.1 logged c.lay_all.ensures.lasts c.in_err-lay_all.ensures.two
+pub returns-in_err-lay_all-clause-part : goal.returns-in_err-lay_all-clause-part
+returns-in_err-lay_all-clause-part g c =
+    CommitPart_raised _ c.from_residual-in_err-lay_all.ensures.1
+    (CommitPart_then (CommitPart_then (CommitPart_logs c.args.meta.now c.args.batch.now c.named_out-named.ensures c.in_ok-write_logs.ensures.part) (CommitPart_logs c.args.meta.now c.args.batch.now c.named_out-named.ensures c.in_ok-open_gates.ensures.part)) (CommitPart_targets c.args.meta.now c.args.batch.now c.gone_out.ensures (λ k t lt. (c.requires.in_range.each k t lt).disk) c.in_err-lay_all.ensures.part))
+
+pub returns-in_err-finish-clause-part : goal.returns-in_err-finish-clause-part
+returns-in_err-finish-clause-part g c =
+    CommitPart_raised _ c.from_residual-in_err-finish.ensures.1
+    (CommitPart_then (CommitPart_then (CommitPart_then (CommitPart_logs c.args.meta.now c.args.batch.now c.named_out-named.ensures c.in_ok-write_logs.ensures.part) (CommitPart_logs c.args.meta.now c.args.batch.now c.named_out-named.ensures c.in_ok-open_gates.ensures.part)) (CommitPart_targets c.args.meta.now c.args.batch.now c.gone_out.ensures (λ k t lt. (c.requires.in_range.each k t lt).disk) c.in_ok-lay_all.ensures.part)) (CommitPart_logs c.args.meta.now c.args.batch.now c.named_out-named.ensures c.in_err-finish.ensures.part))
+
+pub returns-clause-part : goal.returns-clause-part
+returns-clause-part g c =
+    CommitPart_then (CommitPart_then (CommitPart_then (CommitPart_logs c.args.meta.now c.args.batch.now c.named_out-named.ensures c.in_ok-write_logs.ensures.part) (CommitPart_logs c.args.meta.now c.args.batch.now c.named_out-named.ensures c.in_ok-open_gates.ensures.part)) (CommitPart_targets c.args.meta.now c.args.batch.now c.gone_out.ensures (λ k t lt. (c.requires.in_range.each k t lt).disk) c.in_ok-lay_all.ensures.part)) (CommitPart_logs c.args.meta.now c.args.batch.now c.named_out-named.ensures c.in_ok-finish.ensures.part)

@@ -1,20 +1,21 @@
-use Rattle.std.specs.Prelude.{◌≡◌, ◌≢◌, ℕ, ◌<◌, true, Some}
+use Rattle.std.specs.Prelude.{◌≡◌, ◌≢◌, ℕ, ◌<◌, true, Some, Ok}
 use Rattle.paraid_rack.specs.Told.{Ran, Runs}
-use Rattle.paraid_txn.specs.Losses.{AreDry, AreOthersWell, IsDryAt, Lasts}
+use Rattle.paraid_txn.specs.Losses.{AreDry, IsDryAt}
 use Rattle.paraid_txn.specs.Ready.{AreTargetsReady}
-use Rattle.paraid_txn.specs.Sides.{targets}
-use Rattle.paraid_txn.specs.Stages.{IsSpelled, Job, SettleIn, Whole, gone}
+use Rattle.paraid_image.specs.Sides.{targets}
+use Rattle.paraid_txn.specs.Stages.{IsSpelled, Job, SettleIn, Later, gone}
 use Rattle.paraid_txn.specs.Staging.{names_disk}
+use Rattle.paraid_txn.specs.CommitPart.{CommitPart}
+use Rattle.paraid_txn.specs.Uses.{UsesTarget}
 use Rattle.paraid_txn.proofs.commit.settle_all.Given as goal
 
 abbrev pub invariant-loop-disk : goal.invariant-loop-disk
 invariant-loop-disk g l = record {
   slots : g.R.Rack.slot_count l.rack ≡ g.R.Rack.slot_count l.fn.rack;
   ready : AreTargetsReady l.skip (g.R.Rack.slot_count l.rack) (g.R.Rack.slot l.rack) (targets l.batch);
-  lasts : Lasts l.fn.losses l.losses (g.R.Rack.slot l.fn.rack) (g.R.Rack.slot l.rack);
-  well : AreOthersWell l.losses (g.R.Rack.slot l.fn.rack) (g.R.Rack.slot l.rack);
+  part : CommitPart {A = Unit {0}} g.R.Rack (UsesTarget l.skip l.batch) l.fn.losses l.losses l.fn.rack l.rack (Ok tt);
   dry : AreDry (g.R.Rack.slot l.fn.rack) (g.R.Rack.slot l.rack);
   settled : (d : ℕ) → d < l.disk → names_disk l.batch d ≡ true → l.skip ≢ Some d → IsDryAt (g.R.Rack.slot l.rack) d;
   ran : (j : Job) → IsSpelled j → gone j ≡ l.skip → j.batch ≡ l.batch
-      → Ran (g.R.Rack.told l.fn.rack) (g.R.Rack.told l.rack) (Runs (Whole j) (SettleIn j 0) (SettleIn j l.disk));
+      → Ran (g.R.Rack.told l.fn.rack) (g.R.Rack.told l.rack) (Runs (Later j) (SettleIn j 0) (SettleIn j l.disk));
 }

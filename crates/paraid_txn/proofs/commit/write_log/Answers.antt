@@ -1,44 +1,52 @@
 use Rattle.std.specs.Prelude.{◌≡◌, ◌≢◌, ℕ, ◌+◌, length, Some}
 use Rattle.std.proofs.Common.{ap, arith}
 use Rattle.paraid_rack.specs.Told.{Ran, Runs}
-use Rattle.paraid_txn.specs.Stages.{IsSpelled, Job, Log, LogIn, LogMeta, Whole, named}
-use Rattle.paraid_txn.proofs.DownLemmas.{AreDry-settled, AreDryBut-both, IfErr-two-later, Lasts-then}
+use Rattle.paraid_txn.specs.Stages.{IsSpelled, Job, Log, LogIn, LogMeta, Earlier, named}
+use Rattle.paraid_txn.proofs.DownLemmas.{CanWrite-later, CanWrite-lower, AreDry-settled, AreDryBut-both, Lasts-then}
 use Rattle.paraid_txn.proofs.PartsLemmas.{andthen, ends, log_in_whole, log_list_ran, log_meta_ran, log_meta_whole, log_sync_ran, log_whole}
-use Rattle.paraid_txn.proofs.ReadyLemmas.{log_can}
+use Rattle.paraid_txn.proofs.ReadyLemmas.{log_can, log_stays_ready}
+use Rattle.paraid_txn.proofs.CommitPartLemmas.{CommitPart_raised, CommitPart_then, logs_sync, logs_write}
 use Rattle.paraid_txn.proofs.commit.write_log.Given.{Over}
 use Rattle.paraid_txn.proofs.commit.write_log.Goals as goal
 use Rattle.paraid_txn.proofs.commit.write_log.Goals.{After-put, After-put-2, After-put_blocks, After-settle}
 
+pub put-requires-2-clause-can : goal.put-requires-2-clause-can
+put-requires-2-clause-can g c not =
+    CanWrite-lower _ _ 3 99 (omega arith) (CanWrite-later _ _ _ _ _ 99 c.put.ensures.part.lasts (c.requires.log.can c.args.disk c.requires.log_disk not))
+
 pub settle-requires-clause-can : goal.settle-requires-clause-can
-settle-requires-clause-can g c not = log_can 0 c.put_blocks.ensures.log c.requires.log_disk (omega arith) not
+settle-requires-clause-can g c not = log_can 0 (log_stays_ready c.put_blocks.ensures.part.lasts (log_stays_ready c.put-2.ensures.part.lasts (log_stays_ready c.put.ensures.part.lasts c.requires.log))) c.requires.log_disk (omega arith) not
+
+pub put_blocks-requires-clause-log : goal.put_blocks-requires-clause-log
+put_blocks-requires-clause-log g c = log_stays_ready c.put-2.ensures.part.lasts (log_stays_ready c.put.ensures.part.lasts c.requires.log)
 
 pub returns-clause-dry : goal.returns-clause-dry
 returns-clause-dry g c =
     let may : ℕ → Type 0 = λ d. (d ≡ c.args.disk) × (c.args.skip ≢ Some d) in
     let slot = g.R.Rack.slot in
-    let heads = Lasts-then _ _ _ _ _ _ c.put.ensures.lasts c.put-2.ensures.lasts in
-    let written = Lasts-then _ _ _ _ _ _ heads c.put_blocks.ensures.lasts in
+    let heads = Lasts-then _ _ _ _ _ _ c.put.ensures.part.lasts c.put-2.ensures.part.lasts in
+    let written = Lasts-then _ _ _ _ _ _ heads c.put_blocks.ensures.part.lasts in
     let wet_heads = AreDryBut-both may _ _ _ (slot c.args.rack.now) (slot c.put.new.rack) (slot c.put-2.new.rack)
-    c.put.ensures.lasts c.put-2.ensures.lasts c.put.ensures.dry c.put-2.ensures.dry in
+    c.put.ensures.part.lasts c.put-2.ensures.part.lasts c.put.ensures.dry c.put-2.ensures.dry in
     let wet = AreDryBut-both may _ _ _ (slot c.args.rack.now) (slot c.put-2.new.rack) (slot c.put_blocks.new.rack)
-    heads c.put_blocks.ensures.lasts wet_heads c.put_blocks.ensures.dry in
+    heads c.put_blocks.ensures.part.lasts wet_heads c.put_blocks.ensures.dry in
     AreDry-settled c.args.skip c.args.disk _ _ _ (slot c.args.rack.now) (slot c.put_blocks.new.rack) (slot c.settle.new.rack)
-    written c.settle.ensures.lasts wet c.settle.ensures.dry c.settle.ensures.settled
+    written c.settle.ensures.part.lasts wet c.settle.ensures.dry c.settle.ensures.settled
 
 -- with the meta of the batch written
 first : (g : Over) (c : After-put g) (j : Job) → IsSpelled j → named j ≡ c.args.skip → j.spelled ≡ c.args.meta.now
-    → Ran (g.R.Rack.told c.args.rack.now) (g.R.Rack.told c.put.new.rack) (Runs (Whole j) (Log j c.args.disk) (LogMeta j c.args.disk))
+    → Ran (g.R.Rack.told c.args.rack.now) (g.R.Rack.told c.put.new.rack) (Runs (Earlier j) (Log j c.args.disk) (LogMeta j c.args.disk))
 first g c j good is spelled = log_meta_ran j good (g.met.R.Rack.agrees c.args.rack.now) is c.args.disk spelled c.put.ensures.does
 
 -- and the list of its targets
 second : (g : Over) (c : After-put-2 g) (j : Job) → IsSpelled j → named j ≡ c.args.skip → j.list ≡ c.args.list.now
-    → Ran (g.R.Rack.told c.put.new.rack) (g.R.Rack.told c.put-2.new.rack) (Runs (Whole j) (LogMeta j c.args.disk) (LogIn j c.args.disk 0))
+    → Ran (g.R.Rack.told c.put.new.rack) (g.R.Rack.told c.put-2.new.rack) (Runs (Earlier j) (LogMeta j c.args.disk) (LogIn j c.args.disk 0))
 second g c j good is list = log_list_ran j good (g.met.R.Rack.agrees c.put.new.rack) is c.args.disk list c.put-2.ensures.does
 
 -- the sync, after all blocks
 last : (g : Over) (c : After-settle g) (j : Job) → IsSpelled j → named j ≡ c.args.skip → j.batch ≡ c.args.batch.now
     → Ran (g.R.Rack.told c.put_blocks.new.rack) (g.R.Rack.told c.settle.new.rack)
-    (Runs (Whole j) (LogIn j c.args.disk (length c.args.batch.now)) (Log j (c.args.disk + 1)))
+    (Runs (Earlier j) (LogIn j c.args.disk (length c.args.batch.now)) (Log j (c.args.disk + 1)))
 last g c j good is same =
     rw (← (ap length same)) (log_sync_ran j good (g.met.R.Rack.agrees c.put_blocks.new.rack) is c.args.disk c.settle.ensures.does)
 
@@ -76,19 +84,24 @@ returns-clause-done g c j good is same list spelled =
     andthen (first g at.After-put j good is spelled) (andthen (second g at.After-put-2 j good is list)
     (andthen (c.in_ok-put_blocks.ensures.done j good is same) (last g at.After-settle j good is same)))
 
-pub returns-in_err-settle-clause-two : goal.returns-in_err-settle-clause-two
-returns-in_err-settle-clause-two g c =
-    let heads = Lasts-then _ _ _ _ _ _ c.put.ensures.lasts c.put-2.ensures.lasts in
-    let before = Lasts-then _ _ _ _ _ _ heads c.put_blocks.ensures.lasts in
-    IfErr-two-later _ _ _ _ _ _ _ _ c.from_residual-in_err-settle.ensures.1 before c.settle.ensures.lasts c.in_err-settle.ensures.two
+pub returns-in_err-put-clause-part : goal.returns-in_err-put-clause-part
+returns-in_err-put-clause-part g c = CommitPart_raised _ c.from_residual.ensures.1 (logs_write 2 c.requires.log_disk (omega arith) c.in_err-put.ensures.part)
 
-pub returns-in_err-settle-clause-lasts : goal.returns-in_err-settle-clause-lasts
-returns-in_err-settle-clause-lasts g c =
-    let heads = Lasts-then _ _ _ _ _ _ c.put.ensures.lasts c.put-2.ensures.lasts in
-    let before = Lasts-then _ _ _ _ _ _ heads c.put_blocks.ensures.lasts in
-    Lasts-then _ _ _ _ _ _ before c.settle.ensures.lasts
+pub returns-in_err-put-2-clause-part : goal.returns-in_err-put-2-clause-part
+returns-in_err-put-2-clause-part g c =
+    CommitPart_raised _ c.from_residual-in_err-put-2.ensures.1
+    (CommitPart_then (logs_write 2 c.requires.log_disk (omega arith) c.in_ok-put.ensures.part) (logs_write 3 c.requires.log_disk (omega arith) c.in_err-put-2.ensures.part))
 
-pub returns-in_err-put_blocks-clause-two : goal.returns-in_err-put_blocks-clause-two
-returns-in_err-put_blocks-clause-two g c =
-    let heads = Lasts-then _ _ _ _ _ _ c.put.ensures.lasts c.put-2.ensures.lasts in
-    IfErr-two-later _ _ _ _ _ _ _ _ c.from_residual-in_err-put_blocks.ensures.1 heads c.put_blocks.ensures.lasts c.in_err-put_blocks.ensures.two
+pub returns-in_err-put_blocks-clause-part : goal.returns-in_err-put_blocks-clause-part
+returns-in_err-put_blocks-clause-part g c =
+    CommitPart_raised _ c.from_residual-in_err-put_blocks.ensures.1
+    (CommitPart_then (CommitPart_then (logs_write 2 c.requires.log_disk (omega arith) c.in_ok-put.ensures.part) (logs_write 3 c.requires.log_disk (omega arith) c.in_ok-put-2.ensures.part)) c.in_err-put_blocks.ensures.part)
+
+pub returns-in_err-settle-clause-part : goal.returns-in_err-settle-clause-part
+returns-in_err-settle-clause-part g c =
+    CommitPart_raised _ c.from_residual-in_err-settle.ensures.1
+    (CommitPart_then (CommitPart_then (CommitPart_then (logs_write 2 c.requires.log_disk (omega arith) c.in_ok-put.ensures.part) (logs_write 3 c.requires.log_disk (omega arith) c.in_ok-put-2.ensures.part)) c.in_ok-put_blocks.ensures.part) (logs_sync c.requires.log_disk c.in_err-settle.ensures.part))
+
+pub returns-clause-part : goal.returns-clause-part
+returns-clause-part g c =
+    CommitPart_then (CommitPart_then (CommitPart_then (logs_write 2 c.requires.log_disk (omega arith) c.in_ok-put.ensures.part) (logs_write 3 c.requires.log_disk (omega arith) c.in_ok-put-2.ensures.part)) c.in_ok-put_blocks.ensures.part) (logs_sync c.requires.log_disk c.in_ok-settle.ensures.part)

@@ -2,8 +2,8 @@ use Rattle.std.proofs.Common.{◌<◌, length, refl, sym, ◌∙◌, subst, arit
 use Rattle.std.proofs.lemmas.Bool.{false≢true}
 use Rattle.std.proofs.lemmas.List.Elements.{All-from_get_or, All-get_or}
 use Rattle.paraid_record.specs.Targets.{IsTargetInRange, no_target}
-use Rattle.paraid_txn.specs.Sides.{targets}
-use Rattle.paraid_txn.proofs.NeutralLemmas.{length-targets}
+use Rattle.paraid_image.specs.Sides.{targets}
+use Rattle.paraid_image.proofs.NeutralLemmas.{length-targets}
 use Rattle.paraid_txn.proofs.ready.are_in_range.Goals as goal
 
 pub returns-then-not-is_in_range : goal.returns-then-not-is_in_range

@@ -4,8 +4,8 @@ use Rattle.std.proofs.lemmas.List.Elements.{All-from_get_or, All-get_or}
 use Rattle.paraid_record.specs.declared.targets.Target.{Target}
 use Rattle.paraid_record.specs.Targets.{no_target}
 use Rattle.paraid_txn.specs.Losses.{CanWrite}
-use Rattle.paraid_txn.specs.Sides.{targets}
-use Rattle.paraid_txn.proofs.NeutralLemmas.{length-targets}
+use Rattle.paraid_image.specs.Sides.{targets}
+use Rattle.paraid_image.proofs.NeutralLemmas.{length-targets}
 use Rattle.paraid_txn.proofs.ready.are_targets_ready.Goals as goal
 
 pub returns-then-not-is_target_ready : goal.returns-then-not-is_target_ready

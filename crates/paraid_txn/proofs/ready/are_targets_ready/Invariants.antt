@@ -1,7 +1,7 @@
 use Rattle.std.proofs.Common.{◌≢◌, ℕ, ◌<◌, get_or, Some}
 use Rattle.paraid_record.specs.Targets.{no_target}
 use Rattle.paraid_txn.specs.Losses.{CanWrite}
-use Rattle.paraid_txn.specs.Sides.{targets}
+use Rattle.paraid_image.specs.Sides.{targets}
 use Rattle.paraid_txn.proofs.ready.are_targets_ready.Given as goal
 
 abbrev pub invariant-loop-at : goal.invariant-loop-at

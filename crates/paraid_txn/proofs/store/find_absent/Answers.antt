@@ -3,7 +3,7 @@ use Rattle.std.specs.Prelude.{if◌then◌else◌}
 use Rattle.std.proofs.lemmas.Bool.{cases_eq}
 use Rattle.paraid_rack.specs.declared.call.Power.{Power}
 use Rattle.paraid_rack.specs.Disks.{is_present}
-use Rattle.paraid_txn.specs.Out.{first_absent, or_else}
+use Rattle.paraid_image.specs.Out.{first_absent, or_else}
 use Rattle.paraid_txn.proofs.store.find_absent.Goals as goal
 
 first_absent-zero : (power : ℕ → Power) → first_absent power 0 ≡ None

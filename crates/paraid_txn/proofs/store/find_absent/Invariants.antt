@@ -1,5 +1,5 @@
 use Rattle.std.proofs.Common.{◌≡◌, None}
-use Rattle.paraid_txn.specs.Out.{first_absent}
+use Rattle.paraid_image.specs.Out.{first_absent}
 use Rattle.paraid_txn.proofs.store.find_absent.Given as goal
 
 abbrev pub invariant-loop-disk : goal.invariant-loop-disk

@@ -1,9 +1,10 @@
 use Rattle.std.proofs.Common.{◌≡◌, ◌≤◌, ◌*◌}
-use Rattle.paraid_dirty.specs.Table.{is_dirty, dirty_count}
+use Rattle.paraid_base.specs.Places.{sum_before}
+use Rattle.paraid_dirty.proofs.CountLemmas.{flat}
 use Rattle.paraid_dirty.proofs.table.DirtyTable.count.Given as goal
 
-abbrev pub invariant-loop-row : goal.invariant-loop-row
-invariant-loop-row l = record {
-  counted : l.count ≡ dirty_count (is_dirty l.self) l.row l.lo l.hi;
-  small : l.count ≤ 8 * l.row;
+abbrev pub invariant-loop-at : goal.invariant-loop-at
+invariant-loop-at l = record {
+  counted : l.count ≡ sum_before (flat l.self-inside.words.items l.lo l.hi) (64 * l.at);
+  small : l.count ≤ 64 * l.at;
 }

@@ -1,9 +1,18 @@
-use Rattle.std.proofs.Common.{◌≡◌, ℕ, List, map, replicate, ap, ◌∙◌}
-use Rattle.paraid_dirty.specs.Table.{row_bits, is_dirty}
-use Rattle.paraid_dirty.proofs.TableLemmas.{is_dirty-replicate}
+use Rattle.std.proofs.Common.{arith}
+use Rattle.paraid_dirty.proofs.TableLemmas.{new_clean, new_table, rows_length}
 use Rattle.paraid_dirty.proofs.table.DirtyTable.new.Goals as goal
 
-pub returns-in-Ok-clause-clean : goal.returns-in-Ok-clause-clean
-returns-in-Ok-clause-clean c = λ r d.
-    let zeros : c.in-Ok.bytes.items ≡ replicate c.args.rows 0 = c.in-Ok.ensures.items_if_clones_equal (λ y same. same) in
-    ap (λ (bytes : List ℕ). is_dirty (map row_bits bytes) r d) zeros ∙ is_dirty-replicate c.args.rows r d
+pub invariant_of-result : goal.invariant_of-result
+invariant_of-result c =
+    let count = c.div_ceil-count.ensures in
+    let sets = c.div_ceil.ensures in
+    new_table c.in-Ok.words.items c.in-Ok-vec.marks.items c.div_ceil-count.result c.div_ceil.result c.args.rows
+    (c.in-Ok.ensures.items_if_clones_equal (λ y same. same)) (c.in-Ok-vec.ensures.items_if_clones_equal (λ y same. same))
+    c.requires (omega arith) (omega arith) (omega arith) (omega arith)
+
+pub returns-clause-rows : goal.returns-clause-rows
+returns-clause-rows c = rows_length c.in-Ok.words.items c.args.rows
+
+pub returns-clause-clean : goal.returns-clause-clean
+returns-clause-clean c =
+    new_clean c.in-Ok.words.items c.in-Ok-vec.marks.items c.div_ceil-count.result c.args.rows (c.in-Ok.ensures.items_if_clones_equal (λ y same. same)) (invariant_of-result c)

@@ -1,12 +1,12 @@
 use Rattle.std.proofs.Common.{refl, sym, ◌∙◌, subst}
 use Rattle.paraid_rack.specs.declared.call.Call.TheVariants.{Read, Write, Sync, Park, SpinUp, Attach}
-use Rattle.paraid_memrack.specs.Past.{Past, past_of, Follows}
+use Rattle.paraid_memrack.specs.Past.{Past, past_of, MakesPast}
 use Rattle.paraid_memrack.proofs.PastLemmas.{follows_as, follows_failed, follows_read, follows_write, follows_sync, follows_park, follows_spin_up, follows_attach}
 use Rattle.paraid_memrack.proofs.past.PastSlot.follow.Goals as goal
 
 pub returns-then-not-was_done : goal.returns-then-not-was_done
 returns-then-not-was_done c =
-    subst (λ (w : Past). Follows c.args.call.now (past_of c.args.self.now) w) (sym c.vanish.ensures)
+    subst (λ (w : Past). MakesPast c.args.call.now (past_of c.args.self.now) w) (sym c.vanish.ensures)
     (follows_failed c.args.call.now (past_of c.args.self.now) (sym c.was_done.ensures ∙ c.if-not-was_done.true))
 
 pub returns-in-Read : goal.returns-in-Read

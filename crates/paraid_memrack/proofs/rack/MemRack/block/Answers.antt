@@ -1,5 +1,5 @@
 use Rattle.std.proofs.Common.{length, ap, arith}
-use Rattle.paraid_memrack.specs.Slots.{View}
+use Rattle.paraid_memrack.specs.Slots.{FullSlot}
 use Rattle.paraid_memrack.proofs.ViewLemmas.{view_here}
 use Rattle.paraid_memrack.proofs.RackLemmas.{present, block_told}
 use Rattle.paraid_memrack.proofs.rack.MemRack.block.Goals as goal
@@ -7,7 +7,7 @@ use Rattle.paraid_memrack.proofs.rack.MemRack.block.Goals as goal
 pub index-requires-2 : goal.index-requires-2
 index-requires-2 c =
     let y = c.index.result.now in
-    let is = ap (λ (v : View). length v.blocks) (view_here c.args.self.now.slots.items c.args.disk y c.requires.exists c.index.ensures) in
+    let is = ap (λ (v : FullSlot). length v.blocks) (view_here c.args.self.now.slots.items c.args.disk y c.requires.exists c.index.ensures) in
     omega (arith, c.requires.within, y.blocks.ok.0, is)
 
 pub returns : goal.returns

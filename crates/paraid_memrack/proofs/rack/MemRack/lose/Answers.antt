@@ -5,8 +5,8 @@ use Rattle.paraid_rack.specs.Disks.{lose}
 use Rattle.paraid_rack.specs.Trail.{Beginning, Trail, initial, now}
 use Rattle.paraid_memrack.specs.declared.rack.MemRack.{MemRack}
 use Rattle.paraid_memrack.specs.Rules.{listed, start_of, told_of, untouched}
-use Rattle.paraid_memrack.specs.Slots.{view_at}
-use Rattle.paraid_memrack.specs.Tells.{beginning_of, no_beginning, Holds}
+use Rattle.paraid_memrack.specs.Slots.{full_slot_at}
+use Rattle.paraid_memrack.specs.Tells.{beginning_of, no_beginning, IsSlotOf}
 use Rattle.paraid_memrack.proofs.FirstLemmas.{told_untouched, tells_some, lost_start, keeps_lost}
 use Rattle.paraid_memrack.proofs.NoteLemmas.{some_same}
 use Rattle.paraid_memrack.proofs.ViewLemmas.{small_after, slots_after}
@@ -34,8 +34,8 @@ invariant_of-self-clause-keeps c t told =
     let tells = tells_some rack.log.tells rack.log.start.items rack.log.calls.items c.requires.tells in
     let now_told = told_untouched log.tells log.start.items log.calls.items (c.lose.ensures.tells ∙ tells) (ap (λ v. v.items) c.lose.ensures.calls ∙ c.requires.unused) in
     let is : untouched (set start c.args.disk no_beginning) ≡ t = ap untouched (sym c.lose.ensures.start) ∙ some_same (sym now_told ∙ told) in
-    let before : (d : ℕ) → Holds (initial start) d (view_at rack.slots.items d) = rack.keeps (untouched start) (was_told rack tells c.requires.unused) in
-    subst (λ (u : Trail). (d : ℕ) → Holds (now u) d (view_at c.remove.new.slots.items d)) is
+    let before : (d : ℕ) → IsSlotOf (initial start) d (full_slot_at rack.slots.items d) = rack.keeps (untouched start) (was_told rack tells c.requires.unused) in
+    subst (λ (u : Trail). (d : ℕ) → IsSlotOf (now u) d (full_slot_at c.remove.new.slots.items d)) is
     (keeps_lost start c.args.disk (at_start rack c.args.disk c.requires.exists) rack.slots.items c.remove.new.slots.items _ c.remove.ensures refl refl before)
 
 pub invariant_of-self-clause-same : goal.invariant_of-self-clause-same

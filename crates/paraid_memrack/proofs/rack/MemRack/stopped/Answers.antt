@@ -7,7 +7,7 @@ use Rattle.paraid_memrack.specs.declared.log.Start.{Start}
 use Rattle.paraid_memrack.specs.declared.past.PastSlot.{PastSlot}
 use Rattle.paraid_memrack.specs.declared.stop.Pick.{Pick}
 use Rattle.paraid_memrack.specs.Past.{past_of, in_bytes, left_in_bytes}
-use Rattle.paraid_memrack.specs.Slots.{view_from}
+use Rattle.paraid_memrack.specs.Slots.{full_slot_from}
 use Rattle.paraid_memrack.specs.Stop.{IsPicked, kept_at}
 use Rattle.paraid_memrack.specs.Tells.{beginning_of}
 use Rattle.paraid_memrack.proofs.FirstLemmas.{told_untouched, told_trail, slot_first, length_first, small_first, sound_first, keeps_first}
@@ -34,7 +34,7 @@ invariant_of-result-clause-small c = small_first _ _ c.in_ok-slots.ensures
 pub invariant_of-result-clause-keeps : goal.invariant_of-result-clause-keeps
 invariant_of-result-clause-keeps c =
     let log = c.in_ok-log.log in
-    let same = c.in_ok-slots.ensures ∙ ap (λ (l : List Start). map view_from (map beginning_of l)) (sym c.in_ok-log.ensures.start) in
+    let same = c.in_ok-slots.ensures ∙ ap (λ (l : List Start). map full_slot_from (map beginning_of l)) (sym c.in_ok-log.ensures.start) in
     keeps_first c.in_ok-slots.slots.items log.start.items same _ (told_untouched log.tells log.start.items log.calls.items c.in_ok-log.ensures.tells c.in_ok-log.ensures.calls)
 
 pub invariant_of-result-clause-same : goal.invariant_of-result-clause-same
@@ -45,7 +45,7 @@ returns-clause-told c = told_untouched _ _ _ c.in_ok-log.ensures.tells c.in_ok-l
 
 pub returns-clause-slot : goal.returns-clause-slot
 returns-clause-slot c =
-    let same = c.in_ok-slots.ensures ∙ ap (λ (l : List Start). map view_from (map beginning_of l)) (sym c.in_ok-log.ensures.start) in
+    let same = c.in_ok-slots.ensures ∙ ap (λ (l : List Start). map full_slot_from (map beginning_of l)) (sym c.in_ok-log.ensures.start) in
     slot_first c.in_ok-slots.slots.items c.in_ok-log.log.start.items same
 
 pub returns-clause-image : goal.returns-clause-image

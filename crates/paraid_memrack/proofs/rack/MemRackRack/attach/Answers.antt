@@ -3,7 +3,7 @@ use Rattle.paraid_base.specs.Xor.{zeroed}
 use Rattle.paraid_rack.specs.declared.call.Power.TheVariants.{Spinning}
 use Rattle.paraid_rack.specs.declared.call.Call.TheVariants.{Attach}
 use Rattle.paraid_rack.specs.Slots.{Slot}
-use Rattle.paraid_memrack.specs.Slots.{view_at}
+use Rattle.paraid_memrack.specs.Slots.{full_slot_at}
 use Rattle.paraid_memrack.proofs.ViewLemmas.{touched_done}
 use Rattle.paraid_memrack.proofs.StepLemmas.{holds_attach}
 use Rattle.paraid_memrack.proofs.NoteLemmas.{keeps_after, grows_told}
@@ -15,11 +15,11 @@ pub invariant_of-self-clause-keeps : goal.invariant_of-self-clause-keeps
 invariant_of-self-clause-keeps c =
     let rack = c.args.self.now in
     keeps_after _ (Attach c.args.disk c.args.size true) c.note.ensures.told refl c.fill.ensures rack.keeps
-    (λ s h. holds_attach s c.args.disk (view_at rack.slots.items c.args.disk) _ c.args.size c.in-Ok.ensures.zeros)
+    (λ s h. holds_attach s c.args.disk (full_slot_at rack.slots.items c.args.disk) _ c.args.size c.in-Ok.ensures.zeros)
 
 pub returns-clause-slot : goal.returns-clause-slot
 returns-clause-slot c =
-    let was = view_at c.args.self.now.slots.items c.args.disk in
+    let was = full_slot_at c.args.self.now.slots.items c.args.disk in
     touched_done c.fill.ensures _ _ (ap (λ (n : ℕ). let s : Slot = record { power = Spinning; size = n; unsynced = false; faults = was.faults } in s)
     (ap length c.in-Ok.ensures.zeros ∙ length-replicate c.args.size zeroed))
 

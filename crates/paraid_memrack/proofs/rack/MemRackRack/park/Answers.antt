@@ -1,6 +1,6 @@
 use Rattle.std.proofs.Common.{refl, sym, ap, true}
 use Rattle.paraid_rack.specs.declared.call.Call.TheVariants.{Park}
-use Rattle.paraid_memrack.specs.Slots.{view_at}
+use Rattle.paraid_memrack.specs.Slots.{full_slot_at}
 use Rattle.paraid_memrack.proofs.ViewLemmas.{touched_done}
 use Rattle.paraid_memrack.proofs.StepLemmas.{holds_park}
 use Rattle.paraid_memrack.proofs.NoteLemmas.{keeps_after, grows_told}
@@ -13,7 +13,7 @@ fail-requires-clause-dirt c = sym c.requires.synced
 pub invariant_of-self-clause-keeps : goal.invariant_of-self-clause-keeps
 invariant_of-self-clause-keeps c =
     let rack = c.args.self.now in
-    keeps_after _ (Park c.args.disk true) c.note.ensures.told refl c.turn.ensures rack.keeps (λ s h. holds_park s c.args.disk (view_at rack.slots.items c.args.disk) h c.requires.spinning)
+    keeps_after _ (Park c.args.disk true) c.note.ensures.told refl c.turn.ensures rack.keeps (λ s h. holds_park s c.args.disk (full_slot_at rack.slots.items c.args.disk) h c.requires.spinning)
 
 pub returns-clause-slot : goal.returns-clause-slot
 returns-clause-slot c = touched_done c.turn.ensures _ _ refl

@@ -1,6 +1,6 @@
 use Rattle.std.proofs.Common.{length, refl, ◌∙◌, ap, arith, true}
 use Rattle.paraid_rack.specs.declared.call.Call.TheVariants.{Read}
-use Rattle.paraid_memrack.specs.Slots.{View, view_at}
+use Rattle.paraid_memrack.specs.Slots.{FullSlot, full_slot_at}
 use Rattle.paraid_memrack.proofs.ViewLemmas.{view_here, touched_none}
 use Rattle.paraid_memrack.proofs.StepLemmas.{holds_read}
 use Rattle.paraid_memrack.proofs.NoteLemmas.{keeps_still, grows_told}
@@ -10,13 +10,13 @@ use Rattle.paraid_memrack.proofs.rack.MemRackRack.read.Goals as goal
 pub index-requires-2 : goal.index-requires-2
 index-requires-2 c =
     let y = c.index.result.now in
-    let is = ap (λ (v : View). length v.blocks) (view_here c.args.self.now.slots.items c.args.disk y c.requires.exists c.index.ensures) in
+    let is = ap (λ (v : FullSlot). length v.blocks) (view_here c.args.self.now.slots.items c.args.disk y c.requires.exists c.index.ensures) in
     omega (arith, c.requires.within, y.blocks.ok.0, is)
 
 pub invariant_of-self-clause-keeps : goal.invariant_of-self-clause-keeps
 invariant_of-self-clause-keeps c =
     let rack = c.args.self.now in
-    keeps_still _ (Read c.args.disk c.args.place true) {d = c.args.disk} rack.slots.items c.note.ensures.told refl rack.keeps (λ s h. holds_read s c.args.disk (view_at rack.slots.items c.args.disk) h c.args.place)
+    keeps_still _ (Read c.args.disk c.args.place true) {d = c.args.disk} rack.slots.items c.note.ensures.told refl rack.keeps (λ s h. holds_read s c.args.disk (full_slot_at rack.slots.items c.args.disk) h c.args.place)
 
 pub returns-clause-slot : goal.returns-clause-slot
 returns-clause-slot c = touched_none _ _ _

@@ -1,6 +1,6 @@
 use Rattle.std.proofs.Common.{refl, sym, ap, true}
 use Rattle.paraid_rack.specs.declared.call.Call.TheVariants.{SpinUp}
-use Rattle.paraid_memrack.specs.Slots.{view_at}
+use Rattle.paraid_memrack.specs.Slots.{full_slot_at}
 use Rattle.paraid_memrack.proofs.ViewLemmas.{touched_done}
 use Rattle.paraid_memrack.proofs.StepLemmas.{holds_spin_up}
 use Rattle.paraid_memrack.proofs.NoteLemmas.{keeps_after, grows_told}
@@ -13,7 +13,7 @@ fail-requires-clause-dirt c = sym (c.args.self.now.sound.parked c.args.disk c.re
 pub invariant_of-self-clause-keeps : goal.invariant_of-self-clause-keeps
 invariant_of-self-clause-keeps c =
     let rack = c.args.self.now in
-    keeps_after _ (SpinUp c.args.disk true) c.note.ensures.told refl c.turn.ensures rack.keeps (λ s h. holds_spin_up s c.args.disk (view_at rack.slots.items c.args.disk) h c.requires.parked)
+    keeps_after _ (SpinUp c.args.disk true) c.note.ensures.told refl c.turn.ensures rack.keeps (λ s h. holds_spin_up s c.args.disk (full_slot_at rack.slots.items c.args.disk) h c.requires.parked)
 
 pub returns-clause-slot : goal.returns-clause-slot
 returns-clause-slot c = touched_done c.turn.ensures _ _ refl

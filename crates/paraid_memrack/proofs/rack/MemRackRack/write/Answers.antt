@@ -1,7 +1,7 @@
 use Rattle.std.proofs.Common.{ℕ, refl, ap, true}
 use Rattle.paraid_rack.specs.declared.call.Call.TheVariants.{Write}
 use Rattle.paraid_rack.specs.Slots.{Slot}
-use Rattle.paraid_memrack.specs.Slots.{view_at}
+use Rattle.paraid_memrack.specs.Slots.{full_slot_at}
 use Rattle.paraid_memrack.proofs.ViewLemmas.{touched_done}
 use Rattle.paraid_memrack.proofs.StepLemmas.{holds_write}
 use Rattle.paraid_memrack.proofs.NoteLemmas.{keeps_after, grows_told}
@@ -13,11 +13,11 @@ pub invariant_of-self-clause-keeps : goal.invariant_of-self-clause-keeps
 invariant_of-self-clause-keeps c =
     let rack = c.args.self.now in
     keeps_after _ (Write c.args.disk c.args.place c.args.block.now true) (rw c.copy_of-bytes.ensures at c.note.ensures.told) refl c.put.ensures rack.keeps
-    (λ s h. holds_write s c.args.disk (view_at rack.slots.items c.args.disk) h c.args.place c.args.block.now c.requires.spinning c.requires.within)
+    (λ s h. holds_write s c.args.disk (full_slot_at rack.slots.items c.args.disk) h c.args.place c.args.block.now c.requires.spinning c.requires.within)
 
 pub returns-clause-slot : goal.returns-clause-slot
 returns-clause-slot c =
-    let was = view_at c.args.self.now.slots.items c.args.disk in
+    let was = full_slot_at c.args.self.now.slots.items c.args.disk in
     touched_done c.put.ensures _ _ (ap (λ (n : ℕ). let s : Slot = record { power = was.power; size = n; unsynced = true; faults = was.faults } in s) (length-set was.blocks c.args.place c.args.block.now))
 
 pub returns-clause-told : goal.returns-clause-told

@@ -2,8 +2,8 @@ use Rattle.std.proofs.Common.{◌≡◌, ◌++◌, ◌∷◌, ℕ, List, [], tak
 use Rattle.std.proofs.lemmas.List.{take_all, take_more, take_more_set}
 use Rattle.paraid_record.specs.declared.targets.Target.{Target}
 use Rattle.paraid_record.specs.Targets.{no_target}
-use Rattle.paraid_txn.specs.Sides.{targets}
-use Rattle.paraid_txn.proofs.NeutralLemmas.{length-targets}
+use Rattle.paraid_image.specs.Sides.{targets}
+use Rattle.paraid_image.proofs.NeutralLemmas.{length-targets}
 use Rattle.paraid_txn.proofs.StagingLemmas.{length-view, target-read, targets-apart}
 use Rattle.paraid_txn.proofs.batch.Batch.targets.Goals as goal
 

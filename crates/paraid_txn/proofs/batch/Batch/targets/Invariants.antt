@@ -1,5 +1,5 @@
 use Rattle.std.proofs.Common.{◌≡◌, length, take}
-use Rattle.paraid_txn.specs.Sides.{targets}
+use Rattle.paraid_image.specs.Sides.{targets}
 use Rattle.paraid_txn.proofs.batch.Batch.targets.Given as goal
 
 abbrev pub invariant-loop-at : goal.invariant-loop-at

@@ -1,6 +1,14 @@
-use Rattle.std.proofs.Common.{◌+◌}
+use Rattle.std.specs.Prelude.{◌≡◌, ◌≢◌, ◌<◌, ℕ, Some, None, Result, Ok, Err, IfErr, IsErrAnd}
+use Rattle.std.proofs.Common.{◌+◌, ◌∙◌, refl, sym, subst, inl, inr}
+use Rattle.paraid_base.specs.declared.fault.Two.{Two}
+use Rattle.paraid_record.specs.declared.meta.Meta.{Meta}
+use Rattle.paraid_image.specs.Calls.{disk_of}
+use Rattle.paraid_image.specs.Out.{first_absent, named_out, or_else}
+use Rattle.paraid_txn.specs.Losses.IsOut.{is_named}
 use Rattle.paraid_rack.specs.Disks.{Disks}
 use Rattle.paraid_txn.specs.Stages.{IsSpelled, job}
+use Rattle.paraid_txn.proofs.AloneLemmas.{alone_out, two_beside}
+use Rattle.paraid_txn.proofs.DownLemmas.{Lasts-absent, Lasts-risen}
 use Rattle.paraid_txn.proofs.StoreLemmas.{commits, next_in_range, start_ready, whole_or_absent}
 use Rattle.paraid_txn.proofs.store.Store.commit.Given.{Over}
 use Rattle.paraid_txn.proofs.store.Store.commit.Goals as goal
@@ -12,30 +20,125 @@ run-requires-clause-in_range g c =
 
 -- the blocks spell the next meta and the targets
 spelled : (g : Over) (c : After-run g) (start : Disks)
-    → IsSpelled (job start (record c.args.meta.now { epoch = c.args.self.now.epoch + 1 }) c.args.batch.now c.spell_meta-spelled.result c.spell_targets-list.result)
+    → IsSpelled (job start (record c.args.meta.now { epoch = c.args.self.now.epoch + 1 }) c.args.batch.now c.spell_meta-spelled.result c.spell_targets-list.result c.opens_first-first.result)
 spelled g c start = record {
   meta = record { in_range = next_in_range c.args.meta.now c.args.self.now.epoch c.requires.in_range c.requires.epoch; bytes = c.spell_meta-spelled.ensures };
   in_range = record { few = c.spell_targets-list.ensures.few; each = c.requires.each; distinct = c.spell_targets-list.ensures.distinct };
   list = c.spell_targets-list.ensures.value;
+  first = c.opens_first-first.ensures.log_disk;
 }
 
+-- a log disk that comes in again is the first
+joins : (g : Over) (c : After-run g) (before : Meta) → c.args.self.now.named ≡ named_out before.out
+    → (x : ℕ) → x < 2 → named_out before.out ≡ Some x → named_out c.args.meta.now.out ≢ Some x → c.opens_first-first.result ≡ x
+joins g c before named x low was not = c.opens_first-first.ensures.joins x low (named ∙ was) (λ e. not (sym c.named_out-named.ensures ∙ e))
+
 pub returns-in_err-run-clause-any_moment : goal.returns-in_err-run-clause-any_moment
-returns-in_err-run-clause-any_moment g c before =
+returns-in_err-run-clause-any_moment g c before named =
     let at = goal.at.returns-in_err-run-clause-any_moment g c in
-    whole_or_absent _ _ _ _ (spelled g at.After-run) _ _
-    (λ s is. start_ready _ _ _ _ _ (g.met.R.Rack.agrees _ s is) c.requires.log c.requires.ready) before
+    whole_or_absent _ _ _ _ _ (spelled g at.After-run) _ _
+    (λ s is. start_ready _ _ _ _ _ (g.met.R.Rack.agrees _ s is) c.requires.log c.requires.ready) before (joins g at.After-run before named)
     (λ start. c.run.ensures.moments start (spelled g at.After-run start))
 
 pub returns-clause-any_moment : goal.returns-clause-any_moment
-returns-clause-any_moment g c before =
+returns-clause-any_moment g c before named =
     let at = goal.at.returns-clause-any_moment g c in
-    whole_or_absent _ _ _ _ (spelled g at.After-run) _ _
-    (λ s is. start_ready _ _ _ _ _ (g.met.R.Rack.agrees _ s is) c.requires.log c.requires.ready) before
+    whole_or_absent _ _ _ _ _ (spelled g at.After-run) _ _
+    (λ s is. start_ready _ _ _ _ _ (g.met.R.Rack.agrees _ s is) c.requires.log c.requires.ready) before (joins g at.After-run before named)
     (λ start. c.run.ensures.moments start (spelled g at.After-run start))
 
 pub returns-clause-committed : goal.returns-clause-committed
-returns-clause-committed g c before =
+returns-clause-committed g c before named =
     let at = goal.at.returns-clause-committed g c in
-    commits _ _ _ _ (spelled g at.After-run) _ _
-    (λ s is. start_ready _ _ _ _ _ (g.met.R.Rack.agrees _ s is) c.requires.log c.requires.ready) before
+    commits _ _ _ _ _ (spelled g at.After-run) _ _
+    (λ s is. start_ready _ _ _ _ _ (g.met.R.Rack.agrees _ s is) c.requires.log c.requires.ready) before (joins g at.After-run before named)
     (λ start. c.in_ok-run.ensures.done start (spelled g at.After-run start))
+
+pub returns-in-Some-clause-any_moment : goal.returns-in-Some-clause-any_moment
+returns-in-Some-clause-any_moment g c before named =
+    let at = goal.at.returns-in-Some-clause-any_moment g c in
+    whole_or_absent _ _ _ _ _ (spelled g at.After-run) _ _
+    (λ s is. start_ready _ _ _ _ _ (g.met.R.Rack.agrees _ s is) c.requires.log c.requires.ready) before (joins g at.After-run before named)
+    (λ start. c.run.ensures.moments start (spelled g at.After-run start))
+
+-- the disk that is down as it begins
+down_is : (g : Over) (c : After-run g) → c.out_first.result
+    ≡ or_else (first_absent (λ e. (g.R.Rack.slot c.args.self.now.rack e).power) c.args.self.now.disks) (or_else c.args.self.now.named (named_out c.args.meta.now.out))
+down_is g c = c.out_first.ensures ∙ rw (c.find_absent-absent.ensures, c.named_out-named.ensures) refl
+
+raised : {A : Type 0} (P : Two → Type 0) (result : Result A Two) (two : Two) → IsErrAnd result (λ other. other ≡ two) → P two → IfErr result P
+raised P (Ok it) two is it' = tt
+raised P (Err other) two is it = subst P (sym is) it
+
+pub returns-in_err-run-clause-powers : goal.returns-in_err-run-clause-powers
+returns-in_err-run-clause-powers g c =
+    record { power = c.run.ensures.part.lasts.power; size = c.run.ensures.part.lasts.size; no_fall = c.run.ensures.part.lasts.no_fall }
+
+pub returns-in_err-run-clause-each : goal.returns-in_err-run-clause-each
+returns-in_err-run-clause-each g c =
+    c.run.ensures.part.lasts.each
+
+pub returns-in_err-run-clause-calls : goal.returns-in_err-run-clause-calls
+returns-in_err-run-clause-calls g c =
+    c.run.ensures.part.calls
+
+pub returns-in-Some-clause-powers : goal.returns-in-Some-clause-powers
+returns-in-Some-clause-powers g c =
+    record { power = c.run.ensures.part.lasts.power; size = c.run.ensures.part.lasts.size; no_fall = c.run.ensures.part.lasts.no_fall }
+
+pub returns-in-Some-clause-each : goal.returns-in-Some-clause-each
+returns-in-Some-clause-each g c =
+    c.run.ensures.part.lasts.each
+
+pub returns-in-Some-clause-calls : goal.returns-in-Some-clause-calls
+returns-in-Some-clause-calls g c =
+    c.run.ensures.part.calls
+
+pub returns-clause-powers : goal.returns-clause-powers
+returns-clause-powers g c =
+    record { power = c.run.ensures.part.lasts.power; size = c.run.ensures.part.lasts.size; no_fall = c.run.ensures.part.lasts.no_fall }
+
+pub returns-clause-each : goal.returns-clause-each
+returns-clause-each g c =
+    c.run.ensures.part.lasts.each
+
+pub returns-clause-calls : goal.returns-clause-calls
+returns-clause-calls g c =
+    c.run.ensures.part.calls
+
+pub returns-in_err-run-clause-two : goal.returns-in_err-run-clause-two
+returns-in_err-run-clause-two g c =
+    let at = goal.at.returns-in_err-run-clause-two g c in
+    raised _ _ _ c.from_residual.ensures.1 (two_beside _ _ _ _ _ _ _ _ (down_is g at.After-run) c.in_err-run.ensures.part.two)
+
+pub returns-in-Some-clause-two : goal.returns-in-Some-clause-two
+returns-in-Some-clause-two g c =
+    let both = c.find_second.ensures.two c.in-Some.two (cc) in
+    record {
+      first = inl (is_named (sym c.named_out-named.ensures ∙ both.0));
+      apart = both.2;
+      second = Lasts-risen _ _ _ _ _ c.run.ensures.part.lasts refl both.1;
+    }
+
+pub returns-clause-lost : goal.returns-clause-lost
+returns-clause-lost g c d is = record {
+  risen = Lasts-risen _ _ _ _ d c.run.ensures.part.lasts refl is;
+  absent = Lasts-absent _ _ _ _ d c.run.ensures.part.lasts refl is;
+}
+
+pub returns-clause-alone : goal.returns-clause-alone
+returns-clause-alone g c d is =
+    let at = goal.at.returns-clause-alone g c in
+    let after = c.run.new.losses in
+    elim (c.run.ensures.part.on d is) [
+      | inl none ↦ (let never : None ≡ Some d = none in cc)
+      | inr on ↦ record {
+        below = subst (λ (k : ℕ). k < c.args.self.now.disks) on.0.2 (subst (λ (n : ℕ). disk_of on.0.0 < n) c.requires.array on.0.1.0);
+        alone = alone_out _ _ _ _ d on.1
+            (λ e down. let both : Some e ≡ Some d = sym (c.run.ensures.part.lasts.remains e (down_is g at.After-run ∙ down)) ∙ after.agrees d is in cc)
+            (λ e named. c.find_second.ensures.none (cc) d e is (c.named_out-named.ensures ∙ named));
+      }
+    ]
+
+pub returns-clause-well : goal.returns-clause-well
+returns-clause-well g c d not = c.in_ok-run.ensures.part.well d not

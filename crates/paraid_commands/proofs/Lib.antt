@@ -1,0 +1,3 @@
+pub mod TallyLemmas
+pub mod GenLemmas
+pub mod LineLemmas

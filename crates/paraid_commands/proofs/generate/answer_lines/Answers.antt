@@ -1,0 +1,37 @@
+use Rattle.std.proofs.Common.{◌≡◌, ◌+◌, arith, ap, ◌∙◌, refl}
+use Rattle.paraid_commands.specs.declared.tally.Tally.{Tally}
+use Rattle.paraid_commands.specs.Tally.{with_answer, with_event}
+use Rattle.paraid_commands.proofs.GenLemmas.{counted_more, counted_none}
+use Rattle.paraid_commands.proofs.TallyLemmas.{fits_answer, fits_event, fits_none}
+use Rattle.paraid_commands.proofs.generate.answer_lines.Goals as goal
+
+pub events-init : goal.events-init
+events-init g c = rw c.new-tally.ensures (record {
+  counted = λ t p s. counted_none _ _ _ p _ _ t s;
+  told = λ t. t;
+  slots = refl;
+  setup = refl;
+  halt = c.requires.halt;
+  fits = fits_none;
+})
+
+pub events-preserved : goal.events-preserved
+events-preserved g c =
+    let i = c.events.invariant in
+    let e = c.answer-answered.ensures in
+    let new : c.count_answer.new.self ≡ with_answer (with_event c.events.tally c.generate-event.result) c.answer-answered.result =
+    c.count_answer.ensures ∙ ap (λ (t : Tally). with_answer t c.answer-answered.result) c.count_event.ensures in
+    record {
+      counted = λ t p s. counted_more (i.counted (e.told t) p s) c.generate-event.result c.answer-answered.result _ _ _ _ c.blocks-blocks.result c.count_answer.new.self i.slots i.setup
+          c.blocks-blocks.ensures.value c.generate-event.ensures.value new e.turn t;
+      told = λ t. i.told (e.told t);
+      slots = e.slots ∙ i.slots;
+      setup = e.setup ∙ i.setup;
+      halt = e.halt;
+      fits = rw new (fits_answer (with_event c.events.tally c.generate-event.result) c.answer-answered.result (c.events.i + 1) c.events.i (fits_event c.events.tally c.generate-event.result c.events.i c.events.i i.fits));
+    }
+
+pub returns-clause-counted : goal.returns-clause-counted
+returns-clause-counted g c = λ t p s.
+    let e : c.events.i ≡ c.args.lines = omega (arith, c.events-test.false, c.events.auto.i-end) in
+    rw e at (c.events.invariant.counted t p s)

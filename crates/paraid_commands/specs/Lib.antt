@@ -1,0 +1,4 @@
+pub mod Tally
+pub mod Generating
+pub mod Telling
+pub mod Lines

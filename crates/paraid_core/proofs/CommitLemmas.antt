@@ -1,0 +1,416 @@
+-- What a commit leaves of what a core stands for.
+use Rattle.std.specs.Prelude.{◌≡◌, ◌≢◌, ℕ, ◌+◌, ◌*◌, ◌<◌, ◌≤◌, ◌⊎◌, ◌&&◌, nat_lt, Bool, true, false, List, [], ◌∷◌, ◌++◌, drop, Option, Some, None, length, slice_index, if◌then◌else◌}
+use Rattle.std.proofs.Common.{refl, sym, ◌∙◌, ap, subst, arith, inl, inr}
+use Rattle.std.proofs.lemmas.Bool.{cases_Bool, cases_eq, false≢true}
+use Rattle.std.proofs.lemmas.Bool.Decides.{nat_tests}
+use Rattle.paraid_base.specs.declared.block.Block.{Block}
+use Rattle.paraid_base.specs.declared.state.Out.{Out}
+use Rattle.paraid_base.specs.declared.state.Out.TheVariants.{Fresh, Gone, No}
+use Rattle.paraid_base.specs.declared.state.Phase.{Phase}
+use Rattle.paraid_base.specs.History.{History}
+use Rattle.paraid_base.specs.Regions.{disk_size, map_count, map_place_of}
+use Rattle.paraid_base.specs.Xor.{zeroed}
+use Rattle.paraid_dirty.specs.Table.{is_dirty}
+use Rattle.paraid_rack.specs.declared.call.Call.{Call}
+use Rattle.paraid_rack.specs.declared.call.Power.{Power}
+use Rattle.paraid_rack.specs.declared.call.Power.TheVariants.{Absent}
+use Rattle.paraid_rack.specs.Disks.{Disks, IsImage, is_present, step}
+use Rattle.paraid_rack.specs.Slots.{Agrees, Slot}
+use Rattle.paraid_rack.specs.Told.{Came, Ran, Runs, Through}
+use Rattle.paraid_rack.specs.Trail.{Trail, extend, now, run}
+use Rattle.paraid_rack.proofs.TrailsLemmas.{now-extend}
+use Rattle.paraid_record.specs.declared.meta.Meta.{Meta}
+use Rattle.paraid_record.specs.Range.{IsInRange}
+use Rattle.paraid_image.specs.Rest.{IsAtRest, IsDrained, closed_over}
+use Rattle.paraid_txn.specs.Commit.{Commits, IsCommitted, IsEitherMissing, IsNext, IsOldOrNew, IsOneMissing, IsWholeOrAbsent, StandsFor, gone_out}
+use Rattle.paraid_image.specs.Content.{view_by, view_of}
+use Rattle.paraid_image.specs.HeldAt.{IsSound}
+use Rattle.paraid_image.specs.Holds.{Holds}
+use Rattle.paraid_image.specs.Out.{IsMissing, first_absent, is_out, named_out, or_else, out_disk}
+use Rattle.paraid_image.specs.Sides.{Batch, Said, has_place}
+use Rattle.paraid_image.specs.Sound.{ContentOk, Sound}
+use Rattle.paraid_image.specs.Spot.{map_bit, map_disk}
+use Rattle.paraid_image.specs.Standing.{Contents, contents, laid}
+use Rattle.paraid_image.proofs.OutLemmas.{first_absent_is, missing_is_out, named_below}
+use Rattle.paraid_image.proofs.StandingLemmas.{Stands-same}
+use Rattle.paraid_image.proofs.ViewLemmas.{dirty_without, map_bit_same, map_disk_other}
+use Rattle.paraid_txn.proofs.HeldCommitLemmas.{held_commits, stands_sound}
+use Rattle.paraid_moves.specs.Copying.{Copies}
+use Rattle.paraid_moves.specs.Marks.{marked_out}
+use Rattle.paraid_moves.proofs.CopyingLemmas.{copying_from_rest}
+use Rattle.paraid_moves.proofs.FailLemmas.{marks_gone}
+use Rattle.paraid_moves.proofs.MoveLemmas.{fits_later}
+use Rattle.paraid_moves.proofs.NextLemmas.{holds_now, next_gone, next_same, rest_now}
+use Rattle.paraid_plan.specs.Marks.{phase_lost, with_lost}
+use Rattle.paraid_core.specs.Stands.{HeldBeside, Keeps, marked}
+use Rattle.paraid_core.proofs.AfterLemmas.{down_named}
+use Rattle.paraid_core.proofs.LoseLemmas.{phases_same}
+use Rattle.paraid_core.proofs.ReadsLemmas.{knows_named, through_last}
+use Rattle.paraid_core.proofs.ReadyLemmas.{IsLostOnly, some_is}
+
+through_map : (P Q : Disks → Type 0) → ((s : Disks) → P s → Q s) → (s : Disks) (cs : List Call) → Through P s cs → Through Q s cs
+through_map P Q go s [] p = go s p
+through_map P Q go s (c ∷ cs) p = (go s p.0, through_map P Q go (step c s) cs p.1)
+
+cancel : (xs ys zs : List Call) → xs ++ ys ≡ xs ++ zs → ys ≡ zs
+cancel [] ys zs e = e
+cancel (x ∷ xs) ys zs e = cancel xs ys zs (ap (drop 1) e)
+
+-- a promise for each meta that may have stood before, over the same calls
+pub for_each_before : (named : Option ℕ) (Q : Meta → Disks → List Call → Type 0) (old new : Option Trail) (any : Meta) → named ≡ named_out any.out
+    → ((before : Meta) → named ≡ named_out before.out → Ran old new (Q before))
+    → Ran old new (λ s cs. (before : Meta) → named ≡ named_out before.out → Q before s cs)
+for_each_before named Q old new any is each t tells =
+    let r = each any is t tells in
+    record {
+      from = r.from;
+      was = r.was;
+      calls = r.calls;
+      is = r.is;
+      holds = λ before is_before.
+          let q = each before is_before t tells in
+          let z : Some q.from ≡ Some r.from = sym q.was ∙ r.was in
+          let from : q.from ≡ r.from = cc in
+          let both : q.from.calls ++ q.calls ≡ r.from.calls ++ r.calls = ap (λ (u : Trail). u.calls) (sym q.is ∙ r.is) in
+          let calls : q.calls ≡ r.calls = cancel r.from.calls q.calls r.calls (ap (λ (u : Trail). u.calls ++ q.calls) (sym from) ∙ both) in
+          subst (λ (u : Trail). Q before (now u) r.calls) from (subst (λ (cs : List Call). Q before (now q.from) cs) calls q.holds);
+    }
+
+-- two promises over the same calls
+both_of : (Q R : Disks → List Call → Type 0) (old new : Option Trail) → Ran old new Q → Ran old new R → Ran old new (λ s cs. Q s cs × R s cs)
+both_of Q R old new one two t tells =
+    let r = one t tells in
+    record {
+      from = r.from;
+      was = r.was;
+      calls = r.calls;
+      is = r.is;
+      holds =
+          let q = two t tells in
+          let z : Some q.from ≡ Some r.from = sym q.was ∙ r.was in
+          let from : q.from ≡ r.from = cc in
+          let both : q.from.calls ++ q.calls ≡ r.from.calls ++ r.calls = ap (λ (u : Trail). u.calls) (sym q.is ∙ r.is) in
+          let calls : q.calls ≡ r.calls = cancel r.from.calls q.calls r.calls (ap (λ (u : Trail). u.calls ++ q.calls) (sym from) ∙ both) in
+          (r.holds, subst (λ (u : Trail). R (now u) r.calls) from (subst (λ (cs : List Call). R (now q.from) cs) calls q.holds));
+    }
+
+-- what a commit promises of its moments, and of its end, for the meta that stood before
+abbrev pub AtEach : Meta → Batch → Meta → Disks → List Call → Type 0
+AtEach after batch before start calls = IsAtRest start before → IsNext start before after → Through (IsOldOrNew start before after batch) start calls
+
+abbrev pub AtLast : Meta → Batch → Meta → Disks → List Call → Type 0
+AtLast after batch before start calls = IsAtRest start before → IsNext start before after → IsCommitted start (run start calls) before after batch
+
+abbrev pub out_of : Option ℕ → Out
+out_of None = No
+out_of (Some d) = Gone d
+
+pub out_of_named : (o : Option ℕ) → o ≡ named_out (out_of o)
+out_of_named None = refl
+out_of_named (Some d) = refl
+
+-- where each absent disk is named, the out disk is the one that is named
+pub out_all : (power : ℕ → Power) (m : Meta) → ((d : ℕ) → d < m.setup.geometry.disks → is_present (power d) ≡ false → named_out m.out ≡ Some d) → out_disk power m ≡ named_out m.out
+out_all power m absent = by (named_out m.out) (first_absent power m.setup.geometry.disks) refl refl
+  where
+    by : (o f : Option ℕ) → named_out m.out ≡ o → first_absent power m.setup.geometry.disks ≡ f → or_else o f ≡ o
+    by (Some d) f is at = refl
+    by None None is at = refl
+    by None (Some u) is at =
+        let k = first_absent_is power m.setup.geometry.disks u at in
+        let z : None ≡ Some u = sym is ∙ absent u k.0 k.1 in cc
+
+pub map_disk_low : (o : Option ℕ) → map_disk o < 2
+map_disk_low o = elim (cases_Bool (is_out o 0)) [ inl here ↦ rw here (omega arith) | inr not ↦ rw not (omega arith) ]
+
+marked_epoch : (lost : Option ℕ) (m : Meta) → (marked lost m).epoch ≡ m.epoch
+marked_epoch None m = refl
+marked_epoch (Some d) m = refl
+
+marked_writes : (lost : Option ℕ) (m : Meta) → (marked lost m).writes ≡ m.writes
+marked_writes None m = refl
+marked_writes (Some d) m = refl
+
+marked_setup : (lost : Option ℕ) (m : Meta) → (marked lost m).setup ≡ m.setup
+marked_setup None m = refl
+marked_setup (Some d) m = refl
+
+gone_is_named : (o : Out) (x : ℕ) → gone_out o ≡ Some x → named_out o ≡ Some x
+gone_is_named No x is = is
+gone_is_named (Gone d) x is = is
+gone_is_named (Fresh d u) x is = let z : None ≡ Some x = is in cc
+
+module _ (slots : ℕ) (named : Option ℕ) (m : Meta) (table : List (List Bool)) (batch : Batch) (h : History) (lo last : ℕ) (epoch_is : m.epoch ≡ last) (in_range : IsInRange m)
+    (one : (d e : ℕ) → named ≡ Some d → named_out m.out ≡ Some e → d ≡ e) where
+  abbrev after : Meta
+  after = record m { epoch = last + 1 }
+
+  abbrev P : Disks → Type 0
+  P = HeldBeside slots m.setup.geometry.disks (or_else named (named_out m.out)) h lo
+
+  module _ (s : Disks) (k : Keeps slots named m table batch h lo s) where
+    shape : m.setup.geometry.disks ≡ k.base.setup.geometry.disks
+    shape = ap (λ (z : _). z.geometry.disks) k.next.setup
+
+    pub rest : IsAtRest s k.base
+    rest = rest_now slots k.base k.held h lo s k.copies k.dry
+
+    pub next : IsNext s k.base after
+    next = subst (λ (z : ℕ). IsNext s k.base (record m { epoch = z + 1 })) epoch_is k.next
+
+    staged_then : ContentOk slots s.power s.size (view_by after s.power (contents s batch)) h m.writes
+    staged_then =
+        fits_later slots s.power s.size h m.writes m after (contents s batch) (record { setup = refl; gear = refl; phase = refl; fill = refl; out = refl; spins = refl })
+        (λ d u fresh. named_below m.setup.geometry m.gear m.out d in_range.out (ap named_out fresh.is))
+        (subst (λ (n : ℕ). ContentOk slots s.power s.size (view_by m s.power (contents s batch)) h n) (sym k.writes) k.staged)
+
+    holds_then : Holds slots s after batch h lo
+    holds_then =
+        let a = k.copies.low in let b = k.copies.high in let c = k.writes in
+        record { low = omega arith; high = omega arith; content = staged_then }
+
+    either_down : (u : Disks) (down : Option ℕ) → ((d : ℕ) → d < m.setup.geometry.disks → is_present (u.power d) ≡ false → down ≡ Some d)
+        → ((d : ℕ) → or_else named (named_out m.out) ≡ Some d → down ≡ Some d) → (d : ℕ) → IsEitherMissing u.power k.base after d → down ≡ Some d
+    either_down u down absent known d (inl missing) = elim missing.is [
+      | inl gone ↦ absent d (subst (λ (z : ℕ). d < z) (sym shape) missing.disk) gone
+      | inr is ↦ known d (knows_named named (named_out m.out) d (sym k.named_by ∙ is))
+    ]
+    either_down u down absent known d (inr missing) = elim missing.is [
+      | inl gone ↦ absent d missing.disk gone
+      | inr is ↦ known d (down_named named m one d is)
+    ]
+
+    pub commit_through : (cs : List Call) → Through (IsOldOrNew s k.base after batch) s cs → Through P s cs
+    commit_through cs th =
+        through_map (IsOldOrNew s k.base after batch) P
+        (λ u moment. record {
+          held = λ down absent known.
+              held_commits slots s k.base after batch h lo (holds_now slots k.base k.held h lo s k.copies) holds_then u down (either_down u down absent known) moment;
+        }) s cs th
+
+  pub commit_moments : (old new : Option Trail) → ((before : Meta) → named ≡ named_out before.out → IsWholeOrAbsent old new before after batch)
+      → Ran old new (Runs P (Keeps slots named m table batch h lo) P)
+  commit_moments old new each t tells =
+      let r = for_each_before named (AtEach after batch) old new (record m { out = out_of named }) (out_of_named named) each t tells in
+      record {
+        from = r.from;
+        was = r.was;
+        calls = r.calls;
+        is = r.is;
+        holds = record {
+          goes = λ k.
+              let th = commit_through (now r.from) k r.calls (r.holds k.base (sym k.named_by) (rest (now r.from) k) (next (now r.from) k)) in
+              (th, through_last P (now r.from) r.calls th);
+        };
+      }
+
+  -- the end, where one disk was lost, or none
+  module _ (stays : (x : ℕ) → named ≡ Some x → named_out m.out ≡ Some x) (s t : Disks) (k : Keeps slots named m table batch h lo s) (done : IsCommitted s t k.base after batch)
+      (lost : Option ℕ) (low : (d : ℕ) → lost ≡ Some d → d < m.setup.geometry.disks) (gone : (d : ℕ) → lost ≡ Some d → t.power d ≡ Absent)
+      (alone : (d x : ℕ) → lost ≡ Some d → named_out m.out ≡ Some x → x ≡ d)
+      (power : (x : ℕ) → x < m.setup.geometry.disks → lost ≢ Some x → t.power x ≡ s.power x) (size : (x : ℕ) → x < m.setup.geometry.disks → lost ≢ Some x → t.size x ≡ s.size x)
+      (absent : (d : ℕ) → d < m.setup.geometry.disks → is_present (s.power d) ≡ false → named_out m.out ≡ Some d)
+      (absent_then : (d : ℕ) → d < m.setup.geometry.disks → is_present (t.power d) ≡ false → named_out (marked lost m).out ≡ Some d) where
+    named_by_lost : (o : Option ℕ) → lost ≡ o → (x : ℕ) → named_out m.out ≡ Some x → named_out (marked o m).out ≡ Some x
+    named_by_lost None is x k = k
+    named_by_lost (Some d) is x k = ap Some (sym (alone d x is k))
+
+    down_then : (d : ℕ) → IsEitherMissing t.power k.base after d → named_out (marked lost m).out ≡ Some d
+    down_then d (inl missing) = elim missing.is [
+      | inl g ↦ absent_then d (subst (λ (z : ℕ). d < z) (sym (shape s k)) missing.disk) g
+      | inr is ↦ named_by_lost lost refl d (stays d (sym k.named_by ∙ is))
+    ]
+    down_then d (inr missing) = elim missing.is [ inl g ↦ absent_then d missing.disk g | inr is ↦ named_by_lost lost refl d is ]
+
+    one_missing : IsOneMissing t.power k.base after
+    one_missing = record { one = λ d e p q. some_is d e (sym (down_then d p) ∙ down_then e q) }
+
+    rest_then : IsAtRest t after
+    rest_then = done.rest one_missing
+
+    abbrev i : Disks
+    i = record t { loose = λ d p. false }
+
+    image : IsImage t i
+    image = record { power = λ d. refl; size = λ d. refl; block = λ d p not. refl; loose = λ d p. refl }
+
+    stands : StandsFor s i after batch
+    stands = done.images.whole i image one_missing
+
+    sound : IsSound slots i h lo
+    sound = stands_sound slots s i after batch h lo (holds_then s k) stands
+
+    said_is : sound.sound.said ≡ closed_over after
+    said_is = let c = copying_from_rest t after rest_then i image in (Stands-same i sound.sound.disk c.disk sound.sound.said (closed_over after) sound.sound.log.stands c.log.stands).1
+
+    writes_are : sound.k ≡ m.writes
+    writes_are = sym sound.sound.log.writes ∙ ap (λ (z : Said). z.meta.writes) said_is
+
+    same_contents : contents i [] ≡ contents t []
+    unfolding contents
+    same_contents = refl
+
+    content : ContentOk slots t.power t.size (view_by after t.power (contents t [])) h m.writes
+    content =
+        subst (λ (f : Contents). ContentOk slots t.power t.size (view_by after t.power f) h m.writes) same_contents
+        (subst (λ (n : ℕ). ContentOk slots i.power i.size (view_by after i.power (contents i [])) h n) writes_are
+        (subst (λ (z : Said). ContentOk slots i.power i.size (view_by z.meta i.power (contents i z.batch)) h sound.k) said_is sound.sound.content))
+
+    copies_then : Copies slots after (contents t []) h (length h) t
+    copies_then =
+        let w = k.writes in
+        record { copying = copying_from_rest t after rest_then; low = omega arith; high = omega arith; content = content }
+
+    next_then : (o : Option ℕ) → lost ≡ o → IsNext t after (record (marked o after) { epoch = last + 1 + 1 })
+    next_then None is = next_same t after (record after { epoch = last + 1 + 1 }) refl refl rest_then refl
+    next_then (Some d) is = next_gone t after (record (with_lost after d) { epoch = last + 1 + 1 }) refl refl rest_then d refl (λ e n. alone d e is n)
+
+    out_then : (d : ℕ) → lost ≡ Some d → out_disk t.power after ≡ Some d
+    out_then d is =
+        missing_is_out t.power after d rest_then.log.stands.says.log.meta.in_range rest_then.log.single (record { disk = low d is; is = inl (ap is_present (gone d is)) }) (ap is_present (gone d is))
+
+    staged_after : (o : Option ℕ) → lost ≡ o → ContentOk slots t.power t.size (view_by (marked o after) t.power (contents t [])) h m.writes
+    staged_after None is = content
+    staged_after (Some d) is =
+        subst (λ (p : Phase). ContentOk slots t.power t.size (view_by (record after { out = Gone d; phase = p; fill = 0 }) t.power (contents t [])) h m.writes) (phases_same m.phase)
+        (marks_gone slots t.power t.size h m.writes after (contents t []) d m.spins (out_then d is) (λ e apart. refl) content)
+
+    -- past the log all is as it was staged
+    place_then : (x q : ℕ) → x < m.setup.geometry.disks → lost ≢ Some x → has_place t x q ≡ has_place s x q
+    place_then x q lx not =
+        ap (λ (w : Power). is_present w && nat_lt q (t.size x)) (power x lx not) ∙ ap (λ (z : ℕ). is_present (s.power x) && nat_lt q z) (size x lx not)
+
+    contents_by : (batch_then : Batch) → batch_then ≡ [] → ((d p : ℕ) → gone_out m.out ≢ Some d → has_place i d p ≡ true → 100 ≤ p → contents i batch_then d p ≡ contents s batch d p)
+        → (x q : ℕ) → x < m.setup.geometry.disks → lost ≢ Some x → gone_out m.out ≢ Some x → contents t [] x q ≡ contents s batch x q
+    unfolding contents
+    contents_by batch_then none blocks x q lx not not_gone = elim (cases_Bool (nat_lt q 100)) [
+      | inl near ↦ rw near refl
+      | inr far ↦ elim (cases_Bool (has_place t x q)) [
+        | inl there ↦ rw none at (blocks x q not_gone there (grind (arith, nat_tests)))
+        | inr nowhere ↦ rw (far, nowhere, sym (place_then x q lx not) ∙ nowhere) refl
+      ]
+    ]
+
+    contents_then : (x q : ℕ) → x < m.setup.geometry.disks → lost ≢ Some x → gone_out m.out ≢ Some x → contents t [] x q ≡ contents s batch x q
+    contents_then = contents_by stands.said.batch (ap (λ (z : Said). z.batch) (Stands_batch)) stands.blocks
+      where
+        Stands_batch : stands.said ≡ closed_over after
+        Stands_batch = let c = copying_from_rest t after rest_then i image in (Stands-same i stands.disk c.disk stands.said (closed_over after) stands.log.stands c.log.stands).1
+
+    was_out : (e : ℕ) → lost ≡ Some e → (named_out m.out ≡ None) ⊎ (named_out m.out ≡ Some e)
+    was_out e is = by (named_out m.out) refl
+      where
+        by : (p : Option ℕ) → named_out m.out ≡ p → (named_out m.out ≡ None) ⊎ (named_out m.out ≡ Some e)
+        by None at = inl at
+        by (Some x) at = inr (at ∙ ap Some (alone e x is at))
+
+    geometry_low : 3 ≤ m.setup.geometry.disks
+    geometry_low = m.setup.geometry.disks_low
+
+    -- the map that was looked at
+    abbrev o : Option ℕ
+    o = named_out m.out
+
+    out_was : out_disk s.power m ≡ o
+    out_was = out_all s.power m absent
+
+    abbrev f : Contents
+    f = contents s batch
+
+    was_bit : (r d : ℕ) → r < 512 * map_count m.setup.geometry → is_dirty table r d ≡ map_bit m.setup.geometry (f (map_disk o)) r d
+    was_bit r d l = k.dirty r d l ∙ ap (λ (z : Option ℕ). map_bit m.setup.geometry (f (map_disk z)) r d) out_was
+
+    bit_by : (p : Option ℕ) → lost ≡ p → (r d : ℕ) → r < 512 * map_count m.setup.geometry
+        → is_dirty table r d ≡ map_bit m.setup.geometry (contents t [] (map_disk (named_out (marked p after).out))) r d
+    bit_by None is r d l =
+        let x : ℕ = map_disk o in
+        let low_x : x < m.setup.geometry.disks = (let two = map_disk_low o in let three = geometry_low in omega arith) in
+        let not_gone : gone_out m.out ≢ Some x = (λ g. map_disk_other x (ap map_disk (sym (gone_is_named m.out x g)))) in
+        let not_lost : lost ≢ Some x = (λ g. let z : None ≡ Some x = sym is ∙ g in cc) in
+        was_bit r d l ∙ map_bit_same m.setup.geometry (f x) (contents t [] x) r d (sym (contents_then x (map_place_of m.setup.geometry r) low_x not_lost not_gone))
+    bit_by (Some e) is r d l =
+        let x : ℕ = map_disk (Some e) in
+        let low_x : x < m.setup.geometry.disks = (let two = map_disk_low (Some e) in let three = geometry_low in omega arith) in
+        let not_gone : gone_out m.out ≢ Some x = (λ g. map_disk_other e (alone e x is (gone_is_named m.out x g))) in
+        let not_lost : lost ≢ Some x = (λ g. map_disk_other e (some_is x e (sym g ∙ is))) in
+        was_bit r d l
+        ∙ sym (dirty_without m.setup.geometry o f f e (was_out e is) (λ y q apart. refl)
+        (λ j lj none. k.staged.kept.map.mirrored j lj (λ z. let y : None ≡ Some 0 = sym none ∙ sym out_was ∙ z in cc) (λ z. let y : None ≡ Some 1 = sym none ∙ sym out_was ∙ z in cc)) r d l)
+        ∙ map_bit_same m.setup.geometry (f x) (contents t [] x) r d (sym (contents_then x (map_place_of m.setup.geometry r) low_x not_lost not_gone))
+
+    dirty_by : (p : Option ℕ) → lost ≡ p → (r d : ℕ) → r < 512 * map_count m.setup.geometry → is_dirty table r d ≡ (view_by (marked p after) t.power (contents t [])).dirty r d
+    dirty_by None is r d l =
+        bit_by None is r d l ∙ ap (λ (z : Option ℕ). map_bit m.setup.geometry (contents t [] (map_disk z)) r d)
+        (sym (out_all t.power after (λ e le g. subst (λ (p : Option ℕ). named_out (marked p m).out ≡ Some e) is (absent_then e le g))))
+    dirty_by (Some e) is r d l = bit_by (Some e) is r d l
+
+    next_keeps : (p : Option ℕ) → lost ≡ p → IsNext t after (record (marked p after) { epoch = (marked p after).epoch + 1 })
+    next_keeps None is = next_then None is
+    next_keeps (Some d) is = next_then (Some d) is
+
+    keeps_by : (p : Option ℕ) → lost ≡ p → Keeps slots (named_out m.out) (marked p after) table [] h (length h) t
+    keeps_by None is = record {
+      base = after;
+      held = contents t [];
+      copies = copies_then;
+      dry = done.dry;
+      named_by = refl;
+      epoch = refl;
+      next = next_keeps None is;
+      writes = k.writes;
+      staged = subst (λ (n : ℕ). ContentOk slots t.power t.size (view_by after t.power (contents t [])) h n) k.writes (staged_after None is);
+      dirty = dirty_by None is;
+    }
+    keeps_by (Some d) is = record {
+      base = after;
+      held = contents t [];
+      copies = copies_then;
+      dry = done.dry;
+      named_by = refl;
+      epoch = refl;
+      next = next_keeps (Some d) is;
+      writes = k.writes;
+      staged = subst (λ (n : ℕ). ContentOk slots t.power t.size (view_by (with_lost after d) t.power (contents t [])) h n) k.writes (staged_after (Some d) is);
+      dirty = dirty_by (Some d) is;
+    }
+
+    pub keeps_then : Keeps slots (named_out m.out) (marked lost after) table [] h (length h) t
+    keeps_then = keeps_by lost refl
+
+  -- over the calls
+  module _ (stays : (x : ℕ) → named ≡ Some x → named_out m.out ≡ Some x) (old new : Option Trail) (slot later_slot : ℕ → Slot) (before : (s : Trail) → old ≡ Some s → Agrees (now s) slot)
+      (later : (s : Trail) → new ≡ Some s → Agrees (now s) later_slot) (lost : Option ℕ) (low : (d : ℕ) → lost ≡ Some d → d < m.setup.geometry.disks)
+      (only : IsLostOnly m.setup.geometry.disks lost slot later_slot) (alone : (d x : ℕ) → lost ≡ Some d → named_out m.out ≡ Some x → x ≡ d)
+      (absent : (d : ℕ) → d < m.setup.geometry.disks → is_present (slot d).power ≡ false → named_out m.out ≡ Some d)
+      (absent_then : (d : ℕ) → d < m.setup.geometry.disks → is_present (later_slot d).power ≡ false → named_out (marked lost m).out ≡ Some d) where
+    pub commit_stands : (slots_then : ℕ) (named_then : Option ℕ) (m_then : Meta) (batch_then : Batch) → slots_then ≡ slots → named_then ≡ named_out m.out → m_then ≡ marked lost after → batch_then ≡ []
+        → ((before : Meta) → named ≡ named_out before.out → IsWholeOrAbsent old new before after batch) → ((before : Meta) → named ≡ named_out before.out → Commits old new before after batch)
+        → Ran old new (Runs P (Keeps slots named m table batch h lo) (Keeps slots_then named_then m_then table batch_then h (length h)))
+    commit_stands slots_then named_then m_then batch_then es en em eb each last t tells =
+        let any : Meta = record m { out = out_of named } in
+        let r = both_of (λ s cs. (z : Meta) → named ≡ named_out z.out → AtEach after batch z s cs) (λ s cs. (z : Meta) → named ≡ named_out z.out → AtLast after batch z s cs) old new
+        (for_each_before named (AtEach after batch) old new any (out_of_named named) each) (for_each_before named (AtLast after batch) old new any (out_of_named named) last) t tells in
+        let here : now t ≡ run (now r.from) r.calls = ap now r.is ∙ now-extend r.from r.calls in
+        let a = before r.from r.was in
+        let b = subst (λ (u : Disks). Agrees u later_slot) here (later t tells) in
+        record {
+          from = r.from;
+          was = r.was;
+          calls = r.calls;
+          is = r.is;
+          holds = record {
+            goes = λ k.
+                let at_rest = rest (now r.from) k in
+                let after_it = next (now r.from) k in
+                let kept = keeps_then stays (now r.from) (run (now r.from) r.calls) k (r.holds.1 k.base (sym k.named_by) at_rest after_it) lost low
+                (λ d is. b.power d ∙ only.gone d is) alone
+                (λ x lx not. b.power x ∙ only.power x lx not ∙ sym (a.power x)) (λ x lx not. b.size x ∙ only.size x lx not ∙ sym (a.size x))
+                (λ d ld g. absent d ld (ap is_present (sym (a.power d)) ∙ g)) (λ d ld g. absent_then d ld (ap is_present (sym (b.power d)) ∙ g)) in (
+                  commit_through (now r.from) k r.calls (r.holds.0 k.base (sym k.named_by) at_rest after_it),
+                  subst (λ (z : ℕ). Keeps z named_then m_then table batch_then h (length h) (run (now r.from) r.calls)) (sym es)
+                      (subst (λ (z : Option ℕ). Keeps slots z m_then table batch_then h (length h) (run (now r.from) r.calls)) (sym en)
+                      (subst (λ (z : Meta). Keeps slots (named_out m.out) z table batch_then h (length h) (run (now r.from) r.calls)) (sym em)
+                      (subst (λ (z : Batch). Keeps slots (named_out m.out) (marked lost after) table z h (length h) (run (now r.from) r.calls)) (sym eb) kept))),
+                );
+          };
+        }

@@ -1,0 +1,31 @@
+use Rattle.paraid_dirty.specs.Table.{is_dirty}
+use Rattle.paraid_plan.specs.Staged.{lay}
+use Rattle.paraid_txn.specs.Stores.{rack_of}
+use Rattle.paraid_core.specs.declared.changes.Change.{Change}
+use Rattle.paraid_core.specs.Leads.{leads_stays}
+use Rattle.paraid_core.specs.Plans.{base_of}
+use Rattle.paraid_core.proofs.PlanLemmas.{desk_bit, undone_change}
+use Rattle.paraid_core.proofs.plan.CorePlan.set_dirty.Goals as goal
+
+pub returns-clause-desk : goal.returns-clause-desk
+returns-clause-desk g c =
+    let old = c.args.self.now in
+    desk_bit (lay old.draft (base_of (g.R.Rack.told (rack_of old.store)) old.batch)) (is_dirty old.dirty) (is_dirty c.turn.new.dirty) old.draft c.args.r c.args.d c.args.bit c.turn.ensures.cells
+
+pub returns-clause-leads : goal.returns-clause-leads
+returns-clause-leads g c =
+    let old = c.args.self.now in
+    let stay = leads_stays g.R.Rack.slot_count g.R.Rack.slot g.R.Rack.told old in
+    let change : Change = record { row = c.args.r; disk = c.args.d; was = c.has-was.result } in
+    record {
+      slots = stay.slots;
+      same = stay.same;
+      meta = stay.meta;
+      batch = stay.batch;
+      rows = c.turn.ensures.rows;
+      undone_same = undone_change old.changes c.push.new.self (is_dirty old.dirty) (is_dirty c.turn.new.dirty) change c.args.bit c.push.ensures c.has-was.ensures c.turn.ensures.cells;
+      calls = stay.calls;
+      left = stay.left;
+      over = stay.over;
+      below = stay.below;
+    }

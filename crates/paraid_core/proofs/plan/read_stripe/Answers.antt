@@ -1,0 +1,28 @@
+use Rattle.std.proofs.Common.{◌≡◌, ◌≢◌, ◌∙◌, ◌≤◌, Some, sym, ap, inl, arith}
+use Rattle.std.proofs.lemmas.Bool.{false≢true}
+use Rattle.paraid_base.specs.Regions.{disk_size}
+use Rattle.paraid_plan.proofs.StoredLemmas.{stripe_gone, stripe_there}
+use Rattle.paraid_txn.specs.Stores.{rack_of}
+use Rattle.paraid_view.specs.Reads.{seen_by}
+use Rattle.paraid_view.proofs.ValueLemmas.{ok_map}
+use Rattle.paraid_core.proofs.plan.read_stripe.Goals as goal
+
+pub returns-then-is_at-clause-value : goal.returns-then-is_at-clause-value
+returns-then-is_at-clause-value g c =
+    ok_map c.read_rest.result (λ value. λ f table shows some.
+    value f shows some ∙ sym (stripe_gone (seen_by c.args.meta.now table c.args.out f) c.args.s c.args.e (c.is_at.ensures.0 c.if-is_at.true))) c.read_rest.ensures.value
+
+pub read_laid-requires-clause-spinning : goal.read_laid-requires-clause-spinning
+read_laid-requires-clause-spinning g c = c.requires.ready.spins c.args.e (inl c.requires.disk) (λ e. false≢true (sym c.if-is_at.false ∙ c.is_at.ensures.1 e))
+
+pub read_laid-requires-clause-within : goal.read_laid-requires-clause-within
+read_laid-requires-clause-within g c =
+    let large : disk_size c.args.meta.now.setup.geometry ≤ (g.R.Rack.slot (rack_of c.args.store.now) c.args.e).size =
+    c.requires.ready.large c.args.e (inl c.requires.disk) (λ e. false≢true (sym c.if-is_at.false ∙ c.is_at.ensures.1 e)) in
+    let k = c.soft_place-place.ensures.in_size in omega arith
+
+pub returns-clause-value : goal.returns-clause-value
+returns-clause-value g c =
+    ok_map c.read_laid.result (λ value. λ f table shows some.
+    value f shows some ∙ ap (f c.args.e) c.soft_place-place.ensures.value
+    ∙ sym (stripe_there (seen_by c.args.meta.now table c.args.out f) c.args.s c.args.e (λ e. false≢true (sym c.if-is_at.false ∙ c.is_at.ensures.1 e)))) c.read_laid.ensures.value

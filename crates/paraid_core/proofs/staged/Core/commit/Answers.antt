@@ -1,0 +1,92 @@
+use Rattle.std.proofs.Common.{◌≡◌, ◌≢◌, ℕ, ◌+◌, ◌∙◌, Some, None, refl, sym, ap, subst, inl, inr, Option, ◌<◌}
+use Rattle.paraid_txn.specs.Stores.{disks_of, epoch_of, named_of, rack_of}
+use Rattle.paraid_record.specs.declared.meta.Meta.{Meta}
+use Rattle.paraid_core.proofs.CommitLemmas.{commit_moments, commit_stands}
+use Rattle.std.specs.Prelude.{◌-◌, ◌^◌, length, false, []}
+use Rattle.std.proofs.Common.{arith}
+use Rattle.paraid_rack.specs.Disks.{is_present}
+use Rattle.paraid_rack.specs.Slots.{Slot}
+use Rattle.paraid_txn.specs.Losses.{IsTwo}
+use Rattle.paraid_image.specs.Out.{named_out, or_else}
+use Rattle.paraid_image.specs.Sides.{Batch}
+use Rattle.paraid_core.specs.Stands.{IsReady, lost_in, marked}
+use Rattle.paraid_core.proofs.AfterLemmas.{commit_lost_only, handed, lost_in_low, lost_in_was, ready_after, ready_moved, ready_next, two_down}
+use Rattle.paraid_core.proofs.ReadyLemmas.{IsLostOnly}
+use Rattle.paraid_core.proofs.staged.Core.commit.Given.{Over}
+use Rattle.paraid_core.proofs.staged.Core.commit.Goals as goal
+use Rattle.paraid_core.proofs.staged.Core.commit.Goals.{In_ok-lose}
+
+pub returns-clause-moments : goal.returns-clause-moments
+returns-clause-moments g c h lo =
+    let old = c.args.self.now in
+    commit_moments (g.R.Rack.slot_count (rack_of old.store)) (named_of old.store) old.meta old.dirty old.batch h lo (epoch_of old.store) c.requires.ready.epoch_is c.requires.ready.in_range c.requires.ready.one _ _ c.commit.ensures.any_moment
+
+pub returns-in_err-lost-clause-moments : goal.returns-in_err-lost-clause-moments
+returns-in_err-lost-clause-moments g c h lo =
+    let old = c.args.self.now in
+    commit_moments (g.R.Rack.slot_count (rack_of old.store)) (named_of old.store) old.meta old.dirty old.batch h lo (epoch_of old.store) c.requires.ready.epoch_is c.requires.ready.in_range c.requires.ready.one _ _ c.commit.ensures.any_moment
+
+pub returns-in_err-lose-clause-moments : goal.returns-in_err-lose-clause-moments
+returns-in_err-lose-clause-moments g c h lo =
+    let old = c.args.self.now in
+    commit_moments (g.R.Rack.slot_count (rack_of old.store)) (named_of old.store) old.meta old.dirty old.batch h lo (epoch_of old.store) c.requires.ready.epoch_is c.requires.ready.in_range c.requires.ready.one _ _ c.commit.ensures.any_moment
+
+pub returns-in_err-lost-clause-two : goal.returns-in_err-lost-clause-two
+returns-in_err-lost-clause-two g c =
+    let old = c.args.self.now in
+    let slot = g.R.Rack.slot (rack_of old.store) in
+    handed (IsTwo (or_else (named_of old.store) (named_out old.meta.out)) slot (g.R.Rack.slot (rack_of c.commit.new.self))) c.from_residual.result _ c.from_residual.ensures.1
+    (two_down (named_of old.store) (λ x. (slot x).power) (disks_of old.store) old.meta c.requires.ready.array_is c.requires.ready.absent c.requires.ready.one slot (g.R.Rack.slot (rack_of c.commit.new.self)) _ c.in_err-lost.ensures.two)
+
+module _ (g : Over) (c : In_ok-lose g) where
+  abbrev m : Meta
+  m = c.args.self.now.meta
+
+  abbrev last : ℕ
+  last = epoch_of c.args.self.now.store
+
+  abbrev lost : Option ℕ
+  lost = lost_in m c.in_ok-lost.lost
+
+  abbrev slot : ℕ → Slot
+  slot = g.R.Rack.slot (rack_of c.args.self.now.store)
+
+  abbrev then : ℕ → Slot
+  then = g.R.Rack.slot (rack_of c.commit.new.self)
+
+  only : IsLostOnly m.setup.geometry.disks lost slot then
+  only = commit_lost_only m c.in_ok-lost.lost slot then c.in_ok-lost.ensures.well c.in_ok-lost.ensures.lost
+
+  alone : (d x : ℕ) → lost ≡ Some d → named_out m.out ≡ Some x → x ≡ d
+  alone d x is k = c.in_ok-lose.ensures.alone d x (lost_in_was m c.in_ok-lost.lost d is) k (lost_in_low m c.in_ok-lost.lost d is)
+
+  meta_is : c.lose.new.meta ≡ marked lost (record m { epoch = last + 1 })
+  meta_is = c.in_ok-lose.ensures.marked ∙ ap (λ (z : ℕ). marked (lost_in (record m { epoch = z }) c.in_ok-lost.lost) (record m { epoch = z })) (c.epoch-self.ensures ∙ c.in_ok-lost.ensures.epoch)
+
+  ready_then : IsReady (g.R.Rack.slot_count (rack_of c.args.self.now.store)) then (last + 1) (disks_of c.args.self.now.store) (named_out m.out) (marked lost (record m { epoch = last + 1 })) (length c.args.self.now.dirty) []
+  ready_then =
+      ready_after _ slot then (last + 1) _ (named_out m.out) (record m { epoch = last + 1 }) _ [] (ready_next _ slot last _ _ m _ _ (last_low) c.requires.ready) c.in_ok-lost.lost only alone alone (λ d is. lost_in_low m c.in_ok-lost.lost d is)
+    where
+      last_low : last < 2 ^ 64 - 1
+      last_low = let e = c.requires.ready.epoch_is in let l = c.requires.epoch in omega arith
+
+  absent_then : (d : ℕ) → d < m.setup.geometry.disks → is_present (then d).power ≡ false → named_out (marked lost m).out ≡ Some d
+  absent_then d ld gone = by lost (ready_then.absent)
+    where
+      by : (o : Option ℕ) → ((e : ℕ) → e < (marked o (record m { epoch = last + 1 })).setup.geometry.disks → is_present (then e).power ≡ false → named_out (marked o (record m { epoch = last + 1 })).out ≡ Some e)
+          → named_out (marked o m).out ≡ Some d
+      by None absent = absent d ld gone
+      by (Some e) absent = absent d ld gone
+
+pub returns-clause-ready : goal.returns-clause-ready
+returns-clause-ready g c =
+    subst (λ (z : Batch). IsReady (g.R.Rack.slot_count (rack_of c.commit.new.self)) (then g c) (epoch_of c.commit.new.self) (disks_of c.commit.new.self) (named_of c.commit.new.self) c.lose.new.meta (length c.args.self.now.dirty) z) (sym c.clear.ensures)
+    (ready_moved _ _ (then g c) _ _ _ _ _ _ (marked (lost g c) (record c.args.self.now.meta { epoch = epoch_of c.args.self.now.store + 1 })) _ _ [] c.commit.ensures.slots c.in_ok-lost.ensures.epoch c.commit.ensures.disks c.in_ok-lost.ensures.named (meta_is g c) (ready_then g c))
+
+pub returns-clause-stands : goal.returns-clause-stands
+returns-clause-stands g c h lo =
+    let old = c.args.self.now in
+    commit_stands (g.R.Rack.slot_count (rack_of old.store)) (named_of old.store) old.meta old.dirty old.batch h lo (epoch_of old.store) c.requires.ready.epoch_is c.requires.ready.in_range c.requires.ready.one
+    c.requires.stays _ _ (slot g c) (then g c) (g.met.R.Rack.agrees (rack_of old.store)) (g.met.R.Rack.agrees (rack_of c.commit.new.self)) (lost g c) (λ d is. lost_in_low old.meta c.in_ok-lost.lost d is) (only g c) (alone g c)
+    c.requires.ready.absent (absent_then g c) _ _ _ _ c.commit.ensures.slots c.in_ok-lost.ensures.named (meta_is g c) c.clear.ensures c.commit.ensures.any_moment
+    c.in_ok-lost.ensures.committed

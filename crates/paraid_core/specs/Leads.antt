@@ -1,0 +1,69 @@
+-- How one step of a plan follows the other.
+use Rattle.std.specs.Prelude.{◌≡◌, ◌≢◌, ℕ, ◌<◌, Option, Some, None, IsSome}
+use Rattle.std.proofs.Common.{refl, sym, ◌∙◌, ap, subst}
+use Rattle.paraid_rack.specs.Slots.{Slot}
+use Rattle.paraid_rack.specs.Told.{Ran}
+use Rattle.paraid_rack.specs.Trail.{Trail}
+use Rattle.paraid_record.specs.declared.meta.Meta.{Meta}
+use Rattle.paraid_image.specs.Out.{named_out}
+use Rattle.paraid_txn.specs.Stores.{IsSameStore, disks_of, rack_of}
+use Rattle.paraid_view.specs.Reads.{AreLeft, AreReads}
+use Rattle.paraid_view.proofs.ReadLemmas.{left_none, left_then, ran_none, ran_then, told_before}
+use Rattle.paraid_core.specs.declared.staged.Core.{Core}
+use Rattle.paraid_core.specs.Plans.{LeadsTo}
+
+module _ {R : Type 0} {g : _} (count : R → ℕ) (slot : R → ℕ → Slot) (told : R → Option Trail) where
+  pub leads_stays : (a : Core R g) → LeadsTo count slot told a a
+  leads_stays a = record {
+    slots = refl;
+    same = record { disks = refl; epoch = refl; named = refl };
+    meta = refl;
+    batch = refl;
+    rows = refl;
+    undone_same = refl;
+    calls = ran_none (told (rack_of a.store)) (disks_of a.store);
+    left = λ none. subst (λ (f : Option ℕ). AreLeft f (slot (rack_of a.store)) (slot (rack_of a.store))) (sym none) (left_none (slot (rack_of a.store)));
+    over = λ e is. (is, refl);
+    below = λ e none is. let z : None ≡ Some e = sym none ∙ is in cc;
+  }
+
+  module _ (a b c : Core R g) (p : LeadsTo count slot told a b) (q : LeadsTo count slot told b c) where
+    abbrev sa : ℕ → Slot
+    sa = slot (rack_of a.store)
+
+    abbrev sc : ℕ → Slot
+    sc = slot (rack_of c.store)
+
+    left_by : (f : Option ℕ) → b.failed ≡ f → a.failed ≡ None → AreLeft c.failed sa sc
+    left_by None is none = left_then c.failed sa (slot (rack_of b.store)) sc (subst (λ (f : Option ℕ). AreLeft f sa (slot (rack_of b.store))) is (p.left none)) (q.left is)
+    left_by (Some e) is none =
+        let o = q.over e is in
+        subst (λ (s : ℕ → Slot). AreLeft c.failed sa s) (sym o.1) (subst (λ (f : Option ℕ). AreLeft f sa (slot (rack_of b.store))) (is ∙ sym o.0) (p.left none))
+
+    below_by : (f : Option ℕ) → b.failed ≡ f → (e : ℕ) → a.failed ≡ None → c.failed ≡ Some e → (e < disks_of a.store) × (named_out a.meta.out ≢ Some e)
+    below_by None is e none at =
+        let k = q.below e is at in
+        (subst (λ (n : ℕ). e < n) p.same.disks k.0, subst (λ (m : Meta). named_out m.out ≢ Some e) p.meta k.1)
+    below_by (Some x) is e none at =
+        let o = q.over x is in
+        let z : Some x ≡ Some e = sym o.0 ∙ at in
+        let y : x ≡ e = cc in
+        p.below e none (is ∙ ap Some y)
+
+    pub leads_then : LeadsTo count slot told a c
+    leads_then = record {
+      slots = q.slots ∙ p.slots;
+      same = record { disks = q.same.disks ∙ p.same.disks; epoch = q.same.epoch ∙ p.same.epoch; named = q.same.named ∙ p.same.named };
+      meta = q.meta ∙ p.meta;
+      batch = q.batch ∙ p.batch;
+      rows = q.rows ∙ p.rows;
+      undone_same = q.undone_same ∙ p.undone_same;
+      calls = ran_then (told (rack_of a.store)) (told (rack_of b.store)) (told (rack_of c.store)) (disks_of a.store) p.calls
+          (subst (λ (n : ℕ). Ran (told (rack_of b.store)) (told (rack_of c.store)) (AreReads n)) p.same.disks q.calls);
+      left = left_by b.failed refl;
+      over = λ e is. let o = p.over e is in let k = q.over e o.0 in (k.0, k.1 ∙ o.1);
+      below = below_by b.failed refl;
+    }
+
+  pub leads_told : (a b : Core R g) → LeadsTo count slot told a b → IsSome (told (rack_of b.store)) → IsSome (told (rack_of a.store))
+  leads_told a b p some = told_before (told (rack_of a.store)) (told (rack_of b.store)) (AreReads (disks_of a.store)) p.calls some

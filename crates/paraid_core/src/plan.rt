@@ -1,0 +1,166 @@
+//! A core as that over which a write is planned: what is drafted is seen by the reads of the plan, and
+//! nothing of it is staged yet.
+ghost use Rattle.std.specs.Prelude.{◌++◌, ◌≡◌, ◌≢◌, ℕ, ◌+◌, ◌<◌, ◌≤◌, Some, Option, IfErr, IsSome, IsTrue, ◌↔◌, OnOk, length, false};
+ghost use Rattle.paraid_dirty.specs.Table.{changed, is_dirty};
+ghost use Rattle.paraid_image.specs.Standing.{Contents};
+ghost use Rattle.paraid_plan.specs.Staged.{soft_count, stripe_block};
+ghost use Rattle.paraid_record.specs.Range.{IsInRange};
+ghost use Rattle.paraid_txn.specs.Stores.{disks_of, rack_of};
+ghost use Rattle.paraid_view.specs.Reads.{CanRead, HaveRead, Shows, lost_by, seen_by};
+
+use crate::staged::{Core, named_out};
+use paraid_base::{Block, DiskNo, Place, Row};
+use paraid_dirty::DirtyTable;
+use paraid_layout::soft_place;
+use paraid_plan::{Lost, Plan};
+use paraid_rack::Rack;
+use paraid_record::Meta;
+use paraid_txn::{Batch, Store};
+use paraid_view::{Draft, read_laid, read_rest, read_value};
+
+// Whether this disk is out.
+fn is_at(out: Option<DiskNo>, disk: DiskNo) -> bool
+    ensures { IsTrue result ↔ (out ≡ Some disk) }
+{
+    out == Some(disk)
+}
+
+// A block of a stripe of the current region, or where it is on the disk that is out the XOR of the
+// others.
+fn read_stripe<R: Rack>(
+    store: &mut Store<R>,
+    batch: &Batch,
+    draft: &Draft,
+    meta: &Meta,
+    out: Option<DiskNo>,
+    s: u32,
+    e: DiskNo,
+    into: &mut Block,
+) -> Result<(), DiskNo>
+    requires in_range { IsInRange meta.now }
+    requires stripe { s < soft_count meta.now }
+    requires disk { e < meta.now.gear }
+    requires array { meta.now.setup.geometry.disks ≡ disks_of store.old }
+    requires ready { CanRead (R.slot_count (rack_of store.old)) (R.slot (rack_of store.old))
+        meta.now out }
+    ensures read { HaveRead R.slot_count R.slot R.told (disks_of store.old) (lost_by result)
+        store.old store.new }
+    ensures below { IfErr result (λ d. d < disks_of store.old) }
+    ensures failed { IfErr result (λ d. out ≢ Some d) }
+    ensures value { OnOk result ((f : Contents) (table : _) → Shows (R.told (rack_of store.old)) (batch.now ++ draft.now) f
+        → IsSome (R.told (rack_of store.new))
+        → into.new ≡ stripe_block (seen_by meta.now table out f) s e) }
+{
+    if is_at(out, e) {
+        return read_rest(store, batch, draft, meta, s, e, into);
+    }
+    let place = soft_place(&meta.setup.geometry, meta.gear, s);
+    read_laid(store, batch, draft, e, place, into)
+}
+
+// Makes a cell dirty or clean.
+fn turn(dirty: &mut DirtyTable, r: Row, d: DiskNo, bit: bool)
+    requires row { r < length dirty.old }
+    requires disk { d < 8 }
+    ensures rows { length dirty.new ≡ length dirty.old }
+    ensures cells { (q e : ℕ) → is_dirty dirty.new q e ≡ changed (is_dirty dirty.old) r d bit q e }
+{
+    if bit {
+        dirty.set(r, d);
+        return;
+    }
+    dirty.clear(r, d);
+}
+
+impl<R: Rack> Plan for Core<R> {
+    ghost use Rattle.std.specs.Prelude.{length, IsSome};
+    ghost use Rattle.paraid_core.specs.Cores.{changes_of, rack_in};
+    ghost use Rattle.paraid_core.specs.Leads.{leads_stays, leads_then, leads_told};
+    ghost use Rattle.paraid_core.specs.Plans.{LeadsTo, ServesPlan, desk_of};
+
+    ghost desk = { λ core. desk_of R.told core };
+
+    ghost tells = { λ core. IsSome (R.told (rack_in core)) };
+
+    ghost changes = { λ core. length (changes_of core) };
+
+    ghost serves = { λ core m. ServesPlan R.slot_count R.slot core m };
+
+    ghost leads = { λ a b. LeadsTo R.slot_count R.slot R.told a b };
+
+    fn value(&mut self, m: &Meta, r: Row, d: DiskNo, into: &mut Block) -> Result<(), Lost> {
+        let out = named_out(m.out);
+        let Err(disk) = read_value(
+            &mut self.store,
+            &self.batch,
+            &self.draft,
+            m,
+            &self.dirty,
+            out,
+            r,
+            d,
+            into,
+        ) else {
+            return Ok(());
+        };
+        self.failed = Some(disk);
+        Err(Lost)
+    }
+
+    fn stripe(&mut self, m: &Meta, s: u32, e: DiskNo, into: &mut Block) -> Result<(), Lost> {
+        let out = named_out(m.out);
+        let Err(disk) = read_stripe(
+            &mut self.store,
+            &self.batch,
+            &self.draft,
+            m,
+            out,
+            s,
+            e,
+            into,
+        ) else {
+            return Ok(());
+        };
+        self.failed = Some(disk);
+        Err(Lost)
+    }
+
+    fn stored(
+        &mut self,
+        m: &Meta,
+        disk: DiskNo,
+        place: Place,
+        into: &mut Block,
+    ) -> Result<(), Lost> {
+        let Err(failed) = read_laid(&mut self.store, &self.batch, &self.draft, disk, place, into)
+        else {
+            return Ok(());
+        };
+        self.failed = Some(failed);
+        Err(Lost)
+    }
+
+    fn is_dirty(&self, m: &Meta, r: Row, d: DiskNo) -> bool {
+        self.dirty.has(r, d)
+    }
+
+    fn stage(&mut self, disk: DiskNo, place: Place, block: &Block) {
+        self.draft.push(disk, place, block);
+    }
+
+    fn set_dirty(&mut self, m: &Meta, r: Row, d: DiskNo, bit: bool) {
+        let was = self.dirty.has(r, d);
+        self.changes.push(r, d, was);
+        turn(&mut self.dirty, r, d, bit);
+    }
+
+    fn map_block(&mut self, j: u32, into: &mut Block) {
+        self.dirty.map_block(j, into);
+    }
+
+    ghost stays = { leads_stays R.slot_count R.slot R.told };
+
+    ghost then = { leads_then R.slot_count R.slot R.told };
+
+    ghost told = { leads_told R.slot_count R.slot R.told };
+}

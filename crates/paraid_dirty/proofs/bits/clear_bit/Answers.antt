@@ -1,0 +1,5 @@
+use Rattle.paraid_dirty.proofs.BitsLemmas.{bit_is_clear}
+use Rattle.paraid_dirty.proofs.bits.clear_bit.Goals as goal
+
+pub returns-clause-bits : goal.returns-clause-bits
+returns-clause-bits c = bit_is_clear c.args.words.now c.args.at c.requires

@@ -1,0 +1,10 @@
+use Rattle.std.proofs.Common.{ℕ, ◌≡◌, ◌<◌, ◌+◌, ◌*◌, length, slice_index}
+use Rattle.paraid_dirty.specs.Bits.{bit_of}
+use Rattle.paraid_dirty.specs.Table.{is_dirty}
+use Rattle.paraid_dirty.proofs.table.DirtyTable.map_block.Given as goal
+
+abbrev pub invariant-loop-i : goal.invariant-loop-i
+invariant-loop-i l = record {
+  length : length l.bytes ≡ 512;
+  bits : (k d : ℕ) → k < l.i → bit_of (slice_index l.bytes k) d ≡ is_dirty l.self (512 * l.j + k) d;
+}

@@ -1,0 +1,6 @@
+pub mod Led
+pub mod Found
+pub mod Calls
+pub mod Attached
+pub mod First
+pub mod Refusals

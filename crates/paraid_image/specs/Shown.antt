@@ -1,0 +1,34 @@
+-- What an event adds to the history and to the writes that are kept, and when a state shows another.
+use Rattle.std.specs.Prelude.{◌≡◌, ℕ, nat_lt, [], ◌∷◌, if◌then◌else◌}
+use Rattle.paraid_base.specs.declared.event.Answer.{Answer}
+use Rattle.paraid_base.specs.declared.event.Answer.TheVariants.{Flushed, Wrote}
+use Rattle.paraid_base.specs.declared.event.Event.{Event}
+use Rattle.paraid_base.specs.declared.event.Event.TheVariants.{Write}
+use Rattle.paraid_base.specs.History.{History}
+use Rattle.paraid_base.specs.Pairs.{pairs_of}
+use Rattle.paraid_image.specs.Power.{State}
+
+-- the write that an event adds, if it was accepted
+abbrev pub written : Event → Answer → History
+written (Write pairs) (Wrote number) = pairs_of pairs ∷ []
+written event answer = []
+
+-- the greatest number that a flush among these events answered, or this one
+abbrev pub with_flush : ℕ → Answer → ℕ
+with_flush low (Flushed number) = if nat_lt low number then number else low
+with_flush low answer = low
+
+-- the state and one that an image shows have the same gear, phase, fill mark, out disk and spins
+pub record IsShown (state shown : State) : Type 0 where
+  pub gear : shown.gear ≡ state.gear
+  pub phase : shown.phase ≡ state.phase
+  pub fill : shown.fill ≡ state.fill
+  pub out : shown.out ≡ state.out
+  pub spins : shown.spins ≡ state.spins
+
+-- a state with which events begin: the one that is shown, with its ticks, and no sample yet
+pub record IsBeginning (state shown : State) : Type 0 where
+  pub shows : IsShown state shown
+  pub ticks : state.ticks ≡ shown.ticks
+  pub samples : state.samples ≡ []
+  pub served : state.served ≡ 0

@@ -1,0 +1,16 @@
+pub mod ValuesLemmas
+pub mod ShiftLemmas
+pub mod RebuildLemmas
+pub mod CopyLemmas
+pub mod UnitLemmas
+pub mod MoveLemmas
+pub mod FailLemmas
+pub mod RangeLemmas
+pub mod CopyingLemmas
+pub mod TurnedLemmas
+pub mod ChangedLemmas
+pub mod RunLemmas
+pub mod CellLemmas
+pub mod NextLemmas
+pub mod GroupLemmas
+pub mod BetweenLemmas

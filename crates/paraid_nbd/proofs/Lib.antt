@@ -1,0 +1,6 @@
+pub mod TakingLemmas
+pub mod OptionLemmas
+pub mod DeviceLemmas
+pub mod WriteLemmas
+pub mod ServiceLemmas
+pub mod UniqueLemmas

@@ -1,0 +1,63 @@
+use Rattle.std.proofs.Common.{◌≡◌, ◌≤◌, ◌+◌, ◌-◌, ◌++◌, ℕ, List, length, take, drop, arith, refl, sym, ap, ◌∙◌, subst, OnErr, Result, Ok, Err, length-drop}
+use borrow.Rule.Slice.PartMut.{put_mid}
+use Rattle.std.proofs.lemmas.List.{length-take-le, take_all}
+use Rattle.std.proofs.lemmas.Slice.{take-put_mid}
+use Rattle.paraid_nbd.specs.Export.{HasBytes}
+use Rattle.paraid_nbd.proofs.TakingLemmas.{length-put_mid}
+use Rattle.paraid_nbd.proofs.DeviceLemmas.{bytes_none, bytes_more, halts_later}
+use Rattle.paraid_nbd.proofs.export.read_bytes.Goals as goal
+
+pub loop-done-init : goal.loop-done-init
+loop-done-init g c = record {
+  within = omega arith;
+  size = refl;
+  told = λ t. t;
+  read = λ tells s events is kept. bytes_none c.args.offset is kept;
+}
+
+on_err : {T E P : Type 0} (r : Result T E) → P → OnErr r P
+on_err (Ok x) p = tt
+on_err (Err e) p = p
+
+pub returns-in_err-read_block-clause-stops : goal.returns-in_err-read_block-clause-stops
+returns-in_err-read_block-clause-stops g c =
+    let i = c.loop-done.invariant in
+    let e = c.in_err-read_block.ensures in
+    on_err c.from_residual.result (λ tells s events is kept.
+    let r = i.read (e.told tells) s events is kept in
+    halts_later r.new r.reads (λ none. r.quiet (r.serves none)) (e.stops tells s (events ++ r.new) r.now r.kept_is))
+
+pub loop-done-preserved : goal.loop-done-preserved
+loop-done-preserved g c =
+    let i = c.loop-done.invariant in
+    let e = c.in_ok-read_block.ensures in
+    let done = c.loop-done.done in
+    let part = c.at-part.result in
+    let place = c.at-part.ensures in
+    let front : length (take done c.loop-done.into) ≡ done = length-take-le done c.loop-done.into i.within in
+    let n_is : part.start + part.length - part.start ≡ part.length = omega arith in
+    let inside : part.start + part.length ≤ 512 = omega (arith, place.start, place.length) in
+    let within : done + part.length ≤ length c.loop-done.into = omega (arith, place.length, i.within) in
+    let piece : c.copy_from_slice.new.self ≡ take part.length (drop part.start c.read_block.new.into.bytes) =
+    c.copy_from_slice.ensures.after ∙ rw (c.as_slice.ensures.value, n_is) refl in
+    let many : length c.copy_from_slice.new.self ≡ part.length =
+    ap length piece ∙ length-take-le part.length (drop part.start c.read_block.new.into.bytes) (omega (arith, length-drop part.start c.read_block.new.into.bytes, c.read_block.new.into.whole)) in
+    let k : ℕ = done + part.length - done in
+    let k_is : k ≡ part.length = omega arith in
+    let all : take (done + part.length) (put_mid done k c.loop-done.into c.copy_from_slice.new.self) ≡ take done c.loop-done.into ++ take part.length (drop part.start c.read_block.new.into.bytes) =
+    take-put_mid done k c.loop-done.into c.copy_from_slice.new.self (done + part.length) (omega (arith, many)) i.within ∙ ap (λ (x : List ℕ). take done c.loop-done.into ++ x) piece in
+    record {
+      within = rw (length-put_mid done k c.loop-done.into c.copy_from_slice.new.self (many ∙ sym k_is) (omega (arith, k_is, within))) within;
+      size = e.size ∙ i.size;
+      told = λ t. i.told (e.told t);
+      read = λ tells s events is kept.
+          let r = i.read (e.told tells) s events is kept in
+          rw all (bytes_more part.block part.start part.length c.read_block.new.into r (omega (arith, place.block, place.start, front)) inside (omega (arith, place.length, place.start, c.loop-done-test.true)) (e.read tells s (events ++ r.new) r.now r.kept_is));
+    }
+
+pub returns-clause-read : goal.returns-clause-read
+returns-clause-read g c = λ tells s events is kept.
+    let b = g.B.Blocks in
+    subst (λ (x : List ℕ). HasBytes (b.stands c.loop-done.blocks) (b.halted c.loop-done.blocks) (b.kept c.loop-done.blocks) s events c.args.offset x)
+    (take_all c.loop-done.done c.loop-done.into (omega (arith, c.loop-done-test.false)))
+    (c.loop-done.invariant.read tells s events is kept)

@@ -1,0 +1,66 @@
+use Rattle.std.proofs.Common.{◌≡◌, ◌≤◌, ◌+◌, ◌-◌, ◌%◌, ◌++◌, ◌<◌, ◌⊎◌, inl, inr, ℕ, List, Result, Ok, Err, OnErr, length, take, drop, min, arith, refl, ap, ◌∙◌, subst}
+use Rattle.std.proofs.lemmas.Bool.{cases_lt}
+use Rattle.std.proofs.lemmas.List.{take_all}
+use Rattle.paraid_nbd.specs.Export.{HasWritten}
+use Rattle.paraid_nbd.proofs.WriteLemmas.{written_none, written_more, stops_after}
+use Rattle.paraid_nbd.proofs.export.write_bytes.Goals as goal
+
+pub loop-done-init : goal.loop-done-init
+loop-done-init g c = record {
+  within = omega arith;
+  whole = inl refl;
+  size = refl;
+  told = λ t. t;
+  written = λ tells s events is kept. written_none s c.args.offset is kept;
+}
+
+on_err : {T E P : Type 0} (r : Result T E) → P → OnErr r P
+on_err (Ok x) p = tt
+on_err (Err e) p = p
+
+pub returns-in_err-write_part-clause-stops : goal.returns-in_err-write_part-clause-stops
+returns-in_err-write_part-clause-stops g c =
+    let i = c.loop-done.invariant in
+    let e = c.in_err-write_part.ensures in
+    on_err c.from_residual.result (λ tells s events is kept.
+    let r = i.written (e.told tells) s events is kept in
+    stops_after c.loop-done.done c.args.from.now r i.within (e.stops tells r.t (events ++ r.new) r.now r.kept_is))
+
+start_side : (offset done size start : ℕ) → start ≡ (offset + done) % 512 → done < size → (done ≡ 0) ⊎ (((offset + done) % 512 ≡ 0) ⊎ (done ≡ size)) → (done ≡ 0) ⊎ (start ≡ 0)
+start_side offset done size start is lt (inl first) = inl first
+start_side offset done size start is lt (inr (inl whole)) = inr (is ∙ whole)
+start_side offset done size start is lt (inr (inr last)) = absurd (omega arith)
+
+next_whole : (offset done size n : ℕ) → n ≡ min (size - done) (512 - (offset + done) % 512) → done < size → (done + n ≡ 0) ⊎ (((offset + (done + n)) % 512 ≡ 0) ⊎ (done + n ≡ size))
+next_whole offset done size n is lt = elim (cases_lt (size - done) (512 - (offset + done) % 512)) [
+  | inl less ↦ inr (inr (omega arith))
+  | inr more ↦ inr (inl (omega arith))
+]
+
+pub loop-done-preserved : goal.loop-done-preserved
+loop-done-preserved g c =
+    let i = c.loop-done.invariant in
+    let e = c.in_ok-write_part.ensures in
+    let done = c.loop-done.done in
+    let part = c.at-part.result in
+    let place = c.at-part.ensures in
+    let n_is : done + part.length - done ≡ part.length = omega arith in
+    let piece : take (done + part.length - done) (drop done c.args.from.now) ≡ take part.length (drop done c.args.from.now) = ap (λ (x : ℕ). take x (drop done c.args.from.now)) n_is in
+    let within : done + part.length ≤ length c.args.from.now = omega (arith, place.length, i.within) in
+    record {
+      within = within;
+      whole = next_whole c.args.offset done (length c.args.from.now) part.length place.length c.loop-done-test.true;
+      size = e.size ∙ i.size;
+      told = λ t. i.told (e.told t);
+      written = λ tells s events is kept.
+          let r = i.written (e.told tells) s events is kept in
+          written_more done c.args.from.now part.block part.start part.length _ r (omega (arith, place.block, place.start)) (omega (arith, place.start, place.length)) (omega (arith, place.length, place.start, c.loop-done-test.true)) within
+          (start_side c.args.offset done (length c.args.from.now) part.start place.start c.loop-done-test.true i.whole) piece (e.written tells r.t (events ++ r.new) r.now r.kept_is);
+    }
+
+pub returns-clause-written : goal.returns-clause-written
+returns-clause-written g c = λ tells s events is kept.
+    let b = g.B.Blocks in
+    subst (λ (x : List ℕ). HasWritten (b.stands c.loop-done.blocks) (b.halted c.loop-done.blocks) (b.kept c.loop-done.blocks) s events c.args.offset x)
+    (take_all c.loop-done.done c.args.from.now (omega (arith, c.loop-done-test.false)))
+    (c.loop-done.invariant.written tells s events is kept)

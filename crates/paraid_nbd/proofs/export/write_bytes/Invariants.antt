@@ -1,0 +1,18 @@
+use Rattle.std.proofs.Common.{◌≡◌, ◌≤◌, ◌-◌, ◌+◌, ◌%◌, ◌⊎◌, length, take, IsTrue}
+use Rattle.paraid_nbd.specs.Export.{From, HasWritten}
+use Rattle.paraid_nbd.proofs.export.write_bytes.Given as goal
+
+abbrev pub invariant-loop-done : goal.invariant-loop-done
+invariant-loop-done g l =
+    let b = g.B.Blocks in
+    record {
+      within : l.done ≤ length l.from;
+      whole : (l.done ≡ 0) ⊎ (((l.offset + l.done) % 512 ≡ 0) ⊎ (l.done ≡ length l.from));
+      size : b.block_count l.blocks ≡ b.block_count l.initial.blocks;
+      told : IsTrue (b.tells l.blocks) → IsTrue (b.tells l.initial.blocks);
+      written : From (b.stands l.initial.blocks) (b.halted l.initial.blocks) (b.kept l.initial.blocks) (b.tells l.blocks)
+          (λ s events. HasWritten (b.stands l.blocks) (b.halted l.blocks) (b.kept l.blocks) s events l.offset (take l.done l.from));
+    }
+
+abbrev pub decreases-loop-done : goal.decreases-loop-done
+decreases-loop-done g l = length l.from - l.done

@@ -1,0 +1,22 @@
+use Rattle.std.proofs.Common.{◌≡◌, length, arith, refl}
+use Rattle.paraid_nbd.specs.Numbers.{number}
+use Rattle.paraid_nbd.specs.Handshake.StopsFlags.{WrongFlags}
+use Rattle.paraid_nbd.proofs.options.take_flags.Goals as goal
+
+pub returns-then-flags-gt3-clause-stops : goal.returns-then-flags-gt3-clause-stops
+unfolding number
+returns-then-flags-gt3-clause-stops g c =
+    let whole : length c.fill.new.into ≡ 4 = c.fill.auto.into in
+    let flags : c.read_u32-flags.result ≡ number 4 c.fill.new.into = c.read_u32-flags.ensures in
+    WrongFlags c.fill.new.into c.in_ok-fill.ensures.takes whole (omega (arith, flags, c.if-flags-gt3.true)) refl
+
+pub returns-clause-flags : goal.returns-clause-flags
+unfolding number
+returns-clause-flags g c =
+    let whole : length c.fill.new.into ≡ 4 = c.fill.auto.into in
+    let flags : c.read_u32-flags.result ≡ number 4 c.fill.new.into = c.read_u32-flags.ensures in
+    record {
+      flags = c.fill.new.into;
+      are = record { whole = whole; known = omega (arith, flags, c.if-flags-gt3.false); zeros = rw flags refl };
+      takes = c.in_ok-fill.ensures.takes;
+    }

@@ -1,0 +1,283 @@
+//! The service: the options, and then one request after the other.
+ghost use Rattle.std.specs.Prelude.{◌≡◌, ◌≢◌, ◌*◌, ◌+◌, ◌^◌, ◌≤◌, ◌<◌, ◌++◌, ℕ, List, [], length, take, min, IfOk, IfErr, OnOk, IsTrue};
+ghost use Rattle.paraid_nbd.specs.Export.{From};
+ghost use Rattle.paraid_nbd.specs.Requests.{content_length, outcome_of, reply_head};
+ghost use Rattle.paraid_nbd.specs.Performing.{Fills, Performs, TakesContent, said_with};
+ghost use Rattle.paraid_nbd.specs.Service.{EndsRequest, Serves, Service, StopsRequest, TakesHead, Transmits};
+ghost use Rattle.paraid_nbd.specs.Taking.{Lacks};
+ghost use Rattle.paraid_nbd.specs.Handshake.{Unsent};
+ghost use Rattle.paraid_base.specs.Told.{Grows};
+
+use crate::NbdEnd;
+use crate::export::{read_bytes, write_bytes};
+use crate::input::Input;
+use crate::options::{negotiate, send};
+use crate::packet::Packet;
+use crate::request::{Command, MAX_LENGTH, Outcome, REPLY, REQUEST, Request, error_number};
+use byteorder::{BigEndian, ByteOrder};
+use paraid_base::Blocks;
+use paraid_io::{Sink, Source, write_all};
+use std::alloc::Global;
+
+/// Serves one client: the source is what it sends, the sink what it gets.
+pub fn serve_nbd<B: Blocks, S: Source, K: Sink>(
+    alloc: Global,
+    blocks: &mut B,
+    source: &mut S,
+    sink: &mut K,
+) -> NbdEnd
+    ensures service { Service (512 * B.block_count blocks.old) B.stands B.halted B.kept B.tells blocks.old blocks.new
+        (S.left source.old) (S.left source.new) (K.written sink.old) (K.written sink.new)
+        (S.faults source.old) (S.faults source.new) (K.faults sink.old) (K.faults sink.new) result }
+    ensures size { B.block_count blocks.new ≡ B.block_count blocks.old }
+    ensures told { IsTrue (B.tells blocks.new) → IsTrue (B.tells blocks.old) }
+    ensures later { S.faults source.old ≤ S.faults source.new }
+    ensures later_sink { K.faults sink.old ≤ K.faults sink.new }
+{
+    let size = 512 * u64::from(blocks.blocks());
+    let room = size.min(u64::from(MAX_LENGTH)) as usize;
+    let Ok(mut buffer) = vec![in alloc; 0; room] else {
+        return NbdEnd::NoMemory;
+    };
+    let mut input = Input::new();
+    if let Err(end) = negotiate(source, sink, &mut input, size) {
+        return end;
+    }
+    transmit(blocks, source, sink, &mut input, size, &mut buffer)
+}
+
+// Serves requests until one of them is the last.
+fn transmit<B: Blocks, S: Source, K: Sink>(
+    blocks: &mut B,
+    source: &mut S,
+    sink: &mut K,
+    input: &mut Input,
+    size: u64,
+    buffer: &mut [u8],
+) -> NbdEnd
+    requires size { size ≡ 512 * B.block_count blocks.old }
+    requires few { B.block_count blocks.old < 2 ^ 32 }
+    requires room { length buffer.old ≡ min size 33554432 }
+    ensures transmits { Transmits size B.stands B.halted B.kept B.tells blocks.old blocks.new
+        (S.left source.old) (S.left source.new) input.old.taken input.new.taken (K.written sink.old) (K.written sink.new)
+        (S.faults source.old) (S.faults source.new) (K.faults sink.old) (K.faults sink.new) result }
+    ensures size { B.block_count blocks.new ≡ B.block_count blocks.old }
+    ensures told { IsTrue (B.tells blocks.new) → IsTrue (B.tells blocks.old) }
+    ensures later { S.faults source.old ≤ S.faults source.new }
+    ensures later_sink { K.faults sink.old ≤ K.faults sink.new }
+{
+    loop {
+        if let Err(end) = serve_request(blocks, source, sink, input, size, buffer) {
+            return end;
+        }
+    }
+}
+
+// Takes a request, does it and answers it.
+fn serve_request<B: Blocks, S: Source, K: Sink>(
+    blocks: &mut B,
+    source: &mut S,
+    sink: &mut K,
+    input: &mut Input,
+    size: u64,
+    buffer: &mut [u8],
+) -> Result<(), NbdEnd>
+    requires size { size ≡ 512 * B.block_count blocks.old }
+    requires few { B.block_count blocks.old < 2 ^ 32 }
+    requires room { length buffer.old ≡ min size 33554432 }
+    ensures serves { OnOk result (Serves size B.stands B.halted B.kept B.tells blocks.old blocks.new
+        (S.left source.old) (S.left source.new) input.old.taken input.new.taken (K.written sink.old) (K.written sink.new)) }
+    ensures ends { IfErr result (λ e. EndsRequest size B.stands B.halted B.kept B.tells blocks.old blocks.new
+        (S.left source.old) (S.left source.new) input.old.taken input.new.taken (K.written sink.old) (K.written sink.new)
+        (S.faults source.old) (S.faults source.new) (K.faults sink.old) (K.faults sink.new) e) }
+    ensures size { B.block_count blocks.new ≡ B.block_count blocks.old }
+    ensures told { IsTrue (B.tells blocks.new) → IsTrue (B.tells blocks.old) }
+    ensures later { S.faults source.old ≤ S.faults source.new }
+    ensures later_sink { K.faults sink.old ≤ K.faults sink.new }
+{
+    let request = take_request(source, input)?;
+    let outcome = request.outcome(size);
+    let content = take_content(source, input, &request, outcome, size, buffer)?;
+    let content = &mut buffer[..content];
+    let outcome = perform(blocks, &request, outcome, size, content);
+    reply(sink, &request, outcome, content)
+}
+
+// Takes a request up to the bytes to write.
+fn take_request<S: Source>(source: &mut S, input: &mut Input) -> Result<Request, NbdEnd>
+    ensures takes { IfOk result (λ r. TakesHead (S.left source.old) (S.left source.new) input.old.taken input.new.taken r) }
+    ensures stops { IfErr result (λ e. StopsRequest (S.left source.old) (S.left source.new) input.old.taken input.new.taken
+        (S.faults source.old) (S.faults source.new) e) }
+    ensures later { S.faults source.old ≤ S.faults source.new }
+{
+    let at = input.taken;
+    let mut magic = [0; 4];
+    input.fill(source, &mut magic)?;
+    if BigEndian::read_u32(&magic) != REQUEST {
+        return Err(NbdEnd::Protocol { at });
+    }
+    let mut head = [0; 24];
+    input.fill(source, &mut head)?;
+    let request = Request::from_bytes(&head);
+    if let Command::Disconnect = request.command {
+        return Err(NbdEnd::Done);
+    }
+    Ok(request)
+}
+
+// Takes the bytes to write. It says how much of the buffer the request is about.
+fn take_content<S: Source>(
+    source: &mut S,
+    input: &mut Input,
+    request: &Request,
+    outcome: Outcome,
+    size: u64,
+    buffer: &mut [u8],
+) -> Result<usize, NbdEnd>
+    requires outcome { outcome ≡ outcome_of size request.now }
+    requires room { length buffer.old ≡ min size 33554432 }
+    ensures takes { IfOk result (λ n. TakesContent (S.left source.old) (S.left source.new) input.old.taken input.new.taken
+        request.now outcome n buffer.new) }
+    ensures lacks { IfErr result (λ e. Lacks (S.left source.old) (S.left source.new) input.old.taken input.new.taken
+        (content_length request.now.command request.now.length) (S.faults source.old) (S.faults source.new) e) }
+    ensures later { S.faults source.old ≤ S.faults source.new }
+{
+    let length = request.length as usize;
+    match (request.command, outcome) {
+        (Command::Write, Outcome::Done) => {
+            input.fill(source, &mut buffer[..length])?;
+            Ok(length)
+        }
+        (Command::Write, _) => {
+            input.skip(source, request.length)?;
+            Ok(0)
+        }
+        (Command::Read, Outcome::Done) => Ok(length),
+        _ => Ok(0),
+    }
+}
+
+// Does what is asked for, unless it cannot be.
+fn perform<B: Blocks>(
+    blocks: &mut B,
+    request: &Request,
+    outcome: Outcome,
+    size: u64,
+    content: &mut [u8],
+) -> Outcome
+    requires size { size ≡ 512 * B.block_count blocks.old }
+    requires few { B.block_count blocks.old < 2 ^ 32 }
+    requires outcome { outcome ≡ outcome_of size request.now }
+    requires stays { request.now.command ≢ Command.Disconnect }
+    requires room { Fills request.now outcome content.old }
+    ensures performs { From (B.stands blocks.old) (B.halted blocks.old) (B.kept blocks.old)
+        (B.tells blocks.new) (λ s events. Performs size (B.stands blocks.new) (B.halted blocks.new) (B.kept blocks.new) s events request.now content.old content.new result) }
+    ensures size { B.block_count blocks.new ≡ B.block_count blocks.old }
+    ensures told { IsTrue (B.tells blocks.new) → IsTrue (B.tells blocks.old) }
+{
+    let Outcome::Done = outcome else {
+        return outcome;
+    };
+    match request.command {
+        Command::Read => perform_read(blocks, request, content),
+        Command::Write => perform_write(blocks, request, content),
+        Command::Flush => perform_flush(blocks, request, content),
+        Command::Disconnect | Command::Unknown => outcome,
+    }
+}
+
+// Reads into the content.
+fn perform_read<B: Blocks>(blocks: &mut B, request: &Request, content: &mut [u8]) -> Outcome
+    requires few { B.block_count blocks.old < 2 ^ 32 }
+    requires command { request.now.command ≡ Command.Read }
+    requires done { outcome_of (512 * B.block_count blocks.old) request.now ≡ Outcome.Done }
+    requires room { length content.old ≡ request.now.length }
+    ensures performs { From (B.stands blocks.old) (B.halted blocks.old) (B.kept blocks.old)
+        (B.tells blocks.new) (λ s events. Performs (512 * B.block_count blocks.old)
+        (B.stands blocks.new) (B.halted blocks.new) (B.kept blocks.new)
+        s events request.now content.old content.new result) }
+    ensures size { B.block_count blocks.new ≡ B.block_count blocks.old }
+    ensures told { IsTrue (B.tells blocks.new) → IsTrue (B.tells blocks.old) }
+{
+    match read_bytes(blocks, request.offset, content) {
+        Ok(()) => Outcome::Done,
+        Err(_halt) => Outcome::Halted,
+    }
+}
+
+// Writes the content.
+fn perform_write<B: Blocks>(blocks: &mut B, request: &Request, content: &mut [u8]) -> Outcome
+    requires few { B.block_count blocks.old < 2 ^ 32 }
+    requires command { request.now.command ≡ Command.Write }
+    requires done { outcome_of (512 * B.block_count blocks.old) request.now ≡ Outcome.Done }
+    requires room { length content.old ≡ request.now.length }
+    ensures performs { From (B.stands blocks.old) (B.halted blocks.old) (B.kept blocks.old)
+        (B.tells blocks.new) (λ s events. Performs (512 * B.block_count blocks.old)
+        (B.stands blocks.new) (B.halted blocks.new) (B.kept blocks.new)
+        s events request.now content.old content.new result) }
+    ensures size { B.block_count blocks.new ≡ B.block_count blocks.old }
+    ensures told { IsTrue (B.tells blocks.new) → IsTrue (B.tells blocks.old) }
+{
+    match write_bytes(blocks, request.offset, content) {
+        Ok(()) => Outcome::Done,
+        Err(_halt) => Outcome::Halted,
+    }
+}
+
+// Keeps what was written.
+fn perform_flush<B: Blocks>(blocks: &mut B, request: &Request, content: &mut [u8]) -> Outcome
+    requires few { B.block_count blocks.old < 2 ^ 32 }
+    requires command { request.now.command ≡ Command.Flush }
+    requires done { outcome_of (512 * B.block_count blocks.old) request.now ≡ Outcome.Done }
+    requires room { length content.old ≡ 0 }
+    ensures performs { From (B.stands blocks.old) (B.halted blocks.old) (B.kept blocks.old)
+        (B.tells blocks.new) (λ s events. Performs (512 * B.block_count blocks.old)
+        (B.stands blocks.new) (B.halted blocks.new) (B.kept blocks.new)
+        s events request.now content.old content.new result) }
+    ensures size { B.block_count blocks.new ≡ B.block_count blocks.old }
+    ensures told { IsTrue (B.tells blocks.new) → IsTrue (B.tells blocks.old) }
+{
+    match blocks.flush() {
+        Ok(_writes) => Outcome::Done,
+        Err(_halt) => Outcome::Halted,
+    }
+}
+
+// Answers a request, with what was read.
+fn reply<K: Sink>(
+    sink: &mut K,
+    request: &Request,
+    outcome: Outcome,
+    content: &[u8],
+) -> Result<(), NbdEnd>
+    ensures sends { OnOk result (Grows (K.written sink.old) (K.written sink.new) (said_with request.now outcome content.now)) }
+    ensures unsent { IfErr result (λ e. Unsent (K.written sink.old) (K.written sink.new) (said_with request.now outcome content.now)
+        (K.faults sink.old) (K.faults sink.new) e) }
+    ensures later_sink { K.faults sink.old ≤ K.faults sink.new }
+{
+    let mut packet = Packet::new();
+    packet.put_u32(REPLY);
+    packet.put_u32(error_number(outcome));
+    packet.put_u64(request.cookie);
+    send(sink, &packet)?;
+    match (request.command, outcome) {
+        (Command::Read, Outcome::Done) => {
+            send_bytes(sink, content)?;
+            Ok(())
+        }
+        _ => Ok(()),
+    }
+}
+
+// Sends bytes of the device.
+fn send_bytes<K: Sink>(sink: &mut K, bytes: &[u8]) -> Result<(), NbdEnd>
+    ensures sends { OnOk result (Grows (K.written sink.old) (K.written sink.new) bytes.now) }
+    ensures unsent { IfErr result (λ e. Unsent (K.written sink.old) (K.written sink.new) bytes.now
+        (K.faults sink.old) (K.faults sink.new) e) }
+    ensures later_sink { K.faults sink.old ≤ K.faults sink.new }
+{
+    match write_all(sink, bytes) {
+        Ok(()) => Ok(()),
+        Err(_failed) => Err(NbdEnd::Sink),
+    }
+}

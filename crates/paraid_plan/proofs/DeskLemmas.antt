@@ -1,0 +1,258 @@
+-- What the parts of a write stage, put together.
+use Rattle.std.specs.Prelude.{◌≡◌, ℕ, ◌+◌, ◌/◌, ◌≤◌, Bool, true, false, not, [], ◌++◌, length, if◌then◌else◌}
+use Rattle.std.proofs.Common.{refl, sym, ◌∙◌, ap, subst, arith, inl, inr}
+use Rattle.std.proofs.lemmas.Bool.{cases_eq, true≢false}
+use Rattle.std.proofs.lemmas.List.{append_assoc, append-nil, length-append}
+use Rattle.paraid_base.specs.declared.block.Block.{Block}
+use Rattle.paraid_base.specs.Cells.{home_disk, home_row, parity_disk}
+use Rattle.paraid_base.specs.Regions.{hard_place_of, soft_place_of}
+use Rattle.paraid_base.specs.Soft.{soft_disk, soft_parity_disk, soft_stripe}
+use Rattle.paraid_base.specs.Xor.{xor}
+use Rattle.paraid_base.proofs.XorLemmas.{xor_assoc}
+use Rattle.paraid_plan.specs.Desk.{Desk, StagesMap, StagesWrite, cell_desk, copy_targets, place_targets, sees, with_bit, with_targets}
+use Rattle.paraid_plan.specs.Staged.{cell_targets, fill_targets, goes_hard, hard_targets, is_filled, is_written, lay, map_targets, row_parity, soft_count, soft_targets, stripe_block, target_if, with_cell, with_cells}
+use Rattle.paraid_dirty.specs.Table.{ShowsBits}
+use Rattle.paraid_plan.proofs.CellLemmas.{goes_parked}
+use Rattle.paraid_plan.proofs.LayLemmas.{changed_off, lay-append}
+use Rattle.paraid_record.specs.declared.meta.Meta.{Meta}
+use Rattle.paraid_record.specs.Codes.{phase_to}
+use Rattle.paraid_image.specs.Sides.{Batch}
+use Rattle.paraid_image.specs.Spot.{View}
+use Rattle.paraid_image.specs.Value.{value}
+
+pub with_targets_none : (s : Desk) → s ≡ with_targets s []
+unfolding with_targets lay
+with_targets_none s = λ t. record { block = s.block; dirty = s.dirty; staged = sym (append-nil s.staged) t }
+
+targets_dirty : (s : Desk) (b : Batch) → (with_targets s b).dirty ≡ s.dirty
+unfolding with_targets
+targets_dirty s b = refl
+
+pub with_targets_append : (s : Desk) (a b : Batch) → with_targets (with_targets s a) b ≡ with_targets s (a ++ b)
+unfolding with_targets
+with_targets_append s a b = λ t. record { block = sym (lay-append a b s.block) t; dirty = s.dirty; staged = append_assoc s.staged a b t }
+
+pub one_more : (s t : Desk) (d p : ℕ) (b : Block) → t ≡ with_targets s (target_if true d p b) → length t.staged ≤ length s.staged + 1
+unfolding with_targets
+one_more s t d p b e =
+    let k : length t.staged ≡ length (s.staged ++ target_if true d p b) = ap (λ (z : Desk). length z.staged) e in
+    let l : length (s.staged ++ target_if true d p b) ≡ length s.staged + 1 = length-append s.staged (target_if true d p b) in
+    omega arith
+
+-- one after the other
+two_steps : (s s1 s2 : Desk) (a b : Batch) → s1 ≡ with_targets s a → s2 ≡ with_targets s1 b → s2 ≡ with_targets s (a ++ b)
+two_steps s s1 s2 a b e f = f ∙ ap (λ (z : Desk). with_targets z b) e ∙ with_targets_append s a b
+
+pub place_hard : (m : Meta) (s t : Desk) (hard w : Bool) (r d p : ℕ) (new y : Block) → hard ≡ true → w ≡ is_written m.out d r
+    → p ≡ hard_place_of m.setup.geometry r → t ≡ with_targets s (target_if w d p new) → t ≡ with_targets s (place_targets m hard r d new y)
+unfolding place_targets
+place_hard m s t hard w r d p new y h ew ep e = e ∙ rw (h, ew, ep) refl
+
+pub place_soft : (m : Meta) (s s1 s2 : Desk) (hard w1 w2 : Bool) (r d st copy place parity : ℕ) (new y : Block) → hard ≡ false
+    → st ≡ soft_stripe m.setup.geometry.disks m.gear r d → copy ≡ soft_disk m.setup.geometry.disks m.gear r d
+    → place ≡ soft_place_of m.setup.geometry m.gear st → parity ≡ soft_parity_disk m.gear st
+    → w1 ≡ is_written m.out copy (m.setup.geometry.rows + st) → w2 ≡ is_written m.out parity (m.setup.geometry.rows + st)
+    → s1 ≡ with_targets s (target_if w1 copy place new) → s2 ≡ with_targets s1 (target_if w2 parity place y)
+    → s2 ≡ with_targets s (place_targets m hard r d new y)
+unfolding place_targets
+place_soft m s s1 s2 hard w1 w2 r d st copy place parity new y h es ec ep eq e1 e2 f1 f2 =
+    two_steps s s1 s2 (target_if w1 copy place new) (target_if w2 parity place y) f1 f2 ∙ rw (h, e1, e2, ep, eq, ec, es) refl
+
+pub copy_none : (m : Meta) (s : Desk) (filled : Bool) (r d : ℕ) (new y : Block) → filled ≡ false → s ≡ with_targets s (copy_targets m filled r d new y)
+unfolding copy_targets
+copy_none m s filled r d new y h = with_targets_none s ∙ rw h refl
+
+pub copy_both : (m : Meta) (s s1 s2 : Desk) (filled : Bool) (r d to st copy place parity : ℕ) (new y : Block) → filled ≡ true
+    → to ≡ phase_to m.phase → st ≡ soft_stripe m.setup.geometry.disks to r d → copy ≡ soft_disk m.setup.geometry.disks to r d
+    → place ≡ soft_place_of m.setup.geometry to st → parity ≡ soft_parity_disk to st
+    → s1 ≡ with_targets s (target_if true copy place new) → s2 ≡ with_targets s1 (target_if true parity place y)
+    → s2 ≡ with_targets s (copy_targets m filled r d new y)
+unfolding copy_targets
+copy_both m s s1 s2 filled r d to st copy place parity new y h et es ec ep eq f1 f2 =
+    two_steps s s1 s2 (target_if true copy place new) (target_if true parity place y) f1 f2 ∙ rw (h, ep, eq, ec, es, et) refl
+
+pub parked_of : (v : View) (r d : ℕ) → goes_hard v r d ≡ false → v.meta.gear ≤ d
+parked_of v r d h = goes_parked v r d (ap not h)
+
+-- a block that is not written does not matter
+target_same : (w : Bool) (d p : ℕ) (a b : Block) → (w ≡ true → a ≡ b) → target_if w d p a ≡ target_if w d p b
+target_same true d p a b same = ap (target_if true d p) (same refl)
+target_same false d p a b same = refl
+
+module _ (m : Meta) (s : Desk) (hard filled : Bool) (r d : ℕ) (old new near copy : Block) where
+  abbrev v : View
+  v = sees m s
+
+  place_by : (hard : Bool)
+      → (hard ≡ false → is_written m.out (soft_parity_disk m.gear (soft_stripe m.setup.geometry.disks m.gear r d)) (m.setup.geometry.rows + soft_stripe m.setup.geometry.disks m.gear r d) ≡ true
+      → near ≡ xor (xor (stripe_block v (soft_stripe m.setup.geometry.disks m.gear r d) (soft_parity_disk m.gear (soft_stripe m.setup.geometry.disks m.gear r d))) old) new)
+      → place_targets m hard r d new near ≡ (if hard then hard_targets v r d new else soft_targets v r d old new)
+  unfolding place_targets
+  place_by true fact = refl
+  place_by false fact =
+      let g = m.setup.geometry in
+      let st : ℕ = soft_stripe g.disks m.gear r d in
+      let parity : ℕ = soft_parity_disk m.gear st in
+      let place : ℕ = soft_place_of g m.gear st in
+      ap (λ (z : Batch). target_if (is_written m.out (soft_disk g.disks m.gear r d) (g.rows + st)) (soft_disk g.disks m.gear r d) place new ++ z)
+      (target_same (is_written m.out parity (g.rows + st)) parity place near (xor (stripe_block v st parity) (xor old new))
+      (λ w. fact refl w ∙ xor_assoc (stripe_block v st parity) old new))
+
+  copy_by : filled ≡ is_filled m r d
+      → (filled ≡ true → copy ≡ xor (xor (s.block (soft_parity_disk (phase_to m.phase) (soft_stripe m.setup.geometry.disks (phase_to m.phase) r d))
+      (soft_place_of m.setup.geometry (phase_to m.phase) (soft_stripe m.setup.geometry.disks (phase_to m.phase) r d))) old) new)
+      → copy_targets m filled r d new copy ≡ fill_targets v r d old new
+  unfolding copy_targets
+  copy_by is fact =
+      let g = m.setup.geometry in
+      let to : ℕ = phase_to m.phase in
+      let st : ℕ = soft_stripe g.disks to r d in
+      let parity : ℕ = soft_parity_disk to st in
+      let place : ℕ = soft_place_of g to st in
+      ap (λ (z : Batch). target_if filled (soft_disk g.disks to r d) place new ++ z)
+      (target_same filled parity place copy (xor (s.block parity place) (xor old new)) (λ w. fact w ∙ xor_assoc (s.block parity place) old new))
+      ∙ ap (λ (f : Bool). target_if f (soft_disk g.disks to r d) place new ++ target_if f parity place (xor (s.block parity place) (xor old new))) is
+
+  pub cell_desk_is : (s1 s2 s3 s4 s5 : Desk) → s1 ≡ s → s2 ≡ s1 → hard ≡ goes_hard v r d → filled ≡ is_filled m r d
+      → (hard ≡ false → is_written m.out (soft_parity_disk m.gear (soft_stripe m.setup.geometry.disks m.gear r d)) (m.setup.geometry.rows + soft_stripe m.setup.geometry.disks m.gear r d) ≡ true
+      → near ≡ xor (xor (stripe_block v (soft_stripe m.setup.geometry.disks m.gear r d) (soft_parity_disk m.gear (soft_stripe m.setup.geometry.disks m.gear r d))) old) new)
+      → (filled ≡ true → copy ≡ xor (xor (s1.block (soft_parity_disk (phase_to m.phase) (soft_stripe m.setup.geometry.disks (phase_to m.phase) r d))
+      (soft_place_of m.setup.geometry (phase_to m.phase) (soft_stripe m.setup.geometry.disks (phase_to m.phase) r d))) old) new)
+      → s3 ≡ with_targets s2 (place_targets m hard r d new near) → s4 ≡ with_targets s3 (copy_targets m filled r d new copy)
+      → s5 ≡ with_bit s4 r d (not hard) → s5 ≡ cell_desk m s r d old new
+  unfolding cell_desk
+  cell_desk_is s1 s2 s3 s4 s5 e1 e2 is_hard is_filled near_is copy_is e3 e4 e5 =
+      let place : Batch = place_targets m hard r d new near in
+      let more : Batch = copy_targets m filled r d new copy in
+      let to : ℕ = phase_to m.phase in
+      let st : ℕ = soft_stripe m.setup.geometry.disks to r d in
+      let first : place ≡ (if goes_hard v r d then hard_targets v r d new else soft_targets v r d old new) = place_by hard near_is
+      ∙ ap (λ (h : Bool). if h then hard_targets v r d new else soft_targets v r d old new) is_hard in
+      let second : more ≡ fill_targets v r d old new = copy_by is_filled
+      (λ w. copy_is w ∙ ap (λ (z : Desk). xor (xor (z.block (soft_parity_disk to st) (soft_place_of m.setup.geometry to st)) old) new) e1) in
+      let both : place ++ more ≡ cell_targets v r d old new = ap (λ (z : Batch). z ++ more) first
+      ∙ ap (λ (z : Batch). (if goes_hard v r d then hard_targets v r d new else soft_targets v r d old new) ++ z) second in
+      e5 ∙ ap (λ (z : Desk). with_bit z r d (not hard)) (two_steps s2 s3 s4 place more e3 e4 ∙ ap (λ (z : Desk). with_targets z (place ++ more)) (e2 ∙ e1) ∙ ap (with_targets s) both)
+      ∙ ap (λ (h : Bool). with_bit (with_targets s (cell_targets v r d old new)) r d (not h)) is_hard
+
+pub cell_room : (s s1 s2 s3 s4 s5 : Desk) (r d : ℕ) (bit : Bool) → length s1.staged ≡ length s.staged → length s2.staged ≡ length s1.staged → length s3.staged ≤ length s2.staged + 2
+    → length s4.staged ≤ length s3.staged + 2 → s5 ≡ with_bit s4 r d bit → length s5.staged ≤ length s.staged + 4
+unfolding with_bit
+cell_room s s1 s2 s3 s4 s5 r d bit e1 e2 l3 l4 e5 =
+    let k : length s5.staged ≡ length s4.staged = ap (λ (z : Desk). length z.staged) e5 in
+    omega arith
+
+-- the map
+
+pub map_none : (m : Meta) (s : Desk) (j : ℕ) (staged : Bool) (b : Block) → staged ≡ false → StagesMap m s s j staged
+map_none m s j staged b h = record {
+  map = b;
+  shows = λ is. absurd (true≢false (sym is ∙ h));
+  is = with_targets_none s ∙ ap (λ (z : Bool). with_targets s (if z then map_targets m j b else [])) (sym h);
+}
+
+pub map_both : (m : Meta) (s s1 s2 s3 : Desk) (j : ℕ) (staged w1 w2 : Bool) (b : Block) → staged ≡ true → ShowsBits b j s.dirty → s1 ≡ s
+    → w1 ≡ is_written m.out 0 (m.setup.geometry.rows + soft_count m + j) → w2 ≡ is_written m.out 1 (m.setup.geometry.rows + soft_count m + j)
+    → s2 ≡ with_targets s1 (target_if w1 0 (100 + j) b) → s3 ≡ with_targets s2 (target_if w2 1 (100 + j) b) → StagesMap m s s3 j staged
+map_both m s s1 s2 s3 j staged w1 w2 b h shows e1 ew1 ew2 e2 e3 = record {
+  map = b;
+  shows = λ is. shows;
+  is = two_steps s1 s2 s3 (target_if w1 0 (100 + j) b) (target_if w2 1 (100 + j) b) e2 e3 ∙ rw (e1, ew1, ew2, h) refl;
+}
+
+module _ (m : Meta) (s : Desk) (b : ℕ) (new : Block) where
+  abbrev seen : View
+  seen = sees m s
+
+  abbrev r : ℕ
+  r = home_row m.setup.geometry.disks b
+
+  abbrev d : ℕ
+  d = home_disk m.setup.geometry.disks b
+
+  abbrev p : ℕ
+  p = parity_disk m.setup.geometry.disks (home_row m.setup.geometry.disks b)
+
+  abbrev first : Desk
+  first = cell_desk m s r d (value seen r d) new
+
+  abbrev second : Desk
+  second = cell_desk m first r p (value seen r p) (row_parity seen r d new)
+
+  abbrev first_targets : Batch
+  first_targets = cell_targets seen r d (value seen r d) new
+
+  abbrev second_targets : Batch
+  second_targets = cell_targets (with_cell seen r d (value seen r d) new) r p (value seen r p) (row_parity seen r d new)
+
+  second_dirty : second.dirty ≡ (with_cells seen r d new).dirty
+  unfolding cell_desk with_bit with_targets
+  second_dirty = refl
+
+  all_staged : (more : Batch) → (with_targets second more).staged ≡ s.staged ++ (first_targets ++ (second_targets ++ more))
+  unfolding cell_desk with_bit with_targets
+  all_staged more = append_assoc (s.staged ++ first_targets) second_targets more ∙ append_assoc s.staged first_targets (second_targets ++ more)
+
+  all_laid : (more : Batch) → (with_targets second more).block ≡ lay (first_targets ++ (second_targets ++ more)) s.block
+  unfolding cell_desk with_bit with_targets
+  all_laid more =
+      sym (lay-append first_targets (second_targets ++ more) s.block ∙ lay-append second_targets more (lay first_targets s.block))
+
+  same_bits : second.dirty r d ≡ s.dirty r d → second.dirty r p ≡ s.dirty r p → (e : ℕ) → second.dirty r e ≡ s.dirty r e
+  unfolding cell_desk with_bit with_targets
+  same_bits data_same parity_same e = elim (cases_eq e d) [
+    | inl is ↦ ap (second.dirty r) is ∙ data_same ∙ ap (s.dirty r) (sym is)
+    | inr other ↦ elim (cases_eq e p) [
+      | inl is ↦ ap (second.dirty r) is ∙ parity_same ∙ ap (s.dirty r) (sym is)
+      | inr another ↦ changed_off first.dirty r p _ r e (λ _ z. another z) ∙ changed_off s.dirty r d _ r e (λ _ z. other z)
+    ]
+  ]
+
+  pub writes_from : (s4 s5 : Desk) (staged : Bool) → s4 ≡ second → (staged ≡ false → s4.dirty r d ≡ s.dirty r d) → (staged ≡ false → s4.dirty r p ≡ s.dirty r p)
+      → StagesMap m s4 s5 (r / 512) staged → StagesWrite m s s5 b new
+  writes_from s4 s5 staged e4 data_same parity_same map =
+      let last : s5 ≡ with_targets second (if staged then map_targets m (r / 512) map.map else []) =
+      map.is ∙ ap (λ (z : Desk). with_targets z (if staged then map_targets m (r / 512) map.map else [])) e4 in
+      record {
+        staged = staged;
+        map = map.map;
+        is_map = record {
+          shows = λ h. subst (ShowsBits map.map (r / 512)) (ap (λ (z : Desk). z.dirty) e4 ∙ second_dirty) (map.shows h);
+          same = λ h e.
+              ap (λ (f : ℕ → ℕ → Bool). f r e) (sym second_dirty)
+              ∙ same_bits (ap (λ (z : Desk). z.dirty r d) (sym e4) ∙ data_same h) (ap (λ (z : Desk). z.dirty r p) (sym e4) ∙ parity_same h) e;
+        };
+        targets = ap (λ (z : Desk). z.staged) last ∙ all_staged (if staged then map_targets m (r / 512) map.map else []);
+        blocks = ap (λ (z : Desk). z.block) last ∙ all_laid (if staged then map_targets m (r / 512) map.map else []);
+        dirty = ap (λ (z : Desk). z.dirty) last ∙ targets_dirty second (if staged then map_targets m (r / 512) map.map else []) ∙ second_dirty;
+      }
+
+-- the same, over what the calls of the write said
+pub writes_from_calls : (m : Meta) (s s1 s2 s3 s4 s5 : Desk) (b r d p : ℕ) (old parity fixed new : Block) (was parity_was staged : Bool)
+    → r ≡ home_row m.setup.geometry.disks b → d ≡ home_disk m.setup.geometry.disks b → p ≡ parity_disk m.setup.geometry.disks r
+    → s1 ≡ s → s2 ≡ s1 → old ≡ value (sees m s) r d → parity ≡ value (sees m s1) r p → fixed ≡ xor parity (xor old new)
+    → was ≡ s2.dirty r d → parity_was ≡ s2.dirty r p
+    → s3 ≡ cell_desk m s2 r d old new → s4 ≡ cell_desk m s3 r p parity fixed
+    → (staged ≡ false → s4.dirty r d ≡ was) → (staged ≡ false → s4.dirty r p ≡ parity_was)
+    → StagesMap m s4 s5 (r / 512) staged → StagesWrite m s s5 b new
+writes_from_calls m s s1 s2 s3 s4 s5 b r d p old parity fixed new was parity_was staged er ed ep e1 e2 is_old is_parity is_fixed is_was is_parity_was d1 d2 data_same parity_same map =
+    let n : ℕ = m.setup.geometry.disks in
+    let row : ℕ = home_row n b in
+    let ep' : p ≡ parity_disk n (home_row n b) = ep ∙ ap (parity_disk n) er in
+    let old' : old ≡ value (sees m s) (home_row n b) (home_disk n b) = is_old ∙ ap (λ (z : ℕ). value (sees m s) z d) er ∙ ap (value (sees m s) (home_row n b)) ed in
+    let parity' : parity ≡ value (sees m s) (home_row n b) (parity_disk n (home_row n b)) = is_parity ∙ ap (λ (z : Desk). value (sees m z) r p) e1
+    ∙ ap (λ (z : ℕ). value (sees m s) z p) er ∙ ap (value (sees m s) (home_row n b)) ep' in
+    let fixed' : fixed ≡ row_parity (sees m s) (home_row n b) (home_disk n b) new = is_fixed
+    ∙ ap (λ (z : Block). xor z (xor old new)) parity' ∙ ap (λ (z : Block). xor (value (sees m s) (home_row n b) (parity_disk n (home_row n b))) (xor z new)) old' in
+    let first' : s3 ≡ cell_desk m s (home_row n b) (home_disk n b) (value (sees m s) (home_row n b) (home_disk n b)) new = d1
+    ∙ ap (λ (z : Desk). cell_desk m z r d old new) (e2 ∙ e1) ∙ ap (λ (z : ℕ). cell_desk m s z d old new) er
+    ∙ ap (λ (z : ℕ). cell_desk m s (home_row n b) z old new) ed ∙ ap (λ (z : Block). cell_desk m s (home_row n b) (home_disk n b) z new) old' in
+    let second' : s4 ≡ second m s b new = d2
+    ∙ ap (λ (z : Desk). cell_desk m z r p parity fixed) first' ∙ ap (λ (z : ℕ). cell_desk m (first m s b new) z p parity fixed) er
+    ∙ ap (λ (z : ℕ). cell_desk m (first m s b new) (home_row n b) z parity fixed) ep'
+    ∙ ap (λ (z : Block). cell_desk m (first m s b new) (home_row n b) (parity_disk n (home_row n b)) z fixed) parity'
+    ∙ ap (λ (z : Block). cell_desk m (first m s b new) (home_row n b) (parity_disk n (home_row n b)) (value (sees m s) (home_row n b) (parity_disk n (home_row n b))) z) fixed' in
+    writes_from m s b new s4 s5 staged second'
+    (λ h. rw (er, ed) at (data_same h ∙ is_was ∙ ap (λ (z : Desk). z.dirty r d) (e2 ∙ e1)))
+    (λ h. rw (er, ep') at (parity_same h ∙ is_parity_was ∙ ap (λ (z : Desk). z.dirty r p) (e2 ∙ e1)))
+    (rw er at map)

@@ -1,0 +1,26 @@
+use Rattle.std.proofs.Common.{◌∙◌, sym}
+use Rattle.paraid_plan.proofs.cell.write_cell.Goals as goal
+use Rattle.paraid_plan.proofs.DeskLemmas.{cell_desk_is, cell_room, parked_of}
+use Rattle.paraid_plan.specs.Desk.{sees}
+
+pub read_place-requires-clause-parked : goal.read_place-requires-clause-parked
+read_place-requires-clause-parked g c = λ h. parked_of (sees c.args.m.now (g.P.Plan.desk c.args.plan.now)) c.args.r c.args.d (sym c.goes_hard-hard.ensures ∙ h)
+
+pub stage_place-requires-clause-parked : goal.stage_place-requires-clause-parked
+stage_place-requires-clause-parked g c = λ h. parked_of (sees c.args.m.now (g.P.Plan.desk c.args.plan.now)) c.args.r c.args.d (sym c.goes_hard-hard.ensures ∙ h)
+
+pub returns-clause-desk : goal.returns-clause-desk
+returns-clause-desk g c tells =
+    let law = g.met.P.Plan.told in
+    let t4 = law c.stage_copy.new.plan c.set_dirty.new.self c.set_dirty.ensures.leads tells in
+    let t3 = law c.stage_place.new.plan c.stage_copy.new.plan c.stage_copy.ensures.leads t4 in
+    let t2 = law c.read_copy.new.plan c.stage_place.new.plan c.stage_place.ensures.leads t3 in
+    let t1 = law c.read_place.new.plan c.read_copy.new.plan c.in_ok-read_copy.ensures.leads t2 in
+    cell_desk_is c.args.m.now (g.P.Plan.desk c.args.plan.now) c.goes_hard-hard.result c.is_filled-filled.result c.args.r c.args.d c.args.old.now c.args.new.now _ _
+    _ _ _ _ _ (c.in_ok-read_place.ensures.same t1) (c.in_ok-read_copy.ensures.same t2) c.goes_hard-hard.ensures c.is_filled-filled.ensures
+    (c.in_ok-read_place.ensures.ok t1) (c.in_ok-read_copy.ensures.ok t2) c.stage_place.ensures.desk c.stage_copy.ensures.desk c.set_dirty.ensures.desk
+
+pub returns-clause-room : goal.returns-clause-room
+returns-clause-room g c =
+    cell_room (g.P.Plan.desk c.args.plan.now) (g.P.Plan.desk c.read_place.new.plan) (g.P.Plan.desk c.read_copy.new.plan) (g.P.Plan.desk c.stage_place.new.plan) (g.P.Plan.desk c.stage_copy.new.plan) (g.P.Plan.desk c.set_dirty.new.self) c.args.r c.args.d _ c.in_ok-read_place.ensures.staged c.in_ok-read_copy.ensures.staged
+    c.stage_place.ensures.room c.stage_copy.ensures.room c.set_dirty.ensures.desk

@@ -1,0 +1,5 @@
+use Rattle.paraid_plan.proofs.PlaceLemmas.{stored_is_kept}
+use Rattle.paraid_plan.proofs.laws.what_is_stored_is_kept_well.Goals as goal
+
+pub returns : goal.returns
+returns c = stored_is_kept

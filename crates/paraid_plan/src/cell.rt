@@ -1,0 +1,273 @@
+//! The write of one cell: to its place or its copy, and to its copy in the region that is filled.
+ghost use Rattle.std.specs.Prelude.{◌≡◌, ℕ, ◌+◌, ◌<◌, ◌≤◌, true, false, length, OnOk};
+ghost use Rattle.paraid_base.specs.Soft.{soft_disk, soft_parity_disk, soft_stripe};
+ghost use Rattle.paraid_base.specs.Regions.{soft_place_of};
+ghost use Rattle.paraid_base.specs.Xor.{xor};
+ghost use Rattle.paraid_plan.specs.Desk.{Desk, with_targets, with_bit, sees, place_targets, copy_targets, cell_desk};
+ghost use Rattle.paraid_plan.specs.Staged.{stripe_block, target_if, goes_hard as goes_hard_in, is_written as written_in, is_filled as filled_in};
+ghost use Rattle.paraid_record.specs.Codes.{phase_to as phase_to_of};
+ghost use Rattle.paraid_record.specs.Range.{IsInRange};
+ghost use Rattle.paraid_record.specs.declared.meta.Meta.{Meta as MetaType};
+ghost use Rattle.paraid_image.specs.Spot.{is_hard as hard_in};
+
+use crate::desk::{Lost, Plan};
+use crate::marks::{is_filled, is_named, is_written, phase_to, rising_to};
+use paraid_base::{Block, DiskNo, Place, Row};
+use paraid_layout::{hard_place, soft_of, soft_parity, soft_place};
+use paraid_parity::xor_into;
+use paraid_record::Meta;
+
+#[tactic(auto, unfolding(paraid_image::specs::Spot::is_hard))]
+fn is_hard<P: Plan>(plan: &P, m: &Meta, r: Row, d: DiskNo) -> bool
+    requires serves { P.serves plan.now m.now }
+    requires row { r < m.now.setup.geometry.rows }
+    requires disk { d < m.now.setup.geometry.disks }
+    ensures { result ≡ hard_in (sees m.now (P.desk plan.now)) r d }
+{
+    d < m.gear || (d < rising_to(m.phase) && !plan.is_dirty(m, r, d))
+}
+
+#[tactic(auto, unfolding(crate::specs::Staged::goes_hard))]
+fn goes_hard<P: Plan>(plan: &P, m: &Meta, r: Row, d: DiskNo) -> bool
+    requires serves { P.serves plan.now m.now }
+    requires row { r < m.now.setup.geometry.rows }
+    requires disk { d < m.now.setup.geometry.disks }
+    ensures { result ≡ goes_hard_in (sees m.now (P.desk plan.now)) r d }
+{
+    is_hard(plan, m, r, d) || (d < rising_to(m.phase) && !is_named(m.out, d))
+}
+
+// Reads the parity of the stripe of a cell's copy, and changes it with the cell.
+fn read_parity<P: Plan>(
+    plan: &mut P,
+    m: &Meta,
+    r: Row,
+    d: DiskNo,
+    old: &Block,
+    new: &Block,
+    into: &mut Block,
+) -> Result<(), Lost>
+    requires serves { P.serves plan.old m.now }
+    requires in_range { IsInRange m.now }
+    requires row { r < m.now.setup.geometry.rows }
+    requires disk { d < m.now.setup.geometry.disks }
+    requires parked { m.now.gear ≤ d }
+    ensures ok { OnOk result (P.tells plan.new →
+        let s = soft_stripe m.now.setup.geometry.disks m.now.gear r d in
+        written_in m.now.out (soft_parity_disk m.now.gear s) (m.now.setup.geometry.rows + s) ≡ true
+        → into.new ≡ xor (xor (stripe_block (sees m.now (P.desk plan.old)) s (soft_parity_disk m.now.gear s)) old.now) new.now) }
+    ensures same { OnOk result (P.tells plan.new → P.desk plan.new ≡ P.desk plan.old) }
+    ensures staged { OnOk result
+        (length (P.desk plan.new).staged ≡ length (P.desk plan.old).staged) }
+    ensures changes { OnOk result (P.changes plan.new ≡ P.changes plan.old) }
+    ensures goes_on { OnOk result (P.serves plan.new m.now) }
+    ensures leads { P.leads plan.old plan.new }
+{
+    let (s, _copy) = soft_of(&m.setup.geometry, m.gear, r, d);
+    let parity = soft_parity(&m.setup.geometry, m.gear, s);
+    if !is_written(m.out, parity, m.setup.geometry.rows + s) {
+        return Ok(());
+    }
+    plan.stripe(m, s, parity, into)?;
+    xor_into(into, old);
+    xor_into(into, new);
+    Ok(())
+}
+
+// The same where the cell does not go to its hard place.
+fn read_place<P: Plan>(
+    plan: &mut P,
+    m: &Meta,
+    hard: bool,
+    r: Row,
+    d: DiskNo,
+    old: &Block,
+    new: &Block,
+    into: &mut Block,
+) -> Result<(), Lost>
+    requires serves { P.serves plan.old m.now }
+    requires in_range { IsInRange m.now }
+    requires row { r < m.now.setup.geometry.rows }
+    requires disk { d < m.now.setup.geometry.disks }
+    requires parked { hard ≡ false → m.now.gear ≤ d }
+    ensures ok { OnOk result (P.tells plan.new →
+        let s = soft_stripe m.now.setup.geometry.disks m.now.gear r d in hard ≡ false
+        → written_in m.now.out (soft_parity_disk m.now.gear s) (m.now.setup.geometry.rows + s) ≡ true
+        → into.new ≡ xor (xor (stripe_block (sees m.now (P.desk plan.old)) s (soft_parity_disk m.now.gear s)) old.now) new.now) }
+    ensures same { OnOk result (P.tells plan.new → P.desk plan.new ≡ P.desk plan.old) }
+    ensures staged { OnOk result
+        (length (P.desk plan.new).staged ≡ length (P.desk plan.old).staged) }
+    ensures changes { OnOk result (P.changes plan.new ≡ P.changes plan.old) }
+    ensures goes_on { OnOk result (P.serves plan.new m.now) }
+    ensures leads { P.leads plan.old plan.new }
+{
+    if hard {
+        return Ok(());
+    }
+    read_parity(plan, m, r, d, old, new, into)?;
+    Ok(())
+}
+
+// The same in the region that is being filled, where the stripe is filled already.
+fn read_copy<P: Plan>(
+    plan: &mut P,
+    m: &Meta,
+    filled: bool,
+    r: Row,
+    d: DiskNo,
+    old: &Block,
+    new: &Block,
+    into: &mut Block,
+) -> Result<(), Lost>
+    requires serves { P.serves plan.old m.now }
+    requires in_range { IsInRange m.now }
+    requires row { r < m.now.setup.geometry.rows }
+    requires disk { d < m.now.setup.geometry.disks }
+    requires filled { filled ≡ filled_in m.now r d }
+    ensures ok { OnOk result (P.tells plan.new →
+        let to = phase_to_of m.now.phase in
+        let s = soft_stripe m.now.setup.geometry.disks to r d in filled ≡ true
+        → into.new ≡ xor (xor ((P.desk plan.old).block (soft_parity_disk to s) (soft_place_of m.now.setup.geometry to s)) old.now) new.now) }
+    ensures same { OnOk result (P.tells plan.new → P.desk plan.new ≡ P.desk plan.old) }
+    ensures staged { OnOk result
+        (length (P.desk plan.new).staged ≡ length (P.desk plan.old).staged) }
+    ensures changes { OnOk result (P.changes plan.new ≡ P.changes plan.old) }
+    ensures goes_on { OnOk result (P.serves plan.new m.now) }
+    ensures leads { P.leads plan.old plan.new }
+{
+    if !filled {
+        return Ok(());
+    }
+    let to = phase_to(m.phase);
+    let (s, _copy) = soft_of(&m.setup.geometry, to, r, d);
+    let parity = soft_parity(&m.setup.geometry, to, s);
+    plan.stored(m, parity, soft_place(&m.setup.geometry, to, s), into)?;
+    xor_into(into, old);
+    xor_into(into, new);
+    Ok(())
+}
+
+// Stages a block, or nothing where its place is not written.
+pub(crate) fn stage_if<P: Plan>(
+    plan: &mut P,
+    written: bool,
+    disk: DiskNo,
+    place: Place,
+    block: &Block,
+)
+    requires room { length (P.desk plan.old).staged < 80 }
+    ensures desk { P.desk plan.new ≡ with_targets (P.desk plan.old) (target_if written disk place block.now) }
+    ensures room { length (P.desk plan.new).staged ≤ length (P.desk plan.old).staged + 1 }
+    ensures changes { P.changes plan.new ≡ P.changes plan.old }
+    ensures goes_on { (n : MetaType) → P.serves plan.old n → P.serves plan.new n }
+    ensures leads { P.leads plan.old plan.new }
+{
+    if written {
+        plan.stage(disk, place, block);
+    }
+}
+
+// Stages a cell in its place.
+fn stage_place<P: Plan>(
+    plan: &mut P,
+    m: &Meta,
+    hard: bool,
+    r: Row,
+    d: DiskNo,
+    new: &Block,
+    parity_block: &Block,
+)
+    requires in_range { IsInRange m.now }
+    requires row { r < m.now.setup.geometry.rows }
+    requires disk { d < m.now.setup.geometry.disks }
+    requires parked { hard ≡ false → m.now.gear ≤ d }
+    requires room { length (P.desk plan.old).staged + 2 ≤ 80 }
+    ensures desk { P.desk plan.new ≡ with_targets (P.desk plan.old) (place_targets m.now hard r d new.now parity_block.now) }
+    ensures room { length (P.desk plan.new).staged ≤ length (P.desk plan.old).staged + 2 }
+    ensures changes { P.changes plan.new ≡ P.changes plan.old }
+    ensures goes_on { (n : MetaType) → P.serves plan.old n → P.serves plan.new n }
+    ensures leads { P.leads plan.old plan.new }
+{
+    let g = &m.setup.geometry;
+    if hard {
+        stage_if(plan, is_written(m.out, d, r), d, hard_place(g, r), new);
+        return;
+    }
+    let (s, copy) = soft_of(g, m.gear, r, d);
+    let place = soft_place(g, m.gear, s);
+    let parity = soft_parity(g, m.gear, s);
+    stage_if(plan, is_written(m.out, copy, g.rows + s), copy, place, new);
+    stage_if(
+        plan,
+        is_written(m.out, parity, g.rows + s),
+        parity,
+        place,
+        parity_block,
+    );
+}
+
+// Stages its copy in the region that is being filled, where the stripe is filled already.
+fn stage_copy<P: Plan>(
+    plan: &mut P,
+    m: &Meta,
+    filled: bool,
+    r: Row,
+    d: DiskNo,
+    new: &Block,
+    parity_block: &Block,
+)
+    requires in_range { IsInRange m.now }
+    requires row { r < m.now.setup.geometry.rows }
+    requires disk { d < m.now.setup.geometry.disks }
+    requires filled { filled ≡ filled_in m.now r d }
+    requires room { length (P.desk plan.old).staged + 2 ≤ 80 }
+    ensures desk { P.desk plan.new ≡ with_targets (P.desk plan.old) (copy_targets m.now filled r d new.now parity_block.now) }
+    ensures room { length (P.desk plan.new).staged ≤ length (P.desk plan.old).staged + 2 }
+    ensures changes { P.changes plan.new ≡ P.changes plan.old }
+    ensures goes_on { (n : MetaType) → P.serves plan.old n → P.serves plan.new n }
+    ensures leads { P.leads plan.old plan.new }
+{
+    if !filled {
+        return;
+    }
+    let g = &m.setup.geometry;
+    let to = phase_to(m.phase);
+    let (s, copy) = soft_of(g, to, r, d);
+    let place = soft_place(g, to, s);
+    let parity = soft_parity(g, to, s);
+    stage_if(plan, true, copy, place, new);
+    stage_if(plan, true, parity, place, parity_block);
+}
+
+/// Writes a cell whose value is `old`.
+pub fn write_cell<P: Plan>(
+    plan: &mut P,
+    m: &Meta,
+    r: Row,
+    d: DiskNo,
+    old: &Block,
+    new: &Block,
+) -> Result<(), Lost>
+    requires serves { P.serves plan.old m.now }
+    requires in_range { IsInRange m.now }
+    requires row { r < m.now.setup.geometry.rows }
+    requires disk { d < m.now.setup.geometry.disks }
+    requires room { length (P.desk plan.old).staged + 4 ≤ 80 }
+    requires few { P.changes plan.old < 16 }
+    ensures desk { OnOk result (P.tells plan.new → P.desk plan.new ≡ cell_desk m.now (P.desk plan.old) r d old.now new.now) }
+    ensures room { OnOk result (length (P.desk plan.new).staged ≤ length (P.desk plan.old).staged + 4) }
+    ensures changes { OnOk result (P.changes plan.new ≡ P.changes plan.old + 1) }
+    ensures goes_on { OnOk result (P.serves plan.new m.now) }
+    ensures leads { P.leads plan.old plan.new }
+{
+    let hard = goes_hard(plan, m, r, d);
+    let filled = is_filled(m, r, d);
+    let mut place_parity = Block::zero();
+    read_place(plan, m, hard, r, d, old, new, &mut place_parity)?;
+    let mut copy_parity = Block::zero();
+    read_copy(plan, m, filled, r, d, old, new, &mut copy_parity)?;
+    stage_place(plan, m, hard, r, d, new, &place_parity);
+    stage_copy(plan, m, filled, r, d, new, &copy_parity);
+    plan.set_dirty(m, r, d, !hard);
+    Ok(())
+}

@@ -1,0 +1,121 @@
+//! What a plan reads and stages.
+ghost use Rattle.std.specs.Prelude.{◌≡◌, ◌≢◌, ℕ, ◌+◌, ◌<◌, ◌≤◌, ◌⊎◌, true, length, OnOk, Some};
+ghost use Rattle.paraid_base.specs.Regions.{map_count, disk_size};
+ghost use Rattle.paraid_plan.specs.Desk.{Desk, with_targets, with_bit, sees};
+ghost use Rattle.paraid_plan.specs.Staged.{soft_count, stripe_block, target_if};
+ghost use Rattle.paraid_dirty.specs.Table.{ShowsBits};
+ghost use Rattle.paraid_record.specs.Range.{IsInRange};
+ghost use Rattle.paraid_image.specs.Out.{named_out as named_out_of};
+ghost use Rattle.paraid_image.specs.Spot.{rising_to as rising_to_of};
+ghost use Rattle.paraid_image.specs.Value.{value as value_of};
+ghost use Rattle.paraid_record.specs.declared.meta.Meta.{Meta as MetaType};
+
+use paraid_base::{Block, DiskNo, Place, Row};
+use paraid_record::Meta;
+
+/// A disk was lost while the plan was made, and what is staged in it is to be dropped.
+#[derive(Clone, Copy, Debug)]
+pub struct Lost;
+
+/// A plan of at most 80 targets, over blocks that are read with all that is staged laid over.
+pub trait Plan {
+    /// What is in view, and what is staged.
+    ghost desk: { Self → Desk };
+
+    /// Whether what is in view is known: the record of the disks is told.
+    ghost tells: { Self → Type 0 };
+
+    /// How many dirty bits it has set.
+    ghost changes: { Self → ℕ };
+
+    /// Whether cells can be read under this meta.
+    ghost serves: { Self → MetaType → Type 0 };
+
+    /// The second comes from the first by reads and by what is staged, also where a read failed.
+    ghost leads: { Self → Self → Type 0 };
+
+    /// Reads the value of a cell.
+    fn value(&mut self, m: &Meta, r: Row, d: DiskNo, into: &mut Block) -> Result<(), Lost>
+        requires serves { serves self.old m.now }
+        requires in_range { IsInRange m.now }
+        requires row { r < m.now.setup.geometry.rows }
+        requires disk { d < m.now.setup.geometry.disks }
+        ensures ok { OnOk result (tells self.new → into.new ≡ value_of (sees m.now (desk self.old)) r d) }
+        ensures same { OnOk result (tells self.new → desk self.new ≡ desk self.old) }
+        ensures staged { OnOk result
+            (length (desk self.new).staged ≡ length (desk self.old).staged) }
+        ensures changes { OnOk result (changes self.new ≡ changes self.old) }
+        ensures goes_on { OnOk result (serves self.new m.now) }
+        ensures leads { leads self.old self.new };
+
+    /// Reads a block of a stripe of the current region, or makes it from the others.
+    fn stripe(&mut self, m: &Meta, s: u32, e: DiskNo, into: &mut Block) -> Result<(), Lost>
+        requires serves { serves self.old m.now }
+        requires in_range { IsInRange m.now }
+        requires stripe { s < soft_count m.now }
+        requires disk { e < m.now.gear }
+        ensures ok { OnOk result (tells self.new → into.new ≡ stripe_block (sees m.now (desk self.old)) s e) }
+        ensures same { OnOk result (tells self.new → desk self.new ≡ desk self.old) }
+        ensures staged { OnOk result
+            (length (desk self.new).staged ≡ length (desk self.old).staged) }
+        ensures changes { OnOk result (changes self.new ≡ changes self.old) }
+        ensures goes_on { OnOk result (serves self.new m.now) }
+        ensures leads { leads self.old self.new };
+
+    /// Reads a block past the log, of a disk that is powered and not out.
+    fn stored(&mut self, m: &Meta, disk: DiskNo, place: Place, into: &mut Block) -> Result<(), Lost>
+        requires serves { serves self.old m.now }
+        requires in_range { IsInRange m.now }
+        requires disk { disk < m.now.setup.geometry.disks }
+        requires place { place < disk_size m.now.setup.geometry }
+        requires powered { (disk < m.now.gear) ⊎ (disk < rising_to_of m.now.phase) }
+        requires not_out { named_out_of m.now.out ≢ Some disk }
+        requires past_log { 100 ≤ place }
+        ensures ok { OnOk result (tells self.new → into.new ≡ (desk self.old).block disk place) }
+        ensures same { OnOk result (tells self.new → desk self.new ≡ desk self.old) }
+        ensures staged { OnOk result
+            (length (desk self.new).staged ≡ length (desk self.old).staged) }
+        ensures changes { OnOk result (changes self.new ≡ changes self.old) }
+        ensures goes_on { OnOk result (serves self.new m.now) }
+        ensures leads { leads self.old self.new };
+
+    /// Whether a cell is dirty.
+    fn is_dirty(&self, m: &Meta, r: Row, d: DiskNo) -> bool
+        requires serves { serves self.now m.now }
+        requires row { r < m.now.setup.geometry.rows }
+        requires disk { d < m.now.setup.geometry.disks }
+        ensures { result ≡ (desk self.now).dirty r d };
+
+    /// Stages a block.
+    fn stage(&mut self, disk: DiskNo, place: Place, block: &Block)
+        requires room { length (desk self.old).staged < 80 }
+        ensures desk { desk self.new ≡ with_targets (desk self.old) (target_if true disk place block.now) }
+        ensures changes { changes self.new ≡ changes self.old }
+        ensures goes_on { (m : MetaType) → serves self.old m → serves self.new m }
+        ensures leads { leads self.old self.new };
+
+    /// Sets a dirty bit, of at most sixteen in a plan.
+    fn set_dirty(&mut self, m: &Meta, r: Row, d: DiskNo, bit: bool)
+        requires serves { serves self.old m.now }
+        requires row { r < m.now.setup.geometry.rows }
+        requires disk { d < m.now.setup.geometry.disks }
+        requires few { changes self.old < 16 }
+        ensures desk { desk self.new ≡ with_bit (desk self.old) r d bit }
+        ensures changes { changes self.new ≡ changes self.old + 1 }
+        ensures goes_on { serves self.new m.now }
+        ensures leads { leads self.old self.new };
+
+    /// The block of the map with the bits of 512 rows.
+    fn map_block(&mut self, j: u32, into: &mut Block)
+        ensures shows { ShowsBits into.new j (desk self.old).dirty }
+        ensures same { desk self.new ≡ desk self.old }
+        ensures changes { changes self.new ≡ changes self.old }
+        ensures goes_on { (m : MetaType) → serves self.old m → serves self.new m }
+        ensures leads { leads self.old self.new };
+
+    ghost stays: { (a : Self) → leads a a };
+
+    ghost then: { (a b c : Self) → leads a b → leads b c → leads a c };
+
+    ghost told: { (a b : Self) → leads a b → tells b → tells a };
+}

@@ -1,0 +1,87 @@
+//! What the plan of a write promises, over all disks, gears, phases and rebuilds.
+ghost use Rattle.paraid_plan.specs.Desk.{DeskWriteKeeps, ManyWritesKeep};
+ghost use Rattle.paraid_plan.specs.Stored.{KeptIsStored, KeptPlacesTell, StoredIsKept};
+ghost use Rattle.paraid_plan.specs.Marks.{BeginKeeps, FlipKeeps, LostKeeps, RejoinKeeps};
+ghost use Rattle.paraid_plan.specs.Placed.{WriteIsPlaced};
+ghost use Rattle.paraid_plan.specs.Units.{FillKeeps, FillMarksKeep, SyncKeeps, SyncMarksKeep, UnitKeeps};
+ghost use Rattle.paraid_plan.specs.Written.{WriteKeeps};
+
+/// A write keeps the disks well and changes one block, whichever disk is out.
+pub fn a_write_keeps_the_disks_well()
+    ensures { WriteKeeps }
+{}
+
+/// What `write_block` stages keeps the disks well and changes one block.
+pub fn a_staged_block_keeps_the_disks_well()
+    ensures { DeskWriteKeeps }
+{}
+
+/// A cell that goes back to its hard place leaves what is held.
+pub fn a_synced_cell_keeps_the_disks_well()
+    ensures { SyncKeeps }
+{}
+
+/// The next stripe of the region of the new gear leaves what is held.
+pub fn a_filled_stripe_keeps_the_disks_well()
+    ensures { FillKeeps }
+{}
+
+/// The next unit of a rebuild leaves what is held.
+pub fn a_rebuilt_unit_keeps_the_disks_well()
+    ensures { UnitKeeps }
+{}
+
+/// Each target of a write can be committed: it is in range, on a disk that is powered and not gone.
+pub fn a_write_can_be_committed()
+    ensures { WriteIsPlaced }
+{}
+
+/// Several writes staged in one plan keep the disks well.
+pub fn many_staged_writes_keep_the_disks_well()
+    ensures { ManyWritesKeep }
+{}
+
+/// A shift that begins leaves what is held.
+pub fn a_begun_shift_keeps_the_disks_well()
+    ensures { BeginKeeps }
+{}
+
+/// A shift that flips leaves what is held.
+pub fn a_flip_keeps_the_disks_well()
+    ensures { FlipKeeps }
+{}
+
+/// A disk that is lost, or failed by command, leaves what is held.
+pub fn a_lost_disk_is_marked_out()
+    ensures { LostKeeps }
+{}
+
+/// A disk all of whose units are rebuilt comes back.
+pub fn a_rebuilt_disk_comes_back()
+    ensures { RejoinKeeps }
+{}
+
+/// The mark of a stripe that was copied past the log.
+pub fn a_copied_stripe_is_marked()
+    ensures { FillMarksKeep }
+{}
+
+/// The mark of a cell that was copied past the log.
+pub fn a_copied_cell_is_marked()
+    ensures { SyncMarksKeep }
+{}
+
+/// Disks that are kept well store the values of their cells.
+pub fn what_is_kept_well_is_stored()
+    ensures { KeptIsStored }
+{}
+
+/// Disks that store cells whose rows sum to zero are kept well, and hold these values.
+pub fn what_is_stored_is_kept_well()
+    ensures { StoredIsKept }
+{}
+
+/// Blocks that agree where the disks are kept are kept well alike.
+pub fn kept_places_alone_tell()
+    ensures { KeptPlacesTell }
+{}

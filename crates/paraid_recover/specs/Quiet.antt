@@ -1,0 +1,13 @@
+-- The calls between the end of an interrupted commit and the mark of an absent disk.
+use Rattle.std.specs.Prelude.{ℕ, ◌<◌}
+use Rattle.paraid_rack.specs.declared.call.Call.{Call}
+use Rattle.paraid_rack.specs.declared.call.Call.TheVariants.{Read, Write, Sync, Park, SpinUp, Attach}
+
+-- a read or a sync of one of the first `n` disks
+abbrev pub IsReadOrSync : ℕ → Call → Type 0
+IsReadOrSync n (Read d p done) = d < n
+IsReadOrSync n (Write d p b done) = ⊥
+IsReadOrSync n (Sync d done) = d < n
+IsReadOrSync n (Park d done) = ⊥
+IsReadOrSync n (SpinUp d done) = ⊥
+IsReadOrSync n (Attach d size done) = ⊥

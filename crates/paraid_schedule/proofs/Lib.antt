@@ -1,0 +1,8 @@
+pub mod RankLemmas
+pub mod RowLemmas
+pub mod StepLemmas
+pub mod OnwardLemmas
+pub mod CertificateLemmas
+pub mod EnergyLemmas
+pub mod SolvedLemmas
+pub mod WalkLemmas

@@ -1,0 +1,6 @@
+pub mod Schedule
+pub mod Cost
+pub mod Bounds
+pub mod Plan
+pub mod Energy
+pub mod Solved

@@ -1,0 +1,2 @@
+pub mod LookedLemmas
+pub mod PartLemmas

@@ -1,0 +1,19 @@
+/// What a check counts, in this order.
+#[derive(Clone, Copy)]
+pub enum Kind {
+    Row,
+    Stripe,
+    Fill,
+    Unit,
+    Mirror,
+}
+
+/// How many of each kind are false.
+#[derive(Clone, Copy, Debug, PartialEq, Eq)]
+pub struct CheckReport {
+    pub rows: u32,
+    pub stripes: u32,
+    pub fill: u32,
+    pub units: u32,
+    pub mirrors: u32,
+}

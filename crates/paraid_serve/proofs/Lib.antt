@@ -1,0 +1,7 @@
+pub mod HearLemmas
+pub mod StretchLemmas
+pub mod FormLemmas
+pub mod Sofar
+pub mod TopLemmas
+pub mod ExitLemmas
+pub mod QuietLemmas

@@ -1,0 +1,26 @@
+ghost use Rattle.std.specs.Prelude.{◌≡◌, ℕ, ◌≤◌, Option, None, OnOk, IsErrOf, ◌^◌};
+ghost use Rattle.paraid_base.specs.Told.{HasRisen};
+ghost use Rattle.paraid_serve.specs.Heard.{Heard};
+
+use paraid_base::Event;
+use paraid_io::{Line, LineFault, LineReader, Source};
+use paraid_trace::parse_line;
+
+/// What the next line asks for, or nothing at the end.
+pub fn hear<S: Source>(reader: &mut LineReader, source: &mut S) -> Result<Option<Event>, LineFault>
+    requires { reader.old.fault ≡ None }
+    ensures heard { Heard (S.left source.old) (S.left source.new) reader.old reader.new result }
+    ensures goes_on { OnOk result (reader.new.fault ≡ None) }
+    ensures later { S.faults source.old ≤ S.faults source.new }
+    ensures cause { IsErrOf result LineFault.Source
+        → HasRisen (S.faults source.old) (S.faults source.new) }
+    ensures too_long { (n : ℕ) → IsErrOf result (LineFault.TooLong n)
+        → reader.new.taken ≡ 2 ^ 40 }
+{
+    match reader.next(source) {
+        Ok(Line::Whole { .. }) => Ok(Some(parse_line(reader.line()))),
+        Ok(Line::Long { .. }) => Ok(Some(Event::Bad)),
+        Ok(Line::End) => Ok(None),
+        Err(fault) => Err(fault),
+    }
+}

@@ -1,0 +1,15 @@
+//! The session of an array, over anything that answers its events by its contract.
+#![tactic(auto)]
+
+pub mod answer;
+pub mod calls;
+pub mod hear;
+pub mod run;
+pub mod server;
+mod serves;
+pub mod status;
+mod stop;
+pub mod top;
+
+pub use serves::Serves;
+pub use stop::Stop;

@@ -1,0 +1,51 @@
+ghost use Rattle.std.specs.Prelude.{◌≡◌, ◌≤◌, None, IsErrOf, OnOk, IsSome};
+ghost use Rattle.paraid_base.specs.Told.{HasRisen};
+ghost use Rattle.paraid_serve.specs.Session.{Session};
+
+use crate::Serves;
+use crate::answer::{answer, finish};
+use crate::hear::hear;
+use crate::stop::Stop;
+use paraid_io::{LineFault, LineReader, Sink, Source, write_all};
+use paraid_trace::{Text, reply};
+
+/// Answers each line, and flushes at the end. It gives the number of writes.
+pub fn session<S: Source, K: Sink, A: Serves>(
+    source: &mut S,
+    sink: &mut K,
+    array: &mut A,
+) -> Result<u64, Stop>
+    requires going { A.halted array.old ≡ None }
+    ensures session { Session (A.slots array.old) (A.setup array.old) (A.stands array.old)
+        (A.told array.old) (A.told array.new)
+        (S.left source.old) (S.left source.new) (K.written sink.old) (K.written sink.new) result }
+    ensures told { IsSome (A.told array.new) → IsSome (A.told array.old) }
+    ensures setup { A.setup array.new ≡ A.setup array.old }
+    ensures going { OnOk result (A.halted array.new ≡ None) }
+    ensures source { IsErrOf result Stop.Source
+        → HasRisen (S.faults source.old) (S.faults source.new) }
+    ensures sink { IsErrOf result Stop.Sink → HasRisen (K.faults sink.old) (K.faults sink.new) }
+    ensures later_source { S.faults source.old ≤ S.faults source.new }
+    ensures later_sink { K.faults sink.old ≤ K.faults sink.new }
+{
+    let mut reader = LineReader::new();
+    let mut text = Text::new();
+    let mut halt = None;
+    'lines: loop {
+        let event = match hear(&mut reader, source) {
+            Ok(Some(event)) => event,
+            Ok(None) => break,
+            Err(LineFault::Source) => return Err(Stop::Source),
+            Err(LineFault::TooLong { .. }) => return Err(Stop::TooLong),
+        };
+        let answered = answer(array, &mut halt, event);
+        reply(&answered, &mut text);
+        let Ok(()) = write_all(sink, text.as_slice()) else {
+            return Err(Stop::Sink);
+        };
+    }
+    match finish(array, halt) {
+        Ok(writes) => Ok(writes),
+        Err(halt) => Err(Stop::Halt(halt)),
+    }
+}

@@ -1,0 +1,95 @@
+ghost use Rattle.std.specs.Prelude.{◌≡◌, ◌<◌, ℕ, true, None, Option, IsSome, length};
+ghost use Rattle.paraid_base.specs.BlockAnswers.{answer_to_flush, flush_halt_of};
+ghost use Rattle.paraid_base.specs.declared.event.Event.TheVariants.{Flush as FlushEvent, Bad as BadEvent};
+ghost use Rattle.paraid_base.specs.declared.fault.Halt.{Halt as HaltType};
+ghost use Rattle.paraid_machine.specs.Machine.{block_count, status_of};
+ghost use Rattle.paraid_rack.specs.declared.call.Power.{Power};
+ghost use Rattle.paraid_rack.specs.Told.{Ran};
+ghost use Rattle.paraid_rack.specs.Trail.{Trail};
+ghost use Rattle.paraid_record.specs.declared.meta.Setup.{Setup};
+ghost use Rattle.paraid_trace.specs.Replies.{HasFewDisks};
+ghost use Rattle.paraid_serve.specs.Calls.{IsNotDouble};
+ghost use Rattle.paraid_serve.specs.Form.{is_answer_to};
+ghost use Rattle.paraid_session.specs.Turn.{GoesOn, Point, halt_told};
+
+use paraid_base::{Answer, Event, Halt, Status};
+
+/// An array that answers events, one after the other.
+pub trait Serves {
+    /// The record of its rack, where it is told.
+    ghost told: { Self → Option Trail };
+
+    /// The number of slots of its rack.
+    ghost slots: { Self → ℕ };
+
+    /// What it is configured to be.
+    ghost setup: { Self → Setup };
+
+    /// The moment of the record at which its mount began.
+    ghost began: { Self → ℕ };
+
+    /// How its disks are powered.
+    ghost power: { Self → ℕ → Power };
+
+    /// The halt that has ended its service.
+    ghost halted: { Self → Option HaltType };
+
+    /// It stands at this point of a session.
+    ghost stands: { Self → Point → Type 0 };
+
+    /// Answers an event. After a halt no event is asked for.
+    fn serve(&mut self, event: Event) -> Answer
+        requires going { halted self.old ≡ None }
+        requires event { event ≡ BadEvent → ⊥ }
+        ensures turn { (p : Point) → stands self.old p → Ran (told self.old) (told self.new)
+            (GoesOn (slots self.old) (setup self.old) p event result (stands self.new)) }
+        ensures told { IsSome (told self.new) → IsSome (told self.old) }
+        ensures slots { slots self.new ≡ slots self.old }
+        ensures setup { setup self.new ≡ setup self.old }
+        ensures halt { halted self.new ≡ halt_told result }
+        ensures kind { is_answer_to event result ≡ true }
+        ensures few { HasFewDisks result };
+
+    /// Keeps all writes that were accepted.
+    fn flush(&mut self) -> Result<u64, Halt>
+        requires going { halted self.old ≡ None }
+        ensures turn { (p : Point) → stands self.old p → Ran (told self.old) (told self.new)
+            (GoesOn (slots self.old) (setup self.old) p FlushEvent (answer_to_flush result)
+            (stands self.new)) }
+        ensures told { IsSome (told self.new) → IsSome (told self.old) }
+        ensures slots { slots self.new ≡ slots self.old }
+        ensures setup { setup self.new ≡ setup self.old }
+        ensures halt { halted self.new ≡ flush_halt_of result };
+
+    /// How many writes it has accepted.
+    fn writes(&self) -> u64
+        ensures { (p : Point) → stands self.now p → result ≡ length p.history };
+
+    /// Its gear.
+    fn gear(&self) -> u8
+        ensures { (p : Point) → stands self.now p → result ≡ p.state.gear };
+
+    /// The number of its blocks.
+    fn blocks(&self) -> u32
+        ensures value { result ≡ block_count (setup self.now) }
+        ensures some { 0 < result };
+
+    /// Its state.
+    fn status(&self) -> Status
+        ensures { (p : Point) → stands self.now p
+            → result ≡ status_of (setup self.now) (length p.history) p.state };
+
+    /// The number of its disks.
+    fn disks(&self) -> u8
+        ensures { result ≡ (setup self.now).geometry.disks };
+
+    /// The energy that it has used since its mount.
+    fn energy(&self) -> u64
+        ensures { (p : Point) → stands self.now p → result ≡ p.energy };
+
+    /// While there is no halt, at most one of its disks is absent.
+    ghost serves: { (x : Self) → halted x ≡ None → IsNotDouble (setup x) (power x) };
+
+    /// A point tells the halt.
+    ghost agrees: { (x : Self) (p : Point) → stands x p → p.halt ≡ halted x };
+}

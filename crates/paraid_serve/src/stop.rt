@@ -1,0 +1,14 @@
+use paraid_base::Halt;
+
+/// Why a session ended before its last line.
+#[derive(Clone, Copy, Debug, PartialEq, Eq)]
+pub enum Stop {
+    /// The source has failed.
+    Source,
+    /// All that may be taken was taken, and no whole line is left.
+    TooLong,
+    /// The sink has failed.
+    Sink,
+    /// The input has ended, and the array has halted.
+    Halt(Halt),
+}

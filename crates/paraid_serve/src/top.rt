@@ -1,0 +1,104 @@
+ghost use Rattle.std.specs.Prelude.{◌≡◌, ◌≢◌, ◌≤◌, [], None, codes, decimal};
+ghost use Rattle.paraid_base.specs.Told.{HasRisen};
+ghost use Rattle.paraid_session.specs.Mount.{Mounted};
+ghost use Rattle.paraid_serve.specs.Calls.{IsNotDouble};
+ghost use Rattle.paraid_serve.specs.Output.{Ends, Headline, IsServedStatus, Run, end_line, mount_line, status_of};
+
+use crate::run::session;
+use crate::stop::Stop;
+use crate::{Serves, status};
+use paraid_base::{Answer, Halt};
+use paraid_io::{Sink, Source, write_all};
+use paraid_trace::{Text, reply};
+
+// Writes the last line. A fault of the sink has a status of its own.
+fn last<K: Sink>(sink: &mut K, line: &[u8], status: u8) -> u8
+    ensures ends { Ends (K.written sink.old) (K.written sink.new) line.now status result }
+    ensures cause { result ≢ status
+        → (result ≡ 4) × HasRisen (K.faults sink.old) (K.faults sink.new) }
+    ensures later { K.faults sink.old ≤ K.faults sink.new }
+{
+    match write_all(sink, line) {
+        Ok(()) => status,
+        Err(_) => status::SINK,
+    }
+}
+
+fn end_text(text: &mut Text, writes: u64)
+    requires { text.old ≡ [] }
+    ensures { text.new ≡ end_line writes }
+{
+    text.push(b"end ");
+    text.push_number(writes);
+    text.push(b"\n");
+}
+
+fn mount_text(text: &mut Text, writes: u64, gear: u8)
+    requires { text.old ≡ [] }
+    ensures { text.new ≡ mount_line writes gear }
+{
+    text.push(b"mounted ");
+    text.push_number(writes);
+    text.push(b" gear ");
+    text.push_number(u64::from(gear));
+    text.push(b"\n");
+}
+
+fn halt_status(halt: Halt) -> u8
+    ensures { result ≡ status_of halt }
+{
+    match halt {
+        Halt::Two(_) => status::TWO,
+        Halt::Worn { .. } => status::WORN,
+    }
+}
+
+/// Serves the trace with a mounted array, and gives the status.
+pub fn serve<S: Source, K: Sink, A: Serves>(source: &mut S, sink: &mut K, array: &mut A) -> u8
+    requires going { A.halted array.old ≡ None }
+    ensures run { Run (A.slots array.old) (A.setup array.old) (A.stands array.old)
+        (A.told array.old) (A.told array.new) (S.left source.old) (S.left source.new)
+        (K.written sink.old) (K.written sink.new) result }
+    ensures present { result ≡ 0 → IsNotDouble (A.setup array.old) (A.power array.new) }
+    ensures source { result ≡ 3 → HasRisen (S.faults source.old) (S.faults source.new) }
+    ensures sink { result ≡ 4 → HasRisen (K.faults sink.old) (K.faults sink.new) }
+{
+    let mut text = Text::new();
+    mount_text(&mut text, array.writes(), array.gear());
+    let Ok(()) = write_all(sink, text.as_slice()) else {
+        return status::SINK;
+    };
+    let mut text = Text::new();
+    match session(source, sink, array) {
+        Ok(writes) => {
+            end_text(&mut text, writes);
+            last(sink, text.as_slice(), status::DONE)
+        }
+        Err(Stop::Source) => last(sink, b"source\n", status::SOURCE),
+        Err(Stop::TooLong) => last(sink, b"toolong\n", status::TOO_LONG),
+        Err(Stop::Sink) => status::SINK,
+        Err(Stop::Halt(halt)) => {
+            reply(&Answer::Halted(halt), &mut text);
+            last(sink, text.as_slice(), halt_status(halt))
+        }
+    }
+}
+
+/// Serves the trace with an array that was just mounted, by the contract of the mount.
+pub fn serve_mounted<S: Source, K: Sink, A: Serves>(
+    source: &mut S,
+    sink: &mut K,
+    array: &mut A,
+) -> u8
+    requires going { A.halted array.old ≡ None }
+    requires mounted { Mounted (A.slots array.old) (A.setup array.old) (A.began array.old)
+        (A.told array.old) (A.stands array.old) }
+    ensures headline { Headline (A.slots array.old) (A.setup array.old) (A.began array.old)
+        (A.told array.old) (A.told array.new) (S.left source.old) (S.left source.new)
+        (K.written sink.old) (K.written sink.new) result }
+    ensures present { result ≡ 0 → IsNotDouble (A.setup array.old) (A.power array.new) }
+    ensures source { result ≡ 3 → HasRisen (S.faults source.old) (S.faults source.new) }
+    ensures sink { result ≡ 4 → HasRisen (K.faults sink.old) (K.faults sink.new) }
+{
+    serve(source, sink, array)
+}

@@ -1,0 +1,10 @@
+pub mod LayerLemmas
+pub mod DownLemmas
+pub mod GentleLemmas
+pub mod EntryLemmas
+pub mod CalmLemmas
+pub mod PointLemmas
+pub mod WriteLemmas
+pub mod SidesLemmas
+pub mod StageLemmas
+pub mod CourseLemmas

@@ -1,0 +1,4 @@
+pub mod Watch
+pub mod Turn
+pub mod Mount
+pub mod Course

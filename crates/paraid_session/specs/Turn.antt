@@ -1,0 +1,234 @@
+-- One event of a session: what is answered, and what its calls leave.
+use Rattle.std.specs.Prelude.{◌≡◌, ◌≢◌, ℕ, ◌+◌, ◌^◌, ◌<◌, ◌≤◌, ◌==◌, min, max, Bool, true, false, List, [], ◌++◌, length, Option, Some, None, if◌then◌else◌}
+use Rattle.paraid_base.specs.declared.event.Answer.{Answer}
+use Rattle.paraid_base.specs.declared.event.Answer.TheVariants.{NoBlock, Flushed, Ticked, Top, Lowest, Shifting, Failed, NoDisk, Out as IsOut, NotOut, Ration as RationUsed, State as IsState, Energy as EnergyUsed, Bad as IsBad, Halted}
+use Rattle.paraid_base.specs.declared.event.Event.{Event}
+use Rattle.paraid_base.specs.declared.event.Event.TheVariants.{Tick, Fail, Replace, State as AskState, Energy as AskEnergy, Bad}
+use Rattle.paraid_base.specs.declared.fault.Halt.{Halt}
+use Rattle.paraid_base.specs.declared.fault.Halt.TheVariants.{Two as HaltTwo, Worn}
+use Rattle.paraid_base.specs.declared.fault.Two.{Two}
+use Rattle.paraid_base.specs.declared.state.TickEvent.{TickEvent}
+use Rattle.paraid_base.specs.declared.state.TickEvent.TheVariants.{Steady, Waiting, Ration}
+use Rattle.paraid_base.specs.History.{History}
+use Rattle.paraid_rack.specs.declared.call.Call.{Call}
+use Rattle.paraid_rack.specs.declared.call.Power.{Power}
+use Rattle.paraid_rack.specs.Disks.{Disks}
+use Rattle.paraid_rack.specs.Trail.{run}
+use Rattle.paraid_record.specs.declared.meta.Meta.{Meta}
+use Rattle.paraid_record.specs.declared.meta.Setup.{Setup}
+use Rattle.paraid_image.specs.Rest.{IsAtRest, closed_over}
+use Rattle.paraid_image.specs.HeldAt.{IsHeld}
+use Rattle.paraid_image.specs.Out.{named_out}
+use Rattle.paraid_image.specs.Power.{State, initial_state, power_of}
+use Rattle.paraid_image.specs.Shown.{IsShown, with_flush, written}
+use Rattle.paraid_machine.specs.Energy.{energy_after, tick_energy}
+use Rattle.paraid_machine.specs.Machine.{IsStep}
+use Rattle.paraid_machine.specs.Moves.{with_tick}
+use Rattle.paraid_session.specs.Watch.{Bounds, Down, Each, IsAllowed, IsKept, IsServing, Watch, attach_count, before_loss, down_of, fails_on, first_lost, watch_all, with_down}
+
+-- A session between two events: the disks; the writes that were accepted, and how many of them no
+-- stop takes away; the meta that stands; the state; the energy that was used; by disk the spin-ups
+-- since its last attach; a disk that was taken out and waits to be attached; and the halt that has
+-- come.
+pub record Point : Type 0 where
+  pub disks : Disks
+  pub history : History
+  pub low : ℕ
+  pub meta : Meta
+  pub state : State
+  pub energy : ℕ
+  pub spun : ℕ → ℕ
+  pub awaited : Option ℕ
+  pub halt : Option Halt
+
+-- the state that the disks show by the meta that stands
+abbrev pub state_at : Point → State
+state_at p = initial_state p.disks (closed_over p.meta)
+
+-- What holds between two events: each stop leaves the writes; the disks are at rest under the meta
+-- that stands, and show the state; and they are powered as the state says.
+pub record IsMark (slots : ℕ) (setup : Setup) (p : Point) : Type 0 where
+  pub held : IsHeld slots p.disks p.history p.low (named_out p.state.out)
+  pub rest : IsAtRest p.disks p.meta
+  pub same_setup : p.meta.setup ≡ setup
+  pub counted_ticks : p.meta.ticks ≤ p.state.ticks
+  pub shown : IsShown p.state (state_at p)
+  pub powers : (d : ℕ) (power : Power) → d < setup.geometry.disks → power_of p.state d ≡ Some power
+      → p.disks.power d ≡ power
+
+-- the disks show the dirty cells of the state too
+abbrev pub AreDirtyShown : Setup → Point → Type 0
+AreDirtyShown setup p = (r d : ℕ) → r < setup.geometry.rows → (state_at p).dirty r d ≡ p.state.dirty r d
+
+abbrev pub is_flush : Answer → Bool
+is_flush (Flushed writes) = true
+is_flush answer = false
+
+-- a tick that does nothing
+abbrev pub is_idle : TickEvent → Bool
+is_idle Steady = true
+is_idle Waiting = true
+is_idle (Ration disk) = true
+is_idle event = false
+
+-- an answer for which no call is made, unless one fails
+abbrev pub is_quiet : Answer → Bool
+is_quiet (NoBlock block) = true
+is_quiet (Ticked report) = is_idle report.event
+is_quiet Top = true
+is_quiet Lowest = true
+is_quiet (Shifting to) = true
+is_quiet (IsOut disk) = true
+is_quiet (RationUsed disk) = true
+is_quiet (NoDisk disk) = true
+is_quiet (NotOut disk) = true
+is_quiet (IsState status disks) = true
+is_quiet (EnergyUsed total) = true
+is_quiet IsBad = true
+is_quiet answer = false
+
+-- an event that a halt may answer
+abbrev pub may_halt : Event → Bool
+may_halt AskState = false
+may_halt AskEnergy = false
+may_halt Bad = false
+may_halt event = true
+
+-- so many commits or writes were made
+abbrev pub wear : Point → ℕ
+wear p = max p.meta.epoch (length p.history)
+
+-- the disk that an event asks to replace
+abbrev pub replaced_by : Event → Option ℕ
+replaced_by (Replace d) = Some d
+replaced_by event = None
+
+-- the disk that an event asks to take out
+abbrev pub failed_by : Event → Option ℕ
+failed_by (Fail d) = Some d
+failed_by event = None
+
+-- a disk that is taken out is down from the start of the event on, also where a second one is
+-- lost in that event
+abbrev pub taken_in_halt : Option ℕ → Halt → Down → Down
+taken_in_halt None halt down = down
+taken_in_halt (Some d) (HaltTwo two) down = if two.first == d then with_down d down else down
+taken_in_halt (Some d) (Worn count) down = down
+
+abbrev pub taken_out : Event → Answer → Down → Down
+taken_out event (Failed d) down = with_down d down
+taken_out event (Halted halt) down = taken_in_halt (failed_by event) halt down
+taken_out event answer down = down
+
+-- the watch as the calls of an event begin: the disk that is out is down
+abbrev pub watch_of : Point → Event → Answer → Watch
+watch_of p event answer = record {
+  disks = p.disks;
+  down = taken_out event answer (down_of (named_out p.state.out));
+  spun = p.spun;
+  awaited = p.awaited;
+}
+
+-- the disk that is waited for after an event
+abbrev pub awaited_by : Answer → Option ℕ → Option ℕ
+awaited_by (Failed d) awaited = Some d
+awaited_by answer awaited = awaited
+
+-- what bounds the metas that stand during an event
+abbrev pub bounds_at : Setup → Point → State → Bounds
+bounds_at setup p s = record { setup = setup; epoch = p.meta.epoch + 2 ^ 20; ticks = s.ticks }
+
+-- a tick counts itself first
+abbrev pub bounds_of : Setup → Point → Event → Bounds
+bounds_of setup p Tick = bounds_at setup p (with_tick p.state)
+bounds_of setup p event = bounds_at setup p p.state
+
+-- An event that is answered with no halt. In its calls each stop leaves the writes after it.
+pub record IsAnswered (slots : ℕ) (setup : Setup) (p : Point) (event : Event) (answer : Answer) (calls : List Call) (q : Point) : Type 0 where
+  pub fit : may_halt event ≡ true → wear p < 2 ^ 62
+  pub machine : IsStep setup p.history p.energy p.state event (first_lost calls) answer q.state
+  pub moments : Each (IsKept slots q.history p.low (bounds_of setup p event)) (IsAllowed setup (replaced_by event)) (watch_of p event answer) calls
+  pub once : attach_count calls ≤ 1
+  pub quiet : is_quiet answer ≡ true → first_lost calls ≡ None → calls ≡ []
+  -- one disk at most is down after it
+  pub serving : IsServing (watch_all calls (watch_of p event answer)).down
+  pub mark : IsMark slots setup q
+  pub flushed : is_flush answer ≡ true → AreDirtyShown setup q
+  pub disks : q.disks ≡ run p.disks calls
+  pub history : q.history ≡ p.history ++ written event answer
+  pub low : q.low ≡ with_flush p.low answer
+  pub energy : q.energy ≡ energy_after setup p.energy p.state answer
+  pub spun : q.spun ≡ (watch_all calls (watch_of p event answer)).spun
+  pub awaited : q.awaited ≡ awaited_by answer (watch_all calls (watch_of p event answer)).awaited
+  pub going : q.halt ≡ None
+
+-- this may come of the event where no call fails
+abbrev pub IsUnhurt : Setup → Point → Event → Answer → State → Type 0
+IsUnhurt setup p event answer new = IsStep setup p.history p.energy p.state event None answer new
+
+-- Why the first of two disks is down: it was out; or none was, and it is the first that failed; or
+-- it is taken out, where all writes were kept before any call failed.
+pub data IsFirst (slots : ℕ) (setup : Setup) (p : Point) (event : Event) (calls : List Call) (d : ℕ) : Type 0 where
+  out : named_out p.state.out ≡ Some d → IsFirst slots setup p event calls d
+  lost : named_out p.state.out ≡ None → first_lost calls ≡ Some d → IsFirst slots setup p event calls d
+  taken : named_out p.state.out ≡ None → event ≡ Fail d → d < setup.geometry.disks
+      → IsHeld slots (run p.disks (before_loss calls)) p.history (length p.history) (Some d)
+      → IsFirst slots setup p event calls d
+
+-- what a tick uses by itself
+abbrev pub own_energy : Setup → State → Event → ℕ
+own_energy setup s Tick = tick_energy setup s
+own_energy setup s event = 0
+
+-- the energy after an event in which a second disk is lost: a begin may have used its spin-ups
+pub data IsTwoEnergy (setup : Setup) (p : Point) (event : Event) (energy : ℕ) : Type 0 where
+  own : energy ≡ min (p.energy + own_energy setup p.state event) 18446744073709551615 → IsTwoEnergy setup p event energy
+  begun : (answer : Answer) (new : State) → IsUnhurt setup p event answer new
+      → energy ≡ energy_after setup p.energy p.state answer → IsTwoEnergy setup p event energy
+
+-- the gear after it: a shift may have ended
+pub data IsTwoGear (setup : Setup) (p : Point) (event : Event) (gear : ℕ) : Type 0 where
+  same : gear ≡ p.state.gear → IsTwoGear setup p event gear
+  flipped : (answer : Answer) (new : State) → IsUnhurt setup p event answer new → gear ≡ new.gear → IsTwoGear setup p event gear
+
+-- A second disk is lost, in an event that makes calls. Its write is not accepted.
+pub record IsTwo (slots : ℕ) (setup : Setup) (p : Point) (event : Event) (two : Two) (calls : List Call) (q : Point) : Type 0 where
+  pub fit : wear p < 2 ^ 62
+  pub first : IsFirst slots setup p event calls two.first
+  pub second : fails_on two.second calls ≡ true
+  pub apart : two.first ≢ two.second
+  pub busy : (answer : Answer) (new : State) → IsUnhurt setup p event answer new → is_quiet answer ≡ false
+  pub moments : Each (IsKept slots p.history p.low (bounds_of setup p event)) (IsAllowed setup (replaced_by event)) (watch_of p event (Halted (HaltTwo two))) calls
+  pub once : attach_count calls ≤ 1
+  pub disks : q.disks ≡ run p.disks calls
+  pub history : q.history ≡ p.history
+  pub gear : IsTwoGear setup p event q.state.gear
+  pub energy : IsTwoEnergy setup p event q.energy
+  pub halted : q.halt ≡ Some (HaltTwo two)
+
+-- the array takes no more: so many commits or writes were made, the greater of the two
+pub record IsWorn (p : Point) (event : Event) (count : ℕ) : Type 0 where
+  pub asked : may_halt event ≡ true
+  pub many : 2 ^ 62 ≤ count
+  pub is : count ≡ wear p
+
+abbrev pub with_halt : Point → Halt → Point
+with_halt p halt = record p { halt = Some halt }
+
+-- An event from one point of a session to the next.
+pub data IsTurn (slots : ℕ) (setup : Setup) (p : Point) (event : Event) (answer : Answer) (calls : List Call) (q : Point) : Type 0 where
+  answered : p.halt ≡ None → event ≢ Bad → IsAnswered slots setup p event answer calls q → IsTurn slots setup p event answer calls q
+  two : (two : Two) → p.halt ≡ None → event ≢ Bad → answer ≡ Halted (HaltTwo two) → IsTwo slots setup p event two calls q → IsTurn slots setup p event answer calls q
+  worn : (count : ℕ) → p.halt ≡ None → event ≢ Bad → answer ≡ Halted (Worn count) → IsWorn p event count → calls ≡ [] → q ≡ with_halt p (Worn count)
+      → IsTurn slots setup p event answer calls q
+  again : (halt : Halt) → p.halt ≡ Some halt → event ≢ Bad → answer ≡ Halted halt → calls ≡ [] → q ≡ p → IsTurn slots setup p event answer calls q
+  bad : event ≡ Bad → answer ≡ IsBad → calls ≡ [] → q ≡ p → IsTurn slots setup p event answer calls q
+
+-- what the calls of an event leave, where `stands` says at which points an array stands after it
+abbrev pub GoesOn : ℕ → Setup → Point → Event → Answer → (Point → Type 0) → Disks → List Call → Type 0
+GoesOn slots setup p event answer stands s calls = (q : Point) × IsTurn slots setup p event answer calls q × stands q
+
+-- the halt that an answer tells
+abbrev pub halt_told : Answer → Option Halt
+halt_told (Halted halt) = Some halt
+halt_told answer = None

@@ -1,0 +1,5 @@
+pub mod UnchangedLemmas
+pub mod HeardLemmas
+pub mod BodyLemmas
+pub mod BothLemmas
+pub mod FailedLemmas

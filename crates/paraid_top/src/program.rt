@@ -1,0 +1,206 @@
+ghost use Rattle.std.specs.Prelude.{◌≡◌, ◌≢◌, ◌≤◌, ◌<◌, ◌++◌, ℕ, Bool, None, map, string_bytes, codes, decimal};
+ghost use Rattle.paraid_base.specs.Told.{HasRisen};
+ghost use Rattle.paraid_serve.specs.Output.{Ends, Headline};
+ghost use Rattle.paraid_commands.specs.Generating.{GenHeadline};
+ghost use Rattle.paraid_words.specs.declared.command.Command.{Command as CommandType};
+ghost use Rattle.paraid_words.specs.Words.{AskFor, usage_line};
+ghost use Rattle.paraid_top.specs.Faults.{fault_line, fault_status as fault_status_of};
+ghost use Rattle.paraid_top.specs.Ends.{Does, Mounts, TellsCounts, TellsState};
+
+use crate::fault::MountFault;
+use crate::outside::{Ended, MountRefused, Outside};
+use crate::text::{check_status, check_text, fault_status, fault_text};
+use paraid_base::Answer;
+use paraid_commands::generate::serve_generated_mounted;
+use paraid_commands::lines::{halt_status, last};
+use paraid_commands::state::tell_state;
+use paraid_io::{Sink, Source};
+use paraid_rack::Rack;
+use paraid_serve::top::serve_mounted;
+use paraid_serve::{Serves, status};
+use paraid_trace::{Text, reply};
+use paraid_words::{Command, read_words};
+
+// Tells why nothing was mounted.
+fn refused<K: Sink>(sink: &mut K, fault: MountFault) -> u8
+    ensures ends { Ends (K.written sink.old) (K.written sink.new) (fault_line fault)
+        (fault_status_of fault) result }
+    ensures sink { result ≡ 4 → HasRisen (K.faults sink.old) (K.faults sink.new) }
+{
+    let mut text = Text::new();
+    fault_text(&mut text, fault);
+    last(sink, text.as_slice(), fault_status(fault))
+}
+
+/// Mounts and answers each line of the source.
+pub fn run<S: Source, K: Sink, R: Rack, A: Serves, O: Outside<R, A>>(
+    outside: &O,
+    source: &mut S,
+    sink: &mut K,
+    rack: R,
+) -> Ended<R>
+    ensures run { Mounts (R.slot_count rack) (R.told rack) (R.told result.rack) (K.written sink.old) (K.written sink.new) result.status
+        (λ setup began middle. Headline (R.slot_count rack) setup began middle
+        (R.told result.rack) (S.left source.old) (S.left source.new) (K.written sink.old)
+        (K.written sink.new) result.status) }
+    ensures source { result.status ≡ 3 → HasRisen (S.faults source.old) (S.faults source.new) }
+    ensures sink { result.status ≡ 4 → HasRisen (K.faults sink.old) (K.faults sink.new) }
+{
+    match outside.mount(rack) {
+        Ok(mut array) => {
+            let status = serve_mounted(source, sink, &mut array);
+            Ended {
+                status,
+                rack: outside.unmount(array),
+            }
+        }
+        Err(MountRefused { fault, rack }) => Ended {
+            status: refused(sink, fault),
+            rack,
+        },
+    }
+}
+
+/// Mounts and answers generated lines.
+pub fn generate<K: Sink, R: Rack, A: Serves, O: Outside<R, A>>(
+    outside: &O,
+    sink: &mut K,
+    rack: R,
+    number: u32,
+    lines: u32,
+) -> Ended<R>
+    requires few { lines ≤ 1000000 }
+    ensures run { Mounts (R.slot_count rack) (R.told rack) (R.told result.rack) (K.written sink.old) (K.written sink.new) result.status
+        (λ setup began middle. GenHeadline (R.slot_count rack) setup began middle
+        (R.told result.rack) (K.written sink.old) (K.written sink.new) number lines
+        result.status) }
+    ensures sink { result.status ≡ 4 → HasRisen (K.faults sink.old) (K.faults sink.new) }
+{
+    match outside.mount(rack) {
+        Ok(mut array) => {
+            let status = serve_generated_mounted(sink, &mut array, number, lines);
+            Ended {
+                status,
+                rack: outside.unmount(array),
+            }
+        }
+        Err(MountRefused { fault, rack }) => Ended {
+            status: refused(sink, fault),
+            rack,
+        },
+    }
+}
+
+/// Mounts and tells the state.
+pub fn state<K: Sink, R: Rack, A: Serves, O: Outside<R, A>>(
+    outside: &O,
+    sink: &mut K,
+    rack: R,
+) -> Ended<R>
+    ensures run { Mounts (R.slot_count rack) (R.told rack) (R.told result.rack) (K.written sink.old) (K.written sink.new) result.status
+        (TellsState (R.slot_count rack) (K.written sink.old) (K.written sink.new)
+        result.status) }
+    ensures sink { result.status ≡ 4 → HasRisen (K.faults sink.old) (K.faults sink.new) }
+{
+    match outside.mount(rack) {
+        Ok(array) => {
+            let status = tell_state(sink, &array);
+            Ended {
+                status,
+                rack: outside.unmount(array),
+            }
+        }
+        Err(MountRefused { fault, rack }) => Ended {
+            status: refused(sink, fault),
+            rack,
+        },
+    }
+}
+
+// Tells the counts, or the halt that ended them.
+fn tell_counts<K: Sink, R: Rack, A: Serves, O: Outside<R, A>>(
+    outside: &O,
+    sink: &mut K,
+    array: &mut A,
+) -> u8
+    requires going { A.halted array.old ≡ None }
+    ensures counts { TellsCounts (O.counts outside.now (A.told array.old) (A.told array.new))
+        (K.written sink.old) (K.written sink.new) result }
+    ensures sink { result ≡ 4 → HasRisen (K.faults sink.old) (K.faults sink.new) }
+{
+    let mut text = Text::new();
+    match outside.check(array) {
+        Ok(report) => {
+            check_text(&mut text, &report);
+            last(sink, text.as_slice(), check_status(&report))
+        }
+        Err(halt) => {
+            reply(&Answer::Halted(halt), &mut text);
+            last(sink, text.as_slice(), halt_status(halt))
+        }
+    }
+}
+
+/// Mounts and counts what is false.
+pub fn check<K: Sink, R: Rack, A: Serves, O: Outside<R, A>>(
+    outside: &O,
+    sink: &mut K,
+    rack: R,
+) -> Ended<R>
+    ensures run { Mounts (R.slot_count rack) (R.told rack) (R.told result.rack) (K.written sink.old) (K.written sink.new) result.status
+        (λ setup began middle. TellsCounts (O.counts outside.now middle (R.told result.rack))
+        (K.written sink.old) (K.written sink.new) result.status) }
+    ensures sink { result.status ≡ 4 → HasRisen (K.faults sink.old) (K.faults sink.new) }
+{
+    match outside.mount(rack) {
+        Ok(mut array) => {
+            let status = tell_counts(outside, sink, &mut array);
+            Ended {
+                status,
+                rack: outside.unmount(array),
+            }
+        }
+        Err(MountRefused { fault, rack }) => Ended {
+            status: refused(sink, fault),
+            rack,
+        },
+    }
+}
+
+/// The program. On words that ask for nothing it tells which there are, and does nothing else.
+pub fn paraid<S: Source, K: Sink, R: Rack, A: Serves, O: Outside<R, A>>(
+    outside: &O,
+    words: &Vec<String>,
+    source: &mut S,
+    sink: &mut K,
+    rack: R,
+) -> Ended<R>
+    ensures words { ((c : CommandType) → AskFor c (map string_bytes words.now.items) → ⊥)
+        → Ends (K.written sink.old) (K.written sink.new) usage_line 2 result.status }
+    ensures untouched { ((c : CommandType) → AskFor c (map string_bytes words.now.items) → ⊥)
+        → (result.rack ≡ rack) × (source.new ≡ source.old) }
+    ensures does { (c : CommandType) → AskFor c (map string_bytes words.now.items)
+        → Does (R.slot_count rack) (R.told rack) (R.told result.rack) (S.left source.old)
+        (S.left source.new) (K.written sink.old) (K.written sink.new) result.status
+        (O.counts outside.now)
+        (λ force. O.formats outside.now force (R.told rack) (R.told result.rack)
+        (S.left source.old) (S.left source.new) (K.written sink.old) (K.written sink.new)
+        result.status) c }
+    ensures sink { result.status ≡ 4 → HasRisen (K.faults sink.old) (K.faults sink.new) }
+{
+    match read_words(words) {
+        Some(Command::Run) => run(outside, source, sink, rack),
+        Some(Command::Gen { number, lines }) => generate(outside, sink, rack, number, lines),
+        Some(Command::Status) => state(outside, sink, rack),
+        Some(Command::Check) => check(outside, sink, rack),
+        Some(Command::Format { force }) => outside.format(force, source, sink, rack),
+        None => Ended {
+            status: last(
+                sink,
+                b"usage: paraid format [--force] | run | status | check | gen --number N --lines L\n",
+                status::WORDS,
+            ),
+            rack,
+        },
+    }
+}

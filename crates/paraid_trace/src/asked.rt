@@ -1,0 +1,18 @@
+use paraid_base::BlockNo;
+
+/// What a line asks for. The pairs of a write stand beside it, where they stay, since they take
+/// four kilobytes.
+#[derive(Clone, Copy, Debug, PartialEq, Eq)]
+pub enum Asked {
+    Read { block: BlockNo },
+    Write,
+    Flush,
+    Tick,
+    Up,
+    Down,
+    Fail { disk: u32 },
+    Replace { disk: u32 },
+    State,
+    Energy,
+    Bad,
+}

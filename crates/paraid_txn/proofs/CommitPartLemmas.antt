@@ -1,0 +1,283 @@
+-- What one call leaves, and one part of a commit after another.
+use Rattle.std.proofs.Common.{◌≡◌, ℕ, ◌<◌, ◌≤◌, Bool, true, false, List, [], ◌∷◌, ◌++◌, Option, Some, Result, Ok, Err, refl, sym, ◌∙◌, ap, subst, inl, inr, arith}
+use Rattle.std.specs.Prelude.{◌≢◌, ◌⊎◌, All, IsErrAnd}
+use Rattle.std.proofs.lemmas.Bool.{cases_Bool, cases_eq, true≢false}
+use Rattle.paraid_base.specs.declared.block.Block.{Block}
+use Rattle.paraid_base.specs.declared.fault.Two.{Two}
+use Rattle.paraid_base.specs.Told.{HasRisen}
+use Rattle.paraid_rack.specs.declared.call.Call.{Call}
+use Rattle.paraid_rack.specs.declared.call.Call.TheVariants.{Read, Write, Sync, Park, SpinUp, Attach}
+use Rattle.paraid_rack.specs.declared.rack.Rack.{Ghosts}
+use Rattle.paraid_rack.specs.Disks.{Disks, is_present, step}
+use Rattle.paraid_rack.specs.Lawful.{IsLawful}
+use Rattle.paraid_rack.specs.Slots.{Slot, Touched}
+use Rattle.paraid_rack.specs.Told.{Grows, Ran}
+use Rattle.paraid_rack.specs.Trail.{Trail, now, run}
+use Rattle.paraid_rack.proofs.TrailsLemmas.{Ran-call, Ran-none, Ran-then}
+use Rattle.paraid_record.specs.declared.meta.Meta.{Meta}
+use Rattle.paraid_record.specs.declared.targets.Target.{Target}
+use Rattle.paraid_image.specs.Calls.{disk_of}
+use Rattle.paraid_image.specs.Neutral.{names}
+use Rattle.paraid_image.specs.Out.{named_out}
+use Rattle.paraid_image.specs.Sides.{Batch, targets}
+use Rattle.paraid_txn.specs.declared.losses.Losses.{Losses}
+use Rattle.paraid_txn.specs.Commit.{gone_out}
+use Rattle.paraid_txn.specs.CommitPart.{CommitPart}
+use Rattle.paraid_txn.specs.Losses.{AreFailedOrWell, Follows, IsTwo, IsWell, Lasts}
+use Rattle.paraid_txn.specs.Ready.{IsLogReady}
+use Rattle.paraid_txn.specs.Staging.{names_disk}
+use Rattle.paraid_txn.specs.Uses.{EachCall, IsLog, IsOn, IsThisCall, Uses, UsesLog, UsesTarget}
+use Rattle.paraid_txn.proofs.DownLemmas.{AreOthersWell-none, AreOthersWell-then, IsTwo-later, Lasts-none, Lasts-present, Lasts-then}
+use Rattle.paraid_txn.proofs.ReadyLemmas.{log_stays_ready}
+use Rattle.paraid_txn.proofs.StagingLemmas.{names_disk-named}
+use Rattle.paraid_txn.proofs.TargetsLemmas.{names_disk-below}
+
+-- Calls
+
+EachCall-append : (u : Call → Type 0) (s : Disks) (cs ds : List Call) → EachCall u s cs → EachCall u (run s cs) ds → EachCall u s (cs ++ ds)
+EachCall-append u s [] ds first second = second
+EachCall-append u s (c ∷ cs) ds first second = (first.0, first.1, EachCall-append u (step c s) cs ds first.2 second)
+
+pub EachCall-milder : (u v : Call → Type 0) → ((c : Call) → u c → v c) → (s : Disks) (cs : List Call) → EachCall u s cs → EachCall v s cs
+EachCall-milder u v more s [] each = tt
+EachCall-milder u v more s (c ∷ cs) each = (each.0, more c each.1, EachCall-milder u v more (step c s) cs each.2)
+
+pub ran_milder : {old new : Option Trail} (P Q : Disks → List Call → Type 0) → ((s : Disks) (cs : List Call) → P s cs → Q s cs) → Ran old new P → Ran old new Q
+ran_milder P Q more ran t tells =
+    let r = ran t tells in
+    record { from = r.from; was = r.was; calls = r.calls; is = r.is; holds = more (now r.from) r.calls r.holds }
+
+-- One call
+
+module _ {old new : ℕ → Slot} {disk : ℕ} {leaves : Slot} {dirt ok : Bool} (touched : Touched old new disk leaves dirt ok) (same : IsWell (old disk) leaves) where
+  touched_well : (d : ℕ) → (d ≡ disk → ok ≡ true) → IsWell (old d) (new d)
+  touched_well d done = elim (cases_eq d disk) [
+    | inl is ↦ subst (λ (k : ℕ). IsWell (old k) (new k)) (sym is) (subst (λ (s : Slot). IsWell (old disk) s) (sym (touched.done (done is))) same)
+    | inr not ↦ subst (λ (s : Slot). IsWell (old d) s) (sym (touched.others d not)) (record { faults = refl; power = refl; size = refl })
+  ]
+
+  touched_each : AreFailedOrWell old new
+  touched_each d = elim (cases_Bool ok) [
+    | inl done ↦ inr (touched_well d (λ is. done))
+    | inr failed ↦ elim (cases_eq d disk) [
+      | inl is ↦ inl (subst (λ (k : ℕ). HasRisen (old k).faults (new k).faults) (sym is) (touched.risen failed))
+      | inr not ↦ inr (touched_well d (λ is. absurd (not is)))
+    ]
+  ]
+
+  touched_there : (d : ℕ) → is_present (new d).power ≡ true → IsWell (old d) (new d)
+  touched_there d there = touched_well d (λ is. elim (cases_Bool ok) [
+    | inl done ↦ done
+    | inr failed ↦ absurd (true≢false (sym there ∙ ap is_present (ap (λ (k : ℕ). (new k).power) is ∙ touched.absent failed)))
+  ])
+
+  touched_later : (d : ℕ) → (old d).faults ≤ (new d).faults
+  touched_later d = elim (cases_Bool ok) [
+    | inl done ↦ let well = (touched_well d (λ is. done)).faults in omega arith
+    | inr failed ↦ elim (cases_eq d disk) [
+      | inl is ↦ subst (λ (k : ℕ). (old k).faults ≤ (new k).faults) (sym is) (touched.later failed)
+      | inr not ↦ let well = (touched_well d (λ is. absurd (not is))).faults in omega arith
+    ]
+  ]
+
+  done_lasts : (a : Losses) → Lasts a a old new
+  done_lasts a = record {
+    power = λ d there. (touched_there d there).power;
+    size = λ d there. (touched_there d there).size;
+    no_fall = touched_later;
+    each = touched_each;
+    down = λ d is. inl is;
+    remains = λ d is. is;
+    stays = λ d is. is;
+    lost = λ d is. inl is;
+    absent = λ d is. inl is;
+  }
+
+  borne_lasts : (a b : Losses) → ok ≡ false → b.down ≡ Some disk → b.lost ≡ Some disk → ((first : ℕ) → a.down ≡ Some first → first ≡ disk) → Lasts a b old new
+  borne_lasts a b failed down lost alone = record {
+    power = λ d there. (touched_there d there).power;
+    size = λ d there. (touched_there d there).size;
+    no_fall = touched_later;
+    each = touched_each;
+    down = λ d is. inr (lost ∙ sym down ∙ is);
+    remains = λ d is. down ∙ ap Some (sym (alone d is));
+    stays = λ d is. lost ∙ ap Some (sym (alone d (a.agrees d is)));
+    lost = λ d is.
+        let same : disk ≡ d = (let e : Some disk ≡ Some d = sym lost ∙ is in cc) in
+        inr (subst (λ (k : ℕ). HasRisen (old k).faults (new k).faults) same (touched.risen failed));
+    absent = λ d is.
+        let same : disk ≡ d = (let e : Some disk ≡ Some d = sym lost ∙ is in cc) in
+        inr (ap (λ (k : ℕ). (new k).power) (sym same) ∙ touched.absent failed);
+  }
+
+module _ {R : Type 0} (g : Ghosts R) {skip : Option ℕ} {disk : ℕ} (call : Bool → Call) {old new : R} {leaves : Slot} {dirt ok : Bool} (not : skip ≢ Some disk)
+    (here : is_present (g.slot old disk).power ≡ true) (at : (done : Bool) → disk_of (call done) ≡ disk)
+    (lawful : (t : Trail) → g.told old ≡ Some t → IsLawful (now t) (call ok)) (same : IsWell (g.slot old disk) leaves)
+    (touched : Touched (g.slot old) (g.slot new) disk leaves dirt ok) (grows : Grows (g.told old) (g.told new) (call ok)) where
+  made : Ran (g.told old) (g.told new) (EachCall (IsThisCall skip disk call))
+  made = Ran-call (EachCall (IsThisCall skip disk call)) (g.told old) (g.told new) (call ok) grows (λ s is. (lawful s is, (not, ok, refl), tt))
+
+  -- the call and what follows its answer
+  pub called_leaves : (from to : Losses) (result : Result (Unit {0}) Two) → Follows from to disk ok result → CommitPart g (IsThisCall skip disk call) from to old new result
+  called_leaves from to (Ok it) (inl is) = subst (λ (b : Losses). CommitPart {A = Unit {0}} g (IsThisCall skip disk call) from b old new (Ok it)) (sym is.1) (record {
+    lasts = done_lasts touched same from;
+    well = λ d not. touched_well touched same d (λ _. is.0);
+    two = tt;
+    on = λ d lost. inl lost;
+    calls = made;
+  })
+  called_leaves from to (Ok it) (inr is) = record {
+    lasts = borne_lasts touched same from to is.0 is.1 is.2 is.3;
+    well = λ d other. touched_well touched same d (λ e. absurd (other (is.2 ∙ ap Some (sym e))));
+    two = tt;
+    on = λ d lost.
+        let same : disk ≡ d = (let e : Some disk ≡ Some d = sym is.2 ∙ lost in cc) in
+        inr ((call ok, (not, ok, refl), at ok ∙ same), subst (λ (k : ℕ). is_present (g.slot old k).power ≡ true) same here);
+    calls = made;
+  }
+  called_leaves from to (Err two) is = subst (λ (b : Losses). CommitPart {A = Unit {0}} g (IsThisCall skip disk call) from b old new (Err two)) (sym is.1) (record {
+    lasts = done_lasts touched same from;
+    well = tt;
+    two = record {
+      first = inl is.2;
+      apart = λ e. is.3 (e ∙ is.4);
+      second = subst (λ (k : ℕ). HasRisen (g.slot old k).faults (g.slot new k).faults) (sym is.4) (touched.risen is.0);
+    };
+    on = λ d lost. inl lost;
+    calls = made;
+  })
+
+-- Parts
+
+-- no call
+pub CommitPart_none : {R A : Type 0} (g : Ghosts R) (uses : Call → Type 0) (a : Losses) (r : R) (it : A) → CommitPart g uses a a r r (Ok it)
+CommitPart_none g uses a r it = record {
+  lasts = Lasts-none a (g.slot r);
+  well = AreOthersWell-none a (g.slot r);
+  two = tt;
+  on = λ d is. inl is;
+  calls = Ran-none (EachCall uses) (λ s. tt) (g.told r);
+}
+
+on_then : {R : Type 0} (g : Ghosts R) (uses : Call → Type 0) (a b c : Losses) (r s : R) → Lasts a b (g.slot r) (g.slot s)
+    → ((d : ℕ) → b.lost ≡ Some d → (a.lost ≡ Some d) ⊎ (IsOn uses d × (is_present (g.slot r d).power ≡ true)))
+    → ((d : ℕ) → c.lost ≡ Some d → (b.lost ≡ Some d) ⊎ (IsOn uses d × (is_present (g.slot s d).power ≡ true)))
+    → (d : ℕ) → c.lost ≡ Some d → (a.lost ≡ Some d) ⊎ (IsOn uses d × (is_present (g.slot r d).power ≡ true))
+on_then g uses a b c r s lasts first second d is = elim (second d is) [
+  | inl was ↦ first d was
+  | inr on ↦ inr (on.0, Lasts-present a b (g.slot r) (g.slot s) d lasts on.1)
+]
+
+-- a part that ended well, and then another
+pub CommitPart_then : {R A B : Type 0} {g : Ghosts R} {uses : Call → Type 0} {a b c : Losses} {r s t : R} {it : A} {result : Result B Two}
+    → CommitPart g uses a b r s (Ok it) → CommitPart g uses b c s t result → CommitPart g uses a c r t result
+CommitPart_then {g = g} {uses = uses} {a = a} {b = b} {c = c} {r = r} {s = s} {t = t} {result = Ok done} first second = record {
+  lasts = Lasts-then a b c (g.slot r) (g.slot s) (g.slot t) first.lasts second.lasts;
+  well = AreOthersWell-then a b c (g.slot r) (g.slot s) (g.slot t) first.lasts second.lasts first.well second.well;
+  two = tt;
+  on = on_then g uses a b c r s first.lasts first.on second.on;
+  calls = Ran-then (EachCall uses) (EachCall-append uses) (g.told r) (g.told s) (g.told t) first.calls second.calls;
+}
+CommitPart_then {g = g} {uses = uses} {a = a} {b = b} {c = c} {r = r} {s = s} {t = t} {result = Err two} first second = record {
+  lasts = Lasts-then a b c (g.slot r) (g.slot s) (g.slot t) first.lasts second.lasts;
+  well = tt;
+  two = IsTwo-later a b c (g.slot r) (g.slot s) (g.slot t) two first.lasts second.lasts second.two;
+  on = on_then g uses a b c r s first.lasts first.on second.on;
+  calls = Ran-then (EachCall uses) (EachCall-append uses) (g.told r) (g.told s) (g.told t) first.calls second.calls;
+}
+
+-- the same where a `?` hands on the error
+pub CommitPart_raised : {R A B : Type 0} {g : Ghosts R} {uses : Call → Type 0} {a b : Losses} {r s : R} {two : Two} (result : Result B Two)
+    → IsErrAnd result (λ other. other ≡ two) → CommitPart {A = A} g uses a b r s (Err two) → CommitPart g uses a b r s result
+CommitPart_raised (Ok it) is part = absurd is
+CommitPart_raised {g = g} {a = a} {r = r} {s = s} (Err other) is part = record {
+  lasts = part.lasts;
+  well = tt;
+  two = subst (λ (t : Two). IsTwo a.down (g.slot r) (g.slot s) t) (sym is) part.two;
+  on = part.on;
+  calls = part.calls;
+}
+
+-- and where it ends well with another value
+pub CommitPart_answer : {R A B : Type 0} {g : Ghosts R} {uses : Call → Type 0} {a b : Losses} {r s : R} {it : A} (any : B)
+    → CommitPart g uses a b r s (Ok it) → CommitPart g uses a b r s (Ok any)
+CommitPart_answer any part = record { lasts = part.lasts; well = part.well; two = tt; on = part.on; calls = part.calls }
+
+-- less is said of the calls
+pub CommitPart_milder : {R A : Type 0} {g : Ghosts R} {u v : Call → Type 0} {a b : Losses} {r s : R} {result : Result A Two} → ((c : Call) → u c → v c)
+    → CommitPart g u a b r s result → CommitPart g v a b r s result
+CommitPart_milder {u = u} {v = v} more part = record {
+  lasts = part.lasts;
+  well = part.well;
+  two = part.two;
+  on = λ d is. elim (part.on d is) [ inl was ↦ inl was | inr on ↦ inr ((on.0.0, more on.0.0 on.0.1, on.0.2), on.1) ];
+  calls = ran_milder (EachCall u) (EachCall v) (EachCall-milder u v more) part.calls;
+}
+
+-- Of which kind they are
+
+module _ {R A : Type 0} {g : Ghosts R} {skip : Option ℕ} {disk : ℕ} {a b : Losses} {r s : R} {result : Result A Two} where
+  pub logs_read : (p : ℕ) → disk < 2 → p < 100 → CommitPart g (IsThisCall skip disk (λ done. Read disk p done)) a b r s result → CommitPart g (UsesLog skip) a b r s result
+  logs_read p low within part = CommitPart_milder (λ c is. subst (UsesLog skip) (sym is.2) ((low, is.0), within)) part
+
+  pub logs_write : (p : ℕ) {block : Block} → disk < 2 → p < 100 → CommitPart g (IsThisCall skip disk (λ done. Write disk p block done)) a b r s result
+      → CommitPart g (UsesLog skip) a b r s result
+  logs_write p low within part = CommitPart_milder (λ c is. subst (UsesLog skip) (sym is.2) ((low, is.0), within)) part
+
+  pub logs_sync : disk < 2 → CommitPart g (IsThisCall skip disk (λ done. Sync disk done)) a b r s result → CommitPart g (UsesLog skip) a b r s result
+  logs_sync low part = CommitPart_milder (λ c is. subst (UsesLog skip) (sym is.2) (low, is.0)) part
+
+  pub writes_target : (batch : Batch) (p : ℕ) {block : Block} → names batch disk p ≡ true → CommitPart g (IsThisCall skip disk (λ done. Write disk p block done)) a b r s result
+      → CommitPart g (UsesTarget skip batch) a b r s result
+  writes_target batch p on part = CommitPart_milder (λ c is. subst (UsesTarget skip batch) (sym is.2) (is.0, on)) part
+
+  pub syncs_target : (batch : Batch) → names_disk batch disk ≡ true → CommitPart g (IsThisCall skip disk (λ done. Sync disk done)) a b r s result
+      → CommitPart g (UsesTarget skip batch) a b r s result
+  syncs_target batch on part = CommitPart_milder (λ c is. subst (UsesTarget skip batch) (sym is.2) (is.0, on)) part
+
+-- where fewer log disks are skipped
+UsesLog_milder : (skip other : Option ℕ) → ((d : ℕ) → IsLog skip d → IsLog other d) → (c : Call) → UsesLog skip c → UsesLog other c
+UsesLog_milder skip other more (Read d p done) is = (more d is.0, is.1)
+UsesLog_milder skip other more (Write d p b done) is = (more d is.0, is.1)
+UsesLog_milder skip other more (Sync d done) is = more d is
+UsesLog_milder skip other more (Park d done) is = absurd is
+UsesLog_milder skip other more (SpinUp d done) is = absurd is
+UsesLog_milder skip other more (Attach d size done) is = absurd is
+
+log_uses : (m : Meta) (batch : Batch) (c : Call) → UsesLog (named_out m.out) c → Uses m batch c
+log_uses m batch (Read d p done) is = (let low = is.0.0 in let many = m.setup.geometry.disks_low in omega arith, inl is)
+log_uses m batch (Write d p b done) is = (let low = is.0.0 in let many = m.setup.geometry.disks_low in omega arith, inl is)
+log_uses m batch (Sync d done) is = (let low = is.0 in let many = m.setup.geometry.disks_low in omega arith, inl is)
+log_uses m batch (Park d done) is = absurd is
+log_uses m batch (SpinUp d done) is = absurd is
+log_uses m batch (Attach d size done) is = absurd is
+
+target_uses : (m : Meta) (batch : Batch) → All (λ (t : Target). t.disk < m.setup.geometry.disks) (targets batch) → (c : Call) → UsesTarget (gone_out m.out) batch c → Uses m batch c
+target_uses m batch below (Read d p done) is = absurd is
+target_uses m batch below (Write d p b done) is = (names_disk-below batch m.setup.geometry.disks d below (names_disk-named batch d p is.1), inr is)
+target_uses m batch below (Sync d done) is = (names_disk-below batch m.setup.geometry.disks d below is.1, inr is)
+target_uses m batch below (Park d done) is = absurd is
+target_uses m batch below (SpinUp d done) is = absurd is
+target_uses m batch below (Attach d size done) is = absurd is
+
+module _ {R A : Type 0} {g : Ghosts R} {a b : Losses} {r s : R} {result : Result A Two} where
+  pub CommitPart_beside : {skip other : Option ℕ} → ((d : ℕ) → IsLog skip d → IsLog other d) → CommitPart g (UsesLog skip) a b r s result
+      → CommitPart g (UsesLog other) a b r s result
+  CommitPart_beside {skip} {other} more part = CommitPart_milder (UsesLog_milder skip other more) part
+
+  pub CommitPart_logs : (m : Meta) (batch : Batch) {skip : Option ℕ} → skip ≡ named_out m.out → CommitPart g (UsesLog skip) a b r s result
+      → CommitPart g (Uses m batch) a b r s result
+  CommitPart_logs m batch {skip} is part = CommitPart_milder (λ c on. log_uses m batch c (subst (λ (o : Option ℕ). UsesLog o c) is on)) part
+
+  pub CommitPart_targets : (m : Meta) (batch : Batch) {skip : Option ℕ} → skip ≡ gone_out m.out → All (λ (t : Target). t.disk < m.setup.geometry.disks) (targets batch)
+      → CommitPart g (UsesTarget skip batch) a b r s result → CommitPart g (Uses m batch) a b r s result
+  CommitPart_targets m batch {skip} is below part = CommitPart_milder (λ c on. target_uses m batch below c (subst (λ (o : Option ℕ). UsesTarget o batch c) is on)) part
+
+  -- what can be logged before a part can be logged after it
+  pub CommitPart_log : {uses : Call → Type 0} {skip : Option ℕ} → CommitPart g uses a b r s result → IsLogReady skip (g.slot r) → IsLogReady skip (g.slot s)
+  CommitPart_log part ready = log_stays_ready part.lasts ready
+
+-- a part whose answer is known
+pub CommitPart_by : {R A : Type 0} {g : Ghosts R} {uses : Call → Type 0} {a b : Losses} {r s : R} {result other : Result A Two} → result ≡ other
+    → CommitPart g uses a b r s result → CommitPart g uses a b r s other
+CommitPart_by {g = g} {uses = uses} {a = a} {b = b} {r = r} {s = s} is part = subst (λ o. CommitPart g uses a b r s o) is part

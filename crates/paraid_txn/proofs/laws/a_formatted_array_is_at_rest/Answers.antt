@@ -1,5 +1,0 @@
-use Rattle.paraid_txn.proofs.FormattedLemmas.{IsAtRest-formatted}
-use Rattle.paraid_txn.proofs.laws.a_formatted_array_is_at_rest.Goals as goal
-
-pub returns : goal.returns
-returns c = IsAtRest-formatted

@@ -1,5 +1,0 @@
-use Rattle.paraid_txn.proofs.OpenLemmas.{Sound-opened, open_holds}
-use Rattle.paraid_txn.proofs.laws.a_gate_can_be_opened.Goals as goal
-
-pub returns : goal.returns
-returns c = record { sound = Sound-opened; held = open_holds }

@@ -1,5 +1,0 @@
-use Rattle.paraid_txn.proofs.GateLemmas.{gate_write_holds}
-use Rattle.paraid_txn.proofs.laws.a_gate_is_open_or_closed.Goals as goal
-
-pub returns : goal.returns
-returns c = gate_write_holds

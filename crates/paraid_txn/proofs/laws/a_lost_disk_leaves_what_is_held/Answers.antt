@@ -1,5 +1,0 @@
-use Rattle.paraid_txn.proofs.LossLemmas.{IsHeld-lost, failed_is_loss}
-use Rattle.paraid_txn.proofs.laws.a_lost_disk_leaves_what_is_held.Goals as goal
-
-pub returns : goal.returns
-returns c = record { failed = failed_is_loss; held = IsHeld-lost }

@@ -1,5 +1,0 @@
-use Rattle.paraid_txn.proofs.SwapLemmas.{IsHeld-attached}
-use Rattle.paraid_txn.proofs.laws.an_attach_leaves_what_is_held.Goals as goal
-
-pub returns : goal.returns
-returns c = IsHeld-attached

@@ -1,5 +1,0 @@
-use Rattle.paraid_txn.proofs.HeldLemmas.{image_is, image_of_dry}
-use Rattle.paraid_txn.proofs.laws.dry_disks_are_their_image.Goals as goal
-
-pub returns : goal.returns
-returns c = record { is = image_of_dry; only = image_is }

@@ -1,5 +1,0 @@
-use Rattle.paraid_txn.proofs.FreeLemmas.{Sound-free}
-use Rattle.paraid_txn.proofs.laws.free_places_do_not_matter.Goals as goal
-
-pub returns : goal.returns
-returns c = Sound-free

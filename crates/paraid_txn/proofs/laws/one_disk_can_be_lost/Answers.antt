@@ -1,5 +1,0 @@
-use Rattle.paraid_txn.proofs.LoseLemmas.{Sound-lost}
-use Rattle.paraid_txn.proofs.laws.one_disk_can_be_lost.Goals as goal
-
-pub returns : goal.returns
-returns c = Sound-lost

@@ -1,5 +1,0 @@
-use Rattle.paraid_txn.proofs.StandingLemmas.{IsWeak-same}
-use Rattle.paraid_txn.proofs.laws.one_disk_is_weak.Goals as goal
-
-pub returns : goal.returns
-returns c = IsWeak-same

@@ -1,5 +1,0 @@
-use Rattle.paraid_txn.proofs.StandingLemmas.{Sound-length}
-use Rattle.paraid_txn.proofs.laws.one_length_is_held.Goals as goal
-
-pub returns : goal.returns
-returns c = Sound-length

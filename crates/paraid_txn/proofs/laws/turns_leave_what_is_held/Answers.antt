@@ -1,5 +1,0 @@
-use Rattle.paraid_txn.proofs.TurnLemmas.{park_holds, spin_up_holds}
-use Rattle.paraid_txn.proofs.laws.turns_leave_what_is_held.Goals as goal
-
-pub returns : goal.returns
-returns c = record { spin_up = spin_up_holds; park = park_holds }

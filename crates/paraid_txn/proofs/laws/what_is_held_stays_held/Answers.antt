@@ -1,5 +1,0 @@
-use Rattle.paraid_txn.proofs.HeldLemmas.{IsHeld-more}
-use Rattle.paraid_txn.proofs.laws.what_is_held_stays_held.Goals as goal
-
-pub returns : goal.returns
-returns c = IsHeld-more

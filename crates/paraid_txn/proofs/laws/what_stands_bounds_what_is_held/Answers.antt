@@ -1,5 +1,0 @@
-use Rattle.paraid_txn.proofs.CloseLemmas.{IsHeld-raised}
-use Rattle.paraid_txn.proofs.laws.what_stands_bounds_what_is_held.Goals as goal
-
-pub returns : goal.returns
-returns c = IsHeld-raised

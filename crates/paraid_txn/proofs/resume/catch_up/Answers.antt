@@ -1,0 +1,210 @@
+use Rattle.std.specs.Prelude.{◌≡◌, ◌≢◌, ℕ, Bool, Some, true, false, Ok}
+use Rattle.std.proofs.Common.{arith, ap, sym, refl, ◌∙◌, inl, inr}
+use Rattle.std.proofs.lemmas.Bool.{cases_Bool, cases_eq, false≢true}
+use Rattle.paraid_rack.specs.Told.{Ran, Runs}
+use Rattle.paraid_rack.specs.Trail.{Trail, now}
+use Rattle.paraid_txn.specs.CommitPart.{CommitPart}
+use Rattle.paraid_txn.specs.Uses.{IsLog, UsesLog}
+use Rattle.paraid_txn.specs.Resume.{Leads, Resuming, Same, beside}
+use Rattle.paraid_image.specs.Sides.{is_open}
+use Rattle.paraid_txn.specs.Stages.{IsLive, IsSpelled, Job, named}
+use Rattle.paraid_image.specs.Standing.{other_log}
+use Rattle.paraid_txn.proofs.ReadyLemmas.{log_stays_ready}
+use Rattle.paraid_txn.proofs.PartsLemmas.{andthen, ends, from, milder, open_whole, upto}
+use Rattle.paraid_txn.proofs.ResumeLemmas.{absent_by, good_beside, log_open, never, open_lay, read_start, resuming_early, resuming_same, same_lay, same_log, same_read, take_ran, upto_told}
+use Rattle.paraid_txn.proofs.CommitPartLemmas.{CommitPart_answer, CommitPart_beside, CommitPart_by, CommitPart_raised, CommitPart_then, logs_read}
+use Rattle.paraid_txn.proofs.resume.catch_up.Given.{Over}
+use Rattle.paraid_txn.proofs.resume.catch_up.Goals as goal
+use Rattle.paraid_txn.proofs.resume.catch_up.Goals.{After-opens, After-take}
+
+taken : (g : Over) (c : After-take g) (j : Job) → IsSpelled j → Leads j c.args.side
+    → Ran (g.R.Rack.told c.args.rack.now) (g.R.Rack.told c.take.new.rack) (Runs (Resuming j c.args.side) (Same j) (Same j))
+taken g c j good leads = take_ran c.take.ensures.does (resuming_same j good c.args.side leads) (λ s s' w a. same_read j s s' w a)
+
+-- the gate was read
+on : (g : Over) (c : After-opens g) → c.take.result ≡ Ok true
+on g c = cc
+
+-- the block that was read is the one at the start
+found : (g : Over) (c : After-take g) (j : Job) → c.take.result ≡ Ok true → (t : Trail) → g.R.Rack.told c.args.rack.now ≡ Some t → Same j (now t)
+    → c.take.new.into ≡ j.start.block (other_log c.args.side) 0
+found g c j is t tells same = read_start j (other_log c.args.side) (g.met.R.Rack.agrees c.args.rack.now) (c.take.ensures.present is) (c.take.ensures.bytes is) t tells same
+
+pub returns-in_err-read-clause-moments : goal.returns-in_err-read-clause-moments
+returns-in_err-read-clause-moments g c j good is batch list same leads =
+    let at = goal.at.returns-in_err-read-clause-moments g c in
+    ends (resuming_same j good c.args.side leads) (taken g at.After-take j good leads)
+
+pub returns-then-not-read-clause-moments : goal.returns-then-not-read-clause-moments
+returns-then-not-read-clause-moments g c j good is batch list same leads =
+    let at = goal.at.returns-then-not-read-clause-moments g c in
+    ends (resuming_same j good c.args.side leads) (taken g at.After-take j good leads)
+
+pub returns-then-not-read-clause-done : goal.returns-then-not-read-clause-done
+returns-then-not-read-clause-done g c j good is batch list same leads =
+    let at = goal.at.returns-then-not-read-clause-done g c in
+    let y = other_log c.args.side in
+    let off : c.take.result ≡ Ok false = cc in
+    upto_told (λ s t from to a b. same_lay j good c.args.side leads (now t) b (λ l there here.
+    absurd (absent_by y (g.met.R.Rack.agrees c.take.new.rack t to) (c.take.ensures.passed off (λ e. l.1 (is ∙ e))) here)))
+    (taken g at.After-take j good leads)
+
+pub returns-then-opens-clause-moments : goal.returns-then-opens-clause-moments
+returns-then-opens-clause-moments g c j good is batch list same leads =
+    let at = goal.at.returns-then-opens-clause-moments g c in
+    ends (resuming_same j good c.args.side leads) (taken g at.After-take j good leads)
+
+pub returns-then-opens-clause-done : goal.returns-then-opens-clause-done
+returns-then-opens-clause-done g c j good is batch list same leads =
+    let at = goal.at.returns-then-opens-clause-done g c in
+    let on : c.take.result ≡ Ok true = cc in
+    let opened : is_open c.take.new.into ≡ true = cc in
+    upto_told (λ s t from to a b. same_lay j good c.args.side leads (now t) b (λ l there here. elim (leads.other l there) [
+      | inl shut_then ↦ absurd (false≢true (sym shut_then ∙ ap is_open (sym (found g at.After-take j on s from a)) ∙ opened))
+      | inr says ↦ says
+    ])) (taken g at.After-take j good leads)
+
+-- the other log disk is live
+live : (g : Over) (c : After-take g) (j : Job) → named j ≡ c.args.skip → c.take.result ≡ Ok true → IsLive j (other_log c.args.side)
+live g c j is on = (let low = c.requires.log_disk in omega arith, λ e. c.take.ensures.read on (sym is ∙ e))
+
+-- its gate was not open at the start
+not_open : (g : Over) (c : After-take g) (j : Job) → IsSpelled j → Leads j c.args.side → c.take.result ≡ Ok true → is_open c.take.new.into ≡ false
+    → is_open (j.start.block (other_log c.args.side) 0) ≡ true
+    → Ran (g.R.Rack.told c.args.rack.now) (g.R.Rack.told c.take.new.rack) (Runs (Resuming j c.args.side) (Same j) (λ s. ⊥))
+not_open g c j good leads on shut open_then =
+    upto_told (λ s t from to a b. false≢true (sym shut ∙ ap is_open (found g c j on s from a) ∙ open_then)) (taken g c j good leads)
+
+pub returns-in_err-write_log-clause-moments : goal.returns-in_err-write_log-clause-moments
+returns-in_err-write_log-clause-moments g c j good is batch list same leads =
+    let at = goal.at.returns-in_err-write_log-clause-moments g c in
+    let x = c.args.side in
+    let on = on g at.After-opens in
+    let shut : is_open c.take.new.into ≡ false = cc in
+    let l = live g at.After-take j is on in
+    let log = c.write_log.ensures.moments (beside j x) (good_beside j good x leads) refl batch list same in
+    elim (cases_Bool (is_open (j.start.block (other_log x) 0))) [
+      | inl open_then ↦ andthen (not_open g at.After-take j good leads on shut open_then) (never log)
+      | inr shut_then ↦
+          let early = resuming_early j good x leads l (λ there. shut_then) in
+          andthen (taken g at.After-take j good leads)
+          (ends early (from (same_log j good x leads l (λ there. shut_then)) (milder early log)))
+    ]
+
+pub returns-in_err-open_gate-clause-moments : goal.returns-in_err-open_gate-clause-moments
+returns-in_err-open_gate-clause-moments g c j good is batch list same leads =
+    let at = goal.at.returns-in_err-open_gate-clause-moments g c in
+    let x = c.args.side in
+    let on = on g at.After-opens in
+    let shut : is_open c.take.new.into ≡ false = cc in
+    let l = live g at.After-take j is on in
+    let spelled = good_beside j good x leads in
+    let log = c.in_ok-write_log.ensures.done (beside j x) spelled refl batch list same in
+    let opens = c.open_gate.ensures.moments (beside j x) 0 spelled refl (omega arith) refl in
+    elim (cases_Bool (is_open (j.start.block (other_log x) 0))) [
+      | inl open_then ↦ andthen (not_open g at.After-take j good leads on shut open_then) (never (andthen log (from (log_open j good x leads) opens)))
+      | inr shut_then ↦
+          let early = resuming_early j good x leads l (λ there. shut_then) in
+          andthen (taken g at.After-take j good leads)
+          (ends early (from (same_log j good x leads l (λ there. shut_then)) (milder early (andthen log (from (log_open j good x leads) opens)))))
+    ]
+
+pub returns-clause-moments : goal.returns-clause-moments
+returns-clause-moments g c j good is batch list same leads =
+    let at = goal.at.returns-clause-moments g c in
+    let x = c.args.side in
+    let on = on g at.After-opens in
+    let shut : is_open c.take.new.into ≡ false = cc in
+    let l = live g at.After-take j is on in
+    let spelled = good_beside j good x leads in
+    let log = c.in_ok-write_log.ensures.done (beside j x) spelled refl batch list same in
+    let opens = c.in_ok-open_gate.ensures.done (beside j x) 0 spelled refl (omega arith) refl in
+    elim (cases_Bool (is_open (j.start.block (other_log x) 0))) [
+      | inl open_then ↦ andthen (not_open g at.After-take j good leads on shut open_then) (never (andthen log (from (log_open j good x leads) opens)))
+      | inr shut_then ↦
+          let early = resuming_early j good x leads l (λ there. shut_then) in
+          andthen (taken g at.After-take j good leads)
+          (ends (λ s a. early s (open_whole (beside j x) spelled _ s a))
+          (from (same_log j good x leads l (λ there. shut_then)) (milder early (andthen log (from (log_open j good x leads) opens)))))
+    ]
+
+pub returns-clause-done : goal.returns-clause-done
+returns-clause-done g c j good is batch list same leads =
+    let at = goal.at.returns-clause-done g c in
+    let x = c.args.side in
+    let on = on g at.After-opens in
+    let shut : is_open c.take.new.into ≡ false = cc in
+    let l = live g at.After-take j is on in
+    let spelled = good_beside j good x leads in
+    let log = c.in_ok-write_log.ensures.done (beside j x) spelled refl batch list same in
+    let opens = c.in_ok-open_gate.ensures.done (beside j x) 0 spelled refl (omega arith) refl in
+    elim (cases_Bool (is_open (j.start.block (other_log x) 0))) [
+      | inl open_then ↦ andthen (not_open g at.After-take j good leads on shut open_then) (never (andthen log (from (log_open j good x leads) opens)))
+      | inr shut_then ↦
+          let early = resuming_early j good x leads l (λ there. shut_then) in
+          andthen (taken g at.After-take j good leads)
+          (upto (open_lay j good x leads l (λ there. shut_then))
+          (from (same_log j good x leads l (λ there. shut_then)) (milder early (andthen log (from (log_open j good x leads) opens)))))
+    ]
+
+-- what was read, in the log of the other one
+heard : (g : Over) (c : After-take g) (read : Bool) → c.take.result ≡ Ok read
+    → CommitPart g.R.Rack (UsesLog c.args.skip) c.args.losses.now c.take.new.losses c.args.rack.now c.take.new.rack (Ok read)
+heard g c read is = logs_read 0 (let low = c.requires.log_disk in omega arith) (omega arith) (CommitPart_by is c.take.ensures.part)
+
+-- the other one is not skipped
+beside_log : (g : Over) (c : After-take g) → c.take.result ≡ Ok true → (d : ℕ) → IsLog (Some c.args.side) d → IsLog c.args.skip d
+beside_log g c on d is =
+    let low = is.0 in
+    let side = c.requires.log_disk in
+    let same : other_log c.args.side ≡ d = (let apart : c.args.side ≢ d = (λ e. is.1 (ap Some e)) in elim (cases_eq c.args.side d) [ inl e ↦ absurd (apart e) | inr not ↦ omega arith ]) in
+    (low, λ e. c.take.ensures.read on (e ∙ ap Some (sym same)))
+
+pub returns-in_err-read-clause-part : goal.returns-in_err-read-clause-part
+returns-in_err-read-clause-part g c =
+    CommitPart_raised _ c.from_residual.ensures.1 (logs_read 0 (let low = c.requires.log_disk in omega arith) (omega arith) c.in_err-read.ensures.part)
+
+pub returns-then-not-read-clause-part : goal.returns-then-not-read-clause-part
+returns-then-not-read-clause-part g c =
+    let at = goal.at.returns-then-not-read-clause-part g c in
+    CommitPart_answer tt (heard g at.After-take false (cc))
+
+pub returns-then-opens-clause-part : goal.returns-then-opens-clause-part
+returns-then-opens-clause-part g c =
+    let at = goal.at.returns-then-opens-clause-part g c in
+    CommitPart_answer tt (heard g at.After-take true (cc))
+
+pub returns-in_err-write_log-clause-part : goal.returns-in_err-write_log-clause-part
+returns-in_err-write_log-clause-part g c =
+    let at = goal.at.returns-in_err-write_log-clause-part g c in
+    let on = on g at.After-opens in
+    CommitPart_raised _ c.from_residual-in_err-write_log.ensures.1
+    (CommitPart_then (heard g at.After-take true on) (CommitPart_beside (beside_log g at.After-take on) c.in_err-write_log.ensures.part))
+
+pub returns-in_err-open_gate-clause-part : goal.returns-in_err-open_gate-clause-part
+returns-in_err-open_gate-clause-part g c =
+    let at = goal.at.returns-in_err-open_gate-clause-part g c in
+    let on = on g at.After-opens in
+    let beside = beside_log g at.After-take on in
+    CommitPart_raised _ c.from_residual-in_err-open_gate.ensures.1
+    (CommitPart_then (heard g at.After-take true on) (CommitPart_beside beside (CommitPart_then c.in_ok-write_log.ensures.part c.in_err-open_gate.ensures.part)))
+
+pub returns-clause-part : goal.returns-clause-part
+returns-clause-part g c =
+    let at = goal.at.returns-clause-part g c in
+    let on = on g at.After-opens in
+    let beside = beside_log g at.After-take on in
+    CommitPart_then (heard g at.After-take true on) (CommitPart_beside beside (CommitPart_then c.in_ok-write_log.ensures.part c.in_ok-open_gate.ensures.part))
+
+pub write_log-requires-clause-log : goal.write_log-requires-clause-log
+write_log-requires-clause-log g c =
+    let at = goal.at.write_log-requires-clause-log g c in
+    let on = on g at.After-opens in
+    record { can = λ x low not. (log_stays_ready c.take.ensures.part.lasts c.requires.log).can x low (beside_log g at.After-take on x (low, not)).1 }
+
+pub open_gate-requires-clause-log : goal.open_gate-requires-clause-log
+open_gate-requires-clause-log g c =
+    let at = goal.at.open_gate-requires-clause-log g c in
+    let on = on g at.After-opens in
+    log_stays_ready c.write_log.ensures.part.lasts
+    (record { can = λ x low not. (log_stays_ready c.take.ensures.part.lasts c.requires.log).can x low (beside_log g at.After-take on x (low, not)).1 })

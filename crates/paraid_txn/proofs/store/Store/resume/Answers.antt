@@ -1,0 +1,41 @@
+use Rattle.std.specs.Prelude.{◌≡◌}
+use Rattle.std.proofs.Common.{refl, ◌∙◌}
+use Rattle.paraid_image.specs.Out.{first_absent, named_out, or_else}
+use Rattle.paraid_txn.proofs.AloneLemmas.{two_beside}
+use Rattle.paraid_txn.proofs.store.Store.resume.Given.{Over}
+use Rattle.paraid_txn.proofs.store.Store.resume.Goals as goal
+use Rattle.paraid_txn.proofs.store.Store.resume.Goals.{After-end_commit-ended}
+
+-- the disk that is down as it begins
+down_is : (g : Over) (c : After-end_commit-ended g) → c.out_first.result
+    ≡ or_else (first_absent (λ e. (g.R.Rack.slot c.args.rack e).power) c.args.meta.now.setup.geometry.disks)
+    (or_else (named_out c.args.meta.now.out) (named_out c.args.meta.now.out))
+down_is g c = c.out_first.ensures ∙ rw (c.find_absent-absent.ensures, c.adopt-store.ensures.named, c.adopt-store.ensures.rack, c.adopt-store.ensures.disks) refl
+
+pub returns-in-Err-clause-two : goal.returns-in-Err-clause-two
+returns-in-Err-clause-two g c =
+    let at = goal.at.returns-in-Err-clause-two g c in
+    two_beside _ _ _ _ _ _ _ _ (down_is g at.After-end_commit-ended)
+    (rw (← (c.adopt-store.ensures.rack), c.close.ensures) c.in-Err.ensures.part.two)
+
+pub returns-in-Err-clause-refused_powers : goal.returns-in-Err-clause-refused_powers
+returns-in-Err-clause-refused_powers g c =
+    let lasts = c.end_commit-ended.ensures.part.lasts in
+    rw (← (c.adopt-store.ensures.rack), c.close.ensures) (record { power = lasts.power; size = lasts.size; no_fall = lasts.no_fall })
+
+pub returns-in-Err-clause-refused_each : goal.returns-in-Err-clause-refused_each
+returns-in-Err-clause-refused_each g c = rw (← (c.adopt-store.ensures.rack), c.close.ensures) c.end_commit-ended.ensures.part.lasts.each
+
+pub returns-in-Err-clause-refused_calls : goal.returns-in-Err-clause-refused_calls
+returns-in-Err-clause-refused_calls g c = rw (← (c.adopt-store.ensures.rack), c.close.ensures) c.end_commit-ended.ensures.part.calls
+
+pub returns-clause-powers : goal.returns-clause-powers
+returns-clause-powers g c =
+    let lasts = c.end_commit-ended.ensures.part.lasts in
+    rw (← (c.adopt-store.ensures.rack)) (record { power = lasts.power; size = lasts.size; no_fall = lasts.no_fall })
+
+pub returns-clause-each : goal.returns-clause-each
+returns-clause-each g c = rw (← (c.adopt-store.ensures.rack)) c.end_commit-ended.ensures.part.lasts.each
+
+pub returns-clause-calls : goal.returns-clause-calls
+returns-clause-calls g c = rw (← (c.adopt-store.ensures.rack)) c.end_commit-ended.ensures.part.calls

@@ -1,0 +1,69 @@
+-- Which calls are made: those of a commit are on the log of each log disk that it does not leave
+-- alone, and on the targets of its batch.
+use Rattle.std.specs.Prelude.{◌≡◌, ◌≢◌, ℕ, ◌<◌, ◌⊎◌, Bool, true, List, [], ◌∷◌, Option, Some}
+use Rattle.paraid_rack.specs.declared.call.Call.{Call}
+use Rattle.paraid_rack.specs.declared.call.Call.TheVariants.{Read, Write, Sync, Park, SpinUp, Attach}
+use Rattle.paraid_rack.specs.Disks.{Disks, step}
+use Rattle.paraid_rack.specs.Lawful.{IsLawful}
+use Rattle.paraid_rack.specs.Slots.{Slot}
+use Rattle.paraid_rack.specs.declared.call.Power.TheVariants.{Spinning}
+use Rattle.paraid_record.specs.declared.meta.Meta.{Meta}
+use Rattle.paraid_image.specs.Calls.{disk_of}
+use Rattle.paraid_image.specs.Neutral.{names}
+use Rattle.paraid_image.specs.Out.{named_out}
+use Rattle.paraid_image.specs.Sides.{Batch}
+use Rattle.paraid_txn.specs.Commit.{gone_out}
+use Rattle.paraid_txn.specs.Staging.{names_disk}
+
+-- a log disk that is not skipped
+abbrev pub IsLog : Option ℕ → ℕ → Type 0
+IsLog skip d = (d < 2) × (skip ≢ Some d)
+
+-- a read or a write in its log, or a sync of it
+abbrev pub UsesLog : Option ℕ → Call → Type 0
+UsesLog skip (Read d p done) = IsLog skip d × (p < 100)
+UsesLog skip (Write d p b done) = IsLog skip d × (p < 100)
+UsesLog skip (Sync d done) = IsLog skip d
+UsesLog skip (Park d done) = ⊥
+UsesLog skip (SpinUp d done) = ⊥
+UsesLog skip (Attach d size done) = ⊥
+
+-- a write of a target of the batch, or a sync of a disk that has one, which is not skipped
+abbrev pub UsesTarget : Option ℕ → Batch → Call → Type 0
+UsesTarget skip batch (Read d p done) = ⊥
+UsesTarget skip batch (Write d p b done) = (skip ≢ Some d) × (names batch d p ≡ true)
+UsesTarget skip batch (Sync d done) = (skip ≢ Some d) × (names_disk batch d ≡ true)
+UsesTarget skip batch (Park d done) = ⊥
+UsesTarget skip batch (SpinUp d done) = ⊥
+UsesTarget skip batch (Attach d size done) = ⊥
+
+-- A call of the commit of a meta and a batch. It is on a disk of the array; a log disk that the
+-- meta names out keeps its log, and no target is written on a disk that is gone.
+abbrev pub Uses : Meta → Batch → Call → Type 0
+Uses m batch c = (disk_of c < m.setup.geometry.disks) × (UsesLog (named_out m.out) c ⊎ UsesTarget (gone_out m.out) batch c)
+
+-- the one call, done or failed, on a disk that is not skipped
+abbrev pub IsThisCall : Option ℕ → ℕ → (Bool → Call) → Call → Type 0
+IsThisCall skip disk call c = (skip ≢ Some disk) × (done : Bool) × (c ≡ call done)
+
+-- each of these calls is lawful by the power of its disk, and of this kind
+abbrev pub EachCall : (Call → Type 0) → Disks → List Call → Type 0
+EachCall uses s [] = Unit {0}
+EachCall uses s (c ∷ cs) = IsLawful s c × uses c × EachCall uses (step c s) cs
+
+-- one of the calls of this kind is on disk `d`
+abbrev pub IsOn : (Call → Type 0) → ℕ → Type 0
+IsOn uses d = (c : Call) × uses c × (disk_of c ≡ d)
+
+-- a sync of one of the first `n` disks that is not skipped
+abbrev pub UsesSync : ℕ → Option ℕ → Call → Type 0
+UsesSync n skip (Read d p done) = ⊥
+UsesSync n skip (Write d p b done) = ⊥
+UsesSync n skip (Sync d done) = (d < n) × (skip ≢ Some d)
+UsesSync n skip (Park d done) = ⊥
+UsesSync n skip (SpinUp d done) = ⊥
+UsesSync n skip (Attach d size done) = ⊥
+
+-- of the first `n` disks each that spins and is not skipped has a block
+pub record CanSync (n : ℕ) (skip : Option ℕ) (slot : ℕ → Slot) : Type 0 where
+  pub within : (d : ℕ) → d < n → skip ≢ Some d → (slot d).power ≡ Spinning → 0 < (slot d).size

@@ -1,0 +1,294 @@
+//! The end of a commit that was interrupted.
+//!
+//! Two log disks that are not out may say the same, or differ in one of three ways:
+//!
+//! - the standing one is open and the other one is closed over the meta before: the batch is
+//!   brought to the other one, as in the first two steps of a commit;
+//! - both are open: the targets are laid, and the gates closed, as in the last three steps;
+//! - the standing one is closed and the other one is open with the same meta: its targets have
+//!   been laid. The meta is written to place 1 of the other one, and its gate is closed.
+//!
+//! A log disk that the meta names out is left alone.
+ghost use Rattle.std.specs.Prelude.{◌≡◌, ◌≢◌, ℕ, ◌+◌, ◌-◌, ◌<◌, ◌≤◌, true, false, length, Some, OnOk, IfErr, IfOk};
+ghost use Rattle.paraid_rack.specs.Told.{Ran, Runs};
+ghost use Rattle.paraid_record.specs.declared.meta.Meta.{Meta as MetaType};
+ghost use Rattle.paraid_record.specs.Meta.{meta_bytes};
+ghost use Rattle.paraid_record.specs.Targets.{AreTargets};
+ghost use Rattle.paraid_txn.specs.Commit.{gone_out as gone_of};
+ghost use Rattle.paraid_txn.specs.CommitPart.{CommitPart};
+ghost use Rattle.paraid_txn.specs.Losses.{AreDry, AreFailedOrWell, IsOut, IsSpared, IsTwoBeside};
+ghost use Rattle.paraid_txn.specs.Uses.{EachCall, Uses, UsesLog};
+ghost use Rattle.paraid_image.specs.Out.{named_out as named_of};
+ghost use Rattle.paraid_txn.specs.Ready.{AreTargetsReady, IsLogReady};
+ghost use Rattle.paraid_txn.specs.Resume.{CanResume, IsResume, Leads, Resuming, Same, Settles, ShutDone, ShutEnd, Shutting, heard};
+ghost use Rattle.paraid_image.specs.Sides.{is_open, targets};
+ghost use Rattle.paraid_txn.specs.Stages.{Close, IsSpelled, Job, LayIn, gone, named};
+ghost use Rattle.paraid_image.specs.Standing.{other_log};
+
+use crate::batch::Batch;
+use crate::calls::{put, settle, take};
+use crate::commit::{finish, gate, lay_all, open_gate, spell_meta, spell_targets, write_log};
+use crate::losses::Losses;
+use crate::store::{Store, find_absent, gone_out, named_out, out_first};
+use paraid_base::{Block, DiskNo, Two};
+use paraid_rack::Rack;
+use paraid_record::Meta;
+
+// Whether a gate is open.
+fn opens(gate: &Block) -> bool
+    ensures { result ≡ is_open gate.now }
+{
+    gate.as_slice()[0] != 0
+}
+
+// The batch is brought to the log disk beside `side`, if that one is live and its gate is closed.
+fn catch_up<R: Rack>(
+    rack: &mut R,
+    losses: &mut Losses,
+    skip: Option<DiskNo>,
+    side: DiskNo,
+    batch: &Batch,
+    list: &Block,
+    meta: &Block,
+) -> Result<(), Two>
+    requires exists { 2 ≤ R.slot_count rack.old }
+    requires log_disk { side < 2 }
+    requires log { IsLogReady skip (R.slot rack.old) }
+    requires few { length batch.now ≤ 96 }
+    ensures slots { R.slot_count rack.new ≡ R.slot_count rack.old }
+    ensures part { CommitPart R.Rack (UsesLog skip) losses.old losses.new rack.old rack.new
+        result }
+    ensures dry { OnOk result (AreDry (R.slot rack.old) (R.slot rack.new)) }
+    ensures moments { (j : Job) → IsSpelled j → named j ≡ skip → j.batch ≡ batch.now
+        → j.list ≡ list.now → j.spelled ≡ meta.now → Leads j side
+        → Ran (R.told rack.old) (R.told rack.new)
+        (Runs (Resuming j side) (Same j) (Resuming j side)) }
+    ensures done { OnOk result ((j : Job) → IsSpelled j → named j ≡ skip → j.batch ≡ batch.now
+        → j.list ≡ list.now → j.spelled ≡ meta.now → Leads j side
+        → Ran (R.told rack.old) (R.told rack.new)
+        (Runs (Resuming j side) (Same j) (LayIn j 0))) }
+{
+    let other = 1 - side;
+    let mut found = Block::zero();
+    let read = take(rack, losses, skip, other, 0, &mut found)?;
+    if !read {
+        return Ok(());
+    }
+    if opens(&found) {
+        return Ok(());
+    }
+    write_log(rack, losses, Some(side), other, batch, list, meta)?;
+    let opened = gate(true);
+    open_gate(rack, losses, Some(side), other, &opened)?;
+    Ok(())
+}
+
+// The log disk that stands is open: the commit is ended.
+fn resume_open<R: Rack>(
+    rack: &mut R,
+    losses: &mut Losses,
+    side: DiskNo,
+    meta: &Meta,
+    batch: &Batch,
+    list: &Block,
+    spelled: &Block,
+) -> Result<(), Two>
+    requires exists { meta.now.setup.geometry.disks ≤ R.slot_count rack.old }
+    requires log_disk { side < 2 }
+    requires log { IsLogReady (named_of meta.now.out) (R.slot rack.old) }
+    requires ready { AreTargetsReady (gone_of meta.now.out) (R.slot_count rack.old)
+        (R.slot rack.old) (targets batch.now) }
+    requires in_range { AreTargets meta.now.setup.geometry (targets batch.now) }
+    ensures slots { R.slot_count rack.new ≡ R.slot_count rack.old }
+    ensures part { CommitPart R.Rack (Uses meta.now batch.now) losses.old losses.new rack.old rack.new
+        result }
+    ensures dry { OnOk result (AreDry (R.slot rack.old) (R.slot rack.new)) }
+    ensures moments { (j : Job) → IsSpelled j → named j ≡ named_of meta.now.out
+        → gone j ≡ gone_of meta.now.out → j.batch ≡ batch.now
+        → j.list ≡ list.now → j.spelled ≡ spelled.now → Leads j side
+        → Ran (R.told rack.old) (R.told rack.new)
+        (Runs (Resuming j side) (Same j) (Resuming j side)) }
+    ensures done { OnOk result ((j : Job) → IsSpelled j → named j ≡ named_of meta.now.out
+        → gone j ≡ gone_of meta.now.out → j.batch ≡ batch.now
+        → j.list ≡ list.now → j.spelled ≡ spelled.now → Leads j side
+        → Ran (R.told rack.old) (R.told rack.new)
+        (Runs (Resuming j side) (Same j) (Close j 2))) }
+{
+    let named = named_out(meta.out);
+    catch_up(rack, losses, named, side, batch, list, spelled)?;
+    lay_all(
+        rack,
+        losses,
+        gone_out(meta.out),
+        batch,
+        meta.setup.geometry.disks,
+    )?;
+    finish(rack, losses, named, spelled)?;
+    Ok(())
+}
+
+// The meta is written to a log disk whose gate is open, and the gate is closed.
+fn shut<R: Rack>(
+    rack: &mut R,
+    losses: &mut Losses,
+    skip: Option<DiskNo>,
+    disk: DiskNo,
+    meta: &Block,
+) -> Result<(), Two>
+    requires exists { disk < R.slot_count rack.old }
+    requires log_disk { disk < 2 }
+    requires log { IsLogReady skip (R.slot rack.old) }
+    ensures slots { R.slot_count rack.new ≡ R.slot_count rack.old }
+    ensures part { CommitPart R.Rack (UsesLog skip) losses.old losses.new rack.old rack.new
+        result }
+    ensures dry { OnOk result (AreDry (R.slot rack.old) (R.slot rack.new)) }
+    ensures moments { (j : Job) → IsSpelled j → named j ≡ skip → j.spelled ≡ meta.now
+        → named j ≢ Some disk → is_open (j.start.block disk 0) ≡ true
+        → Ran (R.told rack.old) (R.told rack.new)
+        (Runs (Shutting j disk) (Same j) (Shutting j disk)) }
+    ensures done { OnOk result ((j : Job) → IsSpelled j → named j ≡ skip → j.spelled ≡ meta.now
+        → named j ≢ Some disk → is_open (j.start.block disk 0) ≡ true
+        → Ran (R.told rack.old) (R.told rack.new)
+        (Runs (Shutting j disk) (Same j) (ShutDone j disk))) }
+{
+    put(rack, losses, skip, disk, 1, meta)?;
+    settle(rack, losses, skip, disk)?; // before its gate closes
+    let closed = gate(false);
+    put(rack, losses, skip, disk, 0, &closed)?;
+    settle(rack, losses, skip, disk)?;
+    Ok(())
+}
+
+// The log disk that stands is closed: the other one is closed too, if it is live and open.
+fn resume_closed<R: Rack>(
+    rack: &mut R,
+    losses: &mut Losses,
+    skip: Option<DiskNo>,
+    side: DiskNo,
+    meta: &Block,
+) -> Result<(), Two>
+    requires exists { 2 ≤ R.slot_count rack.old }
+    requires log_disk { side < 2 }
+    requires log { IsLogReady skip (R.slot rack.old) }
+    ensures slots { R.slot_count rack.new ≡ R.slot_count rack.old }
+    ensures part { CommitPart R.Rack (UsesLog skip) losses.old losses.new rack.old rack.new
+        result }
+    ensures dry { OnOk result (AreDry (R.slot rack.old) (R.slot rack.new)) }
+    ensures moments { (j : Job) → IsSpelled j → named j ≡ skip → j.spelled ≡ meta.now
+        → Ran (R.told rack.old) (R.told rack.new)
+        (Runs (Shutting j (other_log side)) (Same j) (Shutting j (other_log side))) }
+    ensures done { OnOk result ((j : Job) → IsSpelled j → named j ≡ skip → j.spelled ≡ meta.now
+        → Ran (R.told rack.old) (R.told rack.new)
+        (Runs (Shutting j (other_log side)) (Same j) (ShutEnd j (other_log side)))) }
+{
+    let other = 1 - side;
+    let mut found = Block::zero();
+    let read = take(rack, losses, skip, other, 0, &mut found)?;
+    if !read {
+        return Ok(());
+    }
+    if !opens(&found) {
+        return Ok(());
+    }
+    shut(rack, losses, skip, other, meta)?;
+    Ok(())
+}
+
+// Either.
+fn end_commit<R: Rack>(
+    rack: &mut R,
+    losses: &mut Losses,
+    side: DiskNo,
+    gate_open: bool,
+    meta: &Meta,
+    batch: &Batch,
+) -> Result<(), Two>
+    requires { CanResume (R.slot_count rack.old) (R.slot rack.old) side gate_open batch.now
+        meta.now }
+    ensures slots { R.slot_count rack.new ≡ R.slot_count rack.old }
+    ensures part { CommitPart R.Rack (Uses meta.now batch.now) losses.old losses.new rack.old
+        rack.new result }
+    ensures dry { OnOk result (AreDry (R.slot rack.old) (R.slot rack.new)) }
+    ensures moments { IsResume (R.told rack.old) (R.told rack.new) side
+        (heard gate_open meta.now batch.now) }
+    ensures done { OnOk result (Settles (R.told rack.old) (R.told rack.new) side
+        (heard gate_open meta.now batch.now)) }
+{
+    let list = spell_targets(batch);
+    let spelled = spell_meta(meta);
+    if gate_open {
+        resume_open(rack, losses, side, meta, batch, &list, &spelled)?;
+        return Ok(());
+    }
+    resume_closed(rack, losses, named_out(meta.out), side, &spelled)?;
+    Ok(())
+}
+
+/// Two disks are down, so that an interrupted commit was not ended.
+#[derive(Drop)]
+pub struct ResumeRefused<R: Rack> {
+    pub two: Two,
+    pub rack: R,
+}
+
+impl<R: Rack> Store<R> {
+    ghost use Rattle.paraid_txn.specs.Stores.{disks_of, epoch_of, named_of as named_by, rack_of};
+
+    /// Takes over a rack and ends a commit that was interrupted: at Ok nothing is loose, all live
+    /// gates are closed and the meta that stood is at place 1.
+    ///
+    /// `side` is the log disk that stands, `gate_open` tells its gate, `meta` is its meta, and
+    /// `batch` holds its targets with their blocks, none where the gate is closed. A single lost
+    /// disk goes out; where a second one is down it ends, names both and gives the rack back.
+    pub fn resume(
+        rack: R,
+        side: DiskNo,
+        gate_open: bool,
+        batch: &Batch,
+        meta: &Meta,
+    ) -> Result<Store<R>, ResumeRefused<R>>
+        requires { CanResume (R.slot_count rack) (R.slot rack) side gate_open batch.now meta.now }
+        ensures disks { IfOk result (λ store. disks_of store
+            ≡ meta.now.setup.geometry.disks) }
+        ensures epoch { IfOk result (λ store. epoch_of store ≡ meta.now.epoch) }
+        ensures named { IfOk result (λ store. named_by store ≡ named_of meta.now.out) }
+        ensures slots { IfOk result (λ store. R.slot_count (rack_of store) ≡ R.slot_count rack) }
+        ensures powers { IfOk result (λ store. IsSpared (R.slot rack) (R.slot (rack_of store))) }
+        ensures synced { IfOk result (λ store. AreDry (R.slot rack) (R.slot (rack_of store))) }
+        ensures each { IfOk result (λ store. AreFailedOrWell (R.slot rack)
+            (R.slot (rack_of store))) }
+        ensures calls { IfOk result (λ store. Ran (R.told rack) (R.told (rack_of store))
+            (EachCall (Uses meta.now batch.now))) }
+        ensures two { IfErr result (λ refused. IsTwoBeside
+            (IsOut (λ e. (R.slot rack e).power) meta.now.setup.geometry.disks
+            (named_of meta.now.out) (named_of meta.now.out))
+            (R.slot rack) (R.slot refused.rack) refused.two) }
+        ensures refused_powers { IfErr result (λ refused. IsSpared (R.slot rack)
+            (R.slot refused.rack)) }
+        ensures refused_each { IfErr result (λ refused. AreFailedOrWell (R.slot rack)
+            (R.slot refused.rack)) }
+        ensures refused_calls { IfErr result (λ refused. Ran (R.told rack) (R.told refused.rack)
+            (EachCall (Uses meta.now batch.now))) }
+        ensures any_moment { IfOk result (λ store. IsResume (R.told rack)
+            (R.told (rack_of store)) side (heard gate_open meta.now batch.now)) }
+        ensures refused { IfErr result (λ refused. IsResume (R.told rack)
+            (R.told refused.rack) side (heard gate_open meta.now batch.now)) }
+        ensures settled { IfOk result (λ store. Settles (R.told rack) (R.told (rack_of store))
+            side (heard gate_open meta.now batch.now)) }
+    {
+        let mut store = Store::adopt(rack, meta);
+        let absent = find_absent(&store.rack, store.disks);
+        let mut losses = Losses {
+            down: out_first(absent, store.named, store.named),
+            lost: None,
+        };
+        let ended = end_commit(&mut store.rack, &mut losses, side, gate_open, meta, batch);
+        if let Err(two) = ended {
+            return Err(ResumeRefused {
+                two,
+                rack: store.close(),
+            });
+        }
+        Ok(store)
+    }
+}

@@ -1,0 +1,89 @@
+-- Reads in which two disks are down.
+use Rattle.std.specs.Prelude.{◌≡◌, ◌≢◌, ℕ, true, Option, Some, None}
+use Rattle.std.proofs.Common.{refl, sym, ◌∙◌, ap, subst, arith, inl, inr}
+use Rattle.std.proofs.lemmas.Bool.{false≢true}
+use Rattle.paraid_base.specs.declared.fault.Two.{Two}
+use Rattle.paraid_base.specs.Told.{HasRisen}
+use Rattle.paraid_rack.specs.Disks.{is_present}
+use Rattle.paraid_rack.specs.Slots.{Slot}
+use Rattle.paraid_rack.specs.Told.{Ran}
+use Rattle.paraid_rack.specs.Trail.{Trail}
+use Rattle.paraid_txn.specs.declared.store.Store.{Store}
+use Rattle.paraid_txn.specs.Losses.{AreDry, IsSpared}
+use Rattle.paraid_txn.specs.Stores.{rack_of}
+use Rattle.paraid_image.proofs.StepLemmas.{decide_some}
+use Rattle.paraid_view.specs.Reads.{AreLeft, AreReads, HaveLostTwo, HaveRead}
+use Rattle.paraid_view.proofs.ReadLemmas.{left_same, ran_then}
+
+abbrev pub two_of : ℕ → ℕ → Two
+two_of first second = record { first = first; second = second }
+
+-- a disk that is there is as it was
+pub left_there : (lost : Option ℕ) (a b : ℕ → Slot) (d : ℕ) → AreLeft lost a b → is_present (b d).power ≡ true → b d ≡ a d
+left_there lost a b d left here = elim (decide_some lost d) [
+  | inr not ↦ left.others d not
+  | inl is ↦ absurd (false≢true (sym (ap is_present (left.failed d is).absent) ∙ here))
+]
+
+pub left_spared : (lost : Option ℕ) (a b : ℕ → Slot) → AreLeft lost a b → IsSpared a b
+left_spared lost a b left = record {
+  power = λ d here. ap (λ (s : Slot). s.power) (left_there lost a b d left here);
+  size = λ d here. ap (λ (s : Slot). s.size) (left_there lost a b d left here);
+  no_fall = λ d. elim (decide_some lost d) [
+    | inl is ↦ left.later d is
+    | inr not ↦ let e : (b d).faults ≡ (a d).faults = ap (λ (s : Slot). s.faults) (left.others d not) in omega arith
+  ];
+}
+
+pub spared_then : (a b c : ℕ → Slot) → IsSpared a b → IsSpared b c → IsSpared a c
+spared_then a b c first second = record {
+  power = λ d here. second.power d here ∙ first.power d (ap is_present (sym (second.power d here)) ∙ here);
+  size = λ d here. second.size d here ∙ first.size d (ap is_present (sym (second.power d here)) ∙ here);
+  no_fall = λ d. let p = first.no_fall d in let q = second.no_fall d in omega arith;
+}
+
+pub left_dry : (lost : Option ℕ) (a b : ℕ → Slot) → AreLeft lost a b → AreDry a b
+left_dry lost a b left = λ d here loose. inl (ap (λ (s : Slot). s.unsynced) (sym (left_there lost a b d left here)) ∙ loose)
+
+pub dry_then : (lost : Option ℕ) (a b c : ℕ → Slot) → AreDry a b → AreLeft lost b c → AreDry a c
+dry_then lost a b c dry left = λ d here loose.
+    let same = left_there lost b c d left here in
+    dry d (ap (λ (s : Slot). is_present s.power) (sym same) ∙ here) (ap (λ (s : Slot). s.unsynced) (sym same) ∙ loose)
+
+module _ {R : Type 0} {g : _} (count : R → ℕ) (slot : R → ℕ → Slot) (told : R → Option Trail) where
+  -- a disk was out, and another fails
+  pub two_beside : (n first e : ℕ) (out : Option ℕ) (a b : Store R g) → out ≡ Some first → first ≢ e → HaveRead count slot told n (Some e) a b
+      → HaveLostTwo count slot told n out (two_of first e) a b
+  two_beside n first e out a b is apart read = record {
+    slots = read.slots;
+    same = read.same;
+    down = record { first = inl is; apart = apart; second = (read.left.failed e refl).risen };
+    spared = left_spared (Some e) (slot (rack_of a)) (slot (rack_of b)) read.left;
+    dry = left_dry (Some e) (slot (rack_of a)) (slot (rack_of b)) read.left;
+    calls = read.calls;
+  }
+
+  -- one fails, and then another
+  pub two_lost : (n k first e : ℕ) (out : Option ℕ) (a b c : Store R g) → k ≡ n → first ≢ e → HaveRead count slot told n (Some first) a b → HaveRead count slot told k (Some e) b c
+      → HaveLostTwo count slot told n out (two_of first e) a c
+  two_lost n k first e out a b c is apart one two = record {
+    slots = two.slots ∙ one.slots;
+    same = record { disks = two.same.disks ∙ one.same.disks; epoch = two.same.epoch ∙ one.same.epoch; named = two.same.named ∙ one.same.named };
+    down = record {
+      first = inr (subst (λ (s : Slot). HasRisen (slot (rack_of a) first).faults s.faults) (sym (two.left.others first (λ z. let y : Some e ≡ Some first = z in let x : first ≡ e = cc in apart x))) (one.left.failed first refl).risen);
+      apart = apart;
+      second = subst (λ (s : Slot). HasRisen s.faults (slot (rack_of c) e).faults) (one.left.others e (λ z. let y : Some first ≡ Some e = z in let x : first ≡ e = cc in apart x)) (two.left.failed e refl).risen;
+    };
+    spared = spared_then (slot (rack_of a)) (slot (rack_of b)) (slot (rack_of c)) (left_spared (Some first) (slot (rack_of a)) (slot (rack_of b)) one.left) (left_spared (Some e) (slot (rack_of b)) (slot (rack_of c)) two.left);
+    dry = dry_then (Some e) (slot (rack_of a)) (slot (rack_of b)) (slot (rack_of c)) (left_dry (Some first) (slot (rack_of a)) (slot (rack_of b)) one.left) two.left;
+    calls = ran_then (told (rack_of a)) (told (rack_of b)) (told (rack_of c)) n one.calls (subst (λ (m : ℕ). Ran (told (rack_of b)) (told (rack_of c)) (AreReads m)) is two.calls);
+  }
+
+  -- one fails, and the rest is read without it
+  pub read_beside : (n k e : ℕ) (a b c : Store R g) → k ≡ n → HaveRead count slot told n (Some e) a b → HaveRead count slot told k None b c → HaveRead count slot told n (Some e) a c
+  read_beside n k e a b c is one two = record {
+    slots = two.slots ∙ one.slots;
+    same = record { disks = two.same.disks ∙ one.same.disks; epoch = two.same.epoch ∙ one.same.epoch; named = two.same.named ∙ one.same.named };
+    left = subst (AreLeft (Some e) (slot (rack_of a))) (sym (left_same (slot (rack_of b)) (slot (rack_of c)) two.left)) one.left;
+    calls = ran_then (told (rack_of a)) (told (rack_of b)) (told (rack_of c)) n one.calls (subst (λ (m : ℕ). Ran (told (rack_of b)) (told (rack_of c)) (AreReads m)) is two.calls);
+  }

@@ -1,0 +1,46 @@
+use Rattle.std.proofs.Common.{◌≡◌, ◌≢◌, ◌≤◌, ◌∙◌, Some, true, sym, ap, arith}
+use Rattle.paraid_base.specs.Regions.{disk_size}
+use Rattle.paraid_base.specs.Xor.{zeroed}
+use Rattle.paraid_image.specs.Spot.{is_hard}
+use Rattle.paraid_image.specs.Standing.{Contents}
+use Rattle.paraid_txn.specs.Stores.{rack_of}
+use Rattle.paraid_view.specs.Reads.{seen_by}
+use Rattle.paraid_view.proofs.ValueLemmas.{err_map, hard_powered, near_hard, near_soft, ok_map}
+use Rattle.paraid_view.proofs.cell.read_near.Goals as goal
+
+blank : Contents
+blank d p = zeroed
+
+pub read_laid-requires-clause-spinning : goal.read_laid-requires-clause-spinning
+read_laid-requires-clause-spinning g c =
+    let m = c.args.meta.now in
+    let hard : is_hard (seen_by m c.args.dirty.now c.args.out blank) c.args.r c.args.d ≡ true = sym (c.is_hard.ensures.value c.args.out blank) ∙ c.if-is_hard.true in
+    c.requires.ready.spins c.args.d (hard_powered (seen_by m c.args.dirty.now c.args.out blank) c.args.r c.args.d hard) (c.requires.near blank hard)
+
+pub read_laid-requires-clause-within : goal.read_laid-requires-clause-within
+read_laid-requires-clause-within g c =
+    let m = c.args.meta.now in
+    let hard : is_hard (seen_by m c.args.dirty.now c.args.out blank) c.args.r c.args.d ≡ true = sym (c.is_hard.ensures.value c.args.out blank) ∙ c.if-is_hard.true in
+    let large : disk_size m.setup.geometry ≤ (g.R.Rack.slot (rack_of c.args.store.now) c.args.d).size =
+    c.requires.ready.large c.args.d (hard_powered (seen_by m c.args.dirty.now c.args.out blank) c.args.r c.args.d hard) (c.requires.near blank hard) in
+    let k = c.hard_place.ensures.before_regions in omega arith
+
+pub returns-then-is_hard-clause-failed : goal.returns-then-is_hard-clause-failed
+returns-then-is_hard-clause-failed g c =
+    let m = c.args.meta.now in
+    let hard : is_hard (seen_by m c.args.dirty.now c.args.out blank) c.args.r c.args.d ≡ true = sym (c.is_hard.ensures.value c.args.out blank) ∙ c.if-is_hard.true in
+    err_map {Q = λ e. c.args.out ≢ Some e} c.read_laid.result (λ e is. λ out. c.requires.near blank hard (out ∙ ap Some is)) c.read_laid.ensures.failed
+
+pub returns-then-is_hard-clause-value : goal.returns-then-is_hard-clause-value
+returns-then-is_hard-clause-value g c =
+    ok_map c.read_laid.result (λ value. λ f shows some.
+    let m = c.args.meta.now in
+    value f shows some ∙ ap (f c.args.d) c.hard_place.ensures.value
+    ∙ sym (near_hard (seen_by m c.args.dirty.now c.args.out f) c.args.r c.args.d (sym (c.is_hard.ensures.value c.args.out f) ∙ c.if-is_hard.true))) c.read_laid.ensures.value
+
+pub returns-clause-value : goal.returns-clause-value
+returns-clause-value g c =
+    ok_map c.read_soft.result (λ value. λ f shows some.
+    let m = c.args.meta.now in
+    value f c.args.dirty.now shows some
+    ∙ sym (near_soft (seen_by m c.args.dirty.now c.args.out f) c.args.r c.args.d (sym (c.is_hard.ensures.value c.args.out f) ∙ c.if-is_hard.false))) c.read_soft.ensures.value

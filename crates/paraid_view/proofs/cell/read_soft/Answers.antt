@@ -1,0 +1,41 @@
+use Rattle.std.proofs.Common.{◌≡◌, ◌≢◌, ℕ, ◌≤◌, ◌∙◌, Some, sym, ap, arith, inl}
+use Rattle.std.proofs.lemmas.Bool.{false≢true}
+use Rattle.paraid_base.specs.Regions.{disk_size, soft_place_of}
+use Rattle.paraid_base.specs.Soft.{soft_disk, soft_stripe}
+use Rattle.paraid_txn.specs.Stores.{rack_of}
+use Rattle.paraid_image.specs.Value.{stripe_rest}
+use Rattle.paraid_view.specs.Reads.{seen_by}
+use Rattle.paraid_view.proofs.ValueLemmas.{ok_map, soft_out, soft_there}
+use Rattle.paraid_view.proofs.cell.read_soft.Goals as goal
+
+pub returns-then-is_at-clause-value : goal.returns-then-is_at-clause-value
+returns-then-is_at-clause-value g c =
+    ok_map c.read_rest.result (λ value. λ f table shows some.
+    let m = c.args.meta.now in
+    let cell = c.soft_of-stripe.ensures in
+    let out : c.args.out ≡ Some (soft_disk m.setup.geometry.disks m.gear c.args.r c.args.d) = c.is_at.ensures.0 c.if-is_at.true ∙ ap Some cell.disk in
+    value f shows some
+    ∙ ap (λ (s : ℕ). stripe_rest m.setup.geometry f m.gear s c.soft_of-stripe.result.1) cell.stripe
+    ∙ ap (λ (e : ℕ). stripe_rest m.setup.geometry f m.gear (soft_stripe m.setup.geometry.disks m.gear c.args.r c.args.d) e) cell.disk
+    ∙ sym (soft_out (seen_by m table c.args.out f) c.args.r c.args.d out)) c.read_rest.ensures.value
+
+pub read_laid-requires-clause-spinning : goal.read_laid-requires-clause-spinning
+read_laid-requires-clause-spinning g c =
+    c.requires.ready.spins c.soft_of-stripe.result.1 (inl c.soft_of-stripe.ensures.below) (λ e. false≢true (sym c.if-is_at.false ∙ c.is_at.ensures.1 e))
+
+pub read_laid-requires-clause-within : goal.read_laid-requires-clause-within
+read_laid-requires-clause-within g c =
+    let large : disk_size c.args.meta.now.setup.geometry ≤ (g.R.Rack.slot (rack_of c.args.store.now) c.soft_of-stripe.result.1).size =
+    c.requires.ready.large c.soft_of-stripe.result.1 (inl c.soft_of-stripe.ensures.below) (λ e. false≢true (sym c.if-is_at.false ∙ c.is_at.ensures.1 e)) in
+    let k = c.soft_place.ensures.in_size in omega arith
+
+pub returns-clause-value : goal.returns-clause-value
+returns-clause-value g c =
+    ok_map c.read_laid.result (λ value. λ f table shows some.
+    let m = c.args.meta.now in
+    let cell = c.soft_of-stripe.ensures in
+    let not : c.args.out ≢ Some (soft_disk m.setup.geometry.disks m.gear c.args.r c.args.d) = (λ e. false≢true (sym c.if-is_at.false ∙ c.is_at.ensures.1 (e ∙ ap Some (sym cell.disk)))) in
+    value f shows some
+    ∙ ap (f c.soft_of-stripe.result.1) (c.soft_place.ensures.value ∙ ap (soft_place_of m.setup.geometry m.gear) cell.stripe)
+    ∙ ap (λ (e : ℕ). f e (soft_place_of m.setup.geometry m.gear (soft_stripe m.setup.geometry.disks m.gear c.args.r c.args.d))) cell.disk
+    ∙ sym (soft_there (seen_by m table c.args.out f) c.args.r c.args.d not)) c.read_laid.ensures.value

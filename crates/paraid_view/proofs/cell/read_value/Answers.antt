@@ -1,0 +1,28 @@
+use Rattle.std.proofs.Common.{◌≡◌, ◌≢◌, ℕ, ◌∙◌, Some, true, sym, ap, Option}
+use Rattle.std.proofs.lemmas.Bool.{false≢true}
+use Rattle.paraid_image.specs.Spot.{is_hard}
+use Rattle.paraid_image.specs.Standing.{Contents}
+use Rattle.paraid_image.specs.Value.{far}
+use Rattle.paraid_view.specs.Reads.{seen_by}
+use Rattle.paraid_view.proofs.ValueLemmas.{ok_map, value_far, value_near}
+use Rattle.paraid_view.proofs.cell.read_value.Goals.{else-is_at-via-then-is_at+else-is_hard, else-is_at-via-else-is_at}
+use Rattle.paraid_view.proofs.cell.read_value.Goals as goal
+
+pub returns-then-is_hard-clause-value : goal.returns-then-is_hard-clause-value
+returns-then-is_hard-clause-value g c =
+    ok_map c.read_far.result (λ value. λ f shows some.
+    let m = c.args.meta.now in
+    let out : c.args.out ≡ Some c.args.d = c.is_at.ensures.0 c.if-is_at.true in
+    value f shows some ∙ ap (λ (o : Option ℕ). far (seen_by m c.args.dirty.now o f) c.args.r c.args.d) (sym out)
+    ∙ sym (value_far (seen_by m c.args.dirty.now c.args.out f) c.args.r c.args.d (sym (c.is_hard.ensures.value c.args.out f) ∙ c.if-is_hard.true) out)) c.read_far.ensures.value
+
+pub returns-clause-value : goal.returns-clause-value
+returns-clause-value g c =
+    ok_map c.read_near.result (λ value. λ f shows some.
+    value f shows some ∙ sym (value_near (seen_by c.args.meta.now c.args.dirty.now c.args.out f) c.args.r c.args.d (near f))) c.read_near.ensures.value
+  where
+    near : (f : Contents) → is_hard (seen_by c.args.meta.now c.args.dirty.now c.args.out f) c.args.r c.args.d ≡ true → c.args.out ≢ Some c.args.d
+    near f hard out = elim c.else-is_at.branch [
+      | else-is_at-via-then-is_at+else-is_hard w ↦ false≢true (sym w.if-is_hard.false ∙ w.is_hard.ensures.value c.args.out f ∙ hard)
+      | else-is_at-via-else-is_at w ↦ false≢true (sym w.if-is_at.false ∙ c.is_at.ensures.1 out)
+    ]

@@ -1,0 +1,32 @@
+use Rattle.std.proofs.Common.{◌++◌, ◌≡◌, ℕ, ◌+◌, ◌∙◌, None, sym, subst}
+use Rattle.paraid_base.proofs.SumsLemmas.{others_none}
+use Rattle.paraid_base.specs.Sums.{without, xor_upto}
+use Rattle.paraid_txn.specs.Stores.{disks_of}
+use Rattle.paraid_view.proofs.ReadLemmas.{read_failed, read_none, read_then, shows_after, told_before}
+use Rattle.paraid_view.proofs.laid.read_rest.Goals as goal
+
+pub loop-disk-init : goal.loop-disk-init
+loop-disk-init g c = record {
+  read = read_none g.R.Rack.slot_count g.R.Rack.slot g.R.Rack.told (disks_of c.args.store.now) c.args.store.now;
+  value = λ f shows some. c.zero.ensures ∙ others_none _ _;
+}
+
+pub returns-in_err-add_block-clause-read : goal.returns-in_err-add_block-clause-read
+returns-in_err-add_block-clause-read g c =
+    let before = c.loop-disk.invariant in
+    read_failed g.R.Rack.slot_count g.R.Rack.slot g.R.Rack.told (disks_of c.args.store.now) (disks_of c.loop-disk.store) _ _ c.args.store.now c.loop-disk.store c.add_block.new.store before.read.same.disks
+    c.from_residual.ensures.1 before.read c.in_err-add_block.ensures.read
+
+pub loop-disk-preserved : goal.loop-disk-preserved
+loop-disk-preserved g c =
+    let before = c.loop-disk.invariant in
+    let call = c.in_ok-add_block.ensures in
+    record {
+      read = read_then g.R.Rack.slot_count g.R.Rack.slot g.R.Rack.told (disks_of c.args.store.now) (disks_of c.loop-disk.store) None c.args.store.now c.loop-disk.store c.add_block.new.store before.read.same.disks before.read call.read;
+      value = λ f shows some.
+          let place = c.soft_place-place.ensures.value in
+          subst (λ (p : ℕ). c.add_block.new.sum ≡ xor_upto (without (λ e. f e p) c.args.skipped) (c.loop-disk.disk + 1)) place
+          (call.value f (shows_after (disks_of c.args.store.now) _ _ (c.args.batch.now ++ c.args.draft.now) f before.read.calls shows) some
+          (subst (λ (p : ℕ). c.loop-disk.into ≡ xor_upto (without (λ e. f e p) c.args.skipped) c.loop-disk.disk) (sym place)
+          (before.value f shows (told_before _ _ _ call.read.calls some))));
+    }

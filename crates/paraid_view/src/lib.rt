@@ -1,0 +1,13 @@
+//! What a cell is worth: its value with all that is staged laid over, wherever it lives and
+//! whichever one disk is out.
+#![tactic(auto)]
+
+mod cell;
+mod draft;
+mod laid;
+mod spot;
+
+pub use cell::{read_cell, read_value};
+pub use draft::Draft;
+pub use laid::{read_laid, read_rest};
+pub use spot::{Spot, place_of};

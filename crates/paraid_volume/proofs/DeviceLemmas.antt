@@ -1,0 +1,147 @@
+-- Several calls of a device, one after the other.
+use Rattle.std.proofs.Common.{ap}
+use Rattle.std.proofs.Common.{◌≡◌, ℕ, ◌++◌, ◌∷◌, [], Option, Some, None, refl, sym, ◌∙◌, arith, subst, append_assoc}
+use Rattle.std.specs.Prelude.{Bool, IsTrue, IsSome, IsNone}
+use Rattle.std.proofs.lemmas.Bool.{false≢true}
+use Rattle.std.proofs.lemmas.List.{append-nil}
+use Rattle.paraid_base.specs.declared.event.Answer.{Answer}
+use Rattle.paraid_base.specs.declared.event.Event.{Event}
+use Rattle.paraid_base.specs.declared.event.Event.TheVariants.{Read as ReadEvent, Write as WriteEvent, Flush as FlushEvent, Tick, Up, Down, Fail, Replace, State, Energy, Bad}
+use Rattle.paraid_base.specs.BlockAnswers.{Answers}
+use Rattle.paraid_base.specs.declared.event.Answer.TheVariants.{Wrote}
+use Rattle.paraid_base.specs.declared.pairs.Pairs.{Pairs}
+use Rattle.paraid_base.specs.History.{Entry, History}
+use Rattle.paraid_base.specs.Pairs.{pairs_of}
+use Rattle.paraid_base.specs.declared.fault.Halt.{Halt}
+use Rattle.paraid_base.specs.Told.{HasRisen}
+use Rattle.paraid_base.proofs.ToldLemmas.{HasRisen-later, HasRisen-sooner}
+use Rattle.paraid_volume.specs.Device.{Went, Holds, Since, entry_in, writes_of, AreAll, Grown, IsRead, IsWrite, IsReadOrWrite}
+
+pub Went-none : {S : Type 0} (count halts : S → ℕ) (halted : S → Option Halt) (tells : S → Bool) (a : S) → Went count halts halted tells a a
+Went-none count halts halted tells a = record {
+  size = refl;
+  later = omega arith;
+  cause = both (halted a);
+  again = λ s. refl;
+  told = λ t. t;
+}
+  where
+    both : (o : Option Halt) → IsNone o → IsSome o → HasRisen (halts a) (halts a)
+    both None none some = absurd (false≢true some)
+    both (Some halt) none some = cc
+
+pub Went-then : {S : Type 0} (count halts : S → ℕ) (halted : S → Option Halt) (tells : S → Bool) (a b c : S)
+    → Went count halts halted tells a b → Went count halts halted tells b c → Went count halts halted tells a c
+Went-then count halts halted tells a b c f g = record {
+  size = g.size ∙ f.size;
+  later = let l = f.later in let m = g.later in omega (arith, l, m);
+  cause = cause (halted b) refl;
+  again = λ some. let is = f.again some in let still : IsSome (halted b) = subst (λ (o : Option Halt). IsSome o) (sym is) some in g.again still ∙ is;
+  told = λ t. f.told (g.told t);
+}
+  where
+    cause : (o : Option Halt) → halted b ≡ o → IsNone (halted a) → IsSome (halted c) → HasRisen (halts a) (halts c)
+    cause None is none some = HasRisen-sooner _ _ _ f.later (g.cause (subst (λ (o : Option Halt). IsNone o) (sym is) refl) some)
+    cause (Some halt) is none some = HasRisen-later _ _ _ (f.cause none (subst (λ (o : Option Halt). IsSome o) (sym is) refl)) g.later
+
+AreAll-append : (kind : Event → Type 0) (a b : Answers) → AreAll kind a → AreAll kind b → AreAll kind (a ++ b)
+AreAll-append kind [] b f g = g
+AreAll-append kind (e ∷ a) b f g = (f.0, AreAll-append kind a b f.1 g)
+
+AreAll-weaker : (kind other : Event → Type 0) → ((e : Event) → kind e → other e) → (a : Answers) → AreAll kind a → AreAll other a
+AreAll-weaker kind other into [] f = tt
+AreAll-weaker kind other into (e ∷ a) f = (into e.0 f.0, AreAll-weaker kind other into a f.1)
+
+-- no call was made
+pub Grown-none : {S : Type 0} (kept : S → Answers → Type 0) (tells : S → Bool) (kind : Event → Type 0) (a : S) → Grown kept tells kind a a
+Grown-none kept tells kind a = record { grows = λ events k t. record { more = []; kept = subst (kept a) (sym (append-nil events)) k; all = tt } }
+
+-- one call was made
+pub Grown-one : {S : Type 0} (kept : S → Answers → Type 0) (tells : S → Bool) (kind : Event → Type 0) (a b : S) (e : Event) (answer : Answer)
+    → ((events : Answers) → kept a events → IsTrue (tells b) → kept b (events ++ (e, answer) ∷ [])) → kind e → Grown kept tells kind a b
+Grown-one kept tells kind a b e answer keeps is = record { grows = λ events k t. record { more = (e, answer) ∷ []; kept = keeps events k t; all = (is, tt) } }
+
+-- some calls were made, and then others
+pub Grown-then : {S : Type 0} (kept : S → Answers → Type 0) (tells : S → Bool) (kind : Event → Type 0) (a b c : S) → (IsTrue (tells c) → IsTrue (tells b))
+    → Grown kept tells kind a b → Grown kept tells kind b c → Grown kept tells kind a c
+Grown-then kept tells kind a b c told f g = record {
+  grows = λ events k t.
+      let first = f.grows events k (told t) in
+      let second = g.grows (events ++ first.more) first.kept t in
+      record {
+        more = first.more ++ second.more;
+        kept = subst (kept c) (append_assoc events first.more second.more) second.kept;
+        all = AreAll-append kind first.more second.more first.all second.all;
+      };
+}
+
+pub Grown-weaker : {S : Type 0} (kept : S → Answers → Type 0) (tells : S → Bool) (kind other : Event → Type 0) (a b : S) → ((e : Event) → kind e → other e)
+    → Grown kept tells kind a b → Grown kept tells other a b
+Grown-weaker kept tells kind other a b into f = record {
+  grows = λ events k t.
+      let first = f.grows events k t in
+      record { more = first.more; kept = first.kept; all = AreAll-weaker kind other into first.more first.all };
+}
+
+pub read_either : (e : Event) → IsRead e → IsReadOrWrite e
+read_either (ReadEvent block) is = tt
+read_either (WriteEvent pairs) is = tt
+read_either FlushEvent is = is
+read_either Tick is = is
+read_either Up is = is
+read_either Down is = is
+read_either (Fail disk) is = is
+read_either (Replace disk) is = is
+read_either State is = is
+read_either Energy is = is
+read_either Bad is = is
+
+pub write_either : (e : Event) → IsWrite e → IsReadOrWrite e
+write_either (ReadEvent block) is = tt
+write_either (WriteEvent pairs) is = tt
+write_either FlushEvent is = is
+write_either Tick is = is
+write_either Up is = is
+write_either Down is = is
+write_either (Fail disk) is = is
+write_either (Replace disk) is = is
+write_either State is = is
+write_either Energy is = is
+write_either Bad is = is
+
+writes_of-append : (a b : Answers) → writes_of (a ++ b) ≡ writes_of a ++ writes_of b
+writes_of-append [] b = refl
+writes_of-append (e ∷ a) b = ap (λ (x : History). entry_in e.0 e.1 ++ x) (writes_of-append a b) ∙ sym (append_assoc (entry_in e.0 e.1) (writes_of a) (writes_of b))
+
+pub holds_stands : {S : Type 0} (stands : S → History → Type 0) (kept : S → Answers → Type 0) (from : Since) (a : S) (h : History) → Holds stands kept from a h → stands a h
+holds_stands stands kept None a h holds = holds
+holds_stands stands kept (Some from) a h holds = holds.0
+
+-- a call that is no write was made
+pub holds_same : {S : Type 0} (stands : S → History → Type 0) (kept : S → Answers → Type 0) (from : Since) (a b : S) (h : History) (e : Event) (answer : Answer)
+    → (stands a h → stands b h) → ((events : Answers) → kept a events → kept b (events ++ (e, answer) ∷ [])) → entry_in e answer ≡ [] → Holds stands kept from a h → Holds stands kept from b h
+holds_same stands kept None a b h e answer now keeps none holds = now holds
+holds_same stands kept (Some from) a b h e answer now keeps none holds = (
+  now holds.0,
+  holds.1 ++ (e, answer) ∷ [],
+  subst (kept b) (append_assoc from.1 holds.1 ((e, answer) ∷ [])) (keeps (from.1 ++ holds.1) holds.2),
+  holds.3 ∙ ap (λ (x : History). from.0 ++ x) (sym same),
+)
+  where
+    same : writes_of (holds.1 ++ (e, answer) ∷ []) ≡ writes_of holds.1
+    same = writes_of-append holds.1 ((e, answer) ∷ []) ∙ ap (λ (x : History). writes_of holds.1 ++ (x ++ [])) none ∙ append-nil (writes_of holds.1)
+
+-- a write was accepted
+pub holds_write : {S : Type 0} (stands : S → History → Type 0) (kept : S → Answers → Type 0) (from : Since) (a b : S) (h : History) (pairs : Pairs) (entry : Entry) (number : ℕ)
+    → (stands a h → stands b (h ++ entry ∷ [])) → ((events : Answers) → kept a events → kept b (events ++ (WriteEvent pairs, Wrote number) ∷ [])) → pairs_of pairs ≡ entry
+    → Holds stands kept from a h → Holds stands kept from b (h ++ entry ∷ [])
+holds_write stands kept None a b h pairs entry number now keeps is holds = now holds
+holds_write stands kept (Some from) a b h pairs entry number now keeps is holds = (
+  now holds.0,
+  holds.1 ++ (WriteEvent pairs, Wrote number) ∷ [],
+  subst (kept b) (append_assoc from.1 holds.1 ((WriteEvent pairs, Wrote number) ∷ [])) (keeps (from.1 ++ holds.1) holds.2),
+  ap (λ (x : History). x ++ entry ∷ []) holds.3 ∙ append_assoc from.0 (writes_of holds.1) (entry ∷ []) ∙ ap (λ (x : History). from.0 ++ x) (sym more),
+)
+  where
+    more : writes_of (holds.1 ++ (WriteEvent pairs, Wrote number) ∷ []) ≡ writes_of holds.1 ++ entry ∷ []
+    more = writes_of-append holds.1 ((WriteEvent pairs, Wrote number) ∷ []) ∙ ap (λ (x : Entry). writes_of holds.1 ++ x ∷ []) is

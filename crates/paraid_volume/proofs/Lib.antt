@@ -1,0 +1,14 @@
+pub mod Steps
+pub mod DeviceLemmas
+pub mod ExtentLemmas
+pub mod ShowsLemmas
+pub mod LaidLemmas
+pub mod ChangeLemmas
+pub mod ClearLemmas
+pub mod CreateLemmas
+pub mod LivesLemmas
+pub mod LivedLemmas
+pub mod StateLemmas
+pub mod RefusalLemmas
+pub mod IsolationLemmas
+pub mod NameLemmas

@@ -1,0 +1,27 @@
+use Rattle.std.proofs.Common.{◌≡◌, ◌∙◌, ap, subst, Err, Result, ℕ}
+use Rattle.paraid_base.specs.declared.fault.BlockFault.{BlockFault}
+use Rattle.paraid_base.specs.BlockAnswers.{RefusesMany}
+use Rattle.paraid_base.specs.Pairs.{pairs_of}
+use Rattle.paraid_volume.proofs.LaidLemmas.{not_missing}
+use Rattle.paraid_volume.proofs.DeviceLemmas.{Grown-one}
+use Rattle.std.proofs.Common.{refl}
+use Rattle.paraid_volume.proofs.DeviceLemmas.{holds_write}
+use Rattle.paraid_volume.proofs.device.write_table.Goals as goal
+
+pub unreachable-requires : goal.unreachable-requires
+unreachable-requires g c =
+    let count = g.B.Blocks.block_count c.args.device.now in
+    let entry = pairs_of c.args.pairs.now in
+    let is : c.write_many.result ≡ Err (BlockFault.NoBlock c.in-Err-NoBlock.field-0-0) = c.in-Err-NoBlock.is ∙ ap Err c.in-Err-NoBlock.field-0-is in
+    not_missing count entry c.in-Err-NoBlock.field-0-0 c.requires.size c.requires.below
+    (subst (λ (r : Result ℕ BlockFault). RefusesMany count entry r) is c.write_many.ensures.missing)
+
+pub returns-in-Ok-clause-grown : goal.returns-in-Ok-clause-grown
+returns-in-Ok-clause-grown g c = Grown-one _ _ _ _ _ _ _ c.write_many.ensures.events tt
+
+pub returns-in-Err-Halt-clause-grown : goal.returns-in-Err-Halt-clause-grown
+returns-in-Err-Halt-clause-grown g c = Grown-one _ _ _ _ _ _ _ c.write_many.ensures.events tt
+
+pub returns-in-Ok-clause-adds : goal.returns-in-Ok-clause-adds
+returns-in-Ok-clause-adds g c = λ from h stands tells.
+    holds_write g.B.Blocks.stands g.B.Blocks.kept from c.args.device.now c.write_many.new.self h c.args.pairs.now (pairs_of c.args.pairs.now) c.in-Ok.field-0 (λ s. (c.in-Ok.ensures.history h s tells).1) (λ events k. c.in-Ok.ensures.events events k tells) refl stands

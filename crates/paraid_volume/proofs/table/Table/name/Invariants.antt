@@ -1,0 +1,7 @@
+use Rattle.std.proofs.Common.{◌≡◌, ℕ, ◌<◌, length, slice_index}
+use Rattle.paraid_volume.specs.TableBlocks.{in_table}
+use Rattle.paraid_volume.specs.Tables.{name_in}
+use Rattle.paraid_volume.proofs.table.Table.name.Given as goal
+
+abbrev pub invariant-loop-at : goal.invariant-loop-at
+invariant-loop-at l = (length l.text ≡ 16) × ((k : ℕ) → k < l.at → slice_index l.text k ≡ name_in (in_table l.self) l.id k)

@@ -1,0 +1,11 @@
+pub mod Names
+pub mod Tables
+pub mod TableBlocks
+pub mod Device
+pub mod NameValues
+pub mod Faults
+pub mod States
+pub mod Laid
+pub mod Values
+pub mod Lives
+pub mod Isolation

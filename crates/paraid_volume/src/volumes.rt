@@ -1,0 +1,454 @@
+//! Named volumes.
+ghost use Rattle.std.specs.Prelude.{◌≡◌, ◌≤◌, ◌<◌, ◌^◌};
+ghost use Rattle.paraid_volume.specs.TableBlocks.{in_table};
+ghost use Rattle.paraid_volume.specs.Tables.{extent_count as count_of, extent_size as size_of, IsTable};
+
+use crate::device::{make, read_table, write_table};
+use crate::fault::{VolFault, VolRefused};
+use crate::name::Name;
+use crate::size::{extent_count, extent_size};
+use crate::table::Table;
+use paraid_base::{Block, BlockFault, BlockNo, Blocks, Halt};
+
+/// Named volumes on a device of at least seven blocks. It takes no memory.
+///
+/// After a halt of the device each call gives the same halt.
+#[derive(Drop)]
+pub struct Volumes<B: Blocks> {
+    blocks: B,
+    table: Table,
+    size: u32,
+    extents: u32,
+    halt: Option<Halt>,
+    ghost large: { 7 ≤ B.block_count blocks },
+    ghost fits: { B.block_count blocks < 2 ^ 32 },
+    ghost sized: { size ≡ size_of (B.block_count blocks) },
+    ghost counted: { extents ≡ count_of (B.block_count blocks) },
+    ghost valid: { IsTable (B.block_count blocks) (in_table table) },
+    ghost halted: { B.halted blocks ≡ halt },
+}
+
+impl<B: Blocks> Volumes<B> {
+    ghost use Rattle.std.specs.Prelude.{ℕ, ◌+◌, ◌*◌, ◌++◌, ◌∷◌, [], length, IsTrue, IfOk, IfErr, IfSome, IfNone, OnOk, OnErr, Option, None};
+    ghost use Rattle.paraid_base.specs.declared.event.Answer.TheVariants.{Flushed as FlushedAnswer};
+    ghost use Rattle.paraid_base.specs.declared.event.Event.TheVariants.{Flush as FlushEvent};
+    ghost use Rattle.paraid_base.specs.BlockAnswers.{Answers};
+    ghost use Rattle.paraid_base.specs.History.{History, held};
+    ghost use Rattle.paraid_volume.specs.Device.{Went, Holds, Since, Grown, IsRead, IsWrite, IsFlush, IsReadOrWrite};
+    ghost use Rattle.paraid_volume.specs.Faults.{IsPlaceFault, IsAdoptFault, IsInitFault, IsIdFault, IsCreateFault, IsLeastFree, IsHalt, IsNew, IsServed, vol_halt_in};
+    ghost use Rattle.paraid_volume.specs.States.{State, Shows, Adds, Begins, Makes, IsPlace, created, deleted, written};
+    ghost use Rattle.paraid_volume.specs.Tables.{IsLive, owned, owner_in};
+    ghost use Rattle.paraid_volume.specs.Lives.{Lived, VolLog, create as CreateCall, delete as DeleteCall, read as ReadCall, write as WriteCall, flush as FlushCall, made as Made, removed as Removed, value as Gave, wrote as Wrote, flushed as Flushed, refused as Refused};
+    ghost use Rattle.paraid_volume.specs.NameValues.{IsNameOf, letter_of};
+    ghost use Rattle.paraid_volume.specs.Values.{device_of, halted_of, table_of, StandsFor, KeepsRead, KeepsWrite};
+
+    /// Takes a device that holds a table. It only reads.
+    pub fn adopt(blocks: B) -> Result<Volumes<B>, VolRefused<B>>
+        ensures refused { IfErr result (λ refused. IsAdoptFault (B.block_count blocks)
+            (B.halted refused.blocks)
+            ((h : History) → B.stands blocks h → IsTrue (B.tells refused.blocks)
+            → IsTable (B.block_count blocks) (held h) → ⊥) refused.fault) }
+        ensures went { IfOk result (λ volumes.
+            Went B.block_count B.halts B.halted B.tells blocks (device_of volumes)) }
+        ensures went_refused { IfErr result (λ refused.
+            Went B.block_count B.halts B.halted B.tells blocks refused.blocks) }
+        ensures grown { IfOk result (λ volumes.
+            Grown B.kept B.tells IsRead blocks (device_of volumes)) }
+        ensures grown_refused { IfErr result (λ refused.
+            Grown B.kept B.tells IsRead blocks refused.blocks) }
+        ensures ok { IfOk result (λ volumes. halted_of volumes ≡ None) }
+        ensures stands { IfOk result (λ volumes. (from : Since) (h : History) → Holds B.stands B.kept from blocks h
+            → IsTrue (B.tells (device_of volumes)) → StandsFor (Holds B.stands B.kept from) volumes h) }
+        ensures lived { IfOk result (λ volumes. (from : Since) (h : History) → Holds B.stands B.kept from blocks h
+            → IsTrue (B.tells (device_of volumes))
+            → Lived (StandsFor (Holds B.stands B.kept from) volumes) (B.block_count blocks) (length h) []) }
+    {
+        let mut blocks = blocks;
+        let count = blocks.blocks();
+        if count < 7 {
+            let fault = VolFault::Small { blocks: count };
+            return Err(VolRefused { fault, blocks });
+        }
+        let mut table = Table::zero();
+        if let Err(halt) = read_table(&mut blocks, &mut table) {
+            let fault = VolFault::Halt(halt);
+            return Err(VolRefused { fault, blocks });
+        }
+        if !table.is_table(count) {
+            let fault = VolFault::NotVolumes;
+            return Err(VolRefused { fault, blocks });
+        }
+        Ok(Volumes {
+            blocks,
+            table,
+            size: extent_size(count),
+            extents: extent_count(count),
+            halt: None,
+        })
+    }
+
+    /// Makes a device hold an empty table, by one write. It refuses one that holds a table.
+    pub fn init(blocks: B) -> Result<Volumes<B>, VolRefused<B>>
+        ensures refused { IfErr result (λ refused. IsInitFault (B.block_count blocks)
+            (B.halted refused.blocks)
+            ((h : History) → B.stands blocks h → IsTrue (B.tells refused.blocks)
+            → IsTable (B.block_count blocks) (held h)) refused.fault) }
+        ensures taken { IfOk result (λ volumes. (h : History) → B.stands blocks h
+            → IsTrue (B.tells (device_of volumes)) → IsTable (B.block_count blocks) (held h) → ⊥) }
+        ensures went { IfOk result (λ volumes.
+            Went B.block_count B.halts B.halted B.tells blocks (device_of volumes)) }
+        ensures went_refused { IfErr result (λ refused.
+            Went B.block_count B.halts B.halted B.tells blocks refused.blocks) }
+        ensures grown { IfOk result (λ volumes.
+            Grown B.kept B.tells IsReadOrWrite blocks (device_of volumes)) }
+        ensures grown_refused { IfErr result (λ refused.
+            Grown B.kept B.tells IsReadOrWrite blocks refused.blocks) }
+        ensures ok { IfOk result (λ volumes. halted_of volumes ≡ None) }
+        ensures stands { IfOk result (λ volumes. (from : Since) (h : History) → Holds B.stands B.kept from blocks h
+            → IsTrue (B.tells (device_of volumes))
+            → Begins (StandsFor (Holds B.stands B.kept from) volumes) (B.block_count blocks) h) }
+        ensures lived { IfOk result (λ volumes. (from : Since) (h : History) → Holds B.stands B.kept from blocks h
+            → IsTrue (B.tells (device_of volumes))
+            → Lived (StandsFor (Holds B.stands B.kept from) volumes) (B.block_count blocks) (length h + 1) []) }
+    {
+        let mut blocks = blocks;
+        let count = blocks.blocks();
+        if count < 7 {
+            let fault = VolFault::Small { blocks: count };
+            return Err(VolRefused { fault, blocks });
+        }
+        let mut table = Table::zero();
+        if let Err(halt) = read_table(&mut blocks, &mut table) {
+            let fault = VolFault::Halt(halt);
+            return Err(VolRefused { fault, blocks });
+        }
+        if table.is_table(count) {
+            let fault = VolFault::Already;
+            return Err(VolRefused { fault, blocks });
+        }
+        let table = Table::empty(count);
+        if let Err(halt) = write_table(&mut blocks, &table.whole()) {
+            let fault = VolFault::Halt(halt);
+            return Err(VolRefused { fault, blocks });
+        }
+        Ok(Volumes {
+            blocks,
+            table,
+            size: extent_size(count),
+            extents: extent_count(count),
+            halt: None,
+        })
+    }
+
+    /// Gives the device back.
+    pub fn finish(self) -> B
+        ensures { result ≡ device_of self }
+    {
+        self.blocks
+    }
+
+    /// The number of free extents.
+    pub fn free(&self) -> u32
+        ensures { result ≡ owned (owner_in (table_of self.now)) 0
+            (count_of (B.block_count (device_of self.now))) }
+    {
+        self.table.owned(0, self.extents)
+    }
+
+    // Where a block of a volume lies.
+    fn place(&self, id: u8, block: u32) -> Result<BlockNo, VolFault>
+        ensures fault { IfErr result (IsPlaceFault (B.block_count (device_of self.now))
+            (table_of self.now) (halted_of self.now) id block) }
+        ensures halt { vol_halt_in result ≡ halted_of self.now }
+        ensures ok { IfOk result (IsPlace (B.block_count (device_of self.now)) (table_of self.now)
+            id block) }
+        ensures below { IfOk result (λ place. place < B.block_count (device_of self.now)) }
+    {
+        if let Some(halt) = self.halt {
+            return Err(VolFault::Halt(halt));
+        }
+        if !self.table.is_live(id) {
+            return Err(VolFault::NoVolume { id });
+        }
+        match self.table.extent(id, block / self.size, self.extents) {
+            None => Err(VolFault::NoBlock { block }),
+            Some(extent) => Ok(6 + extent * self.size + block % self.size),
+        }
+    }
+
+    /// Reads a block of a volume. After a refusal `into` holds any bytes.
+    pub fn read(&mut self, id: u8, block: u32, into: &mut Block) -> Result<(), VolFault>
+        ensures fault { IfErr result (IsPlaceFault (B.block_count (device_of self.old))
+            (table_of self.old) (halted_of self.new) id block) }
+        ensures served { OnOk result (IsServed (B.block_count (device_of self.old))
+            (table_of self.old) id block) }
+        ensures halt { halted_of self.new ≡ vol_halt_in result }
+        ensures went { Went B.block_count B.halts B.halted B.tells (device_of self.old)
+            (device_of self.new) }
+        ensures grown { Grown B.kept B.tells IsRead (device_of self.old) (device_of self.new) }
+        ensures table { table_of self.new ≡ table_of self.old }
+        ensures stands { halted_of self.new ≡ None → (from : Since) (h : History) → StandsFor (Holds B.stands B.kept from) self.old h
+            → IsTrue (B.tells (device_of self.new)) → StandsFor (Holds B.stands B.kept from) self.new h }
+        ensures value { OnOk result ((h : History) (s : State) → StandsFor B.stands self.old h
+            → Shows (B.block_count (device_of self.old)) (held h) s
+            → IsTrue (B.tells (device_of self.new)) → into.new ≡ s.block id block) }
+        ensures event { OnOk result ((events : Answers) → B.kept (device_of self.old) events
+            → IsTrue (B.tells (device_of self.new))
+            → KeepsRead (B.kept (device_of self.new)) events (B.block_count (device_of self.old))
+            (table_of self.old) id block into.new) }
+        ensures lived { OnOk result ((from : Since) (start : ℕ) (log : VolLog)
+            → Lived (StandsFor (Holds B.stands B.kept from) self.old) (B.block_count (device_of self.old)) start log
+            → IsTrue (B.tells (device_of self.new))
+            → Lived (StandsFor (Holds B.stands B.kept from) self.new) (B.block_count (device_of self.old)) start
+            (log ++ (ReadCall id block, Gave into.new) ∷ [])) }
+        ensures lived_refused { IfErr result (λ fault. halted_of self.new ≡ None → (from : Since) (start : ℕ)
+            (log : VolLog)
+            → Lived (StandsFor (Holds B.stands B.kept from) self.old) (B.block_count (device_of self.old)) start log
+            → IsTrue (B.tells (device_of self.new))
+            → Lived (StandsFor (Holds B.stands B.kept from) self.new) (B.block_count (device_of self.old)) start
+            (log ++ (ReadCall id block, Refused fault) ∷ [])) }
+    {
+        let place = self.place(id, block)?;
+        match self.blocks.read(place, into) {
+            Ok(()) => Ok(()),
+            Err(BlockFault::Halt(halt)) => {
+                self.halt = Some(halt);
+                Err(VolFault::Halt(halt))
+            }
+            Err(BlockFault::NoBlock { .. }) => unreachable!(),
+        }
+    }
+
+    /// Writes a block of a volume.
+    pub fn write(&mut self, id: u8, block: u32, bytes: &Block) -> Result<(), VolFault>
+        ensures fault { IfErr result (IsPlaceFault (B.block_count (device_of self.old))
+            (table_of self.old) (halted_of self.new) id block) }
+        ensures served { OnOk result (IsServed (B.block_count (device_of self.old))
+            (table_of self.old) id block) }
+        ensures halt { halted_of self.new ≡ vol_halt_in result }
+        ensures went { Went B.block_count B.halts B.halted B.tells (device_of self.old)
+            (device_of self.new) }
+        ensures grown { Grown B.kept B.tells IsWrite (device_of self.old) (device_of self.new) }
+        ensures table { table_of self.new ≡ table_of self.old }
+        ensures adds { OnOk result ((from : Since) (h : History) (s : State) → StandsFor (Holds B.stands B.kept from) self.old h
+            → Shows (B.block_count (device_of self.old)) (held h) s
+            → IsTrue (B.tells (device_of self.new))
+            → Adds (StandsFor (Holds B.stands B.kept from) self.new) (B.block_count (device_of self.old)) h
+            (written s id block bytes.now)) }
+        ensures stands { OnErr result (halted_of self.new ≡ None → (from : Since) (h : History)
+            → StandsFor (Holds B.stands B.kept from) self.old h → IsTrue (B.tells (device_of self.new))
+            → StandsFor (Holds B.stands B.kept from) self.new h) }
+        ensures event { OnOk result ((events : Answers) → B.kept (device_of self.old) events
+            → IsTrue (B.tells (device_of self.new))
+            → KeepsWrite (B.kept (device_of self.new)) events (B.block_count (device_of self.old))
+            (table_of self.old) id block bytes.now) }
+        ensures lived { OnOk result ((from : Since) (start : ℕ) (log : VolLog)
+            → Lived (StandsFor (Holds B.stands B.kept from) self.old) (B.block_count (device_of self.old)) start log
+            → IsTrue (B.tells (device_of self.new))
+            → Lived (StandsFor (Holds B.stands B.kept from) self.new) (B.block_count (device_of self.old)) start
+            (log ++ (WriteCall id block bytes.now, Wrote) ∷ [])) }
+        ensures lived_refused { IfErr result (λ fault. halted_of self.new ≡ None → (from : Since) (start : ℕ)
+            (log : VolLog)
+            → Lived (StandsFor (Holds B.stands B.kept from) self.old) (B.block_count (device_of self.old)) start log
+            → IsTrue (B.tells (device_of self.new))
+            → Lived (StandsFor (Holds B.stands B.kept from) self.new) (B.block_count (device_of self.old)) start
+            (log ++ (WriteCall id block bytes.now, Refused fault) ∷ [])) }
+    {
+        let place = self.place(id, block)?;
+        match self.blocks.write(place, bytes) {
+            Ok(_) => Ok(()),
+            Err(BlockFault::Halt(halt)) => {
+                self.halt = Some(halt);
+                Err(VolFault::Halt(halt))
+            }
+            Err(BlockFault::NoBlock { .. }) => unreachable!(),
+        }
+    }
+
+    /// Keeps all that was written: no stop takes it away. Ok gives the length of the history.
+    pub fn flush(&mut self) -> Result<u64, VolFault>
+        ensures fault { IfErr result (IsHalt (halted_of self.new)) }
+        ensures halt { halted_of self.new ≡ vol_halt_in result }
+        ensures went { Went B.block_count B.halts B.halted B.tells (device_of self.old)
+            (device_of self.new) }
+        ensures grown { Grown B.kept B.tells IsFlush (device_of self.old) (device_of self.new) }
+        ensures table { table_of self.new ≡ table_of self.old }
+        ensures stands { IfOk result (λ number. (from : Since) (h : History) → StandsFor (Holds B.stands B.kept from) self.old h
+            → IsTrue (B.tells (device_of self.new))
+            → (number ≡ length h) × StandsFor (Holds B.stands B.kept from) self.new h) }
+        ensures event { IfOk result (λ number. (events : Answers)
+            → B.kept (device_of self.old) events → IsTrue (B.tells (device_of self.new))
+            → B.kept (device_of self.new) (events ++ (FlushEvent, FlushedAnswer number) ∷ [])) }
+        ensures lived { IfOk result (λ number. (from : Since) (start : ℕ) (log : VolLog)
+            → Lived (StandsFor (Holds B.stands B.kept from) self.old) (B.block_count (device_of self.old)) start log
+            → IsTrue (B.tells (device_of self.new))
+            → Lived (StandsFor (Holds B.stands B.kept from) self.new) (B.block_count (device_of self.old)) start
+            (log ++ (FlushCall, Flushed number) ∷ [])) }
+    {
+        if let Some(halt) = self.halt {
+            return Err(VolFault::Halt(halt));
+        }
+        match self.blocks.flush() {
+            Ok(number) => Ok(number),
+            Err(halt) => {
+                self.halt = Some(halt);
+                Err(VolFault::Halt(halt))
+            }
+        }
+    }
+
+    /// The number of blocks of a volume, 0 where there is none.
+    pub fn size(&self, id: u8) -> u32
+        ensures live { IsLive (table_of self.now) id
+            → result ≡ size_of (B.block_count (device_of self.now))
+            * owned (owner_in (table_of self.now)) id (count_of (B.block_count (device_of self.now))) }
+        ensures free { (IsLive (table_of self.now) id → ⊥) → result ≡ 0 }
+    {
+        if !self.table.is_live(id) {
+            return 0;
+        }
+        self.size * self.table.owned(id, self.extents)
+    }
+
+    /// The volume with this name.
+    pub fn find(&self, name: &Name) -> Option<u8>
+        ensures some { IfSome result (λ id. IsLive (table_of self.now) id
+            × IsNameOf (table_of self.now) id name.now) }
+        ensures none { IfNone result ((id : ℕ) → IsLive (table_of self.now) id
+            → IsNameOf (table_of self.now) id name.now → ⊥) }
+    {
+        self.table.find(name)
+    }
+
+    /// The name of a volume.
+    pub fn name(&self, id: u8) -> Option<Name>
+        ensures some { IfSome result (λ name. IsLive (table_of self.now) id
+            × IsNameOf (table_of self.now) id name) }
+        ensures none { IfNone result (IsLive (table_of self.now) id → ⊥) }
+    {
+        if !self.table.is_live(id) {
+            return None;
+        }
+        Some(self.table.name(id))
+    }
+
+    /// Removes a volume, by one write.
+    pub fn delete(&mut self, id: u8) -> Result<(), VolFault>
+        ensures fault { IfErr result (IsIdFault (table_of self.old) (halted_of self.new) id) }
+        ensures served { OnOk result (IsLive (table_of self.old) id) }
+        ensures halt { halted_of self.new ≡ vol_halt_in result }
+        ensures went { Went B.block_count B.halts B.halted B.tells (device_of self.old)
+            (device_of self.new) }
+        ensures grown { Grown B.kept B.tells IsWrite (device_of self.old) (device_of self.new) }
+        ensures refused { OnErr result (table_of self.new ≡ table_of self.old) }
+        ensures adds { OnOk result ((from : Since) (h : History) (s : State) → StandsFor (Holds B.stands B.kept from) self.old h
+            → Shows (B.block_count (device_of self.old)) (held h) s
+            → IsTrue (B.tells (device_of self.new))
+            → Adds (StandsFor (Holds B.stands B.kept from) self.new) (B.block_count (device_of self.old)) h
+            (deleted (size_of (B.block_count (device_of self.old))) s id)) }
+        ensures stands { OnErr result (halted_of self.new ≡ None → (from : Since) (h : History)
+            → StandsFor (Holds B.stands B.kept from) self.old h → IsTrue (B.tells (device_of self.new))
+            → StandsFor (Holds B.stands B.kept from) self.new h) }
+        ensures lived { OnOk result ((from : Since) (start : ℕ) (log : VolLog)
+            → Lived (StandsFor (Holds B.stands B.kept from) self.old) (B.block_count (device_of self.old)) start log
+            → IsTrue (B.tells (device_of self.new))
+            → Lived (StandsFor (Holds B.stands B.kept from) self.new) (B.block_count (device_of self.old)) start
+            (log ++ (DeleteCall id, Removed) ∷ [])) }
+        ensures lived_refused { IfErr result (λ fault. halted_of self.new ≡ None → (from : Since) (start : ℕ)
+            (log : VolLog)
+            → Lived (StandsFor (Holds B.stands B.kept from) self.old) (B.block_count (device_of self.old)) start log
+            → IsTrue (B.tells (device_of self.new))
+            → Lived (StandsFor (Holds B.stands B.kept from) self.new) (B.block_count (device_of self.old)) start
+            (log ++ (DeleteCall id, Refused fault) ∷ [])) }
+    {
+        if let Some(halt) = self.halt {
+            return Err(VolFault::Halt(halt));
+        }
+        if !self.table.is_live(id) {
+            return Err(VolFault::NoVolume { id });
+        }
+        let next = self.table.without(id, self.extents);
+        match write_table(&mut self.blocks, &self.table.changes(&next)) {
+            Ok(()) => {
+                self.table = next;
+                Ok(())
+            }
+            Err(halt) => {
+                self.halt = Some(halt);
+                Err(VolFault::Halt(halt))
+            }
+        }
+    }
+
+    /// Makes a volume of so many extents, of zeros. Ok gives its id.
+    pub fn create(&mut self, name: &Name, extents: u32) -> Result<u8, VolFault>
+        ensures fault { IfErr result (IsCreateFault (B.block_count (device_of self.old))
+            (table_of self.old) (halted_of self.new) name.now extents) }
+        ensures fresh { OnOk result (IsNew (table_of self.old) name.now) }
+        ensures some { OnOk result (0 < extents) }
+        ensures room { OnOk result (extents ≤ owned (owner_in (table_of self.old)) 0
+            (count_of (B.block_count (device_of self.old)))) }
+        ensures halt { halted_of self.new ≡ vol_halt_in result }
+        ensures went { Went B.block_count B.halts B.halted B.tells (device_of self.old)
+            (device_of self.new) }
+        ensures grown { Grown B.kept B.tells IsWrite (device_of self.old) (device_of self.new) }
+        ensures refused { OnErr result (table_of self.new ≡ table_of self.old) }
+        ensures id { IfOk result (IsLeastFree (table_of self.old)) }
+        ensures makes { IfOk result (λ id. (from : Since) (h : History) (s : State)
+            → StandsFor (Holds B.stands B.kept from) self.old h
+            → Shows (B.block_count (device_of self.old)) (held h) s
+            → IsTrue (B.tells (device_of self.new))
+            → Makes (StandsFor (Holds B.stands B.kept from) self.new) (B.block_count (device_of self.old)) h s
+            (created (size_of (B.block_count (device_of self.old))) s id
+            (letter_of name.now) extents)) }
+        ensures stands { OnErr result (halted_of self.new ≡ None → (from : Since) (h : History)
+            → StandsFor (Holds B.stands B.kept from) self.old h → IsTrue (B.tells (device_of self.new))
+            → StandsFor (Holds B.stands B.kept from) self.new h) }
+        ensures lived { IfOk result (λ id. (from : Since) (start : ℕ) (log : VolLog)
+            → Lived (StandsFor (Holds B.stands B.kept from) self.old) (B.block_count (device_of self.old)) start log
+            → IsTrue (B.tells (device_of self.new))
+            → Lived (StandsFor (Holds B.stands B.kept from) self.new) (B.block_count (device_of self.old)) start
+            (log ++ (CreateCall (letter_of name.now) extents, Made id) ∷ [])) }
+        ensures lived_refused { IfErr result (λ fault. halted_of self.new ≡ None → (from : Since) (start : ℕ)
+            (log : VolLog)
+            → Lived (StandsFor (Holds B.stands B.kept from) self.old) (B.block_count (device_of self.old)) start log
+            → IsTrue (B.tells (device_of self.new))
+            → Lived (StandsFor (Holds B.stands B.kept from) self.new) (B.block_count (device_of self.old)) start
+            (log ++ (CreateCall (letter_of name.now) extents, Refused fault) ∷ [])) }
+    {
+        if let Some(halt) = self.halt {
+            return Err(VolFault::Halt(halt));
+        }
+        if let Some(id) = self.table.find(name) {
+            return Err(VolFault::Exists { id });
+        }
+        if extents == 0 {
+            return Err(VolFault::NoExtents);
+        }
+        let Some(id) = self.table.free_id() else {
+            return Err(VolFault::Names);
+        };
+        let free = self.free();
+        if free < extents {
+            return Err(VolFault::Space { free });
+        }
+        let next = self.table.with(id, name, extents, self.extents);
+        match make(
+            &mut self.blocks,
+            &self.table,
+            &next,
+            id,
+            self.size,
+            self.extents,
+        ) {
+            Ok(()) => {
+                self.table = next;
+                Ok(id)
+            }
+            Err(halt) => {
+                self.halt = Some(halt);
+                Err(VolFault::Halt(halt))
+            }
+        }
+    }
+}

@@ -1,0 +1,26 @@
+//! Tests of the lower crates, as tables of values from outside: worked by hand from the formats and
+//! the formulas, or taken from another program. What a clause says of all inputs is not tried again.
+#![tactic(auto)]
+
+#[cfg(test)]
+mod configurations;
+#[cfg(test)]
+mod decisions;
+#[cfg(test)]
+mod image_racks;
+#[cfg(test)]
+mod lines;
+#[cfg(test)]
+mod memory_racks;
+#[cfg(test)]
+mod places;
+#[cfg(test)]
+mod racks;
+#[cfg(test)]
+mod records;
+#[cfg(test)]
+mod setups;
+#[cfg(test)]
+mod sums;
+#[cfg(test)]
+mod traces;

@@ -1,0 +1,355 @@
+//! The grammar of lines, the text of each answer, and the generator.
+
+ghost use Rattle.std.specs.Prelude.{◌≡◌, ◌≤◌, [], length};
+ghost use Rattle.paraid_trace.specs.Replies.{HasFewDisks};
+
+use paraid_base::{Answer, Block, Event, GearReport, Halt, Out, Phase, Status, TickEvent, Two};
+use paraid_trace::{Text, generate, parse_line, reply};
+use std::process::Abort;
+
+// The text becomes the event as a line, a write by its word alone.
+fn spell(event: &Event, into: &mut Text) {
+    into.clear();
+    match event {
+        Event::Read { block } => spell_number(b"r ", *block, into),
+        Event::Write { .. } => into.push(b"w"),
+        Event::Flush => into.push(b"f"),
+        Event::Tick => into.push(b"t"),
+        Event::Up => into.push(b"up"),
+        Event::Down => into.push(b"down"),
+        Event::Fail { disk } => spell_number(b"fail ", *disk, into),
+        Event::Replace { disk } => spell_number(b"replace ", *disk, into),
+        Event::State => into.push(b"s"),
+        Event::Energy => into.push(b"e"),
+        Event::Bad => into.push(b"bad"),
+    }
+}
+
+// The event is a write of these blocks, each with the text of its bytes.
+fn writes(rt: &impl Abort, event: &Event, want: &[(u32, &str)]) {
+    let Event::Write { pairs } = event else {
+        panic!(rt; "no write");
+    };
+    assert_eq!(rt; pairs.count as usize, want.len());
+    let mut text = Text::new();
+    for at in 0..8 {
+        let (block, bytes) = if at < want.len() { want[at] } else { (0, "00") };
+        let found = pairs.blocks[at];
+        assert_eq!(rt; found, block, "pair {at}");
+        text.clear();
+        text.push_block(&pairs.bytes[at]);
+        assert_eq!(rt; text.as_slice(), bytes.as_bytes(), "pair {at}");
+    }
+}
+
+fn spell_number(word: &[u8], number: u32, into: &mut Text)
+    requires empty { into.old ≡ [] }
+    requires short { length word.now ≤ 8 }
+    ensures { length into.new ≤ 48 }
+{
+    into.push(word);
+    into.push_number(u64::from(number));
+}
+
+#[test]
+fn a_line_asks_for_its_event(rt: HostRuntime) {
+    let cases = [
+        ("f", "f"),
+        ("t", "t"),
+        ("up", "up"),
+        ("down", "down"),
+        ("s", "s"),
+        ("e", "e"),
+        ("r 0", "r 0"),
+        ("r 4294967295", "r 4294967295"),
+        ("fail 1", "fail 1"),
+        ("fail 300", "fail 300"),
+        ("replace 10", "replace 10"),
+        ("", "bad"),
+        (" ", "bad"),
+        ("f ", "bad"),
+        (" f", "bad"),
+        ("f\0", "bad"),
+        ("F", "bad"),
+        ("u", "bad"),
+        ("ups", "bad"),
+        ("xyz", "bad"),
+        ("r", "bad"),
+        ("r ", "bad"),
+        ("r 01", "bad"),
+        ("r 00", "bad"),
+        ("r +1", "bad"),
+        ("r  1", "bad"),
+        ("r 1 ", "bad"),
+        ("r 1a", "bad"),
+        ("r\t1", "bad"),
+        ("r 4294967296", "bad"),
+        ("r 10000000000", "bad"),
+        ("fail -1", "bad"),
+        ("replace", "bad"),
+        ("w 3", "bad"),
+        ("w 3 ", "bad"),
+        ("w 3 1", "bad"),
+        ("w 3 111", "bad"),
+        ("w 3 1g", "bad"),
+        ("w 3  11", "bad"),
+        ("w 3 11 ", "bad"),
+        ("w 03 11", "bad"),
+        ("w 4294967296 11", "bad"),
+        ("w 3 11 4", "bad"),
+        ("w 3 11 4 ", "bad"),
+        ("w 3 11 4 2", "bad"),
+        ("w 3 11  4 22", "bad"),
+        ("w 3 11 4 22 ", "bad"),
+        ("w 3 11 04 22", "bad"),
+        ("w 0 01 1 02 2 03 3 04 4 05 5 06 6 07 7 08 8 09", "bad"),
+    ];
+    let mut text = Text::new();
+    for (line, event) in cases {
+        spell(&parse_line(line.as_bytes()), &mut text);
+        assert_eq!(rt; text.as_slice(), event.as_bytes());
+    }
+}
+
+#[test]
+fn a_write_has_one_to_eight_groups_of_at_most_1024_digits(rt: HostRuntime) {
+    let rows: [(&str, &[(u32, &str)]); 7] = [
+        ("w 3 11", &[(3, "11")]),
+        ("w 19 A1B2A1B2", &[(19, "a1b2")]),
+        ("w 0 00", &[(0, "00")]),
+        ("w 4294967295 fF", &[(4294967295, "ff")]),
+        ("w 3 11 7 22", &[(3, "11"), (7, "22")]),
+        ("w 3 33 3 44", &[(3, "33"), (3, "44")]),
+        (
+            "w 0 01 1 02 2 03 3 04 4 05 5 06 6 07 20 0809",
+            &[
+                (0, "01"),
+                (1, "02"),
+                (2, "03"),
+                (3, "04"),
+                (4, "05"),
+                (5, "06"),
+                (6, "07"),
+                (20, "0809"),
+            ],
+        ),
+    ];
+    for (line, want) in rows {
+        writes(&rt, &parse_line(line.as_bytes()), want);
+    }
+    let mut line = [b'a'; 1100];
+    line[..4].copy_from_slice(b"w 3 ");
+    let mut text = Text::new();
+    for (digits, event) in [(1022, "w"), (1023, "bad"), (1024, "w"), (1026, "bad")] {
+        spell(&parse_line(&line[..4 + digits]), &mut text);
+        assert_eq!(rt; text.as_slice(), event.as_bytes());
+    }
+}
+
+// Lines of another program that has the same definition.
+#[test]
+fn a_number_makes_its_trace(rt: HostRuntime) {
+    let rows = [
+        (0, 0, 20, "r 0"),
+        (0, 1, 20, "r 0"),
+        (0, 2, 20, "r 2"),
+        (0, 3, 20, "r 14"),
+        (0, 4, 20, "t"),
+        (7, 0, 28672, "r 13271"),
+        (7, 817, 28672, "r 12587"),
+        (7, 365, 28672, "f"),
+        (7, 346, 28672, "f"),
+        (7, 211, 28672, "t"),
+        (7, 51, 28672, "t"),
+        (7, 774, 28672, "up"),
+        (7, 159, 28672, "down"),
+        (u32::MAX, u32::MAX, u32::MAX, "r 6819049"),
+    ];
+    let mut text = Text::new();
+    for (number, i, blocks, event) in rows {
+        let blocks: u32 = blocks;
+        spell(&generate(number, i, blocks.max(1)), &mut text);
+        assert_eq!(rt; text.as_slice(), event.as_bytes());
+    }
+    let rows = [
+        (0, 5, 20, 4, "0005"),
+        (7, 286, 28672, 1929, "011e"),
+        (7, 104, 28672, 543, "0068"),
+        (3, 65537, 28672, 7383, "0001"),
+        (u32::MAX, 65794, 458752, 216373, "0102"),
+    ];
+    for (number, i, blocks, block, bytes) in rows {
+        let blocks: u32 = blocks;
+        writes(&rt, &generate(number, i, blocks.max(1)), &[(block, bytes)]);
+    }
+}
+
+fn answer(at: usize) -> Answer
+    ensures { HasFewDisks result }
+{
+    match at {
+        0 => Answer::NoBlock { block: 20 },
+        1 => Answer::Wrote { number: u64::MAX },
+        2 => Answer::Flushed { writes: 2 },
+        3 => Answer::Shift { gear: 5, to: 4 },
+        4 => Answer::Top,
+        5 => Answer::Lowest,
+        6 => Answer::Shifting { to: 5 },
+        7 => Answer::Failed { disk: 2 },
+        8 => Answer::Replaced { disk: 0 },
+        9 => Answer::NoDisk { disk: 300 },
+        10 => Answer::Out { disk: 2 },
+        11 => Answer::NotOut { disk: 3 },
+        12 => Answer::NoFresh { disk: 2 },
+        13 => Answer::Ration { disk: 4 },
+        14 => Answer::Energy { total: 126900 },
+        15 => Answer::Later,
+        16 => Answer::Halted(Halt::Two(Two {
+            first: 2,
+            second: 3,
+        })),
+        17 => Answer::Halted(Halt::Worn { count: 1 << 62 }),
+        _ => Answer::Bad,
+    }
+}
+
+#[test]
+fn an_answer_is_told_as_a_line(rt: HostRuntime) {
+    let lines = [
+        "noblock 20\n",
+        "wrote 18446744073709551615\n",
+        "flushed 2\n",
+        "shift 5 4\n",
+        "top\n",
+        "lowest\n",
+        "shifting 5\n",
+        "failed 2\n",
+        "replaced 0\n",
+        "nodisk 300\n",
+        "out 2\n",
+        "notout 3\n",
+        "nofresh 2\n",
+        "ration 4\n",
+        "energy 126900\n",
+        "later\n",
+        "two 2 3\n",
+        "worn 4611686018427387904\n",
+        "bad\n",
+    ];
+    let mut text = Text::new();
+    for at in 0..19 {
+        reply(&answer(at), &mut text);
+        assert_eq!(rt; text.as_slice(), lines[at].as_bytes());
+    }
+}
+
+fn tick_event(at: usize) -> TickEvent {
+    match at {
+        0 => TickEvent::Waiting,
+        1 => TickEvent::Moving,
+        2 => TickEvent::Flipped,
+        3 => TickEvent::Begun { to: 4 },
+        4 => TickEvent::Rebuilt { disk: 0 },
+        5 => TickEvent::Gone { disk: 2 },
+        6 => TickEvent::Lost { disk: 3 },
+        7 => TickEvent::Ration { disk: 4 },
+        _ => TickEvent::Steady,
+    }
+}
+
+#[test]
+fn a_tick_is_told_by_its_event(rt: HostRuntime) {
+    let lines = [
+        "tick 5 moved 1 waiting\n",
+        "tick 5 moved 1 moving\n",
+        "tick 5 moved 1 flipped\n",
+        "tick 5 moved 1 begun 4\n",
+        "tick 5 moved 1 rebuilt 0\n",
+        "tick 5 moved 1 gone 2\n",
+        "tick 5 moved 1 lost 3\n",
+        "tick 5 moved 1 ration 4\n",
+        "tick 5 moved 1 steady\n",
+    ];
+    let mut text = Text::new();
+    for at in 0..9 {
+        let report = GearReport {
+            gear: 5,
+            moved: 1,
+            event: tick_event(at),
+        };
+        reply(&Answer::Ticked(report), &mut text);
+        assert_eq!(rt; text.as_slice(), lines[at].as_bytes());
+    }
+}
+
+#[test]
+fn a_state_is_told_with_its_spins(rt: HostRuntime) {
+    let fresh = Out::Fresh {
+        disk: 0,
+        rebuilt: 7,
+    };
+    let cases = [
+        (
+            Phase::Steady,
+            Out::No,
+            "state 4 steady dirty 1 fill 0 out none spins 0 0 0 0 9\n",
+        ),
+        (
+            Phase::Steady,
+            Out::Gone { disk: 1 },
+            "state 4 steady dirty 1 fill 0 out 1 gone spins 0 0 0 0 9\n",
+        ),
+        (
+            Phase::Up { to: 5 },
+            Out::No,
+            "state 4 up 5 dirty 1 fill 0 out none spins 0 0 0 0 9\n",
+        ),
+        (
+            Phase::Down { to: 3 },
+            fresh,
+            "state 4 down 3 dirty 1 fill 0 out 0 rebuilt 7 spins 0 0 0 0 9\n",
+        ),
+    ];
+    let mut text = Text::new();
+    for (phase, out, line) in cases {
+        let status = Status {
+            writes: 2,
+            ticks: 3,
+            gear: 4,
+            phase,
+            dirty: 1,
+            fill: 0,
+            out,
+            spins: [0, 0, 0, 0, 9, 0, 0, 0],
+            halt: None,
+        };
+        reply(&Answer::State { status, disks: 5 }, &mut text);
+        assert_eq!(rt; text.as_slice(), line.as_bytes());
+    }
+}
+
+fn value(block: u32, bytes: [u8; 512]) -> Answer
+    ensures { HasFewDisks result }
+{
+    Answer::Value {
+        block,
+        bytes: Block::from_array(bytes),
+    }
+}
+
+#[test]
+fn a_block_is_told_by_its_shortest_period(rt: HostRuntime) {
+    let mut text = Text::new();
+    let mut bytes = [0; 512];
+    reply(&value(2, bytes), &mut text);
+    assert_eq!(rt; text.as_slice(), b"2=00\n".as_slice());
+    for at in 0..512 {
+        bytes[at] = [0xa1, 0xb2][at % 2];
+    }
+    reply(&value(19, bytes), &mut text);
+    assert_eq!(rt; text.as_slice(), b"19=a1b2\n".as_slice());
+    bytes = [0; 512];
+    bytes[511] = 1;
+    reply(&value(4, bytes), &mut text);
+    assert_eq!(rt; text.as_slice().len(), 1027);
+}

@@ -1,0 +1,10 @@
+//! Tests of the program, as tables of inputs and faults with the text and the status of each run.
+//! What a clause says of all inputs is not tried again.
+#![tactic(auto)]
+
+#[cfg(test)]
+mod devices;
+#[cfg(test)]
+mod runs;
+#[cfg(test)]
+mod words;

@@ -1,0 +1,69 @@
+//! What a batch holds.
+
+use paraid_base::{Block, DiskNo, Place};
+use paraid_txn::{Batch, Full};
+use std::process::Abort;
+
+// A batch of 96 targets, 24 on each of the disks 0 to 3, from place 100 on. The block of each is
+// filled with its number in the order.
+fn filled(rt: &(impl Abort + AllocGlobal)) -> Batch {
+    let mut batch = Batch::new(rt.alloc()).expect(rt, "there is memory");
+    for number in 0..96u8 {
+        let place = 100 + Place::from(number / 4);
+        let block = Block::from_array([number; 512]);
+        assert_eq!(rt; batch.add(number % 4, place, &block), Ok(()), "{number}");
+    }
+    batch
+}
+
+// The last byte of the block that is held for this target.
+fn held(batch: &Batch, disk: DiskNo, place: Place) -> Option<u8> {
+    Some(batch.get(disk, place)?.bytes[511])
+}
+
+#[test]
+fn a_batch_holds_96_targets_in_order(rt: HostRuntime) {
+    let mut batch = filled(&rt);
+    let new = Block::from_array([0xaa; 512]);
+    assert_eq!(rt; batch.add(1, 101, &new), Ok(()));
+    for (disk, place) in [(4, 100), (0, 124), (3, 99)] {
+        let full = Full { count: 96 };
+        assert_eq!(rt; batch.add(disk, place, &new), Err(full), "{disk} {place}");
+    }
+    assert_eq!(rt; batch.count(), 96);
+    let rows = [
+        (0, 100, Some(0)),
+        (1, 100, Some(1)),
+        (0, 101, Some(4)),
+        (1, 101, Some(0xaa)),
+        (2, 101, Some(6)),
+        (3, 123, Some(95)),
+        (0, 124, None),
+        (3, 99, None),
+        (4, 100, None),
+    ];
+    for (disk, place, want) in rows {
+        assert_eq!(rt; held(&batch, disk, place), want, "{disk} {place}");
+    }
+    let targets = batch.targets();
+    assert_eq!(rt; targets.count, 96);
+    for number in 0..96u8 {
+        let target = targets.list[number as usize];
+        let place = 100 + Place::from(number / 4);
+        assert_eq!(rt; (target.disk, target.place), (number % 4, place));
+    }
+    for (disk, want) in [(0, true), (3, true), (4, false)] {
+        assert_eq!(rt; batch.has_disk(disk), want, "{disk}");
+    }
+
+    batch.clear();
+    assert_eq!(rt; batch.count(), 0);
+    assert_eq!(rt; held(&batch, 1, 101), None);
+    assert_eq!(rt; batch.has_disk(1), false);
+    assert_eq!(rt; batch.targets().count, 0);
+    for number in 0..96u8 {
+        let place = Place::from(number);
+        assert_eq!(rt; batch.add(5, place, &new), Ok(()), "{number}");
+    }
+    assert_eq!(rt; batch.add(5, 96, &new), Err(Full { count: 96 }));
+}
