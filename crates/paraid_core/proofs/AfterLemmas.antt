@@ -1,14 +1,13 @@
 -- What holds of the slots after a call in which one disk was lost, or none.
-use Rattle.std.specs.Prelude.{◌≡◌, ◌≢◌, ℕ, ◌+◌, ◌-◌, ◌^◌, ◌<◌, ◌≤◌, ◌⊎◌, nat_lt, Bool, true, false, List, [], Option, Some, None, Result, Ok, Err, IfErr, IsErrAnd, if◌then◌else◌}
+use Rattle.std.specs.Prelude.{◌≡◌, ◌≢◌, ℕ, ◌+◌, ◌-◌, ◌^◌, ◌<◌, ◌≤◌, nat_lt, true, false, [], Option, Some, None, Result, Ok, Err, IfErr, IsErrAnd}
 use Rattle.std.proofs.Common.{refl, sym, ◌∙◌, ap, subst, arith, inl, inr}
-use Rattle.std.proofs.lemmas.Bool.{cases_Bool, cases_eq, false≢true}
+use Rattle.std.proofs.lemmas.Bool.{cases_Bool}
 use Rattle.std.proofs.lemmas.Bool.Decides.{nat_tests}
 use Rattle.paraid_base.specs.declared.fault.Two.{Two}
 use Rattle.paraid_base.specs.declared.geometry.Geometry.{Geometry}
 use Rattle.paraid_base.specs.declared.state.Phase.{Phase}
 use Rattle.paraid_base.specs.declared.state.Phase.TheVariants.{Steady, Down, Up}
-use Rattle.paraid_base.specs.declared.state.Out.{Out}
-use Rattle.paraid_base.specs.declared.state.Out.TheVariants.{Fresh, Gone, No}
+use Rattle.paraid_base.specs.declared.state.Out.TheVariants.{Fresh}
 use Rattle.paraid_rack.specs.declared.call.Power.{Power}
 use Rattle.paraid_rack.specs.Disks.{is_present}
 use Rattle.paraid_rack.specs.Slots.{Slot}
@@ -158,6 +157,7 @@ ready_next count slot last array named m rows batch low ready = record {
   fresh_large = ready.fresh_large;
   each = All-nil (IsTargetInRange m.setup.geometry);
   can = All-nil (λ (t : Target). (t.disk < count) × (gone_out m.out ≢ Some t.disk → CanWrite slot t.disk t.place));
+  apart = λ i j d low high. absurd (omega arith);
 }
 
 -- a disk that is out as a commit begins is the one that is down
@@ -178,3 +178,11 @@ module _ (named : Option ℕ) (power : ℕ → Power) (array : ℕ) (m : Meta) (
     apart = it.apart;
     second = it.second;
   }
+
+pub marked_setup : (o : Option ℕ) (m : Meta) → (marked o m).setup ≡ m.setup
+marked_setup None m = refl
+marked_setup (Some d) m = refl
+
+pub marked_writes : (o : Option ℕ) (m : Meta) → (marked o m).writes ≡ m.writes
+marked_writes None m = refl
+marked_writes (Some d) m = refl

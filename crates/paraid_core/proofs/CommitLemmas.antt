@@ -1,47 +1,44 @@
 -- What a commit leaves of what a core stands for.
-use Rattle.std.specs.Prelude.{◌≡◌, ◌≢◌, ℕ, ◌+◌, ◌*◌, ◌<◌, ◌≤◌, ◌⊎◌, ◌&&◌, nat_lt, Bool, true, false, List, [], ◌∷◌, ◌++◌, drop, Option, Some, None, length, slice_index, if◌then◌else◌}
+use Rattle.std.specs.Prelude.{◌≡◌, ◌≢◌, ℕ, ◌+◌, ◌*◌, ◌<◌, ◌≤◌, ◌⊎◌, ◌&&◌, nat_lt, Bool, true, false, List, [], ◌∷◌, ◌++◌, drop, Option, Some, None, length}
 use Rattle.std.proofs.Common.{refl, sym, ◌∙◌, ap, subst, arith, inl, inr}
-use Rattle.std.proofs.lemmas.Bool.{cases_Bool, cases_eq, false≢true}
+use Rattle.std.proofs.lemmas.Bool.{cases_Bool}
 use Rattle.std.proofs.lemmas.Bool.Decides.{nat_tests}
-use Rattle.paraid_base.specs.declared.block.Block.{Block}
 use Rattle.paraid_base.specs.declared.state.Out.{Out}
 use Rattle.paraid_base.specs.declared.state.Out.TheVariants.{Fresh, Gone, No}
 use Rattle.paraid_base.specs.declared.state.Phase.{Phase}
 use Rattle.paraid_base.specs.History.{History}
-use Rattle.paraid_base.specs.Regions.{disk_size, map_count, map_place_of}
-use Rattle.paraid_base.specs.Xor.{zeroed}
+use Rattle.paraid_base.specs.Regions.{map_count, map_place_of}
 use Rattle.paraid_dirty.specs.Table.{is_dirty}
 use Rattle.paraid_rack.specs.declared.call.Call.{Call}
 use Rattle.paraid_rack.specs.declared.call.Power.{Power}
 use Rattle.paraid_rack.specs.declared.call.Power.TheVariants.{Absent}
 use Rattle.paraid_rack.specs.Disks.{Disks, IsImage, is_present, step}
 use Rattle.paraid_rack.specs.Slots.{Agrees, Slot}
-use Rattle.paraid_rack.specs.Told.{Came, Ran, Runs, Through}
-use Rattle.paraid_rack.specs.Trail.{Trail, extend, now, run}
+use Rattle.paraid_rack.specs.Told.{Ran, Runs, Through}
+use Rattle.paraid_rack.specs.Trail.{Trail, now, run}
 use Rattle.paraid_rack.proofs.TrailsLemmas.{now-extend}
 use Rattle.paraid_record.specs.declared.meta.Meta.{Meta}
 use Rattle.paraid_record.specs.Range.{IsInRange}
-use Rattle.paraid_image.specs.Rest.{IsAtRest, IsDrained, closed_over}
+use Rattle.paraid_image.specs.Rest.{IsAtRest, closed_over}
 use Rattle.paraid_txn.specs.Commit.{Commits, IsCommitted, IsEitherMissing, IsNext, IsOldOrNew, IsOneMissing, IsWholeOrAbsent, StandsFor, gone_out}
-use Rattle.paraid_image.specs.Content.{view_by, view_of}
+use Rattle.paraid_image.specs.Content.{view_by}
 use Rattle.paraid_image.specs.HeldAt.{IsSound}
 use Rattle.paraid_image.specs.Holds.{Holds}
-use Rattle.paraid_image.specs.Out.{IsMissing, first_absent, is_out, named_out, or_else, out_disk}
+use Rattle.paraid_image.specs.Out.{first_absent, is_out, named_out, or_else, out_disk}
 use Rattle.paraid_image.specs.Sides.{Batch, Said, has_place}
-use Rattle.paraid_image.specs.Sound.{ContentOk, Sound}
+use Rattle.paraid_image.specs.Sound.{ContentOk}
 use Rattle.paraid_image.specs.Spot.{map_bit, map_disk}
-use Rattle.paraid_image.specs.Standing.{Contents, contents, laid}
+use Rattle.paraid_image.specs.Standing.{Contents, contents}
 use Rattle.paraid_image.proofs.OutLemmas.{first_absent_is, missing_is_out, named_below}
 use Rattle.paraid_image.proofs.StandingLemmas.{Stands-same}
 use Rattle.paraid_image.proofs.ViewLemmas.{dirty_without, map_bit_same, map_disk_other}
 use Rattle.paraid_txn.proofs.HeldCommitLemmas.{held_commits, stands_sound}
 use Rattle.paraid_moves.specs.Copying.{Copies}
-use Rattle.paraid_moves.specs.Marks.{marked_out}
 use Rattle.paraid_moves.proofs.CopyingLemmas.{copying_from_rest}
 use Rattle.paraid_moves.proofs.FailLemmas.{marks_gone}
 use Rattle.paraid_moves.proofs.MoveLemmas.{fits_later}
 use Rattle.paraid_moves.proofs.NextLemmas.{holds_now, next_gone, next_same, rest_now}
-use Rattle.paraid_plan.specs.Marks.{phase_lost, with_lost}
+use Rattle.paraid_plan.specs.Marks.{with_lost}
 use Rattle.paraid_core.specs.Stands.{HeldBeside, Keeps, marked}
 use Rattle.paraid_core.proofs.AfterLemmas.{down_named}
 use Rattle.paraid_core.proofs.LoseLemmas.{phases_same}

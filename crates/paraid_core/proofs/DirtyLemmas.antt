@@ -1,9 +1,8 @@
 -- A value depends on the dirty bits of its row alone.
-use Rattle.std.specs.Prelude.{◌≡◌, ◌≢◌, ℕ, ◌<◌, ◌&&◌, ◌||◌, nat_lt, Bool, true, false, not, Option, Some, if◌then◌else◌}
-use Rattle.std.proofs.Common.{refl, sym, ◌∙◌, ap}
+use Rattle.std.specs.Prelude.{◌≡◌, ℕ, ◌&&◌, ◌||◌, nat_lt, Bool, not, Option, if◌then◌else◌}
+use Rattle.std.proofs.Common.{refl, ◌∙◌, ap}
 use Rattle.paraid_base.specs.declared.block.Block.{Block}
 use Rattle.paraid_base.specs.Regions.{hard_place_of}
-use Rattle.paraid_base.specs.Sums.{without, xor_upto}
 use Rattle.paraid_base.proofs.SumsLemmas.{others_same}
 use Rattle.paraid_record.specs.declared.meta.Meta.{Meta}
 use Rattle.paraid_image.specs.Out.{is_out}

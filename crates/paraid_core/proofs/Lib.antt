@@ -7,3 +7,6 @@ pub mod AfterLemmas
 pub mod CommitLemmas
 pub mod WriteLemmas
 pub mod PlanLemmas
+mod TakeLemmas
+mod TryLemmas
+mod AcceptLemmas

@@ -1,29 +1,28 @@
 -- A disk that is lost leaves what a core stands for.
-use Rattle.std.specs.Prelude.{◌≡◌, ◌≢◌, ℕ, ◌+◌, ◌-◌, ◌*◌, ◌<◌, ◌≤◌, ◌⊎◌, nat_lt, Bool, true, false, List, [], Option, Some, None, length, slice_index, if◌then◌else◌}
+use Rattle.std.specs.Prelude.{◌≡◌, ◌≢◌, ℕ, ◌+◌, ◌*◌, ◌<◌, nat_lt, Bool, false, List, Option, Some, None, length, if◌then◌else◌}
 use Rattle.std.proofs.Common.{refl, sym, ◌∙◌, ap, subst, arith, inl, inr}
-use Rattle.std.proofs.lemmas.Bool.{cases_eq, false≢true, cases_Bool}
-use Rattle.paraid_base.specs.declared.block.Block.{Block}
+use Rattle.std.proofs.lemmas.Bool.{cases_eq, false≢true}
 use Rattle.paraid_base.specs.declared.state.Out.TheVariants.{Gone}
 use Rattle.paraid_base.specs.declared.state.Phase.{Phase}
 use Rattle.paraid_base.specs.declared.state.Phase.TheVariants.{Steady, Down, Up}
-use Rattle.paraid_base.specs.History.{History, after}
+use Rattle.paraid_base.specs.History.{History}
 use Rattle.paraid_base.specs.Regions.{map_count}
 use Rattle.paraid_base.specs.Xor.{zeroed}
 use Rattle.paraid_dirty.specs.Table.{is_dirty}
 use Rattle.paraid_rack.specs.declared.call.Call.TheVariants.{Read}
 use Rattle.paraid_rack.specs.declared.call.Power.{Power}
 use Rattle.paraid_rack.specs.declared.call.Power.TheVariants.{Absent, Parked}
-use Rattle.paraid_rack.specs.Disks.{Disks, IsPresent, is_present, lose, step, with_at}
+use Rattle.paraid_rack.specs.Disks.{Disks, is_present, lose, step}
 use Rattle.paraid_rack.proofs.AtomsLemmas.{with_at_other, with_at_same}
 use Rattle.paraid_record.specs.declared.meta.Meta.{Meta}
 use Rattle.paraid_record.specs.Range.{IsInRange}
 use Rattle.paraid_image.specs.Rest.{IsDrained}
 use Rattle.paraid_txn.specs.Commit.{IsNext}
-use Rattle.paraid_image.specs.Content.{blocks_of, view_by}
+use Rattle.paraid_image.specs.Content.{view_by}
 use Rattle.paraid_image.specs.Out.{IsMissing, first_absent, named_out, or_else, out_disk}
-use Rattle.paraid_image.specs.Sides.{Batch, has_place}
+use Rattle.paraid_image.specs.Sides.{Batch}
 use Rattle.paraid_image.specs.Sound.{ContentOk}
-use Rattle.paraid_image.specs.Standing.{Contents, contents, laid}
+use Rattle.paraid_image.specs.Standing.{contents, laid}
 use Rattle.paraid_image.proofs.OutLemmas.{first_absent_finds}
 use Rattle.paraid_image.proofs.StepLemmas.{place_kept}
 use Rattle.paraid_image.proofs.ViewLemmas.{dirty_without}

@@ -1,19 +1,17 @@
 -- Reads leave what is held at each moment.
-use Rattle.std.specs.Prelude.{◌≡◌, ◌≢◌, ℕ, ◌<◌, ◌≤◌, ◌⊎◌, Bool, true, false, List, [], ◌∷◌, Option, Some, None}
-use Rattle.std.proofs.Common.{refl, sym, ◌∙◌, ap, subst, arith, inl, inr}
-use Rattle.std.proofs.lemmas.Bool.{cases_eq, false≢true}
+use Rattle.std.specs.Prelude.{◌≡◌, ◌≢◌, ℕ, ◌<◌, Bool, true, false, List, [], ◌∷◌, Option, Some, None}
+use Rattle.std.proofs.Common.{refl, sym, ◌∙◌, ap, subst, inl, inr}
+use Rattle.std.proofs.lemmas.Bool.{cases_eq}
 use Rattle.paraid_base.specs.History.{History}
 use Rattle.paraid_rack.specs.declared.call.Call.{Call}
 use Rattle.paraid_rack.specs.declared.call.Call.TheVariants.{Read, Write, Sync, Park, SpinUp, Attach}
 use Rattle.paraid_rack.specs.declared.call.Power.{Power}
 use Rattle.paraid_rack.specs.declared.call.Power.TheVariants.{Absent}
-use Rattle.paraid_rack.specs.Disks.{Disks, IsImage, is_present, step, with_at}
+use Rattle.paraid_rack.specs.Disks.{Disks, is_present, step}
 use Rattle.paraid_rack.specs.Told.{Through}
-use Rattle.paraid_rack.specs.Trail.{run}
 use Rattle.paraid_rack.proofs.AtomsLemmas.{with_at_other, with_at_same}
 use Rattle.paraid_record.specs.declared.meta.Meta.{Meta}
 use Rattle.paraid_record.specs.Range.{IsInRange}
-use Rattle.paraid_image.specs.Rest.{closed_over}
 use Rattle.paraid_image.specs.Out.{IsMissing, named_out, out_disk}
 use Rattle.paraid_image.specs.Standing.{Contents}
 use Rattle.paraid_image.proofs.OutLemmas.{missing_is_out}

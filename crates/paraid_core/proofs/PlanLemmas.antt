@@ -1,10 +1,10 @@
 -- What a plan over a core sees.
-use Rattle.std.specs.Prelude.{◌≡◌, ◌≢◌, ℕ, ◌≤◌, ◌==◌, ◌&&◌, Bool, true, false, List, [], ◌∷◌, ◌++◌, Option, Some, None, IsSome, if◌then◌else◌}
+use Rattle.std.specs.Prelude.{◌≡◌, ◌≢◌, ℕ, ◌<◌, ◌==◌, ◌&&◌, Bool, List, [], ◌∷◌, ◌++◌, Option, Some, None, IsSome}
 use Rattle.std.proofs.Common.{refl, sym, ◌∙◌, ap, subst, inl, inr}
 use Rattle.std.proofs.lemmas.Bool.{and_parts, cases_Bool, eqb-true, false≢true}
 use Rattle.paraid_base.specs.declared.block.Block.{Block}
 use Rattle.paraid_dirty.specs.Table.{changed}
-use Rattle.paraid_image.specs.Sides.{Batch, has_place}
+use Rattle.paraid_image.specs.Sides.{Batch}
 use Rattle.paraid_image.specs.Standing.{Contents, contents, laid}
 use Rattle.paraid_image.proofs.ContentsLemmas.{contents_here}
 use Rattle.paraid_plan.specs.Desk.{Desk, with_bit, with_targets}
@@ -20,8 +20,8 @@ use Rattle.paraid_view.specs.Reads.{AreLeft, AreReads, Shows}
 use Rattle.paraid_view.proofs.DraftLemmas.{laid_both}
 use Rattle.paraid_core.specs.declared.changes.Change.{Change}
 use Rattle.paraid_core.specs.Plans.{base_of}
-use Rattle.paraid_core.specs.Undo.{undone}
-use Rattle.paraid_core.proofs.ReadsLemmas.{reads_same, unchanged}
+use Rattle.paraid_core.specs.Undo.{AreLogged, undone}
+use Rattle.paraid_core.proofs.ReadsLemmas.{reads_same}
 
 -- the desk shows the disks
 pub shows_desk : (told : Option Trail) (batch draft : Batch) → Shows told (batch ++ draft) (lay draft (base_of told batch))
@@ -79,6 +79,28 @@ desk_bit block dirty turned draft r d bit same = λ i. record { block = block; d
 undone_push : (cs : List Change) (c : Change) (f : ℕ → ℕ → Bool) → undone (cs ++ c ∷ []) f ≡ undone cs (changed f c.row c.disk c.was)
 undone_push [] c f = refl
 undone_push (x ∷ cs) c f = ap (λ (z : ℕ → ℕ → Bool). changed z x.row x.disk x.was) (undone_push cs c f)
+
+-- the last change is undone first
+pub undone_last : (cs left : List Change) (c : Change) (f turned : ℕ → ℕ → Bool) → cs ≡ left ++ c ∷ [] → ((q e : ℕ) → turned q e ≡ changed f c.row c.disk c.was q e)
+    → undone left turned ≡ undone cs f
+undone_last cs left c f turned e same =
+    ap (undone left) (λ i. λ q. λ e. same q e i) ∙ sym (undone_push left c f) ∙ ap (λ (l : List Change). undone l f) (sym e)
+
+logged_push : (rows : ℕ) (cs : List Change) (c : Change) → AreLogged rows cs → (c.row < rows) × (c.disk < 8) → AreLogged rows (cs ++ c ∷ [])
+logged_push rows [] c are is = (is, tt)
+logged_push rows (x ∷ cs) c are is = (are.0, logged_push rows cs c are.1 is)
+
+pub logged_more : (rows rows_then : ℕ) (cs longer : List Change) (c : Change) → rows_then ≡ rows → longer ≡ cs ++ c ∷ [] → (c.row < rows) × (c.disk < 8)
+    → AreLogged rows cs → AreLogged rows_then longer
+logged_more rows rows_then cs longer c same e is are =
+    subst (λ (n : ℕ). AreLogged n longer) (sym same) (subst (AreLogged rows) (sym e) (logged_push rows cs c are is))
+
+logged_parts : (rows : ℕ) (cs : List Change) (c : Change) → AreLogged rows (cs ++ c ∷ []) → AreLogged rows cs × ((c.row < rows) × (c.disk < 8))
+logged_parts rows [] c are = (tt, are.0)
+logged_parts rows (x ∷ cs) c are = let parts = logged_parts rows cs c are.1 in ((are.0, parts.0), parts.1)
+
+pub logged_last : (rows : ℕ) (cs left : List Change) (c : Change) → cs ≡ left ++ c ∷ [] → AreLogged rows cs → AreLogged rows left × ((c.row < rows) × (c.disk < 8))
+logged_last rows cs left c e are = logged_parts rows left c (subst (AreLogged rows) e are)
 
 changed_back : (f turned : ℕ → ℕ → Bool) (r d : ℕ) (bit was : Bool) → was ≡ f r d → ((q e : ℕ) → turned q e ≡ changed f r d bit q e) → changed turned r d was ≡ f
 changed_back f turned r d bit was is same = λ i. λ q. λ e. point q e i

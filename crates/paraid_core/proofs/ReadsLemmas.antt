@@ -1,11 +1,11 @@
 -- What reads leave of what a core stands for.
-use Rattle.std.specs.Prelude.{◌≡◌, ◌≢◌, ℕ, ◌-◌, ◌*◌, ◌<◌, ◌≤◌, ◌⊎◌, nat_lt, Bool, true, false, List, [], ◌∷◌, Option, Some, None, IsSome, length, if◌then◌else◌}
+use Rattle.std.specs.Prelude.{◌≡◌, ◌≢◌, ℕ, ◌-◌, ◌*◌, ◌<◌, nat_lt, Bool, true, false, List, [], ◌∷◌, Option, Some, None, length, if◌then◌else◌}
 use Rattle.std.proofs.Common.{refl, sym, ◌∙◌, ap, subst, arith, inl, inr}
-use Rattle.std.proofs.lemmas.Bool.{cases_eq, false≢true}
+use Rattle.std.proofs.lemmas.Bool.{cases_eq}
 use Rattle.std.proofs.lemmas.Bool.Decides.{nat_tests}
 use Rattle.paraid_base.specs.declared.block.Block.{Block}
 use Rattle.paraid_base.specs.Cells.{home_disk, home_row}
-use Rattle.paraid_base.specs.History.{History, after, held}
+use Rattle.paraid_base.specs.History.{History, held}
 use Rattle.paraid_base.specs.Regions.{map_count}
 use Rattle.paraid_base.specs.Xor.{zeroed}
 use Rattle.paraid_base.proofs.SumsLemmas.{xor_upto_same}
@@ -14,27 +14,25 @@ use Rattle.paraid_rack.specs.declared.call.Call.{Call}
 use Rattle.paraid_rack.specs.declared.call.Call.TheVariants.{Read, Write, Sync, Park, SpinUp, Attach}
 use Rattle.paraid_rack.specs.declared.call.Power.{Power}
 use Rattle.paraid_rack.specs.declared.call.Power.TheVariants.{Absent}
-use Rattle.paraid_rack.specs.Disks.{Disks, is_present, lose, step, with_at}
-use Rattle.paraid_rack.specs.Slots.{Agrees, AreSlots, Slot}
-use Rattle.paraid_rack.specs.Told.{Came, Ran, Runs, Through}
-use Rattle.paraid_rack.specs.Trail.{Trail, extend, now, run}
-use Rattle.paraid_rack.proofs.AtomsLemmas.{read_block-same, with_at_other, with_at_same}
+use Rattle.paraid_rack.specs.Disks.{Disks, lose, step}
+use Rattle.paraid_rack.specs.Slots.{Agrees, Slot}
+use Rattle.paraid_rack.specs.Told.{Ran, Runs, Through}
+use Rattle.paraid_rack.specs.Trail.{Trail, now, run}
+use Rattle.paraid_rack.proofs.AtomsLemmas.{with_at_other, with_at_same}
 use Rattle.paraid_rack.proofs.TrailsLemmas.{now-extend}
 use Rattle.paraid_record.specs.declared.meta.Meta.{Meta}
 use Rattle.paraid_record.specs.Range.{IsInRange}
-use Rattle.paraid_image.specs.Content.{blocks_of, view_by}
+use Rattle.paraid_image.specs.Content.{view_by}
 use Rattle.paraid_image.specs.Out.{named_out, or_else, out_disk}
 use Rattle.paraid_image.specs.Sides.{Batch, has_place}
 use Rattle.paraid_image.specs.Sound.{AreRowsZero, AreStripesZero, ContentOk}
-use Rattle.paraid_image.specs.Spot.{View}
 use Rattle.paraid_image.specs.Standing.{Contents, contents, laid}
 use Rattle.paraid_image.specs.Value.{value}
-use Rattle.paraid_image.proofs.StepLemmas.{decide_some}
 use Rattle.paraid_plan.specs.Marks.{with_lost}
 use Rattle.paraid_view.specs.Reads.{AreLeft, AreReads, Shows, seen_by}
 use Rattle.paraid_core.specs.Stands.{HeldBeside, Keeps, lost_in, marked}
 use Rattle.paraid_core.proofs.DirtyLemmas.{value_dirty}
-use Rattle.paraid_core.proofs.LoseLemmas.{keeps_lost, none_named}
+use Rattle.paraid_core.proofs.LoseLemmas.{keeps_lost}
 use Rattle.paraid_core.proofs.MomentLemmas.{reads_held}
 use Rattle.paraid_core.proofs.MomentLemmas.Holding.{copied}
 
@@ -90,14 +88,14 @@ pub knows_named : (named : Option ℕ) (o : Option ℕ) (d : ℕ) → named ≡ 
 knows_named (Some e) o d is = is
 knows_named None o d is = let z : None ≡ Some d = is in cc
 
-module _ (slots : ℕ) (named : Option ℕ) (m : Meta) (table : List (List Bool)) (batch : Batch) (h : History) (lo : ℕ) where
+module _ (slots : ℕ) (named : Option ℕ) (m : Meta) (table : List (List Bool)) (batch : Batch) (h : History) (lo : ℕ) (known : Option ℕ) (knows : (d : ℕ) → named ≡ Some d → known ≡ Some d) where
   abbrev P : Disks → Type 0
-  P = HeldBeside slots m.setup.geometry.disks (or_else named (named_out m.out)) h lo
+  P = HeldBeside slots m.setup.geometry.disks known h lo
 
   reads_through : (s : Disks) (cs : List Call) → AreReads m.setup.geometry.disks s cs → Keeps slots named m table batch h lo s → Through P s cs
   reads_through s cs are k =
-      subst (λ (z : ℕ). Through (HeldBeside slots z (or_else named (named_out m.out)) h lo) s cs) (sym shape)
-      (reads_held slots k.base h lo (or_else named (named_out m.out)) (λ d is. knows_named named (named_out m.out) d (sym k.named_by ∙ is)) s cs
+      subst (λ (z : ℕ). Through (HeldBeside slots z known h lo) s cs) (sym shape)
+      (reads_held slots k.base h lo known (λ d is. knows d (sym k.named_by ∙ is)) s cs
       (subst (λ (z : ℕ). AreReads z s cs) shape are) (copied k.held k.copies))
     where
       shape : m.setup.geometry.disks ≡ k.base.setup.geometry.disks

@@ -1,32 +1,26 @@
 -- What holds of the slots once a disk was lost.
-use Rattle.std.specs.Prelude.{◌≡◌, ◌≢◌, ℕ, ◌+◌, ◌-◌, ◌^◌, ◌<◌, ◌≤◌, ◌⊎◌, nat_lt, Bool, true, false, List, [], Option, Some, None, All, if◌then◌else◌}
+use Rattle.std.specs.Prelude.{◌≡◌, ◌≢◌, ℕ, ◌<◌, ◌≤◌, Option, Some, None}
 use Rattle.std.proofs.Common.{refl, sym, ◌∙◌, ap, subst, arith, inl, inr}
-use Rattle.std.proofs.lemmas.Bool.{cases_Bool, cases_eq, false≢true}
-use Rattle.std.proofs.lemmas.Bool.Decides.{nat_tests}
-use Rattle.std.proofs.lemmas.List.Elements.{All-nil, All-weaker}
+use Rattle.std.proofs.lemmas.Bool.{cases_eq}
 use Rattle.paraid_base.specs.declared.state.Out.{Out}
 use Rattle.paraid_base.specs.declared.state.Out.TheVariants.{Fresh, Gone, No}
 use Rattle.paraid_base.specs.declared.state.Phase.{Phase}
 use Rattle.paraid_base.specs.declared.state.Phase.TheVariants.{Steady, Down, Up}
 use Rattle.paraid_base.specs.Regions.{disk_size}
-use Rattle.paraid_rack.specs.declared.call.Power.{Power}
-use Rattle.paraid_rack.specs.declared.call.Power.TheVariants.{Absent, Spinning}
+use Rattle.paraid_rack.specs.declared.call.Power.TheVariants.{Absent}
 use Rattle.paraid_rack.specs.Disks.{is_present}
 use Rattle.paraid_rack.specs.Slots.{Slot}
 use Rattle.paraid_record.specs.declared.meta.Meta.{Meta}
 use Rattle.paraid_record.specs.declared.targets.Target.{Target}
-use Rattle.paraid_record.specs.Range.{IsInRange}
 use Rattle.paraid_record.specs.Targets.{IsTargetInRange}
 use Rattle.paraid_txn.specs.Commit.{gone_out}
 use Rattle.paraid_txn.specs.Losses.{CanWrite}
 use Rattle.paraid_image.specs.Out.{named_out}
-use Rattle.paraid_txn.specs.Ready.{AreTargetsReady}
-use Rattle.paraid_image.specs.Sides.{Batch, targets}
+use Rattle.paraid_image.specs.Sides.{Batch}
 use Rattle.paraid_image.specs.Spot.{rising_to}
-use Rattle.paraid_image.proofs.StepLemmas.{decide_some}
 use Rattle.paraid_plan.specs.Marks.{phase_lost, with_lost}
 use Rattle.paraid_view.specs.Reads.{AreLeft}
-use Rattle.paraid_core.specs.Stands.{CanServe, IsReady, lost_in, marked}
+use Rattle.paraid_core.specs.Stands.{CanServe, IsReady}
 use Rattle.paraid_core.proofs.LoseLemmas.{lost_in_range}
 
 -- no disk of the array has changed but this one, which is absent, or none
@@ -107,6 +101,7 @@ module _ (count : ℕ) (slot new : ℕ → Slot) (last array : ℕ) (named : Opt
       fresh_large = λ e u k here. let z : Gone d ≡ Fresh e u = k in cc;
       each = ready.each;
       can = λ k t l. can_write _ (ready.each k t l, ready.can k t l);
+      apart = ready.apart;
     }
 
     pub serve_lost : CanServe slot named m → rising_to m.phase ≤ n → CanServe new named (with_lost m d)
@@ -152,6 +147,7 @@ module _ (count : ℕ) (slot new : ℕ → Slot) (last array : ℕ) (named : Opt
           subst (λ (z : ℕ). disk_size m.setup.geometry ≤ z) (sym (only.size e (fresh e u k) (none_some e))) (ready.fresh_large e u k (ap is_present (sym same) ∙ here));
       each = ready.each;
       can = λ k t l. can_same _ (ready.each k t l, ready.can k t l);
+      apart = ready.apart;
     }
 
     pub serve_same : CanServe slot named m → rising_to m.phase ≤ n → CanServe new named m

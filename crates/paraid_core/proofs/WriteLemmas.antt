@@ -1,5 +1,5 @@
 -- A planned write, taken into the batch.
-use Rattle.std.specs.Prelude.{◌≡◌, ◌≢◌, ℕ, ◌+◌, ◌-◌, ◌*◌, ◌<◌, ◌≤◌, nat_lt, Bool, true, false, List, [], ◌∷◌, ◌++◌, Option, Some, None, length, if◌then◌else◌}
+use Rattle.std.specs.Prelude.{◌≡◌, ◌≢◌, ℕ, ◌+◌, ◌-◌, ◌*◌, ◌<◌, ◌≤◌, nat_lt, Bool, true, false, List, [], ◌∷◌, ◌++◌, Option, Some, length, if◌then◌else◌}
 use Rattle.std.proofs.Common.{refl, sym, ◌∙◌, ap, subst, arith, inl, inr, length-append}
 use Rattle.std.proofs.lemmas.Bool.{cases_Bool}
 use Rattle.std.proofs.lemmas.Bool.Decides.{nat_tests}
@@ -15,7 +15,7 @@ use Rattle.paraid_plan.specs.Stored.{IsKept}
 use Rattle.paraid_plan.specs.Stored.IsKept.{there, rebuilt}
 use Rattle.paraid_plan.proofs.LayLemmas.{laid_append}
 use Rattle.paraid_plan.proofs.ManyLemmas.{AreLaid, staged_laid}
-use Rattle.paraid_plan.proofs.MetaLemmas.{kept_writes, value_writes, with_writes}
+use Rattle.paraid_plan.proofs.MetaLemmas.{kept_writes, value_writes}
 use Rattle.paraid_plan.proofs.PlaceLemmas.{places_tell}
 use Rattle.paraid_plan.proofs.WriteLemmas.{block_other, kept_other, many_writes_keep}
 use Rattle.paraid_rack.specs.Disks.{Disks, is_present}
@@ -87,16 +87,35 @@ module _ (slots : ℕ) (named : Option ℕ) (m : Meta) (table table_then : List 
   out_was : out_disk s.power m ≡ named_out m.out
   out_was = out_all s.power m absent
 
-  seen : sees m before ≡ v
-  seen = λ i. record { meta = m; dirty = begins.dirty i; out = sym out_was i; block = begins.block i }
+  -- what is seen of the desk, by the bits of the map
+  abbrev seen_was : View
+  seen_was = record { meta = m; dirty = map_bit m.setup.geometry (f (map_disk (named_out m.out))); out = named_out m.out; block = f }
+
+  seen : seen_was ≡ v
+  seen = λ i. record { meta = m; dirty = map_bit m.setup.geometry (f (map_disk (sym out_was i))); out = sym out_was i; block = f }
+
+  abbrev seen_bits : View
+  seen_bits = record { meta = m; dirty = before.dirty; out = named_out m.out; block = f }
+
+  seen_desk : seen_bits ≡ sees m before
+  seen_desk = λ i. record { meta = m; dirty = before.dirty; out = named_out m.out; block = sym begins.block i }
+
+  was_kept : IsWellKept slots s.power s.size seen_was
+  was_kept = subst (IsWellKept slots s.power s.size) (sym seen) k.staged.kept
+
+  was_bits : (q e : ℕ) → q < 512 * map_count m.setup.geometry → before.dirty q e ≡ map_bit m.setup.geometry (f (map_disk (named_out m.out))) q e
+  was_bits q e l = begins.dirty q e l ∙ ap (λ (z : Option ℕ). map_bit m.setup.geometry (f (map_disk z)) q e) out_was
 
   -- what was in view is kept well, and its dirty bits are those of the map
   kept : IsKeptDesk slots s.power s.size m before
   kept = record {
-    shown = λ q e l. ap (λ (z : ℕ → ℕ → Bool). z q e) begins.dirty ∙ ap (λ (z : Option ℕ). map_bit m.setup.geometry (f (map_disk z)) q e) out_was
-        ∙ ap (λ (z : Contents). map_bit m.setup.geometry (z (map_disk (named_out m.out))) q e) (sym begins.block);
-    kept = subst (IsWellKept slots s.power s.size) (sym seen) k.staged.kept;
+    shown = λ q e l. was_bits q e l ∙ ap (λ (z : Contents). map_bit m.setup.geometry (z (map_disk (named_out m.out))) q e) (sym begins.block);
+    kept = subst (IsWellKept slots s.power s.size) seen_desk (kept_other slots s.power s.size seen_was before.dirty in_range refl was_bits was_kept);
   }
+
+  blocks_was : (b : ℕ) → b < count → blocks_of (sees m before) b ≡ blocks_of v b
+  blocks_was b l =
+      ap (λ (z : View). blocks_of z b) (sym seen_desk) ∙ block_other slots s.power s.size seen_was before.dirty in_range refl was_bits was_kept b l ∙ ap (λ (z : View). blocks_of z b) seen
 
   all : AreWritten slots s.power s.size m before later entry
   all = many_writes_keep slots s.power s.size m entry before later in_range kept stage
@@ -164,7 +183,7 @@ module _ (slots : ℕ) (named : Option ℕ) (m : Meta) (table table_then : List 
       ∙ block_other slots s.power s.size seen_then mapped.dirty in_range refl bits placed.0 b l
       ∙ placed.1 (home_row shape.disks b) (home_disk shape.disks b) (home_row_below shape.disks b shape.rows (omega arith) l) (home_disk_below shape.disks b (omega arith))
       ∙ all.blocks b l
-      ∙ ap (λ (y : Block). last_of b y entry) (ap (λ (z : View). blocks_of z b) seen ∙ k.staged.blocks b l)
+      ∙ ap (λ (y : Block). last_of b y entry) (blocks_was b l ∙ k.staged.blocks b l)
       ∙ sym (held-append h entry b)
 
   staged_at : ContentOk slots s.power s.size (view_at (named_out m.out)) (h ++ entry ∷ []) (length (h ++ entry ∷ []))

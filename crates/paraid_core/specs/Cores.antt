@@ -1,5 +1,5 @@
 -- What contracts see of a core.
-use Rattle.std.specs.Prelude.{◌≡◌, ℕ, ◌-◌, ◌*◌, List, Bool, length, Option}
+use Rattle.std.specs.Prelude.{ℕ, ◌-◌, ◌*◌, List, Bool, length, Option}
 use Rattle.paraid_base.specs.History.{History}
 use Rattle.paraid_rack.specs.Disks.{Disks}
 use Rattle.paraid_rack.specs.Slots.{Slot}
@@ -58,3 +58,7 @@ Stands count core h lo = Keeps (count (rack_of core.store)) (named_of core.store
 -- what holds at each moment of a call
 abbrev pub Held : {R : Type 0} {g : _} → (R → ℕ) → Core R g → History → ℕ → Disks → Type 0
 Held count core h lo = HeldBeside (count (rack_of core.store)) core.meta.setup.geometry.disks (down_of core) h lo
+
+-- what holds at each moment of reads: a disk that has failed since the last commit takes nothing away
+abbrev pub HeldSince : {R : Type 0} {g : _} → (R → ℕ) → Core R g → History → ℕ → Disks → Type 0
+HeldSince count core h lo = HeldBeside (count (rack_of core.store)) core.meta.setup.geometry.disks (named_of core.store) h lo

@@ -6,7 +6,7 @@ use Rattle.paraid_rack.specs.Told.{Ran}
 use Rattle.paraid_rack.specs.Trail.{Trail}
 use Rattle.paraid_record.specs.declared.meta.Meta.{Meta}
 use Rattle.paraid_image.specs.Out.{named_out}
-use Rattle.paraid_txn.specs.Stores.{IsSameStore, disks_of, rack_of}
+use Rattle.paraid_txn.specs.Stores.{disks_of, rack_of}
 use Rattle.paraid_view.specs.Reads.{AreLeft, AreReads}
 use Rattle.paraid_view.proofs.ReadLemmas.{left_none, left_then, ran_none, ran_then, told_before}
 use Rattle.paraid_core.specs.declared.staged.Core.{Core}
@@ -21,6 +21,7 @@ module _ {R : Type 0} {g : _} (count : R → ℕ) (slot : R → ℕ → Slot) (t
     batch = refl;
     rows = refl;
     undone_same = refl;
+    logged = λ are. are;
     calls = ran_none (told (rack_of a.store)) (disks_of a.store);
     left = λ none. subst (λ (f : Option ℕ). AreLeft f (slot (rack_of a.store)) (slot (rack_of a.store))) (sym none) (left_none (slot (rack_of a.store)));
     over = λ e is. (is, refl);
@@ -58,6 +59,7 @@ module _ {R : Type 0} {g : _} (count : R → ℕ) (slot : R → ℕ → Slot) (t
       batch = q.batch ∙ p.batch;
       rows = q.rows ∙ p.rows;
       undone_same = q.undone_same ∙ p.undone_same;
+      logged = λ are. q.logged (p.logged are);
       calls = ran_then (told (rack_of a.store)) (told (rack_of b.store)) (told (rack_of c.store)) (disks_of a.store) p.calls
           (subst (λ (n : ℕ). Ran (told (rack_of b.store)) (told (rack_of c.store)) (AreReads n)) p.same.disks q.calls);
       left = left_by b.failed refl;

@@ -4,3 +4,4 @@ pub mod Writes
 pub mod Undo
 pub mod Plans
 pub mod Leads
+pub mod Taken

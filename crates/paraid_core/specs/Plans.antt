@@ -1,5 +1,5 @@
 -- What a plan over a core sees, and how it goes on.
-use Rattle.std.specs.Prelude.{◌≡◌, ◌≢◌, ℕ, ◌<◌, List, Bool, length, Option, Some, None, IsSome}
+use Rattle.std.specs.Prelude.{[], ◌≡◌, ◌≢◌, ℕ, ◌<◌, length, Option, Some, None}
 use Rattle.paraid_base.specs.Xor.{zeroed}
 use Rattle.paraid_dirty.specs.Table.{is_dirty}
 use Rattle.paraid_plan.specs.Desk.{Desk}
@@ -14,7 +14,7 @@ use Rattle.paraid_image.specs.Standing.{Contents, contents}
 use Rattle.paraid_txn.specs.Stores.{IsSameStore, disks_of, rack_of}
 use Rattle.paraid_view.specs.Reads.{AreLeft, AreReads, CanRead}
 use Rattle.paraid_core.specs.declared.staged.Core.{Core}
-use Rattle.paraid_core.specs.Undo.{undone}
+use Rattle.paraid_core.specs.Undo.{AreLogged, undone}
 
 -- the blocks with the batch laid over, by what is told of the disks
 abbrev pub base_of : Option Trail → Batch → Contents
@@ -28,6 +28,10 @@ desk_of told core = record {
   dirty = is_dirty core.dirty;
   staged = core.draft;
 }
+
+-- a core in which no plan has begun
+abbrev pub cleared : {R : Type 0} {g : _} → Core R g → Core R g
+cleared core = record core { draft = []; changes = []; failed = None }
 
 -- cells can be read under this meta, and no read has failed
 pub record ServesPlan {R : Type 0} {g : _} (count : R → ℕ) (slot : R → ℕ → Slot) (core : Core R g) (m : Meta) : Type 0 where
@@ -46,6 +50,7 @@ pub record LeadsTo {R : Type 0} {g : _} (count : R → ℕ) (slot : R → ℕ �
   pub batch : b.batch ≡ a.batch
   pub rows : length b.dirty ≡ length a.dirty
   pub undone_same : undone b.changes (is_dirty b.dirty) ≡ undone a.changes (is_dirty a.dirty)
+  pub logged : AreLogged (length a.dirty) a.changes → AreLogged (length b.dirty) b.changes
   pub calls : Ran (told (rack_of a.store)) (told (rack_of b.store)) (AreReads (disks_of a.store))
   pub left : a.failed ≡ None → AreLeft b.failed (slot (rack_of a.store)) (slot (rack_of b.store))
   pub over : (e : ℕ) → a.failed ≡ Some e → (b.failed ≡ Some e) × (slot (rack_of b.store) ≡ slot (rack_of a.store))

@@ -1,5 +1,5 @@
 -- What a core stands for: the meta of the last commit, and all that is staged over it.
-use Rattle.std.specs.Prelude.{◌≡◌, ◌≢◌, ℕ, ◌+◌, ◌*◌, ◌<◌, ◌≤◌, ◌⊎◌, true, false, List, Bool, length, Option, Some, None, All, nat_lt, if◌then◌else◌}
+use Rattle.std.specs.Prelude.{◌≡◌, ◌≢◌, ℕ, ◌+◌, ◌*◌, ◌<◌, ◌≤◌, true, false, List, Bool, length, Option, Some, None, All, nat_lt, if◌then◌else◌}
 use Rattle.paraid_base.specs.declared.state.Out.TheVariants.{Fresh}
 use Rattle.paraid_base.specs.History.{History}
 use Rattle.paraid_base.specs.Regions.{disk_size, map_count}
@@ -22,6 +22,7 @@ use Rattle.paraid_image.specs.Sides.{Batch, targets}
 use Rattle.paraid_image.specs.Sound.{ContentOk}
 use Rattle.paraid_image.specs.Spot.{rising_to}
 use Rattle.paraid_image.specs.Standing.{Contents, contents}
+use Rattle.paraid_core.specs.Taken.{AreApart}
 
 -- While no disk is missing but this one, by what is named or absent, each stop leaves a first part
 -- of `h` that has at least `lo` writes.
@@ -63,6 +64,7 @@ pub record IsReady (count : ℕ) (slot : ℕ → Slot) (last array : ℕ) (named
   -- what is staged can be committed
   pub each : All (IsTargetInRange m.setup.geometry) (targets batch)
   pub can : AreTargetsReady (gone_out m.out) count slot (targets batch)
+  pub apart : AreApart batch
 
 -- Cells can be read and written: in a shift up the disks of the new gear have come up, and a disk
 -- that was named out by the last commit still is.

@@ -1,5 +1,5 @@
 -- What a staged write makes of what a core stands for.
-use Rattle.std.specs.Prelude.{◌≡◌, ℕ, ◌+◌, ◌-◌, ◌*◌, ◌<◌, ◌≤◌, false, List, Bool, [], ◌∷◌, ◌++◌, length, Option, Some}
+use Rattle.std.specs.Prelude.{◌≡◌, ℕ, ◌+◌, ◌*◌, ◌<◌, ◌≤◌, false, List, Bool, [], ◌∷◌, ◌++◌, length, Option, Some}
 use Rattle.paraid_base.specs.declared.block.Block.{Block}
 use Rattle.paraid_base.specs.History.{Entry, History}
 use Rattle.paraid_base.specs.Regions.{map_count}
@@ -19,7 +19,7 @@ use Rattle.paraid_core.specs.Stands.{Keeps}
 -- the desk of a plan that begins over these disks
 pub record Begins (m : Meta) (batch : Batch) (s : Disks) (desk : Desk) : Type 0 where
   pub block : desk.block ≡ contents s batch
-  pub dirty : desk.dirty ≡ (view_by m s.power (contents s batch)).dirty
+  pub dirty : (r d : ℕ) → r < 512 * map_count m.setup.geometry → desk.dirty r d ≡ (view_by m s.power (contents s batch)).dirty r d
   pub staged : desk.staged ≡ []
 
 -- All that a plan has staged was added to the batch, and its bits set in the table.

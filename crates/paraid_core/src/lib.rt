@@ -5,6 +5,8 @@ mod changes;
 mod laws;
 mod plan;
 mod staged;
+mod take;
+mod write;
 
 pub use changes::{Change, Changes};
 pub use laws::{a_rest_is_stood_for, a_taken_write_is_accepted};

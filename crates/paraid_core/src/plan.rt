@@ -1,6 +1,7 @@
 //! A core as that over which a write is planned: what is drafted is seen by the reads of the plan, and
 //! nothing of it is staged yet.
-ghost use Rattle.std.specs.Prelude.{◌++◌, ◌≡◌, ◌≢◌, ℕ, ◌+◌, ◌<◌, ◌≤◌, Some, Option, IfErr, IsSome, IsTrue, ◌↔◌, OnOk, length, false};
+ghost use Rattle.std.specs.Prelude.{◌++◌, ◌≡◌, ◌≢◌, ℕ, ◌+◌, ◌<◌, ◌≤◌, Some, Option, IfErr, IsSome, IsTrue, ◌↔◌, OnOk, length, false, []};
+ghost use Rattle.paraid_core.specs.Undo.{AreLogged, undone};
 ghost use Rattle.paraid_dirty.specs.Table.{changed, is_dirty};
 ghost use Rattle.paraid_image.specs.Standing.{Contents};
 ghost use Rattle.paraid_plan.specs.Staged.{soft_count, stripe_block};
@@ -8,6 +9,7 @@ ghost use Rattle.paraid_record.specs.Range.{IsInRange};
 ghost use Rattle.paraid_txn.specs.Stores.{disks_of, rack_of};
 ghost use Rattle.paraid_view.specs.Reads.{CanRead, HaveRead, Shows, lost_by, seen_by};
 
+use crate::changes::Changes;
 use crate::staged::{Core, named_out};
 use paraid_base::{Block, DiskNo, Place, Row};
 use paraid_dirty::DirtyTable;
@@ -70,6 +72,18 @@ fn turn(dirty: &mut DirtyTable, r: Row, d: DiskNo, bit: bool)
         return;
     }
     dirty.clear(r, d);
+}
+
+// Makes the dirty bits what they were before the changes.
+pub(crate) fn undo(changes: &mut Changes, dirty: &mut DirtyTable)
+    requires logged { AreLogged (length dirty.old) changes.old }
+    ensures rows { length dirty.new ≡ length dirty.old }
+    ensures bits { is_dirty dirty.new ≡ undone changes.old (is_dirty dirty.old) }
+    ensures none { changes.new ≡ [] }
+{
+    while let Some(change) = changes.pop() {
+        turn(dirty, change.row, change.disk, change.was);
+    }
 }
 
 impl<R: Rack> Plan for Core<R> {

@@ -56,7 +56,7 @@ pub(crate) fn named_out(out: Out) -> Option<DiskNo>
 }
 
 // A disk has failed, or none: it is out from now on, unless another one is.
-fn lose(meta: &mut Meta, lost: Option<DiskNo>) -> Result<(), Two>
+pub(crate) fn lose(meta: &mut Meta, lost: Option<DiskNo>) -> Result<(), Two>
     ensures marked { OnOk result (meta.new ≡ marked (lost_in meta.old lost) meta.old) }
     ensures alone { OnOk result ((d x : ℕ) → lost ≡ Some d → named_out_of meta.old.out ≡ Some x
         → d < meta.old.setup.geometry.disks → x ≡ d) }
@@ -193,6 +193,9 @@ impl<R: Rack> Core<R> {
         ensures draft { draft_of self.new ≡ draft_of self.old }
         ensures slots { R.slot_count (rack_in self.new) ≡ R.slot_count (rack_in self.old) }
         ensures ready { OnOk result (Ready R.slot_count R.slot self.new) }
+        ensures serves { OnOk result (Serves R.slot self.old → Serves R.slot self.new) }
+        ensures setup { OnOk result ((meta_of self.new).setup ≡ (meta_of self.old).setup) }
+        ensures writes { OnOk result ((meta_of self.new).writes ≡ (meta_of self.old).writes) }
         ensures spared { IsSpared (R.slot (rack_in self.old)) (R.slot (rack_in self.new)) }
         ensures dry { OnOk result (AreDry (R.slot (rack_in self.old)) (R.slot (rack_in self.new))) }
         ensures two { IfErr result (IsTwo (down_of self.old)

@@ -85,230 +85,232 @@ fn a_text_is_read_to_its_values(rt: HostRuntime) {
     assert!(rt; spread.burst == 1 && spread.period == 4294967295 && spread.ration == 100);
 }
 
+// A line in the place of another one, and what the text is refused by.
+const REFUSED: [(usize, &str, Option<ConfigFault>); 40] = [
+    (
+        2,
+        "gears = [4, 4, 5]\n",
+        Some(ConfigFault::Geometry(GeoFault::Gears { at: 1 })),
+    ),
+    (
+        2,
+        "gears = [4]\n",
+        Some(ConfigFault::Geometry(GeoFault::Gears { at: 1 })),
+    ),
+    (
+        2,
+        "gears = []\n",
+        Some(ConfigFault::Geometry(GeoFault::Gears { at: 0 })),
+    ),
+    (
+        1,
+        "rows = 0\n",
+        Some(ConfigFault::Geometry(GeoFault::Rows { value: 0 })),
+    ),
+    (
+        0,
+        "disks = 9\n",
+        Some(ConfigFault::Geometry(GeoFault::Disks { value: 9 })),
+    ),
+    (4, "", Some(ConfigFault::Missing { key: Key::Rate })),
+    (
+        6,
+        "up = 101\n",
+        Some(ConfigFault::Range {
+            key: Key::Up,
+            value: 101,
+        }),
+    ),
+    (3, "mode = 3\n", Some(ConfigFault::Kind { key: Key::Mode })),
+    (
+        3,
+        "mode = \"wholes\"\n",
+        Some(ConfigFault::Kind { key: Key::Mode }),
+    ),
+    (0, "=\n", Some(ConfigFault::NotToml)),
+    (0, "\"disks\" = 5\n", None),
+    (0, "disks = 5\ndisks = 5\n", Some(ConfigFault::NotToml)),
+    (
+        1,
+        "rows = 9223372036854775808\n",
+        Some(ConfigFault::NotToml),
+    ),
+    (
+        1,
+        "rows = 9223372036854775807\n",
+        Some(ConfigFault::Range {
+            key: Key::Rows,
+            value: 9223372036854775807,
+        }),
+    ),
+    (
+        1,
+        "rows = 4294967296\n",
+        Some(ConfigFault::Range {
+            key: Key::Rows,
+            value: 4294967296,
+        }),
+    ),
+    (
+        1,
+        "rows = { count = 5 }\n",
+        Some(ConfigFault::Kind { key: Key::Rows }),
+    ),
+    (
+        1,
+        "rows = 1979-05-27\n",
+        Some(ConfigFault::Kind { key: Key::Rows }),
+    ),
+    (
+        1,
+        "rows = 5.0\n",
+        Some(ConfigFault::Kind { key: Key::Rows }),
+    ),
+    (
+        0,
+        "disks = -1\n",
+        Some(ConfigFault::Range {
+            key: Key::Disks,
+            value: -1,
+        }),
+    ),
+    (
+        0,
+        "disks = 256\n",
+        Some(ConfigFault::Range {
+            key: Key::Disks,
+            value: 256,
+        }),
+    ),
+    (
+        2,
+        "gears = 4\n",
+        Some(ConfigFault::Kind { key: Key::Gears }),
+    ),
+    (
+        2,
+        "gears = [4, \"5\"]\n",
+        Some(ConfigFault::Kind { key: Key::Gears }),
+    ),
+    (
+        2,
+        "gears = [3, 4, 5, 6, 7, 8, 9, 10, -1]\n",
+        Some(ConfigFault::Range {
+            key: Key::Gears,
+            value: 9,
+        }),
+    ),
+    (
+        2,
+        "gears = [4, 256, -1]\n",
+        Some(ConfigFault::Range {
+            key: Key::Gears,
+            value: 256,
+        }),
+    ),
+    (
+        8,
+        "windows = []\n",
+        Some(ConfigFault::Range {
+            key: Key::Windows,
+            value: 0,
+        }),
+    ),
+    (
+        8,
+        "windows = [1, 2, 3, 4]\n",
+        Some(ConfigFault::Range {
+            key: Key::Windows,
+            value: 4,
+        }),
+    ),
+    (
+        8,
+        "windows = [1025]\n",
+        Some(ConfigFault::Range {
+            key: Key::Windows,
+            value: 1025,
+        }),
+    ),
+    (
+        4,
+        "rate = 65537\n",
+        Some(ConfigFault::Range {
+            key: Key::Rate,
+            value: 65537,
+        }),
+    ),
+    (
+        5,
+        "service = 0\n",
+        Some(ConfigFault::Range {
+            key: Key::Service,
+            value: 0,
+        }),
+    ),
+    (
+        7,
+        "down = 0\n",
+        Some(ConfigFault::Range {
+            key: Key::Down,
+            value: 0,
+        }),
+    ),
+    (
+        9,
+        "ration = 65536\n",
+        Some(ConfigFault::Range {
+            key: Key::Ration,
+            value: 65536,
+        }),
+    ),
+    (
+        12,
+        "spinup_mj = 1048577\n",
+        Some(ConfigFault::Range {
+            key: Key::SpinupMj,
+            value: 1048577,
+        }),
+    ),
+    (
+        13,
+        "burst = 101\n",
+        Some(ConfigFault::Range {
+            key: Key::Burst,
+            value: 101,
+        }),
+    ),
+    (
+        13,
+        "period = 0\nburst = 0\n",
+        Some(ConfigFault::Range {
+            key: Key::Burst,
+            value: 0,
+        }),
+    ),
+    (
+        13,
+        "period = 4294967296\n",
+        Some(ConfigFault::Range {
+            key: Key::Period,
+            value: 4294967296,
+        }),
+    ),
+    (
+        13,
+        "period = [1]\n",
+        Some(ConfigFault::Kind { key: Key::Period }),
+    ),
+    (13, "ups = 1\n", Some(ConfigFault::Unknown { at: 12 })),
+    (13, "a.b = 1\n", Some(ConfigFault::Unknown { at: 0 })),
+    (13, "[windowsill]\n", Some(ConfigFault::Unknown { at: 13 })),
+    (0, "Disks = 5\n", Some(ConfigFault::Unknown { at: 0 })),
+];
+
 #[test]
 fn a_text_is_refused_by_its_first_cause(rt: HostRuntime) {
     let alloc = rt.alloc();
-    let cases = [
-        (
-            2,
-            "gears = [4, 4, 5]\n",
-            Some(ConfigFault::Geometry(GeoFault::Gears { at: 1 })),
-        ),
-        (
-            2,
-            "gears = [4]\n",
-            Some(ConfigFault::Geometry(GeoFault::Gears { at: 1 })),
-        ),
-        (
-            2,
-            "gears = []\n",
-            Some(ConfigFault::Geometry(GeoFault::Gears { at: 0 })),
-        ),
-        (
-            1,
-            "rows = 0\n",
-            Some(ConfigFault::Geometry(GeoFault::Rows { value: 0 })),
-        ),
-        (
-            0,
-            "disks = 9\n",
-            Some(ConfigFault::Geometry(GeoFault::Disks { value: 9 })),
-        ),
-        (4, "", Some(ConfigFault::Missing { key: Key::Rate })),
-        (
-            6,
-            "up = 101\n",
-            Some(ConfigFault::Range {
-                key: Key::Up,
-                value: 101,
-            }),
-        ),
-        (3, "mode = 3\n", Some(ConfigFault::Kind { key: Key::Mode })),
-        (
-            3,
-            "mode = \"wholes\"\n",
-            Some(ConfigFault::Kind { key: Key::Mode }),
-        ),
-        (0, "=\n", Some(ConfigFault::NotToml)),
-        (0, "\"disks\" = 5\n", None),
-        (0, "disks = 5\ndisks = 5\n", Some(ConfigFault::NotToml)),
-        (
-            1,
-            "rows = 9223372036854775808\n",
-            Some(ConfigFault::NotToml),
-        ),
-        (
-            1,
-            "rows = 9223372036854775807\n",
-            Some(ConfigFault::Range {
-                key: Key::Rows,
-                value: 9223372036854775807,
-            }),
-        ),
-        (
-            1,
-            "rows = 4294967296\n",
-            Some(ConfigFault::Range {
-                key: Key::Rows,
-                value: 4294967296,
-            }),
-        ),
-        (
-            1,
-            "rows = { count = 5 }\n",
-            Some(ConfigFault::Kind { key: Key::Rows }),
-        ),
-        (
-            1,
-            "rows = 1979-05-27\n",
-            Some(ConfigFault::Kind { key: Key::Rows }),
-        ),
-        (
-            1,
-            "rows = 5.0\n",
-            Some(ConfigFault::Kind { key: Key::Rows }),
-        ),
-        (
-            0,
-            "disks = -1\n",
-            Some(ConfigFault::Range {
-                key: Key::Disks,
-                value: -1,
-            }),
-        ),
-        (
-            0,
-            "disks = 256\n",
-            Some(ConfigFault::Range {
-                key: Key::Disks,
-                value: 256,
-            }),
-        ),
-        (
-            2,
-            "gears = 4\n",
-            Some(ConfigFault::Kind { key: Key::Gears }),
-        ),
-        (
-            2,
-            "gears = [4, \"5\"]\n",
-            Some(ConfigFault::Kind { key: Key::Gears }),
-        ),
-        (
-            2,
-            "gears = [3, 4, 5, 6, 7, 8, 9, 10, -1]\n",
-            Some(ConfigFault::Range {
-                key: Key::Gears,
-                value: 9,
-            }),
-        ),
-        (
-            2,
-            "gears = [4, 256, -1]\n",
-            Some(ConfigFault::Range {
-                key: Key::Gears,
-                value: 256,
-            }),
-        ),
-        (
-            8,
-            "windows = []\n",
-            Some(ConfigFault::Range {
-                key: Key::Windows,
-                value: 0,
-            }),
-        ),
-        (
-            8,
-            "windows = [1, 2, 3, 4]\n",
-            Some(ConfigFault::Range {
-                key: Key::Windows,
-                value: 4,
-            }),
-        ),
-        (
-            8,
-            "windows = [1025]\n",
-            Some(ConfigFault::Range {
-                key: Key::Windows,
-                value: 1025,
-            }),
-        ),
-        (
-            4,
-            "rate = 65537\n",
-            Some(ConfigFault::Range {
-                key: Key::Rate,
-                value: 65537,
-            }),
-        ),
-        (
-            5,
-            "service = 0\n",
-            Some(ConfigFault::Range {
-                key: Key::Service,
-                value: 0,
-            }),
-        ),
-        (
-            7,
-            "down = 0\n",
-            Some(ConfigFault::Range {
-                key: Key::Down,
-                value: 0,
-            }),
-        ),
-        (
-            9,
-            "ration = 65536\n",
-            Some(ConfigFault::Range {
-                key: Key::Ration,
-                value: 65536,
-            }),
-        ),
-        (
-            12,
-            "spinup_mj = 1048577\n",
-            Some(ConfigFault::Range {
-                key: Key::SpinupMj,
-                value: 1048577,
-            }),
-        ),
-        (
-            13,
-            "burst = 101\n",
-            Some(ConfigFault::Range {
-                key: Key::Burst,
-                value: 101,
-            }),
-        ),
-        (
-            13,
-            "period = 0\nburst = 0\n",
-            Some(ConfigFault::Range {
-                key: Key::Burst,
-                value: 0,
-            }),
-        ),
-        (
-            13,
-            "period = 4294967296\n",
-            Some(ConfigFault::Range {
-                key: Key::Period,
-                value: 4294967296,
-            }),
-        ),
-        (
-            13,
-            "period = [1]\n",
-            Some(ConfigFault::Kind { key: Key::Period }),
-        ),
-        (13, "ups = 1\n", Some(ConfigFault::Unknown { at: 12 })),
-        (13, "a.b = 1\n", Some(ConfigFault::Unknown { at: 0 })),
-        (13, "[windowsill]\n", Some(ConfigFault::Unknown { at: 13 })),
-        (0, "Disks = 5\n", Some(ConfigFault::Unknown { at: 0 })),
-    ];
-    for (place, line, fault) in cases {
+    for (place, line, fault) in REFUSED {
         assert!(rt;
             read_with(alloc, place, line).err() == fault,
             "line {place}: {line}"
@@ -316,19 +318,21 @@ fn a_text_is_refused_by_its_first_cause(rt: HostRuntime) {
     }
 }
 
+// Texts with several causes.
+const FIRST: [(&[u8], ConfigFault); 4] = [
+    (b"", ConfigFault::Missing { key: Key::Disks }),
+    (
+        b"disks = 5\nrows = 1.5\nrate = 0",
+        ConfigFault::Kind { key: Key::Rows },
+    ),
+    (b"rate = 0\nzone = 1", ConfigFault::Unknown { at: 1 }),
+    (b"disks = 300\n\xff", ConfigFault::NotToml),
+];
+
 #[test]
 fn the_order_of_the_keys_decides(rt: HostRuntime) {
     let alloc = rt.alloc();
-    let cases: [(&[u8], ConfigFault); 4] = [
-        (b"", ConfigFault::Missing { key: Key::Disks }),
-        (
-            b"disks = 5\nrows = 1.5\nrate = 0",
-            ConfigFault::Kind { key: Key::Rows },
-        ),
-        (b"rate = 0\nzone = 1", ConfigFault::Unknown { at: 1 }),
-        (b"disks = 300\n\xff", ConfigFault::NotToml),
-    ];
-    for (text, fault) in cases {
+    for (text, fault) in FIRST {
         assert!(rt; read_config(alloc, text).err() == Some(fault));
     }
 }

@@ -25,31 +25,33 @@ fn decided(rt: &(impl Abort + AllocGlobal), setup: &Setup, gear: u8, counts: [u3
     windows.decide(setup, gear)
 }
 
+// Service and bounds, windows, a gear, two counts, and what is decided.
+const DECISIONS: [((u32, u8, u8), [u16; 3], u8, [u32; 2], Decision); 12] = [
+    ((1, 80, 60), [2, 0, 0], 5, [0, 0], Down { to: 4 }),
+    ((1, 80, 60), [2, 0, 0], 4, [0, 7], Up { to: 5 }),
+    ((1, 80, 60), [2, 0, 0], 4, [0, 6], Stay),
+    ((1, 80, 60), [2, 0, 0], 5, [0, 4], Stay),
+    ((1, 80, 60), [2, 0, 0], 5, [2, 2], Down { to: 4 }),
+    ((1, 80, 60), [2, 0, 0], 4, [0, 0], Stay),
+    ((1, 80, 60), [2, 0, 0], 5, [9, 9], Stay),
+    // A window that is not full, and one of the last sample alone.
+    ((1, 80, 60), [3, 0, 0], 5, [0, 0], Stay),
+    ((1, 80, 60), [1, 0, 0], 5, [9, 0], Down { to: 4 }),
+    ((1, 80, 60), [2, 1, 0], 4, [0, 7], Up { to: 5 }),
+    ((1, 80, 60), [2, 1, 0], 4, [7, 0], Stay),
+    // A count is cut.
+    (
+        (1048576, 80, 25),
+        [1, 0, 0],
+        5,
+        [0, 2000000],
+        Down { to: 4 },
+    ),
+];
+
 #[test]
 fn the_load_and_its_deviation_in_every_window_choose_the_gear(rt: HostRuntime) {
-    let rows = [
-        ((1, 80, 60), [2, 0, 0], 5, [0, 0], Down { to: 4 }),
-        ((1, 80, 60), [2, 0, 0], 4, [0, 7], Up { to: 5 }),
-        ((1, 80, 60), [2, 0, 0], 4, [0, 6], Stay),
-        ((1, 80, 60), [2, 0, 0], 5, [0, 4], Stay),
-        ((1, 80, 60), [2, 0, 0], 5, [2, 2], Down { to: 4 }),
-        ((1, 80, 60), [2, 0, 0], 4, [0, 0], Stay),
-        ((1, 80, 60), [2, 0, 0], 5, [9, 9], Stay),
-        // A window that is not full, and one of the last sample alone.
-        ((1, 80, 60), [3, 0, 0], 5, [0, 0], Stay),
-        ((1, 80, 60), [1, 0, 0], 5, [9, 0], Down { to: 4 }),
-        ((1, 80, 60), [2, 1, 0], 4, [0, 7], Up { to: 5 }),
-        ((1, 80, 60), [2, 1, 0], 4, [7, 0], Stay),
-        // A count is cut.
-        (
-            (1048576, 80, 25),
-            [1, 0, 0],
-            5,
-            [0, 2000000],
-            Down { to: 4 },
-        ),
-    ];
-    for ((service, up, down), windows, gear, counts, want) in rows {
+    for ((service, up, down), windows, gear, counts, want) in DECISIONS {
         let windows: [u16; 3] = windows;
         if windows[0] <= 1024 && windows[1] <= 1024 && windows[2] <= 1024 {
             let setup = setup(&rt, service, up, down, windows);
@@ -59,36 +61,40 @@ fn the_load_and_its_deviation_in_every_window_choose_the_gear(rt: HostRuntime) {
     }
 }
 
+// What is allowed, a range of disks, and whether they may be parked.
+const PARKING: [(u16, u8, u8, Result<(), u8>); 7] = [
+    (3, 1, 7, Err(4)),
+    (2, 1, 7, Err(3)),
+    (3, 1, 4, Ok(())),
+    (1, 2, 8, Err(2)),
+    (1, 0, 8, Err(0)),
+    (1, 5, 5, Ok(())),
+    (9, 1, 8, Err(7)),
+];
+
+// A ration, a burst, a period and ticks, and what is allowed.
+const ALLOWED: [((u16, u16, u32, u64), u16); 10] = [
+    ((100, 1, 4, 0), 1),
+    ((100, 1, 4, 3), 1),
+    ((100, 1, 4, 4), 2),
+    ((100, 1, 4, 395), 99),
+    ((100, 1, 4, 396), 100),
+    ((100, 1, 4, u64::MAX), 100),
+    ((100, 100, 1, 7), 100),
+    ((3, 2, 4294967295, 4294967294), 2),
+    ((65535, 1, 4294967295, 4294967295), 2),
+    ((65535, 65534, 1, u64::MAX), 65535),
+];
+
 #[test]
 fn spin_ups_are_allowed_by_age(rt: HostRuntime) {
     let spins = [9, 0, 1, 2, 3, 2, 0, 9];
-    let rows = [
-        (3, 1, 7, Err(4)),
-        (2, 1, 7, Err(3)),
-        (3, 1, 4, Ok(())),
-        (1, 2, 8, Err(2)),
-        (1, 0, 8, Err(0)),
-        (1, 5, 5, Ok(())),
-        (9, 1, 8, Err(7)),
-    ];
-    for (allowed, lo, hi, want) in rows {
+    for (allowed, lo, hi, want) in PARKING {
         let found = may_park(&spins, allowed, lo, hi);
         assert_eq!(rt; found, want, "at {allowed} from {lo} to {hi}");
     }
     // A burst, one more for each period of ticks, and no more than the ration.
-    let rows = [
-        ((100, 1, 4, 0), 1),
-        ((100, 1, 4, 3), 1),
-        ((100, 1, 4, 4), 2),
-        ((100, 1, 4, 395), 99),
-        ((100, 1, 4, 396), 100),
-        ((100, 1, 4, u64::MAX), 100),
-        ((100, 100, 1, 7), 100),
-        ((3, 2, 4294967295, 4294967294), 2),
-        ((65535, 1, 4294967295, 4294967295), 2),
-        ((65535, 65534, 1, u64::MAX), 65535),
-    ];
-    for ((ration, burst, period, ticks), want) in rows {
+    for ((ration, burst, period, ticks), want) in ALLOWED {
         let period: u32 = period;
         let found = allowance(ration, burst, period.max(1), ticks);
         assert_eq!(rt; found, want, "{burst} and {ticks} / {period} of {ration}");

@@ -56,7 +56,7 @@ fn answers<S: Source>(alloc: Global, source: &mut S) -> Result<Vec<u8>, Fail> {
 }
 
 // `before`, so many times `x`, and `after`.
-fn with_run(alloc: Global, parts: (&str, usize, &str)) -> Result<Vec<u8>, Fail> {
+fn with_run(alloc: Global, parts: Part) -> Result<Vec<u8>, Fail> {
     let mut text = Vec::new(alloc);
     text.extend_from_slice(parts.0.as_bytes())?;
     for _ in 0..parts.1 {
@@ -66,22 +66,27 @@ fn with_run(alloc: Global, parts: (&str, usize, &str)) -> Result<Vec<u8>, Fail> 
     Ok(text)
 }
 
+// A text, so many times `x`, and another text.
+type Part = (&'static str, usize, &'static str);
+
+// Inputs, and what a reader answers.
+const INPUTS: [(Part, Part); 10] = [
+    (("", 0, ""), ("end", 0, "")),
+    (("\n", 0, ""), ("|end", 0, "")),
+    (("a\n\nbc", 0, ""), ("a||bc|end", 0, "")),
+    (("\0\r\né\n", 0, ""), ("\0\r|é|end", 0, "")),
+    (("", 1100, "\nz\n"), ("", 1100, "|z|end")),
+    (("", 1100, ""), ("", 1100, "|end")),
+    (("", 1101, "\nz\n"), ("1101 bytes|z|end", 0, "")),
+    (("", 1101, ""), ("1101 bytes|end", 0, "")),
+    (("q\n", 2000, "\n\nz"), ("q|2000 bytes||z|end", 0, "")),
+    (("q\n", 20000, "\nz"), ("q|20000 bytes|z|end", 0, "")),
+];
+
 #[test]
 fn lines_are_the_input_cut_at_its_newlines(rt: HostRuntime) -> Result<(), Fail> {
     let alloc = rt.alloc();
-    let table = [
-        (("", 0, ""), ("end", 0, "")),
-        (("\n", 0, ""), ("|end", 0, "")),
-        (("a\n\nbc", 0, ""), ("a||bc|end", 0, "")),
-        (("\0\r\né\n", 0, ""), ("\0\r|é|end", 0, "")),
-        (("", 1100, "\nz\n"), ("", 1100, "|z|end")),
-        (("", 1100, ""), ("", 1100, "|end")),
-        (("", 1101, "\nz\n"), ("1101 bytes|z|end", 0, "")),
-        (("", 1101, ""), ("1101 bytes|end", 0, "")),
-        (("q\n", 2000, "\n\nz"), ("q|2000 bytes||z|end", 0, "")),
-        (("q\n", 20000, "\nz"), ("q|20000 bytes|z|end", 0, "")),
-    ];
-    for (input, want) in table {
+    for (input, want) in INPUTS {
         let want = with_run(alloc, want)?;
         let mut failing = MemSource::new(with_run(alloc, input)?, Vec::new(alloc));
         assert_eq!(rt; answers(alloc, &mut failing)?.as_slice(), want.as_slice());
@@ -95,6 +100,16 @@ fn lines_are_the_input_cut_at_its_newlines(rt: HostRuntime) -> Result<(), Fail> 
     }
     Ok(())
 }
+
+// What is written, whether that is done, and what the sink then holds.
+const WRITTEN: [(&str, bool, &str); 6] = [
+    ("abc", false, ""),
+    ("", true, ""),
+    ("abc", true, "abc"),
+    ("defg", false, "abc"),
+    ("defg", false, "abcde"),
+    ("", true, "abcde"),
+];
 
 #[test]
 fn a_fault_is_answered_again(rt: HostRuntime) -> Result<(), Fail> {
@@ -120,15 +135,7 @@ fn a_fault_is_answered_again(rt: HostRuntime) -> Result<(), Fail> {
     // The sink fails as planned, and where it is full.
     let fails = vec![in alloc; 0, 2]?;
     let mut sink = MemSink::new(alloc, 5, fails)?;
-    let rows: [(&str, bool, &str); 6] = [
-        ("abc", false, ""),
-        ("", true, ""),
-        ("abc", true, "abc"),
-        ("defg", false, "abc"),
-        ("defg", false, "abcde"),
-        ("", true, "abcde"),
-    ];
-    for (bytes, done, held) in rows {
+    for (bytes, done, held) in WRITTEN {
         let want = if done { Ok(()) } else { Err(Failed) };
         assert_eq!(rt; write_all(&mut sink, bytes.as_bytes()), want);
         assert_eq!(rt; sink.bytes(), held.as_bytes());

@@ -71,25 +71,43 @@ fn is_write(rack: &MemRack, m: u32) -> bool {
 
 const NEVER: Planned = Planned::AtCall(99);
 
-const fn on(disk: DiskNo, nth: u32) -> Planned {
-    Planned::OnDisk { disk, nth }
-}
+// The most calls that are listed, two plans, and how each call goes.
+const PLANS: [(u32, Planned, Planned, &[u8; 11]); 8] = [
+    (100, NEVER, NEVER, b"..........."),
+    (100, Planned::AtCall(4), NEVER, b"....x-....."),
+    (
+        100,
+        Planned::OnDisk { disk: 1, nth: 3 },
+        NEVER,
+        b".......x---",
+    ),
+    (100, Planned::AtCall(0), NEVER, b"x.-.--....."),
+    (
+        100,
+        Planned::OnDisk { disk: 1, nth: 5 },
+        NEVER,
+        b".........x-",
+    ),
+    (100, Planned::AtCall(10), NEVER, b"..........x"),
+    // With disk 0 lost, call 2 is the write of disk 1.
+    (
+        100,
+        Planned::AtCall(2),
+        Planned::OnDisk { disk: 0, nth: 0 },
+        b"x.-x-------",
+    ),
+    // A call that is not listed has no number.
+    (
+        3,
+        Planned::AtCall(3),
+        Planned::OnDisk { disk: 1, nth: 2 },
+        b"...........",
+    ),
+];
 
 #[test]
 fn the_planned_calls_fail_and_the_others_are_listed(rt: HostRuntime) {
-    let rows = [
-        (100, NEVER, NEVER, b"..........."),
-        (100, Planned::AtCall(4), NEVER, b"....x-....."),
-        (100, on(1, 3), NEVER, b".......x---"),
-        (100, Planned::AtCall(0), NEVER, b"x.-.--....."),
-        (100, on(1, 5), NEVER, b".........x-"),
-        (100, Planned::AtCall(10), NEVER, b"..........x"),
-        // With disk 0 lost, call 2 is the write of disk 1.
-        (100, Planned::AtCall(2), on(0, 0), b"x.-x-------"),
-        // A call that is not listed has no number.
-        (3, Planned::AtCall(3), on(1, 2), b"..........."),
-    ];
-    for (calls, first, second, marks) in rows {
+    for (calls, first, second, marks) in PLANS {
         let mut rack = rack_of(&rt, 2, calls, first, second);
         walk(&rt, &mut rack, &WALK, marks);
     }
@@ -155,6 +173,32 @@ fn powers(rack: &MemRack) -> [u8; 4] {
     letters
 }
 
+// A moment, a pick, and what block 1 holds after the stop.
+const FILLED: Pick = Pick::Filled(3);
+
+const STOPS: [(u32, Pick, [u8; 4]); 18] = [
+    // Before the disk was attached there is no block, and on a fresh disk none is loose.
+    (0, Pick::New, [238; 4]),
+    (1, FILLED, [0; 4]),
+    (2, Pick::Old, [0; 4]),
+    (2, Pick::New, [7; 4]),
+    (2, FILLED, [3; 4]),
+    (2, Pick::Mixed, [7, 7, 0, 0]),
+    (3, Pick::Old, [7; 4]),
+    (3, FILLED, [7; 4]),
+    (4, Pick::Old, [7; 4]),
+    (4, Pick::New, [9; 4]),
+    (4, Pick::Mixed, [9, 9, 7, 7]),
+    // Written twice since the sync: the first of the two is gone.
+    (5, Pick::Old, [7; 4]),
+    (5, Pick::New, [11; 4]),
+    (5, Pick::Mixed, [11, 11, 7, 7]),
+    (6, Pick::Old, [0; 4]),
+    (6, FILLED, [0; 4]),
+    (7, Pick::Old, [0; 4]),
+    (7, Pick::Mixed, [13, 13, 0, 0]),
+];
+
 #[test]
 fn a_stop_leaves_each_loose_block_as_picked(rt: HostRuntime) {
     let mut rack = rack_of(&rt, 1, 9, NEVER, NEVER);
@@ -168,30 +212,7 @@ fn a_stop_leaves_each_loose_block_as_picked(rt: HostRuntime) {
         (0, Write(1, 13)),
     ];
     walk(&rt, &mut rack, &steps, b".......");
-    let filled = Pick::Filled(3);
-    let rows = [
-        // Before the disk was attached there is no block, and on a fresh disk none is loose.
-        (0, Pick::New, [238; 4]),
-        (1, filled, [0; 4]),
-        (2, Pick::Old, [0; 4]),
-        (2, Pick::New, [7; 4]),
-        (2, filled, [3; 4]),
-        (2, Pick::Mixed, [7, 7, 0, 0]),
-        (3, Pick::Old, [7; 4]),
-        (3, filled, [7; 4]),
-        (4, Pick::Old, [7; 4]),
-        (4, Pick::New, [9; 4]),
-        (4, Pick::Mixed, [9, 9, 7, 7]),
-        // Written twice since the sync: the first of the two is gone.
-        (5, Pick::Old, [7; 4]),
-        (5, Pick::New, [11; 4]),
-        (5, Pick::Mixed, [11, 11, 7, 7]),
-        (6, Pick::Old, [0; 4]),
-        (6, filled, [0; 4]),
-        (7, Pick::Old, [0; 4]),
-        (7, Pick::Mixed, [13, 13, 0, 0]),
-    ];
-    for (moment, pick, want) in rows {
+    for (moment, pick, want) in STOPS {
         let stopped = stop(rt.alloc(), &rack, moment, pick).expect(&rt, "there is memory");
         assert_eq!(rt; ends(&stopped, 0, 1), want, "at {moment}");
         // Block 0 was never written.
@@ -207,9 +228,19 @@ fn a_stop_leaves_each_loose_block_as_picked(rt: HostRuntime) {
     assert_eq!(rt; ends(&stopped, 0, 1), [7; 4]);
 }
 
+// A moment, the powers after the stop, and what block 2 of disk 1 holds.
+const POWERS: [(u32, &[u8; 4], [u8; 4]); 6] = [
+    (0, b"AAAA", [238; 4]),
+    (2, b"SSAA", [0; 4]),
+    (4, b"SSPA", [0; 4]),
+    (5, b"SSPA", [7; 4]),
+    (6, b"SAPA", [238; 4]),
+    (7, b"SASA", [238; 4]),
+];
+
 #[test]
 fn a_stop_keeps_powers_and_its_rack_serves_and_stops_again(rt: HostRuntime) {
-    let mut rack = rack_of(&rt, 4, 9, on(1, 2), NEVER);
+    let mut rack = rack_of(&rt, 4, 9, Planned::OnDisk { disk: 1, nth: 2 }, NEVER);
     let steps = [
         (0, Attach(2)),
         (1, Attach(3)),
@@ -221,15 +252,7 @@ fn a_stop_keeps_powers_and_its_rack_serves_and_stops_again(rt: HostRuntime) {
     ];
     walk(&rt, &mut rack, &steps, b".....x.");
     // Block 2 of disk 1 is loose before call 5, a sync that fails and takes the disk away.
-    let rows = [
-        (0, b"AAAA", [238; 4]),
-        (2, b"SSAA", [0; 4]),
-        (4, b"SSPA", [0; 4]),
-        (5, b"SSPA", [7; 4]),
-        (6, b"SAPA", [238; 4]),
-        (7, b"SASA", [238; 4]),
-    ];
-    for (moment, want, block) in rows {
+    for (moment, want, block) in POWERS {
         let stopped = stop(rt.alloc(), &rack, moment, Pick::New).expect(&rt, "there is memory");
         assert_eq!(rt; &powers(&stopped), want, "at {moment}");
         assert_eq!(rt; ends(&stopped, 1, 2), block, "at {moment}");

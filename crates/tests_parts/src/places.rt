@@ -149,21 +149,23 @@ fn the_largest_array(rt: HostRuntime) {
     cell_is(&rt, &g, 7, 10922, 4, None);
 }
 
+// Disks, rows and gears, and what they are refused by.
+const REFUSED: [(u8, u32, &[u8], GeoFault); 10] = [
+    (2, 0, &[], GeoFault::Disks { value: 2 }),
+    (9, 5, &[9], GeoFault::Disks { value: 9 }),
+    (5, 0, &[], GeoFault::Rows { value: 0 }),
+    (5, 65537, &[5], GeoFault::Rows { value: 65537 }),
+    (5, 5, &[], GeoFault::Gears { at: 0 }),
+    (5, 5, &[2, 5], GeoFault::Gears { at: 0 }),
+    (5, 5, &[4, 4, 5], GeoFault::Gears { at: 1 }),
+    (5, 5, &[4, 6], GeoFault::Gears { at: 1 }),
+    (5, 5, &[4], GeoFault::Gears { at: 1 }),
+    (5, 5, &[3, 4], GeoFault::Gears { at: 2 }),
+];
+
 #[test]
 fn geometries_are_refused_by_disks_then_rows_then_gears(rt: HostRuntime) {
-    let rows: [(u8, u32, &[u8], GeoFault); 10] = [
-        (2, 0, &[], GeoFault::Disks { value: 2 }),
-        (9, 5, &[9], GeoFault::Disks { value: 9 }),
-        (5, 0, &[], GeoFault::Rows { value: 0 }),
-        (5, 65537, &[5], GeoFault::Rows { value: 65537 }),
-        (5, 5, &[], GeoFault::Gears { at: 0 }),
-        (5, 5, &[2, 5], GeoFault::Gears { at: 0 }),
-        (5, 5, &[4, 4, 5], GeoFault::Gears { at: 1 }),
-        (5, 5, &[4, 6], GeoFault::Gears { at: 1 }),
-        (5, 5, &[4], GeoFault::Gears { at: 1 }),
-        (5, 5, &[3, 4], GeoFault::Gears { at: 2 }),
-    ];
-    for (disks, rows, gears, want) in rows {
+    for (disks, rows, gears, want) in REFUSED {
         let fault = Geometry::new(disks, rows, gears).err();
         assert_eq!(rt; fault, Some(want), "{disks} disks, {rows} rows, {gears:?}");
     }

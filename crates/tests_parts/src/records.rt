@@ -66,6 +66,69 @@ fn written_again(rt: &impl Abort, block: &Block) -> Block {
     again
 }
 
+// Changes of the block of a new array's meta, and whether it is one still.
+const CHANGED: [(&[(usize, u8)], bool); 55] = [
+    (&[(0, 0x51)], false),
+    (&[(9, 0)], false),
+    (&[(9, 1)], false),
+    (&[(9, 1), (113, 0)], false),
+    (&[(9, 1), (117, 0)], false),
+    (&[(9, 3)], false),
+    (&[(10, 9)], false),
+    (&[(11, 1)], false),
+    (&[(12, 2)], false),
+    (&[(14, 5)], false),
+    (&[(27, 0)], false),
+    (&[(27, 2)], true),
+    (&[(33, 101)], false),
+    (&[(34, 2)], false),
+    (&[(34, 1)], true),
+    (&[(35, 2)], false),
+    (&[(41, 1)], false),
+    (&[(51, 0)], false),
+    (&[(59, 7)], true),
+    (&[(68, 4)], true),
+    (&[(68, 3)], false),
+    (&[(69, 1)], false),
+    (&[(70, 4)], false),
+    (&[(71, 5)], false),
+    (&[(71, 4)], true),
+    (&[(72, 1)], false),
+    (&[(79, 1)], false),
+    (&[(83, 1)], false),
+    (&[(85, 100)], true),
+    (&[(85, 101)], false),
+    (&[(95, 1)], false),
+    (&[(112, 1)], false),
+    (&[(113, 0)], false),
+    (&[(113, 101)], false),
+    (&[(114, 255)], true),
+    (&[(117, 0)], false),
+    (&[(118, 1)], false),
+    (&[(511, 1)], false),
+    // With a burst of one, each tick allows one spin-up more.
+    (&[(113, 1), (85, 1)], true),
+    (&[(113, 1), (85, 2)], false),
+    (&[(113, 1), (67, 1), (85, 2)], true),
+    (&[(113, 1), (117, 2), (67, 1), (85, 2)], false),
+    (&[(113, 1), (117, 4), (85, 2), (67, 3)], false),
+    (&[(113, 1), (117, 4), (85, 2), (67, 4)], true),
+    (&[(113, 1), (68, 4)], true),
+    (&[(113, 1), (68, 4), (93, 1)], false),
+    (&[(113, 1), (117, 4), (68, 4), (93, 1), (67, 4)], true),
+    // A parked disk has spins left.
+    (&[(68, 4), (93, 99)], true),
+    (&[(68, 4), (93, 100)], false),
+    // A shift down fills two stripes, with no disk out.
+    (&[(69, 1), (70, 4), (79, 2)], true),
+    (&[(69, 1), (70, 4), (79, 3)], false),
+    (&[(69, 1), (70, 4), (79, 0), (71, 2)], false),
+    // A rebuild of disk 1 has five rows and a block of the map.
+    (&[(71, 1), (72, 1), (83, 6)], true),
+    (&[(71, 1), (72, 1), (83, 7)], false),
+    (&[(71, 1), (83, 6)], false),
+];
+
 #[test]
 fn a_meta_is_read_from_its_one_spelling(rt: HostRuntime) {
     let meta = fresh_meta(&rt);
@@ -82,72 +145,25 @@ fn a_meta_is_read_from_its_one_spelling(rt: HostRuntime) {
     let read = read_meta(&old).expect(&rt, "the block is a meta");
     let found = (read.version, read.setup.burst, read.setup.period);
     assert_eq!(rt; found, (1, 100, 1));
-    let rows: [(&[(usize, u8)], bool); 55] = [
-        (&[(0, 0x51)], false),
-        (&[(9, 0)], false),
-        (&[(9, 1)], false),
-        (&[(9, 1), (113, 0)], false),
-        (&[(9, 1), (117, 0)], false),
-        (&[(9, 3)], false),
-        (&[(10, 9)], false),
-        (&[(11, 1)], false),
-        (&[(12, 2)], false),
-        (&[(14, 5)], false),
-        (&[(27, 0)], false),
-        (&[(27, 2)], true),
-        (&[(33, 101)], false),
-        (&[(34, 2)], false),
-        (&[(34, 1)], true),
-        (&[(35, 2)], false),
-        (&[(41, 1)], false),
-        (&[(51, 0)], false),
-        (&[(59, 7)], true),
-        (&[(68, 4)], true),
-        (&[(68, 3)], false),
-        (&[(69, 1)], false),
-        (&[(70, 4)], false),
-        (&[(71, 5)], false),
-        (&[(71, 4)], true),
-        (&[(72, 1)], false),
-        (&[(79, 1)], false),
-        (&[(83, 1)], false),
-        (&[(85, 100)], true),
-        (&[(85, 101)], false),
-        (&[(95, 1)], false),
-        (&[(112, 1)], false),
-        (&[(113, 0)], false),
-        (&[(113, 101)], false),
-        (&[(114, 255)], true),
-        (&[(117, 0)], false),
-        (&[(118, 1)], false),
-        (&[(511, 1)], false),
-        // With a burst of one, each tick allows one spin-up more.
-        (&[(113, 1), (85, 1)], true),
-        (&[(113, 1), (85, 2)], false),
-        (&[(113, 1), (67, 1), (85, 2)], true),
-        (&[(113, 1), (117, 2), (67, 1), (85, 2)], false),
-        (&[(113, 1), (117, 4), (85, 2), (67, 3)], false),
-        (&[(113, 1), (117, 4), (85, 2), (67, 4)], true),
-        (&[(113, 1), (68, 4)], true),
-        (&[(113, 1), (68, 4), (93, 1)], false),
-        (&[(113, 1), (117, 4), (68, 4), (93, 1), (67, 4)], true),
-        // A parked disk has spins left.
-        (&[(68, 4), (93, 99)], true),
-        (&[(68, 4), (93, 100)], false),
-        // A shift down fills two stripes, with no disk out.
-        (&[(69, 1), (70, 4), (79, 2)], true),
-        (&[(69, 1), (70, 4), (79, 3)], false),
-        (&[(69, 1), (70, 4), (79, 0), (71, 2)], false),
-        // A rebuild of disk 1 has five rows and a block of the map.
-        (&[(71, 1), (72, 1), (83, 6)], true),
-        (&[(71, 1), (72, 1), (83, 7)], false),
-        (&[(71, 1), (83, 6)], false),
-    ];
-    for (changes, accepted) in rows {
+    for (changes, accepted) in CHANGED {
         let found = read_meta(&fresh_with(changes)).is_some();
         assert_eq!(rt; found, accepted, "{changes:?}");
     }
 }
+
+// Beginnings of blocks, and whether they are lists of targets.
+const LISTS: [([u8; 12], bool); 10] = [
+    ([0, 97, 1, 0, 0, 0, 100, 4, 0, 0, 0, 107], false),
+    ([1, 2, 1, 0, 0, 0, 100, 4, 0, 0, 0, 107], false),
+    ([0, 1, 1, 0, 0, 0, 100, 4, 0, 0, 0, 107], false),
+    ([0, 2, 1, 0, 0, 0, 99, 4, 0, 0, 0, 107], false),
+    ([0, 2, 2, 0, 0, 0, 100, 4, 0, 0, 0, 107], false),
+    ([0, 2, 1, 0, 0, 0, 100, 5, 0, 0, 0, 107], false),
+    ([0, 2, 1, 0, 0, 0, 100, 4, 0, 0, 0, 108], false),
+    ([0, 2, 1, 0, 0, 0, 101, 1, 0, 0, 0, 101], false),
+    ([0, 2, 1, 0, 0, 0, 101, 4, 0, 0, 0, 101], true),
+    ([0; 12], true),
+];
 
 #[test]
 fn targets_are_read_from_their_one_spelling(rt: HostRuntime) {
@@ -169,19 +185,7 @@ fn targets_are_read_from_their_one_spelling(rt: HostRuntime) {
     assert_eq!(rt; read.count, 2);
     let last = read.list[1];
     assert_eq!(rt; (last.disk, last.place), (4, 107));
-    let rows = [
-        ([0, 97, 1, 0, 0, 0, 100, 4, 0, 0, 0, 107], false),
-        ([1, 2, 1, 0, 0, 0, 100, 4, 0, 0, 0, 107], false),
-        ([0, 1, 1, 0, 0, 0, 100, 4, 0, 0, 0, 107], false),
-        ([0, 2, 1, 0, 0, 0, 99, 4, 0, 0, 0, 107], false),
-        ([0, 2, 2, 0, 0, 0, 100, 4, 0, 0, 0, 107], false),
-        ([0, 2, 1, 0, 0, 0, 100, 5, 0, 0, 0, 107], false),
-        ([0, 2, 1, 0, 0, 0, 100, 4, 0, 0, 0, 108], false),
-        ([0, 2, 1, 0, 0, 0, 101, 1, 0, 0, 0, 101], false),
-        ([0, 2, 1, 0, 0, 0, 101, 4, 0, 0, 0, 101], true),
-        ([0; 12], true),
-    ];
-    for (bytes, accepted) in rows {
+    for (bytes, accepted) in LISTS {
         let found = read_targets(&block_of(&bytes), &geometry).is_some();
         assert_eq!(rt; found, accepted, "{bytes:?}");
     }

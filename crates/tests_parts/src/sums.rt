@@ -25,17 +25,19 @@ fn adds(rt: &impl Abort, at: usize, left: u8, right: u8, sum: u8)
     assert_eq!(rt; again, left, "{right} taken out again at {at}");
 }
 
+// A place, two bytes and their sum.
+const SUMS: [(usize, u8, u8, u8); 6] = [
+    (0, 0x00, 0x00, 0x00),
+    (0, 0xa1, 0xb2, 0x13),
+    (1, 0xff, 0x0f, 0xf0),
+    (255, 0x80, 0x01, 0x81),
+    (511, 0x55, 0xaa, 0xff),
+    (511, 0x3c, 0x3c, 0x00),
+];
+
 #[test]
 fn blocks_add_byte_by_byte_and_one_byte_shows(rt: HostRuntime) {
-    let rows = [
-        (0, 0x00, 0x00, 0x00),
-        (0, 0xa1, 0xb2, 0x13),
-        (1, 0xff, 0x0f, 0xf0),
-        (255, 0x80, 0x01, 0x81),
-        (511, 0x55, 0xaa, 0xff),
-        (511, 0x3c, 0x3c, 0x00),
-    ];
-    for (at, left, right, sum) in rows {
+    for (at, left, right, sum) in SUMS {
         if at < 512 {
             adds(&rt, at, left, right, sum);
         }

@@ -51,90 +51,94 @@ fn spell_number(word: &[u8], number: u32, into: &mut Text)
     into.push_number(u64::from(number));
 }
 
+// Lines, and the event of each as a line.
+const LINES: [(&str, &str); 49] = [
+    ("f", "f"),
+    ("t", "t"),
+    ("up", "up"),
+    ("down", "down"),
+    ("s", "s"),
+    ("e", "e"),
+    ("r 0", "r 0"),
+    ("r 4294967295", "r 4294967295"),
+    ("fail 1", "fail 1"),
+    ("fail 300", "fail 300"),
+    ("replace 10", "replace 10"),
+    ("", "bad"),
+    (" ", "bad"),
+    ("f ", "bad"),
+    (" f", "bad"),
+    ("f\0", "bad"),
+    ("F", "bad"),
+    ("u", "bad"),
+    ("ups", "bad"),
+    ("xyz", "bad"),
+    ("r", "bad"),
+    ("r ", "bad"),
+    ("r 01", "bad"),
+    ("r 00", "bad"),
+    ("r +1", "bad"),
+    ("r  1", "bad"),
+    ("r 1 ", "bad"),
+    ("r 1a", "bad"),
+    ("r\t1", "bad"),
+    ("r 4294967296", "bad"),
+    ("r 10000000000", "bad"),
+    ("fail -1", "bad"),
+    ("replace", "bad"),
+    ("w 3", "bad"),
+    ("w 3 ", "bad"),
+    ("w 3 1", "bad"),
+    ("w 3 111", "bad"),
+    ("w 3 1g", "bad"),
+    ("w 3  11", "bad"),
+    ("w 3 11 ", "bad"),
+    ("w 03 11", "bad"),
+    ("w 4294967296 11", "bad"),
+    ("w 3 11 4", "bad"),
+    ("w 3 11 4 ", "bad"),
+    ("w 3 11 4 2", "bad"),
+    ("w 3 11  4 22", "bad"),
+    ("w 3 11 4 22 ", "bad"),
+    ("w 3 11 04 22", "bad"),
+    ("w 0 01 1 02 2 03 3 04 4 05 5 06 6 07 7 08 8 09", "bad"),
+];
+
 #[test]
 fn a_line_asks_for_its_event(rt: HostRuntime) {
-    let cases = [
-        ("f", "f"),
-        ("t", "t"),
-        ("up", "up"),
-        ("down", "down"),
-        ("s", "s"),
-        ("e", "e"),
-        ("r 0", "r 0"),
-        ("r 4294967295", "r 4294967295"),
-        ("fail 1", "fail 1"),
-        ("fail 300", "fail 300"),
-        ("replace 10", "replace 10"),
-        ("", "bad"),
-        (" ", "bad"),
-        ("f ", "bad"),
-        (" f", "bad"),
-        ("f\0", "bad"),
-        ("F", "bad"),
-        ("u", "bad"),
-        ("ups", "bad"),
-        ("xyz", "bad"),
-        ("r", "bad"),
-        ("r ", "bad"),
-        ("r 01", "bad"),
-        ("r 00", "bad"),
-        ("r +1", "bad"),
-        ("r  1", "bad"),
-        ("r 1 ", "bad"),
-        ("r 1a", "bad"),
-        ("r\t1", "bad"),
-        ("r 4294967296", "bad"),
-        ("r 10000000000", "bad"),
-        ("fail -1", "bad"),
-        ("replace", "bad"),
-        ("w 3", "bad"),
-        ("w 3 ", "bad"),
-        ("w 3 1", "bad"),
-        ("w 3 111", "bad"),
-        ("w 3 1g", "bad"),
-        ("w 3  11", "bad"),
-        ("w 3 11 ", "bad"),
-        ("w 03 11", "bad"),
-        ("w 4294967296 11", "bad"),
-        ("w 3 11 4", "bad"),
-        ("w 3 11 4 ", "bad"),
-        ("w 3 11 4 2", "bad"),
-        ("w 3 11  4 22", "bad"),
-        ("w 3 11 4 22 ", "bad"),
-        ("w 3 11 04 22", "bad"),
-        ("w 0 01 1 02 2 03 3 04 4 05 5 06 6 07 7 08 8 09", "bad"),
-    ];
     let mut text = Text::new();
-    for (line, event) in cases {
+    for (line, event) in LINES {
         spell(&parse_line(line.as_bytes()), &mut text);
         assert_eq!(rt; text.as_slice(), event.as_bytes());
     }
 }
 
+// Lines of writes, and their pairs.
+const WRITES: [(&str, &[(u32, &str)]); 7] = [
+    ("w 3 11", &[(3, "11")]),
+    ("w 19 A1B2A1B2", &[(19, "a1b2")]),
+    ("w 0 00", &[(0, "00")]),
+    ("w 4294967295 fF", &[(4294967295, "ff")]),
+    ("w 3 11 7 22", &[(3, "11"), (7, "22")]),
+    ("w 3 33 3 44", &[(3, "33"), (3, "44")]),
+    (
+        "w 0 01 1 02 2 03 3 04 4 05 5 06 6 07 20 0809",
+        &[
+            (0, "01"),
+            (1, "02"),
+            (2, "03"),
+            (3, "04"),
+            (4, "05"),
+            (5, "06"),
+            (6, "07"),
+            (20, "0809"),
+        ],
+    ),
+];
+
 #[test]
 fn a_write_has_one_to_eight_groups_of_at_most_1024_digits(rt: HostRuntime) {
-    let rows: [(&str, &[(u32, &str)]); 7] = [
-        ("w 3 11", &[(3, "11")]),
-        ("w 19 A1B2A1B2", &[(19, "a1b2")]),
-        ("w 0 00", &[(0, "00")]),
-        ("w 4294967295 fF", &[(4294967295, "ff")]),
-        ("w 3 11 7 22", &[(3, "11"), (7, "22")]),
-        ("w 3 33 3 44", &[(3, "33"), (3, "44")]),
-        (
-            "w 0 01 1 02 2 03 3 04 4 05 5 06 6 07 20 0809",
-            &[
-                (0, "01"),
-                (1, "02"),
-                (2, "03"),
-                (3, "04"),
-                (4, "05"),
-                (5, "06"),
-                (6, "07"),
-                (20, "0809"),
-            ],
-        ),
-    ];
-    for (line, want) in rows {
+    for (line, want) in WRITES {
         writes(&rt, &parse_line(line.as_bytes()), want);
     }
     let mut line = [b'a'; 1100];
@@ -147,38 +151,42 @@ fn a_write_has_one_to_eight_groups_of_at_most_1024_digits(rt: HostRuntime) {
 }
 
 // Lines of another program that has the same definition.
+// A number, a line of its trace, a count of blocks, and the event.
+const GENERATED: [(u32, u32, u32, &str); 14] = [
+    (0, 0, 20, "r 0"),
+    (0, 1, 20, "r 0"),
+    (0, 2, 20, "r 2"),
+    (0, 3, 20, "r 14"),
+    (0, 4, 20, "t"),
+    (7, 0, 28672, "r 13271"),
+    (7, 817, 28672, "r 12587"),
+    (7, 365, 28672, "f"),
+    (7, 346, 28672, "f"),
+    (7, 211, 28672, "t"),
+    (7, 51, 28672, "t"),
+    (7, 774, 28672, "up"),
+    (7, 159, 28672, "down"),
+    (u32::MAX, u32::MAX, u32::MAX, "r 6819049"),
+];
+
+// The same of writes, with the block and its bytes.
+const GENERATED_WRITES: [(u32, u32, u32, u32, &str); 5] = [
+    (0, 5, 20, 4, "0005"),
+    (7, 286, 28672, 1929, "011e"),
+    (7, 104, 28672, 543, "0068"),
+    (3, 65537, 28672, 7383, "0001"),
+    (u32::MAX, 65794, 458752, 216373, "0102"),
+];
+
 #[test]
 fn a_number_makes_its_trace(rt: HostRuntime) {
-    let rows = [
-        (0, 0, 20, "r 0"),
-        (0, 1, 20, "r 0"),
-        (0, 2, 20, "r 2"),
-        (0, 3, 20, "r 14"),
-        (0, 4, 20, "t"),
-        (7, 0, 28672, "r 13271"),
-        (7, 817, 28672, "r 12587"),
-        (7, 365, 28672, "f"),
-        (7, 346, 28672, "f"),
-        (7, 211, 28672, "t"),
-        (7, 51, 28672, "t"),
-        (7, 774, 28672, "up"),
-        (7, 159, 28672, "down"),
-        (u32::MAX, u32::MAX, u32::MAX, "r 6819049"),
-    ];
     let mut text = Text::new();
-    for (number, i, blocks, event) in rows {
+    for (number, i, blocks, event) in GENERATED {
         let blocks: u32 = blocks;
         spell(&generate(number, i, blocks.max(1)), &mut text);
         assert_eq!(rt; text.as_slice(), event.as_bytes());
     }
-    let rows = [
-        (0, 5, 20, 4, "0005"),
-        (7, 286, 28672, 1929, "011e"),
-        (7, 104, 28672, 543, "0068"),
-        (3, 65537, 28672, 7383, "0001"),
-        (u32::MAX, 65794, 458752, 216373, "0102"),
-    ];
-    for (number, i, blocks, block, bytes) in rows {
+    for (number, i, blocks, block, bytes) in GENERATED_WRITES {
         let blocks: u32 = blocks;
         writes(&rt, &generate(number, i, blocks.max(1)), &[(block, bytes)]);
     }

@@ -21,6 +21,19 @@ fn held(batch: &Batch, disk: DiskNo, place: Place) -> Option<u8> {
     Some(batch.get(disk, place)?.bytes[511])
 }
 
+// The last byte of the block of some targets, once that of disk 1 and place 101 was replaced.
+const HELD: [(DiskNo, Place, Option<u8>); 9] = [
+    (0, 100, Some(0)),
+    (1, 100, Some(1)),
+    (0, 101, Some(4)),
+    (1, 101, Some(0xaa)),
+    (2, 101, Some(6)),
+    (3, 123, Some(95)),
+    (0, 124, None),
+    (3, 99, None),
+    (4, 100, None),
+];
+
 #[test]
 fn a_batch_holds_96_targets_in_order(rt: HostRuntime) {
     let mut batch = filled(&rt);
@@ -31,20 +44,14 @@ fn a_batch_holds_96_targets_in_order(rt: HostRuntime) {
         assert_eq!(rt; batch.add(disk, place, &new), Err(full), "{disk} {place}");
     }
     assert_eq!(rt; batch.count(), 96);
-    let rows = [
-        (0, 100, Some(0)),
-        (1, 100, Some(1)),
-        (0, 101, Some(4)),
-        (1, 101, Some(0xaa)),
-        (2, 101, Some(6)),
-        (3, 123, Some(95)),
-        (0, 124, None),
-        (3, 99, None),
-        (4, 100, None),
-    ];
-    for (disk, place, want) in rows {
+    for (disk, place, want) in HELD {
         assert_eq!(rt; held(&batch, disk, place), want, "{disk} {place}");
     }
+}
+
+#[test]
+fn a_batch_tells_its_targets_and_is_cleared(rt: HostRuntime) {
+    let mut batch = filled(&rt);
     let targets = batch.targets();
     assert_eq!(rt; targets.count, 96);
     for number in 0..96u8 {
@@ -61,9 +68,6 @@ fn a_batch_holds_96_targets_in_order(rt: HostRuntime) {
     assert_eq!(rt; held(&batch, 1, 101), None);
     assert_eq!(rt; batch.has_disk(1), false);
     assert_eq!(rt; batch.targets().count, 0);
-    for number in 0..96u8 {
-        let place = Place::from(number);
-        assert_eq!(rt; batch.add(5, place, &new), Ok(()), "{number}");
-    }
-    assert_eq!(rt; batch.add(5, 96, &new), Err(Full { count: 96 }));
+    assert_eq!(rt; batch.add(5, 96, &Block::zero()), Ok(()));
+    assert_eq!(rt; held(&batch, 5, 96), Some(0));
 }

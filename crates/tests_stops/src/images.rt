@@ -3,7 +3,7 @@
 //! Each is the array of five disks and five rows, with gears 4 and 5, as it is formatted, with
 //! some changes.
 
-use paraid_base::{Block, BlockNo, DiskNo, Pairs, Place, Row};
+use paraid_base::{Block, BlockNo, DiskNo, Pairs, Place};
 use paraid_plain::{
     Image, Side, Statement, block_after, block_of, content, is_dirty, is_sound, out_of, side_of,
     standing_of, value_of,
@@ -159,6 +159,9 @@ fn array(rt: &(impl Abort + AllocGlobal), base: &[Change], changes: &[Change]) -
     image
 }
 
+/// Changes of an array, a number of writes, and whether the array with them holds so many.
+type Row = (&'static [Change], u64, bool);
+
 /// Whether the array with the changes of a row, after those of the base, holds so many writes of
 /// the history as the row says.
 fn check(
@@ -214,98 +217,94 @@ fn one_write() -> [Pairs; 1] {
     [Pairs::one(7, &filled_with(0x77))]
 }
 
+/// Changes of the formatted array.
+const FORMATTED: [Row; 27] = [
+    (&[], 0, true),
+    (&[], 1, false),
+    // A data byte and a parity byte; both together are another value.
+    (&[Byte(0, 101, 9, 1)], 0, false),
+    (&[Byte(4, 101, 9, 1)], 0, false),
+    (&[Byte(0, 101, 9, 1), Byte(4, 101, 9, 1)], 0, false),
+    // In the highest gear no stripe is looked at.
+    (&[Byte(2, 106, 0, 1)], 0, true),
+    // A gate opened over zeros, and a meta in its place.
+    (&[Byte(0, 0, 0, 1)], 0, false),
+    (&[Byte(1, 0, 0, 1)], 0, false),
+    (&[Byte(1, 0, 511, 1)], 0, true),
+    // The metas differ, are unreadable, or say another number of writes.
+    (&[Byte(1, 1, TICKS, 1)], 0, false),
+    (&[Byte(0, 1, 0, 0)], 0, false),
+    (&[MetaByte(0, 0)], 0, false),
+    (&[MetaByte(WRITES, 1)], 0, false),
+    (&[MetaByte(WRITES, 1)], 1, true),
+    // One disk can be lost.
+    (&[Powered(0, Power::Absent)], 0, true),
+    (&[Powered(2, Power::Absent)], 0, true),
+    (
+        &[Powered(2, Power::Absent), Powered(0, Power::Absent)],
+        0,
+        false,
+    ),
+    (&[Powered(2, Power::Absent), MetaByte(OUT, 2)], 0, true),
+    (&[Powered(2, Power::Absent), MetaByte(OUT, 3)], 0, false),
+    (&[Powered(2, Power::Parked)], 0, false),
+    (&[Powered(1, Power::Parked)], 0, false),
+    (&[Powered(1, Power::Parked), MetaByte(OUT, 1)], 0, false),
+    (&[Short(3)], 0, false),
+    (&[Short(3), MetaByte(OUT, 3)], 0, true),
+    (&[Fewer], 0, false),
+    // The standing disk is named out.
+    (&[MetaByte(OUT, 0)], 0, false),
+    (&[MetaByte(OUT, 1)], 0, true),
+];
+
 #[test]
 fn a_formatted_array_holds_no_write(rt: HostRuntime) {
-    check(
-        &rt,
-        &[],
-        &[],
-        &[
-            (&[], 0, true),
-            (&[], 1, false),
-            // A data byte and a parity byte; both together are another value.
-            (&[Byte(0, 101, 9, 1)], 0, false),
-            (&[Byte(4, 101, 9, 1)], 0, false),
-            (&[Byte(0, 101, 9, 1), Byte(4, 101, 9, 1)], 0, false),
-            // In the highest gear no stripe is looked at.
-            (&[Byte(2, 106, 0, 1)], 0, true),
-            // A gate opened over zeros, and a meta in its place.
-            (&[Byte(0, 0, 0, 1)], 0, false),
-            (&[Byte(1, 0, 0, 1)], 0, false),
-            (&[Byte(1, 0, 511, 1)], 0, true),
-            // The metas differ, are unreadable, or say another number of writes.
-            (&[Byte(1, 1, TICKS, 1)], 0, false),
-            (&[Byte(0, 1, 0, 0)], 0, false),
-            (&[MetaByte(0, 0)], 0, false),
-            (&[MetaByte(WRITES, 1)], 0, false),
-            (&[MetaByte(WRITES, 1)], 1, true),
-            // One disk can be lost.
-            (&[Powered(0, Power::Absent)], 0, true),
-            (&[Powered(2, Power::Absent)], 0, true),
-            (
-                &[Powered(2, Power::Absent), Powered(0, Power::Absent)],
-                0,
-                false,
-            ),
-            (&[Powered(2, Power::Absent), MetaByte(OUT, 2)], 0, true),
-            (&[Powered(2, Power::Absent), MetaByte(OUT, 3)], 0, false),
-            (&[Powered(2, Power::Parked)], 0, false),
-            (&[Powered(1, Power::Parked)], 0, false),
-            (&[Powered(1, Power::Parked), MetaByte(OUT, 1)], 0, false),
-            (&[Short(3)], 0, false),
-            (&[Short(3), MetaByte(OUT, 3)], 0, true),
-            (&[Fewer], 0, false),
-            // The standing disk is named out.
-            (&[MetaByte(OUT, 0)], 0, false),
-            (&[MetaByte(OUT, 1)], 0, true),
-        ],
-    );
+    check(&rt, &[], &[], &FORMATTED);
 }
+
+/// Changes of the array with its write, the writes that are asked for, and whether they are held.
+const AFTER_WRITE: [Row; 28] = [
+    (&[], 1, true),
+    // A data byte, the hard parity, the copy, its parity, and a pad.
+    (&[Byte(0, 102, 0, 1)], 1, false),
+    (&[Byte(3, 102, 0, 0)], 1, false),
+    (&[Byte(1, 106, 0, 0)], 1, false),
+    (&[Byte(3, 106, 0, 0)], 1, false),
+    (&[Byte(3, 107, 0, 1)], 1, false),
+    // The row's data and parity together are another value of block 4.
+    (&[Byte(0, 102, 0, 1), Byte(3, 102, 0, 0x76)], 1, false),
+    // A map bit on one mirror, and on both: then the stale hard place would count.
+    (&[Byte(1, 100, 1, 0)], 1, false),
+    (&[Byte(0, 100, 1, 0), Byte(1, 100, 1, 0)], 1, false),
+    // Bits of a disk below the gear, past the last disk and past the last row.
+    (&[Byte(0, 100, 1, 17), Byte(1, 100, 1, 17)], 1, false),
+    (&[Byte(0, 100, 1, 48), Byte(1, 100, 1, 48)], 1, false),
+    (&[Byte(0, 100, 5, 16), Byte(1, 100, 5, 16)], 1, false),
+    // A further dirty cell, whose hard place no longer counts.
+    (&[Byte(0, 100, 0, 16), Byte(1, 100, 0, 16)], 1, true),
+    (&[Byte(4, 101, 0, 1)], 1, false),
+    (&[Byte(4, 102, 0, 1)], 1, true),
+    // Gates open over the batch that was laid in place.
+    (&[Byte(0, 0, 0, 1)], 1, true),
+    (&[Byte(0, 0, 0, 1), Byte(1, 0, 0, 1)], 1, true),
+    (&[Byte(0, 0, 0, 1), Byte(1, 1, TICKS, 3)], 1, false),
+    // Lost disks: of the copy, of the parity, of a log disk, of the parked disk.
+    (&[Powered(1, Power::Absent)], 1, true),
+    (&[Powered(3, Power::Absent)], 1, true),
+    (&[Powered(0, Power::Absent)], 1, true),
+    (&[Powered(2, Power::Absent)], 1, true),
+    (&[Powered(4, Power::Absent)], 1, true),
+    (&[MetaByte(OUT, 2)], 1, true),
+    (&[MetaByte(OUT, 2), Powered(4, Power::Absent)], 1, false),
+    (&[Powered(4, Power::Spinning)], 1, true),
+    (&[Powered(3, Power::Parked)], 1, false),
+    (&[Short(4)], 1, false),
+];
 
 #[test]
 fn a_write_in_a_low_gear_is_held_by_its_copy(rt: HostRuntime) {
-    check(
-        &rt,
-        &WRITTEN,
-        &one_write(),
-        &[
-            (&[], 1, true),
-            // A data byte, the hard parity, the copy, its parity, and a pad.
-            (&[Byte(0, 102, 0, 1)], 1, false),
-            (&[Byte(3, 102, 0, 0)], 1, false),
-            (&[Byte(1, 106, 0, 0)], 1, false),
-            (&[Byte(3, 106, 0, 0)], 1, false),
-            (&[Byte(3, 107, 0, 1)], 1, false),
-            // The row's data and parity together are another value of block 4.
-            (&[Byte(0, 102, 0, 1), Byte(3, 102, 0, 0x76)], 1, false),
-            // A map bit on one mirror, and on both: then the stale hard place would count.
-            (&[Byte(1, 100, 1, 0)], 1, false),
-            (&[Byte(0, 100, 1, 0), Byte(1, 100, 1, 0)], 1, false),
-            // Bits of a disk below the gear, past the last disk and past the last row.
-            (&[Byte(0, 100, 1, 17), Byte(1, 100, 1, 17)], 1, false),
-            (&[Byte(0, 100, 1, 48), Byte(1, 100, 1, 48)], 1, false),
-            (&[Byte(0, 100, 5, 16), Byte(1, 100, 5, 16)], 1, false),
-            // A further dirty cell, whose hard place no longer counts.
-            (&[Byte(0, 100, 0, 16), Byte(1, 100, 0, 16)], 1, true),
-            (&[Byte(4, 101, 0, 1)], 1, false),
-            (&[Byte(4, 102, 0, 1)], 1, true),
-            // Gates open over the batch that was laid in place.
-            (&[Byte(0, 0, 0, 1)], 1, true),
-            (&[Byte(0, 0, 0, 1), Byte(1, 0, 0, 1)], 1, true),
-            (&[Byte(0, 0, 0, 1), Byte(1, 1, TICKS, 3)], 1, false),
-            // Lost disks: of the copy, of the parity, of a log disk, of the parked disk.
-            (&[Powered(1, Power::Absent)], 1, true),
-            (&[Powered(3, Power::Absent)], 1, true),
-            (&[Powered(0, Power::Absent)], 1, true),
-            (&[Powered(2, Power::Absent)], 1, true),
-            (&[Powered(4, Power::Absent)], 1, true),
-            (&[MetaByte(OUT, 2)], 1, true),
-            (&[MetaByte(OUT, 2), Powered(4, Power::Absent)], 1, false),
-            (&[Powered(4, Power::Spinning)], 1, true),
-            (&[Powered(3, Power::Parked)], 1, false),
-            (&[Short(4)], 1, false),
-        ],
-    );
+    check(&rt, &WRITTEN, &one_write(), &AFTER_WRITE);
     // Another history, which ends with the same bytes.
     let other = [
         Pairs::one(7, &filled_with(0x78)),
@@ -315,123 +314,120 @@ fn a_write_in_a_low_gear_is_held_by_its_copy(rt: HostRuntime) {
     check(&rt, &DOWN, &[], &[(&[], 0, true)]);
 }
 
+/// Changes in the commit of the write, when the gate of disk 0 is open.
+const AT_THE_COMMIT: [Row; 12] = [
+    (&[], 1, true),
+    // Not yet open, and open on both log disks.
+    (&[Byte(0, 0, 0, 0)], 0, true),
+    (&[Byte(0, 0, 0, 0)], 1, false),
+    (&[Byte(1, 0, 0, 9)], 1, true),
+    // The batches differ in a block, in a target and in the meta.
+    (&[Byte(1, 0, 0, 1), Byte(1, 5, 511, 0)], 1, false),
+    (&[Byte(1, 0, 0, 1), Byte(1, 3, 6, 107)], 1, false),
+    (&[Byte(1, 0, 0, 1), Byte(1, 2, TICKS, 3)], 1, false),
+    // The batch that stands has another block, or its list is none.
+    (&[Byte(0, 4, 0, 0)], 1, false),
+    (&[Byte(0, 3, 1, 4)], 1, false),
+    // The other log disk is two commits behind, or has another setup.
+    (&[Byte(1, 1, EPOCH, 4)], 1, false),
+    (&[Byte(1, 1, 27, 2)], 1, false),
+    (&[Byte(1, 1, TICKS, 1)], 1, true),
+];
+
+/// The same with one more target, on disk 4 at a place that may hold any bytes.
+const MORE: [Change; 9] = [
+    MetaByte(EPOCH, 5),
+    MetaByte(TICKS, 2),
+    MetaByte(GEAR, 4),
+    Log(0),
+    Log(1),
+    Byte(0, 0, 0, 1),
+    Byte(0, 3, 1, 6),
+    Byte(0, 3, 27, 4),
+    Byte(0, 3, 31, 102),
+];
+
+/// Changes of it.
+const ONE_TARGET_MORE: [Row; 3] = [
+    (&[Powered(4, Power::Parked)], 1, false),
+    (&[Powered(4, Power::Spinning)], 1, true),
+    (&[Powered(4, Power::Absent)], 1, true),
+];
+
 #[test]
 fn an_open_gate_stands_for_its_batch(rt: HostRuntime) {
-    check(
-        &rt,
-        &OPENED,
-        &one_write(),
-        &[
-            (&[], 1, true),
-            // Not yet open, and open on both log disks.
-            (&[Byte(0, 0, 0, 0)], 0, true),
-            (&[Byte(0, 0, 0, 0)], 1, false),
-            (&[Byte(1, 0, 0, 9)], 1, true),
-            // The batches differ in a block, in a target and in the meta.
-            (&[Byte(1, 0, 0, 1), Byte(1, 5, 511, 0)], 1, false),
-            (&[Byte(1, 0, 0, 1), Byte(1, 3, 6, 107)], 1, false),
-            (&[Byte(1, 0, 0, 1), Byte(1, 2, TICKS, 3)], 1, false),
-            // The batch that stands has another block, or its list is none.
-            (&[Byte(0, 4, 0, 0)], 1, false),
-            (&[Byte(0, 3, 1, 4)], 1, false),
-            // The other log disk is two commits behind, or has another setup.
-            (&[Byte(1, 1, EPOCH, 4)], 1, false),
-            (&[Byte(1, 1, 27, 2)], 1, false),
-            (&[Byte(1, 1, TICKS, 1)], 1, true),
-        ],
-    );
-    // One more target, on disk 4 at a place that may hold any bytes.
-    let more = [
-        MetaByte(EPOCH, 5),
-        MetaByte(TICKS, 2),
-        MetaByte(GEAR, 4),
-        Log(0),
-        Log(1),
-        Byte(0, 0, 0, 1),
-        Byte(0, 3, 1, 6),
-        Byte(0, 3, 27, 4),
-        Byte(0, 3, 31, 102),
-    ];
-    check(
-        &rt,
-        &more,
-        &one_write(),
-        &[
-            (&[Powered(4, Power::Parked)], 1, false),
-            (&[Powered(4, Power::Spinning)], 1, true),
-            (&[Powered(4, Power::Absent)], 1, true),
-        ],
-    );
+    check(&rt, &OPENED, &one_write(), &AT_THE_COMMIT);
+    check(&rt, &MORE, &one_write(), &ONE_TARGET_MORE);
 }
+
+/// Changes in a shift down.
+const IN_A_SHIFT_DOWN: [Row; 6] = [
+    (&[], 0, true),
+    // A copy, the parity and a pad of a filled stripe, and a stripe above the mark.
+    (&[Byte(0, 106, 0, 1), Byte(3, 106, 0, 1)], 0, false),
+    (&[Byte(3, 106, 0, 1)], 0, false),
+    (&[Byte(3, 107, 0, 1), Byte(2, 107, 0, 1)], 0, true),
+    (&[MetaByte(FILL, 2)], 0, true),
+    (
+        &[MetaByte(FILL, 2), Byte(3, 107, 0, 1), Byte(2, 107, 0, 1)],
+        0,
+        false,
+    ),
+];
+
+/// Changes in a shift up.
+const IN_A_SHIFT_UP: [Row; 4] = [
+    (&[], 0, true),
+    // A disk that is still parked has its spin-up recorded.
+    (&[Powered(4, Power::Parked)], 0, false),
+    (
+        &[Powered(4, Power::Parked), MetaByte(SPINS_OF_4, 1)],
+        0,
+        true,
+    ),
+    // A cell that is clean lives in its hard place in a shift up.
+    (&[Byte(4, 101, 0, 1), Byte(0, 101, 0, 1)], 0, false),
+];
+
+/// Changes in a rebuild of disk 1.
+const IN_A_REBUILD: [Row; 9] = [
+    (&[], 0, true),
+    // A rebuilt row, one that is not, the map, and the gate of a fresh log disk.
+    (&[Byte(1, 101, 0, 1)], 0, false),
+    (&[Byte(1, 102, 0, 1)], 0, true),
+    (&[Byte(1, 100, 400, 1)], 0, true),
+    (&[Byte(1, 100, 400, 1), MetaByte(REBUILT, 6)], 0, false),
+    (&[Byte(1, 0, 0, 1)], 0, false),
+    (&[Short(1)], 0, false),
+    (&[MetaByte(OUT, 2), Powered(2, Power::Parked)], 0, false),
+    (&[Powered(1, Power::Absent)], 0, true),
+];
+
+/// A stripe of a fresh disk below the gear, before and after it is rebuilt.
+const IN_A_REBUILD_BELOW: [Row; 2] = [
+    (&[MetaByte(OUT, 2), Byte(2, 106, 0, 1)], 0, false),
+    (&[MetaByte(OUT, 2), Byte(2, 107, 0, 1)], 0, true),
+];
+
+/// The array in a shift down, in a shift up, and in two rebuilds.
+const FALLING: [Change; 3] = [MetaByte(PHASE, 1), MetaByte(TO, 4), MetaByte(FILL, 1)];
+
+const RISING: [Change; 3] = [MetaByte(GEAR, 4), MetaByte(PHASE, 2), MetaByte(TO, 5)];
+
+const REBUILDING: [Change; 3] = [MetaByte(OUT, 1), MetaByte(FRESH, 1), MetaByte(REBUILT, 1)];
+
+const REBUILDING_BELOW: [Change; 3] = [MetaByte(GEAR, 4), MetaByte(FRESH, 1), MetaByte(REBUILT, 6)];
 
 #[test]
 fn shifts_and_rebuilds_are_asked_as_far_as_they_have_come(rt: HostRuntime) {
-    check(
-        &rt,
-        &[MetaByte(PHASE, 1), MetaByte(TO, 4), MetaByte(FILL, 1)],
-        &[],
-        &[
-            (&[], 0, true),
-            // A copy, the parity and a pad of a filled stripe, and a stripe above the mark.
-            (&[Byte(0, 106, 0, 1), Byte(3, 106, 0, 1)], 0, false),
-            (&[Byte(3, 106, 0, 1)], 0, false),
-            (&[Byte(3, 107, 0, 1), Byte(2, 107, 0, 1)], 0, true),
-            (&[MetaByte(FILL, 2)], 0, true),
-            (
-                &[MetaByte(FILL, 2), Byte(3, 107, 0, 1), Byte(2, 107, 0, 1)],
-                0,
-                false,
-            ),
-        ],
-    );
-    check(
-        &rt,
-        &[MetaByte(GEAR, 4), MetaByte(PHASE, 2), MetaByte(TO, 5)],
-        &[],
-        &[
-            (&[], 0, true),
-            // A disk that is still parked has its spin-up recorded.
-            (&[Powered(4, Power::Parked)], 0, false),
-            (
-                &[Powered(4, Power::Parked), MetaByte(SPINS_OF_4, 1)],
-                0,
-                true,
-            ),
-            // A cell that is clean lives in its hard place in a shift up.
-            (&[Byte(4, 101, 0, 1), Byte(0, 101, 0, 1)], 0, false),
-        ],
-    );
-    check(
-        &rt,
-        &[MetaByte(OUT, 1), MetaByte(FRESH, 1), MetaByte(REBUILT, 1)],
-        &[],
-        &[
-            (&[], 0, true),
-            // A rebuilt row, one that is not, the map, and the gate of a fresh log disk.
-            (&[Byte(1, 101, 0, 1)], 0, false),
-            (&[Byte(1, 102, 0, 1)], 0, true),
-            (&[Byte(1, 100, 400, 1)], 0, true),
-            (&[Byte(1, 100, 400, 1), MetaByte(REBUILT, 6)], 0, false),
-            (&[Byte(1, 0, 0, 1)], 0, false),
-            (&[Short(1)], 0, false),
-            (&[MetaByte(OUT, 2), Powered(2, Power::Parked)], 0, false),
-            (&[Powered(1, Power::Absent)], 0, true),
-        ],
-    );
-    // A stripe of a fresh disk below the gear, before and after it is rebuilt.
-    check(
-        &rt,
-        &[MetaByte(GEAR, 4), MetaByte(FRESH, 1), MetaByte(REBUILT, 6)],
-        &[],
-        &[
-            (&[MetaByte(OUT, 2), Byte(2, 106, 0, 1)], 0, false),
-            (&[MetaByte(OUT, 2), Byte(2, 107, 0, 1)], 0, true),
-        ],
-    );
+    check(&rt, &FALLING, &[], &IN_A_SHIFT_DOWN);
+    check(&rt, &RISING, &[], &IN_A_SHIFT_UP);
+    check(&rt, &REBUILDING, &[], &IN_A_REBUILD);
+    check(&rt, &REBUILDING_BELOW, &[], &IN_A_REBUILD_BELOW);
 }
 
 /// The first byte of the value of a cell.
-fn value_byte(image: &Image, says: &Statement, row: Row, disk: DiskNo) -> Option<u8> {
+fn value_byte(image: &Image, says: &Statement, row: u32, disk: DiskNo) -> Option<u8> {
     let geometry = &says.meta.setup.geometry;
     if row < geometry.rows && disk < geometry.disks {
         Some(value_of(image, says, row, disk).bytes[0])

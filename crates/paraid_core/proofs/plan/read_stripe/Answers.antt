@@ -1,4 +1,4 @@
-use Rattle.std.proofs.Common.{◌≡◌, ◌≢◌, ◌∙◌, ◌≤◌, Some, sym, ap, inl, arith}
+use Rattle.std.proofs.Common.{◌∙◌, ◌≤◌, sym, ap, inl, arith}
 use Rattle.std.proofs.lemmas.Bool.{false≢true}
 use Rattle.paraid_base.specs.Regions.{disk_size}
 use Rattle.paraid_plan.proofs.StoredLemmas.{stripe_gone, stripe_there}

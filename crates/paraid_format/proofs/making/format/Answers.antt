@@ -1,11 +1,11 @@
-use Rattle.std.proofs.Common.{subst, ◌≡◌, ℕ}
+use Rattle.std.proofs.Common.{subst, ◌≡◌, ℕ, ◌∙◌, arith, inr}
 use Rattle.paraid_rack.specs.Disks.{Disks}
 use Rattle.paraid_rack.specs.Trail.{now}
 use Rattle.paraid_format.specs.Attached.{BecomesFormatted}
 use Rattle.paraid_format.specs.First.{first_meta}
 use Rattle.paraid_format.proofs.AttachLemmas.{led_then}
 use Rattle.paraid_format.proofs.FormatLemmas.{only_reads, reads_and_rest}
-use Rattle.paraid_format.proofs.ReadsLemmas.{quiet_now}
+use Rattle.paraid_format.proofs.ReadsLemmas.{quiet_now, reading_of}
 use Rattle.paraid_format.proofs.making.format.Goals as goal
 
 pub returns-in-Err-clause-calls : goal.returns-in-Err-clause-calls
@@ -29,3 +29,10 @@ returns-in-Ok-make-clause-formatted g c =
     led_then (λ (start s : Disks). s ≡ start) (becomes (g.R.Rack.slot_count c.args.rack.now)) (becomes (g.R.Rack.slot_count c.args.rack.now))
     (λ start mid end is made. subst (λ (u : Disks). becomes (g.R.Rack.slot_count c.args.rack.now) u end) is made) _ _ _ (quiet_now c.in-Ok.ensures.quiet)
     (λ t tells. let m = c.in-Ok-make.ensures.formatted t tells in (m.0, m.1, subst (λ (n : ℕ). becomes n (now m.0) (now t)) c.test.ensures.slots m.2))
+
+pub returns-then-disks-slots-clause-refused : goal.returns-then-disks-slots-clause-refused
+returns-then-disks-slots-clause-refused g c =
+    let slots : c.slots-slots.result ≡ g.R.Rack.slot_count c.args.rack.now = c.slots-slots.ensures ∙ c.test.ensures.slots in
+    let few = c.if-disks-slots.true in
+    let disks = c.disks.ensures in
+    inr (slots, omega (arith, slots, few, disks), reading_of c.in-Ok.ensures.quiet)

@@ -1,10 +1,11 @@
+use Rattle.std.proofs.Common.{◌<◌, length, arith}
 use Rattle.paraid_dirty.specs.Table.{is_dirty}
 use Rattle.paraid_plan.specs.Staged.{lay}
 use Rattle.paraid_txn.specs.Stores.{rack_of}
 use Rattle.paraid_core.specs.declared.changes.Change.{Change}
 use Rattle.paraid_core.specs.Leads.{leads_stays}
 use Rattle.paraid_core.specs.Plans.{base_of}
-use Rattle.paraid_core.proofs.PlanLemmas.{desk_bit, undone_change}
+use Rattle.paraid_core.proofs.PlanLemmas.{desk_bit, logged_more, undone_change}
 use Rattle.paraid_core.proofs.plan.CorePlan.set_dirty.Goals as goal
 
 pub returns-clause-desk : goal.returns-clause-desk
@@ -17,6 +18,11 @@ returns-clause-leads g c =
     let old = c.args.self.now in
     let stay = leads_stays g.R.Rack.slot_count g.R.Rack.slot g.R.Rack.told old in
     let change : Change = record { row = c.args.r; disk = c.args.d; was = c.has-was.result } in
+    let rows = c.requires.serves.rows in
+    let low = c.requires.row in
+    let high = c.args.m.now.setup.geometry.disks_high in
+    let disk = c.requires.disk in
+    let below : (c.args.r < length old.dirty) × (c.args.d < 8) = (omega arith, omega arith) in
     record {
       slots = stay.slots;
       same = stay.same;
@@ -24,6 +30,7 @@ returns-clause-leads g c =
       batch = stay.batch;
       rows = c.turn.ensures.rows;
       undone_same = undone_change old.changes c.push.new.self (is_dirty old.dirty) (is_dirty c.turn.new.dirty) change c.args.bit c.push.ensures c.has-was.ensures c.turn.ensures.cells;
+      logged = λ are. logged_more _ _ old.changes c.push.new.self change c.turn.ensures.rows c.push.ensures below are;
       calls = stay.calls;
       left = stay.left;
       over = stay.over;

@@ -1,8 +1,7 @@
-use Rattle.std.proofs.Common.{◌≡◌, ℕ, ◌∙◌, Option, ap}
+use Rattle.std.proofs.Common.{ℕ, ◌∙◌, Option, ap}
 use Rattle.paraid_dirty.specs.Table.{is_dirty}
 use Rattle.paraid_image.specs.Standing.{Contents}
 use Rattle.paraid_plan.specs.Staged.{lay, stripe_block}
-use Rattle.paraid_image.specs.Value.{value}
 use Rattle.paraid_txn.specs.Stores.{disks_of, rack_of}
 use Rattle.paraid_view.specs.Reads.{seen_by}
 use Rattle.paraid_core.specs.Plans.{base_of}

@@ -1,4 +1,4 @@
-use Rattle.std.proofs.Common.{◌≡◌, ◌≢◌, ℕ, ◌+◌, ◌∙◌, Some, None, refl, sym, ap, subst, inl, inr, Option, ◌<◌}
+use Rattle.std.proofs.Common.{◌≡◌, ℕ, ◌+◌, ◌∙◌, Some, None, sym, ap, subst, Option, ◌<◌}
 use Rattle.paraid_txn.specs.Stores.{disks_of, epoch_of, named_of, rack_of}
 use Rattle.paraid_record.specs.declared.meta.Meta.{Meta}
 use Rattle.paraid_core.proofs.CommitLemmas.{commit_moments, commit_stands}
@@ -9,8 +9,8 @@ use Rattle.paraid_rack.specs.Slots.{Slot}
 use Rattle.paraid_txn.specs.Losses.{IsTwo}
 use Rattle.paraid_image.specs.Out.{named_out, or_else}
 use Rattle.paraid_image.specs.Sides.{Batch}
-use Rattle.paraid_core.specs.Stands.{IsReady, lost_in, marked}
-use Rattle.paraid_core.proofs.AfterLemmas.{commit_lost_only, handed, lost_in_low, lost_in_was, ready_after, ready_moved, ready_next, two_down}
+use Rattle.paraid_core.specs.Stands.{CanServe, IsReady, lost_in, marked}
+use Rattle.paraid_core.proofs.AfterLemmas.{commit_lost_only, handed, lost_in_low, lost_in_was, ready_after, ready_moved, marked_setup, marked_writes, ready_next, serve_after, two_down}
 use Rattle.paraid_core.proofs.ReadyLemmas.{IsLostOnly}
 use Rattle.paraid_core.proofs.staged.Core.commit.Given.{Over}
 use Rattle.paraid_core.proofs.staged.Core.commit.Goals as goal
@@ -90,3 +90,21 @@ returns-clause-stands g c h lo =
     c.requires.stays _ _ (slot g c) (then g c) (g.met.R.Rack.agrees (rack_of old.store)) (g.met.R.Rack.agrees (rack_of c.commit.new.self)) (lost g c) (λ d is. lost_in_low old.meta c.in_ok-lost.lost d is) (only g c) (alone g c)
     c.requires.ready.absent (absent_then g c) _ _ _ _ c.commit.ensures.slots c.in_ok-lost.ensures.named (meta_is g c) c.clear.ensures c.commit.ensures.any_moment
     c.in_ok-lost.ensures.committed
+
+pub returns-clause-serves : goal.returns-clause-serves
+returns-clause-serves g c serves =
+    let old = c.args.self.now in
+    let after : Meta = record old.meta { epoch = epoch_of old.store + 1 } in
+    let low = c.requires.ready.epoch_is in
+    let epoch = c.requires.epoch in
+    let next = ready_next _ (slot g c) (epoch_of old.store) _ _ old.meta _ _ (omega arith) c.requires.ready in
+    subst (λ (z : Option ℕ). CanServe (then g c) z c.lose.new.meta) (sym c.in_ok-lost.ensures.named)
+    (subst (λ (z : Meta). CanServe (then g c) (named_out old.meta.out) z) (sym (meta_is g c))
+    (serve_after _ (slot g c) (then g c) (epoch_of old.store + 1) _ (named_out old.meta.out) after _ [] next c.in_ok-lost.lost (only g c) (alone g c) (alone g c) (λ d is. lost_in_low old.meta c.in_ok-lost.lost d is)
+    (record { spins = serves.spins; large = serves.large; stays = λ d is. is })))
+
+pub returns-clause-setup : goal.returns-clause-setup
+returns-clause-setup g c = ap (λ (z : Meta). z.setup) (meta_is g c) ∙ marked_setup (lost g c) _
+
+pub returns-clause-writes : goal.returns-clause-writes
+returns-clause-writes g c = ap (λ (z : Meta). z.writes) (meta_is g c) ∙ marked_writes (lost g c) _

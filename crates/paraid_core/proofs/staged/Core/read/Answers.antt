@@ -1,8 +1,7 @@
-use Rattle.std.proofs.Common.{◌++◌, ◌≡◌, ◌≢◌, ℕ, ◌∙◌, Some, None, refl, sym, ap, subst, inl, inr, Option, ◌<◌}
-use Rattle.paraid_rack.specs.Slots.{Agrees}
+use Rattle.std.proofs.Common.{◌++◌, ◌≡◌, ℕ, ◌∙◌, Some, None, sym, ap, subst, Option, ◌<◌}
 use Rattle.paraid_rack.specs.Trail.{now}
 use Rattle.paraid_txn.specs.Stores.{disks_of, named_of, rack_of}
-use Rattle.paraid_core.proofs.ReadsLemmas.{reads_moments, reads_stand, rows_zero, shows_contents, stripes_zero, value_read}
+use Rattle.paraid_core.proofs.ReadsLemmas.{knows_named, reads_moments, reads_stand, rows_zero, shows_contents, stripes_zero, value_read}
 use Rattle.paraid_record.specs.declared.meta.Meta.{Meta}
 use Rattle.paraid_txn.specs.Losses.{IsTwo}
 use Rattle.std.proofs.lemmas.List.{append-nil}
@@ -21,13 +20,13 @@ use Rattle.paraid_core.proofs.staged.Core.read.Goals.{In_ok-lose}
 pub returns-clause-moments : goal.returns-clause-moments
 returns-clause-moments g c h lo =
     let old = c.args.self.now in
-    reads_moments (g.R.Rack.slot_count (rack_of old.store)) (named_of old.store) old.meta old.dirty old.batch h lo (disks_of old.store) _ _ (sym c.requires.ready.array_is) c.in_ok-lost.ensures.read.calls
+    reads_moments (g.R.Rack.slot_count (rack_of old.store)) (named_of old.store) old.meta old.dirty old.batch h lo (or_else (named_of old.store) (named_out old.meta.out)) (knows_named (named_of old.store) (named_out old.meta.out)) (disks_of old.store) _ _ (sym c.requires.ready.array_is) c.in_ok-lost.ensures.read.calls
 
 pub returns-clause-stands : goal.returns-clause-stands
 returns-clause-stands g c h lo =
     let old = c.args.self.now in
     let read = c.in_ok-lost.ensures in
-    reads_stand (g.R.Rack.slot_count (rack_of old.store)) (named_of old.store) old.meta old.dirty old.batch h lo (disks_of old.store) _ _ (g.R.Rack.slot (rack_of old.store)) (g.R.Rack.slot (rack_of c.read_cell.new.store))
+    reads_stand (g.R.Rack.slot_count (rack_of old.store)) (named_of old.store) old.meta old.dirty old.batch h lo (or_else (named_of old.store) (named_out old.meta.out)) (knows_named (named_of old.store) (named_out old.meta.out)) (disks_of old.store) _ _ (g.R.Rack.slot (rack_of old.store)) (g.R.Rack.slot (rack_of c.read_cell.new.store))
     c.in_ok-lost.lost c.requires.ready.in_range (sym c.requires.ready.array_is) (g.met.R.Rack.agrees (rack_of old.store)) (g.met.R.Rack.agrees (rack_of c.read_cell.new.store)) read.read.left
     (g.met.R.Rack.slots_hold (rack_of c.read_cell.new.store)).absent (λ d is. subst (λ (z : ℕ). d < z) (sym c.requires.ready.array_is) (read.below d is)) (λ d is. read.one d is) c.requires.serves.stays
     _ _ _ read.read.slots read.read.same.named c.in_ok-lose.ensures.marked read.read.calls
@@ -47,7 +46,7 @@ returns-clause-value g c h lo t tells keeps some =
 pub returns-in_err-lost-clause-moments : goal.returns-in_err-lost-clause-moments
 returns-in_err-lost-clause-moments g c h lo =
     let old = c.args.self.now in
-    reads_moments (g.R.Rack.slot_count (rack_of old.store)) (named_of old.store) old.meta old.dirty old.batch h lo (disks_of old.store) _ _ (sym c.requires.ready.array_is) c.in_err-lost.ensures.two.calls
+    reads_moments (g.R.Rack.slot_count (rack_of old.store)) (named_of old.store) old.meta old.dirty old.batch h lo (or_else (named_of old.store) (named_out old.meta.out)) (knows_named (named_of old.store) (named_out old.meta.out)) (disks_of old.store) _ _ (sym c.requires.ready.array_is) c.in_err-lost.ensures.two.calls
 
 pub returns-in_err-lost-clause-two : goal.returns-in_err-lost-clause-two
 returns-in_err-lost-clause-two g c =

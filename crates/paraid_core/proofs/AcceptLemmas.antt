@@ -1,0 +1,158 @@
+-- A plan over a core that was taken into its batch.
+use Rattle.std.specs.Prelude.{◌≡◌, ◌≢◌, ℕ, ◌+◌, ◌^◌, ◌<◌, false, [], ◌∷◌, ◌++◌, Option, Some, None, IsSome}
+use Rattle.std.proofs.Common.{refl, sym, ◌∙◌, ap, subst, arith, inl, inr}
+use Rattle.paraid_base.specs.declared.state.Out.{Out}
+use Rattle.paraid_base.specs.declared.state.Out.TheVariants.{Fresh, Gone, No}
+use Rattle.paraid_base.specs.History.{Entry, History}
+use Rattle.paraid_image.specs.Out.{named_out}
+use Rattle.paraid_image.specs.Sides.{Batch}
+use Rattle.paraid_image.specs.Standing.{contents}
+use Rattle.paraid_image.proofs.StepLemmas.{decide_some}
+use Rattle.paraid_plan.specs.Desk.{Desk, StageAll, sees}
+use Rattle.paraid_plan.specs.Placed.{ArePlaced, IsPlaced}
+use Rattle.paraid_plan.specs.Staged.{write_targets}
+use Rattle.paraid_plan.proofs.LayLemmas.{lay_nil}
+use Rattle.paraid_plan.proofs.PlacedLemmas.{write_is_placed}
+use Rattle.paraid_rack.specs.Disks.{Disks, is_present}
+use Rattle.paraid_rack.specs.Slots.{Agrees, Slot}
+use Rattle.paraid_rack.specs.Told.{Ran, Runs}
+use Rattle.paraid_rack.specs.Trail.{Trail, now, run}
+use Rattle.paraid_rack.proofs.TrailsLemmas.{now-extend}
+use Rattle.paraid_record.specs.declared.meta.Meta.{Meta}
+use Rattle.paraid_record.specs.declared.targets.Target.{Target}
+use Rattle.paraid_record.specs.Range.{IsInRange}
+use Rattle.paraid_txn.specs.Commit.{gone_out}
+use Rattle.paraid_txn.specs.Losses.{CanWrite}
+use Rattle.paraid_txn.specs.Stores.{disks_of, rack_of}
+use Rattle.paraid_view.specs.Reads.{AreLeft}
+use Rattle.paraid_core.specs.declared.staged.Core.{Core}
+use Rattle.paraid_core.specs.Plans.{LeadsTo, base_of, cleared, desk_of}
+use Rattle.paraid_core.specs.Stands.{CanServe, IsReady, Keeps}
+use Rattle.paraid_core.specs.Taken.{IsTakenIn}
+use Rattle.paraid_core.proofs.PlanLemmas.{base_same}
+use Rattle.paraid_core.proofs.WriteLemmas.{taken_write_keeps}
+
+placed_append : (m : Meta) (a b : Batch) → ArePlaced m a → ArePlaced m b → ArePlaced m (a ++ b)
+placed_append m [] b p q = q
+placed_append m (w ∷ a) b p q = (p.0, placed_append m a b p.1 q)
+
+-- what a plan has staged can be committed
+all_placed : (m : Meta) → IsInRange m → (before later : Desk) (ws : Entry) → StageAll m before later ws → ArePlaced m before.staged → ArePlaced m later.staged
+all_placed m range before later [] all placed = subst (λ (s : Desk). ArePlaced m s.staged) all placed
+all_placed m range before later (w ∷ ws) all placed =
+    let one = all.2 in
+    let first : Batch = write_targets (sees m before) w.0 w.1 one.staged one.map in
+    all_placed m range all.0 later ws all.3
+    (subst (ArePlaced m) (sym one.targets) (placed_append m before.staged first placed (write_is_placed (sees m before) w.0 w.1 one.staged one.map range all.1)))
+
+-- a placed target can be written
+module _ (count : ℕ) (slot : ℕ → Slot) (last array : ℕ) (named : Option ℕ) (m : Meta) (rows : ℕ) (batch : Batch) (ready : IsReady count slot last array named m rows batch) (serves : CanServe slot named m) where
+  spins : (t : Target) → IsPlaced m t → named_out m.out ≢ Some t.disk → CanWrite slot t.disk t.place
+  spins t placed not = elim placed.powered [
+    | inl low ↦ record { spins = λ here. ready.spins t.disk low not; within = λ here. let large = ready.large t.disk low not in let w = placed.in_range.within in omega arith }
+    | inr up ↦ record { spins = λ here. serves.spins t.disk up not; within = λ here. let large = serves.large t.disk up not in let w = placed.in_range.within in omega arith }
+  ]
+
+  fresh : (t : Target) → IsPlaced m t → (o : Out) → m.out ≡ o → named_out o ≡ Some t.disk → gone_out o ≢ Some t.disk → CanWrite slot t.disk t.place
+  fresh t placed No is at not = let z : None ≡ Some t.disk = at in cc
+  fresh t placed (Gone d) is at not = absurd (not at)
+  fresh t placed (Fresh d u) is at not =
+      let same : d ≡ t.disk = cc in
+      let is_t : m.out ≡ Fresh t.disk u = is ∙ ap (λ (z : ℕ). Fresh z u) same in
+      record { spins = λ here. ready.fresh_spins t.disk u is_t here; within = λ here. let large = ready.fresh_large t.disk u is_t here in let w = placed.in_range.within in omega arith }
+
+  pub placed_can : (t : Target) → IsPlaced m t → (t.disk < count) × (gone_out m.out ≢ Some t.disk → CanWrite slot t.disk t.place)
+  placed_can t placed = (
+    (let low = placed.in_range.disk in let enough = ready.enough in omega arith),
+    λ not. elim (decide_some (named_out m.out) t.disk) [
+      | inl at ↦ fresh t placed m.out refl at not
+      | inr off ↦ spins t placed off
+    ],
+  )
+
+  -- with the targets of a plan, and one write more
+  pub accepted_ready : (batch_then : Batch) (draft : Batch) → IsTakenIn m batch draft batch_then → m.writes + 1 < 2 ^ 64
+      → IsReady count slot last array named (record m { writes = m.writes + 1 }) rows batch_then
+  accepted_ready batch_then draft taken low = record {
+    in_range = more;
+    array_is = ready.array_is;
+    epoch_is = ready.epoch_is;
+    enough = ready.enough;
+    rows_are = ready.rows_are;
+    absent = ready.absent;
+    one = ready.one;
+    spins = ready.spins;
+    large = ready.large;
+    fresh_spins = ready.fresh_spins;
+    fresh_large = ready.fresh_large;
+    each = taken.each ready.each;
+    can = taken.can (gone_out m.out) count slot placed_can ready.can;
+    apart = taken.apart;
+  }
+    where
+      more : IsInRange (record m { writes = m.writes + 1 })
+      more =
+          let r = ready.in_range in
+          record {
+            setup = r.setup;
+            version = r.version;
+            counters = record { first = r.counters.first; epoch_fits = r.counters.epoch_fits; writes_fit = low; ticks_fit = r.counters.ticks_fit };
+            gear = r.gear;
+            phase = r.phase;
+            out = r.out;
+            shift = record { fill = r.shift.fill; down = r.shift.down; still = r.shift.still };
+            eight = r.eight;
+            spins = λ d l. let k = r.spins d l in record { within = k.within; parked = k.parked; unused = k.unused };
+          }
+
+-- the writes have one entry more
+module _ {R : Type 0} {g : _} (count : R → ℕ) (slot : R → ℕ → Slot) (told : R → Option Trail) (old pl : Core R g) (led : LeadsTo count slot told (cleared old) pl)
+    (range : IsInRange old.meta) (whole : pl.failed ≡ None)
+    (agrees_was : (t : Trail) → told (rack_of old.store) ≡ Some t → Agrees (now t) (slot (rack_of old.store))) (agrees : (t : Trail) → told (rack_of pl.store) ≡ Some t → Agrees (now t) (slot (rack_of pl.store)))
+    (absent : (d : ℕ) → d < old.meta.setup.geometry.disks → is_present (slot (rack_of pl.store) d).power ≡ false → named_out old.meta.out ≡ Some d)
+    (entry : Entry) (stage : IsSome (told (rack_of pl.store)) → StageAll old.meta (desk_of told (cleared old)) (desk_of told pl) entry)
+    (batch_then : Batch) (taken : IsTakenIn old.meta old.batch pl.draft batch_then) (P : Disks → Type 0) (A : Disks → Type 0) where
+  abbrev m : Meta
+  m = old.meta
+
+  left : AreLeft None (slot (rack_of old.store)) (slot (rack_of pl.store))
+  left = subst (λ (o : Option ℕ). AreLeft o (slot (rack_of old.store)) (slot (rack_of pl.store))) whole (led.left refl)
+
+  desk_block : (t : Trail) → told (rack_of pl.store) ≡ Some t → (desk_of told (cleared old)).block ≡ contents (now t) old.batch
+  desk_block t tells =
+      lay_nil (base_of (told (rack_of old.store)) old.batch)
+      ∙ sym (base_same (disks_of old.store) (told (rack_of old.store)) (told (rack_of pl.store)) (slot (rack_of old.store)) (slot (rack_of pl.store)) old.batch agrees_was agrees left led.calls (subst IsSome (sym tells) refl))
+      ∙ ap (λ (o : Option Trail). base_of o old.batch) tells
+
+  module _ (t : Trail) (tells : told (rack_of pl.store) ≡ Some t) (slots : ℕ) (named : Option ℕ) (h : History) (lo : ℕ) (k : Keeps slots named m old.dirty old.batch h lo (now t)) where
+    staged : StageAll m (desk_of told (cleared old)) (desk_of told pl) entry
+    staged = stage (subst IsSome (sym tells) refl)
+
+    pub accepted_keeps : Keeps slots named (record m { writes = m.writes + 1 }) pl.dirty batch_then (h ++ entry ∷ []) lo (now t)
+    accepted_keeps =
+        taken_write_keeps slots named m old.dirty pl.dirty old.batch batch_then h lo (now t) (desk_of told (cleared old)) (desk_of told pl) entry range
+        (λ d l gone. absent d l (ap is_present (sym ((agrees t tells).power d)) ∙ gone))
+        k (record { block = desk_block t tells; dirty = k.dirty; staged = refl }) staged
+        (record { laid_same = taken.laid_same (all_placed m range (desk_of told (cleared old)) (desk_of told pl) entry staged tt); bits = λ r d l. refl })
+
+  pub accepted_stands : (slots : ℕ) (named : Option ℕ) (m_then : Meta) (h : History) (lo : ℕ) → m_then ≡ record m { writes = m.writes + 1 }
+      → Ran (told (rack_of old.store)) (told (rack_of pl.store)) (Runs P A (Keeps slots named m old.dirty old.batch h lo))
+      → Ran (told (rack_of old.store)) (told (rack_of pl.store)) (Runs P A (Keeps slots named m_then pl.dirty batch_then (h ++ entry ∷ []) lo))
+  accepted_stands slots named m_then h lo em ran t tells =
+      let r = ran t tells in
+      let here : now t ≡ run (now r.from) r.calls = ap now r.is ∙ now-extend r.from r.calls in
+      record {
+        from = r.from;
+        was = r.was;
+        calls = r.calls;
+        is = r.is;
+        holds = record {
+          goes = λ a.
+              let b = r.holds.goes a in (
+                b.0,
+                subst (λ (z : Meta). Keeps slots named z pl.dirty batch_then (h ++ entry ∷ []) lo (run (now r.from) r.calls)) (sym em)
+                    (subst (λ (s : Disks). Keeps slots named (record m { writes = m.writes + 1 }) pl.dirty batch_then (h ++ entry ∷ []) lo s) here
+                    (accepted_keeps t tells slots named h lo (subst (λ (s : Disks). Keeps slots named m old.dirty old.batch h lo s) (sym here) b.1))),
+              );
+        };
+      }

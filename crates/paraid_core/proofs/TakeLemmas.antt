@@ -1,0 +1,132 @@
+-- Blocks are added to a batch one by one.
+use Rattle.std.specs.Prelude.{◌≡◌, ◌≢◌, ℕ, ◌+◌, ◌<◌, ◌≤◌, ◌==◌, ◌&&◌, true, false, List, [], ◌∷◌, ◌++◌, length, get_or, take, Some, Result, Ok, Err, IfErr, OnOk, All}
+use Rattle.std.proofs.Common.{suc, zero, refl, sym, ◌∙◌, ap, subst, arith, inl, inr, length-append}
+use Rattle.std.proofs.lemmas.Bool.{cases_Bool, false≢true}
+use Rattle.std.proofs.lemmas.List.{append-nil, append_assoc}
+use Rattle.std.proofs.lemmas.List.Kept.{AllPairs-cons}
+use Rattle.std.proofs.lemmas.Bool.Decides.{nat_tests}
+use Rattle.std.proofs.lemmas.List.Elements.{All-cons, All-nil, All-tail}
+use Rattle.paraid_base.specs.declared.block.Block.{Block}
+use Rattle.paraid_base.specs.Xor.{zeroed}
+use Rattle.paraid_image.specs.Sides.{Batch, targets}
+use Rattle.paraid_image.specs.Standing.{laid}
+use Rattle.paraid_plan.specs.Placed.{ArePlaced, IsPlaced}
+use Rattle.paraid_plan.proofs.BatchLemmas.{laid-with_target}
+use Rattle.paraid_plan.proofs.LayLemmas.{laid_append}
+use Rattle.paraid_record.specs.declared.meta.Meta.{Meta}
+use Rattle.paraid_record.specs.declared.targets.Target.{Target}
+use Rattle.paraid_record.specs.Targets.{IsTargetInRange, no_target}
+use Rattle.paraid_txn.specs.declared.batch.Full.{Full}
+use Rattle.paraid_image.specs.Neutral.{names}
+use Rattle.paraid_txn.specs.Losses.{CanWrite}
+use Rattle.paraid_txn.specs.Staging.{blocks, with_target}
+use Rattle.paraid_core.specs.Taken.{AreApart, IsTakenIn}
+
+-- the first one of a list
+head : (P : Target → Type 0) (x : Target) (xs : List Target) → All P (x ∷ xs) → P x
+head P x xs all = all 0 x (omega arith)
+
+-- what holds of all targets and of a new one
+pub with_all : (P : Target → Type 0) (b : Batch) (t : Target) (x : Block) → All P (targets b) → P t → All P (targets (with_target b t x))
+with_all P [] t x all p = All-cons P t [] p (All-nil P)
+with_all P (w ∷ b) t x all p = elim (cases_Bool (w.0.disk == t.disk && w.0.place == t.place)) [
+  | inl same ↦ rw same all
+  | inr other ↦ rw other (All-cons P w.0 (targets (with_target b t x)) (head P w.0 (targets b) all) (with_all P b t x (All-tail P w.0 (targets b) all) p))
+]
+
+pub with_length : (b : Batch) (t : Target) (x : Block) → length (with_target b t x) ≤ length b + 1
+with_length [] t x = omega arith
+with_length (w ∷ b) t x = elim (cases_Bool (w.0.disk == t.disk && w.0.place == t.place)) [
+  | inl same ↦ rw same (omega arith)
+  | inr other ↦ rw other (let l = with_length b t x in omega arith)
+]
+
+same_is : (s t : Target) → s ≡ t → (s.disk == t.disk && s.place == t.place) ≡ true
+same_is s t e = subst (λ (z : Target). (s.disk == z.disk && s.place == z.place) ≡ true) e (grind (arith, nat_tests))
+
+-- no target stands twice in it
+with_apart : (b : Batch) (t : Target) (x : Block) → AreApart b → AreApart (with_target b t x)
+with_apart [] t x apart = λ i j d low high. absurd (omega arith)
+with_apart (w ∷ b) t x apart = elim (cases_Bool (w.0.disk == t.disk && w.0.place == t.place)) [
+  | inl same ↦ rw same apart
+  | inr other ↦ rw other
+      (AllPairs-cons (λ (s : Target) (y : Target). s ≢ y) w.0 (targets (with_target b t x))
+      (with_all (λ (y : Target). w.0 ≢ y) b t x (λ k d l. apart zero (suc k) d (omega arith) (omega arith)) (λ e. false≢true (sym other ∙ same_is w.0 t e)))
+      (with_apart b t x (λ i j d low high. apart (suc i) (suc j) d (omega arith) (omega arith))))
+]
+
+pub none_taken : (m : Meta) (old : Batch) → AreApart old → IsTakenIn m old [] old
+none_taken m old apart = record {
+  room = omega arith;
+  apart = apart;
+  laid_same = λ are d p x. ap (λ (z : Batch). laid z d p x) (sym (append-nil old));
+  each = λ all. all;
+  can = λ skip count slot to all. all;
+}
+
+-- a target that could not be committed is left out
+pub left_out : (m : Meta) (old : Batch) (t : Target) (b : Block) → AreApart old → (IsPlaced m t → ⊥) → IsTakenIn m old ((t, b) ∷ []) old
+left_out m old t b apart not = record {
+  room = omega arith;
+  apart = apart;
+  laid_same = λ are d p x. absurd (not are.0);
+  each = λ all. all;
+  can = λ skip count slot to all. all;
+}
+
+pub one_taken : (m : Meta) (old : Batch) (t : Target) (b : Block) → AreApart old → IsPlaced m t → IsTakenIn m old ((t, b) ∷ []) (with_target old t b)
+one_taken m old t b apart placed = record {
+  room = with_length old t b;
+  apart = with_apart old t b apart;
+  laid_same = λ are d p x. laid-with_target old t b d p x apart;
+  each = λ all. with_all (IsTargetInRange m.setup.geometry) old t b all placed.in_range;
+  can = λ skip count slot to all. with_all (λ (z : Target). (z.disk < count) × (skip ≢ Some z.disk → CanWrite slot z.disk z.place)) old t b all (to t placed);
+}
+
+placed_left : (m : Meta) (a b : Batch) → ArePlaced m (a ++ b) → ArePlaced m a × ArePlaced m b
+placed_left m [] b are = (tt, are)
+placed_left m (w ∷ a) b are = let parts = placed_left m a b are.1 in ((are.0, parts.0), parts.1)
+
+pub then_taken : (m : Meta) (a draft : Batch) (w : Target × Block) (b c : Batch) → IsTakenIn m a draft b → IsTakenIn m b (w ∷ []) c → IsTakenIn m a (draft ++ w ∷ []) c
+then_taken m a draft w b c p q =
+    let long = length-append draft (w ∷ []) in
+    let first = p.room in
+    let second = q.room in
+    record {
+      room = omega arith;
+      apart = q.apart;
+      laid_same = λ are d q x. laid_by are d q x;
+      each = λ all. q.each (p.each all);
+      can = λ skip count slot to all. q.can skip count slot to (p.can skip count slot to all);
+    }
+  where
+    laid_by : ArePlaced m (draft ++ w ∷ []) → (d y : ℕ) (x : Block) → laid c d y x ≡ laid (a ++ (draft ++ w ∷ [])) d y x
+    laid_by are d y x =
+        let parts = placed_left m draft (w ∷ []) are in
+        q.laid_same parts.1 d y x
+        ∙ laid_append b (w ∷ []) d y x
+        ∙ ap (laid (w ∷ []) d y) (p.laid_same parts.0 d y x)
+        ∙ sym (laid_append (a ++ draft) (w ∷ []) d y x)
+        ∙ ap (λ (z : Batch). laid z d y x) (append_assoc a draft (w ∷ []))
+
+-- one block more of a draft
+take_next : (draft : Batch) (at : ℕ) → at < length draft → take (suc at) draft ≡ take at draft ++ (get_or (targets draft) at no_target, get_or (blocks draft) at zeroed) ∷ []
+take_next [] at l = absurd (omega arith)
+take_next (w ∷ draft) zero l = refl
+take_next (w ∷ draft) (suc at) l = ap (λ (z : Batch). w ∷ z) (take_next draft at (omega arith))
+
+take_more : (draft : Batch) (at : ℕ) → at < length draft → take (at + 1) draft ≡ take at draft ++ (get_or (targets draft) at no_target, get_or (blocks draft) at zeroed) ∷ []
+take_more draft at l = let e : at + 1 ≡ suc at = omega arith in ap (λ (n : ℕ). take n draft) e ∙ take_next draft at l
+
+-- there is room for one target more
+pub added : (m : Meta) (old new : Batch) (t : Target) (b : Block) (r : Result (Unit {0}) Full) → OnOk r (new ≡ with_target old t b)
+    → IfErr r (λ (full : Full). (full.count ≡ 96) × (length old ≡ 96) × (names old t.disk t.place ≡ false) × (new ≡ old))
+    → length old < 96 → AreApart old → IsPlaced m t → IsTakenIn m old ((t, b) ∷ []) new
+added m old new t b (Ok it) is full low apart placed = subst (IsTakenIn m old ((t, b) ∷ [])) (sym is) (one_taken m old t b apart placed)
+added m old new t b (Err e) is full low apart placed = let long = full.1 in absurd (omega arith)
+
+pub draft_more : (m : Meta) (a draft b c : Batch) (at : ℕ) (t : Target) (x : Block) → at < length draft → t ≡ get_or (targets draft) at no_target → x ≡ get_or (blocks draft) at zeroed
+    → IsTakenIn m a (take at draft) b → IsTakenIn m b ((t, x) ∷ []) c → IsTakenIn m a (take (at + 1) draft) c
+draft_more m a draft b c at t x l is_t is_x p q =
+    subst (λ (z : Batch). IsTakenIn m a z c) ((λ i. take at draft ++ (is_t i, is_x i) ∷ []) ∙ sym (take_more draft at l))
+    (then_taken m a (take at draft) (t, x) b c p q)

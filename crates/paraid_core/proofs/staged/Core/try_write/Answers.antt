@@ -1,0 +1,126 @@
+use Rattle.std.proofs.Common.{◌≡◌, ℕ, ◌+◌, ◌∙◌, ◌<◌, Some, None, sym, ap, subst, refl, length}
+use Rattle.paraid_base.specs.Pairs.{pairs_of}
+use Rattle.paraid_dirty.specs.Table.{is_dirty}
+use Rattle.paraid_image.specs.Out.{named_out}
+use Rattle.paraid_record.specs.declared.meta.Meta.{Meta}
+use Rattle.paraid_txn.specs.Stores.{disks_of, epoch_of, named_of, rack_of}
+use Rattle.paraid_core.specs.Stands.{CanServe, IsReady}
+use Rattle.std.specs.Prelude.{◌^◌, false}
+use Rattle.paraid_image.specs.Sides.{Batch}
+use Rattle.paraid_rack.specs.Disks.{is_present}
+use Rattle.paraid_core.specs.declared.staged.Core.{Core}
+use Rattle.paraid_core.specs.Taken.{IsTakenIn}
+use Rattle.paraid_core.proofs.AcceptLemmas.{accepted_ready, accepted_stands}
+use Rattle.paraid_core.proofs.AfterLemmas.{marked_setup}
+use Rattle.paraid_core.proofs.TryLemmas.{dropped_ready, dropped_serves, dropped_stands, kept_ready, kept_serves, kept_stands, ended_held, not_err, since_held, try_moments}
+use Rattle.paraid_core.proofs.staged.Core.try_write.Given.{Over}
+use Rattle.paraid_core.proofs.staged.Core.try_write.Goals as goal
+use Rattle.paraid_core.proofs.staged.Core.try_write.Goals.{After-clear-2, In_ok-lose}
+
+pub returns-in_err-lose-clause-moments : goal.returns-in_err-lose-clause-moments
+returns-in_err-lose-clause-moments g c h lo =
+    ended_held _ _ _ (named_out c.args.self.now.meta.out) h lo _ _ _ (try_moments g.R.Rack.slot_count g.R.Rack.slot g.R.Rack.told c.args.self.now c.draft_writes.new.self c.draft_writes.ensures.leads c.requires.ready h lo)
+
+pub returns-then-is_err-clause-moments : goal.returns-then-is_err-clause-moments
+returns-then-is_err-clause-moments g c h lo =
+    ended_held _ _ _ (named_out c.args.self.now.meta.out) h lo _ _ _ (try_moments g.R.Rack.slot_count g.R.Rack.slot g.R.Rack.told c.args.self.now c.draft_writes.new.self c.draft_writes.ensures.leads c.requires.ready h lo)
+
+pub returns-clause-moments : goal.returns-clause-moments
+returns-clause-moments g c h lo =
+    ended_held _ _ _ (named_out c.args.self.now.meta.out) h lo _ _ _ (try_moments g.R.Rack.slot_count g.R.Rack.slot g.R.Rack.told c.args.self.now c.draft_writes.new.self c.draft_writes.ensures.leads c.requires.ready h lo)
+
+-- the disk that failed is the only one that is out
+module _ (g : Over) (c : In_ok-lose g) where
+  free : (d x : ℕ) → c.draft_writes.new.self.failed ≡ Some d → named_out c.args.self.now.meta.out ≡ Some x → ⊥
+  free d x is named =
+      let led = c.draft_writes.ensures.leads in
+      let below = led.below d refl is in
+      let same : x ≡ d =
+      c.in_ok-lose.ensures.alone d x is (ap (λ (z : Meta). named_out z.out) led.meta ∙ named)
+      (subst (λ (z : Meta). d < z.setup.geometry.disks) (sym led.meta) (subst (λ (z : ℕ). d < z) (sym c.requires.ready.array_is) below.0)) in
+      below.1 (named ∙ ap Some same)
+
+  bits : is_dirty c.undo.new.dirty ≡ is_dirty c.args.self.now.dirty
+  bits = c.undo.ensures.bits ∙ c.draft_writes.ensures.leads.undone_same
+
+pub returns-then-is_err-clause-ready : goal.returns-then-is_err-clause-ready
+returns-then-is_err-clause-ready g c =
+    let old = c.args.self.now in
+    let pl = c.draft_writes.new.self in
+    dropped_ready g.R.Rack.slot_count g.R.Rack.slot g.R.Rack.told old pl c.draft_writes.ensures.leads c.requires.ready c.requires.serves (free g c) (g.met.R.Rack.agrees (rack_of old.store)) (g.met.R.Rack.agrees (rack_of pl.store))
+    (g.met.R.Rack.slots_hold (rack_of pl.store)).absent c.lose.new.meta c.undo.new.dirty c.in_ok-lose.ensures.marked c.undo.ensures.rows (bits g c)
+
+pub returns-then-is_err-clause-serves : goal.returns-then-is_err-clause-serves
+returns-then-is_err-clause-serves g c =
+    let old = c.args.self.now in
+    let pl = c.draft_writes.new.self in
+    dropped_serves g.R.Rack.slot_count g.R.Rack.slot g.R.Rack.told old pl c.draft_writes.ensures.leads c.requires.ready c.requires.serves (free g c) (g.met.R.Rack.agrees (rack_of old.store)) (g.met.R.Rack.agrees (rack_of pl.store))
+    (g.met.R.Rack.slots_hold (rack_of pl.store)).absent c.lose.new.meta c.undo.new.dirty c.in_ok-lose.ensures.marked c.undo.ensures.rows (bits g c)
+
+pub returns-then-is_err-clause-since : goal.returns-then-is_err-clause-since
+returns-then-is_err-clause-since g c h lo =
+    let old = c.args.self.now in
+    let pl = c.draft_writes.new.self in
+    dropped_stands g.R.Rack.slot_count g.R.Rack.slot g.R.Rack.told old pl c.draft_writes.ensures.leads c.requires.ready c.requires.serves (free g c) (g.met.R.Rack.agrees (rack_of old.store)) (g.met.R.Rack.agrees (rack_of pl.store))
+    (g.met.R.Rack.slots_hold (rack_of pl.store)).absent c.lose.new.meta c.undo.new.dirty c.in_ok-lose.ensures.marked c.undo.ensures.rows (bits g c) h lo
+
+-- the plan was made, and no disk has failed
+module _ (g : Over) (c : After-clear-2 g) where
+  whole : c.draft_writes.new.self.failed ≡ None
+  whole = (not_err c.draft_writes.result _ (sym c.is_err.ensures.value ∙ c.if-is_err.false) c.draft_writes.ensures.whole).whole
+
+  none_failed : (d x : ℕ) → c.draft_writes.new.self.failed ≡ Some d → named_out c.args.self.now.meta.out ≡ Some x → ⊥
+  none_failed d x is named = let z : None ≡ Some d = sym (whole) ∙ is in cc
+
+  abbrev old : Core g.row.R.Denot g.R.Rack
+  old = c.args.self.now
+
+  abbrev pl : Core g.row.R.Denot g.R.Rack
+  pl = c.draft_writes.new.self
+
+  ready_then : IsReady (g.R.Rack.slot_count (rack_of pl.store)) (g.R.Rack.slot (rack_of pl.store)) (epoch_of pl.store) (disks_of pl.store) (named_of pl.store) pl.meta (length pl.dirty) pl.batch
+  ready_then =
+      kept_ready g.R.Rack.slot_count g.R.Rack.slot g.R.Rack.told old pl c.draft_writes.ensures.leads c.requires.ready c.requires.serves none_failed (g.met.R.Rack.agrees (rack_of old.store)) (g.met.R.Rack.agrees (rack_of pl.store))
+      (g.met.R.Rack.slots_hold (rack_of pl.store)).absent whole
+
+  serves_after : CanServe (g.R.Rack.slot (rack_of pl.store)) (named_of pl.store) pl.meta
+  serves_after =
+      kept_serves g.R.Rack.slot_count g.R.Rack.slot g.R.Rack.told old pl c.draft_writes.ensures.leads c.requires.ready c.requires.serves none_failed (g.met.R.Rack.agrees (rack_of old.store)) (g.met.R.Rack.agrees (rack_of pl.store))
+      (g.met.R.Rack.slots_hold (rack_of pl.store)).absent whole
+
+  taken_from : IsTakenIn old.meta old.batch pl.draft c.take.new.batch
+  taken_from =
+      let led = c.draft_writes.ensures.leads in
+      subst (λ (z : Batch). IsTakenIn old.meta z pl.draft c.take.new.batch) led.batch (subst (λ (z : Meta). IsTakenIn z pl.batch pl.draft c.take.new.batch) led.meta c.take.ensures)
+
+  absent_then : (d : ℕ) → d < old.meta.setup.geometry.disks → is_present (g.R.Rack.slot (rack_of pl.store) d).power ≡ false → named_out old.meta.out ≡ Some d
+  absent_then = subst (λ (z : Meta). (d : ℕ) → d < z.setup.geometry.disks → is_present (g.R.Rack.slot (rack_of pl.store) d).power ≡ false → named_out z.out ≡ Some d) c.draft_writes.ensures.leads.meta ready_then.absent
+
+pub returns-clause-ready : goal.returns-clause-ready
+returns-clause-ready g c =
+    let old = c.args.self.now in
+    let pl = c.draft_writes.new.self in
+    accepted_ready _ _ _ _ _ pl.meta _ pl.batch (ready_then g c) (serves_after g c) c.take.new.batch pl.draft c.take.ensures
+    (subst (λ (z : Meta). z.writes + 1 < 2 ^ 64) (sym c.draft_writes.ensures.leads.meta) c.requires.fits)
+
+pub returns-clause-since : goal.returns-clause-since
+returns-clause-since g c h lo =
+    let old = c.args.self.now in
+    let pl = c.draft_writes.new.self in
+    let led = c.draft_writes.ensures.leads in
+    accepted_stands g.R.Rack.slot_count g.R.Rack.slot g.R.Rack.told old pl led c.requires.ready.in_range (whole g c) (g.met.R.Rack.agrees (rack_of old.store)) (g.met.R.Rack.agrees (rack_of pl.store)) (absent_then g c)
+    (pairs_of c.args.pairs.now) (not_err c.draft_writes.result _ (sym c.is_err.ensures.value ∙ c.if-is_err.false) c.draft_writes.ensures.writes) c.take.new.batch (taken_from g c) _ _ _ _ _ h lo
+    (ap (λ (z : Meta). record z { writes = z.writes + 1 }) led.meta)
+    (kept_stands g.R.Rack.slot_count g.R.Rack.slot g.R.Rack.told old pl led c.requires.ready c.requires.serves (none_failed g c) (g.met.R.Rack.agrees (rack_of old.store)) (g.met.R.Rack.agrees (rack_of pl.store))
+    (g.met.R.Rack.slots_hold (rack_of pl.store)).absent (whole g c) h lo)
+
+pub returns-then-is_err-clause-stands : goal.returns-then-is_err-clause-stands
+returns-then-is_err-clause-stands g c h lo = since_held _ _ _ (named_out c.args.self.now.meta.out) h lo _ _ _ _ (returns-then-is_err-clause-since g c h lo)
+
+pub returns-clause-stands : goal.returns-clause-stands
+returns-clause-stands g c h lo = since_held _ _ _ (named_out c.args.self.now.meta.out) h lo _ _ _ _ (returns-clause-since g c h lo)
+
+pub returns-then-is_err-clause-setup : goal.returns-then-is_err-clause-setup
+returns-then-is_err-clause-setup g c =
+    let led = c.draft_writes.ensures.leads in
+    ap (λ (z : Meta). z.setup) c.in_ok-lose.ensures.marked ∙ marked_setup _ _ ∙ ap (λ (z : Meta). z.setup) led.meta

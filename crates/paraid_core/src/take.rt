@@ -1,0 +1,82 @@
+//! What a plan has drafted is added to the batch.
+ghost use Rattle.std.specs.Prelude.{◌≡◌, ℕ, ◌+◌, ◌<◌, ◌≤◌, ◌∷◌, [], length, IsTrue};
+ghost use Rattle.paraid_core.specs.Taken.{AreApart, IsTakenIn};
+ghost use Rattle.paraid_image.specs.Spot.{rising_to as rising_to_of};
+ghost use Rattle.paraid_plan.specs.Placed.{IsPlaced};
+ghost use Rattle.paraid_record.specs.Targets.{IsTargetInRange};
+ghost use Rattle.paraid_txn.specs.Commit.{gone_out as gone_out_of};
+
+use paraid_base::{Block, DiskNo, Geometry, Out, Phase};
+use paraid_record::{Meta, Target};
+use paraid_txn::Batch;
+use paraid_view::Draft;
+
+// The disk whose blocks a commit skips.
+fn gone_out(out: Out) -> Option<DiskNo>
+    ensures { result ≡ gone_out_of out }
+{
+    match out {
+        Out::No => None,
+        Out::Gone { disk } => Some(disk),
+        Out::Fresh {
+            disk: _,
+            rebuilt: _,
+        } => None,
+    }
+}
+
+// The gear that a shift goes up to, or 0.
+fn rising_to(phase: Phase) -> u8
+    ensures { result ≡ rising_to_of phase }
+{
+    match phase {
+        Phase::Steady => 0,
+        Phase::Down { to: _ } => 0,
+        Phase::Up { to } => to,
+    }
+}
+
+// Whether a target is past the log, on a disk of the array, and on disk 0 or 1 where it is of the map.
+fn is_in_range(g: &Geometry, target: Target) -> bool
+    ensures is { IsTrue result → IsTargetInRange g.now target }
+    ensures of { IsTargetInRange g.now target → IsTrue result }
+{
+    target.disk < g.disks
+        && target.place >= 100
+        && target.place < g.size()
+        && (target.disk < 2 || target.place >= 100 + g.map_blocks())
+}
+
+// Whether a commit can take a target.
+fn is_placed(m: &Meta, target: Target) -> bool
+    ensures is { IsTrue result → IsPlaced m.now target }
+    ensures of { IsPlaced m.now target → IsTrue result }
+{
+    is_in_range(&m.setup.geometry, target)
+        && (target.disk < m.gear || target.disk < rising_to(m.phase))
+        && gone_out(m.out) != Some(target.disk)
+}
+
+// Adds a block, unless a commit could not take its target.
+fn take_one(batch: &mut Batch, m: &Meta, target: Target, block: &Block)
+    requires room { length batch.old < 96 }
+    requires apart { AreApart batch.old }
+    ensures { IsTakenIn m.now batch.old ((target, block.now) ∷ []) batch.new }
+{
+    if !is_placed(m, target) {
+        return;
+    }
+    let _added = batch.add(target.disk, target.place, block);
+}
+
+/// Adds all that is drafted. What a plan has drafted can be committed; a target that could not be
+/// is left out.
+pub(crate) fn take(batch: &mut Batch, m: &Meta, draft: &Draft)
+    requires room { length batch.old + length draft.now ≤ 96 }
+    requires apart { AreApart batch.old }
+    ensures { IsTakenIn m.now batch.old draft.now batch.new }
+{
+    for at in 0..draft.count() as usize {
+        take_one(batch, m, draft.target(at), draft.block(at));
+    }
+}

@@ -1,0 +1,3 @@
+mod LackingLemmas
+mod SidesLemmas
+mod SizesLemmas
