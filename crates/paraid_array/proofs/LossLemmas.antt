@@ -9,15 +9,16 @@ use Rattle.paraid_rack.specs.declared.call.Power.TheVariants.{Spinning}
 use Rattle.paraid_rack.specs.declared.call.Call.{Call}
 use Rattle.paraid_rack.specs.Disks.{Disks, step}
 use Rattle.paraid_rack.specs.Lawful.{IsLawful}
-use Rattle.paraid_rack.specs.Slots.{Slot, Touched, Agrees}
-use Rattle.paraid_rack.specs.Told.{Grows}
+use Rattle.paraid_rack.specs.Slots.{Slot, ChangesOneSlot, Agrees}
+use Rattle.paraid_rack.specs.Told.{GrowsByCall}
 use Rattle.paraid_rack.specs.Trail.{Trail, now, run}
 use Rattle.paraid_rack.proofs.TrailsLemmas.{Ran-none, Ran-call, Ran-then}
-use Rattle.paraid_array.specs.Losses.{disk_of, Served, WasLost, Lasts, IsTwo, Follows}
+use Rattle.paraid_array.specs.Losses.{AreServedBelow, WasLost, AreArrayCalls, AreTwoLost, FollowsRowCall}
+use Rattle.paraid_rack.specs.Calls.{disk_of}
 
-Served-append : (n : ℕ) (s : Disks) (cs ds : List Call) → Served n s cs → Served n (run s cs) ds → Served n s (cs ++ ds)
-Served-append n s [] ds first second = second
-Served-append n s (c ∷ cs) ds first second = (first.0, Served-append n (step c s) cs ds first.1 second)
+AreServedBelow-append : (n : ℕ) (s : Disks) (cs ds : List Call) → AreServedBelow n s cs → AreServedBelow n (run s cs) ds → AreServedBelow n s (cs ++ ds)
+AreServedBelow-append n s [] ds first second = second
+AreServedBelow-append n s (c ∷ cs) ds first second = (first.0, AreServedBelow-append n (step c s) cs ds first.1 second)
 
 -- two numbers that are one as options
 pub same_some : (a b : ℕ) → Some a ≡ Some b → a ≡ b
@@ -32,9 +33,9 @@ pub spins_told : (told : Option Trail) (slot : ℕ → Slot) (d : ℕ) → ((t :
 spins_told told slot d agrees spins s tells = (agrees s tells).power d ∙ spins
 
 -- no call
-pub lasts_none : (n : ℕ) (out : Option ℕ) (slot : ℕ → Slot) (told : Option Trail) → Lasts n out out slot slot told told
+pub lasts_none : (n : ℕ) (out : Option ℕ) (slot : ℕ → Slot) (told : Option Trail) → AreArrayCalls n out out slot slot told told
 lasts_none n out slot told = record {
-  served = Ran-none (Served n) (λ s. tt) told;
+  served = Ran-none (AreServedBelow n) (λ s. tt) told;
   no_fall = λ d. omega arith;
   stays = λ d is. is;
   lost = λ d is. inl is;
@@ -44,7 +45,7 @@ none_before : (a b : Option ℕ) → ((d : ℕ) → a ≡ Some d → b ≡ Some 
 none_before None b stays none = refl
 none_before (Some d) b stays none = absurd (none_is_not_some b d none (stays d refl))
 
-was_lost_then : (n : ℕ) (a b c : Option ℕ) (x y z : ℕ → Slot) (p q r : Option Trail) → Lasts n a b x y p q → Lasts n b c y z q r
+was_lost_then : (n : ℕ) (a b c : Option ℕ) (x y z : ℕ → Slot) (p q r : Option Trail) → AreArrayCalls n a b x y p q → AreArrayCalls n b c y z q r
     → (d : ℕ) → WasLost b y z d → WasLost a x z d
 was_lost_then n a b c x y z p q r first second d was = elim was [
   | inl is ↦ elim (first.lost d is) [
@@ -55,21 +56,21 @@ was_lost_then n a b c x y z p q r first second d was = elim was [
 ]
 
 -- one part after the other
-pub lasts_then : (n : ℕ) (a b c : Option ℕ) (x y z : ℕ → Slot) (p q r : Option Trail) → Lasts n a b x y p q → Lasts n b c y z q r → Lasts n a c x z p r
+pub lasts_then : (n : ℕ) (a b c : Option ℕ) (x y z : ℕ → Slot) (p q r : Option Trail) → AreArrayCalls n a b x y p q → AreArrayCalls n b c y z q r → AreArrayCalls n a c x z p r
 lasts_then n a b c x y z p q r first second = record {
-  served = Ran-then (Served n) (Served-append n) p q r first.served second.served;
+  served = Ran-then (AreServedBelow n) (AreServedBelow-append n) p q r first.served second.served;
   no_fall = λ d. (let before = first.no_fall d in let after = second.no_fall d in omega arith);
   stays = λ d is. second.stays d (first.stays d is);
   lost = λ d is. was_lost_then n a b c x y z p q r first second d (second.lost d is);
 }
 
 -- the same where the first part left a disk out and the second began with it
-pub lasts_then_lost : (n : ℕ) (a b : Option ℕ) (d : ℕ) (x y z : ℕ → Slot) (p q r : Option Trail) → b ≡ Some d → Lasts n a b x y p q → Lasts n (Some d) (Some d) y z q r → Lasts n a b x z p r
+pub lasts_then_lost : (n : ℕ) (a b : Option ℕ) (d : ℕ) (x y z : ℕ → Slot) (p q r : Option Trail) → b ≡ Some d → AreArrayCalls n a b x y p q → AreArrayCalls n (Some d) (Some d) y z q r → AreArrayCalls n a b x z p r
 lasts_then_lost n a b d x y z p q r lost first second =
-    lasts_then n a b b x y z p q r first (subst (λ (o : Option ℕ). Lasts n o o y z q r) (sym lost) second)
+    lasts_then n a b b x y z p q r first (subst (λ (o : Option ℕ). AreArrayCalls n o o y z q r) (sym lost) second)
 
 -- two disks are down in the second part, so they are in the whole
-pub two_then : (n : ℕ) (a b c : Option ℕ) (x y z : ℕ → Slot) (p q r : Option Trail) (two : Two) → Lasts n a b x y p q → Lasts n b c y z q r → IsTwo n b y z two → IsTwo n a x z two
+pub two_then : (n : ℕ) (a b c : Option ℕ) (x y z : ℕ → Slot) (p q r : Option Trail) (two : Two) → AreArrayCalls n a b x y p q → AreArrayCalls n b c y z q r → AreTwoLost n b y z two → AreTwoLost n a x z two
 two_then n a b c x y z p q r two first second is = record {
   first = was_lost_then n a b c x y z p q r first second two.first is.first;
   apart = is.apart;
@@ -78,40 +79,40 @@ two_then n a b c x y z p q r two first second is = record {
   second_below = is.second_below;
 }
 
-touched_no_fall : (old new : ℕ → Slot) (disk : ℕ) (leaves : Slot) (dirt done : Bool) → Touched old new disk leaves dirt done → leaves.faults ≡ (old disk).faults
+touched_no_fall : (old new : ℕ → Slot) (disk : ℕ) (leaves : Slot) (dirt done : Bool) → ChangesOneSlot old new disk leaves dirt done → leaves.faults ≡ (old disk).faults
     → (d : ℕ) → (old d).faults ≤ (new d).faults
 touched_no_fall old new disk leaves dirt done touched same d = elim (cases_eq d disk) [
   | inl is ↦ subst (λ (k : ℕ). (old k).faults ≤ (new k).faults) (sym is) (here done touched)
   | inr not ↦ (let e : (new d).faults ≡ (old d).faults = ap (λ (s : Slot). s.faults) (touched.others d not) in omega arith)
 ]
   where
-    here : (b : Bool) → Touched old new disk leaves dirt b → (old disk).faults ≤ (new disk).faults
+    here : (b : Bool) → ChangesOneSlot old new disk leaves dirt b → (old disk).faults ≤ (new disk).faults
     here true t = (let e : (new disk).faults ≡ leaves.faults = ap (λ (s : Slot). s.faults) (t.done refl) in omega arith)
     here false t = t.later refl
 
 -- a call on a disk that was not out, and what followed
 pub lasts_follow : (n : ℕ) (out new_out : Option ℕ) (old new : ℕ → Slot) (told new_told : Option Trail) (disk : ℕ) (leaves : Slot) (dirt done : Bool) (c : Call) (result : Result Bool Two)
-    → Touched old new disk leaves dirt done → leaves.faults ≡ (old disk).faults → Grows told new_told c → ((s : Trail) → told ≡ Some s → IsLawful (now s) c) → disk_of c < n
-    → Follows out new_out disk done result → Lasts n out new_out old new told new_told
+    → ChangesOneSlot old new disk leaves dirt done → leaves.faults ≡ (old disk).faults → GrowsByCall told new_told c → ((s : Trail) → told ≡ Some s → IsLawful (now s) c) → disk_of c < n
+    → FollowsRowCall out new_out disk done result → AreArrayCalls n out new_out old new told new_told
 lasts_follow n out new_out old new told new_told disk leaves dirt done c result touched same grows lawful below follows = record {
-  served = Ran-call (Served n) told new_told c grows (λ s tells. ((lawful s tells, below), tt));
+  served = Ran-call (AreServedBelow n) told new_told c grows (λ s tells. ((lawful s tells, below), tt));
   no_fall = touched_no_fall old new disk leaves dirt done touched same;
   stays = stays result follows;
   lost = lost result follows;
 }
   where
-    stays : (r : Result Bool Two) → Follows out new_out disk done r → (d : ℕ) → out ≡ Some d → new_out ≡ Some d
+    stays : (r : Result Bool Two) → FollowsRowCall out new_out disk done r → (d : ℕ) → out ≡ Some d → new_out ≡ Some d
     stays (Ok true) f d is = f.1 ∙ is
     stays (Ok false) f d is = absurd (none_is_not_some out d f.1 is)
     stays (Err two) f d is = f.3 ∙ is
 
-    lost : (r : Result Bool Two) → Follows out new_out disk done r → (d : ℕ) → new_out ≡ Some d → WasLost out old new d
+    lost : (r : Result Bool Two) → FollowsRowCall out new_out disk done r → (d : ℕ) → new_out ≡ Some d → WasLost out old new d
     lost (Ok true) f d is = inl (sym f.1 ∙ is)
     lost (Ok false) f d is = inr (f.1, subst (λ (k : ℕ). HasRisen (old k).faults (new k).faults) (same_some disk d (sym f.2 ∙ is)) (touched.risen f.0))
     lost (Err two) f d is = inl (sym f.3 ∙ is)
 
 pub two_follow : (n : ℕ) (out new_out : Option ℕ) (old new : ℕ → Slot) (disk : ℕ) (leaves : Slot) (dirt done : Bool) (result : Result Bool Two)
-    → ((d : ℕ) → out ≡ Some d → d < n) → disk < n → Touched old new disk leaves dirt done → out ≢ Some disk → Follows out new_out disk done result → IfErr result (IsTwo n out old new)
+    → ((d : ℕ) → out ≡ Some d → d < n) → disk < n → ChangesOneSlot old new disk leaves dirt done → out ≢ Some disk → FollowsRowCall out new_out disk done result → IfErr result (AreTwoLost n out old new)
 two_follow n out new_out old new disk leaves dirt done (Ok b) outs below touched not follows = tt
 two_follow n out new_out old new disk leaves dirt done (Err two) outs below touched not follows = record {
   first = inl follows.1;

@@ -10,7 +10,7 @@ use Rattle.paraid_rack.specs.declared.call.Power.{Power}
 use Rattle.paraid_rack.specs.declared.call.Power.TheVariants.{Spinning, Parked, Absent}
 use Rattle.paraid_rack.specs.Slots.{Slot}
 use Rattle.paraid_array.specs.Mount.{found_in, spinning_size}
-use Rattle.paraid_array.specs.Powers.{Fits}
+use Rattle.paraid_array.specs.Powers.{FitsGeometry}
 
 spins_there : (power : Power) (size needed : ℕ) → 0 < needed → needed ≤ spinning_size power size → (power ≡ Spinning) × (needed ≤ size)
 spins_there Spinning size needed some enough = (refl, enough)
@@ -30,7 +30,7 @@ found_spins slots slot d needed some enough = elim (cases_lt d slots) [
 ]
 
 -- enough blocks are found in each slot
-pub fits_found : (g : Geometry) (needed slots : ℕ) (slot : ℕ → Slot) → needed ≡ disk_size g → ((e : ℕ) → e < g.disks → needed ≤ found_in slots slot e) → Fits g None slots slot
+pub fits_found : (g : Geometry) (needed slots : ℕ) (slot : ℕ → Slot) → needed ≡ disk_size g → ((e : ℕ) → e < g.disks → needed ≤ found_in slots slot e) → FitsGeometry g None slots slot
 fits_found g needed slots slot is found = record {
   all = (let low : 3 ≤ g.disks = g.disks_low in let last = found_spins slots slot (g.disks - 1) needed some (found (g.disks - 1) (omega arith)) in let below : g.disks - 1 < slots = last.0 in omega arith);
   below = λ d e. absurd (none-some d e);

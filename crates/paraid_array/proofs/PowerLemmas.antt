@@ -7,14 +7,14 @@ use Rattle.paraid_base.specs.declared.geometry.Geometry.{Geometry}
 use Rattle.paraid_base.specs.Regions.{disk_size}
 use Rattle.paraid_rack.specs.declared.call.Power.TheVariants.{Absent}
 use Rattle.paraid_rack.specs.Disks.{Disks}
-use Rattle.paraid_rack.specs.Slots.{Slot, Touched, Agrees}
-use Rattle.paraid_array.specs.Losses.{Follows}
-use Rattle.paraid_array.specs.Powers.{Fits}
+use Rattle.paraid_rack.specs.Slots.{Slot, ChangesOneSlot, Agrees}
+use Rattle.paraid_array.specs.Losses.{FollowsRowCall}
+use Rattle.paraid_array.specs.Powers.{FitsGeometry}
 use Rattle.paraid_array.proofs.LossLemmas.{same_some, none_is_not_some}
 
 -- each slot has the power and the size that it had
-fits_same : (g : Geometry) (out new_out : Option ℕ) (slots new_slots : ℕ) (old new : ℕ → Slot) → Fits g out slots old → new_slots ≡ slots → new_out ≡ out
-    → ((d : ℕ) → (new d).power ≡ (old d).power) → ((d : ℕ) → (new d).size ≡ (old d).size) → Fits g new_out new_slots new
+fits_same : (g : Geometry) (out new_out : Option ℕ) (slots new_slots : ℕ) (old new : ℕ → Slot) → FitsGeometry g out slots old → new_slots ≡ slots → new_out ≡ out
+    → ((d : ℕ) → (new d).power ≡ (old d).power) → ((d : ℕ) → (new d).size ≡ (old d).size) → FitsGeometry g new_out new_slots new
 fits_same g out new_out slots new_slots old new fits same_slots same_out power size = record {
   all = (let was : g.disks ≤ slots = fits.all in omega arith);
   below = λ d is. fits.below d (sym same_out ∙ is);
@@ -23,7 +23,7 @@ fits_same g out new_out slots new_slots old new fits same_slots same_out power s
   size = λ d l not. subst (λ (k : ℕ). disk_size g ≤ k) (sym (size d)) (fits.size d l (λ is. not (same_out ∙ is)));
 }
 
-touched_same : {A : Type 0} (f : Slot → A) (old new : ℕ → Slot) (disk : ℕ) (leaves : Slot) (dirt done : Bool) → Touched old new disk leaves dirt done → done ≡ true → f leaves ≡ f (old disk)
+touched_same : {A : Type 0} (f : Slot → A) (old new : ℕ → Slot) (disk : ℕ) (leaves : Slot) (dirt done : Bool) → ChangesOneSlot old new disk leaves dirt done → done ≡ true → f leaves ≡ f (old disk)
     → (d : ℕ) → f (new d) ≡ f (old d)
 touched_same f old new disk leaves dirt done touched is same d = elim (cases_eq d disk) [
   | inl here ↦ subst (λ (k : ℕ). f (new k) ≡ f (old k)) (sym here) (ap f (touched.done is) ∙ same)
@@ -32,8 +32,8 @@ touched_same f old new disk leaves dirt done touched is same d = elim (cases_eq 
 
 -- a call on a disk that was not out, and what followed
 pub fits_follow : (g : Geometry) (out new_out : Option ℕ) (slots new_slots : ℕ) (old new : ℕ → Slot) (disk : ℕ) (leaves : Slot) (dirt done : Bool) (result : Result Bool Two)
-    → Fits g out slots old → new_slots ≡ slots → Touched old new disk leaves dirt done → leaves.power ≡ (old disk).power → leaves.size ≡ (old disk).size → disk < g.disks
-    → Follows out new_out disk done result → OnOk result (Fits g new_out new_slots new)
+    → FitsGeometry g out slots old → new_slots ≡ slots → ChangesOneSlot old new disk leaves dirt done → leaves.power ≡ (old disk).power → leaves.size ≡ (old disk).size → disk < g.disks
+    → FollowsRowCall out new_out disk done result → OnOk result (FitsGeometry g new_out new_slots new)
 fits_follow g out new_out slots new_slots old new disk leaves dirt done (Err two) fits same touched power size below f = tt
 fits_follow g out new_out slots new_slots old new disk leaves dirt done (Ok true) fits same touched power size below f =
     fits_same g out new_out slots new_slots old new fits same f.1
@@ -49,7 +49,7 @@ fits_follow g out new_out slots new_slots old new disk leaves dirt done (Ok fals
 
 -- a call that leaves its disk synced did so, or the disk is out
 pub synced_follow : (out new_out : Option ℕ) (old new : ℕ → Slot) (disk : ℕ) (leaves : Slot) (dirt done : Bool) (result : Result Bool Two)
-    → Touched old new disk leaves dirt done → leaves.unsynced ≡ false → Follows out new_out disk done result → OnOk result (new_out ≢ Some disk → (new disk).unsynced ≡ false)
+    → ChangesOneSlot old new disk leaves dirt done → leaves.unsynced ≡ false → FollowsRowCall out new_out disk done result → OnOk result (new_out ≢ Some disk → (new disk).unsynced ≡ false)
 synced_follow out new_out old new disk leaves dirt done (Ok true) touched synced f = λ not. ap (λ (s : Slot). s.unsynced) (touched.done f.0) ∙ synced
 synced_follow out new_out old new disk leaves dirt done (Ok false) touched synced f = λ not. absurd (not f.2)
 synced_follow out new_out old new disk leaves dirt done (Err two) touched synced f = tt
@@ -68,8 +68,8 @@ cases_bool true = inl refl
 cases_bool false = inr refl
 
 -- no block of a synced disk is loose
-pub dry_of_synced : (slot : ℕ → Slot) (s : Disks) (d p : ℕ) → Agrees s slot → (slot d).unsynced ≡ false → s.loose d p ≡ false
-dry_of_synced slot s d p agrees synced = elim (cases_bool (s.loose d p)) [
+pub not_loose_of_synced : (slot : ℕ → Slot) (s : Disks) (d p : ℕ) → Agrees s slot → (slot d).unsynced ≡ false → s.loose d p ≡ false
+not_loose_of_synced slot s d p agrees synced = elim (cases_bool (s.loose d p)) [
   | inl loose ↦ absurd (false≢true (sym synced ∙ agrees.loose d p loose))
-  | inr dry ↦ dry
+  | inr synced ↦ synced
 ]

@@ -3,4 +3,4 @@ pub mod Powers
 pub mod Losses
 pub mod Mount
 pub mod Arrays
-pub mod Kept
+pub mod Events

@@ -1,6 +1,6 @@
 -- Which slots an array can be mounted on.
 use Rattle.std.specs.Prelude.{◌≡◌, ℕ, ◌<◌, ◌≤◌, nat_lt, if◌then◌else◌, Option, Some}
-use Rattle.paraid_base.specs.Xor.{zeroed}
+use Rattle.paraid_base.specs.Xor.{zero_block}
 use Rattle.paraid_rack.specs.declared.call.Power.{Power}
 use Rattle.paraid_rack.specs.declared.call.Power.TheVariants.{Spinning, Parked, Absent}
 use Rattle.paraid_rack.specs.Slots.{Slot}
@@ -31,4 +31,4 @@ IsMountFault n slots slot size (Size disk found needed) = (needed ≡ size) × I
 
 -- where the record is told, each block of the disks below n is zeros
 abbrev pub AreZeros : ℕ → Option Trail → Type 0
-AreZeros n told = (t : Trail) → told ≡ Some t → (d p : ℕ) → d < n → (now t).block d p ≡ zeroed
+AreZeros n told = (t : Trail) → told ≡ Some t → (d p : ℕ) → d < n → (now t).block d p ≡ zero_block

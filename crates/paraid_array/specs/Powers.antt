@@ -6,7 +6,7 @@ use Rattle.paraid_rack.specs.declared.call.Power.TheVariants.{Spinning, Absent}
 use Rattle.paraid_rack.specs.Slots.{Slot}
 
 -- Every disk of the array spins and is large enough, but for one that may be out and is absent.
-pub record Fits (g : Geometry) (out : Option ℕ) (slots : ℕ) (slot : ℕ → Slot) : Type 0 where
+pub record FitsGeometry (g : Geometry) (out : Option ℕ) (slots : ℕ) (slot : ℕ → Slot) : Type 0 where
   pub all : g.disks ≤ slots
   pub below : (d : ℕ) → out ≡ Some d → d < g.disks
   pub gone : (d : ℕ) → out ≡ Some d → (slot d).power ≡ Absent

@@ -1,25 +1,25 @@
 //! The array as a block device.
 ghost use Rattle.std.specs.Prelude.{is_some, if◌then◌else◌};
-ghost use Rattle.paraid_array.specs.Kept.{Kept};
+ghost use Rattle.paraid_array.specs.Events.{HasAnswered};
 
-use crate::Array;
+use crate::{Array, WriteRoom};
 use paraid_base::{Block, BlockFault, BlockNo, Blocks, Halt, Pairs};
 use paraid_rack::Rack;
 
 impl<R: Rack> Blocks for Array<R> {
-    ghost use Rattle.paraid_array.specs.Arrays.{rack_of, geometry_of, count_of, count_small, halted as halt_now, StandsFor};
+    ghost use Rattle.paraid_array.specs.Arrays.{array_rack, geometry_of, array_block_count, count_small, array_halt as halt_now, ArrayStandsFor};
 
-    ghost block_count = { λ array. count_of array };
+    ghost block_count = { λ array. array_block_count array };
 
     ghost halts = { λ array. if is_some (halt_now array) then 1 else 0 };
 
     ghost halted = { λ array. halt_now array };
 
-    ghost tells = { λ array. is_some (R.told (rack_of array)) };
+    ghost tells = { λ array. is_some (R.told (array_rack array)) };
 
-    ghost stands = { λ array. StandsFor R.told array };
+    ghost stands = { λ array. ArrayStandsFor R.told array };
 
-    ghost kept = { λ array. Kept (count_of array) (halt_now array) (StandsFor R.told array) };
+    ghost kept = { λ array. HasAnswered (array_block_count array) (halt_now array) (ArrayStandsFor R.told array) };
 
     ghost small = { λ array. count_small (geometry_of array) };
 
@@ -32,7 +32,8 @@ impl<R: Rack> Blocks for Array<R> {
     }
 
     fn write_many(&mut self, pairs: &Pairs) -> Result<u64, BlockFault> {
-        Array::write_many(self, pairs)
+        let mut room = WriteRoom::new();
+        Array::write_many(self, pairs, &mut room)
     }
 
     fn flush(&mut self) -> Result<u64, Halt> {

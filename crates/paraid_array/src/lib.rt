@@ -17,3 +17,4 @@ mod sync;
 
 pub use array::Array;
 pub use fault::{MountFault, MountRefused};
+pub use row::WriteRoom;

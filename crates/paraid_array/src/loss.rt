@@ -1,6 +1,6 @@
 //! Which disk is out: the first loss is borne, and the second is too many.
 ghost use Rattle.std.specs.Prelude.{◌≡◌, ◌↔◌, Some, None, IsTrue, OnOk, IfErr, is_ok};
-ghost use Rattle.paraid_array.specs.Losses.{Follows};
+ghost use Rattle.paraid_array.specs.Losses.{FollowsRowCall};
 
 use paraid_base::{DiskNo, Failed, Two};
 
@@ -17,7 +17,7 @@ pub(crate) fn follow(
     disk: DiskNo,
     answer: Result<(), Failed>,
 ) -> Result<bool, Two>
-    ensures { Follows out.old out.new disk (is_ok answer) result }
+    ensures { FollowsRowCall out.old out.new disk (is_ok answer) result }
 {
     let Err(Failed) = answer else {
         return Ok(true);

@@ -2,7 +2,7 @@
 ghost use Rattle.std.specs.Prelude.{◌≡◌, MatchOption, None};
 ghost use Rattle.paraid_base.specs.Regions.{disk_size};
 ghost use Rattle.paraid_array.specs.Mount.{found_in, IsMountFault};
-ghost use Rattle.paraid_array.specs.Powers.{Fits};
+ghost use Rattle.paraid_array.specs.Powers.{FitsGeometry};
 
 use crate::MountFault;
 use paraid_base::{DiskNo, Geometry};
@@ -37,7 +37,7 @@ fn found<R: Rack>(rack: &R, disk: DiskNo) -> u32
 /// Why the rack cannot hold such an array, if it cannot.
 pub(crate) fn misfit<R: Rack>(rack: &R, geometry: &Geometry) -> Option<MountFault>
     ensures { MatchOption result
-        (Fits geometry.now None (R.slot_count rack.now) (R.slot rack.now))
+        (FitsGeometry geometry.now None (R.slot_count rack.now) (R.slot rack.now))
         (IsMountFault geometry.now.disks (R.slot_count rack.now) (R.slot rack.now)
         (disk_size geometry.now)) }
 {

@@ -3,15 +3,32 @@ ghost use Rattle.std.specs.Prelude.{◌≡◌, ◌≢◌, ℕ, ◌+◌, ◌-◌,
 ghost use Rattle.paraid_base.specs.Cells.{parity_disk as parity_disk_of};
 ghost use Rattle.paraid_base.specs.Sums.{xor_upto, without};
 ghost use Rattle.paraid_base.specs.Xor.{xor};
-ghost use Rattle.paraid_array.specs.Cells.{Cells, Keeps, RowsZero, with_cell, rewritten, IsHome};
-ghost use Rattle.paraid_array.specs.Losses.{IsTwo, Lasts};
-ghost use Rattle.paraid_array.specs.Powers.{Fits};
+ghost use Rattle.paraid_array.specs.Cells.{Cells, KeepsCells, RowsZero, cells_with, row_rewritten, IsHome};
+ghost use Rattle.paraid_array.specs.Losses.{AreTwoLost, AreArrayCalls};
+ghost use Rattle.paraid_array.specs.Powers.{FitsGeometry};
 
 use crate::loss::{follow, is_out};
 use paraid_base::{Block, BlockNo, DiskNo, Geometry, Row, Two};
 use paraid_layout::{hard_place, home, parity_disk};
 use paraid_parity::xor_into;
 use paraid_rack::Rack;
+
+/// Room for the blocks that a write reads. Between two writes it holds any bytes.
+#[derive(Drop)]
+pub struct WriteRoom {
+    parity: Block,
+    old: Block,
+}
+
+impl WriteRoom {
+    /// Room for one write at a time.
+    pub fn new() -> Self {
+        WriteRoom {
+            parity: Block::zero(),
+            old: Block::zero(),
+        }
+    }
+}
 
 // The row and the disk of a block, or None where there is no such block.
 pub(crate) fn home_of(geometry: &Geometry, block: BlockNo) -> Option<(Row, DiskNo)>
@@ -35,18 +52,18 @@ fn read_stored<R: Rack>(
 ) -> Result<bool, Two>
     requires row { row < geometry.now.rows }
     requires disk { disk < geometry.now.disks }
-    requires fits { Fits geometry.now out.old (R.slot_count rack.old) (R.slot rack.old) }
+    requires fits { FitsGeometry geometry.now out.old (R.slot_count rack.old) (R.slot rack.old) }
     ensures value { IfOk result (λ done. done ≡ true → (cells : Cells)
-        → IsSome (R.told rack.new) → Keeps geometry.now (R.told rack.old) cells
+        → IsSome (R.told rack.new) → KeepsCells geometry.now (R.told rack.old) cells
         → into.new ≡ cells row disk) }
     ensures out { IfOk result (λ done. done ≡ false → out.new ≡ Some disk) }
-    ensures keeps { (cells : Cells) → Keeps geometry.now (R.told rack.old) cells
-        → Keeps geometry.now (R.told rack.new) cells }
+    ensures keeps { (cells : Cells) → KeepsCells geometry.now (R.told rack.old) cells
+        → KeepsCells geometry.now (R.told rack.new) cells }
     ensures fits { OnOk result
-        (Fits geometry.now out.new (R.slot_count rack.new) (R.slot rack.new)) }
-    ensures lasts { Lasts geometry.now.disks out.old out.new (R.slot rack.old) (R.slot rack.new)
+        (FitsGeometry geometry.now out.new (R.slot_count rack.new) (R.slot rack.new)) }
+    ensures lasts { AreArrayCalls geometry.now.disks out.old out.new (R.slot rack.old) (R.slot rack.new)
         (R.told rack.old) (R.told rack.new) }
-    ensures two { IfErr result (IsTwo geometry.now.disks out.old (R.slot rack.old)
+    ensures two { IfErr result (AreTwoLost geometry.now.disks out.old (R.slot rack.old)
         (R.slot rack.new)) }
 {
     if is_out(*out, disk) {
@@ -70,18 +87,18 @@ fn add_cell<R: Rack>(
 ) -> Result<(), Two>
     requires row { row < geometry.now.rows }
     requires disk { disk < geometry.now.disks }
-    requires fits { Fits geometry.now (Some out) (R.slot_count rack.old) (R.slot rack.old) }
+    requires fits { FitsGeometry geometry.now (Some out) (R.slot_count rack.old) (R.slot rack.old) }
     ensures value { OnOk result ((cells : Cells)
-        → IsSome (R.told rack.new) → Keeps geometry.now (R.told rack.old) cells
+        → IsSome (R.told rack.new) → KeepsCells geometry.now (R.told rack.old) cells
         → sum.old ≡ xor_upto (without (without (cells row) out) skipped) disk
         → sum.new ≡ xor_upto (without (without (cells row) out) skipped) (disk + 1)) }
-    ensures keeps { (cells : Cells) → Keeps geometry.now (R.told rack.old) cells
-        → Keeps geometry.now (R.told rack.new) cells }
+    ensures keeps { (cells : Cells) → KeepsCells geometry.now (R.told rack.old) cells
+        → KeepsCells geometry.now (R.told rack.new) cells }
     ensures fits { OnOk result
-        (Fits geometry.now (Some out) (R.slot_count rack.new) (R.slot rack.new)) }
-    ensures lasts { Lasts geometry.now.disks (Some out) (Some out) (R.slot rack.old)
+        (FitsGeometry geometry.now (Some out) (R.slot_count rack.new) (R.slot rack.new)) }
+    ensures lasts { AreArrayCalls geometry.now.disks (Some out) (Some out) (R.slot rack.old)
         (R.slot rack.new) (R.told rack.old) (R.told rack.new) }
-    ensures two { IfErr result (IsTwo geometry.now.disks (Some out) (R.slot rack.old)
+    ensures two { IfErr result (AreTwoLost geometry.now.disks (Some out) (R.slot rack.old)
         (R.slot rack.new)) }
 {
     if disk == out || disk == skipped {
@@ -110,17 +127,17 @@ fn read_others<R: Rack>(
     into: &mut Block,
 ) -> Result<(), Two>
     requires row { row < geometry.now.rows }
-    requires fits { Fits geometry.now (Some out) (R.slot_count rack.old) (R.slot rack.old) }
+    requires fits { FitsGeometry geometry.now (Some out) (R.slot_count rack.old) (R.slot rack.old) }
     ensures value { OnOk result ((cells : Cells)
-        → IsSome (R.told rack.new) → Keeps geometry.now (R.told rack.old) cells
+        → IsSome (R.told rack.new) → KeepsCells geometry.now (R.told rack.old) cells
         → into.new ≡ xor_upto (without (without (cells row) out) skipped) geometry.now.disks) }
-    ensures keeps { (cells : Cells) → Keeps geometry.now (R.told rack.old) cells
-        → Keeps geometry.now (R.told rack.new) cells }
+    ensures keeps { (cells : Cells) → KeepsCells geometry.now (R.told rack.old) cells
+        → KeepsCells geometry.now (R.told rack.new) cells }
     ensures fits { OnOk result
-        (Fits geometry.now (Some out) (R.slot_count rack.new) (R.slot rack.new)) }
-    ensures lasts { Lasts geometry.now.disks (Some out) (Some out) (R.slot rack.old)
+        (FitsGeometry geometry.now (Some out) (R.slot_count rack.new) (R.slot rack.new)) }
+    ensures lasts { AreArrayCalls geometry.now.disks (Some out) (Some out) (R.slot rack.old)
         (R.slot rack.new) (R.told rack.old) (R.told rack.new) }
-    ensures two { IfErr result (IsTwo geometry.now.disks (Some out) (R.slot rack.old)
+    ensures two { IfErr result (AreTwoLost geometry.now.disks (Some out) (R.slot rack.old)
         (R.slot rack.new)) }
 {
     *into = Block::zero();
@@ -141,17 +158,17 @@ pub(crate) fn read_cell<R: Rack>(
 ) -> Result<(), Two>
     requires row { row < geometry.now.rows }
     requires disk { disk < geometry.now.disks }
-    requires fits { Fits geometry.now out.old (R.slot_count rack.old) (R.slot rack.old) }
+    requires fits { FitsGeometry geometry.now out.old (R.slot_count rack.old) (R.slot rack.old) }
     ensures value { OnOk result ((cells : Cells) → RowsZero geometry.now cells
-        → IsSome (R.told rack.new) → Keeps geometry.now (R.told rack.old) cells
+        → IsSome (R.told rack.new) → KeepsCells geometry.now (R.told rack.old) cells
         → into.new ≡ cells row disk) }
-    ensures keeps { (cells : Cells) → Keeps geometry.now (R.told rack.old) cells
-        → Keeps geometry.now (R.told rack.new) cells }
+    ensures keeps { (cells : Cells) → KeepsCells geometry.now (R.told rack.old) cells
+        → KeepsCells geometry.now (R.told rack.new) cells }
     ensures fits { OnOk result
-        (Fits geometry.now out.new (R.slot_count rack.new) (R.slot rack.new)) }
-    ensures lasts { Lasts geometry.now.disks out.old out.new (R.slot rack.old) (R.slot rack.new)
+        (FitsGeometry geometry.now out.new (R.slot_count rack.new) (R.slot rack.new)) }
+    ensures lasts { AreArrayCalls geometry.now.disks out.old out.new (R.slot rack.old) (R.slot rack.new)
         (R.told rack.old) (R.told rack.new) }
-    ensures two { IfErr result (IsTwo geometry.now.disks out.old (R.slot rack.old)
+    ensures two { IfErr result (AreTwoLost geometry.now.disks out.old (R.slot rack.old)
         (R.slot rack.new)) }
 {
     if read_stored(rack, geometry, out, row, disk, into)? {
@@ -173,15 +190,15 @@ fn put<R: Rack>(
 ) -> Result<bool, Two>
     requires row { row < geometry.now.rows }
     requires disk { disk < geometry.now.disks }
-    requires fits { Fits geometry.now out.old (R.slot_count rack.old) (R.slot rack.old) }
+    requires fits { FitsGeometry geometry.now out.old (R.slot_count rack.old) (R.slot rack.old) }
     ensures keeps { (cells : Cells) (block : Block) → (out.old ≢ Some disk → block ≡ bytes.now)
-        → Keeps geometry.now (R.told rack.old) cells
-        → Keeps geometry.now (R.told rack.new) (with_cell cells row disk block) }
+        → KeepsCells geometry.now (R.told rack.old) cells
+        → KeepsCells geometry.now (R.told rack.new) (cells_with cells row disk block) }
     ensures fits { OnOk result
-        (Fits geometry.now out.new (R.slot_count rack.new) (R.slot rack.new)) }
-    ensures lasts { Lasts geometry.now.disks out.old out.new (R.slot rack.old) (R.slot rack.new)
+        (FitsGeometry geometry.now out.new (R.slot_count rack.new) (R.slot rack.new)) }
+    ensures lasts { AreArrayCalls geometry.now.disks out.old out.new (R.slot rack.old) (R.slot rack.new)
         (R.told rack.old) (R.told rack.new) }
-    ensures two { IfErr result (IsTwo geometry.now.disks out.old (R.slot rack.old)
+    ensures two { IfErr result (AreTwoLost geometry.now.disks out.old (R.slot rack.old)
         (R.slot rack.new)) }
 {
     if is_out(*out, disk) {
@@ -194,6 +211,7 @@ fn put<R: Rack>(
 
 // Sums up the data of a row but for one cell: as the sum of that cell and the parity or, where the
 // cell's disk is out, from the other data. With the parity's disk out `into` holds any bytes.
+// `old` is for the parity, and then holds any bytes.
 fn read_rest<R: Rack>(
     rack: &mut R,
     geometry: &Geometry,
@@ -202,36 +220,37 @@ fn read_rest<R: Rack>(
     disk: DiskNo,
     parity: DiskNo,
     into: &mut Block,
+    old: &mut Block,
 ) -> Result<(), Two>
     requires row { row < geometry.now.rows }
     requires disk { disk < geometry.now.disks }
     requires parity { parity < geometry.now.disks }
-    requires fits { Fits geometry.now out.old (R.slot_count rack.old) (R.slot rack.old) }
+    requires fits { FitsGeometry geometry.now out.old (R.slot_count rack.old) (R.slot rack.old) }
     ensures value { OnOk result (out.new ≢ Some parity → (cells : Cells)
         → RowsZero geometry.now cells → IsSome (R.told rack.new)
-        → Keeps geometry.now (R.told rack.old) cells
+        → KeepsCells geometry.now (R.told rack.old) cells
         → into.new ≡ xor (cells row disk) (cells row parity)) }
-    ensures keeps { (cells : Cells) → Keeps geometry.now (R.told rack.old) cells
-        → Keeps geometry.now (R.told rack.new) cells }
+    ensures keeps { (cells : Cells) → KeepsCells geometry.now (R.told rack.old) cells
+        → KeepsCells geometry.now (R.told rack.new) cells }
     ensures fits { OnOk result
-        (Fits geometry.now out.new (R.slot_count rack.new) (R.slot rack.new)) }
-    ensures lasts { Lasts geometry.now.disks out.old out.new (R.slot rack.old) (R.slot rack.new)
+        (FitsGeometry geometry.now out.new (R.slot_count rack.new) (R.slot rack.new)) }
+    ensures lasts { AreArrayCalls geometry.now.disks out.old out.new (R.slot rack.old) (R.slot rack.new)
         (R.told rack.old) (R.told rack.new) }
-    ensures two { IfErr result (IsTwo geometry.now.disks out.old (R.slot rack.old)
+    ensures two { IfErr result (AreTwoLost geometry.now.disks out.old (R.slot rack.old)
         (R.slot rack.new)) }
 {
     if !read_stored(rack, geometry, out, row, disk, into)? {
         read_others(rack, geometry, disk, parity, row, into)?;
         return Ok(());
     }
-    let mut old = Block::zero();
-    read_stored(rack, geometry, out, row, parity, &mut old)?;
-    xor_into(into, &old);
+    read_stored(rack, geometry, out, row, parity, old)?;
+    xor_into(into, old);
     Ok(())
 }
 
 // The parity of a row once a cell of it holds these bytes: their sum with the rest of the row's
-// data. With the parity's disk out it is not needed, and `into` holds any bytes.
+// data. With the parity's disk out it is not needed, and `into` holds any bytes. `old` is for the
+// old parity, and then holds any bytes.
 fn new_parity<R: Rack>(
     rack: &mut R,
     geometry: &Geometry,
@@ -240,29 +259,30 @@ fn new_parity<R: Rack>(
     disk: DiskNo,
     bytes: &Block,
     into: &mut Block,
+    old: &mut Block,
 ) -> Result<(), Two>
     requires row { row < geometry.now.rows }
     requires disk { disk < geometry.now.disks }
-    requires fits { Fits geometry.now out.old (R.slot_count rack.old) (R.slot rack.old) }
+    requires fits { FitsGeometry geometry.now out.old (R.slot_count rack.old) (R.slot rack.old) }
     ensures value { OnOk result (out.new ≢ Some (parity_disk_of geometry.now.disks row)
         → (cells : Cells) → RowsZero geometry.now cells → IsSome (R.told rack.new)
-        → Keeps geometry.now (R.told rack.old) cells
+        → KeepsCells geometry.now (R.told rack.old) cells
         → into.new ≡ xor (cells row (parity_disk_of geometry.now.disks row))
         (xor (cells row disk) bytes.now)) }
-    ensures keeps { (cells : Cells) → Keeps geometry.now (R.told rack.old) cells
-        → Keeps geometry.now (R.told rack.new) cells }
+    ensures keeps { (cells : Cells) → KeepsCells geometry.now (R.told rack.old) cells
+        → KeepsCells geometry.now (R.told rack.new) cells }
     ensures fits { OnOk result
-        (Fits geometry.now out.new (R.slot_count rack.new) (R.slot rack.new)) }
-    ensures lasts { Lasts geometry.now.disks out.old out.new (R.slot rack.old) (R.slot rack.new)
+        (FitsGeometry geometry.now out.new (R.slot_count rack.new) (R.slot rack.new)) }
+    ensures lasts { AreArrayCalls geometry.now.disks out.old out.new (R.slot rack.old) (R.slot rack.new)
         (R.told rack.old) (R.told rack.new) }
-    ensures two { IfErr result (IsTwo geometry.now.disks out.old (R.slot rack.old)
+    ensures two { IfErr result (AreTwoLost geometry.now.disks out.old (R.slot rack.old)
         (R.slot rack.new)) }
 {
     let parity = parity_disk(geometry, row);
     if is_out(*out, parity) {
         return Ok(());
     }
-    read_rest(rack, geometry, out, row, disk, parity, into)?;
+    read_rest(rack, geometry, out, row, disk, parity, into, old)?;
     xor_into(into, bytes);
     Ok(())
 }
@@ -276,23 +296,32 @@ pub(crate) fn write_cell<R: Rack>(
     row: Row,
     disk: DiskNo,
     bytes: &Block,
+    room: &mut WriteRoom,
 ) -> Result<(), Two>
     requires row { row < geometry.now.rows }
     requires disk { disk < geometry.now.disks }
-    requires fits { Fits geometry.now out.old (R.slot_count rack.old) (R.slot rack.old) }
+    requires fits { FitsGeometry geometry.now out.old (R.slot_count rack.old) (R.slot rack.old) }
     ensures keeps { OnOk result ((cells : Cells) → RowsZero geometry.now cells
-        → Keeps geometry.now (R.told rack.old) cells
-        → Keeps geometry.now (R.told rack.new)
-        (rewritten geometry.now.disks cells row disk bytes.now)) }
+        → KeepsCells geometry.now (R.told rack.old) cells
+        → KeepsCells geometry.now (R.told rack.new)
+        (row_rewritten geometry.now.disks cells row disk bytes.now)) }
     ensures fits { OnOk result
-        (Fits geometry.now out.new (R.slot_count rack.new) (R.slot rack.new)) }
-    ensures lasts { Lasts geometry.now.disks out.old out.new (R.slot rack.old) (R.slot rack.new)
+        (FitsGeometry geometry.now out.new (R.slot_count rack.new) (R.slot rack.new)) }
+    ensures lasts { AreArrayCalls geometry.now.disks out.old out.new (R.slot rack.old) (R.slot rack.new)
         (R.told rack.old) (R.told rack.new) }
-    ensures two { IfErr result (IsTwo geometry.now.disks out.old (R.slot rack.old)
+    ensures two { IfErr result (AreTwoLost geometry.now.disks out.old (R.slot rack.old)
         (R.slot rack.new)) }
 {
-    let mut parity = Block::zero();
-    new_parity(rack, geometry, out, row, disk, bytes, &mut parity)?;
+    new_parity(
+        rack,
+        geometry,
+        out,
+        row,
+        disk,
+        bytes,
+        &mut room.parity,
+        &mut room.old,
+    )?;
     put(rack, geometry, out, row, disk, bytes)?;
     put(
         rack,
@@ -300,7 +329,7 @@ pub(crate) fn write_cell<R: Rack>(
         out,
         row,
         parity_disk(geometry, row),
-        &parity,
+        &room.parity,
     )?;
     Ok(())
 }

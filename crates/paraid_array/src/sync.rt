@@ -1,8 +1,8 @@
 //! Syncs of the disks that are not out.
 ghost use Rattle.std.specs.Prelude.{◌≡◌, ◌≢◌, ℕ, ◌<◌, false, Some, OnOk, IfErr};
-ghost use Rattle.paraid_array.specs.Cells.{Cells, Keeps};
-ghost use Rattle.paraid_array.specs.Losses.{IsTwo, Lasts};
-ghost use Rattle.paraid_array.specs.Powers.{Fits};
+ghost use Rattle.paraid_array.specs.Cells.{Cells, KeepsCells};
+ghost use Rattle.paraid_array.specs.Losses.{AreTwoLost, AreArrayCalls};
+ghost use Rattle.paraid_array.specs.Powers.{FitsGeometry};
 
 use crate::loss::{follow, is_out};
 use paraid_base::{DiskNo, Geometry, Two};
@@ -16,16 +16,16 @@ fn sync_one<R: Rack>(
     disk: DiskNo,
 ) -> Result<bool, Two>
     requires disk { disk < geometry.now.disks }
-    requires fits { Fits geometry.now out.old (R.slot_count rack.old) (R.slot rack.old) }
+    requires fits { FitsGeometry geometry.now out.old (R.slot_count rack.old) (R.slot rack.old) }
     ensures synced { OnOk result (out.new ≢ Some disk → (R.slot rack.new disk).unsynced ≡ false) }
     ensures others { OnOk result ((d : ℕ) → d ≢ disk → R.slot rack.new d ≡ R.slot rack.old d) }
-    ensures keeps { (cells : Cells) → Keeps geometry.now (R.told rack.old) cells
-        → Keeps geometry.now (R.told rack.new) cells }
+    ensures keeps { (cells : Cells) → KeepsCells geometry.now (R.told rack.old) cells
+        → KeepsCells geometry.now (R.told rack.new) cells }
     ensures fits { OnOk result
-        (Fits geometry.now out.new (R.slot_count rack.new) (R.slot rack.new)) }
-    ensures lasts { Lasts geometry.now.disks out.old out.new (R.slot rack.old) (R.slot rack.new)
+        (FitsGeometry geometry.now out.new (R.slot_count rack.new) (R.slot rack.new)) }
+    ensures lasts { AreArrayCalls geometry.now.disks out.old out.new (R.slot rack.old) (R.slot rack.new)
         (R.told rack.old) (R.told rack.new) }
-    ensures two { IfErr result (IsTwo geometry.now.disks out.old (R.slot rack.old)
+    ensures two { IfErr result (AreTwoLost geometry.now.disks out.old (R.slot rack.old)
         (R.slot rack.new)) }
 {
     if is_out(*out, disk) {
@@ -44,16 +44,16 @@ pub(crate) fn sync_all<R: Rack>(
     geometry: &Geometry,
     out: &mut Option<DiskNo>,
 ) -> Result<(), Two>
-    requires { Fits geometry.now out.old (R.slot_count rack.old) (R.slot rack.old) }
+    requires { FitsGeometry geometry.now out.old (R.slot_count rack.old) (R.slot rack.old) }
     ensures synced { OnOk result ((d : ℕ) → d < geometry.now.disks → out.new ≢ Some d
         → (R.slot rack.new d).unsynced ≡ false) }
-    ensures keeps { (cells : Cells) → Keeps geometry.now (R.told rack.old) cells
-        → Keeps geometry.now (R.told rack.new) cells }
+    ensures keeps { (cells : Cells) → KeepsCells geometry.now (R.told rack.old) cells
+        → KeepsCells geometry.now (R.told rack.new) cells }
     ensures fits { OnOk result
-        (Fits geometry.now out.new (R.slot_count rack.new) (R.slot rack.new)) }
-    ensures lasts { Lasts geometry.now.disks out.old out.new (R.slot rack.old) (R.slot rack.new)
+        (FitsGeometry geometry.now out.new (R.slot_count rack.new) (R.slot rack.new)) }
+    ensures lasts { AreArrayCalls geometry.now.disks out.old out.new (R.slot rack.old) (R.slot rack.new)
         (R.told rack.old) (R.told rack.new) }
-    ensures two { IfErr result (IsTwo geometry.now.disks out.old (R.slot rack.old)
+    ensures two { IfErr result (AreTwoLost geometry.now.disks out.old (R.slot rack.old)
         (R.slot rack.new)) }
 {
     for disk in 0..geometry.disks {

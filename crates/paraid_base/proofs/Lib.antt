@@ -9,3 +9,5 @@ pub mod CellsLemmas
 pub mod SoftLemmas
 pub mod PlacesLemmas
 pub mod RegionsLemmas
+pub mod GearsLemmas
+pub mod StatesLemmas

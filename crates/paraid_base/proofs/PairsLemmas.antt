@@ -13,9 +13,9 @@ use Rattle.paraid_base.specs.declared.fault.BlockFault.{BlockFault}
 use Rattle.paraid_base.specs.declared.fault.BlockFault.TheVariants.{NoBlock as BlockMissing, Halt as BlockHalt}
 use Rattle.paraid_base.specs.declared.pairs.Pairs.{Pairs}
 use Rattle.paraid_base.specs.BlockAnswers.{RefusesMany, RefusesMissing}
-use Rattle.paraid_base.specs.History.{Entry, joined, last_of}
-use Rattle.paraid_base.specs.Pairs.{padded, pairs_of, pairs_with, one, zipped}
-use Rattle.paraid_base.specs.Xor.{zeroed}
+use Rattle.paraid_base.specs.History.{Entry, joined_entries, last_of}
+use Rattle.paraid_base.specs.Pairs.{pad_to, pairs_of, pairs_with, single_pair, numbered_blocks}
+use Rattle.paraid_base.specs.Xor.{zero_block}
 
 pub same_pairs : (p q : Pairs) → p.count ≡ q.count → p.blocks ≡ q.blocks → p.bytes ≡ q.bytes → p ≡ q
 same_pairs p q a b c = λ i. record {
@@ -27,11 +27,11 @@ same_pairs p q a b c = λ i. record {
   blocks_whole = is_prop→PathP (λ j. length (b j) ≡ 8) (λ j. hlevel props) p.blocks_whole q.blocks_whole i;
   bytes_whole = is_prop→PathP (λ j. length (c j) ≡ 8) (λ j. hlevel props) p.bytes_whole q.bytes_whole i;
   blocks_rest = is_prop→PathP (λ j. (k : ℕ) → a j ≤ k → get_or (b j) k 0 ≡ 0) (λ j. hlevel props) p.blocks_rest q.blocks_rest i;
-  bytes_rest = is_prop→PathP (λ j. (k : ℕ) → a j ≤ k → get_or (c j) k zeroed ≡ zeroed) (λ j. hlevel props) p.bytes_rest q.bytes_rest i;
+  bytes_rest = is_prop→PathP (λ j. (k : ℕ) → a j ≤ k → get_or (c j) k zero_block ≡ zero_block) (λ j. hlevel props) p.bytes_rest q.bytes_rest i;
 }
 
-pub pairs_of-one : (b : ℕ) (x : Block) → pairs_of (one b x) ≡ (b, x) ∷ []
-unfolding pairs_of one
+pub pairs_of-one : (b : ℕ) (x : Block) → pairs_of (single_pair b x) ≡ (b, x) ∷ []
+unfolding pairs_of single_pair
 pairs_of-one b x = refl
 
 first_of_one : (count b : ℕ) (x : Block) (before : Entry) (missing : ℕ) (y : Block) (rest : Entry)
@@ -47,12 +47,12 @@ refuses_one count b x (Err (BlockMissing missing)) first =
     let m = first.missing in (same, omega (arith, m, same))
 refuses_one count b x (Err (BlockHalt halt)) u = u
 
-pub length-zipped : (blocks : List ℕ) (bytes : List Block) → length blocks ≡ length bytes → length (zipped blocks bytes) ≡ length blocks
+pub length-zipped : (blocks : List ℕ) (bytes : List Block) → length blocks ≡ length bytes → length (numbered_blocks blocks bytes) ≡ length blocks
 length-zipped [] bytes e = refl
 length-zipped (b ∷ blocks) [] e = cc
 length-zipped (b ∷ blocks) (x ∷ bytes) e = ap suc (length-zipped blocks bytes (omega arith))
 
-pub get_or-zipped : (blocks : List ℕ) (bytes : List Block) (i b : ℕ) (x : Block) → length blocks ≡ length bytes → get_or (zipped blocks bytes) i (b, x) ≡ (get_or blocks i b, get_or bytes i x)
+pub get_or-zipped : (blocks : List ℕ) (bytes : List Block) (i b : ℕ) (x : Block) → length blocks ≡ length bytes → get_or (numbered_blocks blocks bytes) i (b, x) ≡ (get_or blocks i b, get_or bytes i x)
 get_or-zipped [] [] i b x e = refl
 get_or-zipped [] (y ∷ bytes) i b x e = cc
 get_or-zipped (c ∷ blocks) [] i b x e = cc
@@ -65,51 +65,51 @@ all_one P x holds (suc k) d l = let no : ⊥ = omega (arith, l) in absurd no
 
 -- one pair more
 pub take-zipped : (blocks : List ℕ) (bytes : List Block) (i b : ℕ) (x : Block) → length blocks ≡ length bytes → i < length blocks
-    → take (i + 1) (zipped blocks bytes) ≡ take i (zipped blocks bytes) ++ (get_or blocks i b, get_or bytes i x) ∷ []
+    → take (i + 1) (numbered_blocks blocks bytes) ≡ take i (numbered_blocks blocks bytes) ++ (get_or blocks i b, get_or bytes i x) ∷ []
 take-zipped blocks bytes i b x e l =
     let long = length-zipped blocks bytes e in
-    take_more (zipped blocks bytes) i (b, x) (omega (arith, long))
-    ∙ ap (λ (p : ℕ × Block). take i (zipped blocks bytes) ++ p ∷ []) (get_or-zipped blocks bytes i b x e)
+    take_more (numbered_blocks blocks bytes) i (b, x) (omega (arith, long))
+    ∙ ap (λ (p : ℕ × Block). take i (numbered_blocks blocks bytes) ++ p ∷ []) (get_or-zipped blocks bytes i b x e)
 
 -- a pair written at the end of those that count is one more
 zipped_set : (blocks : List ℕ) (bytes : List Block) (i b : ℕ) (x : Block) → length blocks ≡ length bytes → i < length blocks
-    → take (suc i) (zipped (set blocks i b) (set bytes i x)) ≡ take i (zipped blocks bytes) ++ (b, x) ∷ []
+    → take (suc i) (numbered_blocks (set blocks i b) (set bytes i x)) ≡ take i (numbered_blocks blocks bytes) ++ (b, x) ∷ []
 zipped_set [] bytes i b x e l = let no : ⊥ = omega arith in absurd no
 zipped_set (c ∷ blocks) [] i b x e l = let no : ⊥ = omega arith in absurd no
 zipped_set (c ∷ blocks) (y ∷ bytes) zero b x e l = refl
 zipped_set (c ∷ blocks) (y ∷ bytes) (suc i) b x e l = ap (λ (p : Entry). (c, y) ∷ p) (zipped_set blocks bytes i b x (omega arith) (omega arith))
 
 pub take-zipped-set : (blocks : List ℕ) (bytes : List Block) (i b : ℕ) (x : Block) → length blocks ≡ length bytes → i < length blocks
-    → take (i + 1) (zipped (set blocks i b) (set bytes i x)) ≡ take i (zipped blocks bytes) ++ (b, x) ∷ []
+    → take (i + 1) (numbered_blocks (set blocks i b) (set bytes i x)) ≡ take i (numbered_blocks blocks bytes) ++ (b, x) ∷ []
 take-zipped-set blocks bytes i b x e l =
     let next : i + 1 ≡ suc i = omega arith in
-    ap (λ (n : ℕ). take n (zipped (set blocks i b) (set bytes i x))) next ∙ zipped_set blocks bytes i b x e l
+    ap (λ (n : ℕ). take n (numbered_blocks (set blocks i b) (set bytes i x))) next ∙ zipped_set blocks bytes i b x e l
 
 -- what the writes from number `i` on do is what that write does and then the rest
 pub last_of-drop : (b : ℕ) (bytes : Block) (writes : List Pairs) (i : ℕ) (d : Pairs) → i < length writes
-    → last_of b bytes (joined (map pairs_of (drop i writes))) ≡ last_of b (last_of b bytes (pairs_of (get_or writes i d))) (joined (map pairs_of (drop (i + 1) writes)))
+    → last_of b bytes (joined_entries (map pairs_of (drop i writes))) ≡ last_of b (last_of b bytes (pairs_of (get_or writes i d))) (joined_entries (map pairs_of (drop (i + 1) writes)))
 last_of-drop b bytes writes i d l =
     let next : suc i ≡ i + 1 = omega arith in
-    ap (λ (x : List Pairs). last_of b bytes (joined (map pairs_of x))) (drop-cons writes i d l)
-    ∙ last_of-append b bytes (pairs_of (get_or writes i d)) (joined (map pairs_of (drop (suc i) writes)))
-    ∙ ap (λ (n : ℕ). last_of b (last_of b bytes (pairs_of (get_or writes i d))) (joined (map pairs_of (drop n writes)))) next
+    ap (λ (x : List Pairs). last_of b bytes (joined_entries (map pairs_of x))) (drop-cons writes i d l)
+    ∙ last_of-append b bytes (pairs_of (get_or writes i d)) (joined_entries (map pairs_of (drop (suc i) writes)))
+    ∙ ap (λ (n : ℕ). last_of b (last_of b bytes (pairs_of (get_or writes i d))) (joined_entries (map pairs_of (drop n writes)))) next
 
 -- the pair at place `i` between those before it and those after it
 pub split-zipped : (blocks : List ℕ) (bytes : List Block) (n i b : ℕ) (x : Block) → length blocks ≡ length bytes → n ≤ length blocks → i < n
-    → take n (zipped blocks bytes) ≡ take i (zipped blocks bytes) ++ (get_or blocks i b, get_or bytes i x) ∷ drop (suc i) (take n (zipped blocks bytes))
+    → take n (numbered_blocks blocks bytes) ≡ take i (numbered_blocks blocks bytes) ++ (get_or blocks i b, get_or bytes i x) ∷ drop (suc i) (take n (numbered_blocks blocks bytes))
 split-zipped blocks bytes n i b x e few l =
-    let z = zipped blocks bytes in
+    let z = numbered_blocks blocks bytes in
     let long = length-zipped blocks bytes e in
-    let inside : i < length (take n (zipped blocks bytes)) = rw (length-take n (zipped blocks bytes)) (omega (arith, long, few, l)) in
+    let inside : i < length (take n (numbered_blocks blocks bytes)) = rw (length-take n (numbered_blocks blocks bytes)) (omega (arith, long, few, l)) in
     sym (take-append-drop i (take n z))
     ∙ ap (λ (p : Entry). p ++ drop i (take n z)) (take-take i n z (omega (arith, l)))
     ∙ ap (λ (p : Entry). take i z ++ p) (drop-cons (take n z) i (b, x) inside)
     ∙ ap (λ (p : ℕ × Block). take i z ++ p ∷ drop (suc i) (take n z)) (get_or-take n z i (b, x) l ∙ get_or-zipped blocks bytes i b x e)
 
 -- of each member that counts, the pair is read off the entry
-pair_of : (p : Pairs) (i : ℕ) → i < p.count → get_or (pairs_of p) i (0, zeroed) ≡ (get_or p.blocks i 0, get_or p.bytes i zeroed)
+pair_of : (p : Pairs) (i : ℕ) → i < p.count → get_or (pairs_of p) i (0, zero_block) ≡ (get_or p.blocks i 0, get_or p.bytes i zero_block)
 unfolding pairs_of
-pair_of p i l = get_or-take p.count (zipped p.blocks p.bytes) i (0, zeroed) l ∙ get_or-zipped p.blocks p.bytes i 0 zeroed (p.blocks_whole ∙ sym p.bytes_whole)
+pair_of p i l = get_or-take p.count (numbered_blocks p.blocks p.bytes) i (0, zero_block) l ∙ get_or-zipped p.blocks p.bytes i 0 zero_block (p.blocks_whole ∙ sym p.bytes_whole)
 
 pub length-pairs_of : (p : Pairs) → length (pairs_of p) ≡ p.count
 unfolding pairs_of
@@ -117,30 +117,30 @@ length-pairs_of p =
     let long = length-zipped p.blocks p.bytes (p.blocks_whole ∙ sym p.bytes_whole) in
     let whole = p.blocks_whole in
     let few = p.few in
-    length-take p.count (zipped p.blocks p.bytes) ∙ omega (arith, long, whole, few)
+    length-take p.count (numbered_blocks p.blocks p.bytes) ∙ omega (arith, long, whole, few)
 
 -- values with the same pairs are equal
 pub pairs_decide : (p q : Pairs) → pairs_of p ≡ pairs_of q → p ≡ q
 pairs_decide p q e =
     let count : p.count ≡ q.count = sym (length-pairs_of p) ∙ ap (λ (x : Entry). length x) e ∙ length-pairs_of q in
-    let same : (i : ℕ) → i < p.count → (get_or p.blocks i 0, get_or p.bytes i zeroed) ≡ (get_or q.blocks i 0, get_or q.bytes i zeroed) =
-    λ i l. sym (pair_of p i l) ∙ ap (λ (x : Entry). get_or x i (0, zeroed)) e ∙ pair_of q i (omega (arith, l, count)) in
+    let same : (i : ℕ) → i < p.count → (get_or p.blocks i 0, get_or p.bytes i zero_block) ≡ (get_or q.blocks i 0, get_or q.bytes i zero_block) =
+    λ i l. sym (pair_of p i l) ∙ ap (λ (x : Entry). get_or x i (0, zero_block)) e ∙ pair_of q i (omega (arith, l, count)) in
     same_pairs p q count
     (ext_get_or 0 p.blocks q.blocks (p.blocks_whole ∙ sym q.blocks_whole) (λ i l.
     elim (cases_lt i p.count) [
       | inl inside ↦ ap (λ (x : ℕ × Block). x.0) (same i inside)
       | inr past ↦ p.blocks_rest i past ∙ sym (q.blocks_rest i (omega (arith, past, count)))
     ]))
-    (ext_get_or zeroed p.bytes q.bytes (p.bytes_whole ∙ sym q.bytes_whole) (λ i l.
+    (ext_get_or zero_block p.bytes q.bytes (p.bytes_whole ∙ sym q.bytes_whole) (λ i l.
     elim (cases_lt i p.count) [
       | inl inside ↦ ap (λ (x : ℕ × Block). x.1) (same i inside)
       | inr past ↦ p.bytes_rest i past ∙ sym (q.bytes_rest i (omega (arith, past, count)))
     ]))
 
-zipped-padded : (n : ℕ) (e : Entry) → length e ≤ n → take (length e) (zipped (padded 0 n (map (λ (p : ℕ × Block). p.0) e)) (padded zeroed n (map (λ (p : ℕ × Block). p.1) e))) ≡ e
-zipped-padded n [] l = refl
-zipped-padded zero (p ∷ ps) l = let no : ⊥ = omega (arith, l) in absurd no
-zipped-padded (suc n) (p ∷ ps) l = ap (λ (x : Entry). p ∷ x) (zipped-padded n ps (omega (arith, l)))
+numbered_blocks-padded : (n : ℕ) (e : Entry) → length e ≤ n → take (length e) (numbered_blocks (pad_to 0 n (map (λ (p : ℕ × Block). p.0) e)) (pad_to zero_block n (map (λ (p : ℕ × Block). p.1) e))) ≡ e
+numbered_blocks-padded n [] l = refl
+numbered_blocks-padded zero (p ∷ ps) l = let no : ⊥ = omega (arith, l) in absurd no
+numbered_blocks-padded (suc n) (p ∷ ps) l = ap (λ (x : Entry). p ∷ x) (numbered_blocks-padded n ps (omega (arith, l)))
 
 -- the value of an entry has its pairs
 pub pairs_of-with : (e : Entry) → 1 ≤ length e → length e ≤ 8 → pairs_of (pairs_with e) ≡ e
@@ -148,8 +148,8 @@ unfolding pairs_of pairs_with
 pairs_of-with [] some few = let no : ⊥ = omega (arith, some) in absurd no
 pairs_of-with (p ∷ ps) some few =
     let eight : min 8 (length (p ∷ ps)) ≡ length (p ∷ ps) = omega (arith, few) in
-    ap (λ (n : ℕ). take n (zipped (padded 0 8 (map (λ (x : ℕ × Block). x.0) (p ∷ ps))) (padded zeroed 8 (map (λ (x : ℕ × Block). x.1) (p ∷ ps))))) eight
-    ∙ zipped-padded 8 (p ∷ ps) few
+    ap (λ (n : ℕ). take n (numbered_blocks (pad_to 0 8 (map (λ (x : ℕ × Block). x.0) (p ∷ ps))) (pad_to zero_block 8 (map (λ (x : ℕ × Block). x.1) (p ∷ ps))))) eight
+    ∙ numbered_blocks-padded 8 (p ∷ ps) few
 
 -- a value is that of its pairs
 pub pairs_with-pairs_of : (p : Pairs) → pairs_with (pairs_of p) ≡ p
@@ -160,14 +160,14 @@ pairs_with-pairs_of p =
     pairs_decide _ _ (pairs_of-with (pairs_of p) (omega (arith, n, some)) (omega (arith, n, few)))
 
 -- a value of one pair
-pub one_from_pairs : (p : Pairs) (b : ℕ) (x : Block) → pairs_of p ≡ (b, x) ∷ [] → p ≡ one b x
-one_from_pairs p b x e = pairs_decide p (one b x) (e ∙ sym (pairs_of-one b x))
+pub one_from_pairs : (p : Pairs) (b : ℕ) (x : Block) → pairs_of p ≡ (b, x) ∷ [] → p ≡ single_pair b x
+one_from_pairs p b x e = pairs_decide p (single_pair b x) (e ∙ sym (pairs_of-one b x))
 
 -- the pairs of a value whose first member alone counts
-pub pairs_of-first : (p : Pairs) (b : ℕ) (x : Block) → p.count ≡ 1 → get_or p.blocks 0 0 ≡ b → get_or p.bytes 0 zeroed ≡ x → pairs_of p ≡ (b, x) ∷ []
+pub pairs_of-first : (p : Pairs) (b : ℕ) (x : Block) → p.count ≡ 1 → get_or p.blocks 0 0 ≡ b → get_or p.bytes 0 zero_block ≡ x → pairs_of p ≡ (b, x) ∷ []
 unfolding pairs_of
 pairs_of-first p b x count block bytes =
     let whole = p.blocks_whole in
-    ap (λ (n : ℕ). take n (zipped p.blocks p.bytes)) count
-    ∙ take-zipped p.blocks p.bytes 0 0 zeroed (p.blocks_whole ∙ sym p.bytes_whole) (omega (arith, whole))
-    ∙ ap (λ (n : ℕ). (n, get_or p.bytes 0 zeroed) ∷ []) block ∙ ap (λ (y : Block). (b, y) ∷ []) bytes
+    ap (λ (n : ℕ). take n (numbered_blocks p.blocks p.bytes)) count
+    ∙ take-zipped p.blocks p.bytes 0 0 zero_block (p.blocks_whole ∙ sym p.bytes_whole) (omega (arith, whole))
+    ∙ ap (λ (n : ℕ). (n, get_or p.bytes 0 zero_block) ∷ []) block ∙ ap (λ (y : Block). (b, y) ∷ []) bytes

@@ -6,7 +6,7 @@ use Rattle.std.proofs.lemmas.Bool.{cases_eq}
 use Rattle.std.proofs.lemmas.Bool.Decides.{nat_tests}
 use Rattle.paraid_base.proofs.XorLemmas.{xor_cancel, xor_middle, xor_self, xor_turn, xor_upto_more, xor_upto_none, xor_zero, xor_zero_right}
 use Rattle.paraid_base.specs.Sums.{without, xor_upto}
-use Rattle.paraid_base.specs.Xor.{xor, zeroed}
+use Rattle.paraid_base.specs.Xor.{xor, zero_block}
 
 -- rows that agree have one XOR
 pub xor_upto_same : (f g : ℕ → Block) (n : ℕ) → ((d : ℕ) → d < n → f d ≡ g d) → xor_upto f n ≡ xor_upto g n
@@ -32,17 +32,17 @@ xor_upto_change f g i (suc n) l h =
 pub without_other : (f : ℕ → Block) (i d : ℕ) → d ≢ i → without f i d ≡ f d
 without_other f i d ne = grind (arith, nat_tests)
 
-pub without_same : (f : ℕ → Block) (i : ℕ) → without f i i ≡ zeroed
+pub without_same : (f : ℕ → Block) (i : ℕ) → without f i i ≡ zero_block
 without_same f i = grind (arith, nat_tests)
 
 -- a lost member is the XOR of the others
-pub lost_member : (f : ℕ → Block) (i n : ℕ) → i < n → xor_upto f n ≡ zeroed → f i ≡ xor_upto (without f i) n
+pub lost_member : (f : ℕ → Block) (i n : ℕ) → i < n → xor_upto f n ≡ zero_block → f i ≡ xor_upto (without f i) n
 lost_member f i n l e =
     let c = xor_upto_change f (without f i) i n l (λ d k ne. without_other f i d ne) in
-    sym (c ∙ ap (λ z. xor z (xor (f i) (without f i i))) e ∙ ap (λ z. xor zeroed (xor (f i) z)) (without_same f i) ∙ xor_zero _ ∙ xor_zero_right (f i))
+    sym (c ∙ ap (λ z. xor z (xor (f i) (without f i i))) e ∙ ap (λ z. xor zero_block (xor (f i) z)) (without_same f i) ∙ xor_zero _ ∙ xor_zero_right (f i))
 
 -- with two members left out, the others of such a row sum up to the two
-pub lost_members : (f : ℕ → Block) (i j n : ℕ) → i < n → j < n → i ≢ j → xor_upto f n ≡ zeroed → xor_upto (without (without f i) j) n ≡ xor (f i) (f j)
+pub lost_members : (f : ℕ → Block) (i j n : ℕ) → i < n → j < n → i ≢ j → xor_upto f n ≡ zero_block → xor_upto (without (without f i) j) n ≡ xor (f i) (f j)
 lost_members f i j n li lj ne e =
     let c = xor_upto_change (without f i) (without (without f i) j) j n lj (λ d k m. without_other (without f i) j d m) in
     c ∙ ap (λ z. xor z (xor (without f i j) (without (without f i) j j))) (sym (lost_member f i n li e))
@@ -59,7 +59,7 @@ whole_from_others f i n l =
 pub parity_kept : (f g : ℕ → Block) (i p n : ℕ) → i < n → p < n → i ≢ p
     → ((d : ℕ) → d < n → d ≢ i → d ≢ p → g d ≡ f d)
     → g p ≡ xor (f p) (xor (f i) (g i))
-    → xor_upto f n ≡ zeroed → xor_upto g n ≡ zeroed
+    → xor_upto f n ≡ zero_block → xor_upto g n ≡ zero_block
 parity_kept f g i p n li lp ne others par e =
     let h : ℕ → Block = λ d. if d == p then f p else g d in
     let hp : h p ≡ f p = grind (arith, nat_tests) in
@@ -70,7 +70,7 @@ parity_kept f g i p n li lp ne others par e =
     second ∙ rw (first, hi, hp, par, e) (ap (λ z. xor z (xor (f p) (xor (f p) change))) (xor_zero change) ∙ ap (xor change) (xor_cancel (f p) change) ∙ xor_self change)
 
 -- the steps of a loop over the others
-pub others_none : (f : ℕ → Block) (i : ℕ) → zeroed ≡ xor_upto (without f i) 0
+pub others_none : (f : ℕ → Block) (i : ℕ) → zero_block ≡ xor_upto (without f i) 0
 others_none f i = sym (xor_upto_none (without f i))
 
 pub others_more : (f : ℕ → Block) (i d : ℕ) → d ≢ i → xor (xor_upto (without f i) d) (f d) ≡ xor_upto (without f i) (d + 1)
@@ -86,7 +86,7 @@ others_read f i d sum part after ne s p a = a ∙ rw (s, p) (others_more f i d n
 -- the same where two are left out
 pub two_skip : (f : ℕ → Block) (i j d : ℕ) → (d ≡ i) ⊎ (d ≡ j) → xor_upto (without (without f i) j) d ≡ xor_upto (without (without f i) j) (d + 1)
 two_skip f i j d which =
-    let none : without (without f i) j d ≡ zeroed = elim which [ inl e ↦ grind (arith, nat_tests) | inr e ↦ grind (arith, nat_tests) ] in
+    let none : without (without f i) j d ≡ zero_block = elim which [ inl e ↦ grind (arith, nat_tests) | inr e ↦ grind (arith, nat_tests) ] in
     sym (xor_upto_more (without (without f i) j) d ∙ ap (xor (xor_upto (without (without f i) j) d)) none ∙ xor_zero_right _)
 
 pub two_read : (f : ℕ → Block) (i j d : ℕ) (sum part after : Block) → d ≢ i → d ≢ j → sum ≡ xor_upto (without (without f i) j) d → part ≡ f d → after ≡ xor sum part

@@ -13,5 +13,5 @@ abbrev pub home_disk : ℕ → ℕ → ℕ
 home_disk n b = skip (parity_disk n (home_row n b)) (b % (n - 1))
 
 -- the block of a cell that holds no parity
-abbrev pub block_of : ℕ → ℕ → ℕ → ℕ
-block_of n r d = r * (n - 1) + place_among (parity_disk n r) d
+abbrev pub cell_block : ℕ → ℕ → ℕ → ℕ
+cell_block n r d = r * (n - 1) + place_among (parity_disk n r) d

@@ -1,5 +1,7 @@
--- Which lists of gears are accepted
-use Rattle.std.specs.Prelude.{◌≡◌, ◌≢◌, ℕ, ◌<◌, ◌≤◌, ◌-◌, ◌||◌, ◌&&◌, nat_lt, nat_le, slice_index, slice_index_or, length, List, Bool, true, false}
+-- Which lists of gears are accepted, and the next gears of a geometry.
+use Rattle.std.specs.Prelude.{◌≡◌, ◌≢◌, ℕ, ◌+◌, ◌<◌, ◌≤◌, ◌-◌, ◌||◌, ◌&&◌, nat_lt, nat_le, slice_index, slice_index_or, length, List, Bool, true, false, Option, Some, None, if◌then◌else◌}
+use Rattle.std.proofs.Common.{zero, suc}
+use Rattle.paraid_base.specs.declared.geometry.Geometry.{Geometry}
 use Rattle.paraid_base.specs.declared.geometry.GeoFault.{GeoFault}
 use Rattle.paraid_base.specs.declared.geometry.GeoFault.TheVariants.{Disks, Rows, Gears}
 
@@ -25,6 +27,27 @@ IsGeoFault n rows gears (Rows value) = (3 ≤ n) × (n ≤ 8) × (value ≡ rows
 IsGeoFault n rows gears (Gears at) = (3 ≤ n) × (n ≤ 8) × (1 ≤ rows) × (rows ≤ 65536) × IsGearsFault n gears at
 
 -- the flags mark the members and nothing else
-pub record Marks (gears : List ℕ) (count : ℕ) (flags : List Bool) : Type 0 where
+pub record AreFlagsOf (gears : List ℕ) (count : ℕ) (flags : List Bool) : Type 0 where
   pub each : (k : ℕ) → k < count → slice_index_or flags (slice_index gears k) false ≡ true
   pub only : (a : ℕ) → slice_index_or flags a false ≡ true → (k : ℕ) × (k < count) × (slice_index gears k ≡ a)
+
+-- the first of `n` numbers from `at` on that passes
+unfoldable pub first_from : (ℕ → Bool) → ℕ → ℕ → Option ℕ
+first_from p at zero = None
+first_from p at (suc n) = if p at then Some at else first_from p (at + 1) n
+
+-- the greatest number below `n` that passes
+unfoldable pub last_below : (ℕ → Bool) → ℕ → Option ℕ
+last_below p zero = None
+last_below p (suc n) = if p n then Some n else last_below p n
+
+abbrev pub is_gear : Geometry → ℕ → Bool
+is_gear g e = slice_index_or g.gears e false
+
+-- the next higher gear than `a`; no gear is above 8
+abbrev pub next_higher : Geometry → ℕ → Option ℕ
+next_higher g a = first_from (is_gear g) (a + 1) 8
+
+-- the next lower gear than `a`
+abbrev pub next_lower : Geometry → ℕ → Option ℕ
+next_lower g a = last_below (is_gear g) a

@@ -11,3 +11,4 @@ pub mod Soft
 pub mod Places
 pub mod Regions
 pub mod Gears
+pub mod States

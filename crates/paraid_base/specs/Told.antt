@@ -2,22 +2,22 @@
 use Rattle.std.specs.Prelude.{◌≡◌, ℕ, ◌<◌, ◌≤◌, ◌-◌, ◌^◌, ◌⊎◌, List, [], ◌++◌, Option, IsSome, unwrap_or}
 
 -- the bytes that are told, none where nothing is told
-abbrev pub told : Option (List ℕ) → List ℕ
-told o = unwrap_or o []
+abbrev pub told_bytes : Option (List ℕ) → List ℕ
+told_bytes o = unwrap_or o []
 
 -- What was left is this piece and what is left now. What is told now was told before.
 pub record Gives (old new : Option (List ℕ)) (piece : List ℕ) : Type 0 where
   pub before : IsSome new → IsSome old
-  pub bytes : IsSome new → told old ≡ piece ++ told new
+  pub bytes : IsSome new → told_bytes old ≡ piece ++ told_bytes new
 
 -- What is written grew by this piece. What is told now was told before.
-pub record Grows (old new : Option (List ℕ)) (piece : List ℕ) : Type 0 where
+pub record GrowsByBytes (old new : Option (List ℕ)) (piece : List ℕ) : Type 0 where
   pub before : IsSome new → IsSome old
-  pub bytes : IsSome new → told new ≡ told old ++ piece
+  pub bytes : IsSome new → told_bytes new ≡ told_bytes old ++ piece
 
 -- where it is told, nothing is left
 abbrev pub AtEnd : Option (List ℕ) → Type 0
-AtEnd left = IsSome left → told left ≡ []
+AtEnd left = IsSome left → told_bytes left ≡ []
 
 -- A count of faults has risen. A count that has come to the end of its type stays there.
 pub record HasRisen (before now : ℕ) : Type 0 where

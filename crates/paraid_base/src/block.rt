@@ -1,4 +1,7 @@
-ghost use Rattle.std.specs.Prelude.{◌≡◌, ℕ, ◌<◌, length, slice_index, slice_set};
+ghost use Rattle.std.specs.Prelude.{◌≡◌, ℕ, ◌<◌, length, replicate, slice_index, slice_set, IfOk};
+
+use crate::NoMemory;
+use std::alloc::Global;
 
 /// The number of bytes in a block.
 pub const BLOCK_SIZE: usize = 512;
@@ -12,13 +15,26 @@ pub struct Block {
 }
 
 impl Block {
-    ghost use Rattle.paraid_base.specs.Xor.{zeroed};
+    ghost use Rattle.paraid_base.specs.Xor.{zero_block};
 
     /// A block of zeros.
     pub fn zero() -> Self
-        ensures { result ≡ zeroed }
+        ensures { result ≡ zero_block }
     {
         Block { bytes: [0; 512] }
+    }
+
+    /// So many blocks of zeros.
+    pub fn zeros(alloc: Global, count: u32) -> Result<Vec<Block>, NoMemory>
+        ensures { IfOk result (λ blocks. blocks.items ≡ replicate count zero_block) }
+    {
+        let Ok(mut blocks) = Vec::with_capacity(alloc, count as usize) else {
+            return Err(NoMemory);
+        };
+        for _i in 0..count {
+            blocks.push_reserved(Block::zero());
+        }
+        Ok(blocks)
     }
 
     /// A block of these bytes.
@@ -26,6 +42,13 @@ impl Block {
         ensures { result.bytes ≡ bytes }
     {
         Block { bytes }
+    }
+
+    /// The same block again.
+    pub fn copy(&self) -> Block
+        ensures { result ≡ self.now }
+    {
+        Block { bytes: self.bytes }
     }
 
     /// Its 512 bytes.

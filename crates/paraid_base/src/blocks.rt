@@ -2,8 +2,8 @@ ghost use Rattle.std.specs.Prelude.{◌≡◌, ℕ, ◌≤◌, ◌<◌, ◌^◌,
 ghost use Rattle.paraid_base.specs.declared.fault.Halt.{Halt};
 ghost use Rattle.paraid_base.specs.declared.event.Event.TheVariants.{Read, Write, Flush};
 ghost use Rattle.paraid_base.specs.BlockAnswers.{Answers, answer_to_read, answer_to_write, answer_to_flush, halt_of, flush_halt_of, RefusesMissing, RefusesMany, AfterRead, AfterWrite, AfterFlush};
-ghost use Rattle.paraid_base.specs.History.{History, held};
-ghost use Rattle.paraid_base.specs.Pairs.{pairs_of, one};
+ghost use Rattle.paraid_base.specs.History.{History, after_all};
+ghost use Rattle.paraid_base.specs.Pairs.{pairs_of, single_pair};
 ghost use Rattle.paraid_base.specs.Told.{HasRisen};
 
 use crate::{Block, BlockFault, BlockNo, Halt, Pairs};
@@ -52,7 +52,7 @@ pub trait Blocks {
 
         ensures told { IsTrue (tells self.new) → IsTrue (tells self.old) }
         ensures value { OnOk result ((h : History) → stands self.old h → IsTrue (tells self.new)
-            → into.new ≡ held h block) }
+            → into.new ≡ after_all h block) }
         ensures history { (h : History) → stands self.old h → IsTrue (tells self.new)
             → AfterRead (stands self.new) h result }
         ensures events { (events : Answers) → kept self.old events → IsTrue (tells self.new)
@@ -92,7 +92,7 @@ pub trait Blocks {
         ensures history { (h : History) → stands self.old h → IsTrue (tells self.new)
             → AfterWrite (stands self.new) h ((block, bytes.now) ∷ []) result }
         ensures events { (events : Answers) → kept self.old events → IsTrue (tells self.new)
-            → kept self.new (events ++ (Write (one block bytes.now), answer_to_write result) ∷ []) }
+            → kept self.new (events ++ (Write (single_pair block bytes.now), answer_to_write result) ∷ []) }
     {
         self.write_many(&Pairs::one(block, bytes))
     }

@@ -36,7 +36,7 @@ pub enum GeoFault {
 
 impl Geometry {
     ghost use Rattle.std.specs.Prelude.{IfOk, IfErr, MatchOption};
-    ghost use Rattle.paraid_base.specs.Gears.{IsGeoFault, IsGearList, Marks};
+    ghost use Rattle.paraid_base.specs.Gears.{IsGeoFault, IsGearList, AreFlagsOf};
     ghost use Rattle.paraid_base.specs.Soft.{stripe_count};
     ghost use Rattle.paraid_base.specs.Regions.{IsGear, map_count, disk_size, soft_start as soft_start_of};
 
@@ -44,7 +44,7 @@ impl Geometry {
     /// number of disks.
     pub fn new(disks: u8, rows: u32, gears: &[u8]) -> Result<Geometry, GeoFault>
         ensures numbers { IfOk result (λ g. (g.disks ≡ disks) × (g.rows ≡ rows)) }
-        ensures gears { IfOk result (λ g. IsGearList disks gears.now × Marks gears.now (length gears.now) g.gears) }
+        ensures gears { IfOk result (λ g. IsGearList disks gears.now × AreFlagsOf gears.now (length gears.now) g.gears) }
         ensures err { IfErr result (IsGeoFault disks rows gears.now) }
     {
         if disks < 3 || disks > 8 {

@@ -1,6 +1,6 @@
 ghost use Rattle.std.specs.Prelude.{◌≡◌, ℕ, ◌≤◌, ◌<◌, ◌+◌, ◌++◌, ◌∷◌, [], length, get_or, set, All, IfSome, IfNone, IsTrue, ◌↔◌};
 ghost use Rattle.paraid_base.specs.declared.block.Block.{Block as BlockType};
-ghost use Rattle.paraid_base.specs.Xor.{zeroed};
+ghost use Rattle.paraid_base.specs.Xor.{zero_block};
 
 use crate::{Block, BlockNo};
 
@@ -17,7 +17,7 @@ pub struct Pairs {
     pub ghost blocks_whole: { length blocks ≡ 8 },
     pub ghost bytes_whole: { length bytes ≡ 8 },
     pub ghost blocks_rest: { (k : ℕ) → count ≤ k → get_or blocks k 0 ≡ 0 },
-    pub ghost bytes_rest: { (k : ℕ) → count ≤ k → get_or bytes k zeroed ≡ zeroed },
+    pub ghost bytes_rest: { (k : ℕ) → count ≤ k → get_or bytes k zero_block ≡ zero_block },
 }
 
 // Changes one of the blocks.
@@ -29,7 +29,7 @@ fn put(blocks: &mut [Block; 8], at: usize, bytes: &Block)
 }
 
 impl Pairs {
-    ghost use Rattle.paraid_base.specs.Pairs.{one as one_pair, pairs_of};
+    ghost use Rattle.paraid_base.specs.Pairs.{single_pair as one_pair, pairs_of};
     ghost use Rattle.paraid_base.specs.BlockAnswers.{IsFirstMissing};
 
     /// One pair.

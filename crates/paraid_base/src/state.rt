@@ -1,3 +1,6 @@
+ghost use Rattle.std.specs.Prelude.{◌≡◌};
+ghost use Rattle.paraid_base.specs.States.{gone_out, has_out, is_down as falls, is_fresh as is_rebuilt, is_gone as is_lost, is_out, named_out, phase_beside, phase_to, rebuilt_count, rising_to as rises_to};
+
 use crate::{DiskNo, Halt};
 
 /// Whether a shift between two gears is under way.
@@ -11,6 +14,55 @@ pub enum Phase {
     Up { to: u8 },
 }
 
+impl Phase {
+    /// The gear that the shift goes to, or 0.
+    pub fn to(self) -> u8
+        ensures { result ≡ phase_to self }
+    {
+        match self {
+            Phase::Steady => 0,
+            Phase::Down { to } | Phase::Up { to } => to,
+        }
+    }
+
+    /// The gear that a shift up goes to, or 0.
+    pub fn rising_to(self) -> u8
+        ensures { result ≡ rises_to self }
+    {
+        match self {
+            Phase::Up { to } => to,
+            Phase::Steady | Phase::Down { .. } => 0,
+        }
+    }
+
+    /// Whether a shift down is under way.
+    pub fn is_down(self) -> bool
+        ensures { result ≡ falls self }
+    {
+        match self {
+            Phase::Down { .. } => true,
+            Phase::Steady | Phase::Up { .. } => false,
+        }
+    }
+
+    /// The phase once a disk may be out, which ends a shift down.
+    pub fn beside(self, has_out: bool) -> Phase
+        ensures { result ≡ phase_beside has_out self }
+    {
+        match self {
+            Phase::Down { to } => {
+                if has_out {
+                    Phase::Steady
+                } else {
+                    Phase::Down { to }
+                }
+            }
+            Phase::Steady => Phase::Steady,
+            Phase::Up { to } => Phase::Up { to },
+        }
+    }
+}
+
 /// Which disk is out: lost, or failed by command, with its rebuild not ended.
 #[derive(Clone, Copy, Debug, PartialEq, Eq)]
 pub enum Out {
@@ -20,6 +72,78 @@ pub enum Out {
     Gone { disk: DiskNo },
     /// This disk was replaced, and so many units of it are rebuilt.
     Fresh { disk: DiskNo, rebuilt: u32 },
+}
+
+impl Out {
+    /// Whether a disk is out.
+    pub fn is_any(self) -> bool
+        ensures { result ≡ has_out self }
+    {
+        match self {
+            Out::No => false,
+            Out::Gone { .. } | Out::Fresh { .. } => true,
+        }
+    }
+
+    /// The disk that is out.
+    pub fn named(self) -> Option<DiskNo>
+        ensures { result ≡ named_out self }
+    {
+        match self {
+            Out::No => None,
+            Out::Gone { disk } | Out::Fresh { disk, .. } => Some(disk),
+        }
+    }
+
+    /// The disk that is out and has not been replaced.
+    pub fn gone(self) -> Option<DiskNo>
+        ensures { result ≡ gone_out self }
+    {
+        match self {
+            Out::Gone { disk } => Some(disk),
+            Out::No | Out::Fresh { .. } => None,
+        }
+    }
+
+    /// How many units of the disk that is out are rebuilt.
+    pub fn rebuilt(self) -> u32
+        ensures { result ≡ rebuilt_count self }
+    {
+        match self {
+            Out::No | Out::Gone { .. } => 0,
+            Out::Fresh { rebuilt, .. } => rebuilt,
+        }
+    }
+
+    /// Whether this disk is out.
+    pub fn names(self, disk: DiskNo) -> bool
+        ensures { result ≡ is_out (named_out self) disk }
+    {
+        match self {
+            Out::No => false,
+            Out::Gone { disk: out } | Out::Fresh { disk: out, .. } => disk == out,
+        }
+    }
+
+    /// Whether this disk is out and has not been replaced.
+    pub fn is_gone(self, disk: DiskNo) -> bool
+        ensures { result ≡ is_lost self disk }
+    {
+        match self {
+            Out::Gone { disk: out } => disk == out,
+            Out::No | Out::Fresh { .. } => false,
+        }
+    }
+
+    /// Whether this disk is being rebuilt.
+    pub fn is_fresh(self, disk: DiskNo) -> bool
+        ensures { result ≡ is_rebuilt self disk }
+    {
+        match self {
+            Out::Fresh { disk: out, .. } => disk == out,
+            Out::No | Out::Gone { .. } => false,
+        }
+    }
 }
 
 /// What a tick did.

@@ -8,17 +8,17 @@ use Rattle.paraid_rack.specs.Told.{Ran}
 use Rattle.paraid_rack.specs.Trail.{Trail}
 use Rattle.paraid_record.specs.declared.meta.Setup.{Setup}
 use Rattle.paraid_machine.specs.Machine.{block_count}
-use Rattle.paraid_trace.specs.Generated.{generated}
-use Rattle.paraid_serve.specs.Stretch.{Stretch, turn}
+use Rattle.paraid_trace.specs.Generated.{generated_event}
+use Rattle.paraid_serve.specs.Stretch.{Stretch, turn_with}
 use Rattle.paraid_session.specs.Turn.{GoesOn, Point}
 use Rattle.paraid_serve.proofs.StretchLemmas.{More, stretch_more, stretch_none}
 use Rattle.paraid_commands.specs.declared.tally.Tally.{Tally}
-use Rattle.paraid_commands.specs.Generating.{Generated, generated_events}
-use Rattle.paraid_commands.specs.Lines.{Counted}
-use Rattle.paraid_commands.specs.Tally.{nothing, tallied, with_answer, with_event}
-use Rattle.paraid_commands.proofs.TallyLemmas.{tallied-push}
+use Rattle.paraid_commands.specs.Generating.{AnswersGenerated, generated_events}
+use Rattle.paraid_commands.specs.CountedLines.{CountsLines}
+use Rattle.paraid_commands.specs.Tally.{empty_tally, tally_of, tally_with_answer, tally_with_event}
+use Rattle.paraid_commands.proofs.TallyLemmas.{tally_of-push}
 
-pub counted_none : (slots : ℕ) (setup : Setup) (start : Option Trail) (p : Point) (number : ℕ) (stood : Point → Type 0) → IsSome start → stood p → Counted slots setup start start p number 0 nothing stood
+pub counted_none : (slots : ℕ) (setup : Setup) (start : Option Trail) (p : Point) (number : ℕ) (stood : Point → Type 0) → IsSome start → stood p → CountsLines slots setup start start p number 0 empty_tally stood
 counted_none slots setup start p number stood is at_p = record { all = stretch_none slots setup start p is; counts = refl; stands = at_p }
 
 -- one event more, from the point where the array stands
@@ -29,18 +29,18 @@ one_more {slots} {setup} {start} {now} {p} {events} c event answer later stood n
     stretch_more c later event answer stood new_stood at_end
     (λ q is. subst (λ (k : ℕ). Ran now later (GoesOn k setup q event answer new_stood)) same_slots (subst (λ (u : Setup). Ran now later (GoesOn slots_now u q event answer new_stood)) same_setup (goes q is))) t
 
-events-more : (number blocks i : ℕ) → generated_events number blocks (i + 1) ≡ generated_events number blocks i ++ generated number i blocks ∷ []
+events-more : (number blocks i : ℕ) → generated_events number blocks (i + 1) ≡ generated_events number blocks i ++ generated_event number i blocks ∷ []
 events-more number blocks i = rw add-one refl
 
-pub counted_more : {slots : ℕ} {setup : Setup} {start now : Option Trail} {p : Point} {number i : ℕ} {tally : Tally} {stood : Point → Type 0} (c : Counted slots setup start now p number i tally stood)
+pub counted_more : {slots : ℕ} {setup : Setup} {start now : Option Trail} {p : Point} {number i : ℕ} {tally : Tally} {stood : Point → Type 0} (c : CountsLines slots setup start now p number i tally stood)
     → (event : Event) (answer : Answer) (later : Option Trail) (new_stood : Point → Type 0) (slots_now : ℕ) (setup_now : Setup) (blocks : ℕ) (new : Tally)
-    → slots_now ≡ slots → setup_now ≡ setup → blocks ≡ block_count setup → event ≡ generated number i blocks → new ≡ with_answer (with_event tally event) answer
+    → slots_now ≡ slots → setup_now ≡ setup → blocks ≡ block_count setup → event ≡ generated_event number i blocks → new ≡ tally_with_answer (tally_with_event tally event) answer
     → ((q : Point) → stood q → Ran now later (GoesOn slots_now setup_now q event answer new_stood)) → IsSome later
-    → Counted slots setup start later p number (i + 1) new new_stood
+    → CountsLines slots setup start later p number (i + 1) new new_stood
 counted_more {slots} {setup} {start} {now} {p} {number} {i} {tally} {stood} c event answer later new_stood slots_now setup_now blocks new same_slots same_setup count is counts goes t =
     let more = one_more c.all event answer later stood new_stood c.stands slots_now setup_now same_slots same_setup goes t in
     let asked : generated_events number (block_count setup) i ++ event ∷ [] ≡ generated_events number (block_count setup) (i + 1) =
-    ap (λ (e : Event). generated_events number (block_count setup) i ++ e ∷ []) (is ∙ ap (generated number i) count) ∙ sym (events-more number (block_count setup) i) in
+    ap (λ (e : Event). generated_events number (block_count setup) i ++ e ∷ []) (is ∙ ap (generated_event number i) count) ∙ sym (events-more number (block_count setup) i) in
     record {
       all = record {
         turns = more.all.turns;
@@ -53,17 +53,17 @@ counted_more {slots} {setup} {start} {now} {p} {number} {i} {tally} {stood} c ev
         is = more.all.is;
         calls = more.all.calls;
       };
-      counts = counts ∙ ap (λ (x : Tally). with_answer (with_event x event) answer) c.counts ∙ sym (tallied-push nothing c.all.turns event answer more.calls) ∙ ap (tallied nothing) (sym more.turns);
+      counts = counts ∙ ap (λ (x : Tally). tally_with_answer (tally_with_event x event) answer) c.counts ∙ sym (tally_of-push empty_tally c.all.turns event answer more.calls) ∙ ap (tally_of empty_tally) (sym more.turns);
       stands = more.stands;
     }
 
 -- a flush after some lines
-pub record GenFlush {slots : ℕ} {setup : Setup} {start middle : Option Trail} {p : Point} (number count : ℕ) (lines : Generated slots setup start middle p number count) (final : Option Trail) (answer : Answer) : Type 0 where
+pub record GenFlush {slots : ℕ} {setup : Setup} {start middle : Option Trail} {p : Point} (number count : ℕ) (lines : AnswersGenerated slots setup start middle p number count) (final : Option Trail) (answer : Answer) : Type 0 where
   pub all : Stretch slots setup start final p (generated_events number (block_count setup) count ++ Flush ∷ [])
   pub calls : List Call
-  pub turns : all.turns ≡ lines.turns ++ turn Flush answer calls ∷ []
+  pub turns : all.turns ≡ lines.turns ++ turn_with Flush answer calls ∷ []
 
-pub flushes : {slots : ℕ} {setup : Setup} {start now : Option Trail} {p : Point} {number i : ℕ} {tally : Tally} {stood : Point → Type 0} (c : Counted slots setup start now p number i tally stood)
+pub flushes : {slots : ℕ} {setup : Setup} {start now : Option Trail} {p : Point} {number i : ℕ} {tally : Tally} {stood : Point → Type 0} (c : CountsLines slots setup start now p number i tally stood)
     → (answer : Answer) (later : Option Trail) (new_stood : Point → Type 0) (slots_now : ℕ) (setup_now : Setup) → slots_now ≡ slots → setup_now ≡ setup
     → ((q : Point) → stood q → Ran now later (GoesOn slots_now setup_now q Flush answer new_stood)) → IsSome later
     → GenFlush number i c.all later answer

@@ -8,9 +8,9 @@ use Rattle.paraid_base.specs.declared.event.Event.TheVariants.{Read, Write, Flus
 use Rattle.paraid_base.specs.declared.state.TickEvent.{TickEvent}
 use Rattle.paraid_base.specs.declared.state.TickEvent.TheVariants.{Steady, Waiting, Moving, Flipped, Begun, Rebuilt, Gone, Lost, Ration}
 use Rattle.paraid_rack.specs.declared.call.Call.{Call}
-use Rattle.paraid_serve.specs.Stretch.{Turn, turn}
+use Rattle.paraid_serve.specs.Stretch.{Turn, turn_with}
 use Rattle.paraid_commands.specs.declared.tally.Tally.{Tally}
-use Rattle.paraid_commands.specs.Tally.{HasRoom, first_two, nothing, tallied, with_answer, with_event, with_tick}
+use Rattle.paraid_commands.specs.Tally.{HasRoomForLine, first_two, empty_tally, tally_of, tally_with_answer, tally_with_event, tally_with_tick}
 
 -- at most so many lines were counted, and so many answers
 pub record Fits (t : Tally) (lines answers : ℕ) : Type 0 where
@@ -21,10 +21,10 @@ pub record Fits (t : Tally) (lines answers : ℕ) : Type 0 where
   pub shifts : t.shifts ≤ answers
   pub sum : t.sum ≤ 65535 * answers
 
-pub fits_none : Fits nothing 0 0
+pub fits_none : Fits empty_tally 0 0
 fits_none = record { reads = omega arith; writes = omega arith; flushes = omega arith; ticks = omega arith; shifts = omega arith; sum = omega arith }
 
-pub fits_room : (t : Tally) (lines answers : ℕ) → Fits t lines answers → lines ≤ 1000000 → answers ≤ 1000000 → HasRoom t
+pub fits_room : (t : Tally) (lines answers : ℕ) → Fits t lines answers → lines ≤ 1000000 → answers ≤ 1000000 → HasRoomForLine t
 fits_room t lines answers f p q = record {
   reads = omega (arith, f.reads);
   writes = omega (arith, f.writes);
@@ -44,7 +44,7 @@ more_lines t n m f = record {
   sum = f.sum;
 }
 
-pub fits_event : (t : Tally) (e : Event) (n m : ℕ) → Fits t n m → Fits (with_event t e) (n + 1) m
+pub fits_event : (t : Tally) (e : Event) (n m : ℕ) → Fits t n m → Fits (tally_with_event t e) (n + 1) m
 fits_event t (Read block) n m f = let g = more_lines t n m f in record { reads = omega (arith, f.reads); writes = g.writes; flushes = g.flushes; ticks = g.ticks; shifts = g.shifts; sum = g.sum }
 fits_event t (Write pairs) n m f = let g = more_lines t n m f in record { reads = g.reads; writes = omega (arith, f.writes); flushes = g.flushes; ticks = g.ticks; shifts = g.shifts; sum = g.sum }
 fits_event t Flush n m f = let g = more_lines t n m f in record { reads = g.reads; writes = g.writes; flushes = omega (arith, f.flushes); ticks = g.ticks; shifts = g.shifts; sum = g.sum }
@@ -70,7 +70,7 @@ more_answers t n m f = record {
 first_two_small : (b : Block) → first_two b < 65536
 first_two_small b = omega (arith, b.small 0, b.small 1)
 
-fits_tick : (t : Tally) (e : TickEvent) (n m : ℕ) → Fits t n m → Fits (with_tick t e) n (m + 1)
+fits_tick : (t : Tally) (e : TickEvent) (n m : ℕ) → Fits t n m → Fits (tally_with_tick t e) n (m + 1)
 fits_tick t Flipped n m f = let g = more_answers t n m f in record { reads = g.reads; writes = g.writes; flushes = g.flushes; ticks = g.ticks; shifts = omega (arith, f.shifts); sum = g.sum }
 fits_tick t Steady n m f = more_answers t n m f
 fits_tick t Waiting n m f = more_answers t n m f
@@ -81,7 +81,7 @@ fits_tick t (Gone d) n m f = more_answers t n m f
 fits_tick t (Lost d) n m f = more_answers t n m f
 fits_tick t (Ration d) n m f = more_answers t n m f
 
-pub fits_answer : (t : Tally) (a : Answer) (n m : ℕ) → Fits t n m → Fits (with_answer t a) n (m + 1)
+pub fits_answer : (t : Tally) (a : Answer) (n m : ℕ) → Fits t n m → Fits (tally_with_answer t a) n (m + 1)
 fits_answer t (Value block bytes) n m f = let g = more_answers t n m f in record { reads = g.reads; writes = g.writes; flushes = g.flushes; ticks = g.ticks; shifts = g.shifts; sum = omega (arith, f.sum, first_two_small bytes) }
 fits_answer t (Ticked report) n m f = fits_tick t report.event n m f
 fits_answer t (NoBlock b) n m f = more_answers t n m f
@@ -104,6 +104,6 @@ fits_answer t IsBad n m f = more_answers t n m f
 fits_answer t Later n m f = more_answers t n m f
 fits_answer t (Halted b) n m f = more_answers t n m f
 
-pub tallied-push : (t : Tally) (turns : List Turn) (e : Event) (a : Answer) (cs : List Call) → tallied t (turns ++ turn e a cs ∷ []) ≡ with_answer (with_event (tallied t turns) e) a
-tallied-push t [] e a cs = refl
-tallied-push t (u ∷ turns) e a cs = tallied-push (with_answer (with_event t u.event) u.answer) turns e a cs
+pub tally_of-push : (t : Tally) (turns : List Turn) (e : Event) (a : Answer) (cs : List Call) → tally_of t (turns ++ turn_with e a cs ∷ []) ≡ tally_with_answer (tally_with_event (tally_of t turns) e) a
+tally_of-push t [] e a cs = refl
+tally_of-push t (u ∷ turns) e a cs = tally_of-push (tally_with_answer (tally_with_event t u.event) u.answer) turns e a cs

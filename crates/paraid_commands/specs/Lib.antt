@@ -1,4 +1,4 @@
 pub mod Tally
 pub mod Generating
 pub mod Telling
-pub mod Lines
+pub mod CountedLines

@@ -1,16 +1,18 @@
 ghost use Rattle.std.specs.Prelude.{◌≡◌, ◌≤◌, ◌<◌, None, IsSome};
 ghost use Rattle.paraid_base.specs.Told.{HasRisen};
-ghost use Rattle.paraid_session.specs.Mount.{Mounted};
+ghost use Rattle.paraid_session.specs.Mount.{IsMountedFromEach};
 ghost use Rattle.paraid_session.specs.Turn.{Point};
 ghost use Rattle.paraid_commands.specs.Generating.{GenHeadline, GenRun};
-ghost use Rattle.paraid_commands.specs.Lines.{Counted};
+ghost use Rattle.paraid_commands.specs.CountedLines.{CountsLines};
 
-use crate::lines::{end_text, halt_status, last, mount_text, summary_text};
+use crate::lines::summary_text;
 use crate::tally::Tally;
 use paraid_base::{Answer, Halt};
+use paraid_console::ending::{end_text, halt_status, last, mount_text};
+use paraid_console::status;
 use paraid_io::{Sink, write_all};
-use paraid_serve::answer::{answer, finish};
-use paraid_serve::{Serves, status};
+use paraid_serve::Serves;
+use paraid_serve::answer::{answer_event, finish};
 use paraid_trace::{Text, generate, reply};
 
 /// Answers the first lines of the trace of a number, and counts them.
@@ -23,7 +25,7 @@ pub fn answer_lines<A: Serves>(
     requires few { lines ≤ 1000000 }
     requires halt { halt.old ≡ A.halted array.old }
     ensures counted { IsSome (A.told array.new) → (p : Point) → A.stands array.old p
-        → Counted (A.slots array.old) (A.setup array.old) (A.told array.old) (A.told array.new) p
+        → CountsLines (A.slots array.old) (A.setup array.old) (A.told array.old) (A.told array.new) p
         number lines result (A.stands array.new) }
     ensures told { IsSome (A.told array.new) → IsSome (A.told array.old) }
     ensures slots { A.slots array.new ≡ A.slots array.old }
@@ -35,7 +37,7 @@ pub fn answer_lines<A: Serves>(
     'events: for i in 0..lines {
         let event = generate(number, i, blocks);
         tally.count_event(&event);
-        let answered = answer(array, halt, event);
+        let answered = answer_event(array, halt, &event);
         tally.count_answer(&answered);
     }
     tally
@@ -89,7 +91,7 @@ pub fn serve_generated_mounted<K: Sink, A: Serves>(
 ) -> u8
     requires few { lines ≤ 1000000 }
     requires going { A.halted array.old ≡ None }
-    requires mounted { Mounted (A.slots array.old) (A.setup array.old) (A.began array.old)
+    requires mounted { IsMountedFromEach (A.slots array.old) (A.setup array.old) (A.began array.old)
         (A.told array.old) (A.stands array.old) }
     ensures headline { GenHeadline (A.slots array.old) (A.setup array.old) (A.began array.old)
         (A.told array.old) (A.told array.new) (K.written sink.old) (K.written sink.new)

@@ -1,58 +1,9 @@
-ghost use Rattle.std.specs.Prelude.{◌≡◌, ◌≢◌, ◌≤◌, [], ◌++◌, length, codes, decimal};
-ghost use Rattle.paraid_base.specs.Told.{HasRisen};
-ghost use Rattle.paraid_serve.specs.Output.{Ends, end_line, mount_line, status_of};
+ghost use Rattle.std.specs.Prelude.{◌≡◌, ◌≤◌, [], ◌++◌, length, codes, decimal};
 ghost use Rattle.paraid_commands.specs.declared.tally.Tally.{Tally as TallyType};
 ghost use Rattle.paraid_commands.specs.Generating.{lines_line, summary};
 
 use crate::tally::Tally;
-use paraid_base::Halt;
-use paraid_io::{Sink, write_all};
-use paraid_serve::status;
 use paraid_trace::Text;
-
-/// Writes the last line. A fault of the sink has a status of its own.
-pub fn last<K: Sink>(sink: &mut K, line: &[u8], status: u8) -> u8
-    ensures ends { Ends (K.written sink.old) (K.written sink.new) line.now status result }
-    ensures cause { result ≢ status
-        → (result ≡ 4) × HasRisen (K.faults sink.old) (K.faults sink.new) }
-    ensures later { K.faults sink.old ≤ K.faults sink.new }
-{
-    match write_all(sink, line) {
-        Ok(()) => status,
-        Err(_) => status::SINK,
-    }
-}
-
-/// The text of a line.
-pub fn end_text(text: &mut Text, writes: u64)
-    requires { text.old ≡ [] }
-    ensures { text.new ≡ end_line writes }
-{
-    text.push(b"end ");
-    text.push_number(writes);
-    text.push(b"\n");
-}
-
-/// The text of a line.
-pub fn mount_text(text: &mut Text, writes: u64, gear: u8)
-    requires { text.old ≡ [] }
-    ensures { text.new ≡ mount_line writes gear }
-{
-    text.push(b"mounted ");
-    text.push_number(writes);
-    text.push(b" gear ");
-    text.push_number(u64::from(gear));
-    text.push(b"\n");
-}
-
-pub fn halt_status(halt: Halt) -> u8
-    ensures { result ≡ status_of halt }
-{
-    match halt {
-        Halt::Two(_) => status::TWO,
-        Halt::Worn { .. } => status::WORN,
-    }
-}
 
 fn counts_text(text: &mut Text, lines: u32, tally: &Tally)
     requires { text.old ≡ [] }

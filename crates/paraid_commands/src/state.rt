@@ -1,19 +1,20 @@
 ghost use Rattle.std.specs.Prelude.{◌≡◌, ◌≤◌, None};
 ghost use Rattle.paraid_base.specs.Told.{HasRisen};
-ghost use Rattle.paraid_serve.specs.Output.{Ends};
+ghost use Rattle.paraid_console.specs.Ending.{EndsWithLine};
 ghost use Rattle.paraid_session.specs.Turn.{Point};
 ghost use Rattle.paraid_commands.specs.Telling.{state_lines};
 
-use crate::lines::{last, mount_text};
 use paraid_base::Answer;
+use paraid_console::ending::{last, mount_text};
+use paraid_console::status;
 use paraid_io::{Sink, write_all};
-use paraid_serve::{Serves, status};
+use paraid_serve::Serves;
 use paraid_trace::{Text, reply};
 
 /// Tells the state of an array that is mounted, and gives the status. It makes no device call.
 pub fn tell_state<K: Sink, A: Serves>(sink: &mut K, array: &A) -> u8
     ensures lines { (p : Point) → A.stands array.now p
-        → Ends (K.written sink.old) (K.written sink.new) (state_lines (A.setup array.now) p) 0 result }
+        → EndsWithLine (K.written sink.old) (K.written sink.new) (state_lines (A.setup array.now) p) 0 result }
     ensures sink { result ≡ 4 → HasRisen (K.faults sink.old) (K.faults sink.new) }
     ensures later { K.faults sink.old ≤ K.faults sink.new }
 {

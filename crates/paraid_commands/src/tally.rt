@@ -1,5 +1,5 @@
 ghost use Rattle.std.specs.Prelude.{◌≡◌, ◌<◌, ◌+◌, ◌*◌, slice_index};
-ghost use Rattle.paraid_commands.specs.Tally.{HasRoom, first_two as first_two_of, nothing, with_answer, with_event};
+ghost use Rattle.paraid_commands.specs.Tally.{HasRoomForLine, first_two as first_two_of, empty_tally, tally_with_answer, tally_with_event};
 
 use paraid_base::{Answer, Block, Event, TickEvent};
 
@@ -26,7 +26,7 @@ fn first_two(block: &Block) -> u64
 impl Tally {
     /// Nothing was counted.
     pub fn new() -> Self
-        ensures { result ≡ nothing }
+        ensures { result ≡ empty_tally }
     {
         Tally {
             reads: 0,
@@ -40,8 +40,8 @@ impl Tally {
 
     /// Counts an event by its kind.
     pub fn count_event(&mut self, event: &Event)
-        requires room { HasRoom self.old }
-        ensures { self.new ≡ with_event self.old event.now }
+        requires room { HasRoomForLine self.old }
+        ensures { self.new ≡ tally_with_event self.old event.now }
     {
         match event {
             Event::Read { .. } => self.reads += 1,
@@ -54,8 +54,8 @@ impl Tally {
 
     /// Counts a block that was read, and a tick that flipped.
     pub fn count_answer(&mut self, answer: &Answer)
-        requires room { HasRoom self.old }
-        ensures { self.new ≡ with_answer self.old answer.now }
+        requires room { HasRoomForLine self.old }
+        ensures { self.new ≡ tally_with_answer self.old answer.now }
     {
         match answer {
             Answer::Value { bytes, .. } => self.sum += first_two(bytes),
@@ -64,11 +64,11 @@ impl Tally {
         }
     }
 
-    ghost use Rattle.paraid_commands.specs.Tally.{with_tick};
+    ghost use Rattle.paraid_commands.specs.Tally.{tally_with_tick};
 
     fn count_tick(&mut self, event: &TickEvent)
-        requires room { HasRoom self.old }
-        ensures { self.new ≡ with_tick self.old event.now }
+        requires room { HasRoomForLine self.old }
+        ensures { self.new ≡ tally_with_tick self.old event.now }
     {
         match event {
             TickEvent::Flipped => self.shifts += 1,

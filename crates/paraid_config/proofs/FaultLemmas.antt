@@ -7,7 +7,7 @@ use Rattle.paraid_record.specs.declared.meta.Mode.TheVariants.{Whole, Access}
 use Rattle.paraid_config.specs.declared.key.Key.TheVariants as key
 use Rattle.paraid_config.specs.declared.key.Key.{Key}
 use Rattle.paraid_config.specs.Keys.{low_of, high_of}
-use Rattle.paraid_config.specs.Config.{first_unknown, document_fault, IsDocumentFault, IsDocumentOf, IsRefusal}
+use Rattle.paraid_config.specs.Config.{first_unknown, document_fault, IsDocumentFault, IsDocumentOf, IsConfigRefusal}
 use Rattle.paraid_config.specs.declared.fault.ConfigFault.{ConfigFault}
 use Rattle.paraid_config.specs.declared.fault.ConfigFault.TheVariants.{Long, NotToml, Unknown, Missing, Kind, Range, Geometry, NoMemory}
 use Rattle.paraid_config.specs.Values.{IsFaultOf, first_fault, is_between, range_fault, number_fault, number_fault_in, number_in, optional_fault_in, integers_of, member_fault, members_fault, list_fault, list_fault_in, mode_fault_in, mode_name, value_at}
@@ -156,12 +156,12 @@ document_fault-of_a_key document =
     (first_of_a_key _ _ (number_fault-of_a_key document key.SpinupMj) tt)))))))))))))))
 
 -- what refuses a document refuses its text
-pub IsRefusal-document : (text : List ℕ) (document : Members) (f : ConfigFault) → IsDocumentOf text document → IsDocumentFault document f → IsRefusal text f
-IsRefusal-document text document Long is h = absurd (not_of_a_key _ Long (document_fault-of_a_key document) refl h)
-IsRefusal-document text document NotToml is h = absurd (not_of_a_key _ NotToml (document_fault-of_a_key document) refl h)
-IsRefusal-document text document (Unknown at) is h = record { document = document; is = is; cause = h }
-IsRefusal-document text document (Missing k) is h = record { document = document; is = is; cause = h }
-IsRefusal-document text document (Kind k) is h = record { document = document; is = is; cause = h }
-IsRefusal-document text document (Range k z) is h = record { document = document; is = is; cause = h }
-IsRefusal-document text document (Geometry g) is h = record { document = document; is = is; cause = h }
-IsRefusal-document text document NoMemory is h = is.short
+pub IsConfigRefusal-document : (text : List ℕ) (document : Members) (f : ConfigFault) → IsDocumentOf text document → IsDocumentFault document f → IsConfigRefusal text f
+IsConfigRefusal-document text document Long is h = absurd (not_of_a_key _ Long (document_fault-of_a_key document) refl h)
+IsConfigRefusal-document text document NotToml is h = absurd (not_of_a_key _ NotToml (document_fault-of_a_key document) refl h)
+IsConfigRefusal-document text document (Unknown at) is h = record { document = document; is = is; cause = h }
+IsConfigRefusal-document text document (Missing k) is h = record { document = document; is = is; cause = h }
+IsConfigRefusal-document text document (Kind k) is h = record { document = document; is = is; cause = h }
+IsConfigRefusal-document text document (Range k z) is h = record { document = document; is = is; cause = h }
+IsConfigRefusal-document text document (Geometry g) is h = record { document = document; is = is; cause = h }
+IsConfigRefusal-document text document NoMemory is h = is.short

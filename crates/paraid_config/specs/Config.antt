@@ -4,7 +4,7 @@ use Rattle.toml.specs.Data.{Members, no_members, member, string}
 use Rattle.toml.specs.Parse.{parse_document}
 use Rattle.paraid_base.specs.declared.geometry.GeoFault.{GeoFault}
 use Rattle.paraid_base.specs.declared.geometry.Geometry.{Geometry as GeometryType}
-use Rattle.paraid_base.specs.Gears.{IsGeoFault, IsGearList, Marks}
+use Rattle.paraid_base.specs.Gears.{IsGeoFault, IsGearList, AreFlagsOf}
 use Rattle.paraid_record.specs.declared.meta.Setup.{Setup}
 use Rattle.paraid_config.specs.declared.key.Key.TheVariants.{Disks, Rows, Gears, Mode, Rate, Service, Up, Down, Windows, Ration, Burst, Period, SpinningMj, ParkedMj, SpinupMj}
 use Rattle.paraid_config.specs.declared.fault.ConfigFault.{ConfigFault}
@@ -64,7 +64,7 @@ pub record IsGeometryOf (document : Members) (g : GeometryType) : Type 0 where
   pub rows_at : IsNumberAt document Rows g.rows
   pub gears_at : IsListAt document Gears gears
   pub listed : IsGearList g.disks gears
-  pub marked : Marks gears (length gears) g.gears
+  pub marked : AreFlagsOf gears (length gears) g.gears
 
 -- the windows of a document, and 0 for each that is not used
 pub record AreWindowsOf (document : Members) (windows : List ℕ) : Type 0 where
@@ -107,8 +107,8 @@ pub record IsTextFault (text : List ℕ) (fault : ConfigFault) : Type 0 where
   pub cause : IsDocumentFault document fault
 
 -- why a text is refused; memory is asked for only where the text is not too long
-abbrev pub IsRefusal : List ℕ → ConfigFault → Type 0
-IsRefusal text Long = 65536 < length text
-IsRefusal text NotToml = (length text ≤ 65536) × (IsUtf8 text → parse_document text ≡ None)
-IsRefusal text NoMemory = length text ≤ 65536
-IsRefusal text fault = IsTextFault text fault
+abbrev pub IsConfigRefusal : List ℕ → ConfigFault → Type 0
+IsConfigRefusal text Long = 65536 < length text
+IsConfigRefusal text NotToml = (length text ≤ 65536) × (IsUtf8 text → parse_document text ≡ None)
+IsConfigRefusal text NoMemory = length text ≤ 65536
+IsConfigRefusal text fault = IsTextFault text fault

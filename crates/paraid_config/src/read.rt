@@ -2,7 +2,7 @@
 
 ghost use Rattle.std.specs.Prelude.{IfOk, IfErr};
 ghost use Rattle.paraid_record.specs.Range.{IsSetupInRange};
-ghost use Rattle.paraid_config.specs.Config.{IsConfigurationOf, IsRefusal};
+ghost use Rattle.paraid_config.specs.Config.{IsConfigurationOf, IsConfigRefusal};
 
 use crate::{ConfigFault, setup_of};
 use paraid_record::Setup;
@@ -18,7 +18,7 @@ const LONGEST: usize = 65536;
 pub fn read_config(alloc: Global, bytes: &[u8]) -> Result<Setup, ConfigFault>
     ensures ok { IfOk result (IsConfigurationOf bytes.now) }
     ensures range { IfOk result IsSetupInRange }
-    ensures err { IfErr result (IsRefusal bytes.now) }
+    ensures err { IfErr result (IsConfigRefusal bytes.now) }
 {
     if bytes.len() > LONGEST {
         return Err(ConfigFault::Long);

@@ -16,15 +16,15 @@ use Rattle.paraid_record.specs.Range.{IsInRange, IsPhaseInRange}
 use Rattle.paraid_record.specs.declared.targets.Target.{Target}
 use Rattle.paraid_record.specs.Targets.{IsTargetInRange}
 use Rattle.paraid_txn.specs.Commit.{gone_out}
-use Rattle.paraid_txn.specs.Losses.{CanWrite, IsLostNow, IsOut, IsTwo, IsTwoBeside, IsWell}
-use Rattle.paraid_txn.specs.Losses.IsOut.{is_absent, is_named, was_named}
+use Rattle.paraid_txn.specs.Losses.{CanWrite, IsLostNow, IsOutOfCommit, AreTwoDown, AreTwoDownBeside, IsWell}
+use Rattle.paraid_txn.specs.Losses.IsOutOfCommit.{is_absent, is_named, was_named}
 use Rattle.paraid_image.specs.Out.{first_absent, named_out, or_else, out_disk}
 use Rattle.paraid_image.specs.Sides.{Batch}
 use Rattle.paraid_image.specs.Spot.{rising_to}
 use Rattle.paraid_image.proofs.OutLemmas.{first_absent_is, named_below}
 use Rattle.paraid_txn.proofs.StoreLemmas.{next_in_range}
 use Rattle.std.proofs.lemmas.List.Elements.{All-nil}
-use Rattle.paraid_core.specs.Stands.{CanServe, IsReady, lost_in, marked}
+use Rattle.paraid_core.specs.CoreInvariant.{CanServe, AreSlotsReady, lost_in, meta_with_lost}
 use Rattle.paraid_core.proofs.ReadyLemmas.{IsLostOnly, ready_lost, ready_same, serve_lost, serve_same, some_is}
 
 pub gear_high : (m : Meta) → IsInRange m → m.gear ≤ m.setup.geometry.disks
@@ -58,7 +58,7 @@ pub handed : {A E : Type 0} (P : E → Type 0) (r : Result A E) (e : E) → IsEr
 handed P (Ok a) e is p = tt
 handed P (Err x) e is p = subst P (sym is) p
 
-pub two_by : (out down : Option ℕ) (old new : ℕ → Slot) (two : Two) → ((x : ℕ) → out ≡ Some x → down ≡ Some x) → IsTwo out old new two → IsTwo down old new two
+pub two_by : (out down : Option ℕ) (old new : ℕ → Slot) (two : Two) → ((x : ℕ) → out ≡ Some x → down ≡ Some x) → AreTwoDown out old new two → AreTwoDown down old new two
 two_by out down old new two to it = record {
   first = elim it.first [ inl is ↦ inl (to two.first is) | inr risen ↦ inr risen ];
   apart = it.apart;
@@ -66,24 +66,24 @@ two_by out down old new two to it = record {
 }
 
 -- the slots after it
-module _ (count : ℕ) (slot new : ℕ → Slot) (last array : ℕ) (named : Option ℕ) (m : Meta) (rows : ℕ) (batch : Batch) (ready : IsReady count slot last array named m rows batch) where
+module _ (count : ℕ) (slot new : ℕ → Slot) (last array : ℕ) (named : Option ℕ) (m : Meta) (rows : ℕ) (batch : Batch) (ready : AreSlotsReady count slot last array named m rows batch) where
   fresh_low : (d u : ℕ) → m.out ≡ Fresh d u → d < m.setup.geometry.disks
   fresh_low d u is = named_below m.setup.geometry m.gear m.out d ready.in_range.out (ap named_out is)
 
   module _ (lost : Option ℕ) (only : IsLostOnly m.setup.geometry.disks (lost_in m lost) slot new)
       (alone : (d x : ℕ) → lost_in m lost ≡ Some d → named_out m.out ≡ Some x → x ≡ d) (known : (d x : ℕ) → lost_in m lost ≡ Some d → named ≡ Some x → x ≡ d)
       (low : (d : ℕ) → lost_in m lost ≡ Some d → d < m.setup.geometry.disks) where
-    by : (o : Option ℕ) → lost_in m lost ≡ o → IsReady count new last array named (marked o m) rows batch
+    by : (o : Option ℕ) → lost_in m lost ≡ o → AreSlotsReady count new last array named (meta_with_lost o m) rows batch
     by None is =
         ready_same count slot new last array named m rows batch ready (λ t r. r.disk)
         (subst (λ (o : Option ℕ). IsLostOnly m.setup.geometry.disks o slot new) is only) (gear_high m ready.in_range) fresh_low
     by (Some d) is =
         ready_lost count slot new last array named m rows batch ready (λ t r. r.disk) (lost_in m lost) only d is (low d is) (λ x k. alone d x is k) (λ x k. known d x is k) (gear_high m ready.in_range)
 
-    pub ready_after : IsReady count new last array named (marked (lost_in m lost) m) rows batch
+    pub ready_after : AreSlotsReady count new last array named (meta_with_lost (lost_in m lost) m) rows batch
     ready_after = by (lost_in m lost) refl
 
-    serve_by : CanServe slot named m → (o : Option ℕ) → lost_in m lost ≡ o → CanServe new named (marked o m)
+    serve_by : CanServe slot named m → (o : Option ℕ) → lost_in m lost ≡ o → CanServe new named (meta_with_lost o m)
     serve_by serve None is =
         serve_same count slot new last array named m rows batch ready (λ t r. r.disk)
         (subst (λ (o : Option ℕ). IsLostOnly m.setup.geometry.disks o slot new) is only) (gear_high m ready.in_range) serve (rise_high m.setup.geometry m.gear m.phase ready.in_range.phase)
@@ -91,7 +91,7 @@ module _ (count : ℕ) (slot new : ℕ → Slot) (last array : ℕ) (named : Opt
         serve_lost count slot new last array named m rows batch ready (λ t r. r.disk) (lost_in m lost) only d is (low d is) (λ x k. alone d x is k) (λ x k. known d x is k) (gear_high m ready.in_range)
         serve (rise_high m.setup.geometry m.gear m.phase ready.in_range.phase)
 
-    pub serve_after : CanServe slot named m → CanServe new named (marked (lost_in m lost) m)
+    pub serve_after : CanServe slot named m → CanServe new named (meta_with_lost (lost_in m lost) m)
     serve_after serve = serve_by serve (lost_in m lost) refl
 
 -- the disk that was lost is marked where it is one of the array
@@ -115,14 +115,14 @@ lost_in_was m (Some e) d is = elim (cases_Bool (nat_lt e m.setup.geometry.disks)
 
 -- the same facts under equal names
 pub ready_moved : (count count_now : ℕ) (slot : ℕ → Slot) (last last_now array array_now : ℕ) (named named_now : Option ℕ) (m m_now : Meta) (rows : ℕ) (batch : Batch)
-    → count_now ≡ count → last_now ≡ last → array_now ≡ array → named_now ≡ named → m_now ≡ m → IsReady count slot last array named m rows batch
-    → IsReady count_now slot last_now array_now named_now m_now rows batch
+    → count_now ≡ count → last_now ≡ last → array_now ≡ array → named_now ≡ named → m_now ≡ m → AreSlotsReady count slot last array named m rows batch
+    → AreSlotsReady count_now slot last_now array_now named_now m_now rows batch
 ready_moved count count_now slot last last_now array array_now named named_now m m_now rows batch ec el ea en em ready =
-    subst (λ (z : ℕ). IsReady z slot last_now array_now named_now m_now rows batch) (sym ec)
-    (subst (λ (z : ℕ). IsReady count slot z array_now named_now m_now rows batch) (sym el)
-    (subst (λ (z : ℕ). IsReady count slot last z named_now m_now rows batch) (sym ea)
-    (subst (λ (z : Option ℕ). IsReady count slot last array z m_now rows batch) (sym en)
-    (subst (λ (z : Meta). IsReady count slot last array named z rows batch) (sym em) ready))))
+    subst (λ (z : ℕ). AreSlotsReady z slot last_now array_now named_now m_now rows batch) (sym ec)
+    (subst (λ (z : ℕ). AreSlotsReady count slot z array_now named_now m_now rows batch) (sym el)
+    (subst (λ (z : ℕ). AreSlotsReady count slot last z named_now m_now rows batch) (sym ea)
+    (subst (λ (z : Option ℕ). AreSlotsReady count slot last array z m_now rows batch) (sym en)
+    (subst (λ (z : Meta). AreSlotsReady count slot last array named z rows batch) (sym em) ready))))
 
 pub lost_in_there : (m : Meta) (lost : Option ℕ) (d : ℕ) → d < m.setup.geometry.disks → lost ≡ Some d → lost_in m lost ≡ Some d
 lost_in_there m None d low is = is
@@ -141,8 +141,8 @@ module _ (m : Meta) (lost : Option ℕ) (slot new : ℕ → Slot) (well : (d : �
   }
 
 -- with nothing staged, under the next epoch
-pub ready_next : (count : ℕ) (slot : ℕ → Slot) (last array : ℕ) (named : Option ℕ) (m : Meta) (rows : ℕ) (batch : Batch) → last < 2 ^ 64 - 1 → IsReady count slot last array named m rows batch
-    → IsReady count slot (last + 1) array (named_out m.out) (record m { epoch = last + 1 }) rows []
+pub ready_next : (count : ℕ) (slot : ℕ → Slot) (last array : ℕ) (named : Option ℕ) (m : Meta) (rows : ℕ) (batch : Batch) → last < 2 ^ 64 - 1 → AreSlotsReady count slot last array named m rows batch
+    → AreSlotsReady count slot (last + 1) array (named_out m.out) (record m { epoch = last + 1 }) rows []
 ready_next count slot last array named m rows batch low ready = record {
   in_range = next_in_range m last ready.in_range low;
   array_is = ready.array_is;
@@ -167,22 +167,22 @@ module _ (named : Option ℕ) (power : ℕ → Power) (array : ℕ) (m : Meta) (
   down_known (Some d) e was = was
   down_known None e was = let z : None ≡ Some e = was in cc
 
-  out_down : (e : ℕ) → IsOut power array named (named_out m.out) e → or_else named (named_out m.out) ≡ Some e
+  out_down : (e : ℕ) → IsOutOfCommit power array named (named_out m.out) e → or_else named (named_out m.out) ≡ Some e
   out_down e (is_absent low gone) = down_named named m one e (absent e (subst (λ (n : ℕ). e < n) (sym is) low) (ap is_present gone))
   out_down e (was_named was) = down_known named e was
   out_down e (is_named now) = down_named named m one e now
 
-  pub two_down : (old new : ℕ → Slot) (two : Two) → IsTwoBeside (IsOut power array named (named_out m.out)) old new two → IsTwo (or_else named (named_out m.out)) old new two
+  pub two_down : (old new : ℕ → Slot) (two : Two) → AreTwoDownBeside (IsOutOfCommit power array named (named_out m.out)) old new two → AreTwoDown (or_else named (named_out m.out)) old new two
   two_down old new two it = record {
     first = elim it.first [ inl out ↦ inl (out_down two.first out) | inr risen ↦ inr risen ];
     apart = it.apart;
     second = it.second;
   }
 
-pub marked_setup : (o : Option ℕ) (m : Meta) → (marked o m).setup ≡ m.setup
+pub marked_setup : (o : Option ℕ) (m : Meta) → (meta_with_lost o m).setup ≡ m.setup
 marked_setup None m = refl
 marked_setup (Some d) m = refl
 
-pub marked_writes : (o : Option ℕ) (m : Meta) → (marked o m).writes ≡ m.writes
+pub marked_writes : (o : Option ℕ) (m : Meta) → (meta_with_lost o m).writes ≡ m.writes
 marked_writes None m = refl
 marked_writes (Some d) m = refl

@@ -1,12 +1,13 @@
 -- What a commit leaves of what a core stands for.
+use Rattle.paraid_image.specs.Mark.{meta_after_loss}
 use Rattle.std.specs.Prelude.{◌≡◌, ◌≢◌, ℕ, ◌+◌, ◌*◌, ◌<◌, ◌≤◌, ◌⊎◌, ◌&&◌, nat_lt, Bool, true, false, List, [], ◌∷◌, ◌++◌, drop, Option, Some, None, length}
 use Rattle.std.proofs.Common.{refl, sym, ◌∙◌, ap, subst, arith, inl, inr}
 use Rattle.std.proofs.lemmas.Bool.{cases_Bool}
 use Rattle.std.proofs.lemmas.Bool.Decides.{nat_tests}
 use Rattle.paraid_base.specs.declared.state.Out.{Out}
 use Rattle.paraid_base.specs.declared.state.Out.TheVariants.{Fresh, Gone, No}
-use Rattle.paraid_base.specs.declared.state.Phase.{Phase}
 use Rattle.paraid_base.specs.History.{History}
+use Rattle.paraid_base.proofs.StatesLemmas.{rising_to-beside}
 use Rattle.paraid_base.specs.Regions.{map_count, map_place_of}
 use Rattle.paraid_dirty.specs.Table.{is_dirty}
 use Rattle.paraid_rack.specs.declared.call.Call.{Call}
@@ -14,34 +15,34 @@ use Rattle.paraid_rack.specs.declared.call.Power.{Power}
 use Rattle.paraid_rack.specs.declared.call.Power.TheVariants.{Absent}
 use Rattle.paraid_rack.specs.Disks.{Disks, IsImage, is_present, step}
 use Rattle.paraid_rack.specs.Slots.{Agrees, Slot}
-use Rattle.paraid_rack.specs.Told.{Ran, Runs, Through}
+use Rattle.paraid_rack.specs.Told.{Ran, CrashTriple, Through}
 use Rattle.paraid_rack.specs.Trail.{Trail, now, run}
 use Rattle.paraid_rack.proofs.TrailsLemmas.{now-extend}
 use Rattle.paraid_record.specs.declared.meta.Meta.{Meta}
 use Rattle.paraid_record.specs.Range.{IsInRange}
 use Rattle.paraid_image.specs.Rest.{IsAtRest, closed_over}
-use Rattle.paraid_txn.specs.Commit.{Commits, IsCommitted, IsEitherMissing, IsNext, IsOldOrNew, IsOneMissing, IsWholeOrAbsent, StandsFor, gone_out}
+use Rattle.paraid_txn.specs.Commit.{EndsCommitted, IsCommitted, IsEitherMissing, IsNext, IsOldOrNew, IsOneMissing, IsWholeOrAbsent, ImageStandsFor, gone_out}
 use Rattle.paraid_image.specs.Content.{view_by}
-use Rattle.paraid_image.specs.HeldAt.{IsSound}
-use Rattle.paraid_image.specs.Holds.{Holds}
-use Rattle.paraid_image.specs.Out.{first_absent, is_out, named_out, or_else, out_disk}
-use Rattle.paraid_image.specs.Sides.{Batch, Said, has_place}
+use Rattle.paraid_image.specs.HeldAt.{IsSoundFrom}
+use Rattle.paraid_image.specs.FirstWrites.{HoldsFirstWrites}
+use Rattle.paraid_image.specs.Out.{is_out, named_out, or_else, out_disk}
+use Rattle.paraid_image.specs.Sides.{Batch, LogState, has_place}
 use Rattle.paraid_image.specs.Sound.{ContentOk}
 use Rattle.paraid_image.specs.Spot.{map_bit, map_disk}
 use Rattle.paraid_image.specs.Standing.{Contents, contents}
-use Rattle.paraid_image.proofs.OutLemmas.{first_absent_is, missing_is_out, named_below}
+use Rattle.paraid_image.proofs.OutLemmas.{missing_is_out, named_below}
 use Rattle.paraid_image.proofs.StandingLemmas.{Stands-same}
 use Rattle.paraid_image.proofs.ViewLemmas.{dirty_without, map_bit_same, map_disk_other}
 use Rattle.paraid_txn.proofs.HeldCommitLemmas.{held_commits, stands_sound}
-use Rattle.paraid_moves.specs.Copying.{Copies}
-use Rattle.paraid_moves.proofs.CopyingLemmas.{copying_from_rest}
+use Rattle.paraid_moves.specs.Copying.{HoldsWithCopies}
+use Rattle.paraid_moves.proofs.CopyCommitLemmas.{copying_from_rest}
 use Rattle.paraid_moves.proofs.FailLemmas.{marks_gone}
 use Rattle.paraid_moves.proofs.MoveLemmas.{fits_later}
 use Rattle.paraid_moves.proofs.NextLemmas.{holds_now, next_gone, next_same, rest_now}
-use Rattle.paraid_plan.specs.Marks.{with_lost}
-use Rattle.paraid_core.specs.Stands.{HeldBeside, Keeps, marked}
+use Rattle.paraid_core.specs.Fills.{KeepsFilled}
+use Rattle.paraid_core.specs.CoreInvariant.{AreCopiesSynced, IsHeldWithOneMissing, HoldsBetweenCalls, meta_with_lost}
 use Rattle.paraid_core.proofs.AfterLemmas.{down_named}
-use Rattle.paraid_core.proofs.LoseLemmas.{phases_same}
+pub use Rattle.paraid_core.proofs.LostDiskLemmas.{out_all}
 use Rattle.paraid_core.proofs.ReadsLemmas.{knows_named, through_last}
 use Rattle.paraid_core.proofs.ReadyLemmas.{IsLostOnly, some_is}
 
@@ -74,7 +75,7 @@ for_each_before named Q old new any is each t tells =
     }
 
 -- two promises over the same calls
-both_of : (Q R : Disks → List Call → Type 0) (old new : Option Trail) → Ran old new Q → Ran old new R → Ran old new (λ s cs. Q s cs × R s cs)
+pub both_of : (Q R : Disks → List Call → Type 0) (old new : Option Trail) → Ran old new Q → Ran old new R → Ran old new (λ s cs. Q s cs × R s cs)
 both_of Q R old new one two t tells =
     let r = one t tells in
     record {
@@ -106,29 +107,18 @@ pub out_of_named : (o : Option ℕ) → o ≡ named_out (out_of o)
 out_of_named None = refl
 out_of_named (Some d) = refl
 
--- where each absent disk is named, the out disk is the one that is named
-pub out_all : (power : ℕ → Power) (m : Meta) → ((d : ℕ) → d < m.setup.geometry.disks → is_present (power d) ≡ false → named_out m.out ≡ Some d) → out_disk power m ≡ named_out m.out
-out_all power m absent = by (named_out m.out) (first_absent power m.setup.geometry.disks) refl refl
-  where
-    by : (o f : Option ℕ) → named_out m.out ≡ o → first_absent power m.setup.geometry.disks ≡ f → or_else o f ≡ o
-    by (Some d) f is at = refl
-    by None None is at = refl
-    by None (Some u) is at =
-        let k = first_absent_is power m.setup.geometry.disks u at in
-        let z : None ≡ Some u = sym is ∙ absent u k.0 k.1 in cc
-
 pub map_disk_low : (o : Option ℕ) → map_disk o < 2
 map_disk_low o = elim (cases_Bool (is_out o 0)) [ inl here ↦ rw here (omega arith) | inr not ↦ rw not (omega arith) ]
 
-marked_epoch : (lost : Option ℕ) (m : Meta) → (marked lost m).epoch ≡ m.epoch
+marked_epoch : (lost : Option ℕ) (m : Meta) → (meta_with_lost lost m).epoch ≡ m.epoch
 marked_epoch None m = refl
 marked_epoch (Some d) m = refl
 
-marked_writes : (lost : Option ℕ) (m : Meta) → (marked lost m).writes ≡ m.writes
+marked_writes : (lost : Option ℕ) (m : Meta) → (meta_with_lost lost m).writes ≡ m.writes
 marked_writes None m = refl
 marked_writes (Some d) m = refl
 
-marked_setup : (lost : Option ℕ) (m : Meta) → (marked lost m).setup ≡ m.setup
+marked_setup : (lost : Option ℕ) (m : Meta) → (meta_with_lost lost m).setup ≡ m.setup
 marked_setup None m = refl
 marked_setup (Some d) m = refl
 
@@ -137,20 +127,20 @@ gone_is_named No x is = is
 gone_is_named (Gone d) x is = is
 gone_is_named (Fresh d u) x is = let z : None ≡ Some x = is in cc
 
-module _ (slots : ℕ) (named : Option ℕ) (m : Meta) (table : List (List Bool)) (batch : Batch) (h : History) (lo last : ℕ) (epoch_is : m.epoch ≡ last) (in_range : IsInRange m)
+module _ (slots : ℕ) (named : Option ℕ) (m : Meta) (table : List (List Bool)) (batch : Batch) (copied : List Bool) (copies_synced : AreCopiesSynced m.setup.geometry.disks copied) (h : History) (lo last : ℕ) (epoch_is : m.epoch ≡ last) (in_range : IsInRange m)
     (one : (d e : ℕ) → named ≡ Some d → named_out m.out ≡ Some e → d ≡ e) where
   abbrev after : Meta
   after = record m { epoch = last + 1 }
 
   abbrev P : Disks → Type 0
-  P = HeldBeside slots m.setup.geometry.disks (or_else named (named_out m.out)) h lo
+  P = IsHeldWithOneMissing slots m.setup.geometry.disks (or_else named (named_out m.out)) h lo
 
-  module _ (s : Disks) (k : Keeps slots named m table batch h lo s) where
+  module _ (s : Disks) (k : HoldsBetweenCalls slots named m table batch copied h lo s) where
     shape : m.setup.geometry.disks ≡ k.base.setup.geometry.disks
     shape = ap (λ (z : _). z.geometry.disks) k.next.setup
 
     pub rest : IsAtRest s k.base
-    rest = rest_now slots k.base k.held h lo s k.copies k.dry
+    rest = rest_now slots k.base k.held h lo s k.copies (λ x p here. k.synced x p here (copies_synced x))
 
     pub next : IsNext s k.base after
     next = subst (λ (z : ℕ). IsNext s k.base (record m { epoch = z + 1 })) epoch_is k.next
@@ -161,7 +151,7 @@ module _ (slots : ℕ) (named : Option ℕ) (m : Meta) (table : List (List Bool)
         (λ d u fresh. named_below m.setup.geometry m.gear m.out d in_range.out (ap named_out fresh.is))
         (subst (λ (n : ℕ). ContentOk slots s.power s.size (view_by m s.power (contents s batch)) h n) (sym k.writes) k.staged)
 
-    holds_then : Holds slots s after batch h lo
+    holds_then : HoldsFirstWrites slots s after batch h lo
     holds_then =
         let a = k.copies.low in let b = k.copies.high in let c = k.writes in
         record { low = omega arith; high = omega arith; content = staged_then }
@@ -186,7 +176,7 @@ module _ (slots : ℕ) (named : Option ℕ) (m : Meta) (table : List (List Bool)
         }) s cs th
 
   pub commit_moments : (old new : Option Trail) → ((before : Meta) → named ≡ named_out before.out → IsWholeOrAbsent old new before after batch)
-      → Ran old new (Runs P (Keeps slots named m table batch h lo) P)
+      → Ran old new (CrashTriple P (HoldsBetweenCalls slots named m table batch copied h lo) P)
   commit_moments old new each t tells =
       let r = for_each_before named (AtEach after batch) old new (record m { out = out_of named }) (out_of_named named) each t tells in
       record {
@@ -202,17 +192,17 @@ module _ (slots : ℕ) (named : Option ℕ) (m : Meta) (table : List (List Bool)
       }
 
   -- the end, where one disk was lost, or none
-  module _ (stays : (x : ℕ) → named ≡ Some x → named_out m.out ≡ Some x) (s t : Disks) (k : Keeps slots named m table batch h lo s) (done : IsCommitted s t k.base after batch)
+  module _ (stays : (x : ℕ) → named ≡ Some x → named_out m.out ≡ Some x) (s t : Disks) (k : HoldsBetweenCalls slots named m table batch copied h lo s) (done : IsCommitted s t k.base after batch)
       (lost : Option ℕ) (low : (d : ℕ) → lost ≡ Some d → d < m.setup.geometry.disks) (gone : (d : ℕ) → lost ≡ Some d → t.power d ≡ Absent)
       (alone : (d x : ℕ) → lost ≡ Some d → named_out m.out ≡ Some x → x ≡ d)
       (power : (x : ℕ) → x < m.setup.geometry.disks → lost ≢ Some x → t.power x ≡ s.power x) (size : (x : ℕ) → x < m.setup.geometry.disks → lost ≢ Some x → t.size x ≡ s.size x)
       (absent : (d : ℕ) → d < m.setup.geometry.disks → is_present (s.power d) ≡ false → named_out m.out ≡ Some d)
-      (absent_then : (d : ℕ) → d < m.setup.geometry.disks → is_present (t.power d) ≡ false → named_out (marked lost m).out ≡ Some d) where
-    named_by_lost : (o : Option ℕ) → lost ≡ o → (x : ℕ) → named_out m.out ≡ Some x → named_out (marked o m).out ≡ Some x
+      (absent_then : (d : ℕ) → d < m.setup.geometry.disks → is_present (t.power d) ≡ false → named_out (meta_with_lost lost m).out ≡ Some d) where
+    named_by_lost : (o : Option ℕ) → lost ≡ o → (x : ℕ) → named_out m.out ≡ Some x → named_out (meta_with_lost o m).out ≡ Some x
     named_by_lost None is x k = k
     named_by_lost (Some d) is x k = ap Some (sym (alone d x is k))
 
-    down_then : (d : ℕ) → IsEitherMissing t.power k.base after d → named_out (marked lost m).out ≡ Some d
+    down_then : (d : ℕ) → IsEitherMissing t.power k.base after d → named_out (meta_with_lost lost m).out ≡ Some d
     down_then d (inl missing) = elim missing.is [
       | inl g ↦ absent_then d (subst (λ (z : ℕ). d < z) (sym (shape s k)) missing.disk) g
       | inr is ↦ named_by_lost lost refl d (stays d (sym k.named_by ∙ is))
@@ -231,17 +221,17 @@ module _ (slots : ℕ) (named : Option ℕ) (m : Meta) (table : List (List Bool)
     image : IsImage t i
     image = record { power = λ d. refl; size = λ d. refl; block = λ d p not. refl; loose = λ d p. refl }
 
-    stands : StandsFor s i after batch
+    stands : ImageStandsFor s i after batch
     stands = done.images.whole i image one_missing
 
-    sound : IsSound slots i h lo
+    sound : IsSoundFrom slots i h lo
     sound = stands_sound slots s i after batch h lo (holds_then s k) stands
 
     said_is : sound.sound.said ≡ closed_over after
     said_is = let c = copying_from_rest t after rest_then i image in (Stands-same i sound.sound.disk c.disk sound.sound.said (closed_over after) sound.sound.log.stands c.log.stands).1
 
     writes_are : sound.k ≡ m.writes
-    writes_are = sym sound.sound.log.writes ∙ ap (λ (z : Said). z.meta.writes) said_is
+    writes_are = sym sound.sound.log.writes ∙ ap (λ (z : LogState). z.meta.writes) said_is
 
     same_contents : contents i [] ≡ contents t []
     unfolding contents
@@ -251,26 +241,25 @@ module _ (slots : ℕ) (named : Option ℕ) (m : Meta) (table : List (List Bool)
     content =
         subst (λ (f : Contents). ContentOk slots t.power t.size (view_by after t.power f) h m.writes) same_contents
         (subst (λ (n : ℕ). ContentOk slots i.power i.size (view_by after i.power (contents i [])) h n) writes_are
-        (subst (λ (z : Said). ContentOk slots i.power i.size (view_by z.meta i.power (contents i z.batch)) h sound.k) said_is sound.sound.content))
+        (subst (λ (z : LogState). ContentOk slots i.power i.size (view_by z.meta i.power (contents i z.batch)) h sound.k) said_is sound.sound.content))
 
-    copies_then : Copies slots after (contents t []) h (length h) t
+    copies_then : HoldsWithCopies slots after (contents t []) h (length h) t
     copies_then =
         let w = k.writes in
         record { copying = copying_from_rest t after rest_then; low = omega arith; high = omega arith; content = content }
 
-    next_then : (o : Option ℕ) → lost ≡ o → IsNext t after (record (marked o after) { epoch = last + 1 + 1 })
+    next_then : (o : Option ℕ) → lost ≡ o → IsNext t after (record (meta_with_lost o after) { epoch = last + 1 + 1 })
     next_then None is = next_same t after (record after { epoch = last + 1 + 1 }) refl refl rest_then refl
-    next_then (Some d) is = next_gone t after (record (with_lost after d) { epoch = last + 1 + 1 }) refl refl rest_then d refl (λ e n. alone d e is n)
+    next_then (Some d) is = next_gone t after (record (meta_after_loss after d) { epoch = last + 1 + 1 }) refl refl rest_then d refl (λ e n. alone d e is n)
 
     out_then : (d : ℕ) → lost ≡ Some d → out_disk t.power after ≡ Some d
     out_then d is =
         missing_is_out t.power after d rest_then.log.stands.says.log.meta.in_range rest_then.log.single (record { disk = low d is; is = inl (ap is_present (gone d is)) }) (ap is_present (gone d is))
 
-    staged_after : (o : Option ℕ) → lost ≡ o → ContentOk slots t.power t.size (view_by (marked o after) t.power (contents t [])) h m.writes
+    staged_after : (o : Option ℕ) → lost ≡ o → ContentOk slots t.power t.size (view_by (meta_with_lost o after) t.power (contents t [])) h m.writes
     staged_after None is = content
     staged_after (Some d) is =
-        subst (λ (p : Phase). ContentOk slots t.power t.size (view_by (record after { out = Gone d; phase = p; fill = 0 }) t.power (contents t [])) h m.writes) (phases_same m.phase)
-        (marks_gone slots t.power t.size h m.writes after (contents t []) d m.spins (out_then d is) (λ e apart. refl) content)
+        marks_gone slots t.power t.size h m.writes after (contents t []) d m.spins (out_then d is) (λ e apart. refl) content
 
     -- past the log all is as it was staged
     place_then : (x q : ℕ) → x < m.setup.geometry.disks → lost ≢ Some x → has_place t x q ≡ has_place s x q
@@ -289,7 +278,7 @@ module _ (slots : ℕ) (named : Option ℕ) (m : Meta) (table : List (List Bool)
     ]
 
     contents_then : (x q : ℕ) → x < m.setup.geometry.disks → lost ≢ Some x → gone_out m.out ≢ Some x → contents t [] x q ≡ contents s batch x q
-    contents_then = contents_by stands.said.batch (ap (λ (z : Said). z.batch) (Stands_batch)) stands.blocks
+    contents_then = contents_by stands.said.batch (ap (λ (z : LogState). z.batch) (Stands_batch)) stands.blocks
       where
         Stands_batch : stands.said ≡ closed_over after
         Stands_batch = let c = copying_from_rest t after rest_then i image in (Stands-same i stands.disk c.disk stands.said (closed_over after) stands.log.stands c.log.stands).1
@@ -318,7 +307,7 @@ module _ (slots : ℕ) (named : Option ℕ) (m : Meta) (table : List (List Bool)
     was_bit r d l = k.dirty r d l ∙ ap (λ (z : Option ℕ). map_bit m.setup.geometry (f (map_disk z)) r d) out_was
 
     bit_by : (p : Option ℕ) → lost ≡ p → (r d : ℕ) → r < 512 * map_count m.setup.geometry
-        → is_dirty table r d ≡ map_bit m.setup.geometry (contents t [] (map_disk (named_out (marked p after).out))) r d
+        → is_dirty table r d ≡ map_bit m.setup.geometry (contents t [] (map_disk (named_out (meta_with_lost p after).out))) r d
     bit_by None is r d l =
         let x : ℕ = map_disk o in
         let low_x : x < m.setup.geometry.disks = (let two = map_disk_low o in let three = geometry_low in omega arith) in
@@ -335,22 +324,22 @@ module _ (slots : ℕ) (named : Option ℕ) (m : Meta) (table : List (List Bool)
         (λ j lj none. k.staged.kept.map.mirrored j lj (λ z. let y : None ≡ Some 0 = sym none ∙ sym out_was ∙ z in cc) (λ z. let y : None ≡ Some 1 = sym none ∙ sym out_was ∙ z in cc)) r d l)
         ∙ map_bit_same m.setup.geometry (f x) (contents t [] x) r d (sym (contents_then x (map_place_of m.setup.geometry r) low_x not_lost not_gone))
 
-    dirty_by : (p : Option ℕ) → lost ≡ p → (r d : ℕ) → r < 512 * map_count m.setup.geometry → is_dirty table r d ≡ (view_by (marked p after) t.power (contents t [])).dirty r d
+    dirty_by : (p : Option ℕ) → lost ≡ p → (r d : ℕ) → r < 512 * map_count m.setup.geometry → is_dirty table r d ≡ (view_by (meta_with_lost p after) t.power (contents t [])).dirty r d
     dirty_by None is r d l =
         bit_by None is r d l ∙ ap (λ (z : Option ℕ). map_bit m.setup.geometry (contents t [] (map_disk z)) r d)
-        (sym (out_all t.power after (λ e le g. subst (λ (p : Option ℕ). named_out (marked p m).out ≡ Some e) is (absent_then e le g))))
+        (sym (out_all t.power after (λ e le g. subst (λ (p : Option ℕ). named_out (meta_with_lost p m).out ≡ Some e) is (absent_then e le g))))
     dirty_by (Some e) is r d l = bit_by (Some e) is r d l
 
-    next_keeps : (p : Option ℕ) → lost ≡ p → IsNext t after (record (marked p after) { epoch = (marked p after).epoch + 1 })
+    next_keeps : (p : Option ℕ) → lost ≡ p → IsNext t after (record (meta_with_lost p after) { epoch = (meta_with_lost p after).epoch + 1 })
     next_keeps None is = next_then None is
     next_keeps (Some d) is = next_then (Some d) is
 
-    keeps_by : (p : Option ℕ) → lost ≡ p → Keeps slots (named_out m.out) (marked p after) table [] h (length h) t
+    keeps_by : (p : Option ℕ) → lost ≡ p → HoldsBetweenCalls slots (named_out m.out) (meta_with_lost p after) table [] copied h (length h) t
     keeps_by None is = record {
       base = after;
       held = contents t [];
       copies = copies_then;
-      dry = done.dry;
+      synced = λ x p here is. done.synced x p here;
       named_by = refl;
       epoch = refl;
       next = next_keeps None is;
@@ -362,28 +351,51 @@ module _ (slots : ℕ) (named : Option ℕ) (m : Meta) (table : List (List Bool)
       base = after;
       held = contents t [];
       copies = copies_then;
-      dry = done.dry;
+      synced = λ x p here is. done.synced x p here;
       named_by = refl;
       epoch = refl;
       next = next_keeps (Some d) is;
       writes = k.writes;
-      staged = subst (λ (n : ℕ). ContentOk slots t.power t.size (view_by (with_lost after d) t.power (contents t [])) h n) k.writes (staged_after (Some d) is);
+      staged = subst (λ (n : ℕ). ContentOk slots t.power t.size (view_by (meta_after_loss after d) t.power (contents t [])) h n) k.writes (staged_after (Some d) is);
       dirty = dirty_by (Some d) is;
     }
 
-    pub keeps_then : Keeps slots (named_out m.out) (marked lost after) table [] h (length h) t
+    pub keeps_then : HoldsBetweenCalls slots (named_out m.out) (meta_with_lost lost after) table [] copied h (length h) t
     keeps_then = keeps_by lost refl
+
+    filled_by : (p : Option ℕ) → lost ≡ p → KeepsFilled slots (named_out m.out) (meta_with_lost p after) table copied h (length h) (meta_with_lost p after).fill t
+    unfolding keeps_by
+    filled_by None is = record { keeps = keeps_by None is; shift = record { gear = refl; rises = refl; fresh = λ d u fresh. ap named_out fresh; phase = λ whole. refl; fill = λ whole. refl }; filled = λ x from l. absurd (omega arith) }
+    filled_by (Some d) is = record {
+      keeps = keeps_by (Some d) is;
+      shift = record {
+        gear = refl;
+        rises = sym (rising_to-beside m.phase);
+        fresh = λ x u fresh. ap Some (sym (alone d x is (ap named_out fresh)));
+        phase = λ whole. let z : Gone d ≡ No = whole in cc;
+        fill = λ whole. let z : Gone d ≡ No = whole in cc;
+      };
+      filled = λ x from l. absurd (omega arith);
+    }
+
+    -- with nothing staged over it
+    pub filled_then : KeepsFilled slots (named_out m.out) (meta_with_lost lost after) table copied h (length h) (meta_with_lost lost after).fill t
+    filled_then = filled_by lost refl
 
   -- over the calls
   module _ (stays : (x : ℕ) → named ≡ Some x → named_out m.out ≡ Some x) (old new : Option Trail) (slot later_slot : ℕ → Slot) (before : (s : Trail) → old ≡ Some s → Agrees (now s) slot)
       (later : (s : Trail) → new ≡ Some s → Agrees (now s) later_slot) (lost : Option ℕ) (low : (d : ℕ) → lost ≡ Some d → d < m.setup.geometry.disks)
       (only : IsLostOnly m.setup.geometry.disks lost slot later_slot) (alone : (d x : ℕ) → lost ≡ Some d → named_out m.out ≡ Some x → x ≡ d)
       (absent : (d : ℕ) → d < m.setup.geometry.disks → is_present (slot d).power ≡ false → named_out m.out ≡ Some d)
-      (absent_then : (d : ℕ) → d < m.setup.geometry.disks → is_present (later_slot d).power ≡ false → named_out (marked lost m).out ≡ Some d) where
-    pub commit_stands : (slots_then : ℕ) (named_then : Option ℕ) (m_then : Meta) (batch_then : Batch) → slots_then ≡ slots → named_then ≡ named_out m.out → m_then ≡ marked lost after → batch_then ≡ []
-        → ((before : Meta) → named ≡ named_out before.out → IsWholeOrAbsent old new before after batch) → ((before : Meta) → named ≡ named_out before.out → Commits old new before after batch)
-        → Ran old new (Runs P (Keeps slots named m table batch h lo) (Keeps slots_then named_then m_then table batch_then h (length h)))
-    commit_stands slots_then named_then m_then batch_then es en em eb each last t tells =
+      (absent_then : (d : ℕ) → d < m.setup.geometry.disks → is_present (later_slot d).power ≡ false → named_out (meta_with_lost lost m).out ≡ Some d) where
+    commit_runs : (Q : Disks → Type 0)
+        → ((s t : Disks) (k : HoldsBetweenCalls slots named m table batch copied h lo s) → IsCommitted s t k.base after batch → ((d : ℕ) → lost ≡ Some d → t.power d ≡ Absent)
+        → ((x : ℕ) → x < m.setup.geometry.disks → lost ≢ Some x → t.power x ≡ s.power x) → ((x : ℕ) → x < m.setup.geometry.disks → lost ≢ Some x → t.size x ≡ s.size x)
+        → ((d : ℕ) → d < m.setup.geometry.disks → is_present (s.power d) ≡ false → named_out m.out ≡ Some d)
+        → ((d : ℕ) → d < m.setup.geometry.disks → is_present (t.power d) ≡ false → named_out (meta_with_lost lost m).out ≡ Some d) → Q t)
+        → ((before : Meta) → named ≡ named_out before.out → IsWholeOrAbsent old new before after batch) → ((before : Meta) → named ≡ named_out before.out → EndsCommitted old new before after batch)
+        → Ran old new (CrashTriple P (HoldsBetweenCalls slots named m table batch copied h lo) Q)
+    commit_runs Q go each last t tells =
         let any : Meta = record m { out = out_of named } in
         let r = both_of (λ s cs. (z : Meta) → named ≡ named_out z.out → AtEach after batch z s cs) (λ s cs. (z : Meta) → named ≡ named_out z.out → AtLast after batch z s cs) old new
         (for_each_before named (AtEach after batch) old new any (out_of_named named) each) (for_each_before named (AtLast after batch) old new any (out_of_named named) last) t tells in
@@ -398,16 +410,34 @@ module _ (slots : ℕ) (named : Option ℕ) (m : Meta) (table : List (List Bool)
           holds = record {
             goes = λ k.
                 let at_rest = rest (now r.from) k in
-                let after_it = next (now r.from) k in
-                let kept = keeps_then stays (now r.from) (run (now r.from) r.calls) k (r.holds.1 k.base (sym k.named_by) at_rest after_it) lost low
-                (λ d is. b.power d ∙ only.gone d is) alone
-                (λ x lx not. b.power x ∙ only.power x lx not ∙ sym (a.power x)) (λ x lx not. b.size x ∙ only.size x lx not ∙ sym (a.size x))
-                (λ d ld g. absent d ld (ap is_present (sym (a.power d)) ∙ g)) (λ d ld g. absent_then d ld (ap is_present (sym (b.power d)) ∙ g)) in (
+                let after_it = next (now r.from) k in (
                   commit_through (now r.from) k r.calls (r.holds.0 k.base (sym k.named_by) at_rest after_it),
-                  subst (λ (z : ℕ). Keeps z named_then m_then table batch_then h (length h) (run (now r.from) r.calls)) (sym es)
-                      (subst (λ (z : Option ℕ). Keeps slots z m_then table batch_then h (length h) (run (now r.from) r.calls)) (sym en)
-                      (subst (λ (z : Meta). Keeps slots (named_out m.out) z table batch_then h (length h) (run (now r.from) r.calls)) (sym em)
-                      (subst (λ (z : Batch). Keeps slots (named_out m.out) (marked lost after) table z h (length h) (run (now r.from) r.calls)) (sym eb) kept))),
+                  go (now r.from) (run (now r.from) r.calls) k (r.holds.1 k.base (sym k.named_by) at_rest after_it)
+                      (λ d is. b.power d ∙ only.gone d is)
+                      (λ x lx not. b.power x ∙ only.power x lx not ∙ sym (a.power x)) (λ x lx not. b.size x ∙ only.size x lx not ∙ sym (a.size x))
+                      (λ d ld g. absent d ld (ap is_present (sym (a.power d)) ∙ g)) (λ d ld g. absent_then d ld (ap is_present (sym (b.power d)) ∙ g)),
                 );
           };
         }
+
+    pub commit_stands : (slots_then : ℕ) (named_then : Option ℕ) (m_then : Meta) (batch_then : Batch) → slots_then ≡ slots → named_then ≡ named_out m.out → m_then ≡ meta_with_lost lost after → batch_then ≡ []
+        → ((before : Meta) → named ≡ named_out before.out → IsWholeOrAbsent old new before after batch) → ((before : Meta) → named ≡ named_out before.out → EndsCommitted old new before after batch)
+        → Ran old new (CrashTriple P (HoldsBetweenCalls slots named m table batch copied h lo) (HoldsBetweenCalls slots_then named_then m_then table batch_then copied h (length h)))
+    commit_stands slots_then named_then m_then batch_then es en em eb each last =
+        commit_runs (HoldsBetweenCalls slots_then named_then m_then table batch_then copied h (length h)) (λ s t k done gone power size absent_at absent_now.
+        subst (λ (z : ℕ). HoldsBetweenCalls z named_then m_then table batch_then copied h (length h) t) (sym es)
+        (subst (λ (z : Option ℕ). HoldsBetweenCalls slots z m_then table batch_then copied h (length h) t) (sym en)
+        (subst (λ (z : Meta). HoldsBetweenCalls slots (named_out m.out) z table batch_then copied h (length h) t) (sym em)
+        (subst (λ (z : Batch). HoldsBetweenCalls slots (named_out m.out) (meta_with_lost lost after) table z copied h (length h) t) (sym eb)
+        (keeps_then stays s t k done lost low gone alone power size absent_at absent_now))))) each last
+
+    -- with nothing staged over it
+    pub commit_filled : (slots_then : ℕ) (named_then : Option ℕ) (m_then : Meta) → slots_then ≡ slots → named_then ≡ named_out m.out → m_then ≡ meta_with_lost lost after
+        → ((before : Meta) → named ≡ named_out before.out → IsWholeOrAbsent old new before after batch) → ((before : Meta) → named ≡ named_out before.out → EndsCommitted old new before after batch)
+        → Ran old new (CrashTriple P (HoldsBetweenCalls slots named m table batch copied h lo) (KeepsFilled slots_then named_then m_then table copied h (length h) m_then.fill))
+    commit_filled slots_then named_then m_then es en em each last =
+        commit_runs (KeepsFilled slots_then named_then m_then table copied h (length h) m_then.fill) (λ s t k done gone power size absent_at absent_now.
+        subst (λ (z : ℕ). KeepsFilled z named_then m_then table copied h (length h) m_then.fill t) (sym es)
+        (subst (λ (z : Option ℕ). KeepsFilled slots z m_then table copied h (length h) m_then.fill t) (sym en)
+        (subst (λ (z : Meta). KeepsFilled slots (named_out m.out) z table copied h (length h) z.fill t) (sym em)
+        (filled_then stays s t k done lost low gone alone power size absent_at absent_now)))) each last

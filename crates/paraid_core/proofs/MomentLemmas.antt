@@ -12,22 +12,25 @@ use Rattle.paraid_rack.specs.Told.{Through}
 use Rattle.paraid_rack.proofs.AtomsLemmas.{with_at_other, with_at_same}
 use Rattle.paraid_record.specs.declared.meta.Meta.{Meta}
 use Rattle.paraid_record.specs.Range.{IsInRange}
+use Rattle.paraid_image.specs.Calls.{disk_of, is_done}
+use Rattle.paraid_image.specs.LostDisk.{IsLoss}
 use Rattle.paraid_image.specs.Out.{IsMissing, named_out, out_disk}
+use Rattle.paraid_image.proofs.FailedCallLemmas.{failed_is_loss}
 use Rattle.paraid_image.specs.Standing.{Contents}
 use Rattle.paraid_image.proofs.OutLemmas.{missing_is_out}
-use Rattle.paraid_image.proofs.StepLemmas.{out_named}
-use Rattle.paraid_moves.specs.Copying.{Copies, IsCopyImage, without_disk}
+use Rattle.paraid_image.proofs.CallLemmas.{out_named}
+use Rattle.paraid_moves.specs.Copying.{HoldsWithCopies, IsCopyImage, without_disk}
 use Rattle.paraid_moves.proofs.RunLemmas.{copies_held, copies_lost, copies_read}
 use Rattle.paraid_image.proofs.OutLemmas.{out_missing}
-use Rattle.paraid_view.specs.Reads.{AreReads}
-use Rattle.paraid_core.specs.Stands.{HeldBeside}
+use Rattle.paraid_view.specs.Reads.{AreArrayReads}
+use Rattle.paraid_core.specs.CoreInvariant.{IsHeldWithOneMissing}
 
 -- the disks hold what the last commit left, or two of them are missing
 pub data Holding (slots : ℕ) (base : Meta) (h : History) (lo : ℕ) (s : Disks) : Type 0 where
-  copied : (held : Contents) → Copies slots base held h lo s → Holding slots base h lo s
+  intact : (held : Contents) → HoldsWithCopies slots base held h lo s → Holding slots base h lo s
   twice : (w e : ℕ) → w ≢ e → IsMissing s.power base w → IsMissing s.power base e → Holding slots base h lo s
 
-module _ (slots : ℕ) (base : Meta) (held : Contents) (h : History) (lo : ℕ) (s : Disks) (c : Copies slots base held h lo s) where
+module _ (slots : ℕ) (base : Meta) (held : Contents) (h : History) (lo : ℕ) (s : Disks) (c : HoldsWithCopies slots base held h lo s) where
   as_it_is : IsCopyImage (record s { loose = λ d p. false }) base held
   as_it_is = c.copying (record s { loose = λ d p. false }) (record { power = λ d. refl; size = λ d. refl; block = λ d p not. refl; loose = λ d p. refl })
 
@@ -52,8 +55,8 @@ module _ (slots : ℕ) (base : Meta) (h : History) (lo : ℕ) where
     missing_down d missing = elim missing.is [ inl gone ↦ absent d missing.disk gone | inr is ↦ known d (knows d is) ]
 
   pub beside : (named : Option ℕ) → ((d : ℕ) → named_out base.out ≡ Some d → named ≡ Some d) → (s : Disks) → Holding slots base h lo s
-      → HeldBeside slots base.setup.geometry.disks named h lo s
-  beside named knows s (copied held c) = record {
+      → IsHeldWithOneMissing slots base.setup.geometry.disks named h lo s
+  beside named knows s (intact held c) = record {
     held = λ down absent known.
         let was = copies_held slots base held h lo s c in
         record {
@@ -89,36 +92,55 @@ module _ (slots : ℕ) (base : Meta) (h : History) (lo : ℕ) where
     ];
   }
 
-  gone_now : (s : Disks) (e q : ℕ) → e < base.setup.geometry.disks → IsMissing (step (Read e q false) s).power base e
-  unfolding step
-  gone_now s e q low = record { disk = low; is = inl (ap is_present (with_at_same s.power e Absent e refl)) }
+  -- a failed call leaves no more than one disk missing, or two
+  module _ (s : Disks) (c : Call) (failed : is_done c ≡ false) where
+    lost : IsLoss s (step c s) (disk_of c)
+    lost = failed_is_loss s c failed
 
-  after_failed : (s : Disks) (e q : ℕ) → e < base.setup.geometry.disks → (held : Contents) → Copies slots base held h lo s → Holding slots base h lo (step (Read e q false) s)
-  after_failed s e q low held c = by (out_disk s.power base) refl
-    where
-      by : (o : Option ℕ) → out_disk s.power base ≡ o → Holding slots base h lo (step (Read e q false) s)
-      by None none = copied (without_disk held e) (copies_lost slots base held h lo s (Read e q false) refl (base_in_range slots base held h lo s c) (record {
-        copies = c;
-        disk = low;
-        others = λ x missing. let z : None ≡ Some x = sym none ∙ missing_out slots base held h lo s c x missing in cc;
-      }))
-      by (Some w) is = elim (cases_eq w e) [
-        | inr apart ↦ twice w e apart (missing_stays s e q w false (out_missing s.power base w (base_in_range slots base held h lo s c) is)) (gone_now s e q low)
-        | inl same ↦ copied (without_disk held e) (copies_lost slots base held h lo s (Read e q false) refl (base_in_range slots base held h lo s c) (record {
-          copies = c;
+    missing_left : (w : ℕ) → IsMissing s.power base w → IsMissing (step c s).power base w
+    missing_left w missing = record {
+      disk = missing.disk;
+      is = elim missing.is [
+        | inr named ↦ inr named
+        | inl gone ↦ elim (cases_eq w (disk_of c)) [
+          | inl is ↦ inl (ap is_present (lost.power w ∙ with_at_same s.power (disk_of c) Absent w is))
+          | inr apart ↦ inl (ap is_present (lost.power w ∙ with_at_other s.power (disk_of c) Absent w apart) ∙ gone)
+        ]
+      ];
+    }
+
+    missing_now : disk_of c < base.setup.geometry.disks → IsMissing (step c s).power base (disk_of c)
+    missing_now low = record { disk = low; is = inl (ap is_present (lost.power (disk_of c) ∙ with_at_same s.power (disk_of c) Absent (disk_of c) refl)) }
+
+    pub failed_holding : disk_of c < base.setup.geometry.disks → (held : Contents) → HoldsWithCopies slots base held h lo s → Holding slots base h lo (step c s)
+    failed_holding low held c_is = by (out_disk s.power base) refl
+      where
+        range : IsInRange base
+        range = base_in_range slots base held h lo s c_is
+
+        by : (o : Option ℕ) → out_disk s.power base ≡ o → Holding slots base h lo (step c s)
+        by None none = intact (without_disk held (disk_of c)) (copies_lost slots base held h lo s c failed range (record {
+          copies = c_is;
           disk = low;
-          others = λ x missing. single slots base held h lo s c x w missing (out_missing s.power base w (base_in_range slots base held h lo s c) is) ∙ same;
+          others = λ x missing. let z : None ≡ Some x = sym none ∙ missing_out slots base held h lo s c_is x missing in cc;
         }))
-      ]
+        by (Some w) is = elim (cases_eq w (disk_of c)) [
+          | inr apart ↦ twice w (disk_of c) apart (missing_left w (out_missing s.power base w range is)) (missing_now low)
+          | inl same ↦ intact (without_disk held (disk_of c)) (copies_lost slots base held h lo s c failed range (record {
+            copies = c_is;
+            disk = low;
+            others = λ x missing. single slots base held h lo s c_is x w missing (out_missing s.power base w range is) ∙ same;
+          }))
+        ]
 
   after_read : (s : Disks) (e q : ℕ) (done : Bool) → e < base.setup.geometry.disks → Holding slots base h lo s → Holding slots base h lo (step (Read e q done) s)
   after_read s e q done low (twice w x apart mw mx) = twice w x apart (missing_stays s e q w done mw) (missing_stays s e q x done mx)
-  after_read s e q true low (copied held c) = copied held (copies_read slots base held h lo s e q c)
-  after_read s e q false low (copied held c) = after_failed s e q low held c
+  after_read s e q true low (intact held c) = intact held (copies_read slots base held h lo s e q c)
+  after_read s e q false low (intact held c) = failed_holding s (Read e q false) refl low held c
 
   -- at each moment of some reads
   pub reads_held : (named : Option ℕ) → ((d : ℕ) → named_out base.out ≡ Some d → named ≡ Some d) → (s : Disks) (cs : List Call)
-      → AreReads base.setup.geometry.disks s cs → Holding slots base h lo s → Through (HeldBeside slots base.setup.geometry.disks named h lo) s cs
+      → AreArrayReads base.setup.geometry.disks s cs → Holding slots base h lo s → Through (IsHeldWithOneMissing slots base.setup.geometry.disks named h lo) s cs
   reads_held named knows s [] are holding = beside named knows s holding
   reads_held named knows s (Read e q done ∷ cs) are holding =
       (beside named knows s holding, reads_held named knows (step (Read e q done) s) cs are.1 (after_read s e q done are.0.0 holding))

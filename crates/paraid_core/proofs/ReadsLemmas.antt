@@ -1,13 +1,14 @@
 -- What reads leave of what a core stands for.
+use Rattle.paraid_image.specs.Mark.{meta_after_loss}
 use Rattle.std.specs.Prelude.{◌≡◌, ◌≢◌, ℕ, ◌-◌, ◌*◌, ◌<◌, nat_lt, Bool, true, false, List, [], ◌∷◌, Option, Some, None, length, if◌then◌else◌}
 use Rattle.std.proofs.Common.{refl, sym, ◌∙◌, ap, subst, arith, inl, inr}
 use Rattle.std.proofs.lemmas.Bool.{cases_eq}
 use Rattle.std.proofs.lemmas.Bool.Decides.{nat_tests}
 use Rattle.paraid_base.specs.declared.block.Block.{Block}
 use Rattle.paraid_base.specs.Cells.{home_disk, home_row}
-use Rattle.paraid_base.specs.History.{History, held}
+use Rattle.paraid_base.specs.History.{History, after_all}
 use Rattle.paraid_base.specs.Regions.{map_count}
-use Rattle.paraid_base.specs.Xor.{zeroed}
+use Rattle.paraid_base.specs.Xor.{zero_block}
 use Rattle.paraid_base.proofs.SumsLemmas.{xor_upto_same}
 use Rattle.paraid_dirty.specs.Table.{is_dirty}
 use Rattle.paraid_rack.specs.declared.call.Call.{Call}
@@ -16,7 +17,7 @@ use Rattle.paraid_rack.specs.declared.call.Power.{Power}
 use Rattle.paraid_rack.specs.declared.call.Power.TheVariants.{Absent}
 use Rattle.paraid_rack.specs.Disks.{Disks, lose, step}
 use Rattle.paraid_rack.specs.Slots.{Agrees, Slot}
-use Rattle.paraid_rack.specs.Told.{Ran, Runs, Through}
+use Rattle.paraid_rack.specs.Told.{Ran, CrashTriple, Through}
 use Rattle.paraid_rack.specs.Trail.{Trail, now, run}
 use Rattle.paraid_rack.proofs.AtomsLemmas.{with_at_other, with_at_same}
 use Rattle.paraid_rack.proofs.TrailsLemmas.{now-extend}
@@ -26,22 +27,21 @@ use Rattle.paraid_image.specs.Content.{view_by}
 use Rattle.paraid_image.specs.Out.{named_out, or_else, out_disk}
 use Rattle.paraid_image.specs.Sides.{Batch, has_place}
 use Rattle.paraid_image.specs.Sound.{AreRowsZero, AreStripesZero, ContentOk}
-use Rattle.paraid_image.specs.Standing.{Contents, contents, laid}
+use Rattle.paraid_image.specs.Standing.{Contents, contents, overlaid_block}
 use Rattle.paraid_image.specs.Value.{value}
-use Rattle.paraid_plan.specs.Marks.{with_lost}
-use Rattle.paraid_view.specs.Reads.{AreLeft, AreReads, Shows, seen_by}
-use Rattle.paraid_core.specs.Stands.{HeldBeside, Keeps, lost_in, marked}
+use Rattle.paraid_view.specs.Reads.{AreLeft, AreArrayReads, ShowsContents, seen_by}
+use Rattle.paraid_core.specs.CoreInvariant.{IsHeldWithOneMissing, HoldsBetweenCalls, lost_in, meta_with_lost}
 use Rattle.paraid_core.proofs.DirtyLemmas.{value_dirty}
-use Rattle.paraid_core.proofs.LoseLemmas.{keeps_lost}
+use Rattle.paraid_core.proofs.LostDiskLemmas.{keeps_lost}
 use Rattle.paraid_core.proofs.MomentLemmas.{reads_held}
-use Rattle.paraid_core.proofs.MomentLemmas.Holding.{copied}
+use Rattle.paraid_core.proofs.MomentLemmas.Holding.{intact}
 
 pub through_last : (P : Disks → Type 0) (s : Disks) (cs : List Call) → Through P s cs → P (run s cs)
 through_last P s [] p = p
 through_last P s (c ∷ cs) p = through_last P (step c s) cs p.1
 
 -- reads change no block
-pub reads_same : (n : ℕ) (s : Disks) (cs : List Call) → AreReads n s cs → ((run s cs).block ≡ s.block) × ((run s cs).loose ≡ s.loose)
+pub reads_same : (n : ℕ) (s : Disks) (cs : List Call) → AreArrayReads n s cs → ((run s cs).block ≡ s.block) × ((run s cs).loose ≡ s.loose)
 unfolding step
 reads_same n s [] are = (refl, refl)
 reads_same n s (Read e q done ∷ cs) are = reads_same n (step (Read e q done) s) cs are.1
@@ -88,21 +88,21 @@ pub knows_named : (named : Option ℕ) (o : Option ℕ) (d : ℕ) → named ≡ 
 knows_named (Some e) o d is = is
 knows_named None o d is = let z : None ≡ Some d = is in cc
 
-module _ (slots : ℕ) (named : Option ℕ) (m : Meta) (table : List (List Bool)) (batch : Batch) (h : History) (lo : ℕ) (known : Option ℕ) (knows : (d : ℕ) → named ≡ Some d → known ≡ Some d) where
+module _ (slots : ℕ) (named : Option ℕ) (m : Meta) (table : List (List Bool)) (batch : Batch) (copied : List Bool) (h : History) (lo : ℕ) (known : Option ℕ) (knows : (d : ℕ) → named ≡ Some d → known ≡ Some d) where
   abbrev P : Disks → Type 0
-  P = HeldBeside slots m.setup.geometry.disks known h lo
+  P = IsHeldWithOneMissing slots m.setup.geometry.disks known h lo
 
-  reads_through : (s : Disks) (cs : List Call) → AreReads m.setup.geometry.disks s cs → Keeps slots named m table batch h lo s → Through P s cs
+  pub reads_through : (s : Disks) (cs : List Call) → AreArrayReads m.setup.geometry.disks s cs → HoldsBetweenCalls slots named m table batch copied h lo s → Through P s cs
   reads_through s cs are k =
-      subst (λ (z : ℕ). Through (HeldBeside slots z known h lo) s cs) (sym shape)
+      subst (λ (z : ℕ). Through (IsHeldWithOneMissing slots z known h lo) s cs) (sym shape)
       (reads_held slots k.base h lo known (λ d is. knows d (sym k.named_by ∙ is)) s cs
-      (subst (λ (z : ℕ). AreReads z s cs) shape are) (copied k.held k.copies))
+      (subst (λ (z : ℕ). AreArrayReads z s cs) shape are) (intact k.held k.copies))
     where
       shape : m.setup.geometry.disks ≡ k.base.setup.geometry.disks
       shape = ap (λ (z : _). z.geometry.disks) k.next.setup
 
   -- at each moment of some reads
-  pub reads_moments : (n : ℕ) (old new : Option Trail) → n ≡ m.setup.geometry.disks → Ran old new (AreReads n) → Ran old new (Runs P (Keeps slots named m table batch h lo) P)
+  pub reads_moments : (n : ℕ) (old new : Option Trail) → n ≡ m.setup.geometry.disks → Ran old new (AreArrayReads n) → Ran old new (CrashTriple P (HoldsBetweenCalls slots named m table batch copied h lo) P)
   reads_moments n old new is ran t tells =
       let r = ran t tells in
       record {
@@ -112,7 +112,7 @@ module _ (slots : ℕ) (named : Option ℕ) (m : Meta) (table : List (List Bool)
         is = r.is;
         holds = record {
           goes = λ k.
-              let th = reads_through (now r.from) r.calls (subst (λ (z : ℕ). AreReads z (now r.from) r.calls) is r.holds) k in
+              let th = reads_through (now r.from) r.calls (subst (λ (z : ℕ). AreArrayReads z (now r.from) r.calls) is r.holds) k in
               (th, through_last P (now r.from) r.calls th);
         };
       }
@@ -126,18 +126,18 @@ module _ (slots : ℕ) (named : Option ℕ) (m : Meta) (table : List (List Bool)
     powers s agrees = λ t. λ x. sym (agrees.power x) t
 
     end_by : (o : Option ℕ) → lost ≡ o → (s t : Disks) → Agrees s slot → Agrees t after → t.block ≡ s.block → t.loose ≡ s.loose
-        → Keeps slots named m table batch h lo s → Keeps slots named (marked (lost_in m o) m) table batch h lo t
+        → HoldsBetweenCalls slots named m table batch copied h lo s → HoldsBetweenCalls slots named (meta_with_lost (lost_in m o) m) table batch copied h lo t
     end_by None is_none s t a b block loose k =
-        subst (Keeps slots named m table batch h lo) (sym {b = s} (unchanged s t slot after a b lost left empty block loose is_none)) k
+        subst (HoldsBetweenCalls slots named m table batch copied h lo) (sym {b = s} (unchanged s t slot after a b lost left empty block loose is_none)) k
     end_by (Some d) is_some s t a b block loose k =
         let there : nat_lt d m.setup.geometry.disks ≡ true = (let l = low d is_some in grind (arith, nat_tests)) in
         let out : out_disk s.power m ≡ None = ap (λ (p : ℕ → Power). out_disk p m) (sym (powers s a)) ∙ none d is_some in
         rw there
-        (subst (Keeps slots named (with_lost m d) table batch h lo) (sym {b = lose d s} (is_lost s t slot after a b lost left empty block loose d is_some))
-        (keeps_lost slots named m table batch h lo s d in_range (low d is_some) out stays k))
+        (subst (HoldsBetweenCalls slots named (meta_after_loss m d) table batch copied h lo) (sym {b = lose d s} (is_lost s t slot after a b lost left empty block loose d is_some))
+        (keeps_lost slots named m table batch copied h lo s d in_range (low d is_some) out stays k))
 
-    pub reads_stand : (slots_after : ℕ) (named_after : Option ℕ) (m_after : Meta) → slots_after ≡ slots → named_after ≡ named → m_after ≡ marked (lost_in m lost) m → Ran old new (AreReads n)
-        → Ran old new (Runs P (Keeps slots named m table batch h lo) (Keeps slots_after named_after m_after table batch h lo))
+    pub reads_stand : (slots_after : ℕ) (named_after : Option ℕ) (m_after : Meta) → slots_after ≡ slots → named_after ≡ named → m_after ≡ meta_with_lost (lost_in m lost) m → Ran old new (AreArrayReads n)
+        → Ran old new (CrashTriple P (HoldsBetweenCalls slots named m table batch copied h lo) (HoldsBetweenCalls slots_after named_after m_after table batch copied h lo))
     reads_stand slots_after named_after m_after es en em ran t tells =
         let r = ran t tells in
         let same = reads_same n (now r.from) r.calls r.holds in
@@ -150,26 +150,26 @@ module _ (slots : ℕ) (named : Option ℕ) (m : Meta) (table : List (List Bool)
           holds = record {
             goes = λ k.
                 let kept = end_by lost refl (now r.from) (run (now r.from) r.calls) (before r.from r.was) (subst (λ (s : Disks). Agrees s after) here (later t tells)) same.0 same.1 k in (
-                  reads_through (now r.from) r.calls (subst (λ (z : ℕ). AreReads z (now r.from) r.calls) is r.holds) k,
-                  subst (λ (z : ℕ). Keeps z named_after m_after table batch h lo (run (now r.from) r.calls)) (sym es)
-                      (subst (λ (z : Option ℕ). Keeps slots z m_after table batch h lo (run (now r.from) r.calls)) (sym en)
-                      (subst (λ (z : Meta). Keeps slots named z table batch h lo (run (now r.from) r.calls)) (sym em) kept)),
+                  reads_through (now r.from) r.calls (subst (λ (z : ℕ). AreArrayReads z (now r.from) r.calls) is r.holds) k,
+                  subst (λ (z : ℕ). HoldsBetweenCalls z named_after m_after table batch copied h lo (run (now r.from) r.calls)) (sym es)
+                      (subst (λ (z : Option ℕ). HoldsBetweenCalls slots z m_after table batch copied h lo (run (now r.from) r.calls)) (sym en)
+                      (subst (λ (z : Meta). HoldsBetweenCalls slots named z table batch copied h lo (run (now r.from) r.calls)) (sym em) kept)),
                 );
           };
         }
 
 -- the contents are shown
-pub shows_contents : (told : Option Trail) (batch : Batch) (t : Trail) → told ≡ Some t → Shows told batch (contents (now t) batch)
+pub shows_contents : (told : Option Trail) (batch : Batch) (t : Trail) → told ≡ Some t → ShowsContents told batch (contents (now t) batch)
 unfolding contents
 shows_contents told batch t tells u tells_too d p there far =
     let z : Some u ≡ Some t = sym tells_too ∙ tells in
     let same : u ≡ t = cc in
     let past : nat_lt p 100 ≡ false = grind (arith, nat_tests) in
-    subst (λ (w : Trail). laid batch d p ((now w).block d p) ≡ (if nat_lt p 100 then zeroed else (if has_place (now t) d p then laid batch d p ((now t).block d p) else zeroed))) (sym same)
+    subst (λ (w : Trail). overlaid_block batch d p ((now w).block d p) ≡ (if nat_lt p 100 then zero_block else (if has_place (now t) d p then overlaid_block batch d p ((now t).block d p) else zero_block))) (sym same)
     (rw (past, subst (λ (w : Trail). has_place (now w) d p ≡ true) same there) refl)
 
 -- what is read is the last write
-module _ (slots : ℕ) (named : Option ℕ) (m : Meta) (table : List (List Bool)) (batch : Batch) (h : History) (lo : ℕ) (s : Disks) (k : Keeps slots named m table batch h lo s)
+module _ (slots : ℕ) (named : Option ℕ) (m : Meta) (table : List (List Bool)) (batch : Batch) (copied : List Bool) (h : History) (lo : ℕ) (s : Disks) (k : HoldsBetweenCalls slots named m table batch copied h lo s)
     (power : ℕ → Power) (is : power ≡ s.power) where
   abbrev f : Contents
   f = contents s batch
@@ -193,7 +193,12 @@ module _ (slots : ℕ) (named : Option ℕ) (m : Meta) (table : List (List Bool)
   pub stripes_zero : AreStripesZero (seen_by m table (out_disk power m) f)
   stripes_zero = ok.kept.stripes
 
-  pub value_read : (b r d : ℕ) (into : Block) → b < m.setup.geometry.rows * (m.setup.geometry.disks - 1) → r ≡ home_row m.setup.geometry.disks b → d ≡ home_disk m.setup.geometry.disks b
-      → r < m.setup.geometry.rows → into ≡ value (seen_by m table (out_disk power m) f) r d → into ≡ held h b
-  value_read b r d into lb er ed lr read =
-      read ∙ values r d lr ∙ ap (λ (x : ℕ). value (view_by m power f) x d) er ∙ ap (value (view_by m power f) (home_row m.setup.geometry.disks b)) ed ∙ ok.blocks b lb
+  pub cell_value : (r d : ℕ) (into : Block) → r < m.setup.geometry.rows → into ≡ value (seen_by m table (out_disk power m) f) r d → into ≡ value (view_by m s.power f) r d
+  cell_value r d into lr read = read ∙ values r d lr ∙ ap (λ (w : ℕ → Power). value (view_by m w f) r d) is
+
+-- the value of its cell is the block
+pub block_read : (slots : ℕ) (named : Option ℕ) (m : Meta) (table : List (List Bool)) (batch : Batch) (copied : List Bool) (h : History) (lo : ℕ) (s : Disks) → HoldsBetweenCalls slots named m table batch copied h lo s
+    → (b r d : ℕ) (into : Block) → b < m.setup.geometry.rows * (m.setup.geometry.disks - 1) → r ≡ home_row m.setup.geometry.disks b → d ≡ home_disk m.setup.geometry.disks b
+    → into ≡ value (view_by m s.power (contents s batch)) r d → into ≡ after_all h b
+block_read slots named m table batch copied h lo s k b r d into lb er ed read =
+    read ∙ ap (λ (x : ℕ). value (view_by m s.power (contents s batch)) x d) er ∙ ap (value (view_by m s.power (contents s batch)) (home_row m.setup.geometry.disks b)) ed ∙ k.staged.blocks b lb

@@ -1,11 +1,10 @@
 -- What holds of the slots once a disk was lost.
+use Rattle.paraid_image.specs.Mark.{meta_after_loss}
 use Rattle.std.specs.Prelude.{◌≡◌, ◌≢◌, ℕ, ◌<◌, ◌≤◌, Option, Some, None}
-use Rattle.std.proofs.Common.{refl, sym, ◌∙◌, ap, subst, arith, inl, inr}
+use Rattle.std.proofs.Common.{sym, ◌∙◌, ap, subst, arith, inl, inr}
 use Rattle.std.proofs.lemmas.Bool.{cases_eq}
 use Rattle.paraid_base.specs.declared.state.Out.{Out}
 use Rattle.paraid_base.specs.declared.state.Out.TheVariants.{Fresh, Gone, No}
-use Rattle.paraid_base.specs.declared.state.Phase.{Phase}
-use Rattle.paraid_base.specs.declared.state.Phase.TheVariants.{Steady, Down, Up}
 use Rattle.paraid_base.specs.Regions.{disk_size}
 use Rattle.paraid_rack.specs.declared.call.Power.TheVariants.{Absent}
 use Rattle.paraid_rack.specs.Disks.{is_present}
@@ -18,10 +17,10 @@ use Rattle.paraid_txn.specs.Losses.{CanWrite}
 use Rattle.paraid_image.specs.Out.{named_out}
 use Rattle.paraid_image.specs.Sides.{Batch}
 use Rattle.paraid_image.specs.Spot.{rising_to}
-use Rattle.paraid_plan.specs.Marks.{phase_lost, with_lost}
+use Rattle.paraid_base.proofs.StatesLemmas.{rising_to-beside}
 use Rattle.paraid_view.specs.Reads.{AreLeft}
-use Rattle.paraid_core.specs.Stands.{CanServe, IsReady}
-use Rattle.paraid_core.proofs.LoseLemmas.{lost_in_range}
+use Rattle.paraid_core.specs.CoreInvariant.{CanServe, AreSlotsReady}
+use Rattle.paraid_core.proofs.LostDiskLemmas.{lost_in_range}
 
 -- no disk of the array has changed but this one, which is absent, or none
 pub record IsLostOnly (n : ℕ) (lost : Option ℕ) (old new : ℕ → Slot) : Type 0 where
@@ -41,18 +40,13 @@ gone_named No x is = is
 gone_named (Gone d) x is = is
 gone_named (Fresh d u) x is = let z : None ≡ Some x = is in cc
 
-same_rising : (p : Phase) → rising_to (phase_lost p) ≡ rising_to p
-same_rising Steady = refl
-same_rising (Down to) = refl
-same_rising (Up to) = refl
-
 none_some : (d : ℕ) → (None ≡ Some d) → ⊥
 none_some d is = cc
 
 pub some_is : (d e : ℕ) → Some d ≡ Some e → d ≡ e
 some_is d e is = cc
 
-module _ (count : ℕ) (slot new : ℕ → Slot) (last array : ℕ) (named : Option ℕ) (m : Meta) (rows : ℕ) (batch : Batch) (ready : IsReady count slot last array named m rows batch)
+module _ (count : ℕ) (slot new : ℕ → Slot) (last array : ℕ) (named : Option ℕ) (m : Meta) (rows : ℕ) (batch : Batch) (ready : AreSlotsReady count slot last array named m rows batch)
     (in_array : (t : Target) → IsTargetInRange m.setup.geometry t → t.disk < m.setup.geometry.disks) where
   abbrev n : ℕ
   n = m.setup.geometry.disks
@@ -83,7 +77,7 @@ module _ (count : ℕ) (slot new : ℕ → Slot) (last array : ℕ) (named : Opt
           },
     )
 
-    pub ready_lost : IsReady count new last array named (with_lost m d) rows batch
+    pub ready_lost : AreSlotsReady count new last array named (meta_after_loss m d) rows batch
     ready_lost = record {
       in_range = lost_in_range m d ready.in_range low;
       array_is = ready.array_is;
@@ -104,13 +98,13 @@ module _ (count : ℕ) (slot new : ℕ → Slot) (last array : ℕ) (named : Opt
       apart = ready.apart;
     }
 
-    pub serve_lost : CanServe slot named m → rising_to m.phase ≤ n → CanServe new named (with_lost m d)
+    pub serve_lost : CanServe slot named m → rising_to m.phase ≤ n → CanServe new named (meta_after_loss m d)
     serve_lost serve rise = record {
       spins = λ e le not.
-          let same = same_rising m.phase in
+          let same = rising_to-beside m.phase in
           only.power e (omega arith) (not_lost e (apart_of e not)) ∙ serve.spins e (omega arith) (not_named e (apart_of e not));
       large = λ e le not.
-          let same = same_rising m.phase in
+          let same = rising_to-beside m.phase in
           subst (λ (z : ℕ). disk_size m.setup.geometry ≤ z) (sym (only.size e (omega arith) (not_lost e (apart_of e not)))) (serve.large e (omega arith) (not_named e (apart_of e not)));
       stays = λ x was. ap Some (sym (known x was));
     }
@@ -130,7 +124,7 @@ module _ (count : ℕ) (slot new : ℕ → Slot) (last array : ℕ) (named : Opt
           },
     )
 
-    pub ready_same : ((d u : ℕ) → m.out ≡ Fresh d u → d < n) → IsReady count new last array named m rows batch
+    pub ready_same : ((d u : ℕ) → m.out ≡ Fresh d u → d < n) → AreSlotsReady count new last array named m rows batch
     ready_same fresh = record {
       in_range = ready.in_range;
       array_is = ready.array_is;

@@ -7,19 +7,19 @@ use Rattle.std.proofs.lemmas.List.Kept.{AllPairs-cons}
 use Rattle.std.proofs.lemmas.Bool.Decides.{nat_tests}
 use Rattle.std.proofs.lemmas.List.Elements.{All-cons, All-nil, All-tail}
 use Rattle.paraid_base.specs.declared.block.Block.{Block}
-use Rattle.paraid_base.specs.Xor.{zeroed}
+use Rattle.paraid_base.specs.Xor.{zero_block}
 use Rattle.paraid_image.specs.Sides.{Batch, targets}
-use Rattle.paraid_image.specs.Standing.{laid}
+use Rattle.paraid_image.specs.Standing.{overlaid_block}
 use Rattle.paraid_plan.specs.Placed.{ArePlaced, IsPlaced}
-use Rattle.paraid_plan.proofs.BatchLemmas.{laid-with_target}
+use Rattle.paraid_plan.proofs.BatchLemmas.{overlaid_block-with_target}
 use Rattle.paraid_plan.proofs.LayLemmas.{laid_append}
 use Rattle.paraid_record.specs.declared.meta.Meta.{Meta}
 use Rattle.paraid_record.specs.declared.targets.Target.{Target}
 use Rattle.paraid_record.specs.Targets.{IsTargetInRange, no_target}
 use Rattle.paraid_txn.specs.declared.batch.Full.{Full}
-use Rattle.paraid_image.specs.Neutral.{names}
+use Rattle.paraid_image.specs.Neutral.{names_place}
 use Rattle.paraid_txn.specs.Losses.{CanWrite}
-use Rattle.paraid_txn.specs.Staging.{blocks, with_target}
+use Rattle.paraid_txn.specs.Batches.{batch_blocks, with_target}
 use Rattle.paraid_core.specs.Taken.{AreApart, IsTakenIn}
 
 -- the first one of a list
@@ -59,7 +59,7 @@ pub none_taken : (m : Meta) (old : Batch) → AreApart old → IsTakenIn m old [
 none_taken m old apart = record {
   room = omega arith;
   apart = apart;
-  laid_same = λ are d p x. ap (λ (z : Batch). laid z d p x) (sym (append-nil old));
+  laid_same = λ are d p x. ap (λ (z : Batch). overlaid_block z d p x) (sym (append-nil old));
   each = λ all. all;
   can = λ skip count slot to all. all;
 }
@@ -78,7 +78,7 @@ pub one_taken : (m : Meta) (old : Batch) (t : Target) (b : Block) → AreApart o
 one_taken m old t b apart placed = record {
   room = with_length old t b;
   apart = with_apart old t b apart;
-  laid_same = λ are d p x. laid-with_target old t b d p x apart;
+  laid_same = λ are d p x. overlaid_block-with_target old t b d p x apart;
   each = λ all. with_all (IsTargetInRange m.setup.geometry) old t b all placed.in_range;
   can = λ skip count slot to all. with_all (λ (z : Target). (z.disk < count) × (skip ≢ Some z.disk → CanWrite slot z.disk z.place)) old t b all (to t placed);
 }
@@ -100,32 +100,32 @@ then_taken m a draft w b c p q =
       can = λ skip count slot to all. q.can skip count slot to (p.can skip count slot to all);
     }
   where
-    laid_by : ArePlaced m (draft ++ w ∷ []) → (d y : ℕ) (x : Block) → laid c d y x ≡ laid (a ++ (draft ++ w ∷ [])) d y x
+    laid_by : ArePlaced m (draft ++ w ∷ []) → (d y : ℕ) (x : Block) → overlaid_block c d y x ≡ overlaid_block (a ++ (draft ++ w ∷ [])) d y x
     laid_by are d y x =
         let parts = placed_left m draft (w ∷ []) are in
         q.laid_same parts.1 d y x
         ∙ laid_append b (w ∷ []) d y x
-        ∙ ap (laid (w ∷ []) d y) (p.laid_same parts.0 d y x)
+        ∙ ap (overlaid_block (w ∷ []) d y) (p.laid_same parts.0 d y x)
         ∙ sym (laid_append (a ++ draft) (w ∷ []) d y x)
-        ∙ ap (λ (z : Batch). laid z d y x) (append_assoc a draft (w ∷ []))
+        ∙ ap (λ (z : Batch). overlaid_block z d y x) (append_assoc a draft (w ∷ []))
 
 -- one block more of a draft
-take_next : (draft : Batch) (at : ℕ) → at < length draft → take (suc at) draft ≡ take at draft ++ (get_or (targets draft) at no_target, get_or (blocks draft) at zeroed) ∷ []
+take_next : (draft : Batch) (at : ℕ) → at < length draft → take (suc at) draft ≡ take at draft ++ (get_or (targets draft) at no_target, get_or (batch_blocks draft) at zero_block) ∷ []
 take_next [] at l = absurd (omega arith)
 take_next (w ∷ draft) zero l = refl
 take_next (w ∷ draft) (suc at) l = ap (λ (z : Batch). w ∷ z) (take_next draft at (omega arith))
 
-take_more : (draft : Batch) (at : ℕ) → at < length draft → take (at + 1) draft ≡ take at draft ++ (get_or (targets draft) at no_target, get_or (blocks draft) at zeroed) ∷ []
+take_more : (draft : Batch) (at : ℕ) → at < length draft → take (at + 1) draft ≡ take at draft ++ (get_or (targets draft) at no_target, get_or (batch_blocks draft) at zero_block) ∷ []
 take_more draft at l = let e : at + 1 ≡ suc at = omega arith in ap (λ (n : ℕ). take n draft) e ∙ take_next draft at l
 
 -- there is room for one target more
 pub added : (m : Meta) (old new : Batch) (t : Target) (b : Block) (r : Result (Unit {0}) Full) → OnOk r (new ≡ with_target old t b)
-    → IfErr r (λ (full : Full). (full.count ≡ 96) × (length old ≡ 96) × (names old t.disk t.place ≡ false) × (new ≡ old))
+    → IfErr r (λ (full : Full). (full.count ≡ 96) × (length old ≡ 96) × (names_place old t.disk t.place ≡ false) × (new ≡ old))
     → length old < 96 → AreApart old → IsPlaced m t → IsTakenIn m old ((t, b) ∷ []) new
 added m old new t b (Ok it) is full low apart placed = subst (IsTakenIn m old ((t, b) ∷ [])) (sym is) (one_taken m old t b apart placed)
 added m old new t b (Err e) is full low apart placed = let long = full.1 in absurd (omega arith)
 
-pub draft_more : (m : Meta) (a draft b c : Batch) (at : ℕ) (t : Target) (x : Block) → at < length draft → t ≡ get_or (targets draft) at no_target → x ≡ get_or (blocks draft) at zeroed
+pub draft_more : (m : Meta) (a draft b c : Batch) (at : ℕ) (t : Target) (x : Block) → at < length draft → t ≡ get_or (targets draft) at no_target → x ≡ get_or (batch_blocks draft) at zero_block
     → IsTakenIn m a (take at draft) b → IsTakenIn m b ((t, x) ∷ []) c → IsTakenIn m a (take (at + 1) draft) c
 draft_more m a draft b c at t x l is_t is_x p q =
     subst (λ (z : Batch). IsTakenIn m a z c) ((λ i. take at draft ++ (is_t i, is_x i) ∷ []) ∙ sym (take_more draft at l))

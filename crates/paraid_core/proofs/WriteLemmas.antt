@@ -4,19 +4,19 @@ use Rattle.std.proofs.Common.{refl, sym, ◌∙◌, ap, subst, arith, inl, inr, 
 use Rattle.std.proofs.lemmas.Bool.{cases_Bool}
 use Rattle.std.proofs.lemmas.Bool.Decides.{nat_tests}
 use Rattle.paraid_base.specs.declared.block.Block.{Block}
-use Rattle.paraid_base.specs.History.{Entry, History, held, last_of}
+use Rattle.paraid_base.specs.History.{Entry, History, after_all, last_of}
 use Rattle.paraid_base.specs.Regions.{disk_size, map_count, map_place_of}
-use Rattle.paraid_base.specs.Xor.{zeroed}
-use Rattle.paraid_base.proofs.HistoryLemmas.{after-append, held-append}
+use Rattle.paraid_base.specs.Xor.{zero_block}
+use Rattle.paraid_base.proofs.HistoryLemmas.{after-append, after_all-append}
 use Rattle.paraid_dirty.specs.Table.{is_dirty}
 use Rattle.paraid_plan.specs.Desk.{AreWritten, Desk, IsKeptDesk, StageAll, sees}
-use Rattle.paraid_plan.specs.Staged.{lay}
-use Rattle.paraid_plan.specs.Stored.{IsKept}
-use Rattle.paraid_plan.specs.Stored.IsKept.{there, rebuilt}
+use Rattle.paraid_plan.specs.WriteTargets.{overlaid_blocks}
+use Rattle.paraid_plan.specs.StoredCells.{IsUnitKept}
+use Rattle.paraid_plan.specs.StoredCells.IsUnitKept.{there, rebuilt}
 use Rattle.paraid_plan.proofs.LayLemmas.{laid_append}
 use Rattle.paraid_plan.proofs.ManyLemmas.{AreLaid, staged_laid}
 use Rattle.paraid_plan.proofs.MetaLemmas.{kept_writes, value_writes}
-use Rattle.paraid_plan.proofs.PlaceLemmas.{places_tell}
+use Rattle.paraid_plan.proofs.KeptPlaceLemmas.{places_tell}
 use Rattle.paraid_plan.proofs.WriteLemmas.{block_other, kept_other, many_writes_keep}
 use Rattle.paraid_rack.specs.Disks.{Disks, is_present}
 use Rattle.paraid_record.specs.declared.meta.Meta.{Meta}
@@ -26,19 +26,19 @@ use Rattle.paraid_image.specs.Out.{named_out, out_disk}
 use Rattle.paraid_image.specs.Sides.{Batch, has_place}
 use Rattle.paraid_image.specs.Sound.{ContentOk, IsWellKept}
 use Rattle.paraid_image.specs.Spot.{View, map_bit, map_disk}
-use Rattle.paraid_image.specs.Standing.{Contents, contents, laid}
+use Rattle.paraid_image.specs.Standing.{Contents, contents, overlaid_block}
 use Rattle.paraid_image.proofs.ViewLemmas.{map_bit_same, map_disk_other}
-use Rattle.paraid_moves.specs.Copying.{Copies}
-use Rattle.paraid_moves.proofs.CopyingLemmas.{copying_from_rest}
+use Rattle.paraid_moves.specs.Copying.{HoldsWithCopies}
+use Rattle.paraid_moves.proofs.CopyCommitLemmas.{copying_from_rest}
 use Rattle.paraid_moves.proofs.NextLemmas.{next_same}
-use Rattle.paraid_core.specs.Stands.{Keeps}
-use Rattle.paraid_core.specs.Writes.{Begins, IsTaken, RestKeeps, TakenWriteKeeps}
+use Rattle.paraid_core.specs.CoreInvariant.{HoldsBetweenCalls}
+use Rattle.paraid_core.specs.Writes.{IsFirstDesk, IsTaken, RestKeeps, TakenWriteKeeps}
 use Rattle.paraid_core.proofs.CommitLemmas.{map_disk_low, out_all}
 use Rattle.paraid_base.specs.Cells.{home_disk, home_row}
 use Rattle.paraid_base.proofs.CellsLemmas.{home_disk_below, home_row_below}
 use Rattle.paraid_image.specs.Value.{value}
 
-copies_more : (slots : ℕ) (base : Meta) (held_in : Contents) (h : History) (entry : Entry) (lo : ℕ) (s : Disks) → Copies slots base held_in h lo s → Copies slots base held_in (h ++ entry ∷ []) lo s
+copies_more : (slots : ℕ) (base : Meta) (held_in : Contents) (h : History) (entry : Entry) (lo : ℕ) (s : Disks) → HoldsWithCopies slots base held_in h lo s → HoldsWithCopies slots base held_in (h ++ entry ∷ []) lo s
 copies_more slots base held_in h entry lo s c =
     let longer = length-append h (entry ∷ []) in
     let high = c.high in
@@ -52,20 +52,20 @@ copies_more slots base held_in h entry lo s c =
       };
     }
 
-contents_laid : (s : Disks) (a b : Batch) → ((d p : ℕ) (x : Block) → laid a d p x ≡ laid b d p x) → contents s a ≡ contents s b
+pub contents_laid : (s : Disks) (a b : Batch) → ((d p : ℕ) (x : Block) → overlaid_block a d p x ≡ overlaid_block b d p x) → contents s a ≡ contents s b
 unfolding contents
-contents_laid s a b same = λ t. λ d p. (ap (λ (x : Block). if nat_lt p 100 then zeroed else (if has_place s d p then x else zeroed)) (same d p (s.block d p))) t
+contents_laid s a b same = λ t. λ d p. (ap (λ (x : Block). if nat_lt p 100 then zero_block else (if has_place s d p then x else zero_block)) (same d p (s.block d p))) t
 
-laid_there : (s : Disks) (batch more : Batch) (d p : ℕ) → has_place s d p ≡ true → 100 ≤ p → contents s (batch ++ more) d p ≡ lay more (contents s batch) d p
-unfolding contents lay
+pub laid_there : (s : Disks) (batch more : Batch) (d p : ℕ) → has_place s d p ≡ true → 100 ≤ p → contents s (batch ++ more) d p ≡ overlaid_blocks more (contents s batch) d p
+unfolding contents overlaid_blocks
 laid_there s batch more d p here far =
     let past : nat_lt p 100 ≡ false = grind (arith, nat_tests) in
     rw (past, here) (laid_append batch more d p (s.block d p))
 
-module _ (slots : ℕ) (named : Option ℕ) (m : Meta) (table table_then : List (List Bool)) (batch batch_then : Batch) (h : History) (lo : ℕ) (s : Disks) (before later : Desk) (entry : Entry)
+module _ (slots : ℕ) (named : Option ℕ) (m : Meta) (table table_then : List (List Bool)) (batch batch_then : Batch) (copied : List Bool) (h : History) (lo : ℕ) (s : Disks) (before later : Desk) (entry : Entry)
     (in_range : IsInRange m) (absent : (d : ℕ) → d < m.setup.geometry.disks → is_present (s.power d) ≡ false → named_out m.out ≡ Some d)
-    (k : Keeps slots named m table batch h lo s)
-    (begins : Begins m batch s before) (stage : StageAll m before later entry) (taken : IsTaken m batch batch_then table_then later) where
+    (k : HoldsBetweenCalls slots named m table batch copied h lo s)
+    (begins : IsFirstDesk m batch s before) (stage : StageAll m before later entry) (taken : IsTaken m batch batch_then table_then later) where
   abbrev f : Contents
   f = contents s batch
 
@@ -127,7 +127,7 @@ module _ (slots : ℕ) (named : Option ℕ) (m : Meta) (table table_then : List 
   staged_is = laid_now.staged ∙ ap (λ (z : Batch). z ++ laid_now.targets) begins.staged
 
   -- a place that is kept is there
-  kept_place : (d u p : ℕ) → d < m.setup.geometry.disks → IsKept s.power m out d u → p < disk_size m.setup.geometry → has_place s d p ≡ true
+  kept_place : (d u p : ℕ) → d < m.setup.geometry.disks → IsUnitKept s.power m out d u → p < disk_size m.setup.geometry → has_place s d p ≡ true
   kept_place d u p ld (there apart) lp = elim (cases_Bool (is_present (s.power d))) [
     | inl here ↦ let large = k.staged.kept.disks.large d ld here (λ o. apart (sym out_was ∙ o)) in rw here (let l : p < s.size d = omega arith in grind (arith, nat_tests))
     | inr gone ↦ absurd (apart (absent d ld gone))
@@ -136,12 +136,12 @@ module _ (slots : ℕ) (named : Option ℕ) (m : Meta) (table table_then : List 
       let large = k.staged.kept.disks.fresh_large d count fresh in
       rw fresh.present (let l : p < s.size d = omega arith in grind (arith, nat_tests))
 
-  agree : (d u p : ℕ) → d < m.setup.geometry.disks → IsKept s.power m out d u → 100 ≤ p → p < disk_size m.setup.geometry → g d p ≡ later.block d p
+  agree : (d u p : ℕ) → d < m.setup.geometry.disks → IsUnitKept s.power m out d u → 100 ≤ p → p < disk_size m.setup.geometry → g d p ≡ later.block d p
   agree d u p ld at far near =
       ap (λ (z : Contents). z d p) (contents_laid s batch_then (batch ++ later.staged) taken.laid_same)
       ∙ ap (λ (z : Batch). contents s (batch ++ z) d p) staged_is
       ∙ laid_there s batch laid_now.targets d p (kept_place d u p ld at near) far
-      ∙ ap (λ (z : Contents). lay laid_now.targets z d p) (sym begins.block)
+      ∙ ap (λ (z : Contents). overlaid_blocks laid_now.targets z d p) (sym begins.block)
       ∙ ap (λ (z : Contents). z d p) (sym laid_now.block)
 
   abbrev seen_then : View
@@ -175,7 +175,7 @@ module _ (slots : ℕ) (named : Option ℕ) (m : Meta) (table table_then : List 
   abbrev view_at : Option ℕ → View
   view_at o = record { meta = m_then; dirty = map_bit m.setup.geometry (g (map_disk o)); out = o; block = g }
 
-  holds : (b : ℕ) → b < count → blocks_of (view_at (named_out m.out)) b ≡ held (h ++ entry ∷ []) b
+  holds : (b : ℕ) → b < count → blocks_of (view_at (named_out m.out)) b ≡ after_all (h ++ entry ∷ []) b
   holds b l =
       let shape = m.setup.geometry in
       let low = shape.disks_low in
@@ -184,7 +184,7 @@ module _ (slots : ℕ) (named : Option ℕ) (m : Meta) (table table_then : List 
       ∙ placed.1 (home_row shape.disks b) (home_disk shape.disks b) (home_row_below shape.disks b shape.rows (omega arith) l) (home_disk_below shape.disks b (omega arith))
       ∙ all.blocks b l
       ∙ ap (λ (y : Block). last_of b y entry) (blocks_was b l ∙ k.staged.blocks b l)
-      ∙ sym (held-append h entry b)
+      ∙ sym (after_all-append h entry b)
 
   staged_at : ContentOk slots s.power s.size (view_at (named_out m.out)) (h ++ entry ∷ []) (length (h ++ entry ∷ []))
   staged_at = record { kept = kept_writes slots s.power s.size mapped (m.writes + 1) mapped_kept; blocks = holds }
@@ -195,12 +195,12 @@ module _ (slots : ℕ) (named : Option ℕ) (m : Meta) (table table_then : List 
   dirty_then : (r d : ℕ) → r < 512 * map_count m.setup.geometry → is_dirty table_then r d ≡ (view_by m_then s.power g).dirty r d
   dirty_then r d l = taken.bits r d l ∙ sym (bits r d l) ∙ ap (λ (z : Option ℕ). map_bit m.setup.geometry (g (map_disk z)) r d) (sym out_was)
 
-  pub write_taken : Keeps slots named m_then table_then batch_then (h ++ entry ∷ []) lo s
+  pub write_taken : HoldsBetweenCalls slots named m_then table_then batch_then copied (h ++ entry ∷ []) lo s
   write_taken = record {
     base = k.base;
     held = k.held;
     copies = copies_more slots k.base k.held h entry lo s k.copies;
-    dry = k.dry;
+    synced = k.synced;
     named_by = k.named_by;
     epoch = k.epoch;
     next = record { epoch = k.next.epoch; setup = k.next.setup; out = k.next.out; comes_in = k.next.comes_in; fresh_shut = λ d u fresh l. k.next.fresh_shut d u (record { is = fresh.is; present = fresh.present }) l };
@@ -210,11 +210,11 @@ module _ (slots : ℕ) (named : Option ℕ) (m : Meta) (table table_then : List 
   }
 
 pub taken_write_keeps : TakenWriteKeeps
-taken_write_keeps slots named m table table_then batch batch_then h lo s before later entry in_range absent k begins stage taken =
-    write_taken slots named m table table_then batch batch_then h lo s before later entry in_range absent k begins stage taken
+taken_write_keeps slots named m table table_then batch batch_then copied h lo s before later entry in_range absent k begins stage taken =
+    write_taken slots named m table table_then batch batch_then copied h lo s before later entry in_range absent k begins stage taken
 
 pub rest_keeps : RestKeeps
-rest_keeps slots m table h lo s rest writes low ok dirty = record {
+rest_keeps slots m table copied h lo s rest writes low ok dirty = record {
   base = m;
   held = contents s [];
   copies = record {
@@ -223,7 +223,7 @@ rest_keeps slots m table h lo s rest writes low ok dirty = record {
     high = omega arith;
     content = subst (λ (n : ℕ). ContentOk slots s.power s.size (view_by m s.power (contents s [])) h n) (sym writes) ok;
   };
-  dry = rest.dry;
+  synced = λ x p here copies_synced. rest.synced x p here;
   named_by = refl;
   epoch = refl;
   next = next_same s m (record m { epoch = m.epoch + 1 }) refl refl rest refl;

@@ -7,13 +7,13 @@ use Rattle.paraid_record.specs.declared.meta.Meta.{Meta}
 use Rattle.paraid_txn.specs.declared.store.Store.{Store}
 use Rattle.paraid_image.specs.Out.{named_out, or_else}
 use Rattle.paraid_image.specs.Sides.{Batch}
-use Rattle.paraid_txn.specs.Stores.{disks_of, epoch_of, named_of, rack_of}
+use Rattle.paraid_txn.specs.Stores.{disks_of, epoch_of, named_of, store_rack}
 use Rattle.paraid_core.specs.declared.changes.Change.{Change}
 use Rattle.paraid_core.specs.declared.staged.Core.{Core}
-use Rattle.paraid_core.specs.Stands.{CanServe, HeldBeside, IsReady, Keeps}
+use Rattle.paraid_core.specs.CoreInvariant.{CanServe, IsHeldWithOneMissing, AreSlotsReady, HoldsBetweenCalls}
 
-abbrev pub rack_in : {R : Type 0} {g : _} → Core R g → R
-rack_in core = rack_of core.store
+abbrev pub core_rack : {R : Type 0} {g : _} → Core R g → R
+core_rack core = store_rack core.store
 
 abbrev pub store_of : {R : Type 0} {g : _} → Core R g → Store R g
 store_of core = core.store
@@ -32,33 +32,41 @@ draft_of core = core.draft
 abbrev pub changes_of : {R : Type 0} {g : _} → Core R g → List Change
 changes_of core = core.changes
 
-abbrev pub table_of : {R : Type 0} {g : _} → Core R g → List (List Bool)
-table_of core = core.dirty
+-- the disk of which a read of that plan has failed
+abbrev pub failed_of : {R : Type 0} {g : _} → Core R g → Option ℕ
+failed_of core = core.failed
+
+abbrev pub core_table : {R : Type 0} {g : _} → Core R g → List (List Bool)
+core_table core = core.dirty
+
+-- the disks to which copies went since they were last synced
+abbrev pub copied_of : {R : Type 0} {g : _} → Core R g → List Bool
+copied_of core = core.copied
 
 -- the number of its blocks
-abbrev pub count_of : {R : Type 0} {g : _} → Core R g → ℕ
-count_of core = core.meta.setup.geometry.rows * (core.meta.setup.geometry.disks - 1)
+abbrev pub core_block_count : {R : Type 0} {g : _} → Core R g → ℕ
+core_block_count core = core.meta.setup.geometry.rows * (core.meta.setup.geometry.disks - 1)
 
 -- the disk that is down: by the last commit, or by the meta
-abbrev pub down_of : {R : Type 0} {g : _} → Core R g → Option ℕ
-down_of core = or_else (named_of core.store) (named_out core.meta.out)
+abbrev pub core_down : {R : Type 0} {g : _} → Core R g → Option ℕ
+core_down core = or_else (named_of core.store) (named_out core.meta.out)
 
 -- it can be used
-abbrev pub Ready : {R : Type 0} {g : _} → (R → ℕ) → (R → ℕ → Slot) → Core R g → Type 0
-Ready count slot core =
-    IsReady (count (rack_of core.store)) (slot (rack_of core.store)) (epoch_of core.store) (disks_of core.store) (named_of core.store) core.meta (length core.dirty) core.batch
+abbrev pub IsCoreReady : {R : Type 0} {g : _} → (R → ℕ) → (R → ℕ → Slot) → Core R g → Type 0
+IsCoreReady count slot core =
+    AreSlotsReady (count (store_rack core.store)) (slot (store_rack core.store)) (epoch_of core.store) (disks_of core.store) (named_of core.store) core.meta (length core.dirty) core.batch
 
-abbrev pub Serves : {R : Type 0} {g : _} → (R → ℕ → Slot) → Core R g → Type 0
-Serves slot core = CanServe (slot (rack_of core.store)) (named_of core.store) core.meta
+abbrev pub CanCoreServe : {R : Type 0} {g : _} → (R → ℕ → Slot) → Core R g → Type 0
+CanCoreServe slot core = CanServe (slot (store_rack core.store)) (named_of core.store) core.meta
 
 -- it stands for these writes, of which no stop takes away the first `lo`
-abbrev pub Stands : {R : Type 0} {g : _} → (R → ℕ) → Core R g → History → ℕ → Disks → Type 0
-Stands count core h lo = Keeps (count (rack_of core.store)) (named_of core.store) core.meta core.dirty core.batch h lo
+abbrev pub CoreStandsFor : {R : Type 0} {g : _} → (R → ℕ) → Core R g → History → ℕ → Disks → Type 0
+CoreStandsFor count core h lo = HoldsBetweenCalls (count (store_rack core.store)) (named_of core.store) core.meta core.dirty core.batch core.copied h lo
 
 -- what holds at each moment of a call
-abbrev pub Held : {R : Type 0} {g : _} → (R → ℕ) → Core R g → History → ℕ → Disks → Type 0
-Held count core h lo = HeldBeside (count (rack_of core.store)) core.meta.setup.geometry.disks (down_of core) h lo
+abbrev pub IsCoreHeld : {R : Type 0} {g : _} → (R → ℕ) → Core R g → History → ℕ → Disks → Type 0
+IsCoreHeld count core h lo = IsHeldWithOneMissing (count (store_rack core.store)) core.meta.setup.geometry.disks (core_down core) h lo
 
 -- what holds at each moment of reads: a disk that has failed since the last commit takes nothing away
-abbrev pub HeldSince : {R : Type 0} {g : _} → (R → ℕ) → Core R g → History → ℕ → Disks → Type 0
-HeldSince count core h lo = HeldBeside (count (rack_of core.store)) core.meta.setup.geometry.disks (named_of core.store) h lo
+abbrev pub IsCoreHeldSinceCommit : {R : Type 0} {g : _} → (R → ℕ) → Core R g → History → ℕ → Disks → Type 0
+IsCoreHeldSinceCommit count core h lo = IsHeldWithOneMissing (count (store_rack core.store)) core.meta.setup.geometry.disks (named_of core.store) h lo

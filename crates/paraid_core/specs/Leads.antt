@@ -6,8 +6,8 @@ use Rattle.paraid_rack.specs.Told.{Ran}
 use Rattle.paraid_rack.specs.Trail.{Trail}
 use Rattle.paraid_record.specs.declared.meta.Meta.{Meta}
 use Rattle.paraid_image.specs.Out.{named_out}
-use Rattle.paraid_txn.specs.Stores.{disks_of, rack_of}
-use Rattle.paraid_view.specs.Reads.{AreLeft, AreReads}
+use Rattle.paraid_txn.specs.Stores.{disks_of, store_rack}
+use Rattle.paraid_view.specs.Reads.{AreLeft, AreArrayReads}
 use Rattle.paraid_view.proofs.ReadLemmas.{left_none, left_then, ran_none, ran_then, told_before}
 use Rattle.paraid_core.specs.declared.staged.Core.{Core}
 use Rattle.paraid_core.specs.Plans.{LeadsTo}
@@ -19,27 +19,28 @@ module _ {R : Type 0} {g : _} (count : R → ℕ) (slot : R → ℕ → Slot) (t
     same = record { disks = refl; epoch = refl; named = refl };
     meta = refl;
     batch = refl;
+    copied = refl;
     rows = refl;
     undone_same = refl;
     logged = λ are. are;
-    calls = ran_none (told (rack_of a.store)) (disks_of a.store);
-    left = λ none. subst (λ (f : Option ℕ). AreLeft f (slot (rack_of a.store)) (slot (rack_of a.store))) (sym none) (left_none (slot (rack_of a.store)));
+    calls = ran_none (told (store_rack a.store)) (disks_of a.store);
+    left = λ none. subst (λ (f : Option ℕ). AreLeft f (slot (store_rack a.store)) (slot (store_rack a.store))) (sym none) (left_none (slot (store_rack a.store)));
     over = λ e is. (is, refl);
     below = λ e none is. let z : None ≡ Some e = sym none ∙ is in cc;
   }
 
   module _ (a b c : Core R g) (p : LeadsTo count slot told a b) (q : LeadsTo count slot told b c) where
     abbrev sa : ℕ → Slot
-    sa = slot (rack_of a.store)
+    sa = slot (store_rack a.store)
 
     abbrev sc : ℕ → Slot
-    sc = slot (rack_of c.store)
+    sc = slot (store_rack c.store)
 
     left_by : (f : Option ℕ) → b.failed ≡ f → a.failed ≡ None → AreLeft c.failed sa sc
-    left_by None is none = left_then c.failed sa (slot (rack_of b.store)) sc (subst (λ (f : Option ℕ). AreLeft f sa (slot (rack_of b.store))) is (p.left none)) (q.left is)
+    left_by None is none = left_then c.failed sa (slot (store_rack b.store)) sc (subst (λ (f : Option ℕ). AreLeft f sa (slot (store_rack b.store))) is (p.left none)) (q.left is)
     left_by (Some e) is none =
         let o = q.over e is in
-        subst (λ (s : ℕ → Slot). AreLeft c.failed sa s) (sym o.1) (subst (λ (f : Option ℕ). AreLeft f sa (slot (rack_of b.store))) (is ∙ sym o.0) (p.left none))
+        subst (λ (s : ℕ → Slot). AreLeft c.failed sa s) (sym o.1) (subst (λ (f : Option ℕ). AreLeft f sa (slot (store_rack b.store))) (is ∙ sym o.0) (p.left none))
 
     below_by : (f : Option ℕ) → b.failed ≡ f → (e : ℕ) → a.failed ≡ None → c.failed ≡ Some e → (e < disks_of a.store) × (named_out a.meta.out ≢ Some e)
     below_by None is e none at =
@@ -57,15 +58,16 @@ module _ {R : Type 0} {g : _} (count : R → ℕ) (slot : R → ℕ → Slot) (t
       same = record { disks = q.same.disks ∙ p.same.disks; epoch = q.same.epoch ∙ p.same.epoch; named = q.same.named ∙ p.same.named };
       meta = q.meta ∙ p.meta;
       batch = q.batch ∙ p.batch;
+      copied = q.copied ∙ p.copied;
       rows = q.rows ∙ p.rows;
       undone_same = q.undone_same ∙ p.undone_same;
       logged = λ are. q.logged (p.logged are);
-      calls = ran_then (told (rack_of a.store)) (told (rack_of b.store)) (told (rack_of c.store)) (disks_of a.store) p.calls
-          (subst (λ (n : ℕ). Ran (told (rack_of b.store)) (told (rack_of c.store)) (AreReads n)) p.same.disks q.calls);
+      calls = ran_then (told (store_rack a.store)) (told (store_rack b.store)) (told (store_rack c.store)) (disks_of a.store) p.calls
+          (subst (λ (n : ℕ). Ran (told (store_rack b.store)) (told (store_rack c.store)) (AreArrayReads n)) p.same.disks q.calls);
       left = left_by b.failed refl;
       over = λ e is. let o = p.over e is in let k = q.over e o.0 in (k.0, k.1 ∙ o.1);
       below = below_by b.failed refl;
     }
 
-  pub leads_told : (a b : Core R g) → LeadsTo count slot told a b → IsSome (told (rack_of b.store)) → IsSome (told (rack_of a.store))
-  leads_told a b p some = told_before (told (rack_of a.store)) (told (rack_of b.store)) (AreReads (disks_of a.store)) p.calls some
+  pub leads_told : (a b : Core R g) → LeadsTo count slot told a b → IsSome (told (store_rack b.store)) → IsSome (told (store_rack a.store))
+  leads_told a b p some = told_before (told (store_rack a.store)) (told (store_rack b.store)) (AreArrayReads (disks_of a.store)) p.calls some

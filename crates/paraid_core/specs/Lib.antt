@@ -1,7 +1,14 @@
-pub mod Stands
+pub mod CoreInvariant
 pub mod Cores
 pub mod Writes
 pub mod Undo
 pub mod Plans
 pub mod Leads
 pub mod Taken
+pub mod Down
+pub mod Room
+pub mod Cleaning
+pub mod Begin
+pub mod Steps
+pub mod Fills
+pub mod CellCopies

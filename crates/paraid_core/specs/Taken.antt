@@ -2,7 +2,7 @@
 use Rattle.std.specs.Prelude.{◌≡◌, ◌≢◌, ℕ, ◌+◌, ◌<◌, ◌≤◌, ◌++◌, length, Option, Some, All, AllPairs}
 use Rattle.paraid_base.specs.declared.block.Block.{Block}
 use Rattle.paraid_image.specs.Sides.{Batch, targets}
-use Rattle.paraid_image.specs.Standing.{laid}
+use Rattle.paraid_image.specs.Standing.{overlaid_block}
 use Rattle.paraid_plan.specs.Placed.{ArePlaced, IsPlaced}
 use Rattle.paraid_rack.specs.Slots.{Slot}
 use Rattle.paraid_record.specs.declared.meta.Meta.{Meta}
@@ -20,7 +20,7 @@ AreApart batch = AllPairs (λ (s : Target) (t : Target). s ≢ t) (targets batch
 pub record IsTakenIn (m : Meta) (old draft new : Batch) : Type 0 where
   pub room : length new ≤ length old + length draft
   pub apart : AreApart new
-  pub laid_same : ArePlaced m draft → (d p : ℕ) (x : Block) → laid new d p x ≡ laid (old ++ draft) d p x
+  pub laid_same : ArePlaced m draft → (d p : ℕ) (x : Block) → overlaid_block new d p x ≡ overlaid_block (old ++ draft) d p x
   pub each : All (IsTargetInRange m.setup.geometry) (targets old) → All (IsTargetInRange m.setup.geometry) (targets new)
   pub can : (skip : Option ℕ) (count : ℕ) (slot : ℕ → Slot)
       → ((t : Target) → IsPlaced m t → (t.disk < count) × (skip ≢ Some t.disk → CanWrite slot t.disk t.place))

@@ -1,16 +1,16 @@
 //! A core as that over which a write is planned: what is drafted is seen by the reads of the plan, and
 //! nothing of it is staged yet.
 ghost use Rattle.std.specs.Prelude.{◌++◌, ◌≡◌, ◌≢◌, ℕ, ◌+◌, ◌<◌, ◌≤◌, Some, Option, IfErr, IsSome, IsTrue, ◌↔◌, OnOk, length, false, []};
-ghost use Rattle.paraid_core.specs.Undo.{AreLogged, undone};
-ghost use Rattle.paraid_dirty.specs.Table.{changed, is_dirty};
+ghost use Rattle.paraid_core.specs.Undo.{AreOfTable, undo_changes};
+ghost use Rattle.paraid_dirty.specs.Table.{table_with_bit, is_dirty};
 ghost use Rattle.paraid_image.specs.Standing.{Contents};
-ghost use Rattle.paraid_plan.specs.Staged.{soft_count, stripe_block};
+ghost use Rattle.paraid_plan.specs.WriteTargets.{soft_count, stripe_block_now};
 ghost use Rattle.paraid_record.specs.Range.{IsInRange};
-ghost use Rattle.paraid_txn.specs.Stores.{disks_of, rack_of};
-ghost use Rattle.paraid_view.specs.Reads.{CanRead, HaveRead, Shows, lost_by, seen_by};
+ghost use Rattle.paraid_txn.specs.Stores.{disks_of, store_rack};
+ghost use Rattle.paraid_view.specs.Reads.{CanRead, HaveRead, ShowsContents, lost_by, seen_by};
 
 use crate::changes::Changes;
-use crate::staged::{Core, named_out};
+use crate::staged::Core;
 use paraid_base::{Block, DiskNo, Place, Row};
 use paraid_dirty::DirtyTable;
 use paraid_layout::soft_place;
@@ -18,7 +18,7 @@ use paraid_plan::{Lost, Plan};
 use paraid_rack::Rack;
 use paraid_record::Meta;
 use paraid_txn::{Batch, Store};
-use paraid_view::{Draft, read_laid, read_rest, read_value};
+use paraid_view::{Draft, read_laid, read_others, read_rest, read_value};
 
 // Whether this disk is out.
 fn is_at(out: Option<DiskNo>, disk: DiskNo) -> bool
@@ -43,15 +43,15 @@ fn read_stripe<R: Rack>(
     requires stripe { s < soft_count meta.now }
     requires disk { e < meta.now.gear }
     requires array { meta.now.setup.geometry.disks ≡ disks_of store.old }
-    requires ready { CanRead (R.slot_count (rack_of store.old)) (R.slot (rack_of store.old))
+    requires ready { CanRead (R.slot_count (store_rack store.old)) (R.slot (store_rack store.old))
         meta.now out }
     ensures read { HaveRead R.slot_count R.slot R.told (disks_of store.old) (lost_by result)
         store.old store.new }
     ensures below { IfErr result (λ d. d < disks_of store.old) }
     ensures failed { IfErr result (λ d. out ≢ Some d) }
-    ensures value { OnOk result ((f : Contents) (table : _) → Shows (R.told (rack_of store.old)) (batch.now ++ draft.now) f
-        → IsSome (R.told (rack_of store.new))
-        → into.new ≡ stripe_block (seen_by meta.now table out f) s e) }
+    ensures value { OnOk result ((f : Contents) (table : _) → ShowsContents (R.told (store_rack store.old)) (batch.now ++ draft.now) f
+        → IsSome (R.told (store_rack store.new))
+        → into.new ≡ stripe_block_now (seen_by meta.now table out f) s e) }
 {
     if is_at(out, e) {
         return read_rest(store, batch, draft, meta, s, e, into);
@@ -65,7 +65,7 @@ fn turn(dirty: &mut DirtyTable, r: Row, d: DiskNo, bit: bool)
     requires row { r < length dirty.old }
     requires disk { d < 8 }
     ensures rows { length dirty.new ≡ length dirty.old }
-    ensures cells { (q e : ℕ) → is_dirty dirty.new q e ≡ changed (is_dirty dirty.old) r d bit q e }
+    ensures cells { (q e : ℕ) → is_dirty dirty.new q e ≡ table_with_bit (is_dirty dirty.old) r d bit q e }
 {
     if bit {
         dirty.set(r, d);
@@ -76,9 +76,9 @@ fn turn(dirty: &mut DirtyTable, r: Row, d: DiskNo, bit: bool)
 
 // Makes the dirty bits what they were before the changes.
 pub(crate) fn undo(changes: &mut Changes, dirty: &mut DirtyTable)
-    requires logged { AreLogged (length dirty.old) changes.old }
+    requires logged { AreOfTable (length dirty.old) changes.old }
     ensures rows { length dirty.new ≡ length dirty.old }
-    ensures bits { is_dirty dirty.new ≡ undone changes.old (is_dirty dirty.old) }
+    ensures bits { is_dirty dirty.new ≡ undo_changes changes.old (is_dirty dirty.old) }
     ensures none { changes.new ≡ [] }
 {
     while let Some(change) = changes.pop() {
@@ -88,22 +88,24 @@ pub(crate) fn undo(changes: &mut Changes, dirty: &mut DirtyTable)
 
 impl<R: Rack> Plan for Core<R> {
     ghost use Rattle.std.specs.Prelude.{length, IsSome};
-    ghost use Rattle.paraid_core.specs.Cores.{changes_of, rack_in};
+    ghost use Rattle.paraid_core.specs.Cores.{changes_of, failed_of, core_rack};
     ghost use Rattle.paraid_core.specs.Leads.{leads_stays, leads_then, leads_told};
     ghost use Rattle.paraid_core.specs.Plans.{LeadsTo, ServesPlan, desk_of};
 
     ghost desk = { λ core. desk_of R.told core };
 
-    ghost tells = { λ core. IsSome (R.told (rack_in core)) };
+    ghost tells = { λ core. IsSome (R.told (core_rack core)) };
 
     ghost changes = { λ core. length (changes_of core) };
 
     ghost serves = { λ core m. ServesPlan R.slot_count R.slot core m };
 
+    ghost fails = { λ core. IsSome (failed_of core) };
+
     ghost leads = { λ a b. LeadsTo R.slot_count R.slot R.told a b };
 
     fn value(&mut self, m: &Meta, r: Row, d: DiskNo, into: &mut Block) -> Result<(), Lost> {
-        let out = named_out(m.out);
+        let out = m.out.named();
         let Err(disk) = read_value(
             &mut self.store,
             &self.batch,
@@ -121,8 +123,33 @@ impl<R: Rack> Plan for Core<R> {
         Err(Lost)
     }
 
+    fn rest(
+        &mut self,
+        m: &Meta,
+        r: Row,
+        out: DiskNo,
+        other: DiskNo,
+        into: &mut Block,
+    ) -> Result<(), Lost> {
+        let Err(disk) = read_others(
+            &mut self.store,
+            &self.batch,
+            &self.draft,
+            m,
+            &self.dirty,
+            out,
+            other,
+            r,
+            into,
+        ) else {
+            return Ok(());
+        };
+        self.failed = Some(disk);
+        Err(Lost)
+    }
+
     fn stripe(&mut self, m: &Meta, s: u32, e: DiskNo, into: &mut Block) -> Result<(), Lost> {
-        let out = named_out(m.out);
+        let out = m.out.named();
         let Err(disk) = read_stripe(
             &mut self.store,
             &self.batch,

@@ -1,22 +1,24 @@
-ghost use Rattle.std.specs.Prelude.{◌≡◌, ◌≢◌, ℕ, ◌+◌, ◌-◌, ◌^◌, ◌<◌, ◌≤◌, [], length, Option, Some, None, OnOk, IfErr, IsSome};
-ghost use Rattle.paraid_base.specs.History.{History, held as held_by};
-ghost use Rattle.paraid_rack.specs.Told.{Ran, Runs};
+ghost use Rattle.std.specs.Prelude.{◌≡◌, ◌≢◌, ℕ, ◌+◌, ◌-◌, ◌^◌, ◌<◌, ◌≤◌, [], length, Option, Some, None, OnOk, IfErr, IsSome, false};
+ghost use Rattle.paraid_base.specs.History.{History, after_all as held_by};
+ghost use Rattle.paraid_rack.specs.Told.{Ran, CrashTriple};
 ghost use Rattle.paraid_rack.specs.Trail.{Trail, now};
 ghost use Rattle.paraid_record.specs.Range.{IsInRange};
-ghost use Rattle.paraid_txn.specs.Losses.{AreDry, IsSpared, IsTwo};
-ghost use Rattle.paraid_txn.specs.Stores.{IsSameStore, disks_of, epoch_of, named_of, rack_of};
-ghost use Rattle.paraid_core.specs.Stands.{lost_in, marked};
+ghost use Rattle.paraid_txn.specs.Losses.{StaySynced, OnlyLosesSlots, AreTwoDown};
+ghost use Rattle.paraid_txn.specs.Stores.{IsSameStore, disks_of, epoch_of, named_of, store_rack};
+ghost use Rattle.paraid_core.specs.Steps.{AreUnsyncedCopied};
+ghost use Rattle.paraid_core.specs.Fills.{Filled};
+ghost use Rattle.paraid_core.specs.Steps.{IsMarkedFrom, IsNamedOrAbsent};
+ghost use Rattle.paraid_core.specs.CoreInvariant.{AreCopiesSynced, lost_in, meta_with_lost};
 ghost use Rattle.paraid_image.specs.Out.{named_out as named_out_of};
-ghost use Rattle.paraid_plan.specs.Marks.{phase_lost as phase_lost_of};
 
 use crate::changes::Changes;
-use paraid_base::{Block, BlockNo, DiskNo, Out, Phase, Two};
+use paraid_base::{Block, BlockNo, DiskNo, Out, Two};
 use paraid_dirty::DirtyTable;
 use paraid_layout::home;
-use paraid_rack::Rack;
+use paraid_rack::{Power, Rack};
 use paraid_record::Meta;
 use paraid_txn::{Batch, Store};
-use paraid_view::{Draft, read_cell};
+use paraid_view::Draft;
 
 /// The disks of an array with all that is staged over them.
 ///
@@ -28,36 +30,16 @@ pub struct Core<R: Rack> {
     pub(crate) meta: Meta,
     pub(crate) dirty: DirtyTable,
     pub(crate) batch: Batch,
+    // to which disks copies went since they were last synced
+    pub(crate) copied: [bool; 8],
     pub(crate) draft: Draft,
     pub(crate) changes: Changes,
     pub(crate) failed: Option<DiskNo>,
 }
 
-// The phase once a disk is out.
-fn phase_lost(phase: Phase) -> Phase
-    ensures { result ≡ phase_lost_of phase }
-{
-    match phase {
-        Phase::Steady => Phase::Steady,
-        Phase::Down { to: _ } => Phase::Steady,
-        Phase::Up { to } => Phase::Up { to },
-    }
-}
-
-// The disk that a meta names out.
-pub(crate) fn named_out(out: Out) -> Option<DiskNo>
-    ensures { result ≡ named_out_of out }
-{
-    match out {
-        Out::No => None,
-        Out::Gone { disk } => Some(disk),
-        Out::Fresh { disk, .. } => Some(disk),
-    }
-}
-
 // A disk has failed, or none: it is out from now on, unless another one is.
 pub(crate) fn lose(meta: &mut Meta, lost: Option<DiskNo>) -> Result<(), Two>
-    ensures marked { OnOk result (meta.new ≡ marked (lost_in meta.old lost) meta.old) }
+    ensures marked { OnOk result (meta.new ≡ meta_with_lost (lost_in meta.old lost) meta.old) }
     ensures alone { OnOk result ((d x : ℕ) → lost ≡ Some d → named_out_of meta.old.out ≡ Some x
         → d < meta.old.setup.geometry.disks → x ≡ d) }
     ensures two { IfErr result (λ two. (lost ≡ Some two.second)
@@ -69,7 +51,7 @@ pub(crate) fn lose(meta: &mut Meta, lost: Option<DiskNo>) -> Result<(), Two>
     if disk >= meta.setup.geometry.disks {
         return Ok(());
     }
-    if let Some(first) = named_out(meta.out) {
+    if let Some(first) = meta.out.named() {
         if first != disk {
             return Err(Two {
                 first,
@@ -79,7 +61,7 @@ pub(crate) fn lose(meta: &mut Meta, lost: Option<DiskNo>) -> Result<(), Two>
     }
     *meta = Meta {
         out: Out::Gone { disk },
-        phase: phase_lost(meta.phase),
+        phase: meta.phase.beside(true),
         fill: 0,
         ..*meta
     };
@@ -87,7 +69,9 @@ pub(crate) fn lose(meta: &mut Meta, lost: Option<DiskNo>) -> Result<(), Two>
 }
 
 impl<R: Rack> Core<R> {
-    ghost use Rattle.paraid_core.specs.Cores.{Held, Ready, Serves, Stands, batch_of, count_of, down_of, draft_of, meta_of, rack_in, store_of, table_of};
+    ghost use Rattle.paraid_core.specs.Cores.{IsCoreHeld, IsCoreHeldSinceCommit, IsCoreReady, CanCoreServe, CoreStandsFor, batch_of, copied_of, core_block_count, core_down, draft_of, meta_of, core_rack, store_of, core_table};
+    ghost use Rattle.paraid_core.specs.Cleaning.{is_cleaned};
+    ghost use Rattle.paraid_core.specs.Down.{IsDownAfter};
 
     /// Takes over an array with this staged, and a draft for the plans of its writes. It makes no
     /// call of the rack.
@@ -101,15 +85,17 @@ impl<R: Rack> Core<R> {
     ) -> Core<R>
         ensures store { store_of result ≡ store }
         ensures meta { meta_of result ≡ meta }
-        ensures table { table_of result ≡ dirty }
+        ensures table { core_table result ≡ dirty }
         ensures batch { batch_of result ≡ batch }
         ensures draft { draft_of result ≡ draft }
+        ensures copies_synced { AreCopiesSynced meta.setup.geometry.disks (copied_of result) }
     {
         Core {
             store,
             meta,
             dirty,
             batch,
+            copied: [false; 8],
             draft,
             changes,
             failed: None,
@@ -118,7 +104,7 @@ impl<R: Rack> Core<R> {
 
     /// Gives the rack back. What is staged is dropped.
     pub fn close(self) -> R
-        ensures { result ≡ rack_in self }
+        ensures { result ≡ core_rack self }
     {
         self.store.close()
     }
@@ -130,6 +116,28 @@ impl<R: Rack> Core<R> {
         &self.meta
     }
 
+    /// How a disk is powered.
+    pub fn power(&self, disk: DiskNo) -> Power
+        requires { disk < R.slot_count (core_rack self.now) }
+        ensures { result ≡ (R.slot (core_rack self.now) disk).power }
+    {
+        self.store.power(disk)
+    }
+
+    /// The disk that is out.
+    pub fn out(&self) -> Out
+        ensures { result ≡ (meta_of self.now).out }
+    {
+        self.meta.out
+    }
+
+    /// The cells that are dirty, with all that is staged.
+    pub fn dirty(&self) -> &DirtyTable
+        ensures { result.now ≡ core_table self.now }
+    {
+        &self.dirty
+    }
+
     /// The number of targets that are staged.
     pub fn staged(&self) -> u8
         ensures { result ≡ length (batch_of self.now) }
@@ -137,81 +145,123 @@ impl<R: Rack> Core<R> {
         self.batch.count()
     }
 
-    /// Reads a block: the bytes last written to it, or zeros. A disk that fails in the read is out
-    /// from then on.
-    pub fn read(&mut self, block: BlockNo, into: &mut Block) -> Result<(), Two>
-        requires ready { Ready R.slot_count R.slot self.old }
-        requires serves { Serves R.slot self.old }
-        requires block { block < count_of self.old }
+    /// Reads a block: the bytes last written to it, or zeros. What is staged stays as it is; a disk
+    /// that fails in the read is out from then on.
+    pub fn read_only(&mut self, block: BlockNo, into: &mut Block) -> Result<(), Two>
+        requires ready { IsCoreReady R.slot_count R.slot self.old }
+        requires serves { CanCoreServe R.slot self.old }
+        requires block { block < core_block_count self.old }
         requires no_draft { draft_of self.old ≡ [] }
 
         ensures draft { draft_of self.new ≡ draft_of self.old }
-        ensures slots { R.slot_count (rack_in self.new) ≡ R.slot_count (rack_in self.old) }
-        ensures ready { OnOk result (Ready R.slot_count R.slot self.new) }
-        ensures serves { OnOk result (Serves R.slot self.new) }
-        ensures spared { IsSpared (R.slot (rack_in self.old)) (R.slot (rack_in self.new)) }
-        ensures dry { AreDry (R.slot (rack_in self.old)) (R.slot (rack_in self.new)) }
-        ensures two { IfErr result (IsTwo (down_of self.old)
-            (R.slot (rack_in self.old)) (R.slot (rack_in self.new))) }
+        ensures copied { copied_of self.new ≡ copied_of self.old }
+        ensures slots { R.slot_count (core_rack self.new) ≡ R.slot_count (core_rack self.old) }
+        ensures ready { OnOk result (IsCoreReady R.slot_count R.slot self.new) }
+        ensures serves { OnOk result (CanCoreServe R.slot self.new) }
+        ensures batch { batch_of self.new ≡ batch_of self.old }
+        ensures table { core_table self.new ≡ core_table self.old }
+        ensures cleans_less { OnOk result ((r d : ℕ)
+            → is_cleaned (meta_of self.old) (core_table self.old) r d ≡ false
+            → is_cleaned (meta_of self.new) (core_table self.new) r d ≡ false) }
+        ensures setup { OnOk result ((meta_of self.new).setup ≡ (meta_of self.old).setup) }
+        ensures writes { OnOk result ((meta_of self.new).writes ≡ (meta_of self.old).writes) }
+        ensures epoch { OnOk result ((meta_of self.new).epoch ≡ (meta_of self.old).epoch) }
+        ensures down { OnOk result (IsDownAfter (core_down self.old) (core_down self.new)
+            (R.slot (core_rack self.old)) (R.slot (core_rack self.new))) }
+        ensures spared { OnlyLosesSlots (R.slot (core_rack self.old)) (R.slot (core_rack self.new)) }
+        ensures still_synced { StaySynced (R.slot (core_rack self.old)) (R.slot (core_rack self.new)) }
+        ensures two { IfErr result (AreTwoDown (core_down self.old)
+            (R.slot (core_rack self.old)) (R.slot (core_rack self.new))) }
 
         // Each stop leaves what it left before, and the writes are as before.
         ensures moments { (h : History) (lo : ℕ)
-            → Ran (R.told (rack_in self.old)) (R.told (rack_in self.new))
-            (Runs (Held R.slot_count self.old h lo) (Stands R.slot_count self.old h lo)
-            (Held R.slot_count self.old h lo)) }
+            → Ran (R.told (core_rack self.old)) (R.told (core_rack self.new))
+            (CrashTriple (IsCoreHeld R.slot_count self.old h lo) (CoreStandsFor R.slot_count self.old h lo)
+            (IsCoreHeld R.slot_count self.old h lo)) }
         ensures stands { OnOk result ((h : History) (lo : ℕ)
-            → Ran (R.told (rack_in self.old)) (R.told (rack_in self.new))
-            (Runs (Held R.slot_count self.old h lo) (Stands R.slot_count self.old h lo)
-            (Stands R.slot_count self.new h lo))) }
+            → Ran (R.told (core_rack self.old)) (R.told (core_rack self.new))
+            (CrashTriple (IsCoreHeld R.slot_count self.old h lo) (CoreStandsFor R.slot_count self.old h lo)
+            (CoreStandsFor R.slot_count self.new h lo))) }
+        // A disk that failed since the last commit takes nothing away.
+        ensures moments_since { (h : History) (lo : ℕ)
+            → Ran (R.told (core_rack self.old)) (R.told (core_rack self.new))
+            (CrashTriple (IsCoreHeldSinceCommit R.slot_count self.old h lo) (CoreStandsFor R.slot_count self.old h lo)
+            (IsCoreHeldSinceCommit R.slot_count self.old h lo)) }
+        ensures since { OnOk result ((h : History) (lo : ℕ)
+            → Ran (R.told (core_rack self.old)) (R.told (core_rack self.new))
+            (CrashTriple (IsCoreHeldSinceCommit R.slot_count self.old h lo) (CoreStandsFor R.slot_count self.old h lo)
+            (CoreStandsFor R.slot_count self.new h lo))) }
         ensures value { OnOk result ((h : History) (lo : ℕ) (t : Trail)
-            → R.told (rack_in self.old) ≡ Some t → Stands R.slot_count self.old h lo (now t)
-            → IsSome (R.told (rack_in self.new)) → into.new ≡ held_by h block) }
+            → R.told (core_rack self.old) ≡ Some t → CoreStandsFor R.slot_count self.old h lo (now t)
+            → IsSome (R.told (core_rack self.new)) → into.new ≡ held_by h block) }
     {
         let (r, d) = home(&self.meta.setup.geometry, block);
-        let lost = read_cell(
-            &mut self.store,
-            &self.batch,
-            &self.draft,
-            &self.meta,
-            &self.dirty,
-            r,
-            d,
-            into,
-        )?;
-        lose(&mut self.meta, lost)?;
+        self.read_value(r, d, into)?;
         Ok(())
     }
 
     /// Brings all that is staged to the disks, whole or not at all. A disk that fails in it is out
     /// from then on; the commit goes on without it.
     pub fn commit(&mut self) -> Result<(), Two>
-        requires ready { Ready R.slot_count R.slot self.old }
+        requires ready { IsCoreReady R.slot_count R.slot self.old }
         requires epoch { (meta_of self.old).epoch < 2 ^ 63 }
+        // each copy is synced
+        requires copies_synced { AreCopiesSynced (meta_of self.old).setup.geometry.disks (copied_of self.old) }
         // no disk comes back in it
         requires stays { (d : ℕ) → named_of (store_of self.old) ≡ Some d → named_out_of (meta_of self.old).out ≡ Some d }
 
         ensures draft { draft_of self.new ≡ draft_of self.old }
-        ensures slots { R.slot_count (rack_in self.new) ≡ R.slot_count (rack_in self.old) }
-        ensures ready { OnOk result (Ready R.slot_count R.slot self.new) }
-        ensures serves { OnOk result (Serves R.slot self.old → Serves R.slot self.new) }
+        ensures copied { copied_of self.new ≡ copied_of self.old }
+        ensures slots { R.slot_count (core_rack self.new) ≡ R.slot_count (core_rack self.old) }
+        ensures ready { OnOk result (IsCoreReady R.slot_count R.slot self.new) }
+        ensures serves { OnOk result (CanCoreServe R.slot self.old → CanCoreServe R.slot self.new) }
         ensures setup { OnOk result ((meta_of self.new).setup ≡ (meta_of self.old).setup) }
         ensures writes { OnOk result ((meta_of self.new).writes ≡ (meta_of self.old).writes) }
-        ensures spared { IsSpared (R.slot (rack_in self.old)) (R.slot (rack_in self.new)) }
-        ensures dry { OnOk result (AreDry (R.slot (rack_in self.old)) (R.slot (rack_in self.new))) }
-        ensures two { IfErr result (IsTwo (down_of self.old)
-            (R.slot (rack_in self.old)) (R.slot (rack_in self.new))) }
+        // It is that of the next epoch, with the marks of a disk that was lost, if one was.
+        ensures meta { OnOk result (IsMarkedFrom (record (meta_of self.old)
+            { epoch = (meta_of self.old).epoch + 1 }) (meta_of self.new)) }
+        ensures spared { OnlyLosesSlots (R.slot (core_rack self.old)) (R.slot (core_rack self.new)) }
+        ensures still_synced { OnOk result (StaySynced (R.slot (core_rack self.old)) (R.slot (core_rack self.new))) }
+        ensures unsynced { OnOk result (AreUnsyncedCopied R.slot self.old → AreUnsyncedCopied R.slot self.new) }
+        ensures two { IfErr result (AreTwoDown (core_down self.old)
+            (R.slot (core_rack self.old)) (R.slot (core_rack self.new))) }
         ensures epoch { OnOk result ((meta_of self.new).epoch ≡ (meta_of self.old).epoch + 1) }
+        ensures cleans_less { OnOk result ((r d : ℕ)
+            → is_cleaned (meta_of self.old) (core_table self.old) r d ≡ false
+            → is_cleaned (meta_of self.new) (core_table self.new) r d ≡ false) }
         ensures nothing { OnOk result (batch_of self.new ≡ []) }
+        ensures named { OnOk result (named_of (store_of self.new) ≡ named_out_of (meta_of self.old).out) }
+        ensures down { OnOk result (IsDownAfter (core_down self.old) (core_down self.new)
+            (R.slot (core_rack self.old)) (R.slot (core_rack self.new))) }
 
         // Each stop leaves what it left before or all writes, and at the end all writes.
         ensures moments { (h : History) (lo : ℕ)
-            → Ran (R.told (rack_in self.old)) (R.told (rack_in self.new))
-            (Runs (Held R.slot_count self.old h lo) (Stands R.slot_count self.old h lo)
-            (Held R.slot_count self.old h lo)) }
+            → Ran (R.told (core_rack self.old)) (R.told (core_rack self.new))
+            (CrashTriple (IsCoreHeld R.slot_count self.old h lo) (CoreStandsFor R.slot_count self.old h lo)
+            (IsCoreHeld R.slot_count self.old h lo)) }
         ensures stands { OnOk result ((h : History) (lo : ℕ)
-            → Ran (R.told (rack_in self.old)) (R.told (rack_in self.new))
-            (Runs (Held R.slot_count self.old h lo) (Stands R.slot_count self.old h lo)
-            (Stands R.slot_count self.new h (length h)))) }
+            → Ran (R.told (core_rack self.old)) (R.told (core_rack self.new))
+            (CrashTriple (IsCoreHeld R.slot_count self.old h lo) (CoreStandsFor R.slot_count self.old h lo)
+            (CoreStandsFor R.slot_count self.new h (length h)))) }
+        // Nothing is staged over it.
+        ensures filled { OnOk result ((h : History) (lo : ℕ)
+            → Ran (R.told (core_rack self.old)) (R.told (core_rack self.new))
+            (CrashTriple (IsCoreHeld R.slot_count self.old h lo) (CoreStandsFor R.slot_count self.old h lo)
+            (Filled R.slot_count self.new h (length h) (meta_of self.new).fill))) }
+        // The same where a disk that was lost since the last commit is absent: it takes nothing away.
+        ensures moments_since { IsNamedOrAbsent R.slot self.old → (h : History) (lo : ℕ)
+            → Ran (R.told (core_rack self.old)) (R.told (core_rack self.new))
+            (CrashTriple (IsCoreHeldSinceCommit R.slot_count self.old h lo) (CoreStandsFor R.slot_count self.old h lo)
+            (IsCoreHeldSinceCommit R.slot_count self.old h lo)) }
+        ensures since { OnOk result (IsNamedOrAbsent R.slot self.old → (h : History) (lo : ℕ)
+            → Ran (R.told (core_rack self.old)) (R.told (core_rack self.new))
+            (CrashTriple (IsCoreHeldSinceCommit R.slot_count self.old h lo) (CoreStandsFor R.slot_count self.old h lo)
+            (CoreStandsFor R.slot_count self.new h (length h)))) }
+        ensures filled_since { OnOk result (IsNamedOrAbsent R.slot self.old → (h : History) (lo : ℕ)
+            → Ran (R.told (core_rack self.old)) (R.told (core_rack self.new))
+            (CrashTriple (IsCoreHeldSinceCommit R.slot_count self.old h lo) (CoreStandsFor R.slot_count self.old h lo)
+            (Filled R.slot_count self.new h (length h) (meta_of self.new).fill))) }
+        ensures absent { OnOk result (IsNamedOrAbsent R.slot self.new) }
     {
         let lost = self.store.commit(&self.batch, &self.meta)?;
         self.meta.epoch = self.store.epoch();

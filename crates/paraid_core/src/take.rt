@@ -1,40 +1,13 @@
 //! What a plan has drafted is added to the batch.
 ghost use Rattle.std.specs.Prelude.{◌≡◌, ℕ, ◌+◌, ◌<◌, ◌≤◌, ◌∷◌, [], length, IsTrue};
 ghost use Rattle.paraid_core.specs.Taken.{AreApart, IsTakenIn};
-ghost use Rattle.paraid_image.specs.Spot.{rising_to as rising_to_of};
 ghost use Rattle.paraid_plan.specs.Placed.{IsPlaced};
 ghost use Rattle.paraid_record.specs.Targets.{IsTargetInRange};
-ghost use Rattle.paraid_txn.specs.Commit.{gone_out as gone_out_of};
 
-use paraid_base::{Block, DiskNo, Geometry, Out, Phase};
+use paraid_base::{Block, DiskNo, Geometry};
 use paraid_record::{Meta, Target};
 use paraid_txn::Batch;
 use paraid_view::Draft;
-
-// The disk whose blocks a commit skips.
-fn gone_out(out: Out) -> Option<DiskNo>
-    ensures { result ≡ gone_out_of out }
-{
-    match out {
-        Out::No => None,
-        Out::Gone { disk } => Some(disk),
-        Out::Fresh {
-            disk: _,
-            rebuilt: _,
-        } => None,
-    }
-}
-
-// The gear that a shift goes up to, or 0.
-fn rising_to(phase: Phase) -> u8
-    ensures { result ≡ rising_to_of phase }
-{
-    match phase {
-        Phase::Steady => 0,
-        Phase::Down { to: _ } => 0,
-        Phase::Up { to } => to,
-    }
-}
 
 // Whether a target is past the log, on a disk of the array, and on disk 0 or 1 where it is of the map.
 fn is_in_range(g: &Geometry, target: Target) -> bool
@@ -53,8 +26,8 @@ fn is_placed(m: &Meta, target: Target) -> bool
     ensures of { IsPlaced m.now target → IsTrue result }
 {
     is_in_range(&m.setup.geometry, target)
-        && (target.disk < m.gear || target.disk < rising_to(m.phase))
-        && gone_out(m.out) != Some(target.disk)
+        && (target.disk < m.gear || target.disk < m.phase.rising_to())
+        && m.out.gone() != Some(target.disk)
 }
 
 // Adds a block, unless a commit could not take its target.

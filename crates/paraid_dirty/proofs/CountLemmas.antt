@@ -9,7 +9,7 @@ use Rattle.std.proofs.lemmas.Nat.{and_le_r, ones-le, pow_pos}
 use Rattle.std.proofs.lemmas.Nat.Bits.{bit_at-lt}
 use Rattle.paraid_base.specs.Places.{sum_before}
 use Rattle.paraid_dirty.specs.Bits.{bit_in, on_disks}
-use Rattle.paraid_dirty.specs.Table.{cell_count, dirty_count, is_dirty, row_count, rows_of, IsTable}
+use Rattle.paraid_dirty.specs.Table.{cell_count, dirty_count, is_dirty, row_count, rows_of, IsDirtyTable}
 use Rattle.paraid_dirty.proofs.MaskLemmas.{ones_bits, sum_before_same}
 use Rattle.paraid_dirty.proofs.SearchLemmas.{masked, on_clear, on_masked}
 use Rattle.paraid_dirty.proofs.TableLemmas.{is_dirty-bit}
@@ -47,7 +47,7 @@ past_disks lo hi m b past = grind (arith, nat_tests)
 one_bit : (b : ℕ) (c : Bool) → b < 2 → (b == 1) ≡ c → b ≡ (if c then 1 else 0)
 one_bit b c small is = grind (arith, nat_tests)
 
-row_flat : (words marks : List ℕ) (rows lo hi r : ℕ) → IsTable words marks rows → hi ≤ 8
+row_flat : (words marks : List ℕ) (rows lo hi r : ℕ) → IsDirtyTable words marks rows → hi ≤ 8
     → sum_before (λ d. flat words lo hi (8 * r + d)) 8 ≡ row_count (is_dirty (rows_of words rows)) lo hi r
 row_flat words marks rows lo hi r table high =
     let g : ℕ → ℕ = λ d. flat words lo hi (8 * r + d) in
@@ -63,7 +63,7 @@ row_flat words marks rows lo hi r table high =
     past_disks lo hi ((8 * r + (hi + d)) % 8) (bit_in words (8 * r + (hi + d))) (omega arith)) in
     omega (arith, split, low, rest)
 
-rows_flat : (words marks : List ℕ) (rows lo hi n : ℕ) → IsTable words marks rows → hi ≤ 8
+rows_flat : (words marks : List ℕ) (rows lo hi n : ℕ) → IsDirtyTable words marks rows → hi ≤ 8
     → sum_before (flat words lo hi) (8 * n) ≡ dirty_count (is_dirty (rows_of words rows)) n lo hi
 unfolding sum_before
 rows_flat words marks rows lo hi zero table high = refl
@@ -75,7 +75,7 @@ rows_flat words marks rows lo hi (suc n) table high =
     omega (arith, s, before, here)
 
 -- all bits counted are the dirty cells
-pub all_counted : (words marks : List ℕ) (rows lo hi : ℕ) → IsTable words marks rows → hi ≤ 8
+pub all_counted : (words marks : List ℕ) (rows lo hi : ℕ) → IsDirtyTable words marks rows → hi ≤ 8
     → sum_before (flat words lo hi) (64 * length words) ≡ dirty_count (is_dirty (rows_of words rows)) rows lo hi
 all_counted words marks rows lo hi table high =
     let room = table.room in

@@ -9,10 +9,10 @@ use Rattle.std.proofs.lemmas.List.FromFn.{get_or-map-range_with_len, length-map-
 use Rattle.std.proofs.lemmas.Nat.{and_le_r, shr-shr}
 use Rattle.std.proofs.lemmas.Nat.Bits.{bit_at_and, bit_at-lt, bit_at_above, bit_at_ones}
 use Rattle.paraid_dirty.specs.Bits.{bit_of, bit_in, on_disks, AreClear, IsFirstBit}
-use Rattle.paraid_dirty.specs.Table.{changed, is_dirty, row_bits, rows_of, IsCleanFrom, IsFirstFrom, IsFrom, IsTable}
+use Rattle.paraid_dirty.specs.Table.{table_with_bit, is_dirty, row_bits, rows_of, IsCleanFrom, IsFirstFrom, IsFrom, IsDirtyTable}
 use Rattle.paraid_dirty.proofs.BitsLemmas.{bit_false, bit_in-past, bit_of-zero, chosen_here, chosen_other}
 
-pub is_dirty-bit : (words marks : List ℕ) (rows r d : ℕ) → IsTable words marks rows → d < 8 → is_dirty (rows_of words rows) r d ≡ bit_in words (8 * r + d)
+pub is_dirty-bit : (words marks : List ℕ) (rows r d : ℕ) → IsDirtyTable words marks rows → d < 8 → is_dirty (rows_of words rows) r d ≡ bit_in words (8 * r + d)
 unfolding is_dirty row_bits
 is_dirty-bit words marks rows r d table low = elim (cases_lt r rows) [
   | inl row ↦
@@ -32,16 +32,16 @@ is_dirty-past_disk words rows r d past = elim (cases_lt r rows) [
   | inr out ↦ ap (λ (bits : List Bool). get_or bits d false) (get_or_past (rows_of words rows) r [] (rw (length-map-range_with_len (row_bits words) 0 rows) out))
 ]
 
-changed_here : (dirty : ℕ → ℕ → Bool) (r d : ℕ) (bit : Bool) (q e : ℕ) → q ≡ r → e ≡ d → changed dirty r d bit q e ≡ bit
+changed_here : (dirty : ℕ → ℕ → Bool) (r d : ℕ) (bit : Bool) (q e : ℕ) → q ≡ r → e ≡ d → table_with_bit dirty r d bit q e ≡ bit
 changed_here dirty r d bit q e row disk = grind (arith, nat_tests)
 
-changed_other : (dirty : ℕ → ℕ → Bool) (r d : ℕ) (bit : Bool) (q e : ℕ) → (q ≡ r → e ≢ d) → changed dirty r d bit q e ≡ dirty q e
+changed_other : (dirty : ℕ → ℕ → Bool) (r d : ℕ) (bit : Bool) (q e : ℕ) → (q ≡ r → e ≢ d) → table_with_bit dirty r d bit q e ≡ dirty q e
 changed_other dirty r d bit q e other = grind (arith, nat_tests)
 
 -- words that differ in one bit are tables that differ in one cell
-pub cell_changed : (words after marks marks_after : List ℕ) (rows r d : ℕ) (bit : Bool) → IsTable words marks rows → IsTable after marks_after rows → d < 8
+pub cell_changed : (words after marks marks_after : List ℕ) (rows r d : ℕ) (bit : Bool) → IsDirtyTable words marks rows → IsDirtyTable after marks_after rows → d < 8
     → ((k : ℕ) → bit_in after k ≡ (if k == 8 * r + d then bit else bit_in words k))
-    → (q e : ℕ) → is_dirty (rows_of after rows) q e ≡ changed (is_dirty (rows_of words rows)) r d bit q e
+    → (q e : ℕ) → is_dirty (rows_of after rows) q e ≡ table_with_bit (is_dirty (rows_of words rows)) r d bit q e
 cell_changed words after marks marks_after rows r d bit table table_after low change q e = elim (cases_lt e 8) [
   | inr past ↦
       is_dirty-past_disk after rows q e past
@@ -66,17 +66,17 @@ pub bit_of_cell : (r d : ℕ) → d < 8 → (8 * r + d) % 64 ≡ 8 * (r % 8) + d
 bit_of_cell r d low = omega arith
 
 -- a cell has a bit in the words, and its word one in the marks
-pub cell_room : (words marks : List ℕ) (rows r d : ℕ) → IsTable words marks rows → r < rows → d < 8 → ((8 * r + d) / 64 < length words) × (r / 8 / 64 < length marks)
+pub cell_room : (words marks : List ℕ) (rows r d : ℕ) → IsDirtyTable words marks rows → r < rows → d < 8 → ((8 * r + d) / 64 < length words) × (r / 8 / 64 < length marks)
 cell_room words marks rows r d table row low =
     let room = table.room in
     let marks_room = table.marks_room in
     (omega arith, omega arith)
 
-pub set_table : (words after marks marks_after : List ℕ) (rows r d : ℕ) → IsTable words marks rows → r < rows → d < 8
+pub set_table : (words after marks marks_after : List ℕ) (rows r d : ℕ) → IsDirtyTable words marks rows → r < rows → d < 8
     → length after ≡ length words → ((k : ℕ) → bit_in after k ≡ (if k == 8 * r + d then true else bit_in words k))
     → ((w : ℕ) → w ≢ (8 * r + d) / 64 → get_or after w 0 ≡ get_or words w 0)
     → length marks_after ≡ length marks → ((k : ℕ) → bit_in marks_after k ≡ (if k == r / 8 then true else bit_in marks k))
-    → IsTable after marks_after rows
+    → IsDirtyTable after marks_after rows
 set_table words after marks marks_after rows r d table row low size bits others marks_size mark =
     let small = table.small in
     let room = table.room in
@@ -97,11 +97,11 @@ set_table words after marks marks_after rows r d table row low size bits others 
       ];
     }
 
-pub clear_table : (words after marks marks_after : List ℕ) (rows r d word : ℕ) → IsTable words marks rows → r < rows → d < 8
+pub clear_table : (words after marks marks_after : List ℕ) (rows r d word : ℕ) → IsDirtyTable words marks rows → r < rows → d < 8
     → length after ≡ length words → ((k : ℕ) → bit_in after k ≡ (if k == 8 * r + d then false else bit_in words k))
     → ((w : ℕ) → get_or after w 0 ≤ get_or words w 0) → word ≡ get_or after (r / 8) 0
     → length marks_after ≡ length marks → ((w : ℕ) → bit_in marks_after w ≡ false → (bit_in marks w ≡ false) ⊎ ((w ≡ r / 8) × (word ≡ 0)))
-    → IsTable after marks_after rows
+    → IsDirtyTable after marks_after rows
 clear_table words after marks marks_after rows r d word table row low size bits lower is_word marks_size mark =
     let small = table.small in
     let room = table.room in
@@ -131,7 +131,7 @@ unfolding bit_in
 zeros_clear n p = ap (λ (w : ℕ). bit_of w (p % 64)) (get_or-zeros n (p / 64)) ∙ bit_of-zero (p % 64)
 
 pub new_table : (words marks : List ℕ) (count sets rows : ℕ) → words ≡ replicate count 0 → marks ≡ replicate sets 0 → rows ≤ 65536
-    → count ≤ 8192 → rows ≤ 8 * count → sets ≤ 128 → count ≤ 64 * sets → IsTable words marks rows
+    → count ≤ 8192 → rows ≤ 8 * count → sets ≤ 128 → count ≤ 64 * sets → IsDirtyTable words marks rows
 new_table words marks count sets rows is_words is_marks few small room sets_small sets_room =
     let size : length words ≡ count = ap length is_words ∙ length-replicate {A = ℕ} count 0 in
     let marks_size : length marks ≡ sets = ap length is_marks ∙ length-replicate {A = ℕ} sets 0 in
@@ -145,14 +145,14 @@ new_table words marks count sets rows is_words is_marks few small room sets_smal
       marked = λ w none. ap (λ (ws : List ℕ). get_or ws w 0) is_words ∙ get_or-zeros count w;
     }
 
-pub new_clean : (words marks : List ℕ) (count rows : ℕ) → words ≡ replicate count 0 → IsTable words marks rows → (r d : ℕ) → is_dirty (rows_of words rows) r d ≡ false
+pub new_clean : (words marks : List ℕ) (count rows : ℕ) → words ≡ replicate count 0 → IsDirtyTable words marks rows → (r d : ℕ) → is_dirty (rows_of words rows) r d ≡ false
 new_clean words marks count rows is table r d = elim (cases_lt d 8) [
   | inl low ↦ is_dirty-bit words marks rows r d table low ∙ ap (λ (ws : List ℕ). bit_in ws (8 * r + d)) is ∙ zeros_clear count (8 * r + d)
   | inr past ↦ is_dirty-past_disk words rows r d past
 ]
 
 -- the bits of a row in its word
-pub row_of_word : (words marks : List ℕ) (rows r d : ℕ) → IsTable words marks rows
+pub row_of_word : (words marks : List ℕ) (rows r d : ℕ) → IsDirtyTable words marks rows
     → bit_of (bit_and (get_or words (r / 8) 0 / 2 ^ (8 * (r % 8))) 255) d ≡ is_dirty (rows_of words rows) r d
 unfolding bit_in
 row_of_word words marks rows r d table =
@@ -172,7 +172,7 @@ row_of_word words marks rows r d table =
           ∙ sym (is_dirty-bit words marks rows r d table low)
     ]
 
-pub row_past : (words marks : List ℕ) (rows r d : ℕ) → IsTable words marks rows → length words ≤ r / 8 → bit_of 0 d ≡ is_dirty (rows_of words rows) r d
+pub row_past : (words marks : List ℕ) (rows r d : ℕ) → IsDirtyTable words marks rows → length words ≤ r / 8 → bit_of 0 d ≡ is_dirty (rows_of words rows) r d
 row_past words marks rows r d table past = bit_of-zero d ∙ sym (elim (cases_lt d 8) [
   | inl low ↦ is_dirty-bit words marks rows r d table low ∙ bit_in-past words (8 * r + d) (omega arith)
   | inr above ↦ is_dirty-past_disk words rows r d above
@@ -184,7 +184,7 @@ on_inside lo hi n b low high = grind (arith, nat_tests)
 on_parts : (lo hi n : ℕ) (b : Bool) → ((nat_le lo n && nat_lt n hi) && b) ≡ true → (lo ≤ n) × (n < hi) × (b ≡ true)
 on_parts lo hi n b is = grind (arith, nat_tests)
 
-module _ (words marks : List ℕ) (rows r d lo hi : ℕ) (table : IsTable words marks rows) (few : d ≤ 8) (high : hi ≤ 8) where
+module _ (words marks : List ℕ) (rows r d lo hi : ℕ) (table : IsDirtyTable words marks rows) (few : d ≤ 8) (high : hi ≤ 8) where
   -- a cell from the given one on whose bit is known to be clear
   cell_clear : (q e : ℕ) → lo ≤ e → e < hi → on_disks lo hi (bit_in words) (8 * q + e) ≡ false → is_dirty (rows_of words rows) q e ≡ false
   cell_clear q e low under clear =

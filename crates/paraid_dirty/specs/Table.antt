@@ -15,7 +15,7 @@ rows_of words rows = map (row_bits words) (range_with_len 0 rows)
 
 -- The words have room for the rows and nothing past them. A word of which the marks have no bit
 -- is 0.
-pub record IsTable (words marks : List ℕ) (rows : ℕ) : Type 0 where
+pub record IsDirtyTable (words marks : List ℕ) (rows : ℕ) : Type 0 where
   pub few : rows ≤ 65536
   pub small : length words ≤ 8192
   pub room : rows ≤ 8 * length words
@@ -29,8 +29,8 @@ unfoldable pub is_dirty : List (List Bool) → ℕ → ℕ → Bool
 is_dirty table r d = slice_index_or (slice_index_or table r []) d false
 
 -- the cells with the one of row `r` and disk `d` changed to `bit`
-abbrev pub changed : (ℕ → ℕ → Bool) → ℕ → ℕ → Bool → ℕ → ℕ → Bool
-changed dirty r d bit q e = if q == r && e == d then bit else dirty q e
+abbrev pub table_with_bit : (ℕ → ℕ → Bool) → ℕ → ℕ → Bool → ℕ → ℕ → Bool
+table_with_bit dirty r d bit q e = if q == r && e == d then bit else dirty q e
 
 -- 1 where the cell is dirty and its disk is `lo` or above
 abbrev pub cell_count : (ℕ → ℕ → Bool) → ℕ → ℕ → ℕ → ℕ
@@ -50,7 +50,7 @@ pub record IsClean (dirty : ℕ → ℕ → Bool) (lo hi : ℕ) : Type 0 where
 
 -- The cell of row `r` and disk `d` is the first dirty one, by row and then by disk, on disks
 -- from `lo` to `hi - 1`
-pub record IsFirst (dirty : ℕ → ℕ → Bool) (lo hi r d : ℕ) : Type 0 where
+pub record IsFirstDirty (dirty : ℕ → ℕ → Bool) (lo hi r d : ℕ) : Type 0 where
   pub low : lo ≤ d
   pub high : d < hi
   pub is : dirty r d ≡ true

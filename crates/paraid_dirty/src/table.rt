@@ -1,7 +1,7 @@
 ghost use Rattle.std.specs.Prelude.{◌≡◌, ◌⊎◌, ℕ, ◌+◌, ◌*◌, ◌/◌, ◌%◌, ◌<◌, ◌≤◌, ◌-◌, ◌^◌, ◌==◌, length, true, false, slice_index, IfOk, IfSome, IfNone};
 ghost use Rattle.paraid_base.specs.Places.{sum_before};
 ghost use Rattle.paraid_dirty.specs.Bits.{bit_of, bit_in, AreClear, IsFirstBit};
-ghost use Rattle.paraid_dirty.specs.Table.{is_dirty, changed, dirty_count, row_bits, IsClean, IsCleanFrom, IsFirst, IsFirstFrom, ShowsBits};
+ghost use Rattle.paraid_dirty.specs.Table.{is_dirty, table_with_bit, dirty_count, row_bits, IsClean, IsCleanFrom, IsFirstDirty, IsFirstFrom, ShowsBits};
 
 use crate::bits::{clear_bit, has_bit, set_bit};
 use crate::search::{first_on_disks, pattern};
@@ -22,13 +22,13 @@ pub struct DirtyTable {
 
 impl Model for DirtyTable {
     ghost use Rattle.std.specs.Prelude.{List, Bool};
-    ghost use Rattle.paraid_dirty.specs.Table.{rows_of, IsTable};
+    ghost use Rattle.paraid_dirty.specs.Table.{rows_of, IsDirtyTable};
 
     ghost Value = { List (List Bool) };
 
     ghost view = { λ t. rows_of t.words.items t.rows };
 
-    ghost invariant = { λ t. IsTable t.words.items t.marks.items t.rows };
+    ghost invariant = { λ t. IsDirtyTable t.words.items t.marks.items t.rows };
 }
 
 /// Takes the mark of a word away if the word is 0.
@@ -73,7 +73,7 @@ impl DirtyTable {
         requires row { r < length self.old }
         requires disk { d < 8 }
         ensures rows { length self.new ≡ length self.old }
-        ensures cells { (q e : ℕ) → is_dirty self.new q e ≡ changed (is_dirty self.old) r d true q e }
+        ensures cells { (q e : ℕ) → is_dirty self.new q e ≡ table_with_bit (is_dirty self.old) r d true q e }
     {
         set_bit(&mut self.words, 8 * r as usize + d as usize);
         set_bit(&mut self.marks, r as usize / 8);
@@ -84,7 +84,7 @@ impl DirtyTable {
         requires row { r < length self.old }
         requires disk { d < 8 }
         ensures rows { length self.new ≡ length self.old }
-        ensures cells { (q e : ℕ) → is_dirty self.new q e ≡ changed (is_dirty self.old) r d false q e }
+        ensures cells { (q e : ℕ) → is_dirty self.new q e ≡ table_with_bit (is_dirty self.old) r d false q e }
     {
         clear_bit(&mut self.words, 8 * r as usize + d as usize);
         let at = r as usize / 8;
@@ -120,7 +120,7 @@ impl DirtyTable {
         requires order { lo ≤ hi }
         requires high { hi ≤ 8 }
         ensures none { IfNone result (IsClean (is_dirty self.now) lo hi) }
-        ensures first { IfSome result (λ cell. IsFirst (is_dirty self.now) lo hi cell.0 cell.1) }
+        ensures first { IfSome result (λ cell. IsFirstDirty (is_dirty self.now) lo hi cell.0 cell.1) }
         ensures within { IfSome result (λ cell. cell.0 < length self.now) }
     {
         self.next_from(0, 0, lo, hi)

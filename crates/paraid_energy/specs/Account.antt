@@ -9,15 +9,15 @@ pub record Account : Type 0 where
   pub spinup_mj : ℕ
   pub total : ℕ
 
-abbrev pub opened : Setup → Account
-opened s = record { spinning_mj = s.spinning_mj; parked_mj = s.parked_mj; spinup_mj = s.spinup_mj; total = 0 }
+abbrev pub new_account : Setup → Account
+new_account s = record { spinning_mj = s.spinning_mj; parked_mj = s.parked_mj; spinup_mj = s.spinup_mj; total = 0 }
 
 -- the account with so much more used; the sum stays at the greatest number of 64 bits
 abbrev pub with_used : Account → ℕ → Account
 with_used a used = record a { total = min (a.total + used) (2 ^ 64 - 1) }
 
-abbrev pub ticked : Account → ℕ → ℕ → Account
-ticked a spinning parked = with_used a (a.spinning_mj * spinning + a.parked_mj * parked)
+abbrev pub after_tick : Account → ℕ → ℕ → Account
+after_tick a spinning parked = with_used a (a.spinning_mj * spinning + a.parked_mj * parked)
 
-abbrev pub spun_up : Account → ℕ → Account
-spun_up a disks = with_used a (a.spinup_mj * disks)
+abbrev pub after_spin_ups : Account → ℕ → Account
+after_spin_ups a disks = with_used a (a.spinup_mj * disks)

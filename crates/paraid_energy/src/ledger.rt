@@ -1,5 +1,5 @@
 ghost use Rattle.std.specs.Prelude.{◌≡◌, ◌*◌, ◌<◌, ◌^◌};
-ghost use Rattle.paraid_energy.specs.Account.{Account, opened, spun_up, ticked, with_used};
+ghost use Rattle.paraid_energy.specs.Account.{Account, new_account, after_spin_ups, after_tick, with_used};
 
 use paraid_record::Setup;
 use std::marker::Model;
@@ -27,7 +27,7 @@ impl Model for Ledger {
 impl Ledger {
     /// A ledger with the figures of a setup, and nothing used.
     pub fn new(setup: &Setup) -> Self
-        ensures { result ≡ opened setup.now }
+        ensures { result ≡ new_account setup.now }
     {
         Ledger {
             spinning_mj: setup.spinning_mj,
@@ -39,7 +39,7 @@ impl Ledger {
 
     /// Counts what so many spinning and so many parked disks use between two ticks.
     pub fn tick(&mut self, spinning: u8, parked: u8)
-        ensures { self.new ≡ ticked self.old spinning parked }
+        ensures { self.new ≡ after_tick self.old spinning parked }
     {
         let used = energy(self.spinning_mj, spinning) + energy(self.parked_mj, parked);
         self.add(used);
@@ -47,7 +47,7 @@ impl Ledger {
 
     /// Counts the spin-ups of so many disks.
     pub fn spin_up(&mut self, disks: u8)
-        ensures { self.new ≡ spun_up self.old disks }
+        ensures { self.new ≡ after_spin_ups self.old disks }
     {
         let used = energy(self.spinup_mj, disks);
         self.add(used);

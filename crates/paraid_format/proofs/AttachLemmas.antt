@@ -6,28 +6,28 @@ use Rattle.paraid_base.specs.declared.block.Block.{Block}
 use Rattle.paraid_rack.specs.declared.call.Call.{Call}
 use Rattle.paraid_rack.specs.declared.call.Call.TheVariants.{Read, Write, Sync, Park, SpinUp, Attach}
 use Rattle.paraid_rack.specs.declared.call.Power.TheVariants.{Spinning}
-use Rattle.paraid_rack.specs.Disks.{Disks, attached, settled, step}
-use Rattle.paraid_rack.specs.Told.{Grows, Ran}
+use Rattle.paraid_rack.specs.Disks.{Disks, after_attach, loose_after_sync, step}
+use Rattle.paraid_rack.specs.Told.{GrowsByCall, Ran}
 use Rattle.paraid_rack.specs.Trail.{Trail, extend, now, run}
 use Rattle.paraid_rack.proofs.AtomsLemmas.{with_at_other, with_at_same}
 use Rattle.paraid_rack.proofs.TrailsLemmas.{Ran-call, extend-extend, now-extend, now-more}
-use Rattle.paraid_format.specs.Attached.{AreAttached}
+use Rattle.paraid_format.specs.Attached.{AreFreshDisks}
 use Rattle.paraid_format.specs.Calls.{AreAttaches}
-use Rattle.paraid_format.specs.Led.{Led}
+use Rattle.paraid_format.specs.Between.{RanBetween}
 
 -- what the disks are after two parts
-pub led_none : (R : Disks → Disks → Type 0) → ((s : Disks) → R s s) → (told : Option Trail) → Led told told R
+pub led_none : (R : Disks → Disks → Type 0) → ((s : Disks) → R s s) → (told : Option Trail) → RanBetween told told R
 led_none R same told t tells = (t, tells, same (now t))
 
 pub led_call : (R Q : Disks → Disks → Type 0) (c : Call) → ((start s : Disks) → R start s → Q start (step c s)) → (old mid new : Option Trail)
-    → Led old mid R → Grows mid new c → Led old new Q
+    → RanBetween old mid R → GrowsByCall mid new c → RanBetween old new Q
 led_call R Q c go old mid new led grows t tells =
     let m = now-more mid new c grows t tells in
     let l = led m.0 m.1 in
     (l.0, l.1, subst (λ (s : Disks). Q (now l.0) s) (sym m.2) (go (now l.0) (now m.0) l.2))
 
 pub led_then : (R Q P : Disks → Disks → Type 0) → ((start mid end : Disks) → R start mid → Q mid end → P start end) → (old mid new : Option Trail)
-    → Led old mid R → Led mid new Q → Led old new P
+    → RanBetween old mid R → RanBetween mid new Q → RanBetween old new P
 led_then R Q P go old mid new first second t tells =
     let m = second t tells in
     let l = first m.0 m.1 in
@@ -75,7 +75,7 @@ attaches_then size a b c (Attach d s done ∷ cs) ds first second = (first.0, fi
 pub one_attach : (size k b : ℕ) (done : Bool) → k < b → AreAttaches size k b (Attach k size done ∷ [])
 one_attach size k b done low = ((omega arith), refl, (omega arith))
 
-pub more_attaches : (size k b : ℕ) (done : Bool) (old mid new : Option Trail) → k < b → Ran old mid (λ start calls. AreAttaches size 0 k calls) → Grows mid new (Attach k size done)
+pub more_attaches : (size k b : ℕ) (done : Bool) (old mid new : Option Trail) → k < b → Ran old mid (λ start calls. AreAttaches size 0 k calls) → GrowsByCall mid new (Attach k size done)
     → Ran old new (λ start calls. AreAttaches size 0 b calls)
 more_attaches size k b done old mid new low ran grows =
     ran_then (λ start calls. AreAttaches size 0 k calls) (λ start calls. AreAttaches size k b calls) (λ start calls. AreAttaches size 0 b calls)
@@ -83,7 +83,7 @@ more_attaches size k b done old mid new low ran grows =
     (Ran-call (λ start calls. AreAttaches size k b calls) mid new (Attach k size done) grows (λ s is. one_attach size k b done low))
 
 -- one fresh disk more
-pub no_attached : (size : ℕ) (s : Disks) → AreAttached 0 size s s
+pub no_attached : (size : ℕ) (s : Disks) → AreFreshDisks 0 size s s
 no_attached size s = record {
   power = λ d low. absurd (omega arith);
   size_is = λ d low. absurd (omega arith);
@@ -98,7 +98,7 @@ below_or_at d k low apart = elim (cases_lt d k) [
   | inr h ↦ absurd (apart (omega arith))
 ]
 
-pub attached_more : (k size : ℕ) (start s : Disks) → AreAttached k size start s → AreAttached (k + 1) size start (step (Attach k size true) s)
+pub attached_more : (k size : ℕ) (start s : Disks) → AreFreshDisks k size start s → AreFreshDisks (k + 1) size start (step (Attach k size true) s)
 unfolding step
 attached_more k size start s a = record {
   power = λ d low. elim (cases_eq d k) [
@@ -110,12 +110,12 @@ attached_more k size start s a = record {
     | inr apart ↦ with_at_other s.size k size d apart ∙ a.size_is d (below_or_at d k low apart)
   ];
   zeros = λ d p low. elim (cases_eq d k) [
-    | inl is ↦ ap (λ (f : ℕ → Block). f p) (with_at_same s.block k (attached true (s.block k)) d is)
-    | inr apart ↦ ap (λ (f : ℕ → Block). f p) (with_at_other s.block k (attached true (s.block k)) d apart) ∙ a.zeros d p (below_or_at d k low apart)
+    | inl is ↦ ap (λ (f : ℕ → Block). f p) (with_at_same s.block k (after_attach true (s.block k)) d is)
+    | inr apart ↦ ap (λ (f : ℕ → Block). f p) (with_at_other s.block k (after_attach true (s.block k)) d apart) ∙ a.zeros d p (below_or_at d k low apart)
   ];
   synced = λ d p low. elim (cases_eq d k) [
-    | inl is ↦ ap (λ (f : ℕ → Bool). f p) (with_at_same s.loose k (settled true (s.loose k)) d is)
-    | inr apart ↦ ap (λ (f : ℕ → Bool). f p) (with_at_other s.loose k (settled true (s.loose k)) d apart) ∙ a.synced d p (below_or_at d k low apart)
+    | inl is ↦ ap (λ (f : ℕ → Bool). f p) (with_at_same s.loose k (loose_after_sync true (s.loose k)) d is)
+    | inr apart ↦ ap (λ (f : ℕ → Bool). f p) (with_at_other s.loose k (loose_after_sync true (s.loose k)) d apart) ∙ a.synced d p (below_or_at d k low apart)
   ];
-  others = λ d p high. ap (λ (f : ℕ → Bool). f p) (with_at_other s.loose k (settled true (s.loose k)) d (λ is. absurd (omega arith))) ∙ a.others d p (omega arith);
+  others = λ d p high. ap (λ (f : ℕ → Bool). f p) (with_at_other s.loose k (loose_after_sync true (s.loose k)) d (λ is. absurd (omega arith))) ∙ a.others d p (omega arith);
 }

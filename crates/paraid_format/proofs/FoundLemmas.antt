@@ -1,4 +1,5 @@
 -- Whether a log disk belongs to an array, by the blocks that were read of it.
+use Rattle.paraid_rack.specs.Calls.{AreReads}
 use Rattle.std.specs.Prelude.{◌≡◌, ◌≢◌, ℕ, ◌<◌, Bool, true, false, List, Option, Some, None, IfSome, IfNone, max}
 use Rattle.std.proofs.Common.{zero, suc, sym, ◌∙◌, ap, subst, arith, inl, inr, ◌⊎◌}
 use Rattle.std.proofs.Math.Nat.{le-max_left, le-max_right, max-eq_left, max-eq_right}
@@ -13,30 +14,30 @@ use Rattle.paraid_record.specs.Meta.{meta_bytes}
 use Rattle.paraid_record.specs.Range.{IsInRange}
 use Rattle.paraid_record.specs.Targets.{AreTargets, targets_bytes}
 use Rattle.paraid_record.proofs.OneSpelling.{meta_bytes-cancel}
-use Rattle.paraid_image.specs.Sides.{Spells, is_open, stored}
+use Rattle.paraid_image.specs.Sides.{Spells, is_open, stored_block}
 use Rattle.paraid_rack.specs.Told.{Ran}
 use Rattle.paraid_rack.specs.Trail.{Trail, now}
 use Rattle.paraid_rack.proofs.TrailsLemmas.{now-extend}
-use Rattle.paraid_format.specs.Calls.{AreReads, IsQuiet}
-use Rattle.paraid_format.specs.Led.{Led}
+use Rattle.paraid_format.specs.Calls.{OnlyReadsAndKeeps}
+use Rattle.paraid_format.specs.Between.{RanBetween}
 use Rattle.paraid_format.proofs.ReadsLemmas.{quiet_now}
-use Rattle.paraid_format.specs.Found.{FormedBy, IsEpochOf, IsFormed, IsFound, IsFree, IsGreatest, IsGreatestOf, IsMetaOf, greater_of}
+use Rattle.paraid_format.specs.Found.{IsMetaUnder, IsEpochOf, IsFormedMeta, IsFound, IsUnclaimed, IsGreatest, IsGreatestOf, IsMetaOf, greater_of}
 
 abbrev pub IsNoMeta : Block → Type 0
 IsNoMeta b = (m : Meta) → IsInRange m → b.bytes ≢ meta_bytes m
 
 module _ (i : Disks) (d : ℕ) where
-  by_gate : (o : Bool) (m : Meta) → is_open (stored i d 0) ≡ o → FormedBy o (stored i d) m → IsFormed i d m
-  by_gate o m is formed = subst (λ (a : Bool). FormedBy a (stored i d) m) (sym is) formed
+  by_gate : (o : Bool) (m : Meta) → is_open (stored_block i d 0) ≡ o → IsMetaUnder o (stored_block i d) m → IsFormedMeta i d m
+  by_gate o m is formed = subst (λ (a : Bool). IsMetaUnder a (stored_block i d) m) (sym is) formed
 
-  gate_by : (o : Bool) (m : Meta) → is_open (stored i d 0) ≡ o → IsFormed i d m → FormedBy o (stored i d) m
-  gate_by o m is formed = subst (λ (a : Bool). FormedBy a (stored i d) m) is formed
+  gate_by : (o : Bool) (m : Meta) → is_open (stored_block i d 0) ≡ o → IsFormedMeta i d m → IsMetaUnder o (stored_block i d) m
+  gate_by o m is formed = subst (λ (a : Bool). IsMetaUnder a (stored_block i d) m) is formed
 
-  spelled : (b : Block) (p : ℕ) (m : Meta) → b ≡ stored i d p → IsInRange m × (b.bytes ≡ meta_bytes m) → Spells (stored i d p) m
+  spelled : (b : Block) (p : ℕ) (m : Meta) → b ≡ stored_block i d p → IsInRange m × (b.bytes ≡ meta_bytes m) → Spells (stored_block i d p) m
   spelled b p m is s = record { in_range = s.0; bytes = sym (ap (λ (c : Block). c.bytes) is) ∙ s.1 }
 
   -- by a closed gate
-  pub closed_meta : (b : Block) (r : Option Meta) → is_open (stored i d 0) ≡ false → b ≡ stored i d 1
+  pub closed_meta : (b : Block) (r : Option Meta) → is_open (stored_block i d 0) ≡ false → b ≡ stored_block i d 1
       → IfSome r (λ m. IsInRange m × (b.bytes ≡ meta_bytes m)) → IfNone r (IsNoMeta b) → IsMetaOf i d r
   closed_meta b (Some m) shut is some none = by_gate false m shut (spelled b 1 m is some)
   closed_meta b None shut is some none = λ m formed.
@@ -44,12 +45,12 @@ module _ (i : Disks) (d : ℕ) where
       none m s.in_range (ap (λ (c : Block). c.bytes) is ∙ s.bytes)
 
   -- by an open one
-  pub open_no_meta : (b : Block) → is_open (stored i d 0) ≡ true → b ≡ stored i d 2 → IsNoMeta b → IsMetaOf i d None
+  pub open_no_meta : (b : Block) → is_open (stored_block i d 0) ≡ true → b ≡ stored_block i d 2 → IsNoMeta b → IsMetaOf i d None
   open_no_meta b opened is none = λ m formed.
       let s = (gate_by true m opened formed).0 in
       none m s.in_range (ap (λ (c : Block). c.bytes) is ∙ s.bytes)
 
-  pub open_no_list : (b l : Block) (m : Meta) → is_open (stored i d 0) ≡ true → b ≡ stored i d 2 → IsInRange m × (b.bytes ≡ meta_bytes m) → l ≡ stored i d 3
+  pub open_no_list : (b l : Block) (m : Meta) → is_open (stored_block i d 0) ≡ true → b ≡ stored_block i d 2 → IsInRange m × (b.bytes ≡ meta_bytes m) → l ≡ stored_block i d 3
       → ((ts : List Target) → AreTargets m.setup.geometry ts → l.bytes ≢ targets_bytes ts) → IsMetaOf i d None
   open_no_list b l m opened is s is_list none = λ n formed.
       let f = gate_by true n opened formed in
@@ -57,7 +58,7 @@ module _ (i : Disks) (d : ℕ) where
       let same : n ≡ m = meta_bytes-cancel n m f.0.in_range mine.in_range (sym f.0.bytes ∙ mine.bytes) in
       none f.1 (subst (λ (k : Meta). AreTargets k.setup.geometry f.1) same f.2) (ap (λ (c : Block). c.bytes) is_list ∙ f.3)
 
-  pub open_meta : (b l : Block) (m : Meta) (ts : List Target) → is_open (stored i d 0) ≡ true → b ≡ stored i d 2 → IsInRange m × (b.bytes ≡ meta_bytes m) → l ≡ stored i d 3
+  pub open_meta : (b l : Block) (m : Meta) (ts : List Target) → is_open (stored_block i d 0) ≡ true → b ≡ stored_block i d 2 → IsInRange m × (b.bytes ≡ meta_bytes m) → l ≡ stored_block i d 3
       → AreTargets m.setup.geometry ts × (l.bytes ≡ targets_bytes ts) → IsMetaOf i d (Some m)
   open_meta b l m ts opened is s is_list list =
       by_gate true m opened (spelled b 2 m is s, ts, list.0, sym (ap (λ (c : Block). c.bytes) is_list) ∙ list.1)
@@ -66,12 +67,12 @@ module _ (i : Disks) (d : ℕ) where
 spells_one : (b : Block) (m n : Meta) → Spells b m → Spells b n → m ≡ n
 spells_one b m n a c = meta_bytes-cancel m n a.in_range c.in_range (sym a.bytes ∙ c.bytes)
 
-formed_one : (o : Bool) (log : ℕ → Block) (m n : Meta) → FormedBy o log m → FormedBy o log n → m ≡ n
+formed_one : (o : Bool) (log : ℕ → Block) (m n : Meta) → IsMetaUnder o log m → IsMetaUnder o log n → m ≡ n
 formed_one false log m n a c = spells_one (log 1) m n a c
 formed_one true log m n a c = spells_one (log 2) m n a.0 c.0
 
 found_one : (i : Disks) (x : ℕ) (m n : Meta) → IsFound i x m → IsFound i x n → m ≡ n
-found_one i x m n a c = formed_one (is_open (stored i x 0)) (stored i x) m n a.formed c.formed
+found_one i x m n a c = formed_one (is_open (stored_block i x 0)) (stored_block i x) m n a.formed c.formed
 
 -- the greatest of both log disks
 found_at : (i : Disks) (x : ℕ) (m : Meta) → IsFound i x m → IsFound i 0 m ⊎ IsFound i 1 m
@@ -129,14 +130,14 @@ there_below count slot are d spins = elim (cases_lt d count) [
 ]
 
 -- what was heard is so of the disks before the reads
-pub greatest_before : {old new : Option Trail} (e : ℕ) → IsQuiet old new → ((t : Trail) → new ≡ Some t → IsGreatest (now t) e)
+pub greatest_before : {old new : Option Trail} (e : ℕ) → OnlyReadsAndKeeps old new → ((t : Trail) → new ≡ Some t → IsGreatest (now t) e)
     → Ran old new (λ start calls. AreReads calls × IsGreatest start e)
 greatest_before e quiet heard t tells =
     let r = quiet t tells in
     let same : now t ≡ now r.from = ap now r.is ∙ now-extend r.from r.calls ∙ r.holds.1 in
     record { from = r.from; was = r.was; calls = r.calls; is = r.is; holds = (r.holds.0, subst (λ (s : Disks). IsGreatest s e) same (heard t tells)) }
 
-pub free_before : {old new : Option Trail} → IsQuiet old new → ((t : Trail) → new ≡ Some t → IsFree (now t)) → Led old new (λ start s. IsFree start)
+pub free_before : {old new : Option Trail} → OnlyReadsAndKeeps old new → ((t : Trail) → new ≡ Some t → IsUnclaimed (now t)) → RanBetween old new (λ start s. IsUnclaimed start)
 free_before quiet heard t tells =
     let u = quiet_now quiet t tells in
-    (u.0, u.1, subst (λ (s : Disks). IsFree s) u.2 (heard t tells))
+    (u.0, u.1, subst (λ (s : Disks). IsUnclaimed s) u.2 (heard t tells))

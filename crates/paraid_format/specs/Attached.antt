@@ -1,7 +1,7 @@
 -- Fresh disks, and the metas on them.
 use Rattle.std.specs.Prelude.{◌≡◌, ◌≢◌, ℕ, ◌<◌, ◌≤◌, false}
 use Rattle.paraid_base.specs.declared.block.Block.{Block}
-use Rattle.paraid_base.specs.Xor.{zeroed}
+use Rattle.paraid_base.specs.Xor.{zero_block}
 use Rattle.paraid_rack.specs.declared.call.Power.TheVariants.{Spinning}
 use Rattle.paraid_rack.specs.Disks.{Disks}
 use Rattle.paraid_rack.specs.Slots.{Slot}
@@ -13,15 +13,15 @@ abbrev pub fresh_slot : ℕ → Slot → Slot
 fresh_slot size s = record { power = Spinning; size = size; unsynced = false; faults = s.faults }
 
 -- the first disks are fresh ones of so many blocks
-pub record AreAttached (count size : ℕ) (start s : Disks) : Type 0 where
+pub record AreFreshDisks (count size : ℕ) (start s : Disks) : Type 0 where
   pub power : (d : ℕ) → d < count → s.power d ≡ Spinning
   pub size_is : (d : ℕ) → d < count → s.size d ≡ size
-  pub zeros : (d p : ℕ) → d < count → s.block d p ≡ zeroed
+  pub zeros : (d p : ℕ) → d < count → s.block d p ≡ zero_block
   pub synced : (d p : ℕ) → d < count → s.loose d p ≡ false
   pub others : (d p : ℕ) → count ≤ d → s.loose d p ≡ start.loose d p
 
 -- this block stands at place 1 of disk `x`, where nothing is loose; all else is as before
-pub record IsLogged (x : ℕ) (b : Block) (start s : Disks) : Type 0 where
+pub record IsMetaWritten (x : ℕ) (b : Block) (start s : Disks) : Type 0 where
   pub power : (d : ℕ) → s.power d ≡ start.power d
   pub size : (d : ℕ) → s.size d ≡ start.size d
   pub here : s.block x 1 ≡ b

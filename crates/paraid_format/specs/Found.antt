@@ -6,28 +6,28 @@ use Rattle.paraid_rack.specs.Disks.{Disks}
 use Rattle.paraid_record.specs.declared.meta.Meta.{Meta}
 use Rattle.paraid_record.specs.declared.targets.Target.{Target}
 use Rattle.paraid_record.specs.Targets.{AreTargets, targets_bytes}
-use Rattle.paraid_image.specs.Sides.{Spells, is_open, stored}
+use Rattle.paraid_image.specs.Sides.{Spells, is_open, stored_block}
 
 -- by a closed gate the meta at place 1, by an open one the meta at place 2 with a list of targets
-abbrev pub FormedBy : Bool → (ℕ → Block) → Meta → Type 0
-FormedBy false log m = Spells (log 1) m
-FormedBy true log m = Spells (log 2) m × (ts : List Target) × AreTargets m.setup.geometry ts × ((log 3).bytes ≡ targets_bytes ts)
+abbrev pub IsMetaUnder : Bool → (ℕ → Block) → Meta → Type 0
+IsMetaUnder false log m = Spells (log 1) m
+IsMetaUnder true log m = Spells (log 2) m × (ts : List Target) × AreTargets m.setup.geometry ts × ((log 3).bytes ≡ targets_bytes ts)
 
 -- the log disk is well formed, and this is its meta
-abbrev pub IsFormed : Disks → ℕ → Meta → Type 0
-IsFormed i x m = FormedBy (is_open (stored i x 0)) (stored i x) m
+abbrev pub IsFormedMeta : Disks → ℕ → Meta → Type 0
+IsFormedMeta i x m = IsMetaUnder (is_open (stored_block i x 0)) (stored_block i x) m
 
 -- it is, exactly where there is a meta
 abbrev pub IsMetaOf : Disks → ℕ → Option Meta → Type 0
-IsMetaOf i x (Some m) = IsFormed i x m
-IsMetaOf i x None = (m : Meta) → IsFormed i x m → ⊥
+IsMetaOf i x (Some m) = IsFormedMeta i x m
+IsMetaOf i x None = (m : Meta) → IsFormedMeta i x m → ⊥
 
 -- the log disk spins, has room for a log's head, and says that it belongs to an array
 pub record IsFound (i : Disks) (x : ℕ) (m : Meta) : Type 0 where
   pub log_disk : x < 2
   pub spinning : i.power x ≡ Spinning
   pub large : 4 ≤ i.size x
-  pub formed : IsFormed i x m
+  pub formed : IsFormedMeta i x m
 
 -- what one log disk says of its epoch
 abbrev pub IsEpochOf : Disks → ℕ → Option ℕ → Type 0
@@ -43,13 +43,13 @@ pub record IsGreatest (i : Disks) (e : ℕ) : Type 0 where
   pub greatest : (x : ℕ) (m : Meta) → IsFound i x m → m.epoch ≤ e
 
 -- no log disk says that it belongs to an array
-abbrev pub IsFree : Disks → Type 0
-IsFree i = (x : ℕ) (m : Meta) → IsFound i x m → ⊥
+abbrev pub IsUnclaimed : Disks → Type 0
+IsUnclaimed i = (x : ℕ) (m : Meta) → IsFound i x m → ⊥
 
 -- the greatest epoch, where there is one
 abbrev pub IsGreatestOf : Disks → Option ℕ → Type 0
 IsGreatestOf i (Some e) = IsGreatest i e
-IsGreatestOf i None = IsFree i
+IsGreatestOf i None = IsUnclaimed i
 
 -- the greater of two epochs
 abbrev pub greater_of : Option ℕ → Option ℕ → Option ℕ

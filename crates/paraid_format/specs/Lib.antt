@@ -1,4 +1,4 @@
-pub mod Led
+pub mod Between
 pub mod Found
 pub mod Calls
 pub mod Attached

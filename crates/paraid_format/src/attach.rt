@@ -2,9 +2,9 @@
 ghost use Rattle.std.specs.Prelude.{◌≡◌, ◌<◌, ◌≤◌, ℕ, OnOk, IfErr};
 ghost use Rattle.paraid_base.specs.Told.{HasRisen};
 ghost use Rattle.paraid_rack.specs.Told.{Ran};
-ghost use Rattle.paraid_format.specs.Attached.{AreAttached, fresh_slot};
+ghost use Rattle.paraid_format.specs.Attached.{AreFreshDisks, fresh_slot};
 ghost use Rattle.paraid_format.specs.Calls.{AreAttaches};
-ghost use Rattle.paraid_format.specs.Led.{Led};
+ghost use Rattle.paraid_format.specs.Between.{RanBetween};
 
 use paraid_base::DiskNo;
 use paraid_rack::Rack;
@@ -17,8 +17,8 @@ pub fn attach_all<R: Rack>(rack: &mut R, count: u8, size: u32) -> Result<(), Dis
     ensures fresh { OnOk result ((d : ℕ) → d < count
         → R.slot rack.new d ≡ fresh_slot size (R.slot rack.old d)) }
     ensures others { (d : ℕ) → count ≤ d → R.slot rack.new d ≡ R.slot rack.old d }
-    ensures attached { OnOk result (Led (R.told rack.old) (R.told rack.new)
-        (AreAttached count size)) }
+    ensures attached { OnOk result (RanBetween (R.told rack.old) (R.told rack.new)
+        (AreFreshDisks count size)) }
     ensures calls { Ran (R.told rack.old) (R.told rack.new) (λ start calls.
         AreAttaches size 0 count calls) }
     ensures risen { IfErr result (λ d. HasRisen (R.slot rack.old d).faults

@@ -1,10 +1,11 @@
 //! What the log disks say of an array that is there already.
+ghost use Rattle.paraid_rack.specs.Slots.{AreSameSlots};
 ghost use Rattle.std.specs.Prelude.{◌≡◌, ◌≢◌, ◌<◌, ◌≤◌, ℕ, true, false, Some, OnOk, IfErr, IfOk};
 ghost use Rattle.paraid_rack.specs.declared.call.Power.TheVariants.{Spinning};
 ghost use Rattle.paraid_rack.specs.Trail.{Trail, now};
 ghost use Rattle.paraid_base.specs.Told.{HasRisen};
-ghost use Rattle.paraid_image.specs.Sides.{is_open, stored};
-ghost use Rattle.paraid_format.specs.Calls.{AreSame, IsQuiet, IsReading};
+ghost use Rattle.paraid_image.specs.Sides.{is_open, stored_block};
+ghost use Rattle.paraid_format.specs.Calls.{OnlyReadsAndKeeps, OnlyReads};
 ghost use Rattle.paraid_format.specs.Found.{IsEpochOf, IsGreatestOf, IsMetaOf, greater_of};
 
 use paraid_base::{Block, DiskNo, Failed, Place};
@@ -28,14 +29,14 @@ fn read_place<R: Rack>(
     requires exists { disk < R.slot_count rack.old }
     requires spinning { (R.slot rack.old disk).power ≡ Spinning }
     ensures slots { R.slot_count rack.new ≡ R.slot_count rack.old }
-    ensures same { OnOk result (AreSame (R.slot rack.old) (R.slot rack.new)) }
+    ensures same { OnOk result (AreSameSlots (R.slot rack.old) (R.slot rack.new)) }
     ensures others { (d : ℕ) → d ≢ disk → R.slot rack.new d ≡ R.slot rack.old d }
-    ensures reads { IsReading (R.told rack.old) (R.told rack.new) }
-    ensures quiet { OnOk result (IsQuiet (R.told rack.old) (R.told rack.new)) }
+    ensures reads { OnlyReads (R.told rack.old) (R.told rack.new) }
+    ensures quiet { OnOk result (OnlyReadsAndKeeps (R.told rack.old) (R.told rack.new)) }
     ensures risen { IfErr result (λ failed. HasRisen (R.slot rack.old disk).faults
         (R.slot rack.new disk).faults) }
     ensures block { OnOk result ((t : Trail) → R.told rack.new ≡ Some t
-        → into.new ≡ stored (now t) disk place) }
+        → into.new ≡ stored_block (now t) disk place) }
 {
     if place >= rack.size(disk) {
         *into = Block::zero();
@@ -48,12 +49,12 @@ fn read_place<R: Rack>(
 fn hear_closed<R: Rack>(rack: &mut R, disk: DiskNo) -> Result<Option<Meta>, Failed>
     requires exists { disk < R.slot_count rack.old }
     requires spinning { (R.slot rack.old disk).power ≡ Spinning }
-    requires shut { (t : Trail) → R.told rack.old ≡ Some t → is_open (stored (now t) disk 0) ≡ false }
+    requires shut { (t : Trail) → R.told rack.old ≡ Some t → is_open (stored_block (now t) disk 0) ≡ false }
     ensures slots { R.slot_count rack.new ≡ R.slot_count rack.old }
-    ensures same { OnOk result (AreSame (R.slot rack.old) (R.slot rack.new)) }
+    ensures same { OnOk result (AreSameSlots (R.slot rack.old) (R.slot rack.new)) }
     ensures others { (d : ℕ) → d ≢ disk → R.slot rack.new d ≡ R.slot rack.old d }
-    ensures reads { IsReading (R.told rack.old) (R.told rack.new) }
-    ensures quiet { OnOk result (IsQuiet (R.told rack.old) (R.told rack.new)) }
+    ensures reads { OnlyReads (R.told rack.old) (R.told rack.new) }
+    ensures quiet { OnOk result (OnlyReadsAndKeeps (R.told rack.old) (R.told rack.new)) }
     ensures risen { IfErr result (λ failed. HasRisen (R.slot rack.old disk).faults
         (R.slot rack.new disk).faults) }
     ensures heard { IfOk result (λ meta. (t : Trail) → R.told rack.new ≡ Some t
@@ -68,12 +69,12 @@ fn hear_closed<R: Rack>(rack: &mut R, disk: DiskNo) -> Result<Option<Meta>, Fail
 fn hear_open<R: Rack>(rack: &mut R, disk: DiskNo) -> Result<Option<Meta>, Failed>
     requires exists { disk < R.slot_count rack.old }
     requires spinning { (R.slot rack.old disk).power ≡ Spinning }
-    requires opened { (t : Trail) → R.told rack.old ≡ Some t → is_open (stored (now t) disk 0) ≡ true }
+    requires opened { (t : Trail) → R.told rack.old ≡ Some t → is_open (stored_block (now t) disk 0) ≡ true }
     ensures slots { R.slot_count rack.new ≡ R.slot_count rack.old }
-    ensures same { OnOk result (AreSame (R.slot rack.old) (R.slot rack.new)) }
+    ensures same { OnOk result (AreSameSlots (R.slot rack.old) (R.slot rack.new)) }
     ensures others { (d : ℕ) → d ≢ disk → R.slot rack.new d ≡ R.slot rack.old d }
-    ensures reads { IsReading (R.told rack.old) (R.told rack.new) }
-    ensures quiet { OnOk result (IsQuiet (R.told rack.old) (R.told rack.new)) }
+    ensures reads { OnlyReads (R.told rack.old) (R.told rack.new) }
+    ensures quiet { OnOk result (OnlyReadsAndKeeps (R.told rack.old) (R.told rack.new)) }
     ensures risen { IfErr result (λ failed. HasRisen (R.slot rack.old disk).faults
         (R.slot rack.new disk).faults) }
     ensures heard { IfOk result (λ meta. (t : Trail) → R.told rack.new ≡ Some t
@@ -97,10 +98,10 @@ fn hear<R: Rack>(rack: &mut R, disk: DiskNo) -> Result<Option<Meta>, Failed>
     requires exists { disk < R.slot_count rack.old }
     requires spinning { (R.slot rack.old disk).power ≡ Spinning }
     ensures slots { R.slot_count rack.new ≡ R.slot_count rack.old }
-    ensures same { OnOk result (AreSame (R.slot rack.old) (R.slot rack.new)) }
+    ensures same { OnOk result (AreSameSlots (R.slot rack.old) (R.slot rack.new)) }
     ensures others { (d : ℕ) → d ≢ disk → R.slot rack.new d ≡ R.slot rack.old d }
-    ensures reads { IsReading (R.told rack.old) (R.told rack.new) }
-    ensures quiet { OnOk result (IsQuiet (R.told rack.old) (R.told rack.new)) }
+    ensures reads { OnlyReads (R.told rack.old) (R.told rack.new) }
+    ensures quiet { OnOk result (OnlyReadsAndKeeps (R.told rack.old) (R.told rack.new)) }
     ensures risen { IfErr result (λ failed. HasRisen (R.slot rack.old disk).faults
         (R.slot rack.new disk).faults) }
     ensures heard { IfOk result (λ meta. (t : Trail) → R.told rack.new ≡ Some t
@@ -130,10 +131,10 @@ fn lacks_log<R: Rack>(rack: &R, disk: DiskNo) -> bool
 fn epoch_of<R: Rack>(rack: &mut R, disk: DiskNo) -> Result<Option<u64>, Failed>
     requires log_disk { disk < 2 }
     ensures slots { R.slot_count rack.new ≡ R.slot_count rack.old }
-    ensures same { OnOk result (AreSame (R.slot rack.old) (R.slot rack.new)) }
+    ensures same { OnOk result (AreSameSlots (R.slot rack.old) (R.slot rack.new)) }
     ensures others { (d : ℕ) → d ≢ disk → R.slot rack.new d ≡ R.slot rack.old d }
-    ensures reads { IsReading (R.told rack.old) (R.told rack.new) }
-    ensures quiet { OnOk result (IsQuiet (R.told rack.old) (R.told rack.new)) }
+    ensures reads { OnlyReads (R.told rack.old) (R.told rack.new) }
+    ensures quiet { OnOk result (OnlyReadsAndKeeps (R.told rack.old) (R.told rack.new)) }
     ensures risen { IfErr result (λ failed. HasRisen (R.slot rack.old disk).faults
         (R.slot rack.new disk).faults) }
     ensures heard { IfOk result (λ epoch. (t : Trail) → R.told rack.new ≡ Some t
@@ -163,10 +164,10 @@ fn greater(first: Option<u64>, second: Option<u64>) -> Option<u64>
 /// named.
 pub fn greatest_epoch<R: Rack>(rack: &mut R) -> Result<Option<u64>, DiskNo>
     ensures slots { R.slot_count rack.new ≡ R.slot_count rack.old }
-    ensures same { OnOk result (AreSame (R.slot rack.old) (R.slot rack.new)) }
+    ensures same { OnOk result (AreSameSlots (R.slot rack.old) (R.slot rack.new)) }
     ensures others { (d : ℕ) → 2 ≤ d → R.slot rack.new d ≡ R.slot rack.old d }
-    ensures reads { IsReading (R.told rack.old) (R.told rack.new) }
-    ensures quiet { OnOk result (IsQuiet (R.told rack.old) (R.told rack.new)) }
+    ensures reads { OnlyReads (R.told rack.old) (R.told rack.new) }
+    ensures quiet { OnOk result (OnlyReadsAndKeeps (R.told rack.old) (R.told rack.new)) }
     ensures heard { IfOk result (λ epoch. (t : Trail) → R.told rack.new ≡ Some t
         → IsGreatestOf (now t) epoch) }
     ensures risen { IfErr result (λ d. HasRisen (R.slot rack.old d).faults

@@ -3,9 +3,9 @@ ghost use Rattle.std.specs.Prelude.{◌≡◌, ◌≢◌, ◌<◌, ◌≤◌, �
 ghost use Rattle.paraid_base.specs.Told.{HasRisen};
 ghost use Rattle.paraid_rack.specs.declared.call.Power.TheVariants.{Spinning};
 ghost use Rattle.paraid_rack.specs.Told.{Ran};
-ghost use Rattle.paraid_format.specs.Attached.{IsLogged};
-ghost use Rattle.paraid_format.specs.Calls.{AreLogging};
-ghost use Rattle.paraid_format.specs.Led.{Led};
+ghost use Rattle.paraid_format.specs.Attached.{IsMetaWritten};
+ghost use Rattle.paraid_format.specs.Calls.{AreMetaCalls};
+ghost use Rattle.paraid_format.specs.Between.{RanBetween};
 
 use paraid_base::{Block, DiskNo, Failed};
 use paraid_rack::Rack;
@@ -20,9 +20,9 @@ pub fn write_log<R: Rack>(rack: &mut R, disk: DiskNo, meta: &Block) -> Result<()
     ensures here { OnOk result (R.slot rack.new disk
         ≡ record (R.slot rack.old disk) { unsynced = false }) }
     ensures others { (d : ℕ) → d ≢ disk → R.slot rack.new d ≡ R.slot rack.old d }
-    ensures logged { OnOk result (Led (R.told rack.old) (R.told rack.new)
-        (IsLogged disk meta.now)) }
-    ensures calls { Ran (R.told rack.old) (R.told rack.new) (λ start calls. AreLogging calls) }
+    ensures logged { OnOk result (RanBetween (R.told rack.old) (R.told rack.new)
+        (IsMetaWritten disk meta.now)) }
+    ensures calls { Ran (R.told rack.old) (R.told rack.new) (λ start calls. AreMetaCalls calls) }
     ensures risen { IfErr result (λ failed. HasRisen (R.slot rack.old disk).faults
         (R.slot rack.new disk).faults) }
 {

@@ -1,15 +1,17 @@
 //! A new array of the disks of a rack.
+ghost use Rattle.paraid_rack.specs.Slots.{AreSameSlots};
+ghost use Rattle.paraid_rack.specs.Calls.{AreReads};
 ghost use Rattle.std.specs.Prelude.{◌≡◌, ◌<◌, ◌≤◌, ℕ, true, false, [], OnOk, IfErr};
 ghost use Rattle.paraid_base.specs.Regions.{disk_size};
 ghost use Rattle.paraid_base.specs.Told.{HasRisen};
 ghost use Rattle.paraid_rack.specs.Told.{Ran};
 ghost use Rattle.paraid_record.specs.Range.{IsInRange, IsSetupInRange};
 ghost use Rattle.paraid_format.specs.Attached.{BecomesFormatted, fresh_slot};
-ghost use Rattle.paraid_format.specs.Calls.{AreFormatting, AreMaking, AreReads, AreSame, IsQuiet};
+ghost use Rattle.paraid_format.specs.Calls.{AreFormatCalls, AreMakingCalls, OnlyReadsAndKeeps};
 ghost use Rattle.paraid_format.specs.First.{first_meta as first_meta_of};
-ghost use Rattle.paraid_format.specs.Found.{IsFree};
-ghost use Rattle.paraid_format.specs.Led.{Led};
-ghost use Rattle.paraid_format.specs.Refusals.{IsRefusal};
+ghost use Rattle.paraid_format.specs.Found.{IsUnclaimed};
+ghost use Rattle.paraid_format.specs.Between.{RanBetween};
+ghost use Rattle.paraid_format.specs.Refusals.{IsFormatRefusal};
 
 use crate::attach::attach_all;
 use crate::fault::FormatFault;
@@ -48,10 +50,10 @@ fn make<R: Rack>(setup: &Setup, rack: &mut R) -> Result<(), DiskNo>
         ≡ fresh_slot (disk_size setup.now.geometry) (R.slot rack.old d)) }
     ensures others { (d : ℕ) → setup.now.geometry.disks ≤ d
         → R.slot rack.new d ≡ R.slot rack.old d }
-    ensures formatted { OnOk result (Led (R.told rack.old) (R.told rack.new)
+    ensures formatted { OnOk result (RanBetween (R.told rack.old) (R.told rack.new)
         (BecomesFormatted (R.slot_count rack.old) (first_meta_of setup.now))) }
     ensures calls { Ran (R.told rack.old) (R.told rack.new) (λ start calls.
-        AreMaking setup.now.geometry.disks (disk_size setup.now.geometry) calls) }
+        AreMakingCalls setup.now.geometry.disks (disk_size setup.now.geometry) calls) }
     ensures risen { IfErr result (λ d. HasRisen (R.slot rack.old d).faults
         (R.slot rack.new d).faults) }
 {
@@ -70,14 +72,14 @@ fn make<R: Rack>(setup: &Setup, rack: &mut R) -> Result<(), DiskNo>
 // Refuses a rack that belongs to an array, unless that does not matter.
 fn test<R: Rack>(force: bool, rack: &mut R) -> Result<(), FormatFault>
     ensures slots { R.slot_count rack.new ≡ R.slot_count rack.old }
-    ensures same { OnOk result (AreSame (R.slot rack.old) (R.slot rack.new)) }
+    ensures same { OnOk result (AreSameSlots (R.slot rack.old) (R.slot rack.new)) }
     ensures others { (d : ℕ) → 2 ≤ d → R.slot rack.new d ≡ R.slot rack.old d }
     ensures reads { Ran (R.told rack.old) (R.told rack.new) (λ start calls.
         AreReads calls × (force ≡ true → calls ≡ [])) }
-    ensures quiet { OnOk result (IsQuiet (R.told rack.old) (R.told rack.new)) }
-    ensures free { OnOk result (force ≡ false → Led (R.told rack.old) (R.told rack.new)
-        (λ start s. IsFree start)) }
-    ensures refused { IfErr result (λ fault. (count slots : ℕ) → IsRefusal force count slots
+    ensures quiet { OnOk result (OnlyReadsAndKeeps (R.told rack.old) (R.told rack.new)) }
+    ensures free { OnOk result (force ≡ false → RanBetween (R.told rack.old) (R.told rack.new)
+        (λ start s. IsUnclaimed start)) }
+    ensures refused { IfErr result (λ fault. (count slots : ℕ) → IsFormatRefusal force count slots
         (R.slot rack.old) (R.slot rack.new) (R.told rack.old) (R.told rack.new) fault) }
 {
     if force {
@@ -103,13 +105,13 @@ pub fn format<R: Rack>(setup: &Setup, force: bool, rack: &mut R) -> Result<(), F
         ≡ fresh_slot (disk_size setup.now.geometry) (R.slot rack.old d)) }
     ensures others { (d : ℕ) → setup.now.geometry.disks ≤ d
         → R.slot rack.new d ≡ R.slot rack.old d }
-    ensures formatted { OnOk result (Led (R.told rack.old) (R.told rack.new)
+    ensures formatted { OnOk result (RanBetween (R.told rack.old) (R.told rack.new)
         (BecomesFormatted (R.slot_count rack.old) (first_meta_of setup.now))) }
-    ensures free { OnOk result (force ≡ false → Led (R.told rack.old) (R.told rack.new)
-        (λ start s. IsFree start)) }
-    ensures calls { Ran (R.told rack.old) (R.told rack.new) (λ start calls. AreFormatting force
+    ensures free { OnOk result (force ≡ false → RanBetween (R.told rack.old) (R.told rack.new)
+        (λ start s. IsUnclaimed start)) }
+    ensures calls { Ran (R.told rack.old) (R.told rack.new) (λ start calls. AreFormatCalls force
         setup.now.geometry.disks (disk_size setup.now.geometry) calls) }
-    ensures refused { IfErr result (IsRefusal force setup.now.geometry.disks
+    ensures refused { IfErr result (IsFormatRefusal force setup.now.geometry.disks
         (R.slot_count rack.old) (R.slot rack.old) (R.slot rack.new) (R.told rack.old)
         (R.told rack.new)) }
 {

@@ -3,14 +3,14 @@ use Rattle.std.proofs.Common.{◌≡◌, ℕ, ◌*◌, Bool, true, false, List, 
 use Rattle.paraid_record.specs.declared.meta.Setup.{Setup}
 use Rattle.paraid_gear.specs.declared.decision.Decision.{Decision}
 use Rattle.paraid_gear.specs.declared.decision.Decision.TheVariants.{Stay, Up, Down}
-use Rattle.paraid_gear.specs.Gears.{next_higher, next_lower}
-use Rattle.paraid_gear.specs.Window.{is_full, is_busy, is_quiet}
+use Rattle.paraid_base.specs.Gears.{next_higher, next_lower}
+use Rattle.paraid_gear.specs.Window.{is_full, is_busy, is_low_and_even}
 use Rattle.paraid_gear.specs.Decision.{in_every_window, gear_up_for, gear_down_for, first_of_both, decision}
 
 pub gear_up_for-some : (setup : Setup) (gear : ℕ) (samples lengths : List ℕ) (next : Option ℕ) (to : ℕ) (busy : Bool) → next ≡ Some to → lengths ≡ setup.windows → busy ≡ in_every_window (is_busy (setup.up * setup.service * gear)) lengths samples → (if busy then Some to else None) ≡ gear_up_for setup gear samples next
 gear_up_for-some setup gear samples lengths next to busy is same test = rw (is, ← same, ← test) refl
 
-pub gear_down_for-some : (setup : Setup) (samples lengths : List ℕ) (next : Option ℕ) (to : ℕ) (quiet : Bool) → next ≡ Some to → lengths ≡ setup.windows → quiet ≡ in_every_window (is_quiet (setup.down * setup.service * to)) lengths samples → (if quiet then Some to else None) ≡ gear_down_for setup samples next
+pub gear_down_for-some : (setup : Setup) (samples lengths : List ℕ) (next : Option ℕ) (to : ℕ) (quiet : Bool) → next ≡ Some to → lengths ≡ setup.windows → quiet ≡ in_every_window (is_low_and_even (setup.down * setup.service * to)) lengths samples → (if quiet then Some to else None) ≡ gear_down_for setup samples next
 gear_down_for-some setup samples lengths next to quiet is same test = rw (is, ← same, ← test) refl
 
 pub decision-not_full : (setup : Setup) (gear : ℕ) (samples lengths : List ℕ) → lengths ≡ setup.windows → in_every_window is_full lengths samples ≡ false → Stay ≡ decision setup gear samples

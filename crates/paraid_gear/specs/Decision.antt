@@ -5,8 +5,8 @@ use Rattle.circular_buffer.specs.Buffer.{keep_last}
 use Rattle.paraid_record.specs.declared.meta.Setup.{Setup}
 use Rattle.paraid_gear.specs.declared.decision.Decision.{Decision}
 use Rattle.paraid_gear.specs.declared.decision.Decision.TheVariants.{Stay, Up, Down}
-use Rattle.paraid_gear.specs.Gears.{next_higher, next_lower}
-use Rattle.paraid_gear.specs.Window.{is_full, is_busy, is_quiet}
+use Rattle.paraid_base.specs.Gears.{next_higher, next_lower}
+use Rattle.paraid_gear.specs.Window.{is_full, is_busy, is_low_and_even}
 
 -- A test holds of each length and its last samples. An unused window has length 0: it has no
 -- sample, and meets each test.
@@ -23,7 +23,7 @@ gear_up_for setup gear samples (Some to) =
 abbrev pub gear_down_for : Setup → List ℕ → Option ℕ → Option ℕ
 gear_down_for setup samples None = None
 gear_down_for setup samples (Some to) =
-    if in_every_window (is_quiet (setup.down * setup.service * to)) setup.windows samples then Some to else None
+    if in_every_window (is_low_and_even (setup.down * setup.service * to)) setup.windows samples then Some to else None
 
 -- up, or else down, or else neither
 abbrev pub first_of_both : Option ℕ → Option ℕ → Decision

@@ -1,4 +1,3 @@
-pub mod Gears
 pub mod Window
-pub mod Windows
+pub mod ThreeWindows
 pub mod Decision

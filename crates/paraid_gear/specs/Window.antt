@@ -3,15 +3,15 @@ use Rattle.std.specs.Prelude.{◌≡◌, ℕ, ◌-◌, ◌*◌, ◌^◌, ◌≤�
 use Rattle.circular_buffer.specs.Buffer.{keep_last}
 
 -- a window's length, and the samples that it holds, the oldest first
-pub record Held : Type 0 where
+pub record SampleWindow : Type 0 where
   pub span : ℕ
   pub samples : List ℕ
 
-abbrev pub held : ℕ → List ℕ → Held
-held span samples = record { span = span; samples = samples }
+abbrev pub sample_window : ℕ → List ℕ → SampleWindow
+sample_window span samples = record { span = span; samples = samples }
 
 -- of all these samples, the window holds as many of the last as its length, or all
-pub record HoldsLast (window : Held) (samples : List ℕ) : Type 0 where
+pub record HoldsLast (window : SampleWindow) (samples : List ℕ) : Type 0 where
   pub holds : window.samples ≡ keep_last window.span samples
 
 -- the sum of the squares
@@ -34,7 +34,7 @@ is_busy load span samples = nat_le (load * span) (100 * sum samples)
 
 -- The mean of the samples and their deviation together are at most the load. The square of
 -- `span` times the deviation is `span * sum_squares - sum * sum`.
-abbrev pub is_quiet : ℕ → ℕ → List ℕ → Bool
-is_quiet load span samples =
+abbrev pub is_low_and_even : ℕ → ℕ → List ℕ → Bool
+is_low_and_even load span samples =
     nat_le (100 * sum samples) (load * span)
     && nat_le (10000 * (span * sum_squares samples - sum samples * sum samples)) ((load * span - 100 * sum samples) ^ 2)

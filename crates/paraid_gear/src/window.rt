@@ -2,7 +2,7 @@
 
 ghost use Rattle.std.specs.Prelude.{◌≡◌, ◌-◌, ◌*◌, ◌^◌, ◌<◌, ◌≤◌, [], ◌∷◌, ◌++◌, length, sum, IfOk};
 ghost use Rattle.circular_buffer.specs.Buffer.{keep_last};
-ghost use Rattle.paraid_gear.specs.Window.{held, sum_squares, is_full as is_full_at, is_busy as is_busy_at, is_quiet as is_quiet_at};
+ghost use Rattle.paraid_gear.specs.Window.{sample_window, sum_squares, is_full as is_full_at, is_busy as is_busy_at, is_low_and_even as is_quiet_at};
 
 use circular_buffer::HeapCircularBuffer;
 use paraid_base::NoMemory;
@@ -24,9 +24,9 @@ pub(crate) struct Window {
 
 impl Model for Window {
     ghost use Rattle.std.specs.Prelude.{◌≡◌, ◌≤◌, length};
-    ghost use Rattle.paraid_gear.specs.Window.{AreSums, Held};
+    ghost use Rattle.paraid_gear.specs.Window.{AreSums, SampleWindow};
 
-    ghost Value = { Held };
+    ghost Value = { SampleWindow };
 
     ghost view = { λ w. record { span = w.span; samples = w.ring.items } };
 
@@ -36,7 +36,7 @@ impl Model for Window {
 impl Window {
     /// A window of length 0.
     pub fn new(alloc: Global) -> Result<Window, NoMemory>
-        ensures { IfOk result (λ window. window ≡ held 0 []) }
+        ensures { IfOk result (λ window. window ≡ sample_window 0 []) }
     {
         match HeapCircularBuffer::with_capacity(alloc, LONGEST) {
             Ok(ring) => Ok(Window {
@@ -52,7 +52,7 @@ impl Window {
     /// Makes it a window of this length that holds no sample.
     pub fn start(&mut self, length: u16)
         requires { length ≤ 1024 }
-        ensures { self.new ≡ held length [] }
+        ensures { self.new ≡ sample_window length [] }
     {
         self.ring.clear();
         self.span = length;
@@ -63,7 +63,7 @@ impl Window {
     /// Takes in a sample. A window that is full gives up its oldest; one of length 0 stays empty.
     pub fn push(&mut self, sample: u32)
         requires { sample ≤ 1048576 }
-        ensures { self.new ≡ held self.old.span
+        ensures { self.new ≡ sample_window self.old.span
             (keep_last self.old.span (self.old.samples ++ sample ∷ [])) }
     {
         if self.span == 0 {
@@ -78,7 +78,7 @@ impl Window {
     /// Gives up the oldest sample of a full window.
     fn make_room(&mut self)
         requires { 1 ≤ self.old.span }
-        ensures { self.new ≡ held self.old.span (keep_last (self.old.span - 1) self.old.samples) }
+        ensures { self.new ≡ sample_window self.old.span (keep_last (self.old.span - 1) self.old.samples) }
     {
         if self.ring.len() < self.span as usize {
             return;

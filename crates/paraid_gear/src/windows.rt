@@ -2,9 +2,9 @@
 
 ghost use Rattle.std.specs.Prelude.{◌≡◌, ◌*◌, ◌^◌, ◌<◌, ◌≤◌, List, ℕ, [], ◌∷◌, ◌++◌, slice_index, IfOk};
 ghost use Rattle.paraid_base.specs.Regions.{IsGear};
-ghost use Rattle.paraid_gear.specs.Window.{is_full, is_busy, is_quiet};
-ghost use Rattle.paraid_gear.specs.Windows.{StandsFor, lengths_of, sample_of};
-ghost use Rattle.paraid_gear.specs.Gears.{next_higher, next_lower};
+ghost use Rattle.paraid_gear.specs.Window.{is_full, is_busy, is_low_and_even};
+ghost use Rattle.paraid_gear.specs.ThreeWindows.{HoldLastSamples, lengths_of, sample_of};
+ghost use Rattle.paraid_base.specs.Gears.{next_higher, next_lower};
 ghost use Rattle.paraid_gear.specs.Decision.{decision, in_every_window, gear_up_for, gear_down_for};
 
 use crate::Decision;
@@ -28,7 +28,7 @@ impl Windows {
     /// Three windows of length 0. All memory that windows ever need is taken here.
     pub fn new(alloc: Global) -> Result<Windows, NoMemory>
         ensures lengths { IfOk result (λ windows. lengths_of windows ≡ 0 ∷ 0 ∷ 0 ∷ []) }
-        ensures none { IfOk result (λ windows. StandsFor windows []) }
+        ensures none { IfOk result (λ windows. HoldLastSamples windows []) }
     {
         let first = Window::new(alloc)?;
         let second = Window::new(alloc)?;
@@ -46,7 +46,7 @@ impl Windows {
         requires second { slice_index lengths 1 ≤ 1024 }
         requires third { slice_index lengths 2 ≤ 1024 }
         ensures lengths { lengths_of self.new ≡ lengths }
-        ensures none { StandsFor self.new [] }
+        ensures none { HoldLastSamples self.new [] }
     {
         self.first.start(lengths[0]);
         self.second.start(lengths[1]);
@@ -56,8 +56,8 @@ impl Windows {
     /// Takes in the count of a tick, cut at 1,048,576.
     pub fn push(&mut self, count: u32)
         ensures lengths { lengths_of self.new ≡ lengths_of self.old }
-        ensures more { (samples : List ℕ) → StandsFor self.old samples
-            → StandsFor self.new (samples ++ sample_of count ∷ []) }
+        ensures more { (samples : List ℕ) → HoldLastSamples self.old samples
+            → HoldLastSamples self.new (samples ++ sample_of count ∷ []) }
     {
         let sample = count.min(GREATEST_SAMPLE);
         self.first.push(sample);
@@ -69,7 +69,7 @@ impl Windows {
     pub fn decide(&self, setup: &Setup, gear: u8) -> Decision
         requires lengths { lengths_of self.now ≡ setup.now.windows }
         requires gear { IsGear setup.now.geometry gear }
-        ensures { (samples : List ℕ) → StandsFor self.now samples
+        ensures { (samples : List ℕ) → HoldLastSamples self.now samples
             → result ≡ decision setup.now gear samples }
     {
         if !self.are_full() {
@@ -86,7 +86,7 @@ impl Windows {
 
     /// Whether each window holds as many samples as it is long.
     fn are_full(&self) -> bool
-        ensures { (samples : List ℕ) → StandsFor self.now samples
+        ensures { (samples : List ℕ) → HoldLastSamples self.now samples
             → result ≡ in_every_window is_full (lengths_of self.now) samples }
     {
         self.first.is_full() && self.second.is_full() && self.third.is_full()
@@ -95,7 +95,7 @@ impl Windows {
     /// Whether in each window the mean load is at least `load` hundredths.
     fn are_busy(&self, load: u128) -> bool
         requires { load < 2 ^ 48 }
-        ensures { (samples : List ℕ) → StandsFor self.now samples
+        ensures { (samples : List ℕ) → HoldLastSamples self.now samples
             → result ≡ in_every_window (is_busy load) (lengths_of self.now) samples }
     {
         self.first.is_busy(load) && self.second.is_busy(load) && self.third.is_busy(load)
@@ -104,8 +104,8 @@ impl Windows {
     /// Whether in each window the mean load and its deviation together are at most `load` hundredths.
     fn are_quiet(&self, load: u128) -> bool
         requires { load < 2 ^ 48 }
-        ensures { (samples : List ℕ) → StandsFor self.now samples
-            → result ≡ in_every_window (is_quiet load) (lengths_of self.now) samples }
+        ensures { (samples : List ℕ) → HoldLastSamples self.now samples
+            → result ≡ in_every_window (is_low_and_even load) (lengths_of self.now) samples }
     {
         self.first.is_quiet(load) && self.second.is_quiet(load) && self.third.is_quiet(load)
     }
@@ -114,7 +114,7 @@ impl Windows {
     fn gear_up(&self, setup: &Setup, gear: u8) -> Option<u8>
         requires lengths { lengths_of self.now ≡ setup.now.windows }
         requires gear { IsGear setup.now.geometry gear }
-        ensures { (samples : List ℕ) → StandsFor self.now samples
+        ensures { (samples : List ℕ) → HoldLastSamples self.now samples
             → result ≡ gear_up_for setup.now gear samples (next_higher setup.now.geometry gear) }
     {
         let to = setup.geometry.higher(gear)?;
@@ -126,7 +126,7 @@ impl Windows {
     fn gear_down(&self, setup: &Setup, gear: u8) -> Option<u8>
         requires lengths { lengths_of self.now ≡ setup.now.windows }
         requires gear { IsGear setup.now.geometry gear }
-        ensures { (samples : List ℕ) → StandsFor self.now samples
+        ensures { (samples : List ℕ) → HoldLastSamples self.now samples
             → result ≡ gear_down_for setup.now samples (next_lower setup.now.geometry gear) }
     {
         let to = setup.geometry.lower(gear)?;

@@ -10,12 +10,12 @@ use Rattle.paraid_rack.specs.Disks.{Disks, IsImage, IsPresent, is_present, lose}
 use Rattle.paraid_rack.specs.Trail.{Trail, disks, initial}
 use Rattle.paraid_rack.proofs.AlikeLemmas.{HasPlace-same, IsAlike-sym, lose_alike, stopped_alike}
 use Rattle.paraid_image.specs.Content.{view_by}
-use Rattle.paraid_image.specs.HeldAt.{HeldAt, IsHeld, IsSound, MayLose}
+use Rattle.paraid_image.specs.HeldAt.{IsHeldAt, IsHeld, IsSoundFrom, MayLose}
 use Rattle.paraid_image.specs.Out.{IsWeak}
 use Rattle.paraid_image.specs.Out.IsWeak.{out, named}
-use Rattle.paraid_image.specs.Sides.{Batch, Said, Says, has_place, is_open, stored}
-use Rattle.paraid_image.specs.Sound.{ContentOk, LogOk, Sound}
-use Rattle.paraid_image.specs.Standing.{Contents, Stands, contents, laid, other_log}
+use Rattle.paraid_image.specs.Sides.{Batch, LogState, Says, has_place, is_open, stored_block}
+use Rattle.paraid_image.specs.Sound.{ContentOk, LogOk, IsSoundAt}
+use Rattle.paraid_image.specs.Standing.{Contents, Stands, contents, overlaid_block, other_log}
 use Rattle.paraid_image.proofs.HeldLemmas.{IsHeld-image}
 use Rattle.paraid_image.proofs.NeutralLemmas.{IsLogKept, past_log, says_back, says_forth, where_there}
 
@@ -28,13 +28,13 @@ module _ (j : Disks) (f : ℕ → ℕ → Block) (l : ℕ → ℕ → Bool) (sam
   abbrev before : Disks
   before = record j { block = f; loose = l }
 
-  stored_same : (d p : ℕ) → stored j d p ≡ stored before d p
-  unfolding stored
+  stored_same : (d p : ℕ) → stored_block j d p ≡ stored_block before d p
+  unfolding stored_block
   stored_same d p = where_there (has_place j d p) (j.block d p) (f d p) (same d p)
 
   contents_now : (batch : Batch) → contents j batch ≡ contents before batch
   unfolding contents
-  contents_now batch = λ t d p. past_log (nat_lt p 100) (has_place j d p) (laid batch d p (j.block d p)) (laid batch d p (f d p)) (λ high there. ap (laid batch d p) (same d p there)) t
+  contents_now batch = λ t d p. past_log (nat_lt p 100) (has_place j d p) (overlaid_block batch d p (j.block d p)) (overlaid_block batch d p (f d p)) (λ high there. ap (overlaid_block batch d p) (same d p there)) t
 
   log_kept : (x : ℕ) → IsLogKept before j x
   log_kept x = record {
@@ -44,13 +44,13 @@ module _ (j : Disks) (f : ℕ → ℕ → Block) (l : ℕ → ℕ → Bool) (sam
     rest = λ opened said says q low high. stored_same x q;
   }
 
-  says_now : (x : ℕ) (said : Said) → Says before x said → Says j x said
+  says_now : (x : ℕ) (said : LogState) → Says before x said → Says j x said
   says_now x said s = says_forth before j x said (log_kept x) s
 
-  says_then : (x : ℕ) (said : Said) → Says j x said → Says before x said
+  says_then : (x : ℕ) (said : LogState) → Says j x said → Says before x said
   says_then x said s = says_back before j x said (log_kept x) s
 
-  stands_now : (x : ℕ) (said : Said) → Stands before x said → Stands j x said
+  stands_now : (x : ℕ) (said : LogState) → Stands before x said → Stands j x said
   stands_now x said s = record {
     log_disk = s.log_disk;
     says = says_now x said s.says;
@@ -61,7 +61,7 @@ module _ (j : Disks) (f : ℕ → ℕ → Block) (l : ℕ → ℕ → Bool) (sam
   weak_now w (out x said s e) = out x said (stands_now x said s) e
   weak_now w (named x said other s none q e) = named x said other (stands_now x said s) none (says_now (other_log x) other q) e
 
-  log_now : (x : ℕ) (said : Said) (k : ℕ) → LogOk before x said k → LogOk j x said k
+  log_now : (x : ℕ) (said : LogState) (k : ℕ) → LogOk before x said k → LogOk j x said k
   log_now x said k ok = record {
     stands = stands_now x said ok.stands;
     writes = ok.writes;
@@ -73,7 +73,7 @@ module _ (j : Disks) (f : ℕ → ℕ → Block) (l : ℕ → ℕ → Bool) (sam
     paired = λ a c says_a says_c in_first in_second. ok.paired a c (says_then 0 a says_a) (says_then 1 c says_c) in_first in_second;
   }
 
-  sound_now : (slots : ℕ) (h : History) (k : ℕ) → Sound slots before h k → Sound slots j h k
+  sound_now : (slots : ℕ) (h : History) (k : ℕ) → IsSoundAt slots before h k → IsSoundAt slots j h k
   sound_now slots h k s = record {
     disk = s.disk;
     said = s.said;
@@ -93,19 +93,19 @@ alike_by Q i j a go q =
     in
     go i.block i.loose same (subst Q is q)
 
-pub stands_alike : (i j : Disks) (x : ℕ) (said : Said) → IsAlike i j → Stands i x said → Stands j x said
+pub stands_alike : (i j : Disks) (x : ℕ) (said : LogState) → IsAlike i j → Stands i x said → Stands j x said
 stands_alike i j x said a s = alike_by (λ k. Stands k x said) i j a (λ f l same q. stands_now j f l same x said q) s
 
 pub weak_alike : (i j : Disks) (w : ℕ) → IsAlike i j → IsWeak i w → IsWeak j w
 weak_alike i j w a s = alike_by (λ k. IsWeak k w) i j a (λ f l same q. weak_now j f l same w q) s
 
-pub sound_alike : (slots : ℕ) (i j : Disks) (h : History) (k : ℕ) → IsAlike i j → Sound slots i h k → Sound slots j h k
-sound_alike slots i j h k a s = alike_by (λ d. Sound slots d h k) i j a (λ f l same q. sound_now j f l same slots h k q) s
+pub sound_alike : (slots : ℕ) (i j : Disks) (h : History) (k : ℕ) → IsAlike i j → IsSoundAt slots i h k → IsSoundAt slots j h k
+sound_alike slots i j h k a s = alike_by (λ d. IsSoundAt slots d h k) i j a (λ f l same q. sound_now j f l same slots h k q) s
 
 pub contents_alike : (i j : Disks) (batch : Batch) → IsAlike i j → contents j batch ≡ contents i batch
 contents_alike i j batch a = alike_by (λ k. contents k batch ≡ contents i batch) i j a (λ f l same q. contents_now j f l same batch ∙ q) refl
 
-is_sound_alike : (slots : ℕ) (i j : Disks) (h : History) (lo : ℕ) → IsAlike i j → IsSound slots i h lo → IsSound slots j h lo
+is_sound_alike : (slots : ℕ) (i j : Disks) (h : History) (lo : ℕ) → IsAlike i j → IsSoundFrom slots i h lo → IsSoundFrom slots j h lo
 is_sound_alike slots i j h lo a s = record { k = s.k; low = s.low; high = s.high; sound = sound_alike slots i j h s.k a s.sound }
 
 may_lose_alike : (i j : Disks) (d : ℕ) → IsAlike i j → MayLose i d → MayLose j d
@@ -130,5 +130,5 @@ held_alike slots i j h lo down a held =
     }
 
 pub held_start : (slots : ℕ) (t u : Trail) (m : ℕ) (i : Disks) (h : History) (lo : ℕ) (down : Option ℕ) → IsImage (disks t m) i → IsAlike i (initial u.start)
-    → HeldAt slots t m h lo down → HeldAt slots u 0 h lo down
+    → IsHeldAt slots t m h lo down → IsHeldAt slots u 0 h lo down
 held_start slots t u m i h lo down image a held = held_alike slots i (initial u.start) h lo down a (IsHeld-image slots (disks t m) i h lo down image held)

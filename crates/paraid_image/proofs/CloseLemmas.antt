@@ -11,25 +11,25 @@ use Rattle.paraid_record.specs.declared.meta.Meta.{Meta}
 use Rattle.paraid_image.specs.Close.{IsLaidBelow, shut_of}
 use Rattle.paraid_image.specs.Content.{view_by, view_of}
 use Rattle.paraid_image.specs.Gate.{GateTurns}
-use Rattle.paraid_image.specs.HeldAt.{IsHeld, IsSound, MayLose}
+use Rattle.paraid_image.specs.HeldAt.{IsHeld, IsSoundFrom, MayLose}
 use Rattle.paraid_image.specs.Neutral.{overwrite}
 use Rattle.paraid_image.specs.Out.{IsMissing, IsWeak, named_out, out_disk}
 use Rattle.paraid_image.specs.Out.IsWeak.{out, named}
-use Rattle.paraid_image.specs.Sides.{Said, Says, Spells, has_place, is_open, stored}
-use Rattle.paraid_image.specs.Sound.{ContentOk, IsDone, IsFresh, LogOk, Pairing, Sound}
+use Rattle.paraid_image.specs.Sides.{LogState, Says, Spells, has_place, is_open, stored_block}
+use Rattle.paraid_image.specs.Sound.{ContentOk, IsBatchInPlace, IsFresh, LogOk, Pairing, IsSoundAt}
 use Rattle.paraid_image.specs.Sound.Pairing.{alike, first_done, second_done}
 use Rattle.paraid_image.specs.Standing.{Contents, Stands, contents, is_first, other_log, stands_before}
 use Rattle.paraid_image.proofs.GateLemmas.{gate_write_holds}
-use Rattle.paraid_image.proofs.LossLemmas.{keeps_others}
+use Rattle.paraid_image.proofs.FailedCallLemmas.{keeps_others}
 use Rattle.paraid_image.proofs.NeutralLemmas.{IsLogKept, contents_over, overwritten_else, overwritten_here, is_sound_forth, written, says_back, says_forth, stored_else}
 use Rattle.paraid_image.proofs.SidesLemmas.{Says-same}
 use Rattle.paraid_image.proofs.StandingLemmas.{Stands-same}
-use Rattle.paraid_image.proofs.StepLemmas.{out_named, zeroed_closed}
+use Rattle.paraid_image.proofs.CallLemmas.{out_named, zeroed_closed}
 
 -- what stands says at least so many writes
 pub IsHeld-raised : (slots : ℕ) (s : Disks) (h : History) (lo high : ℕ) (down : Option ℕ)
-    → ((i : Disks) (x : ℕ) (said : Said) → IsImage s i → Stands i x said → high ≤ said.meta.writes)
-    → ((i : Disks) (d x : ℕ) (said : Said) → IsImage s i → MayLose i d → Stands (lose d i) x said → high ≤ said.meta.writes)
+    → ((i : Disks) (x : ℕ) (said : LogState) → IsImage s i → Stands i x said → high ≤ said.meta.writes)
+    → ((i : Disks) (d x : ℕ) (said : LogState) → IsImage s i → MayLose i d → Stands (lose d i) x said → high ≤ said.meta.writes)
     → IsHeld slots s h lo down → IsHeld slots s h high down
 IsHeld-raised slots s h lo high down whole lost held = record {
   whole = λ i e.
@@ -54,7 +54,7 @@ closed_second : (e f : ℕ) (open_b : Bool) → not (nat_lt f e || (e == f && (n
 closed_second e f true h = grind (arith, nat_tests)
 closed_second e f false h = h
 
-first_shut : (x : ℕ) (said other : Said) → said.opened ≡ true → stands_before x said other ≡ true → stands_before x (shut_of said) other ≡ true
+first_shut : (x : ℕ) (said other : LogState) → said.opened ≡ true → stands_before x said other ≡ true → stands_before x (shut_of said) other ≡ true
 first_shut zero said other opened h =
     closed_first said.meta.epoch other.meta.epoch other.opened
     (ap (λ (t : Bool). nat_lt other.meta.epoch said.meta.epoch || (said.meta.epoch == other.meta.epoch && (not t || other.opened))) (sym opened) ∙ h)
@@ -72,18 +72,18 @@ same_epoch_open n = grind (arith, nat_tests)
 record LogFacts (i : Disks) (m : Meta) (k : ℕ) : Type 0 where
   writes : m.writes ≡ k
   single : (d e : ℕ) → IsMissing i.power m d → IsMissing i.power m e → d ≡ e
-  fresh_shut : (d rebuilt : ℕ) → IsFresh i.power m d rebuilt → d < 2 → is_open (stored i d 0) ≡ false
-  formed : (y : ℕ) → y < 2 → IsPresent i y → out_disk i.power m ≢ Some y → (other : Said) × Says i y other
+  fresh_shut : (d rebuilt : ℕ) → IsFresh i.power m d rebuilt → d < 2 → is_open (stored_block i d 0) ≡ false
+  formed : (y : ℕ) → y < 2 → IsPresent i y → out_disk i.power m ≢ Some y → (other : LogState) × Says i y other
 
-log_facts : (i : Disks) (z : ℕ) (o : Said) (k : ℕ) → LogOk i z o k → LogFacts i o.meta k
+log_facts : (i : Disks) (z : ℕ) (o : LogState) (k : ℕ) → LogOk i z o k → LogFacts i o.meta k
 log_facts i z o k ok = record { writes = ok.writes; single = ok.single; fresh_shut = ok.fresh_shut; formed = ok.formed }
 
-module _ (slots : ℕ) (i : Disks) (h : History) (k x : ℕ) (said : Said) (b : Block) (laid : IsLaidBelow i x said) (closed : is_open b ≡ false)
-    (sound : Sound slots i h k) where
+module _ (slots : ℕ) (i : Disks) (h : History) (k x : ℕ) (said : LogState) (b : Block) (laid : IsLaidBelow i x said) (closed : is_open b ≡ false)
+    (sound : IsSoundAt slots i h k) where
   abbrev now : Disks
   now = overwrite i x 0 b
 
-  abbrev shut : Said
+  abbrev shut : LogState
   shut = shut_of said
 
   abbrev y : ℕ
@@ -92,8 +92,8 @@ module _ (slots : ℕ) (i : Disks) (h : History) (k x : ℕ) (said : Said) (b : 
   low : x < 2
   low = laid.log_disk
 
-  gate_here : is_open (stored now x 0) ≡ false
-  unfolding stored
+  gate_here : is_open (stored_block now x 0) ≡ false
+  unfolding stored_block
   gate_here = elim (cases_Bool (has_place i x 0)) [
     | inl there ↦ rw there (ap is_open (overwritten_here i x 0 b x 0 refl refl) ∙ closed)
     | inr none ↦ rw none zeroed_closed
@@ -120,15 +120,15 @@ module _ (slots : ℕ) (i : Disks) (h : History) (k x : ℕ) (said : Said) (b : 
   y_not_x : y ≢ x
   y_not_x = λ e. let l = low in absurd (omega arith)
 
-  y_then : (o : Said) → Says now y o → Says i y o
+  y_then : (o : LogState) → Says now y o → Says i y o
   y_then o s = says_back i now y o (kept y y_not_x) s
 
-  y_now : (o : Said) → Says i y o → Says now y o
+  y_now : (o : LogState) → Says i y o → Says now y o
   y_now o s = says_forth i now y o (kept y y_not_x) s
 
-  is_said : (o : Said) → (o ≡ said) ⊎ (o ≡ shut) → o.meta ≡ said.meta
-  is_said o (inl e) = ap (λ (z : Said). z.meta) e
-  is_said o (inr e) = ap (λ (z : Said). z.meta) e
+  is_said : (o : LogState) → (o ≡ said) ⊎ (o ≡ shut) → o.meta ≡ said.meta
+  is_said o (inl e) = ap (λ (z : LogState). z.meta) e
+  is_said o (inr e) = ap (λ (z : LogState). z.meta) e
 
   stood : (sound.said ≡ said) ⊎ (sound.said ≡ shut)
   stood = laid.stands sound.disk sound.said sound.log.stands
@@ -143,8 +143,8 @@ module _ (slots : ℕ) (i : Disks) (h : History) (k x : ℕ) (said : Said) (b : 
   blocks_are =
       contents_over i x 0 b [] (λ z q is at past there. absurd (omega arith))
       ∙ elim stood [
-        | inl e ↦ sym laid.laid ∙ ap (λ (z : Said). contents i z.batch) (sym e)
-        | inr e ↦ ap (λ (z : Said). contents i z.batch) (sym e)
+        | inl e ↦ sym laid.laid ∙ ap (λ (z : LogState). contents i z.batch) (sym e)
+        | inr e ↦ ap (λ (z : LogState). contents i z.batch) (sym e)
       ]
 
   content : ContentOk slots now.power now.size (view_of now shut) h k
@@ -159,7 +159,7 @@ module _ (slots : ℕ) (i : Disks) (h : History) (k x : ℕ) (said : Said) (b : 
   abbrev StandsIn : Type 0
   StandsIn = (z : ℕ) × Stands now z shut × (named_out said.meta.out ≢ Some z)
 
-  x_stands : ((o : Said) → Says i y o → stands_before x shut o ≡ true) → StandsIn
+  x_stands : ((o : LogState) → Says i y o → stands_before x shut o ≡ true) → StandsIn
   x_stands first = (x, record { log_disk = low; says = says_x; first = λ o s. first o (y_then o s) }, x_in)
 
   -- both are closed over the same meta
@@ -193,10 +193,10 @@ module _ (slots : ℕ) (i : Disks) (h : History) (k x : ℕ) (said : Said) (b : 
   ]
 
   -- the closed one stands before the open one
-  before_open : (z : ℕ) (o : Said) → z < 2 → o ≡ said → stands_before z shut o ≡ true
+  before_open : (z : ℕ) (o : LogState) → z < 2 → o ≡ said → stands_before z shut o ≡ true
   before_open zero o l e = ap (is_first shut) e ∙ same_epoch said.meta.epoch said.opened
   before_open (suc z) o l e =
-      ap (λ (s : Said). not (is_first s shut)) e
+      ap (λ (s : LogState). not (is_first s shut)) e
       ∙ ap (λ (t : Bool). not (nat_lt said.meta.epoch said.meta.epoch || (said.meta.epoch == said.meta.epoch && (not t || false)))) laid.opened
       ∙ same_epoch_open said.meta.epoch
 
@@ -205,7 +205,7 @@ module _ (slots : ℕ) (i : Disks) (h : History) (k x : ℕ) (said : Said) (b : 
     | inl is ↦
         let here = subst (λ (z : ℕ). Stands i z sound.said) is sound.log.stands in
         let same = Says-same i x sound.said said here.says laid.says in
-        x_stands (λ o s. first_shut x said o laid.opened (ap (λ (z : Said). stands_before x z o) (sym same) ∙ here.first o s))
+        x_stands (λ o s. first_shut x said o laid.opened (ap (λ (z : LogState). stands_before x z o) (sym same) ∙ here.first o s))
     | inr not ↦
         let l = low in
         let l_too = sound.log.stands.log_disk in
@@ -219,17 +219,17 @@ module _ (slots : ℕ) (i : Disks) (h : History) (k x : ℕ) (said : Said) (b : 
   ]
 
   -- the other log disk, where it is not out
-  other_is : (o : Said) → Says now y o → out_disk i.power said.meta ≢ Some y → (o ≡ said) ⊎ (o ≡ shut)
+  other_is : (o : LogState) → Says now y o → out_disk i.power said.meta ≢ Some y → (o ≡ said) ⊎ (o ≡ shut)
   other_is o s not = laid.other o (y_then o s) not
 
-  done : (o : Said) → o ≡ said → (a : Said) → a ≡ shut → IsDone o a
+  done : (o : LogState) → o ≡ said → (a : LogState) → a ≡ shut → IsBatchInPlace o a
   done o e a f = record {
-    opened = ap (λ (z : Said). z.opened) e ∙ laid.opened;
-    closed = ap (λ (z : Said). z.opened) f;
-    meta = ap (λ (z : Said). z.meta) e ∙ ap (λ (z : Said). z.meta) (sym f);
+    opened = ap (λ (z : LogState). z.opened) e ∙ laid.opened;
+    closed = ap (λ (z : LogState). z.opened) f;
+    meta = ap (λ (z : LogState). z.meta) e ∙ ap (λ (z : LogState). z.meta) (sym f);
   }
 
-  pair : (a c : Said) → Says now 0 a → Says now 1 c → out_disk i.power said.meta ≢ Some 0 → out_disk i.power said.meta ≢ Some 1 → Pairing a c
+  pair : (a c : LogState) → Says now 0 a → Says now 1 c → out_disk i.power said.meta ≢ Some 0 → out_disk i.power said.meta ≢ Some 1 → Pairing a c
   pair a c p q first second = elim (cases_eq x 0) [
     | inl is ↦
         let l = low in
@@ -267,29 +267,29 @@ module _ (slots : ℕ) (i : Disks) (h : History) (k x : ℕ) (said : Said) (b : 
     paired = pair;
   }
 
-  pub Sound-closed : Sound slots now h k
-  Sound-closed = record { disk = by_standing.0; said = shut; log = log_now by_standing.0 by_standing.1 by_standing.2; content = content }
+  pub IsSoundAt-closed : IsSoundAt slots now h k
+  IsSoundAt-closed = record { disk = by_standing.0; said = shut; log = log_now by_standing.0 by_standing.1 by_standing.2; content = content }
 
   -- where no disk is out, every log disk says this meta
-  then_meta : (z : ℕ) (o : Said) → z < 2 → Says i z o → out_disk i.power said.meta ≡ None → o.meta ≡ said.meta
+  then_meta : (z : ℕ) (o : LogState) → z < 2 → Says i z o → out_disk i.power said.meta ≡ None → o.meta ≡ said.meta
   then_meta z o l s none = elim (cases_eq z x) [
-    | inl is ↦ ap (λ (q : Said). q.meta) (Says-same i x o said (subst (λ (q : ℕ). Says i q o) is s) laid.says)
+    | inl is ↦ ap (λ (q : LogState). q.meta) (Says-same i x o said (subst (λ (q : ℕ). Says i q o) is s) laid.says)
     | inr not ↦
         let l_too = low in
         let at : z ≡ y = omega arith in
         is_said o (laid.other o (subst (λ (q : ℕ). Says i q o) at s) (λ e. let w : None ≡ Some y = sym none ∙ e in cc))
   ]
 
-  now_meta : (z : ℕ) (o : Said) → z < 2 → Says now z o → out_disk i.power said.meta ≡ None → o.meta ≡ said.meta
+  now_meta : (z : ℕ) (o : LogState) → z < 2 → Says now z o → out_disk i.power said.meta ≡ None → o.meta ≡ said.meta
   now_meta z o l s none = elim (cases_eq z x) [
-    | inl is ↦ ap (λ (q : Said). q.meta) (Says-same now x o shut (subst (λ (q : ℕ). Says now q o) is s) says_x)
+    | inl is ↦ ap (λ (q : LogState). q.meta) (Says-same now x o shut (subst (λ (q : ℕ). Says now q o) is s) says_x)
     | inr not ↦
         let l_too = low in
         let at : z ≡ y = omega arith in
         then_meta y o (omega arith) (y_then o (subst (λ (q : ℕ). Says now q o) at s)) none
   ]
 
-  none_named : (o : Said) (w : ℕ) → o.meta ≡ said.meta → out_disk i.power said.meta ≡ None → named_out o.meta.out ≡ Some w → ⊥
+  none_named : (o : LogState) (w : ℕ) → o.meta ≡ said.meta → out_disk i.power said.meta ≡ None → named_out o.meta.out ≡ Some w → ⊥
   none_named o w is none n =
       let out_is = out_named i.power said.meta w (ap (λ (m : Meta). named_out m.out) (sym is) ∙ n) in
       let k : None ≡ Some w = sym none ∙ out_is in
@@ -299,10 +299,10 @@ module _ (slots : ℕ) (i : Disks) (h : History) (k x : ℕ) (said : Said) (b : 
   weak_then w (out z o s e) =
       let is = (Stands-same now z by_standing.0 o shut s by_standing.1).1 in
       out sound.disk sound.said sound.log.stands
-      (ap (out_disk i.power) meta_is ∙ ap (λ (q : Said). out_disk i.power q.meta) (sym is) ∙ e)
+      (ap (out_disk i.power) meta_is ∙ ap (λ (q : LogState). out_disk i.power q.meta) (sym is) ∙ e)
   weak_then w (named z o other s none t n) =
       let is = (Stands-same now z by_standing.0 o shut s by_standing.1).1 in
-      let nobody : out_disk i.power said.meta ≡ None = ap (λ (q : Said). out_disk i.power q.meta) (sym is) ∙ none in
+      let nobody : out_disk i.power said.meta ≡ None = ap (λ (q : LogState). out_disk i.power q.meta) (sym is) ∙ none in
       absurd (none_named other w (now_meta (other_log z) other (let l = s.log_disk in omega arith) t nobody) nobody n)
 
   pub weak_now : (w : ℕ) → IsWeak i w → IsWeak now w
@@ -321,23 +321,23 @@ module _ (slots : ℕ) (i : Disks) (h : History) (k x : ℕ) (said : Said) (b : 
     stands = sound.log.stands;
     disk =
         let is = (Stands-same now may.standing by_standing.0 may.said shut may.stands by_standing.1).1 in
-        subst (λ (m : Meta). e < m.setup.geometry.disks) (ap (λ (q : Said). q.meta) is ∙ sym meta_is) may.disk;
+        subst (λ (m : Meta). e < m.setup.geometry.disks) (ap (λ (q : LogState). q.meta) is ∙ sym meta_is) may.disk;
     present = may.present;
     weak = λ w weak. may.weak w (weak_now w weak);
   }
 
 -- closing the gate, as the image is and with a disk lost
-turns_closed : (slots : ℕ) (i : Disks) (h : History) (lo : ℕ) (down : Option ℕ) (x : ℕ) (said : Said) → IsLaidBelow i x said
-    → ((e : ℕ) → MayLose i e → e ≢ x → IsLaidBelow (lose e i) x said) → IsSound slots i h lo
-    → ((e : ℕ) → MayLose i e → IsSound slots (lose e i) h lo) → ((w : ℕ) → IsWeak i w → down ≡ Some w) → GateTurns slots i x h lo down
+turns_closed : (slots : ℕ) (i : Disks) (h : History) (lo : ℕ) (down : Option ℕ) (x : ℕ) (said : LogState) → IsLaidBelow i x said
+    → ((e : ℕ) → MayLose i e → e ≢ x → IsLaidBelow (lose e i) x said) → IsSoundFrom slots i h lo
+    → ((e : ℕ) → MayLose i e → IsSoundFrom slots (lose e i) h lo) → ((w : ℕ) → IsWeak i w → down ≡ Some w) → GateTurns slots i x h lo down
 turns_closed slots i h lo down x said laid laid_lost s lost weak b turned =
-    let was_open : is_open (stored i x 0) ≡ true = laid.says.gate ∙ laid.opened in
+    let was_open : is_open (stored_block i x 0) ≡ true = laid.says.gate ∙ laid.opened in
     let closed : is_open b ≡ false = elim (cases_Bool (is_open b)) [
       | inl opened ↦ absurd (turned (opened ∙ sym was_open))
       | inr shut ↦ shut
     ] in
     record {
-      whole = record { k = s.k; low = s.low; high = s.high; sound = Sound-closed slots i h s.k x said b laid closed s.sound };
+      whole = record { k = s.k; low = s.low; high = s.high; sound = IsSoundAt-closed slots i h s.k x said b laid closed s.sound };
       lost = λ e may.
           let may_i = may_then slots i h s.k x said b laid closed s.sound e may in
           let l = lost e may_i in
@@ -349,13 +349,13 @@ turns_closed slots i h lo down x said laid laid_lost s lost weak b turned =
               k = l.k;
               low = l.low;
               high = l.high;
-              sound = Sound-closed slots (lose e i) h l.k x said b (laid_lost e may_i (λ is. not (sym is))) closed l.sound;
+              sound = IsSoundAt-closed slots (lose e i) h l.k x said b (laid_lost e may_i (λ is. not (sym is))) closed l.sound;
             }
           ];
       weak = λ w is. weak w (weak_then slots i h s.k x said b laid closed s.sound w is);
     }
 
-pub close_holds : (slots : ℕ) (s : Disks) (h : History) (lo : ℕ) (down : Option ℕ) (x : ℕ) (b : Block) (said : Said)
+pub close_holds : (slots : ℕ) (s : Disks) (h : History) (lo : ℕ) (down : Option ℕ) (x : ℕ) (b : Block) (said : LogState)
     → ((i : Disks) → IsImage s i → IsLaidBelow i x said)
     → ((i : Disks) (e : ℕ) → IsImage s i → MayLose i e → e ≢ x → IsLaidBelow (lose e i) x said)
     → IsHeld slots s h lo down → IsHeld slots (step (Write x 0 b true) s) h lo down

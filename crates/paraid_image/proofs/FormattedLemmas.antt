@@ -13,7 +13,7 @@ use Rattle.paraid_base.specs.Cells.{home_disk, home_row}
 use Rattle.paraid_base.specs.History.{after}
 use Rattle.paraid_base.specs.Regions.{disk_size, hard_place_of, map_count, map_place_of, soft_place_of}
 use Rattle.paraid_base.specs.Sums.{xor_upto}
-use Rattle.paraid_base.specs.Xor.{xor, zeroed}
+use Rattle.paraid_base.specs.Xor.{xor, zero_block}
 use Rattle.paraid_base.proofs.CellsLemmas.{home_disk_below, home_row_below}
 use Rattle.paraid_base.proofs.RegionsLemmas.{hard_place_below, soft_place_below}
 use Rattle.paraid_base.proofs.XorLemmas.{xor_zero}
@@ -24,17 +24,17 @@ use Rattle.paraid_record.specs.declared.meta.Meta.{Meta}
 use Rattle.paraid_record.specs.Range.{fill_limit}
 use Rattle.paraid_image.specs.Rest.{IsAtRest}
 use Rattle.paraid_image.specs.Formatted.{IsFormatted}
-use Rattle.paraid_image.specs.HeldAt.{IsHeld, IsSound, MayLose}
+use Rattle.paraid_image.specs.HeldAt.{IsHeld, IsSoundFrom, MayLose}
 use Rattle.paraid_image.specs.Out.{IsMissing, IsWeak, first_absent, named_out, or_else, out_disk}
 use Rattle.paraid_image.specs.Out.IsWeak.{out, named}
-use Rattle.paraid_image.specs.Sides.{Said, Says, has_place, is_open, stored}
-use Rattle.paraid_image.specs.Sound.{AreDisks, ContentOk, IsFresh, IsWellKept, LogOk, Sound}
+use Rattle.paraid_image.specs.Sides.{LogState, Says, has_place, is_open, stored_block}
+use Rattle.paraid_image.specs.Sound.{AreDisks, ContentOk, IsFresh, IsWellKept, LogOk, IsSoundAt}
 use Rattle.paraid_image.specs.Sound.Pairing.{alike}
 use Rattle.paraid_image.specs.Spot.{View, is_hard, map_bit, map_disk, rising_to}
 use Rattle.paraid_image.specs.Standing.{Contents, Stands, contents, is_first, other_log}
 use Rattle.paraid_image.specs.Value.{near, stripe, value}
 use Rattle.paraid_image.proofs.HeldLemmas.{image_is}
-use Rattle.paraid_image.proofs.LoseLemmas.{Sound-lost}
+use Rattle.paraid_image.proofs.OneDiskLessLemmas.{IsSoundAt-lost}
 use Rattle.paraid_image.proofs.OutLemmas.{first_absent_is}
 use Rattle.paraid_image.proofs.SidesLemmas.{Says-same}
 
@@ -43,19 +43,19 @@ zeros_index zero k = refl
 zeros_index (suc n) zero = refl
 zeros_index (suc n) (suc k) = zeros_index n k
 
-zeroed_index : (k : ℕ) → slice_index zeroed.bytes k ≡ 0
-unfolding zeroed
+zeroed_index : (k : ℕ) → slice_index zero_block.bytes k ≡ 0
+unfolding zero_block
 zeroed_index k = zeros_index 512 k
 
-xor_of_zeros : (f : ℕ → Block) (n : ℕ) → ((d : ℕ) → d < n → f d ≡ zeroed) → xor_upto f n ≡ zeroed
+xor_of_zeros : (f : ℕ → Block) (n : ℕ) → ((d : ℕ) → d < n → f d ≡ zero_block) → xor_upto f n ≡ zero_block
 unfolding xor_upto
 xor_of_zeros f zero h = refl
 xor_of_zeros f (suc n) h =
     let before = xor_of_zeros f n (λ d l. h d (omega arith)) in
     let last = h n (omega arith) in
-    ap (λ (b : Block). xor b (f n)) before ∙ ap (xor zeroed) last ∙ xor_zero zeroed
+    ap (λ (b : Block). xor b (f n)) before ∙ ap (xor zero_block) last ∙ xor_zero zero_block
 
-no_bit : (g : Geometry) (f : ℕ → Block) (r e : ℕ) → f (map_place_of g r) ≡ zeroed → map_bit g f r e ≡ false
+no_bit : (g : Geometry) (f : ℕ → Block) (r e : ℕ) → f (map_place_of g r) ≡ zero_block → map_bit g f r e ≡ false
 unfolding map_bit
 no_bit g f r e is =
     let byte : slice_index (f (map_place_of g r)).bytes (r % 512) ≡ 0 = ap (λ (b : Block). slice_index b.bytes (r % 512)) is ∙ zeroed_index (r % 512) in
@@ -68,7 +68,7 @@ none_absent power n h = split (first_absent power n) refl
     split None is = refl
     split (Some u) is = let found = first_absent_is power n u is in absurd (false≢true (sym found.1 ∙ h u found.0))
 
-zero_past_log : (low there : Bool) (x : Block) → (low ≡ false → there ≡ true → x ≡ zeroed) → (if low then zeroed else (if there then x else zeroed)) ≡ zeroed
+zero_past_log : (low there : Bool) (x : Block) → (low ≡ false → there ≡ true → x ≡ zero_block) → (if low then zero_block else (if there then x else zero_block)) ≡ zero_block
 zero_past_log true there x h = refl
 zero_past_log false true x h = h refl refl
 zero_past_log false false x h = refl
@@ -82,7 +82,7 @@ below q n l = grind (arith, nat_tests)
 same_first : (n : ℕ) → (nat_lt n n || (n == n && true)) ≡ true
 same_first n = grind (arith, nat_tests)
 
-abbrev said_of : Meta → Said
+abbrev said_of : Meta → LogState
 said_of m = record { opened = false; meta = m; batch = [] }
 
 first_of_same : (m : Meta) → is_first (said_of m) (said_of m) ≡ true
@@ -92,18 +92,18 @@ module _ (slots : ℕ) (s : Disks) (m : Meta) (f : IsFormatted slots s m) where
   abbrev g : Geometry
   g = m.setup.geometry
 
-  abbrev said : Said
+  abbrev said : LogState
   said = said_of m
 
   present : (d : ℕ) → d < g.disks → is_present (s.power d) ≡ true
   present d l = ap is_present (f.spinning d l)
 
-  stored_is : (x q : ℕ) → x < g.disks → q < disk_size g → stored s x q ≡ s.block x q
-  unfolding stored
+  stored_is : (x q : ℕ) → x < g.disks → q < disk_size g → stored_block s x q ≡ s.block x q
+  unfolding stored_block
   stored_is x q lx lq =
       let large = f.large x lx in
       let there : has_place s x q ≡ true = and_from (is_present (s.power x)) (nat_lt q (s.size x)) (present x lx) (below q (s.size x) (omega arith)) in
-      ap (λ (t : Bool). if t then s.block x q else zeroed) there
+      ap (λ (t : Bool). if t then s.block x q else zero_block) there
 
   says : (x : ℕ) → x < 2 → Says s x said
   says x l =
@@ -157,7 +157,7 @@ module _ (slots : ℕ) (s : Disks) (m : Meta) (f : IsFormatted slots s m) where
   abbrev block : Contents
   block = contents s []
 
-  zero_at : (d p : ℕ) → d < g.disks → p < disk_size g → block d p ≡ zeroed
+  zero_at : (d p : ℕ) → d < g.disks → p < disk_size g → block d p ≡ zero_block
   unfolding contents
   zero_at d p ld lp = zero_past_log (nat_lt p 100) (has_place s d p) (s.block d p) (λ low there. f.zeros d p ld (above p low) lp)
 
@@ -173,7 +173,7 @@ module _ (slots : ℕ) (s : Disks) (m : Meta) (f : IsFormatted slots s m) where
       let gear = f.gear in
       ap (λ (t : Bool). t || (nat_lt e (rising_to m.phase) && not (v.dirty r e))) (below e m.gear (omega arith))
 
-  value_zero : (r e : ℕ) → r < g.rows → e < g.disks → value v r e ≡ zeroed
+  value_zero : (r e : ℕ) → r < g.rows → e < g.disks → value v r e ≡ zero_block
   unfolding value near
   value_zero r e lr le = rw (hard r e le) (zero_at e (hard_place_of g r) le (hard_place_below g r lr))
 
@@ -222,7 +222,7 @@ module _ (slots : ℕ) (s : Disks) (m : Meta) (f : IsFormatted slots s m) where
         value_zero (home_row g.disks b) (home_disk g.disks b) (home_row_below g.disks b g.rows (omega arith) l) (home_disk_below g.disks b (omega arith));
   }
 
-  sound : Sound slots s [] 0
+  sound : IsSoundAt slots s [] 0
   sound = record {
     disk = 0;
     said = said;
@@ -231,41 +231,41 @@ module _ (slots : ℕ) (s : Disks) (m : Meta) (f : IsFormatted slots s m) where
         (sym none_out) content;
   }
 
-  is_sound : IsSound slots s [] 0
+  is_sound : IsSoundFrom slots s [] 0
   is_sound = record { k = 0; low = omega arith; high = omega arith; sound = sound }
 
-  meta_by_any : (x : ℕ) (other : Said) → x < 2 → Says s x other → other ≡ said
+  meta_by_any : (x : ℕ) (other : LogState) → x < 2 → Says s x other → other ≡ said
   meta_by_any x other l q = Says-same s x other said q (says x l)
 
   strong : (w : ℕ) → IsWeak s w → ⊥
   strong w (out x other t e) =
       let is = meta_by_any x other t.log_disk t.says in
-      let k : None ≡ Some w = sym none_out ∙ ap (λ (z : Said). out_disk s.power z.meta) (sym is) ∙ e in cc
+      let k : None ≡ Some w = sym none_out ∙ ap (λ (z : LogState). out_disk s.power z.meta) (sym is) ∙ e in cc
   strong w (named x other last t e q n) =
       let low = t.log_disk in
       let is = meta_by_any (other_log x) last (omega arith) q in
-      nothing_named w (ap (λ (z : Said). named_out z.meta.out) (sym is) ∙ n)
+      nothing_named w (ap (λ (z : LogState). named_out z.meta.out) (sym is) ∙ n)
 
-  lost_sound : (d : ℕ) → MayLose s d → IsSound slots (lose d s) [] 0
+  lost_sound : (d : ℕ) → MayLose s d → IsSoundFrom slots (lose d s) [] 0
   lost_sound d may = record {
     k = 0;
     low = omega arith;
     high = omega arith;
-    sound = Sound-lost slots s [] 0 d 0 said sound stands (inr (says 1 (omega arith))) may;
+    sound = IsSoundAt-lost slots s [] 0 d 0 said sound stands (inr (says 1 (omega arith))) may;
   }
 
   pub IsHeld-formatted : IsHeld slots s [] 0 None
   IsHeld-formatted = record {
-    whole = λ i e. subst (λ (k : Disks). IsSound slots k [] 0) (sym (image_is s i f.dry e)) is_sound;
+    whole = λ i e. subst (λ (k : Disks). IsSoundFrom slots k [] 0) (sym (image_is s i f.synced e)) is_sound;
     lost = λ i d e may.
-        let same = image_is s i f.dry e in
-        subst (λ (k : Disks). IsSound slots (lose d k) [] 0) (sym same) (lost_sound d (subst (λ (k : Disks). MayLose k d) same may));
-    weak = λ i w e weak. absurd (strong w (subst (λ (k : Disks). IsWeak k w) (image_is s i f.dry e) weak));
+        let same = image_is s i f.synced e in
+        subst (λ (k : Disks). IsSoundFrom slots (lose d k) [] 0) (sym same) (lost_sound d (subst (λ (k : Disks). MayLose k d) same may));
+    weak = λ i w e weak. absurd (strong w (subst (λ (k : Disks). IsWeak k w) (image_is s i f.synced e) weak));
   }
 
   pub IsAtRest-formatted : IsAtRest s m
   IsAtRest-formatted = record {
-    dry = λ d p here. f.dry d p;
+    synced = λ d p here. f.synced d p;
     disk = 0;
     log = subst (λ (k : ℕ). LogOk s 0 said k) (sym f.writes) log;
     shut = λ x l here not. (says x l).gate;

@@ -21,15 +21,15 @@ use Rattle.paraid_image.specs.Free.{IsFree, IsShiftTo}
 use Rattle.paraid_image.specs.Free.IsFree.{dirty_cell, unfilled, gone, row, stripe, map_block}
 use Rattle.paraid_image.specs.Neutral.{overwrite}
 use Rattle.paraid_image.specs.Out.{named_out, out_disk}
-use Rattle.paraid_image.specs.Sides.{Said, stored}
-use Rattle.paraid_image.specs.Sound.{IsFresh, Sound, stripes_on}
+use Rattle.paraid_image.specs.Sides.{LogState, stored_block}
+use Rattle.paraid_image.specs.Sound.{IsFresh, IsSoundAt, stripes_on}
 use Rattle.paraid_image.specs.Spot.{View}
 use Rattle.paraid_image.specs.Standing.{Contents, Stands, contents}
 use Rattle.paraid_image.proofs.AgreeLemmas.{AgreeSeen, content_agrees, stripes_gear}
 use Rattle.paraid_image.proofs.NeutralLemmas.{KeepsLog, contents_else, keeps_log_by, log_forth, log_kept_past, written}
 use Rattle.paraid_image.proofs.OutLemmas.{says_in_range}
 use Rattle.paraid_image.proofs.StandingLemmas.{Stands-same}
-use Rattle.paraid_image.proofs.StepLemmas.{out_named}
+use Rattle.paraid_image.proofs.CallLemmas.{out_named}
 
 -- a shift goes to another gear
 record ShiftGear (g : Geometry) (gear : ℕ) (phase : Phase) (to : ℕ) : Type 0 where
@@ -177,13 +177,13 @@ pub free_log : (i : Disks) (d p : ℕ) (b : Block) → 100 ≤ p → KeepsLog i 
 free_log i d p b far = keeps_log_by i (written i d p b) (λ x l. log_kept_past i d p b far x)
 
 -- an image holds what it held, whatever a free place holds
-pub Sound-free : (slots : ℕ) (i : Disks) (d p : ℕ) (b : Block) (h : History) (k x : ℕ) (said : Said) → Stands i x said
-    → IsFree (view_of i said) d p → Sound slots i h k → Sound slots (overwrite i d p b) h k
-Sound-free slots i d p b h k x said stands free s =
+pub IsSoundAt-free : (slots : ℕ) (i : Disks) (d p : ℕ) (b : Block) (h : History) (k x : ℕ) (said : LogState) → Stands i x said
+    → IsFree (view_of i said) d p → IsSoundAt slots i h k → IsSoundAt slots (overwrite i d p b) h k
+IsSoundAt-free slots i d p b h k x said stands free s =
     let is = Stands-same i s.disk x s.said said s.log.stands stands in
-    let now_free : IsFree (view_of i s.said) d p = subst (λ (z : Said). IsFree (view_of i z) d p) (sym is.1) free in
+    let now_free : IsFree (view_of i s.said) d p = subst (λ (z : LogState). IsFree (view_of i z) d p) (sym is.1) free in
     let m : Meta = s.said.meta in
-    let in_range = says_in_range s.said.opened (stored i s.disk) s.said.meta s.said.batch s.log.stands.says.log in
+    let in_range = says_in_range s.said.opened (stored_block i s.disk) s.said.meta s.said.batch s.log.stands.says.log in
     let after : Contents = contents (overwrite i d p b) s.said.batch in
     let named : (e : ℕ) → named_out s.said.meta.out ≡ Some e → out_disk i.power s.said.meta ≡ Some e = (λ e n. out_named i.power s.said.meta e n) in
     let agree = free_agrees (view_of i s.said) i.power after d p (λ y q apart. contents_else i d p b s.said.batch y q apart) in_range named now_free in

@@ -2,18 +2,18 @@
 use Rattle.std.specs.Prelude.{◌≡◌, ℕ, ◌≤◌, ◌++◌, false, Option, Some, None, length}
 use Rattle.std.proofs.Common.{refl, sym, ◌∙◌, ap, subst, arith, length-append}
 use Rattle.std.proofs.lemmas.List.{take-append-le}
-use Rattle.paraid_base.specs.History.{History, after, joined, last_of}
-use Rattle.paraid_base.specs.Xor.{zeroed}
+use Rattle.paraid_base.specs.History.{History, after, joined_entries, last_of}
+use Rattle.paraid_base.specs.Xor.{zero_block}
 use Rattle.paraid_rack.specs.declared.call.Power.{Power}
 use Rattle.paraid_rack.specs.Disks.{Disks, IsImage, lose}
-use Rattle.paraid_image.specs.HeldAt.{IsHeld, IsSound}
+use Rattle.paraid_image.specs.HeldAt.{IsHeld, IsSoundFrom}
 use Rattle.paraid_image.specs.Out.{IsWeak}
-use Rattle.paraid_image.specs.Sound.{ContentOk, Sound}
+use Rattle.paraid_image.specs.Sound.{ContentOk, IsSoundAt}
 use Rattle.paraid_image.specs.Spot.{View}
 
 after-more : (h more : History) (k b : ℕ) → k ≤ length h → after (h ++ more) k b ≡ after h k b
 unfolding after
-after-more h more k b l = ap (λ (x : History). last_of b zeroed (joined x)) (take-append-le k h more l)
+after-more h more k b l = ap (λ (x : History). last_of b zero_block (joined_entries x)) (take-append-le k h more l)
 
 ContentOk-more : (slots : ℕ) (power : ℕ → Power) (size : ℕ → ℕ) (v : View) (h more : History) (k : ℕ) → k ≤ length h
     → ContentOk slots power size v h k → ContentOk slots power size v (h ++ more) k
@@ -22,41 +22,41 @@ ContentOk-more slots power size v h more k l c = record {
   blocks = λ b in_range. c.blocks b in_range ∙ sym (after-more h more k b l);
 }
 
-pub Sound-more : (slots : ℕ) (i : Disks) (h more : History) (k : ℕ) → k ≤ length h → Sound slots i h k → Sound slots i (h ++ more) k
-Sound-more slots i h more k l s = record {
+pub IsSoundAt-more : (slots : ℕ) (i : Disks) (h more : History) (k : ℕ) → k ≤ length h → IsSoundAt slots i h k → IsSoundAt slots i (h ++ more) k
+IsSoundAt-more slots i h more k l s = record {
   disk = s.disk;
   said = s.said;
   log = s.log;
   content = ContentOk-more slots i.power i.size _ h more k l s.content;
 }
 
-IsSound-more : (slots : ℕ) (i : Disks) (h more : History) (lo less : ℕ) → less ≤ lo → IsSound slots i h lo → IsSound slots i (h ++ more) less
-IsSound-more slots i h more lo less l s = record {
+IsSoundFrom-more : (slots : ℕ) (i : Disks) (h more : History) (lo less : ℕ) → less ≤ lo → IsSoundFrom slots i h lo → IsSoundFrom slots i (h ++ more) less
+IsSoundFrom-more slots i h more lo less l s = record {
   k = s.k;
   low = let low = s.low in omega arith;
   high = let high = s.high in let longer = length-append h more in omega arith;
-  sound = Sound-more slots i h more s.k s.high s.sound;
+  sound = IsSoundAt-more slots i h more s.k s.high s.sound;
 }
 
 pub IsHeld-more : (slots : ℕ) (s : Disks) (h more : History) (lo less : ℕ) (down : Option ℕ) → less ≤ lo
     → IsHeld slots s h lo down → IsHeld slots s (h ++ more) less down
 IsHeld-more slots s h more lo less down l held = record {
-  whole = λ i image. IsSound-more slots i h more lo less l (held.whole i image);
-  lost = λ i d image may. IsSound-more slots (lose d i) h more lo less l (held.lost i d image may);
+  whole = λ i image. IsSoundFrom-more slots i h more lo less l (held.whole i image);
+  lost = λ i d image may. IsSoundFrom-more slots (lose d i) h more lo less l (held.lost i d image may);
   weak = held.weak;
 }
 
 -- where nothing is loose, the disks themselves are the one image
 pub image_is : (s i : Disks) → ((d p : ℕ) → s.loose d p ≡ false) → IsImage s i → i ≡ s
-image_is s i dry e = λ t. record {
+image_is s i synced e = λ t. record {
   power = λ d. e.power d t;
   size = λ d. e.size d t;
-  block = λ d p. e.block d p (dry d p) t;
-  loose = λ d p. (e.loose d p ∙ sym (dry d p)) t;
+  block = λ d p. e.block d p (synced d p) t;
+  loose = λ d p. (e.loose d p ∙ sym (synced d p)) t;
 }
 
-pub image_of_dry : (s : Disks) → ((d p : ℕ) → s.loose d p ≡ false) → IsImage s s
-image_of_dry s dry = record { power = λ d. refl; size = λ d. refl; block = λ d p h. refl; loose = dry }
+pub image_of_synced : (s : Disks) → ((d p : ℕ) → s.loose d p ≡ false) → IsImage s s
+image_of_synced s synced = record { power = λ d. refl; size = λ d. refl; block = λ d p h. refl; loose = synced }
 
 -- an image of an image is that image
 pub image_again : (s i j : Disks) → IsImage s i → IsImage i j → IsImage s j

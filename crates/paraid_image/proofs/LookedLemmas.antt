@@ -9,32 +9,32 @@ use Rattle.paraid_rack.specs.Alike.{IsAlike}
 use Rattle.paraid_rack.specs.Trail.{Beginning, Trail, disks, initial}
 use Rattle.paraid_rack.proofs.AtomsLemmas.{with_at_same}
 use Rattle.paraid_record.specs.declared.meta.Setup.{Setup}
-use Rattle.paraid_image.specs.HeldAt.{HeldAt, IsHeld, IsSound, MayLose}
-use Rattle.paraid_image.specs.Entry.{IsEntry}
+use Rattle.paraid_image.specs.HeldAt.{IsHeldAt, IsHeld, IsSoundFrom, MayLose}
+use Rattle.paraid_image.specs.RunStart.{IsRunStart}
 use Rattle.paraid_image.specs.Looked.{IsHeldLooked, IsLooked}
 use Rattle.paraid_image.specs.Looked.IsLooked.{lost, whole}
 use Rattle.paraid_image.specs.Out.{IsWeak, named_out, out_disk}
 use Rattle.paraid_image.specs.Out.IsWeak.{named, out}
-use Rattle.paraid_image.specs.Sides.{Said, Says, stored}
+use Rattle.paraid_image.specs.Sides.{LogState, Says, stored_block}
 use Rattle.paraid_image.specs.Sound.{LogOk, Pairing}
 use Rattle.paraid_image.specs.Sound.Pairing.{alike, first_ahead, first_done, second_ahead, second_done}
 use Rattle.paraid_image.specs.Standing.{Stands, other_log}
 use Rattle.paraid_image.proofs.AlikeLemmas.{held_alike, weak_alike}
-use Rattle.paraid_image.proofs.HeldLemmas.{IsHeld-image, image_is, image_of_dry}
-use Rattle.paraid_image.proofs.LoseLemmas.{stands_spared}
+use Rattle.paraid_image.proofs.HeldLemmas.{IsHeld-image, image_is, image_of_synced}
+use Rattle.paraid_image.proofs.OneDiskLessLemmas.{stands_spared}
 use Rattle.paraid_image.proofs.OutLemmas.{missing_is_out, says_in_range}
 use Rattle.paraid_image.proofs.SidesLemmas.{Says-same}
 use Rattle.paraid_image.proofs.StandingLemmas.{IsWeak-same, Stands-same}
-use Rattle.paraid_image.proofs.StepLemmas.{says_not_lost, says_of_lost}
+use Rattle.paraid_image.proofs.CallLemmas.{says_not_lost, says_of_lost}
 use Rattle.paraid_image.proofs.UnseenLemmas.{standing_not_out}
 
 -- what is held is held of each image that is looked at
 pub looked_of_held : (slots : ℕ) (s : Disks) (h : History) (lo : ℕ) (down : Option ℕ) → IsHeld slots s h lo down → IsHeldLooked slots s h lo down
 looked_of_held slots s h lo down held = record { looked = each; weak = held.weak }
   where
-    each : (j : Disks) → IsLooked s j → IsSound slots j h lo
+    each : (j : Disks) → IsLooked s j → IsSoundFrom slots j h lo
     each j (whole e) = held.whole j e
-    each j (lost i d e may is) = subst (λ (k : Disks). IsSound slots k h lo) is (held.lost i d e may)
+    each j (lost i d e may is) = subst (λ (k : Disks). IsSoundFrom slots k h lo) is (held.lost i d e may)
 
 pub held_of_looked : (slots : ℕ) (s : Disks) (h : History) (lo : ℕ) (down : Option ℕ) → IsHeldLooked slots s h lo down → IsHeld slots s h lo down
 held_of_looked slots s h lo down held = record {
@@ -44,14 +44,14 @@ held_of_looked slots s h lo down held = record {
 }
 
 -- log disks that fit together are of the same setup
-setup_paired : (a b : Said) → Pairing a b → a.meta.setup ≡ b.meta.setup
-setup_paired a b (alike e) = ap (λ (said : Said). said.meta.setup) e
+setup_paired : (a b : LogState) → Pairing a b → a.meta.setup ≡ b.meta.setup
+setup_paired a b (alike e) = ap (λ (said : LogState). said.meta.setup) e
 setup_paired a b (first_ahead s) = s.setup
 setup_paired a b (second_ahead s) = sym s.setup
 setup_paired a b (first_done s) = ap (λ m. m.setup) s.meta
 setup_paired a b (second_done s) = sym (ap (λ m. m.setup) s.meta)
 
-setup_other : (i : Disks) (x y k : ℕ) (a b : Said) → LogOk i x a k → Says i y b → y < 2 → y ≢ x → out_disk i.power a.meta ≢ Some y → a.meta.setup ≡ b.meta.setup
+setup_other : (i : Disks) (x y k : ℕ) (a b : LogState) → LogOk i x a k → Says i y b → y < 2 → y ≢ x → out_disk i.power a.meta ≢ Some y → a.meta.setup ≡ b.meta.setup
 setup_other i x y k a b ok says low apart not = elim (cases_eq x 0) [
   | inl first ↦
       let second : y ≡ 1 = omega arith in
@@ -69,21 +69,21 @@ setup_other i x y k a b ok says low apart not = elim (cases_eq x 0) [
       (subst (λ (z : ℕ). out_disk i.power a.meta ≢ Some z) second (standing_not_out i x a k ok))))
 ]
 
-module _ (slots : ℕ) (i : Disks) (h : History) (lo d : ℕ) (sound : IsSound slots i h lo) (may : MayLose i d) where
-  abbrev said : Said
+module _ (slots : ℕ) (i : Disks) (h : History) (lo d : ℕ) (sound : IsSoundFrom slots i h lo) (may : MayLose i d) where
+  abbrev said : LogState
   said = sound.sound.said
 
   below : d < said.meta.setup.geometry.disks
   below =
       let is = (Stands-same i may.standing sound.sound.disk may.said said may.stands sound.sound.log.stands).1 in
-      subst (λ (z : Said). d < z.meta.setup.geometry.disks) is may.disk
+      subst (λ (z : LogState). d < z.meta.setup.geometry.disks) is may.disk
 
   -- what stands once the disk is lost is of the same setup
-  setup_lost : (y : ℕ) (new : Said) → Stands (lose d i) y new → said.meta.setup ≡ new.meta.setup
+  setup_lost : (y : ℕ) (new : LogState) → Stands (lose d i) y new → said.meta.setup ≡ new.meta.setup
   setup_lost y new stands = elim (cases_eq d sound.sound.disk) [
     | inr apart ↦
         let spared = stands_spared i d sound.sound.disk said sound.sound.log.stands apart in
-        ap (λ (z : Said). z.meta.setup) (Stands-same (lose d i) spared.0 y said new spared.1 stands).1
+        ap (λ (z : LogState). z.meta.setup) (Stands-same (lose d i) spared.0 y said new spared.1 stands).1
     | inl is ↦
         let away = says_not_lost i d y new stands.says in
         setup_other i sound.sound.disk y sound.k said new sound.sound.log (says_of_lost i d y new stands.says) stands.log_disk
@@ -94,13 +94,13 @@ module _ (slots : ℕ) (i : Disks) (h : History) (lo d : ℕ) (sound : IsSound s
   absent = ap is_present (with_at_same i.power d Absent d refl)
 
   -- a disk that is lost is the weak one
-  pub weak_lost : IsSound slots (lose d i) h lo → IsWeak (lose d i) d
+  pub weak_lost : IsSoundFrom slots (lose d i) h lo → IsWeak (lose d i) d
   weak_lost now =
       let stands = now.sound.log.stands in
       let new = now.sound.said in
       let low = subst (λ (z : Setup). d < z.geometry.disks) (setup_lost now.sound.disk new stands) below in
       out now.sound.disk new stands (missing_is_out (lose d i).power new.meta d
-      (says_in_range new.opened (stored (lose d i) now.sound.disk) new.meta new.batch stands.says.log) now.sound.log.single
+      (says_in_range new.opened (stored_block (lose d i) now.sound.disk) new.meta new.batch stands.says.log) now.sound.log.single
       (record { disk = low; is = inl absent }) absent)
 
 -- what is held is held with a disk lost, which is down then
@@ -111,7 +111,7 @@ held_lost slots s i h lo d down e may held =
     let weak = weak_lost slots i h lo d (held.whole i e) may now in
     let is : (k : Disks) → IsImage j k → k ≡ j = λ k f. image_is j k e.loose f in
     record {
-      whole = λ k f. subst (λ (z : Disks). IsSound slots z h lo) (sym (is k f)) now;
+      whole = λ k f. subst (λ (z : Disks). IsSoundFrom slots z h lo) (sym (is k f)) now;
       lost = λ k x f can.
           let here : MayLose j x = subst (λ (z : Disks). MayLose z x) (is k f) can in
           let same = here.weak d weak in
@@ -130,17 +130,17 @@ its_weak i w weak = record {
   only = λ v other. ap Some (IsWeak-same i w v weak other);
 }
 
-module _ (i : Disks) (x k : ℕ) (said : Said) (ok : LogOk i x said k) where
+module _ (i : Disks) (x k : ℕ) (said : LogState) (ok : LogOk i x said k) where
   standing_in : (o : Option ℕ) → out_disk i.power said.meta ≡ o → (own : Option ℕ) × IsItsWeak i own
   standing_in (Some w) is = (Some w, its_weak i w (out x said ok.stands is))
   standing_in None is = beside (is_present (i.power (other_log x))) refl
     where
-      no_out : (y : ℕ) (other : Said) (w : ℕ) → Stands i y other → out_disk i.power other.meta ≡ Some w → ⊥
+      no_out : (y : ℕ) (other : LogState) (w : ℕ) → Stands i y other → out_disk i.power other.meta ≡ Some w → ⊥
       no_out y other w stands o =
           let same = (Stands-same i y x other said stands ok.stands).1 in
-          let none : None ≡ Some w = sym is ∙ ap (λ (z : Said). out_disk i.power z.meta) (sym same) ∙ o in cc
+          let none : None ≡ Some w = sym is ∙ ap (λ (z : LogState). out_disk i.power z.meta) (sym same) ∙ o in cc
 
-      silent : ((other : Said) → Says i (other_log x) other → named_out other.meta.out ≡ None) → IsItsWeak i None
+      silent : ((other : LogState) → Says i (other_log x) other → named_out other.meta.out ≡ None) → IsItsWeak i None
       silent says_none = record {
         is = λ w e. let k : None ≡ Some w = e in cc;
         only = λ w weak. absurd (never w weak);
@@ -160,22 +160,22 @@ module _ (i : Disks) (x k : ℕ) (said : Said) (ok : LogOk i x said k) where
           let formed = ok.formed (other_log x) (omega arith) there (λ o. let k : None ≡ Some (other_log x) = sym is ∙ o in cc) in
           by_name formed.0 formed.1 (named_out formed.0.meta.out) refl
         where
-          by_name : (other : Said) → Says i (other_log x) other → (o : Option ℕ) → named_out other.meta.out ≡ o → (own : Option ℕ) × IsItsWeak i own
+          by_name : (other : LogState) → Says i (other_log x) other → (o : Option ℕ) → named_out other.meta.out ≡ o → (own : Option ℕ) × IsItsWeak i own
           by_name other says (Some w) name = (Some w, its_weak i w (named x said other ok.stands is says name))
-          by_name other says None name = (None, silent (λ any q. ap (λ (z : Said). named_out z.meta.out) (Says-same i (other_log x) any other q says) ∙ name))
+          by_name other says None name = (None, silent (λ any q. ap (λ (z : LogState). named_out z.meta.out) (Says-same i (other_log x) any other q says) ∙ name))
 
 -- an image that holds a history has a weak disk or has none
-pub weak_of_sound : (slots : ℕ) (i : Disks) (h : History) (lo : ℕ) → IsSound slots i h lo → (own : Option ℕ) × IsItsWeak i own
+pub weak_of_sound : (slots : ℕ) (i : Disks) (h : History) (lo : ℕ) → IsSoundFrom slots i h lo → (own : Option ℕ) × IsItsWeak i own
 weak_of_sound slots i h lo s = standing_in i s.sound.disk s.k s.sound.said s.sound.log (out_disk i.power s.sound.said.meta) refl
 
-entry_of_image : (slots : ℕ) (s i : Disks) (h : History) (lo : ℕ) (down : Option ℕ) → IsImage s i → IsHeld slots s h lo down → (own : Option ℕ) × IsEntry slots i h lo own
+entry_of_image : (slots : ℕ) (s i : Disks) (h : History) (lo : ℕ) (down : Option ℕ) → IsImage s i → IsHeld slots s h lo down → (own : Option ℕ) × IsRunStart slots i h lo own
 entry_of_image slots s i h lo down e held =
     let again = IsHeld-image slots s i h lo down e held in
     let own = weak_of_sound slots i h lo (held.whole i e) in
     let is : (k : Disks) → IsImage i k → k ≡ i = λ k f. image_is i k e.loose f in (
       own.0,
       record {
-        dry = λ d p here. e.loose d p;
+        synced = λ d p here. e.loose d p;
         held = record {
           whole = again.whole;
           lost = again.lost;
@@ -185,53 +185,53 @@ entry_of_image slots s i h lo down e held =
       },
     )
 
-entry_of_lost : (slots : ℕ) (s i : Disks) (h : History) (lo d : ℕ) (down : Option ℕ) → IsImage s i → MayLose i d → IsHeld slots s h lo down → IsEntry slots (lose d i) h lo (Some d)
+entry_of_lost : (slots : ℕ) (s i : Disks) (h : History) (lo d : ℕ) (down : Option ℕ) → IsImage s i → MayLose i d → IsHeld slots s h lo down → IsRunStart slots (lose d i) h lo (Some d)
 entry_of_lost slots s i h lo d down e may held =
     let j : Disks = lose d i in
     let weak = weak_lost slots i h lo d (held.whole i e) may (held.lost i d e may) in
     record {
-      dry = λ x p here. e.loose x p;
+      synced = λ x p here. e.loose x p;
       held = held_lost slots s i h lo d down e may held;
       weak = λ k w f o. subst (λ (z : Disks). IsWeak z w) (sym (image_is j k e.loose f)) (subst (IsWeak j) (let same : d ≡ w = cc in same) weak);
     }
 
 -- each image that is looked at is an entry, with its own weak disk as the one that is down
-pub entry_of_looked : (slots : ℕ) (s j : Disks) (h : History) (lo : ℕ) (down : Option ℕ) → IsLooked s j → IsHeld slots s h lo down → (own : Option ℕ) × IsEntry slots j h lo own
+pub entry_of_looked : (slots : ℕ) (s j : Disks) (h : History) (lo : ℕ) (down : Option ℕ) → IsLooked s j → IsHeld slots s h lo down → (own : Option ℕ) × IsRunStart slots j h lo own
 entry_of_looked slots s j h lo down (whole e) held = entry_of_image slots s j h lo down e held
 entry_of_looked slots s j h lo down (lost i d e may is) held =
-    (Some d, subst (λ (k : Disks). IsEntry slots k h lo (Some d)) is (entry_of_lost slots s i h lo d down e may held))
+    (Some d, subst (λ (k : Disks). IsRunStart slots k h lo (Some d)) is (entry_of_lost slots s i h lo d down e may held))
 
-pub looked_is_dry : (s j : Disks) → IsLooked s j → (d p : ℕ) → j.loose d p ≡ false
-looked_is_dry s j (whole e) d p = e.loose d p
-looked_is_dry s j (lost i x e may is) d p = subst (λ (k : Disks). k.loose d p ≡ false) is (e.loose d p)
+pub looked_is_synced : (s j : Disks) → IsLooked s j → (d p : ℕ) → j.loose d p ≡ false
+looked_is_synced s j (whole e) d p = e.loose d p
+looked_is_synced s j (lost i x e may is) d p = subst (λ (k : Disks). k.loose d p ≡ false) is (e.loose d p)
 
-pub entry_of_weak : (slots : ℕ) (s j : Disks) (h : History) (lo : ℕ) (down : Option ℕ) (w : ℕ) → IsLooked s j → IsWeak j w → IsHeld slots s h lo down → IsEntry slots j h lo (Some w)
+pub entry_of_weak : (slots : ℕ) (s j : Disks) (h : History) (lo : ℕ) (down : Option ℕ) (w : ℕ) → IsLooked s j → IsWeak j w → IsHeld slots s h lo down → IsRunStart slots j h lo (Some w)
 entry_of_weak slots s j h lo down w looked weak held =
     let entry = entry_of_looked slots s j h lo down looked held in
-    subst (IsEntry slots j h lo) (entry.1.held.weak j w (image_of_dry j (looked_is_dry s j looked)) weak) entry.1
+    subst (IsRunStart slots j h lo) (entry.1.held.weak j w (image_of_synced j (looked_is_synced s j looked)) weak) entry.1
 
-pub entry_of_strong : (slots : ℕ) (s j : Disks) (h : History) (lo : ℕ) (down : Option ℕ) → IsLooked s j → ((w : ℕ) → IsWeak j w → ⊥) → IsHeld slots s h lo down → IsEntry slots j h lo None
+pub entry_of_strong : (slots : ℕ) (s j : Disks) (h : History) (lo : ℕ) (down : Option ℕ) → IsLooked s j → ((w : ℕ) → IsWeak j w → ⊥) → IsHeld slots s h lo down → IsRunStart slots j h lo None
 entry_of_strong slots s j h lo down looked strong held =
     let entry = entry_of_looked slots s j h lo down looked held in split entry.0 entry.1
   where
-    split : (own : Option ℕ) → IsEntry slots j h lo own → IsEntry slots j h lo None
+    split : (own : Option ℕ) → IsRunStart slots j h lo own → IsRunStart slots j h lo None
     split None entry = entry
-    split (Some w) entry = absurd (strong w (entry.weak j w (image_of_dry j (looked_is_dry s j looked)) refl))
+    split (Some w) entry = absurd (strong w (entry.weak j w (image_of_synced j (looked_is_synced s j looked)) refl))
 
 -- so is a rack that begins alike
 entry_alike : (slots : ℕ) (j : Disks) (start : List Beginning) (h : History) (lo : ℕ) (own : Option ℕ) → ((d p : ℕ) → j.loose d p ≡ false)
-    → IsAlike j (initial start) → IsEntry slots j h lo own → IsEntry slots (initial start) h lo own
+    → IsAlike j (initial start) → IsRunStart slots j h lo own → IsRunStart slots (initial start) h lo own
 unfolding initial
-entry_alike slots j start h lo own dry like entry = record {
-  dry = λ d p here. refl;
+entry_alike slots j start h lo own synced like entry = record {
+  synced = λ d p here. refl;
   held = held_alike slots j (initial start) h lo own like entry.held;
   weak = λ k w f o.
       let same = image_is (initial start) k (λ d p. refl) f in
-      subst (λ (z : Disks). IsWeak z w) (sym same) (weak_alike j (initial start) w like (entry.weak j w (image_of_dry j dry) o));
+      subst (λ (z : Disks). IsWeak z w) (sym same) (weak_alike j (initial start) w like (entry.weak j w (image_of_synced j synced) o));
 }
 
 pub entry_of_start : (slots : ℕ) (t u : Trail) (m : ℕ) (j : Disks) (h : History) (lo : ℕ) (down : Option ℕ) → IsLooked (disks t m) j → IsAlike j (initial u.start)
-    → HeldAt slots t m h lo down → (own : Option ℕ) × IsEntry slots (initial u.start) h lo own
+    → IsHeldAt slots t m h lo down → (own : Option ℕ) × IsRunStart slots (initial u.start) h lo own
 entry_of_start slots t u m j h lo down looked like held =
     let entry = entry_of_looked slots (disks t m) j h lo down looked held in
-    (entry.0, entry_alike slots j u.start h lo entry.0 (looked_is_dry (disks t m) j looked) like entry.1)
+    (entry.0, entry_alike slots j u.start h lo entry.0 (looked_is_synced (disks t m) j looked) like entry.1)

@@ -15,7 +15,7 @@ use Rattle.paraid_rack.specs.Disks.{is_present}
 use Rattle.paraid_record.specs.declared.meta.Meta.{Meta}
 use Rattle.paraid_record.specs.Range.{IsInRange, IsPhaseInRange, first_parked, is_down}
 use Rattle.paraid_image.specs.Content.{view_by}
-use Rattle.paraid_image.specs.Mark.{marked}
+use Rattle.paraid_image.specs.Mark.{marked_gone}
 use Rattle.paraid_image.specs.Out.{IsMissing, is_out}
 use Rattle.paraid_image.specs.Power.{phase_beside}
 use Rattle.paraid_image.specs.Sound.{AreDisks, ContentOk, IsFresh, IsWellKept}
@@ -51,7 +51,7 @@ not_down (Down to) is = false≢true is
 not_down (Up to) is = false≢true is
 
 -- the meta by which a disk is marked is in range
-pub marked_in_range : (m : Meta) (d e : ℕ) → IsInRange m → d < m.setup.geometry.disks → 1 ≤ e → e < 2 ^ 64 → IsInRange (marked m d e)
+pub marked_in_range : (m : Meta) (d e : ℕ) → IsInRange m → d < m.setup.geometry.disks → 1 ≤ e → e < 2 ^ 64 → IsInRange (marked_gone m d e)
 marked_in_range m d e range low first fits = record {
   setup = range.setup;
   version = range.version;
@@ -72,7 +72,7 @@ module _ (m : Meta) (d epoch : ℕ) (dirty : ℕ → ℕ → Bool) (block : Cont
   v = record { meta = m; dirty = dirty; out = Some d; block = block }
 
   abbrev w : View
-  w = record { meta = marked m d epoch; dirty = dirty; out = Some d; block = block }
+  w = record { meta = marked_gone m d epoch; dirty = dirty; out = Some d; block = block }
 
   hard_same : (r e : ℕ) → is_hard w r e ≡ is_hard v r e
   unfolding is_hard
@@ -103,10 +103,10 @@ module _ (m : Meta) (d epoch : ℕ) (dirty : ℕ → ℕ → Bool) (block : Cont
   row_same r = λ t e. value_same r e t
 
   module _ (slots : ℕ) (power : ℕ → Power) (size : ℕ → ℕ) (h : History) (k : ℕ) where
-    no_fresh : (e u : ℕ) → IsFresh power (marked m d epoch) e u → ⊥
+    no_fresh : (e u : ℕ) → IsFresh power (marked_gone m d epoch) e u → ⊥
     no_fresh e u fresh = let z : Gone d ≡ Fresh e u = fresh.is in cc
 
-    disks_marked : AreDisks slots power size m (Some d) → AreDisks slots power size (marked m d epoch) (Some d)
+    disks_marked : AreDisks slots power size m (Some d) → AreDisks slots power size (marked_gone m d epoch) (Some d)
     disks_marked c = record {
       enough = c.enough;
       log_disks = c.log_disks;
@@ -137,7 +137,7 @@ module _ (m : Meta) (d epoch : ℕ) (dirty : ℕ → ℕ → Bool) (block : Cont
 -- Where one disk at most is missing, and it is absent, what is stood for stays so when it is marked.
 pub content_marked : (slots : ℕ) (power : ℕ → Power) (size : ℕ → ℕ) (m : Meta) (d epoch : ℕ) (block : Contents) (h : History) (k : ℕ) → IsInRange m
     → ((e f : ℕ) → IsMissing power m e → IsMissing power m f → e ≡ f) → d < m.setup.geometry.disks → is_present (power d) ≡ false
-    → ContentOk slots power size (view_by m power block) h k → ContentOk slots power size (view_by (marked m d epoch) power block) h k
+    → ContentOk slots power size (view_by m power block) h k → ContentOk slots power size (view_by (marked_gone m d epoch) power block) h k
 content_marked slots power size m d epoch block h k range single low gone c =
     let out = missing_is_out power m d range single (record { disk = low; is = inl gone }) gone in
     view_marked m d epoch (map_bit m.setup.geometry (block (map_disk (Some d)))) block slots power size h k

@@ -6,20 +6,20 @@ use Rattle.std.proofs.lemmas.Bool.Decides.{nat_tests}
 use Rattle.paraid_base.specs.declared.block.Block.{Block}
 use Rattle.paraid_base.specs.declared.geometry.Geometry.{Geometry}
 use Rattle.paraid_base.specs.History.{History}
-use Rattle.paraid_base.specs.Xor.{zeroed}
+use Rattle.paraid_base.specs.Xor.{zero_block}
 use Rattle.paraid_rack.specs.Disks.{Disks, with_at}
 use Rattle.paraid_rack.proofs.AtomsLemmas.{at_case, with_at_other, with_at_same}
 use Rattle.paraid_record.specs.declared.meta.Meta.{Meta}
 use Rattle.paraid_record.specs.Targets.{IsTargetInRange, no_target}
 use Rattle.paraid_image.specs.Content.{view_by}
-use Rattle.paraid_image.specs.HeldAt.{IsSound}
-use Rattle.paraid_image.specs.Neutral.{IsNeutral, names, overwrite}
-use Rattle.paraid_image.specs.Neutral.IsNeutral.{nowhere, no_log, shut, settled_meta, unused, target}
+use Rattle.paraid_image.specs.HeldAt.{IsSoundFrom}
+use Rattle.paraid_image.specs.Neutral.{IsNeutral, names_place, overwrite}
+use Rattle.paraid_image.specs.Neutral.IsNeutral.{nowhere, no_log, shut, meta_under_open_gate, unused, target}
 use Rattle.paraid_image.specs.Out.{IsWeak}
 use Rattle.paraid_image.specs.Out.IsWeak.{out, named}
-use Rattle.paraid_image.specs.Sides.{AreLogged, Batch, Said, Says, SaysBy, Spells, has_place, is_open, stored, targets}
-use Rattle.paraid_image.specs.Sound.{ContentOk, LogOk, Sound}
-use Rattle.paraid_image.specs.Standing.{Contents, Stands, contents, laid, other_log}
+use Rattle.paraid_image.specs.Sides.{AreBlocksLogged, Batch, LogState, Says, SaysBy, Spells, has_place, is_open, stored_block, targets}
+use Rattle.paraid_image.specs.Sound.{ContentOk, LogOk, IsSoundAt}
+use Rattle.paraid_image.specs.Standing.{Contents, Stands, contents, overlaid_block, other_log}
 use Rattle.paraid_image.proofs.SidesLemmas.{Says-same}
 use Rattle.paraid_image.proofs.StandingLemmas.{Stands-same}
 
@@ -35,54 +35,54 @@ overwritten_else i d p b x q apart =
     (λ is. with_at_other (i.block d) p b q (apart is) ∙ ap (λ (k : ℕ). i.block k q) (sym is))
     (λ not. refl)
 
-pub where_there : (there : Bool) (x y : Block) → (there ≡ true → x ≡ y) → (if there then x else zeroed) ≡ (if there then y else zeroed)
+pub where_there : (there : Bool) (x y : Block) → (there ≡ true → x ≡ y) → (if there then x else zero_block) ≡ (if there then y else zero_block)
 where_there true x y h = h refl
 where_there false x y h = refl
 
 pub past_log : (low there : Bool) (x y : Block) → (low ≡ false → there ≡ true → x ≡ y)
-    → (if low then zeroed else (if there then x else zeroed)) ≡ (if low then zeroed else (if there then y else zeroed))
+    → (if low then zero_block else (if there then x else zero_block)) ≡ (if low then zero_block else (if there then y else zero_block))
 past_log true there x y h = refl
 past_log false there x y h = where_there there x y (h refl)
 
-pub stored_else : (i : Disks) (d p : ℕ) (b : Block) (x q : ℕ) → (x ≡ d → q ≡ p → has_place i d p ≡ false) → stored (overwrite i d p b) x q ≡ stored i x q
-unfolding stored
+pub stored_else : (i : Disks) (d p : ℕ) (b : Block) (x q : ℕ) → (x ≡ d → q ≡ p → has_place i d p ≡ false) → stored_block (overwrite i d p b) x q ≡ stored_block i x q
+unfolding stored_block
 stored_else i d p b x q apart = where_there (has_place i x q) _ _ (λ there.
     overwritten_else i d p b x q (λ is at. let none : has_place i x q ≡ false = rw (is, at) (apart is at) in false≢true (sym none ∙ there)))
 
-stored_written : (i : Disks) (d : ℕ) (b : Block) → has_place i d 0 ≡ true → stored (overwrite i d 0 b) d 0 ≡ b
-unfolding stored
+stored_written : (i : Disks) (d : ℕ) (b : Block) → has_place i d 0 ≡ true → stored_block (overwrite i d 0 b) d 0 ≡ b
+unfolding stored_block
 stored_written i d b there =
-    ap (λ (t : Bool). if t then (overwrite i d 0 b).block d 0 else zeroed) there ∙ overwritten_here i d 0 b d 0 refl refl
+    ap (λ (t : Bool). if t then (overwrite i d 0 b).block d 0 else zero_block) there ∙ overwritten_here i d 0 b d 0 refl refl
 
 above : (q : ℕ) → nat_lt q 100 ≡ false → 100 ≤ q
 above q h = grind (arith, nat_tests)
 
 pub contents_over : (i : Disks) (d p : ℕ) (b : Block) (batch : Batch)
-    → ((x q : ℕ) → x ≡ d → q ≡ p → 100 ≤ q → has_place i x q ≡ true → laid batch x q b ≡ laid batch x q (i.block x q))
+    → ((x q : ℕ) → x ≡ d → q ≡ p → 100 ≤ q → has_place i x q ≡ true → overlaid_block batch x q b ≡ overlaid_block batch x q (i.block x q))
     → contents (overwrite i d p b) batch ≡ contents i batch
 unfolding contents
 contents_over i d p b batch h = λ t. λ x q. (past_log (nat_lt q 100) (has_place i x q)
-    (laid batch x q ((overwrite i d p b).block x q)) (laid batch x q (i.block x q)) (λ low there.
+    (overlaid_block batch x q ((overwrite i d p b).block x q)) (overlaid_block batch x q (i.block x q)) (λ low there.
     elim (cases_eq x d) [
       | inl is ↦ elim (cases_eq q p) [
-        | inl at ↦ ap (laid batch x q) (overwritten_here i d p b x q is at) ∙ h x q is at (above q low) there
-        | inr off ↦ ap (laid batch x q) (overwritten_else i d p b x q (λ e. off))
+        | inl at ↦ ap (overlaid_block batch x q) (overwritten_here i d p b x q is at) ∙ h x q is at (above q low) there
+        | inr off ↦ ap (overlaid_block batch x q) (overwritten_else i d p b x q (λ e. off))
       ]
-      | inr off ↦ ap (laid batch x q) (overwritten_else i d p b x q (λ e. absurd (off e)))
+      | inr off ↦ ap (overlaid_block batch x q) (overwritten_else i d p b x q (λ e. absurd (off e)))
     ])) t
 
 pub contents_else : (i : Disks) (d p : ℕ) (b : Block) (batch : Batch) (x q : ℕ) → (x ≡ d → q ≢ p) → contents (overwrite i d p b) batch x q ≡ contents i batch x q
 unfolding contents
 contents_else i d p b batch x q apart = past_log (nat_lt q 100) (has_place i x q)
-    (laid batch x q ((overwrite i d p b).block x q)) (laid batch x q (i.block x q))
-    (λ low there. ap (laid batch x q) (overwritten_else i d p b x q apart))
+    (overlaid_block batch x q ((overwrite i d p b).block x q)) (overlaid_block batch x q (i.block x q))
+    (λ low there. ap (overlaid_block batch x q) (overwritten_else i d p b x q apart))
 
 -- what log disks say
 
-AreLogged-kept : (f g : ℕ → Block) (p : ℕ) (batch : Batch) → ((q : ℕ) → p ≤ q → q < p + length batch → g q ≡ f q) → AreLogged f p batch → AreLogged g p batch
-AreLogged-kept f g p [] h logged = tt
-AreLogged-kept f g p (w ∷ batch) h logged =
-    (h p (omega arith) (omega arith) ∙ logged.0, AreLogged-kept f g (suc p) batch (λ q low high. h q (omega arith) (omega arith)) logged.1)
+AreBlocksLogged-kept : (f g : ℕ → Block) (p : ℕ) (batch : Batch) → ((q : ℕ) → p ≤ q → q < p + length batch → g q ≡ f q) → AreBlocksLogged f p batch → AreBlocksLogged g p batch
+AreBlocksLogged-kept f g p [] h logged = tt
+AreBlocksLogged-kept f g p (w ∷ batch) h logged =
+    (h p (omega arith) (omega arith) ∙ logged.0, AreBlocksLogged-kept f g (suc p) batch (λ q low high. h q (omega arith) (omega arith)) logged.1)
 
 pub SaysBy-kept : (opened : Bool) (f g : ℕ → Block) (m : Meta) (batch : Batch) → (opened ≡ false → g 1 ≡ f 1)
     → (opened ≡ true → (q : ℕ) → 2 ≤ q → q < 4 + length batch → g q ≡ f q) → SaysBy opened f m batch → SaysBy opened g m batch
@@ -94,7 +94,7 @@ SaysBy-kept true f g m batch one rest s = record {
   meta = subst (λ (b : Block). Spells b m) (sym (rest refl 2 (omega arith) (omega arith))) s.meta;
   in_range = s.in_range;
   list = ap (λ (b : Block). b.bytes) (rest refl 3 (omega arith) (omega arith)) ∙ s.list;
-  blocks = AreLogged-kept f g 4 batch (λ q low high. rest refl q (omega arith) high) s.blocks;
+  blocks = AreBlocksLogged-kept f g 4 batch (λ q low high. rest refl q (omega arith) high) s.blocks;
 }
 
 pub length-targets : (batch : Batch) → length (targets batch) ≡ length batch
@@ -108,25 +108,25 @@ few_logged true log m batch s = let few = s.in_range.few in let same = length-ta
 -- the places that are looked at of the log of disk `x` hold the same
 pub record IsLogKept (i j : Disks) (x : ℕ) : Type 0 where
   pub power : j.power x ≡ i.power x
-  pub gate : is_open (stored j x 0) ≡ is_open (stored i x 0)
-  pub meta : is_open (stored i x 0) ≡ false → stored j x 1 ≡ stored i x 1
-  pub rest : is_open (stored i x 0) ≡ true → (said : Said) → (Says i x said ⊎ Says j x said) → (q : ℕ) → 2 ≤ q → q < 4 + length said.batch → stored j x q ≡ stored i x q
+  pub gate : is_open (stored_block j x 0) ≡ is_open (stored_block i x 0)
+  pub meta : is_open (stored_block i x 0) ≡ false → stored_block j x 1 ≡ stored_block i x 1
+  pub rest : is_open (stored_block i x 0) ≡ true → (said : LogState) → (Says i x said ⊎ Says j x said) → (q : ℕ) → 2 ≤ q → q < 4 + length said.batch → stored_block j x q ≡ stored_block i x q
 
-pub says_forth : (i j : Disks) (x : ℕ) (said : Said) → IsLogKept i j x → Says i x said → Says j x said
+pub says_forth : (i j : Disks) (x : ℕ) (said : LogState) → IsLogKept i j x → Says i x said → Says j x said
 says_forth i j x said kept s = record {
   present = rw kept.power s.present;
   gate = kept.gate ∙ s.gate;
-  log = SaysBy-kept said.opened (stored i x) (stored j x) said.meta said.batch
+  log = SaysBy-kept said.opened (stored_block i x) (stored_block j x) said.meta said.batch
       (λ closed. kept.meta (s.gate ∙ closed)) (λ opened. kept.rest (s.gate ∙ opened) said (inl s)) s.log;
 }
 
-pub says_back : (i j : Disks) (x : ℕ) (said : Said) → IsLogKept i j x → Says j x said → Says i x said
+pub says_back : (i j : Disks) (x : ℕ) (said : LogState) → IsLogKept i j x → Says j x said → Says i x said
 says_back i j x said kept s =
-    let gate : is_open (stored i x 0) ≡ said.opened = sym kept.gate ∙ s.gate in
+    let gate : is_open (stored_block i x 0) ≡ said.opened = sym kept.gate ∙ s.gate in
     record {
       present = rw (sym kept.power) s.present;
       gate = gate;
-      log = SaysBy-kept said.opened (stored j x) (stored i x) said.meta said.batch
+      log = SaysBy-kept said.opened (stored_block j x) (stored_block i x) said.meta said.batch
           (λ closed. sym (kept.meta (gate ∙ closed))) (λ opened q low high. sym (kept.rest (gate ∙ opened) said (inr s) q low high)) s.log;
     }
 
@@ -139,27 +139,27 @@ written i d p b = with_at i.block d (with_at (i.block d) p b)
 
 -- other blocks leave what log disks say
 pub record KeepsLog (i : Disks) (f : ℕ → ℕ → Block) : Type 0 where
-  pub forth : (x : ℕ) (said : Said) → x < 2 → Says i x said → Says (with_blocks i f) x said
-  pub back : (x : ℕ) (said : Said) → x < 2 → Says (with_blocks i f) x said → Says i x said
-  pub gate : (x : ℕ) → x < 2 → is_open (stored (with_blocks i f) x 0) ≡ is_open (stored i x 0)
+  pub forth : (x : ℕ) (said : LogState) → x < 2 → Says i x said → Says (with_blocks i f) x said
+  pub back : (x : ℕ) (said : LogState) → x < 2 → Says (with_blocks i f) x said → Says i x said
+  pub gate : (x : ℕ) → x < 2 → is_open (stored_block (with_blocks i f) x 0) ≡ is_open (stored_block i x 0)
 
 -- and the contents too
 pub record Keeps (i : Disks) (f : ℕ → ℕ → Block) : Type 0 where
   pub log : KeepsLog i f
-  pub contents : (x : ℕ) (said : Said) → Stands i x said → contents (with_blocks i f) said.batch ≡ contents i said.batch
+  pub contents : (x : ℕ) (said : LogState) → Stands i x said → contents (with_blocks i f) said.batch ≡ contents i said.batch
 
 module _ (i : Disks) (f : ℕ → ℕ → Block) (keeps : KeepsLog i f) where
   abbrev new : Disks
   new = with_blocks i f
 
-  pub stands_forth : (x : ℕ) (said : Said) → Stands i x said → Stands new x said
+  pub stands_forth : (x : ℕ) (said : LogState) → Stands i x said → Stands new x said
   stands_forth x said s = record {
     log_disk = s.log_disk;
     says = keeps.forth x said s.log_disk s.says;
     first = λ other q. s.first other (keeps.back (other_log x) other (omega arith) q);
   }
 
-  pub stands_back : (x : ℕ) (said : Said) → Stands new x said → Stands i x said
+  pub stands_back : (x : ℕ) (said : LogState) → Stands new x said → Stands i x said
   stands_back x said s = record {
     log_disk = s.log_disk;
     says = keeps.back x said s.log_disk s.says;
@@ -174,7 +174,7 @@ module _ (i : Disks) (f : ℕ → ℕ → Block) (keeps : KeepsLog i f) where
   weak_back w (out x said s e) = out x said (stands_back x said s) e
   weak_back w (named x said other s none q e) = named x said other (stands_back x said s) none (keeps.back (other_log x) other (omega arith) q) e
 
-  pub log_forth : (x : ℕ) (said : Said) (k : ℕ) → LogOk i x said k → LogOk new x said k
+  pub log_forth : (x : ℕ) (said : LogState) (k : ℕ) → LogOk i x said k → LogOk new x said k
   log_forth x said k ok = record {
     stands = stands_forth x said ok.stands;
     writes = ok.writes;
@@ -188,7 +188,7 @@ module _ (i : Disks) (f : ℕ → ℕ → Block) (keeps : KeepsLog i f) where
   }
 
 module _ (i : Disks) (f : ℕ → ℕ → Block) (keeps : Keeps i f) where
-  pub sound_forth : (slots : ℕ) (h : History) (k : ℕ) → Sound slots i h k → Sound slots (with_blocks i f) h k
+  pub sound_forth : (slots : ℕ) (h : History) (k : ℕ) → IsSoundAt slots i h k → IsSoundAt slots (with_blocks i f) h k
   sound_forth slots h k s = record {
     disk = s.disk;
     said = s.said;
@@ -197,7 +197,7 @@ module _ (i : Disks) (f : ℕ → ℕ → Block) (keeps : Keeps i f) where
         (sym (keeps.contents s.disk s.said s.log.stands)) s.content;
   }
 
-  pub is_sound_forth : (slots : ℕ) (h : History) (lo : ℕ) → IsSound slots i h lo → IsSound slots (with_blocks i f) h lo
+  pub is_sound_forth : (slots : ℕ) (h : History) (lo : ℕ) → IsSoundFrom slots i h lo → IsSoundFrom slots (with_blocks i f) h lo
   is_sound_forth slots h lo s = record { k = s.k; low = s.low; high = s.high; sound = sound_forth slots h s.k s.sound }
 
 pub keeps_log_by : (i : Disks) (f : ℕ → ℕ → Block) → ((x : ℕ) → x < 2 → IsLogKept i (with_blocks i f) x) → KeepsLog i f
@@ -208,11 +208,11 @@ keeps_log_by i f kept = record {
 }
 
 pub keeps_by : (i : Disks) (f : ℕ → ℕ → Block) → ((x : ℕ) → x < 2 → IsLogKept i (with_blocks i f) x)
-    → ((x : ℕ) (said : Said) → Stands i x said → contents (with_blocks i f) said.batch ≡ contents i said.batch) → Keeps i f
+    → ((x : ℕ) (said : LogState) → Stands i x said → contents (with_blocks i f) said.batch ≡ contents i said.batch) → Keeps i f
 keeps_by i f kept same = record { log = keeps_log_by i f kept; contents = same }
 
 -- a write of the log leaves the contents
-pub contents_log : (i : Disks) (d p : ℕ) (b : Block) → p < 100 → (x : ℕ) (said : Said) → Stands i x said → contents (overwrite i d p b) said.batch ≡ contents i said.batch
+pub contents_log : (i : Disks) (d p : ℕ) (b : Block) → p < 100 → (x : ℕ) (said : LogState) → Stands i x said → contents (overwrite i d p b) said.batch ≡ contents i said.batch
 contents_log i d p b l x said s = contents_over i d p b said.batch (λ y q is at past there. absurd (omega arith))
 
 pub keeps_nowhere : (i : Disks) (d p : ℕ) (b : Block) → has_place i d p ≡ false → Keeps i (written i d p b)
@@ -236,44 +236,44 @@ keeps_no_log i d p b far l = keeps_by i (written i d p b)
     })
     (contents_log i d p b l)
 
-pub keeps_shut : (i : Disks) (d p : ℕ) (b : Block) → is_open (stored i d 0) ≡ false → 2 ≤ p → p < 100 → Keeps i (written i d p b)
+pub keeps_shut : (i : Disks) (d p : ℕ) (b : Block) → is_open (stored_block i d 0) ≡ false → 2 ≤ p → p < 100 → Keeps i (written i d p b)
 keeps_shut i d p b closed far l = keeps_by i (written i d p b)
     (λ x low. record {
       power = refl;
       gate = ap is_open (stored_else i d p b x 0 (λ is at. absurd (omega arith)));
       meta = λ shut_too. stored_else i d p b x 1 (λ is at. absurd (omega arith));
       rest = λ opened said says q lower high. stored_else i d p b x q (λ is at.
-          absurd (false≢true (sym closed ∙ ap (λ (y : ℕ). is_open (stored i y 0)) (sym is) ∙ opened)));
+          absurd (false≢true (sym closed ∙ ap (λ (y : ℕ). is_open (stored_block i y 0)) (sym is) ∙ opened)));
     })
     (contents_log i d p b l)
 
-pub keeps_settled_meta : (i : Disks) (d p : ℕ) (b : Block) → is_open (stored i d 0) ≡ true → p ≡ 1 → Keeps i (written i d p b)
-keeps_settled_meta i d p b opened one = keeps_by i (written i d p b)
+pub keeps_meta_under_open_gate : (i : Disks) (d p : ℕ) (b : Block) → is_open (stored_block i d 0) ≡ true → p ≡ 1 → Keeps i (written i d p b)
+keeps_meta_under_open_gate i d p b opened one = keeps_by i (written i d p b)
     (λ x low. record {
       power = refl;
       gate = ap is_open (stored_else i d p b x 0 (λ is at. absurd (omega arith)));
       meta = λ closed. stored_else i d p b x 1 (λ is at.
-          absurd (false≢true (sym closed ∙ ap (λ (y : ℕ). is_open (stored i y 0)) is ∙ opened)));
+          absurd (false≢true (sym closed ∙ ap (λ (y : ℕ). is_open (stored_block i y 0)) is ∙ opened)));
       rest = λ opened_too said says q lower high. stored_else i d p b x q (λ is at. absurd (omega arith));
     })
     (contents_log i d p b (omega arith))
 
 -- the disk that is written says the same before and after
-unused_forth : (i : Disks) (d p : ℕ) (b : Block) (said : Said) → Says i d said → said.opened ≡ true → 4 + length said.batch ≤ p → Says (overwrite i d p b) d said
+unused_forth : (i : Disks) (d p : ℕ) (b : Block) (said : LogState) → Says i d said → said.opened ≡ true → 4 + length said.batch ≤ p → Says (overwrite i d p b) d said
 unused_forth i d p b said s opened past = record {
   present = s.present;
   gate = ap is_open (stored_else i d p b d 0 (λ is at. absurd (omega arith))) ∙ s.gate;
-  log = SaysBy-kept said.opened (stored i d) (stored (overwrite i d p b) d) said.meta said.batch
+  log = SaysBy-kept said.opened (stored_block i d) (stored_block (overwrite i d p b) d) said.meta said.batch
       (λ closed. stored_else i d p b d 1 (λ is at. absurd (omega arith)))
       (λ is_opened q low high. stored_else i d p b d q (λ is at. absurd (omega arith))) s.log;
 }
 
-same_said : (i : Disks) (d p : ℕ) (b : Block) (said other : Said) → Says i d said → Says (overwrite i d p b) d said
+same_said : (i : Disks) (d p : ℕ) (b : Block) (said other : LogState) → Says i d said → Says (overwrite i d p b) d said
     → (Says i d other ⊎ Says (overwrite i d p b) d other) → length other.batch ≡ length said.batch
-same_said i d p b said other s t (inl u) = ap (λ (z : Said). length z.batch) (Says-same i d other said u s)
-same_said i d p b said other s t (inr u) = ap (λ (z : Said). length z.batch) (Says-same (overwrite i d p b) d other said u t)
+same_said i d p b said other s t (inl u) = ap (λ (z : LogState). length z.batch) (Says-same i d other said u s)
+same_said i d p b said other s t (inr u) = ap (λ (z : LogState). length z.batch) (Says-same (overwrite i d p b) d other said u t)
 
-pub keeps_unused : (i : Disks) (d p : ℕ) (b : Block) (said : Said) → Says i d said → said.opened ≡ true → 4 + length said.batch ≤ p → p < 100 → Keeps i (written i d p b)
+pub keeps_unused : (i : Disks) (d p : ℕ) (b : Block) (said : LogState) → Says i d said → said.opened ≡ true → 4 + length said.batch ≤ p → p < 100 → Keeps i (written i d p b)
 keeps_unused i d p b said s opened past l =
     let t = unused_forth i d p b said s opened past in
     keeps_by i (written i d p b)
@@ -289,18 +289,18 @@ keeps_unused i d p b said s opened past l =
     (contents_log i d p b l)
 
 -- a gate is only open or closed
-gate_written : (i : Disks) (d : ℕ) (b : Block) → is_open b ≡ is_open (stored i d 0) → is_open (stored (overwrite i d 0 b) d 0) ≡ is_open (stored i d 0)
+gate_written : (i : Disks) (d : ℕ) (b : Block) → is_open b ≡ is_open (stored_block i d 0) → is_open (stored_block (overwrite i d 0 b) d 0) ≡ is_open (stored_block i d 0)
 gate_written i d b same = elim (cases_Bool (has_place i d 0)) [
   | inl there ↦ ap is_open (stored_written i d b there) ∙ same
   | inr none ↦ ap is_open (stored_else i d 0 b d 0 (λ is at. none))
 ]
 
-pub keeps_gate : (i : Disks) (d : ℕ) (b : Block) → is_open b ≡ is_open (stored i d 0) → Keeps i (written i d 0 b)
+pub keeps_gate : (i : Disks) (d : ℕ) (b : Block) → is_open b ≡ is_open (stored_block i d 0) → Keeps i (written i d 0 b)
 keeps_gate i d b same = keeps_by i (written i d 0 b)
     (λ x l. record {
       power = refl;
       gate = elim (cases_eq x d) [
-        | inl is ↦ ap (λ (z : ℕ). is_open (stored (overwrite i d 0 b) z 0)) is ∙ gate_written i d b same ∙ ap (λ (z : ℕ). is_open (stored i z 0)) (sym is)
+        | inl is ↦ ap (λ (z : ℕ). is_open (stored_block (overwrite i d 0 b) z 0)) is ∙ gate_written i d b same ∙ ap (λ (z : ℕ). is_open (stored_block i z 0)) (sym is)
         | inr not ↦ ap is_open (stored_else i d 0 b x 0 (λ is at. absurd (not is)))
       ];
       meta = λ closed. stored_else i d 0 b x 1 (λ is at. absurd (omega arith));
@@ -310,27 +310,27 @@ keeps_gate i d b same = keeps_by i (written i d 0 b)
 
 -- targets
 
-pub laid-named : (batch : Batch) (d p : ℕ) (b c : Block) → names batch d p ≡ true → laid batch d p b ≡ laid batch d p c
-laid-named [] d p b c h = absurd (false≢true h)
-laid-named (w ∷ batch) d p b c h = elim (cases_Bool (w.0.disk == d && w.0.place == p)) [
+pub overlaid_block-named : (batch : Batch) (d p : ℕ) (b c : Block) → names_place batch d p ≡ true → overlaid_block batch d p b ≡ overlaid_block batch d p c
+overlaid_block-named [] d p b c h = absurd (false≢true h)
+overlaid_block-named (w ∷ batch) d p b c h = elim (cases_Bool (w.0.disk == d && w.0.place == p)) [
   | inl is ↦ rw is refl
-  | inr not ↦ let later : names batch d p ≡ true = ap (λ (t : Bool). t || names batch d p) (sym not) ∙ h in rw not (laid-named batch d p b c later)
+  | inr not ↦ let later : names_place batch d p ≡ true = ap (λ (t : Bool). t || names_place batch d p) (sym not) ∙ h in rw not (overlaid_block-named batch d p b c later)
 ]
 
 named_place : (d e p q : ℕ) → (d == e && p == q) ≡ true → p ≡ q
 named_place d e p q h = grind (arith, nat_tests)
 
-named_past : (g : Geometry) (batch : Batch) (d p : ℕ) → All (IsTargetInRange g) (targets batch) → names batch d p ≡ true → 100 ≤ p
+named_past : (g : Geometry) (batch : Batch) (d p : ℕ) → All (IsTargetInRange g) (targets batch) → names_place batch d p ≡ true → 100 ≤ p
 named_past g [] d p all h = absurd (false≢true h)
 named_past g (w ∷ batch) d p all h = elim (cases_Bool (w.0.disk == d && w.0.place == p)) [
   | inl is ↦ let at = named_place w.0.disk d w.0.place p is in let low = (all 0 no_target (omega arith)).past_log in omega arith
-  | inr not ↦ let later : names batch d p ≡ true = ap (λ (t : Bool). t || names batch d p) (sym not) ∙ h in
+  | inr not ↦ let later : names_place batch d p ≡ true = ap (λ (t : Bool). t || names_place batch d p) (sym not) ∙ h in
       named_past g batch d p (λ k e l. all (suc k) e (omega arith)) later
 ]
 
-pub target_past : (opened : Bool) (log : ℕ → Block) (m : Meta) (batch : Batch) (d p : ℕ) → SaysBy opened log m batch → names batch d p ≡ true → 100 ≤ p
+pub target_past : (opened : Bool) (log : ℕ → Block) (m : Meta) (batch : Batch) (d p : ℕ) → SaysBy opened log m batch → names_place batch d p ≡ true → 100 ≤ p
 target_past false log m batch d p s h =
-    absurd (false≢true (ap (λ (ws : Batch). names ws d p) (sym s.empty) ∙ h))
+    absurd (false≢true (ap (λ (ws : Batch). names_place ws d p) (sym s.empty) ∙ h))
 target_past true log m batch d p s h = named_past m.setup.geometry batch d p s.in_range.each h
 
 -- a place past the log is in no log
@@ -341,25 +341,25 @@ log_kept_past i d p b far x = record {
   meta = λ closed. stored_else i d p b x 1 (λ is at. absurd (omega arith));
   rest = λ opened said says q low high. stored_else i d p b x q (λ is at.
       let few : length said.batch ≤ 96 = elim says [
-        | inl s ↦ few_logged said.opened (stored i x) said.meta said.batch s.log
-        | inr s ↦ few_logged said.opened (stored (overwrite i d p b) x) said.meta said.batch s.log
+        | inl s ↦ few_logged said.opened (stored_block i x) said.meta said.batch s.log
+        | inr s ↦ few_logged said.opened (stored_block (overwrite i d p b) x) said.meta said.batch s.log
       ] in
       absurd (omega arith));
 }
 
 -- every standing batch names the place
 pub keeps_target : (i : Disks) (d p : ℕ) (b : Block) → 100 ≤ p
-    → ((x : ℕ) (said : Said) → Stands i x said → names said.batch d p ≡ true) → Keeps i (written i d p b)
+    → ((x : ℕ) (said : LogState) → Stands i x said → names_place said.batch d p ≡ true) → Keeps i (written i d p b)
 keeps_target i d p b far all = keeps_by i (written i d p b) (λ x low. log_kept_past i d p b far x)
     (λ x said s. contents_over i d p b said.batch (λ y q is at past there.
-    laid-named said.batch y q b (i.block y q) (rw (is, at) (all x said s))))
+    overlaid_block-named said.batch y q b (i.block y q) (rw (is, at) (all x said s))))
 
 pub keeps_neutral : (i : Disks) (d p : ℕ) (b : Block) → IsNeutral i d p → Keeps i (written i d p b)
 keeps_neutral i d p b (nowhere none) = keeps_nowhere i d p b none
 keeps_neutral i d p b (no_log far l) = keeps_no_log i d p b far l
 keeps_neutral i d p b (shut closed far l) = keeps_shut i d p b closed far l
-keeps_neutral i d p b (settled_meta opened one) = keeps_settled_meta i d p b opened one
+keeps_neutral i d p b (meta_under_open_gate opened one) = keeps_meta_under_open_gate i d p b opened one
 keeps_neutral i d p b (unused said s opened past l) = keeps_unused i d p b said s opened past l
 keeps_neutral i d p b (target x said s is others) =
-    keeps_target i d p b (target_past said.opened (stored i x) said.meta said.batch d p s.says.log is)
-    (λ y other t. ap (λ (z : Said). names z.batch d p) ((Stands-same i y x other said t s).1) ∙ is)
+    keeps_target i d p b (target_past said.opened (stored_block i x) said.meta said.batch d p s.says.log is)
+    (λ y other t. ap (λ (z : LogState). names_place z.batch d p) ((Stands-same i y x other said t s).1) ∙ is)

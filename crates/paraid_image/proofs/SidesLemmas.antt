@@ -6,15 +6,15 @@ use Rattle.paraid_base.specs.declared.block.Block.{Block}
 use Rattle.paraid_base.specs.declared.geometry.Geometry.{Geometry}
 use Rattle.paraid_base.specs.Places.{sum_before}
 use Rattle.paraid_base.specs.Regions.{disk_size, region_size}
-use Rattle.paraid_base.specs.Xor.{zeroed}
+use Rattle.paraid_base.specs.Xor.{zero_block}
 use Rattle.paraid_base.proofs.RegionsLemmas.{region_size_gear, region_size_none, stripe_count_small}
 use Rattle.paraid_rack.specs.Disks.{Disks}
 use Rattle.paraid_record.specs.declared.meta.Meta.{Meta}
 use Rattle.paraid_record.specs.Meta.{meta_bytes, heading_bytes}
-use Rattle.paraid_record.specs.Spelling.{filled}
+use Rattle.paraid_record.specs.Spelling.{zero_filled}
 use Rattle.paraid_record.proofs.OneSpelling.{meta_bytes-cancel, targets_bytes-cancel}
 use Rattle.paraid_record.proofs.TargetLemmas.{All-fits}
-use Rattle.paraid_image.specs.Sides.{AreLogged, Batch, IsSide, Said, Says, SaysBy, Side, Spells, is_open, stored, targets}
+use Rattle.paraid_image.specs.Sides.{AreBlocksLogged, Batch, IsSide, LogState, Says, SaysBy, Side, Spells, is_open, stored_block, targets}
 use Rattle.paraid_image.specs.Sides.Side.{absent, blank, bad, formed}
 
 sum_before-most : (f : ℕ → ℕ) (c n : ℕ) → ((k : ℕ) → k < n → f k ≤ c) → sum_before f n ≤ n * c
@@ -49,15 +49,15 @@ disk_size-small g =
 Spells-same : (b : Block) (m n : Meta) → Spells b m → Spells b n → m ≡ n
 Spells-same b m n p q = meta_bytes-cancel m n p.in_range q.in_range (sym p.bytes ∙ q.bytes)
 
-AreLogged-same : (log : ℕ → Block) (p : ℕ) (a b : Batch) → targets a ≡ targets b → AreLogged log p a → AreLogged log p b → a ≡ b
-AreLogged-same log p [] [] e x y = refl
-AreLogged-same log p [] (w ∷ b) e x y = cc
-AreLogged-same log p (v ∷ a) [] e x y = cc
-AreLogged-same log p (v ∷ a) (w ∷ b) e x y =
+AreBlocksLogged-same : (log : ℕ → Block) (p : ℕ) (a b : Batch) → targets a ≡ targets b → AreBlocksLogged log p a → AreBlocksLogged log p b → a ≡ b
+AreBlocksLogged-same log p [] [] e x y = refl
+AreBlocksLogged-same log p [] (w ∷ b) e x y = cc
+AreBlocksLogged-same log p (v ∷ a) [] e x y = cc
+AreBlocksLogged-same log p (v ∷ a) (w ∷ b) e x y =
     let target : v.0 ≡ w.0 = cc in
     let others : targets a ≡ targets b = cc in
     let block = sym x.0 ∙ y.0 in
-    let rest = AreLogged-same log (suc p) a b others x.1 y.1 in
+    let rest = AreBlocksLogged-same log (suc p) a b others x.1 y.1 in
     λ t. (target t, block t) ∷ rest t
 
 SaysBy-same : (opened : Bool) (log : ℕ → Block) (m n : Meta) (a b : Batch) → SaysBy opened log m a → SaysBy opened log n b → (m ≡ n) × (a ≡ b)
@@ -66,36 +66,36 @@ SaysBy-same true log m n a b p q =
     let fits = All-fits m.setup.geometry (targets a) p.in_range (disk_size-small m.setup.geometry) in
     let fits_too = All-fits n.setup.geometry (targets b) q.in_range (disk_size-small n.setup.geometry) in
     let same = targets_bytes-cancel (targets a) (targets b) p.in_range.few q.in_range.few fits fits_too (sym p.list ∙ q.list) in
-    (Spells-same (log 2) m n p.meta q.meta, AreLogged-same log 4 a b same p.blocks q.blocks)
+    (Spells-same (log 2) m n p.meta q.meta, AreBlocksLogged-same log 4 a b same p.blocks q.blocks)
 
 -- a log disk says one thing
-pub Says-same : (i : Disks) (x : ℕ) (a b : Said) → Says i x a → Says i x b → a ≡ b
+pub Says-same : (i : Disks) (x : ℕ) (a b : LogState) → Says i x a → Says i x b → a ≡ b
 Says-same i x a b p q =
     let opened : a.opened ≡ b.opened = sym p.gate ∙ q.gate in
-    let log = subst (λ (o : Bool). SaysBy o (stored i x) b.meta b.batch) (sym opened) q.log in
-    let same = SaysBy-same a.opened (stored i x) a.meta b.meta a.batch b.batch p.log log in
+    let log = subst (λ (o : Bool). SaysBy o (stored_block i x) b.meta b.batch) (sym opened) q.log in
+    let same = SaysBy-same a.opened (stored_block i x) a.meta b.meta a.batch b.batch p.log log in
     λ t. record { opened = opened t; meta = same.0 t; batch = same.1 t }
 
 meta_bytes-first : (m : Meta) → slice_index (meta_bytes m) 0 ≡ 80
-unfolding meta_bytes filled heading_bytes
+unfolding meta_bytes zero_filled heading_bytes
 meta_bytes-first m = refl
 
-zeroed-first : slice_index zeroed.bytes 0 ≡ 0
-unfolding zeroed
-zeroed-first = refl
+zero_block-first : slice_index zero_block.bytes 0 ≡ 0
+unfolding zero_block
+zero_block-first = refl
 
-Spells-not_zeroed : (b : Block) (m : Meta) → Spells b m → b ≢ zeroed
+Spells-not_zeroed : (b : Block) (m : Meta) → Spells b m → b ≢ zero_block
 Spells-not_zeroed b m p e =
     let first = meta_bytes-first m in
-    let zero_first = zeroed-first in
-    let same : slice_index (meta_bytes m) 0 ≡ slice_index zeroed.bytes 0 = ap (λ (xs : List ℕ). slice_index xs 0) (sym p.bytes ∙ ap (λ (c : Block). c.bytes) e) in
+    let zero_first = zero_block-first in
+    let same : slice_index (meta_bytes m) 0 ≡ slice_index zero_block.bytes 0 = ap (λ (xs : List ℕ). slice_index xs 0) (sym p.bytes ∙ ap (λ (c : Block). c.bytes) e) in
     omega arith
 
-pub blank_says_nothing : (i : Disks) (x : ℕ) (said : Said) → is_open (stored i x 0) ≡ false → stored i x 1 ≡ zeroed → Says i x said → ⊥
+pub blank_says_nothing : (i : Disks) (x : ℕ) (said : LogState) → is_open (stored_block i x 0) ≡ false → stored_block i x 1 ≡ zero_block → Says i x said → ⊥
 blank_says_nothing i x said shut zero_meta p =
     let closed : said.opened ≡ false = sym p.gate ∙ shut in
-    let log = subst (λ (o : Bool). SaysBy o (stored i x) said.meta said.batch) closed p.log in
-    Spells-not_zeroed (stored i x 1) said.meta log.meta zero_meta
+    let log = subst (λ (o : Bool). SaysBy o (stored_block i x) said.meta said.batch) closed p.log in
+    Spells-not_zeroed (stored_block i x 1) said.meta log.meta zero_meta
 
 abbrev pub is_formed : Side → Bool
 is_formed absent = false
@@ -104,7 +104,7 @@ is_formed bad = false
 is_formed (formed said) = true
 
 -- a side that is not well formed says nothing
-pub says_nothing : (i : Disks) (x : ℕ) (s : Side) → IsSide i x s → is_formed s ≡ false → (said : Said) → Says i x said → ⊥
+pub says_nothing : (i : Disks) (x : ℕ) (s : Side) → IsSide i x s → is_formed s ≡ false → (said : LogState) → Says i x said → ⊥
 says_nothing i x absent is not said p = false≢true (sym is ∙ p.present)
 says_nothing i x blank is not said p = blank_says_nothing i x said is.1 is.2 p
 says_nothing i x bad is not said p = is.silent said p

@@ -5,32 +5,32 @@ use Rattle.std.proofs.lemmas.Bool.{cases_Bool, cases_eq}
 use Rattle.paraid_base.specs.declared.block.Block.{Block}
 use Rattle.paraid_base.specs.declared.state.Out.TheVariants.{Gone, Fresh}
 use Rattle.paraid_base.specs.History.{History}
-use Rattle.paraid_base.specs.Xor.{zeroed}
+use Rattle.paraid_base.specs.Xor.{zero_block}
 use Rattle.paraid_rack.specs.declared.call.Call.TheVariants.{Attach}
 use Rattle.paraid_rack.specs.declared.call.Power.{Power}
 use Rattle.paraid_rack.specs.declared.call.Power.TheVariants.{Spinning, Parked, Absent}
 use Rattle.paraid_rack.specs.Disks.{Disks, IsImage, is_present, lose, step, with_at}
 use Rattle.paraid_rack.proofs.AtomsLemmas.{at_case, with_at_other, with_at_same}
 use Rattle.paraid_image.specs.Content.{view_of}
-use Rattle.paraid_image.specs.HeldAt.{IsHeld, IsSound}
+use Rattle.paraid_image.specs.HeldAt.{IsHeld, IsSoundFrom}
 use Rattle.paraid_image.specs.Out.{IsMissing, IsWeak, named_out, out_disk}
 use Rattle.paraid_image.specs.Out.IsWeak.{out}
-use Rattle.paraid_image.specs.Sides.{Batch, Said, Says, has_place, is_open, stored}
-use Rattle.paraid_image.specs.Sound.{AreDisks, ContentOk, IsFresh, LogOk, Sound}
+use Rattle.paraid_image.specs.Sides.{Batch, LogState, Says, has_place, is_open, stored_block}
+use Rattle.paraid_image.specs.Sound.{AreDisks, ContentOk, IsFresh, LogOk, IsSoundAt}
 use Rattle.paraid_image.specs.Spot.{map_bit, map_disk}
-use Rattle.paraid_image.specs.Standing.{Contents, Stands, contents, laid, other_log}
-use Rattle.paraid_image.proofs.LossLemmas.{others_keep}
+use Rattle.paraid_image.specs.Standing.{Contents, Stands, contents, overlaid_block, other_log}
+use Rattle.paraid_image.proofs.FailedCallLemmas.{others_keep}
 use Rattle.paraid_image.proofs.NeutralLemmas.{IsLogKept, says_back, says_forth}
 use Rattle.paraid_image.proofs.OutLemmas.{says_in_range}
 use Rattle.paraid_image.proofs.SidesLemmas.{blank_says_nothing}
 use Rattle.paraid_image.proofs.StandingLemmas.{IsWeak-same}
-use Rattle.paraid_image.proofs.StepLemmas.{out_named, says_not_lost, zeroed_closed}
+use Rattle.paraid_image.proofs.CallLemmas.{out_named, says_not_lost, zeroed_closed}
 use Rattle.paraid_image.proofs.ViewLemmas.{content_without, dirty_without}
 
 module _ (slots : ℕ) (i j : Disks) (h : History) (k d : ℕ) (power : (x : ℕ) → x ≢ d → j.power x ≡ i.power x) (size : (x : ℕ) → x ≢ d → j.size x ≡ i.size x)
-    (block : (x p : ℕ) → x ≢ d → j.block x p ≡ i.block x p) (silent : (said : Said) → Says j d said → ⊥) (not_parked : j.power d ≢ Parked)
-    (sound : Sound slots i h k) (is_gone : sound.said.meta.out ≡ Gone d) where
-  abbrev said : Said
+    (block : (x p : ℕ) → x ≢ d → j.block x p ≡ i.block x p) (silent : (said : LogState) → Says j d said → ⊥) (not_parked : j.power d ≢ Parked)
+    (sound : IsSoundAt slots i h k) (is_gone : sound.said.meta.out ≡ Gone d) where
+  abbrev said : LogState
   said = sound.said
 
   abbrev z : ℕ
@@ -43,16 +43,16 @@ module _ (slots : ℕ) (i j : Disks) (h : History) (k d : ℕ) (power : (x : ℕ
   place_same x p not =
       ap (λ (w : Power). is_present w && nat_lt p (j.size x)) (power x not) ∙ ap (λ (n : ℕ). is_present (i.power x) && nat_lt p n) (size x not)
 
-  stored_same : (x p : ℕ) → x ≢ d → stored j x p ≡ stored i x p
-  unfolding stored
+  stored_same : (x p : ℕ) → x ≢ d → stored_block j x p ≡ stored_block i x p
+  unfolding stored_block
   stored_same x p not =
-      ap (λ (t : Bool). if t then j.block x p else zeroed) (place_same x p not) ∙ ap (λ (b : Block). if has_place i x p then b else zeroed) (block x p not)
+      ap (λ (t : Bool). if t then j.block x p else zero_block) (place_same x p not) ∙ ap (λ (b : Block). if has_place i x p then b else zero_block) (block x p not)
 
   contents_same : (batch : Batch) (x p : ℕ) → x ≢ d → contents j batch x p ≡ contents i batch x p
   unfolding contents
   contents_same batch x p not =
-      ap (λ (t : Bool). if nat_lt p 100 then zeroed else (if t then laid batch x p (j.block x p) else zeroed)) (place_same x p not)
-      ∙ ap (λ (b : Block). if nat_lt p 100 then zeroed else (if has_place i x p then laid batch x p b else zeroed)) (block x p not)
+      ap (λ (t : Bool). if nat_lt p 100 then zero_block else (if t then overlaid_block batch x p (j.block x p) else zero_block)) (place_same x p not)
+      ∙ ap (λ (b : Block). if nat_lt p 100 then zero_block else (if has_place i x p then overlaid_block batch x p b else zero_block)) (block x p not)
 
   kept : (x : ℕ) → x ≢ d → IsLogKept i j x
   kept x not = record {
@@ -62,10 +62,10 @@ module _ (slots : ℕ) (i j : Disks) (h : History) (k d : ℕ) (power : (x : ℕ
     rest = λ opened o says q low high. stored_same x q not;
   }
 
-  not_d : (x : ℕ) (o : Said) → Says j x o → x ≢ d
+  not_d : (x : ℕ) (o : LogState) → Says j x o → x ≢ d
   not_d x o s is = silent o (subst (λ (y : ℕ). Says j y o) is s)
 
-  says_then : (x : ℕ) (o : Said) → Says j x o → Says i x o
+  says_then : (x : ℕ) (o : LogState) → Says j x o → Says i x o
   says_then x o s = says_back i j x o (kept x (not_d x o s)) s
 
   z_not_d : z ≢ d
@@ -150,27 +150,27 @@ module _ (slots : ℕ) (i j : Disks) (h : History) (k d : ℕ) (power : (x : ℕ
       (sym out_now)
       (content_without said.meta (dirty_by o f) (dirty_by (Some d) t) o f t d (inr out_then) same
       (dirty_without said.meta.setup.geometry o f t d (inr out_then) same (λ q l none. let w : None ≡ Some d = sym none ∙ out_then in cc))
-      (says_in_range said.opened (stored i z) said.meta said.batch sound.log.stands.says.log)
+      (says_in_range said.opened (stored_block i z) said.meta said.batch sound.log.stands.says.log)
       slots i.power j.power i.size j.size h k (no_fresh j.power) ready sound.content)
 
-  pub Sound-swapped : Sound slots j h k
-  Sound-swapped = record { disk = z; said = said; log = log_now; content = content_now }
+  pub IsSoundAt-swapped : IsSoundAt slots j h k
+  IsSoundAt-swapped = record { disk = z; said = said; log = log_now; content = content_now }
 
   pub weak_swapped : IsWeak j d
   weak_swapped = out z said stands_now out_now
 
-stored_zero : (j : Disks) (d p : ℕ) → j.block d p ≡ zeroed → stored j d p ≡ zeroed
-unfolding stored
+stored_zero : (j : Disks) (d p : ℕ) → j.block d p ≡ zero_block → stored_block j d p ≡ zero_block
+unfolding stored_block
 stored_zero j d p is = elim (cases_Bool (has_place j d p)) [ inl there ↦ rw there is | inr none ↦ rw none refl ]
 
 -- a fresh disk says nothing
-zeros_say_nothing : (j : Disks) (d : ℕ) → ((p : ℕ) → j.block d p ≡ zeroed) → (said : Said) → Says j d said → ⊥
+zeros_say_nothing : (j : Disks) (d : ℕ) → ((p : ℕ) → j.block d p ≡ zero_block) → (said : LogState) → Says j d said → ⊥
 zeros_say_nothing j d zeros said s =
     blank_says_nothing j d said (ap is_open (stored_zero j d 0 (zeros 0)) ∙ zeroed_closed) (stored_zero j d 1 (zeros 1)) s
 
-attached_block : (s : Disks) (d size p : ℕ) → ((step (Attach d size true) s).loose d p ≡ false) × ((step (Attach d size true) s).block d p ≡ zeroed)
+attached_block : (s : Disks) (d size p : ℕ) → ((step (Attach d size true) s).loose d p ≡ false) × ((step (Attach d size true) s).block d p ≡ zero_block)
 unfolding step
-attached_block s d size p = (ap (λ f. f p) (with_at_same s.loose d (λ q. false) d refl), ap (λ f. f p) (with_at_same s.block d (λ q. zeroed) d refl))
+attached_block s d size p = (ap (λ f. f p) (with_at_same s.loose d (λ q. false) d refl), ap (λ f. f p) (with_at_same s.block d (λ q. zero_block) d refl))
 
 attached_power : (s : Disks) (d size : ℕ) → (step (Attach d size true) s).power d ≡ Spinning
 unfolding step
@@ -188,12 +188,12 @@ unfolding step
 attach_leaves s d size = record {
   power = λ x not. with_at_other s.power d Spinning x not;
   size = λ x not. with_at_other s.size d size x not;
-  block = λ x p not. others_keep s.block d (λ q. zeroed) x p not;
+  block = λ x p not. others_keep s.block d (λ q. zero_block) x p not;
   loose = λ x p not. others_keep s.loose d (λ q. false) x p not;
 }
 
 module _ (slots : ℕ) (s : Disks) (h : History) (lo : ℕ) (down : Option ℕ) (d size : ℕ)
-    (gone : (i : Disks) (x : ℕ) (said : Said) → IsImage s i → Stands i x said → said.meta.out ≡ Gone d) (held : IsHeld slots s h lo down) where
+    (gone : (i : Disks) (x : ℕ) (said : LogState) → IsImage s i → Stands i x said → said.meta.out ≡ Gone d) (held : IsHeld slots s h lo down) where
   abbrev t : Disks
   t = step (Attach d size true) s
 
@@ -212,13 +212,13 @@ module _ (slots : ℕ) (s : Disks) (h : History) (lo : ℕ) (down : Option ℕ) 
   before_is j e = record {
     power = λ x. refl;
     size = λ x. refl;
-    block = λ x q dry. at_case (λ (f : ℕ → Block). f q ≡ s.block x q) j.block d (s.block d) x
+    block = λ x q synced. at_case (λ (f : ℕ → Block). f q ≡ s.block x q) j.block d (s.block d) x
         (λ is. ap (λ (y : ℕ). s.block y q) (sym is))
-        (λ not. e.block x q (others.loose x q not ∙ dry) ∙ others.block x q not);
+        (λ not. e.block x q (others.loose x q not ∙ synced) ∙ others.block x q not);
     loose = e.loose;
   }
 
-  was : (j : Disks) → IsImage t j → IsSound slots (before j) h lo
+  was : (j : Disks) → IsImage t j → IsSoundFrom slots (before j) h lo
   was j e = held.whole (before j) (before_is j e)
 
   is_gone : (j : Disks) (e : IsImage t j) → (was j e).sound.said.meta.out ≡ Gone d
@@ -233,18 +233,18 @@ module _ (slots : ℕ) (s : Disks) (h : History) (lo : ℕ) (down : Option ℕ) 
   blocks : (j : Disks) (x p : ℕ) → x ≢ d → j.block x p ≡ (before j).block x p
   blocks j x p not = sym (others_keep j.block d (s.block d) x p not)
 
-  silent : (j : Disks) → IsImage t j → (said : Said) → Says j d said → ⊥
+  silent : (j : Disks) → IsImage t j → (said : LogState) → Says j d said → ⊥
   silent j e said says = zeros_say_nothing j d (λ p. let at = attached_block s d size p in e.block d p at.0 ∙ at.1) said says
 
   spins : (j : Disks) → IsImage t j → j.power d ≢ Parked
   spins j e parked = let w : Spinning ≡ Parked = sym (attached_power s d size) ∙ sym (e.power d) ∙ parked in cc
 
-  now : (j : Disks) → IsImage t j → IsSound slots j h lo
+  now : (j : Disks) → IsImage t j → IsSoundFrom slots j h lo
   now j e = record {
     k = (was j e).k;
     low = (was j e).low;
     high = (was j e).high;
-    sound = Sound-swapped slots (before j) j h (was j e).k d (powers j e) (sizes j e) (blocks j) (silent j e) (spins j e) (was j e).sound (is_gone j e);
+    sound = IsSoundAt-swapped slots (before j) j h (was j e).k d (powers j e) (sizes j e) (blocks j) (silent j e) (spins j e) (was j e).sound (is_gone j e);
   }
 
   weak_now : (j : Disks) → IsImage t j → IsWeak j d
@@ -253,12 +253,12 @@ module _ (slots : ℕ) (s : Disks) (h : History) (lo : ℕ) (down : Option ℕ) 
   lost_absent : (j : Disks) → (lose d j).power d ≢ Parked
   lost_absent j parked = let w : Absent ≡ Parked = sym (with_at_same j.power d Absent d refl) ∙ parked in cc
 
-  lost_now : (j : Disks) → IsImage t j → IsSound slots (lose d j) h lo
+  lost_now : (j : Disks) → IsImage t j → IsSoundFrom slots (lose d j) h lo
   lost_now j e = record {
     k = (was j e).k;
     low = (was j e).low;
     high = (was j e).high;
-    sound = Sound-swapped slots (before j) (lose d j) h (was j e).k d
+    sound = IsSoundAt-swapped slots (before j) (lose d j) h (was j e).k d
         (λ x not. with_at_other j.power d Absent x not ∙ powers j e x not)
         (λ x not. with_at_other j.size d 0 x not ∙ sizes j e x not)
         (blocks j) (λ said says. says_not_lost j d d said says refl) (lost_absent j) (was j e).sound (is_gone j e);
@@ -272,7 +272,7 @@ module _ (slots : ℕ) (s : Disks) (h : History) (lo : ℕ) (down : Option ℕ) 
   pub IsHeld-attached : IsHeld slots t h lo down
   IsHeld-attached = record {
     whole = now;
-    lost = λ j f e may. subst (λ (x : ℕ). IsSound slots (lose x j) h lo) (may.weak d (weak_now j e)) (lost_now j e);
+    lost = λ j f e may. subst (λ (x : ℕ). IsSoundFrom slots (lose x j) h lo) (may.weak d (weak_now j e)) (lost_now j e);
     weak = λ j w e weak.
         held.weak (before j) d (before_is j e) (weak_then j e) ∙ ap Some (IsWeak-same j d w (weak_now j e) weak);
   }

@@ -7,26 +7,26 @@ use Rattle.paraid_base.specs.History.{History}
 use Rattle.paraid_rack.specs.declared.call.Call.TheVariants.{Write}
 use Rattle.paraid_rack.specs.Disks.{Disks, IsImage, lose, step}
 use Rattle.paraid_image.specs.Content.{view_of}
-use Rattle.paraid_image.specs.Free.{AreGatesClosed, IsFree, IsUnseen}
+use Rattle.paraid_image.specs.Free.{AreSidesClosed, IsFree, IsUnseen}
 use Rattle.paraid_image.specs.Free.IsFree.{dirty_cell, unfilled, gone, row, stripe, map_block}
 use Rattle.paraid_image.specs.Free.IsUnseen.{neutral, free}
-use Rattle.paraid_image.specs.HeldAt.{IsHeld, IsSound, MayLose}
+use Rattle.paraid_image.specs.HeldAt.{IsHeld, IsSoundFrom, MayLose}
 use Rattle.paraid_image.specs.Neutral.{overwrite}
 use Rattle.paraid_image.specs.Out.{IsWeak, first_absent, named_out, or_else, out_disk}
 use Rattle.paraid_image.specs.Out.IsWeak.{out}
-use Rattle.paraid_image.specs.Sides.{Said, Says}
+use Rattle.paraid_image.specs.Sides.{LogState, Says}
 use Rattle.paraid_image.specs.Sound.{LogOk, Pairing}
 use Rattle.paraid_image.specs.Sound.Pairing.{alike, first_ahead, second_ahead, first_done, second_done}
 use Rattle.paraid_image.specs.Standing.{Stands, other_log}
-use Rattle.paraid_image.proofs.FreeLemmas.{Sound-free, free_log, free_past}
-use Rattle.paraid_image.proofs.LoseLemmas.{dirty_still}
+use Rattle.paraid_image.proofs.FreeLemmas.{IsSoundAt-free, free_log, free_past}
+use Rattle.paraid_image.proofs.OneDiskLessLemmas.{dirty_still}
 use Rattle.paraid_image.proofs.NeutralLemmas.{KeepsLog, is_sound_forth, keeps_neutral, weak_back, written}
 use Rattle.paraid_image.proofs.OutLemmas.{first_absent_is}
 use Rattle.paraid_image.proofs.SidesLemmas.{Says-same}
 use Rattle.paraid_image.proofs.StandingLemmas.{Stands-same}
-use Rattle.paraid_image.proofs.StepLemmas.{back_again, keeps_lost, may_lose_back, out_named, says_not_lost, says_of_lost, write_image}
+use Rattle.paraid_image.proofs.CallLemmas.{back_again, keeps_lost, may_lose_back, out_named, says_not_lost, says_of_lost, write_image}
 
-pub pairing_closed : (a b : Said) → Pairing a b → a.opened ≡ false → b.opened ≡ false → a ≡ b
+pub pairing_closed : (a b : LogState) → Pairing a b → a.opened ≡ false → b.opened ≡ false → a ≡ b
 pairing_closed a b (alike e) p q = e
 pairing_closed a b (first_ahead s) p q = absurd (false≢true (sym p ∙ s.opened))
 pairing_closed a b (second_ahead s) p q = absurd (false≢true (sym q ∙ s.opened))
@@ -34,7 +34,7 @@ pairing_closed a b (first_done s) p q = absurd (false≢true (sym p ∙ s.opened
 pairing_closed a b (second_done s) p q = absurd (false≢true (sym q ∙ s.opened))
 
 -- the log disk that stands is not out
-pub standing_not_out : (i : Disks) (x : ℕ) (said : Said) (k : ℕ) → LogOk i x said k → out_disk i.power said.meta ≢ Some x
+pub standing_not_out : (i : Disks) (x : ℕ) (said : LogState) (k : ℕ) → LogOk i x said k → out_disk i.power said.meta ≢ Some x
 standing_not_out i x said k ok = split (named_out said.meta.out) refl
   where
     split : (o : Option ℕ) → named_out said.meta.out ≡ o → or_else o (first_absent i.power said.meta.setup.geometry.disks) ≡ Some x → ⊥
@@ -44,7 +44,7 @@ standing_not_out i x said k ok = split (named_out said.meta.out) refl
         false≢true (sym absent ∙ ok.stands.says.present)
 
 -- two log disks that are not out and are closed say the same
-pub pair_same : (i : Disks) (x y : ℕ) (a b : Said) (k : ℕ) → LogOk i x a k → Says i y b → y < 2 → y ≢ x
+pub pair_same : (i : Disks) (x y : ℕ) (a b : LogState) (k : ℕ) → LogOk i x a k → Says i y b → y < 2 → y ≢ x
     → out_disk i.power a.meta ≢ Some y → a.opened ≡ false → b.opened ≡ false → b ≡ a
 pair_same i x y a b k ok says low apart not p q = elim (cases_eq x 0) [
   | inl first ↦
@@ -64,7 +64,7 @@ pair_same i x y a b k ok says low apart not p q = elim (cases_eq x 0) [
 ]
 
 -- with closed gates, and with a disk lost, the same is said
-said_of_lost : (i : Disks) (e x y k : ℕ) (said other : Said) → LogOk i x said k → AreGatesClosed i said → MayLose i e → Stands (lose e i) y other → other ≡ said
+said_of_lost : (i : Disks) (e x y k : ℕ) (said other : LogState) → LogOk i x said k → AreSidesClosed i said → MayLose i e → Stands (lose e i) y other → other ≡ said
 said_of_lost i e x y k said other ok gates may t =
     let says = says_of_lost i e y other t.says in
     let apart = says_not_lost i e y other t.says in
@@ -77,7 +77,7 @@ said_of_lost i e x y k said other ok gates may t =
           (gates.closed y other t.log_disk says (λ n. not_out (out_named i.power said.meta y n)))
     ]
 
-spare_of_lost : (i : Disks) (e x y : ℕ) (said other : Said) → Stands i x said → Stands (lose e i) y other → other ≡ said → (e ≢ x) ⊎ Says i (other_log x) said
+spare_of_lost : (i : Disks) (e x y : ℕ) (said other : LogState) → Stands i x said → Stands (lose e i) y other → other ≡ said → (e ≢ x) ⊎ Says i (other_log x) said
 spare_of_lost i e x y said other s t same = elim (cases_eq e x) [
   | inr not ↦ inl not
   | inl is ↦
@@ -89,7 +89,7 @@ spare_of_lost i e x y said other s t same = elim (cases_eq e x) [
       inr (subst (λ (z : ℕ). Says i z said) at (subst (Says i y) same says))
 ]
 
-free_lost : (i : Disks) (e d p : ℕ) (said : Said)
+free_lost : (i : Disks) (e d p : ℕ) (said : LogState)
     → ((r q : ℕ) → r < said.meta.setup.geometry.rows → (view_of (lose e i) said).dirty r q ≡ (view_of i said).dirty r q)
     → IsFree (view_of i said) d p → IsFree (view_of (lose e i) said) d p
 free_lost i e d p said same (dirty_cell r l low bit at) = dirty_cell r l low (same r d l ∙ bit) at
@@ -99,11 +99,11 @@ free_lost i e d p said same (row u r is past lr at) = row u r is past lr at
 free_lost i e d p said same (stripe u t is past lt at) = stripe u t is past lt at
 free_lost i e d p said same (map_block u t is lt past at) = map_block u t is lt past at
 
-free_sound_lost : (slots : ℕ) (i : Disks) (d p : ℕ) (b : Block) (h : History) (lo e x : ℕ) (said : Said) → Stands i x said → AreGatesClosed i said
-    → IsFree (view_of i said) d p → MayLose i e → IsSound slots i h lo → IsSound slots (lose e i) h lo → IsSound slots (overwrite (lose e i) d p b) h lo
+free_sound_lost : (slots : ℕ) (i : Disks) (d p : ℕ) (b : Block) (h : History) (lo e x : ℕ) (said : LogState) → Stands i x said → AreSidesClosed i said
+    → IsFree (view_of i said) d p → MayLose i e → IsSoundFrom slots i h lo → IsSoundFrom slots (lose e i) h lo → IsSoundFrom slots (overwrite (lose e i) d p b) h lo
 free_sound_lost slots i d p b h lo e x said s gates is may was lost =
     let one = Stands-same i was.sound.disk x was.sound.said said was.sound.log.stands s in
-    let ok : LogOk i x said was.k = subst (λ (y : ℕ). LogOk i y said was.k) one.0 (subst (λ (z : Said). LogOk i was.sound.disk z was.k) one.1 was.sound.log) in
+    let ok : LogOk i x said was.k = subst (λ (y : ℕ). LogOk i y said was.k) one.0 (subst (λ (z : LogState). LogOk i was.sound.disk z was.k) one.1 was.sound.log) in
     let t = lost.sound.log.stands in
     let same = said_of_lost i e x lost.sound.disk was.k said lost.sound.said ok gates may t in
     let spare = spare_of_lost i e x lost.sound.disk said lost.sound.said s t same in
@@ -113,14 +113,14 @@ free_sound_lost slots i d p b h lo e x said s gates is may was lost =
       k = lost.k;
       low = lost.low;
       high = lost.high;
-      sound = Sound-free slots (lose e i) d p b h lost.k lost.sound.disk said (subst (Stands (lose e i) lost.sound.disk) same t) free_now lost.sound;
+      sound = IsSoundAt-free slots (lose e i) d p b h lost.k lost.sound.disk said (subst (Stands (lose e i) lost.sound.disk) same t) free_now lost.sound;
     }
 
 -- what a write of a place that is not seen keeps
 record KeepsUnseen (slots : ℕ) (i : Disks) (d p : ℕ) (b : Block) (h : History) (lo : ℕ) : Type 0 where
   log : KeepsLog i (written i d p b)
-  sound : IsSound slots i h lo → IsSound slots (overwrite i d p b) h lo
-  lost : (e : ℕ) → MayLose i e → IsSound slots i h lo → IsSound slots (lose e i) h lo → IsSound slots (lose e (overwrite i d p b)) h lo
+  sound : IsSoundFrom slots i h lo → IsSoundFrom slots (overwrite i d p b) h lo
+  lost : (e : ℕ) → MayLose i e → IsSoundFrom slots i h lo → IsSoundFrom slots (lose e i) h lo → IsSoundFrom slots (lose e (overwrite i d p b)) h lo
 
 keeps_unseen : (slots : ℕ) (i : Disks) (d p : ℕ) (b : Block) (h : History) (lo : ℕ) → IsUnseen i d p → KeepsUnseen slots i d p b h lo
 keeps_unseen slots i d p b h lo (neutral is) =
@@ -132,7 +132,7 @@ keeps_unseen slots i d p b h lo (neutral is) =
     }
 keeps_unseen slots i d p b h lo (free x said stands gates is) = record {
   log = free_log i d p b (free_past (view_of i said) d p is);
-  sound = λ s. record { k = s.k; low = s.low; high = s.high; sound = Sound-free slots i d p b h s.k x said stands is s.sound };
+  sound = λ s. record { k = s.k; low = s.low; high = s.high; sound = IsSoundAt-free slots i d p b h s.k x said stands is s.sound };
   lost = λ e may was s. free_sound_lost slots i d p b h lo e x said stands gates is may was s;
 }
 
@@ -145,10 +145,10 @@ unseen_write_holds slots s h lo down d p b unseen held =
     let keeps : (j : Disks) → IsImage (step (Write d p b true) s) j → KeepsUnseen slots (before j) d p (j.block d p) h lo =
     λ j e. keeps_unseen slots (before j) d p (j.block d p) h lo (unseen (before j) (image j e)) in
     record {
-      whole = λ j e. subst (λ (k : Disks). IsSound slots k h lo) (is j) ((keeps j e).sound (held.whole (before j) (image j e)));
+      whole = λ j e. subst (λ (k : Disks). IsSoundFrom slots k h lo) (is j) ((keeps j e).sound (held.whole (before j) (image j e)));
       lost = λ j f e may.
           let spare = may_lose_back (before j) (written (before j) d p (j.block d p)) f ((keeps j e).log) (subst (λ (k : Disks). MayLose k f) (sym (is j)) may) in
-          subst (λ (k : Disks). IsSound slots (lose f k) h lo) (is j)
+          subst (λ (k : Disks). IsSoundFrom slots (lose f k) h lo) (is j)
           ((keeps j e).lost f spare (held.whole (before j) (image j e)) (held.lost (before j) f (image j e) spare));
       weak = λ j w e weak. held.weak (before j) w (image j e)
           (weak_back (before j) (written (before j) d p (j.block d p)) ((keeps j e).log) w (subst (λ (k : Disks). IsWeak k w) (sym (is j)) weak));

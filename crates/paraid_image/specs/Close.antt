@@ -2,23 +2,23 @@
 use Rattle.std.specs.Prelude.{◌≡◌, ◌≢◌, ℕ, ◌<◌, ◌⊎◌, true, false, [], Some}
 use Rattle.paraid_rack.specs.Disks.{Disks}
 use Rattle.paraid_image.specs.Out.{out_disk}
-use Rattle.paraid_image.specs.Sides.{Said, Says, Spells, stored}
+use Rattle.paraid_image.specs.Sides.{LogState, Says, Spells, stored_block}
 use Rattle.paraid_image.specs.Standing.{Stands, contents, other_log}
 
 -- what a log disk says once its gate is closed over the meta of its batch
-abbrev pub shut_of : Said → Said
+abbrev pub shut_of : LogState → LogState
 shut_of said = record { opened = false; meta = said.meta; batch = [] }
 
 -- Log disk `x` has its gate open, its meta is that of its batch, and the batch has been laid in
 -- place. What stands is this, or closed over that meta, and so is what the other log disk says if
 -- it is not out.
-pub record IsLaidBelow (i : Disks) (x : ℕ) (said : Said) : Type 0 where
+pub record IsLaidBelow (i : Disks) (x : ℕ) (said : LogState) : Type 0 where
   pub log_disk : x < 2
   pub says : Says i x said
   pub opened : said.opened ≡ true
-  pub meta : Spells (stored i x 1) said.meta
+  pub meta : Spells (stored_block i x 1) said.meta
   pub laid : contents i said.batch ≡ contents i []
   pub in_array : out_disk i.power said.meta ≢ Some x
-  pub stands : (z : ℕ) (o : Said) → Stands i z o → (o ≡ said) ⊎ (o ≡ shut_of said)
-  pub other : (o : Said) → Says i (other_log x) o → out_disk i.power said.meta ≢ Some (other_log x)
+  pub stands : (z : ℕ) (o : LogState) → Stands i z o → (o ≡ said) ⊎ (o ≡ shut_of said)
+  pub other : (o : LogState) → Says i (other_log x) o → out_disk i.power said.meta ≢ Some (other_log x)
       → (o ≡ said) ⊎ (o ≡ shut_of said)

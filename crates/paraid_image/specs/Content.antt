@@ -6,7 +6,7 @@ use Rattle.paraid_rack.specs.declared.call.Power.{Power}
 use Rattle.paraid_rack.specs.Disks.{Disks}
 use Rattle.paraid_record.specs.declared.meta.Meta.{Meta}
 use Rattle.paraid_image.specs.Out.{out_disk}
-use Rattle.paraid_image.specs.Sides.{Said}
+use Rattle.paraid_image.specs.Sides.{LogState}
 use Rattle.paraid_image.specs.Spot.{View, map_bit, map_disk}
 use Rattle.paraid_image.specs.Standing.{Contents, contents}
 use Rattle.paraid_image.specs.Value.{value}
@@ -21,7 +21,7 @@ view_by m power block = record {
 }
 
 -- the view of an image whose standing log disk says this
-abbrev pub view_of : Disks → Said → View
+abbrev pub view_of : Disks → LogState → View
 view_of i said = view_by said.meta i.power (contents i said.batch)
 
 -- block `b` of what is stood for

@@ -9,7 +9,7 @@ use Rattle.paraid_rack.specs.Disks.{Disks}
 use Rattle.paraid_image.specs.Content.{view_of}
 use Rattle.paraid_image.specs.Neutral.{IsNeutral}
 use Rattle.paraid_image.specs.Out.{named_out}
-use Rattle.paraid_image.specs.Sides.{Said, Says}
+use Rattle.paraid_image.specs.Sides.{LogState, Says}
 use Rattle.paraid_image.specs.Sound.{stripes_on}
 use Rattle.paraid_image.specs.Spot.{View}
 use Rattle.paraid_image.specs.Standing.{Stands}
@@ -38,12 +38,12 @@ pub data IsFree (v : View) (d p : ℕ) : Type 0 where
       → rebuilt ≤ v.meta.setup.geometry.rows + stripes_on v d + j → p ≡ 100 + j → IsFree v d p
 
 -- the gates of the log disks that are not out are closed
-pub record AreGatesClosed (i : Disks) (said : Said) : Type 0 where
-  pub closed : (y : ℕ) (other : Said) → y < 2 → Says i y other → named_out said.meta.out ≢ Some y
+pub record AreSidesClosed (i : Disks) (said : LogState) : Type 0 where
+  pub closed : (y : ℕ) (other : LogState) → y < 2 → Says i y other → named_out said.meta.out ≢ Some y
       → other.opened ≡ false
 
 -- place `p` of disk `d` is not seen: it is neutral, or it is free while the gates are closed
 pub data IsUnseen (i : Disks) (d p : ℕ) : Type 0 where
   neutral : IsNeutral i d p → IsUnseen i d p
-  free : (x : ℕ) (said : Said) → Stands i x said → AreGatesClosed i said → IsFree (view_of i said) d p
+  free : (x : ℕ) (said : LogState) → Stands i x said → AreSidesClosed i said → IsFree (view_of i said) d p
       → IsUnseen i d p

@@ -8,13 +8,13 @@ pub mod Sound
 pub mod Rest
 pub mod HeldAt
 pub mod Looked
-pub mod Entry
-pub mod Holds
+pub mod RunStart
+pub mod FirstWrites
 pub mod Formatted
 pub mod Neutral
 pub mod Free
-pub mod Loss
-pub mod Turns
+pub mod LostDisk
+pub mod Parking
 pub mod Gate
 pub mod Open
 pub mod Close

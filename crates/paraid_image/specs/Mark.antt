@@ -1,9 +1,13 @@
--- A meta by which a lost disk is marked.
+-- The metas by which a lost disk is marked.
 use Rattle.std.specs.Prelude.{ℕ, true}
 use Rattle.paraid_base.specs.declared.state.Out.TheVariants.{Gone}
 use Rattle.paraid_record.specs.declared.meta.Meta.{Meta}
 use Rattle.paraid_image.specs.Power.{phase_beside}
 
 -- with epoch `e` disk `d` is gone; there is no shift down any more, and nothing is filled
-abbrev pub marked : Meta → ℕ → ℕ → Meta
-marked m d e = record m { epoch = e; phase = phase_beside true m.phase; fill = 0; out = Gone d }
+abbrev pub marked_gone : Meta → ℕ → ℕ → Meta
+marked_gone m d e = record m { epoch = e; phase = phase_beside true m.phase; fill = 0; out = Gone d }
+
+-- disk `d` has gone out; a disk that is lost ends a shift down
+abbrev pub meta_after_loss : Meta → ℕ → Meta
+meta_after_loss m d = record m { phase = phase_beside true m.phase; fill = 0; out = Gone d }

@@ -3,7 +3,7 @@ use Rattle.std.specs.Prelude.{◌≡◌, ◌≢◌, ℕ, ◌+◌, ◌<◌, ◌�
 use Rattle.paraid_base.specs.declared.block.Block.{Block}
 use Rattle.paraid_rack.specs.Disks.{Disks, with_at}
 use Rattle.paraid_image.specs.Out.{named_out}
-use Rattle.paraid_image.specs.Sides.{Batch, Said, Says, has_place, is_open, stored}
+use Rattle.paraid_image.specs.Sides.{Batch, LogState, Says, has_place, is_open, stored_block}
 use Rattle.paraid_image.specs.Standing.{Stands, other_log}
 
 -- the disks with other bytes in one place
@@ -11,9 +11,9 @@ abbrev pub overwrite : Disks → ℕ → ℕ → Block → Disks
 overwrite i d p b = record i { block = with_at i.block d (with_at (i.block d) p b) }
 
 -- whether the batch has a target there
-abbrev pub names : Batch → ℕ → ℕ → Bool
-names [] d p = false
-names (w ∷ batch) d p = (w.0.disk == d && w.0.place == p) || names batch d p
+abbrev pub names_place : Batch → ℕ → ℕ → Bool
+names_place [] d p = false
+names_place (w ∷ batch) d p = (w.0.disk == d && w.0.place == p) || names_place batch d p
 
 -- place `p` of disk `d` is not looked at, whatever it holds
 pub data IsNeutral (i : Disks) (d p : ℕ) : Type 0 where
@@ -22,14 +22,14 @@ pub data IsNeutral (i : Disks) (d p : ℕ) : Type 0 where
   -- the log of a disk that is no log disk
   no_log : 2 ≤ d → p < 100 → IsNeutral i d p
   -- the places of the batch under a closed gate
-  shut : is_open (stored i d 0) ≡ false → 2 ≤ p → p < 100 → IsNeutral i d p
+  shut : is_open (stored_block i d 0) ≡ false → 2 ≤ p → p < 100 → IsNeutral i d p
   -- the meta beside that of the batch under an open gate
-  settled_meta : is_open (stored i d 0) ≡ true → p ≡ 1 → IsNeutral i d p
+  meta_under_open_gate : is_open (stored_block i d 0) ≡ true → p ≡ 1 → IsNeutral i d p
   -- a place of the batch that has no target
-  unused : (said : Said) → Says i d said → said.opened ≡ true → 4 + length said.batch ≤ p → p < 100
+  unused : (said : LogState) → Says i d said → said.opened ≡ true → 4 + length said.batch ≤ p → p < 100
       → IsNeutral i d p
   -- a target of the standing batch, which the other log disk has too if it is not out
-  target : (x : ℕ) (said : Said) → Stands i x said → names said.batch d p ≡ true
-      → ((other : Said) → Says i (other_log x) other → named_out said.meta.out ≢ Some (other_log x)
-      → names other.batch d p ≡ true)
+  target : (x : ℕ) (said : LogState) → Stands i x said → names_place said.batch d p ≡ true
+      → ((other : LogState) → Says i (other_log x) other → named_out said.meta.out ≢ Some (other_log x)
+      → names_place other.batch d p ≡ true)
       → IsNeutral i d p

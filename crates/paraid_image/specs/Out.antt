@@ -1,23 +1,12 @@
 -- Which disk of an image is out, and which one it can not lose a second disk beside.
-use Rattle.std.specs.Prelude.{◌≡◌, ◌≢◌, ℕ, ◌<◌, ◌⊎◌, ◌==◌, Bool, false, Option, Some, None, if◌then◌else◌}
+use Rattle.std.specs.Prelude.{◌≡◌, ◌≢◌, ℕ, ◌<◌, ◌⊎◌, false, Option, Some, None, if◌then◌else◌}
 use Rattle.std.proofs.Common.{zero, suc}
-use Rattle.paraid_base.specs.declared.state.Out.{Out}
-use Rattle.paraid_base.specs.declared.state.Out.TheVariants.{No, Gone, Fresh}
+pub use Rattle.paraid_base.specs.States.{is_out, named_out}
 use Rattle.paraid_rack.specs.declared.call.Power.{Power}
 use Rattle.paraid_rack.specs.Disks.{Disks, is_present}
 use Rattle.paraid_record.specs.declared.meta.Meta.{Meta}
-use Rattle.paraid_image.specs.Sides.{Said, Says}
+use Rattle.paraid_image.specs.Sides.{LogState, Says}
 use Rattle.paraid_image.specs.Standing.{Stands, other_log}
-
--- the disk that a meta names out
-abbrev pub named_out : Out → Option ℕ
-named_out No = None
-named_out (Gone disk) = Some disk
-named_out (Fresh disk rebuilt) = Some disk
-
-abbrev pub is_out : Option ℕ → ℕ → Bool
-is_out None d = false
-is_out (Some out) d = d == out
 
 -- the first, or where there is none the second
 abbrev pub or_else : Option ℕ → Option ℕ → Option ℕ
@@ -50,6 +39,6 @@ pub record IsDouble (power : ℕ → Power) (m : Meta) : Type 0 where
 -- disk names out. The latter is so only while the commit that ends a rebuild stands on one log
 -- disk and not yet on the other.
 pub data IsWeak (i : Disks) (w : ℕ) : Type 0 where
-  out : (x : ℕ) (said : Said) → Stands i x said → out_disk i.power said.meta ≡ Some w → IsWeak i w
-  named : (x : ℕ) (said other : Said) → Stands i x said → out_disk i.power said.meta ≡ None
+  out : (x : ℕ) (said : LogState) → Stands i x said → out_disk i.power said.meta ≡ Some w → IsWeak i w
+  named : (x : ℕ) (said other : LogState) → Stands i x said → out_disk i.power said.meta ≡ None
       → Says i (other_log x) other → named_out other.meta.out ≡ Some w → IsWeak i w

@@ -3,7 +3,7 @@ use Rattle.std.specs.Prelude.{ℕ, ◌==◌, ◌||◌, nat_lt, Bool, List, [], O
 use Rattle.paraid_base.specs.declared.state.Out.{Out}
 use Rattle.paraid_base.specs.declared.state.Out.TheVariants.{No, Gone, Fresh}
 use Rattle.paraid_base.specs.declared.state.Phase.{Phase}
-use Rattle.paraid_base.specs.declared.state.Phase.TheVariants.{Steady, Down, Up}
+pub use Rattle.paraid_base.specs.States.{phase_beside}
 use Rattle.paraid_rack.specs.declared.call.Power.{Power}
 use Rattle.paraid_rack.specs.declared.call.Power.TheVariants.{Spinning, Parked}
 use Rattle.paraid_rack.specs.Disks.{Disks, is_present}
@@ -11,10 +11,10 @@ use Rattle.paraid_record.specs.declared.meta.Meta.{Meta}
 use Rattle.paraid_record.specs.Range.{has_out}
 use Rattle.paraid_image.specs.Content.{view_of}
 use Rattle.paraid_image.specs.Out.{first_absent}
-use Rattle.paraid_image.specs.Sides.{Said}
+use Rattle.paraid_image.specs.Sides.{LogState}
 use Rattle.paraid_image.specs.Spot.{rising_to}
 
-pub record State : Type 0 where
+pub record PowerState : Type 0 where
   pub gear : ℕ
   pub phase : Phase
   -- by row and disk
@@ -43,14 +43,8 @@ out_after (Fresh d rebuilt) power lost = if is_present (power d) then Fresh d re
 abbrev pub out_state : (ℕ → Power) → Meta → Out
 out_state power m = out_after m.out power (first_absent power m.setup.geometry.disks)
 
--- with a disk out there is no shift down
-abbrev pub phase_beside : Bool → Phase → Phase
-phase_beside has_out Steady = Steady
-phase_beside has_out (Down to) = if has_out then Steady else Down to
-phase_beside has_out (Up to) = Up to
-
 -- the state with which events begin, on disks with these powers under this meta
-unfoldable pub state_by : (ℕ → Power) → Meta → (ℕ → ℕ → Bool) → State
+unfoldable pub state_by : (ℕ → Power) → Meta → (ℕ → ℕ → Bool) → PowerState
 state_by power m dirty = record {
   gear = m.gear;
   phase = phase_beside (has_out (out_state power m)) m.phase;
@@ -64,7 +58,7 @@ state_by power m dirty = record {
 }
 
 -- the state of an image whose standing log disk says this
-abbrev pub initial_state : Disks → Said → State
+abbrev pub initial_state : Disks → LogState → PowerState
 initial_state i said = state_by i.power said.meta (view_of i said).dirty
 
 -- below the gear, and in a shift up below the new gear, disks spin; the others are parked
@@ -77,5 +71,5 @@ power_beside (Gone out) d power = if d == out then None else Some power
 power_beside (Fresh out rebuilt) d power = if d == out then Some Spinning else Some power
 
 -- how disk `d` is powered in a state between two events; of a disk that is gone nothing is said
-abbrev pub power_of : State → ℕ → Option Power
+abbrev pub power_of : PowerState → ℕ → Option Power
 power_of state d = power_beside state.out d (power_by_gear state.gear state.phase d)

@@ -3,25 +3,25 @@ use Rattle.std.specs.Prelude.{◌≡◌, ◌≢◌, ℕ, ◌<◌, false, [], Som
 use Rattle.paraid_rack.specs.Disks.{Disks, IsPresent}
 use Rattle.paraid_record.specs.declared.meta.Meta.{Meta}
 use Rattle.paraid_image.specs.Out.{named_out}
-use Rattle.paraid_image.specs.Sides.{Said, is_open, stored}
+use Rattle.paraid_image.specs.Sides.{LogState, is_open, stored_block}
 use Rattle.paraid_image.specs.Sound.{LogOk}
 
 -- what a log disk says by a gate that is closed over this meta
-abbrev pub closed_over : Meta → Said
+abbrev pub closed_over : Meta → LogState
 closed_over m = record { opened = false; meta = m; batch = [] }
 
 -- no block of a disk that is there is loose
-abbrev pub IsDrained : Disks → Type 0
-IsDrained s = (d p : ℕ) → IsPresent s d → s.loose d p ≡ false
+abbrev pub AreSynced : Disks → Type 0
+AreSynced s = (d p : ℕ) → IsPresent s d → s.loose d p ≡ false
 
 -- the gates of the log disks that are there and are not named out are closed
-abbrev pub AreShut : Disks → Meta → Type 0
-AreShut s m = (x : ℕ) → x < 2 → IsPresent s x → named_out m.out ≢ Some x
-    → is_open (stored s x 0) ≡ false
+abbrev pub AreLogGatesClosed : Disks → Meta → Type 0
+AreLogGatesClosed s m = (x : ℕ) → x < 2 → IsPresent s x → named_out m.out ≢ Some x
+    → is_open (stored_block s x 0) ≡ false
 
 -- Between two commits: nothing is loose, this meta stands, and the gates are closed.
 pub record IsAtRest (s : Disks) (m : Meta) : Type 0 where
-  pub dry : IsDrained s
+  pub synced : AreSynced s
   pub disk : ℕ
   pub log : LogOk s disk (closed_over m) m.writes
-  pub shut : AreShut s m
+  pub shut : AreLogGatesClosed s m

@@ -6,12 +6,12 @@ use Rattle.paraid_base.specs.declared.event.Event.{Event}
 use Rattle.paraid_base.specs.declared.event.Event.TheVariants.{Write}
 use Rattle.paraid_base.specs.History.{History}
 use Rattle.paraid_base.specs.Pairs.{pairs_of}
-use Rattle.paraid_image.specs.Power.{State}
+use Rattle.paraid_image.specs.Power.{PowerState}
 
 -- the write that an event adds, if it was accepted
-abbrev pub written : Event → Answer → History
-written (Write pairs) (Wrote number) = pairs_of pairs ∷ []
-written event answer = []
+abbrev pub accepted_write : Event → Answer → History
+accepted_write (Write pairs) (Wrote number) = pairs_of pairs ∷ []
+accepted_write event answer = []
 
 -- the greatest number that a flush among these events answered, or this one
 abbrev pub with_flush : ℕ → Answer → ℕ
@@ -19,7 +19,7 @@ with_flush low (Flushed number) = if nat_lt low number then number else low
 with_flush low answer = low
 
 -- the state and one that an image shows have the same gear, phase, fill mark, out disk and spins
-pub record IsShown (state shown : State) : Type 0 where
+pub record IsShown (state shown : PowerState) : Type 0 where
   pub gear : shown.gear ≡ state.gear
   pub phase : shown.phase ≡ state.phase
   pub fill : shown.fill ≡ state.fill
@@ -27,7 +27,7 @@ pub record IsShown (state shown : State) : Type 0 where
   pub spins : shown.spins ≡ state.spins
 
 -- a state with which events begin: the one that is shown, with its ticks, and no sample yet
-pub record IsBeginning (state shown : State) : Type 0 where
+pub record IsBeginning (state shown : PowerState) : Type 0 where
   pub shows : IsShown state shown
   pub ticks : state.ticks ≡ shown.ticks
   pub samples : state.samples ≡ []

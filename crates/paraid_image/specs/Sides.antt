@@ -6,7 +6,7 @@
 use Rattle.std.specs.Prelude.{◌≡◌, ◌≢◌, ℕ, ◌==◌, ◌&&◌, nat_lt, Bool, true, false, not, List, [], ◌∷◌, slice_index, if◌then◌else◌}
 use Rattle.std.proofs.Common.{suc}
 use Rattle.paraid_base.specs.declared.block.Block.{Block}
-use Rattle.paraid_base.specs.Xor.{zeroed}
+use Rattle.paraid_base.specs.Xor.{zero_block}
 use Rattle.paraid_rack.specs.Disks.{Disks, IsPresent, is_present}
 use Rattle.paraid_record.specs.declared.meta.Meta.{Meta}
 use Rattle.paraid_record.specs.declared.targets.Target.{Target}
@@ -19,8 +19,8 @@ abbrev pub has_place : Disks → ℕ → ℕ → Bool
 has_place i d p = is_present (i.power d) && nat_lt p (i.size d)
 
 -- the block at a place, zeros where there is no such place
-unfoldable pub stored : Disks → ℕ → ℕ → Block
-stored i d p = if has_place i d p then i.block d p else zeroed
+unfoldable pub stored_block : Disks → ℕ → ℕ → Block
+stored_block i d p = if has_place i d p then i.block d p else zero_block
 
 -- a gate is closed where its first byte is 0
 unfoldable pub is_open : Block → Bool
@@ -40,13 +40,13 @@ targets [] = []
 targets (w ∷ batch) = w.0 ∷ targets batch
 
 -- the batch's blocks stand one after the other from place `p` on
-abbrev pub AreLogged : (ℕ → Block) → ℕ → Batch → Type 0
-AreLogged log p [] = Unit {0}
-AreLogged log p (w ∷ batch) = (log p ≡ w.1) × AreLogged log (suc p) batch
+abbrev pub AreBlocksLogged : (ℕ → Block) → ℕ → Batch → Type 0
+AreBlocksLogged log p [] = Unit {0}
+AreBlocksLogged log p (w ∷ batch) = (log p ≡ w.1) × AreBlocksLogged log (suc p) batch
 
 -- what a log disk says: whether its gate is open, the meta, and the batch, which is empty under
 -- a closed gate
-pub record Said : Type 0 where
+pub record LogState : Type 0 where
   pub opened : Bool
   pub meta : Meta
   pub batch : Batch
@@ -61,17 +61,17 @@ pub record SaysOpen (log : ℕ → Block) (m : Meta) (batch : Batch) : Type 0 wh
   pub meta : Spells (log 2) m
   pub in_range : AreTargets m.setup.geometry (targets batch)
   pub list : (log 3).bytes ≡ targets_bytes (targets batch)
-  pub blocks : AreLogged log 4 batch
+  pub blocks : AreBlocksLogged log 4 batch
 
 abbrev pub SaysBy : Bool → (ℕ → Block) → Meta → Batch → Type 0
 SaysBy false log m batch = SaysClosed log m batch
 SaysBy true log m batch = SaysOpen log m batch
 
 -- the side of log disk `x` is well formed, and says this
-pub record Says (i : Disks) (x : ℕ) (said : Said) : Type 0 where
+pub record Says (i : Disks) (x : ℕ) (said : LogState) : Type 0 where
   pub present : IsPresent i x
-  pub gate : is_open (stored i x 0) ≡ said.opened
-  pub log : SaysBy said.opened (stored i x) said.meta said.batch
+  pub gate : is_open (stored_block i x 0) ≡ said.opened
+  pub log : SaysBy said.opened (stored_block i x) said.meta said.batch
 
 -- the side of a log disk in short: no disk, a closed gate over zeros, a side that is not well
 -- formed, or what a well-formed one says
@@ -79,17 +79,17 @@ pub data Side : Type 0 where
   absent : Side
   blank : Side
   bad : Side
-  formed : Said → Side
+  formed : LogState → Side
 
 -- the side is not well formed, and is not blank
 pub record IsBad (i : Disks) (x : ℕ) : Type 0 where
   pub present : IsPresent i x
-  pub silent : (said : Said) → Says i x said → ⊥
-  pub written : is_open (stored i x 0) ≡ false → stored i x 1 ≢ zeroed
+  pub silent : (said : LogState) → Says i x said → ⊥
+  pub written : is_open (stored_block i x 0) ≡ false → stored_block i x 1 ≢ zero_block
 
 -- this is the side of log disk `x`
 abbrev pub IsSide : Disks → ℕ → Side → Type 0
 IsSide i x absent = is_present (i.power x) ≡ false
-IsSide i x blank = IsPresent i x × (is_open (stored i x 0) ≡ false) × (stored i x 1 ≡ zeroed)
+IsSide i x blank = IsPresent i x × (is_open (stored_block i x 0) ≡ false) × (stored_block i x 1 ≡ zero_block)
 IsSide i x bad = IsBad i x
 IsSide i x (formed said) = Says i x said

@@ -8,7 +8,7 @@ use Rattle.paraid_base.specs.Regions.{disk_size, hard_place_of, map_count}
 use Rattle.paraid_base.specs.Skips.{skip}
 use Rattle.paraid_base.specs.Soft.{soft_disk, soft_parity_disk, soft_stripe, stripe_count}
 use Rattle.paraid_base.specs.Sums.{xor_upto}
-use Rattle.paraid_base.specs.Xor.{zeroed}
+use Rattle.paraid_base.specs.Xor.{zero_block}
 use Rattle.paraid_layout.specs.Pads.{IsPad}
 use Rattle.paraid_rack.specs.declared.call.Power.{Power}
 use Rattle.paraid_rack.specs.declared.call.Power.TheVariants.{Spinning, Parked}
@@ -18,13 +18,13 @@ use Rattle.paraid_record.specs.declared.targets.Target.{Target}
 use Rattle.paraid_record.specs.Codes.{phase_to}
 use Rattle.paraid_image.specs.Content.{blocks_of, view_of}
 use Rattle.paraid_image.specs.Out.{IsMissing, named_out, out_disk}
-use Rattle.paraid_image.specs.Sides.{Said, Says, is_open, stored, targets}
+use Rattle.paraid_image.specs.Sides.{LogState, Says, is_open, stored_block, targets}
 use Rattle.paraid_image.specs.Spot.{View}
 use Rattle.paraid_image.specs.Standing.{Stands, other_log}
 use Rattle.paraid_image.specs.Value.{stripe, stripe_rest, value}
 
 -- `a` is an open log whose batch is on its way, and `b` a closed one of the commit before it
-pub record IsAhead (a b : Said) : Type 0 where
+pub record IsAhead (a b : LogState) : Type 0 where
   pub opened : a.opened ≡ true
   pub closed : b.opened ≡ false
   pub epoch : a.meta.epoch ≡ b.meta.epoch + 1
@@ -32,18 +32,18 @@ pub record IsAhead (a b : Said) : Type 0 where
   pub out : (d e : ℕ) → named_out a.meta.out ≡ Some d → named_out b.meta.out ≡ Some e → d ≡ e
 
 -- `a` is an open log whose batch has been laid in place, and `b` is closed over its meta
-pub record IsDone (a b : Said) : Type 0 where
+pub record IsBatchInPlace (a b : LogState) : Type 0 where
   pub opened : a.opened ≡ true
   pub closed : b.opened ≡ false
   pub meta : a.meta ≡ b.meta
 
 -- how what two log disks say fits together: they say the same, or one is a step ahead
-pub data Pairing (a b : Said) : Type 0 where
+pub data Pairing (a b : LogState) : Type 0 where
   alike : a ≡ b → Pairing a b
   first_ahead : IsAhead a b → Pairing a b
   second_ahead : IsAhead b a → Pairing a b
-  first_done : IsDone a b → Pairing a b
-  second_done : IsDone b a → Pairing a b
+  first_done : IsBatchInPlace a b → Pairing a b
+  second_done : IsBatchInPlace b a → Pairing a b
 
 -- disk `d` is there, and so many of its units are rebuilt
 pub record IsFresh (power : ℕ → Power) (m : Meta) (d rebuilt : ℕ) : Type 0 where
@@ -51,7 +51,7 @@ pub record IsFresh (power : ℕ → Power) (m : Meta) (d rebuilt : ℕ) : Type 0
   pub present : is_present (power d) ≡ true
 
 -- What is asked of the log: the log disk `x` stands, and says that `k` writes are held.
-pub record LogOk (i : Disks) (x : ℕ) (said : Said) (k : ℕ) : Type 0 where
+pub record LogOk (i : Disks) (x : ℕ) (said : LogState) (k : ℕ) : Type 0 where
   pub stands : Stands i x said
   pub writes : said.meta.writes ≡ k
   -- the image is not double
@@ -59,21 +59,21 @@ pub record LogOk (i : Disks) (x : ℕ) (said : Said) (k : ℕ) : Type 0 where
   pub standing_in : named_out said.meta.out ≢ Some x
   -- a log disk that is being rebuilt says nothing of a batch
   pub fresh_shut : (d rebuilt : ℕ) → IsFresh i.power said.meta d rebuilt → d < 2
-      → is_open (stored i d 0) ≡ false
+      → is_open (stored_block i d 0) ≡ false
   pub targets_spin : (t : Target) → Contains (targets said.batch) t
       → out_disk i.power said.meta ≢ Some t.disk → i.power t.disk ≡ Spinning
   pub formed : (y : ℕ) → y < 2 → IsPresent i y → out_disk i.power said.meta ≢ Some y
-      → (other : Said) × Says i y other
-  pub paired : (a b : Said) → Says i 0 a → Says i 1 b → out_disk i.power said.meta ≢ Some 0
+      → (other : LogState) × Says i y other
+  pub paired : (a b : LogState) → Says i 0 a → Says i 1 b → out_disk i.power said.meta ≢ Some 0
       → out_disk i.power said.meta ≢ Some 1 → Pairing a b
 
 -- the values of each row sum to zero
 abbrev pub AreRowsZero : View → Type 0
-AreRowsZero v = (r : ℕ) → r < v.meta.setup.geometry.rows → xor_upto (value v r) v.meta.setup.geometry.disks ≡ zeroed
+AreRowsZero v = (r : ℕ) → r < v.meta.setup.geometry.rows → xor_upto (value v r) v.meta.setup.geometry.disks ≡ zero_block
 
 -- a stripe sums to zero as it is stored
 abbrev pub IsStripeZero : View → ℕ → ℕ → Type 0
-IsStripeZero v a s = xor_upto (stripe v.meta.setup.geometry v.block a s) a ≡ zeroed
+IsStripeZero v a s = xor_upto (stripe v.meta.setup.geometry v.block a s) a ≡ zero_block
 
 -- no block of a stripe of the region of gear `a` is on the out disk
 abbrev pub IsOffStripes : Option ℕ → ℕ → Type 0
@@ -90,7 +90,7 @@ pub record IsFilled (v : View) (a s : ℕ) : Type 0 where
       → soft_stripe v.meta.setup.geometry.disks a r d ≡ s
       → stripe v.meta.setup.geometry v.block a s (soft_disk v.meta.setup.geometry.disks a r d) ≡ value v r d
   pub pads : (at : ℕ) → at < a - 1 → IsPad v.meta.setup.geometry.disks v.meta.setup.geometry.rows a s at
-      → stripe v.meta.setup.geometry v.block a s (skip (soft_parity_disk a s) at) ≡ zeroed
+      → stripe v.meta.setup.geometry v.block a s (skip (soft_parity_disk a s) at) ≡ zero_block
   pub zero : IsStripeZero v a s
 
 -- while no disk is out, the stripes of the new gear below the fill mark are filled
@@ -160,8 +160,8 @@ pub record ContentOk (slots : ℕ) (power : ℕ → Power) (size : ℕ → ℕ) 
   pub blocks : AreBlocks v (after h k)
 
 -- An image of `slots` slots holds the first `k` writes of `h`.
-pub record Sound (slots : ℕ) (i : Disks) (h : History) (k : ℕ) : Type 0 where
+pub record IsSoundAt (slots : ℕ) (i : Disks) (h : History) (k : ℕ) : Type 0 where
   pub disk : ℕ
-  pub said : Said
+  pub said : LogState
   pub log : LogOk i disk said k
   pub content : ContentOk slots i.power i.size (view_of i said) h k

@@ -3,9 +3,8 @@ use Rattle.std.specs.Prelude.{ℕ, ◌%◌, ◌==◌, ◌&&◌, ◌||◌, nat_lt
 use Rattle.std.specs.Int.{bit_at}
 use Rattle.paraid_base.specs.declared.block.Block.{Block}
 use Rattle.paraid_base.specs.declared.geometry.Geometry.{Geometry}
-use Rattle.paraid_base.specs.declared.state.Phase.{Phase}
-use Rattle.paraid_base.specs.declared.state.Phase.TheVariants.{Steady, Down, Up}
 use Rattle.paraid_base.specs.Regions.{hard_place_of, map_place_of, soft_place_of}
+pub use Rattle.paraid_base.specs.States.{rising_to}
 use Rattle.paraid_base.specs.Soft.{soft_disk, soft_stripe}
 use Rattle.paraid_record.specs.declared.meta.Meta.{Meta}
 use Rattle.paraid_image.specs.Out.{is_out}
@@ -26,12 +25,6 @@ map_disk out = if is_out out 0 then 1 else 0
 -- the dirty bit of the cell of row `r` and disk `d`, in the map of one disk
 unfoldable pub map_bit : Geometry → (ℕ → Block) → ℕ → ℕ → Bool
 map_bit g blocks r d = bit_at (slice_index (blocks (map_place_of g r)).bytes (r % 512)) d == 1
-
--- the disks below it hold clean cells in place, though they are not below the gear
-abbrev pub rising_to : Phase → ℕ
-rising_to Steady = 0
-rising_to (Down to) = 0
-rising_to (Up to) = to
 
 -- whether the value of a cell lives on its hard place; else it lives in its soft copy
 unfoldable pub is_hard : View → ℕ → ℕ → Bool

@@ -6,14 +6,14 @@ use Rattle.paraid_rack.specs.Slots.{Slot}
 use Rattle.paraid_imgrack.specs.declared.image.Image.{Image}
 
 -- a slot that does not exist
-abbrev pub vacant : Slot
-vacant = record { power = Absent; size = 0; unsynced = false; faults = 0 }
+abbrev pub vacant_slot : Slot
+vacant_slot = record { power = Absent; size = 0; unsynced = false; faults = 0 }
 
-abbrev pub slot_of : Image → Slot
-slot_of i = record { power = i.power; size = i.size; unsynced = i.unsynced; faults = i.faults }
+abbrev pub image_slot : Image → Slot
+image_slot i = record { power = i.power; size = i.size; unsynced = i.unsynced; faults = i.faults }
 
-abbrev pub slot_at : List Image → ℕ → Slot
-slot_at images d = get_or (map slot_of images) d vacant
+abbrev pub image_slot_at : List Image → ℕ → Slot
+image_slot_at images d = get_or (map image_slot images) d vacant_slot
 
 -- a slot of a rack on which no call was made
 pub record IsLoaded (s : Slot) : Type 0 where

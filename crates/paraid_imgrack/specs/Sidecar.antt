@@ -6,11 +6,11 @@ use Rattle.paraid_rack.specs.declared.call.Power.{Power}
 use Rattle.paraid_rack.specs.declared.call.Power.TheVariants.{Spinning, Parked, Absent}
 
 -- the word for a power; a disk that has failed is absent
-abbrev pub word : Power → List ℕ
-word Spinning = codes "spinning"
-word Parked = codes "parked"
-word Absent = codes "failed"
+abbrev pub power_word : Power → List ℕ
+power_word Spinning = codes "spinning"
+power_word Parked = codes "parked"
+power_word Absent = codes "failed"
 
 -- a text without the white space at its end
-abbrev pub trimmed : List ℕ → List ℕ
-trimmed text = take (length text - suffix_len is_ascii_whitespace text) text
+abbrev pub trim_end : List ℕ → List ℕ
+trim_end text = take (length text - suffix_len is_ascii_whitespace text) text

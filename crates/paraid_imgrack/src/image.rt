@@ -27,7 +27,7 @@ pub(crate) struct Image {
 
 impl Image {
     ghost use Rattle.std.specs.Prelude.{◌≢◌, true, is_ok, IfOk};
-    ghost use Rattle.paraid_imgrack.specs.Images.{slot_of, IsLoaded, IsFailedSlot, Becomes};
+    ghost use Rattle.paraid_imgrack.specs.Images.{image_slot, IsLoaded, IsFailedSlot, Becomes};
 
     /// The disk as its files tell it.
     ///
@@ -37,7 +37,7 @@ impl Image {
         alloc: Global,
         disk: DiskNo,
     ) -> Result<Image, NoMemory>
-        ensures { IfOk result (λ image. IsLoaded (slot_of image)) }
+        ensures { IfOk result (λ image. IsLoaded (image_slot image)) }
     {
         let names = Names::new(alloc, disk)?;
         let power = names.load(files);
@@ -59,7 +59,7 @@ impl Image {
 
     /// No disk.
     fn absent(names: Names) -> Image
-        ensures { IsLoaded (slot_of result) }
+        ensures { IsLoaded (image_slot result) }
     {
         Image {
             names,
@@ -77,8 +77,8 @@ impl Image {
         place: Place,
         into: &mut Block,
     ) -> Result<(), Failed>
-        ensures { Becomes (slot_of self.old) (slot_of self.new) (slot_of self.old)
-            (slot_of self.old).unsynced (is_ok result) }
+        ensures { Becomes (image_slot self.old) (image_slot self.new) (image_slot self.old)
+            (image_slot self.old).unsynced (is_ok result) }
     {
         match read_block(&self.file, place, into) {
             Ok(()) => Ok(()),
@@ -92,9 +92,9 @@ impl Image {
         place: Place,
         block: &Block,
     ) -> Result<(), Failed>
-        requires { (slot_of self.old).power ≡ Spinning }
-        ensures { Becomes (slot_of self.old) (slot_of self.new)
-            (record (slot_of self.old) { unsynced = true }) true (is_ok result) }
+        requires { (image_slot self.old).power ≡ Spinning }
+        ensures { Becomes (image_slot self.old) (image_slot self.new)
+            (record (image_slot self.old) { unsynced = true }) true (is_ok result) }
     {
         self.unsynced = true;
         match write_block(&self.file, place, block) {
@@ -104,9 +104,9 @@ impl Image {
     }
 
     pub(crate) fn sync<F: Files<File = File>>(&mut self, files: &F) -> Result<(), Failed>
-        ensures { Becomes (slot_of self.old) (slot_of self.new)
-            (record (slot_of self.old) { unsynced = false })
-            (slot_of self.old).unsynced (is_ok result) }
+        ensures { Becomes (image_slot self.old) (image_slot self.new)
+            (record (image_slot self.old) { unsynced = false })
+            (image_slot self.old).unsynced (is_ok result) }
     {
         match sync_blocks(&self.file) {
             Ok(()) => self.unsynced = false,
@@ -116,18 +116,18 @@ impl Image {
     }
 
     pub(crate) fn park<F: Files<File = File>>(&mut self, files: &F) -> Result<(), Failed>
-        requires spinning { (slot_of self.old).power ≡ Spinning }
-        requires synced { (slot_of self.old).unsynced ≡ false }
-        ensures { Becomes (slot_of self.old) (slot_of self.new)
-            (record (slot_of self.old) { power = Parked }) false (is_ok result) }
+        requires spinning { (image_slot self.old).power ≡ Spinning }
+        requires synced { (image_slot self.old).unsynced ≡ false }
+        ensures { Becomes (image_slot self.old) (image_slot self.new)
+            (record (image_slot self.old) { power = Parked }) false (is_ok result) }
     {
         self.switch(files, Power::Parked)
     }
 
     pub(crate) fn spin_up<F: Files<File = File>>(&mut self, files: &F) -> Result<(), Failed>
-        requires { (slot_of self.old).power ≡ Parked }
-        ensures { Becomes (slot_of self.old) (slot_of self.new)
-            (record (slot_of self.old) { power = Spinning }) false (is_ok result) }
+        requires { (image_slot self.old).power ≡ Parked }
+        ensures { Becomes (image_slot self.old) (image_slot self.new)
+            (record (image_slot self.old) { power = Spinning }) false (is_ok result) }
     {
         self.switch(files, Power::Spinning)
     }
@@ -135,9 +135,9 @@ impl Image {
     /// A synced disk gets this power.
     fn switch<F: Files<File = File>>(&mut self, files: &F, power: Power) -> Result<(), Failed>
         requires present { power ≢ Absent }
-        requires synced { (slot_of self.old).unsynced ≡ false }
-        ensures { Becomes (slot_of self.old) (slot_of self.new)
-            (record (slot_of self.old) { power = power }) false (is_ok result) }
+        requires synced { (image_slot self.old).unsynced ≡ false }
+        ensures { Becomes (image_slot self.old) (image_slot self.new)
+            (record (image_slot self.old) { power = power }) false (is_ok result) }
     {
         match self.names.store(files, power) {
             Ok(()) => self.power = power,
@@ -151,9 +151,9 @@ impl Image {
         files: &F,
         size: u32,
     ) -> Result<(), Failed>
-        ensures { Becomes (slot_of self.old) (slot_of self.new)
-            (record (slot_of self.old) { power = Spinning; size = size; unsynced = false })
-            (slot_of self.old).unsynced (is_ok result) }
+        ensures { Becomes (image_slot self.old) (image_slot self.new)
+            (record (image_slot self.old) { power = Spinning; size = size; unsynced = false })
+            (image_slot self.old).unsynced (is_ok result) }
     {
         match make_image(files, &self.names, size) {
             Ok(file) => {
@@ -169,7 +169,7 @@ impl Image {
 
     /// There is no disk from now on, and one more fault.
     fn fail<F: Files<File = File>>(&mut self, files: &F) -> Failed
-        ensures { IsFailedSlot (slot_of self.old) (slot_of self.new) }
+        ensures { IsFailedSlot (image_slot self.old) (image_slot self.new) }
     {
         self.names.store_failed(files);
         self.file = None;

@@ -1,6 +1,6 @@
 //! A sidecar is replaced whole, so that a stop leaves the old text or the new one.
 ghost use Rattle.std.specs.Prelude.{◌≡◌, ◌↔◌};
-ghost use Rattle.paraid_imgrack.specs.Sidecar.{word, trimmed};
+ghost use Rattle.paraid_imgrack.specs.Sidecar.{power_word, trim_end};
 
 use paraid_base::{DiskNo, NoMemory};
 use paraid_rack::Power;
@@ -73,7 +73,7 @@ impl Names {
 
 /// The text of a sidecar, which is the power's word on a line.
 fn text(power: Power) -> &'static str
-    ensures { trimmed result.now ≡ word power }
+    ensures { trim_end result.now ≡ power_word power }
 {
     match power {
         Power::Spinning => "spinning\n",
@@ -85,8 +85,8 @@ fn text(power: Power) -> &'static str
 /// The power that a text tells, which is `Absent` where no word is known. White space at the end
 /// does not count.
 fn power_of(text: &[u8]) -> Power
-    ensures spinning { (result ≡ Power.Spinning) ↔ (trimmed text.now ≡ word Power.Spinning) }
-    ensures parked { (result ≡ Power.Parked) ↔ (trimmed text.now ≡ word Power.Parked) }
+    ensures spinning { (result ≡ Power.Spinning) ↔ (trim_end text.now ≡ power_word Power.Spinning) }
+    ensures parked { (result ≡ Power.Parked) ↔ (trim_end text.now ≡ power_word Power.Parked) }
 {
     let said = text.trim_ascii_end();
     if said == b"spinning".as_slice() {

@@ -49,12 +49,12 @@ impl<F: Files<File = File> + Drop> ImageRack<F> {
 
 impl<F: Files<File = File> + Drop> Rack for ImageRack<F> {
     ghost use Rattle.std.specs.Prelude.{None};
-    ghost use Rattle.paraid_imgrack.specs.Images.{slot_at};
+    ghost use Rattle.paraid_imgrack.specs.Images.{image_slot_at};
     ghost use Rattle.paraid_imgrack.specs.Laws.{are_slots, nothing_told};
 
     ghost slot_count = { λ rack. length rack.images.items };
 
-    ghost slot = { λ rack. slot_at rack.images.items };
+    ghost slot = { λ rack. image_slot_at rack.images.items };
 
     ghost told = { λ rack. None };
 

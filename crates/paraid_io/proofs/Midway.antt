@@ -9,7 +9,7 @@ use Rattle.paraid_io.specs.declared.line.Line.{Line}
 use Rattle.paraid_io.specs.declared.line.Line.TheVariants.{Whole, Long, End}
 use Rattle.paraid_io.specs.declared.line.LineFault.{LineFault}
 use Rattle.paraid_io.specs.Lines.{NoNewline}
-use Rattle.paraid_io.specs.Reading.{Reading, CutsOff, IsAnswer, Step, ReaderTakes, NeedsNoCall}
+use Rattle.paraid_io.specs.Reading.{Reading, CutsOff, IsAnswer, ReaderStep, ReaderTakes, NeedsNoCall}
 use Rattle.paraid_io.proofs.LineLemmas.{NoNewline-append, NoNewline-front, whole_lines-rest}
 use Rattle.paraid_base.proofs.ToldLemmas.{Gives-none, Gives-then}
 
@@ -112,7 +112,7 @@ line_answer r d n input gone new whole long big cut many held = elim (cases_lt 1
 pub step_cut : {before now : Option (List ℕ)} {old at : Reading} {d : ℕ} → Midway before now old at d → (r : Line) (n : ℕ) (new : Reading)
     → (d + n ≤ 1100 → r ≡ Whole n) → (1100 < d + n → r ≡ Long (d + n))
     → (length new.line ≡ n) × NoNewline new.line × (at.rest ≡ new.line ++ 10 ∷ new.rest)
-    → new.taken ≡ at.taken → new.ended ≡ at.ended → Step before now old new (Ok r)
+    → new.taken ≡ at.taken → new.ended ≡ at.ended → ReaderStep before now old new (Ok r)
 step_cut {before} {now} {old} {at} {d} m r n new whole long found taken ended = record {
   got = m.got;
   given = m.given;
@@ -134,7 +134,7 @@ append_nil_right (a ∷ x) y e = cc
 -- at the end what is left is the last line, or there is none
 pub step_last : {before now : Option (List ℕ)} {old at : Reading} {d : ℕ} → Midway before now old at d → (r : Line) (n : ℕ) (new : Reading)
     → (d + n ≡ 0 → r ≡ End) → (0 < d + n → d + n ≤ 1100 → r ≡ Whole n) → (1100 < d + n → r ≡ Long (d + n))
-    → NoNewline at.rest → IsTrue at.ended → n ≡ length at.rest → new ≡ record at { line = at.rest; rest = [] } → Step before now old new (Ok r)
+    → NoNewline at.rest → IsTrue at.ended → n ≡ length at.rest → new ≡ record at { line = at.rest; rest = [] } → ReaderStep before now old new (Ok r)
 step_last {before} {now} {old} {at} {d} m r n new end whole long plain ended many is = record {
   got = m.got;
   given = m.given;
@@ -168,7 +168,7 @@ step_last {before} {now} {old} {at} {d} m r n new end whole long plain ended man
 -- a fault ends it
 pub step_fault : {before now after : Option (List ℕ)} {old at : Reading} {d : ℕ} → Midway before now old at d → (fault : LineFault) (new : Reading)
     → Gives now after [] → NoNewline at.rest → new.rest ≡ at.rest → new.taken ≡ at.taken → new.ended ≡ at.ended → at.ended ≡ false → new.fault ≡ Some fault
-    → Step before after old new (Err fault)
+    → ReaderStep before after old new (Err fault)
 step_fault {before} {now} {after} {old} {at} {d} m fault new keeps plain rest taken ended unended kept = record {
   got = m.got;
   given = subst (λ p. Gives before after p) (append-nil m.got) (Gives-then before now after m.got [] m.given keeps);

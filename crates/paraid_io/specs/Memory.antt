@@ -33,8 +33,8 @@ abbrev pub faults_of : MemSink → ℕ
 faults_of s = s.plan.faults
 
 -- how many calls were made
-abbrev pub calls_of : MemSink → ℕ
-calls_of s = s.plan.calls
+abbrev pub calls_to : MemSink → ℕ
+calls_to s = s.plan.calls
 
 -- the numbers of the calls that fail
 abbrev pub fails_of : MemSink → List ℕ

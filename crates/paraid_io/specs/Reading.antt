@@ -20,8 +20,8 @@ pub record Reading : Type 0 where
   pub fault : Option LineFault
 
 -- a reader that has taken so many bytes and holds none
-abbrev pub fresh : ℕ → Reading
-fresh taken = record { rest = []; line = []; taken = taken; ended = false; fault = None }
+abbrev pub fresh_reader : ℕ → Reading
+fresh_reader taken = record { rest = []; line = []; taken = taken; ended = false; fault = None }
 
 -- The reader took these many bytes from the source, or none at its end.
 pub record ReaderTakes (before after : Option (List ℕ)) (old new : Reading) (n : ℕ) : Type 0 where
@@ -60,7 +60,7 @@ abbrev pub NeedsNoCall : Reading → Type 0
 NeedsNoCall r = IsTrue r.ended ⊎ (whole_lines r.rest ≢ []) ⊎ (r.taken ≡ 2 ^ 40)
 
 -- One call of a reader that has met no fault: these bytes were taken.
-pub record Step (before after : Option (List ℕ)) (old new : Reading)
+pub record ReaderStep (before after : Option (List ℕ)) (old new : Reading)
     (result : Result Line LineFault) : Type 0 where
   pub got : List ℕ
   pub given : Gives before after got

@@ -1,5 +1,5 @@
 ghost use Rattle.std.specs.Prelude.{◌≡◌, ◌≢◌, ◌↔◌, ℕ, ◌+◌, ◌-◌, ◌^◌, ◌<◌, ◌≤◌, ◌⊎◌, List, [], ◌++◌, length, take, drop, min, IfOk, OnOk, OnErr, IsErr, IsSome, Some, Contains, vec_len, vec_capacity};
-ghost use Rattle.paraid_base.specs.Told.{told, Gives, Grows, AtEnd, HasRisen};
+ghost use Rattle.paraid_base.specs.Told.{told_bytes, Gives, GrowsByBytes, AtEnd, HasRisen};
 
 use crate::plan::Plan;
 use crate::{Sink, Source};
@@ -129,13 +129,13 @@ pub struct MemSink {
 }
 
 impl MemSink {
-    ghost use Rattle.paraid_io.specs.Memory.{calls_of, fails_of, capacity_of};
+    ghost use Rattle.paraid_io.specs.Memory.{calls_to, fails_of, capacity_of};
 
     /// A sink that takes so many bytes in all, and whose calls of these numbers fail.
     pub fn new(alloc: Global, capacity: usize, fails: Vec<u32>) -> Result<Self, NoMemory>
         ensures written { IfOk result (λ s. ⟦<MemSink as Sink>⟧.written s ≡ Some []) }
         ensures faults { IfOk result (λ s. ⟦<MemSink as Sink>⟧.faults s ≡ 0) }
-        ensures calls { IfOk result (λ s. calls_of s ≡ 0) }
+        ensures calls { IfOk result (λ s. calls_to s ≡ 0) }
         ensures fails { IfOk result (λ s. fails_of s ≡ fails.items) }
         ensures capacity { IfOk result (λ s. capacity_of s ≡ capacity) }
     {
@@ -158,7 +158,7 @@ impl MemSink {
 }
 
 impl Sink for MemSink {
-    ghost use Rattle.paraid_io.specs.Memory.{written_to, faults_of, calls_of, fails_of, capacity_of};
+    ghost use Rattle.paraid_io.specs.Memory.{written_to, faults_of, calls_to, fails_of, capacity_of};
 
     ghost faults = { faults_of };
 
@@ -168,17 +168,17 @@ impl Sink for MemSink {
         requires { 0 < length bytes.now }
         ensures some { IfOk result (λ n. 0 < n) }
         ensures within { IfOk result (λ n. n ≤ length bytes.now) }
-        ensures grows { IfOk result (λ n. Grows (Some (written_to self.old))
+        ensures grows { IfOk result (λ n. GrowsByBytes (Some (written_to self.old))
             (Some (written_to self.new)) (take n bytes.now)) }
-        ensures keeps { OnErr result (Grows (Some (written_to self.old))
+        ensures keeps { OnErr result (GrowsByBytes (Some (written_to self.old))
             (Some (written_to self.new)) []) }
         ensures later { faults_of self.old ≤ faults_of self.new }
         ensures cause { OnErr result (HasRisen (faults_of self.old) (faults_of self.new)) }
 
         // A call fails exactly where its number was given or the sink is full.
-        ensures named { IsErr result ↔ (Contains (fails_of self.old) (calls_of self.old)
+        ensures named { IsErr result ↔ (Contains (fails_of self.old) (calls_to self.old)
             ⊎ (capacity_of self.old ≤ length (written_to self.old))) }
-        ensures calls { calls_of self.new ≡ min (calls_of self.old + 1) (2 ^ 64 - 1) }
+        ensures calls { calls_to self.new ≡ min (calls_to self.old + 1) (2 ^ 64 - 1) }
         ensures fails { fails_of self.new ≡ fails_of self.old }
         ensures capacity { capacity_of self.new ≡ capacity_of self.old }
     {

@@ -1,7 +1,7 @@
 ghost use Rattle.std.specs.Prelude.{◌≡◌, ℕ, ◌+◌, ◌-◌, ◌^◌, ◌<◌, ◌≤◌, List, [], ◌∷◌, ◌++◌, length, take, drop, MatchOption, IfSome, IfNone, IfOk, OnErr, ◌==◌, ◌↔◌, IsTrue};
 ghost use Rattle.paraid_base.specs.Told.{Gives, HasRisen};
 ghost use Rattle.paraid_io.specs.Lines.{NoNewline};
-ghost use Rattle.paraid_io.specs.Reading.{Reading, fresh, ReaderTakes, Step, HasCause, NeedsNoCall};
+ghost use Rattle.paraid_io.specs.Reading.{Reading, fresh_reader, ReaderTakes, ReaderStep, HasCause, NeedsNoCall};
 
 use crate::scan::{PIECE, make_room, newline_at};
 use crate::{Line, LineFault, Source};
@@ -50,7 +50,7 @@ impl Model for LineReader {
 impl LineReader {
     /// A reader that has taken nothing.
     pub fn new() -> Self
-        ensures { result ≡ fresh 0 }
+        ensures { result ≡ fresh_reader 0 }
     {
         LineReader::with_taken(0)
     }
@@ -58,7 +58,7 @@ impl LineReader {
     /// A reader as if it had taken so many bytes before.
     pub fn with_taken(taken: u64) -> Self
         requires { taken ≤ 2 ^ 40 }
-        ensures { result ≡ fresh taken }
+        ensures { result ≡ fresh_reader taken }
     {
         LineReader {
             buffer: [0; BUFFER],
@@ -181,7 +181,7 @@ impl LineReader {
         requires well { self.old.fault ≡ None }
         requires held { length self.old.rest ≤ self.old.taken }
         requires limit { self.old.taken ≤ 2 ^ 40 }
-        ensures step { Step (S.left source.old) (S.left source.new) self.old self.new result }
+        ensures step { ReaderStep (S.left source.old) (S.left source.new) self.old self.new result }
         ensures cause { HasCause result self.new (S.faults source.old) (S.faults source.new) }
         ensures quiet { NeedsNoCall self.old → source.new ≡ source.old }
         ensures later { S.faults source.old ≤ S.faults source.new }
@@ -215,7 +215,7 @@ impl LineReader {
     /// without it, and nothing but the reader and the source changes.
     pub fn next<S: Source>(&mut self, source: &mut S) -> Result<Line, LineFault>
         ensures step { self.old.fault ≡ None
-            → Step (S.left source.old) (S.left source.new) self.old self.new result }
+            → ReaderStep (S.left source.old) (S.left source.new) self.old self.new result }
         ensures cause { self.old.fault ≡ None
             → HasCause result self.new (S.faults source.old) (S.faults source.new) }
         ensures later { S.faults source.old ≤ S.faults source.new }

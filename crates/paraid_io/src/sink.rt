@@ -1,5 +1,5 @@
 ghost use Rattle.std.specs.Prelude.{◌≡◌, ℕ, ◌<◌, ◌≤◌, List, [], length, take, IfOk, OnOk, OnErr, Option};
-ghost use Rattle.paraid_base.specs.Told.{Grows, HasRisen};
+ghost use Rattle.paraid_base.specs.Told.{GrowsByBytes, HasRisen};
 
 use paraid_base::Failed;
 
@@ -17,9 +17,9 @@ pub trait Sink {
         requires { 0 < length bytes.now }
         ensures some { IfOk result (λ n. 0 < n) }
         ensures within { IfOk result (λ n. n ≤ length bytes.now) }
-        ensures grows { IfOk result (λ n. Grows (written self.old) (written self.new)
+        ensures grows { IfOk result (λ n. GrowsByBytes (written self.old) (written self.new)
             (take n bytes.now)) }
-        ensures keeps { OnErr result (Grows (written self.old) (written self.new) []) }
+        ensures keeps { OnErr result (GrowsByBytes (written self.old) (written self.new) []) }
         ensures later { faults self.old ≤ faults self.new }
         ensures cause { OnErr result (HasRisen (faults self.old) (faults self.new)) };
 }
@@ -27,9 +27,9 @@ pub trait Sink {
 /// Writes all of these bytes, by as many calls as it takes and none for an empty list. After
 /// `Failed` a first part of them was written.
 pub fn write_all<K: Sink>(sink: &mut K, bytes: &[u8]) -> Result<(), Failed>
-    ensures grows { OnOk result (Grows (K.written sink.old) (K.written sink.new) bytes.now) }
+    ensures grows { OnOk result (GrowsByBytes (K.written sink.old) (K.written sink.new) bytes.now) }
     ensures part { OnErr result ((n : ℕ) × (n ≤ length bytes.now)
-        × Grows (K.written sink.old) (K.written sink.new) (take n bytes.now)) }
+        × GrowsByBytes (K.written sink.old) (K.written sink.new) (take n bytes.now)) }
     ensures none { bytes.now ≡ [] → sink.new ≡ sink.old }
     ensures later { K.faults sink.old ≤ K.faults sink.new }
     ensures cause { OnErr result (HasRisen (K.faults sink.old) (K.faults sink.new)) }

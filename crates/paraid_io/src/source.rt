@@ -1,5 +1,5 @@
 ghost use Rattle.std.specs.Prelude.{◌≡◌, ◌≢◌, ℕ, ◌<◌, ◌≤◌, List, [], length, take, IfOk, OnErr, Option, IsSome};
-ghost use Rattle.paraid_base.specs.Told.{told, Gives, AtEnd, HasRisen};
+ghost use Rattle.paraid_base.specs.Told.{told_bytes, Gives, AtEnd, HasRisen};
 
 use paraid_base::Failed;
 
@@ -20,7 +20,7 @@ pub trait Source {
         ensures gives { IfOk result (λ n. Gives (left self.old) (left self.new) (take n into.new)) }
         ensures end { IfOk result (λ n. n ≡ 0 → AtEnd (left self.new)) }
         ensures some { IfOk result (λ n. IsSome (left self.new)
-            → told (left self.old) ≢ [] → 0 < n) }
+            → told_bytes (left self.old) ≢ [] → 0 < n) }
         ensures keeps { OnErr result (Gives (left self.old) (left self.new) []) }
         ensures later { faults self.old ≤ faults self.new }
         ensures cause { OnErr result (HasRisen (faults self.old) (faults self.new)) };

@@ -1,6 +1,6 @@
 //! The home of each block, and the parity disk of each row: left-asymmetric RAID-5.
 ghost use Rattle.std.specs.Prelude.{◌≡◌, ◌≢◌, ◌+◌, ◌-◌, ◌*◌, ◌/◌, ◌%◌, ◌<◌, IfSome, MatchOption};
-ghost use Rattle.paraid_base.specs.Cells.{parity_disk as parity_disk_of, home_row, home_disk, block_of};
+ghost use Rattle.paraid_base.specs.Cells.{parity_disk as parity_disk_of, home_row, home_disk, cell_block};
 
 use crate::index::{disk_of_index, index_of_disk};
 use paraid_base::{BlockNo, DiskNo, Geometry, Row};
@@ -28,7 +28,7 @@ pub fn home(g: &Geometry, b: BlockNo) -> (Row, DiskNo)
     ensures not_parity { result.1 ≢ parity_disk_of g.now.disks result.0 }
 
     // `block_at` finds it there.
-    ensures back { block_of g.now.disks result.0 result.1 ≡ b }
+    ensures back { cell_block g.now.disks result.0 result.1 ≡ b }
 {
     let data = g.disks as u32 - 1;
     let r = b / data;
@@ -42,7 +42,7 @@ pub fn block_at(g: &Geometry, r: Row, d: DiskNo) -> Option<BlockNo>
     requires disk_in { d < g.now.disks }
     ensures value { MatchOption result
         (d ≡ parity_disk_of g.now.disks r)
-        (λ b. (d ≢ parity_disk_of g.now.disks r) × (b ≡ block_of g.now.disks r d)) }
+        (λ b. (d ≢ parity_disk_of g.now.disks r) × (b ≡ cell_block g.now.disks r d)) }
 
     ensures block_in { IfSome result (λ b. b < g.now.rows * (g.now.disks - 1)) }
 

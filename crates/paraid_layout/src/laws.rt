@@ -3,7 +3,7 @@
 //! Each law is the contract of a function that does nothing. Its numbers range over all natural
 //! numbers, so each bound that it needs is one of its premises: `n` disks, `rows` rows, gear `a`.
 ghost use Rattle.std.specs.Prelude.{◌≡◌, ◌≢◌, ℕ, ◌+◌, ◌-◌, ◌*◌, ◌%◌, ◌<◌, ◌≤◌};
-ghost use Rattle.paraid_base.specs.Cells.{parity_disk, home_row, home_disk, block_of};
+ghost use Rattle.paraid_base.specs.Cells.{parity_disk, home_row, home_disk, cell_block};
 ghost use Rattle.paraid_base.specs.Regions.{IsGear, disk_size, hard_place_of, map_count, map_place_of, soft_place_of};
 ghost use Rattle.paraid_base.specs.Skips.{skip};
 ghost use Rattle.paraid_base.specs.Soft.{number_at, row_of_number, disk_of_number, soft_stripe, soft_index, soft_disk, soft_parity_disk, stripe_count};
@@ -17,13 +17,13 @@ pub fn blocks_match_cells()
     ensures disk_in { (n b : ℕ) → 2 ≤ n → home_disk n b < n }
     ensures not_parity { (n b : ℕ) → home_disk n b ≢ parity_disk n (home_row n b) }
     ensures block_in { (n rows r d : ℕ) → 2 ≤ n → r < rows → d < n → d ≢ parity_disk n r
-        → block_of n r d < rows * (n - 1) }
+        → cell_block n r d < rows * (n - 1) }
 
-    ensures block_back { (n b : ℕ) → block_of n (home_row n b) (home_disk n b) ≡ b }
+    ensures block_back { (n b : ℕ) → cell_block n (home_row n b) (home_disk n b) ≡ b }
     ensures row_back { (n r d : ℕ) → 2 ≤ n → d < n → d ≢ parity_disk n r
-        → home_row n (block_of n r d) ≡ r }
+        → home_row n (cell_block n r d) ≡ r }
     ensures disk_back { (n r d : ℕ) → 2 ≤ n → d < n → d ≢ parity_disk n r
-        → home_disk n (block_of n r d) ≡ d }
+        → home_disk n (cell_block n r d) ≡ d }
 {}
 
 /// A row's blocks and its parity lie on different disks.

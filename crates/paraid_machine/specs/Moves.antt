@@ -6,76 +6,73 @@ use Rattle.paraid_base.specs.declared.state.Phase.{Phase}
 use Rattle.paraid_base.specs.declared.state.Phase.TheVariants.{Steady, Down, Up}
 use Rattle.paraid_base.specs.Cells.{home_disk, home_row, parity_disk}
 use Rattle.paraid_base.specs.Soft.{disk_of_number, row_of_number, stripe_count}
-use Rattle.paraid_dirty.specs.Table.{changed, dirty_count}
-use Rattle.paraid_gear.specs.Gears.{first_from}
-use Rattle.paraid_gear.specs.Windows.{sample_of}
-use Rattle.paraid_ration.specs.Ration.{allowance}
+use Rattle.paraid_dirty.specs.Table.{table_with_bit, dirty_count}
+use Rattle.paraid_base.specs.Gears.{first_from}
+use Rattle.paraid_gear.specs.ThreeWindows.{sample_of}
 use Rattle.paraid_record.specs.declared.meta.Mode.{Mode}
 use Rattle.paraid_record.specs.declared.meta.Mode.TheVariants.{Whole, Access}
 use Rattle.paraid_record.specs.declared.meta.Setup.{Setup}
 use Rattle.paraid_record.specs.Codes.{phase_to}
 use Rattle.paraid_record.specs.Range.{has_out, rebuild_units}
+pub use Rattle.paraid_record.specs.Range.{allowed_by}
 use Rattle.paraid_image.specs.Out.{is_out, named_out}
-use Rattle.paraid_image.specs.Power.{State, phase_beside}
+use Rattle.paraid_image.specs.Power.{PowerState, phase_beside}
 use Rattle.paraid_image.specs.Spot.{rising_to}
+use Rattle.paraid_record.specs.Modes.{is_access}
 
 -- disk `d` is lost: it is out, there is no shift down, and nothing is filled
-abbrev pub lost : State → ℕ → State
-lost s d = record s { phase = phase_beside true s.phase; fill = 0; out = Gone d }
-
--- so many spin-ups a disk may have by this tick
-abbrev pub allowed_by : Setup → ℕ → ℕ
-allowed_by setup ticks = allowance setup.ration setup.burst setup.period ticks
+abbrev pub after_loss : PowerState → ℕ → PowerState
+after_loss s d = record s { phase = phase_beside true s.phase; fill = 0; out = Gone d }
 
 -- spin-ups, changed by disk; the first of these is that of disk `at`
-abbrev pub respun : (ℕ → ℕ → ℕ) → ℕ → List ℕ → List ℕ
-respun f at [] = []
-respun f at (count ∷ spins) = f at count ∷ respun f (suc at) spins
+abbrev pub with_spins : (ℕ → ℕ → ℕ) → ℕ → List ℕ → List ℕ
+with_spins f at [] = []
+with_spins f at (count ∷ spins) = f at count ∷ with_spins f (suc at) spins
 
 -- one more of each disk from `lo` to `hi - 1`
 abbrev pub with_spin_ups : ℕ → ℕ → List ℕ → List ℕ
-with_spin_ups lo hi spins = respun (λ d count. if nat_le lo d && nat_lt d hi then count + 1 else count) 0 spins
+with_spin_ups lo hi spins = with_spins (λ d count. if nat_le lo d && nat_lt d hi then count + 1 else count) 0 spins
 
 -- none of disk `d`
 abbrev pub without_spin_ups : ℕ → List ℕ → List ℕ
-without_spin_ups d spins = respun (λ e count. if e == d then 0 else count) 0 spins
+without_spin_ups d spins = with_spins (λ e count. if e == d then 0 else count) 0 spins
 
 -- a shift down begins
-abbrev pub begun_down : ℕ → State → State
+abbrev pub begun_down : ℕ → PowerState → PowerState
 begun_down to s = record s { phase = Down to; fill = 0 }
 
 -- a shift up begins, with the spin-ups recorded of the disks that it needs
-abbrev pub begun_up : ℕ → State → State
+abbrev pub begun_up : ℕ → PowerState → PowerState
 begun_up to s = record s { phase = Up to; fill = 0; spins = with_spin_ups s.gear to s.spins }
 
 -- a shift ends
-abbrev pub flipped : State → State
-flipped s = record s { gear = phase_to s.phase; phase = Steady; fill = 0 }
+abbrev pub after_flip : PowerState → PowerState
+after_flip s = record s { gear = phase_to s.phase; phase = Steady; fill = 0 }
 
 -- the cells that a shift up copies, by number: those of the disks from the gear to the new gear
-abbrev pub is_dirty_number : State → ℕ → Bool
+abbrev pub is_dirty_number : PowerState → ℕ → Bool
 is_dirty_number s c = s.dirty (row_of_number (rising_to s.phase) s.gear c) (disk_of_number (rising_to s.phase) s.gear c)
 
 -- the first dirty one of them
-abbrev pub first_dirty : Setup → State → Option ℕ
+abbrev pub first_dirty : Setup → PowerState → Option ℕ
 first_dirty setup s = first_from (is_dirty_number s) 0 (setup.geometry.rows * (rising_to s.phase - s.gear))
 
 -- the cell of row `r` and disk `d` with this dirty bit
-abbrev pub with_bit : State → ℕ → ℕ → Bool → State
-with_bit s r d bit = record s { dirty = changed s.dirty r d bit }
+abbrev pub state_with_bit : PowerState → ℕ → ℕ → Bool → PowerState
+state_with_bit s r d bit = record s { dirty = table_with_bit s.dirty r d bit }
 
 -- a unit of a shift: a dirty cell is copied, or where there is none a stripe is filled
-abbrev pub moved_one : State → Option ℕ → State
-moved_one s (Some c) = with_bit s (row_of_number (rising_to s.phase) s.gear c) (disk_of_number (rising_to s.phase) s.gear c) false
-moved_one s None = record s { fill = s.fill + 1 }
+abbrev pub after_unit : PowerState → Option ℕ → PowerState
+after_unit s (Some c) = state_with_bit s (row_of_number (rising_to s.phase) s.gear c) (disk_of_number (rising_to s.phase) s.gear c) false
+after_unit s None = record s { fill = s.fill + 1 }
 
 -- the next `m` units of a shift
-abbrev pub moved : Setup → ℕ → State → State
-moved setup zero s = s
-moved setup (suc m) s = moved setup m (moved_one s (first_dirty setup s))
+abbrev pub after_units : Setup → ℕ → PowerState → PowerState
+after_units setup zero s = s
+after_units setup (suc m) s = after_units setup m (after_unit s (first_dirty setup s))
 
 -- how many units are left of a shift
-abbrev pub units_left : Setup → State → ℕ
+abbrev pub units_left : Setup → PowerState → ℕ
 units_left setup s =
     dirty_count s.dirty setup.geometry.rows s.gear (rising_to s.phase)
     + (stripe_count setup.geometry.disks setup.geometry.rows (phase_to s.phase) - s.fill)
@@ -87,51 +84,47 @@ units_by Whole (Down to) rate left = min rate left
 units_by Whole Steady rate left = min rate left
 units_by Access phase rate left = min rate left
 
-abbrev pub units_of_tick : Setup → State → ℕ
+abbrev pub units_of_tick : Setup → PowerState → ℕ
 units_of_tick setup s = units_by setup.mode s.phase setup.rate (units_left setup s)
 
 -- The dirty bit of a cell of disk `d` that is written. One below the gear is clean; one of a disk
 -- that a shift up has spun up is written in its place, unless the disk is out; any other is dirty.
-abbrev pub bit_written : State → ℕ → Bool → Bool
+abbrev pub bit_written : PowerState → ℕ → Bool → Bool
 bit_written s d bit =
     if nat_lt d s.gear then false else (if nat_lt d (rising_to s.phase) then is_out (named_out s.out) d && bit else true)
 
-abbrev pub cell_written : ℕ → ℕ → State → State
-cell_written r d s = with_bit s r d (bit_written s d (s.dirty r d))
+abbrev pub cell_written : ℕ → ℕ → PowerState → PowerState
+cell_written r d s = state_with_bit s r d (bit_written s d (s.dirty r d))
 
 -- a write changes the cell of its block and that of the row's parity
-abbrev pub block_written : ℕ → ℕ → State → State
+abbrev pub block_written : ℕ → ℕ → PowerState → PowerState
 block_written n b s = cell_written (home_row n b) (parity_disk n (home_row n b)) (cell_written (home_row n b) (home_disk n b) s)
 
 -- the blocks of one write, one after the other
-abbrev pub all_written : ℕ → List ℕ → State → State
+abbrev pub all_written : ℕ → List ℕ → PowerState → PowerState
 all_written n [] s = s
 all_written n (b ∷ bs) s = all_written n bs (block_written n b s)
 
-abbrev pub is_access : Mode → Bool
-is_access Whole = false
-is_access Access = true
-
 -- a read cleans its cell in access mode, where a shift up has spun its disk up and none is out
-abbrev pub block_read : Setup → ℕ → State → State
+abbrev pub block_read : Setup → ℕ → PowerState → PowerState
 block_read setup b s =
     let d = home_disk setup.geometry.disks b in
     if is_access setup.mode && nat_le s.gear d && nat_lt d (rising_to s.phase)
-    then (if has_out s.out then s else with_bit s (home_row setup.geometry.disks b) d false)
+    then (if has_out s.out then s else state_with_bit s (home_row setup.geometry.disks b) d false)
     else s
 
 -- one more read or write was served
-abbrev pub counted : State → State
-counted s = record s { served = s.served + 1 }
+abbrev pub with_one_served : PowerState → PowerState
+with_one_served s = record s { served = s.served + 1 }
 
 -- a tick counts itself, and makes a sample of what was served since the last one
-abbrev pub with_tick : State → State
-with_tick s = record s { ticks = min (s.ticks + 1) 18446744073709551615; samples = s.samples ++ sample_of s.served ∷ []; served = 0 }
+abbrev pub state_with_tick : PowerState → PowerState
+state_with_tick s = record s { ticks = min (s.ticks + 1) 18446744073709551615; samples = s.samples ++ sample_of s.served ∷ []; served = 0 }
 
 -- the first disk from `to` to the gear that has used up its allowance
-abbrev pub first_worn : Setup → State → ℕ → Option ℕ
+abbrev pub first_worn : Setup → PowerState → ℕ → Option ℕ
 first_worn setup s to = first_from (λ d. nat_le (allowed_by setup s.ticks) (slice_index s.spins d)) to (s.gear - to)
 
 -- the units of a rebuild that are left
-abbrev pub units_to_rebuild : Setup → State → ℕ → ℕ → ℕ
+abbrev pub units_to_rebuild : Setup → PowerState → ℕ → ℕ → ℕ
 units_to_rebuild setup s d rebuilt = rebuild_units setup.geometry s.gear d - rebuilt

@@ -4,7 +4,7 @@ use Rattle.std.specs.Option.{is_some}
 use Rattle.std.proofs.Math.ListN.{get_or-map as get_or-map_default}
 use Rattle.std.proofs.lemmas.Bool.{cases_eq, false≢true}
 use Rattle.std.proofs.lemmas.List.{get_or-set_same, get_or-set_other, length-map}
-use Rattle.paraid_base.specs.Xor.{zeroed}
+use Rattle.paraid_base.specs.Xor.{zero_block}
 use Rattle.paraid_rack.specs.declared.call.Power.TheVariants.{Absent}
 use Rattle.paraid_rack.specs.declared.call.Call.{Call}
 use Rattle.paraid_rack.specs.Alike.{IsAlike}
@@ -14,14 +14,14 @@ use Rattle.paraid_rack.specs.Trail.{Beginning, Trail, beginning, initial, now}
 use Rattle.paraid_rack.proofs.AtomsLemmas.{with_at_same, with_at_other}
 use Rattle.paraid_memrack.specs.declared.log.Start.{Start}
 use Rattle.paraid_memrack.specs.declared.slot.MemSlot.{MemSlot}
-use Rattle.paraid_memrack.specs.Slots.{FullSlot, full_slot, full_slot_at, full_slot_from, slot_at, no_slot, ChangesSlot}
+use Rattle.paraid_memrack.specs.Slots.{FullSlot, full_slot, full_slot_at, full_slot_from, told_slot_at, no_slot, SetsSlot}
 use Rattle.paraid_memrack.specs.Tells.{told_by, beginning_of, no_beginning, IsSlotOf, AreSlotsOf}
-use Rattle.paraid_memrack.specs.Rules.{first_slot, untouched}
+use Rattle.paraid_memrack.specs.Rules.{first_slot, before_calls}
 use Rattle.paraid_memrack.proofs.NoteLemmas.{none_some, some_same}
-use Rattle.paraid_memrack.proofs.StepLemmas.{holds_same}
+use Rattle.paraid_memrack.proofs.SlotCallLemmas.{holds_same}
 use Rattle.paraid_memrack.proofs.ViewLemmas.{view_past}
 
-pub told_untouched : (tells : Bool) (start : List Start) (calls : List Call) → tells ≡ true → calls ≡ [] → told_by tells start calls ≡ Some (untouched (map beginning_of start))
+pub told_untouched : (tells : Bool) (start : List Start) (calls : List Call) → tells ≡ true → calls ≡ [] → told_by tells start calls ≡ Some (before_calls (map beginning_of start))
 unfolding told_by
 told_untouched true start calls is none = ap (λ (l : List Call). Some (record { start = map beginning_of start; calls = l })) none
 told_untouched false start calls bad none = absurd (false≢true bad)
@@ -52,16 +52,16 @@ module _ (slots : List MemSlot) (start : List Start) (same : map full_slot slots
   unfolding full_slot_at
   view_first d = ap (λ (l : List FullSlot). get_or l d no_slot) same ∙ get_or-map_default full_slot_from (map beginning_of start) d no_beginning
 
-  pub slot_first : (d : ℕ) → slot_at slots d ≡ first_slot (map beginning_of start) d
+  pub slot_first : (d : ℕ) → told_slot_at slots d ≡ first_slot (map beginning_of start) d
   slot_first d = ap (λ (v : FullSlot). record { power = v.power; size = length v.blocks; unsynced = v.unsynced; faults = v.faults }) (view_first d)
 
   pub length_first : length slots ≡ length start
   length_first = omega (arith, ap length same, length-map slots full_slot, length-map (map beginning_of start) full_slot_from, length-map start beginning_of)
 
-  pub small_first : (d : ℕ) → (slot_at slots d).size < 2 ^ 32
+  pub small_first : (d : ℕ) → (told_slot_at slots d).size < 2 ^ 32
   small_first d = subst (λ (v : FullSlot). length v.blocks < 2 ^ 32) (sym (view_first d)) (each_start (λ b. length b.blocks < 2 ^ 32) (omega arith) (λ s. s.small) start d)
 
-  pub sound_first : length slots ≤ 8 → AreSlots (length slots) (slot_at slots)
+  pub sound_first : length slots ≤ 8 → AreSlots (length slots) (told_slot_at slots)
   sound_first few = record {
     few = few;
     missing = λ d past. ap (λ (v : FullSlot). v.power) (view_past slots d past);
@@ -70,7 +70,7 @@ module _ (slots : List MemSlot) (start : List Start) (same : map full_slot slots
     parked = λ d _. ap (λ (v : FullSlot). v.unsynced) (view_first d);
   }
 
-  pub keeps_first : (told : Option Trail) → told ≡ Some (untouched (map beginning_of start)) → AreSlotsOf told (full_slot_at slots)
+  pub keeps_first : (told : Option Trail) → told ≡ Some (before_calls (map beginning_of start)) → AreSlotsOf told (full_slot_at slots)
   keeps_first told is t tells d =
       subst (λ (u : Trail). IsSlotOf (now u) d (full_slot_at slots d)) (some_same (sym is ∙ tells))
       (subst (IsSlotOf (initial (map beginning_of start)) d) (sym (view_first d)) (holds_first (map beginning_of start) d))
@@ -98,13 +98,13 @@ module _ (start : List Beginning) (d : ℕ) (within : d < length start) where
     size = lost_value (λ b. length b.blocks);
     block = λ e p h. elim (cases_eq e d) [
       | inl is ↦ absurd (false≢true (sym (ap is_present (with_at_same (λ k. (beginning start k).power) d Absent e is)) ∙ h.present))
-      | inr not ↦ ap (λ (b : Beginning). get_or b.blocks p zeroed) (lost_other e not)
+      | inr not ↦ ap (λ (b : Beginning). get_or b.blocks p zero_block) (lost_other e not)
     ];
     loose = λ e p h. refl;
   }
 
   -- the slots hold what is told after the loss
-  pub keeps_lost : (slots slots' : List MemSlot) (v : FullSlot) → ChangesSlot slots slots' d v → v.power ≡ Absent → v.blocks ≡ [] → ((e : ℕ) → IsSlotOf (initial start) e (full_slot_at slots e))
+  pub keeps_lost : (slots slots' : List MemSlot) (v : FullSlot) → SetsSlot slots slots' d v → v.power ≡ Absent → v.blocks ≡ [] → ((e : ℕ) → IsSlotOf (initial start) e (full_slot_at slots e))
       → (e : ℕ) → IsSlotOf (initial (set start d no_beginning)) e (full_slot_at slots' e)
   unfolding initial
   keeps_lost slots slots' v b gone empty was e =
@@ -119,5 +119,5 @@ module _ (start : List Beginning) (d : ℕ) (within : d < length start) where
         | inr not ↦
             let same = lost_other e not in
             subst (IsSlotOf after e) (sym (b.others e not)) (holds_same (initial start) after e (full_slot_at slots e)
-            (ap (λ (x : Beginning). x.power) same) (ap (λ (x : Beginning). length x.blocks) same) refl (ap (λ (x : Beginning). λ (p : ℕ). get_or x.blocks p zeroed) same) (was e))
+            (ap (λ (x : Beginning). x.power) same) (ap (λ (x : Beginning). length x.blocks) same) refl (ap (λ (x : Beginning). λ (p : ℕ). get_or x.blocks p zero_block) same) (was e))
       ]

@@ -3,7 +3,7 @@ pub mod PastLemmas
 pub mod ReplayLemmas
 pub mod StopLemmas
 pub mod ViewLemmas
-pub mod StepLemmas
+pub mod SlotCallLemmas
 pub mod NoteLemmas
 pub mod PlanLemmas
 pub mod RackLemmas

@@ -4,14 +4,14 @@ use Rattle.std.proofs.lemmas.Bool.{cases_eq}
 use Rattle.paraid_rack.specs.declared.call.Call.{Call}
 use Rattle.paraid_rack.specs.Disks.{Disks, step}
 use Rattle.paraid_rack.specs.Trail.{Trail, now}
-use Rattle.paraid_rack.specs.Told.{Grows}
+use Rattle.paraid_rack.specs.Told.{GrowsByCall}
 use Rattle.paraid_rack.proofs.TrailsLemmas.{now-extend}
 use Rattle.paraid_memrack.specs.declared.log.Start.{Start}
 use Rattle.paraid_memrack.specs.declared.slot.MemSlot.{MemSlot}
-use Rattle.paraid_memrack.specs.Plan.{disk_of}
-use Rattle.paraid_memrack.specs.Slots.{FullSlot, full_slot_at, ChangesSlot}
+use Rattle.paraid_rack.specs.Calls.{disk_of}
+use Rattle.paraid_memrack.specs.Slots.{FullSlot, full_slot_at, SetsSlot}
 use Rattle.paraid_memrack.specs.Tells.{told_by, told_after, IsSlotOf, AreSlotsOf}
-use Rattle.paraid_memrack.proofs.StepLemmas.{holds_other}
+use Rattle.paraid_memrack.proofs.SlotCallLemmas.{holds_other}
 
 pub none_some : {A : Type 0} {x : A} → ◌≡◌ {A = Option A} None (Some x) → ⊥
 none_some e = cc
@@ -20,15 +20,15 @@ pub some_same : {A : Type 0} {x y : A} → Some x ≡ Some y → x ≡ y
 some_same e = cc
 
 -- where it is told after a call, the record was told and is longer by this call
-pub grows_after : (more : Bool) (old : Option Trail) (c : Call) → Grows old (told_after more old c) c
+pub grows_after : (more : Bool) (old : Option Trail) (c : Call) → GrowsByCall old (told_after more old c) c
 unfolding told_after
 grows_after true (Some s) c t is = (s, refl, sym (some_same is))
 grows_after true None c t is = absurd (none_some is)
 grows_after false (Some s) c t is = absurd (none_some is)
 grows_after false None c t is = absurd (none_some is)
 
-pub grows_told : (old new : Option Trail) (more : Bool) (c : Call) → new ≡ told_after more old c → Grows old new c
-grows_told old new more c is = subst (λ (o : Option Trail). Grows old o c) (sym is) (grows_after more old c)
+pub grows_told : (old new : Option Trail) (more : Bool) (c : Call) → new ≡ told_after more old c → GrowsByCall old new c
+grows_told old new more c is = subst (λ (o : Option Trail). GrowsByCall old o c) (sym is) (grows_after more old c)
 
 one_more : (tells : Bool) (start : List Start) (calls : List Call) (c : Call) → told_by tells start (calls ++ c ∷ []) ≡ told_after true (told_by tells start calls) c
 unfolding told_by told_after
@@ -50,7 +50,7 @@ pub told_none : (tells : Bool) (start : List Start) (calls : List Call) (c : Cal
 told_none tells start calls c more is = nothing_after (told_by tells start calls) start calls c ∙ ap (λ (b : Bool). told_after b (told_by tells start calls) c) (sym is)
 
 -- the slots hold what is told after a call on disk d
-pub keeps_after : {old new : Option Trail} (more : Bool) (c : Call) {d : ℕ} {slots slots' : List MemSlot} {leaves : FullSlot} → new ≡ told_after more old c → disk_of c ≡ d → ChangesSlot slots slots' d leaves
+pub keeps_after : {old new : Option Trail} (more : Bool) (c : Call) {d : ℕ} {slots slots' : List MemSlot} {leaves : FullSlot} → new ≡ told_after more old c → disk_of c ≡ d → SetsSlot slots slots' d leaves
     → AreSlotsOf old (full_slot_at slots) → ((s : Disks) → IsSlotOf s d (full_slot_at slots d) → IsSlotOf (step c s) d leaves) → AreSlotsOf new (full_slot_at slots')
 keeps_after {old} {new} more c {d} {slots} {slots'} {leaves} is on b was here t tells e =
     let g = grows_told old new more c is t tells in

@@ -7,7 +7,8 @@ use Rattle.std.proofs.lemmas.List.{get_or-set_same, get_or-set_other, get_or-rep
 use Rattle.std.proofs.lemmas.List.Sums.{sum_by-append, count_by-le-length}
 use Rattle.paraid_rack.specs.declared.call.Call.{Call}
 use Rattle.paraid_memrack.specs.declared.plan.Planned.{Planned}
-use Rattle.paraid_memrack.specs.Plan.{disk_of, count_on, names_call, is_planned, listed_after}
+use Rattle.paraid_memrack.specs.CallPlan.{count_on, names_call, is_planned, listed_after}
+use Rattle.paraid_rack.specs.Calls.{disk_of}
 use Rattle.paraid_memrack.specs.Counted.{IsCounted}
 
 pub lt_true : (a b : ℕ) → a < b → nat_lt a b ≡ true

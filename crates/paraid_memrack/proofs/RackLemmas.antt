@@ -3,7 +3,7 @@ use Rattle.std.proofs.Common.{◌≡◌, ◌≢◌, inl, inr, ℕ, ◌<◌, ◌�
 use Rattle.std.proofs.lemmas.Bool.{cases_lt, false≢true}
 use Rattle.std.proofs.lemmas.List.{get_or_read, get_or-replicate, get_or_past, length-replicate}
 use Rattle.paraid_base.specs.declared.block.Block.{Block}
-use Rattle.paraid_base.specs.Xor.{zeroed}
+use Rattle.paraid_base.specs.Xor.{zero_block}
 use Rattle.paraid_rack.specs.declared.call.Power.{Power}
 use Rattle.paraid_rack.specs.declared.call.Power.TheVariants.{Spinning, Parked, Absent}
 use Rattle.paraid_rack.specs.declared.call.Call.{Call}
@@ -13,8 +13,8 @@ use Rattle.paraid_rack.specs.Trail.{Trail, Beginning, initial, now}
 use Rattle.paraid_memrack.specs.declared.log.Start.{Start}
 use Rattle.paraid_memrack.specs.declared.slot.MemSlot.{MemSlot}
 use Rattle.paraid_memrack.specs.declared.rack.MemRack.{MemRack}
-use Rattle.paraid_memrack.specs.Plan.{has_room, listed_after}
-use Rattle.paraid_memrack.specs.Slots.{FullSlot, full_slot, full_slot_at, slot_at, no_slot}
+use Rattle.paraid_memrack.specs.CallPlan.{has_room_for_call, listed_after}
+use Rattle.paraid_memrack.specs.Slots.{FullSlot, full_slot, full_slot_at, told_slot_at, no_slot}
 use Rattle.paraid_memrack.specs.Tells.{told_by, told_after, beginning_of, IsSlotOf, AreSlotsOf}
 use Rattle.paraid_memrack.specs.Rules.{Rules, told_of, Notes, no_disks}
 use Rattle.paraid_memrack.proofs.NoteLemmas.{none_some, some_same}
@@ -23,7 +23,7 @@ same_rules : {v w : Rules} → v.plan ≡ w.plan → v.most ≡ w.most → v.roo
 same_rules p m r = λ i. record { plan = p i; most = m i; room = r i }
 
 pub notes_of : {old new : MemRack} {c : Call} → new.log.plan.items ≡ old.log.plan.items → new.log.most ≡ old.log.most → new.room ≡ old.room
-    → new.log.calls.items ≡ listed_after old.log.most old.log.calls.items c → told_of new ≡ told_after (has_room old.log.most old.log.calls.items) (told_of old) c → Notes old new c
+    → new.log.calls.items ≡ listed_after old.log.most old.log.calls.items c → told_of new ≡ told_after (has_room_for_call old.log.most old.log.calls.items) (told_of old) c → Notes old new c
 notes_of plan most room list tells = record { rules = same_rules plan most room; list = list; tells = tells }
 
 present_power : (p : Power) → p ≢ Absent → is_present p ≡ true
@@ -36,12 +36,12 @@ pub present : {count : ℕ} {slot : ℕ → Slot} → AreSlots count slot → (d
 present {count} {slot} sound d p within = present_power (slot d).power (λ gone. omega (arith, sound.absent d gone, within))
 
 -- a block in a slot is the one that is told
-pub block_told : (slots : List MemSlot) (d p : ℕ) (y : MemSlot) (b : Block) (s : Disks) → full_slot_at slots d ≡ full_slot y → p < (slot_at slots d).size → is_present (slot_at slots d).power ≡ true
+pub block_told : (slots : List MemSlot) (d p : ℕ) (y : MemSlot) (b : Block) (s : Disks) → full_slot_at slots d ≡ full_slot y → p < (told_slot_at slots d).size → is_present (told_slot_at slots d).power ≡ true
     → b ≡ get_or y.blocks.items p b → IsSlotOf s d (full_slot_at slots d) → b ≡ s.block d p
 block_told slots d p y b s is within here read h =
     let same : (full_slot_at slots d).blocks ≡ y.blocks.items = ap (λ (v : FullSlot). v.blocks) is in
-    get_or_read y.blocks.items p b (omega (arith, within, ap length same)) read zeroed
-    ∙ ap (λ (l : List Block). get_or l p zeroed) (sym same) ∙ sym (h.block here p)
+    get_or_read y.blocks.items p b (omega (arith, within, ap length same)) read zero_block
+    ∙ ap (λ (l : List Block). get_or l p zero_block) (sym same) ∙ sym (h.block here p)
 
 -- at the start
 same_default : {A : Type 0} (n d : ℕ) (x : A) → get_or (replicate n x) d x ≡ x
@@ -73,7 +73,7 @@ told_start false start calls n bad begin none = absurd (false≢true bad)
 told_start true start calls n is begin none =
     ap (λ (b : List Beginning). Some (record { start = b; calls = calls })) begin ∙ ap (λ (l : List Call). Some (record { start = (no_disks n).start; calls = l })) none
 
-pub slots_none : (slots : List MemSlot) (n : ℕ) → length slots ≡ n → n ≤ 8 → ((d : ℕ) → full_slot_at slots d ≡ no_slot) → AreSlots (length slots) (slot_at slots)
+pub slots_none : (slots : List MemSlot) (n : ℕ) → length slots ≡ n → n ≤ 8 → ((d : ℕ) → full_slot_at slots d ≡ no_slot) → AreSlots (length slots) (told_slot_at slots)
 slots_none slots n is few none = record {
   few = omega arith;
   missing = λ d past. ap (λ (v : FullSlot). v.power) (none d);

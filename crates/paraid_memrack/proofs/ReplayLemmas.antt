@@ -4,16 +4,16 @@ use Rattle.std.proofs.Math.ListN.{get_or-map as get_or-map_default}
 use Rattle.std.proofs.lemmas.Bool.{cases_eq}
 use Rattle.std.proofs.lemmas.List.{map-set, get_or-map, get_or-set_same, get_or-set_other, length-map, take_more}
 use Rattle.paraid_base.specs.declared.block.Block.{Block}
-use Rattle.paraid_base.specs.Xor.{zeroed}
+use Rattle.paraid_base.specs.Xor.{zero_block}
 use Rattle.paraid_rack.specs.declared.call.Call.{Call}
 use Rattle.paraid_rack.specs.Disks.{Disks, step}
 use Rattle.paraid_rack.specs.Trail.{Beginning, Trail, beginning, disks, initial, run}
 use Rattle.paraid_rack.proofs.TrailsLemmas.{now-extend}
 use Rattle.paraid_memrack.specs.declared.past.PastSlot.{PastSlot}
-use Rattle.paraid_memrack.specs.Plan.{disk_of}
+use Rattle.paraid_rack.specs.Calls.{disk_of}
 use Rattle.paraid_memrack.specs.Stop.{kept_after, kept_by}
 use Rattle.paraid_memrack.specs.Tells.{no_beginning}
-use Rattle.paraid_memrack.specs.Versions.{firm}
+use Rattle.paraid_memrack.specs.Versions.{synced_block}
 use Rattle.paraid_memrack.specs.Past.{Past, past_of, past_at, past_start, no_past, IsPast, MakesPast, AllPast, AllPastAt}
 use Rattle.paraid_memrack.proofs.PastLemmas.{past_other}
 
@@ -55,8 +55,8 @@ past_begins start d =
     let blocks : List Block = (beginning start d).blocks in
     record {
       power = refl;
-      size = sym (length-map blocks firm);
-      blocks = λ p within. get_or-map_default firm blocks p zeroed;
+      size = sym (length-map blocks synced_block);
+      blocks = λ p within. get_or-map_default synced_block blocks p zero_block;
     }
 
 pub all_past_start : (slots : List PastSlot) (start : List Beginning) → map past_of slots ≡ map past_start start → AllPast (initial start) (initial start).block slots

@@ -3,16 +3,16 @@ use Rattle.std.proofs.Common.{◌≡◌, ℕ, ◌<◌, Bool, true, false, cond, 
 use Rattle.std.proofs.Math.ListN.{get_or-map as get_or-map_default}
 use Rattle.std.proofs.lemmas.List.{get_or-map, length-map}
 use Rattle.paraid_base.specs.declared.block.Block.{Block}
-use Rattle.paraid_base.specs.Xor.{zeroed}
+use Rattle.paraid_base.specs.Xor.{zero_block}
 use Rattle.paraid_base.proofs.XorLemmas.{same_block}
 use Rattle.paraid_rack.specs.Alike.{HasPlace, IsAlike}
 use Rattle.paraid_rack.specs.Disks.{Disks, IsImage}
 use Rattle.paraid_rack.specs.Trail.{Beginning, Trail, beginning, disks, initial}
 use Rattle.paraid_memrack.specs.declared.past.PastSlot.{PastSlot}
 use Rattle.paraid_memrack.specs.declared.stop.Pick.{Pick}
-use Rattle.paraid_memrack.specs.Stop.{IsPicked, kept_at, picked}
+use Rattle.paraid_memrack.specs.Stop.{IsPicked, kept_at, picked_bytes}
 use Rattle.paraid_memrack.specs.Tells.{no_beginning}
-use Rattle.paraid_memrack.specs.Versions.{firm, left_bytes, versions_in}
+use Rattle.paraid_memrack.specs.Versions.{synced_block, left_bytes, versions_in}
 use Rattle.paraid_memrack.specs.Past.{past_of, past_at, no_past, AllPast, AllPastAt, InBytes, in_bytes, left_in_bytes}
 
 bytes_of : Block → List ℕ
@@ -44,17 +44,17 @@ module _ (pick : Pick) (s : Disks) (kept : ℕ → ℕ → Block) (past : List P
   unfolding initial
   left_block d p place =
       let within : p < length (past_at past d).versions = subst (λ (n : ℕ). p < n) (was d).size place.within in
-      sym (get_or-map_default (λ (x : Block). x.bytes) (beginning start d).blocks p zeroed)
-      ∙ ap (λ (b : InBytes). get_or b.blocks p zeroed.bytes) (left_at pick past start same d)
-      ∙ get_or-map (left_bytes pick) (past_at past d).versions p (firm zeroed) zeroed.bytes within
+      sym (get_or-map_default (λ (x : Block). x.bytes) (beginning start d).blocks p zero_block)
+      ∙ ap (λ (b : InBytes). get_or b.blocks p zero_block.bytes) (left_at pick past start same d)
+      ∙ get_or-map (left_bytes pick) (past_at past d).versions p (synced_block zero_block) zero_block.bytes within
       ∙ ap (left_bytes pick) ((was d).blocks p within)
 
   left_firm : (d p : ℕ) → HasPlace s d p → s.loose d p ≡ false → (initial start).block d p ≡ s.block d p
   left_firm d p place is =
-      same_block _ _ (left_block d p place ∙ ap (λ (b : Bool). cond b (picked pick (kept d p).bytes (s.block d p).bytes) (s.block d p).bytes) is)
+      same_block _ _ (left_block d p place ∙ ap (λ (b : Bool). cond b (picked_bytes pick (kept d p).bytes (s.block d p).bytes) (s.block d p).bytes) is)
 
-  left_loose : (d p : ℕ) → HasPlace s d p → s.loose d p ≡ true → ((initial start).block d p).bytes ≡ picked pick (kept d p).bytes (s.block d p).bytes
-  left_loose d p place is = left_block d p place ∙ ap (λ (b : Bool). cond b (picked pick (kept d p).bytes (s.block d p).bytes) (s.block d p).bytes) is
+  left_loose : (d p : ℕ) → HasPlace s d p → s.loose d p ≡ true → ((initial start).block d p).bytes ≡ picked_bytes pick (kept d p).bytes (s.block d p).bytes
+  left_loose d p place is = left_block d p place ∙ ap (λ (b : Bool). cond b (picked_bytes pick (kept d p).bytes (s.block d p).bytes) (s.block d p).bytes) is
 
   -- the image has what is left in each loose block, and what there was in each other
   pub left_image : (i : Disks) × IsImage s i × IsAlike i (initial start)
@@ -77,8 +77,8 @@ module _ (pick : Pick) (s : Disks) (kept : ℕ → ℕ → Block) (past : List P
       )
     where
       by_looseness : (loose : Bool) (after before : Block) → (loose ≡ false → after ≡ before) → after ≡ cond loose after before
-      by_looseness true after before firm = refl
-      by_looseness false after before firm = firm refl
+      by_looseness true after before synced_block = refl
+      by_looseness false after before synced_block = synced_block refl
 
 pub left_picked : (pick : Pick) (t : Trail) (m : ℕ) (past : List PastSlot) (start : List Beginning) → AllPastAt t m past
     → map in_bytes start ≡ map (left_in_bytes pick) (map past_of past) → IsPicked pick t m (initial start)

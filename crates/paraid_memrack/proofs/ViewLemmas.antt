@@ -4,9 +4,9 @@ use Rattle.std.proofs.lemmas.Bool.{cases_eq, cases_lt, false≢true, true≢fals
 use Rattle.std.proofs.lemmas.List.{map-set, get_or-set_same, get_or-set_other, length-set, length-map, get_or-map, get_or_past}
 use Rattle.paraid_base.specs.Told.{HasRisen}
 use Rattle.paraid_rack.specs.declared.call.Power.TheVariants.{Absent, Parked}
-use Rattle.paraid_rack.specs.Slots.{Slot, Touched, AreSlots}
+use Rattle.paraid_rack.specs.Slots.{Slot, ChangesOneSlot, AreSlots}
 use Rattle.paraid_memrack.specs.declared.slot.MemSlot.{MemSlot}
-use Rattle.paraid_memrack.specs.Slots.{FullSlot, full_slot, full_slot_at, no_slot, slot_of, slot_at, wrecked, ChangesSlot}
+use Rattle.paraid_memrack.specs.Slots.{FullSlot, full_slot, full_slot_at, no_slot, told_slot, told_slot_at, after_failure, SetsSlot}
 
 pub same_view : {v w : FullSlot} → v.power ≡ w.power → v.blocks ≡ w.blocks → v.unsynced ≡ w.unsynced → v.faults ≡ w.faults → v ≡ w
 same_view p b u f = λ i. record { power = p i; blocks = b i; unsynced = u i; faults = f i }
@@ -33,14 +33,14 @@ view_set_other slots d x e not =
     ∙ get_or-set_other (map full_slot slots) d e (full_slot x) no_slot not
 
 -- a slot was put in the place of one
-pub becomes_set : (slots : List MemSlot) (d : ℕ) (x : MemSlot) (leaves : FullSlot) → d < length slots → full_slot x ≡ leaves → ChangesSlot slots (set slots d x) d leaves
+pub becomes_set : (slots : List MemSlot) (d : ℕ) (x : MemSlot) (leaves : FullSlot) → d < length slots → full_slot x ≡ leaves → SetsSlot slots (set slots d x) d leaves
 becomes_set slots d x leaves within is = record {
   same_length = length-set slots d x;
   here = view_set_same slots d x within ∙ is;
   others = view_set_other slots d x;
 }
 
-module _ {old new : List MemSlot} {d : ℕ} {leaves : FullSlot} (b : ChangesSlot old new d leaves) where
+module _ {old new : List MemSlot} {d : ℕ} {leaves : FullSlot} (b : SetsSlot old new d leaves) where
   -- what holds of each slot before, and of this one after, holds of each after
   pub each_after : (P : FullSlot → Type 0) → ((e : ℕ) → P (full_slot_at old e)) → P leaves → (e : ℕ) → P (full_slot_at new e)
   each_after P was is e = elim (cases_eq e d) [
@@ -48,11 +48,11 @@ module _ {old new : List MemSlot} {d : ℕ} {leaves : FullSlot} (b : ChangesSlot
     | inr not ↦ subst P (sym (b.others e not)) (was e)
   ]
 
-  pub small_after : ((e : ℕ) → (slot_at old e).size < 2 ^ 32) → length leaves.blocks < 2 ^ 32 → (e : ℕ) → (slot_at new e).size < 2 ^ 32
+  pub small_after : ((e : ℕ) → (told_slot_at old e).size < 2 ^ 32) → length leaves.blocks < 2 ^ 32 → (e : ℕ) → (told_slot_at new e).size < 2 ^ 32
   small_after was is = each_after (λ v. length v.blocks < 2 ^ 32) was is
 
-  pub slots_after : AreSlots (length old) (slot_at old) → d < length old → (leaves.power ≡ Absent → length leaves.blocks ≡ 0) → (leaves.power ≡ Parked → leaves.unsynced ≡ false)
-      → AreSlots (length new) (slot_at new)
+  pub slots_after : AreSlots (length old) (told_slot_at old) → d < length old → (leaves.power ≡ Absent → length leaves.blocks ≡ 0) → (leaves.power ≡ Parked → leaves.unsynced ≡ false)
+      → AreSlots (length new) (told_slot_at new)
   slots_after was within absent parked = record {
     few = omega (arith, b.same_length, was.few);
     missing = λ e past.
@@ -63,10 +63,10 @@ module _ {old new : List MemSlot} {d : ℕ} {leaves : FullSlot} (b : ChangesSlot
     parked = each_after (λ v. v.power ≡ Parked → v.unsynced ≡ false) was.parked parked;
   }
 
-  pub touched_done : (told : Slot) (dirt : Bool) → slot_of leaves ≡ told → Touched (slot_at old) (slot_at new) d told dirt true
+  pub touched_done : (told : Slot) (dirt : Bool) → told_slot leaves ≡ told → ChangesOneSlot (told_slot_at old) (told_slot_at new) d told dirt true
   touched_done told dirt is = record {
-    others = λ e not. ap slot_of (b.others e not);
-    done = λ _. ap slot_of b.here ∙ is;
+    others = λ e not. ap told_slot (b.others e not);
+    done = λ _. ap told_slot b.here ∙ is;
     absent = λ bad. absurd (true≢false bad);
     empty = λ bad. absurd (true≢false bad);
     unsynced = λ bad. absurd (true≢false bad);
@@ -80,10 +80,10 @@ risen was now sum = elim (cases_lt was 18446744073709551615) [
   | inr le ↦ record { risen = inr (omega arith) }
 ]
 
-pub touched_failed : {old new : List MemSlot} {d : ℕ} {dirt : Bool} → ChangesSlot old new d (wrecked dirt (full_slot_at old d)) → (full_slot_at old d).faults ≤ (full_slot_at new d).faults → (leaves : Slot)
-    → Touched (slot_at old) (slot_at new) d leaves dirt false
+pub touched_failed : {old new : List MemSlot} {d : ℕ} {dirt : Bool} → SetsSlot old new d (after_failure dirt (full_slot_at old d)) → (full_slot_at old d).faults ≤ (full_slot_at new d).faults → (leaves : Slot)
+    → ChangesOneSlot (told_slot_at old) (told_slot_at new) d leaves dirt false
 touched_failed {old} {new} {d} {dirt} b grows leaves = record {
-  others = λ e not. ap slot_of (b.others e not);
+  others = λ e not. ap told_slot (b.others e not);
   done = λ bad. absurd (false≢true bad);
   absent = λ _. ap (λ (v : FullSlot). v.power) b.here;
   empty = λ _. ap (λ (v : FullSlot). length v.blocks) b.here;
@@ -92,7 +92,7 @@ touched_failed {old} {new} {d} {dirt} b grows leaves = record {
   later = λ _. grows;
 }
 
-pub touched_none : (slots : ℕ → Slot) (d : ℕ) (dirt : Bool) → Touched slots slots d (slots d) dirt true
+pub touched_none : (slots : ℕ → Slot) (d : ℕ) (dirt : Bool) → ChangesOneSlot slots slots d (slots d) dirt true
 touched_none slots d dirt = record {
   others = λ e not. refl;
   done = λ _. refl;
@@ -132,6 +132,6 @@ unfolding full_slot_at
 no_slots slots none d = ap (λ (l : List MemSlot). full_slot_at l d) none
 
 -- a count that rises by one, or stands at its end, does not fall
-pub faults_after : {old new : List MemSlot} {d : ℕ} {dirt : Bool} → ChangesSlot old new d (wrecked dirt (full_slot_at old d)) → (y : MemSlot) → full_slot_at old d ≡ full_slot y → y.faults < 2 ^ 64
+pub faults_after : {old new : List MemSlot} {d : ℕ} {dirt : Bool} → SetsSlot old new d (after_failure dirt (full_slot_at old d)) → (y : MemSlot) → full_slot_at old d ≡ full_slot y → y.faults < 2 ^ 64
     → (full_slot_at old d).faults ≤ (full_slot_at new d).faults
 faults_after b y is fits = omega (arith, ap (λ (v : FullSlot). v.faults) b.here, ap (λ (v : FullSlot). v.faults) is)

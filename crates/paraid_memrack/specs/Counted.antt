@@ -2,7 +2,8 @@
 use Rattle.std.specs.Prelude.{◌≡◌, ℕ, ◌<◌, List, slice_index}
 use Rattle.std.specs.List.{All}
 use Rattle.paraid_rack.specs.declared.call.Call.{Call}
-use Rattle.paraid_memrack.specs.Plan.{count_on, disk_of}
+use Rattle.paraid_memrack.specs.CallPlan.{count_on}
+use Rattle.paraid_rack.specs.Calls.{disk_of}
 
 -- the counts of the listed calls, one for each disk
 abbrev pub IsCounted : List ℕ → List Call → Type 0

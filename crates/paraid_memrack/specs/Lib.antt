@@ -1,4 +1,4 @@
-pub mod Plan
+pub mod CallPlan
 pub mod Counted
 pub mod Slots
 pub mod Tells

@@ -1,7 +1,7 @@
 -- A slot as it was at an earlier moment, made again from the start and the calls since then.
 use Rattle.std.specs.Prelude.{◌≡◌, ◌<◌, ℕ, List, [], length, map, get_or}
 use Rattle.paraid_base.specs.declared.block.Block.{Block}
-use Rattle.paraid_base.specs.Xor.{zeroed}
+use Rattle.paraid_base.specs.Xor.{zero_block}
 use Rattle.paraid_rack.specs.declared.call.Power.{Power}
 use Rattle.paraid_rack.specs.declared.call.Power.TheVariants.{Absent}
 use Rattle.paraid_rack.specs.declared.call.Call.{Call}
@@ -10,9 +10,9 @@ use Rattle.paraid_rack.specs.Trail.{Beginning, Trail, disks}
 use Rattle.paraid_memrack.specs.declared.past.PastSlot.{PastSlot}
 use Rattle.paraid_memrack.specs.declared.stop.Pick.{Pick}
 use Rattle.paraid_memrack.specs.declared.versions.Versions.{Versions}
-use Rattle.paraid_memrack.specs.Plan.{disk_of}
+use Rattle.paraid_rack.specs.Calls.{disk_of}
 use Rattle.paraid_memrack.specs.Stop.{kept_after, kept_at}
-use Rattle.paraid_memrack.specs.Versions.{firm, left_bytes, versions_in}
+use Rattle.paraid_memrack.specs.Versions.{synced_block, left_bytes, versions_in}
 
 -- its power, and each block as it was written last and as it was kept last
 pub record Past : Type 0 where
@@ -31,13 +31,13 @@ past_at slots d = get_or (map past_of slots) d no_past
 
 -- a slot at the start
 abbrev pub past_start : Beginning → Past
-past_start b = record { power = b.power; versions = map firm b.blocks }
+past_start b = record { power = b.power; versions = map synced_block b.blocks }
 
 -- slot d was so where the disks were s and kept these blocks
 pub record IsPast (s : Disks) (kept : ℕ → ℕ → Block) (d : ℕ) (v : Past) : Type 0 where
   pub power : s.power d ≡ v.power
   pub size : s.size d ≡ length v.versions
-  pub blocks : (p : ℕ) → p < length v.versions → get_or v.versions p (firm zeroed) ≡ versions_in s kept d p
+  pub blocks : (p : ℕ) → p < length v.versions → get_or v.versions p (synced_block zero_block) ≡ versions_in s kept d p
 
 -- a call makes the slot w of the slot v of its disk
 pub record MakesPast (c : Call) (v w : Past) : Type 0 where

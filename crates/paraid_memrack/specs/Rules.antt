@@ -6,8 +6,8 @@ use Rattle.paraid_rack.specs.Slots.{Slot}
 use Rattle.paraid_rack.specs.Trail.{Beginning, Trail, beginning}
 use Rattle.paraid_memrack.specs.declared.plan.Planned.{Planned}
 use Rattle.paraid_memrack.specs.declared.rack.MemRack.{MemRack}
-use Rattle.paraid_memrack.specs.Plan.{has_room, is_planned, listed_after}
-use Rattle.paraid_memrack.specs.Slots.{slot_at}
+use Rattle.paraid_memrack.specs.CallPlan.{has_room_for_call, is_planned, listed_after}
+use Rattle.paraid_memrack.specs.Slots.{told_slot_at}
 use Rattle.paraid_memrack.specs.Tells.{told_by, told_after, beginning_of, no_beginning}
 
 -- the plan, how many calls are listed at most, and how many blocks an attach may have
@@ -20,14 +20,14 @@ abbrev pub rules_of : MemRack → Rules
 rules_of m = record { plan = m.log.plan.items; most = m.log.most; room = m.room }
 
 -- the calls that are listed
-abbrev pub listed : MemRack → List Call
-listed m = m.log.calls.items
+abbrev pub listed_calls : MemRack → List Call
+listed_calls m = m.log.calls.items
 
-abbrev pub count_of : MemRack → ℕ
-count_of m = length m.slots.items
+abbrev pub rack_slot_count : MemRack → ℕ
+rack_slot_count m = length m.slots.items
 
 abbrev pub slots_of : MemRack → ℕ → Slot
-slots_of m = slot_at m.slots.items
+slots_of m = told_slot_at m.slots.items
 
 abbrev pub told_of : MemRack → Option Trail
 told_of m = told_by m.log.tells m.log.start.items m.log.calls.items
@@ -39,20 +39,20 @@ fails_next m disk = is_planned m.log.most m.log.plan.items m.log.calls.items dis
 -- The rules are as before, and this call is listed and told where the list was not full.
 pub record Notes (old new : MemRack) (c : Call) : Type 0 where
   pub rules : rules_of new ≡ rules_of old
-  pub list : listed new ≡ listed_after (rules_of old).most (listed old) c
-  pub tells : told_of new ≡ told_after (has_room (rules_of old).most (listed old)) (told_of old) c
+  pub list : listed_calls new ≡ listed_after (rules_of old).most (listed_calls old) c
+  pub tells : told_of new ≡ told_after (has_room_for_call (rules_of old).most (listed_calls old)) (told_of old) c
 
 -- how each slot was at the start
 abbrev pub start_of : MemRack → List Beginning
 start_of m = map beginning_of m.log.start.items
 
 -- no call was made since this start
-abbrev pub untouched : List Beginning → Trail
-untouched start = record { start = start; calls = [] }
+abbrev pub before_calls : List Beginning → Trail
+before_calls start = record { start = start; calls = [] }
 
 -- no slot has a disk at the start, and no call was made
 abbrev pub no_disks : ℕ → Trail
-no_disks count = untouched (replicate count no_beginning)
+no_disks count = before_calls (replicate count no_beginning)
 
 -- a slot of a rack that begins so, before any call
 abbrev pub first_slot : List Beginning → ℕ → Slot

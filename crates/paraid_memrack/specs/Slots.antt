@@ -25,22 +25,22 @@ unfoldable pub full_slot_at : List MemSlot → ℕ → FullSlot
 full_slot_at slots d = get_or (map full_slot slots) d no_slot
 
 -- what is told of it
-abbrev pub slot_of : FullSlot → Slot
-slot_of v = record { power = v.power; size = length v.blocks; unsynced = v.unsynced; faults = v.faults }
+abbrev pub told_slot : FullSlot → Slot
+told_slot v = record { power = v.power; size = length v.blocks; unsynced = v.unsynced; faults = v.faults }
 
-abbrev pub slot_at : List MemSlot → ℕ → Slot
-slot_at slots d = slot_of (full_slot_at slots d)
+abbrev pub told_slot_at : List MemSlot → ℕ → Slot
+told_slot_at slots d = told_slot (full_slot_at slots d)
 
 -- after a failed call
-abbrev pub wrecked : Bool → FullSlot → FullSlot
-wrecked dirt v = record { power = Absent; blocks = []; unsynced = dirt; faults = min (v.faults + 1) 18446744073709551615 }
+abbrev pub after_failure : Bool → FullSlot → FullSlot
+after_failure dirt v = record { power = Absent; blocks = []; unsynced = dirt; faults = min (v.faults + 1) 18446744073709551615 }
 
 -- a slot as it is at the start
 abbrev pub full_slot_from : Beginning → FullSlot
 full_slot_from b = record { power = b.power; blocks = b.blocks; unsynced = false; faults = 0 }
 
 -- this slot has become so, and every other is as before
-pub record ChangesSlot (old new : List MemSlot) (disk : ℕ) (leaves : FullSlot) : Type 0 where
+pub record SetsSlot (old new : List MemSlot) (disk : ℕ) (leaves : FullSlot) : Type 0 where
   pub same_length : length new ≡ length old
   pub here : full_slot_at new disk ≡ leaves
   pub others : (d : ℕ) → d ≢ disk → full_slot_at new d ≡ full_slot_at old d

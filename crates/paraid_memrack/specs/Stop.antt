@@ -1,7 +1,7 @@
 -- What a stop leaves of the blocks that were written since the last sync.
 use Rattle.std.specs.Prelude.{◌≡◌, ◌++◌, ℕ, Bool, true, false, List, [], ◌∷◌, take, drop, replicate}
 use Rattle.paraid_base.specs.declared.block.Block.{Block}
-use Rattle.paraid_base.specs.Xor.{zeroed}
+use Rattle.paraid_base.specs.Xor.{zero_block}
 use Rattle.paraid_rack.specs.declared.call.Call.{Call}
 use Rattle.paraid_rack.specs.declared.call.Call.TheVariants.{Read, Write, Sync, Park, SpinUp, Attach}
 use Rattle.paraid_rack.specs.Alike.{HasPlace}
@@ -22,7 +22,7 @@ kept_after (Write d p b done) s kept = kept
 kept_after (Sync d done) s kept = with_at kept d (kept_if done (s.block d) (kept d))
 kept_after (Park d done) s kept = kept
 kept_after (SpinUp d done) s kept = kept
-kept_after (Attach d size done) s kept = with_at kept d (kept_if done (λ p. zeroed) (kept d))
+kept_after (Attach d size done) s kept = with_at kept d (kept_if done (λ p. zero_block) (kept d))
 
 -- the same, after these calls
 abbrev pub kept_by : Disks → (ℕ → ℕ → Block) → List Call → ℕ → ℕ → Block
@@ -34,13 +34,13 @@ abbrev pub kept_at : Trail → ℕ → ℕ → ℕ → Block
 kept_at t m = kept_by (initial t.start) (initial t.start).block (take m t.calls)
 
 -- the bytes that a pick gives a loose block, by those at the last sync and those written last
-abbrev pub picked : Pick → List ℕ → List ℕ → List ℕ
-picked Old kept written = kept
-picked New kept written = written
-picked (Filled byte) kept written = replicate 512 byte
-picked Mixed kept written = take 256 written ++ drop 256 kept
+abbrev pub picked_bytes : Pick → List ℕ → List ℕ → List ℕ
+picked_bytes Old kept written = kept
+picked_bytes New kept written = written
+picked_bytes (Filled byte) kept written = replicate 512 byte
+picked_bytes Mixed kept written = take 256 written ++ drop 256 kept
 
 -- in disks after a stop at moment m, each loose block that exists holds what the pick says
 pub record IsPicked (pick : Pick) (t : Trail) (m : ℕ) (after : Disks) : Type 0 where
   pub bytes : (d p : ℕ) → HasPlace (disks t m) d p → (disks t m).loose d p ≡ true
-      → (after.block d p).bytes ≡ picked pick (kept_at t m d p).bytes ((disks t m).block d p).bytes
+      → (after.block d p).bytes ≡ picked_bytes pick (kept_at t m d p).bytes ((disks t m).block d p).bytes

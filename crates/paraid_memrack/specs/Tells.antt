@@ -1,6 +1,6 @@
 -- What a rack in memory tells.
 use Rattle.std.specs.Prelude.{◌≡◌, ℕ, Bool, true, false, List, [], ◌∷◌, length, map, get_or, Option, Some, None}
-use Rattle.paraid_base.specs.Xor.{zeroed}
+use Rattle.paraid_base.specs.Xor.{zero_block}
 use Rattle.paraid_rack.specs.declared.call.Power.TheVariants.{Absent}
 use Rattle.paraid_rack.specs.declared.call.Call.{Call}
 use Rattle.paraid_rack.specs.Disks.{Disks, is_present}
@@ -31,7 +31,7 @@ pub record IsSlotOf (s : Disks) (d : ℕ) (v : FullSlot) : Type 0 where
   pub power : s.power d ≡ v.power
   pub size : s.size d ≡ length v.blocks
   pub loose : (p : ℕ) → s.loose d p ≡ true → v.unsynced ≡ true
-  pub block : is_present v.power ≡ true → (p : ℕ) → s.block d p ≡ get_or v.blocks p zeroed
+  pub block : is_present v.power ≡ true → (p : ℕ) → s.block d p ≡ get_or v.blocks p zero_block
 
 -- the slots hold what is told
 abbrev pub AreSlotsOf : Option Trail → (ℕ → FullSlot) → Type 0

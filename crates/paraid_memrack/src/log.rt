@@ -2,7 +2,8 @@
 ghost use Rattle.std.specs.Prelude.{◌≡◌, ℕ, ◌<◌, ◌≤◌, ◌^◌, List, [], length, map, slice_index, slice_set, true, vec_capacity, IfOk};
 ghost use Rattle.paraid_rack.specs.declared.call.Power.TheVariants.{Absent};
 ghost use Rattle.std.specs.List.{list_any};
-ghost use Rattle.paraid_memrack.specs.Plan.{names_call, disk_of, count_on, is_planned, listed_after, has_room};
+ghost use Rattle.paraid_memrack.specs.CallPlan.{names_call, count_on, is_planned, listed_after, has_room_for_call};
+ghost use Rattle.paraid_rack.specs.Calls.{disk_of};
 ghost use Rattle.paraid_memrack.specs.Counted.{IsCounted, AreOnSlots};
 
 use crate::past::PastSlot;
@@ -88,7 +89,7 @@ impl Log {
         ensures plan { self.new.plan ≡ self.old.plan }
         ensures calls { self.new.calls.items ≡ listed_after self.old.most self.old.calls.items call }
         ensures told { told_by self.new.tells self.new.start.items self.new.calls.items
-            ≡ told_after (has_room self.old.most self.old.calls.items)
+            ≡ told_after (has_room_for_call self.old.most self.old.calls.items)
             (told_by self.old.tells self.old.start.items self.old.calls.items) call }
     {
         if (self.calls.len() as u32) < self.most {

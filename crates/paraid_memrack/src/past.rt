@@ -1,8 +1,7 @@
 // A slot as it was at an earlier moment, made again call by call.
 ghost use Rattle.std.specs.Prelude.{◌≡◌, ◌≢◌, ℕ, ◌<◌, ◌^◌, false, List, [], length, map, replicate, IfOk, OnOk};
-ghost use Rattle.paraid_base.specs.Xor.{zeroed};
+ghost use Rattle.paraid_base.specs.Xor.{zero_block};
 ghost use Rattle.paraid_rack.specs.declared.call.Power.TheVariants.{Absent, Spinning};
-ghost use Rattle.paraid_memrack.specs.Plan.{done_of};
 
 use crate::log::Start;
 use crate::stop::Pick;
@@ -21,7 +20,7 @@ pub struct PastSlot {
 }
 
 impl PastSlot {
-    ghost use Rattle.paraid_memrack.specs.Versions.{firm, settled_to, write_version};
+    ghost use Rattle.paraid_memrack.specs.Versions.{synced_block, after_block_sync, write_version};
     ghost use Rattle.paraid_memrack.specs.Past.{past_of, past_start, no_past, MakesPast, in_bytes, left_in_bytes};
     ghost use Rattle.paraid_memrack.specs.Tells.{beginning_of};
 
@@ -40,7 +39,7 @@ impl PastSlot {
     pub fn follow(&mut self, alloc: Global, call: &Call) -> Result<(), NoMemory>
         ensures { OnOk result (MakesPast call.now (past_of self.old) (past_of self.new)) }
     {
-        if !was_done(call) {
+        if !call.is_done() {
             self.vanish(alloc);
             return Ok(());
         }
@@ -51,7 +50,7 @@ impl PastSlot {
                 Ok(())
             }
             Call::Sync { .. } => {
-                self.settle();
+                self.mark_synced();
                 Ok(())
             }
             Call::Park { .. } => {
@@ -94,10 +93,10 @@ impl PastSlot {
     }
 
     // All that was written is kept.
-    fn settle(&mut self)
+    fn mark_synced(&mut self)
         ensures { past_of self.new
             ≡ record (past_of self.old)
-            { versions = map settled_to self.old.versions.items } }
+            { versions = map after_block_sync self.old.versions.items } }
     {
         for at in 0..self.versions.len() {
             let version = &mut self.versions[at];
@@ -117,7 +116,7 @@ impl PastSlot {
     // There is a fresh disk of so many blocks of zeros.
     fn attach(&mut self, alloc: Global, size: u32) -> Result<(), NoMemory>
         ensures { OnOk result (past_of self.new
-            ≡ record { power = Spinning; versions = replicate size (firm zeroed) }) }
+            ≡ record { power = Spinning; versions = replicate size (synced_block zero_block) }) }
     {
         let versions = fresh_versions(alloc, size)?;
         *self = PastSlot {
@@ -137,19 +136,5 @@ impl PastSlot {
             power: self.power,
             blocks,
         })
-    }
-}
-
-// Whether a call was done.
-fn was_done(call: &Call) -> bool
-    ensures { result ≡ done_of call.now }
-{
-    match call {
-        Call::Read { done, .. } => *done,
-        Call::Write { done, .. } => *done,
-        Call::Sync { done, .. } => *done,
-        Call::Park { done, .. } => *done,
-        Call::SpinUp { done, .. } => *done,
-        Call::Attach { done, .. } => *done,
     }
 }

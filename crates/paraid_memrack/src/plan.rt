@@ -1,5 +1,5 @@
 ghost use Rattle.std.specs.Prelude.{◌≡◌};
-ghost use Rattle.paraid_memrack.specs.Plan.{names_call};
+ghost use Rattle.paraid_memrack.specs.CallPlan.{names_call};
 
 use paraid_base::DiskNo;
 

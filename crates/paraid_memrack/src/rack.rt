@@ -1,17 +1,15 @@
 ghost use Rattle.std.specs.Prelude.{◌≡◌, ◌≢◌, ℕ, ◌<◌, ◌≤◌, ◌^◌, length, true, false, not, Option, Some, [], OnOk, IfOk, is_ok, replicate, map, slice_get, slice_set, IsSome, IsTrue};
-ghost use Rattle.paraid_rack.specs.Slots.{Slot, Touched, AreSlots, Agrees};
+ghost use Rattle.paraid_rack.specs.Slots.{Slot, ChangesOneSlot, AreSlots, Agrees};
 ghost use Rattle.paraid_rack.specs.declared.call.Power.TheVariants.{Absent};
 ghost use Rattle.paraid_rack.specs.Trail.{Trail, now};
-ghost use Rattle.paraid_rack.specs.Told.{Grows};
-ghost use Rattle.paraid_memrack.specs.Slots.{slot_at, full_slot_at};
+ghost use Rattle.paraid_rack.specs.Told.{GrowsByCall};
+ghost use Rattle.paraid_memrack.specs.Slots.{told_slot_at, full_slot_at};
 ghost use Rattle.paraid_memrack.specs.Tells.{told_by, beginning_of, AreSlotsOf};
 
 use crate::log::{Log, Start};
 use crate::plan::Planned;
 use crate::replay::left;
-use crate::slot::{
-    MemSlot, absent_slots, copy_of, fail, fill, first_slots, put, remove, settle, turn, zeros,
-};
+use crate::slot::{MemSlot, absent_slots, fail, fill, first_slots, mark_synced, put, remove, turn};
 use crate::stop::Pick;
 use paraid_base::{Block, DiskNo, Failed, NoMemory, Place};
 use paraid_rack::{Call, Power, Rack};
@@ -27,22 +25,23 @@ pub struct MemRack {
     room: u32,
     slots: Vec<MemSlot>,
     log: Log,
-    ghost sound: { AreSlots (length slots.items) (slot_at slots.items) },
-    ghost small: { (d : ℕ) → (slot_at slots.items d).size < 2 ^ 32 },
+    ghost sound: { AreSlots (length slots.items) (told_slot_at slots.items) },
+    ghost small: { (d : ℕ) → (told_slot_at slots.items d).size < 2 ^ 32 },
     ghost keeps: { AreSlotsOf (told_by log.tells log.start.items log.calls.items)
         (full_slot_at slots.items) },
     ghost same: { length log.start.items ≡ length slots.items },
 }
 
 impl MemRack {
-    ghost use Rattle.paraid_base.specs.Xor.{zeroed};
-    ghost use Rattle.paraid_memrack.specs.Plan.{disk_of, done_of, dirt_after};
+    ghost use Rattle.paraid_base.specs.Xor.{zero_block};
+    ghost use Rattle.paraid_memrack.specs.CallPlan.{dirt_after};
+    ghost use Rattle.paraid_rack.specs.Calls.{disk_of, is_done};
     ghost use Rattle.paraid_rack.specs.Alike.{IsAlike};
     ghost use Rattle.paraid_rack.specs.Disks.{Disks, IsImage, lose};
     ghost use Rattle.paraid_rack.specs.Trail.{disks, initial};
     ghost use Rattle.paraid_memrack.specs.Stop.{IsPicked};
     ghost use Rattle.paraid_memrack.specs.Tells.{no_beginning};
-    ghost use Rattle.paraid_memrack.specs.Rules.{count_of, slots_of, told_of, rules_of, listed, fails_next, Notes, no_disks, no_disk, start_of, untouched, first_slot};
+    ghost use Rattle.paraid_memrack.specs.Rules.{rack_slot_count, slots_of, told_of, rules_of, listed_calls, fails_next, Notes, no_disks, no_disk, start_of, before_calls, first_slot};
 
     /// A rack of `slots` absent slots, whose calls fail as `plan` says.
     ///
@@ -56,10 +55,10 @@ impl MemRack {
         plan: Vec<Planned>,
     ) -> Result<Self, NoMemory>
         requires { slots ≤ 8 }
-        ensures slots { IfOk result (λ rack. count_of rack ≡ slots) }
+        ensures slots { IfOk result (λ rack. rack_slot_count rack ≡ slots) }
         ensures absent { IfOk result (λ rack. (d : ℕ) → slots_of rack d ≡ no_disk) }
         ensures told { IfOk result (λ rack. told_of rack ≡ Some (no_disks slots)) }
-        ensures listed { IfOk result (λ rack. listed rack ≡ []) }
+        ensures listed { IfOk result (λ rack. listed_calls rack ≡ []) }
         ensures rules { IfOk result (λ rack. rules_of rack
             ≡ record { plan = plan.items; most = calls; room = room }) }
     {
@@ -87,17 +86,17 @@ impl MemRack {
         calls: u32,
         plan: Vec<Planned>,
     ) -> Result<Self, NoMemory>
-        requires { moment ≤ length (listed self.now) }
+        requires { moment ≤ length (listed_calls self.now) }
         // It begins as an image at that moment, in all that exists.
         ensures image { IfOk result (λ rack. (t : Trail) → told_of self.now ≡ Some t
             → (i : Disks) × IsImage (disks t moment) i × IsAlike i (initial (start_of rack))) }
         ensures picked { IfOk result (λ rack. (t : Trail) → told_of self.now ≡ Some t
             → IsPicked pick t moment (initial (start_of rack))) }
-        ensures told { IfOk result (λ rack. told_of rack ≡ Some (untouched (start_of rack))) }
+        ensures told { IfOk result (λ rack. told_of rack ≡ Some (before_calls (start_of rack))) }
         ensures slot { IfOk result (λ rack. (d : ℕ)
             → slots_of rack d ≡ first_slot (start_of rack) d) }
-        ensures slots { IfOk result (λ rack. count_of rack ≡ count_of self.now) }
-        ensures listed { IfOk result (λ rack. listed rack ≡ []) }
+        ensures slots { IfOk result (λ rack. rack_slot_count rack ≡ rack_slot_count self.now) }
+        ensures listed { IfOk result (λ rack. listed_calls rack ≡ []) }
         ensures rules { IfOk result (λ rack. rules_of rack
             ≡ record { plan = plan.items; most = calls; room = (rules_of self.now).room }) }
     {
@@ -115,18 +114,18 @@ impl MemRack {
 
     /// The disk of a slot is lost before any call was made: the slot is absent from the start on.
     pub fn lose(&mut self, disk: DiskNo)
-        requires exists { disk < count_of self.old }
+        requires exists { disk < rack_slot_count self.old }
         requires tells { IsSome (told_of self.old) }
-        requires unused { listed self.old ≡ [] }
+        requires unused { listed_calls self.old ≡ [] }
         ensures start { start_of self.new ≡ slice_set (start_of self.old) disk no_beginning }
         ensures lost { IsAlike (lose disk (initial (start_of self.old)))
             (initial (start_of self.new)) }
-        ensures told { told_of self.new ≡ Some (untouched (start_of self.new)) }
+        ensures told { told_of self.new ≡ Some (before_calls (start_of self.new)) }
         ensures slot { slots_of self.new disk
             ≡ record (slots_of self.old disk) { power = Absent; size = 0 } }
         ensures others { (d : ℕ) → d ≢ disk → slots_of self.new d ≡ slots_of self.old d }
-        ensures slots { count_of self.new ≡ count_of self.old }
-        ensures listed { listed self.new ≡ [] }
+        ensures slots { rack_slot_count self.new ≡ rack_slot_count self.old }
+        ensures listed { listed_calls self.new ≡ [] }
         ensures rules { rules_of self.new ≡ rules_of self.old }
     {
         self.log.lose(self.alloc, disk);
@@ -135,23 +134,23 @@ impl MemRack {
 
     /// The number of calls that are listed.
     pub fn calls(&self) -> u32
-        ensures value { result ≡ length (listed self.now) }
-        ensures told { (t : Trail) → told_of self.now ≡ Some t → t.calls ≡ listed self.now }
+        ensures value { result ≡ length (listed_calls self.now) }
+        ensures told { (t : Trail) → told_of self.now ≡ Some t → t.calls ≡ listed_calls self.now }
     {
         self.log.calls.len() as u32
     }
 
     /// A listed call, by its number from 0.
     pub fn call(&self, m: u32) -> &Call
-        requires { m < length (listed self.now) }
-        ensures { slice_get (listed self.now) m ≡ Some result.now }
+        requires { m < length (listed_calls self.now) }
+        ensures { slice_get (listed_calls self.now) m ≡ Some result.now }
     {
         &self.log.calls[m as usize]
     }
 
     /// A block as a read would give it. No call is made.
     pub fn block(&self, disk: DiskNo, place: Place) -> &Block
-        requires exists { disk < count_of self.now }
+        requires exists { disk < rack_slot_count self.now }
         requires within { place < (slots_of self.now disk).size }
         ensures { (t : Trail) → told_of self.now ≡ Some t
             → result.now ≡ (now t).block disk place }
@@ -161,14 +160,14 @@ impl MemRack {
 
     // A call on this disk fails, and leaves it so unsynced.
     fn fail(&mut self, disk: DiskNo, call: Call, dirt: bool)
-        requires exists { disk < count_of self.old }
+        requires exists { disk < rack_slot_count self.old }
         requires on { disk_of call ≡ disk }
-        requires failed { done_of call ≡ false }
+        requires failed { is_done call ≡ false }
         requires dirt { dirt ≡ dirt_after call (slots_of self.old disk).unsynced }
-        ensures slots { count_of self.new ≡ count_of self.old }
+        ensures slots { rack_slot_count self.new ≡ rack_slot_count self.old }
         ensures slot { (leaves : Slot)
-            → Touched (slots_of self.old) (slots_of self.new) disk leaves dirt false }
-        ensures told { Grows (told_of self.old) (told_of self.new) call }
+            → ChangesOneSlot (slots_of self.old) (slots_of self.new) disk leaves dirt false }
+        ensures told { GrowsByCall (told_of self.old) (told_of self.new) call }
         ensures notes { Notes self.old self.new call }
     {
         self.log.note(disk, call);
@@ -177,15 +176,15 @@ impl MemRack {
 
     // The blocks of a fresh disk, unless the next call is to fail.
     fn fresh(&self, disk: DiskNo, size: u32) -> Result<Vec<Block>, Failed>
-        requires { disk < count_of self.now }
-        ensures zeros { IfOk result (λ blocks. blocks.items ≡ replicate size zeroed) }
+        requires { disk < rack_slot_count self.now }
+        ensures zeros { IfOk result (λ blocks. blocks.items ≡ replicate size zero_block) }
         ensures planned { fails_next self.now disk ≡ true → is_ok result ≡ false }
         ensures large { (rules_of self.now).room < size → is_ok result ≡ false }
     {
         if self.log.is_planned(disk) || self.room < size {
             return Err(Failed);
         }
-        let Ok(blocks) = zeros(self.alloc, size) else {
+        let Ok(blocks) = Block::zeros(self.alloc, size) else {
             return Err(Failed);
         };
         Ok(blocks)
@@ -210,10 +209,10 @@ fn absent_start(alloc: Global, count: u8) -> Result<Vec<Start>, NoMemory>
 }
 
 impl Rack for MemRack {
-    ghost use Rattle.paraid_memrack.specs.Rules.{count_of, slots_of, told_of, rules_of, fails_next, Notes};
+    ghost use Rattle.paraid_memrack.specs.Rules.{rack_slot_count, slots_of, told_of, rules_of, fails_next, Notes};
     ghost use Rattle.paraid_memrack.specs.Laws.{agrees_of};
 
-    ghost slot_count = { count_of };
+    ghost slot_count = { rack_slot_count };
 
     ghost slot = { slots_of };
 
@@ -240,13 +239,13 @@ impl Rack for MemRack {
     }
 
     fn read(&mut self, disk: DiskNo, place: Place, into: &mut Block) -> Result<(), Failed>
-        requires exists { disk < count_of self.old }
+        requires exists { disk < rack_slot_count self.old }
         requires spinning { (slots_of self.old disk).power ≡ Power.Spinning }
         requires within { place < (slots_of self.old disk).size }
-        ensures slots { count_of self.new ≡ count_of self.old }
-        ensures slot { Touched (slots_of self.old) (slots_of self.new) disk
+        ensures slots { rack_slot_count self.new ≡ rack_slot_count self.old }
+        ensures slot { ChangesOneSlot (slots_of self.old) (slots_of self.new) disk
             (slots_of self.old disk) (slots_of self.old disk).unsynced (is_ok result) }
-        ensures told { Grows (told_of self.old) (told_of self.new)
+        ensures told { GrowsByCall (told_of self.old) (told_of self.new)
             (Call.Read disk place (is_ok result)) }
         ensures bytes { OnOk result ((t : Trail) → told_of self.old ≡ Some t
             → into.new ≡ (now t).block disk place) }
@@ -280,19 +279,19 @@ impl Rack for MemRack {
     }
 
     fn write(&mut self, disk: DiskNo, place: Place, block: &Block) -> Result<(), Failed>
-        requires exists { disk < count_of self.old }
+        requires exists { disk < rack_slot_count self.old }
         requires spinning { (slots_of self.old disk).power ≡ Power.Spinning }
         requires within { place < (slots_of self.old disk).size }
-        ensures slots { count_of self.new ≡ count_of self.old }
-        ensures slot { Touched (slots_of self.old) (slots_of self.new) disk
+        ensures slots { rack_slot_count self.new ≡ rack_slot_count self.old }
+        ensures slot { ChangesOneSlot (slots_of self.old) (slots_of self.new) disk
             (record (slots_of self.old disk) { unsynced = true }) true (is_ok result) }
-        ensures told { Grows (told_of self.old) (told_of self.new)
+        ensures told { GrowsByCall (told_of self.old) (told_of self.new)
             (Call.Write disk place block.now (is_ok result)) }
         // It fails exactly where the plan names it.
         ensures planned { is_ok result ≡ not (fails_next self.old disk) }
         ensures notes { Notes self.old self.new (Call.Write disk place block.now (is_ok result)) }
     {
-        let bytes = copy_of(block);
+        let bytes = block.copy();
         if self.log.is_planned(disk) {
             self.fail(
                 disk,
@@ -320,13 +319,13 @@ impl Rack for MemRack {
     }
 
     fn sync(&mut self, disk: DiskNo) -> Result<(), Failed>
-        requires exists { disk < count_of self.old }
+        requires exists { disk < rack_slot_count self.old }
         requires spinning { (slots_of self.old disk).power ≡ Power.Spinning }
-        ensures slots { count_of self.new ≡ count_of self.old }
-        ensures slot { Touched (slots_of self.old) (slots_of self.new) disk
+        ensures slots { rack_slot_count self.new ≡ rack_slot_count self.old }
+        ensures slot { ChangesOneSlot (slots_of self.old) (slots_of self.new) disk
             (record (slots_of self.old disk) { unsynced = false })
             (slots_of self.old disk).unsynced (is_ok result) }
-        ensures told { Grows (told_of self.old) (told_of self.new)
+        ensures told { GrowsByCall (told_of self.old) (told_of self.new)
             (Call.Sync disk (is_ok result)) }
         // It fails exactly where the plan names it.
         ensures planned { is_ok result ≡ not (fails_next self.old disk) }
@@ -338,18 +337,18 @@ impl Rack for MemRack {
             return Err(Failed);
         }
         self.log.note(disk, Call::Sync { disk, done: true });
-        settle(&mut self.slots, disk);
+        mark_synced(&mut self.slots, disk);
         Ok(())
     }
 
     fn park(&mut self, disk: DiskNo) -> Result<(), Failed>
-        requires exists { disk < count_of self.old }
+        requires exists { disk < rack_slot_count self.old }
         requires spinning { (slots_of self.old disk).power ≡ Power.Spinning }
         requires synced { (slots_of self.old disk).unsynced ≡ false }
-        ensures slots { count_of self.new ≡ count_of self.old }
-        ensures slot { Touched (slots_of self.old) (slots_of self.new) disk
+        ensures slots { rack_slot_count self.new ≡ rack_slot_count self.old }
+        ensures slot { ChangesOneSlot (slots_of self.old) (slots_of self.new) disk
             (record (slots_of self.old disk) { power = Power.Parked }) false (is_ok result) }
-        ensures told { Grows (told_of self.old) (told_of self.new)
+        ensures told { GrowsByCall (told_of self.old) (told_of self.new)
             (Call.Park disk (is_ok result)) }
         // It fails exactly where the plan names it.
         ensures planned { is_ok result ≡ not (fails_next self.old disk) }
@@ -365,12 +364,12 @@ impl Rack for MemRack {
     }
 
     fn spin_up(&mut self, disk: DiskNo) -> Result<(), Failed>
-        requires exists { disk < count_of self.old }
+        requires exists { disk < rack_slot_count self.old }
         requires parked { (slots_of self.old disk).power ≡ Power.Parked }
-        ensures slots { count_of self.new ≡ count_of self.old }
-        ensures slot { Touched (slots_of self.old) (slots_of self.new) disk
+        ensures slots { rack_slot_count self.new ≡ rack_slot_count self.old }
+        ensures slot { ChangesOneSlot (slots_of self.old) (slots_of self.new) disk
             (record (slots_of self.old disk) { power = Power.Spinning }) false (is_ok result) }
-        ensures told { Grows (told_of self.old) (told_of self.new)
+        ensures told { GrowsByCall (told_of self.old) (told_of self.new)
             (Call.SpinUp disk (is_ok result)) }
         // It fails exactly where the plan names it.
         ensures planned { is_ok result ≡ not (fails_next self.old disk) }
@@ -386,13 +385,13 @@ impl Rack for MemRack {
     }
 
     fn attach(&mut self, disk: DiskNo, size: u32) -> Result<(), Failed>
-        requires exists { disk < count_of self.old }
-        ensures slots { count_of self.new ≡ count_of self.old }
-        ensures slot { Touched (slots_of self.old) (slots_of self.new) disk
+        requires exists { disk < rack_slot_count self.old }
+        ensures slots { rack_slot_count self.new ≡ rack_slot_count self.old }
+        ensures slot { ChangesOneSlot (slots_of self.old) (slots_of self.new) disk
             (record (slots_of self.old disk)
             { power = Power.Spinning; size = size; unsynced = false })
             (slots_of self.old disk).unsynced (is_ok result) }
-        ensures told { Grows (told_of self.old) (told_of self.new)
+        ensures told { GrowsByCall (told_of self.old) (told_of self.new)
             (Call.Attach disk size (is_ok result)) }
         // It fails where the plan names it or it is larger than the room, and for want of memory.
         ensures planned { fails_next self.old disk ≡ true → is_ok result ≡ false }

@@ -2,7 +2,7 @@
 ghost use Rattle.std.specs.Prelude.{◌≡◌, ℕ, ◌<◌, length, map, IfOk, OnOk};
 ghost use Rattle.paraid_base.specs.declared.block.Block.{Block as BlockType};
 ghost use Rattle.paraid_rack.specs.Disks.{Disks, step};
-ghost use Rattle.paraid_memrack.specs.Plan.{disk_of as disk_in};
+ghost use Rattle.paraid_rack.specs.Calls.{disk_of};
 ghost use Rattle.paraid_memrack.specs.Past.{past_of, past_start, AllPast, in_bytes, left_in_bytes};
 ghost use Rattle.paraid_memrack.specs.Stop.{kept_after};
 ghost use Rattle.paraid_memrack.specs.Tells.{beginning_of};
@@ -10,7 +10,7 @@ ghost use Rattle.paraid_memrack.specs.Tells.{beginning_of};
 use crate::log::Start;
 use crate::past::PastSlot;
 use crate::stop::Pick;
-use paraid_base::{DiskNo, NoMemory};
+use paraid_base::NoMemory;
 use paraid_rack::Call;
 use std::alloc::Global;
 
@@ -30,13 +30,13 @@ pub fn slots_at_start(alloc: Global, start: &Vec<Start>) -> Result<Vec<PastSlot>
 
 /// The slots after this call.
 pub fn follow(slots: &mut Vec<PastSlot>, alloc: Global, call: &Call) -> Result<(), NoMemory>
-    requires { disk_in call.now < length slots.old.items }
+    requires { disk_of call.now < length slots.old.items }
     ensures length { length slots.new.items ≡ length slots.old.items }
     ensures slots { OnOk result ((s : Disks) (kept : ℕ → ℕ → BlockType)
         → AllPast s kept slots.old.items
         → AllPast (step call.now s) (kept_after call.now s kept) slots.new.items) }
 {
-    let disk = disk_of(call);
+    let disk = call.disk();
     slots[disk as usize].follow(alloc, call)?;
     Ok(())
 }
@@ -53,18 +53,4 @@ pub fn left(alloc: Global, slots: &Vec<PastSlot>, pick: Pick) -> Result<Vec<Star
         start.push_reserved(slot.left(alloc, pick)?);
     }
     Ok(start)
-}
-
-// The disk of a call.
-fn disk_of(call: &Call) -> DiskNo
-    ensures { result ≡ disk_in call.now }
-{
-    match call {
-        Call::Read { disk, .. } => *disk,
-        Call::Write { disk, .. } => *disk,
-        Call::Sync { disk, .. } => *disk,
-        Call::Park { disk, .. } => *disk,
-        Call::SpinUp { disk, .. } => *disk,
-        Call::Attach { disk, .. } => *disk,
-    }
 }

@@ -1,8 +1,8 @@
 // The slots of a rack in memory, and what each call makes of one.
 ghost use Rattle.std.specs.Prelude.{◌≡◌, ℕ, ◌<◌, ◌≤◌, ◌+◌, ◌^◌, ◌-◌, true, false, length, map, slice_set, min, replicate, IfOk, []};
-ghost use Rattle.paraid_base.specs.Xor.{zeroed};
+ghost use Rattle.paraid_base.specs.Xor.{zero_block};
 ghost use Rattle.paraid_rack.specs.declared.call.Power.TheVariants.{Absent, Spinning};
-ghost use Rattle.paraid_memrack.specs.Slots.{ChangesSlot, full_slot, full_slot_at, full_slot_from, no_slot, wrecked};
+ghost use Rattle.paraid_memrack.specs.Slots.{SetsSlot, full_slot, full_slot_at, full_slot_from, no_slot, after_failure};
 ghost use Rattle.paraid_memrack.specs.Tells.{beginning_of};
 
 use crate::log::Start;
@@ -65,36 +65,16 @@ fn copies_of(alloc: Global, blocks: &Vec<Block>) -> Result<Vec<Block>, NoMemory>
         return Err(NoMemory);
     };
     for block in blocks.iter() {
-        copies.push_reserved(copy_of(block));
+        copies.push_reserved(block.copy());
     }
     Ok(copies)
-}
-
-/// So many blocks of zeros.
-pub fn zeros(alloc: Global, size: u32) -> Result<Vec<Block>, NoMemory>
-    ensures { IfOk result (λ blocks. blocks.items ≡ replicate size zeroed) }
-{
-    let Ok(mut blocks) = Vec::with_capacity(alloc, size as usize) else {
-        return Err(NoMemory);
-    };
-    for _i in 0..size {
-        blocks.push_reserved(Block::zero());
-    }
-    Ok(blocks)
-}
-
-/// The same block again.
-pub fn copy_of(block: &Block) -> Block
-    ensures { result ≡ block.now }
-{
-    Block::from_array(block.bytes)
 }
 
 /// The disk has failed, and gives its blocks back.
 pub fn fail(slots: &mut Vec<MemSlot>, alloc: Global, disk: DiskNo, dirt: bool)
     requires { disk < length slots.old.items }
-    ensures becomes { ChangesSlot slots.old.items slots.new.items disk
-        (wrecked dirt (full_slot_at slots.old.items disk)) }
+    ensures becomes { SetsSlot slots.old.items slots.new.items disk
+        (after_failure dirt (full_slot_at slots.old.items disk)) }
     ensures later { (full_slot_at slots.old.items disk).faults ≤ (full_slot_at slots.new.items disk).faults }
 {
     let slot = &mut slots[disk as usize];
@@ -108,7 +88,7 @@ pub fn fail(slots: &mut Vec<MemSlot>, alloc: Global, disk: DiskNo, dirt: bool)
 /// There is no disk any more.
 pub fn remove(slots: &mut Vec<MemSlot>, alloc: Global, disk: DiskNo)
     requires { disk < length slots.old.items }
-    ensures { ChangesSlot slots.old.items slots.new.items disk
+    ensures { SetsSlot slots.old.items slots.new.items disk
         (record (full_slot_at slots.old.items disk) { power = Absent; blocks = [] }) }
 {
     let lost = &mut slots[disk as usize];
@@ -121,7 +101,7 @@ pub fn put(slots: &mut Vec<MemSlot>, disk: DiskNo, place: Place, block: &Block)
     requires exists { disk < length slots.old.items }
     requires within { place < length (full_slot_at slots.old.items disk).blocks }
     ensures { let was = full_slot_at slots.old.items disk in
-        ChangesSlot slots.old.items slots.new.items disk
+        SetsSlot slots.old.items slots.new.items disk
         (record was { blocks = slice_set was.blocks place block.now; unsynced = true }) }
 {
     let slot = &mut slots[disk as usize];
@@ -130,9 +110,9 @@ pub fn put(slots: &mut Vec<MemSlot>, disk: DiskNo, place: Place, block: &Block)
 }
 
 /// What was written is kept.
-pub fn settle(slots: &mut Vec<MemSlot>, disk: DiskNo)
+pub fn mark_synced(slots: &mut Vec<MemSlot>, disk: DiskNo)
     requires { disk < length slots.old.items }
-    ensures { ChangesSlot slots.old.items slots.new.items disk
+    ensures { SetsSlot slots.old.items slots.new.items disk
         (record (full_slot_at slots.old.items disk) { unsynced = false }) }
 {
     slots[disk as usize].unsynced = false;
@@ -141,7 +121,7 @@ pub fn settle(slots: &mut Vec<MemSlot>, disk: DiskNo)
 /// The disk is powered otherwise.
 pub fn turn(slots: &mut Vec<MemSlot>, disk: DiskNo, power: Power)
     requires { disk < length slots.old.items }
-    ensures { ChangesSlot slots.old.items slots.new.items disk
+    ensures { SetsSlot slots.old.items slots.new.items disk
         (record (full_slot_at slots.old.items disk) { power = power }) }
 {
     slots[disk as usize].power = power;
@@ -150,7 +130,7 @@ pub fn turn(slots: &mut Vec<MemSlot>, disk: DiskNo, power: Power)
 /// A fresh disk with these blocks is in the slot.
 pub fn fill(slots: &mut Vec<MemSlot>, disk: DiskNo, blocks: Vec<Block>)
     requires { disk < length slots.old.items }
-    ensures { ChangesSlot slots.old.items slots.new.items disk (record (full_slot_at slots.old.items disk)
+    ensures { SetsSlot slots.old.items slots.new.items disk (record (full_slot_at slots.old.items disk)
         { power = Spinning; blocks = blocks.items; unsynced = false }) }
 {
     let slot = &mut slots[disk as usize];

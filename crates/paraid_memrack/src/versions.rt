@@ -1,10 +1,9 @@
 // A block as it was written last and as it was kept last, and what a stop leaves of it.
 ghost use Rattle.std.specs.Prelude.{◌≡◌, ◌++◌, take, drop, map, replicate, IfOk};
 ghost use Rattle.paraid_base.specs.declared.block.Block.{Block as BlockType};
-ghost use Rattle.paraid_base.specs.Xor.{zeroed};
-ghost use Rattle.paraid_memrack.specs.Versions.{firm, left_bytes};
+ghost use Rattle.paraid_base.specs.Xor.{zero_block};
+ghost use Rattle.paraid_memrack.specs.Versions.{synced_block, left_bytes};
 
-use crate::slot::copy_of;
 use crate::stop::Pick;
 use paraid_base::{Block, NoMemory};
 use std::alloc::Global;
@@ -23,11 +22,11 @@ impl Versions {
         ensures { result.bytes ≡ left_bytes pick self.now }
     {
         if !self.loose {
-            return copy_of(&self.written);
+            return self.written.copy();
         }
         match pick {
-            Pick::Old => copy_of(&self.kept),
-            Pick::New => copy_of(&self.written),
+            Pick::Old => self.kept.copy(),
+            Pick::New => self.written.copy(),
             Pick::Filled(byte) => Block::from_array([byte; 512]),
             Pick::Mixed => halves(&self.written, &self.kept),
         }
@@ -45,15 +44,15 @@ fn halves(first: &Block, second: &Block) -> Block
 
 /// These blocks, none of them loose.
 pub fn firm_versions(alloc: Global, blocks: &Vec<Block>) -> Result<Vec<Versions>, NoMemory>
-    ensures { IfOk result (λ versions. versions.items ≡ map firm blocks.now.items) }
+    ensures { IfOk result (λ versions. versions.items ≡ map synced_block blocks.now.items) }
 {
     let Ok(mut versions) = Vec::with_capacity(alloc, blocks.len()) else {
         return Err(NoMemory);
     };
     for block in blocks.iter() {
         versions.push_reserved(Versions {
-            written: copy_of(block),
-            kept: copy_of(block),
+            written: block.copy(),
+            kept: block.copy(),
             loose: false,
         });
     }
@@ -62,7 +61,7 @@ pub fn firm_versions(alloc: Global, blocks: &Vec<Block>) -> Result<Vec<Versions>
 
 /// So many blocks of zeros, none of them loose.
 pub fn fresh_versions(alloc: Global, size: u32) -> Result<Vec<Versions>, NoMemory>
-    ensures { IfOk result (λ versions. versions.items ≡ replicate size (firm zeroed)) }
+    ensures { IfOk result (λ versions. versions.items ≡ replicate size (synced_block zero_block)) }
 {
     let Ok(mut versions) = Vec::with_capacity(alloc, size as usize) else {
         return Err(NoMemory);

@@ -1,3 +1,8 @@
+mod AlikeLemmas
+mod CauseLemmas
+mod ExactLemmas
+pub mod ExaminedLemmas
 mod LackingLemmas
+mod ServedLemmas
 mod SidesLemmas
 mod SizesLemmas

@@ -1,3 +1,4 @@
 pub mod Refusals
 pub mod Order
 pub mod Said
+pub mod Examined

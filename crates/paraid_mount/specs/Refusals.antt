@@ -1,43 +1,24 @@
 -- What refuses a mount, by the meta that stands and by the slots.
-use Rattle.std.specs.Prelude.{◌≡◌, ℕ, ◌<◌, ◌⊎◌, ◌==◌, ◌&&◌, ◌||◌, nat_lt, not, max, Bool, true, false, Some, None}
+use Rattle.std.specs.Prelude.{◌≡◌, ℕ, ◌<◌, ◌⊎◌, ◌&&◌, ◌||◌, nat_lt, not, max, Bool, true, false, Some, None}
 use Rattle.paraid_base.specs.declared.fault.Two.{Two}
-use Rattle.paraid_base.specs.declared.state.Out.{Out}
-use Rattle.paraid_base.specs.declared.state.Out.TheVariants.{No, Gone, Fresh}
 use Rattle.paraid_base.specs.Regions.{disk_size}
-use Rattle.paraid_rack.specs.declared.call.Power.{Power}
-use Rattle.paraid_rack.specs.declared.call.Power.TheVariants.{Absent, Parked, Spinning}
 use Rattle.paraid_rack.specs.Disks.{is_present}
+pub use Rattle.paraid_rack.specs.Disks.{is_parked}
+pub use Rattle.paraid_base.specs.States.{is_fresh, is_gone}
 use Rattle.paraid_rack.specs.Slots.{Slot}
 use Rattle.paraid_record.specs.declared.meta.Meta.{Meta}
 use Rattle.paraid_image.specs.Out.{is_out, named_out}
 use Rattle.paraid_image.specs.Sides.{Batch}
-use Rattle.paraid_txn.specs.Staging.{names_disk}
+use Rattle.paraid_txn.specs.Batches.{names_disk}
 
 -- the least disk of the first `n` of which this holds
-pub record IsLeast (is : ℕ → Bool) (n d : ℕ) : Type 0 where
+pub record IsLeastDisk (is : ℕ → Bool) (n d : ℕ) : Type 0 where
   pub below : d < n
   pub holds : is d ≡ true
   pub least : (e : ℕ) → e < d → is e ≡ false
 
 abbrev pub IsNone : (ℕ → Bool) → ℕ → Type 0
 IsNone is n = (d : ℕ) → d < n → is d ≡ false
-
-abbrev pub is_parked : Power → Bool
-is_parked Absent = false
-is_parked Parked = true
-is_parked Spinning = false
-
--- whether a disk is gone by the meta
-abbrev pub is_gone : Out → ℕ → Bool
-is_gone No d = false
-is_gone (Gone out) d = d == out
-is_gone (Fresh out rebuilt) d = false
-
--- whether a disk is being rebuilt by the meta
-abbrev pub is_fresh : Out → ℕ → Bool
-is_fresh No d = false
-is_fresh (Gone out) d = false
-is_fresh (Fresh out rebuilt) d = d == out
 
 -- whether there is no such slot, or a disk is there that is not gone and has fewer blocks than needed
 unfoldable pub is_small : ℕ → (ℕ → Slot) → Meta → ℕ → Bool
@@ -62,12 +43,12 @@ is_lacking slot m d = not (is_present (slot d).power) && not (is_out (named_out 
 -- and the second is the least other one that is lacking.
 pub record AreMissing (slot : ℕ → Slot) (m : Meta) (two : Two) : Type 0 where
   pub first : (named_out m.out ≡ Some two.first)
-      ⊎ ((named_out m.out ≡ None) × IsLeast (is_lacking slot m) m.setup.geometry.disks two.first)
+      ⊎ ((named_out m.out ≡ None) × IsLeastDisk (is_lacking slot m) m.setup.geometry.disks two.first)
   pub second : two.second < m.setup.geometry.disks
   pub lacking : is_lacking slot m two.second ≡ true
   pub apart : two.first < two.second ⊎ (named_out m.out ≡ Some two.first)
   pub least : (e : ℕ) → e < two.second → is_lacking slot m e ≡ true → e ≡ two.first
 
 -- the greater of the epoch and the number of writes, which an array takes up to a bound
-abbrev pub wear : Meta → ℕ
-wear m = max m.epoch m.writes
+abbrev pub meta_wear : Meta → ℕ
+meta_wear m = max m.epoch m.writes

@@ -6,7 +6,7 @@ use Rattle.paraid_sides.specs.declared.both.Sides.{Sides}
 use Rattle.paraid_sides.specs.declared.hearing.Heard.{Heard}
 use Rattle.paraid_sides.specs.declared.hearing.Heard.TheVariants.{Blank, Bad, Formed}
 use Rattle.paraid_sides.specs.Faults.{IsFaulty, IsSilent, side_at}
-use Rattle.paraid_sides.specs.Heard.{side_by}
+use Rattle.paraid_sides.specs.HeardSides.{side_by}
 use Rattle.paraid_mount.specs.declared.fault.MountFault.{MountFault}
 use Rattle.paraid_mount.specs.declared.fault.MountFault.TheVariants.{NotFormatted, BadLog, BadMeta, Size, Power, Two as BothMissing, Worn, NoMemory}
 
@@ -45,7 +45,7 @@ abbrev pub IsLeastAtFault : Sides → Bool → ℕ → Type 0
 IsLeastAtFault sides gate x = IsAtFault sides gate x × ((e : ℕ) → e < x → IsAtFault sides gate e → ⊥)
 
 -- one is formed, and each is well formed but for one that is named out
-pub record AreFormed (sides : Sides) : Type 0 where
+pub record AreSidesFormed (sides : Sides) : Type 0 where
   pub formed : AreSilent sides → ⊥
   pub opened : IsFaultless sides true
   pub closed : IsFaultless sides false

@@ -1,10 +1,9 @@
 //! Two disks that are missing.
 ghost use Rattle.std.specs.Prelude.{◌≡◌, ◌<◌, ◌≤◌, ℕ, false, true, Some, None, MatchOption};
 ghost use Rattle.paraid_mount.specs.Refusals.{AreMissing, is_lacking as is_lacking_of};
-ghost use Rattle.paraid_image.specs.Out.{IsDouble, named_out as named_of};
+ghost use Rattle.paraid_image.specs.Out.{IsDouble};
 
-use crate::power::is_out;
-use paraid_base::{DiskNo, Out, Two};
+use paraid_base::{DiskNo, Two};
 use paraid_rack::{Power, Rack};
 use paraid_record::Meta;
 
@@ -15,7 +14,7 @@ fn is_lacking<R: Rack>(rack: &R, meta: &Meta, disk: DiskNo) -> bool
     ensures { result ≡ is_lacking_of (R.slot rack.now) meta.now disk }
 {
     match rack.power(disk) {
-        Power::Absent => !is_out(meta.out, disk),
+        Power::Absent => !meta.out.names(disk),
         _ => false,
     }
 }
@@ -38,17 +37,6 @@ fn lacking_from<R: Rack>(rack: &R, meta: &Meta, from: DiskNo) -> Option<DiskNo>
     None
 }
 
-// The disk that the meta names out.
-fn named(out: Out) -> Option<DiskNo>
-    ensures { result ≡ named_of out }
-{
-    match out {
-        Out::No => None,
-        Out::Gone { disk } => Some(disk),
-        Out::Fresh { disk, .. } => Some(disk),
-    }
-}
-
 /// Two disks of the array that are missing, each absent or named out. The first is the one named
 /// out, or else the least; the second is the least other absent one.
 pub fn two_missing<R: Rack>(rack: &R, meta: &Meta) -> Option<Two>
@@ -57,7 +45,7 @@ pub fn two_missing<R: Rack>(rack: &R, meta: &Meta) -> Option<Two>
     ensures none { result ≡ None → IsDouble (λ d. (R.slot rack.now d).power) meta.now → ⊥ }
 {
     let least = lacking_from(rack, meta, 0)?;
-    if let Some(out) = named(meta.out) {
+    if let Some(out) = meta.out.named() {
         return Some(Two {
             first: out,
             second: least,

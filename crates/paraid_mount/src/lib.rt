@@ -3,18 +3,25 @@
 //! No test makes a call that changes the rack. Each answers exactly where its cause is there.
 #![tactic(auto)]
 
+mod alike;
+mod examining;
 mod fault;
 mod lacking;
+mod law;
 mod power;
 mod refusal;
 mod sides;
 mod sizes;
+mod standing;
 mod wear;
 
+pub use examining::{examine, refusal_by_slots};
 pub use fault::MountFault;
 pub use lacking::two_missing;
+pub use law::{a_mount_is_refused_by_one_cause, a_mount_is_refused_or_goes_on};
 pub use power::first_asleep;
 pub use refusal::refusal_by;
 pub use sides::refusal_by_sides;
 pub use sizes::first_small;
+pub use standing::Standing;
 pub use wear::worn_count;

@@ -1,6 +1,6 @@
 //! Why a mount is refused by the meta that stands.
 ghost use Rattle.std.specs.Prelude.{◌≡◌, ◌<◌, ◌≤◌, ℕ, MatchOption};
-ghost use Rattle.paraid_mount.specs.Order.{IsRefusedBy, IsServed, size_found};
+ghost use Rattle.paraid_mount.specs.Order.{IsRefusedBy, IsNotRefused, size_found};
 
 use crate::fault::MountFault;
 use crate::lacking::two_missing;
@@ -26,7 +26,7 @@ fn found_size<R: Rack>(rack: &R, disk: DiskNo) -> u32
 /// a disk that is too small, one that is parked and is to spin, two that are missing, and wear.
 pub fn refusal_by<R: Rack>(rack: &R, meta: &Meta, batch: &Batch) -> Option<MountFault>
     ensures { MatchOption result
-        (IsServed (R.slot_count rack.now) (R.slot rack.now) meta.now batch.now)
+        (IsNotRefused (R.slot_count rack.now) (R.slot rack.now) meta.now batch.now)
         (IsRefusedBy (R.slot_count rack.now) (R.slot rack.now) meta.now batch.now) }
 {
     if let Some(disk) = first_small(rack, meta) {

@@ -1,9 +1,9 @@
 //! Why a mount is refused by what the log disks said.
 ghost use Rattle.std.specs.Prelude.{◌≡◌, ◌<◌, ◌≤◌, ℕ, MatchOption};
-ghost use Rattle.paraid_mount.specs.Said.{AreFormed, IsRefusedBySides, out_by, said_out as said_out_of, standing_out as standing_out_of};
+ghost use Rattle.paraid_mount.specs.Said.{AreSidesFormed, IsRefusedBySides, out_by, said_out as said_out_of, standing_out as standing_out_of};
 
 use crate::fault::MountFault;
-use paraid_base::{DiskNo, Out};
+use paraid_base::DiskNo;
 use paraid_sides::{Heard, Sides, choose, first_faulty, is_unformatted};
 
 // The disk that the meta of a side names out.
@@ -13,15 +13,11 @@ fn said_out(side: Option<Heard>) -> Option<DiskNo>
     let Some(Heard::Formed { meta, .. }) = side else {
         return None;
     };
-    match meta.out {
-        Out::No => None,
-        Out::Gone { disk } => Some(disk),
-        Out::Fresh { disk, .. } => Some(disk),
-    }
+    meta.out.named()
 }
 
-// The disk that the meta which stands names out.
-fn standing_out(sides: &Sides) -> Option<DiskNo>
+/// The disk that the meta which stands names out.
+pub fn standing_out(sides: &Sides) -> Option<DiskNo>
     ensures { result ≡ standing_out_of sides.now }
 {
     match choose(sides.first, sides.second) {
@@ -35,7 +31,7 @@ fn standing_out(sides: &Sides) -> Option<DiskNo>
 /// the standing meta does not name out is not well formed, and an open gate is found before a closed
 /// one. The least such log disk is named.
 pub fn refusal_by_sides(sides: &Sides) -> Option<MountFault>
-    ensures { MatchOption result (AreFormed sides.now) (IsRefusedBySides sides.now) }
+    ensures { MatchOption result (AreSidesFormed sides.now) (IsRefusedBySides sides.now) }
 {
     if is_unformatted(sides) {
         return Some(MountFault::NotFormatted);

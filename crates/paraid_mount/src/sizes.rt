@@ -1,31 +1,10 @@
 //! Disks that are too small for the array.
 ghost use Rattle.std.specs.Prelude.{◌≡◌, ◌<◌, ◌≤◌, ℕ, None, MatchOption};
-ghost use Rattle.paraid_mount.specs.Refusals.{IsLeast, IsNone, is_gone as is_gone_of, is_small as is_small_of};
-ghost use Rattle.paraid_rack.specs.Disks.{is_present};
+ghost use Rattle.paraid_mount.specs.Refusals.{IsLeastDisk, IsNone, is_small as is_small_of};
 
-use paraid_base::{DiskNo, Out};
-use paraid_rack::{Power, Rack};
+use paraid_base::DiskNo;
+use paraid_rack::Rack;
 use paraid_record::Meta;
-
-// Whether a disk is gone by the meta.
-fn is_gone(out: Out, disk: DiskNo) -> bool
-    ensures { result ≡ is_gone_of out disk }
-{
-    match out {
-        Out::Gone { disk: gone } => disk == gone,
-        _ => false,
-    }
-}
-
-// Whether there is a disk in the slot.
-fn is_there(power: Power) -> bool
-    ensures { result ≡ is_present power }
-{
-    match power {
-        Power::Absent => false,
-        _ => true,
-    }
-}
 
 // Whether there is no such slot, or a disk is there that is to be used and is too small.
 #[tactic(auto, unfolding(crate::specs::Refusals::is_small))]
@@ -35,8 +14,8 @@ fn is_small<R: Rack>(rack: &R, meta: &Meta, disk: DiskNo) -> bool
     if disk >= rack.slots() {
         return true;
     }
-    is_there(rack.power(disk))
-        && !is_gone(meta.out, disk)
+    rack.power(disk).is_present()
+        && !meta.out.is_gone(disk)
         && rack.size(disk) < meta.setup.geometry.size()
 }
 
@@ -47,7 +26,7 @@ pub fn first_small<R: Rack>(rack: &R, meta: &Meta) -> Option<DiskNo>
     ensures least { MatchOption result
         (IsNone (is_small_of (R.slot_count rack.now) (R.slot rack.now) meta.now)
         meta.now.setup.geometry.disks)
-        (IsLeast (is_small_of (R.slot_count rack.now) (R.slot rack.now) meta.now)
+        (IsLeastDisk (is_small_of (R.slot_count rack.now) (R.slot rack.now) meta.now)
         meta.now.setup.geometry.disks) }
 {
     for disk in 0..meta.setup.geometry.disks() {

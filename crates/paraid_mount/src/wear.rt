@@ -1,6 +1,6 @@
 //! An array that takes no more writes.
 ghost use Rattle.std.specs.Prelude.{◌≡◌, ◌<◌, ◌≤◌, ◌^◌, MatchOption};
-ghost use Rattle.paraid_mount.specs.Refusals.{wear};
+ghost use Rattle.paraid_mount.specs.Refusals.{meta_wear};
 
 use paraid_record::Meta;
 
@@ -9,8 +9,8 @@ const MOST: u64 = 4611686018427387904;
 
 /// The greater of the epoch and the number of writes, where it is 2^62 or more.
 pub fn worn_count(meta: &Meta) -> Option<u64>
-    ensures { MatchOption result (wear meta.now < 2 ^ 62)
-        (λ count. (count ≡ wear meta.now) × (2 ^ 62 ≤ count)) }
+    ensures { MatchOption result (meta_wear meta.now < 2 ^ 62)
+        (λ count. (count ≡ meta_wear meta.now) × (2 ^ 62 ≤ count)) }
 {
     let count = meta.epoch.max(meta.writes);
     if count < MOST {

@@ -15,13 +15,13 @@ use Rattle.paraid_image.specs.Sound.{AreDisks, ContentOk}
 use Rattle.paraid_image.specs.Content.{view_by}
 use Rattle.paraid_image.specs.Spot.{rising_to}
 use Rattle.paraid_image.specs.Standing.{Contents}
-use Rattle.paraid_moves.specs.Copying.{CanLose, Copies, without_disk}
-use Rattle.paraid_moves.proofs.ChangedLemmas.{attached_to, copying_attached, without_there}
+use Rattle.paraid_moves.specs.Copying.{CanLose, HoldsWithCopies, without_disk}
+use Rattle.paraid_moves.proofs.ChangedDiskLemmas.{attached_to, copying_attached, without_there}
 use Rattle.paraid_moves.proofs.FailLemmas.{attaches}
-use Rattle.paraid_moves.proofs.TurnedLemmas.{IsTurnedTo, content_turned, copying_turned, disks_parked, disks_spun, parked_turned, self_at, spun_turned}
+use Rattle.paraid_moves.proofs.ParkingLemmas.{IsTurnedTo, content_turned, copying_turned, disks_parked, disks_spun, parked_turned, self_at, spun_turned}
 
 module _ (slots : ℕ) (m : Meta) (f : Contents) (h : History) (lo : ℕ) where
-  pub copies_turned : (s t : Disks) → IsTurnedTo s t → AreDisks slots t.power t.size m (out_disk s.power m) → Copies slots m f h lo s → Copies slots m f h lo t
+  pub copies_turned : (s t : Disks) → IsTurnedTo s t → AreDisks slots t.power t.size m (out_disk s.power m) → HoldsWithCopies slots m f h lo s → HoldsWithCopies slots m f h lo t
   copies_turned s t turned ready c = record {
     copying = copying_turned s t m f turned c.copying;
     low = c.low;
@@ -35,20 +35,20 @@ module _ (slots : ℕ) (m : Meta) (f : Contents) (h : History) (lo : ℕ) where
   sized s d p o ready = subst (λ (z : ℕ → ℕ). AreDisks slots p z m o) (λ u. λ x. (sym (self_at s.size d x)) u) ready
 
   pub copies_parked : (s : Disks) (d : ℕ) → IsPresent s d → 2 ≤ d → m.gear ≤ d → rising_to m.phase ≤ d → ((u : ℕ) → m.out ≢ Fresh d u)
-      → Copies slots m f h lo s → Copies slots m f h lo (step (Park d true) s)
+      → HoldsWithCopies slots m f h lo s → HoldsWithCopies slots m f h lo (step (Park d true) s)
   unfolding step
   copies_parked s d here no_log low rises not_fresh c =
       copies_turned s (step (Park d true) s) (parked_turned s d here)
       (sized s d (with_at s.power d Parked) (out_disk s.power m) (disks_parked slots s.power s.size m (out_disk s.power m) d no_log low rises not_fresh here c.content.kept.disks)) c
 
-  pub copies_spun : (s : Disks) (d : ℕ) → IsPresent s d → Copies slots m f h lo s → Copies slots m f h lo (step (SpinUp d true) s)
+  pub copies_spun : (s : Disks) (d : ℕ) → IsPresent s d → HoldsWithCopies slots m f h lo s → HoldsWithCopies slots m f h lo (step (SpinUp d true) s)
   unfolding step
   copies_spun s d here c =
       copies_turned s (step (SpinUp d true) s) (spun_turned s d here)
       (sized s d (with_at s.power d Spinning) (out_disk s.power m) (disks_spun slots s.power s.size m (out_disk s.power m) d here c.content.kept.disks)) c
 
   pub copies_attached : (s : Disks) (d size : ℕ) → IsInRange m → m.out ≡ Gone d → disk_size m.setup.geometry ≤ size → CanLose slots m f h lo d s
-      → Copies slots m (without_disk f d) h lo (step (Attach d size true) s)
+      → HoldsWithCopies slots m (without_disk f d) h lo (step (Attach d size true) s)
   copies_attached s d size range gone large can =
       let a = attached_to s d size in
       record {

@@ -5,7 +5,7 @@ use Rattle.std.proofs.lemmas.Bool.{cases_eq}
 use Rattle.paraid_base.specs.declared.block.Block.{Block}
 use Rattle.paraid_base.specs.declared.state.Out.TheVariants.{No}
 use Rattle.paraid_base.specs.Regions.{hard_place_of}
-use Rattle.paraid_base.specs.Xor.{zeroed}
+use Rattle.paraid_base.specs.Xor.{zero_block}
 use Rattle.paraid_rack.specs.declared.call.Call.TheVariants.{Write}
 use Rattle.paraid_rack.specs.declared.call.Power.{Power}
 use Rattle.paraid_rack.specs.Disks.{Disks, is_present, step, with_at}
@@ -21,8 +21,8 @@ use Rattle.paraid_image.specs.Spot.{map_bit, map_disk}
 use Rattle.paraid_image.specs.Standing.{contents}
 use Rattle.paraid_image.specs.Value.{value}
 use Rattle.paraid_image.proofs.ContentsLemmas.{contents_here}
-use Rattle.paraid_moves.specs.Marks.{AreCellsCopied, seen}
-use Rattle.paraid_moves.proofs.CopyLemmas.{cell_copied, free_places_agree}
+use Rattle.paraid_moves.specs.MoveMetas.{AreCellsCopied, view_with_out}
+use Rattle.paraid_moves.proofs.FreePlaceLemmas.{cell_copied, free_places_agree}
 use Rattle.paraid_moves.proofs.MoveLemmas.{all_in}
 
 -- a done write leaves powers and sizes, and else writes its block
@@ -61,8 +61,8 @@ module _ (s t : Disks) (d p : ℕ) (b : Block) (w : IsWritten s t d p b) where
   pub contents_kept : (x q : ℕ) → (x ≡ d → q ≢ p) → contents t [] x q ≡ contents s [] x q
   unfolding contents
   contents_kept x q apart =
-      ap (λ (there : Bool). if nat_lt q 100 then zeroed else (if there then t.block x q else zeroed)) (place_kept x q)
-      ∙ ap (λ (y : Block). if nat_lt q 100 then zeroed else (if has_place s x q then y else zeroed)) (w.elsewhere x q apart)
+      ap (λ (there : Bool). if nat_lt q 100 then zero_block else (if there then t.block x q else zero_block)) (place_kept x q)
+      ∙ ap (λ (y : Block). if nat_lt q 100 then zero_block else (if has_place s x q then y else zero_block)) (w.elsewhere x q apart)
 
   -- The value of a dirty cell is copied to its hard place.
   pub copies_cell : (m : Meta) (cells cells_after : ℕ → ℕ → Bool) (q : ℕ) → IsInRange m → out_disk s.power m ≡ None → q < m.setup.geometry.rows → m.gear ≤ d
@@ -71,20 +71,20 @@ module _ (s t : Disks) (d p : ℕ) (b : Block) (w : IsWritten s t d p b) where
       → ((r x : ℕ) → cells_after r x ≡ true → (cells r x ≡ true) ⊎ ((r ≡ q) × (x ≡ d)))
       → AreCellsCopied (view_by m s.power (contents s [])) cells → AreCellsCopied (view_by m t.power (contents t [])) cells_after
   copies_cell m cells cells_after q range none lq low bit at there is more copied =
-      let free : IsFree (seen m None (contents s [])) d p = dirty_cell q lq low (ap (λ (o : Option ℕ). map_bit m.setup.geometry (contents s [] (map_disk o)) q d) (sym none) ∙ bit) at in
-      let agree = free_places_agree (seen m None (contents s [])) s.power (contents t []) range
+      let free : IsFree (view_with_out m None (contents s [])) d p = dirty_cell q lq low (ap (λ (o : Option ℕ). map_bit m.setup.geometry (contents s [] (map_disk o)) q d) (sym none) ∙ bit) at in
+      let agree = free_places_agree (view_with_out m None (contents s [])) s.power (contents t []) range
       (λ e named. let z : No ≡ No = refl in let k : None ≡ Some e = sym (ap named_out (all_in s.power m none)) ∙ named in k)
       (λ x y. elim (cases_eq x d) [
         | inr not ↦ inr (contents_kept x y (λ same. absurd (not same)))
         | inl same ↦ elim (cases_eq y p) [
           | inr not ↦ inr (contents_kept x y (λ _. not))
-          | inl here ↦ inl (subst (λ (z : ℕ). IsFree (seen m None (contents s [])) z y) (sym same) (subst (IsFree (seen m None (contents s [])) d) (sym here) free))
+          | inl here ↦ inl (subst (λ (z : ℕ). IsFree (view_with_out m None (contents s [])) z y) (sym same) (subst (IsFree (view_with_out m None (contents s [])) d) (sym here) free))
         ]
       ]) in
-      let stored : contents t [] d (hard_place_of m.setup.geometry q) ≡ value (seen m None (contents s [])) q d =
-      ap (contents t [] d) (sym at) ∙ contents_written there (omega arith) ∙ is ∙ ap (λ (o : Option ℕ). value (seen m o (contents s [])) q d) none in
+      let stored : contents t [] d (hard_place_of m.setup.geometry q) ≡ value (view_with_out m None (contents s [])) q d =
+      ap (contents t [] d) (sym at) ∙ contents_written there (omega arith) ∙ is ∙ ap (λ (o : Option ℕ). value (view_with_out m o (contents s [])) q d) none in
       let none_now : out_disk t.power m ≡ None = ap (λ (f : ℕ → Power). out_disk f m) w.power ∙ none in
-      subst (λ (o : Option ℕ). AreCellsCopied (seen m o (contents t [])) cells_after) (sym none_now)
+      subst (λ (o : Option ℕ). AreCellsCopied (view_with_out m o (contents t [])) cells_after) (sym none_now)
       (cell_copied m s.power (contents s []) (contents t []) range (all_in s.power m none) agree cells cells_after q d
       (λ y z apart. contents_kept y z (λ same. λ here. apart same (here ∙ at))) stored more
-      (subst (λ (o : Option ℕ). AreCellsCopied (seen m o (contents s [])) cells) none copied))
+      (subst (λ (o : Option ℕ). AreCellsCopied (view_with_out m o (contents s [])) cells) none copied))

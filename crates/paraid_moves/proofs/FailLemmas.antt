@@ -1,4 +1,5 @@
 -- A disk that fails, is attached anew, is rebuilt and joins again.
+use Rattle.paraid_image.specs.Mark.{meta_after_loss}
 use Rattle.std.specs.Prelude.{◌≡◌, ◌≢◌, ℕ, ◌+◌, ◌*◌, ◌/◌, ◌<◌, ◌≤◌, Bool, true, List, Option, Some, None, slice_index}
 use Rattle.std.proofs.Common.{refl, sym, ◌∙◌, ap, subst, arith, inl, inr, zero, suc}
 use Rattle.std.proofs.lemmas.Bool.{cases_eq}
@@ -19,7 +20,7 @@ use Rattle.paraid_image.specs.Sound.{AreDisks, AreRebuilt, IsFresh, stripes_on}
 use Rattle.paraid_image.specs.Spot.{map_bit, map_disk}
 use Rattle.paraid_image.specs.Standing.{Contents, other_log}
 use Rattle.paraid_image.proofs.ViewLemmas.{content_without, dirty_without, map_bit_same, map_disk_other}
-use Rattle.paraid_moves.specs.Marks.{marked_out, with_out, seen}
+use Rattle.paraid_moves.specs.MoveMetas.{meta_with_out, view_with_out}
 use Rattle.paraid_moves.proofs.MoveLemmas.{HoldUnder, Ok, all_in}
 use Rattle.paraid_moves.proofs.RebuildLemmas.{disk_joined, disk_marked_out, units_marked}
 
@@ -48,14 +49,14 @@ module _ (slots : ℕ) (power : ℕ → Power) (size : ℕ → ℕ) (h : History
 
   -- The out disk is marked as gone.
   pub marks_gone : (spins : List ℕ) → out_disk power m ≡ Some d → ((e : ℕ) → e ≢ d → slice_index spins e ≡ slice_index m.spins e)
-      → HoldUnder slots power size h k m f → HoldUnder slots power size h k (record (marked_out m d) { spins = spins }) f
+      → HoldUnder slots power size h k m f → HoldUnder slots power size h k (record (meta_after_loss m d) { spins = spins }) f
   marks_gone spins out others ok =
       disk_marked_out slots power size m d (bits (Some d) f) f h k
       (subst (λ (o : Option ℕ). Ok slots power size h k m o f) out ok) spins others
 
   -- A disk is failed by command: it is marked as gone where none was out.
   pub fails : (spins : List ℕ) → IsInRange m → out_disk power m ≡ None → ((e : ℕ) → e ≢ d → slice_index spins e ≡ slice_index m.spins e)
-      → HoldUnder slots power size h k m f → HoldUnder slots power size h k (record (marked_out m d) { spins = spins }) f
+      → HoldUnder slots power size h k m f → HoldUnder slots power size h k (record (meta_after_loss m d) { spins = spins }) f
   fails spins in_range none others ok =
       let here : Ok slots power size h k m None f = subst (λ (o : Option ℕ). Ok slots power size h k m o f) none ok in
       let no_fresh : (e u : ℕ) → IsFresh power m e u → ⊥ = (λ e u fresh. let z : No ≡ Fresh e u = sym (all_in power m none) ∙ fresh.is in cc) in
@@ -121,11 +122,11 @@ module _ (slots : ℕ) (power : ℕ → Power) (size : ℕ → ℕ) (h : History
   pub marks_units : (units : ℕ) → d < m.setup.geometry.disks → out_disk power m ≡ Some d
       → (is_present (power d) ≡ true → AreRebuilt (view_by m power f) d units)
       → (is_present (power d) ≡ true → disk_size m.setup.geometry ≤ size d) → (is_present (power d) ≡ true → power d ≡ Spinning)
-      → HoldUnder slots power size h k m f → HoldUnder slots power size h k (with_out m (Fresh d units)) f
+      → HoldUnder slots power size h k m f → HoldUnder slots power size h k (meta_with_out m (Fresh d units)) f
   marks_units units ld out rebuilt large spins ok =
       units_marked slots power size m d (bits (Some d) f) f h k
       (subst (λ (o : Option ℕ). Ok slots power size h k m o f) out ok) units
-      (λ there. subst (λ (o : Option ℕ). AreRebuilt (seen m o f) d units) out (rebuilt there)) large spins ld
+      (λ there. subst (λ (o : Option ℕ). AreRebuilt (view_with_out m o f) d units) out (rebuilt there)) large spins ld
 
   no_units : AreRebuilt (view_by m power f) d 0
   no_units = record {
@@ -136,7 +137,7 @@ module _ (slots : ℕ) (power : ℕ → Power) (size : ℕ → ℕ) (h : History
 
   -- A disk that was attached is marked as fresh, with no unit rebuilt.
   pub marks_fresh : d < m.setup.geometry.disks → m.out ≡ Gone d → power d ≡ Spinning → disk_size m.setup.geometry ≤ size d
-      → HoldUnder slots power size h k m f → HoldUnder slots power size h k (with_out m (Fresh d 0)) f
+      → HoldUnder slots power size h k m f → HoldUnder slots power size h k (meta_with_out m (Fresh d 0)) f
   marks_fresh ld gone spins large ok =
       marks_units 0 ld (named_is_out power m (Gone d) d gone refl) (λ there. no_units) (λ there. large) (λ there. spins) ok
 
@@ -148,7 +149,7 @@ module _ (slots : ℕ) (power : ℕ → Power) (size : ℕ → ℕ) (h : History
   units_first is j l = rw is (omega arith)
 
   -- the map of disk 0 is again that of disk 1
-  map_first : d ≡ 0 → AreRebuilt (seen m (Some d) f) d (rebuild_units m.setup.geometry m.gear d) → (r : ℕ) → r < 512 * map_count m.setup.geometry
+  map_first : d ≡ 0 → AreRebuilt (view_with_out m (Some d) f) d (rebuild_units m.setup.geometry m.gear d) → (r : ℕ) → r < 512 * map_count m.setup.geometry
       → f 0 (map_place_of m.setup.geometry r) ≡ f (map_disk (Some d)) (map_place_of m.setup.geometry r)
   map_first is rebuilt r l =
       ap (λ (x : ℕ). f x (map_place_of m.setup.geometry r)) (sym is)
@@ -159,19 +160,19 @@ module _ (slots : ℕ) (power : ℕ → Power) (size : ℕ → ℕ) (h : History
   -- All its units are rebuilt: it joins again.
   pub joins : (units : ℕ) → IsInRange m → d < m.setup.geometry.disks → m.out ≡ Fresh d units → units ≡ rebuild_units m.setup.geometry m.gear d → m.fill ≡ 0
       → ((e : ℕ) → e < m.setup.geometry.disks → is_present (power e) ≡ true)
-      → HoldUnder slots power size h k m f → HoldUnder slots power size h k (with_out m No) f
+      → HoldUnder slots power size h k m f → HoldUnder slots power size h k (meta_with_out m No) f
   joins units in_range ld fresh all empty there ok =
       let out : out_disk power m ≡ Some d = named_is_out power m (Fresh d units) d fresh refl in
       let here : Ok slots power size h k m (Some d) f = subst (λ (o : Option ℕ). Ok slots power size h k m o f) out ok in
       let is_fresh : IsFresh power m d units = record { is = fresh; present = there d ld } in
-      let rebuilt : AreRebuilt (seen m (Some d) f) d (rebuild_units m.setup.geometry m.gear d) =
-      subst (λ (u : ℕ). AreRebuilt (seen m (Some d) f) d u) all (here.kept.rebuilt d units is_fresh) in
-      subst (λ (o : Option ℕ). Ok slots power size h k (with_out m No) o f) (sym (no_disk_is_out power (with_out m No) refl there))
+      let rebuilt : AreRebuilt (view_with_out m (Some d) f) d (rebuild_units m.setup.geometry m.gear d) =
+      subst (λ (u : ℕ). AreRebuilt (view_with_out m (Some d) f) d u) all (here.kept.rebuilt d units is_fresh) in
+      subst (λ (o : Option ℕ). Ok slots power size h k (meta_with_out m No) o f) (sym (no_disk_is_out power (meta_with_out m No) refl there))
       (disk_joined slots power size m d (bits (Some d) f) f h k here in_range ld empty rebuilt
       (here.kept.disks.fresh_large d units is_fresh) (here.kept.disks.fresh_spins d units is_fresh) (bits None f)
       (λ r e l. map_bit_same m.setup.geometry (f (map_disk None)) (f (map_disk (Some d))) r e (joined_map rebuilt r l)))
     where
-      joined_map : AreRebuilt (seen m (Some d) f) d (rebuild_units m.setup.geometry m.gear d) → (r : ℕ) → r < 512 * map_count m.setup.geometry
+      joined_map : AreRebuilt (view_with_out m (Some d) f) d (rebuild_units m.setup.geometry m.gear d) → (r : ℕ) → r < 512 * map_count m.setup.geometry
           → f (map_disk None) (map_place_of m.setup.geometry r) ≡ f (map_disk (Some d)) (map_place_of m.setup.geometry r)
       joined_map rebuilt r l = elim (cases_eq d 0) [
         | inl is ↦ map_first is rebuilt r l

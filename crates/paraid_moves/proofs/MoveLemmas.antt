@@ -25,8 +25,8 @@ use Rattle.paraid_image.specs.Standing.{Contents}
 use Rattle.paraid_image.specs.Value.{value}
 use Rattle.paraid_image.proofs.AgreeLemmas.{AgreeSeen}
 use Rattle.paraid_image.proofs.ViewLemmas.{map_bit_same}
-use Rattle.paraid_moves.specs.Marks.{AreCellsCopied, AreStripesCopied, IsAs, begun, filled_to, flipped, seen}
-use Rattle.paraid_moves.proofs.CopyLemmas.{content_laid, free_places_agree, value_agrees}
+use Rattle.paraid_moves.specs.MoveMetas.{AreCellsCopied, AreStripesCopied, IsAs, meta_after_begin, filled_to, meta_flipped_to, view_with_out}
+use Rattle.paraid_moves.proofs.FreePlaceLemmas.{content_laid, free_places_agree, value_agrees}
 use Rattle.paraid_moves.proofs.ShiftLemmas.{cells_marked, down_begun, shift_ended, stripes_marked, up_begun}
 use Rattle.paraid_moves.proofs.ValuesLemmas.{blocks_carried, rows_carried, value_kept}
 
@@ -55,7 +55,7 @@ is_later m t is = sym (λ u. record {
 
 module _ (slots : ℕ) (power : ℕ → Power) (size : ℕ → ℕ) (h : History) (k : ℕ) where
   abbrev pub Ok : Meta → Option ℕ → Contents → Type 0
-  Ok m o f = ContentOk slots power size (seen m o f) h k
+  Ok m o f = ContentOk slots power size (view_with_out m o f) h k
 
   abbrev pub HoldUnder : Meta → Contents → Type 0
   HoldUnder m f = ContentOk slots power size (view_by m power f) h k
@@ -71,14 +71,14 @@ module _ (slots : ℕ) (power : ℕ → Power) (size : ℕ → ℕ) (h : History
     abbrev later : Meta
     later = record m { version = version; epoch = epoch; writes = writes; ticks = ticks }
 
-    later_hard : (r d : ℕ) → r < m.setup.geometry.rows → is_hard (seen later o f) r d ≡ is_hard (seen m o f) r d
+    later_hard : (r d : ℕ) → r < m.setup.geometry.rows → is_hard (view_with_out later o f) r d ≡ is_hard (view_with_out m o f) r d
     unfolding is_hard
     later_hard r d l = refl
 
     abbrev bits : ℕ → ℕ → Bool
     bits = map_bit m.setup.geometry (f (map_disk o))
 
-    later_same : (r d : ℕ) → r < m.setup.geometry.rows → d < m.setup.geometry.disks → value (seen later o f) r d ≡ value (seen m o f) r d
+    later_same : (r d : ℕ) → r < m.setup.geometry.rows → d < m.setup.geometry.disks → value (view_with_out later o f) r d ≡ value (view_with_out m o f) r d
     later_same r d lr ld = value_kept m later bits bits o f later_hard r d lr
 
     fresh_then : (d u : ℕ) → IsFresh power later d u → IsFresh power m d u
@@ -140,27 +140,27 @@ module _ (slots : ℕ) (power : ℕ → Power) (size : ℕ → ℕ) (h : History
     bits_are : (r d : ℕ) → v.dirty r d ≡ zero_bits r d
     bits_are r d = ap (λ (o : Option ℕ). map_bit m.setup.geometry (f (map_disk o)) r d) none
 
-    value_is : (r d : ℕ) → value v r d ≡ value (seen m None f) r d
-    value_is r d = ap (λ (o : Option ℕ). value (seen m o f) r d) none
+    value_is : (r d : ℕ) → value v r d ≡ value (view_with_out m None f) r d
+    value_is r d = ap (λ (o : Option ℕ). value (view_with_out m o f) r d) none
 
-    pub begins_down : (to : ℕ) → m.phase ≡ Steady → HoldUnder (begun m (Down to) m.spins) f
-    begins_down to steady = close_at (begun m (Down to) m.spins) f None none (down_begun slots power size m no_out zero_bits f h k here to steady)
+    pub begins_down : (to : ℕ) → m.phase ≡ Steady → HoldUnder (meta_after_begin m (Down to) m.spins) f
+    begins_down to steady = close_at (meta_after_begin m (Down to) m.spins) f None none (down_begun slots power size m no_out zero_bits f h k here to steady)
 
     pub begins_up : (to : ℕ) (spins : List ℕ) → m.phase ≡ Steady → ((d : ℕ) → m.gear ≤ d → d < to → power d ≡ Parked → 1 ≤ slice_index spins d)
-        → HoldUnder (begun m (Up to) spins) f
+        → HoldUnder (meta_after_begin m (Up to) spins) f
     begins_up to spins steady recorded =
-        close_at (begun m (Up to) spins) f None none (up_begun slots power size m no_out zero_bits f h k here to spins steady recorded)
+        close_at (meta_after_begin m (Up to) spins) f None none (up_begun slots power size m no_out zero_bits f h k here to spins steady recorded)
 
     pub marks_stripes : (end : ℕ) → AreStripesCopied v end → HoldUnder (filled_to m end) f
     marks_stripes end copied =
-        let copied_here : AreStripesCopied (seen m None f) end = subst (λ (o : Option ℕ). AreStripesCopied (seen m o f) end) none copied in
+        let copied_here : AreStripesCopied (view_with_out m None f) end = subst (λ (o : Option ℕ). AreStripesCopied (view_with_out m o f) end) none copied in
         close_at (filled_to m end) f None none (stripes_marked slots power size m no_out zero_bits f h k here end copied_here)
 
     pub ends_shift : (to : ℕ) → 2 ≤ to → to ≤ m.setup.geometry.disks → phase_to m.phase ≡ to → m.fill ≡ stripe_count m.setup.geometry.disks m.setup.geometry.rows to
         → ((r d : ℕ) → r < m.setup.geometry.rows → m.gear ≤ d → d < to → v.dirty r d ≡ false)
-        → (m.gear < to → rising_to m.phase ≡ to) → ((d : ℕ) → d < to → power d ≡ Spinning) → HoldUnder (flipped m to) f
+        → (m.gear < to → rising_to m.phase ≡ to) → ((d : ℕ) → d < to → power d ≡ Spinning) → HoldUnder (meta_flipped_to m to) f
     ends_shift to low high is filled clean rising spinning =
-        close_at (flipped m to) f None none
+        close_at (meta_flipped_to m to) f None none
         (shift_ended slots power size m no_out zero_bits f h k here to low high is filled (λ r d lr ld l. sym (bits_are r d) ∙ clean r d lr ld l) rising spinning)
 
     -- The map blocks of copied cells are written.
@@ -199,7 +199,7 @@ module _ (slots : ℕ) (power : ℕ → Power) (size : ℕ → ℕ) (h : History
         | inr not ↦ let t : (y == x && z == p) ≡ false = grind (arith, nat_tests) in rw t refl
       ]
 
-      only : (y z : ℕ) → IsFree (seen m None f) y z ⊎ (middle y z ≡ f y z)
+      only : (y z : ℕ) → IsFree (view_with_out m None f) y z ⊎ (middle y z ≡ f y z)
       only y z = elim (cases_eq y x) [
         | inr not ↦ inr (middle_else y z (λ is. absurd (not is)))
         | inl is ↦ elim (cases_eq z (hard_place_of m.setup.geometry q)) [
@@ -211,8 +211,8 @@ module _ (slots : ℕ) (power : ℕ → Power) (size : ℕ → ℕ) (h : History
       named : (e : ℕ) → named_out m.out ≡ Some e → None ≡ Some e
       named e is = let z : None ≡ Some e = sym (ap named_out no_out) ∙ is in z
 
-      agree : AgreeSeen (seen m None f) power middle
-      agree = free_places_agree (seen m None f) power middle in_range named only
+      agree : AgreeSeen (view_with_out m None f) power middle
+      agree = free_places_agree (view_with_out m None f) power middle in_range named only
 
       pub cleans_cell : HoldUnder m after
       cleans_cell = close_at m after None none
@@ -223,7 +223,7 @@ module _ (slots : ℕ) (power : ℕ → Power) (size : ℕ → ℕ) (h : History
           (λ r d lr ld was now.
           let at = one r d lr ld (bits_are r d ∙ sym (middle_bit r d (omega arith)) ∙ was) now in
           ap (λ (e : ℕ). middle d (hard_place_of m.setup.geometry e)) at.0 ∙ ap (λ (e : ℕ). middle e (hard_place_of m.setup.geometry q)) at.1
-          ∙ middle_is ∙ stored ∙ value_is q x ∙ ap (λ (e : ℕ). value (seen m None f) e x) (sym at.0) ∙ ap (value (seen m None f) r) (sym at.1)
+          ∙ middle_is ∙ stored ∙ value_is q x ∙ ap (λ (e : ℕ). value (view_with_out m None f) e x) (sym at.0) ∙ ap (value (view_with_out m None f) r) (sym at.1)
           ∙ sym (value_agrees m power f middle in_range no_out agree r d lr ld)))
         where
           past : (y z : ℕ) → 100 + map_count m.setup.geometry ≤ z → after y z ≡ middle y z

@@ -5,16 +5,16 @@ use Rattle.paraid_base.specs.declared.state.Out.TheVariants.{No, Gone, Fresh}
 use Rattle.paraid_base.specs.History.{History}
 use Rattle.paraid_rack.specs.Disks.{Disks, IsImage}
 use Rattle.paraid_record.specs.declared.meta.Meta.{Meta}
-use Rattle.paraid_image.specs.Rest.{IsAtRest, IsDrained}
+use Rattle.paraid_image.specs.Rest.{IsAtRest, AreSynced}
 use Rattle.paraid_txn.specs.Commit.{IsNext}
 use Rattle.paraid_image.specs.Content.{view_by}
-use Rattle.paraid_image.specs.Holds.{Holds}
+use Rattle.paraid_image.specs.FirstWrites.{HoldsFirstWrites}
 use Rattle.paraid_image.specs.Out.{named_out}
-use Rattle.paraid_image.specs.Sides.{is_open, stored}
+use Rattle.paraid_image.specs.Sides.{is_open, stored_block}
 use Rattle.paraid_image.specs.Sound.{ContentOk}
 use Rattle.paraid_image.specs.Standing.{Contents, contents}
-use Rattle.paraid_moves.specs.Copying.{Copies}
-use Rattle.paraid_moves.proofs.CopyingLemmas.{copies_hold, rest_from_copying}
+use Rattle.paraid_moves.specs.Copying.{HoldsWithCopies}
+use Rattle.paraid_moves.proofs.CopyCommitLemmas.{copies_hold, rest_from_copying}
 
 module _ (s : Disks) (before after : Meta) (epoch : after.epoch ≡ before.epoch + 1) (setup : after.setup ≡ before.setup) (rest : IsAtRest s before) where
   -- a shift, and a commit of writes
@@ -38,7 +38,7 @@ module _ (s : Disks) (before after : Meta) (epoch : after.epoch ≡ before.epoch
   }
 
   -- it is marked as fresh, or units of it as rebuilt
-  pub next_fresh : (d units : ℕ) → after.out ≡ Fresh d units → named_out before.out ≡ Some d → (d < 2 → is_open (stored s d 0) ≡ false) → IsNext s before after
+  pub next_fresh : (d units : ℕ) → after.out ≡ Fresh d units → named_out before.out ≡ Some d → (d < 2 → is_open (stored_block s d 0) ≡ false) → IsNext s before after
   next_fresh d units is was shut = record {
     epoch = epoch;
     setup = setup;
@@ -49,7 +49,7 @@ module _ (s : Disks) (before after : Meta) (epoch : after.epoch ≡ before.epoch
     fresh_shut = λ x u fresh l.
         let z : Fresh d units ≡ Fresh x u = sym is ∙ fresh.is in
         let y : d ≡ x = cc in
-        subst (λ (e : ℕ). is_open (stored s e 0) ≡ false) y (shut (subst (λ (e : ℕ). e < 2) (sym y) l));
+        subst (λ (e : ℕ). is_open (stored_block s e 0) ≡ false) y (shut (subst (λ (e : ℕ). e < 2) (sym y) l));
   }
 
   -- it joins again
@@ -66,7 +66,7 @@ module _ (s : Disks) (before after : Meta) (epoch : after.epoch ≡ before.epoch
   }
 
 -- What the disks hold now, with all copies made, holds the history.
-module _ (slots : ℕ) (m : Meta) (f : Contents) (h : History) (lo : ℕ) (s : Disks) (c : Copies slots m f h lo s) where
+module _ (slots : ℕ) (m : Meta) (f : Contents) (h : History) (lo : ℕ) (s : Disks) (c : HoldsWithCopies slots m f h lo s) where
   abbrev i : Disks
   i = record s { loose = λ d p. false }
 
@@ -80,9 +80,9 @@ module _ (slots : ℕ) (m : Meta) (f : Contents) (h : History) (lo : ℕ) (s : D
       subst (λ (g : Contents). ContentOk slots s.power s.size (view_by m s.power g) h m.writes) contents_now
       (copies_hold i m f (c.copying i e) slots h c.content)
 
-  pub holds_now : Holds slots s m [] h lo
+  pub holds_now : HoldsFirstWrites slots s m [] h lo
   holds_now = record { low = c.low; high = c.high; content = content_now }
 
   -- where they are synced, the next commit can begin
-  pub rest_now : IsDrained s → IsAtRest s m
-  rest_now dry = rest_from_copying s m f dry c.copying
+  pub rest_now : AreSynced s → IsAtRest s m
+  rest_now synced = rest_from_copying s m f synced c.copying

@@ -1,4 +1,5 @@
 -- The metas that a shift and a rebuild bring are in range.
+use Rattle.paraid_image.specs.Mark.{meta_after_loss}
 use Rattle.std.specs.Prelude.{◌≡◌, ◌≢◌, ℕ, ◌+◌, ◌<◌, ◌≤◌, ◌⊎◌, true, false, List, length, slice_index}
 use Rattle.std.proofs.Common.{refl, sym, ◌∙◌, ap, subst, arith, inl, inr}
 use Rattle.std.proofs.lemmas.Bool.{cases_lt, false≢true}
@@ -12,7 +13,8 @@ use Rattle.paraid_record.specs.declared.meta.Meta.{Meta}
 use Rattle.paraid_record.specs.Codes.{phase_to}
 use Rattle.paraid_record.specs.Range.{AreCountersInRange, AreNextGears, IsInRange, IsOutInRange, IsPhaseInRange, IsVersionInRange, allowed_spins, fill_limit, first_parked, has_out, is_down, rebuild_units}
 use Rattle.paraid_ration.proofs.AllowanceLemmas.{allowance-grows}
-use Rattle.paraid_moves.specs.Marks.{IsAs, begun, filled_to, flipped, marked_out, phase_left, with_out}
+use Rattle.paraid_moves.specs.MoveMetas.{IsAs, meta_after_begin, filled_to, meta_flipped_to, meta_with_out}
+use Rattle.paraid_base.specs.States.{phase_beside}
 use Rattle.paraid_moves.proofs.MoveLemmas.{is_later}
 
 no_has_out : (o : Out) → o ≡ No → has_out o ≡ false
@@ -23,7 +25,7 @@ no_out_in_range g gear o is = subst (IsOutInRange g gear) (sym is) tt
 
 -- A shift down begins, within the ration.
 pub down_in_range : (m : Meta) (to : ℕ) → IsInRange m → m.out ≡ No → m.phase ≡ Steady → AreNextGears m.setup.geometry to m.gear
-    → ((d : ℕ) → to ≤ d → d < m.gear → slice_index m.spins d < allowed_spins m) → IsInRange (begun m (Down to) m.spins)
+    → ((d : ℕ) → to ≤ d → d < m.gear → slice_index m.spins d < allowed_spins m) → IsInRange (meta_after_begin m (Down to) m.spins)
 down_in_range m to r none steady next ration = record {
   setup = r.setup;
   version = r.version;
@@ -47,7 +49,7 @@ down_in_range m to r none steady next ration = record {
 pub up_in_range : (m : Meta) (to : ℕ) (spins : List ℕ) → IsInRange m → m.out ≡ No → m.phase ≡ Steady → AreNextGears m.setup.geometry m.gear to
     → length spins ≡ 8
     → ((d : ℕ) → m.gear ≤ d → d < to → slice_index spins d ≡ slice_index m.spins d + 1)
-    → ((d : ℕ) → (d < m.gear) ⊎ (to ≤ d) → slice_index spins d ≡ slice_index m.spins d) → IsInRange (begun m (Up to) spins)
+    → ((d : ℕ) → (d < m.gear) ⊎ (to ≤ d) → slice_index spins d ≡ slice_index m.spins d) → IsInRange (meta_after_begin m (Up to) spins)
 up_in_range m to spins r none steady next eight more same = record {
   setup = r.setup;
   version = r.version;
@@ -95,7 +97,7 @@ shift_parks gear (Down to) not = refl
 shift_parks gear (Up to) not = refl
 
 -- A shift ends.
-pub flip_in_range : (m : Meta) (to : ℕ) → IsInRange m → m.out ≡ No → m.phase ≢ Steady → phase_to m.phase ≡ to → IsInRange (flipped m to)
+pub flip_in_range : (m : Meta) (to : ℕ) → IsInRange m → m.out ≡ No → m.phase ≢ Steady → phase_to m.phase ≡ to → IsInRange (meta_flipped_to m to)
 flip_in_range m to r none shifts is = record {
   setup = r.setup;
   version = r.version;
@@ -120,24 +122,24 @@ flip_in_range m to r none shifts is = record {
     to_gear (Down low) range not = range.lower_gear
     to_gear (Up high) range not = range.higher_gear
 
-left_in_range : (g : Geometry) (gear : ℕ) (p : Phase) → IsPhaseInRange g gear p → IsPhaseInRange g gear (phase_left p)
+left_in_range : (g : Geometry) (gear : ℕ) (p : Phase) → IsPhaseInRange g gear p → IsPhaseInRange g gear (phase_beside true p)
 left_in_range g gear Steady range = tt
 left_in_range g gear (Down to) range = tt
 left_in_range g gear (Up to) range = range
 
-left_up : (p : Phase) → is_down (phase_left p) ≡ false
+left_up : (p : Phase) → is_down (phase_beside true p) ≡ false
 left_up Steady = refl
 left_up (Down to) = refl
 left_up (Up to) = refl
 
-left_parks : (g : Geometry) (gear : ℕ) (p : Phase) → IsPhaseInRange g gear p → first_parked gear p ≤ first_parked gear (phase_left p)
+left_parks : (g : Geometry) (gear : ℕ) (p : Phase) → IsPhaseInRange g gear p → first_parked gear p ≤ first_parked gear (phase_beside true p)
 left_parks g gear Steady range = omega arith
 left_parks g gear (Down to) range = let l = range.below in omega arith
 left_parks g gear (Up to) range = omega arith
 
 -- A disk goes out, with its spins as they were or less.
 pub out_in_range : (m : Meta) (d : ℕ) (spins : List ℕ) → IsInRange m → d < m.setup.geometry.disks → length spins ≡ 8
-    → ((e : ℕ) → slice_index spins e ≤ slice_index m.spins e) → IsInRange (record (marked_out m d) { spins = spins })
+    → ((e : ℕ) → slice_index spins e ≤ slice_index m.spins e) → IsInRange (record (meta_after_loss m d) { spins = spins })
 out_in_range m d spins r ld eight less = record {
   setup = r.setup;
   version = r.version;
@@ -156,7 +158,7 @@ out_in_range m d spins r ld eight less = record {
 
 -- Units of a disk that is out are rebuilt.
 pub units_in_range : (m : Meta) (d units : ℕ) → IsInRange m → has_out m.out ≡ true → d < m.setup.geometry.disks → units ≤ rebuild_units m.setup.geometry m.gear d
-    → IsInRange (with_out m (Fresh d units))
+    → IsInRange (meta_with_out m (Fresh d units))
 units_in_range m d units r out ld limit = record {
   setup = r.setup;
   version = r.version;
@@ -170,7 +172,7 @@ units_in_range m d units r out ld limit = record {
 }
 
 -- It joins again.
-pub join_in_range : (m : Meta) → IsInRange m → IsInRange (with_out m No)
+pub join_in_range : (m : Meta) → IsInRange m → IsInRange (meta_with_out m No)
 join_in_range m r = record {
   setup = r.setup;
   version = r.version;

@@ -1,4 +1,5 @@
 -- What the marks of a rebuild leave.
+use Rattle.paraid_image.specs.Mark.{meta_after_loss}
 use Rattle.std.specs.Prelude.{◌≡◌, ◌≢◌, ℕ, ◌+◌, ◌*◌, ◌<◌, ◌≤◌, ◌==◌, nat_lt, Bool, true, false, List, Some, None, slice_index, if◌then◌else◌}
 use Rattle.std.proofs.Common.{refl, sym, ◌∙◌, ap, subst, arith, inl, inr}
 use Rattle.std.proofs.lemmas.Bool.{cases_Bool, cases_eq, cases_lt}
@@ -6,13 +7,11 @@ use Rattle.std.proofs.lemmas.Bool.Decides.{nat_tests}
 use Rattle.paraid_base.specs.declared.block.Block.{Block}
 use Rattle.paraid_base.specs.declared.geometry.Geometry.{Geometry}
 use Rattle.paraid_base.specs.declared.state.Out.TheVariants.{No, Gone, Fresh}
-use Rattle.paraid_base.specs.declared.state.Phase.{Phase}
-use Rattle.paraid_base.specs.declared.state.Phase.TheVariants.{Steady, Down, Up}
 use Rattle.paraid_base.specs.History.{History}
 use Rattle.paraid_base.specs.Regions.{disk_size, hard_place_of, map_count}
 use Rattle.paraid_base.specs.Soft.{soft_disk, soft_stripe, stripe_count}
 use Rattle.paraid_base.specs.Sums.{without, xor_upto}
-use Rattle.paraid_base.specs.Xor.{xor, zeroed}
+use Rattle.paraid_base.specs.Xor.{xor, zero_block}
 use Rattle.paraid_base.proofs.SoftLemmas.{soft_disk_below, soft_stripe_below}
 use Rattle.paraid_base.proofs.SumsLemmas.{whole_from_others}
 use Rattle.paraid_base.proofs.XorLemmas.{xor_self}
@@ -23,21 +22,12 @@ use Rattle.paraid_record.specs.declared.meta.Meta.{Meta}
 use Rattle.paraid_record.specs.Range.{IsInRange, rebuild_units}
 use Rattle.paraid_image.specs.Out.{is_out}
 use Rattle.paraid_image.specs.Sound.{AreRebuilt, ContentOk, IsFresh, IsStripeZero}
-use Rattle.paraid_image.specs.Spot.{View, is_hard, rising_to}
+use Rattle.paraid_image.specs.Spot.{View, is_hard}
 use Rattle.paraid_image.specs.Standing.{Contents, other_log}
 use Rattle.paraid_image.specs.Value.{near, soft_value, stripe, stripe_rest, value}
-use Rattle.paraid_moves.specs.Marks.{marked_out, phase_left, with_out}
+use Rattle.paraid_moves.specs.MoveMetas.{meta_with_out}
+use Rattle.paraid_base.proofs.StatesLemmas.{rising_to-beside, up_before}
 use Rattle.paraid_moves.proofs.ValuesLemmas.{above_soft, blocks_carried, clean_hard, hard_spot_at, rows_carried, soft_spot_at, value_hard, value_kept, value_soft}
-
-still_up : (p : Phase) (to : ℕ) → phase_left p ≡ Up to → p ≡ Up to
-still_up Steady to is = cc
-still_up (Down low) to is = cc
-still_up (Up high) to is = is
-
-still_rising : (p : Phase) → rising_to (phase_left p) ≡ rising_to p
-still_rising Steady = refl
-still_rising (Down low) = refl
-still_rising (Up high) = refl
 
 out_here : (d e : ℕ) → e ≡ d → (e == d) ≡ true
 out_here d e is = grind (arith, nat_tests)
@@ -49,7 +39,7 @@ other_some : (d e : ℕ) → e ≢ d → Some d ≢ Some e
 other_some d e apart is = let same : d ≡ e = cc in apart (sym same)
 
 -- a stripe of which one member is the XOR of the others sums to zero
-rest_zero : (f : ℕ → Block) (i n : ℕ) → i < n → f i ≡ xor_upto (without f i) n → xor_upto f n ≡ zeroed
+rest_zero : (f : ℕ → Block) (i n : ℕ) → i < n → f i ≡ xor_upto (without f i) n → xor_upto f n ≡ zero_block
 rest_zero f i n l is = whole_from_others f i n l ∙ ap (λ (b : Block). xor b (f i)) (sym is) ∙ xor_self (f i)
 
 count_below : (d a count : ℕ) → d < a → (if nat_lt d a then count else 0) ≡ count
@@ -67,7 +57,7 @@ module _ (slots : ℕ) (power : ℕ → Power) (size : ℕ → ℕ) (m : Meta) (
     -- It is marked as gone, whatever it was marked before.
     module _ (spins : List ℕ) (others : (e : ℕ) → e ≢ d → slice_index spins e ≡ slice_index m.spins e) where
       abbrev gone : Meta
-      gone = record (marked_out m d) { spins = spins }
+      gone = record (meta_after_loss m d) { spins = spins }
 
       abbrev w : View
       w = record v { meta = gone }
@@ -77,7 +67,7 @@ module _ (slots : ℕ) (power : ℕ → Power) (size : ℕ → ℕ) (m : Meta) (
 
       gone_hard : (r e : ℕ) → r < g.rows → is_hard w r e ≡ is_hard v r e
       unfolding is_hard
-      gone_hard r e l = rw (still_rising m.phase) refl
+      gone_hard r e l = rw (rising_to-beside m.phase) refl
 
       gone_same : (r e : ℕ) → r < g.rows → e < g.disks → value w r e ≡ value v r e
       gone_same r e lr le = value_kept m gone dirty dirty (Some d) block gone_hard r e lr
@@ -100,7 +90,7 @@ module _ (slots : ℕ) (power : ℕ → Power) (size : ℕ → ℕ) (m : Meta) (
             fresh_spins = λ e u fresh. absurd (gone_fresh e u fresh);
             recorded = λ to e is low high parked there.
                 let away : e ≢ d = (λ same. there (ap Some (sym same))) in
-                let was = ok.kept.disks.recorded to e (still_up m.phase to is) low high parked there in
+                let was = ok.kept.disks.recorded to e (up_before m.phase to is) low high parked there in
                 rw (others e away) was;
           };
         };
@@ -111,7 +101,7 @@ module _ (slots : ℕ) (power : ℕ → Power) (size : ℕ → ℕ) (m : Meta) (
     module _ (units : ℕ) (rebuilt : is_present (power d) ≡ true → AreRebuilt v d units)
         (large : is_present (power d) ≡ true → disk_size g ≤ size d) (spins : is_present (power d) ≡ true → power d ≡ Spinning) where
       abbrev fresh : Meta
-      fresh = with_out m (Fresh d units)
+      fresh = meta_with_out m (Fresh d units)
 
       abbrev f : View
       f = record v { meta = fresh }
@@ -166,7 +156,7 @@ module _ (slots : ℕ) (power : ℕ → Power) (size : ℕ → ℕ) (m : Meta) (
         (large : disk_size g ≤ size d) (spins : power d ≡ Spinning) (dirty_after : ℕ → ℕ → Bool)
         (same_dirty : (r e : ℕ) → r < 512 * map_count g → dirty_after r e ≡ dirty r e) where
       abbrev joined : Meta
-      joined = with_out m No
+      joined = meta_with_out m No
 
       abbrev j : View
       j = record { meta = joined; dirty = dirty_after; out = None; block = block }

@@ -9,7 +9,7 @@ use Rattle.paraid_rack.specs.declared.call.Call.{Call}
 use Rattle.paraid_rack.specs.declared.call.Call.TheVariants.{Read, Sync, Write}
 use Rattle.paraid_rack.specs.declared.call.Power.{Power}
 use Rattle.paraid_rack.specs.Disks.{Disks, step, with_at}
-use Rattle.paraid_rack.specs.Told.{Grows, Ran, Runs}
+use Rattle.paraid_rack.specs.Told.{GrowsByCall, Ran, CrashTriple}
 use Rattle.paraid_rack.specs.Trail.{Trail}
 use Rattle.paraid_rack.proofs.AtomsLemmas.{with_at_other, with_at_same}
 use Rattle.paraid_rack.proofs.TrailsLemmas.{called}
@@ -17,18 +17,18 @@ use Rattle.paraid_record.specs.declared.meta.Meta.{Meta}
 use Rattle.paraid_record.specs.Range.{IsInRange}
 use Rattle.paraid_image.specs.Content.{view_by}
 use Rattle.paraid_image.specs.Calls.{disk_of, is_done}
-use Rattle.paraid_image.specs.Holds.{Holds}
+use Rattle.paraid_image.specs.FirstWrites.{HoldsFirstWrites}
 use Rattle.paraid_image.specs.Out.{out_disk}
 use Rattle.paraid_image.specs.Rest.{IsAtRest}
 use Rattle.paraid_image.specs.Sound.{ContentOk}
 use Rattle.paraid_image.specs.Standing.{Contents, contents}
-use Rattle.paraid_image.proofs.LossLemmas.{failed_is_loss}
-use Rattle.paraid_moves.specs.Copying.{CanCopy, CanLose, Copies, HeldBy, IsCopying, without_disk}
-use Rattle.paraid_moves.proofs.ChangedLemmas.{content_lost, copying_lost}
-use Rattle.paraid_moves.proofs.CopyingLemmas.{copying_from_rest, copying_holds, copying_read, copying_sync, copying_write}
+use Rattle.paraid_image.proofs.FailedCallLemmas.{failed_is_loss}
+use Rattle.paraid_moves.specs.Copying.{CanCopy, CanLose, HoldsWithCopies, IsHeldByCopies, IsCopying, without_disk}
+use Rattle.paraid_moves.proofs.ChangedDiskLemmas.{content_lost, copying_lost}
+use Rattle.paraid_moves.proofs.CopyCommitLemmas.{copying_from_rest, copying_holds, copying_read, copying_sync, copying_write}
 
 module _ (slots : ℕ) (m : Meta) (f : Contents) (h : History) (lo : ℕ) where
-  pub copies_held : (s : Disks) → Copies slots m f h lo s → HeldBy slots m h lo s
+  pub copies_held : (s : Disks) → HoldsWithCopies slots m f h lo s → IsHeldByCopies slots m h lo s
   copies_held s c = copying_holds slots s m f h lo c.low c.high c.content c.copying
 
   -- a done call leaves the powers and the sizes
@@ -42,7 +42,7 @@ module _ (slots : ℕ) (m : Meta) (f : Contents) (h : History) (lo : ℕ) where
       ]
 
   -- the same history in disks of the same powers and sizes
-  moved : (s t : Disks) → t.power ≡ s.power → t.size ≡ s.size → IsCopying t m f → Copies slots m f h lo s → Copies slots m f h lo t
+  moved : (s t : Disks) → t.power ≡ s.power → t.size ≡ s.size → IsCopying t m f → HoldsWithCopies slots m f h lo s → HoldsWithCopies slots m f h lo t
   moved s t power size copying c = record {
     copying = copying;
     low = c.low;
@@ -51,21 +51,21 @@ module _ (slots : ℕ) (m : Meta) (f : Contents) (h : History) (lo : ℕ) where
         (subst (λ (z : ℕ → ℕ). ContentOk slots s.power z (view_by m s.power f) h m.writes) (sym size) c.content);
   }
 
-  pub copies_write : (s : Disks) (d p : ℕ) (b : Block) → CanCopy slots m f h lo d p s → Copies slots m f h lo (step (Write d p b true) s)
+  pub copies_write : (s : Disks) (d p : ℕ) (b : Block) → CanCopy slots m f h lo d p s → HoldsWithCopies slots m f h lo (step (Write d p b true) s)
   unfolding step
   copies_write s d p b c = moved s (step (Write d p b true) s) (self_at s.power d) (self_at s.size d) (copying_write s m f d p b c.free c.copies.copying) c.copies
 
-  pub copies_read : (s : Disks) (d p : ℕ) → Copies slots m f h lo s → Copies slots m f h lo (step (Read d p true) s)
+  pub copies_read : (s : Disks) (d p : ℕ) → HoldsWithCopies slots m f h lo s → HoldsWithCopies slots m f h lo (step (Read d p true) s)
   unfolding step
   copies_read s d p c = moved s (step (Read d p true) s) (self_at s.power d) (self_at s.size d) (copying_read s m f d p c.copying) c
 
-  pub copies_sync : (s : Disks) (d : ℕ) → Copies slots m f h lo s → Copies slots m f h lo (step (Sync d true) s)
+  pub copies_sync : (s : Disks) (d : ℕ) → HoldsWithCopies slots m f h lo s → HoldsWithCopies slots m f h lo (step (Sync d true) s)
   unfolding step
   copies_sync s d c = moved s (step (Sync d true) s) (self_at s.power d) (self_at s.size d) (copying_sync s m f d c.copying) c
 
   -- a failed one loses its disk
   pub copies_lost : (s : Disks) (c : Call) → is_done c ≡ false → IsInRange m → CanLose slots m f h lo (disk_of c) s
-      → Copies slots m (without_disk f (disk_of c)) h lo (step c s)
+      → HoldsWithCopies slots m (without_disk f (disk_of c)) h lo (step c s)
   copies_lost s c failed range can =
       let loss = failed_is_loss s c failed in
       let mirrored : (x : ℕ) → x < map_count m.setup.geometry → out_disk s.power m ≡ None → f 0 (100 + x) ≡ f 1 (100 + x) =
@@ -79,28 +79,28 @@ module _ (slots : ℕ) (m : Meta) (f : Contents) (h : History) (lo : ℕ) where
       }
 
   -- one copy, done
-  pub copy_ran : {old new : Option Trail} {d p : ℕ} {b : Block} → Grows old new (Write d p b true)
-      → Ran old new (Runs (HeldBy slots m h lo) (CanCopy slots m f h lo d p) (Copies slots m f h lo))
+  pub copy_ran : {old new : Option Trail} {d p : ℕ} {b : Block} → GrowsByCall old new (Write d p b true)
+      → Ran old new (CrashTriple (IsHeldByCopies slots m h lo) (CanCopy slots m f h lo d p) (HoldsWithCopies slots m f h lo))
   copy_ran {old} {new} {d} {p} {b} grows =
-      called (HeldBy slots m h lo) (CanCopy slots m f h lo d p) (Copies slots m f h lo) old new (Write d p b true) grows
+      called (IsHeldByCopies slots m h lo) (CanCopy slots m f h lo d p) (HoldsWithCopies slots m f h lo) old new (Write d p b true) grows
       (λ s c. copies_held s c.copies) (λ s c. copies_held s c) (λ s c. copies_write s d p b c)
 
 -- or failed
-pub copy_lost_ran : (slots : ℕ) (m : Meta) (f : Contents) (h : History) (lo : ℕ) {old new : Option Trail} {d p : ℕ} {b : Block} → IsInRange m → Grows old new (Write d p b false)
-    → Ran old new (Runs (HeldBy slots m h lo) (CanLose slots m f h lo d) (Copies slots m (without_disk f d) h lo))
+pub copy_lost_ran : (slots : ℕ) (m : Meta) (f : Contents) (h : History) (lo : ℕ) {old new : Option Trail} {d p : ℕ} {b : Block} → IsInRange m → GrowsByCall old new (Write d p b false)
+    → Ran old new (CrashTriple (IsHeldByCopies slots m h lo) (CanLose slots m f h lo d) (HoldsWithCopies slots m (without_disk f d) h lo))
 copy_lost_ran slots m f h lo {old} {new} {d} {p} {b} range grows =
-    called (HeldBy slots m h lo) (CanLose slots m f h lo d) (Copies slots m (without_disk f d) h lo) old new (Write d p b false) grows
+    called (IsHeldByCopies slots m h lo) (CanLose slots m f h lo d) (HoldsWithCopies slots m (without_disk f d) h lo) old new (Write d p b false) grows
     (λ s c. copies_held slots m f h lo s c.copies) (λ s c. copies_held slots m (without_disk f d) h lo s c)
     (λ s c. copies_lost slots m f h lo s (Write d p b false) refl range c)
 
 -- the same by the answer of the call
 pub copy_made : (slots : ℕ) (m : Meta) (f : Contents) (h : History) (lo : ℕ) {old new : Option Trail} {d p : ℕ} {b : Block} {done : Bool} → done ≡ true
-    → Grows old new (Write d p b done) → Ran old new (Runs (HeldBy slots m h lo) (CanCopy slots m f h lo d p) (Copies slots m f h lo))
-copy_made slots m f h lo {old} {new} {d} {p} {b} is grows = copy_ran slots m f h lo (subst (λ (x : Bool). Grows old new (Write d p b x)) is grows)
+    → GrowsByCall old new (Write d p b done) → Ran old new (CrashTriple (IsHeldByCopies slots m h lo) (CanCopy slots m f h lo d p) (HoldsWithCopies slots m f h lo))
+copy_made slots m f h lo {old} {new} {d} {p} {b} is grows = copy_ran slots m f h lo (subst (λ (x : Bool). GrowsByCall old new (Write d p b x)) is grows)
 
 pub copy_failed : (slots : ℕ) (m : Meta) (f : Contents) (h : History) (lo : ℕ) {old new : Option Trail} {d p : ℕ} {b : Block} {done : Bool} → done ≡ false → IsInRange m
-    → Grows old new (Write d p b done) → Ran old new (Runs (HeldBy slots m h lo) (CanLose slots m f h lo d) (Copies slots m (without_disk f d) h lo))
-copy_failed slots m f h lo {old} {new} {d} {p} {b} is range grows = copy_lost_ran slots m f h lo range (subst (λ (x : Bool). Grows old new (Write d p b x)) is grows)
+    → GrowsByCall old new (Write d p b done) → Ran old new (CrashTriple (IsHeldByCopies slots m h lo) (CanLose slots m f h lo d) (HoldsWithCopies slots m (without_disk f d) h lo))
+copy_failed slots m f h lo {old} {new} {d} {p} {b} is range grows = copy_lost_ran slots m f h lo range (subst (λ (x : Bool). GrowsByCall old new (Write d p b x)) is grows)
 
-pub copies_at_rest : (slots : ℕ) (m : Meta) (h : History) (lo : ℕ) (s : Disks) → IsAtRest s m → Holds slots s m [] h lo → Copies slots m (contents s []) h lo s
+pub copies_at_rest : (slots : ℕ) (m : Meta) (h : History) (lo : ℕ) (s : Disks) → IsAtRest s m → HoldsFirstWrites slots s m [] h lo → HoldsWithCopies slots m (contents s []) h lo s
 copies_at_rest slots m h lo s rest holds = record { copying = copying_from_rest s m rest; low = holds.low; high = holds.high; content = holds.content }

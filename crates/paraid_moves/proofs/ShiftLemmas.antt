@@ -19,7 +19,7 @@ use Rattle.paraid_image.specs.Sound.{ContentOk, IsFilled, IsFresh, IsStripeZero}
 use Rattle.paraid_image.specs.Spot.{View, is_hard, rising_to}
 use Rattle.paraid_image.specs.Standing.{Contents}
 use Rattle.paraid_image.specs.Value.{stripe, value}
-use Rattle.paraid_moves.specs.Marks.{AreStripesCopied, begun, filled_to, flipped}
+use Rattle.paraid_moves.specs.MoveMetas.{AreStripesCopied, meta_after_begin, filled_to, meta_flipped_to}
 use Rattle.paraid_moves.proofs.ValuesLemmas.{above_soft, blocks_carried, clean_hard, dirty_soft, hard_below, hard_clean, rows_carried, soft_above, soft_dirty, value_hard, value_kept, value_soft}
 
 pub not_fresh : (power : ℕ → Power) (m : Meta) (d rebuilt : ℕ) → m.out ≡ No → IsFresh power m d rebuilt → ⊥
@@ -37,7 +37,7 @@ module _ (slots : ℕ) (power : ℕ → Power) (size : ℕ → ℕ) (m : Meta) (
     -- A shift down begins.
     module _ (to : ℕ) (steady : m.phase ≡ Steady) where
       abbrev down : Meta
-      down = begun m (Down to) m.spins
+      down = meta_after_begin m (Down to) m.spins
 
       abbrev w : View
       w = record v { meta = down }
@@ -75,7 +75,7 @@ module _ (slots : ℕ) (power : ℕ → Power) (size : ℕ → ℕ) (m : Meta) (
     module _ (to : ℕ) (spins : List ℕ) (steady : m.phase ≡ Steady)
         (recorded : (d : ℕ) → m.gear ≤ d → d < to → power d ≡ Parked → 1 ≤ slice_index spins d) where
       abbrev up : Meta
-      up = begun m (Up to) spins
+      up = meta_after_begin m (Up to) spins
 
       abbrev u : View
       u = record v { meta = up }
@@ -177,7 +177,7 @@ module _ (slots : ℕ) (power : ℕ → Power) (size : ℕ → ℕ) (m : Meta) (
         (rising : m.gear < to → rising_to m.phase ≡ to)
         (spinning : (d : ℕ) → d < to → power d ≡ Spinning) where
       abbrev ended : Meta
-      ended = flipped m to
+      ended = meta_flipped_to m to
 
       abbrev e : View
       e = record v { meta = ended }

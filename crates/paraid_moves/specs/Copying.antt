@@ -1,12 +1,12 @@
 -- What the disks hold while copies are made between two commits.
 use Rattle.std.specs.Prelude.{◌≡◌, ℕ, ◌<◌, ◌≤◌, ◌⊎◌, ◌==◌, [], length, if◌then◌else◌}
 use Rattle.paraid_base.specs.History.{History}
-use Rattle.paraid_base.specs.Xor.{zeroed}
+use Rattle.paraid_base.specs.Xor.{zero_block}
 use Rattle.paraid_rack.specs.Disks.{Disks, IsImage}
 use Rattle.paraid_record.specs.declared.meta.Meta.{Meta}
 use Rattle.paraid_image.specs.Rest.{closed_over}
 use Rattle.paraid_image.specs.Content.{view_by}
-use Rattle.paraid_image.specs.Free.{AreGatesClosed, IsFree}
+use Rattle.paraid_image.specs.Free.{AreSidesClosed, IsFree}
 use Rattle.paraid_image.specs.HeldAt.{IsHeld}
 use Rattle.paraid_image.specs.Out.{IsMissing, out_disk}
 use Rattle.paraid_image.specs.Sound.{ContentOk, LogOk}
@@ -16,7 +16,7 @@ use Rattle.paraid_image.specs.Standing.{Contents, contents}
 pub record IsCopyImage (i : Disks) (m : Meta) (f : Contents) : Type 0 where
   pub disk : ℕ
   pub log : LogOk i disk (closed_over m) m.writes
-  pub gates : AreGatesClosed i (closed_over m)
+  pub gates : AreSidesClosed i (closed_over m)
   pub only : (x q : ℕ) → IsFree (view_by m i.power f) x q ⊎ (contents i [] x q ≡ f x q)
 
 -- so it is in all that a stop may leave
@@ -24,27 +24,27 @@ abbrev pub IsCopying : Disks → Meta → Contents → Type 0
 IsCopying s m f = (i : Disks) → IsImage s i → IsCopyImage i m f
 
 -- The disks hold the history in these contents, with copies made beside them.
-pub record Copies (slots : ℕ) (m : Meta) (f : Contents) (h : History) (lo : ℕ) (s : Disks) : Type 0 where
+pub record HoldsWithCopies (slots : ℕ) (m : Meta) (f : Contents) (h : History) (lo : ℕ) (s : Disks) : Type 0 where
   pub copying : IsCopying s m f
   pub low : lo ≤ m.writes
   pub high : m.writes ≤ length h
   pub content : ContentOk slots s.power s.size (view_by m s.power f) h m.writes
 
 -- what every stop then leaves
-abbrev pub HeldBy : ℕ → Meta → History → ℕ → Disks → Type 0
-HeldBy slots m h lo s = IsHeld slots s h lo (out_disk s.power m)
+abbrev pub IsHeldByCopies : ℕ → Meta → History → ℕ → Disks → Type 0
+IsHeldByCopies slots m h lo s = IsHeld slots s h lo (out_disk s.power m)
 
 -- with this place free
 pub record CanCopy (slots : ℕ) (m : Meta) (f : Contents) (h : History) (lo d p : ℕ) (s : Disks) : Type 0 where
-  pub copies : Copies slots m f h lo s
+  pub copies : HoldsWithCopies slots m f h lo s
   pub free : IsFree (view_by m s.power f) d p
 
 -- with no disk missing but this one
 pub record CanLose (slots : ℕ) (m : Meta) (f : Contents) (h : History) (lo d : ℕ) (s : Disks) : Type 0 where
-  pub copies : Copies slots m f h lo s
+  pub copies : HoldsWithCopies slots m f h lo s
   pub disk : d < m.setup.geometry.disks
   pub others : (e : ℕ) → IsMissing s.power m e → e ≡ d
 
 -- the contents with zeros on disk `d`
 abbrev pub without_disk : Contents → ℕ → Contents
-without_disk f d = λ x q. if x == d then zeroed else f x q
+without_disk f d = λ x q. if x == d then zero_block else f x q

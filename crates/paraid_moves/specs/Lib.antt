@@ -1,3 +1,3 @@
-pub mod Marks
+pub mod MoveMetas
 pub mod Copying
 pub mod Groups

@@ -15,59 +15,59 @@ ghost use Rattle.paraid_record.specs.Range.{IsInRange};
 ghost use Rattle.paraid_image.specs.Calls.{disk_of, is_done};
 ghost use Rattle.paraid_image.specs.Content.{view_by};
 ghost use Rattle.paraid_image.specs.HeldAt.{IsHeld};
-ghost use Rattle.paraid_image.specs.Holds.{Holds};
+ghost use Rattle.paraid_image.specs.FirstWrites.{HoldsFirstWrites};
 ghost use Rattle.paraid_image.specs.Out.{out_disk};
-ghost use Rattle.paraid_image.specs.Rest.{IsAtRest, IsDrained};
+ghost use Rattle.paraid_image.specs.Rest.{IsAtRest, AreSynced};
 ghost use Rattle.paraid_image.specs.Sides.{has_place};
 ghost use Rattle.paraid_image.specs.Sound.{AreRebuilt, AreRowsZero, AreStripesZero, stripes_on};
 ghost use Rattle.paraid_image.specs.Spot.{rising_to};
 ghost use Rattle.paraid_image.specs.Standing.{Contents, contents, other_log};
 ghost use Rattle.paraid_image.specs.Value.{stripe_rest, value};
-ghost use Rattle.paraid_moves.specs.Copying.{CanCopy, CanLose, Copies, without_disk};
-ghost use Rattle.paraid_moves.specs.Marks.{AreCellsCopied, seen};
+ghost use Rattle.paraid_moves.specs.Copying.{CanCopy, CanLose, HoldsWithCopies, without_disk};
+ghost use Rattle.paraid_moves.specs.MoveMetas.{AreCellsCopied, view_with_out};
 
 /// Between two commits, before any copy, the disks hold what their blocks past the log are.
 pub fn copies_begin_at_a_rest()
     ensures { (slots : ℕ) (m : MetaType) (h : History) (lo : ℕ) (s : Disks) → IsAtRest s m
-        → Holds slots s m [] h lo → Copies slots m (contents s []) h lo s }
+        → HoldsFirstWrites slots s m [] h lo → HoldsWithCopies slots m (contents s []) h lo s }
 {}
 
 /// While copies are made, each stop leaves the history. Where they are synced, a commit can begin
 /// over what the blocks are then.
 pub fn copies_leave_what_is_held()
     ensures held { (slots : ℕ) (m : MetaType) (f : Contents) (h : History) (lo : ℕ) (s : Disks)
-        → Copies slots m f h lo s → IsHeld slots s h lo (out_disk s.power m) }
+        → HoldsWithCopies slots m f h lo s → IsHeld slots s h lo (out_disk s.power m) }
     ensures holds { (slots : ℕ) (m : MetaType) (f : Contents) (h : History) (lo : ℕ) (s : Disks)
-        → Copies slots m f h lo s → Holds slots s m [] h lo }
+        → HoldsWithCopies slots m f h lo s → HoldsFirstWrites slots s m [] h lo }
     ensures rest { (slots : ℕ) (m : MetaType) (f : Contents) (h : History) (lo : ℕ) (s : Disks)
-        → Copies slots m f h lo s → IsDrained s → IsAtRest s m }
+        → HoldsWithCopies slots m f h lo s → AreSynced s → IsAtRest s m }
 {}
 
 /// The calls that are made between two commits leave the copies, and what is held with them: done
 /// ones, and a failed one where no other disk is missing.
 pub fn calls_between_commits_leave_copies()
     ensures read { (slots : ℕ) (m : MetaType) (f : Contents) (h : History) (lo : ℕ) (s : Disks)
-        (d p : ℕ) → Copies slots m f h lo s → Copies slots m f h lo (step (Read d p true) s) }
+        (d p : ℕ) → HoldsWithCopies slots m f h lo s → HoldsWithCopies slots m f h lo (step (Read d p true) s) }
     ensures sync { (slots : ℕ) (m : MetaType) (f : Contents) (h : History) (lo : ℕ) (s : Disks)
-        (d : ℕ) → Copies slots m f h lo s → Copies slots m f h lo (step (Sync d true) s) }
+        (d : ℕ) → HoldsWithCopies slots m f h lo s → HoldsWithCopies slots m f h lo (step (Sync d true) s) }
     ensures write { (slots : ℕ) (m : MetaType) (f : Contents) (h : History) (lo : ℕ) (s : Disks)
         (d p : ℕ) (b : BlockType) → CanCopy slots m f h lo d p s
-        → Copies slots m f h lo (step (Write d p b true) s) }
+        → HoldsWithCopies slots m f h lo (step (Write d p b true) s) }
     ensures park { (slots : ℕ) (m : MetaType) (f : Contents) (h : History) (lo : ℕ) (s : Disks)
         (d : ℕ) → IsPresent s d → 2 ≤ d → m.gear ≤ d → rising_to m.phase ≤ d
-        → ((units : ℕ) → m.out ≢ Fresh d units) → Copies slots m f h lo s
-        → Copies slots m f h lo (step (Park d true) s) }
+        → ((units : ℕ) → m.out ≢ Fresh d units) → HoldsWithCopies slots m f h lo s
+        → HoldsWithCopies slots m f h lo (step (Park d true) s) }
     ensures spin_up { (slots : ℕ) (m : MetaType) (f : Contents) (h : History) (lo : ℕ) (s : Disks)
-        (d : ℕ) → IsPresent s d → Copies slots m f h lo s
-        → Copies slots m f h lo (step (SpinUp d true) s) }
+        (d : ℕ) → IsPresent s d → HoldsWithCopies slots m f h lo s
+        → HoldsWithCopies slots m f h lo (step (SpinUp d true) s) }
     ensures attach { (slots : ℕ) (m : MetaType) (f : Contents) (h : History) (lo : ℕ) (s : Disks)
         (d size : ℕ) → IsInRange m → m.out ≡ Gone d → disk_size m.setup.geometry ≤ size
         → CanLose slots m f h lo d s
-        → Copies slots m (without_disk f d) h lo (step (Attach d size true) s) }
+        → HoldsWithCopies slots m (without_disk f d) h lo (step (Attach d size true) s) }
     ensures failed { (slots : ℕ) (m : MetaType) (f : Contents) (h : History) (lo : ℕ) (s : Disks)
         (call : CallType) → is_done call ≡ false → IsInRange m
         → CanLose slots m f h lo (disk_of call) s
-        → Copies slots m (without_disk f (disk_of call)) h lo (step call s) }
+        → HoldsWithCopies slots m (without_disk f (disk_of call)) h lo (step call s) }
 {}
 
 /// The value of a dirty cell that is written to its hard place is copied there, and the cells that
@@ -89,27 +89,27 @@ pub fn a_cell_is_copied()
 pub fn a_unit_is_rebuilt()
     ensures passed { (m : MetaType) (d row : ℕ) (f : Contents) → IsInRange m
         → d < m.setup.geometry.disks
-        → row < m.setup.geometry.rows → m.gear ≤ d → (seen m (Some d) f).dirty row d ≡ true
-        → AreRebuilt (seen m (Some d) f) d row → AreRebuilt (seen m (Some d) f) d (row + 1) }
+        → row < m.setup.geometry.rows → m.gear ≤ d → (view_with_out m (Some d) f).dirty row d ≡ true
+        → AreRebuilt (view_with_out m (Some d) f) d row → AreRebuilt (view_with_out m (Some d) f) d (row + 1) }
     ensures row { (m : MetaType) (d p row : ℕ) (f after : Contents) → IsInRange m
         → d < m.setup.geometry.disks → ((x q : ℕ) → (x ≡ d → q ≢ p) → after x q ≡ f x q)
-        → AreRowsZero (seen m (Some d) f) → AreStripesZero (seen m (Some d) f)
+        → AreRowsZero (view_with_out m (Some d) f) → AreStripesZero (view_with_out m (Some d) f)
         → row < m.setup.geometry.rows → p ≡ hard_place_of m.setup.geometry row
-        → after d p ≡ value (seen m (Some d) f) row d → AreRebuilt (seen m (Some d) f) d row
-        → AreRebuilt (seen m (Some d) after) d (row + 1) }
+        → after d p ≡ value (view_with_out m (Some d) f) row d → AreRebuilt (view_with_out m (Some d) f) d row
+        → AreRebuilt (view_with_out m (Some d) after) d (row + 1) }
     ensures stripe { (m : MetaType) (d p s : ℕ) (f after : Contents) → IsInRange m
         → d < m.setup.geometry.disks → ((x q : ℕ) → (x ≡ d → q ≢ p) → after x q ≡ f x q)
-        → AreRowsZero (seen m (Some d) f) → AreStripesZero (seen m (Some d) f)
-        → s < stripes_on (seen m (Some d) f) d → p ≡ soft_place_of m.setup.geometry m.gear s
+        → AreRowsZero (view_with_out m (Some d) f) → AreStripesZero (view_with_out m (Some d) f)
+        → s < stripes_on (view_with_out m (Some d) f) d → p ≡ soft_place_of m.setup.geometry m.gear s
         → after d p ≡ stripe_rest m.setup.geometry f m.gear s d
-        → AreRebuilt (seen m (Some d) f) d (m.setup.geometry.rows + s)
-        → AreRebuilt (seen m (Some d) after) d (m.setup.geometry.rows + s + 1) }
+        → AreRebuilt (view_with_out m (Some d) f) d (m.setup.geometry.rows + s)
+        → AreRebuilt (view_with_out m (Some d) after) d (m.setup.geometry.rows + s + 1) }
     ensures map_block { (m : MetaType) (d p j : ℕ) (f after : Contents) → IsInRange m
         → d < m.setup.geometry.disks → ((x q : ℕ) → (x ≡ d → q ≢ p) → after x q ≡ f x q)
-        → AreRowsZero (seen m (Some d) f) → AreStripesZero (seen m (Some d) f) → d < 2
+        → AreRowsZero (view_with_out m (Some d) f) → AreStripesZero (view_with_out m (Some d) f) → d < 2
         → j < map_count m.setup.geometry → p ≡ 100 + j → after d p ≡ f (other_log d) (100 + j)
-        → AreRebuilt (seen m (Some d) f) d (m.setup.geometry.rows
-        + stripes_on (seen m (Some d) f) d + j)
-        → AreRebuilt (seen m (Some d) after) d (m.setup.geometry.rows
-        + stripes_on (seen m (Some d) f) d + j + 1) }
+        → AreRebuilt (view_with_out m (Some d) f) d (m.setup.geometry.rows
+        + stripes_on (view_with_out m (Some d) f) d + j)
+        → AreRebuilt (view_with_out m (Some d) after) d (m.setup.geometry.rows
+        + stripes_on (view_with_out m (Some d) f) d + j + 1) }
 {}

@@ -8,8 +8,8 @@ use Rattle.paraid_base.specs.declared.event.Event.{Event}
 use Rattle.paraid_base.specs.declared.event.Event.TheVariants.{Read as ReadEvent, Write as WriteEvent, Flush as FlushEvent, Tick, Up, Down, Fail, Replace, State, Energy, Bad}
 use Rattle.paraid_base.specs.declared.fault.Halt.{Halt}
 use Rattle.paraid_base.specs.BlockAnswers.{Answers}
-use Rattle.paraid_base.specs.History.{History, held}
-use Rattle.paraid_nbd.specs.Export.{byte_at, bytes_from, blocks_joined, byte_after, IsWritten, with_change, changes, Is, HaltsHere, HasRead, HasRest, HasBytes, WrittenFirst}
+use Rattle.paraid_base.specs.History.{History, after_all}
+use Rattle.paraid_nbd.specs.Export.{byte_at, bytes_from, blocks_joined, byte_after, AreBytesWritten, with_change, changes, IsDeviceState, HaltsHere, HasRead, HasRest, HasBytes, WrittenFirst}
 
 pub with_change-append : (e : Event) (xs ys : List Event) → with_change e (xs ++ ys) ≡ with_change e xs ++ ys
 with_change-append (ReadEvent block) xs ys = refl
@@ -31,9 +31,9 @@ changes-append (e ∷ a) b = ap (with_change e.0) (changes-append a b) ∙ with_
 pub reads-append : (a b : Answers) → changes a ≡ [] → changes b ≡ [] → changes (a ++ b) ≡ []
 reads-append a b p q = changes-append a b ∙ ap (λ (x : List Event). x ++ changes b) p ∙ q
 
-pub IsWritten-none : (h : History) (offset : ℕ) → IsWritten h offset [] []
+pub AreBytesWritten-none : (h : History) (offset : ℕ) → AreBytesWritten h offset [] []
 unfolding byte_after
-IsWritten-none h offset = record {
+AreBytesWritten-none h offset = record {
   blocks = refl;
   bytes_are = λ k. ap (λ (x : History). byte_at x k) (append-nil h) ∙ grind (arith, nat_tests);
 }
@@ -41,7 +41,7 @@ IsWritten-none h offset = record {
 -- where only reads came before a halt, nothing was written
 pub first_reads : (s : Option History) (offset : ℕ) (bytes : List ℕ) (done : Answers) → changes done ≡ [] → (s ≡ None → done ≡ []) → WrittenFirst s offset bytes done
 first_reads None offset bytes done reads quiet = quiet refl
-first_reads (Some h) offset bytes done reads quiet = ([], 0, omega arith, IsWritten-none h offset, reads)
+first_reads (Some h) offset bytes done reads quiet = ([], 0, omega arith, AreBytesWritten-none h offset, reads)
 
 pub halted_call : (stands : History → Type 0) (now : Option Halt) (kept : Answers → Type 0) (s : Option History) (events : Answers) (e : Event) (halt : Halt)
     → now ≡ Some halt → kept (events ++ (e, HaltedAnswer halt) ∷ []) → HaltsHere stands now kept s events
@@ -74,7 +74,7 @@ pub rest_read : {stands : History → Type 0} {now : Option Halt} {kept : Answer
     → HasRead stands now kept s events block bytes → HasRest stands now kept s events block size bytes
 rest_read {s = s} {block = block} size r = record {
   now = r.now;
-  value = λ h is part. r.value ∙ ap (λ (x : History). held x block) (some_same s r.h h r.was is);
+  value = λ h is part. r.value ∙ ap (λ (x : History). after_all x block) (some_same s r.h h r.was is);
   new = r.new;
   reads = r.reads;
   quiet = λ none. absurd (cc (none, r.was));
@@ -90,20 +90,20 @@ bytes_from-more h place (suc d) n =
     ap (bytes_from h place) e ∙ ap (λ (x : List ℕ). byte_at h place ∷ x) (bytes_from-more h (place + 1) d n ∙ ap (λ (x : ℕ). bytes_from h (place + 1) d ++ bytes_from h x n) f)
 
 -- bytes of one block
-pub bytes_from-block : (h : History) (b start n place : ℕ) → place ≡ 512 * b + start → start + n ≤ 512 → bytes_from h place n ≡ take n (drop start (held h b).bytes)
+pub bytes_from-block : (h : History) (b start n place : ℕ) → place ≡ 512 * b + start → start + n ≤ 512 → bytes_from h place n ≡ take n (drop start (after_all h b).bytes)
 unfolding bytes_from byte_at
 bytes_from-block h b start zero place at within = refl
 bytes_from-block h b start (suc n) place at within =
     let block : place / 512 ≡ b = omega arith in
     let here : place % 512 ≡ start = omega arith in
-    let bytes : List ℕ = (held h b).bytes in
-    let long : start < length bytes = omega (arith, (held h b).whole) in
-    let first : byte_at h place ≡ get_or bytes start 0 = ap (λ (x : ℕ). get_or (held h x).bytes (place % 512) 0) block ∙ ap (λ (x : ℕ). get_or bytes x 0) here in
+    let bytes : List ℕ = (after_all h b).bytes in
+    let long : start < length bytes = omega (arith, (after_all h b).whole) in
+    let first : byte_at h place ≡ get_or bytes start 0 = ap (λ (x : ℕ). get_or (after_all h x).bytes (place % 512) 0) block ∙ ap (λ (x : ℕ). get_or bytes x 0) here in
     let rest : bytes_from h (place + 1) n ≡ take n (drop (start + 1) bytes) = bytes_from-block h b (start + 1) n (place + 1) (omega arith) (omega arith) in
     ap (λ (x : ℕ). x ∷ bytes_from h (place + 1) n) first ∙ ap (λ (x : List ℕ). get_or bytes start 0 ∷ x) rest ∙ rw (drop-cons bytes start 0 long, add-one) refl
 
 pub bytes_none : {stands : History → Type 0} {now : Option Halt} {kept : Answers → Type 0} {s : Option History} {events : Answers} (offset : ℕ)
-    → Is stands now s → kept events → HasBytes stands now kept s events offset []
+    → IsDeviceState stands now s → kept events → HasBytes stands now kept s events offset []
 unfolding bytes_from
 bytes_none {kept = kept} {events = events} offset is k = record {
   now = is;
@@ -125,7 +125,7 @@ bytes_more {now_kept = now_kept} {s = s} {events = events} {offset = offset} {go
     record {
       now = x.now;
       value = λ h is.
-          let held_is : block ≡ held h b = x.value ∙ ap (λ (y : History). held y b) (some_same s x.h h x.was is) in
+          let held_is : block ≡ after_all h b = x.value ∙ ap (λ (y : History). after_all y b) (some_same s x.h h x.was is) in
           let last : bytes_from h (offset + length got) n ≡ piece = bytes_from-block h b start n (offset + length got) at within ∙ ap (λ (y : Block). take n (drop start y.bytes)) (sym held_is) in
           ap (λ (y : List ℕ). y ++ piece) (r.value h is) ∙ ap (λ (y : List ℕ). bytes_from h offset (length got) ++ y) (sym last) ∙ sym (bytes_from-more h offset (length got) n) ∙ ap (bytes_from h offset) (sym all);
       serves = λ none. absurd (cc (none, x.was));
@@ -141,7 +141,7 @@ bytes_from-blocks h block zero = refl
 bytes_from-blocks h block (suc n) =
     let e : 512 * suc n ≡ 512 + 512 * n = omega arith in
     let f : 512 * block + 512 ≡ 512 * (block + 1) = omega arith in
-    let bytes : List ℕ = (held h block).bytes in
-    let first : bytes_from h (512 * block) 512 ≡ bytes = bytes_from-block h block 0 512 (512 * block) (omega arith) (omega arith) ∙ take_all 512 bytes (omega (arith, (held h block).whole)) in
+    let bytes : List ℕ = (after_all h block).bytes in
+    let first : bytes_from h (512 * block) 512 ≡ bytes = bytes_from-block h block 0 512 (512 * block) (omega arith) (omega arith) ∙ take_all 512 bytes (omega (arith, (after_all h block).whole)) in
     ap (bytes_from h (512 * block)) e ∙ bytes_from-more h (512 * block) 512 (512 * n) ∙ ap (λ (x : List ℕ). x ++ bytes_from h (512 * block + 512) (512 * n)) first
     ∙ ap (λ (x : List ℕ). bytes ++ x) (ap (λ (x : ℕ). bytes_from h x (512 * n)) f ∙ bytes_from-blocks h (block + 1) n)

@@ -10,23 +10,23 @@ use Rattle.paraid_base.specs.declared.event.Event.TheVariants.{Flush as FlushEve
 use Rattle.paraid_base.specs.declared.fault.Halt.{Halt}
 use Rattle.paraid_base.specs.BlockAnswers.{Answers}
 use Rattle.paraid_base.specs.History.{History}
-use Rattle.paraid_base.specs.Told.{Grows}
-use Rattle.paraid_base.proofs.ToldLemmas.{Grows-none, Grows-then, HasRisen-sooner}
+use Rattle.paraid_base.specs.Told.{GrowsByBytes}
+use Rattle.paraid_base.proofs.ToldLemmas.{GrowsByBytes-none, GrowsByBytes-then, HasRisen-sooner}
 use Rattle.paraid_nbd.specs.declared.ending.NbdEnd.{NbdEnd}
 use Rattle.paraid_nbd.specs.declared.request.Command.{Command}
 use Rattle.paraid_nbd.specs.declared.request.Command.TheVariants.{Read, Write, Disconnect, Flush, Unknown}
 use Rattle.paraid_nbd.specs.declared.request.Outcome.{Outcome}
 use Rattle.paraid_nbd.specs.declared.request.Outcome.TheVariants.{Done, Halted, Invalid, NoSpace}
 use Rattle.paraid_nbd.specs.declared.request.Request.{Request}
-use Rattle.paraid_nbd.specs.Export.{Is, HasBytes, HasWritten, HaltsHere, Stops, Step, Wrote, WrittenFirst, bytes_from, changes}
-use Rattle.paraid_nbd.specs.Export.Step.{Refused, Reads, Writes, Flushes, Empties, Halts}
-use Rattle.paraid_nbd.specs.Export.Steps.{None_yet, One_more}
+use Rattle.paraid_nbd.specs.Export.{IsDeviceState, HasBytes, HasWritten, HaltsHere, Stops, RequestStep, WritesBytes, WrittenFirst, bytes_from, changes}
+use Rattle.paraid_nbd.specs.Export.RequestStep.{Refused, Reads, Writes, Flushes, Empties, Halts}
+use Rattle.paraid_nbd.specs.Export.RequestSteps.{None_yet, One_more}
 use Rattle.paraid_nbd.specs.Performing.{Performs, said_with, answer_content}
 use Rattle.paraid_nbd.specs.Requests.{RequestParts, IsRequest, request_bytes, reply_head, outcome_of, command_outcome, content_length}
 use Rattle.paraid_nbd.specs.Requests.IsPartRequest.{InContent}
 use Rattle.paraid_nbd.specs.Service.{Serves, ServesAll, StopsRequest, TakesHead, Transmits, Service}
 use Rattle.paraid_nbd.specs.Service.Service.{Early, Late}
-use Rattle.paraid_nbd.specs.Handshake.{Unsent, Begins, EndsEarly}
+use Rattle.paraid_nbd.specs.Handshake.{IsUnsent, BeginsTransmission, EndsEarly}
 use Rattle.paraid_nbd.specs.Service.StopsRequest.{CutRequest}
 use Rattle.paraid_nbd.specs.Taking.{Takes, Lacks}
 use Rattle.paraid_nbd.proofs.TakingLemmas.{Takes-none, Takes-then, IsCut-sooner}
@@ -98,7 +98,7 @@ said_alone : (r : Request) (outcome : Outcome) (found : List ℕ) → answer_con
 said_alone r outcome found e = ap (λ (x : List ℕ). reply_head r outcome ++ x) e ∙ append-nil (reply_head r outcome)
 
 module _ {stands : History → Type 0} {now : Option Halt} {kept : Answers → Type 0} {events : Answers} where
-  pub refused_performs : (size : ℕ) (s : Option History) (r : Request) (content found : List ℕ) (outcome : Outcome) → outcome ≡ outcome_of size r → outcome ≢ Done → Is stands now s → kept events
+  pub refused_performs : (size : ℕ) (s : Option History) (r : Request) (content found : List ℕ) (outcome : Outcome) → outcome ≡ outcome_of size r → outcome ≢ Done → IsDeviceState stands now s → kept events
       → Performs size stands now kept s events r content found outcome
   refused_performs size s r content found outcome is other state k = record {
     new = [];
@@ -132,7 +132,7 @@ module _ {stands : History → Type 0} {now : Option Halt} {kept : Answers → T
 
 read_step : (size : ℕ) (s : Option History) (r : Request) (bytes found : List ℕ) (new : Answers) → r.command ≡ Read → outcome_of size r ≡ Done → length found ≡ r.length
     → ((h : History) → s ≡ Some h → found ≡ bytes_from h r.offset (length found)) → (s ≡ None → length found ≡ 0) → changes new ≡ [] → (length found ≡ 0 → new ≡ [])
-    → Step size s r bytes (said_with r Done found) new s
+    → RequestStep size s r bytes (said_with r Done found) new s
 read_step size None r bytes found new is done many value serves reads quiet =
     let none : length found ≡ 0 = serves refl in
     let empty : answer_content r.command Done found ≡ [] = ap (λ (x : Command). answer_content x Done found) is ∙ nil_from_length found none in
@@ -151,7 +151,7 @@ read_performs {s = s} size r content found is done many x = record {
 }
 
 write_step : (size : ℕ) (s t : Option History) (r : Request) (bytes found : List ℕ) (new : Answers) → r.command ≡ Write → outcome_of size r ≡ Done → length bytes ≡ r.length
-    → Wrote s r.offset bytes t new → Step size s r bytes (said_with r Done found) new t
+    → WritesBytes s r.offset bytes t new → RequestStep size s r bytes (said_with r Done found) new t
 write_step size None t r bytes found new is done many w =
     Empties done (λ e. cc (is, e)) (sym many ∙ w.0) w.2 w.1 (said_alone r Done found (nothing_unless_read r.command Done found (λ e. cc (is, e))))
 write_step size (Some h) t r bytes found new is done many w =
@@ -164,12 +164,12 @@ write_performs {s = s} size r content found is done many x = record {
   t = x.t;
   now = x.now;
   kept_is = x.kept_is;
-  step = λ bytes held. subst (λ (y : List ℕ). Step size s r y (said_with r Done found) x.new x.t) (sym (held is done)) (write_step size s x.t r content found x.new is done many x.wrote);
+  step = λ bytes held. subst (λ (y : List ℕ). RequestStep size s r y (said_with r Done found) x.new x.t) (sym (held is done)) (write_step size s x.t r content found x.new is done many x.wrote);
 }
 
 -- a flush that gave no halt, of a device that served
 pub flush_performs : {stands now_stands : History → Type 0} {halted now : Option Halt} {now_kept : Answers → Type 0} (size : ℕ) (s : Option History) {events : Answers} (r : Request) (content found : List ℕ) (writes : ℕ)
-    → r.command ≡ Flush → outcome_of size r ≡ Done → Is stands halted s → (IsSome halted → now ≡ halted) → now ≡ None
+    → r.command ≡ Flush → outcome_of size r ≡ Done → IsDeviceState stands halted s → (IsSome halted → now ≡ halted) → now ≡ None
     → ((h : History) → stands h → (writes ≡ length h) × now_stands h) → now_kept (events ++ (FlushEvent, Flushed writes) ∷ [])
     → Performs size now_stands now now_kept s events r content found Done
 flush_performs size None r content found writes is done state again none history k =
@@ -209,7 +209,7 @@ pub serves_none : {D : Type 0} (size : ℕ) (stands : D → History → Type 0) 
 serves_none size stands halted kept tells was left at written = record {
   each = tt;
   takes = Takes-none left at;
-  does = λ t s events is k. record { out = []; new = []; t = s; steps = None_yet; now = is; kept_is = subst (kept was) (sym (append-nil events)) k; grows = Grows-none written };
+  does = λ t s events is k. record { out = []; new = []; t = s; steps = None_yet; now = is; kept_is = subst (kept was) (sym (append-nil events)) k; grows = GrowsByBytes-none written };
 }
 
 pub serves_more : {D : Type 0} (size : ℕ) (stands : D → History → Type 0) (halted : D → Option Halt) (kept : D → Answers → Type 0) (tells : D → Bool)
@@ -230,7 +230,7 @@ serves_more size stands halted kept tells {was} {mid} {now} {before} {left} {aft
         steps = One_more ps x.out x.new x.t v.parts y.out y.new y.t x.steps y.step;
         now = y.now;
         kept_is = subst (kept now) (append_assoc events x.new y.new) y.kept_is;
-        grows = Grows-then _ _ _ _ _ x.grows y.grows;
+        grows = GrowsByBytes-then _ _ _ _ _ x.grows y.grows;
       };
 }
 
@@ -239,11 +239,11 @@ pub not_done : (size : ℕ) (r : Request) → (r.command ≡ Disconnect) ⊎ (r.
 not_done size r (inl last) stays done = stays last
 not_done size r (inr other) stays done = unknown_invalid size r.offset r.length r.flags r.command other done
 
-pub unsent_then : {a b c : Option (List ℕ)} {p q : List ℕ} {f g z : ℕ} {e : NbdEnd} → Grows a b p → f ≤ g → Unsent b c q g z e → Unsent a c (p ++ q) f z e
+pub unsent_then : {a b c : Option (List ℕ)} {p q : List ℕ} {f g z : ℕ} {e : NbdEnd} → GrowsByBytes a b p → f ≤ g → IsUnsent b c q g z e → IsUnsent a c (p ++ q) f z e
 unsent_then {a} {b} {c} {p} {q} {f} {g} {z} {e} grows later u = record {
   sent = length p + u.sent;
   within = omega (arith, length-append p q, u.within);
-  grows = subst (λ (x : List ℕ). Grows a c x) (sym (take-append-add p q u.sent)) (Grows-then a b c p (take u.sent q) grows u.grows);
+  grows = subst (λ (x : List ℕ). GrowsByBytes a c x) (sym (take-append-add p q u.sent)) (GrowsByBytes-then a b c p (take u.sent q) grows u.grows);
   cause = HasRisen-sooner f g z later u.cause;
   is = u.is;
 }
@@ -255,10 +255,10 @@ module _ {D : Type 0} (stands : D → History → Type 0) (halted : D → Option
       Early taken refl (subst (λ (x : ℕ). EndsEarly size before after x taken written said f z sf sz e) zero_is (subst (λ (x : ℕ). EndsEarly x before after start taken written said f z sf sz e) size_is ends))
 
   pub late : {size n start at taken f low z sf sink_low sz : ℕ} {was now : D} {before left after written said now_written : Option (List ℕ)} {e : NbdEnd} → n ≡ size → start ≡ 0
-      → Begins n before left start at written said → f ≤ low → sf ≤ sink_low
+      → BeginsTransmission n before left start at written said → f ≤ low → sf ≤ sink_low
       → Transmits n stands halted kept tells was now left after at taken said now_written low z sink_low sz e
       → Service size stands halted kept tells was now before after written now_written f z sf sz e
   late {size} {n} {start} {at} {taken} {f} {low} {z} {sf} {sink_low} {sz} {was} {now} {before} {left} {after} {written} {said} {now_written} {e} size_is zero_is begins later later_sink sends =
       Late left at taken said low sink_low
-      (subst (λ (x : ℕ). Begins size before left x at written said) zero_is (subst (λ (x : ℕ). Begins x before left start at written said) size_is begins)) later later_sink
+      (subst (λ (x : ℕ). BeginsTransmission size before left x at written said) zero_is (subst (λ (x : ℕ). BeginsTransmission x before left start at written said) size_is begins)) later later_sink
       (subst (λ (x : ℕ). Transmits x stands halted kept tells was now left after at taken said now_written low z sink_low sz e) size_is sends)

@@ -1,9 +1,9 @@
 -- Bytes are cut into requests in one way, and end in one way
 use Rattle.std.proofs.Common.{◌≡◌, ℕ, ◌+◌, List, [], ◌∷◌, ◌++◌, length, arith, refl, sym, ◌∙◌, ap, append_assoc, length-append}
 use Rattle.std.specs.List.{flat_map, AllByRecursion}
-use Rattle.paraid_nbd.specs.Requests.{RequestParts, request_bytes, request_in, content_length, IsRequest, IsPartRequest, IsRest}
+use Rattle.paraid_nbd.specs.Requests.{RequestParts, request_bytes, request_in, content_length, IsRequest, IsPartRequest, IsRequestRest}
 use Rattle.paraid_nbd.specs.Requests.IsPartRequest.{InMagic, InHead, InContent}
-use Rattle.paraid_nbd.specs.Requests.IsRest.{Part, Wrong, Last}
+use Rattle.paraid_nbd.specs.Requests.IsRequestRest.{Part, Wrong, Last}
 use Rattle.std.proofs.lemmas.List.{append-nil}
 
 pub append-cancel : (a b x y : List ℕ) → length a ≡ length b → a ++ x ≡ b ++ y → (a ≡ b) × (x ≡ y)
@@ -46,7 +46,7 @@ part_not_first rest q y (InContent magic head part is right whole stays few) b e
     let many : length q.content ≡ content_length (request_in head).command (request_in head).length = b.content ∙ ap (λ (w : List ℕ). content_length (request_in w).command (request_in w).length) (sym h.0) in
     absurd (omega (arith, few, many, ap length h.1, length-append q.content y))
 
-rest_not_first : (rest : List ℕ) (q : RequestParts) (y : List ℕ) → IsRest rest → IsRequest q → rest ≡ request_bytes q ++ y → ⊥
+rest_not_first : (rest : List ℕ) (q : RequestParts) (y : List ℕ) → IsRequestRest rest → IsRequest q → rest ≡ request_bytes q ++ y → ⊥
 rest_not_first rest q y (Part part) b e = part_not_first rest q y part b e
 rest_not_first rest q y (Wrong four other) b e = absurd (omega (arith, four, ap length e, request_long q y b))
 rest_not_first rest q y (Last l) b e =
@@ -55,7 +55,7 @@ rest_not_first rest q y (Last l) b e =
     b.stays (ap (λ (w : List ℕ). (request_in w).command) (sym h.0) ∙ l.last)
 
 -- the same bytes are the same requests and the same rest
-pub requests_same : (ps qs : List RequestParts) (r s : List ℕ) → AllByRecursion IsRequest ps → AllByRecursion IsRequest qs → IsRest r → IsRest s
+pub requests_same : (ps qs : List RequestParts) (r s : List ℕ) → AllByRecursion IsRequest ps → AllByRecursion IsRequest qs → IsRequestRest r → IsRequestRest s
     → flat_map request_bytes ps ++ r ≡ flat_map request_bytes qs ++ s → (ps ≡ qs) × (r ≡ s)
 requests_same [] [] r s a b c d e = (refl, e)
 requests_same [] (q ∷ qs) r s a b c d e = absurd (rest_not_first r q (flat_map request_bytes qs ++ s) c b.0 (e ∙ append_assoc (request_bytes q) (flat_map request_bytes qs) s))

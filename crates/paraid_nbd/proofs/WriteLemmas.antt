@@ -3,17 +3,17 @@ use Rattle.std.proofs.Common.{◌≡◌, ℕ, ◌+◌, ◌-◌, ◌*◌, ◌/◌
 use Rattle.std.proofs.lemmas.Bool.Decides.{nat_tests}
 use Rattle.std.proofs.lemmas.Bool.{cases_lt, cases_eq}
 use Rattle.std.proofs.lemmas.List.{append-nil, length-take-le, length-drop, get_or_past, map-append, get_or-take, get_or-drop}
-use Rattle.paraid_base.proofs.HistoryLemmas.{held-written, held-other}
+use Rattle.paraid_base.proofs.HistoryLemmas.{after_all-written, after_all-other}
 use Rattle.paraid_base.specs.declared.block.Block.{Block}
 use Rattle.paraid_base.specs.declared.event.Answer.TheVariants.{Halted as HaltedAnswer}
 use Rattle.paraid_base.specs.declared.event.Event.{Event}
 use Rattle.paraid_base.specs.declared.event.Event.TheVariants.{Write as WriteEvent}
 use Rattle.paraid_base.specs.declared.fault.Halt.{Halt}
 use Rattle.paraid_base.specs.BlockAnswers.{Answers}
-use Rattle.paraid_base.specs.History.{Entry, History, held}
-use Rattle.paraid_base.specs.Pairs.{one}
-use Rattle.paraid_nbd.specs.Export.{byte_at, byte_after, count_from, touched, each_alone, IsWritten, changes, write_events, Is, HaltsHere, HasRest, HasBlock, HasPart, HasWritten, Stops, WrittenFirst, Wrote}
-use Rattle.paraid_nbd.proofs.DeviceLemmas.{changes-append, IsWritten-none}
+use Rattle.paraid_base.specs.History.{Entry, History, after_all}
+use Rattle.paraid_base.specs.Pairs.{single_pair}
+use Rattle.paraid_nbd.specs.Export.{byte_at, byte_after, count_from, block_span, each_alone, AreBytesWritten, changes, write_events, IsDeviceState, HaltsHere, HasRest, HasBlock, HasPart, HasWritten, Stops, WrittenFirst, WritesBytes}
+use Rattle.paraid_nbd.proofs.DeviceLemmas.{changes-append, AreBytesWritten-none}
 
 pub part_written : {stands now_stands : History → Type 0} {halted now : Option Halt} {kept now_kept : Answers → Type 0} {s : Option History} {events : Answers} {number size : ℕ} {old : Block}
     (start : ℕ) (bytes : List ℕ) (block : Block) (r : HasRest stands halted kept s events number size old) → length bytes ≡ size → start + length bytes ≤ 512
@@ -29,7 +29,7 @@ part_written {now_kept = now_kept} {s = s} {events = events} {number = number} {
   outside = λ k out. elim (cases_eq size 512) [
     | inl whole ↦ elim (cases_lt k 512) [
       | inl small ↦ absurd (out (omega arith) (omega arith))
-      | inr large ↦ get_or_past block.bytes k 0 (omega (arith, block.whole)) ∙ sym (get_or_past (held x.h number).bytes k 0 (omega (arith, (held x.h number).whole)))
+      | inr large ↦ get_or_past block.bytes k 0 (omega (arith, block.whole)) ∙ sym (get_or_past (after_all x.h number).bytes k 0 (omega (arith, (after_all x.h number).whole)))
     ]
     | inr part ↦ outside k out ∙ ap (λ (y : Block). get_or y.bytes k 0) (r.value x.h x.was part)
   ];
@@ -46,10 +46,10 @@ count_from-more first (suc m) =
     ap (count_from first) e ∙ ap (λ (x : List ℕ). first ∷ x) (count_from-more (first + 1) m ∙ ap (λ (x : ℕ). count_from (first + 1) m ++ x ∷ []) f)
 
 -- one part more touches one block more
-touched-more : (offset d n b start : ℕ) → offset + d ≡ 512 * b + start → start + n ≤ 512 → 0 < n → (d ≡ 0) ⊎ (start ≡ 0)
-    → (touched offset (d + n) ≡ touched offset d + 1) × (offset / 512 + touched offset d ≡ b)
-touched-more offset d n b start at within some (inl first) = (grind (arith, nat_tests), grind (arith, nat_tests))
-touched-more offset d n b start at within some (inr whole) = elim (cases_eq d 0) [
+block_span-more : (offset d n b start : ℕ) → offset + d ≡ 512 * b + start → start + n ≤ 512 → 0 < n → (d ≡ 0) ⊎ (start ≡ 0)
+    → (block_span offset (d + n) ≡ block_span offset d + 1) × (offset / 512 + block_span offset d ≡ b)
+block_span-more offset d n b start at within some (inl first) = (grind (arith, nat_tests), grind (arith, nat_tests))
+block_span-more offset d n b start at within some (inr whole) = elim (cases_eq d 0) [
   | inl none ↦ (grind (arith, nat_tests), grind (arith, nat_tests))
   | inr more ↦ (grind (arith, nat_tests), grind (arith, nat_tests))
 ]
@@ -90,71 +90,71 @@ each_alone-append h [] w = ap (λ (x : History). x ++ (w ∷ []) ∷ []) (sym (a
 each_alone-append h (v ∷ a) w =
     sym (append_assoc h ((v ∷ []) ∷ []) (each_alone (a ++ w ∷ []))) ∙ each_alone-append (h ++ (v ∷ []) ∷ []) a w ∙ ap (λ (x : History). x ++ (w ∷ []) ∷ []) (append_assoc h ((v ∷ []) ∷ []) (each_alone a))
 
-pub IsWritten-more : (h : History) (writes : Entry) (offset d n : ℕ) (from : List ℕ) (b start : ℕ) (block : Block) → IsWritten h offset (take d from) writes
+pub AreBytesWritten-more : (h : History) (writes : Entry) (offset d n : ℕ) (from : List ℕ) (b start : ℕ) (block : Block) → AreBytesWritten h offset (take d from) writes
     → offset + d ≡ 512 * b + start → start + n ≤ 512 → 0 < n → d + n ≤ length from → (d ≡ 0) ⊎ (start ≡ 0)
     → ((k : ℕ) → k < n → get_or block.bytes (start + k) 0 ≡ get_or from (d + k) 0)
-    → ((k : ℕ) → (start ≤ k → k < start + n → ⊥) → get_or block.bytes k 0 ≡ get_or (held (h ++ each_alone writes) b).bytes k 0)
-    → IsWritten h offset (take (d + n) from) (writes ++ (b, block) ∷ [])
+    → ((k : ℕ) → (start ≤ k → k < start + n → ⊥) → get_or block.bytes k 0 ≡ get_or (after_all (h ++ each_alone writes) b).bytes k 0)
+    → AreBytesWritten h offset (take (d + n) from) (writes ++ (b, block) ∷ [])
 unfolding byte_at
-IsWritten-more h writes offset d n from b start block w at within some few side inside outside =
+AreBytesWritten-more h writes offset d n from b start block w at within some few side inside outside =
     let long : length (take (d + n) from) ≡ d + n = length-take-le (d + n) from few in
     let short : length (take d from) ≡ d = length-take-le d from (omega arith) in
-    let t = touched-more offset d n b start at within some side in
+    let t = block_span-more offset d n b start at within some side in
     let numbers : List ℕ = map (λ (x : ℕ × Block). x.0) writes in
     record {
       blocks = map-append (λ (x : ℕ × Block). x.0) writes ((b, block) ∷ [])
-          ∙ ap (λ (x : List ℕ). x ++ b ∷ []) (w.blocks ∙ ap (λ (x : ℕ). count_from (offset / 512) (touched offset x)) short)
-          ∙ ap (λ (x : ℕ). count_from (offset / 512) (touched offset d) ++ x ∷ []) (sym t.1)
-          ∙ sym (count_from-more (offset / 512) (touched offset d))
+          ∙ ap (λ (x : List ℕ). x ++ b ∷ []) (w.blocks ∙ ap (λ (x : ℕ). count_from (offset / 512) (block_span offset x)) short)
+          ∙ ap (λ (x : ℕ). count_from (offset / 512) (block_span offset d) ++ x ∷ []) (sym t.1)
+          ∙ sym (count_from-more (offset / 512) (block_span offset d))
           ∙ ap (count_from (offset / 512)) (sym t.0)
-          ∙ ap (λ (x : ℕ). count_from (offset / 512) (touched offset x)) (sym long);
+          ∙ ap (λ (x : ℕ). count_from (offset / 512) (block_span offset x)) (sym long);
       bytes_are = λ k.
           let old : History = h ++ each_alone writes in
           let all : History = h ++ each_alone (writes ++ (b, block) ∷ []) in
-          let joined : held all (k / 512) ≡ held (old ++ ((b, block) ∷ []) ∷ []) (k / 512) = ap (λ (x : History). held x (k / 512)) (each_alone-append h writes (b, block)) in
-          let at_k : get_or (held all (k / 512)).bytes (k % 512) 0 ≡ get_or (held (old ++ ((b, block) ∷ []) ∷ []) (k / 512)).bytes (k % 512) 0 = ap (λ (x : Block). get_or x.bytes (k % 512) 0) joined in
+          let joined : after_all all (k / 512) ≡ after_all (old ++ ((b, block) ∷ []) ∷ []) (k / 512) = ap (λ (x : History). after_all x (k / 512)) (each_alone-append h writes (b, block)) in
+          let at_k : get_or (after_all all (k / 512)).bytes (k % 512) 0 ≡ get_or (after_all (old ++ ((b, block) ∷ []) ∷ []) (k / 512)).bytes (k % 512) 0 = ap (λ (x : Block). get_or x.bytes (k % 512) 0) joined in
           elim (cases_eq (k / 512) b) [
             | inl here ↦
-                let new : held (old ++ ((b, block) ∷ []) ∷ []) (k / 512) ≡ block = ap (held (old ++ ((b, block) ∷ []) ∷ [])) here ∙ held-written old b block in
-                let now : get_or (held all (k / 512)).bytes (k % 512) 0 ≡ get_or block.bytes (k % 512) 0 = at_k ∙ ap (λ (x : Block). get_or x.bytes (k % 512) 0) new in
+                let new : after_all (old ++ ((b, block) ∷ []) ∷ []) (k / 512) ≡ block = ap (after_all (old ++ ((b, block) ∷ []) ∷ [])) here ∙ after_all-written old b block in
+                let now : get_or (after_all all (k / 512)).bytes (k % 512) 0 ≡ get_or block.bytes (k % 512) 0 = at_k ∙ ap (λ (x : Block). get_or x.bytes (k % 512) 0) new in
                 elim (cases_lt (k % 512) start) [
-                  | inl low ↦ now ∙ outside (k % 512) (λ p q. absurd (omega arith)) ∙ ap (λ (x : ℕ). get_or (held old x).bytes (k % 512) 0) (sym here) ∙ w.bytes_are k ∙ after-other h offset d n from k few (λ p q. absurd (omega arith))
+                  | inl low ↦ now ∙ outside (k % 512) (λ p q. absurd (omega arith)) ∙ ap (λ (x : ℕ). get_or (after_all old x).bytes (k % 512) 0) (sym here) ∙ w.bytes_are k ∙ after-other h offset d n from k few (λ p q. absurd (omega arith))
                   | inr high ↦ elim (cases_lt (k % 512) (start + n)) [
                     | inl in_it ↦
                         let e : start + (k % 512 - start) ≡ k % 512 = omega arith in
                         let f : d + (k % 512 - start) ≡ k - offset = omega arith in
                         now ∙ ap (λ (x : ℕ). get_or block.bytes x 0) (sym e) ∙ inside (k % 512 - start) (omega arith) ∙ ap (λ (x : ℕ). get_or from x 0) f ∙ sym (after-here h offset d n from k few (omega arith) (omega arith))
-                    | inr over ↦ now ∙ outside (k % 512) (λ p q. absurd (omega arith)) ∙ ap (λ (x : ℕ). get_or (held old x).bytes (k % 512) 0) (sym here) ∙ w.bytes_are k ∙ after-other h offset d n from k few (λ p q. absurd (omega arith))
+                    | inr over ↦ now ∙ outside (k % 512) (λ p q. absurd (omega arith)) ∙ ap (λ (x : ℕ). get_or (after_all old x).bytes (k % 512) 0) (sym here) ∙ w.bytes_are k ∙ after-other h offset d n from k few (λ p q. absurd (omega arith))
                   ]
                 ]
-            | inr away ↦ at_k ∙ ap (λ (x : Block). get_or x.bytes (k % 512) 0) (held-other old b (k / 512) block (λ e. away (sym e))) ∙ w.bytes_are k ∙ after-other h offset d n from k few (λ p q. away (omega arith))
+            | inr away ↦ at_k ∙ ap (λ (x : Block). get_or x.bytes (k % 512) 0) (after_all-other old b (k / 512) block (λ e. away (sym e))) ∙ w.bytes_are k ∙ after-other h offset d n from k few (λ p q. away (omega arith))
           ];
     }
 
 write_events-append : (a b : Entry) → write_events (a ++ b) ≡ write_events a ++ write_events b
 write_events-append [] b = refl
-write_events-append (w ∷ a) b = ap (λ (x : List Event). WriteEvent (one w.0 w.1) ∷ x) (write_events-append a b)
+write_events-append (w ∷ a) b = ap (λ (x : List Event). WriteEvent (single_pair w.0 w.1) ∷ x) (write_events-append a b)
 
-wrote_more : (s t : Option History) (h : History) (offset d n : ℕ) (from : List ℕ) (b start : ℕ) (block : Block) (new more : Answers) → Wrote s offset (take d from) t new → t ≡ Some h
+wrote_more : (s t : Option History) (h : History) (offset d n : ℕ) (from : List ℕ) (b start : ℕ) (block : Block) (new more : Answers) → WritesBytes s offset (take d from) t new → t ≡ Some h
     → offset + d ≡ 512 * b + start → start + n ≤ 512 → 0 < n → d + n ≤ length from → (d ≡ 0) ⊎ (start ≡ 0)
     → ((k : ℕ) → k < n → get_or block.bytes (start + k) 0 ≡ get_or from (d + k) 0)
-    → ((k : ℕ) → (start ≤ k → k < start + n → ⊥) → get_or block.bytes k 0 ≡ get_or (held h b).bytes k 0)
-    → changes more ≡ WriteEvent (one b block) ∷ []
-    → Wrote s offset (take (d + n) from) (Some (h ++ ((b, block) ∷ []) ∷ [])) (new ++ more)
+    → ((k : ℕ) → (start ≤ k → k < start + n → ⊥) → get_or block.bytes k 0 ≡ get_or (after_all h b).bytes k 0)
+    → changes more ≡ WriteEvent (single_pair b block) ∷ []
+    → WritesBytes s offset (take (d + n) from) (Some (h ++ ((b, block) ∷ []) ∷ [])) (new ++ more)
 wrote_more None t h offset d n from b start block new more w is at within some few side inside outside events = absurd (cc (w.1, is))
 wrote_more (Some h0) t h offset d n from b start block new more w is at within some few side inside outside events =
     let same : h ≡ h0 ++ each_alone w.0 = cc (w.2, is) in
-    let out : (k : ℕ) → (start ≤ k → k < start + n → ⊥) → get_or block.bytes k 0 ≡ get_or (held (h0 ++ each_alone w.0) b).bytes k 0 = λ k o. outside k o ∙ ap (λ (x : History). get_or (held x b).bytes k 0) same in (
+    let out : (k : ℕ) → (start ≤ k → k < start + n → ⊥) → get_or block.bytes k 0 ≡ get_or (after_all (h0 ++ each_alone w.0) b).bytes k 0 = λ k o. outside k o ∙ ap (λ (x : History). get_or (after_all x b).bytes k 0) same in (
       w.0 ++ (b, block) ∷ [],
-      IsWritten-more h0 w.0 offset d n from b start block w.1 at within some few side inside out,
+      AreBytesWritten-more h0 w.0 offset d n from b start block w.1 at within some few side inside out,
       ap (λ (x : History). Some (x ++ ((b, block) ∷ []) ∷ [])) same ∙ ap Some (sym (each_alone-append h0 w.0 (b, block))),
       changes-append new more ∙ ap (λ (x : List Event). x ++ changes more) w.3 ∙ ap (λ (x : List Event). write_events w.0 ++ x) events ∙ sym (write_events-append w.0 ((b, block) ∷ [])),
     )
 
 pub written_none : {stands : History → Type 0} {now : Option Halt} {kept : Answers → Type 0} (s : Option History) {events : Answers} (offset : ℕ)
-    → Is stands now s → kept events → HasWritten stands now kept s events offset []
+    → IsDeviceState stands now s → kept events → HasWritten stands now kept s events offset []
 written_none {kept = kept} None {events = events} offset is k = record { t = None; now = is; new = []; wrote = (refl, refl, refl); quiet = λ e. refl; kept_is = subst kept (sym (append-nil events)) k }
-written_none {kept = kept} (Some h) {events = events} offset is k = record { t = Some h; now = is; new = []; wrote = ([], IsWritten-none h offset, ap Some (sym (append-nil h)), refl); quiet = λ e. refl; kept_is = subst kept (sym (append-nil events)) k }
+written_none {kept = kept} (Some h) {events = events} offset is k = record { t = Some h; now = is; new = []; wrote = ([], AreBytesWritten-none h offset, ap Some (sym (append-nil h)), refl); quiet = λ e. refl; kept_is = subst kept (sym (append-nil events)) k }
 
 pub written_more : {stands now_stands : History → Type 0} {halted now : Option Halt} {kept now_kept : Answers → Type 0} {s : Option History} {events : Answers} {offset : ℕ} (d : ℕ) (from : List ℕ)
     (b start n : ℕ) (piece : List ℕ) (r : HasWritten stands halted kept s events offset (take d from)) → offset + d ≡ 512 * b + start → start + n ≤ 512 → 0 < n → d + n ≤ length from → (d ≡ 0) ⊎ (start ≡ 0)
@@ -173,7 +173,7 @@ written_more {now_kept = now_kept} {s = s} {events = events} {offset = offset} d
       kept_is = subst now_kept (append_assoc events r.new x.new) x.kept_is;
     }
 
-first_after : (s t : Option History) (offset d : ℕ) (from : List ℕ) (new done : Answers) → d ≤ length from → Wrote s offset (take d from) t new → changes done ≡ [] → (t ≡ None → done ≡ [])
+first_after : (s t : Option History) (offset d : ℕ) (from : List ℕ) (new done : Answers) → d ≤ length from → WritesBytes s offset (take d from) t new → changes done ≡ [] → (t ≡ None → done ≡ [])
     → WrittenFirst s offset from (new ++ done)
 first_after None t offset d from new done few w reads quiet = ap (λ (x : Answers). x ++ done) w.2 ∙ quiet w.1
 first_after (Some h) t offset d from new done few w reads quiet = (w.0, d, few, w.1, changes-append new done ∙ ap (λ (x : List Event). changes new ++ x) reads ∙ append-nil (changes new) ∙ w.3)

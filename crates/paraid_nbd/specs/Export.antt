@@ -7,8 +7,8 @@ use Rattle.paraid_base.specs.declared.event.Event.{Event}
 use Rattle.paraid_base.specs.declared.event.Event.TheVariants.{Read as ReadEvent, Write as WriteEvent, Flush as FlushEvent, Tick, Up, Down, Fail, Replace, State, Energy, Bad}
 use Rattle.paraid_base.specs.declared.fault.Halt.{Halt}
 use Rattle.paraid_base.specs.BlockAnswers.{Answers}
-use Rattle.paraid_base.specs.History.{Entry, History, held}
-use Rattle.paraid_base.specs.Pairs.{one}
+use Rattle.paraid_base.specs.History.{Entry, History, after_all}
+use Rattle.paraid_base.specs.Pairs.{single_pair}
 use Rattle.paraid_nbd.specs.declared.request.Command.TheVariants.{Read, Write, Flush}
 use Rattle.paraid_nbd.specs.declared.request.Outcome.TheVariants.{Done, Halted}
 use Rattle.paraid_nbd.specs.declared.request.Request.{Request}
@@ -16,7 +16,7 @@ use Rattle.paraid_nbd.specs.Requests.{RequestParts, request_in, outcome_of, repl
 
 -- the byte at a place of the device
 unfoldable pub byte_at : History → ℕ → ℕ
-byte_at h k = slice_index (held h (k / 512)).bytes (k % 512)
+byte_at h k = slice_index (after_all h (k / 512)).bytes (k % 512)
 
 -- so many bytes from a place on
 unfoldable pub bytes_from : History → ℕ → ℕ → List ℕ
@@ -30,7 +30,7 @@ export_bytes count h = bytes_from h 0 (512 * count)
 -- so many blocks from one on, joined
 abbrev pub blocks_joined : History → ℕ → ℕ → List ℕ
 blocks_joined h block zero = []
-blocks_joined h block (suc n) = (held h block).bytes ++ blocks_joined h (block + 1) n
+blocks_joined h block (suc n) = (after_all h block).bytes ++ blocks_joined h (block + 1) n
 
 -- the byte at a place when these bytes were written from `offset` on
 unfoldable pub byte_after : History → ℕ → List ℕ → ℕ → ℕ
@@ -42,8 +42,8 @@ count_from first zero = []
 count_from first (suc n) = first ∷ count_from (first + 1) n
 
 -- how many blocks so many bytes from `offset` on touch
-abbrev pub touched : ℕ → ℕ → ℕ
-touched offset count = if count == 0 then 0 else (offset % 512 + count + 511) / 512
+abbrev pub block_span : ℕ → ℕ → ℕ
+block_span offset count = if count == 0 then 0 else (offset % 512 + count + 511) / 512
 
 -- each of these pairs as a write of its own
 abbrev pub each_alone : Entry → History
@@ -52,8 +52,8 @@ each_alone (w ∷ ws) = (w ∷ []) ∷ each_alone ws
 
 -- After these writes the device has the bytes from `offset` on, and its other bytes as before. Each block that they
 -- touch was written once, in ascending order.
-pub record IsWritten (h : History) (offset : ℕ) (bytes : List ℕ) (writes : Entry) : Type 0 where
-  pub blocks : map (λ w. w.0) writes ≡ count_from (offset / 512) (touched offset (length bytes))
+pub record AreBytesWritten (h : History) (offset : ℕ) (bytes : List ℕ) (writes : Entry) : Type 0 where
+  pub blocks : map (λ w. w.0) writes ≡ count_from (offset / 512) (block_span offset (length bytes))
   pub bytes_are : (k : ℕ) → byte_at (h ++ each_alone writes) k ≡ byte_after h offset bytes k
 
 -- an event before others, unless it is a read
@@ -78,21 +78,21 @@ changes (e ∷ es) = with_change e.0 (changes es)
 -- a write of one block for each of these pairs
 abbrev pub write_events : Entry → List Event
 write_events [] = []
-write_events (w ∷ ws) = WriteEvent (one w.0 w.1) ∷ write_events ws
+write_events (w ∷ ws) = WriteEvent (single_pair w.0 w.1) ∷ write_events ws
 
 -- A device that has not halted has the history h, and s is Some h; of one that has halted s is None.
-pub record Is (stands : History → Type 0) (halted : Option Halt) (s : Option History) : Type 0 where
+pub record IsDeviceState (stands : History → Type 0) (halted : Option Halt) (s : Option History) : Type 0 where
   pub serves : (h : History) → s ≡ Some h → stands h × (halted ≡ None)
   pub halts : s ≡ None → IsSome halted
 
 -- Nothing was written, and what was kept grew by reads.
-pub record Looks (kept : Answers → Type 0) (events : Answers) : Type 0 where
+pub record OnlyReadsDevice (kept : Answers → Type 0) (events : Answers) : Type 0 where
   pub new : Answers
   pub reads : changes new ≡ []
   pub kept_is : kept (events ++ new)
 
 -- The last call gave a halt; before it these events were kept.
-pub record Halting (kept : Answers → Type 0) (events done : Answers) : Type 0 where
+pub record HaltsAtLast (kept : Answers → Type 0) (events done : Answers) : Type 0 where
   pub event : Event
   pub halt : Halt
   pub kept_is : kept (events ++ (done ++ (event, HaltedAnswer halt) ∷ []))
@@ -101,34 +101,34 @@ pub record Halting (kept : Answers → Type 0) (events done : Answers) : Type 0 
 abbrev pub WrittenFirst : Option History → ℕ → List ℕ → Answers → Type 0
 WrittenFirst None offset bytes done = done ≡ []
 WrittenFirst (Some h) offset bytes done =
-    (writes : Entry) × (m : ℕ) × (m ≤ length bytes) × IsWritten h offset (take m bytes) writes × (changes done ≡ write_events writes)
+    (writes : Entry) × (m : ℕ) × (m ≤ length bytes) × AreBytesWritten h offset (take m bytes) writes × (changes done ≡ write_events writes)
 
 -- what holds of each state and list of kept events of a device, if it still tells
-abbrev pub From : (History → Type 0) → Option Halt → (Answers → Type 0) → Bool → (Option History → Answers → Type 0) → Type 0
-From stands halted kept tells P = IsTrue tells → (s : Option History) (events : Answers) → Is stands halted s → kept events → P s events
+abbrev pub ForEachState : (History → Type 0) → Option Halt → (Answers → Type 0) → Bool → (Option History → Answers → Type 0) → Type 0
+ForEachState stands halted kept tells P = IsTrue tells → (s : Option History) (events : Answers) → IsDeviceState stands halted s → kept events → P s events
 
 -- A call gave a halt, and before it nothing was written.
 pub record HaltsHere (stands : History → Type 0) (halted : Option Halt) (kept : Answers → Type 0) (s : Option History) (events : Answers) : Type 0 where
-  pub now : Is stands halted None
+  pub now : IsDeviceState stands halted None
   pub done : Answers
   pub reads : changes done ≡ []
   pub quiet : s ≡ None → done ≡ []
-  pub halting : Halting kept events done
+  pub halting : HaltsAtLast kept events done
 
 -- A device that serves was read.
 pub record HasRead (stands : History → Type 0) (halted : Option Halt) (kept : Answers → Type 0) (s : Option History) (events : Answers) (block : ℕ) (bytes : Block) : Type 0 where
   pub h : History
   pub was : s ≡ Some h
-  pub now : Is stands halted s
-  pub value : bytes ≡ held h block
+  pub now : IsDeviceState stands halted s
+  pub value : bytes ≡ after_all h block
   pub new : Answers
   pub reads : changes new ≡ []
   pub kept_is : kept (events ++ new)
 
 -- The block was read, unless all of it is to be written.
 pub record HasRest (stands : History → Type 0) (halted : Option Halt) (kept : Answers → Type 0) (s : Option History) (events : Answers) (block size : ℕ) (bytes : Block) : Type 0 where
-  pub now : Is stands halted s
-  pub value : (h : History) → s ≡ Some h → size ≢ 512 → bytes ≡ held h block
+  pub now : IsDeviceState stands halted s
+  pub value : (h : History) → s ≡ Some h → size ≢ 512 → bytes ≡ after_all h block
   pub new : Answers
   pub reads : changes new ≡ []
   pub quiet : s ≡ None → new ≡ []
@@ -138,14 +138,14 @@ pub record HasRest (stands : History → Type 0) (halted : Option Halt) (kept : 
 pub record HasBlock (stands : History → Type 0) (halted : Option Halt) (kept : Answers → Type 0) (s : Option History) (events : Answers) (number : ℕ) (block : Block) : Type 0 where
   pub h : History
   pub was : s ≡ Some h
-  pub now : Is stands halted (Some (h ++ ((number, block) ∷ []) ∷ []))
+  pub now : IsDeviceState stands halted (Some (h ++ ((number, block) ∷ []) ∷ []))
   pub new : Answers
-  pub writes : changes new ≡ WriteEvent (one number block) ∷ []
+  pub writes : changes new ≡ WriteEvent (single_pair number block) ∷ []
   pub kept_is : kept (events ++ new)
 
 -- These bytes were read from `offset` on. For no bytes no call was made.
 pub record HasBytes (stands : History → Type 0) (halted : Option Halt) (kept : Answers → Type 0) (s : Option History) (events : Answers) (offset : ℕ) (bytes : List ℕ) : Type 0 where
-  pub now : Is stands halted s
+  pub now : IsDeviceState stands halted s
   pub value : (h : History) → s ≡ Some h → bytes ≡ bytes_from h offset (length bytes)
   pub serves : s ≡ None → length bytes ≡ 0
   pub new : Answers
@@ -155,59 +155,59 @@ pub record HasBytes (stands : History → Type 0) (halted : Option Halt) (kept :
 
 -- A call gave a halt, after a first part of these bytes was written from `offset` on.
 pub record Stops (stands : History → Type 0) (halted : Option Halt) (kept : Answers → Type 0) (s : Option History) (events : Answers) (offset : ℕ) (bytes : List ℕ) : Type 0 where
-  pub now : Is stands halted None
+  pub now : IsDeviceState stands halted None
   pub done : Answers
   pub first : WrittenFirst s offset bytes done
-  pub halting : Halting kept events done
+  pub halting : HaltsAtLast kept events done
 
 -- One block was written, with these bytes from `start` on and its other bytes as before.
 pub record HasPart (stands : History → Type 0) (halted : Option Halt) (kept : Answers → Type 0) (s : Option History) (events : Answers) (number start : ℕ) (bytes : List ℕ) : Type 0 where
   pub h : History
   pub was : s ≡ Some h
   pub block : Block
-  pub now : Is stands halted (Some (h ++ ((number, block) ∷ []) ∷ []))
+  pub now : IsDeviceState stands halted (Some (h ++ ((number, block) ∷ []) ∷ []))
   pub inside : (k : ℕ) → k < length bytes → slice_index block.bytes (start + k) ≡ slice_index bytes k
-  pub outside : (k : ℕ) → (start ≤ k → k < start + length bytes → ⊥) → slice_index block.bytes k ≡ slice_index (held h number).bytes k
+  pub outside : (k : ℕ) → (start ≤ k → k < start + length bytes → ⊥) → slice_index block.bytes k ≡ slice_index (after_all h number).bytes k
   pub new : Answers
-  pub writes : changes new ≡ WriteEvent (one number block) ∷ []
+  pub writes : changes new ≡ WriteEvent (single_pair number block) ∷ []
   pub kept_is : kept (events ++ new)
 
 -- how a write of these bytes from `offset` on changes the state
-abbrev pub Wrote : Option History → ℕ → List ℕ → Option History → Answers → Type 0
-Wrote None offset bytes t new = (length bytes ≡ 0) × (t ≡ None) × (new ≡ [])
-Wrote (Some h) offset bytes t new = (writes : Entry) × IsWritten h offset bytes writes × (t ≡ Some (h ++ each_alone writes)) × (changes new ≡ write_events writes)
+abbrev pub WritesBytes : Option History → ℕ → List ℕ → Option History → Answers → Type 0
+WritesBytes None offset bytes t new = (length bytes ≡ 0) × (t ≡ None) × (new ≡ [])
+WritesBytes (Some h) offset bytes t new = (writes : Entry) × AreBytesWritten h offset bytes writes × (t ≡ Some (h ++ each_alone writes)) × (changes new ≡ write_events writes)
 
 -- These bytes were written from `offset` on. For no bytes no call was made.
 pub record HasWritten (stands : History → Type 0) (halted : Option Halt) (kept : Answers → Type 0) (s : Option History) (events : Answers) (offset : ℕ) (bytes : List ℕ) : Type 0 where
   pub t : Option History
-  pub now : Is stands halted t
+  pub now : IsDeviceState stands halted t
   pub new : Answers
-  pub wrote : Wrote s offset bytes t new
+  pub wrote : WritesBytes s offset bytes t new
   pub quiet : length bytes ≡ 0 → new ≡ []
   pub kept_is : kept (events ++ new)
 
 -- One request, on a device of so many bytes: the state before, the reply, the events that were kept, the state after.
-pub data Step (size : ℕ) (s : Option History) (r : Request) (content : List ℕ) (out : List ℕ) (events : Answers) (t : Option History) : Type 0 where
+pub data RequestStep (size : ℕ) (s : Option History) (r : Request) (content : List ℕ) (out : List ℕ) (events : Answers) (t : Option History) : Type 0 where
   -- it cannot be done
   Refused : outcome_of size r ≢ Done → out ≡ reply_head r (outcome_of size r)
-      → events ≡ [] → t ≡ s → Step size s r content out events t
+      → events ≡ [] → t ≡ s → RequestStep size s r content out events t
   Reads : (h : History) → outcome_of size r ≡ Done → r.command ≡ Read → s ≡ Some h → t ≡ s → changes events ≡ []
-      → out ≡ reply_head r Done ++ bytes_from h r.offset r.length → Step size s r content out events t
+      → out ≡ reply_head r Done ++ bytes_from h r.offset r.length → RequestStep size s r content out events t
   Writes : (h : History) (writes : Entry) → outcome_of size r ≡ Done → r.command ≡ Write → s ≡ Some h → t ≡ Some (h ++ each_alone writes)
-      → IsWritten h r.offset content writes → changes events ≡ write_events writes
-      → out ≡ reply_head r Done → Step size s r content out events t
+      → AreBytesWritten h r.offset content writes → changes events ≡ write_events writes
+      → out ≡ reply_head r Done → RequestStep size s r content out events t
   Flushes : (h : History) → outcome_of size r ≡ Done → r.command ≡ Flush → s ≡ Some h → t ≡ s
-      → events ≡ (FlushEvent, Flushed (length h)) ∷ [] → out ≡ reply_head r Done → Step size s r content out events t
+      → events ≡ (FlushEvent, Flushed (length h)) ∷ [] → out ≡ reply_head r Done → RequestStep size s r content out events t
   -- a read or write of no bytes makes no call
   Empties : outcome_of size r ≡ Done → r.command ≢ Flush → r.length ≡ 0 → events ≡ [] → t ≡ s
-      → out ≡ reply_head r Done → Step size s r content out events t
+      → out ≡ reply_head r Done → RequestStep size s r content out events t
   -- a call gives a halt
   Halts : (done : Answers) (event : Event) (halt : Halt) → outcome_of size r ≡ Done → t ≡ None
       → WrittenFirst s r.offset content done → events ≡ done ++ (event, HaltedAnswer halt) ∷ []
-      → out ≡ reply_head r Halted → Step size s r content out events t
+      → out ≡ reply_head r Halted → RequestStep size s r content out events t
 
 -- Requests, one after the other.
-pub data Steps (size : ℕ) (s : Option History) : List RequestParts → List ℕ → Answers → Option History → Type 0 where
-  None_yet : Steps size s [] [] [] s
+pub data RequestSteps (size : ℕ) (s : Option History) : List RequestParts → List ℕ → Answers → Option History → Type 0 where
+  None_yet : RequestSteps size s [] [] [] s
   One_more : (ps : List RequestParts) (out : List ℕ) (events : Answers) (m : Option History) (p : RequestParts) (more : List ℕ) (kept : Answers) (t : Option History)
-      → Steps size s ps out events m → Step size m (request_in p.head) p.content more kept t → Steps size s (ps ++ p ∷ []) (out ++ more) (events ++ kept) t
+      → RequestSteps size s ps out events m → RequestStep size m (request_in p.head) p.content more kept t → RequestSteps size s (ps ++ p ∷ []) (out ++ more) (events ++ kept) t

@@ -1,23 +1,23 @@
 -- The greeting, the client's flags and its options: what was taken, what was said, and how that may end
 use Rattle.std.specs.Prelude.{◌≡◌, ◌≢◌, ℕ, ◌<◌, ◌≤◌, nat_le, List, [], ◌++◌, length, take, codes, Option, Bool, true, false}
 use Rattle.std.specs.List.{flat_map, AllByRecursion}
-use Rattle.paraid_base.specs.Told.{Grows, HasRisen}
+use Rattle.paraid_base.specs.Told.{GrowsByBytes, HasRisen}
 use Rattle.paraid_nbd.specs.declared.ending.NbdEnd.{NbdEnd}
 use Rattle.paraid_nbd.specs.declared.ending.NbdEnd.TheVariants.{Aborted, Protocol, Sink}
 use Rattle.paraid_nbd.specs.declared.options.OptionKind.TheVariants.{Abort}
-use Rattle.paraid_nbd.specs.Numbers.{big_endian, number}
+use Rattle.paraid_nbd.specs.Numbers.{number_bytes, number}
 use Rattle.paraid_nbd.specs.Options.{OptionParts, option_bytes, option_number, option_kind, option_reply, begins, IsChoice, IsOption, IsPartOption, IsWrongOption}
 use Rattle.paraid_nbd.specs.Taking.{Takes, Lacks, IsCut}
 
 -- what the service says first
 unfoldable pub greeting : List ℕ
-greeting = codes "NBDMAGIC" ++ (big_endian 8 0x49484156454F5054 ++ big_endian 2 3)
+greeting = codes "NBDMAGIC" ++ (number_bytes 8 0x49484156454F5054 ++ number_bytes 2 3)
 
 -- A first part of this was written, and then the sink failed.
-pub record Unsent (before after : Option (List ℕ)) (out : List ℕ) (faults now : ℕ) (end : NbdEnd) : Type 0 where
+pub record IsUnsent (before after : Option (List ℕ)) (out : List ℕ) (faults now : ℕ) (end : NbdEnd) : Type 0 where
   pub sent : ℕ
   pub within : sent ≤ length out
-  pub grows : Grows before after (take sent out)
+  pub grows : GrowsByBytes before after (take sent out)
   pub cause : HasRisen faults now
   pub is : end ≡ Sink
 
@@ -69,23 +69,23 @@ pub data StopsOption (before after : Option (List ℕ)) (old new faults now : �
       → StopsOption before after old new faults now end
 
 -- An option was taken and answered.
-pub record Answers (size : ℕ) (no_zeros : Bool) (before after : Option (List ℕ)) (old new : ℕ) (written now_written : Option (List ℕ)) (begun : Bool) : Type 0 where
+pub record AnswersOption (size : ℕ) (no_zeros : Bool) (before after : Option (List ℕ)) (old new : ℕ) (written now_written : Option (List ℕ)) (begun : Bool) : Type 0 where
   pub parts : OptionParts
   pub is : IsOption parts
   pub stays : option_kind (option_number parts.head) ≢ Abort
   pub begun_is : begun ≡ begins (option_kind (option_number parts.head))
   pub takes : Takes before after old new (option_bytes parts)
-  pub grows : Grows written now_written (option_reply size no_zeros parts)
+  pub grows : GrowsByBytes written now_written (option_reply size no_zeros parts)
 
 -- The service ends at an option.
 pub data EndsOption (size : ℕ) (no_zeros : Bool) (before after : Option (List ℕ)) (old new : ℕ) (written now_written : Option (List ℕ)) (faults now sink_faults sink_now : ℕ) (end : NbdEnd) : Type 0 where
-  Unread : StopsOption before after old new faults now end → Grows written now_written []
+  Unread : StopsOption before after old new faults now end → GrowsByBytes written now_written []
       → EndsOption size no_zeros before after old new written now_written faults now sink_faults sink_now end
   Leaves : (p : OptionParts) → IsOption p → option_kind (option_number p.head) ≡ Abort → Takes before after old new (option_bytes p)
-      → Grows written now_written (option_reply size no_zeros p) → end ≡ Aborted
+      → GrowsByBytes written now_written (option_reply size no_zeros p) → end ≡ Aborted
       → EndsOption size no_zeros before after old new written now_written faults now sink_faults sink_now end
   UnsentReply : (p : OptionParts) → IsOption p → Takes before after old new (option_bytes p)
-      → Unsent written now_written (option_reply size no_zeros p) sink_faults sink_now end
+      → IsUnsent written now_written (option_reply size no_zeros p) sink_faults sink_now end
       → EndsOption size no_zeros before after old new written now_written faults now sink_faults sink_now end
 
 -- an option after which another one comes
@@ -95,14 +95,14 @@ pub record IsOther (p : OptionParts) : Type 0 where
   pub waits : begins (option_kind (option_number p.head)) ≡ false
 
 -- The flags and these options were taken and answered.
-pub record Greeted (size : ℕ) (before after : Option (List ℕ)) (old new : ℕ) (written now_written : Option (List ℕ)) (flags : List ℕ) (no_zeros : Bool) (options : List OptionParts) : Type 0 where
+pub record IsGreeted (size : ℕ) (before after : Option (List ℕ)) (old new : ℕ) (written now_written : Option (List ℕ)) (flags : List ℕ) (no_zeros : Bool) (options : List OptionParts) : Type 0 where
   pub are : AreFlags flags no_zeros
   pub each : AllByRecursion IsOther options
   pub takes : Takes before after old new (flags ++ flat_map option_bytes options)
-  pub grows : Grows written now_written (greeting ++ flat_map (option_reply size no_zeros) options)
+  pub grows : GrowsByBytes written now_written (greeting ++ flat_map (option_reply size no_zeros) options)
 
 -- The transmission begins: the last option asks for it.
-pub record Begins (size : ℕ) (before after : Option (List ℕ)) (old new : ℕ) (written now_written : Option (List ℕ)) : Type 0 where
+pub record BeginsTransmission (size : ℕ) (before after : Option (List ℕ)) (old new : ℕ) (written now_written : Option (List ℕ)) : Type 0 where
   pub flags : List ℕ
   pub no_zeros : Bool
   pub options : List OptionParts
@@ -112,15 +112,15 @@ pub record Begins (size : ℕ) (before after : Option (List ℕ)) (old new : ℕ
   pub last_is : IsOption last
   pub last_begins : begins (option_kind (option_number last.head)) ≡ true
   pub takes : Takes before after old new ((flags ++ flat_map option_bytes options) ++ option_bytes last)
-  pub grows : Grows written now_written ((greeting ++ flat_map (option_reply size no_zeros) options) ++ option_reply size no_zeros last)
+  pub grows : GrowsByBytes written now_written ((greeting ++ flat_map (option_reply size no_zeros) options) ++ option_reply size no_zeros last)
 
 -- The service ends before the transmission.
 pub data EndsEarly (size : ℕ) (before after : Option (List ℕ)) (old new : ℕ) (written now_written : Option (List ℕ)) (faults now sink_faults sink_now : ℕ) (end : NbdEnd) : Type 0 where
-  Ungreeted : Takes before after old new [] → Unsent written now_written greeting sink_faults sink_now end
+  Ungreeted : Takes before after old new [] → IsUnsent written now_written greeting sink_faults sink_now end
       → EndsEarly size before after old new written now_written faults now sink_faults sink_now end
-  Unflagged : StopsFlags before after old new faults now end → Grows written now_written greeting
+  Unflagged : StopsFlags before after old new faults now end → GrowsByBytes written now_written greeting
       → EndsEarly size before after old new written now_written faults now sink_faults sink_now end
   AmongOptions : (mid : Option (List ℕ)) (at : ℕ) (said : Option (List ℕ)) (flags : List ℕ) (no_zeros : Bool) (options : List OptionParts) (low sink_low : ℕ)
-      → Greeted size before mid old at written said flags no_zeros options → faults ≤ low → sink_faults ≤ sink_low
+      → IsGreeted size before mid old at written said flags no_zeros options → faults ≤ low → sink_faults ≤ sink_low
       → EndsOption size no_zeros mid after at new said now_written low now sink_low sink_now end
       → EndsEarly size before after old new written now_written faults now sink_faults sink_now end

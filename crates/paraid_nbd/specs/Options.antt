@@ -2,7 +2,7 @@
 use Rattle.std.specs.Prelude.{◌≡◌, ◌≢◌, ℕ, ◌+◌, ◌*◌, ◌<◌, ◌≤◌, ◌==◌, if◌then◌else◌, List, [], ◌++◌, length, drop, replicate, Bool, true, false}
 use Rattle.paraid_nbd.specs.declared.options.OptionKind.{OptionKind}
 use Rattle.paraid_nbd.specs.declared.options.OptionKind.TheVariants.{Export, Abort, Names, Info, Go, Unknown}
-use Rattle.paraid_nbd.specs.Numbers.{big_endian, number}
+use Rattle.paraid_nbd.specs.Numbers.{number_bytes, number}
 
 -- the number before an option, its number and length, and its content
 pub record OptionParts : Type 0 where
@@ -81,7 +81,7 @@ pub data IsWrongOption (at : ℕ) (rest : List ℕ) (place : ℕ) : Type 0 where
 
 -- the head of a reply to option `n`, with the length of the content that follows
 abbrev pub reply_to : ℕ → ℕ → ℕ → List ℕ
-reply_to n kind size = big_endian 8 0x0003E889045565A9 ++ (big_endian 4 n ++ (big_endian 4 kind ++ big_endian 4 size))
+reply_to n kind size = number_bytes 8 0x0003E889045565A9 ++ (number_bytes 4 n ++ (number_bytes 4 kind ++ number_bytes 4 size))
 
 -- the reply that an option is done
 abbrev pub ack : ℕ → List ℕ
@@ -89,11 +89,11 @@ ack n = reply_to n 1 0
 
 -- the reply to an option of this kind and number, by a device of so many bytes
 abbrev pub kind_reply : ℕ → Bool → OptionKind → ℕ → List ℕ
-kind_reply size no_zeros Export n = big_endian 8 size ++ (big_endian 2 5 ++ (if no_zeros then [] else replicate 124 0))
+kind_reply size no_zeros Export n = number_bytes 8 size ++ (number_bytes 2 5 ++ (if no_zeros then [] else replicate 124 0))
 kind_reply size no_zeros Abort n = ack n
-kind_reply size no_zeros Names n = reply_to n 2 4 ++ (big_endian 4 0 ++ ack n)
-kind_reply size no_zeros Info n = reply_to n 3 12 ++ (big_endian 2 0 ++ (big_endian 8 size ++ (big_endian 2 5 ++ ack n)))
-kind_reply size no_zeros Go n = reply_to n 3 12 ++ (big_endian 2 0 ++ (big_endian 8 size ++ (big_endian 2 5 ++ ack n)))
+kind_reply size no_zeros Names n = reply_to n 2 4 ++ (number_bytes 4 0 ++ ack n)
+kind_reply size no_zeros Info n = reply_to n 3 12 ++ (number_bytes 2 0 ++ (number_bytes 8 size ++ (number_bytes 2 5 ++ ack n)))
+kind_reply size no_zeros Go n = reply_to n 3 12 ++ (number_bytes 2 0 ++ (number_bytes 8 size ++ (number_bytes 2 5 ++ ack n)))
 kind_reply size no_zeros Unknown n = reply_to n 2147483649 0
 
 -- the reply to an option

@@ -9,7 +9,7 @@ use Rattle.paraid_nbd.specs.declared.request.Outcome.{Outcome}
 use Rattle.paraid_nbd.specs.declared.request.Outcome.TheVariants.{Done, Halted, Invalid, NoSpace}
 use Rattle.paraid_nbd.specs.declared.request.Request.{Request}
 use Rattle.paraid_nbd.specs.Requests.{content_length, reply_head, outcome_of}
-use Rattle.paraid_nbd.specs.Export.{Is, Step}
+use Rattle.paraid_nbd.specs.Export.{IsDeviceState, RequestStep}
 use Rattle.paraid_nbd.specs.Taking.{Takes}
 
 -- how much of the buffer a request is about
@@ -59,7 +59,7 @@ pub record Performs (size : ℕ) (stands : History → Type 0) (halted : Option 
     (s : Option History) (events : Answers) (r : Request) (content found : List ℕ) (outcome : Outcome) : Type 0 where
   pub new : Answers
   pub t : Option History
-  pub now : Is stands halted t
+  pub now : IsDeviceState stands halted t
   pub kept_is : kept (events ++ new)
   pub step : (bytes : List ℕ) → (r.command ≡ Write → outcome_of size r ≡ Done → bytes ≡ content)
-      → Step size s r bytes (said_with r outcome found) new t
+      → RequestStep size s r bytes (said_with r outcome found) new t

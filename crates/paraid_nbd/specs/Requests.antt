@@ -5,7 +5,7 @@ use Rattle.paraid_nbd.specs.declared.request.Command.TheVariants.{Read, Write, D
 use Rattle.paraid_nbd.specs.declared.request.Outcome.{Outcome}
 use Rattle.paraid_nbd.specs.declared.request.Outcome.TheVariants.{Done, Halted, Invalid, NoSpace}
 use Rattle.paraid_nbd.specs.declared.request.Request.{Request}
-use Rattle.paraid_nbd.specs.Numbers.{big_endian, number}
+use Rattle.paraid_nbd.specs.Numbers.{number_bytes, number}
 
 -- the number before a request, its 24 bytes, and the bytes to write
 pub record RequestParts : Type 0 where
@@ -52,7 +52,7 @@ error_of NoSpace = 28
 
 -- a reply up to the bytes of a read
 abbrev pub reply_head : Request → Outcome → List ℕ
-reply_head r outcome = big_endian 4 0x67446698 ++ (big_endian 4 (error_of outcome) ++ big_endian 8 r.cookie)
+reply_head r outcome = number_bytes 4 0x67446698 ++ (number_bytes 4 (error_of outcome) ++ number_bytes 8 r.cookie)
 
 -- the number before a request
 abbrev pub IsRequestMagic : List ℕ → Type 0
@@ -90,7 +90,7 @@ pub record IsLast (rest : List ℕ) : Type 0 where
   pub last : (request_in head).command ≡ Disconnect
 
 -- what is left where no whole request stands at the front that another may follow
-pub data IsRest (rest : List ℕ) : Type 0 where
-  Part : IsPartRequest rest → IsRest rest
-  Wrong : length rest ≡ 4 → number 4 rest ≢ 0x25609513 → IsRest rest
-  Last : IsLast rest → IsRest rest
+pub data IsRequestRest (rest : List ℕ) : Type 0 where
+  Part : IsPartRequest rest → IsRequestRest rest
+  Wrong : length rest ≡ 4 → number 4 rest ≢ 0x25609513 → IsRequestRest rest
+  Last : IsLast rest → IsRequestRest rest

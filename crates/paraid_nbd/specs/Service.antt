@@ -4,13 +4,13 @@ use Rattle.std.specs.List.{flat_map, AllByRecursion}
 use Rattle.paraid_base.specs.declared.fault.Halt.{Halt}
 use Rattle.paraid_base.specs.BlockAnswers.{Answers}
 use Rattle.paraid_base.specs.History.{History}
-use Rattle.paraid_base.specs.Told.{Grows}
+use Rattle.paraid_base.specs.Told.{GrowsByBytes}
 use Rattle.paraid_nbd.specs.declared.ending.NbdEnd.{NbdEnd}
 use Rattle.paraid_nbd.specs.declared.ending.NbdEnd.TheVariants.{Done, Protocol, NoMemory}
 use Rattle.paraid_nbd.specs.declared.request.Command.TheVariants.{Disconnect}
 use Rattle.paraid_nbd.specs.declared.request.Request.{Request}
-use Rattle.paraid_nbd.specs.Export.{Is, From, Step, Steps}
-use Rattle.paraid_nbd.specs.Handshake.{Unsent, Begins, EndsEarly}
+use Rattle.paraid_nbd.specs.Export.{IsDeviceState, ForEachState, RequestStep, RequestSteps}
+use Rattle.paraid_nbd.specs.Handshake.{IsUnsent, BeginsTransmission, EndsEarly}
 use Rattle.paraid_nbd.specs.Numbers.{number}
 use Rattle.paraid_nbd.specs.Requests.{RequestParts, request_bytes, request_in, IsRequestMagic, IsRequest, IsPartRequest, IsLast}
 use Rattle.paraid_nbd.specs.Taking.{Takes, IsCut}
@@ -35,15 +35,15 @@ pub data StopsRequest (before after : Option (List ℕ)) (old new faults now : �
       → StopsRequest before after old new faults now end
 
 -- A request was done and answered.
-pub record Does (size : ℕ) (stands : History → Type 0) (halted : Option Halt) (kept : Answers → Type 0) (written now_written : Option (List ℕ))
+pub record DoesRequest (size : ℕ) (stands : History → Type 0) (halted : Option Halt) (kept : Answers → Type 0) (written now_written : Option (List ℕ))
     (s : Option History) (events : Answers) (p : RequestParts) : Type 0 where
   pub out : List ℕ
   pub new : Answers
   pub t : Option History
-  pub step : Step size s (request_in p.head) p.content out new t
-  pub now : Is stands halted t
+  pub step : RequestStep size s (request_in p.head) p.content out new t
+  pub now : IsDeviceState stands halted t
   pub kept_is : kept (events ++ new)
-  pub grows : Grows written now_written out
+  pub grows : GrowsByBytes written now_written out
 
 -- A request was done, and the sink failed in its answer.
 pub record DoesUnsent (size : ℕ) (stands : History → Type 0) (halted : Option Halt) (kept : Answers → Type 0) (written now_written : Option (List ℕ))
@@ -51,21 +51,21 @@ pub record DoesUnsent (size : ℕ) (stands : History → Type 0) (halted : Optio
   pub out : List ℕ
   pub new : Answers
   pub t : Option History
-  pub step : Step size s (request_in p.head) p.content out new t
-  pub now : Is stands halted t
+  pub step : RequestStep size s (request_in p.head) p.content out new t
+  pub now : IsDeviceState stands halted t
   pub kept_is : kept (events ++ new)
-  pub unsent : Unsent written now_written out faults now_faults end
+  pub unsent : IsUnsent written now_written out faults now_faults end
 
 -- Requests were done and answered, one after the other.
-pub record DoesAll (size : ℕ) (stands : History → Type 0) (halted : Option Halt) (kept : Answers → Type 0) (written now_written : Option (List ℕ))
+pub record DoesRequests (size : ℕ) (stands : History → Type 0) (halted : Option Halt) (kept : Answers → Type 0) (written now_written : Option (List ℕ))
     (s : Option History) (events : Answers) (ps : List RequestParts) : Type 0 where
   pub out : List ℕ
   pub new : Answers
   pub t : Option History
-  pub steps : Steps size s ps out new t
-  pub now : Is stands halted t
+  pub steps : RequestSteps size s ps out new t
+  pub now : IsDeviceState stands halted t
   pub kept_is : kept (events ++ new)
-  pub grows : Grows written now_written out
+  pub grows : GrowsByBytes written now_written out
 
 module _ {D : Type 0} (size : ℕ) (stands : D → History → Type 0) (halted : D → Option Halt) (kept : D → Answers → Type 0) (tells : D → Bool) where
   -- One request was taken, done and answered.
@@ -73,21 +73,21 @@ module _ {D : Type 0} (size : ℕ) (stands : D → History → Type 0) (halted :
     pub parts : RequestParts
     pub is : IsRequest parts
     pub takes : Takes before after old new (request_bytes parts)
-    pub does : From (stands was) (halted was) (kept was) (tells now) (λ s events. Does size (stands now) (halted now) (kept now) written now_written s events parts)
+    pub does : ForEachState (stands was) (halted was) (kept was) (tells now) (λ s events. DoesRequest size (stands now) (halted now) (kept now) written now_written s events parts)
 
   -- The service ends at a request.
   pub data EndsRequest (was now : D) (before after : Option (List ℕ)) (old new : ℕ) (written now_written : Option (List ℕ)) (faults now_faults sink_faults sink_now : ℕ) (end : NbdEnd) : Type 0 where
-    UnreadRequest : StopsRequest before after old new faults now_faults end → Grows written now_written [] → now ≡ was
+    UnreadRequest : StopsRequest before after old new faults now_faults end → GrowsByBytes written now_written [] → now ≡ was
         → EndsRequest was now before after old new written now_written faults now_faults sink_faults sink_now end
     UnsentAnswer : (p : RequestParts) → IsRequest p → Takes before after old new (request_bytes p)
-        → From (stands was) (halted was) (kept was) (tells now) (λ s events. DoesUnsent size (stands now) (halted now) (kept now) written now_written s events p sink_faults sink_now end)
+        → ForEachState (stands was) (halted was) (kept was) (tells now) (λ s events. DoesUnsent size (stands now) (halted now) (kept now) written now_written s events p sink_faults sink_now end)
         → EndsRequest was now before after old new written now_written faults now_faults sink_faults sink_now end
 
   -- These requests were taken, done and answered.
   pub record ServesAll (was now : D) (before after : Option (List ℕ)) (old new : ℕ) (written now_written : Option (List ℕ)) (requests : List RequestParts) : Type 0 where
     pub each : AllByRecursion IsRequest requests
     pub takes : Takes before after old new (flat_map request_bytes requests)
-    pub does : From (stands was) (halted was) (kept was) (tells now) (λ s events. DoesAll size (stands now) (halted now) (kept now) written now_written s events requests)
+    pub does : ForEachState (stands was) (halted was) (kept was) (tells now) (λ s events. DoesRequests size (stands now) (halted now) (kept now) written now_written s events requests)
 
   -- The requests up to the end.
   pub record Transmits (was now : D) (before after : Option (List ℕ)) (old new : ℕ) (written now_written : Option (List ℕ)) (faults now_faults sink_faults sink_now : ℕ) (end : NbdEnd) : Type 0 where
@@ -107,12 +107,12 @@ module _ {D : Type 0} (size : ℕ) (stands : D → History → Type 0) (halted :
   -- What a service did: the whole of it.
   pub data Service (was now : D) (before after : Option (List ℕ)) (written now_written : Option (List ℕ)) (faults now_faults sink_faults sink_now : ℕ) (end : NbdEnd) : Type 0 where
     -- there is no memory, and nothing was done
-    NoRoom : end ≡ NoMemory → now ≡ was → Takes before after 0 0 [] → Grows written now_written []
+    NoRoom : end ≡ NoMemory → now ≡ was → Takes before after 0 0 [] → GrowsByBytes written now_written []
         → Service was now before after written now_written faults now_faults sink_faults sink_now end
     -- it ends before the transmission
     Early : (taken : ℕ) → now ≡ was → EndsEarly size before after 0 taken written now_written faults now_faults sink_faults sink_now end
         → Service was now before after written now_written faults now_faults sink_faults sink_now end
     Late : (left : Option (List ℕ)) (at taken : ℕ) (said : Option (List ℕ)) (low sink_low : ℕ)
-        → Begins size before left 0 at written said → faults ≤ low → sink_faults ≤ sink_low
+        → BeginsTransmission size before left 0 at written said → faults ≤ low → sink_faults ≤ sink_low
         → Transmits was now left after at taken said now_written low now_faults sink_low sink_now end
         → Service was now before after written now_written faults now_faults sink_faults sink_now end

@@ -1,8 +1,8 @@
 //! The options that a client asks for before it reads and writes.
 ghost use Rattle.std.specs.Prelude.{◌≡◌, ◌↔◌, ◌+◌, ◌≤◌, ◌<◌, ◌++◌, length, take, IfOk, IfErr, OnOk, IsTrue, [], if◌then◌else◌, replicate};
-ghost use Rattle.paraid_base.specs.Told.{Grows};
-ghost use Rattle.paraid_nbd.specs.Handshake.{greeting, Unsent, TakesFlags, StopsFlags, TakesOption, StopsOption, TakesChoice, StopsChoice, Answers, EndsOption, Begins, EndsEarly};
-ghost use Rattle.paraid_nbd.specs.Numbers.{big_endian};
+ghost use Rattle.paraid_base.specs.Told.{GrowsByBytes};
+ghost use Rattle.paraid_nbd.specs.Handshake.{greeting, IsUnsent, TakesFlags, StopsFlags, TakesOption, StopsOption, TakesChoice, StopsChoice, AnswersOption, EndsOption, BeginsTransmission, EndsEarly};
+ghost use Rattle.paraid_nbd.specs.Numbers.{number_bytes};
 ghost use Rattle.paraid_nbd.specs.Options.{IsChoice, ack, chooses, kind_reply, option_kind, reply_to};
 ghost use Rattle.paraid_nbd.specs.Taking.{Takes, Lacks};
 
@@ -67,8 +67,8 @@ fn kind_of(number: u32) -> OptionKind
 
 /// Sends a packet.
 pub(crate) fn send<K: Sink>(sink: &mut K, packet: &Packet) -> Result<(), NbdEnd>
-    ensures sends { OnOk result (Grows (K.written sink.old) (K.written sink.new) packet.now) }
-    ensures unsent { IfErr result (λ e. Unsent (K.written sink.old) (K.written sink.new) packet.now
+    ensures sends { OnOk result (GrowsByBytes (K.written sink.old) (K.written sink.new) packet.now) }
+    ensures unsent { IfErr result (λ e. IsUnsent (K.written sink.old) (K.written sink.new) packet.now
         (K.faults sink.old) (K.faults sink.new) e) }
     ensures later_sink { K.faults sink.old ≤ K.faults sink.new }
 {
@@ -85,7 +85,7 @@ pub(crate) fn negotiate<S: Source, K: Sink>(
     input: &mut Input,
     size: u64,
 ) -> Result<(), NbdEnd>
-    ensures begins { OnOk result (Begins size (S.left source.old) (S.left source.new)
+    ensures begins { OnOk result (BeginsTransmission size (S.left source.old) (S.left source.new)
         input.old.taken input.new.taken (K.written sink.old) (K.written sink.new)) }
     ensures ends { IfErr result (λ e. EndsEarly size (S.left source.old) (S.left source.new)
         input.old.taken input.new.taken (K.written sink.old) (K.written sink.new)
@@ -104,8 +104,8 @@ pub(crate) fn negotiate<S: Source, K: Sink>(
 
 #[tactic(auto, unfolding(crate::specs::Handshake::greeting))]
 fn greet<K: Sink>(sink: &mut K) -> Result<(), NbdEnd>
-    ensures greets { OnOk result (Grows (K.written sink.old) (K.written sink.new) greeting) }
-    ensures unsent { IfErr result (λ e. Unsent (K.written sink.old) (K.written sink.new) greeting
+    ensures greets { OnOk result (GrowsByBytes (K.written sink.old) (K.written sink.new) greeting) }
+    ensures unsent { IfErr result (λ e. IsUnsent (K.written sink.old) (K.written sink.new) greeting
         (K.faults sink.old) (K.faults sink.new) e) }
     ensures later_sink { K.faults sink.old ≤ K.faults sink.new }
 {
@@ -144,7 +144,7 @@ fn option<S: Source, K: Sink>(
     size: u64,
     no_zeros: bool,
 ) -> Result<bool, NbdEnd>
-    ensures answers { IfOk result (λ begun. Answers size no_zeros (S.left source.old) (S.left source.new)
+    ensures answers { IfOk result (λ begun. AnswersOption size no_zeros (S.left source.old) (S.left source.new)
         input.old.taken input.new.taken (K.written sink.old) (K.written sink.new) begun) }
     ensures ends { IfErr result (λ e. EndsOption size no_zeros (S.left source.old) (S.left source.new)
         input.old.taken input.new.taken (K.written sink.old) (K.written sink.new)
@@ -270,7 +270,7 @@ fn put_reply(packet: &mut Packet, number: u32, kind: u32, size: u32)
 
 fn put_names(packet: &mut Packet, number: u32)
     requires { length packet.old + 44 ≤ 160 }
-    ensures value { packet.new ≡ packet.old ++ (reply_to number 2 4 ++ (big_endian 4 0 ++ ack number)) }
+    ensures value { packet.new ≡ packet.old ++ (reply_to number 2 4 ++ (number_bytes 4 0 ++ ack number)) }
     ensures length { length packet.new ≡ length packet.old + 44 }
 {
     put_reply(packet, number, SERVER, 4);
@@ -280,7 +280,7 @@ fn put_names(packet: &mut Packet, number: u32)
 
 fn put_info(packet: &mut Packet, number: u32, size: u64)
     requires { length packet.old + 52 ≤ 160 }
-    ensures value { packet.new ≡ packet.old ++ (reply_to number 3 12 ++ (big_endian 2 0 ++ (big_endian 8 size ++ (big_endian 2 5 ++ ack number)))) }
+    ensures value { packet.new ≡ packet.old ++ (reply_to number 3 12 ++ (number_bytes 2 0 ++ (number_bytes 8 size ++ (number_bytes 2 5 ++ ack number)))) }
     ensures length { length packet.new ≡ length packet.old + 52 }
 {
     put_reply(packet, number, INFO, 12);
@@ -292,7 +292,7 @@ fn put_info(packet: &mut Packet, number: u32, size: u64)
 
 fn put_export(packet: &mut Packet, size: u64, no_zeros: bool)
     requires { length packet.old + 134 ≤ 160 }
-    ensures value { packet.new ≡ packet.old ++ (big_endian 8 size ++ (big_endian 2 5 ++ (if no_zeros then [] else replicate 124 0))) }
+    ensures value { packet.new ≡ packet.old ++ (number_bytes 8 size ++ (number_bytes 2 5 ++ (if no_zeros then [] else replicate 124 0))) }
     ensures length { length packet.new ≤ length packet.old + 134 }
 {
     packet.put_u64(size);

@@ -1,6 +1,6 @@
 //! What is sent at once: its fields, one after the other.
 ghost use Rattle.std.specs.Prelude.{◌≡◌, ℕ, ◌+◌, ◌≤◌, List, [], ◌++◌, length, take};
-ghost use Rattle.paraid_nbd.specs.Numbers.{big_endian};
+ghost use Rattle.paraid_nbd.specs.Numbers.{number_bytes};
 
 use byteorder::{BigEndian, ByteOrder};
 use std::marker::Model;
@@ -43,10 +43,10 @@ impl Packet {
         self.at = end;
     }
 
-    #[tactic(auto, unfolding(crate::specs::Numbers::big_endian))]
+    #[tactic(auto, unfolding(crate::specs::Numbers::number_bytes))]
     pub(crate) fn put_u16(&mut self, value: u16)
         requires { length self.old + 2 ≤ 160 }
-        ensures value { self.new ≡ self.old ++ big_endian 2 value }
+        ensures value { self.new ≡ self.old ++ number_bytes 2 value }
         ensures length { length self.new ≡ length self.old + 2 }
     {
         let mut bytes = [0; 2];
@@ -54,10 +54,10 @@ impl Packet {
         self.put_bytes(&bytes);
     }
 
-    #[tactic(auto, unfolding(crate::specs::Numbers::big_endian))]
+    #[tactic(auto, unfolding(crate::specs::Numbers::number_bytes))]
     pub(crate) fn put_u32(&mut self, value: u32)
         requires { length self.old + 4 ≤ 160 }
-        ensures value { self.new ≡ self.old ++ big_endian 4 value }
+        ensures value { self.new ≡ self.old ++ number_bytes 4 value }
         ensures length { length self.new ≡ length self.old + 4 }
     {
         let mut bytes = [0; 4];
@@ -65,10 +65,10 @@ impl Packet {
         self.put_bytes(&bytes);
     }
 
-    #[tactic(auto, unfolding(crate::specs::Numbers::big_endian))]
+    #[tactic(auto, unfolding(crate::specs::Numbers::number_bytes))]
     pub(crate) fn put_u64(&mut self, value: u64)
         requires { length self.old + 8 ≤ 160 }
-        ensures value { self.new ≡ self.old ++ big_endian 8 value }
+        ensures value { self.new ≡ self.old ++ number_bytes 8 value }
         ensures length { length self.new ≡ length self.old + 8 }
     {
         let mut bytes = [0; 8];

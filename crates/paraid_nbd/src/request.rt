@@ -1,7 +1,7 @@
 //! What a client asks of the device, and how that is answered.
 ghost use Rattle.std.specs.Prelude.{◌≡◌, ◌+◌, ◌++◌, ℕ, List, length, nat_lt};
 ghost use Rattle.std.specs.List.{flat_map, AllByRecursion};
-ghost use Rattle.paraid_nbd.specs.Requests.{IsRequest, IsRest, RequestParts, request_bytes, command_in, command_outcome, request_in, outcome_of, error_of};
+ghost use Rattle.paraid_nbd.specs.Requests.{IsRequest, IsRequestRest, RequestParts, request_bytes, command_in, command_outcome, request_in, outcome_of, error_of};
 
 use byteorder::{BigEndian, ByteOrder};
 
@@ -124,7 +124,7 @@ impl Request {
 /// Bytes are cut in one way into requests and a rest.
 pub fn requests_are_cut_in_one_way()
     ensures { (ps qs : List RequestParts) (r s : List ℕ) → AllByRecursion IsRequest ps
-        → AllByRecursion IsRequest qs → IsRest r → IsRest s
+        → AllByRecursion IsRequest qs → IsRequestRest r → IsRequestRest s
         → flat_map request_bytes ps ++ r ≡ flat_map request_bytes qs ++ s
         → (ps ≡ qs) × (r ≡ s) }
 {}

@@ -1,12 +1,12 @@
 //! The service: the options, and then one request after the other.
 ghost use Rattle.std.specs.Prelude.{◌≡◌, ◌≢◌, ◌*◌, ◌+◌, ◌^◌, ◌≤◌, ◌<◌, ◌++◌, ℕ, List, [], length, take, min, IfOk, IfErr, OnOk, IsTrue};
-ghost use Rattle.paraid_nbd.specs.Export.{From};
+ghost use Rattle.paraid_nbd.specs.Export.{ForEachState};
 ghost use Rattle.paraid_nbd.specs.Requests.{content_length, outcome_of, reply_head};
 ghost use Rattle.paraid_nbd.specs.Performing.{Fills, Performs, TakesContent, said_with};
 ghost use Rattle.paraid_nbd.specs.Service.{EndsRequest, Serves, Service, StopsRequest, TakesHead, Transmits};
 ghost use Rattle.paraid_nbd.specs.Taking.{Lacks};
-ghost use Rattle.paraid_nbd.specs.Handshake.{Unsent};
-ghost use Rattle.paraid_base.specs.Told.{Grows};
+ghost use Rattle.paraid_nbd.specs.Handshake.{IsUnsent};
+ghost use Rattle.paraid_base.specs.Told.{GrowsByBytes};
 
 use crate::NbdEnd;
 use crate::export::{read_bytes, write_bytes};
@@ -170,7 +170,7 @@ fn perform<B: Blocks>(
     requires outcome { outcome ≡ outcome_of size request.now }
     requires stays { request.now.command ≢ Command.Disconnect }
     requires room { Fills request.now outcome content.old }
-    ensures performs { From (B.stands blocks.old) (B.halted blocks.old) (B.kept blocks.old)
+    ensures performs { ForEachState (B.stands blocks.old) (B.halted blocks.old) (B.kept blocks.old)
         (B.tells blocks.new) (λ s events. Performs size (B.stands blocks.new) (B.halted blocks.new) (B.kept blocks.new) s events request.now content.old content.new result) }
     ensures size { B.block_count blocks.new ≡ B.block_count blocks.old }
     ensures told { IsTrue (B.tells blocks.new) → IsTrue (B.tells blocks.old) }
@@ -192,7 +192,7 @@ fn perform_read<B: Blocks>(blocks: &mut B, request: &Request, content: &mut [u8]
     requires command { request.now.command ≡ Command.Read }
     requires done { outcome_of (512 * B.block_count blocks.old) request.now ≡ Outcome.Done }
     requires room { length content.old ≡ request.now.length }
-    ensures performs { From (B.stands blocks.old) (B.halted blocks.old) (B.kept blocks.old)
+    ensures performs { ForEachState (B.stands blocks.old) (B.halted blocks.old) (B.kept blocks.old)
         (B.tells blocks.new) (λ s events. Performs (512 * B.block_count blocks.old)
         (B.stands blocks.new) (B.halted blocks.new) (B.kept blocks.new)
         s events request.now content.old content.new result) }
@@ -211,7 +211,7 @@ fn perform_write<B: Blocks>(blocks: &mut B, request: &Request, content: &mut [u8
     requires command { request.now.command ≡ Command.Write }
     requires done { outcome_of (512 * B.block_count blocks.old) request.now ≡ Outcome.Done }
     requires room { length content.old ≡ request.now.length }
-    ensures performs { From (B.stands blocks.old) (B.halted blocks.old) (B.kept blocks.old)
+    ensures performs { ForEachState (B.stands blocks.old) (B.halted blocks.old) (B.kept blocks.old)
         (B.tells blocks.new) (λ s events. Performs (512 * B.block_count blocks.old)
         (B.stands blocks.new) (B.halted blocks.new) (B.kept blocks.new)
         s events request.now content.old content.new result) }
@@ -230,7 +230,7 @@ fn perform_flush<B: Blocks>(blocks: &mut B, request: &Request, content: &mut [u8
     requires command { request.now.command ≡ Command.Flush }
     requires done { outcome_of (512 * B.block_count blocks.old) request.now ≡ Outcome.Done }
     requires room { length content.old ≡ 0 }
-    ensures performs { From (B.stands blocks.old) (B.halted blocks.old) (B.kept blocks.old)
+    ensures performs { ForEachState (B.stands blocks.old) (B.halted blocks.old) (B.kept blocks.old)
         (B.tells blocks.new) (λ s events. Performs (512 * B.block_count blocks.old)
         (B.stands blocks.new) (B.halted blocks.new) (B.kept blocks.new)
         s events request.now content.old content.new result) }
@@ -250,8 +250,8 @@ fn reply<K: Sink>(
     outcome: Outcome,
     content: &[u8],
 ) -> Result<(), NbdEnd>
-    ensures sends { OnOk result (Grows (K.written sink.old) (K.written sink.new) (said_with request.now outcome content.now)) }
-    ensures unsent { IfErr result (λ e. Unsent (K.written sink.old) (K.written sink.new) (said_with request.now outcome content.now)
+    ensures sends { OnOk result (GrowsByBytes (K.written sink.old) (K.written sink.new) (said_with request.now outcome content.now)) }
+    ensures unsent { IfErr result (λ e. IsUnsent (K.written sink.old) (K.written sink.new) (said_with request.now outcome content.now)
         (K.faults sink.old) (K.faults sink.new) e) }
     ensures later_sink { K.faults sink.old ≤ K.faults sink.new }
 {
@@ -271,8 +271,8 @@ fn reply<K: Sink>(
 
 // Sends bytes of the device.
 fn send_bytes<K: Sink>(sink: &mut K, bytes: &[u8]) -> Result<(), NbdEnd>
-    ensures sends { OnOk result (Grows (K.written sink.old) (K.written sink.new) bytes.now) }
-    ensures unsent { IfErr result (λ e. Unsent (K.written sink.old) (K.written sink.new) bytes.now
+    ensures sends { OnOk result (GrowsByBytes (K.written sink.old) (K.written sink.new) bytes.now) }
+    ensures unsent { IfErr result (λ e. IsUnsent (K.written sink.old) (K.written sink.new) bytes.now
         (K.faults sink.old) (K.faults sink.new) e) }
     ensures later_sink { K.faults sink.old ≤ K.faults sink.new }
 {

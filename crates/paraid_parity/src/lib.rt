@@ -6,7 +6,7 @@
 #![tactic(auto)]
 
 ghost use Rattle.std.specs.Prelude.{◌≡◌, ◌↔◌, IsTrue};
-ghost use Rattle.paraid_base.specs.Xor.{xor, zeroed};
+ghost use Rattle.paraid_base.specs.Xor.{xor, zero_block};
 
 use paraid_base::Block;
 
@@ -21,7 +21,7 @@ pub fn xor_into(to: &mut Block, from: &Block)
 
 /// Whether all 512 bytes are zero.
 pub fn is_zero(block: &Block) -> bool
-    ensures { IsTrue result ↔ (block.now ≡ zeroed) }
+    ensures { IsTrue result ↔ (block.now ≡ zero_block) }
 {
     for byte in &block.bytes {
         if *byte != 0 {

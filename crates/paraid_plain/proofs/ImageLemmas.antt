@@ -4,14 +4,14 @@ use Rattle.std.proofs.lemmas.Bool.{cases_eq, cases_lt}
 use Rattle.std.proofs.lemmas.Bool.Decides.{nat_tests}
 use Rattle.std.proofs.lemmas.List.{map-set, get_or-set_same, get_or-set_other, length-map, length-set, get_or-map, get_or_default, get_or_past}
 use Rattle.paraid_base.specs.declared.block.Block.{Block}
-use Rattle.paraid_base.specs.Xor.{zeroed}
+use Rattle.paraid_base.specs.Xor.{zero_block}
 use Rattle.paraid_rack.specs.declared.call.Power.{Power}
 use Rattle.paraid_rack.specs.declared.call.Power.TheVariants.{Absent}
 use Rattle.paraid_rack.specs.Disks.{Disks, is_present, with_at}
 use Rattle.paraid_rack.specs.Trail.{Beginning, beginning, initial}
 use Rattle.paraid_rack.proofs.AtomsLemmas.{at_case}
 use Rattle.paraid_image.specs.Neutral.{overwrite}
-use Rattle.paraid_image.specs.Sides.{has_place, stored}
+use Rattle.paraid_image.specs.Sides.{has_place, stored_block}
 use Rattle.paraid_plain.specs.declared.image.ImageSlot.{ImageSlot}
 use Rattle.paraid_plain.specs.Images.{beginning_in, disks_by}
 
@@ -38,9 +38,9 @@ module _ (slots : List ImageSlot) (d : ℕ) (y : ImageSlot) (within : d < length
   unfolding disks_by initial
   size_here = ap (λ (b : Beginning). length b.blocks) (beginning_here slots d y within is)
 
-  pub block_here : (p : ℕ) → (disks_by slots).block d p ≡ get_or y.blocks.items p zeroed
+  pub block_here : (p : ℕ) → (disks_by slots).block d p ≡ get_or y.blocks.items p zero_block
   unfolding disks_by initial
-  block_here p = ap (λ (b : Beginning). get_or b.blocks p zeroed) (beginning_here slots d y within is)
+  block_here p = ap (λ (b : Beginning). get_or b.blocks p zero_block) (beginning_here slots d y within is)
 
 module _ (slots : List ImageSlot) (d : ℕ) (past : length slots ≤ d) where
   pub power_past : (disks_by slots).power d ≡ Absent
@@ -52,8 +52,8 @@ module _ (slots : List ImageSlot) (d : ℕ) (past : length slots ≤ d) where
   size_past = ap (λ (b : Beginning). length b.blocks) (beginning_past slots d past)
 
 -- what an index gives is what is there
-pub read_here : {w : Block} (blocks : List Block) (p : ℕ) (found : Block) → found ≡ get_or blocks p found → p < length blocks → w ≡ get_or blocks p zeroed → found ≡ w
-read_here blocks p found is within here = is ∙ get_or_default blocks p found zeroed within ∙ sym here
+pub read_here : {w : Block} (blocks : List Block) (p : ℕ) (found : Block) → found ≡ get_or blocks p found → p < length blocks → w ≡ get_or blocks p zero_block → found ≡ w
+read_here blocks p found is within here = is ∙ get_or_default blocks p found zero_block within ∙ sym here
 
 -- a place that is there is in a slot that is there
 pub slot_exists : (slots : List ImageSlot) (d p : ℕ) → p < (disks_by slots).size d → d < length slots
@@ -70,12 +70,12 @@ both_parts false p n h = cc
 pub has_place_parts : (i : Disks) (d p : ℕ) → has_place i d p ≡ true → (is_present (i.power d) ≡ true) × (p < i.size d)
 has_place_parts i d p h = both_parts (is_present (i.power d)) p (i.size d) h
 
-pub stored_none : (i : Disks) (d p : ℕ) → has_place i d p ≡ false → stored i d p ≡ zeroed
-unfolding stored
+pub stored_none : (i : Disks) (d p : ℕ) → has_place i d p ≡ false → stored_block i d p ≡ zero_block
+unfolding stored_block
 stored_none i d p h = rw h refl
 
-pub stored_some : (i : Disks) (d p : ℕ) → has_place i d p ≡ true → stored i d p ≡ i.block d p
-unfolding stored
+pub stored_some : (i : Disks) (d p : ℕ) → has_place i d p ≡ true → stored_block i d p ≡ i.block d p
+unfolding stored_block
 stored_some i d p h = rw h refl
 
 pub same_disks : (a b : Disks) → ((d : ℕ) → a.power d ≡ b.power d) → ((d : ℕ) → a.size d ≡ b.size d) → ((d p : ℕ) → a.block d p ≡ b.block d p)
@@ -115,7 +115,7 @@ module _ (slots : List ImageSlot) (d : ℕ) (x y : ImageSlot) (within : d < leng
       (λ same. ap (λ (b : Beginning). b.power) (set_same e same))
       (λ not. ap (λ (b : Beginning). b.power) (set_other e not)))
       (λ e. set_keeps (λ (b : Beginning). length b.blocks) (ap (λ (l : List Block). length l) kept) e)
-      (λ e p. set_keeps (λ (b : Beginning). get_or b.blocks p zeroed) (ap (λ (l : List Block). get_or l p zeroed) kept) e)
+      (λ e p. set_keeps (λ (b : Beginning). get_or b.blocks p zero_block) (ap (λ (l : List Block). get_or l p zero_block) kept) e)
       (λ e p. refl)
 
   pub disks-set_block : (place : ℕ) (b : Block) → place < length y.blocks.items → x.power ≡ y.power → x.blocks.items ≡ set y.blocks.items place b
@@ -125,9 +125,9 @@ module _ (slots : List ImageSlot) (d : ℕ) (x y : ImageSlot) (within : d < leng
       (λ e. set_keeps (λ (s : Beginning). s.power) kept e)
       (λ e. set_keeps (λ (s : Beginning). length s.blocks) (ap (λ (bs : List Block). length bs) changed ∙ length-set y.blocks.items place b) e)
       (λ e p. at_case (λ (f : ℕ → Block). (disks_by (set slots d x)).block e p ≡ f p) (disks_by slots).block d (with_at ((disks_by slots).block d) place b) e
-      (λ same. ap (λ (s : Beginning). get_or s.blocks p zeroed) (set_same e same) ∙ ap (λ (bs : List Block). get_or bs p zeroed) changed
-      ∙ sym (at_case (λ (w : Block). w ≡ get_or (set y.blocks.items place b) p zeroed) ((disks_by slots).block d) place b p
-      (λ here. sym (ap (λ (q : ℕ). get_or (set y.blocks.items place b) q zeroed) here ∙ get_or-set_same y.blocks.items place b zeroed l))
-      (λ there. block_here slots d y within is p ∙ sym (get_or-set_other y.blocks.items place p b zeroed there))))
-      (λ not. ap (λ (s : Beginning). get_or s.blocks p zeroed) (set_other e not)))
+      (λ same. ap (λ (s : Beginning). get_or s.blocks p zero_block) (set_same e same) ∙ ap (λ (bs : List Block). get_or bs p zero_block) changed
+      ∙ sym (at_case (λ (w : Block). w ≡ get_or (set y.blocks.items place b) p zero_block) ((disks_by slots).block d) place b p
+      (λ here. sym (ap (λ (q : ℕ). get_or (set y.blocks.items place b) q zero_block) here ∙ get_or-set_same y.blocks.items place b zero_block l))
+      (λ there. block_here slots d y within is p ∙ sym (get_or-set_other y.blocks.items place p b zero_block there))))
+      (λ not. ap (λ (s : Beginning). get_or s.blocks p zero_block) (set_other e not)))
       (λ e p. refl)

@@ -4,8 +4,8 @@ use Rattle.std.proofs.Common.{refl, sym, subst}
 use Rattle.paraid_base.specs.History.{History}
 use Rattle.paraid_rack.specs.Disks.{Disks}
 use Rattle.paraid_image.specs.Content.{view_of}
-use Rattle.paraid_image.specs.Sides.{Said}
-use Rattle.paraid_image.specs.Sound.{ContentOk, LogOk, Sound}
+use Rattle.paraid_image.specs.Sides.{LogState}
+use Rattle.paraid_image.specs.Sound.{ContentOk, LogOk, IsSoundAt}
 use Rattle.paraid_image.specs.Spot.{View}
 use Rattle.paraid_image.specs.Standing.{Stands}
 use Rattle.paraid_image.proofs.StandingLemmas.{Stands-same}
@@ -23,7 +23,7 @@ module _ (image : Image) (s : Statement) (slots : ℕ) (h : History) (k : ℕ) (
   abbrev i : Disks
   i = disks_in image
 
-  pub sound_from : LogOk i s.disk (said_of image s) k → ContentOk slots i.power i.size (view_at image s) h k → Sound slots i h k
+  pub sound_from : LogOk i s.disk (said_of image s) k → ContentOk slots i.power i.size (view_at image s) h k → IsSoundAt slots i h k
   sound_from log content = record {
     disk = s.disk;
     said = said_of image s;
@@ -31,8 +31,8 @@ module _ (image : Image) (s : Statement) (slots : ℕ) (h : History) (k : ℕ) (
     content = subst (λ (v : View). ContentOk slots i.power i.size v h k) (sym (view_of-said image s)) content;
   }
 
-  pub sound_content : Sound slots i h k → ContentOk slots i.power i.size (view_at image s) h k
+  pub sound_content : IsSoundAt slots i h k → ContentOk slots i.power i.size (view_at image s) h k
   sound_content sound =
       let same = Stands-same i sound.disk s.disk sound.said (said_of image s) sound.log.stands stands in
       subst (λ (v : View). ContentOk slots i.power i.size v h k) (view_of-said image s)
-      (subst (λ (said : Said). ContentOk slots i.power i.size (view_of i said) h k) same.1 sound.content)
+      (subst (λ (said : LogState). ContentOk slots i.power i.size (view_of i said) h k) same.1 sound.content)

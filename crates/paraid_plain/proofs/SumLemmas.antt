@@ -3,10 +3,10 @@ use Rattle.std.specs.Prelude.{◌≡◌, ℕ, ◌+◌}
 use Rattle.std.proofs.Common.{sym, ◌∙◌, ap}
 use Rattle.paraid_base.specs.declared.block.Block.{Block}
 use Rattle.paraid_base.specs.Sums.{xor_upto}
-use Rattle.paraid_base.specs.Xor.{xor, zeroed}
+use Rattle.paraid_base.specs.Xor.{xor, zero_block}
 use Rattle.paraid_base.proofs.XorLemmas.{xor_upto_more, xor_upto_none}
 
-pub sum_none : (f : ℕ → Block) (sum : Block) → sum ≡ zeroed → sum ≡ xor_upto f 0
+pub sum_none : (f : ℕ → Block) (sum : Block) → sum ≡ zero_block → sum ≡ xor_upto f 0
 sum_none f sum is = is ∙ sym (xor_upto_none f)
 
 pub sum_more : (f : ℕ → Block) (d : ℕ) (sum part after : Block) → sum ≡ xor_upto f d → part ≡ f d → after ≡ xor sum part → after ≡ xor_upto f (d + 1)

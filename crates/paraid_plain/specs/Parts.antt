@@ -4,7 +4,7 @@ use Rattle.paraid_base.specs.declared.state.Phase.TheVariants.{Up}
 use Rattle.paraid_base.specs.Regions.{disk_size, hard_place_of}
 use Rattle.paraid_base.specs.Skips.{skip}
 use Rattle.paraid_base.specs.Soft.{soft_disk, soft_parity_disk, soft_stripe}
-use Rattle.paraid_base.specs.Xor.{zeroed}
+use Rattle.paraid_base.specs.Xor.{zero_block}
 use Rattle.paraid_layout.specs.Pads.{IsPad}
 use Rattle.paraid_rack.specs.declared.call.Power.{Power}
 use Rattle.paraid_rack.specs.declared.call.Power.TheVariants.{Parked, Spinning}
@@ -27,7 +27,7 @@ AreCopied v a s r = (d : ℕ) → a ≤ d → d < v.meta.setup.geometry.disks �
 -- where index `at` of the stripe is a pad, it is zeros
 abbrev pub IsPadZero : View → ℕ → ℕ → ℕ → Type 0
 IsPadZero v a s at = IsPad v.meta.setup.geometry.disks v.meta.setup.geometry.rows a s at
-    → stripe v.meta.setup.geometry v.block a s (skip (soft_parity_disk a s) at) ≡ zeroed
+    → stripe v.meta.setup.geometry v.block a s (skip (soft_parity_disk a s) at) ≡ zero_block
 
 abbrev pub ArePadsZero : View → ℕ → ℕ → Type 0
 ArePadsZero v a s = (at : ℕ) → at < a - 1 → IsPadZero v a s at
@@ -68,8 +68,8 @@ IsBitOfCell v r d = v.dirty r d ≡ true → (r < v.meta.setup.geometry.rows) ×
 abbrev pub IsLarge : Disks → Meta → Option ℕ → ℕ → Type 0
 IsLarge i m out d = is_present (i.power d) ≡ true → out ≢ Some d → disk_size m.setup.geometry ≤ i.size d
 
-abbrev pub AreLarge : Disks → Meta → Option ℕ → Type 0
-AreLarge i m out = (d : ℕ) → d < m.setup.geometry.disks → IsLarge i m out d
+abbrev pub AreDisksLarge : Disks → Meta → Option ℕ → Type 0
+AreDisksLarge i m out = (d : ℕ) → d < m.setup.geometry.disks → IsLarge i m out d
 
 -- disk `d` spins, if it is not out
 abbrev pub IsSpinning : (ℕ → Power) → Option ℕ → ℕ → Type 0

@@ -5,7 +5,7 @@ ghost use Rattle.paraid_rack.specs.declared.call.Power.TheVariants.{Parked, Spin
 ghost use Rattle.paraid_rack.specs.Disks.{is_present};
 ghost use Rattle.paraid_image.specs.Sound.{AreDisks};
 ghost use Rattle.paraid_plain.specs.Images.{disks_in};
-ghost use Rattle.paraid_plain.specs.Parts.{AreLarge, AreRecorded, AreSpinning, IsFreshReady, IsLarge, IsRecorded, IsSpinning};
+ghost use Rattle.paraid_plain.specs.Parts.{AreDisksLarge, AreRecorded, AreSpinning, IsFreshReady, IsLarge, IsRecorded, IsSpinning};
 ghost use Rattle.paraid_plain.specs.Views.{out_at};
 
 use crate::image::Image;
@@ -45,7 +45,7 @@ fn is_not_parked(image: &Image, disk: DiskNo) -> bool
 
 fn are_large(image: &Image, says: &Statement) -> bool
     ensures { IsTrue result
-        ↔ AreLarge (disks_in image.now) says.now.meta (out_at image.now says.now) }
+        ↔ AreDisksLarge (disks_in image.now) says.now.meta (out_at image.now says.now) }
 {
     for disk in 0..says.meta.setup.geometry.disks {
         if !is_large(image, says, disk) {

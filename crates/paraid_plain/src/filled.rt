@@ -2,7 +2,6 @@
 ghost use Rattle.std.specs.Prelude.{◌≡◌, ℕ, ◌-◌, ◌<◌, ◌≤◌, ◌↔◌, IsTrue};
 ghost use Rattle.paraid_base.specs.Regions.{IsGear};
 ghost use Rattle.paraid_base.specs.Soft.{stripe_count};
-ghost use Rattle.paraid_record.specs.Codes.{phase_to};
 ghost use Rattle.paraid_image.specs.Sound.{AreFilled, IsFilled};
 ghost use Rattle.paraid_image.specs.Value.{stripe, value};
 ghost use Rattle.paraid_plain.specs.Parts.{AreCopied, ArePadsZero, IsCopied, IsPadZero};
@@ -14,7 +13,7 @@ use crate::statement::Statement;
 use crate::stripes::is_stripe_zero;
 use crate::value::{cell_value, stripe_block};
 use crate::view::out_of;
-use paraid_base::{DiskNo, Phase, Row};
+use paraid_base::{DiskNo, Row};
 use paraid_layout::{soft_of, soft_parity};
 use paraid_parity::is_zero;
 
@@ -25,22 +24,11 @@ pub(crate) fn are_filled(image: &Image, says: &Statement) -> bool
         return true;
     }
     for at in 0..says.meta.fill {
-        if !is_filled(image, says, shift_to(says.meta.phase), at) {
+        if !is_filled(image, says, says.meta.phase.to(), at) {
             return false;
         }
     }
     true
-}
-
-/// The gear that a shift goes to, 0 where there is no shift.
-fn shift_to(phase: Phase) -> u8
-    ensures { result ≡ phase_to phase }
-{
-    match phase {
-        Phase::Steady => 0,
-        Phase::Down { to } => to,
-        Phase::Up { to } => to,
-    }
 }
 
 /// Whether a stripe stores the values of its cells and zeros in its pads, and sums to zero.

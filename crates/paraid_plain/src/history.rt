@@ -1,8 +1,8 @@
 //! The blocks of the array hold what the first writes of a history leave.
 ghost use Rattle.std.specs.Prelude.{◌≡◌, ℕ, ◌-◌, ◌*◌, ◌<◌, ◌==◌, ◌↔◌, IsTrue, map, take, List};
-ghost use Rattle.paraid_base.specs.History.{after, joined, last_of as last_in};
+ghost use Rattle.paraid_base.specs.History.{after, joined_entries, last_of as last_in};
 ghost use Rattle.paraid_base.specs.Pairs.{pairs_of};
-ghost use Rattle.paraid_base.specs.Xor.{zeroed};
+ghost use Rattle.paraid_base.specs.Xor.{zero_block};
 ghost use Rattle.paraid_image.specs.Content.{blocks_of};
 ghost use Rattle.paraid_plain.specs.Views.{view_at};
 
@@ -45,7 +45,7 @@ pub fn block_after(history: &[Pairs], writes: u64, block: BlockNo) -> Block
 }
 
 fn last_of(history: &[Pairs], block: BlockNo) -> Block
-    ensures { result ≡ last_in block zeroed (joined (map pairs_of history.now)) }
+    ensures { result ≡ last_in block zero_block (joined_entries (map pairs_of history.now)) }
 {
     let mut bytes = Block::zero();
     for write in history {

@@ -1,10 +1,10 @@
 //! An image of the disks in memory: for each slot its power and its blocks.
 ghost use Rattle.std.specs.Prelude.{◌≡◌, ◌<◌, ◌++◌, [], ◌∷◌, length, slice_set, replicate, map, OnOk, OnErr, IfOk};
 ghost use Rattle.paraid_base.specs.declared.block.Block.{Block as BlockType};
-ghost use Rattle.paraid_base.specs.Xor.{zeroed};
+ghost use Rattle.paraid_base.specs.Xor.{zero_block};
 ghost use Rattle.paraid_rack.specs.Disks.{is_present, with_at};
 ghost use Rattle.paraid_image.specs.Neutral.{overwrite};
-ghost use Rattle.paraid_image.specs.Sides.{has_place, stored};
+ghost use Rattle.paraid_image.specs.Sides.{has_place, stored_block};
 ghost use Rattle.paraid_plain.specs.Images.{beginning_in, disks_in};
 
 use paraid_base::{Block, DiskNo, NoMemory, Place};
@@ -38,10 +38,10 @@ impl Image {
     pub fn add(&mut self, alloc: Global, power: Power, size: u32) -> Result<(), NoMemory>
         ensures done { OnOk result (map beginning_in self.new.slots.items
             ≡ map beginning_in self.old.slots.items
-            ++ record { power = power; blocks = replicate size zeroed } ∷ []) }
+            ++ record { power = power; blocks = replicate size zero_block } ∷ []) }
         ensures failed { OnErr result (self.new.slots.items ≡ self.old.slots.items) }
     {
-        let blocks = zeros(alloc, size)?;
+        let blocks = Block::zeros(alloc, size)?;
         let Ok(()) = self.slots.push(ImageSlot { power, blocks }) else {
             return Err(NoMemory);
         };
@@ -91,12 +91,12 @@ impl Image {
 
     /// The block at a place, zeros where there is no such place.
     pub fn stored(&self, disk: DiskNo, place: Place) -> Block
-        ensures { result ≡ stored (disks_in self.now) disk place }
+        ensures { result ≡ stored_block (disks_in self.now) disk place }
     {
         if !self.has_place(disk, place) {
             return Block::zero();
         }
-        copy_of(&self.slots[disk as usize].blocks[place as usize])
+        self.slots[disk as usize].blocks[place as usize].copy()
     }
 
     /// Powers a slot otherwise.
@@ -129,23 +129,4 @@ impl Image {
     {
         self.slots[disk as usize].blocks[place as usize].set(at, byte);
     }
-}
-
-fn zeros(alloc: Global, size: u32) -> Result<Vec<Block>, NoMemory>
-    ensures { IfOk result (λ blocks. blocks.items ≡ replicate size zeroed) }
-{
-    let Ok(mut blocks) = Vec::with_capacity(alloc, size as usize) else {
-        return Err(NoMemory);
-    };
-    for _i in 0..size {
-        blocks.push_reserved(Block::zero());
-    }
-    Ok(blocks)
-}
-
-/// The same block again.
-pub(crate) fn copy_of(block: &Block) -> Block
-    ensures { result ≡ block.now }
-{
-    Block::from_array(block.bytes)
 }

@@ -2,11 +2,11 @@
 ghost use Rattle.std.specs.Prelude.{◌≡◌, ◌≢◌, ◌<◌, ◌↔◌, Some, true, All, IsTrue};
 ghost use Rattle.paraid_rack.specs.Disks.{is_present};
 ghost use Rattle.paraid_image.specs.Out.{IsMissing, named_out as named_by};
-ghost use Rattle.paraid_image.specs.Sides.{Said, Says};
+ghost use Rattle.paraid_image.specs.Sides.{LogState, Says};
 ghost use Rattle.paraid_image.specs.Sound.{LogOk, Pairing};
 ghost use Rattle.paraid_image.specs.Standing.{Stands};
 ghost use Rattle.paraid_plain.specs.Images.{disks_in};
-ghost use Rattle.paraid_plain.specs.LogParts.{AreFormed, ArePaired, AreTargetsSpinning, IsFormed, IsFreshShut, IsSingle, IsSingleWith, IsTargetSpinning};
+ghost use Rattle.paraid_plain.specs.LogParts.{AreLogsFormed, ArePaired, AreTargetsSpinning, IsLogFormed, IsFreshShut, IsSingle, IsSingleWith, IsTargetSpinning};
 ghost use Rattle.paraid_plain.specs.Statements.{said_of};
 ghost use Rattle.paraid_plain.specs.Views.{out_at};
 
@@ -15,7 +15,7 @@ use crate::image::Image;
 use crate::pairing::is_pairing;
 use crate::side::{is_gate_open, statement_of};
 use crate::statement::Statement;
-use crate::view::{is_out_disk, named_out};
+use crate::view::is_out_disk;
 use paraid_base::{DiskNo, Out};
 use paraid_record::Target;
 
@@ -84,7 +84,7 @@ fn is_missing(image: &Image, says: &Statement, disk: DiskNo) -> bool
 fn is_named_out(says: &Statement, disk: DiskNo) -> bool
     ensures { IsTrue result ↔ (named_by says.now.meta.out ≡ Some disk) }
 {
-    named_out(says.meta.out) == Some(disk)
+    says.meta.out.named() == Some(disk)
 }
 
 fn is_standing_in(says: &Statement) -> bool
@@ -132,14 +132,14 @@ fn are_spinning_on(image: &Image, says: &Statement, targets: &[Target]) -> bool
 
 /// Each log disk that is there and not out is well formed.
 fn are_formed(image: &Image, says: &Statement) -> bool
-    ensures { IsTrue result ↔ AreFormed (disks_in image.now) (out_at image.now says.now) }
+    ensures { IsTrue result ↔ AreLogsFormed (disks_in image.now) (out_at image.now says.now) }
 {
     is_formed(image, says, 0) && is_formed(image, says, 1)
 }
 
 fn is_formed(image: &Image, says: &Statement, disk: DiskNo) -> bool
     requires { disk < 2 }
-    ensures { IsTrue result ↔ IsFormed (disks_in image.now) (out_at image.now says.now) disk }
+    ensures { IsTrue result ↔ IsLogFormed (disks_in image.now) (out_at image.now says.now) disk }
 {
     if !image.is_present(disk) || is_out_disk(image, says, disk) {
         return true;
@@ -164,7 +164,7 @@ fn are_paired(image: &Image, says: &Statement) -> bool
 }
 
 fn is_paired_with(image: &Image, first: &Statement) -> bool
-    ensures { IsTrue result ↔ ((b : Said) → Says (disks_in image.now) 1 b
+    ensures { IsTrue result ↔ ((b : LogState) → Says (disks_in image.now) 1 b
         → Pairing (said_of image.now first.now) b) }
 {
     match statement_of(image, 1) {

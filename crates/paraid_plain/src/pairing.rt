@@ -1,14 +1,13 @@
 //! Whether what two log disks say fits together: it is the same, or one is a step ahead.
 ghost use Rattle.std.specs.Prelude.{◌≡◌, ◌+◌, ◌<◌, ◌↔◌, Some, true, false, IsTrue};
-ghost use Rattle.paraid_image.specs.Sides.{stored};
-ghost use Rattle.paraid_image.specs.Sound.{IsAhead, IsDone, Pairing};
+ghost use Rattle.paraid_image.specs.Sides.{stored_block};
+ghost use Rattle.paraid_image.specs.Sound.{IsAhead, IsBatchInPlace, Pairing};
 ghost use Rattle.paraid_plain.specs.LogParts.{AreOutAlike, IsSameTarget};
 ghost use Rattle.paraid_plain.specs.Statements.{batch_in, said_of};
 
 use crate::image::Image;
 use crate::same::{is_same_block, is_same_meta, is_same_setup};
 use crate::statement::Statement;
-use crate::view::named_out;
 use paraid_base::{Out, Place};
 
 pub(crate) fn is_pairing(image: &Image, a: &Statement, b: &Statement) -> bool
@@ -67,9 +66,9 @@ fn is_ahead(image: &Image, a: &Statement, b: &Statement) -> bool
 fn are_out_alike(a: Out, b: Out) -> bool
     ensures { IsTrue result ↔ AreOutAlike a b }
 {
-    match named_out(a) {
+    match a.named() {
         None => true,
-        Some(first) => match named_out(b) {
+        Some(first) => match b.named() {
             None => true,
             Some(second) => first == second,
         },
@@ -78,7 +77,7 @@ fn are_out_alike(a: Out, b: Out) -> bool
 
 /// Whether `a` is open over a batch that was laid in place, and `b` closed over its meta.
 fn is_done(image: &Image, a: &Statement, b: &Statement) -> bool
-    ensures { IsTrue result ↔ IsDone (said_of image.now a.now) (said_of image.now b.now) }
+    ensures { IsTrue result ↔ IsBatchInPlace (said_of image.now a.now) (said_of image.now b.now) }
 {
     a.opened && !b.opened && is_same_meta(&a.meta, &b.meta)
 }

@@ -1,9 +1,9 @@
 //! What each log disk says.
 ghost use Rattle.std.specs.Prelude.{◌≡◌, ◌<◌, ◌↔◌, true, false, [], IfSome, IfNone, IsTrue};
-ghost use Rattle.paraid_base.specs.Xor.{zeroed};
+ghost use Rattle.paraid_base.specs.Xor.{zero_block};
 ghost use Rattle.paraid_record.specs.declared.meta.Meta.{Meta as MetaType};
 ghost use Rattle.paraid_record.specs.Targets.{targets_of};
-ghost use Rattle.paraid_image.specs.Sides.{Batch, IsSide, Said, Says, SaysClosed, SaysOpen, is_open, stored};
+ghost use Rattle.paraid_image.specs.Sides.{Batch, IsSide, LogState, Says, SaysClosed, SaysOpen, is_open, stored_block};
 ghost use Rattle.paraid_plain.specs.Images.{disks_in};
 ghost use Rattle.paraid_plain.specs.Statements.{batch_in, said_of, side_in};
 
@@ -18,7 +18,7 @@ pub fn statement_of(image: &Image, disk: DiskNo) -> Option<Statement>
     requires { disk < 2 }
     ensures disk { IfSome result (λ s. s.disk ≡ disk) }
     ensures some { IfSome result (λ s. Says (disks_in image.now) disk (said_of image.now s)) }
-    ensures none { IfNone result ((said : Said) → Says (disks_in image.now) disk said → ⊥) }
+    ensures none { IfNone result ((said : LogState) → Says (disks_in image.now) disk said → ⊥) }
 {
     if !image.is_present(disk) {
         return None;
@@ -46,15 +46,15 @@ pub fn side_of(image: &Image, disk: DiskNo) -> Side
 }
 
 fn is_blank(image: &Image, disk: DiskNo) -> bool
-    ensures { IsTrue result ↔ ((is_open (stored (disks_in image.now) disk 0) ≡ false)
-        × (stored (disks_in image.now) disk 1 ≡ zeroed)) }
+    ensures { IsTrue result ↔ ((is_open (stored_block (disks_in image.now) disk 0) ≡ false)
+        × (stored_block (disks_in image.now) disk 1 ≡ zero_block)) }
 {
     !is_gate_open(image, disk) && is_zero(&image.stored(disk, 1))
 }
 
 /// Whether the gate of a log disk is open.
 pub(crate) fn is_gate_open(image: &Image, disk: DiskNo) -> bool
-    ensures { result ≡ is_open (stored (disks_in image.now) disk 0) }
+    ensures { result ≡ is_open (stored_block (disks_in image.now) disk 0) }
 {
     image.stored(disk, 0).bytes[0] != 0
 }
@@ -64,9 +64,9 @@ fn closed_statement(image: &Image, disk: DiskNo) -> Option<Statement>
     ensures disk { IfSome result (λ s. s.disk ≡ disk) }
     ensures shut { IfSome result (λ s. s.opened ≡ false) }
     ensures some { IfSome result (λ s.
-        SaysClosed (stored (disks_in image.now) disk) s.meta (batch_in image.now s)) }
+        SaysClosed (stored_block (disks_in image.now) disk) s.meta (batch_in image.now s)) }
     ensures none { IfNone result ((m : MetaType) (batch : Batch)
-        → SaysClosed (stored (disks_in image.now) disk) m batch → ⊥) }
+        → SaysClosed (stored_block (disks_in image.now) disk) m batch → ⊥) }
 {
     let meta = read_meta(&image.stored(disk, 1))?;
     Some(Statement {
@@ -82,9 +82,9 @@ fn open_statement(image: &Image, disk: DiskNo) -> Option<Statement>
     ensures disk { IfSome result (λ s. s.disk ≡ disk) }
     ensures opened { IfSome result (λ s. s.opened ≡ true) }
     ensures some { IfSome result (λ s.
-        SaysOpen (stored (disks_in image.now) disk) s.meta (batch_in image.now s)) }
+        SaysOpen (stored_block (disks_in image.now) disk) s.meta (batch_in image.now s)) }
     ensures none { IfNone result ((m : MetaType) (batch : Batch)
-        → SaysOpen (stored (disks_in image.now) disk) m batch → ⊥) }
+        → SaysOpen (stored_block (disks_in image.now) disk) m batch → ⊥) }
 {
     let meta = read_meta(&image.stored(disk, 2))?;
     let targets = read_targets(&image.stored(disk, 3), &meta.setup.geometry)?;

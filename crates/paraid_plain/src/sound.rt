@@ -1,7 +1,7 @@
 //! Whether an image holds a history.
 ghost use Rattle.std.specs.Prelude.{◌↔◌, length, map, IsTrue};
 ghost use Rattle.paraid_base.specs.Pairs.{pairs_of};
-ghost use Rattle.paraid_image.specs.Sound.{ContentOk, IsWellKept, Sound};
+ghost use Rattle.paraid_image.specs.Sound.{ContentOk, IsWellKept, IsSoundAt};
 ghost use Rattle.paraid_plain.specs.Images.{disks_in};
 ghost use Rattle.paraid_plain.specs.Views.{view_at};
 
@@ -21,7 +21,7 @@ use paraid_base::Pairs;
 
 /// Whether an image holds the first `writes` writes of a history.
 pub fn is_sound(image: &Image, history: &[Pairs], writes: u64) -> bool
-    ensures { IsTrue result ↔ Sound (length image.now.slots.items) (disks_in image.now)
+    ensures { IsTrue result ↔ IsSoundAt (length image.now.slots.items) (disks_in image.now)
         (map pairs_of history.now) writes }
 {
     match standing_of(image) {

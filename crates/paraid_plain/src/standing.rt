@@ -1,6 +1,6 @@
 //! Which log disk stands.
 ghost use Rattle.std.specs.Prelude.{◌≡◌, ℕ, ◌<◌, ◌-◌, IfSome, IfNone, IsSomeAnd};
-ghost use Rattle.paraid_image.specs.Sides.{Said};
+ghost use Rattle.paraid_image.specs.Sides.{LogState};
 ghost use Rattle.paraid_image.specs.Standing.{Stands, is_first as goes_first, stands_before as is_before};
 ghost use Rattle.paraid_plain.specs.declared.image.Image.{Image as ImageType};
 ghost use Rattle.paraid_plain.specs.Images.{disks_in};
@@ -14,8 +14,8 @@ use paraid_base::DiskNo;
 /// What the standing log disk says, if one stands.
 pub fn standing_of(image: &Image) -> Option<Statement>
     ensures some { IfSome result (λ s. Stands (disks_in image.now) s.disk (said_of image.now s)) }
-    ensures none { IfNone result ((x : ℕ) (said : Said) → Stands (disks_in image.now) x said → ⊥) }
-    ensures value { (x : ℕ) (said : Said) → Stands (disks_in image.now) x said
+    ensures none { IfNone result ((x : ℕ) (said : LogState) → Stands (disks_in image.now) x said → ⊥) }
+    ensures value { (x : ℕ) (said : LogState) → Stands (disks_in image.now) x said
         → IsSomeAnd result (λ s. (s.disk ≡ x) × (said_of image.now s ≡ said)) }
 {
     match standing_at(image, 0) {
@@ -27,7 +27,7 @@ pub fn standing_of(image: &Image) -> Option<Statement>
 fn standing_at(image: &Image, disk: DiskNo) -> Option<Statement>
     requires { disk < 2 }
     ensures some { IfSome result (λ s. Stands (disks_in image.now) s.disk (said_of image.now s)) }
-    ensures none { IfNone result ((said : Said) → Stands (disks_in image.now) disk said → ⊥) }
+    ensures none { IfNone result ((said : LogState) → Stands (disks_in image.now) disk said → ⊥) }
 {
     let mine = statement_of(image, disk)?;
     match statement_of(image, 1 - disk) {

@@ -11,7 +11,7 @@ ghost use Rattle.paraid_plain.specs.Views.{block_at, view_at};
 
 use crate::image::Image;
 use crate::statement::Statement;
-use crate::view::{content, is_dirty, is_out_disk, rising_to};
+use crate::view::{content, is_dirty, is_out_disk};
 use paraid_base::{Block, BlockNo, DiskNo, Row};
 use paraid_layout::{hard_place, home, soft_of, soft_place};
 use paraid_parity::xor_into;
@@ -67,7 +67,7 @@ fn is_hard(image: &Image, says: &Statement, row: Row, disk: DiskNo) -> bool
     ensures { result ≡ is_hard_in (view_at image.now says.now) row disk }
 {
     disk < says.meta.gear
-        || (disk < rising_to(says.meta.phase) && !is_dirty(image, says, row, disk))
+        || (disk < says.meta.phase.rising_to() && !is_dirty(image, says, row, disk))
 }
 
 /// The XOR of the values of the row's other cells.

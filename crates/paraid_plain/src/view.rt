@@ -1,36 +1,24 @@
 //! What an image holds past the log, under what a log disk says of it.
 ghost use Rattle.std.specs.Prelude.{◌≡◌, ◌+◌, ◌<◌, ◌==◌, ◌&&◌, None, Some, Option, if◌then◌else◌};
 ghost use Rattle.paraid_rack.specs.Disks.{is_present};
-ghost use Rattle.paraid_image.specs.Out.{first_absent as first_absent_of, is_out, named_out as named_by, or_else};
-ghost use Rattle.paraid_image.specs.Sides.{stored};
-ghost use Rattle.paraid_image.specs.Spot.{rising_to as rising_by};
-ghost use Rattle.paraid_image.specs.Standing.{laid as laid_over};
+ghost use Rattle.paraid_image.specs.Out.{first_absent as first_absent_of, is_out, or_else};
+ghost use Rattle.paraid_image.specs.Sides.{stored_block};
+ghost use Rattle.paraid_image.specs.Standing.{overlaid_block as laid_over};
 ghost use Rattle.paraid_plain.specs.Images.{disks_in};
 ghost use Rattle.paraid_plain.specs.Statements.{batch_in};
 ghost use Rattle.paraid_plain.specs.Views.{block_at, dirty_at, out_at};
 
 use crate::image::Image;
 use crate::statement::Statement;
-use paraid_base::{Block, DiskNo, Out, Phase, Place, Row};
+use paraid_base::{Block, DiskNo, Place, Row};
 use paraid_record::Target;
-
-/// The disk that a meta names out.
-pub(crate) fn named_out(out: Out) -> Option<DiskNo>
-    ensures { result ≡ named_by out }
-{
-    match out {
-        Out::No => None,
-        Out::Gone { disk } => Some(disk),
-        Out::Fresh { disk, .. } => Some(disk),
-    }
-}
 
 /// The out disk: the one that the meta names out, or else the least absent slot.
 #[tactic(auto, unfolding(crate::specs::Views::out_at))]
 pub fn out_of(image: &Image, says: &Statement) -> Option<DiskNo>
     ensures { result ≡ out_at image.now says.now }
 {
-    match named_out(says.meta.out) {
+    match says.meta.out.named() {
         Some(disk) => Some(disk),
         None => first_absent(image, says.meta.setup.geometry.disks),
     }
@@ -86,7 +74,7 @@ pub fn content(image: &Image, says: &Statement, disk: DiskNo, place: Place) -> B
 /// The block at a place, or what the last target there gets.
 fn laid(image: &Image, says: &Statement, disk: DiskNo, place: Place) -> Block
     ensures { result ≡ laid_over (batch_in image.now says.now) disk place
-        (stored (disks_in image.now) disk place) }
+        (stored_block (disks_in image.now) disk place) }
 {
     let mut block = image.stored(disk, place);
     for at in 0..says.targets.count {
@@ -112,15 +100,4 @@ pub fn is_dirty(image: &Image, says: &Statement, row: Row, disk: DiskNo) -> bool
     let mirror = if is_out_disk(image, says, 0) { 1 } else { 0 };
     let map = content(image, says, mirror, 100 + row / 512);
     (map.bytes[(row % 512) as usize] >> disk) % 2 == 1
-}
-
-/// The disks below it hold clean cells in place, though they are not below the gear.
-pub(crate) fn rising_to(phase: Phase) -> u8
-    ensures { result ≡ rising_by phase }
-{
-    match phase {
-        Phase::Steady => 0,
-        Phase::Down { .. } => 0,
-        Phase::Up { to } => to,
-    }
 }

@@ -9,11 +9,11 @@ use Rattle.paraid_base.specs.Regions.{soft_place_of}
 use Rattle.paraid_base.specs.Soft.{soft_disk, soft_parity_disk, soft_stripe}
 use Rattle.paraid_base.specs.Xor.{xor}
 use Rattle.paraid_base.proofs.SoftLemmas.{soft_parity_disk_below, soft_stripe_below}
-use Rattle.paraid_dirty.specs.Table.{changed}
-use Rattle.paraid_plan.specs.Staged.{fill_targets, goes_hard, hard_targets, is_filled, is_written, lay, soft_count, soft_targets, stripe_block, target_if, with_cell}
-use Rattle.paraid_plan.specs.Stored.{AreBits, ArePads, AreStripes, Lies, Stored, hard_at}
+use Rattle.paraid_dirty.specs.Table.{table_with_bit}
+use Rattle.paraid_plan.specs.WriteTargets.{fill_targets, goes_hard, hard_targets, is_filled, is_written, overlaid_blocks, soft_count, soft_targets, stripe_block_now, target_if, view_with_cell}
+use Rattle.paraid_plan.specs.StoredCells.{AreBits, ArePads, AreStripes, Lies, StoresCells, hard_at}
 use Rattle.paraid_plan.proofs.KeptLemmas.{soft_parked, stripe_block_is}
-use Rattle.paraid_plan.proofs.LayLemmas.{cases_both, changed_at, changed_off, lay-append, lay_none, put, put_at, put_off}
+use Rattle.paraid_plan.proofs.LayLemmas.{cases_both, changed_at, changed_off, overlaid_blocks-append, lay_none, put, put_at, put_off}
 use Rattle.paraid_plan.proofs.LiesLemmas.{fill_gear, lies_filled, lies_hard, lies_soft}
 use Rattle.paraid_plan.proofs.StoredLemmas.{hard_is}
 use Rattle.paraid_plan.proofs.StripeLemmas.{pads_written, stripes_left, stripes_written}
@@ -57,7 +57,7 @@ goes_parked v r d h = elim (cases_Bool (goes_hard v r d)) [
 
 -- the dirty bits, after one of a cell that lies in the array
 pub bits_changed : (m : Meta) (dirty : ℕ → ℕ → Bool) (r d : ℕ) (bit : Bool) → r < m.setup.geometry.rows → d < m.setup.geometry.disks
-    → (bit ≡ true → m.gear ≤ d) → AreBits m dirty → AreBits m (changed dirty r d bit)
+    → (bit ≡ true → m.gear ≤ d) → AreBits m dirty → AreBits m (table_with_bit dirty r d bit)
 bits_changed m dirty r d bit lr ld low bits = record {
   rows = λ q e l h. elim (cases_both q r e d) [
     | inl is ↦ let i : q ≡ r = is.0 in omega arith
@@ -74,7 +74,7 @@ bits_changed m dirty r d bit lr ld low bits = record {
 }
 
 module _ (power : ℕ → Power) (v : View) (val : ℕ → ℕ → Block) (map : ℕ → Block) (in_range : IsInRange v.meta) (named : v.out ≡ named_out v.meta.out)
-    (st : Stored power v.meta v.out v.block v.dirty val map) (r d : ℕ) (old new : Block)
+    (st : StoresCells power v.meta v.out v.block v.dirty val map) (r d : ℕ) (old new : Block)
     (lr : r < v.meta.setup.geometry.rows) (ld : d < v.meta.setup.geometry.disks) (is_old : val r d ≡ old) where
   abbrev m : Meta
   m = v.meta
@@ -98,13 +98,13 @@ module _ (power : ℕ → Power) (v : View) (val : ℕ → ℕ → Block) (map :
     fill_parity = xor (v.block (soft_parity_disk to s) (soft_place_of g to s)) (xor old new)
 
     abbrev fill_first : Contents
-    fill_first = lay (target_if (is_filled v.meta r d) (soft_disk g.disks to r d) (soft_place_of g to s) new) block
+    fill_first = overlaid_blocks (target_if (is_filled v.meta r d) (soft_disk g.disks to r d) (soft_place_of g to s) new) block
 
-    fill_laid : lay (fill_targets v r d old new) block
-        ≡ lay (target_if (is_filled v.meta r d) (soft_parity_disk to s) (soft_place_of g to s) fill_parity) fill_first
-    fill_laid = lay-append _ _ block
+    fill_laid : overlaid_blocks (fill_targets v r d old new) block
+        ≡ overlaid_blocks (target_if (is_filled v.meta r d) (soft_parity_disk to s) (soft_place_of g to s) fill_parity) fill_first
+    fill_laid = overlaid_blocks-append _ _ block
 
-    fills_true : is_filled v.meta r d ≡ true → Fills power m v.out (lay (fill_targets v r d old new) block) hard soft value map
+    fills_true : is_filled v.meta r d ≡ true → Fills power m v.out (overlaid_blocks (fill_targets v r d old new) block) hard soft value map
     fills_true h =
         let low : to ≤ d = filled_low (soft_stripe g.disks to r d) h in
         let ls : s < m.fill = filled_within (soft_stripe g.disks to r d) h in
@@ -128,7 +128,7 @@ module _ (power : ℕ → Power) (v : View) (val : ℕ → ℕ → Block) (map :
         filled_within : (z : ℕ) → (nat_le to d && nat_lt z m.fill) ≡ true → z < m.fill
         filled_within z h = grind (arith, nat_tests)
 
-    fills_false : is_filled v.meta r d ≡ false → Fills power m v.out (lay (fill_targets v r d old new) block) hard soft value map
+    fills_false : is_filled v.meta r d ≡ false → Fills power m v.out (overlaid_blocks (fill_targets v r d old new) block) hard soft value map
     fills_false h = record {
       filled = st.filled;
       lies = subst (λ (f : Contents). Lies power m v.out f hard soft st.filled map)
@@ -141,32 +141,32 @@ module _ (power : ℕ → Power) (v : View) (val : ℕ → ℕ → Block) (map :
         not_filled : (z : ℕ) → (nat_le to d && nat_lt z m.fill) ≡ false → to ≤ d → z < m.fill → ⊥
         not_filled z h low l = grind (arith, nat_tests)
 
-    fills_after : Fills power m v.out (lay (fill_targets v r d old new) block) hard soft value map
+    fills_after : Fills power m v.out (overlaid_blocks (fill_targets v r d old new) block) hard soft value map
     fills_after = elim (cases_Bool (is_filled v.meta r d)) [ inl h ↦ fills_true h | inr h ↦ fills_false h ]
 
   abbrev Stores : Contents → Bool → Type 0
-  Stores block bit = Stored power v.meta v.out block (changed v.dirty r d bit) value map
+  Stores block bit = StoresCells power v.meta v.out block (table_with_bit v.dirty r d bit) value map
 
   -- a cell is soft where it was, but for the one that is written
-  same_soft : (bit : Bool) (q e : ℕ) → (q ≡ r → e ≡ d → ⊥) → not (hard_at m (changed v.dirty r d bit q e) e) ≡ true → not (hard_at m (v.dirty q e) e) ≡ true
+  same_soft : (bit : Bool) (q e : ℕ) → (q ≡ r → e ≡ d → ⊥) → not (hard_at m (table_with_bit v.dirty r d bit q e) e) ≡ true → not (hard_at m (v.dirty q e) e) ≡ true
   same_soft bit q e apart h = ap (λ (z : Bool). not (hard_at m z e)) (sym (changed_off v.dirty r d bit q e apart)) ∙ h
 
   -- a write to the hard place
-  hard_stored : goes_hard v r d ≡ true → Stores (lay (hard_targets v r d new ++ fill_targets v r d old new) v.block) false
+  hard_stored : goes_hard v r d ≡ true → Stores (overlaid_blocks (hard_targets v r d new ++ fill_targets v r d old new) v.block) false
   hard_stored h =
       let first = lies_hard power m v.out in_range named v.block st.hard st.soft st.filled map st.lies r d new lr in
-      let f = fills_after (lay (hard_targets v r d new) v.block) (put st.hard r d new) st.soft first in
+      let f = fills_after (overlaid_blocks (hard_targets v r d new) v.block) (put st.hard r d new) st.soft first in
       record {
         hard = put st.hard r d new;
         soft = st.soft;
         filled = f.filled;
-        lies = subst (λ (b : Contents). Lies power m v.out b (put st.hard r d new) st.soft f.filled map) (sym (lay-append (hard_targets v r d new) (fill_targets v r d old new) v.block)) f.lies;
+        lies = subst (λ (b : Contents). Lies power m v.out b (put st.hard r d new) st.soft f.filled map) (sym (overlaid_blocks-append (hard_targets v r d new) (fill_targets v r d old new) v.block)) f.lies;
         clean = λ q e lq le c. elim (cases_both q r e d) [
           | inl is ↦ put_at st.hard r d new q e is.0 is.1 ∙ sym (put_at val r d new q e is.0 is.1)
           | inr apart ↦ put_off st.hard r d new q e apart ∙ st.clean q e lq le (sym (changed_off v.dirty r d false q e apart) ∙ c) ∙ sym (put_off val r d new q e apart)
         ];
         copies = stripes_left g.disks g.rows m.gear (soft_count m) r d new val st.soft
-            (λ q e. not (hard_at m (v.dirty q e) e)) (λ q e. not (hard_at m (changed v.dirty r d false q e) e)) (same_soft false)
+            (λ q e. not (hard_at m (v.dirty q e) e)) (λ q e. not (hard_at m (table_with_bit v.dirty r d false q e) e)) (same_soft false)
             (λ low ls here. false≢true (sym (ap not (ap (λ (z : Bool). hard_at m z d) (changed_at v.dirty r d false r d refl refl) ∙ hard_after v r d h)) ∙ here))
             st.copies;
         fills = f.fills;
@@ -174,7 +174,7 @@ module _ (power : ℕ → Power) (v : View) (val : ℕ → ℕ → Block) (map :
       }
 
   -- a write to the copy
-  soft_stored : goes_hard v r d ≡ false → Stores (lay (soft_targets v r d old new ++ fill_targets v r d old new) v.block) true
+  soft_stored : goes_hard v r d ≡ false → Stores (overlaid_blocks (soft_targets v r d old new ++ fill_targets v r d old new) v.block) true
   soft_stored h =
       let soft_was = was_soft v r d h in
       let low = soft_parked v r d soft_was in
@@ -183,35 +183,35 @@ module _ (power : ℕ → Power) (v : View) (val : ℕ → ℕ → Block) (map :
       let copy : ℕ = soft_disk g.disks m.gear r d in
       let parity : ℕ = soft_parity_disk m.gear s in
       let place : ℕ = soft_place_of g m.gear s in
-      let y : Block = xor (stripe_block v s parity) (xor old new) in
+      let y : Block = xor (stripe_block_now v s parity) (xor old new) in
       let ls : s < soft_count m = soft_stripe_below g.disks m.gear r d g.rows (omega arith) low ld lr in
       let lp = soft_parity_disk_below m.gear s (omega arith) in
       let written : ℕ → Bool = λ e. is_written m.out e (g.rows + s) in
       let first = lies_soft power m v.out in_range named v.block st.hard st.soft st.filled map st.lies s copy new ls in
-      let second = lies_soft power m v.out in_range named (lay (target_if (written copy) copy place new) v.block) st.hard (put st.soft s copy new) st.filled map first s parity y ls in
+      let second = lies_soft power m v.out in_range named (overlaid_blocks (target_if (written copy) copy place new) v.block) st.hard (put st.soft s copy new) st.filled map first s parity y ls in
       let both = subst (λ (b : Contents). Lies power m v.out b st.hard (put (put st.soft s copy new) s parity y) st.filled map)
-      (sym (lay-append (target_if (written copy) copy place new) (target_if (written parity) parity place y) v.block)) second in
-      let f = fills_after (lay (soft_targets v r d old new) v.block) st.hard (put (put st.soft s copy new) s parity y) both in
+      (sym (overlaid_blocks-append (target_if (written copy) copy place new) (target_if (written parity) parity place y) v.block)) second in
+      let f = fills_after (overlaid_blocks (soft_targets v r d old new) v.block) st.hard (put (put st.soft s copy new) s parity y) both in
       record {
         hard = st.hard;
         soft = put (put st.soft s copy new) s parity y;
         filled = f.filled;
         lies = subst (λ (b : Contents). Lies power m v.out b st.hard (put (put st.soft s copy new) s parity y) f.filled map)
-            (sym (lay-append (soft_targets v r d old new) (fill_targets v r d old new) v.block)) f.lies;
+            (sym (overlaid_blocks-append (soft_targets v r d old new) (fill_targets v r d old new) v.block)) f.lies;
         clean = λ q e lq le c. elim (cases_both q r e d) [
           | inl is ↦ absurd (true≢false (sym (changed_at v.dirty r d true q e is.0 is.1) ∙ c))
           | inr apart ↦ st.clean q e lq le (sym (changed_off v.dirty r d true q e apart) ∙ c) ∙ sym (put_off val r d new q e apart)
         ];
         copies = stripes_written g.disks g.rows m.gear (soft_count m) r d old new y val st.soft three low ld
-            (λ q e. not (hard_at m (v.dirty q e) e)) (λ q e. not (hard_at m (changed v.dirty r d true q e) e)) (same_soft true)
+            (λ q e. not (hard_at m (v.dirty q e) e)) (λ q e. not (hard_at m (table_with_bit v.dirty r d true q e) e)) (same_soft true)
             lr ls (ap not (sym (hard_is v r d) ∙ soft_was)) is_old
             (ap (λ z. xor z (xor old new)) (stripe_block_is power v val map in_range st s parity ls lp)) st.copies;
         fills = f.fills;
         pads = f.pads;
       }
 
-  pub cell_stored : Stored power v.meta v.out (with_cell v r d old new).block (with_cell v r d old new).dirty (put val r d new) map
+  pub cell_stored : StoresCells power v.meta v.out (view_with_cell v r d old new).block (view_with_cell v r d old new).dirty (put val r d new) map
   cell_stored = elim (cases_Bool (goes_hard v r d)) [
-    | inl h ↦ subst (λ (b : Bool). Stores (lay ((if b then hard_targets v r d new else soft_targets v r d old new) ++ fill_targets v r d old new) v.block) (not b)) (sym h) (hard_stored h)
-    | inr h ↦ subst (λ (b : Bool). Stores (lay ((if b then hard_targets v r d new else soft_targets v r d old new) ++ fill_targets v r d old new) v.block) (not b)) (sym h) (soft_stored h)
+    | inl h ↦ subst (λ (b : Bool). Stores (overlaid_blocks ((if b then hard_targets v r d new else soft_targets v r d old new) ++ fill_targets v r d old new) v.block) (not b)) (sym h) (hard_stored h)
+    | inr h ↦ subst (λ (b : Bool). Stores (overlaid_blocks ((if b then hard_targets v r d new else soft_targets v r d old new) ++ fill_targets v r d old new) v.block) (not b)) (sym h) (soft_stored h)
   ]

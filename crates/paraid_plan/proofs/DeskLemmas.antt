@@ -1,27 +1,29 @@
 -- What the parts of a write stage, put together.
-use Rattle.std.specs.Prelude.{◌≡◌, ℕ, ◌+◌, ◌/◌, ◌≤◌, Bool, true, false, not, [], ◌++◌, length, if◌then◌else◌}
+use Rattle.std.specs.Prelude.{◌≡◌, ◌≢◌, ℕ, ◌+◌, ◌/◌, ◌≤◌, ◌&&◌, ◌||◌, nat_lt, Bool, true, false, not, [], ◌++◌, length, if◌then◌else◌}
 use Rattle.std.proofs.Common.{refl, sym, ◌∙◌, ap, subst, arith, inl, inr}
-use Rattle.std.proofs.lemmas.Bool.{cases_eq, true≢false}
+use Rattle.std.proofs.lemmas.Bool.{cases_Bool, cases_eq, true≢false}
 use Rattle.std.proofs.lemmas.List.{append_assoc, append-nil, length-append}
 use Rattle.paraid_base.specs.declared.block.Block.{Block}
 use Rattle.paraid_base.specs.Cells.{home_disk, home_row, parity_disk}
 use Rattle.paraid_base.specs.Regions.{hard_place_of, soft_place_of}
 use Rattle.paraid_base.specs.Soft.{soft_disk, soft_parity_disk, soft_stripe}
 use Rattle.paraid_base.specs.Xor.{xor}
+use Rattle.paraid_base.proofs.CellsLemmas.{home_disk_other}
 use Rattle.paraid_base.proofs.XorLemmas.{xor_assoc}
-use Rattle.paraid_plan.specs.Desk.{Desk, StagesMap, StagesWrite, cell_desk, copy_targets, place_targets, sees, with_bit, with_targets}
-use Rattle.paraid_plan.specs.Staged.{cell_targets, fill_targets, goes_hard, hard_targets, is_filled, is_written, lay, map_targets, row_parity, soft_count, soft_targets, stripe_block, target_if, with_cell, with_cells}
+use Rattle.paraid_plan.specs.Desk.{Desk, StagesMap, StagesWrite, cell_desk, copy_targets, place_targets, sees, desk_with_bit, with_targets}
+use Rattle.paraid_plan.specs.WriteTargets.{cell_targets, fill_targets, goes_hard, hard_targets, is_filled, is_written, needs_new, needs_old, overlaid_blocks, map_targets, row_parity, soft_count, soft_targets, stripe_block_now, target_if, view_with_cell, with_cells}
 use Rattle.paraid_dirty.specs.Table.{ShowsBits}
 use Rattle.paraid_plan.proofs.CellLemmas.{goes_parked}
-use Rattle.paraid_plan.proofs.LayLemmas.{changed_off, lay-append}
+use Rattle.paraid_plan.proofs.LayLemmas.{changed_off, overlaid_blocks-append}
 use Rattle.paraid_record.specs.declared.meta.Meta.{Meta}
 use Rattle.paraid_record.specs.Codes.{phase_to}
 use Rattle.paraid_image.specs.Sides.{Batch}
-use Rattle.paraid_image.specs.Spot.{View}
+use Rattle.paraid_image.specs.Out.{is_out, named_out}
+use Rattle.paraid_image.specs.Spot.{View, is_hard, rising_to}
 use Rattle.paraid_image.specs.Value.{value}
 
 pub with_targets_none : (s : Desk) → s ≡ with_targets s []
-unfolding with_targets lay
+unfolding with_targets overlaid_blocks
 with_targets_none s = λ t. record { block = s.block; dirty = s.dirty; staged = sym (append-nil s.staged) t }
 
 targets_dirty : (s : Desk) (b : Batch) → (with_targets s b).dirty ≡ s.dirty
@@ -30,7 +32,7 @@ targets_dirty s b = refl
 
 pub with_targets_append : (s : Desk) (a b : Batch) → with_targets (with_targets s a) b ≡ with_targets s (a ++ b)
 unfolding with_targets
-with_targets_append s a b = λ t. record { block = sym (lay-append a b s.block) t; dirty = s.dirty; staged = append_assoc s.staged a b t }
+with_targets_append s a b = λ t. record { block = sym (overlaid_blocks-append a b s.block) t; dirty = s.dirty; staged = append_assoc s.staged a b t }
 
 pub one_more : (s t : Desk) (d p : ℕ) (b : Block) → t ≡ with_targets s (target_if true d p b) → length t.staged ≤ length s.staged + 1
 unfolding with_targets
@@ -85,7 +87,7 @@ module _ (m : Meta) (s : Desk) (hard filled : Bool) (r d : ℕ) (old new near co
 
   place_by : (hard : Bool)
       → (hard ≡ false → is_written m.out (soft_parity_disk m.gear (soft_stripe m.setup.geometry.disks m.gear r d)) (m.setup.geometry.rows + soft_stripe m.setup.geometry.disks m.gear r d) ≡ true
-      → near ≡ xor (xor (stripe_block v (soft_stripe m.setup.geometry.disks m.gear r d) (soft_parity_disk m.gear (soft_stripe m.setup.geometry.disks m.gear r d))) old) new)
+      → near ≡ xor (xor (stripe_block_now v (soft_stripe m.setup.geometry.disks m.gear r d) (soft_parity_disk m.gear (soft_stripe m.setup.geometry.disks m.gear r d))) old) new)
       → place_targets m hard r d new near ≡ (if hard then hard_targets v r d new else soft_targets v r d old new)
   unfolding place_targets
   place_by true fact = refl
@@ -95,8 +97,8 @@ module _ (m : Meta) (s : Desk) (hard filled : Bool) (r d : ℕ) (old new near co
       let parity : ℕ = soft_parity_disk m.gear st in
       let place : ℕ = soft_place_of g m.gear st in
       ap (λ (z : Batch). target_if (is_written m.out (soft_disk g.disks m.gear r d) (g.rows + st)) (soft_disk g.disks m.gear r d) place new ++ z)
-      (target_same (is_written m.out parity (g.rows + st)) parity place near (xor (stripe_block v st parity) (xor old new))
-      (λ w. fact refl w ∙ xor_assoc (stripe_block v st parity) old new))
+      (target_same (is_written m.out parity (g.rows + st)) parity place near (xor (stripe_block_now v st parity) (xor old new))
+      (λ w. fact refl w ∙ xor_assoc (stripe_block_now v st parity) old new))
 
   copy_by : filled ≡ is_filled m r d
       → (filled ≡ true → copy ≡ xor (xor (s.block (soft_parity_disk (phase_to m.phase) (soft_stripe m.setup.geometry.disks (phase_to m.phase) r d))
@@ -115,11 +117,11 @@ module _ (m : Meta) (s : Desk) (hard filled : Bool) (r d : ℕ) (old new near co
 
   pub cell_desk_is : (s1 s2 s3 s4 s5 : Desk) → s1 ≡ s → s2 ≡ s1 → hard ≡ goes_hard v r d → filled ≡ is_filled m r d
       → (hard ≡ false → is_written m.out (soft_parity_disk m.gear (soft_stripe m.setup.geometry.disks m.gear r d)) (m.setup.geometry.rows + soft_stripe m.setup.geometry.disks m.gear r d) ≡ true
-      → near ≡ xor (xor (stripe_block v (soft_stripe m.setup.geometry.disks m.gear r d) (soft_parity_disk m.gear (soft_stripe m.setup.geometry.disks m.gear r d))) old) new)
+      → near ≡ xor (xor (stripe_block_now v (soft_stripe m.setup.geometry.disks m.gear r d) (soft_parity_disk m.gear (soft_stripe m.setup.geometry.disks m.gear r d))) old) new)
       → (filled ≡ true → copy ≡ xor (xor (s1.block (soft_parity_disk (phase_to m.phase) (soft_stripe m.setup.geometry.disks (phase_to m.phase) r d))
       (soft_place_of m.setup.geometry (phase_to m.phase) (soft_stripe m.setup.geometry.disks (phase_to m.phase) r d))) old) new)
       → s3 ≡ with_targets s2 (place_targets m hard r d new near) → s4 ≡ with_targets s3 (copy_targets m filled r d new copy)
-      → s5 ≡ with_bit s4 r d (not hard) → s5 ≡ cell_desk m s r d old new
+      → s5 ≡ desk_with_bit s4 r d (not hard) → s5 ≡ cell_desk m s r d old new
   unfolding cell_desk
   cell_desk_is s1 s2 s3 s4 s5 e1 e2 is_hard is_filled near_is copy_is e3 e4 e5 =
       let place : Batch = place_targets m hard r d new near in
@@ -132,12 +134,12 @@ module _ (m : Meta) (s : Desk) (hard filled : Bool) (r d : ℕ) (old new near co
       (λ w. copy_is w ∙ ap (λ (z : Desk). xor (xor (z.block (soft_parity_disk to st) (soft_place_of m.setup.geometry to st)) old) new) e1) in
       let both : place ++ more ≡ cell_targets v r d old new = ap (λ (z : Batch). z ++ more) first
       ∙ ap (λ (z : Batch). (if goes_hard v r d then hard_targets v r d new else soft_targets v r d old new) ++ z) second in
-      e5 ∙ ap (λ (z : Desk). with_bit z r d (not hard)) (two_steps s2 s3 s4 place more e3 e4 ∙ ap (λ (z : Desk). with_targets z (place ++ more)) (e2 ∙ e1) ∙ ap (with_targets s) both)
-      ∙ ap (λ (h : Bool). with_bit (with_targets s (cell_targets v r d old new)) r d (not h)) is_hard
+      e5 ∙ ap (λ (z : Desk). desk_with_bit z r d (not hard)) (two_steps s2 s3 s4 place more e3 e4 ∙ ap (λ (z : Desk). with_targets z (place ++ more)) (e2 ∙ e1) ∙ ap (with_targets s) both)
+      ∙ ap (λ (h : Bool). desk_with_bit (with_targets s (cell_targets v r d old new)) r d (not h)) is_hard
 
 pub cell_room : (s s1 s2 s3 s4 s5 : Desk) (r d : ℕ) (bit : Bool) → length s1.staged ≡ length s.staged → length s2.staged ≡ length s1.staged → length s3.staged ≤ length s2.staged + 2
-    → length s4.staged ≤ length s3.staged + 2 → s5 ≡ with_bit s4 r d bit → length s5.staged ≤ length s.staged + 4
-unfolding with_bit
+    → length s4.staged ≤ length s3.staged + 2 → s5 ≡ desk_with_bit s4 r d bit → length s5.staged ≤ length s.staged + 4
+unfolding desk_with_bit
 cell_room s s1 s2 s3 s4 s5 r d bit e1 e2 l3 l4 e5 =
     let k : length s5.staged ≡ length s4.staged = ap (λ (z : Desk). length z.staged) e5 in
     omega arith
@@ -183,23 +185,23 @@ module _ (m : Meta) (s : Desk) (b : ℕ) (new : Block) where
   first_targets = cell_targets seen r d (value seen r d) new
 
   abbrev second_targets : Batch
-  second_targets = cell_targets (with_cell seen r d (value seen r d) new) r p (value seen r p) (row_parity seen r d new)
+  second_targets = cell_targets (view_with_cell seen r d (value seen r d) new) r p (value seen r p) (row_parity seen r d new)
 
   second_dirty : second.dirty ≡ (with_cells seen r d new).dirty
-  unfolding cell_desk with_bit with_targets
+  unfolding cell_desk desk_with_bit with_targets
   second_dirty = refl
 
   all_staged : (more : Batch) → (with_targets second more).staged ≡ s.staged ++ (first_targets ++ (second_targets ++ more))
-  unfolding cell_desk with_bit with_targets
+  unfolding cell_desk desk_with_bit with_targets
   all_staged more = append_assoc (s.staged ++ first_targets) second_targets more ∙ append_assoc s.staged first_targets (second_targets ++ more)
 
-  all_laid : (more : Batch) → (with_targets second more).block ≡ lay (first_targets ++ (second_targets ++ more)) s.block
-  unfolding cell_desk with_bit with_targets
+  all_laid : (more : Batch) → (with_targets second more).block ≡ overlaid_blocks (first_targets ++ (second_targets ++ more)) s.block
+  unfolding cell_desk desk_with_bit with_targets
   all_laid more =
-      sym (lay-append first_targets (second_targets ++ more) s.block ∙ lay-append second_targets more (lay first_targets s.block))
+      sym (overlaid_blocks-append first_targets (second_targets ++ more) s.block ∙ overlaid_blocks-append second_targets more (overlaid_blocks first_targets s.block))
 
   same_bits : second.dirty r d ≡ s.dirty r d → second.dirty r p ≡ s.dirty r p → (e : ℕ) → second.dirty r e ≡ s.dirty r e
-  unfolding cell_desk with_bit with_targets
+  unfolding cell_desk desk_with_bit with_targets
   same_bits data_same parity_same e = elim (cases_eq e d) [
     | inl is ↦ ap (second.dirty r) is ∙ data_same ∙ ap (s.dirty r) (sym is)
     | inr other ↦ elim (cases_eq e p) [
@@ -227,32 +229,125 @@ module _ (m : Meta) (s : Desk) (b : ℕ) (new : Block) where
         dirty = ap (λ (z : Desk). z.dirty) last ∙ targets_dirty second (if staged then map_targets m (r / 512) map.map else []) ∙ second_dirty;
       }
 
+-- what a block does not show does not matter
+
+first_of_or : (a b : Bool) → (a || b) ≡ false → a ≡ false
+first_of_or true b h = h
+first_of_or false b h = refl
+
+second_of_or : (a b : Bool) → (a || b) ≡ false → b ≡ false
+second_of_or true b h = absurd (true≢false h)
+second_of_or false b h = h
+
+soft_same : (hard written : Bool) (v : View) (r d : ℕ) (old other new : Block) → (not hard && written) ≡ false
+    → written ≡ is_written v.meta.out (soft_parity_disk v.meta.gear (soft_stripe v.meta.setup.geometry.disks v.meta.gear r d)) (v.meta.setup.geometry.rows + soft_stripe v.meta.setup.geometry.disks v.meta.gear r d)
+    → (if hard then hard_targets v r d new else soft_targets v r d old new) ≡ (if hard then hard_targets v r d new else soft_targets v r d other new)
+soft_same true written v r d old other new h is = refl
+soft_same false true v r d old other new h is = absurd (true≢false h)
+soft_same false false v r d old other new h is = rw (sym is) refl
+
+fill_same : (v : View) (r d : ℕ) (old other new : Block) → is_filled v.meta r d ≡ false → fill_targets v r d old new ≡ fill_targets v r d other new
+fill_same v r d old other new h = rw h refl
+
+pub targets_without_old : (v : View) (r d : ℕ) (old other new : Block) → needs_old v r d ≡ false → cell_targets v r d old new ≡ cell_targets v r d other new
+unfolding needs_old
+targets_without_old v r d old other new h =
+    ap (λ (z : Batch). z ++ fill_targets v r d old new) (soft_same (goes_hard v r d) _ v r d old other new (first_of_or _ (is_filled v.meta r d) h) refl)
+    ∙ ap (λ (z : Batch). (if goes_hard v r d then hard_targets v r d new else soft_targets v r d other new) ++ z)
+    (fill_same v r d old other new (second_of_or _ (is_filled v.meta r d) h))
+
+hard_none : (hard written : Bool) (v : View) (r d : ℕ) (old new : Block) → (not hard || written) ≡ false → written ≡ is_written v.meta.out d r
+    → (if hard then hard_targets v r d new else soft_targets v r d old new) ≡ []
+hard_none true true v r d old new h is = absurd (true≢false h)
+hard_none true false v r d old new h is = rw (sym is) refl
+hard_none false written v r d old new h is = absurd (true≢false h)
+
+fill_none : (v : View) (r d : ℕ) (old new : Block) → is_filled v.meta r d ≡ false → fill_targets v r d old new ≡ []
+fill_none v r d old new h = rw h refl
+
+pub targets_without_new : (v : View) (r d : ℕ) (old new : Block) → needs_new v r d ≡ false → cell_targets v r d old new ≡ []
+unfolding needs_new
+targets_without_new v r d old new h =
+    ap (λ (z : Batch). z ++ fill_targets v r d old new) (hard_none (goes_hard v r d) _ v r d old new (first_of_or _ (is_filled v.meta r d) h) refl)
+    ∙ fill_none v r d old new (second_of_or _ (is_filled v.meta r d) h)
+
+desk_without_old : (m : Meta) (s : Desk) (r d : ℕ) (old other new : Block) → needs_old (sees m s) r d ≡ false → cell_desk m s r d old new ≡ cell_desk m s r d other new
+unfolding cell_desk
+desk_without_old m s r d old other new h =
+    ap (λ (z : Batch). desk_with_bit (with_targets s z) r d (not (goes_hard (sees m s) r d))) (targets_without_old (sees m s) r d old other new h)
+
+desk_without_new : (m : Meta) (s : Desk) (r d : ℕ) (old new other another : Block) → needs_new (sees m s) r d ≡ false → cell_desk m s r d old new ≡ cell_desk m s r d other another
+unfolding cell_desk
+desk_without_new m s r d old new other another h =
+    ap (λ (z : Batch). desk_with_bit (with_targets s z) r d (not (goes_hard (sees m s) r d)))
+    (targets_without_new (sees m s) r d old new h ∙ sym (targets_without_new (sees m s) r d other another h))
+
+-- the write of another cell of the row leaves what is needed of this one
+hard_after : (m : Meta) (s : Desk) (r d p : ℕ) (old new : Block) → d ≢ p → goes_hard (sees m (cell_desk m s r d old new)) r p ≡ goes_hard (sees m s) r p
+unfolding goes_hard is_hard cell_desk desk_with_bit with_targets
+hard_after m s r d p old new apart =
+    ap (λ (z : Bool). (nat_lt p m.gear || (nat_lt p (rising_to m.phase) && not z)) || (nat_lt p (rising_to m.phase) && not (is_out (named_out m.out) p)))
+    (changed_off s.dirty r d (not (goes_hard (sees m s) r d)) r p (λ _ z. apart (sym z)))
+
+needs_new_after : (m : Meta) (s : Desk) (r d p : ℕ) (old new : Block) → d ≢ p → needs_new (sees m (cell_desk m s r d old new)) r p ≡ needs_new (sees m s) r p
+unfolding needs_new
+needs_new_after m s r d p old new apart = ap (λ (z : Bool). not z || is_written m.out p r || is_filled m r p) (hard_after m s r d p old new apart)
+
+needs_old_after : (m : Meta) (s : Desk) (r d p : ℕ) (old new : Block) → d ≢ p → needs_old (sees m (cell_desk m s r d old new)) r p ≡ needs_old (sees m s) r p
+unfolding needs_old
+needs_old_after m s r d p old new apart =
+    ap (λ (z : Bool). (not z && is_written m.out (soft_parity_disk m.gear (soft_stripe m.setup.geometry.disks m.gear r p)) (m.setup.geometry.rows + soft_stripe m.setup.geometry.disks m.gear r p)) || is_filled m r p)
+    (hard_after m s r d p old new apart)
+
+-- a block's cell is not its row's parity
+pub apart_by : (n b r d p : ℕ) → r ≡ home_row n b → d ≡ home_disk n b → p ≡ parity_disk n r → d ≢ p
+apart_by n b r d p er ed ep is = home_disk_other n b (sym ed ∙ is ∙ ep ∙ ap (parity_disk n) er)
+
+-- the data cell, whatever was read of it, unless that is needed
+first_desk : (m : Meta) (s : Desk) (r d : ℕ) (old new : Block)
+    → (needs_old (sees m s) r d ≡ true → old ≡ value (sees m s) r d)
+    → cell_desk m s r d old new ≡ cell_desk m s r d (value (sees m s) r d) new
+first_desk m s r d old new is_old = elim (cases_Bool (needs_old (sees m s) r d)) [
+  | inl h ↦ ap (λ (z : Block). cell_desk m s r d z new) (is_old h)
+  | inr h ↦ desk_without_old m s r d old (value (sees m s) r d) new h
+]
+
+-- and the parity cell
+second_desk : (m : Meta) (s : Desk) (r d p : ℕ) (parity fixed new : Block) → d ≢ p
+    → (needs_new (sees m s) r p ≡ true → needs_old (sees m s) r p ≡ true → parity ≡ value (sees m s) r p)
+    → (needs_new (sees m s) r p ≡ true → fixed ≡ xor (value (sees m s) r p) (xor (value (sees m s) r d) new))
+    → cell_desk m (cell_desk m s r d (value (sees m s) r d) new) r p parity fixed
+    ≡ cell_desk m (cell_desk m s r d (value (sees m s) r d) new) r p (value (sees m s) r p) (xor (value (sees m s) r p) (xor (value (sees m s) r d) new))
+second_desk m s r d p parity fixed new apart is_parity is_fixed =
+    let f : Desk = cell_desk m s r d (value (sees m s) r d) new in
+    elim (cases_Bool (needs_new (sees m s) r p)) [
+      | inl h ↦ ap (cell_desk m f r p parity) (is_fixed h) ∙ elim (cases_Bool (needs_old (sees m s) r p)) [
+        | inl o ↦ ap (λ (z : Block). cell_desk m f r p z (xor (value (sees m s) r p) (xor (value (sees m s) r d) new))) (is_parity h o)
+        | inr o ↦ desk_without_old m f r p parity (value (sees m s) r p) (xor (value (sees m s) r p) (xor (value (sees m s) r d) new))
+            (needs_old_after m s r d p (value (sees m s) r d) new apart ∙ o)
+      ]
+      | inr h ↦ desk_without_new m f r p parity fixed _ _ (needs_new_after m s r d p (value (sees m s) r d) new apart ∙ h)
+    ]
+
 -- the same, over what the calls of the write said
-pub writes_from_calls : (m : Meta) (s s1 s2 s3 s4 s5 : Desk) (b r d p : ℕ) (old parity fixed new : Block) (was parity_was staged : Bool)
+pub writes_from_calls : (m : Meta) (s s1 s2 s3 s4 : Desk) (b r d p : ℕ) (old parity fixed new : Block) (was parity_was staged : Bool)
     → r ≡ home_row m.setup.geometry.disks b → d ≡ home_disk m.setup.geometry.disks b → p ≡ parity_disk m.setup.geometry.disks r
-    → s1 ≡ s → s2 ≡ s1 → old ≡ value (sees m s) r d → parity ≡ value (sees m s1) r p → fixed ≡ xor parity (xor old new)
-    → was ≡ s2.dirty r d → parity_was ≡ s2.dirty r p
-    → s3 ≡ cell_desk m s2 r d old new → s4 ≡ cell_desk m s3 r p parity fixed
-    → (staged ≡ false → s4.dirty r d ≡ was) → (staged ≡ false → s4.dirty r p ≡ parity_was)
-    → StagesMap m s4 s5 (r / 512) staged → StagesWrite m s s5 b new
-writes_from_calls m s s1 s2 s3 s4 s5 b r d p old parity fixed new was parity_was staged er ed ep e1 e2 is_old is_parity is_fixed is_was is_parity_was d1 d2 data_same parity_same map =
+    → s1 ≡ s → (needs_old (sees m s) r d ≡ true → old ≡ value (sees m s) r d)
+    → (needs_new (sees m s) r p ≡ true → needs_old (sees m s) r p ≡ true → parity ≡ value (sees m s) r p)
+    → (needs_new (sees m s) r p ≡ true → fixed ≡ xor (value (sees m s) r p) (xor (value (sees m s) r d) new))
+    → was ≡ s1.dirty r d → parity_was ≡ s1.dirty r p
+    → s2 ≡ cell_desk m s1 r d old new → s3 ≡ cell_desk m s2 r p parity fixed
+    → (staged ≡ false → s3.dirty r d ≡ was) → (staged ≡ false → s3.dirty r p ≡ parity_was)
+    → StagesMap m s3 s4 (r / 512) staged → StagesWrite m s s4 b new
+writes_from_calls m s s1 s2 s3 s4 b r d p old parity fixed new was parity_was staged er ed ep e1 is_old is_parity is_fixed is_was is_parity_was d1 d2 data_same parity_same map =
     let n : ℕ = m.setup.geometry.disks in
-    let row : ℕ = home_row n b in
     let ep' : p ≡ parity_disk n (home_row n b) = ep ∙ ap (parity_disk n) er in
-    let old' : old ≡ value (sees m s) (home_row n b) (home_disk n b) = is_old ∙ ap (λ (z : ℕ). value (sees m s) z d) er ∙ ap (value (sees m s) (home_row n b)) ed in
-    let parity' : parity ≡ value (sees m s) (home_row n b) (parity_disk n (home_row n b)) = is_parity ∙ ap (λ (z : Desk). value (sees m z) r p) e1
-    ∙ ap (λ (z : ℕ). value (sees m s) z p) er ∙ ap (value (sees m s) (home_row n b)) ep' in
-    let fixed' : fixed ≡ row_parity (sees m s) (home_row n b) (home_disk n b) new = is_fixed
-    ∙ ap (λ (z : Block). xor z (xor old new)) parity' ∙ ap (λ (z : Block). xor (value (sees m s) (home_row n b) (parity_disk n (home_row n b))) (xor z new)) old' in
-    let first' : s3 ≡ cell_desk m s (home_row n b) (home_disk n b) (value (sees m s) (home_row n b) (home_disk n b)) new = d1
-    ∙ ap (λ (z : Desk). cell_desk m z r d old new) (e2 ∙ e1) ∙ ap (λ (z : ℕ). cell_desk m s z d old new) er
-    ∙ ap (λ (z : ℕ). cell_desk m s (home_row n b) z old new) ed ∙ ap (λ (z : Block). cell_desk m s (home_row n b) (home_disk n b) z new) old' in
-    let second' : s4 ≡ second m s b new = d2
-    ∙ ap (λ (z : Desk). cell_desk m z r p parity fixed) first' ∙ ap (λ (z : ℕ). cell_desk m (first m s b new) z p parity fixed) er
-    ∙ ap (λ (z : ℕ). cell_desk m (first m s b new) (home_row n b) z parity fixed) ep'
-    ∙ ap (λ (z : Block). cell_desk m (first m s b new) (home_row n b) (parity_disk n (home_row n b)) z fixed) parity'
-    ∙ ap (λ (z : Block). cell_desk m (first m s b new) (home_row n b) (parity_disk n (home_row n b)) (value (sees m s) (home_row n b) (parity_disk n (home_row n b))) z) fixed' in
-    writes_from m s b new s4 s5 staged second'
-    (λ h. rw (er, ed) at (data_same h ∙ is_was ∙ ap (λ (z : Desk). z.dirty r d) (e2 ∙ e1)))
-    (λ h. rw (er, ep') at (parity_same h ∙ is_parity_was ∙ ap (λ (z : Desk). z.dirty r p) (e2 ∙ e1)))
+    let apart : d ≢ p = apart_by n b r d p er ed ep in
+    let first' : s2 ≡ cell_desk m s r d (value (sees m s) r d) new = d1 ∙ ap (λ (z : Desk). cell_desk m z r d old new) e1 ∙ first_desk m s r d old new is_old in
+    let second' : s3 ≡ cell_desk m (cell_desk m s r d (value (sees m s) r d) new) r p (value (sees m s) r p) (xor (value (sees m s) r p) (xor (value (sees m s) r d) new)) =
+    d2 ∙ ap (λ (z : Desk). cell_desk m z r p parity fixed) first' ∙ second_desk m s r d p parity fixed new apart is_parity is_fixed in
+    writes_from m s b new s3 s4 staged
+    (second' ∙ rw (er, ed, ep') refl)
+    (λ h. rw (er, ed) at (data_same h ∙ is_was ∙ ap (λ (z : Desk). z.dirty r d) e1))
+    (λ h. rw (er, ep') at (parity_same h ∙ is_parity_was ∙ ap (λ (z : Desk). z.dirty r p) e1))
     (rw er at map)

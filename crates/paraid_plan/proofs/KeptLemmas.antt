@@ -9,14 +9,14 @@ use Rattle.paraid_base.specs.Regions.{hard_place_of}
 use Rattle.paraid_base.specs.Skips.{skip}
 use Rattle.paraid_base.specs.Soft.{soft_disk, soft_parity_disk, soft_stripe, stripe_count}
 use Rattle.paraid_base.specs.Sums.{without, xor_upto}
-use Rattle.paraid_base.specs.Xor.{zeroed}
+use Rattle.paraid_base.specs.Xor.{zero_block}
 use Rattle.paraid_base.proofs.SkipsLemmas.{skip_below}
 use Rattle.paraid_base.proofs.SoftLemmas.{soft_disk_below, soft_stripe_below}
 use Rattle.paraid_base.proofs.SumsLemmas.{lost_member, others_same, xor_upto_same}
 use Rattle.paraid_image.specs.Sound.{IsWellKept}
-use Rattle.paraid_plan.specs.Staged.{soft_count, stripe_block}
-use Rattle.paraid_plan.specs.Stored.{AreBits, Stored, hard_at}
-use Rattle.paraid_plan.specs.Stored.IsKept.{there, rebuilt}
+use Rattle.paraid_plan.specs.WriteTargets.{soft_count, stripe_block_now}
+use Rattle.paraid_plan.specs.StoredCells.{AreBits, StoresCells, hard_at}
+use Rattle.paraid_plan.specs.StoredCells.IsUnitKept.{there, rebuilt}
 use Rattle.paraid_plan.proofs.LiesLemmas.{fill_gear}
 use Rattle.paraid_plan.proofs.OutsLemmas.{alone_by, only_out, out_not, out_some}
 use Rattle.paraid_plan.proofs.StoredLemmas.{hard_is, stripe_gone, stripe_there, stripes_below}
@@ -50,8 +50,8 @@ unfolding near
 near_hard v r d h = rw h refl
 
 near_soft : (v : View) (r d : ℕ) → is_hard v r d ≡ false
-    → near v r d ≡ stripe_block v (soft_stripe v.meta.setup.geometry.disks v.meta.gear r d) (soft_disk v.meta.setup.geometry.disks v.meta.gear r d)
-unfolding near soft_value stripe_block
+    → near v r d ≡ stripe_block_now v (soft_stripe v.meta.setup.geometry.disks v.meta.gear r d) (soft_disk v.meta.setup.geometry.disks v.meta.gear r d)
+unfolding near soft_value stripe_block_now
 near_soft v r d h = rw h refl
 
 value_near : (v : View) (r d : ℕ) → (is_hard v r d && is_out v.out d) ≡ false → value v r d ≡ near v r d
@@ -63,12 +63,12 @@ unfolding value far
 value_far v r d h o = rw (h, o) refl
 
 module _ (power : ℕ → Power) (v : View) (val : ℕ → ℕ → Block) (map : ℕ → Block) (in_range : IsInRange v.meta)
-    (st : Stored power v.meta v.out v.block v.dirty val map) where
+    (st : StoresCells power v.meta v.out v.block v.dirty val map) where
   abbrev g : Geometry
   g = v.meta.setup.geometry
 
   -- a block of a stripe, from the others where its disk is out
-  pub stripe_block_is : (s e : ℕ) → s < soft_count v.meta → e < v.meta.gear → stripe_block v s e ≡ st.soft s e
+  pub stripe_block_is : (s e : ℕ) → s < soft_count v.meta → e < v.meta.gear → stripe_block_now v s e ≡ st.soft s e
   stripe_block_is s e ls le = elim (cases_Bool (is_out v.out e)) [
     | inl is ↦
         let o = out_some v.out e is in
@@ -79,7 +79,7 @@ module _ (power : ℕ → Power) (v : View) (val : ℕ → ℕ → Block) (map :
   ]
 
   soft_is : (r d : ℕ) → r < g.rows → d < g.disks → is_hard v r d ≡ false
-      → stripe_block v (soft_stripe g.disks v.meta.gear r d) (soft_disk g.disks v.meta.gear r d) ≡ val r d
+      → stripe_block_now v (soft_stripe g.disks v.meta.gear r d) (soft_disk g.disks v.meta.gear r d) ≡ val r d
   soft_is r d lr ld h =
       let low = g.gears_low v.meta.gear in_range.gear in
       let parked = soft_parked v r d h in
@@ -88,7 +88,7 @@ module _ (power : ℕ → Power) (v : View) (val : ℕ → ℕ → Block) (map :
       stripe_block_is (soft_stripe g.disks v.meta.gear r d) (soft_disk g.disks v.meta.gear r d) ls (soft_disk_below g.disks v.meta.gear r d low)
       ∙ st.copies.cells r d lr parked ld ls here
 
-  module _ (zero_rows : (r : ℕ) → r < g.rows → xor_upto (val r) g.disks ≡ zeroed) (bits : AreBits v.meta v.dirty) where
+  module _ (zero_rows : (r : ℕ) → r < g.rows → xor_upto (val r) g.disks ≡ zero_block) (bits : AreBits v.meta v.dirty) where
     low_clean : (r d : ℕ) → r < g.rows → d < v.meta.gear → v.dirty r d ≡ false
     low_clean r d lr ld = elim (cases_Bool (v.dirty r d)) [
       | inl is ↦ let parked = bits.parked r d (omega arith) is in absurd (omega arith)

@@ -1,13 +1,13 @@
 -- One place of a table of blocks that is changed, and batches that are laid.
 use Rattle.std.specs.Prelude.{◌≡◌, ◌≢◌, ℕ, ◌==◌, ◌&&◌, ◌⊎◌, Bool, true, false, [], ◌∷◌, ◌++◌, if◌then◌else◌}
-use Rattle.std.proofs.Common.{refl, sym, arith, inl, inr, ap, ◌∙◌}
+use Rattle.std.proofs.Common.{refl, sym, arith, inl, inr}
 use Rattle.std.proofs.lemmas.Bool.{cases_eq}
 use Rattle.std.proofs.lemmas.Bool.Decides.{nat_tests}
 use Rattle.paraid_base.specs.declared.block.Block.{Block}
-use Rattle.paraid_dirty.specs.Table.{changed}
-use Rattle.paraid_plan.specs.Staged.{lay, target_if}
+use Rattle.paraid_dirty.specs.Table.{table_with_bit}
+use Rattle.paraid_plan.specs.WriteTargets.{overlaid_blocks, target_if}
 use Rattle.paraid_image.specs.Sides.{Batch}
-use Rattle.paraid_image.specs.Standing.{Contents, laid}
+use Rattle.paraid_image.specs.Standing.{Contents, overlaid_block}
 
 unfoldable pub put : (ℕ → ℕ → Block) → ℕ → ℕ → Block → ℕ → ℕ → Block
 put f x y b p q = if p == x && q == y then b else f p q
@@ -35,48 +35,35 @@ pub put_off : (f : ℕ → ℕ → Block) (x y : ℕ) (b : Block) (p q : ℕ) �
 unfolding put
 put_off f x y b p q not = test_off b (f p q) p x q y not
 
-pub changed_at : (dirty : ℕ → ℕ → Bool) (r d : ℕ) (bit : Bool) (q e : ℕ) → q ≡ r → e ≡ d → changed dirty r d bit q e ≡ bit
+pub changed_at : (dirty : ℕ → ℕ → Bool) (r d : ℕ) (bit : Bool) (q e : ℕ) → q ≡ r → e ≡ d → table_with_bit dirty r d bit q e ≡ bit
 changed_at dirty r d bit q e i j = test_at bit (dirty q e) q r e d i j
 
-pub changed_off : (dirty : ℕ → ℕ → Bool) (r d : ℕ) (bit : Bool) (q e : ℕ) → (q ≡ r → e ≡ d → ⊥) → changed dirty r d bit q e ≡ dirty q e
+pub changed_off : (dirty : ℕ → ℕ → Bool) (r d : ℕ) (bit : Bool) (q e : ℕ) → (q ≡ r → e ≡ d → ⊥) → table_with_bit dirty r d bit q e ≡ dirty q e
 changed_off dirty r d bit q e not = test_off bit (dirty q e) q r e d not
 
-pub lay_at : (written : Bool) (x y : ℕ) (b : Block) (f : Contents) (d p : ℕ) → written ≡ true → d ≡ x → p ≡ y → lay (target_if written x y b) f d p ≡ b
-unfolding lay
+pub lay_at : (written : Bool) (x y : ℕ) (b : Block) (f : Contents) (d p : ℕ) → written ≡ true → d ≡ x → p ≡ y → overlaid_blocks (target_if written x y b) f d p ≡ b
+unfolding overlaid_blocks
 lay_at true x y b f d p is i j = test_at b (f d p) x d y p (sym i) (sym j)
 lay_at false x y b f d p is i j = cc
 
-pub lay_off : (written : Bool) (x y : ℕ) (b : Block) (f : Contents) (d p : ℕ) → (d ≡ x → p ≡ y → ⊥) → lay (target_if written x y b) f d p ≡ f d p
-unfolding lay
+pub lay_off : (written : Bool) (x y : ℕ) (b : Block) (f : Contents) (d p : ℕ) → (d ≡ x → p ≡ y → ⊥) → overlaid_blocks (target_if written x y b) f d p ≡ f d p
+unfolding overlaid_blocks
 lay_off true x y b f d p not = test_off b (f d p) x d y p (λ i j. not (sym i) (sym j))
 lay_off false x y b f d p not = refl
 
-pub lay_none : (written : Bool) (x y : ℕ) (b : Block) (f : Contents) → written ≡ false → lay (target_if written x y b) f ≡ f
-unfolding lay
+pub lay_none : (written : Bool) (x y : ℕ) (b : Block) (f : Contents) → written ≡ false → overlaid_blocks (target_if written x y b) f ≡ f
+unfolding overlaid_blocks
 lay_none true x y b f is = cc
 lay_none false x y b f is = refl
 
-pub laid_append : (first second : Batch) (d p : ℕ) (b : Block) → laid (first ++ second) d p b ≡ laid second d p (laid first d p b)
+pub laid_append : (first second : Batch) (d p : ℕ) (b : Block) → overlaid_block (first ++ second) d p b ≡ overlaid_block second d p (overlaid_block first d p b)
 laid_append [] second d p b = refl
 laid_append (w ∷ first) second d p b = laid_append first second d p _
 
-pub lay-append : (first second : Batch) (f : Contents) → lay (first ++ second) f ≡ lay second (lay first f)
-unfolding lay
-lay-append first second f = λ t. λ d p. (laid_append first second d p (f d p)) t
+pub overlaid_blocks-append : (first second : Batch) (f : Contents) → overlaid_blocks (first ++ second) f ≡ overlaid_blocks second (overlaid_blocks first f)
+unfolding overlaid_blocks
+overlaid_blocks-append first second f = λ t. λ d p. (laid_append first second d p (f d p)) t
 
-pub lay_nil : (f : Contents) → lay [] f ≡ f
-unfolding lay
+pub lay_nil : (f : Contents) → overlaid_blocks [] f ≡ f
+unfolding overlaid_blocks
 lay_nil f = refl
-
--- a batch laid over blocks that are the same at a place
-pub lay_same : (batch : Batch) (f h : Contents) (d p : ℕ) → f d p ≡ h d p → lay batch f d p ≡ lay batch h d p
-unfolding lay
-lay_same batch f h d p is = ap (laid batch d p) is
-
--- what a place holds already changes nothing
-pub lay_again : (written : Bool) (x y : ℕ) (b : Block) (f : Contents) (d p : ℕ) → f x y ≡ b → lay (target_if written x y b) f d p ≡ f d p
-lay_again true x y b f d p is = elim (cases_both d x p y) [
-  | inl at ↦ lay_at true x y b f d p refl at.0 at.1 ∙ sym is ∙ ap (λ (z : ℕ). f z y) (sym at.0) ∙ ap (f d) (sym at.1)
-  | inr off ↦ lay_off true x y b f d p off
-]
-lay_again false x y b f d p is = ap (λ (h : Contents). h d p) (lay_none false x y b f refl)

@@ -12,10 +12,10 @@ use Rattle.paraid_base.specs.declared.state.Phase.TheVariants.{Steady, Down, Up}
 use Rattle.paraid_base.specs.Regions.{IsGear, hard_place_of, map_count, soft_place_of}
 use Rattle.paraid_base.specs.Soft.{stripe_count}
 use Rattle.paraid_base.proofs.RegionsLemmas.{hard_below_soft, hard_places_apart, soft_places_apart}
-use Rattle.paraid_plan.specs.Staged.{is_written, lay, map_targets, soft_count, target_if}
-use Rattle.paraid_plan.specs.Stored.{IsKept, Lies}
-use Rattle.paraid_plan.specs.Stored.IsKept.{there, rebuilt}
-use Rattle.paraid_plan.proofs.LayLemmas.{cases_both, lay_at, lay_off, lay-append, put, put_at, put_off}
+use Rattle.paraid_plan.specs.WriteTargets.{is_written, overlaid_blocks, map_targets, soft_count, target_if}
+use Rattle.paraid_plan.specs.StoredCells.{IsUnitKept, Lies}
+use Rattle.paraid_plan.specs.StoredCells.IsUnitKept.{there, rebuilt}
+use Rattle.paraid_plan.proofs.LayLemmas.{cases_both, lay_at, lay_off, overlaid_blocks-append, put, put_at, put_off}
 use Rattle.paraid_rack.specs.declared.call.Power.{Power}
 use Rattle.paraid_rack.specs.Disks.{with_at}
 use Rattle.paraid_rack.proofs.AtomsLemmas.{with_at_other, with_at_same}
@@ -51,17 +51,17 @@ module _ (power : ℕ → Power) (m : Meta) (out : Option ℕ) (in_range : IsInR
   abbrev g : Geometry
   g = m.setup.geometry
 
-  pub kept_written : (d u : ℕ) → IsKept power m out d u → is_written m.out d u ≡ true
+  pub kept_written : (d u : ℕ) → IsUnitKept power m out d u → is_written m.out d u ≡ true
   kept_written d u (there apart) = written_there m.out d u (λ is. apart (named ∙ is))
   kept_written d u (rebuilt count fresh l) = ap (λ (o : Out). is_written o d u) fresh.is ∙ written_rebuilt d u count l
 
   -- the target of a kept place is laid
-  written_as : (d e u v : ℕ) → IsKept power m out d u → d ≡ e → u ≡ v → is_written m.out e v ≡ true
+  written_as : (d e u v : ℕ) → IsUnitKept power m out d u → d ≡ e → u ≡ v → is_written m.out e v ≡ true
   written_as d e u v kept i j = ap (λ (z : ℕ). is_written m.out z v) (sym i) ∙ ap (is_written m.out d) (sym j) ∙ kept_written d u kept
 
   module _ (block : Contents) (hard soft filled : ℕ → ℕ → Block) (map : ℕ → Block) (l : Lies power m out block hard soft filled map) where
     pub lies_hard : (r₀ d₀ : ℕ) (x : Block) → r₀ < g.rows
-        → Lies power m out (lay (target_if (is_written m.out d₀ r₀) d₀ (hard_place_of g r₀) x) block) (put hard r₀ d₀ x) soft filled map
+        → Lies power m out (overlaid_blocks (target_if (is_written m.out d₀ r₀) d₀ (hard_place_of g r₀) x) block) (put hard r₀ d₀ x) soft filled map
     lies_hard r₀ d₀ x l₀ =
         let written : Bool = is_written m.out d₀ r₀ in
         let place : ℕ = hard_place_of g r₀ in
@@ -82,7 +82,7 @@ module _ (power : ℕ → Power) (m : Meta) (out : Option ℕ) (in_range : IsInR
         }
 
     pub lies_soft : (s₀ e₀ : ℕ) (x : Block) → s₀ < soft_count m
-        → Lies power m out (lay (target_if (is_written m.out e₀ (g.rows + s₀)) e₀ (soft_place_of g m.gear s₀) x) block) hard (put soft s₀ e₀ x) filled map
+        → Lies power m out (overlaid_blocks (target_if (is_written m.out e₀ (g.rows + s₀)) e₀ (soft_place_of g m.gear s₀) x) block) hard (put soft s₀ e₀ x) filled map
     lies_soft s₀ e₀ x l₀ =
         let written : Bool = is_written m.out e₀ (g.rows + s₀) in
         let place : ℕ = soft_place_of g m.gear s₀ in
@@ -106,7 +106,7 @@ module _ (power : ℕ → Power) (m : Meta) (out : Option ℕ) (in_range : IsInR
         }
 
     pub lies_filled : (written : Bool) (s₀ e₀ : ℕ) (x : Block) → written ≡ true → s₀ < m.fill
-        → Lies power m out (lay (target_if written e₀ (soft_place_of g (phase_to m.phase) s₀) x) block) hard soft (put filled s₀ e₀ x) map
+        → Lies power m out (overlaid_blocks (target_if written e₀ (soft_place_of g (phase_to m.phase) s₀) x) block) hard soft (put filled s₀ e₀ x) map
     lies_filled written s₀ e₀ x is_true l₀ =
         let place : ℕ = soft_place_of g (phase_to m.phase) s₀ in
         let to = fill_gear m s₀ in_range l₀ in
@@ -133,20 +133,20 @@ module _ (power : ℕ → Power) (m : Meta) (out : Option ℕ) (in_range : IsInR
     map_twice : (j₀ : ℕ) (b : Block) → Contents
     map_twice j₀ b =
         let u = g.rows + soft_count m + j₀ in
-        lay (target_if (is_written m.out 1 u) 1 (100 + j₀) b) (lay (target_if (is_written m.out 0 u) 0 (100 + j₀) b) block)
+        overlaid_blocks (target_if (is_written m.out 1 u) 1 (100 + j₀) b) (overlaid_blocks (target_if (is_written m.out 0 u) 0 (100 + j₀) b) block)
 
     map_off : (j₀ : ℕ) (b : Block) (d p : ℕ) → p ≢ 100 + j₀ → map_twice j₀ b d p ≡ block d p
     unfolding map_twice
     map_off j₀ b d p apart =
         let u = g.rows + soft_count m + j₀ in
-        lay_off (is_written m.out 1 u) 1 (100 + j₀) b (lay (target_if (is_written m.out 0 u) 0 (100 + j₀) b) block) d p (λ i at. apart at)
+        lay_off (is_written m.out 1 u) 1 (100 + j₀) b (overlaid_blocks (target_if (is_written m.out 0 u) 0 (100 + j₀) b) block) d p (λ i at. apart at)
         ∙ lay_off (is_written m.out 0 u) 0 (100 + j₀) b block d p (λ i at. apart at)
 
-    map_at : (j₀ : ℕ) (b : Block) (x p : ℕ) → x < 2 → p ≡ 100 + j₀ → IsKept power m out x (g.rows + soft_count m + j₀) → map_twice j₀ b x p ≡ b
+    map_at : (j₀ : ℕ) (b : Block) (x p : ℕ) → x < 2 → p ≡ 100 + j₀ → IsUnitKept power m out x (g.rows + soft_count m + j₀) → map_twice j₀ b x p ≡ b
     unfolding map_twice
     map_at j₀ b x p lx at kept =
         let u = g.rows + soft_count m + j₀ in
-        let first : Contents = lay (target_if (is_written m.out 0 u) 0 (100 + j₀) b) block in
+        let first : Contents = overlaid_blocks (target_if (is_written m.out 0 u) 0 (100 + j₀) b) block in
         elim (cases_eq x 0) [
           | inl is ↦ lay_off (is_written m.out 1 u) 1 (100 + j₀) b first x p (λ i _. absurd (omega arith))
               ∙ lay_at (is_written m.out 0 u) 0 (100 + j₀) b block x p (written_as x 0 u u kept is refl) is at
@@ -159,15 +159,15 @@ module _ (power : ℕ → Power) (m : Meta) (out : Option ℕ) (in_range : IsInR
       soft_blocks = λ s e ls le kept. map_off j₀ b e (soft_place_of g m.gear s) (λ at. absurd (omega arith)) ∙ l.soft_blocks s e ls le kept;
       filled_blocks = λ s e ls le. map_off j₀ b e (soft_place_of g (phase_to m.phase) s) (λ at. absurd (omega arith)) ∙ l.filled_blocks s e ls le;
       map_blocks = λ j x lj lx kept. elim (cases_eq j j₀) [
-        | inl is ↦ map_at j₀ b x (100 + j) lx (omega arith) (subst (λ (z : ℕ). IsKept power m out x (g.rows + soft_count m + z)) is kept) ∙ sym (with_at_same map j₀ b j is)
+        | inl is ↦ map_at j₀ b x (100 + j) lx (omega arith) (subst (λ (z : ℕ). IsUnitKept power m out x (g.rows + soft_count m + z)) is kept) ∙ sym (with_at_same map j₀ b j is)
         | inr not ↦ map_off j₀ b x (100 + j) (λ at. absurd (not (omega arith))) ∙ l.map_blocks j x lj lx kept ∙ sym (with_at_other map j₀ b j not)
       ];
     }
 
-    pub lies_map : (j₀ : ℕ) (b : Block) → j₀ < map_count g → Lies power m out (lay (map_targets m j₀ b) block) hard soft filled (with_at map j₀ b)
+    pub lies_map : (j₀ : ℕ) (b : Block) → j₀ < map_count g → Lies power m out (overlaid_blocks (map_targets m j₀ b) block) hard soft filled (with_at map j₀ b)
     unfolding map_twice
     lies_map j₀ b l₀ =
         let u = g.rows + soft_count m + j₀ in
         subst (λ (f : Contents). Lies power m out f hard soft filled (with_at map j₀ b))
-        (sym (lay-append (target_if (is_written m.out 0 u) 0 (100 + j₀) b) (target_if (is_written m.out 1 u) 1 (100 + j₀) b) block))
+        (sym (overlaid_blocks-append (target_if (is_written m.out 0 u) 0 (100 + j₀) b) (target_if (is_written m.out 1 u) 1 (100 + j₀) b) block))
         (lies_map_twice j₀ b l₀)

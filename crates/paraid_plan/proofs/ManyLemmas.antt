@@ -5,12 +5,12 @@ use Rattle.std.proofs.lemmas.List.{append-nil, append_assoc, get_or-take}
 use Rattle.paraid_base.specs.declared.block.Block.{Block}
 use Rattle.paraid_base.specs.declared.pairs.Pairs.{Pairs}
 use Rattle.paraid_base.specs.History.{Entry}
-use Rattle.paraid_base.specs.Pairs.{pairs_of, zipped}
-use Rattle.paraid_base.specs.Xor.{zeroed}
+use Rattle.paraid_base.specs.Pairs.{pairs_of, numbered_blocks}
+use Rattle.paraid_base.specs.Xor.{zero_block}
 use Rattle.paraid_base.proofs.PairsLemmas.{get_or-zipped, length-pairs_of}
 use Rattle.paraid_plan.specs.Desk.{Desk, StageAll, StagesWrite, sees}
-use Rattle.paraid_plan.specs.Staged.{lay, write_targets}
-use Rattle.paraid_plan.proofs.LayLemmas.{lay-append}
+use Rattle.paraid_plan.specs.WriteTargets.{overlaid_blocks, write_targets}
+use Rattle.paraid_plan.proofs.LayLemmas.{overlaid_blocks-append}
 use Rattle.paraid_record.specs.declared.meta.Meta.{Meta}
 use Rattle.paraid_image.specs.Sides.{Batch}
 
@@ -24,10 +24,10 @@ stage_more m a b c (x ∷ ws) w all low st = (all.0, all.1, all.2, stage_more m 
 pub record AreLaid (before after : Desk) : Type 0 where
   pub targets : Batch
   pub staged : after.staged ≡ before.staged ++ targets
-  pub block : after.block ≡ lay targets before.block
+  pub block : after.block ≡ overlaid_blocks targets before.block
 
 pub staged_laid : (m : Meta) (before after : Desk) (ws : Entry) → StageAll m before after ws → AreLaid before after
-unfolding lay
+unfolding overlaid_blocks
 staged_laid m before after [] all = record {
   targets = [];
   staged = ap (λ (s : Desk). s.staged) (sym all) ∙ sym (append-nil before.staged);
@@ -40,7 +40,7 @@ staged_laid m before after (w ∷ ws) all =
     record {
       targets = first ++ rest.targets;
       staged = rest.staged ∙ ap (λ (z : Batch). z ++ rest.targets) one.targets ∙ append_assoc before.staged first rest.targets;
-      block = rest.block ∙ ap (lay rest.targets) one.blocks ∙ sym (lay-append first rest.targets before.block);
+      block = rest.block ∙ ap (overlaid_blocks rest.targets) one.blocks ∙ sym (overlaid_blocks-append first rest.targets before.block);
     }
 
 -- each pair is on a block of the array
@@ -48,6 +48,6 @@ pub pair_below : (p : Pairs) (count i : ℕ) → All (λ (pair : ℕ × Block). 
 unfolding pairs_of
 pair_below p count i all l =
     let long = length-pairs_of p in
-    let at : get_or (take p.count (zipped p.blocks p.bytes)) i (0, zeroed) ≡ (get_or p.blocks i 0, get_or p.bytes i zeroed) =
-    get_or-take p.count (zipped p.blocks p.bytes) i (0, zeroed) l ∙ get_or-zipped p.blocks p.bytes i 0 zeroed (p.blocks_whole ∙ sym p.bytes_whole) in
-    subst (λ (pair : ℕ × Block). pair.0 < count) at (all i (0, zeroed) (omega (arith, long, l)))
+    let at : get_or (take p.count (numbered_blocks p.blocks p.bytes)) i (0, zero_block) ≡ (get_or p.blocks i 0, get_or p.bytes i zero_block) =
+    get_or-take p.count (numbered_blocks p.blocks p.bytes) i (0, zero_block) l ∙ get_or-zipped p.blocks p.bytes i 0 zero_block (p.blocks_whole ∙ sym p.bytes_whole) in
+    subst (λ (pair : ℕ × Block). pair.0 < count) at (all i (0, zero_block) (omega (arith, long, l)))

@@ -8,13 +8,13 @@ use Rattle.paraid_base.specs.declared.block.Block.{Block}
 use Rattle.paraid_base.specs.declared.geometry.Geometry.{Geometry}
 use Rattle.paraid_base.specs.Regions.{disk_size, hard_place_of, map_count, soft_place_of}
 use Rattle.paraid_base.specs.Sums.{xor_upto}
-use Rattle.paraid_base.specs.Xor.{zeroed}
+use Rattle.paraid_base.specs.Xor.{zero_block}
 use Rattle.paraid_base.proofs.RegionsLemmas.{hard_place_below, soft_place_below}
 use Rattle.paraid_image.specs.Sound.{IsWellKept}
-use Rattle.paraid_plan.specs.Staged.{lay, map_targets, soft_count}
+use Rattle.paraid_plan.specs.WriteTargets.{overlaid_blocks, map_targets, soft_count}
 use Rattle.paraid_dirty.specs.Table.{ShowsBits}
-use Rattle.paraid_plan.specs.Stored.{AreBits, IsKept, Lies, Stored, hard_at}
-use Rattle.paraid_plan.specs.Stored.IsKept.{there}
+use Rattle.paraid_plan.specs.StoredCells.{AreBits, IsUnitKept, Lies, StoresCells, hard_at}
+use Rattle.paraid_plan.specs.StoredCells.IsUnitKept.{there}
 use Rattle.paraid_plan.proofs.KeptLemmas.{value_is, well_kept}
 use Rattle.paraid_plan.proofs.LiesLemmas.{fill_gear, lies_map}
 use Rattle.paraid_plan.proofs.OutsLemmas.{alone_by, map_disk_cases}
@@ -45,7 +45,7 @@ map_disk_low o = elim (map_disk_cases o) [ inl at ↦ let z = at.0 in omega arit
 
 -- what is stored depends on the dirty bits of the array's rows alone
 pub stored_dirty : (power : ℕ → Power) (m : Meta) (out : Option ℕ) (block : Contents) (was now : ℕ → ℕ → Bool) (val : ℕ → ℕ → Block) (map : ℕ → Block)
-    → ((q e : ℕ) → q < m.setup.geometry.rows → now q e ≡ was q e) → Stored power m out block was val map → Stored power m out block now val map
+    → ((q e : ℕ) → q < m.setup.geometry.rows → now q e ≡ was q e) → StoresCells power m out block was val map → StoresCells power m out block now val map
 stored_dirty power m out block was now val map same st = record {
   hard = st.hard;
   soft = st.soft;
@@ -62,7 +62,7 @@ stored_dirty power m out block was now val map same st = record {
 
 stored_map : (power : ℕ → Power) (m : Meta) (out : Option ℕ) (block : Contents) (dirty : ℕ → ℕ → Bool) (val : ℕ → ℕ → Block) (map : ℕ → Block) (j : ℕ) (b : Block)
     → IsInRange m → out ≡ named_out m.out → j < map_count m.setup.geometry
-    → Stored power m out block dirty val map → Stored power m out (lay (map_targets m j b) block) dirty val (with_at map j b)
+    → StoresCells power m out block dirty val map → StoresCells power m out (overlaid_blocks (map_targets m j b) block) dirty val (with_at map j b)
 stored_map power m out block dirty val map j b in_range named l st = record {
   hard = st.hard;
   soft = st.soft;
@@ -77,7 +77,7 @@ stored_map power m out block dirty val map j b in_range named l st = record {
 -- and on the blocks of places that are kept alone
 pub lies_same : (power : ℕ → Power) (m : Meta) (out : Option ℕ) (block after : Contents) (hard soft filled : ℕ → ℕ → Block) (map : ℕ → Block)
     → IsInRange m → out ≡ named_out m.out
-    → ((d u p : ℕ) → d < m.setup.geometry.disks → IsKept power m out d u → 100 ≤ p → p < disk_size m.setup.geometry → after d p ≡ block d p)
+    → ((d u p : ℕ) → d < m.setup.geometry.disks → IsUnitKept power m out d u → 100 ≤ p → p < disk_size m.setup.geometry → after d p ≡ block d p)
     → Lies power m out block hard soft filled map → Lies power m out after hard soft filled map
 lies_same power m out block after hard soft filled map in_range named same l =
     let g = m.setup.geometry in
@@ -101,8 +101,8 @@ lies_same power m out block after hard soft filled map in_range named same l =
     none_out e s l is = let z : ◌≡◌ {A = Option ℕ} None (Some e) = sym (named ∙ alone_by m.out m.fill s in_range.shift.still l) ∙ is in cc
 
 stored_none : (power : ℕ → Power) (m : Meta) (out : Option ℕ) (block : Contents) (dirty : ℕ → ℕ → Bool) (val : ℕ → ℕ → Block) (map : ℕ → Block)
-    → Stored power m out block dirty val map → Stored power m out (lay [] block) dirty val map
-unfolding lay
+    → StoresCells power m out block dirty val map → StoresCells power m out (overlaid_blocks [] block) dirty val map
+unfolding overlaid_blocks
 stored_none power m out block dirty val map st = st
 
 module _ (slots : ℕ) (power : ℕ → Power) (size : ℕ → ℕ) (m : Meta) (out : Option ℕ) (dirty : ℕ → ℕ → Bool) (block : Contents)
@@ -110,14 +110,14 @@ module _ (slots : ℕ) (power : ℕ → Power) (size : ℕ → ℕ) (m : Meta) (
     (dirty_shown : (q e : ℕ) → q < 512 * map_count m.setup.geometry → dirty q e ≡ map_bit m.setup.geometry (block (map_disk out)) q e)
     (disks : AreDisks slots power size m out)
     (r : ℕ) (lr : r < m.setup.geometry.rows) (between : Contents) (bits : ℕ → ℕ → Bool) (val : ℕ → ℕ → Block)
-    (stored : Stored power m out between bits val (λ j. block (map_disk out) (100 + j)))
-    (rows_zero : (q : ℕ) → q < m.setup.geometry.rows → xor_upto (val q) m.setup.geometry.disks ≡ zeroed) (are_bits : AreBits m bits)
+    (stored : StoresCells power m out between bits val (λ j. block (map_disk out) (100 + j)))
+    (rows_zero : (q : ℕ) → q < m.setup.geometry.rows → xor_upto (val q) m.setup.geometry.disks ≡ zero_block) (are_bits : AreBits m bits)
     (other_row : (q e : ℕ) → q ≢ r → bits q e ≡ dirty q e)
     (staged : Bool) (shows : Block) (shows_bits : staged ≡ true → ShowsBits shows (r / 512) bits)
     (same_bits : staged ≡ false → (e : ℕ) → bits r e ≡ dirty r e)
     (final : Contents)
-    (is_final : (d u p : ℕ) → d < m.setup.geometry.disks → IsKept power m out d u → 100 ≤ p → p < disk_size m.setup.geometry
-    → final d p ≡ lay (if staged then map_targets m (r / 512) shows else []) between d p) where
+    (is_final : (d u p : ℕ) → d < m.setup.geometry.disks → IsUnitKept power m out d u → 100 ≤ p → p < disk_size m.setup.geometry
+    → final d p ≡ overlaid_blocks (if staged then map_targets m (r / 512) shows else []) between d p) where
   abbrev v : View
   v = record { meta = m; dirty = dirty; out = out; block = block }
 
@@ -162,23 +162,23 @@ module _ (slots : ℕ) (power : ℕ → Power) (size : ℕ → ℕ) (m : Meta) (
   w = record { meta = m; dirty = map_bit m.setup.geometry (final (map_disk out)); out = out; block = final }
 
   abbrev last : Bool → Contents
-  last staged = lay (if staged then map_targets m (r / 512) shows else []) between
+  last staged = overlaid_blocks (if staged then map_targets m (r / 512) shows else []) between
 
   record Ends : Type 0 where
     map : ℕ → Block
-    stored_in : Stored power m v.out (last staged) bits val map
+    stored_in : StoresCells power m v.out (last staged) bits val map
     shown_now : Shows map
 
   ends_by : (s : Bool) → staged ≡ s → Ends
   ends_by true is = record {
     map = with_at map0 (r / 512) shows;
-    stored_in = subst (λ (f : Contents). Stored power m v.out f bits val (with_at map0 (r / 512) shows)) (sym (ap last is))
+    stored_in = subst (λ (f : Contents). StoresCells power m v.out f bits val (with_at map0 (r / 512) shows)) (sym (ap last is))
         (stored_map power m v.out between bits val map0 (r / 512) shows in_range named (let l = lr in omega arith) stored);
     shown_now = shows_new (shows_bits is);
   }
   ends_by false is = record {
     map = map0;
-    stored_in = subst (λ (f : Contents). Stored power m v.out f bits val map0) (sym (ap last is))
+    stored_in = subst (λ (f : Contents). StoresCells power m v.out f bits val map0) (sym (ap last is))
         (stored_none power m v.out between bits val map0 stored);
     shown_now = shows_old (same_bits is);
   }
@@ -186,7 +186,7 @@ module _ (slots : ℕ) (power : ℕ → Power) (size : ℕ → ℕ) (m : Meta) (
   ends : Ends
   ends = ends_by staged refl
 
-  stored_final : Stored power m v.out final bits val ends.map
+  stored_final : StoresCells power m v.out final bits val ends.map
   stored_final = record {
     hard = ends.stored_in.hard;
     soft = ends.stored_in.soft;
@@ -212,7 +212,7 @@ module _ (slots : ℕ) (power : ℕ → Power) (size : ℕ → ℕ) (m : Meta) (
     disks = λ q e l h. are_bits.disks q e l (sym (dirty_is q e l) ∙ h);
   }
 
-  stored_now : Stored power m w.out w.block w.dirty val ends.map
+  stored_now : StoresCells power m w.out w.block w.dirty val ends.map
   stored_now = stored_dirty power m v.out final bits w.dirty val ends.map (λ q e l. dirty_is q e (omega arith)) stored_final
 
   pub kept_now : IsWellKept slots power size w

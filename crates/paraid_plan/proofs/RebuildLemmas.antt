@@ -10,9 +10,9 @@ use Rattle.paraid_base.specs.Cells.{home_disk, home_row}
 use Rattle.paraid_base.specs.Regions.{hard_place_of, map_count}
 use Rattle.paraid_base.proofs.CellsLemmas.{home_disk_below, home_row_below}
 use Rattle.paraid_image.specs.Sound.{IsWellKept}
-use Rattle.paraid_plan.specs.Staged.{soft_count}
-use Rattle.paraid_plan.specs.Stored.{AreBits, IsKept, Lies, Stored, hard_at}
-use Rattle.paraid_plan.specs.Stored.IsKept.{there, rebuilt}
+use Rattle.paraid_plan.specs.WriteTargets.{soft_count}
+use Rattle.paraid_plan.specs.StoredCells.{AreBits, IsUnitKept, Lies, StoresCells, hard_at}
+use Rattle.paraid_plan.specs.StoredCells.IsUnitKept.{there, rebuilt}
 use Rattle.paraid_plan.specs.Units.{IsRebuiltUnit, IsSameHeld, RebuildKeeps}
 use Rattle.paraid_plan.proofs.KeptLemmas.{stripe_block_is, value_is, well_kept}
 use Rattle.paraid_plan.proofs.MapLemmas.{map_disk_in, map_disk_low}
@@ -67,7 +67,7 @@ module _ (slots : ℕ) (power : ℕ → Power) (size : ℕ → ℕ) (m : Meta) (
   named = is_out ∙ sym is_named
 
   -- what was kept, and the unit
-  was_kept : (e k : ℕ) → IsKept power now (Some d) e k → (e ≡ d → k ≢ u) → IsKept power m v.out e k
+  was_kept : (e k : ℕ) → IsUnitKept power now (Some d) e k → (e ≡ d → k ≢ u) → IsUnitKept power m v.out e k
   was_kept e k (there apart) other = there (λ is. apart (sym is_out ∙ is))
   was_kept e k (rebuilt count fresh l) other =
       let same : ◌≡◌ {A = Out} (Fresh d (u + 1)) (Fresh e count) = fresh.is in
@@ -76,7 +76,7 @@ module _ (slots : ℕ) (power : ℕ → Power) (size : ℕ → ℕ) (m : Meta) (
       let apart = other disk in
       rebuilt u (record { is = is_fresh ∙ ap (λ (z : ℕ). Fresh z u) (sym disk); present = fresh.present }) (omega arith)
 
-  stored : Stored power m v.out v.block v.dirty (value v) (λ j. block (map_disk v.out) (100 + j))
+  stored : StoresCells power m v.out v.block v.dirty (value v) (λ j. block (map_disk v.out) (100 + j))
   stored = stored_of slots power size v in_range named kept
 
   abbrev map0 : ℕ → Block
@@ -146,7 +146,7 @@ module _ (slots : ℕ) (power : ℕ → Power) (size : ℕ → ℕ) (m : Meta) (
   unfolding hard_at
   same_hard q e l = ap (λ (z : Bool). hard_at m z e) (dirty_is q e (omega arith))
 
-  stored_now : Stored power now w.out w.block w.dirty (value v) map0
+  stored_now : StoresCells power now w.out w.block w.dirty (value v) map0
   stored_now = record {
     hard = hard;
     soft = stored.soft;

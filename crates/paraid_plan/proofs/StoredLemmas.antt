@@ -8,13 +8,13 @@ use Rattle.paraid_base.specs.declared.geometry.Geometry.{Geometry}
 use Rattle.paraid_base.specs.Regions.{hard_place_of, map_count, soft_place_of}
 use Rattle.paraid_base.specs.Soft.{soft_disk, soft_stripe}
 use Rattle.paraid_base.specs.Sums.{xor_upto}
-use Rattle.paraid_base.specs.Xor.{xor, zeroed}
+use Rattle.paraid_base.specs.Xor.{xor, zero_block}
 use Rattle.paraid_base.proofs.SumsLemmas.{others_same, whole_from_others, xor_upto_same}
 use Rattle.paraid_base.proofs.XorLemmas.{xor_self}
 use Rattle.paraid_image.specs.Sound.{IsWellKept}
-use Rattle.paraid_plan.specs.Staged.{soft_count, stripe_block}
-use Rattle.paraid_plan.specs.Stored.{IsKept, Stored, hard_at}
-use Rattle.paraid_plan.specs.Stored.IsKept.{there, rebuilt}
+use Rattle.paraid_plan.specs.WriteTargets.{soft_count, stripe_block_now}
+use Rattle.paraid_plan.specs.StoredCells.{IsUnitKept, StoresCells, hard_at}
+use Rattle.paraid_plan.specs.StoredCells.IsUnitKept.{there, rebuilt}
 use Rattle.paraid_plan.proofs.OutsLemmas.{alone_by, map_disk_cases, not_out, only_out, some_out}
 use Rattle.paraid_rack.specs.declared.call.Power.{Power}
 use Rattle.paraid_record.specs.Codes.{phase_to}
@@ -34,20 +34,20 @@ unfolding is_hard
 hard_below v r d l = grind (arith, nat_tests)
 
 pub value_soft : (v : View) (r d : ℕ) → is_hard v r d ≡ false
-    → value v r d ≡ stripe_block v (soft_stripe v.meta.setup.geometry.disks v.meta.gear r d) (soft_disk v.meta.setup.geometry.disks v.meta.gear r d)
-unfolding value near soft_value stripe_block
+    → value v r d ≡ stripe_block_now v (soft_stripe v.meta.setup.geometry.disks v.meta.gear r d) (soft_disk v.meta.setup.geometry.disks v.meta.gear r d)
+unfolding value near soft_value stripe_block_now
 value_soft v r d h = rw h refl
 
 pub value_hard : (v : View) (r d : ℕ) → is_hard v r d ≡ true → is_out v.out d ≡ false → value v r d ≡ v.block d (hard_place_of v.meta.setup.geometry r)
 unfolding value near
 value_hard v r d h o = rw (h, o) refl
 
-pub stripe_there : (v : View) (s e : ℕ) → v.out ≢ Some e → stripe_block v s e ≡ v.block e (soft_place_of v.meta.setup.geometry v.meta.gear s)
-unfolding stripe_block
+pub stripe_there : (v : View) (s e : ℕ) → v.out ≢ Some e → stripe_block_now v s e ≡ v.block e (soft_place_of v.meta.setup.geometry v.meta.gear s)
+unfolding stripe_block_now
 stripe_there v s e apart = rw (not_out v.out e apart) refl
 
-pub stripe_gone : (v : View) (s e : ℕ) → v.out ≡ Some e → stripe_block v s e ≡ stripe_rest v.meta.setup.geometry v.block v.meta.gear s e
-unfolding stripe_block
+pub stripe_gone : (v : View) (s e : ℕ) → v.out ≡ Some e → stripe_block_now v s e ≡ stripe_rest v.meta.setup.geometry v.block v.meta.gear s e
+unfolding stripe_block_now
 stripe_gone v s e is = rw (some_out v.out e is) refl
 
 pub not_true : (b : Bool) → not b ≡ true → b ≡ false
@@ -77,20 +77,20 @@ module _ (slots : ℕ) (power : ℕ → Power) (size : ℕ → ℕ) (v : View) (
   abbrev map_blocks : ℕ → Block
   map_blocks j = v.block (map_disk v.out) (100 + j)
 
-  sums_off : (s : ℕ) → s < soft_count v.meta → ((e : ℕ) → v.out ≡ Some e → v.meta.gear ≤ e) → xor_upto (stripe_block v s) v.meta.gear ≡ zeroed
+  sums_off : (s : ℕ) → s < soft_count v.meta → ((e : ℕ) → v.out ≡ Some e → v.meta.gear ≤ e) → xor_upto (stripe_block_now v s) v.meta.gear ≡ zero_block
   sums_off s ls off =
-      xor_upto_same (stripe_block v s) (stripe g v.block v.meta.gear s) v.meta.gear (λ e le. stripe_there v s e (λ is. let k = off e is in absurd (omega arith)))
+      xor_upto_same (stripe_block_now v s) (stripe g v.block v.meta.gear s) v.meta.gear (λ e le. stripe_there v s e (λ is. let k = off e is in absurd (omega arith)))
       ∙ kept.stripes off s ls
 
-  sums_out : (s o : ℕ) → o < v.meta.gear → v.out ≡ Some o → xor_upto (stripe_block v s) v.meta.gear ≡ zeroed
+  sums_out : (s o : ℕ) → o < v.meta.gear → v.out ≡ Some o → xor_upto (stripe_block_now v s) v.meta.gear ≡ zero_block
   sums_out s o lo is =
-      whole_from_others (stripe_block v s) o v.meta.gear lo
-      ∙ ap (λ z. xor z (stripe_block v s o)) (others_same (stripe_block v s) (stripe g v.block v.meta.gear s) o v.meta.gear
+      whole_from_others (stripe_block_now v s) o v.meta.gear lo
+      ∙ ap (λ z. xor z (stripe_block_now v s o)) (others_same (stripe_block_now v s) (stripe g v.block v.meta.gear s) o v.meta.gear
       (λ e le apart. stripe_there v s e (only_out v.out o e is apart)))
       ∙ ap (xor (stripe_rest g v.block v.meta.gear s o)) (stripe_gone v s o is)
       ∙ xor_self (stripe_rest g v.block v.meta.gear s o)
 
-  sums_by : (s : ℕ) (o : Option ℕ) → s < soft_count v.meta → v.out ≡ o → xor_upto (stripe_block v s) v.meta.gear ≡ zeroed
+  sums_by : (s : ℕ) (o : Option ℕ) → s < soft_count v.meta → v.out ≡ o → xor_upto (stripe_block_now v s) v.meta.gear ≡ zero_block
   sums_by s None ls is = sums_off s ls (λ e k. let z : None ≡ Some e = sym is ∙ k in cc)
   sums_by s (Some o) ls is = elim (cases_lt o v.meta.gear) [
     | inl below ↦ sums_out s o below is
@@ -100,20 +100,20 @@ module _ (slots : ℕ) (power : ℕ → Power) (size : ℕ → ℕ) (v : View) (
   alone : (s : ℕ) → s < v.meta.fill → v.out ≡ None
   alone s l = named ∙ alone_by v.meta.out v.meta.fill s in_range.shift.still l
 
-  hard_kept : (r d : ℕ) → r < g.rows → d < g.disks → v.dirty r d ≡ false → IsKept power v.meta v.out d r → v.block d (hard_place_of g r) ≡ value v r d
+  hard_kept : (r d : ℕ) → r < g.rows → d < g.disks → v.dirty r d ≡ false → IsUnitKept power v.meta v.out d r → v.block d (hard_place_of g r) ≡ value v r d
   hard_kept r d lr ld clean (there apart) = elim (cases_lt d v.meta.gear) [
     | inl below ↦ sym (value_hard v r d (hard_below v r d below) (not_out v.out d apart))
     | inr above ↦ kept.clean r d lr above ld apart clean
   ]
   hard_kept r d lr ld clean (rebuilt count fresh l) = (kept.rebuilt d count fresh).rows r lr l (λ _. clean)
 
-  soft_kept : (s e : ℕ) → s < soft_count v.meta → e < v.meta.gear → IsKept power v.meta v.out e (g.rows + s)
-      → v.block e (soft_place_of g v.meta.gear s) ≡ stripe_block v s e
+  soft_kept : (s e : ℕ) → s < soft_count v.meta → e < v.meta.gear → IsUnitKept power v.meta v.out e (g.rows + s)
+      → v.block e (soft_place_of g v.meta.gear s) ≡ stripe_block_now v s e
   soft_kept s e ls le (there apart) = sym (stripe_there v s e apart)
   soft_kept s e ls le (rebuilt count fresh l) =
       (kept.rebuilt e count fresh).stripes s (below_stripes v s e le ls) l ∙ sym (stripe_gone v s e (named ∙ ap named_out fresh.is))
 
-  map_kept : (j x : ℕ) → j < map_count g → x < 2 → IsKept power v.meta v.out x (g.rows + soft_count v.meta + j)
+  map_kept : (j x : ℕ) → j < map_count g → x < 2 → IsUnitKept power v.meta v.out x (g.rows + soft_count v.meta + j)
       → v.block x (100 + j) ≡ v.block (map_disk v.out) (100 + j)
   map_kept j x lj lx (there apart) = elim (map_disk_cases v.out) [
     | inl at ↦ elim (cases_eq x 0) [
@@ -137,10 +137,10 @@ module _ (slots : ℕ) (power : ℕ → Power) (size : ℕ → ℕ) (v : View) (
       ] in
       (kept.rebuilt x count fresh).map_blocks j lx lj (omega arith) ∙ ap (λ (y : ℕ). v.block y (100 + j)) other
 
-  pub stored_of : Stored power v.meta v.out v.block v.dirty (value v) (λ j. v.block (map_disk v.out) (100 + j))
+  pub stored_of : StoresCells power v.meta v.out v.block v.dirty (value v) (λ j. v.block (map_disk v.out) (100 + j))
   stored_of = record {
     hard = hard_blocks;
-    soft = stripe_block v;
+    soft = stripe_block_now v;
     filled = filled_blocks;
     lies = record {
       hard_blocks = λ r d lr ld k. elim (cases_Bool (v.dirty r d)) [

@@ -9,7 +9,7 @@ use Rattle.paraid_base.specs.Xor.{xor}
 use Rattle.paraid_base.proofs.SkipsLemmas.{skip_apart, skip_other}
 use Rattle.paraid_base.proofs.SoftLemmas.{cell_number_below, number_at_cell, soft_disk_below, soft_disk_other, soft_parity_disk_below, soft_places_differ}
 use Rattle.paraid_base.proofs.SumsLemmas.{parity_kept, xor_upto_same}
-use Rattle.paraid_plan.specs.Stored.{ArePads, AreStripes}
+use Rattle.paraid_plan.specs.StoredCells.{ArePads, AreStripes}
 use Rattle.paraid_plan.proofs.LayLemmas.{cases_both, put, put_at, put_off}
 
 -- the cell is none of those that the stripes store

@@ -9,9 +9,9 @@ use Rattle.paraid_base.specs.declared.state.Out.TheVariants.{Fresh}
 use Rattle.paraid_base.specs.Regions.{hard_place_of, map_count, soft_place_of}
 use Rattle.paraid_base.specs.Soft.{stripe_count}
 use Rattle.paraid_base.proofs.RegionsLemmas.{hard_below_soft}
-use Rattle.paraid_plan.specs.Staged.{lay, soft_count, stripe_block}
-use Rattle.paraid_plan.specs.Stored.{IsKept}
-use Rattle.paraid_plan.specs.Stored.IsKept.{there, rebuilt}
+use Rattle.paraid_plan.specs.WriteTargets.{overlaid_blocks, soft_count, stripe_block_now}
+use Rattle.paraid_plan.specs.StoredCells.{IsUnitKept}
+use Rattle.paraid_plan.specs.StoredCells.IsUnitKept.{there, rebuilt}
 use Rattle.paraid_plan.specs.Units.{IsRebuiltUnit, UnitKeeps, unit_block, unit_place, unit_targets}
 use Rattle.paraid_plan.proofs.LayLemmas.{lay_at, lay_off}
 use Rattle.paraid_plan.proofs.RebuildLemmas.{rebuild_keeps}
@@ -61,7 +61,7 @@ module _ (power : ℕ → Power) (v : View) (d u : ℕ) (is_fresh : v.meta.out �
   unfolding unit_block
   block_row l = three_ways u g.rows (stripes_on v d) _ _ _ l
 
-  block_stripe : g.rows ≤ u → u < g.rows + on → unit_block v d u ≡ stripe_block v (u - g.rows) d
+  block_stripe : g.rows ≤ u → u < g.rows + on → unit_block v d u ≡ stripe_block_now v (u - g.rows) d
   unfolding unit_block
   block_stripe l k = second_way u g.rows (stripes_on v d) _ _ _ l k
 
@@ -70,15 +70,15 @@ module _ (power : ℕ → Power) (v : View) (d u : ℕ) (is_fresh : v.meta.out �
   block_map l = third_way u g.rows (stripes_on v d) _ _ _ l
 
   -- a unit that is kept comes before this one
-  before : (k : ℕ) → IsKept power v.meta v.out d k → k < u
+  before : (k : ℕ) → IsUnitKept power v.meta v.out d k → k < u
   before k (there apart) = absurd (apart is_out)
   before k (rebuilt count fresh l) = let same : ◌≡◌ {A = Out} (Fresh d u) (Fresh d count) = sym is_fresh ∙ fresh.is in let number : count ≡ u = cc in omega arith
 
-  kept_before : (e k : ℕ) → IsKept power v.meta v.out e k → e ≡ d → k < u
-  kept_before e k kept is = before k (subst (λ (z : ℕ). IsKept power v.meta v.out z k) is kept)
+  kept_before : (e k : ℕ) → IsUnitKept power v.meta v.out e k → e ≡ d → k < u
+  kept_before e k kept is = before k (subst (λ (z : ℕ). IsUnitKept power v.meta v.out z k) is kept)
 
   abbrev after : Contents
-  after = lay (unit_targets v d u) v.block
+  after = overlaid_blocks (unit_targets v d u) v.block
 
   abbrev written : Bool
   written = not (nat_lt u g.rows && v.dirty u d)
@@ -107,7 +107,7 @@ module _ (power : ℕ → Power) (v : View) (d u : ℕ) (is_fresh : v.meta.out �
   map_few : g.rows + on ≤ u → u - (g.rows + on) < map_count g
   map_few l = few (nat_lt d v.meta.gear) (nat_lt d 2) (stripe_count g.disks g.rows v.meta.gear) left l
 
-  hard_apart : (e r : ℕ) → IsKept power v.meta v.out e r → r < g.rows → e ≡ d → hard_place_of g r ≢ unit_place v d u
+  hard_apart : (e r : ℕ) → IsUnitKept power v.meta v.out e r → r < g.rows → e ≡ d → hard_place_of g r ≢ unit_place v d u
   hard_apart e r kept lr is same =
       let first = kept_before e r kept is in
       elim (cases_lt u g.rows) [
@@ -124,7 +124,7 @@ module _ (power : ℕ → Power) (v : View) (d u : ℕ) (is_fresh : v.meta.out �
     stripe = λ s ls is.
         let index : u - g.rows ≡ s = omega arith in
         at (soft_place_of g v.meta.gear s) (past_rows (omega arith)) (let p = place_stripe (omega arith) (omega arith) in omega arith)
-        ∙ block_stripe (omega arith) (omega arith) ∙ ap (λ (z : ℕ). stripe_block v z d) index;
+        ∙ block_stripe (omega arith) (omega arith) ∙ ap (λ (z : ℕ). stripe_block_now v z d) index;
     map_block = λ j two lj is.
         let index : u - (g.rows + on) ≡ j = omega arith in
         at (100 + j) (past_rows (omega arith)) (let p = place_map (omega arith) in omega arith)
@@ -146,5 +146,5 @@ module _ (power : ℕ → Power) (v : View) (d u : ℕ) (is_fresh : v.meta.out �
 pub unit_keeps : UnitKeeps
 unit_keeps slots power size m block d u in_range is left kept =
     let out : out_disk power m ≡ Some d = ap (λ (o : Option ℕ). or_else o (first_absent power m.setup.geometry.disks)) (ap named_out is) in
-    rebuild_keeps slots power size m block (lay (unit_targets (view_by m power block) d u) block) d u in_range is left kept
+    rebuild_keeps slots power size m block (overlaid_blocks (unit_targets (view_by m power block) d u) block) d u in_range is left kept
     (unit_is power (view_by m power block) d u is out left (m.setup.geometry.gears_low m.gear in_range.gear))

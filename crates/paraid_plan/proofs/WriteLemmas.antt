@@ -5,21 +5,21 @@ use Rattle.std.proofs.lemmas.Bool.{cases_eq}
 use Rattle.std.proofs.lemmas.Bool.Decides.{nat_tests}
 use Rattle.paraid_base.specs.declared.block.Block.{Block}
 use Rattle.paraid_base.specs.declared.geometry.Geometry.{Geometry}
-use Rattle.paraid_base.specs.Cells.{block_of, home_disk, home_row, parity_disk}
+use Rattle.paraid_base.specs.Cells.{cell_block, home_disk, home_row, parity_disk}
 use Rattle.paraid_base.specs.History.{last_of}
 use Rattle.paraid_base.specs.Regions.{disk_size, map_count}
 use Rattle.paraid_base.specs.Sums.{xor_upto}
-use Rattle.paraid_base.specs.Xor.{xor, zeroed}
-use Rattle.paraid_base.proofs.CellsLemmas.{block_of-home, home_disk_below, home_disk_other, home_row_below, parity_disk_below}
+use Rattle.paraid_base.specs.Xor.{xor, zero_block}
+use Rattle.paraid_base.proofs.CellsLemmas.{cell_block-home, home_disk_below, home_disk_other, home_row_below, parity_disk_below}
 use Rattle.paraid_base.proofs.SumsLemmas.{parity_kept, xor_upto_same}
 use Rattle.paraid_plan.specs.Desk.{AreWritten, Desk, DeskWriteKeeps, ManyWritesKeep, sees}
 use Rattle.paraid_image.specs.Sound.{IsWellKept}
-use Rattle.paraid_plan.specs.Staged.{cell_targets, goes_hard, lay, map_targets, row_parity, with_cell, with_cells, write_targets}
-use Rattle.paraid_plan.specs.Stored.{AreBits, IsKept, Stored}
-use Rattle.paraid_plan.specs.Written.{IsMapOf, IsWritten, WriteKeeps}
+use Rattle.paraid_plan.specs.WriteTargets.{cell_targets, goes_hard, overlaid_blocks, map_targets, row_parity, view_with_cell, with_cells, write_targets}
+use Rattle.paraid_plan.specs.StoredCells.{AreBits, IsUnitKept, StoresCells}
+use Rattle.paraid_plan.specs.Written.{IsMapOf, IsWellWritten, WriteKeeps}
 use Rattle.paraid_plan.proofs.CellLemmas.{bits_changed, cell_stored, goes_parked}
 use Rattle.paraid_plan.proofs.KeptLemmas.{value_is, well_kept}
-use Rattle.paraid_plan.proofs.LayLemmas.{changed_off, lay-append, put, put_at, put_off}
+use Rattle.paraid_plan.proofs.LayLemmas.{changed_off, overlaid_blocks-append, put, put_at, put_off}
 use Rattle.paraid_plan.proofs.MapLemmas.{dirty_is, kept_now, stored_dirty, value_now}
 use Rattle.paraid_plan.proofs.MetaLemmas.{kept_writes, value_writes, with_writes}
 use Rattle.paraid_plan.proofs.StoredLemmas.{stored_of}
@@ -39,8 +39,8 @@ module _ (slots : ℕ) (power : ℕ → Power) (size : ℕ → ℕ) (m : Meta) (
     (kept : IsWellKept slots power size (record { meta = m; dirty = dirty; out = out; block = block }))
     (lb : b < m.setup.geometry.rows * (m.setup.geometry.disks - 1)) (is_map : IsMapOf (record { meta = m; dirty = dirty; out = out; block = block }) b new staged shows)
     (final : Contents)
-    (is_final : (d u p : ℕ) → d < m.setup.geometry.disks → IsKept power m out d u → 100 ≤ p → p < disk_size m.setup.geometry
-    → final d p ≡ lay (write_targets (record { meta = m; dirty = dirty; out = out; block = block }) b new staged shows) block d p) where
+    (is_final : (d u p : ℕ) → d < m.setup.geometry.disks → IsUnitKept power m out d u → 100 ≤ p → p < disk_size m.setup.geometry
+    → final d p ≡ overlaid_blocks (write_targets (record { meta = m; dirty = dirty; out = out; block = block }) b new staged shows) block d p) where
   abbrev v : View
   v = record { meta = m; dirty = dirty; out = out; block = block }
 
@@ -73,13 +73,13 @@ module _ (slots : ℕ) (power : ℕ → Power) (size : ℕ → ℕ) (m : Meta) (
 
   -- what is seen after the data cell, and after the parity cell
   abbrev v1 : View
-  v1 = with_cell v r d (value v r d) new
+  v1 = view_with_cell v r d (value v r d) new
 
   abbrev fixed : Block
   fixed = row_parity v r d new
 
   abbrev v2 : View
-  v2 = with_cell v1 r p (value v r p) fixed
+  v2 = view_with_cell v1 r p (value v r p) fixed
 
   abbrev val1 : ℕ → ℕ → Block
   val1 = put (value v) r d new
@@ -90,13 +90,13 @@ module _ (slots : ℕ) (power : ℕ → Power) (size : ℕ → ℕ) (m : Meta) (
   abbrev map0 : ℕ → Block
   map0 j = block (map_disk v.out) (100 + j)
 
-  stored0 : Stored power m v.out block v.dirty (value v) map0
+  stored0 : StoresCells power m v.out block v.dirty (value v) map0
   stored0 = stored_of slots power size v in_range named kept
 
-  stored1 : Stored power m v.out v1.block v1.dirty val1 map0
+  stored1 : StoresCells power m v.out v1.block v1.dirty val1 map0
   stored1 = cell_stored power v (value v) map0 in_range named stored0 r d (value v r d) new lr ld refl
 
-  stored2 : Stored power m v.out v2.block v2.dirty val2 map0
+  stored2 : StoresCells power m v.out v2.block v2.dirty val2 map0
   stored2 = cell_stored power v1 val1 map0 in_range named stored1 r p (value v r p) fixed lr lp (put_off (value v) r d new r p (λ _ j. apart (sym j)))
 
   -- the bits
@@ -113,7 +113,7 @@ module _ (slots : ℕ) (power : ℕ → Power) (size : ℕ → ℕ) (m : Meta) (
       changed_off v1.dirty r p (not (goes_hard v1 r p)) q e (λ i _. not_it i) ∙ changed_off v.dirty r d (not (goes_hard v r d)) q e (λ i _. not_it i)
 
   -- the rows
-  rows2 : (q : ℕ) → q < g.rows → xor_upto (val2 q) n ≡ zeroed
+  rows2 : (q : ℕ) → q < g.rows → xor_upto (val2 q) n ≡ zero_block
   rows2 q lq = elim (cases_eq q r) [
     | inl is ↦ rw is (parity_kept (value v r) (val2 r) d p n ld lp apart
         (λ e le i j. put_off val1 r p fixed r e (λ _ z. j z) ∙ put_off (value v) r d new r e (λ _ z. i z))
@@ -129,20 +129,20 @@ module _ (slots : ℕ) (power : ℕ → Power) (size : ℕ → ℕ) (m : Meta) (
 
   -- what is seen after all targets
   abbrev targeted : Contents
-  targeted = lay (write_targets v b new staged shows) block
+  targeted = overlaid_blocks (write_targets v b new staged shows) block
 
   abbrev w : View
   w = record { meta = m; dirty = map_bit m.setup.geometry (final (map_disk out)); out = out; block = final }
 
-  last_is : targeted ≡ lay (if staged then map_targets m (r / 512) shows else []) v2.block
+  last_is : targeted ≡ overlaid_blocks (if staged then map_targets m (r / 512) shows else []) v2.block
   last_is =
       let rest : Batch = if staged then map_targets m (r / 512) shows else [] in
       let second : Batch = cell_targets v1 r p (value v r p) fixed in
-      lay-append (cell_targets v r d (value v r d) new) (second ++ rest) block
-      ∙ lay-append second rest v1.block
+      overlaid_blocks-append (cell_targets v r d (value v r d) new) (second ++ rest) block
+      ∙ overlaid_blocks-append second rest v1.block
 
-  final_is : (x u q : ℕ) → x < n → IsKept power m v.out x u → 100 ≤ q → q < disk_size g
-      → final x q ≡ lay (if staged then map_targets m (r / 512) shows else []) v2.block x q
+  final_is : (x u q : ℕ) → x < n → IsUnitKept power m v.out x u → 100 ≤ q → q < disk_size g
+      → final x q ≡ overlaid_blocks (if staged then map_targets m (r / 512) shows else []) v2.block x q
   final_is x u q lx k far near = is_final x u q lx k far near ∙ ap (λ (f : Contents). f x q) last_is
 
   now_kept : IsWellKept slots power size w
@@ -154,7 +154,7 @@ module _ (slots : ℕ) (power : ℕ → Power) (size : ℕ → ℕ) (m : Meta) (
   pub dirty_written : (q e : ℕ) → q < 512 * map_count g → w.dirty q e ≡ (with_cells v r d new).dirty q e
   dirty_written = dirty_is slots power size m out dirty block in_range named dirty_shown kept.disks r lr v2.block v2.dirty val2 stored2 rows2 bits2 other_row staged shows is_map.shows is_map.same final final_is
 
-  pub write_kept : (writes : ℕ) → IsWritten slots power size v (with_writes w writes) b new
+  pub write_kept : (writes : ℕ) → IsWellWritten slots power size v (with_writes w writes) b new
   write_kept writes = record {
     kept = kept_writes slots power size w writes now_kept;
     block = value_writes w writes r d ∙ now_value r d lr ld
@@ -166,13 +166,13 @@ module _ (slots : ℕ) (power : ℕ → Power) (size : ℕ → ℕ) (m : Meta) (
         value_writes w writes q e
         ∙ now_value q e (home_row_below n c g.rows (omega arith) lc) (home_disk_below n c (omega arith))
         ∙ put_off val1 r p fixed q e (λ i j. home_disk_other n c (j ∙ ap (parity_disk n) (sym i)))
-        ∙ put_off (value v) r d new q e (λ i j. differ (sym (block_of-home n c) ∙ ap (λ (z : ℕ). block_of n z e) i ∙ ap (block_of n r) j ∙ block_of-home n b));
+        ∙ put_off (value v) r d new q e (λ i j. differ (sym (cell_block-home n c) ∙ ap (λ (z : ℕ). cell_block n z e) i ∙ ap (cell_block n r) j ∙ cell_block-home n b));
   }
 
 pub write_keeps : WriteKeeps
 write_keeps slots power size m block b new staged map writes in_range named kept lb is_map =
     write_kept slots power size m (out_disk power m) (map_bit m.setup.geometry (block (map_disk (out_disk power m)))) block b new staged map in_range named (λ q e l. refl) kept lb is_map
-    (lay (write_targets (view_by m power block) b new staged map) block)
+    (overlaid_blocks (write_targets (view_by m power block) b new staged map) block)
     (λ d u p ld k far near. refl) writes
 
 -- other dirty bits that agree in the map's rows make no difference
@@ -182,7 +182,7 @@ module _ (slots : ℕ) (power : ℕ → Power) (size : ℕ → ℕ) (v : View) (
   abbrev other : View
   other = record { meta = v.meta; dirty = dirty; out = v.out; block = v.block }
 
-  stored_other : Stored power v.meta v.out v.block dirty (value v) (λ j. v.block (map_disk v.out) (100 + j))
+  stored_other : StoresCells power v.meta v.out v.block dirty (value v) (λ j. v.block (map_disk v.out) (100 + j))
   stored_other = stored_dirty power v.meta v.out v.block v.dirty dirty (value v) (λ j. v.block (map_disk v.out) (100 + j))
       (λ q e l. same q e (omega arith)) (stored_of slots power size v in_range named kept)
 
@@ -206,8 +206,8 @@ module _ (slots : ℕ) (power : ℕ → Power) (size : ℕ → ℕ) (v : View) (
 pub desk_write_keeps : DeskWriteKeeps
 desk_write_keeps slots power size m before after b new in_range desk lb w =
     let out : Option ℕ = named_out m.out in
-    let is_final : (d u p : ℕ) → d < m.setup.geometry.disks → IsKept power m out d u → 100 ≤ p → p < disk_size m.setup.geometry
-    → after.block d p ≡ lay (write_targets (sees m before) b new w.staged w.map) before.block d p = (λ d u p ld k far near. ap (λ (f : Contents). f d p) w.blocks) in
+    let is_final : (d u p : ℕ) → d < m.setup.geometry.disks → IsUnitKept power m out d u → 100 ≤ p → p < disk_size m.setup.geometry
+    → after.block d p ≡ overlaid_blocks (write_targets (sees m before) b new w.staged w.map) before.block d p = (λ d u p ld k far near. ap (λ (f : Contents). f d p) w.blocks) in
     let written = write_kept slots power size m out before.dirty before.block b new w.staged w.map in_range refl desk.shown desk.kept lb w.is_map after.block is_final m.writes in
     let seen : View = record { meta = m; dirty = map_bit m.setup.geometry (after.block (map_disk out)); out = out; block = after.block } in
     let shown : (q e : ℕ) → q < 512 * map_count m.setup.geometry → after.dirty q e ≡ map_bit m.setup.geometry (after.block (map_disk out)) q e =

@@ -5,8 +5,8 @@ use Rattle.paraid_base.specs.Cells.{home_disk, home_row}
 use Rattle.paraid_base.specs.History.{last_of}
 use Rattle.paraid_base.specs.Regions.{hard_place_of, map_count, soft_place_of}
 use Rattle.paraid_base.specs.Soft.{soft_disk, soft_parity_disk, soft_stripe}
-use Rattle.paraid_dirty.specs.Table.{changed}
-use Rattle.paraid_plan.specs.Staged.{cell_targets, goes_hard, is_written, lay, map_targets, target_if, with_cells, write_targets}
+use Rattle.paraid_dirty.specs.Table.{table_with_bit}
+use Rattle.paraid_plan.specs.WriteTargets.{cell_targets, goes_hard, is_written, overlaid_blocks, map_targets, target_if, with_cells, write_targets}
 use Rattle.paraid_dirty.specs.Table.{ShowsBits}
 use Rattle.paraid_image.specs.Sound.{IsWellKept}
 use Rattle.paraid_plan.specs.Written.{IsMapOf}
@@ -27,10 +27,10 @@ pub record Desk : Type 0 where
   pub staged : Batch
 
 unfoldable pub with_targets : Desk → Batch → Desk
-with_targets s batch = record { block = lay batch s.block; dirty = s.dirty; staged = s.staged ++ batch }
+with_targets s batch = record { block = overlaid_blocks batch s.block; dirty = s.dirty; staged = s.staged ++ batch }
 
-unfoldable pub with_bit : Desk → ℕ → ℕ → Bool → Desk
-with_bit s r d bit = record { block = s.block; dirty = changed s.dirty r d bit; staged = s.staged }
+unfoldable pub desk_with_bit : Desk → ℕ → ℕ → Bool → Desk
+desk_with_bit s r d bit = record { block = s.block; dirty = table_with_bit s.dirty r d bit; staged = s.staged }
 
 abbrev pub sees : Meta → Desk → View
 sees m s = record { meta = m; dirty = s.dirty; out = named_out m.out; block = s.block }
@@ -57,7 +57,7 @@ copy_targets m filled r d new parity_block =
 
 -- the desk after the write of a cell
 unfoldable pub cell_desk : Meta → Desk → ℕ → ℕ → Block → Block → Desk
-cell_desk m s r d old new = with_bit (with_targets s (cell_targets (sees m s) r d old new)) r d (not (goes_hard (sees m s) r d))
+cell_desk m s r d old new = desk_with_bit (with_targets s (cell_targets (sees m s) r d old new)) r d (not (goes_hard (sees m s) r d))
 
 -- what is staged for the map
 pub record StagesMap (m : Meta) (before after : Desk) (j : ℕ) (staged : Bool) : Type 0 where
@@ -71,7 +71,7 @@ pub record StagesWrite (m : Meta) (before after : Desk) (b : ℕ) (new : Block) 
   pub map : Block
   pub is_map : IsMapOf (sees m before) b new staged map
   pub targets : after.staged ≡ before.staged ++ write_targets (sees m before) b new staged map
-  pub blocks : after.block ≡ lay (write_targets (sees m before) b new staged map) before.block
+  pub blocks : after.block ≡ overlaid_blocks (write_targets (sees m before) b new staged map) before.block
   pub dirty : after.dirty
       ≡ (with_cells (sees m before) (home_row m.setup.geometry.disks b) (home_disk m.setup.geometry.disks b) new).dirty
 

@@ -1,7 +1,7 @@
-pub mod Staged
-pub mod Stored
+pub mod WriteTargets
+pub mod StoredCells
 pub mod Written
 pub mod Desk
 pub mod Units
 pub mod Placed
-pub mod Marks
+pub mod LossMark

@@ -2,7 +2,7 @@
 use Rattle.std.specs.Prelude.{◌≢◌, ℕ, ◌-◌, ◌*◌, ◌<◌, ◌⊎◌, Bool, Some}
 use Rattle.std.specs.List.{AllByRecursion}
 use Rattle.paraid_base.specs.declared.block.Block.{Block}
-use Rattle.paraid_plan.specs.Staged.{write_targets}
+use Rattle.paraid_plan.specs.WriteTargets.{write_targets}
 use Rattle.paraid_record.specs.declared.meta.Meta.{Meta}
 use Rattle.paraid_record.specs.declared.targets.Target.{Target}
 use Rattle.paraid_record.specs.Range.{IsInRange}

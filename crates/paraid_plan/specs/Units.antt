@@ -7,12 +7,12 @@ use Rattle.paraid_base.specs.Regions.{hard_place_of, map_count, soft_place_of}
 use Rattle.paraid_base.specs.Skips.{place_among}
 use Rattle.paraid_base.specs.Soft.{disk_of_number, number_at, row_of_number, soft_parity_disk}
 use Rattle.paraid_base.specs.Sums.{xor_upto}
-use Rattle.paraid_base.specs.Xor.{zeroed}
-use Rattle.paraid_dirty.specs.Table.{changed}
+use Rattle.paraid_base.specs.Xor.{zero_block}
+use Rattle.paraid_dirty.specs.Table.{table_with_bit}
 use Rattle.paraid_image.specs.Sound.{IsWellKept}
-use Rattle.paraid_plan.specs.Staged.{hard_targets, lay, map_targets, soft_count, stripe_block, target_if}
+use Rattle.paraid_plan.specs.WriteTargets.{hard_targets, overlaid_blocks, map_targets, soft_count, stripe_block_now, target_if}
 use Rattle.paraid_dirty.specs.Table.{ShowsBits}
-use Rattle.paraid_plan.specs.Stored.{IsKept}
+use Rattle.paraid_plan.specs.StoredCells.{IsUnitKept}
 use Rattle.paraid_rack.specs.declared.call.Power.{Power}
 use Rattle.paraid_record.specs.declared.meta.Meta.{Meta}
 use Rattle.paraid_record.specs.Codes.{phase_to}
@@ -38,25 +38,16 @@ abbrev pub SyncKeeps : Type 0
 SyncKeeps = (slots : ℕ) (power : ℕ → Power) (size : ℕ → ℕ) (m : Meta) (block : Contents) (r d : ℕ) (map : Block)
     → IsInRange m → out_disk power m ≡ named_out m.out → IsWellKept slots power size (view_by m power block)
     → r < m.setup.geometry.rows → d < m.setup.geometry.disks → d < rising_to m.phase → named_out m.out ≢ Some d
-    → ShowsBits map (r / 512) (changed (view_by m power block).dirty r d false)
-    → IsSameHeld slots power size (view_by m power block) (view_by m power (lay (sync_targets (view_by m power block) r d map) block))
-
--- the mark of a cell whose value is in its hard place already
-abbrev pub SyncMarksKeep : Type 0
-SyncMarksKeep = (slots : ℕ) (power : ℕ → Power) (size : ℕ → ℕ) (m : Meta) (block : Contents) (r d : ℕ) (map : Block)
-    → IsInRange m → out_disk power m ≡ named_out m.out → IsWellKept slots power size (view_by m power block)
-    → r < m.setup.geometry.rows → d < m.setup.geometry.disks → d < rising_to m.phase → named_out m.out ≢ Some d
-    → ShowsBits map (r / 512) (changed (view_by m power block).dirty r d false)
-    → block d (hard_place_of m.setup.geometry r) ≡ value (view_by m power block) r d
-    → IsSameHeld slots power size (view_by m power block) (view_by m power (lay (map_targets m (r / 512) map) block))
+    → ShowsBits map (r / 512) (table_with_bit (view_by m power block).dirty r d false)
+    → IsSameHeld slots power size (view_by m power block) (view_by m power (overlaid_blocks (sync_targets (view_by m power block) r d map) block))
 
 -- the values of the cells of stripe `s` of region `a`, with zeros in the pads and for the parity
 unfoldable pub stripe_cells : View → ℕ → ℕ → ℕ → Block
 stripe_cells v a s e =
     let g = v.meta.setup.geometry in
     let c = number_at a s (place_among (soft_parity_disk a s) e) in
-    if e == soft_parity_disk a s then zeroed
-    else (if nat_lt c (g.rows * (g.disks - a)) then value v (row_of_number g.disks a c) (disk_of_number g.disks a c) else zeroed)
+    if e == soft_parity_disk a s then zero_block
+    else (if nat_lt c (g.rows * (g.disks - a)) then value v (row_of_number g.disks a c) (disk_of_number g.disks a c) else zero_block)
 
 -- what the stripe ought to hold
 unfoldable pub stripe_content : View → ℕ → ℕ → ℕ → Block
@@ -78,28 +69,20 @@ FillKeeps = (slots : ℕ) (power : ℕ → Power) (size : ℕ → ℕ) (m : Meta
     → IsInRange m → out_disk power m ≡ None → named_out m.out ≡ None → IsWellKept slots power size (view_by m power block)
     → m.fill < fill_limit m.setup.geometry m.phase
     → IsSameHeld slots power size (view_by m power block)
-    (view_by (record m { fill = m.fill + 1 }) power (lay (next_stripe (view_by m power block)) block))
-
--- the mark of a stripe whose copies are in their places already
-abbrev pub FillMarksKeep : Type 0
-FillMarksKeep = (slots : ℕ) (power : ℕ → Power) (size : ℕ → ℕ) (m : Meta) (block : Contents)
-    → IsInRange m → out_disk power m ≡ None → named_out m.out ≡ None → IsWellKept slots power size (view_by m power block)
-    → m.fill < fill_limit m.setup.geometry m.phase
-    → ((e : ℕ) → e < phase_to m.phase → block e (soft_place_of m.setup.geometry (phase_to m.phase) m.fill) ≡ stripe_content (view_by m power block) (phase_to m.phase) m.fill e)
-    → IsSameHeld slots power size (view_by m power block) (view_by (record m { fill = m.fill + 1 }) power block)
+    (view_by (record m { fill = m.fill + 1 }) power (overlaid_blocks (next_stripe (view_by m power block)) block))
 
 -- Unit `u` of disk `d` holds what it ought to, and each place that is kept what it held.
 pub record IsRebuiltUnit (power : ℕ → Power) (v : View) (d u : ℕ) (after : Contents) : Type 0 where
   pub row : u < v.meta.setup.geometry.rows → v.dirty u d ≡ false → after d (hard_place_of v.meta.setup.geometry u) ≡ value v u d
   pub stripe : (s : ℕ) → s < stripes_on v d → v.meta.setup.geometry.rows + s ≡ u
-      → after d (soft_place_of v.meta.setup.geometry v.meta.gear s) ≡ stripe_block v s d
+      → after d (soft_place_of v.meta.setup.geometry v.meta.gear s) ≡ stripe_block_now v s d
   pub map_block : (j : ℕ) → d < 2 → j < map_count v.meta.setup.geometry → v.meta.setup.geometry.rows + stripes_on v d + j ≡ u
       → after d (100 + j) ≡ v.block (other_log d) (100 + j)
-  pub rows_same : (r e : ℕ) → IsKept power v.meta v.out e r → r < v.meta.setup.geometry.rows
+  pub rows_same : (r e : ℕ) → IsUnitKept power v.meta v.out e r → r < v.meta.setup.geometry.rows
       → after e (hard_place_of v.meta.setup.geometry r) ≡ v.block e (hard_place_of v.meta.setup.geometry r)
-  pub stripes_same : (s e : ℕ) → IsKept power v.meta v.out e (v.meta.setup.geometry.rows + s) → s < soft_count v.meta
+  pub stripes_same : (s e : ℕ) → IsUnitKept power v.meta v.out e (v.meta.setup.geometry.rows + s) → s < soft_count v.meta
       → after e (soft_place_of v.meta.setup.geometry v.meta.gear s) ≡ v.block e (soft_place_of v.meta.setup.geometry v.meta.gear s)
-  pub map_same : (j e : ℕ) → IsKept power v.meta v.out e (v.meta.setup.geometry.rows + soft_count v.meta + j) → e < 2 → j < map_count v.meta.setup.geometry
+  pub map_same : (j e : ℕ) → IsUnitKept power v.meta v.out e (v.meta.setup.geometry.rows + soft_count v.meta + j) → e < 2 → j < map_count v.meta.setup.geometry
       → after e (100 + j) ≡ v.block e (100 + j)
 
 abbrev pub RebuildKeeps : Type 0
@@ -119,7 +102,7 @@ unfoldable pub unit_block : View → ℕ → ℕ → Block
 unit_block v d u =
     let g = v.meta.setup.geometry in
     if nat_lt u g.rows then value v u d
-    else (if nat_lt u (g.rows + stripes_on v d) then stripe_block v (u - g.rows) d
+    else (if nat_lt u (g.rows + stripes_on v d) then stripe_block_now v (u - g.rows) d
     else v.block (other_log d) (100 + (u - (g.rows + stripes_on v d))))
 
 -- a dirty cell is stored in its copy alone
@@ -130,4 +113,4 @@ abbrev pub UnitKeeps : Type 0
 UnitKeeps = (slots : ℕ) (power : ℕ → Power) (size : ℕ → ℕ) (m : Meta) (block : Contents) (d u : ℕ)
     → IsInRange m → m.out ≡ Fresh d u → u < rebuild_units m.setup.geometry m.gear d → IsWellKept slots power size (view_by m power block)
     → IsSameHeld slots power size (view_by m power block)
-    (view_by (record m { out = Fresh d (u + 1) }) power (lay (unit_targets (view_by m power block) d u) block))
+    (view_by (record m { out = Fresh d (u + 1) }) power (overlaid_blocks (unit_targets (view_by m power block) d u) block))

@@ -3,7 +3,7 @@ use Rattle.std.specs.Prelude.{◌≡◌, ℕ, ◌-◌, ◌*◌, ◌/◌, ◌<◌
 use Rattle.paraid_base.specs.declared.block.Block.{Block}
 use Rattle.paraid_base.specs.Cells.{home_disk, home_row}
 use Rattle.paraid_image.specs.Sound.{IsWellKept}
-use Rattle.paraid_plan.specs.Staged.{lay, with_cells, write_targets}
+use Rattle.paraid_plan.specs.WriteTargets.{overlaid_blocks, with_cells, write_targets}
 use Rattle.paraid_dirty.specs.Table.{ShowsBits}
 use Rattle.paraid_rack.specs.declared.call.Power.{Power}
 use Rattle.paraid_rack.specs.Disks.{Disks, is_present}
@@ -25,10 +25,10 @@ pub record IsMapOf (v : View) (b : ℕ) (new : Block) (staged : Bool) (map : Blo
 -- What is seen after a write of block `b`: its targets are laid, and the meta counts more writes.
 abbrev pub view_written : Meta → (ℕ → Power) → Contents → ℕ → Block → Bool → Block → ℕ → View
 view_written m power block b new staged map writes =
-    view_by (record m { writes = writes }) power (lay (write_targets (view_by m power block) b new staged map) block)
+    view_by (record m { writes = writes }) power (overlaid_blocks (write_targets (view_by m power block) b new staged map) block)
 
 -- The disks are kept well after a write, and hold the blocks with the one that is written changed.
-pub record IsWritten (slots : ℕ) (power : ℕ → Power) (size : ℕ → ℕ) (v w : View) (b : ℕ) (new : Block) : Type 0 where
+pub record IsWellWritten (slots : ℕ) (power : ℕ → Power) (size : ℕ → ℕ) (v w : View) (b : ℕ) (new : Block) : Type 0 where
   pub kept : IsWellKept slots power size w
   pub block : blocks_of w b ≡ new
   pub others : (c : ℕ) → c < v.meta.setup.geometry.rows * (v.meta.setup.geometry.disks - 1) → (c ≡ b → ⊥) → blocks_of w c ≡ blocks_of v c
@@ -38,12 +38,12 @@ abbrev pub WriteKeeps : Type 0
 WriteKeeps = (slots : ℕ) (power : ℕ → Power) (size : ℕ → ℕ) (m : Meta) (block : Contents) (b : ℕ) (new : Block) (staged : Bool) (map : Block) (writes : ℕ)
     → IsInRange m → out_disk power m ≡ named_out m.out → IsWellKept slots power size (view_by m power block)
     → b < m.setup.geometry.rows * (m.setup.geometry.disks - 1) → IsMapOf (view_by m power block) b new staged map
-    → IsWritten slots power size (view_by m power block) (view_written m power block b new staged map writes) b new
+    → IsWellWritten slots power size (view_by m power block) (view_written m power block b new staged map writes) b new
 
 -- what is seen of an image under a meta, with a batch laid over it
 abbrev pub staged_view : Disks → Meta → Batch → View
 staged_view i m batch = view_by m i.power (contents i batch)
 
 -- an absent disk of the array is the one that the meta names out
-abbrev pub IsNamed : (ℕ → Power) → Meta → Type 0
-IsNamed power m = (d : ℕ) → d < m.setup.geometry.disks → is_present (power d) ≡ false → named_out m.out ≡ Some d
+abbrev pub IsAbsentNamed : (ℕ → Power) → Meta → Type 0
+IsAbsentNamed power m = (d : ℕ) → d < m.setup.geometry.disks → is_present (power d) ≡ false → named_out m.out ≡ Some d

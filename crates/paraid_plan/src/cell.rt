@@ -1,17 +1,19 @@
 //! The write of one cell: to its place or its copy, and to its copy in the region that is filled.
-ghost use Rattle.std.specs.Prelude.{◌≡◌, ℕ, ◌+◌, ◌<◌, ◌≤◌, true, false, length, OnOk};
+ghost use Rattle.std.specs.Prelude.{◌≡◌, ◌≢◌, ℕ, ◌+◌, ◌<◌, ◌≤◌, true, false, length, OnOk, IfErr, Some};
 ghost use Rattle.paraid_base.specs.Soft.{soft_disk, soft_parity_disk, soft_stripe};
 ghost use Rattle.paraid_base.specs.Regions.{soft_place_of};
 ghost use Rattle.paraid_base.specs.Xor.{xor};
-ghost use Rattle.paraid_plan.specs.Desk.{Desk, with_targets, with_bit, sees, place_targets, copy_targets, cell_desk};
-ghost use Rattle.paraid_plan.specs.Staged.{stripe_block, target_if, goes_hard as goes_hard_in, is_written as written_in, is_filled as filled_in};
+ghost use Rattle.paraid_plan.specs.Desk.{Desk, with_targets, desk_with_bit, sees, place_targets, copy_targets, cell_desk};
+ghost use Rattle.paraid_plan.specs.WriteTargets.{stripe_block_now, target_if, goes_hard as goes_hard_in, is_written as written_in, is_filled as filled_in, needs_new as needs_new_in, needs_old as needs_old_in};
 ghost use Rattle.paraid_record.specs.Codes.{phase_to as phase_to_of};
 ghost use Rattle.paraid_record.specs.Range.{IsInRange};
 ghost use Rattle.paraid_record.specs.declared.meta.Meta.{Meta as MetaType};
+ghost use Rattle.paraid_image.specs.Out.{named_out as named_out_of};
 ghost use Rattle.paraid_image.specs.Spot.{is_hard as hard_in};
+ghost use Rattle.paraid_image.specs.Value.{value as value_of};
 
 use crate::desk::{Lost, Plan};
-use crate::marks::{is_filled, is_named, is_written, phase_to, rising_to};
+use crate::marks::{is_filled, is_written};
 use paraid_base::{Block, DiskNo, Place, Row};
 use paraid_layout::{hard_place, soft_of, soft_parity, soft_place};
 use paraid_parity::xor_into;
@@ -24,17 +26,228 @@ fn is_hard<P: Plan>(plan: &P, m: &Meta, r: Row, d: DiskNo) -> bool
     requires disk { d < m.now.setup.geometry.disks }
     ensures { result ≡ hard_in (sees m.now (P.desk plan.now)) r d }
 {
-    d < m.gear || (d < rising_to(m.phase) && !plan.is_dirty(m, r, d))
+    d < m.gear || (d < m.phase.rising_to() && !plan.is_dirty(m, r, d))
 }
 
-#[tactic(auto, unfolding(crate::specs::Staged::goes_hard))]
+#[tactic(auto, unfolding(crate::specs::WriteTargets::goes_hard))]
 fn goes_hard<P: Plan>(plan: &P, m: &Meta, r: Row, d: DiskNo) -> bool
     requires serves { P.serves plan.now m.now }
     requires row { r < m.now.setup.geometry.rows }
     requires disk { d < m.now.setup.geometry.disks }
     ensures { result ≡ goes_hard_in (sees m.now (P.desk plan.now)) r d }
 {
-    is_hard(plan, m, r, d) || (d < rising_to(m.phase) && !is_named(m.out, d))
+    is_hard(plan, m, r, d) || (d < m.phase.rising_to() && !m.out.names(d))
+}
+
+// Whether what a write of this cell stages shows its new value.
+#[tactic(auto, unfolding(crate::specs::WriteTargets::needs_new))]
+fn needs_new<P: Plan>(plan: &P, m: &Meta, r: Row, d: DiskNo) -> bool
+    requires serves { P.serves plan.now m.now }
+    requires in_range { IsInRange m.now }
+    requires row { r < m.now.setup.geometry.rows }
+    requires disk { d < m.now.setup.geometry.disks }
+    ensures { result ≡ needs_new_in (sees m.now (P.desk plan.now)) r d }
+{
+    !goes_hard(plan, m, r, d) || is_written(m.out, d, r) || is_filled(m, r, d)
+}
+
+// Whether the parity of a copy of this cell is written, in the stripe that has its value.
+fn has_parity(m: &Meta, r: Row, d: DiskNo) -> bool
+    requires in_range { IsInRange m.now }
+    requires row { r < m.now.setup.geometry.rows }
+    requires disk { d < m.now.setup.geometry.disks }
+    requires parked { m.now.gear ≤ d }
+    ensures { result ≡ (
+        let s = soft_stripe m.now.setup.geometry.disks m.now.gear r d in
+        written_in m.now.out (soft_parity_disk m.now.gear s) (m.now.setup.geometry.rows + s)) }
+{
+    let (s, _copy) = soft_of(&m.setup.geometry, m.gear, r, d);
+    let parity = soft_parity(&m.setup.geometry, m.gear, s);
+    is_written(m.out, parity, m.setup.geometry.rows + s)
+}
+
+// Whether what a write of this cell stages depends on its old value.
+#[tactic(auto, unfolding(crate::specs::WriteTargets::needs_old))]
+fn needs_old<P: Plan>(plan: &P, m: &Meta, r: Row, d: DiskNo) -> bool
+    requires serves { P.serves plan.now m.now }
+    requires in_range { IsInRange m.now }
+    requires row { r < m.now.setup.geometry.rows }
+    requires disk { d < m.now.setup.geometry.disks }
+    ensures { result ≡ needs_old_in (sees m.now (P.desk plan.now)) r d }
+{
+    if goes_hard(plan, m, r, d) {
+        return is_filled(m, r, d);
+    }
+    has_parity(m, r, d) || is_filled(m, r, d)
+}
+
+// Reads the value of a cell where it is needed.
+fn read_if<P: Plan>(
+    plan: &mut P,
+    m: &Meta,
+    needed: bool,
+    r: Row,
+    d: DiskNo,
+    into: &mut Block,
+) -> Result<(), Lost>
+    requires serves { P.serves plan.old m.now }
+    requires in_range { IsInRange m.now }
+    requires row { r < m.now.setup.geometry.rows }
+    requires disk { d < m.now.setup.geometry.disks }
+    ensures ok { OnOk result (P.tells plan.new → needed ≡ true
+        → into.new ≡ value_of (sees m.now (P.desk plan.old)) r d) }
+    ensures same { OnOk result (P.tells plan.new → P.desk plan.new ≡ P.desk plan.old) }
+    ensures staged { OnOk result
+        (length (P.desk plan.new).staged ≡ length (P.desk plan.old).staged) }
+    ensures changes { OnOk result (P.changes plan.new ≡ P.changes plan.old) }
+    ensures goes_on { OnOk result (P.serves plan.new m.now) }
+    ensures fails { IfErr result (λ lost. P.fails plan.new) }
+    ensures leads { P.leads plan.old plan.new }
+{
+    if !needed {
+        return Ok(());
+    }
+    plan.value(m, r, d, into)?;
+    Ok(())
+}
+
+// Whether the cell is lost, and its old value is needed for nothing but the new parity.
+fn is_made_of_rest<P: Plan>(plan: &P, m: &Meta, r: Row, d: DiskNo) -> bool
+    requires serves { P.serves plan.now m.now }
+    requires in_range { IsInRange m.now }
+    requires row { r < m.now.setup.geometry.rows }
+    requires disk { d < m.now.setup.geometry.disks }
+    ensures out { result ≡ true → named_out_of m.now.out ≡ Some d }
+    ensures hard { result ≡ true → hard_in (sees m.now (P.desk plan.now)) r d ≡ true }
+    ensures data { result ≡ true → needs_old_in (sees m.now (P.desk plan.now)) r d ≡ false }
+{
+    if !m.out.names(d) || !is_hard(plan, m, r, d) {
+        return false;
+    }
+    !needs_old(plan, m, r, d)
+}
+
+// Sums up the rest of a row and the new bytes of a cell that is lost.
+fn read_rest<P: Plan>(
+    plan: &mut P,
+    m: &Meta,
+    r: Row,
+    d: DiskNo,
+    p: DiskNo,
+    bytes: &Block,
+    fixed: &mut Block,
+) -> Result<(), Lost>
+    requires serves { P.serves plan.old m.now }
+    requires in_range { IsInRange m.now }
+    requires row { r < m.now.setup.geometry.rows }
+    requires disk { d < m.now.setup.geometry.disks }
+    requires parity_disk { p < m.now.setup.geometry.disks }
+    requires apart { d ≢ p }
+    requires out { named_out_of m.now.out ≡ Some d }
+    requires hard { hard_in (sees m.now (P.desk plan.old)) r d ≡ true }
+    ensures fixed { OnOk result (P.tells plan.new
+        → fixed.new ≡ xor (value_of (sees m.now (P.desk plan.old)) r p) (xor (value_of (sees m.now (P.desk plan.old)) r d) bytes.now)) }
+    ensures same { OnOk result (P.tells plan.new → P.desk plan.new ≡ P.desk plan.old) }
+    ensures staged { OnOk result
+        (length (P.desk plan.new).staged ≡ length (P.desk plan.old).staged) }
+    ensures changes { OnOk result (P.changes plan.new ≡ P.changes plan.old) }
+    ensures goes_on { OnOk result (P.serves plan.new m.now) }
+    ensures fails { IfErr result (λ lost. P.fails plan.new) }
+    ensures leads { P.leads plan.old plan.new }
+{
+    plan.rest(m, r, d, p, fixed)?;
+    xor_into(fixed, bytes);
+    Ok(())
+}
+
+// Reads the old values of a cell and of the parity of its row, and changes the parity with the cell.
+fn read_both<P: Plan>(
+    plan: &mut P,
+    m: &Meta,
+    r: Row,
+    d: DiskNo,
+    p: DiskNo,
+    bytes: &Block,
+    old: &mut Block,
+    parity: &mut Block,
+    fixed: &mut Block,
+) -> Result<(), Lost>
+    requires serves { P.serves plan.old m.now }
+    requires in_range { IsInRange m.now }
+    requires row { r < m.now.setup.geometry.rows }
+    requires disk { d < m.now.setup.geometry.disks }
+    requires parity_disk { p < m.now.setup.geometry.disks }
+    ensures data { OnOk result (P.tells plan.new → old.new ≡ value_of (sees m.now (P.desk plan.old)) r d) }
+    ensures parity { OnOk result (P.tells plan.new → parity.new ≡ value_of (sees m.now (P.desk plan.old)) r p) }
+    ensures fixed { OnOk result (P.tells plan.new → fixed.new ≡ xor parity.new (xor old.new bytes.now)) }
+    ensures same { OnOk result (P.tells plan.new → P.desk plan.new ≡ P.desk plan.old) }
+    ensures staged { OnOk result
+        (length (P.desk plan.new).staged ≡ length (P.desk plan.old).staged) }
+    ensures changes { OnOk result (P.changes plan.new ≡ P.changes plan.old) }
+    ensures goes_on { OnOk result (P.serves plan.new m.now) }
+    ensures fails { IfErr result (λ lost. P.fails plan.new) }
+    ensures leads { P.leads plan.old plan.new }
+{
+    plan.value(m, r, d, old)?;
+    plan.value(m, r, p, parity)?;
+    let mut change = Block::zero();
+    change.copy_from(old);
+    xor_into(&mut change, bytes);
+    fixed.copy_from(parity);
+    xor_into(fixed, &change);
+    Ok(())
+}
+
+/// Makes the new parity of a row, and reads the old values that are needed of the cell and of the
+/// parity: by the old parity, or where the cell is lost by the rest of the row.
+pub(crate) fn read_old<P: Plan>(
+    plan: &mut P,
+    m: &Meta,
+    r: Row,
+    d: DiskNo,
+    p: DiskNo,
+    bytes: &Block,
+    old: &mut Block,
+    parity: &mut Block,
+    fixed: &mut Block,
+) -> Result<(), Lost>
+    requires serves { P.serves plan.old m.now }
+    requires in_range { IsInRange m.now }
+    requires row { r < m.now.setup.geometry.rows }
+    requires disk { d < m.now.setup.geometry.disks }
+    requires parity_disk { p < m.now.setup.geometry.disks }
+    requires apart { d ≢ p }
+    ensures data { OnOk result (P.tells plan.new
+        → needs_old_in (sees m.now (P.desk plan.old)) r d ≡ true
+        → old.new ≡ value_of (sees m.now (P.desk plan.old)) r d) }
+    ensures parity { OnOk result (P.tells plan.new
+        → needs_new_in (sees m.now (P.desk plan.old)) r p ≡ true
+        → needs_old_in (sees m.now (P.desk plan.old)) r p ≡ true
+        → parity.new ≡ value_of (sees m.now (P.desk plan.old)) r p) }
+    ensures fixed { OnOk result (P.tells plan.new
+        → needs_new_in (sees m.now (P.desk plan.old)) r p ≡ true
+        → fixed.new ≡ xor (value_of (sees m.now (P.desk plan.old)) r p) (xor (value_of (sees m.now (P.desk plan.old)) r d) bytes.now)) }
+    ensures same { OnOk result (P.tells plan.new → P.desk plan.new ≡ P.desk plan.old) }
+    ensures staged { OnOk result
+        (length (P.desk plan.new).staged ≡ length (P.desk plan.old).staged) }
+    ensures changes { OnOk result (P.changes plan.new ≡ P.changes plan.old) }
+    ensures goes_on { OnOk result (P.serves plan.new m.now) }
+    ensures fails { IfErr result (λ lost. P.fails plan.new) }
+    ensures leads { P.leads plan.old plan.new }
+{
+    if !needs_new(plan, m, r, p) {
+        let needed = needs_old(plan, m, r, d);
+        read_if(plan, m, needed, r, d, old)?;
+        return Ok(());
+    }
+    if is_made_of_rest(plan, m, r, d) {
+        let needed = needs_old(plan, m, r, p);
+        read_rest(plan, m, r, d, p, bytes, fixed)?;
+        read_if(plan, m, needed, r, p, parity)?;
+        return Ok(());
+    }
+    read_both(plan, m, r, d, p, bytes, old, parity, fixed)?;
+    Ok(())
 }
 
 // Reads the parity of the stripe of a cell's copy, and changes it with the cell.
@@ -55,12 +268,13 @@ fn read_parity<P: Plan>(
     ensures ok { OnOk result (P.tells plan.new →
         let s = soft_stripe m.now.setup.geometry.disks m.now.gear r d in
         written_in m.now.out (soft_parity_disk m.now.gear s) (m.now.setup.geometry.rows + s) ≡ true
-        → into.new ≡ xor (xor (stripe_block (sees m.now (P.desk plan.old)) s (soft_parity_disk m.now.gear s)) old.now) new.now) }
+        → into.new ≡ xor (xor (stripe_block_now (sees m.now (P.desk plan.old)) s (soft_parity_disk m.now.gear s)) old.now) new.now) }
     ensures same { OnOk result (P.tells plan.new → P.desk plan.new ≡ P.desk plan.old) }
     ensures staged { OnOk result
         (length (P.desk plan.new).staged ≡ length (P.desk plan.old).staged) }
     ensures changes { OnOk result (P.changes plan.new ≡ P.changes plan.old) }
     ensures goes_on { OnOk result (P.serves plan.new m.now) }
+    ensures fails { IfErr result (λ lost. P.fails plan.new) }
     ensures leads { P.leads plan.old plan.new }
 {
     let (s, _copy) = soft_of(&m.setup.geometry, m.gear, r, d);
@@ -93,12 +307,13 @@ fn read_place<P: Plan>(
     ensures ok { OnOk result (P.tells plan.new →
         let s = soft_stripe m.now.setup.geometry.disks m.now.gear r d in hard ≡ false
         → written_in m.now.out (soft_parity_disk m.now.gear s) (m.now.setup.geometry.rows + s) ≡ true
-        → into.new ≡ xor (xor (stripe_block (sees m.now (P.desk plan.old)) s (soft_parity_disk m.now.gear s)) old.now) new.now) }
+        → into.new ≡ xor (xor (stripe_block_now (sees m.now (P.desk plan.old)) s (soft_parity_disk m.now.gear s)) old.now) new.now) }
     ensures same { OnOk result (P.tells plan.new → P.desk plan.new ≡ P.desk plan.old) }
     ensures staged { OnOk result
         (length (P.desk plan.new).staged ≡ length (P.desk plan.old).staged) }
     ensures changes { OnOk result (P.changes plan.new ≡ P.changes plan.old) }
     ensures goes_on { OnOk result (P.serves plan.new m.now) }
+    ensures fails { IfErr result (λ lost. P.fails plan.new) }
     ensures leads { P.leads plan.old plan.new }
 {
     if hard {
@@ -133,12 +348,13 @@ fn read_copy<P: Plan>(
         (length (P.desk plan.new).staged ≡ length (P.desk plan.old).staged) }
     ensures changes { OnOk result (P.changes plan.new ≡ P.changes plan.old) }
     ensures goes_on { OnOk result (P.serves plan.new m.now) }
+    ensures fails { IfErr result (λ lost. P.fails plan.new) }
     ensures leads { P.leads plan.old plan.new }
 {
     if !filled {
         return Ok(());
     }
-    let to = phase_to(m.phase);
+    let to = m.phase.to();
     let (s, _copy) = soft_of(&m.setup.geometry, to, r, d);
     let parity = soft_parity(&m.setup.geometry, to, s);
     plan.stored(m, parity, soft_place(&m.setup.geometry, to, s), into)?;
@@ -231,7 +447,7 @@ fn stage_copy<P: Plan>(
         return;
     }
     let g = &m.setup.geometry;
-    let to = phase_to(m.phase);
+    let to = m.phase.to();
     let (s, copy) = soft_of(g, to, r, d);
     let place = soft_place(g, to, s);
     let parity = soft_parity(g, to, s);
@@ -258,6 +474,7 @@ pub fn write_cell<P: Plan>(
     ensures room { OnOk result (length (P.desk plan.new).staged ≤ length (P.desk plan.old).staged + 4) }
     ensures changes { OnOk result (P.changes plan.new ≡ P.changes plan.old + 1) }
     ensures goes_on { OnOk result (P.serves plan.new m.now) }
+    ensures fails { IfErr result (λ lost. P.fails plan.new) }
     ensures leads { P.leads plan.old plan.new }
 {
     let hard = goes_hard(plan, m, r, d);

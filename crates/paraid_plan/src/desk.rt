@@ -1,8 +1,8 @@
 //! What a plan reads and stages.
-ghost use Rattle.std.specs.Prelude.{◌≡◌, ◌≢◌, ℕ, ◌+◌, ◌<◌, ◌≤◌, ◌⊎◌, true, length, OnOk, Some};
+ghost use Rattle.std.specs.Prelude.{◌≡◌, ◌≢◌, ℕ, ◌+◌, ◌<◌, ◌≤◌, ◌⊎◌, true, length, OnOk, IfErr, Some};
 ghost use Rattle.paraid_base.specs.Regions.{map_count, disk_size};
-ghost use Rattle.paraid_plan.specs.Desk.{Desk, with_targets, with_bit, sees};
-ghost use Rattle.paraid_plan.specs.Staged.{soft_count, stripe_block, target_if};
+ghost use Rattle.paraid_plan.specs.Desk.{Desk, with_targets, desk_with_bit, sees};
+ghost use Rattle.paraid_plan.specs.WriteTargets.{row_rest, soft_count, stripe_block_now, target_if};
 ghost use Rattle.paraid_dirty.specs.Table.{ShowsBits};
 ghost use Rattle.paraid_record.specs.Range.{IsInRange};
 ghost use Rattle.paraid_image.specs.Out.{named_out as named_out_of};
@@ -31,6 +31,9 @@ pub trait Plan {
     /// Whether cells can be read under this meta.
     ghost serves: { Self → MetaType → Type 0 };
 
+    /// Whether a read has failed.
+    ghost fails: { Self → Type 0 };
+
     /// The second comes from the first by reads and by what is staged, also where a read failed.
     ghost leads: { Self → Self → Type 0 };
 
@@ -46,6 +49,30 @@ pub trait Plan {
             (length (desk self.new).staged ≡ length (desk self.old).staged) }
         ensures changes { OnOk result (changes self.new ≡ changes self.old) }
         ensures goes_on { OnOk result (serves self.new m.now) }
+        ensures fails { IfErr result (λ lost. fails self.new) }
+        ensures leads { leads self.old self.new };
+
+    /// Reads the values of a row's cells but for that of the disk that is out and that of one other, and
+    /// sums them up.
+    fn rest(
+        &mut self,
+        m: &Meta,
+        r: Row,
+        out: DiskNo,
+        other: DiskNo,
+        into: &mut Block,
+    ) -> Result<(), Lost>
+        requires serves { serves self.old m.now }
+        requires in_range { IsInRange m.now }
+        requires row { r < m.now.setup.geometry.rows }
+        requires out { named_out_of m.now.out ≡ Some out }
+        ensures ok { OnOk result (tells self.new → into.new ≡ row_rest (sees m.now (desk self.old)) r out other) }
+        ensures same { OnOk result (tells self.new → desk self.new ≡ desk self.old) }
+        ensures staged { OnOk result
+            (length (desk self.new).staged ≡ length (desk self.old).staged) }
+        ensures changes { OnOk result (changes self.new ≡ changes self.old) }
+        ensures goes_on { OnOk result (serves self.new m.now) }
+        ensures fails { IfErr result (λ lost. fails self.new) }
         ensures leads { leads self.old self.new };
 
     /// Reads a block of a stripe of the current region, or makes it from the others.
@@ -54,12 +81,13 @@ pub trait Plan {
         requires in_range { IsInRange m.now }
         requires stripe { s < soft_count m.now }
         requires disk { e < m.now.gear }
-        ensures ok { OnOk result (tells self.new → into.new ≡ stripe_block (sees m.now (desk self.old)) s e) }
+        ensures ok { OnOk result (tells self.new → into.new ≡ stripe_block_now (sees m.now (desk self.old)) s e) }
         ensures same { OnOk result (tells self.new → desk self.new ≡ desk self.old) }
         ensures staged { OnOk result
             (length (desk self.new).staged ≡ length (desk self.old).staged) }
         ensures changes { OnOk result (changes self.new ≡ changes self.old) }
         ensures goes_on { OnOk result (serves self.new m.now) }
+        ensures fails { IfErr result (λ lost. fails self.new) }
         ensures leads { leads self.old self.new };
 
     /// Reads a block past the log, of a disk that is powered and not out.
@@ -77,6 +105,7 @@ pub trait Plan {
             (length (desk self.new).staged ≡ length (desk self.old).staged) }
         ensures changes { OnOk result (changes self.new ≡ changes self.old) }
         ensures goes_on { OnOk result (serves self.new m.now) }
+        ensures fails { IfErr result (λ lost. fails self.new) }
         ensures leads { leads self.old self.new };
 
     /// Whether a cell is dirty.
@@ -100,7 +129,7 @@ pub trait Plan {
         requires row { r < m.now.setup.geometry.rows }
         requires disk { d < m.now.setup.geometry.disks }
         requires few { changes self.old < 16 }
-        ensures desk { desk self.new ≡ with_bit (desk self.old) r d bit }
+        ensures desk { desk self.new ≡ desk_with_bit (desk self.old) r d bit }
         ensures changes { changes self.new ≡ changes self.old + 1 }
         ensures goes_on { serves self.new m.now }
         ensures leads { leads self.old self.new };

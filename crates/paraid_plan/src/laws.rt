@@ -1,9 +1,9 @@
 //! What the plan of a write promises, over all disks, gears, phases and rebuilds.
 ghost use Rattle.paraid_plan.specs.Desk.{DeskWriteKeeps, ManyWritesKeep};
-ghost use Rattle.paraid_plan.specs.Stored.{KeptIsStored, KeptPlacesTell, StoredIsKept};
-ghost use Rattle.paraid_plan.specs.Marks.{BeginKeeps, FlipKeeps, LostKeeps, RejoinKeeps};
+ghost use Rattle.paraid_plan.specs.StoredCells.{KeptIsStored, KeptPlacesTell, StoredIsKept};
+ghost use Rattle.paraid_plan.specs.LossMark.{LostKeeps};
 ghost use Rattle.paraid_plan.specs.Placed.{WriteIsPlaced};
-ghost use Rattle.paraid_plan.specs.Units.{FillKeeps, FillMarksKeep, SyncKeeps, SyncMarksKeep, UnitKeeps};
+ghost use Rattle.paraid_plan.specs.Units.{FillKeeps, SyncKeeps, UnitKeeps};
 ghost use Rattle.paraid_plan.specs.Written.{WriteKeeps};
 
 /// A write keeps the disks well and changes one block, whichever disk is out.
@@ -41,34 +41,9 @@ pub fn many_staged_writes_keep_the_disks_well()
     ensures { ManyWritesKeep }
 {}
 
-/// A shift that begins leaves what is held.
-pub fn a_begun_shift_keeps_the_disks_well()
-    ensures { BeginKeeps }
-{}
-
-/// A shift that flips leaves what is held.
-pub fn a_flip_keeps_the_disks_well()
-    ensures { FlipKeeps }
-{}
-
 /// A disk that is lost, or failed by command, leaves what is held.
 pub fn a_lost_disk_is_marked_out()
     ensures { LostKeeps }
-{}
-
-/// A disk all of whose units are rebuilt comes back.
-pub fn a_rebuilt_disk_comes_back()
-    ensures { RejoinKeeps }
-{}
-
-/// The mark of a stripe that was copied past the log.
-pub fn a_copied_stripe_is_marked()
-    ensures { FillMarksKeep }
-{}
-
-/// The mark of a cell that was copied past the log.
-pub fn a_copied_cell_is_marked()
-    ensures { SyncMarksKeep }
 {}
 
 /// Disks that are kept well store the values of their cells.

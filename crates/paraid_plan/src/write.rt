@@ -1,18 +1,17 @@
 //! The write of a block, in any gear and phase and whichever disk is out: at most ten targets; and
 //! that of up to eight blocks.
-ghost use Rattle.std.specs.Prelude.{◌≡◌, ℕ, ◌+◌, ◌-◌, ◌*◌, ◌/◌, ◌<◌, ◌≤◌, true, false, length, All, OnOk};
+ghost use Rattle.std.specs.Prelude.{◌≡◌, ℕ, ◌+◌, ◌-◌, ◌*◌, ◌/◌, ◌<◌, ◌≤◌, true, false, length, All, OnOk, IfErr};
 ghost use Rattle.paraid_base.specs.declared.block.Block.{Block as BlockType};
 ghost use Rattle.paraid_base.specs.Pairs.{pairs_of};
 ghost use Rattle.paraid_plan.specs.Desk.{Desk, StageAll, StagesMap, StagesWrite};
 ghost use Rattle.paraid_record.specs.Range.{IsInRange};
 ghost use Rattle.paraid_record.specs.declared.meta.Meta.{Meta as MetaType};
 
-use crate::cell::{stage_if, write_cell};
+use crate::cell::{read_old, stage_if, write_cell};
 use crate::desk::{Lost, Plan};
 use crate::marks::is_written;
 use paraid_base::{Block, BlockNo, DiskNo, Pairs, Row};
 use paraid_layout::{home, parity_disk};
-use paraid_parity::xor_into;
 use paraid_record::Meta;
 
 // Stages the block of the map with the bits of a row, where one has changed.
@@ -76,20 +75,15 @@ pub fn write_block<P: Plan>(
         (length (P.desk plan.new).staged ≤ length (P.desk plan.old).staged + 10) }
     ensures changes { OnOk result (P.changes plan.new ≡ P.changes plan.old + 2) }
     ensures goes_on { OnOk result (P.serves plan.new m.now) }
+    ensures fails { IfErr result (λ lost. P.fails plan.new) }
     ensures leads { P.leads plan.old plan.new }
 {
     let (r, d) = home(&m.setup.geometry, block);
     let p = parity_disk(&m.setup.geometry, r);
     let mut old = Block::zero();
-    plan.value(m, r, d, &mut old)?;
     let mut parity = Block::zero();
-    plan.value(m, r, p, &mut parity)?;
-    let mut change = Block::zero();
-    change.copy_from(&old);
-    xor_into(&mut change, bytes);
     let mut fixed = Block::zero();
-    fixed.copy_from(&parity);
-    xor_into(&mut fixed, &change);
+    read_old(plan, m, r, d, p, bytes, &mut old, &mut parity, &mut fixed)?;
     let was = plan.is_dirty(m, r, d);
     let parity_was = plan.is_dirty(m, r, p);
     write_cell(plan, m, r, d, &old, bytes)?;
@@ -112,6 +106,7 @@ pub fn write_blocks<P: Plan>(plan: &mut P, m: &Meta, pairs: &Pairs) -> Result<()
     ensures few { OnOk result
         (length (P.desk plan.new).staged ≤ length (P.desk plan.old).staged + 10 * pairs.now.count) }
     ensures goes_on { OnOk result (P.serves plan.new m.now) }
+    ensures fails { IfErr result (λ lost. P.fails plan.new) }
     ensures leads { P.leads plan.old plan.new }
 {
     for at in 0..pairs.count as usize {

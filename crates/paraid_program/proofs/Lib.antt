@@ -1,5 +1,4 @@
 pub mod WordLemmas
-pub mod HearLemmas
 pub mod ServeLemmas
 pub mod Since
 pub mod Sofar

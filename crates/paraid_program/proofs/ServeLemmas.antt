@@ -15,7 +15,7 @@ use Rattle.paraid_base.specs.History.{Entry, History}
 use Rattle.paraid_rack.specs.Slots.{Slot}
 use Rattle.paraid_rack.specs.Trail.{Trail}
 use Rattle.paraid_rack.proofs.TrailsLemmas.{Ran-none}
-use Rattle.paraid_array.specs.Losses.{Served, Lasts}
+use Rattle.paraid_array.specs.Losses.{AreServedBelow, AreArrayCalls}
 use Rattle.paraid_program.specs.Trace.{answer_to, missing_of, next}
 use Rattle.paraid_program.specs.Calls.{IsFive}
 
@@ -45,9 +45,9 @@ one_missing g e b five first =
     ∙ missing_after first.before first.rest b first.bytes (subst (λ (n : ℕ). All (λ (pair : ℕ × Block). pair.0 < n) first.before) (twenty g five) first.below) (subst (λ (n : ℕ). n ≤ b) (twenty g five) first.missing)
 
 -- a call that is none leaves the disks as they are
-pub lasts_none : (n : ℕ) (out : Option ℕ) (slot : ℕ → Slot) (told : Option Trail) → Lasts n out out slot slot told told
+pub lasts_none : (n : ℕ) (out : Option ℕ) (slot : ℕ → Slot) (told : Option Trail) → AreArrayCalls n out out slot slot told told
 lasts_none n out slot told = record {
-  served = Ran-none (Served n) (λ s. tt) told;
+  served = Ran-none (AreServedBelow n) (λ s. tt) told;
   no_fall = λ d. omega arith;
   stays = λ d e. e;
   lost = λ d e. inl e;

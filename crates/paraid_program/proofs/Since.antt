@@ -12,18 +12,18 @@ use Rattle.paraid_rack.specs.Slots.{Slot}
 use Rattle.paraid_rack.specs.Trail.{Trail, run}
 use Rattle.paraid_rack.specs.Told.{Ran}
 use Rattle.paraid_rack.proofs.TrailsLemmas.{Ran-none, Ran-then}
-use Rattle.paraid_array.specs.Losses.{Served, Lasts, WasLost, IsCause}
-use Rattle.paraid_program.specs.Calls.{NoFall, HasFailed, IsDown, MayBeDown, Since}
+use Rattle.paraid_array.specs.Losses.{AreServedBelow, AreArrayCalls, WasLost, IsCause}
+use Rattle.paraid_program.specs.Calls.{NoFall, HasFailed, IsDown, MayBeDown, SinceStart}
 
-Served-append : (n : ℕ) (s : Disks) (cs ds : List Call) → Served n s cs → Served n (run s cs) ds → Served n s (cs ++ ds)
-Served-append n s [] ds first second = second
-Served-append n s (c ∷ cs) ds first second = (first.0, Served-append n (step c s) cs ds first.1 second)
+AreServedBelow-append : (n : ℕ) (s : Disks) (cs ds : List Call) → AreServedBelow n s cs → AreServedBelow n (run s cs) ds → AreServedBelow n s (cs ++ ds)
+AreServedBelow-append n s [] ds first second = second
+AreServedBelow-append n s (c ∷ cs) ds first second = (first.0, AreServedBelow-append n (step c s) cs ds first.1 second)
 
-pub served_none : (told : Option Trail) → Ran told told (Served 5)
-served_none told = Ran-none (Served 5) (λ s. tt) told
+pub served_none : (told : Option Trail) → Ran told told (AreServedBelow 5)
+served_none told = Ran-none (AreServedBelow 5) (λ s. tt) told
 
-pub served_then : (old mid new : Option Trail) → Ran old mid (Served 5) → Ran mid new (Served 5) → Ran old new (Served 5)
-served_then old mid new first second = Ran-then (Served 5) (Served-append 5) old mid new first second
+pub served_then : (old mid new : Option Trail) → Ran old mid (AreServedBelow 5) → Ran mid new (AreServedBelow 5) → Ran old new (AreServedBelow 5)
+served_then old mid new first second = Ran-then (AreServedBelow 5) (AreServedBelow-append 5) old mid new first second
 
 -- a record that is told
 pub some_told : (o : Option Trail) → IsSome o → (t : Trail) × (o ≡ Some t)
@@ -35,7 +35,7 @@ pub none_or_some : {X : Type 0} (o : Option X) → (o ≡ None) ⊎ ((x : X) × 
 none_or_some None = inl refl
 none_or_some (Some x) = inr (x, refl)
 
-pub since_start : (slot : ℕ → Slot) (out : Option ℕ) (halt : Option Halt) (told : Option Trail) → out ≡ None → halt ≡ None → Since slot slot out halt told told
+pub since_start : (slot : ℕ → Slot) (out : Option ℕ) (halt : Option Halt) (told : Option Trail) → out ≡ None → halt ≡ None → SinceStart slot slot out halt told told
 since_start slot out halt told fresh going = record {
   served = served_none told;
   no_fall = λ d. omega arith;
@@ -49,7 +49,7 @@ failed_sooner old mid new d before failed = HasRisen-sooner (old d).faults (mid 
 failed_later : (old mid new : ℕ → Slot) (d : ℕ) → NoFall mid new → HasFailed old mid d → HasFailed old new d
 failed_later old mid new d after failed = HasRisen-later (old d).faults (mid d).faults (new d).faults failed (after d)
 
-module _ (old mid new : ℕ → Slot) (out new_out : Option ℕ) (halt new_halt : Option Halt) (start told new_told : Option Trail) (s : Since old mid out halt start told) (n : ℕ) (five : n ≡ 5) (lasts : Lasts n out new_out mid new told new_told) where
+module _ (old mid new : ℕ → Slot) (out new_out : Option ℕ) (halt new_halt : Option Halt) (start told new_told : Option Trail) (s : SinceStart old mid out halt start told) (n : ℕ) (five : n ≡ 5) (lasts : AreArrayCalls n out new_out mid new told new_told) where
   was_lost : (d : ℕ) → WasLost out mid new d → HasFailed old new d
   was_lost d lost = elim lost [ inl is ↦ failed_later old mid new d lasts.no_fall (s.lost d is) | inr risen ↦ failed_sooner old mid new d s.no_fall risen.1 ]
 
@@ -74,9 +74,9 @@ module _ (old mid new : ℕ → Slot) (out new_out : Option ℕ) (halt new_halt 
   cause_later (Worn count) is = is
 
   pub since_more : (writes : ℕ) → writes < 2 ^ 62 → ((h : Halt) → halt ≡ None → new_halt ≡ Some h → IsCause n writes out mid new h) → ((h : Halt) → halt ≡ Some h → new_halt ≡ Some h)
-      → Since old new new_out new_halt start new_told
+      → SinceStart old new new_out new_halt start new_told
   since_more writes small halts again = record {
-    served = served_then start told new_told s.served (subst (λ (k : ℕ). Ran told new_told (Served k)) five lasts.served);
+    served = served_then start told new_told s.served (subst (λ (k : ℕ). Ran told new_told (AreServedBelow k)) five lasts.served);
     no_fall = λ d. omega (arith, s.no_fall d, lasts.no_fall d);
     lost = λ d is. was_lost d (lasts.lost d is);
     cause = λ h is. elim (none_or_some halt) [
@@ -93,7 +93,7 @@ may_be_down old new None is = tt
 may_be_down old new (Some h) is = is h refl
 
 -- what is told after a call was told before it
-pub lasts_told : (n : ℕ) (out new_out : Option ℕ) (old new : ℕ → Slot) (told new_told : Option Trail) → Lasts n out new_out old new told new_told → IsSome new_told → IsSome told
+pub lasts_told : (n : ℕ) (out new_out : Option ℕ) (old new : ℕ → Slot) (told new_told : Option Trail) → AreArrayCalls n out new_out old new told new_told → IsSome new_told → IsSome told
 lasts_told n out new_out old new told new_told lasts is =
     let t = some_told new_told is in
     let came = lasts.served t.0 t.1 in

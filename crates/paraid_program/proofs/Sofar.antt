@@ -8,20 +8,20 @@ use Rattle.paraid_base.specs.declared.event.Answer.TheVariants.{Halted}
 use Rattle.paraid_base.specs.declared.event.Event.{Event}
 use Rattle.paraid_base.specs.declared.event.Event.TheVariants.{Read, Write, Flush, Tick, Up, Down, Fail, Replace, State, Energy, Bad}
 use Rattle.paraid_base.specs.declared.fault.Halt.{Halt}
-use Rattle.paraid_base.specs.Told.{Gives, Grows, AtEnd, told}
+use Rattle.paraid_base.specs.Told.{Gives, GrowsByBytes, AtEnd, told_bytes}
 use Rattle.paraid_base.specs.History.{History}
-use Rattle.paraid_base.proofs.ToldLemmas.{Gives-none, Gives-then, Grows-none, Grows-then}
+use Rattle.paraid_base.proofs.ToldLemmas.{Gives-none, Gives-then, GrowsByBytes-none, GrowsByBytes-then}
 use Rattle.paraid_io.specs.declared.line.LineFault.{LineFault}
 use Rattle.paraid_io.specs.Lines.{lines_of, whole_lines}
-use Rattle.paraid_io.specs.Reading.{Reading, fresh}
+use Rattle.paraid_io.specs.Reading.{Reading, fresh_reader}
 use Rattle.paraid_rack.specs.Slots.{Slot}
 use Rattle.paraid_rack.specs.Trail.{Trail}
-use Rattle.paraid_trace.specs.Lines.{event_of}
+use Rattle.paraid_trace.specs.LineEvents.{event_of}
 use Rattle.paraid_trace.specs.Replies.{reply_of}
-use Rattle.paraid_program.specs.Trace.{IsServed, Replied, answer_to, halt_answer, next, history_of, transcript, halt_transcript, Told}
-use Rattle.paraid_program.specs.Heard.{Heard, NextLine}
+use Rattle.paraid_program.specs.Trace.{IsArrayEvent, IsReplied, answer_to, halt_answer, next, history_of, transcript, halt_transcript, TellsAnswers}
+use Rattle.paraid_console.specs.Heard.{HearsLine, IsNextLine}
 use Rattle.paraid_program.specs.Calls.{IsDown, MayBeDown}
-use Rattle.paraid_program.specs.Session.{Session}
+use Rattle.paraid_program.specs.Session.{FiveSession}
 use Rattle.paraid_program.specs.declared.session.Stop.TheVariants.{Source, TooLong, Sink, Halt as Halts}
 use Rattle.paraid_program.proofs.Since.{none_or_some}
 
@@ -37,12 +37,12 @@ pub record Sofar (known : Type 0) (left_before left written_before written : Opt
   pub fault : reader.fault ≡ None
   pub limit : reader.taken ≤ 2 ^ 40
   pub count : reader.taken ≡ length bytes
-  pub grows : Grows written_before written said
-  pub text : IsSome now → known → Told halt answered said
+  pub grows : GrowsByBytes written_before written said
+  pub text : IsSome now → known → TellsAnswers halt answered said
   pub stands : halt ≡ None → known → stood (history_of [] answered)
 
 pub sofar_start : (left written : Option (List ℕ)) (start : Option Trail) (stood : History → Type 0) → (halt : Option Halt) → halt ≡ None
-    → Sofar (stood []) left left written written start halt stood (fresh 0)
+    → Sofar (stood []) left left written written start halt stood (fresh_reader 0)
 sofar_start left written start stood halt none = record {
   bytes = [];
   answered = [];
@@ -54,8 +54,8 @@ sofar_start left written start stood halt none = record {
   fault = refl;
   limit = omega arith;
   count = refl;
-  grows = Grows-none written;
-  text = λ s z. subst (λ (h : Option Halt). Told h [] []) (sym none) refl;
+  grows = GrowsByBytes-none written;
+  text = λ s z. subst (λ (h : Option Halt). TellsAnswers h [] []) (sym none) refl;
   stands = λ n z. z;
 }
 
@@ -81,7 +81,7 @@ halt_transcript-append halt (x ∷ xs) ys =
     ap (λ t. reply_of (halt_answer halt (event_of x)) ++ t) (halt_transcript-append halt xs ys)
     ∙ sym (append_assoc (reply_of (halt_answer halt (event_of x))) (halt_transcript halt xs) (halt_transcript halt ys))
 
-served_halts : (halt : Halt) (e : Event) → IsServed e → halt_answer halt e ≡ Halted halt
+served_halts : (halt : Halt) (e : Event) → IsArrayEvent e → halt_answer halt e ≡ Halted halt
 served_halts halt (Read block) s = refl
 served_halts halt (Write pairs) s = refl
 served_halts halt Flush s = refl
@@ -95,35 +95,35 @@ served_halts halt Energy s = absurd s
 served_halts halt Bad s = absurd s
 
 -- one line more
-pub told_more : (halt new_halt : Option Halt) (lines : List (List ℕ)) (said line : List ℕ) (answer : Answer) → Told halt lines said
-    → (halt ≡ None → Replied new_halt (history_of [] lines) (event_of line) answer)
+pub told_more : (halt new_halt : Option Halt) (lines : List (List ℕ)) (said line : List ℕ) (answer : Answer) → TellsAnswers halt lines said
+    → (halt ≡ None → IsReplied new_halt (history_of [] lines) (event_of line) answer)
     → ((was : Halt) → halt ≡ Some was → (new_halt ≡ Some was) × (answer ≡ halt_answer was (event_of line)))
-    → Told new_halt (lines ++ line ∷ []) (said ++ reply_of answer)
-told_more None None lines said line answer told replied again =
-    ap (λ x. x ++ reply_of answer) told ∙ ap (λ (a : Answer). transcript [] lines ++ reply_of a) (replied refl) ∙ sym (transcript-push [] lines line)
-told_more None (Some halt) lines said line answer told replied again =
+    → TellsAnswers new_halt (lines ++ line ∷ []) (said ++ reply_of answer)
+told_more None None lines said line answer told_bytes replied again =
+    ap (λ x. x ++ reply_of answer) told_bytes ∙ ap (λ (a : Answer). transcript [] lines ++ reply_of a) (replied refl) ∙ sym (transcript-push [] lines line)
+told_more None (Some halt) lines said line answer told_bytes replied again =
     let came = replied refl in (
       lines,
       [],
       line,
       refl,
       came.0,
-      ap (λ x. x ++ reply_of answer) told
+      ap (λ x. x ++ reply_of answer) told_bytes
           ∙ ap (λ (a : Answer). transcript [] lines ++ reply_of a) (came.1 ∙ sym (served_halts halt (event_of line) came.0))
           ∙ ap (λ x. transcript [] lines ++ x) (sym (append-nil (reply_of (halt_answer halt (event_of line))))),
     )
-told_more (Some was) new_halt lines said line answer told replied again =
+told_more (Some was) new_halt lines said line answer told_bytes replied again =
     let stays = again was refl in
-    let before : List (List ℕ) = told.0 in
-    let after : List (List ℕ) = told.1 in
-    let at : List ℕ = told.2 in
-    subst (λ (o : Option Halt). Told o (lines ++ line ∷ []) (said ++ reply_of answer)) (sym stays.0) (
+    let before : List (List ℕ) = told_bytes.0 in
+    let after : List (List ℕ) = told_bytes.1 in
+    let at : List ℕ = told_bytes.2 in
+    subst (λ (o : Option Halt). TellsAnswers o (lines ++ line ∷ []) (said ++ reply_of answer)) (sym stays.0) (
       before,
       after ++ line ∷ [],
       at,
-      ap (λ (ls : List (List ℕ)). ls ++ line ∷ []) told.3 ∙ append_assoc before (at ∷ after) (line ∷ []),
-      told.4,
-      ap (λ x. x ++ reply_of answer) told.5
+      ap (λ (ls : List (List ℕ)). ls ++ line ∷ []) told_bytes.3 ∙ append_assoc before (at ∷ after) (line ∷ []),
+      told_bytes.4,
+      ap (λ x. x ++ reply_of answer) told_bytes.5
           ∙ append_assoc (transcript [] before) (halt_transcript was (at ∷ after)) (reply_of answer)
           ∙ ap (λ x. transcript [] before ++ x) (ap (λ (a : Answer). halt_transcript was (at ∷ after) ++ reply_of a) stays.1 ∙ sym (halt_push was (at ∷ after) line)),
     )
@@ -132,22 +132,22 @@ told_more (Some was) new_halt lines said line answer told replied again =
     halt_push halt lines line = halt_transcript-append halt lines (line ∷ []) ∙ ap (λ x. halt_transcript halt lines ++ x) (append-nil (reply_of (halt_answer halt (event_of line))))
 
 -- an event is a line, and accepts one write at most
-pub few_more : {before after : Option (List ℕ)} {old new : Reading} {event : Event} → Heard before after old new (Ok (Some event)) → (writes new_writes : ℕ) → writes + length old.rest ≤ old.taken → new_writes ≤ writes + 1
+pub few_more : {before after : Option (List ℕ)} {old new : Reading} {event : Event} → HearsLine before after old new (Ok (Some event)) → (writes new_writes : ℕ) → writes + length old.rest ≤ old.taken → new_writes ≤ writes + 1
     → new_writes + length new.rest ≤ new.taken
 few_more {before} {after} {old} {new} {event} h writes new_writes few more =
-    let n : NextLine (old.rest ++ h.got) h.says.0 new = h.says.2 in
+    let n : IsNextLine (old.rest ++ h.got) h.says.0 new = h.says.2 in
     omega (arith, few, more, h.taken, n.shorter, length-append old.rest h.got)
 
 -- no byte comes after the end
 none_more : {a b : Option (List ℕ)} {got : List ℕ} → Gives a b got → got ≡ [] → AtEnd a → AtEnd b
-none_more {a} {b} {got} g none end s = ap (λ x. x ++ told b) (sym none) ∙ sym (g.bytes s) ∙ end (g.before s)
+none_more {a} {b} {got} g none end s = ap (λ x. x ++ told_bytes b) (sym none) ∙ sym (g.bytes s) ∙ end (g.before s)
 
 ended_or_not : (b : Bool) → (b ≡ true) ⊎ (b ≡ false)
 ended_or_not true = inl refl
 ended_or_not false = inr refl
 
 -- the end is kept, or it came in this call
-pub heard_end : {before after : Option (List ℕ)} {old new : Reading} {r : Result (Option Event) LineFault} → Heard before after old new r → (IsTrue old.ended → AtEnd before) → IsTrue new.ended → AtEnd after
+pub heard_end : {before after : Option (List ℕ)} {old new : Reading} {r : Result (Option Event) LineFault} → HearsLine before after old new r → (IsTrue old.ended → AtEnd before) → IsTrue new.ended → AtEnd after
 heard_end {before} {after} {old} {new} {r} h end now = elim (ended_or_not old.ended) [
   | inl e ↦ none_more h.given (h.ended_before e) (end e)
   | inr f ↦ (h.ended_now now f).0
@@ -168,26 +168,26 @@ was_open {a = false} {b} f e = refl
 
 module _ {known : Type 0} {left_before left after written_before written : Option (List ℕ)} {now : Option Trail} {halt : Option Halt} {stood : History → Type 0} {old new : Reading} (s : Sofar known left_before left written_before written now halt stood old) where
   -- what is told with one answer more
-  one_more : {event : Event} (h : Heard left after old new (Ok (Some event))) → (new_halt : Option Halt) (answer : Answer) (later : Option Trail) → (IsSome later → IsSome now)
-      → (halt ≡ None → (history : History) → stood history → IsSome later → Replied new_halt history event answer)
+  one_more : {event : Event} (h : HearsLine left after old new (Ok (Some event))) → (new_halt : Option Halt) (answer : Answer) (later : Option Trail) → (IsSome later → IsSome now)
+      → (halt ≡ None → (history : History) → stood history → IsSome later → IsReplied new_halt history event answer)
       → ((was : Halt) → halt ≡ Some was → (new_halt ≡ Some was) × (answer ≡ halt_answer was event))
-      → IsSome later → known → Told new_halt (s.answered ++ h.says.0 ∷ []) (s.said ++ reply_of answer)
+      → IsSome later → known → TellsAnswers new_halt (s.answered ++ h.says.0 ∷ []) (s.said ++ reply_of answer)
   one_more {event} h new_halt answer later tells replied again t k =
       let is : event ≡ event_of h.says.0 = h.says.1 in
       told_more halt new_halt s.answered s.said h.says.0 answer (s.text (tells t) k)
-      (λ none. subst (λ (e : Event). Replied new_halt (history_of [] s.answered) e answer) is (replied none (history_of [] s.answered) (s.stands none k) t))
+      (λ none. subst (λ (e : Event). IsReplied new_halt (history_of [] s.answered) e answer) is (replied none (history_of [] s.answered) (s.stands none k) t))
       (λ was some. subst (λ (e : Event). (new_halt ≡ Some was) × (answer ≡ halt_answer was e)) is (again was some))
 
-  pub sofar_more : {event : Event} (h : Heard left after old new (Ok (Some event))) → new.fault ≡ None → (new_halt : Option Halt) (answer : Answer) (later wrote : Option _) (new_stood : History → Type 0) → (IsSome later → IsSome now)
-      → (halt ≡ None → (history : History) → stood history → IsSome later → Replied new_halt history event answer)
+  pub sofar_more : {event : Event} (h : HearsLine left after old new (Ok (Some event))) → new.fault ≡ None → (new_halt : Option Halt) (answer : Answer) (later wrote : Option _) (new_stood : History → Type 0) → (IsSome later → IsSome now)
+      → (halt ≡ None → (history : History) → stood history → IsSome later → IsReplied new_halt history event answer)
       → (halt ≡ None → (history : History) → stood history → new_halt ≡ None → new_stood (next history event))
       → ((was : Halt) → halt ≡ Some was → (new_halt ≡ Some was) × (answer ≡ halt_answer was event))
-      → Grows written wrote (reply_of answer)
+      → GrowsByBytes written wrote (reply_of answer)
       → Sofar known left_before after written_before wrote later new_halt new_stood new
   sofar_more {event} h fault new_halt answer later wrote new_stood tells replied kept again grew =
       let line : List ℕ = h.says.0 in
       let is : event ≡ event_of line = h.says.1 in
-      let n : NextLine (old.rest ++ h.got) line new = h.says.2 in
+      let n : IsNextLine (old.rest ++ h.got) line new = h.says.2 in
       let past : history_of [] (s.answered ++ line ∷ []) ≡ next (history_of [] s.answered) event = history_of-push [] s.answered line ∙ ap (λ (e : Event). next (history_of [] s.answered) e) (sym is) in
       record {
         bytes = s.bytes ++ h.got;
@@ -200,7 +200,7 @@ module _ {known : Type 0} {left_before left after written_before written : Optio
         fault = fault;
         limit = h.limit;
         count = omega (arith, s.count, h.taken, length-append s.bytes h.got);
-        grows = Grows-then written_before written wrote s.said (reply_of answer) s.grows grew;
+        grows = GrowsByBytes-then written_before written wrote s.said (reply_of answer) s.grows grew;
         text = one_more h new_halt answer later tells replied again;
         stands = λ none k. elim (none_or_some halt) [
           | inl going ↦ subst (λ (x : History). new_stood x) (sym past) (kept going (history_of [] s.answered) (s.stands going k) none)
@@ -209,13 +209,13 @@ module _ {known : Type 0} {left_before left after written_before written : Optio
       }
 
   -- the input has ended, and all lines are answered
-  all_lines : (h : Heard left after old new (Ok None)) → lines_of (s.bytes ++ h.got) ≡ s.answered
+  all_lines : (h : HearsLine left after old new (Ok None)) → lines_of (s.bytes ++ h.got) ≡ s.answered
   all_lines h = s.lines h.got h.ended_before ∙ ap (λ x. s.answered ++ lines_of x) h.says.0 ∙ append-nil s.answered
 
   module _ (first last : ℕ → Slot) where
-    pub ends_well : (h : Heard left after old new (Ok None)) → halt ≡ None → (final : Option Trail) (final_stood : History → Type 0) (writes : ℕ) → (IsSome final → IsSome now)
+    pub ends_well : (h : HearsLine left after old new (Ok None)) → halt ≡ None → (final : Option Trail) (final_stood : History → Type 0) (writes : ℕ) → (IsSome final → IsSome now)
         → ((history : History) → stood history → (writes ≡ length history) × final_stood history)
-        → Session known final_stood first last left_before after written_before written final (Ok writes)
+        → FiveSession known final_stood first last left_before after written_before written final (Ok writes)
     ends_well h none final final_stood writes tells flushed = record {
       bytes = s.bytes ++ h.got;
       lines = s.answered;
@@ -223,14 +223,14 @@ module _ {known : Type 0} {left_before left after written_before written : Optio
       given = Gives-then left_before left after s.bytes h.got s.given h.given;
       grows = s.grows;
       full = tt;
-      answered = λ t k. (sym (all_lines h), subst (λ (o : Option Halt). Told o s.answered s.said) none (s.text (tells t) k), (flushed (history_of [] s.answered) (s.stands none k)).0);
+      answered = λ t k. (sym (all_lines h), subst (λ (o : Option Halt). TellsAnswers o s.answered s.said) none (s.text (tells t) k), (flushed (history_of [] s.answered) (s.stands none k)).0);
       kept = λ t k. (flushed (history_of [] s.answered) (s.stands none k)).1;
     }
 
     -- the array has halted, and all lines are answered
-    pub ends_halted : (h : Heard left after old new (Ok None)) → (final : Option Trail) (final_stood : History → Type 0) (x : Halt) → (IsSome final → IsSome now)
+    pub ends_halted : (h : HearsLine left after old new (Ok None)) → (final : Option Trail) (final_stood : History → Type 0) (x : Halt) → (IsSome final → IsSome now)
         → ((was : Halt) → halt ≡ Some was → was ≡ x) → IsDown first last x
-        → Session known final_stood first last left_before after written_before written final (Err (Halts x))
+        → FiveSession known final_stood first last left_before after written_before written final (Err (Halts x))
     ends_halted h final final_stood x tells same down = record {
       bytes = s.bytes ++ h.got;
       lines = s.answered;
@@ -243,16 +243,16 @@ module _ {known : Type 0} {left_before left after written_before written : Optio
         sym (all_lines h),
         down,
         elim (none_or_some halt) [
-          | inl none ↦ inl (subst (λ (o : Option Halt). Told o s.answered s.said) none (s.text (tells t) k))
-          | inr was ↦ inr (subst (λ (o : Option Halt). Told o s.answered s.said) (was.1 ∙ ap (λ (y : Halt). Some y) (same was.0 was.1)) (s.text (tells t) k))
+          | inl none ↦ inl (subst (λ (o : Option Halt). TellsAnswers o s.answered s.said) none (s.text (tells t) k))
+          | inr was ↦ inr (subst (λ (o : Option Halt). TellsAnswers o s.answered s.said) (was.1 ∙ ap (λ (y : Halt). Some y) (same was.0 was.1)) (s.text (tells t) k))
         ],
       );
     }
 
-    fault_lines : {fault : LineFault} (h : Heard left after old new (Err fault)) → s.answered ≡ whole_lines (s.bytes ++ h.got)
+    fault_lines : {fault : LineFault} (h : HearsLine left after old new (Err fault)) → s.answered ≡ whole_lines (s.bytes ++ h.got)
     fault_lines h = sym (s.whole (was_open h.stays_ended h.says.1) h.got ∙ ap (λ x. s.answered ++ x) h.says.0 ∙ append-nil s.answered)
 
-    pub ends_at_source : {fault : LineFault} (h : Heard left after old new (Err fault)) → MayBeDown first last halt → Session known stood first last left_before after written_before written now (Err Source)
+    pub ends_at_source : {fault : LineFault} (h : HearsLine left after old new (Err fault)) → MayBeDown first last halt → FiveSession known stood first last left_before after written_before written now (Err Source)
     ends_at_source h down = record {
       bytes = s.bytes ++ h.got;
       lines = s.answered;
@@ -264,8 +264,8 @@ module _ {known : Type 0} {left_before left after written_before written : Optio
       answered = λ t k. (fault_lines h, halt, down, s.text t k);
     }
 
-    pub ends_too_long : {fault : LineFault} (h : Heard left after old new (Err fault)) → new.taken ≡ 2 ^ 40 → MayBeDown first last halt
-        → Session known stood first last left_before after written_before written now (Err TooLong)
+    pub ends_too_long : {fault : LineFault} (h : HearsLine left after old new (Err fault)) → new.taken ≡ 2 ^ 40 → MayBeDown first last halt
+        → FiveSession known stood first last left_before after written_before written now (Err TooLong)
     ends_too_long h full down = record {
       bytes = s.bytes ++ h.got;
       lines = s.answered;
@@ -278,20 +278,20 @@ module _ {known : Type 0} {left_before left after written_before written : Optio
     }
 
     -- an answer could not be written
-    pub ends_at_sink : {event : Event} (h : Heard left after old new (Ok (Some event))) → (new_halt : Option Halt) (answer : Answer) (later wrote : Option _) (new_stood : History → Type 0) (n : ℕ) → (IsSome later → IsSome now)
-        → (halt ≡ None → (history : History) → stood history → IsSome later → Replied new_halt history event answer)
+    pub ends_at_sink : {event : Event} (h : HearsLine left after old new (Ok (Some event))) → (new_halt : Option Halt) (answer : Answer) (later wrote : Option _) (new_stood : History → Type 0) (n : ℕ) → (IsSome later → IsSome now)
+        → (halt ≡ None → (history : History) → stood history → IsSome later → IsReplied new_halt history event answer)
         → ((was : Halt) → halt ≡ Some was → (new_halt ≡ Some was) × (answer ≡ halt_answer was event))
         → MayBeDown first last new_halt
-        → Grows written wrote (take n (reply_of answer)) → Session known new_stood first last left_before after written_before wrote later (Err Sink)
+        → GrowsByBytes written wrote (take n (reply_of answer)) → FiveSession known new_stood first last left_before after written_before wrote later (Err Sink)
     ends_at_sink {event} h new_halt answer later wrote new_stood n tells replied again down grew =
         let line : List ℕ = h.says.0 in
-        let next_line : NextLine (old.rest ++ h.got) line new = h.says.2 in
+        let next_line : IsNextLine (old.rest ++ h.got) line new = h.says.2 in
         record {
           bytes = s.bytes ++ h.got;
           lines = s.answered ++ line ∷ [];
           text = s.said ++ take n (reply_of answer);
           given = Gives-then left_before left after s.bytes h.got s.given h.given;
-          grows = Grows-then written_before written wrote s.said (take n (reply_of answer)) s.grows grew;
+          grows = GrowsByBytes-then written_before written wrote s.said (take n (reply_of answer)) s.grows grew;
           full = tt;
           kept = λ t k. tt;
           answered = λ t k. (
@@ -302,6 +302,6 @@ module _ {known : Type 0} {left_before left after written_before written : Optio
                 ∙ sym (append_assoc s.answered (line ∷ []) (lines_of new.rest)),
             new_halt,
             down,
-            subst (λ (x : List ℕ). Told new_halt (s.answered ++ line ∷ []) x) (ap (λ x. s.said ++ x) (sym (take-append-drop n (reply_of answer))) ∙ sym (append_assoc s.said (take n (reply_of answer)) (drop n (reply_of answer)))) (one_more h new_halt answer later tells replied again t k),
+            subst (λ (x : List ℕ). TellsAnswers new_halt (s.answered ++ line ∷ []) x) (ap (λ x. s.said ++ x) (sym (take-append-drop n (reply_of answer))) ∙ sym (append_assoc s.said (take n (reply_of answer)) (drop n (reply_of answer)))) (one_more h new_halt answer later tells replied again t k),
           );
         }

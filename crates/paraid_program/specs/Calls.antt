@@ -10,8 +10,8 @@ use Rattle.paraid_rack.specs.Slots.{Slot}
 use Rattle.paraid_rack.specs.Told.{Ran}
 use Rattle.paraid_rack.specs.Trail.{Trail}
 use Rattle.paraid_array.specs.declared.array.Array.{Array}
-use Rattle.paraid_array.specs.Arrays.{geometry_of, IsReady, LastsFor, HaltsFor}
-use Rattle.paraid_array.specs.Losses.{Served}
+use Rattle.paraid_array.specs.Arrays.{geometry_of, IsArrayReady, LastsFor, HaltsFor}
+use Rattle.paraid_array.specs.Losses.{AreServedBelow}
 
 -- five disks of 108 blocks with five rows: 20 blocks
 pub record IsFive (g : Geometry) : Type 0 where
@@ -20,8 +20,8 @@ pub record IsFive (g : Geometry) : Type 0 where
   pub size : disk_size g ≡ 108
 
 -- what a call on an array leaves of it
-abbrev pub Leaves : {R : Type 0} {g : _} → (R → ℕ) → (R → ℕ → Slot) → (R → Option Trail) → Array R g → Array R g → Type 0
-Leaves slot_count slot told old new = LastsFor slot told old new × IsReady slot_count slot new × (geometry_of new ≡ geometry_of old) × HaltsFor slot old new
+abbrev pub LeavesFive : {R : Type 0} {g : _} → (R → ℕ) → (R → ℕ → Slot) → (R → Option Trail) → Array R g → Array R g → Type 0
+LeavesFive slot_count slot told old new = LastsFor slot told old new × IsArrayReady slot_count slot new × (geometry_of new ≡ geometry_of old) × HaltsFor slot old new
 
 -- no count has fallen
 abbrev pub NoFall : (ℕ → Slot) → (ℕ → Slot) → Type 0
@@ -51,8 +51,8 @@ MayBeDown old new (Some halt) = IsDown old new halt
 
 -- What a run has done to the disks since its start: lawful calls on the five disks alone. No count
 -- has fallen, and a disk that is out has failed since the start. A halt has two for its cause.
-pub record Since (old new : ℕ → Slot) (out : Option ℕ) (halt : Option Halt) (start told : Option Trail) : Type 0 where
-  pub served : Ran start told (Served 5)
+pub record SinceStart (old new : ℕ → Slot) (out : Option ℕ) (halt : Option Halt) (start told : Option Trail) : Type 0 where
+  pub served : Ran start told (AreServedBelow 5)
   pub no_fall : NoFall old new
   pub lost : (d : ℕ) → out ≡ Some d → HasFailed old new d
   pub cause : (h : Halt) → halt ≡ Some h → IsDown old new h

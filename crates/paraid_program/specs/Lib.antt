@@ -1,6 +1,6 @@
+pub mod Tasks
 pub mod Trace
 pub mod Calls
-pub mod Heard
 pub mod Session
 pub mod Output
 pub mod Ends

@@ -5,24 +5,24 @@ use Rattle.paraid_base.specs.declared.event.Event.TheVariants.{Read, Write, Flus
 use Rattle.paraid_base.specs.declared.event.Answer.{Answer}
 use Rattle.paraid_base.specs.declared.event.Answer.TheVariants.{Value, NoBlock, Wrote, Flushed, Later, Halted, Bad as IsBad}
 use Rattle.paraid_base.specs.declared.fault.Halt.{Halt}
-use Rattle.paraid_base.specs.History.{Entry, History, held}
+use Rattle.paraid_base.specs.History.{Entry, History, after_all}
 use Rattle.paraid_base.specs.Pairs.{pairs_of}
-use Rattle.paraid_trace.specs.Lines.{event_of}
+use Rattle.paraid_trace.specs.LineEvents.{event_of}
 use Rattle.paraid_trace.specs.Replies.{reply_of}
 
 -- an event that the array is asked for
-abbrev pub IsServed : Event → Type 0
-IsServed (Read block) = ⊤
-IsServed (Write pairs) = ⊤
-IsServed Flush = ⊤
-IsServed Tick = ⊥
-IsServed Up = ⊥
-IsServed Down = ⊥
-IsServed (Fail disk) = ⊥
-IsServed (Replace disk) = ⊥
-IsServed State = ⊥
-IsServed Energy = ⊥
-IsServed Bad = ⊥
+abbrev pub IsArrayEvent : Event → Type 0
+IsArrayEvent (Read block) = ⊤
+IsArrayEvent (Write pairs) = ⊤
+IsArrayEvent Flush = ⊤
+IsArrayEvent Tick = ⊥
+IsArrayEvent Up = ⊥
+IsArrayEvent Down = ⊥
+IsArrayEvent (Fail disk) = ⊥
+IsArrayEvent (Replace disk) = ⊥
+IsArrayEvent State = ⊥
+IsArrayEvent Energy = ⊥
+IsArrayEvent Bad = ⊥
 
 -- the first block of these pairs that an array of 20 blocks lacks
 abbrev pub missing_of : Entry → Option ℕ
@@ -40,7 +40,7 @@ with_write h entry (Some block) = h
 
 -- What an array of 20 blocks that has accepted these writes answers, while it has not halted.
 abbrev pub answer_to : History → Event → Answer
-answer_to h (Read block) = if nat_lt block 20 then Value block (held h block) else NoBlock block
+answer_to h (Read block) = if nat_lt block 20 then Value block (after_all h block) else NoBlock block
 answer_to h (Write pairs) = write_answer (length h + 1) (missing_of (pairs_of pairs))
 answer_to h Flush = Flushed (length h)
 answer_to h Tick = Later
@@ -82,9 +82,9 @@ next h Bad = h
 
 -- What is answered to an event by an array that has accepted these writes and has not halted. The
 -- halt that it is left with came in this event.
-abbrev pub Replied : Option Halt → History → Event → Answer → Type 0
-Replied None h event answer = answer ≡ answer_to h event
-Replied (Some halt) h event answer = IsServed event × (answer ≡ Halted halt)
+abbrev pub IsReplied : Option Halt → History → Event → Answer → Type 0
+IsReplied None h event answer = answer ≡ answer_to h event
+IsReplied (Some halt) h event answer = IsArrayEvent event × (answer ≡ Halted halt)
 
 -- the writes after these lines, where no halt came
 abbrev pub history_of : History → List (List ℕ) → History
@@ -103,7 +103,7 @@ halt_transcript halt (line ∷ lines) = reply_of (halt_answer halt (event_of lin
 
 -- The text was answered to these lines. A halt came in one of them, which is a read, a write or a
 -- flush, and from there on it is the answer.
-abbrev pub Told : Option Halt → List (List ℕ) → List ℕ → Type 0
-Told None lines text = text ≡ transcript [] lines
-Told (Some halt) lines text = (before after : List (List ℕ)) × (line : List ℕ) × (lines ≡ before ++ line ∷ after)
-    × IsServed (event_of line) × (text ≡ transcript [] before ++ halt_transcript halt (line ∷ after))
+abbrev pub TellsAnswers : Option Halt → List (List ℕ) → List ℕ → Type 0
+TellsAnswers None lines text = text ≡ transcript [] lines
+TellsAnswers (Some halt) lines text = (before after : List (List ℕ)) × (line : List ℕ) × (lines ≡ before ++ line ∷ after)
+    × IsArrayEvent (event_of line) × (text ≡ transcript [] before ++ halt_transcript halt (line ∷ after))

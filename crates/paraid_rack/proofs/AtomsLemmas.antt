@@ -6,8 +6,8 @@ use Rattle.paraid_rack.specs.declared.call.Power.{Power}
 use Rattle.paraid_rack.specs.declared.call.Power.TheVariants.{Absent}
 use Rattle.paraid_rack.specs.declared.call.Call.TheVariants.{Read, Write, Sync}
 use Rattle.paraid_base.specs.declared.block.Block.{Block}
-use Rattle.paraid_rack.specs.Disks.{Disks, IsPresent, is_present, with_at, power_after, settled, size_after, step, IsImage, lose}
-use Rattle.paraid_rack.specs.Atoms.{Sure, Seen, IsLeft}
+use Rattle.paraid_rack.specs.Disks.{Disks, IsPresent, is_present, with_at, power_after, loose_after_sync, size_after, step, IsImage, lose}
+use Rattle.paraid_rack.specs.Atoms.{IsSure, IsSeen, IsLeftByStop}
 
 pub with_at_same : {A : Type 0} (f : ℕ → A) (k : ℕ) (v : A) (j : ℕ) → j ≡ k → with_at f k v j ≡ v
 unfolding with_at
@@ -106,19 +106,19 @@ module _ (s : Disks) where
   unfolding step
   write_block_same d0 p0 b done = ap (λ (f : ℕ → Block). f p0) (with_at_same s.block d0 (with_at (s.block d0) p0 b) d0 refl) ∙ with_at_same (s.block d0) p0 b p0 refl
 
-  pub write_sure : (d0 p0 : ℕ) (b : Block) (done : Bool) (d p : ℕ) (Q : Block → Type 0) → (d ≡ d0 → p ≢ p0) → Sure s d p Q → Sure (step (Write d0 p0 b done) s) d p Q
+  pub write_sure : (d0 p0 : ℕ) (b : Block) (done : Bool) (d p : ℕ) (Q : Block → Type 0) → (d ≡ d0 → p ≢ p0) → IsSure s d p Q → IsSure (step (Write d0 p0 b done) s) d p Q
   write_sure d0 p0 b done d p Q apart sure = record {
     holds = λ here.
         let was = sure.holds (write_present d0 p0 b done d here) in
         (write_loose_other d0 p0 b done d p apart ∙ was.0, subst Q (sym (write_block_other d0 p0 b done d p apart)) was.1);
   }
 
-  pub write_seen : (d0 p0 : ℕ) (b : Block) (done : Bool) (d p : ℕ) (Q : Block → Type 0) → (d ≡ d0 → p ≢ p0) → Seen s d p Q → Seen (step (Write d0 p0 b done) s) d p Q
+  pub write_seen : (d0 p0 : ℕ) (b : Block) (done : Bool) (d p : ℕ) (Q : Block → Type 0) → (d ≡ d0 → p ≢ p0) → IsSeen s d p Q → IsSeen (step (Write d0 p0 b done) s) d p Q
   write_seen d0 p0 b done d p Q apart seen = record {
     holds = λ here. subst Q (sym (write_block_other d0 p0 b done d p apart)) (seen.holds (write_present d0 p0 b done d here));
   }
 
-  pub write_here : (d0 p0 : ℕ) (b : Block) (done : Bool) (Q : Block → Type 0) → Q b → Seen (step (Write d0 p0 b done) s) d0 p0 Q
+  pub write_here : (d0 p0 : ℕ) (b : Block) (done : Bool) (Q : Block → Type 0) → Q b → IsSeen (step (Write d0 p0 b done) s) d0 p0 Q
   write_here d0 p0 b done Q q = record { holds = λ here. subst Q (sym (write_block_same d0 p0 b done)) q }
 
   pub sync_block : (d0 : ℕ) (done : Bool) (d p : ℕ) → (step (Sync d0 done) s).block d p ≡ s.block d p
@@ -128,27 +128,27 @@ module _ (s : Disks) where
   sync_loose : (d0 : ℕ) (done : Bool) (d p : ℕ) → s.loose d p ≡ false → (step (Sync d0 done) s).loose d p ≡ false
   unfolding step
   sync_loose d0 done d p was =
-      at_case (λ (f : ℕ → Bool). f p ≡ false) s.loose d0 (settled done (s.loose d0)) d
+      at_case (λ (f : ℕ → Bool). f p ≡ false) s.loose d0 (loose_after_sync done (s.loose d0)) d
       (λ is. cleared done (subst (λ (k : ℕ). s.loose k p ≡ false) is was))
       (λ not. was)
     where
-      cleared : (done : Bool) → s.loose d0 p ≡ false → settled done (s.loose d0) p ≡ false
+      cleared : (done : Bool) → s.loose d0 p ≡ false → loose_after_sync done (s.loose d0) p ≡ false
       cleared true h = refl
       cleared false h = h
 
   sync_clears : (d0 : ℕ) (done : Bool) (p : ℕ) → done ≡ true → (step (Sync d0 done) s).loose d0 p ≡ false
   unfolding step
   sync_clears d0 done p is =
-      ap (λ (f : ℕ → Bool). f p) (with_at_same s.loose d0 (settled done (s.loose d0)) d0 refl) ∙ ap (λ (b : Bool). settled b (s.loose d0) p) is
+      ap (λ (f : ℕ → Bool). f p) (with_at_same s.loose d0 (loose_after_sync done (s.loose d0)) d0 refl) ∙ ap (λ (b : Bool). loose_after_sync b (s.loose d0) p) is
 
-  pub sync_sure : (d0 : ℕ) (done : Bool) (d p : ℕ) (Q : Block → Type 0) → Sure s d p Q → Sure (step (Sync d0 done) s) d p Q
+  pub sync_sure : (d0 : ℕ) (done : Bool) (d p : ℕ) (Q : Block → Type 0) → IsSure s d p Q → IsSure (step (Sync d0 done) s) d p Q
   sync_sure d0 done d p Q sure = record {
     holds = λ here.
         let was = sure.holds (sync_present d0 done d here) in
         (sync_loose d0 done d p was.0, subst Q (sym (sync_block d0 done d p)) was.1);
   }
 
-  pub sync_seen : (d0 : ℕ) (done : Bool) (d p : ℕ) (Q : Block → Type 0) → Seen s d p Q → Seen (step (Sync d0 done) s) d p Q
+  pub sync_seen : (d0 : ℕ) (done : Bool) (d p : ℕ) (Q : Block → Type 0) → IsSeen s d p Q → IsSeen (step (Sync d0 done) s) d p Q
   sync_seen d0 done d p Q seen = record { holds = λ here. subst Q (sym (sync_block d0 done d p)) (seen.holds (sync_present d0 done d here)) }
 
   sync_done : (d0 : ℕ) (done : Bool) → IsPresent (step (Sync d0 done) s) d0 → done ≡ true
@@ -156,28 +156,28 @@ module _ (s : Disks) where
   sync_done d0 done here = done_there s d0 done d0 refl here
 
   -- what was seen is sure after a sync, done or not
-  pub sync_here : (d0 : ℕ) (done : Bool) (p : ℕ) (Q : Block → Type 0) → Seen s d0 p Q → Sure (step (Sync d0 done) s) d0 p Q
+  pub sync_here : (d0 : ℕ) (done : Bool) (p : ℕ) (Q : Block → Type 0) → IsSeen s d0 p Q → IsSure (step (Sync d0 done) s) d0 p Q
   sync_here d0 done p Q seen = record {
     holds = λ here.
         (sync_clears d0 done p (sync_done d0 done here), subst Q (sym (sync_block d0 done d0 p)) (seen.holds (sync_present d0 done d0 here)));
   }
 
-pub seen_sure : {s : Disks} {d p : ℕ} {Q : Block → Type 0} → Sure s d p Q → Seen s d p Q
+pub seen_sure : {s : Disks} {d p : ℕ} {Q : Block → Type 0} → IsSure s d p Q → IsSeen s d p Q
 seen_sure sure = record { holds = λ here. (sure.holds here).1 }
 
-pub absent_sure : (s : Disks) (d p : ℕ) (Q : Block → Type 0) → s.power d ≡ Absent → Sure s d p Q
+pub absent_sure : (s : Disks) (d p : ℕ) (Q : Block → Type 0) → s.power d ≡ Absent → IsSure s d p Q
 absent_sure s d p Q gone = record { holds = λ here. absurd (false≢true (sym (ap is_present gone) ∙ here)) }
 
-pub absent_seen : (s : Disks) (d p : ℕ) (Q : Block → Type 0) → s.power d ≡ Absent → Seen s d p Q
+pub absent_seen : (s : Disks) (d p : ℕ) (Q : Block → Type 0) → s.power d ≡ Absent → IsSeen s d p Q
 absent_seen s d p Q gone = record { holds = λ here. absurd (false≢true (sym (ap is_present gone) ∙ here)) }
 
 -- each image, also with a slot lost, has Q there
-pub left_sure : {s i : Disks} {d p : ℕ} {Q : Block → Type 0} → Sure s d p Q → IsLeft s i → IsPresent i d → Q (i.block d p)
+pub left_sure : {s i : Disks} {d p : ℕ} {Q : Block → Type 0} → IsSure s d p Q → IsLeftByStop s i → IsPresent i d → Q (i.block d p)
 left_sure {s} {i} {d} {p} {Q} sure left here =
     let was = sure.holds (left.present d here) in
     subst Q (sym (left.block d p was.0)) was.1
 
-pub image_left : (s i : Disks) → IsImage s i → IsLeft s i
+pub image_left : (s i : Disks) → IsImage s i → IsLeftByStop s i
 image_left s i image = record {
   present = λ d here. ap is_present (sym (image.power d)) ∙ here;
   power = λ d here. image.power d;
@@ -189,7 +189,7 @@ image_left s i image = record {
 pub lost_apart : (i : Disks) (x d : ℕ) → IsPresent (lose x i) d → d ≢ x
 lost_apart i x d here is = false≢true (sym (ap is_present (with_at_same i.power x Absent d is)) ∙ here)
 
-pub lost_left : (s i : Disks) (x : ℕ) → IsImage s i → IsLeft s (lose x i)
+pub lost_left : (s i : Disks) (x : ℕ) → IsImage s i → IsLeftByStop s (lose x i)
 lost_left s i x image = record {
   present = λ d here. at_use (λ p. is_present p ≡ true) (IsPresent s d) i.power x Absent d
       (λ is now. absurd (false≢true now)) (λ not now. ap is_present (sym (image.power d)) ∙ now) here;

@@ -4,7 +4,7 @@ use Rattle.paraid_rack.specs.declared.call.Power.TheVariants.{Absent}
 use Rattle.paraid_rack.specs.declared.call.Call.TheVariants.{Write, Sync}
 use Rattle.paraid_base.specs.declared.block.Block.{Block}
 use Rattle.paraid_rack.specs.Disks.{Disks, IsPresent, step}
-use Rattle.paraid_rack.specs.Atoms.{Sure, Seen}
+use Rattle.paraid_rack.specs.Atoms.{IsSure, IsSeen}
 use Rattle.paraid_rack.proofs.AtomsLemmas.{write_sure, write_seen, write_here, write_present, write_power, write_size, sync_sure, sync_seen, sync_here, sync_present, sync_power, sync_size, absent_sure, absent_seen}
 
 -- the disks that are present after a call were so before, with the same power and size
@@ -18,15 +18,15 @@ keeps_all s = record { present = λ d here. here; power = λ d here. refl; size 
 
 pub record Wrote (s s' : Disks) (d0 p0 : ℕ) (b : Block) : Type 1 where
   pub keeps : Keeps s s'
-  pub sure : (d p : ℕ) (Q : Block → Type 0) → (d ≡ d0 → p ≢ p0) → Sure s d p Q → Sure s' d p Q
-  pub seen : (d p : ℕ) (Q : Block → Type 0) → (d ≡ d0 → p ≢ p0) → Seen s d p Q → Seen s' d p Q
-  pub here : (Q : Block → Type 0) → Q b → Seen s' d0 p0 Q
+  pub sure : (d p : ℕ) (Q : Block → Type 0) → (d ≡ d0 → p ≢ p0) → IsSure s d p Q → IsSure s' d p Q
+  pub seen : (d p : ℕ) (Q : Block → Type 0) → (d ≡ d0 → p ≢ p0) → IsSeen s d p Q → IsSeen s' d p Q
+  pub here : (Q : Block → Type 0) → Q b → IsSeen s' d0 p0 Q
 
 pub record Synced (s s' : Disks) (d0 : ℕ) : Type 1 where
   pub keeps : Keeps s s'
-  pub sure : (d p : ℕ) (Q : Block → Type 0) → Sure s d p Q → Sure s' d p Q
-  pub seen : (d p : ℕ) (Q : Block → Type 0) → Seen s d p Q → Seen s' d p Q
-  pub here : (p : ℕ) (Q : Block → Type 0) → Seen s d0 p Q → Sure s' d0 p Q
+  pub sure : (d p : ℕ) (Q : Block → Type 0) → IsSure s d p Q → IsSure s' d p Q
+  pub seen : (d p : ℕ) (Q : Block → Type 0) → IsSeen s d p Q → IsSeen s' d p Q
+  pub here : (p : ℕ) (Q : Block → Type 0) → IsSeen s d0 p Q → IsSure s' d0 p Q
 
 pub wrote_step : (s : Disks) (d0 p0 : ℕ) (b : Block) (done : Bool) → Wrote s (step (Write d0 p0 b done) s) d0 p0 b
 wrote_step s d0 p0 b done = record {
@@ -51,8 +51,8 @@ pub synced_none : (s : Disks) (d0 : ℕ) → s.power d0 ≡ Absent → Synced s 
 synced_none s d0 gone = record { keeps = keeps_all s; sure = λ d p Q h. h; seen = λ d p Q h. h; here = λ p Q h. absent_sure s d0 p Q gone }
 
 -- seen, and not loose
-pub dry_sure : {s : Disks} {d p : ℕ} {Q : Block → Type 0} → Seen s d p Q → Sure s d p (λ b. Unit {0}) → Sure s d p Q
-dry_sure seen dry = record { holds = λ here. ((dry.holds here).0, seen.holds here) }
+pub synced_sure : {s : Disks} {d p : ℕ} {Q : Block → Type 0} → IsSeen s d p Q → IsSure s d p (λ b. Unit {0}) → IsSure s d p Q
+synced_sure seen synced = record { holds = λ here. ((synced.holds here).0, seen.holds here) }
 
-pub sure_dry : {s : Disks} {d p : ℕ} {Q : Block → Type 0} → Sure s d p Q → Sure s d p (λ b. Unit {0})
-sure_dry sure = record { holds = λ here. ((sure.holds here).0, tt) }
+pub sure_synced : {s : Disks} {d p : ℕ} {Q : Block → Type 0} → IsSure s d p Q → IsSure s d p (λ b. Unit {0})
+sure_synced sure = record { holds = λ here. ((sure.holds here).0, tt) }

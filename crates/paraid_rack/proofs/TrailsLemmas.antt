@@ -1,11 +1,11 @@
 -- Parts of a program, one after the other.
 use Rattle.std.proofs.Common.{◌≡◌, ℕ, zero, suc, ◌+◌, ◌-◌, ◌≤◌, List, [], ◌∷◌, ◌++◌, length, take, Option, Some, refl, sym, ◌∙◌, ap, subst, arith, append_assoc, length-append}
 use Rattle.std.proofs.lemmas.List.{append-nil}
-use Rattle.paraid_rack.specs.Lawful.{Lawful}
+use Rattle.paraid_rack.specs.Lawful.{AreLawful}
 use Rattle.paraid_rack.specs.declared.call.Call.{Call}
 use Rattle.paraid_rack.specs.Disks.{Disks, step}
 use Rattle.paraid_rack.specs.Trail.{Trail, run, now, disks, initial, extend, moments}
-use Rattle.paraid_rack.specs.Told.{Grows, Through, Ran, Runs}
+use Rattle.paraid_rack.specs.Told.{GrowsByCall, Through, Ran, CrashTriple}
 
 run-append : (s : Disks) (cs ds : List Call) → run s (cs ++ ds) ≡ run (run s cs) ds
 run-append s [] ds = refl
@@ -27,7 +27,7 @@ now-extend t cs = run-append (initial t.start) t.calls cs
 
 module _ (P : Disks → Type 0) where
   -- no call
-  pub stays : (A B : Disks → Type 0) (told : Option Trail) → ((s : Disks) → B s → P s) → ((t : Trail) → told ≡ Some t → A (now t) → B (now t)) → Ran told told (Runs P A B)
+  pub stays : (A B : Disks → Type 0) (told : Option Trail) → ((s : Disks) → B s → P s) → ((t : Trail) → told ≡ Some t → A (now t) → B (now t)) → Ran told told (CrashTriple P A B)
   stays A B told is go t tells = record {
     from = t;
     was = tells;
@@ -37,7 +37,7 @@ module _ (P : Disks → Type 0) where
   }
 
   -- one call
-  pub called : (A B : Disks → Type 0) (old new : Option Trail) (c : Call) → Grows old new c → ((s : Disks) → A s → P s) → ((s : Disks) → B s → P s) → ((s : Disks) → A s → B (step c s)) → Ran old new (Runs P A B)
+  pub called : (A B : Disks → Type 0) (old new : Option Trail) (c : Call) → GrowsByCall old new c → ((s : Disks) → A s → P s) → ((s : Disks) → B s → P s) → ((s : Disks) → A s → B (step c s)) → Ran old new (CrashTriple P A B)
   called A B old new c grows is_a is_b go t tells =
       let g = grows t tells in
       record {
@@ -49,7 +49,7 @@ module _ (P : Disks → Type 0) where
       }
 
   -- one part after the other
-  pub then : (A B C : Disks → Type 0) (old mid new : Option Trail) → Ran old mid (Runs P A B) → Ran mid new (Runs P B C) → Ran old new (Runs P A C)
+  pub then : (A B C : Disks → Type 0) (old mid new : Option Trail) → Ran old mid (CrashTriple P A B) → Ran mid new (CrashTriple P B C) → Ran old new (CrashTriple P A C)
   then A B C old mid new first second t tells =
       let later = second t tells in
       let before = first later.from later.was in
@@ -70,7 +70,7 @@ module _ (P : Disks → Type 0) where
       }
 
   -- less is asked, and less is promised
-  pub weaker : (A A' B B' : Disks → Type 0) (old new : Option Trail) → ((s : Disks) → A' s → A s) → ((s : Disks) → B s → B' s) → Ran old new (Runs P A B) → Ran old new (Runs P A' B')
+  pub weaker : (A A' B B' : Disks → Type 0) (old new : Option Trail) → ((s : Disks) → A' s → A s) → ((s : Disks) → B s → B' s) → Ran old new (CrashTriple P A B) → Ran old new (CrashTriple P A' B')
   weaker A A' B B' old new ask promise ran t tells =
       let r = ran t tells in
       record {
@@ -91,7 +91,7 @@ take_past : {A : Type 0} (xs ys : List A) (n : ℕ) → take (length xs + n) (xs
 take_past [] ys n = ap (λ (k : ℕ). take k ys) (omega arith)
 take_past (x ∷ xs) ys n = let e : length (x ∷ xs) + n ≡ suc (length xs + n) = omega arith in ap (λ (k : ℕ). take k (x ∷ xs ++ ys)) e ∙ ap (λ l. x ∷ l) (take_past xs ys n)
 
-pub moments_of : (P A B : Disks → Type 0) (old new : Option Trail) → Ran old new (Runs P A B) → (t : Trail) → new ≡ Some t → (s : Trail) × (old ≡ Some s) × (moments s ≤ moments t) × (A (now s) → B (now t) × ((m : ℕ) → moments s ≤ m → m ≤ moments t → P (disks t m)))
+pub moments_of : (P A B : Disks → Type 0) (old new : Option Trail) → Ran old new (CrashTriple P A B) → (t : Trail) → new ≡ Some t → (s : Trail) × (old ≡ Some s) × (moments s ≤ moments t) × (A (now s) → B (now t) × ((m : ℕ) → moments s ≤ m → m ≤ moments t → P (disks t m)))
 moments_of P A B old new ran t tells =
     let r = ran t tells in
     let s = r.from in
@@ -112,7 +112,7 @@ moments_of P A B old new ran t tells =
     )
 
 -- the same, where what is said of the moments depends on the disks with which the part began
-pub moments_from : (P A B : Disks → Disks → Type 0) (old new : Option Trail) → ((start : Disks) → Ran old new (Runs (P start) (A start) (B start))) → (t : Trail) → new ≡ Some t
+pub moments_from : (P A B : Disks → Disks → Type 0) (old new : Option Trail) → ((start : Disks) → Ran old new (CrashTriple (P start) (A start) (B start))) → (t : Trail) → new ≡ Some t
     → (s : Trail) × (old ≡ Some s) × (moments s ≤ moments t) × (A (now s) (now s) → B (now s) (now t) × ((m : ℕ) → moments s ≤ m → m ≤ moments t → P (now s) (disks t m)))
 moments_from P A B old new ran t tells =
     let first = ran (initial []) t tells in
@@ -138,7 +138,7 @@ Ran-none Q none told t tells = record {
   holds = none (now t);
 }
 
-pub Ran-call : (Q : Disks → List Call → Type 0) (old new : Option Trail) (c : Call) → Grows old new c → ((s : Trail) → old ≡ Some s → Q (now s) (c ∷ [])) → Ran old new Q
+pub Ran-call : (Q : Disks → List Call → Type 0) (old new : Option Trail) (c : Call) → GrowsByCall old new c → ((s : Trail) → old ≡ Some s → Q (now s) (c ∷ [])) → Ran old new Q
 Ran-call Q old new c grows has t tells =
     let g = grows t tells in
     record { from = g.0; was = g.1; calls = c ∷ []; is = g.2; holds = has g.0 g.1 }
@@ -158,11 +158,11 @@ Ran-then Q both old mid new first second t tells =
     }
 
 -- the disks after one more call
-pub now-more : (old new : Option Trail) (c : Call) → Grows old new c → (t : Trail) → new ≡ Some t → (s : Trail) × (old ≡ Some s) × (now t ≡ step c (now s))
+pub now-more : (old new : Option Trail) (c : Call) → GrowsByCall old new c → (t : Trail) → new ≡ Some t → (s : Trail) × (old ≡ Some s) × (now t ≡ step c (now s))
 now-more old new c grows t tells =
     let g = grows t tells in
     (g.0, g.1, ap now g.2 ∙ now-extend g.0 (c ∷ []))
 
-pub Lawful-append : (s : Disks) (cs ds : List Call) → Lawful s cs → Lawful (run s cs) ds → Lawful s (cs ++ ds)
-Lawful-append s [] ds first second = second
-Lawful-append s (c ∷ cs) ds first second = (first.0, Lawful-append (step c s) cs ds first.1 second)
+pub AreLawful-append : (s : Disks) (cs ds : List Call) → AreLawful s cs → AreLawful (run s cs) ds → AreLawful s (cs ++ ds)
+AreLawful-append s [] ds first second = second
+AreLawful-append s (c ∷ cs) ds first second = (first.0, AreLawful-append (step c s) cs ds first.1 second)

@@ -4,15 +4,15 @@ use Rattle.paraid_base.specs.declared.block.Block.{Block}
 use Rattle.paraid_rack.specs.Disks.{Disks, IsPresent}
 
 -- it is not loose and has Q, so each image has Q there
-pub record Sure (s : Disks) (d p : ℕ) (Q : Block → Type 0) : Type 0 where
+pub record IsSure (s : Disks) (d p : ℕ) (Q : Block → Type 0) : Type 0 where
   pub holds : IsPresent s d → (s.loose d p ≡ false) × Q (s.block d p)
 
 -- a read gives what has Q, and it may be loose
-pub record Seen (s : Disks) (d p : ℕ) (Q : Block → Type 0) : Type 0 where
+pub record IsSeen (s : Disks) (d p : ℕ) (Q : Block → Type 0) : Type 0 where
   pub holds : IsPresent s d → Q (s.block d p)
 
 -- what a stop may leave, with any slots lost
-pub record IsLeft (s i : Disks) : Type 0 where
+pub record IsLeftByStop (s i : Disks) : Type 0 where
   pub present : (d : ℕ) → IsPresent i d → IsPresent s d
   pub power : (d : ℕ) → IsPresent i d → i.power d ≡ s.power d
   pub size : (d : ℕ) → IsPresent i d → i.size d ≡ s.size d

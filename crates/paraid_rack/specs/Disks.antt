@@ -1,7 +1,7 @@
 -- What all disks hold at one moment, and what a call does to them.
 use Rattle.std.specs.Prelude.{◌≡◌, ℕ, Bool, true, false, if◌then◌else◌, ◌==◌}
 use Rattle.paraid_base.specs.declared.block.Block.{Block}
-use Rattle.paraid_base.specs.Xor.{zeroed}
+use Rattle.paraid_base.specs.Xor.{zero_block}
 use Rattle.paraid_rack.specs.declared.call.Power.{Power}
 use Rattle.paraid_rack.specs.declared.call.Power.TheVariants.{Spinning, Parked, Absent}
 use Rattle.paraid_rack.specs.declared.call.Call.{Call}
@@ -23,6 +23,11 @@ is_present Absent = false
 is_present Parked = true
 is_present Spinning = true
 
+abbrev pub is_parked : Power → Bool
+is_parked Absent = false
+is_parked Parked = true
+is_parked Spinning = false
+
 abbrev pub IsPresent : Disks → ℕ → Type 0
 IsPresent s d = is_present (s.power d) ≡ true
 
@@ -37,37 +42,37 @@ size_after true size = size
 size_after false size = 0
 
 -- nothing is loose any more where the call is done
-abbrev pub settled : Bool → (ℕ → Bool) → ℕ → Bool
-settled true loose = λ p. false
-settled false loose = loose
+abbrev pub loose_after_sync : Bool → (ℕ → Bool) → ℕ → Bool
+loose_after_sync true loose = λ p. false
+loose_after_sync false loose = loose
 
 -- every block is zeros where the call is done
-abbrev pub attached : Bool → (ℕ → Block) → ℕ → Block
-attached true blocks = λ p. zeroed
-attached false blocks = blocks
+abbrev pub after_attach : Bool → (ℕ → Block) → ℕ → Block
+after_attach true blocks = λ p. zero_block
+after_attach false blocks = blocks
 
 -- only the power and the size change, as a failed call leaves none
-abbrev pub touched : ℕ → Bool → Power → ℕ → Disks → Disks
-touched d done power size s = record s {
+abbrev pub with_power : ℕ → Bool → Power → ℕ → Disks → Disks
+with_power d done power size s = record s {
   power = with_at s.power d (power_after done power);
   size = with_at s.size d (size_after done size);
 }
 
 -- the disks after a call
 unfoldable pub step : Call → Disks → Disks
-step (Read d p done) s = touched d done (s.power d) (s.size d) s
-step (Write d p b done) s = record (touched d done (s.power d) (s.size d) s) {
+step (Read d p done) s = with_power d done (s.power d) (s.size d) s
+step (Write d p b done) s = record (with_power d done (s.power d) (s.size d) s) {
   block = with_at s.block d (with_at (s.block d) p b);
   loose = with_at s.loose d (with_at (s.loose d) p true);
 }
-step (Sync d done) s = record (touched d done (s.power d) (s.size d) s) {
-  loose = with_at s.loose d (settled done (s.loose d));
+step (Sync d done) s = record (with_power d done (s.power d) (s.size d) s) {
+  loose = with_at s.loose d (loose_after_sync done (s.loose d));
 }
-step (Park d done) s = touched d done Parked (s.size d) s
-step (SpinUp d done) s = touched d done Spinning (s.size d) s
-step (Attach d size done) s = record (touched d done Spinning size s) {
-  block = with_at s.block d (attached done (s.block d));
-  loose = with_at s.loose d (settled done (s.loose d));
+step (Park d done) s = with_power d done Parked (s.size d) s
+step (SpinUp d done) s = with_power d done Spinning (s.size d) s
+step (Attach d size done) s = record (with_power d done Spinning size s) {
+  block = with_at s.block d (after_attach done (s.block d));
+  loose = with_at s.loose d (loose_after_sync done (s.loose d));
 }
 
 -- What a stop at this moment may leave: any bytes in a loose block, all else as it is.

@@ -16,6 +16,6 @@ IsLawful s (SpinUp d done) = s.power d ≡ Parked
 IsLawful s (Attach d size done) = Unit {0}
 
 -- each of these calls is lawful at its moment
-abbrev pub Lawful : Disks → List Call → Type 0
-Lawful s [] = Unit {0}
-Lawful s (c ∷ cs) = IsLawful s c × Lawful (step c s) cs
+abbrev pub AreLawful : Disks → List Call → Type 0
+AreLawful s [] = Unit {0}
+AreLawful s (c ∷ cs) = IsLawful s c × AreLawful (step c s) cs

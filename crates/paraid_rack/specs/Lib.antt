@@ -1,4 +1,5 @@
 pub mod Disks
+pub mod Calls
 pub mod Slots
 pub mod Trail
 pub mod Told

@@ -14,7 +14,7 @@ pub record Slot : Type 0 where
 
 -- A call on one slot: a done call leaves it so; a failed one leaves it absent, with its count
 -- risen and so unsynced. No other slot changes.
-pub record Touched (old new : ℕ → Slot) (disk : ℕ) (leaves : Slot) (dirt : Bool) (ok : Bool) : Type 0 where
+pub record ChangesOneSlot (old new : ℕ → Slot) (disk : ℕ) (leaves : Slot) (dirt : Bool) (ok : Bool) : Type 0 where
   pub others : (d : ℕ) → d ≢ disk → new d ≡ old d
   pub done : ok ≡ true → new disk ≡ leaves
   pub absent : ok ≡ false → (new disk).power ≡ Absent
@@ -35,3 +35,7 @@ pub record Agrees (s : Disks) (slot : ℕ → Slot) : Type 0 where
   pub power : (d : ℕ) → s.power d ≡ (slot d).power
   pub size : (d : ℕ) → s.size d ≡ (slot d).size
   pub loose : (d p : ℕ) → s.loose d p ≡ true → (slot d).unsynced ≡ true
+
+-- no slot has changed
+abbrev pub AreSameSlots : (ℕ → Slot) → (ℕ → Slot) → Type 0
+AreSameSlots old new = (d : ℕ) → new d ≡ old d

@@ -6,8 +6,8 @@ use Rattle.paraid_rack.specs.Trail.{Trail, run, now, extend}
 
 -- Where the record is told after a call, it was told before, the start is the same and the list is
 -- longer by this one call.
-abbrev pub Grows : Option Trail → Option Trail → Call → Type 0
-Grows old new c = (t : Trail) → new ≡ Some t → (s : Trail) × (old ≡ Some s) × (t ≡ extend s (c ∷ []))
+abbrev pub GrowsByCall : Option Trail → Option Trail → Call → Type 0
+GrowsByCall old new c = (t : Trail) → new ≡ Some t → (s : Trail) × (old ≡ Some s) × (t ≡ extend s (c ∷ []))
 
 -- P at each moment of these calls, the first and the last too
 abbrev pub Through : (Disks → Type 0) → Disks → List Call → Type 0
@@ -27,5 +27,5 @@ abbrev pub Ran : Option Trail → Option Trail → (Disks → List Call → Type
 Ran old new Q = (t : Trail) → new ≡ Some t → Came old t Q
 
 -- from A, with P at each moment, to B
-pub record Runs (P A B : Disks → Type 0) (s : Disks) (cs : List Call) : Type 0 where
+pub record CrashTriple (P A B : Disks → Type 0) (s : Disks) (cs : List Call) : Type 0 where
   pub goes : A s → Through P s cs × B (run s cs)

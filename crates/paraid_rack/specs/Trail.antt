@@ -1,7 +1,7 @@
 -- The record of a rack: how its disks were at the start, and the calls since then.
 use Rattle.std.specs.Prelude.{ℕ, false, List, [], ◌∷◌, ◌++◌, length, take, get_or}
 use Rattle.paraid_base.specs.declared.block.Block.{Block}
-use Rattle.paraid_base.specs.Xor.{zeroed}
+use Rattle.paraid_base.specs.Xor.{zero_block}
 use Rattle.paraid_rack.specs.declared.call.Power.{Power}
 use Rattle.paraid_rack.specs.declared.call.Power.TheVariants.{Absent}
 use Rattle.paraid_rack.specs.declared.call.Call.{Call}
@@ -25,7 +25,7 @@ unfoldable pub initial : List Beginning → Disks
 initial start = record {
   power = λ d. (beginning start d).power;
   size = λ d. length (beginning start d).blocks;
-  block = λ d p. get_or (beginning start d).blocks p zeroed;
+  block = λ d p. get_or (beginning start d).blocks p zero_block;
   loose = λ d p. false;
 }
 

@@ -1,7 +1,7 @@
 ghost use Rattle.std.specs.Prelude.{◌≡◌, ◌<◌, ℕ, true, false, Option, Some, OnOk, is_ok};
-ghost use Rattle.paraid_rack.specs.Slots.{Slot, Touched, AreSlots, Agrees};
+ghost use Rattle.paraid_rack.specs.Slots.{Slot, ChangesOneSlot, AreSlots, Agrees};
 ghost use Rattle.paraid_rack.specs.Trail.{Trail, now};
-ghost use Rattle.paraid_rack.specs.Told.{Grows};
+ghost use Rattle.paraid_rack.specs.Told.{GrowsByCall};
 
 use crate::{Call, Power};
 use paraid_base::{Block, DiskNo, Failed, Place};
@@ -46,9 +46,9 @@ pub trait Rack {
         requires spinning { (slot self.old disk).power ≡ Power.Spinning }
         requires within { place < (slot self.old disk).size }
         ensures slots { slot_count self.new ≡ slot_count self.old }
-        ensures slot { Touched (slot self.old) (slot self.new) disk
+        ensures slot { ChangesOneSlot (slot self.old) (slot self.new) disk
             (slot self.old disk) (slot self.old disk).unsynced (is_ok result) }
-        ensures told { Grows (told self.old) (told self.new) (Call.Read disk place (is_ok result)) }
+        ensures told { GrowsByCall (told self.old) (told self.new) (Call.Read disk place (is_ok result)) }
         ensures bytes { OnOk result ((t : Trail) → told self.old ≡ Some t
             → into.new ≡ (now t).block disk place) };
 
@@ -58,9 +58,9 @@ pub trait Rack {
         requires spinning { (slot self.old disk).power ≡ Power.Spinning }
         requires within { place < (slot self.old disk).size }
         ensures slots { slot_count self.new ≡ slot_count self.old }
-        ensures slot { Touched (slot self.old) (slot self.new) disk
+        ensures slot { ChangesOneSlot (slot self.old) (slot self.new) disk
             (record (slot self.old disk) { unsynced = true }) true (is_ok result) }
-        ensures told { Grows (told self.old) (told self.new)
+        ensures told { GrowsByCall (told self.old) (told self.new)
             (Call.Write disk place block.now (is_ok result)) };
 
     /// Makes the disk keep all that was written: no block of it is loose any more.
@@ -68,10 +68,10 @@ pub trait Rack {
         requires exists { disk < slot_count self.old }
         requires spinning { (slot self.old disk).power ≡ Power.Spinning }
         ensures slots { slot_count self.new ≡ slot_count self.old }
-        ensures slot { Touched (slot self.old) (slot self.new) disk
+        ensures slot { ChangesOneSlot (slot self.old) (slot self.new) disk
             (record (slot self.old disk) { unsynced = false }) (slot self.old disk).unsynced
             (is_ok result) }
-        ensures told { Grows (told self.old) (told self.new) (Call.Sync disk (is_ok result)) };
+        ensures told { GrowsByCall (told self.old) (told self.new) (Call.Sync disk (is_ok result)) };
 
     /// Parks a spinning disk.
     fn park(&mut self, disk: DiskNo) -> Result<(), Failed>
@@ -79,27 +79,27 @@ pub trait Rack {
         requires spinning { (slot self.old disk).power ≡ Power.Spinning }
         requires synced { (slot self.old disk).unsynced ≡ false }
         ensures slots { slot_count self.new ≡ slot_count self.old }
-        ensures slot { Touched (slot self.old) (slot self.new) disk
+        ensures slot { ChangesOneSlot (slot self.old) (slot self.new) disk
             (record (slot self.old disk) { power = Power.Parked }) false (is_ok result) }
-        ensures told { Grows (told self.old) (told self.new) (Call.Park disk (is_ok result)) };
+        ensures told { GrowsByCall (told self.old) (told self.new) (Call.Park disk (is_ok result)) };
 
     /// Spins up a parked disk.
     fn spin_up(&mut self, disk: DiskNo) -> Result<(), Failed>
         requires exists { disk < slot_count self.old }
         requires parked { (slot self.old disk).power ≡ Power.Parked }
         ensures slots { slot_count self.new ≡ slot_count self.old }
-        ensures slot { Touched (slot self.old) (slot self.new) disk
+        ensures slot { ChangesOneSlot (slot self.old) (slot self.new) disk
             (record (slot self.old disk) { power = Power.Spinning }) false (is_ok result) }
-        ensures told { Grows (told self.old) (told self.new) (Call.SpinUp disk (is_ok result)) };
+        ensures told { GrowsByCall (told self.old) (told self.new) (Call.SpinUp disk (is_ok result)) };
 
     /// Puts a fresh disk of `size` blocks of zeros into the slot, spinning.
     fn attach(&mut self, disk: DiskNo, size: u32) -> Result<(), Failed>
         requires exists { disk < slot_count self.old }
         ensures slots { slot_count self.new ≡ slot_count self.old }
-        ensures slot { Touched (slot self.old) (slot self.new) disk
+        ensures slot { ChangesOneSlot (slot self.old) (slot self.new) disk
             (record (slot self.old disk) { power = Power.Spinning; size = size; unsynced = false })
             (slot self.old disk).unsynced (is_ok result) }
-        ensures told { Grows (told self.old) (told self.new)
+        ensures told { GrowsByCall (told self.old) (told self.new)
             (Call.Attach disk size (is_ok result)) };
 
     /// What holds of the slots at any time.

@@ -5,7 +5,7 @@ use Rattle.std.proofs.lemmas.List.{append_assoc, get_or_at, get_or_append_left, 
 use Rattle.std.proofs.lemmas.Bool.{cases_lt}
 use Rattle.paraid_base.specs.declared.geometry.Geometry.{Geometry}
 use Rattle.paraid_record.specs.Codes.{gears_below}
-use Rattle.paraid_record.specs.Spelling.{filled}
+use Rattle.paraid_record.specs.Spelling.{zero_filled}
 
 pub gears_below-yes : (g : Geometry) (a : ℕ) → slice_index_or g.gears a false ≡ true → gears_below g (suc a) ≡ gears_below g a ++ a ∷ []
 unfolding gears_below
@@ -26,8 +26,8 @@ length-gears_below g (suc a) =
       | false ↦ λ e. omega arith
     ] refl
 
-pub filled_push : (size x : ℕ) (xs : List ℕ) → length xs < size → slice_set (filled size xs) (length xs) x ≡ filled size (xs ++ x ∷ [])
-unfolding filled
+pub filled_push : (size x : ℕ) (xs : List ℕ) → length xs < size → slice_set (zero_filled size xs) (length xs) x ≡ zero_filled size (xs ++ x ∷ [])
+unfolding zero_filled
 filled_push size x xs l =
     let n : size - length xs ≡ suc (size - (length xs + 1)) = omega arith in
     let m : length (xs ++ x ∷ []) ≡ length xs + 1 = length-append xs (x ∷ []) in
@@ -38,15 +38,15 @@ filled_push size x xs l =
 
 -- the list and the count after the test of number `a`
 pub gear_step-yes : (g : Geometry) (a count count' : ℕ) (list list' : List ℕ) → a < 9 → slice_index_or g.gears a false ≡ true
-    → list ≡ filled 8 (gears_below g a) → count ≡ length (gears_below g a)
+    → list ≡ zero_filled 8 (gears_below g a) → count ≡ length (gears_below g a)
     → list' ≡ slice_set list count a → count' ≡ count + 1
-    → (list' ≡ filled 8 (gears_below g (a + 1))) × (count' ≡ length (gears_below g (a + 1)))
+    → (list' ≡ zero_filled 8 (gears_below g (a + 1))) × (count' ≡ length (gears_below g (a + 1)))
 gear_step-yes g a count count' list list' small flagged e f e' f' =
     let few = length-gears_below g a in
     let grown : gears_below g (a + 1) ≡ gears_below g a ++ a ∷ [] = ap (gears_below g) (add-one a) ∙ gears_below-yes g a flagged in
     let pushed = filled_push 8 a (gears_below g a) (omega arith) in
     let long = length-append (gears_below g a) (a ∷ []) in (
-      e' ∙ ap (λ (xs : List ℕ). slice_set xs count a) e ∙ ap (λ (n : ℕ). slice_set (filled 8 (gears_below g a)) n a) f ∙ pushed ∙ ap (filled 8) (sym grown),
+      e' ∙ ap (λ (xs : List ℕ). slice_set xs count a) e ∙ ap (λ (n : ℕ). slice_set (zero_filled 8 (gears_below g a)) n a) f ∙ pushed ∙ ap (zero_filled 8) (sym grown),
       f' ∙ ap (λ (n : ℕ). n + 1) f ∙ sym long ∙ ap length (sym grown),
     )
 

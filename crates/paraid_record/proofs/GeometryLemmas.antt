@@ -9,7 +9,7 @@ use mathlib.Core.HLevel.{is_prop→PathP}
 use Rattle.paraid_base.specs.declared.geometry.Geometry.{Geometry}
 use Rattle.paraid_base.specs.declared.geometry.GeoFault.{GeoFault}
 use Rattle.paraid_base.specs.declared.geometry.GeoFault.TheVariants.{Disks, Rows, Gears}
-use Rattle.paraid_base.specs.Gears.{IsGearList, IsGeoFault, Marks, is_bad_gear}
+use Rattle.paraid_base.specs.Gears.{IsGearList, IsGeoFault, AreFlagsOf, is_bad_gear}
 use Rattle.paraid_record.specs.Codes.{gear_list}
 use Rattle.paraid_record.proofs.GearLemmas.{ascends}
 
@@ -68,7 +68,7 @@ no_fault g (Gears at) f = elim (cases_lt at (length (gear_list g))) [
       f.4.whole e last.0 last.1
 ]
 
-same_flag : (g : Geometry) (flags : List Bool) → Marks (gear_list g) (length (gear_list g)) flags → (a : ℕ) → slice_index_or flags a false ≡ slice_index_or g.gears a false
+same_flag : (g : Geometry) (flags : List Bool) → AreFlagsOf (gear_list g) (length (gear_list g)) flags → (a : ℕ) → slice_index_or flags a false ≡ slice_index_or g.gears a false
 same_flag g flags marks a =
     let up = ascends g 9 in
     elim (slice_index_or flags a false) as (λ b. slice_index_or flags a false ≡ b → b ≡ slice_index_or g.gears a false) [
@@ -85,7 +85,7 @@ same_flag g flags marks a =
           ] refl
     ] refl
 
-pub same_flags : (g h : Geometry) → Marks (gear_list g) (length (gear_list g)) h.gears → h.gears ≡ g.gears
+pub same_flags : (g h : Geometry) → AreFlagsOf (gear_list g) (length (gear_list g)) h.gears → h.gears ≡ g.gears
 same_flags g h marks = same_lists h.gears g.gears (h.long ∙ sym g.long) (λ k d l.
     get_or_default h.gears k d false l
     ∙ same_flag g h.gears marks k
@@ -95,11 +95,11 @@ same_flags g h marks = same_lists h.gears g.gears (h.long ∙ sym g.long) (λ k 
 pub made_again : (g : Geometry) (disks rows : ℕ) (gears : List ℕ) (made : Result Geometry GeoFault)
     → disks ≡ g.disks → rows ≡ g.rows → gears ≡ gear_list g
     → IfOk made (λ h. (h.disks ≡ disks) × (h.rows ≡ rows))
-    → IfOk made (λ h. IsGearList disks gears × Marks gears (length gears) h.gears)
+    → IfOk made (λ h. IsGearList disks gears × AreFlagsOf gears (length gears) h.gears)
     → IfErr made (IsGeoFault disks rows gears)
     → made ≡ Ok g
 made_again g disks rows gears (Ok h) d r l numbers lists fault =
-    let P : List ℕ → Type 0 = λ xs. Marks xs (length xs) h.gears in
+    let P : List ℕ → Type 0 = λ xs. AreFlagsOf xs (length xs) h.gears in
     let marks = subst P l lists.1 in
     ap Ok (same_geometry h g (numbers.0 ∙ d) (numbers.1 ∙ r) (same_flags g h marks))
 made_again g disks rows gears (Err f) d r l numbers lists fault =

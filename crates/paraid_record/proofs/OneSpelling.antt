@@ -8,7 +8,7 @@ use Rattle.paraid_base.specs.declared.state.Phase.{Phase}
 use Rattle.paraid_base.specs.declared.state.Phase.TheVariants.{Steady, Down, Up}
 use Rattle.paraid_base.specs.declared.state.Out.{Out}
 use Rattle.paraid_base.specs.declared.state.Out.TheVariants.{No, Gone, Fresh}
-use Rattle.paraid_base.specs.Gears.{Marks}
+use Rattle.paraid_base.specs.Gears.{AreFlagsOf}
 use Rattle.paraid_record.specs.declared.meta.Mode.{Mode}
 use Rattle.paraid_record.specs.declared.meta.Mode.TheVariants.{Whole, Access}
 use Rattle.paraid_record.specs.declared.meta.Setup.{Setup}
@@ -16,9 +16,9 @@ use Rattle.paraid_record.specs.declared.meta.Meta.{Meta}
 use Rattle.paraid_record.specs.declared.targets.Target.{Target}
 use Rattle.paraid_record.specs.Codes.{mode_code, phase_code, phase_to, out_code, fresh_code, rebuilt_count, gear_list, window_count, burst_code, period_code}
 use Rattle.paraid_record.specs.Range.{IsInRange, IsOutInRange, IsSetupInRange, IsVersionInRange}
-use Rattle.paraid_record.specs.Spelling.{big_endian, filled, shorts}
+use Rattle.paraid_record.specs.Spelling.{big_endian, zero_filled, shorts}
 use Rattle.paraid_record.specs.Meta.{clock_bytes, count_bytes, geometry_bytes, growth_bytes, heading_bytes, meta_bytes, policy_bytes, state_bytes}
-use Rattle.paraid_record.specs.Targets.{Fits, no_target, places_bytes, targets_bytes}
+use Rattle.paraid_record.specs.Targets.{FitsBytes, no_target, places_bytes, targets_bytes}
 use Rattle.paraid_record.proofs.GearLemmas.{ascends, length-gears_below}
 use Rattle.paraid_record.proofs.GeometryLemmas.{same_flags, same_geometry}
 use Rattle.paraid_record.proofs.PartLemmas.{burst_code_small, burst_small, energy-parts, figure_small, fill_small, fresh_code_small, gear_small, geometry-parts, growth-parts, length-filled, meta-parts, mode_code_small, out_code_small, period_code_small, period_small, phase_code_small, phase_to_small, policy-parts, rebuilt_small, spins_small, state_left, window_count_small, windows_small}
@@ -42,9 +42,9 @@ shorts-cancel (x ∷ xs) (y ∷ ys) r s l f g e =
     let tail = shorts-cancel xs ys r s (omega arith) (λ k. f (suc k)) (λ k. g (suc k)) head.1 in
     ((λ i. head.0 i ∷ tail.0 i), tail.1)
 
-filled-cancel : (xs ys : List ℕ) → length xs ≡ length ys → filled 8 xs ≡ filled 8 ys → xs ≡ ys
-unfolding filled
-filled-cancel xs ys l e = (same_front xs ys _ _ l e).0
+zero_filled-cancel : (xs ys : List ℕ) → length xs ≡ length ys → zero_filled 8 xs ≡ zero_filled 8 ys → xs ≡ ys
+unfolding zero_filled
+zero_filled-cancel xs ys l e = (same_front xs ys _ _ l e).0
 
 same_mode : (a b : Mode) → mode_code a ≡ mode_code b → a ≡ b
 same_mode Whole Whole e = refl
@@ -75,7 +75,7 @@ same_out g h p q (Fresh d u) No r s e f k = absurd (omega arith)
 same_out g h p q (Fresh c t) (Gone d) r s e f k = absurd (omega arith)
 same_out g h p q (Fresh c t) (Fresh d u) r s e f k = λ i. Fresh (e i) (k i)
 
-marks_of : (h : Geometry) → Marks (gear_list h) (length (gear_list h)) h.gears
+marks_of : (h : Geometry) → AreFlagsOf (gear_list h) (length (gear_list h)) h.gears
 marks_of h =
     let up = ascends h 9 in
     record {
@@ -90,11 +90,11 @@ geometry-cancel g h r s e =
     let disks = big_endian-cancel 1 g.disks h.disks _ _ (let t = g.disks_high in omega arith) (let t = h.disks_high in omega arith)
     (sym (geometry-parts g r) ∙ e ∙ geometry-parts h s) in
     let count = big_endian-cancel 1 (length (gear_list g)) (length (gear_list h)) _ _ (omega arith) (omega arith) disks.1 in
-    let gears = same_front (filled 8 (gear_list g)) (filled 8 (gear_list h)) _ _
+    let gears = same_front (zero_filled 8 (gear_list g)) (zero_filled 8 (gear_list h)) _ _
     (length-filled 8 (gear_list g) (omega arith) ∙ sym (length-filled 8 (gear_list h) (omega arith))) count.1 in
     let rows = big_endian-cancel 4 g.rows h.rows r s (let t = g.rows_high in omega arith) (let t = h.rows_high in omega arith) gears.1 in
-    let list = filled-cancel (gear_list g) (gear_list h) count.0 gears.0 in
-    let P : List ℕ → Type 0 = λ xs. Marks xs (length xs) h.gears in
+    let list = zero_filled-cancel (gear_list g) (gear_list h) count.0 gears.0 in
+    let P : List ℕ → Type 0 = λ xs. AreFlagsOf xs (length xs) h.gears in
     let flags = same_flags g h (subst P (sym list) (marks_of h)) in
     (same_geometry g h disks.0 rows.0 (sym flags), rows.1)
 
@@ -240,7 +240,7 @@ meta_bytes-cancel a b f g e =
       spins = state.0.spins i;
     }
 
-places-cancel : (a b : List Target) (r s : List ℕ) → length a ≡ length b → All Fits a → All Fits b
+places-cancel : (a b : List Target) (r s : List ℕ) → length a ≡ length b → All FitsBytes a → All FitsBytes b
     → places_bytes a ++ r ≡ places_bytes b ++ s → a ≡ b
 places-cancel [] [] r s l f g e = refl
 places-cancel [] (y ∷ b) r s l f g e = absurd (omega arith)
@@ -256,7 +256,7 @@ places-cancel (x ∷ a) (y ∷ b) r s l f g e =
     let tail = places-cancel a b r s (omega arith) (λ k d h. f (suc k) d (omega arith)) (λ k d h. g (suc k) d (omega arith)) place.1 in
     λ i. record { disk = disk.0 i; place = place.0 i } ∷ tail i
 
-pub targets_bytes-cancel : (a b : List Target) → length a ≤ 96 → length b ≤ 96 → All Fits a → All Fits b → targets_bytes a ≡ targets_bytes b → a ≡ b
+pub targets_bytes-cancel : (a b : List Target) → length a ≤ 96 → length b ≤ 96 → All FitsBytes a → All FitsBytes b → targets_bytes a ≡ targets_bytes b → a ≡ b
 targets_bytes-cancel a b la lb f g e =
     let count = big_endian-cancel 2 (length a) (length b) _ _ (omega arith) (omega arith) (sym (targets-parts a) ∙ e ∙ targets-parts b) in
     places-cancel a b _ _ count.0 f g count.1

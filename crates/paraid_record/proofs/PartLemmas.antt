@@ -20,15 +20,15 @@ use Rattle.paraid_base.specs.declared.geometry.Geometry.{Geometry}
 use Rattle.paraid_record.specs.declared.meta.Setup.{Setup}
 use Rattle.paraid_record.specs.declared.meta.Meta.{Meta}
 use Rattle.paraid_record.specs.Codes.{mode_code, phase_code, phase_to, out_code, fresh_code, rebuilt_count, gear_list, window_count, burst_code, period_code}
-use Rattle.paraid_record.specs.Spelling.{big_endian, filled, shorts}
+use Rattle.paraid_record.specs.Spelling.{big_endian, zero_filled, shorts}
 use Rattle.paraid_record.specs.Meta.{clock_bytes, count_bytes, energy_bytes, geometry_bytes, growth_bytes, heading_bytes, meta_bytes, policy_bytes, state_bytes}
 
-pub length-filled : (size : ℕ) (xs : List ℕ) → length xs ≤ size → length (filled size xs) ≡ size
-unfolding filled
+pub length-filled : (size : ℕ) (xs : List ℕ) → length xs ≤ size → length (zero_filled size xs) ≡ size
+unfolding zero_filled
 length-filled size xs l = omega (arith, length-append xs (replicate (size - length xs) 0), length-replicate {A = ℕ} (size - length xs) 0)
 
 pub geometry-parts : (g : Geometry) (rest : List ℕ) → geometry_bytes g ++ rest
-    ≡ big_endian 1 g.disks ++ (big_endian 1 (length (gear_list g)) ++ (filled 8 (gear_list g) ++ (big_endian 4 g.rows ++ rest)))
+    ≡ big_endian 1 g.disks ++ (big_endian 1 (length (gear_list g)) ++ (zero_filled 8 (gear_list g) ++ (big_endian 4 g.rows ++ rest)))
 unfolding geometry_bytes
 geometry-parts g rest = simp (append_assoc, append-nil)
 
@@ -68,7 +68,7 @@ zeros_after m = replicate (512 - length (heading_bytes m.version ++ (geometry_by
 pub meta-parts : (m : Meta) → meta_bytes m
     ≡ heading_bytes m.version ++ (geometry_bytes m.setup.geometry ++ (policy_bytes m.setup
     ++ (clock_bytes m ++ (state_bytes m ++ (count_bytes m ++ (energy_bytes m.setup ++ (growth_bytes m.version m.setup ++ zeros_after m)))))))
-unfolding meta_bytes filled zeros_after
+unfolding meta_bytes zero_filled zeros_after
 meta-parts m = simp append_assoc
 
 pub mode_code_small : (mode : Mode) → mode_code mode < 256

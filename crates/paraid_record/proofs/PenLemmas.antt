@@ -4,7 +4,7 @@ use Rattle.std.proofs.Common.{arith, ap, sym, ◌∙◌}
 use Rattle.std.proofs.lemmas.List.{drop-drop, length-append, length-drop, length-take-le, take-append-drop, drop-replicate}
 use Rattle.std.proofs.lemmas.Slice.{drop-put_mid}
 use borrow.Rule.Slice.PartMut.{put_mid}
-use Rattle.paraid_record.specs.Spelling.{filled}
+use Rattle.paraid_record.specs.Spelling.{zero_filled}
 
 -- a pen that stands at `at` in a block whose rest is zeros
 abbrev pub IsPen : ℕ → List ℕ → Type 0
@@ -31,8 +31,8 @@ pen_put at k end bytes new p e f l =
     ∙ ap (λ (n : ℕ). replicate n 0) (let d : 512 - at - length new ≡ 512 - end = omega arith in d) in
     (l, length-put at k bytes new p e (omega arith), back)
 
-pub pen_finish : (at : ℕ) (bytes : List ℕ) → IsPen at bytes → bytes ≡ filled 512 (take at bytes)
-unfolding filled
+pub pen_finish : (at : ℕ) (bytes : List ℕ) → IsPen at bytes → bytes ≡ zero_filled 512 (take at bytes)
+unfolding zero_filled
 pen_finish at bytes p =
     let front : length (take at bytes) ≡ at = length-take-le at bytes (omega arith) in
     sym (take-append-drop at bytes) ∙ ap (λ (xs : List ℕ). take at bytes ++ xs) (p.2 ∙ ap (λ (n : ℕ). replicate (512 - n) 0) (sym front))

@@ -4,7 +4,7 @@ use Rattle.std.proofs.Common.{arith, ap, sym, ◌∙◌, zero, suc, add-one}
 use Rattle.std.proofs.lemmas.List.{append_assoc, append-nil, length-append, take_all, take_more, take_more_set}
 use Rattle.byteorder.specs.Endian.{big_number}
 use Rattle.byteorder.specs.Numbers.{big_number-reads_back, length-bytes_high_first}
-use Rattle.paraid_record.specs.Spelling.{big_endian, shorts, Reads}
+use Rattle.paraid_record.specs.Spelling.{big_endian, shorts, ReadsNumber}
 use Rattle.paraid_record.specs.Meta.{heading_bytes}
 
 pub length-big_endian : (width x : ℕ) → length (big_endian width x) ≡ width
@@ -30,7 +30,7 @@ big_endian-cancel width x y r s fx fy e = (
   sym (drop-big_endian width x r) ∙ ap (drop width) e ∙ drop-big_endian width y s,
 )
 
-pub reads_back : (width : ℕ) (bytes : List ℕ) → Reads width bytes (take (length bytes - width) (drop width bytes)) (big_number width bytes)
+pub reads_back : (width : ℕ) (bytes : List ℕ) → ReadsNumber width bytes (take (length bytes - width) (drop width bytes)) (big_number width bytes)
 reads_back width bytes x rest fits e =
     let value : big_number width bytes ≡ x = ap (big_number width) e ∙ number-big_endian width x rest fits in
     let left : drop width bytes ≡ rest = ap (drop width) e ∙ drop-big_endian width x rest in
@@ -62,7 +62,7 @@ shorts-drop (x ∷ xs) (suc i) l = shorts-drop xs i (omega arith)
 
 -- one more number of two bytes is read into a list
 pub shorts_step : (xs rest bytes left into : List ℕ) (i value : ℕ) → i < length xs → length into ≡ length xs
-    → get_or xs i 0 < 256 ^ 2 → Reads 2 bytes left value
+    → get_or xs i 0 < 256 ^ 2 → ReadsNumber 2 bytes left value
     → bytes ≡ shorts (drop i xs) ++ rest → take i into ≡ take i xs
     → (left ≡ shorts (drop (i + 1) xs) ++ rest) × (take (i + 1) (set into i value) ≡ take (i + 1) xs)
 shorts_step xs rest bytes left into i value l same fits reads e f =

@@ -5,8 +5,8 @@ use Rattle.std.proofs.lemmas.List.{append_assoc, append-nil, get_or_default, len
 use Rattle.paraid_base.specs.declared.geometry.Geometry.{Geometry}
 use Rattle.paraid_base.specs.Regions.{disk_size}
 use Rattle.paraid_record.specs.declared.targets.Target.{Target}
-use Rattle.paraid_record.specs.Spelling.{big_endian, filled, Reads}
-use Rattle.paraid_record.specs.Targets.{AreTargets, Fits, no_target, places_bytes, targets_bytes}
+use Rattle.paraid_record.specs.Spelling.{big_endian, zero_filled, ReadsNumber}
+use Rattle.paraid_record.specs.Targets.{AreTargets, FitsBytes, no_target, places_bytes, targets_bytes}
 
 places_bytes-append : (xs ys : List Target) → places_bytes (xs ++ ys) ≡ places_bytes xs ++ places_bytes ys
 places_bytes-append [] ys = refl
@@ -30,8 +30,8 @@ places_bytes-drop (t ∷ ts) zero l = refl
 places_bytes-drop (t ∷ ts) (suc i) l = places_bytes-drop ts i (omega arith)
 
 -- one more target is read into a list
-pub places_step : (ts list : List Target) (rest bytes middle left : List ℕ) (i disk place : ℕ) → i < length ts → i < length list → All Fits ts
-    → Reads 1 bytes middle disk → Reads 4 middle left place
+pub places_step : (ts list : List Target) (rest bytes middle left : List ℕ) (i disk place : ℕ) → i < length ts → i < length list → All FitsBytes ts
+    → ReadsNumber 1 bytes middle disk → ReadsNumber 4 middle left place
     → bytes ≡ places_bytes (drop i ts) ++ rest → take i list ≡ take i ts
     → (left ≡ places_bytes (drop (i + 1) ts) ++ rest) × (take (i + 1) (set list i (record { disk = disk; place = place })) ≡ take (i + 1) ts)
 places_step ts list rest bytes middle left i disk place l r fits read_disk read_place e f =
@@ -88,7 +88,7 @@ stands_before ts i at d less l e =
       get_or-take_below ts i at (get_or ts at no_target) less ∙ get_or_default ts i (get_or ts at no_target) d here ∙ e ∙ get_or_default ts at d no_target l,
     )
 
-pub All-fits : (g : Geometry) (ts : List Target) → AreTargets g ts → disk_size g < 2 ^ 32 → All Fits ts
+pub All-fits : (g : Geometry) (ts : List Target) → AreTargets g ts → disk_size g < 2 ^ 32 → All FitsBytes ts
 All-fits g ts targets small = λ k d l.
     let t = targets.each k d l in
     let n = g.disks_high in
@@ -97,5 +97,5 @@ All-fits g ts targets small = λ k d l.
     (omega arith, omega arith)
 
 pub targets-parts : (ts : List Target) → targets_bytes ts ≡ big_endian 2 (length ts) ++ (places_bytes ts ++ replicate (512 - length (big_endian 2 (length ts) ++ places_bytes ts)) 0)
-unfolding targets_bytes filled
+unfolding targets_bytes zero_filled
 targets-parts ts = append_assoc (big_endian 2 (length ts)) (places_bytes ts) _

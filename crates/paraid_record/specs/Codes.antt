@@ -6,6 +6,7 @@ use Rattle.paraid_base.specs.declared.state.Phase.{Phase}
 use Rattle.paraid_base.specs.declared.state.Phase.TheVariants.{Steady, Down, Up}
 use Rattle.paraid_base.specs.declared.state.Out.{Out}
 use Rattle.paraid_base.specs.declared.state.Out.TheVariants.{No, Gone, Fresh}
+pub use Rattle.paraid_base.specs.States.{phase_to, rebuilt_count}
 use Rattle.paraid_record.specs.declared.meta.Setup.{Setup}
 use Rattle.paraid_record.specs.declared.meta.Mode.{Mode}
 use Rattle.paraid_record.specs.declared.meta.Mode.TheVariants.{Whole, Access}
@@ -19,12 +20,6 @@ phase_code Steady = 0
 phase_code (Down to) = 1
 phase_code (Up to) = 2
 
--- the gear that a shift goes to, 0 where there is no shift
-abbrev pub phase_to : Phase → ℕ
-phase_to Steady = 0
-phase_to (Down to) = to
-phase_to (Up to) = to
-
 -- the disk that is out, 255 where none is
 abbrev pub out_code : Out → ℕ
 out_code No = 255
@@ -35,12 +30,6 @@ abbrev pub fresh_code : Out → ℕ
 fresh_code No = 0
 fresh_code (Gone disk) = 0
 fresh_code (Fresh disk rebuilt) = 1
-
--- how many units of the disk that is out are rebuilt
-abbrev pub rebuilt_count : Out → ℕ
-rebuilt_count No = 0
-rebuilt_count (Gone disk) = 0
-rebuilt_count (Fresh disk rebuilt) = rebuilt
 
 -- the burst and the period as they are spelled: version 1 has zeros in their place
 abbrev pub burst_code : ℕ → Setup → ℕ

@@ -3,3 +3,4 @@ pub mod Codes
 pub mod Range
 pub mod Meta
 pub mod Targets
+pub mod Modes

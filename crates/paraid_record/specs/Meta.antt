@@ -4,22 +4,22 @@ use Rattle.paraid_base.specs.declared.geometry.Geometry.{Geometry}
 use Rattle.paraid_record.specs.declared.meta.Setup.{Setup}
 use Rattle.paraid_record.specs.declared.meta.Meta.{Meta}
 use Rattle.paraid_record.specs.Codes.{mode_code, phase_code, phase_to, out_code, fresh_code, rebuilt_count, gear_list, window_count, burst_code, period_code}
-use Rattle.paraid_record.specs.Spelling.{big_endian, joined, shorts, filled}
+use Rattle.paraid_record.specs.Spelling.{big_endian, joined_parts, shorts, zero_filled}
 
 -- the text PARAIDAR and the version
 unfoldable pub heading_bytes : ℕ → List ℕ
-heading_bytes version = joined (codes "PARAIDAR" ∷ big_endian 2 version ∷ [])
+heading_bytes version = joined_parts (codes "PARAIDAR" ∷ big_endian 2 version ∷ [])
 
 unfoldable pub geometry_bytes : Geometry → List ℕ
-geometry_bytes g = joined
+geometry_bytes g = joined_parts
     (big_endian 1 g.disks
     ∷ big_endian 1 (length (gear_list g))
-    ∷ filled 8 (gear_list g)
+    ∷ zero_filled 8 (gear_list g)
     ∷ big_endian 4 g.rows
     ∷ [])
 
 unfoldable pub policy_bytes : Setup → List ℕ
-policy_bytes s = joined
+policy_bytes s = joined_parts
     (big_endian 4 s.rate
     ∷ big_endian 4 s.service
     ∷ big_endian 1 s.up
@@ -31,14 +31,14 @@ policy_bytes s = joined
     ∷ [])
 
 unfoldable pub clock_bytes : Meta → List ℕ
-clock_bytes m = joined
+clock_bytes m = joined_parts
     (big_endian 8 m.epoch
     ∷ big_endian 8 m.writes
     ∷ big_endian 8 m.ticks
     ∷ [])
 
 unfoldable pub state_bytes : Meta → List ℕ
-state_bytes m = joined
+state_bytes m = joined_parts
     (big_endian 1 m.gear
     ∷ big_endian 1 (phase_code m.phase)
     ∷ big_endian 1 (phase_to m.phase)
@@ -48,14 +48,14 @@ state_bytes m = joined
     ∷ [])
 
 unfoldable pub count_bytes : Meta → List ℕ
-count_bytes m = joined
+count_bytes m = joined_parts
     (big_endian 4 m.fill
     ∷ big_endian 4 (rebuilt_count m.out)
     ∷ shorts m.spins
     ∷ [])
 
 unfoldable pub energy_bytes : Setup → List ℕ
-energy_bytes s = joined
+energy_bytes s = joined_parts
     (big_endian 4 s.spinning_mj
     ∷ big_endian 4 s.parked_mj
     ∷ big_endian 4 s.spinup_mj
@@ -63,11 +63,11 @@ energy_bytes s = joined
 
 -- how the allowance of spin-ups grows
 unfoldable pub growth_bytes : ℕ → Setup → List ℕ
-growth_bytes version s = joined (big_endian 2 (burst_code version s) ∷ big_endian 4 (period_code version s) ∷ [])
+growth_bytes version s = joined_parts (big_endian 2 (burst_code version s) ∷ big_endian 4 (period_code version s) ∷ [])
 
 -- the whole block: the fields, and then zeros
 unfoldable pub meta_bytes : Meta → List ℕ
-meta_bytes m = filled 512 (joined
+meta_bytes m = zero_filled 512 (joined_parts
     (heading_bytes m.version
     ∷ geometry_bytes m.setup.geometry
     ∷ policy_bytes m.setup

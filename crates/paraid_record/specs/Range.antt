@@ -1,5 +1,5 @@
 -- Which setups and metas are in range
-use Rattle.std.specs.Prelude.{◌≡◌, ℕ, ◌+◌, ◌^◌, ◌<◌, ◌≤◌, Bool, true, false, List, length, slice_index, slice_index_or, nat_lt, if◌then◌else◌}
+use Rattle.std.specs.Prelude.{◌≡◌, ℕ, ◌+◌, ◌^◌, ◌<◌, ◌≤◌, true, false, List, length, slice_index, slice_index_or, nat_lt, if◌then◌else◌}
 use Rattle.paraid_base.specs.declared.geometry.Geometry.{Geometry}
 use Rattle.paraid_base.specs.declared.state.Phase.{Phase}
 use Rattle.paraid_base.specs.declared.state.Phase.TheVariants.{Steady, Down, Up}
@@ -7,6 +7,7 @@ use Rattle.paraid_base.specs.declared.state.Out.{Out}
 use Rattle.paraid_base.specs.declared.state.Out.TheVariants.{No, Gone, Fresh}
 use Rattle.paraid_base.specs.Regions.{IsGear, map_count}
 use Rattle.paraid_base.specs.Soft.{stripe_count}
+pub use Rattle.paraid_base.specs.States.{has_out, is_down}
 use Rattle.paraid_ration.specs.Ration.{allowance}
 use Rattle.paraid_record.specs.declared.meta.Setup.{Setup}
 use Rattle.paraid_record.specs.declared.meta.Meta.{Meta}
@@ -65,26 +66,19 @@ IsOutInRange g gear No = Unit {0}
 IsOutInRange g gear (Gone disk) = disk < g.disks
 IsOutInRange g gear (Fresh disk rebuilt) = (disk < g.disks) × (rebuilt ≤ rebuild_units g gear disk)
 
-abbrev pub is_down : Phase → Bool
-is_down Steady = false
-is_down (Down to) = true
-is_down (Up to) = false
-
--- whether a disk is out
-abbrev pub has_out : Out → Bool
-has_out No = false
-has_out (Gone disk) = true
-has_out (Fresh disk rebuilt) = true
-
 -- the first disk that a shift under way, or the gear, leaves parked
 abbrev pub first_parked : ℕ → Phase → ℕ
 first_parked gear Steady = gear
 first_parked gear (Down to) = to
 first_parked gear (Up to) = to
 
--- the spin-ups that a disk may have by the ticks of the meta itself
+-- so many spin-ups a disk may have by this tick
+abbrev pub allowed_by : Setup → ℕ → ℕ
+allowed_by setup ticks = allowance setup.ration setup.burst setup.period ticks
+
+-- and by the ticks of the meta itself
 abbrev pub allowed_spins : Meta → ℕ
-allowed_spins m = allowance m.setup.ration m.setup.burst m.setup.period m.ticks
+allowed_spins m = allowed_by m.setup m.ticks
 
 -- the spin-ups of a disk: at most what is allowed, below it where the disk is parked, and none past the last disk
 pub record IsSpinCount (m : Meta) (disk : ℕ) : Type 0 where

@@ -7,9 +7,9 @@ unfoldable pub big_endian : ℕ → ℕ → List ℕ
 big_endian width x = big_bytes width x
 
 -- the parts, one after the other
-abbrev pub joined : List (List ℕ) → List ℕ
-joined [] = []
-joined (part ∷ parts) = part ++ joined parts
+abbrev pub joined_parts : List (List ℕ) → List ℕ
+joined_parts [] = []
+joined_parts (part ∷ parts) = part ++ joined_parts parts
 
 -- numbers of two bytes, one after the other
 abbrev pub shorts : List ℕ → List ℕ
@@ -17,10 +17,10 @@ shorts [] = []
 shorts (x ∷ xs) = big_endian 2 x ++ shorts xs
 
 -- the list, and then zeros up to `size` members
-unfoldable pub filled : ℕ → List ℕ → List ℕ
-filled size xs = xs ++ replicate (size - length xs) 0
+unfoldable pub zero_filled : ℕ → List ℕ → List ℕ
+zero_filled size xs = xs ++ replicate (size - length xs) 0
 
 -- where a number of `width` bytes stands next among the bytes left, it was read, and the rest is left
-abbrev pub Reads : ℕ → List ℕ → List ℕ → ℕ → Type 0
-Reads width old new value =
+abbrev pub ReadsNumber : ℕ → List ℕ → List ℕ → ℕ → Type 0
+ReadsNumber width old new value =
     (x : ℕ) (rest : List ℕ) → x < 256 ^ width → old ≡ big_endian width x ++ rest → (value ≡ x) × (new ≡ rest)

@@ -4,7 +4,7 @@ use Rattle.paraid_base.specs.declared.geometry.Geometry.{Geometry}
 use Rattle.paraid_record.specs.declared.targets.Target.{Target}
 use Rattle.paraid_record.specs.declared.targets.Targets.{Targets}
 use Rattle.paraid_base.specs.Regions.{disk_size, map_count}
-use Rattle.paraid_record.specs.Spelling.{big_endian, filled}
+use Rattle.paraid_record.specs.Spelling.{big_endian, zero_filled}
 
 -- the list that `t` stands for
 abbrev pub targets_of : Targets → List Target
@@ -17,7 +17,7 @@ places_bytes (t ∷ ts) = big_endian 1 t.disk ++ (big_endian 4 t.place ++ places
 
 -- the whole block: the count, the targets, and then zeros
 unfoldable pub targets_bytes : List Target → List ℕ
-targets_bytes ts = filled 512 (big_endian 2 (length ts) ++ places_bytes ts)
+targets_bytes ts = zero_filled 512 (big_endian 2 (length ts) ++ places_bytes ts)
 
 -- a place past the log, on a disk of the array, and only on disk 0 or 1 where it is of the dirty map
 pub record IsTargetInRange (g : Geometry) (t : Target) : Type 0 where
@@ -41,5 +41,5 @@ pub record AreRestUnused (t : Targets) : Type 0 where
   pub list : t.list ≡ targets_of t ++ replicate (96 - t.count) no_target
 
 -- the disk fits one byte, and the place four
-abbrev pub Fits : Target → Type 0
-Fits t = (t.disk < 256) × (t.place < 2 ^ 32)
+abbrev pub FitsBytes : Target → Type 0
+FitsBytes t = (t.disk < 256) × (t.place < 2 ^ 32)

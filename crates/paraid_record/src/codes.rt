@@ -7,7 +7,7 @@ ghost use Rattle.paraid_base.specs.declared.state.Out.{Out as OutType};
 ghost use Rattle.paraid_record.specs.declared.meta.Mode.{Mode as ModeType};
 ghost use Rattle.paraid_record.specs.Codes.{mode_code as code_of_mode, phase_code as code_of_phase, phase_to as to_of_phase, out_code as code_of_out, fresh_code as code_of_fresh, rebuilt_count as rebuilt_of, window_count as count_of_windows, gear_list as list_of_gears, burst_code as code_of_burst, period_code as code_of_period};
 ghost use Rattle.paraid_record.specs.Range.{IsOutInRange};
-ghost use Rattle.paraid_record.specs.Spelling.{filled};
+ghost use Rattle.paraid_record.specs.Spelling.{zero_filled};
 
 use crate::{Mode, Setup};
 use paraid_base::{DiskNo, Geometry, Out, Phase};
@@ -45,16 +45,6 @@ pub fn phase_code(phase: Phase) -> u8
     }
 }
 
-/// The gear that a shift goes to, 0 where there is no shift.
-pub fn phase_to(phase: Phase) -> u8
-    ensures { result ≡ to_of_phase phase }
-{
-    match phase {
-        Phase::Steady => 0,
-        Phase::Down { to } | Phase::Up { to } => to,
-    }
-}
-
 /// The phase of a code and of a gear to shift to.
 pub fn phase_of(code: u8, to: u8) -> Option<Phase>
     ensures { (phase : PhaseType) → code ≡ code_of_phase phase → to ≡ to_of_phase phase
@@ -84,15 +74,6 @@ pub fn fresh_code(out: Out) -> u8
     match out {
         Out::No | Out::Gone { .. } => 0,
         Out::Fresh { .. } => 1,
-    }
-}
-
-pub fn rebuilt_count(out: Out) -> u32
-    ensures { result ≡ rebuilt_of out }
-{
-    match out {
-        Out::No | Out::Gone { .. } => 0,
-        Out::Fresh { rebuilt, .. } => rebuilt,
     }
 }
 
@@ -140,7 +121,7 @@ pub fn window_count(windows: &[u16; 3]) -> u8
 
 /// The gears in ascending order and then zeros, and how many gears there are.
 pub fn gear_list(geometry: &Geometry) -> ([u8; 8], u8)
-    ensures gears { result.0 ≡ filled 8 (list_of_gears geometry.now) }
+    ensures gears { result.0 ≡ zero_filled 8 (list_of_gears geometry.now) }
     ensures count { result.1 ≡ length (list_of_gears geometry.now) }
 {
     let mut list = [0; 8];

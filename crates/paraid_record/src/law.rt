@@ -5,7 +5,7 @@ ghost use Rattle.paraid_record.specs.declared.meta.Meta.{Meta as MetaType};
 ghost use Rattle.paraid_record.specs.declared.targets.Target.{Target as TargetType};
 ghost use Rattle.paraid_record.specs.Meta.{meta_bytes};
 ghost use Rattle.paraid_record.specs.Range.{IsInRange};
-ghost use Rattle.paraid_record.specs.Targets.{Fits, targets_bytes};
+ghost use Rattle.paraid_record.specs.Targets.{FitsBytes, targets_bytes};
 
 /// Metas in range with the same bytes are the same, and so are lists of at most 96 targets. It
 /// does nothing.
@@ -13,5 +13,5 @@ pub fn spellings_differ()
     ensures metas { (a b : MetaType) → IsInRange a → IsInRange b
         → meta_bytes a ≡ meta_bytes b → a ≡ b }
     ensures targets { (a b : List TargetType) → length a ≤ 96 → length b ≤ 96
-        → All Fits a → All Fits b → targets_bytes a ≡ targets_bytes b → a ≡ b }
+        → All FitsBytes a → All FitsBytes b → targets_bytes a ≡ targets_bytes b → a ≡ b }
 {}

@@ -1,7 +1,7 @@
 //! Writes fields one after the other into a block whose rest is zeros.
 
 ghost use Rattle.std.specs.Prelude.{◌≡◌, ℕ, ◌+◌, ◌-◌, ◌≤◌, List, [], ◌++◌, length, take, drop, replicate};
-ghost use Rattle.paraid_record.specs.Spelling.{big_endian, filled, shorts};
+ghost use Rattle.paraid_record.specs.Spelling.{big_endian, zero_filled, shorts};
 
 use byteorder::{BigEndian, ByteOrder};
 use paraid_base::Block;
@@ -87,7 +87,7 @@ impl Pen {
 
     /// The block of the bytes written, with zeros after them.
     pub fn finish(self, into: &mut Block)
-        ensures { into.new.bytes ≡ filled 512 self }
+        ensures { into.new.bytes ≡ zero_filled 512 self }
     {
         *into = Block::from_array(self.bytes);
     }

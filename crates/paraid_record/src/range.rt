@@ -2,7 +2,7 @@
 
 ghost use Rattle.std.specs.Prelude.{◌≡◌, ℕ, ◌+◌, ◌<◌, ◌≤◌, ◌↔◌, IsTrue, length, slice_index, slice_index_or, true, false};
 ghost use Rattle.paraid_base.specs.Regions.{IsGear};
-ghost use Rattle.paraid_record.specs.Range.{AreCountersInRange, AreNextGears, AreWindows, IsInRange, IsOutInRange, IsPhaseInRange, IsSetupInRange, IsSpinCount, IsShiftInRange, IsVersionInRange, Within, allowed_spins, fill_limit as limit_of_fill, first_parked as parked_from, has_out as is_some_out, is_down as is_some_down, rebuild_units as units_of_rebuild};
+ghost use Rattle.paraid_record.specs.Range.{AreCountersInRange, AreNextGears, AreWindows, IsInRange, IsOutInRange, IsPhaseInRange, IsSetupInRange, IsSpinCount, IsShiftInRange, IsVersionInRange, Within, allowed_spins, fill_limit as limit_of_fill, first_parked as parked_from, rebuild_units as units_of_rebuild};
 
 use crate::{Meta, Setup};
 use paraid_base::{DiskNo, Geometry, Out, Phase};
@@ -68,9 +68,9 @@ impl Meta {
         requires { IsPhaseInRange self.now.setup.geometry self.now.gear self.now.phase }
         ensures { IsTrue result ↔ IsShiftInRange self.now }
     {
-        let out = has_out(self.out);
+        let out = self.out.is_any();
         self.fill <= fill_limit(&self.setup.geometry, self.gear, self.phase)
-            && !(is_down(self.phase) && out)
+            && !(self.phase.is_down() && out)
             && !(out && self.fill > 0)
     }
 
@@ -184,25 +184,6 @@ fn is_out_in_range(geometry: &Geometry, gear: u8, out: Out) -> bool
         Out::Fresh { disk, rebuilt } => {
             disk < geometry.disks && rebuilt <= rebuild_units(geometry, gear, disk)
         }
-    }
-}
-
-fn is_down(phase: Phase) -> bool
-    ensures { result ≡ is_some_down phase }
-{
-    match phase {
-        Phase::Down { .. } => true,
-        Phase::Steady | Phase::Up { .. } => false,
-    }
-}
-
-/// Whether a disk is out.
-fn has_out(out: Out) -> bool
-    ensures { result ≡ is_some_out out }
-{
-    match out {
-        Out::No => false,
-        Out::Gone { .. } | Out::Fresh { .. } => true,
     }
 }
 

@@ -1,7 +1,7 @@
 //! Reads fields one after the other from the bytes of a block.
 
 ghost use Rattle.std.specs.Prelude.{◌≡◌, ℕ, ◌+◌, ◌*◌, ◌≤◌, ◌^◌, ◌<◌, List, ◌++◌, length, drop, slice_index};
-ghost use Rattle.paraid_record.specs.Spelling.{Reads, shorts};
+ghost use Rattle.paraid_record.specs.Spelling.{ReadsNumber, shorts};
 
 use byteorder::{BigEndian, ByteOrder};
 use std::marker::Model;
@@ -27,7 +27,7 @@ impl<'a> Reader<'a> {
 
     pub fn take_u8(&mut self) -> u8
         requires { 1 ≤ length self.old }
-        ensures reads { Reads 1 self.old self.new result }
+        ensures reads { ReadsNumber 1 self.old self.new result }
         ensures length { length self.new + 1 ≡ length self.old }
     {
         let value = self.rest[0];
@@ -37,7 +37,7 @@ impl<'a> Reader<'a> {
 
     pub fn take_u16(&mut self) -> u16
         requires { 2 ≤ length self.old }
-        ensures reads { Reads 2 self.old self.new result }
+        ensures reads { ReadsNumber 2 self.old self.new result }
         ensures length { length self.new + 2 ≡ length self.old }
     {
         let value = BigEndian::read_u16(self.rest);
@@ -47,7 +47,7 @@ impl<'a> Reader<'a> {
 
     pub fn take_u32(&mut self) -> u32
         requires { 4 ≤ length self.old }
-        ensures reads { Reads 4 self.old self.new result }
+        ensures reads { ReadsNumber 4 self.old self.new result }
         ensures length { length self.new + 4 ≡ length self.old }
     {
         let value = BigEndian::read_u32(self.rest);
@@ -57,7 +57,7 @@ impl<'a> Reader<'a> {
 
     pub fn take_u64(&mut self) -> u64
         requires { 8 ≤ length self.old }
-        ensures reads { Reads 8 self.old self.new result }
+        ensures reads { ReadsNumber 8 self.old self.new result }
         ensures length { length self.new + 8 ≡ length self.old }
     {
         let value = BigEndian::read_u64(self.rest);

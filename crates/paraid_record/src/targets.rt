@@ -4,7 +4,7 @@ ghost use Rattle.std.specs.Prelude.{◌≡◌, ◌≢◌, ℕ, ◌+◌, ◌*◌,
 ghost use Rattle.paraid_base.specs.Regions.{disk_size};
 ghost use Rattle.paraid_record.specs.declared.targets.Target.{Target as TargetType};
 ghost use Rattle.paraid_record.specs.Spelling.{big_endian};
-ghost use Rattle.paraid_record.specs.Targets.{AreRestUnused, AreTargets, IsTargetInRange, Fits, places_bytes, targets_bytes, targets_of, no_target};
+ghost use Rattle.paraid_record.specs.Targets.{AreRestUnused, AreTargets, IsTargetInRange, FitsBytes, places_bytes, targets_bytes, targets_of, no_target};
 
 use crate::pen::Pen;
 use crate::reader::Reader;
@@ -96,7 +96,7 @@ fn is_spelling(targets: &[Target], block: &Block) -> bool
 fn take_targets(reader: &mut Reader) -> Option<Targets>
     requires { 482 ≤ length reader.old }
     ensures rest { IfSome result AreRestUnused }
-    ensures value { (ts : List TargetType) (rest : List ℕ) → length ts ≤ 96 → All Fits ts
+    ensures value { (ts : List TargetType) (rest : List ℕ) → length ts ≤ 96 → All FitsBytes ts
         → reader.old ≡ big_endian 2 (length ts) ++ (places_bytes ts ++ rest)
         → IsSomeAnd result (λ t. targets_of t ≡ ts) }
 {
@@ -115,7 +115,7 @@ fn take_places(reader: &mut Reader, count: usize) -> [Target; 96]
     requires few { count ≤ 96 }
     requires room { 5 * count ≤ length reader.old }
     ensures rest { AreRestUnused (record { count = count; list = result }) }
-    ensures value { (ts : List TargetType) (rest : List ℕ) → length ts ≡ count → All Fits ts
+    ensures value { (ts : List TargetType) (rest : List ℕ) → length ts ≡ count → All FitsBytes ts
         → reader.old ≡ places_bytes ts ++ rest
         → targets_of (record { count = count; list = result }) ≡ ts }
 {

@@ -7,8 +7,7 @@ ghost use Rattle.paraid_record.specs.Range.{IsInRange};
 ghost use Rattle.paraid_record.specs.Spelling.{shorts};
 
 use crate::codes::{
-    burst_code, fresh_code, gear_list, mode_code, out_code, period_code, phase_code, phase_to,
-    rebuilt_count, window_count,
+    burst_code, fresh_code, gear_list, mode_code, out_code, period_code, phase_code, window_count,
 };
 use crate::pen::Pen;
 use crate::{Meta, Setup};
@@ -90,7 +89,7 @@ fn put_state(pen: &mut Pen, meta: &Meta)
 {
     pen.put_u8(meta.gear);
     pen.put_u8(phase_code(meta.phase));
-    pen.put_u8(phase_to(meta.phase));
+    pen.put_u8(meta.phase.to());
     pen.put_u8(out_code(meta.out));
     pen.put_u8(fresh_code(meta.out));
     pen.put_bytes(&GAP);
@@ -102,7 +101,7 @@ fn put_counts(pen: &mut Pen, meta: &Meta)
     ensures length { length pen.new ≡ length pen.old + 24 }
 {
     pen.put_u32(meta.fill);
-    pen.put_u32(rebuilt_count(meta.out));
+    pen.put_u32(meta.out.rebuilt());
     put_shorts(pen, &meta.spins);
 }
 

@@ -10,15 +10,15 @@ use Rattle.paraid_image.specs.HeldAt.{IsHeld}
 use Rattle.paraid_image.specs.Out.{IsMissing, IsWeak, named_out, out_disk}
 use Rattle.paraid_image.specs.Out.IsWeak.{out as out_weak}
 use Rattle.paraid_image.specs.Rest.{IsAtRest}
-use Rattle.paraid_image.specs.Sides.{Batch, Said}
-use Rattle.paraid_image.proofs.StepLemmas.{out_named}
-use Rattle.paraid_txn.specs.Commit.{Commits, IsEitherMissing, IsNext}
-use Rattle.paraid_txn.specs.Resume.{IsBroken, Settles}
+use Rattle.paraid_image.specs.Sides.{Batch, LogState}
+use Rattle.paraid_image.proofs.CallLemmas.{out_named}
+use Rattle.paraid_txn.specs.Commit.{EndsCommitted, IsEitherMissing, IsNext}
+use Rattle.paraid_txn.specs.Resume.{IsBroken, EndsAsCommitted}
 use Rattle.paraid_txn.proofs.RanLemmas.{commits_now, settles_now}
-use Rattle.paraid_recover.specs.Held.{EndsHeld, Extends, IsAbsentOne, IsAbsentSince, KeepsHeld, RecoversHeld}
+use Rattle.paraid_recover.specs.HeldMoments.{EndsHeld, Extends, IsAbsentOne, IsAbsentSince, KeepsHeld, RecoversHeld}
 use Rattle.paraid_recover.proofs.RecoverLemmas.{disks_before, disks_last, middle}
-use Rattle.paraid_recover.proofs.RestLemmas.{rest_held}
-use Rattle.paraid_recover.proofs.RestingLemmas.{resting_from, resting_held}
+use Rattle.paraid_recover.proofs.HeldAtRestLemmas.{rest_held}
+use Rattle.paraid_recover.proofs.QuietCallsLemmas.{resting_from, resting_held}
 
 -- at rest the writes that the meta counts are held, beside the disk that is out by it
 pub at_end : (slots : ℕ) (s : Disks) (m : Meta) (h : History) (lo : ℕ) (down : Option ℕ) → IsAtRest s m → IsHeld slots s h lo down
@@ -27,7 +27,7 @@ at_end slots s m h lo down rest held =
     rest_held slots s m h lo (out_disk s.power m) rest (resting_held slots m h lo s (resting_from slots s m h lo down rest held))
 
 -- what is said of a start, where the start is known
-at_start : {slots lo : ℕ} {h : History} {was down : Option ℕ} {x : ℕ} {P : Type 0} (a b t : Trail) (said : Said) → a ≡ b
+pub at_start : {slots lo : ℕ} {h : History} {was down : Option ℕ} {x : ℕ} {P : Type 0} (a b t : Trail) (said : LogState) → a ≡ b
     → (IsBroken (now a) x said → IsHeld slots (now a) h lo was → IsAbsentSince said.meta.setup.geometry.disks t (moments a) (moments t) down
     → ((w : ℕ) → IsWeak (now a) w → down ≡ Some w) → P)
     → IsBroken (now b) x said → IsHeld slots (now b) h lo was → IsAbsentSince said.meta.setup.geometry.disks t (moments b) (moments t) down
@@ -40,7 +40,7 @@ some_same : (down : Option ℕ) (d e : ℕ) → down ≡ Some d → down ≡ Som
 some_same down d e p q = let z : Some d ≡ Some e = sym p ∙ q in cc
 
 -- where an interrupted commit was ended
-pub ends_resumed : (slots x : ℕ) (said : Said) (old new : Option Trail) → RecoversHeld slots x said old new → Settles old new x said → EndsHeld slots x said said.meta old new
+pub ends_resumed : (slots x : ℕ) (said : LogState) (old new : Option Trail) → RecoversHeld slots x said old new → EndsAsCommitted old new x said → EndsHeld slots x said said.meta old new
 ends_resumed slots x said old new holds settles t tells =
     let r = holds t tells in
     let s = settles_now old new x said settles t tells in
@@ -60,7 +60,7 @@ ends_resumed slots x said old new holds settles t tells =
     )
 
 -- and while then an absent disk is marked
-pub then_marked : (slots x : ℕ) (said : Said) (old mid new : Option Trail) (d : ℕ) → d < said.meta.setup.geometry.disks
+pub then_marked : (slots x : ℕ) (said : LogState) (old mid new : Option Trail) (d : ℕ) → d < said.meta.setup.geometry.disks
     → ((e : ℕ) → named_out said.meta.out ≡ Some e → e ≡ d) → ((t : Trail) → mid ≡ Some t → is_present ((now t).power d) ≡ false) → Extends mid new
     → RecoversHeld slots x said old mid → EndsHeld slots x said said.meta old mid
     → KeepsHeld (λ s. IsAtRest s said.meta) slots said.meta.setup.geometry.disks mid new → RecoversHeld slots x said old new
@@ -96,13 +96,13 @@ then_marked slots x said old mid new d low only gone second before ends after t 
     )
 
 -- and where a disk was marked then
-pub ends_marked : (slots x : ℕ) (said : Said) (after : Meta) (batch : Batch) (old mid new : Option Trail) → (d : ℕ) → d < said.meta.setup.geometry.disks
+pub ends_marked : (slots x : ℕ) (said : LogState) (after : Meta) (batch : Batch) (old mid new : Option Trail) → (d : ℕ) → d < said.meta.setup.geometry.disks
     → ((e : ℕ) → named_out said.meta.out ≡ Some e → e ≡ d)
     → named_out after.out ≡ Some d → after.setup ≡ said.meta.setup
     → ((t : Trail) → mid ≡ Some t → is_present ((now t).power d) ≡ false)
     → ((s : Disks) → IsAtRest s said.meta → IsNext s said.meta after)
     → Extends old mid → Extends mid new → RecoversHeld slots x said old new → EndsHeld slots x said said.meta old mid
-    → Commits mid new said.meta after batch → EndsHeld slots x said after old new
+    → EndsCommitted mid new said.meta after batch → EndsHeld slots x said after old new
 ends_marked slots x said after batch old mid new d low only names setup gone next first second holds ends commits t tells =
     let r = holds t tells in
     let c = commits_now mid new said.meta after batch commits t tells in

@@ -10,47 +10,49 @@ use Rattle.paraid_record.specs.Range.{IsInRange}
 use Rattle.paraid_image.specs.Rest.{IsAtRest, closed_over}
 use Rattle.paraid_txn.specs.Commit.{IsEitherMissing, IsNext, IsOldOrNew}
 use Rattle.paraid_image.specs.Content.{view_by, view_of}
-use Rattle.paraid_image.specs.HeldAt.{IsHeld, IsSound}
-use Rattle.paraid_image.specs.Holds.{Holds}
-use Rattle.paraid_image.specs.Mark.{marked}
+use Rattle.paraid_image.specs.HeldAt.{IsHeld, IsSoundFrom}
+use Rattle.paraid_image.specs.FirstWrites.{HoldsFirstWrites}
+use Rattle.paraid_image.specs.Mark.{marked_gone}
 use Rattle.paraid_image.specs.Out.{named_out}
-use Rattle.paraid_image.specs.Sides.{Said}
+use Rattle.paraid_image.specs.Sides.{LogState}
 use Rattle.paraid_image.specs.Sound.{ContentOk}
 use Rattle.paraid_image.specs.Standing.{contents}
 use Rattle.paraid_image.proofs.AlikeLemmas.{contents_alike, held_alike, stands_alike}
+use Rattle.paraid_moves.proofs.MoveLemmas.{fits_later}
+use Rattle.paraid_recover.specs.RecoveryMark.{of_version_two}
 use Rattle.paraid_txn.proofs.HeldCommitLemmas.{held_commits}
-use Rattle.paraid_image.proofs.HeldLemmas.{image_of_dry}
+use Rattle.paraid_image.proofs.HeldLemmas.{image_of_synced}
 use Rattle.paraid_image.proofs.MarkLemmas.{content_marked}
 use Rattle.paraid_image.proofs.StandingLemmas.{Stands-same}
 
 -- the disks themselves, with nothing loose on absent disks either
-abbrev pub settled : Disks → Disks
-settled s = record s { loose = λ d p. false }
+abbrev pub synced_disks : Disks → Disks
+synced_disks s = record s { loose = λ d p. false }
 
 module _ (slots : ℕ) (s : Disks) (m : Meta) (d epoch : ℕ) (h : History) (lo : ℕ) (was : Option ℕ) (rest : IsAtRest s m) (held : IsHeld slots s h lo was)
-    (only : (e : ℕ) → named_out m.out ≡ Some e → e ≡ d) (low : d < m.setup.geometry.disks) (gone : is_present (s.power d) ≡ false) (next : epoch ≡ m.epoch + 1) (in_range_after : IsInRange (marked m d epoch)) where
-  alike : IsAlike s (settled s)
-  alike = record { power = λ x. refl; size = λ x. refl; block = λ x p there. refl; loose = λ x p there. sym (rest.dry x p there.present) }
+    (only : (e : ℕ) → named_out m.out ≡ Some e → e ≡ d) (low : d < m.setup.geometry.disks) (gone : is_present (s.power d) ≡ false) (next : epoch ≡ m.epoch + 1) (in_range_after : IsInRange (marked_gone (of_version_two m) d epoch)) where
+  alike : IsAlike s (synced_disks s)
+  alike = record { power = λ x. refl; size = λ x. refl; block = λ x p there. refl; loose = λ x p there. sym (rest.synced x p there.present) }
 
-  whole : IsSound slots (settled s) h lo
-  whole = (held_alike slots s (settled s) h lo was alike held).whole (settled s) (image_of_dry (settled s) (λ x p. refl))
+  whole : IsSoundFrom slots (synced_disks s) h lo
+  whole = (held_alike slots s (synced_disks s) h lo was alike held).whole (synced_disks s) (image_of_synced (synced_disks s) (λ x p. refl))
 
   same : whole.sound.said ≡ closed_over m
-  same = (Stands-same (settled s) whole.sound.disk rest.disk whole.sound.said (closed_over m) whole.sound.log.stands
-      (stands_alike s (settled s) rest.disk (closed_over m) alike rest.log.stands)).1
+  same = (Stands-same (synced_disks s) whole.sound.disk rest.disk whole.sound.said (closed_over m) whole.sound.log.stands
+      (stands_alike s (synced_disks s) rest.disk (closed_over m) alike rest.log.stands)).1
 
   -- what the meta before stands for
   content : ContentOk slots s.power s.size (view_by m s.power (contents s [])) h whole.k
-  content = subst (λ f. ContentOk slots s.power s.size (view_by m s.power f) h whole.k) (contents_alike s (settled s) [] alike)
-      (subst (λ (o : Said). ContentOk slots s.power s.size (view_of (settled s) o) h whole.k) same whole.sound.content)
+  content = subst (λ f. ContentOk slots s.power s.size (view_by m s.power f) h whole.k) (contents_alike s (synced_disks s) [] alike)
+      (subst (λ (o : LogState). ContentOk slots s.power s.size (view_of (synced_disks s) o) h whole.k) same whole.sound.content)
 
   range : IsInRange m
   range = rest.log.stands.says.log.meta.in_range
 
   writes : m.writes ≡ whole.k
-  writes = ap (λ (o : Said). o.meta.writes) (sym same) ∙ whole.sound.log.writes
+  writes = ap (λ (o : LogState). o.meta.writes) (sym same) ∙ whole.sound.log.writes
 
-  pub is_next : IsNext s m (marked m d epoch)
+  pub is_next : IsNext s m (marked_gone (of_version_two m) d epoch)
   is_next = record {
     epoch = next;
     setup = refl;
@@ -60,7 +62,7 @@ module _ (slots : ℕ) (s : Disks) (m : Meta) (d epoch : ℕ) (h : History) (lo 
   }
 
   -- it holds as many writes as the meta counts
-  pub before_holds : Holds slots s m [] h lo
+  pub before_holds : HoldsFirstWrites slots s m [] h lo
   before_holds = record {
     low = subst (λ (k : ℕ). lo ≤ k) (sym writes) whole.low;
     high = subst (λ (k : ℕ). k ≤ length h) (sym writes) whole.high;
@@ -68,16 +70,19 @@ module _ (slots : ℕ) (s : Disks) (m : Meta) (d epoch : ℕ) (h : History) (lo 
   }
 
   pub mark_held : (t : Disks) (down : Option ℕ) → ((e : ℕ) → e < m.setup.geometry.disks → is_present (t.power e) ≡ false → down ≡ Some e) → down ≡ Some d
-      → IsOldOrNew s m (marked m d epoch) [] t → IsHeld slots t h lo down
+      → IsOldOrNew s m (marked_gone (of_version_two m) d epoch) [] t → IsHeld slots t h lo down
   mark_held t down downs is moment =
       let old = before_holds in
-      let new : Holds slots s (marked m d epoch) [] h lo = record {
+      let new : HoldsFirstWrites slots s (marked_gone (of_version_two m) d epoch) [] h lo = record {
         low = old.low;
         high = old.high;
-        content = content_marked slots s.power s.size m d epoch (contents s []) h m.writes range rest.log.single low gone old.content;
+        content = fits_later slots s.power s.size h m.writes (marked_gone m d epoch) (marked_gone (of_version_two m) d epoch) (contents s [])
+            (record { setup = refl; gear = refl; phase = refl; fill = refl; out = refl; spins = refl })
+            (λ e u fresh. let z : Gone d ≡ Fresh e u = fresh.is in cc)
+            (content_marked slots s.power s.size m d epoch (contents s []) h m.writes range rest.log.single low gone old.content);
       } in
-      held_commits slots s m (marked m d epoch) [] h lo old new t down one_down moment
+      held_commits slots s m (marked_gone (of_version_two m) d epoch) [] h lo old new t down one_down moment
     where
-      one_down : (e : ℕ) → IsEitherMissing t.power m (marked m d epoch) e → down ≡ Some e
+      one_down : (e : ℕ) → IsEitherMissing t.power m (marked_gone (of_version_two m) d epoch) e → down ≡ Some e
       one_down e (inl p) = elim p.is [ inl off ↦ downs e p.disk off | inr name ↦ is ∙ ap (λ (y : ℕ). Some y) (sym (only e name)) ]
       one_down e (inr p) = elim p.is [ inl off ↦ downs e p.disk off | inr name ↦ is ∙ name ]

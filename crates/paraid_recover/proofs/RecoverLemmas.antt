@@ -8,13 +8,13 @@ use Rattle.paraid_rack.specs.Trail.{Trail, disks, extend, initial, moments, now,
 use Rattle.paraid_record.specs.declared.meta.Meta.{Meta}
 use Rattle.paraid_txn.specs.Commit.{IsEitherMissing, IsOneMissing}
 use Rattle.paraid_image.specs.Out.{IsMissing, named_out}
-use Rattle.paraid_txn.specs.Resume.{IsResume}
+use Rattle.paraid_txn.specs.Resume.{StandsWhileResumed}
 use Rattle.paraid_rack.specs.Slots.{Slot}
 use Rattle.paraid_txn.specs.Ready.{AreTargetsReady}
-use Rattle.paraid_image.specs.Sides.{Batch, Said, targets}
+use Rattle.paraid_image.specs.Sides.{Batch, LogState, targets}
 use Rattle.paraid_txn.proofs.HeldResumeLemmas.{held_resumes}
 use Rattle.paraid_txn.proofs.RanLemmas.{resume_moments}
-use Rattle.paraid_recover.specs.Held.{Extends, IsAbsentOne, RecoversHeld}
+use Rattle.paraid_recover.specs.HeldMoments.{Extends, IsAbsentOne, RecoversHeld}
 
 -- what is told of the moments before stays
 pub disks_before : (t : Trail) (calls : List Call) (j : ℕ) → j ≤ moments t → disks (extend t calls) j ≡ disks t j
@@ -23,18 +23,18 @@ disks_before t calls j le = ap (run (initial t.start)) (take-append-le j t.calls
 pub disks_last : (t : Trail) → disks t (moments t) ≡ now t
 disks_last t = ap (run (initial t.start)) (take_all (moments t) t.calls (omega arith))
 
-pub grows : {old new : Option Trail} {x : ℕ} {said : Said} → IsResume old new x said → Extends old new
+pub grows : {old new : Option Trail} {x : ℕ} {said : LogState} → StandsWhileResumed old new x said → Extends old new
 grows {old} {new} {x} {said} resume t tells = let r = resume t tells in record { from = r.from; was = r.was; calls = r.calls; is = r.is; holds = tt }
 
 -- what is held while a commit is ended
-pub resumes_held : (slots x : ℕ) (said : Said) (old new : Option Trail) → IsResume old new x said → RecoversHeld slots x said old new
+pub resumes_held : (slots x : ℕ) (said : LogState) (old new : Option Trail) → StandsWhileResumed old new x said → RecoversHeld slots x said old new
 resumes_held slots x said old new resume t tells =
     let r = resume_moments old new x said resume t tells in (
       r.0,
       r.1,
       r.2,
       λ h lo m was down broken held from to absent weak.
-          held_resumes slots (now r.0) x said h lo was broken.dry broken.log held (disks t m) down (λ d l gone. absent m d from (omega arith) l gone) weak (r.3 broken m from to),
+          held_resumes slots (now r.0) x said h lo was broken.synced broken.log held (disks t m) down (λ d l gone. absent m d from (omega arith) l gone) weak (r.3 broken m from to),
     )
 
 -- one disk at most is missing where one at most is absent, and no other one is named out

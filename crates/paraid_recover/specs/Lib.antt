@@ -1,3 +1,7 @@
-pub mod Held
+pub mod HeldMoments
 pub mod Quiet
-pub mod Marks
+pub mod Map
+pub mod RecoveryMark
+pub mod Powers
+pub mod Mounted
+pub mod Mount

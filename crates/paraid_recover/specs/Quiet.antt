@@ -11,3 +11,12 @@ IsReadOrSync n (Sync d done) = d < n
 IsReadOrSync n (Park d done) = ⊥
 IsReadOrSync n (SpinUp d done) = ⊥
 IsReadOrSync n (Attach d size done) = ⊥
+
+-- a read or a sync of one of the first `n` disks, or a write of its log
+abbrev pub IsInLog : ℕ → Call → Type 0
+IsInLog n (Read d p done) = d < n
+IsInLog n (Write d p b done) = (d < n) × (p < 100)
+IsInLog n (Sync d done) = d < n
+IsInLog n (Park d done) = ⊥
+IsInLog n (SpinUp d done) = ⊥
+IsInLog n (Attach d size done) = ⊥

@@ -1,34 +1,36 @@
-//! A disk that is absent is marked gone, before the array is served.
+//! Before the array is served a disk that is absent is marked gone, and a meta of version 1 is
+//! brought to version 2.
 ghost use Rattle.std.specs.Prelude.{◌≡◌, ◌≢◌, ℕ, ◌+◌, ◌-◌, ◌^◌, ◌<◌, ◌≤◌, [], true, false, Option, Some, None, OnOk, IfErr, IfOk};
 ghost use Rattle.paraid_rack.specs.declared.call.Power.TheVariants.{Absent};
 ghost use Rattle.paraid_rack.specs.Told.{Ran};
 ghost use Rattle.paraid_rack.specs.Trail.{Trail};
-ghost use Rattle.paraid_recover.specs.Held.{EndsHeld, Recovers, RecoversHeld};
-ghost use Rattle.paraid_recover.specs.Marks.{to_mark, with_mark};
+ghost use Rattle.paraid_recover.specs.HeldMoments.{EndsHeld, Recovers, RecoversHeld};
+ghost use Rattle.paraid_recover.specs.Quiet.{IsInLog};
+ghost use Rattle.paraid_recover.specs.RecoveryMark.{renewed as renewed_of, to_mark, with_mark};
 ghost use Rattle.paraid_record.specs.Range.{IsInRange};
 ghost use Rattle.paraid_image.specs.Out.{named_out as named_of};
-ghost use Rattle.paraid_image.specs.Sides.{Said};
-ghost use Rattle.paraid_txn.specs.Losses.{AreFailedOrWell, IsOut, IsSpared, IsTwoBeside};
+ghost use Rattle.paraid_image.specs.Sides.{LogState};
+ghost use Rattle.paraid_txn.specs.Losses.{StaySynced, AreFailedOrWell, IsOneOut, IsOutOfCommit, OnlyLosesSlots, AreTwoDownBeside};
 ghost use Rattle.paraid_txn.specs.Ready.{IsLogReady};
-ghost use Rattle.paraid_txn.specs.Stores.{disks_of, epoch_of, named_of as named_by, rack_of};
-ghost use Rattle.paraid_txn.specs.Uses.{EachCall, Uses};
+ghost use Rattle.paraid_txn.specs.Stores.{disks_of, epoch_of, named_of as named_by, store_rack};
+ghost use Rattle.paraid_txn.specs.Uses.{EachCall};
 
-use crate::marking::{mark, marked};
+use crate::marking::{mark, next_marked};
 use paraid_base::{DiskNo, Out, Two};
 use paraid_rack::{Power, Rack};
 use paraid_record::Meta;
 use paraid_txn::{Batch, Store};
 
-// The disk that is absent, if no disk is named out, or this one as being rebuilt.
-fn unmarked<R: Rack>(store: &Store<R>, meta: &Meta) -> Option<DiskNo>
+/// The disk that is absent, if no disk is named out, or this one as being rebuilt.
+pub(crate) fn unmarked<R: Rack>(store: &Store<R>, meta: &Meta) -> Option<DiskNo>
     requires named { named_by store.now ≡ named_of meta.now.out }
     requires in_range { IsInRange meta.now }
-    requires exists { meta.now.setup.geometry.disks ≤ R.slot_count (rack_of store.now) }
+    requires exists { meta.now.setup.geometry.disks ≤ R.slot_count (store_rack store.now) }
     requires disks { disks_of store.now ≡ meta.now.setup.geometry.disks }
-    ensures value { result ≡ to_mark (λ d. (R.slot (rack_of store.now) d).power) meta.now }
+    ensures value { result ≡ to_mark (λ d. (R.slot (store_rack store.now) d).power) meta.now }
     ensures only { (d e : ℕ) → result ≡ Some d → named_of meta.now.out ≡ Some e → e ≡ d }
     ensures absent { (d : ℕ) → result ≡ Some d
-        → (R.slot (rack_of store.now) d).power ≡ Absent }
+        → (R.slot (store_rack store.now) d).power ≡ Absent }
     ensures low { (d : ℕ) → result ≡ Some d → d < disks_of store.now }
 {
     match meta.out {
@@ -43,7 +45,55 @@ fn unmarked<R: Rack>(store: &Store<R>, meta: &Meta) -> Option<DiskNo>
     }
 }
 
+// Brings a meta of version 1 to version 2 by a commit that brings nothing else. No disk is to be
+// marked. It gives the meta that stands then.
+fn renew<R: Rack>(store: &mut Store<R>, nothing: &Batch, meta: &Meta) -> Result<Meta, Two>
+    requires empty { nothing.now ≡ [] }
+    requires fresh { meta.now.epoch < 2 ^ 62 }
+    requires in_range { IsInRange meta.now }
+    requires exists { meta.now.setup.geometry.disks ≤ R.slot_count (store_rack store.old) }
+    requires disks { disks_of store.old ≡ meta.now.setup.geometry.disks }
+    requires named { named_by store.old ≡ named_of meta.now.out }
+    requires epoch { epoch_of store.old ≡ meta.now.epoch }
+    requires log { IsLogReady (named_of meta.now.out) (R.slot (store_rack store.old)) }
+    ensures slots { R.slot_count (store_rack store.new) ≡ R.slot_count (store_rack store.old) }
+    ensures disks { disks_of store.new ≡ disks_of store.old }
+    ensures given { IfOk result (λ m. m ≡ renewed_of meta.now) }
+    ensures epoch { IfOk result (λ m. m.epoch ≡ epoch_of store.new) }
+    ensures named { IfOk result (λ m. named_of m.out ≡ named_by store.new) }
+    ensures powers { OnlyLosesSlots (R.slot (store_rack store.old)) (R.slot (store_rack store.new)) }
+    ensures each { AreFailedOrWell (R.slot (store_rack store.old)) (R.slot (store_rack store.new)) }
+    ensures synced { IfOk result (λ m. StaySynced (R.slot (store_rack store.old))
+        (R.slot (store_rack store.new))) }
+    ensures one { IfOk result (λ m. IsOneOut (disks_of store.old) (named_by store.old)
+        (R.slot (store_rack store.old))
+        → IsOneOut (disks_of store.old) (named_of m.out) (R.slot (store_rack store.new))) }
+    ensures calls { Ran (R.told (store_rack store.old)) (R.told (store_rack store.new))
+        (EachCall (IsInLog (disks_of store.old))) }
+    ensures two { IfErr result (AreTwoDownBeside (IsOutOfCommit (λ e. (R.slot (store_rack store.old) e).power)
+        (disks_of store.old) (named_by store.old) None)
+        (R.slot (store_rack store.old)) (R.slot (store_rack store.new))) }
+    ensures holds { (slots x : ℕ) (said : LogState) (old : Option Trail) → said.meta ≡ meta.now
+        → Recovers slots x said old (R.told (store_rack store.old))
+        → RecoversHeld slots x said old (R.told (store_rack store.new)) }
+    ensures ends { IfOk result (λ m. (slots x : ℕ) (said : LogState) (old : Option Trail)
+        → said.meta ≡ meta.now → Recovers slots x said old (R.told (store_rack store.old))
+        → EndsHeld slots x said m old (R.told (store_rack store.new))) }
+{
+    if meta.version != 1 {
+        return Ok(*meta);
+    }
+    let mut next = Meta {
+        version: 2,
+        ..*meta
+    };
+    store.commit(nothing, &next)?;
+    next.epoch = store.epoch();
+    Ok(next)
+}
+
 /// Marks a disk that is absent where no other disk is named out, and gives the meta that stands then.
+/// Where there is none to mark, a meta of version 1 is brought to version 2 by a commit of its own.
 ///
 /// It is the last step of a recovery: the commit that was interrupted was ended, and only reads and
 /// syncs were made since.
@@ -51,36 +101,46 @@ pub fn mark_out<R: Rack>(store: &mut Store<R>, nothing: &Batch, meta: &Meta) -> 
     requires empty { nothing.now ≡ [] }
     requires fresh { meta.now.epoch < 2 ^ 62 }
     requires in_range { IsInRange meta.now }
-    requires exists { meta.now.setup.geometry.disks ≤ R.slot_count (rack_of store.old) }
+    requires exists { meta.now.setup.geometry.disks ≤ R.slot_count (store_rack store.old) }
     requires disks { disks_of store.old ≡ meta.now.setup.geometry.disks }
     requires named { named_by store.old ≡ named_of meta.now.out }
     requires epoch { epoch_of store.old ≡ meta.now.epoch }
-    requires log { IsLogReady (named_of meta.now.out) (R.slot (rack_of store.old)) }
-    ensures slots { R.slot_count (rack_of store.new) ≡ R.slot_count (rack_of store.old) }
+    requires log { IsLogReady (named_of meta.now.out) (R.slot (store_rack store.old)) }
+    ensures slots { R.slot_count (store_rack store.new) ≡ R.slot_count (store_rack store.old) }
     ensures disks { disks_of store.new ≡ disks_of store.old }
     ensures given { IfOk result (λ m. m ≡ with_mark meta.now
-        (to_mark (λ d. (R.slot (rack_of store.old) d).power) meta.now)) }
+        (to_mark (λ d. (R.slot (store_rack store.old) d).power) meta.now)) }
     ensures epoch { IfOk result (λ m. m.epoch ≡ epoch_of store.new) }
     ensures named { IfOk result (λ m. named_of m.out ≡ named_by store.new) }
-    ensures powers { IsSpared (R.slot (rack_of store.old)) (R.slot (rack_of store.new)) }
-    ensures each { AreFailedOrWell (R.slot (rack_of store.old)) (R.slot (rack_of store.new)) }
-    ensures two { IfErr result (IsTwoBeside (IsOut (λ e. (R.slot (rack_of store.old) e).power)
+    ensures powers { OnlyLosesSlots (R.slot (store_rack store.old)) (R.slot (store_rack store.new)) }
+    ensures each { AreFailedOrWell (R.slot (store_rack store.old)) (R.slot (store_rack store.new)) }
+    ensures synced { IfOk result (λ m. StaySynced (R.slot (store_rack store.old))
+        (R.slot (store_rack store.new))) }
+    ensures one { IfOk result (λ m. IsOneOut (disks_of store.old) (named_by store.old)
+        (R.slot (store_rack store.old))
+        → IsOneOut (disks_of store.old) (named_of m.out) (R.slot (store_rack store.new))) }
+    ensures calls { Ran (R.told (store_rack store.old)) (R.told (store_rack store.new))
+        (EachCall (IsInLog (disks_of store.old))) }
+    ensures two { IfErr result (AreTwoDownBeside (IsOutOfCommit (λ e. (R.slot (store_rack store.old) e).power)
         (disks_of store.old) (named_by store.old)
-        (to_mark (λ d. (R.slot (rack_of store.old) d).power) meta.now))
-        (R.slot (rack_of store.old)) (R.slot (rack_of store.new))) }
-    ensures holds { (slots x : ℕ) (said : Said) (old : Option Trail) → said.meta ≡ meta.now
-        → Recovers slots x said old (R.told (rack_of store.old))
-        → RecoversHeld slots x said old (R.told (rack_of store.new)) }
-    ensures ends { IfOk result (λ m. (slots x : ℕ) (said : Said) (old : Option Trail)
-        → said.meta ≡ meta.now → Recovers slots x said old (R.told (rack_of store.old))
-        → EndsHeld slots x said m old (R.told (rack_of store.new))) }
+        (to_mark (λ d. (R.slot (store_rack store.old) d).power) meta.now))
+        (R.slot (store_rack store.old)) (R.slot (store_rack store.new))) }
+    ensures holds { (slots x : ℕ) (said : LogState) (old : Option Trail) → said.meta ≡ meta.now
+        → Recovers slots x said old (R.told (store_rack store.old))
+        → RecoversHeld slots x said old (R.told (store_rack store.new)) }
+    ensures ends { IfOk result (λ m. (slots x : ℕ) (said : LogState) (old : Option Trail)
+        → said.meta ≡ meta.now → Recovers slots x said old (R.told (store_rack store.old))
+        → EndsHeld slots x said m old (R.told (store_rack store.new))) }
 {
     let Some(disk) = unmarked(store, meta) else {
-        return Ok(*meta);
+        return match renew(store, nothing, meta) {
+            Ok(stands) => Ok(stands),
+            Err(two) => Err(two),
+        };
     };
     mark(store, nothing, meta, disk)?;
     Ok(Meta {
         epoch: store.epoch(),
-        ..marked(meta, disk)
+        ..next_marked(meta, disk)
     })
 }

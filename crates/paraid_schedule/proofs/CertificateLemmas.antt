@@ -8,7 +8,7 @@ use Rattle.paraid_schedule.specs.Schedule.{IsDemand, IsSchedule, rise, rises_bef
 use Rattle.paraid_schedule.specs.Cost.{period_cost, step_cost, cost_before, schedule_cost, spin_ups}
 use Rattle.paraid_schedule.specs.Bounds.{bound, AreRight}
 use Rattle.paraid_base.proofs.PlacesLemmas.{sum_before_none, sum_before_more}
-use Rattle.paraid_schedule.proofs.StepLemmas.{step_gear}
+use Rattle.paraid_schedule.proofs.GearStepLemmas.{step_gear}
 use Rattle.paraid_schedule.proofs.OnwardLemmas.{onward-fall}
 
 pub rises_before-none : (gears : List ℕ) → rises_before gears 0 ≡ 0

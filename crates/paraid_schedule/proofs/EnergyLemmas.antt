@@ -1,12 +1,12 @@
 -- What a ledger with the figures of a setup counts
 use Rattle.std.proofs.Common.{◌≡◌, ℕ, ◌+◌, ◌-◌, ◌*◌, ◌^◌, ◌<◌, ◌≤◌, min, ap, arith}
 use Rattle.std.proofs.lemmas.Nat.{mul-le}
-use Rattle.paraid_energy.specs.Account.{Account, opened, ticked, spun_up}
+use Rattle.paraid_energy.specs.Account.{Account, new_account, after_tick, after_spin_ups}
 use Rattle.paraid_record.specs.declared.meta.Setup.{Setup}
 use Rattle.paraid_schedule.specs.Cost.{period_cost, step_cost}
 use Rattle.paraid_schedule.specs.Energy.{HasFigures}
 
-pub HasFigures-opened : (s : Setup) (a : Account) → a ≡ opened s → HasFigures s a
+pub HasFigures-opened : (s : Setup) (a : Account) → a ≡ new_account s → HasFigures s a
 HasFigures-opened s a is = record {
   spinning = ap (λ b. b.spinning_mj) is;
   parked = ap (λ b. b.parked_mj) is;
@@ -24,13 +24,13 @@ period_small s gear low spinning parked =
     let disks = s.geometry.disks_high in
     omega (arith, product_few gear s.spinning_mj (omega arith) spinning, product_few (s.geometry.disks - gear) s.parked_mj (omega arith) parked)
 
-pub ticked_total : (s : Setup) (old new : Account) (gear : ℕ) → HasFigures s old → new ≡ ticked old gear (s.geometry.disks - gear) → old.total < 2 ^ 60 → period_cost s gear ≤ 2 ^ 36 → new.total ≡ old.total + period_cost s gear
+pub ticked_total : (s : Setup) (old new : Account) (gear : ℕ) → HasFigures s old → new ≡ after_tick old gear (s.geometry.disks - gear) → old.total < 2 ^ 60 → period_cost s gear ≤ 2 ^ 36 → new.total ≡ old.total + period_cost s gear
 ticked_total s old new gear figures is room small =
     let total : new.total ≡ min (old.total + (old.spinning_mj * gear + old.parked_mj * (s.geometry.disks - gear))) (2 ^ 64 - 1) = ap (λ a. a.total) is in
     let priced : new.total ≡ min (old.total + (s.spinning_mj * gear + s.parked_mj * (s.geometry.disks - gear))) (2 ^ 64 - 1) = rw (figures.spinning, figures.parked) at total in
     omega arith
 
-pub spun_up_total : (s : Setup) (old new : Account) (from to disks : ℕ) → HasFigures s old → new ≡ spun_up old disks → disks ≡ to - from → old.total < 2 ^ 60 → disks ≤ 255 → s.spinup_mj < 2 ^ 32 → (new.total ≡ old.total + step_cost s from to) × (step_cost s from to ≤ 2 ^ 40)
+pub spun_up_total : (s : Setup) (old new : Account) (from to disks : ℕ) → HasFigures s old → new ≡ after_spin_ups old disks → disks ≡ to - from → old.total < 2 ^ 60 → disks ≤ 255 → s.spinup_mj < 2 ^ 32 → (new.total ≡ old.total + step_cost s from to) × (step_cost s from to ≤ 2 ^ 40)
 spun_up_total s old new from to disks figures is same room few small =
     let total : new.total ≡ min (old.total + old.spinup_mj * disks) (2 ^ 64 - 1) = ap (λ a. a.total) is in
     let priced : new.total ≡ min (old.total + s.spinup_mj * disks) (2 ^ 64 - 1) = rw figures.spinup at total in

@@ -1,6 +1,6 @@
 pub mod RankLemmas
 pub mod RowLemmas
-pub mod StepLemmas
+pub mod GearStepLemmas
 pub mod OnwardLemmas
 pub mod CertificateLemmas
 pub mod EnergyLemmas

@@ -4,12 +4,12 @@ use Rattle.std.proofs.lemmas.Bool.{cases_lt}
 use Rattle.paraid_base.specs.Regions.{IsGear}
 use Rattle.paraid_record.specs.declared.meta.Setup.{Setup}
 use Rattle.paraid_record.specs.Range.{AreNextGears}
-use Rattle.paraid_schedule.specs.Schedule.{Serves, rise}
+use Rattle.paraid_schedule.specs.Schedule.{GearServes, rise}
 use Rattle.paraid_schedule.specs.Cost.{period_cost, step_cost}
-use Rattle.paraid_schedule.specs.Bounds.{none, row, bound, onward}
-use Rattle.paraid_schedule.specs.Solved.{IsLeast, IsSolvedAt, DifferInRow, AreSameIn}
+use Rattle.paraid_schedule.specs.Bounds.{no_bound, row_start, bound, onward}
+use Rattle.paraid_schedule.specs.Solved.{IsLeastCostAfter, IsSolvedAt, DifferInRow, AreSameIn}
 use Rattle.paraid_schedule.proofs.RowLemmas.{rows-periods, rows-gears}
-use Rattle.paraid_schedule.proofs.StepLemmas.{step_gear}
+use Rattle.paraid_schedule.proofs.GearStepLemmas.{step_gear}
 use Rattle.paraid_schedule.proofs.OnwardLemmas.{onward-fall, onward-rise}
 
 module _ (s : Setup) (ups t : ℕ) (old new : List ℕ) where
@@ -17,12 +17,12 @@ module _ (s : Setup) (ups t : ℕ) (old new : List ℕ) where
   pub later_same : (a : ℕ) → IsGear s.geometry a → DifferInRow s.geometry ups t a old new → (u : ℕ) → t < u → AreSameIn s.geometry ups u old new
   later_same a is differ u later b left gear few =
       let apart = rows-periods s.geometry ups t u a b is later in
-      differ (row s.geometry ups u b + left) (inr (omega arith))
+      differ (row_start s.geometry ups u b + left) (inr (omega arith))
 
   pub gears_same : (a : ℕ) → IsGear s.geometry a → DifferInRow s.geometry ups t a old new → (e : ℕ) → e < a → IsGear s.geometry e → (left : ℕ) → left ≤ ups → bound s.geometry ups new t e left ≡ bound s.geometry ups old t e left
   gears_same a is differ e low gear left few =
       let apart = rows-gears s.geometry ups t e a gear low in
-      differ (row s.geometry ups t e + left) (inl (omega arith))
+      differ (row_start s.geometry ups t e + left) (inl (omega arith))
 
   pub onward-same : AreSameIn s.geometry ups (t + 1) old new → (a left b : ℕ) → IsGear s.geometry b → left ≤ ups → onward s ups new t a left b ≡ onward s ups old t a left b
   onward-same same a left b gear few =
@@ -44,8 +44,8 @@ module _ (s : Setup) (ups t : ℕ) (old new : List ℕ) where
   }
 
 -- the least of a bound and the one step of a kind
-pub IsLeast-min : (kind : ℕ → Type 0) (s : Setup) (ups : ℕ) (bounds : List ℕ) (t a left before after b : ℕ) → kind b → ((e : ℕ) → kind e → e ≡ b) → rise a b ≤ left → after ≡ min before (onward s ups bounds t a left b) → IsLeast kind s ups bounds t a left before after
-IsLeast-min kind s ups bounds t a left before after b is one room value = record {
+pub IsLeastCostAfter-min : (kind : ℕ → Type 0) (s : Setup) (ups : ℕ) (bounds : List ℕ) (t a left before after b : ℕ) → kind b → ((e : ℕ) → kind e → e ≡ b) → rise a b ≤ left → after ≡ min before (onward s ups bounds t a left b) → IsLeastCostAfter kind s ups bounds t a left before after
+IsLeastCostAfter-min kind s ups bounds t a left before after b is one room value = record {
   low = omega arith;
   each = λ e other few. (let same : e ≡ b = one e other in rw same (omega arith));
   met = elim (cases_lt (onward s ups bounds t a left b) before) [
@@ -55,40 +55,40 @@ IsLeast-min kind s ups bounds t a left before after b is one room value = record
 }
 
 -- where the kind has no permitted step, nothing changes
-pub IsLeast-none : (kind : ℕ → Type 0) (s : Setup) (ups : ℕ) (bounds : List ℕ) (t a left before after : ℕ) → ((e : ℕ) → kind e → rise a e ≤ left → ⊥) → after ≡ before → IsLeast kind s ups bounds t a left before after
-IsLeast-none kind s ups bounds t a left before after not same = record {
+pub IsLeastCostAfter-none : (kind : ℕ → Type 0) (s : Setup) (ups : ℕ) (bounds : List ℕ) (t a left before after : ℕ) → ((e : ℕ) → kind e → rise a e ≤ left → ⊥) → after ≡ before → IsLeastCostAfter kind s ups bounds t a left before after
+IsLeastCostAfter-none kind s ups bounds t a left before after not same = record {
   low = omega arith;
   each = λ e other few. absurd (not e other few);
   met = inl same;
 }
 
-pub least_level : (kind : ℕ → Type 0) (s : Setup) (ups : ℕ) (old new : List ℕ) (t a b at next cost : ℕ) → b ≤ a → kind b → ((e : ℕ) → kind e → e ≡ b) → at ≡ row s.geometry ups t a → next ≡ row s.geometry ups (t + 1) b → cost ≡ period_cost s a
+pub least_level : (kind : ℕ → Type 0) (s : Setup) (ups : ℕ) (old new : List ℕ) (t a b at next cost : ℕ) → b ≤ a → kind b → ((e : ℕ) → kind e → e ≡ b) → at ≡ row_start s.geometry ups t a → next ≡ row_start s.geometry ups (t + 1) b → cost ≡ period_cost s a
     → ((j : ℕ) → j < ups + 1 → slice_index new (at + j) ≡ min (slice_index old (at + j)) (cost + slice_index old (next + j)))
-    → (left : ℕ) → left ≤ ups → IsLeast kind s ups old t a left (bound s.geometry ups old t a left) (bound s.geometry ups new t a left)
+    → (left : ℕ) → left ≤ ups → IsLeastCostAfter kind s ups old t a left (bound s.geometry ups old t a left) (bound s.geometry ups new t a left)
 least_level kind s ups old new t a b at next cost low is one here there price relaxed left few =
     let value = relaxed left (omega arith) in
     let value_here : bound s.geometry ups new t a left ≡ min (bound s.geometry ups old t a left) (onward s ups old t a left b) =
     rw (onward-fall s ups old t a left b low, ← here, ← there, ← price) value in
-    IsLeast-min kind s ups old t a left (bound s.geometry ups old t a left) (bound s.geometry ups new t a left) b is one (omega arith) value_here
+    IsLeastCostAfter-min kind s ups old t a left (bound s.geometry ups old t a left) (bound s.geometry ups new t a left) b is one (omega arith) value_here
 
-pub least_rise : (kind : ℕ → Type 0) (s : Setup) (ups : ℕ) (old new : List ℕ) (t a b at next cost : ℕ) → a < b → kind b → ((e : ℕ) → kind e → e ≡ b) → at ≡ row s.geometry ups t a → next ≡ row s.geometry ups (t + 1) b → cost ≡ period_cost s a + step_cost s a b
+pub least_rise : (kind : ℕ → Type 0) (s : Setup) (ups : ℕ) (old new : List ℕ) (t a b at next cost : ℕ) → a < b → kind b → ((e : ℕ) → kind e → e ≡ b) → at ≡ row_start s.geometry ups t a → next ≡ row_start s.geometry ups (t + 1) b → cost ≡ period_cost s a + step_cost s a b
     → ((j : ℕ) → j < ups → slice_index new (at + 1 + j) ≡ min (slice_index old (at + 1 + j)) (cost + slice_index old (next + j)))
     → ((k : ℕ) → (k < at + 1) ⊎ (at + 1 + ups ≤ k) → slice_index new k ≡ slice_index old k)
-    → (left : ℕ) → left ≤ ups → IsLeast kind s ups old t a left (bound s.geometry ups old t a left) (bound s.geometry ups new t a left)
+    → (left : ℕ) → left ≤ ups → IsLeastCostAfter kind s ups old t a left (bound s.geometry ups old t a left) (bound s.geometry ups new t a left)
 least_rise kind s ups old new t a b at next cost low is one here there price relaxed same zero few =
-    IsLeast-none kind s ups old t a 0 (bound s.geometry ups old t a 0) (bound s.geometry ups new t a 0)
+    IsLeastCostAfter-none kind s ups old t a 0 (bound s.geometry ups old t a 0) (bound s.geometry ups new t a 0)
     (λ e other room. let same_gear : e ≡ b = one e other in omega arith)
-    (same (row s.geometry ups t a + 0) (inl (omega arith)))
+    (same (row_start s.geometry ups t a + 0) (inl (omega arith)))
 least_rise kind s ups old new t a b at next cost low is one here there price relaxed same (suc left) few =
     let value = relaxed left (omega arith) in
-    let place : at + 1 + left ≡ row s.geometry ups t a + suc left = omega arith in
+    let place : at + 1 + left ≡ row_start s.geometry ups t a + suc left = omega arith in
     let less : suc left - 1 ≡ left = omega arith in
     let value_here : bound s.geometry ups new t a (suc left) ≡ min (bound s.geometry ups old t a (suc left)) (onward s ups old t a (suc left) b) =
     rw (onward-rise s ups old t a (suc left) b low, less, ← place, ← there, ← price) value in
-    IsLeast-min kind s ups old t a (suc left) (bound s.geometry ups old t a (suc left)) (bound s.geometry ups new t a (suc left)) b is one (omega arith) value_here
+    IsLeastCostAfter-min kind s ups old t a (suc left) (bound s.geometry ups old t a (suc left)) (bound s.geometry ups new t a (suc left)) b is one (omega arith) value_here
 
 -- a row that was cleared and not relaxed is right where the gear does not serve the demand
-pub solved_unserved : (s : Setup) (demanded ups : ℕ) (bounds : List ℕ) (t a : ℕ) → (Serves s demanded a → ⊥) → ((left : ℕ) → left ≤ ups → bound s.geometry ups bounds t a left ≡ none) → IsSolvedAt s demanded ups bounds t a
+pub solved_unserved : (s : Setup) (demanded ups : ℕ) (bounds : List ℕ) (t a : ℕ) → (GearServes s demanded a → ⊥) → ((left : ℕ) → left ≤ ups → bound s.geometry ups bounds t a left ≡ no_bound) → IsSolvedAt s demanded ups bounds t a
 solved_unserved s demanded ups bounds t a not cleared = record {
   right = record {
     unserved = λ no left few. cleared left few;
@@ -98,11 +98,11 @@ solved_unserved s demanded ups bounds t a not cleared = record {
 }
 
 -- a row that was cleared and then relaxed by each kind of step is right and met
-pub solved_served : (s : Setup) (demanded ups : ℕ) (one two three four : List ℕ) (t a : ℕ) → IsGear s.geometry a → Serves s demanded a
-    → ((left : ℕ) → left ≤ ups → bound s.geometry ups one t a left ≡ none)
-    → ((left : ℕ) → left ≤ ups → IsLeast (λ b. b ≡ a) s ups one t a left (bound s.geometry ups one t a left) (bound s.geometry ups two t a left))
-    → ((left : ℕ) → left ≤ ups → IsLeast (λ b. AreNextGears s.geometry b a) s ups two t a left (bound s.geometry ups two t a left) (bound s.geometry ups three t a left))
-    → ((left : ℕ) → left ≤ ups → IsLeast (λ b. AreNextGears s.geometry a b) s ups three t a left (bound s.geometry ups three t a left) (bound s.geometry ups four t a left))
+pub solved_served : (s : Setup) (demanded ups : ℕ) (one two three four : List ℕ) (t a : ℕ) → IsGear s.geometry a → GearServes s demanded a
+    → ((left : ℕ) → left ≤ ups → bound s.geometry ups one t a left ≡ no_bound)
+    → ((left : ℕ) → left ≤ ups → IsLeastCostAfter (λ b. b ≡ a) s ups one t a left (bound s.geometry ups one t a left) (bound s.geometry ups two t a left))
+    → ((left : ℕ) → left ≤ ups → IsLeastCostAfter (λ b. AreNextGears s.geometry b a) s ups two t a left (bound s.geometry ups two t a left) (bound s.geometry ups three t a left))
+    → ((left : ℕ) → left ≤ ups → IsLeastCostAfter (λ b. AreNextGears s.geometry a b) s ups three t a left (bound s.geometry ups three t a left) (bound s.geometry ups four t a left))
     → DifferInRow s.geometry ups t a one two → DifferInRow s.geometry ups t a two three → DifferInRow s.geometry ups t a three four
     → IsSolvedAt s demanded ups four t a
 solved_served s demanded ups one two three four t a is served cleared stay fall up_step differ2 differ3 differ4 =

@@ -7,9 +7,9 @@ use Rattle.std.proofs.lemmas.Nat.{mul-le}
 use Rattle.paraid_base.specs.Places.{sum_before}
 use Rattle.paraid_base.specs.Regions.{IsGear}
 use Rattle.paraid_record.specs.declared.meta.Setup.{Setup}
-use Rattle.paraid_schedule.specs.Schedule.{IsDemand, IsSchedule, IsStep, Serves, rise, rises_before}
+use Rattle.paraid_schedule.specs.Schedule.{IsDemand, IsSchedule, IsGearStep, GearServes, rise, rises_before}
 use Rattle.paraid_schedule.specs.Cost.{period_cost, step_cost, cost_before, schedule_cost}
-use Rattle.paraid_schedule.specs.Bounds.{none, bound, onward, AreRight, IsRightAt}
+use Rattle.paraid_schedule.specs.Bounds.{no_bound, bound, onward, AreRight, IsRightAt}
 use Rattle.paraid_schedule.specs.Solved.{AreSolvedFrom, IsWalk}
 use Rattle.paraid_schedule.proofs.CertificateLemmas.{rises_before-none, rises_before-more, cost_before-none, cost_before-more}
 use Rattle.paraid_schedule.proofs.OnwardLemmas.{onward-fall, step_free}
@@ -51,9 +51,9 @@ IsWalk-start s demand ups bounds = record {
 }
 
 pub IsWalk-push : (s : Setup) (demand : List ℕ) (ups : ℕ) (bounds gears : List ℕ) (gear left b t left_now : ℕ) → IsWalk s demand ups bounds gears gear left
-    → t + 1 ≡ length gears → IsStep s.geometry gear b → rise gear b ≤ left → left_now ≡ left - rise gear b
+    → t + 1 ≡ length gears → IsGearStep s.geometry gear b → rise gear b ≤ left → left_now ≡ left - rise gear b
     → bound s.geometry ups bounds t gear left ≡ onward s ups bounds t gear left b
-    → Serves s (slice_index demand (length gears)) b
+    → GearServes s (slice_index demand (length gears)) b
     → IsWalk s demand ups bounds (gears ++ b ∷ []) b left_now
 IsWalk-push s demand ups bounds gears gear left b t left_now walk next step room left_is met serves =
     let some = walk.some in
@@ -90,7 +90,7 @@ IsWalk-push s demand ups bounds gears gear left b t left_now walk next step room
     }
 
 -- where a bound is not none, the gear serves the demand
-pub serves-bound : (s : Setup) (demanded ups : ℕ) (bounds : List ℕ) (t a left : ℕ) → IsRightAt s demanded ups bounds t a → left ≤ ups → bound s.geometry ups bounds t a left < none → Serves s demanded a
+pub serves-bound : (s : Setup) (demanded ups : ℕ) (bounds : List ℕ) (t a left : ℕ) → IsRightAt s demanded ups bounds t a → left ≤ ups → bound s.geometry ups bounds t a left < no_bound → GearServes s demanded a
 serves-bound s demanded ups bounds t a left right few low =
     elim (cases_eq a s.geometry.disks) [
       | inl is ↦ inl is
@@ -116,7 +116,7 @@ module _ (s : Setup) (demand : List ℕ) (ups : ℕ) (bounds : List ℕ) (right 
       let on = onward-fall s ups bounds t n ups n (omega arith) in
       omega arith
 
-  pub start_bound : IsDemand demand → s.spinning_mj < 2 ^ 32 → bound s.geometry ups bounds 0 s.geometry.disks ups < none
+  pub start_bound : IsDemand demand → s.spinning_mj < 2 ^ 32 → bound s.geometry ups bounds 0 s.geometry.disks ups < no_bound
   start_bound demanded small =
       let top = top_bound (length demand) 0 (omega arith) in
       let disks = s.geometry.disks_high in
@@ -135,7 +135,7 @@ module _ (s : Setup) (demand : List ℕ) (ups : ℕ) (bounds : List ℕ) (right 
     within = (let risen = walk.risen in omega arith);
   }
 
-  pub walk-some : (gears : List ℕ) (gear left t : ℕ) → IsDemand demand → s.spinning_mj < 2 ^ 32 → IsWalk s demand ups bounds gears gear left → t + 1 ≡ length gears → bound s.geometry ups bounds t gear left < none
+  pub walk-some : (gears : List ℕ) (gear left t : ℕ) → IsDemand demand → s.spinning_mj < 2 ^ 32 → IsWalk s demand ups bounds gears gear left → t + 1 ≡ length gears → bound s.geometry ups bounds t gear left < no_bound
   walk-some gears gear left t demanded small walk next =
       let end : length gears - 1 ≡ t = omega arith in
       let paid = rw end at walk.paid in
@@ -143,13 +143,13 @@ module _ (s : Setup) (demand : List ℕ) (ups : ℕ) (bounds : List ℕ) (right 
       omega arith
 
   pub walk-more : (gears : List ℕ) (gear left t b left_now : ℕ) → IsDemand demand → s.spinning_mj < 2 ^ 32 → IsWalk s demand ups bounds gears gear left → t + 1 ≡ length gears → length gears < length demand
-      → IsGear s.geometry b → IsStep s.geometry gear b → rise gear b ≤ left → left_now ≡ left - rise gear b → left ≤ ups
+      → IsGear s.geometry b → IsGearStep s.geometry gear b → rise gear b ≤ left → left_now ≡ left - rise gear b → left ≤ ups
       → bound s.geometry ups bounds t gear left ≡ onward s ups bounds t gear left b
       → IsWalk s demand ups bounds (gears ++ b ∷ []) b left_now
   walk-more gears gear left t b left_now demanded small walk next low is step room left_is few met =
       let some = walk-some gears gear left t demanded small walk next in
-      let less : bound s.geometry ups bounds (t + 1) b left_now < none = rw left_is (omega arith) in
-      let serves : Serves s (slice_index demand (length gears)) b =
+      let less : bound s.geometry ups bounds (t + 1) b left_now < no_bound = rw left_is (omega arith) in
+      let serves : GearServes s (slice_index demand (length gears)) b =
       rw (← next) (serves-bound s (slice_index demand (t + 1)) ups bounds (t + 1) b left_now (right.each (t + 1) b (omega arith) is) (omega arith) less) in
       IsWalk-push s demand ups bounds gears gear left b t left_now walk next step room left_is met serves
 
@@ -161,7 +161,7 @@ module _ (s : Setup) (demand : List ℕ) (ups : ℕ) (bounds : List ℕ) (right 
       let next : t + 1 ≡ length gears = omega arith in
       let below = walk-some gears gear left t demanded small walk next in
       let at = solved t (omega arith) (omega arith) gear is in
-      let served : Serves s (slice_index demand t) gear = rw walk.last at (walk.served t (omega arith)) in
+      let served : GearServes s (slice_index demand t) gear = rw walk.last at (walk.served t (omega arith)) in
       let stay = at.right.steps served left gear (omega arith) (inl refl) (omega arith) in
       let on = onward-fall s ups bounds t gear left gear (omega arith) in
       let whole : t + 1 ≡ length demand = omega arith in

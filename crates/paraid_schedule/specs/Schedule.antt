@@ -12,12 +12,12 @@ pub record IsDemand (demand : List ℕ) : Type 0 where
   pub small : (t : ℕ) → t < length demand → slice_index demand t ≤ 1048576
 
 -- gear `a` serves so much: it is the last gear, or the load stays below that of a shift up
-abbrev pub Serves : Setup → ℕ → ℕ → Type 0
-Serves s demanded a = (a ≡ s.geometry.disks) ⊎ (100 * demanded < s.up * s.service * a)
+abbrev pub GearServes : Setup → ℕ → ℕ → Type 0
+GearServes s demanded a = (a ≡ s.geometry.disks) ⊎ (100 * demanded < s.up * s.service * a)
 
 -- from one period to the next the gear stays, rises to the next gear or falls to the next one
-abbrev pub IsStep : Geometry → ℕ → ℕ → Type 0
-IsStep g a b = (b ≡ a) ⊎ AreNextGears g b a ⊎ AreNextGears g a b
+abbrev pub IsGearStep : Geometry → ℕ → ℕ → Type 0
+IsGearStep g a b = (b ≡ a) ⊎ AreNextGears g b a ⊎ AreNextGears g a b
 
 -- 1 for a step to a higher gear, and 0 for any other
 abbrev pub rise : ℕ → ℕ → ℕ
@@ -36,6 +36,6 @@ rises gears = rises_before gears (length gears - 1)
 pub record IsSchedule (s : Setup) (demand : List ℕ) (ups : ℕ) (gears : List ℕ) : Type 0 where
   pub periods : length gears ≡ length demand
   pub first : slice_index gears 0 ≡ s.geometry.disks
-  pub served : (t : ℕ) → t < length gears → Serves s (slice_index demand t) (slice_index gears t)
-  pub steps : (t : ℕ) → t + 1 < length gears → IsStep s.geometry (slice_index gears t) (slice_index gears (t + 1))
+  pub served : (t : ℕ) → t < length gears → GearServes s (slice_index demand t) (slice_index gears t)
+  pub steps : (t : ℕ) → t + 1 < length gears → IsGearStep s.geometry (slice_index gears t) (slice_index gears (t + 1))
   pub within : rises gears ≤ ups

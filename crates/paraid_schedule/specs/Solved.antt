@@ -3,12 +3,12 @@ use Rattle.std.specs.Prelude.{◌≡◌, ◌⊎◌, ℕ, ◌+◌, ◌-◌, ◌<�
 use Rattle.paraid_base.specs.declared.geometry.Geometry.{Geometry}
 use Rattle.paraid_base.specs.Regions.{IsGear}
 use Rattle.paraid_record.specs.declared.meta.Setup.{Setup}
-use Rattle.paraid_schedule.specs.Schedule.{IsStep, Serves, rise, rises}
+use Rattle.paraid_schedule.specs.Schedule.{IsGearStep, GearServes, rise, rises}
 use Rattle.paraid_schedule.specs.Cost.{cost_before}
-use Rattle.paraid_schedule.specs.Bounds.{none, row, bound, onward, IsRightAt}
+use Rattle.paraid_schedule.specs.Bounds.{no_bound, row_start, bound, onward, IsRightAt}
 
 -- `after` is the least of `before` and what the permitted steps of a kind cost
-pub record IsLeast (kind : ℕ → Type 0) (s : Setup) (ups : ℕ) (bounds : List ℕ) (t a left before after : ℕ) : Type 0 where
+pub record IsLeastCostAfter (kind : ℕ → Type 0) (s : Setup) (ups : ℕ) (bounds : List ℕ) (t a left before after : ℕ) : Type 0 where
   pub low : after ≤ before
   pub each : (b : ℕ) → kind b → rise a b ≤ left → after ≤ onward s ups bounds t a left b
   pub met : (after ≡ before) ⊎ ((b : ℕ) × kind b × (rise a b ≤ left) × (after ≡ onward s ups bounds t a left b))
@@ -20,8 +20,8 @@ IsMetBy s ups bounds t a left b = bound s.geometry ups bounds t a left ≡ onwar
 -- the bounds of one period and gear are right, and each is none or what one of the steps costs
 pub record IsSolvedAt (s : Setup) (demanded ups : ℕ) (bounds : List ℕ) (t a : ℕ) : Type 0 where
   pub right : IsRightAt s demanded ups bounds t a
-  pub met : (left : ℕ) → left ≤ ups → (bound s.geometry ups bounds t a left ≡ none)
-      ⊎ ((b : ℕ) × IsStep s.geometry a b × (rise a b ≤ left) × IsMetBy s ups bounds t a left b)
+  pub met : (left : ℕ) → left ≤ ups → (bound s.geometry ups bounds t a left ≡ no_bound)
+      ⊎ ((b : ℕ) × IsGearStep s.geometry a b × (rise a b ≤ left) × IsMetBy s ups bounds t a left b)
 
 -- the bounds of all periods from `from` on are so
 abbrev pub AreSolvedFrom : ℕ → Setup → List ℕ → ℕ → List ℕ → Type 0
@@ -31,7 +31,7 @@ AreSolvedFrom from s demand ups bounds =
 -- only bounds of period `t` and gear `a` differ
 abbrev pub DifferInRow : Geometry → ℕ → ℕ → ℕ → List ℕ → List ℕ → Type 0
 DifferInRow g ups t a old new =
-    (k : ℕ) → (k < row g ups t a) ⊎ (row g ups t a + (ups + 1) ≤ k) → slice_index new k ≡ slice_index old k
+    (k : ℕ) → (k < row_start g ups t a) ⊎ (row_start g ups t a + (ups + 1) ≤ k) → slice_index new k ≡ slice_index old k
 
 -- the bounds of a period
 abbrev pub AreSameIn : Geometry → ℕ → ℕ → List ℕ → List ℕ → Type 0
@@ -43,7 +43,7 @@ pub record IsWalk (s : Setup) (demand : List ℕ) (ups : ℕ) (bounds gears : Li
   pub some : 1 ≤ length gears
   pub first : slice_index gears 0 ≡ s.geometry.disks
   pub last : slice_index gears (length gears - 1) ≡ gear
-  pub served : (t : ℕ) → t < length gears → Serves s (slice_index demand t) (slice_index gears t)
-  pub steps : (t : ℕ) → t + 1 < length gears → IsStep s.geometry (slice_index gears t) (slice_index gears (t + 1))
+  pub served : (t : ℕ) → t < length gears → GearServes s (slice_index demand t) (slice_index gears t)
+  pub steps : (t : ℕ) → t + 1 < length gears → IsGearStep s.geometry (slice_index gears t) (slice_index gears (t + 1))
   pub risen : rises gears + left ≡ ups
   pub paid : cost_before s gears (length gears - 1) + bound s.geometry ups bounds (length gears - 1) gear left ≡ bound s.geometry ups bounds 0 s.geometry.disks ups

@@ -3,9 +3,9 @@
 ghost use Rattle.std.specs.Prelude.{◌≡◌, ◌↔◌, ℕ, ◌+◌, ◌-◌, ◌*◌, ◌^◌, ◌<◌, ◌≤◌, IsTrue, length, slice_index};
 ghost use Rattle.paraid_base.specs.Regions.{IsGear};
 ghost use Rattle.paraid_record.specs.Range.{AreNextGears};
-ghost use Rattle.paraid_schedule.specs.Schedule.{IsDemand, IsSchedule, IsStep, Serves, rise, rises};
+ghost use Rattle.paraid_schedule.specs.Schedule.{IsDemand, IsSchedule, IsGearStep, GearServes, rise, rises};
 ghost use Rattle.paraid_schedule.specs.Cost.{period_cost, step_cost, schedule_cost};
-ghost use Rattle.paraid_schedule.specs.Bounds.{none, row as row_of, bound_count, gear_count as count_of_gears, rank as rank_of, bound, onward, HasRow, AreRight, IsRightAt};
+ghost use Rattle.paraid_schedule.specs.Bounds.{no_bound, row_start as row_of, bound_count, gear_count as count_of_gears, rank as rank_of, bound, onward, HasRow, AreRight, IsRightAt};
 ghost use Rattle.paraid_schedule.specs.Plan.{IsCertified, IsLeastCost};
 ghost use Rattle.paraid_schedule.specs.Energy.{HasFigures};
 
@@ -51,7 +51,7 @@ fn is_schedule(setup: &Setup, demand: &[u32], ups: u16, gears: &[u8]) -> bool
 
 /// Whether a gear serves so much.
 fn is_served(setup: &Setup, demanded: u32, gear: u8) -> bool
-    ensures { IsTrue result ↔ Serves setup.now demanded gear }
+    ensures { IsTrue result ↔ GearServes setup.now demanded gear }
 {
     let load = 100 * demanded as u64;
     gear == setup.geometry.disks || load < setup.up as u64 * setup.service as u64 * gear as u64
@@ -61,7 +61,7 @@ fn is_served(setup: &Setup, demanded: u32, gear: u8) -> bool
 fn are_served(setup: &Setup, demand: &[u32], gears: &[u8]) -> bool
     requires { length gears.now ≡ length demand.now }
     ensures { IsTrue result ↔ ((t : ℕ) → t < length gears.now
-        → Serves setup.now (slice_index demand.now t) (slice_index gears.now t)) }
+        → GearServes setup.now (slice_index demand.now t) (slice_index gears.now t)) }
 {
     for t in 0..gears.len() {
         if !is_served(setup, demand[t], gears[t]) {
@@ -86,7 +86,7 @@ fn are_next_gears(geometry: &Geometry, lower: u8, higher: u8) -> bool
 
 /// Whether the gear stays, or goes to the next one in either direction.
 fn is_step(geometry: &Geometry, from: u8, to: u8) -> bool
-    ensures { IsTrue result ↔ IsStep geometry.now from to }
+    ensures { IsTrue result ↔ IsGearStep geometry.now from to }
 {
     to == from || are_next_gears(geometry, to, from) || are_next_gears(geometry, from, to)
 }
@@ -95,7 +95,7 @@ fn is_step(geometry: &Geometry, from: u8, to: u8) -> bool
 fn are_steps(geometry: &Geometry, gears: &[u8]) -> bool
     requires { length gears.now ≤ 1024 }
     ensures { IsTrue result ↔ ((t : ℕ) → t + 1 < length gears.now
-        → IsStep geometry.now (slice_index gears.now t) (slice_index gears.now (t + 1))) }
+        → IsGearStep geometry.now (slice_index gears.now t) (slice_index gears.now (t + 1))) }
 {
     for t in 1..gears.len() {
         if !is_step(geometry, gears[t - 1], gears[t]) {
@@ -205,8 +205,8 @@ fn are_all(bounds: &[u64], at: usize, count: usize, bound: u64) -> bool
 fn are_within(bounds: &[u64], at: usize, next: usize, cost: u64, count: usize) -> bool
     requires at { at + count ≤ length bounds.now }
     requires next { next + count ≤ length bounds.now }
-    requires most { (k : ℕ) → slice_index bounds.now k ≤ none }
-    requires cost { cost ≤ none }
+    requires most { (k : ℕ) → slice_index bounds.now k ≤ no_bound }
+    requires cost { cost ≤ no_bound }
     ensures { IsTrue result ↔ ((j : ℕ) → j < count
         → slice_index bounds.now (at + j) ≤ cost + slice_index bounds.now (next + j)) }
 {
@@ -220,7 +220,7 @@ fn are_within(bounds: &[u64], at: usize, next: usize, cost: u64, count: usize) -
 
 /// Whether no bound is above that for none.
 fn are_low(bounds: &[u64]) -> bool
-    ensures { IsTrue result ↔ ((k : ℕ) → slice_index bounds.now k ≤ none) }
+    ensures { IsTrue result ↔ ((k : ℕ) → slice_index bounds.now k ≤ no_bound) }
 {
     for k in 0..bounds.len() {
         if bounds[k] > NONE {
@@ -314,7 +314,7 @@ fn is_right_in(setup: &Setup, demanded: u32, ups: u16, bounds: &[u64], t: usize)
     requires ups { ups ≤ 256 }
     requires period { t < 1024 }
     requires room { bound_count setup.now.geometry ups (t + 1) ≤ length bounds.now }
-    requires most { (k : ℕ) → slice_index bounds.now k ≤ none }
+    requires most { (k : ℕ) → slice_index bounds.now k ≤ no_bound }
     ensures { IsTrue result ↔ ((a : ℕ) → IsGear setup.now.geometry a → IsRightAt setup.now demanded ups bounds.now t a) }
 {
     for a in 3..setup.geometry.disks + 1 {
@@ -357,7 +357,7 @@ fn are_right_in_each(setup: &Setup, demand: &[u32], ups: u16, bounds: &[u64]) ->
     requires ups { ups ≤ 256 }
     requires periods { length demand.now ≤ 1024 }
     requires count { length bounds.now ≡ bound_count setup.now.geometry ups (length demand.now) }
-    requires most { (k : ℕ) → slice_index bounds.now k ≤ none }
+    requires most { (k : ℕ) → slice_index bounds.now k ≤ no_bound }
     ensures { IsTrue result ↔ ((t a : ℕ) → t < length demand.now → IsGear setup.now.geometry a
         → IsRightAt setup.now (slice_index demand.now t) ups bounds.now t a) }
 {

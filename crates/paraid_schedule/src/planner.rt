@@ -3,10 +3,10 @@
 ghost use Rattle.std.specs.Prelude.{◌≡◌, ◌↔◌, ◌⊎◌, ℕ, ◌+◌, ◌-◌, ◌*◌, ◌^◌, ◌<◌, ◌≤◌, min, IsTrue, IfOk, IfErr, OnOk, MatchOption, length, slice_index};
 ghost use Rattle.paraid_base.specs.Regions.{IsGear};
 ghost use Rattle.paraid_record.specs.Range.{AreNextGears};
-ghost use Rattle.paraid_schedule.specs.Schedule.{IsDemand, IsSchedule, IsStep, Serves, rise, rises};
+ghost use Rattle.paraid_schedule.specs.Schedule.{IsDemand, IsSchedule, IsGearStep, GearServes, rise, rises};
 ghost use Rattle.paraid_schedule.specs.Cost.{period_cost as price_of_period, step_cost as price_of_step, schedule_cost, spin_ups};
-ghost use Rattle.paraid_schedule.specs.Bounds.{none, row, bound_count, gear_count, rank, bound, onward, HasRow, AreRight, IsRightAt};
-ghost use Rattle.paraid_schedule.specs.Solved.{IsLeast, IsMetBy, IsSolvedAt, AreSolvedFrom, DifferInRow, AreSameIn, IsWalk};
+ghost use Rattle.paraid_schedule.specs.Bounds.{no_bound, row_start, bound_count, gear_count, rank, bound, onward, HasRow, AreRight, IsRightAt};
+ghost use Rattle.paraid_schedule.specs.Solved.{IsLeastCostAfter, IsMetBy, IsSolvedAt, AreSolvedFrom, DifferInRow, AreSameIn, IsWalk};
 ghost use Rattle.paraid_schedule.specs.Plan.{IsCertified, IsLeastCost, IsPlanFault};
 
 use crate::{Plan, PlanFault};
@@ -59,7 +59,7 @@ fn test_demand(demand: &[u32]) -> Result<(), PlanFault>
 
 /// Whether a gear serves so much.
 fn serves(setup: &Setup, demanded: u32, gear: u8) -> bool
-    ensures { IsTrue result ↔ Serves setup.now demanded gear }
+    ensures { IsTrue result ↔ GearServes setup.now demanded gear }
 {
     gear == setup.geometry.disks
         || 100 * (demanded as u64) < setup.up as u64 * setup.service as u64 * gear as u64
@@ -104,7 +104,7 @@ fn place(geometry: &Geometry, ups: u16, t: usize, a: u8) -> usize
     requires ups { ups ≤ 256 }
     requires period { t ≤ 1024 }
     requires gear { a ≤ 9 }
-    ensures value { result ≡ row geometry.now ups t a }
+    ensures value { result ≡ row_start geometry.now ups t a }
     ensures small { result < 2 ^ 32 }
 {
     let gears = gears_below(geometry, geometry.disks + 1);
@@ -114,10 +114,10 @@ fn place(geometry: &Geometry, ups: u16, t: usize, a: u8) -> usize
 /// Sets so many bounds from `at` on to none.
 fn clear(bounds: &mut [u64], at: usize, count: usize)
     requires within { at + count ≤ length bounds.old }
-    requires most { (k : ℕ) → slice_index bounds.old k ≤ none }
-    ensures cleared { (j : ℕ) → j < count → slice_index bounds.new (at + j) ≡ none }
+    requires most { (k : ℕ) → slice_index bounds.old k ≤ no_bound }
+    ensures cleared { (j : ℕ) → j < count → slice_index bounds.new (at + j) ≡ no_bound }
     ensures same { (k : ℕ) → (k < at) ⊎ (at + count ≤ k) → slice_index bounds.new k ≡ slice_index bounds.old k }
-    ensures most { (k : ℕ) → slice_index bounds.new k ≤ none }
+    ensures most { (k : ℕ) → slice_index bounds.new k ≤ no_bound }
 {
     for j in 0..count {
         bounds[at + j] = NONE;
@@ -128,12 +128,12 @@ fn clear(bounds: &mut [u64], at: usize, count: usize)
 fn relax(bounds: &mut [u64], at: usize, next: usize, cost: u64, count: usize)
     requires apart { at + count ≤ next }
     requires within { next + count ≤ length bounds.old }
-    requires most { (k : ℕ) → slice_index bounds.old k ≤ none }
-    requires cost { cost ≤ none }
+    requires most { (k : ℕ) → slice_index bounds.old k ≤ no_bound }
+    requires cost { cost ≤ no_bound }
     ensures relaxed { (j : ℕ) → j < count → slice_index bounds.new (at + j)
         ≡ min (slice_index bounds.old (at + j)) (cost + slice_index bounds.old (next + j)) }
     ensures same { (k : ℕ) → (k < at) ⊎ (at + count ≤ k) → slice_index bounds.new k ≡ slice_index bounds.old k }
-    ensures most { (k : ℕ) → slice_index bounds.new k ≤ none }
+    ensures most { (k : ℕ) → slice_index bounds.new k ≤ no_bound }
 {
     for j in 0..count {
         bounds[at + j] = bounds[at + j].min(cost + bounds[next + j]);
@@ -143,10 +143,10 @@ fn relax(bounds: &mut [u64], at: usize, next: usize, cost: u64, count: usize)
 /// Lowers the bounds of a period and gear to what staying in the gear costs.
 fn relax_by_stay(setup: &Setup, ups: u16, bounds: &mut [u64], t: usize, a: u8)
     requires { HasRow setup.now.geometry ups bounds.old t a }
-    ensures least { (left : ℕ) → left ≤ ups → IsLeast (λ b. b ≡ a) setup.now ups bounds.old t a left
+    ensures least { (left : ℕ) → left ≤ ups → IsLeastCostAfter (λ b. b ≡ a) setup.now ups bounds.old t a left
         (bound setup.now.geometry ups bounds.old t a left) (bound setup.now.geometry ups bounds.new t a left) }
     ensures same { DifferInRow setup.now.geometry ups t a bounds.old bounds.new }
-    ensures most { (k : ℕ) → slice_index bounds.new k ≤ none }
+    ensures most { (k : ℕ) → slice_index bounds.new k ≤ no_bound }
 {
     let at = place(&setup.geometry, ups, t, a);
     let next = place(&setup.geometry, ups, t + 1, a);
@@ -156,10 +156,10 @@ fn relax_by_stay(setup: &Setup, ups: u16, bounds: &mut [u64], t: usize, a: u8)
 /// Lowers them to what a step to the next lower gear costs.
 fn relax_by_fall(setup: &Setup, ups: u16, bounds: &mut [u64], t: usize, a: u8)
     requires { HasRow setup.now.geometry ups bounds.old t a }
-    ensures least { (left : ℕ) → left ≤ ups → IsLeast (λ b. AreNextGears setup.now.geometry b a) setup.now ups bounds.old t a left
+    ensures least { (left : ℕ) → left ≤ ups → IsLeastCostAfter (λ b. AreNextGears setup.now.geometry b a) setup.now ups bounds.old t a left
         (bound setup.now.geometry ups bounds.old t a left) (bound setup.now.geometry ups bounds.new t a left) }
     ensures same { DifferInRow setup.now.geometry ups t a bounds.old bounds.new }
-    ensures most { (k : ℕ) → slice_index bounds.new k ≤ none }
+    ensures most { (k : ℕ) → slice_index bounds.new k ≤ no_bound }
 {
     if let Some(b) = setup.geometry.lower(a) {
         let at = place(&setup.geometry, ups, t, a);
@@ -171,10 +171,10 @@ fn relax_by_fall(setup: &Setup, ups: u16, bounds: &mut [u64], t: usize, a: u8)
 /// Lowers them to what a step to the next higher gear costs, where one is left.
 fn relax_by_rise(setup: &Setup, ups: u16, bounds: &mut [u64], t: usize, a: u8)
     requires { HasRow setup.now.geometry ups bounds.old t a }
-    ensures least { (left : ℕ) → left ≤ ups → IsLeast (λ b. AreNextGears setup.now.geometry a b) setup.now ups bounds.old t a left
+    ensures least { (left : ℕ) → left ≤ ups → IsLeastCostAfter (λ b. AreNextGears setup.now.geometry a b) setup.now ups bounds.old t a left
         (bound setup.now.geometry ups bounds.old t a left) (bound setup.now.geometry ups bounds.new t a left) }
     ensures same { DifferInRow setup.now.geometry ups t a bounds.old bounds.new }
-    ensures most { (k : ℕ) → slice_index bounds.new k ≤ none }
+    ensures most { (k : ℕ) → slice_index bounds.new k ≤ no_bound }
 {
     if let Some(b) = setup.geometry.higher(a) {
         let at = place(&setup.geometry, ups, t, a);
@@ -189,7 +189,7 @@ fn solve_gear(setup: &Setup, demanded: u32, ups: u16, bounds: &mut [u64], t: usi
     requires { HasRow setup.now.geometry ups bounds.old t a }
     ensures solved { IsSolvedAt setup.now demanded ups bounds.new t a }
     ensures same { DifferInRow setup.now.geometry ups t a bounds.old bounds.new }
-    ensures most { (k : ℕ) → slice_index bounds.new k ≤ none }
+    ensures most { (k : ℕ) → slice_index bounds.new k ≤ no_bound }
 {
     clear(bounds, place(&setup.geometry, ups, t, a), ups as usize + 1);
     if !serves(setup, demanded, a) {
@@ -205,10 +205,10 @@ fn solve_period(setup: &Setup, demanded: u32, ups: u16, bounds: &mut [u64], t: u
     requires ups { ups ≤ 256 }
     requires period { t < 1024 }
     requires room { bound_count setup.now.geometry ups (t + 1) ≤ length bounds.old }
-    requires most { (k : ℕ) → slice_index bounds.old k ≤ none }
+    requires most { (k : ℕ) → slice_index bounds.old k ≤ no_bound }
     ensures solved { (a : ℕ) → IsGear setup.now.geometry a → IsSolvedAt setup.now demanded ups bounds.new t a }
     ensures same { (u : ℕ) → t < u → AreSameIn setup.now.geometry ups u bounds.old bounds.new }
-    ensures most { (k : ℕ) → slice_index bounds.new k ≤ none }
+    ensures most { (k : ℕ) → slice_index bounds.new k ≤ no_bound }
 {
     for a in 3..setup.geometry.disks + 1 {
         if setup.geometry.is_gear(a) {
@@ -224,7 +224,7 @@ fn solve_periods(setup: &Setup, demand: &[u32], ups: u16, bounds: &mut [u64])
     requires count { length bounds.old ≡ bound_count setup.now.geometry ups (length demand.now) }
     requires zero { (k : ℕ) → slice_index bounds.old k ≡ 0 }
     ensures count { length bounds.new ≡ bound_count setup.now.geometry ups (length demand.now) }
-    ensures most { (k : ℕ) → slice_index bounds.new k ≤ none }
+    ensures most { (k : ℕ) → slice_index bounds.new k ≤ no_bound }
     ensures end { (a left : ℕ) → IsGear setup.now.geometry a → left ≤ ups
         → bound setup.now.geometry ups bounds.new (length demand.now) a left ≡ 0 }
     ensures solved { AreSolvedFrom 0 setup.now demand.now ups bounds.new }
@@ -296,8 +296,8 @@ fn next_gear(
     requires row { HasRow setup.now.geometry ups bounds.now t a }
     requires left { left ≤ ups }
     requires solved { IsSolvedAt setup.now demanded ups bounds.now t a }
-    requires some { bound setup.now.geometry ups bounds.now t a left < none }
-    ensures step { IsStep setup.now.geometry a result }
+    requires some { bound setup.now.geometry ups bounds.now t a left < no_bound }
+    ensures step { IsGearStep setup.now.geometry a result }
     ensures permitted { rise a result ≤ left }
     ensures met { IsMetBy setup.now ups bounds.now t a left result }
 {

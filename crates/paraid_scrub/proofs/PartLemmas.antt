@@ -7,7 +7,7 @@ use Rattle.paraid_scrub.specs.declared.kind.CheckReport.{CheckReport}
 use Rattle.paraid_scrub.specs.declared.kind.Kind.{Kind}
 use Rattle.paraid_scrub.specs.declared.kind.Kind.TheVariants.{Row, Stripe, Fill, Unit as RebuiltUnit, Mirror}
 use Rattle.paraid_scrub.specs.Counts.{AreCounts, CountBelow, IsOff, all_members, part, total}
-use Rattle.paraid_scrub.specs.Looked.{PartCount}
+use Rattle.paraid_scrub.specs.ReadParts.{PartCount}
 use Rattle.paraid_scrub.proofs.LookedLemmas.{count_none}
 
 part_here : (from size s : ℕ) → s ≤ size → part (from + s) from size ≡ s

@@ -1,12 +1,11 @@
 -- What a check counts of an image.
 use Rattle.std.specs.Prelude.{◌≡◌, ◌≢◌, ℕ, ◌+◌, ◌-◌, ◌*◌, ◌<◌, ◌≤◌, min, nat_le, Bool, true, false, if◌then◌else◌, Option, Some, None}
-use Rattle.paraid_base.specs.declared.state.Out.{Out}
-use Rattle.paraid_base.specs.declared.state.Out.TheVariants.{No, Gone, Fresh}
 use Rattle.paraid_base.specs.Regions.{IsGear, hard_place_of, map_count}
 use Rattle.paraid_base.specs.Soft.{soft_disk, soft_stripe, stripe_count}
 use Rattle.paraid_base.specs.Sums.{xor_upto}
-use Rattle.paraid_base.specs.Xor.{zeroed}
+use Rattle.paraid_base.specs.Xor.{zero_block}
 use Rattle.paraid_record.specs.declared.meta.Meta.{Meta}
+use Rattle.paraid_base.specs.States.{rebuilt_count}
 use Rattle.paraid_record.specs.Codes.{phase_to}
 use Rattle.paraid_image.specs.Out.{named_out}
 use Rattle.paraid_image.specs.Sound.{IsStripeZero, stripes_on}
@@ -42,7 +41,7 @@ pub record IsUnitRight (v : View) (d u : ℕ) : Type 0 where
 
 -- the member `at` of a kind is false
 abbrev pub IsOff : View → Kind → ℕ → Type 0
-IsOff v Row r = xor_upto (value v r) v.meta.setup.geometry.disks ≢ zeroed
+IsOff v Row r = xor_upto (value v r) v.meta.setup.geometry.disks ≢ zero_block
 IsOff v Stripe s = IsStripeZero v v.meta.gear s → ⊥
 IsOff v Fill s = IsFillRight v (phase_to v.meta.phase) s → ⊥
 IsOff v RebuiltUnit u = ((d : ℕ) → v.out ≡ Some d → IsUnitRight v d u) → ⊥
@@ -57,11 +56,6 @@ abbrev pub is_whole_below : Option ℕ → ℕ → Bool
 is_whole_below None a = true
 is_whole_below (Some d) a = nat_le a d
 
-abbrev pub rebuilt_in : Out → ℕ
-rebuilt_in No = 0
-rebuilt_in (Gone d) = 0
-rebuilt_in (Fresh d rebuilt) = rebuilt
-
 -- How many members of a kind are looked at: the rows and the filled stripes while no disk is out;
 -- the stripes of the gear where none of their blocks is on the out disk; the rebuilt units of the
 -- out disk; and the map blocks while no log disk is out.
@@ -69,7 +63,7 @@ abbrev pub total : Meta → Option ℕ → Kind → ℕ
 total m out Row = when_whole out m.setup.geometry.rows
 total m out Stripe = if is_whole_below out m.gear then stripe_count m.setup.geometry.disks m.setup.geometry.rows m.gear else 0
 total m out Fill = when_whole out m.fill
-total m out RebuiltUnit = rebuilt_in m.out
+total m out RebuiltUnit = rebuilt_count m.out
 total m out Mirror = if is_whole_below out 2 then map_count m.setup.geometry else 0
 
 -- how many of a part of `size` members, which begins after `from` others, are among the first

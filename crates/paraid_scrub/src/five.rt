@@ -1,7 +1,7 @@
 ghost use Rattle.std.specs.Prelude.{◌≡◌, ℕ, IfOk, IsTrue};
 ghost use Rattle.paraid_image.specs.Spot.{View};
 ghost use Rattle.paraid_scrub.specs.Counts.{AreCounts, all_members, total};
-ghost use Rattle.paraid_scrub.specs.Looked.{PartCount};
+ghost use Rattle.paraid_scrub.specs.ReadParts.{PartCount};
 
 use crate::kind::{CheckReport, Kind};
 use crate::scrub::Part;

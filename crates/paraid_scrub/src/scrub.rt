@@ -5,7 +5,7 @@ ghost use Rattle.paraid_image.specs.Out.{named_out};
 ghost use Rattle.paraid_scrub.specs.Counts.{IsCheckable, is_whole_below};
 ghost use Rattle.paraid_image.specs.Spot.{View};
 ghost use Rattle.paraid_scrub.specs.declared.kind.Kind.TheVariants.{Row as RowKind, Stripe as StripeKind, Mirror as MirrorKind};
-ghost use Rattle.paraid_scrub.specs.Looked.{Looked, PartCount};
+ghost use Rattle.paraid_scrub.specs.ReadParts.{KeepsView, PartCount};
 
 use crate::Stored;
 use crate::member::{is_mirror_off, is_row_off, is_stripe_off};
@@ -29,7 +29,7 @@ fn one_if(off: bool) -> u32
 pub fn count_rows<C: Stored>(core: &mut C) -> Result<Part, Two>
     ensures counts { IfOk result (λ part. (v : View) → C.shows core.old v
         → PartCount v RowKind (C.meta core.old).setup.geometry.rows part.found part.whole) }
-    ensures kept { IfOk result (λ part. IsTrue part.whole → Looked (C.meta core.old)
+    ensures kept { IfOk result (λ part. IsTrue part.whole → KeepsView (C.meta core.old)
         (C.meta core.new) (C.ready core.old) (C.ready core.new) (C.shows core.old)
         (C.shows core.new) (λ v. C.shows core.new v)) }
 {
@@ -61,7 +61,7 @@ pub fn count_stripes<C: Stored>(core: &mut C) -> Result<Part, Two>
         → PartCount v StripeKind (stripe_count
         (C.meta core.old).setup.geometry.disks (C.meta core.old).setup.geometry.rows
         (C.meta core.old).gear) part.found part.whole) }
-    ensures kept { IfOk result (λ part. IsTrue part.whole → Looked (C.meta core.old)
+    ensures kept { IfOk result (λ part. IsTrue part.whole → KeepsView (C.meta core.old)
         (C.meta core.new) (C.ready core.old) (C.ready core.new) (C.shows core.old)
         (C.shows core.new) (λ v. C.shows core.new v)) }
 {
@@ -92,7 +92,7 @@ pub fn count_mirrors<C: Stored>(core: &mut C) -> Result<Part, Two>
     ensures counts { IfOk result (λ part. (v : View) → C.shows core.old v
         → PartCount v MirrorKind (map_count (C.meta core.old).setup.geometry)
         part.found part.whole) }
-    ensures kept { IfOk result (λ part. IsTrue part.whole → Looked (C.meta core.old)
+    ensures kept { IfOk result (λ part. IsTrue part.whole → KeepsView (C.meta core.old)
         (C.meta core.new) (C.ready core.old) (C.ready core.new) (C.shows core.old)
         (C.shows core.new) (λ v. C.shows core.new v)) }
 {

@@ -10,12 +10,12 @@ use Rattle.paraid_rack.specs.Trail.{Trail, disks, initial, now, run}
 use Rattle.paraid_rack.proofs.TrailsLemmas.{now-extend}
 use Rattle.paraid_record.specs.declared.meta.Setup.{Setup}
 use Rattle.paraid_image.specs.Out.{named_out}
-use Rattle.paraid_image.specs.Entry.{IsEntry}
-use Rattle.paraid_session.proofs.EntryLemmas.{mark_entry}
-use Rattle.paraid_session.specs.Mount.{Mounted}
-use Rattle.paraid_serve.specs.Output.{Follows, Headline, IsLeft, Run}
-use Rattle.paraid_serve.specs.Output.IsLeft.{two_down as left_two, rests as left_rests}
-use Rattle.paraid_serve.specs.Stretch.{Stretch, Turn, Went, calls_of}
+use Rattle.paraid_image.specs.RunStart.{IsRunStart}
+use Rattle.paraid_session.proofs.RunStartLemmas.{mark_entry}
+use Rattle.paraid_session.specs.Mount.{IsMountedFromEach}
+use Rattle.paraid_serve.specs.Output.{FollowsFromPoint, Headline, IsLeftByStretch, ProgramRun}
+use Rattle.paraid_serve.specs.Output.IsLeftByStretch.{two_down as left_two, rests as left_rests}
+use Rattle.paraid_serve.specs.Stretch.{Stretch, Turn, TurnsLead, turn_calls}
 use Rattle.paraid_session.specs.Turn.{IsMark, IsTurn, Point, with_halt}
 use Rattle.paraid_session.specs.Turn.IsTurn.{again, answered, bad, two, worn}
 
@@ -54,7 +54,7 @@ turn_disks slots setup p q t (worn count going apart is w none same) = ap (λ (x
 turn_disks slots setup p q t (again halt halted apart is none same) = ap (λ (x : Point). x.disks) same ∙ ap (run p.disks) (sym none)
 turn_disks slots setup p q t (bad is a none same) = ap (λ (x : Point). x.disks) same ∙ ap (run p.disks) (sym none)
 
-pub went_over : (slots : ℕ) (setup : Setup) (p q : Point) (ts : List Turn) → IsOver slots setup p → Went slots setup p ts q → IsOver slots setup q
+pub went_over : (slots : ℕ) (setup : Setup) (p q : Point) (ts : List Turn) → IsOver slots setup p → TurnsLead slots setup p ts q → IsOver slots setup q
 went_over slots setup p q [] over went = subst (λ (x : Point). IsOver slots setup x) (sym went) over
 went_over slots setup p q (t ∷ ts) over went = went_over slots setup went.0 q ts (turn_over slots setup p went.0 t over went.1) went.2
 
@@ -62,18 +62,18 @@ run-append : (s : Disks) (cs ds : List Call) → run s (cs ++ ds) ≡ run (run s
 run-append s [] ds = refl
 run-append s (c ∷ cs) ds = run-append (step c s) cs ds
 
-pub went_disks : (slots : ℕ) (setup : Setup) (p q : Point) (ts : List Turn) → Went slots setup p ts q → q.disks ≡ run p.disks (calls_of ts)
+pub went_disks : (slots : ℕ) (setup : Setup) (p q : Point) (ts : List Turn) → TurnsLead slots setup p ts q → q.disks ≡ run p.disks (turn_calls ts)
 went_disks slots setup p q [] went = ap (λ (x : Point). x.disks) went
 went_disks slots setup p q (t ∷ ts) went =
-    went_disks slots setup went.0 q ts went.2 ∙ ap (λ (s : Disks). run s (calls_of ts)) (turn_disks slots setup p went.0 t went.1) ∙ sym (run-append p.disks t.calls (calls_of ts))
+    went_disks slots setup went.0 q ts went.2 ∙ ap (λ (s : Disks). run s (turn_calls ts)) (turn_disks slots setup p went.0 t went.1) ∙ sym (run-append p.disks t.calls (turn_calls ts))
 
 -- A stretch from a mark ends on a rack that held the history of its end, unless two disks are down.
-pub stretch_leaves : (slots : ℕ) (setup : Setup) (start final : Option Trail) (p : Point) (events : List Event) (c : Stretch slots setup start final p events) → IsMark slots setup p → p.disks ≡ now c.from → IsLeft slots c
+pub stretch_leaves : (slots : ℕ) (setup : Setup) (start final : Option Trail) (p : Point) (events : List Event) (c : Stretch slots setup start final p events) → IsMark slots setup p → p.disks ≡ now c.from → IsLeftByStretch slots c
 stretch_leaves slots setup start final p events c mark here =
-    let there : c.end.disks ≡ now c.to = went_disks slots setup p c.end c.turns c.went ∙ ap (λ (s : Disks). run s (calls_of c.turns)) here ∙ sym (now-extend c.from (calls_of c.turns)) ∙ ap now (sym c.calls) in
+    let there : c.end.disks ≡ now c.to = went_disks slots setup p c.end c.turns c.went ∙ ap (λ (s : Disks). run s (turn_calls c.turns)) here ∙ sym (now-extend c.from (turn_calls c.turns)) ∙ ap now (sym c.calls) in
     elim (went_over slots setup p c.end c.turns (rests mark) c.went) [
       | two_down pair halted ↦ left_two pair halted
-      | rests m ↦ left_rests (subst (λ (s : Disks). IsEntry slots s c.end.history c.end.low (named_out c.end.state.out)) there (mark_entry slots setup c.end m))
+      | rests m ↦ left_rests (subst (λ (s : Disks). IsRunStart slots s c.end.history c.end.low (named_out c.end.state.out)) there (mark_entry slots setup c.end m))
     ]
 
 same_trail : (o : Option Trail) (a b : Trail) → o ≡ Some a → o ≡ Some b → a ≡ b
@@ -87,9 +87,9 @@ mounted_disks : (t : Trail) (began : ℕ) → run (disks t began) (drop began t.
 mounted_disks t began = sym (run-append (initial t.start) (take began t.calls) (drop began t.calls)) ∙ ap (run (initial t.start)) (take-append-drop began t.calls)
 
 -- more may follow from the first point of a session
-pub Mounted-follows : (slots : ℕ) (setup : Setup) (began : ℕ) (start : Option Trail) (P Q : Point → Type 0)
-    → ((p : Point) → IsMark slots setup p → ((t : Trail) → start ≡ Some t → p.disks ≡ now t) → P p → Q p) → Mounted slots setup began start P → Mounted slots setup began start Q
-Mounted-follows slots setup began start P Q more mounted t tells h lo down x said entry stands =
+pub IsMountedFromEach-follows : (slots : ℕ) (setup : Setup) (began : ℕ) (start : Option Trail) (P Q : Point → Type 0)
+    → ((p : Point) → IsMark slots setup p → ((t : Trail) → start ≡ Some t → p.disks ≡ now t) → P p → Q p) → IsMountedFromEach slots setup began start P → IsMountedFromEach slots setup began start Q
+IsMountedFromEach-follows slots setup began start P Q more mounted t tells h lo down x said entry stands =
     let m = mounted t tells h lo down x said entry stands in
     let n = m.1 in (
       m.0,
@@ -106,7 +106,7 @@ Mounted-follows slots setup began start P Q more mounted t tells h lo down x sai
     )
 
 pub headline : (slots : ℕ) (setup : Setup) (began : ℕ) (stood : Point → Type 0) (start final : Option Trail) (left_before left written_before written : Option (List ℕ)) (status : ℕ)
-    → Mounted slots setup began start stood → Run slots setup stood start final left_before left written_before written status
+    → IsMountedFromEach slots setup began start stood → ProgramRun slots setup stood start final left_before left written_before written status
     → Headline slots setup began start final left_before left written_before written status
 headline slots setup began stood start final left_before left written_before written status mounted r = record {
   bytes = r.bytes;
@@ -116,7 +116,7 @@ headline slots setup began stood start final left_before left written_before wri
   full = r.full;
   all = r.all;
   form = r.form;
-  said = λ t. Mounted-follows slots setup began start stood (Follows slots setup start final r.bytes status r.text)
+  said = λ t. IsMountedFromEach-follows slots setup began start stood (FollowsFromPoint slots setup start final r.bytes status r.text)
       (λ p mark here at_p. record {
         wrote = r.wrote t p at_p;
         left = λ events c. stretch_leaves slots setup start final p events c mark (here c.from c.was);

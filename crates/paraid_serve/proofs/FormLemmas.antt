@@ -6,7 +6,11 @@ use Rattle.paraid_base.specs.declared.event.Answer.TheVariants.{Halted}
 use Rattle.paraid_base.specs.declared.event.Event.{Event}
 use Rattle.paraid_base.specs.declared.event.Event.TheVariants.{Read, Write, Flush, Tick, Up, Down, Fail, Replace, State as AskState, Energy as AskEnergy, Bad}
 use Rattle.paraid_base.specs.declared.fault.Halt.{Halt}
-use Rattle.paraid_trace.specs.Lines.{event_of}
+use Rattle.paraid_base.specs.declared.pairs.Pairs.{Pairs}
+use Rattle.paraid_trace.specs.Asked.{event_with}
+use Rattle.paraid_trace.specs.declared.asked.Asked.{Asked}
+use Rattle.paraid_trace.specs.declared.asked.Asked.TheVariants.{Read as AskRead, Write as AskWrite, Flush as AskFlush, Tick as AskTick, Up as AskUp, Down as AskDown, Fail as AskFail, Replace as AskReplace, State as AskTellState, Energy as AskTellEnergy, Bad as AskBad}
+use Rattle.paraid_trace.specs.LineEvents.{event_of}
 use Rattle.paraid_trace.specs.Replies.{reply_of}
 use Rattle.paraid_serve.specs.Form.{AreAnswersTo, HasAnswers, is_answer_to, texts}
 use Rattle.paraid_serve.specs.Stretch.{events_in}
@@ -24,6 +28,20 @@ halted_kind (Replace disk) halt not = refl
 halted_kind AskState halt not = refl
 halted_kind AskEnergy halt not = refl
 halted_kind Bad halt not = absurd (not refl)
+
+-- what is asked for is no event only where that is said
+pub not_bad : (a : Asked) (p : Pairs) → (a ≡ AskBad → ⊥) → event_with a p ≢ Bad
+not_bad (AskRead block) p good e = cc
+not_bad AskWrite p good e = cc
+not_bad AskFlush p good e = cc
+not_bad AskTick p good e = cc
+not_bad AskUp p good e = cc
+not_bad AskDown p good e = cc
+not_bad (AskFail disk) p good e = cc
+not_bad (AskReplace disk) p good e = cc
+not_bad AskTellState p good e = cc
+not_bad AskTellEnergy p good e = cc
+not_bad AskBad p good e = absurd (good refl)
 
 kinds_push : (events : List Event) (answers : List Answer) (event : Event) (answer : Answer) → AreAnswersTo events answers → is_answer_to event answer ≡ true → AreAnswersTo (events ++ event ∷ []) (answers ++ answer ∷ [])
 kinds_push [] [] event answer all is = (is, tt)

@@ -1,4 +1,3 @@
-pub mod HearLemmas
 pub mod StretchLemmas
 pub mod FormLemmas
 pub mod Sofar

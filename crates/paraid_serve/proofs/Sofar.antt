@@ -7,21 +7,21 @@ use Rattle.paraid_base.specs.declared.event.Answer.TheVariants.{Flushed, Halted}
 use Rattle.paraid_base.specs.declared.event.Event.{Event}
 use Rattle.paraid_base.specs.declared.event.Event.TheVariants.{Flush}
 use Rattle.paraid_base.specs.declared.fault.Halt.{Halt}
-use Rattle.paraid_base.specs.Told.{Gives, Grows, AtEnd, told}
-use Rattle.paraid_base.proofs.ToldLemmas.{Gives-none, Gives-then, Grows-none, Grows-then}
+use Rattle.paraid_base.specs.Told.{Gives, GrowsByBytes, AtEnd, told_bytes}
+use Rattle.paraid_base.proofs.ToldLemmas.{Gives-none, Gives-then, GrowsByBytes-none, GrowsByBytes-then}
 use Rattle.paraid_io.specs.declared.line.LineFault.{LineFault}
 use Rattle.paraid_io.specs.Lines.{lines_of, whole_lines}
-use Rattle.paraid_io.specs.Reading.{Reading, fresh}
+use Rattle.paraid_io.specs.Reading.{Reading, fresh_reader}
 use Rattle.paraid_rack.specs.Told.{Ran}
 use Rattle.paraid_rack.specs.Trail.{Trail}
 use Rattle.paraid_record.specs.declared.meta.Setup.{Setup}
-use Rattle.paraid_trace.specs.Lines.{event_of}
+use Rattle.paraid_trace.specs.LineEvents.{event_of}
 use Rattle.paraid_trace.specs.Replies.{reply_of}
-use Rattle.paraid_serve.specs.Heard.{Heard, NextLine}
+use Rattle.paraid_console.specs.Heard.{HearsLine, IsNextLine}
 use Rattle.paraid_serve.specs.Form.{HasAnswers, is_answer_to}
-use Rattle.paraid_serve.specs.Session.{Session}
+use Rattle.paraid_serve.specs.Session.{ServesSession}
 use Rattle.paraid_serve.proofs.FormLemmas.{answers_push, no_answers}
-use Rattle.paraid_serve.specs.Stretch.{Ended, Stretch, events_in, replies, turn}
+use Rattle.paraid_serve.specs.Stretch.{EndsStretch, Stretch, events_in, replies, turn_with}
 use Rattle.paraid_session.specs.Turn.{GoesOn, Point}
 use Rattle.paraid_serve.specs.declared.stop.Stop.TheVariants.{Source, TooLong, Sink, Halt as Halts}
 use Rattle.paraid_serve.proofs.StretchLemmas.{More, events_in-push, replies-push, stretch_more, stretch_none}
@@ -45,12 +45,12 @@ pub record Sofar (slots : ℕ) (setup : Setup) (first : Point → Type 0) (left_
   pub fault : reader.fault ≡ None
   pub limit : reader.taken ≤ 2 ^ 40
   pub count : reader.taken ≡ length bytes
-  pub grows : Grows written_before written text
+  pub grows : GrowsByBytes written_before written text
   pub form : HasAnswers answered text
   pub tells : IsSome now → IsSome start
   pub said : IsSome now → (p : Point) → first p → Said slots setup start now p answered text stood
 
-pub sofar_start : (slots : ℕ) (setup : Setup) (left written : Option (List ℕ)) (start : Option Trail) (stood : Point → Type 0) → Sofar slots setup stood left left written written start start stood (fresh 0)
+pub sofar_start : (slots : ℕ) (setup : Setup) (left written : Option (List ℕ)) (start : Option Trail) (stood : Point → Type 0) → Sofar slots setup stood left left written written start start stood (fresh_reader 0)
 sofar_start slots setup left written start stood = record {
   bytes = [];
   answered = [];
@@ -63,7 +63,7 @@ sofar_start slots setup left written start stood = record {
   fault = refl;
   limit = omega arith;
   count = refl;
-  grows = Grows-none written;
+  grows = GrowsByBytes-none written;
   form = no_answers;
   tells = λ t. t;
   said = λ t p first. record { all = stretch_none slots setup start p t; text_is = refl; stands = first };
@@ -71,21 +71,21 @@ sofar_start slots setup left written start stood = record {
 
 -- no byte comes after the end
 none_more : {a b : Option (List ℕ)} {got : List ℕ} → Gives a b got → got ≡ [] → AtEnd a → AtEnd b
-none_more {a} {b} {got} g none end s = ap (λ x. x ++ told b) (sym none) ∙ sym (g.bytes s) ∙ end (g.before s)
+none_more {a} {b} {got} g none end s = ap (λ x. x ++ told_bytes b) (sym none) ∙ sym (g.bytes s) ∙ end (g.before s)
 
 ended_or_not : (b : Bool) → (b ≡ true) ⊎ (b ≡ false)
 ended_or_not true = inl refl
 ended_or_not false = inr refl
 
 -- the end is kept, or it came in this call
-pub heard_end : {before after : Option (List ℕ)} {old new : Reading} {r : Result (Option Event) LineFault} → Heard before after old new r → (IsTrue old.ended → AtEnd before) → IsTrue new.ended → AtEnd after
+pub heard_end : {before after : Option (List ℕ)} {old new : Reading} {r : Result (Option Event) LineFault} → HearsLine before after old new r → (IsTrue old.ended → AtEnd before) → IsTrue new.ended → AtEnd after
 heard_end {before} {after} {old} {new} {r} h end now = elim (ended_or_not old.ended) [
   | inl e ↦ none_more h.given (h.ended_before e) (end e)
   | inr f ↦ (h.ended_now now f).0
 ]
 
 -- fewer bytes were taken than may be
-pub heard_in_time : {before after : Option (List ℕ)} {old new : Reading} {r : Result (Option Event) LineFault} → Heard before after old new r → (IsTrue old.ended → old.taken < 2 ^ 40) → IsTrue new.ended → new.taken < 2 ^ 40
+pub heard_in_time : {before after : Option (List ℕ)} {old new : Reading} {r : Result (Option Event) LineFault} → HearsLine before after old new r → (IsTrue old.ended → old.taken < 2 ^ 40) → IsTrue new.ended → new.taken < 2 ^ 40
 heard_in_time {before} {after} {old} {new} {r} h end now = elim (ended_or_not old.ended) [
   | inl e ↦ omega (arith, h.taken, ap length (h.ended_before e), end e)
   | inr f ↦ (h.ended_now now f).1
@@ -114,7 +114,7 @@ one_event {slots} {setup} {start} {now} {p} {lines} {text} {stood} said event an
 
 module _ {slots : ℕ} {setup : Setup} {first : Point → Type 0} {left_before left after written_before written : Option (List ℕ)} {start now : Option Trail} {stood : Point → Type 0} {old new : Reading} (s : Sofar slots setup first left_before left written_before written start now stood old) where
   -- what is said with one line more
-  one_more : {event : Event} (h : Heard left after old new (Ok (Some event))) → (answer : Answer) (later : Option Trail) (new_stood : Point → Type 0) (slots_now : ℕ) (setup_now : Setup) → slots_now ≡ slots → setup_now ≡ setup
+  one_more : {event : Event} (h : HearsLine left after old new (Ok (Some event))) → (answer : Answer) (later : Option Trail) (new_stood : Point → Type 0) (slots_now : ℕ) (setup_now : Setup) → slots_now ≡ slots → setup_now ≡ setup
       → (IsSome later → IsSome now) → ((q : Point) → stood q → Ran now later (GoesOn slots_now setup_now q event answer new_stood))
       → IsSome later → (p : Point) → first p → Said slots setup start later p (s.answered ++ h.says.0 ∷ []) (s.text ++ reply_of answer) new_stood
   one_more {event} h answer later new_stood slots_now setup_now same_slots same_setup tells goes t p f =
@@ -138,13 +138,13 @@ module _ {slots : ℕ} {setup : Setup} {first : Point → Type 0} {left_before l
         stands = more.stands;
       }
 
-  pub sofar_more : {event : Event} (h : Heard left after old new (Ok (Some event))) → new.fault ≡ None → (answer : Answer) → is_answer_to event answer ≡ true → (later : Option Trail) (wrote : Option (List ℕ)) (new_stood : Point → Type 0) (slots_now : ℕ) (setup_now : Setup) → slots_now ≡ slots → setup_now ≡ setup
+  pub sofar_more : {event : Event} (h : HearsLine left after old new (Ok (Some event))) → new.fault ≡ None → (answer : Answer) → is_answer_to event answer ≡ true → (later : Option Trail) (wrote : Option (List ℕ)) (new_stood : Point → Type 0) (slots_now : ℕ) (setup_now : Setup) → slots_now ≡ slots → setup_now ≡ setup
       → (IsSome later → IsSome now) → ((q : Point) → stood q → Ran now later (GoesOn slots_now setup_now q event answer new_stood))
-      → Grows written wrote (reply_of answer)
+      → GrowsByBytes written wrote (reply_of answer)
       → Sofar slots setup first left_before after written_before wrote start later new_stood new
   sofar_more {event} h fault answer kind later wrote new_stood slots_now setup_now same_slots same_setup tells goes grew =
       let line : List ℕ = h.says.0 in
-      let n : NextLine (old.rest ++ h.got) line new = h.says.2 in
+      let n : IsNextLine (old.rest ++ h.got) line new = h.says.2 in
       record {
         bytes = s.bytes ++ h.got;
         answered = s.answered ++ line ∷ [];
@@ -157,21 +157,21 @@ module _ {slots : ℕ} {setup : Setup} {first : Point → Type 0} {left_before l
         fault = fault;
         limit = h.limit;
         count = omega (arith, s.count, h.taken, length-append s.bytes h.got);
-        grows = Grows-then written_before written wrote s.text (reply_of answer) s.grows grew;
+        grows = GrowsByBytes-then written_before written wrote s.text (reply_of answer) s.grows grew;
         form = answers_push s.answered s.text line event answer h.says.1 kind s.form;
         tells = λ t. s.tells (tells t);
         said = one_more h answer later new_stood slots_now setup_now same_slots same_setup tells goes;
       }
 
   -- the input has ended, and all lines are answered
-  all_lines : (h : Heard left after old new (Ok None)) → lines_of (s.bytes ++ h.got) ≡ s.answered
+  all_lines : (h : HearsLine left after old new (Ok None)) → lines_of (s.bytes ++ h.got) ≡ s.answered
   all_lines h = s.lines h.got h.ended_before ∙ ap (λ x. s.answered ++ lines_of x) h.says.0 ∙ append-nil s.answered
 
   -- a flush is answered at last
-  ended : (h : Heard left after old new (Ok None)) → (answer : Answer) (later : Option Trail) (new_stood : Point → Type 0) (slots_now : ℕ) (setup_now : Setup) → slots_now ≡ slots → setup_now ≡ setup
+  ended : (h : HearsLine left after old new (Ok None)) → (answer : Answer) (later : Option Trail) (new_stood : Point → Type 0) (slots_now : ℕ) (setup_now : Setup) → slots_now ≡ slots → setup_now ≡ setup
       → (IsSome later → IsSome now) → ((q : Point) → stood q → Ran now later (GoesOn slots_now setup_now q Flush answer new_stood))
       → IsSome later → (p : Point) → first p
-      → (e : Ended slots setup start later p (events_in (lines_of (s.bytes ++ h.got)) ++ Flush ∷ []) answer) × (s.text ≡ replies e.before)
+      → (e : EndsStretch slots setup start later p (events_in (lines_of (s.bytes ++ h.got)) ++ Flush ∷ []) answer) × (s.text ≡ replies e.before)
   ended h answer later new_stood slots_now setup_now same_slots same_setup tells goes t p f =
       let said = s.said (tells t) p f in
       let more = one_event said Flush answer later new_stood slots_now setup_now same_slots same_setup goes t in (
@@ -188,7 +188,7 @@ module _ {slots : ℕ} {setup : Setup} {first : Point → Type 0} {left_before l
             calls = more.all.calls;
           };
           before = said.all.turns;
-          last = turn Flush answer more.calls;
+          last = turn_with Flush answer more.calls;
           split = more.turns;
           answered = refl;
         },
@@ -196,15 +196,15 @@ module _ {slots : ℕ} {setup : Setup} {first : Point → Type 0} {left_before l
       )
 
   -- all of the source was taken
-  all_taken : (h : Heard left after old new (Ok None)) → (length (s.bytes ++ h.got) < 2 ^ 40) × AtEnd after
+  all_taken : (h : HearsLine left after old new (Ok None)) → (length (s.bytes ++ h.got) < 2 ^ 40) × AtEnd after
   all_taken h = (
     omega (arith, s.count, h.taken, length-append s.bytes h.got, heard_in_time h s.in_time h.says.2),
     heard_end h s.at_end h.says.2,
   )
 
-  module _ (h : Heard left after old new (Ok None)) (later : Option Trail) (new_stood : Point → Type 0) (slots_now : ℕ) (setup_now : Setup) (same_slots : slots_now ≡ slots) (same_setup : setup_now ≡ setup) (tells : IsSome later → IsSome now) where
+  module _ (h : HearsLine left after old new (Ok None)) (later : Option Trail) (new_stood : Point → Type 0) (slots_now : ℕ) (setup_now : Setup) (same_slots : slots_now ≡ slots) (same_setup : setup_now ≡ setup) (tells : IsSome later → IsSome now) where
     pub ends_well : (writes : ℕ) → ((q : Point) → stood q → Ran now later (GoesOn slots_now setup_now q Flush (Flushed writes) new_stood))
-        → Session slots setup first start later left_before after written_before written (Ok writes)
+        → ServesSession slots setup first start later left_before after written_before written (Ok writes)
     ends_well writes goes = record {
       bytes = s.bytes ++ h.got;
       text = s.text;
@@ -216,7 +216,7 @@ module _ {slots : ℕ} {setup : Setup} {first : Point → Type 0} {left_before l
     }
 
     pub ends_halted : (halt : Halt) → ((q : Point) → stood q → Ran now later (GoesOn slots_now setup_now q Flush (Halted halt) new_stood))
-        → Session slots setup first start later left_before after written_before written (Err (Halts halt))
+        → ServesSession slots setup first start later left_before after written_before written (Err (Halts halt))
     ends_halted halt goes = record {
       bytes = s.bytes ++ h.got;
       text = s.text;
@@ -227,16 +227,16 @@ module _ {slots : ℕ} {setup : Setup} {first : Point → Type 0} {left_before l
       answered = ended h (Halted halt) later new_stood slots_now setup_now same_slots same_setup tells goes;
     }
 
-  fault_lines : {fault : LineFault} (h : Heard left after old new (Err fault)) → s.answered ≡ whole_lines (s.bytes ++ h.got)
+  fault_lines : {fault : LineFault} (h : HearsLine left after old new (Err fault)) → s.answered ≡ whole_lines (s.bytes ++ h.got)
   fault_lines h = sym (s.whole (was_open h.stays_ended h.says.1) h.got ∙ ap (λ x. s.answered ++ x) h.says.0 ∙ append-nil s.answered)
 
-  faulted : {fault : LineFault} (h : Heard left after old new (Err fault)) → IsSome now → (p : Point) → first p
+  faulted : {fault : LineFault} (h : HearsLine left after old new (Err fault)) → IsSome now → (p : Point) → first p
       → (c : Stretch slots setup start now p (events_in (whole_lines (s.bytes ++ h.got)))) × (s.text ≡ replies c.turns)
   faulted h t p f =
       let said = s.said t p f in
       subst (λ (ls : List (List ℕ)). (c : Stretch slots setup start now p (events_in ls)) × (s.text ≡ replies c.turns)) (fault_lines h) (said.all, said.text_is)
 
-  pub ends_at_source : {fault : LineFault} (h : Heard left after old new (Err fault)) → Session slots setup first start now left_before after written_before written (Err Source)
+  pub ends_at_source : {fault : LineFault} (h : HearsLine left after old new (Err fault)) → ServesSession slots setup first start now left_before after written_before written (Err Source)
   ends_at_source h = record {
     bytes = s.bytes ++ h.got;
     text = s.text;
@@ -247,7 +247,7 @@ module _ {slots : ℕ} {setup : Setup} {first : Point → Type 0} {left_before l
     answered = faulted h;
   }
 
-  pub ends_too_long : {fault : LineFault} (h : Heard left after old new (Err fault)) → new.taken ≡ 2 ^ 40 → Session slots setup first start now left_before after written_before written (Err TooLong)
+  pub ends_too_long : {fault : LineFault} (h : HearsLine left after old new (Err fault)) → new.taken ≡ 2 ^ 40 → ServesSession slots setup first start now left_before after written_before written (Err TooLong)
   ends_too_long h full = record {
     bytes = s.bytes ++ h.got;
     text = s.text;
@@ -259,18 +259,18 @@ module _ {slots : ℕ} {setup : Setup} {first : Point → Type 0} {left_before l
   }
 
   -- an answer could not be written
-  pub ends_at_sink : {event : Event} (h : Heard left after old new (Ok (Some event))) → (answer : Answer) → is_answer_to event answer ≡ true → (later : Option Trail) (wrote : Option (List ℕ)) (new_stood : Point → Type 0) (slots_now : ℕ) (setup_now : Setup) → slots_now ≡ slots → setup_now ≡ setup
+  pub ends_at_sink : {event : Event} (h : HearsLine left after old new (Ok (Some event))) → (answer : Answer) → is_answer_to event answer ≡ true → (later : Option Trail) (wrote : Option (List ℕ)) (new_stood : Point → Type 0) (slots_now : ℕ) (setup_now : Setup) → slots_now ≡ slots → setup_now ≡ setup
       → (IsSome later → IsSome now) → ((q : Point) → stood q → Ran now later (GoesOn slots_now setup_now q event answer new_stood))
-      → (n : ℕ) → Grows written wrote (take n (reply_of answer)) → Session slots setup first start later left_before after written_before wrote (Err Sink)
+      → (n : ℕ) → GrowsByBytes written wrote (take n (reply_of answer)) → ServesSession slots setup first start later left_before after written_before wrote (Err Sink)
   ends_at_sink {event} h answer kind later wrote new_stood slots_now setup_now same_slots same_setup tells goes n grew =
       let line : List ℕ = h.says.0 in
-      let next_line : NextLine (old.rest ++ h.got) line new = h.says.2 in
+      let next_line : IsNextLine (old.rest ++ h.got) line new = h.says.2 in
       let cut : lines_of (s.bytes ++ h.got) ≡ (s.answered ++ line ∷ []) ++ lines_of new.rest = s.lines h.got h.ended_before ∙ ap (λ x. s.answered ++ lines_of x) (sym (append-nil (old.rest ++ h.got))) ∙ ap (λ x. s.answered ++ x) (next_line.lines [] (λ e. refl)) ∙ ap (λ x. s.answered ++ line ∷ lines_of x) (append-nil new.rest) ∙ sym (append_assoc s.answered (line ∷ []) (lines_of new.rest)) in
       record {
         bytes = s.bytes ++ h.got;
         text = s.text ++ take n (reply_of answer);
         given = Gives-then left_before left after s.bytes h.got s.given h.given;
-        grows = Grows-then written_before written wrote s.text (take n (reply_of answer)) s.grows grew;
+        grows = GrowsByBytes-then written_before written wrote s.text (take n (reply_of answer)) s.grows grew;
         full = tt;
         form = record {
           lines = s.answered ++ line ∷ [];

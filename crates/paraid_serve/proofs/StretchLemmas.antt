@@ -12,9 +12,9 @@ use Rattle.paraid_rack.specs.Told.{Ran}
 use Rattle.paraid_rack.specs.Trail.{Trail, extend}
 use Rattle.paraid_rack.proofs.TrailsLemmas.{Ran-none, extend-extend}
 use Rattle.paraid_record.specs.declared.meta.Setup.{Setup}
-use Rattle.paraid_trace.specs.Lines.{event_of}
+use Rattle.paraid_trace.specs.LineEvents.{event_of}
 use Rattle.paraid_trace.specs.Replies.{reply_of}
-use Rattle.paraid_serve.specs.Stretch.{Stretch, Turn, Went, calls_of, events_in, events_of, replies, turn}
+use Rattle.paraid_serve.specs.Stretch.{Stretch, Turn, TurnsLead, turn_calls, events_in, turn_events, replies, turn_with}
 use Rattle.paraid_session.specs.Turn.{GoesOn, IsTurn, Point}
 use Rattle.paraid_session.specs.Turn.IsTurn.{again, bad}
 
@@ -27,20 +27,20 @@ pub again_turn : (slots : ℕ) (setup : Setup) (told : Option Trail) (p : Point)
     → Ran told told (GoesOn slots setup p event (Halted halt) stands)
 again_turn slots setup told p stands event halt apart halted at_p = Ran-none (GoesOn slots setup p event (Halted halt) stands) (λ s. (p, again halt halted apart refl refl refl, at_p)) told
 
-Went-push : (slots : ℕ) (setup : Setup) (p q r : Point) (ts : List Turn) (e : Event) (a : Answer) (cs : List Call) → Went slots setup p ts q → IsTurn slots setup q e a cs r
-    → Went slots setup p (ts ++ turn e a cs ∷ []) r
-Went-push slots setup p q r [] e a cs went next = (r, subst (λ (x : Point). IsTurn slots setup x e a cs r) went next, refl)
-Went-push slots setup p q r (t ∷ ts) e a cs went next = (went.0, went.1, Went-push slots setup went.0 q r ts e a cs went.2 next)
+TurnsLead-push : (slots : ℕ) (setup : Setup) (p q r : Point) (ts : List Turn) (e : Event) (a : Answer) (cs : List Call) → TurnsLead slots setup p ts q → IsTurn slots setup q e a cs r
+    → TurnsLead slots setup p (ts ++ turn_with e a cs ∷ []) r
+TurnsLead-push slots setup p q r [] e a cs went next = (r, subst (λ (x : Point). IsTurn slots setup x e a cs r) went next, refl)
+TurnsLead-push slots setup p q r (t ∷ ts) e a cs went next = (went.0, went.1, TurnsLead-push slots setup went.0 q r ts e a cs went.2 next)
 
-events_of-push : (ts : List Turn) (e : Event) (a : Answer) (cs : List Call) → events_of (ts ++ turn e a cs ∷ []) ≡ events_of ts ++ e ∷ []
-events_of-push [] e a cs = refl
-events_of-push (t ∷ ts) e a cs = ap (λ (es : List Event). t.event ∷ es) (events_of-push ts e a cs)
+turn_events-push : (ts : List Turn) (e : Event) (a : Answer) (cs : List Call) → turn_events (ts ++ turn_with e a cs ∷ []) ≡ turn_events ts ++ e ∷ []
+turn_events-push [] e a cs = refl
+turn_events-push (t ∷ ts) e a cs = ap (λ (es : List Event). t.event ∷ es) (turn_events-push ts e a cs)
 
-calls_of-push : (ts : List Turn) (e : Event) (a : Answer) (cs : List Call) → calls_of (ts ++ turn e a cs ∷ []) ≡ calls_of ts ++ cs
-calls_of-push [] e a cs = append-nil cs
-calls_of-push (t ∷ ts) e a cs = ap (λ (l : List Call). t.calls ++ l) (calls_of-push ts e a cs) ∙ sym (append_assoc t.calls (calls_of ts) cs)
+turn_calls-push : (ts : List Turn) (e : Event) (a : Answer) (cs : List Call) → turn_calls (ts ++ turn_with e a cs ∷ []) ≡ turn_calls ts ++ cs
+turn_calls-push [] e a cs = append-nil cs
+turn_calls-push (t ∷ ts) e a cs = ap (λ (l : List Call). t.calls ++ l) (turn_calls-push ts e a cs) ∙ sym (append_assoc t.calls (turn_calls ts) cs)
 
-pub replies-push : (ts : List Turn) (e : Event) (a : Answer) (cs : List Call) → replies (ts ++ turn e a cs ∷ []) ≡ replies ts ++ reply_of a
+pub replies-push : (ts : List Turn) (e : Event) (a : Answer) (cs : List Call) → replies (ts ++ turn_with e a cs ∷ []) ≡ replies ts ++ reply_of a
 replies-push [] e a cs = append-nil (reply_of a)
 replies-push (t ∷ ts) e a cs = ap (λ (l : List ℕ). reply_of t.answer ++ l) (replies-push ts e a cs) ∙ sym (append_assoc (reply_of t.answer) (replies ts) (reply_of a))
 
@@ -79,7 +79,7 @@ stretch_none slots setup told p is =
 pub record More {slots : ℕ} {setup : Setup} {start now : Option Trail} {p : Point} {events : List Event} (c : Stretch slots setup start now p events) (later : Option Trail) (event : Event) (answer : Answer) (stood : Point → Type 0) : Type 0 where
   pub all : Stretch slots setup start later p (events ++ event ∷ [])
   pub calls : List Call
-  pub turns : all.turns ≡ c.turns ++ turn event answer calls ∷ []
+  pub turns : all.turns ≡ c.turns ++ turn_with event answer calls ∷ []
   pub stands : stood all.end
 
 pub stretch_more : {slots : ℕ} {setup : Setup} {start now : Option Trail} {p : Point} {events : List Event} (c : Stretch slots setup start now p events) (later : Option Trail) (event : Event) (answer : Answer) (stood new_stood : Point → Type 0)
@@ -91,16 +91,16 @@ stretch_more {slots} {setup} {start} {now} {p} {events} c later event answer sto
     let same : came.from ≡ c.to = same_trail now came.from c.to came.was c.is in
     record {
       all = record {
-        turns = c.turns ++ turn event answer came.calls ∷ [];
+        turns = c.turns ++ turn_with event answer came.calls ∷ [];
         end = next.0;
-        went = Went-push slots setup p c.end next.0 c.turns event answer came.calls c.went next.1;
-        asked = events_of-push c.turns event answer came.calls ∙ ap (λ (es : List Event). es ++ event ∷ []) c.asked;
+        went = TurnsLead-push slots setup p c.end next.0 c.turns event answer came.calls c.went next.1;
+        asked = turn_events-push c.turns event answer came.calls ∙ ap (λ (es : List Event). es ++ event ∷ []) c.asked;
         from = c.from;
         to = t.0;
         was = c.was;
         is = t.1;
-        calls = came.is ∙ ap (λ (r : Trail). extend r came.calls) (same ∙ c.calls) ∙ extend-extend c.from (calls_of c.turns) came.calls
-            ∙ ap (λ (l : List Call). extend c.from l) (sym (calls_of-push c.turns event answer came.calls));
+        calls = came.is ∙ ap (λ (r : Trail). extend r came.calls) (same ∙ c.calls) ∙ extend-extend c.from (turn_calls c.turns) came.calls
+            ∙ ap (λ (l : List Call). extend c.from l) (sym (turn_calls-push c.turns event answer came.calls));
       };
       calls = came.calls;
       turns = refl;

@@ -3,42 +3,43 @@ use Rattle.std.proofs.Common.{◌≡◌, ◌≢◌, ℕ, ◌^◌, ◌<◌, ◌�
 use Rattle.std.proofs.lemmas.List.{append_assoc, append-nil, take_all}
 use Rattle.paraid_base.specs.declared.fault.Halt.{Halt}
 use Rattle.paraid_base.specs.declared.fault.Halt.TheVariants.{Two as HaltTwo, Worn}
-use Rattle.paraid_base.specs.Told.{AtEnd, Grows}
-use Rattle.paraid_base.proofs.ToldLemmas.{Gives-none, Grows-then}
+use Rattle.paraid_base.specs.Told.{AtEnd, GrowsByBytes}
+use Rattle.paraid_base.proofs.ToldLemmas.{Gives-none, GrowsByBytes-then}
 use Rattle.paraid_rack.specs.Trail.{Trail}
 use Rattle.paraid_record.specs.declared.meta.Setup.{Setup}
 use Rattle.paraid_serve.specs.declared.stop.Stop.{Stop}
 use Rattle.paraid_serve.specs.declared.stop.Stop.TheVariants.{Source, TooLong, Sink, Halt as Halts}
-use Rattle.paraid_serve.specs.Output.{Ends, Form, HasForm, IsWholeStatus, Output, Run, Wrote, begins_with, end_line, halt_line, mount_line, status_of}
-use Rattle.paraid_serve.specs.Output.Output.{done, halted, source, too_long}
-use Rattle.paraid_serve.specs.Output.Wrote.{answers, last_line, whole}
-use Rattle.paraid_serve.specs.Output.Form.{done as form_done, halted as form_halted, source as form_source, too_long as form_too_long}
+use Rattle.paraid_console.specs.Ending.{EndsWithLine, end_line, halt_line, mount_line, status_of_halt}
+use Rattle.paraid_serve.specs.Output.{OutputForm, HasForm, IsWholeStatus, OutputText, ProgramRun, WritesOutput, begins_with}
+use Rattle.paraid_serve.specs.Output.OutputText.{done, halted, source, too_long}
+use Rattle.paraid_serve.specs.Output.WritesOutput.{answers, last_line, whole}
+use Rattle.paraid_serve.specs.Output.OutputForm.{done as form_done, halted as form_halted, source as form_source, too_long as form_too_long}
 use Rattle.paraid_serve.specs.Output.HasForm.{answers as form_answers, last_line as form_last_line, whole as form_whole}
 use Rattle.paraid_serve.proofs.FormLemmas.{no_answers}
-use Rattle.paraid_serve.specs.Session.{Session}
+use Rattle.paraid_serve.specs.Session.{ServesSession}
 use Rattle.paraid_session.specs.Turn.{Point}
 use Rattle.paraid_serve.proofs.StretchLemmas.{stretch_none}
 
 -- what was written of the last line
-wrote_last : (slots : ℕ) (setup : Setup) (start now : Option Trail) (p : Point) (bytes text line : List ℕ) (before after : Option (List ℕ)) (code status : ℕ) → Output slots setup start now p bytes code (text ++ line)
-    → (e : Ends before after line code status) → Wrote slots setup start now p bytes status (text ++ take e.count line)
+wrote_last : (slots : ℕ) (setup : Setup) (start now : Option Trail) (p : Point) (bytes text line : List ℕ) (before after : Option (List ℕ)) (code status : ℕ) → OutputText slots setup start now p bytes code (text ++ line)
+    → (e : EndsWithLine before after line code status) → WritesOutput slots setup start now p bytes status (text ++ take e.count line)
 wrote_last slots setup start now p bytes text line before after code status out e = elim e.whole [
   | inl four ↦ last_line four code (text ++ line) (drop e.count line) out
       (ap (λ x. text ++ x) (sym (take-append-drop e.count line)) ∙ sym (append_assoc text (take e.count line) (drop e.count line)))
-  | inr all ↦ whole (subst (λ (k : ℕ). Output slots setup start now p bytes k (text ++ take e.count line)) (sym all.1)
-      (subst (λ (x : List ℕ). Output slots setup start now p bytes code (text ++ x)) (sym (taken e.count line all.0)) out))
+  | inr all ↦ whole (subst (λ (k : ℕ). OutputText slots setup start now p bytes k (text ++ take e.count line)) (sym all.1)
+      (subst (λ (x : List ℕ). OutputText slots setup start now p bytes code (text ++ x)) (sym (taken e.count line all.0)) out))
 ]
   where
     taken : (n : ℕ) (line : List ℕ) → n ≡ length line → take n line ≡ line
     taken n line is = take_all n line (omega (arith, is))
 
 -- and its form
-form_last : (bytes text line : List ℕ) (before after : Option (List ℕ)) (code status : ℕ) → Form bytes code (text ++ line) → (e : Ends before after line code status) → HasForm bytes status (text ++ take e.count line)
+form_last : (bytes text line : List ℕ) (before after : Option (List ℕ)) (code status : ℕ) → OutputForm bytes code (text ++ line) → (e : EndsWithLine before after line code status) → HasForm bytes status (text ++ take e.count line)
 form_last bytes text line before after code status out e = elim e.whole [
   | inl four ↦ form_last_line four code (text ++ line) (drop e.count line) out
       (ap (λ x. text ++ x) (sym (take-append-drop e.count line)) ∙ sym (append_assoc text (take e.count line) (drop e.count line)))
-  | inr all ↦ form_whole (subst (λ (k : ℕ). Form bytes k (text ++ take e.count line)) (sym all.1)
-      (subst (λ (x : List ℕ). Form bytes code (text ++ x)) (sym (taken e.count line all.0)) out))
+  | inr all ↦ form_whole (subst (λ (k : ℕ). OutputForm bytes k (text ++ take e.count line)) (sym all.1)
+      (subst (λ (x : List ℕ). OutputForm bytes code (text ++ x)) (sym (taken e.count line all.0)) out))
 ]
   where
     taken : (n : ℕ) (line : List ℕ) → n ≡ length line → take n line ≡ line
@@ -69,60 +70,60 @@ module _ (slots : ℕ) (setup : Setup) (stood : Point → Type 0) (start now : O
 
   -- A session after the first line, and the last line after it.
   finish : (result : Result ℕ Stop) (line : List ℕ) (code status : ℕ)
-      → Grows first second (mount_line writes gear) → (s : Session slots setup stood start now left_before left second third result) → Ends third last_text line code status
-      → (IsSome now → (p : Point) → stood p → Output slots setup start now p s.bytes code (begins_with p ++ s.text ++ line))
+      → GrowsByBytes first second (mount_line writes gear) → (s : ServesSession slots setup stood start now left_before left second third result) → EndsWithLine third last_text line code status
+      → (IsSome now → (p : Point) → stood p → OutputText slots setup start now p s.bytes code (begins_with p ++ s.text ++ line))
       → (code ≡ 10 → length s.bytes ≡ 2 ^ 40) → (IsWholeStatus code → (length s.bytes < 2 ^ 40) × AtEnd left)
-      → Form s.bytes code ((mount_line writes gear ++ s.text) ++ line)
-      → Run slots setup stood start now left_before left first last_text status
+      → OutputForm s.bytes code ((mount_line writes gear ++ s.text) ++ line)
+      → ProgramRun slots setup stood start now left_before left first last_text status
   finish result line code status head s end out full all form = record {
     bytes = s.bytes;
     text = (mount_line writes gear ++ s.text) ++ take end.count line;
     given = s.given;
-    grows = Grows-then first third last_text (mount_line writes gear ++ s.text) (take end.count line) (Grows-then first second third (mount_line writes gear) s.text head s.grows) end.grows;
+    grows = GrowsByBytes-then first third last_text (mount_line writes gear ++ s.text) (take end.count line) (GrowsByBytes-then first second third (mount_line writes gear) s.text head s.grows) end.grows;
     full = λ ten. full (the_code status code (length line) end.count 10 end.whole ten (λ e. absurd (omega (arith, e))));
     form = form_last s.bytes (mount_line writes gear ++ s.text) line third last_text code status form end;
     all = λ is. all (whole_code status code (length line) end.count end.whole is);
-    wrote = λ t p at_p. subst (λ (x : List ℕ). Wrote slots setup start now p s.bytes status ((x ++ s.text) ++ take end.count line)) (sym (head_is p at_p))
+    wrote = λ t p at_p. subst (λ (x : List ℕ). WritesOutput slots setup start now p s.bytes status ((x ++ s.text) ++ take end.count line)) (sym (head_is p at_p))
         (wrote_last slots setup start now p s.bytes (begins_with p ++ s.text) line third last_text code status
         (out t p at_p) end);
   }
 
-  module _ (status : ℕ) (head : Grows first second (mount_line writes gear)) where
-    pub done_run : (count : ℕ) → Session slots setup stood start now left_before left second third (Ok count) → Ends third last_text (end_line count) 0 status
-        → Run slots setup stood start now left_before left first last_text status
+  module _ (status : ℕ) (head : GrowsByBytes first second (mount_line writes gear)) where
+    pub done_run : (count : ℕ) → ServesSession slots setup stood start now left_before left second third (Ok count) → EndsWithLine third last_text (end_line count) 0 status
+        → ProgramRun slots setup stood start now left_before left first last_text status
     done_run count s end = finish (Ok count) (end_line count) 0 status head s end
         (λ t p at_p. let a = s.answered t p at_p in rw a.1 (done count a.0))
         (λ e. absurd (omega (arith, e))) (λ is. s.full) (form_done writes gear count s.text s.form)
 
-    pub halted_run : (halt : Halt) → Session slots setup stood start now left_before left second third (Err (Halts halt)) → Ends third last_text (halt_line halt) (status_of halt) status
-        → Run slots setup stood start now left_before left first last_text status
-    halted_run halt s end = finish (Err (Halts halt)) (halt_line halt) (status_of halt) status head s end
+    pub halted_run : (halt : Halt) → ServesSession slots setup stood start now left_before left second third (Err (Halts halt)) → EndsWithLine third last_text (halt_line halt) (status_of_halt halt) status
+        → ProgramRun slots setup stood start now left_before left first last_text status
+    halted_run halt s end = finish (Err (Halts halt)) (halt_line halt) (status_of_halt halt) status head s end
         (λ t p at_p. let a = s.answered t p at_p in rw a.1 (halted halt a.0))
         (λ e. absurd (not_ten halt e)) (λ is. s.full) (form_halted writes gear halt s.text s.form)
       where
-        not_ten : (h : Halt) → status_of h ≢ 10
+        not_ten : (h : Halt) → status_of_halt h ≢ 10
         not_ten (HaltTwo two) e = omega (arith, e)
         not_ten (Worn count) e = omega (arith, e)
 
-    pub source_run : Session slots setup stood start now left_before left second third (Err Source) → Ends third last_text (codes "source\n") 3 status
-        → Run slots setup stood start now left_before left first last_text status
+    pub source_run : ServesSession slots setup stood start now left_before left second third (Err Source) → EndsWithLine third last_text (codes "source\n") 3 status
+        → ProgramRun slots setup stood start now left_before left first last_text status
     source_run s end = finish (Err Source) (codes "source\n") 3 status head s end
         (λ t p at_p. let a = s.answered t p at_p in rw a.1 (source a.0))
         (λ e. absurd (omega (arith, e))) (λ is. absurd (partly 3 (λ e. omega (arith, e)) (λ e. omega (arith, e)) (λ e. omega (arith, e)) is)) (form_source writes gear s.text s.form)
 
-    pub too_long_run : Session slots setup stood start now left_before left second third (Err TooLong) → Ends third last_text (codes "toolong\n") 10 status
-        → Run slots setup stood start now left_before left first last_text status
+    pub too_long_run : ServesSession slots setup stood start now left_before left second third (Err TooLong) → EndsWithLine third last_text (codes "toolong\n") 10 status
+        → ProgramRun slots setup stood start now left_before left first last_text status
     too_long_run s end = finish (Err TooLong) (codes "toolong\n") 10 status head s end
         (λ t p at_p. let a = s.answered t p at_p in rw a.1 (too_long s.full a.0))
         (λ e. s.full) (λ is. absurd (partly 10 (λ e. omega (arith, e)) (λ e. omega (arith, e)) (λ e. omega (arith, e)) is)) (form_too_long writes gear s.text s.form)
 
   -- the sink failed within an answer
-  pub sink_run : Grows first second (mount_line writes gear) → Session slots setup stood start now left_before left second third (Err Sink) → Run slots setup stood start now left_before left first third 4
+  pub sink_run : GrowsByBytes first second (mount_line writes gear) → ServesSession slots setup stood start now left_before left second third (Err Sink) → ProgramRun slots setup stood start now left_before left first third 4
   sink_run head s = record {
     bytes = s.bytes;
     text = mount_line writes gear ++ s.text;
     given = s.given;
-    grows = Grows-then first second third (mount_line writes gear) s.text head s.grows;
+    grows = GrowsByBytes-then first second third (mount_line writes gear) s.text head s.grows;
     full = λ e. absurd (omega (arith, e));
     all = λ is. absurd (partly 4 (λ e. omega (arith, e)) (λ e. omega (arith, e)) (λ e. omega (arith, e)) is);
     form = form_answers refl writes gear s.form.lines s.form.more (s.text ++ s.form.rest) s.form.rest s.form.split s.form.told (sym (append_assoc (mount_line writes gear) s.text s.form.rest));
@@ -133,7 +134,7 @@ module _ (slots : ℕ) (setup : Setup) (stood : Point → Type 0) (start now : O
 
 -- the sink failed at the first line
 pub no_mount_run : (slots : ℕ) (setup : Setup) (stood : Point → Type 0) (told : Option Trail) (left first second : Option (List ℕ)) (writes gear : ℕ) → ((p : Point) → stood p → writes ≡ length p.history) → ((p : Point) → stood p → gear ≡ p.state.gear)
-    → (n : ℕ) × (n ≤ length (mount_line writes gear)) × Grows first second (take n (mount_line writes gear)) → Run slots setup stood told told left left first second 4
+    → (n : ℕ) × (n ≤ length (mount_line writes gear)) × GrowsByBytes first second (take n (mount_line writes gear)) → ProgramRun slots setup stood told told left left first second 4
 no_mount_run slots setup stood told left first second writes gear counts in_gear part = record {
   bytes = [];
   text = take part.0 (mount_line writes gear);

@@ -9,7 +9,7 @@ use Rattle.paraid_rack.specs.Disks.{is_present}
 use Rattle.paraid_record.specs.declared.meta.Setup.{Setup}
 use Rattle.paraid_image.specs.Out.{named_out}
 use Rattle.paraid_session.specs.Turn.{IsMark, Point, bounds_at}
-use Rattle.paraid_session.specs.Watch.{IsKept, Watch, down_of}
+use Rattle.paraid_session.specs.Watch.{HoldsWhileServing, Watch, down_from_out}
 
 abbrev pub answer_to_tick : Result GearReport Halt → Answer
 answer_to_tick (Ok report) = Ticked report
@@ -21,12 +21,12 @@ tick_halt_of (Err halt) = Some halt
 
 -- the watch between two events
 abbrev pub watch_at : Point → Watch
-watch_at p = record { disks = p.disks; down = down_of (named_out p.state.out); spun = p.spun; awaited = p.awaited }
+watch_at p = record { disks = p.disks; down = down_from_out (named_out p.state.out); spun = p.spun; awaited = p.awaited }
 
 -- what an array gives of a point at which it stands
 pub record IsResting (slots : ℕ) (setup : Setup) (p : Point) : Type 0 where
   pub mark : IsMark slots setup p
-  pub kept : IsKept slots p.history p.low (bounds_at setup p p.state) (watch_at p)
+  pub kept : HoldsWhileServing slots p.history p.low (bounds_at setup p p.state) (watch_at p)
   pub energy : p.energy ≤ 18446744073709551615
 
 -- at most one of the array's disks is absent

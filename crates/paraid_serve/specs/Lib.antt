@@ -1,6 +1,5 @@
 pub mod Calls
 pub mod Stretch
-pub mod Heard
 pub mod Form
 pub mod Session
 pub mod Output

@@ -2,56 +2,56 @@
 use Rattle.std.specs.Prelude.{◌≡◌, ℕ, ◌^◌, ◌<◌, List, [], ◌∷◌, ◌++◌, length, Option, IsSome, Result, Ok, Err}
 use Rattle.paraid_base.specs.declared.event.Answer.TheVariants.{Flushed, Halted}
 use Rattle.paraid_base.specs.declared.event.Event.TheVariants.{Flush}
-use Rattle.paraid_base.specs.Told.{AtEnd, Gives, Grows}
+use Rattle.paraid_base.specs.Told.{AtEnd, Gives, GrowsByBytes}
 use Rattle.paraid_io.specs.Lines.{lines_of, whole_lines}
 use Rattle.paraid_rack.specs.Trail.{Trail}
 use Rattle.paraid_record.specs.declared.meta.Setup.{Setup}
 use Rattle.paraid_serve.specs.declared.stop.Stop.{Stop}
 use Rattle.paraid_serve.specs.declared.stop.Stop.TheVariants.{Source, TooLong, Sink, Halt as Halts}
 use Rattle.paraid_serve.specs.Form.{BeginsAnswers, HasAnswers}
-use Rattle.paraid_serve.specs.Stretch.{Ended, Stretch, events_in, replies}
+use Rattle.paraid_serve.specs.Stretch.{EndsStretch, Stretch, events_in, replies}
 use Rattle.paraid_session.specs.Turn.{Point}
 
 -- which lines were answered, and what was written for them, by how the session ended
-abbrev pub Answered : ℕ → Setup → Option Trail → Option Trail → Point → Result ℕ Stop → List ℕ → List ℕ → Type 0
+abbrev pub AreLinesAnswered : ℕ → Setup → Option Trail → Option Trail → Point → Result ℕ Stop → List ℕ → List ℕ → Type 0
 -- all lines, and a flush
-Answered slots setup start now p (Ok writes) bytes text =
-    (e : Ended slots setup start now p (events_in (lines_of bytes) ++ Flush ∷ []) (Flushed writes)) × (text ≡ replies e.before)
-Answered slots setup start now p (Err (Halts halt)) bytes text =
-    (e : Ended slots setup start now p (events_in (lines_of bytes) ++ Flush ∷ []) (Halted halt)) × (text ≡ replies e.before)
+AreLinesAnswered slots setup start now p (Ok writes) bytes text =
+    (e : EndsStretch slots setup start now p (events_in (lines_of bytes) ++ Flush ∷ []) (Flushed writes)) × (text ≡ replies e.before)
+AreLinesAnswered slots setup start now p (Err (Halts halt)) bytes text =
+    (e : EndsStretch slots setup start now p (events_in (lines_of bytes) ++ Flush ∷ []) (Halted halt)) × (text ≡ replies e.before)
 -- those that end with a newline
-Answered slots setup start now p (Err Source) bytes text =
+AreLinesAnswered slots setup start now p (Err Source) bytes text =
     (c : Stretch slots setup start now p (events_in (whole_lines bytes))) × (text ≡ replies c.turns)
-Answered slots setup start now p (Err TooLong) bytes text =
+AreLinesAnswered slots setup start now p (Err TooLong) bytes text =
     (c : Stretch slots setup start now p (events_in (whole_lines bytes))) × (text ≡ replies c.turns)
 -- those to the one whose answer could not be written whole
-Answered slots setup start now p (Err Sink) bytes text =
+AreLinesAnswered slots setup start now p (Err Sink) bytes text =
     (lines more : List (List ℕ)) × (rest : List ℕ) × (lines_of bytes ≡ lines ++ more)
     × (c : Stretch slots setup start now p (events_in lines)) × (replies c.turns ≡ text ++ rest)
 
 -- the form of what was written for the lines, by how the session ended
-abbrev pub Formed : Result ℕ Stop → List ℕ → List ℕ → Type 0
-Formed (Ok writes) bytes text = HasAnswers (lines_of bytes) text
-Formed (Err (Halts halt)) bytes text = HasAnswers (lines_of bytes) text
-Formed (Err Source) bytes text = HasAnswers (whole_lines bytes) text
-Formed (Err TooLong) bytes text = HasAnswers (whole_lines bytes) text
-Formed (Err Sink) bytes text = BeginsAnswers bytes text
+abbrev pub HaveLinesForm : Result ℕ Stop → List ℕ → List ℕ → Type 0
+HaveLinesForm (Ok writes) bytes text = HasAnswers (lines_of bytes) text
+HaveLinesForm (Err (Halts halt)) bytes text = HasAnswers (lines_of bytes) text
+HaveLinesForm (Err Source) bytes text = HasAnswers (whole_lines bytes) text
+HaveLinesForm (Err TooLong) bytes text = HasAnswers (whole_lines bytes) text
+HaveLinesForm (Err Sink) bytes text = BeginsAnswers bytes text
 
 -- how much was taken: all of the source, or all that may be taken
-abbrev pub IsFull : Result ℕ Stop → List ℕ → Option (List ℕ) → Type 0
-IsFull (Ok writes) bytes left = (length bytes < 2 ^ 40) × AtEnd left
-IsFull (Err (Halts halt)) bytes left = (length bytes < 2 ^ 40) × AtEnd left
-IsFull (Err TooLong) bytes left = length bytes ≡ 2 ^ 40
-IsFull (Err Source) bytes left = Unit {0}
-IsFull (Err Sink) bytes left = Unit {0}
+abbrev pub IsAllTaken : Result ℕ Stop → List ℕ → Option (List ℕ) → Type 0
+IsAllTaken (Ok writes) bytes left = (length bytes < 2 ^ 40) × AtEnd left
+IsAllTaken (Err (Halts halt)) bytes left = (length bytes < 2 ^ 40) × AtEnd left
+IsAllTaken (Err TooLong) bytes left = length bytes ≡ 2 ^ 40
+IsAllTaken (Err Source) bytes left = Unit {0}
+IsAllTaken (Err Sink) bytes left = Unit {0}
 
 -- A session took these bytes and wrote this text. What it answered is known where the record is
 -- told, from each point at which the array stood.
-pub record Session (slots : ℕ) (setup : Setup) (stood : Point → Type 0) (start now : Option Trail) (left_before left written_before written : Option (List ℕ)) (result : Result ℕ Stop) : Type 0 where
+pub record ServesSession (slots : ℕ) (setup : Setup) (stood : Point → Type 0) (start now : Option Trail) (left_before left written_before written : Option (List ℕ)) (result : Result ℕ Stop) : Type 0 where
   pub bytes : List ℕ
   pub text : List ℕ
   pub given : Gives left_before left bytes
-  pub grows : Grows written_before written text
-  pub full : IsFull result bytes left
-  pub form : Formed result bytes text
-  pub answered : IsSome now → (p : Point) → stood p → Answered slots setup start now p result bytes text
+  pub grows : GrowsByBytes written_before written text
+  pub full : IsAllTaken result bytes left
+  pub form : HaveLinesForm result bytes text
+  pub answered : IsSome now → (p : Point) → stood p → AreLinesAnswered slots setup start now p result bytes text

@@ -5,7 +5,7 @@ use Rattle.paraid_base.specs.declared.event.Event.{Event}
 use Rattle.paraid_rack.specs.declared.call.Call.{Call}
 use Rattle.paraid_rack.specs.Trail.{Trail, extend}
 use Rattle.paraid_record.specs.declared.meta.Setup.{Setup}
-use Rattle.paraid_trace.specs.Lines.{event_of}
+use Rattle.paraid_trace.specs.LineEvents.{event_of}
 use Rattle.paraid_trace.specs.Replies.{reply_of}
 use Rattle.paraid_session.specs.Turn.{IsTurn, Point}
 
@@ -15,21 +15,21 @@ pub record Turn : Type 0 where
   pub answer : Answer
   pub calls : List Call
 
-abbrev pub turn : Event → Answer → List Call → Turn
-turn event answer calls = record { event = event; answer = answer; calls = calls }
+abbrev pub turn_with : Event → Answer → List Call → Turn
+turn_with event answer calls = record { event = event; answer = answer; calls = calls }
 
 -- these turns lead from one point of a session to another
-abbrev pub Went : ℕ → Setup → Point → List Turn → Point → Type 0
-Went slots setup p [] q = q ≡ p
-Went slots setup p (t ∷ turns) q = (mid : Point) × IsTurn slots setup p t.event t.answer t.calls mid × Went slots setup mid turns q
+abbrev pub TurnsLead : ℕ → Setup → Point → List Turn → Point → Type 0
+TurnsLead slots setup p [] q = q ≡ p
+TurnsLead slots setup p (t ∷ turns) q = (mid : Point) × IsTurn slots setup p t.event t.answer t.calls mid × TurnsLead slots setup mid turns q
 
-abbrev pub events_of : List Turn → List Event
-events_of [] = []
-events_of (t ∷ turns) = t.event ∷ events_of turns
+abbrev pub turn_events : List Turn → List Event
+turn_events [] = []
+turn_events (t ∷ turns) = t.event ∷ turn_events turns
 
-abbrev pub calls_of : List Turn → List Call
-calls_of [] = []
-calls_of (t ∷ turns) = t.calls ++ calls_of turns
+abbrev pub turn_calls : List Turn → List Call
+turn_calls [] = []
+turn_calls (t ∷ turns) = t.calls ++ turn_calls turns
 
 -- the text of the answers
 abbrev pub replies : List Turn → List ℕ
@@ -45,16 +45,16 @@ events_in (line ∷ lines) = event_of line ∷ events_in lines
 pub record Stretch (slots : ℕ) (setup : Setup) (start now : Option Trail) (p : Point) (events : List Event) : Type 0 where
   pub turns : List Turn
   pub end : Point
-  pub went : Went slots setup p turns end
-  pub asked : events_of turns ≡ events
+  pub went : TurnsLead slots setup p turns end
+  pub asked : turn_events turns ≡ events
   pub from : Trail
   pub to : Trail
   pub was : start ≡ Some from
   pub is : now ≡ Some to
-  pub calls : to ≡ extend from (calls_of turns)
+  pub calls : to ≡ extend from (turn_calls turns)
 
 -- the same, and the last event was answered so
-pub record Ended (slots : ℕ) (setup : Setup) (start now : Option Trail) (p : Point) (events : List Event) (answer : Answer) : Type 0 where
+pub record EndsStretch (slots : ℕ) (setup : Setup) (start now : Option Trail) (p : Point) (events : List Event) (answer : Answer) : Type 0 where
   pub all : Stretch slots setup start now p events
   pub before : List Turn
   pub last : Turn

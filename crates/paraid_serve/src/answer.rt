@@ -1,13 +1,16 @@
-ghost use Rattle.std.specs.Prelude.{◌≡◌, true, None, IsSome, OnOk};
+ghost use Rattle.std.specs.Prelude.{◌≡◌, ◌≢◌, true, None, IsSome, OnOk};
 ghost use Rattle.paraid_base.specs.BlockAnswers.{answer_to_flush, flush_halt_of};
-ghost use Rattle.paraid_base.specs.declared.event.Event.TheVariants.{Flush as FlushEvent};
+ghost use Rattle.paraid_base.specs.declared.event.Event.TheVariants.{Flush as FlushEvent, Write as WriteEvent};
+ghost use Rattle.paraid_base.specs.declared.pairs.Pairs.{Pairs as PairsType};
 ghost use Rattle.paraid_rack.specs.Told.{Ran};
+ghost use Rattle.paraid_trace.specs.Asked.{event_with};
 ghost use Rattle.paraid_trace.specs.Replies.{HasFewDisks};
 ghost use Rattle.paraid_serve.specs.Form.{is_answer_to};
 ghost use Rattle.paraid_session.specs.Turn.{GoesOn, Point, halt_told};
 
 use crate::Serves;
-use paraid_base::{Answer, Event, Halt};
+use paraid_base::{Answer, Block, Event, Halt, Pairs};
+use paraid_trace::Asked;
 
 // The halt that an answer tells.
 fn halt_in(answer: &Answer) -> Option<Halt>
@@ -19,28 +22,73 @@ fn halt_in(answer: &Answer) -> Option<Halt>
     }
 }
 
-/// The answer to an event. `halt` is the array's. After a halt only a line that is no event is
-/// answered otherwise than by the halt, and no call is made.
-pub fn answer<A: Serves>(array: &mut A, halt: &mut Option<Halt>, event: Event) -> Answer
+// What an event asks for, beside the pairs of a write.
+fn asked_by(event: &Event) -> Asked
+    ensures { (pairs : PairsType) → ((own : PairsType) → event.now ≢ WriteEvent own)
+        → event_with result pairs ≡ event.now }
+{
+    match event {
+        Event::Read { block } => Asked::Read { block: *block },
+        Event::Write { .. } => Asked::Write,
+        Event::Flush => Asked::Flush,
+        Event::Tick => Asked::Tick,
+        Event::Up => Asked::Up,
+        Event::Down => Asked::Down,
+        Event::Fail { disk } => Asked::Fail { disk: *disk },
+        Event::Replace { disk } => Asked::Replace { disk: *disk },
+        Event::State => Asked::State,
+        Event::Energy => Asked::Energy,
+        Event::Bad => Asked::Bad,
+    }
+}
+
+/// The answer to what a line asks for, with the pairs of a write. `halt` is the array's. After a
+/// halt only a line that is no event is answered otherwise than by the halt, and no call is made.
+pub fn answer<A: Serves>(
+    array: &mut A,
+    halt: &mut Option<Halt>,
+    asked: Asked,
+    pairs: &Pairs,
+) -> Answer
     requires halt { halt.old ≡ A.halted array.old }
     ensures turn { (p : Point) → A.stands array.old p → Ran (A.told array.old) (A.told array.new)
-        (GoesOn (A.slots array.old) (A.setup array.old) p event result (A.stands array.new)) }
+        (GoesOn (A.slots array.old) (A.setup array.old) p (event_with asked pairs.now) result
+        (A.stands array.new)) }
     ensures told { IsSome (A.told array.new) → IsSome (A.told array.old) }
     ensures slots { A.slots array.new ≡ A.slots array.old }
     ensures setup { A.setup array.new ≡ A.setup array.old }
     ensures halt { halt.new ≡ A.halted array.new }
-    ensures kind { is_answer_to event result ≡ true }
+    ensures kind { is_answer_to (event_with asked pairs.now) result ≡ true }
     ensures few { HasFewDisks result }
 {
-    if let Event::Bad = event {
+    if let Asked::Bad = asked {
         return Answer::Bad;
     }
     if let Some(halt) = *halt {
         return Answer::Halted(halt);
     }
-    let answer = array.serve(event);
+    let answer = array.serve(asked, pairs);
     *halt = halt_in(&answer);
     answer
+}
+
+/// The answer to an event as one value.
+pub fn answer_event<A: Serves>(array: &mut A, halt: &mut Option<Halt>, event: &Event) -> Answer
+    requires halt { halt.old ≡ A.halted array.old }
+    ensures turn { (p : Point) → A.stands array.old p → Ran (A.told array.old) (A.told array.new)
+        (GoesOn (A.slots array.old) (A.setup array.old) p event.now result (A.stands array.new)) }
+    ensures told { IsSome (A.told array.new) → IsSome (A.told array.old) }
+    ensures slots { A.slots array.new ≡ A.slots array.old }
+    ensures setup { A.setup array.new ≡ A.setup array.old }
+    ensures halt { halt.new ≡ A.halted array.new }
+    ensures kind { is_answer_to event.now result ≡ true }
+    ensures few { HasFewDisks result }
+{
+    if let Event::Write { pairs } = event {
+        return answer(array, halt, Asked::Write, pairs);
+    }
+    let none = Pairs::one(0, &Block::zero());
+    answer(array, halt, asked_by(event), &none)
 }
 
 /// Keeps all writes that were accepted, or gives the array's halt.

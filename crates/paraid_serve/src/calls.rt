@@ -5,7 +5,7 @@ ghost use Rattle.paraid_base.specs.declared.fault.Halt.{Halt as HaltType};
 ghost use Rattle.paraid_rack.specs.Told.{Ran};
 ghost use Rattle.paraid_rack.specs.Trail.{Trail};
 ghost use Rattle.paraid_record.specs.declared.meta.Setup.{Setup};
-ghost use Rattle.paraid_machine.specs.Machine.{status_of};
+ghost use Rattle.paraid_machine.specs.Machine.{state_status};
 ghost use Rattle.paraid_serve.specs.Calls.{IsResting, answer_to_tick, tick_halt_of};
 ghost use Rattle.paraid_session.specs.Turn.{GoesOn, Point};
 
@@ -65,7 +65,7 @@ pub trait Calls {
 
     fn status(&self) -> Status
         ensures { halted self.now ≡ None → (p : Point) → stands self.now p
-            → result ≡ status_of (setup self.now) (length p.history) p.state };
+            → result ≡ state_status (setup self.now) (length p.history) p.state };
 
     fn disks(&self) -> u8
         ensures { result ≡ (setup self.now).geometry.disks };

@@ -3,11 +3,9 @@
 
 pub mod answer;
 pub mod calls;
-pub mod hear;
 pub mod run;
 pub mod server;
 mod serves;
-pub mod status;
 mod stop;
 pub mod top;
 

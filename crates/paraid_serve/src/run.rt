@@ -1,11 +1,12 @@
 ghost use Rattle.std.specs.Prelude.{◌≡◌, ◌≤◌, None, IsErrOf, OnOk, IsSome};
 ghost use Rattle.paraid_base.specs.Told.{HasRisen};
-ghost use Rattle.paraid_serve.specs.Session.{Session};
+ghost use Rattle.paraid_serve.specs.Session.{ServesSession};
 
 use crate::Serves;
 use crate::answer::{answer, finish};
-use crate::hear::hear;
 use crate::stop::Stop;
+use paraid_base::{Block, Pairs};
+use paraid_console::hear::hear;
 use paraid_io::{LineFault, LineReader, Sink, Source, write_all};
 use paraid_trace::{Text, reply};
 
@@ -16,7 +17,7 @@ pub fn session<S: Source, K: Sink, A: Serves>(
     array: &mut A,
 ) -> Result<u64, Stop>
     requires going { A.halted array.old ≡ None }
-    ensures session { Session (A.slots array.old) (A.setup array.old) (A.stands array.old)
+    ensures session { ServesSession (A.slots array.old) (A.setup array.old) (A.stands array.old)
         (A.told array.old) (A.told array.new)
         (S.left source.old) (S.left source.new) (K.written sink.old) (K.written sink.new) result }
     ensures told { IsSome (A.told array.new) → IsSome (A.told array.old) }
@@ -30,15 +31,16 @@ pub fn session<S: Source, K: Sink, A: Serves>(
 {
     let mut reader = LineReader::new();
     let mut text = Text::new();
+    let mut pairs = Pairs::one(0, &Block::zero());
     let mut halt = None;
     'lines: loop {
-        let event = match hear(&mut reader, source) {
-            Ok(Some(event)) => event,
+        let asked = match hear(&mut reader, source, &mut pairs) {
+            Ok(Some(asked)) => asked,
             Ok(None) => break,
             Err(LineFault::Source) => return Err(Stop::Source),
             Err(LineFault::TooLong { .. }) => return Err(Stop::TooLong),
         };
-        let answered = answer(array, &mut halt, event);
+        let answered = answer(array, &mut halt, asked, &pairs);
         reply(&answered, &mut text);
         let Ok(()) = write_all(sink, text.as_slice()) else {
             return Err(Stop::Sink);

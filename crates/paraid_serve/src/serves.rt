@@ -1,18 +1,20 @@
-ghost use Rattle.std.specs.Prelude.{◌≡◌, ◌<◌, ℕ, true, None, Option, IsSome, length};
+ghost use Rattle.std.specs.Prelude.{◌≡◌, ◌≢◌, ◌<◌, ℕ, true, None, Option, IsSome, length};
 ghost use Rattle.paraid_base.specs.BlockAnswers.{answer_to_flush, flush_halt_of};
 ghost use Rattle.paraid_base.specs.declared.event.Event.TheVariants.{Flush as FlushEvent, Bad as BadEvent};
 ghost use Rattle.paraid_base.specs.declared.fault.Halt.{Halt as HaltType};
-ghost use Rattle.paraid_machine.specs.Machine.{block_count, status_of};
+ghost use Rattle.paraid_machine.specs.Machine.{block_count, state_status};
 ghost use Rattle.paraid_rack.specs.declared.call.Power.{Power};
 ghost use Rattle.paraid_rack.specs.Told.{Ran};
 ghost use Rattle.paraid_rack.specs.Trail.{Trail};
 ghost use Rattle.paraid_record.specs.declared.meta.Setup.{Setup};
+ghost use Rattle.paraid_trace.specs.Asked.{event_with};
 ghost use Rattle.paraid_trace.specs.Replies.{HasFewDisks};
 ghost use Rattle.paraid_serve.specs.Calls.{IsNotDouble};
 ghost use Rattle.paraid_serve.specs.Form.{is_answer_to};
 ghost use Rattle.paraid_session.specs.Turn.{GoesOn, Point, halt_told};
 
-use paraid_base::{Answer, Event, Halt, Status};
+use paraid_base::{Answer, Halt, Pairs, Status};
+use paraid_trace::Asked;
 
 /// An array that answers events, one after the other.
 pub trait Serves {
@@ -37,17 +39,18 @@ pub trait Serves {
     /// It stands at this point of a session.
     ghost stands: { Self → Point → Type 0 };
 
-    /// Answers an event. After a halt no event is asked for.
-    fn serve(&mut self, event: Event) -> Answer
+    /// Answers what is asked for, with the pairs of a write. After a halt nothing is asked for.
+    fn serve(&mut self, asked: Asked, pairs: &Pairs) -> Answer
         requires going { halted self.old ≡ None }
-        requires event { event ≡ BadEvent → ⊥ }
+        requires event { event_with asked pairs.now ≢ BadEvent }
         ensures turn { (p : Point) → stands self.old p → Ran (told self.old) (told self.new)
-            (GoesOn (slots self.old) (setup self.old) p event result (stands self.new)) }
+            (GoesOn (slots self.old) (setup self.old) p (event_with asked pairs.now) result
+            (stands self.new)) }
         ensures told { IsSome (told self.new) → IsSome (told self.old) }
         ensures slots { slots self.new ≡ slots self.old }
         ensures setup { setup self.new ≡ setup self.old }
         ensures halt { halted self.new ≡ halt_told result }
-        ensures kind { is_answer_to event result ≡ true }
+        ensures kind { is_answer_to (event_with asked pairs.now) result ≡ true }
         ensures few { HasFewDisks result };
 
     /// Keeps all writes that were accepted.
@@ -77,7 +80,7 @@ pub trait Serves {
     /// Its state.
     fn status(&self) -> Status
         ensures { (p : Point) → stands self.now p
-            → result ≡ status_of (setup self.now) (length p.history) p.state };
+            → result ≡ state_status (setup self.now) (length p.history) p.state };
 
     /// The number of its disks.
     fn disks(&self) -> u8

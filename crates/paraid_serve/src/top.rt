@@ -1,62 +1,22 @@
 ghost use Rattle.std.specs.Prelude.{◌≡◌, ◌≢◌, ◌≤◌, [], None, codes, decimal};
 ghost use Rattle.paraid_base.specs.Told.{HasRisen};
-ghost use Rattle.paraid_session.specs.Mount.{Mounted};
+ghost use Rattle.paraid_session.specs.Mount.{IsMountedFromEach};
 ghost use Rattle.paraid_serve.specs.Calls.{IsNotDouble};
-ghost use Rattle.paraid_serve.specs.Output.{Ends, Headline, IsServedStatus, Run, end_line, mount_line, status_of};
+ghost use Rattle.paraid_serve.specs.Output.{Headline, IsServedStatus, ProgramRun};
 
+use crate::Serves;
 use crate::run::session;
 use crate::stop::Stop;
-use crate::{Serves, status};
-use paraid_base::{Answer, Halt};
+use paraid_base::Answer;
+use paraid_console::ending::{end_text, halt_status, last, mount_text};
+use paraid_console::status;
 use paraid_io::{Sink, Source, write_all};
 use paraid_trace::{Text, reply};
-
-// Writes the last line. A fault of the sink has a status of its own.
-fn last<K: Sink>(sink: &mut K, line: &[u8], status: u8) -> u8
-    ensures ends { Ends (K.written sink.old) (K.written sink.new) line.now status result }
-    ensures cause { result ≢ status
-        → (result ≡ 4) × HasRisen (K.faults sink.old) (K.faults sink.new) }
-    ensures later { K.faults sink.old ≤ K.faults sink.new }
-{
-    match write_all(sink, line) {
-        Ok(()) => status,
-        Err(_) => status::SINK,
-    }
-}
-
-fn end_text(text: &mut Text, writes: u64)
-    requires { text.old ≡ [] }
-    ensures { text.new ≡ end_line writes }
-{
-    text.push(b"end ");
-    text.push_number(writes);
-    text.push(b"\n");
-}
-
-fn mount_text(text: &mut Text, writes: u64, gear: u8)
-    requires { text.old ≡ [] }
-    ensures { text.new ≡ mount_line writes gear }
-{
-    text.push(b"mounted ");
-    text.push_number(writes);
-    text.push(b" gear ");
-    text.push_number(u64::from(gear));
-    text.push(b"\n");
-}
-
-fn halt_status(halt: Halt) -> u8
-    ensures { result ≡ status_of halt }
-{
-    match halt {
-        Halt::Two(_) => status::TWO,
-        Halt::Worn { .. } => status::WORN,
-    }
-}
 
 /// Serves the trace with a mounted array, and gives the status.
 pub fn serve<S: Source, K: Sink, A: Serves>(source: &mut S, sink: &mut K, array: &mut A) -> u8
     requires going { A.halted array.old ≡ None }
-    ensures run { Run (A.slots array.old) (A.setup array.old) (A.stands array.old)
+    ensures run { ProgramRun (A.slots array.old) (A.setup array.old) (A.stands array.old)
         (A.told array.old) (A.told array.new) (S.left source.old) (S.left source.new)
         (K.written sink.old) (K.written sink.new) result }
     ensures present { result ≡ 0 → IsNotDouble (A.setup array.old) (A.power array.new) }
@@ -91,7 +51,7 @@ pub fn serve_mounted<S: Source, K: Sink, A: Serves>(
     array: &mut A,
 ) -> u8
     requires going { A.halted array.old ≡ None }
-    requires mounted { Mounted (A.slots array.old) (A.setup array.old) (A.began array.old)
+    requires mounted { IsMountedFromEach (A.slots array.old) (A.setup array.old) (A.began array.old)
         (A.told array.old) (A.stands array.old) }
     ensures headline { Headline (A.slots array.old) (A.setup array.old) (A.began array.old)
         (A.told array.old) (A.told array.new) (S.left source.old) (S.left source.new)

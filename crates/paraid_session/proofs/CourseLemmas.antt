@@ -10,8 +10,8 @@ use Rattle.paraid_base.specs.declared.event.Event.TheVariants.{Bad, Flush}
 use Rattle.paraid_base.specs.declared.state.Out.{Out}
 use Rattle.paraid_base.specs.Cells.{home_disk, home_row, parity_disk}
 use Rattle.paraid_base.specs.History.{History, after}
-use Rattle.paraid_base.specs.Pairs.{one, pairs_of}
-use Rattle.paraid_base.specs.Xor.{zeroed}
+use Rattle.paraid_base.specs.Pairs.{single_pair, pairs_of}
+use Rattle.paraid_base.specs.Xor.{zero_block}
 use Rattle.paraid_rack.specs.Disks.{Disks, IsImage, lose}
 use Rattle.paraid_record.specs.declared.meta.Meta.{Meta}
 use Rattle.paraid_record.specs.Meta.{meta_bytes}
@@ -19,11 +19,11 @@ use Rattle.paraid_record.specs.Range.{IsInRange}
 use Rattle.paraid_record.specs.Targets.{targets_bytes}
 use Rattle.paraid_image.specs.Content.{blocks_of, view_by, view_of}
 use Rattle.paraid_image.specs.Formatted.{IsFormatted}
-use Rattle.paraid_image.specs.HeldAt.{IsHeld, IsSound}
+use Rattle.paraid_image.specs.HeldAt.{IsHeld, IsSoundFrom}
 use Rattle.paraid_image.specs.Out.{named_out}
-use Rattle.paraid_image.specs.Power.{State, initial_state, state_by}
+use Rattle.paraid_image.specs.Power.{PowerState, initial_state, state_by}
 use Rattle.paraid_image.specs.Rest.{closed_over}
-use Rattle.paraid_image.specs.Sides.{Said, Says, is_open}
+use Rattle.paraid_image.specs.Sides.{LogState, Says, is_open}
 use Rattle.paraid_image.specs.Sound.{ContentOk, IsWellKept, LogOk}
 use Rattle.paraid_image.specs.Spot.{is_hard}
 use Rattle.paraid_image.specs.Value.{far, near, soft_value, value}
@@ -31,18 +31,18 @@ use Rattle.paraid_image.specs.Standing.{contents}
 use Rattle.paraid_base.proofs.CellsLemmas.{home_disk_below}
 use Rattle.paraid_image.proofs.CloseLemmas.{IsHeld-raised}
 use Rattle.paraid_image.proofs.SidesLemmas.{Says-same}
-use Rattle.paraid_image.proofs.StepLemmas.{says_of_lost}
+use Rattle.paraid_image.proofs.CallLemmas.{says_of_lost}
 use Rattle.paraid_image.proofs.FormattedLemmas.{IsAtRest-formatted, IsHeld-formatted}
-use Rattle.paraid_image.proofs.HeldLemmas.{image_of_dry}
-use Rattle.paraid_machine.specs.Machine.{IsStep, outcomes}
+use Rattle.paraid_image.proofs.HeldLemmas.{image_of_synced}
+use Rattle.paraid_machine.specs.Machine.{IsEventStep, outcomes}
 use Rattle.paraid_session.specs.Turn.{IsTurn, Point, bounds_of}
 use Rattle.paraid_session.specs.Turn.IsTurn.{answered}
 use Rattle.paraid_session.specs.Course.{AreCommitBlocks, IsCourse, next_meta}
-use Rattle.paraid_session.specs.Watch.{Down, Each, IsAllowed, IsKept, Watch, down_of, nobody}
+use Rattle.paraid_session.specs.Watch.{Down, Each, IsAllowed, HoldsWhileServing, Watch, down_from_out, nobody}
 use Rattle.paraid_session.proofs.CalmLemmas.{IsCalm, says_meta}
 use Rattle.paraid_session.proofs.PointLemmas.{IsCalmState, IsWhole, calm_mark, calm_more, calm_mounts, calm_state, point}
 use Rattle.paraid_session.proofs.SidesLemmas.{IsInOrder}
-use Rattle.paraid_session.proofs.StageLemmas.{IsLogged, IsNew, all_dry, commit_calls, each0, logged18, new_first, new_last, says_new, stage18, stage_held, t18}
+use Rattle.paraid_session.proofs.StageLemmas.{IsLogged, IsNew, all_synced, commit_calls, each0, logged18, new_first, new_last, says_new, stage18, stage_held, t18}
 use Rattle.paraid_session.proofs.WriteLemmas.{after_write, entry, lossy_entry, lossy_point, lossy_turn, next_mount, next_point, write_turn}
 
 -- the meta of the commit is in range too
@@ -64,11 +64,11 @@ if_same true x = refl
 if_same false x = refl
 
 -- a write of zeros leaves zeros
-zeros_after : (b : ℕ) → after (entry ∷ []) 1 b ≡ zeroed
-unfolding after pairs_of one
-zeros_after b = if_same (0 == b) zeroed
+zeros_after : (b : ℕ) → after (entry ∷ []) 1 b ≡ zero_block
+unfolding after pairs_of single_pair
+zeros_after b = if_same (0 == b) zero_block
 
-none_after : (b : ℕ) → after (entry ∷ []) 0 b ≡ zeroed
+none_after : (b : ℕ) → after (entry ∷ []) 0 b ≡ zero_block
 unfolding after
 none_after b = refl
 
@@ -130,9 +130,9 @@ in_map r rows l = grind (arith)
 calm_clean : (slots : ℕ) (t : Disks) (m : Meta) (h : History) (lo : ℕ) → IsCalm slots t m h lo None → IsWhole t m → (r d : ℕ) → r < m.setup.geometry.rows → (initial_state t (closed_over m)).dirty r d ≡ false
 unfolding state_by
 calm_clean slots t m h lo calm all r d low =
-    let sound = calm.held.whole t (image_of_dry t calm.dry) in
+    let sound = calm.held.whole t (image_of_synced t calm.synced) in
     let is = says_meta slots t m h lo None calm sound.sound.disk sound.sound.said sound.sound.log.stands.log_disk sound.sound.log.stands.says in
-    let content : ContentOk slots t.power t.size (view_of t (closed_over m)) h sound.k = subst (λ (z : Said). ContentOk slots t.power t.size (view_of t z) h sound.k) is sound.sound.content in
+    let content : ContentOk slots t.power t.size (view_of t (closed_over m)) h sound.k = subst (λ (z : LogState). ContentOk slots t.power t.size (view_of t z) h sound.k) is sound.sound.content in
     let map = content.kept.map in
     let row = in_map r m.setup.geometry.rows low in
     let gear = all.gear in
@@ -141,7 +141,7 @@ calm_clean slots t m h lo calm all r d low =
 module _ (slots : ℕ) (s : Disks) (m : Meta) (f : IsFormatted slots s m) (small : m.epoch + 1 < 2 ^ 62) where
   -- a formatted array is calm
   pub calm_start : IsCalm slots s m [] 0 None
-  calm_start = record { held = IsHeld-formatted slots s m f; rest = IsAtRest-formatted slots s m f; dry = f.dry; no_out = f.out; steady = f.phase }
+  calm_start = record { held = IsHeld-formatted slots s m f; rest = IsAtRest-formatted slots s m f; synced = f.synced; no_out = f.out; steady = f.phase }
 
   pub whole_start : IsWhole s m
   whole_start = record { gear = f.gear; spinning = f.spinning }
@@ -149,17 +149,17 @@ module _ (slots : ℕ) (s : Disks) (m : Meta) (f : IsFormatted slots s m) (small
   calm_write : IsCalm slots s m (entry ∷ []) 0 None
   calm_write = calm_more slots s m [] (entry ∷ []) 0 None calm_start
 
-  sound_start : IsSound slots s (entry ∷ []) 0
-  sound_start = calm_write.held.whole s (image_of_dry s f.dry)
+  sound_start : IsSoundFrom slots s (entry ∷ []) 0
+  sound_start = calm_write.held.whole s (image_of_synced s f.synced)
 
   said_start : sound_start.sound.said ≡ closed_over m
   said_start = says_meta slots s m (entry ∷ []) 0 None calm_write sound_start.sound.disk sound_start.sound.said sound_start.sound.log.stands.log_disk sound_start.sound.log.stands.says
 
   content_start : ContentOk slots s.power s.size (view_by m s.power (contents s [])) (entry ∷ []) 0
   content_start =
-      let count : sound_start.k ≡ 0 = sym sound_start.sound.log.writes ∙ ap (λ (z : Said). z.meta.writes) said_start ∙ f.writes in
+      let count : sound_start.k ≡ 0 = sym sound_start.sound.log.writes ∙ ap (λ (z : LogState). z.meta.writes) said_start ∙ f.writes in
       subst (λ (k : ℕ). ContentOk slots s.power s.size (view_by m s.power (contents s [])) (entry ∷ []) k) count
-      (subst (λ (z : Said). ContentOk slots s.power s.size (view_of s z) (entry ∷ []) sound_start.k) said_start sound_start.sound.content)
+      (subst (λ (z : LogState). ContentOk slots s.power s.size (view_of s z) (entry ∷ []) sound_start.k) said_start sound_start.sound.content)
 
   pub order : IsInOrder slots s m (entry ∷ [])
   order = record {
@@ -178,15 +178,15 @@ module _ (slots : ℕ) (s : Disks) (m : Meta) (f : IsFormatted slots s m) (small
   }
 
   -- the state after the write
-  abbrev pub written_state : State
+  abbrev pub written_state : PowerState
   written_state = after_write m (calm_state s m)
 
   written_calm : IsCalmState m written_state
-  unfolding pairs_of one
+  unfolding pairs_of single_pair
   written_calm = record { gear = refl; phase = refl; fill = refl; out = refl; spins = refl; ticks = refl }
 
   written_clean : (r d : ℕ) → r < m.setup.geometry.rows → written_state.dirty r d ≡ false
-  unfolding pairs_of one
+  unfolding pairs_of single_pair
   written_clean r d low =
       let n = m.setup.geometry.disks in
       let many = m.setup.geometry.disks_low in
@@ -206,8 +206,8 @@ module _ (slots : ℕ) (s : Disks) (m : Meta) (f : IsFormatted slots s m) (small
     logged : IsLogged s t
     logged = logged18 slots s m (entry ∷ []) order f b1 b3 go gc meta_is list_is open_is closed_is
 
-    dry : (d p : ℕ) → t.loose d p ≡ false
-    dry = all_dry slots s m (entry ∷ []) order f b1 b3 go gc meta_is list_is open_is closed_is
+    synced : (d p : ℕ) → t.loose d p ≡ false
+    synced = all_synced slots s m (entry ∷ []) order f b1 b3 go gc meta_is list_is open_is closed_is
 
     new_at : (x : ℕ) → x < 2 → IsNew m t x
     new_at x low = elim (cases_eq x 0) [
@@ -218,13 +218,13 @@ module _ (slots : ℕ) (s : Disks) (m : Meta) (f : IsFormatted slots s m) (small
     says_at : (i : Disks) (x : ℕ) → IsImage t i → x < 2 → Says i x (closed_over (next_meta m))
     says_at i x image low = says_new slots s m (entry ∷ []) order t i x logged image low (new_at x low)
 
-    only_new : (i : Disks) (x : ℕ) (z : Said) → IsImage t i → x < 2 → Says i x z → z ≡ closed_over (next_meta m)
+    only_new : (i : Disks) (x : ℕ) (z : LogState) → IsImage t i → x < 2 → Says i x z → z ≡ closed_over (next_meta m)
     only_new i x z image low says = Says-same i x z (closed_over (next_meta m)) says (says_at i x image low)
 
     held_zero : IsHeld slots t (entry ∷ []) 0 None
     held_zero = stage_held slots s m (entry ∷ []) order t (stage18 slots s m (entry ∷ []) order f b1 b3 go gc meta_is list_is open_is closed_is)
 
-    one_write : (z : Said) → z ≡ closed_over (next_meta m) → 1 ≤ z.meta.writes
+    one_write : (z : LogState) → z ≡ closed_over (next_meta m) → 1 ≤ z.meta.writes
     one_write z is = rw is (omega arith)
 
     held_one : IsHeld slots t (entry ∷ []) 1 None
@@ -232,25 +232,25 @@ module _ (slots : ℕ) (s : Disks) (m : Meta) (f : IsFormatted slots s m) (small
         (λ i x z image stands. one_write z (only_new i x z image stands.log_disk stands.says))
         (λ i d x z image may stands. one_write z (only_new i x z image stands.log_disk (says_of_lost i d x z stands.says))) held_zero
 
-    sound_now : IsSound slots t (entry ∷ []) 0
-    sound_now = held_zero.whole t (image_of_dry t dry)
+    sound_now : IsSoundFrom slots t (entry ∷ []) 0
+    sound_now = held_zero.whole t (image_of_synced t synced)
 
     log_now : LogOk t sound_now.sound.disk (closed_over (next_meta m)) (next_meta m).writes
     log_now =
         let log = sound_now.sound.log in
-        let is = only_new t sound_now.sound.disk sound_now.sound.said (image_of_dry t dry) log.stands.log_disk log.stands.says in
-        subst (λ (z : Said). LogOk t sound_now.sound.disk z z.meta.writes) is (subst (λ (k : ℕ). LogOk t sound_now.sound.disk sound_now.sound.said k) (sym log.writes) log)
+        let is = only_new t sound_now.sound.disk sound_now.sound.said (image_of_synced t synced) log.stands.log_disk log.stands.says in
+        subst (λ (z : LogState). LogOk t sound_now.sound.disk z z.meta.writes) is (subst (λ (k : ℕ). LogOk t sound_now.sound.disk sound_now.sound.said k) (sym log.writes) log)
 
     pub calm_next : IsCalm slots t (next_meta m) (entry ∷ []) 1 None
     calm_next = record {
       held = held_one;
       rest = record {
-        dry = λ d p here. dry d p;
+        synced = λ d p here. synced d p;
         disk = sound_now.sound.disk;
         log = log_now;
-        shut = λ x low here not. (says_at t x (image_of_dry t dry) low).gate;
+        shut = λ x low here not. (says_at t x (image_of_synced t synced) low).gate;
       };
-      dry = dry;
+      synced = synced;
       no_out = f.out;
       steady = f.phase;
     }
@@ -267,18 +267,18 @@ module _ (slots : ℕ) (s : Disks) (m : Meta) (f : IsFormatted slots s m) (small
     abbrev q : Point
     q = point t (next_meta m) (entry ∷ []) 1 written_state
 
-    nobody_is : down_of (named_out written_state.out) ≡ nobody
-    nobody_is = ap (λ (o : Out). down_of (named_out o)) written_calm.out
+    nobody_is : down_from_out (named_out written_state.out) ≡ nobody
+    nobody_is = ap (λ (o : Out). down_from_out (named_out o)) written_calm.out
 
     abbrev watched : Down → Watch
     watched down = record { disks = s; down = down; spun = λ d. slice_index m.spins d; awaited = None }
 
-    flush_step : IsStep m.setup (entry ∷ []) 0 written_state Flush None (Flushed 1) written_state
+    flush_step : IsEventStep m.setup (entry ∷ []) 0 written_state Flush None (Flushed 1) written_state
     unfolding outcomes
     flush_step = record { among = (0, omega arith, refl) }
 
-    moments : Each (IsKept slots (entry ∷ []) 0 (bounds_of m.setup p Flush)) (IsAllowed m.setup None) (watched (down_of (named_out written_state.out))) (commit_calls b1 b3 go gc)
-    moments = subst (λ (down : Down). Each (IsKept slots (entry ∷ []) 0 (bounds_of m.setup p Flush)) (IsAllowed m.setup None) (watched down) (commit_calls b1 b3 go gc)) (sym nobody_is)
+    moments : Each (HoldsWhileServing slots (entry ∷ []) 0 (bounds_of m.setup p Flush)) (IsAllowed m.setup None) (watched (down_from_out (named_out written_state.out))) (commit_calls b1 b3 go gc)
+    moments = subst (λ (down : Down). Each (HoldsWhileServing slots (entry ∷ []) 0 (bounds_of m.setup p Flush)) (IsAllowed m.setup None) (watched down) (commit_calls b1 b3 go gc)) (sym nobody_is)
         (each0 slots s m (entry ∷ []) order f b1 b3 go gc meta_is list_is open_is closed_is f.phase (bounds_of m.setup p Flush) refl (omega arith) (omega (arith, written_calm.ticks)))
 
     -- The flush keeps the write.
@@ -322,7 +322,7 @@ module _ (slots : ℕ) (s : Disks) (m : Meta) (f : IsFormatted slots s m) (small
       writes = write_turn slots s m [] 0 calm_start whole_start (calm_state s m) (calm_is_calm s m) no_wear;
       flushes = flush_turn;
       loses = lossy_turn slots t (next_meta m) (entry ∷ []) 1 calm_next whole_next written_state next_calm little_wear;
-      stopped = image_of_dry (lose 2 t) dry;
+      stopped = image_of_synced (lose 2 t) synced;
       entry = lossy_entry slots t (next_meta m) (entry ∷ []) 1 calm_next whole_next written_state next_calm little_wear;
       mounted_again = λ x said stands. next_mount slots t (next_meta m) (entry ∷ []) 1 calm_next whole_next written_state next_calm little_wear refl one_first x said stands;
       holds = refl;

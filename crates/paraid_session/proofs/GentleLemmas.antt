@@ -10,14 +10,14 @@ use Rattle.paraid_rack.specs.declared.call.Call.TheVariants.{Read, Write, Sync, 
 use Rattle.paraid_rack.specs.declared.call.Power.{Power}
 use Rattle.paraid_rack.specs.declared.call.Power.TheVariants.{Spinning, Absent}
 use Rattle.paraid_rack.specs.Disks.{Disks, IsImage, IsPresent, is_present, step, with_at}
-use Rattle.paraid_rack.specs.Lawful.{IsLawful, Lawful}
+use Rattle.paraid_rack.specs.Lawful.{IsLawful, AreLawful}
 use Rattle.paraid_rack.proofs.AtomsLemmas.{at_case}
 use Rattle.paraid_image.specs.Calls.{disk_of, is_done}
 use Rattle.paraid_image.specs.HeldAt.{IsHeld}
-use Rattle.paraid_image.specs.Sides.{Said, Says}
-use Rattle.paraid_image.proofs.LossLemmas.{IsHeld-lost, failed_is_loss}
-use Rattle.paraid_image.proofs.StepLemmas.{IsHeld-fewer, read_images, sync_images}
-use Rattle.paraid_session.specs.Watch.{Down, Each, IsHeldBeside, Watch, down_after, nobody, only, several, watch, with_down}
+use Rattle.paraid_image.specs.Sides.{LogState, Says}
+use Rattle.paraid_image.proofs.FailedCallLemmas.{IsHeld-lost, failed_is_loss}
+use Rattle.paraid_image.proofs.CallLemmas.{IsHeld-fewer, read_images, sync_images}
+use Rattle.paraid_session.specs.Watch.{Down, Each, IsHeldWhileServing, Watch, down_after, nobody, only, several, watch, with_down}
 
 -- a call that reads or syncs a disk of the array
 abbrev pub IsGentle : ℕ → Call → Type 0
@@ -34,24 +34,24 @@ AreGentle n (c ∷ cs) = IsGentle n c × AreGentle n cs
 
 -- each log disk says that the array has so many disks
 abbrev pub HasDisks : ℕ → Disks → Type 0
-HasDisks n s = (i : Disks) (x : ℕ) (said : Said) → IsImage s i → x < 2 → Says i x said → said.meta.setup.geometry.disks ≡ n
+HasDisks n s = (i : Disks) (x : ℕ) (said : LogState) → IsImage s i → x < 2 → Says i x said → said.meta.setup.geometry.disks ≡ n
 
 -- no disk was lost yet in these calls; or this one, which is absent; or there are several
 pub data IsGoing (slots n : ℕ) (h : History) (lo : ℕ) (s : Disks) (down : Down) : Type 0 where
-  before : IsHeldBeside slots s h lo down → HasDisks n s → IsGoing slots n h lo s down
+  before : IsHeldWhileServing slots s h lo down → HasDisks n s → IsGoing slots n h lo s down
   after : (d : ℕ) → down ≡ only d → is_present (s.power d) ≡ false → IsHeld slots s h lo (Some d) → IsGoing slots n h lo s down
   over : down ≡ several → IsGoing slots n h lo s down
 
-beside_map : (slots : ℕ) (s t : Disks) (h : History) (lo : ℕ) (down : Down) → ((lost : Option ℕ) → IsHeld slots s h lo lost → IsHeld slots t h lo lost) → IsHeldBeside slots s h lo down → IsHeldBeside slots t h lo down
+beside_map : (slots : ℕ) (s t : Disks) (h : History) (lo : ℕ) (down : Down) → ((lost : Option ℕ) → IsHeld slots s h lo lost → IsHeld slots t h lo lost) → IsHeldWhileServing slots s h lo down → IsHeldWhileServing slots t h lo down
 beside_map slots s t h lo nobody f held = f None held
 beside_map slots s t h lo (only d) f held = f (Some d) held
 beside_map slots s t h lo several f held = tt
 
 -- what holds of a going part holds at its moment
-going_held : (slots n : ℕ) (h : History) (lo : ℕ) (s : Disks) (down : Down) → IsGoing slots n h lo s down → IsHeldBeside slots s h lo down
+going_held : (slots n : ℕ) (h : History) (lo : ℕ) (s : Disks) (down : Down) → IsGoing slots n h lo s down → IsHeldWhileServing slots s h lo down
 going_held slots n h lo s down (before held has) = held
-going_held slots n h lo s down (after d is gone held) = subst (λ (x : Down). IsHeldBeside slots s h lo x) (sym is) held
-going_held slots n h lo s down (over is) = subst (λ (x : Down). IsHeldBeside slots s h lo x) (sym is) tt
+going_held slots n h lo s down (after d is gone held) = subst (λ (x : Down). IsHeldWhileServing slots s h lo x) (sym is) held
+going_held slots n h lo s down (over is) = subst (λ (x : Down). IsHeldWhileServing slots s h lo x) (sym is) tt
 
 spins_present : (p : Power) → p ≡ Spinning → is_present p ≡ true
 spins_present p is = rw is refl
@@ -64,7 +64,7 @@ some_same a b e = cc
 
 -- disk `e` fails, where at most one disk was down
 lose_first : (slots n : ℕ) (h : History) (lo : ℕ) (s : Disks) (c : Call) (down : Down) → is_done c ≡ false → disk_of c < n → IsPresent s (disk_of c) → is_present ((step c s).power (disk_of c)) ≡ false
-    → IsHeldBeside slots s h lo down → HasDisks n s → IsGoing slots n h lo (step c s) (with_down (disk_of c) down)
+    → IsHeldWhileServing slots s h lo down → HasDisks n s → IsGoing slots n h lo (step c s) (with_down (disk_of c) down)
 lose_first slots n h lo s c nobody failed below present gone held has = after (disk_of c) refl gone
     (IsHeld-lost slots s (step c s) h lo None (disk_of c) (failed_is_loss s c failed) present (λ i x said image log says. rw (has i x said image log says) below) (λ i w image weak. absurd (none-some w (held.weak i w image weak))) held)
 lose_first slots n h lo s c (only f) failed below present gone held has = either (disk_of c == f) (same_if (disk_of c) f)
@@ -133,8 +133,8 @@ gentle_step slots n h lo s down (SpinUp d done) gentle lawful going = absurd gen
 gentle_step slots n h lo s down (Attach d size done) gentle lawful going = absurd gentle
 
 -- Each moment of calls that only read or sync leaves the writes, whichever of them fail.
-pub gentle_held : (slots n : ℕ) (h : History) (lo : ℕ) (w : Watch) (cs : List Call) → AreGentle n cs → Lawful w.disks cs → IsGoing slots n h lo w.disks w.down
-    → Each (λ (v : Watch). IsHeldBeside slots v.disks h lo v.down) (λ (v : Watch) (c : Call). Unit {0}) w cs
+pub gentle_held : (slots n : ℕ) (h : History) (lo : ℕ) (w : Watch) (cs : List Call) → AreGentle n cs → AreLawful w.disks cs → IsGoing slots n h lo w.disks w.down
+    → Each (λ (v : Watch). IsHeldWhileServing slots v.disks h lo v.down) (λ (v : Watch) (c : Call). Unit {0}) w cs
 gentle_held slots n h lo w [] gentle lawful going = going_held slots n h lo w.disks w.down going
 gentle_held slots n h lo w (c ∷ cs) gentle lawful going = (
   going_held slots n h lo w.disks w.down going,

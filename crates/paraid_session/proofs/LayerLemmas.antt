@@ -9,13 +9,13 @@ use Rattle.paraid_rack.specs.declared.call.Call.TheVariants.{Read, Write, Sync, 
 use Rattle.paraid_rack.specs.declared.call.Power.{Power}
 use Rattle.paraid_rack.specs.declared.call.Power.TheVariants.{Spinning, Parked, Absent}
 use Rattle.paraid_rack.specs.Disks.{Disks, is_present, power_after, step, with_at}
-use Rattle.paraid_rack.specs.Lawful.{IsLawful, Lawful}
+use Rattle.paraid_rack.specs.Lawful.{IsLawful, AreLawful}
 use Rattle.paraid_rack.specs.Told.{Through}
 use Rattle.paraid_rack.specs.Trail.{run}
 use Rattle.paraid_rack.proofs.AtomsLemmas.{at_use}
 use Rattle.paraid_image.specs.Calls.{disk_of, is_done}
 use Rattle.paraid_image.specs.HeldAt.{IsHeld}
-use Rattle.paraid_session.specs.Watch.{Down, Each, IsHeldBeside, Watch, down_after, fails_on, first_lost, nobody, only, several, watch, with_down, watch_all}
+use Rattle.paraid_session.specs.Watch.{Down, Each, IsHeldWhileServing, Watch, down_after, fails_on, first_lost, nobody, only, several, watch, with_down, watch_all}
 
 -- disk `d` of the array is absent, or it is the one that is out or is taken out
 pub record IsMissingBeside (n : ℕ) (out : Option ℕ) (s : Disks) (d : ℕ) : Type 0 where
@@ -37,7 +37,7 @@ IsIn several d = Unit {0}
 abbrev pub Covers : ℕ → Option ℕ → Disks → Down → Type 0
 Covers n out s down = (d : ℕ) → IsMissingBeside n out s d → IsIn down d
 
-pub held_beside : (slots n : ℕ) (out : Option ℕ) (h : History) (lo : ℕ) (s : Disks) (down : Down) → IsHeldMissing slots n out h lo s → Covers n out s down → IsHeldBeside slots s h lo down
+pub held_beside : (slots n : ℕ) (out : Option ℕ) (h : History) (lo : ℕ) (s : Disks) (down : Down) → IsHeldMissing slots n out h lo s → Covers n out s down → IsHeldWhileServing slots s h lo down
 held_beside slots n out h lo s nobody m covers = m.held None (λ d is. absurd (covers d is))
 held_beside slots n out h lo s (only e) m covers = m.held (Some e) (λ d is. ap (λ (x : ℕ). Some x) (sym (covers d is)))
 held_beside slots n out h lo s several m covers = tt
@@ -99,7 +99,7 @@ covers_step n out s down c covers d missing = after_call (is_done c) (disk_of c)
 
 -- What the layers say of each moment by the disks alone is what a session says of it.
 pub each_held : (slots n : ℕ) (out : Option ℕ) (h : History) (lo : ℕ) (w : Watch) (cs : List Call) → Through (IsHeldMissing slots n out h lo) w.disks cs → Covers n out w.disks w.down
-    → Each (λ (v : Watch). IsHeldBeside slots v.disks h lo v.down) (λ (v : Watch) (c : Call). Unit {0}) w cs
+    → Each (λ (v : Watch). IsHeldWhileServing slots v.disks h lo v.down) (λ (v : Watch) (c : Call). Unit {0}) w cs
 each_held slots n out h lo w [] through covers = held_beside slots n out h lo w.disks w.down through covers
 each_held slots n out h lo w (c ∷ cs) through covers = (
   held_beside slots n out h lo w.disks w.down through.0 covers,
@@ -107,7 +107,7 @@ each_held slots n out h lo w (c ∷ cs) through covers = (
   each_held slots n out h lo (watch c w) cs through.1 (covers_step n out w.disks w.down c covers),
 )
 
-pub each_lawful : (w : Watch) (cs : List Call) → Lawful w.disks cs → Each (λ (v : Watch). Unit {0}) (λ (v : Watch) (c : Call). IsLawful v.disks c) w cs
+pub each_lawful : (w : Watch) (cs : List Call) → AreLawful w.disks cs → Each (λ (v : Watch). Unit {0}) (λ (v : Watch) (c : Call). IsLawful v.disks c) w cs
 each_lawful w [] lawful = tt
 each_lawful w (c ∷ cs) lawful = (tt, lawful.0, each_lawful (watch c w) cs lawful.1)
 

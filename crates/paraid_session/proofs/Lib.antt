@@ -1,7 +1,7 @@
 pub mod LayerLemmas
 pub mod DownLemmas
 pub mod GentleLemmas
-pub mod EntryLemmas
+pub mod RunStartLemmas
 pub mod CalmLemmas
 pub mod PointLemmas
 pub mod WriteLemmas

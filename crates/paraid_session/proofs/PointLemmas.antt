@@ -16,25 +16,25 @@ use Rattle.paraid_record.specs.Range.{has_out}
 use Rattle.paraid_image.specs.HeldAt.{IsHeld, MayLose}
 use Rattle.paraid_image.specs.Out.{IsWeak, first_absent, named_out, or_else, out_disk}
 use Rattle.paraid_image.specs.Out.IsWeak.{named, out}
-use Rattle.paraid_image.specs.Power.{State, gone_of, initial_state, out_after, out_state, phase_beside, power_of, state_by}
+use Rattle.paraid_image.specs.Power.{PowerState, gone_of, initial_state, out_after, out_state, phase_beside, power_of, state_by}
 use Rattle.paraid_image.specs.Rest.{closed_over}
 use Rattle.paraid_image.specs.Shown.{IsShown}
-use Rattle.paraid_image.specs.Sides.{Said, Says}
+use Rattle.paraid_image.specs.Sides.{LogState, Says}
 use Rattle.paraid_image.specs.Spins.{first_used}
 use Rattle.paraid_image.specs.Standing.{Stands, other_log}
 use Rattle.paraid_image.proofs.HeldLemmas.{IsHeld-more}
 use Rattle.paraid_image.proofs.OutLemmas.{first_absent_is}
 use Rattle.paraid_image.proofs.NeutralLemmas.{says_forth}
-use Rattle.paraid_image.proofs.StepLemmas.{lose_kept, says_not_lost}
-use Rattle.paraid_session.specs.Mount.{IsBase, IsBegun, IsMounted, entry_watch, mount_bounds}
-use Rattle.paraid_session.specs.Mount.Begins.{quietly}
+use Rattle.paraid_image.proofs.CallLemmas.{lose_kept, says_not_lost}
+use Rattle.paraid_session.specs.Mount.{IsBase, IsBegun, IsMounted, start_watch, mount_bounds}
+use Rattle.paraid_session.specs.Mount.BeginsSession.{quietly}
 use Rattle.paraid_session.specs.Mount.IsBase.{lesser}
 use Rattle.paraid_session.specs.Turn.{IsMark, Point}
-use Rattle.paraid_session.specs.Watch.{Bounds, IsKept, Watch, nobody}
+use Rattle.paraid_session.specs.Watch.{Bounds, HoldsWhileServing, Watch, nobody}
 use Rattle.paraid_session.proofs.CalmLemmas.{IsCalm, calm_within, says_meta, used_is}
 
 -- the state of an array that is calm with all its disks
-abbrev pub calm_state : Disks → Meta → State
+abbrev pub calm_state : Disks → Meta → PowerState
 calm_state t m = record {
   gear = m.gear;
   phase = Steady;
@@ -48,7 +48,7 @@ calm_state t m = record {
 }
 
 -- a point of a session at which nothing was used yet
-abbrev pub point : Disks → Meta → History → ℕ → State → Point
+abbrev pub point : Disks → Meta → History → ℕ → PowerState → Point
 point t m h lo s = record {
   disks = t;
   history = h;
@@ -67,7 +67,7 @@ pub record IsWhole (t : Disks) (m : Meta) : Type 0 where
   pub spinning : (d : ℕ) → d < m.setup.geometry.disks → t.power d ≡ Spinning
 
 -- the state shows the meta, but for the dirty cells
-pub record IsCalmState (m : Meta) (s : State) : Type 0 where
+pub record IsCalmState (m : Meta) (s : PowerState) : Type 0 where
   pub gear : s.gear ≡ m.gear
   pub phase : s.phase ≡ Steady
   pub fill : s.fill ≡ m.fill
@@ -101,7 +101,7 @@ module _ (slots : ℕ) (t : Disks) (m : Meta) (h : History) (lo : ℕ) (calm : I
   no_state_out : out_state t.power m ≡ No
   no_state_out = ap (λ (o : Out). out_after o t.power (first_absent t.power m.setup.geometry.disks)) calm.no_out ∙ ap gone_of none_absent
 
-  shown : (s : State) → IsCalmState m s → IsShown s (initial_state t (closed_over m))
+  shown : (s : PowerState) → IsCalmState m s → IsShown s (initial_state t (closed_over m))
   unfolding state_by
   shown s c = record {
     gear = sym c.gear;
@@ -111,13 +111,13 @@ module _ (slots : ℕ) (t : Disks) (m : Meta) (h : History) (lo : ℕ) (calm : I
     spins = sym c.spins;
   }
 
-  powers : (s : State) → IsCalmState m s → (d : ℕ) (power : Power) → d < m.setup.geometry.disks → power_of s d ≡ Some power → t.power d ≡ power
+  powers : (s : PowerState) → IsCalmState m s → (d : ℕ) (power : Power) → d < m.setup.geometry.disks → power_of s d ≡ Some power → t.power d ≡ power
   powers s c d power low is =
       let gear = all.gear in
       let by : nat_lt d m.gear ≡ true = lower d m.gear (omega (arith, gear, low)) in
       all.spinning d low ∙ some_is Spinning power (sym (rw (c.out, c.gear, by) refl) ∙ is)
 
-  pub calm_mark : (s : State) → IsCalmState m s → IsMark slots m.setup (point t m h lo s)
+  pub calm_mark : (s : PowerState) → IsCalmState m s → IsMark slots m.setup (point t m h lo s)
   calm_mark s c = record {
     held = subst (λ (o : Out). IsHeld slots t h lo (named_out o)) (sym c.out) calm.held;
     rest = calm.rest;
@@ -130,11 +130,11 @@ module _ (slots : ℕ) (t : Disks) (m : Meta) (h : History) (lo : ℕ) (calm : I
   strong : (w : ℕ) → IsWeak t w → ⊥
   strong w (out x other stands e) =
       let is = says_meta slots t m h lo None calm x other stands.log_disk stands.says in
-      let k : None ≡ Some w = sym out_none ∙ ap (λ (z : Said). out_disk t.power z.meta) (sym is) ∙ e in cc
+      let k : None ≡ Some w = sym out_none ∙ ap (λ (z : LogState). out_disk t.power z.meta) (sym is) ∙ e in cc
   strong w (named x other last stands e q n) =
       let low = stands.log_disk in
       let is = says_meta slots t m h lo None calm (other_log x) last (omega arith) q in
-      let k : None ≡ Some w = sym (ap named_out calm.no_out) ∙ ap (λ (z : Said). named_out z.meta.out) (sym is) ∙ n in cc
+      let k : None ≡ Some w = sym (ap named_out calm.no_out) ∙ ap (λ (z : LogState). named_out z.meta.out) (sym is) ∙ n in cc
 
   many : 3 ≤ m.setup.geometry.disks
   many = m.setup.geometry.disks_low
@@ -156,7 +156,7 @@ module _ (slots : ℕ) (t : Disks) (m : Meta) (h : History) (lo : ℕ) (calm : I
       let y : ℕ = other_log x in
       let formed = calm.rest.log.formed y (omega arith) (present y (let n = many in omega (arith, n, low))) (λ e. let k : None ≡ Some y = sym out_none ∙ e in cc) in
       let is = says_meta slots t m h lo None calm y formed.0 (omega arith) formed.1 in
-      let says : Says t y (closed_over m) = subst (λ (z : Said). Says t y z) is formed.1 in
+      let says : Says t y (closed_over m) = subst (λ (z : LogState). Says t y z) is formed.1 in
       record {
         log_disk = omega arith;
         says = says_forth t (lose x t) y (closed_over m) (lose_kept t x y (λ e. omega (arith, e, low))) says;
@@ -179,7 +179,7 @@ module _ (slots : ℕ) (t : Disks) (m : Meta) (h : History) (lo : ℕ) (calm : I
       (λ d. min_same (slice_index m.spins d) (first_used m t.power d) (first_used m t.power d) (used_is m t.power d calm.steady) (used_is m t.power d calm.steady)) (max_same m.ticks)
 
   -- what holds at the moment
-  pub calm_kept : (b : Bounds) (w : Watch) → w.disks ≡ t → w.down ≡ nobody → ((d : ℕ) → w.spun d ≡ slice_index m.spins d) → m.setup ≡ b.setup → m.epoch ≤ b.epoch → m.ticks ≤ b.ticks → IsKept slots h lo b w
+  pub calm_kept : (b : Bounds) (w : Watch) → w.disks ≡ t → w.down ≡ nobody → ((d : ℕ) → w.spun d ≡ slice_index m.spins d) → m.setup ≡ b.setup → m.epoch ≤ b.epoch → m.ticks ≤ b.ticks → HoldsWhileServing slots h lo b w
   calm_kept b w disks down spins setup epoch ticks = record {
     held = rw (disks, down) calm.held;
     within = λ serving. rw disks (calm_within slots t m h lo None calm b w.spun setup epoch ticks spins);
@@ -210,14 +210,14 @@ module _ (slots : ℕ) (t : Disks) (m : Meta) (h : History) (lo : ℕ) (calm : I
   }
 
   -- A mount that makes no call.
-  pub calm_mounts : (x : ℕ) (said : Said) → Stands t x said → m.writes ≡ lo → length h ≡ lo → IsMounted slots t x said h lo None [] (λ p. p ≡ point t m h lo (calm_state t m))
+  pub calm_mounts : (x : ℕ) (said : LogState) → Stands t x said → m.writes ≡ lo → length h ≡ lo → IsMounted slots t x said h lo None [] (λ p. p ≡ point t m h lo (calm_state t m))
   calm_mounts x said stands writes full =
-      subst (λ (z : Said). IsMounted slots t x z h lo None [] (λ p. p ≡ point t m h lo (calm_state t m))) (sym (says_meta slots t m h lo None calm x said stands.log_disk stands.says)) (record {
+      subst (λ (z : LogState). IsMounted slots t x z h lo None [] (λ p. p ≡ point t m h lo (calm_state t m))) (sym (says_meta slots t m h lo None calm x said stands.log_disk stands.says)) (record {
         mounting = record {
           base = λ d. slice_index m.spins d;
           ticks = m.ticks;
           is_base = is_base x stands.log_disk;
-          moments = calm_kept (mount_bounds (closed_over m) m.ticks) (entry_watch t None (λ d. slice_index m.spins d)) refl refl (λ d. refl) refl (omega arith) (omega arith);
+          moments = calm_kept (mount_bounds (closed_over m) m.ticks) (start_watch t None (λ d. slice_index m.spins d)) refl refl (λ d. refl) refl (omega arith) (omega arith);
         };
         ends = inr (point t m h lo (calm_state t m), begun writes full, refl);
       })
@@ -226,7 +226,7 @@ pub calm_more : (slots : ℕ) (t : Disks) (m : Meta) (h more : History) (lo : �
 calm_more slots t m h more lo beside calm = record {
   held = IsHeld-more slots t h more lo lo beside (omega arith) calm.held;
   rest = calm.rest;
-  dry = calm.dry;
+  synced = calm.synced;
   no_out = calm.no_out;
   steady = calm.steady;
 }

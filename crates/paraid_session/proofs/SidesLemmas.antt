@@ -7,7 +7,7 @@ use Rattle.std.proofs.lemmas.Bool.Decides.{nat_tests}
 use Rattle.paraid_base.specs.declared.block.Block.{Block}
 use Rattle.paraid_base.specs.declared.state.Out.TheVariants.{No, Fresh}
 use Rattle.paraid_base.specs.History.{History}
-use Rattle.paraid_base.specs.Xor.{zeroed}
+use Rattle.paraid_base.specs.Xor.{zero_block}
 use Rattle.paraid_rack.specs.declared.call.Power.{Power}
 use Rattle.paraid_rack.specs.declared.call.Power.TheVariants.{Spinning, Absent}
 use Rattle.paraid_rack.specs.Disks.{Disks, is_present, lose}
@@ -19,22 +19,22 @@ use Rattle.paraid_record.specs.Range.{IsInRange}
 use Rattle.paraid_record.specs.declared.targets.Target.{Target}
 use Rattle.paraid_record.specs.Targets.{targets_bytes}
 use Rattle.paraid_image.specs.Content.{view_by, view_of}
-use Rattle.paraid_image.specs.HeldAt.{IsSound, MayLose}
+use Rattle.paraid_image.specs.HeldAt.{IsSoundFrom, MayLose}
 use Rattle.paraid_image.specs.Out.{IsMissing, IsWeak, first_absent, named_out, or_else, out_disk}
 use Rattle.paraid_image.specs.Out.IsWeak.{named, out}
 use Rattle.paraid_image.specs.Rest.{closed_over}
-use Rattle.paraid_image.specs.Sides.{Batch, Said, Says, has_place, is_open, stored, targets}
-use Rattle.paraid_image.specs.Sound.{ContentOk, IsFresh, LogOk, Pairing, Sound}
+use Rattle.paraid_image.specs.Sides.{Batch, LogState, Says, has_place, is_open, stored_block, targets}
+use Rattle.paraid_image.specs.Sound.{ContentOk, IsFresh, LogOk, Pairing, IsSoundAt}
 use Rattle.paraid_image.specs.Sound.Pairing.{alike, first_ahead, second_done}
 use Rattle.paraid_image.specs.Standing.{Stands, contents, is_first, other_log}
 use Rattle.paraid_session.specs.Course.{next_meta}
 use Rattle.paraid_image.proofs.AlikeLemmas.{sound_alike}
-use Rattle.paraid_image.proofs.LoseLemmas.{Sound-lost}
+use Rattle.paraid_image.proofs.OneDiskLessLemmas.{IsSoundAt-lost}
 use Rattle.paraid_image.proofs.OutLemmas.{first_absent_is}
 use Rattle.paraid_image.proofs.SidesLemmas.{Says-same}
 
 -- the next log, open, with no target
-abbrev pub open_next : Meta → Said
+abbrev pub open_next : Meta → LogState
 open_next m = record { opened = true; meta = next_meta m; batch = [] }
 
 -- Disks like these in all but the first places of the log: all there and large enough, with the
@@ -45,7 +45,7 @@ pub record IsLike (s i : Disks) : Type 0 where
   pub block : (d p : ℕ) → 100 ≤ p → i.block d p ≡ s.block d p
 
 -- what the two log disks may say at once
-pub data Fits (m : Meta) (a b : Said) : Type 0 where
+pub data Fits (m : Meta) (a b : LogState) : Type 0 where
   old : a ≡ closed_over m → b ≡ closed_over m → Fits m a b
   ahead : a ≡ open_next m → b ≡ closed_over m → Fits m a b
   both : a ≡ open_next m → b ≡ open_next m → Fits m a b
@@ -67,7 +67,7 @@ same_first n closed is = grind (arith, nat_tests)
 next_first : (n : ℕ) (rest : Bool) → (nat_lt n (n + 1) || rest) ≡ true
 next_first n rest = grind (arith, nat_tests)
 
-past_log : (low there : Bool) (x y : Block) → (low ≡ false → x ≡ y) → (if low then zeroed else (if there then x else zeroed)) ≡ (if low then zeroed else (if there then y else zeroed))
+past_log : (low there : Bool) (x y : Block) → (low ≡ false → x ≡ y) → (if low then zero_block else (if there then x else zero_block)) ≡ (if low then zero_block else (if there then y else zero_block))
 past_log true there x y h = refl
 past_log false true x y h = h refl
 past_log false false x y h = refl
@@ -76,7 +76,7 @@ past_log false false x y h = refl
 like_contents : (s i : Disks) → IsLike s i → contents i [] ≡ contents s []
 unfolding contents
 like_contents s i like = λ t. λ d p. (past_log (nat_lt p 100) (has_place i d p) (i.block d p) (s.block d p) (λ low. like.block d p (above p low))
-    ∙ ap (λ (there : Bool). if nat_lt p 100 then zeroed else (if there then s.block d p else zeroed)) (ap (λ (w : Power). is_present w && nat_lt p (i.size d)) (like.power d) ∙ ap (λ (n : ℕ). is_present (s.power d) && nat_lt p n) (like.size d))) t
+    ∙ ap (λ (there : Bool). if nat_lt p 100 then zero_block else (if there then s.block d p else zero_block)) (ap (λ (w : Power). is_present w && nat_lt p (i.size d)) (like.power d) ∙ ap (λ (n : ℕ). is_present (s.power d) && nat_lt p n) (like.size d))) t
 
 -- The array: all disks spin, nothing is out, and what it holds is kept well, with zeros in each block.
 pub record IsInOrder (slots : ℕ) (s : Disks) (m : Meta) (h : History) : Type 0 where
@@ -120,14 +120,14 @@ module _ (slots : ℕ) (s : Disks) (m : Meta) (h : History) (order : IsInOrder s
     no_fresh : (d rebuilt : ℕ) → IsFresh i.power m d rebuilt → ⊥
     no_fresh d rebuilt fresh = let k : Fresh d rebuilt ≡ No = sym fresh.is ∙ order.no_out in cc
 
-    stored_is : (x q : ℕ) → x < 2 → q < 100 → stored i x q ≡ i.block x q
-    unfolding stored
+    stored_is : (x q : ℕ) → x < 2 → q < 100 → stored_block i x q ≡ i.block x q
+    unfolding stored_block
     stored_is x q low lq =
         let n = many in
         let large = order.large x (omega (arith, n, low)) in
         let size = like.size x in
         let is : has_place i x q ≡ true = and_from (is_present (i.power x)) (nat_lt q (i.size x)) (there x (omega (arith, n, low))) (below q (i.size x) (omega (arith, large, size, lq))) in
-        ap (λ (t : Bool). if t then i.block x q else zeroed) is
+        ap (λ (t : Bool). if t then i.block x q else zero_block) is
 
     -- what a log disk says, by its blocks
     pub says_closed : (x : ℕ) (z : Meta) → x < 2 → IsInRange z → is_open (i.block x 0) ≡ false → (i.block x 1).bytes ≡ meta_bytes z → Says i x (closed_over z)
@@ -162,10 +162,10 @@ module _ (slots : ℕ) (s : Disks) (m : Meta) (h : History) (order : IsInOrder s
         let size : i.size ≡ s.size = λ t. λ d. like.size d t in
         rw (like_contents s i like, power, size) c
 
-    module _ (a b : Said) (first : Says i 0 a) (last : Says i 1 b) (fits : Fits m a b) where
-      log_of : (z : Said) (k : ℕ) → z ≡ a → z.batch ≡ [] → z.meta.writes ≡ k → named_out z.meta.out ≡ named_out m.out → z.meta.setup ≡ m.setup → is_first z b ≡ true → Pairing z b → LogOk i 0 z k
+    module _ (a b : LogState) (first : Says i 0 a) (last : Says i 1 b) (fits : Fits m a b) where
+      log_of : (z : LogState) (k : ℕ) → z ≡ a → z.batch ≡ [] → z.meta.writes ≡ k → named_out z.meta.out ≡ named_out m.out → z.meta.setup ≡ m.setup → is_first z b ≡ true → Pairing z b → LogOk i 0 z k
       log_of z k is batch writes out_same setup wins pair =
-          let says : Says i 0 z = subst (λ (y : Said). Says i 0 y) (sym is) first in
+          let says : Says i 0 z = subst (λ (y : LogState). Says i 0 y) (sym is) first in
           record {
             stands = record {
               log_disk = omega arith;
@@ -179,7 +179,7 @@ module _ (slots : ℕ) (s : Disks) (m : Meta) (h : History) (order : IsInOrder s
             targets_spin = λ t names not. absurd (nothing t (subst (λ (l : Batch). Contains (targets l) t) batch names));
             formed = λ y low here not. formed y low;
             paired = λ p q says_p says_q not_first not_last.
-                subst (λ (y : Said). Pairing y q) (Says-same i 0 z p says says_p) (subst (λ (y : Said). Pairing z y) (Says-same i 1 b q last says_q) pair);
+                subst (λ (y : LogState). Pairing y q) (Says-same i 0 z p says says_p) (subst (λ (y : LogState). Pairing z y) (Says-same i 1 b q last says_q) pair);
           }
         where
           as_old : (d : ℕ) → IsMissing i.power z.meta d → IsMissing i.power m d
@@ -188,14 +188,14 @@ module _ (slots : ℕ) (s : Disks) (m : Meta) (h : History) (order : IsInOrder s
             is = elim missing.is [ inl absent ↦ inl absent | inr name ↦ inr (sym out_same ∙ name) ];
           }
 
-          formed : (y : ℕ) → y < 2 → (other : Said) × Says i y other
+          formed : (y : ℕ) → y < 2 → (other : LogState) × Says i y other
           formed y low = elim (cases_eq y 0) [
             | inl zero_is ↦ (a, subst (λ (v : ℕ). Says i v a) (sym zero_is) first)
             | inr apart ↦ let one_is : 1 ≡ y = omega (arith, low, apart) in (b, subst (λ (v : ℕ). Says i v b) one_is last)
           ]
 
-      abbrev sound_of : (z : Said) (k : ℕ) → z ≡ a → z.batch ≡ [] → z.meta.writes ≡ k → named_out z.meta.out ≡ named_out m.out → z.meta.setup ≡ m.setup → is_first z b ≡ true → Pairing z b
-          → ContentOk slots i.power i.size (view_of i z) h k → Sound slots i h k
+      abbrev sound_of : (z : LogState) (k : ℕ) → z ≡ a → z.batch ≡ [] → z.meta.writes ≡ k → named_out z.meta.out ≡ named_out m.out → z.meta.setup ≡ m.setup → is_first z b ≡ true → Pairing z b
+          → ContentOk slots i.power i.size (view_of i z) h k → IsSoundAt slots i h k
       sound_of z k is batch writes out_same setup wins pair c = record { disk = 0; said = z; log = log_of z k is batch writes out_same setup wins pair; content = c }
 
       one_write : (next_meta m).writes ≡ 1
@@ -207,49 +207,49 @@ module _ (slots : ℕ) (s : Disks) (m : Meta) (h : History) (order : IsInOrder s
       content_new : ContentOk slots i.power i.size (view_by (next_meta m) i.power (contents i [])) h 1
       content_new = content (next_meta m) 1 order.new_content
 
-      abbrev sound_old : a ≡ closed_over m → b ≡ closed_over m → Sound slots i h 0
+      abbrev sound_old : a ≡ closed_over m → b ≡ closed_over m → IsSoundAt slots i h 0
       sound_old p q = sound_of (closed_over m) 0 (sym p) refl order.writes refl refl (ap (is_first (closed_over m)) q ∙ same_first m.epoch true refl) (alike (sym q)) content_old
 
-      abbrev sound_ahead : a ≡ open_next m → b ≡ closed_over m → Sound slots i h 1
+      abbrev sound_ahead : a ≡ open_next m → b ≡ closed_over m → IsSoundAt slots i h 1
       sound_ahead p q = sound_of (open_next m) 1 (sym p) refl one_write refl refl (ap (is_first (open_next m)) q ∙ next_first m.epoch _)
-          (subst (λ (z : Said). Pairing (open_next m) z) (sym q) (first_ahead (record { opened = refl; closed = refl; epoch = refl; setup = refl; out = λ d e n o. let k : Some d ≡ Some e = sym n ∙ o in cc }))) content_new
+          (subst (λ (z : LogState). Pairing (open_next m) z) (sym q) (first_ahead (record { opened = refl; closed = refl; epoch = refl; setup = refl; out = λ d e n o. let k : Some d ≡ Some e = sym n ∙ o in cc }))) content_new
 
-      abbrev sound_both : a ≡ open_next m → b ≡ open_next m → Sound slots i h 1
+      abbrev sound_both : a ≡ open_next m → b ≡ open_next m → IsSoundAt slots i h 1
       sound_both p q = sound_of (open_next m) 1 (sym p) refl one_write refl refl (ap (is_first (open_next m)) q ∙ same_first (m.epoch + 1) true refl) (alike (sym q)) content_new
 
-      abbrev sound_done : a ≡ closed_over (next_meta m) → b ≡ open_next m → Sound slots i h 1
+      abbrev sound_done : a ≡ closed_over (next_meta m) → b ≡ open_next m → IsSoundAt slots i h 1
       sound_done p q = sound_of (closed_over (next_meta m)) 1 (sym p) refl one_write refl refl (ap (is_first (closed_over (next_meta m))) q ∙ same_first (m.epoch + 1) true refl)
-          (subst (λ (z : Said). Pairing (closed_over (next_meta m)) z) (sym q) (second_done (record { opened = refl; closed = refl; meta = refl }))) content_new
+          (subst (λ (z : LogState). Pairing (closed_over (next_meta m)) z) (sym q) (second_done (record { opened = refl; closed = refl; meta = refl }))) content_new
 
-      abbrev sound_new : a ≡ closed_over (next_meta m) → b ≡ closed_over (next_meta m) → Sound slots i h 1
+      abbrev sound_new : a ≡ closed_over (next_meta m) → b ≡ closed_over (next_meta m) → IsSoundAt slots i h 1
       sound_new p q = sound_of (closed_over (next_meta m)) 1 (sym p) refl one_write refl refl (ap (is_first (closed_over (next_meta m))) q ∙ same_first (m.epoch + 1) true refl) (alike (sym q)) content_new
 
       -- what a log disk says has this meta or the next one
-      pub meta_of : (x : ℕ) (z : Said) → x < 2 → Says i x z → (z.meta ≡ m) ⊎ (z.meta ≡ next_meta m)
+      pub meta_of : (x : ℕ) (z : LogState) → x < 2 → Says i x z → (z.meta ≡ m) ⊎ (z.meta ≡ next_meta m)
       meta_of x z low says = elim (cases_eq x 0) [
         | inl zero_is ↦ first_by fits (Says-same i 0 z a (subst (λ (v : ℕ). Says i v z) zero_is says) first)
         | inr apart ↦ let one_is : x ≡ 1 = omega (arith, low, apart) in last_by fits (Says-same i 1 z b (subst (λ (v : ℕ). Says i v z) one_is says) last)
       ]
         where
           first_by : Fits m a b → z ≡ a → (z.meta ≡ m) ⊎ (z.meta ≡ next_meta m)
-          first_by (old p q) is = inl (ap (λ (y : Said). y.meta) (is ∙ p))
-          first_by (ahead p q) is = inr (ap (λ (y : Said). y.meta) (is ∙ p))
-          first_by (both p q) is = inr (ap (λ (y : Said). y.meta) (is ∙ p))
-          first_by (done p q) is = inr (ap (λ (y : Said). y.meta) (is ∙ p))
-          first_by (new p q) is = inr (ap (λ (y : Said). y.meta) (is ∙ p))
+          first_by (old p q) is = inl (ap (λ (y : LogState). y.meta) (is ∙ p))
+          first_by (ahead p q) is = inr (ap (λ (y : LogState). y.meta) (is ∙ p))
+          first_by (both p q) is = inr (ap (λ (y : LogState). y.meta) (is ∙ p))
+          first_by (done p q) is = inr (ap (λ (y : LogState). y.meta) (is ∙ p))
+          first_by (new p q) is = inr (ap (λ (y : LogState). y.meta) (is ∙ p))
 
           last_by : Fits m a b → z ≡ b → (z.meta ≡ m) ⊎ (z.meta ≡ next_meta m)
-          last_by (old p q) is = inl (ap (λ (y : Said). y.meta) (is ∙ q))
-          last_by (ahead p q) is = inl (ap (λ (y : Said). y.meta) (is ∙ q))
-          last_by (both p q) is = inr (ap (λ (y : Said). y.meta) (is ∙ q))
-          last_by (done p q) is = inr (ap (λ (y : Said). y.meta) (is ∙ q))
-          last_by (new p q) is = inr (ap (λ (y : Said). y.meta) (is ∙ q))
+          last_by (old p q) is = inl (ap (λ (y : LogState). y.meta) (is ∙ q))
+          last_by (ahead p q) is = inl (ap (λ (y : LogState). y.meta) (is ∙ q))
+          last_by (both p q) is = inr (ap (λ (y : LogState). y.meta) (is ∙ q))
+          last_by (done p q) is = inr (ap (λ (y : LogState). y.meta) (is ∙ q))
+          last_by (new p q) is = inr (ap (λ (y : LogState). y.meta) (is ∙ q))
 
-      out_is_none : (z : Said) → (z.meta ≡ m) ⊎ (z.meta ≡ next_meta m) → out_disk i.power z.meta ≡ None
+      out_is_none : (z : LogState) → (z.meta ≡ m) ⊎ (z.meta ≡ next_meta m) → out_disk i.power z.meta ≡ None
       out_is_none z (inl is) = ap (out_disk i.power) is ∙ none_out
       out_is_none z (inr is) = ap (out_disk i.power) is ∙ none_out
 
-      named_none : (z : Said) → (z.meta ≡ m) ⊎ (z.meta ≡ next_meta m) → named_out z.meta.out ≡ None
+      named_none : (z : LogState) → (z.meta ≡ m) ⊎ (z.meta ≡ next_meta m) → named_out z.meta.out ≡ None
       named_none z (inl is) = ap (λ (y : Meta). named_out y.out) is ∙ ap named_out order.no_out
       named_none z (inr is) = ap (λ (y : Meta). named_out y.out) is ∙ ap named_out order.no_out
 
@@ -260,8 +260,8 @@ module _ (slots : ℕ) (s : Disks) (m : Meta) (h : History) (order : IsInOrder s
           let k : None ≡ Some w = sym (named_none last_said (meta_of (other_log x) last_said (omega arith) q)) ∙ n in cc
 
       -- with disk `d` lost, where the log disks say the same, or it is not disk 0
-      lost_by : (d k : ℕ) (sound : Sound slots i h k) → MayLose i d → (d ≢ 0) ⊎ Says i 1 sound.said → sound.disk ≡ 0 → Sound slots (lose d i) h k
-      lost_by d k sound may spare at = Sound-lost slots i h k d 0 sound.said sound (subst (λ (x : ℕ). Stands i x sound.said) at sound.log.stands) spare may
+      lost_by : (d k : ℕ) (sound : IsSoundAt slots i h k) → MayLose i d → (d ≢ 0) ⊎ Says i 1 sound.said → sound.disk ≡ 0 → IsSoundAt slots (lose d i) h k
+      lost_by d k sound may spare at = IsSoundAt-lost slots i h k d 0 sound.said sound (subst (λ (x : ℕ). Stands i x sound.said) at sound.log.stands) spare may
 
     if_high : (e p : ℕ) (x y : Block) → 100 ≤ p → (if e == 0 && nat_lt p 100 then x else y) ≡ y
     if_high e p x y high = grind (arith, nat_tests)
@@ -276,7 +276,7 @@ module _ (slots : ℕ) (s : Disks) (m : Meta) (h : History) (order : IsInOrder s
     pub copied_like : IsLike s copied
     copied_like = record { power = like.power; size = like.size; block = λ d p high. if_high d p (i.block 1 p) (i.block d p) high ∙ like.block d p high }
 
-    copied_lost : (k : ℕ) → Sound slots (lose 0 copied) h k → Sound slots (lose 0 i) h k
+    copied_lost : (k : ℕ) → IsSoundAt slots (lose 0 copied) h k → IsSoundAt slots (lose 0 i) h k
     copied_lost k sound = sound_alike slots (lose 0 copied) (lose 0 i) h k (record {
       power = λ d. refl;
       size = λ d. refl;
@@ -288,7 +288,7 @@ module _ (slots : ℕ) (s : Disks) (m : Meta) (h : History) (order : IsInOrder s
     zero_in : 0 < m.setup.geometry.disks
     zero_in = let n = many in omega (arith, n)
 
-    old_lost : Says i 1 (closed_over m) → Sound slots (lose 0 i) h 0
+    old_lost : Says i 1 (closed_over m) → IsSoundAt slots (lose 0 i) h 0
     old_lost says =
         let gate : is_open (i.block 1 0) ≡ false = ap is_open (sym (stored_is i like 1 0 (omega arith) (omega arith))) ∙ says.gate in
         let meta : (i.block 1 1).bytes ≡ meta_bytes m = ap (λ (b : Block). b.bytes) (sym (stored_is i like 1 1 (omega arith) (omega arith))) ∙ says.log.meta.bytes in
@@ -305,7 +305,7 @@ module _ (slots : ℕ) (s : Disks) (m : Meta) (h : History) (order : IsInOrder s
         } in
         copied_lost i like 0 (lost_by (copied i like) (copied_like i like) (closed_over m) (closed_over m) first last (old refl refl) 0 0 sound may (inr last) refl)
 
-    open_lost : Says i 1 (open_next m) → Sound slots (lose 0 i) h 1
+    open_lost : Says i 1 (open_next m) → IsSoundAt slots (lose 0 i) h 1
     open_lost says =
         let gate : is_open (i.block 1 0) ≡ true = ap is_open (sym (stored_is i like 1 0 (omega arith) (omega arith))) ∙ says.gate in
         let meta : (i.block 1 2).bytes ≡ meta_bytes (next_meta m) = ap (λ (b : Block). b.bytes) (sym (stored_is i like 1 2 (omega arith) (omega arith))) ∙ says.log.meta.bytes in
@@ -323,29 +323,29 @@ module _ (slots : ℕ) (s : Disks) (m : Meta) (h : History) (order : IsInOrder s
         } in
         copied_lost i like 1 (lost_by (copied i like) (copied_like i like) (open_next m) (open_next m) first last (both refl refl) 0 1 sound may (inr last) refl)
 
-    module _ (a b : Said) (first : Says i 0 a) (last : Says i 1 b) where
-      is_sound : (k : ℕ) → k ≤ 1 → (j : Disks) → Sound slots j h k → IsSound slots j h 0
+    module _ (a b : LogState) (first : Says i 0 a) (last : Says i 1 b) where
+      is_sound : (k : ℕ) → k ≤ 1 → (j : Disks) → IsSoundAt slots j h k → IsSoundFrom slots j h 0
       is_sound k low j sound = let some = order.some in record { k = k; low = omega arith; high = omega (arith, low, some); sound = sound }
 
-      pub whole_sound : Fits m a b → IsSound slots i h 0
+      pub whole_sound : Fits m a b → IsSoundFrom slots i h 0
       whole_sound (old p q) = is_sound 0 (omega arith) i (sound_old i like a b first last (old p q) p q)
       whole_sound (ahead p q) = is_sound 1 (omega arith) i (sound_ahead i like a b first last (ahead p q) p q)
       whole_sound (both p q) = is_sound 1 (omega arith) i (sound_both i like a b first last (both p q) p q)
       whole_sound (done p q) = is_sound 1 (omega arith) i (sound_done i like a b first last (done p q) p q)
       whole_sound (new p q) = is_sound 1 (omega arith) i (sound_new i like a b first last (new p q) p q)
 
-      at_last : (z : Said) → b ≡ z → Says i 1 z
-      at_last z is = subst (λ (y : Said). Says i 1 y) is last
+      at_last : (z : LogState) → b ≡ z → Says i 1 z
+      at_last z is = subst (λ (y : LogState). Says i 1 y) is last
 
-      pub lost_sound : (d : ℕ) → MayLose i d → Fits m a b → IsSound slots (lose d i) h 0
+      pub lost_sound : (d : ℕ) → MayLose i d → Fits m a b → IsSoundFrom slots (lose d i) h 0
       lost_sound d may (old p q) = is_sound 0 (omega arith) (lose d i) (lost_by i like a b first last (old p q) d 0 (sound_old i like a b first last (old p q) p q) may (inr (at_last (closed_over m) q)) refl)
       lost_sound d may (both p q) = is_sound 1 (omega arith) (lose d i) (lost_by i like a b first last (both p q) d 1 (sound_both i like a b first last (both p q) p q) may (inr (at_last (open_next m) q)) refl)
       lost_sound d may (new p q) = is_sound 1 (omega arith) (lose d i) (lost_by i like a b first last (new p q) d 1 (sound_new i like a b first last (new p q) p q) may (inr (at_last (closed_over (next_meta m)) q)) refl)
       lost_sound d may (ahead p q) = elim (cases_eq d 0) [
-        | inl zero_is ↦ subst (λ (e : ℕ). IsSound slots (lose e i) h 0) (sym zero_is) (is_sound 0 (omega arith) (lose 0 i) (old_lost (at_last (closed_over m) q)))
+        | inl zero_is ↦ subst (λ (e : ℕ). IsSoundFrom slots (lose e i) h 0) (sym zero_is) (is_sound 0 (omega arith) (lose 0 i) (old_lost (at_last (closed_over m) q)))
         | inr apart ↦ is_sound 1 (omega arith) (lose d i) (lost_by i like a b first last (ahead p q) d 1 (sound_ahead i like a b first last (ahead p q) p q) may (inl apart) refl)
       ]
       lost_sound d may (done p q) = elim (cases_eq d 0) [
-        | inl zero_is ↦ subst (λ (e : ℕ). IsSound slots (lose e i) h 0) (sym zero_is) (is_sound 1 (omega arith) (lose 0 i) (open_lost (at_last (open_next m) q)))
+        | inl zero_is ↦ subst (λ (e : ℕ). IsSoundFrom slots (lose e i) h 0) (sym zero_is) (is_sound 1 (omega arith) (lose 0 i) (open_lost (at_last (open_next m) q)))
         | inr apart ↦ is_sound 1 (omega arith) (lose d i) (lost_by i like a b first last (done p q) d 1 (sound_done i like a b first last (done p q) p q) may (inl apart) refl)
       ]

@@ -18,11 +18,11 @@ use Rattle.paraid_image.specs.HeldAt.{IsHeld}
 use Rattle.paraid_image.specs.Looked.{IsLooked}
 use Rattle.paraid_image.specs.Looked.IsLooked.{lost, whole}
 use Rattle.paraid_image.specs.Rest.{closed_over}
-use Rattle.paraid_image.specs.Sides.{Said, Says, is_open}
+use Rattle.paraid_image.specs.Sides.{LogState, Says, is_open}
 use Rattle.paraid_image.specs.Standing.{Stands}
-use Rattle.paraid_image.proofs.StepLemmas.{says_of_lost}
+use Rattle.paraid_image.proofs.CallLemmas.{says_of_lost}
 use Rattle.paraid_session.specs.Course.{next_meta}
-use Rattle.paraid_session.specs.Watch.{Bounds, Each, IsAllowed, IsKept, IsWithin, Watch, nobody, watch}
+use Rattle.paraid_session.specs.Watch.{Bounds, Each, IsAllowed, HoldsWhileServing, IsWithinBounds, Watch, nobody, watch}
 use Rattle.paraid_session.proofs.CalmLemmas.{used_is}
 use Rattle.paraid_session.proofs.SidesLemmas.{Fits, IsInOrder, IsLike, lost_sound, meta_of, open_next, says_closed, says_open, strong, whole_sound}
 use Rattle.paraid_session.proofs.SidesLemmas.Fits.{old as fits_old, ahead, both, done as fits_done, new as fits_new}
@@ -30,7 +30,7 @@ use Rattle.paraid_session.proofs.SidesLemmas.Fits.{old as fits_old, ahead, both,
 -- disks like these, with nothing loose past the log
 pub record IsLogged (s t : Disks) : Type 0 where
   pub like : IsLike s t
-  pub dry : (d p : ℕ) → 100 ≤ p → t.loose d p ≡ false
+  pub synced : (d p : ℕ) → 100 ≤ p → t.loose d p ≡ false
   pub others : (d p : ℕ) → 2 ≤ d → t.loose d p ≡ false
 
 -- a place of the log is written
@@ -43,8 +43,8 @@ logged_write s t d p b log_disk low l = record {
     block = λ e q high. at_case (λ (g : ℕ → Block). g q ≡ s.block e q) t.block d (with_at (t.block d) p b) e
         (λ is. with_at_other (t.block d) p b q (λ same. omega (arith, high, low, same)) ∙ ap (λ (k : ℕ). t.block k q) (sym is) ∙ l.like.block e q high) (λ not. l.like.block e q high);
   };
-  dry = λ e q high. at_case (λ (g : ℕ → Bool). g q ≡ false) t.loose d (with_at (t.loose d) p true) e
-      (λ is. with_at_other (t.loose d) p true q (λ same. omega (arith, high, low, same)) ∙ l.dry d q high) (λ not. l.dry e q high);
+  synced = λ e q high. at_case (λ (g : ℕ → Bool). g q ≡ false) t.loose d (with_at (t.loose d) p true) e
+      (λ is. with_at_other (t.loose d) p true q (λ same. omega (arith, high, low, same)) ∙ l.synced d q high) (λ not. l.synced e q high);
   others = λ e q high. at_case (λ (g : ℕ → Bool). g q ≡ false) t.loose d (with_at (t.loose d) p true) e
       (λ is. absurd (omega (arith, is, high, log_disk))) (λ not. l.others e q high);
 }
@@ -57,7 +57,7 @@ logged_sync s t d log_disk l = record {
     size = λ e. at_case (λ (n : ℕ). n ≡ s.size e) t.size d (t.size d) e (λ is. ap t.size (sym is) ∙ l.like.size e) (λ not. l.like.size e);
     block = l.like.block;
   };
-  dry = λ e q high. at_case (λ (g : ℕ → Bool). g q ≡ false) t.loose d (λ p. false) e (λ is. refl) (λ not. l.dry e q high);
+  synced = λ e q high. at_case (λ (g : ℕ → Bool). g q ≡ false) t.loose d (λ p. false) e (λ is. refl) (λ not. l.synced e q high);
   others = λ e q high. at_case (λ (g : ℕ → Bool). g q ≡ false) t.loose d (λ p. false) e (λ is. refl) (λ not. l.others e q high);
 }
 
@@ -65,7 +65,7 @@ image_like : (s t i : Disks) → IsLogged s t → IsImage t i → IsLike s i
 image_like s t i l image = record {
   power = λ d. image.power d ∙ l.like.power d;
   size = λ d. image.size d ∙ l.like.size d;
-  block = λ d p high. image.block d p (l.dry d p high) ∙ l.like.block d p high;
+  block = λ d p high. image.block d p (l.synced d p high) ∙ l.like.block d p high;
 }
 
 -- how far log disk `x` is
@@ -81,13 +81,13 @@ pub data Phase (m : Meta) (t : Disks) (x : ℕ) : Type 0 where
 
 -- the gate is closed over the next meta
 pub record IsNew (m : Meta) (t : Disks) (x : ℕ) : Type 0 where
-  pub gate_dry : t.loose x 0 ≡ false
+  pub gate_synced : t.loose x 0 ≡ false
   pub gate : is_open (t.block x 0) ≡ false
-  pub meta_dry : t.loose x 1 ≡ false
+  pub meta_synced : t.loose x 1 ≡ false
   pub meta : (t.block x 1).bytes ≡ meta_bytes (next_meta m)
 
 -- what a log disk that is so far may say
-abbrev In : (m : Meta) (t : Disks) (x : ℕ) → Phase m t x → Said → Type 0
+abbrev In : (m : Meta) (t : Disks) (x : ℕ) → Phase m t x → LogState → Type 0
 In m t x (old a b c d) z = z ≡ closed_over m
 In m t x (opening a b c d e f) z = (z ≡ closed_over m) ⊎ (z ≡ open_next m)
 In m t x (opened a b c d e f) z = z ≡ open_next m
@@ -103,7 +103,7 @@ module _ (slots : ℕ) (s : Disks) (m : Meta) (h : History) (order : IsInOrder s
     like : IsLike s i
     like = image_like s t i l image
 
-    says : (x : ℕ) → x < 2 → (p : Phase m t x) → (z : Said) × Says i x z × In m t x p z
+    says : (x : ℕ) → x < 2 → (p : Phase m t x) → (z : LogState) × Says i x z × In m t x p z
     says x low (old a b c d) = (closed_over m, says_closed slots s m h order i like x m low order.old_range (ap is_open (image.block x 0 a) ∙ b) (ap (λ (y : Block). y.bytes) (image.block x 1 c) ∙ d), refl)
     says x low (opened a b c d e f) = (open_next m, says_open slots s m h order i like x low (ap is_open (image.block x 0 a) ∙ b) (ap (λ (y : Block). y.bytes) (image.block x 2 c) ∙ d) (ap (λ (y : Block). y.bytes) (image.block x 3 e) ∙ f), refl)
     says x low (new a b c d) = (closed_over (next_meta m), says_closed slots s m h order i like x (next_meta m) low order.new_range (ap is_open (image.block x 0 a) ∙ b) (ap (λ (y : Block). y.bytes) (image.block x 1 c) ∙ d), refl)
@@ -119,14 +119,14 @@ module _ (slots : ℕ) (s : Disks) (m : Meta) (h : History) (order : IsInOrder s
   -- with its gate closed over the next meta a log disk says this alone
   pub says_new : (t i : Disks) (x : ℕ) → IsLogged s t → IsImage t i → x < 2 → IsNew m t x → Says i x (closed_over (next_meta m))
   says_new t i x l image low n = says_closed slots s m h order i (image_like s t i l image) x (next_meta m) low order.new_range
-      (ap is_open (image.block x 0 n.gate_dry) ∙ n.gate) (ap (λ (y : Block). y.bytes) (image.block x 1 n.meta_dry) ∙ n.meta)
+      (ap is_open (image.block x 0 n.gate_synced) ∙ n.gate) (ap (λ (y : Block). y.bytes) (image.block x 1 n.meta_synced) ∙ n.meta)
 
   -- The two log disks are so far that what they may say fits.
   pub record IsStage (t : Disks) : Type 0 where
     pub logged : IsLogged s t
     pub first : Phase m t 0
     pub last : Phase m t 1
-    pub fits : (a b : Said) → In m t 0 first a → In m t 1 last b → Fits m a b
+    pub fits : (a b : LogState) → In m t 0 first a → In m t 1 last b → Fits m a b
 
   pub stage_held : (t : Disks) → IsStage t → IsHeld slots t h 0 None
   stage_held t g = record {
@@ -144,37 +144,37 @@ module _ (slots : ℕ) (s : Disks) (m : Meta) (h : History) (order : IsInOrder s
         absurd (strong slots s m h order i (image_like s t i g.logged image) a.0 b.0 a.1 b.1 (g.fits a.0 b.0 a.2 b.2) w weak);
   }
 
-  image_meta : (t : Disks) → IsStage t → (i : Disks) (x : ℕ) (z : Said) → IsImage t i → x < 2 → Says i x z → (z.meta ≡ m) ⊎ (z.meta ≡ next_meta m)
+  image_meta : (t : Disks) → IsStage t → (i : Disks) (x : ℕ) (z : LogState) → IsImage t i → x < 2 → Says i x z → (z.meta ≡ m) ⊎ (z.meta ≡ next_meta m)
   image_meta t g i x z image low says_z =
       let a = says t g.logged i image 0 (omega arith) g.first in
       let b = says t g.logged i image 1 (omega arith) g.last in
       meta_of slots s m h order i (image_like s t i g.logged image) a.0 b.0 a.1 b.1 (g.fits a.0 b.0 a.2 b.2) x z low says_z
 
-  pub stage_meta : (t : Disks) → IsStage t → (i : Disks) (x : ℕ) (z : Said) → IsLooked t i → Stands i x z → (z.meta ≡ m) ⊎ (z.meta ≡ next_meta m)
+  pub stage_meta : (t : Disks) → IsStage t → (i : Disks) (x : ℕ) (z : LogState) → IsLooked t i → Stands i x z → (z.meta ≡ m) ⊎ (z.meta ≡ next_meta m)
   stage_meta t g i x z (whole image) stands = image_meta t g i x z image stands.log_disk stands.says
   stage_meta t g i x z (lost j d image may is) stands = image_meta t g j x z image stands.log_disk (says_of_lost j d x z (subst (λ (y : Disks). Says y x z) (sym is) stands.says))
 
   module _ (steady : m.phase ≡ Steady) (b : Bounds) (setup : m.setup ≡ b.setup) (epoch : m.epoch + 1 ≤ b.epoch) (ticks : m.ticks ≤ b.ticks) where
-    within : (i : Disks) (z : Meta) → (z ≡ m) ⊎ (z ≡ next_meta m) → IsWithin b (λ d. slice_index m.spins d) i z
-    within i z (inl is) = subst (IsWithin b (λ d. slice_index m.spins d) i) (sym is) (record {
+    within : (i : Disks) (z : Meta) → (z ≡ m) ⊎ (z ≡ next_meta m) → IsWithinBounds b (λ d. slice_index m.spins d) i z
+    within i z (inl is) = subst (IsWithinBounds b (λ d. slice_index m.spins d) i) (sym is) (record {
       same_setup = setup;
       in_time = omega (arith, epoch);
       counted_ticks = ticks;
       recorded = λ d low here not. omega (arith, used_is m i.power d steady);
     })
-    within i z (inr is) = subst (IsWithin b (λ d. slice_index m.spins d) i) (sym is) (record {
+    within i z (inr is) = subst (IsWithinBounds b (λ d. slice_index m.spins d) i) (sym is) (record {
       same_setup = setup;
       in_time = epoch;
       counted_ticks = ticks;
       recorded = λ d low here not. omega (arith, used_is (next_meta m) i.power d steady);
     })
 
-    stage_kept : (w : Watch) → IsStage w.disks → w.down ≡ nobody → ((d : ℕ) → w.spun d ≡ slice_index m.spins d) → IsKept slots h 0 b w
+    stage_kept : (w : Watch) → IsStage w.disks → w.down ≡ nobody → ((d : ℕ) → w.spun d ≡ slice_index m.spins d) → HoldsWhileServing slots h 0 b w
     stage_kept w g down spins = record {
       held = rw down (stage_held w.disks g);
       within = λ serving x i z looked stands.
           let spun : w.spun ≡ (λ d. slice_index m.spins d) = λ u. λ d. spins d u in
-          subst (λ (f : ℕ → ℕ). IsWithin b f i z.meta) (sym spun) (within i z.meta (stage_meta w.disks g i x z looked stands));
+          subst (λ (f : ℕ → ℕ). IsWithinBounds b f i z.meta) (sym spun) (within i z.meta (stage_meta w.disks g i x z looked stands));
     }
 
     allowed_write : (w : Watch) (d p : ℕ) (y : Block) → d < 2 → IsLogged s w.disks → w.awaited ≡ None → IsAllowed m.setup None w (Write d p y true)
@@ -263,7 +263,7 @@ module _ (slots : ℕ) (s : Disks) (m : Meta) (h : History) (order : IsInOrder s
   t18 = step (Sync 1 true) t17
 
   logged0 : IsLogged s t0
-  logged0 = record { like = record { power = λ d. refl; size = λ d. refl; block = λ d p high. refl }; dry = λ d p high. f.dry d p; others = λ d p high. f.dry d p }
+  logged0 = record { like = record { power = λ d. refl; size = λ d. refl; block = λ d p high. refl }; synced = λ d p high. f.synced d p; others = λ d p high. f.synced d p }
 
   logged1 : IsLogged s t1
   logged1 = logged_write s t0 0 2 b1 (omega arith) (omega arith) logged0
@@ -323,8 +323,8 @@ module _ (slots : ℕ) (s : Disks) (m : Meta) (h : History) (order : IsInOrder s
   unfolding step with_at
   stage0 = record {
     logged = logged0;
-    first = old (f.dry 0 0) (f.closed 0 (omega arith)) (f.dry 0 1) (f.meta 0 (omega arith));
-    last = old (f.dry 1 0) (f.closed 1 (omega arith)) (f.dry 1 1) (f.meta 1 (omega arith));
+    first = old (f.synced 0 0) (f.closed 0 (omega arith)) (f.synced 0 1) (f.meta 0 (omega arith));
+    last = old (f.synced 1 0) (f.closed 1 (omega arith)) (f.synced 1 1) (f.meta 1 (omega arith));
     fits = λ a b p q. fits_old p q;
   }
 
@@ -332,8 +332,8 @@ module _ (slots : ℕ) (s : Disks) (m : Meta) (h : History) (order : IsInOrder s
   unfolding step with_at
   stage1 = record {
     logged = logged1;
-    first = old (f.dry 0 0) (f.closed 0 (omega arith)) (f.dry 0 1) (f.meta 0 (omega arith));
-    last = old (f.dry 1 0) (f.closed 1 (omega arith)) (f.dry 1 1) (f.meta 1 (omega arith));
+    first = old (f.synced 0 0) (f.closed 0 (omega arith)) (f.synced 0 1) (f.meta 0 (omega arith));
+    last = old (f.synced 1 0) (f.closed 1 (omega arith)) (f.synced 1 1) (f.meta 1 (omega arith));
     fits = λ a b p q. fits_old p q;
   }
 
@@ -341,8 +341,8 @@ module _ (slots : ℕ) (s : Disks) (m : Meta) (h : History) (order : IsInOrder s
   unfolding step with_at
   stage2 = record {
     logged = logged2;
-    first = old (f.dry 0 0) (f.closed 0 (omega arith)) (f.dry 0 1) (f.meta 0 (omega arith));
-    last = old (f.dry 1 0) (f.closed 1 (omega arith)) (f.dry 1 1) (f.meta 1 (omega arith));
+    first = old (f.synced 0 0) (f.closed 0 (omega arith)) (f.synced 0 1) (f.meta 0 (omega arith));
+    last = old (f.synced 1 0) (f.closed 1 (omega arith)) (f.synced 1 1) (f.meta 1 (omega arith));
     fits = λ a b p q. fits_old p q;
   }
 
@@ -351,7 +351,7 @@ module _ (slots : ℕ) (s : Disks) (m : Meta) (h : History) (order : IsInOrder s
   stage3 = record {
     logged = logged3;
     first = old refl (f.closed 0 (omega arith)) refl (f.meta 0 (omega arith));
-    last = old (f.dry 1 0) (f.closed 1 (omega arith)) (f.dry 1 1) (f.meta 1 (omega arith));
+    last = old (f.synced 1 0) (f.closed 1 (omega arith)) (f.synced 1 1) (f.meta 1 (omega arith));
     fits = λ a b p q. fits_old p q;
   }
 
@@ -360,7 +360,7 @@ module _ (slots : ℕ) (s : Disks) (m : Meta) (h : History) (order : IsInOrder s
   stage4 = record {
     logged = logged4;
     first = old refl (f.closed 0 (omega arith)) refl (f.meta 0 (omega arith));
-    last = old (f.dry 1 0) (f.closed 1 (omega arith)) (f.dry 1 1) (f.meta 1 (omega arith));
+    last = old (f.synced 1 0) (f.closed 1 (omega arith)) (f.synced 1 1) (f.meta 1 (omega arith));
     fits = λ a b p q. fits_old p q;
   }
 
@@ -369,7 +369,7 @@ module _ (slots : ℕ) (s : Disks) (m : Meta) (h : History) (order : IsInOrder s
   stage5 = record {
     logged = logged5;
     first = old refl (f.closed 0 (omega arith)) refl (f.meta 0 (omega arith));
-    last = old (f.dry 1 0) (f.closed 1 (omega arith)) (f.dry 1 1) (f.meta 1 (omega arith));
+    last = old (f.synced 1 0) (f.closed 1 (omega arith)) (f.synced 1 1) (f.meta 1 (omega arith));
     fits = λ a b p q. fits_old p q;
   }
 
@@ -492,26 +492,26 @@ module _ (slots : ℕ) (s : Disks) (m : Meta) (h : History) (order : IsInOrder s
 
   pub new_first : IsNew m t18 0
   unfolding step with_at
-  new_first = record { gate_dry = refl; gate = closed_is; meta_dry = refl; meta = meta_is }
+  new_first = record { gate_synced = refl; gate = closed_is; meta_synced = refl; meta = meta_is }
 
   pub new_last : IsNew m t18 1
   unfolding step with_at
-  new_last = record { gate_dry = refl; gate = closed_is; meta_dry = refl; meta = meta_is }
+  new_last = record { gate_synced = refl; gate = closed_is; meta_synced = refl; meta = meta_is }
 
-  dry_first : (p : ℕ) → t18.loose 0 p ≡ false
+  synced_first : (p : ℕ) → t18.loose 0 p ≡ false
   unfolding step with_at
-  dry_first p = refl
+  synced_first p = refl
 
-  dry_last : (p : ℕ) → t18.loose 1 p ≡ false
+  synced_last : (p : ℕ) → t18.loose 1 p ≡ false
   unfolding step with_at
-  dry_last p = refl
+  synced_last p = refl
 
   -- nothing is loose after the commit
-  pub all_dry : (d p : ℕ) → t18.loose d p ≡ false
-  all_dry d p = elim (cases_eq d 0) [
-    | inl zero_is ↦ ap (λ (e : ℕ). t18.loose e p) zero_is ∙ dry_first p
+  pub all_synced : (d p : ℕ) → t18.loose d p ≡ false
+  all_synced d p = elim (cases_eq d 0) [
+    | inl zero_is ↦ ap (λ (e : ℕ). t18.loose e p) zero_is ∙ synced_first p
     | inr apart ↦ elim (cases_eq d 1) [
-      | inl one_is ↦ ap (λ (e : ℕ). t18.loose e p) one_is ∙ dry_last p
+      | inl one_is ↦ ap (λ (e : ℕ). t18.loose e p) one_is ∙ synced_last p
       | inr other ↦ logged18.others d p (omega (arith, apart, other))
     ]
   ]
@@ -574,60 +574,60 @@ module _ (slots : ℕ) (s : Disks) (m : Meta) (h : History) (order : IsInOrder s
     abbrev w18 : Watch
     w18 = watch (Sync 1 true) w17
 
-    each18 : Each (IsKept slots h 0 b) (IsAllowed m.setup None) w18 ([])
+    each18 : Each (HoldsWhileServing slots h 0 b) (IsAllowed m.setup None) w18 ([])
     each18 = stage_kept slots s m h order steady b setup epoch ticks w18 stage18 refl (λ d. refl)
 
-    each17 : Each (IsKept slots h 0 b) (IsAllowed m.setup None) w17 (Sync 1 true ∷ [])
+    each17 : Each (HoldsWhileServing slots h 0 b) (IsAllowed m.setup None) w17 (Sync 1 true ∷ [])
     each17 = (stage_kept slots s m h order steady b setup epoch ticks w17 stage17 refl (λ d. refl), allowed_sync slots s m h order steady b setup epoch ticks w17 1 (omega arith) logged17 refl, each18)
 
-    each16 : Each (IsKept slots h 0 b) (IsAllowed m.setup None) w16 (Write 1 0 gc true ∷ Sync 1 true ∷ [])
+    each16 : Each (HoldsWhileServing slots h 0 b) (IsAllowed m.setup None) w16 (Write 1 0 gc true ∷ Sync 1 true ∷ [])
     each16 = (stage_kept slots s m h order steady b setup epoch ticks w16 stage16 refl (λ d. refl), allowed_write slots s m h order steady b setup epoch ticks w16 1 0 gc (omega arith) logged16 refl, each17)
 
-    each15 : Each (IsKept slots h 0 b) (IsAllowed m.setup None) w15 (Sync 0 true ∷ Write 1 0 gc true ∷ Sync 1 true ∷ [])
+    each15 : Each (HoldsWhileServing slots h 0 b) (IsAllowed m.setup None) w15 (Sync 0 true ∷ Write 1 0 gc true ∷ Sync 1 true ∷ [])
     each15 = (stage_kept slots s m h order steady b setup epoch ticks w15 stage15 refl (λ d. refl), allowed_sync slots s m h order steady b setup epoch ticks w15 0 (omega arith) logged15 refl, each16)
 
-    each14 : Each (IsKept slots h 0 b) (IsAllowed m.setup None) w14 (Write 0 0 gc true ∷ Sync 0 true ∷ Write 1 0 gc true ∷ Sync 1 true ∷ [])
+    each14 : Each (HoldsWhileServing slots h 0 b) (IsAllowed m.setup None) w14 (Write 0 0 gc true ∷ Sync 0 true ∷ Write 1 0 gc true ∷ Sync 1 true ∷ [])
     each14 = (stage_kept slots s m h order steady b setup epoch ticks w14 stage14 refl (λ d. refl), allowed_write slots s m h order steady b setup epoch ticks w14 0 0 gc (omega arith) logged14 refl, each15)
 
-    each13 : Each (IsKept slots h 0 b) (IsAllowed m.setup None) w13 (Sync 1 true ∷ Write 0 0 gc true ∷ Sync 0 true ∷ Write 1 0 gc true ∷ Sync 1 true ∷ [])
+    each13 : Each (HoldsWhileServing slots h 0 b) (IsAllowed m.setup None) w13 (Sync 1 true ∷ Write 0 0 gc true ∷ Sync 0 true ∷ Write 1 0 gc true ∷ Sync 1 true ∷ [])
     each13 = (stage_kept slots s m h order steady b setup epoch ticks w13 stage13 refl (λ d. refl), allowed_sync slots s m h order steady b setup epoch ticks w13 1 (omega arith) logged13 refl, each14)
 
-    each12 : Each (IsKept slots h 0 b) (IsAllowed m.setup None) w12 (Write 1 1 b1 true ∷ Sync 1 true ∷ Write 0 0 gc true ∷ Sync 0 true ∷ Write 1 0 gc true ∷ Sync 1 true ∷ [])
+    each12 : Each (HoldsWhileServing slots h 0 b) (IsAllowed m.setup None) w12 (Write 1 1 b1 true ∷ Sync 1 true ∷ Write 0 0 gc true ∷ Sync 0 true ∷ Write 1 0 gc true ∷ Sync 1 true ∷ [])
     each12 = (stage_kept slots s m h order steady b setup epoch ticks w12 stage12 refl (λ d. refl), allowed_write slots s m h order steady b setup epoch ticks w12 1 1 b1 (omega arith) logged12 refl, each13)
 
-    each11 : Each (IsKept slots h 0 b) (IsAllowed m.setup None) w11 (Sync 0 true ∷ Write 1 1 b1 true ∷ Sync 1 true ∷ Write 0 0 gc true ∷ Sync 0 true ∷ Write 1 0 gc true ∷ Sync 1 true ∷ [])
+    each11 : Each (HoldsWhileServing slots h 0 b) (IsAllowed m.setup None) w11 (Sync 0 true ∷ Write 1 1 b1 true ∷ Sync 1 true ∷ Write 0 0 gc true ∷ Sync 0 true ∷ Write 1 0 gc true ∷ Sync 1 true ∷ [])
     each11 = (stage_kept slots s m h order steady b setup epoch ticks w11 stage11 refl (λ d. refl), allowed_sync slots s m h order steady b setup epoch ticks w11 0 (omega arith) logged11 refl, each12)
 
-    each10 : Each (IsKept slots h 0 b) (IsAllowed m.setup None) w10 (Write 0 1 b1 true ∷ Sync 0 true ∷ Write 1 1 b1 true ∷ Sync 1 true ∷ Write 0 0 gc true ∷ Sync 0 true ∷ Write 1 0 gc true ∷ Sync 1 true ∷ [])
+    each10 : Each (HoldsWhileServing slots h 0 b) (IsAllowed m.setup None) w10 (Write 0 1 b1 true ∷ Sync 0 true ∷ Write 1 1 b1 true ∷ Sync 1 true ∷ Write 0 0 gc true ∷ Sync 0 true ∷ Write 1 0 gc true ∷ Sync 1 true ∷ [])
     each10 = (stage_kept slots s m h order steady b setup epoch ticks w10 stage10 refl (λ d. refl), allowed_write slots s m h order steady b setup epoch ticks w10 0 1 b1 (omega arith) logged10 refl, each11)
 
-    each9 : Each (IsKept slots h 0 b) (IsAllowed m.setup None) w9 (Sync 1 true ∷ Write 0 1 b1 true ∷ Sync 0 true ∷ Write 1 1 b1 true ∷ Sync 1 true ∷ Write 0 0 gc true ∷ Sync 0 true ∷ Write 1 0 gc true ∷ Sync 1 true ∷ [])
+    each9 : Each (HoldsWhileServing slots h 0 b) (IsAllowed m.setup None) w9 (Sync 1 true ∷ Write 0 1 b1 true ∷ Sync 0 true ∷ Write 1 1 b1 true ∷ Sync 1 true ∷ Write 0 0 gc true ∷ Sync 0 true ∷ Write 1 0 gc true ∷ Sync 1 true ∷ [])
     each9 = (stage_kept slots s m h order steady b setup epoch ticks w9 stage9 refl (λ d. refl), allowed_sync slots s m h order steady b setup epoch ticks w9 1 (omega arith) logged9 refl, each10)
 
-    each8 : Each (IsKept slots h 0 b) (IsAllowed m.setup None) w8 (Write 1 0 go true ∷ Sync 1 true ∷ Write 0 1 b1 true ∷ Sync 0 true ∷ Write 1 1 b1 true ∷ Sync 1 true ∷ Write 0 0 gc true ∷ Sync 0 true ∷ Write 1 0 gc true ∷ Sync 1 true ∷ [])
+    each8 : Each (HoldsWhileServing slots h 0 b) (IsAllowed m.setup None) w8 (Write 1 0 go true ∷ Sync 1 true ∷ Write 0 1 b1 true ∷ Sync 0 true ∷ Write 1 1 b1 true ∷ Sync 1 true ∷ Write 0 0 gc true ∷ Sync 0 true ∷ Write 1 0 gc true ∷ Sync 1 true ∷ [])
     each8 = (stage_kept slots s m h order steady b setup epoch ticks w8 stage8 refl (λ d. refl), allowed_write slots s m h order steady b setup epoch ticks w8 1 0 go (omega arith) logged8 refl, each9)
 
-    each7 : Each (IsKept slots h 0 b) (IsAllowed m.setup None) w7 (Sync 0 true ∷ Write 1 0 go true ∷ Sync 1 true ∷ Write 0 1 b1 true ∷ Sync 0 true ∷ Write 1 1 b1 true ∷ Sync 1 true ∷ Write 0 0 gc true ∷ Sync 0 true ∷ Write 1 0 gc true ∷ Sync 1 true ∷ [])
+    each7 : Each (HoldsWhileServing slots h 0 b) (IsAllowed m.setup None) w7 (Sync 0 true ∷ Write 1 0 go true ∷ Sync 1 true ∷ Write 0 1 b1 true ∷ Sync 0 true ∷ Write 1 1 b1 true ∷ Sync 1 true ∷ Write 0 0 gc true ∷ Sync 0 true ∷ Write 1 0 gc true ∷ Sync 1 true ∷ [])
     each7 = (stage_kept slots s m h order steady b setup epoch ticks w7 stage7 refl (λ d. refl), allowed_sync slots s m h order steady b setup epoch ticks w7 0 (omega arith) logged7 refl, each8)
 
-    each6 : Each (IsKept slots h 0 b) (IsAllowed m.setup None) w6 (Write 0 0 go true ∷ Sync 0 true ∷ Write 1 0 go true ∷ Sync 1 true ∷ Write 0 1 b1 true ∷ Sync 0 true ∷ Write 1 1 b1 true ∷ Sync 1 true ∷ Write 0 0 gc true ∷ Sync 0 true ∷ Write 1 0 gc true ∷ Sync 1 true ∷ [])
+    each6 : Each (HoldsWhileServing slots h 0 b) (IsAllowed m.setup None) w6 (Write 0 0 go true ∷ Sync 0 true ∷ Write 1 0 go true ∷ Sync 1 true ∷ Write 0 1 b1 true ∷ Sync 0 true ∷ Write 1 1 b1 true ∷ Sync 1 true ∷ Write 0 0 gc true ∷ Sync 0 true ∷ Write 1 0 gc true ∷ Sync 1 true ∷ [])
     each6 = (stage_kept slots s m h order steady b setup epoch ticks w6 stage6 refl (λ d. refl), allowed_write slots s m h order steady b setup epoch ticks w6 0 0 go (omega arith) logged6 refl, each7)
 
-    each5 : Each (IsKept slots h 0 b) (IsAllowed m.setup None) w5 (Sync 1 true ∷ Write 0 0 go true ∷ Sync 0 true ∷ Write 1 0 go true ∷ Sync 1 true ∷ Write 0 1 b1 true ∷ Sync 0 true ∷ Write 1 1 b1 true ∷ Sync 1 true ∷ Write 0 0 gc true ∷ Sync 0 true ∷ Write 1 0 gc true ∷ Sync 1 true ∷ [])
+    each5 : Each (HoldsWhileServing slots h 0 b) (IsAllowed m.setup None) w5 (Sync 1 true ∷ Write 0 0 go true ∷ Sync 0 true ∷ Write 1 0 go true ∷ Sync 1 true ∷ Write 0 1 b1 true ∷ Sync 0 true ∷ Write 1 1 b1 true ∷ Sync 1 true ∷ Write 0 0 gc true ∷ Sync 0 true ∷ Write 1 0 gc true ∷ Sync 1 true ∷ [])
     each5 = (stage_kept slots s m h order steady b setup epoch ticks w5 stage5 refl (λ d. refl), allowed_sync slots s m h order steady b setup epoch ticks w5 1 (omega arith) logged5 refl, each6)
 
-    each4 : Each (IsKept slots h 0 b) (IsAllowed m.setup None) w4 (Write 1 3 b3 true ∷ Sync 1 true ∷ Write 0 0 go true ∷ Sync 0 true ∷ Write 1 0 go true ∷ Sync 1 true ∷ Write 0 1 b1 true ∷ Sync 0 true ∷ Write 1 1 b1 true ∷ Sync 1 true ∷ Write 0 0 gc true ∷ Sync 0 true ∷ Write 1 0 gc true ∷ Sync 1 true ∷ [])
+    each4 : Each (HoldsWhileServing slots h 0 b) (IsAllowed m.setup None) w4 (Write 1 3 b3 true ∷ Sync 1 true ∷ Write 0 0 go true ∷ Sync 0 true ∷ Write 1 0 go true ∷ Sync 1 true ∷ Write 0 1 b1 true ∷ Sync 0 true ∷ Write 1 1 b1 true ∷ Sync 1 true ∷ Write 0 0 gc true ∷ Sync 0 true ∷ Write 1 0 gc true ∷ Sync 1 true ∷ [])
     each4 = (stage_kept slots s m h order steady b setup epoch ticks w4 stage4 refl (λ d. refl), allowed_write slots s m h order steady b setup epoch ticks w4 1 3 b3 (omega arith) logged4 refl, each5)
 
-    each3 : Each (IsKept slots h 0 b) (IsAllowed m.setup None) w3 (Write 1 2 b1 true ∷ Write 1 3 b3 true ∷ Sync 1 true ∷ Write 0 0 go true ∷ Sync 0 true ∷ Write 1 0 go true ∷ Sync 1 true ∷ Write 0 1 b1 true ∷ Sync 0 true ∷ Write 1 1 b1 true ∷ Sync 1 true ∷ Write 0 0 gc true ∷ Sync 0 true ∷ Write 1 0 gc true ∷ Sync 1 true ∷ [])
+    each3 : Each (HoldsWhileServing slots h 0 b) (IsAllowed m.setup None) w3 (Write 1 2 b1 true ∷ Write 1 3 b3 true ∷ Sync 1 true ∷ Write 0 0 go true ∷ Sync 0 true ∷ Write 1 0 go true ∷ Sync 1 true ∷ Write 0 1 b1 true ∷ Sync 0 true ∷ Write 1 1 b1 true ∷ Sync 1 true ∷ Write 0 0 gc true ∷ Sync 0 true ∷ Write 1 0 gc true ∷ Sync 1 true ∷ [])
     each3 = (stage_kept slots s m h order steady b setup epoch ticks w3 stage3 refl (λ d. refl), allowed_write slots s m h order steady b setup epoch ticks w3 1 2 b1 (omega arith) logged3 refl, each4)
 
-    each2 : Each (IsKept slots h 0 b) (IsAllowed m.setup None) w2 (Sync 0 true ∷ Write 1 2 b1 true ∷ Write 1 3 b3 true ∷ Sync 1 true ∷ Write 0 0 go true ∷ Sync 0 true ∷ Write 1 0 go true ∷ Sync 1 true ∷ Write 0 1 b1 true ∷ Sync 0 true ∷ Write 1 1 b1 true ∷ Sync 1 true ∷ Write 0 0 gc true ∷ Sync 0 true ∷ Write 1 0 gc true ∷ Sync 1 true ∷ [])
+    each2 : Each (HoldsWhileServing slots h 0 b) (IsAllowed m.setup None) w2 (Sync 0 true ∷ Write 1 2 b1 true ∷ Write 1 3 b3 true ∷ Sync 1 true ∷ Write 0 0 go true ∷ Sync 0 true ∷ Write 1 0 go true ∷ Sync 1 true ∷ Write 0 1 b1 true ∷ Sync 0 true ∷ Write 1 1 b1 true ∷ Sync 1 true ∷ Write 0 0 gc true ∷ Sync 0 true ∷ Write 1 0 gc true ∷ Sync 1 true ∷ [])
     each2 = (stage_kept slots s m h order steady b setup epoch ticks w2 stage2 refl (λ d. refl), allowed_sync slots s m h order steady b setup epoch ticks w2 0 (omega arith) logged2 refl, each3)
 
-    each1 : Each (IsKept slots h 0 b) (IsAllowed m.setup None) w1 (Write 0 3 b3 true ∷ Sync 0 true ∷ Write 1 2 b1 true ∷ Write 1 3 b3 true ∷ Sync 1 true ∷ Write 0 0 go true ∷ Sync 0 true ∷ Write 1 0 go true ∷ Sync 1 true ∷ Write 0 1 b1 true ∷ Sync 0 true ∷ Write 1 1 b1 true ∷ Sync 1 true ∷ Write 0 0 gc true ∷ Sync 0 true ∷ Write 1 0 gc true ∷ Sync 1 true ∷ [])
+    each1 : Each (HoldsWhileServing slots h 0 b) (IsAllowed m.setup None) w1 (Write 0 3 b3 true ∷ Sync 0 true ∷ Write 1 2 b1 true ∷ Write 1 3 b3 true ∷ Sync 1 true ∷ Write 0 0 go true ∷ Sync 0 true ∷ Write 1 0 go true ∷ Sync 1 true ∷ Write 0 1 b1 true ∷ Sync 0 true ∷ Write 1 1 b1 true ∷ Sync 1 true ∷ Write 0 0 gc true ∷ Sync 0 true ∷ Write 1 0 gc true ∷ Sync 1 true ∷ [])
     each1 = (stage_kept slots s m h order steady b setup epoch ticks w1 stage1 refl (λ d. refl), allowed_write slots s m h order steady b setup epoch ticks w1 0 3 b3 (omega arith) logged1 refl, each2)
 
     -- each moment and each call of the commit
-    pub each0 : Each (IsKept slots h 0 b) (IsAllowed m.setup None) w0 (Write 0 2 b1 true ∷ Write 0 3 b3 true ∷ Sync 0 true ∷ Write 1 2 b1 true ∷ Write 1 3 b3 true ∷ Sync 1 true ∷ Write 0 0 go true ∷ Sync 0 true ∷ Write 1 0 go true ∷ Sync 1 true ∷ Write 0 1 b1 true ∷ Sync 0 true ∷ Write 1 1 b1 true ∷ Sync 1 true ∷ Write 0 0 gc true ∷ Sync 0 true ∷ Write 1 0 gc true ∷ Sync 1 true ∷ [])
+    pub each0 : Each (HoldsWhileServing slots h 0 b) (IsAllowed m.setup None) w0 (Write 0 2 b1 true ∷ Write 0 3 b3 true ∷ Sync 0 true ∷ Write 1 2 b1 true ∷ Write 1 3 b3 true ∷ Sync 1 true ∷ Write 0 0 go true ∷ Sync 0 true ∷ Write 1 0 go true ∷ Sync 1 true ∷ Write 0 1 b1 true ∷ Sync 0 true ∷ Write 1 1 b1 true ∷ Sync 1 true ∷ Write 0 0 gc true ∷ Sync 0 true ∷ Write 1 0 gc true ∷ Sync 1 true ∷ [])
     each0 = (stage_kept slots s m h order steady b setup epoch ticks w0 stage0 refl (λ d. refl), allowed_write slots s m h order steady b setup epoch ticks w0 0 2 b1 (omega arith) logged0 refl, each1)

@@ -12,8 +12,8 @@ use Rattle.paraid_base.specs.declared.state.Out.{Out}
 use Rattle.paraid_base.specs.declared.state.Out.TheVariants.{No, Gone}
 use Rattle.paraid_base.specs.declared.state.Phase.TheVariants.{Steady}
 use Rattle.paraid_base.specs.History.{Entry, History}
-use Rattle.paraid_base.specs.Pairs.{one, pairs_of}
-use Rattle.paraid_base.specs.Xor.{zeroed}
+use Rattle.paraid_base.specs.Pairs.{single_pair, pairs_of}
+use Rattle.paraid_base.specs.Xor.{zero_block}
 use Rattle.paraid_rack.specs.declared.call.Call.{Call}
 use Rattle.paraid_rack.specs.declared.call.Call.TheVariants.{Read, SpinUp, Attach}
 use Rattle.paraid_rack.specs.declared.call.Power.{Power}
@@ -23,48 +23,48 @@ use Rattle.paraid_rack.proofs.AtomsLemmas.{with_at_same, with_at_other}
 use Rattle.paraid_record.specs.declared.meta.Meta.{Meta}
 use Rattle.paraid_record.specs.declared.meta.Setup.{Setup}
 use Rattle.paraid_record.specs.Range.{IsInRange, has_out}
-use Rattle.paraid_image.specs.Entry.{IsEntry}
-use Rattle.paraid_image.specs.HeldAt.{IsHeld, IsSound, MayLose}
+use Rattle.paraid_image.specs.RunStart.{IsRunStart}
+use Rattle.paraid_image.specs.HeldAt.{IsHeld, IsSoundFrom, MayLose}
 use Rattle.paraid_image.specs.Looked.IsLooked.{lost as lost_image}
 use Rattle.paraid_image.specs.Out.{IsMissing, first_absent, named_out, or_else, out_disk}
-use Rattle.paraid_image.specs.Power.{State, gone_of, initial_state, out_after, out_state, phase_beside, power_of, state_by}
+use Rattle.paraid_image.specs.Power.{PowerState, gone_of, initial_state, out_after, out_state, phase_beside, power_of, state_by}
 use Rattle.paraid_image.specs.Rest.{IsAtRest, closed_over}
 use Rattle.paraid_image.specs.Shown.{IsShown}
-use Rattle.paraid_image.specs.Sides.{Said, Says}
+use Rattle.paraid_image.specs.Sides.{LogState, Says}
 use Rattle.paraid_image.specs.Sound.{LogOk}
 use Rattle.paraid_image.specs.Spot.{rising_to}
 use Rattle.paraid_image.specs.Standing.{Stands}
-use Rattle.paraid_image.proofs.HeldLemmas.{image_of_dry}
+use Rattle.paraid_image.proofs.HeldLemmas.{image_of_synced}
 use Rattle.paraid_image.proofs.LookedLemmas.{entry_of_weak, held_lost, weak_lost}
 use Rattle.paraid_image.proofs.OutLemmas.{missing_is_out}
-use Rattle.paraid_image.proofs.StepLemmas.{says_of_lost}
-use Rattle.paraid_machine.specs.Machine.{IsStep, Outcomes, around_loss, block_count, blocks_named, first_missing, if_alone, outcomes, serve}
-use Rattle.paraid_machine.specs.Moves.{all_written, counted, lost}
-use Rattle.paraid_session.specs.Mount.{IsBegun, IsMounted, entry_watch, mount_bounds}
-use Rattle.paraid_session.specs.Mount.Begins.{quietly}
+use Rattle.paraid_image.proofs.CallLemmas.{says_of_lost}
+use Rattle.paraid_machine.specs.Machine.{IsEventStep, Outcomes, around_loss, block_count, blocks_named, first_missing, if_alone, outcomes, serve}
+use Rattle.paraid_machine.specs.Moves.{all_written, with_one_served, after_loss}
+use Rattle.paraid_session.specs.Mount.{IsBegun, IsMounted, start_watch, mount_bounds}
+use Rattle.paraid_session.specs.Mount.BeginsSession.{quietly}
 use Rattle.paraid_session.specs.Mount.IsBase.{alone}
 use Rattle.paraid_session.specs.Turn.{IsMark, IsTurn, Point, bounds_of, watch_of}
 use Rattle.paraid_session.specs.Turn.IsTurn.{answered}
-use Rattle.paraid_session.specs.Watch.{IsAllowed, IsKept, Watch, down_of, nobody, only, watch, with_down}
+use Rattle.paraid_session.specs.Watch.{IsAllowed, HoldsWhileServing, Watch, down_from_out, nobody, only, watch, with_down}
 use Rattle.paraid_session.proofs.CalmLemmas.{IsCalm, calm_within, says_meta, used_is}
 use Rattle.paraid_session.proofs.PointLemmas.{IsCalmState, IsWhole, calm_kept, calm_mark, calm_more, may_lose, point}
 
 -- a write of zeros to the first block
 abbrev pub zeros : Pairs
-zeros = one 0 zeroed
+zeros = single_pair 0 zero_block
 
 -- the state after it
-abbrev pub after_write : Meta → State → State
-after_write m s = counted (all_written m.setup.geometry.disks (blocks_named (pairs_of zeros)) s)
+abbrev pub after_write : Meta → PowerState → PowerState
+after_write m s = with_one_served (all_written m.setup.geometry.disks (blocks_named (pairs_of zeros)) s)
 
-served : (missing : Option ℕ) (s : State) (f : State → Answer × State) → missing ≡ None → Contains (serve missing None s f) (f s)
+served : (missing : Option ℕ) (s : PowerState) (f : PowerState → Answer × PowerState) → missing ≡ None → Contains (serve missing None s f) (f s)
 served missing s f is = rw is (0, omega arith, refl)
 
-lost_first : (o : Out) (os : Outcomes) (it : Answer × State) → o ≡ No → Contains os it → Contains (if_alone o 2 os) it
+lost_first : (o : Out) (os : Outcomes) (it : Answer × PowerState) → o ≡ No → Contains os it → Contains (if_alone o 2 os) it
 lost_first o os it is among = rw is among
 
-served_lost : (missing : Option ℕ) (s : State) (f : State → Answer × State) → missing ≡ None → s.out ≡ No → Contains (serve missing (Some 2) s f) (f (lost s 2))
-served_lost missing s f is out = rw is (lost_first s.out (around_loss 2 s f) (f (lost s 2)) out (0, omega arith, refl))
+served_lost : (missing : Option ℕ) (s : PowerState) (f : PowerState → Answer × PowerState) → missing ≡ None → s.out ≡ No → Contains (serve missing (Some 2) s f) (f (after_loss s 2))
+served_lost missing s f is out = rw is (lost_first s.out (around_loss 2 s f) (f (after_loss s 2)) out (0, omega arith, refl))
 
 positive : (a b : ℕ) → 1 ≤ a → 1 ≤ b → 0 < a * b
 positive zero b low other = absurd (omega (arith, low))
@@ -74,25 +74,25 @@ there_is : (n : ℕ) → 0 < n → ◌≡◌ {A = Option ℕ} (if nat_lt 0 n the
 there_is n l = let is : nat_lt 0 n ≡ true = grind (arith, nat_tests) in rw is refl
 
 none_missing : (setup : Setup) → first_missing (block_count setup) (blocks_named (pairs_of zeros)) ≡ None
-unfolding pairs_of one
+unfolding pairs_of single_pair
 none_missing setup =
     let rows = setup.geometry.rows_low in
     let disks = setup.geometry.disks_low in
     there_is (block_count setup) (positive setup.geometry.rows (setup.geometry.disks - 1) rows (omega (arith, disks)))
 
-write_step : (m : Meta) (h : History) (used : ℕ) (s : State) → IsStep m.setup h used s (Write zeros) None (Wrote (length h + 1)) (after_write m s)
+write_step : (m : Meta) (h : History) (used : ℕ) (s : PowerState) → IsEventStep m.setup h used s (Write zeros) None (Wrote (length h + 1)) (after_write m s)
 unfolding outcomes
 write_step m h used s = record { among = served _ s _ (none_missing m.setup) }
 
-lossy_step : (m : Meta) (h : History) (used : ℕ) (s : State) → s.out ≡ No → IsStep m.setup h used s (Write zeros) (Some 2) (Wrote (length h + 1)) (after_write m (lost s 2))
+lossy_step : (m : Meta) (h : History) (used : ℕ) (s : PowerState) → s.out ≡ No → IsEventStep m.setup h used s (Write zeros) (Some 2) (Wrote (length h + 1)) (after_write m (after_loss s 2))
 unfolding outcomes
 lossy_step m h used s out = record { among = served_lost _ s _ (none_missing m.setup) out }
 
 no_bad : Write zeros ≢ Bad
 no_bad e = cc
 
-write_calm : (m : Meta) (s : State) → IsCalmState m s → IsCalmState m (after_write m s)
-unfolding pairs_of one
+write_calm : (m : Meta) (s : PowerState) → IsCalmState m s → IsCalmState m (after_write m s)
+unfolding pairs_of single_pair
 write_calm m s c = record { gear = c.gear; phase = c.phase; fill = c.fill; out = c.out; spins = c.spins; ticks = c.ticks }
 
 -- the entry of the write
@@ -100,7 +100,7 @@ abbrev pub entry : Entry
 entry = pairs_of zeros
 
 -- disk 2 is gone, and else the state shows the meta
-pub record IsGoneState (m : Meta) (s : State) : Type 0 where
+pub record IsGoneState (m : Meta) (s : PowerState) : Type 0 where
   pub gear : s.gear ≡ m.gear
   pub phase : s.phase ≡ Steady
   pub fill : ◌≡◌ {A = ℕ} s.fill 0
@@ -108,7 +108,7 @@ pub record IsGoneState (m : Meta) (s : State) : Type 0 where
   pub spins : s.spins ≡ m.spins
   pub ticks : s.ticks ≡ m.ticks
 
-module _ (slots : ℕ) (t : Disks) (m : Meta) (h : History) (lo : ℕ) (calm : IsCalm slots t m h lo None) (all : IsWhole t m) (s : State) (c : IsCalmState m s)
+module _ (slots : ℕ) (t : Disks) (m : Meta) (h : History) (lo : ℕ) (calm : IsCalm slots t m h lo None) (all : IsWhole t m) (s : PowerState) (c : IsCalmState m s)
     (small : max m.epoch (length h) < 2 ^ 62) where
   abbrev longer : IsCalm slots t m (h ++ entry ∷ []) lo None
   longer = calm_more slots t m h (entry ∷ []) lo None calm
@@ -116,10 +116,10 @@ module _ (slots : ℕ) (t : Disks) (m : Meta) (h : History) (lo : ℕ) (calm : I
   abbrev p : Point
   p = point t m h lo s
 
-  nobody_is : down_of (named_out s.out) ≡ nobody
-  nobody_is = ap (λ (o : Out). down_of (named_out o)) c.out
+  nobody_is : down_from_out (named_out s.out) ≡ nobody
+  nobody_is = ap (λ (o : Out). down_from_out (named_out o)) c.out
 
-  kept_first : IsKept slots (h ++ entry ∷ []) lo (bounds_of m.setup p (Write zeros)) (watch_of p (Write zeros) (Wrote (length h + 1)))
+  kept_first : HoldsWhileServing slots (h ++ entry ∷ []) lo (bounds_of m.setup p (Write zeros)) (watch_of p (Write zeros) (Wrote (length h + 1)))
   kept_first = calm_kept slots t m (h ++ entry ∷ []) lo longer all _ _ refl nobody_is (λ d. refl) refl (omega arith) (omega (arith, c.ticks))
 
   -- The write is accepted, and makes no call.
@@ -154,10 +154,10 @@ module _ (slots : ℕ) (t : Disks) (m : Meta) (h : History) (lo : ℕ) (calm : I
     may = may_lose slots t m g lo with_g all 2 low_two
 
     held_less : IsHeld slots less g lo (Some 2)
-    held_less = held_lost slots t t g lo 2 None (image_of_dry t with_g.dry) may with_g.held
+    held_less = held_lost slots t t g lo 2 None (image_of_synced t with_g.synced) may with_g.held
 
-    sound_less : IsSound slots less g lo
-    sound_less = with_g.held.lost t 2 (image_of_dry t with_g.dry) may
+    sound_less : IsSoundFrom slots less g lo
+    sound_less = with_g.held.lost t 2 (image_of_synced t with_g.synced) may
 
     abbrev log_less : LogOk less sound_less.sound.disk sound_less.sound.said sound_less.k
     log_less = sound_less.sound.log
@@ -167,13 +167,13 @@ module _ (slots : ℕ) (t : Disks) (m : Meta) (h : History) (lo : ℕ) (calm : I
         (says_of_lost t 2 sound_less.sound.disk sound_less.sound.said log_less.stands.says)
 
     log_now : LogOk less sound_less.sound.disk (closed_over m) m.writes
-    log_now = subst (λ (z : Said). LogOk less sound_less.sound.disk z z.meta.writes) said_less
+    log_now = subst (λ (z : LogState). LogOk less sound_less.sound.disk z z.meta.writes) said_less
         (subst (λ (k : ℕ). LogOk less sound_less.sound.disk sound_less.sound.said k) (sym log_less.writes) log_less)
 
     says_here : (x : ℕ) → x < 2 → IsPresent less x → Says less x (closed_over m)
     says_here x low there =
         let formed = log_now.formed x low there (not_out_less x there) in
-        subst (λ (z : Said). Says less x z) (says_meta slots t m g lo None with_g x formed.0 low (says_of_lost t 2 x formed.0 formed.1)) formed.1
+        subst (λ (z : LogState). Says less x z) (says_meta slots t m g lo None with_g x formed.0 low (says_of_lost t 2 x formed.0 formed.1)) formed.1
       where
         not_out_less : (x : ℕ) → IsPresent less x → out_disk less.power m ≢ Some x
         not_out_less x there e =
@@ -207,17 +207,17 @@ module _ (slots : ℕ) (t : Disks) (m : Meta) (h : History) (lo : ℕ) (calm : I
 
     rest_less : IsAtRest less m
     rest_less = record {
-      dry = λ d p here. with_g.dry d p;
+      synced = λ d p here. with_g.synced d p;
       disk = sound_less.sound.disk;
       log = log_now;
       shut = λ x low here not. (says_here x low here).gate;
     }
 
     calm_less : IsCalm slots less m g lo (Some 2)
-    calm_less = record { held = held_less; rest = rest_less; dry = with_g.dry; no_out = calm.no_out; steady = calm.steady }
+    calm_less = record { held = held_less; rest = rest_less; synced = with_g.synced; no_out = calm.no_out; steady = calm.steady }
 
     -- a state in which disk 2 is gone, and that shows the meta else
-    shown_less : (q : State) → IsGoneState m q → IsShown q (initial_state less (closed_over m))
+    shown_less : (q : PowerState) → IsGoneState m q → IsShown q (initial_state less (closed_over m))
     unfolding state_by
     shown_less q c = record {
       gear = sym c.gear;
@@ -227,7 +227,7 @@ module _ (slots : ℕ) (t : Disks) (m : Meta) (h : History) (lo : ℕ) (calm : I
       spins = sym c.spins;
     }
 
-    powers_less : (q : State) → IsGoneState m q → (d : ℕ) (power : Power) → d < m.setup.geometry.disks → power_of q d ≡ Some power → less.power d ≡ power
+    powers_less : (q : PowerState) → IsGoneState m q → (d : ℕ) (power : Power) → d < m.setup.geometry.disks → power_of q d ≡ Some power → less.power d ≡ power
     powers_less q c d power low is = elim (cases_eq d 2) [
       | inl same ↦ let k : None ≡ Some power = sym (rw c.out (if_two d same)) ∙ is in cc
       | inr apart ↦ with_at_other t.power 2 Absent d apart ∙ all.spinning d low ∙ some_is Spinning power (sym (rw (c.out, c.gear) (if_other d apart low)) ∙ is)
@@ -245,7 +245,7 @@ module _ (slots : ℕ) (t : Disks) (m : Meta) (h : History) (lo : ℕ) (calm : I
         some_is : (a b : Power) → Some a ≡ Some b → a ≡ b
         some_is a b e = cc
 
-    pub mark_less : (q : State) (spun : ℕ → ℕ) (awaited : Option ℕ) → IsGoneState m q → IsMark slots m.setup (record { disks = less; history = g; low = lo; meta = m; state = q; energy = 0; spun = spun; awaited = awaited; halt = None })
+    pub mark_less : (q : PowerState) (spun : ℕ → ℕ) (awaited : Option ℕ) → IsGoneState m q → IsMark slots m.setup (record { disks = less; history = g; low = lo; meta = m; state = q; energy = 0; spun = spun; awaited = awaited; halt = None })
     mark_less q spun awaited c = record {
       held = subst (λ (o : Out). IsHeld slots less g lo (named_out o)) (sym c.out) held_less;
       rest = rest_less;
@@ -256,10 +256,10 @@ module _ (slots : ℕ) (t : Disks) (m : Meta) (h : History) (lo : ℕ) (calm : I
     }
 
   -- what a stop leaves then is an entry
-  pub lossy_entry : IsEntry slots less (h ++ entry ∷ []) lo (Some 2)
+  pub lossy_entry : IsRunStart slots less (h ++ entry ∷ []) lo (Some 2)
   lossy_entry =
-      let weak = weak_lost slots t (h ++ entry ∷ []) lo 2 (longer.held.whole t (image_of_dry t calm.dry)) (may (h ++ entry ∷ []) longer) (sound_less (h ++ entry ∷ []) longer) in
-      entry_of_weak slots t less (h ++ entry ∷ []) lo None 2 (lost_image t 2 (image_of_dry t calm.dry) (may (h ++ entry ∷ []) longer) refl) weak longer.held
+      let weak = weak_lost slots t (h ++ entry ∷ []) lo 2 (longer.held.whole t (image_of_synced t calm.synced)) (may (h ++ entry ∷ []) longer) (sound_less (h ++ entry ∷ []) longer) in
+      entry_of_weak slots t less (h ++ entry ∷ []) lo None 2 (lost_image t 2 (image_of_synced t calm.synced) (may (h ++ entry ∷ []) longer) refl) weak longer.held
 
   abbrev call : Call
   call = Read 2 101 false
@@ -274,15 +274,15 @@ module _ (slots : ℕ) (t : Disks) (m : Meta) (h : History) (lo : ℕ) (calm : I
     history = h ++ entry ∷ [];
     low = lo;
     meta = m;
-    state = after_write m (lost s 2);
+    state = after_write m (after_loss s 2);
     energy = 0;
     spun = λ d. slice_index m.spins d;
     awaited = None;
     halt = None;
   }
 
-  gone_state : IsGoneState m (after_write m (lost s 2))
-  unfolding pairs_of one
+  gone_state : IsGoneState m (after_write m (after_loss s 2))
+  unfolding pairs_of single_pair
   gone_state = record { gear = c.gear; phase = ap (phase_beside true) c.phase; fill = refl; out = refl; spins = c.spins; ticks = c.ticks }
 
   allowed : IsAllowed m.setup None watch_first call
@@ -297,7 +297,7 @@ module _ (slots : ℕ) (t : Disks) (m : Meta) (h : History) (lo : ℕ) (calm : I
   down_then : (watch call watch_first).down ≡ only 2
   down_then = ap (with_down 2) nobody_is
 
-  kept_then : IsKept slots (h ++ entry ∷ []) lo (bounds_of m.setup p (Write zeros)) (watch call watch_first)
+  kept_then : HoldsWhileServing slots (h ++ entry ∷ []) lo (bounds_of m.setup p (Write zeros)) (watch call watch_first)
   unfolding step
   kept_then = record {
     held = rw down_then (held_less (h ++ entry ∷ []) longer);
@@ -314,7 +314,7 @@ module _ (slots : ℕ) (t : Disks) (m : Meta) (h : History) (lo : ℕ) (calm : I
     once = omega arith;
     quiet = λ q none. absurd (false≢true q);
     serving = rw down_then tt;
-    mark = mark_less (h ++ entry ∷ []) longer (after_write m (lost s 2)) _ _ gone_state;
+    mark = mark_less (h ++ entry ∷ []) longer (after_write m (after_loss s 2)) _ _ gone_state;
     flushed = λ f. absurd (false≢true f);
     disks = refl;
     history = refl;
@@ -376,20 +376,20 @@ module _ (slots : ℕ) (t : Disks) (m : Meta) (h : History) (lo : ℕ) (calm : I
   -- the log disk that stands can not be lost beside disk 2
   lost_alone : (x : ℕ) → x < 2 → MayLose less x → ⊥
   lost_alone x low again =
-      let weak = weak_lost slots t h lo 2 (calm.held.whole t (image_of_dry t calm.dry)) (may h calm) (sound_less h calm) in
+      let weak = weak_lost slots t h lo 2 (calm.held.whole t (image_of_synced t calm.synced)) (may h calm) (sound_less h calm) in
       let same : 2 ≡ x = again.weak 2 weak in omega (arith, same, low)
 
-  kept_next : IsKept slots (h ++ entry ∷ []) lo (mount_bounds (closed_over m) m.ticks) (entry_watch less (Some 2) (λ d. slice_index m.spins d))
+  kept_next : HoldsWhileServing slots (h ++ entry ∷ []) lo (mount_bounds (closed_over m) m.ticks) (start_watch less (Some 2) (λ d. slice_index m.spins d))
   kept_next = record {
     held = held_less (h ++ entry ∷ []) longer;
     within = λ serving. calm_within slots less m (h ++ entry ∷ []) lo (Some 2) (calm_less (h ++ entry ∷ []) longer) _ _ refl (omega arith) (omega arith) (λ d. refl);
   }
 
   -- The next run begins without disk 2, and with the writes that were kept.
-  pub next_mount : length h ≡ lo → m.writes ≡ lo → (x : ℕ) (said : Said) → Stands less x said → IsMounted slots less x said (h ++ entry ∷ []) lo (Some 2) [] (λ q. q ≡ next_point)
+  pub next_mount : length h ≡ lo → m.writes ≡ lo → (x : ℕ) (said : LogState) → Stands less x said → IsMounted slots less x said (h ++ entry ∷ []) lo (Some 2) [] (λ q. q ≡ next_point)
   next_mount full writes x said stands =
       let is : said ≡ closed_over m = says_meta slots t m h lo None calm x said stands.log_disk (says_of_lost t 2 x said stands.says) in
-      subst (λ (z : Said). IsMounted slots less x z (h ++ entry ∷ []) lo (Some 2) [] (λ q. q ≡ next_point)) (sym is) (record {
+      subst (λ (z : LogState). IsMounted slots less x z (h ++ entry ∷ []) lo (Some 2) [] (λ q. q ≡ next_point)) (sym is) (record {
         mounting = record {
           base = λ d. slice_index m.spins d;
           ticks = m.ticks;

@@ -19,12 +19,12 @@ use Rattle.paraid_record.specs.declared.meta.Setup.{Setup}
 use Rattle.paraid_image.specs.Rest.{IsAtRest, closed_over}
 use Rattle.paraid_image.specs.HeldAt.{IsHeld}
 use Rattle.paraid_image.specs.Out.{named_out}
-use Rattle.paraid_image.specs.Power.{State, initial_state, power_of}
-use Rattle.paraid_image.specs.Shown.{IsShown, with_flush, written}
+use Rattle.paraid_image.specs.Power.{PowerState, initial_state, power_of}
+use Rattle.paraid_image.specs.Shown.{IsShown, with_flush, accepted_write}
 use Rattle.paraid_machine.specs.Energy.{energy_after, tick_energy}
-use Rattle.paraid_machine.specs.Machine.{IsStep}
-use Rattle.paraid_machine.specs.Moves.{with_tick}
-use Rattle.paraid_session.specs.Watch.{Bounds, Down, Each, IsAllowed, IsKept, IsServing, Watch, attach_count, before_loss, down_of, fails_on, first_lost, watch_all, with_down}
+use Rattle.paraid_machine.specs.Machine.{IsEventStep}
+use Rattle.paraid_machine.specs.Moves.{state_with_tick}
+use Rattle.paraid_session.specs.Watch.{Bounds, Down, Each, IsAllowed, HoldsWhileServing, IsServing, Watch, attach_count, before_loss, down_from_out, fails_on, first_lost, watch_all, with_down}
 
 -- A session between two events: the disks; the writes that were accepted, and how many of them no
 -- stop takes away; the meta that stands; the state; the energy that was used; by disk the spin-ups
@@ -35,14 +35,14 @@ pub record Point : Type 0 where
   pub history : History
   pub low : ℕ
   pub meta : Meta
-  pub state : State
+  pub state : PowerState
   pub energy : ℕ
   pub spun : ℕ → ℕ
   pub awaited : Option ℕ
   pub halt : Option Halt
 
 -- the state that the disks show by the meta that stands
-abbrev pub state_at : Point → State
+abbrev pub state_at : Point → PowerState
 state_at p = initial_state p.disks (closed_over p.meta)
 
 -- What holds between two events: each stop leaves the writes; the disks are at rest under the meta
@@ -72,20 +72,20 @@ is_idle (Ration disk) = true
 is_idle event = false
 
 -- an answer for which no call is made, unless one fails
-abbrev pub is_quiet : Answer → Bool
-is_quiet (NoBlock block) = true
-is_quiet (Ticked report) = is_idle report.event
-is_quiet Top = true
-is_quiet Lowest = true
-is_quiet (Shifting to) = true
-is_quiet (IsOut disk) = true
-is_quiet (RationUsed disk) = true
-is_quiet (NoDisk disk) = true
-is_quiet (NotOut disk) = true
-is_quiet (IsState status disks) = true
-is_quiet (EnergyUsed total) = true
-is_quiet IsBad = true
-is_quiet answer = false
+abbrev pub makes_no_call : Answer → Bool
+makes_no_call (NoBlock block) = true
+makes_no_call (Ticked report) = is_idle report.event
+makes_no_call Top = true
+makes_no_call Lowest = true
+makes_no_call (Shifting to) = true
+makes_no_call (IsOut disk) = true
+makes_no_call (RationUsed disk) = true
+makes_no_call (NoDisk disk) = true
+makes_no_call (NotOut disk) = true
+makes_no_call (IsState status disks) = true
+makes_no_call (EnergyUsed total) = true
+makes_no_call IsBad = true
+makes_no_call answer = false
 
 -- an event that a halt may answer
 abbrev pub may_halt : Event → Bool
@@ -95,8 +95,8 @@ may_halt Bad = false
 may_halt event = true
 
 -- so many commits or writes were made
-abbrev pub wear : Point → ℕ
-wear p = max p.meta.epoch (length p.history)
+abbrev pub point_wear : Point → ℕ
+point_wear p = max p.meta.epoch (length p.history)
 
 -- the disk that an event asks to replace
 abbrev pub replaced_by : Event → Option ℕ
@@ -124,7 +124,7 @@ taken_out event answer down = down
 abbrev pub watch_of : Point → Event → Answer → Watch
 watch_of p event answer = record {
   disks = p.disks;
-  down = taken_out event answer (down_of (named_out p.state.out));
+  down = taken_out event answer (down_from_out (named_out p.state.out));
   spun = p.spun;
   awaited = p.awaited;
 }
@@ -135,27 +135,27 @@ awaited_by (Failed d) awaited = Some d
 awaited_by answer awaited = awaited
 
 -- what bounds the metas that stand during an event
-abbrev pub bounds_at : Setup → Point → State → Bounds
+abbrev pub bounds_at : Setup → Point → PowerState → Bounds
 bounds_at setup p s = record { setup = setup; epoch = p.meta.epoch + 2 ^ 20; ticks = s.ticks }
 
 -- a tick counts itself first
 abbrev pub bounds_of : Setup → Point → Event → Bounds
-bounds_of setup p Tick = bounds_at setup p (with_tick p.state)
+bounds_of setup p Tick = bounds_at setup p (state_with_tick p.state)
 bounds_of setup p event = bounds_at setup p p.state
 
 -- An event that is answered with no halt. In its calls each stop leaves the writes after it.
 pub record IsAnswered (slots : ℕ) (setup : Setup) (p : Point) (event : Event) (answer : Answer) (calls : List Call) (q : Point) : Type 0 where
-  pub fit : may_halt event ≡ true → wear p < 2 ^ 62
-  pub machine : IsStep setup p.history p.energy p.state event (first_lost calls) answer q.state
-  pub moments : Each (IsKept slots q.history p.low (bounds_of setup p event)) (IsAllowed setup (replaced_by event)) (watch_of p event answer) calls
+  pub fit : may_halt event ≡ true → point_wear p < 2 ^ 62
+  pub machine : IsEventStep setup p.history p.energy p.state event (first_lost calls) answer q.state
+  pub moments : Each (HoldsWhileServing slots q.history p.low (bounds_of setup p event)) (IsAllowed setup (replaced_by event)) (watch_of p event answer) calls
   pub once : attach_count calls ≤ 1
-  pub quiet : is_quiet answer ≡ true → first_lost calls ≡ None → calls ≡ []
+  pub quiet : makes_no_call answer ≡ true → first_lost calls ≡ None → calls ≡ []
   -- one disk at most is down after it
   pub serving : IsServing (watch_all calls (watch_of p event answer)).down
   pub mark : IsMark slots setup q
   pub flushed : is_flush answer ≡ true → AreDirtyShown setup q
   pub disks : q.disks ≡ run p.disks calls
-  pub history : q.history ≡ p.history ++ written event answer
+  pub history : q.history ≡ p.history ++ accepted_write event answer
   pub low : q.low ≡ with_flush p.low answer
   pub energy : q.energy ≡ energy_after setup p.energy p.state answer
   pub spun : q.spun ≡ (watch_all calls (watch_of p event answer)).spun
@@ -163,54 +163,54 @@ pub record IsAnswered (slots : ℕ) (setup : Setup) (p : Point) (event : Event) 
   pub going : q.halt ≡ None
 
 -- this may come of the event where no call fails
-abbrev pub IsUnhurt : Setup → Point → Event → Answer → State → Type 0
-IsUnhurt setup p event answer new = IsStep setup p.history p.energy p.state event None answer new
+abbrev pub IsUnhurt : Setup → Point → Event → Answer → PowerState → Type 0
+IsUnhurt setup p event answer new = IsEventStep setup p.history p.energy p.state event None answer new
 
 -- Why the first of two disks is down: it was out; or none was, and it is the first that failed; or
 -- it is taken out, where all writes were kept before any call failed.
-pub data IsFirst (slots : ℕ) (setup : Setup) (p : Point) (event : Event) (calls : List Call) (d : ℕ) : Type 0 where
-  out : named_out p.state.out ≡ Some d → IsFirst slots setup p event calls d
-  lost : named_out p.state.out ≡ None → first_lost calls ≡ Some d → IsFirst slots setup p event calls d
+pub data IsFirstDown (slots : ℕ) (setup : Setup) (p : Point) (event : Event) (calls : List Call) (d : ℕ) : Type 0 where
+  out : named_out p.state.out ≡ Some d → IsFirstDown slots setup p event calls d
+  lost : named_out p.state.out ≡ None → first_lost calls ≡ Some d → IsFirstDown slots setup p event calls d
   taken : named_out p.state.out ≡ None → event ≡ Fail d → d < setup.geometry.disks
       → IsHeld slots (run p.disks (before_loss calls)) p.history (length p.history) (Some d)
-      → IsFirst slots setup p event calls d
+      → IsFirstDown slots setup p event calls d
 
 -- what a tick uses by itself
-abbrev pub own_energy : Setup → State → Event → ℕ
+abbrev pub own_energy : Setup → PowerState → Event → ℕ
 own_energy setup s Tick = tick_energy setup s
 own_energy setup s event = 0
 
 -- the energy after an event in which a second disk is lost: a begin may have used its spin-ups
-pub data IsTwoEnergy (setup : Setup) (p : Point) (event : Event) (energy : ℕ) : Type 0 where
-  own : energy ≡ min (p.energy + own_energy setup p.state event) 18446744073709551615 → IsTwoEnergy setup p event energy
-  begun : (answer : Answer) (new : State) → IsUnhurt setup p event answer new
-      → energy ≡ energy_after setup p.energy p.state answer → IsTwoEnergy setup p event energy
+pub data IsSecondLossEnergy (setup : Setup) (p : Point) (event : Event) (energy : ℕ) : Type 0 where
+  own : energy ≡ min (p.energy + own_energy setup p.state event) 18446744073709551615 → IsSecondLossEnergy setup p event energy
+  begun : (answer : Answer) (new : PowerState) → IsUnhurt setup p event answer new
+      → energy ≡ energy_after setup p.energy p.state answer → IsSecondLossEnergy setup p event energy
 
 -- the gear after it: a shift may have ended
-pub data IsTwoGear (setup : Setup) (p : Point) (event : Event) (gear : ℕ) : Type 0 where
-  same : gear ≡ p.state.gear → IsTwoGear setup p event gear
-  flipped : (answer : Answer) (new : State) → IsUnhurt setup p event answer new → gear ≡ new.gear → IsTwoGear setup p event gear
+pub data IsSecondLossGear (setup : Setup) (p : Point) (event : Event) (gear : ℕ) : Type 0 where
+  same : gear ≡ p.state.gear → IsSecondLossGear setup p event gear
+  flipped : (answer : Answer) (new : PowerState) → IsUnhurt setup p event answer new → gear ≡ new.gear → IsSecondLossGear setup p event gear
 
 -- A second disk is lost, in an event that makes calls. Its write is not accepted.
-pub record IsTwo (slots : ℕ) (setup : Setup) (p : Point) (event : Event) (two : Two) (calls : List Call) (q : Point) : Type 0 where
-  pub fit : wear p < 2 ^ 62
-  pub first : IsFirst slots setup p event calls two.first
+pub record LosesSecondDisk (slots : ℕ) (setup : Setup) (p : Point) (event : Event) (two : Two) (calls : List Call) (q : Point) : Type 0 where
+  pub fit : point_wear p < 2 ^ 62
+  pub first : IsFirstDown slots setup p event calls two.first
   pub second : fails_on two.second calls ≡ true
   pub apart : two.first ≢ two.second
-  pub busy : (answer : Answer) (new : State) → IsUnhurt setup p event answer new → is_quiet answer ≡ false
-  pub moments : Each (IsKept slots p.history p.low (bounds_of setup p event)) (IsAllowed setup (replaced_by event)) (watch_of p event (Halted (HaltTwo two))) calls
+  pub busy : (answer : Answer) (new : PowerState) → IsUnhurt setup p event answer new → makes_no_call answer ≡ false
+  pub moments : Each (HoldsWhileServing slots p.history p.low (bounds_of setup p event)) (IsAllowed setup (replaced_by event)) (watch_of p event (Halted (HaltTwo two))) calls
   pub once : attach_count calls ≤ 1
   pub disks : q.disks ≡ run p.disks calls
   pub history : q.history ≡ p.history
-  pub gear : IsTwoGear setup p event q.state.gear
-  pub energy : IsTwoEnergy setup p event q.energy
+  pub gear : IsSecondLossGear setup p event q.state.gear
+  pub energy : IsSecondLossEnergy setup p event q.energy
   pub halted : q.halt ≡ Some (HaltTwo two)
 
 -- the array takes no more: so many commits or writes were made, the greater of the two
 pub record IsWorn (p : Point) (event : Event) (count : ℕ) : Type 0 where
   pub asked : may_halt event ≡ true
   pub many : 2 ^ 62 ≤ count
-  pub is : count ≡ wear p
+  pub is : count ≡ point_wear p
 
 abbrev pub with_halt : Point → Halt → Point
 with_halt p halt = record p { halt = Some halt }
@@ -218,7 +218,7 @@ with_halt p halt = record p { halt = Some halt }
 -- An event from one point of a session to the next.
 pub data IsTurn (slots : ℕ) (setup : Setup) (p : Point) (event : Event) (answer : Answer) (calls : List Call) (q : Point) : Type 0 where
   answered : p.halt ≡ None → event ≢ Bad → IsAnswered slots setup p event answer calls q → IsTurn slots setup p event answer calls q
-  two : (two : Two) → p.halt ≡ None → event ≢ Bad → answer ≡ Halted (HaltTwo two) → IsTwo slots setup p event two calls q → IsTurn slots setup p event answer calls q
+  two : (two : Two) → p.halt ≡ None → event ≢ Bad → answer ≡ Halted (HaltTwo two) → LosesSecondDisk slots setup p event two calls q → IsTurn slots setup p event answer calls q
   worn : (count : ℕ) → p.halt ≡ None → event ≢ Bad → answer ≡ Halted (Worn count) → IsWorn p event count → calls ≡ [] → q ≡ with_halt p (Worn count)
       → IsTurn slots setup p event answer calls q
   again : (halt : Halt) → p.halt ≡ Some halt → event ≢ Bad → answer ≡ Halted halt → calls ≡ [] → q ≡ p → IsTurn slots setup p event answer calls q

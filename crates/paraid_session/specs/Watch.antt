@@ -8,11 +8,11 @@ use Rattle.paraid_rack.specs.Disks.{Disks, IsPresent, step}
 use Rattle.paraid_rack.specs.Lawful.{IsLawful}
 use Rattle.paraid_record.specs.declared.meta.Meta.{Meta}
 use Rattle.paraid_record.specs.declared.meta.Setup.{Setup}
-use Rattle.paraid_image.specs.Calls.{counted, disk_of, is_attach, is_done}
+use Rattle.paraid_image.specs.Calls.{spin_ups_after, disk_of, is_attach, is_done}
 use Rattle.paraid_image.specs.HeldAt.{IsHeld}
 use Rattle.paraid_image.specs.Looked.{IsLooked}
 use Rattle.paraid_image.specs.Out.{named_out}
-use Rattle.paraid_image.specs.Sides.{Said}
+use Rattle.paraid_image.specs.Sides.{LogState}
 use Rattle.paraid_image.specs.Spins.{first_used}
 use Rattle.paraid_image.specs.Standing.{Stands}
 
@@ -28,9 +28,9 @@ with_down d nobody = only d
 with_down d (only e) = if d == e then only e else several
 with_down d several = several
 
-abbrev pub down_of : Option ℕ → Down
-down_of None = nobody
-down_of (Some d) = only d
+abbrev pub down_from_out : Option ℕ → Down
+down_from_out None = nobody
+down_from_out (Some d) = only d
 
 -- a disk is down from a failed call on
 abbrev pub down_after : Down → Call → Down
@@ -59,7 +59,7 @@ abbrev pub watch : Call → Watch → Watch
 watch call w = record {
   disks = step call w.disks;
   down = down_after w.down call;
-  spun = λ d. counted d (w.spun d) call;
+  spun = λ d. spin_ups_after d (w.spun d) call;
   awaited = awaited_after w.awaited call;
 }
 
@@ -73,10 +73,10 @@ Each P Allowed w [] = P w
 Each P Allowed w (call ∷ calls) = P w × Allowed w call × Each P Allowed (watch call w) calls
 
 -- while at most one disk is down, each stop leaves a first part of `h` of at least `lo` writes
-abbrev pub IsHeldBeside : ℕ → Disks → History → ℕ → Down → Type 0
-IsHeldBeside slots s h lo nobody = IsHeld slots s h lo None
-IsHeldBeside slots s h lo (only d) = IsHeld slots s h lo (Some d)
-IsHeldBeside slots s h lo several = Unit {0}
+abbrev pub IsHeldWhileServing : ℕ → Disks → History → ℕ → Down → Type 0
+IsHeldWhileServing slots s h lo nobody = IsHeld slots s h lo None
+IsHeldWhileServing slots s h lo (only d) = IsHeld slots s h lo (Some d)
+IsHeldWhileServing slots s h lo several = Unit {0}
 
 -- what bounds the metas that stand during an event or a mount: the setup that each has, and the
 -- greatest epoch and number of ticks
@@ -87,7 +87,7 @@ pub record Bounds : Type 0 where
 
 -- The meta that stands in image `i` is within the bounds. Of each disk that is there and that it
 -- does not name out it has recorded the spin-ups that were made.
-pub record IsWithin (b : Bounds) (spun : ℕ → ℕ) (i : Disks) (m : Meta) : Type 0 where
+pub record IsWithinBounds (b : Bounds) (spun : ℕ → ℕ) (i : Disks) (m : Meta) : Type 0 where
   pub same_setup : m.setup ≡ b.setup
   pub in_time : m.epoch ≤ b.epoch
   pub counted_ticks : m.ticks ≤ b.ticks
@@ -96,10 +96,10 @@ pub record IsWithin (b : Bounds) (spun : ℕ → ℕ) (i : Disks) (m : Meta) : T
 
 -- What holds at each moment, while at most one disk is down: each stop leaves a first part of `h`
 -- of at least `lo` writes, and in each image that is looked at what stands is within the bounds.
-pub record IsKept (slots : ℕ) (h : History) (lo : ℕ) (b : Bounds) (w : Watch) : Type 0 where
-  pub held : IsHeldBeside slots w.disks h lo w.down
-  pub within : IsServing w.down → (x : ℕ) (i : Disks) (said : Said) → IsLooked w.disks i → Stands i x said
-      → IsWithin b w.spun i said.meta
+pub record HoldsWhileServing (slots : ℕ) (h : History) (lo : ℕ) (b : Bounds) (w : Watch) : Type 0 where
+  pub held : IsHeldWhileServing slots w.disks h lo w.down
+  pub within : IsServing w.down → (x : ℕ) (i : Disks) (said : LogState) → IsLooked w.disks i → Stands i x said
+      → IsWithinBounds b w.spun i said.meta
 
 -- A call is on a disk of the array and lawful by its power. A disk is attached where this one is
 -- asked for, and with the size that it needs; one that was taken out is attached before any other
@@ -111,7 +111,7 @@ pub record IsAllowed (setup : Setup) (asked : Option ℕ) (w : Watch) (call : Ca
       → (size ≡ disk_size setup.geometry) × (asked ≡ Some d)
   pub awaited : w.awaited ≡ Some (disk_of call) → is_attach call ≡ true
   pub recorded : (d : ℕ) (done : Bool) → call ≡ SpinUp d done → IsServing w.down
-      → (x : ℕ) (i : Disks) (said : Said) → IsLooked w.disks i → Stands i x said
+      → (x : ℕ) (i : Disks) (said : LogState) → IsLooked w.disks i → Stands i x said
       → w.spun d + 1 ≤ slice_index said.meta.spins d
 
 -- the disk of the first failed call

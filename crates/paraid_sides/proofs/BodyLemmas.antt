@@ -5,11 +5,11 @@ use Rattle.std.proofs.lemmas.List.{get_or-take, take_more}
 use Rattle.paraid_base.specs.declared.block.Block.{Block}
 use Rattle.paraid_record.specs.declared.targets.Target.{Target}
 use Rattle.paraid_record.specs.Targets.{no_target}
-use Rattle.paraid_image.specs.Neutral.{names}
+use Rattle.paraid_image.specs.Neutral.{names_place}
 use Rattle.paraid_image.specs.Sides.{Batch, targets}
-use Rattle.paraid_txn.specs.Staging.{with_target}
+use Rattle.paraid_txn.specs.Batches.{with_target}
 use Rattle.paraid_image.proofs.NeutralLemmas.{length-targets}
-use Rattle.paraid_txn.proofs.StagingLemmas.{names-off, with_target-new}
+use Rattle.paraid_txn.proofs.BatchesLemmas.{names_place-off, with_target-new}
 
 take_long : {A : Type 0} (n : ℕ) (xs : List A) → n ≤ length xs → length (take n xs) ≡ n
 take_long zero xs le = refl
@@ -31,8 +31,8 @@ module _ (batch : Batch) (ts : List Target) (n : ℕ) (lt : n < length ts) (name
   read_so_far = sym (length-targets batch) ∙ ap length named ∙ take_long n ts (omega arith)
 
   module _ (after : Batch) (t : Target) (b : Block) (at : t ≡ get_or ts n no_target) (apart : AllPairs (λ x y. x ≢ y) ts) (is : after ≡ with_target batch t b) where
-    new : names batch t.disk t.place ≡ false
-    new = names-off batch t (λ k below e.
+    new : names_place batch t.disk t.place ≡ false
+    new = names_place-off batch t (λ k below e.
         let size = read_so_far in
         let lk : k < n = omega arith in
         apart k n no_target lk lt (sym (get_or-take n ts k no_target lk) ∙ sym (ap (λ (l : List Target). get_or l k no_target) named) ∙ e ∙ at))

@@ -1,6 +1,6 @@
 -- Both log disks are read, and one of them or both may be lost.
-use Rattle.std.specs.Prelude.{◌≡◌, ◌≢◌, ℕ, false, Option, Some, None, Result, Ok, Err, OnOk}
-use Rattle.std.proofs.Common.{refl, sym, ◌∙◌, ap, inl, inr}
+use Rattle.std.specs.Prelude.{◌≡◌, ◌≢◌, ℕ, false, Option, Some, None, Result, Ok, Err, OnOk, IfOk}
+use Rattle.std.proofs.Common.{refl, sym, ◌∙◌, ap, subst, inl, inr}
 use Rattle.paraid_rack.specs.Disks.{Disks, is_present, lose}
 use Rattle.paraid_rack.specs.Trail.{Trail, now}
 use Rattle.paraid_rack.specs.declared.call.Power.TheVariants.{Absent}
@@ -8,11 +8,11 @@ use Rattle.paraid_rack.proofs.AtomsLemmas.{with_at_same}
 use Rattle.paraid_rack.proofs.TrailsLemmas.{now-extend}
 use Rattle.paraid_sides.specs.declared.hearing.Heard.{Heard}
 use Rattle.paraid_sides.specs.declared.hearing.Heard.TheVariants.{Blank, Bad, Formed}
-use Rattle.paraid_sides.specs.Heard.{IsHeardAt, IsLosing, IsReadLosing, IsReadOnly, IsUnchanged}
+use Rattle.paraid_sides.specs.HeardSides.{IsHeardAt, IsLosing, IsReadLosing, IsReadOnly, IsUnchanged}
 use Rattle.paraid_image.specs.Sides.{Batch}
 use Rattle.paraid_image.proofs.NeutralLemmas.{says_back, says_forth}
-use Rattle.paraid_txn.proofs.PartsLemmas.{andthen, milder, upto}
-use Rattle.paraid_image.proofs.StepLemmas.{lose_kept}
+use Rattle.paraid_txn.proofs.StageCallsLemmas.{andthen, milder, upto}
+use Rattle.paraid_image.proofs.CallLemmas.{lose_kept}
 
 -- what a log disk says does not depend on another disk
 pub heard_kept : (i : Disks) (e x : ℕ) → x ≢ e → (h : Option Heard) (b : Batch) → IsHeardAt i x h b → IsHeardAt (lose e i) x h b
@@ -68,3 +68,7 @@ one_of_two only start = upto (λ s x. inl x) (milder (λ s x. inl x) (only start
 pub ok_is : {A E P : Type 0} (r : Result A E) (a : A) → r ≡ Ok a → OnOk r P → P
 ok_is (Ok b) a is p = p
 ok_is (Err e) a is p = cc
+
+pub if_ok_is : {A E : Type 0} (P : A → Type 0) (r : Result A E) (a : A) → r ≡ Ok a → IfOk r P → P a
+if_ok_is P (Ok b) a is p = let same : b ≡ a = cc in subst P same p
+if_ok_is P (Err e) a is p = cc

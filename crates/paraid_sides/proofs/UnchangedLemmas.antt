@@ -4,17 +4,17 @@ use Rattle.std.proofs.Common.{refl, sym, ◌∙◌, ap, arith, inl, inr, suc}
 use Rattle.std.proofs.lemmas.Bool.{cases_eq}
 use Rattle.std.proofs.lemmas.Bool.Decides.{nat_tests}
 use Rattle.paraid_base.specs.declared.block.Block.{Block}
-use Rattle.paraid_base.specs.Xor.{zeroed}
+use Rattle.paraid_base.specs.Xor.{zero_block}
 use Rattle.paraid_rack.specs.declared.call.Call.TheVariants.{Read}
 use Rattle.paraid_rack.specs.Disks.{Disks, IsPresent, is_present, lose, step, with_at}
-use Rattle.paraid_rack.specs.Told.{Grows}
+use Rattle.paraid_rack.specs.Told.{GrowsByCall}
 use Rattle.paraid_rack.specs.Trail.{Trail, now}
 use Rattle.paraid_rack.proofs.AtomsLemmas.{with_at_other, with_at_same}
 use Rattle.paraid_rack.proofs.TrailsLemmas.{called, now-extend, stays}
 use Rattle.paraid_record.specs.declared.targets.Target.{Target}
-use Rattle.paraid_sides.specs.Heard.{IsLosing, IsUnchanged}
-use Rattle.paraid_image.specs.Sides.{AreLogged, Batch, stored}
-use Rattle.paraid_txn.proofs.PartsLemmas.{andthen, milder}
+use Rattle.paraid_sides.specs.HeardSides.{IsLosing, IsUnchanged}
+use Rattle.paraid_image.specs.Sides.{AreBlocksLogged, Batch, stored_block}
+use Rattle.paraid_txn.proofs.StageCallsLemmas.{andthen, milder}
 use Rattle.paraid_txn.proofs.WholeLemmas.{stored_here}
 
 with_same : {A : Type 0} (f : ℕ → A) (d x : ℕ) → with_at f d (f d) x ≡ f x
@@ -35,11 +35,11 @@ read_lost s d p = refl
 pub unchanged_none : (told : Option Trail) → IsUnchanged told told
 unchanged_none told start = stays (λ s. s ≡ start) (λ s. s ≡ start) (λ s. s ≡ start) told (λ s b. b) (λ t tells a. a)
 
-pub unchanged_read : {old new : Option Trail} {d p : ℕ} → Grows old new (Read d p true) → IsUnchanged old new
+pub unchanged_read : {old new : Option Trail} {d p : ℕ} → GrowsByCall old new (Read d p true) → IsUnchanged old new
 unchanged_read {old} {new} {d} {p} grows start =
     called (λ s. s ≡ start) (λ s. s ≡ start) (λ s. s ≡ start) old new (Read d p true) grows (λ s a. a) (λ s b. b) (λ s a. read_done s d p ∙ a)
 
-pub losing_read : {old new : Option Trail} {d p : ℕ} → Grows old new (Read d p false) → IsLosing d old new
+pub losing_read : {old new : Option Trail} {d p : ℕ} → GrowsByCall old new (Read d p false) → IsLosing d old new
 losing_read {old} {new} {d} {p} grows start =
     called (λ s. (s ≡ start) ⊎ (s ≡ lose d start)) (λ s. s ≡ start) (λ s. s ≡ lose d start) old new (Read d p false) grows (λ s a. inl a) (λ s b. inr b)
     (λ s a. read_lost s d p ∙ ap (lose d) a)
@@ -61,43 +61,43 @@ unchanged_now {old} {new} same t tells =
     (any.from, any.was, ap now r.is ∙ now-extend r.from r.calls ∙ b.1)
 
 -- a place past the size
-pub stored_past : (s : Disks) (d p : ℕ) → s.size d ≤ p → stored s d p ≡ zeroed
-unfolding stored
+pub stored_past : (s : Disks) (d p : ℕ) → s.size d ≤ p → stored_block s d p ≡ zero_block
+unfolding stored_block
 stored_past s d p high = go (is_present (s.power d)) (nat_lt p (s.size d)) (grind (arith, nat_tests))
   where
-    go : (a b : Bool) → b ≡ false → (if (a && b) then s.block d p else zeroed) ≡ zeroed
+    go : (a b : Bool) → b ≡ false → (if (a && b) then s.block d p else zero_block) ≡ zero_block
     go true false is = refl
     go false false is = refl
     go a true is = cc
 
 -- one more block of the body
-pub logged_more : (log : ℕ → Block) (p : ℕ) (batch : Batch) (w : Target × Block) → AreLogged log p batch → log (p + length batch) ≡ w.1 → AreLogged log p (batch ++ w ∷ [])
+pub logged_more : (log : ℕ → Block) (p : ℕ) (batch : Batch) (w : Target × Block) → AreBlocksLogged log p batch → log (p + length batch) ≡ w.1 → AreBlocksLogged log p (batch ++ w ∷ [])
 logged_more log p [] w logged is = ((let e : p + 0 ≡ p = omega arith in sym (ap log e) ∙ is), tt)
 logged_more log p (v ∷ batch) w logged is =
     (logged.0, logged_more log (suc p) batch w logged.1 ((let e : suc p + length batch ≡ p + length (v ∷ batch) = omega arith in ap log e) ∙ is))
 
 -- what a read answers
 module _ {E : Type 0} {old new : Option Trail} {d p : ℕ} where
-  pub ok_unchanged : (r : Result (Unit {0}) E) → Grows old new (Read d p (is_ok r)) → OnOk r (IsUnchanged old new)
+  pub ok_unchanged : (r : Result (Unit {0}) E) → GrowsByCall old new (Read d p (is_ok r)) → OnOk r (IsUnchanged old new)
   ok_unchanged (Ok it) grows = unchanged_read grows
   ok_unchanged (Err e) grows = tt
 
-  pub err_losing : (r : Result (Unit {0}) E) → Grows old new (Read d p (is_ok r)) → IfErr r (λ failed. IsLosing d old new)
+  pub err_losing : (r : Result (Unit {0}) E) → GrowsByCall old new (Read d p (is_ok r)) → IfErr r (λ failed. IsLosing d old new)
   err_losing (Ok it) grows = tt
   err_losing (Err e) grows = losing_read grows
 
-  pub ok_block : (b : Block) (r : Result (Unit {0}) E) → Grows old new (Read d p (is_ok r)) → OnOk r ((t : Trail) → old ≡ Some t → b ≡ (now t).block d p)
-      → ((s : Trail) → old ≡ Some s → IsPresent (now s) d × (p < (now s).size d)) → OnOk r ((t : Trail) → new ≡ Some t → b ≡ stored (now t) d p)
+  pub ok_block : (b : Block) (r : Result (Unit {0}) E) → GrowsByCall old new (Read d p (is_ok r)) → OnOk r ((t : Trail) → old ≡ Some t → b ≡ (now t).block d p)
+      → ((s : Trail) → old ≡ Some s → IsPresent (now s) d × (p < (now s).size d)) → OnOk r ((t : Trail) → new ≡ Some t → b ≡ stored_block (now t) d p)
   ok_block b (Err e) grows bytes there = tt
   ok_block b (Ok it) grows bytes there = λ t tells.
       let u = unchanged_now (unchanged_read grows) t tells in
       let h = there u.0 u.1 in
-      bytes u.0 u.1 ∙ sym (stored_here (now u.0) d p h.0 h.1) ∙ ap (λ (s : Disks). stored s d p) (sym u.2)
+      bytes u.0 u.1 ∙ sym (stored_here (now u.0) d p h.0 h.1) ∙ ap (λ (s : Disks). stored_block s d p) (sym u.2)
 
 -- what was read is still there
-pub carried : {old new : Option Trail} (b : Block) (d p : ℕ) → IsUnchanged old new → ((s : Trail) → old ≡ Some s → b ≡ stored (now s) d p)
-    → (t : Trail) → new ≡ Some t → b ≡ stored (now t) d p
-carried b d p same was t tells = let u = unchanged_now same t tells in was u.0 u.1 ∙ ap (λ (s : Disks). stored s d p) (sym u.2)
+pub carried : {old new : Option Trail} (b : Block) (d p : ℕ) → IsUnchanged old new → ((s : Trail) → old ≡ Some s → b ≡ stored_block (now s) d p)
+    → (t : Trail) → new ≡ Some t → b ≡ stored_block (now t) d p
+carried b d p same was t tells = let u = unchanged_now same t tells in was u.0 u.1 ∙ ap (λ (s : Disks). stored_block s d p) (sym u.2)
 
 -- what is told of a failure, whatever its error
 pub if_any : {A E P : Type 0} (r : Result A E) → P → IfErr r (λ e. P)

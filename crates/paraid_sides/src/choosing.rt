@@ -1,6 +1,6 @@
 //! Which log disk stands, by what both say.
 ghost use Rattle.std.specs.Prelude.{◌≡◌};
-ghost use Rattle.paraid_sides.specs.Heard.{side_by};
+ghost use Rattle.paraid_sides.specs.HeardSides.{side_by};
 ghost use Rattle.paraid_image.specs.Sides.{Batch};
 ghost use Rattle.paraid_image.specs.Standing.{standing};
 

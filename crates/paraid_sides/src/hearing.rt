@@ -1,13 +1,14 @@
 //! What one log disk says: its gate, its meta, and the batch that is on its way.
+ghost use Rattle.paraid_rack.specs.Slots.{AreSameSlots};
 ghost use Rattle.std.specs.Prelude.{◌≡◌, ◌≢◌, ℕ, ◌<◌, ◌≤◌, true, false, [], length, Some, OnOk, IfErr, IfOk, AllPairs, get_or};
-ghost use Rattle.paraid_base.specs.Xor.{zeroed};
+ghost use Rattle.paraid_base.specs.Xor.{zero_block};
 ghost use Rattle.paraid_rack.specs.declared.call.Power.TheVariants.{Absent, Spinning};
 ghost use Rattle.paraid_rack.specs.Trail.{Trail, now};
 ghost use Rattle.paraid_record.specs.Targets.{AreTargets, no_target, targets_of};
 ghost use Rattle.paraid_rack.specs.Told.{Ran};
-ghost use Rattle.paraid_sides.specs.Heard.{AreSame, IsFailed, IsHeard, IsLosing, IsUnchanged, ReadsLog};
+ghost use Rattle.paraid_sides.specs.HeardSides.{AtMost, IsFailed, IsHeard, IsInForm, IsLosing, IsUnchanged, ReadsLog};
 ghost use Rattle.paraid_txn.specs.Uses.{EachCall};
-ghost use Rattle.paraid_image.specs.Sides.{AreLogged, is_open, stored, targets};
+ghost use Rattle.paraid_image.specs.Sides.{AreBlocksLogged, is_open, stored_block, targets};
 
 use crate::reads::read_place;
 use paraid_base::{Block, DiskNo, Failed};
@@ -34,8 +35,8 @@ fn opens(gate: &Block) -> bool
 
 // Whether a block is zeros.
 fn is_zero(block: &Block) -> bool
-    ensures yes { result ≡ true → block.now.bytes ≡ zeroed.bytes }
-    ensures no { result ≡ false → block.now.bytes ≢ zeroed.bytes }
+    ensures yes { result ≡ true → block.now.bytes ≡ zero_block.bytes }
+    ensures no { result ≡ false → block.now.bytes ≢ zero_block.bytes }
 {
     block.as_slice() == Block::zero().as_slice()
 }
@@ -44,17 +45,19 @@ fn is_zero(block: &Block) -> bool
 fn hear_closed<R: Rack>(rack: &mut R, disk: DiskNo) -> Result<Heard, Failed>
     requires exists { disk < R.slot_count rack.old }
     requires spinning { (R.slot rack.old disk).power ≡ Spinning }
-    requires shut { (t : Trail) → R.told rack.old ≡ Some t → is_open (stored (now t) disk 0) ≡ false }
+    requires shut { (t : Trail) → R.told rack.old ≡ Some t → is_open (stored_block (now t) disk 0) ≡ false }
     ensures slots { R.slot_count rack.new ≡ R.slot_count rack.old }
-    ensures same { OnOk result (AreSame (R.slot rack.old) (R.slot rack.new)) }
+    ensures same { OnOk result (AreSameSlots (R.slot rack.old) (R.slot rack.new)) }
     ensures others { (d : ℕ) → d ≢ disk → R.slot rack.new d ≡ R.slot rack.old d }
     ensures unchanged { OnOk result (IsUnchanged (R.told rack.old) (R.told rack.new)) }
     ensures heard { IfOk result (λ heard. (t : Trail) → R.told rack.new ≡ Some t
         → IsHeard (now t) disk heard []) }
+    ensures form { IfOk result (λ heard. IsInForm (Some heard) []) }
     ensures lost { IfErr result (λ failed. IsLosing disk (R.told rack.old) (R.told rack.new)) }
     ensures absent { IfErr result (λ failed. (R.slot rack.new disk).power ≡ Absent) }
     ensures failed { IfErr result (λ failed. IsFailed (R.slot rack.old) (R.slot rack.new) disk) }
     ensures calls { Ran (R.told rack.old) (R.told rack.new) (EachCall (ReadsLog disk)) }
+    ensures few { Ran (R.told rack.old) (R.told rack.new) (AtMost 1) }
 {
     let mut block = Block::zero();
     read_place(rack, disk, 1, &mut block)?;
@@ -93,16 +96,17 @@ fn hear_body<R: Rack>(
     requires few { places.now.count ≤ 96 }
     requires distinct { AllPairs (λ a b. a ≢ b) (targets_of places.now) }
     ensures slots { R.slot_count rack.new ≡ R.slot_count rack.old }
-    ensures same { OnOk result (AreSame (R.slot rack.old) (R.slot rack.new)) }
+    ensures same { OnOk result (AreSameSlots (R.slot rack.old) (R.slot rack.new)) }
     ensures others { (d : ℕ) → d ≢ disk → R.slot rack.new d ≡ R.slot rack.old d }
     ensures unchanged { OnOk result (IsUnchanged (R.told rack.old) (R.told rack.new)) }
     ensures named { OnOk result (targets batch.new ≡ targets_of places.now) }
     ensures logged { OnOk result ((t : Trail) → R.told rack.new ≡ Some t
-        → AreLogged (stored (now t) disk) 4 batch.new) }
+        → AreBlocksLogged (stored_block (now t) disk) 4 batch.new) }
     ensures lost { IfErr result (λ failed. IsLosing disk (R.told rack.old) (R.told rack.new)) }
     ensures absent { IfErr result (λ failed. (R.slot rack.new disk).power ≡ Absent) }
     ensures failed { IfErr result (λ failed. IsFailed (R.slot rack.old) (R.slot rack.new) disk) }
     ensures calls { Ran (R.told rack.old) (R.told rack.new) (EachCall (ReadsLog disk)) }
+    ensures few { Ran (R.told rack.old) (R.told rack.new) (AtMost 96) }
 {
     let mut block = Block::zero();
     for at in 0..places.count {
@@ -120,17 +124,19 @@ fn hear_open<R: Rack>(rack: &mut R, disk: DiskNo, batch: &mut Batch) -> Result<H
     requires exists { disk < R.slot_count rack.old }
     requires spinning { (R.slot rack.old disk).power ≡ Spinning }
     requires empty { batch.old ≡ [] }
-    requires opened { (t : Trail) → R.told rack.old ≡ Some t → is_open (stored (now t) disk 0) ≡ true }
+    requires opened { (t : Trail) → R.told rack.old ≡ Some t → is_open (stored_block (now t) disk 0) ≡ true }
     ensures slots { R.slot_count rack.new ≡ R.slot_count rack.old }
-    ensures same { OnOk result (AreSame (R.slot rack.old) (R.slot rack.new)) }
+    ensures same { OnOk result (AreSameSlots (R.slot rack.old) (R.slot rack.new)) }
     ensures others { (d : ℕ) → d ≢ disk → R.slot rack.new d ≡ R.slot rack.old d }
     ensures unchanged { OnOk result (IsUnchanged (R.told rack.old) (R.told rack.new)) }
     ensures heard { IfOk result (λ heard. (t : Trail) → R.told rack.new ≡ Some t
         → IsHeard (now t) disk heard batch.new) }
+    ensures form { IfOk result (λ heard. IsInForm (Some heard) batch.new) }
     ensures lost { IfErr result (λ failed. IsLosing disk (R.told rack.old) (R.told rack.new)) }
     ensures absent { IfErr result (λ failed. (R.slot rack.new disk).power ≡ Absent) }
     ensures failed { IfErr result (λ failed. IsFailed (R.slot rack.old) (R.slot rack.new) disk) }
     ensures calls { Ran (R.told rack.old) (R.told rack.new) (EachCall (ReadsLog disk)) }
+    ensures few { Ran (R.told rack.old) (R.told rack.new) (AtMost 98) }
 {
     let mut block = Block::zero();
     let mut list = Block::zero();
@@ -156,15 +162,17 @@ pub fn hear<R: Rack>(rack: &mut R, disk: DiskNo, batch: &mut Batch) -> Result<He
     requires spinning { (R.slot rack.old disk).power ≡ Spinning }
     requires empty { batch.old ≡ [] }
     ensures slots { R.slot_count rack.new ≡ R.slot_count rack.old }
-    ensures same { OnOk result (AreSame (R.slot rack.old) (R.slot rack.new)) }
+    ensures same { OnOk result (AreSameSlots (R.slot rack.old) (R.slot rack.new)) }
     ensures others { (d : ℕ) → d ≢ disk → R.slot rack.new d ≡ R.slot rack.old d }
     ensures unchanged { OnOk result (IsUnchanged (R.told rack.old) (R.told rack.new)) }
     ensures heard { IfOk result (λ heard. (t : Trail) → R.told rack.new ≡ Some t
         → IsHeard (now t) disk heard batch.new) }
+    ensures form { IfOk result (λ heard. IsInForm (Some heard) batch.new) }
     ensures lost { IfErr result (λ failed. IsLosing disk (R.told rack.old) (R.told rack.new)) }
     ensures absent { IfErr result (λ failed. (R.slot rack.new disk).power ≡ Absent) }
     ensures failed { IfErr result (λ failed. IsFailed (R.slot rack.old) (R.slot rack.new) disk) }
     ensures calls { Ran (R.told rack.old) (R.told rack.new) (EachCall (ReadsLog disk)) }
+    ensures few { Ran (R.told rack.old) (R.told rack.new) (AtMost 99) }
 {
     let mut gate = Block::zero();
     read_place(rack, disk, 0, &mut gate)?;

@@ -2,7 +2,8 @@
 ghost use Rattle.std.specs.Prelude.{◌≡◌, ℕ, ◌<◌, Option, Some};
 ghost use Rattle.paraid_base.specs.History.{History};
 ghost use Rattle.paraid_rack.specs.Disks.{Disks, IsImage, IsPresent, lose};
-ghost use Rattle.paraid_sides.specs.Heard.{AmongOne};
+ghost use Rattle.paraid_rack.specs.Atoms.{IsLeftByStop};
+ghost use Rattle.paraid_sides.specs.HeardSides.{AmongOne, AmongTwo};
 ghost use Rattle.paraid_image.specs.HeldAt.{IsHeld};
 ghost use Rattle.paraid_image.specs.Out.{IsWeak};
 
@@ -14,4 +15,10 @@ pub fn reads_leave_what_is_held()
         → ((d : ℕ) → d < 2 → t ≡ lose d s → IsPresent s d × (down ≡ Some d))
         → ((i : Disks) (w : ℕ) → IsImage s i → IsWeak i w → down ≡ Some w)
         → IsHeld slots s h lo was → IsHeld slots t h lo down }
+{}
+
+/// What a stop leaves after reads, a stop could leave before them, with the log disks lost that
+/// failed.
+pub fn reads_leave_the_images()
+    ensures { (s t i : Disks) → AmongTwo s t → IsImage t i → IsLeftByStop s i }
 {}

@@ -12,4 +12,4 @@ pub use both::{Sides, hear_both, hear_if_there};
 pub use choosing::choose;
 pub use faults::{first_faulty, is_unformatted};
 pub use hearing::{Heard, hear};
-pub use law::reads_leave_what_is_held;
+pub use law::{reads_leave_the_images, reads_leave_what_is_held};

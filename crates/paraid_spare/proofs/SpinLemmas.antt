@@ -4,7 +4,7 @@ use Rattle.std.specs.Prelude.{◌&&◌, nat_le, nat_lt, min, if◌then◌else◌
 use Rattle.paraid_rack.specs.declared.call.Call.{Call}
 use Rattle.paraid_rack.specs.declared.call.Call.TheVariants.{Read, Write, Sync, Park, SpinUp, Attach}
 use Rattle.paraid_spare.specs.declared.pool.Pool.{Pool}
-use Rattle.paraid_spare.specs.Pools.{counted, slot_spin_ups, spins_of, Covers, AreUpsOf}
+use Rattle.paraid_spare.specs.Pools.{saturating_next, slot_spin_ups, spins_of, Covers, AreUpsOf}
 
 pub slot_spin_ups-append : (calls more : List Call) (d : ℕ) → slot_spin_ups (calls ++ more) d ≡ slot_spin_ups calls d + slot_spin_ups more d
 unfolding slot_spin_ups
@@ -19,13 +19,13 @@ slot_spin_ups-append (SpinUp disk done ∷ calls) more d =
     omega arith
 
 covered : (is : Bool) (calls more old : ℕ) → min calls (2 ^ 64 - 1) ≤ old → more ≤ (if is then 1 else 0)
-    → min (calls + more) (2 ^ 64 - 1) ≤ (if is then counted 64 old else old)
+    → min (calls + more) (2 ^ 64 - 1) ≤ (if is then saturating_next 64 old else old)
 covered true calls more old before few = omega arith
 covered false calls more old before few = omega arith
 
 -- calls that spin up the disks from `lo` to `hi - 1` are covered once these disks are counted
 pub Covers-spun : (old new : Pool) (lo hi : ℕ)
-    → ((d : ℕ) → d < 8 → spins_of new d ≡ (if nat_le lo d && nat_lt d hi then counted 64 (spins_of old d) else spins_of old d))
+    → ((d : ℕ) → d < 8 → spins_of new d ≡ (if nat_le lo d && nat_lt d hi then saturating_next 64 (spins_of old d) else spins_of old d))
     → (calls more : List Call) → Covers old calls → AreUpsOf lo hi more → Covers new (calls ++ more)
 Covers-spun old new lo hi spun calls more before ups = record {
   each = λ d below.

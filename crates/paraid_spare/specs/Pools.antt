@@ -26,8 +26,8 @@ abbrev pub spins_of : Pool → ℕ → ℕ
 spins_of p d = slice_index p.slots d
 
 -- one more, in a number of so many bits
-abbrev pub counted : ℕ → ℕ → ℕ
-counted bits n = min (n + 1) (2 ^ bits - 1)
+abbrev pub saturating_next : ℕ → ℕ → ℕ
+saturating_next bits n = min (n + 1) (2 ^ bits - 1)
 
 -- 1 where `d` is one of the disks from `lo` to `hi - 1`, and else 0
 abbrev pub is_among : ℕ → ℕ → ℕ → ℕ

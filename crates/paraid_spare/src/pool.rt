@@ -18,7 +18,7 @@ pub struct Pool {
 impl Pool {
     ghost use Rattle.std.specs.Prelude.{ℕ, ◌<◌, ◌≤◌, ◌-◌, ◌==◌, ◌&&◌, nat_le, nat_lt, if◌then◌else◌, List, [], ◌++◌, Some, IfSome, IfNone};
     ghost use Rattle.paraid_rack.specs.declared.call.Call.{Call};
-    ghost use Rattle.paraid_spare.specs.Pools.{left_of, wait_of, waits_of, spins_of, counted, Covers, AreUpsOf};
+    ghost use Rattle.paraid_spare.specs.Pools.{left_of, wait_of, waits_of, spins_of, saturating_next, Covers, AreUpsOf};
 
     /// A pool of so many spares, of which one is used after so many ticks.
     pub fn new(stock: u8, wait: u32) -> Pool
@@ -66,7 +66,7 @@ impl Pool {
         ensures left { left_of self.new ≡ left_of self.old }
         ensures wait { wait_of self.new ≡ wait_of self.old }
         ensures waits { (d : ℕ) → waits_of self.new d
-            ≡ (if d == disk then counted 32 (waits_of self.old d) else 0) }
+            ≡ (if d == disk then saturating_next 32 (waits_of self.old d) else 0) }
         ensures spins { (d : ℕ) → spins_of self.new d ≡ spins_of self.old d }
     {
         let waits = self.waited_for(disk);
@@ -104,7 +104,7 @@ impl Pool {
         ensures wait { wait_of self.new ≡ wait_of self.old }
         ensures waits { (d : ℕ) → waits_of self.new d ≡ waits_of self.old d }
         ensures spins { (d : ℕ) → d < 8 → spins_of self.new d
-            ≡ (if nat_le lo d && nat_lt d hi then counted 64 (spins_of self.old d) else spins_of self.old d) }
+            ≡ (if nat_le lo d && nat_lt d hi then saturating_next 64 (spins_of self.old d) else spins_of self.old d) }
         ensures covers { (calls ups : List Call) → Covers self.old calls → AreUpsOf lo hi ups
             → Covers self.new (calls ++ ups) }
     {

@@ -2,10 +2,11 @@
 use Rattle.std.proofs.Common.{◌≡◌, ℕ, List, Option, Some, None, sym, ◌∙◌, subst}
 use Rattle.paraid_rack.specs.Trail.{Trail}
 use Rattle.paraid_record.specs.declared.meta.Setup.{Setup}
-use Rattle.paraid_session.specs.Mount.{Mounted}
-use Rattle.paraid_serve.specs.Output.{Ends, Headline}
+use Rattle.paraid_session.specs.Mount.{IsMountedFromEach}
+use Rattle.paraid_console.specs.Ending.{EndsWithLine}
+use Rattle.paraid_serve.specs.Output.{Headline}
 use Rattle.paraid_session.specs.Turn.{Point}
-use Rattle.paraid_serve.proofs.ExitLemmas.{Mounted-follows}
+use Rattle.paraid_serve.proofs.ExitLemmas.{IsMountedFromEach-follows}
 use Rattle.paraid_commands.specs.Generating.{GenHeadline}
 use Rattle.paraid_commands.specs.Telling.{state_lines}
 use Rattle.paraid_words.specs.declared.command.Command.{Command}
@@ -23,10 +24,10 @@ generated_over slots slots_now setup began middle final after w x number count s
     subst (λ (k : ℕ). GenHeadline k setup began middle after w x number count status) e (subst (λ (t : Option Trail). GenHeadline slots_now setup began middle t w x number count status) (sym f) h)
 
 pub state_over : (slots slots_now : ℕ) (setup : Setup) (began : ℕ) (middle : Option Trail) (w x : Option (List ℕ)) (status : ℕ) (stands : Point → Type 0) → slots_now ≡ slots
-    → Mounted slots_now setup began middle stands → ((p : Point) → stands p → Ends w x (state_lines setup p) 0 status) → TellsState slots w x status setup began middle
+    → IsMountedFromEach slots_now setup began middle stands → ((p : Point) → stands p → EndsWithLine w x (state_lines setup p) 0 status) → TellsState slots w x status setup began middle
 state_over slots slots_now setup began middle w x status stands e m told =
     subst (λ (k : ℕ). TellsState k w x status setup began middle) e
-    (Mounted-follows slots_now setup began middle stands (λ p. Ends w x (state_lines setup p) 0 status) (λ p mark here at_p. told p at_p) m)
+    (IsMountedFromEach-follows slots_now setup began middle stands (λ p. EndsWithLine w x (state_lines setup p) 0 status) (λ p mark here at_p. told p at_p) m)
 
 same_command : (o : Option Command) (a b : Command) → o ≡ Some a → o ≡ Some b → a ≡ b
 same_command o a b e f = some_same a b (sym e ∙ f)

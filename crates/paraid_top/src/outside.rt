@@ -2,8 +2,8 @@ ghost use Rattle.std.specs.Prelude.{◌≡◌, ℕ, Bool, List, Option, None, If
 ghost use Rattle.paraid_base.specs.Told.{HasRisen};
 ghost use Rattle.paraid_rack.specs.Trail.{Trail};
 ghost use Rattle.paraid_scrub.specs.declared.kind.CheckReport.{CheckReport as Report};
-ghost use Rattle.paraid_session.specs.Mount.{Mounted};
-ghost use Rattle.paraid_top.specs.Ends.{Began, HandsBack};
+ghost use Rattle.paraid_session.specs.Mount.{IsMountedFromEach};
+ghost use Rattle.paraid_top.specs.Ends.{BeginsAt, HandsBack};
 
 use crate::fault::MountFault;
 use paraid_base::Halt;
@@ -36,10 +36,10 @@ pub trait Outside<R: Rack, A: Serves> {
     fn mount(&self, rack: R) -> Result<A, MountRefused<R>>
         ensures going { IfOk result (λ a. A.halted a ≡ None) }
         ensures slots { IfOk result (λ a. A.slots a ≡ R.slot_count rack) }
-        ensures began { IfOk result (λ a. Began (R.told rack) (A.told a) (A.began a)) }
+        ensures began { IfOk result (λ a. BeginsAt (R.told rack) (A.told a) (A.began a)) }
         ensures refused { IfErr result (λ r. HandsBack (R.slot_count rack) (R.told rack)
             (R.told r.rack) r.fault) }
-        ensures mounted { IfOk result (λ a. Mounted (A.slots a) (A.setup a) (A.began a)
+        ensures mounted { IfOk result (λ a. IsMountedFromEach (A.slots a) (A.setup a) (A.began a)
             (A.told a) (A.stands a)) };
 
     /// Makes no call; what is staged is dropped.

@@ -1,29 +1,31 @@
 ghost use Rattle.std.specs.Prelude.{◌≡◌, ◌≢◌, ◌≤◌, ◌<◌, ◌++◌, ℕ, Bool, None, map, string_bytes, codes, decimal};
 ghost use Rattle.paraid_base.specs.Told.{HasRisen};
-ghost use Rattle.paraid_serve.specs.Output.{Ends, Headline};
+ghost use Rattle.paraid_console.specs.Ending.{EndsWithLine};
+ghost use Rattle.paraid_serve.specs.Output.{Headline};
 ghost use Rattle.paraid_commands.specs.Generating.{GenHeadline};
 ghost use Rattle.paraid_words.specs.declared.command.Command.{Command as CommandType};
 ghost use Rattle.paraid_words.specs.Words.{AskFor, usage_line};
 ghost use Rattle.paraid_top.specs.Faults.{fault_line, fault_status as fault_status_of};
-ghost use Rattle.paraid_top.specs.Ends.{Does, Mounts, TellsCounts, TellsState};
+ghost use Rattle.paraid_top.specs.Ends.{DoesCommand, MountsAndThen, TellsCounts, TellsState};
 
 use crate::fault::MountFault;
 use crate::outside::{Ended, MountRefused, Outside};
 use crate::text::{check_status, check_text, fault_status, fault_text};
 use paraid_base::Answer;
 use paraid_commands::generate::serve_generated_mounted;
-use paraid_commands::lines::{halt_status, last};
 use paraid_commands::state::tell_state;
+use paraid_console::ending::{halt_status, last};
+use paraid_console::status;
 use paraid_io::{Sink, Source};
 use paraid_rack::Rack;
+use paraid_serve::Serves;
 use paraid_serve::top::serve_mounted;
-use paraid_serve::{Serves, status};
 use paraid_trace::{Text, reply};
 use paraid_words::{Command, read_words};
 
 // Tells why nothing was mounted.
 fn refused<K: Sink>(sink: &mut K, fault: MountFault) -> u8
-    ensures ends { Ends (K.written sink.old) (K.written sink.new) (fault_line fault)
+    ensures ends { EndsWithLine (K.written sink.old) (K.written sink.new) (fault_line fault)
         (fault_status_of fault) result }
     ensures sink { result ≡ 4 → HasRisen (K.faults sink.old) (K.faults sink.new) }
 {
@@ -39,7 +41,7 @@ pub fn run<S: Source, K: Sink, R: Rack, A: Serves, O: Outside<R, A>>(
     sink: &mut K,
     rack: R,
 ) -> Ended<R>
-    ensures run { Mounts (R.slot_count rack) (R.told rack) (R.told result.rack) (K.written sink.old) (K.written sink.new) result.status
+    ensures run { MountsAndThen (R.slot_count rack) (R.told rack) (R.told result.rack) (K.written sink.old) (K.written sink.new) result.status
         (λ setup began middle. Headline (R.slot_count rack) setup began middle
         (R.told result.rack) (S.left source.old) (S.left source.new) (K.written sink.old)
         (K.written sink.new) result.status) }
@@ -70,7 +72,7 @@ pub fn generate<K: Sink, R: Rack, A: Serves, O: Outside<R, A>>(
     lines: u32,
 ) -> Ended<R>
     requires few { lines ≤ 1000000 }
-    ensures run { Mounts (R.slot_count rack) (R.told rack) (R.told result.rack) (K.written sink.old) (K.written sink.new) result.status
+    ensures run { MountsAndThen (R.slot_count rack) (R.told rack) (R.told result.rack) (K.written sink.old) (K.written sink.new) result.status
         (λ setup began middle. GenHeadline (R.slot_count rack) setup began middle
         (R.told result.rack) (K.written sink.old) (K.written sink.new) number lines
         result.status) }
@@ -97,7 +99,7 @@ pub fn state<K: Sink, R: Rack, A: Serves, O: Outside<R, A>>(
     sink: &mut K,
     rack: R,
 ) -> Ended<R>
-    ensures run { Mounts (R.slot_count rack) (R.told rack) (R.told result.rack) (K.written sink.old) (K.written sink.new) result.status
+    ensures run { MountsAndThen (R.slot_count rack) (R.told rack) (R.told result.rack) (K.written sink.old) (K.written sink.new) result.status
         (TellsState (R.slot_count rack) (K.written sink.old) (K.written sink.new)
         result.status) }
     ensures sink { result.status ≡ 4 → HasRisen (K.faults sink.old) (K.faults sink.new) }
@@ -147,7 +149,7 @@ pub fn check<K: Sink, R: Rack, A: Serves, O: Outside<R, A>>(
     sink: &mut K,
     rack: R,
 ) -> Ended<R>
-    ensures run { Mounts (R.slot_count rack) (R.told rack) (R.told result.rack) (K.written sink.old) (K.written sink.new) result.status
+    ensures run { MountsAndThen (R.slot_count rack) (R.told rack) (R.told result.rack) (K.written sink.old) (K.written sink.new) result.status
         (λ setup began middle. TellsCounts (O.counts outside.now middle (R.told result.rack))
         (K.written sink.old) (K.written sink.new) result.status) }
     ensures sink { result.status ≡ 4 → HasRisen (K.faults sink.old) (K.faults sink.new) }
@@ -176,11 +178,11 @@ pub fn paraid<S: Source, K: Sink, R: Rack, A: Serves, O: Outside<R, A>>(
     rack: R,
 ) -> Ended<R>
     ensures words { ((c : CommandType) → AskFor c (map string_bytes words.now.items) → ⊥)
-        → Ends (K.written sink.old) (K.written sink.new) usage_line 2 result.status }
+        → EndsWithLine (K.written sink.old) (K.written sink.new) usage_line 2 result.status }
     ensures untouched { ((c : CommandType) → AskFor c (map string_bytes words.now.items) → ⊥)
         → (result.rack ≡ rack) × (source.new ≡ source.old) }
     ensures does { (c : CommandType) → AskFor c (map string_bytes words.now.items)
-        → Does (R.slot_count rack) (R.told rack) (R.told result.rack) (S.left source.old)
+        → DoesCommand (R.slot_count rack) (R.told rack) (R.told result.rack) (S.left source.old)
         (S.left source.new) (K.written sink.old) (K.written sink.new) result.status
         (O.counts outside.now)
         (λ force. O.formats outside.now force (R.told rack) (R.told result.rack)

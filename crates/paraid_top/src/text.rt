@@ -2,9 +2,10 @@ ghost use Rattle.std.specs.Prelude.{◌≡◌, ◌≤◌, [], ◌++◌, length, 
 ghost use Rattle.paraid_top.specs.Faults.{check_line, check_status as check_status_of, fault_line, fault_status as fault_status_of};
 
 use crate::fault::MountFault;
-use paraid_base::{DiskNo, Two};
+use paraid_base::Two;
+use paraid_console::ending::size_text;
+use paraid_console::status;
 use paraid_scrub::CheckReport;
-use paraid_serve::status;
 use paraid_trace::Text;
 
 fn named(text: &mut Text, word: &[u8], disk: u64)
@@ -26,20 +27,6 @@ fn two_text(text: &mut Text, two: Two)
     text.push_number(u64::from(two.first));
     text.push(b" ");
     text.push_number(u64::from(two.second));
-    text.push(b"\n");
-}
-
-fn size_text(text: &mut Text, disk: DiskNo, found: u32, needed: u32)
-    requires { text.old ≡ [] }
-    ensures { text.new ≡ codes "size " ++ decimal disk ++ codes " " ++ decimal found
-        ++ codes " " ++ decimal needed ++ codes "\n" }
-{
-    text.push(b"size ");
-    text.push_number(u64::from(disk));
-    text.push(b" ");
-    text.push_number(u64::from(found));
-    text.push(b" ");
-    text.push_number(u64::from(needed));
     text.push(b"\n");
 }
 

@@ -12,8 +12,8 @@ use Rattle.paraid_base.specs.History.{Entry}
 use Rattle.paraid_base.specs.Pairs.{pairs_of}
 use Rattle.paraid_base.proofs.PairsLemmas.{length-pairs_of}
 use Rattle.paraid_trace.specs.Grammar.{AreGroups, IsHexOf, IsNumber}
-use Rattle.paraid_trace.specs.Lines.{Group, block_of, entry_from, entry_of, group_at, group_of, group_with, is_space, number_of, onto}
-use Rattle.paraid_trace.proofs.HexLemmas.{IsHexOf-block_of, block_of-IsHexOf}
+use Rattle.paraid_trace.specs.LineEvents.{Group, block_from_digits, entry_from, entry_of, group_at, group_of, group_with, is_space, number_of, onto}
+use Rattle.paraid_trace.proofs.HexLemmas.{IsHexOf-block_of, block_from_digits-IsHexOf}
 use Rattle.paraid_trace.proofs.NumberLemmas.{IsNumber-number_of, number_of-IsNumber}
 use Rattle.paraid_trace.proofs.SpaceLemmas.{cut, drop-front, hex_no_space, number_no_space, position-at, position-none, space-at}
 
@@ -24,7 +24,7 @@ group-cut : (digits hex more : List ℕ) (n : ℕ) (bytes : Block) → IsNumber 
     → group_of (digits ++ 32 ∷ (hex ++ more)) ≡ Some (record { block = n; bytes = bytes; end = length digits + 1 + length hex })
 unfolding group_of
 group-cut digits hex more n bytes number is ends =
-    rw (space-at digits (hex ++ more) (number_no_space digits n number), take_at digits (32 ∷ (hex ++ more)) (length digits) refl, drop-front digits (hex ++ more), ends, take_at hex more (length hex) refl, number_of-IsNumber digits n number, block_of-IsHexOf hex bytes is) refl
+    rw (space-at digits (hex ++ more) (number_no_space digits n number), take_at digits (32 ∷ (hex ++ more)) (length digits) refl, drop-front digits (hex ++ more), ends, take_at hex more (length hex) refl, number_of-IsNumber digits n number, block_from_digits-IsHexOf hex bytes is) refl
 
 -- the last group
 entry-last : (room : ℕ) (text : List ℕ) (g : Group) → group_of text ≡ Some g → length text ≤ g.end → entry_of (suc room) text ≡ Some ((g.block, g.bytes) ∷ [])
@@ -109,7 +109,7 @@ take_before text at e =
     length-take-le at text (let same = found.1 in omega (arith, within, same))
 
 begins : (text : List ℕ) (at : ℕ) (o : Option ℕ) (b : Option Block) (g : Group) → position is_space text ≡ Some at
-    → number_of (take at text) ≡ o → block_of (take (position_or_len is_space (drop (at + 1) text)) (drop (at + 1) text)) ≡ b
+    → number_of (take at text) ≡ o → block_from_digits (take (position_or_len is_space (drop (at + 1) text)) (drop (at + 1) text)) ≡ b
     → group_with o b (at + 1 + position_or_len is_space (drop (at + 1) text)) ≡ Some g → BeginsWith text g
 begins text at None b g is number bytes h = cc
 begins text at (Some n) None g is number bytes h = cc

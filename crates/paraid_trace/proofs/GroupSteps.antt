@@ -8,7 +8,7 @@ use Rattle.paraid_base.specs.declared.pairs.Pairs.{Pairs}
 use Rattle.paraid_base.specs.History.{Entry}
 use Rattle.paraid_base.specs.Pairs.{pairs_of}
 use Rattle.paraid_base.proofs.PairsLemmas.{pairs_with-pairs_of}
-use Rattle.paraid_trace.specs.Lines.{Group, entry_from, entry_of, group_of, onto, rest_at, write_of}
+use Rattle.paraid_trace.specs.LineEvents.{Group, entry_from, entry_of, group_of, onto, rest_at, write_of}
 
 -- pairs before those that are still to be read
 abbrev pub put_on : Entry → Option Entry → Option Entry

@@ -11,8 +11,8 @@ use Rattle.paraid_base.specs.declared.event.Event.{Event}
 use Rattle.paraid_base.specs.declared.event.Event.TheVariants.{Read, Write, Flush, Tick, Up, Down, Fail, Replace, State, Energy, Bad}
 use Rattle.paraid_base.specs.History.{Entry}
 use Rattle.paraid_base.proofs.PairsLemmas.{pairs_of-with, pairs_with-pairs_of}
-use Rattle.paraid_trace.specs.Grammar.{AreGroups, IsLineOf, IsNumber, IsNumbered}
-use Rattle.paraid_trace.specs.Lines.{entry_of, event_at, event_of, fail_of, is_space, named_event, number_of, read_of, replace_of, word_event, write_of}
+use Rattle.paraid_trace.specs.Grammar.{AreGroups, IsLineOf, IsNumber, IsNumberedWord}
+use Rattle.paraid_trace.specs.LineEvents.{entry_of, event_at, event_of, fail_of, is_space, named_event, number_of, read_of, replace_of, word_event, write_of}
 use Rattle.paraid_trace.proofs.SpaceLemmas.{cut, drop-front, space-at}
 use Rattle.paraid_trace.proofs.GroupLemmas.{AreGroups-entry_of, entry_of-pairs}
 use Rattle.paraid_trace.proofs.NumberLemmas.{IsNumber-number_of, number_of-IsNumber}
@@ -30,7 +30,7 @@ number_short : (digits : List ℕ) (n : ℕ) → IsNumber digits n → length di
 number_short digits n h = rw h.printed (length-decimal-le 10 n (omega arith) (omega (arith, h.below)) (omega (arith, h.below)))
 
 -- a name and a number are a short line
-event_of-numbered : (word line : List ℕ) (n : ℕ) → length word ≤ 7 → list_any is_space word ≡ false → (h : IsNumbered word line n) → event_of line ≡ named_event word h.digits
+event_of-numbered : (word line : List ℕ) (n : ℕ) → length word ≤ 7 → list_any is_space word ≡ false → (h : IsNumberedWord word line n) → event_of line ≡ named_event word h.digits
 event_of-numbered word line n few spaces h =
     let named : line ≡ word ++ 32 ∷ h.digits = h.printed ∙ append_assoc word (32 ∷ []) h.digits in
     let short : length line ≤ 1100 = rw h.printed (simp (length-append) (let some = number_short h.digits n h.number in omega (arith, few))) in
@@ -83,7 +83,7 @@ word_asks line =
     (asks_if _ line Energy _ (λ b _. is line _ b)
     (bad_asks line))))))
 
-numbered : (word line rest : List ℕ) (n : ℕ) → line ≡ word ++ 32 ∷ rest → number_of rest ≡ Some n → IsNumbered word line n
+numbered : (word line rest : List ℕ) (n : ℕ) → line ≡ word ++ 32 ∷ rest → number_of rest ≡ Some n → IsNumberedWord word line n
 numbered word line rest n e h = record { digits = rest; number = IsNumber-number_of rest n h; printed = e ∙ sym (append_assoc word (32 ∷ []) rest) }
 
 read_asks : (line rest : List ℕ) (o : Option ℕ) → line ≡ codes "r" ++ 32 ∷ rest → number_of rest ≡ o → Asks line (read_of o)

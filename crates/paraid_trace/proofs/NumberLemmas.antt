@@ -12,7 +12,7 @@ use Rattle.std.proofs.lemmas.Str.Parse.{digits_value-take-le, IsNumeralModel, nu
 use Rattle.std.proofs.lemmas.Int.Digits.{digits_value_more}
 use Rattle.std.proofs.lemmas.Fmt.{decimal-digits_value, decimal_is_IsNumeral, first_decimal, decimal_digit}
 use Rattle.paraid_trace.specs.Grammar.{IsNumber}
-use Rattle.paraid_trace.specs.Lines.{number_of}
+use Rattle.paraid_trace.specs.LineEvents.{number_of}
 
 model : IsNumeralModel (AllDigits 10) (digits_value 10)
 model = numerals_by_value _ tells_digits

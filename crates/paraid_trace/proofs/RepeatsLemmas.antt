@@ -3,9 +3,9 @@ use Rattle.std.proofs.Common.{◌≡◌, ℕ, zero, suc, ◌%◌, ◌<◌, List,
 use Rattle.std.specs.Prelude.{slice_index}
 use Rattle.paraid_base.specs.declared.block.Block.{Block}
 use Rattle.paraid_base.proofs.XorLemmas.{same_block}
-use Rattle.paraid_trace.specs.Repeats.{Repeats, byte_of, length-listed, listed, repeated}
+use Rattle.paraid_trace.specs.Repeats.{Repeats, byte_of, length-listed, list_upto, repeating_block}
 
-pub get_or-listed : (f : ℕ → ℕ) (n k : ℕ) → k < n → get_or (listed f n) k 0 ≡ f k
+pub get_or-listed : (f : ℕ → ℕ) (n k : ℕ) → k < n → get_or (list_upto f n) k 0 ≡ f k
 get_or-listed f zero k lt = absurd (omega arith)
 get_or-listed f (suc n) zero lt = refl
 get_or-listed f (suc n) (suc k) lt = get_or-listed (λ i. f (suc i)) n k (omega arith)
@@ -21,22 +21,22 @@ same_list (x ∷ a) (y ∷ b) e h =
     cc
 
 -- a block of bytes that agree with the repetition is the repetition
-pub repeated-from_places : (pattern : List ℕ) (block : Block) → ((k : ℕ) → k < 512 → get_or block.bytes k 0 ≡ byte_of pattern k) → block ≡ repeated pattern
-unfolding repeated
-repeated-from_places pattern block h =
-    same_block _ _ (same_list block.bytes (listed (byte_of pattern) 512) (block.whole ∙ sym (length-listed (byte_of pattern) 512)) (λ k lt.
+pub repeating_block-from_places : (pattern : List ℕ) (block : Block) → ((k : ℕ) → k < 512 → get_or block.bytes k 0 ≡ byte_of pattern k) → block ≡ repeating_block pattern
+unfolding repeating_block
+repeating_block-from_places pattern block h =
+    same_block _ _ (same_list block.bytes (list_upto (byte_of pattern) 512) (block.whole ∙ sym (length-listed (byte_of pattern) 512)) (λ k lt.
     let below : k < 512 = omega (arith, length-listed (byte_of pattern) 512) in
     h k below ∙ sym (get_or-listed (byte_of pattern) 512 k below)))
 
 -- the block that the definition by place describes
-pub repeated-Repeats : (pattern : List ℕ) (block : Block) → Repeats pattern block → block ≡ repeated pattern
-repeated-Repeats pattern block h = repeated-from_places pattern block (λ k lt.
+pub repeating_block-Repeats : (pattern : List ℕ) (block : Block) → Repeats pattern block → block ≡ repeating_block pattern
+repeating_block-Repeats pattern block h = repeating_block-from_places pattern block (λ k lt.
     let each = h.each k lt in
     let small = block.small k in
     omega arith)
 
-pub Repeats-repeated : (pattern : List ℕ) → ((k : ℕ) → slice_index pattern k < 256) → Repeats pattern (repeated pattern)
-unfolding repeated
+pub Repeats-repeated : (pattern : List ℕ) → ((k : ℕ) → slice_index pattern k < 256) → Repeats pattern (repeating_block pattern)
+unfolding repeating_block
 Repeats-repeated pattern small = record {
   each = λ k lt.
       let byte = get_or-listed (byte_of pattern) 512 k lt in
@@ -45,9 +45,9 @@ Repeats-repeated pattern small = record {
 }
 
 -- bytes that agree with the repetition are its bytes
-pub repeated-bytes : (pattern bytes : List ℕ) → length bytes ≡ 512 → ((k : ℕ) → k < 512 → get_or bytes k 0 ≡ byte_of pattern k) → bytes ≡ (repeated pattern).bytes
-unfolding repeated
-repeated-bytes pattern bytes whole h =
-    same_list bytes (listed (byte_of pattern) 512) (whole ∙ sym (length-listed (byte_of pattern) 512)) (λ k lt.
+pub repeating_block-bytes : (pattern bytes : List ℕ) → length bytes ≡ 512 → ((k : ℕ) → k < 512 → get_or bytes k 0 ≡ byte_of pattern k) → bytes ≡ (repeating_block pattern).bytes
+unfolding repeating_block
+repeating_block-bytes pattern bytes whole h =
+    same_list bytes (list_upto (byte_of pattern) 512) (whole ∙ sym (length-listed (byte_of pattern) 512)) (λ k lt.
     let below : k < 512 = omega (arith, length-listed (byte_of pattern) 512) in
     h k below ∙ sym (get_or-listed (byte_of pattern) 512 k below))

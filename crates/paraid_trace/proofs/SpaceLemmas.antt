@@ -15,7 +15,7 @@ use Rattle.hex.proofs.HexLemmas.{decode_of-ok}
 use Rattle.hex.specs.Hex.{is_hex_digit}
 use Rattle.paraid_base.specs.declared.block.Block.{Block}
 use Rattle.paraid_trace.specs.Grammar.{IsHexOf, IsNumber}
-use Rattle.paraid_trace.specs.Lines.{is_space}
+use Rattle.paraid_trace.specs.LineEvents.{is_space}
 
 -- ---- the first space
 

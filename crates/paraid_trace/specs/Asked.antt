@@ -6,7 +6,7 @@ use Rattle.paraid_base.specs.declared.event.Event.TheVariants.{Read, Write, Flus
 use Rattle.paraid_base.specs.declared.pairs.Pairs.{Pairs}
 use Rattle.paraid_trace.specs.declared.asked.Asked.{Asked}
 use Rattle.paraid_trace.specs.declared.asked.Asked.TheVariants.{Read as AskRead, Write as AskWrite, Flush as AskFlush, Tick as AskTick, Up as AskUp, Down as AskDown, Fail as AskFail, Replace as AskReplace, State as AskState, Energy as AskEnergy, Bad as AskBad}
-use Rattle.paraid_trace.specs.Lines.{Group}
+use Rattle.paraid_trace.specs.LineEvents.{Group}
 
 -- the event that is asked for, with the pairs that stand beside it
 abbrev pub event_with : Asked → Pairs → Event

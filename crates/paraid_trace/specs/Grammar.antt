@@ -24,7 +24,7 @@ pub record IsHexOf (digits : List ℕ) (block : Block) : Type 0 where
   pub repeats : Repeats pattern block
 
 -- a word, one space, and a number
-pub record IsNumbered (word line : List ℕ) (n : ℕ) : Type 0 where
+pub record IsNumberedWord (word line : List ℕ) (n : ℕ) : Type 0 where
   pub digits : List ℕ
   pub number : IsNumber digits n
   pub printed : line ≡ word ++ codes " " ++ digits
@@ -45,7 +45,7 @@ AreGroups [] text = text ≡ []
 AreGroups (pair ∷ pairs) text = IsGroup pair (AreGroups pairs) text
 
 -- `w` and a group for each of the one to eight pairs, in at most 1,100 bytes
-pub record IsWrite (line : List ℕ) (pairs : Pairs) : Type 0 where
+pub record IsWriteLine (line : List ℕ) (pairs : Pairs) : Type 0 where
   pub groups : List ℕ
   pub printed : line ≡ codes "w" ++ groups
   pub each : AreGroups (pairs_of pairs) groups
@@ -53,14 +53,14 @@ pub record IsWrite (line : List ℕ) (pairs : Pairs) : Type 0 where
 
 -- The line asks for the event. No line asks for `Bad`: it stands for the lines of no event.
 abbrev pub IsLineOf : List ℕ → Event → Type 0
-IsLineOf line (Read block) = IsNumbered (codes "r") line block
-IsLineOf line (Write pairs) = IsWrite line pairs
+IsLineOf line (Read block) = IsNumberedWord (codes "r") line block
+IsLineOf line (Write pairs) = IsWriteLine line pairs
 IsLineOf line Flush = line ≡ codes "f"
 IsLineOf line Tick = line ≡ codes "t"
 IsLineOf line Up = line ≡ codes "up"
 IsLineOf line Down = line ≡ codes "down"
-IsLineOf line (Fail disk) = IsNumbered (codes "fail") line disk
-IsLineOf line (Replace disk) = IsNumbered (codes "replace") line disk
+IsLineOf line (Fail disk) = IsNumberedWord (codes "fail") line disk
+IsLineOf line (Replace disk) = IsNumberedWord (codes "replace") line disk
 IsLineOf line State = line ≡ codes "s"
 IsLineOf line Energy = line ≡ codes "e"
 IsLineOf line Bad = ⊥

@@ -1,6 +1,6 @@
 pub mod Repeats
 pub mod Grammar
-pub mod Lines
+pub mod LineEvents
 pub mod Asked
 pub mod BlockTexts
 pub mod StateTexts

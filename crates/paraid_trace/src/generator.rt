@@ -1,5 +1,5 @@
 ghost use Rattle.std.specs.Prelude.{◌≡◌, ◌<◌, ◌*◌, ◌+◌, ◌%◌, ◌^◌};
-ghost use Rattle.paraid_trace.specs.Generated.{event_of_kind as event_of, generated, mixed as mixed_of};
+ghost use Rattle.paraid_trace.specs.Generated.{event_of_kind as event_of, generated_event, mixed_number as mixed_of};
 
 use crate::hexes::repeated;
 use paraid_base::{Event, Pairs};
@@ -14,10 +14,10 @@ const SQUARE_FACTOR: u64 = 668265263;
 /// Line `i`, from 0, of the trace that a number stands for, on an array of so many blocks. Of 256
 /// lines about 140 are reads, 90 writes, 10 flushes, 14 ticks, one is `up` and one `down`. A write
 /// repeats the two lowest bytes of `i`, the high byte first.
-#[tactic(auto, unfolding(crate::specs::Generated::generated))]
+#[tactic(auto, unfolding(crate::specs::Generated::generated_event))]
 pub fn generate(number: u32, i: u32, blocks: u32) -> Event
     requires some { 0 < blocks }
-    ensures value { result ≡ generated number i blocks }
+    ensures value { result ≡ generated_event number i blocks }
 {
     let mixed = mixed(number, i);
     let block = mixed % (1 << 24) % blocks;

@@ -1,14 +1,14 @@
 ghost use Rattle.std.specs.Prelude.{◌≡◌, ◌/◌, ◌<◌, ◌≤◌, length, take};
-ghost use Rattle.paraid_trace.specs.Lines.{block_of};
+ghost use Rattle.paraid_trace.specs.LineEvents.{block_from_digits};
 ghost use Rattle.paraid_trace.specs.Asked.{if_read};
-ghost use Rattle.paraid_trace.specs.Repeats.{repeated as repetition_of};
+ghost use Rattle.paraid_trace.specs.Repeats.{repeating_block as repetition_of};
 
 use paraid_base::{BLOCK_SIZE, Block};
 
 /// Reads 2 to 1,024 hexadecimal digits, an even number of them, as a block, and says whether they
 /// are such digits. After a refusal `into` is as before.
 pub fn block(digits: &[u8], into: &mut Block) -> bool
-    ensures { block_of digits.now ≡ if_read result into.new }
+    ensures { block_from_digits digits.now ≡ if_read result into.new }
 {
     if digits.len() < 2 {
         return false;
@@ -31,7 +31,7 @@ fn decoded(digits: &[u8], room: &mut [u8]) -> bool
     requires low { 2 ≤ length digits.now }
     requires high { length digits.now ≤ 1024 }
     requires half { length room.old ≡ length digits.now / 2 }
-    ensures value { block_of digits.now ≡ if_read result (repetition_of room.new) }
+    ensures value { block_from_digits digits.now ≡ if_read result (repetition_of room.new) }
     ensures length { length room.new ≡ length digits.now / 2 }
 {
     match hex::decode_to_slice(digits, room) {

@@ -15,6 +15,6 @@ mod text;
 
 pub use asked::Asked;
 pub use generator::generate;
-pub use line::{parse_line, read_line};
+pub use line::{number, parse_line, read_line};
 pub use replies::reply;
 pub use text::{MAX_TEXT, Text};

@@ -7,7 +7,7 @@ ghost use Rattle.paraid_base.specs.declared.event.Event.{Event as EventType};
 ghost use Rattle.paraid_base.specs.declared.event.Event.TheVariants.{Bad};
 ghost use Rattle.paraid_base.specs.declared.pairs.Pairs.{Pairs as PairsType};
 ghost use Rattle.paraid_trace.specs.Grammar.{IsLineOf};
-ghost use Rattle.paraid_trace.specs.Lines.{entry_of, event_at, event_of, fail_of, group_of, is_space, named_event as event_of_name, number_of, read_of, replace_event as event_of_replace, replace_of, word_event as event_of_word, write_of};
+ghost use Rattle.paraid_trace.specs.LineEvents.{entry_of, event_at, event_of, fail_of, group_of, is_space, named_event as event_of_name, number_of, read_of, replace_event as event_of_replace, replace_of, word_event as event_of_word, write_of};
 ghost use Rattle.paraid_trace.specs.Asked.{event_with, group_in};
 
 use crate::Asked;
@@ -62,7 +62,7 @@ pub fn read_line(line: &[u8], pairs: &mut Pairs) -> Asked
     asked(line, pairs)
 }
 
-#[tactic(auto, unfolding(crate::specs::Lines::event_of))]
+#[tactic(auto, unfolding(crate::specs::LineEvents::event_of))]
 fn asked(line: &[u8], pairs: &mut Pairs) -> Asked
     ensures { event_with result pairs.new ≡ event_of line.now }
 {
@@ -180,7 +180,7 @@ fn write(text: &[u8], pairs: &mut Pairs) -> Asked
 }
 
 // Reads the first group of a text: its block, its bytes, and the place behind it.
-#[tactic(auto, unfolding(crate::specs::Lines::group_of))]
+#[tactic(auto, unfolding(crate::specs::LineEvents::group_of))]
 fn group(text: &[u8], bytes: &mut Block) -> Option<(BlockNo, usize)>
     ensures group { group_of text.now ≡ group_in result bytes.new }
     ensures within { IfSome result (λ found. found.1 ≤ length text.now) }
@@ -199,8 +199,8 @@ fn group(text: &[u8], bytes: &mut Block) -> Option<(BlockNo, usize)>
     Some((number, at + 1 + length))
 }
 
-// A number below 2^32 in decimal digits, with no zero before another digit.
-fn number(digits: &[u8]) -> Option<u32>
+/// A number below 2^32 in decimal digits, with no zero before another digit.
+pub fn number(digits: &[u8]) -> Option<u32>
     ensures { result ≡ number_of digits.now }
 {
     if digits.len() > 1 && digits[0] == b'0' {

@@ -9,8 +9,8 @@ use Rattle.paraid_rack.specs.Disks.{is_present}
 use Rattle.paraid_rack.specs.Slots.{Slot}
 use Rattle.paraid_image.specs.Out.{first_absent, or_else}
 use Rattle.paraid_image.proofs.OutLemmas.{first_absent_finds, first_absent_is}
-use Rattle.paraid_txn.specs.Losses.{IsOut, IsTwo, IsTwoBeside}
-use Rattle.paraid_txn.specs.Losses.IsOut.{is_absent, was_named, is_named}
+use Rattle.paraid_txn.specs.Losses.{IsOutOfCommit, AreTwoDown, AreTwoDownBeside}
+use Rattle.paraid_txn.specs.Losses.IsOutOfCommit.{is_absent, was_named, is_named}
 
 not_there : (p : Power) → is_present p ≡ false → p ≡ Absent
 not_there Absent is = refl
@@ -19,20 +19,20 @@ not_there Spinning is = absurd (false≢true (sym is))
 
 module _ (power : ℕ → Power) (n : ℕ) (before after : Option ℕ) where
   -- the disk that is down as a commit begins is out
-  pub first_is_out : (e : ℕ) → or_else (first_absent power n) (or_else before after) ≡ Some e → IsOut power n before after e
+  pub first_is_out : (e : ℕ) → or_else (first_absent power n) (or_else before after) ≡ Some e → IsOutOfCommit power n before after e
   first_is_out e first = split (first_absent power n) before refl refl first
     where
-      split : (f b : Option ℕ) → first_absent power n ≡ f → before ≡ b → or_else f (or_else b after) ≡ Some e → IsOut power n before after e
+      split : (f b : Option ℕ) → first_absent power n ≡ f → before ≡ b → or_else f (or_else b after) ≡ Some e → IsOutOfCommit power n before after e
       split (Some d) b is was found =
           let same : d ≡ e = cc in
           let gone = first_absent_is power n d is in
-          subst (λ (k : ℕ). IsOut power n before after k) same (is_absent gone.0 (not_there (power d) gone.1))
+          subst (λ (k : ℕ). IsOutOfCommit power n before after k) same (is_absent gone.0 (not_there (power d) gone.1))
       split None (Some d) is was found = was_named (was ∙ found)
       split None None is was found = is_named found
 
   -- a disk that is there and beside which none was down is the only one that was out
   pub alone_out : (d : ℕ) → is_present (power d) ≡ true → ((e : ℕ) → or_else (first_absent power n) (or_else before after) ≡ Some e → e ≡ d)
-      → ((e : ℕ) → after ≡ Some e → e ≡ d) → (e : ℕ) → IsOut power n before after e → e ≡ d
+      → ((e : ℕ) → after ≡ Some e → e ≡ d) → (e : ℕ) → IsOutOfCommit power n before after e → e ≡ d
   alone_out d here only named e out = by out
     where
       never : (f : ℕ) → first_absent power n ≡ Some f → ⊥
@@ -45,14 +45,14 @@ module _ (power : ℕ → Power) (n : ℕ) (before after : Option ℕ) where
       split (Some f) is was = absurd (never f is)
       split None is was = only e (ap (λ (o : Option ℕ). or_else o (or_else before after)) is ∙ ap (λ (o : Option ℕ). or_else o after) was)
 
-      by : IsOut power n before after e → e ≡ d
+      by : IsOutOfCommit power n before after e → e ≡ d
       by (is_absent low gone) = let f = first_absent_finds power n e low (ap is_present gone) in absurd (never f.0 f.1)
       by (was_named is) = split (first_absent power n) refl is
       by (is_named is) = named e is
 
 -- why two disks are down, by all that were out
 pub two_beside : (power : ℕ → Power) (n : ℕ) (before after down : Option ℕ) (old new : ℕ → Slot) (two : Two) → down ≡ or_else (first_absent power n) (or_else before after)
-    → IsTwo down old new two → IsTwoBeside (IsOut power n before after) old new two
+    → AreTwoDown down old new two → AreTwoDownBeside (IsOutOfCommit power n before after) old new two
 two_beside power n before after down old new two is it = record {
   first = elim it.first [ inl was ↦ inl (first_is_out power n before after two.first (sym is ∙ was)) | inr risen ↦ inr risen ];
   apart = it.apart;
@@ -61,7 +61,7 @@ two_beside power n before after down old new two is it = record {
 
 -- and by one, where no other was out
 pub two_by : (out : ℕ → Type 0) (down : Option ℕ) (old new : ℕ → Slot) (two : Two) → ((e : ℕ) → out e → down ≡ Some e)
-    → IsTwoBeside out old new two → IsTwo down old new two
+    → AreTwoDownBeside out old new two → AreTwoDown down old new two
 two_by out down old new two is it = record {
   first = elim it.first [ inl was ↦ inl (is two.first was) | inr risen ↦ inr risen ];
   apart = it.apart;

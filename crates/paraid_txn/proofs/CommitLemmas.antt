@@ -4,34 +4,26 @@ use Rattle.std.proofs.Common.{refl, sym, ◌∙◌, ap, subst, arith, inl, inr}
 use Rattle.std.proofs.lemmas.Bool.{cases_Bool, cases_eq, false≢true}
 use Rattle.paraid_rack.specs.declared.call.Power.{Power}
 use Rattle.paraid_rack.specs.declared.call.Power.TheVariants.{Absent}
-use Rattle.paraid_rack.specs.Atoms.{IsLeft}
+use Rattle.paraid_rack.specs.Atoms.{IsLeftByStop}
 use Rattle.paraid_rack.specs.Disks.{Disks, IsPresent, is_present, lose}
 use Rattle.paraid_rack.proofs.AtomsLemmas.{at_use, image_left, lost_left, with_at_other, with_at_same}
 use Rattle.paraid_record.specs.declared.meta.Meta.{Meta}
 use Rattle.paraid_record.specs.Range.{IsInRange}
-use Rattle.paraid_image.specs.Rest.{AreShut, IsAtRest, IsDrained, closed_over}
-use Rattle.paraid_txn.specs.Commit.{IsCommitted, IsEachImage, IsEitherMissing, IsOldOrNew, IsOneMissing, StandsFor, StandsForEither}
+use Rattle.paraid_image.specs.Rest.{AreLogGatesClosed, IsAtRest, AreSynced, closed_over}
+use Rattle.paraid_txn.specs.Commit.{IsCommitted, IsEachImage, IsEitherMissing, IsOldOrNew, IsOneMissing, ImageStandsFor, ImageStandsForEither}
 use Rattle.paraid_image.specs.Out.{IsMissing, IsWeak, first_absent, named_out, or_else, out_disk}
 use Rattle.paraid_image.specs.Out.IsWeak.{out as out_weak, named as named_weak}
-use Rattle.paraid_image.specs.Sides.{Said, Says, SaysBy, is_open, stored}
+use Rattle.paraid_image.specs.Sides.{LogState, Says, SaysBy, is_open, stored_block}
 use Rattle.paraid_image.specs.Sound.{LogOk}
-use Rattle.paraid_txn.specs.Stages.{Close, Early, IsLive, Job, Late, Later, Log, Whole, named, open_with}
+use Rattle.paraid_txn.specs.CommitStages.{CloseStage, IsEarlyImage, IsLiveLog, Job, IsLateImage, HoldsLate, LogStage, HoldsWhole, job_named, open_with}
 use Rattle.paraid_image.specs.Standing.{Stands, other_log}
-use Rattle.paraid_image.proofs.OutLemmas.{first_absent_finds, first_absent_is, named_below}
+use Rattle.paraid_image.proofs.OutLemmas.{first_absent_finds, named_below, out_missing}
 use Rattle.paraid_image.proofs.SidesLemmas.{Says-same}
 use Rattle.paraid_image.proofs.StandingLemmas.{Stands-same}
 use Rattle.paraid_txn.proofs.SpokenLemmas.{IsBegun, before_in_range, begun_brought, joining_shut, stands_alone}
-use Rattle.paraid_txn.proofs.StandsForLemmas.{IsPaired, aside_old, early_for_new, early_for_old, early_joining, early_other, early_stands, late_for, late_other, late_stands}
-use Rattle.paraid_image.proofs.StepLemmas.{decide_some, out_named, says_of_lost}
+use Rattle.paraid_txn.proofs.CommitImagesLemmas.{IsPaired, aside_old, early_for_new, early_for_old, early_joining, early_other, early_stands, late_for, late_other, late_stands}
+use Rattle.paraid_image.proofs.CallLemmas.{decide_some, out_named, says_of_lost}
 use Rattle.paraid_txn.proofs.WholeLemmas.{closing_late, closing_whole, stored_here}
-
--- the out disk is missing
-pub out_missing : (power : ℕ → Power) (m : Meta) (w : ℕ) → IsInRange m → out_disk power m ≡ Some w → IsMissing power m w
-out_missing power m w range is = split (named_out m.out) refl is
-  where
-    split : (o : Option ℕ) → named_out m.out ≡ o → or_else o (first_absent power m.setup.geometry.disks) ≡ Some w → IsMissing power m w
-    split (Some e) name same = record { disk = named_below m.setup.geometry m.gear m.out w range.out (name ∙ same); is = inr (name ∙ same) }
-    split None name same = let a = first_absent_is power m.setup.geometry.disks w same in record { disk = a.0; is = inl a.1 }
 
 -- where a disk is absent, some disk is out
 pub absent_out : (power : ℕ → Power) (m : Meta) (e : ℕ) → e < m.setup.geometry.disks → is_present (power e) ≡ false → (w : ℕ) × (out_disk power m ≡ Some w)
@@ -42,9 +34,9 @@ absent_out power m e low gone = split (named_out m.out) refl
     split None name = first_absent_finds power m.setup.geometry.disks e low gone
 
 -- what a closed gate says
-pub closed_said : (i : Disks) (z : ℕ) (said : Said) (m : Meta) → Says i z said → said.opened ≡ false → said.meta ≡ m → said ≡ closed_over m
+pub closed_said : (i : Disks) (z : ℕ) (said : LogState) (m : Meta) → Says i z said → said.opened ≡ false → said.meta ≡ m → said ≡ closed_over m
 closed_said i z said m says shut is =
-    let log : SaysBy false (stored i z) said.meta said.batch = subst (λ (o : Bool). SaysBy o (stored i z) said.meta said.batch) shut says.log in
+    let log : SaysBy false (stored_block i z) said.meta said.batch = subst (λ (o : Bool). SaysBy o (stored_block i z) said.meta said.batch) shut says.log in
     λ t. record { opened = shut t; meta = is t; batch = log.empty t }
 
 pub decide_out : (o : Option ℕ) → ((w : ℕ) × (o ≡ Some w)) ⊎ (o ≡ None)
@@ -79,23 +71,23 @@ module _ (j : Job) (before : Meta) (begun : IsBegun j before) where
 
   -- a log disk that is absent, or is left alone
   abbrev IsShunned : Disks → ℕ → Type 0
-  IsShunned i x = (is_present (i.power x) ≡ false) ⊎ (named j ≡ Some x)
+  IsShunned i x = (is_present (i.power x) ≡ false) ⊎ (job_named j ≡ Some x)
 
   shunned_missing : (i : Disks) (x : ℕ) → x < 2 → IsShunned i x → IsEitherMissing i.power before j.meta x
   shunned_missing i x low (inl gone) = inl (record { disk = (let n = enough in omega arith); is = inl gone })
   shunned_missing i x low (inr is) = inr (record { disk = (let n = enough in let s = same_disks in omega arith); is = inr (sym begun.names ∙ is) })
 
   -- every other one is live and there
-  live_or_shunned : (i : Disks) (x : ℕ) → x < 2 → IsShunned i x ⊎ (IsLive j x × IsPresent i x)
+  live_or_shunned : (i : Disks) (x : ℕ) → x < 2 → IsShunned i x ⊎ (IsLiveLog j x × IsPresent i x)
   live_or_shunned i x low = elim (cases_Bool (is_present (i.power x))) [
     | inr gone ↦ inl (inl gone)
-    | inl here ↦ elim (decide_some (named j) x) [
+    | inl here ↦ elim (decide_some (job_named j) x) [
       | inl is ↦ inl (inr is)
       | inr not ↦ inr ((low, not), here)
     ]
   ]
 
-  one_live : (i : Disks) → IsOneMissing i.power before j.meta → (x : ℕ) × IsLive j x × IsPresent i x
+  one_live : (i : Disks) → IsOneMissing i.power before j.meta → (x : ℕ) × IsLiveLog j x × IsPresent i x
   one_live i one = elim (live_or_shunned i 0 (omega arith)) [
     | inr a ↦ (0, a.0, a.1)
     | inl a ↦ elim (live_or_shunned i 1 (omega arith)) [
@@ -108,7 +100,7 @@ module _ (j : Job) (before : Meta) (begun : IsBegun j before) where
 
   -- an image in which some log disk stands by one of the two metas
   module _ (i : Disks) (one : IsOneMissing i.power before j.meta) (d : ℕ) (weak : (w : ℕ) → IsWeak i w → w ≡ d)
-      (z : ℕ) (said : Said) (stands : Stands i z said) (one_of : IsOneOf said.meta) where
+      (z : ℕ) (said : LogState) (stands : Stands i z said) (one_of : IsOneOf said.meta) where
     -- the out disk is the one that is lost
     out_lost : (w : ℕ) → out_disk i.power said.meta ≡ Some w → w ≡ d
     out_lost w is = weak w (out_weak z said stands is)
@@ -123,11 +115,11 @@ module _ (j : Job) (before : Meta) (begun : IsBegun j before) where
         ∙ out_lost w.0 w.1
 
     -- and each that a meta names out by which some log disk stands once the disk is lost
-    named_lost : (y : ℕ) (other : Said) → y < 2 → Says i y other → IsOneOf other.meta → (e : ℕ) → named_out other.meta.out ≡ Some e → e ≡ d
+    named_lost : (y : ℕ) (other : LogState) → y < 2 → Says i y other → IsOneOf other.meta → (e : ℕ) → named_out other.meta.out ≡ Some e → e ≡ d
     named_lost y other low says of_two e name = elim (cases_eq y z) [
       | inl is ↦
           let same = Says-same i z other said (subst (λ (w : ℕ). Says i w other) is says) stands.says in
-          out_lost e (out_named i.power said.meta e (ap (λ (o : Said). named_out o.meta.out) (sym same) ∙ name))
+          out_lost e (out_named i.power said.meta e (ap (λ (o : LogState). named_out o.meta.out) (sym same) ∙ name))
       | inr apart ↦
           let here : y ≡ other_log z = (let l = stands.log_disk in omega arith) in
           elim (decide_out (out_disk i.power said.meta)) [
@@ -139,27 +131,27 @@ module _ (j : Job) (before : Meta) (begun : IsBegun j before) where
           ]
     ]
 
-    missing_lost : (y : ℕ) (other : Said) (m : Meta) → y < 2 → Says (lose d i) y other → other.meta ≡ m → IsOneOf m → (e : ℕ) → IsMissing (lose d i).power m e → e ≡ d
+    missing_lost : (y : ℕ) (other : LogState) (m : Meta) → y < 2 → Says (lose d i) y other → other.meta ≡ m → IsOneOf m → (e : ℕ) → IsMissing (lose d i).power m e → e ≡ d
     missing_lost y other m low says is of_two e missing = elim missing.is [
       | inl gone ↦ at_use (λ (p : Power). is_present p ≡ false) (e ≡ d) i.power d Absent e (λ same now. same)
           (λ apart now. absent_lost e (let n = disk_count m of_two in let l = missing.disk in omega arith) now) gone
       | inr name ↦ named_lost y other low (says_of_lost i d y other says) (subst IsOneOf (sym is) of_two) e (ap (λ (n : Meta). named_out n.out) is ∙ name)
     ]
 
-    single_lost : (y : ℕ) (other : Said) (m : Meta) → y < 2 → Says (lose d i) y other → other.meta ≡ m → IsOneOf m
+    single_lost : (y : ℕ) (other : LogState) (m : Meta) → y < 2 → Says (lose d i) y other → other.meta ≡ m → IsOneOf m
         → (e f : ℕ) → IsMissing (lose d i).power m e → IsMissing (lose d i).power m f → e ≡ f
     single_lost y other m low says is of_two e f p q = missing_lost y other m low says is of_two e p ∙ sym (missing_lost y other m low says is of_two f q)
 
     -- a log disk that is absent or left alone, but not lost, is there, and is named out by the new
     -- meta alone
     left_behind : (y : ℕ) → y < 2 → y ≢ d → IsShunned i y
-        → IsPresent i y × (named j ≡ Some y) × (named_out said.meta.out ≢ Some y)
+        → IsPresent i y × (job_named j ≡ Some y) × (named_out said.meta.out ≢ Some y)
     left_behind y low apart shunned = elim (cases_Bool (is_present (i.power y))) [
       | inr gone ↦ absurd (apart (absent_lost y (let n = enough in omega arith) gone))
       | inl here ↦ (here, name here, λ e. apart (out_lost y (out_named i.power said.meta y e)))
     ]
       where
-        name : IsPresent i y → named j ≡ Some y
+        name : IsPresent i y → job_named j ≡ Some y
         name here = elim shunned [ inl gone ↦ absurd (false≢true (sym gone ∙ here)) | inr is ↦ is ]
 
   still : (i : Disks) (d x : ℕ) → x ≢ d → IsPresent i x → IsPresent (lose d i) x
@@ -173,7 +165,7 @@ module _ (j : Job) (before : Meta) (begun : IsBegun j before) where
   IsAlone i d y = (y < 2) × (y ≢ d) × IsShunned i y × (is_present ((lose d i).power (other_log y)) ≡ false)
 
   abbrev IsFound : Disks → ℕ → Type 0
-  IsFound i d = ((x : ℕ) × IsLive j x × IsPresent (lose d i) x) ⊎ ((y : ℕ) × IsAlone i d y)
+  IsFound i d = ((x : ℕ) × IsLiveLog j x × IsPresent (lose d i) x) ⊎ ((y : ℕ) × IsAlone i d y)
 
   found_but_first : (i : Disks) (d : ℕ) → 0 ≡ d → IsFound i d
   found_but_first i d is = elim (live_or_shunned i 1 (omega arith)) [
@@ -202,16 +194,16 @@ module _ (j : Job) (before : Meta) (begun : IsBegun j before) where
   ]
 
   abbrev LeftAside : Disks → Type 0
-  LeftAside i = (y p : ℕ) → y < 2 → named j ≡ Some y → p < 100 → IsPresent i y → i.block y p ≡ j.start.block y p
+  LeftAside i = (y p : ℕ) → y < 2 → job_named j ≡ Some y → p < 100 → IsPresent i y → i.block y p ≡ j.start.block y p
 
   abbrev Either : Disks → Type 0
-  Either = StandsForEither j.start before j.meta j.batch
+  Either = ImageStandsForEither j.start before j.meta j.batch
 
   abbrev New : Disks → Type 0
-  New i = StandsFor j.start i j.meta j.batch
+  New i = ImageStandsFor j.start i j.meta j.batch
 
   -- before the targets are touched
-  module _ (i : Disks) (aside : LeftAside i) (early : Early j i) where
+  module _ (i : Disks) (aside : LeftAside i) (early : IsEarlyImage j i) where
     abbrev Paired : Type 0
     Paired = IsPaired j before begun i early.kept aside early
 
@@ -227,13 +219,13 @@ module _ (j : Job) (before : Meta) (begun : IsBegun j before) where
           absurd (omega arith)
     ]
 
-    early_for : Paired → (x : ℕ) → IsLive j x → IsPresent i x
-        → ((z : ℕ) (said : Said) (m : Meta) → Stands i z said → said.meta ≡ m → IsOneOf m → (e f : ℕ) → IsMissing i.power m e → IsMissing i.power m f → e ≡ f) → Either i
+    early_for : Paired → (x : ℕ) → IsLiveLog j x → IsPresent i x
+        → ((z : ℕ) (said : LogState) (m : Meta) → Stands i z said → said.meta ≡ m → IsOneOf m → (e f : ℕ) → IsMissing i.power m e → IsMissing i.power m f → e ≡ f) → Either i
     early_for pair x live here single_of =
         let e = early_stands j before begun i early.kept aside early pair x live here in
         elim e.3 [
-          | inl is ↦ inl (early_for_old j before begun i early.kept aside early e.0 e.1 e.2 is.0 is.1 (single_of e.0 e.1 before e.2 (ap (λ (o : Said). o.meta) is.0) (inl refl)))
-          | inr is ↦ inr (early_for_new j before begun i early.kept aside early e.0 e.1 e.2 is.0 is.1 (single_of e.0 e.1 j.meta e.2 (ap (λ (o : Said). o.meta) is.0) (inr refl)))
+          | inl is ↦ inl (early_for_old j before begun i early.kept aside early e.0 e.1 e.2 is.0 is.1 (single_of e.0 e.1 before e.2 (ap (λ (o : LogState). o.meta) is.0) (inl refl)))
+          | inr is ↦ inr (early_for_new j before begun i early.kept aside early e.0 e.1 e.2 is.0 is.1 (single_of e.0 e.1 j.meta e.2 (ap (λ (o : LogState). o.meta) is.0) (inr refl)))
         ]
 
     early_whole : IsOneMissing i.power before j.meta → Either i
@@ -241,11 +233,11 @@ module _ (j : Job) (before : Meta) (begun : IsBegun j before) where
         let l = one_live i one in
         early_for (pair_whole one) l.0 l.1 l.2 (λ z said m s is of_two. single i.power m of_two one)
 
-    early_kind : (z : ℕ) (said : Said) → ((said ≡ closed_over before) × (named_out before.out ≢ Some z)) ⊎ ((said ≡ open_with j) × IsLive j z) → IsOneOf said.meta
-    early_kind z said (inl is) = inl (ap (λ (o : Said). o.meta) is.0)
-    early_kind z said (inr is) = inr (ap (λ (o : Said). o.meta) is.0)
+    early_kind : (z : ℕ) (said : LogState) → ((said ≡ closed_over before) × (named_out before.out ≢ Some z)) ⊎ ((said ≡ open_with j) × IsLiveLog j z) → IsOneOf said.meta
+    early_kind z said (inl is) = inl (ap (λ (o : LogState). o.meta) is.0)
+    early_kind z said (inr is) = inr (ap (λ (o : LogState). o.meta) is.0)
 
-    module _ (one : IsOneMissing i.power before j.meta) (d : ℕ) (weak : (w : ℕ) → IsWeak i w → w ≡ d) (aside_too : LeftAside (lose d i)) (early_too : Early j (lose d i)) where
+    module _ (one : IsOneMissing i.power before j.meta) (d : ℕ) (weak : (w : ℕ) → IsWeak i w → w ≡ d) (aside_too : LeftAside (lose d i)) (early_too : IsEarlyImage j (lose d i)) where
       -- where the log disk that is left was to be left alone, the old contents stand
       early_alone : (y : ℕ) → IsAlone i d y → Either (lose d i)
       early_alone y alone =
@@ -253,16 +245,16 @@ module _ (j : Job) (before : Meta) (begun : IsBegun j before) where
           let e = early_stands j before begun i early.kept aside early (pair_whole one) l.0 l.1 l.2 in
           let b = left_behind i one d weak e.0 e.1 e.2 (early_kind e.0 e.1 e.3) y alone.0 alone.1 alone.2 in
           elim e.3 [
-            | inr is ↦ absurd (b.2 (ap (λ (o : Said). named_out o.meta.out) is.0 ∙ sym begun.names ∙ b.1))
+            | inr is ↦ absurd (b.2 (ap (λ (o : LogState). named_out o.meta.out) is.0 ∙ sym begun.names ∙ b.1))
             | inl is ↦
-                let not : named_out before.out ≢ Some y = λ q. b.2 (ap (λ (o : Said). named_out o.meta.out) is.0 ∙ q) in
+                let not : named_out before.out ≢ Some y = λ q. b.2 (ap (λ (o : LogState). named_out o.meta.out) is.0 ∙ q) in
                 let says = aside_old j before begun (lose d i) early_too.kept aside_too y alone.0 b.1 (still i d y alone.1 b.0) not in
                 inl (early_for_old j before begun (lose d i) early_too.kept aside_too early_too y (closed_over before) (stands_alone (lose d i) y (closed_over before) alone.0 says alone.3) refl not
                 (single_lost i one d weak e.0 e.1 e.2 (early_kind e.0 e.1 e.3) y (closed_over before) before alone.0 says refl (inl refl)))
           ]
 
-  early_lost : (i : Disks) (aside : LeftAside i) (early : Early j i) (one : IsOneMissing i.power before j.meta) (d : ℕ) (weak : (w : ℕ) → IsWeak i w → w ≡ d)
-      (aside_too : LeftAside (lose d i)) (early_too : Early j (lose d i)) → Either (lose d i)
+  early_lost : (i : Disks) (aside : LeftAside i) (early : IsEarlyImage j i) (one : IsOneMissing i.power before j.meta) (d : ℕ) (weak : (w : ℕ) → IsWeak i w → w ≡ d)
+      (aside_too : LeftAside (lose d i)) (early_too : IsEarlyImage j (lose d i)) → Either (lose d i)
   early_lost i aside early one d weak aside_too early_too =
       let l = one_live i one in
       let pair = pair_whole i aside early one in
@@ -286,48 +278,48 @@ module _ (j : Job) (before : Meta) (begun : IsBegun j before) where
       ]
 
   -- the weak disk is missing by one of the two metas
-  weak_missing : (i : Disks) (x : ℕ) (said : Said) → Stands i x said → IsOneOf said.meta
-      → (out_disk i.power said.meta ≡ None → (o : Said) → Says i (other_log x) o → IsOneOf o.meta) → (w : ℕ) → IsWeak i w → IsEitherMissing i.power before j.meta w
+  weak_missing : (i : Disks) (x : ℕ) (said : LogState) → Stands i x said → IsOneOf said.meta
+      → (out_disk i.power said.meta ≡ None → (o : LogState) → Says i (other_log x) o → IsOneOf o.meta) → (w : ℕ) → IsWeak i w → IsEitherMissing i.power before j.meta w
   weak_missing i x said s of_two others w (out_weak y o t is) =
       let same = (Stands-same i x y said o s t).1 in
-      let is_now : out_disk i.power said.meta ≡ Some w = ap (λ (u : Said). out_disk i.power u.meta) same ∙ is in
+      let is_now : out_disk i.power said.meta ≡ Some w = ap (λ (u : LogState). out_disk i.power u.meta) same ∙ is in
       either i.power said.meta w of_two (out_missing i.power said.meta w (in_range said.meta of_two) is_now)
   weak_missing i x said s of_two others w (named_weak y o other t none says name) =
       let same = Stands-same i x y said o s t in
-      let none_now : out_disk i.power said.meta ≡ None = ap (λ (u : Said). out_disk i.power u.meta) same.1 ∙ none in
+      let none_now : out_disk i.power said.meta ≡ None = ap (λ (u : LogState). out_disk i.power u.meta) same.1 ∙ none in
       let other_two = others none_now other (subst (λ (z : ℕ). Says i (other_log z) other) (sym same.0) says) in
       either i.power other.meta w other_two (record { disk = named_below other.meta.setup.geometry other.meta.gear other.meta.out w (in_range other.meta other_two).out name; is = inr name })
 
-  early_weak : (i : Disks) (aside : LeftAside i) (early : Early j i) → IsOneMissing i.power before j.meta → (w : ℕ) → IsWeak i w → IsEitherMissing i.power before j.meta w
+  early_weak : (i : Disks) (aside : LeftAside i) (early : IsEarlyImage j i) → IsOneMissing i.power before j.meta → (w : ℕ) → IsWeak i w → IsEitherMissing i.power before j.meta w
   early_weak i aside early one w weak =
       let l = one_live i one in
       let e = early_stands j before begun i early.kept aside early (pair_whole i aside early one) l.0 l.1 l.2 in
       weak_missing i e.0 e.1 e.2 (early_kind i aside early e.0 e.1 e.3)
       (λ none o says. one_of o (early_other j before begun i early.kept aside early e.0 e.1 e.2 e.3 none o says)) w weak
     where
-      one_of : (o : Said) → (o ≡ closed_over before) ⊎ (o ≡ open_with j) → IsOneOf o.meta
-      one_of o (inl is) = inl (ap (λ (u : Said). u.meta) is)
-      one_of o (inr is) = inr (ap (λ (u : Said). u.meta) is)
+      one_of : (o : LogState) → (o ≡ closed_over before) ⊎ (o ≡ open_with j) → IsOneOf o.meta
+      one_of o (inl is) = inl (ap (λ (u : LogState). u.meta) is)
+      one_of o (inr is) = inr (ap (λ (u : LogState). u.meta) is)
 
   -- and from then on
-  late_of : (i : Disks) → LeftAside i → Late j i → (x : ℕ) → IsLive j x → IsPresent i x
-      → ((z : ℕ) (said : Said) → Stands i z said → said.meta ≡ j.meta → (e f : ℕ) → IsMissing i.power j.meta e → IsMissing i.power j.meta f → e ≡ f) → New i
+  late_of : (i : Disks) → LeftAside i → IsLateImage j i → (x : ℕ) → IsLiveLog j x → IsPresent i x
+      → ((z : ℕ) (said : LogState) → Stands i z said → said.meta ≡ j.meta → (e f : ℕ) → IsMissing i.power j.meta e → IsMissing i.power j.meta f → e ≡ f) → New i
   late_of i aside late x live here single_of =
       let b = begun_brought j before begun in
       let e = late_stands j b i late.kept aside late x live here in
       late_for j b i late.kept aside late e.0 e.1 e.2 e.3 e.4 (single_of e.0 e.1 e.2 (late_meta e.1 e.3))
     where
-      late_meta : (said : Said) → (said ≡ open_with j) ⊎ (said ≡ closed_over j.meta) → said.meta ≡ j.meta
-      late_meta said (inl is) = ap (λ (o : Said). o.meta) is
-      late_meta said (inr is) = ap (λ (o : Said). o.meta) is
+      late_meta : (said : LogState) → (said ≡ open_with j) ⊎ (said ≡ closed_over j.meta) → said.meta ≡ j.meta
+      late_meta said (inl is) = ap (λ (o : LogState). o.meta) is
+      late_meta said (inr is) = ap (λ (o : LogState). o.meta) is
 
-  late_whole : (i : Disks) → LeftAside i → Late j i → IsOneMissing i.power before j.meta → New i
+  late_whole : (i : Disks) → LeftAside i → IsLateImage j i → IsOneMissing i.power before j.meta → New i
   late_whole i aside late one =
       let l = one_live i one in
       late_of i aside late l.0 l.1 l.2 (λ z said s is. single i.power j.meta (inr refl) one)
 
-  late_lost : (i : Disks) → LeftAside i → Late j i → IsOneMissing i.power before j.meta → (d : ℕ) → ((w : ℕ) → IsWeak i w → w ≡ d)
-      → LeftAside (lose d i) → Late j (lose d i) → New (lose d i)
+  late_lost : (i : Disks) → LeftAside i → IsLateImage j i → IsOneMissing i.power before j.meta → (d : ℕ) → ((w : ℕ) → IsWeak i w → w ≡ d)
+      → LeftAside (lose d i) → IsLateImage j (lose d i) → New (lose d i)
   late_lost i aside late one d weak aside_too late_too =
       let whole = late_whole i aside late one in
       let of_two : IsOneOf whole.said.meta = inr whole.meta in
@@ -339,13 +331,13 @@ module _ (j : Job) (before : Meta) (begun : IsBegun j before) where
             absurd (b.2 (ap (λ (m : Meta). named_out m.out) whole.meta ∙ sym begun.names ∙ b.1))
       ]
 
-  late_weak : (i : Disks) → LeftAside i → Late j i → IsOneMissing i.power before j.meta → (w : ℕ) → IsWeak i w → IsEitherMissing i.power before j.meta w
+  late_weak : (i : Disks) → LeftAside i → IsLateImage j i → IsOneMissing i.power before j.meta → (w : ℕ) → IsWeak i w → IsEitherMissing i.power before j.meta w
   late_weak i aside late one w weak =
       let whole = late_whole i aside late one in
       weak_missing i whole.disk whole.said whole.log.stands (inr whole.meta)
       (λ none o says. inr (late_other j (begun_brought j before begun) i late.kept aside late whole.disk whole.said whole.log.stands whole.meta none o says)) w weak
 
-  pub late_images : (s : Disks) → ((i : Disks) → IsLeft s i → Late j i) → ((i : Disks) → IsLeft s i → LeftAside i) → IsEachImage before j.meta New s
+  pub late_images : (s : Disks) → ((i : Disks) → IsLeftByStop s i → IsLateImage j i) → ((i : Disks) → IsLeftByStop s i → LeftAside i) → IsEachImage before j.meta New s
   late_images s late aside = record {
     whole = λ i image one. let left = image_left s i image in late_whole i (aside i left) (late i left) one;
     lost = λ i d image one weak.
@@ -354,7 +346,7 @@ module _ (j : Job) (before : Meta) (begun : IsBegun j before) where
         late_lost i (aside i left) (late i left) one d weak (aside (lose d i) left_too) (late (lose d i) left_too);
   }
 
-  early_images : (s : Disks) → ((i : Disks) → IsLeft s i → Early j i) → ((i : Disks) → IsLeft s i → LeftAside i) → IsEachImage before j.meta Either s
+  early_images : (s : Disks) → ((i : Disks) → IsLeftByStop s i → IsEarlyImage j i) → ((i : Disks) → IsLeftByStop s i → LeftAside i) → IsEachImage before j.meta Either s
   early_images s early aside = record {
     whole = λ i image one. let left = image_left s i image in early_whole i (aside i left) (early i left) one;
     lost = λ i d image one weak.
@@ -363,7 +355,7 @@ module _ (j : Job) (before : Meta) (begun : IsBegun j before) where
         early_lost i (aside i left) (early i left) one d weak (aside (lose d i) left_too) (early (lose d i) left_too);
   }
 
-  pub whole_images : (s : Disks) → Whole j s → IsOldOrNew j.start before j.meta j.batch s
+  pub whole_images : (s : Disks) → HoldsWhole j s → IsOldOrNew j.start before j.meta j.batch s
   whole_images s w = elim w.either [
     | inl early ↦ record {
       images = early_images s early w.aside;
@@ -378,46 +370,46 @@ module _ (j : Job) (before : Meta) (begun : IsBegun j before) where
   ]
 
   -- the first stage holds at the start
-  pub start_log : ((x : ℕ) → IsLive j x → IsPresent j.start x → 100 ≤ j.start.size x) → Log j 0 j.start
+  pub start_log : ((x : ℕ) → IsLiveLog j x → IsPresent j.start x → 100 ≤ j.start.size x) → LogStage j 0 j.start
   start_log large = record {
     core = record {
       beside = record {
         kept = record { present = λ d here. here; power = λ d here. refl; size = λ d here. refl; large = large };
-        aside = record { log = λ y p log_disk is lt. record { holds = λ here. (begun.rest.dry y p here, refl) } };
+        aside = record { log = λ y p log_disk is lt. record { holds = λ here. (begun.rest.synced y p here, refl) } };
       };
-      meta = λ x live. record { holds = λ here. (begun.rest.dry x 1 here, refl) };
+      meta = λ x live. record { holds = λ here. (begun.rest.synced x 1 here, refl) };
       shut = λ x live. record {
         holds = λ here.
             let enough_places = large x live here in
-            (begun.rest.dry x 0 here, ap is_open (sym (stored_here j.start x 0 here (omega arith))) ∙ was_shut x live here);
+            (begun.rest.synced x 0 here, ap is_open (sym (stored_here j.start x 0 here (omega arith))) ∙ was_shut x live here);
       };
       logged = λ x lt live. absurd (omega arith);
-      held = λ d p far. record { holds = λ here. (begun.rest.dry d p here, refl) };
+      held = λ d p far. record { holds = λ here. (begun.rest.synced d p here, refl) };
     };
-    dry = record { dry = λ d p. record { holds = λ here. (begun.rest.dry d p here, tt) } };
+    synced = record { synced = λ d p. record { holds = λ here. (begun.rest.synced d p here, tt) } };
   }
     where
-      was_shut : (x : ℕ) → IsLive j x → IsPresent j.start x → is_open (stored j.start x 0) ≡ false
+      was_shut : (x : ℕ) → IsLiveLog j x → IsPresent j.start x → is_open (stored_block j.start x 0) ≡ false
       was_shut x live here = elim (decide_some (named_out before.out) x) [
         | inl is ↦ joining_shut j before begun x live here is
         | inr not ↦ begun.rest.shut x live.0 here not
       ]
 
   -- the last stage is what a commit promises at its end
-  module _ (s : Disks) (c : Close j 2 s) where
-    self_left : IsLeft s s
-    self_left = record { present = λ d here. here; power = λ d here. refl; size = λ d here. refl; block = λ d p dry. refl }
+  module _ (s : Disks) (c : CloseStage j 2 s) where
+    self_left : IsLeftByStop s s
+    self_left = record { present = λ d here. here; power = λ d here. refl; size = λ d here. refl; block = λ d p synced. refl }
 
-    all_shut : AreShut s j.meta
+    all_shut : AreLogGatesClosed s j.meta
     all_shut x low here not =
-        let live : IsLive j x = (low, λ e. not (sym begun.names ∙ e)) in
+        let live : IsLiveLog j x = (low, λ e. not (sym begun.names ∙ e)) in
         let large = c.core.beside.kept.large x live here in
         ap is_open (stored_here s x 0 here (omega arith)) ∙ ((c.core.shut x low live).holds here).1
 
-    all_dry : IsDrained s
-    all_dry d p here = ((c.dry.dry d p).holds here).0
+    all_synced : AreSynced s
+    all_synced d p here = ((c.synced.synced d p).holds here).0
 
-    whole : Later j s
+    whole : HoldsLate j s
     whole = closing_whole j begun.good 2 s c.core
 
     at_rest : IsOneMissing s.power before j.meta → IsAtRest s j.meta
@@ -427,16 +419,16 @@ module _ (j : Job) (before : Meta) (begun : IsBegun j before) where
         let in_array : named_out j.meta.out ≢ Some for.disk = λ e. for.log.standing_in (ap (λ (m : Meta). named_out m.out) for.meta ∙ e) in
         let closed : for.said.opened ≡ false = sym for.log.stands.says.gate ∙ all_shut for.disk for.log.stands.log_disk for.log.stands.says.present in_array in
         record {
-          dry = all_dry;
+          synced = all_synced;
           disk = for.disk;
-          log = subst (λ (o : Said). LogOk s for.disk o j.meta.writes) (closed_said s for.disk for.said j.meta for.log.stands.says closed for.meta) for.log;
+          log = subst (λ (o : LogState). LogOk s for.disk o j.meta.writes) (closed_said s for.disk for.said j.meta for.log.stands.says closed for.meta) for.log;
           shut = all_shut;
         }
 
     pub is_committed : IsCommitted j.start s before j.meta j.batch
     is_committed = record {
       images = late_images s (closing_late j begun.good 2 s c.core) whole.aside;
-      dry = all_dry;
+      synced = all_synced;
       shut = all_shut;
       rest = at_rest;
     }

@@ -10,26 +10,26 @@ use Rattle.paraid_rack.specs.declared.call.Call.TheVariants.{Read, Write, Sync, 
 use Rattle.paraid_rack.specs.declared.rack.Rack.{Ghosts}
 use Rattle.paraid_rack.specs.Disks.{Disks, is_present, step}
 use Rattle.paraid_rack.specs.Lawful.{IsLawful}
-use Rattle.paraid_rack.specs.Slots.{Slot, Touched}
-use Rattle.paraid_rack.specs.Told.{Grows, Ran}
+use Rattle.paraid_rack.specs.Slots.{Slot, ChangesOneSlot}
+use Rattle.paraid_rack.specs.Told.{GrowsByCall, Ran}
 use Rattle.paraid_rack.specs.Trail.{Trail, now, run}
 use Rattle.paraid_rack.proofs.TrailsLemmas.{Ran-call, Ran-none, Ran-then}
 use Rattle.paraid_record.specs.declared.meta.Meta.{Meta}
 use Rattle.paraid_record.specs.declared.targets.Target.{Target}
 use Rattle.paraid_image.specs.Calls.{disk_of}
-use Rattle.paraid_image.specs.Neutral.{names}
+use Rattle.paraid_image.specs.Neutral.{names_place}
 use Rattle.paraid_image.specs.Out.{named_out}
 use Rattle.paraid_image.specs.Sides.{Batch, targets}
 use Rattle.paraid_txn.specs.declared.losses.Losses.{Losses}
 use Rattle.paraid_txn.specs.Commit.{gone_out}
 use Rattle.paraid_txn.specs.CommitPart.{CommitPart}
-use Rattle.paraid_txn.specs.Losses.{AreFailedOrWell, Follows, IsTwo, IsWell, Lasts}
+use Rattle.paraid_txn.specs.Losses.{StaySynced, AreFailedOrWell, FollowsAnswer, AreTwoDown, IsWell, AreCommitCalls}
 use Rattle.paraid_txn.specs.Ready.{IsLogReady}
-use Rattle.paraid_txn.specs.Staging.{names_disk}
-use Rattle.paraid_txn.specs.Uses.{EachCall, IsLog, IsOn, IsThisCall, Uses, UsesLog, UsesTarget}
-use Rattle.paraid_txn.proofs.DownLemmas.{AreOthersWell-none, AreOthersWell-then, IsTwo-later, Lasts-none, Lasts-present, Lasts-then}
+use Rattle.paraid_txn.specs.Batches.{names_disk}
+use Rattle.paraid_txn.specs.Uses.{EachCall, IsUnskippedLog, IsOn, IsThisCall, Uses, UsesLog, UsesTarget}
+use Rattle.paraid_txn.proofs.DownLemmas.{StaySyncedBut-both, AreOthersWell-none, AreOthersWell-then, AreTwoDown-later, AreCommitCalls-none, AreCommitCalls-present, AreCommitCalls-then}
 use Rattle.paraid_txn.proofs.ReadyLemmas.{log_stays_ready}
-use Rattle.paraid_txn.proofs.StagingLemmas.{names_disk-named}
+use Rattle.paraid_txn.proofs.BatchesLemmas.{names_disk-named}
 use Rattle.paraid_txn.proofs.TargetsLemmas.{names_disk-below}
 
 -- Calls
@@ -49,7 +49,7 @@ ran_milder P Q more ran t tells =
 
 -- One call
 
-module _ {old new : ℕ → Slot} {disk : ℕ} {leaves : Slot} {dirt ok : Bool} (touched : Touched old new disk leaves dirt ok) (same : IsWell (old disk) leaves) where
+module _ {old new : ℕ → Slot} {disk : ℕ} {leaves : Slot} {dirt ok : Bool} (touched : ChangesOneSlot old new disk leaves dirt ok) (same : IsWell (old disk) leaves) where
   touched_well : (d : ℕ) → (d ≡ disk → ok ≡ true) → IsWell (old d) (new d)
   touched_well d done = elim (cases_eq d disk) [
     | inl is ↦ subst (λ (k : ℕ). IsWell (old k) (new k)) (sym is) (subst (λ (s : Slot). IsWell (old disk) s) (sym (touched.done (done is))) same)
@@ -80,7 +80,7 @@ module _ {old new : ℕ → Slot} {disk : ℕ} {leaves : Slot} {dirt ok : Bool} 
     ]
   ]
 
-  done_lasts : (a : Losses) → Lasts a a old new
+  done_lasts : (a : Losses) → AreCommitCalls a a old new
   done_lasts a = record {
     power = λ d there. (touched_there d there).power;
     size = λ d there. (touched_there d there).size;
@@ -93,7 +93,7 @@ module _ {old new : ℕ → Slot} {disk : ℕ} {leaves : Slot} {dirt ok : Bool} 
     absent = λ d is. inl is;
   }
 
-  borne_lasts : (a b : Losses) → ok ≡ false → b.down ≡ Some disk → b.lost ≡ Some disk → ((first : ℕ) → a.down ≡ Some first → first ≡ disk) → Lasts a b old new
+  borne_lasts : (a b : Losses) → ok ≡ false → b.down ≡ Some disk → b.lost ≡ Some disk → ((first : ℕ) → a.down ≡ Some first → first ≡ disk) → AreCommitCalls a b old new
   borne_lasts a b failed down lost alone = record {
     power = λ d there. (touched_there d there).power;
     size = λ d there. (touched_there d there).size;
@@ -113,12 +113,12 @@ module _ {old new : ℕ → Slot} {disk : ℕ} {leaves : Slot} {dirt ok : Bool} 
 module _ {R : Type 0} (g : Ghosts R) {skip : Option ℕ} {disk : ℕ} (call : Bool → Call) {old new : R} {leaves : Slot} {dirt ok : Bool} (not : skip ≢ Some disk)
     (here : is_present (g.slot old disk).power ≡ true) (at : (done : Bool) → disk_of (call done) ≡ disk)
     (lawful : (t : Trail) → g.told old ≡ Some t → IsLawful (now t) (call ok)) (same : IsWell (g.slot old disk) leaves)
-    (touched : Touched (g.slot old) (g.slot new) disk leaves dirt ok) (grows : Grows (g.told old) (g.told new) (call ok)) where
+    (touched : ChangesOneSlot (g.slot old) (g.slot new) disk leaves dirt ok) (grows : GrowsByCall (g.told old) (g.told new) (call ok)) where
   made : Ran (g.told old) (g.told new) (EachCall (IsThisCall skip disk call))
   made = Ran-call (EachCall (IsThisCall skip disk call)) (g.told old) (g.told new) (call ok) grows (λ s is. (lawful s is, (not, ok, refl), tt))
 
   -- the call and what follows its answer
-  pub called_leaves : (from to : Losses) (result : Result (Unit {0}) Two) → Follows from to disk ok result → CommitPart g (IsThisCall skip disk call) from to old new result
+  pub called_leaves : (from to : Losses) (result : Result (Unit {0}) Two) → FollowsAnswer from to disk ok result → CommitPart g (IsThisCall skip disk call) from to old new result
   called_leaves from to (Ok it) (inl is) = subst (λ (b : Losses). CommitPart {A = Unit {0}} g (IsThisCall skip disk call) from b old new (Ok it)) (sym is.1) (record {
     lasts = done_lasts touched same from;
     well = λ d not. touched_well touched same d (λ _. is.0);
@@ -152,36 +152,36 @@ module _ {R : Type 0} (g : Ghosts R) {skip : Option ℕ} {disk : ℕ} (call : Bo
 -- no call
 pub CommitPart_none : {R A : Type 0} (g : Ghosts R) (uses : Call → Type 0) (a : Losses) (r : R) (it : A) → CommitPart g uses a a r r (Ok it)
 CommitPart_none g uses a r it = record {
-  lasts = Lasts-none a (g.slot r);
+  lasts = AreCommitCalls-none a (g.slot r);
   well = AreOthersWell-none a (g.slot r);
   two = tt;
   on = λ d is. inl is;
   calls = Ran-none (EachCall uses) (λ s. tt) (g.told r);
 }
 
-on_then : {R : Type 0} (g : Ghosts R) (uses : Call → Type 0) (a b c : Losses) (r s : R) → Lasts a b (g.slot r) (g.slot s)
+on_then : {R : Type 0} (g : Ghosts R) (uses : Call → Type 0) (a b c : Losses) (r s : R) → AreCommitCalls a b (g.slot r) (g.slot s)
     → ((d : ℕ) → b.lost ≡ Some d → (a.lost ≡ Some d) ⊎ (IsOn uses d × (is_present (g.slot r d).power ≡ true)))
     → ((d : ℕ) → c.lost ≡ Some d → (b.lost ≡ Some d) ⊎ (IsOn uses d × (is_present (g.slot s d).power ≡ true)))
     → (d : ℕ) → c.lost ≡ Some d → (a.lost ≡ Some d) ⊎ (IsOn uses d × (is_present (g.slot r d).power ≡ true))
 on_then g uses a b c r s lasts first second d is = elim (second d is) [
   | inl was ↦ first d was
-  | inr on ↦ inr (on.0, Lasts-present a b (g.slot r) (g.slot s) d lasts on.1)
+  | inr on ↦ inr (on.0, AreCommitCalls-present a b (g.slot r) (g.slot s) d lasts on.1)
 ]
 
 -- a part that ended well, and then another
 pub CommitPart_then : {R A B : Type 0} {g : Ghosts R} {uses : Call → Type 0} {a b c : Losses} {r s t : R} {it : A} {result : Result B Two}
     → CommitPart g uses a b r s (Ok it) → CommitPart g uses b c s t result → CommitPart g uses a c r t result
 CommitPart_then {g = g} {uses = uses} {a = a} {b = b} {c = c} {r = r} {s = s} {t = t} {result = Ok done} first second = record {
-  lasts = Lasts-then a b c (g.slot r) (g.slot s) (g.slot t) first.lasts second.lasts;
+  lasts = AreCommitCalls-then a b c (g.slot r) (g.slot s) (g.slot t) first.lasts second.lasts;
   well = AreOthersWell-then a b c (g.slot r) (g.slot s) (g.slot t) first.lasts second.lasts first.well second.well;
   two = tt;
   on = on_then g uses a b c r s first.lasts first.on second.on;
   calls = Ran-then (EachCall uses) (EachCall-append uses) (g.told r) (g.told s) (g.told t) first.calls second.calls;
 }
 CommitPart_then {g = g} {uses = uses} {a = a} {b = b} {c = c} {r = r} {s = s} {t = t} {result = Err two} first second = record {
-  lasts = Lasts-then a b c (g.slot r) (g.slot s) (g.slot t) first.lasts second.lasts;
+  lasts = AreCommitCalls-then a b c (g.slot r) (g.slot s) (g.slot t) first.lasts second.lasts;
   well = tt;
-  two = IsTwo-later a b c (g.slot r) (g.slot s) (g.slot t) two first.lasts second.lasts second.two;
+  two = AreTwoDown-later a b c (g.slot r) (g.slot s) (g.slot t) two first.lasts second.lasts second.two;
   on = on_then g uses a b c r s first.lasts first.on second.on;
   calls = Ran-then (EachCall uses) (EachCall-append uses) (g.told r) (g.told s) (g.told t) first.calls second.calls;
 }
@@ -193,7 +193,7 @@ CommitPart_raised (Ok it) is part = absurd is
 CommitPart_raised {g = g} {a = a} {r = r} {s = s} (Err other) is part = record {
   lasts = part.lasts;
   well = tt;
-  two = subst (λ (t : Two). IsTwo a.down (g.slot r) (g.slot s) t) (sym is) part.two;
+  two = subst (λ (t : Two). AreTwoDown a.down (g.slot r) (g.slot s) t) (sym is) part.two;
   on = part.on;
   calls = part.calls;
 }
@@ -227,7 +227,7 @@ module _ {R A : Type 0} {g : Ghosts R} {skip : Option ℕ} {disk : ℕ} {a b : L
   pub logs_sync : disk < 2 → CommitPart g (IsThisCall skip disk (λ done. Sync disk done)) a b r s result → CommitPart g (UsesLog skip) a b r s result
   logs_sync low part = CommitPart_milder (λ c is. subst (UsesLog skip) (sym is.2) (low, is.0)) part
 
-  pub writes_target : (batch : Batch) (p : ℕ) {block : Block} → names batch disk p ≡ true → CommitPart g (IsThisCall skip disk (λ done. Write disk p block done)) a b r s result
+  pub writes_target : (batch : Batch) (p : ℕ) {block : Block} → names_place batch disk p ≡ true → CommitPart g (IsThisCall skip disk (λ done. Write disk p block done)) a b r s result
       → CommitPart g (UsesTarget skip batch) a b r s result
   writes_target batch p on part = CommitPart_milder (λ c is. subst (UsesTarget skip batch) (sym is.2) (is.0, on)) part
 
@@ -236,7 +236,7 @@ module _ {R A : Type 0} {g : Ghosts R} {skip : Option ℕ} {disk : ℕ} {a b : L
   syncs_target batch on part = CommitPart_milder (λ c is. subst (UsesTarget skip batch) (sym is.2) (is.0, on)) part
 
 -- where fewer log disks are skipped
-UsesLog_milder : (skip other : Option ℕ) → ((d : ℕ) → IsLog skip d → IsLog other d) → (c : Call) → UsesLog skip c → UsesLog other c
+UsesLog_milder : (skip other : Option ℕ) → ((d : ℕ) → IsUnskippedLog skip d → IsUnskippedLog other d) → (c : Call) → UsesLog skip c → UsesLog other c
 UsesLog_milder skip other more (Read d p done) is = (more d is.0, is.1)
 UsesLog_milder skip other more (Write d p b done) is = (more d is.0, is.1)
 UsesLog_milder skip other more (Sync d done) is = more d is
@@ -261,7 +261,7 @@ target_uses m batch below (SpinUp d done) is = absurd is
 target_uses m batch below (Attach d size done) is = absurd is
 
 module _ {R A : Type 0} {g : Ghosts R} {a b : Losses} {r s : R} {result : Result A Two} where
-  pub CommitPart_beside : {skip other : Option ℕ} → ((d : ℕ) → IsLog skip d → IsLog other d) → CommitPart g (UsesLog skip) a b r s result
+  pub CommitPart_beside : {skip other : Option ℕ} → ((d : ℕ) → IsUnskippedLog skip d → IsUnskippedLog other d) → CommitPart g (UsesLog skip) a b r s result
       → CommitPart g (UsesLog other) a b r s result
   CommitPart_beside {skip} {other} more part = CommitPart_milder (UsesLog_milder skip other more) part
 
@@ -281,3 +281,9 @@ module _ {R A : Type 0} {g : Ghosts R} {a b : Losses} {r s : R} {result : Result
 pub CommitPart_by : {R A : Type 0} {g : Ghosts R} {uses : Call → Type 0} {a b : Losses} {r s : R} {result other : Result A Two} → result ≡ other
     → CommitPart g uses a b r s result → CommitPart g uses a b r s other
 CommitPart_by {g = g} {uses = uses} {a = a} {b = b} {r = r} {s = s} is part = subst (λ o. CommitPart g uses a b r s o) is part
+
+-- no disk is left unsynced by two parts that each leave none so
+pub still_synced_then : {R A B : Type 0} {g : Ghosts R} {uses : Call → Type 0} {a b c : Losses} {r s t : R} {first : Result A Two} {second : Result B Two}
+    → CommitPart g uses a b r s first → CommitPart g uses b c s t second → StaySynced (g.slot r) (g.slot s) → StaySynced (g.slot s) (g.slot t) → StaySynced (g.slot r) (g.slot t)
+still_synced_then {g = g} {a = a} {b = b} {c = c} {r = r} {s = s} {t = t} first second one two =
+    StaySyncedBut-both (λ d. ⊥) a b c (g.slot r) (g.slot s) (g.slot t) first.lasts second.lasts one two

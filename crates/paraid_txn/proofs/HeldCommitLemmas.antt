@@ -8,21 +8,20 @@ use Rattle.paraid_rack.specs.Disks.{Disks, IsImage, IsPresent, is_present, lose}
 use Rattle.paraid_rack.proofs.AtomsLemmas.{with_at_other, with_at_same}
 use Rattle.paraid_record.specs.declared.meta.Meta.{Meta}
 use Rattle.paraid_record.specs.Range.{IsInRange}
-use Rattle.paraid_txn.specs.Commit.{IsEitherMissing, IsOldOrNew, IsOneMissing, StandsFor, StandsForEither}
+use Rattle.paraid_txn.specs.Commit.{IsEitherMissing, IsOldOrNew, IsOneMissing, ImageStandsFor, ImageStandsForEither}
 use Rattle.paraid_image.specs.Content.{view_of}
-use Rattle.paraid_image.specs.HeldAt.{IsHeld, IsSound}
-use Rattle.paraid_image.specs.Holds.{Holds}
+use Rattle.paraid_image.specs.HeldAt.{IsHeld, IsSoundFrom}
+use Rattle.paraid_image.specs.FirstWrites.{HoldsFirstWrites}
 use Rattle.paraid_image.specs.Out.{IsMissing, first_absent}
 use Rattle.paraid_image.specs.Sides.{Batch}
 use Rattle.paraid_image.specs.Sound.{ContentOk}
-use Rattle.paraid_txn.proofs.CommitLemmas.{out_missing}
+use Rattle.paraid_image.proofs.OutLemmas.{out_missing, first_absent_finds, first_absent_is, says_in_range}
 use Rattle.paraid_txn.proofs.HeldResumeLemmas.{transfer}
-use Rattle.paraid_image.proofs.LoseLemmas.{content_lost, contents_kept}
+use Rattle.paraid_image.proofs.OneDiskLessLemmas.{content_lost, contents_kept}
 use Rattle.paraid_txn.proofs.MeansLemmas.{absent_power}
-use Rattle.paraid_image.proofs.OutLemmas.{first_absent_finds, first_absent_is, says_in_range}
 
 -- an image that stands for what the start does holds what that holds, with the disks that are lost in it
-module _ (slots : ℕ) (s0 i : Disks) (m : Meta) (batch : Batch) (h : History) (lo : ℕ) (holds : Holds slots s0 m batch h lo) (for : StandsFor s0 i m batch) where
+module _ (slots : ℕ) (s0 i : Disks) (m : Meta) (batch : Batch) (h : History) (lo : ℕ) (holds : HoldsFirstWrites slots s0 m batch h lo) (for : ImageStandsFor s0 i m batch) where
   range : IsInRange m
   range = subst IsInRange for.meta (says_in_range for.said.opened _ for.said.meta for.said.batch for.log.stands.says.log)
 
@@ -73,7 +72,7 @@ module _ (slots : ℕ) (s0 i : Disks) (m : Meta) (batch : Batch) (h : History) (
       ])
       go (Some d) is = let gone = first_absent_is i.power m.setup.geometry.disks d is in fewer d gone.0 gone.1
 
-  pub stands_sound : IsSound slots i h lo
+  pub stands_sound : IsSoundFrom slots i h lo
   stands_sound = record {
     k = m.writes;
     low = holds.low;
@@ -81,7 +80,7 @@ module _ (slots : ℕ) (s0 i : Disks) (m : Meta) (batch : Batch) (h : History) (
     sound = record { disk = for.disk; said = for.said; log = for.log; content = content_now };
   }
 
-module _ (slots : ℕ) (s0 : Disks) (before after : Meta) (batch : Batch) (h : History) (lo : ℕ) (old : Holds slots s0 before [] h lo) (new : Holds slots s0 after batch h lo)
+module _ (slots : ℕ) (s0 : Disks) (before after : Meta) (batch : Batch) (h : History) (lo : ℕ) (old : HoldsFirstWrites slots s0 before [] h lo) (new : HoldsFirstWrites slots s0 after batch h lo)
     (s : Disks) (down : Option ℕ) (one_down : (d : ℕ) → IsEitherMissing s.power before after d → down ≡ Some d) (moment : IsOldOrNew s0 before after batch s) where
   missing_at : (i : Disks) (m : Meta) (d : ℕ) → IsImage s i → IsMissing i.power m d → IsMissing s.power m d
   missing_at i m d image missing = record {
@@ -96,7 +95,7 @@ module _ (slots : ℕ) (s0 : Disks) (before after : Meta) (batch : Batch) (h : H
   one : (i : Disks) → IsImage s i → IsOneMissing i.power before after
   one i image = record { one = λ d e p q. let z : Some d ≡ Some e = sym (down_at i d image p) ∙ down_at i e image q in cc }
 
-  sound_of : (i : Disks) → StandsForEither s0 before after batch i → IsSound slots i h lo
+  sound_of : (i : Disks) → ImageStandsForEither s0 before after batch i → IsSoundFrom slots i h lo
   sound_of i (inl for) = stands_sound slots s0 i before [] h lo old for
   sound_of i (inr for) = stands_sound slots s0 i after batch h lo new for
 

@@ -4,50 +4,43 @@ use Rattle.std.proofs.Common.{refl, sym, ◌∙◌, ap, subst, arith, inl, inr}
 use Rattle.std.proofs.lemmas.Bool.{cases_Bool, cases_eq, cases_lt, false≢true}
 use Rattle.std.proofs.lemmas.Bool.Decides.{nat_tests}
 use Rattle.paraid_base.specs.History.{History}
-use Rattle.paraid_base.specs.Xor.{zeroed}
+use Rattle.paraid_base.specs.Xor.{zero_block}
 use Rattle.paraid_rack.specs.declared.call.Power.{Power}
 use Rattle.paraid_rack.specs.declared.call.Power.TheVariants.{Absent}
 use Rattle.paraid_rack.specs.Disks.{Disks, IsImage, IsPresent, is_present, lose}
 use Rattle.paraid_rack.proofs.AtomsLemmas.{at_use, with_at_other, with_at_same}
 use Rattle.paraid_record.specs.declared.meta.Meta.{Meta}
 use Rattle.paraid_record.specs.Range.{IsInRange}
-use Rattle.paraid_image.specs.Rest.{IsDrained}
-use Rattle.paraid_txn.specs.Commit.{IsEachImage, IsOneMissing, StandsFor}
+use Rattle.paraid_image.specs.Rest.{AreSynced}
+use Rattle.paraid_txn.specs.Commit.{IsEachImage, IsOneMissing, ImageStandsFor}
 use Rattle.paraid_image.specs.Content.{view_by, view_of}
-use Rattle.paraid_image.specs.HeldAt.{IsHeld, IsSound, MayLose}
+use Rattle.paraid_image.specs.HeldAt.{IsHeld, IsSoundFrom, MayLose}
 use Rattle.paraid_image.specs.Out.{IsMissing, IsWeak, first_absent, named_out, out_disk}
 use Rattle.paraid_image.specs.Out.IsWeak.{out as out_weak, named as named_weak}
-use Rattle.paraid_txn.specs.Resume.{IsFallback, Resumes}
-use Rattle.paraid_image.specs.Sides.{Batch, Said, Says, has_place, stored}
+use Rattle.paraid_txn.specs.Resume.{IsFallback, ImageStandsForBroken}
+use Rattle.paraid_image.specs.Sides.{Batch, LogState, Says, has_place, stored_block}
 use Rattle.paraid_image.specs.Sound.{ContentOk, LogOk}
-use Rattle.paraid_image.specs.Standing.{contents, laid, other_log}
-use Rattle.paraid_txn.proofs.CommitLemmas.{absent_out, decide_out, out_missing}
+use Rattle.paraid_image.specs.Standing.{contents, overlaid_block, other_log}
+use Rattle.paraid_txn.proofs.CommitLemmas.{absent_out, decide_out}
+use Rattle.paraid_image.proofs.OutLemmas.{out_missing, first_absent_finds, first_absent_is, missing_is_out, says_in_range}
 use Rattle.paraid_rack.specs.Alike.{IsAlike}
 use Rattle.paraid_rack.proofs.AlikeLemmas.{IsAlike-sym, lose_alike}
 use Rattle.paraid_image.proofs.AlikeLemmas.{sound_alike, stands_alike, weak_alike}
-use Rattle.paraid_image.proofs.LoseLemmas.{content_lost, contents_kept}
+use Rattle.paraid_image.proofs.OneDiskLessLemmas.{content_lost, contents_kept}
 use Rattle.paraid_txn.proofs.MeansLemmas.{absent_power, means_same}
 use Rattle.paraid_image.proofs.NeutralLemmas.{says_forth}
-use Rattle.paraid_image.proofs.OutLemmas.{first_absent_finds, first_absent_is, missing_is_out, says_in_range}
 use Rattle.paraid_image.proofs.SidesLemmas.{Says-same}
 use Rattle.paraid_txn.proofs.SpokenLemmas.{other_other, stands_alone}
 use Rattle.paraid_image.proofs.StandingLemmas.{Stands-same}
-use Rattle.paraid_image.proofs.StepLemmas.{lose_kept, out_named}
+use Rattle.paraid_image.proofs.CallLemmas.{lose_kept, out_named}
+use Rattle.paraid_image.proofs.ContentsLemmas.{contents_none}
 
 -- where there is no such place there are zeros
-contents_low : (i : Disks) (batch : Batch) (e r : ℕ) → r < 100 → contents i batch e r ≡ zeroed
+contents_low : (i : Disks) (batch : Batch) (e r : ℕ) → r < 100 → contents i batch e r ≡ zero_block
 unfolding contents
 contents_low i batch e r low =
     let is : nat_lt r 100 ≡ true = grind (arith, nat_tests) in
-    ap (λ (t : Bool). if t then zeroed else (if has_place i e r then laid batch e r (i.block e r) else zeroed)) is
-
-pub contents_none : (i : Disks) (batch : Batch) (e r : ℕ) → has_place i e r ≡ false → contents i batch e r ≡ zeroed
-unfolding contents
-contents_none i batch e r none = go (nat_lt r 100)
-  where
-    go : (b : Bool) → (if b then zeroed else (if has_place i e r then laid batch e r (i.block e r) else zeroed)) ≡ zeroed
-    go true = refl
-    go false = ap (λ (t : Bool). if t then laid batch e r (i.block e r) else zeroed) none
+    ap (λ (t : Bool). if t then zero_block else (if has_place i e r then overlaid_block batch e r (i.block e r) else zero_block)) is
 
 -- disks that have the same places and the same blocks there
 contents_agree : (a i : Disks) (from to : Batch) (e r : ℕ) → i.power e ≡ a.power e → (IsPresent i e → i.size e ≡ a.size e)
@@ -75,7 +68,7 @@ pub transfer : (slots : ℕ) (s0 a i : Disks) (m : Meta) (batch : Batch) (range 
     → ((e : ℕ) → e < m.setup.geometry.disks → i.power e ≡ a.power e)
     → ((e : ℕ) → e < m.setup.geometry.disks → IsPresent i e → i.size e ≡ a.size e)
     → ((e r : ℕ) → IsPresent i e → contents a batch e r ≡ contents s0 batch e r)
-    → (for : StandsFor s0 i m batch) → ContentOk slots i.power i.size (view_of i for.said) h k
+    → (for : ImageStandsFor s0 i m batch) → ContentOk slots i.power i.size (view_of i for.said) h k
 transfer slots s0 a i m batch range h k content powers sizes kept for =
     subst (λ (n : Meta). ContentOk slots i.power i.size (view_by n i.power (contents i for.said.batch)) h k) (sym for.meta)
     (means_same slots m range a.power i.power a.size i.size (contents a batch) (contents i for.said.batch) h k powers sizes
@@ -89,40 +82,40 @@ transfer slots s0 a i m batch range h k content powers sizes kept for =
         go true c h = refl
         go false c h = h
 
-module _ (slots : ℕ) (s0 : Disks) (x : ℕ) (said : Said) (h : History) (lo : ℕ) (down0 : Option ℕ) (drained : IsDrained s0)
+module _ (slots : ℕ) (s0 : Disks) (x : ℕ) (said : LogState) (h : History) (lo : ℕ) (down0 : Option ℕ) (synced : AreSynced s0)
     (log : LogOk s0 x said said.meta.writes) (held : IsHeld slots s0 h lo down0) where
   abbrev m : Meta
   m = said.meta
 
   -- these disks with nothing loose on absent ones either are what a stop leaves
-  abbrev settled : Disks
-  settled = record s0 { loose = λ d p. false }
+  abbrev synced_disks : Disks
+  synced_disks = record s0 { loose = λ d p. false }
 
-  self : IsImage s0 settled
+  self : IsImage s0 synced_disks
   self = record { power = λ d. refl; size = λ d. refl; block = λ d p h. refl; loose = λ d p. refl }
 
-  alike : IsAlike settled s0
-  alike = record { power = λ d. refl; size = λ d. refl; block = λ d p there. refl; loose = λ d p there. drained d p there.present }
+  alike : IsAlike synced_disks s0
+  alike = record { power = λ d. refl; size = λ d. refl; block = λ d p there. refl; loose = λ d p there. synced d p there.present }
 
-  at_first : IsSound slots s0 h lo
+  at_first : IsSoundFrom slots s0 h lo
   at_first =
-      let w = held.whole settled self in
-      record { k = w.k; low = w.low; high = w.high; sound = sound_alike slots settled s0 h w.k alike w.sound }
+      let w = held.whole synced_disks self in
+      record { k = w.k; low = w.low; high = w.high; sound = sound_alike slots synced_disks s0 h w.k alike w.sound }
 
   same_said : at_first.sound.said ≡ said
   same_said = (Stands-same s0 at_first.sound.disk x at_first.sound.said said at_first.sound.log.stands log.stands).1
 
   content : ContentOk slots s0.power s0.size (view_of s0 said) h at_first.k
-  content = subst (λ (o : Said). ContentOk slots s0.power s0.size (view_of s0 o) h at_first.k) same_said at_first.sound.content
+  content = subst (λ (o : LogState). ContentOk slots s0.power s0.size (view_of s0 o) h at_first.k) same_said at_first.sound.content
 
   writes : said.meta.writes ≡ at_first.k
-  writes = ap (λ (o : Said). o.meta.writes) (sym same_said) ∙ at_first.sound.log.writes
+  writes = ap (λ (o : LogState). o.meta.writes) (sym same_said) ∙ at_first.sound.log.writes
 
   log_k : LogOk s0 x said at_first.k
   log_k = subst (LogOk s0 x said) writes log
 
   range : IsInRange said.meta
-  range = says_in_range said.opened (stored s0 x) said.meta said.batch log.stands.says.log
+  range = says_in_range said.opened (stored_block s0 x) said.meta said.batch log.stands.says.log
 
   x_low : x < said.meta.setup.geometry.disks
   x_low = let n = said.meta.setup.geometry.disks_low in let l = log.stands.log_disk in omega arith
@@ -139,7 +132,7 @@ module _ (slots : ℕ) (s0 : Disks) (x : ℕ) (said : Said) (h : History) (lo : 
     both_gone e p q = absent_power (i.power e) p ∙ sym (absent_power (s0.power e) q)
 
     -- an image that stands for what the log disk said
-    module _ (for : StandsFor s0 i said.meta said.batch) where
+    module _ (for : ImageStandsFor s0 i said.meta said.batch) where
       single : (d e : ℕ) → IsMissing i.power said.meta d → IsMissing i.power said.meta e → d ≡ e
       single = subst (λ (n : Meta). (d e : ℕ) → IsMissing i.power n d → IsMissing i.power n e → d ≡ e) for.meta for.log.single
 
@@ -185,7 +178,7 @@ module _ (slots : ℕ) (s0 : Disks) (x : ℕ) (said : Said) (h : History) (lo : 
                     ap (λ (w : ℕ). is_present (s0.power w)) (single e d (record { disk = l; is = inl off }) (record { disk = gone.0; is = inl gone.1 })) ∙ was)
               ]
 
-      sound_new : IsSound slots i h lo
+      sound_new : IsSoundFrom slots i h lo
       sound_new = record {
         k = at_first.k;
         low = at_first.low;
@@ -194,15 +187,15 @@ module _ (slots : ℕ) (s0 : Disks) (x : ℕ) (said : Said) (h : History) (lo : 
       }
 
     -- one that stands for what was left without it
-    module _ (f : IsFallback s0 x i) (without : IsSound slots (lose x s0) h lo) where
-      abbrev o : Said
+    module _ (f : IsFallback s0 x i) (without : IsSoundFrom slots (lose x s0) h lo) where
+      abbrev o : LogState
       o = without.sound.said
 
-      abbrev for_old : StandsFor s0 i o.meta o.batch
+      abbrev for_old : ImageStandsFor s0 i o.meta o.batch
       for_old = f.stands without.sound.disk o without.k without.sound.log
 
       old_range : IsInRange o.meta
-      old_range = says_in_range o.opened (stored (lose x s0) without.sound.disk) o.meta o.batch without.sound.log.stands.says.log
+      old_range = says_in_range o.opened (stored_block (lose x s0) without.sound.disk) o.meta o.batch without.sound.log.stands.says.log
 
       old_single : (d e : ℕ) → IsMissing i.power o.meta d → IsMissing i.power o.meta e → d ≡ e
       old_single = subst (λ (n : Meta). (d e : ℕ) → IsMissing i.power n d → IsMissing i.power n e → d ≡ e) for_old.meta for_old.log.single
@@ -224,7 +217,7 @@ module _ (slots : ℕ) (s0 : Disks) (x : ℕ) (said : Said) (h : History) (lo : 
           (λ e le here. size e here ∙ sym (with_at_other s0.size x 0 e (away_x e here)))
           (λ e r here. contents_kept s0 x o.batch e r (away_x e here)) for_old
 
-      sound_old : IsSound slots i h lo
+      sound_old : IsSoundFrom slots i h lo
       sound_old = record {
         k = without.k;
         low = without.low;
@@ -233,21 +226,21 @@ module _ (slots : ℕ) (s0 : Disks) (x : ℕ) (said : Said) (h : History) (lo : 
       }
 
   -- the log disk that stands can be lost where no other disk is weak
-  without_x : ((w : ℕ) → IsWeak s0 w → w ≡ x) → IsSound slots (lose x s0) h lo
+  without_x : ((w : ℕ) → IsWeak s0 w → w ≡ x) → IsSoundFrom slots (lose x s0) h lo
   without_x weak =
-      let w = held.lost settled x self (record {
+      let w = held.lost synced_disks x self (record {
         standing = x;
         said = said;
-        stands = stands_alike s0 settled x said (IsAlike-sym settled s0 alike) log.stands;
+        stands = stands_alike s0 synced_disks x said (IsAlike-sym synced_disks s0 alike) log.stands;
         disk = x_low;
         present = log.stands.says.present;
-        weak = λ u is. weak u (weak_alike settled s0 u alike is);
+        weak = λ u is. weak u (weak_alike synced_disks s0 u alike is);
       }) in
-      record { k = w.k; low = w.low; high = w.high; sound = sound_alike slots (lose x settled) (lose x s0) h w.k (lose_alike x settled s0 alike) w.sound }
+      record { k = w.k; low = w.low; high = w.high; sound = sound_alike slots (lose x synced_disks) (lose x s0) h w.k (lose_alike x synced_disks s0 alike) w.sound }
 
   -- Where the disk that is down is each that is absent or was weak, what was held is held.
   module _ (s : Disks) (down : Option ℕ) (downs : (d : ℕ) → d < said.meta.setup.geometry.disks → is_present (s.power d) ≡ false → down ≡ Some d)
-      (weaks : (w : ℕ) → IsWeak s0 w → down ≡ Some w) (images : IsEachImage said.meta said.meta (Resumes s0 x said) s) where
+      (weaks : (w : ℕ) → IsWeak s0 w → down ≡ Some w) (images : IsEachImage said.meta said.meta (ImageStandsForBroken s0 x said) s) where
     some_same : (d e : ℕ) → down ≡ Some d → down ≡ Some e → d ≡ e
     some_same d e p q = let z : Some d ≡ Some e = sym p ∙ q in cc
 
@@ -264,14 +257,14 @@ module _ (slots : ℕ) (s0 : Disks) (x : ℕ) (said : Said) (h : History) (lo : 
         either d (inl p) = p
         either d (inr p) = p
 
-    resumed : (i : Disks) → IsImage s i → Resumes s0 x said i
+    resumed : (i : Disks) → IsImage s i → ImageStandsForBroken s0 x said i
     resumed i image = images.whole i image (one i image)
 
     -- where the log disk that stood is absent, no other disk was weak
     gone_weak : (i : Disks) → IsImage s i → is_present (i.power x) ≡ false → (w : ℕ) → IsWeak s0 w → w ≡ x
     gone_weak i image gone w weak = some_same w x (weaks w weak) (downs x x_low (ap is_present (sym (image.power x)) ∙ gone))
 
-    held_whole : (i : Disks) → IsImage s i → IsSound slots i h lo
+    held_whole : (i : Disks) → IsImage s i → IsSoundFrom slots i h lo
     held_whole i image =
         let r = resumed i image in
         elim r.stands [
@@ -281,10 +274,10 @@ module _ (slots : ℕ) (s0 : Disks) (x : ℕ) (said : Said) (h : History) (lo : 
 
     -- where it is the one that is lost, each disk that was weak is weak
     module _ (i : Disks) (image : IsImage s i) (here : IsPresent i x) (weak : (w : ℕ) → IsWeak i w → w ≡ x) (f : IsFallback s0 x (lose x i)) where
-      r : Resumes s0 x said i
+      r : ImageStandsForBroken s0 x said i
       r = resumed i image
 
-      for : StandsFor s0 i said.meta said.batch
+      for : ImageStandsFor s0 i said.meta said.batch
       for = elim r.stands [ inl stood ↦ stood | inr g ↦ absurd (false≢true (sym g.gone ∙ here)) ]
 
       out_now : (w : ℕ) → out_disk i.power said.meta ≡ Some w → IsWeak i w
@@ -325,14 +318,14 @@ module _ (slots : ℕ) (s0 : Disks) (x : ℕ) (said : Said) (h : History) (lo : 
         | inr off ↦ absurd (no_missing (other_log x) (record { disk = (let n = said.meta.setup.geometry.disks_low in let l = y_low in omega arith); is = inl off }))
       ]
 
-      y_says : (o : Said) × Says i (other_log x) o
+      y_says : (o : LogState) × Says i (other_log x) o
       y_says = for.log.formed (other_log x) y_low y_here
           (λ e. let z : None ≡ Some (other_log x) = sym none_out ∙ ap (λ (n : Meta). out_disk i.power n) (sym for.meta) ∙ e in cc)
 
       was_weak : (w : ℕ) → IsWeak s0 w → w ≡ x
       was_weak w (out_weak z v st e) =
           let same = (Stands-same s0 z x v said st log.stands).1 in
-          let o : out_disk s0.power said.meta ≡ Some w = ap (λ (u : Said). out_disk s0.power u.meta) (sym same) ∙ e in
+          let o : out_disk s0.power said.meta ≡ Some w = ap (λ (u : LogState). out_disk s0.power u.meta) (sym same) ∙ e in
           absurd (no_missing w (still_missing i r.kept.present r.kept.power r.kept.size w (out_missing s0.power said.meta w range o)))
       was_weak w (named_weak z v p st none q e) =
           let same = Stands-same s0 z x v said st log.stands in
@@ -348,10 +341,10 @@ module _ (slots : ℕ) (s0 : Disks) (x : ℕ) (said : Said) (h : History) (lo : 
             | inr apart ↦
                 let at : for.disk ≡ other_log x = (let l = for.log.stands.log_disk in let lx = log.stands.log_disk in omega arith) in
                 let is = Says-same i (other_log x) for.said y_says.0 (subst (λ (u : ℕ). Says i u for.said) at for.log.stands.says) y_says.1 in
-                out_now w (out_named i.power said.meta w (ap (λ (n : Meta). named_out n.out) (sym for.meta) ∙ ap (λ (u : Said). named_out u.meta.out) is ∙ name))
+                out_now w (out_named i.power said.meta w (ap (λ (n : Meta). named_out n.out) (sym for.meta) ∙ ap (λ (u : LogState). named_out u.meta.out) is ∙ name))
           ])
 
-    held_lost : (i : Disks) (d : ℕ) → IsImage s i → MayLose i d → IsSound slots (lose d i) h lo
+    held_lost : (i : Disks) (d : ℕ) → IsImage s i → MayLose i d → IsSoundFrom slots (lose d i) h lo
     held_lost i d image may =
         let r = images.lost i d image (one i image) may.weak in
         elim r.stands [
@@ -367,29 +360,29 @@ module _ (slots : ℕ) (s0 : Disks) (x : ℕ) (said : Said) (h : History) (lo : 
     held_weak : (i : Disks) (w : ℕ) → IsImage s i → IsWeak i w → down ≡ Some w
     held_weak i w image weak = go (resumed i image) weak
       where
-        go : Resumes s0 x said i → IsWeak i w → down ≡ Some w
+        go : ImageStandsForBroken s0 x said i → IsWeak i w → down ≡ Some w
         go r weak = elim r.stands [ inl for ↦ new r for weak | inr f ↦ old r f weak ]
           where
-            new : Resumes s0 x said i → StandsFor s0 i said.meta said.batch → IsWeak i w → down ≡ Some w
+            new : ImageStandsForBroken s0 x said i → ImageStandsFor s0 i said.meta said.batch → IsWeak i w → down ≡ Some w
             new r for (out_weak z v st e) =
                 let same = (Stands-same i z for.disk v for.said st for.log.stands).1 in
                 missing_down i image w (out_missing i.power said.meta w range
-                (ap (λ (n : Meta). out_disk i.power n) (sym for.meta) ∙ ap (λ (u : Said). out_disk i.power u.meta) (sym same) ∙ e))
+                (ap (λ (n : Meta). out_disk i.power n) (sym for.meta) ∙ ap (λ (u : LogState). out_disk i.power u.meta) (sym same) ∙ e))
             new r for (named_weak z v o st none q e) =
                 let same = (Stands-same i z for.disk v for.said st for.log.stands).1 in
-                let none_now : out_disk i.power said.meta ≡ None = ap (λ (n : Meta). out_disk i.power n) (sym for.meta) ∙ ap (λ (u : Said). out_disk i.power u.meta) (sym same) ∙ none in
+                let none_now : out_disk i.power said.meta ≡ None = ap (λ (n : Meta). out_disk i.power n) (sym for.meta) ∙ ap (λ (u : LogState). out_disk i.power u.meta) (sym same) ∙ none in
                 let meta = r.metas (other_log z) o (let l = st.log_disk in omega arith) q in
                 let name : named_out meta.1.meta.out ≡ Some w = ap (λ (n : Meta). named_out n.out) (sym meta.4) ∙ e in
                 elim (cases_eq meta.0 x) [
                   | inl at ↦
                       let is = Says-same s0 x meta.1 said (subst (λ (u : ℕ). Says s0 u meta.1) at meta.3) log.stands.says in
-                      let z : None ≡ Some w = sym none_now ∙ out_named i.power said.meta w (ap (λ (u : Said). named_out u.meta.out) (sym is) ∙ name) in cc
+                      let z : None ≡ Some w = sym none_now ∙ out_named i.power said.meta w (ap (λ (u : LogState). named_out u.meta.out) (sym is) ∙ name) in cc
                   | inr apart ↦
                       let at : meta.0 ≡ other_log x = (let l = meta.2 in let lx = log.stands.log_disk in omega arith) in
                       weaks w (named_weak x said meta.1 log.stands (was_none r for none_now) (subst (λ (u : ℕ). Says s0 u meta.1) at meta.3) name)
                 ]
               where
-                was_none : Resumes s0 x said i → StandsFor s0 i said.meta said.batch → out_disk i.power said.meta ≡ None → out_disk s0.power said.meta ≡ None
+                was_none : ImageStandsForBroken s0 x said i → ImageStandsFor s0 i said.meta said.batch → out_disk i.power said.meta ≡ None → out_disk s0.power said.meta ≡ None
                 was_none r for none_now = elim (decide_out (out_disk s0.power said.meta)) [
                   | inr none ↦ none
                   | inl e ↦
@@ -402,11 +395,11 @@ module _ (slots : ℕ) (s0 : Disks) (x : ℕ) (said : Said) (h : History) (lo : 
                       let z : None ≡ Some e.0 = sym none_now ∙ is in cc
                 ]
 
-            old_by : (r : Resumes s0 x said i) (f : IsFallback s0 x i) (without : IsSound slots (lose x s0) h lo) → down ≡ Some x → IsWeak i w → down ≡ Some w
+            old_by : (r : ImageStandsForBroken s0 x said i) (f : IsFallback s0 x i) (without : IsSoundFrom slots (lose x s0) h lo) → down ≡ Some x → IsWeak i w → down ≡ Some w
             old_by r f without down_x (out_weak z v st e) =
                 let for = f.stands without.sound.disk without.sound.said without.k without.sound.log in
                 let same = (Stands-same i z for.disk v for.said st for.log.stands).1 in
-                let o : out_disk i.power without.sound.said.meta ≡ Some w = ap (λ (n : Meta). out_disk i.power n) (sym for.meta) ∙ ap (λ (u : Said). out_disk i.power u.meta) (sym same) ∙ e in
+                let o : out_disk i.power without.sound.said.meta ≡ Some w = ap (λ (n : Meta). out_disk i.power n) (sym for.meta) ∙ ap (λ (u : LogState). out_disk i.power u.meta) (sym same) ∙ e in
                 let missing = out_missing i.power without.sound.said.meta w (old_range i r.kept.present r.kept.power r.kept.size f without) o in
                 down_x ∙ ap (λ (u : ℕ). Some u) (old_single i r.kept.present r.kept.power r.kept.size f without x w (old_missing i r.kept.present r.kept.power r.kept.size f without) missing)
             old_by r f without down_x (named_weak z v o st none q e) =
@@ -416,7 +409,7 @@ module _ (slots : ℕ) (s0 : Disks) (x : ℕ) (said : Said) (h : History) (lo : 
                 let some = absent_out i.power v.meta x (omega arith) f.gone in
                 let z : None ≡ Some some.0 = sym none ∙ some.1 in cc
 
-            old : Resumes s0 x said i → IsFallback s0 x i → IsWeak i w → down ≡ Some w
+            old : ImageStandsForBroken s0 x said i → IsFallback s0 x i → IsWeak i w → down ≡ Some w
             old r f weak =
                 let without = without_x (gone_weak i image f.gone) in
                 let down_x : down ≡ Some x = downs x x_low (ap is_present (sym (image.power x)) ∙ f.gone) in

@@ -20,8 +20,8 @@ use Rattle.paraid_image.specs.Sound.{AreDisks, ContentOk, IsFresh}
 use Rattle.paraid_image.specs.Spot.{map_bit, map_disk}
 use Rattle.paraid_image.specs.Standing.{Contents}
 use Rattle.paraid_image.proofs.AgreeLemmas.{AgreeSeen, content_agrees, fill_in_array, fresh_below}
-use Rattle.paraid_txn.proofs.StandsForLemmas.{gone_named}
-use Rattle.paraid_image.proofs.StepLemmas.{out_named}
+use Rattle.paraid_txn.proofs.CommitImagesLemmas.{gone_named}
+use Rattle.paraid_image.proofs.CallLemmas.{out_named}
 
 pub absent_power : (p : Power) → is_present p ≡ false → p ≡ Absent
 absent_power Absent off = refl

@@ -5,10 +5,10 @@ use Rattle.std.proofs.lemmas.Bool.{cases_eq}
 use Rattle.paraid_base.specs.declared.block.Block.{Block}
 use Rattle.paraid_rack.specs.declared.call.Power.TheVariants.{Absent}
 use Rattle.paraid_rack.specs.declared.call.Call.TheVariants.{Sync, Write}
-use Rattle.paraid_rack.specs.Atoms.{Seen, Sure}
+use Rattle.paraid_rack.specs.Atoms.{IsSeen, IsSure}
 use Rattle.paraid_rack.specs.Disks.{Disks, step}
 use Rattle.paraid_rack.specs.Slots.{Agrees, Slot}
-use Rattle.paraid_rack.specs.Told.{Ran, Runs}
+use Rattle.paraid_rack.specs.Told.{Ran, CrashTriple}
 use Rattle.paraid_rack.specs.Trail.{Trail, now}
 use Rattle.paraid_rack.proofs.EffectsLemmas.{Keeps, Synced, Wrote, keeps_all, synced_none, synced_step, wrote_none, wrote_step}
 use Rattle.paraid_rack.proofs.TrailsLemmas.{called, stays}
@@ -26,16 +26,16 @@ skips (Some e) d = elim (cases_eq e d) [
 -- what a write keeps and gives
 pub record Puts (skip : Option ℕ) (s s' : Disks) (d0 p0 : ℕ) (b : Block) : Type 1 where
   pub keeps : Keeps s s'
-  pub sure : (d p : ℕ) (Q : Block → Type 0) → (skip ≢ Some d0 → d ≡ d0 → p ≢ p0) → Sure s d p Q → Sure s' d p Q
-  pub seen : (d p : ℕ) (Q : Block → Type 0) → (skip ≢ Some d0 → d ≡ d0 → p ≢ p0) → Seen s d p Q → Seen s' d p Q
-  pub here : (Q : Block → Type 0) → skip ≢ Some d0 → Q b → Seen s' d0 p0 Q
+  pub sure : (d p : ℕ) (Q : Block → Type 0) → (skip ≢ Some d0 → d ≡ d0 → p ≢ p0) → IsSure s d p Q → IsSure s' d p Q
+  pub seen : (d p : ℕ) (Q : Block → Type 0) → (skip ≢ Some d0 → d ≡ d0 → p ≢ p0) → IsSeen s d p Q → IsSeen s' d p Q
+  pub here : (Q : Block → Type 0) → skip ≢ Some d0 → Q b → IsSeen s' d0 p0 Q
 
 -- what a sync keeps and gives
 pub record Settles (skip : Option ℕ) (s s' : Disks) (d0 : ℕ) : Type 1 where
   pub keeps : Keeps s s'
-  pub sure : (d p : ℕ) (Q : Block → Type 0) → Sure s d p Q → Sure s' d p Q
-  pub seen : (d p : ℕ) (Q : Block → Type 0) → Seen s d p Q → Seen s' d p Q
-  pub here : (p : ℕ) (Q : Block → Type 0) → skip ≢ Some d0 → Seen s d0 p Q → Sure s' d0 p Q
+  pub sure : (d p : ℕ) (Q : Block → Type 0) → IsSure s d p Q → IsSure s' d p Q
+  pub seen : (d p : ℕ) (Q : Block → Type 0) → IsSeen s d p Q → IsSeen s' d p Q
+  pub here : (p : ℕ) (Q : Block → Type 0) → skip ≢ Some d0 → IsSeen s d0 p Q → IsSure s' d0 p Q
 
 module _ (skip : Option ℕ) (s : Disks) where
   puts_made : (s' : Disks) (d0 p0 : ℕ) (b : Block) → skip ≢ Some d0 → Wrote s s' d0 p0 b → Puts skip s s' d0 p0 b
@@ -79,31 +79,31 @@ pub put_ran : {P A B : Disks → Type 0} {old new : Option Trail} {slot : ℕ �
     → MayDo old new slot skip d (λ done. Write d p b done)
     → ((s : Disks) → A s → P s) → ((s : Disks) → B s → P s)
     → ((s s' : Disks) → Puts skip s s' d p b → A s → B s')
-    → Ran old new (Runs P A B)
+    → Ran old new (CrashTriple P A B)
 put_ran {P} {A} {B} {old} {skip} {d} {p} {b} agrees (skipped is same) is_a is_b go =
-    subst (λ (o : Option Trail). Ran old o (Runs P A B)) (sym same)
+    subst (λ (o : Option Trail). Ran old o (CrashTriple P A B)) (sym same)
     (stays P A B old is_b (λ t tells a. go (now t) (now t) (puts_skipped skip (now t) d p b is) a))
 put_ran {P} {A} {B} {old} {skip} {d} {p} {b} agrees (absent gone same) is_a is_b go =
-    subst (λ (o : Option Trail). Ran old o (Runs P A B)) (sym same)
+    subst (λ (o : Option Trail). Ran old o (CrashTriple P A B)) (sym same)
     (stays P A B old is_b (λ t tells a. go (now t) (now t) (puts_absent skip (now t) d p b ((agrees t tells).power d ∙ gone)) a))
 put_ran {P} {A} {B} {old} {new} {skip} {d} {p} {b} agrees (made not done grows) is_a is_b go =
     called P A B old new (Write d p b done) grows is_a is_b
     (λ s a. go s (step (Write d p b done) s) (puts_made skip s _ d p b not (wrote_step s d p b done)) a)
 
 -- and so at each sync
-pub settle_ran : {P A B : Disks → Type 0} {old new : Option Trail} {slot : ℕ → Slot} {skip : Option ℕ} {d : ℕ}
+pub sync_slot_ran : {P A B : Disks → Type 0} {old new : Option Trail} {slot : ℕ → Slot} {skip : Option ℕ} {d : ℕ}
     → ((t : Trail) → old ≡ Some t → Agrees (now t) slot)
     → MayDo old new slot skip d (λ done. Sync d done)
     → ((s : Disks) → A s → P s) → ((s : Disks) → B s → P s)
     → ((s s' : Disks) → Settles skip s s' d → A s → B s')
-    → Ran old new (Runs P A B)
-settle_ran {P} {A} {B} {old} {skip} {d} agrees (skipped is same) is_a is_b go =
-    subst (λ (o : Option Trail). Ran old o (Runs P A B)) (sym same)
+    → Ran old new (CrashTriple P A B)
+sync_slot_ran {P} {A} {B} {old} {skip} {d} agrees (skipped is same) is_a is_b go =
+    subst (λ (o : Option Trail). Ran old o (CrashTriple P A B)) (sym same)
     (stays P A B old is_b (λ t tells a. go (now t) (now t) (settles_skipped skip (now t) d is) a))
-settle_ran {P} {A} {B} {old} {skip} {d} agrees (absent gone same) is_a is_b go =
-    subst (λ (o : Option Trail). Ran old o (Runs P A B)) (sym same)
+sync_slot_ran {P} {A} {B} {old} {skip} {d} agrees (absent gone same) is_a is_b go =
+    subst (λ (o : Option Trail). Ran old o (CrashTriple P A B)) (sym same)
     (stays P A B old is_b (λ t tells a.
     go (now t) (now t) (settles_made skip (now t) (now t) d (synced_none (now t) d ((agrees t tells).power d ∙ gone))) a))
-settle_ran {P} {A} {B} {old} {new} {skip} {d} agrees (made not done grows) is_a is_b go =
+sync_slot_ran {P} {A} {B} {old} {new} {skip} {d} agrees (made not done grows) is_a is_b go =
     called P A B old new (Sync d done) grows is_a is_b
     (λ s a. go s (step (Sync d done) s) (settles_made skip s _ d (synced_step s d done)) a)

@@ -4,14 +4,14 @@ use Rattle.std.proofs.Common.{sym, ◌∙◌, ap, subst}
 use Rattle.std.proofs.lemmas.List.{append_cancel_left}
 use Rattle.paraid_rack.specs.declared.call.Call.{Call}
 use Rattle.paraid_rack.specs.Disks.{Disks, step}
-use Rattle.paraid_rack.specs.Told.{Came, Ran, Runs, Through}
+use Rattle.paraid_rack.specs.Told.{Came, Ran, CrashTriple, Through}
 use Rattle.paraid_rack.specs.Trail.{Trail, disks, extend, initial, moments, now, run}
 use Rattle.paraid_rack.proofs.TrailsLemmas.{moments_of, now-extend}
 use Rattle.paraid_record.specs.declared.meta.Meta.{Meta}
 use Rattle.paraid_image.specs.Rest.{IsAtRest}
-use Rattle.paraid_txn.specs.Commit.{Commits, IsCommitted, IsEachImage, IsNext, IsOldOrNew, IsWholeOrAbsent}
-use Rattle.paraid_txn.specs.Resume.{IsBroken, IsResume, IsResumed, Resumes, Settles}
-use Rattle.paraid_image.specs.Sides.{Batch, Said}
+use Rattle.paraid_txn.specs.Commit.{EndsCommitted, IsCommitted, IsEachImage, IsNext, IsOldOrNew, IsWholeOrAbsent}
+use Rattle.paraid_txn.specs.Resume.{IsBroken, StandsWhileResumed, EndsResume, ImageStandsForBroken, EndsAsCommitted}
+use Rattle.paraid_image.specs.Sides.{Batch, LogState}
 
 -- less is said at each moment
 pub through_milder : (P Q : Disks → Type 0) → ((s : Disks) → P s → Q s) → (s : Disks) (cs : List Call) → Through P s cs → Through Q s cs
@@ -26,7 +26,7 @@ Through-end P s (c ∷ cs) t = Through-end P (step c s) cs t.1
 -- The calls are the same whatever start they are told of: so what is told for each start of which
 -- `G` holds is told of the start that they had.
 module _ (P A B : Disks → Disks → Type 0) (G : Disks → Type 0) (some : Disks) (it : G some) (old new : Option Trail)
-    (ran : (start : Disks) → G start → Ran old new (Runs (P start) (A start) (B start))) where
+    (ran : (start : Disks) → G start → Ran old new (CrashTriple (P start) (A start) (B start))) where
   abbrev Goes : Disks → Disks → List Call → Type 0
   Goes start s calls = A start s → Through (P start) s calls × B start (run s calls)
 
@@ -48,7 +48,7 @@ module _ (P A B : Disks → Disks → Type 0) (G : Disks → Type 0) (some : Dis
             (subst (λ (u : Trail). Goes start (now u) r.calls) same r.holds.goes);
       }
 
-module _ (P A B : Disks → Disks → Type 0) (old new : Option Trail) (ran : (start : Disks) → Ran old new (Runs (P start) (A start) (B start))) where
+module _ (P A B : Disks → Disks → Type 0) (old new : Option Trail) (ran : (start : Disks) → Ran old new (CrashTriple (P start) (A start) (B start))) where
   pub ran_from : Ran old new (λ start calls. A start start → Through (P start) start calls × B start (run start calls))
   ran_from t tells =
       let r = ran_given P A B (λ s. Unit {0}) (initial []) tt old new (λ start g. ran start) t tells in
@@ -71,7 +71,7 @@ ran_moments P G old new ran t tells =
     )
   where
     one : (r : Came old t (λ start calls. G start → Through (P start) start calls))
-        → Ran old new (Runs (P (now r.from)) (λ s. Through (P (now r.from)) s r.calls) (λ s. Unit {0}))
+        → Ran old new (CrashTriple (P (now r.from)) (λ s. Through (P (now r.from)) s r.calls) (λ s. Unit {0}))
     one r u tells_u =
         let same : t ≡ u = (let e : Some t ≡ Some u = sym tells ∙ tells_u in cc) in
         record { from = r.from; was = r.was; calls = r.calls; is = sym same ∙ r.is; holds = record { goes = λ a. (a, tt) } }
@@ -93,17 +93,17 @@ commit_moments old new before after batch ran t tells =
     (m.0, m.1, m.2, λ rest next. m.3 (rest, next))
 
 -- and at its end
-pub commits_now : (old new : Option Trail) (before after : Meta) (batch : Batch) → Commits old new before after batch → (t : Trail) → new ≡ Some t
+pub commits_now : (old new : Option Trail) (before after : Meta) (batch : Batch) → EndsCommitted old new before after batch → (t : Trail) → new ≡ Some t
     → (s : Trail) × (old ≡ Some s) × (IsAtRest (now s) before → IsNext (now s) before after → IsCommitted (now s) (now t) before after batch)
 commits_now old new before after batch = ran_now (λ start end. IsAtRest start before → IsNext start before after → IsCommitted start end before after batch) old new
 
 -- the end of an interrupted commit, by its moments
-pub resume_moments : (old new : Option Trail) (x : ℕ) (said : Said) → IsResume old new x said → (t : Trail) → new ≡ Some t
+pub resume_moments : (old new : Option Trail) (x : ℕ) (said : LogState) → StandsWhileResumed old new x said → (t : Trail) → new ≡ Some t
     → (s : Trail) × (old ≡ Some s) × (moments s ≤ moments t)
-    × (IsBroken (now s) x said → (m : ℕ) → moments s ≤ m → m ≤ moments t → IsEachImage said.meta said.meta (Resumes (now s) x said) (disks t m))
-resume_moments old new x said = ran_moments (λ start. IsEachImage said.meta said.meta (Resumes start x said)) (λ start. IsBroken start x said) old new
+    × (IsBroken (now s) x said → (m : ℕ) → moments s ≤ m → m ≤ moments t → IsEachImage said.meta said.meta (ImageStandsForBroken (now s) x said) (disks t m))
+resume_moments old new x said = ran_moments (λ start. IsEachImage said.meta said.meta (ImageStandsForBroken start x said)) (λ start. IsBroken start x said) old new
 
 -- and at its end
-pub settles_now : (old new : Option Trail) (x : ℕ) (said : Said) → Settles old new x said → (t : Trail) → new ≡ Some t
-    → (s : Trail) × (old ≡ Some s) × (IsBroken (now s) x said → IsResumed (now t) said.meta)
-settles_now old new x said = ran_now (λ start end. IsBroken start x said → IsResumed end said.meta) old new
+pub settles_now : (old new : Option Trail) (x : ℕ) (said : LogState) → EndsAsCommitted old new x said → (t : Trail) → new ≡ Some t
+    → (s : Trail) × (old ≡ Some s) × (IsBroken (now s) x said → EndsResume (now t) said.meta)
+settles_now old new x said = ran_now (λ start end. IsBroken start x said → EndsResume end said.meta) old new

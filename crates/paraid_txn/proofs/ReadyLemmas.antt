@@ -4,18 +4,18 @@ use Rattle.std.proofs.Common.{arith}
 use Rattle.paraid_rack.specs.Slots.{Slot}
 use Rattle.paraid_record.specs.declared.targets.Target.{Target}
 use Rattle.paraid_txn.specs.declared.losses.Losses.{Losses}
-use Rattle.paraid_txn.specs.Losses.{CanWrite, Lasts}
+use Rattle.paraid_txn.specs.Losses.{CanWrite, AreCommitCalls}
 use Rattle.paraid_txn.specs.Ready.{AreTargetsReady, IsLogReady}
 use Rattle.paraid_image.specs.Sides.{Batch, targets}
-use Rattle.paraid_txn.specs.Staging.{names_disk}
+use Rattle.paraid_txn.specs.Batches.{names_disk}
 use Rattle.paraid_txn.proofs.DownLemmas.{CanWrite-later, CanWrite-lower}
 use Rattle.paraid_txn.proofs.TargetsLemmas.{target_on}
 
-pub log_stays_ready : {from to : Losses} {old new : ℕ → Slot} {skip : Option ℕ} → Lasts from to old new → IsLogReady skip old → IsLogReady skip new
+pub log_stays_ready : {from to : Losses} {old new : ℕ → Slot} {skip : Option ℕ} → AreCommitCalls from to old new → IsLogReady skip old → IsLogReady skip new
 log_stays_ready lasts ready = record { can = λ x low not. CanWrite-later _ _ _ _ _ _ lasts (ready.can x low not) }
 
 pub targets_stay_ready : {from to : Losses} {old new : ℕ → Slot} (skip : Option ℕ) (count now : ℕ) (ts : List Target)
-    → Lasts from to old new → now ≡ count → AreTargetsReady skip count old ts → AreTargetsReady skip now new ts
+    → AreCommitCalls from to old new → now ≡ count → AreTargetsReady skip count old ts → AreTargetsReady skip now new ts
 targets_stay_ready skip count now ts lasts same ready k t lt =
     let was = ready k t lt in
     (omega arith, λ not. CanWrite-later _ _ _ _ _ _ lasts (was.1 not))

@@ -5,22 +5,22 @@ use Rattle.paraid_base.specs.declared.block.Block.{Block}
 use Rattle.paraid_rack.specs.declared.call.Power.TheVariants.{Spinning}
 use Rattle.paraid_rack.specs.Disks.{Disks, IsPresent, is_present}
 use Rattle.paraid_rack.specs.Slots.{Agrees, Slot}
-use Rattle.paraid_rack.specs.Told.{Ran, Runs}
+use Rattle.paraid_rack.specs.Told.{Ran, CrashTriple}
 use Rattle.paraid_rack.specs.Trail.{Trail, now, run}
 use Rattle.paraid_record.specs.declared.meta.Meta.{Meta}
 use Rattle.paraid_record.specs.declared.targets.Target.{Target}
 use Rattle.paraid_record.specs.Range.{IsInRange}
 use Rattle.paraid_image.specs.Rest.{IsAtRest}
-use Rattle.paraid_txn.specs.Commit.{Commits, IsNext, IsOldOrNew, IsWholeOrAbsent, gone_out}
+use Rattle.paraid_txn.specs.Commit.{EndsCommitted, IsNext, IsOldOrNew, IsWholeOrAbsent, gone_out}
 use Rattle.paraid_txn.specs.Losses.{CanWrite}
 use Rattle.paraid_image.specs.Out.{named_out}
 use Rattle.paraid_txn.specs.Ready.{AreTargetsReady, IsLogReady}
 use Rattle.paraid_image.specs.Sides.{Batch, targets}
-use Rattle.paraid_txn.specs.Stages.{Close, IsSpelled, Job, Log, Whole, job}
+use Rattle.paraid_txn.specs.CommitStages.{CloseStage, IsSpelled, Job, LogStage, HoldsWhole, job}
 use Rattle.paraid_txn.proofs.CommitLemmas.{is_committed, start_log, whole_images}
 use Rattle.paraid_txn.proofs.RanLemmas.{ran_from, through_milder}
 use Rattle.paraid_txn.proofs.SpokenLemmas.{IsBegun}
-use Rattle.paraid_txn.proofs.StandsForLemmas.{all_contained}
+use Rattle.paraid_txn.proofs.CommitImagesLemmas.{all_contained}
 
 -- a meta with the next epoch is in range
 pub next_in_range : (m : Meta) (e : ℕ) → IsInRange m → e < 2 ^ 64 - 1 → IsInRange (record m { epoch = e + 1 })
@@ -62,25 +62,25 @@ module _ (meta : Meta) (batch : Batch) (spelled list : Block) (turn : ℕ) (good
   begun : (s : Trail) → old ≡ Some s → IsAtRest (now s) before → IsNext (now s) before meta → IsBegun (it (now s)) before
   begun s is rest next = record { good = good (now s); names = refl; rest = rest; next = next; joins_first = joins; spins = (ready s is).spins }
 
-  first : (s : Trail) (is : old ≡ Some s) (rest : IsAtRest (now s) before) (next : IsNext (now s) before meta) → Log (it (now s)) 0 (now s)
+  first : (s : Trail) (is : old ≡ Some s) (rest : IsAtRest (now s) before) (next : IsNext (now s) before meta) → LogStage (it (now s)) 0 (now s)
   first s is rest next = start_log (it (now s)) before (begun s is rest next) (λ x live. (ready s is).large x live.0 live.1)
 
-  pub whole_or_absent : ((start : Disks) → Ran old new (Runs (Whole (it start)) (Log (it start) 0) (Whole (it start)))) → IsWholeOrAbsent old new before meta batch
+  pub whole_or_absent : ((start : Disks) → Ran old new (CrashTriple (HoldsWhole (it start)) (LogStage (it start) 0) (HoldsWhole (it start)))) → IsWholeOrAbsent old new before meta batch
   whole_or_absent ran t tells =
-      let r = ran_from (λ start. Whole (it start)) (λ start. Log (it start) 0) (λ start. Whole (it start)) old new ran t tells in
+      let r = ran_from (λ start. HoldsWhole (it start)) (λ start. LogStage (it start) 0) (λ start. HoldsWhole (it start)) old new ran t tells in
       record {
         from = r.from;
         was = r.was;
         calls = r.calls;
         is = r.is;
         holds = λ rest next.
-            through_milder (Whole (it (now r.from))) (IsOldOrNew (now r.from) before meta batch)
+            through_milder (HoldsWhole (it (now r.from))) (IsOldOrNew (now r.from) before meta batch)
             (whole_images (it (now r.from)) before (begun r.from r.was rest next)) (now r.from) r.calls (r.holds (first r.from r.was rest next)).0;
       }
 
-  pub commits : ((start : Disks) → Ran old new (Runs (Whole (it start)) (Log (it start) 0) (Close (it start) 2))) → Commits old new before meta batch
+  pub commits : ((start : Disks) → Ran old new (CrashTriple (HoldsWhole (it start)) (LogStage (it start) 0) (CloseStage (it start) 2))) → EndsCommitted old new before meta batch
   commits ran t tells =
-      let r = ran_from (λ start. Whole (it start)) (λ start. Log (it start) 0) (λ start. Close (it start) 2) old new ran t tells in
+      let r = ran_from (λ start. HoldsWhole (it start)) (λ start. LogStage (it start) 0) (λ start. CloseStage (it start) 2) old new ran t tells in
       record {
         from = r.from;
         was = r.was;

@@ -11,13 +11,13 @@ use Rattle.paraid_rack.specs.Disks.{is_present}
 use Rattle.paraid_rack.specs.Slots.{AreSlots, Slot}
 use Rattle.paraid_txn.specs.declared.losses.Losses.{Losses}
 use Rattle.paraid_txn.specs.CommitPart.{CommitPart}
-use Rattle.paraid_txn.specs.Losses.{IsDryAt, Lasts}
+use Rattle.paraid_txn.specs.Losses.{IsSyncedAt, AreCommitCalls}
 use Rattle.paraid_txn.specs.Uses.{CanSync, IsThisCall, UsesSync}
 use Rattle.paraid_txn.proofs.CommitPartLemmas.{CommitPart_milder}
 
 -- a disk that does not spin has nothing unsynced
-pub dry_unless_spinning : (count : ℕ) (slot : ℕ → Slot) (d : ℕ) → AreSlots count slot → (slot d).power ≢ Spinning → IsDryAt slot d
-dry_unless_spinning count slot d are not here = slots_parked (slot d).power refl
+pub synced_unless_spinning : (count : ℕ) (slot : ℕ → Slot) (d : ℕ) → AreSlots count slot → (slot d).power ≢ Spinning → IsSyncedAt slot d
+synced_unless_spinning count slot d are not here = slots_parked (slot d).power refl
   where
     slots_parked : (p : Power) → (slot d).power ≡ p → (slot d).unsynced ≡ false
     slots_parked Absent is = absurd (true≢false (sym here ∙ ap is_present is))
@@ -30,7 +30,7 @@ pub syncs : {R A : Type 0} {g : Ghosts R} {skip : Option ℕ} {disk : ℕ} {a b 
 syncs {skip = skip} n low part = CommitPart_milder (λ c is. subst (UsesSync n skip) (sym is.2) (low, is.0)) part
 
 -- what can be synced before some calls can be synced after them
-pub sync_stays : {from to : Losses} {old new : ℕ → Slot} {n : ℕ} {skip : Option ℕ} → Lasts from to old new → CanSync n skip old → CanSync n skip new
+pub sync_stays : {from to : Losses} {old new : ℕ → Slot} {n : ℕ} {skip : Option ℕ} → AreCommitCalls from to old new → CanSync n skip old → CanSync n skip new
 sync_stays lasts can = record {
   within = λ d low not spins.
       let here = ap is_present spins in

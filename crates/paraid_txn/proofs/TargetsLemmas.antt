@@ -4,14 +4,14 @@ use Rattle.std.proofs.Common.{zero, suc, refl, sym, ap, ◌∙◌, inl, inr, ari
 use Rattle.std.proofs.lemmas.Bool.{and_from, and_parts, cases_Bool, cases_lt, eq-eqb, eqb-true, false≢true, ne_eqb, or_from}
 use Rattle.std.proofs.lemmas.List.Elements.{All-head, All-tail}
 use Rattle.paraid_base.specs.declared.block.Block.{Block}
-use Rattle.paraid_base.specs.Xor.{zeroed}
+use Rattle.paraid_base.specs.Xor.{zero_block}
 use Rattle.paraid_record.specs.declared.targets.Target.{Target}
 use Rattle.paraid_record.specs.Targets.{no_target}
-use Rattle.paraid_image.specs.Neutral.{names}
+use Rattle.paraid_image.specs.Neutral.{names_place}
 use Rattle.paraid_image.specs.Sides.{Batch, targets}
-use Rattle.paraid_txn.specs.Staging.{blocks, names_disk}
-use Rattle.paraid_image.specs.Standing.{laid}
-use Rattle.paraid_txn.proofs.StagingLemmas.{names_disk-named}
+use Rattle.paraid_txn.specs.Batches.{batch_blocks, names_disk}
+use Rattle.paraid_image.specs.Standing.{overlaid_block}
+use Rattle.paraid_txn.proofs.BatchesLemmas.{names_disk-named}
 
 abbrev pub target_at : Batch → ℕ → Target
 target_at batch n = get_or (targets batch) n no_target
@@ -27,34 +27,34 @@ is_not_at d0 p0 d p apart = elim (cases_Bool (d0 == d && p0 == p)) [
 ]
 
 -- one more target is laid over what the first ones leave
-laid-next : (batch : Batch) (n d p : ℕ) (b : Block) → n < length batch
-    → laid (take (suc n) batch) d p b ≡ (if (target_at batch n).disk == d && (target_at batch n).place == p
-    then get_or (blocks batch) n zeroed else laid (take n batch) d p b)
-laid-next [] n d p b lt = absurd (omega arith)
-laid-next (w ∷ batch) zero d p b lt = refl
-laid-next (w ∷ batch) (suc n) d p b lt = laid-next batch n d p (if w.0.disk == d && w.0.place == p then w.1 else b) (omega arith)
+overlaid_block-next : (batch : Batch) (n d p : ℕ) (b : Block) → n < length batch
+    → overlaid_block (take (suc n) batch) d p b ≡ (if (target_at batch n).disk == d && (target_at batch n).place == p
+    then get_or (batch_blocks batch) n zero_block else overlaid_block (take n batch) d p b)
+overlaid_block-next [] n d p b lt = absurd (omega arith)
+overlaid_block-next (w ∷ batch) zero d p b lt = refl
+overlaid_block-next (w ∷ batch) (suc n) d p b lt = overlaid_block-next batch n d p (if w.0.disk == d && w.0.place == p then w.1 else b) (omega arith)
 
-pub laid-next_here : (batch : Batch) (n d p : ℕ) (b : Block) → n < length batch
+pub overlaid_block-next_here : (batch : Batch) (n d p : ℕ) (b : Block) → n < length batch
     → d ≡ (target_at batch n).disk → p ≡ (target_at batch n).place
-    → laid (take (n + 1) batch) d p b ≡ get_or (blocks batch) n zeroed
-laid-next_here batch n d p b lt is at =
+    → overlaid_block (take (n + 1) batch) d p b ≡ get_or (batch_blocks batch) n zero_block
+overlaid_block-next_here batch n d p b lt is at =
     let t = target_at batch n in
     let more : n + 1 ≡ suc n = omega arith in
-    ap (λ (k : ℕ). laid (take k batch) d p b) more ∙ laid-next batch n d p b lt
-    ∙ ap (λ (c : Bool). if c then get_or (blocks batch) n zeroed else laid (take n batch) d p b) (is_at t.disk t.place d p is at)
+    ap (λ (k : ℕ). overlaid_block (take k batch) d p b) more ∙ overlaid_block-next batch n d p b lt
+    ∙ ap (λ (c : Bool). if c then get_or (batch_blocks batch) n zero_block else overlaid_block (take n batch) d p b) (is_at t.disk t.place d p is at)
 
-pub laid-next_else : (batch : Batch) (n d p : ℕ) (b : Block) → n < length batch
+pub overlaid_block-next_else : (batch : Batch) (n d p : ℕ) (b : Block) → n < length batch
     → (d ≡ (target_at batch n).disk → p ≢ (target_at batch n).place)
-    → laid (take (n + 1) batch) d p b ≡ laid (take n batch) d p b
-laid-next_else batch n d p b lt apart =
+    → overlaid_block (take (n + 1) batch) d p b ≡ overlaid_block (take n batch) d p b
+overlaid_block-next_else batch n d p b lt apart =
     let t = target_at batch n in
     let more : n + 1 ≡ suc n = omega arith in
-    ap (λ (k : ℕ). laid (take k batch) d p b) more ∙ laid-next batch n d p b lt
-    ∙ ap (λ (c : Bool). if c then get_or (blocks batch) n zeroed else laid (take n batch) d p b) (is_not_at t.disk t.place d p apart)
+    ap (λ (k : ℕ). overlaid_block (take k batch) d p b) more ∙ overlaid_block-next batch n d p b lt
+    ∙ ap (λ (c : Bool). if c then get_or (batch_blocks batch) n zero_block else overlaid_block (take n batch) d p b) (is_not_at t.disk t.place d p apart)
 
 -- a disk that has no target
-pub names-no_disk : (batch : Batch) (d p : ℕ) → names_disk batch d ≡ false → names batch d p ≡ false
-names-no_disk batch d p off = elim (cases_Bool (names batch d p)) [
+pub names_place-no_disk : (batch : Batch) (d p : ℕ) → names_disk batch d ≡ false → names_place batch d p ≡ false
+names_place-no_disk batch d p off = elim (cases_Bool (names_place batch d p)) [
   | inl on ↦ absurd (false≢true (sym off ∙ names_disk-named batch d p on))
   | inr none ↦ none
 ]

@@ -3,47 +3,47 @@ use Rattle.std.specs.Prelude.{◌≡◌, ℕ, ◌+◌, ◌<◌, ◌≤◌, ◌==
 use Rattle.std.proofs.Common.{refl, sym, ◌∙◌, ap, subst, arith, inl, inr, suc}
 use Rattle.std.proofs.lemmas.Bool.{cases_Bool, cases_eq, cases_lt, false≢true, and_from, lt-ltb, or_parts}
 use Rattle.paraid_base.specs.declared.block.Block.{Block}
-use Rattle.paraid_base.specs.Xor.{zeroed}
-use Rattle.paraid_rack.specs.Atoms.{IsLeft, Sure}
+use Rattle.paraid_base.specs.Xor.{zero_block}
+use Rattle.paraid_rack.specs.Atoms.{IsLeftByStop, IsSure}
 use Rattle.paraid_rack.specs.Disks.{Disks, IsPresent, is_present}
 use Rattle.paraid_rack.proofs.AtomsLemmas.{left_sure}
 use Rattle.paraid_image.specs.Rest.{closed_over}
-use Rattle.paraid_image.specs.Neutral.{names}
-use Rattle.paraid_image.specs.Sides.{AreLogged, Batch, Says, Spells, is_open, stored}
-use Rattle.paraid_txn.specs.Staging.{blocks}
-use Rattle.paraid_image.specs.Standing.{laid, other_log}
-use Rattle.paraid_txn.specs.Stages.{Closing, Earlier, Is, IsBeside, IsKept, IsLive, IsSpelled, Job, Late, Later, Laying, Logged, Logging, Marking, Opening, Shut, Whole, named, open_with, was}
-use Rattle.paraid_image.proofs.NeutralLemmas.{laid-named, length-targets}
+use Rattle.paraid_image.specs.Neutral.{names_place}
+use Rattle.paraid_image.specs.Sides.{AreBlocksLogged, Batch, Says, Spells, is_open, stored_block}
+use Rattle.paraid_txn.specs.Batches.{batch_blocks}
+use Rattle.paraid_image.specs.Standing.{overlaid_block, other_log}
+use Rattle.paraid_txn.specs.CommitStages.{CloseCore, HoldsEarly, IsBlock, HoldsThroughout, KeepsSlotsAndLogs, IsLiveLog, IsSpelled, Job, IsLateImage, HoldsLate, LayCore, IsBatchLogged, LogCore, MarkCore, OpenCore, IsGateClosed, HoldsWhole, job_named, open_with, block_before}
+use Rattle.paraid_image.proofs.NeutralLemmas.{overlaid_block-named, length-targets}
 
 -- where no target is, the batch lays nothing
-pub laid-unnamed : (batch : Batch) (d p : ℕ) (b : Block) → names batch d p ≡ false → laid batch d p b ≡ b
-laid-unnamed [] d p b off = refl
-laid-unnamed (w ∷ batch) d p b off =
-    let parts = or_parts (w.0.disk == d && w.0.place == p) (names batch d p) off in
-    ap (λ (t : Bool). laid batch d p (if t then w.1 else b)) parts.0 ∙ laid-unnamed batch d p b parts.1
+pub overlaid_block-unnamed : (batch : Batch) (d p : ℕ) (b : Block) → names_place batch d p ≡ false → overlaid_block batch d p b ≡ b
+overlaid_block-unnamed [] d p b off = refl
+overlaid_block-unnamed (w ∷ batch) d p b off =
+    let parts = or_parts (w.0.disk == d && w.0.place == p) (names_place batch d p) off in
+    ap (λ (t : Bool). overlaid_block batch d p (if t then w.1 else b)) parts.0 ∙ overlaid_block-unnamed batch d p b parts.1
 
 -- what is laid again stays
-pub laid-laid : (batch : Batch) (d p : ℕ) (b : Block) → laid batch d p (laid batch d p b) ≡ laid batch d p b
-laid-laid batch d p b = elim (cases_Bool (names batch d p)) [
-  | inl on ↦ laid-named batch d p (laid batch d p b) b on
-  | inr off ↦ ap (laid batch d p) (laid-unnamed batch d p b off)
+pub overlaid_block-laid : (batch : Batch) (d p : ℕ) (b : Block) → overlaid_block batch d p (overlaid_block batch d p b) ≡ overlaid_block batch d p b
+overlaid_block-laid batch d p b = elim (cases_Bool (names_place batch d p)) [
+  | inl on ↦ overlaid_block-named batch d p (overlaid_block batch d p b) b on
+  | inr off ↦ ap (overlaid_block batch d p) (overlaid_block-unnamed batch d p b off)
 ]
 
 -- a place of the log, on a disk that is there and large enough
-pub stored_here : (i : Disks) (x p : ℕ) → IsPresent i x → p < i.size x → stored i x p ≡ i.block x p
-unfolding stored
+pub stored_here : (i : Disks) (x p : ℕ) → IsPresent i x → p < i.size x → stored_block i x p ≡ i.block x p
+unfolding stored_block
 stored_here i x p here lt =
-    ap (λ (t : Bool). if t then i.block x p else zeroed) (and_from (is_present (i.power x)) (nat_lt p (i.size x)) here (lt-ltb p (i.size x) lt))
+    ap (λ (t : Bool). if t then i.block x p else zero_block) (and_from (is_present (i.power x)) (nat_lt p (i.size x)) here (lt-ltb p (i.size x) lt))
 
 -- a batch that stands block by block from a place on is logged there
-logged_from : (log : ℕ → Block) (p : ℕ) (batch : Batch) → ((k : ℕ) → k < length batch → log (p + k) ≡ get_or (blocks batch) k zeroed) → AreLogged log p batch
+logged_from : (log : ℕ → Block) (p : ℕ) (batch : Batch) → ((k : ℕ) → k < length batch → log (p + k) ≡ get_or (batch_blocks batch) k zero_block) → AreBlocksLogged log p batch
 logged_from log p [] each = tt
 logged_from log p (w ∷ batch) each = (
   (let e : p ≡ p + 0 = omega arith in ap log e ∙ each 0 (omega arith)),
   logged_from log (suc p) batch (λ k lt. let e : suc p + k ≡ p + suc k = omega arith in ap log e ∙ each (suc k) (omega arith)),
 )
 
-pub left_kept : (j : Job) (s i : Disks) → IsKept j s → IsLeft s i → IsKept j i
+pub left_kept : (j : Job) (s i : Disks) → KeepsSlotsAndLogs j s → IsLeftByStop s i → KeepsSlotsAndLogs j i
 left_kept j s i k left = record {
   present = λ d here. k.present d (left.present d here);
   power = λ d here. left.power d here ∙ k.power d (left.present d here);
@@ -51,12 +51,12 @@ left_kept j s i k left = record {
   large = λ x live here. let a = k.large x live (left.present x here) in let b = left.size x here in omega arith;
 }
 
-left_aside : (j : Job) (s : Disks) → IsBeside j s → (i : Disks) → IsLeft s i → (y p : ℕ) → y < 2 → named j ≡ Some y → p < 100 → IsPresent i y → i.block y p ≡ j.start.block y p
+left_aside : (j : Job) (s : Disks) → HoldsThroughout j s → (i : Disks) → IsLeftByStop s i → (y p : ℕ) → y < 2 → job_named j ≡ Some y → p < 100 → IsPresent i y → i.block y p ≡ j.start.block y p
 left_aside j s beside i left y p log_disk is lt here = left_sure (beside.aside.log y p log_disk is lt) left here
 
-module _ (j : Job) (good : IsSpelled j) (s i : Disks) (left : IsLeft s i) where
+module _ (j : Job) (good : IsSpelled j) (s i : Disks) (left : IsLeftByStop s i) where
   -- a live log disk whose log is the batch, by an open gate
-  open_says : IsKept j s → (x : ℕ) → IsLive j x → IsPresent i x → Logged j s x → is_open (i.block x 0) ≡ true → Says i x (open_with j)
+  open_says : KeepsSlotsAndLogs j s → (x : ℕ) → IsLiveLog j x → IsPresent i x → IsBatchLogged j s x → is_open (i.block x 0) ≡ true → Says i x (open_with j)
   open_says kept x live here logged gate = record {
     present = here;
     gate = ap is_open (at 0 (omega arith)) ∙ gate;
@@ -64,38 +64,38 @@ module _ (j : Job) (good : IsSpelled j) (s i : Disks) (left : IsLeft s i) where
       meta = subst (λ (b : Block). Spells b j.meta) (sym (at 2 (omega arith) ∙ left_sure logged.meta left here)) good.meta;
       in_range = good.in_range;
       list = ap (λ (b : Block). b.bytes) (at 3 (omega arith) ∙ left_sure logged.list left here) ∙ good.list;
-      blocks = logged_from (stored i x) 4 j.batch (λ k lt.
+      blocks = logged_from (stored_block i x) 4 j.batch (λ k lt.
           let few = few_targets in
           at (4 + k) (omega arith) ∙ left_sure (logged.blocks k lt) left here);
     };
   }
     where
-      at : (p : ℕ) → p < 100 → stored i x p ≡ i.block x p
+      at : (p : ℕ) → p < 100 → stored_block i x p ≡ i.block x p
       at p lt = let large = (left_kept j s i kept left).large x live here in stored_here i x p here (omega arith)
 
       few_targets : length j.batch ≤ 96
       few_targets = let n = length-targets j.batch in let few = good.in_range.few in omega arith
 
   -- a live log disk that is closed over the new meta
-  closed_says : IsKept j s → (x : ℕ) → IsLive j x → IsPresent i x → Sure s x 1 (Is j.spelled) → is_open (i.block x 0) ≡ false → Says i x (closed_over j.meta)
+  closed_says : KeepsSlotsAndLogs j s → (x : ℕ) → IsLiveLog j x → IsPresent i x → IsSure s x 1 (IsBlock j.spelled) → is_open (i.block x 0) ≡ false → Says i x (closed_over j.meta)
   closed_says kept x live here meta gate = record {
     present = here;
     gate = ap is_open (at 0 (omega arith)) ∙ gate;
     log = record { meta = subst (λ (b : Block). Spells b j.meta) (sym (at 1 (omega arith) ∙ left_sure meta left here)) good.meta; empty = refl };
   }
     where
-      at : (p : ℕ) → p < 100 → stored i x p ≡ i.block x p
+      at : (p : ℕ) → p < 100 → stored_block i x p ≡ i.block x p
       at p lt = let large = (left_kept j s i kept left).large x live here in stored_here i x p here (omega arith)
 
   -- an open gate is not closed over the new meta
-  not_closed : IsKept j s → (x : ℕ) → IsLive j x → IsPresent i x → is_open (i.block x 0) ≡ true → Says i x (closed_over j.meta) → ⊥
+  not_closed : KeepsSlotsAndLogs j s → (x : ℕ) → IsLiveLog j x → IsPresent i x → is_open (i.block x 0) ≡ true → Says i x (closed_over j.meta) → ⊥
   not_closed kept x live here gate says =
       let large = (left_kept j s i kept left).large x live here in
       let at = stored_here i x 0 here (omega arith) in
       false≢true (sym says.gate ∙ ap is_open at ∙ gate)
 
 module _ (j : Job) (good : IsSpelled j) where
-  pub logging_whole : (k : ℕ) (s : Disks) → Logging j k s → Earlier j s
+  pub logging_whole : (k : ℕ) (s : Disks) → LogCore j k s → HoldsEarly j s
   logging_whole k s c = record {
     early = (λ i left. record {
       kept = left_kept j s i c.beside.kept left;
@@ -106,7 +106,7 @@ module _ (j : Job) (good : IsSpelled j) where
     aside = left_aside j s c.beside;
   }
 
-  pub opening_whole : (k : ℕ) (s : Disks) → Opening j k s → Earlier j s
+  pub opening_whole : (k : ℕ) (s : Disks) → OpenCore j k s → HoldsEarly j s
   opening_whole k s c = record {
     early = (λ i left. record {
       kept = left_kept j s i c.beside.kept left;
@@ -121,7 +121,7 @@ module _ (j : Job) (good : IsSpelled j) where
           | inr none ↦
               let low = good.first in
               let second : other_log j.first ≡ y = (let l = live_too.0 in omega arith) in
-              let closed : Shut s y = subst (Shut s) second (c.waiting 1 (omega arith) (omega arith) (subst (IsLive j) (sym second) live_too)) in
+              let closed : IsGateClosed s y = subst (IsGateClosed s) second (c.waiting 1 (omega arith) (omega arith) (subst (IsLiveLog j) (sym second) live_too)) in
               left_sure closed left here_too
         ]
       ];
@@ -130,47 +130,47 @@ module _ (j : Job) (good : IsSpelled j) where
     aside = left_aside j s c.beside;
   }
 
-  pub laying_whole : (s : Disks) → Laying j s → Later j s
+  pub laying_whole : (s : Disks) → LayCore j s → HoldsLate j s
   laying_whole s c = record {
     late = (λ i left. record {
       kept = left_kept j s i c.beside.kept left;
       sides = λ x live here. inl (open_says j good s i left c.beside.kept x live here (c.logged x live) (left_sure (c.opened x live) left here));
       held = λ d p ins here far. elim (c.others d p far) [
-        | inl on ↦ laid-named j.batch d p (i.block d p) (was j d p) on
-        | inr sure ↦ ap (laid j.batch d p) (left_sure sure left here)
+        | inl on ↦ overlaid_block-named j.batch d p (i.block d p) (block_before j d p) on
+        | inr sure ↦ ap (overlaid_block j.batch d p) (left_sure sure left here)
       ];
       done = λ x d p live here says ins there far. absurd (not_closed j good s i left c.beside.kept x live here (left_sure (c.opened x live) left here) says);
     });
     aside = left_aside j s c.beside;
   }
 
-  pub marking_whole : (k : ℕ) (s : Disks) → Marking j k s → Later j s
+  pub marking_whole : (k : ℕ) (s : Disks) → MarkCore j k s → HoldsLate j s
   marking_whole k s c = record {
     late = (λ i left. record {
       kept = left_kept j s i c.beside.kept left;
       sides = λ x live here. inl (open_says j good s i left c.beside.kept x live here (c.logged x live) (left_sure (c.opened x live) left here));
-      held = λ d p ins here far. ap (laid j.batch d p) (left_sure (c.held d p ins far) left here) ∙ laid-laid j.batch d p (was j d p);
+      held = λ d p ins here far. ap (overlaid_block j.batch d p) (left_sure (c.held d p ins far) left here) ∙ overlaid_block-laid j.batch d p (block_before j d p);
       done = λ x d p live here says ins there far. left_sure (c.held d p ins far) left there;
     });
     aside = left_aside j s c.beside;
   }
 
-  pub closing_late : (k : ℕ) (s : Disks) → Closing j k s → (i : Disks) → IsLeft s i → Late j i
+  pub closing_late : (k : ℕ) (s : Disks) → CloseCore j k s → (i : Disks) → IsLeftByStop s i → IsLateImage j i
   closing_late k s c i left = record {
     kept = left_kept j s i c.beside.kept left;
     sides = λ x live here. elim (cases_Bool (is_open (i.block x 0))) [
       | inl gate ↦ inl (open_says j good s i left c.beside.kept x live here (c.logged x live) gate)
       | inr shut ↦ inr (closed_says j good s i left c.beside.kept x live here (c.meta x live) shut)
     ];
-    held = λ d p ins here far. ap (laid j.batch d p) (left_sure (c.held d p ins far) left here) ∙ laid-laid j.batch d p (was j d p);
+    held = λ d p ins here far. ap (overlaid_block j.batch d p) (left_sure (c.held d p ins far) left here) ∙ overlaid_block-laid j.batch d p (block_before j d p);
     done = λ x d p live here says ins there far. left_sure (c.held d p ins far) left there;
   }
 
-  pub closing_whole : (k : ℕ) (s : Disks) → Closing j k s → Later j s
+  pub closing_whole : (k : ℕ) (s : Disks) → CloseCore j k s → HoldsLate j s
   closing_whole k s c = record { late = closing_late k s c; aside = left_aside j s c.beside }
 
-pub earlier_whole : (j : Job) (s : Disks) → Earlier j s → Whole j s
+pub earlier_whole : (j : Job) (s : Disks) → HoldsEarly j s → HoldsWhole j s
 earlier_whole j s e = record { either = inl e.early; aside = e.aside }
 
-pub later_whole : (j : Job) (s : Disks) → Later j s → Whole j s
+pub later_whole : (j : Job) (s : Disks) → HoldsLate j s → HoldsWhole j s
 later_whole j s l = record { either = inr l.late; aside = l.aside }

@@ -1,27 +1,21 @@
 -- What a commit promises: at each stop the disks stand for what they held before, or for that with
 -- the batch and the next meta laid over.
-use Rattle.std.specs.Prelude.{◌≡◌, ◌≢◌, ℕ, ◌+◌, ◌<◌, ◌≤◌, ◌⊎◌, true, false, [], Option, Some, None}
-use Rattle.paraid_base.specs.declared.state.Out.{Out}
-use Rattle.paraid_base.specs.declared.state.Out.TheVariants.{No, Gone, Fresh}
+use Rattle.std.specs.Prelude.{◌≡◌, ◌≢◌, ℕ, ◌+◌, ◌<◌, ◌≤◌, ◌⊎◌, true, false, [], Option, Some}
+use Rattle.paraid_base.specs.declared.state.Out.TheVariants.{Fresh}
+pub use Rattle.paraid_base.specs.States.{gone_out}
 use Rattle.paraid_rack.specs.declared.call.Power.{Power}
 use Rattle.paraid_rack.specs.Disks.{Disks, IsImage, IsPresent, lose}
 use Rattle.paraid_rack.specs.Told.{Ran, Through}
 use Rattle.paraid_rack.specs.Trail.{Trail, run}
 use Rattle.paraid_record.specs.declared.meta.Meta.{Meta}
 use Rattle.paraid_image.specs.Out.{IsMissing, IsWeak, named_out}
-use Rattle.paraid_image.specs.Sides.{Batch, Said, has_place, is_open, stored}
-use Rattle.paraid_image.specs.Rest.{AreShut, IsAtRest, IsDrained}
+use Rattle.paraid_image.specs.Sides.{Batch, LogState, has_place, is_open, stored_block}
+use Rattle.paraid_image.specs.Rest.{AreLogGatesClosed, IsAtRest, AreSynced}
 use Rattle.paraid_image.specs.Sound.{IsFresh, LogOk}
 use Rattle.paraid_image.specs.Standing.{contents}
 
--- the disk that a meta names out and gone; a disk that is being rebuilt is written like the others
-abbrev pub gone_out : Out → Option ℕ
-gone_out No = None
-gone_out (Gone disk) = Some disk
-gone_out (Fresh disk rebuilt) = None
-
 -- Each disk that is there has the power and the size that it had at the start.
-pub record AreKept (start i : Disks) : Type 0 where
+pub record KeepsSlots (start i : Disks) : Type 0 where
   pub present : (d : ℕ) → IsPresent i d → IsPresent start d
   pub power : (d : ℕ) → IsPresent i d → i.power d ≡ start.power d
   pub size : (d : ℕ) → IsPresent i d → i.size d ≡ start.size d
@@ -29,18 +23,18 @@ pub record AreKept (start i : Disks) : Type 0 where
 -- Image `i` stands for meta `m` and for the blocks of `start` with this batch laid over, on every
 -- disk that is not gone; its log is in order; and a disk that is there has the power and the size
 -- that it had.
-pub record StandsFor (start i : Disks) (m : Meta) (batch : Batch) : Type 0 where
+pub record ImageStandsFor (start i : Disks) (m : Meta) (batch : Batch) : Type 0 where
   pub disk : ℕ
-  pub said : Said
+  pub said : LogState
   pub log : LogOk i disk said m.writes
   pub meta : said.meta ≡ m
-  pub kept : AreKept start i
+  pub kept : KeepsSlots start i
   pub blocks : (d p : ℕ) → gone_out m.out ≢ Some d → has_place i d p ≡ true → 100 ≤ p
       → contents i said.batch d p ≡ contents start batch d p
 
 -- for what `start` held, or for that with batch and meta laid over
-abbrev pub StandsForEither : Disks → Meta → Meta → Batch → Disks → Type 0
-StandsForEither start before after batch i = StandsFor start i before [] ⊎ StandsFor start i after batch
+abbrev pub ImageStandsForEither : Disks → Meta → Meta → Batch → Disks → Type 0
+ImageStandsForEither start before after batch i = ImageStandsFor start i before [] ⊎ ImageStandsFor start i after batch
 
 -- disk `d` is absent, or one of the two metas names it out
 abbrev pub IsEitherMissing : (ℕ → Power) → Meta → Meta → ℕ → Type 0
@@ -61,7 +55,7 @@ pub record IsEachImage (before after : Meta) (P : Disks → Type 0) (s : Disks) 
 -- So each image of `s` stands for what `start` held or for that with batch and meta laid over; and
 -- its weak disk is absent or named out by one of the two metas.
 pub record IsOldOrNew (start : Disks) (before after : Meta) (batch : Batch) (s : Disks) : Type 0 where
-  pub images : IsEachImage before after (StandsForEither start before after batch) s
+  pub images : IsEachImage before after (ImageStandsForEither start before after batch) s
   pub weak : (i : Disks) (w : ℕ) → IsImage s i → IsOneMissing i.power before after → IsWeak i w
       → IsEitherMissing i.power before after w
 
@@ -74,7 +68,7 @@ pub record IsNext (s : Disks) (before after : Meta) : Type 0 where
   pub comes_in : (x : ℕ) → x < 2 → IsPresent s x → named_out before.out ≡ Some x
       → named_out after.out ≢ Some x → (rebuilt : ℕ) × (before.out ≡ Fresh x rebuilt)
   pub fresh_shut : (x rebuilt : ℕ) → IsFresh s.power after x rebuilt → x < 2
-      → is_open (stored s x 0) ≡ false
+      → is_open (stored_block s x 0) ≡ false
 
 -- The calls from the one record to the other, if they begin at a rest under the meta before, leave
 -- the old contents or the new ones at each moment.
@@ -86,13 +80,13 @@ IsWholeOrAbsent old new before after batch = Ran old new (λ start calls.
 -- What a commit that ends leaves: only the new contents, nothing loose, the gates closed; and where
 -- at most one disk is out, a rest under the new meta.
 pub record IsCommitted (start end : Disks) (before after : Meta) (batch : Batch) : Type 0 where
-  pub images : IsEachImage before after (λ i. StandsFor start i after batch) end
-  pub dry : IsDrained end
-  pub shut : AreShut end after
+  pub images : IsEachImage before after (λ i. ImageStandsFor start i after batch) end
+  pub synced : AreSynced end
+  pub shut : AreLogGatesClosed end after
   pub rest : IsOneMissing end.power before after → IsAtRest end after
 
 -- so it is after these calls, if they began at a rest
-abbrev pub Commits : Option Trail → Option Trail → Meta → Meta → Batch → Type 0
-Commits old new before after batch = Ran old new (λ start calls.
+abbrev pub EndsCommitted : Option Trail → Option Trail → Meta → Meta → Batch → Type 0
+EndsCommitted old new before after batch = Ran old new (λ start calls.
     IsAtRest start before → IsNext start before after
     → IsCommitted start (run start calls) before after batch)

@@ -1,9 +1,11 @@
-pub mod Staging
+pub mod Batches
 pub mod Losses
 pub mod Stores
 pub mod Commit
 pub mod Uses
 pub mod CommitPart
-pub mod Stages
+pub mod CrashSpecification
+pub mod PutSynced
+pub mod CommitStages
 pub mod Ready
 pub mod Resume

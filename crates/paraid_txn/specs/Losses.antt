@@ -1,5 +1,5 @@
 -- Which disks are out of a commit, and what its calls leave of the slots.
-use Rattle.std.specs.Prelude.{◌≡◌, ◌≢◌, ℕ, ◌<◌, ◌≤◌, ◌⊎◌, Bool, true, false, Option, Some, Result, Ok, Err}
+use Rattle.std.specs.Prelude.{◌≡◌, ◌≢◌, ℕ, ◌<◌, ◌≤◌, ◌⊎◌, Bool, true, false, Option, Some, None, Result, Ok, Err}
 use Rattle.paraid_base.specs.declared.fault.Two.{Two}
 use Rattle.paraid_base.specs.Told.{HasRisen}
 use Rattle.paraid_rack.specs.declared.call.Call.{Call}
@@ -7,24 +7,24 @@ use Rattle.paraid_rack.specs.declared.call.Power.{Power}
 use Rattle.paraid_rack.specs.declared.call.Power.TheVariants.{Spinning, Absent}
 use Rattle.paraid_rack.specs.Disks.{is_present}
 use Rattle.paraid_rack.specs.Slots.{Slot}
-use Rattle.paraid_rack.specs.Told.{Grows}
+use Rattle.paraid_rack.specs.Told.{GrowsByCall}
 use Rattle.paraid_rack.specs.Trail.{Trail}
 use Rattle.paraid_txn.specs.declared.losses.Losses.{Losses}
 use Rattle.paraid_txn.specs.declared.store.Lost.{Lost as LostType}
 use Rattle.paraid_txn.specs.declared.store.Lost.TheVariants.{One as LostOne, Two as LostTwo}
 
 -- Two disks are down: the first was so, or has failed since, and then the second has failed.
-pub record IsTwo (down : Option ℕ) (old new : ℕ → Slot) (two : Two) : Type 0 where
+pub record AreTwoDown (down : Option ℕ) (old new : ℕ → Slot) (two : Two) : Type 0 where
   pub first : (down ≡ Some two.first) ⊎ HasRisen (old two.first).faults (new two.first).faults
   pub apart : two.first ≢ two.second
   pub second : HasRisen (old two.second).faults (new two.second).faults
 
 -- what follows the answer of a call on a disk: a failure is borne, unless another disk is down
-abbrev pub Follows : Losses → Losses → ℕ → Bool → Result (Unit {0}) Two → Type 0
-Follows from to disk done (Ok it) =
+abbrev pub FollowsAnswer : Losses → Losses → ℕ → Bool → Result (Unit {0}) Two → Type 0
+FollowsAnswer from to disk done (Ok it) =
     ((done ≡ true) × (to ≡ from)) ⊎ ((done ≡ false) × (to.down ≡ Some disk) × (to.lost ≡ Some disk)
     × ((first : ℕ) → from.down ≡ Some first → first ≡ disk))
-Follows from to disk done (Err two) =
+FollowsAnswer from to disk done (Err two) =
     (done ≡ false) × (to ≡ from) × (from.down ≡ Some two.first) × (two.first ≢ disk) × (two.second ≡ disk)
 
 -- A disk has not failed: its count, its power and its size are as they were.
@@ -40,7 +40,7 @@ AreFailedOrWell old new = (d : ℕ) → HasRisen (old d).faults (new d).faults �
 -- Some calls of a commit: a disk that is there after them has its power and size, no count has
 -- fallen, a disk whose count has not risen is as it was, a disk that is down stays so, and a disk
 -- that is down now, but was not, was lost by one of them.
-pub record Lasts (from to : Losses) (old new : ℕ → Slot) : Type 0 where
+pub record AreCommitCalls (from to : Losses) (old new : ℕ → Slot) : Type 0 where
   pub power : (d : ℕ) → is_present (new d).power ≡ true → (new d).power ≡ (old d).power
   pub size : (d : ℕ) → is_present (new d).power ≡ true → (new d).size ≡ (old d).size
   pub no_fall : (d : ℕ) → (old d).faults ≤ (new d).faults
@@ -56,22 +56,22 @@ abbrev pub AreOthersWell : Losses → (ℕ → Slot) → (ℕ → Slot) → Type
 AreOthersWell to old new = (d : ℕ) → to.lost ≢ Some d → IsWell (old d) (new d)
 
 -- a disk that is unsynced now was so before, but for those of which `may` holds
-abbrev pub AreDryBut : (ℕ → Type 0) → (ℕ → Slot) → (ℕ → Slot) → Type 0
-AreDryBut may old new = (d : ℕ) → is_present (new d).power ≡ true → (new d).unsynced ≡ true
+abbrev pub StaySyncedBut : (ℕ → Type 0) → (ℕ → Slot) → (ℕ → Slot) → Type 0
+StaySyncedBut may old new = (d : ℕ) → is_present (new d).power ≡ true → (new d).unsynced ≡ true
     → ((old d).unsynced ≡ true) ⊎ may d
 
-abbrev pub AreDry : (ℕ → Slot) → (ℕ → Slot) → Type 0
-AreDry old new = AreDryBut (λ d. ⊥) old new
+abbrev pub StaySynced : (ℕ → Slot) → (ℕ → Slot) → Type 0
+StaySynced old new = StaySyncedBut (λ d. ⊥) old new
 
 -- this disk, if it is there, has nothing that is unsynced
-abbrev pub IsDryAt : (ℕ → Slot) → ℕ → Type 0
-IsDryAt slot d = is_present (slot d).power ≡ true → (slot d).unsynced ≡ false
+abbrev pub IsSyncedAt : (ℕ → Slot) → ℕ → Type 0
+IsSyncedAt slot d = is_present (slot d).power ≡ true → (slot d).unsynced ≡ false
 
 -- This call on the disk, done or failed; or none, where the disk is skipped or absent.
 pub data MayDo (old new : Option Trail) (slot : ℕ → Slot) (skip : Option ℕ) (disk : ℕ) (call : Bool → Call) : Type 0 where
   skipped : skip ≡ Some disk → new ≡ old → MayDo old new slot skip disk call
   absent : (slot disk).power ≡ Absent → new ≡ old → MayDo old new slot skip disk call
-  called : skip ≢ Some disk → (done : Bool) → Grows old new (call done) → MayDo old new slot skip disk call
+  called : skip ≢ Some disk → (done : Bool) → GrowsByCall old new (call done) → MayDo old new slot skip disk call
 
 -- this disk can be written at `place`, unless it is absent
 pub record CanWrite (slot : ℕ → Slot) (disk place : ℕ) : Type 0 where
@@ -86,7 +86,7 @@ IsLostBy out disk old new (LostTwo two) =
     (two.second ≡ disk) × HasRisen (old disk).faults (new disk).faults × (out ≡ Some two.first) × (two.first ≢ disk)
 
 -- Only a slot that becomes absent changes its power or size, and no count falls.
-pub record IsSpared (old new : ℕ → Slot) : Type 0 where
+pub record OnlyLosesSlots (old new : ℕ → Slot) : Type 0 where
   pub power : (d : ℕ) → is_present (new d).power ≡ true → (new d).power ≡ (old d).power
   pub size : (d : ℕ) → is_present (new d).power ≡ true → (new d).size ≡ (old d).size
   pub no_fall : (d : ℕ) → (old d).faults ≤ (new d).faults
@@ -97,16 +97,20 @@ pub record IsLostNow (old new : ℕ → Slot) (d : ℕ) : Type 0 where
   pub absent : (new d).power ≡ Absent
 
 -- Disk `e` is out as a commit begins: it is absent, or the last meta or the one given names it out.
-pub data IsOut (power : ℕ → Power) (disks : ℕ) (before after : Option ℕ) (e : ℕ) : Type 0 where
-  is_absent : e < disks → power e ≡ Absent → IsOut power disks before after e
-  was_named : before ≡ Some e → IsOut power disks before after e
-  is_named : after ≡ Some e → IsOut power disks before after e
+pub data IsOutOfCommit (power : ℕ → Power) (disks : ℕ) (before after : Option ℕ) (e : ℕ) : Type 0 where
+  is_absent : e < disks → power e ≡ Absent → IsOutOfCommit power disks before after e
+  was_named : before ≡ Some e → IsOutOfCommit power disks before after e
+  is_named : after ≡ Some e → IsOutOfCommit power disks before after e
 
 -- Two disks are down: the first was out, or has failed since, and then the second has failed.
-pub record IsTwoBeside (out : ℕ → Type 0) (old new : ℕ → Slot) (two : Two) : Type 0 where
+pub record AreTwoDownBeside (out : ℕ → Type 0) (old new : ℕ → Slot) (two : Two) : Type 0 where
   pub first : out two.first ⊎ HasRisen (old two.first).faults (new two.first).faults
   pub apart : two.first ≢ two.second
   pub second : HasRisen (old two.second).faults (new two.second).faults
+
+-- of the first disks one at most is absent or named out
+abbrev pub IsOneOut : ℕ → Option ℕ → (ℕ → Slot) → Type 0
+IsOneOut disks named slot = (d e : ℕ) → IsOutOfCommit (λ x. (slot x).power) disks named None d → IsOutOfCommit (λ x. (slot x).power) disks named None e → d ≡ e
 
 -- disk `d` is one of the array, and no other one was out
 pub record IsAlone (disks : ℕ) (out : ℕ → Type 0) (d : ℕ) : Type 0 where

@@ -1,7 +1,7 @@
 -- What the end of an interrupted commit promises: each stop leaves what the disks stood for as it
 -- began, or, once the log disk that stood is lost, what they then stood for without it.
 use Rattle.std.specs.Prelude.{◌≡◌, ◌≢◌, ℕ, ◌<◌, ◌≤◌, ◌⊎◌, Bool, false, [], Option, Some, All}
-use Rattle.paraid_rack.specs.Atoms.{IsLeft, Seen, Sure}
+use Rattle.paraid_rack.specs.Atoms.{IsLeftByStop, IsSeen, IsSure}
 use Rattle.paraid_rack.specs.Disks.{Disks, IsPresent, is_present, lose}
 use Rattle.paraid_rack.specs.Told.{Ran, Through}
 use Rattle.paraid_rack.specs.Trail.{Trail, run}
@@ -10,51 +10,51 @@ use Rattle.paraid_rack.specs.Slots.{Slot}
 use Rattle.paraid_record.specs.Range.{IsInRange}
 use Rattle.paraid_record.specs.Targets.{IsTargetInRange}
 use Rattle.paraid_txn.specs.Ready.{AreTargetsReady, IsLogReady}
-use Rattle.paraid_image.specs.Rest.{AreShut, IsAtRest, IsDrained}
-use Rattle.paraid_txn.specs.Commit.{AreKept, IsEachImage, IsOneMissing, StandsFor, gone_out}
+use Rattle.paraid_image.specs.Rest.{AreLogGatesClosed, IsAtRest, AreSynced}
+use Rattle.paraid_txn.specs.Commit.{KeepsSlots, IsEachImage, IsOneMissing, ImageStandsFor, gone_out}
 use Rattle.paraid_image.specs.Out.{named_out}
-use Rattle.paraid_image.specs.Sides.{Batch, Said, Says, is_open, targets}
+use Rattle.paraid_image.specs.Sides.{Batch, LogState, Says, is_open, targets}
 use Rattle.paraid_image.specs.Sound.{LogOk}
-use Rattle.paraid_txn.specs.Stages.{AllDry, DryBut, Is, IsKept, IsLive, Job, Late, named, open_with, was}
+use Rattle.paraid_txn.specs.CommitStages.{AllSynced, SyncedBut, IsBlock, KeepsSlotsAndLogs, IsLiveLog, Job, IsLateImage, job_named, open_with, block_before}
 use Rattle.paraid_image.specs.Standing.{Stands, other_log}
 
 -- what a log disk says by its gate, its meta and its batch
-abbrev pub heard : Bool → Meta → Batch → Said
-heard opened meta batch = record { opened = opened; meta = meta; batch = batch }
+abbrev pub log_state : Bool → Meta → Batch → LogState
+log_state opened meta batch = record { opened = opened; meta = meta; batch = batch }
 
 -- Log disk `x` of the disks `s` stands and says this, its log is in order, and nothing is loose.
-pub record IsBroken (s : Disks) (x : ℕ) (said : Said) : Type 0 where
-  pub dry : IsDrained s
+pub record IsBroken (s : Disks) (x : ℕ) (said : LogState) : Type 0 where
+  pub synced : AreSynced s
   pub log : LogOk s x said said.meta.writes
 
 -- the log disk that stood is absent, and the image stands for what the other one stands for then
 pub record IsFallback (s : Disks) (x : ℕ) (i : Disks) : Type 0 where
   pub gone : is_present (i.power x) ≡ false
-  pub stands : (y : ℕ) (o : Said) (k : ℕ) → LogOk (lose x s) y o k → StandsFor s i o.meta o.batch
-  pub meta : (z : ℕ) (o p : Said) → Stands i z o → Says s (other_log x) p → o.meta ≡ p.meta
+  pub stands : (y : ℕ) (o : LogState) (k : ℕ) → LogOk (lose x s) y o k → ImageStandsFor s i o.meta o.batch
+  pub meta : (z : ℕ) (o p : LogState) → Stands i z o → Says s (other_log x) p → o.meta ≡ p.meta
 
 -- Image `i` stands for what log disk `x` of `s` says, or for what is left without it; no log disk
 -- says a meta that none said before; and a disk that is there has the power and the size that it
 -- had.
-pub record Resumes (s : Disks) (x : ℕ) (said : Said) (i : Disks) : Type 0 where
-  pub stands : StandsFor s i said.meta said.batch ⊎ IsFallback s x i
-  pub metas : (y : ℕ) (o : Said) → y < 2 → Says i y o → (z : ℕ) × (p : Said) × (z < 2) × Says s z p × (o.meta ≡ p.meta)
-  pub kept : AreKept s i
+pub record ImageStandsForBroken (s : Disks) (x : ℕ) (said : LogState) (i : Disks) : Type 0 where
+  pub stands : ImageStandsFor s i said.meta said.batch ⊎ IsFallback s x i
+  pub metas : (y : ℕ) (o : LogState) → y < 2 → Says i y o → (z : ℕ) × (p : LogState) × (z < 2) × Says s z p × (o.meta ≡ p.meta)
+  pub kept : KeepsSlots s i
 
 -- The calls from the one record to the other leave that at each moment.
-abbrev pub IsResume : Option Trail → Option Trail → ℕ → Said → Type 0
-IsResume old new x said = Ran old new (λ start calls. IsBroken start x said
-    → Through (IsEachImage said.meta said.meta (Resumes start x said)) start calls)
+abbrev pub StandsWhileResumed : Option Trail → Option Trail → ℕ → LogState → Type 0
+StandsWhileResumed old new x said = Ran old new (λ start calls. IsBroken start x said
+    → Through (IsEachImage said.meta said.meta (ImageStandsForBroken start x said)) start calls)
 
 -- At the end nothing is loose, the gates are closed, and where at most one disk is out the disks
 -- are at rest under the meta that stood.
-pub record IsResumed (end : Disks) (m : Meta) : Type 0 where
-  pub dry : IsDrained end
-  pub shut : AreShut end m
+pub record EndsResume (end : Disks) (m : Meta) : Type 0 where
+  pub synced : AreSynced end
+  pub shut : AreLogGatesClosed end m
   pub rest : IsOneMissing end.power m m → IsAtRest end m
 
-abbrev pub Settles : Option Trail → Option Trail → ℕ → Said → Type 0
-Settles old new x said = Ran old new (λ start calls. IsBroken start x said → IsResumed (run start calls) said.meta)
+abbrev pub EndsAsCommitted : Option Trail → Option Trail → ℕ → LogState → Type 0
+EndsAsCommitted old new x said = Ran old new (λ start calls. IsBroken start x said → EndsResume (run start calls) said.meta)
 
 -- What can be resumed on a rack of so many slots: the log disk is not named out, the meta and the
 -- targets are in range, each live log disk and each disk with targets can be written, unless it is
@@ -72,13 +72,13 @@ pub record CanResume (count : ℕ) (slot : ℕ → Slot) (side : ℕ) (opened : 
 -- The stages
 
 -- all is as it was
-pub record Same (j : Job) (s : Disks) : Type 0 where
-  pub kept : IsKept j s
-  pub same : (d p : ℕ) → Sure s d p (Is (j.start.block d p))
+pub record AreDisksSame (j : Job) (s : Disks) : Type 0 where
+  pub kept : KeepsSlotsAndLogs j s
+  pub same : (d p : ℕ) → IsSure s d p (IsBlock (j.start.block d p))
 
 -- the job as it is done on one log disk, while the other one is left alone
-abbrev pub beside : Job → ℕ → Job
-beside j x = record {
+abbrev pub job_on_other_log : Job → ℕ → Job
+job_on_other_log j x = record {
   start = j.start;
   meta = j.meta;
   batch = j.batch;
@@ -90,78 +90,78 @@ beside j x = record {
 
 -- Log disk `x` is open with the batch, and the other one, if it is live, is so too or has its gate
 -- closed.
-pub record Leads (j : Job) (x : ℕ) : Type 0 where
-  pub live : IsLive j x
-  pub large : (z : ℕ) → IsLive j z → IsPresent j.start z → 100 ≤ j.start.size z
+pub record LeadsResume (j : Job) (x : ℕ) : Type 0 where
+  pub live : IsLiveLog j x
+  pub large : (z : ℕ) → IsLiveLog j z → IsPresent j.start z → 100 ≤ j.start.size z
   pub says : IsPresent j.start x → Says j.start x (open_with j)
-  pub other : IsLive j (other_log x) → IsPresent j.start (other_log x)
+  pub other : IsLiveLog j (other_log x) → IsPresent j.start (other_log x)
       → (is_open (j.start.block (other_log x) 0) ≡ false) ⊎ Says j.start (other_log x) (open_with j)
 
 -- What a stop may leave before the targets are touched: log disk `x` is open with the batch; the
 -- other one too, or it is closed as it was.
-pub record Caught (j : Job) (x : ℕ) (i : Disks) : Type 0 where
-  pub kept : IsKept j i
+pub record IsCatchUpImage (j : Job) (x : ℕ) (i : Disks) : Type 0 where
+  pub kept : KeepsSlotsAndLogs j i
   pub first : IsPresent i x → Says i x (open_with j)
-  pub other : IsLive j (other_log x) → IsPresent i (other_log x)
+  pub other : IsLiveLog j (other_log x) → IsPresent i (other_log x)
       → ((is_open (i.block (other_log x) 0) ≡ false) × (is_open (j.start.block (other_log x) 0) ≡ false)
       × (i.block (other_log x) 1 ≡ j.start.block (other_log x) 1)) ⊎ Says i (other_log x) (open_with j)
-  pub held : (d p : ℕ) → IsPresent i d → 100 ≤ p → i.block d p ≡ was j d p
+  pub held : (d p : ℕ) → IsPresent i d → 100 ≤ p → i.block d p ≡ block_before j d p
 
 -- What holds at every moment, of all that a stop may leave there, with any slots lost.
-pub record Resuming (j : Job) (x : ℕ) (s : Disks) : Type 0 where
-  pub either : ((i : Disks) → IsLeft s i → Caught j x i) ⊎ ((i : Disks) → IsLeft s i → Late j i)
-  pub aside : (i : Disks) → IsLeft s i → (y p : ℕ) → y < 2 → named j ≡ Some y → p < 100 → IsPresent i y
+pub record HoldsThroughResume (j : Job) (x : ℕ) (s : Disks) : Type 0 where
+  pub either : ((i : Disks) → IsLeftByStop s i → IsCatchUpImage j x i) ⊎ ((i : Disks) → IsLeftByStop s i → IsLateImage j i)
+  pub aside : (i : Disks) → IsLeftByStop s i → (y p : ℕ) → y < 2 → job_named j ≡ Some y → p < 100 → IsPresent i y
       → i.block y p ≡ j.start.block y p
 
 -- All but the gate and the meta of log disk `y` is as it was.
-pub record IsRest (j : Job) (y : ℕ) (s : Disks) : Type 0 where
-  pub kept : IsKept j s
-  pub rest : (d p : ℕ) → (d ≡ y → 2 ≤ p) → Sure s d p (Is (j.start.block d p))
+pub record AreOthersSame (j : Job) (y : ℕ) (s : Disks) : Type 0 where
+  pub kept : KeepsSlotsAndLogs j s
+  pub rest : (d p : ℕ) → (d ≡ y → 2 ≤ p) → IsSure s d p (IsBlock (j.start.block d p))
 
 -- its meta is written
 pub record ShutMeta (j : Job) (y : ℕ) (s : Disks) : Type 0 where
-  pub core : IsRest j y s
-  pub gate : Sure s y 0 (Is (j.start.block y 0))
-  pub meta : named j ≢ Some y → Seen s y 1 (Is j.spelled)
-  pub dry : DryBut (named j) y s
+  pub core : AreOthersSame j y s
+  pub gate : IsSure s y 0 (IsBlock (j.start.block y 0))
+  pub meta : job_named j ≢ Some y → IsSeen s y 1 (IsBlock j.spelled)
+  pub synced : SyncedBut (job_named j) y s
 
 -- and synced
-pub record ShutMarked (j : Job) (y : ℕ) (s : Disks) : Type 0 where
-  pub core : IsRest j y s
-  pub gate : Sure s y 0 (Is (j.start.block y 0))
-  pub meta : named j ≢ Some y → Sure s y 1 (Is j.spelled)
-  pub dry : AllDry s
+pub record ShutMetaSynced (j : Job) (y : ℕ) (s : Disks) : Type 0 where
+  pub core : AreOthersSame j y s
+  pub gate : IsSure s y 0 (IsBlock (j.start.block y 0))
+  pub meta : job_named j ≢ Some y → IsSure s y 1 (IsBlock j.spelled)
+  pub synced : AllSynced s
 
 -- its gate is written
 pub record ShutIn (j : Job) (y : ℕ) (s : Disks) : Type 0 where
-  pub core : IsRest j y s
-  pub meta : named j ≢ Some y → Sure s y 1 (Is j.spelled)
-  pub gate : named j ≢ Some y → Seen s y 0 (λ b. is_open b ≡ false)
-  pub dry : DryBut (named j) y s
+  pub core : AreOthersSame j y s
+  pub meta : job_named j ≢ Some y → IsSure s y 1 (IsBlock j.spelled)
+  pub gate : job_named j ≢ Some y → IsSeen s y 0 (λ b. is_open b ≡ false)
+  pub synced : SyncedBut (job_named j) y s
 
 -- and synced
-pub record ShutDone (j : Job) (y : ℕ) (s : Disks) : Type 0 where
-  pub core : IsRest j y s
-  pub meta : named j ≢ Some y → Sure s y 1 (Is j.spelled)
-  pub gate : named j ≢ Some y → Sure s y 0 (λ b. is_open b ≡ false)
-  pub dry : AllDry s
+pub record ShutSynced (j : Job) (y : ℕ) (s : Disks) : Type 0 where
+  pub core : AreOthersSame j y s
+  pub meta : job_named j ≢ Some y → IsSure s y 1 (IsBlock j.spelled)
+  pub gate : job_named j ≢ Some y → IsSure s y 0 (λ b. is_open b ≡ false)
+  pub synced : AllSynced s
 
 -- the gates are as they were, and log disk `y` is not open
 pub record ShutStill (j : Job) (y : ℕ) (s : Disks) : Type 0 where
-  pub core : Same j s
-  pub shut : IsLive j y → IsPresent s y → is_open (s.block y 0) ≡ false
+  pub core : AreDisksSame j s
+  pub shut : IsLiveLog j y → IsPresent s y → is_open (s.block y 0) ≡ false
 
 -- so it ends
 abbrev pub ShutEnd : Job → ℕ → Disks → Type 0
-ShutEnd j y s = ShutStill j y s ⊎ ShutDone j y s
+ShutEnd j y s = ShutStill j y s ⊎ ShutSynced j y s
 
 -- What a stop may leave while log disk `y` is closed over the meta.
-pub record Shuts (j : Job) (y : ℕ) (i : Disks) : Type 0 where
-  pub kept : IsKept j i
+pub record IsShutImage (j : Job) (y : ℕ) (i : Disks) : Type 0 where
+  pub kept : KeepsSlotsAndLogs j i
   pub rest : (d p : ℕ) → IsPresent i d → (d ≡ y → 2 ≤ p) → i.block d p ≡ j.start.block d p
-  pub still : (p : ℕ) → named j ≡ Some y → IsPresent i y → i.block y p ≡ j.start.block y p
+  pub still : (p : ℕ) → job_named j ≡ Some y → IsPresent i y → i.block y p ≡ j.start.block y p
   pub log : IsPresent i y → ((is_open (i.block y 0) ≡ is_open (j.start.block y 0)) × (is_open (i.block y 0) ≡ false → i.block y 1 ≡ j.start.block y 1))
-      ⊎ ((named j ≢ Some y) × (is_open (i.block y 0) ≡ false) × (i.block y 1 ≡ j.spelled))
+      ⊎ ((job_named j ≢ Some y) × (is_open (i.block y 0) ≡ false) × (i.block y 1 ≡ j.spelled))
 
-pub record Shutting (j : Job) (y : ℕ) (s : Disks) : Type 0 where
-  pub each : (i : Disks) → IsLeft s i → Shuts j y i
+pub record HoldsThroughShut (j : Job) (y : ℕ) (s : Disks) : Type 0 where
+  pub each : (i : Disks) → IsLeftByStop s i → IsShutImage j y i

@@ -5,8 +5,8 @@ use Rattle.paraid_txn.specs.declared.store.Store.{Store}
 use Rattle.paraid_image.specs.Out.{first_absent, or_else}
 
 -- the rack that it owns
-abbrev pub rack_of : {R : Type 0} {g : _} → Store R g → R
-rack_of store = store.rack
+abbrev pub store_rack : {R : Type 0} {g : _} → Store R g → R
+store_rack store = store.rack
 
 -- the number of disks of the array
 abbrev pub disks_of : {R : Type 0} {g : _} → Store R g → ℕ
@@ -21,8 +21,8 @@ abbrev pub named_of : {R : Type 0} {g : _} → Store R g → Option ℕ
 named_of store = store.named
 
 -- the disk that is out: the one that the last meta names, or else the least absent one
-abbrev pub out_of : {R : Type 0} {g : _} → (R → ℕ → Slot) → Store R g → Option ℕ
-out_of slot store = or_else store.named (first_absent (λ d. (slot store.rack d).power) store.disks)
+abbrev pub store_out : {R : Type 0} {g : _} → (R → ℕ → Slot) → Store R g → Option ℕ
+store_out slot store = or_else store.named (first_absent (λ d. (slot store.rack d).power) store.disks)
 
 -- a call on one disk leaves all but the rack
 pub record IsSameStore {R : Type 0} {g : _} (old new : Store R g) : Type 0 where

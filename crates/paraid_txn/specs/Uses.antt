@@ -9,21 +9,21 @@ use Rattle.paraid_rack.specs.Slots.{Slot}
 use Rattle.paraid_rack.specs.declared.call.Power.TheVariants.{Spinning}
 use Rattle.paraid_record.specs.declared.meta.Meta.{Meta}
 use Rattle.paraid_image.specs.Calls.{disk_of}
-use Rattle.paraid_image.specs.Neutral.{names}
+use Rattle.paraid_image.specs.Neutral.{names_place}
 use Rattle.paraid_image.specs.Out.{named_out}
 use Rattle.paraid_image.specs.Sides.{Batch}
 use Rattle.paraid_txn.specs.Commit.{gone_out}
-use Rattle.paraid_txn.specs.Staging.{names_disk}
+use Rattle.paraid_txn.specs.Batches.{names_disk}
 
 -- a log disk that is not skipped
-abbrev pub IsLog : Option ℕ → ℕ → Type 0
-IsLog skip d = (d < 2) × (skip ≢ Some d)
+abbrev pub IsUnskippedLog : Option ℕ → ℕ → Type 0
+IsUnskippedLog skip d = (d < 2) × (skip ≢ Some d)
 
 -- a read or a write in its log, or a sync of it
 abbrev pub UsesLog : Option ℕ → Call → Type 0
-UsesLog skip (Read d p done) = IsLog skip d × (p < 100)
-UsesLog skip (Write d p b done) = IsLog skip d × (p < 100)
-UsesLog skip (Sync d done) = IsLog skip d
+UsesLog skip (Read d p done) = IsUnskippedLog skip d × (p < 100)
+UsesLog skip (Write d p b done) = IsUnskippedLog skip d × (p < 100)
+UsesLog skip (Sync d done) = IsUnskippedLog skip d
 UsesLog skip (Park d done) = ⊥
 UsesLog skip (SpinUp d done) = ⊥
 UsesLog skip (Attach d size done) = ⊥
@@ -31,7 +31,7 @@ UsesLog skip (Attach d size done) = ⊥
 -- a write of a target of the batch, or a sync of a disk that has one, which is not skipped
 abbrev pub UsesTarget : Option ℕ → Batch → Call → Type 0
 UsesTarget skip batch (Read d p done) = ⊥
-UsesTarget skip batch (Write d p b done) = (skip ≢ Some d) × (names batch d p ≡ true)
+UsesTarget skip batch (Write d p b done) = (skip ≢ Some d) × (names_place batch d p ≡ true)
 UsesTarget skip batch (Sync d done) = (skip ≢ Some d) × (names_disk batch d ≡ true)
 UsesTarget skip batch (Park d done) = ⊥
 UsesTarget skip batch (SpinUp d done) = ⊥

@@ -2,12 +2,12 @@
 ghost use Rattle.std.specs.Prelude.{◌≡◌, ◌≢◌, ℕ, ◌<◌, ◌≤◌, ◌⊎◌, true, false, [], length, slice_index, get_or, vec_capacity, map, AllPairs, IfOk, IfErr, OnOk, MatchOption, is_ok, ◌||◌, nat_lt, ◌==◌};
 ghost use Rattle.std.specs.List.{list_any};
 ghost use Rattle.paraid_base.specs.declared.block.Block.{Block as BlockType};
-ghost use Rattle.paraid_base.specs.Xor.{zeroed};
+ghost use Rattle.paraid_base.specs.Xor.{zero_block};
 ghost use Rattle.paraid_record.specs.Targets.{no_target, targets_of};
-ghost use Rattle.paraid_image.specs.Neutral.{names};
+ghost use Rattle.paraid_image.specs.Neutral.{names_place};
 ghost use Rattle.paraid_image.specs.Sides.{targets};
-ghost use Rattle.paraid_txn.specs.Staging.{blocks, names_disk, with_target};
-ghost use Rattle.paraid_image.specs.Standing.{laid};
+ghost use Rattle.paraid_txn.specs.Batches.{batch_blocks, names_disk, with_target};
+ghost use Rattle.paraid_image.specs.Standing.{overlaid_block};
 
 use paraid_base::{Block, DiskNo, NoMemory, Place};
 use paraid_record::{Target, Targets};
@@ -78,9 +78,9 @@ impl Batch {
         ensures ok { OnOk result (self.new
             ≡ with_target self.old (record { disk = disk; place = place }) block.now) }
         ensures full { IfErr result (λ full. (full.count ≡ 96) × (length self.old ≡ 96)
-            × (names self.old disk place ≡ false) × (self.new ≡ self.old)) }
+            × (names_place self.old disk place ≡ false) × (self.new ≡ self.old)) }
         ensures room { OnOk result
-            ((names self.old disk place ≡ true) ⊎ (length self.old < 96)) }
+            ((names_place self.old disk place ≡ true) ⊎ (length self.old < 96)) }
     {
         let target = Target { disk, place };
         if let Some(at) = self.find(target) {
@@ -99,8 +99,8 @@ impl Batch {
 
     /// The block that is held for this target.
     pub fn get(&self, disk: DiskNo, place: Place) -> Option<&Block>
-        ensures { MatchOption result (names self.now disk place ≡ false)
-            (λ block. (any : BlockType) → laid self.now disk place any ≡ block.now) }
+        ensures { MatchOption result (names_place self.now disk place ≡ false)
+            (λ block. (any : BlockType) → overlaid_block self.now disk place any ≡ block.now) }
     {
         let at = self.find(Target { disk, place })?;
         Some(&self.staged[at].block)
@@ -115,7 +115,7 @@ impl Batch {
 
     // The place of a target in the order.
     fn find(&self, target: Target) -> Option<usize>
-        ensures { MatchOption result (names self.now target.disk target.place ≡ false)
+        ensures { MatchOption result (names_place self.now target.disk target.place ≡ false)
             (λ at. (at < length self.now)
             × (get_or (targets self.now) at no_target ≡ target)) }
     {
@@ -138,7 +138,7 @@ impl Batch {
     /// The block of the target that stands there in the order.
     pub fn block(&self, at: usize) -> &Block
         requires { at < length self.now }
-        ensures { result.now ≡ get_or (blocks self.now) at zeroed }
+        ensures { result.now ≡ get_or (batch_blocks self.now) at zero_block }
     {
         &self.staged[at].block
     }

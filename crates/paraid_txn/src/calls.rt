@@ -1,13 +1,15 @@
 //! The calls that a commit makes of the rack: a disk that is skipped or absent gets none, the
 //! first loss is borne, and the second is too many.
-ghost use Rattle.std.specs.Prelude.{◌≡◌, ◌≢◌, ℕ, ◌<◌, ◌≤◌, Bool, true, false, Some, None, Ok, is_ok};
+ghost use Rattle.std.specs.Prelude.{◌≡◌, ◌≢◌, ◌<◌, true, false, Some, Ok, OnOk, is_ok};
 ghost use Rattle.paraid_rack.specs.Trail.{Trail, now};
 ghost use Rattle.paraid_rack.specs.declared.call.Call.TheVariants.{Read, Sync, Write};
 ghost use Rattle.paraid_rack.specs.declared.call.Power.TheVariants.{Absent};
 ghost use Rattle.paraid_rack.specs.Disks.{is_present};
 ghost use Rattle.paraid_txn.specs.CommitPart.{CommitPart};
-ghost use Rattle.paraid_txn.specs.Losses.{AreDryBut, CanWrite, Follows, IsDryAt, MayDo};
-ghost use Rattle.paraid_txn.specs.Uses.{IsThisCall};
+ghost use Rattle.paraid_txn.specs.Losses.{StaySynced, StaySyncedBut, CanWrite, FollowsAnswer, IsSyncedAt, MayDo};
+ghost use Rattle.paraid_txn.specs.PutSynced.{MayPutSynced};
+ghost use Rattle.paraid_txn.specs.Ready.{IsLogReady};
+ghost use Rattle.paraid_txn.specs.Uses.{IsThisCall, UsesLog};
 
 use crate::losses::Losses;
 use paraid_base::{Block, DiskNo, Failed, Place, Two};
@@ -15,7 +17,7 @@ use paraid_rack::{Power, Rack};
 
 // What follows the answer of a call on a disk.
 fn follow(losses: &mut Losses, disk: DiskNo, answer: Result<(), Failed>) -> Result<(), Two>
-    ensures { Follows losses.old losses.new disk (is_ok answer) result }
+    ensures { FollowsAnswer losses.old losses.new disk (is_ok answer) result }
 {
     let Err(Failed) = answer else {
         return Ok(());
@@ -61,7 +63,7 @@ pub fn put<R: Rack>(
         (λ done. Write disk place block.now done) }
     ensures part { CommitPart R.Rack (IsThisCall skip disk (λ done. Write disk place block.now done)) losses.old losses.new rack.old rack.new
         result }
-    ensures dry { AreDryBut (λ d. (d ≡ disk) × (skip ≢ Some d))
+    ensures still_synced { StaySyncedBut (λ d. (d ≡ disk) × (skip ≢ Some d))
         (R.slot rack.old) (R.slot rack.new) }
 {
     if is_passed(rack, skip, disk) {
@@ -73,7 +75,7 @@ pub fn put<R: Rack>(
 }
 
 /// Makes the disk keep all that was written, unless it is skipped or absent.
-pub fn settle<R: Rack>(
+pub fn sync_slot<R: Rack>(
     rack: &mut R,
     losses: &mut Losses,
     skip: Option<DiskNo>,
@@ -86,14 +88,39 @@ pub fn settle<R: Rack>(
         (λ done. Sync disk done) }
     ensures part { CommitPart R.Rack (IsThisCall skip disk (λ done. Sync disk done)) losses.old losses.new rack.old rack.new
         result }
-    ensures dry { AreDryBut (λ d. ⊥) (R.slot rack.old) (R.slot rack.new) }
-    ensures settled { skip ≢ Some disk → IsDryAt (R.slot rack.new) disk }
+    ensures still_synced { StaySyncedBut (λ d. ⊥) (R.slot rack.old) (R.slot rack.new) }
+    ensures synced { skip ≢ Some disk → IsSyncedAt (R.slot rack.new) disk }
 {
     if is_passed(rack, skip, disk) {
         return Ok(());
     }
     let answer = rack.sync(disk);
     follow(losses, disk, answer)?;
+    Ok(())
+}
+
+/// Writes a block in the log of a log disk and makes the disk keep it, unless it is skipped or
+/// absent.
+pub fn put_synced<R: Rack>(
+    rack: &mut R,
+    losses: &mut Losses,
+    skip: Option<DiskNo>,
+    disk: DiskNo,
+    place: Place,
+    block: &Block,
+) -> Result<(), Two>
+    requires exists { disk < R.slot_count rack.old }
+    requires log_disk { disk < 2 }
+    requires in_log { place < 100 }
+    requires log { IsLogReady skip (R.slot rack.old) }
+    ensures slots { R.slot_count rack.new ≡ R.slot_count rack.old }
+    ensures does { MayPutSynced R.Rack skip disk place block.now rack.old rack.new result }
+    ensures part { CommitPart R.Rack (UsesLog skip) losses.old losses.new rack.old rack.new
+        result }
+    ensures still_synced { OnOk result (StaySynced (R.slot rack.old) (R.slot rack.new)) }
+{
+    put(rack, losses, skip, disk, place, block)?;
+    sync_slot(rack, losses, skip, disk)?; // before the next step
     Ok(())
 }
 
@@ -113,7 +140,7 @@ pub fn take<R: Rack>(
         (λ done. Read disk place done) }
     ensures part { CommitPart R.Rack (IsThisCall skip disk (λ done. Read disk place done)) losses.old losses.new rack.old rack.new
         result }
-    ensures dry { AreDryBut (λ d. ⊥) (R.slot rack.old) (R.slot rack.new) }
+    ensures still_synced { StaySyncedBut (λ d. ⊥) (R.slot rack.old) (R.slot rack.new) }
     ensures bytes { result ≡ Ok true → (t : Trail) → R.told rack.old ≡ Some t
         → into.new ≡ (now t).block disk place }
     ensures read { result ≡ Ok true → skip ≢ Some disk }

@@ -23,29 +23,30 @@
 //!
 //! A log disk that the meta names out is left alone, and so are the targets on a disk that is gone.
 //! A disk that fails is left out of the rest.
-ghost use Rattle.std.specs.Prelude.{◌≡◌, ◌≢◌, ℕ, ◌+◌, ◌<◌, ◌≤◌, true, false, length, Some, None, OnOk, OnErr, IfErr, IfOk, All, AllPairs, ◌-◌, ◌^◌};
+ghost use Rattle.std.specs.Prelude.{◌≡◌, ◌≢◌, ℕ, ◌+◌, ◌<◌, ◌≤◌, true, false, length, Some, None, OnOk, OnErr, IfErr, IfOk, All, AllPairs, ◌-◌};
 ghost use Rattle.paraid_base.specs.declared.fault.Two.{Two as TwoType};
 ghost use Rattle.paraid_record.specs.declared.targets.Target.{Target as TargetType};
 ghost use Rattle.paraid_rack.specs.Disks.{Disks};
-ghost use Rattle.paraid_rack.specs.Told.{Ran, Runs};
+ghost use Rattle.paraid_rack.specs.Told.{Ran};
 ghost use Rattle.paraid_txn.specs.CommitPart.{CommitPart};
-ghost use Rattle.paraid_txn.specs.Losses.{AreDry, AreDryBut, AreFailedOrWell, CanWrite, IsAlone, IsDryAt, IsLostNow, IsOut, IsSpared, IsTwoBeside, IsWell};
+ghost use Rattle.paraid_txn.specs.CrashSpecification.{CrashSpecification};
+ghost use Rattle.paraid_txn.specs.Losses.{StaySynced, StaySyncedBut, AreFailedOrWell, IsAlone, IsSyncedAt, IsLostNow, IsOutOfCommit, OnlyLosesSlots, AreTwoDownBeside, IsWell};
 ghost use Rattle.paraid_txn.specs.Uses.{EachCall, Uses, UsesLog, UsesTarget};
 ghost use Rattle.paraid_txn.specs.Ready.{AreTargetsReady, CanCommit, IsLogReady};
 ghost use Rattle.paraid_image.specs.Sides.{is_open, targets};
-ghost use Rattle.paraid_txn.specs.Staging.{names_disk};
-ghost use Rattle.paraid_txn.specs.Stages.{Close, Earlier, IsSpelled, Job, Later, LayIn, Log, LogIn, Mark, Open, SettleIn, Whole, gone, job, named, turn};
-ghost use Rattle.paraid_txn.specs.Commit.{Commits, IsWholeOrAbsent, gone_out as gone_of};
+ghost use Rattle.paraid_txn.specs.Batches.{names_disk};
+ghost use Rattle.paraid_txn.specs.CommitStages.{CloseStage, HoldsEarly, IsSpelled, Job, HoldsLate, LayIn, LogStage, LogIn, MarkStage, OpenStage, SyncIn, HoldsWhole, job_gone, job, job_named};
+ghost use Rattle.paraid_txn.specs.Commit.{EndsCommitted, IsWholeOrAbsent, gone_out as gone_of};
 ghost use Rattle.paraid_image.specs.Out.{named_out as named_of};
 ghost use Rattle.paraid_record.specs.declared.meta.Meta.{Meta as MetaType};
 ghost use Rattle.paraid_record.specs.Meta.{meta_bytes};
 ghost use Rattle.paraid_record.specs.Range.{IsInRange};
-ghost use Rattle.paraid_record.specs.Targets.{AreTargets, IsTargetInRange, targets_bytes};
+ghost use Rattle.paraid_record.specs.Targets.{AreTargets, targets_bytes};
 
 use crate::batch::Batch;
-use crate::calls::{put, settle};
+use crate::calls::{put, put_synced, sync_slot};
 use crate::losses::Losses;
-use crate::store::{Store, find_absent, gone_out, named_out, out_first};
+use crate::store::{Store, find_absent, out_first};
 use paraid_base::{Block, DiskNo, Two};
 use paraid_rack::Rack;
 use paraid_record::{Meta, write_meta, write_targets};
@@ -76,13 +77,11 @@ fn put_blocks<R: Rack>(
     ensures slots { R.slot_count rack.new ≡ R.slot_count rack.old }
     ensures part { CommitPart R.Rack (UsesLog skip) losses.old losses.new rack.old rack.new
         result }
-    ensures dry { AreDryBut (λ d. (d ≡ disk) × (skip ≢ Some d))
+    ensures still_synced { StaySyncedBut (λ d. (d ≡ disk) × (skip ≢ Some d))
         (R.slot rack.old) (R.slot rack.new) }
-    ensures moments { (j : Job) → IsSpelled j → named j ≡ skip → j.batch ≡ batch.now
-        → Ran (R.told rack.old) (R.told rack.new) (Runs (Earlier j) (LogIn j disk 0) (Earlier j)) }
-    ensures done { OnOk result ((j : Job) → IsSpelled j → named j ≡ skip → j.batch ≡ batch.now
-        → Ran (R.told rack.old) (R.told rack.new)
-        (Runs (Earlier j) (LogIn j disk 0) (LogIn j disk (length batch.now)))) }
+    ensures crash { (j : Job) → IsSpelled j → job_named j ≡ skip → j.batch ≡ batch.now
+        → CrashSpecification (HoldsEarly j) (LogIn j disk 0) (LogIn j disk (length batch.now))
+        (R.told rack.old) (R.told rack.new) result }
 {
     for at in 0..batch.count() {
         put(
@@ -114,46 +113,16 @@ pub fn write_log<R: Rack>(
     ensures slots { R.slot_count rack.new ≡ R.slot_count rack.old }
     ensures part { CommitPart R.Rack (UsesLog skip) losses.old losses.new rack.old rack.new
         result }
-    ensures dry { OnOk result (AreDry (R.slot rack.old) (R.slot rack.new)) }
-    ensures moments { (j : Job) → IsSpelled j → named j ≡ skip → j.batch ≡ batch.now
+    ensures still_synced { OnOk result (StaySynced (R.slot rack.old) (R.slot rack.new)) }
+    ensures crash { (j : Job) → IsSpelled j → job_named j ≡ skip → j.batch ≡ batch.now
         → j.list ≡ list.now → j.spelled ≡ meta.now
-        → Ran (R.told rack.old) (R.told rack.new) (Runs (Earlier j) (Log j disk) (Earlier j)) }
-    ensures done { OnOk result ((j : Job) → IsSpelled j → named j ≡ skip → j.batch ≡ batch.now
-        → j.list ≡ list.now → j.spelled ≡ meta.now
-        → Ran (R.told rack.old) (R.told rack.new)
-        (Runs (Earlier j) (Log j disk) (Log j (disk + 1)))) }
+        → CrashSpecification (HoldsEarly j) (LogStage j disk) (LogStage j (disk + 1))
+        (R.told rack.old) (R.told rack.new) result }
 {
     put(rack, losses, skip, disk, 2, meta)?;
     put(rack, losses, skip, disk, 3, list)?;
     put_blocks(rack, losses, skip, disk, batch)?;
-    settle(rack, losses, skip, disk)?; // before its gate opens
-    Ok(())
-}
-
-// Step 2 on one log disk.
-pub fn open_gate<R: Rack>(
-    rack: &mut R,
-    losses: &mut Losses,
-    skip: Option<DiskNo>,
-    disk: DiskNo,
-    gate: &Block,
-) -> Result<(), Two>
-    requires exists { disk < R.slot_count rack.old }
-    requires log_disk { disk < 2 }
-    requires log { IsLogReady skip (R.slot rack.old) }
-    requires opens { is_open gate.now ≡ true }
-    ensures slots { R.slot_count rack.new ≡ R.slot_count rack.old }
-    ensures part { CommitPart R.Rack (UsesLog skip) losses.old losses.new rack.old rack.new
-        result }
-    ensures dry { OnOk result (AreDry (R.slot rack.old) (R.slot rack.new)) }
-    ensures moments { (j : Job) (k : ℕ) → IsSpelled j → named j ≡ skip → k < 2 → turn j k ≡ disk
-        → Ran (R.told rack.old) (R.told rack.new) (Runs (Earlier j) (Open j k) (Earlier j)) }
-    ensures done { OnOk result ((j : Job) (k : ℕ) → IsSpelled j → named j ≡ skip → k < 2
-        → turn j k ≡ disk → Ran (R.told rack.old) (R.told rack.new)
-        (Runs (Earlier j) (Open j k) (Open j (k + 1)))) }
-{
-    put(rack, losses, skip, disk, 0, gate)?;
-    settle(rack, losses, skip, disk)?; // before a target is touched
+    sync_slot(rack, losses, skip, disk)?; // before its gate opens
     Ok(())
 }
 
@@ -171,13 +140,11 @@ fn lay<R: Rack>(
     ensures slots { R.slot_count rack.new ≡ R.slot_count rack.old }
     ensures part { CommitPart R.Rack (UsesTarget skip batch.now) losses.old losses.new rack.old rack.new
         result }
-    ensures dry { AreDryBut (λ d. (names_disk batch.now d ≡ true) × (skip ≢ Some d))
+    ensures still_synced { StaySyncedBut (λ d. (names_disk batch.now d ≡ true) × (skip ≢ Some d))
         (R.slot rack.old) (R.slot rack.new) }
-    ensures moments { (j : Job) → IsSpelled j → gone j ≡ skip → j.batch ≡ batch.now
-        → Ran (R.told rack.old) (R.told rack.new) (Runs (Later j) (LayIn j 0) (Later j)) }
-    ensures done { OnOk result ((j : Job) → IsSpelled j → gone j ≡ skip → j.batch ≡ batch.now
-        → Ran (R.told rack.old) (R.told rack.new)
-        (Runs (Later j) (LayIn j 0) (LayIn j (length batch.now)))) }
+    ensures crash { (j : Job) → IsSpelled j → job_gone j ≡ skip → j.batch ≡ batch.now
+        → CrashSpecification (HoldsLate j) (LayIn j 0) (LayIn j (length batch.now))
+        (R.told rack.old) (R.told rack.new) result }
 {
     for at in 0..batch.count() {
         let target = batch.target(at as usize);
@@ -194,7 +161,7 @@ fn lay<R: Rack>(
 }
 
 // Step 3: a disk that has targets is synced.
-fn settle_one<R: Rack>(
+fn sync_target_slot<R: Rack>(
     rack: &mut R,
     losses: &mut Losses,
     skip: Option<DiskNo>,
@@ -207,24 +174,22 @@ fn settle_one<R: Rack>(
     ensures slots { R.slot_count rack.new ≡ R.slot_count rack.old }
     ensures part { CommitPart R.Rack (UsesTarget skip batch.now) losses.old losses.new rack.old rack.new
         result }
-    ensures dry { AreDry (R.slot rack.old) (R.slot rack.new) }
-    ensures settled { names_disk batch.now disk ≡ true → skip ≢ Some disk
-        → IsDryAt (R.slot rack.new) disk }
-    ensures moments { (j : Job) → IsSpelled j → gone j ≡ skip → j.batch ≡ batch.now
-        → Ran (R.told rack.old) (R.told rack.new) (Runs (Later j) (SettleIn j disk) (Later j)) }
-    ensures done { OnOk result ((j : Job) → IsSpelled j → gone j ≡ skip → j.batch ≡ batch.now
-        → Ran (R.told rack.old) (R.told rack.new)
-        (Runs (Later j) (SettleIn j disk) (SettleIn j (disk + 1)))) }
+    ensures still_synced { StaySynced (R.slot rack.old) (R.slot rack.new) }
+    ensures synced { names_disk batch.now disk ≡ true → skip ≢ Some disk
+        → IsSyncedAt (R.slot rack.new) disk }
+    ensures crash { (j : Job) → IsSpelled j → job_gone j ≡ skip → j.batch ≡ batch.now
+        → CrashSpecification (HoldsLate j) (SyncIn j disk) (SyncIn j (disk + 1))
+        (R.told rack.old) (R.told rack.new) result }
 {
     if !batch.has_disk(disk) {
         return Ok(());
     }
-    settle(rack, losses, skip, disk)?;
+    sync_slot(rack, losses, skip, disk)?;
     Ok(())
 }
 
 // Step 3: each disk that has targets is synced, in ascending order.
-fn settle_all<R: Rack>(
+fn sync_target_slots<R: Rack>(
     rack: &mut R,
     losses: &mut Losses,
     skip: Option<DiskNo>,
@@ -238,70 +203,16 @@ fn settle_all<R: Rack>(
     ensures slots { R.slot_count rack.new ≡ R.slot_count rack.old }
     ensures part { CommitPart R.Rack (UsesTarget skip batch.now) losses.old losses.new rack.old rack.new
         result }
-    ensures dry { AreDry (R.slot rack.old) (R.slot rack.new) }
-    ensures settled { OnOk result ((d : ℕ) → names_disk batch.now d ≡ true → skip ≢ Some d
-        → IsDryAt (R.slot rack.new) d) }
-    ensures moments { (j : Job) → IsSpelled j → gone j ≡ skip → j.batch ≡ batch.now
-        → Ran (R.told rack.old) (R.told rack.new) (Runs (Later j) (SettleIn j 0) (Later j)) }
-    ensures done { OnOk result ((j : Job) → IsSpelled j → gone j ≡ skip → j.batch ≡ batch.now
-        → Ran (R.told rack.old) (R.told rack.new) (Runs (Later j) (SettleIn j 0) (Mark j 0))) }
+    ensures still_synced { StaySynced (R.slot rack.old) (R.slot rack.new) }
+    ensures synced { OnOk result ((d : ℕ) → names_disk batch.now d ≡ true → skip ≢ Some d
+        → IsSyncedAt (R.slot rack.new) d) }
+    ensures crash { (j : Job) → IsSpelled j → job_gone j ≡ skip → j.batch ≡ batch.now
+        → CrashSpecification (HoldsLate j) (SyncIn j 0) (MarkStage j 0)
+        (R.told rack.old) (R.told rack.new) result }
 {
     for disk in 0..disks {
-        settle_one(rack, losses, skip, batch, disk)?;
+        sync_target_slot(rack, losses, skip, batch, disk)?;
     }
-    Ok(())
-}
-
-// Step 4 on one log disk.
-fn mark<R: Rack>(
-    rack: &mut R,
-    losses: &mut Losses,
-    skip: Option<DiskNo>,
-    disk: DiskNo,
-    meta: &Block,
-) -> Result<(), Two>
-    requires exists { disk < R.slot_count rack.old }
-    requires log_disk { disk < 2 }
-    requires log { IsLogReady skip (R.slot rack.old) }
-    ensures slots { R.slot_count rack.new ≡ R.slot_count rack.old }
-    ensures part { CommitPart R.Rack (UsesLog skip) losses.old losses.new rack.old rack.new
-        result }
-    ensures dry { OnOk result (AreDry (R.slot rack.old) (R.slot rack.new)) }
-    ensures moments { (j : Job) → IsSpelled j → named j ≡ skip → j.spelled ≡ meta.now
-        → Ran (R.told rack.old) (R.told rack.new) (Runs (Later j) (Mark j disk) (Later j)) }
-    ensures done { OnOk result ((j : Job) → IsSpelled j → named j ≡ skip → j.spelled ≡ meta.now
-        → Ran (R.told rack.old) (R.told rack.new)
-        (Runs (Later j) (Mark j disk) (Mark j (disk + 1)))) }
-{
-    put(rack, losses, skip, disk, 1, meta)?;
-    settle(rack, losses, skip, disk)?; // before its gate closes
-    Ok(())
-}
-
-// Step 5 on one log disk.
-fn close_gate<R: Rack>(
-    rack: &mut R,
-    losses: &mut Losses,
-    skip: Option<DiskNo>,
-    disk: DiskNo,
-    gate: &Block,
-) -> Result<(), Two>
-    requires exists { disk < R.slot_count rack.old }
-    requires log_disk { disk < 2 }
-    requires log { IsLogReady skip (R.slot rack.old) }
-    requires shuts { is_open gate.now ≡ false }
-    ensures slots { R.slot_count rack.new ≡ R.slot_count rack.old }
-    ensures part { CommitPart R.Rack (UsesLog skip) losses.old losses.new rack.old rack.new
-        result }
-    ensures dry { OnOk result (AreDry (R.slot rack.old) (R.slot rack.new)) }
-    ensures moments { (j : Job) → IsSpelled j → named j ≡ skip
-        → Ran (R.told rack.old) (R.told rack.new) (Runs (Later j) (Close j disk) (Later j)) }
-    ensures done { OnOk result ((j : Job) → IsSpelled j → named j ≡ skip
-        → Ran (R.told rack.old) (R.told rack.new)
-        (Runs (Later j) (Close j disk) (Close j (disk + 1)))) }
-{
-    put(rack, losses, skip, disk, 0, gate)?;
-    settle(rack, losses, skip, disk)?;
     Ok(())
 }
 
@@ -320,13 +231,11 @@ fn write_logs<R: Rack>(
     ensures slots { R.slot_count rack.new ≡ R.slot_count rack.old }
     ensures part { CommitPart R.Rack (UsesLog skip) losses.old losses.new rack.old rack.new
         result }
-    ensures dry { OnOk result (AreDry (R.slot rack.old) (R.slot rack.new)) }
-    ensures moments { (j : Job) → IsSpelled j → named j ≡ skip → j.batch ≡ batch.now
+    ensures still_synced { OnOk result (StaySynced (R.slot rack.old) (R.slot rack.new)) }
+    ensures crash { (j : Job) → IsSpelled j → job_named j ≡ skip → j.batch ≡ batch.now
         → j.list ≡ list.now → j.spelled ≡ meta.now
-        → Ran (R.told rack.old) (R.told rack.new) (Runs (Earlier j) (Log j 0) (Earlier j)) }
-    ensures done { OnOk result ((j : Job) → IsSpelled j → named j ≡ skip → j.batch ≡ batch.now
-        → j.list ≡ list.now → j.spelled ≡ meta.now
-        → Ran (R.told rack.old) (R.told rack.new) (Runs (Earlier j) (Log j 0) (Open j 0))) }
+        → CrashSpecification (HoldsEarly j) (LogStage j 0) (OpenStage j 0)
+        (R.told rack.old) (R.told rack.new) result }
 {
     write_log(rack, losses, skip, 0, batch, list, meta)?;
     write_log(rack, losses, skip, 1, batch, list, meta)?;
@@ -346,15 +255,14 @@ fn open_gates<R: Rack>(
     ensures slots { R.slot_count rack.new ≡ R.slot_count rack.old }
     ensures part { CommitPart R.Rack (UsesLog skip) losses.old losses.new rack.old rack.new
         result }
-    ensures dry { OnOk result (AreDry (R.slot rack.old) (R.slot rack.new)) }
-    ensures moments { (j : Job) → IsSpelled j → named j ≡ skip → j.first ≡ first
-        → Ran (R.told rack.old) (R.told rack.new) (Runs (Earlier j) (Open j 0) (Earlier j)) }
-    ensures done { OnOk result ((j : Job) → IsSpelled j → named j ≡ skip → j.first ≡ first
-        → Ran (R.told rack.old) (R.told rack.new) (Runs (Earlier j) (Open j 0) (LayIn j 0))) }
+    ensures still_synced { OnOk result (StaySynced (R.slot rack.old) (R.slot rack.new)) }
+    ensures crash { (j : Job) → IsSpelled j → job_named j ≡ skip → j.first ≡ first
+        → CrashSpecification (HoldsEarly j) (OpenStage j 0) (LayIn j 0)
+        (R.told rack.old) (R.told rack.new) result }
 {
     let opened = gate(true);
-    open_gate(rack, losses, skip, first, &opened)?;
-    open_gate(rack, losses, skip, 1 - first, &opened)?;
+    put_synced(rack, losses, skip, first, 0, &opened)?;
+    put_synced(rack, losses, skip, 1 - first, 0, &opened)?; // before a target is touched
     Ok(())
 }
 
@@ -375,14 +283,13 @@ pub fn lay_all<R: Rack>(
     ensures slots { R.slot_count rack.new ≡ R.slot_count rack.old }
     ensures part { CommitPart R.Rack (UsesTarget skip batch.now) losses.old losses.new rack.old rack.new
         result }
-    ensures dry { OnOk result (AreDry (R.slot rack.old) (R.slot rack.new)) }
-    ensures moments { (j : Job) → IsSpelled j → gone j ≡ skip → j.batch ≡ batch.now
-        → Ran (R.told rack.old) (R.told rack.new) (Runs (Later j) (LayIn j 0) (Later j)) }
-    ensures done { OnOk result ((j : Job) → IsSpelled j → gone j ≡ skip → j.batch ≡ batch.now
-        → Ran (R.told rack.old) (R.told rack.new) (Runs (Later j) (LayIn j 0) (Mark j 0))) }
+    ensures still_synced { OnOk result (StaySynced (R.slot rack.old) (R.slot rack.new)) }
+    ensures crash { (j : Job) → IsSpelled j → job_gone j ≡ skip → j.batch ≡ batch.now
+        → CrashSpecification (HoldsLate j) (LayIn j 0) (MarkStage j 0)
+        (R.told rack.old) (R.told rack.new) result }
 {
     lay(rack, losses, skip, batch)?;
-    settle_all(rack, losses, skip, batch, disks)?;
+    sync_target_slots(rack, losses, skip, batch, disks)?;
     Ok(())
 }
 
@@ -398,17 +305,16 @@ pub fn finish<R: Rack>(
     ensures slots { R.slot_count rack.new ≡ R.slot_count rack.old }
     ensures part { CommitPart R.Rack (UsesLog skip) losses.old losses.new rack.old rack.new
         result }
-    ensures dry { OnOk result (AreDry (R.slot rack.old) (R.slot rack.new)) }
-    ensures moments { (j : Job) → IsSpelled j → named j ≡ skip → j.spelled ≡ meta.now
-        → Ran (R.told rack.old) (R.told rack.new) (Runs (Later j) (Mark j 0) (Later j)) }
-    ensures done { OnOk result ((j : Job) → IsSpelled j → named j ≡ skip → j.spelled ≡ meta.now
-        → Ran (R.told rack.old) (R.told rack.new) (Runs (Later j) (Mark j 0) (Close j 2))) }
+    ensures still_synced { OnOk result (StaySynced (R.slot rack.old) (R.slot rack.new)) }
+    ensures crash { (j : Job) → IsSpelled j → job_named j ≡ skip → j.spelled ≡ meta.now
+        → CrashSpecification (HoldsLate j) (MarkStage j 0) (CloseStage j 2)
+        (R.told rack.old) (R.told rack.new) result }
 {
-    mark(rack, losses, skip, 0, meta)?;
-    mark(rack, losses, skip, 1, meta)?;
+    put_synced(rack, losses, skip, 0, 1, meta)?;
+    put_synced(rack, losses, skip, 1, 1, meta)?; // before a gate closes
     let closed = gate(false);
-    close_gate(rack, losses, skip, 0, &closed)?;
-    close_gate(rack, losses, skip, 1, &closed)?;
+    put_synced(rack, losses, skip, 0, 0, &closed)?;
+    put_synced(rack, losses, skip, 1, 0, &closed)?;
     Ok(())
 }
 
@@ -431,26 +337,21 @@ fn run<R: Rack>(
     ensures slots { R.slot_count rack.new ≡ R.slot_count rack.old }
     ensures part { CommitPart R.Rack (Uses meta.now batch.now) losses.old losses.new rack.old rack.new
         result }
-    ensures dry { OnOk result (AreDry (R.slot rack.old) (R.slot rack.new)) }
-    ensures moments { (start : Disks) → IsSpelled (job start meta.now batch.now spelled.now list.now first)
-        → Ran (R.told rack.old) (R.told rack.new)
-        (Runs (Whole (job start meta.now batch.now spelled.now list.now first))
-        (Log (job start meta.now batch.now spelled.now list.now first) 0)
-        (Whole (job start meta.now batch.now spelled.now list.now first))) }
-    ensures done { OnOk result ((start : Disks)
+    ensures still_synced { OnOk result (StaySynced (R.slot rack.old) (R.slot rack.new)) }
+    ensures crash { (start : Disks)
         → IsSpelled (job start meta.now batch.now spelled.now list.now first)
-        → Ran (R.told rack.old) (R.told rack.new)
-        (Runs (Whole (job start meta.now batch.now spelled.now list.now first))
-        (Log (job start meta.now batch.now spelled.now list.now first) 0)
-        (Close (job start meta.now batch.now spelled.now list.now first) 2))) }
+        → CrashSpecification (HoldsWhole (job start meta.now batch.now spelled.now list.now first))
+        (LogStage (job start meta.now batch.now spelled.now list.now first) 0)
+        (CloseStage (job start meta.now batch.now spelled.now list.now first) 2)
+        (R.told rack.old) (R.told rack.new) result }
 {
-    let named = named_out(meta.out);
+    let named = meta.out.named();
     write_logs(rack, losses, named, batch, list, spelled)?;
     open_gates(rack, losses, named, first)?;
     lay_all(
         rack,
         losses,
-        gone_out(meta.out),
+        meta.out.gone(),
         batch,
         meta.setup.geometry.disks,
     )?;
@@ -509,7 +410,7 @@ pub fn spell_meta(meta: &Meta) -> Block
 }
 
 impl<R: Rack> Store<R> {
-    ghost use Rattle.paraid_txn.specs.Stores.{disks_of, epoch_of, named_of as named_by, rack_of};
+    ghost use Rattle.paraid_txn.specs.Stores.{disks_of, epoch_of, named_of as named_by, store_rack};
 
     /// Lays a batch and the next meta over what the disks hold: whole or not at all, whatever
     /// stops it and whatever one disk is lost.
@@ -522,13 +423,13 @@ impl<R: Rack> Store<R> {
     /// gate is opened first.
     pub fn commit(&mut self, batch: &Batch, meta: &Meta) -> Result<Option<DiskNo>, Two>
         requires { CanCommit (epoch_of self.old) (disks_of self.old)
-            (R.slot_count (rack_of self.old)) (R.slot (rack_of self.old)) batch.now meta.now }
+            (R.slot_count (store_rack self.old)) (R.slot (store_rack self.old)) batch.now meta.now }
 
-        ensures slots { R.slot_count (rack_of self.new) ≡ R.slot_count (rack_of self.old) }
+        ensures slots { R.slot_count (store_rack self.new) ≡ R.slot_count (store_rack self.old) }
         ensures disks { disks_of self.new ≡ disks_of self.old }
-        ensures powers { IsSpared (R.slot (rack_of self.old)) (R.slot (rack_of self.new)) }
+        ensures powers { OnlyLosesSlots (R.slot (store_rack self.old)) (R.slot (store_rack self.new)) }
         ensures synced { OnOk result
-            (AreDry (R.slot (rack_of self.old)) (R.slot (rack_of self.new))) }
+            (StaySynced (R.slot (store_rack self.old)) (R.slot (store_rack self.new))) }
 
         ensures epoch { OnOk result (epoch_of self.new ≡ epoch_of self.old + 1) }
         ensures named { OnOk result (named_by self.new ≡ named_of meta.now.out) }
@@ -537,27 +438,27 @@ impl<R: Rack> Store<R> {
 
         // The disk that is answered is the one whose count has risen, and no other one was out.
         ensures lost { IfOk result (λ lost. (d : ℕ) → lost ≡ Some d
-            → IsLostNow (R.slot (rack_of self.old)) (R.slot (rack_of self.new)) d) }
+            → IsLostNow (R.slot (store_rack self.old)) (R.slot (store_rack self.new)) d) }
         ensures alone { IfOk result (λ lost. (d : ℕ) → lost ≡ Some d
-            → IsAlone (disks_of self.old) (IsOut (λ e. (R.slot (rack_of self.old) e).power)
+            → IsAlone (disks_of self.old) (IsOutOfCommit (λ e. (R.slot (store_rack self.old) e).power)
             (disks_of self.old) (named_by self.old) (named_of meta.now.out)) d) }
         ensures well { IfOk result (λ lost. (d : ℕ) → lost ≢ Some d
-            → IsWell (R.slot (rack_of self.old) d) (R.slot (rack_of self.new) d)) }
-        ensures each { AreFailedOrWell (R.slot (rack_of self.old)) (R.slot (rack_of self.new)) }
-        ensures two { IfErr result (IsTwoBeside (IsOut (λ e. (R.slot (rack_of self.old) e).power)
+            → IsWell (R.slot (store_rack self.old) d) (R.slot (store_rack self.new) d)) }
+        ensures each { AreFailedOrWell (R.slot (store_rack self.old)) (R.slot (store_rack self.new)) }
+        ensures two { IfErr result (AreTwoDownBeside (IsOutOfCommit (λ e. (R.slot (store_rack self.old) e).power)
             (disks_of self.old) (named_by self.old) (named_of meta.now.out))
-            (R.slot (rack_of self.old)) (R.slot (rack_of self.new))) }
+            (R.slot (store_rack self.old)) (R.slot (store_rack self.new))) }
 
         // Which calls are made.
-        ensures calls { Ran (R.told (rack_of self.old)) (R.told (rack_of self.new))
+        ensures calls { Ran (R.told (store_rack self.old)) (R.told (store_rack self.new))
             (EachCall (Uses meta.now batch.now)) }
 
         // At each moment the old contents or the new ones; at the end only these.
         ensures any_moment { (before : MetaType) → named_by self.old ≡ named_of before.out
-            → IsWholeOrAbsent (R.told (rack_of self.old)) (R.told (rack_of self.new)) before
+            → IsWholeOrAbsent (R.told (store_rack self.old)) (R.told (store_rack self.new)) before
             (record meta.now { epoch = epoch_of self.old + 1 }) batch.now }
         ensures committed { OnOk result ((before : MetaType) → named_by self.old ≡ named_of before.out
-            → Commits (R.told (rack_of self.old)) (R.told (rack_of self.new)) before
+            → EndsCommitted (R.told (store_rack self.old)) (R.told (store_rack self.new)) before
             (record meta.now { epoch = epoch_of self.old + 1 }) batch.now) }
     {
         let next = Meta {
@@ -566,7 +467,7 @@ impl<R: Rack> Store<R> {
         };
         let list = spell_targets(batch);
         let spelled = spell_meta(&next);
-        let named = named_out(meta.out);
+        let named = meta.out.named();
         let absent = find_absent(&self.rack, self.disks);
         let mut losses = Losses {
             down: out_first(absent, self.named, named),

@@ -7,7 +7,7 @@ ghost use Rattle.paraid_txn.specs.Ready.{AreTargetsReady, CanCommit, IsLogReady}
 ghost use Rattle.paraid_image.specs.Sides.{targets};
 
 use crate::batch::Batch;
-use crate::store::{Store, gone_out, named_out};
+use crate::store::Store;
 use paraid_base::{DiskNo, Geometry, Place};
 use paraid_rack::{Power, Rack};
 use paraid_record::{Meta, Target};
@@ -73,19 +73,19 @@ fn are_in_range(geometry: &Geometry, batch: &Batch) -> bool
 }
 
 impl<R: Rack> Store<R> {
-    ghost use Rattle.paraid_txn.specs.Stores.{disks_of, epoch_of, rack_of};
+    ghost use Rattle.paraid_txn.specs.Stores.{disks_of, epoch_of, store_rack};
 
     /// Whether this batch and this meta can be committed. It makes no call of the rack.
     pub fn can_commit(&self, batch: &Batch, meta: &Meta) -> bool
         ensures { IsTrue result ↔ CanCommit (epoch_of self.now) (disks_of self.now)
-            (R.slot_count (rack_of self.now)) (R.slot (rack_of self.now)) batch.now meta.now }
+            (R.slot_count (store_rack self.now)) (R.slot (store_rack self.now)) batch.now meta.now }
     {
         let geometry = &meta.setup.geometry;
         geometry.disks == self.disks
             && self.epoch < u64::MAX
             && meta.is_in_range()
-            && is_log_ready(&self.rack, named_out(meta.out))
+            && is_log_ready(&self.rack, meta.out.named())
             && are_in_range(geometry, batch)
-            && are_targets_ready(&self.rack, gone_out(meta.out), batch)
+            && are_targets_ready(&self.rack, meta.out.gone(), batch)
     }
 }

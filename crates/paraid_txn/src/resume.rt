@@ -9,27 +9,26 @@
 //!   been laid. The meta is written to place 1 of the other one, and its gate is closed.
 //!
 //! A log disk that the meta names out is left alone.
-ghost use Rattle.std.specs.Prelude.{◌≡◌, ◌≢◌, ℕ, ◌+◌, ◌-◌, ◌<◌, ◌≤◌, true, false, length, Some, OnOk, IfErr, IfOk};
-ghost use Rattle.paraid_rack.specs.Told.{Ran, Runs};
-ghost use Rattle.paraid_record.specs.declared.meta.Meta.{Meta as MetaType};
-ghost use Rattle.paraid_record.specs.Meta.{meta_bytes};
+ghost use Rattle.std.specs.Prelude.{◌≡◌, ◌≢◌, ◌-◌, ◌<◌, ◌≤◌, true, false, length, Some, OnOk, IfErr, IfOk};
+ghost use Rattle.paraid_rack.specs.Told.{Ran};
 ghost use Rattle.paraid_record.specs.Targets.{AreTargets};
 ghost use Rattle.paraid_txn.specs.Commit.{gone_out as gone_of};
 ghost use Rattle.paraid_txn.specs.CommitPart.{CommitPart};
-ghost use Rattle.paraid_txn.specs.Losses.{AreDry, AreFailedOrWell, IsOut, IsSpared, IsTwoBeside};
+ghost use Rattle.paraid_txn.specs.CrashSpecification.{CrashSpecification};
+ghost use Rattle.paraid_txn.specs.Losses.{StaySynced, AreFailedOrWell, IsOneOut, IsOutOfCommit, OnlyLosesSlots, AreTwoDownBeside};
 ghost use Rattle.paraid_txn.specs.Uses.{EachCall, Uses, UsesLog};
 ghost use Rattle.paraid_image.specs.Out.{named_out as named_of};
 ghost use Rattle.paraid_txn.specs.Ready.{AreTargetsReady, IsLogReady};
-ghost use Rattle.paraid_txn.specs.Resume.{CanResume, IsResume, Leads, Resuming, Same, Settles, ShutDone, ShutEnd, Shutting, heard};
+ghost use Rattle.paraid_txn.specs.Resume.{CanResume, StandsWhileResumed, LeadsResume, HoldsThroughResume, AreDisksSame, EndsAsCommitted, ShutSynced, ShutEnd, HoldsThroughShut, log_state};
 ghost use Rattle.paraid_image.specs.Sides.{is_open, targets};
-ghost use Rattle.paraid_txn.specs.Stages.{Close, IsSpelled, Job, LayIn, gone, named};
+ghost use Rattle.paraid_txn.specs.CommitStages.{CloseStage, IsSpelled, Job, LayIn, job_gone, job_named};
 ghost use Rattle.paraid_image.specs.Standing.{other_log};
 
 use crate::batch::Batch;
-use crate::calls::{put, settle, take};
-use crate::commit::{finish, gate, lay_all, open_gate, spell_meta, spell_targets, write_log};
+use crate::calls::{put_synced, take};
+use crate::commit::{finish, gate, lay_all, spell_meta, spell_targets, write_log};
 use crate::losses::Losses;
-use crate::store::{Store, find_absent, gone_out, named_out, out_first};
+use crate::store::{Store, find_absent, out_first};
 use paraid_base::{Block, DiskNo, Two};
 use paraid_rack::Rack;
 use paraid_record::Meta;
@@ -58,15 +57,11 @@ fn catch_up<R: Rack>(
     ensures slots { R.slot_count rack.new ≡ R.slot_count rack.old }
     ensures part { CommitPart R.Rack (UsesLog skip) losses.old losses.new rack.old rack.new
         result }
-    ensures dry { OnOk result (AreDry (R.slot rack.old) (R.slot rack.new)) }
-    ensures moments { (j : Job) → IsSpelled j → named j ≡ skip → j.batch ≡ batch.now
-        → j.list ≡ list.now → j.spelled ≡ meta.now → Leads j side
-        → Ran (R.told rack.old) (R.told rack.new)
-        (Runs (Resuming j side) (Same j) (Resuming j side)) }
-    ensures done { OnOk result ((j : Job) → IsSpelled j → named j ≡ skip → j.batch ≡ batch.now
-        → j.list ≡ list.now → j.spelled ≡ meta.now → Leads j side
-        → Ran (R.told rack.old) (R.told rack.new)
-        (Runs (Resuming j side) (Same j) (LayIn j 0))) }
+    ensures still_synced { OnOk result (StaySynced (R.slot rack.old) (R.slot rack.new)) }
+    ensures crash { (j : Job) → IsSpelled j → job_named j ≡ skip → j.batch ≡ batch.now
+        → j.list ≡ list.now → j.spelled ≡ meta.now → LeadsResume j side
+        → CrashSpecification (HoldsThroughResume j side) (AreDisksSame j) (LayIn j 0)
+        (R.told rack.old) (R.told rack.new) result }
 {
     let other = 1 - side;
     let mut found = Block::zero();
@@ -79,7 +74,7 @@ fn catch_up<R: Rack>(
     }
     write_log(rack, losses, Some(side), other, batch, list, meta)?;
     let opened = gate(true);
-    open_gate(rack, losses, Some(side), other, &opened)?;
+    put_synced(rack, losses, Some(side), other, 0, &opened)?;
     Ok(())
 }
 
@@ -102,24 +97,19 @@ fn resume_open<R: Rack>(
     ensures slots { R.slot_count rack.new ≡ R.slot_count rack.old }
     ensures part { CommitPart R.Rack (Uses meta.now batch.now) losses.old losses.new rack.old rack.new
         result }
-    ensures dry { OnOk result (AreDry (R.slot rack.old) (R.slot rack.new)) }
-    ensures moments { (j : Job) → IsSpelled j → named j ≡ named_of meta.now.out
-        → gone j ≡ gone_of meta.now.out → j.batch ≡ batch.now
-        → j.list ≡ list.now → j.spelled ≡ spelled.now → Leads j side
-        → Ran (R.told rack.old) (R.told rack.new)
-        (Runs (Resuming j side) (Same j) (Resuming j side)) }
-    ensures done { OnOk result ((j : Job) → IsSpelled j → named j ≡ named_of meta.now.out
-        → gone j ≡ gone_of meta.now.out → j.batch ≡ batch.now
-        → j.list ≡ list.now → j.spelled ≡ spelled.now → Leads j side
-        → Ran (R.told rack.old) (R.told rack.new)
-        (Runs (Resuming j side) (Same j) (Close j 2))) }
+    ensures still_synced { OnOk result (StaySynced (R.slot rack.old) (R.slot rack.new)) }
+    ensures crash { (j : Job) → IsSpelled j → job_named j ≡ named_of meta.now.out
+        → job_gone j ≡ gone_of meta.now.out → j.batch ≡ batch.now → j.list ≡ list.now
+        → j.spelled ≡ spelled.now → LeadsResume j side
+        → CrashSpecification (HoldsThroughResume j side) (AreDisksSame j) (CloseStage j 2)
+        (R.told rack.old) (R.told rack.new) result }
 {
-    let named = named_out(meta.out);
+    let named = meta.out.named();
     catch_up(rack, losses, named, side, batch, list, spelled)?;
     lay_all(
         rack,
         losses,
-        gone_out(meta.out),
+        meta.out.gone(),
         batch,
         meta.setup.geometry.disks,
     )?;
@@ -141,21 +131,15 @@ fn shut<R: Rack>(
     ensures slots { R.slot_count rack.new ≡ R.slot_count rack.old }
     ensures part { CommitPart R.Rack (UsesLog skip) losses.old losses.new rack.old rack.new
         result }
-    ensures dry { OnOk result (AreDry (R.slot rack.old) (R.slot rack.new)) }
-    ensures moments { (j : Job) → IsSpelled j → named j ≡ skip → j.spelled ≡ meta.now
-        → named j ≢ Some disk → is_open (j.start.block disk 0) ≡ true
-        → Ran (R.told rack.old) (R.told rack.new)
-        (Runs (Shutting j disk) (Same j) (Shutting j disk)) }
-    ensures done { OnOk result ((j : Job) → IsSpelled j → named j ≡ skip → j.spelled ≡ meta.now
-        → named j ≢ Some disk → is_open (j.start.block disk 0) ≡ true
-        → Ran (R.told rack.old) (R.told rack.new)
-        (Runs (Shutting j disk) (Same j) (ShutDone j disk))) }
+    ensures still_synced { OnOk result (StaySynced (R.slot rack.old) (R.slot rack.new)) }
+    ensures crash { (j : Job) → IsSpelled j → job_named j ≡ skip → j.spelled ≡ meta.now
+        → job_named j ≢ Some disk → is_open (j.start.block disk 0) ≡ true
+        → CrashSpecification (HoldsThroughShut j disk) (AreDisksSame j) (ShutSynced j disk)
+        (R.told rack.old) (R.told rack.new) result }
 {
-    put(rack, losses, skip, disk, 1, meta)?;
-    settle(rack, losses, skip, disk)?; // before its gate closes
+    put_synced(rack, losses, skip, disk, 1, meta)?; // before its gate closes
     let closed = gate(false);
-    put(rack, losses, skip, disk, 0, &closed)?;
-    settle(rack, losses, skip, disk)?;
+    put_synced(rack, losses, skip, disk, 0, &closed)?;
     Ok(())
 }
 
@@ -173,13 +157,10 @@ fn resume_closed<R: Rack>(
     ensures slots { R.slot_count rack.new ≡ R.slot_count rack.old }
     ensures part { CommitPart R.Rack (UsesLog skip) losses.old losses.new rack.old rack.new
         result }
-    ensures dry { OnOk result (AreDry (R.slot rack.old) (R.slot rack.new)) }
-    ensures moments { (j : Job) → IsSpelled j → named j ≡ skip → j.spelled ≡ meta.now
-        → Ran (R.told rack.old) (R.told rack.new)
-        (Runs (Shutting j (other_log side)) (Same j) (Shutting j (other_log side))) }
-    ensures done { OnOk result ((j : Job) → IsSpelled j → named j ≡ skip → j.spelled ≡ meta.now
-        → Ran (R.told rack.old) (R.told rack.new)
-        (Runs (Shutting j (other_log side)) (Same j) (ShutEnd j (other_log side)))) }
+    ensures still_synced { OnOk result (StaySynced (R.slot rack.old) (R.slot rack.new)) }
+    ensures crash { (j : Job) → IsSpelled j → job_named j ≡ skip → j.spelled ≡ meta.now
+        → CrashSpecification (HoldsThroughShut j (other_log side)) (AreDisksSame j) (ShutEnd j (other_log side))
+        (R.told rack.old) (R.told rack.new) result }
 {
     let other = 1 - side;
     let mut found = Block::zero();
@@ -208,11 +189,11 @@ fn end_commit<R: Rack>(
     ensures slots { R.slot_count rack.new ≡ R.slot_count rack.old }
     ensures part { CommitPart R.Rack (Uses meta.now batch.now) losses.old losses.new rack.old
         rack.new result }
-    ensures dry { OnOk result (AreDry (R.slot rack.old) (R.slot rack.new)) }
-    ensures moments { IsResume (R.told rack.old) (R.told rack.new) side
-        (heard gate_open meta.now batch.now) }
-    ensures done { OnOk result (Settles (R.told rack.old) (R.told rack.new) side
-        (heard gate_open meta.now batch.now)) }
+    ensures still_synced { OnOk result (StaySynced (R.slot rack.old) (R.slot rack.new)) }
+    ensures moments { StandsWhileResumed (R.told rack.old) (R.told rack.new) side
+        (log_state gate_open meta.now batch.now) }
+    ensures done { OnOk result (EndsAsCommitted (R.told rack.old) (R.told rack.new) side
+        (log_state gate_open meta.now batch.now)) }
 {
     let list = spell_targets(batch);
     let spelled = spell_meta(meta);
@@ -220,7 +201,7 @@ fn end_commit<R: Rack>(
         resume_open(rack, losses, side, meta, batch, &list, &spelled)?;
         return Ok(());
     }
-    resume_closed(rack, losses, named_out(meta.out), side, &spelled)?;
+    resume_closed(rack, losses, meta.out.named(), side, &spelled)?;
     Ok(())
 }
 
@@ -232,7 +213,7 @@ pub struct ResumeRefused<R: Rack> {
 }
 
 impl<R: Rack> Store<R> {
-    ghost use Rattle.paraid_txn.specs.Stores.{disks_of, epoch_of, named_of as named_by, rack_of};
+    ghost use Rattle.paraid_txn.specs.Stores.{disks_of, epoch_of, named_of as named_by, store_rack};
 
     /// Takes over a rack and ends a commit that was interrupted: at Ok nothing is loose, all live
     /// gates are closed and the meta that stood is at place 1.
@@ -252,29 +233,33 @@ impl<R: Rack> Store<R> {
             ≡ meta.now.setup.geometry.disks) }
         ensures epoch { IfOk result (λ store. epoch_of store ≡ meta.now.epoch) }
         ensures named { IfOk result (λ store. named_by store ≡ named_of meta.now.out) }
-        ensures slots { IfOk result (λ store. R.slot_count (rack_of store) ≡ R.slot_count rack) }
-        ensures powers { IfOk result (λ store. IsSpared (R.slot rack) (R.slot (rack_of store))) }
-        ensures synced { IfOk result (λ store. AreDry (R.slot rack) (R.slot (rack_of store))) }
+        ensures slots { IfOk result (λ store. R.slot_count (store_rack store) ≡ R.slot_count rack) }
+        ensures powers { IfOk result (λ store. OnlyLosesSlots (R.slot rack) (R.slot (store_rack store))) }
+        ensures synced { IfOk result (λ store. StaySynced (R.slot rack) (R.slot (store_rack store))) }
         ensures each { IfOk result (λ store. AreFailedOrWell (R.slot rack)
-            (R.slot (rack_of store))) }
-        ensures calls { IfOk result (λ store. Ran (R.told rack) (R.told (rack_of store))
+            (R.slot (store_rack store))) }
+        ensures calls { IfOk result (λ store. Ran (R.told rack) (R.told (store_rack store))
             (EachCall (Uses meta.now batch.now))) }
-        ensures two { IfErr result (λ refused. IsTwoBeside
-            (IsOut (λ e. (R.slot rack e).power) meta.now.setup.geometry.disks
+        ensures one { IfOk result (λ store. IsOneOut meta.now.setup.geometry.disks
+            (named_of meta.now.out) (R.slot rack)
+            → IsOneOut meta.now.setup.geometry.disks (named_of meta.now.out)
+            (R.slot (store_rack store))) }
+        ensures two { IfErr result (λ refused. AreTwoDownBeside
+            (IsOutOfCommit (λ e. (R.slot rack e).power) meta.now.setup.geometry.disks
             (named_of meta.now.out) (named_of meta.now.out))
             (R.slot rack) (R.slot refused.rack) refused.two) }
-        ensures refused_powers { IfErr result (λ refused. IsSpared (R.slot rack)
+        ensures refused_powers { IfErr result (λ refused. OnlyLosesSlots (R.slot rack)
             (R.slot refused.rack)) }
         ensures refused_each { IfErr result (λ refused. AreFailedOrWell (R.slot rack)
             (R.slot refused.rack)) }
         ensures refused_calls { IfErr result (λ refused. Ran (R.told rack) (R.told refused.rack)
             (EachCall (Uses meta.now batch.now))) }
-        ensures any_moment { IfOk result (λ store. IsResume (R.told rack)
-            (R.told (rack_of store)) side (heard gate_open meta.now batch.now)) }
-        ensures refused { IfErr result (λ refused. IsResume (R.told rack)
-            (R.told refused.rack) side (heard gate_open meta.now batch.now)) }
-        ensures settled { IfOk result (λ store. Settles (R.told rack) (R.told (rack_of store))
-            side (heard gate_open meta.now batch.now)) }
+        ensures any_moment { IfOk result (λ store. StandsWhileResumed (R.told rack)
+            (R.told (store_rack store)) side (log_state gate_open meta.now batch.now)) }
+        ensures refused { IfErr result (λ refused. StandsWhileResumed (R.told rack)
+            (R.told refused.rack) side (log_state gate_open meta.now batch.now)) }
+        ensures ended { IfOk result (λ store. EndsAsCommitted (R.told rack) (R.told (store_rack store))
+            side (log_state gate_open meta.now batch.now)) }
     {
         let mut store = Store::adopt(rack, meta);
         let absent = find_absent(&store.rack, store.disks);

@@ -2,14 +2,13 @@
 ghost use Rattle.std.specs.Prelude.{◌≡◌, ◌≢◌, ℕ, ◌<◌, ◌≤◌, true, false, Some, None, OnOk, IfErr, is_ok};
 ghost use Rattle.paraid_rack.specs.declared.call.Call.TheVariants.{Park, Read, SpinUp, Sync, Write};
 ghost use Rattle.paraid_rack.specs.declared.call.Power.TheVariants.{Absent, Parked, Spinning};
-ghost use Rattle.paraid_rack.specs.Slots.{Touched};
-ghost use Rattle.paraid_rack.specs.Told.{Grows};
+ghost use Rattle.paraid_rack.specs.Slots.{ChangesOneSlot};
+ghost use Rattle.paraid_rack.specs.Told.{GrowsByCall};
 ghost use Rattle.paraid_rack.specs.Trail.{Trail, now};
-ghost use Rattle.paraid_txn.specs.Commit.{gone_out as gone_of_out};
 ghost use Rattle.paraid_txn.specs.Losses.{IsLostBy};
-ghost use Rattle.paraid_image.specs.Out.{first_absent, named_out as named_of_out, or_else};
+ghost use Rattle.paraid_image.specs.Out.{first_absent as first_absent_of, named_out as named_of_out, or_else};
 
-use paraid_base::{Block, DiskNo, Failed, Out, Place, Two};
+use paraid_base::{Block, DiskNo, Failed, Place, Two};
 use paraid_rack::{Power, Rack};
 use paraid_record::Meta;
 
@@ -35,31 +34,10 @@ pub struct Store<R: Rack> {
     ghost exists: { disks ≤ R.slot_count rack },
 }
 
-/// The disk that a meta names out.
-pub(crate) fn named_out(out: Out) -> Option<DiskNo>
-    ensures { result ≡ named_of_out out }
-{
-    match out {
-        Out::No => None,
-        Out::Gone { disk } => Some(disk),
-        Out::Fresh { disk, .. } => Some(disk),
-    }
-}
-
-/// The disk that a meta names out and gone: its targets are left out.
-pub(crate) fn gone_out(out: Out) -> Option<DiskNo>
-    ensures { result ≡ gone_of_out out }
-{
-    match out {
-        Out::Gone { disk } => Some(disk),
-        _ => None,
-    }
-}
-
 // The least absent slot of the first ones.
 pub(crate) fn find_absent<R: Rack>(rack: &R, disks: u8) -> Option<DiskNo>
     requires { disks ≤ R.slot_count rack.now }
-    ensures { result ≡ first_absent (λ d. (R.slot rack.now d).power) disks }
+    ensures { result ≡ first_absent_of (λ d. (R.slot rack.now d).power) disks }
 {
     for disk in 0..disks {
         if rack.power(disk) == Power::Absent {
@@ -106,12 +84,12 @@ fn loss_of(out: Option<DiskNo>, disk: DiskNo) -> Lost
 }
 
 impl<R: Rack> Store<R> {
-    ghost use Rattle.paraid_txn.specs.Stores.{IsSameStore, disks_of, epoch_of, named_of, out_of, rack_of};
+    ghost use Rattle.paraid_txn.specs.Stores.{IsSameStore, disks_of, epoch_of, named_of, store_out, store_rack};
 
     /// Takes over a rack whose last meta is this one. It makes no call of the rack.
     pub fn adopt(rack: R, meta: &Meta) -> Store<R>
         requires exists { meta.now.setup.geometry.disks ≤ R.slot_count rack }
-        ensures rack { rack_of result ≡ rack }
+        ensures rack { store_rack result ≡ rack }
         ensures disks { disks_of result ≡ meta.now.setup.geometry.disks }
         ensures epoch { epoch_of result ≡ meta.now.epoch }
         ensures named { named_of result ≡ named_of_out meta.now.out }
@@ -120,13 +98,21 @@ impl<R: Rack> Store<R> {
             rack,
             disks: meta.setup.geometry.disks,
             epoch: meta.epoch,
-            named: named_out(meta.out),
+            named: meta.out.named(),
         }
+    }
+
+    /// The least absent slot of the first ones.
+    pub fn first_absent(&self, disks: u8) -> Option<DiskNo>
+        requires { disks ≤ R.slot_count (store_rack self.now) }
+        ensures { result ≡ first_absent_of (λ d. (R.slot (store_rack self.now) d).power) disks }
+    {
+        find_absent(&self.rack, disks)
     }
 
     /// Gives the rack back. It makes no call of it.
     pub fn close(self) -> R
-        ensures { result ≡ rack_of self }
+        ensures { result ≡ store_rack self }
     {
         self.rack
     }
@@ -140,15 +126,15 @@ impl<R: Rack> Store<R> {
 
     /// How a disk is powered.
     pub fn power(&self, disk: DiskNo) -> Power
-        requires { disk < R.slot_count (rack_of self.now) }
-        ensures { result ≡ (R.slot (rack_of self.now) disk).power }
+        requires { disk < R.slot_count (store_rack self.now) }
+        ensures { result ≡ (R.slot (store_rack self.now) disk).power }
     {
         self.rack.power(disk)
     }
 
     /// The disk that is out: the one that the last meta names, or else the least absent one.
     pub fn out(&self) -> Option<DiskNo>
-        ensures { result ≡ out_of R.slot self.now }
+        ensures { result ≡ store_out R.slot self.now }
     {
         if self.named.is_some() {
             return self.named;
@@ -158,20 +144,20 @@ impl<R: Rack> Store<R> {
 
     /// Reads a block. After a failure `into` holds any bytes.
     pub fn read(&mut self, disk: DiskNo, place: Place, into: &mut Block) -> Result<(), Lost>
-        requires exists { disk < R.slot_count (rack_of self.old) }
-        requires spinning { (R.slot (rack_of self.old) disk).power ≡ Spinning }
-        requires within { place < (R.slot (rack_of self.old) disk).size }
-        ensures slots { R.slot_count (rack_of self.new) ≡ R.slot_count (rack_of self.old) }
+        requires exists { disk < R.slot_count (store_rack self.old) }
+        requires spinning { (R.slot (store_rack self.old) disk).power ≡ Spinning }
+        requires within { place < (R.slot (store_rack self.old) disk).size }
+        ensures slots { R.slot_count (store_rack self.new) ≡ R.slot_count (store_rack self.old) }
         ensures same { IsSameStore self.old self.new }
-        ensures slot { Touched (R.slot (rack_of self.old)) (R.slot (rack_of self.new)) disk
-            (R.slot (rack_of self.old) disk) (R.slot (rack_of self.old) disk).unsynced
+        ensures slot { ChangesOneSlot (R.slot (store_rack self.old)) (R.slot (store_rack self.new)) disk
+            (R.slot (store_rack self.old) disk) (R.slot (store_rack self.old) disk).unsynced
             (is_ok result) }
-        ensures told { Grows (R.told (rack_of self.old)) (R.told (rack_of self.new))
+        ensures told { GrowsByCall (R.told (store_rack self.old)) (R.told (store_rack self.new))
             (Read disk place (is_ok result)) }
-        ensures bytes { OnOk result ((t : Trail) → R.told (rack_of self.old) ≡ Some t
+        ensures bytes { OnOk result ((t : Trail) → R.told (store_rack self.old) ≡ Some t
             → into.new ≡ (now t).block disk place) }
-        ensures lost { IfErr result (IsLostBy (out_of R.slot self.old) disk
-            (R.slot (rack_of self.old)) (R.slot (rack_of self.new))) }
+        ensures lost { IfErr result (IsLostBy (store_out R.slot self.old) disk
+            (R.slot (store_rack self.old)) (R.slot (store_rack self.new))) }
     {
         let out = self.out();
         let Ok(()) = self.rack.read(disk, place, into) else {
@@ -182,17 +168,17 @@ impl<R: Rack> Store<R> {
 
     /// Makes a disk keep all that was written.
     pub fn sync(&mut self, disk: DiskNo) -> Result<(), Lost>
-        requires exists { disk < R.slot_count (rack_of self.old) }
-        requires spinning { (R.slot (rack_of self.old) disk).power ≡ Spinning }
-        ensures slots { R.slot_count (rack_of self.new) ≡ R.slot_count (rack_of self.old) }
+        requires exists { disk < R.slot_count (store_rack self.old) }
+        requires spinning { (R.slot (store_rack self.old) disk).power ≡ Spinning }
+        ensures slots { R.slot_count (store_rack self.new) ≡ R.slot_count (store_rack self.old) }
         ensures same { IsSameStore self.old self.new }
-        ensures slot { Touched (R.slot (rack_of self.old)) (R.slot (rack_of self.new)) disk
-            (record (R.slot (rack_of self.old) disk) { unsynced = false })
-            (R.slot (rack_of self.old) disk).unsynced (is_ok result) }
-        ensures told { Grows (R.told (rack_of self.old)) (R.told (rack_of self.new))
+        ensures slot { ChangesOneSlot (R.slot (store_rack self.old)) (R.slot (store_rack self.new)) disk
+            (record (R.slot (store_rack self.old) disk) { unsynced = false })
+            (R.slot (store_rack self.old) disk).unsynced (is_ok result) }
+        ensures told { GrowsByCall (R.told (store_rack self.old)) (R.told (store_rack self.new))
             (Sync disk (is_ok result)) }
-        ensures lost { IfErr result (IsLostBy (out_of R.slot self.old) disk
-            (R.slot (rack_of self.old)) (R.slot (rack_of self.new))) }
+        ensures lost { IfErr result (IsLostBy (store_out R.slot self.old) disk
+            (R.slot (store_rack self.old)) (R.slot (store_rack self.new))) }
     {
         let out = self.out();
         let Ok(()) = self.rack.sync(disk) else {
@@ -204,17 +190,17 @@ impl<R: Rack> Store<R> {
     /// Writes a block past the log. Whatever a stop leaves of it, what is held stays held if the
     /// place is free and the gates are closed.
     pub fn write_free(&mut self, disk: DiskNo, place: Place, block: &Block) -> Result<(), Lost>
-        requires exists { disk < R.slot_count (rack_of self.old) }
-        requires spinning { (R.slot (rack_of self.old) disk).power ≡ Spinning }
-        requires within { place < (R.slot (rack_of self.old) disk).size }
-        ensures slots { R.slot_count (rack_of self.new) ≡ R.slot_count (rack_of self.old) }
+        requires exists { disk < R.slot_count (store_rack self.old) }
+        requires spinning { (R.slot (store_rack self.old) disk).power ≡ Spinning }
+        requires within { place < (R.slot (store_rack self.old) disk).size }
+        ensures slots { R.slot_count (store_rack self.new) ≡ R.slot_count (store_rack self.old) }
         ensures same { IsSameStore self.old self.new }
-        ensures slot { Touched (R.slot (rack_of self.old)) (R.slot (rack_of self.new)) disk
-            (record (R.slot (rack_of self.old) disk) { unsynced = true }) true (is_ok result) }
-        ensures told { Grows (R.told (rack_of self.old)) (R.told (rack_of self.new))
+        ensures slot { ChangesOneSlot (R.slot (store_rack self.old)) (R.slot (store_rack self.new)) disk
+            (record (R.slot (store_rack self.old) disk) { unsynced = true }) true (is_ok result) }
+        ensures told { GrowsByCall (R.told (store_rack self.old)) (R.told (store_rack self.new))
             (Write disk place block.now (is_ok result)) }
-        ensures lost { IfErr result (IsLostBy (out_of R.slot self.old) disk
-            (R.slot (rack_of self.old)) (R.slot (rack_of self.new))) }
+        ensures lost { IfErr result (IsLostBy (store_out R.slot self.old) disk
+            (R.slot (store_rack self.old)) (R.slot (store_rack self.new))) }
     {
         let out = self.out();
         let Ok(()) = self.rack.write(disk, place, block) else {
@@ -225,17 +211,17 @@ impl<R: Rack> Store<R> {
 
     /// Parks a spinning disk of which nothing is unsynced.
     pub fn park(&mut self, disk: DiskNo) -> Result<(), Lost>
-        requires exists { disk < R.slot_count (rack_of self.old) }
-        requires spinning { (R.slot (rack_of self.old) disk).power ≡ Spinning }
-        requires synced { (R.slot (rack_of self.old) disk).unsynced ≡ false }
-        ensures slots { R.slot_count (rack_of self.new) ≡ R.slot_count (rack_of self.old) }
+        requires exists { disk < R.slot_count (store_rack self.old) }
+        requires spinning { (R.slot (store_rack self.old) disk).power ≡ Spinning }
+        requires synced { (R.slot (store_rack self.old) disk).unsynced ≡ false }
+        ensures slots { R.slot_count (store_rack self.new) ≡ R.slot_count (store_rack self.old) }
         ensures same { IsSameStore self.old self.new }
-        ensures slot { Touched (R.slot (rack_of self.old)) (R.slot (rack_of self.new)) disk
-            (record (R.slot (rack_of self.old) disk) { power = Parked }) false (is_ok result) }
-        ensures told { Grows (R.told (rack_of self.old)) (R.told (rack_of self.new))
+        ensures slot { ChangesOneSlot (R.slot (store_rack self.old)) (R.slot (store_rack self.new)) disk
+            (record (R.slot (store_rack self.old) disk) { power = Parked }) false (is_ok result) }
+        ensures told { GrowsByCall (R.told (store_rack self.old)) (R.told (store_rack self.new))
             (Park disk (is_ok result)) }
-        ensures lost { IfErr result (IsLostBy (out_of R.slot self.old) disk
-            (R.slot (rack_of self.old)) (R.slot (rack_of self.new))) }
+        ensures lost { IfErr result (IsLostBy (store_out R.slot self.old) disk
+            (R.slot (store_rack self.old)) (R.slot (store_rack self.new))) }
     {
         let out = self.out();
         let Ok(()) = self.rack.park(disk) else {
@@ -246,17 +232,17 @@ impl<R: Rack> Store<R> {
 
     /// Spins up a parked disk.
     pub fn spin_up(&mut self, disk: DiskNo) -> Result<(), Lost>
-        requires exists { disk < R.slot_count (rack_of self.old) }
-        requires parked { (R.slot (rack_of self.old) disk).power ≡ Parked }
-        ensures slots { R.slot_count (rack_of self.new) ≡ R.slot_count (rack_of self.old) }
+        requires exists { disk < R.slot_count (store_rack self.old) }
+        requires parked { (R.slot (store_rack self.old) disk).power ≡ Parked }
+        ensures slots { R.slot_count (store_rack self.new) ≡ R.slot_count (store_rack self.old) }
         ensures same { IsSameStore self.old self.new }
-        ensures slot { Touched (R.slot (rack_of self.old)) (R.slot (rack_of self.new)) disk
-            (record (R.slot (rack_of self.old) disk) { power = Spinning }) false
+        ensures slot { ChangesOneSlot (R.slot (store_rack self.old)) (R.slot (store_rack self.new)) disk
+            (record (R.slot (store_rack self.old) disk) { power = Spinning }) false
             (is_ok result) }
-        ensures told { Grows (R.told (rack_of self.old)) (R.told (rack_of self.new))
+        ensures told { GrowsByCall (R.told (store_rack self.old)) (R.told (store_rack self.new))
             (SpinUp disk (is_ok result)) }
-        ensures lost { IfErr result (IsLostBy (out_of R.slot self.old) disk
-            (R.slot (rack_of self.old)) (R.slot (rack_of self.new))) }
+        ensures lost { IfErr result (IsLostBy (store_out R.slot self.old) disk
+            (R.slot (store_rack self.old)) (R.slot (store_rack self.new))) }
     {
         let out = self.out();
         let Ok(()) = self.rack.spin_up(disk) else {

@@ -3,10 +3,10 @@ ghost use Rattle.std.specs.Prelude.{◌≡◌, ◌≢◌, ℕ, ◌<◌, ◌≤�
 ghost use Rattle.paraid_rack.specs.declared.call.Power.TheVariants.{Spinning};
 ghost use Rattle.paraid_rack.specs.Told.{Ran};
 ghost use Rattle.paraid_txn.specs.CommitPart.{CommitPart};
-ghost use Rattle.paraid_txn.specs.Losses.{AreDry, AreFailedOrWell, IsDryAt, IsOut, IsSpared, IsTwoBeside};
+ghost use Rattle.paraid_txn.specs.Losses.{StaySynced, AreFailedOrWell, IsSyncedAt, IsOneOut, IsOutOfCommit, OnlyLosesSlots, AreTwoDownBeside};
 ghost use Rattle.paraid_txn.specs.Uses.{CanSync, EachCall, UsesSync};
 
-use crate::calls::settle;
+use crate::calls::sync_slot;
 use crate::losses::Losses;
 use crate::store::{Store, find_absent, out_first};
 use paraid_base::{DiskNo, Two};
@@ -26,13 +26,13 @@ fn sync_one<R: Rack>(
     ensures slots { R.slot_count rack.new ≡ R.slot_count rack.old }
     ensures part { CommitPart R.Rack (UsesSync disks skip) losses.old losses.new rack.old rack.new
         result }
-    ensures dry { AreDry (R.slot rack.old) (R.slot rack.new) }
-    ensures synced { skip ≢ Some disk → IsDryAt (R.slot rack.new) disk }
+    ensures still_synced { StaySynced (R.slot rack.old) (R.slot rack.new) }
+    ensures synced { skip ≢ Some disk → IsSyncedAt (R.slot rack.new) disk }
 {
     if rack.power(disk) != Power::Spinning {
         return Ok(());
     }
-    settle(rack, losses, skip, disk)?;
+    sync_slot(rack, losses, skip, disk)?;
     Ok(())
 }
 
@@ -48,9 +48,9 @@ fn sync_each<R: Rack>(
     ensures slots { R.slot_count rack.new ≡ R.slot_count rack.old }
     ensures part { CommitPart R.Rack (UsesSync disks skip) losses.old losses.new rack.old rack.new
         result }
-    ensures dry { AreDry (R.slot rack.old) (R.slot rack.new) }
+    ensures still_synced { StaySynced (R.slot rack.old) (R.slot rack.new) }
     ensures synced { OnOk result ((d : ℕ) → d < disks → skip ≢ Some d
-        → IsDryAt (R.slot rack.new) d) }
+        → IsSyncedAt (R.slot rack.new) d) }
 {
     for disk in 0..disks {
         sync_one(rack, losses, skip, disks, disk)?;
@@ -59,25 +59,27 @@ fn sync_each<R: Rack>(
 }
 
 impl<R: Rack> Store<R> {
-    ghost use Rattle.paraid_txn.specs.Stores.{IsSameStore, disks_of, named_of, rack_of};
+    ghost use Rattle.paraid_txn.specs.Stores.{IsSameStore, disks_of, named_of, store_rack};
 
     /// Makes each disk that spins keep all that was written, but for one that is skipped.
     ///
     /// A disk that fails goes out, and the others are synced still. Where a second disk is down it
     /// ends and names both.
     pub fn sync_all(&mut self, skip: Option<DiskNo>) -> Result<(), Two>
-        requires { CanSync (disks_of self.old) skip (R.slot (rack_of self.old)) }
-        ensures slots { R.slot_count (rack_of self.new) ≡ R.slot_count (rack_of self.old) }
+        requires { CanSync (disks_of self.old) skip (R.slot (store_rack self.old)) }
+        ensures slots { R.slot_count (store_rack self.new) ≡ R.slot_count (store_rack self.old) }
         ensures same { IsSameStore self.old self.new }
-        ensures powers { IsSpared (R.slot (rack_of self.old)) (R.slot (rack_of self.new)) }
-        ensures each { AreFailedOrWell (R.slot (rack_of self.old)) (R.slot (rack_of self.new)) }
-        ensures dry { AreDry (R.slot (rack_of self.old)) (R.slot (rack_of self.new)) }
+        ensures powers { OnlyLosesSlots (R.slot (store_rack self.old)) (R.slot (store_rack self.new)) }
+        ensures each { AreFailedOrWell (R.slot (store_rack self.old)) (R.slot (store_rack self.new)) }
+        ensures still_synced { StaySynced (R.slot (store_rack self.old)) (R.slot (store_rack self.new)) }
         ensures synced { OnOk result ((d : ℕ) → d < disks_of self.old → skip ≢ Some d
-            → IsDryAt (R.slot (rack_of self.new)) d) }
-        ensures two { IfErr result (IsTwoBeside (IsOut (λ e. (R.slot (rack_of self.old) e).power)
+            → IsSyncedAt (R.slot (store_rack self.new)) d) }
+        ensures one { OnOk result (IsOneOut (disks_of self.old) (named_of self.old) (R.slot (store_rack self.old))
+            → IsOneOut (disks_of self.old) (named_of self.old) (R.slot (store_rack self.new))) }
+        ensures two { IfErr result (AreTwoDownBeside (IsOutOfCommit (λ e. (R.slot (store_rack self.old) e).power)
             (disks_of self.old) (named_of self.old) None)
-            (R.slot (rack_of self.old)) (R.slot (rack_of self.new))) }
-        ensures calls { Ran (R.told (rack_of self.old)) (R.told (rack_of self.new))
+            (R.slot (store_rack self.old)) (R.slot (store_rack self.new))) }
+        ensures calls { Ran (R.told (store_rack self.old)) (R.told (store_rack self.new))
             (EachCall (UsesSync (disks_of self.old) skip)) }
     {
         let absent = find_absent(&self.rack, self.disks);

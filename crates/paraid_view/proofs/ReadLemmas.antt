@@ -10,25 +10,25 @@ use Rattle.paraid_rack.specs.declared.call.Call.TheVariants.{Read, Write, Sync, 
 use Rattle.paraid_rack.specs.declared.call.Power.{Power}
 use Rattle.paraid_rack.specs.declared.call.Power.TheVariants.{Spinning, Absent}
 use Rattle.paraid_rack.specs.Disks.{Disks, is_present, power_after, size_after, step, with_at}
-use Rattle.paraid_rack.specs.Slots.{Agrees, Slot, Touched}
-use Rattle.paraid_rack.specs.Told.{Grows, Ran}
-use Rattle.paraid_rack.specs.Trail.{Trail, extend, now, run}
+use Rattle.paraid_rack.specs.Slots.{Agrees, Slot, ChangesOneSlot}
+use Rattle.paraid_rack.specs.Told.{GrowsByCall, Ran}
+use Rattle.paraid_rack.specs.Trail.{Trail, now, run}
 use Rattle.paraid_rack.proofs.AtomsLemmas.{read_block-same, with_at_other, with_at_same}
-use Rattle.paraid_rack.proofs.TrailsLemmas.{extend-extend, now-extend}
+use Rattle.paraid_rack.proofs.TrailsLemmas.{Ran-then, now-extend}
 use Rattle.paraid_txn.specs.declared.store.Store.{Store}
 use Rattle.paraid_txn.specs.Losses.{IsLostNow}
 use Rattle.paraid_image.specs.Sides.{Batch, has_place}
-use Rattle.paraid_image.specs.Standing.{Contents, laid}
-use Rattle.paraid_txn.specs.Stores.{IsSameStore, rack_of}
-use Rattle.paraid_view.specs.Reads.{AreLeft, AreReads, HaveRead, Shows, lost_by}
+use Rattle.paraid_image.specs.Standing.{Contents, overlaid_block}
+use Rattle.paraid_txn.specs.Stores.{IsSameStore, store_rack}
+use Rattle.paraid_view.specs.Reads.{AreLeft, AreArrayReads, HaveRead, ShowsContents, lost_by}
 
 -- calls
 
-AreReads-append : (n : ℕ) (s : Disks) (cs ds : List Call) → AreReads n s cs → AreReads n (run s cs) ds → AreReads n s (cs ++ ds)
-AreReads-append n s [] ds a b = b
-AreReads-append n s (c ∷ cs) ds a b = (a.0, AreReads-append n (step c s) cs ds a.1 b)
+AreArrayReads-append : (n : ℕ) (s : Disks) (cs ds : List Call) → AreArrayReads n s cs → AreArrayReads n (run s cs) ds → AreArrayReads n s (cs ++ ds)
+AreArrayReads-append n s [] ds a b = b
+AreArrayReads-append n s (c ∷ cs) ds a b = (a.0, AreArrayReads-append n (step c s) cs ds a.1 b)
 
-pub ran_none : (told : Option Trail) (n : ℕ) → Ran told told (AreReads n)
+pub ran_none : (told : Option Trail) (n : ℕ) → Ran told told (AreArrayReads n)
 ran_none told n t tells = record {
   from = t;
   was = tells;
@@ -38,7 +38,7 @@ ran_none told n t tells = record {
 }
 
 pub ran_one : (old new : Option Trail) (n d p : ℕ) (done : Bool) → d < n → ((t : Trail) → old ≡ Some t → (now t).power d ≡ Spinning)
-    → Grows old new (Read d p done) → Ran old new (AreReads n)
+    → GrowsByCall old new (Read d p done) → Ran old new (AreArrayReads n)
 ran_one old new n d p done low spins grows t tells =
     let g = grows t tells in
     record {
@@ -49,18 +49,8 @@ ran_one old new n d p done low spins grows t tells =
       holds = ((low, spins g.0 g.1), tt);
     }
 
-pub ran_then : (old mid new : Option Trail) (n : ℕ) → Ran old mid (AreReads n) → Ran mid new (AreReads n) → Ran old new (AreReads n)
-ran_then old mid new n first second t tells =
-    let later = second t tells in
-    let before = first later.from later.was in
-    let here : now later.from ≡ run (now before.from) before.calls = ap now before.is ∙ now-extend before.from before.calls in
-    record {
-      from = before.from;
-      was = before.was;
-      calls = before.calls ++ later.calls;
-      is = later.is ∙ ap (λ (r : Trail). extend r later.calls) before.is ∙ extend-extend before.from before.calls later.calls;
-      holds = AreReads-append n (now before.from) before.calls later.calls before.holds (subst (λ (s : Disks). AreReads n s later.calls) here later.holds);
-    }
+pub ran_then : (old mid new : Option Trail) (n : ℕ) → Ran old mid (AreArrayReads n) → Ran mid new (AreArrayReads n) → Ran old new (AreArrayReads n)
+ran_then old mid new n first second = Ran-then (AreArrayReads n) (AreArrayReads-append n) old mid new first second
 
 -- what is told now was told before
 pub told_before : (old new : Option Trail) (Q : Disks → List Call → Type 0) → Ran old new Q → IsSome new → IsSome old
@@ -82,7 +72,7 @@ left_same old new left = λ t. λ d. (left.others d (λ is. let z : None ≡ Som
 pub left_then : (lost : Option ℕ) (a b c : ℕ → Slot) → AreLeft None a b → AreLeft lost b c → AreLeft lost a c
 left_then lost a b c first second = subst (λ (s : ℕ → Slot). AreLeft lost s c) (left_same a b first) second
 
-pub left_touched : (old new : ℕ → Slot) (d : ℕ) (result : Result (Unit {0}) ℕ) (done : Bool) → Touched old new d (old d) (old d).unsynced done
+pub left_touched : (old new : ℕ → Slot) (d : ℕ) (result : Result (Unit {0}) ℕ) (done : Bool) → ChangesOneSlot old new d (old d) (old d).unsynced done
     → ((e : ℕ) → result ≡ Err e → (e ≡ d) × (done ≡ false)) → (result ≡ Ok tt → done ≡ true) → AreLeft (lost_by result) old new
 left_touched old new d (Ok tt) done touched failed ok = record {
   others = λ e not. elim (cases_eq e d) [
@@ -113,17 +103,17 @@ module _ {R : Type 0} {g : _} (count : R → ℕ) (slot : R → ℕ → Slot) (t
   read_none n s = record {
     slots = refl;
     same = record { disks = refl; epoch = refl; named = refl };
-    left = left_none (slot (rack_of s));
-    calls = ran_none (told (rack_of s)) n;
+    left = left_none (slot (store_rack s));
+    calls = ran_none (told (store_rack s)) n;
   }
 
   pub read_then : (n k : ℕ) (lost : Option ℕ) (a b c : Store R g) → k ≡ n → HaveRead count slot told n None a b → HaveRead count slot told k lost b c → HaveRead count slot told n lost a c
   read_then n k lost a b c is first second = record {
     slots = second.slots ∙ first.slots;
     same = record { disks = second.same.disks ∙ first.same.disks; epoch = second.same.epoch ∙ first.same.epoch; named = second.same.named ∙ first.same.named };
-    left = left_then lost (slot (rack_of a)) (slot (rack_of b)) (slot (rack_of c)) first.left second.left;
-    calls = ran_then (told (rack_of a)) (told (rack_of b)) (told (rack_of c)) n first.calls
-        (subst (λ (m : ℕ). Ran (told (rack_of b)) (told (rack_of c)) (AreReads m)) is second.calls);
+    left = left_then lost (slot (store_rack a)) (slot (store_rack b)) (slot (store_rack c)) first.left second.left;
+    calls = ran_then (told (store_rack a)) (told (store_rack b)) (told (store_rack c)) n first.calls
+        (subst (λ (m : ℕ). Ran (told (store_rack b)) (told (store_rack c)) (AreArrayReads m)) is second.calls);
   }
 
 -- what a `?` hands on
@@ -156,37 +146,37 @@ module _ (s : Disks) (e q : ℕ) where
       by true is there = place_by s (step (Read e q true) s) d p (same d is s.power (s.power e) ∙ ap s.power (sym is)) (same d is s.size (s.size e) ∙ ap s.size (sym is)) there
       by false is there = absurd (false≢true (sym (ap (λ (w : Power). is_present w && nat_lt p ((step (Read e q false) s).size d)) (same d is s.power Absent)) ∙ there))
 
-reads_show : (n : ℕ) (batch : Batch) (f : Contents) (s : Disks) (cs : List Call) → AreReads n s cs
-    → ((d p : ℕ) → has_place s d p ≡ true → 100 ≤ p → laid batch d p (s.block d p) ≡ f d p)
-    → (d p : ℕ) → has_place (run s cs) d p ≡ true → 100 ≤ p → laid batch d p ((run s cs).block d p) ≡ f d p
+reads_show : (n : ℕ) (batch : Batch) (f : Contents) (s : Disks) (cs : List Call) → AreArrayReads n s cs
+    → ((d p : ℕ) → has_place s d p ≡ true → 100 ≤ p → overlaid_block batch d p (s.block d p) ≡ f d p)
+    → (d p : ℕ) → has_place (run s cs) d p ≡ true → 100 ≤ p → overlaid_block batch d p ((run s cs).block d p) ≡ f d p
 reads_show n batch f s [] are shows = shows
 reads_show n batch f s (Read e q done ∷ cs) are shows =
     reads_show n batch f (step (Read e q done) s) cs are.1
-    (λ d p there far. ap (λ (b : ℕ → ℕ → Block). laid batch d p (b d p)) (read_block-same s e q done) ∙ shows d p (read_place s e q done d p there) far)
+    (λ d p there far. ap (λ (b : ℕ → ℕ → Block). overlaid_block batch d p (b d p)) (read_block-same s e q done) ∙ shows d p (read_place s e q done d p there) far)
 reads_show n batch f s (Write e q b done ∷ cs) are shows = absurd are.0
 reads_show n batch f s (Sync e done ∷ cs) are shows = absurd are.0
 reads_show n batch f s (Park e done ∷ cs) are shows = absurd are.0
 reads_show n batch f s (SpinUp e done ∷ cs) are shows = absurd are.0
 reads_show n batch f s (Attach e size done ∷ cs) are shows = absurd are.0
 
-pub shows_after : (n : ℕ) (old new : Option Trail) (batch : Batch) (f : Contents) → Ran old new (AreReads n) → Shows old batch f → Shows new batch f
+pub shows_after : (n : ℕ) (old new : Option Trail) (batch : Batch) (f : Contents) → Ran old new (AreArrayReads n) → ShowsContents old batch f → ShowsContents new batch f
 shows_after n old new batch f ran shows t tells =
     let r = ran t tells in
     let here : now t ≡ run (now r.from) r.calls = ap now r.is ∙ now-extend r.from r.calls in
-    subst (λ (s : Disks). (d p : ℕ) → has_place s d p ≡ true → 100 ≤ p → laid batch d p (s.block d p) ≡ f d p) (sym here)
+    subst (λ (s : Disks). (d p : ℕ) → has_place s d p ≡ true → 100 ≤ p → overlaid_block batch d p (s.block d p) ≡ f d p) (sym here)
     (reads_show n batch f (now r.from) r.calls r.holds (shows r.from r.was))
 
 -- one read
 module _ {R : Type 0} {g : _} (count : R → ℕ) (slot : R → ℕ → Slot) (told : R → Option Trail) (agrees : (rack : R) (t : Trail) → told rack ≡ Some t → Agrees (now t) (slot rack)) where
-  pub read_one : (n d p : ℕ) (result : Result (Unit {0}) ℕ) (done : Bool) (a b : Store R g) → d < n → count (rack_of b) ≡ count (rack_of a) → IsSameStore a b
-      → Touched (slot (rack_of a)) (slot (rack_of b)) d (slot (rack_of a) d) (slot (rack_of a) d).unsynced done
-      → Grows (told (rack_of a)) (told (rack_of b)) (Read d p done) → (slot (rack_of a) d).power ≡ Spinning
+  pub read_one : (n d p : ℕ) (result : Result (Unit {0}) ℕ) (done : Bool) (a b : Store R g) → d < n → count (store_rack b) ≡ count (store_rack a) → IsSameStore a b
+      → ChangesOneSlot (slot (store_rack a)) (slot (store_rack b)) d (slot (store_rack a) d) (slot (store_rack a) d).unsynced done
+      → GrowsByCall (told (store_rack a)) (told (store_rack b)) (Read d p done) → (slot (store_rack a) d).power ≡ Spinning
       → ((e : ℕ) → result ≡ Err e → (e ≡ d) × (done ≡ false)) → (result ≡ Ok tt → done ≡ true) → HaveRead count slot told n (lost_by result) a b
   read_one n d p result done a b low slots same touched grows spins failed ok = record {
     slots = slots;
     same = same;
-    left = left_touched (slot (rack_of a)) (slot (rack_of b)) d result done touched failed ok;
-    calls = ran_one (told (rack_of a)) (told (rack_of b)) n d p done low (λ t tells. (agrees (rack_of a) t tells).power d ∙ spins) grows;
+    left = left_touched (slot (store_rack a)) (slot (store_rack b)) d result done touched failed ok;
+    calls = ran_one (told (store_rack a)) (told (store_rack b)) n d p done low (λ t tells. (agrees (store_rack a) t tells).power d ∙ spins) grows;
   }
 
 -- a place of a disk that spins is there
@@ -200,6 +190,6 @@ there s slot d p agrees spins within =
 -- What is read is what is shown.
 pub value_laid : (batch : Batch) (f : Contents) (old new : Option Trail) (Q : Disks → List Call → Type 0) (slot : ℕ → Slot) (d p : ℕ) (b : Block)
     → ((t : Trail) → old ≡ Some t → Agrees (now t) slot) → (slot d).power ≡ Spinning → p < (slot d).size → 100 ≤ p → Ran old new Q
-    → Shows old batch f → IsSome new → ((t : Trail) → old ≡ Some t → b ≡ laid batch d p ((now t).block d p)) → b ≡ f d p
+    → ShowsContents old batch f → IsSome new → ((t : Trail) → old ≡ Some t → b ≡ overlaid_block batch d p ((now t).block d p)) → b ≡ f d p
 value_laid batch f (Some t) new Q slot d p b agrees spins within far ran shows some is = is t refl ∙ shows t refl d p (there (now t) slot d p (agrees t refl) spins within) far
 value_laid batch f None new Q slot d p b agrees spins within far ran shows some is = let z : IsSome {T = Trail} None = told_before None new Q ran some in absurd (false≢true z)

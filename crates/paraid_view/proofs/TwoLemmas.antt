@@ -9,10 +9,10 @@ use Rattle.paraid_rack.specs.Slots.{Slot}
 use Rattle.paraid_rack.specs.Told.{Ran}
 use Rattle.paraid_rack.specs.Trail.{Trail}
 use Rattle.paraid_txn.specs.declared.store.Store.{Store}
-use Rattle.paraid_txn.specs.Losses.{AreDry, IsSpared}
-use Rattle.paraid_txn.specs.Stores.{rack_of}
-use Rattle.paraid_image.proofs.StepLemmas.{decide_some}
-use Rattle.paraid_view.specs.Reads.{AreLeft, AreReads, HaveLostTwo, HaveRead}
+use Rattle.paraid_txn.specs.Losses.{StaySynced, OnlyLosesSlots}
+use Rattle.paraid_txn.specs.Stores.{store_rack}
+use Rattle.paraid_image.proofs.CallLemmas.{decide_some}
+use Rattle.paraid_view.specs.Reads.{AreLeft, AreArrayReads, HaveLostTwo, HaveRead}
 use Rattle.paraid_view.proofs.ReadLemmas.{left_same, ran_then}
 
 abbrev pub two_of : ℕ → ℕ → Two
@@ -25,7 +25,7 @@ left_there lost a b d left here = elim (decide_some lost d) [
   | inl is ↦ absurd (false≢true (sym (ap is_present (left.failed d is).absent) ∙ here))
 ]
 
-pub left_spared : (lost : Option ℕ) (a b : ℕ → Slot) → AreLeft lost a b → IsSpared a b
+pub left_spared : (lost : Option ℕ) (a b : ℕ → Slot) → AreLeft lost a b → OnlyLosesSlots a b
 left_spared lost a b left = record {
   power = λ d here. ap (λ (s : Slot). s.power) (left_there lost a b d left here);
   size = λ d here. ap (λ (s : Slot). s.size) (left_there lost a b d left here);
@@ -35,20 +35,20 @@ left_spared lost a b left = record {
   ];
 }
 
-pub spared_then : (a b c : ℕ → Slot) → IsSpared a b → IsSpared b c → IsSpared a c
+pub spared_then : (a b c : ℕ → Slot) → OnlyLosesSlots a b → OnlyLosesSlots b c → OnlyLosesSlots a c
 spared_then a b c first second = record {
   power = λ d here. second.power d here ∙ first.power d (ap is_present (sym (second.power d here)) ∙ here);
   size = λ d here. second.size d here ∙ first.size d (ap is_present (sym (second.power d here)) ∙ here);
   no_fall = λ d. let p = first.no_fall d in let q = second.no_fall d in omega arith;
 }
 
-pub left_dry : (lost : Option ℕ) (a b : ℕ → Slot) → AreLeft lost a b → AreDry a b
-left_dry lost a b left = λ d here loose. inl (ap (λ (s : Slot). s.unsynced) (sym (left_there lost a b d left here)) ∙ loose)
+pub left_synced : (lost : Option ℕ) (a b : ℕ → Slot) → AreLeft lost a b → StaySynced a b
+left_synced lost a b left = λ d here loose. inl (ap (λ (s : Slot). s.unsynced) (sym (left_there lost a b d left here)) ∙ loose)
 
-pub dry_then : (lost : Option ℕ) (a b c : ℕ → Slot) → AreDry a b → AreLeft lost b c → AreDry a c
-dry_then lost a b c dry left = λ d here loose.
+pub synced_then : (lost : Option ℕ) (a b c : ℕ → Slot) → StaySynced a b → AreLeft lost b c → StaySynced a c
+synced_then lost a b c synced left = λ d here loose.
     let same = left_there lost b c d left here in
-    dry d (ap (λ (s : Slot). is_present s.power) (sym same) ∙ here) (ap (λ (s : Slot). s.unsynced) (sym same) ∙ loose)
+    synced d (ap (λ (s : Slot). is_present s.power) (sym same) ∙ here) (ap (λ (s : Slot). s.unsynced) (sym same) ∙ loose)
 
 module _ {R : Type 0} {g : _} (count : R → ℕ) (slot : R → ℕ → Slot) (told : R → Option Trail) where
   -- a disk was out, and another fails
@@ -58,8 +58,8 @@ module _ {R : Type 0} {g : _} (count : R → ℕ) (slot : R → ℕ → Slot) (t
     slots = read.slots;
     same = read.same;
     down = record { first = inl is; apart = apart; second = (read.left.failed e refl).risen };
-    spared = left_spared (Some e) (slot (rack_of a)) (slot (rack_of b)) read.left;
-    dry = left_dry (Some e) (slot (rack_of a)) (slot (rack_of b)) read.left;
+    spared = left_spared (Some e) (slot (store_rack a)) (slot (store_rack b)) read.left;
+    synced = left_synced (Some e) (slot (store_rack a)) (slot (store_rack b)) read.left;
     calls = read.calls;
   }
 
@@ -70,13 +70,13 @@ module _ {R : Type 0} {g : _} (count : R → ℕ) (slot : R → ℕ → Slot) (t
     slots = two.slots ∙ one.slots;
     same = record { disks = two.same.disks ∙ one.same.disks; epoch = two.same.epoch ∙ one.same.epoch; named = two.same.named ∙ one.same.named };
     down = record {
-      first = inr (subst (λ (s : Slot). HasRisen (slot (rack_of a) first).faults s.faults) (sym (two.left.others first (λ z. let y : Some e ≡ Some first = z in let x : first ≡ e = cc in apart x))) (one.left.failed first refl).risen);
+      first = inr (subst (λ (s : Slot). HasRisen (slot (store_rack a) first).faults s.faults) (sym (two.left.others first (λ z. let y : Some e ≡ Some first = z in let x : first ≡ e = cc in apart x))) (one.left.failed first refl).risen);
       apart = apart;
-      second = subst (λ (s : Slot). HasRisen s.faults (slot (rack_of c) e).faults) (one.left.others e (λ z. let y : Some first ≡ Some e = z in let x : first ≡ e = cc in apart x)) (two.left.failed e refl).risen;
+      second = subst (λ (s : Slot). HasRisen s.faults (slot (store_rack c) e).faults) (one.left.others e (λ z. let y : Some first ≡ Some e = z in let x : first ≡ e = cc in apart x)) (two.left.failed e refl).risen;
     };
-    spared = spared_then (slot (rack_of a)) (slot (rack_of b)) (slot (rack_of c)) (left_spared (Some first) (slot (rack_of a)) (slot (rack_of b)) one.left) (left_spared (Some e) (slot (rack_of b)) (slot (rack_of c)) two.left);
-    dry = dry_then (Some e) (slot (rack_of a)) (slot (rack_of b)) (slot (rack_of c)) (left_dry (Some first) (slot (rack_of a)) (slot (rack_of b)) one.left) two.left;
-    calls = ran_then (told (rack_of a)) (told (rack_of b)) (told (rack_of c)) n one.calls (subst (λ (m : ℕ). Ran (told (rack_of b)) (told (rack_of c)) (AreReads m)) is two.calls);
+    spared = spared_then (slot (store_rack a)) (slot (store_rack b)) (slot (store_rack c)) (left_spared (Some first) (slot (store_rack a)) (slot (store_rack b)) one.left) (left_spared (Some e) (slot (store_rack b)) (slot (store_rack c)) two.left);
+    synced = synced_then (Some e) (slot (store_rack a)) (slot (store_rack b)) (slot (store_rack c)) (left_synced (Some first) (slot (store_rack a)) (slot (store_rack b)) one.left) two.left;
+    calls = ran_then (told (store_rack a)) (told (store_rack b)) (told (store_rack c)) n one.calls (subst (λ (m : ℕ). Ran (told (store_rack b)) (told (store_rack c)) (AreArrayReads m)) is two.calls);
   }
 
   -- one fails, and the rest is read without it
@@ -84,6 +84,6 @@ module _ {R : Type 0} {g : _} (count : R → ℕ) (slot : R → ℕ → Slot) (t
   read_beside n k e a b c is one two = record {
     slots = two.slots ∙ one.slots;
     same = record { disks = two.same.disks ∙ one.same.disks; epoch = two.same.epoch ∙ one.same.epoch; named = two.same.named ∙ one.same.named };
-    left = subst (AreLeft (Some e) (slot (rack_of a))) (sym (left_same (slot (rack_of b)) (slot (rack_of c)) two.left)) one.left;
-    calls = ran_then (told (rack_of a)) (told (rack_of b)) (told (rack_of c)) n one.calls (subst (λ (m : ℕ). Ran (told (rack_of b)) (told (rack_of c)) (AreReads m)) is two.calls);
+    left = subst (AreLeft (Some e) (slot (store_rack a))) (sym (left_same (slot (store_rack b)) (slot (store_rack c)) two.left)) one.left;
+    calls = ran_then (told (store_rack a)) (told (store_rack b)) (told (store_rack c)) n one.calls (subst (λ (m : ℕ). Ran (told (store_rack b)) (told (store_rack c)) (AreArrayReads m)) is two.calls);
   }

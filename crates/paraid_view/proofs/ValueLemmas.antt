@@ -1,10 +1,12 @@
 -- Where a value lives, case by case.
 use Rattle.std.specs.Prelude.{◌≡◌, ◌≢◌, ℕ, ◌<◌, ◌⊎◌, nat_lt, true, false, Option, Some, None, Result, Ok, Err, OnOk, IfErr}
-use Rattle.std.proofs.Common.{refl, sym, ap, arith, inl, inr}
-use Rattle.std.proofs.lemmas.Bool.{cases_Bool}
+use Rattle.std.proofs.Common.{refl, sym, ◌∙◌, ap, arith, inl, inr}
+use Rattle.std.proofs.lemmas.Bool.{cases_Bool, cases_eq}
 use Rattle.std.proofs.lemmas.Bool.Decides.{nat_tests}
 use Rattle.paraid_base.specs.Regions.{hard_place_of, soft_place_of}
 use Rattle.paraid_base.specs.Soft.{soft_disk, soft_stripe}
+use Rattle.paraid_base.specs.Sums.{without, xor_upto}
+use Rattle.paraid_base.proofs.SumsLemmas.{without_other, without_same, xor_upto_same}
 use Rattle.paraid_image.specs.Out.{is_out}
 use Rattle.paraid_image.specs.Spot.{View, is_hard, rising_to}
 use Rattle.paraid_image.specs.Value.{far, near, soft_value, stripe_rest, value}
@@ -35,6 +37,14 @@ near_soft v r d h = rw h refl
 pub value_far : (v : View) (r d : ℕ) → is_hard v r d ≡ true → v.out ≡ Some d → value v r d ≡ far v r d
 unfolding value
 value_far v r d h out = rw (h, is_out_here v.out d out) refl
+
+-- the others of a cell, which is left out twice
+pub far_is : (v : View) (r d : ℕ) → xor_upto (without (without (near v r) d) d) v.meta.setup.geometry.disks ≡ far v r d
+unfolding far
+far_is v r d = xor_upto_same (without (without (near v r) d) d) (without (near v r) d) v.meta.setup.geometry.disks (λ e l. elim (cases_eq e d) [
+  | inl is ↦ rw is (without_same (without (near v r) d) d ∙ sym (without_same (near v r) d))
+  | inr apart ↦ without_other (without (near v r) d) d e apart
+])
 
 pub value_near : (v : View) (r d : ℕ) → (is_hard v r d ≡ true → v.out ≢ Some d) → value v r d ≡ near v r d
 unfolding value

@@ -12,11 +12,11 @@ use Rattle.paraid_rack.specs.Trail.{Trail, now}
 use Rattle.paraid_record.specs.declared.meta.Meta.{Meta}
 use Rattle.paraid_txn.specs.declared.store.Store.{Store}
 use Rattle.paraid_base.specs.declared.fault.Two.{Two}
-use Rattle.paraid_txn.specs.Losses.{AreDry, IsLostNow, IsSpared, IsTwo}
+use Rattle.paraid_txn.specs.Losses.{StaySynced, IsLostNow, OnlyLosesSlots, AreTwoDown}
 use Rattle.paraid_image.specs.Sides.{Batch, has_place}
 use Rattle.paraid_image.specs.Spot.{View, rising_to}
-use Rattle.paraid_image.specs.Standing.{Contents, laid}
-use Rattle.paraid_txn.specs.Stores.{IsSameStore, rack_of}
+use Rattle.paraid_image.specs.Standing.{Contents, overlaid_block}
+use Rattle.paraid_txn.specs.Stores.{IsSameStore, store_rack}
 
 -- Each disk that is powered by this meta spins and is large enough, but for the one that is out.
 pub record CanRead (count : ℕ) (slot : ℕ → Slot) (m : Meta) (out : Option ℕ) : Type 0 where
@@ -32,18 +32,18 @@ pub record AreLeft (lost : Option ℕ) (old new : ℕ → Slot) : Type 0 where
   pub later : (d : ℕ) → lost ≡ Some d → (old d).faults ≤ (new d).faults
 
 -- the call reads a disk of the array that spins
-abbrev pub IsRead : ℕ → Disks → Call → Type 0
-IsRead n s (Read d p done) = (d < n) × (s.power d ≡ Spinning)
-IsRead n s (Write d p b done) = ⊥
-IsRead n s (Sync d done) = ⊥
-IsRead n s (Park d done) = ⊥
-IsRead n s (SpinUp d done) = ⊥
-IsRead n s (Attach d size done) = ⊥
+abbrev pub IsArrayRead : ℕ → Disks → Call → Type 0
+IsArrayRead n s (Read d p done) = (d < n) × (s.power d ≡ Spinning)
+IsArrayRead n s (Write d p b done) = ⊥
+IsArrayRead n s (Sync d done) = ⊥
+IsArrayRead n s (Park d done) = ⊥
+IsArrayRead n s (SpinUp d done) = ⊥
+IsArrayRead n s (Attach d size done) = ⊥
 
 -- each of these calls does
-abbrev pub AreReads : ℕ → Disks → List Call → Type 0
-AreReads n s [] = Unit {0}
-AreReads n s (c ∷ cs) = IsRead n s c × AreReads n (step c s) cs
+abbrev pub AreArrayReads : ℕ → Disks → List Call → Type 0
+AreArrayReads n s [] = Unit {0}
+AreArrayReads n s (c ∷ cs) = IsArrayRead n s c × AreArrayReads n (step c s) cs
 
 -- the disk that failed, if one did
 abbrev pub lost_by : Result (Unit {0}) ℕ → Option ℕ
@@ -52,15 +52,15 @@ lost_by (Err disk) = Some disk
 
 -- Some reads were made, in which this disk, or none, has failed.
 pub record HaveRead {R : Type 0} {g : _} (count : R → ℕ) (slot : R → ℕ → Slot) (told : R → Option Trail) (n : ℕ) (lost : Option ℕ) (old new : Store R g) : Type 0 where
-  pub slots : count (rack_of new) ≡ count (rack_of old)
+  pub slots : count (store_rack new) ≡ count (store_rack old)
   pub same : IsSameStore old new
-  pub left : AreLeft lost (slot (rack_of old)) (slot (rack_of new))
-  pub calls : Ran (told (rack_of old)) (told (rack_of new)) (AreReads n)
+  pub left : AreLeft lost (slot (store_rack old)) (slot (store_rack new))
+  pub calls : Ran (told (store_rack old)) (told (store_rack new)) (AreArrayReads n)
 
 -- with the batch laid over, the disks hold these blocks past the log
-abbrev pub Shows : Option Trail → Batch → Contents → Type 0
-Shows told batch f = (t : Trail) → told ≡ Some t → (d p : ℕ) → has_place (now t) d p ≡ true → 100 ≤ p
-    → laid batch d p ((now t).block d p) ≡ f d p
+abbrev pub ShowsContents : Option Trail → Batch → Contents → Type 0
+ShowsContents told batch f = (t : Trail) → told ≡ Some t → (d p : ℕ) → has_place (now t) d p ≡ true → 100 ≤ p
+    → overlaid_block batch d p ((now t).block d p) ≡ f d p
 
 -- what is seen of these blocks
 abbrev pub seen_by : Meta → List (List Bool) → Option ℕ → Contents → View
@@ -68,9 +68,9 @@ seen_by m table out f = record { meta = m; dirty = is_dirty table; out = out; bl
 
 -- Reads in which two disks were found down: the first was out, or has failed in the reads before.
 pub record HaveLostTwo {R : Type 0} {g : _} (count : R → ℕ) (slot : R → ℕ → Slot) (told : R → Option Trail) (n : ℕ) (out : Option ℕ) (two : Two) (old new : Store R g) : Type 0 where
-  pub slots : count (rack_of new) ≡ count (rack_of old)
+  pub slots : count (store_rack new) ≡ count (store_rack old)
   pub same : IsSameStore old new
-  pub down : IsTwo out (slot (rack_of old)) (slot (rack_of new)) two
-  pub spared : IsSpared (slot (rack_of old)) (slot (rack_of new))
-  pub dry : AreDry (slot (rack_of old)) (slot (rack_of new))
-  pub calls : Ran (told (rack_of old)) (told (rack_of new)) (AreReads n)
+  pub down : AreTwoDown out (slot (store_rack old)) (slot (store_rack new)) two
+  pub spared : OnlyLosesSlots (slot (store_rack old)) (slot (store_rack new))
+  pub synced : StaySynced (slot (store_rack old)) (slot (store_rack new))
+  pub calls : Ran (told (store_rack old)) (told (store_rack new)) (AreArrayReads n)

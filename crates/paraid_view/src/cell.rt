@@ -6,9 +6,9 @@ ghost use Rattle.paraid_image.specs.Out.{first_absent, named_out as named_of, or
 ghost use Rattle.paraid_image.specs.Spot.{is_hard as hard_in};
 ghost use Rattle.paraid_image.specs.Sound.{AreRowsZero, AreStripesZero};
 ghost use Rattle.paraid_image.specs.Standing.{Contents};
-ghost use Rattle.paraid_txn.specs.Stores.{disks_of, rack_of};
-ghost use Rattle.paraid_image.specs.Value.{far, near as near_of, soft_value, value as value_of};
-ghost use Rattle.paraid_view.specs.Reads.{CanRead, HaveLostTwo, HaveRead, Shows, lost_by, seen_by};
+ghost use Rattle.paraid_txn.specs.Stores.{disks_of, store_rack};
+ghost use Rattle.paraid_image.specs.Value.{near as near_of, soft_value, value as value_of};
+ghost use Rattle.paraid_view.specs.Reads.{CanRead, HaveLostTwo, HaveRead, ShowsContents, lost_by, seen_by};
 
 use crate::draft::Draft;
 use crate::laid::{read_laid, read_rest};
@@ -44,14 +44,14 @@ fn read_soft<R: Rack>(
     requires disk { d < meta.now.setup.geometry.disks }
     requires parked { meta.now.gear ≤ d }
     requires array { meta.now.setup.geometry.disks ≡ disks_of store.old }
-    requires ready { CanRead (R.slot_count (rack_of store.old)) (R.slot (rack_of store.old))
+    requires ready { CanRead (R.slot_count (store_rack store.old)) (R.slot (store_rack store.old))
         meta.now out }
     ensures read { HaveRead R.slot_count R.slot R.told (disks_of store.old) (lost_by result)
         store.old store.new }
     ensures below { IfErr result (λ e. e < disks_of store.old) }
     ensures failed { IfErr result (λ e. out ≢ Some e) }
-    ensures value { OnOk result ((f : Contents) (table : _) → Shows (R.told (rack_of store.old)) (batch.now ++ draft.now) f
-        → IsSome (R.told (rack_of store.new))
+    ensures value { OnOk result ((f : Contents) (table : _) → ShowsContents (R.told (store_rack store.old)) (batch.now ++ draft.now) f
+        → IsSome (R.told (store_rack store.new))
         → into.new ≡ soft_value (seen_by meta.now table out f) r d) }
 {
     let g = &meta.setup.geometry;
@@ -88,14 +88,14 @@ fn read_near<R: Rack>(
     requires near { (f : Contents) → hard_in (seen_by meta.now dirty.now out f) r d ≡ true
         → out ≢ Some d }
     requires array { meta.now.setup.geometry.disks ≡ disks_of store.old }
-    requires ready { CanRead (R.slot_count (rack_of store.old)) (R.slot (rack_of store.old))
+    requires ready { CanRead (R.slot_count (store_rack store.old)) (R.slot (store_rack store.old))
         meta.now out }
     ensures read { HaveRead R.slot_count R.slot R.told (disks_of store.old) (lost_by result)
         store.old store.new }
     ensures below { IfErr result (λ e. e < disks_of store.old) }
     ensures failed { IfErr result (λ e. out ≢ Some e) }
-    ensures value { OnOk result ((f : Contents) → Shows (R.told (rack_of store.old)) (batch.now ++ draft.now) f
-        → IsSome (R.told (rack_of store.new))
+    ensures value { OnOk result ((f : Contents) → ShowsContents (R.told (store_rack store.old)) (batch.now ++ draft.now) f
+        → IsSome (R.told (store_rack store.new))
         → into.new ≡ near_of (seen_by meta.now dirty.now out f) r d) }
 {
     if is_hard(meta, dirty, r, d) {
@@ -111,7 +111,8 @@ fn read_near<R: Rack>(
     read_soft(store, batch, draft, meta, out, r, d, into)
 }
 
-// Adds the value of one cell of a row to a sum, unless it is on the disk that is out.
+// Adds the value of one cell of a row to a sum, unless it is on the disk that is out or on the one that
+// is skipped.
 fn add_near<R: Rack>(
     store: &mut Store<R>,
     batch: &Batch,
@@ -119,6 +120,7 @@ fn add_near<R: Rack>(
     meta: &Meta,
     dirty: &DirtyTable,
     out: DiskNo,
+    skipped: DiskNo,
     r: Row,
     d: DiskNo,
     sum: &mut Block,
@@ -128,18 +130,18 @@ fn add_near<R: Rack>(
     requires disk { d < meta.now.setup.geometry.disks }
     requires rows { length dirty.now ≡ meta.now.setup.geometry.rows }
     requires array { meta.now.setup.geometry.disks ≡ disks_of store.old }
-    requires ready { CanRead (R.slot_count (rack_of store.old)) (R.slot (rack_of store.old))
+    requires ready { CanRead (R.slot_count (store_rack store.old)) (R.slot (store_rack store.old))
         meta.now (Some out) }
     ensures read { HaveRead R.slot_count R.slot R.told (disks_of store.old) (lost_by result)
         store.old store.new }
     ensures below { IfErr result (λ e. e < disks_of store.old) }
     ensures failed { IfErr result (λ e. out ≢ e) }
-    ensures value { OnOk result ((f : Contents) → Shows (R.told (rack_of store.old)) (batch.now ++ draft.now) f
-        → IsSome (R.told (rack_of store.new))
-        → sum.old ≡ xor_upto (without (near_of (seen_by meta.now dirty.now (Some out) f) r) out) d
-        → sum.new ≡ xor_upto (without (near_of (seen_by meta.now dirty.now (Some out) f) r) out) (d + 1)) }
+    ensures value { OnOk result ((f : Contents) → ShowsContents (R.told (store_rack store.old)) (batch.now ++ draft.now) f
+        → IsSome (R.told (store_rack store.new))
+        → sum.old ≡ xor_upto (without (without (near_of (seen_by meta.now dirty.now (Some out) f) r) out) skipped) d
+        → sum.new ≡ xor_upto (without (without (near_of (seen_by meta.now dirty.now (Some out) f) r) out) skipped) (d + 1)) }
 {
-    if d == out {
+    if d == out || d == skipped {
         return Ok(());
     }
     let mut block = Block::zero();
@@ -158,14 +160,16 @@ fn add_near<R: Rack>(
     Ok(())
 }
 
-// The XOR of the values of the row's other cells.
-fn read_far<R: Rack>(
+/// The XOR of the values of a row's cells but for that on the disk that is out and that on one other.
+/// They may be one disk.
+pub fn read_others<R: Rack>(
     store: &mut Store<R>,
     batch: &Batch,
     draft: &Draft,
     meta: &Meta,
     dirty: &DirtyTable,
     out: DiskNo,
+    skipped: DiskNo,
     r: Row,
     into: &mut Block,
 ) -> Result<(), DiskNo>
@@ -173,19 +177,19 @@ fn read_far<R: Rack>(
     requires row { r < meta.now.setup.geometry.rows }
     requires rows { length dirty.now ≡ meta.now.setup.geometry.rows }
     requires array { meta.now.setup.geometry.disks ≡ disks_of store.old }
-    requires ready { CanRead (R.slot_count (rack_of store.old)) (R.slot (rack_of store.old))
+    requires ready { CanRead (R.slot_count (store_rack store.old)) (R.slot (store_rack store.old))
         meta.now (Some out) }
     ensures read { HaveRead R.slot_count R.slot R.told (disks_of store.old) (lost_by result)
         store.old store.new }
     ensures below { IfErr result (λ e. e < disks_of store.old) }
     ensures failed { IfErr result (λ e. out ≢ e) }
-    ensures value { OnOk result ((f : Contents) → Shows (R.told (rack_of store.old)) (batch.now ++ draft.now) f
-        → IsSome (R.told (rack_of store.new))
-        → into.new ≡ far (seen_by meta.now dirty.now (Some out) f) r out) }
+    ensures value { OnOk result ((f : Contents) → ShowsContents (R.told (store_rack store.old)) (batch.now ++ draft.now) f
+        → IsSome (R.told (store_rack store.new))
+        → into.new ≡ xor_upto (without (without (near_of (seen_by meta.now dirty.now (Some out) f) r) out) skipped) meta.now.setup.geometry.disks) }
 {
     *into = Block::zero();
     for d in 0..meta.setup.geometry.disks {
-        add_near(store, batch, draft, meta, dirty, out, r, d, into)?;
+        add_near(store, batch, draft, meta, dirty, out, skipped, r, d, into)?;
     }
     Ok(())
 }
@@ -208,54 +212,30 @@ pub fn read_value<R: Rack>(
     requires disk { d < meta.now.setup.geometry.disks }
     requires rows { length dirty.now ≡ meta.now.setup.geometry.rows }
     requires array { meta.now.setup.geometry.disks ≡ disks_of store.old }
-    requires ready { CanRead (R.slot_count (rack_of store.old)) (R.slot (rack_of store.old))
+    requires ready { CanRead (R.slot_count (store_rack store.old)) (R.slot (store_rack store.old))
         meta.now out }
     ensures read { HaveRead R.slot_count R.slot R.told (disks_of store.old) (lost_by result)
         store.old store.new }
     ensures below { IfErr result (λ e. e < disks_of store.old) }
     ensures failed { IfErr result (λ e. out ≢ Some e) }
-    ensures value { OnOk result ((f : Contents) → Shows (R.told (rack_of store.old)) (batch.now ++ draft.now) f
-        → IsSome (R.told (rack_of store.new))
+    ensures value { OnOk result ((f : Contents) → ShowsContents (R.told (store_rack store.old)) (batch.now ++ draft.now) f
+        → IsSome (R.told (store_rack store.new))
         → into.new ≡ value_of (seen_by meta.now dirty.now out f) r d) }
 {
     if is_at(out, d) && is_hard(meta, dirty, r, d) {
-        return read_far(store, batch, draft, meta, dirty, d, r, into);
+        return read_others(store, batch, draft, meta, dirty, d, d, r, into);
     }
     read_near(store, batch, draft, meta, dirty, out, r, d, into)
 }
 
-// The disk that a meta names out.
-fn named_out(out: Out) -> Option<DiskNo>
-    ensures { result ≡ named_of out }
-{
-    match out {
-        Out::No => None,
-        Out::Gone { disk } => Some(disk),
-        Out::Fresh { disk, .. } => Some(disk),
-    }
-}
-
-// The least absent slot of the first ones.
-fn find_absent<R: Rack>(store: &Store<R>, disks: u8) -> Option<DiskNo>
-    requires { disks ≤ R.slot_count (rack_of store.now) }
-    ensures { result ≡ first_absent (λ d. (R.slot (rack_of store.now) d).power) disks }
-{
-    for disk in 0..disks {
-        if store.power(disk) == Power::Absent {
-            return Some(disk);
-        }
-    }
-    None
-}
-
 /// The disk that is out: the one that this meta names, or else the least absent one.
 pub fn out_of<R: Rack>(store: &Store<R>, meta: &Meta) -> Option<DiskNo>
-    requires { meta.now.setup.geometry.disks ≤ R.slot_count (rack_of store.now) }
-    ensures { result ≡ out_disk (λ d. (R.slot (rack_of store.now) d).power) meta.now }
+    requires { meta.now.setup.geometry.disks ≤ R.slot_count (store_rack store.now) }
+    ensures { result ≡ out_disk (λ d. (R.slot (store_rack store.now) d).power) meta.now }
 {
-    match named_out(meta.out) {
+    match meta.out.named() {
         Some(disk) => Some(disk),
-        None => find_absent(store, meta.setup.geometry.disks),
+        None => store.first_absent(meta.setup.geometry.disks),
     }
 }
 
@@ -277,20 +257,20 @@ pub fn read_cell<R: Rack>(
     requires disk { d < meta.now.setup.geometry.disks }
     requires rows { length dirty.now ≡ meta.now.setup.geometry.rows }
     requires array { meta.now.setup.geometry.disks ≡ disks_of store.old }
-    requires ready { CanRead (R.slot_count (rack_of store.old)) (R.slot (rack_of store.old))
-        meta.now (out_disk (λ e. (R.slot (rack_of store.old) e).power) meta.now) }
+    requires ready { CanRead (R.slot_count (store_rack store.old)) (R.slot (store_rack store.old))
+        meta.now (out_disk (λ e. (R.slot (store_rack store.old) e).power) meta.now) }
     ensures read { IfOk result (λ lost. HaveRead R.slot_count R.slot R.told (disks_of store.old)
         lost store.old store.new) }
     ensures below { IfOk result (λ lost. (e : ℕ) → lost ≡ Some e → e < disks_of store.old) }
     ensures one { IfOk result (λ lost. (e : ℕ) → lost ≡ Some e
-        → out_disk (λ x. (R.slot (rack_of store.old) x).power) meta.now ≡ None) }
-    ensures value { OnOk result ((f : Contents) → Shows (R.told (rack_of store.old)) (batch.now ++ draft.now) f
-        → IsSome (R.told (rack_of store.new))
-        → AreRowsZero (seen_by meta.now dirty.now (out_disk (λ e. (R.slot (rack_of store.old) e).power) meta.now) f)
-        → AreStripesZero (seen_by meta.now dirty.now (out_disk (λ e. (R.slot (rack_of store.old) e).power) meta.now) f)
-        → into.new ≡ value_of (seen_by meta.now dirty.now (out_disk (λ e. (R.slot (rack_of store.old) e).power) meta.now) f) r d) }
+        → out_disk (λ x. (R.slot (store_rack store.old) x).power) meta.now ≡ None) }
+    ensures value { OnOk result ((f : Contents) → ShowsContents (R.told (store_rack store.old)) (batch.now ++ draft.now) f
+        → IsSome (R.told (store_rack store.new))
+        → AreRowsZero (seen_by meta.now dirty.now (out_disk (λ e. (R.slot (store_rack store.old) e).power) meta.now) f)
+        → AreStripesZero (seen_by meta.now dirty.now (out_disk (λ e. (R.slot (store_rack store.old) e).power) meta.now) f)
+        → into.new ≡ value_of (seen_by meta.now dirty.now (out_disk (λ e. (R.slot (store_rack store.old) e).power) meta.now) f) r d) }
     ensures two { IfErr result (λ two. HaveLostTwo R.slot_count R.slot R.told (disks_of store.old)
-        (out_disk (λ e. (R.slot (rack_of store.old) e).power) meta.now) two store.old store.new) }
+        (out_disk (λ e. (R.slot (store_rack store.old) e).power) meta.now) two store.old store.new) }
 {
     let out = out_of(store, meta);
     let Err(lost) = read_value(store, batch, draft, meta, dirty, out, r, d, into) else {

@@ -2,11 +2,11 @@
 //! completed.
 ghost use Rattle.std.specs.Prelude.{◌≡◌, ◌≢◌, ℕ, ◌+◌, ◌<◌, ◌≤◌, ◌∷◌, ◌++◌, [], length, get_or, IfOk, MatchOption};
 ghost use Rattle.paraid_base.specs.declared.block.Block.{Block as BlockType};
-ghost use Rattle.paraid_base.specs.Xor.{zeroed};
+ghost use Rattle.paraid_base.specs.Xor.{zero_block};
 ghost use Rattle.paraid_image.specs.Sides.{targets};
-ghost use Rattle.paraid_image.specs.Standing.{laid};
+ghost use Rattle.paraid_image.specs.Standing.{overlaid_block};
 ghost use Rattle.paraid_record.specs.Targets.{no_target};
-ghost use Rattle.paraid_txn.specs.Staging.{blocks};
+ghost use Rattle.paraid_txn.specs.Batches.{batch_blocks};
 
 use paraid_base::{Block, DiskNo, NoMemory, Place};
 use paraid_record::Target;
@@ -75,8 +75,8 @@ impl Draft {
 
     /// The last block for this target: what is read there with the draft laid over.
     pub fn get(&self, disk: DiskNo, place: Place) -> Option<&Block>
-        ensures { MatchOption result ((any : BlockType) → laid self.now disk place any ≡ any)
-            (λ block. (any : BlockType) → laid self.now disk place any ≡ block.now) }
+        ensures { MatchOption result ((any : BlockType) → overlaid_block self.now disk place any ≡ any)
+            (λ block. (any : BlockType) → overlaid_block self.now disk place any ≡ block.now) }
     {
         let Some(at) = self.find(Target { disk, place }) else {
             return None;
@@ -113,7 +113,7 @@ impl Draft {
     /// The block of the target that stands there in the order.
     pub fn block(&self, at: usize) -> &Block
         requires { at < length self.now }
-        ensures { result.now ≡ get_or (blocks self.now) at zeroed }
+        ensures { result.now ≡ get_or (batch_blocks self.now) at zero_block }
     {
         &self.drafted[at].block
     }

@@ -6,10 +6,10 @@ ghost use Rattle.paraid_base.specs.Sums.{without, xor_upto};
 ghost use Rattle.paraid_rack.specs.declared.call.Power.TheVariants.{Spinning};
 ghost use Rattle.paraid_record.specs.Range.{IsInRange};
 ghost use Rattle.paraid_base.specs.declared.block.Block.{Block as BlockType};
-ghost use Rattle.paraid_image.specs.Standing.{Contents, laid};
-ghost use Rattle.paraid_txn.specs.Stores.{disks_of, rack_of};
+ghost use Rattle.paraid_image.specs.Standing.{Contents, overlaid_block};
+ghost use Rattle.paraid_txn.specs.Stores.{disks_of, store_rack};
 ghost use Rattle.paraid_image.specs.Value.{stripe_rest};
-ghost use Rattle.paraid_view.specs.Reads.{CanRead, HaveRead, Shows, lost_by};
+ghost use Rattle.paraid_view.specs.Reads.{CanRead, HaveRead, ShowsContents, lost_by};
 
 use crate::draft::Draft;
 use paraid_base::{Block, DiskNo, Place};
@@ -26,8 +26,8 @@ fn find_staged<'a>(
     disk: DiskNo,
     place: Place,
 ) -> Option<&'a Block>
-    ensures { MatchOption result ((any : BlockType) → laid (batch.now ++ draft.now) disk place any ≡ any)
-        (λ block. (any : BlockType) → laid (batch.now ++ draft.now) disk place any ≡ block.now) }
+    ensures { MatchOption result ((any : BlockType) → overlaid_block (batch.now ++ draft.now) disk place any ≡ any)
+        (λ block. (any : BlockType) → overlaid_block (batch.now ++ draft.now) disk place any ≡ block.now) }
 {
     if let Some(block) = draft.get(disk, place) {
         return Some(block);
@@ -44,17 +44,17 @@ pub fn read_laid<R: Rack>(
     place: Place,
     into: &mut Block,
 ) -> Result<(), DiskNo>
-    requires exists { disk < R.slot_count (rack_of store.old) }
+    requires exists { disk < R.slot_count (store_rack store.old) }
     requires below { disk < disks_of store.old }
-    requires spinning { (R.slot (rack_of store.old) disk).power ≡ Spinning }
-    requires within { place < (R.slot (rack_of store.old) disk).size }
+    requires spinning { (R.slot (store_rack store.old) disk).power ≡ Spinning }
+    requires within { place < (R.slot (store_rack store.old) disk).size }
     requires past_log { 100 ≤ place }
     ensures read { HaveRead R.slot_count R.slot R.told (disks_of store.old) (lost_by result)
         store.old store.new }
     ensures below { IfErr result (λ e. e < disks_of store.old) }
     ensures failed { IfErr result (λ e. e ≡ disk) }
-    ensures value { OnOk result ((f : Contents) → Shows (R.told (rack_of store.old)) (batch.now ++ draft.now) f
-        → IsSome (R.told (rack_of store.new)) → into.new ≡ f disk place) }
+    ensures value { OnOk result ((f : Contents) → ShowsContents (R.told (store_rack store.old)) (batch.now ++ draft.now) f
+        → IsSome (R.told (store_rack store.new)) → into.new ≡ f disk place) }
 {
     if let Some(block) = find_staged(batch, draft, disk, place) {
         into.copy_from(block);
@@ -76,17 +76,17 @@ fn add_block<R: Rack>(
     place: Place,
     sum: &mut Block,
 ) -> Result<(), DiskNo>
-    requires exists { disk < R.slot_count (rack_of store.old) }
+    requires exists { disk < R.slot_count (store_rack store.old) }
     requires below { disk < disks_of store.old }
-    requires spinning { disk ≢ skipped → (R.slot (rack_of store.old) disk).power ≡ Spinning }
-    requires within { disk ≢ skipped → place < (R.slot (rack_of store.old) disk).size }
+    requires spinning { disk ≢ skipped → (R.slot (store_rack store.old) disk).power ≡ Spinning }
+    requires within { disk ≢ skipped → place < (R.slot (store_rack store.old) disk).size }
     requires past_log { 100 ≤ place }
     ensures read { HaveRead R.slot_count R.slot R.told (disks_of store.old) (lost_by result)
         store.old store.new }
     ensures below { IfErr result (λ e. e < disks_of store.old) }
     ensures failed { IfErr result (λ e. (e ≡ disk) × (e ≢ skipped)) }
-    ensures value { OnOk result ((f : Contents) → Shows (R.told (rack_of store.old)) (batch.now ++ draft.now) f
-        → IsSome (R.told (rack_of store.new))
+    ensures value { OnOk result ((f : Contents) → ShowsContents (R.told (store_rack store.old)) (batch.now ++ draft.now) f
+        → IsSome (R.told (store_rack store.new))
         → sum.old ≡ xor_upto (without (λ e. f e place) skipped) disk
         → sum.new ≡ xor_upto (without (λ e. f e place) skipped) (disk + 1)) }
 {
@@ -113,14 +113,14 @@ pub fn read_rest<R: Rack>(
     requires region { meta.now.gear < meta.now.setup.geometry.disks }
     requires stripe { stripe < stripe_count meta.now.setup.geometry.disks meta.now.setup.geometry.rows meta.now.gear }
     requires array { meta.now.setup.geometry.disks ≡ disks_of store.old }
-    requires ready { CanRead (R.slot_count (rack_of store.old)) (R.slot (rack_of store.old))
+    requires ready { CanRead (R.slot_count (store_rack store.old)) (R.slot (store_rack store.old))
         meta.now (Some skipped) }
     ensures read { HaveRead R.slot_count R.slot R.told (disks_of store.old) (lost_by result)
         store.old store.new }
     ensures below { IfErr result (λ e. e < disks_of store.old) }
     ensures failed { IfErr result (λ e. e ≢ skipped) }
-    ensures value { OnOk result ((f : Contents) → Shows (R.told (rack_of store.old)) (batch.now ++ draft.now) f
-        → IsSome (R.told (rack_of store.new))
+    ensures value { OnOk result ((f : Contents) → ShowsContents (R.told (store_rack store.old)) (batch.now ++ draft.now) f
+        → IsSome (R.told (store_rack store.new))
         → into.new ≡ stripe_rest meta.now.setup.geometry f meta.now.gear stripe skipped) }
 {
     *into = Block::zero();

@@ -7,7 +7,7 @@ mod draft;
 mod laid;
 mod spot;
 
-pub use cell::{read_cell, read_value};
+pub use cell::{read_cell, read_others, read_value};
 pub use draft::Draft;
 pub use laid::{read_laid, read_rest};
 pub use spot::{Spot, place_of};

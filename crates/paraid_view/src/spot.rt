@@ -2,11 +2,11 @@
 ghost use Rattle.std.specs.Prelude.{◌≡◌, ℕ, ◌<◌, ◌≤◌, Option, length, true, false};
 ghost use Rattle.paraid_base.specs.Soft.{soft_stripe};
 ghost use Rattle.paraid_record.specs.Range.{IsInRange};
-ghost use Rattle.paraid_image.specs.Spot.{is_hard as hard_in, rising_to as rising_to_of, spot_of};
+ghost use Rattle.paraid_image.specs.Spot.{is_hard as hard_in, spot_of};
 ghost use Rattle.paraid_image.specs.Standing.{Contents};
 ghost use Rattle.paraid_view.specs.Reads.{seen_by};
 
-use paraid_base::{DiskNo, Phase, Place, Row};
+use paraid_base::{DiskNo, Place, Row};
 use paraid_dirty::DirtyTable;
 use paraid_layout::{hard_place, soft_of, soft_place};
 use paraid_record::Meta;
@@ -27,17 +27,6 @@ pub enum Spot {
     },
 }
 
-/// The gear that a shift up goes to, or 0.
-pub(crate) fn rising_to(phase: Phase) -> u8
-    ensures { result ≡ rising_to_of phase }
-{
-    match phase {
-        Phase::Steady => 0,
-        Phase::Down { to: _ } => 0,
-        Phase::Up { to } => to,
-    }
-}
-
 // Whether the value of a cell lives on its hard place.
 #[tactic(auto, unfolding(paraid_image::specs::Spot::is_hard))]
 pub(crate) fn is_hard(meta: &Meta, dirty: &DirtyTable, r: Row, d: DiskNo) -> bool
@@ -49,7 +38,7 @@ pub(crate) fn is_hard(meta: &Meta, dirty: &DirtyTable, r: Row, d: DiskNo) -> boo
         → result ≡ hard_in (seen_by meta.now dirty.now out f) r d }
     ensures parked { result ≡ false → meta.now.gear ≤ d }
 {
-    d < meta.gear || (d < rising_to(meta.phase) && !dirty.has(r, d))
+    d < meta.gear || (d < meta.phase.rising_to() && !dirty.has(r, d))
 }
 
 /// Where the value of a cell lives.

@@ -7,12 +7,12 @@ use Rattle.std.proofs.lemmas.Bool.Decides.{nat_tests}
 use Rattle.std.proofs.lemmas.Nat.{div_below}
 use Rattle.paraid_base.specs.declared.block.Block.{Block}
 use Rattle.paraid_base.specs.Places.{sum_before}
-use Rattle.paraid_base.specs.Xor.{zeroed}
+use Rattle.paraid_base.specs.Xor.{zero_block}
 use Rattle.paraid_base.proofs.PlacesLemmas.{sum_before_none}
 use Rattle.paraid_volume.specs.Laid.{IsWithout}
 use Rattle.paraid_volume.specs.Names.{IsField}
-use Rattle.paraid_volume.specs.States.{IsPlace, Shows, State, deleted, nothing}
-use Rattle.paraid_volume.specs.Tables.{IsLive, IsSameTable, IsTable, extent_count, extent_size, head_bytes, name_in, owned, owner_in}
+use Rattle.paraid_volume.specs.States.{IsPlace, ShowsVolumes, VolumeState, without_volume, no_volumes}
+use Rattle.paraid_volume.specs.Tables.{IsLiveId, IsSameTable, IsVolumeTable, extent_count, extent_size, head_bytes, name_in, extents_owned, owner_in}
 use Rattle.paraid_volume.proofs.ExtentLemmas.{extent_some, extents_few, field_same, same_name, same_owner, sum_before-same}
 
 pub zeros_at : (n k : ℕ) → slice_index (replicate n 0) k ≡ 0
@@ -20,8 +20,8 @@ zeros_at zero k = refl
 zeros_at (suc n) zero = refl
 zeros_at (suc n) (suc k) = zeros_at n k
 
-pub zero_byte : (k : ℕ) → slice_index zeroed.bytes k ≡ 0
-unfolding zeroed
+pub zero_byte : (k : ℕ) → slice_index zero_block.bytes k ≡ 0
+unfolding zero_block
 zero_byte k = zeros_at 512 k
 
 pub field_zero : (f : ℕ → ℕ) → ((k : ℕ) → k < 16 → f k ≡ 0) → IsField f
@@ -31,10 +31,10 @@ field_zero f none k l =
       follows = λ some past. let no : ⊥ = omega (arith, z, some) in absurd no;
     }
 
-pub owned_first : (o : ℕ → ℕ) (id : ℕ) → owned o id 0 ≡ 0
+pub owned_first : (o : ℕ → ℕ) (id : ℕ) → extents_owned o id 0 ≡ 0
 owned_first o id = sum_before_none (λ e. if o e == id then 1 else 0)
 
-pub owned_more : (o : ℕ → ℕ) (id n : ℕ) → owned o id (suc n) ≡ owned o id n + (if o n == id then 1 else 0)
+pub owned_more : (o : ℕ → ℕ) (id n : ℕ) → extents_owned o id (suc n) ≡ extents_owned o id n + (if o n == id then 1 else 0)
 unfolding sum_before
 owned_more o id n = refl
 
@@ -44,7 +44,7 @@ one_if a b e = grind (arith, nat_tests)
 pub zero_if : (a b : ℕ) → (a ≡ b → ⊥) → ◌≡◌ {A = ℕ} (if a == b then 1 else 0) 0
 zero_if a b not = grind (arith, nat_tests)
 
-pub owned_none : (o : ℕ → ℕ) (id n : ℕ) → ((e : ℕ) → e < n → o e ≢ id) → owned o id n ≡ 0
+pub owned_none : (o : ℕ → ℕ) (id n : ℕ) → ((e : ℕ) → e < n → o e ≢ id) → extents_owned o id n ≡ 0
 owned_none o id zero none = owned_first o id
 owned_none o id (suc n) none =
     let before = owned_none o id n (λ e l. none e (omega (arith, l))) in
@@ -52,7 +52,7 @@ owned_none o id (suc n) none =
     let here = zero_if (o n) id (none n (omega arith)) in
     omega (arith, before, step, here)
 
-pub owned_all : (o : ℕ → ℕ) (id n : ℕ) → ((e : ℕ) → e < n → o e ≡ id) → owned o id n ≡ n
+pub owned_all : (o : ℕ → ℕ) (id n : ℕ) → ((e : ℕ) → e < n → o e ≡ id) → extents_owned o id n ≡ n
 owned_all o id zero all = owned_first o id
 owned_all o id (suc n) all =
     let before = owned_all o id n (λ e l. all e (omega (arith, l))) in
@@ -61,7 +61,7 @@ owned_all o id (suc n) all =
     omega (arith, before, step, here)
 
 -- a table of zeros but for its first block
-module _ (count : ℕ) (a : ℕ → Block) (large : 7 ≤ count) (head : (a 0).bytes ≡ head_bytes (extent_size count) (extent_count count)) (rest : (k : ℕ) → 1 ≤ k → k < 6 → a k ≡ zeroed) where
+module _ (count : ℕ) (a : ℕ → Block) (large : 7 ≤ count) (head : (a 0).bytes ≡ head_bytes (extent_size count) (extent_count count)) (rest : (k : ℕ) → 1 ≤ k → k < 6 → a k ≡ zero_block) where
   no_name : (id k : ℕ) → name_in a id k ≡ 0
   no_name id k = ap (λ (x : Block). slice_index x.bytes (16 * (id - 1) + k)) (rest 1 (omega arith) (omega arith)) ∙ zero_byte (16 * (id - 1) + k)
 
@@ -70,13 +70,13 @@ module _ (count : ℕ) (a : ℕ → Block) (large : 7 ≤ count) (head : (a 0).b
       let low : e / 512 < 4 = div_below e 512 4 (omega arith) (omega (arith, l)) in
       ap (λ (x : Block). slice_index x.bytes (e % 512)) (rest (2 + e / 512) (omega arith) (omega (arith, low))) ∙ zero_byte (e % 512)
 
-  not_live : (id : ℕ) → IsLive a id → ⊥
+  not_live : (id : ℕ) → IsLiveId a id → ⊥
   not_live id live = let z = no_name id 0 in let some = live.named in omega (arith, z, some)
 
   few : extent_count count ≤ 2048
   few = extents_few count large
 
-  pub empty_table : IsTable count a
+  pub empty_table : IsVolumeTable count a
   empty_table = record {
     head = head;
     names = record {
@@ -91,7 +91,7 @@ module _ (count : ℕ) (a : ℕ → Block) (large : 7 ≤ count) (head : (a 0).b
     };
   }
 
-  pub shows_nothing : Shows count a (nothing count)
+  pub shows_nothing : ShowsVolumes count a (no_volumes count)
   shows_nothing = record {
     table = empty_table;
     name = λ id k low high l. sym (no_name id k);
@@ -110,7 +110,7 @@ passed i id n not = grind (arith, nat_tests)
 
 -- owners without one
 module _ (o p : ℕ → ℕ) (id : ℕ) (some : 1 ≤ id) where
-  owned_other : (i n : ℕ) → 1 ≤ i → i ≢ id → ((e : ℕ) → e < n → p e ≡ (if o e == id then 0 else o e)) → owned p i n ≡ owned o i n
+  owned_other : (i n : ℕ) → 1 ≤ i → i ≢ id → ((e : ℕ) → e < n → p e ≡ (if o e == id then 0 else o e)) → extents_owned p i n ≡ extents_owned o i n
   owned_other i n low not is = sum_before-same (λ e. if p e == i then 1 else 0) (λ e. if o e == i then 1 else 0) n (λ e l. ap (λ (x : ℕ). if x == i then 1 else 0) (is e l) ∙ step (o e))
     where
       step : (x : ℕ) → ◌≡◌ {A = ℕ} (if (if x == id then 0 else x) == i then 1 else 0) (if x == i then 1 else 0)
@@ -119,7 +119,7 @@ module _ (o p : ℕ → ℕ) (id : ℕ) (some : 1 ≤ id) where
         | inr e ↦ grind (arith, nat_tests)
       ]
 
-  owned_freed : (n : ℕ) → ((e : ℕ) → e < n → p e ≡ (if o e == id then 0 else o e)) → owned p 0 n ≡ owned o 0 n + owned o id n
+  owned_freed : (n : ℕ) → ((e : ℕ) → e < n → p e ≡ (if o e == id then 0 else o e)) → extents_owned p 0 n ≡ extents_owned o 0 n + extents_owned o id n
   owned_freed zero is = let a = owned_first p 0 in let b = owned_first o 0 in let c = owned_first o id in omega (arith, a, b, c)
   owned_freed (suc n) is =
       let before = owned_freed n (λ e l. is e (omega (arith, l))) in
@@ -136,26 +136,26 @@ module _ (o p : ℕ → ℕ) (id : ℕ) (some : 1 ≤ id) where
       ]
 
 -- a table without one of its volumes
-module _ (count id : ℕ) (a b : ℕ → Block) (large : 7 ≤ count) (table : IsTable count a) (live : IsLive a id) (without : IsWithout id (extent_count count) a b) where
+module _ (count id : ℕ) (a b : ℕ → Block) (large : 7 ≤ count) (table : IsVolumeTable count a) (live : IsLiveId a id) (without : IsWithout id (extent_count count) a b) where
   few_extents : extent_count count ≤ 2048
   few_extents = extents_few count large
 
   owner_of : (e : ℕ) → e < extent_count count → owner_in b e ≡ (if owner_in a e == id then 0 else owner_in a e)
   owner_of e l = without.owners e (let f = few_extents in omega (arith, f, l)) ∙ grind (arith, nat_tests)
 
-  is_other : (i : ℕ) → IsLive b i → i ≢ id
+  is_other : (i : ℕ) → IsLiveId b i → i ≢ id
   is_other i there same = let z = without.name 0 (omega arith) in let some = subst (λ (n : ℕ). 0 < name_in b n 0) same there.named in omega (arith, z, some)
 
-  live_back : (i : ℕ) → IsLive b i → IsLive a i
+  live_back : (i : ℕ) → IsLiveId b i → IsLiveId a i
   live_back i there = record { low = there.low; high = there.high; named = subst (λ (n : ℕ). 0 < n) (without.names i 0 there.low (is_other i there) (omega arith)) there.named }
 
-  live_forth : (i : ℕ) → i ≢ id → IsLive a i → IsLive b i
+  live_forth : (i : ℕ) → i ≢ id → IsLiveId a i → IsLiveId b i
   live_forth i not here = record { low = here.low; high = here.high; named = subst (λ (n : ℕ). 0 < n) (sym (without.names i 0 here.low not (omega arith))) here.named }
 
-  owned_same : (i n : ℕ) → 1 ≤ i → i ≢ id → n ≤ extent_count count → owned (owner_in b) i n ≡ owned (owner_in a) i n
+  owned_same : (i n : ℕ) → 1 ≤ i → i ≢ id → n ≤ extent_count count → extents_owned (owner_in b) i n ≡ extents_owned (owner_in a) i n
   owned_same i n low not l = owned_other (owner_in a) (owner_in b) id live.low i n low not (λ e m. owner_of e (omega (arith, l, m)))
 
-  pub without_table : IsTable count b
+  pub without_table : IsVolumeTable count b
   without_table = record {
     head = ap (λ (x : Block). x.bytes) without.head ∙ table.head;
     names = record {
@@ -173,7 +173,7 @@ module _ (count id : ℕ) (a b : ℕ → Block) (large : 7 ≤ count) (table : I
         | inl is ↦ absurd (some (owner_of e l ∙ grind (arith, nat_tests)))
         | inr is ↦
             let same : owner_in b e ≡ owner_in a e = owner_of e l ∙ grind (arith, nat_tests) in
-            subst (λ (n : ℕ). IsLive b n) (sym same) (live_forth (owner_in a e) is (table.owners.live e l (λ z. some (same ∙ z))))
+            subst (λ (n : ℕ). IsLiveId b n) (sym same) (live_forth (owner_in a e) is (table.owners.live e l (λ z. some (same ∙ z))))
       ];
       rest = λ e low high. without.owners e high ∙ (let z = table.owners.rest e low high in grind (arith, nat_tests));
       some = λ i there. subst (λ (n : ℕ). 0 < n) (sym (owned_same i (extent_count count) there.low (is_other i there) (omega arith))) (table.owners.some i (live_back i there));
@@ -200,14 +200,14 @@ module _ (count id : ℕ) (a b : ℕ → Block) (large : 7 ≤ count) (table : I
         is = is.is;
       }
 
-  owned_gone : owned (owner_in b) id (extent_count count) ≡ 0
+  owned_gone : extents_owned (owner_in b) id (extent_count count) ≡ 0
   owned_gone = owned_none (owner_in b) id (extent_count count) (λ e l is. gone e l is (owner_of e l) (cases_eq (owner_in a e) id))
     where
       gone : (e : ℕ) → e < extent_count count → owner_in b e ≡ id → owner_in b e ≡ (if owner_in a e == id then 0 else owner_in a e) → (owner_in a e ≡ id) ⊎ (owner_in a e ≡ id → ⊥) → ⊥
       gone e l is owner (inl same) = let z : owner_in b e ≡ 0 = owner ∙ grind (arith, nat_tests) in let low = live.low in omega (arith, z, is, low)
       gone e l is owner (inr not) = let z : owner_in b e ≡ owner_in a e = owner ∙ grind (arith, nat_tests) in not (sym z ∙ is)
 
-  pub shows_without : ((k : ℕ) → 6 ≤ k → b k ≡ a k) → (s : State) → Shows count a s → Shows count b (deleted (extent_size count) s id)
+  pub shows_without : ((k : ℕ) → 6 ≤ k → b k ≡ a k) → (s : VolumeState) → ShowsVolumes count a s → ShowsVolumes count b (without_volume (extent_size count) s id)
   shows_without rest s shows = record {
     table = without_table;
     name = λ i k low high l. elim (cases_eq i id) [
@@ -215,14 +215,14 @@ module _ (count id : ℕ) (a b : ℕ → Block) (large : 7 ≤ count) (table : I
       | inr e ↦ passed i id (s.name i k) e ∙ shows.name i k low high l ∙ sym (without.names i k low e l)
     ];
     size = λ i low high. elim (cases_eq i id) [
-      | inl e ↦ chosen i id (s.size i) e ∙ sym (ap (λ (n : ℕ). extent_size count * owned (owner_in b) n (extent_count count)) e ∙ ap (λ (n : ℕ). extent_size count * n) owned_gone ∙ (omega arith))
+      | inl e ↦ chosen i id (s.size i) e ∙ sym (ap (λ (n : ℕ). extent_size count * extents_owned (owner_in b) n (extent_count count)) e ∙ ap (λ (n : ℕ). extent_size count * n) owned_gone ∙ (omega arith))
       | inr e ↦ passed i id (s.size i) e ∙ shows.size i low high ∙ ap (λ (n : ℕ). extent_size count * n) (sym (owned_same i (extent_count count) low e (omega arith)))
     ];
     block = λ i v p is. shows.block i v p (place_back i v p is) ∙ sym (rest p (let at = is.is in omega (arith, at)));
     free =
         let freed = owned_freed (owner_in a) (owner_in b) id live.low (extent_count count) owner_of in
-        let size : s.size id / extent_size count ≡ owned (owner_in a) id (extent_count count) =
-        ap (λ (n : ℕ). n / extent_size count) (shows.size id live.low live.high) ∙ mul-div_cancel_left (owned (owner_in a) id (extent_count count)) (extent_some count large) in
+        let size : s.size id / extent_size count ≡ extents_owned (owner_in a) id (extent_count count) =
+        ap (λ (n : ℕ). n / extent_size count) (shows.size id live.low live.high) ∙ mul-div_cancel_left (extents_owned (owner_in a) id (extent_count count)) (extent_some count large) in
         let free = shows.free in
         omega (arith, freed, size, free);
   }

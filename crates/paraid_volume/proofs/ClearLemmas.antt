@@ -5,16 +5,16 @@ use Rattle.std.proofs.lemmas.Bool.{cases_eq, cases_lt}
 use Rattle.std.proofs.lemmas.List.{append-nil, append_assoc, take-append-le, take_all}
 use Rattle.std.proofs.Math.Seq.{take-append-add}
 use Rattle.paraid_base.specs.declared.block.Block.{Block}
-use Rattle.paraid_base.specs.History.{History, held}
-use Rattle.paraid_base.specs.Xor.{zeroed}
-use Rattle.paraid_base.proofs.HistoryLemmas.{held-written, held-other}
-use Rattle.paraid_volume.specs.Device.{Between, Cleared, InExtent, OfExtent}
+use Rattle.paraid_base.specs.History.{History, after_all}
+use Rattle.paraid_base.specs.Xor.{zero_block}
+use Rattle.paraid_base.proofs.HistoryLemmas.{after_all-written, after_all-other}
+use Rattle.paraid_volume.specs.Device.{Between, IsZeroed, InExtent, OfExtent}
 
-pub cleared_none : (holds : History → Type 0) (h : History) (inside : ℕ → Type 0) → ((b : ℕ) → inside b → ⊥) → holds h → Cleared holds h inside
+pub cleared_none : (holds : History → Type 0) (h : History) (inside : ℕ → Type 0) → ((b : ℕ) → inside b → ⊥) → holds h → IsZeroed holds h inside
 cleared_none holds h inside none stands = record {
   more = [];
   stands = subst holds (sym (append-nil h)) stands;
-  rest = λ k b out. ap (λ (x : History). held x b) (nothing k);
+  rest = λ k b out. ap (λ (x : History). after_all x b) (nothing k);
   zeros = λ b is. absurd (none b is);
 }
   where
@@ -22,7 +22,7 @@ cleared_none holds h inside none stands = record {
     nothing zero = append-nil h
     nothing (suc k) = append-nil h
 
-pub cleared_one : (holds : History → Type 0) (h : History) (at : ℕ) (bytes : Block) → bytes ≡ zeroed → holds (h ++ ((at, bytes) ∷ []) ∷ []) → Cleared holds h (Between at (at + 1))
+pub cleared_one : (holds : History → Type 0) (h : History) (at : ℕ) (bytes : Block) → bytes ≡ zero_block → holds (h ++ ((at, bytes) ∷ []) ∷ []) → IsZeroed holds h (Between at (at + 1))
 cleared_one holds h at bytes is stands = record {
   more = ((at, bytes) ∷ []) ∷ [];
   stands = stands;
@@ -31,13 +31,13 @@ cleared_one holds h at bytes is stands = record {
       let low = in_range.0 in
       let high = in_range.1 in
       let same : at ≡ b = omega (arith, low, high) in
-      subst (λ (x : ℕ). held (h ++ ((at, bytes) ∷ []) ∷ []) x ≡ zeroed) same (held-written h at bytes ∙ is);
+      subst (λ (x : ℕ). after_all (h ++ ((at, bytes) ∷ []) ∷ []) x ≡ zero_block) same (after_all-written h at bytes ∙ is);
 }
   where
-    rest : (k b : ℕ) → (Between at (at + 1) b → ⊥) → held (h ++ take k (((at, bytes) ∷ []) ∷ [])) b ≡ held h b
-    rest zero b out = ap (λ (x : History). held x b) (append-nil h)
-    rest (suc zero) b out = held-other h at b bytes (λ same. out (omega (arith, same), omega (arith, same)))
-    rest (suc (suc k)) b out = held-other h at b bytes (λ same. out (omega (arith, same), omega (arith, same)))
+    rest : (k b : ℕ) → (Between at (at + 1) b → ⊥) → after_all (h ++ take k (((at, bytes) ∷ []) ∷ [])) b ≡ after_all h b
+    rest zero b out = ap (λ (x : History). after_all x b) (append-nil h)
+    rest (suc zero) b out = after_all-other h at b bytes (λ same. out (omega (arith, same), omega (arith, same)))
+    rest (suc (suc k)) b out = after_all-other h at b bytes (λ same. out (omega (arith, same), omega (arith, same)))
 
 pub between : (start end b : ℕ) → Between start end b ⊎ (Between start end b → ⊥)
 between start end b = elim (cases_lt b start) [
@@ -48,30 +48,30 @@ between start end b = elim (cases_lt b start) [
   ]
 ]
 
-module _ (mid new : History → Type 0) (h : History) (P Q R : ℕ → Type 0) (first : Cleared mid h P) (second : Cleared new (h ++ first.more) Q)
+module _ (mid new : History → Type 0) (h : History) (P Q R : ℕ → Type 0) (first : IsZeroed mid h P) (second : IsZeroed new (h ++ first.more) Q)
     (decide : (b : ℕ) → Q b ⊎ (Q b → ⊥)) (into : (b : ℕ) → R b → P b ⊎ Q b) (keeps : (b : ℕ) → P b → R b) (adds : (b : ℕ) → Q b → R b) where
-  whole : (b : ℕ) → (P b → ⊥) → held (h ++ first.more) b ≡ held h b
-  whole b out = ap (λ (x : History). held (h ++ x) b) (sym (take_all (length first.more) first.more (omega arith))) ∙ first.rest (length first.more) b out
+  whole : (b : ℕ) → (P b → ⊥) → after_all (h ++ first.more) b ≡ after_all h b
+  whole b out = ap (λ (x : History). after_all (h ++ x) b) (sym (take_all (length first.more) first.more (omega arith))) ∙ first.rest (length first.more) b out
 
-  both_rest : (k b : ℕ) → (R b → ⊥) → held (h ++ take k (first.more ++ second.more)) b ≡ held h b
+  both_rest : (k b : ℕ) → (R b → ⊥) → after_all (h ++ take k (first.more ++ second.more)) b ≡ after_all h b
   both_rest k b out = elim (cases_lt (length first.more) k) [
     | inl l ↦
         let more : k ≡ length first.more + (k - length first.more) = omega (arith, l) in
-        ap (λ (n : ℕ). held (h ++ take n (first.more ++ second.more)) b) more
-        ∙ ap (λ (x : History). held (h ++ x) b) (take-append-add first.more second.more (k - length first.more))
-        ∙ ap (λ (x : History). held x b) (sym (append_assoc h first.more (take (k - length first.more) second.more)))
+        ap (λ (n : ℕ). after_all (h ++ take n (first.more ++ second.more)) b) more
+        ∙ ap (λ (x : History). after_all (h ++ x) b) (take-append-add first.more second.more (k - length first.more))
+        ∙ ap (λ (x : History). after_all x b) (sym (append_assoc h first.more (take (k - length first.more) second.more)))
         ∙ second.rest (k - length first.more) b (λ is. out (adds b is))
         ∙ whole b (λ is. out (keeps b is))
     | inr l ↦
-        ap (λ (x : History). held (h ++ x) b) (take-append-le k first.more second.more l) ∙ first.rest k b (λ is. out (keeps b is))
+        ap (λ (x : History). after_all (h ++ x) b) (take-append-le k first.more second.more l) ∙ first.rest k b (λ is. out (keeps b is))
   ]
 
-  after : (b : ℕ) → (Q b → ⊥) → held ((h ++ first.more) ++ second.more) b ≡ held (h ++ first.more) b
-  after b out = ap (λ (x : History). held ((h ++ first.more) ++ x) b) (sym (take_all (length second.more) second.more (omega arith))) ∙ second.rest (length second.more) b out
+  after : (b : ℕ) → (Q b → ⊥) → after_all ((h ++ first.more) ++ second.more) b ≡ after_all (h ++ first.more) b
+  after b out = ap (λ (x : History). after_all ((h ++ first.more) ++ x) b) (sym (take_all (length second.more) second.more (omega arith))) ∙ second.rest (length second.more) b out
 
-  both_zeros : (b : ℕ) → R b → held (h ++ (first.more ++ second.more)) b ≡ zeroed
+  both_zeros : (b : ℕ) → R b → after_all (h ++ (first.more ++ second.more)) b ≡ zero_block
   both_zeros b is =
-      ap (λ (x : History). held x b) (sym (append_assoc h first.more second.more))
+      ap (λ (x : History). after_all x b) (sym (append_assoc h first.more second.more))
       ∙ (elim (decide b) [
         | inl q ↦ second.zeros b q
         | inr out ↦ after b out ∙ first.zeros b (was out (into b is))
@@ -81,7 +81,7 @@ module _ (mid new : History → Type 0) (h : History) (P Q R : ℕ → Type 0) (
       was out (inl p) = p
       was out (inr q) = absurd (out q)
 
-  pub cleared_then : Cleared new h R
+  pub cleared_then : IsZeroed new h R
   cleared_then = record {
     more = first.more ++ second.more;
     stands = subst new (append_assoc h first.more second.more) second.stands;
@@ -89,7 +89,7 @@ module _ (mid new : History → Type 0) (h : History) (P Q R : ℕ → Type 0) (
     zeros = both_zeros;
   }
 
-pub cleared_owned : (holds : History → Type 0) (h : History) (o : ℕ → ℕ) (id size e : ℕ) → o e ≡ id → Cleared holds h (Between (6 + e * size) (6 + e * size + size)) → Cleared holds h (OfExtent o id size e)
+pub cleared_owned : (holds : History → Type 0) (h : History) (o : ℕ → ℕ) (id size e : ℕ) → o e ≡ id → IsZeroed holds h (Between (6 + e * size) (6 + e * size + size)) → IsZeroed holds h (OfExtent o id size e)
 cleared_owned holds h o id size e is cleared = record {
   more = cleared.more;
   stands = cleared.stands;
@@ -103,7 +103,7 @@ of_extent o id size e b = elim (cases_eq (o e) id) [
   | inr not ↦ inr (λ of. not of.0)
 ]
 
-pub cleared_more : (mid new : History → Type 0) (h : History) (o : ℕ → ℕ) (id size n : ℕ) (first : Cleared mid h (InExtent o id size n)) → Cleared new (h ++ first.more) (OfExtent o id size n) → Cleared new h (InExtent o id size (n + 1))
+pub cleared_more : (mid new : History → Type 0) (h : History) (o : ℕ → ℕ) (id size n : ℕ) (first : IsZeroed mid h (InExtent o id size n)) → IsZeroed new (h ++ first.more) (OfExtent o id size n) → IsZeroed new h (InExtent o id size (n + 1))
 cleared_more mid new h o id size n first second =
     cleared_then mid new h (InExtent o id size n) (OfExtent o id size n) (InExtent o id size (n + 1)) first second (of_extent o id size n)
     (λ b is. elim (cases_lt is.extent n) [

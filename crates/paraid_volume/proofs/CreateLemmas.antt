@@ -5,30 +5,30 @@ use Rattle.std.proofs.lemmas.Bool.{cases_eq, cases_lt}
 use Rattle.std.proofs.lemmas.Bool.Decides.{nat_tests}
 use Rattle.std.proofs.lemmas.Nat.{div-mul-add, mod_below}
 use Rattle.paraid_base.specs.declared.block.Block.{Block}
-use Rattle.paraid_base.specs.Xor.{zeroed}
+use Rattle.paraid_base.specs.Xor.{zero_block}
 use Rattle.paraid_volume.specs.declared.name.Name.{Name}
 use Rattle.paraid_volume.specs.Device.{InExtent}
 use Rattle.paraid_volume.specs.Laid.{IsWith}
 use Rattle.paraid_volume.specs.NameValues.{IsNameOf}
 use Rattle.paraid_volume.specs.Names.{IsField}
-use Rattle.paraid_volume.specs.States.{IsPlace, Shows, State, created}
-use Rattle.paraid_volume.specs.Tables.{IsLive, IsSameTable, IsTable, extent_count, extent_size, name_in, owned, owner_in}
+use Rattle.paraid_volume.specs.States.{IsPlace, ShowsVolumes, VolumeState, with_volume}
+use Rattle.paraid_volume.specs.Tables.{IsLiveId, IsSameTable, IsVolumeTable, extent_count, extent_size, name_in, extents_owned, owner_in}
 use Rattle.paraid_volume.proofs.ChangeLemmas.{one_if, owned_first, owned_more, zero_if}
 use Rattle.paraid_volume.proofs.ExtentLemmas.{back, extent_some, extents_few, field_same, same_name, same_owned, same_owner, same_place, same_table, sum_before-same}
 
 -- owners with one more
 module _ (o p : ℕ → ℕ) (id n top : ℕ) (low : 1 ≤ id) (absent : (e : ℕ) → e < top → o e ≢ id)
-    (is : (e : ℕ) → e < top → p e ≡ (if o e == 0 && nat_lt (owned o 0 e) n then id else o e)) where
-  given : (e : ℕ) → e < top → o e ≡ 0 → owned o 0 e < n → p e ≡ id
+    (is : (e : ℕ) → e < top → p e ≡ (if o e == 0 && nat_lt (extents_owned o 0 e) n then id else o e)) where
+  given : (e : ℕ) → e < top → o e ≡ 0 → extents_owned o 0 e < n → p e ≡ id
   given e l z less = is e l ∙ grind (arith, nat_tests)
 
-  left_free : (e : ℕ) → e < top → n ≤ owned o 0 e → p e ≡ o e
+  left_free : (e : ℕ) → e < top → n ≤ extents_owned o 0 e → p e ≡ o e
   left_free e l past = is e l ∙ grind (arith, nat_tests)
 
   left_owned : (e : ℕ) → e < top → o e ≢ 0 → p e ≡ o e
   left_owned e l not = is e l ∙ grind (arith, nat_tests)
 
-  pub owned_new : (m : ℕ) → m ≤ top → owned p id m + (owned o 0 m - n) ≡ owned o 0 m
+  pub owned_new : (m : ℕ) → m ≤ top → extents_owned p id m + (extents_owned o 0 m - n) ≡ extents_owned o 0 m
   owned_new zero l = let a = owned_first p id in let b = owned_first o 0 in omega (arith, a, b)
   owned_new (suc m) l =
       let below : m < top = omega (arith, l) in
@@ -38,7 +38,7 @@ module _ (o p : ℕ → ℕ) (id n top : ℕ) (low : 1 ≤ id) (absent : (e : �
       elim (cases_eq (o m) 0) [
         | inl z ↦
             let d = one_if (o m) 0 z in
-            elim (cases_lt (owned o 0 m) n) [
+            elim (cases_lt (extents_owned o 0 m) n) [
               | inl less ↦ let c = one_if (p m) id (given m below z less) in omega (arith, before, a, b, c, d, less)
               | inr past ↦ let c = zero_if (p m) id (λ e. absent m below (sym (left_free m below past) ∙ e)) in omega (arith, before, a, b, c, d, past)
             ]
@@ -48,7 +48,7 @@ module _ (o p : ℕ → ℕ) (id n top : ℕ) (low : 1 ≤ id) (absent : (e : �
             omega (arith, before, a, b, c, d)
       ]
 
-  pub owned_left : (m : ℕ) → m ≤ top → owned p 0 m ≡ owned o 0 m - n
+  pub owned_left : (m : ℕ) → m ≤ top → extents_owned p 0 m ≡ extents_owned o 0 m - n
   owned_left zero l = let a = owned_first p 0 in let b = owned_first o 0 in omega (arith, a, b)
   owned_left (suc m) l =
       let below : m < top = omega (arith, l) in
@@ -58,7 +58,7 @@ module _ (o p : ℕ → ℕ) (id n top : ℕ) (low : 1 ≤ id) (absent : (e : �
       elim (cases_eq (o m) 0) [
         | inl z ↦
             let d = one_if (o m) 0 z in
-            elim (cases_lt (owned o 0 m) n) [
+            elim (cases_lt (extents_owned o 0 m) n) [
               | inl less ↦ let c = zero_if (p m) 0 (λ e. let g = given m below z less in omega (arith, e, g, low)) in omega (arith, before, a, b, c, d, less)
               | inr past ↦ let c = one_if (p m) 0 (left_free m below past ∙ z) in omega (arith, before, a, b, c, d, past)
             ]
@@ -71,7 +71,7 @@ module _ (o p : ℕ → ℕ) (id n top : ℕ) (low : 1 ≤ id) (absent : (e : �
   -- an owner other than the new one had what it has
   pub was_other : (e i : ℕ) → e < top → i ≢ id → 1 ≤ i → p e ≡ i → o e ≡ i
   was_other e i l not some has = elim (cases_eq (o e) 0) [
-    | inl z ↦ elim (cases_lt (owned o 0 e) n) [
+    | inl z ↦ elim (cases_lt (extents_owned o 0 e) n) [
       | inl less ↦ absurd (not (sym has ∙ given e l z less))
       | inr past ↦ sym (left_free e l past) ∙ has
     ]
@@ -81,7 +81,7 @@ module _ (o p : ℕ → ℕ) (id n top : ℕ) (low : 1 ≤ id) (absent : (e : �
   pub keeps_owner : (e i : ℕ) → e < top → 1 ≤ i → o e ≡ i → p e ≡ i
   keeps_owner e i l some has = left_owned e l (λ z. let no : ⊥ = omega (arith, z, has, some) in no) ∙ has
 
-  pub owned_others : (i m : ℕ) → m ≤ top → i ≢ id → 1 ≤ i → owned p i m ≡ owned o i m
+  pub owned_others : (i m : ℕ) → m ≤ top → i ≢ id → 1 ≤ i → extents_owned p i m ≡ extents_owned o i m
   owned_others i m l not some = sum_before-same (λ e. if p e == i then 1 else 0) (λ e. if o e == i then 1 else 0) m (λ e below. step e (omega (arith, l, below)) (cases_eq (o e) i))
     where
       step : (e : ℕ) → e < top → (o e ≡ i) ⊎ (o e ≡ i → ⊥) → ◌≡◌ {A = ℕ} (if p e == i then 1 else 0) (if o e == i then 1 else 0)
@@ -94,39 +94,39 @@ chosen i id x y e = grind (arith, nat_tests)
 passed : {A : Type 0} (i id : ℕ) (x y : A) → (i ≡ id → ⊥) → (if i == id then x else y) ≡ y
 passed i id x y not = grind (arith, nat_tests)
 
-module _ (count id n : ℕ) (text : Name) (a b : ℕ → Block) (large : 7 ≤ count) (table : IsTable count a) (low : 1 ≤ id) (high : id ≤ 31) (free : IsLive a id → ⊥)
-    (some : 1 ≤ n) (room : n ≤ owned (owner_in a) 0 (extent_count count)) (fresh : (i : ℕ) → IsLive a i → IsNameOf a i text → ⊥) (with : IsWith id text n (extent_count count) a b) where
+module _ (count id n : ℕ) (text : Name) (a b : ℕ → Block) (large : 7 ≤ count) (table : IsVolumeTable count a) (low : 1 ≤ id) (high : id ≤ 31) (free : IsLiveId a id → ⊥)
+    (some : 1 ≤ n) (room : n ≤ extents_owned (owner_in a) 0 (extent_count count)) (fresh : (i : ℕ) → IsLiveId a i → IsNameOf a i text → ⊥) (with : IsWith id text n (extent_count count) a b) where
   few : extent_count count ≤ 2048
   few = extents_few count large
 
   absent : (e : ℕ) → e < extent_count count → owner_in a e ≢ id
-  absent e l is = free (subst (λ (i : ℕ). IsLive a i) is (table.owners.live e l (λ z. let no : ⊥ = omega (arith, z, is, low) in no)))
+  absent e l is = free (subst (λ (i : ℕ). IsLiveId a i) is (table.owners.live e l (λ z. let no : ⊥ = omega (arith, z, is, low) in no)))
 
-  owners : (e : ℕ) → e < extent_count count → owner_in b e ≡ (if owner_in a e == 0 && nat_lt (owned (owner_in a) 0 e) n then id else owner_in a e)
+  owners : (e : ℕ) → e < extent_count count → owner_in b e ≡ (if owner_in a e == 0 && nat_lt (extents_owned (owner_in a) 0 e) n then id else owner_in a e)
   owners e l = with.owners e (let f = few in omega (arith, f, l)) ∙ grind (arith, nat_tests)
 
-  live_new : IsLive b id
+  live_new : IsLiveId b id
   live_new = record { low = low; high = high; named = subst (λ (x : ℕ). 0 < x) (with.name 0 (omega arith)) text.some }
 
-  live_forth : (i : ℕ) → IsLive a i → IsLive b i
+  live_forth : (i : ℕ) → IsLiveId a i → IsLiveId b i
   live_forth i here = elim (cases_eq i id) [
-    | inl e ↦ subst (λ (x : ℕ). IsLive b x) (sym e) live_new
+    | inl e ↦ subst (λ (x : ℕ). IsLiveId b x) (sym e) live_new
     | inr e ↦ record { low = here.low; high = here.high; named = subst (λ (x : ℕ). 0 < x) (sym (with.names i 0 here.low e (omega arith))) here.named }
   ]
 
-  live_back : (i : ℕ) → i ≢ id → IsLive b i → IsLive a i
+  live_back : (i : ℕ) → i ≢ id → IsLiveId b i → IsLiveId a i
   live_back i not there = record { low = there.low; high = there.high; named = subst (λ (x : ℕ). 0 < x) (with.names i 0 there.low not (omega arith)) there.named }
 
-  owned_id : owned (owner_in b) id (extent_count count) ≡ n
+  owned_id : extents_owned (owner_in b) id (extent_count count) ≡ n
   owned_id = let it = owned_new (owner_in a) (owner_in b) id n (extent_count count) low absent owners (extent_count count) (omega arith) in omega (arith, it, room)
 
-  owned_same : (i m : ℕ) → m ≤ extent_count count → i ≢ id → 1 ≤ i → owned (owner_in b) i m ≡ owned (owner_in a) i m
+  owned_same : (i m : ℕ) → m ≤ extent_count count → i ≢ id → 1 ≤ i → extents_owned (owner_in b) i m ≡ extents_owned (owner_in a) i m
   owned_same = owned_others (owner_in a) (owner_in b) id n (extent_count count) low absent owners
 
-  named_apart : (i : ℕ) → i ≢ id → IsLive b i → ((k : ℕ) → k < 16 → name_in b i k ≡ name_in b id k) → ⊥
+  named_apart : (i : ℕ) → i ≢ id → IsLiveId b i → ((k : ℕ) → k < 16 → name_in b i k ≡ name_in b id k) → ⊥
   named_apart i not there same = fresh i (live_back i not there) (λ k l. with.name k l ∙ sym (same k l) ∙ with.names i k there.low not l)
 
-  pub with_table : IsTable count b
+  pub with_table : IsVolumeTable count b
   with_table = record {
     head = ap (λ (x : Block). x.bytes) with.head ∙ table.head;
     names = record {
@@ -148,15 +148,15 @@ module _ (count id n : ℕ) (text : Name) (a b : ℕ → Block) (large : 7 ≤ c
     };
     owners = record {
       live = λ e l has. elim (cases_eq (owner_in b e) id) [
-        | inl is ↦ subst (λ (x : ℕ). IsLive b x) (sym is) live_new
+        | inl is ↦ subst (λ (x : ℕ). IsLiveId b x) (sym is) live_new
         | inr not ↦
             let one : 1 ≤ owner_in b e = (elim (cases_eq (owner_in b e) 0) [ inl z ↦ absurd (has z) | inr z ↦ omega (arith, z) ]) in
             let was = was_other (owner_in a) (owner_in b) id n (extent_count count) low absent owners e (owner_in b e) l not one refl in
-            subst (λ (x : ℕ). IsLive b x) was (live_forth (owner_in a e) (table.owners.live e l (λ z. let no : ⊥ = omega (arith, z, was, one) in no)))
+            subst (λ (x : ℕ). IsLiveId b x) was (live_forth (owner_in a e) (table.owners.live e l (λ z. let no : ⊥ = omega (arith, z, was, one) in no)))
       ];
       rest = λ e first last. with.owners e last ∙ (let z = table.owners.rest e first last in grind (arith, nat_tests));
       some = λ i there. elim (cases_eq i id) [
-        | inl e ↦ subst (λ (x : ℕ). 0 < owned (owner_in b) x (extent_count count)) (sym e) (let it = owned_id in omega (arith, it, some))
+        | inl e ↦ subst (λ (x : ℕ). 0 < extents_owned (owner_in b) x (extent_count count)) (sym e) (let it = owned_id in omega (arith, it, some))
         | inr e ↦ subst (λ (x : ℕ). 0 < x) (sym (owned_same i (extent_count count) (omega arith) e there.low)) (table.owners.some i (live_back i e there))
       ];
     };
@@ -176,13 +176,13 @@ module _ (count id n : ℕ) (text : Name) (a b : ℕ → Block) (large : 7 ≤ c
       ∙ div-mul-add inside.extent (extent_size count) (p - (6 + inside.extent * extent_size count)) r in
       let owner = keeps_owner (owner_in a) (owner_in b) id n (extent_count count) low absent owners at.extent i at.below at.live.low at.number.is in
       let mine : i ≡ id = sym owner ∙ ap (owner_in b) same ∙ inside.of.0 in
-      free (subst (λ (y : ℕ). IsLive a y) mine at.live)
+      free (subst (λ (y : ℕ). IsLiveId a y) mine at.live)
 
   table_apart : (k : ℕ) → k < 6 → InExtent (owner_in b) id (extent_size count) (extent_count count) k → ⊥
   table_apart k l inside = let lowest = inside.of.1.0 in omega (arith, l, lowest)
 
   -- while the new extents change, what is there is the same
-  pub shows_still : (c : ℕ → Block) → ((p : ℕ) → (InExtent (owner_in b) id (extent_size count) (extent_count count) p → ⊥) → c p ≡ a p) → (s : State) → Shows count a s → Shows count c s
+  pub shows_still : (c : ℕ → Block) → ((p : ℕ) → (InExtent (owner_in b) id (extent_size count) (extent_count count) p → ⊥) → c p ≡ a p) → (s : VolumeState) → ShowsVolumes count a s → ShowsVolumes count c s
   shows_still c still s shows =
       let same : IsSameTable a c = λ k l. sym (still k (table_apart k l)) in
       record {
@@ -219,8 +219,8 @@ module _ (count id n : ℕ) (text : Name) (a b : ℕ → Block) (large : 7 ≤ c
       }
 
   pub shows_new : ((p : ℕ) → 6 ≤ p → (InExtent (owner_in b) id (extent_size count) (extent_count count) p → ⊥) → b p ≡ a p)
-      → ((p : ℕ) → 6 ≤ p → InExtent (owner_in b) id (extent_size count) (extent_count count) p → b p ≡ zeroed)
-      → (s : State) → Shows count a s → Shows count b (created (extent_size count) s id (slice_index text.text) n)
+      → ((p : ℕ) → 6 ≤ p → InExtent (owner_in b) id (extent_size count) (extent_count count) p → b p ≡ zero_block)
+      → (s : VolumeState) → ShowsVolumes count a s → ShowsVolumes count b (with_volume (extent_size count) s id (slice_index text.text) n)
   shows_new rest zeros s shows = record {
     table = with_table;
     name = λ i k first last l. elim (cases_eq i id) [
@@ -228,16 +228,16 @@ module _ (count id n : ℕ) (text : Name) (a b : ℕ → Block) (large : 7 ≤ c
       | inr e ↦ passed i id (slice_index text.text k) (s.name i k) e ∙ shows.name i k first last l ∙ sym (with.names i k first e l)
     ];
     size = λ i first last. elim (cases_eq i id) [
-      | inl e ↦ chosen i id (extent_size count * n) (s.size i) e ∙ ap (λ (y : ℕ). extent_size count * y) (sym owned_id) ∙ ap (λ (y : ℕ). extent_size count * owned (owner_in b) y (extent_count count)) (sym e)
+      | inl e ↦ chosen i id (extent_size count * n) (s.size i) e ∙ ap (λ (y : ℕ). extent_size count * y) (sym owned_id) ∙ ap (λ (y : ℕ). extent_size count * extents_owned (owner_in b) y (extent_count count)) (sym e)
       | inr e ↦ passed i id (extent_size count * n) (s.size i) e ∙ shows.size i first last ∙ ap (λ (y : ℕ). extent_size count * y) (sym (owned_same i (extent_count count) (omega arith) e first))
     ];
     block = λ i v p at. elim (cases_eq i id) [
       | inl e ↦
           let mine : IsPlace count b id v p = subst (λ (y : ℕ). IsPlace count b y v p) e at in
-          chosen i id zeroed (s.block i v) e ∙ sym (zeros p (let is = at.is in omega (arith, is)) (place_new v p mine))
+          chosen i id zero_block (s.block i v) e ∙ sym (zeros p (let is = at.is in omega (arith, is)) (place_new v p mine))
       | inr e ↦
           let was = place_back i v p e at in
-          passed i id zeroed (s.block i v) e ∙ shows.block i v p was ∙ sym (rest p (let is = at.is in omega (arith, is)) (apart i v p was))
+          passed i id zero_block (s.block i v) e ∙ shows.block i v p was ∙ sym (rest p (let is = at.is in omega (arith, is)) (apart i v p was))
     ];
     free = ap (λ (y : ℕ). y - n) shows.free ∙ sym (owned_left (owner_in a) (owner_in b) id n (extent_count count) low absent owners (extent_count count) (omega arith));
   }
@@ -250,7 +250,7 @@ with_moved id n top text old new a b f g w = record {
   rest = λ k l. ap (λ (x : Block). slice_index x.bytes k) (sym (g 1 (omega arith))) ∙ w.rest k l ∙ ap (λ (x : Block). slice_index x.bytes k) (f 1 (omega arith));
   owners = λ e l.
       sym (same_owner new b g e l) ∙ w.owners e l
-      ∙ ap (λ (x : ℕ). if nat_lt e top && (x == 0 && nat_lt (owned (owner_in old) 0 e) n) then id else x) (same_owner old a f e l)
+      ∙ ap (λ (x : ℕ). if nat_lt e top && (x == 0 && nat_lt (extents_owned (owner_in old) 0 e) n) then id else x) (same_owner old a f e l)
       ∙ ap (λ (x : ℕ). if nat_lt e top && (owner_in a e == 0 && nat_lt x n) then id else owner_in a e) (same_owned old a f 0 e (omega (arith, l)));
 }
 

@@ -15,10 +15,10 @@ use Rattle.paraid_base.specs.Pairs.{pairs_of}
 use Rattle.paraid_base.specs.declared.fault.Halt.{Halt}
 use Rattle.paraid_base.specs.Told.{HasRisen}
 use Rattle.paraid_base.proofs.ToldLemmas.{HasRisen-later, HasRisen-sooner}
-use Rattle.paraid_volume.specs.Device.{Went, Holds, Since, entry_in, writes_of, AreAll, Grown, IsRead, IsWrite, IsReadOrWrite}
+use Rattle.paraid_volume.specs.Device.{DeviceGoesOn, DeviceHolds, SinceHistory, entry_in, entries_in, AreAll, KeepsMore, IsReadEvent, IsWriteEvent, IsReadOrWrite}
 
-pub Went-none : {S : Type 0} (count halts : S → ℕ) (halted : S → Option Halt) (tells : S → Bool) (a : S) → Went count halts halted tells a a
-Went-none count halts halted tells a = record {
+pub DeviceGoesOn-none : {S : Type 0} (count halts : S → ℕ) (halted : S → Option Halt) (tells : S → Bool) (a : S) → DeviceGoesOn count halts halted tells a a
+DeviceGoesOn-none count halts halted tells a = record {
   size = refl;
   later = omega arith;
   cause = both (halted a);
@@ -30,9 +30,9 @@ Went-none count halts halted tells a = record {
     both None none some = absurd (false≢true some)
     both (Some halt) none some = cc
 
-pub Went-then : {S : Type 0} (count halts : S → ℕ) (halted : S → Option Halt) (tells : S → Bool) (a b c : S)
-    → Went count halts halted tells a b → Went count halts halted tells b c → Went count halts halted tells a c
-Went-then count halts halted tells a b c f g = record {
+pub DeviceGoesOn-then : {S : Type 0} (count halts : S → ℕ) (halted : S → Option Halt) (tells : S → Bool) (a b c : S)
+    → DeviceGoesOn count halts halted tells a b → DeviceGoesOn count halts halted tells b c → DeviceGoesOn count halts halted tells a c
+DeviceGoesOn-then count halts halted tells a b c f g = record {
   size = g.size ∙ f.size;
   later = let l = f.later in let m = g.later in omega (arith, l, m);
   cause = cause (halted b) refl;
@@ -53,18 +53,18 @@ AreAll-weaker kind other into [] f = tt
 AreAll-weaker kind other into (e ∷ a) f = (into e.0 f.0, AreAll-weaker kind other into a f.1)
 
 -- no call was made
-pub Grown-none : {S : Type 0} (kept : S → Answers → Type 0) (tells : S → Bool) (kind : Event → Type 0) (a : S) → Grown kept tells kind a a
-Grown-none kept tells kind a = record { grows = λ events k t. record { more = []; kept = subst (kept a) (sym (append-nil events)) k; all = tt } }
+pub KeepsMore-none : {S : Type 0} (kept : S → Answers → Type 0) (tells : S → Bool) (kind : Event → Type 0) (a : S) → KeepsMore kept tells kind a a
+KeepsMore-none kept tells kind a = record { grows = λ events k t. record { more = []; kept = subst (kept a) (sym (append-nil events)) k; all = tt } }
 
 -- one call was made
-pub Grown-one : {S : Type 0} (kept : S → Answers → Type 0) (tells : S → Bool) (kind : Event → Type 0) (a b : S) (e : Event) (answer : Answer)
-    → ((events : Answers) → kept a events → IsTrue (tells b) → kept b (events ++ (e, answer) ∷ [])) → kind e → Grown kept tells kind a b
-Grown-one kept tells kind a b e answer keeps is = record { grows = λ events k t. record { more = (e, answer) ∷ []; kept = keeps events k t; all = (is, tt) } }
+pub KeepsMore-one : {S : Type 0} (kept : S → Answers → Type 0) (tells : S → Bool) (kind : Event → Type 0) (a b : S) (e : Event) (answer : Answer)
+    → ((events : Answers) → kept a events → IsTrue (tells b) → kept b (events ++ (e, answer) ∷ [])) → kind e → KeepsMore kept tells kind a b
+KeepsMore-one kept tells kind a b e answer keeps is = record { grows = λ events k t. record { more = (e, answer) ∷ []; kept = keeps events k t; all = (is, tt) } }
 
 -- some calls were made, and then others
-pub Grown-then : {S : Type 0} (kept : S → Answers → Type 0) (tells : S → Bool) (kind : Event → Type 0) (a b c : S) → (IsTrue (tells c) → IsTrue (tells b))
-    → Grown kept tells kind a b → Grown kept tells kind b c → Grown kept tells kind a c
-Grown-then kept tells kind a b c told f g = record {
+pub KeepsMore-then : {S : Type 0} (kept : S → Answers → Type 0) (tells : S → Bool) (kind : Event → Type 0) (a b c : S) → (IsTrue (tells c) → IsTrue (tells b))
+    → KeepsMore kept tells kind a b → KeepsMore kept tells kind b c → KeepsMore kept tells kind a c
+KeepsMore-then kept tells kind a b c told f g = record {
   grows = λ events k t.
       let first = f.grows events k (told t) in
       let second = g.grows (events ++ first.more) first.kept t in
@@ -75,15 +75,15 @@ Grown-then kept tells kind a b c told f g = record {
       };
 }
 
-pub Grown-weaker : {S : Type 0} (kept : S → Answers → Type 0) (tells : S → Bool) (kind other : Event → Type 0) (a b : S) → ((e : Event) → kind e → other e)
-    → Grown kept tells kind a b → Grown kept tells other a b
-Grown-weaker kept tells kind other a b into f = record {
+pub KeepsMore-weaker : {S : Type 0} (kept : S → Answers → Type 0) (tells : S → Bool) (kind other : Event → Type 0) (a b : S) → ((e : Event) → kind e → other e)
+    → KeepsMore kept tells kind a b → KeepsMore kept tells other a b
+KeepsMore-weaker kept tells kind other a b into f = record {
   grows = λ events k t.
       let first = f.grows events k t in
       record { more = first.more; kept = first.kept; all = AreAll-weaker kind other into first.more first.all };
 }
 
-pub read_either : (e : Event) → IsRead e → IsReadOrWrite e
+pub read_either : (e : Event) → IsReadEvent e → IsReadOrWrite e
 read_either (ReadEvent block) is = tt
 read_either (WriteEvent pairs) is = tt
 read_either FlushEvent is = is
@@ -96,7 +96,7 @@ read_either State is = is
 read_either Energy is = is
 read_either Bad is = is
 
-pub write_either : (e : Event) → IsWrite e → IsReadOrWrite e
+pub write_either : (e : Event) → IsWriteEvent e → IsReadOrWrite e
 write_either (ReadEvent block) is = tt
 write_either (WriteEvent pairs) is = tt
 write_either FlushEvent is = is
@@ -109,17 +109,17 @@ write_either State is = is
 write_either Energy is = is
 write_either Bad is = is
 
-writes_of-append : (a b : Answers) → writes_of (a ++ b) ≡ writes_of a ++ writes_of b
-writes_of-append [] b = refl
-writes_of-append (e ∷ a) b = ap (λ (x : History). entry_in e.0 e.1 ++ x) (writes_of-append a b) ∙ sym (append_assoc (entry_in e.0 e.1) (writes_of a) (writes_of b))
+entries_in-append : (a b : Answers) → entries_in (a ++ b) ≡ entries_in a ++ entries_in b
+entries_in-append [] b = refl
+entries_in-append (e ∷ a) b = ap (λ (x : History). entry_in e.0 e.1 ++ x) (entries_in-append a b) ∙ sym (append_assoc (entry_in e.0 e.1) (entries_in a) (entries_in b))
 
-pub holds_stands : {S : Type 0} (stands : S → History → Type 0) (kept : S → Answers → Type 0) (from : Since) (a : S) (h : History) → Holds stands kept from a h → stands a h
+pub holds_stands : {S : Type 0} (stands : S → History → Type 0) (kept : S → Answers → Type 0) (from : SinceHistory) (a : S) (h : History) → DeviceHolds stands kept from a h → stands a h
 holds_stands stands kept None a h holds = holds
 holds_stands stands kept (Some from) a h holds = holds.0
 
 -- a call that is no write was made
-pub holds_same : {S : Type 0} (stands : S → History → Type 0) (kept : S → Answers → Type 0) (from : Since) (a b : S) (h : History) (e : Event) (answer : Answer)
-    → (stands a h → stands b h) → ((events : Answers) → kept a events → kept b (events ++ (e, answer) ∷ [])) → entry_in e answer ≡ [] → Holds stands kept from a h → Holds stands kept from b h
+pub holds_same : {S : Type 0} (stands : S → History → Type 0) (kept : S → Answers → Type 0) (from : SinceHistory) (a b : S) (h : History) (e : Event) (answer : Answer)
+    → (stands a h → stands b h) → ((events : Answers) → kept a events → kept b (events ++ (e, answer) ∷ [])) → entry_in e answer ≡ [] → DeviceHolds stands kept from a h → DeviceHolds stands kept from b h
 holds_same stands kept None a b h e answer now keeps none holds = now holds
 holds_same stands kept (Some from) a b h e answer now keeps none holds = (
   now holds.0,
@@ -128,20 +128,20 @@ holds_same stands kept (Some from) a b h e answer now keeps none holds = (
   holds.3 ∙ ap (λ (x : History). from.0 ++ x) (sym same),
 )
   where
-    same : writes_of (holds.1 ++ (e, answer) ∷ []) ≡ writes_of holds.1
-    same = writes_of-append holds.1 ((e, answer) ∷ []) ∙ ap (λ (x : History). writes_of holds.1 ++ (x ++ [])) none ∙ append-nil (writes_of holds.1)
+    same : entries_in (holds.1 ++ (e, answer) ∷ []) ≡ entries_in holds.1
+    same = entries_in-append holds.1 ((e, answer) ∷ []) ∙ ap (λ (x : History). entries_in holds.1 ++ (x ++ [])) none ∙ append-nil (entries_in holds.1)
 
 -- a write was accepted
-pub holds_write : {S : Type 0} (stands : S → History → Type 0) (kept : S → Answers → Type 0) (from : Since) (a b : S) (h : History) (pairs : Pairs) (entry : Entry) (number : ℕ)
+pub holds_write : {S : Type 0} (stands : S → History → Type 0) (kept : S → Answers → Type 0) (from : SinceHistory) (a b : S) (h : History) (pairs : Pairs) (entry : Entry) (number : ℕ)
     → (stands a h → stands b (h ++ entry ∷ [])) → ((events : Answers) → kept a events → kept b (events ++ (WriteEvent pairs, Wrote number) ∷ [])) → pairs_of pairs ≡ entry
-    → Holds stands kept from a h → Holds stands kept from b (h ++ entry ∷ [])
+    → DeviceHolds stands kept from a h → DeviceHolds stands kept from b (h ++ entry ∷ [])
 holds_write stands kept None a b h pairs entry number now keeps is holds = now holds
 holds_write stands kept (Some from) a b h pairs entry number now keeps is holds = (
   now holds.0,
   holds.1 ++ (WriteEvent pairs, Wrote number) ∷ [],
   subst (kept b) (append_assoc from.1 holds.1 ((WriteEvent pairs, Wrote number) ∷ [])) (keeps (from.1 ++ holds.1) holds.2),
-  ap (λ (x : History). x ++ entry ∷ []) holds.3 ∙ append_assoc from.0 (writes_of holds.1) (entry ∷ []) ∙ ap (λ (x : History). from.0 ++ x) (sym more),
+  ap (λ (x : History). x ++ entry ∷ []) holds.3 ∙ append_assoc from.0 (entries_in holds.1) (entry ∷ []) ∙ ap (λ (x : History). from.0 ++ x) (sym more),
 )
   where
-    more : writes_of (holds.1 ++ (WriteEvent pairs, Wrote number) ∷ []) ≡ writes_of holds.1 ++ entry ∷ []
-    more = writes_of-append holds.1 ((WriteEvent pairs, Wrote number) ∷ []) ∙ ap (λ (x : Entry). writes_of holds.1 ++ x ∷ []) is
+    more : entries_in (holds.1 ++ (WriteEvent pairs, Wrote number) ∷ []) ≡ entries_in holds.1 ++ entry ∷ []
+    more = entries_in-append holds.1 ((WriteEvent pairs, Wrote number) ∷ []) ∙ ap (λ (x : Entry). entries_in holds.1 ++ x ∷ []) is

@@ -7,7 +7,7 @@ use Rattle.paraid_base.specs.declared.block.Block.{Block}
 use Rattle.paraid_base.specs.Places.{sum_before}
 use Rattle.paraid_volume.specs.Names.{IsField, is_letter}
 use Rattle.paraid_volume.specs.States.{IsPlace}
-use Rattle.paraid_volume.specs.Tables.{IsExtent, IsLive, IsSameTable, IsTable, extent_count, extent_size, name_in, owned, owner_in}
+use Rattle.paraid_volume.specs.Tables.{IsExtent, IsLiveId, IsSameTable, IsVolumeTable, extent_count, extent_size, name_in, extents_owned, owner_in}
 
 pub extent_some : (count : ℕ) → 7 ≤ count → 0 < extent_size count
 extent_some count l = omega (arith, l)
@@ -48,12 +48,12 @@ module _ (a b : ℕ → Block) (same : IsSameTable a b) where
       let low : e / 512 < 4 = div_below e 512 4 (omega arith) (omega (arith, l)) in
       ap (λ (x : Block). slice_index x.bytes (e % 512)) (same (2 + e / 512) (omega (arith, low)))
 
-  pub same_owned : (id n : ℕ) → n ≤ 2048 → owned (owner_in a) id n ≡ owned (owner_in b) id n
+  pub same_owned : (id n : ℕ) → n ≤ 2048 → extents_owned (owner_in a) id n ≡ extents_owned (owner_in b) id n
   same_owned id n l =
       sum_before-same (λ e. if owner_in a e == id then 1 else 0) (λ e. if owner_in b e == id then 1 else 0) n
       (λ k below. ap (λ (o : ℕ). if o == id then 1 else 0) (same_owner k (omega (arith, below, l))))
 
-  pub same_live : (id : ℕ) → IsLive a id → IsLive b id
+  pub same_live : (id : ℕ) → IsLiveId a id → IsLiveId b id
   same_live id live = record { low = live.low; high = live.high; named = subst (λ (n : ℕ). 0 < n) (same_name id 0) live.named }
 
   pub same_extent : (id k e : ℕ) → e < 2048 → IsExtent (owner_in a) id k e → IsExtent (owner_in b) id k e
@@ -77,7 +77,7 @@ module _ (a b : ℕ → Block) (same : IsSameTable a b) where
   pub back : IsSameTable b a
   back k l = sym (same k l)
 
-  pub same_table : (count : ℕ) → 7 ≤ count → IsTable count a → IsTable count b
+  pub same_table : (count : ℕ) → 7 ≤ count → IsVolumeTable count a → IsVolumeTable count b
   same_table count large t =
       let few = extents_few count large in record {
         head = ap (λ (x : Block). x.bytes) (back 0 (omega arith)) ∙ t.head;
@@ -92,7 +92,7 @@ module _ (a b : ℕ → Block) (same : IsSameTable a b) where
           live = λ e below some.
               let small : e < 2048 = omega (arith, few, below) in
               let is = same_owner a b same e small in
-              subst (λ (o : ℕ). IsLive b o) is (same_live a b same (owner_in a e) (t.owners.live e below (λ none. some (sym is ∙ none))));
+              subst (λ (o : ℕ). IsLiveId b o) is (same_live a b same (owner_in a e) (t.owners.live e below (λ none. some (sym is ∙ none))));
           rest = λ e low high. sym (same_owner a b same e high) ∙ t.owners.rest e low high;
           some = λ id live. subst (λ (n : ℕ). 0 < n) (same_owned a b same id (extent_count count) few) (t.owners.some id (same_live b a back id live));
         };

@@ -8,10 +8,10 @@ use Rattle.paraid_base.specs.declared.block.Block.{Block}
 use Rattle.paraid_base.specs.declared.pairs.Pairs.{Pairs}
 use Rattle.paraid_base.specs.Pairs.{pairs_of}
 use Rattle.paraid_base.specs.BlockAnswers.{IsFirstMissing}
-use Rattle.paraid_base.specs.History.{Entry, History, held, last_of}
-use Rattle.paraid_base.proofs.HistoryLemmas.{held-append, last_of-append}
+use Rattle.paraid_base.specs.History.{Entry, History, after_all, last_of}
+use Rattle.paraid_base.proofs.HistoryLemmas.{after_all-append, last_of-append}
 use Rattle.paraid_volume.specs.Laid.{IsLaid, owner_with}
-use Rattle.paraid_volume.specs.Tables.{IsSameTable, owned}
+use Rattle.paraid_volume.specs.Tables.{IsSameTable, extents_owned}
 use Rattle.paraid_base.proofs.PlacesLemmas.{sum_before_more, sum_before_none}
 
 abbrev pub IsLow : ℕ × Block → Type 0
@@ -49,12 +49,12 @@ not_missing count entry b large all first =
     omega (arith, low, past, large)
 
 -- the table after a write of its blocks
-pub laid_table : (h : History) (entry : Entry) (old new : ℕ → Block) → IsLaid old new entry → IsSameTable old (held h) → IsSameTable new (held (h ++ entry ∷ []))
+pub laid_table : (h : History) (entry : Entry) (old new : ℕ → Block) → IsLaid old new entry → IsSameTable old (after_all h) → IsSameTable new (after_all (h ++ entry ∷ []))
 laid_table h entry old new laid same k l =
-    sym (laid.here k l) ∙ ap (λ (x : Block). last_of k x entry) (same k l) ∙ sym (held-append h entry k)
+    sym (laid.here k l) ∙ ap (λ (x : Block). last_of k x entry) (same k l) ∙ sym (after_all-append h entry k)
 
-pub laid_rest : (h : History) (entry : Entry) (old new : ℕ → Block) → IsLaid old new entry → (k : ℕ) → 6 ≤ k → held (h ++ entry ∷ []) k ≡ held h k
-laid_rest h entry old new laid k l = held-append h entry k ∙ laid.rest k (held h k) l
+pub laid_rest : (h : History) (entry : Entry) (old new : ℕ → Block) → IsLaid old new entry → (k : ℕ) → 6 ≤ k → after_all (h ++ entry ∷ []) k ≡ after_all h k
+laid_rest h entry old new laid k l = after_all-append h entry k ∙ laid.rest k (after_all h k) l
 
 -- the blocks below `at` were looked at, and those that differ are written
 pub record Laying (old new : ℕ → Block) (at : ℕ) (p : Pairs) : Type 0 where
@@ -101,40 +101,40 @@ module _ (old new : ℕ → Block) (at : ℕ) (p : Pairs) (laying : Laying old n
 
 -- owners after the first `count` free extents below `n` were given to `id`
 module _ (o : ℕ → ℕ) (id count n : ℕ) where
-  pub taken_here : (e : ℕ) → o n ≡ 0 → owned o 0 n < count → owner_with o id count (n + 1) e ≡ (if e == n then id else owner_with o id count n e)
+  pub taken_here : (e : ℕ) → o n ≡ 0 → extents_owned o 0 n < count → owner_with o id count (n + 1) e ≡ (if e == n then id else owner_with o id count n e)
   taken_here e free some = elim (cases_eq e n) [
-    | inl is ↦ subst (λ (k : ℕ). owner_with o id count (k + 1) e ≡ (if e == k then id else owner_with o id count k e)) is (self e (ap o is ∙ free) (subst (λ (k : ℕ). owned o 0 k < count) (sym is) some))
+    | inl is ↦ subst (λ (k : ℕ). owner_with o id count (k + 1) e ≡ (if e == k then id else owner_with o id count k e)) is (self e (ap o is ∙ free) (subst (λ (k : ℕ). extents_owned o 0 k < count) (sym is) some))
     | inr not ↦ other e not
   ]
     where
-      self : (e : ℕ) → o e ≡ 0 → owned o 0 e < count → owner_with o id count (e + 1) e ≡ (if e == e then id else owner_with o id count e e)
+      self : (e : ℕ) → o e ≡ 0 → extents_owned o 0 e < count → owner_with o id count (e + 1) e ≡ (if e == e then id else owner_with o id count e e)
       self e free some = grind (arith, nat_tests)
 
       other : (e : ℕ) → e ≢ n → owner_with o id count (n + 1) e ≡ (if e == n then id else owner_with o id count n e)
       other e not = grind (arith, nat_tests)
 
-  pub taken_none : (e : ℕ) → (o n ≡ 0 → count ≤ owned o 0 n) → owner_with o id count (n + 1) e ≡ owner_with o id count n e
+  pub taken_none : (e : ℕ) → (o n ≡ 0 → count ≤ extents_owned o 0 n) → owner_with o id count (n + 1) e ≡ owner_with o id count n e
   taken_none e none = elim (cases_eq e n) [
-    | inl is ↦ subst (λ (k : ℕ). owner_with o id count (k + 1) e ≡ owner_with o id count k e) is (self e (λ z. let f = none (sym (ap o is) ∙ z) in subst (λ (k : ℕ). count ≤ owned o 0 k) (sym is) f))
+    | inl is ↦ subst (λ (k : ℕ). owner_with o id count (k + 1) e ≡ owner_with o id count k e) is (self e (λ z. let f = none (sym (ap o is) ∙ z) in subst (λ (k : ℕ). count ≤ extents_owned o 0 k) (sym is) f))
     | inr not ↦ grind (arith, nat_tests)
   ]
     where
-      self : (e : ℕ) → (o e ≡ 0 → count ≤ owned o 0 e) → owner_with o id count (e + 1) e ≡ owner_with o id count e e
+      self : (e : ℕ) → (o e ≡ 0 → count ≤ extents_owned o 0 e) → owner_with o id count (e + 1) e ≡ owner_with o id count e e
       self e past = elim (cases_eq (o e) 0) [
         | inl z ↦ let l = past z in grind (arith, nat_tests)
         | inr z ↦ grind (arith, nat_tests)
       ]
 
-  pub owned_free : o n ≡ 0 → owned o 0 (n + 1) ≡ owned o 0 n + 1
+  pub owned_free : o n ≡ 0 → extents_owned o 0 (n + 1) ≡ extents_owned o 0 n + 1
   owned_free free = sum_before_more (λ k. if o k == 0 then 1 else 0) n ∙ (let one : ◌≡◌ {A = ℕ} (if o n == 0 then 1 else 0) 1 = grind (arith, nat_tests) in omega (arith, one))
 
-  pub owned_taken : o n ≢ 0 → owned o 0 (n + 1) ≡ owned o 0 n
+  pub owned_taken : o n ≢ 0 → extents_owned o 0 (n + 1) ≡ extents_owned o 0 n
   owned_taken taken = sum_before_more (λ k. if o k == 0 then 1 else 0) n ∙ (let one : ◌≡◌ {A = ℕ} (if o n == 0 then 1 else 0) 0 = grind (arith, nat_tests) in omega (arith, one))
 
 -- of the extents below `n` those to be taken were given to `id`, and so many are left to give
 pub record Taking (o now : ℕ → ℕ) (id count n left : ℕ) : Type 0 where
   pub done : (e : ℕ) → e < 2048 → now e ≡ owner_with o id count n e
-  pub rest : left ≡ count - owned o 0 n
+  pub rest : left ≡ count - extents_owned o 0 n
 
 pub taking_first : (o : ℕ → ℕ) (id count : ℕ) → Taking o o id count 0 count
 taking_first o id count = record {
@@ -159,7 +159,7 @@ module _ (o now : ℕ → ℕ) (id count n left : ℕ) (taking : Taking o now id
   pub taking_none : (0 < left → now n ≡ 0 → ⊥) → Taking o now id count (n + 1) left
   taking_none none =
       let was = taking.rest in
-      let past : o n ≡ 0 → count ≤ owned o 0 n = λ z. elim (cases_lt 0 left) [
+      let past : o n ≡ 0 → count ≤ extents_owned o 0 n = λ z. elim (cases_lt 0 left) [
         | inl l ↦ absurd (none l (owner_now ∙ z))
         | inr l ↦ omega (arith, l, was)
       ] in

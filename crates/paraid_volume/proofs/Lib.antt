@@ -7,7 +7,7 @@ pub mod ChangeLemmas
 pub mod ClearLemmas
 pub mod CreateLemmas
 pub mod LivesLemmas
-pub mod LivedLemmas
+pub mod OneCallLemmas
 pub mod StateLemmas
 pub mod RefusalLemmas
 pub mod IsolationLemmas

@@ -7,12 +7,12 @@ use Rattle.std.proofs.lemmas.Bool.Decides.{nat_tests}
 use Rattle.std.proofs.lemmas.Nat.{div-mul-add, mod-mul-add, mod_below}
 use Rattle.paraid_base.specs.declared.block.Block.{Block}
 use Rattle.paraid_base.proofs.PlacesLemmas.{sum_before_step}
-use Rattle.paraid_volume.specs.States.{IsPlace, Shows, State, written}
-use Rattle.paraid_volume.specs.Tables.{IsExtent, IsSameTable, extent_count, extent_size, owned, owner_in}
+use Rattle.paraid_volume.specs.States.{IsPlace, ShowsVolumes, VolumeState, with_block}
+use Rattle.paraid_volume.specs.Tables.{IsExtent, IsSameTable, extent_count, extent_size, extents_owned, owner_in}
 use Rattle.paraid_volume.proofs.ExtentLemmas.{back, extent_some, extents_few, same_name, same_owned, same_place, same_table}
 
 -- one extent more is owned past an owned extent
-pub owned_past : (o : ℕ → ℕ) (id e f : ℕ) → o e ≡ id → e < f → owned o id e + 1 ≤ owned o id f
+pub owned_past : (o : ℕ → ℕ) (id e f : ℕ) → o e ≡ id → e < f → extents_owned o id e + 1 ≤ extents_owned o id f
 owned_past o id e f is l =
     let step = sum_before_step (λ k. if o k == id then 1 else 0) e f l in
     let one : ◌≡◌ {A = ℕ} (if o e == id then 1 else 0) 1 = grind (arith, nat_tests, is) in
@@ -45,7 +45,7 @@ place_parts count a i j v w p large x y =
     let some = extent_some count large in
     let parts = same_parts (extent_size count) x.extent y.extent (v % extent_size count) (w % extent_size count) (mod_below v (extent_size count) some) (mod_below w (extent_size count) some) (sym x.is ∙ y.is) in
     let owner : i ≡ j = sym x.number.is ∙ ap (owner_in a) parts.0 ∙ y.number.is in
-    let number : v / extent_size count ≡ w / extent_size count = sym x.number.number ∙ ap (owned (owner_in a) i) parts.0 ∙ ap (λ (k : ℕ). owned (owner_in a) k y.extent) owner ∙ y.number.number in
+    let number : v / extent_size count ≡ w / extent_size count = sym x.number.number ∙ ap (extents_owned (owner_in a) i) parts.0 ∙ ap (λ (k : ℕ). extents_owned (owner_in a) k y.extent) owner ∙ y.number.number in
     (owner, sym (div-add-mod v (extent_size count)) ∙ ap (λ (n : ℕ). extent_size count * n + v % extent_size count) number ∙ ap (λ (n : ℕ). extent_size count * (w / extent_size count) + n) parts.1 ∙ div-add-mod w (extent_size count))
 
 pub place_past : (count : ℕ) (a : ℕ → Block) (id v p : ℕ) → IsPlace count a id v p → 6 ≤ p
@@ -66,7 +66,7 @@ module _ (count : ℕ) (a b : ℕ → Block) (id v place : ℕ) (bytes : Block) 
   pub same : IsSameTable a b
   same k l = sym (other k (λ is. let past = place_past count a id v place at in let no : ⊥ = omega (arith, is, past, l) in absurd no))
 
-  shows_block : (s : State) → Shows count a s → (i w p : ℕ) → IsPlace count b i w p → (written s id v bytes).block i w ≡ b p
+  shows_block : (s : VolumeState) → ShowsVolumes count a s → (i w p : ℕ) → IsPlace count b i w p → (with_block s id v bytes).block i w ≡ b p
   shows_block s shows i w p is =
       let was : IsPlace count a i w p = same_place b a (back a b same) count i w p large is in
       elim (cases_eq place p) [
@@ -81,7 +81,7 @@ module _ (count : ℕ) (a b : ℕ → Block) (id v place : ℕ) (bytes : Block) 
             ∙ shows.block i w p was ∙ sym (other p e)
       ]
 
-  pub shows_written : (s : State) → Shows count a s → Shows count b (written s id v bytes)
+  pub shows_written : (s : VolumeState) → ShowsVolumes count a s → ShowsVolumes count b (with_block s id v bytes)
   shows_written s shows =
       let few = extents_few count large in record {
         table = same_table a b same count large shows.table;

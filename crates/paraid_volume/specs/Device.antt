@@ -7,12 +7,12 @@ use Rattle.paraid_base.specs.BlockAnswers.{Answers}
 use Rattle.paraid_base.specs.declared.event.Answer.{Answer}
 use Rattle.paraid_base.specs.declared.event.Answer.TheVariants.{Wrote}
 use Rattle.paraid_base.specs.Pairs.{pairs_of}
-use Rattle.paraid_base.specs.History.{History, held}
-use Rattle.paraid_base.specs.Xor.{zeroed}
+use Rattle.paraid_base.specs.History.{History, after_all}
+use Rattle.paraid_base.specs.Xor.{zero_block}
 use Rattle.paraid_base.specs.Told.{HasRisen}
 
 -- its size is the same, a halt has a cause and stays, and what is told was told before
-pub record Went {S : Type 0} (count halts : S → ℕ) (halted : S → Option Halt) (tells : S → Bool) (old new : S) : Type 0 where
+pub record DeviceGoesOn {S : Type 0} (count halts : S → ℕ) (halted : S → Option Halt) (tells : S → Bool) (old new : S) : Type 0 where
   pub size : count new ≡ count old
   pub later : halts old ≤ halts new
   pub cause : IsNone (halted old) → IsSome (halted new) → HasRisen (halts old) (halts new)
@@ -20,23 +20,23 @@ pub record Went {S : Type 0} (count halts : S → ℕ) (halted : S → Option Ha
   pub told : IsTrue (tells new) → IsTrue (tells old)
 
 -- what it stood for it stands for
-abbrev pub Keeps : {S : Type 0} → (S → History → Type 0) → (S → Bool) → S → S → Type 0
-Keeps stands tells old new = (h : History) → stands old h → IsTrue (tells new) → stands new h
+abbrev pub KeepsHistories : {S : Type 0} → (S → History → Type 0) → (S → Bool) → S → S → Type 0
+KeepsHistories stands tells old new = (h : History) → stands old h → IsTrue (tells new) → stands new h
 
 -- the event is a read
-abbrev pub IsRead : Event → Type 0
-IsRead (Read block) = Unit {0}
-IsRead event = ⊥
+abbrev pub IsReadEvent : Event → Type 0
+IsReadEvent (Read block) = Unit {0}
+IsReadEvent event = ⊥
 
 -- the event is a write
-abbrev pub IsWrite : Event → Type 0
-IsWrite (Write pairs) = Unit {0}
-IsWrite event = ⊥
+abbrev pub IsWriteEvent : Event → Type 0
+IsWriteEvent (Write pairs) = Unit {0}
+IsWriteEvent event = ⊥
 
 -- the event is a flush
-abbrev pub IsFlush : Event → Type 0
-IsFlush Flush = Unit {0}
-IsFlush event = ⊥
+abbrev pub IsFlushEvent : Event → Type 0
+IsFlushEvent Flush = Unit {0}
+IsFlushEvent event = ⊥
 
 -- it looks at the device or writes to it, and does not flush it
 abbrev pub IsReadOrWrite : Event → Type 0
@@ -56,7 +56,7 @@ pub record More (holds : Answers → Type 0) (kind : Event → Type 0) (events :
   pub all : AreAll kind more
 
 -- The events that were kept are kept, and more of this kind, those that gave a halt included.
-pub record Grown {S : Type 0} (kept : S → Answers → Type 0) (tells : S → Bool) (kind : Event → Type 0) (old new : S) : Type 0 where
+pub record KeepsMore {S : Type 0} (kept : S → Answers → Type 0) (tells : S → Bool) (kind : Event → Type 0) (old new : S) : Type 0 where
   pub grows : (events : Answers) → kept old events → IsTrue (tells new) → More (kept new) kind events
 
 -- the entry of a write that was accepted; no other event has one
@@ -65,20 +65,20 @@ entry_in (Write pairs) (Wrote number) = pairs_of pairs ∷ []
 entry_in event answer = []
 
 -- the entries of the writes that were accepted among these events
-abbrev pub writes_of : Answers → History
-writes_of [] = []
-writes_of (e ∷ es) = entry_in e.0 e.1 ++ writes_of es
+abbrev pub entries_in : Answers → History
+entries_in [] = []
+entries_in (e ∷ es) = entry_in e.0 e.1 ++ entries_in es
 
 -- a history and the events that were kept with it, or neither
-abbrev pub Since : Type 0
-Since = Option (History × Answers)
+abbrev pub SinceHistory : Type 0
+SinceHistory = Option (History × Answers)
 
 -- The device stands for this history. If a history and events are given, it is that history with the
 -- writes of the events that were kept after these.
-abbrev pub Holds : {S : Type 0} → (S → History → Type 0) → (S → Answers → Type 0) → Since → S → History → Type 0
-Holds stands kept None device h = stands device h
-Holds stands kept (Some from) device h =
-    stands device h × (made : Answers) × kept device (from.1 ++ made) × (h ≡ from.0 ++ writes_of made)
+abbrev pub DeviceHolds : {S : Type 0} → (S → History → Type 0) → (S → Answers → Type 0) → SinceHistory → S → History → Type 0
+DeviceHolds stands kept None device h = stands device h
+DeviceHolds stands kept (Some from) device h =
+    stands device h × (made : Answers) × kept device (from.1 ++ made) × (h ≡ from.0 ++ entries_in made)
 
 -- the halt in a result
 abbrev pub halt_in : {A : Type 0} → Result A Halt → Option Halt
@@ -91,15 +91,15 @@ Between start end b = (start ≤ b) × (b < end)
 
 -- What was stood for is stood for with more writes. Each of them left the blocks that are not
 -- inside as they were, and after the last one those inside are zeros.
-pub record Cleared (holds : History → Type 0) (h : History) (inside : ℕ → Type 0) : Type 0 where
+pub record IsZeroed (holds : History → Type 0) (h : History) (inside : ℕ → Type 0) : Type 0 where
   pub more : History
   pub stands : holds (h ++ more)
-  pub rest : (k b : ℕ) → (inside b → ⊥) → held (h ++ take k more) b ≡ held h b
-  pub zeros : (b : ℕ) → inside b → held (h ++ more) b ≡ zeroed
+  pub rest : (k b : ℕ) → (inside b → ⊥) → after_all (h ++ take k more) b ≡ after_all h b
+  pub zeros : (b : ℕ) → inside b → after_all (h ++ more) b ≡ zero_block
 
 -- What was stood for is stood for with such writes, in each case.
 abbrev pub Clears : {S : Type 0} → (S → History → Type 0) → (S → Bool) → S → S → (ℕ → Type 0) → Type 0
-Clears stands tells old new inside = (h : History) → stands old h → IsTrue (tells new) → Cleared (stands new) h inside
+Clears stands tells old new inside = (h : History) → stands old h → IsTrue (tells new) → IsZeroed (stands new) h inside
 
 -- a block of extent `e`, which `id` owns
 abbrev pub OfExtent : (ℕ → ℕ) → ℕ → ℕ → ℕ → ℕ → Type 0

@@ -6,7 +6,7 @@ use Rattle.paraid_volume.specs.declared.fault.VolFault.{VolFault}
 use Rattle.paraid_volume.specs.declared.fault.VolFault.TheVariants.{Halt as VolHalt, Small, NotVolumes, Already, NoVolume, NoBlock, Exists, NoExtents, Names, Space}
 use Rattle.paraid_volume.specs.declared.name.Name.{Name}
 use Rattle.paraid_volume.specs.NameValues.{IsNameOf}
-use Rattle.paraid_volume.specs.Tables.{IsLive, extent_count, extent_size, owned, owner_in}
+use Rattle.paraid_volume.specs.Tables.{IsLiveId, extent_count, extent_size, extents_owned, owner_in}
 
 -- the halt in a result
 abbrev pub vol_halt_in : {A : Type 0} → Result A VolFault → Option Halt
@@ -17,8 +17,8 @@ vol_halt_in (Err fault) = None
 -- why block `v` of volume `id` was not read or written
 abbrev pub IsPlaceFault : ℕ → (ℕ → Block) → Option Halt → ℕ → ℕ → VolFault → Type 0
 IsPlaceFault count content halted id v (VolHalt halt) = halted ≡ Some halt
-IsPlaceFault count content halted id v (NoVolume i) = (i ≡ id) × (IsLive content id → ⊥)
-IsPlaceFault count content halted id v (NoBlock b) = (b ≡ v) × IsLive content id × (extent_size count * owned (owner_in content) id (extent_count count) ≤ v)
+IsPlaceFault count content halted id v (NoVolume i) = (i ≡ id) × (IsLiveId content id → ⊥)
+IsPlaceFault count content halted id v (NoBlock b) = (b ≡ v) × IsLiveId content id × (extent_size count * extents_owned (owner_in content) id (extent_count count) ≤ v)
 IsPlaceFault count content halted id v fault = ⊥
 
 -- why a device with volumes was not taken
@@ -43,29 +43,29 @@ IsHalt halted fault = ⊥
 -- why there is no such volume to delete
 abbrev pub IsIdFault : (ℕ → Block) → Option Halt → ℕ → VolFault → Type 0
 IsIdFault content halted id (VolHalt halt) = halted ≡ Some halt
-IsIdFault content halted id (NoVolume i) = (i ≡ id) × (IsLive content id → ⊥)
+IsIdFault content halted id (NoVolume i) = (i ≡ id) × (IsLiveId content id → ⊥)
 IsIdFault content halted id fault = ⊥
 
 -- no live id has this name
 abbrev pub IsNew : (ℕ → Block) → Name → Type 0
-IsNew content name = (i : ℕ) → IsLive content i → IsNameOf content i name → ⊥
+IsNew content name = (i : ℕ) → IsLiveId content i → IsNameOf content i name → ⊥
 
 -- there is such a block of volume `id`
-abbrev pub IsServed : ℕ → (ℕ → Block) → ℕ → ℕ → Type 0
-IsServed count content id v = IsLive content id × (v < extent_size count * owned (owner_in content) id (extent_count count))
+abbrev pub IsServedBlock : ℕ → (ℕ → Block) → ℕ → ℕ → Type 0
+IsServedBlock count content id v = IsLiveId content id × (v < extent_size count * extents_owned (owner_in content) id (extent_count count))
 
 -- the least id that has no name
 pub record IsLeastFree (content : ℕ → Block) (id : ℕ) : Type 0 where
   pub low : 1 ≤ id
   pub high : id ≤ 31
-  pub free : IsLive content id → ⊥
-  pub least : (i : ℕ) → 1 ≤ i → i < id → IsLive content i
+  pub free : IsLiveId content id → ⊥
+  pub least : (i : ℕ) → 1 ≤ i → i < id → IsLiveId content i
 
 -- why there is no new volume of this name and so many extents
 abbrev pub IsCreateFault : ℕ → (ℕ → Block) → Option Halt → Name → ℕ → VolFault → Type 0
 IsCreateFault count content halted name extents (VolHalt halt) = halted ≡ Some halt
-IsCreateFault count content halted name extents (Exists i) = IsLive content i × IsNameOf content i name
+IsCreateFault count content halted name extents (Exists i) = IsLiveId content i × IsNameOf content i name
 IsCreateFault count content halted name extents NoExtents = IsNew content name × (extents ≡ 0)
-IsCreateFault count content halted name extents Names = IsNew content name × (0 < extents) × ((i : ℕ) → 1 ≤ i → i ≤ 31 → IsLive content i)
-IsCreateFault count content halted name extents (Space f) = IsNew content name × ((i : ℕ) × IsLeastFree content i) × (f ≡ owned (owner_in content) 0 (extent_count count)) × (f < extents)
+IsCreateFault count content halted name extents Names = IsNew content name × (0 < extents) × ((i : ℕ) → 1 ≤ i → i ≤ 31 → IsLiveId content i)
+IsCreateFault count content halted name extents (Space f) = IsNew content name × ((i : ℕ) × IsLeastFree content i) × (f ≡ extents_owned (owner_in content) 0 (extent_count count)) × (f < extents)
 IsCreateFault count content halted name extents fault = ⊥

@@ -1,11 +1,11 @@
 -- A write of the blocks of a table
 use Rattle.std.specs.Prelude.{◌≡◌, ℕ, ◌<◌, ◌≤◌, ◌≢◌, ◌++◌, ◌∷◌, [], take, ◌==◌, ◌&&◌, nat_lt, if◌then◌else◌, slice_index, All}
 use Rattle.paraid_base.specs.declared.block.Block.{Block}
-use Rattle.paraid_base.specs.History.{Entry, History, held, last_of}
-use Rattle.paraid_base.specs.Xor.{zeroed}
+use Rattle.paraid_base.specs.History.{Entry, History, after_all, last_of}
+use Rattle.paraid_base.specs.Xor.{zero_block}
 use Rattle.paraid_volume.specs.declared.name.Name.{Name}
 use Rattle.paraid_volume.specs.NameValues.{IsNameOf}
-use Rattle.paraid_volume.specs.Tables.{name_in, owned, owner_in}
+use Rattle.paraid_volume.specs.Tables.{name_in, extents_owned, owner_in}
 
 -- the entry makes one table of another, and changes nothing else
 pub record IsLaid (old new : ℕ → Block) (entry : Entry) : Type 0 where
@@ -19,7 +19,7 @@ owner_without owner id extents e = if nat_lt e extents && owner e == id then 0 e
 
 -- owners after `id` was given the first `count` free extents
 abbrev pub owner_with : (ℕ → ℕ) → ℕ → ℕ → ℕ → ℕ → ℕ
-owner_with owner id count extents e = if nat_lt e extents && (owner e == 0 && nat_lt (owned owner 0 e) count) then id else owner e
+owner_with owner id count extents e = if nat_lt e extents && (owner e == 0 && nat_lt (extents_owned owner 0 e) count) then id else owner e
 
 -- one table is the other without `id`
 pub record IsWithout (id extents : ℕ) (old new : ℕ → Block) : Type 0 where
@@ -38,10 +38,10 @@ pub record IsWith (id : ℕ) (text : Name) (count extents : ℕ) (old new : ℕ 
   pub owners : (e : ℕ) → e < 2048 → owner_in new e ≡ owner_with (owner_in old) id count extents e
 
 -- Zeros were written to the blocks inside, and then the blocks of a table in one entry.
-pub record Made (holds : History → Type 0) (h : History) (inside : ℕ → Type 0) (old new : ℕ → Block) : Type 0 where
+pub record MakesTable (holds : History → Type 0) (h : History) (inside : ℕ → Type 0) (old new : ℕ → Block) : Type 0 where
   pub more : History
   pub entry : Entry
   pub stands : holds ((h ++ more) ++ entry ∷ [])
-  pub rest : (k b : ℕ) → (inside b → ⊥) → held (h ++ take k more) b ≡ held h b
-  pub zeros : (b : ℕ) → inside b → held (h ++ more) b ≡ zeroed
+  pub rest : (k b : ℕ) → (inside b → ⊥) → after_all (h ++ take k more) b ≡ after_all h b
+  pub zeros : (b : ℕ) → inside b → after_all (h ++ more) b ≡ zero_block
   pub laid : IsLaid old new entry

@@ -26,11 +26,11 @@ abbrev pub owner_in : (ℕ → Block) → ℕ → ℕ
 owner_in content e = slice_index (content (2 + e / 512)).bytes (e % 512)
 
 -- how many of the first `n` extents this is the owner of
-abbrev pub owned : (ℕ → ℕ) → ℕ → ℕ → ℕ
-owned owner id n = sum_before (λ e. if owner e == id then 1 else 0) n
+abbrev pub extents_owned : (ℕ → ℕ) → ℕ → ℕ → ℕ
+extents_owned owner id n = sum_before (λ e. if owner e == id then 1 else 0) n
 
 -- an id with a name
-pub record IsLive (content : ℕ → Block) (id : ℕ) : Type 0 where
+pub record IsLiveId (content : ℕ → Block) (id : ℕ) : Type 0 where
   pub low : 1 ≤ id
   pub high : id ≤ 31
   pub named : 0 < name_in content id 0
@@ -39,17 +39,17 @@ pub record IsLive (content : ℕ → Block) (id : ℕ) : Type 0 where
 pub record AreNames (content : ℕ → Block) : Type 0 where
   pub fields : (id : ℕ) → 1 ≤ id → id ≤ 31 → IsField (name_in content id)
   pub rest : (k : ℕ) → 496 ≤ k → k < 512 → slice_index (content 1).bytes k ≡ 0
-  pub distinct : (j i : ℕ) → i < j → IsLive content i → IsLive content j
+  pub distinct : (j i : ℕ) → i < j → IsLiveId content i → IsLiveId content j
       → ((k : ℕ) → k < 16 → name_in content i k ≡ name_in content j k) → ⊥
 
 -- blocks 2 to 5: one byte for each extent, a live id or 0; zeros past them; each live id is there
 pub record AreOwners (extents : ℕ) (content : ℕ → Block) : Type 0 where
-  pub live : (e : ℕ) → e < extents → owner_in content e ≢ 0 → IsLive content (owner_in content e)
+  pub live : (e : ℕ) → e < extents → owner_in content e ≢ 0 → IsLiveId content (owner_in content e)
   pub rest : (e : ℕ) → extents ≤ e → e < 2048 → owner_in content e ≡ 0
-  pub some : (id : ℕ) → IsLive content id → 0 < owned (owner_in content) id extents
+  pub some : (id : ℕ) → IsLiveId content id → 0 < extents_owned (owner_in content) id extents
 
 -- the first six blocks are a table for a device of `count` blocks
-pub record IsTable (count : ℕ) (content : ℕ → Block) : Type 0 where
+pub record IsVolumeTable (count : ℕ) (content : ℕ → Block) : Type 0 where
   pub head : (content 0).bytes ≡ head_bytes (extent_size count) (extent_count count)
   pub names : AreNames content
   pub owners : AreOwners (extent_count count) content
@@ -61,4 +61,4 @@ IsSameTable a b = (k : ℕ) → k < 6 → a k ≡ b k
 -- extent `e` is number `k` of those of `id`, in ascending order
 pub record IsExtent (owner : ℕ → ℕ) (id k e : ℕ) : Type 0 where
   pub is : owner e ≡ id
-  pub number : owned owner id e ≡ k
+  pub number : extents_owned owner id e ≡ k

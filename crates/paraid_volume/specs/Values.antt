@@ -5,8 +5,8 @@ use Rattle.paraid_base.specs.declared.fault.Halt.{Halt}
 use Rattle.paraid_base.specs.declared.event.Answer.TheVariants.{Value, Wrote}
 use Rattle.paraid_base.specs.declared.event.Event.TheVariants.{Read, Write}
 use Rattle.paraid_base.specs.BlockAnswers.{Answers}
-use Rattle.paraid_base.specs.History.{History, held}
-use Rattle.paraid_base.specs.Pairs.{one}
+use Rattle.paraid_base.specs.History.{History, after_all}
+use Rattle.paraid_base.specs.Pairs.{single_pair}
 use Rattle.paraid_volume.specs.declared.volumes.Volumes.{Volumes}
 use Rattle.paraid_volume.specs.States.{IsPlace}
 use Rattle.paraid_volume.specs.TableBlocks.{in_table}
@@ -21,12 +21,12 @@ abbrev pub halted_of : {B : Type 0} {g : _} → Volumes B g → Option Halt
 halted_of v = v.halt
 
 -- the six blocks of its table
-abbrev pub table_of : {B : Type 0} {g : _} → Volumes B g → ℕ → Block
-table_of v = in_table v.table
+abbrev pub volume_table : {B : Type 0} {g : _} → Volumes B g → ℕ → Block
+volume_table v = in_table v.table
 
 -- Its device stands for these writes, which left its table.
-abbrev pub StandsFor : {B : Type 0} {g : _} → (B → History → Type 0) → Volumes B g → History → Type 0
-StandsFor stands v h = stands v.blocks h × IsSameTable (in_table v.table) (held h)
+abbrev pub VolumesStandFor : {B : Type 0} {g : _} → (B → History → Type 0) → Volumes B g → History → Type 0
+VolumesStandFor stands v h = stands v.blocks h × IsSameTable (in_table v.table) (after_all h)
 
 -- What is kept are these events and the read of one block, where this block of a volume lies.
 pub record KeepsRead (holds : Answers → Type 0) (events : Answers) (count : ℕ) (content : ℕ → Block) (id v : ℕ) (bytes : Block) : Type 0 where
@@ -39,4 +39,4 @@ pub record KeepsWrite (holds : Answers → Type 0) (events : Answers) (count : �
   pub place : ℕ
   pub is : IsPlace count content id v place
   pub number : ℕ
-  pub kept : holds (events ++ (Write (one place bytes), Wrote number) ∷ [])
+  pub kept : holds (events ++ (Write (single_pair place bytes), Wrote number) ∷ [])

@@ -2,9 +2,9 @@
 ghost use Rattle.std.specs.Prelude.{◌≡◌, ◌≢◌, ℕ, ◌<◌, ◌≤◌, ◌+◌, ◌*◌, ◌^◌, ◌++◌, ◌∷◌, [], None, All, IsTrue, OnOk};
 ghost use Rattle.paraid_base.specs.declared.block.Block.{Block as BlockType};
 ghost use Rattle.paraid_base.specs.Pairs.{pairs_of};
-ghost use Rattle.paraid_base.specs.History.{History, held};
-ghost use Rattle.paraid_volume.specs.Device.{Went, Holds, Since, Keeps, Grown, IsRead, IsWrite, Clears, Between, InExtent, OfExtent, halt_in};
-ghost use Rattle.paraid_volume.specs.Laid.{Made};
+ghost use Rattle.paraid_base.specs.History.{History, after_all};
+ghost use Rattle.paraid_volume.specs.Device.{DeviceGoesOn, DeviceHolds, SinceHistory, KeepsHistories, KeepsMore, IsReadEvent, IsWriteEvent, Clears, Between, InExtent, OfExtent, halt_in};
+ghost use Rattle.paraid_volume.specs.Laid.{MakesTable};
 ghost use Rattle.paraid_volume.specs.TableBlocks.{in_table};
 ghost use Rattle.paraid_volume.specs.Tables.{IsSameTable, owner_in};
 
@@ -15,13 +15,13 @@ use paraid_base::{Block, BlockFault, Blocks, Halt, Pairs};
 fn read_block<B: Blocks>(device: &mut B, table: &mut Table, at: u32) -> Result<(), Halt>
     requires at { at < 6 }
     requires size { 7 ≤ B.block_count device.old }
-    ensures went { Went B.block_count B.halts B.halted B.tells device.old device.new }
-    ensures grown { Grown B.kept B.tells IsRead device.old device.new }
+    ensures went { DeviceGoesOn B.block_count B.halts B.halted B.tells device.old device.new }
+    ensures grown { KeepsMore B.kept B.tells IsReadEvent device.old device.new }
     ensures halt { B.halted device.new ≡ halt_in result }
-    ensures keeps { OnOk result ((from : Since) → Keeps (Holds B.stands B.kept from) B.tells
+    ensures keeps { OnOk result ((from : SinceHistory) → KeepsHistories (DeviceHolds B.stands B.kept from) B.tells
         device.old device.new) }
     ensures read { OnOk result ((h : History) → B.stands device.old h
-        → IsTrue (B.tells device.new) → in_table table.new at ≡ held h at) }
+        → IsTrue (B.tells device.new) → in_table table.new at ≡ after_all h at) }
     ensures rest { (k : ℕ) → k ≢ at → in_table table.new k ≡ in_table table.old k }
 {
     let mut bytes = Block::zero();
@@ -38,13 +38,13 @@ fn read_block<B: Blocks>(device: &mut B, table: &mut Table, at: u32) -> Result<(
 /// Reads the first six blocks of a device.
 pub(crate) fn read_table<B: Blocks>(device: &mut B, table: &mut Table) -> Result<(), Halt>
     requires { 7 ≤ B.block_count device.old }
-    ensures went { Went B.block_count B.halts B.halted B.tells device.old device.new }
-    ensures grown { Grown B.kept B.tells IsRead device.old device.new }
+    ensures went { DeviceGoesOn B.block_count B.halts B.halted B.tells device.old device.new }
+    ensures grown { KeepsMore B.kept B.tells IsReadEvent device.old device.new }
     ensures halt { B.halted device.new ≡ halt_in result }
-    ensures keeps { OnOk result ((from : Since) → Keeps (Holds B.stands B.kept from) B.tells
+    ensures keeps { OnOk result ((from : SinceHistory) → KeepsHistories (DeviceHolds B.stands B.kept from) B.tells
         device.old device.new) }
     ensures read { OnOk result ((h : History) → B.stands device.old h
-        → IsTrue (B.tells device.new) → IsSameTable (in_table table.new) (held h)) }
+        → IsTrue (B.tells device.new) → IsSameTable (in_table table.new) (after_all h)) }
 {
     for at in 0..6 {
         read_block(device, table, at)?;
@@ -56,12 +56,12 @@ pub(crate) fn read_table<B: Blocks>(device: &mut B, table: &mut Table) -> Result
 pub(crate) fn write_table<B: Blocks>(device: &mut B, pairs: &Pairs) -> Result<(), Halt>
     requires size { 7 ≤ B.block_count device.old }
     requires below { All (λ (pair : ℕ × BlockType). pair.0 < 6) (pairs_of pairs.now) }
-    ensures went { Went B.block_count B.halts B.halted B.tells device.old device.new }
-    ensures grown { Grown B.kept B.tells IsWrite device.old device.new }
+    ensures went { DeviceGoesOn B.block_count B.halts B.halted B.tells device.old device.new }
+    ensures grown { KeepsMore B.kept B.tells IsWriteEvent device.old device.new }
     ensures halt { B.halted device.new ≡ halt_in result }
-    ensures adds { OnOk result ((from : Since) (h : History)
-        → Holds B.stands B.kept from device.old h → IsTrue (B.tells device.new)
-        → Holds B.stands B.kept from device.new (h ++ pairs_of pairs.now ∷ [])) }
+    ensures adds { OnOk result ((from : SinceHistory) (h : History)
+        → DeviceHolds B.stands B.kept from device.old h → IsTrue (B.tells device.new)
+        → DeviceHolds B.stands B.kept from device.new (h ++ pairs_of pairs.now ∷ [])) }
 {
     match device.write_many(pairs) {
         Ok(_) => Ok(()),
@@ -73,10 +73,10 @@ pub(crate) fn write_table<B: Blocks>(device: &mut B, pairs: &Pairs) -> Result<()
 // Writes zeros to one block.
 fn clear_block<B: Blocks>(device: &mut B, at: u32) -> Result<(), Halt>
     requires at { at < B.block_count device.old }
-    ensures went { Went B.block_count B.halts B.halted B.tells device.old device.new }
-    ensures grown { Grown B.kept B.tells IsWrite device.old device.new }
+    ensures went { DeviceGoesOn B.block_count B.halts B.halted B.tells device.old device.new }
+    ensures grown { KeepsMore B.kept B.tells IsWriteEvent device.old device.new }
     ensures halt { B.halted device.new ≡ halt_in result }
-    ensures clears { OnOk result ((from : Since) → Clears (Holds B.stands B.kept from) B.tells device.old device.new (Between at (at + 1))) }
+    ensures clears { OnOk result ((from : SinceHistory) → Clears (DeviceHolds B.stands B.kept from) B.tells device.old device.new (Between at (at + 1))) }
 {
     match device.write(at, &Block::zero()) {
         Ok(_) => Ok(()),
@@ -89,10 +89,10 @@ fn clear_block<B: Blocks>(device: &mut B, at: u32) -> Result<(), Halt>
 pub(crate) fn clear_blocks<B: Blocks>(device: &mut B, start: u32, end: u32) -> Result<(), Halt>
     requires order { start < end }
     requires end { end ≤ B.block_count device.old }
-    ensures went { Went B.block_count B.halts B.halted B.tells device.old device.new }
-    ensures grown { Grown B.kept B.tells IsWrite device.old device.new }
+    ensures went { DeviceGoesOn B.block_count B.halts B.halted B.tells device.old device.new }
+    ensures grown { KeepsMore B.kept B.tells IsWriteEvent device.old device.new }
     ensures halt { B.halted device.new ≡ halt_in result }
-    ensures clears { OnOk result ((from : Since) → Clears (Holds B.stands B.kept from) B.tells device.old device.new (Between start end)) }
+    ensures clears { OnOk result ((from : SinceHistory) → Clears (DeviceHolds B.stands B.kept from) B.tells device.old device.new (Between start end)) }
 {
     for at in start..end {
         clear_block(device, at)?;
@@ -113,10 +113,10 @@ fn clear_extent<B: Blocks>(
     requires few { extent < 2048 }
     requires fits { 6 + extent * size + size ≤ B.block_count device.old }
     requires small { B.block_count device.old < 2 ^ 32 }
-    ensures went { Went B.block_count B.halts B.halted B.tells device.old device.new }
-    ensures grown { Grown B.kept B.tells IsWrite device.old device.new }
+    ensures went { DeviceGoesOn B.block_count B.halts B.halted B.tells device.old device.new }
+    ensures grown { KeepsMore B.kept B.tells IsWriteEvent device.old device.new }
     ensures halt { B.halted device.new ≡ halt_in result }
-    ensures clears { OnOk result ((from : Since) → Clears (Holds B.stands B.kept from) B.tells device.old device.new
+    ensures clears { OnOk result ((from : SinceHistory) → Clears (DeviceHolds B.stands B.kept from) B.tells device.old device.new
         (OfExtent (owner_in (in_table table.now)) id size extent)) }
 {
     if table.owner(extent) != id {
@@ -140,10 +140,10 @@ pub(crate) fn clear_extents<B: Blocks>(
     requires few { extents ≤ 2048 }
     requires fits { 6 + size * extents ≤ B.block_count device.old }
     requires small { B.block_count device.old < 2 ^ 32 }
-    ensures went { Went B.block_count B.halts B.halted B.tells device.old device.new }
-    ensures grown { Grown B.kept B.tells IsWrite device.old device.new }
+    ensures went { DeviceGoesOn B.block_count B.halts B.halted B.tells device.old device.new }
+    ensures grown { KeepsMore B.kept B.tells IsWriteEvent device.old device.new }
     ensures halt { B.halted device.new ≡ halt_in result }
-    ensures clears { OnOk result ((from : Since) → Clears (Holds B.stands B.kept from) B.tells device.old device.new
+    ensures clears { OnOk result ((from : SinceHistory) → Clears (DeviceHolds B.stands B.kept from) B.tells device.old device.new
         (InExtent (owner_in (in_table table.now)) id size extents)) }
 {
     for extent in 0..extents {
@@ -168,12 +168,12 @@ pub(crate) fn make<B: Blocks>(
     requires fits { 6 + size * extents ≤ B.block_count device.old }
     requires small { B.block_count device.old < 2 ^ 32 }
     requires head { in_table old.now 0 ≡ in_table next.now 0 }
-    ensures went { Went B.block_count B.halts B.halted B.tells device.old device.new }
-    ensures grown { Grown B.kept B.tells IsWrite device.old device.new }
+    ensures went { DeviceGoesOn B.block_count B.halts B.halted B.tells device.old device.new }
+    ensures grown { KeepsMore B.kept B.tells IsWriteEvent device.old device.new }
     ensures halt { B.halted device.new ≡ halt_in result }
-    ensures makes { OnOk result ((from : Since) (h : History)
-        → Holds B.stands B.kept from device.old h → IsTrue (B.tells device.new)
-        → Made (Holds B.stands B.kept from device.new) h
+    ensures makes { OnOk result ((from : SinceHistory) (h : History)
+        → DeviceHolds B.stands B.kept from device.old h → IsTrue (B.tells device.new)
+        → MakesTable (DeviceHolds B.stands B.kept from device.new) h
         (InExtent (owner_in (in_table next.now)) id size extents) (in_table old.now)
         (in_table next.now)) }
 {

@@ -37,17 +37,17 @@ fn set_byte_in(blocks: &mut [Block; 6], block: usize, at: usize, byte: u8)
 
 impl Table {
     ghost use Rattle.paraid_base.specs.Pairs.{pairs_of};
-    ghost use Rattle.paraid_base.specs.Xor.{zeroed};
+    ghost use Rattle.paraid_base.specs.Xor.{zero_block};
     ghost use Rattle.paraid_volume.specs.Faults.{IsLeastFree};
     ghost use Rattle.paraid_volume.specs.Laid.{IsLaid, IsWith, IsWithout};
     ghost use Rattle.paraid_volume.specs.Names.{IsField, IsFieldAt};
     ghost use Rattle.paraid_volume.specs.NameValues.{IsNameOf};
     ghost use Rattle.paraid_volume.specs.TableBlocks.{in_table};
-    ghost use Rattle.paraid_volume.specs.Tables.{head_bytes, name_in, owner_in, owned as owned_in, extent_count as count_of, extent_size as size_of, IsLive, IsTable, AreNames, AreOwners, IsExtent};
+    ghost use Rattle.paraid_volume.specs.Tables.{head_bytes, name_in, owner_in, extents_owned as owned_in, extent_count as count_of, extent_size as size_of, IsLiveId, IsVolumeTable, AreNames, AreOwners, IsExtent};
 
     /// Six blocks of zeros.
     pub(crate) fn zero() -> Table
-        ensures { (k : ℕ) → in_table result k ≡ zeroed }
+        ensures { (k : ℕ) → in_table result k ≡ zero_block }
     {
         Table {
             blocks: [
@@ -125,7 +125,7 @@ impl Table {
 
     /// Whether an id has a name.
     pub(crate) fn is_live(&self, id: u8) -> bool
-        ensures { IsTrue result ↔ IsLive (in_table self.now) id }
+        ensures { IsTrue result ↔ IsLiveId (in_table self.now) id }
     {
         id >= 1 && id <= 31 && self.name_byte(id, 0) != 0
     }
@@ -133,7 +133,7 @@ impl Table {
     /// Whether the six blocks are a table for a device of so many blocks.
     pub(crate) fn is_table(&self, count: u32) -> bool
         requires { 7 ≤ count }
-        ensures { IsTrue result ↔ IsTable count (in_table self.now) }
+        ensures { IsTrue result ↔ IsVolumeTable count (in_table self.now) }
     {
         self.is_head(count) && self.are_names() && self.are_owners(extent_count(count))
     }
@@ -216,8 +216,8 @@ impl Table {
 
     // Whether no live id before this one has its name.
     fn is_first(&self, id: u8) -> bool
-        requires { IsLive (in_table self.now) id }
-        ensures { IsTrue result ↔ ((i : ℕ) → i < id → IsLive (in_table self.now) i
+        requires { IsLiveId (in_table self.now) id }
+        ensures { IsTrue result ↔ ((i : ℕ) → i < id → IsLiveId (in_table self.now) i
             → ((k : ℕ) → k < 16 → name_in (in_table self.now) i k ≡ name_in (in_table self.now) id k) → ⊥) }
     {
         for other in 1..id {
@@ -229,8 +229,8 @@ impl Table {
     }
 
     fn are_distinct(&self) -> bool
-        ensures { IsTrue result ↔ ((j i : ℕ) → i < j → IsLive (in_table self.now) i
-            → IsLive (in_table self.now) j
+        ensures { IsTrue result ↔ ((j i : ℕ) → i < j → IsLiveId (in_table self.now) i
+            → IsLiveId (in_table self.now) j
             → ((k : ℕ) → k < 16 → name_in (in_table self.now) i k ≡ name_in (in_table self.now) j k) → ⊥) }
     {
         for id in 1..32 {
@@ -251,7 +251,7 @@ impl Table {
     fn are_live(&self, extents: u32) -> bool
         requires { extents ≤ 2048 }
         ensures { IsTrue result ↔ ((e : ℕ) → e < extents → owner_in (in_table self.now) e ≢ 0
-            → IsLive (in_table self.now) (owner_in (in_table self.now) e)) }
+            → IsLiveId (in_table self.now) (owner_in (in_table self.now) e)) }
     {
         for extent in 0..extents {
             let owner = self.owner(extent);
@@ -276,7 +276,7 @@ impl Table {
 
     fn are_some(&self, extents: u32) -> bool
         requires { extents ≤ 2048 }
-        ensures { IsTrue result ↔ ((id : ℕ) → IsLive (in_table self.now) id
+        ensures { IsTrue result ↔ ((id : ℕ) → IsLiveId (in_table self.now) id
             → 0 < owned_in (owner_in (in_table self.now)) id extents) }
     {
         for id in 1..32 {
@@ -302,9 +302,9 @@ impl Table {
 
     /// The id with this name.
     pub(crate) fn find(&self, name: &Name) -> Option<u8>
-        ensures some { IfSome result (λ id. IsLive (in_table self.now) id
+        ensures some { IfSome result (λ id. IsLiveId (in_table self.now) id
             × IsNameOf (in_table self.now) id name.now) }
-        ensures none { IfNone result ((id : ℕ) → IsLive (in_table self.now) id
+        ensures none { IfNone result ((id : ℕ) → IsLiveId (in_table self.now) id
             → IsNameOf (in_table self.now) id name.now → ⊥) }
     {
         for id in 1..32 {
@@ -317,7 +317,7 @@ impl Table {
 
     /// The name of a live id.
     pub(crate) fn name(&self, id: u8) -> Name
-        requires live { IsLive (in_table self.now) id }
+        requires live { IsLiveId (in_table self.now) id }
         requires field { IsField (name_in (in_table self.now) id) }
         ensures { IsNameOf (in_table self.now) id result }
     {
@@ -332,8 +332,8 @@ impl Table {
     pub(crate) fn empty(count: u32) -> Table
         requires { 7 ≤ count }
         ensures head { (in_table result 0).bytes ≡ head_bytes (size_of count) (count_of count) }
-        ensures rest { (k : ℕ) → 1 ≤ k → in_table result k ≡ zeroed }
-        ensures table { IsTable count (in_table result) }
+        ensures rest { (k : ℕ) → 1 ≤ k → in_table result k ≡ zero_block }
+        ensures table { IsVolumeTable count (in_table result) }
     {
         let mut table = Table::zero();
         table.put(0, &head(extent_size(count), extent_count(count)));
@@ -422,7 +422,7 @@ impl Table {
     /// The least free id.
     pub(crate) fn free_id(&self) -> Option<u8>
         ensures some { IfSome result (IsLeastFree (in_table self.now)) }
-        ensures none { IfNone result ((i : ℕ) → 1 ≤ i → i ≤ 31 → IsLive (in_table self.now) i) }
+        ensures none { IfNone result ((i : ℕ) → 1 ≤ i → i ≤ 31 → IsLiveId (in_table self.now) i) }
     {
         for id in 1..32 {
             if !self.is_live(id) {

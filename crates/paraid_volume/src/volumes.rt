@@ -1,7 +1,7 @@
 //! Named volumes.
 ghost use Rattle.std.specs.Prelude.{◌≡◌, ◌≤◌, ◌<◌, ◌^◌};
 ghost use Rattle.paraid_volume.specs.TableBlocks.{in_table};
-ghost use Rattle.paraid_volume.specs.Tables.{extent_count as count_of, extent_size as size_of, IsTable};
+ghost use Rattle.paraid_volume.specs.Tables.{extent_count as count_of, extent_size as size_of, IsVolumeTable};
 
 use crate::device::{make, read_table, write_table};
 use crate::fault::{VolFault, VolRefused};
@@ -24,7 +24,7 @@ pub struct Volumes<B: Blocks> {
     ghost fits: { B.block_count blocks < 2 ^ 32 },
     ghost sized: { size ≡ size_of (B.block_count blocks) },
     ghost counted: { extents ≡ count_of (B.block_count blocks) },
-    ghost valid: { IsTable (B.block_count blocks) (in_table table) },
+    ghost valid: { IsVolumeTable (B.block_count blocks) (in_table table) },
     ghost halted: { B.halted blocks ≡ halt },
 }
 
@@ -33,35 +33,35 @@ impl<B: Blocks> Volumes<B> {
     ghost use Rattle.paraid_base.specs.declared.event.Answer.TheVariants.{Flushed as FlushedAnswer};
     ghost use Rattle.paraid_base.specs.declared.event.Event.TheVariants.{Flush as FlushEvent};
     ghost use Rattle.paraid_base.specs.BlockAnswers.{Answers};
-    ghost use Rattle.paraid_base.specs.History.{History, held};
-    ghost use Rattle.paraid_volume.specs.Device.{Went, Holds, Since, Grown, IsRead, IsWrite, IsFlush, IsReadOrWrite};
-    ghost use Rattle.paraid_volume.specs.Faults.{IsPlaceFault, IsAdoptFault, IsInitFault, IsIdFault, IsCreateFault, IsLeastFree, IsHalt, IsNew, IsServed, vol_halt_in};
-    ghost use Rattle.paraid_volume.specs.States.{State, Shows, Adds, Begins, Makes, IsPlace, created, deleted, written};
-    ghost use Rattle.paraid_volume.specs.Tables.{IsLive, owned, owner_in};
-    ghost use Rattle.paraid_volume.specs.Lives.{Lived, VolLog, create as CreateCall, delete as DeleteCall, read as ReadCall, write as WriteCall, flush as FlushCall, made as Made, removed as Removed, value as Gave, wrote as Wrote, flushed as Flushed, refused as Refused};
+    ghost use Rattle.paraid_base.specs.History.{History, after_all};
+    ghost use Rattle.paraid_volume.specs.Device.{DeviceGoesOn, DeviceHolds, SinceHistory, KeepsMore, IsReadEvent, IsWriteEvent, IsFlushEvent, IsReadOrWrite};
+    ghost use Rattle.paraid_volume.specs.Faults.{IsPlaceFault, IsAdoptFault, IsInitFault, IsIdFault, IsCreateFault, IsLeastFree, IsHalt, IsNew, IsServedBlock, vol_halt_in};
+    ghost use Rattle.paraid_volume.specs.States.{VolumeState, ShowsVolumes, Adds, AddsNoVolume, Makes, IsPlace, with_volume, without_volume, with_block};
+    ghost use Rattle.paraid_volume.specs.Tables.{IsLiveId, extents_owned, owner_in};
+    ghost use Rattle.paraid_volume.specs.Lives.{HasLived, VolLog, create as CreateCall, delete as DeleteCall, read as ReadCall, write as WriteCall, flush as FlushCall, made as Made, removed as Removed, value as Gave, wrote as Wrote, flushed as Flushed, refused as Refused};
     ghost use Rattle.paraid_volume.specs.NameValues.{IsNameOf, letter_of};
-    ghost use Rattle.paraid_volume.specs.Values.{device_of, halted_of, table_of, StandsFor, KeepsRead, KeepsWrite};
+    ghost use Rattle.paraid_volume.specs.Values.{device_of, halted_of, volume_table, VolumesStandFor, KeepsRead, KeepsWrite};
 
     /// Takes a device that holds a table. It only reads.
     pub fn adopt(blocks: B) -> Result<Volumes<B>, VolRefused<B>>
         ensures refused { IfErr result (λ refused. IsAdoptFault (B.block_count blocks)
             (B.halted refused.blocks)
             ((h : History) → B.stands blocks h → IsTrue (B.tells refused.blocks)
-            → IsTable (B.block_count blocks) (held h) → ⊥) refused.fault) }
+            → IsVolumeTable (B.block_count blocks) (after_all h) → ⊥) refused.fault) }
         ensures went { IfOk result (λ volumes.
-            Went B.block_count B.halts B.halted B.tells blocks (device_of volumes)) }
+            DeviceGoesOn B.block_count B.halts B.halted B.tells blocks (device_of volumes)) }
         ensures went_refused { IfErr result (λ refused.
-            Went B.block_count B.halts B.halted B.tells blocks refused.blocks) }
+            DeviceGoesOn B.block_count B.halts B.halted B.tells blocks refused.blocks) }
         ensures grown { IfOk result (λ volumes.
-            Grown B.kept B.tells IsRead blocks (device_of volumes)) }
+            KeepsMore B.kept B.tells IsReadEvent blocks (device_of volumes)) }
         ensures grown_refused { IfErr result (λ refused.
-            Grown B.kept B.tells IsRead blocks refused.blocks) }
+            KeepsMore B.kept B.tells IsReadEvent blocks refused.blocks) }
         ensures ok { IfOk result (λ volumes. halted_of volumes ≡ None) }
-        ensures stands { IfOk result (λ volumes. (from : Since) (h : History) → Holds B.stands B.kept from blocks h
-            → IsTrue (B.tells (device_of volumes)) → StandsFor (Holds B.stands B.kept from) volumes h) }
-        ensures lived { IfOk result (λ volumes. (from : Since) (h : History) → Holds B.stands B.kept from blocks h
+        ensures stands { IfOk result (λ volumes. (from : SinceHistory) (h : History) → DeviceHolds B.stands B.kept from blocks h
+            → IsTrue (B.tells (device_of volumes)) → VolumesStandFor (DeviceHolds B.stands B.kept from) volumes h) }
+        ensures lived { IfOk result (λ volumes. (from : SinceHistory) (h : History) → DeviceHolds B.stands B.kept from blocks h
             → IsTrue (B.tells (device_of volumes))
-            → Lived (StandsFor (Holds B.stands B.kept from) volumes) (B.block_count blocks) (length h) []) }
+            → HasLived (VolumesStandFor (DeviceHolds B.stands B.kept from) volumes) (B.block_count blocks) (length h) []) }
     {
         let mut blocks = blocks;
         let count = blocks.blocks();
@@ -92,24 +92,24 @@ impl<B: Blocks> Volumes<B> {
         ensures refused { IfErr result (λ refused. IsInitFault (B.block_count blocks)
             (B.halted refused.blocks)
             ((h : History) → B.stands blocks h → IsTrue (B.tells refused.blocks)
-            → IsTable (B.block_count blocks) (held h)) refused.fault) }
+            → IsVolumeTable (B.block_count blocks) (after_all h)) refused.fault) }
         ensures taken { IfOk result (λ volumes. (h : History) → B.stands blocks h
-            → IsTrue (B.tells (device_of volumes)) → IsTable (B.block_count blocks) (held h) → ⊥) }
+            → IsTrue (B.tells (device_of volumes)) → IsVolumeTable (B.block_count blocks) (after_all h) → ⊥) }
         ensures went { IfOk result (λ volumes.
-            Went B.block_count B.halts B.halted B.tells blocks (device_of volumes)) }
+            DeviceGoesOn B.block_count B.halts B.halted B.tells blocks (device_of volumes)) }
         ensures went_refused { IfErr result (λ refused.
-            Went B.block_count B.halts B.halted B.tells blocks refused.blocks) }
+            DeviceGoesOn B.block_count B.halts B.halted B.tells blocks refused.blocks) }
         ensures grown { IfOk result (λ volumes.
-            Grown B.kept B.tells IsReadOrWrite blocks (device_of volumes)) }
+            KeepsMore B.kept B.tells IsReadOrWrite blocks (device_of volumes)) }
         ensures grown_refused { IfErr result (λ refused.
-            Grown B.kept B.tells IsReadOrWrite blocks refused.blocks) }
+            KeepsMore B.kept B.tells IsReadOrWrite blocks refused.blocks) }
         ensures ok { IfOk result (λ volumes. halted_of volumes ≡ None) }
-        ensures stands { IfOk result (λ volumes. (from : Since) (h : History) → Holds B.stands B.kept from blocks h
+        ensures stands { IfOk result (λ volumes. (from : SinceHistory) (h : History) → DeviceHolds B.stands B.kept from blocks h
             → IsTrue (B.tells (device_of volumes))
-            → Begins (StandsFor (Holds B.stands B.kept from) volumes) (B.block_count blocks) h) }
-        ensures lived { IfOk result (λ volumes. (from : Since) (h : History) → Holds B.stands B.kept from blocks h
+            → AddsNoVolume (VolumesStandFor (DeviceHolds B.stands B.kept from) volumes) (B.block_count blocks) h) }
+        ensures lived { IfOk result (λ volumes. (from : SinceHistory) (h : History) → DeviceHolds B.stands B.kept from blocks h
             → IsTrue (B.tells (device_of volumes))
-            → Lived (StandsFor (Holds B.stands B.kept from) volumes) (B.block_count blocks) (length h + 1) []) }
+            → HasLived (VolumesStandFor (DeviceHolds B.stands B.kept from) volumes) (B.block_count blocks) (length h + 1) []) }
     {
         let mut blocks = blocks;
         let count = blocks.blocks();
@@ -149,7 +149,7 @@ impl<B: Blocks> Volumes<B> {
 
     /// The number of free extents.
     pub fn free(&self) -> u32
-        ensures { result ≡ owned (owner_in (table_of self.now)) 0
+        ensures { result ≡ extents_owned (owner_in (volume_table self.now)) 0
             (count_of (B.block_count (device_of self.now))) }
     {
         self.table.owned(0, self.extents)
@@ -158,9 +158,9 @@ impl<B: Blocks> Volumes<B> {
     // Where a block of a volume lies.
     fn place(&self, id: u8, block: u32) -> Result<BlockNo, VolFault>
         ensures fault { IfErr result (IsPlaceFault (B.block_count (device_of self.now))
-            (table_of self.now) (halted_of self.now) id block) }
+            (volume_table self.now) (halted_of self.now) id block) }
         ensures halt { vol_halt_in result ≡ halted_of self.now }
-        ensures ok { IfOk result (IsPlace (B.block_count (device_of self.now)) (table_of self.now)
+        ensures ok { IfOk result (IsPlace (B.block_count (device_of self.now)) (volume_table self.now)
             id block) }
         ensures below { IfOk result (λ place. place < B.block_count (device_of self.now)) }
     {
@@ -179,33 +179,33 @@ impl<B: Blocks> Volumes<B> {
     /// Reads a block of a volume. After a refusal `into` holds any bytes.
     pub fn read(&mut self, id: u8, block: u32, into: &mut Block) -> Result<(), VolFault>
         ensures fault { IfErr result (IsPlaceFault (B.block_count (device_of self.old))
-            (table_of self.old) (halted_of self.new) id block) }
-        ensures served { OnOk result (IsServed (B.block_count (device_of self.old))
-            (table_of self.old) id block) }
+            (volume_table self.old) (halted_of self.new) id block) }
+        ensures served { OnOk result (IsServedBlock (B.block_count (device_of self.old))
+            (volume_table self.old) id block) }
         ensures halt { halted_of self.new ≡ vol_halt_in result }
-        ensures went { Went B.block_count B.halts B.halted B.tells (device_of self.old)
+        ensures went { DeviceGoesOn B.block_count B.halts B.halted B.tells (device_of self.old)
             (device_of self.new) }
-        ensures grown { Grown B.kept B.tells IsRead (device_of self.old) (device_of self.new) }
-        ensures table { table_of self.new ≡ table_of self.old }
-        ensures stands { halted_of self.new ≡ None → (from : Since) (h : History) → StandsFor (Holds B.stands B.kept from) self.old h
-            → IsTrue (B.tells (device_of self.new)) → StandsFor (Holds B.stands B.kept from) self.new h }
-        ensures value { OnOk result ((h : History) (s : State) → StandsFor B.stands self.old h
-            → Shows (B.block_count (device_of self.old)) (held h) s
+        ensures grown { KeepsMore B.kept B.tells IsReadEvent (device_of self.old) (device_of self.new) }
+        ensures table { volume_table self.new ≡ volume_table self.old }
+        ensures stands { halted_of self.new ≡ None → (from : SinceHistory) (h : History) → VolumesStandFor (DeviceHolds B.stands B.kept from) self.old h
+            → IsTrue (B.tells (device_of self.new)) → VolumesStandFor (DeviceHolds B.stands B.kept from) self.new h }
+        ensures value { OnOk result ((h : History) (s : VolumeState) → VolumesStandFor B.stands self.old h
+            → ShowsVolumes (B.block_count (device_of self.old)) (after_all h) s
             → IsTrue (B.tells (device_of self.new)) → into.new ≡ s.block id block) }
         ensures event { OnOk result ((events : Answers) → B.kept (device_of self.old) events
             → IsTrue (B.tells (device_of self.new))
             → KeepsRead (B.kept (device_of self.new)) events (B.block_count (device_of self.old))
-            (table_of self.old) id block into.new) }
-        ensures lived { OnOk result ((from : Since) (start : ℕ) (log : VolLog)
-            → Lived (StandsFor (Holds B.stands B.kept from) self.old) (B.block_count (device_of self.old)) start log
+            (volume_table self.old) id block into.new) }
+        ensures lived { OnOk result ((from : SinceHistory) (start : ℕ) (log : VolLog)
+            → HasLived (VolumesStandFor (DeviceHolds B.stands B.kept from) self.old) (B.block_count (device_of self.old)) start log
             → IsTrue (B.tells (device_of self.new))
-            → Lived (StandsFor (Holds B.stands B.kept from) self.new) (B.block_count (device_of self.old)) start
+            → HasLived (VolumesStandFor (DeviceHolds B.stands B.kept from) self.new) (B.block_count (device_of self.old)) start
             (log ++ (ReadCall id block, Gave into.new) ∷ [])) }
-        ensures lived_refused { IfErr result (λ fault. halted_of self.new ≡ None → (from : Since) (start : ℕ)
+        ensures lived_refused { IfErr result (λ fault. halted_of self.new ≡ None → (from : SinceHistory) (start : ℕ)
             (log : VolLog)
-            → Lived (StandsFor (Holds B.stands B.kept from) self.old) (B.block_count (device_of self.old)) start log
+            → HasLived (VolumesStandFor (DeviceHolds B.stands B.kept from) self.old) (B.block_count (device_of self.old)) start log
             → IsTrue (B.tells (device_of self.new))
-            → Lived (StandsFor (Holds B.stands B.kept from) self.new) (B.block_count (device_of self.old)) start
+            → HasLived (VolumesStandFor (DeviceHolds B.stands B.kept from) self.new) (B.block_count (device_of self.old)) start
             (log ++ (ReadCall id block, Refused fault) ∷ [])) }
     {
         let place = self.place(id, block)?;
@@ -222,36 +222,36 @@ impl<B: Blocks> Volumes<B> {
     /// Writes a block of a volume.
     pub fn write(&mut self, id: u8, block: u32, bytes: &Block) -> Result<(), VolFault>
         ensures fault { IfErr result (IsPlaceFault (B.block_count (device_of self.old))
-            (table_of self.old) (halted_of self.new) id block) }
-        ensures served { OnOk result (IsServed (B.block_count (device_of self.old))
-            (table_of self.old) id block) }
+            (volume_table self.old) (halted_of self.new) id block) }
+        ensures served { OnOk result (IsServedBlock (B.block_count (device_of self.old))
+            (volume_table self.old) id block) }
         ensures halt { halted_of self.new ≡ vol_halt_in result }
-        ensures went { Went B.block_count B.halts B.halted B.tells (device_of self.old)
+        ensures went { DeviceGoesOn B.block_count B.halts B.halted B.tells (device_of self.old)
             (device_of self.new) }
-        ensures grown { Grown B.kept B.tells IsWrite (device_of self.old) (device_of self.new) }
-        ensures table { table_of self.new ≡ table_of self.old }
-        ensures adds { OnOk result ((from : Since) (h : History) (s : State) → StandsFor (Holds B.stands B.kept from) self.old h
-            → Shows (B.block_count (device_of self.old)) (held h) s
+        ensures grown { KeepsMore B.kept B.tells IsWriteEvent (device_of self.old) (device_of self.new) }
+        ensures table { volume_table self.new ≡ volume_table self.old }
+        ensures adds { OnOk result ((from : SinceHistory) (h : History) (s : VolumeState) → VolumesStandFor (DeviceHolds B.stands B.kept from) self.old h
+            → ShowsVolumes (B.block_count (device_of self.old)) (after_all h) s
             → IsTrue (B.tells (device_of self.new))
-            → Adds (StandsFor (Holds B.stands B.kept from) self.new) (B.block_count (device_of self.old)) h
-            (written s id block bytes.now)) }
-        ensures stands { OnErr result (halted_of self.new ≡ None → (from : Since) (h : History)
-            → StandsFor (Holds B.stands B.kept from) self.old h → IsTrue (B.tells (device_of self.new))
-            → StandsFor (Holds B.stands B.kept from) self.new h) }
+            → Adds (VolumesStandFor (DeviceHolds B.stands B.kept from) self.new) (B.block_count (device_of self.old)) h
+            (with_block s id block bytes.now)) }
+        ensures stands { OnErr result (halted_of self.new ≡ None → (from : SinceHistory) (h : History)
+            → VolumesStandFor (DeviceHolds B.stands B.kept from) self.old h → IsTrue (B.tells (device_of self.new))
+            → VolumesStandFor (DeviceHolds B.stands B.kept from) self.new h) }
         ensures event { OnOk result ((events : Answers) → B.kept (device_of self.old) events
             → IsTrue (B.tells (device_of self.new))
             → KeepsWrite (B.kept (device_of self.new)) events (B.block_count (device_of self.old))
-            (table_of self.old) id block bytes.now) }
-        ensures lived { OnOk result ((from : Since) (start : ℕ) (log : VolLog)
-            → Lived (StandsFor (Holds B.stands B.kept from) self.old) (B.block_count (device_of self.old)) start log
+            (volume_table self.old) id block bytes.now) }
+        ensures lived { OnOk result ((from : SinceHistory) (start : ℕ) (log : VolLog)
+            → HasLived (VolumesStandFor (DeviceHolds B.stands B.kept from) self.old) (B.block_count (device_of self.old)) start log
             → IsTrue (B.tells (device_of self.new))
-            → Lived (StandsFor (Holds B.stands B.kept from) self.new) (B.block_count (device_of self.old)) start
+            → HasLived (VolumesStandFor (DeviceHolds B.stands B.kept from) self.new) (B.block_count (device_of self.old)) start
             (log ++ (WriteCall id block bytes.now, Wrote) ∷ [])) }
-        ensures lived_refused { IfErr result (λ fault. halted_of self.new ≡ None → (from : Since) (start : ℕ)
+        ensures lived_refused { IfErr result (λ fault. halted_of self.new ≡ None → (from : SinceHistory) (start : ℕ)
             (log : VolLog)
-            → Lived (StandsFor (Holds B.stands B.kept from) self.old) (B.block_count (device_of self.old)) start log
+            → HasLived (VolumesStandFor (DeviceHolds B.stands B.kept from) self.old) (B.block_count (device_of self.old)) start log
             → IsTrue (B.tells (device_of self.new))
-            → Lived (StandsFor (Holds B.stands B.kept from) self.new) (B.block_count (device_of self.old)) start
+            → HasLived (VolumesStandFor (DeviceHolds B.stands B.kept from) self.new) (B.block_count (device_of self.old)) start
             (log ++ (WriteCall id block bytes.now, Refused fault) ∷ [])) }
     {
         let place = self.place(id, block)?;
@@ -269,20 +269,20 @@ impl<B: Blocks> Volumes<B> {
     pub fn flush(&mut self) -> Result<u64, VolFault>
         ensures fault { IfErr result (IsHalt (halted_of self.new)) }
         ensures halt { halted_of self.new ≡ vol_halt_in result }
-        ensures went { Went B.block_count B.halts B.halted B.tells (device_of self.old)
+        ensures went { DeviceGoesOn B.block_count B.halts B.halted B.tells (device_of self.old)
             (device_of self.new) }
-        ensures grown { Grown B.kept B.tells IsFlush (device_of self.old) (device_of self.new) }
-        ensures table { table_of self.new ≡ table_of self.old }
-        ensures stands { IfOk result (λ number. (from : Since) (h : History) → StandsFor (Holds B.stands B.kept from) self.old h
+        ensures grown { KeepsMore B.kept B.tells IsFlushEvent (device_of self.old) (device_of self.new) }
+        ensures table { volume_table self.new ≡ volume_table self.old }
+        ensures stands { IfOk result (λ number. (from : SinceHistory) (h : History) → VolumesStandFor (DeviceHolds B.stands B.kept from) self.old h
             → IsTrue (B.tells (device_of self.new))
-            → (number ≡ length h) × StandsFor (Holds B.stands B.kept from) self.new h) }
+            → (number ≡ length h) × VolumesStandFor (DeviceHolds B.stands B.kept from) self.new h) }
         ensures event { IfOk result (λ number. (events : Answers)
             → B.kept (device_of self.old) events → IsTrue (B.tells (device_of self.new))
             → B.kept (device_of self.new) (events ++ (FlushEvent, FlushedAnswer number) ∷ [])) }
-        ensures lived { IfOk result (λ number. (from : Since) (start : ℕ) (log : VolLog)
-            → Lived (StandsFor (Holds B.stands B.kept from) self.old) (B.block_count (device_of self.old)) start log
+        ensures lived { IfOk result (λ number. (from : SinceHistory) (start : ℕ) (log : VolLog)
+            → HasLived (VolumesStandFor (DeviceHolds B.stands B.kept from) self.old) (B.block_count (device_of self.old)) start log
             → IsTrue (B.tells (device_of self.new))
-            → Lived (StandsFor (Holds B.stands B.kept from) self.new) (B.block_count (device_of self.old)) start
+            → HasLived (VolumesStandFor (DeviceHolds B.stands B.kept from) self.new) (B.block_count (device_of self.old)) start
             (log ++ (FlushCall, Flushed number) ∷ [])) }
     {
         if let Some(halt) = self.halt {
@@ -299,10 +299,10 @@ impl<B: Blocks> Volumes<B> {
 
     /// The number of blocks of a volume, 0 where there is none.
     pub fn size(&self, id: u8) -> u32
-        ensures live { IsLive (table_of self.now) id
+        ensures live { IsLiveId (volume_table self.now) id
             → result ≡ size_of (B.block_count (device_of self.now))
-            * owned (owner_in (table_of self.now)) id (count_of (B.block_count (device_of self.now))) }
-        ensures free { (IsLive (table_of self.now) id → ⊥) → result ≡ 0 }
+            * extents_owned (owner_in (volume_table self.now)) id (count_of (B.block_count (device_of self.now))) }
+        ensures free { (IsLiveId (volume_table self.now) id → ⊥) → result ≡ 0 }
     {
         if !self.table.is_live(id) {
             return 0;
@@ -312,19 +312,19 @@ impl<B: Blocks> Volumes<B> {
 
     /// The volume with this name.
     pub fn find(&self, name: &Name) -> Option<u8>
-        ensures some { IfSome result (λ id. IsLive (table_of self.now) id
-            × IsNameOf (table_of self.now) id name.now) }
-        ensures none { IfNone result ((id : ℕ) → IsLive (table_of self.now) id
-            → IsNameOf (table_of self.now) id name.now → ⊥) }
+        ensures some { IfSome result (λ id. IsLiveId (volume_table self.now) id
+            × IsNameOf (volume_table self.now) id name.now) }
+        ensures none { IfNone result ((id : ℕ) → IsLiveId (volume_table self.now) id
+            → IsNameOf (volume_table self.now) id name.now → ⊥) }
     {
         self.table.find(name)
     }
 
     /// The name of a volume.
     pub fn name(&self, id: u8) -> Option<Name>
-        ensures some { IfSome result (λ name. IsLive (table_of self.now) id
-            × IsNameOf (table_of self.now) id name) }
-        ensures none { IfNone result (IsLive (table_of self.now) id → ⊥) }
+        ensures some { IfSome result (λ name. IsLiveId (volume_table self.now) id
+            × IsNameOf (volume_table self.now) id name) }
+        ensures none { IfNone result (IsLiveId (volume_table self.now) id → ⊥) }
     {
         if !self.table.is_live(id) {
             return None;
@@ -334,31 +334,31 @@ impl<B: Blocks> Volumes<B> {
 
     /// Removes a volume, by one write.
     pub fn delete(&mut self, id: u8) -> Result<(), VolFault>
-        ensures fault { IfErr result (IsIdFault (table_of self.old) (halted_of self.new) id) }
-        ensures served { OnOk result (IsLive (table_of self.old) id) }
+        ensures fault { IfErr result (IsIdFault (volume_table self.old) (halted_of self.new) id) }
+        ensures served { OnOk result (IsLiveId (volume_table self.old) id) }
         ensures halt { halted_of self.new ≡ vol_halt_in result }
-        ensures went { Went B.block_count B.halts B.halted B.tells (device_of self.old)
+        ensures went { DeviceGoesOn B.block_count B.halts B.halted B.tells (device_of self.old)
             (device_of self.new) }
-        ensures grown { Grown B.kept B.tells IsWrite (device_of self.old) (device_of self.new) }
-        ensures refused { OnErr result (table_of self.new ≡ table_of self.old) }
-        ensures adds { OnOk result ((from : Since) (h : History) (s : State) → StandsFor (Holds B.stands B.kept from) self.old h
-            → Shows (B.block_count (device_of self.old)) (held h) s
+        ensures grown { KeepsMore B.kept B.tells IsWriteEvent (device_of self.old) (device_of self.new) }
+        ensures refused { OnErr result (volume_table self.new ≡ volume_table self.old) }
+        ensures adds { OnOk result ((from : SinceHistory) (h : History) (s : VolumeState) → VolumesStandFor (DeviceHolds B.stands B.kept from) self.old h
+            → ShowsVolumes (B.block_count (device_of self.old)) (after_all h) s
             → IsTrue (B.tells (device_of self.new))
-            → Adds (StandsFor (Holds B.stands B.kept from) self.new) (B.block_count (device_of self.old)) h
-            (deleted (size_of (B.block_count (device_of self.old))) s id)) }
-        ensures stands { OnErr result (halted_of self.new ≡ None → (from : Since) (h : History)
-            → StandsFor (Holds B.stands B.kept from) self.old h → IsTrue (B.tells (device_of self.new))
-            → StandsFor (Holds B.stands B.kept from) self.new h) }
-        ensures lived { OnOk result ((from : Since) (start : ℕ) (log : VolLog)
-            → Lived (StandsFor (Holds B.stands B.kept from) self.old) (B.block_count (device_of self.old)) start log
+            → Adds (VolumesStandFor (DeviceHolds B.stands B.kept from) self.new) (B.block_count (device_of self.old)) h
+            (without_volume (size_of (B.block_count (device_of self.old))) s id)) }
+        ensures stands { OnErr result (halted_of self.new ≡ None → (from : SinceHistory) (h : History)
+            → VolumesStandFor (DeviceHolds B.stands B.kept from) self.old h → IsTrue (B.tells (device_of self.new))
+            → VolumesStandFor (DeviceHolds B.stands B.kept from) self.new h) }
+        ensures lived { OnOk result ((from : SinceHistory) (start : ℕ) (log : VolLog)
+            → HasLived (VolumesStandFor (DeviceHolds B.stands B.kept from) self.old) (B.block_count (device_of self.old)) start log
             → IsTrue (B.tells (device_of self.new))
-            → Lived (StandsFor (Holds B.stands B.kept from) self.new) (B.block_count (device_of self.old)) start
+            → HasLived (VolumesStandFor (DeviceHolds B.stands B.kept from) self.new) (B.block_count (device_of self.old)) start
             (log ++ (DeleteCall id, Removed) ∷ [])) }
-        ensures lived_refused { IfErr result (λ fault. halted_of self.new ≡ None → (from : Since) (start : ℕ)
+        ensures lived_refused { IfErr result (λ fault. halted_of self.new ≡ None → (from : SinceHistory) (start : ℕ)
             (log : VolLog)
-            → Lived (StandsFor (Holds B.stands B.kept from) self.old) (B.block_count (device_of self.old)) start log
+            → HasLived (VolumesStandFor (DeviceHolds B.stands B.kept from) self.old) (B.block_count (device_of self.old)) start log
             → IsTrue (B.tells (device_of self.new))
-            → Lived (StandsFor (Holds B.stands B.kept from) self.new) (B.block_count (device_of self.old)) start
+            → HasLived (VolumesStandFor (DeviceHolds B.stands B.kept from) self.new) (B.block_count (device_of self.old)) start
             (log ++ (DeleteCall id, Refused fault) ∷ [])) }
     {
         if let Some(halt) = self.halt {
@@ -383,37 +383,37 @@ impl<B: Blocks> Volumes<B> {
     /// Makes a volume of so many extents, of zeros. Ok gives its id.
     pub fn create(&mut self, name: &Name, extents: u32) -> Result<u8, VolFault>
         ensures fault { IfErr result (IsCreateFault (B.block_count (device_of self.old))
-            (table_of self.old) (halted_of self.new) name.now extents) }
-        ensures fresh { OnOk result (IsNew (table_of self.old) name.now) }
+            (volume_table self.old) (halted_of self.new) name.now extents) }
+        ensures fresh { OnOk result (IsNew (volume_table self.old) name.now) }
         ensures some { OnOk result (0 < extents) }
-        ensures room { OnOk result (extents ≤ owned (owner_in (table_of self.old)) 0
+        ensures room { OnOk result (extents ≤ extents_owned (owner_in (volume_table self.old)) 0
             (count_of (B.block_count (device_of self.old)))) }
         ensures halt { halted_of self.new ≡ vol_halt_in result }
-        ensures went { Went B.block_count B.halts B.halted B.tells (device_of self.old)
+        ensures went { DeviceGoesOn B.block_count B.halts B.halted B.tells (device_of self.old)
             (device_of self.new) }
-        ensures grown { Grown B.kept B.tells IsWrite (device_of self.old) (device_of self.new) }
-        ensures refused { OnErr result (table_of self.new ≡ table_of self.old) }
-        ensures id { IfOk result (IsLeastFree (table_of self.old)) }
-        ensures makes { IfOk result (λ id. (from : Since) (h : History) (s : State)
-            → StandsFor (Holds B.stands B.kept from) self.old h
-            → Shows (B.block_count (device_of self.old)) (held h) s
+        ensures grown { KeepsMore B.kept B.tells IsWriteEvent (device_of self.old) (device_of self.new) }
+        ensures refused { OnErr result (volume_table self.new ≡ volume_table self.old) }
+        ensures id { IfOk result (IsLeastFree (volume_table self.old)) }
+        ensures makes { IfOk result (λ id. (from : SinceHistory) (h : History) (s : VolumeState)
+            → VolumesStandFor (DeviceHolds B.stands B.kept from) self.old h
+            → ShowsVolumes (B.block_count (device_of self.old)) (after_all h) s
             → IsTrue (B.tells (device_of self.new))
-            → Makes (StandsFor (Holds B.stands B.kept from) self.new) (B.block_count (device_of self.old)) h s
-            (created (size_of (B.block_count (device_of self.old))) s id
+            → Makes (VolumesStandFor (DeviceHolds B.stands B.kept from) self.new) (B.block_count (device_of self.old)) h s
+            (with_volume (size_of (B.block_count (device_of self.old))) s id
             (letter_of name.now) extents)) }
-        ensures stands { OnErr result (halted_of self.new ≡ None → (from : Since) (h : History)
-            → StandsFor (Holds B.stands B.kept from) self.old h → IsTrue (B.tells (device_of self.new))
-            → StandsFor (Holds B.stands B.kept from) self.new h) }
-        ensures lived { IfOk result (λ id. (from : Since) (start : ℕ) (log : VolLog)
-            → Lived (StandsFor (Holds B.stands B.kept from) self.old) (B.block_count (device_of self.old)) start log
+        ensures stands { OnErr result (halted_of self.new ≡ None → (from : SinceHistory) (h : History)
+            → VolumesStandFor (DeviceHolds B.stands B.kept from) self.old h → IsTrue (B.tells (device_of self.new))
+            → VolumesStandFor (DeviceHolds B.stands B.kept from) self.new h) }
+        ensures lived { IfOk result (λ id. (from : SinceHistory) (start : ℕ) (log : VolLog)
+            → HasLived (VolumesStandFor (DeviceHolds B.stands B.kept from) self.old) (B.block_count (device_of self.old)) start log
             → IsTrue (B.tells (device_of self.new))
-            → Lived (StandsFor (Holds B.stands B.kept from) self.new) (B.block_count (device_of self.old)) start
+            → HasLived (VolumesStandFor (DeviceHolds B.stands B.kept from) self.new) (B.block_count (device_of self.old)) start
             (log ++ (CreateCall (letter_of name.now) extents, Made id) ∷ [])) }
-        ensures lived_refused { IfErr result (λ fault. halted_of self.new ≡ None → (from : Since) (start : ℕ)
+        ensures lived_refused { IfErr result (λ fault. halted_of self.new ≡ None → (from : SinceHistory) (start : ℕ)
             (log : VolLog)
-            → Lived (StandsFor (Holds B.stands B.kept from) self.old) (B.block_count (device_of self.old)) start log
+            → HasLived (VolumesStandFor (DeviceHolds B.stands B.kept from) self.old) (B.block_count (device_of self.old)) start log
             → IsTrue (B.tells (device_of self.new))
-            → Lived (StandsFor (Holds B.stands B.kept from) self.new) (B.block_count (device_of self.old)) start
+            → HasLived (VolumesStandFor (DeviceHolds B.stands B.kept from) self.new) (B.block_count (device_of self.old)) start
             (log ++ (CreateCall (letter_of name.now) extents, Refused fault) ∷ [])) }
     {
         if let Some(halt) = self.halt {

@@ -9,14 +9,14 @@ use Rattle.std.proofs.lemmas.List.{append_assoc, drop_at, length_push, take_at}
 use Rattle.std.proofs.lemmas.List.Sums.{passes_at_first, split_at_first}
 use Rattle.std.proofs.lemmas.Option.{cond_some}
 use Rattle.std.proofs.lemmas.Slice.Eq.{bytes_eq-Decides}
-use Rattle.paraid_trace.specs.Lines.{number_of}
+use Rattle.paraid_trace.specs.LineEvents.{number_of}
 use Rattle.paraid_trace.proofs.NumberLemmas.{IsNumber-number_of, number_of-IsNumber}
 use Rattle.paraid_words.specs.declared.command.Command.{Command}
 use Rattle.paraid_words.specs.declared.command.Command.TheVariants.{Format, Run, Status, Check, Gen}
 use Rattle.paraid_words.specs.declared.command.Choice.{Choice}
 use Rattle.paraid_words.specs.declared.command.Choice.TheVariants.{Number, Lines}
-use Rattle.paraid_words.specs.Words.{AskFor, IsOption}
-use Rattle.paraid_words.specs.Reading.{both, choice_of, command_of, is_equals, joined_at, joined_of, lines_choice, number_choice, three_options, with_choice}
+use Rattle.paraid_words.specs.Words.{AskFor, IsNumberOption}
+use Rattle.paraid_words.specs.Commands.{both, choice_of, command_of, is_equals, joined_at, joined_of, lines_choice, number_choice, three_options, with_choice}
 
 pub words_other : {X : Type 0} (f : X → List ℕ) (xs : List X) → length xs ≢ 1 → length xs ≢ 2 → length xs ≢ 3 → length xs ≢ 4 → length xs ≢ 5 → command_of (map f xs) ≡ None
 words_other f [] p q r s t = refl
@@ -64,8 +64,8 @@ is word name = (bytes_eq-Decides word name).0
 
 -- a choice that some words spell
 abbrev Given : Option Choice → List (List ℕ) → Type 0
-Given (Some (Number n)) words = (n < 2 ^ 32) × IsOption (codes "--number") n words
-Given (Some (Lines n)) words = (1 ≤ n) × (n ≤ 1000000) × IsOption (codes "--lines") n words
+Given (Some (Number n)) words = (n < 2 ^ 32) × IsNumberOption (codes "--number") n words
+Given (Some (Lines n)) words = (1 ≤ n) × (n ≤ 1000000) × IsNumberOption (codes "--lines") n words
 Given None words = Unit {0}
 
 given_if : (b : Bool) (words : List (List ℕ)) (o rest : Option Choice) → (b ≡ true → Given o words) → Given rest words → Given (if b then o else rest) words
@@ -76,7 +76,7 @@ given_if false words o rest first others = others
 abbrev Spelt : List ℕ → List ℕ → List (List ℕ) → Type 0
 Spelt name value words = (words ≡ name ∷ value ∷ []) ⊎ (words ≡ (name ++ codes "=" ++ value) ∷ [])
 
-to_option : (name value n : List ℕ) → (k : ℕ) (words : List (List ℕ)) → value ≡ decimal k → Spelt name value words → IsOption name k words
+to_option : (name value n : List ℕ) → (k : ℕ) (words : List (List ℕ)) → value ≡ decimal k → Spelt name value words → IsNumberOption name k words
 to_option name value n k words e s = elim s [
   | inl a ↦ inl (a ∙ ap (λ v. name ∷ v ∷ []) e)
   | inr j ↦ inr (j ∙ ap (λ v. (name ++ codes "=" ++ v) ∷ []) e)

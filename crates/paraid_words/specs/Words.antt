@@ -4,8 +4,8 @@ use Rattle.paraid_words.specs.declared.command.Command.{Command}
 use Rattle.paraid_words.specs.declared.command.Command.TheVariants.{Format, Run, Status, Check, Gen}
 
 -- an option with its value, in decimal digits: two words, or one joined by `=`
-abbrev pub IsOption : List ℕ → ℕ → List (List ℕ) → Type 0
-IsOption name n words = (words ≡ name ∷ decimal n ∷ []) ⊎ (words ≡ (name ++ codes "=" ++ decimal n) ∷ [])
+abbrev pub IsNumberOption : List ℕ → ℕ → List (List ℕ) → Type 0
+IsNumberOption name n words = (words ≡ name ∷ decimal n ∷ []) ⊎ (words ≡ (name ++ codes "=" ++ decimal n) ∷ [])
 
 -- `gen` and its two options, once each, in either order
 pub record IsGen (number lines : ℕ) (words : List (List ℕ)) : Type 0 where
@@ -14,8 +14,8 @@ pub record IsGen (number lines : ℕ) (words : List (List ℕ)) : Type 0 where
   pub lines_to : lines ≤ 1000000
   pub first : List (List ℕ)
   pub second : List (List ℕ)
-  pub number_is : IsOption (codes "--number") number first
-  pub lines_are : IsOption (codes "--lines") lines second
+  pub number_is : IsNumberOption (codes "--number") number first
+  pub lines_are : IsNumberOption (codes "--lines") lines second
   pub words_are : (words ≡ codes "gen" ∷ first ++ second) ⊎ (words ≡ codes "gen" ∷ second ++ first)
 
 -- The words ask for the command.

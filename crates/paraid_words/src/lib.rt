@@ -5,7 +5,6 @@
 #![tactic(auto)]
 
 mod command;
-mod number;
 mod words;
 
 pub use command::{Choice, Command};

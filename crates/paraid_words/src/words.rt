@@ -1,11 +1,11 @@
 ghost use Rattle.std.specs.Prelude.{◌≡◌, ◌↔◌, Some, map, string_bytes};
 ghost use Rattle.std.specs.List.{position};
 ghost use Rattle.paraid_words.specs.declared.command.Command.{Command as CommandType};
-ghost use Rattle.paraid_words.specs.Reading.{both as both_of, choice_of, command_of, five_words as five_words_of, four_words as four_words_of, is_equals, joined_of, lines_choice, number_choice, one_word as one_word_of, three_options as three_options_of, three_words as three_words_of, two_words as two_words_of};
+ghost use Rattle.paraid_words.specs.Commands.{both as both_of, choice_of, command_of, five_words as five_words_of, four_words as four_words_of, is_equals, joined_of, lines_choice, number_choice, one_word as one_word_of, three_options as three_options_of, three_words as three_words_of, two_words as two_words_of};
 ghost use Rattle.paraid_words.specs.Words.{AskFor};
 
 use crate::command::{Choice, Command};
-use crate::number::number;
+use paraid_trace::number;
 
 fn number_option(value: Option<u32>) -> Option<Choice>
     ensures { result ≡ number_choice value }

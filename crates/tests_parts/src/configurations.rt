@@ -51,38 +51,63 @@ fn read_with(alloc: Global, place: usize, line: &str) -> Result<Setup, ConfigFau
     read_config(alloc, &text_with(alloc, place, line)?)
 }
 
+/// The numbers of a configuration in the order of the keys, and the burst and the period last.
+fn numbers(alloc: Global, place: usize, line: &str) -> Option<[u32; 12]> {
+    let setup = read_with(alloc, place, line).ok()?;
+    Some([
+        u32::from(setup.geometry.disks()),
+        setup.geometry.rows(),
+        setup.rate,
+        setup.service,
+        u32::from(setup.up),
+        u32::from(setup.down),
+        u32::from(setup.ration),
+        setup.spinning_mj,
+        setup.parked_mj,
+        setup.spinup_mj,
+        u32::from(setup.burst),
+        setup.period,
+    ])
+}
+
+// Where they are absent, the burst is the ration, and the period is 1.
+const NUMBERS: [(&str, [u32; 12]); 2] = [
+    ("", [5, 5, 1, 100, 80, 60, 100, 9000, 900, 60000, 100, 1]),
+    (
+        "burst = 1\nperiod = 4294967295\n",
+        [5, 5, 1, 100, 80, 60, 100, 9000, 900, 60000, 1, 4294967295],
+    ),
+];
+
+/// Whether the mode is whole, the windows, and which of 3, 4 and 5 are gears.
+fn others(alloc: Global, place: usize, line: &str) -> Option<(bool, [u16; 3], [bool; 3])> {
+    let setup = read_with(alloc, place, line).ok()?;
+    let g = &setup.geometry;
+    let gears = [g.is_gear(3), g.is_gear(4), g.is_gear(5)];
+    Some((setup.mode == Mode::Whole, setup.windows, gears))
+}
+
+const OTHERS: [(usize, &str, bool, [u16; 3]); 3] = [
+    (13, "", true, [1000, 0, 0]),
+    (3, "mode = 'access' # as a literal\n", false, [1000, 0, 0]),
+    (
+        8,
+        "windows = [\n  1,\n  1_024, # the longest\n  0x10,\n]\n",
+        true,
+        [1, 1024, 16],
+    ),
+];
+
 #[test]
 fn a_text_is_read_to_its_values(rt: HostRuntime) {
     let alloc = rt.alloc();
-    let Ok(setup) = read_with(alloc, 13, "") else {
-        panic!(rt; "the text is a configuration");
-    };
-    assert!(rt; setup.geometry.disks() == 5 && setup.geometry.rows() == 5);
-    assert!(rt;
-        setup.geometry.is_gear(4) && setup.geometry.is_gear(5) && !setup.geometry.is_gear(3)
-    );
-    assert!(rt; setup.mode == Mode::Whole && setup.rate == 1 && setup.service == 100);
-    assert!(rt; setup.up == 80 && setup.down == 60 && setup.windows == [1000, 0, 0]);
-    assert!(rt; setup.ration == 100 && setup.spinning_mj == 9000);
-    // Where they are absent, the burst is the ration, and the period is 1.
-    assert!(rt; setup.burst == 100 && setup.period == 1);
-    assert!(rt; setup.parked_mj == 900 && setup.spinup_mj == 60000);
-    let Ok(other) = read_with(alloc, 3, "mode = 'access' # as a literal\n") else {
-        panic!(rt; "the other mode is one");
-    };
-    assert!(rt; other.mode == Mode::Access);
-    let Ok(more) = read_with(
-        alloc,
-        8,
-        "windows = [\n  1,\n  1_024, # the longest\n  0x10,\n]\n",
-    ) else {
-        panic!(rt; "three windows are a list");
-    };
-    assert!(rt; more.windows == [1, 1024, 16]);
-    let Ok(spread) = read_with(alloc, 13, "burst = 1\nperiod = 4294967295\n") else {
-        panic!(rt; "a burst and a period are numbers");
-    };
-    assert!(rt; spread.burst == 1 && spread.period == 4294967295 && spread.ration == 100);
+    for (line, want) in NUMBERS {
+        assert_eq!(rt; numbers(alloc, 13, line), Some(want));
+    }
+    for (place, line, is_whole, windows) in OTHERS {
+        let want = Some((is_whole, windows, [false, true, true]));
+        assert_eq!(rt; others(alloc, place, line), want);
+    }
 }
 
 // A line in the place of another one, and what the text is refused by.
@@ -311,10 +336,8 @@ const REFUSED: [(usize, &str, Option<ConfigFault>); 40] = [
 fn a_text_is_refused_by_its_first_cause(rt: HostRuntime) {
     let alloc = rt.alloc();
     for (place, line, fault) in REFUSED {
-        assert!(rt;
-            read_with(alloc, place, line).err() == fault,
-            "line {place}: {line}"
-        );
+        let found = read_with(alloc, place, line).err() == fault;
+        assert_eq!(rt; (line, found), (line, true));
     }
 }
 
@@ -337,20 +360,22 @@ fn the_order_of_the_keys_decides(rt: HostRuntime) {
     }
 }
 
+/// What a text of so many bytes is refused by.
+fn refused_at(alloc: Global, length: usize) -> Option<ConfigFault> {
+    let mut text = match text_with(alloc, 13, "#") {
+        Ok(text) => text,
+        Err(fault) => return Some(fault),
+    };
+    for _ in text.len()..length {
+        if text.push(b'x').is_err() {
+            return Some(ConfigFault::NoMemory);
+        }
+    }
+    read_config(alloc, &text).err()
+}
+
 #[test]
 fn a_text_of_65536_bytes_is_read(rt: HostRuntime) {
-    let alloc = rt.alloc();
-    let Ok(mut text) = text_with(alloc, 13, "#") else {
-        panic!(rt; "there is memory");
-    };
-    for _ in text.len()..65536 {
-        let Ok(()) = text.push(b'x') else {
-            panic!(rt; "there is memory");
-        };
-    }
-    assert!(rt; text.len() == 65536 && read_config(alloc, &text).is_ok());
-    let Ok(()) = text.push(b'x') else {
-        panic!(rt; "there is memory");
-    };
-    assert!(rt; read_config(alloc, &text).err() == Some(ConfigFault::Long));
+    assert!(rt; refused_at(rt.alloc(), 65536) == None);
+    assert!(rt; refused_at(rt.alloc(), 65537) == Some(ConfigFault::Long));
 }

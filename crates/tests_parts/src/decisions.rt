@@ -1,28 +1,34 @@
 //! When the gear changes, how often disks may be parked, which cells are dirty, and what energy is used.
 
-ghost use Rattle.std.specs.Prelude.{◌≤◌, slice_index};
-
 use crate::setups::setup;
 use Decision::{Down, Stay, Up};
 use paraid_dirty::DirtyTable;
 use paraid_energy::Ledger;
 use paraid_gear::{Decision, Windows};
 use paraid_ration::{allowance, may_park};
-use paraid_record::Setup;
-use std::process::Abort;
+use std::alloc::Global;
 
 /// What is decided in a gear after two counts.
-fn decided(rt: &(impl Abort + AllocGlobal), setup: &Setup, gear: u8, counts: [u32; 2]) -> Decision
-    requires first { slice_index setup.now.windows 0 ≤ 1024 }
-    requires second { slice_index setup.now.windows 1 ≤ 1024 }
-    requires third { slice_index setup.now.windows 2 ≤ 1024 }
-{
-    assert!(rt; setup.geometry.is_gear(gear));
-    let mut windows = Windows::new(rt.alloc()).ok().expect(rt, "there is memory");
-    windows.start(setup.windows);
-    windows.push(counts[0]);
-    windows.push(counts[1]);
-    windows.decide(setup, gear)
+fn decided(
+    alloc: Global,
+    values: (u32, u8, u8),
+    windows: [u16; 3],
+    gear: u8,
+    counts: [u32; 2],
+) -> Option<Decision> {
+    let setup = setup(values.0, values.1, values.2, windows)?;
+    if windows[0] > 1024
+        || windows[1] > 1024
+        || windows[2] > 1024
+        || !setup.geometry.is_gear(gear)
+    {
+        return None;
+    }
+    let mut loads = Windows::new(alloc).ok()?;
+    loads.start(windows);
+    loads.push(counts[0]);
+    loads.push(counts[1]);
+    Some(loads.decide(&setup, gear))
 }
 
 // Service and bounds, windows, a gear, two counts, and what is decided.
@@ -51,13 +57,9 @@ const DECISIONS: [((u32, u8, u8), [u16; 3], u8, [u32; 2], Decision); 12] = [
 
 #[test]
 fn the_load_and_its_deviation_in_every_window_choose_the_gear(rt: HostRuntime) {
-    for ((service, up, down), windows, gear, counts, want) in DECISIONS {
-        let windows: [u16; 3] = windows;
-        if windows[0] <= 1024 && windows[1] <= 1024 && windows[2] <= 1024 {
-            let setup = setup(&rt, service, up, down, windows);
-            let found = decided(&rt, &setup, gear, counts);
-            assert_eq!(rt; found, want, "{windows:?} in gear {gear} at {counts:?}");
-        }
+    for (values, windows, gear, counts, want) in DECISIONS {
+        let found = decided(rt.alloc(), values, windows, gear, counts);
+        assert_eq!(rt; (windows, counts, found), (windows, counts, Some(want)));
     }
 }
 
@@ -91,66 +93,87 @@ fn spin_ups_are_allowed_by_age(rt: HostRuntime) {
     let spins = [9, 0, 1, 2, 3, 2, 0, 9];
     for (allowed, lo, hi, want) in PARKING {
         let found = may_park(&spins, allowed, lo, hi);
-        assert_eq!(rt; found, want, "at {allowed} from {lo} to {hi}");
+        assert_eq!(rt; (allowed, lo, hi, found), (allowed, lo, hi, want));
     }
     // A burst, one more for each period of ticks, and no more than the ration.
     for ((ration, burst, period, ticks), want) in ALLOWED {
         let period: u32 = period;
         let found = allowance(ration, burst, period.max(1), ticks);
-        assert_eq!(rt; found, want, "{burst} and {ticks} / {period} of {ration}");
+        assert_eq!(rt; (ticks, found), (ticks, want));
+    }
+}
+
+// Cells of the greatest table, from the first to the last.
+const CELLS: [(u32, u8); 6] = [(0, 2), (0, 7), (63, 0), (64, 7), (65535, 3), (65535, 7)];
+
+/// The greatest table with these cells dirty.
+fn table_of(alloc: Global, cells: &[(u32, u8)]) -> Option<DirtyTable> {
+    let mut table = DirtyTable::new(alloc, 65536).ok()?;
+    for &(row, disk) in cells {
+        if row < table.rows() && disk < 8 {
+            table.set(row, disk);
+        }
+    }
+    Some(table)
+}
+
+/// The next dirty cell of a disk from `lo` to `hi - 1`, from this cell on.
+fn next_of(table: &DirtyTable, from: (u32, u8), lo: u8, hi: u8) -> Option<(u32, u8)> {
+    if from.1 <= 8 && lo <= hi && hi <= 8 {
+        table.next_from(from.0, from.1, lo, hi)
+    } else {
+        None
     }
 }
 
 #[test]
 fn dirty_cells_are_found_in_order(rt: HostRuntime) {
-    // Cells of the greatest table, from the first to the last, and none once they are clean.
-    let mut table = DirtyTable::new(rt.alloc(), 65536)
-        .ok()
-        .expect(&rt, "there is memory");
-    assert_eq!(rt; (table.next(0, 8), table.count(0, 8)), (None, 0));
-    let cells = [(0, 2), (0, 7), (63, 0), (64, 7), (65535, 3), (65535, 7)];
-    for (row, disk) in cells {
-        if row < table.rows() && disk < 8 {
-            table.set(row, disk);
-        }
-    }
-    assert_eq!(rt;
-        (table.count(0, 8), table.count(7, 8), table.count(4, 7)),
-        (6, 3, 0)
-    );
-    assert_eq!(rt;
-        (table.next(0, 8), table.next(7, 8)),
-        (Some((0, 2)), Some((0, 7)))
-    );
+    let table = table_of(rt.alloc(), &CELLS).expect(&rt, "there is memory");
     let mut from = (0, 0);
-    for (row, disk) in cells {
-        if from.1 <= 8 && disk < 8 {
-            assert_eq!(rt; table.next_from(from.0, from.1, 0, 8), Some((row, disk)));
-            from = (row, disk + 1);
-        }
+    for (row, disk) in CELLS {
+        assert_eq!(rt; next_of(&table, from, 0, 8), Some((row, disk)));
+        from = (row, disk.wrapping_add(1));
     }
-    assert_eq!(rt; table.next_from(65535, 8, 0, 8), None);
-    assert_eq!(rt; table.next_from(64, 0, 3, 7), Some((65535, 3)));
-    if 65535 < table.rows() {
-        assert!(rt; table.has(65535, 7) && !table.has(65535, 6));
+    assert_eq!(rt; next_of(&table, from, 0, 8), None);
+    assert_eq!(rt; next_of(&table, (64, 0), 3, 7), Some((65535, 3)));
+}
+
+fn is_dirty(table: &DirtyTable, row: u32, disk: u8) -> Option<bool> {
+    if row < table.rows() && disk < 8 {
+        Some(table.has(row, disk))
+    } else {
+        None
     }
-    for (row, disk) in cells {
+}
+
+#[test]
+fn dirty_cells_are_counted_and_cleaned(rt: HostRuntime) {
+    let mut table = table_of(rt.alloc(), &CELLS).expect(&rt, "there is memory");
+    let counts = (table.count(0, 8), table.count(7, 8), table.count(4, 7));
+    assert_eq!(rt; (counts, table.next(7, 8)), ((6, 3, 0), Some((0, 7))));
+    let last = (is_dirty(&table, 65535, 7), is_dirty(&table, 65535, 6));
+    assert_eq!(rt; last, (Some(true), Some(false)));
+    for (row, disk) in CELLS {
         if row < table.rows() && disk < 8 {
             table.clear(row, disk);
         }
     }
-    assert_eq!(rt; table.next(0, 8), None);
+    assert_eq!(rt; (table.next(0, 8), table.count(0, 8)), (None, 0));
+}
+
+/// The energy after two ticks at rest, after a tick with a parked disk, and after its spin-up.
+fn energies() -> Option<[u64; 3]> {
+    let mut ledger = Ledger::new(&setup(100, 80, 60, [1000, 0, 0])?);
+    ledger.tick(5, 0);
+    ledger.tick(5, 0);
+    let rest = ledger.total();
+    ledger.tick(4, 1);
+    let parked = ledger.total();
+    ledger.spin_up(1);
+    Some([rest, parked, ledger.total()])
 }
 
 #[test]
 fn energy_is_added_up(rt: HostRuntime) {
-    // Two ticks at rest, a tick with a parked disk, and its spin-up.
-    let mut ledger = Ledger::new(&setup(&rt, 100, 80, 60, [1000, 0, 0]));
-    ledger.tick(5, 0);
-    ledger.tick(5, 0);
-    assert_eq!(rt; ledger.total(), 90000);
-    ledger.tick(4, 1);
-    assert_eq!(rt; ledger.total(), 126900);
-    ledger.spin_up(1);
-    assert_eq!(rt; ledger.total(), 186900);
+    assert_eq!(rt; energies(), Some([90000, 126900, 186900]));
 }

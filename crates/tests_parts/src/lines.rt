@@ -31,31 +31,41 @@ impl Source for Dribble {
     }
 }
 
-// What a reader answers up to the end or a fault: a bar behind each line.
-fn answers<S: Source>(alloc: Global, source: &mut S) -> Result<Vec<u8>, Fail> {
-    let mut reader = LineReader::new();
-    let mut text = Vec::new(alloc);
-    for _ in 0..9 {
-        match reader.next(source) {
-            Ok(Line::Whole { length: _ }) => text.extend_from_slice(reader.line())?,
-            Ok(Line::Long { length }) => {
-                text.extend_from_slice(format!(in alloc; "{length} bytes")?.as_bytes())?
-            }
-            Ok(Line::End) => {
-                text.extend_from_slice(b"end")?;
-                return Ok(text);
-            }
-            Err(_) => {
-                text.extend_from_slice(b"fault")?;
-                return Ok(text);
-            }
+// What a reader answers to one call.
+fn answer<S: Source>(
+    alloc: Global,
+    reader: &mut LineReader,
+    source: &mut S,
+) -> Result<Vec<u8>, Fail> {
+    match reader.next(source) {
+        Ok(Line::Whole { length: _ }) => Ok(reader.line().to_vec(alloc)?),
+        Ok(Line::Long { length }) => Ok(format!(in alloc; "{length} bytes")?.into_bytes()),
+        Ok(Line::End) => Ok(b"end".to_vec(alloc)?),
+        Err(LineFault::Source) => Ok(b"source".to_vec(alloc)?),
+        Err(LineFault::TooLong { bytes }) => {
+            Ok(format!(in alloc; "too long at {bytes}")?.into_bytes())
         }
+    }
+}
+
+// What a reader answers to so many calls, with a bar behind each answer.
+fn answers<S: Source>(
+    alloc: Global,
+    mut reader: LineReader,
+    source: &mut S,
+    calls: usize,
+) -> Result<Vec<u8>, Fail> {
+    let mut text = Vec::new(alloc);
+    for _ in 0..calls {
+        text.extend_from_slice(&answer(alloc, &mut reader, source)?)?;
         text.push(b'|')?;
     }
     Ok(text)
 }
 
-// `before`, so many times `x`, and `after`.
+// A text, so many times `x`, and another text.
+type Part = (&'static str, usize, &'static str);
+
 fn with_run(alloc: Global, parts: Part) -> Result<Vec<u8>, Fail> {
     let mut text = Vec::new(alloc);
     text.extend_from_slice(parts.0.as_bytes())?;
@@ -66,38 +76,58 @@ fn with_run(alloc: Global, parts: Part) -> Result<Vec<u8>, Fail> {
     Ok(text)
 }
 
-// A text, so many times `x`, and another text.
-type Part = (&'static str, usize, &'static str);
-
-// Inputs, and what a reader answers.
-const INPUTS: [(Part, Part); 10] = [
-    (("", 0, ""), ("end", 0, "")),
-    (("\n", 0, ""), ("|end", 0, "")),
-    (("a\n\nbc", 0, ""), ("a||bc|end", 0, "")),
-    (("\0\r\né\n", 0, ""), ("\0\r|é|end", 0, "")),
-    (("", 1100, "\nz\n"), ("", 1100, "|z|end")),
-    (("", 1100, ""), ("", 1100, "|end")),
-    (("", 1101, "\nz\n"), ("1101 bytes|z|end", 0, "")),
-    (("", 1101, ""), ("1101 bytes|end", 0, "")),
-    (("q\n", 2000, "\n\nz"), ("q|2000 bytes||z|end", 0, "")),
-    (("q\n", 20000, "\nz"), ("q|20000 bytes|z|end", 0, "")),
+// Inputs, how many calls are made, and what a reader answers.
+const INPUTS: [(Part, usize, Part); 10] = [
+    (("", 0, ""), 2, ("end|end|", 0, "")),
+    (("\n", 0, ""), 2, ("|end|", 0, "")),
+    (("a\n\nbc", 0, ""), 4, ("a||bc|end|", 0, "")),
+    (("\0\r\né\n", 0, ""), 3, ("\0\r|é|end|", 0, "")),
+    (("", 1100, "\nz\n"), 3, ("", 1100, "|z|end|")),
+    (("", 1100, ""), 2, ("", 1100, "|end|")),
+    (("", 1101, "\nz\n"), 3, ("1101 bytes|z|end|", 0, "")),
+    (("", 1101, ""), 2, ("1101 bytes|end|", 0, "")),
+    (("q\n", 2000, "\n\nz"), 5, ("q|2000 bytes||z|end|", 0, "")),
+    (("q\n", 20000, "\nz"), 4, ("q|20000 bytes|z|end|", 0, "")),
 ];
+
+// Whether a reader answers so, by a source that can fail, by one that cannot, and byte by byte.
+fn is_cut(alloc: Global, input: Part, calls: usize, want: Part) -> Result<[bool; 3], Fail> {
+    let want = with_run(alloc, want)?;
+    let mut failing = MemSource::new(with_run(alloc, input)?, Vec::new(alloc));
+    let mut sure = SureSource::new(with_run(alloc, input)?);
+    let mut slow = Dribble {
+        bytes: with_run(alloc, input)?,
+        at: 0,
+    };
+    Ok([
+        answers(alloc, LineReader::new(), &mut failing, calls)? == want,
+        answers(alloc, LineReader::new(), &mut sure, calls)? == want,
+        answers(alloc, LineReader::new(), &mut slow, calls)? == want,
+    ])
+}
 
 #[test]
 fn lines_are_the_input_cut_at_its_newlines(rt: HostRuntime) -> Result<(), Fail> {
-    let alloc = rt.alloc();
-    for (input, want) in INPUTS {
-        let want = with_run(alloc, want)?;
-        let mut failing = MemSource::new(with_run(alloc, input)?, Vec::new(alloc));
-        assert_eq!(rt; answers(alloc, &mut failing)?.as_slice(), want.as_slice());
-        let mut sure = SureSource::new(with_run(alloc, input)?);
-        assert_eq!(rt; answers(alloc, &mut sure)?.as_slice(), want.as_slice());
-        let mut slow = Dribble {
-            bytes: with_run(alloc, input)?,
-            at: 0,
-        };
-        assert_eq!(rt; answers(alloc, &mut slow)?.as_slice(), want.as_slice());
+    for (input, calls, want) in INPUTS {
+        let found = is_cut(rt.alloc(), input, calls, want)?;
+        assert_eq!(rt; (input, found), (input, [true; 3]));
     }
+    Ok(())
+}
+
+#[test]
+fn a_fault_is_answered_again(rt: HostRuntime) -> Result<(), Fail> {
+    let alloc = rt.alloc();
+    // No more than 2^40 bytes are taken.
+    let mut source = SureSource::new(b"f\nr 0\n".to_vec(alloc)?);
+    let found = answers(alloc, LineReader::with_taken(MAX_TAKEN - 4), &mut source, 3)?;
+    let want = b"f|too long at 1099511627776|too long at 1099511627776|".as_slice();
+    assert_eq!(rt; found.as_slice(), want);
+
+    let fails = vec![in alloc; 1]?;
+    let mut source = MemSource::new(b"a\nb".to_vec(alloc)?, fails);
+    let found = answers(alloc, LineReader::new(), &mut source, 3)?;
+    assert_eq!(rt; found.as_slice(), b"a|source|source|".as_slice());
     Ok(())
 }
 
@@ -112,33 +142,14 @@ const WRITTEN: [(&str, bool, &str); 6] = [
 ];
 
 #[test]
-fn a_fault_is_answered_again(rt: HostRuntime) -> Result<(), Fail> {
+fn a_sink_fails_as_planned_and_where_it_is_full(rt: HostRuntime) -> Result<(), Fail> {
     let alloc = rt.alloc();
-    // No more than 2^40 bytes are taken.
-    let mut source = SureSource::new(b"f\nr 0\n".to_vec(alloc)?);
-    let mut reader = LineReader::with_taken(MAX_TAKEN - 4);
-    assert_eq!(rt; reader.next(&mut source), Ok(Line::Whole { length: 1 }));
-    assert_eq!(rt; reader.line(), b"f".as_slice());
-    let too_long = LineFault::TooLong {
-        bytes: 1_099_511_627_776,
-    };
-    assert_eq!(rt; reader.next(&mut source), Err(too_long));
-    assert_eq!(rt; reader.next(&mut source), Err(too_long));
-
-    let fails = vec![in alloc; 1]?;
-    let mut source = MemSource::new(b"a\nb".to_vec(alloc)?, fails);
-    let mut reader = LineReader::new();
-    assert_eq!(rt; reader.next(&mut source), Ok(Line::Whole { length: 1 }));
-    assert_eq!(rt; reader.next(&mut source), Err(LineFault::Source));
-    assert_eq!(rt; reader.next(&mut source), Err(LineFault::Source));
-
-    // The sink fails as planned, and where it is full.
     let fails = vec![in alloc; 0, 2]?;
     let mut sink = MemSink::new(alloc, 5, fails)?;
     for (bytes, done, held) in WRITTEN {
-        let want = if done { Ok(()) } else { Err(Failed) };
-        assert_eq!(rt; write_all(&mut sink, bytes.as_bytes()), want);
-        assert_eq!(rt; sink.bytes(), held.as_bytes());
+        let found = write_all(&mut sink, bytes.as_bytes()).is_ok();
+        let is_held = sink.bytes() == held.as_bytes();
+        assert_eq!(rt; (bytes, found, is_held), (bytes, done, true));
     }
     Ok(())
 }

@@ -6,7 +6,6 @@ use paraid_base::{DiskNo, Place};
 use paraid_memrack::{MemRack, Pick, Planned};
 use paraid_rack::{Call, Power, Rack};
 use std::alloc::Global;
-use std::process::Abort;
 
 /// Calls on two disks, the second of which is parked in between.
 const WALK: [(DiskNo, Step); 11] = [
@@ -24,25 +23,28 @@ const WALK: [(DiskNo, Step); 11] = [
 ];
 
 fn rack_of(
-    rt: &(impl Abort + AllocGlobal),
+    alloc: Global,
     slots: u8,
     calls: u32,
     first: Planned,
     second: Planned,
-) -> MemRack {
-    let alloc = rt.alloc();
-    assert!(rt; slots <= 8);
-    let plan = vec![in alloc; first, second].expect(rt, "there is memory");
-    MemRack::new(alloc, slots, 4, calls, plan).expect(rt, "there is memory")
+) -> Option<MemRack> {
+    if slots > 8 {
+        return None;
+    }
+    let plan = vec![in alloc; first, second].ok()?;
+    MemRack::new(alloc, slots, 4, calls, plan).ok()
 }
 
-/// Makes the calls, whose marks are these.
-fn walk(rt: &impl Abort, rack: &mut MemRack, steps: &[(DiskNo, Step)], marks: &[u8]) {
-    for at in 0..steps.len() {
-        let (disk, step) = steps[at];
-        let found = make(rack, disk, step);
-        assert_eq!(rt; Some(&found), marks.get(at), "call {at}, {step:?}");
+/// Makes up to eleven calls, and tells how each went.
+fn walk(rack: &mut MemRack, steps: &[(DiskNo, Step)]) -> [u8; 11] {
+    let mut marks = [b' '; 11];
+    for at in 0..11 {
+        if at < steps.len() {
+            marks[at] = make(rack, steps[at].0, steps[at].1);
+        }
     }
+    marks
 }
 
 /// Bytes 0, 255, 256 and 511 of a block, 238 where there is no such block.
@@ -105,33 +107,50 @@ const PLANS: [(u32, Planned, Planned, &[u8; 11]); 8] = [
     ),
 ];
 
+/// How the calls go by these plans.
+fn walked(alloc: Global, calls: u32, first: Planned, second: Planned) -> Option<[u8; 11]> {
+    let mut rack = rack_of(alloc, 2, calls, first, second)?;
+    Some(walk(&mut rack, &WALK))
+}
+
 #[test]
-fn the_planned_calls_fail_and_the_others_are_listed(rt: HostRuntime) {
+fn the_planned_calls_fail(rt: HostRuntime) {
     for (calls, first, second, marks) in PLANS {
-        let mut rack = rack_of(&rt, 2, calls, first, second);
-        walk(&rt, &mut rack, &WALK, marks);
+        let found = walked(rt.alloc(), calls, first, second);
+        assert_eq!(rt; (first, found), (first, Some(*marks)));
     }
-    // Where the list is full the contents stay right.
-    for (calls, listed) in [(100, 11), (4, 4), (3, 3)] {
-        let mut rack = rack_of(&rt, 2, calls, NEVER, NEVER);
-        walk(&rt, &mut rack, &WALK, b"...........");
-        assert_eq!(rt; rack.calls(), listed);
-        assert_eq!(rt; is_write(&rack, 3), calls > 3);
-        assert_eq!(rt; ends(&rack, 0, 1), [7; 4]);
-        assert_eq!(rt; ends(&rack, 1, 2), [9; 4]);
-        assert_eq!(rt; ends(&rack, 1, 3), [0; 4]);
+}
+
+/// How many of the calls are listed, whether call 3 is, and what three blocks hold.
+fn listed(alloc: Global, calls: u32) -> Option<(u32, bool, [[u8; 4]; 3])> {
+    let mut rack = rack_of(alloc, 2, calls, NEVER, NEVER)?;
+    walk(&mut rack, &WALK);
+    let blocks = [ends(&rack, 0, 1), ends(&rack, 1, 2), ends(&rack, 1, 3)];
+    Some((rack.calls(), is_write(&rack, 3), blocks))
+}
+
+#[test]
+fn contents_stay_right_where_the_list_is_full(rt: HostRuntime) {
+    let blocks = [[7; 4], [9; 4], [0; 4]];
+    for (calls, count, is_listed) in [(100, 11, true), (4, 4, true), (3, 3, false)] {
+        assert_eq!(rt; listed(rt.alloc(), calls), Some((count, is_listed, blocks)));
     }
-    // An attach that is larger than the room takes the disk away.
-    let mut rack = rack_of(&rt, 1, 9, NEVER, NEVER);
-    let steps = [
-        (0, Attach(4)),
-        (0, Write(3, 5)),
-        (0, Attach(5)),
-        (0, Read(3, 5)),
-        (0, Attach(4)),
-        (0, Read(3, 0)),
-    ];
-    walk(&rt, &mut rack, &steps, b"..x-..");
+}
+
+/// An attach that is larger than the room takes the disk away.
+const LARGE: [(DiskNo, Step); 6] = [
+    (0, Attach(4)),
+    (0, Write(3, 5)),
+    (0, Attach(5)),
+    (0, Read(3, 5)),
+    (0, Attach(4)),
+    (0, Read(3, 0)),
+];
+
+#[test]
+fn an_attach_may_be_too_large(rt: HostRuntime) {
+    let mut rack = rack_of(rt.alloc(), 1, 9, NEVER, NEVER).expect(&rt, "there is memory");
+    assert_eq!(rt; walk(&mut rack, &LARGE), *b"..x-..     ");
 }
 
 /// The rack after a stop, with room for nine calls and no plan; none where there is no such moment.
@@ -199,33 +218,41 @@ const STOPS: [(u32, Pick, [u8; 4]); 18] = [
     (7, Pick::Mixed, [13, 13, 0, 0]),
 ];
 
+const WRITES: [(DiskNo, Step); 7] = [
+    (0, Attach(2)),
+    (0, Write(1, 7)),
+    (0, Sync),
+    (0, Write(1, 9)),
+    (0, Write(1, 11)),
+    (0, Attach(2)),
+    (0, Write(1, 13)),
+];
+
+/// What block 1 of disk 0 holds after a stop, and block 0, which was never written.
+fn left(alloc: Global, rack: &MemRack, moment: u32, pick: Pick) -> Option<([u8; 4], [u8; 4])> {
+    let stopped = stop(alloc, rack, moment, pick)?;
+    Some((ends(&stopped, 0, 1), ends(&stopped, 0, 0)))
+}
+
 #[test]
 fn a_stop_leaves_each_loose_block_as_picked(rt: HostRuntime) {
-    let mut rack = rack_of(&rt, 1, 9, NEVER, NEVER);
-    let steps = [
-        (0, Attach(2)),
-        (0, Write(1, 7)),
-        (0, Sync),
-        (0, Write(1, 9)),
-        (0, Write(1, 11)),
-        (0, Attach(2)),
-        (0, Write(1, 13)),
-    ];
-    walk(&rt, &mut rack, &steps, b".......");
+    let alloc = rt.alloc();
+    let mut rack = rack_of(alloc, 1, 9, NEVER, NEVER).expect(&rt, "there is memory");
+    assert_eq!(rt; walk(&mut rack, &WRITES), *b".......    ");
     for (moment, pick, want) in STOPS {
-        let stopped = stop(rt.alloc(), &rack, moment, pick).expect(&rt, "there is memory");
-        assert_eq!(rt; ends(&stopped, 0, 1), want, "at {moment}");
-        // Block 0 was never written.
         let zeros = if moment == 0 { [238; 4] } else { [0; 4] };
-        assert_eq!(rt; ends(&stopped, 0, 0), zeros, "at {moment}");
-        assert_eq!(rt; stopped.calls(), 0);
+        let found = left(alloc, &rack, moment, pick);
+        assert_eq!(rt; (moment, found), (moment, Some((want, zeros))));
     }
-    // Where the list is full a stop goes by the listed calls.
-    let mut rack = rack_of(&rt, 1, 3, NEVER, NEVER);
-    walk(&rt, &mut rack, &steps[..4], b"....");
-    assert_eq!(rt; ends(&rack, 0, 1), [9; 4]);
-    let stopped = stop(rt.alloc(), &rack, 3, Pick::New).expect(&rt, "there is memory");
-    assert_eq!(rt; ends(&stopped, 0, 1), [7; 4]);
+}
+
+#[test]
+fn a_stop_goes_by_the_listed_calls(rt: HostRuntime) {
+    let alloc = rt.alloc();
+    let mut rack = rack_of(alloc, 1, 3, NEVER, NEVER).expect(&rt, "there is memory");
+    assert_eq!(rt; walk(&mut rack, &WRITES[..4]), *b"....       ");
+    let found = (ends(&rack, 0, 1), left(alloc, &rack, 3, Pick::New));
+    assert_eq!(rt; found, ([9; 4], Some(([7; 4], [0; 4]))));
 }
 
 // A moment, the powers after the stop, and what block 2 of disk 1 holds.
@@ -238,52 +265,80 @@ const POWERS: [(u32, &[u8; 4], [u8; 4]); 6] = [
     (7, b"SASA", [238; 4]),
 ];
 
+const POWERED: [(DiskNo, Step); 7] = [
+    (0, Attach(2)),
+    (1, Attach(3)),
+    (2, Attach(4)),
+    (2, Park),
+    (1, Write(2, 7)),
+    (1, Sync),
+    (2, SpinUp),
+];
+
+/// The powers after a stop, and blocks 2 and 3 of disk 1, which has three blocks.
+fn powered(alloc: Global, rack: &MemRack, moment: u32) -> Option<([u8; 4], [[u8; 4]; 2])> {
+    let stopped = stop(alloc, rack, moment, Pick::New)?;
+    Some((
+        powers(&stopped),
+        [ends(&stopped, 1, 2), ends(&stopped, 1, 3)],
+    ))
+}
+
 #[test]
-fn a_stop_keeps_powers_and_its_rack_serves_and_stops_again(rt: HostRuntime) {
-    let mut rack = rack_of(&rt, 4, 9, Planned::OnDisk { disk: 1, nth: 2 }, NEVER);
-    let steps = [
-        (0, Attach(2)),
-        (1, Attach(3)),
-        (2, Attach(4)),
-        (2, Park),
-        (1, Write(2, 7)),
-        (1, Sync),
-        (2, SpinUp),
-    ];
-    walk(&rt, &mut rack, &steps, b".....x.");
+fn a_stop_keeps_powers(rt: HostRuntime) {
+    let alloc = rt.alloc();
+    let plan = Planned::OnDisk { disk: 1, nth: 2 };
+    let mut rack = rack_of(alloc, 4, 9, plan, NEVER).expect(&rt, "there is memory");
+    assert_eq!(rt; walk(&mut rack, &POWERED), *b".....x.    ");
     // Block 2 of disk 1 is loose before call 5, a sync that fails and takes the disk away.
     for (moment, want, block) in POWERS {
-        let stopped = stop(rt.alloc(), &rack, moment, Pick::New).expect(&rt, "there is memory");
-        assert_eq!(rt; &powers(&stopped), want, "at {moment}");
-        assert_eq!(rt; ends(&stopped, 1, 2), block, "at {moment}");
-        // The disk has three blocks.
-        assert_eq!(rt; ends(&stopped, 1, 3), [238; 4], "at {moment}");
+        let found = powered(alloc, &rack, moment);
+        assert_eq!(rt; (moment, found), (moment, Some((*want, [block, [238; 4]]))));
     }
-    let mut rack = rack_of(&rt, 4, 9, NEVER, NEVER);
-    let steps = [
-        (0, Attach(2)),
-        (1, Attach(2)),
-        (0, Write(1, 7)),
-        (1, Write(1, 8)),
-    ];
-    walk(&rt, &mut rack, &steps, b"....");
-    let mut stopped = stop_and_lose(rt.alloc(), &rack, 4, 1).expect(&rt, "there is memory");
-    assert_eq!(rt; &powers(&stopped), b"SAAA");
-    assert_eq!(rt; ends(&stopped, 1, 0), [238; 4]);
-    let steps = [
-        (0, Read(1, 7)),
-        (1, Read(1, 8)),
-        (0, Write(1, 9)),
-        (1, Attach(2)),
-    ];
-    walk(&rt, &mut stopped, &steps, b".-..");
-    assert_eq!(rt; stopped.calls(), 3);
+}
+
+const BEFORE: [(DiskNo, Step); 4] = [
+    (0, Attach(2)),
+    (1, Attach(2)),
+    (0, Write(1, 7)),
+    (1, Write(1, 8)),
+];
+
+const AFTER: [(DiskNo, Step); 4] = [
+    (0, Read(1, 7)),
+    (1, Read(1, 8)),
+    (0, Write(1, 9)),
+    (1, Attach(2)),
+];
+
+/// The rack that a stop left without disk 1, after calls on it.
+fn stopped_once(alloc: Global) -> Option<(MemRack, [u8; 11])> {
+    let mut rack = rack_of(alloc, 4, 9, NEVER, NEVER)?;
+    walk(&mut rack, &BEFORE);
+    let mut stopped = stop_and_lose(alloc, &rack, 4, 1)?;
+    let marks = walk(&mut stopped, &AFTER);
+    Some((stopped, marks))
+}
+
+/// The powers after a stop, and block 1 of disks 0 and 1.
+fn stopped_again(
+    alloc: Global,
+    rack: &MemRack,
+    moment: u32,
+    pick: Pick,
+) -> Option<([u8; 4], [[u8; 4]; 2])> {
+    let again = stop(alloc, rack, moment, pick)?;
+    Some((powers(&again), [ends(&again, 0, 1), ends(&again, 1, 1)]))
+}
+
+#[test]
+fn a_rack_after_a_stop_serves_and_stops_again(rt: HostRuntime) {
+    let alloc = rt.alloc();
+    let (rack, marks) = stopped_once(alloc).expect(&rt, "there is memory");
+    assert_eq!(rt; (marks, rack.calls()), (*b".-..       ", 3));
     // What the first stop left is kept: it is what an old block is.
-    let again = stop(rt.alloc(), &stopped, 2, Pick::Mixed).expect(&rt, "there is memory");
-    assert_eq!(rt; ends(&again, 0, 1), [9, 9, 7, 7]);
-    assert_eq!(rt; &powers(&again), b"SAAA");
-    let last = stop(rt.alloc(), &stopped, 3, Pick::Old).expect(&rt, "there is memory");
-    assert_eq!(rt; ends(&last, 0, 1), [7; 4]);
-    assert_eq!(rt; ends(&last, 1, 1), [0; 4]);
-    assert_eq!(rt; &powers(&last), b"SSAA");
+    let want = Some((*b"SAAA", [[9, 9, 7, 7], [238; 4]]));
+    assert_eq!(rt; stopped_again(alloc, &rack, 2, Pick::Mixed), want);
+    let want = Some((*b"SSAA", [[7; 4], [0; 4]]));
+    assert_eq!(rt; stopped_again(alloc, &rack, 3, Pick::Old), want);
 }

@@ -1,172 +1,216 @@
 //! Places, copies and sizes of three arrays, worked by hand, and which geometries are refused.
 
-use paraid_base::{GeoFault, Geometry};
+use paraid_base::{DiskNo, GeoFault, Geometry, Place, Row};
 use paraid_layout::{
     block_at, cell_at, hard_place, home, map_place, parity_disk, soft_of, soft_parity, soft_place,
 };
-use std::process::Abort;
 
-// Row `r` has its parity, its hard cells and its byte of the map at these.
-fn row_is(rt: &impl Abort, g: &Geometry, r: u32, parity: u8, hard: u32, map: u32) {
-    if r < g.rows() {
-        let found = (parity_disk(g, r), hard_place(g, r), map_place(g, r));
-        assert_eq!(rt; found, (parity, hard, map), "row {r}");
+/// Disks, rows and gears.
+type Shape = (u8, u32, &'static [u8]);
+
+const SMALL: Shape = (5, 5, &[4, 5]);
+
+const WIDE: Shape = (8, 4096, &[3, 5, 8]);
+
+const LARGEST: Shape = (8, 65536, &[3, 4, 5, 6, 7, 8]);
+
+fn made(shape: Shape) -> Option<Geometry> {
+    Geometry::new(shape.0, shape.1, shape.2).ok()
+}
+
+// An array, its blocks, the stripes of three of its gears, and the blocks of a disk.
+const SIZES: [(Shape, u32, [(u8, u32); 3], u32); 3] = [
+    (SMALL, 20, [(4, 2), (5, 0), (5, 0)], 108),
+    (WIDE, 28672, [(3, 10240), (5, 3072), (8, 0)], 17516),
+    (
+        LARGEST,
+        458752,
+        [(3, 163840), (4, 87382), (5, 49152)],
+        403276,
+    ),
+];
+
+fn sizes(shape: Shape) -> Option<(u32, u32)> {
+    let g = made(shape)?;
+    Some((g.blocks(), g.size()))
+}
+
+fn stripes(shape: Shape, gear: u8) -> Option<u32> {
+    let g = made(shape)?;
+    if g.is_gear(gear) {
+        Some(g.stripes(gear))
     } else {
-        panic!(rt; "no row {r}");
+        None
     }
 }
 
-// The home of block `b` is this cell, which has this block.
-fn home_is(rt: &impl Abort, g: &Geometry, b: u32, r: u32, d: u8) {
-    if b < g.blocks() && r < g.rows() && d < g.disks() {
-        let found = (home(g, b), block_at(g, r, d));
-        assert_eq!(rt; found, ((r, d), Some(b)), "block {b}");
-    } else {
-        panic!(rt; "no block {b}");
-    }
-}
-
-// The cell has no block: it is the parity of its row.
-fn no_block_is(rt: &impl Abort, g: &Geometry, r: u32, d: u8) {
-    if r < g.rows() && d < g.disks() {
-        assert_eq!(rt; block_at(g, r, d), None, "cell {r} {d}");
-    } else {
-        panic!(rt; "no cell {r} {d}");
-    }
-}
-
-// This stripe of gear `a` has its parity on this disk, and lies at this place.
-fn stripe_is(rt: &impl Abort, g: &Geometry, a: u8, s: u32, parity: u8, place: u32) {
-    if g.is_gear(a) && a < g.disks() && s < g.stripes(a) {
-        let found = (soft_parity(g, a, s), soft_place(g, a, s));
-        assert_eq!(rt; found, (parity, place), "stripe {s}");
-    } else {
-        panic!(rt; "no stripe {s}");
-    }
-}
-
-// The copy of this cell in gear `a` lies in this stripe on this disk.
-fn copy_is(rt: &impl Abort, g: &Geometry, a: u8, cell: (u32, u8), copy: (u32, u8)) {
-    let (r, d) = cell;
-    if g.is_gear(a) && a <= d && d < g.disks() && r < g.rows() {
-        assert_eq!(rt; soft_of(g, a, r, d), copy, "cell {r} {d}");
-    } else {
-        panic!(rt; "no cell {r} {d}");
-    }
-}
-
-// Index `i` of this stripe has this cell, or is a pad.
-fn cell_is(rt: &impl Abort, g: &Geometry, a: u8, s: u32, i: u8, cell: Option<(u32, u8)>) {
-    if g.is_gear(a) && a < g.disks() && s < g.stripes(a) && i < a - 1 {
-        assert_eq!(rt; cell_at(g, a, s, i), cell, "stripe {s} {i}");
-    } else {
-        panic!(rt; "no index {i} of stripe {s}");
-    }
-}
-
-fn sizes_are(rt: &impl Abort, g: &Geometry, blocks: u32, stripes: &[(u8, u32)], size: u32) {
-    assert_eq!(rt; (g.blocks(), g.size()), (blocks, size));
-    for &(a, count) in stripes {
-        if g.is_gear(a) {
-            assert_eq!(rt; g.stripes(a), count, "gear {a}");
-        } else {
-            panic!(rt; "no gear {a}");
+#[test]
+fn arrays_have_these_sizes(rt: HostRuntime) {
+    for (shape, blocks, gears, size) in SIZES {
+        assert_eq!(rt; sizes(shape), Some((blocks, size)));
+        for (gear, count) in gears {
+            assert_eq!(rt; stripes(shape, gear), Some(count));
         }
     }
 }
 
-fn made(rt: &impl Abort, disks: u8, rows: u32, gears: &[u8]) -> Geometry {
-    match Geometry::new(disks, rows, gears) {
-        Ok(g) => g,
-        Err(fault) => panic!(rt; "refused: {fault:?}"),
+// Rows: the disk of the parity, the place of the hard cells, and that of the byte of the map.
+const ROWS: [(Shape, Row, (DiskNo, Place, Place)); 6] = [
+    // the parity goes down from the last disk
+    (SMALL, 0, (4, 101, 100)),
+    (SMALL, 1, (3, 102, 100)),
+    (SMALL, 4, (0, 105, 100)),
+    (WIDE, 0, (7, 108, 100)),
+    (WIDE, 4095, (0, 4203, 107)),
+    (LARGEST, 65535, (0, 65763, 227)),
+];
+
+fn row_at(shape: Shape, row: Row) -> Option<(DiskNo, Place, Place)> {
+    let g = made(shape)?;
+    if row >= g.rows() {
+        return None;
+    }
+    Some((
+        parity_disk(&g, row),
+        hard_place(&g, row),
+        map_place(&g, row),
+    ))
+}
+
+#[test]
+fn a_row_has_its_parity_and_places(rt: HostRuntime) {
+    for (shape, row, want) in ROWS {
+        assert_eq!(rt; row_at(shape, row), Some(want));
+    }
+}
+
+// Cells, and the block that each holds.
+const CELLS: [(Shape, (Row, DiskNo), Option<u32>); 6] = [
+    // disk 4 holds the parity of row 0, and then the last block of each row
+    (SMALL, (0, 4), None),
+    (SMALL, (0, 3), Some(3)),
+    (SMALL, (1, 4), Some(7)),
+    (SMALL, (4, 1), Some(16)),
+    (SMALL, (4, 4), Some(19)),
+    (WIDE, (4095, 7), Some(28671)),
+];
+
+fn held_at(shape: Shape, cell: (Row, DiskNo)) -> Option<u32> {
+    let g = made(shape)?;
+    if cell.0 < g.rows() && cell.1 < g.disks() {
+        block_at(&g, cell.0, cell.1)
+    } else {
+        None
+    }
+}
+
+fn home_of(shape: Shape, block: u32) -> Option<(Row, DiskNo)> {
+    let g = made(shape)?;
+    if block < g.blocks() {
+        Some(home(&g, block))
+    } else {
+        None
     }
 }
 
 #[test]
-fn an_array_of_five_disks_and_five_rows(rt: HostRuntime) {
-    let g = made(&rt, 5, 5, &[4, 5]);
-    sizes_are(&rt, &g, 20, &[(4, 2), (5, 0)], 108);
+fn a_block_and_its_cell_lead_to_each_other(rt: HostRuntime) {
+    for (shape, cell, block) in CELLS {
+        assert_eq!(rt; held_at(shape, cell), block);
+        if let Some(block) = block {
+            assert_eq!(rt; home_of(shape, block), Some(cell));
+        }
+    }
+}
 
-    // the rows' parity goes down from the last disk
-    row_is(&rt, &g, 0, 4, 101, 100);
-    row_is(&rt, &g, 1, 3, 102, 100);
-    row_is(&rt, &g, 4, 0, 105, 100);
+// Stripes of a gear: the disk of the parity, and the place.
+const STRIPES: [(Shape, u8, u32, (DiskNo, Place)); 8] = [
+    (SMALL, 4, 0, (3, 106)),
+    (SMALL, 4, 1, (2, 107)),
+    (WIDE, 3, 0, (2, 4204)),
+    (WIDE, 3, 2, (0, 4206)),
+    (WIDE, 3, 10239, (2, 14443)),
+    (WIDE, 5, 0, (4, 14444)),
+    (WIDE, 5, 3071, (3, 17515)),
+    (LARGEST, 7, 10922, (4, 403275)),
+];
 
-    // disk 4 holds the parity of row 0 and then the last block of each row
-    home_is(&rt, &g, 3, 0, 3);
-    home_is(&rt, &g, 7, 1, 4);
-    home_is(&rt, &g, 16, 4, 1);
-    home_is(&rt, &g, 19, 4, 4);
-    no_block_is(&rt, &g, 0, 4);
+fn stripe_at(shape: Shape, gear: u8, stripe: u32) -> Option<(DiskNo, Place)> {
+    let g = made(shape)?;
+    if gear >= g.disks() || !g.is_gear(gear) || stripe >= g.stripes(gear) {
+        return None;
+    }
+    Some((soft_parity(&g, gear, stripe), soft_place(&g, gear, stripe)))
+}
 
-    // stripe 0 is the parity of row 0, blocks 7 and 11 and its own parity
-    stripe_is(&rt, &g, 4, 0, 3, 106);
-    copy_is(&rt, &g, 4, (0, 4), (0, 0));
-    copy_is(&rt, &g, 4, (1, 4), (0, 1));
-    copy_is(&rt, &g, 4, (2, 4), (0, 2));
-    cell_is(&rt, &g, 4, 0, 0, Some((0, 4)));
+#[test]
+fn a_stripe_has_its_parity_and_place(rt: HostRuntime) {
+    for (shape, gear, stripe, want) in STRIPES {
+        assert_eq!(rt; stripe_at(shape, gear, stripe), Some(want));
+    }
+}
 
+// A gear, a stripe and an index in it, its cell, none for a pad, and the disk of the cell's copy.
+const COPIES: [(Shape, u8, (u32, u8), Option<(Row, DiskNo)>, DiskNo); 9] = [
+    // stripe 0 is the parity of row 0, blocks 7 and 11, and its own parity
+    (SMALL, 4, (0, 0), Some((0, 4)), 0),
+    (SMALL, 4, (0, 1), Some((1, 4)), 1),
+    (SMALL, 4, (0, 2), Some((2, 4)), 2),
     // stripe 1 is blocks 15 and 19, its own parity and a pad
-    stripe_is(&rt, &g, 4, 1, 2, 107);
-    copy_is(&rt, &g, 4, (3, 4), (1, 0));
-    copy_is(&rt, &g, 4, (4, 4), (1, 1));
-    cell_is(&rt, &g, 4, 1, 1, Some((4, 4)));
-    cell_is(&rt, &g, 4, 1, 2, None);
+    (SMALL, 4, (1, 0), Some((3, 4)), 0),
+    (SMALL, 4, (1, 1), Some((4, 4)), 1),
+    (SMALL, 4, (1, 2), None, 0),
+    (WIDE, 3, (2, 1), Some((1, 3)), 2),
+    (LARGEST, 7, (10922, 3), Some((65535, 7)), 3),
+    (LARGEST, 7, (10922, 4), None, 0),
+];
+
+fn cell_in(shape: Shape, gear: u8, index: (u32, u8)) -> Option<(Row, DiskNo)> {
+    let g = made(shape)?;
+    let (stripe, i) = index;
+    if gear >= g.disks() || !g.is_gear(gear) || stripe >= g.stripes(gear) || i >= gear - 1 {
+        return None;
+    }
+    cell_at(&g, gear, stripe, i)
+}
+
+fn copy_of(shape: Shape, gear: u8, cell: (Row, DiskNo)) -> Option<(u32, DiskNo)> {
+    let g = made(shape)?;
+    let (row, disk) = cell;
+    if !g.is_gear(gear) || disk < gear || disk >= g.disks() || row >= g.rows() {
+        return None;
+    }
+    Some(soft_of(&g, gear, row, disk))
 }
 
 #[test]
-fn an_array_of_eight_disks_and_4096_rows(rt: HostRuntime) {
-    let g = made(&rt, 8, 4096, &[3, 5, 8]);
-    sizes_are(&rt, &g, 28672, &[(3, 10240), (5, 3072), (8, 0)], 17516);
-    row_is(&rt, &g, 0, 7, 108, 100);
-    row_is(&rt, &g, 4095, 0, 4203, 107);
-    home_is(&rt, &g, 28671, 4095, 7);
-    stripe_is(&rt, &g, 3, 0, 2, 4204);
-    stripe_is(&rt, &g, 3, 10239, 2, 14443);
-    stripe_is(&rt, &g, 5, 0, 4, 14444);
-    stripe_is(&rt, &g, 5, 3071, 3, 17515);
-
-    // cell (1, 3) in gear 3
-    stripe_is(&rt, &g, 3, 2, 0, 4206);
-    copy_is(&rt, &g, 3, (1, 3), (2, 2));
-    cell_is(&rt, &g, 3, 2, 1, Some((1, 3)));
-}
-
-#[test]
-fn the_largest_array(rt: HostRuntime) {
-    let g = made(&rt, 8, 65536, &[3, 4, 5, 6, 7, 8]);
-    sizes_are(
-        &rt,
-        &g,
-        458752,
-        &[(3, 163840), (4, 87382), (5, 49152)],
-        403276,
-    );
-    row_is(&rt, &g, 65535, 0, 65763, 227);
-    stripe_is(&rt, &g, 3, 0, 2, 65764);
-    stripe_is(&rt, &g, 7, 10922, 4, 403275);
-    copy_is(&rt, &g, 7, (65535, 7), (10922, 3));
-    cell_is(&rt, &g, 7, 10922, 4, None);
+fn a_cell_and_its_copy_lead_to_each_other(rt: HostRuntime) {
+    for (shape, gear, index, cell, disk) in COPIES {
+        assert_eq!(rt; cell_in(shape, gear, index), cell);
+        if let Some(cell) = cell {
+            assert_eq!(rt; copy_of(shape, gear, cell), Some((index.0, disk)));
+        }
+    }
 }
 
 // Disks, rows and gears, and what they are refused by.
-const REFUSED: [(u8, u32, &[u8], GeoFault); 10] = [
-    (2, 0, &[], GeoFault::Disks { value: 2 }),
-    (9, 5, &[9], GeoFault::Disks { value: 9 }),
-    (5, 0, &[], GeoFault::Rows { value: 0 }),
-    (5, 65537, &[5], GeoFault::Rows { value: 65537 }),
-    (5, 5, &[], GeoFault::Gears { at: 0 }),
-    (5, 5, &[2, 5], GeoFault::Gears { at: 0 }),
-    (5, 5, &[4, 4, 5], GeoFault::Gears { at: 1 }),
-    (5, 5, &[4, 6], GeoFault::Gears { at: 1 }),
-    (5, 5, &[4], GeoFault::Gears { at: 1 }),
-    (5, 5, &[3, 4], GeoFault::Gears { at: 2 }),
+const REFUSED: [(Shape, GeoFault); 10] = [
+    ((2, 0, &[]), GeoFault::Disks { value: 2 }),
+    ((9, 5, &[9]), GeoFault::Disks { value: 9 }),
+    ((5, 0, &[]), GeoFault::Rows { value: 0 }),
+    ((5, 65537, &[5]), GeoFault::Rows { value: 65537 }),
+    ((5, 5, &[]), GeoFault::Gears { at: 0 }),
+    ((5, 5, &[2, 5]), GeoFault::Gears { at: 0 }),
+    ((5, 5, &[4, 4, 5]), GeoFault::Gears { at: 1 }),
+    ((5, 5, &[4, 6]), GeoFault::Gears { at: 1 }),
+    ((5, 5, &[4]), GeoFault::Gears { at: 1 }),
+    ((5, 5, &[3, 4]), GeoFault::Gears { at: 2 }),
 ];
 
 #[test]
 fn geometries_are_refused_by_disks_then_rows_then_gears(rt: HostRuntime) {
-    for (disks, rows, gears, want) in REFUSED {
-        let fault = Geometry::new(disks, rows, gears).err();
-        assert_eq!(rt; fault, Some(want), "{disks} disks, {rows} rows, {gears:?}");
+    for (shape, want) in REFUSED {
+        let fault = Geometry::new(shape.0, shape.1, shape.2).err();
+        assert_eq!(rt; (shape, fault), (shape, Some(want)));
     }
 }

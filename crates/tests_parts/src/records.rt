@@ -3,14 +3,13 @@
 ghost use Rattle.std.specs.Prelude.{◌≤◌, length};
 
 use crate::setups::setup;
-use paraid_base::{Block, Out, Phase};
+use paraid_base::{Block, DiskNo, Geometry, Out, Phase, Place};
 use paraid_record::{Meta, Target, Targets, read_meta, read_targets, write_meta, write_targets};
-use std::process::Abort;
 
 /// The meta of a new array of five disks, in mode whole with one window.
-fn fresh_meta(rt: &impl Abort) -> Meta {
-    Meta {
-        setup: setup(rt, 100, 80, 60, [1000, 0, 0]),
+fn fresh_meta() -> Option<Meta> {
+    Some(Meta {
+        setup: setup(100, 80, 60, [1000, 0, 0])?,
         version: 2,
         epoch: 1,
         writes: 0,
@@ -20,7 +19,7 @@ fn fresh_meta(rt: &impl Abort) -> Meta {
         fill: 0,
         out: Out::No,
         spins: [0; 8],
-    }
+    })
 }
 
 /// Its bytes before the zeros, by hand from the layout of the block.
@@ -57,13 +56,20 @@ fn fresh_with(changes: &[(usize, u8)]) -> Block {
     block
 }
 
-/// The block as it is read and written again.
-fn written_again(rt: &impl Abort, block: &Block) -> Block {
-    let meta = read_meta(block).expect(rt, "the block is a meta");
-    assert!(rt; meta.is_in_range());
-    let mut again = Block::zero();
-    write_meta(&meta, &mut again);
-    again
+/// The block of a meta.
+fn spelled(meta: &Meta) -> Option<Block> {
+    if !meta.is_in_range() {
+        return None;
+    }
+    let mut block = Block::zero();
+    write_meta(meta, &mut block);
+    Some(block)
+}
+
+/// Whether the block is a meta, and the same where that is written again.
+fn is_written_again(block: &Block) -> Option<bool> {
+    let again = spelled(&read_meta(block)?)?;
+    Some(again.as_slice() == block.as_slice())
 }
 
 // Changes of the block of a new array's meta, and whether it is one still.
@@ -131,24 +137,30 @@ const CHANGED: [(&[(usize, u8)], bool); 55] = [
 
 #[test]
 fn a_meta_is_read_from_its_one_spelling(rt: HostRuntime) {
-    let meta = fresh_meta(&rt);
-    assert!(rt; meta.is_in_range());
-    let mut block = Block::zero();
-    write_meta(&meta, &mut block);
-    assert!(rt; block.as_slice() == block_of(&FRESH).as_slice());
-    let again = written_again(&rt, &block);
-    assert!(rt; again.as_slice() == block.as_slice());
-    // A meta of version 1 has no burst and no period.
-    let old = fresh_with(&[(9, 1), (113, 0), (117, 0)]);
-    let again = written_again(&rt, &old);
-    assert!(rt; again.as_slice() == old.as_slice());
-    let read = read_meta(&old).expect(&rt, "the block is a meta");
-    let found = (read.version, read.setup.burst, read.setup.period);
-    assert_eq!(rt; found, (1, 100, 1));
     for (changes, accepted) in CHANGED {
         let found = read_meta(&fresh_with(changes)).is_some();
-        assert_eq!(rt; found, accepted, "{changes:?}");
+        assert_eq!(rt; (changes, found), (changes, accepted));
     }
+}
+
+// A meta of version 1 has no burst and no period.
+const OLD: &[(usize, u8)] = &[(9, 1), (113, 0), (117, 0)];
+
+/// The version, the burst and the period of the meta in a block.
+fn allowance_of(block: &Block) -> Option<(u8, u16, u32)> {
+    let meta = read_meta(block)?;
+    Some((meta.version, meta.setup.burst, meta.setup.period))
+}
+
+#[test]
+fn a_meta_is_written_in_its_one_spelling(rt: HostRuntime) {
+    let fresh = fresh_meta().expect(&rt, "five disks");
+    let block = spelled(&fresh).expect(&rt, "the meta is in range");
+    assert_eq!(rt; block.as_slice(), block_of(&FRESH).as_slice());
+    let old = fresh_with(OLD);
+    let again = (is_written_again(&block), is_written_again(&old));
+    assert_eq!(rt; again, (Some(true), Some(true)));
+    assert_eq!(rt; allowance_of(&old), Some((1, 100, 1)));
 }
 
 // Beginnings of blocks, and whether they are lists of targets.
@@ -165,9 +177,8 @@ const LISTS: [([u8; 12], bool); 10] = [
     ([0; 12], true),
 ];
 
-#[test]
-fn targets_are_read_from_their_one_spelling(rt: HostRuntime) {
-    let geometry = fresh_meta(&rt).setup.geometry;
+// The block of two targets.
+fn two_targets() -> Block {
     let mut list = [Target { disk: 0, place: 0 }; 96];
     list[0] = Target {
         disk: 1,
@@ -179,14 +190,24 @@ fn targets_are_read_from_their_one_spelling(rt: HostRuntime) {
     };
     let mut block = Block::zero();
     write_targets(&Targets { count: 2, list }, &mut block);
+    block
+}
+
+// How many targets a block lists, and the second one.
+fn listed(block: &Block, geometry: &Geometry) -> Option<(u8, (DiskNo, Place))> {
+    let read = read_targets(block, geometry)?;
+    Some((read.count, (read.list[1].disk, read.list[1].place)))
+}
+
+#[test]
+fn targets_are_read_from_their_one_spelling(rt: HostRuntime) {
+    let geometry = Geometry::new(5, 5, &[4, 5]).ok().expect(&rt, "five disks");
+    let block = two_targets();
     let bytes = [0, 2, 1, 0, 0, 0, 100, 4, 0, 0, 0, 107];
-    assert!(rt; block.as_slice() == block_of(&bytes).as_slice());
-    let read = read_targets(&block, &geometry).expect(&rt, "the block is a list of targets");
-    assert_eq!(rt; read.count, 2);
-    let last = read.list[1];
-    assert_eq!(rt; (last.disk, last.place), (4, 107));
+    assert_eq!(rt; block.as_slice(), block_of(&bytes).as_slice());
+    assert_eq!(rt; listed(&block, &geometry), Some((2, (4, 107))));
     for (bytes, accepted) in LISTS {
         let found = read_targets(&block_of(&bytes), &geometry).is_some();
-        assert_eq!(rt; found, accepted, "{bytes:?}");
+        assert_eq!(rt; (bytes, found), (bytes, accepted));
     }
 }

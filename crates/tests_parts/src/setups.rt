@@ -1,20 +1,16 @@
 //! Setups of an array of five disks.
 
-ghost use Rattle.std.specs.Prelude.{◌≡◌};
+ghost use Rattle.std.specs.Prelude.{◌≡◌, IfSome};
 
 use paraid_base::Geometry;
 use paraid_record::{Mode, Setup};
-use std::process::Abort;
 
 /// Five disks and five rows with gears 4 and 5, as the examples have them, but for these values.
-pub fn setup(rt: &impl Abort, service: u32, up: u8, down: u8, windows: [u16; 3]) -> Setup
-    ensures { result.windows ≡ windows }
+pub fn setup(service: u32, up: u8, down: u8, windows: [u16; 3]) -> Option<Setup>
+    ensures { IfSome result (λ setup. setup.windows ≡ windows) }
 {
-    let Ok(geometry) = Geometry::new(5, 5, &[4, 5]) else {
-        panic!(rt; "gears 4 and 5 of 5 disks");
-    };
-    Setup {
-        geometry,
+    Some(Setup {
+        geometry: Geometry::new(5, 5, &[4, 5]).ok()?,
         mode: Mode::Whole,
         rate: 1,
         service,
@@ -27,5 +23,5 @@ pub fn setup(rt: &impl Abort, service: u32, up: u8, down: u8, windows: [u16; 3])
         spinning_mj: 9000,
         parked_mj: 900,
         spinup_mj: 60000,
-    }
+    })
 }

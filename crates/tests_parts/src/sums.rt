@@ -4,25 +4,28 @@ ghost use Rattle.std.specs.Prelude.{◌<◌};
 
 use paraid_base::Block;
 use paraid_parity::{is_zero, xor_into};
-use std::process::Abort;
 
-// The bytes `left` and `right` at one place have this sum there, and zeros elsewhere.
-fn adds(rt: &impl Abort, at: usize, left: u8, right: u8, sum: u8)
+// A block of zeros with this byte at a place.
+fn with_byte(at: usize, byte: u8) -> Block
     requires { at < 512 }
 {
-    let mut to = Block::zero();
-    assert!(rt; is_zero(&to), "a new block is zero");
-    to.set(at, left);
-    let mut from = Block::zero();
-    from.set(at, right);
-    assert_eq!(rt; is_zero(&from), right == 0, "one byte {right} at {at}");
+    let mut block = Block::zero();
+    block.set(at, byte);
+    block
+}
+
+// What bytes `left` and `right` at one place add up to there, whether `right` and the sum are zero
+// as blocks, and what is there once `right` is taken out again.
+fn sums(at: usize, left: u8, right: u8) -> (u8, [bool; 2], u8)
+    requires { at < 512 }
+{
+    let mut to = with_byte(at, left);
+    let from = with_byte(at, right);
     xor_into(&mut to, &from);
-    let byte = to.bytes[at];
-    assert_eq!(rt; byte, sum, "{left} and {right} at {at}");
-    assert_eq!(rt; is_zero(&to), sum == 0, "the sum {sum} at {at}");
+    let sum = to.bytes[at];
+    let zeros = [is_zero(&from), is_zero(&to)];
     xor_into(&mut to, &from);
-    let again = to.bytes[at];
-    assert_eq!(rt; again, left, "{right} taken out again at {at}");
+    (sum, zeros, to.bytes[at])
 }
 
 // A place, two bytes and their sum.
@@ -37,9 +40,11 @@ const SUMS: [(usize, u8, u8, u8); 6] = [
 
 #[test]
 fn blocks_add_byte_by_byte_and_one_byte_shows(rt: HostRuntime) {
+    assert!(rt; is_zero(&Block::zero()));
     for (at, left, right, sum) in SUMS {
         if at < 512 {
-            adds(&rt, at, left, right, sum);
+            let want = (sum, [right == 0, sum == 0], left);
+            assert_eq!(rt; (at, sums(at, left, right)), (at, want));
         }
     }
 }

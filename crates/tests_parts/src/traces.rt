@@ -1,11 +1,12 @@
 //! The grammar of lines, the text of each answer, and the generator.
 
-ghost use Rattle.std.specs.Prelude.{◌≡◌, ◌≤◌, [], length};
+ghost use Rattle.std.specs.Prelude.{◌≡◌, ◌<◌, ◌≤◌, [], length};
 ghost use Rattle.paraid_trace.specs.Replies.{HasFewDisks};
 
-use paraid_base::{Answer, Block, Event, GearReport, Halt, Out, Phase, Status, TickEvent, Two};
+use paraid_base::{
+    Answer, Block, Event, GearReport, Halt, Out, Pairs, Phase, Status, TickEvent, Two,
+};
 use paraid_trace::{Text, generate, parse_line, reply};
-use std::process::Abort;
 
 // The text becomes the event as a line, a write by its word alone.
 fn spell(event: &Event, into: &mut Text) {
@@ -25,21 +26,27 @@ fn spell(event: &Event, into: &mut Text) {
     }
 }
 
-// The event is a write of these blocks, each with the text of its bytes.
-fn writes(rt: &impl Abort, event: &Event, want: &[(u32, &str)]) {
-    let Event::Write { pairs } = event else {
-        panic!(rt; "no write");
-    };
-    assert_eq!(rt; pairs.count as usize, want.len());
+// Whether a pair of a write has this block, and bytes with this text.
+fn has_pair(pairs: &Pairs, at: usize, block: u32, bytes: &str) -> bool
+    requires { at < 8 }
+{
     let mut text = Text::new();
+    text.push_block(&pairs.bytes[at]);
+    pairs.blocks[at] == block && text.as_slice() == bytes.as_bytes()
+}
+
+// Whether the event is a write of these blocks, each with the text of its bytes.
+fn is_write_of(event: &Event, want: &[(u32, &str)]) -> bool {
+    let Event::Write { pairs } = event else {
+        return false;
+    };
     for at in 0..8 {
         let (block, bytes) = if at < want.len() { want[at] } else { (0, "00") };
-        let found = pairs.blocks[at];
-        assert_eq!(rt; found, block, "pair {at}");
-        text.clear();
-        text.push_block(&pairs.bytes[at]);
-        assert_eq!(rt; text.as_slice(), bytes.as_bytes(), "pair {at}");
+        if !has_pair(pairs, at, block, bytes) {
+            return false;
+        }
     }
+    pairs.count as usize == want.len()
 }
 
 fn spell_number(word: &[u8], number: u32, into: &mut Text)
@@ -51,65 +58,79 @@ fn spell_number(word: &[u8], number: u32, into: &mut Text)
     into.push_number(u64::from(number));
 }
 
-// Lines, and the event of each as a line.
-const LINES: [(&str, &str); 49] = [
-    ("f", "f"),
-    ("t", "t"),
-    ("up", "up"),
-    ("down", "down"),
-    ("s", "s"),
-    ("e", "e"),
-    ("r 0", "r 0"),
-    ("r 4294967295", "r 4294967295"),
-    ("fail 1", "fail 1"),
-    ("fail 300", "fail 300"),
-    ("replace 10", "replace 10"),
-    ("", "bad"),
-    (" ", "bad"),
-    ("f ", "bad"),
-    (" f", "bad"),
-    ("f\0", "bad"),
-    ("F", "bad"),
-    ("u", "bad"),
-    ("ups", "bad"),
-    ("xyz", "bad"),
-    ("r", "bad"),
-    ("r ", "bad"),
-    ("r 01", "bad"),
-    ("r 00", "bad"),
-    ("r +1", "bad"),
-    ("r  1", "bad"),
-    ("r 1 ", "bad"),
-    ("r 1a", "bad"),
-    ("r\t1", "bad"),
-    ("r 4294967296", "bad"),
-    ("r 10000000000", "bad"),
-    ("fail -1", "bad"),
-    ("replace", "bad"),
-    ("w 3", "bad"),
-    ("w 3 ", "bad"),
-    ("w 3 1", "bad"),
-    ("w 3 111", "bad"),
-    ("w 3 1g", "bad"),
-    ("w 3  11", "bad"),
-    ("w 3 11 ", "bad"),
-    ("w 03 11", "bad"),
-    ("w 4294967296 11", "bad"),
-    ("w 3 11 4", "bad"),
-    ("w 3 11 4 ", "bad"),
-    ("w 3 11 4 2", "bad"),
-    ("w 3 11  4 22", "bad"),
-    ("w 3 11 4 22 ", "bad"),
-    ("w 3 11 04 22", "bad"),
-    ("w 0 01 1 02 2 03 3 04 4 05 5 06 6 07 7 08 8 09", "bad"),
+// Lines of events, but for writes.
+const EVENTS: [&str; 11] = [
+    "f",
+    "t",
+    "up",
+    "down",
+    "s",
+    "e",
+    "r 0",
+    "r 4294967295",
+    "fail 1",
+    "fail 300",
+    "replace 10",
 ];
+
+// Lines of no event.
+const BAD: [&str; 38] = [
+    "",
+    " ",
+    "f ",
+    " f",
+    "f\0",
+    "F",
+    "u",
+    "ups",
+    "xyz",
+    "r",
+    "r ",
+    "r 01",
+    "r 00",
+    "r +1",
+    "r  1",
+    "r 1 ",
+    "r 1a",
+    "r\t1",
+    "r 4294967296",
+    "r 10000000000",
+    "fail -1",
+    "replace",
+    "w 3",
+    "w 3 ",
+    "w 3 1",
+    "w 3 111",
+    "w 3 1g",
+    "w 3  11",
+    "w 3 11 ",
+    "w 03 11",
+    "w 4294967296 11",
+    "w 3 11 4",
+    "w 3 11 4 ",
+    "w 3 11 4 2",
+    "w 3 11  4 22",
+    "w 3 11 4 22 ",
+    "w 3 11 04 22",
+    "w 0 01 1 02 2 03 3 04 4 05 5 06 6 07 7 08 8 09",
+];
+
+fn is_bad(line: &str) -> bool {
+    match parse_line(line.as_bytes()) {
+        Event::Bad => true,
+        _ => false,
+    }
+}
 
 #[test]
 fn a_line_asks_for_its_event(rt: HostRuntime) {
     let mut text = Text::new();
-    for (line, event) in LINES {
+    for line in EVENTS {
         spell(&parse_line(line.as_bytes()), &mut text);
-        assert_eq!(rt; text.as_slice(), event.as_bytes());
+        assert_eq!(rt; text.as_slice(), line.as_bytes());
+    }
+    for line in BAD {
+        assert_eq!(rt; (line, is_bad(line)), (line, true));
     }
 }
 
@@ -137,17 +158,36 @@ const WRITES: [(&str, &[(u32, &str)]); 7] = [
 ];
 
 #[test]
-fn a_write_has_one_to_eight_groups_of_at_most_1024_digits(rt: HostRuntime) {
+fn a_write_has_one_to_eight_groups(rt: HostRuntime) {
     for (line, want) in WRITES {
-        writes(&rt, &parse_line(line.as_bytes()), want);
+        assert_eq!(rt;
+            (line, is_write_of(&parse_line(line.as_bytes()), want)),
+            (line, true)
+        );
     }
+}
+
+// Whether a write of so many digits is one.
+fn is_write(digits: usize) -> bool
+    requires { digits ≤ 1096 }
+{
     let mut line = [b'a'; 1100];
     line[..4].copy_from_slice(b"w 3 ");
-    let mut text = Text::new();
-    for (digits, event) in [(1022, "w"), (1023, "bad"), (1024, "w"), (1026, "bad")] {
-        spell(&parse_line(&line[..4 + digits]), &mut text);
-        assert_eq!(rt; text.as_slice(), event.as_bytes());
+    match parse_line(&line[..4 + digits]) {
+        Event::Write { .. } => true,
+        _ => false,
     }
+}
+
+#[test]
+fn a_group_has_at_most_1024_digits(rt: HostRuntime) {
+    let found = (
+        is_write(1022),
+        is_write(1023),
+        is_write(1024),
+        is_write(1026),
+    );
+    assert_eq!(rt; found, (true, false, true, false));
 }
 
 // Lines of another program that has the same definition.
@@ -188,7 +228,8 @@ fn a_number_makes_its_trace(rt: HostRuntime) {
     }
     for (number, i, blocks, block, bytes) in GENERATED_WRITES {
         let blocks: u32 = blocks;
-        writes(&rt, &generate(number, i, blocks.max(1)), &[(block, bytes)]);
+        let found = is_write_of(&generate(number, i, blocks.max(1)), &[(block, bytes)]);
+        assert_eq!(rt; (i, found), (i, true));
     }
 }
 

@@ -5,6 +5,10 @@
 #[cfg(test)]
 mod devices;
 #[cfg(test)]
+mod formats;
+#[cfg(test)]
 mod runs;
+#[cfg(test)]
+mod states;
 #[cfg(test)]
 mod words;

@@ -57,7 +57,7 @@ fn outcome(alloc: Global, word: &str, input: &[u8], faults: Faults) -> Result<(u
     let Ended {
         status,
         rack: _rack,
-    } = paraid(&words, &mut source, &mut sink, rack);
+    } = paraid(alloc, &words, &mut source, &mut sink, rack);
     let mut text = Vec::new(alloc);
     text.extend_from_slice(sink.bytes())?;
     Ok((status, text))
@@ -110,9 +110,12 @@ fn every_line_is_answered(rt: HostRuntime) -> Result<(), Fail> {
         assert_eq!(rt; text.as_slice(), want.as_bytes());
         assert_eq!(rt; status, 0);
     }
-    let (status, text) = outcome(alloc, "runs", b"f\n", NONE)?;
-    assert_eq!(rt; text.as_slice(), "usage: paraid run\n".as_bytes());
-    assert_eq!(rt; status, 2);
+    for word in ["runs", "check", "gen", "--help"] {
+        let (status, text) = outcome(alloc, word, b"f\n", NONE)?;
+        let want = "usage: paraid format [--force] | run | status\n";
+        assert_eq!(rt; text.as_slice(), want.as_bytes());
+        assert_eq!(rt; status, 2);
+    }
     Ok(())
 }
 

@@ -1,36 +1,50 @@
+//! When a spare is used.
+
+use paraid_base::DiskNo;
 use paraid_spare::Pool;
 
-// A spare is used at once where no tick is to be waited for, and only for a disk that is gone.
-#[test]
-fn a_spare_is_used_at_the_tick_that_is_due(rt: HostRuntime) {
-    let mut pool = Pool::new(1, 0);
-    assert_eq!(rt; pool.due(None), None);
-    assert_eq!(rt; pool.due(Some(2)), Some(2));
-    pool.taken();
-    pool.settled();
-    assert_eq!(rt; pool.left(), 0);
-    assert_eq!(rt; pool.due(Some(2)), None);
-    for disk in 0..5 {
-        assert_eq!(rt; pool.slot(disk), 0);
+// A spare is used, if one is left; how many are left then.
+fn used(pool: &mut Pool) -> u8 {
+    if pool.left() > 0 {
+        pool.taken();
+        pool.settled();
     }
-    // A wait of one tick begins anew after a spare that could not be attached.
+    pool.left()
+}
+
+// Of one spare that waits for no tick: what is due with no disk gone and with disk 2 gone, how many
+// are left once it is used, and what is due then.
+fn used_at_once() -> (Option<DiskNo>, Option<DiskNo>, u8, Option<DiskNo>) {
+    let mut pool = Pool::new(1, 0);
+    let (none, due) = (pool.due(None), pool.due(Some(2)));
+    let left = used(&mut pool);
+    (none, due, left, pool.due(Some(2)))
+}
+
+// What is due for disk 2 before a tick was waited for it and after, and for disk 3.
+fn due_after_a_tick(pool: &mut Pool) -> [Option<DiskNo>; 3] {
+    let before = pool.due(Some(2));
+    pool.waited(2);
+    [before, pool.due(Some(2)), pool.due(Some(3))]
+}
+
+// How often some disks of eight were spun up, once disks 3 and 4 were and one spare was used.
+fn spun() -> [u64; 4] {
     let mut pool = Pool::new(2, 1);
-    assert_eq!(rt; pool.due(Some(2)), None);
-    pool.waited(2);
-    assert_eq!(rt; pool.due(Some(2)), Some(2));
-    assert_eq!(rt; pool.due(Some(3)), None);
-    pool.taken();
-    pool.settled();
-    assert_eq!(rt; pool.left(), 1);
-    assert_eq!(rt; pool.due(Some(2)), None);
-    pool.waited(2);
-    assert_eq!(rt; pool.due(Some(2)), Some(2));
-    pool.taken();
-    pool.settled();
-    assert_eq!(rt; pool.left(), 0);
+    used(&mut pool);
     pool.spun(3, 5);
     pool.spun(4, 5);
-    for (disk, times) in [(0, 0), (3, 1), (4, 2), (7, 0)] {
-        assert_eq!(rt; pool.slot(disk), times);
-    }
+    [pool.slot(0), pool.slot(3), pool.slot(4), pool.slot(7)]
+}
+
+#[test]
+fn a_spare_is_used_at_the_tick_that_is_due(rt: HostRuntime) {
+    assert_eq!(rt; used_at_once(), (None, Some(2), 0, None));
+    // A wait of one tick begins anew after a spare that could not be attached.
+    let mut pool = Pool::new(2, 1);
+    assert_eq!(rt; due_after_a_tick(&mut pool), [None, Some(2), None]);
+    assert_eq!(rt; used(&mut pool), 1);
+    assert_eq!(rt; due_after_a_tick(&mut pool), [None, Some(2), None]);
+    assert_eq!(rt; used(&mut pool), 0);
+    assert_eq!(rt; spun(), [0, 1, 2, 0]);
 }

@@ -1,116 +1,192 @@
+//! Named volumes on a device that keeps its history.
+
 use crate::device::Kept;
 use paraid_base::{Block, Halt};
 use paraid_volume::{Name, VolFault, Volumes};
-use std::process::Abort;
+use std::alloc::Global;
 
-fn name(rt: &impl Abort, bytes: &[u8]) -> Name {
-    Name::new(bytes).expect(rt, "a name")
+// A call on volumes.
+#[derive(Clone, Copy)]
+enum Deed {
+    // A volume of this name and so many extents.
+    Create(&'static str, u32),
+    // A block of this byte, repeated.
+    Write(u8, u32, u8),
+    Read(u8, u32),
+    Delete(u8),
+    Find(&'static str),
+    Size(u8),
+    Free,
+    Flush,
 }
 
-// A block of one byte, repeated.
-fn filled(byte: u8) -> Block {
-    Block::from_array([byte; 512])
+use Deed::{Create, Delete, Find, Flush, Free, Read, Size, Write};
+
+fn created(volumes: &mut Volumes<Kept>, text: &str, extents: u32) -> Result<u32, VolFault> {
+    match Name::new(text.as_bytes()) {
+        Some(name) => Ok(u32::from(volumes.create(&name, extents)?)),
+        None => Ok(999),
+    }
+}
+
+// The first byte of a block whose bytes are the same, else 999.
+fn byte_of(volumes: &mut Volumes<Kept>, id: u8, block: u32) -> Result<u32, VolFault> {
+    let mut found = Block::zero();
+    volumes.read(id, block, &mut found)?;
+    let filled = Block::from_array([found.bytes[0]; 512]);
+    if found.as_slice() == filled.as_slice() {
+        Ok(u32::from(found.bytes[0]))
+    } else {
+        Ok(999)
+    }
+}
+
+// The id of this name, and 0 where there is none.
+fn id_of(volumes: &Volumes<Kept>, text: &str) -> u32 {
+    match Name::new(text.as_bytes()) {
+        Some(name) => u32::from(volumes.find(&name).unwrap_or(0)),
+        None => 999,
+    }
+}
+
+// What the call answers as a number, 0 where it answers none.
+fn done(volumes: &mut Volumes<Kept>, deed: Deed) -> Result<u32, VolFault> {
+    match deed {
+        Create(text, extents) => created(volumes, text, extents),
+        Write(id, block, byte) => {
+            volumes.write(id, block, &Block::from_array([byte; 512]))?;
+            Ok(0)
+        }
+        Read(id, block) => byte_of(volumes, id, block),
+        Delete(id) => {
+            volumes.delete(id)?;
+            Ok(0)
+        }
+        Find(text) => Ok(id_of(volumes, text)),
+        Size(id) => Ok(volumes.size(id)),
+        Free => Ok(volumes.free()),
+        Flush => Ok(volumes.flush()?.min(999) as u32),
+    }
+}
+
+// Calls on a new table of twenty blocks, and what each answers.
+const CALLS: [(Deed, Result<u32, VolFault>); 22] = [
+    (Free, Ok(14)),
+    (Create("a", 3), Ok(1)),
+    (Write(1, 0, 17), Ok(0)),
+    (Create("b", 11), Ok(2)),
+    (Create("c", 1), Err(VolFault::Space { free: 0 })),
+    (Read(1, 0), Ok(17)),
+    (Read(2, 0), Ok(0)),
+    (Delete(1), Ok(0)),
+    (Create("c", 3), Ok(1)),
+    // the bytes of the volume that was removed are gone
+    (Read(1, 0), Ok(0)),
+    (Find("a"), Ok(0)),
+    (Find("b"), Ok(2)),
+    (Find("c"), Ok(1)),
+    (Size(1), Ok(3)),
+    (Size(2), Ok(11)),
+    (Size(3), Ok(0)),
+    (Create("c", 1), Err(VolFault::Exists { id: 1 })),
+    (Read(2, 11), Err(VolFault::NoBlock { block: 11 })),
+    (Read(3, 0), Err(VolFault::NoVolume { id: 3 })),
+    (Create("a", 0), Err(VolFault::NoExtents)),
+    (Free, Ok(0)),
+    (Read(2, 10), Ok(0)),
+];
+
+const WORN: VolFault = VolFault::Halt(Halt::Worn { count: 3 });
+
+// The same on a device that is worn after three writes.
+const HALTED: [(Deed, Result<u32, VolFault>); 5] = [
+    (Create("a", 3), Err(WORN)),
+    (Find("a"), Ok(0)),
+    (Free, Ok(14)),
+    (Create("a", 0), Err(WORN)),
+    (Flush, Err(WORN)),
+];
+
+fn made(alloc: Global, worn: usize) -> Option<Volumes<Kept>> {
+    Volumes::init(Kept::new(alloc, 20, worn)).ok()
 }
 
 #[test]
 fn volumes_are_made_used_and_removed(rt: HostRuntime) {
-    let (a, b, c) = (name(&rt, b"a"), name(&rt, b"b"), name(&rt, b"c"));
-    let device = Kept::new(rt.alloc(), 20, 1000);
-    let Ok(mut volumes) = Volumes::init(device) else {
-        panic!(rt; "no table yet");
-    };
-    let mut found = Block::zero();
-    assert_eq!(rt; volumes.free(), 14);
-    assert_eq!(rt; volumes.create(&a, 3), Ok(1));
-    assert_eq!(rt; volumes.write(1, 0, &filled(17)), Ok(()));
-    assert_eq!(rt; volumes.create(&b, 11), Ok(2));
-    assert_eq!(rt; volumes.create(&c, 1), Err(VolFault::Space { free: 0 }));
-    assert_eq!(rt; volumes.read(1, 0, &mut found), Ok(()));
-    assert!(rt; found.as_slice() == filled(17).as_slice());
-    assert_eq!(rt; volumes.read(2, 0, &mut found), Ok(()));
-    assert!(rt; found.as_slice() == filled(0).as_slice());
-    assert_eq!(rt; volumes.delete(1), Ok(()));
-    assert_eq!(rt; volumes.create(&c, 3), Ok(1));
-    assert_eq!(rt; volumes.read(1, 0, &mut found), Ok(()));
-    assert!(rt; found.as_slice() == filled(0).as_slice());
-    assert_eq!(rt; volumes.find(&a), None);
-    for (id, text, size) in [(1, b"c".as_slice(), 3), (2, b"b".as_slice(), 11)] {
-        let Some(live) = volumes.name(id) else {
-            panic!(rt; "a live id has a name");
-        };
-        assert_eq!(rt; live.as_slice(), text);
-        assert_eq!(rt; volumes.size(id), size);
-    }
-    assert_eq!(rt; volumes.create(&c, 1), Err(VolFault::Exists { id: 1 }));
-    let past = volumes.read(2, 11, &mut found);
-    assert_eq!(rt; past, Err(VolFault::NoBlock { block: 11 }));
-    let other = volumes.read(3, 0, &mut found);
-    assert_eq!(rt; other, Err(VolFault::NoVolume { id: 3 }));
-    assert_eq!(rt; volumes.create(&a, 0), Err(VolFault::NoExtents));
-    let Err(refused) = Volumes::init(volumes.finish()) else {
-        panic!(rt; "a table is there");
-    };
-    assert_eq!(rt; refused.fault, VolFault::Already);
-    let Err(refused) = Volumes::init(Kept::new(rt.alloc(), 2, 1000)) else {
-        panic!(rt; "two blocks are few");
-    };
-    assert_eq!(rt; refused.fault, VolFault::Small { blocks: 2 });
-    let Err(refused) = Volumes::adopt(Kept::new(rt.alloc(), 20, 1000)) else {
-        panic!(rt; "there is no table");
-    };
-    assert_eq!(rt; refused.fault, VolFault::NotVolumes);
-}
-
-// The writes: 1 the table, 2 to 4 zeros and 5 the table for `a`, 6 its block, 7 to 17 zeros and 18
-// the table for `b`.
-#[test]
-fn a_stop_at_each_write_of_a_new_volume_leaves_the_volumes_before_it_or_with_it(rt: HostRuntime) {
-    let (a, b) = (name(&rt, b"a"), name(&rt, b"b"));
-    let Ok(mut volumes) = Volumes::init(Kept::new(rt.alloc(), 20, 1000)) else {
-        panic!(rt; "no table yet");
-    };
-    assert_eq!(rt; volumes.create(&a, 3), Ok(1));
-    assert_eq!(rt; volumes.write(1, 0, &filled(17)), Ok(()));
-    assert_eq!(rt; volumes.create(&b, 11), Ok(2));
-    assert_eq!(rt; volumes.flush(), Ok(18));
-    let mut device = volumes.finish();
-    for moment in 1..19 {
-        device.seen = moment;
-        let Ok(mut stopped) = Volumes::adopt(device) else {
-            panic!(rt; "a stop leaves a table");
-        };
-        let has_a = moment >= 5;
-        let has_b = moment == 18;
-        assert_eq!(rt; stopped.find(&a), if has_a { Some(1) } else { None });
-        assert_eq!(rt; stopped.find(&b), if has_b { Some(2) } else { None });
-        let free = if has_b {
-            0
-        } else if has_a {
-            11
-        } else {
-            14
-        };
-        assert_eq!(rt; stopped.free(), free);
-        if has_a {
-            let mut found = filled(1);
-            assert_eq!(rt; stopped.read(1, 0, &mut found), Ok(()));
-            let byte = if moment >= 6 { 17 } else { 0 };
-            assert!(rt; found.as_slice() == filled(byte).as_slice());
-        }
-        device = stopped.finish();
+    let mut volumes = made(rt.alloc(), 1000).expect(&rt, "no table yet");
+    for (deed, want) in CALLS {
+        assert_eq!(rt; done(&mut volumes, deed), want);
     }
 }
 
 #[test]
 fn a_halt_in_a_call_leaves_the_table_and_stays(rt: HostRuntime) {
-    let a = name(&rt, b"a");
-    let Ok(mut volumes) = Volumes::init(Kept::new(rt.alloc(), 20, 3)) else {
-        panic!(rt; "no table yet");
+    let mut volumes = made(rt.alloc(), 3).expect(&rt, "no table yet");
+    for (deed, want) in HALTED {
+        assert_eq!(rt; done(&mut volumes, deed), want);
+    }
+}
+
+// What a device is refused by for a new table, or for one that is there.
+fn refused(device: Kept, new: bool) -> Option<VolFault> {
+    let made = if new {
+        Volumes::init(device)
+    } else {
+        Volumes::adopt(device)
     };
-    let worn = VolFault::Halt(Halt::Worn { count: 3 });
-    assert_eq!(rt; volumes.create(&a, 3), Err(worn));
-    assert_eq!(rt; volumes.find(&a), None);
-    assert_eq!(rt; volumes.free(), 14);
-    assert_eq!(rt; volumes.create(&a, 0), Err(worn));
-    assert_eq!(rt; volumes.flush(), Err(worn));
+    match made {
+        Ok(_) => None,
+        Err(refused) => Some(refused.fault),
+    }
+}
+
+#[test]
+fn a_device_is_refused_by_its_table_or_its_size(rt: HostRuntime) {
+    let alloc = rt.alloc();
+    let volumes = made(alloc, 1000).expect(&rt, "no table yet");
+    assert_eq!(rt; refused(volumes.finish(), true), Some(VolFault::Already));
+    let few = refused(Kept::new(alloc, 2, 1000), true);
+    let none = refused(Kept::new(alloc, 20, 1000), false);
+    assert_eq!(rt; few, Some(VolFault::Small { blocks: 2 }));
+    assert_eq!(rt; none, Some(VolFault::NotVolumes));
+}
+
+// The device after its writes: 1 the table, 2 to 4 zeros and 5 the table for `a`, 6 its block, 7 to
+// 17 zeros and 18 the table for `b`.
+fn written(alloc: Global) -> Option<Kept> {
+    let mut volumes = made(alloc, 1000)?;
+    for deed in [Create("a", 3), Write(1, 0, 17), Create("b", 11)] {
+        done(&mut volumes, deed).ok()?;
+    }
+    Some(volumes.finish())
+}
+
+// The ids of both names, how many extents are free and the first byte of `a`, as so many of the
+// writes leave the device; and the device again.
+fn left(mut device: Kept, seen: usize) -> Option<(Kept, [u32; 4])> {
+    device.seen = seen;
+    let mut volumes = Volumes::adopt(device).ok()?;
+    let ids = (id_of(&volumes, "a"), id_of(&volumes, "b"));
+    let free = volumes.free();
+    let byte = done(&mut volumes, Read(1, 0)).unwrap_or(0);
+    Some((volumes.finish(), [ids.0, ids.1, free, byte]))
+}
+
+fn expected(seen: usize) -> [u32; 4] {
+    match seen {
+        0..=4 => [0, 0, 14, 0],
+        5 => [1, 0, 11, 0],
+        6..=17 => [1, 0, 11, 17],
+        _ => [1, 2, 0, 17],
+    }
+}
+
+#[test]
+fn a_stop_at_each_write_of_a_new_volume_leaves_the_volumes_before_it_or_with_it(rt: HostRuntime) {
+    let mut device = written(rt.alloc()).expect(&rt, "there is memory");
+    for seen in 1..19 {
+        let (again, found) = left(device, seen).expect(&rt, "a stop leaves a table");
+        assert_eq!(rt; found, expected(seen));
+        device = again;
+    }
 }

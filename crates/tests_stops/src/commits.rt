@@ -12,12 +12,12 @@ use std::alloc::Global;
 
 /// An array of five disks: how many rows it has, and how many blocks a disk needs for them.
 #[derive(Clone, Copy)]
-struct Shape {
+pub struct Shape {
     rows: u8,
     size: u32,
 }
 
-const SMALL: Shape = Shape { rows: 5, size: 108 };
+pub const SMALL: Shape = Shape { rows: 5, size: 108 };
 
 /// 100 places of the log, one of the map, 40 rows, and a region of a third of them.
 const LARGE: Shape = Shape {
@@ -58,8 +58,8 @@ fn formatted(alloc: Global, shape: Shape, plan: Vec<Planned>) -> Option<MemRack>
         .ok()
 }
 
-// The array after one commit of this batch, under a meta of so many writes, and what it answered.
-fn committed(
+/// The array after one commit of this batch, under a meta of so many writes, and what it answered.
+pub fn committed(
     alloc: Global,
     shape: Shape,
     batch: &Batch,
@@ -104,8 +104,8 @@ pub fn image_of(alloc: Global, rack: &MemRack) -> Option<Image> {
     Some(image)
 }
 
-// The rack that a stop leaves, with a disk lost or none.
-fn left_at(
+/// The rack that a stop leaves, with a disk lost or none.
+pub fn left_at(
     alloc: Global,
     rack: &MemRack,
     moment: u32,
@@ -115,7 +115,7 @@ fn left_at(
     if moment > rack.calls() {
         return None;
     }
-    let mut left = rack.stopped(alloc, moment, pick, 9, Vec::new(alloc)).ok()?;
+    let mut left = rack.stopped(alloc, moment, pick, 40, Vec::new(alloc)).ok()?;
     if let Some(disk) = lost {
         if disk < left.slots() {
             left.lose(disk);
@@ -135,9 +135,9 @@ fn chosen(alloc: Global, rack: &mut MemRack) -> Option<DiskNo> {
     choose(sides.first, sides.second)
 }
 
-// The epoch that stands, and whether the target holds the old block or the new one by it. With
-// the target's disk lost only the epoch counts.
-fn epoch_left(image: &Image, lost: Option<DiskNo>) -> Option<u64> {
+/// The epoch that stands, where the target holds the old block or the new one by it. With the
+/// target's disk lost only the epoch counts.
+pub fn epoch_left(image: &Image, lost: Option<DiskNo>) -> Option<u64> {
     let says = standing_of(image)?;
     let block = content(image, &says, 2, 101);
     let want = match says.meta.epoch {
@@ -153,15 +153,16 @@ fn epoch_left(image: &Image, lost: Option<DiskNo>) -> Option<u64> {
     }
 }
 
-fn one_target(alloc: Global) -> Option<Batch> {
+/// One block of 255s, without the parity of its row.
+pub fn one_target(alloc: Global) -> Option<Batch> {
     let mut batch = Batch::new(alloc).ok()?;
     batch.add(2, 101, &filled_with(255)).ok()?;
     Some(batch)
 }
 
-const LOSSES: [Option<DiskNo>; 6] = [None, Some(0), Some(1), Some(2), Some(3), Some(4)];
+pub const LOSSES: [Option<DiskNo>; 6] = [None, Some(0), Some(1), Some(2), Some(3), Some(4)];
 
-const PICKS: [Pick; 4] = [Pick::Old, Pick::New, Pick::Filled(165), Pick::Mixed];
+pub const PICKS: [Pick; 4] = [Pick::Old, Pick::New, Pick::Filled(165), Pick::Mixed];
 
 // How many calls the commit of one target makes on a disk: ten on a log disk, and a write and a
 // sync on that of the target.
@@ -258,8 +259,8 @@ fn a_commit_costs_three_writes_a_target_and_ten_more(rt: HostRuntime) {
     }
 }
 
-// The write of block 7, which is the cell of row 1 and disk 4, with the parity of its row.
-fn one_write(alloc: Global) -> Option<Batch> {
+/// The write of block 7, which is the cell of row 1 and disk 4, with the parity of its row.
+pub fn one_write(alloc: Global) -> Option<Batch> {
     let mut batch = Batch::new(alloc).ok()?;
     batch.add(4, 102, &filled_with(0x77)).ok()?;
     batch.add(3, 102, &filled_with(0x77)).ok()?;
@@ -290,9 +291,9 @@ fn sound_at(alloc: Global, rack: &MemRack, moment: u32) -> Option<(u32, u32)> {
     Some(counts)
 }
 
-// How many images hold no write and the write after so many calls of its commit: four blocks and a
-// sync on each log disk; then each gate with its sync; and the rest.
-fn expected_at(moment: u32) -> (u32, u32) {
+/// How many images hold no write and the write after so many calls of its commit: four blocks and a
+/// sync on each log disk; then each gate with its sync; and the rest.
+pub fn expected_at(moment: u32) -> (u32, u32) {
     match moment {
         // no gate was written
         0..=10 => (24, 0),

@@ -24,21 +24,23 @@ pub const META: [u8; 118] = [
 ];
 
 // Where fields of the meta stand; of a longer one the last byte.
-const EPOCH: usize = 51;
+const VERSION: usize = 9;
+
+pub const EPOCH: usize = 51;
 
 const WRITES: usize = 59;
 
-const TICKS: usize = 67;
+pub const TICKS: usize = 67;
 
-const GEAR: usize = 68;
+pub const GEAR: usize = 68;
 
 const PHASE: usize = 69;
 
 const TO: usize = 70;
 
-const OUT: usize = 71;
+pub const OUT: usize = 71;
 
-const FRESH: usize = 72;
+pub const FRESH: usize = 72;
 
 const FILL: usize = 79;
 
@@ -46,9 +48,13 @@ const REBUILT: usize = 83;
 
 const SPINS_OF_4: usize = 93;
 
+const BURST: usize = 113;
+
+const PERIOD: usize = 117;
+
 /// A change of an image.
 #[derive(Clone, Copy, Debug)]
-enum Change {
+pub enum Change {
     Nothing,
     /// A byte of a block.
     Byte(DiskNo, Place, usize, u8),
@@ -142,7 +148,7 @@ fn apply(image: &mut Image, change: Change) {
 }
 
 /// The array as it is formatted, with these changes.
-fn array(rt: &(impl Abort + AllocGlobal), base: &[Change], changes: &[Change]) -> Image {
+pub fn array(rt: &(impl Abort + AllocGlobal), base: &[Change], changes: &[Change]) -> Image {
     let mut image = Image::new(rt.alloc());
     for _disk in 0..5 {
         let added = image.add(rt.alloc(), Power::Spinning, 108);
@@ -176,6 +182,14 @@ fn check(
         assert_eq!(rt; found, want, "{base:?}, {changes:?}, {writes} writes");
     }
 }
+
+/// The array with metas of version 1, which have zeros where those of version 2 have the burst and
+/// the period.
+pub const VERSION_ONE: [Change; 3] = [
+    MetaByte(VERSION, 1),
+    MetaByte(BURST, 0),
+    MetaByte(PERIOD, 0),
+];
 
 /// The array after a shift down to gear 4.
 const DOWN: [Change; 4] = [

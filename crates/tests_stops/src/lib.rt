@@ -9,4 +9,14 @@ mod commits;
 #[cfg(test)]
 mod images;
 #[cfg(test)]
+mod mounted;
+#[cfg(test)]
+mod mounts;
+#[cfg(test)]
 mod new_arrays;
+#[cfg(test)]
+mod recoveries;
+#[cfg(test)]
+mod resumptions;
+#[cfg(test)]
+mod versions;

@@ -1,5 +1,5 @@
 use Rattle.std.proofs.Common.{◌≡◌, ℕ, ◌∙◌, arith, subst, sym, take}
-use Rattle.paraid_base.specs.Pairs.{pairs_of, zipped}
+use Rattle.paraid_base.specs.Pairs.{pairs_of, numbered_blocks}
 use Rattle.paraid_base.proofs.PairsLemmas.{take-zipped}
 use Rattle.paraid_array.specs.Cells.{Contains}
 use Rattle.paraid_array.proofs.LossLemmas.{lasts_then}
@@ -22,7 +22,7 @@ loop-at-preserved g c =
     let call = c.in_ok-write_block.ensures in
     record {
       blocks = λ f contains.
-          contains_more c.args.geometry.now _ f (take c.loop-at.at (zipped p.blocks p.bytes)) _ _ _
+          contains_more c.args.geometry.now _ f (take c.loop-at.at (numbered_blocks p.blocks p.bytes)) _ _ _
           (take-zipped p.blocks p.bytes c.loop-at.at 0 _ (p.blocks_whole ∙ sym p.bytes_whole) (omega (arith, blocks, few, test)))
           (call.blocks _ (before.blocks f contains));
       fits = call.fits;
@@ -36,4 +36,4 @@ returns-clause-blocks g c f contains =
     let past = c.loop-at-test.false in
     let until = c.loop-at.auto.at-end in
     let same : c.loop-at.at ≡ p.count = omega (arith, past, until) in
-    subst (λ (n : ℕ). Contains c.args.geometry.now (g.R.Rack.told c.loop-at.rack) (with_entry f (take n (zipped p.blocks p.bytes)))) same (c.loop-at.invariant.blocks f contains)
+    subst (λ (n : ℕ). Contains c.args.geometry.now (g.R.Rack.told c.loop-at.rack) (with_entry f (take n (numbered_blocks p.blocks p.bytes)))) same (c.loop-at.invariant.blocks f contains)

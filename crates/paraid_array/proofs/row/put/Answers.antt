@@ -1,7 +1,7 @@
 use Rattle.std.proofs.Common.{◌≡◌, ◌≢◌, ◌∙◌, Some, refl, sym, subst}
 use Rattle.std.proofs.lemmas.Bool.{false≢true}
 use Rattle.paraid_base.specs.declared.block.Block.{Block}
-use Rattle.paraid_array.specs.Cells.{Keeps, with_cell}
+use Rattle.paraid_array.specs.Cells.{KeepsCells, cells_with}
 use Rattle.paraid_array.proofs.LossLemmas.{lasts_none, lasts_follow, two_follow, spins_told}
 use Rattle.paraid_array.proofs.PowerLemmas.{fits_follow}
 use Rattle.paraid_array.proofs.StoresLemmas.{keeps_write, keeps_absent}
@@ -21,7 +21,7 @@ returns-then-is_out-clause-lasts g c = lasts_none _ _ _ _
 pub returns-clause-keeps : goal.returns-clause-keeps
 returns-clause-keeps g c cells block is keeps =
     let not : c.args.out.now ≢ Some c.args.disk = λ e. false≢true (sym c.if-is_out.false ∙ c.is_out.ensures.1 e) in
-    subst (λ (b : Block). Keeps c.args.geometry.now (g.R.Rack.told c.write-answer.new.self) (with_cell cells c.args.row c.args.disk b)) (sym (is not))
+    subst (λ (b : Block). KeepsCells c.args.geometry.now (g.R.Rack.told c.write-answer.new.self) (cells_with cells c.args.row c.args.disk b)) (sym (is not))
     (keeps_write _ _ _ c.args.row _ _ _ _ c.hard_place-place.ensures.value c.write-answer.ensures.told cells keeps)
 
 pub returns-clause-fits : goal.returns-clause-fits

@@ -2,7 +2,7 @@ use Rattle.std.proofs.Common.{◌≡◌, ◌≢◌, ◌∙◌, Some, refl, sym, 
 use Rattle.paraid_base.specs.declared.block.Block.{Block}
 use Rattle.paraid_base.specs.Cells.{parity_disk as parity_disk_of}
 use Rattle.paraid_base.specs.Xor.{xor}
-use Rattle.paraid_array.specs.Cells.{with_cell}
+use Rattle.paraid_array.specs.Cells.{cells_with}
 use Rattle.paraid_array.proofs.LossLemmas.{lasts_then}
 use Rattle.paraid_array.proofs.RowsLemmas.{keeps_rewritten}
 use Rattle.paraid_array.proofs.StoresLemmas.{told_before, told_some}
@@ -26,7 +26,7 @@ returns-clause-keeps g c cells zero keeps t tells =
     λ not. sym (c.in_ok-new_parity.ensures.value (λ out. not (c.put.ensures.lasts.stays _ (out ∙ ap Some (sym disk)))) cells zero told keeps) in
     let written = c.put.ensures.keeps cells c.args.bytes.now (λ not. refl) (c.new_parity.ensures.keeps cells keeps) in
     keeps_rewritten geometry _ geometry.disks cells row c.args.disk c.parity_disk.result c.args.bytes.now disk
-    (c.put-2.ensures.keeps (with_cell cells row c.args.disk c.args.bytes.now) parity sum written) t tells
+    (c.put-2.ensures.keeps (cells_with cells row c.args.disk c.args.bytes.now) parity sum written) t tells
 
 pub returns-clause-lasts : goal.returns-clause-lasts
 returns-clause-lasts g c =

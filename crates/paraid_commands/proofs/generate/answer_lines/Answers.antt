@@ -1,6 +1,6 @@
 use Rattle.std.proofs.Common.{◌≡◌, ◌+◌, arith, ap, ◌∙◌, refl}
 use Rattle.paraid_commands.specs.declared.tally.Tally.{Tally}
-use Rattle.paraid_commands.specs.Tally.{with_answer, with_event}
+use Rattle.paraid_commands.specs.Tally.{tally_with_answer, tally_with_event}
 use Rattle.paraid_commands.proofs.GenLemmas.{counted_more, counted_none}
 use Rattle.paraid_commands.proofs.TallyLemmas.{fits_answer, fits_event, fits_none}
 use Rattle.paraid_commands.proofs.generate.answer_lines.Goals as goal
@@ -18,17 +18,17 @@ events-init g c = rw c.new-tally.ensures (record {
 pub events-preserved : goal.events-preserved
 events-preserved g c =
     let i = c.events.invariant in
-    let e = c.answer-answered.ensures in
-    let new : c.count_answer.new.self ≡ with_answer (with_event c.events.tally c.generate-event.result) c.answer-answered.result =
-    c.count_answer.ensures ∙ ap (λ (t : Tally). with_answer t c.answer-answered.result) c.count_event.ensures in
+    let e = c.answer_event-answered.ensures in
+    let new : c.count_answer.new.self ≡ tally_with_answer (tally_with_event c.events.tally c.generate-event.result) c.answer_event-answered.result =
+    c.count_answer.ensures ∙ ap (λ (t : Tally). tally_with_answer t c.answer_event-answered.result) c.count_event.ensures in
     record {
-      counted = λ t p s. counted_more (i.counted (e.told t) p s) c.generate-event.result c.answer-answered.result _ _ _ _ c.blocks-blocks.result c.count_answer.new.self i.slots i.setup
+      counted = λ t p s. counted_more (i.counted (e.told t) p s) c.generate-event.result c.answer_event-answered.result _ _ _ _ c.blocks-blocks.result c.count_answer.new.self i.slots i.setup
           c.blocks-blocks.ensures.value c.generate-event.ensures.value new e.turn t;
       told = λ t. i.told (e.told t);
       slots = e.slots ∙ i.slots;
       setup = e.setup ∙ i.setup;
       halt = e.halt;
-      fits = rw new (fits_answer (with_event c.events.tally c.generate-event.result) c.answer-answered.result (c.events.i + 1) c.events.i (fits_event c.events.tally c.generate-event.result c.events.i c.events.i i.fits));
+      fits = rw new (fits_answer (tally_with_event c.events.tally c.generate-event.result) c.answer_event-answered.result (c.events.i + 1) c.events.i (fits_event c.events.tally c.generate-event.result c.events.i c.events.i i.fits));
     }
 
 pub returns-clause-counted : goal.returns-clause-counted

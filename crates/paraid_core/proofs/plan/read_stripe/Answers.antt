@@ -2,7 +2,7 @@ use Rattle.std.proofs.Common.{◌∙◌, ◌≤◌, sym, ap, inl, arith}
 use Rattle.std.proofs.lemmas.Bool.{false≢true}
 use Rattle.paraid_base.specs.Regions.{disk_size}
 use Rattle.paraid_plan.proofs.StoredLemmas.{stripe_gone, stripe_there}
-use Rattle.paraid_txn.specs.Stores.{rack_of}
+use Rattle.paraid_txn.specs.Stores.{store_rack}
 use Rattle.paraid_view.specs.Reads.{seen_by}
 use Rattle.paraid_view.proofs.ValueLemmas.{ok_map}
 use Rattle.paraid_core.proofs.plan.read_stripe.Goals as goal
@@ -17,7 +17,7 @@ read_laid-requires-clause-spinning g c = c.requires.ready.spins c.args.e (inl c.
 
 pub read_laid-requires-clause-within : goal.read_laid-requires-clause-within
 read_laid-requires-clause-within g c =
-    let large : disk_size c.args.meta.now.setup.geometry ≤ (g.R.Rack.slot (rack_of c.args.store.now) c.args.e).size =
+    let large : disk_size c.args.meta.now.setup.geometry ≤ (g.R.Rack.slot (store_rack c.args.store.now) c.args.e).size =
     c.requires.ready.large c.args.e (inl c.requires.disk) (λ e. false≢true (sym c.if-is_at.false ∙ c.is_at.ensures.1 e)) in
     let k = c.soft_place-place.ensures.in_size in omega arith
 

@@ -1,6 +1,6 @@
 use Rattle.std.proofs.Common.{◌∙◌, ℕ, subst, sym, length}
 use Rattle.paraid_dirty.specs.Table.{is_dirty}
-use Rattle.paraid_core.specs.Undo.{AreLogged}
+use Rattle.paraid_core.specs.Undo.{AreOfTable}
 use Rattle.paraid_core.proofs.PlanLemmas.{logged_last, undone_last}
 use Rattle.paraid_core.proofs.plan.undo.Goals as goal
 
@@ -9,7 +9,7 @@ loop-change-preserved c =
     let at = c.loop-change.invariant in
     let parts = logged_last (length c.loop-change.dirty) c.loop-change.changes c.pop.new.self c.in-Some.change c.in-Some.ensures at.logged in
     record {
-      logged = subst (λ (n : ℕ). AreLogged n c.pop.new.self) (sym c.turn.ensures.rows) parts.0;
+      logged = subst (λ (n : ℕ). AreOfTable n c.pop.new.self) (sym c.turn.ensures.rows) parts.0;
       rows = c.turn.ensures.rows ∙ at.rows;
       bits = undone_last c.loop-change.changes c.pop.new.self c.in-Some.change (is_dirty c.loop-change.dirty) (is_dirty c.turn.new.dirty) c.in-Some.ensures c.turn.ensures.cells ∙ at.bits;
     }

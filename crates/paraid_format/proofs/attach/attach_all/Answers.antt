@@ -4,9 +4,9 @@ use Rattle.paraid_base.specs.Told.{HasRisen}
 use Rattle.paraid_rack.specs.Slots.{Slot}
 use Rattle.paraid_rack.specs.Told.{Ran}
 use Rattle.paraid_rack.proofs.TrailsLemmas.{Ran-none}
-use Rattle.paraid_format.specs.Attached.{AreAttached, fresh_slot}
+use Rattle.paraid_format.specs.Attached.{AreFreshDisks, fresh_slot}
 use Rattle.paraid_format.specs.Calls.{AreAttaches}
-use Rattle.paraid_format.specs.Led.{Led}
+use Rattle.paraid_format.specs.Between.{RanBetween}
 use Rattle.paraid_format.proofs.AttachLemmas.{attached_more, below_or_at, led_call, led_none, more_attaches, no_attached}
 use Rattle.paraid_format.proofs.attach.attach_all.Goals as goal
 
@@ -18,7 +18,7 @@ loop-disk-init g c = record {
   slots = refl;
   fresh = λ d low. absurd (omega arith);
   others = λ d high. refl;
-  attached = led_none (AreAttached 0 c.args.size) (no_attached c.args.size) (g.R.Rack.told c.args.rack.now);
+  attached = led_none (AreFreshDisks 0 c.args.size) (no_attached c.args.size) (g.R.Rack.told c.args.rack.now);
   calls = Ran-none (λ start calls. AreAttaches c.args.size 0 0 calls) (λ s. omega arith) (g.R.Rack.told c.args.rack.now);
 }
 
@@ -31,7 +31,7 @@ loop-disk-preserved g c = record {
     | inr apart ↦ c.attach.ensures.slot.others d apart ∙ c.loop-disk.invariant.fresh d (below_or_at d c.loop-disk.disk low apart)
   ];
   others = λ d high. c.attach.ensures.slot.others d (λ is. absurd (omega arith)) ∙ c.loop-disk.invariant.others d (omega arith);
-  attached = led_call (AreAttached c.loop-disk.disk c.args.size) (AreAttached (c.loop-disk.disk + 1) c.args.size) _ (λ start s a. attached_more c.loop-disk.disk c.args.size start s a) _ _ _
+  attached = led_call (AreFreshDisks c.loop-disk.disk c.args.size) (AreFreshDisks (c.loop-disk.disk + 1) c.args.size) _ (λ start s a. attached_more c.loop-disk.disk c.args.size start s a) _ _ _
       c.loop-disk.invariant.attached c.in-Ok.ensures.told;
   calls = more_attaches c.args.size c.loop-disk.disk (c.loop-disk.disk + 1) _ _ _ _ (omega arith) c.loop-disk.invariant.calls c.in-Ok.ensures.told;
 }
@@ -63,7 +63,7 @@ returns-clause-others g c d high = c.loop-disk.invariant.others d (omega arith)
 
 pub returns-clause-attached : goal.returns-clause-attached
 returns-clause-attached g c =
-    subst (λ (n : ℕ). Led (g.R.Rack.told c.args.rack.now) (g.R.Rack.told c.loop-disk.rack) (AreAttached n c.args.size)) (omega arith) c.loop-disk.invariant.attached
+    subst (λ (n : ℕ). RanBetween (g.R.Rack.told c.args.rack.now) (g.R.Rack.told c.loop-disk.rack) (AreFreshDisks n c.args.size)) (omega arith) c.loop-disk.invariant.attached
 
 pub returns-clause-calls : goal.returns-clause-calls
 returns-clause-calls g c =

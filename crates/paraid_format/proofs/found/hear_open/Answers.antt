@@ -1,24 +1,24 @@
 use Rattle.std.proofs.Common.{◌∙◌, ap, ◌≡◌, Some, true}
 use Rattle.paraid_rack.specs.Disks.{Disks}
 use Rattle.paraid_rack.specs.Trail.{Trail, now}
-use Rattle.paraid_image.specs.Sides.{is_open, stored}
+use Rattle.paraid_image.specs.Sides.{is_open, stored_block}
 use Rattle.paraid_record.specs.Targets.{targets_of}
-use Rattle.paraid_format.specs.Calls.{IsQuiet}
+use Rattle.paraid_format.specs.Calls.{OnlyReadsAndKeeps}
 use Rattle.paraid_format.proofs.FoundLemmas.{open_meta, open_no_list, open_no_meta}
 use Rattle.paraid_format.proofs.ReadsLemmas.{carried, quiet_now, quiet_then, reading_of, reading_then}
 use Rattle.paraid_format.proofs.found.hear_open.Given.{Over}
 use Rattle.paraid_format.proofs.found.hear_open.Goals as goal
 use Rattle.paraid_format.proofs.found.hear_open.Goals.{In_ok-read_place-2}
 
-both : (g : Over) (c : In_ok-read_place-2 g) → IsQuiet (g.R.Rack.told c.args.rack.now) (g.R.Rack.told c.read_place-2.new.rack)
+both : (g : Over) (c : In_ok-read_place-2 g) → OnlyReadsAndKeeps (g.R.Rack.told c.args.rack.now) (g.R.Rack.told c.read_place-2.new.rack)
 both g c = quiet_then c.in_ok-read_place.ensures.quiet c.in_ok-read_place-2.ensures.quiet
 
-opened : (g : Over) (c : In_ok-read_place-2 g) (t : Trail) → g.R.Rack.told c.read_place-2.new.rack ≡ Some t → is_open (stored (now t) c.args.disk 0) ≡ true
+opened : (g : Over) (c : In_ok-read_place-2 g) (t : Trail) → g.R.Rack.told c.read_place-2.new.rack ≡ Some t → is_open (stored_block (now t) c.args.disk 0) ≡ true
 opened g c t tells =
     let u = quiet_now (both g c) t tells in
-    ap (λ (s : Disks). is_open (stored s c.args.disk 0)) u.2 ∙ c.requires.opened u.0 u.1
+    ap (λ (s : Disks). is_open (stored_block s c.args.disk 0)) u.2 ∙ c.requires.opened u.0 u.1
 
-first : (g : Over) (c : In_ok-read_place-2 g) (t : Trail) → g.R.Rack.told c.read_place-2.new.rack ≡ Some t → c.read_place.new.into ≡ stored (now t) c.args.disk 2
+first : (g : Over) (c : In_ok-read_place-2 g) (t : Trail) → g.R.Rack.told c.read_place-2.new.rack ≡ Some t → c.read_place.new.into ≡ stored_block (now t) c.args.disk 2
 first g c t tells = carried c.read_place.new.into c.args.disk 2 c.in_ok-read_place-2.ensures.quiet c.in_ok-read_place.ensures.block t tells
 
 pub returns-in_err-read_place-2-clause-reads : goal.returns-in_err-read_place-2-clause-reads

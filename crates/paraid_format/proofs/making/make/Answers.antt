@@ -4,10 +4,10 @@ use Rattle.paraid_rack.specs.Disks.{Disks}
 use Rattle.paraid_rack.specs.Told.{Ran}
 use Rattle.paraid_record.specs.Meta.{meta_bytes}
 use Rattle.paraid_record.specs.Range.{IsInRange}
-use Rattle.paraid_format.specs.Attached.{AreAttached, BecomesFormatted, IsLogged}
+use Rattle.paraid_format.specs.Attached.{AreFreshDisks, BecomesFormatted, IsMetaWritten}
 use Rattle.paraid_format.specs.Calls.{AreAttaches}
 use Rattle.paraid_format.specs.First.{first_meta}
-use Rattle.paraid_format.specs.Led.{Led}
+use Rattle.paraid_format.specs.Between.{RanBetween}
 use Rattle.paraid_format.proofs.AttachLemmas.{led_then}
 use Rattle.paraid_format.proofs.FormatLemmas.{attaches_and_logs, formatted, only_attaches}
 use Rattle.paraid_format.proofs.LogLemmas.{logging_then}
@@ -23,10 +23,10 @@ attaches g c =
     (subst (λ (z : ℕ). Ran (g.R.Rack.told c.args.rack.now) (g.R.Rack.told c.attach_all.new.rack) (λ start calls. AreAttaches z 0 c.disks.result calls)) c.size.ensures c.attach_all.ensures.calls)
 
 attached : (g : Over) (c : In_ok-attach_all g)
-    → Led (g.R.Rack.told c.args.rack.now) (g.R.Rack.told c.attach_all.new.rack) (AreAttached c.args.setup.now.geometry.disks (disk_size c.args.setup.now.geometry))
+    → RanBetween (g.R.Rack.told c.args.rack.now) (g.R.Rack.told c.attach_all.new.rack) (AreFreshDisks c.args.setup.now.geometry.disks (disk_size c.args.setup.now.geometry))
 attached g c =
-    subst (λ (n : ℕ). Led (g.R.Rack.told c.args.rack.now) (g.R.Rack.told c.attach_all.new.rack) (AreAttached n (disk_size c.args.setup.now.geometry))) c.disks.ensures
-    (subst (λ (z : ℕ). Led (g.R.Rack.told c.args.rack.now) (g.R.Rack.told c.attach_all.new.rack) (AreAttached c.disks.result z)) c.size.ensures c.in_ok-attach_all.ensures.attached)
+    subst (λ (n : ℕ). RanBetween (g.R.Rack.told c.args.rack.now) (g.R.Rack.told c.attach_all.new.rack) (AreFreshDisks n (disk_size c.args.setup.now.geometry))) c.disks.ensures
+    (subst (λ (z : ℕ). RanBetween (g.R.Rack.told c.args.rack.now) (g.R.Rack.told c.attach_all.new.rack) (AreFreshDisks c.disks.result z)) c.size.ensures c.in_ok-attach_all.ensures.attached)
 
 pub returns-in_err-attach_all-clause-calls : goal.returns-in_err-attach_all-clause-calls
 returns-in_err-attach_all-clause-calls g c = only_attaches _ _ (attaches g (goal.at.returns-in_err-attach_all-clause-calls g c).After-attach_all)
@@ -47,8 +47,8 @@ returns-clause-formatted g c =
     let b = c.write_meta.new.into in
     let is : b.bytes ≡ meta_bytes (first_meta setup) = c.write_meta.ensures ∙ ap meta_bytes c.first_meta.ensures.value in
     let range : IsInRange (first_meta setup) = subst IsInRange c.first_meta.ensures.value c.first_meta.ensures.range in
-    led_then (AreAttached setup.geometry.disks (disk_size setup.geometry)) (λ (a e : Disks). (m : Disks) × IsLogged 0 b a m × IsLogged 1 b m e)
+    led_then (AreFreshDisks setup.geometry.disks (disk_size setup.geometry)) (λ (a e : Disks). (m : Disks) × IsMetaWritten 0 b a m × IsMetaWritten 1 b m e)
     (BecomesFormatted (g.R.Rack.slot_count c.args.rack.now) (first_meta setup))
     (λ start first end a logs. formatted (g.R.Rack.slot_count c.args.rack.now) setup b is range c.requires.room start first logs.0 end a logs.1 logs.2)
     _ _ _ (attached g (goal.at.returns-clause-formatted g c).In_ok-attach_all)
-    (led_then (IsLogged 0 b) (IsLogged 1 b) (λ (a e : Disks). (m : Disks) × IsLogged 0 b a m × IsLogged 1 b m e) (λ a m e one two. (m, one, two)) _ _ _ c.in-Ok.ensures.logged c.in-Ok-write_log.ensures.logged)
+    (led_then (IsMetaWritten 0 b) (IsMetaWritten 1 b) (λ (a e : Disks). (m : Disks) × IsMetaWritten 0 b a m × IsMetaWritten 1 b m e) (λ a m e one two. (m, one, two)) _ _ _ c.in-Ok.ensures.logged c.in-Ok-write_log.ensures.logged)

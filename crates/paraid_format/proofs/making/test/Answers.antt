@@ -1,7 +1,7 @@
+use Rattle.paraid_rack.specs.Calls.{AreReads}
 use Rattle.std.proofs.Common.{sym, ◌∙◌, subst, ◌≡◌, Option, [], true, ℕ}
 use Rattle.std.proofs.lemmas.Bool.{false≢true}
 use Rattle.paraid_rack.specs.Trail.{now}
-use Rattle.paraid_format.specs.Calls.{AreReads}
 use Rattle.paraid_format.specs.Found.{IsGreatestOf}
 use Rattle.paraid_format.proofs.AttachLemmas.{ran_weaker}
 use Rattle.paraid_format.proofs.FoundLemmas.{free_before, greatest_before}

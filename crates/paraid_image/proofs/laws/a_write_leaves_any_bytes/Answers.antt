@@ -1,4 +1,4 @@
-use Rattle.paraid_image.proofs.StepLemmas.{back_again, write_image}
+use Rattle.paraid_image.proofs.CallLemmas.{back_again, write_image}
 use Rattle.paraid_image.proofs.laws.a_write_leaves_any_bytes.Goals as goal
 
 pub returns : goal.returns

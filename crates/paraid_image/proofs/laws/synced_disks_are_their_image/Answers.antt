@@ -1,5 +1,5 @@
-use Rattle.paraid_image.proofs.HeldLemmas.{image_is, image_of_dry}
+use Rattle.paraid_image.proofs.HeldLemmas.{image_is, image_of_synced}
 use Rattle.paraid_image.proofs.laws.synced_disks_are_their_image.Goals as goal
 
 pub returns : goal.returns
-returns c = record { is = image_of_dry; only = image_is }
+returns c = record { is = image_of_synced; only = image_is }

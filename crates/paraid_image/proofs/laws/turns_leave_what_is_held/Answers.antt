@@ -1,4 +1,4 @@
-use Rattle.paraid_image.proofs.TurnLemmas.{park_holds, spin_up_holds}
+use Rattle.paraid_image.proofs.ParkingLemmas.{park_holds, spin_up_holds}
 use Rattle.paraid_image.proofs.laws.turns_leave_what_is_held.Goals as goal
 
 pub returns : goal.returns

@@ -1,7 +1,7 @@
 use Rattle.std.specs.Prelude.{true}
 use Rattle.paraid_rack.specs.declared.call.Call.TheVariants.{Read, Sync}
 use Rattle.paraid_rack.specs.Disks.{step}
-use Rattle.paraid_image.proofs.StepLemmas.{IsHeld-fewer, read_images, sync_images}
+use Rattle.paraid_image.proofs.CallLemmas.{IsHeld-fewer, read_images, sync_images}
 use Rattle.paraid_image.proofs.UnseenLemmas.{unseen_write_holds}
 use Rattle.paraid_image.proofs.laws.unseen_calls_leave_what_is_held.Goals as goal
 

@@ -1,7 +1,7 @@
 use Rattle.std.proofs.Common.{◌≡◌, ap, ◌+◌, ◌-◌, ◌++◌, List, ℕ, length, take, drop, arith, length-take, length-drop}
 use Rattle.std.proofs.Math.Seq.{take-add}
 use Rattle.std.proofs.lemmas.List.{take_rest}
-use Rattle.paraid_base.proofs.ToldLemmas.{Grows-then}
+use Rattle.paraid_base.proofs.ToldLemmas.{GrowsByBytes-then}
 use Rattle.paraid_io.proofs.sink.write_all.Goals as goal
 
 next_part : (bytes : List ℕ) (done n : ℕ) → take (done + n) bytes ≡ take done bytes ++ take n (take (length bytes - done) (drop done bytes))
@@ -11,7 +11,7 @@ pub loop-done-preserved : goal.loop-done-preserved
 loop-done-preserved g c =
     let i = c.loop-done.invariant in
     let e = c.in_ok-done.ensures in
-    let all = Grows-then _ _ _ _ _ i.grows e.grows in
+    let all = GrowsByBytes-then _ _ _ _ _ i.grows e.grows in
     let bound = simp (length-take, length-drop) at e.within in
     record {
       within = omega arith;

@@ -1,11 +1,11 @@
 use Rattle.std.proofs.Common.{◌≡◌, [], length, ◌-◌, ◌≤◌, take}
-use Rattle.paraid_base.specs.Told.{Grows}
+use Rattle.paraid_base.specs.Told.{GrowsByBytes}
 use Rattle.paraid_io.proofs.sink.write_all.Given as goal
 
 abbrev pub invariant-loop-done : goal.invariant-loop-done
 invariant-loop-done g l = record {
   within : l.done ≤ length l.bytes;
-  grows : Grows (g.K.Sink.written l.initial.sink) (g.K.Sink.written l.sink) (take l.done l.bytes);
+  grows : GrowsByBytes (g.K.Sink.written l.initial.sink) (g.K.Sink.written l.sink) (take l.done l.bytes);
   none : l.bytes ≡ [] → l.sink ≡ l.initial.sink;
   later : g.K.Sink.faults l.initial.sink ≤ g.K.Sink.faults l.sink;
 }

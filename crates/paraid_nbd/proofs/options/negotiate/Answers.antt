@@ -1,8 +1,8 @@
 use Rattle.std.proofs.Common.{◌++◌, [], ◌∷◌, List, ℕ, arith, sym, ◌∙◌, subst}
 use Rattle.std.proofs.lemmas.List.{flat_map_more}
 use Rattle.std.proofs.lemmas.Result.{err_from_is_err_and}
-use Rattle.paraid_base.specs.Told.{Grows}
-use Rattle.paraid_base.proofs.ToldLemmas.{Grows-then}
+use Rattle.paraid_base.specs.Told.{GrowsByBytes}
+use Rattle.paraid_base.proofs.ToldLemmas.{GrowsByBytes-then}
 use Rattle.paraid_nbd.specs.Options.{option_bytes, option_reply}
 use Rattle.paraid_nbd.specs.Handshake.{greeting}
 use Rattle.paraid_nbd.specs.Handshake.EndsEarly.{Unflagged, AmongOptions}
@@ -36,7 +36,7 @@ returns-then-branch-clause-begins g c =
       last_is = a.is;
       last_begins = sym a.begun_is ∙ c.if-branch.true;
       takes = Takes-then i.greeted.2.takes a.takes;
-      grows = Grows-then _ _ _ _ _ i.greeted.2.grows a.grows;
+      grows = GrowsByBytes-then _ _ _ _ _ i.greeted.2.grows a.grows;
     }
 
 pub loop-preserved : goal.loop-preserved
@@ -54,7 +54,7 @@ loop-preserved g c =
           are = G.are;
           each = each_more i.greeted.1 a.parts G.each (record { is = a.is; stays = a.stays; waits = sym a.begun_is ∙ c.if-branch.false });
           takes = subst (λ (x : List ℕ). Takes (g.S.Source.left c.args.source.now) (g.S.Source.left c.option.new.source) c.args.input.now.taken c.option.new.input.taken x) (flat_map_more option_bytes i.greeted.0 i.greeted.1 a.parts) (Takes-then G.takes a.takes);
-          grows = subst (λ (x : List ℕ). Grows (g.K.Sink.written c.args.sink.now) (g.K.Sink.written c.option.new.sink) x) (flat_map_more (option_reply c.args.size z) greeting i.greeted.1 a.parts) (Grows-then _ _ _ _ _ G.grows a.grows);
+          grows = subst (λ (x : List ℕ). GrowsByBytes (g.K.Sink.written c.args.sink.now) (g.K.Sink.written c.option.new.sink) x) (flat_map_more (option_reply c.args.size z) greeting i.greeted.1 a.parts) (GrowsByBytes-then _ _ _ _ _ G.grows a.grows);
         },
       );
       later = omega (arith, i.later, e.later);

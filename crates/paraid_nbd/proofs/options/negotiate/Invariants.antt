@@ -1,11 +1,11 @@
 use Rattle.std.proofs.Common.{ℕ, List, ◌≤◌, ◌-◌, ◌^◌}
 use Rattle.paraid_nbd.specs.Options.{OptionParts}
-use Rattle.paraid_nbd.specs.Handshake.{Greeted}
+use Rattle.paraid_nbd.specs.Handshake.{IsGreeted}
 use Rattle.paraid_nbd.proofs.options.negotiate.Given as goal
 
 abbrev pub invariant-loop : goal.invariant-loop
 invariant-loop g l = record {
-  greeted : (flags : List ℕ) × (options : List OptionParts) × Greeted l.size (g.S.Source.left l.fn.source) (g.S.Source.left l.source) l.fn.input.taken l.input.taken (g.K.Sink.written l.fn.sink) (g.K.Sink.written l.sink) flags l.no_zeros options;
+  greeted : (flags : List ℕ) × (options : List OptionParts) × IsGreeted l.size (g.S.Source.left l.fn.source) (g.S.Source.left l.source) l.fn.input.taken l.input.taken (g.K.Sink.written l.fn.sink) (g.K.Sink.written l.sink) flags l.no_zeros options;
   later : g.S.Source.faults l.fn.source ≤ g.S.Source.faults l.source;
   later_sink : g.K.Sink.faults l.fn.sink ≤ g.K.Sink.faults l.sink;
 }

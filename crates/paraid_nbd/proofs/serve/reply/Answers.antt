@@ -1,7 +1,7 @@
 use Rattle.std.proofs.Common.{◌≡◌, ◌++◌, List, ℕ, refl, sym, ap, ◌∙◌, subst, append_assoc}
 use Rattle.std.proofs.lemmas.Result.{err_from_is_err_and}
-use Rattle.paraid_nbd.specs.Handshake.{Unsent}
-use Rattle.paraid_nbd.specs.Numbers.{big_endian}
+use Rattle.paraid_nbd.specs.Handshake.{IsUnsent}
+use Rattle.paraid_nbd.specs.Numbers.{number_bytes}
 use Rattle.paraid_nbd.specs.Performing.{answer_content}
 use Rattle.paraid_nbd.specs.Requests.{error_of, reply_head}
 use Rattle.paraid_nbd.proofs.ServiceLemmas.{unsent_then}
@@ -12,14 +12,14 @@ returns-in_err-send_bytes-in-Read-Done-clause-unsent g c =
     let p = err_from_is_err_and c.from_residual-in_err-send_bytes-in-Read-Done.result c.from_residual-in_err-send_bytes-in-Read-Done.ensures.1 in
     let r = c.args.request.now in
     let content : List ℕ = c.args.content.now in
-    let first : List ℕ = big_endian 4 0x67446698 in
-    let second : List ℕ = big_endian 4 (error_of c.args.outcome) in
-    let third : List ℕ = big_endian 8 r.cookie in
+    let first : List ℕ = number_bytes 4 0x67446698 in
+    let second : List ℕ = number_bytes 4 (error_of c.args.outcome) in
+    let third : List ℕ = number_bytes 8 r.cookie in
     let head : c.put_u64.new.self ≡ reply_head r c.args.outcome =
     c.put_u64.ensures.value
-    ∙ ap (λ (x : List ℕ). x ++ third) (c.put_u32-2.ensures.value ∙ ap (λ (x : List ℕ). x ++ big_endian 4 c.error_number.result) (c.put_u32.ensures.value ∙ ap (λ (x : List ℕ). x ++ first) c.new-packet.ensures) ∙ ap (λ (x : ℕ). first ++ big_endian 4 x) c.error_number.ensures)
+    ∙ ap (λ (x : List ℕ). x ++ third) (c.put_u32-2.ensures.value ∙ ap (λ (x : List ℕ). x ++ number_bytes 4 c.error_number.result) (c.put_u32.ensures.value ∙ ap (λ (x : List ℕ). x ++ first) c.new-packet.ensures) ∙ ap (λ (x : ℕ). first ++ number_bytes 4 x) c.error_number.ensures)
     ∙ append_assoc first second third in
     let alone : answer_content r.command c.args.outcome content ≡ content = rw (c.in-Read-Done.is-0, c.in-Read-Done.is-1) refl in
-    rw (p.1, p.2) (subst (λ (x : List ℕ). Unsent (g.K.Sink.written c.args.sink.now) (g.K.Sink.written c.send_bytes.new.sink) x (g.K.Sink.faults c.args.sink.now) (g.K.Sink.faults c.send_bytes.new.sink) (c.in_err-send_bytes-in-Read-Done).field-0.0)
+    rw (p.1, p.2) (subst (λ (x : List ℕ). IsUnsent (g.K.Sink.written c.args.sink.now) (g.K.Sink.written c.send_bytes.new.sink) x (g.K.Sink.faults c.args.sink.now) (g.K.Sink.faults c.send_bytes.new.sink) (c.in_err-send_bytes-in-Read-Done).field-0.0)
     (ap (λ (x : List ℕ). x ++ content) head ∙ ap (λ (x : List ℕ). reply_head r c.args.outcome ++ x) (sym alone))
     (unsent_then c.in_ok-send.ensures.sends c.in_ok-send.ensures.later_sink (c.in_err-send_bytes-in-Read-Done).ensures.unsent))

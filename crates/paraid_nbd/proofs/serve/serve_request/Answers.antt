@@ -1,8 +1,8 @@
 use Rattle.std.proofs.Common.{refl, sym, ◌∙◌, subst}
 use Rattle.std.proofs.lemmas.Result.{err_from_is_err_and, on_ok_weaker, MatchResult-weaker}
-use Rattle.paraid_base.proofs.ToldLemmas.{Grows-none}
+use Rattle.paraid_base.proofs.ToldLemmas.{GrowsByBytes-none}
 use Rattle.paraid_nbd.specs.declared.request.Request.{Request}
-use Rattle.paraid_nbd.specs.Export.{Step}
+use Rattle.paraid_nbd.specs.Export.{RequestStep}
 use Rattle.paraid_nbd.specs.Performing.{said_with}
 use Rattle.paraid_nbd.specs.Service.EndsRequest.{UnreadRequest, UnsentAnswer}
 use Rattle.paraid_nbd.proofs.OptionLemmas.{Takes-last}
@@ -12,12 +12,12 @@ use Rattle.paraid_nbd.proofs.serve.serve_request.Goals as goal
 pub returns-in_err-request-clause-ends : goal.returns-in_err-request-clause-ends
 returns-in_err-request-clause-ends g c =
     let p = err_from_is_err_and c.from_residual.result c.from_residual.ensures.1 in
-    rw (p.1, p.2) (UnreadRequest c.in_err-request.ensures.stops (Grows-none _) refl)
+    rw (p.1, p.2) (UnreadRequest c.in_err-request.ensures.stops (GrowsByBytes-none _) refl)
 
 pub returns-in_err-content-clause-ends : goal.returns-in_err-content-clause-ends
 returns-in_err-content-clause-ends g c =
     let p = err_from_is_err_and c.from_residual-in_err-content.result c.from_residual-in_err-content.ensures.1 in
-    rw (p.1, p.2) (UnreadRequest (content_stops c.in_ok-request.ensures.takes c.in_ok-request.ensures.later c.in_err-content.ensures.lacks) (Grows-none _) refl)
+    rw (p.1, p.2) (UnreadRequest (content_stops c.in_ok-request.ensures.takes c.in_ok-request.ensures.later c.in_err-content.ensures.lacks) (GrowsByBytes-none _) refl)
 
 pub returns-clause-serves : goal.returns-clause-serves
 returns-clause-serves g c =
@@ -33,7 +33,7 @@ returns-clause-serves g c =
             out = said_with c.in_ok-request.request c.perform-outcome.result c.perform-outcome.new.content;
             new = x.new;
             t = x.t;
-            step = subst (λ (y : Request). Step c.args.size s y t.content (said_with c.in_ok-request.request c.perform-outcome.result c.perform-outcome.new.content) x.new x.t) h.is (x.step t.content (λ w d. sym (t.held w (c.outcome-outcome.ensures ∙ d))));
+            step = subst (λ (y : Request). RequestStep c.args.size s y t.content (said_with c.in_ok-request.request c.perform-outcome.result c.perform-outcome.new.content) x.new x.t) h.is (x.step t.content (λ w d. sym (t.held w (c.outcome-outcome.ensures ∙ d))));
             now = x.now;
             kept_is = x.kept_is;
             grows = f;
@@ -51,7 +51,7 @@ returns-clause-ends g c =
       out = said_with c.in_ok-request.request c.perform-outcome.result c.perform-outcome.new.content;
       new = x.new;
       t = x.t;
-      step = subst (λ (y : Request). Step c.args.size s y t.content (said_with c.in_ok-request.request c.perform-outcome.result c.perform-outcome.new.content) x.new x.t) h.is (x.step t.content (λ w d. sym (t.held w (c.outcome-outcome.ensures ∙ d))));
+      step = subst (λ (y : Request). RequestStep c.args.size s y t.content (said_with c.in_ok-request.request c.perform-outcome.result c.perform-outcome.new.content) x.new x.t) h.is (x.step t.content (λ w d. sym (t.held w (c.outcome-outcome.ensures ∙ d))));
       now = x.now;
       kept_is = x.kept_is;
       unsent = f;

@@ -7,4 +7,4 @@ pub loop-at-preserved : goal.loop-at-preserved
 loop-at-preserved c =
     let view = view_at c.args.image.now c.args.says.now in
     below_more _ _ c.loop-at.invariant
-    (subst (λ (to : ℕ). IsFilled view to c.loop-at.at) c.shift_to.ensures (c.is_filled.ensures.0 c.if-not-is_filled.false))
+    (subst (λ (to : ℕ). IsFilled view to c.loop-at.at) c.to.ensures (c.is_filled.ensures.0 c.if-not-is_filled.false))

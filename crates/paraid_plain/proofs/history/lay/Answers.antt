@@ -3,22 +3,22 @@ use Rattle.std.specs.Prelude.{◌==◌, if◌then◌else◌}
 use Rattle.std.proofs.lemmas.Bool.Decides.{nat_tests}
 use Rattle.paraid_base.specs.declared.block.Block.{Block}
 use Rattle.paraid_base.specs.History.{last_of}
-use Rattle.paraid_base.specs.Pairs.{zipped}
+use Rattle.paraid_base.specs.Pairs.{numbered_blocks}
 use Rattle.paraid_base.proofs.HistoryLemmas.{last_of-append}
 use Rattle.paraid_base.proofs.PairsLemmas.{take-zipped}
 use Rattle.paraid_plain.proofs.history.lay.Goals as goal
 use Rattle.paraid_plain.proofs.history.lay.Goals.{then-write-at, else-write-at}
 
-module _ (b : ℕ) (start now : Block) (blocks : List ℕ) (bytes : List Block) (i : ℕ) (x : Block) (e : length blocks ≡ length bytes) (l : i < length blocks) (is : now ≡ last_of b start (take i (zipped blocks bytes))) where
-  step : last_of b start (take (i + 1) (zipped blocks bytes)) ≡ (if get_or blocks i 0 == b then get_or bytes i x else now)
+module _ (b : ℕ) (start now : Block) (blocks : List ℕ) (bytes : List Block) (i : ℕ) (x : Block) (e : length blocks ≡ length bytes) (l : i < length blocks) (is : now ≡ last_of b start (take i (numbered_blocks blocks bytes))) where
+  step : last_of b start (take (i + 1) (numbered_blocks blocks bytes)) ≡ (if get_or blocks i 0 == b then get_or bytes i x else now)
   step =
-      ap (last_of b start) (take-zipped blocks bytes i 0 x e l) ∙ last_of-append b start (take i (zipped blocks bytes)) ((get_or blocks i 0, get_or bytes i x) ∷ [])
+      ap (last_of b start) (take-zipped blocks bytes i 0 x e l) ∙ last_of-append b start (take i (numbered_blocks blocks bytes)) ((get_or blocks i 0, get_or bytes i x) ∷ [])
       ∙ ap (λ (y : Block). if get_or blocks i 0 == b then get_or bytes i x else y) (sym is)
 
-  named : get_or blocks i 0 ≡ b → get_or bytes i x ≡ last_of b start (take (i + 1) (zipped blocks bytes))
+  named : get_or blocks i 0 ≡ b → get_or bytes i x ≡ last_of b start (take (i + 1) (numbered_blocks blocks bytes))
   named same = rw step grind (arith, nat_tests)
 
-  other : get_or blocks i 0 ≢ b → now ≡ last_of b start (take (i + 1) (zipped blocks bytes))
+  other : get_or blocks i 0 ≢ b → now ≡ last_of b start (take (i + 1) (numbered_blocks blocks bytes))
   other differs = rw step grind (arith, nat_tests)
 
 pub loop-at-preserved : goal.loop-at-preserved

@@ -1,6 +1,6 @@
 use Rattle.std.proofs.Common.{arith}
 use Rattle.paraid_plain.specs.Images.{disks_in}
-use Rattle.paraid_plain.specs.LogParts.{AreFormed, IsFormed}
+use Rattle.paraid_plain.specs.LogParts.{AreLogsFormed, IsLogFormed}
 use Rattle.paraid_plain.specs.Views.{out_at}
 use Rattle.paraid_plain.proofs.StatementLemmas.{both_logs}
 use Rattle.paraid_plain.proofs.TestLemmas.{reworded}
@@ -10,6 +10,6 @@ pub returns-then-is_formed : goal.returns-then-is_formed
 returns-then-is_formed c =
     let i = disks_in c.args.image.now in
     let out = out_at c.args.image.now c.args.says.now in
-    reworded (AreFormed i out) c.is_formed-then-is_formed.result c.is_formed-then-is_formed.ensures
-    (λ second. both_logs (IsFormed i out) (c.is_formed.ensures.0 c.if-is_formed.true) second)
+    reworded (AreLogsFormed i out) c.is_formed-then-is_formed.result c.is_formed-then-is_formed.ensures
+    (λ second. both_logs (IsLogFormed i out) (c.is_formed.ensures.0 c.if-is_formed.true) second)
     (λ all. all 1 (omega arith))

@@ -1,5 +1,5 @@
 use Rattle.std.proofs.Common.{subst}
-use Rattle.paraid_image.specs.Sides.{Said}
+use Rattle.paraid_image.specs.Sides.{LogState}
 use Rattle.paraid_image.specs.Sound.{Pairing}
 use Rattle.paraid_image.proofs.SidesLemmas.{Says-same}
 use Rattle.paraid_plain.specs.Images.{disks_in}
@@ -17,5 +17,5 @@ returns-in-Some c =
     let in_first = not_out (out_at image c.args.says.now) 0 c.is_out_disk.result c.is_out_disk.ensures c.if-is_out_disk.false in
     let in_second = not_out (out_at image c.args.says.now) 1 c.is_out_disk-else-is_out_disk.result c.is_out_disk-else-is_out_disk.ensures c.if-is_out_disk-2.false in
     reworded (ArePaired (disks_in image) (out_at image c.args.says.now)) c.is_paired_with.result c.is_paired_with.ensures
-    (λ paired a b p q _ _. subst (λ (s : Said). Pairing s b) (Says-same (disks_in image) 0 first a c.in-Some.ensures.some p) (paired b q))
+    (λ paired a b p q _ _. subst (λ (s : LogState). Pairing s b) (Says-same (disks_in image) 0 first a c.in-Some.ensures.some p) (paired b q))
     (λ all b q. all first b c.in-Some.ensures.some q in_first in_second)

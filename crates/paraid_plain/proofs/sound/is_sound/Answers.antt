@@ -1,7 +1,7 @@
 use Rattle.std.proofs.Common.{length}
 use Rattle.std.specs.Prelude.{map}
 use Rattle.paraid_base.specs.Pairs.{pairs_of}
-use Rattle.paraid_image.specs.Sound.{Sound}
+use Rattle.paraid_image.specs.Sound.{IsSoundAt}
 use Rattle.paraid_plain.specs.Images.{disks_in}
 use Rattle.paraid_plain.proofs.SoundLemmas.{sound_content, sound_from}
 use Rattle.paraid_plain.proofs.TestLemmas.{reworded}
@@ -13,6 +13,6 @@ returns-then-is_log_ok c =
     let slots = length image.slots.items in
     let says = c.in-Some.says in
     let stands = c.in-Some.ensures.some in
-    reworded (Sound slots (disks_in image) (map pairs_of c.args.history.now) c.args.writes) c.is_content_ok.result c.is_content_ok.ensures
+    reworded (IsSoundAt slots (disks_in image) (map pairs_of c.args.history.now) c.args.writes) c.is_content_ok.result c.is_content_ok.ensures
     (sound_from image says slots (map pairs_of c.args.history.now) c.args.writes stands (c.is_log_ok.ensures.0 c.if-is_log_ok.true))
     (sound_content image says slots (map pairs_of c.args.history.now) c.args.writes stands)

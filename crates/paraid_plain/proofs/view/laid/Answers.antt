@@ -1,6 +1,6 @@
 use Rattle.std.proofs.Common.{◌≡◌, List, arith, length, sym, ◌∙◌}
 use Rattle.paraid_record.specs.declared.targets.Target.{Target}
-use Rattle.paraid_image.specs.Sides.{stored}
+use Rattle.paraid_image.specs.Sides.{stored_block}
 use Rattle.paraid_plain.specs.Images.{disks_in}
 use Rattle.paraid_plain.specs.Statements.{batch_in}
 use Rattle.paraid_plain.proofs.ViewLemmas.{laid_end, laid_hit, laid_miss}
@@ -10,7 +10,7 @@ use Rattle.paraid_plain.proofs.view.laid.Goals.{then-is_target, else-is_target}
 pub loop-at-preserved : goal.loop-at-preserved
 loop-at-preserved c =
     let says = c.args.says.now in
-    let log = stored (disks_in c.args.image.now) says.disk in
+    let log = stored_block (disks_in c.args.image.now) says.disk in
     let list : List Target = says.targets.list in
     let long : length list ≡ 96 = search arith in
     let at = c.loop-at.at in
@@ -27,5 +27,5 @@ pub returns : goal.returns
 unfolding batch_in
 returns c =
     let says = c.args.says.now in
-    let log = stored (disks_in c.args.image.now) says.disk in
+    let log = stored_block (disks_in c.args.image.now) says.disk in
     sym (c.loop-at.invariant ∙ laid_end log says.targets.list says.targets.count c.args.disk c.args.place c.loop-at.at c.loop-at.block c.loop-at-test.false)

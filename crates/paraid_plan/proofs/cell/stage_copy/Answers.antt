@@ -7,5 +7,5 @@ returns-then-not-filled-clause-desk g c = copy_none c.args.m.now _ c.args.filled
 pub returns-clause-desk : goal.returns-clause-desk
 returns-clause-desk g c =
     copy_both c.args.m.now _ _ _ c.args.filled c.args.r c.args.d _ _ _ _ _ c.args.new.now c.args.parity_block.now c.if-not-filled.false
-    c.phase_to-to.ensures c.soft_of-s.ensures.stripe c.soft_of-s.ensures.disk c.soft_place-place.ensures.value c.soft_parity-parity.ensures.value
+    c.to-to.ensures c.soft_of-s.ensures.stripe c.soft_of-s.ensures.disk c.soft_place-place.ensures.value c.soft_parity-parity.ensures.value
     c.stage_if.ensures.desk c.stage_if-2.ensures.desk

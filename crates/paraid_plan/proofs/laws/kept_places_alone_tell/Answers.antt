@@ -1,4 +1,4 @@
-use Rattle.paraid_plan.proofs.PlaceLemmas.{kept_places_tell}
+use Rattle.paraid_plan.proofs.KeptPlaceLemmas.{kept_places_tell}
 use Rattle.paraid_plan.proofs.laws.kept_places_alone_tell.Goals as goal
 
 pub returns : goal.returns

@@ -1,4 +1,4 @@
-use Rattle.paraid_plan.proofs.PlaceLemmas.{stored_is_kept}
+use Rattle.paraid_plan.proofs.KeptPlaceLemmas.{stored_is_kept}
 use Rattle.paraid_plan.proofs.laws.what_is_stored_is_kept_well.Goals as goal
 
 pub returns : goal.returns

@@ -1,12 +1,12 @@
 use Rattle.std.proofs.Common.{◌∙◌, ap}
 use Rattle.paraid_plan.proofs.write.stage_map.Goals as goal
 use Rattle.std.specs.Prelude.{ℕ, ◌+◌, ◌/◌}
-use Rattle.paraid_plan.specs.Staged.{is_written}
+use Rattle.paraid_plan.specs.WriteTargets.{is_written}
 use Rattle.paraid_plan.proofs.DeskLemmas.{map_both, map_none}
-use Rattle.paraid_base.specs.Xor.{zeroed}
+use Rattle.paraid_base.specs.Xor.{zero_block}
 
 pub returns-then-not-staged-clause-map : goal.returns-then-not-staged-clause-map
-returns-then-not-staged-clause-map g c = map_none c.args.m.now (g.P.Plan.desk c.args.plan.now) _ c.args.staged zeroed c.if-not-staged.true
+returns-then-not-staged-clause-map g c = map_none c.args.m.now (g.P.Plan.desk c.args.plan.now) _ c.args.staged zero_block c.if-not-staged.true
 
 pub returns-clause-map : goal.returns-clause-map
 returns-clause-map g c =

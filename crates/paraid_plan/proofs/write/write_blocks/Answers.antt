@@ -1,6 +1,6 @@
 use Rattle.std.proofs.Common.{◌≡◌, ℕ, ◌∙◌, take, refl, sym, subst, arith, get_or}
 use Rattle.paraid_base.specs.History.{Entry}
-use Rattle.paraid_base.specs.Pairs.{pairs_of, zipped}
+use Rattle.paraid_base.specs.Pairs.{pairs_of, numbered_blocks}
 use Rattle.paraid_base.proofs.PairsLemmas.{take-zipped}
 use Rattle.paraid_plan.specs.Desk.{StageAll}
 use Rattle.paraid_plan.proofs.ManyLemmas.{pair_below, stage_more}
@@ -40,7 +40,7 @@ loop-at-preserved g c =
           subst (λ (e : Entry). StageAll c.args.m.now (g.P.Plan.desk c.args.plan.now) (g.P.Plan.desk c.write_block.new.plan) e)
           (sym (take-zipped p.blocks p.bytes c.loop-at.at 0 c.index-pairs-at.result (p.blocks_whole ∙ sym p.bytes_whole) (omega (arith, blocks, count, test))))
           (stage_more c.args.m.now (g.P.Plan.desk c.args.plan.now) (g.P.Plan.desk c.loop-at.plan) (g.P.Plan.desk c.write_block.new.plan)
-          (take c.loop-at.at (zipped p.blocks p.bytes)) (get_or p.blocks c.loop-at.at 0, get_or p.bytes c.loop-at.at c.index-pairs-at.result)
+          (take c.loop-at.at (numbered_blocks p.blocks p.bytes)) (get_or p.blocks c.loop-at.at 0, get_or p.bytes c.loop-at.at c.index-pairs-at.result)
           (c.loop-at.invariant.writes (g.met.P.Plan.told c.loop-at.plan c.write_block.new.plan wrote.leads tells))
           (pair_below p _ c.loop-at.at c.requires.blocks test) (wrote.write tells));
       few = omega arith;
@@ -55,7 +55,7 @@ returns-clause-writes g c tells =
     let past = c.loop-at-test.false in
     let until = c.loop-at.auto.at-end in
     let same : c.loop-at.at ≡ c.args.pairs.now.count = omega (arith, past, until) in
-    subst (λ (n : ℕ). StageAll c.args.m.now (g.P.Plan.desk c.args.plan.now) (g.P.Plan.desk c.loop-at.plan) (take n (zipped c.args.pairs.now.blocks c.args.pairs.now.bytes))) same (c.loop-at.invariant.writes tells)
+    subst (λ (n : ℕ). StageAll c.args.m.now (g.P.Plan.desk c.args.plan.now) (g.P.Plan.desk c.loop-at.plan) (take n (numbered_blocks c.args.pairs.now.blocks c.args.pairs.now.bytes))) same (c.loop-at.invariant.writes tells)
 
 pub returns-clause-few : goal.returns-clause-few
 returns-clause-few g c =

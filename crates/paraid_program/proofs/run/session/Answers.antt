@@ -1,5 +1,5 @@
-use Rattle.std.proofs.Common.{None, sym, ◌∙◌, arith, refl}
-use Rattle.paraid_array.specs.Arrays.{halted}
+use Rattle.std.proofs.Common.{sym, arith}
+use Rattle.paraid_array.specs.Arrays.{array_halt}
 use Rattle.paraid_program.proofs.Since.{since_start, since_more, may_be_down, lasts_told, going, same_halt}
 use Rattle.paraid_program.proofs.Sofar.{sofar_start, sofar_more, few_more, ends_well, ends_halted, ends_at_source, ends_too_long, ends_at_sink}
 use Rattle.paraid_program.proofs.run.session.Goals as goal
@@ -53,8 +53,8 @@ returns-in_default-clause-session g c =
     let e = c.answer.ensures in
     let p = c.in_default.ensures.part in
     let h = rw c.in-Ok-Some.field-0-is at c.in-Ok-Some.ensures.heard in
-    let since = since_more _ _ _ _ _ _ (halted c.answer.new.array) _ _ _ i.since _ i.five.disks e.leaves.0 _ (omega (arith, i.few, i.sofar.limit)) (λ halt none some. e.leaves.3 halt none some) (λ was is. (e.again was is).0) in
-    ends_at_sink i.sofar _ _ h (halted c.answer.new.array) c.answer.new.into _ _ _ p.0 (lasts_told _ _ _ _ _ _ _ e.leaves.0) e.reply e.again (may_be_down _ _ _ since.cause) (rw (c.as_slice.ensures.value, c.reply.ensures.value) at p.2)
+    let since = since_more _ _ _ _ _ _ (array_halt c.answer.new.array) _ _ _ i.since _ i.five.disks e.leaves.0 _ (omega (arith, i.few, i.sofar.limit)) (λ halt none some. e.leaves.3 halt none some) (λ was is. (e.again was is).0) in
+    ends_at_sink i.sofar _ _ h (array_halt c.answer.new.array) c.answer.new.into _ _ _ p.0 (lasts_told _ _ _ _ _ _ _ e.leaves.0) e.reply e.again (may_be_down _ _ _ since.cause) (rw (c.as_slice.ensures.value, c.reply.ensures.value) at p.2)
 
 pub returns-in-Ok-flush-clause-since : goal.returns-in-Ok-flush-clause-since
 returns-in-Ok-flush-clause-since g c =
@@ -66,7 +66,7 @@ pub returns-in-Ok-flush-clause-session : goal.returns-in-Ok-flush-clause-session
 returns-in-Ok-flush-clause-session g c =
     let i = c.lines.invariant in
     let f = c.in-Ok-flush.ensures in
-    let none = going (halted c.lines.array) c.flush.new.self.halt f.halt (λ was is. (f.again was is).0) in
+    let none = going (array_halt c.lines.array) c.flush.new.self.halt f.halt (λ was is. (f.again was is).0) in
     ends_well i.sofar _ _ (rw c.in-Ok-None.field-0-is at c.in-Ok-None.ensures.heard) none _ _ c.in-Ok-flush.writes (lasts_told _ _ _ _ _ _ _ f.lasts) f.history
 
 pub returns-in-Err-clause-since : goal.returns-in-Err-clause-since

@@ -1,5 +1,5 @@
 use Rattle.std.proofs.Common.{arith, rules}
-use Rattle.paraid_array.specs.Arrays.{out_of}
+use Rattle.paraid_array.specs.Arrays.{array_out}
 use Rattle.paraid_program.proofs.TopLemmas.{done_run, halted_run, source_run, too_long_run, sink_run, no_mount_run, down_status}
 use Rattle.paraid_program.proofs.top.serve.Goals as goal
 
@@ -11,13 +11,13 @@ returns-in-Ok-session-clause-run g c =
     let e = c.in-Ok-session.ensures in
     done_run _ _ _ _ _ _ _ _ _ _ _ _ _ c.requires.fits c.in-Ok.ensures.grows c.in-Ok-session.writes (λ h stands. record { geometry = c.session.new.array.geometry; five = e.five; stands = stands.1 }) e.session (rw (c.as_slice.ensures.value, c.end_text.ensures) at c.last.ensures.ends)
 
-pub returns-in-Ok-session-clause-settled : goal.returns-in-Ok-session-clause-settled
-returns-in-Ok-session-clause-settled g c z =
+pub returns-in-Ok-session-clause-nothing_loose : goal.returns-in-Ok-session-clause-nothing_loose
+returns-in-Ok-session-clause-nothing_loose g c z =
     let e = c.in-Ok-session.ensures in
     record {
-      out = out_of c.session.new.array;
+      out = array_out c.session.new.array;
       failed = e.since.lost;
-      others = λ t tells d p below not. e.settled t tells d p (omega (arith, e.five.disks)) not;
+      others = λ t tells d p below not. e.nothing_loose t tells d p (omega (arith, e.five.disks)) not;
     }
 
 pub returns-in-Err-Source-clause-run : goal.returns-in-Err-Source-clause-run

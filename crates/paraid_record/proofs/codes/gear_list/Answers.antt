@@ -1,12 +1,12 @@
 use Rattle.std.proofs.Common.{arith, refl, sym, ◌∙◌}
 use Rattle.paraid_record.specs.Codes.{gears_below}
-use Rattle.paraid_record.specs.Spelling.{filled}
+use Rattle.paraid_record.specs.Spelling.{zero_filled}
 use Rattle.paraid_record.proofs.GearLemmas.{gear_step-no, gear_step-yes, length-gears_below}
 use Rattle.paraid_record.proofs.codes.gear_list.Goals as goal
 use Rattle.paraid_record.proofs.codes.gear_list.Goals.{then-is_gear, else-is_gear}
 
 pub loop-gear-init : goal.loop-gear-init
-unfolding filled gears_below
+unfolding zero_filled gears_below
 loop-gear-init c = (refl, refl)
 
 pub bounds-list-count : goal.bounds-list-count

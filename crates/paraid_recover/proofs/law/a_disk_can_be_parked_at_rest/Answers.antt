@@ -1,4 +1,4 @@
-use Rattle.paraid_recover.proofs.RestLemmas.{rest_parked}
+use Rattle.paraid_recover.proofs.HeldAtRestLemmas.{rest_parked}
 use Rattle.paraid_recover.proofs.law.a_disk_can_be_parked_at_rest.Goals as goal
 
 pub returns : goal.returns

@@ -1,6 +1,6 @@
 use Rattle.paraid_recover.proofs.EndsLemmas.{ends_resumed, then_marked}
 use Rattle.paraid_recover.proofs.RecoverLemmas.{grows, resumes_held}
-use Rattle.paraid_recover.proofs.RestingLemmas.{quiet_recovers}
+use Rattle.paraid_recover.proofs.QuietCallsLemmas.{quiet_recovers}
 use Rattle.paraid_recover.proofs.law.a_recovery_leaves_what_is_held.Goals as goal
 
 pub returns-clause-refused : goal.returns-clause-refused

@@ -1,32 +1,35 @@
-use Rattle.std.specs.Prelude.{◌≡◌, ◌+◌, ℕ, [], Option, IfErr}
+use Rattle.std.specs.Prelude.{◌≡◌, ◌+◌, ℕ, [], Option, Some, IfErr, IfOk}
 use Rattle.paraid_rack.specs.Told.{Ran}
 use Rattle.paraid_image.specs.Out.{named_out}
-use Rattle.paraid_txn.specs.Losses.{IsOut, IsTwoBeside}
+use Rattle.paraid_txn.specs.Losses.{IsAlone, IsOutOfCommit, AreTwoDownBeside}
 use Rattle.paraid_txn.specs.Uses.{EachCall, Uses}
 use Rattle.std.proofs.Common.{arith, ap, subst, ◌∙◌}
 use Rattle.paraid_rack.specs.Disks.{is_present}
 use Rattle.paraid_record.specs.declared.meta.Meta.{Meta}
-use Rattle.paraid_txn.specs.Commit.{Commits, IsWholeOrAbsent}
+use Rattle.paraid_txn.specs.Commit.{EndsCommitted, IsWholeOrAbsent}
 use Rattle.std.proofs.lemmas.Result.{on_ok_weaker}
-use Rattle.paraid_image.specs.Mark.{marked}
+use Rattle.paraid_image.specs.Mark.{marked_gone}
 use Rattle.paraid_image.specs.Sides.{Batch}
 use Rattle.paraid_image.proofs.MarkLemmas.{marked_in_range}
 use Rattle.paraid_txn.proofs.RanLemmas.{commit_moments}
 use Rattle.paraid_recover.proofs.MarkHeldLemmas.{is_next, mark_held}
+use Rattle.paraid_recover.specs.RecoveryMark.{of_version_two}
+use Rattle.paraid_recover.proofs.RenewLemmas.{in_version_two}
+use Rattle.paraid_recover.proofs.OneMarkedLemmas.{one_marked}
 use Rattle.paraid_recover.proofs.marking.mark.Given.{Over}
 use Rattle.paraid_recover.proofs.marking.mark.Goals as goal
 use Rattle.paraid_recover.proofs.marking.mark.Goals.{After-commit}
 
 -- the meta that the commit brings
-after_is : (g : Over) (c : After-commit g) → record c.marked-next.result { epoch = c.args.store.now.epoch + 1 } ≡ marked c.args.meta.now c.args.disk (c.args.meta.now.epoch + 1)
+after_is : (g : Over) (c : After-commit g) → record c.next_marked-next.result { epoch = c.args.store.now.epoch + 1 } ≡ marked_gone (of_version_two c.args.meta.now) c.args.disk (c.args.meta.now.epoch + 1)
 after_is g c =
-    ap (λ (n : Meta). record n { epoch = c.args.store.now.epoch + 1 }) c.marked-next.ensures
-    ∙ ap (λ e. marked c.args.meta.now c.args.disk (e + 1)) c.requires.epoch
+    ap (λ (n : Meta). record n { epoch = c.args.store.now.epoch + 1 }) c.next_marked-next.ensures
+    ∙ ap (λ e. marked_gone (of_version_two c.args.meta.now) c.args.disk (e + 1)) c.requires.epoch
 
 each : (g : Over) (c : After-commit g)
-    → IsWholeOrAbsent (g.R.Rack.told c.args.store.now.rack) (g.R.Rack.told c.commit.new.self.rack) c.args.meta.now (marked c.args.meta.now c.args.disk (c.args.meta.now.epoch + 1)) []
+    → IsWholeOrAbsent (g.R.Rack.told c.args.store.now.rack) (g.R.Rack.told c.commit.new.self.rack) c.args.meta.now (marked_gone (of_version_two c.args.meta.now) c.args.disk (c.args.meta.now.epoch + 1)) []
 each g c =
-    subst (λ (b : Batch). IsWholeOrAbsent (g.R.Rack.told c.args.store.now.rack) (g.R.Rack.told c.commit.new.self.rack) c.args.meta.now (marked c.args.meta.now c.args.disk (c.args.meta.now.epoch + 1)) b) c.requires.empty
+    subst (λ (b : Batch). IsWholeOrAbsent (g.R.Rack.told c.args.store.now.rack) (g.R.Rack.told c.commit.new.self.rack) c.args.meta.now (marked_gone (of_version_two c.args.meta.now) c.args.disk (c.args.meta.now.epoch + 1)) b) c.requires.empty
     (subst (λ (n : Meta). IsWholeOrAbsent (g.R.Rack.told c.args.store.now.rack) (g.R.Rack.told c.commit.new.self.rack) c.args.meta.now n c.args.batch.now) (after_is g c)
     (c.commit.ensures.any_moment c.args.meta.now c.requires.named))
 
@@ -35,7 +38,7 @@ returns-clause-held g c slots t tells =
     let at = goal.at.returns-clause-held g c in
     let m = c.args.meta.now in
     let d = c.args.disk in
-    let r = commit_moments _ _ m (marked m d (m.epoch + 1)) [] (each g at.After-commit) t tells in (
+    let r = commit_moments _ _ m (marked_gone (of_version_two m) d (m.epoch + 1)) [] (each g at.After-commit) t tells in (
       r.0,
       r.1,
       r.2,
@@ -44,7 +47,7 @@ returns-clause-held g c slots t tells =
           let range = rest.log.stands.says.log.meta.in_range in
           let fits = c.requires.can.epoch in
           let same = c.requires.epoch in
-          let after = marked_in_range m d (m.epoch + 1) range c.requires.low (omega arith) (omega arith) in
+          let after = marked_in_range (of_version_two m) d (m.epoch + 1) (in_version_two m m.epoch range range.counters.first range.counters.epoch_fits) c.requires.low (omega arith) (omega arith) in
           let next = is_next slots _ m d (m.epoch + 1) h lo was rest held c.requires.only c.requires.low gone (omega arith) after in
           mark_held slots _ m d (m.epoch + 1) h lo was rest held c.requires.only c.requires.low gone (omega arith) after _ down downs
           (downs_start d c.requires.low gone) (r.3 rest next n from to),
@@ -54,7 +57,7 @@ pub returns-clause-committed : goal.returns-clause-committed
 returns-clause-committed g c =
     let at = goal.at.returns-clause-committed g c in
     on_ok_weaker c.commit.result (λ commits.
-    subst (λ (n : Meta). Commits (g.R.Rack.told c.args.store.now.rack) (g.R.Rack.told c.commit.new.self.rack) c.args.meta.now n c.args.batch.now) (after_is g at.After-commit)
+    subst (λ (n : Meta). EndsCommitted (g.R.Rack.told c.args.store.now.rack) (g.R.Rack.told c.commit.new.self.rack) c.args.meta.now n c.args.batch.now) (after_is g at.After-commit)
     (commits c.args.meta.now c.requires.named)) c.commit.ensures.committed
 
 pub returns-clause-grows : goal.returns-clause-grows
@@ -65,13 +68,21 @@ returns-clause-grows g c t tells =
 
 pub returns-clause-two : goal.returns-clause-two
 returns-clause-two g c =
-    subst (λ (o : Option ℕ). IfErr c.commit.result (IsTwoBeside (IsOut (λ e. (g.R.Rack.slot c.args.store.now.rack e).power) c.args.store.now.disks c.args.store.now.named o)
-    (g.R.Rack.slot c.args.store.now.rack) (g.R.Rack.slot c.commit.new.self.rack))) (ap (λ (n : Meta). named_out n.out) c.marked-next.ensures) c.commit.ensures.two
+    subst (λ (o : Option ℕ). IfErr c.commit.result (AreTwoDownBeside (IsOutOfCommit (λ e. (g.R.Rack.slot c.args.store.now.rack e).power) c.args.store.now.disks c.args.store.now.named o)
+    (g.R.Rack.slot c.args.store.now.rack) (g.R.Rack.slot c.commit.new.self.rack))) (ap (λ (n : Meta). named_out n.out) c.next_marked-next.ensures) c.commit.ensures.two
 
 pub returns-clause-named : goal.returns-clause-named
-returns-clause-named g c = on_ok_weaker c.commit.result (λ is. is ∙ ap (λ (n : Meta). named_out n.out) c.marked-next.ensures) c.commit.ensures.named
+returns-clause-named g c = on_ok_weaker c.commit.result (λ is. is ∙ ap (λ (n : Meta). named_out n.out) c.next_marked-next.ensures) c.commit.ensures.named
 
 pub returns-clause-calls : goal.returns-clause-calls
 returns-clause-calls g c =
-    subst (λ (b : Batch). Ran (g.R.Rack.told c.args.store.now.rack) (g.R.Rack.told c.commit.new.self.rack) (EachCall (Uses (marked c.args.meta.now c.args.disk c.args.meta.now.epoch) b))) c.requires.empty
-    (subst (λ (n : Meta). Ran (g.R.Rack.told c.args.store.now.rack) (g.R.Rack.told c.commit.new.self.rack) (EachCall (Uses n c.args.batch.now))) c.marked-next.ensures c.commit.ensures.calls)
+    subst (λ (b : Batch). Ran (g.R.Rack.told c.args.store.now.rack) (g.R.Rack.told c.commit.new.self.rack) (EachCall (Uses (marked_gone (of_version_two c.args.meta.now) c.args.disk c.args.meta.now.epoch) b))) c.requires.empty
+    (subst (λ (n : Meta). Ran (g.R.Rack.told c.args.store.now.rack) (g.R.Rack.told c.commit.new.self.rack) (EachCall (Uses n c.args.batch.now))) c.next_marked-next.ensures c.commit.ensures.calls)
+
+pub returns-clause-one : goal.returns-clause-one
+returns-clause-one g c =
+    let at = goal.at.returns-clause-one g c in
+    let named = ap (λ (n : Meta). named_out n.out) c.next_marked-next.ensures in
+    one_marked c.args.store.now.disks c.args.store.now.named c.args.disk (g.R.Rack.slot c.args.store.now.rack) (g.R.Rack.slot c.commit.new.self.rack)
+    (let low = c.requires.low in let same = c.requires.can.array in omega arith) c.requires.absent c.commit.result c.commit.ensures.well
+    (subst (λ (o : Option ℕ). IfOk c.commit.result (λ lost. (d : ℕ) → lost ≡ Some d → IsAlone c.args.store.now.disks (IsOutOfCommit (λ e. (g.R.Rack.slot c.args.store.now.rack e).power) c.args.store.now.disks c.args.store.now.named o) d)) named c.commit.ensures.alone)

@@ -3,7 +3,7 @@ use Rattle.std.proofs.Common.{sym, ap, ◌∙◌}
 use Rattle.paraid_image.specs.Out.{first_absent, named_out, or_else}
 use Rattle.paraid_base.specs.declared.state.Out.{Out}
 use Rattle.paraid_rack.specs.declared.call.Power.{Power}
-use Rattle.paraid_recover.specs.Marks.{to_mark_by}
+use Rattle.paraid_recover.specs.RecoveryMark.{to_mark_by}
 use Rattle.paraid_txn.proofs.MeansLemmas.{absent_power}
 use Rattle.paraid_image.proofs.OutLemmas.{first_absent_is}
 use Rattle.paraid_recover.proofs.recovery.unmarked.Given.{Over}

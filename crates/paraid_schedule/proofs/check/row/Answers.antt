@@ -1,9 +1,9 @@
 use Rattle.std.proofs.Common.{◌+◌, ◌*◌, ◌∙◌, ap}
-use Rattle.paraid_schedule.specs.Bounds.{row, rank, gear_count}
+use Rattle.paraid_schedule.specs.Bounds.{row_start, rank, gear_count}
 use Rattle.paraid_schedule.proofs.check.row.Goals as goal
 
 pub returns-clause-value : goal.returns-clause-value
-unfolding row gear_count
+unfolding row_start gear_count
 returns-clause-value c =
     ap (λ n. (c.args.t * n + c.rank-2.result) * (c.args.ups + 1)) c.rank.ensures.value
     ∙ ap (λ n. (c.args.t * rank c.args.geometry.now (c.args.geometry.now.disks + 1) + n) * (c.args.ups + 1)) c.rank-2.ensures.value

@@ -2,7 +2,7 @@ use Rattle.std.proofs.Common.{◌≡◌, ◌+◌, ◌-◌, [], ◌∷◌, ◌++�
 use Rattle.std.proofs.lemmas.List.{length-append}
 use Rattle.paraid_schedule.proofs.RowLemmas.{bound_count-more}
 use Rattle.paraid_schedule.specs.Schedule.{rise}
-use Rattle.paraid_schedule.proofs.StepLemmas.{step_gear}
+use Rattle.paraid_schedule.proofs.GearStepLemmas.{step_gear}
 use Rattle.paraid_schedule.proofs.WalkLemmas.{IsWalk-start, walk-some, walk-more, walk-cost}
 use Rattle.paraid_schedule.proofs.planner.follow.Goals.{then-next-gear, else-next-gear}
 use Rattle.paraid_schedule.proofs.planner.follow.Goals as goal

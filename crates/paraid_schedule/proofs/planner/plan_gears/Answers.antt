@@ -2,7 +2,7 @@ use Rattle.std.proofs.Common.{◌≡◌, ◌+◌, ◌<◌, length, slice_index, 
 use Rattle.std.proofs.lemmas.Grind.{get_or_default_zero}
 use Rattle.paraid_schedule.specs.Plan.{IsCertified}
 use Rattle.paraid_schedule.specs.Bounds.{bound}
-use Rattle.paraid_schedule.proofs.RowLemmas.{row-end}
+use Rattle.paraid_schedule.proofs.RowLemmas.{row_start-end}
 use Rattle.paraid_schedule.proofs.CertificateLemmas.{start_bounds_cost, spin_ups_few}
 use Rattle.paraid_schedule.proofs.planner.plan_gears.Goals as goal
 
@@ -12,7 +12,7 @@ follow-requires-clause-solved c = rw c.deref.ensures.value c.in-Ok.ensures.solve
 pub index-cost-requires : goal.index-cost-requires
 index-cost-requires c =
     let g = c.args.setup.now.geometry in
-    omega (arith, c.place.ensures.value, c.deref.ensures.len, ap length c.deref.ensures.value, c.in-Ok.ensures.right.count, row-end g c.args.ups 0 (length c.args.demand.now) g.disks g.last (omega arith))
+    omega (arith, c.place.ensures.value, c.deref.ensures.len, ap length c.deref.ensures.value, c.in-Ok.ensures.right.count, row_start-end g c.args.ups 0 (length c.args.demand.now) g.disks g.last (omega arith))
 
 -- what stands at the start of the bounds
 start_is : goal.After-from_parts → Type 0
@@ -22,7 +22,7 @@ start : (c : goal.After-from_parts) → start_is c
 unfolding start_is
 start c =
     let g = c.args.setup.now.geometry in
-    let within : c.place.result + c.args.ups < length c.in-Ok.bounds.items = omega (arith, c.place.ensures.value, c.in-Ok.ensures.right.count, row-end g c.args.ups 0 (length c.args.demand.now) g.disks g.last (omega arith)) in
+    let within : c.place.result + c.args.ups < length c.in-Ok.bounds.items = omega (arith, c.place.ensures.value, c.in-Ok.ensures.right.count, row_start-end g c.args.ups 0 (length c.args.demand.now) g.disks g.last (omega arith)) in
     c.index-cost.ensures ∙ get_or_default_zero c.in-Ok.bounds.items (c.place.result + c.args.ups) c.index-cost.result.now within
     ∙ ap (λ k. slice_index c.in-Ok.bounds.items (k + c.args.ups)) c.place.ensures.value
 

@@ -1,7 +1,7 @@
 use Rattle.std.proofs.Common.{◌+◌, arith}
 use Rattle.paraid_record.specs.Range.{AreNextGears}
-use Rattle.paraid_schedule.proofs.RowLemmas.{row-end, rows-periods}
-use Rattle.paraid_schedule.proofs.StepLemmas.{next_lower-is, next_lower-one}
+use Rattle.paraid_schedule.proofs.RowLemmas.{row_start-end, rows-periods}
+use Rattle.paraid_schedule.proofs.GearStepLemmas.{next_lower-is, next_lower-one}
 use Rattle.paraid_schedule.proofs.SolvedLemmas.{least_level}
 use Rattle.paraid_schedule.proofs.planner.relax_by_fall.Goals as goal
 
@@ -11,7 +11,7 @@ relax-requires-clause-apart c =
 
 pub relax-requires-clause-within : goal.relax-requires-clause-within
 relax-requires-clause-within c =
-    omega (arith, c.place-next.ensures.value, row-end c.args.setup.now.geometry c.args.ups (c.args.t + 1) (c.args.t + 1) c.in-Some.b c.in-Some.ensures.1 (omega arith))
+    omega (arith, c.place-next.ensures.value, row_start-end c.args.setup.now.geometry c.args.ups (c.args.t + 1) (c.args.t + 1) c.in-Some.b c.in-Some.ensures.1 (omega arith))
 
 pub returns-in-Some-clause-least : goal.returns-in-Some-clause-least
 returns-in-Some-clause-least c =

@@ -1,8 +1,8 @@
 use Rattle.std.proofs.Common.{◌≡◌, ◌+◌, arith, ◌∙◌, ap}
 use Rattle.paraid_record.specs.Range.{AreNextGears}
-use Rattle.paraid_schedule.proofs.RowLemmas.{row-end, rows-periods}
+use Rattle.paraid_schedule.proofs.RowLemmas.{row_start-end, rows-periods}
 use Rattle.paraid_schedule.specs.Cost.{period_cost as price_of_period, step_cost as price_of_step}
-use Rattle.paraid_schedule.proofs.StepLemmas.{next_higher-is, next_higher-one}
+use Rattle.paraid_schedule.proofs.GearStepLemmas.{next_higher-is, next_higher-one}
 use Rattle.paraid_schedule.proofs.SolvedLemmas.{least_rise}
 use Rattle.paraid_schedule.proofs.planner.relax_by_rise.Goals as goal
 
@@ -12,7 +12,7 @@ relax-requires-clause-apart c =
 
 pub relax-requires-clause-within : goal.relax-requires-clause-within
 relax-requires-clause-within c =
-    omega (arith, c.place-next.ensures.value, row-end c.args.setup.now.geometry c.args.ups (c.args.t + 1) (c.args.t + 1) c.in-Some.b c.in-Some.ensures.1 (omega arith))
+    omega (arith, c.place-next.ensures.value, row_start-end c.args.setup.now.geometry c.args.ups (c.args.t + 1) (c.args.t + 1) c.in-Some.b c.in-Some.ensures.1 (omega arith))
 
 pub returns-in-Some-clause-least : goal.returns-in-Some-clause-least
 returns-in-Some-clause-least c =

@@ -1,5 +1,5 @@
 use Rattle.std.proofs.Common.{◌≡◌, ◌+◌, arith, refl}
-use Rattle.paraid_schedule.proofs.RowLemmas.{row-end, rows-periods}
+use Rattle.paraid_schedule.proofs.RowLemmas.{row_start-end, rows-periods}
 use Rattle.paraid_schedule.proofs.SolvedLemmas.{least_level}
 use Rattle.paraid_schedule.proofs.planner.relax_by_stay.Goals as goal
 
@@ -9,7 +9,7 @@ relax-requires-clause-apart c =
 
 pub relax-requires-clause-within : goal.relax-requires-clause-within
 relax-requires-clause-within c =
-    omega (arith, c.place-next.ensures.value, row-end c.args.setup.now.geometry c.args.ups (c.args.t + 1) (c.args.t + 1) c.args.a c.requires.gear (omega arith))
+    omega (arith, c.place-next.ensures.value, row_start-end c.args.setup.now.geometry c.args.ups (c.args.t + 1) (c.args.t + 1) c.args.a c.requires.gear (omega arith))
 
 pub returns-clause-least : goal.returns-clause-least
 returns-clause-least c =

@@ -1,11 +1,11 @@
 use Rattle.std.proofs.Common.{ℕ, ◌+◌, ◌≤◌, arith}
-use Rattle.paraid_schedule.proofs.RowLemmas.{row-end}
+use Rattle.paraid_schedule.proofs.RowLemmas.{row_start-end}
 use Rattle.paraid_schedule.proofs.SolvedLemmas.{solved_served}
 use Rattle.paraid_schedule.proofs.planner.solve_gear.Goals as goal
 
 pub clear-requires-clause-within : goal.clear-requires-clause-within
 clear-requires-clause-within c =
-    omega (arith, c.place.ensures.value, row-end c.args.setup.now.geometry c.args.ups c.args.t (c.args.t + 1) c.args.a c.requires.gear (omega arith))
+    omega (arith, c.place.ensures.value, row_start-end c.args.setup.now.geometry c.args.ups c.args.t (c.args.t + 1) c.args.a c.requires.gear (omega arith))
 
 pub returns-clause-solved : goal.returns-clause-solved
 returns-clause-solved c =

@@ -1,11 +1,11 @@
 use Rattle.std.proofs.Common.{◌+◌, arith}
-use Rattle.paraid_schedule.proofs.RowLemmas.{row-end}
+use Rattle.paraid_schedule.proofs.RowLemmas.{row_start-end}
 use Rattle.paraid_schedule.proofs.planner.stay_meets.Goals as goal
 
 pub bounds-bounds-place : goal.bounds-bounds-place
 bounds-bounds-place c =
-    omega (arith, c.place.ensures.value, row-end c.args.setup.now.geometry c.args.ups c.args.t (c.args.t + 1) c.args.a c.requires.row.gear (omega arith))
+    omega (arith, c.place.ensures.value, row_start-end c.args.setup.now.geometry c.args.ups c.args.t (c.args.t + 1) c.args.a c.requires.row.gear (omega arith))
 
 pub bounds-bounds-place-2 : goal.bounds-bounds-place-2
 bounds-bounds-place-2 c =
-    omega (arith, c.place-2.ensures.value, row-end c.args.setup.now.geometry c.args.ups (c.args.t + 1) (c.args.t + 1) c.args.a c.requires.row.gear (omega arith))
+    omega (arith, c.place-2.ensures.value, row_start-end c.args.setup.now.geometry c.args.ups (c.args.t + 1) (c.args.t + 1) c.args.a c.requires.row.gear (omega arith))

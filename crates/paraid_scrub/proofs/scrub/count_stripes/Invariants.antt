@@ -1,12 +1,12 @@
 use Rattle.std.proofs.Common.{◌≡◌, ◌≤◌}
 use Rattle.paraid_scrub.specs.Counts.{CountBelow, IsOff}
-use Rattle.paraid_scrub.specs.Looked.{Looked}
+use Rattle.paraid_scrub.specs.ReadParts.{KeepsView}
 use Rattle.paraid_scrub.specs.declared.kind.Kind.TheVariants.{Stripe}
 use Rattle.paraid_scrub.proofs.scrub.count_stripes.Given as goal
 
 abbrev pub invariant-loop-at : goal.invariant-loop-at
 invariant-loop-at g l = record {
-  looked : Looked (g.C.Stored.meta l.initial.core) (g.C.Stored.meta l.core) (g.C.Stored.ready l.initial.core) (g.C.Stored.ready l.core) (g.C.Stored.shows l.initial.core) (g.C.Stored.shows l.core)
+  looked : KeepsView (g.C.Stored.meta l.initial.core) (g.C.Stored.meta l.core) (g.C.Stored.ready l.initial.core) (g.C.Stored.ready l.core) (g.C.Stored.shows l.initial.core) (g.C.Stored.shows l.core)
       (λ v. CountBelow (IsOff v Stripe) l.at l.found);
   few : l.found ≤ l.at;
 }

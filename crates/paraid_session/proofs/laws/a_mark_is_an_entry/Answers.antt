@@ -1,4 +1,4 @@
-use Rattle.paraid_session.proofs.EntryLemmas.{mark_entry}
+use Rattle.paraid_session.proofs.RunStartLemmas.{mark_entry}
 use Rattle.paraid_session.proofs.laws.a_mark_is_an_entry.Goals as goal
 
 pub returns : goal.returns

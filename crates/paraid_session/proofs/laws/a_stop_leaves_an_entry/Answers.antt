@@ -1,4 +1,4 @@
-use Rattle.paraid_session.proofs.EntryLemmas.{answered_stop, kept_stop, mount_stop, two_stop}
+use Rattle.paraid_session.proofs.RunStartLemmas.{answered_stop, kept_stop, mount_stop, two_stop}
 use Rattle.paraid_session.proofs.laws.a_stop_leaves_an_entry.Goals as goal
 
 pub returns : goal.returns

@@ -1,4 +1,4 @@
-use Rattle.paraid_session.proofs.EntryLemmas.{next_base}
+use Rattle.paraid_session.proofs.RunStartLemmas.{next_base}
 use Rattle.paraid_session.proofs.laws.the_next_run_counts_no_fewer_spin_ups.Goals as goal
 
 pub returns : goal.returns

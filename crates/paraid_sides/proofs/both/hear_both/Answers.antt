@@ -1,17 +1,18 @@
 use Rattle.std.specs.Prelude.{◌≡◌, Option, Some, None, Ok}
 use Rattle.paraid_base.specs.Told.{HasRisen}
 use Rattle.paraid_rack.specs.Told.{Ran}
-use Rattle.paraid_txn.specs.Losses.{AreFailedOrWell, IsSpared}
+use Rattle.paraid_txn.specs.Losses.{AreFailedOrWell, OnlyLosesSlots}
 use Rattle.paraid_txn.specs.Uses.{EachCall, UsesLog}
 use Rattle.std.proofs.Common.{sym, ◌∙◌, ap, subst, arith, inl, inr}
 use Rattle.paraid_rack.specs.Disks.{Disks, is_present}
 use Rattle.paraid_rack.specs.Slots.{Slot}
 use Rattle.paraid_rack.specs.Trail.{now}
 use Rattle.paraid_sides.specs.declared.hearing.Heard.{Heard}
-use Rattle.paraid_sides.specs.Heard.{IsHeardAt, gone_pair}
-use Rattle.paraid_sides.proofs.BothLemmas.{both_lost, both_read, first_lost, heard_kept, losing_now, ok_is, one_of_two, second_lost}
+use Rattle.paraid_sides.specs.HeardSides.{AtMost, IsHeardAt, IsHeardBy, ReadsLogs, gone_pair}
+use Rattle.paraid_sides.specs.HeardSides.IsOneLost.{one}
+use Rattle.paraid_sides.proofs.BothLemmas.{both_lost, both_read, first_lost, heard_kept, if_ok_is, losing_now, ok_is, one_of_two, second_lost}
 use Rattle.paraid_sides.proofs.UnchangedLemmas.{unchanged_now}
-use Rattle.paraid_sides.proofs.FailedLemmas.{calls_then, each_then, first_gone, heard_each, heard_spared, second_gone, spared_then, uses_calls}
+use Rattle.paraid_sides.proofs.FailedLemmas.{calls_then, each_then, failed_after, failed_before, first_gone, heard_each, heard_spared, logs_calls, most_then, second_gone, spared_then, uses_calls}
 use Rattle.paraid_sides.proofs.both.hear_both.Given.{Over}
 use Rattle.paraid_sides.proofs.both.hear_both.Goals as goal
 use Rattle.paraid_sides.proofs.both.hear_both.Goals.{After-hear_if_there-second}
@@ -55,7 +56,7 @@ pub returns-clause-moments : goal.returns-clause-moments
 returns-clause-moments g c = both_read c.in-Ok.ensures.unchanged c.in-Ok-second.ensures.unchanged
 
 -- what both reads leave
-left : (g : Over) (c : After-hear_if_there-second g) → IsSpared (g.R.Rack.slot c.args.rack.now) (g.R.Rack.slot c.hear_if_there-second.new.rack)
+left : (g : Over) (c : After-hear_if_there-second g) → OnlyLosesSlots (g.R.Rack.slot c.args.rack.now) (g.R.Rack.slot c.hear_if_there-second.new.rack)
     × AreFailedOrWell (g.R.Rack.slot c.args.rack.now) (g.R.Rack.slot c.hear_if_there-second.new.rack)
 left g c =
     let f = c.hear_if_there-first.ensures in
@@ -68,6 +69,9 @@ left g c =
 
 made : (g : Over) (c : After-hear_if_there-second g) → Ran (g.R.Rack.told c.args.rack.now) (g.R.Rack.told c.hear_if_there-second.new.rack) (EachCall (UsesLog None))
 made g c = calls_then (UsesLog None) (uses_calls (omega arith) c.hear_if_there-first.ensures.calls) (uses_calls (omega arith) c.hear_if_there-second.ensures.calls)
+
+reads : (g : Over) (c : After-hear_if_there-second g) → Ran (g.R.Rack.told c.args.rack.now) (g.R.Rack.told c.hear_if_there-second.new.rack) (EachCall ReadsLogs)
+reads g c = calls_then ReadsLogs (logs_calls (omega arith) c.hear_if_there-first.ensures.calls) (logs_calls (omega arith) c.hear_if_there-second.ensures.calls)
 
 -- log disk 1 is as it was until it is read
 kept : (g : Over) (c : After-hear_if_there-second g) → g.R.Rack.slot c.hear_if_there-first.new.rack 1 ≡ g.R.Rack.slot c.args.rack.now 1
@@ -191,3 +195,60 @@ returns-in-None-clause-cause g c =
     (ap (λ (s : Slot). s.power) (sym (kept g at)) ∙ c.in_default-second.ensures.was)
     (inl (c.hear_if_there-first.ensures.silent (cc)))
     (subst (λ (s : Slot). HasRisen s.faults (g.R.Rack.slot c.hear_if_there-second.new.rack 1).faults) (kept g at) c.in_default-second.ensures.failed.risen)
+
+pub returns-in-Ok-Some-clause-reads : goal.returns-in-Ok-Some-clause-reads
+returns-in-Ok-Some-clause-reads g c = reads g (goal.at.returns-in-Ok-Some-clause-reads g c).After-hear_if_there-second
+
+pub returns-in-Ok-None-clause-reads : goal.returns-in-Ok-None-clause-reads
+returns-in-Ok-None-clause-reads g c = reads g (goal.at.returns-in-Ok-None-clause-reads g c).After-hear_if_there-second
+
+pub returns-in-Err-clause-reads : goal.returns-in-Err-clause-reads
+returns-in-Err-clause-reads g c = reads g (goal.at.returns-in-Err-clause-reads g c).After-hear_if_there-second
+
+pub returns-in-Some-clause-reads : goal.returns-in-Some-clause-reads
+returns-in-Some-clause-reads g c = reads g (goal.at.returns-in-Some-clause-reads g c).After-hear_if_there-second
+
+pub returns-in-None-clause-reads : goal.returns-in-None-clause-reads
+returns-in-None-clause-reads g c = reads g (goal.at.returns-in-None-clause-reads g c).After-hear_if_there-second
+
+pub returns-clause-reads : goal.returns-clause-reads
+returns-clause-reads g c = reads g (goal.at.returns-clause-reads g c).After-hear_if_there-second
+
+pub returns-in-Ok-Some-clause-one : goal.returns-in-Ok-Some-clause-one
+returns-in-Ok-Some-clause-one g c =
+    let at = (goal.at.returns-in-Ok-Some-clause-one g c).After-hear_if_there-second in
+    let some : c.in-Ok-Some.field-0 ≡ Some c.in-Ok-Some.second = rw c.in-Ok-Some.is at c.in-Ok-Some.field-0-is in
+    one 0 (omega arith) c.in_default.ensures.was (failed_before (after g at) c.in_default.ensures.failed)
+    (λ d not. ok_is c.hear_if_there-second.result _ c.in-Ok-Some.is c.hear_if_there-second.ensures.same d ∙ c.hear_if_there-first.ensures.others d not)
+    (subst (λ (h : Option Heard). IsHeardBy h (g.R.Rack.slot c.hear_if_there-second.new.rack 1).power) some
+    (if_ok_is (λ (h : Option Heard). IsHeardBy h (g.R.Rack.slot c.hear_if_there-second.new.rack 1).power) c.hear_if_there-second.result _ c.in-Ok-Some.is c.hear_if_there-second.ensures.power))
+
+pub returns-in-Some-clause-one : goal.returns-in-Some-clause-one
+returns-in-Some-clause-one g c =
+    let at = (goal.at.returns-in-Some-clause-one g c).After-hear_if_there-second in
+    one 1 (omega arith) (ap (λ (s : Slot). s.power) (sym (kept g at)) ∙ c.in_default-second.ensures.was)
+    (failed_after c.in-Ok.ensures.same c.in_default-second.ensures.failed)
+    (λ d not. c.hear_if_there-second.ensures.others d not ∙ c.in-Ok.ensures.same d)
+    (ap (λ (s : Slot). s.power) (after g at)
+    ∙ subst (λ (h : Option Heard). IsHeardBy h (g.R.Rack.slot c.hear_if_there-first.new.rack 0).power) c.in-Some.is c.in-Ok.ensures.power)
+
+few : (g : Over) (c : After-hear_if_there-second g) → Ran (g.R.Rack.told c.args.rack.now) (g.R.Rack.told c.hear_if_there-second.new.rack) (AtMost 198)
+few g c = most_then 99 99 198 (omega arith) c.hear_if_there-first.ensures.few c.hear_if_there-second.ensures.few
+
+pub returns-in-Ok-Some-clause-few : goal.returns-in-Ok-Some-clause-few
+returns-in-Ok-Some-clause-few g c = few g (goal.at.returns-in-Ok-Some-clause-few g c).After-hear_if_there-second
+
+pub returns-in-Ok-None-clause-few : goal.returns-in-Ok-None-clause-few
+returns-in-Ok-None-clause-few g c = few g (goal.at.returns-in-Ok-None-clause-few g c).After-hear_if_there-second
+
+pub returns-in-Err-clause-few : goal.returns-in-Err-clause-few
+returns-in-Err-clause-few g c = few g (goal.at.returns-in-Err-clause-few g c).After-hear_if_there-second
+
+pub returns-in-Some-clause-few : goal.returns-in-Some-clause-few
+returns-in-Some-clause-few g c = few g (goal.at.returns-in-Some-clause-few g c).After-hear_if_there-second
+
+pub returns-in-None-clause-few : goal.returns-in-None-clause-few
+returns-in-None-clause-few g c = few g (goal.at.returns-in-None-clause-few g c).After-hear_if_there-second
+
+pub returns-clause-few : goal.returns-clause-few
+returns-clause-few g c = few g (goal.at.returns-clause-few g c).After-hear_if_there-second

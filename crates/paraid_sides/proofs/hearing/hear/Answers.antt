@@ -1,8 +1,8 @@
 use Rattle.std.proofs.lemmas.Result.{on_ok_weaker}
 use Rattle.paraid_sides.proofs.UnchangedLemmas.{if_err_weaker, losing_then, unchanged_then}
 use Rattle.std.proofs.Common.{arith}
-use Rattle.paraid_sides.specs.Heard.{ReadsLog}
-use Rattle.paraid_sides.proofs.FailedLemmas.{calls_then, failed_after, log_calls}
+use Rattle.paraid_sides.specs.HeardSides.{ReadsLog}
+use Rattle.paraid_sides.proofs.FailedLemmas.{calls_then, failed_after, log_calls, most_fits, most_then}
 use Rattle.paraid_sides.proofs.hearing.hear.Goals as goal
 
 pub returns-then-opens-clause-unchanged : goal.returns-then-opens-clause-unchanged
@@ -36,3 +36,12 @@ returns-then-opens-clause-failed g c =
 pub returns-clause-failed : goal.returns-clause-failed
 returns-clause-failed g c =
     if_err_weaker c.hear_closed.result (λ f. failed_after c.in_ok-read_place.ensures.same f) c.hear_closed.ensures.failed
+
+pub returns-in_err-read_place-clause-few : goal.returns-in_err-read_place-clause-few
+returns-in_err-read_place-clause-few g c = most_fits 1 99 (omega arith) c.read_place.ensures.few
+
+pub returns-then-opens-clause-few : goal.returns-then-opens-clause-few
+returns-then-opens-clause-few g c = most_then 1 98 99 (omega arith) c.read_place.ensures.few c.hear_open.ensures.few
+
+pub returns-clause-few : goal.returns-clause-few
+returns-clause-few g c = most_then 1 1 99 (omega arith) c.read_place.ensures.few c.hear_closed.ensures.few

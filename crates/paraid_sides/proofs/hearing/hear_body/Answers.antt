@@ -2,11 +2,11 @@ use Rattle.std.proofs.Common.{sym, ◌∙◌, subst, arith, ◌≡◌, ◌+◌, 
 use Rattle.paraid_rack.specs.Disks.{Disks}
 use Rattle.paraid_rack.specs.Trail.{now}
 use Rattle.paraid_record.specs.Targets.{targets_of}
-use Rattle.paraid_image.specs.Sides.{AreLogged, stored}
+use Rattle.paraid_image.specs.Sides.{AreBlocksLogged, stored_block}
 use Rattle.paraid_sides.proofs.BodyLemmas.{at_place, below_all, named_more, one_more, read_so_far}
 use Rattle.paraid_sides.proofs.UnchangedLemmas.{if_any, logged_more, losing_then, unchanged_now, unchanged_then}
-use Rattle.paraid_sides.specs.Heard.{ReadsLog}
-use Rattle.paraid_sides.proofs.FailedLemmas.{calls_then, failed_after, log_calls}
+use Rattle.paraid_sides.specs.HeardSides.{ReadsLog}
+use Rattle.paraid_sides.proofs.FailedLemmas.{calls_then, failed_after, log_calls, most_fits, most_then}
 use Rattle.paraid_sides.proofs.hearing.hear_body.Goals as goal
 
 pub returns-in_err-read_place-clause-lost : goal.returns-in_err-read_place-clause-lost
@@ -43,14 +43,15 @@ loop-at-preserved g c =
       same = λ d. c.in_ok-read_place.ensures.same d ∙ c.loop-at.invariant.same d;
       unchanged = unchanged_then c.loop-at.invariant.unchanged c.in_ok-read_place.ensures.unchanged;
       calls = calls_then (ReadsLog c.args.disk) c.loop-at.invariant.calls (log_calls (let few = c.requires.few in let below = c.loop-at-test.true in let from = c.from.ensures in omega arith) c.read_place.ensures.calls);
+      few = most_then n 1 (n + 1) (omega arith) c.loop-at.invariant.few c.read_place.ensures.few;
       named = named_more c.loop-at.batch ts n low c.loop-at.invariant.named c.add.new.self target c.read_place.new.into at c.requires.distinct ok;
       logged = λ t tells.
           let u = unchanged_now c.in_ok-read_place.ensures.unchanged t tells in
-          let was = subst (λ (s : Disks). AreLogged (stored s c.args.disk) 4 c.loop-at.batch) (sym u.2) (c.loop-at.invariant.logged u.0 u.1) in
+          let was = subst (λ (s : Disks). AreBlocksLogged (stored_block s c.args.disk) 4 c.loop-at.batch) (sym u.2) (c.loop-at.invariant.logged u.0 u.1) in
           let from = c.from.ensures in
-          subst (AreLogged (stored (now t) c.args.disk) 4) (sym more)
-          (logged_more (stored (now t) c.args.disk) 4 c.loop-at.batch (target, c.read_place.new.into) was
-          (at_place (stored (now t) c.args.disk) (4 + length c.loop-at.batch) _ c.read_place.new.into (c.in_ok-read_place.ensures.block t tells) (omega arith)));
+          subst (AreBlocksLogged (stored_block (now t) c.args.disk) 4) (sym more)
+          (logged_more (stored_block (now t) c.args.disk) 4 c.loop-at.batch (target, c.read_place.new.into) was
+          (at_place (stored_block (now t) c.args.disk) (4 + length c.loop-at.batch) _ c.read_place.new.into (c.in_ok-read_place.ensures.block t tells) (omega arith)));
     }
 
 pub returns-in-Err-clause-failed : goal.returns-in-Err-clause-failed
@@ -72,3 +73,15 @@ returns-in_err-read_place-clause-calls g c =
 pub returns-in-Err-clause-calls : goal.returns-in-Err-clause-calls
 returns-in-Err-clause-calls g c =
     calls_then (ReadsLog c.args.disk) c.loop-at.invariant.calls (log_calls (let few = c.requires.few in let below = c.loop-at-test.true in let from = c.from.ensures in omega arith) c.read_place.ensures.calls)
+
+pub returns-in_err-read_place-clause-few : goal.returns-in_err-read_place-clause-few
+returns-in_err-read_place-clause-few g c = (let few = c.requires.few in let below = c.loop-at-test.true in let from = c.from.ensures in most_then c.loop-at.at 1 96 (omega arith) c.loop-at.invariant.few c.read_place.ensures.few)
+
+pub returns-in-Err-clause-few : goal.returns-in-Err-clause-few
+returns-in-Err-clause-few g c = (let few = c.requires.few in let below = c.loop-at-test.true in let from = c.from.ensures in most_then c.loop-at.at 1 96 (omega arith) c.loop-at.invariant.few c.read_place.ensures.few)
+
+pub returns-clause-few : goal.returns-clause-few
+returns-clause-few g c =
+    let few = c.requires.few in
+    let end = c.loop-at.auto.at-end in
+    most_fits c.loop-at.at 96 (omega arith) c.loop-at.invariant.few

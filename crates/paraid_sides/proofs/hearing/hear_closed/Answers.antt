@@ -4,7 +4,7 @@ use Rattle.paraid_base.proofs.XorLemmas.{same_block}
 use Rattle.paraid_rack.specs.Disks.{Disks, IsPresent, is_present}
 use Rattle.paraid_rack.specs.Slots.{Slot}
 use Rattle.paraid_rack.specs.Trail.{Trail, now}
-use Rattle.paraid_image.specs.Sides.{is_open, stored}
+use Rattle.paraid_image.specs.Sides.{is_open, stored_block}
 use Rattle.paraid_sides.proofs.HeardLemmas.{closed_bad, closed_formed}
 use Rattle.paraid_sides.proofs.UnchangedLemmas.{unchanged_now}
 use Rattle.paraid_sides.proofs.FailedLemmas.{log_calls}
@@ -16,10 +16,10 @@ here : (g : Over) (c : In_ok-read_place g) (t : Trail) → g.R.Rack.told c.read_
 here g c t tells =
     ap is_present ((g.met.R.Rack.agrees _ t tells).power c.args.disk ∙ ap (λ (s : Slot). s.power) (c.in_ok-read_place.ensures.same c.args.disk) ∙ c.requires.spinning)
 
-shut : (g : Over) (c : In_ok-read_place g) (t : Trail) → g.R.Rack.told c.read_place.new.rack ≡ Some t → is_open (stored (now t) c.args.disk 0) ≡ false
+shut : (g : Over) (c : In_ok-read_place g) (t : Trail) → g.R.Rack.told c.read_place.new.rack ≡ Some t → is_open (stored_block (now t) c.args.disk 0) ≡ false
 shut g c t tells =
     let u = unchanged_now c.in_ok-read_place.ensures.unchanged t tells in
-    ap (λ (s : Disks). is_open (stored s c.args.disk 0)) u.2 ∙ c.requires.shut u.0 u.1
+    ap (λ (s : Disks). is_open (stored_block s c.args.disk 0)) u.2 ∙ c.requires.shut u.0 u.1
 
 pub returns-in-Some-clause-heard : goal.returns-in-Some-clause-heard
 returns-in-Some-clause-heard g c t tells =

@@ -3,12 +3,12 @@ use Rattle.paraid_rack.specs.Disks.{Disks, IsPresent, is_present}
 use Rattle.paraid_rack.specs.Slots.{Slot}
 use Rattle.paraid_rack.specs.Trail.{Trail, now}
 use Rattle.paraid_record.specs.Targets.{targets_of}
-use Rattle.paraid_sides.specs.Heard.{IsUnchanged}
-use Rattle.paraid_image.specs.Sides.{is_open, stored}
+use Rattle.paraid_sides.specs.HeardSides.{IsUnchanged}
+use Rattle.paraid_image.specs.Sides.{is_open, stored_block}
 use Rattle.paraid_sides.proofs.HeardLemmas.{open_bad_list, open_bad_meta, open_formed}
 use Rattle.paraid_sides.proofs.UnchangedLemmas.{carried, if_any, losing_then, unchanged_now, unchanged_then}
-use Rattle.paraid_sides.specs.Heard.{ReadsLog}
-use Rattle.paraid_sides.proofs.FailedLemmas.{calls_then, failed_after, log_calls}
+use Rattle.paraid_sides.specs.HeardSides.{ReadsLog}
+use Rattle.paraid_sides.proofs.FailedLemmas.{calls_then, failed_after, log_calls, most_fits, most_then}
 use Rattle.paraid_sides.proofs.hearing.hear_open.Given.{Over}
 use Rattle.paraid_sides.proofs.hearing.hear_open.Goals as goal
 use Rattle.paraid_sides.proofs.hearing.hear_open.Goals.{In_ok-read_place-2}
@@ -21,12 +21,12 @@ here g c t tells =
     ap is_present ((g.met.R.Rack.agrees _ t tells).power c.args.disk
     ∙ ap (λ (s : Slot). s.power) (c.in_ok-read_place-2.ensures.same c.args.disk ∙ c.in_ok-read_place.ensures.same c.args.disk) ∙ c.requires.spinning)
 
-opened : (g : Over) (c : In_ok-read_place-2 g) (t : Trail) → g.R.Rack.told c.read_place-2.new.rack ≡ Some t → is_open (stored (now t) c.args.disk 0) ≡ true
+opened : (g : Over) (c : In_ok-read_place-2 g) (t : Trail) → g.R.Rack.told c.read_place-2.new.rack ≡ Some t → is_open (stored_block (now t) c.args.disk 0) ≡ true
 opened g c t tells =
     let u = unchanged_now (both g c) t tells in
-    ap (λ (s : Disks). is_open (stored s c.args.disk 0)) u.2 ∙ c.requires.opened u.0 u.1
+    ap (λ (s : Disks). is_open (stored_block s c.args.disk 0)) u.2 ∙ c.requires.opened u.0 u.1
 
-first : (g : Over) (c : In_ok-read_place-2 g) (t : Trail) → g.R.Rack.told c.read_place-2.new.rack ≡ Some t → c.read_place.new.into ≡ stored (now t) c.args.disk 2
+first : (g : Over) (c : In_ok-read_place-2 g) (t : Trail) → g.R.Rack.told c.read_place-2.new.rack ≡ Some t → c.read_place.new.into ≡ stored_block (now t) c.args.disk 2
 first g c t tells = carried c.read_place.new.into c.args.disk 2 c.in_ok-read_place-2.ensures.unchanged c.in_ok-read_place.ensures.block t tells
 
 pub returns-in_err-read_place-2-clause-lost : goal.returns-in_err-read_place-2-clause-lost
@@ -64,9 +64,9 @@ returns-clause-heard g c t tells =
     let at = (goal.at.returns-clause-heard g c).In_ok-read_place-2 in
     let u = unchanged_now c.in_ok-hear_body.ensures.unchanged t tells in
     let present = ap (λ (s : Disks). is_present (s.power c.args.disk)) u.2 ∙ here g at u.0 u.1 in
-    let gate = ap (λ (s : Disks). is_open (stored s c.args.disk 0)) u.2 ∙ opened g at u.0 u.1 in
+    let gate = ap (λ (s : Disks). is_open (stored_block s c.args.disk 0)) u.2 ∙ opened g at u.0 u.1 in
     open_formed (now t) c.args.disk present c.read_place.new.into c.read_place-2.new.into c.in-Some.meta (targets_of c.in-Some-read_targets.targets) c.hear_body.new.batch gate
-    (first g at u.0 u.1 ∙ ap (λ (s : Disks). stored s c.args.disk 2) (sym u.2)) c.in-Some.ensures.some
+    (first g at u.0 u.1 ∙ ap (λ (s : Disks). stored_block s c.args.disk 2) (sym u.2)) c.in-Some.ensures.some
     (carried c.read_place-2.new.into c.args.disk 3 c.in_ok-hear_body.ensures.unchanged c.in_ok-read_place-2.ensures.block t tells) c.in-Some-read_targets.ensures.some
     c.in_ok-hear_body.ensures.named (c.in_ok-hear_body.ensures.logged t tells)
 
@@ -101,3 +101,21 @@ returns-in_err-read_place-2-clause-failed g c =
 pub returns-in_err-hear_body-clause-failed : goal.returns-in_err-hear_body-clause-failed
 returns-in_err-hear_body-clause-failed g c =
     if_any _ (failed_after (λ d. c.in_ok-read_place-2.ensures.same d ∙ c.in_ok-read_place.ensures.same d) c.in_err-hear_body.ensures.failed)
+
+pub returns-in_err-read_place-clause-few : goal.returns-in_err-read_place-clause-few
+returns-in_err-read_place-clause-few g c = most_fits 1 98 (omega arith) c.read_place.ensures.few
+
+pub returns-in_err-read_place-2-clause-few : goal.returns-in_err-read_place-2-clause-few
+returns-in_err-read_place-2-clause-few g c = most_then 1 1 98 (omega arith) c.read_place.ensures.few c.read_place-2.ensures.few
+
+pub returns-in_default-clause-few : goal.returns-in_default-clause-few
+returns-in_default-clause-few g c = most_then 1 1 98 (omega arith) c.read_place.ensures.few c.read_place-2.ensures.few
+
+pub returns-in_default-read_targets-clause-few : goal.returns-in_default-read_targets-clause-few
+returns-in_default-read_targets-clause-few g c = most_then 1 1 98 (omega arith) c.read_place.ensures.few c.read_place-2.ensures.few
+
+pub returns-in_err-hear_body-clause-few : goal.returns-in_err-hear_body-clause-few
+returns-in_err-hear_body-clause-few g c = most_then 2 96 98 (omega arith) (most_then 1 1 2 (omega arith) c.read_place.ensures.few c.read_place-2.ensures.few) c.hear_body.ensures.few
+
+pub returns-clause-few : goal.returns-clause-few
+returns-clause-few g c = most_then 2 96 98 (omega arith) (most_then 1 1 2 (omega arith) c.read_place.ensures.few c.read_place-2.ensures.few) c.hear_body.ensures.few

@@ -3,9 +3,9 @@ use Rattle.std.proofs.Common.{refl, sym, ◌∙◌, subst, arith, inl, inr}
 use Rattle.paraid_base.specs.History.{History}
 use Rattle.paraid_rack.specs.Disks.{Disks, IsImage, IsPresent, lose}
 use Rattle.paraid_image.specs.HeldAt.{IsHeld}
-use Rattle.paraid_image.specs.Loss.{IsLoss}
+use Rattle.paraid_image.specs.LostDisk.{IsLoss}
 use Rattle.paraid_image.specs.Out.{IsWeak}
-use Rattle.paraid_image.proofs.LossLemmas.{IsHeld-lost}
+use Rattle.paraid_image.proofs.FailedCallLemmas.{IsHeld-lost}
 use Rattle.paraid_sides.proofs.law.reads_leave_what_is_held.Goals as goal
 
 lost_at : (slots : ℕ) (s t : Disks) (h : History) (lo : ℕ) (was down : Option ℕ) (d : ℕ) → d < 2 → t ≡ lose d s → IsPresent s d → down ≡ Some d

@@ -3,7 +3,7 @@ use Rattle.paraid_rack.specs.Disks.{is_present}
 use Rattle.paraid_rack.specs.Trail.{now}
 use Rattle.paraid_sides.proofs.UnchangedLemmas.{err_losing, ok_block, ok_unchanged, stored_past}
 use Rattle.paraid_rack.proofs.TrailsLemmas.{Ran-none}
-use Rattle.paraid_sides.proofs.FailedLemmas.{read_calls, read_failed}
+use Rattle.paraid_sides.proofs.FailedLemmas.{most_none, most_read, read_calls, read_failed}
 use Rattle.paraid_sides.proofs.reads.read_place.Goals as goal
 
 pub returns-then-place-size-clause-block : goal.returns-then-place-size-clause-block
@@ -39,3 +39,9 @@ returns-clause-failed g c =
 pub returns-clause-calls : goal.returns-clause-calls
 returns-clause-calls g c =
     read_calls (λ s is. (g.met.R.Rack.agrees _ s is).power c.args.disk ∙ c.requires.spinning) c.read.ensures.told
+
+pub returns-then-place-size-clause-few : goal.returns-then-place-size-clause-few
+returns-then-place-size-clause-few g c = most_none 1 _
+
+pub returns-clause-few : goal.returns-clause-few
+returns-clause-few g c = most_read c.read.ensures.told

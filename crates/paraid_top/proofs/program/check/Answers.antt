@@ -1,4 +1,4 @@
-use Rattle.paraid_top.specs.Ends.Mounts.{mounted, refused}
+use Rattle.paraid_top.specs.Ends.MountsAndThen.{mounted, refused}
 use Rattle.paraid_top.proofs.program.check.Goals as goal
 
 pub returns-in-Err-clause-run : goal.returns-in-Err-clause-run

@@ -1,4 +1,4 @@
-use Rattle.paraid_top.specs.Ends.Mounts.{mounted, refused}
+use Rattle.paraid_top.specs.Ends.MountsAndThen.{mounted, refused}
 use Rattle.paraid_top.proofs.EndLemmas.{headline_over}
 use Rattle.paraid_top.proofs.program.run.Goals as goal
 

@@ -1,4 +1,4 @@
-use Rattle.paraid_top.specs.Ends.Mounts.{mounted, refused}
+use Rattle.paraid_top.specs.Ends.MountsAndThen.{mounted, refused}
 use Rattle.paraid_top.proofs.EndLemmas.{state_over}
 use Rattle.paraid_top.proofs.program.state.Goals as goal
 

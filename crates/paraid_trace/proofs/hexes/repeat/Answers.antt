@@ -1,7 +1,7 @@
 use Rattle.std.proofs.Common.{arith, ap, length, take, ◌%◌, ◌<◌, ◌≡◌, ◌∙◌, sym}
 use Rattle.std.proofs.lemmas.List.{get_or-take, length-take-le}
 use Rattle.std.proofs.Math.Nat.{mod-lt, mod_self}
-use Rattle.paraid_trace.proofs.RepeatsLemmas.{repeated-bytes}
+use Rattle.paraid_trace.proofs.RepeatsLemmas.{repeating_block-bytes}
 use Rattle.paraid_trace.proofs.RepeatSteps.{doubled, first_turn, turned}
 use Rattle.paraid_trace.proofs.hexes.repeat.Goals as goal
 
@@ -44,7 +44,7 @@ returns c =
     let some = c.requires.some in
     let past = c.loop-done-test.false in
     let size : length pattern ≡ c.args.length = length-take-le c.args.length bytes (omega (arith, whole, within)) in
-    repeated-bytes pattern c.loop-done.bytes c.loop-done.invariant.whole (λ k lt.
+    repeating_block-bytes pattern c.loop-done.bytes c.loop-done.invariant.whole (λ k lt.
     let each = c.loop-done.invariant.each k (omega (arith, lt, past)) in
     let near : k % length pattern < length pattern = mod-lt k (omega (arith, size, some)) in
     let there = get_or-take c.args.length bytes (k % length pattern) 0 (omega (arith, near, size)) in

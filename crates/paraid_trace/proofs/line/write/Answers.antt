@@ -1,5 +1,5 @@
 use Rattle.std.proofs.Common.{◌+◌, ◌<◌, ◌≤◌, ◌∙◌, ap, arith, drop, length, sym}
-use Rattle.paraid_trace.specs.Lines.{group_of, write_of}
+use Rattle.paraid_trace.specs.LineEvents.{group_of, write_of}
 use Rattle.paraid_trace.proofs.GroupSteps.{first_none, midway_end, midway_first, midway_full, midway_more, midway_none, room_left, to_end}
 use Rattle.std.proofs.lemmas.List.{length-drop}
 use Rattle.paraid_trace.proofs.line.write.Goals as goal

@@ -1,76 +1,77 @@
-use Rattle.std.specs.Prelude.{◌≡◌}
-use Rattle.paraid_rack.specs.Told.{Ran, Runs}
-use Rattle.paraid_txn.specs.Stages.{Close, IsSpelled, Job, Mark, Later, named}
-use Rattle.paraid_txn.proofs.PartsLemmas.{andthen, close_whole, ends, upto}
-use Rattle.paraid_txn.proofs.StepsLemmas.{mark_end}
-use Rattle.paraid_txn.proofs.CommitPartLemmas.{CommitPart_log, CommitPart_raised, CommitPart_then}
-use Rattle.paraid_txn.proofs.commit.finish.Given.{Over}
+use Rattle.paraid_txn.proofs.StagesLemmas.{mark_end}
+use Rattle.paraid_txn.proofs.CommitPartLemmas.{CommitPart_log, CommitPart_raised, CommitPart_then, still_synced_then}
+use Rattle.paraid_txn.proofs.CrashSpecificationLemmas.{crash_from, crash_raised, crash_then}
+use Rattle.paraid_txn.proofs.PutSyncedLemmas.{close_crash, mark_crash}
 use Rattle.paraid_txn.proofs.commit.finish.Goals as goal
-use Rattle.paraid_txn.proofs.commit.finish.Goals.{In_ok-mark-2}
 
--- with the meta on both log disks
-marked : (g : Over) (c : In_ok-mark-2 g) (j : Job) → IsSpelled j → named j ≡ c.args.skip → j.spelled ≡ c.args.meta.now
-    → Ran (g.R.Rack.told c.args.rack.now) (g.R.Rack.told c.mark-2.new.rack) (Runs (Later j) (Mark j 0) (Close j 0))
-marked g c j good is spelled =
-    upto (mark_end j good) (andthen (c.in_ok-mark.ensures.done j good is spelled) (c.in_ok-mark-2.ensures.done j good is spelled))
+pub returns-in_err-put_synced-clause-crash : goal.returns-in_err-put_synced-clause-crash
+returns-in_err-put_synced-clause-crash g c j good is spelled =
+    crash_raised _ c.from_residual.ensures.1
+    (mark_crash g.met.R.Rack.agrees j is good 0 spelled c.in_err-put_synced.ensures.does)
 
-pub returns-in_err-mark-2-clause-moments : goal.returns-in_err-mark-2-clause-moments
-returns-in_err-mark-2-clause-moments g c j good is spelled =
-    andthen (c.in_ok-mark.ensures.done j good is spelled) (c.mark-2.ensures.moments j good is spelled)
+pub returns-in_err-put_synced-2-clause-crash : goal.returns-in_err-put_synced-2-clause-crash
+returns-in_err-put_synced-2-clause-crash g c j good is spelled =
+    crash_raised _ c.from_residual-in_err-put_synced-2.ensures.1
+    (crash_then (mark_crash g.met.R.Rack.agrees j is good 0 spelled c.in_ok-put_synced.ensures.does) (mark_crash g.met.R.Rack.agrees j is good 1 spelled c.in_err-put_synced-2.ensures.does))
 
-pub returns-in_err-close_gate-clause-moments : goal.returns-in_err-close_gate-clause-moments
-returns-in_err-close_gate-clause-moments g c j good is spelled =
-    let at = goal.at.returns-in_err-close_gate-clause-moments g c in
-    andthen (marked g at.In_ok-mark-2 j good is spelled) (c.close_gate.ensures.moments j good is)
+pub returns-in_err-put_synced-3-clause-crash : goal.returns-in_err-put_synced-3-clause-crash
+returns-in_err-put_synced-3-clause-crash g c j good is spelled =
+    crash_raised _ c.from_residual-in_err-put_synced-3.ensures.1
+    (crash_then (mark_crash g.met.R.Rack.agrees j is good 0 spelled c.in_ok-put_synced.ensures.does) (crash_then (mark_crash g.met.R.Rack.agrees j is good 1 spelled c.in_ok-put_synced-2.ensures.does)
+    (crash_from (mark_end j good) (close_crash g.met.R.Rack.agrees j is good 0 c.gate-closed.ensures c.in_err-put_synced-3.ensures.does))))
 
-pub returns-in_err-close_gate-2-clause-moments : goal.returns-in_err-close_gate-2-clause-moments
-returns-in_err-close_gate-2-clause-moments g c j good is spelled =
-    let at = goal.at.returns-in_err-close_gate-2-clause-moments g c in
-    andthen (marked g at.In_ok-mark-2 j good is spelled) (andthen (c.in_ok-close_gate.ensures.done j good is) (c.close_gate-2.ensures.moments j good is))
+pub returns-in_err-put_synced-4-clause-crash : goal.returns-in_err-put_synced-4-clause-crash
+returns-in_err-put_synced-4-clause-crash g c j good is spelled =
+    crash_raised _ c.from_residual-in_err-put_synced-4.ensures.1
+    (crash_then (mark_crash g.met.R.Rack.agrees j is good 0 spelled c.in_ok-put_synced.ensures.does) (crash_then (mark_crash g.met.R.Rack.agrees j is good 1 spelled c.in_ok-put_synced-2.ensures.does)
+    (crash_from (mark_end j good) (crash_then (close_crash g.met.R.Rack.agrees j is good 0 c.gate-closed.ensures c.in_ok-put_synced-3.ensures.does) (close_crash g.met.R.Rack.agrees j is good 1 c.gate-closed.ensures c.in_err-put_synced-4.ensures.does)))))
 
-pub returns-clause-moments : goal.returns-clause-moments
-returns-clause-moments g c j good is spelled =
-    let at = goal.at.returns-clause-moments g c in
-    ends (close_whole j good 2) (andthen (marked g at.In_ok-mark-2 j good is spelled)
-    (andthen (c.in_ok-close_gate.ensures.done j good is) (c.in_ok-close_gate-2.ensures.done j good is)))
+pub returns-clause-crash : goal.returns-clause-crash
+returns-clause-crash g c j good is spelled =
+    crash_then (mark_crash g.met.R.Rack.agrees j is good 0 spelled c.in_ok-put_synced.ensures.does) (crash_then (mark_crash g.met.R.Rack.agrees j is good 1 spelled c.in_ok-put_synced-2.ensures.does)
+    (crash_from (mark_end j good) (crash_then (close_crash g.met.R.Rack.agrees j is good 0 c.gate-closed.ensures c.in_ok-put_synced-3.ensures.does) (close_crash g.met.R.Rack.agrees j is good 1 c.gate-closed.ensures c.in_ok-put_synced-4.ensures.does))))
 
-pub returns-clause-done : goal.returns-clause-done
-returns-clause-done g c j good is spelled =
-    let at = goal.at.returns-clause-done g c in
-    andthen (marked g at.In_ok-mark-2 j good is spelled) (andthen (c.in_ok-close_gate.ensures.done j good is) (c.in_ok-close_gate-2.ensures.done j good is))
+pub returns-clause-still_synced : goal.returns-clause-still_synced
+returns-clause-still_synced g c =
+    let marked = CommitPart_then c.in_ok-put_synced.ensures.part c.in_ok-put_synced-2.ensures.part in
+    let one_closed = CommitPart_then marked c.in_ok-put_synced-3.ensures.part in
+    still_synced_then one_closed c.in_ok-put_synced-4.ensures.part
+    (still_synced_then marked c.in_ok-put_synced-3.ensures.part
+    (still_synced_then c.in_ok-put_synced.ensures.part c.in_ok-put_synced-2.ensures.part c.in_ok-put_synced.ensures.still_synced c.in_ok-put_synced-2.ensures.still_synced)
+    c.in_ok-put_synced-3.ensures.still_synced) c.in_ok-put_synced-4.ensures.still_synced
 
-pub returns-in_err-mark-clause-part : goal.returns-in_err-mark-clause-part
-returns-in_err-mark-clause-part g c =
+pub returns-in_err-put_synced-clause-part : goal.returns-in_err-put_synced-clause-part
+returns-in_err-put_synced-clause-part g c =
     CommitPart_raised _ c.from_residual.ensures.1
-    c.in_err-mark.ensures.part
+    c.in_err-put_synced.ensures.part
 
-pub returns-in_err-mark-2-clause-part : goal.returns-in_err-mark-2-clause-part
-returns-in_err-mark-2-clause-part g c =
-    CommitPart_raised _ c.from_residual-in_err-mark-2.ensures.1
-    (CommitPart_then c.in_ok-mark.ensures.part c.in_err-mark-2.ensures.part)
+pub returns-in_err-put_synced-2-clause-part : goal.returns-in_err-put_synced-2-clause-part
+returns-in_err-put_synced-2-clause-part g c =
+    CommitPart_raised _ c.from_residual-in_err-put_synced-2.ensures.1
+    (CommitPart_then c.in_ok-put_synced.ensures.part c.in_err-put_synced-2.ensures.part)
 
-pub returns-in_err-close_gate-clause-part : goal.returns-in_err-close_gate-clause-part
-returns-in_err-close_gate-clause-part g c =
-    CommitPart_raised _ c.from_residual-in_err-close_gate.ensures.1
-    (CommitPart_then (CommitPart_then c.in_ok-mark.ensures.part c.in_ok-mark-2.ensures.part) c.in_err-close_gate.ensures.part)
+pub returns-in_err-put_synced-3-clause-part : goal.returns-in_err-put_synced-3-clause-part
+returns-in_err-put_synced-3-clause-part g c =
+    CommitPart_raised _ c.from_residual-in_err-put_synced-3.ensures.1
+    (CommitPart_then (CommitPart_then c.in_ok-put_synced.ensures.part c.in_ok-put_synced-2.ensures.part) c.in_err-put_synced-3.ensures.part)
 
-pub returns-in_err-close_gate-2-clause-part : goal.returns-in_err-close_gate-2-clause-part
-returns-in_err-close_gate-2-clause-part g c =
-    CommitPart_raised _ c.from_residual-in_err-close_gate-2.ensures.1
-    (CommitPart_then (CommitPart_then (CommitPart_then c.in_ok-mark.ensures.part c.in_ok-mark-2.ensures.part) c.in_ok-close_gate.ensures.part) c.in_err-close_gate-2.ensures.part)
+pub returns-in_err-put_synced-4-clause-part : goal.returns-in_err-put_synced-4-clause-part
+returns-in_err-put_synced-4-clause-part g c =
+    CommitPart_raised _ c.from_residual-in_err-put_synced-4.ensures.1
+    (CommitPart_then (CommitPart_then (CommitPart_then c.in_ok-put_synced.ensures.part c.in_ok-put_synced-2.ensures.part) c.in_ok-put_synced-3.ensures.part) c.in_err-put_synced-4.ensures.part)
 
 pub returns-clause-part : goal.returns-clause-part
 returns-clause-part g c =
-    CommitPart_then (CommitPart_then (CommitPart_then c.in_ok-mark.ensures.part c.in_ok-mark-2.ensures.part) c.in_ok-close_gate.ensures.part) c.in_ok-close_gate-2.ensures.part
+    CommitPart_then (CommitPart_then (CommitPart_then c.in_ok-put_synced.ensures.part c.in_ok-put_synced-2.ensures.part) c.in_ok-put_synced-3.ensures.part) c.in_ok-put_synced-4.ensures.part
 
-pub mark-requires-2-clause-log : goal.mark-requires-2-clause-log
-mark-requires-2-clause-log g c =
-    CommitPart_log c.in_ok-mark.ensures.part c.requires.log
+pub put_synced-requires-2-clause-log : goal.put_synced-requires-2-clause-log
+put_synced-requires-2-clause-log g c =
+    CommitPart_log c.in_ok-put_synced.ensures.part c.requires.log
 
-pub close_gate-requires-clause-log : goal.close_gate-requires-clause-log
-close_gate-requires-clause-log g c =
-    CommitPart_log (CommitPart_then c.in_ok-mark.ensures.part c.in_ok-mark-2.ensures.part) c.requires.log
+pub put_synced-requires-3-clause-log : goal.put_synced-requires-3-clause-log
+put_synced-requires-3-clause-log g c =
+    CommitPart_log (CommitPart_then c.in_ok-put_synced.ensures.part c.in_ok-put_synced-2.ensures.part) c.requires.log
 
-pub close_gate-requires-2-clause-log : goal.close_gate-requires-2-clause-log
-close_gate-requires-2-clause-log g c =
-    CommitPart_log (CommitPart_then (CommitPart_then c.in_ok-mark.ensures.part c.in_ok-mark-2.ensures.part) c.in_ok-close_gate.ensures.part) c.requires.log
+pub put_synced-requires-4-clause-log : goal.put_synced-requires-4-clause-log
+put_synced-requires-4-clause-log g c =
+    CommitPart_log (CommitPart_then (CommitPart_then c.in_ok-put_synced.ensures.part c.in_ok-put_synced-2.ensures.part) c.in_ok-put_synced-3.ensures.part) c.requires.log

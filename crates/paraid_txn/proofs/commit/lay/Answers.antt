@@ -1,20 +1,21 @@
 use Rattle.std.specs.Prelude.{◌≡◌, ◌≢◌, ℕ, ◌+◌, ◌<◌, ◌≤◌, true, get_or, length, Some}
 use Rattle.std.proofs.Common.{inl, ap, arith, refl, subst, sym, ◌∙◌}
-use Rattle.paraid_base.specs.Xor.{zeroed}
-use Rattle.paraid_rack.specs.Told.{Ran, Runs}
+use Rattle.paraid_base.specs.Xor.{zero_block}
+use Rattle.paraid_rack.specs.Told.{Ran, CrashTriple}
 use Rattle.paraid_record.specs.Targets.{no_target}
-use Rattle.paraid_txn.specs.Losses.{AreDryBut, CanWrite}
-use Rattle.paraid_image.specs.Neutral.{names}
+use Rattle.paraid_txn.specs.Losses.{StaySyncedBut, CanWrite}
+use Rattle.paraid_image.specs.Neutral.{names_place}
 use Rattle.paraid_image.specs.Sides.{Batch}
-use Rattle.paraid_txn.specs.Stages.{IsSpelled, Job, LayIn, Later, body, gone}
-use Rattle.paraid_txn.specs.Staging.{blocks, names_disk}
-use Rattle.paraid_txn.proofs.PartsLemmas.{andthen, ends, lay_ran, lay_whole, nothing_ran}
+use Rattle.paraid_txn.specs.CommitStages.{IsSpelled, Job, LayIn, HoldsLate, target_block, job_gone}
+use Rattle.paraid_txn.specs.Batches.{batch_blocks, names_disk}
+use Rattle.paraid_txn.proofs.StageCallsLemmas.{andthen, ends, lay_ran, lay_whole, nothing_ran}
 use Rattle.paraid_txn.proofs.ReadyLemmas.{targets_stay_ready}
-use Rattle.paraid_txn.proofs.DownLemmas.{AreDryBut-both, AreDryBut-weaker}
+use Rattle.paraid_txn.proofs.DownLemmas.{StaySyncedBut-both, StaySyncedBut-weaker}
 use Rattle.paraid_txn.proofs.CommitPartLemmas.{CommitPart_answer, CommitPart_none, CommitPart_raised, CommitPart_then, writes_target}
 use Rattle.paraid_image.proofs.NeutralLemmas.{length-targets}
-use Rattle.paraid_txn.proofs.StagingLemmas.{names-at, names_disk-at}
+use Rattle.paraid_txn.proofs.BatchesLemmas.{names_place-at, names_disk-at}
 use Rattle.paraid_txn.proofs.TargetsLemmas.{target_at}
+use Rattle.paraid_txn.proofs.CrashSpecificationLemmas.{crash_failed, crash_ran}
 use Rattle.paraid_txn.proofs.commit.lay.Given.{Over}
 use Rattle.paraid_txn.proofs.commit.lay.Goals as goal
 use Rattle.paraid_txn.proofs.commit.lay.Goals.{After-block, After-put}
@@ -33,18 +34,18 @@ past_log g c =
     rw c.target-target.ensures (c.requires.past_log c.loop-at.at no_target (omega arith))
 
 -- it is a target of the batch
-named : (g : Over) (c : After-put g) → let t = c.target-target.result in names c.args.batch.now t.disk t.place ≡ true
-named g c = names-at c.args.batch.now c.loop-at.at c.target-target.result (omega arith) (sym c.target-target.ensures)
+named : (g : Over) (c : After-put g) → let t = c.target-target.result in names_place c.args.batch.now t.disk t.place ≡ true
+named g c = names_place-at c.args.batch.now c.loop-at.at c.target-target.result (omega arith) (sym c.target-target.ensures)
 
 -- a disk that is wet after it is one that has targets
-wet : (g : Over) (c : After-put g) → AreDryBut (λ d. (names_disk c.args.batch.now d ≡ true) × (c.args.skip ≢ Some d))
+wet : (g : Over) (c : After-put g) → StaySyncedBut (λ d. (names_disk c.args.batch.now d ≡ true) × (c.args.skip ≢ Some d))
     (g.R.Rack.slot c.args.rack.now) (g.R.Rack.slot c.put.new.rack)
 wet g c =
     let may : ℕ → Type 0 = λ d. (names_disk c.args.batch.now d ≡ true) × (c.args.skip ≢ Some d) in
     let on = names_disk-at c.args.batch.now c.loop-at.at (omega arith) in
     let this : (d : ℕ) → (d ≡ c.target-target.result.disk) × (c.args.skip ≢ Some d) → may d = λ d is.
     (rw (is.0, c.target-target.ensures) on, is.1) in
-    AreDryBut-both may _ _ _ _ (g.R.Rack.slot c.loop-at.rack) _ c.loop-at.invariant.part.lasts c.put.ensures.part.lasts c.loop-at.invariant.dry (AreDryBut-weaker may _ (g.R.Rack.slot c.loop-at.rack) (g.R.Rack.slot c.put.new.rack) this c.put.ensures.dry)
+    StaySyncedBut-both may _ _ _ _ (g.R.Rack.slot c.loop-at.rack) _ c.loop-at.invariant.part.lasts c.put.ensures.part.lasts c.loop-at.invariant.still_synced (StaySyncedBut-weaker may _ (g.R.Rack.slot c.loop-at.rack) (g.R.Rack.slot c.put.new.rack) this c.put.ensures.still_synced)
 
 pub put-requires-clause-exists : goal.put-requires-clause-exists
 put-requires-clause-exists g c = (ready g c).0
@@ -53,15 +54,15 @@ pub put-requires-clause-can : goal.put-requires-clause-can
 put-requires-clause-can g c not = (ready g c).1 not
 
 -- one more target
-next : (g : Over) (c : After-put g) (j : Job) → IsSpelled j → gone j ≡ c.args.skip → j.batch ≡ c.args.batch.now
-    → Ran (g.R.Rack.told c.args.rack.now) (g.R.Rack.told c.put.new.rack) (Runs (Later j) (LayIn j 0) (LayIn j (c.loop-at.at + 1)))
+next : (g : Over) (c : After-put g) (j : Job) → IsSpelled j → job_gone j ≡ c.args.skip → j.batch ≡ c.args.batch.now
+    → Ran (g.R.Rack.told c.args.rack.now) (g.R.Rack.told c.put.new.rack) (CrashTriple (HoldsLate j) (LayIn j 0) (LayIn j (c.loop-at.at + 1)))
 next g c j good is same =
     let n = c.loop-at.at in
     let t = c.target-target.result in
     let long : length j.batch ≡ length c.args.batch.now = ap length same in
     let lt : n < length j.batch = omega arith in
-    let held : get_or (blocks c.args.batch.now) n zeroed ≡ c.block.result.now = cc in
-    let block : body j n ≡ c.block.result.now = ap (λ (batch : Batch). get_or (blocks batch) n zeroed) same ∙ held in
+    let held : get_or (batch_blocks c.args.batch.now) n zero_block ≡ c.block.result.now = cc in
+    let block : target_block j n ≡ c.block.result.now = ap (λ (batch : Batch). get_or (batch_blocks batch) n zero_block) same ∙ held in
     let there : target_at c.args.batch.now n ≡ t = cc in
     let target : target_at j.batch n ≡ t = ap (λ (batch : Batch). target_at batch n) same ∙ there in
     andthen (c.loop-at.invariant.ran j good is same)
@@ -72,7 +73,7 @@ loop-at-init g c = record {
   slots = refl;
   ready = c.requires.ready;
   part = CommitPart_none _ _ _ _ tt;
-  dry = λ d here wet. inl wet;
+  still_synced = λ d here wet. inl wet;
   ran = λ j good is same. nothing_ran (lay_whole j good 0);
 }
 
@@ -81,25 +82,24 @@ loop-at-preserved g c = record {
   slots = c.put.ensures.slots ∙ c.loop-at.invariant.slots;
   ready = targets_stay_ready _ _ _ _ c.put.ensures.part.lasts c.put.ensures.slots c.loop-at.invariant.ready;
   part = CommitPart_answer tt (CommitPart_then c.loop-at.invariant.part (writes_target c.args.batch.now _ (named g (goal.at.loop-at-preserved g c).After-put) c.in_ok-put.ensures.part));
-  dry = wet g (goal.at.loop-at-preserved g c).After-put;
+  still_synced = wet g (goal.at.loop-at-preserved g c).After-put;
   ran = next g (goal.at.loop-at-preserved g c).After-put;
 }
 
-pub returns-in_err-put-clause-dry : goal.returns-in_err-put-clause-dry
-returns-in_err-put-clause-dry g c = wet g (goal.at.returns-in_err-put-clause-dry g c).After-put
+pub returns-in_err-put-clause-still_synced : goal.returns-in_err-put-clause-still_synced
+returns-in_err-put-clause-still_synced g c = wet g (goal.at.returns-in_err-put-clause-still_synced g c).After-put
 
-pub returns-in_err-put-clause-moments : goal.returns-in_err-put-clause-moments
-returns-in_err-put-clause-moments g c j good is same =
-    ends (lay_whole j good (c.loop-at.at + 1)) (next g (goal.at.returns-in_err-put-clause-moments g c).After-put j good is same)
+pub returns-in_err-put-clause-crash : goal.returns-in_err-put-clause-crash
+returns-in_err-put-clause-crash g c j good is same =
+    crash_failed _ _ c.from_residual.ensures.1
+    (ends (lay_whole j good (c.loop-at.at + 1)) (next g (goal.at.returns-in_err-put-clause-crash g c).After-put j good is same))
 
-pub returns-clause-moments : goal.returns-clause-moments
-returns-clause-moments g c j good is same = ends (lay_whole j good c.loop-at.at) (c.loop-at.invariant.ran j good is same)
-
-pub returns-clause-done : goal.returns-clause-done
-returns-clause-done g c j good is same =
+pub returns-clause-crash : goal.returns-clause-crash
+returns-clause-crash g c j good is same =
     let all : c.loop-at.at ≡ length c.args.batch.now = omega arith in
-    subst (λ (n : ℕ). Ran (g.R.Rack.told c.args.rack.now) (g.R.Rack.told c.loop-at.rack) (Runs (Later j) (LayIn j 0) (LayIn j n)))
-    all (c.loop-at.invariant.ran j good is same)
+    crash_ran (lay_whole j good (length c.args.batch.now))
+    (subst (λ (n : ℕ). Ran (g.R.Rack.told c.args.rack.now) (g.R.Rack.told c.loop-at.rack) (CrashTriple (HoldsLate j) (LayIn j 0) (LayIn j n)))
+    all (c.loop-at.invariant.ran j good is same))
 
 pub returns-in_err-put-clause-part : goal.returns-in_err-put-clause-part
 returns-in_err-put-clause-part g c =

@@ -1,11 +1,12 @@
 use Rattle.std.proofs.Common.{arith, refl, sym}
 use Rattle.paraid_image.proofs.NeutralLemmas.{length-targets}
 use Rattle.paraid_rack.specs.Disks.{Disks}
-use Rattle.paraid_rack.specs.Told.{Ran, Runs}
-use Rattle.paraid_txn.specs.Stages.{IsSpelled, LayIn, Log, Mark, Whole, job}
-use Rattle.paraid_txn.proofs.PartsLemmas.{andthen, ends, milder}
+use Rattle.paraid_rack.specs.Told.{Ran, CrashTriple}
+use Rattle.paraid_txn.specs.CommitStages.{IsSpelled, LayIn, LogStage, MarkStage, HoldsWhole, job}
+use Rattle.paraid_txn.proofs.StageCallsLemmas.{andthen, milder}
 use Rattle.paraid_txn.proofs.WholeLemmas.{earlier_whole, later_whole}
 use Rattle.paraid_txn.proofs.CommitPartLemmas.{CommitPart_logs, CommitPart_raised, CommitPart_targets, CommitPart_then}
+use Rattle.paraid_txn.proofs.CrashSpecificationLemmas.{crash_after, crash_milder, crash_raised, crash_then}
 use Rattle.paraid_txn.proofs.commit.run.Given.{Over}
 use Rattle.paraid_txn.proofs.commit.run.Goals.{In_ok-open_gates, In_ok-lay_all}
 use Rattle.paraid_txn.proofs.ReadyLemmas.{log_stays_ready}
@@ -18,78 +19,76 @@ pub lay_all-requires-clause-few : goal.lay_all-requires-clause-few
 lay_all-requires-clause-few g c = let n = length-targets c.args.batch.now in let few = c.requires.in_range.few in omega arith
 
 pub finish-requires-clause-log : goal.finish-requires-clause-log
-finish-requires-clause-log g c = log_stays_ready c.lay_all.ensures.part.lasts (log_stays_ready c.open_gates.ensures.part.lasts (log_stays_ready c.write_logs.ensures.part.lasts (rw c.named_out-named.ensures c.requires.log)))
+finish-requires-clause-log g c = log_stays_ready c.lay_all.ensures.part.lasts (log_stays_ready c.open_gates.ensures.part.lasts (log_stays_ready c.write_logs.ensures.part.lasts (rw c.named-named.ensures c.requires.log)))
 
 pub open_gates-requires-clause-log : goal.open_gates-requires-clause-log
-open_gates-requires-clause-log g c = log_stays_ready c.write_logs.ensures.part.lasts (rw c.named_out-named.ensures c.requires.log)
+open_gates-requires-clause-log g c = log_stays_ready c.write_logs.ensures.part.lasts (rw c.named-named.ensures c.requires.log)
 
 -- with all gates open
 logged : (g : Over) (c : In_ok-open_gates g) (start : Disks) → IsSpelled (job start c.args.meta.now c.args.batch.now c.args.spelled.now c.args.list.now c.args.first)
     → let j = job start c.args.meta.now c.args.batch.now c.args.spelled.now c.args.list.now c.args.first in
-    Ran (g.R.Rack.told c.args.rack.now) (g.R.Rack.told c.open_gates.new.rack) (Runs (Whole j) (Log j 0) (LayIn j 0))
+    Ran (g.R.Rack.told c.args.rack.now) (g.R.Rack.told c.open_gates.new.rack) (CrashTriple (HoldsWhole j) (LogStage j 0) (LayIn j 0))
 logged g c start good =
-    let name = sym c.named_out-named.ensures in
-    milder (earlier_whole _) (andthen (c.in_ok-write_logs.ensures.done _ good name refl refl refl) (c.in_ok-open_gates.ensures.done _ good name refl))
+    let name = sym c.named-named.ensures in
+    milder (earlier_whole _) (andthen (c.in_ok-write_logs.ensures.crash _ good name refl refl refl).done (c.in_ok-open_gates.ensures.crash _ good name refl).done)
 
 -- and the targets laid
 laid : (g : Over) (c : In_ok-lay_all g) (start : Disks) → IsSpelled (job start c.args.meta.now c.args.batch.now c.args.spelled.now c.args.list.now c.args.first)
     → let j = job start c.args.meta.now c.args.batch.now c.args.spelled.now c.args.list.now c.args.first in
-    Ran (g.R.Rack.told c.args.rack.now) (g.R.Rack.told c.lay_all.new.rack) (Runs (Whole j) (Log j 0) (Mark j 0))
+    Ran (g.R.Rack.told c.args.rack.now) (g.R.Rack.told c.lay_all.new.rack) (CrashTriple (HoldsWhole j) (LogStage j 0) (MarkStage j 0))
 laid g c start good =
-    let name = sym c.named_out-named.ensures in
-    andthen (milder (earlier_whole _) (andthen (c.in_ok-write_logs.ensures.done _ good name refl refl refl) (c.in_ok-open_gates.ensures.done _ good name refl)))
-    (milder (later_whole _) (c.in_ok-lay_all.ensures.done _ good (sym c.gone_out.ensures) refl))
+    let name = sym c.named-named.ensures in
+    andthen (milder (earlier_whole _) (andthen (c.in_ok-write_logs.ensures.crash _ good name refl refl refl).done (c.in_ok-open_gates.ensures.crash _ good name refl).done))
+    (milder (later_whole _) (c.in_ok-lay_all.ensures.crash _ good (sym c.gone.ensures) refl).done)
 
-pub returns-in_err-write_logs-clause-moments : goal.returns-in_err-write_logs-clause-moments
-returns-in_err-write_logs-clause-moments g c start good =
-    let name = sym c.named_out-named.ensures in
-    ends (earlier_whole _) (milder (earlier_whole _) (c.write_logs.ensures.moments _ good name refl refl refl))
+pub returns-in_err-write_logs-clause-crash : goal.returns-in_err-write_logs-clause-crash
+returns-in_err-write_logs-clause-crash g c start good =
+    let name = sym c.named-named.ensures in
+    crash_raised _ c.from_residual.ensures.1 (crash_milder (earlier_whole _) (c.in_err-write_logs.ensures.crash _ good name refl refl refl))
 
-pub returns-in_err-open_gates-clause-moments : goal.returns-in_err-open_gates-clause-moments
-returns-in_err-open_gates-clause-moments g c start good =
-    let name = sym c.named_out-named.ensures in
-    ends (earlier_whole _) (milder (earlier_whole _) (andthen (c.in_ok-write_logs.ensures.done _ good name refl refl refl) (c.open_gates.ensures.moments _ good name refl)))
+pub returns-in_err-open_gates-clause-crash : goal.returns-in_err-open_gates-clause-crash
+returns-in_err-open_gates-clause-crash g c start good =
+    let name = sym c.named-named.ensures in
+    crash_raised _ c.from_residual-in_err-open_gates.ensures.1
+    (crash_milder (earlier_whole _) (crash_then (c.in_ok-write_logs.ensures.crash _ good name refl refl refl) (c.in_err-open_gates.ensures.crash _ good name refl)))
 
-pub returns-in_err-lay_all-clause-moments : goal.returns-in_err-lay_all-clause-moments
-returns-in_err-lay_all-clause-moments g c start good =
-    let at = goal.at.returns-in_err-lay_all-clause-moments g c in
-    andthen (logged g at.In_ok-open_gates start good) (ends (later_whole _) (milder (later_whole _) (c.lay_all.ensures.moments _ good (sym c.gone_out.ensures) refl)))
+pub returns-in_err-lay_all-clause-crash : goal.returns-in_err-lay_all-clause-crash
+returns-in_err-lay_all-clause-crash g c start good =
+    let at = goal.at.returns-in_err-lay_all-clause-crash g c in
+    crash_raised _ c.from_residual-in_err-lay_all.ensures.1
+    (crash_after (logged g at.In_ok-open_gates start good) (crash_milder (later_whole _) (c.in_err-lay_all.ensures.crash _ good (sym c.gone.ensures) refl)))
 
-pub returns-in_err-finish-clause-moments : goal.returns-in_err-finish-clause-moments
-returns-in_err-finish-clause-moments g c start good =
-    let at = goal.at.returns-in_err-finish-clause-moments g c in
-    andthen (laid g at.In_ok-lay_all start good) (ends (later_whole _) (milder (later_whole _) (c.finish.ensures.moments _ good (sym c.named_out-named.ensures) refl)))
+pub returns-in_err-finish-clause-crash : goal.returns-in_err-finish-clause-crash
+returns-in_err-finish-clause-crash g c start good =
+    let at = goal.at.returns-in_err-finish-clause-crash g c in
+    crash_raised _ c.from_residual-in_err-finish.ensures.1
+    (crash_after (laid g at.In_ok-lay_all start good) (crash_milder (later_whole _) (c.in_err-finish.ensures.crash _ good (sym c.named-named.ensures) refl)))
 
-pub returns-clause-moments : goal.returns-clause-moments
-returns-clause-moments g c start good =
-    let at = goal.at.returns-clause-moments g c in
-    andthen (laid g at.In_ok-lay_all start good) (ends (later_whole _) (milder (later_whole _) (c.finish.ensures.moments _ good (sym c.named_out-named.ensures) refl)))
-
-pub returns-clause-done : goal.returns-clause-done
-returns-clause-done g c start good =
-    let at = goal.at.returns-clause-done g c in
-    andthen (laid g at.In_ok-lay_all start good) (milder (later_whole _) (c.in_ok-finish.ensures.done _ good (sym c.named_out-named.ensures) refl))
+pub returns-clause-crash : goal.returns-clause-crash
+returns-clause-crash g c start good =
+    let at = goal.at.returns-clause-crash g c in
+    crash_after (laid g at.In_ok-lay_all start good) (crash_milder (later_whole _) (c.in_ok-finish.ensures.crash _ good (sym c.named-named.ensures) refl))
 
 pub returns-in_err-write_logs-clause-part : goal.returns-in_err-write_logs-clause-part
 returns-in_err-write_logs-clause-part g c =
     CommitPart_raised _ c.from_residual.ensures.1
-    (CommitPart_logs c.args.meta.now c.args.batch.now c.named_out-named.ensures c.in_err-write_logs.ensures.part)
+    (CommitPart_logs c.args.meta.now c.args.batch.now c.named-named.ensures c.in_err-write_logs.ensures.part)
 
 pub returns-in_err-open_gates-clause-part : goal.returns-in_err-open_gates-clause-part
 returns-in_err-open_gates-clause-part g c =
     CommitPart_raised _ c.from_residual-in_err-open_gates.ensures.1
-    (CommitPart_then (CommitPart_logs c.args.meta.now c.args.batch.now c.named_out-named.ensures c.in_ok-write_logs.ensures.part) (CommitPart_logs c.args.meta.now c.args.batch.now c.named_out-named.ensures c.in_err-open_gates.ensures.part))
+    (CommitPart_then (CommitPart_logs c.args.meta.now c.args.batch.now c.named-named.ensures c.in_ok-write_logs.ensures.part) (CommitPart_logs c.args.meta.now c.args.batch.now c.named-named.ensures c.in_err-open_gates.ensures.part))
 
 pub returns-in_err-lay_all-clause-part : goal.returns-in_err-lay_all-clause-part
 returns-in_err-lay_all-clause-part g c =
     CommitPart_raised _ c.from_residual-in_err-lay_all.ensures.1
-    (CommitPart_then (CommitPart_then (CommitPart_logs c.args.meta.now c.args.batch.now c.named_out-named.ensures c.in_ok-write_logs.ensures.part) (CommitPart_logs c.args.meta.now c.args.batch.now c.named_out-named.ensures c.in_ok-open_gates.ensures.part)) (CommitPart_targets c.args.meta.now c.args.batch.now c.gone_out.ensures (λ k t lt. (c.requires.in_range.each k t lt).disk) c.in_err-lay_all.ensures.part))
+    (CommitPart_then (CommitPart_then (CommitPart_logs c.args.meta.now c.args.batch.now c.named-named.ensures c.in_ok-write_logs.ensures.part) (CommitPart_logs c.args.meta.now c.args.batch.now c.named-named.ensures c.in_ok-open_gates.ensures.part)) (CommitPart_targets c.args.meta.now c.args.batch.now c.gone.ensures (λ k t lt. (c.requires.in_range.each k t lt).disk) c.in_err-lay_all.ensures.part))
 
 pub returns-in_err-finish-clause-part : goal.returns-in_err-finish-clause-part
 returns-in_err-finish-clause-part g c =
     CommitPart_raised _ c.from_residual-in_err-finish.ensures.1
-    (CommitPart_then (CommitPart_then (CommitPart_then (CommitPart_logs c.args.meta.now c.args.batch.now c.named_out-named.ensures c.in_ok-write_logs.ensures.part) (CommitPart_logs c.args.meta.now c.args.batch.now c.named_out-named.ensures c.in_ok-open_gates.ensures.part)) (CommitPart_targets c.args.meta.now c.args.batch.now c.gone_out.ensures (λ k t lt. (c.requires.in_range.each k t lt).disk) c.in_ok-lay_all.ensures.part)) (CommitPart_logs c.args.meta.now c.args.batch.now c.named_out-named.ensures c.in_err-finish.ensures.part))
+    (CommitPart_then (CommitPart_then (CommitPart_then (CommitPart_logs c.args.meta.now c.args.batch.now c.named-named.ensures c.in_ok-write_logs.ensures.part) (CommitPart_logs c.args.meta.now c.args.batch.now c.named-named.ensures c.in_ok-open_gates.ensures.part)) (CommitPart_targets c.args.meta.now c.args.batch.now c.gone.ensures (λ k t lt. (c.requires.in_range.each k t lt).disk) c.in_ok-lay_all.ensures.part)) (CommitPart_logs c.args.meta.now c.args.batch.now c.named-named.ensures c.in_err-finish.ensures.part))
 
 pub returns-clause-part : goal.returns-clause-part
 returns-clause-part g c =
-    CommitPart_then (CommitPart_then (CommitPart_then (CommitPart_logs c.args.meta.now c.args.batch.now c.named_out-named.ensures c.in_ok-write_logs.ensures.part) (CommitPart_logs c.args.meta.now c.args.batch.now c.named_out-named.ensures c.in_ok-open_gates.ensures.part)) (CommitPart_targets c.args.meta.now c.args.batch.now c.gone_out.ensures (λ k t lt. (c.requires.in_range.each k t lt).disk) c.in_ok-lay_all.ensures.part)) (CommitPart_logs c.args.meta.now c.args.batch.now c.named_out-named.ensures c.in_ok-finish.ensures.part)
+    CommitPart_then (CommitPart_then (CommitPart_then (CommitPart_logs c.args.meta.now c.args.batch.now c.named-named.ensures c.in_ok-write_logs.ensures.part) (CommitPart_logs c.args.meta.now c.args.batch.now c.named-named.ensures c.in_ok-open_gates.ensures.part)) (CommitPart_targets c.args.meta.now c.args.batch.now c.gone.ensures (λ k t lt. (c.requires.in_range.each k t lt).disk) c.in_ok-lay_all.ensures.part)) (CommitPart_logs c.args.meta.now c.args.batch.now c.named-named.ensures c.in_ok-finish.ensures.part)

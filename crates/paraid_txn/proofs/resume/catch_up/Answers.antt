@@ -1,24 +1,26 @@
 use Rattle.std.specs.Prelude.{◌≡◌, ◌≢◌, ℕ, Bool, Some, true, false, Ok}
 use Rattle.std.proofs.Common.{arith, ap, sym, refl, ◌∙◌, inl, inr}
 use Rattle.std.proofs.lemmas.Bool.{cases_Bool, cases_eq, false≢true}
-use Rattle.paraid_rack.specs.Told.{Ran, Runs}
+use Rattle.paraid_rack.specs.Told.{Ran, CrashTriple}
 use Rattle.paraid_rack.specs.Trail.{Trail, now}
 use Rattle.paraid_txn.specs.CommitPart.{CommitPart}
-use Rattle.paraid_txn.specs.Uses.{IsLog, UsesLog}
-use Rattle.paraid_txn.specs.Resume.{Leads, Resuming, Same, beside}
+use Rattle.paraid_txn.specs.Uses.{IsUnskippedLog, UsesLog}
+use Rattle.paraid_txn.specs.Resume.{LeadsResume, HoldsThroughResume, AreDisksSame, job_on_other_log}
 use Rattle.paraid_image.specs.Sides.{is_open}
-use Rattle.paraid_txn.specs.Stages.{IsLive, IsSpelled, Job, named}
+use Rattle.paraid_txn.specs.CommitStages.{IsLiveLog, IsSpelled, Job, job_named}
 use Rattle.paraid_image.specs.Standing.{other_log}
 use Rattle.paraid_txn.proofs.ReadyLemmas.{log_stays_ready}
-use Rattle.paraid_txn.proofs.PartsLemmas.{andthen, ends, from, milder, open_whole, upto}
-use Rattle.paraid_txn.proofs.ResumeLemmas.{absent_by, good_beside, log_open, never, open_lay, read_start, resuming_early, resuming_same, same_lay, same_log, same_read, take_ran, upto_told}
+use Rattle.paraid_txn.proofs.StageCallsLemmas.{andthen, ends, from, milder}
+use Rattle.paraid_txn.proofs.ResumeStagesLemmas.{absent_by, good_beside, log_open, never, open_lay, read_start, resuming_early, resuming_same, same_lay, same_log, same_read, take_ran, upto_told}
 use Rattle.paraid_txn.proofs.CommitPartLemmas.{CommitPart_answer, CommitPart_beside, CommitPart_by, CommitPart_raised, CommitPart_then, logs_read}
+use Rattle.paraid_txn.proofs.CrashSpecificationLemmas.{crash_after, crash_failed, crash_from, crash_milder, crash_never, crash_then, crash_upto}
+use Rattle.paraid_txn.proofs.PutSyncedLemmas.{open_crash}
 use Rattle.paraid_txn.proofs.resume.catch_up.Given.{Over}
 use Rattle.paraid_txn.proofs.resume.catch_up.Goals as goal
 use Rattle.paraid_txn.proofs.resume.catch_up.Goals.{After-opens, After-take}
 
-taken : (g : Over) (c : After-take g) (j : Job) → IsSpelled j → Leads j c.args.side
-    → Ran (g.R.Rack.told c.args.rack.now) (g.R.Rack.told c.take.new.rack) (Runs (Resuming j c.args.side) (Same j) (Same j))
+taken : (g : Over) (c : After-take g) (j : Job) → IsSpelled j → LeadsResume j c.args.side
+    → Ran (g.R.Rack.told c.args.rack.now) (g.R.Rack.told c.take.new.rack) (CrashTriple (HoldsThroughResume j c.args.side) (AreDisksSame j) (AreDisksSame j))
 taken g c j good leads = take_ran c.take.ensures.does (resuming_same j good c.args.side leads) (λ s s' w a. same_read j s s' w a)
 
 -- the gate was read
@@ -26,125 +28,103 @@ on : (g : Over) (c : After-opens g) → c.take.result ≡ Ok true
 on g c = cc
 
 -- the block that was read is the one at the start
-found : (g : Over) (c : After-take g) (j : Job) → c.take.result ≡ Ok true → (t : Trail) → g.R.Rack.told c.args.rack.now ≡ Some t → Same j (now t)
+found : (g : Over) (c : After-take g) (j : Job) → c.take.result ≡ Ok true → (t : Trail) → g.R.Rack.told c.args.rack.now ≡ Some t → AreDisksSame j (now t)
     → c.take.new.into ≡ j.start.block (other_log c.args.side) 0
 found g c j is t tells same = read_start j (other_log c.args.side) (g.met.R.Rack.agrees c.args.rack.now) (c.take.ensures.present is) (c.take.ensures.bytes is) t tells same
 
-pub returns-in_err-read-clause-moments : goal.returns-in_err-read-clause-moments
-returns-in_err-read-clause-moments g c j good is batch list same leads =
-    let at = goal.at.returns-in_err-read-clause-moments g c in
-    ends (resuming_same j good c.args.side leads) (taken g at.After-take j good leads)
+pub returns-in_err-read-clause-crash : goal.returns-in_err-read-clause-crash
+returns-in_err-read-clause-crash g c j good is batch list same leads =
+    let at = goal.at.returns-in_err-read-clause-crash g c in
+    crash_failed _ _ c.from_residual.ensures.1 (ends (resuming_same j good c.args.side leads) (taken g at.After-take j good leads))
 
-pub returns-then-not-read-clause-moments : goal.returns-then-not-read-clause-moments
-returns-then-not-read-clause-moments g c j good is batch list same leads =
-    let at = goal.at.returns-then-not-read-clause-moments g c in
-    ends (resuming_same j good c.args.side leads) (taken g at.After-take j good leads)
-
-pub returns-then-not-read-clause-done : goal.returns-then-not-read-clause-done
-returns-then-not-read-clause-done g c j good is batch list same leads =
-    let at = goal.at.returns-then-not-read-clause-done g c in
+pub returns-then-not-read-clause-crash : goal.returns-then-not-read-clause-crash
+returns-then-not-read-clause-crash g c j good is batch list same leads =
+    let at = goal.at.returns-then-not-read-clause-crash g c in
     let y = other_log c.args.side in
     let off : c.take.result ≡ Ok false = cc in
-    upto_told (λ s t from to a b. same_lay j good c.args.side leads (now t) b (λ l there here.
-    absurd (absent_by y (g.met.R.Rack.agrees c.take.new.rack t to) (c.take.ensures.passed off (λ e. l.1 (is ∙ e))) here)))
-    (taken g at.After-take j good leads)
+    record {
+      moments = ends (resuming_same j good c.args.side leads) (taken g at.After-take j good leads);
+      done = upto_told (λ s t from to a b. same_lay j good c.args.side leads (now t) b (λ l there here.
+          absurd (absent_by y (g.met.R.Rack.agrees c.take.new.rack t to) (c.take.ensures.passed off (λ e. l.1 (is ∙ e))) here)))
+          (taken g at.After-take j good leads);
+    }
 
-pub returns-then-opens-clause-moments : goal.returns-then-opens-clause-moments
-returns-then-opens-clause-moments g c j good is batch list same leads =
-    let at = goal.at.returns-then-opens-clause-moments g c in
-    ends (resuming_same j good c.args.side leads) (taken g at.After-take j good leads)
-
-pub returns-then-opens-clause-done : goal.returns-then-opens-clause-done
-returns-then-opens-clause-done g c j good is batch list same leads =
-    let at = goal.at.returns-then-opens-clause-done g c in
+pub returns-then-opens-clause-crash : goal.returns-then-opens-clause-crash
+returns-then-opens-clause-crash g c j good is batch list same leads =
+    let at = goal.at.returns-then-opens-clause-crash g c in
     let on : c.take.result ≡ Ok true = cc in
     let opened : is_open c.take.new.into ≡ true = cc in
-    upto_told (λ s t from to a b. same_lay j good c.args.side leads (now t) b (λ l there here. elim (leads.other l there) [
-      | inl shut_then ↦ absurd (false≢true (sym shut_then ∙ ap is_open (sym (found g at.After-take j on s from a)) ∙ opened))
-      | inr says ↦ says
-    ])) (taken g at.After-take j good leads)
+    record {
+      moments = ends (resuming_same j good c.args.side leads) (taken g at.After-take j good leads);
+      done = upto_told (λ s t from to a b. same_lay j good c.args.side leads (now t) b (λ l there here. elim (leads.other l there) [
+        | inl shut_then ↦ absurd (false≢true (sym shut_then ∙ ap is_open (sym (found g at.After-take j on s from a)) ∙ opened))
+        | inr says ↦ says
+      ])) (taken g at.After-take j good leads);
+    }
 
 -- the other log disk is live
-live : (g : Over) (c : After-take g) (j : Job) → named j ≡ c.args.skip → c.take.result ≡ Ok true → IsLive j (other_log c.args.side)
+live : (g : Over) (c : After-take g) (j : Job) → job_named j ≡ c.args.skip → c.take.result ≡ Ok true → IsLiveLog j (other_log c.args.side)
 live g c j is on = (let low = c.requires.log_disk in omega arith, λ e. c.take.ensures.read on (sym is ∙ e))
 
 -- its gate was not open at the start
-not_open : (g : Over) (c : After-take g) (j : Job) → IsSpelled j → Leads j c.args.side → c.take.result ≡ Ok true → is_open c.take.new.into ≡ false
+not_open : (g : Over) (c : After-take g) (j : Job) → IsSpelled j → LeadsResume j c.args.side → c.take.result ≡ Ok true → is_open c.take.new.into ≡ false
     → is_open (j.start.block (other_log c.args.side) 0) ≡ true
-    → Ran (g.R.Rack.told c.args.rack.now) (g.R.Rack.told c.take.new.rack) (Runs (Resuming j c.args.side) (Same j) (λ s. ⊥))
+    → Ran (g.R.Rack.told c.args.rack.now) (g.R.Rack.told c.take.new.rack) (CrashTriple (HoldsThroughResume j c.args.side) (AreDisksSame j) (λ s. ⊥))
 not_open g c j good leads on shut open_then =
     upto_told (λ s t from to a b. false≢true (sym shut ∙ ap is_open (found g c j on s from a) ∙ open_then)) (taken g c j good leads)
 
-pub returns-in_err-write_log-clause-moments : goal.returns-in_err-write_log-clause-moments
-returns-in_err-write_log-clause-moments g c j good is batch list same leads =
-    let at = goal.at.returns-in_err-write_log-clause-moments g c in
+pub returns-in_err-write_log-clause-crash : goal.returns-in_err-write_log-clause-crash
+returns-in_err-write_log-clause-crash g c j good is batch list same leads =
+    let at = goal.at.returns-in_err-write_log-clause-crash g c in
     let x = c.args.side in
     let on = on g at.After-opens in
     let shut : is_open c.take.new.into ≡ false = cc in
     let l = live g at.After-take j is on in
-    let log = c.write_log.ensures.moments (beside j x) (good_beside j good x leads) refl batch list same in
-    elim (cases_Bool (is_open (j.start.block (other_log x) 0))) [
+    let log = (c.in_err-write_log.ensures.crash (job_on_other_log j x) (good_beside j good x leads) refl batch list same).moments in
+    crash_failed _ _ c.from_residual-in_err-write_log.ensures.1
+    (elim (cases_Bool (is_open (j.start.block (other_log x) 0))) [
       | inl open_then ↦ andthen (not_open g at.After-take j good leads on shut open_then) (never log)
       | inr shut_then ↦
           let early = resuming_early j good x leads l (λ there. shut_then) in
           andthen (taken g at.After-take j good leads)
           (ends early (from (same_log j good x leads l (λ there. shut_then)) (milder early log)))
-    ]
+    ])
 
-pub returns-in_err-open_gate-clause-moments : goal.returns-in_err-open_gate-clause-moments
-returns-in_err-open_gate-clause-moments g c j good is batch list same leads =
-    let at = goal.at.returns-in_err-open_gate-clause-moments g c in
+pub returns-in_err-put_synced-clause-crash : goal.returns-in_err-put_synced-clause-crash
+returns-in_err-put_synced-clause-crash g c j good is batch list same leads =
+    let at = goal.at.returns-in_err-put_synced-clause-crash g c in
     let x = c.args.side in
     let on = on g at.After-opens in
     let shut : is_open c.take.new.into ≡ false = cc in
     let l = live g at.After-take j is on in
     let spelled = good_beside j good x leads in
-    let log = c.in_ok-write_log.ensures.done (beside j x) spelled refl batch list same in
-    let opens = c.open_gate.ensures.moments (beside j x) 0 spelled refl (omega arith) refl in
-    elim (cases_Bool (is_open (j.start.block (other_log x) 0))) [
+    let log = (c.in_ok-write_log.ensures.crash (job_on_other_log j x) spelled refl batch list same).done in
+    let opens = (open_crash g.met.R.Rack.agrees (job_on_other_log j x) refl spelled 0 (omega arith) refl c.gate-opened.ensures c.in_err-put_synced.ensures.does).moments in
+    crash_failed _ _ c.from_residual-in_err-put_synced.ensures.1
+    (elim (cases_Bool (is_open (j.start.block (other_log x) 0))) [
       | inl open_then ↦ andthen (not_open g at.After-take j good leads on shut open_then) (never (andthen log (from (log_open j good x leads) opens)))
       | inr shut_then ↦
           let early = resuming_early j good x leads l (λ there. shut_then) in
           andthen (taken g at.After-take j good leads)
           (ends early (from (same_log j good x leads l (λ there. shut_then)) (milder early (andthen log (from (log_open j good x leads) opens)))))
-    ]
+    ])
 
-pub returns-clause-moments : goal.returns-clause-moments
-returns-clause-moments g c j good is batch list same leads =
-    let at = goal.at.returns-clause-moments g c in
+pub returns-clause-crash : goal.returns-clause-crash
+returns-clause-crash g c j good is batch list same leads =
+    let at = goal.at.returns-clause-crash g c in
     let x = c.args.side in
     let on = on g at.After-opens in
     let shut : is_open c.take.new.into ≡ false = cc in
     let l = live g at.After-take j is on in
     let spelled = good_beside j good x leads in
-    let log = c.in_ok-write_log.ensures.done (beside j x) spelled refl batch list same in
-    let opens = c.in_ok-open_gate.ensures.done (beside j x) 0 spelled refl (omega arith) refl in
+    let both = crash_then (c.in_ok-write_log.ensures.crash (job_on_other_log j x) spelled refl batch list same)
+    (crash_from (log_open j good x leads) (open_crash g.met.R.Rack.agrees (job_on_other_log j x) refl spelled 0 (omega arith) refl c.gate-opened.ensures c.in_ok-put_synced.ensures.does)) in
     elim (cases_Bool (is_open (j.start.block (other_log x) 0))) [
-      | inl open_then ↦ andthen (not_open g at.After-take j good leads on shut open_then) (never (andthen log (from (log_open j good x leads) opens)))
+      | inl open_then ↦ crash_after (not_open g at.After-take j good leads on shut open_then) (crash_never both)
       | inr shut_then ↦
-          let early = resuming_early j good x leads l (λ there. shut_then) in
-          andthen (taken g at.After-take j good leads)
-          (ends (λ s a. early s (open_whole (beside j x) spelled _ s a))
-          (from (same_log j good x leads l (λ there. shut_then)) (milder early (andthen log (from (log_open j good x leads) opens)))))
-    ]
-
-pub returns-clause-done : goal.returns-clause-done
-returns-clause-done g c j good is batch list same leads =
-    let at = goal.at.returns-clause-done g c in
-    let x = c.args.side in
-    let on = on g at.After-opens in
-    let shut : is_open c.take.new.into ≡ false = cc in
-    let l = live g at.After-take j is on in
-    let spelled = good_beside j good x leads in
-    let log = c.in_ok-write_log.ensures.done (beside j x) spelled refl batch list same in
-    let opens = c.in_ok-open_gate.ensures.done (beside j x) 0 spelled refl (omega arith) refl in
-    elim (cases_Bool (is_open (j.start.block (other_log x) 0))) [
-      | inl open_then ↦ andthen (not_open g at.After-take j good leads on shut open_then) (never (andthen log (from (log_open j good x leads) opens)))
-      | inr shut_then ↦
-          let early = resuming_early j good x leads l (λ there. shut_then) in
-          andthen (taken g at.After-take j good leads)
-          (upto (open_lay j good x leads l (λ there. shut_then))
-          (from (same_log j good x leads l (λ there. shut_then)) (milder early (andthen log (from (log_open j good x leads) opens)))))
+          crash_after (taken g at.After-take j good leads)
+          (crash_upto (open_lay j good x leads l (λ there. shut_then))
+          (crash_from (same_log j good x leads l (λ there. shut_then)) (crash_milder (resuming_early j good x leads l (λ there. shut_then)) both)))
     ]
 
 -- what was read, in the log of the other one
@@ -153,7 +133,7 @@ heard : (g : Over) (c : After-take g) (read : Bool) → c.take.result ≡ Ok rea
 heard g c read is = logs_read 0 (let low = c.requires.log_disk in omega arith) (omega arith) (CommitPart_by is c.take.ensures.part)
 
 -- the other one is not skipped
-beside_log : (g : Over) (c : After-take g) → c.take.result ≡ Ok true → (d : ℕ) → IsLog (Some c.args.side) d → IsLog c.args.skip d
+beside_log : (g : Over) (c : After-take g) → c.take.result ≡ Ok true → (d : ℕ) → IsUnskippedLog (Some c.args.side) d → IsUnskippedLog c.args.skip d
 beside_log g c on d is =
     let low = is.0 in
     let side = c.requires.log_disk in
@@ -181,20 +161,20 @@ returns-in_err-write_log-clause-part g c =
     CommitPart_raised _ c.from_residual-in_err-write_log.ensures.1
     (CommitPart_then (heard g at.After-take true on) (CommitPart_beside (beside_log g at.After-take on) c.in_err-write_log.ensures.part))
 
-pub returns-in_err-open_gate-clause-part : goal.returns-in_err-open_gate-clause-part
-returns-in_err-open_gate-clause-part g c =
-    let at = goal.at.returns-in_err-open_gate-clause-part g c in
+pub returns-in_err-put_synced-clause-part : goal.returns-in_err-put_synced-clause-part
+returns-in_err-put_synced-clause-part g c =
+    let at = goal.at.returns-in_err-put_synced-clause-part g c in
     let on = on g at.After-opens in
     let beside = beside_log g at.After-take on in
-    CommitPart_raised _ c.from_residual-in_err-open_gate.ensures.1
-    (CommitPart_then (heard g at.After-take true on) (CommitPart_beside beside (CommitPart_then c.in_ok-write_log.ensures.part c.in_err-open_gate.ensures.part)))
+    CommitPart_raised _ c.from_residual-in_err-put_synced.ensures.1
+    (CommitPart_then (heard g at.After-take true on) (CommitPart_beside beside (CommitPart_then c.in_ok-write_log.ensures.part c.in_err-put_synced.ensures.part)))
 
 pub returns-clause-part : goal.returns-clause-part
 returns-clause-part g c =
     let at = goal.at.returns-clause-part g c in
     let on = on g at.After-opens in
     let beside = beside_log g at.After-take on in
-    CommitPart_then (heard g at.After-take true on) (CommitPart_beside beside (CommitPart_then c.in_ok-write_log.ensures.part c.in_ok-open_gate.ensures.part))
+    CommitPart_then (heard g at.After-take true on) (CommitPart_beside beside (CommitPart_then c.in_ok-write_log.ensures.part c.in_ok-put_synced.ensures.part))
 
 pub write_log-requires-clause-log : goal.write_log-requires-clause-log
 write_log-requires-clause-log g c =
@@ -202,9 +182,9 @@ write_log-requires-clause-log g c =
     let on = on g at.After-opens in
     record { can = λ x low not. (log_stays_ready c.take.ensures.part.lasts c.requires.log).can x low (beside_log g at.After-take on x (low, not)).1 }
 
-pub open_gate-requires-clause-log : goal.open_gate-requires-clause-log
-open_gate-requires-clause-log g c =
-    let at = goal.at.open_gate-requires-clause-log g c in
+pub put_synced-requires-clause-log : goal.put_synced-requires-clause-log
+put_synced-requires-clause-log g c =
+    let at = goal.at.put_synced-requires-clause-log g c in
     let on = on g at.After-opens in
     log_stays_ready c.write_log.ensures.part.lasts
     (record { can = λ x low not. (log_stays_ready c.take.ensures.part.lasts c.requires.log).can x low (beside_log g at.After-take on x (low, not)).1 })

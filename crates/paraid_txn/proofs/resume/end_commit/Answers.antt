@@ -2,9 +2,9 @@ use Rattle.std.specs.Prelude.{◌≡◌, Bool, Some}
 use Rattle.std.proofs.Common.{refl, sym, subst}
 use Rattle.paraid_rack.specs.Disks.{Disks}
 use Rattle.paraid_rack.specs.Trail.{Trail, now}
-use Rattle.paraid_txn.specs.Resume.{IsResume, Settles, heard}
-use Rattle.paraid_txn.specs.Stages.{IsSpelled, job}
-use Rattle.paraid_txn.proofs.ResumedLemmas.{closed_resumes, closed_settles, open_resumes, open_settles}
+use Rattle.paraid_txn.specs.Resume.{StandsWhileResumed, EndsAsCommitted, log_state}
+use Rattle.paraid_txn.specs.CommitStages.{IsSpelled, job}
+use Rattle.paraid_txn.proofs.ResumePromiseLemmas.{closed_resumes, closed_settles, open_resumes, open_settles}
 use Rattle.paraid_txn.proofs.StoreLemmas.{IsStartReady, start_ready}
 use Rattle.paraid_txn.proofs.CommitPartLemmas.{CommitPart_answer, CommitPart_logs, CommitPart_raised}
 use Rattle.paraid_txn.proofs.resume.end_commit.Given.{Over}
@@ -26,44 +26,44 @@ ready g c s is = start_ready _ _ _ _ _ (g.met.R.Rack.agrees _ s is) c.requires.l
 pub returns-in_err-resume_open-clause-moments : goal.returns-in_err-resume_open-clause-moments
 returns-in_err-resume_open-clause-moments g c =
     let at = goal.at.returns-in_err-resume_open-clause-moments g c in
-    subst (λ (o : Bool). IsResume (g.R.Rack.told c.args.rack.now) (g.R.Rack.told c.resume_open.new.rack) c.args.side (heard o c.args.meta.now c.args.batch.now)) (sym c.if-gate_open.true)
+    subst (λ (o : Bool). StandsWhileResumed (g.R.Rack.told c.args.rack.now) (g.R.Rack.told c.resume_open.new.rack) c.args.side (log_state o c.args.meta.now c.args.batch.now)) (sym c.if-gate_open.true)
     (open_resumes _ _ _ _ _ (good g at.After-spell_meta-spelled) c.requires.log_disk c.requires.in_array _ _ (ready g at.After-spell_meta-spelled)
-    (λ start leads. c.resume_open.ensures.moments _ (good g at.After-spell_meta-spelled start) refl refl refl refl refl leads))
+    (λ start leads. (c.resume_open.ensures.crash _ (good g at.After-spell_meta-spelled start) refl refl refl refl refl leads).moments))
 
 pub returns-then-gate_open-clause-moments : goal.returns-then-gate_open-clause-moments
 returns-then-gate_open-clause-moments g c =
     let at = goal.at.returns-then-gate_open-clause-moments g c in
-    subst (λ (o : Bool). IsResume (g.R.Rack.told c.args.rack.now) (g.R.Rack.told c.resume_open.new.rack) c.args.side (heard o c.args.meta.now c.args.batch.now)) (sym c.if-gate_open.true)
+    subst (λ (o : Bool). StandsWhileResumed (g.R.Rack.told c.args.rack.now) (g.R.Rack.told c.resume_open.new.rack) c.args.side (log_state o c.args.meta.now c.args.batch.now)) (sym c.if-gate_open.true)
     (open_resumes _ _ _ _ _ (good g at.After-spell_meta-spelled) c.requires.log_disk c.requires.in_array _ _ (ready g at.After-spell_meta-spelled)
-    (λ start leads. c.resume_open.ensures.moments _ (good g at.After-spell_meta-spelled start) refl refl refl refl refl leads))
+    (λ start leads. (c.resume_open.ensures.crash _ (good g at.After-spell_meta-spelled start) refl refl refl refl refl leads).moments))
 
 pub returns-then-gate_open-clause-done : goal.returns-then-gate_open-clause-done
 returns-then-gate_open-clause-done g c =
     let at = goal.at.returns-then-gate_open-clause-done g c in
-    subst (λ (o : Bool). Settles (g.R.Rack.told c.args.rack.now) (g.R.Rack.told c.resume_open.new.rack) c.args.side (heard o c.args.meta.now c.args.batch.now)) (sym c.if-gate_open.true)
+    subst (λ (o : Bool). EndsAsCommitted (g.R.Rack.told c.args.rack.now) (g.R.Rack.told c.resume_open.new.rack) c.args.side (log_state o c.args.meta.now c.args.batch.now)) (sym c.if-gate_open.true)
     (open_settles _ _ _ _ _ (good g at.After-spell_meta-spelled) c.requires.log_disk c.requires.in_array _ _ (ready g at.After-spell_meta-spelled)
-    (λ start leads. c.in_ok-resume_open.ensures.done _ (good g at.After-spell_meta-spelled start) refl refl refl refl refl leads))
+    (λ start leads. (c.in_ok-resume_open.ensures.crash _ (good g at.After-spell_meta-spelled start) refl refl refl refl refl leads).done))
 
 pub returns-in_err-resume_closed-clause-moments : goal.returns-in_err-resume_closed-clause-moments
 returns-in_err-resume_closed-clause-moments g c =
     let at = goal.at.returns-in_err-resume_closed-clause-moments g c in
-    subst (λ (o : Bool). IsResume (g.R.Rack.told c.args.rack.now) (g.R.Rack.told c.resume_closed.new.rack) c.args.side (heard o c.args.meta.now c.args.batch.now)) (sym c.if-gate_open.false)
+    subst (λ (o : Bool). StandsWhileResumed (g.R.Rack.told c.args.rack.now) (g.R.Rack.told c.resume_closed.new.rack) c.args.side (log_state o c.args.meta.now c.args.batch.now)) (sym c.if-gate_open.false)
     (closed_resumes _ _ _ _ _ (good g at.After-spell_meta-spelled) c.requires.log_disk c.requires.in_array _ _ (ready g at.After-spell_meta-spelled) (c.requires.empty c.if-gate_open.false)
-    (λ start. c.resume_closed.ensures.moments _ (good g at.After-spell_meta-spelled start) (sym c.named_out.ensures) refl))
+    (λ start. (c.resume_closed.ensures.crash _ (good g at.After-spell_meta-spelled start) (sym c.named.ensures) refl).moments))
 
 pub returns-clause-moments : goal.returns-clause-moments
 returns-clause-moments g c =
     let at = goal.at.returns-clause-moments g c in
-    subst (λ (o : Bool). IsResume (g.R.Rack.told c.args.rack.now) (g.R.Rack.told c.resume_closed.new.rack) c.args.side (heard o c.args.meta.now c.args.batch.now)) (sym c.if-gate_open.false)
+    subst (λ (o : Bool). StandsWhileResumed (g.R.Rack.told c.args.rack.now) (g.R.Rack.told c.resume_closed.new.rack) c.args.side (log_state o c.args.meta.now c.args.batch.now)) (sym c.if-gate_open.false)
     (closed_resumes _ _ _ _ _ (good g at.After-spell_meta-spelled) c.requires.log_disk c.requires.in_array _ _ (ready g at.After-spell_meta-spelled) (c.requires.empty c.if-gate_open.false)
-    (λ start. c.resume_closed.ensures.moments _ (good g at.After-spell_meta-spelled start) (sym c.named_out.ensures) refl))
+    (λ start. (c.resume_closed.ensures.crash _ (good g at.After-spell_meta-spelled start) (sym c.named.ensures) refl).moments))
 
 pub returns-clause-done : goal.returns-clause-done
 returns-clause-done g c =
     let at = goal.at.returns-clause-done g c in
-    subst (λ (o : Bool). Settles (g.R.Rack.told c.args.rack.now) (g.R.Rack.told c.resume_closed.new.rack) c.args.side (heard o c.args.meta.now c.args.batch.now)) (sym c.if-gate_open.false)
+    subst (λ (o : Bool). EndsAsCommitted (g.R.Rack.told c.args.rack.now) (g.R.Rack.told c.resume_closed.new.rack) c.args.side (log_state o c.args.meta.now c.args.batch.now)) (sym c.if-gate_open.false)
     (closed_settles _ _ _ _ _ (good g at.After-spell_meta-spelled) c.requires.log_disk c.requires.in_array _ _ (ready g at.After-spell_meta-spelled) (c.requires.empty c.if-gate_open.false)
-    (λ start. c.in_ok-resume_closed.ensures.done _ (good g at.After-spell_meta-spelled start) (sym c.named_out.ensures) refl))
+    (λ start. (c.in_ok-resume_closed.ensures.crash _ (good g at.After-spell_meta-spelled start) (sym c.named.ensures) refl).done))
 
 pub returns-in_err-resume_open-clause-part : goal.returns-in_err-resume_open-clause-part
 returns-in_err-resume_open-clause-part g c =
@@ -76,8 +76,8 @@ returns-then-gate_open-clause-part g c =
 pub returns-in_err-resume_closed-clause-part : goal.returns-in_err-resume_closed-clause-part
 returns-in_err-resume_closed-clause-part g c =
     CommitPart_raised _ c.from_residual-in_err-resume_closed.ensures.1
-    (CommitPart_logs c.args.meta.now c.args.batch.now c.named_out.ensures c.in_err-resume_closed.ensures.part)
+    (CommitPart_logs c.args.meta.now c.args.batch.now c.named.ensures c.in_err-resume_closed.ensures.part)
 
 pub returns-clause-part : goal.returns-clause-part
 returns-clause-part g c =
-    CommitPart_logs c.args.meta.now c.args.batch.now c.named_out.ensures c.in_ok-resume_closed.ensures.part
+    CommitPart_logs c.args.meta.now c.args.batch.now c.named.ensures c.in_ok-resume_closed.ensures.part

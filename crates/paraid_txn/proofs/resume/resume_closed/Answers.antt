@@ -1,70 +1,67 @@
 use Rattle.std.specs.Prelude.{◌≡◌, ◌≢◌, Bool, Some, true, false, Ok}
 use Rattle.std.proofs.Common.{arith, ap, sym, ◌∙◌, inl, inr}
 use Rattle.std.proofs.lemmas.Bool.{cases_Bool, false≢true}
-use Rattle.paraid_rack.specs.Told.{Ran, Runs}
+use Rattle.paraid_rack.specs.Told.{Ran, CrashTriple}
 use Rattle.paraid_rack.specs.Trail.{Trail, now}
 use Rattle.paraid_txn.specs.CommitPart.{CommitPart}
 use Rattle.paraid_txn.specs.Uses.{UsesLog}
-use Rattle.paraid_txn.specs.Resume.{Same, Shutting}
+use Rattle.paraid_txn.specs.Resume.{AreDisksSame, HoldsThroughShut}
 use Rattle.paraid_image.specs.Sides.{is_open}
-use Rattle.paraid_txn.specs.Stages.{Job, named}
+use Rattle.paraid_txn.specs.CommitStages.{Job, job_named}
 use Rattle.paraid_image.specs.Standing.{other_log}
-use Rattle.paraid_txn.proofs.PartsLemmas.{andthen, ends, upto}
+use Rattle.paraid_txn.proofs.StageCallsLemmas.{andthen, ends}
 use Rattle.paraid_txn.proofs.ReadyLemmas.{log_stays_ready}
-use Rattle.paraid_txn.proofs.ResumeLemmas.{absent_by, filled, good_filled, never, read_start, same_read, shutting_same, take_ran, upto_told}
+use Rattle.paraid_txn.proofs.ResumeStagesLemmas.{absent_by, filled, good_filled, never, read_start, same_read, shutting_same, take_ran, upto_told}
 use Rattle.paraid_txn.proofs.CommitPartLemmas.{CommitPart_answer, CommitPart_by, CommitPart_raised, CommitPart_then, logs_read}
+use Rattle.paraid_txn.proofs.CrashSpecificationLemmas.{crash_after, crash_failed, crash_never, crash_upto}
 use Rattle.paraid_txn.proofs.resume.resume_closed.Given.{Over}
 use Rattle.paraid_txn.proofs.resume.resume_closed.Goals as goal
 use Rattle.paraid_txn.proofs.resume.resume_closed.Goals.{After-opens, After-take}
 
 taken : (g : Over) (c : After-take g) (j : Job)
-    → Ran (g.R.Rack.told c.args.rack.now) (g.R.Rack.told c.take.new.rack) (Runs (Shutting j (other_log c.args.side)) (Same j) (Same j))
+    → Ran (g.R.Rack.told c.args.rack.now) (g.R.Rack.told c.take.new.rack) (CrashTriple (HoldsThroughShut j (other_log c.args.side)) (AreDisksSame j) (AreDisksSame j))
 taken g c j = take_ran c.take.ensures.does (shutting_same j (other_log c.args.side)) (λ s s' w a. same_read j s s' w a)
 
-pub returns-in_err-read-clause-moments : goal.returns-in_err-read-clause-moments
-returns-in_err-read-clause-moments g c j good is same =
-    let at = goal.at.returns-in_err-read-clause-moments g c in
-    ends (shutting_same j (other_log c.args.side)) (taken g at.After-take j)
-
-pub returns-then-not-read-clause-moments : goal.returns-then-not-read-clause-moments
-returns-then-not-read-clause-moments g c j good is same =
-    let at = goal.at.returns-then-not-read-clause-moments g c in
-    ends (shutting_same j (other_log c.args.side)) (taken g at.After-take j)
+pub returns-in_err-read-clause-crash : goal.returns-in_err-read-clause-crash
+returns-in_err-read-clause-crash g c j good is same =
+    let at = goal.at.returns-in_err-read-clause-crash g c in
+    crash_failed _ _ c.from_residual.ensures.1 (ends (shutting_same j (other_log c.args.side)) (taken g at.After-take j))
 
 -- the other log disk is live
 live : (g : Over) (c : After-take g) → c.take.result ≡ Ok true → c.args.skip ≢ Some (other_log c.args.side)
 live g c is = c.take.ensures.read is
 
 -- the block that was read is the one at the start
-found : (g : Over) (c : After-take g) (j : Job) → c.take.result ≡ Ok true → (t : Trail) → g.R.Rack.told c.args.rack.now ≡ Some t → Same j (now t)
+found : (g : Over) (c : After-take g) (j : Job) → c.take.result ≡ Ok true → (t : Trail) → g.R.Rack.told c.args.rack.now ≡ Some t → AreDisksSame j (now t)
     → c.take.new.into ≡ j.start.block (other_log c.args.side) 0
 found g c j is t tells same = read_start j (other_log c.args.side) (g.met.R.Rack.agrees c.args.rack.now) (c.take.ensures.present is) (c.take.ensures.bytes is) t tells same
 
-pub returns-then-not-read-clause-done : goal.returns-then-not-read-clause-done
-returns-then-not-read-clause-done g c j good is same =
-    let at = goal.at.returns-then-not-read-clause-done g c in
+pub returns-then-not-read-clause-crash : goal.returns-then-not-read-clause-crash
+returns-then-not-read-clause-crash g c j good is same =
+    let at = goal.at.returns-then-not-read-clause-crash g c in
     let y = other_log c.args.side in
     let off : c.take.result ≡ Ok false = cc in
-    upto_told (λ s t from to a b. inl (record {
-      core = b;
-      shut = λ l here. absurd (absent_by y (g.met.R.Rack.agrees c.take.new.rack t to) (c.take.ensures.passed off (λ e. l.1 (is ∙ e))) here);
-    })) (taken g at.After-take j)
+    record {
+      moments = ends (shutting_same j (other_log c.args.side)) (taken g at.After-take j);
+      done = upto_told (λ s t from to a b. inl (record {
+        core = b;
+        shut = λ l here. absurd (absent_by y (g.met.R.Rack.agrees c.take.new.rack t to) (c.take.ensures.passed off (λ e. l.1 (is ∙ e))) here);
+      })) (taken g at.After-take j);
+    }
 
-pub returns-then-not-opens-clause-moments : goal.returns-then-not-opens-clause-moments
-returns-then-not-opens-clause-moments g c j good is same =
-    let at = goal.at.returns-then-not-opens-clause-moments g c in
-    ends (shutting_same j (other_log c.args.side)) (taken g at.After-take j)
-
-pub returns-then-not-opens-clause-done : goal.returns-then-not-opens-clause-done
-returns-then-not-opens-clause-done g c j good is same =
-    let at = goal.at.returns-then-not-opens-clause-done g c in
+pub returns-then-not-opens-clause-crash : goal.returns-then-not-opens-clause-crash
+returns-then-not-opens-clause-crash g c j good is same =
+    let at = goal.at.returns-then-not-opens-clause-crash g c in
     let y = other_log c.args.side in
     let on : c.take.result ≡ Ok true = cc in
     let shut : is_open c.take.new.into ≡ false = cc in
-    upto_told (λ s t from to a b. inl (record {
-      core = b;
-      shut = λ l here. ap is_open (((b.same y 0).holds here).1 ∙ sym (found g at.After-take j on s from a)) ∙ shut;
-    })) (taken g at.After-take j)
+    record {
+      moments = ends (shutting_same j (other_log c.args.side)) (taken g at.After-take j);
+      done = upto_told (λ s t from to a b. inl (record {
+        core = b;
+        shut = λ l here. ap is_open (((b.same y 0).holds here).1 ∙ sym (found g at.After-take j on s from a)) ∙ shut;
+      })) (taken g at.After-take j);
+    }
 
 -- the gate was read
 on : (g : Over) (c : After-opens g) → c.take.result ≡ Ok true
@@ -72,44 +69,33 @@ on g c = cc
 
 -- the gate was not closed at the start
 not_shut : (g : Over) (c : After-take g) (j : Job) → c.take.result ≡ Ok true → is_open c.take.new.into ≡ true → is_open (j.start.block (other_log c.args.side) 0) ≡ false
-    → Ran (g.R.Rack.told c.args.rack.now) (g.R.Rack.told c.take.new.rack) (Runs (Shutting j (other_log c.args.side)) (Same j) (λ s. ⊥))
+    → Ran (g.R.Rack.told c.args.rack.now) (g.R.Rack.told c.take.new.rack) (CrashTriple (HoldsThroughShut j (other_log c.args.side)) (AreDisksSame j) (λ s. ⊥))
 not_shut g c j on opened shut_then =
     upto_told (λ s t from to a b. false≢true (sym shut_then ∙ ap is_open (sym (found g c j on s from a)) ∙ opened)) (taken g c j)
 
-pub returns-in_err-shut-clause-moments : goal.returns-in_err-shut-clause-moments
-returns-in_err-shut-clause-moments g c j good is same =
-    let at = goal.at.returns-in_err-shut-clause-moments g c in
+pub returns-in_err-shut-clause-crash : goal.returns-in_err-shut-clause-crash
+returns-in_err-shut-clause-crash g c j good is same =
+    let at = goal.at.returns-in_err-shut-clause-crash g c in
     let on = on g at.After-opens in
     let opened : is_open c.take.new.into ≡ true = cc in
-    let not : named j ≢ Some (other_log c.args.side) = λ e. live g at.After-take on (sym is ∙ e) in
-    elim (cases_Bool (is_open (j.start.block (other_log c.args.side) 0))) [
-      | inl open_then ↦ andthen (taken g at.After-take j) (c.shut.ensures.moments j good is same not open_then)
+    let not : job_named j ≢ Some (other_log c.args.side) = λ e. live g at.After-take on (sym is ∙ e) in
+    crash_failed _ _ c.from_residual-in_err-shut.ensures.1
+    (elim (cases_Bool (is_open (j.start.block (other_log c.args.side) 0))) [
+      | inl open_then ↦ andthen (taken g at.After-take j) (c.in_err-shut.ensures.crash j good is same not open_then).moments
       | inr shut_then ↦ andthen (not_shut g at.After-take j on opened shut_then)
-          (never (c.shut.ensures.moments (filled j c.take.new.into) (good_filled j c.take.new.into good) is same not opened))
-    ]
+          (never (c.in_err-shut.ensures.crash (filled j c.take.new.into) (good_filled j c.take.new.into good) is same not opened).moments)
+    ])
 
-pub returns-clause-moments : goal.returns-clause-moments
-returns-clause-moments g c j good is same =
-    let at = goal.at.returns-clause-moments g c in
+pub returns-clause-crash : goal.returns-clause-crash
+returns-clause-crash g c j good is same =
+    let at = goal.at.returns-clause-crash g c in
     let on : c.take.result ≡ Ok true = cc in
     let opened : is_open c.take.new.into ≡ true = cc in
-    let not : named j ≢ Some (other_log c.args.side) = λ e. live g at.After-take on (sym is ∙ e) in
+    let not : job_named j ≢ Some (other_log c.args.side) = λ e. live g at.After-take on (sym is ∙ e) in
     elim (cases_Bool (is_open (j.start.block (other_log c.args.side) 0))) [
-      | inl open_then ↦ andthen (taken g at.After-take j) (c.shut.ensures.moments j good is same not open_then)
-      | inr shut_then ↦ andthen (not_shut g at.After-take j on opened shut_then)
-          (never (c.shut.ensures.moments (filled j c.take.new.into) (good_filled j c.take.new.into good) is same not opened))
-    ]
-
-pub returns-clause-done : goal.returns-clause-done
-returns-clause-done g c j good is same =
-    let at = goal.at.returns-clause-done g c in
-    let on : c.take.result ≡ Ok true = cc in
-    let opened : is_open c.take.new.into ≡ true = cc in
-    let not : named j ≢ Some (other_log c.args.side) = λ e. live g at.After-take on (sym is ∙ e) in
-    elim (cases_Bool (is_open (j.start.block (other_log c.args.side) 0))) [
-      | inl open_then ↦ upto (λ s a. inr a) (andthen (taken g at.After-take j) (c.in_ok-shut.ensures.done j good is same not open_then))
-      | inr shut_then ↦ andthen (not_shut g at.After-take j on opened shut_then)
-          (never (c.shut.ensures.moments (filled j c.take.new.into) (good_filled j c.take.new.into good) is same not opened))
+      | inl open_then ↦ crash_upto (λ s a. inr a) (crash_after (taken g at.After-take j) (c.in_ok-shut.ensures.crash j good is same not open_then))
+      | inr shut_then ↦ crash_after (not_shut g at.After-take j on opened shut_then)
+          (crash_never (c.in_ok-shut.ensures.crash (filled j c.take.new.into) (good_filled j c.take.new.into good) is same not opened))
     ]
 
 -- what was read, in the log of the other one

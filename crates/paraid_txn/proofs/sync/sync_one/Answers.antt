@@ -5,13 +5,13 @@ use Rattle.paraid_txn.proofs.CommitPartLemmas.{CommitPart_raised}
 use Rattle.paraid_txn.proofs.SyncLemmas.{syncs}
 use Rattle.paraid_txn.proofs.sync.sync_one.Goals as goal
 
-pub settle-requires-clause-can : goal.settle-requires-clause-can
-settle-requires-clause-can g c not =
+pub sync_slot-requires-clause-can : goal.sync_slot-requires-clause-can
+sync_slot-requires-clause-can g c not =
     let spins : (g.R.Rack.slot c.args.rack.now c.args.disk).power ≡ Spinning = search rules in
     record { spins = λ here. spins; within = λ here. c.requires.can.within c.args.disk c.requires.low not spins }
 
-pub returns-in_err-settle-clause-part : goal.returns-in_err-settle-clause-part
-returns-in_err-settle-clause-part g c = CommitPart_raised _ c.from_residual.ensures.1 (syncs c.args.disks c.requires.low c.in_err-settle.ensures.part)
+pub returns-in_err-sync_slot-clause-part : goal.returns-in_err-sync_slot-clause-part
+returns-in_err-sync_slot-clause-part g c = CommitPart_raised _ c.from_residual.ensures.1 (syncs c.args.disks c.requires.low c.in_err-sync_slot.ensures.part)
 
 pub returns-clause-part : goal.returns-clause-part
-returns-clause-part g c = syncs c.args.disks c.requires.low c.in_ok-settle.ensures.part
+returns-clause-part g c = syncs c.args.disks c.requires.low c.in_ok-sync_slot.ensures.part

@@ -1,13 +1,17 @@
-use Rattle.std.proofs.Common.{◌∙◌, Some}
-use Rattle.paraid_base.proofs.SumsLemmas.{others_read, others_skip}
+use Rattle.std.proofs.Common.{◌≡◌, ◌∙◌, ◌⊎◌, Some, inl, inr}
+use Rattle.paraid_base.proofs.SumsLemmas.{two_read, two_skip}
 use Rattle.paraid_image.specs.Value.{near}
 use Rattle.paraid_view.specs.Reads.{seen_by}
 use Rattle.paraid_view.proofs.cell.add_near.Goals as goal
+use Rattle.paraid_view.proofs.cell.add_near.Goals.{then-d-out-via-then-d-out, then-d-out-via-else-d-out+then-d-skipped}
 
 pub returns-then-d-out-clause-value : goal.returns-then-d-out-clause-value
 returns-then-d-out-clause-value g c f shows some sum =
-    sum ∙ others_skip (near (seen_by c.args.meta.now c.args.dirty.now (Some c.args.out) f) c.args.r) c.args.out c.args.d c.if-d-out.true
+    sum ∙ two_skip (near (seen_by c.args.meta.now c.args.dirty.now (Some c.args.out) f) c.args.r) c.args.out c.args.skipped c.args.d which
+  where
+    which : (c.args.d ≡ c.args.out) ⊎ (c.args.d ≡ c.args.skipped)
+    which = elim c.then-d-out.branch [ then-d-out-via-then-d-out w ↦ inl w.if-d-out.true | then-d-out-via-else-d-out+then-d-skipped w ↦ inr w.if-d-skipped.true ]
 
 pub returns-clause-value : goal.returns-clause-value
 returns-clause-value g c f shows some sum =
-    others_read (near (seen_by c.args.meta.now c.args.dirty.now (Some c.args.out) f) c.args.r) c.args.out c.args.d _ _ _ c.if-d-out.false sum (c.in_ok-read_near.ensures.value f shows some) c.xor_into.ensures
+    two_read (near (seen_by c.args.meta.now c.args.dirty.now (Some c.args.out) f) c.args.r) c.args.out c.args.skipped c.args.d _ _ _ c.if-d-out.false c.if-d-skipped.false sum (c.in_ok-read_near.ensures.value f shows some) c.xor_into.ensures

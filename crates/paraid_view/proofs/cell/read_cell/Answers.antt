@@ -1,7 +1,7 @@
 use Rattle.std.proofs.Common.{◌++◌, ◌≡◌, ℕ, ◌∙◌, Some, None, refl, sym, ap, inl}
 use Rattle.paraid_dirty.specs.Table.{is_dirty}
 use Rattle.paraid_image.specs.Out.{out_disk}
-use Rattle.paraid_txn.specs.Stores.{disks_of, rack_of}
+use Rattle.paraid_txn.specs.Stores.{disks_of, store_rack}
 use Rattle.paraid_image.proofs.ViewLemmas.{value_same}
 use Rattle.paraid_view.proofs.ReadLemmas.{shows_after}
 use Rattle.paraid_view.proofs.TwoLemmas.{read_beside, two_lost}
@@ -15,10 +15,10 @@ returns-in-Ok-clause-read g c =
 pub returns-in-Ok-clause-value : goal.returns-in-Ok-clause-value
 returns-in-Ok-clause-value g c f shows some rows stripes =
     let m = c.args.meta.now in
-    let none : out_disk (λ e. (g.R.Rack.slot (rack_of c.args.store.now) e).power) m ≡ None = sym c.out_of-out.ensures ∙ c.in_default-out.is in
+    let none : out_disk (λ e. (g.R.Rack.slot (store_rack c.args.store.now) e).power) m ≡ None = sym c.out_of-out.ensures ∙ c.in_default-out.is in
     let lost : ℕ = c.in-Err.lost in
     c.in-Ok.ensures.value f (shows_after (disks_of c.args.store.now) _ _ (c.args.batch.now ++ c.args.draft.now) f c.in-Err.ensures.read.calls shows) some
-    ∙ value_same m (is_dirty c.args.dirty.now) (is_dirty c.args.dirty.now) (out_disk (λ e. (g.R.Rack.slot (rack_of c.args.store.now) e).power) m) f f lost (inl none) (λ x q apart. refl) (λ r e l. refl) c.requires.in_range
+    ∙ value_same m (is_dirty c.args.dirty.now) (is_dirty c.args.dirty.now) (out_disk (λ e. (g.R.Rack.slot (store_rack c.args.store.now) e).power) m) f f lost (inl none) (λ x q apart. refl) (λ r e l. refl) c.requires.in_range
     c.args.r c.args.d c.requires.row c.requires.disk rows stripes
 
 pub returns-in-Err-read_value-clause-two : goal.returns-in-Err-read_value-clause-two

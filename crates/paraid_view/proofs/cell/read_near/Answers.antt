@@ -1,15 +1,15 @@
 use Rattle.std.proofs.Common.{◌≡◌, ◌≢◌, ◌≤◌, ◌∙◌, Some, true, sym, ap, arith}
 use Rattle.paraid_base.specs.Regions.{disk_size}
-use Rattle.paraid_base.specs.Xor.{zeroed}
+use Rattle.paraid_base.specs.Xor.{zero_block}
 use Rattle.paraid_image.specs.Spot.{is_hard}
 use Rattle.paraid_image.specs.Standing.{Contents}
-use Rattle.paraid_txn.specs.Stores.{rack_of}
+use Rattle.paraid_txn.specs.Stores.{store_rack}
 use Rattle.paraid_view.specs.Reads.{seen_by}
 use Rattle.paraid_view.proofs.ValueLemmas.{err_map, hard_powered, near_hard, near_soft, ok_map}
 use Rattle.paraid_view.proofs.cell.read_near.Goals as goal
 
 blank : Contents
-blank d p = zeroed
+blank d p = zero_block
 
 pub read_laid-requires-clause-spinning : goal.read_laid-requires-clause-spinning
 read_laid-requires-clause-spinning g c =
@@ -21,7 +21,7 @@ pub read_laid-requires-clause-within : goal.read_laid-requires-clause-within
 read_laid-requires-clause-within g c =
     let m = c.args.meta.now in
     let hard : is_hard (seen_by m c.args.dirty.now c.args.out blank) c.args.r c.args.d ≡ true = sym (c.is_hard.ensures.value c.args.out blank) ∙ c.if-is_hard.true in
-    let large : disk_size m.setup.geometry ≤ (g.R.Rack.slot (rack_of c.args.store.now) c.args.d).size =
+    let large : disk_size m.setup.geometry ≤ (g.R.Rack.slot (store_rack c.args.store.now) c.args.d).size =
     c.requires.ready.large c.args.d (hard_powered (seen_by m c.args.dirty.now c.args.out blank) c.args.r c.args.d hard) (c.requires.near blank hard) in
     let k = c.hard_place.ensures.before_regions in omega arith
 

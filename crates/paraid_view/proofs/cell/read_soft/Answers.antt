@@ -2,7 +2,7 @@ use Rattle.std.proofs.Common.{◌≡◌, ◌≢◌, ℕ, ◌≤◌, ◌∙◌, S
 use Rattle.std.proofs.lemmas.Bool.{false≢true}
 use Rattle.paraid_base.specs.Regions.{disk_size, soft_place_of}
 use Rattle.paraid_base.specs.Soft.{soft_disk, soft_stripe}
-use Rattle.paraid_txn.specs.Stores.{rack_of}
+use Rattle.paraid_txn.specs.Stores.{store_rack}
 use Rattle.paraid_image.specs.Value.{stripe_rest}
 use Rattle.paraid_view.specs.Reads.{seen_by}
 use Rattle.paraid_view.proofs.ValueLemmas.{ok_map, soft_out, soft_there}
@@ -25,7 +25,7 @@ read_laid-requires-clause-spinning g c =
 
 pub read_laid-requires-clause-within : goal.read_laid-requires-clause-within
 read_laid-requires-clause-within g c =
-    let large : disk_size c.args.meta.now.setup.geometry ≤ (g.R.Rack.slot (rack_of c.args.store.now) c.soft_of-stripe.result.1).size =
+    let large : disk_size c.args.meta.now.setup.geometry ≤ (g.R.Rack.slot (store_rack c.args.store.now) c.soft_of-stripe.result.1).size =
     c.requires.ready.large c.soft_of-stripe.result.1 (inl c.soft_of-stripe.ensures.below) (λ e. false≢true (sym c.if-is_at.false ∙ c.is_at.ensures.1 e)) in
     let k = c.soft_place.ensures.in_size in omega arith
 

@@ -4,17 +4,17 @@ use Rattle.paraid_image.specs.Spot.{is_hard}
 use Rattle.paraid_image.specs.Standing.{Contents}
 use Rattle.paraid_image.specs.Value.{far}
 use Rattle.paraid_view.specs.Reads.{seen_by}
-use Rattle.paraid_view.proofs.ValueLemmas.{ok_map, value_far, value_near}
+use Rattle.paraid_view.proofs.ValueLemmas.{far_is, ok_map, value_far, value_near}
 use Rattle.paraid_view.proofs.cell.read_value.Goals.{else-is_at-via-then-is_at+else-is_hard, else-is_at-via-else-is_at}
 use Rattle.paraid_view.proofs.cell.read_value.Goals as goal
 
 pub returns-then-is_hard-clause-value : goal.returns-then-is_hard-clause-value
 returns-then-is_hard-clause-value g c =
-    ok_map c.read_far.result (λ value. λ f shows some.
+    ok_map c.read_others.result (λ value. λ f shows some.
     let m = c.args.meta.now in
     let out : c.args.out ≡ Some c.args.d = c.is_at.ensures.0 c.if-is_at.true in
-    value f shows some ∙ ap (λ (o : Option ℕ). far (seen_by m c.args.dirty.now o f) c.args.r c.args.d) (sym out)
-    ∙ sym (value_far (seen_by m c.args.dirty.now c.args.out f) c.args.r c.args.d (sym (c.is_hard.ensures.value c.args.out f) ∙ c.if-is_hard.true) out)) c.read_far.ensures.value
+    value f shows some ∙ far_is (seen_by m c.args.dirty.now (Some c.args.d) f) c.args.r c.args.d ∙ ap (λ (o : Option ℕ). far (seen_by m c.args.dirty.now o f) c.args.r c.args.d) (sym out)
+    ∙ sym (value_far (seen_by m c.args.dirty.now c.args.out f) c.args.r c.args.d (sym (c.is_hard.ensures.value c.args.out f) ∙ c.if-is_hard.true) out)) c.read_others.ensures.value
 
 pub returns-clause-value : goal.returns-clause-value
 returns-clause-value g c =

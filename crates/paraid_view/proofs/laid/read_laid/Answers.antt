@@ -1,13 +1,13 @@
 use Rattle.std.proofs.Common.{◌++◌, ◌≡◌, ◌∙◌, Ok, Err, sym, ap}
 use Rattle.std.specs.Prelude.{is_ok}
-use Rattle.paraid_txn.specs.Stores.{disks_of, rack_of}
+use Rattle.paraid_txn.specs.Stores.{disks_of, store_rack}
 use Rattle.paraid_view.proofs.ReadLemmas.{ran_none, read_one, value_laid}
 use Rattle.paraid_view.proofs.laid.read_laid.Goals as goal
 
 pub returns-in-Some-clause-value : goal.returns-in-Some-clause-value
 returns-in-Some-clause-value g c f shows some =
-    value_laid (c.args.batch.now ++ c.args.draft.now) f _ _ _ (g.R.Rack.slot (rack_of c.args.store.now)) c.args.disk c.args.place _ (g.met.R.Rack.agrees (rack_of c.args.store.now))
-    c.requires.spinning c.requires.within c.requires.past_log (ran_none (g.R.Rack.told (rack_of c.args.store.now)) 0) shows some
+    value_laid (c.args.batch.now ++ c.args.draft.now) f _ _ _ (g.R.Rack.slot (store_rack c.args.store.now)) c.args.disk c.args.place _ (g.met.R.Rack.agrees (store_rack c.args.store.now))
+    c.requires.spinning c.requires.within c.requires.past_log (ran_none (g.R.Rack.told (store_rack c.args.store.now)) 0) shows some
     (λ t tells. c.copy_from.ensures ∙ sym (c.in-Some.ensures _))
 
 pub returns-in_default-read-clause-read : goal.returns-in_default-read-clause-read
@@ -26,6 +26,6 @@ returns-clause-read g c =
 
 pub returns-clause-value : goal.returns-clause-value
 returns-clause-value g c f shows some =
-    value_laid (c.args.batch.now ++ c.args.draft.now) f _ _ _ (g.R.Rack.slot (rack_of c.args.store.now)) c.args.disk c.args.place _ (g.met.R.Rack.agrees (rack_of c.args.store.now))
+    value_laid (c.args.batch.now ++ c.args.draft.now) f _ _ _ (g.R.Rack.slot (store_rack c.args.store.now)) c.args.disk c.args.place _ (g.met.R.Rack.agrees (store_rack c.args.store.now))
     c.requires.spinning c.requires.within c.requires.past_log (returns-clause-read g c).calls shows some
     (λ t tells. c.in-Ok.ensures.bytes t tells ∙ sym (c.in_default.ensures _))

@@ -1,14 +1,14 @@
 use Rattle.std.proofs.Common.{◌≡◌, ℕ, ◌+◌, ◌++◌, arith, inl, inr, subst}
 use Rattle.std.proofs.lemmas.Bool.{cases_lt}
-use Rattle.paraid_volume.specs.Device.{Holds, Since, Between, Clears}
+use Rattle.paraid_volume.specs.Device.{DeviceHolds, SinceHistory, Between, Clears}
 use Rattle.paraid_volume.proofs.ClearLemmas.{between, cleared_none, cleared_then}
-use Rattle.paraid_volume.proofs.DeviceLemmas.{Went-none, Went-then, Grown-none, Grown-then}
+use Rattle.paraid_volume.proofs.DeviceLemmas.{DeviceGoesOn-none, DeviceGoesOn-then, KeepsMore-none, KeepsMore-then}
 use Rattle.paraid_volume.proofs.device.clear_blocks.Goals as goal
 
 pub loop-at-init : goal.loop-at-init
 loop-at-init g c = record {
-  went = Went-none _ _ _ _ _;
-  grown = Grown-none _ _ _ _;
+  went = DeviceGoesOn-none _ _ _ _ _;
+  grown = KeepsMore-none _ _ _ _;
   none = λ l. let no : ⊥ = omega (arith, l) in absurd no;
   clears = λ from h stands tells. cleared_none _ h (Between c.args.start c.args.start) (λ b is. let low = is.0 in let high = is.1 in omega (arith, low, high)) stands;
 }
@@ -18,7 +18,7 @@ clear_block-requires g c =
     let size = c.loop-at.invariant.went.size in let end = c.requires.end in let test = c.loop-at-test.true in omega (arith, size, end, test)
 
 pub returns-in_err-clear_block-clause-went : goal.returns-in_err-clear_block-clause-went
-returns-in_err-clear_block-clause-went g c = Went-then _ _ _ _ _ _ _ c.loop-at.invariant.went c.clear_block.ensures.went
+returns-in_err-clear_block-clause-went g c = DeviceGoesOn-then _ _ _ _ _ _ _ c.loop-at.invariant.went c.clear_block.ensures.went
 
 pub loop-at-preserved : goal.loop-at-preserved
 loop-at-preserved g c =
@@ -27,8 +27,8 @@ loop-at-preserved g c =
     let start = c.args.start in
     let order = c.loop-at.auto.at in
     record {
-      went = Went-then _ _ _ _ _ _ _ inv.went c.clear_block.ensures.went;
-      grown = Grown-then _ _ _ _ _ _ c.clear_block.ensures.went.told inv.grown c.clear_block.ensures.grown;
+      went = DeviceGoesOn-then _ _ _ _ _ _ _ inv.went c.clear_block.ensures.went;
+      grown = KeepsMore-then _ _ _ _ _ _ c.clear_block.ensures.went.told inv.grown c.clear_block.ensures.grown;
       none = λ l. c.in_ok-clear_block.ensures.halt;
       clears = λ from h stands tells.
           let first = inv.clears from h stands (c.clear_block.ensures.went.told tells) in
@@ -51,10 +51,10 @@ returns-clause-clears g c =
     let order = c.requires.order in
     let until = c.loop-at.auto.at-end (omega (arith, order)) in
     let same : c.loop-at.at ≡ c.args.end = omega (arith, past, until) in
-    subst (λ (n : ℕ). (from : Since) → Clears (Holds g.B.Blocks.stands g.B.Blocks.kept from) g.B.Blocks.tells c.args.device.now c.loop-at.device (Between c.args.start n)) same c.loop-at.invariant.clears
+    subst (λ (n : ℕ). (from : SinceHistory) → Clears (DeviceHolds g.B.Blocks.stands g.B.Blocks.kept from) g.B.Blocks.tells c.args.device.now c.loop-at.device (Between c.args.start n)) same c.loop-at.invariant.clears
 
 pub returns-in_err-clear_block-clause-grown : goal.returns-in_err-clear_block-clause-grown
-returns-in_err-clear_block-clause-grown g c = Grown-then _ _ _ _ _ _ c.clear_block.ensures.went.told c.loop-at.invariant.grown c.clear_block.ensures.grown
+returns-in_err-clear_block-clause-grown g c = KeepsMore-then _ _ _ _ _ _ c.clear_block.ensures.went.told c.loop-at.invariant.grown c.clear_block.ensures.grown
 
 pub returns-clause-grown : goal.returns-clause-grown
 returns-clause-grown g c = c.loop-at.invariant.grown

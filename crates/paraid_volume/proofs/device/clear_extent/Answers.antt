@@ -2,11 +2,11 @@ use Rattle.std.proofs.Common.{◌∙◌, sym}
 use Rattle.paraid_volume.specs.TableBlocks.{in_table}
 use Rattle.paraid_volume.specs.Tables.{owner_in}
 use Rattle.paraid_volume.proofs.ClearLemmas.{cleared_none, cleared_owned}
-use Rattle.paraid_volume.proofs.DeviceLemmas.{Went-none}
+use Rattle.paraid_volume.proofs.DeviceLemmas.{DeviceGoesOn-none}
 use Rattle.paraid_volume.proofs.device.clear_extent.Goals as goal
 
 pub returns-then-owner-id-clause-went : goal.returns-then-owner-id-clause-went
-returns-then-owner-id-clause-went g c = Went-none _ _ _ _ _
+returns-then-owner-id-clause-went g c = DeviceGoesOn-none _ _ _ _ _
 
 pub returns-then-owner-id-clause-clears : goal.returns-then-owner-id-clause-clears
 returns-then-owner-id-clause-clears g c = λ from h stands tells. cleared_none _ h _ (λ b is. c.if-owner-id.true (c.owner.ensures ∙ is.0)) stands

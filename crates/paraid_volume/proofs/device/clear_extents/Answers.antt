@@ -1,16 +1,16 @@
 use Rattle.std.proofs.Common.{◌≡◌, ℕ, ◌-◌, ◌++◌, arith, subst}
 use Rattle.std.proofs.lemmas.Nat.{mul-add-lt}
-use Rattle.paraid_volume.specs.Device.{Holds, Since, Clears, InExtent}
+use Rattle.paraid_volume.specs.Device.{DeviceHolds, SinceHistory, Clears, InExtent}
 use Rattle.paraid_volume.specs.TableBlocks.{in_table}
 use Rattle.paraid_volume.specs.Tables.{owner_in}
 use Rattle.paraid_volume.proofs.ClearLemmas.{cleared_more, cleared_none}
-use Rattle.paraid_volume.proofs.DeviceLemmas.{Went-none, Went-then, Grown-none, Grown-then}
+use Rattle.paraid_volume.proofs.DeviceLemmas.{DeviceGoesOn-none, DeviceGoesOn-then, KeepsMore-none, KeepsMore-then}
 use Rattle.paraid_volume.proofs.device.clear_extents.Goals as goal
 
 pub loop-extent-init : goal.loop-extent-init
 loop-extent-init g c = record {
-  went = Went-none _ _ _ _ _;
-  grown = Grown-none _ _ _ _;
+  went = DeviceGoesOn-none _ _ _ _ _;
+  grown = KeepsMore-none _ _ _ _;
   none = c.requires.none;
   clears = λ from h stands tells. cleared_none _ h _ (λ b is. let below = is.below in omega (arith, below)) stands;
 }
@@ -27,14 +27,14 @@ pub clear_extent-requires-clause-small : goal.clear_extent-requires-clause-small
 clear_extent-requires-clause-small g c = let same = c.loop-extent.invariant.went.size in let small = c.requires.small in omega (arith, same, small)
 
 pub returns-in_err-clear_extent-clause-went : goal.returns-in_err-clear_extent-clause-went
-returns-in_err-clear_extent-clause-went g c = Went-then _ _ _ _ _ _ _ c.loop-extent.invariant.went c.clear_extent.ensures.went
+returns-in_err-clear_extent-clause-went g c = DeviceGoesOn-then _ _ _ _ _ _ _ c.loop-extent.invariant.went c.clear_extent.ensures.went
 
 pub loop-extent-preserved : goal.loop-extent-preserved
 loop-extent-preserved g c =
     let inv = c.loop-extent.invariant in
     record {
-      went = Went-then _ _ _ _ _ _ _ inv.went c.clear_extent.ensures.went;
-      grown = Grown-then _ _ _ _ _ _ c.clear_extent.ensures.went.told inv.grown c.clear_extent.ensures.grown;
+      went = DeviceGoesOn-then _ _ _ _ _ _ _ inv.went c.clear_extent.ensures.went;
+      grown = KeepsMore-then _ _ _ _ _ _ c.clear_extent.ensures.went.told inv.grown c.clear_extent.ensures.grown;
       none = c.in_ok-clear_extent.ensures.halt;
       clears = λ from h stands tells.
           let first = inv.clears from h stands (c.clear_extent.ensures.went.told tells) in
@@ -52,10 +52,10 @@ returns-clause-clears g c =
     let past = c.loop-extent-test.false in
     let until = c.loop-extent.auto.extent-end in
     let same : c.loop-extent.extent ≡ c.args.extents = omega (arith, past, until) in
-    subst (λ (n : ℕ). (from : Since) → Clears (Holds g.B.Blocks.stands g.B.Blocks.kept from) g.B.Blocks.tells c.args.device.now c.loop-extent.device (InExtent (owner_in (in_table c.args.table.now)) c.args.id c.args.size n)) same c.loop-extent.invariant.clears
+    subst (λ (n : ℕ). (from : SinceHistory) → Clears (DeviceHolds g.B.Blocks.stands g.B.Blocks.kept from) g.B.Blocks.tells c.args.device.now c.loop-extent.device (InExtent (owner_in (in_table c.args.table.now)) c.args.id c.args.size n)) same c.loop-extent.invariant.clears
 
 pub returns-in_err-clear_extent-clause-grown : goal.returns-in_err-clear_extent-clause-grown
-returns-in_err-clear_extent-clause-grown g c = Grown-then _ _ _ _ _ _ c.clear_extent.ensures.went.told c.loop-extent.invariant.grown c.clear_extent.ensures.grown
+returns-in_err-clear_extent-clause-grown g c = KeepsMore-then _ _ _ _ _ _ c.clear_extent.ensures.went.told c.loop-extent.invariant.grown c.clear_extent.ensures.grown
 
 pub returns-clause-grown : goal.returns-clause-grown
 returns-clause-grown g c = c.loop-extent.invariant.grown

@@ -1,6 +1,6 @@
 use Rattle.std.proofs.Common.{◌++◌}
 use Rattle.paraid_base.specs.Pairs.{pairs_of}
-use Rattle.paraid_volume.proofs.DeviceLemmas.{Grown-then}
+use Rattle.paraid_volume.proofs.DeviceLemmas.{KeepsMore-then}
 use Rattle.paraid_volume.proofs.device.make.Goals as goal
 
 pub returns-clause-makes : goal.returns-clause-makes
@@ -15,7 +15,7 @@ returns-clause-makes g c = λ from h stands tells.
     }
 
 pub returns-in_err-write_table-clause-grown : goal.returns-in_err-write_table-clause-grown
-returns-in_err-write_table-clause-grown g c = Grown-then _ _ _ _ _ _ c.write_table.ensures.went.told c.clear_extents.ensures.grown c.write_table.ensures.grown
+returns-in_err-write_table-clause-grown g c = KeepsMore-then _ _ _ _ _ _ c.write_table.ensures.went.told c.clear_extents.ensures.grown c.write_table.ensures.grown
 
 pub returns-clause-grown : goal.returns-clause-grown
-returns-clause-grown g c = Grown-then _ _ _ _ _ _ c.write_table.ensures.went.told c.clear_extents.ensures.grown c.write_table.ensures.grown
+returns-clause-grown g c = KeepsMore-then _ _ _ _ _ _ c.write_table.ensures.went.told c.clear_extents.ensures.grown c.write_table.ensures.grown

@@ -1,15 +1,15 @@
 use Rattle.paraid_base.specs.declared.event.Event.TheVariants.{Read}
 use Rattle.paraid_base.specs.declared.event.Answer.TheVariants.{Value}
-use Rattle.paraid_volume.proofs.DeviceLemmas.{Grown-one}
+use Rattle.paraid_volume.proofs.DeviceLemmas.{KeepsMore-one}
 use Rattle.std.proofs.Common.{refl}
 use Rattle.paraid_volume.proofs.DeviceLemmas.{holds_same}
 use Rattle.paraid_volume.proofs.device.read_block.Goals as goal
 
 pub returns-in-Ok-clause-grown : goal.returns-in-Ok-clause-grown
-returns-in-Ok-clause-grown g c = Grown-one _ _ _ _ _ _ _ c.read.ensures.events tt
+returns-in-Ok-clause-grown g c = KeepsMore-one _ _ _ _ _ _ _ c.read.ensures.events tt
 
 pub returns-in-Err-Halt-clause-grown : goal.returns-in-Err-Halt-clause-grown
-returns-in-Err-Halt-clause-grown g c = Grown-one _ _ _ _ _ _ _ c.read.ensures.events tt
+returns-in-Err-Halt-clause-grown g c = KeepsMore-one _ _ _ _ _ _ _ c.read.ensures.events tt
 
 pub returns-in-Ok-clause-keeps : goal.returns-in-Ok-clause-keeps
 returns-in-Ok-clause-keeps g c = λ from h stands tells.

@@ -1,14 +1,14 @@
 use Rattle.std.proofs.Common.{None, ◌≡◌, ℕ, ◌∙◌, arith}
-use Rattle.paraid_base.specs.History.{held}
+use Rattle.paraid_base.specs.History.{after_all}
 use Rattle.paraid_volume.specs.TableBlocks.{in_table}
-use Rattle.paraid_volume.proofs.DeviceLemmas.{Went-none, Went-then, Grown-none, Grown-then}
+use Rattle.paraid_volume.proofs.DeviceLemmas.{DeviceGoesOn-none, DeviceGoesOn-then, KeepsMore-none, KeepsMore-then}
 use Rattle.paraid_volume.proofs.Steps.{below_more}
 use Rattle.paraid_volume.proofs.device.read_table.Goals as goal
 
 pub loop-at-init : goal.loop-at-init
 loop-at-init g c = record {
-  went = Went-none _ _ _ _ _;
-  grown = Grown-none _ _ _ _;
+  went = DeviceGoesOn-none _ _ _ _ _;
+  grown = KeepsMore-none _ _ _ _;
   none = λ l. let no : ⊥ = omega (arith, l) in absurd no;
   keeps = λ from h stands tells. stands;
   read = λ h stands tells k l. let no : ⊥ = omega (arith, l) in absurd no;
@@ -18,19 +18,19 @@ pub read_block-requires-clause-size : goal.read_block-requires-clause-size
 read_block-requires-clause-size g c = let size = c.loop-at.invariant.went.size in let large = c.requires in omega (arith, size, large)
 
 pub returns-in_err-read_block-clause-went : goal.returns-in_err-read_block-clause-went
-returns-in_err-read_block-clause-went g c = Went-then _ _ _ _ _ _ _ c.loop-at.invariant.went c.read_block.ensures.went
+returns-in_err-read_block-clause-went g c = DeviceGoesOn-then _ _ _ _ _ _ _ c.loop-at.invariant.went c.read_block.ensures.went
 
 pub loop-at-preserved : goal.loop-at-preserved
 loop-at-preserved g c =
     let before = c.loop-at.invariant in
     let done = c.in_ok-read_block.ensures in record {
-      went = Went-then _ _ _ _ _ _ _ before.went c.read_block.ensures.went;
-      grown = Grown-then _ _ _ _ _ _ c.read_block.ensures.went.told before.grown c.read_block.ensures.grown;
+      went = DeviceGoesOn-then _ _ _ _ _ _ _ before.went c.read_block.ensures.went;
+      grown = KeepsMore-then _ _ _ _ _ _ c.read_block.ensures.went.told before.grown c.read_block.ensures.grown;
       none = λ l. done.halt;
       keeps = λ from h stands tells. done.keeps from h (before.keeps from h stands (c.read_block.ensures.went.told tells)) tells;
       read = λ h stands tells.
           let was = c.read_block.ensures.went.told tells in
-          below_more (λ (k : ℕ). in_table c.read_block.new.table k ≡ held h k) c.loop-at.at
+          below_more (λ (k : ℕ). in_table c.read_block.new.table k ≡ after_all h k) c.loop-at.at
           (λ k l. c.read_block.ensures.rest k (λ same. let no : ⊥ = omega (arith, l, same) in absurd no) ∙ before.read h stands was k l)
           (done.read h (before.keeps None h stands was) tells);
     }
@@ -48,7 +48,7 @@ pub returns-clause-read : goal.returns-clause-read
 returns-clause-read g c = λ h stands tells k l. let past = c.loop-at-test.false in c.loop-at.invariant.read h stands tells k (omega (arith, past, l))
 
 pub returns-in_err-read_block-clause-grown : goal.returns-in_err-read_block-clause-grown
-returns-in_err-read_block-clause-grown g c = Grown-then _ _ _ _ _ _ c.read_block.ensures.went.told c.loop-at.invariant.grown c.read_block.ensures.grown
+returns-in_err-read_block-clause-grown g c = KeepsMore-then _ _ _ _ _ _ c.read_block.ensures.went.told c.loop-at.invariant.grown c.read_block.ensures.grown
 
 pub returns-clause-grown : goal.returns-clause-grown
 returns-clause-grown g c = c.loop-at.invariant.grown

@@ -3,7 +3,7 @@ use Rattle.paraid_base.specs.declared.fault.BlockFault.{BlockFault}
 use Rattle.paraid_base.specs.BlockAnswers.{RefusesMany}
 use Rattle.paraid_base.specs.Pairs.{pairs_of}
 use Rattle.paraid_volume.proofs.LaidLemmas.{not_missing}
-use Rattle.paraid_volume.proofs.DeviceLemmas.{Grown-one}
+use Rattle.paraid_volume.proofs.DeviceLemmas.{KeepsMore-one}
 use Rattle.std.proofs.Common.{refl}
 use Rattle.paraid_volume.proofs.DeviceLemmas.{holds_write}
 use Rattle.paraid_volume.proofs.device.write_table.Goals as goal
@@ -17,10 +17,10 @@ unreachable-requires g c =
     (subst (λ (r : Result ℕ BlockFault). RefusesMany count entry r) is c.write_many.ensures.missing)
 
 pub returns-in-Ok-clause-grown : goal.returns-in-Ok-clause-grown
-returns-in-Ok-clause-grown g c = Grown-one _ _ _ _ _ _ _ c.write_many.ensures.events tt
+returns-in-Ok-clause-grown g c = KeepsMore-one _ _ _ _ _ _ _ c.write_many.ensures.events tt
 
 pub returns-in-Err-Halt-clause-grown : goal.returns-in-Err-Halt-clause-grown
-returns-in-Err-Halt-clause-grown g c = Grown-one _ _ _ _ _ _ _ c.write_many.ensures.events tt
+returns-in-Err-Halt-clause-grown g c = KeepsMore-one _ _ _ _ _ _ _ c.write_many.ensures.events tt
 
 pub returns-in-Ok-clause-adds : goal.returns-in-Ok-clause-adds
 returns-in-Ok-clause-adds g c = λ from h stands tells.

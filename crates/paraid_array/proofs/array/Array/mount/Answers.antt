@@ -1,5 +1,5 @@
 use Rattle.std.proofs.Common.{refl, []}
-use Rattle.paraid_array.specs.Kept.{begun}
+use Rattle.paraid_array.specs.Events.{begun}
 use Rattle.paraid_array.proofs.RowsLemmas.{stands_zeros}
 use Rattle.paraid_array.proofs.array.Array.mount.Goals as goal
 

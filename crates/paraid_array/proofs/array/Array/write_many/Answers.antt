@@ -1,5 +1,5 @@
 use Rattle.std.proofs.Common.{◌≡◌, ◌∷◌, [], arith, length, length-append}
-use Rattle.paraid_base.specs.History.{held}
+use Rattle.paraid_base.specs.History.{after_all}
 use Rattle.paraid_base.specs.Pairs.{pairs_of}
 use Rattle.paraid_array.proofs.RowsLemmas.{stands_entry}
 use Rattle.paraid_array.proofs.array.Array.write_many.Goals as goal
@@ -12,6 +12,6 @@ returns-in-Ok-clause-history g c h stands =
       omega arith,
       (
         omega arith,
-        stands_entry c.args.self.now.geometry (g.R.Rack.told c.write_pairs.new.rack) h entry (c.in-Ok.ensures.blocks (held h) stands.1),
+        stands_entry c.args.self.now.geometry (g.R.Rack.told c.write_pairs-answer.new.rack) h entry (c.in-Ok.ensures.blocks (after_all h) stands.1),
       ),
     )

@@ -1,5 +1,5 @@
 use Rattle.std.proofs.Common.{◌≡◌, ℕ, ◌+◌, ◌-◌, ◌<◌, ◌≤◌, length, get_or, true, false}
-use Rattle.paraid_base.specs.Gears.{is_bad_gear, Marks}
+use Rattle.paraid_base.specs.Gears.{is_bad_gear, AreFlagsOf}
 use Rattle.paraid_base.proofs.geometry.Geometry.new.Given as goal
 
 abbrev pub invariant-loop-at : goal.invariant-loop-at
@@ -12,5 +12,5 @@ invariant-loop-at l = record {
   long : length l.flags ≡ 9;
   flags_low : (a : ℕ) → get_or l.flags a false ≡ true → 3 ≤ a;
   flags_high : (a : ℕ) → get_or l.flags a false ≡ true → a ≤ l.disks;
-  marks : Marks l.gears l.at l.flags;
+  marks : AreFlagsOf l.gears l.at l.flags;
 }

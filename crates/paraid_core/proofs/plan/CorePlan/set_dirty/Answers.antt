@@ -1,7 +1,7 @@
 use Rattle.std.proofs.Common.{◌<◌, length, arith}
 use Rattle.paraid_dirty.specs.Table.{is_dirty}
-use Rattle.paraid_plan.specs.Staged.{lay}
-use Rattle.paraid_txn.specs.Stores.{rack_of}
+use Rattle.paraid_plan.specs.WriteTargets.{overlaid_blocks}
+use Rattle.paraid_txn.specs.Stores.{store_rack}
 use Rattle.paraid_core.specs.declared.changes.Change.{Change}
 use Rattle.paraid_core.specs.Leads.{leads_stays}
 use Rattle.paraid_core.specs.Plans.{base_of}
@@ -11,7 +11,7 @@ use Rattle.paraid_core.proofs.plan.CorePlan.set_dirty.Goals as goal
 pub returns-clause-desk : goal.returns-clause-desk
 returns-clause-desk g c =
     let old = c.args.self.now in
-    desk_bit (lay old.draft (base_of (g.R.Rack.told (rack_of old.store)) old.batch)) (is_dirty old.dirty) (is_dirty c.turn.new.dirty) old.draft c.args.r c.args.d c.args.bit c.turn.ensures.cells
+    desk_bit (overlaid_blocks old.draft (base_of (g.R.Rack.told (store_rack old.store)) old.batch)) (is_dirty old.dirty) (is_dirty c.turn.new.dirty) old.draft c.args.r c.args.d c.args.bit c.turn.ensures.cells
 
 pub returns-clause-leads : goal.returns-clause-leads
 returns-clause-leads g c =
@@ -28,6 +28,7 @@ returns-clause-leads g c =
       same = stay.same;
       meta = stay.meta;
       batch = stay.batch;
+      copied = stay.copied;
       rows = c.turn.ensures.rows;
       undone_same = undone_change old.changes c.push.new.self (is_dirty old.dirty) (is_dirty c.turn.new.dirty) change c.args.bit c.push.ensures c.has-was.ensures c.turn.ensures.cells;
       logged = λ are. logged_more _ _ old.changes c.push.new.self change c.turn.ensures.rows c.push.ensures below are;

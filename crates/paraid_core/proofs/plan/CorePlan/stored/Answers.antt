@@ -1,7 +1,7 @@
 use Rattle.paraid_dirty.specs.Table.{is_dirty}
 use Rattle.paraid_image.specs.Standing.{Contents}
-use Rattle.paraid_plan.specs.Staged.{lay}
-use Rattle.paraid_txn.specs.Stores.{disks_of, rack_of}
+use Rattle.paraid_plan.specs.WriteTargets.{overlaid_blocks}
+use Rattle.paraid_txn.specs.Stores.{disks_of, store_rack}
 use Rattle.paraid_core.specs.Plans.{base_of}
 use Rattle.paraid_core.proofs.PlanLemmas.{base_same, desk_same, shows_desk}
 use Rattle.paraid_core.proofs.plan.CorePlan.stored.Goals as goal
@@ -9,7 +9,7 @@ use Rattle.paraid_core.proofs.plan.CorePlan.stored.Goals as goal
 pub returns-in_default-clause-ok : goal.returns-in_default-clause-ok
 returns-in_default-clause-ok g c some =
     let old = c.args.self.now in
-    let f : Contents = lay old.draft (base_of (g.R.Rack.told (rack_of old.store)) old.batch) in
+    let f : Contents = overlaid_blocks old.draft (base_of (g.R.Rack.told (store_rack old.store)) old.batch) in
     c.in_default.ensures.value f (shows_desk _ old.batch old.draft) some
 
 pub returns-in_default-clause-same : goal.returns-in_default-clause-same
@@ -17,4 +17,4 @@ returns-in_default-clause-same g c some =
     let old = c.args.self.now in
     let read = c.in_default.ensures.read in
     desk_same (is_dirty old.dirty) old.draft _ _
-    (base_same (disks_of old.store) _ _ (g.R.Rack.slot (rack_of old.store)) (g.R.Rack.slot (rack_of c.read_laid.new.store)) old.batch (g.met.R.Rack.agrees (rack_of old.store)) (g.met.R.Rack.agrees (rack_of c.read_laid.new.store)) read.left read.calls some)
+    (base_same (disks_of old.store) _ _ (g.R.Rack.slot (store_rack old.store)) (g.R.Rack.slot (store_rack c.read_laid.new.store)) old.batch (g.met.R.Rack.agrees (store_rack old.store)) (g.met.R.Rack.agrees (store_rack c.read_laid.new.store)) read.left read.calls some)

@@ -1,17 +1,21 @@
 use Rattle.std.proofs.Common.{◌≡◌, ℕ, ◌+◌, ◌∙◌, Some, None, sym, ap, subst, Option, ◌<◌}
-use Rattle.paraid_txn.specs.Stores.{disks_of, epoch_of, named_of, rack_of}
+use Rattle.paraid_txn.specs.Stores.{disks_of, epoch_of, named_of, store_rack}
 use Rattle.paraid_record.specs.declared.meta.Meta.{Meta}
-use Rattle.paraid_core.proofs.CommitLemmas.{commit_moments, commit_stands}
-use Rattle.std.specs.Prelude.{◌-◌, ◌^◌, length, false, []}
-use Rattle.std.proofs.Common.{arith}
+use Rattle.paraid_core.proofs.CommitLemmas.{commit_filled, commit_moments, commit_stands}
+use Rattle.std.specs.Prelude.{◌-◌, ◌^◌, ◌⊎◌, length, false, []}
+use Rattle.std.proofs.Common.{arith, inl, inr, refl}
 use Rattle.paraid_rack.specs.Disks.{is_present}
 use Rattle.paraid_rack.specs.Slots.{Slot}
-use Rattle.paraid_txn.specs.Losses.{IsTwo}
+use Rattle.paraid_txn.specs.Losses.{AreTwoDown}
 use Rattle.paraid_image.specs.Out.{named_out, or_else}
 use Rattle.paraid_image.specs.Sides.{Batch}
-use Rattle.paraid_core.specs.Stands.{CanServe, IsReady, lost_in, marked}
+use Rattle.paraid_core.specs.CoreInvariant.{CanServe, AreSlotsReady, lost_in, meta_with_lost}
 use Rattle.paraid_core.proofs.AfterLemmas.{commit_lost_only, handed, lost_in_low, lost_in_was, ready_after, ready_moved, marked_setup, marked_writes, ready_next, serve_after, two_down}
+use Rattle.paraid_core.specs.Cleaning.{is_cleaned}
+use Rattle.paraid_core.proofs.CleanLemmas.{cleans_marked}
+use Rattle.paraid_core.proofs.ChainLemmas.{down_marked, marked_out}
 use Rattle.paraid_core.proofs.ReadyLemmas.{IsLostOnly}
+use Rattle.paraid_core.proofs.SinceLemmas.{core_since, core_since_end}
 use Rattle.paraid_core.proofs.staged.Core.commit.Given.{Over}
 use Rattle.paraid_core.proofs.staged.Core.commit.Goals as goal
 use Rattle.paraid_core.proofs.staged.Core.commit.Goals.{In_ok-lose}
@@ -19,24 +23,24 @@ use Rattle.paraid_core.proofs.staged.Core.commit.Goals.{In_ok-lose}
 pub returns-clause-moments : goal.returns-clause-moments
 returns-clause-moments g c h lo =
     let old = c.args.self.now in
-    commit_moments (g.R.Rack.slot_count (rack_of old.store)) (named_of old.store) old.meta old.dirty old.batch h lo (epoch_of old.store) c.requires.ready.epoch_is c.requires.ready.in_range c.requires.ready.one _ _ c.commit.ensures.any_moment
+    commit_moments (g.R.Rack.slot_count (store_rack old.store)) (named_of old.store) old.meta old.dirty old.batch old.copied c.requires.copies_synced h lo (epoch_of old.store) c.requires.ready.epoch_is c.requires.ready.in_range c.requires.ready.one _ _ c.commit.ensures.any_moment
 
 pub returns-in_err-lost-clause-moments : goal.returns-in_err-lost-clause-moments
 returns-in_err-lost-clause-moments g c h lo =
     let old = c.args.self.now in
-    commit_moments (g.R.Rack.slot_count (rack_of old.store)) (named_of old.store) old.meta old.dirty old.batch h lo (epoch_of old.store) c.requires.ready.epoch_is c.requires.ready.in_range c.requires.ready.one _ _ c.commit.ensures.any_moment
+    commit_moments (g.R.Rack.slot_count (store_rack old.store)) (named_of old.store) old.meta old.dirty old.batch old.copied c.requires.copies_synced h lo (epoch_of old.store) c.requires.ready.epoch_is c.requires.ready.in_range c.requires.ready.one _ _ c.commit.ensures.any_moment
 
 pub returns-in_err-lose-clause-moments : goal.returns-in_err-lose-clause-moments
 returns-in_err-lose-clause-moments g c h lo =
     let old = c.args.self.now in
-    commit_moments (g.R.Rack.slot_count (rack_of old.store)) (named_of old.store) old.meta old.dirty old.batch h lo (epoch_of old.store) c.requires.ready.epoch_is c.requires.ready.in_range c.requires.ready.one _ _ c.commit.ensures.any_moment
+    commit_moments (g.R.Rack.slot_count (store_rack old.store)) (named_of old.store) old.meta old.dirty old.batch old.copied c.requires.copies_synced h lo (epoch_of old.store) c.requires.ready.epoch_is c.requires.ready.in_range c.requires.ready.one _ _ c.commit.ensures.any_moment
 
 pub returns-in_err-lost-clause-two : goal.returns-in_err-lost-clause-two
 returns-in_err-lost-clause-two g c =
     let old = c.args.self.now in
-    let slot = g.R.Rack.slot (rack_of old.store) in
-    handed (IsTwo (or_else (named_of old.store) (named_out old.meta.out)) slot (g.R.Rack.slot (rack_of c.commit.new.self))) c.from_residual.result _ c.from_residual.ensures.1
-    (two_down (named_of old.store) (λ x. (slot x).power) (disks_of old.store) old.meta c.requires.ready.array_is c.requires.ready.absent c.requires.ready.one slot (g.R.Rack.slot (rack_of c.commit.new.self)) _ c.in_err-lost.ensures.two)
+    let slot = g.R.Rack.slot (store_rack old.store) in
+    handed (AreTwoDown (or_else (named_of old.store) (named_out old.meta.out)) slot (g.R.Rack.slot (store_rack c.commit.new.self))) c.from_residual.result _ c.from_residual.ensures.1
+    (two_down (named_of old.store) (λ x. (slot x).power) (disks_of old.store) old.meta c.requires.ready.array_is c.requires.ready.absent c.requires.ready.one slot (g.R.Rack.slot (store_rack c.commit.new.self)) _ c.in_err-lost.ensures.two)
 
 module _ (g : Over) (c : In_ok-lose g) where
   abbrev m : Meta
@@ -49,10 +53,10 @@ module _ (g : Over) (c : In_ok-lose g) where
   lost = lost_in m c.in_ok-lost.lost
 
   abbrev slot : ℕ → Slot
-  slot = g.R.Rack.slot (rack_of c.args.self.now.store)
+  slot = g.R.Rack.slot (store_rack c.args.self.now.store)
 
   abbrev then : ℕ → Slot
-  then = g.R.Rack.slot (rack_of c.commit.new.self)
+  then = g.R.Rack.slot (store_rack c.commit.new.self)
 
   only : IsLostOnly m.setup.geometry.disks lost slot then
   only = commit_lost_only m c.in_ok-lost.lost slot then c.in_ok-lost.ensures.well c.in_ok-lost.ensures.lost
@@ -60,35 +64,43 @@ module _ (g : Over) (c : In_ok-lose g) where
   alone : (d x : ℕ) → lost ≡ Some d → named_out m.out ≡ Some x → x ≡ d
   alone d x is k = c.in_ok-lose.ensures.alone d x (lost_in_was m c.in_ok-lost.lost d is) k (lost_in_low m c.in_ok-lost.lost d is)
 
-  meta_is : c.lose.new.meta ≡ marked lost (record m { epoch = last + 1 })
-  meta_is = c.in_ok-lose.ensures.marked ∙ ap (λ (z : ℕ). marked (lost_in (record m { epoch = z }) c.in_ok-lost.lost) (record m { epoch = z })) (c.epoch-self.ensures ∙ c.in_ok-lost.ensures.epoch)
+  meta_is : c.lose.new.meta ≡ meta_with_lost lost (record m { epoch = last + 1 })
+  meta_is = c.in_ok-lose.ensures.marked ∙ ap (λ (z : ℕ). meta_with_lost (lost_in (record m { epoch = z }) c.in_ok-lost.lost) (record m { epoch = z })) (c.epoch-self.ensures ∙ c.in_ok-lost.ensures.epoch)
 
-  ready_then : IsReady (g.R.Rack.slot_count (rack_of c.args.self.now.store)) then (last + 1) (disks_of c.args.self.now.store) (named_out m.out) (marked lost (record m { epoch = last + 1 })) (length c.args.self.now.dirty) []
+  ready_then : AreSlotsReady (g.R.Rack.slot_count (store_rack c.args.self.now.store)) then (last + 1) (disks_of c.args.self.now.store) (named_out m.out) (meta_with_lost lost (record m { epoch = last + 1 })) (length c.args.self.now.dirty) []
   ready_then =
       ready_after _ slot then (last + 1) _ (named_out m.out) (record m { epoch = last + 1 }) _ [] (ready_next _ slot last _ _ m _ _ (last_low) c.requires.ready) c.in_ok-lost.lost only alone alone (λ d is. lost_in_low m c.in_ok-lost.lost d is)
     where
       last_low : last < 2 ^ 64 - 1
       last_low = let e = c.requires.ready.epoch_is in let l = c.requires.epoch in omega arith
 
-  absent_then : (d : ℕ) → d < m.setup.geometry.disks → is_present (then d).power ≡ false → named_out (marked lost m).out ≡ Some d
+  absent_then : (d : ℕ) → d < m.setup.geometry.disks → is_present (then d).power ≡ false → named_out (meta_with_lost lost m).out ≡ Some d
   absent_then d ld gone = by lost (ready_then.absent)
     where
-      by : (o : Option ℕ) → ((e : ℕ) → e < (marked o (record m { epoch = last + 1 })).setup.geometry.disks → is_present (then e).power ≡ false → named_out (marked o (record m { epoch = last + 1 })).out ≡ Some e)
-          → named_out (marked o m).out ≡ Some d
+      by : (o : Option ℕ) → ((e : ℕ) → e < (meta_with_lost o (record m { epoch = last + 1 })).setup.geometry.disks → is_present (then e).power ≡ false → named_out (meta_with_lost o (record m { epoch = last + 1 })).out ≡ Some e)
+          → named_out (meta_with_lost o m).out ≡ Some d
       by None absent = absent d ld gone
       by (Some e) absent = absent d ld gone
 
 pub returns-clause-ready : goal.returns-clause-ready
 returns-clause-ready g c =
-    subst (λ (z : Batch). IsReady (g.R.Rack.slot_count (rack_of c.commit.new.self)) (then g c) (epoch_of c.commit.new.self) (disks_of c.commit.new.self) (named_of c.commit.new.self) c.lose.new.meta (length c.args.self.now.dirty) z) (sym c.clear.ensures)
-    (ready_moved _ _ (then g c) _ _ _ _ _ _ (marked (lost g c) (record c.args.self.now.meta { epoch = epoch_of c.args.self.now.store + 1 })) _ _ [] c.commit.ensures.slots c.in_ok-lost.ensures.epoch c.commit.ensures.disks c.in_ok-lost.ensures.named (meta_is g c) (ready_then g c))
+    subst (λ (z : Batch). AreSlotsReady (g.R.Rack.slot_count (store_rack c.commit.new.self)) (then g c) (epoch_of c.commit.new.self) (disks_of c.commit.new.self) (named_of c.commit.new.self) c.lose.new.meta (length c.args.self.now.dirty) z) (sym c.clear.ensures)
+    (ready_moved _ _ (then g c) _ _ _ _ _ _ (meta_with_lost (lost g c) (record c.args.self.now.meta { epoch = epoch_of c.args.self.now.store + 1 })) _ _ [] c.commit.ensures.slots c.in_ok-lost.ensures.epoch c.commit.ensures.disks c.in_ok-lost.ensures.named (meta_is g c) (ready_then g c))
 
 pub returns-clause-stands : goal.returns-clause-stands
 returns-clause-stands g c h lo =
     let old = c.args.self.now in
-    commit_stands (g.R.Rack.slot_count (rack_of old.store)) (named_of old.store) old.meta old.dirty old.batch h lo (epoch_of old.store) c.requires.ready.epoch_is c.requires.ready.in_range c.requires.ready.one
-    c.requires.stays _ _ (slot g c) (then g c) (g.met.R.Rack.agrees (rack_of old.store)) (g.met.R.Rack.agrees (rack_of c.commit.new.self)) (lost g c) (λ d is. lost_in_low old.meta c.in_ok-lost.lost d is) (only g c) (alone g c)
+    commit_stands (g.R.Rack.slot_count (store_rack old.store)) (named_of old.store) old.meta old.dirty old.batch old.copied c.requires.copies_synced h lo (epoch_of old.store) c.requires.ready.epoch_is c.requires.ready.in_range c.requires.ready.one
+    c.requires.stays _ _ (slot g c) (then g c) (g.met.R.Rack.agrees (store_rack old.store)) (g.met.R.Rack.agrees (store_rack c.commit.new.self)) (lost g c) (λ d is. lost_in_low old.meta c.in_ok-lost.lost d is) (only g c) (alone g c)
     c.requires.ready.absent (absent_then g c) _ _ _ _ c.commit.ensures.slots c.in_ok-lost.ensures.named (meta_is g c) c.clear.ensures c.commit.ensures.any_moment
+    c.in_ok-lost.ensures.committed
+
+pub returns-clause-filled : goal.returns-clause-filled
+returns-clause-filled g c h lo =
+    let old = c.args.self.now in
+    commit_filled (g.R.Rack.slot_count (store_rack old.store)) (named_of old.store) old.meta old.dirty old.batch old.copied c.requires.copies_synced h lo (epoch_of old.store) c.requires.ready.epoch_is c.requires.ready.in_range c.requires.ready.one
+    c.requires.stays _ _ (slot g c) (then g c) (g.met.R.Rack.agrees (store_rack old.store)) (g.met.R.Rack.agrees (store_rack c.commit.new.self)) (lost g c) (λ d is. lost_in_low old.meta c.in_ok-lost.lost d is) (only g c) (alone g c)
+    c.requires.ready.absent (absent_then g c) _ _ _ c.commit.ensures.slots c.in_ok-lost.ensures.named (meta_is g c) c.commit.ensures.any_moment
     c.in_ok-lost.ensures.committed
 
 pub returns-clause-serves : goal.returns-clause-serves
@@ -108,3 +120,44 @@ returns-clause-setup g c = ap (λ (z : Meta). z.setup) (meta_is g c) ∙ marked_
 
 pub returns-clause-writes : goal.returns-clause-writes
 returns-clause-writes g c = ap (λ (z : Meta). z.writes) (meta_is g c) ∙ marked_writes (lost g c) _
+
+pub returns-clause-down : goal.returns-clause-down
+returns-clause-down g c =
+    let old = c.args.self.now in
+    down_marked (named_of old.store) old.meta c.in_ok-lost.lost c.lose.new.meta (named_of c.commit.new.self) (slot g c) (then g c) c.requires.ready.one
+    (ap (λ (z : Meta). named_out z.out) (meta_is g c) ∙ marked_out (lost g c) old.meta _) c.in_ok-lost.ensures.lost c.in_ok-lost.ensures.named
+
+pub returns-clause-cleans_less : goal.returns-clause-cleans_less
+returns-clause-cleans_less g c r d is =
+    let old = c.args.self.now in
+    subst (λ (z : Meta). is_cleaned z old.dirty r d ≡ false) (sym (meta_is g c)) (cleans_marked (lost g c) old.meta (epoch_of old.store + 1) old.dirty r d is)
+
+pub returns-clause-meta : goal.returns-clause-meta
+returns-clause-meta g c = record {
+  lost = lost g c;
+  is = meta_is g c ∙ ap (λ (z : ℕ). meta_with_lost (lost g c) (record c.args.self.now.meta { epoch = z + 1 })) (sym c.requires.ready.epoch_is);
+  alone = alone g c;
+}
+
+pub returns-clause-moments_since : goal.returns-clause-moments_since
+returns-clause-moments_since g c absent h lo = core_since_end g.R.Rack.slot_count g.R.Rack.slot g.R.Rack.told c.args.self.now c.requires.ready absent (g.met.R.Rack.agrees (store_rack c.args.self.now.store)) _ c.commit.ensures.calls h lo _ (returns-clause-moments g c h lo)
+
+pub returns-in_err-lost-clause-moments_since : goal.returns-in_err-lost-clause-moments_since
+returns-in_err-lost-clause-moments_since g c absent h lo = core_since_end g.R.Rack.slot_count g.R.Rack.slot g.R.Rack.told c.args.self.now c.requires.ready absent (g.met.R.Rack.agrees (store_rack c.args.self.now.store)) _ c.commit.ensures.calls h lo _ (returns-in_err-lost-clause-moments g c h lo)
+
+pub returns-in_err-lose-clause-moments_since : goal.returns-in_err-lose-clause-moments_since
+returns-in_err-lose-clause-moments_since g c absent h lo = core_since_end g.R.Rack.slot_count g.R.Rack.slot g.R.Rack.told c.args.self.now c.requires.ready absent (g.met.R.Rack.agrees (store_rack c.args.self.now.store)) _ c.commit.ensures.calls h lo _ (returns-in_err-lose-clause-moments g c h lo)
+
+pub returns-clause-since : goal.returns-clause-since
+returns-clause-since g c absent h lo = core_since g.R.Rack.slot_count g.R.Rack.slot g.R.Rack.told c.args.self.now c.requires.ready absent (g.met.R.Rack.agrees (store_rack c.args.self.now.store)) _ c.commit.ensures.calls h lo _ _ (returns-clause-stands g c h lo)
+
+pub returns-clause-filled_since : goal.returns-clause-filled_since
+returns-clause-filled_since g c absent h lo = core_since g.R.Rack.slot_count g.R.Rack.slot g.R.Rack.told c.args.self.now c.requires.ready absent (g.met.R.Rack.agrees (store_rack c.args.self.now.store)) _ c.commit.ensures.calls h lo _ _ (returns-clause-filled g c h lo)
+
+pub returns-clause-absent : goal.returns-clause-absent
+returns-clause-absent g c d is = by (lost g c) refl (ap (λ (z : Meta). named_out z.out) (sym (meta_is g c)) ∙ is)
+  where
+    by : (o : Option ℕ) → lost g c ≡ o → named_out (meta_with_lost o (record c.args.self.now.meta { epoch = epoch_of c.args.self.now.store + 1 })).out ≡ Some d
+        → (named_of c.commit.new.self ≡ Some d) ⊎ (is_present (then g c d).power ≡ false)
+    by None e k = inl (c.in_ok-lost.ensures.named ∙ k)
+    by (Some x) e k = inr (ap is_present ((only g c).gone d (e ∙ k)))

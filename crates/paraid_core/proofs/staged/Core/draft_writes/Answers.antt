@@ -1,14 +1,14 @@
 use Rattle.std.proofs.Common.{◌≡◌, None, subst, OnOk, IsSome}
 use Rattle.paraid_base.specs.Pairs.{pairs_of}
 use Rattle.paraid_plan.specs.Desk.{StageAll}
-use Rattle.paraid_core.specs.Cores.{rack_in}
-use Rattle.paraid_core.specs.Plans.{LeadsTo, cleared, desk_of}
+use Rattle.paraid_core.specs.Cores.{core_rack}
+use Rattle.paraid_core.specs.Plans.{LeadsTo, without_draft, desk_of}
 use Rattle.paraid_core.proofs.staged.Core.draft_writes.Given.{Over}
 use Rattle.paraid_core.proofs.staged.Core.draft_writes.Goals as goal
 use Rattle.paraid_core.proofs.staged.Core.draft_writes.Goals.{After-write_blocks}
 
 module _ (g : Over) (c : After-write_blocks g) where
-  begun : record (record (record c.args.self.now { draft = c.clear.new.self }) { changes = c.clear-2.new.self }) { failed = None } ≡ cleared c.args.self.now
+  begun : record (record (record c.args.self.now { draft = c.clear.new.self }) { changes = c.clear-2.new.self }) { failed = None } ≡ without_draft c.args.self.now
   begun = λ i. record c.args.self.now { draft = c.clear.ensures i; changes = c.clear-2.ensures i; failed = None }
 
 pub returns-clause-leads : goal.returns-clause-leads
@@ -17,5 +17,5 @@ returns-clause-leads g c =
 
 pub returns-clause-writes : goal.returns-clause-writes
 returns-clause-writes g c =
-    subst (λ (z : _). OnOk c.write_blocks.result (IsSome (g.R.Rack.told (rack_in c.write_blocks.new.plan)) → StageAll c.args.self.now.meta (desk_of g.R.Rack.told z) (desk_of g.R.Rack.told c.write_blocks.new.plan) (pairs_of c.args.pairs.now)))
+    subst (λ (z : _). OnOk c.write_blocks.result (IsSome (g.R.Rack.told (core_rack c.write_blocks.new.plan)) → StageAll c.args.self.now.meta (desk_of g.R.Rack.told z) (desk_of g.R.Rack.told c.write_blocks.new.plan) (pairs_of c.args.pairs.now)))
     (begun g c) c.write_blocks.ensures.writes

@@ -1,10 +1,10 @@
-use Rattle.std.proofs.Common.{◌≡◌, ℕ, ◌+◌, ◌∙◌, ◌<◌, Some, None, sym, ap, subst, refl, length}
+use Rattle.std.proofs.Common.{◌≡◌, ℕ, Option, ◌+◌, ◌∙◌, ◌<◌, Some, None, sym, ap, subst, refl, length}
 use Rattle.paraid_base.specs.Pairs.{pairs_of}
 use Rattle.paraid_dirty.specs.Table.{is_dirty}
-use Rattle.paraid_image.specs.Out.{named_out}
+use Rattle.paraid_image.specs.Out.{named_out, or_else}
 use Rattle.paraid_record.specs.declared.meta.Meta.{Meta}
-use Rattle.paraid_txn.specs.Stores.{disks_of, epoch_of, named_of, rack_of}
-use Rattle.paraid_core.specs.Stands.{CanServe, IsReady}
+use Rattle.paraid_txn.specs.Stores.{disks_of, epoch_of, named_of, store_rack}
+use Rattle.paraid_core.specs.CoreInvariant.{CanServe, AreSlotsReady}
 use Rattle.std.specs.Prelude.{◌^◌, false}
 use Rattle.paraid_image.specs.Sides.{Batch}
 use Rattle.paraid_rack.specs.Disks.{is_present}
@@ -12,6 +12,8 @@ use Rattle.paraid_core.specs.declared.staged.Core.{Core}
 use Rattle.paraid_core.specs.Taken.{IsTakenIn}
 use Rattle.paraid_core.proofs.AcceptLemmas.{accepted_ready, accepted_stands}
 use Rattle.paraid_core.proofs.AfterLemmas.{marked_setup}
+use Rattle.paraid_core.proofs.ChainLemmas.{down_lost, down_same}
+use Rattle.paraid_core.proofs.FailLemmas.{is_err_then, lost_one}
 use Rattle.paraid_core.proofs.TryLemmas.{dropped_ready, dropped_serves, dropped_stands, kept_ready, kept_serves, kept_stands, ended_held, not_err, since_held, try_moments}
 use Rattle.paraid_core.proofs.staged.Core.try_write.Given.{Over}
 use Rattle.paraid_core.proofs.staged.Core.try_write.Goals as goal
@@ -47,22 +49,22 @@ pub returns-then-is_err-clause-ready : goal.returns-then-is_err-clause-ready
 returns-then-is_err-clause-ready g c =
     let old = c.args.self.now in
     let pl = c.draft_writes.new.self in
-    dropped_ready g.R.Rack.slot_count g.R.Rack.slot g.R.Rack.told old pl c.draft_writes.ensures.leads c.requires.ready c.requires.serves (free g c) (g.met.R.Rack.agrees (rack_of old.store)) (g.met.R.Rack.agrees (rack_of pl.store))
-    (g.met.R.Rack.slots_hold (rack_of pl.store)).absent c.lose.new.meta c.undo.new.dirty c.in_ok-lose.ensures.marked c.undo.ensures.rows (bits g c)
+    dropped_ready g.R.Rack.slot_count g.R.Rack.slot g.R.Rack.told old pl c.draft_writes.ensures.leads c.requires.ready c.requires.serves (free g c) (g.met.R.Rack.agrees (store_rack old.store)) (g.met.R.Rack.agrees (store_rack pl.store))
+    (g.met.R.Rack.slots_hold (store_rack pl.store)).absent c.lose.new.meta c.undo.new.dirty c.in_ok-lose.ensures.marked c.undo.ensures.rows (bits g c)
 
 pub returns-then-is_err-clause-serves : goal.returns-then-is_err-clause-serves
 returns-then-is_err-clause-serves g c =
     let old = c.args.self.now in
     let pl = c.draft_writes.new.self in
-    dropped_serves g.R.Rack.slot_count g.R.Rack.slot g.R.Rack.told old pl c.draft_writes.ensures.leads c.requires.ready c.requires.serves (free g c) (g.met.R.Rack.agrees (rack_of old.store)) (g.met.R.Rack.agrees (rack_of pl.store))
-    (g.met.R.Rack.slots_hold (rack_of pl.store)).absent c.lose.new.meta c.undo.new.dirty c.in_ok-lose.ensures.marked c.undo.ensures.rows (bits g c)
+    dropped_serves g.R.Rack.slot_count g.R.Rack.slot g.R.Rack.told old pl c.draft_writes.ensures.leads c.requires.ready c.requires.serves (free g c) (g.met.R.Rack.agrees (store_rack old.store)) (g.met.R.Rack.agrees (store_rack pl.store))
+    (g.met.R.Rack.slots_hold (store_rack pl.store)).absent c.lose.new.meta c.undo.new.dirty c.in_ok-lose.ensures.marked c.undo.ensures.rows (bits g c)
 
 pub returns-then-is_err-clause-since : goal.returns-then-is_err-clause-since
 returns-then-is_err-clause-since g c h lo =
     let old = c.args.self.now in
     let pl = c.draft_writes.new.self in
-    dropped_stands g.R.Rack.slot_count g.R.Rack.slot g.R.Rack.told old pl c.draft_writes.ensures.leads c.requires.ready c.requires.serves (free g c) (g.met.R.Rack.agrees (rack_of old.store)) (g.met.R.Rack.agrees (rack_of pl.store))
-    (g.met.R.Rack.slots_hold (rack_of pl.store)).absent c.lose.new.meta c.undo.new.dirty c.in_ok-lose.ensures.marked c.undo.ensures.rows (bits g c) h lo
+    dropped_stands g.R.Rack.slot_count g.R.Rack.slot g.R.Rack.told old pl c.draft_writes.ensures.leads c.requires.ready c.requires.serves (free g c) (g.met.R.Rack.agrees (store_rack old.store)) (g.met.R.Rack.agrees (store_rack pl.store))
+    (g.met.R.Rack.slots_hold (store_rack pl.store)).absent c.lose.new.meta c.undo.new.dirty c.in_ok-lose.ensures.marked c.undo.ensures.rows (bits g c) h lo
 
 -- the plan was made, and no disk has failed
 module _ (g : Over) (c : After-clear-2 g) where
@@ -78,23 +80,23 @@ module _ (g : Over) (c : After-clear-2 g) where
   abbrev pl : Core g.row.R.Denot g.R.Rack
   pl = c.draft_writes.new.self
 
-  ready_then : IsReady (g.R.Rack.slot_count (rack_of pl.store)) (g.R.Rack.slot (rack_of pl.store)) (epoch_of pl.store) (disks_of pl.store) (named_of pl.store) pl.meta (length pl.dirty) pl.batch
+  ready_then : AreSlotsReady (g.R.Rack.slot_count (store_rack pl.store)) (g.R.Rack.slot (store_rack pl.store)) (epoch_of pl.store) (disks_of pl.store) (named_of pl.store) pl.meta (length pl.dirty) pl.batch
   ready_then =
-      kept_ready g.R.Rack.slot_count g.R.Rack.slot g.R.Rack.told old pl c.draft_writes.ensures.leads c.requires.ready c.requires.serves none_failed (g.met.R.Rack.agrees (rack_of old.store)) (g.met.R.Rack.agrees (rack_of pl.store))
-      (g.met.R.Rack.slots_hold (rack_of pl.store)).absent whole
+      kept_ready g.R.Rack.slot_count g.R.Rack.slot g.R.Rack.told old pl c.draft_writes.ensures.leads c.requires.ready c.requires.serves none_failed (g.met.R.Rack.agrees (store_rack old.store)) (g.met.R.Rack.agrees (store_rack pl.store))
+      (g.met.R.Rack.slots_hold (store_rack pl.store)).absent whole
 
-  serves_after : CanServe (g.R.Rack.slot (rack_of pl.store)) (named_of pl.store) pl.meta
+  serves_after : CanServe (g.R.Rack.slot (store_rack pl.store)) (named_of pl.store) pl.meta
   serves_after =
-      kept_serves g.R.Rack.slot_count g.R.Rack.slot g.R.Rack.told old pl c.draft_writes.ensures.leads c.requires.ready c.requires.serves none_failed (g.met.R.Rack.agrees (rack_of old.store)) (g.met.R.Rack.agrees (rack_of pl.store))
-      (g.met.R.Rack.slots_hold (rack_of pl.store)).absent whole
+      kept_serves g.R.Rack.slot_count g.R.Rack.slot g.R.Rack.told old pl c.draft_writes.ensures.leads c.requires.ready c.requires.serves none_failed (g.met.R.Rack.agrees (store_rack old.store)) (g.met.R.Rack.agrees (store_rack pl.store))
+      (g.met.R.Rack.slots_hold (store_rack pl.store)).absent whole
 
   taken_from : IsTakenIn old.meta old.batch pl.draft c.take.new.batch
   taken_from =
       let led = c.draft_writes.ensures.leads in
       subst (λ (z : Batch). IsTakenIn old.meta z pl.draft c.take.new.batch) led.batch (subst (λ (z : Meta). IsTakenIn z pl.batch pl.draft c.take.new.batch) led.meta c.take.ensures)
 
-  absent_then : (d : ℕ) → d < old.meta.setup.geometry.disks → is_present (g.R.Rack.slot (rack_of pl.store) d).power ≡ false → named_out old.meta.out ≡ Some d
-  absent_then = subst (λ (z : Meta). (d : ℕ) → d < z.setup.geometry.disks → is_present (g.R.Rack.slot (rack_of pl.store) d).power ≡ false → named_out z.out ≡ Some d) c.draft_writes.ensures.leads.meta ready_then.absent
+  absent_then : (d : ℕ) → d < old.meta.setup.geometry.disks → is_present (g.R.Rack.slot (store_rack pl.store) d).power ≡ false → named_out old.meta.out ≡ Some d
+  absent_then = subst (λ (z : Meta). (d : ℕ) → d < z.setup.geometry.disks → is_present (g.R.Rack.slot (store_rack pl.store) d).power ≡ false → named_out z.out ≡ Some d) c.draft_writes.ensures.leads.meta ready_then.absent
 
 pub returns-clause-ready : goal.returns-clause-ready
 returns-clause-ready g c =
@@ -108,11 +110,11 @@ returns-clause-since g c h lo =
     let old = c.args.self.now in
     let pl = c.draft_writes.new.self in
     let led = c.draft_writes.ensures.leads in
-    accepted_stands g.R.Rack.slot_count g.R.Rack.slot g.R.Rack.told old pl led c.requires.ready.in_range (whole g c) (g.met.R.Rack.agrees (rack_of old.store)) (g.met.R.Rack.agrees (rack_of pl.store)) (absent_then g c)
+    accepted_stands g.R.Rack.slot_count g.R.Rack.slot g.R.Rack.told old pl led c.requires.ready.in_range (whole g c) (g.met.R.Rack.agrees (store_rack old.store)) (g.met.R.Rack.agrees (store_rack pl.store)) (absent_then g c)
     (pairs_of c.args.pairs.now) (not_err c.draft_writes.result _ (sym c.is_err.ensures.value ∙ c.if-is_err.false) c.draft_writes.ensures.writes) c.take.new.batch (taken_from g c) _ _ _ _ _ h lo
     (ap (λ (z : Meta). record z { writes = z.writes + 1 }) led.meta)
-    (kept_stands g.R.Rack.slot_count g.R.Rack.slot g.R.Rack.told old pl led c.requires.ready c.requires.serves (none_failed g c) (g.met.R.Rack.agrees (rack_of old.store)) (g.met.R.Rack.agrees (rack_of pl.store))
-    (g.met.R.Rack.slots_hold (rack_of pl.store)).absent (whole g c) h lo)
+    (kept_stands g.R.Rack.slot_count g.R.Rack.slot g.R.Rack.told old pl led c.requires.ready c.requires.serves (none_failed g c) (g.met.R.Rack.agrees (store_rack old.store)) (g.met.R.Rack.agrees (store_rack pl.store))
+    (g.met.R.Rack.slots_hold (store_rack pl.store)).absent (whole g c) h lo)
 
 pub returns-then-is_err-clause-stands : goal.returns-then-is_err-clause-stands
 returns-then-is_err-clause-stands g c h lo = since_held _ _ _ (named_out c.args.self.now.meta.out) h lo _ _ _ _ (returns-then-is_err-clause-since g c h lo)
@@ -124,3 +126,25 @@ pub returns-then-is_err-clause-setup : goal.returns-then-is_err-clause-setup
 returns-then-is_err-clause-setup g c =
     let led = c.draft_writes.ensures.leads in
     ap (λ (z : Meta). z.setup) c.in_ok-lose.ensures.marked ∙ marked_setup _ _ ∙ ap (λ (z : Meta). z.setup) led.meta
+
+pub returns-then-is_err-clause-lost : goal.returns-then-is_err-clause-lost
+returns-then-is_err-clause-lost g c is =
+    lost_one g.R.Rack.slot_count g.R.Rack.slot g.R.Rack.told c.args.self.now c.draft_writes.new.self c.draft_writes.ensures.leads c.requires.ready c.requires.serves (free g c) c.lose.new.meta c.in_ok-lose.ensures.marked
+    (is_err_then c.draft_writes.result _ (sym c.is_err.ensures.value ∙ c.if-is_err.true) c.draft_writes.ensures.fails)
+
+pub returns-then-is_err-clause-down : goal.returns-then-is_err-clause-down
+returns-then-is_err-clause-down g c = down_lost _ _ _ _ (returns-then-is_err-clause-lost g c refl)
+
+pub returns-clause-down : goal.returns-clause-down
+returns-clause-down g c =
+    let led = c.draft_writes.ensures.leads in
+    down_same _ _ _ _ (ap (λ (z : Option ℕ). or_else z (named_out c.draft_writes.new.self.meta.out)) led.same.named ∙ ap (λ (z : Meta). or_else (named_of c.args.self.now.store) (named_out z.out)) led.meta)
+
+pub returns-in_err-lose-clause-moments_since : goal.returns-in_err-lose-clause-moments_since
+returns-in_err-lose-clause-moments_since g c h lo = try_moments g.R.Rack.slot_count g.R.Rack.slot g.R.Rack.told c.args.self.now c.draft_writes.new.self c.draft_writes.ensures.leads c.requires.ready h lo
+
+pub returns-then-is_err-clause-moments_since : goal.returns-then-is_err-clause-moments_since
+returns-then-is_err-clause-moments_since g c h lo = try_moments g.R.Rack.slot_count g.R.Rack.slot g.R.Rack.told c.args.self.now c.draft_writes.new.self c.draft_writes.ensures.leads c.requires.ready h lo
+
+pub returns-clause-moments_since : goal.returns-clause-moments_since
+returns-clause-moments_since g c h lo = try_moments g.R.Rack.slot_count g.R.Rack.slot g.R.Rack.told c.args.self.now c.draft_writes.new.self c.draft_writes.ensures.leads c.requires.ready h lo

@@ -3,7 +3,7 @@ use Rattle.std.proofs.Common.{arith, ap, sym, subst, ◌∙◌}
 use Rattle.std.proofs.lemmas.List.{get_or_read, with_items_is}
 use Rattle.std.specs.Vec.{with_items}
 use Rattle.paraid_dirty.specs.Bits.{bit_in}
-use Rattle.paraid_dirty.specs.Table.{IsTable}
+use Rattle.paraid_dirty.specs.Table.{IsDirtyTable}
 use Rattle.paraid_dirty.proofs.TableLemmas.{cell_changed, cell_room, clear_table, rows_length, word_of_cell}
 use Rattle.paraid_dirty.proofs.table.DirtyTable.clear.Goals as goal
 
@@ -48,8 +48,8 @@ invariant_of-self c =
     size (λ k. c.clear_bit.ensures.bits k ∙ ap (λ (ws : List ℕ). if k == at then false else bit_in ws k) c.deref_mut.ensures.value)
     (subst Lower c.deref_mut.ensures.value c.clear_bit.ensures.lower) word
     marks_size (subst Marked c.deref_mut-2.ensures.value c.unmark.ensures.marks) in
-    let half = subst (λ ws. IsTable ws c.unmark.new.marks rows) (sym written) table in
-    subst (λ ms. IsTable (with_items words c.clear_bit.new.words).items ms rows) (sym (with_items_is marks c.unmark.new.marks (marks_size ∙ sym marks.ok.0))) half
+    let half = subst (λ ws. IsDirtyTable ws c.unmark.new.marks rows) (sym written) table in
+    subst (λ ms. IsDirtyTable (with_items words c.clear_bit.new.words).items ms rows) (sym (with_items_is marks c.unmark.new.marks (marks_size ∙ sym marks.ok.0))) half
 
 pub returns-clause-cells : goal.returns-clause-cells
 returns-clause-cells c =

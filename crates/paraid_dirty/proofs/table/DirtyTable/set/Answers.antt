@@ -3,7 +3,7 @@ use Rattle.std.proofs.Common.{arith, ap, sym, subst, ◌∙◌}
 use Rattle.std.proofs.lemmas.List.{with_items_is}
 use Rattle.std.specs.Vec.{with_items}
 use Rattle.paraid_dirty.specs.Bits.{bit_in}
-use Rattle.paraid_dirty.specs.Table.{IsTable}
+use Rattle.paraid_dirty.specs.Table.{IsDirtyTable}
 use Rattle.paraid_dirty.proofs.TableLemmas.{cell_changed, cell_room, rows_length, set_table}
 use Rattle.paraid_dirty.proofs.table.DirtyTable.set.Goals as goal
 
@@ -32,9 +32,9 @@ invariant_of-self c =
     size (λ k. c.set_bit.ensures.bits k ∙ ap (λ (ws : List ℕ). if k == at then true else bit_in ws k) c.deref_mut.ensures.value)
     (λ w other. c.set_bit.ensures.others w other ∙ ap (λ (ws : List ℕ). get_or ws w 0) c.deref_mut.ensures.value)
     marks_size (λ k. c.set_bit-2.ensures.bits k ∙ ap (λ (ws : List ℕ). if k == c.args.r / 8 then true else bit_in ws k) c.deref_mut-2.ensures.value) in
-    let first : List ℕ → Type 0 = λ ws. IsTable ws c.set_bit-2.new.words rows in
+    let first : List ℕ → Type 0 = λ ws. IsDirtyTable ws c.set_bit-2.new.words rows in
     let half = subst first (sym (with_items_is words c.set_bit.new.words (size ∙ sym words.ok.0))) table in
-    subst (λ ms. IsTable (with_items words c.set_bit.new.words).items ms rows) (sym (with_items_is marks c.set_bit-2.new.words (marks_size ∙ sym marks.ok.0))) half
+    subst (λ ms. IsDirtyTable (with_items words c.set_bit.new.words).items ms rows) (sym (with_items_is marks c.set_bit-2.new.words (marks_size ∙ sym marks.ok.0))) half
 
 pub returns-clause-cells : goal.returns-clause-cells
 returns-clause-cells c =

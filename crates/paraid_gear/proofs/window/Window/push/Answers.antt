@@ -2,7 +2,7 @@ use Rattle.std.specs.Prelude.{◌-◌, ◌<◌, [], ◌∷◌, length}
 use Rattle.std.proofs.Common.{arith, ap, ◌∙◌}
 use Rattle.std.proofs.lemmas.List.{length-append}
 use Rattle.std.proofs.lemmas.Nat.{mul-le}
-use Rattle.paraid_gear.specs.Window.{Held}
+use Rattle.paraid_gear.specs.Window.{SampleWindow}
 use Rattle.paraid_gear.proofs.SumLemmas.{all_kept, few_kept, sums-more, sums-small}
 use Rattle.paraid_gear.proofs.window.Window.push.Goals as goal
 
@@ -22,10 +22,10 @@ pub invariant_of-self : goal.invariant_of-self
 invariant_of-self c =
     let items = c.self-2.inside.ring.items in
     let keeps = c.self-2.invariant in
-    let span = ap (λ (w : Held). w.span) (c.self-2.view_is ∙ c.make_room.ensures) in
-    let size = ap (λ (w : Held). length w.samples) (c.self-2.view_is ∙ c.make_room.ensures) in
+    let span = ap (λ (w : SampleWindow). w.span) (c.self-2.view_is ∙ c.make_room.ensures) in
+    let size = ap (λ (w : SampleWindow). length w.samples) (c.self-2.view_is ∙ c.make_room.ensures) in
     let few = few_kept (c.args.self.now.span - 1) c.args.self.now.samples in
-    let start = ap (λ (w : Held). w.span) c.self.view_is in
+    let start = ap (λ (w : SampleWindow). w.span) c.self.view_is in
     let some = c.if-self-eq0.false in
     let short : length items < c.self-2.inside.span = omega arith in
     let low : length items < 1024 = omega (arith, keeps.1) in

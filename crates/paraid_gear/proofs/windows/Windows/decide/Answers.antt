@@ -1,5 +1,5 @@
 use Rattle.std.proofs.Common.{sym, ◌∙◌}
-use Rattle.paraid_gear.specs.Windows.{lengths_of}
+use Rattle.paraid_gear.specs.ThreeWindows.{lengths_of}
 use Rattle.paraid_gear.proofs.DecisionLemmas.{decision-not_full, decision-up, decision-down, decision-neither}
 use Rattle.paraid_gear.proofs.windows.Windows.decide.Goals as goal
 

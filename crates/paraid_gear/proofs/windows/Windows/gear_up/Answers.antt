@@ -1,8 +1,8 @@
 use Rattle.std.proofs.Common.{◌≡◌, Some, None, true, false, sym, ◌∙◌, ap}
-use Rattle.paraid_gear.specs.Gears.{next_higher}
-use Rattle.paraid_gear.specs.Windows.{lengths_of}
+use Rattle.paraid_base.specs.Gears.{next_higher}
+use Rattle.paraid_gear.specs.ThreeWindows.{lengths_of}
 use Rattle.paraid_gear.specs.Decision.{gear_up_for}
-use Rattle.paraid_gear.proofs.GearsLemmas.{next_higher-is}
+use Rattle.paraid_base.proofs.GearsLemmas.{next_higher-is}
 use Rattle.paraid_gear.proofs.DecisionLemmas.{gear_up_for-some}
 use Rattle.paraid_gear.proofs.windows.Windows.gear_up.Goals as goal
 

@@ -1,6 +1,6 @@
 use Rattle.std.proofs.Common.{◌≡◌, ◌∙◌, sym, ap, arith, ◌&&◌, Bool, length, get_or}
 use Rattle.std.specs.List.{list_any}
-use Rattle.paraid_memrack.specs.Plan.{names_call}
+use Rattle.paraid_memrack.specs.CallPlan.{names_call}
 use Rattle.paraid_memrack.proofs.PlanLemmas.{lt_true, lt_false, planned_is}
 use Rattle.paraid_memrack.proofs.log.Log.is_planned.Goals as goal
 

@@ -1,7 +1,7 @@
 use Rattle.std.proofs.Common.{◌<◌, ◌∙◌, length, sym, arith}
 use Rattle.std.proofs.lemmas.List.Elements.{All-push, All-same}
 use Rattle.paraid_rack.specs.declared.call.Call.{Call}
-use Rattle.paraid_memrack.specs.Plan.{disk_of}
+use Rattle.paraid_rack.specs.Calls.{disk_of}
 use Rattle.paraid_memrack.proofs.PlanLemmas.{lt_true, lt_false, counted_push, count_on-le-length, listed_more, listed_same}
 use Rattle.paraid_memrack.proofs.NoteLemmas.{told_more, told_none}
 use Rattle.paraid_memrack.proofs.log.Log.note.Goals as goal

@@ -1,9 +1,9 @@
 use Rattle.std.proofs.Common.{ℕ, refl, sym, subst, ap}
 use Rattle.paraid_rack.specs.Disks.{step}
-use Rattle.paraid_memrack.specs.Slots.{full_slot_at, wrecked}
+use Rattle.paraid_memrack.specs.Slots.{full_slot_at, after_failure}
 use Rattle.paraid_memrack.specs.Tells.{IsSlotOf}
 use Rattle.paraid_memrack.proofs.ViewLemmas.{touched_failed}
-use Rattle.paraid_memrack.proofs.StepLemmas.{holds_failed}
+use Rattle.paraid_memrack.proofs.SlotCallLemmas.{holds_failed}
 use Rattle.paraid_memrack.proofs.NoteLemmas.{keeps_after, grows_told}
 use Rattle.paraid_memrack.proofs.RackLemmas.{notes_of}
 use Rattle.paraid_memrack.proofs.rack.MemRack.fail.Goals as goal
@@ -12,8 +12,8 @@ pub invariant_of-self-clause-keeps : goal.invariant_of-self-clause-keeps
 invariant_of-self-clause-keeps c =
     let was = full_slot_at c.args.self.now.slots.items c.args.disk in
     keeps_after _ c.args.call c.note.ensures.told c.requires.on c.fail.ensures.becomes c.args.self.now.keeps (λ s h.
-    subst (λ (k : ℕ). IsSlotOf (step c.args.call s) k (wrecked c.args.dirt was)) c.requires.on
-    (holds_failed c.args.call s was (wrecked c.args.dirt was) c.requires.failed refl refl c.requires.dirt (subst (λ (k : ℕ). IsSlotOf s k was) (sym c.requires.on) h)))
+    subst (λ (k : ℕ). IsSlotOf (step c.args.call s) k (after_failure c.args.dirt was)) c.requires.on
+    (holds_failed c.args.call s was (after_failure c.args.dirt was) c.requires.failed refl refl c.requires.dirt (subst (λ (k : ℕ). IsSlotOf s k was) (sym c.requires.on) h)))
 
 pub returns-clause-slot : goal.returns-clause-slot
 returns-clause-slot c = touched_failed c.fail.ensures.becomes c.fail.ensures.later

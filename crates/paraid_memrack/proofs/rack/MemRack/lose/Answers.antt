@@ -4,7 +4,7 @@ use Rattle.paraid_rack.specs.Alike.{IsAlike}
 use Rattle.paraid_rack.specs.Disks.{lose}
 use Rattle.paraid_rack.specs.Trail.{Beginning, Trail, initial, now}
 use Rattle.paraid_memrack.specs.declared.rack.MemRack.{MemRack}
-use Rattle.paraid_memrack.specs.Rules.{listed, start_of, told_of, untouched}
+use Rattle.paraid_memrack.specs.Rules.{listed_calls, start_of, told_of, before_calls}
 use Rattle.paraid_memrack.specs.Slots.{full_slot_at}
 use Rattle.paraid_memrack.specs.Tells.{beginning_of, no_beginning, IsSlotOf}
 use Rattle.paraid_memrack.proofs.FirstLemmas.{told_untouched, tells_some, lost_start, keeps_lost}
@@ -17,7 +17,7 @@ at_start : (rack : MemRack) (d : ℕ) → d < length rack.slots.items → d < le
 at_start rack d within = omega (arith, rack.same, length-map rack.log.start.items beginning_of)
 
 -- what the rack told before
-was_told : (rack : MemRack) → rack.log.tells ≡ true → listed rack ≡ [] → told_of rack ≡ Some (untouched (start_of rack))
+was_told : (rack : MemRack) → rack.log.tells ≡ true → listed_calls rack ≡ [] → told_of rack ≡ Some (before_calls (start_of rack))
 was_told rack tells none = told_untouched rack.log.tells rack.log.start.items rack.log.calls.items tells none
 
 pub invariant_of-self-clause-sound : goal.invariant_of-self-clause-sound
@@ -33,8 +33,8 @@ invariant_of-self-clause-keeps c t told =
     let start = start_of rack in
     let tells = tells_some rack.log.tells rack.log.start.items rack.log.calls.items c.requires.tells in
     let now_told = told_untouched log.tells log.start.items log.calls.items (c.lose.ensures.tells ∙ tells) (ap (λ v. v.items) c.lose.ensures.calls ∙ c.requires.unused) in
-    let is : untouched (set start c.args.disk no_beginning) ≡ t = ap untouched (sym c.lose.ensures.start) ∙ some_same (sym now_told ∙ told) in
-    let before : (d : ℕ) → IsSlotOf (initial start) d (full_slot_at rack.slots.items d) = rack.keeps (untouched start) (was_told rack tells c.requires.unused) in
+    let is : before_calls (set start c.args.disk no_beginning) ≡ t = ap before_calls (sym c.lose.ensures.start) ∙ some_same (sym now_told ∙ told) in
+    let before : (d : ℕ) → IsSlotOf (initial start) d (full_slot_at rack.slots.items d) = rack.keeps (before_calls start) (was_told rack tells c.requires.unused) in
     subst (λ (u : Trail). (d : ℕ) → IsSlotOf (now u) d (full_slot_at c.remove.new.slots.items d)) is
     (keeps_lost start c.args.disk (at_start rack c.args.disk c.requires.exists) rack.slots.items c.remove.new.slots.items _ c.remove.ensures refl refl before)
 

@@ -1,11 +1,11 @@
 use Rattle.std.proofs.Common.{ℕ, length, refl, ◌∙◌, ap, true, false}
-use Rattle.paraid_base.specs.Xor.{zeroed}
+use Rattle.paraid_base.specs.Xor.{zero_block}
 use Rattle.paraid_rack.specs.declared.call.Power.TheVariants.{Spinning}
 use Rattle.paraid_rack.specs.declared.call.Call.TheVariants.{Attach}
 use Rattle.paraid_rack.specs.Slots.{Slot}
 use Rattle.paraid_memrack.specs.Slots.{full_slot_at}
 use Rattle.paraid_memrack.proofs.ViewLemmas.{touched_done}
-use Rattle.paraid_memrack.proofs.StepLemmas.{holds_attach}
+use Rattle.paraid_memrack.proofs.SlotCallLemmas.{holds_attach}
 use Rattle.paraid_memrack.proofs.NoteLemmas.{keeps_after, grows_told}
 use Rattle.paraid_memrack.proofs.RackLemmas.{notes_of}
 use Rattle.std.proofs.lemmas.List.{length-replicate}
@@ -21,7 +21,7 @@ pub returns-clause-slot : goal.returns-clause-slot
 returns-clause-slot c =
     let was = full_slot_at c.args.self.now.slots.items c.args.disk in
     touched_done c.fill.ensures _ _ (ap (λ (n : ℕ). let s : Slot = record { power = Spinning; size = n; unsynced = false; faults = was.faults } in s)
-    (ap length c.in-Ok.ensures.zeros ∙ length-replicate c.args.size zeroed))
+    (ap length c.in-Ok.ensures.zeros ∙ length-replicate c.args.size zero_block))
 
 pub returns-clause-told : goal.returns-clause-told
 returns-clause-told c = grows_told _ _ _ _ c.note.ensures.told

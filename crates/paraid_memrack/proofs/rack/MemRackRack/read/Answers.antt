@@ -2,7 +2,7 @@ use Rattle.std.proofs.Common.{length, refl, ◌∙◌, ap, arith, true}
 use Rattle.paraid_rack.specs.declared.call.Call.TheVariants.{Read}
 use Rattle.paraid_memrack.specs.Slots.{FullSlot, full_slot_at}
 use Rattle.paraid_memrack.proofs.ViewLemmas.{view_here, touched_none}
-use Rattle.paraid_memrack.proofs.StepLemmas.{holds_read}
+use Rattle.paraid_memrack.proofs.SlotCallLemmas.{holds_read}
 use Rattle.paraid_memrack.proofs.NoteLemmas.{keeps_still, grows_told}
 use Rattle.paraid_memrack.proofs.RackLemmas.{notes_of, present, block_told}
 use Rattle.paraid_memrack.proofs.rack.MemRackRack.read.Goals as goal

@@ -2,7 +2,7 @@ use Rattle.std.proofs.Common.{refl, sym, ap, true}
 use Rattle.paraid_rack.specs.declared.call.Call.TheVariants.{SpinUp}
 use Rattle.paraid_memrack.specs.Slots.{full_slot_at}
 use Rattle.paraid_memrack.proofs.ViewLemmas.{touched_done}
-use Rattle.paraid_memrack.proofs.StepLemmas.{holds_spin_up}
+use Rattle.paraid_memrack.proofs.SlotCallLemmas.{holds_spin_up}
 use Rattle.paraid_memrack.proofs.NoteLemmas.{keeps_after, grows_told}
 use Rattle.paraid_memrack.proofs.RackLemmas.{notes_of}
 use Rattle.paraid_memrack.proofs.rack.MemRackRack.spin_up.Goals as goal

@@ -3,7 +3,7 @@ use Rattle.paraid_rack.specs.declared.call.Call.TheVariants.{Write}
 use Rattle.paraid_rack.specs.Slots.{Slot}
 use Rattle.paraid_memrack.specs.Slots.{full_slot_at}
 use Rattle.paraid_memrack.proofs.ViewLemmas.{touched_done}
-use Rattle.paraid_memrack.proofs.StepLemmas.{holds_write}
+use Rattle.paraid_memrack.proofs.SlotCallLemmas.{holds_write}
 use Rattle.paraid_memrack.proofs.NoteLemmas.{keeps_after, grows_told}
 use Rattle.paraid_memrack.proofs.RackLemmas.{notes_of}
 use Rattle.std.proofs.lemmas.List.{length-set}
@@ -12,7 +12,7 @@ use Rattle.paraid_memrack.proofs.rack.MemRackRack.write.Goals as goal
 pub invariant_of-self-clause-keeps : goal.invariant_of-self-clause-keeps
 invariant_of-self-clause-keeps c =
     let rack = c.args.self.now in
-    keeps_after _ (Write c.args.disk c.args.place c.args.block.now true) (rw c.copy_of-bytes.ensures at c.note.ensures.told) refl c.put.ensures rack.keeps
+    keeps_after _ (Write c.args.disk c.args.place c.args.block.now true) (rw c.copy-bytes.ensures at c.note.ensures.told) refl c.put.ensures rack.keeps
     (λ s h. holds_write s c.args.disk (full_slot_at rack.slots.items c.args.disk) h c.args.place c.args.block.now c.requires.spinning c.requires.within)
 
 pub returns-clause-slot : goal.returns-clause-slot
@@ -21,9 +21,9 @@ returns-clause-slot c =
     touched_done c.put.ensures _ _ (ap (λ (n : ℕ). let s : Slot = record { power = was.power; size = n; unsynced = true; faults = was.faults } in s) (length-set was.blocks c.args.place c.args.block.now))
 
 pub returns-clause-told : goal.returns-clause-told
-returns-clause-told c = grows_told _ _ _ _ (rw c.copy_of-bytes.ensures at c.note.ensures.told)
+returns-clause-told c = grows_told _ _ _ _ (rw c.copy-bytes.ensures at c.note.ensures.told)
 
 pub returns-clause-notes : goal.returns-clause-notes
 returns-clause-notes c =
-    let bytes = c.copy_of-bytes.ensures in
+    let bytes = c.copy-bytes.ensures in
     notes_of (ap (λ v. v.items) c.note.ensures.plan) c.note.ensures.most refl (rw bytes at c.note.ensures.calls) (rw bytes at c.note.ensures.told)

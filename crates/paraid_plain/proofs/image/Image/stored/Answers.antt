@@ -33,4 +33,4 @@ returns c =
     let size = size_here slots c.args.disk y exists c.index.ensures in
     let here = block_here slots c.args.disk y exists c.index.ensures c.args.place in
     let found = read_here y.blocks.items c.args.place c.index-2.result.now c.index-2.ensures (omega (arith, there.1)) here in
-    c.copy_of.ensures ∙ found ∙ sym (stored_some (disks_in c.args.self.now) c.args.disk c.args.place has)
+    c.copy.ensures ∙ found ∙ sym (stored_some (disks_in c.args.self.now) c.args.disk c.args.place has)

@@ -3,8 +3,8 @@ use Rattle.std.specs.Prelude.{AllPairs}
 use Rattle.paraid_base.proofs.XorLemmas.{same_block}
 use Rattle.paraid_record.specs.declared.targets.Target.{Target}
 use Rattle.paraid_txn.specs.declared.batch.Staged.{Staged}
-use Rattle.paraid_txn.specs.Staging.{with_target}
-use Rattle.paraid_txn.proofs.StagingLemmas.{apart-push, held, held-push, held-set, length-view, names-at}
+use Rattle.paraid_txn.specs.Batches.{with_target}
+use Rattle.paraid_txn.proofs.BatchesLemmas.{apart-push, held, held-push, held-set, length-view, names_place-at}
 use Rattle.paraid_txn.proofs.batch.Batch.add.Goals as goal
 
 pub returns-in-Some-clause-ok : goal.returns-in-Some-clause-ok
@@ -21,7 +21,7 @@ returns-in-Some-clause-ok c =
 pub returns-in-Some-clause-room : goal.returns-in-Some-clause-room
 returns-in-Some-clause-room c =
     let found = c.in-Some.ensures in
-    inl (names-at c.args.self.now c.in-Some.at (record { disk = c.args.disk; place = c.args.place }) found.0 found.1)
+    inl (names_place-at c.args.self.now c.in-Some.at (record { disk = c.args.disk; place = c.args.place }) found.0 found.1)
 
 pub invariant_of-self-2 : goal.invariant_of-self-2
 invariant_of-self-2 c =

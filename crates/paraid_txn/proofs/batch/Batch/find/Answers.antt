@@ -1,5 +1,5 @@
 use Rattle.std.proofs.Common.{sym, ◌∙◌, arith, below_more}
-use Rattle.paraid_txn.proofs.StagingLemmas.{length-view, names-off, other_target, same_target, target-read}
+use Rattle.paraid_txn.proofs.BatchesLemmas.{length-view, names_place-off, other_target, same_target, target-read}
 use Rattle.paraid_txn.proofs.batch.Batch.find.Goals as goal
 
 pub returns-then-eq : goal.returns-then-eq
@@ -22,4 +22,4 @@ loop-at-preserved c =
 pub returns : goal.returns
 returns c =
     let size = length-view c.self.inside.staged.items c.args.self.now c.self.view_is in
-    names-off c.args.self.now c.args.target (λ k below. c.loop-at.invariant k (omega arith))
+    names_place-off c.args.self.now c.args.target (λ k below. c.loop-at.invariant k (omega arith))

@@ -1,5 +1,5 @@
 use Rattle.std.proofs.Common.{◌∙◌, arith}
-use Rattle.paraid_txn.proofs.StagingLemmas.{block-read, laid-at, length-view, targets-apart}
+use Rattle.paraid_txn.proofs.BatchesLemmas.{block-read, overlaid_block-at, length-view, targets-apart}
 use Rattle.paraid_txn.proofs.batch.Batch.get.Goals as goal
 
 pub returns : goal.returns
@@ -9,5 +9,5 @@ returns c any =
     let view = c.self.view_is in
     let found = c.in_ok-at.ensures in
     let size = length-view items batch view in
-    laid-at batch c.in_ok-at.at (record { disk = c.args.disk; place = c.args.place }) any found.0 found.1 (targets-apart items batch view c.self.invariant.2)
+    overlaid_block-at batch c.in_ok-at.at (record { disk = c.args.disk; place = c.args.place }) any found.0 found.1 (targets-apart items batch view c.self.invariant.2)
     ∙ block-read items batch view c.in_ok-at.at c.index.result.now (omega arith) c.index.ensures

@@ -4,11 +4,11 @@ use Rattle.paraid_base.specs.declared.fault.Two.{Two}
 use Rattle.paraid_record.specs.declared.meta.Meta.{Meta}
 use Rattle.paraid_image.specs.Calls.{disk_of}
 use Rattle.paraid_image.specs.Out.{first_absent, named_out, or_else}
-use Rattle.paraid_txn.specs.Losses.IsOut.{is_named}
+use Rattle.paraid_txn.specs.Losses.IsOutOfCommit.{is_named}
 use Rattle.paraid_rack.specs.Disks.{Disks}
-use Rattle.paraid_txn.specs.Stages.{IsSpelled, job}
+use Rattle.paraid_txn.specs.CommitStages.{IsSpelled, job}
 use Rattle.paraid_txn.proofs.AloneLemmas.{alone_out, two_beside}
-use Rattle.paraid_txn.proofs.DownLemmas.{Lasts-absent, Lasts-risen}
+use Rattle.paraid_txn.proofs.DownLemmas.{AreCommitCalls-absent, AreCommitCalls-risen}
 use Rattle.paraid_txn.proofs.StoreLemmas.{commits, next_in_range, start_ready, whole_or_absent}
 use Rattle.paraid_txn.proofs.store.Store.commit.Given.{Over}
 use Rattle.paraid_txn.proofs.store.Store.commit.Goals as goal
@@ -31,40 +31,40 @@ spelled g c start = record {
 -- a log disk that comes in again is the first
 joins : (g : Over) (c : After-run g) (before : Meta) → c.args.self.now.named ≡ named_out before.out
     → (x : ℕ) → x < 2 → named_out before.out ≡ Some x → named_out c.args.meta.now.out ≢ Some x → c.opens_first-first.result ≡ x
-joins g c before named x low was not = c.opens_first-first.ensures.joins x low (named ∙ was) (λ e. not (sym c.named_out-named.ensures ∙ e))
+joins g c before named x low was not = c.opens_first-first.ensures.joins x low (named ∙ was) (λ e. not (sym c.named-named.ensures ∙ e))
 
 pub returns-in_err-run-clause-any_moment : goal.returns-in_err-run-clause-any_moment
 returns-in_err-run-clause-any_moment g c before named =
     let at = goal.at.returns-in_err-run-clause-any_moment g c in
     whole_or_absent _ _ _ _ _ (spelled g at.After-run) _ _
     (λ s is. start_ready _ _ _ _ _ (g.met.R.Rack.agrees _ s is) c.requires.log c.requires.ready) before (joins g at.After-run before named)
-    (λ start. c.run.ensures.moments start (spelled g at.After-run start))
+    (λ start. (c.run.ensures.crash start (spelled g at.After-run start)).moments)
 
 pub returns-clause-any_moment : goal.returns-clause-any_moment
 returns-clause-any_moment g c before named =
     let at = goal.at.returns-clause-any_moment g c in
     whole_or_absent _ _ _ _ _ (spelled g at.After-run) _ _
     (λ s is. start_ready _ _ _ _ _ (g.met.R.Rack.agrees _ s is) c.requires.log c.requires.ready) before (joins g at.After-run before named)
-    (λ start. c.run.ensures.moments start (spelled g at.After-run start))
+    (λ start. (c.run.ensures.crash start (spelled g at.After-run start)).moments)
 
 pub returns-clause-committed : goal.returns-clause-committed
 returns-clause-committed g c before named =
     let at = goal.at.returns-clause-committed g c in
     commits _ _ _ _ _ (spelled g at.After-run) _ _
     (λ s is. start_ready _ _ _ _ _ (g.met.R.Rack.agrees _ s is) c.requires.log c.requires.ready) before (joins g at.After-run before named)
-    (λ start. c.in_ok-run.ensures.done start (spelled g at.After-run start))
+    (λ start. (c.in_ok-run.ensures.crash start (spelled g at.After-run start)).done)
 
 pub returns-in-Some-clause-any_moment : goal.returns-in-Some-clause-any_moment
 returns-in-Some-clause-any_moment g c before named =
     let at = goal.at.returns-in-Some-clause-any_moment g c in
     whole_or_absent _ _ _ _ _ (spelled g at.After-run) _ _
     (λ s is. start_ready _ _ _ _ _ (g.met.R.Rack.agrees _ s is) c.requires.log c.requires.ready) before (joins g at.After-run before named)
-    (λ start. c.run.ensures.moments start (spelled g at.After-run start))
+    (λ start. (c.run.ensures.crash start (spelled g at.After-run start)).moments)
 
 -- the disk that is down as it begins
 down_is : (g : Over) (c : After-run g) → c.out_first.result
     ≡ or_else (first_absent (λ e. (g.R.Rack.slot c.args.self.now.rack e).power) c.args.self.now.disks) (or_else c.args.self.now.named (named_out c.args.meta.now.out))
-down_is g c = c.out_first.ensures ∙ rw (c.find_absent-absent.ensures, c.named_out-named.ensures) refl
+down_is g c = c.out_first.ensures ∙ rw (c.find_absent-absent.ensures, c.named-named.ensures) refl
 
 raised : {A : Type 0} (P : Two → Type 0) (result : Result A Two) (two : Two) → IsErrAnd result (λ other. other ≡ two) → P two → IfErr result P
 raised P (Ok it) two is it' = tt
@@ -115,15 +115,15 @@ pub returns-in-Some-clause-two : goal.returns-in-Some-clause-two
 returns-in-Some-clause-two g c =
     let both = c.find_second.ensures.two c.in-Some.two (cc) in
     record {
-      first = inl (is_named (sym c.named_out-named.ensures ∙ both.0));
+      first = inl (is_named (sym c.named-named.ensures ∙ both.0));
       apart = both.2;
-      second = Lasts-risen _ _ _ _ _ c.run.ensures.part.lasts refl both.1;
+      second = AreCommitCalls-risen _ _ _ _ _ c.run.ensures.part.lasts refl both.1;
     }
 
 pub returns-clause-lost : goal.returns-clause-lost
 returns-clause-lost g c d is = record {
-  risen = Lasts-risen _ _ _ _ d c.run.ensures.part.lasts refl is;
-  absent = Lasts-absent _ _ _ _ d c.run.ensures.part.lasts refl is;
+  risen = AreCommitCalls-risen _ _ _ _ d c.run.ensures.part.lasts refl is;
+  absent = AreCommitCalls-absent _ _ _ _ d c.run.ensures.part.lasts refl is;
 }
 
 pub returns-clause-alone : goal.returns-clause-alone
@@ -136,7 +136,7 @@ returns-clause-alone g c d is =
         below = subst (λ (k : ℕ). k < c.args.self.now.disks) on.0.2 (subst (λ (n : ℕ). disk_of on.0.0 < n) c.requires.array on.0.1.0);
         alone = alone_out _ _ _ _ d on.1
             (λ e down. let both : Some e ≡ Some d = sym (c.run.ensures.part.lasts.remains e (down_is g at.After-run ∙ down)) ∙ after.agrees d is in cc)
-            (λ e named. c.find_second.ensures.none (cc) d e is (c.named_out-named.ensures ∙ named));
+            (λ e named. c.find_second.ensures.none (cc) d e is (c.named-named.ensures ∙ named));
       }
     ]
 

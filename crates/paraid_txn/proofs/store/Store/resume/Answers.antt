@@ -2,6 +2,7 @@ use Rattle.std.specs.Prelude.{◌≡◌}
 use Rattle.std.proofs.Common.{refl, ◌∙◌}
 use Rattle.paraid_image.specs.Out.{first_absent, named_out, or_else}
 use Rattle.paraid_txn.proofs.AloneLemmas.{two_beside}
+use Rattle.paraid_txn.proofs.OneLemmas.{one_stays}
 use Rattle.paraid_txn.proofs.store.Store.resume.Given.{Over}
 use Rattle.paraid_txn.proofs.store.Store.resume.Goals as goal
 use Rattle.paraid_txn.proofs.store.Store.resume.Goals.{After-end_commit-ended}
@@ -39,3 +40,15 @@ returns-clause-each g c = rw (← (c.adopt-store.ensures.rack)) c.end_commit-end
 
 pub returns-clause-calls : goal.returns-clause-calls
 returns-clause-calls g c = rw (← (c.adopt-store.ensures.rack)) c.end_commit-ended.ensures.part.calls
+
+-- the same, by the store that is made
+down_by : (g : Over) (c : After-end_commit-ended g) → c.out_first.result
+    ≡ or_else (first_absent (λ e. (g.R.Rack.slot c.adopt-store.result.rack e).power) c.args.meta.now.setup.geometry.disks)
+    (or_else (named_out c.args.meta.now.out) (named_out c.args.meta.now.out))
+down_by g c = c.out_first.ensures ∙ rw (c.find_absent-absent.ensures, c.adopt-store.ensures.named, c.adopt-store.ensures.disks) refl
+
+pub returns-clause-one : goal.returns-clause-one
+returns-clause-one g c =
+    let at = goal.at.returns-clause-one g c in
+    let part = c.in_default.ensures.part in
+    rw (← (c.adopt-store.ensures.rack)) (one_stays c.args.meta.now.setup.geometry.disks (named_out c.args.meta.now.out) (named_out c.args.meta.now.out) _ _ _ _ (λ e is. is) (down_by g at.After-end_commit-ended) part.lasts part.well)

@@ -1,7 +1,8 @@
-use Rattle.std.specs.Prelude.{◌≡◌, None}
+use Rattle.std.specs.Prelude.{◌≡◌, Some, None}
 use Rattle.std.proofs.Common.{refl, ◌∙◌}
 use Rattle.paraid_image.specs.Out.{first_absent, or_else}
 use Rattle.paraid_txn.proofs.AloneLemmas.{two_beside}
+use Rattle.paraid_txn.proofs.OneLemmas.{one_stays}
 use Rattle.paraid_txn.proofs.SyncLemmas.{raised}
 use Rattle.paraid_txn.proofs.store.Store.sync_all.Given.{Over}
 use Rattle.paraid_txn.proofs.store.Store.sync_all.Goals as goal
@@ -38,3 +39,9 @@ returns-clause-each g c = c.sync_each.ensures.part.lasts.each
 
 pub returns-clause-calls : goal.returns-clause-calls
 returns-clause-calls g c = c.sync_each.ensures.part.calls
+
+pub returns-clause-one : goal.returns-clause-one
+returns-clause-one g c one =
+    let at = goal.at.returns-clause-one g c in
+    let part = c.in_ok-sync_each.ensures.part in
+    one_stays c.args.self.now.disks c.args.self.now.named None _ _ _ _ (λ e is. let z : None ≡ Some e = is in cc) (down_is g at.After-sync_each) part.lasts part.well one

@@ -1,7 +1,7 @@
 use Rattle.std.proofs.Common.{◌+◌, arith, sym, subst, get_or}
 use Rattle.std.proofs.lemmas.List.{get_or_default}
 use Rattle.paraid_base.specs.declared.pairs.Pairs.{Pairs}
-use Rattle.paraid_base.specs.Xor.{zeroed}
+use Rattle.paraid_base.specs.Xor.{zero_block}
 use Rattle.paraid_volume.specs.TableBlocks.{in_table}
 use Rattle.paraid_volume.proofs.LaidLemmas.{Laying, laying_added, laying_first, laying_same}
 use Rattle.paraid_base.proofs.XorLemmas.{same_block}
@@ -13,7 +13,7 @@ loop-at-init c =
     let t = c.args.new.now in
     let whole = t.whole in
     laying_first (in_table c.args.self.now) (in_table t) (get_or t.blocks 1 c.index-new-1.result) c.one-pairs.result c.one-pairs.ensures.pairs c.one-pairs.ensures.count
-    (get_or_default t.blocks 1 c.index-new-1.result zeroed (omega (arith, whole))) c.requires
+    (get_or_default t.blocks 1 c.index-new-1.result zero_block (omega (arith, whole))) c.requires
 
 pub loop-at-preserved : goal.loop-at-preserved
 loop-at-preserved c =
@@ -27,7 +27,7 @@ loop-at-preserved c =
       | then-not-is_same_at w ↦
           subst (λ (z : Pairs). Laying (in_table s) (in_table t) (at + 1) z) (sym w.pairs-is)
           (laying_added (in_table s) (in_table t) at c.loop-at.pairs c.loop-at.invariant test (get_or t.blocks at w.index-new-at.result) w.add.new.self w.add.ensures.pairs w.add.ensures.count
-          (get_or_default t.blocks at w.index-new-at.result zeroed (omega (arith, whole, test))))
+          (get_or_default t.blocks at w.index-new-at.result zero_block (omega (arith, whole, test))))
       | else-not-is_same_at w ↦
           subst (λ (z : Pairs). Laying (in_table s) (in_table t) (at + 1) z) (sym w.pairs-is)
           (laying_same (in_table s) (in_table t) at c.loop-at.pairs c.loop-at.invariant

@@ -1,7 +1,7 @@
 use Rattle.std.proofs.Common.{◌≡◌, ◌+◌}
 use Rattle.paraid_volume.specs.TableBlocks.{in_table}
-use Rattle.paraid_volume.specs.Tables.{owner_in, owned}
+use Rattle.paraid_volume.specs.Tables.{owner_in, extents_owned}
 use Rattle.paraid_volume.proofs.table.Table.extent.Given as goal
 
 abbrev pub invariant-loop-extent : goal.invariant-loop-extent
-invariant-loop-extent l = l.left + owned (owner_in (in_table l.self)) l.id l.extent ≡ l.number
+invariant-loop-extent l = l.left + extents_owned (owner_in (in_table l.self)) l.id l.extent ≡ l.number

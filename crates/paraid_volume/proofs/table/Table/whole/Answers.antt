@@ -4,7 +4,7 @@ use Rattle.std.proofs.lemmas.List.{get_or_default}
 use Rattle.std.proofs.lemmas.List.Elements.{All-nil}
 use Rattle.paraid_base.specs.History.{last_of}
 use Rattle.paraid_base.specs.Pairs.{pairs_of}
-use Rattle.paraid_base.specs.Xor.{zeroed}
+use Rattle.paraid_base.specs.Xor.{zero_block}
 use Rattle.paraid_volume.specs.TableBlocks.{in_table}
 use Rattle.paraid_volume.proofs.LaidLemmas.{IsLow, added_here, added_low, added_other}
 use Rattle.paraid_volume.proofs.table.Table.whole.Goals as goal
@@ -18,7 +18,7 @@ loop-at-init c =
     record {
       few = c.one-pairs.ensures.count;
       here = λ k x l. let z : 0 ≡ k = omega (arith, l) in subst (λ (n : ℕ). last_of n x (pairs_of c.one-pairs.result) ≡ in_table t n) z
-          (added_here [] (pairs_of c.one-pairs.result) 0 y is x ∙ get_or_default t.blocks 0 c.index-self-0.result zeroed (omega (arith, whole)));
+          (added_here [] (pairs_of c.one-pairs.result) 0 y is x ∙ get_or_default t.blocks 0 c.index-self-0.result zero_block (omega (arith, whole)));
       rest = λ k x l. added_other [] (pairs_of c.one-pairs.result) 0 y is k x (λ e. let no : ⊥ = omega (arith, e, l) in absurd no);
       below = added_low [] (pairs_of c.one-pairs.result) 0 y is (omega arith) (All-nil IsLow);
     }
@@ -39,7 +39,7 @@ loop-at-preserved c =
     record {
       few = omega (arith, few, count);
       here = λ k x l. elim (cases_eq at k) [
-        | inl e ↦ subst (λ (n : ℕ). last_of n x q ≡ in_table t n) e (added_here p q at y is x ∙ get_or_default t.blocks at c.index-self-at.result zeroed (omega (arith, whole, test)))
+        | inl e ↦ subst (λ (n : ℕ). last_of n x q ≡ in_table t n) e (added_here p q at y is x ∙ get_or_default t.blocks at c.index-self-at.result zero_block (omega (arith, whole, test)))
         | inr e ↦ added_other p q at y is k x e ∙ inv.here k x (omega (arith, l, e))
       ];
       rest = λ k x l. added_other p q at y is k x (λ e. let no : ⊥ = omega (arith, e, l) in absurd no) ∙ inv.rest k x (omega (arith, l));

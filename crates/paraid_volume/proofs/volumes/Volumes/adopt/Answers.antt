@@ -1,10 +1,10 @@
 use Rattle.std.proofs.Common.{◌≡◌, ℕ, ◌≤◌, ◌∙◌, sym, ap, subst}
 use Rattle.std.specs.Prelude.{true}
 use Rattle.std.proofs.lemmas.Bool.{false≢true}
-use Rattle.paraid_base.specs.History.{held}
+use Rattle.paraid_base.specs.History.{after_all}
 use Rattle.paraid_volume.specs.Device.{halt_in}
 use Rattle.paraid_volume.specs.TableBlocks.{in_table}
-use Rattle.paraid_volume.specs.Tables.{IsTable}
+use Rattle.paraid_volume.specs.Tables.{IsVolumeTable}
 use Rattle.paraid_volume.proofs.ExtentLemmas.{back, same_table}
 use Rattle.paraid_volume.proofs.StateLemmas.{lived_adopted}
 use Rattle.paraid_volume.proofs.DeviceLemmas.{holds_stands}
@@ -20,8 +20,8 @@ returns-then-not-is_table-clause-refused g c =
       c.read_table.ensures.halt ∙ ap halt_in c.in_default.is,
       λ h stands tells table.
           let same = read.read h stands tells in
-          let here = same_table (held h) (in_table c.read_table.new.table) (back _ _ same) (g.B.Blocks.block_count c.args.blocks) large table in
-          let is : c.is_table.result ≡ true = c.is_table.ensures.1 (subst (λ (n : ℕ). IsTable n (in_table c.read_table.new.table)) (sym count) here) in
+          let here = same_table (after_all h) (in_table c.read_table.new.table) (back _ _ same) (g.B.Blocks.block_count c.args.blocks) large table in
+          let is : c.is_table.result ≡ true = c.is_table.ensures.1 (subst (λ (n : ℕ). IsVolumeTable n (in_table c.read_table.new.table)) (sym count) here) in
           absurd (false≢true (sym c.if-not-is_table.true ∙ is)),
     )
 
@@ -33,8 +33,8 @@ returns-clause-lived g c = λ from h stands tells.
     let read = c.in_default.ensures in
     let same = read.read h (holds_stands g.B.Blocks.stands g.B.Blocks.kept from c.args.blocks h stands) tells in
     lived_adopted _ (g.B.Blocks.block_count c.args.blocks) h (read.keeps from h stands tells, same)
-    (same_table (in_table c.read_table.new.table) (held h) same (g.B.Blocks.block_count c.args.blocks) large
-    (subst (λ (n : ℕ). IsTable n (in_table c.read_table.new.table)) number (c.is_table.ensures.0 c.if-not-is_table.false)))
+    (same_table (in_table c.read_table.new.table) (after_all h) same (g.B.Blocks.block_count c.args.blocks) large
+    (subst (λ (n : ℕ). IsVolumeTable n (in_table c.read_table.new.table)) number (c.is_table.ensures.0 c.if-not-is_table.false)))
 
 pub returns-clause-stands : goal.returns-clause-stands
 returns-clause-stands g c = λ from h stands tells.

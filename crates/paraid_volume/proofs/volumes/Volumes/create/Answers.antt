@@ -1,10 +1,10 @@
 use Rattle.std.proofs.Common.{ℕ, ◌<◌, ◌≤◌, ◌∙◌, ◌++◌, ◌∷◌, [], length, take, refl, sym, ap, subst, arith}
 use Rattle.std.proofs.lemmas.List.{take_all}
-use Rattle.paraid_base.specs.History.{History, held}
+use Rattle.paraid_base.specs.History.{History, after_all}
 use Rattle.paraid_volume.specs.Device.{InExtent}
 use Rattle.paraid_volume.specs.Laid.{IsWith}
 use Rattle.paraid_volume.specs.TableBlocks.{in_table}
-use Rattle.paraid_volume.specs.Tables.{IsSameTable, IsTable, extent_count, extent_size, owned, owner_in}
+use Rattle.paraid_volume.specs.Tables.{IsSameTable, IsVolumeTable, extent_count, extent_size, extents_owned, owner_in}
 use Rattle.paraid_volume.specs.Values.{device_of}
 use Rattle.paraid_volume.proofs.CreateLemmas.{inside_moved, shows_new, shows_still, with_moved, with_table}
 use Rattle.paraid_volume.proofs.ExtentLemmas.{back, extents_few, same_live, same_name, same_owned, same_owner}
@@ -13,7 +13,7 @@ use Rattle.paraid_volume.specs.NameValues.{letter_of}
 use Rattle.std.proofs.Common.{None}
 use Rattle.paraid_volume.specs.declared.fault.VolFault.TheVariants.{Exists, NoExtents, Names, Space}
 use Rattle.paraid_volume.specs.Lives.{create}
-use Rattle.paraid_volume.proofs.LivedLemmas.{lived_create, lived_refused}
+use Rattle.paraid_volume.proofs.OneCallLemmas.{lived_create, lived_refused}
 use Rattle.paraid_volume.proofs.RefusalLemmas.{create_refused, free_is, least_unnamed, unused}
 use Rattle.paraid_volume.proofs.volumes.Volumes.create.Goals as goal
 
@@ -37,7 +37,7 @@ invariant_of-self g c =
       fits = omega (arith, size, fits);
       sized = v.sized ∙ ap extent_size (sym size);
       counted = v.counted ∙ ap extent_count (sym size);
-      valid = subst (λ (n : ℕ). IsTable n next) (sym size)
+      valid = subst (λ (n : ℕ). IsVolumeTable n next) (sym size)
           (with_table count id c.args.extents c.args.name.now old next v.large v.valid least.low least.high least.free (omega (arith, none)) (omega (arith, room, free)) c.in_default-find.ensures.none with);
       halted = c.in-Ok.ensures.halt ∙ sym c.in_default.is;
     }
@@ -61,33 +61,33 @@ returns-in-Ok-clause-makes g c = λ from h s stands shows tells.
     let new = (h ++ made.more) ++ made.entry ∷ [] in
     let low = λ (k : ℕ) (l : k < 6) (inside : InExtent (owner_in next) id v.size v.extents k). let lowest = inside.of.1.0 in let no : ⊥ = omega (arith, l, lowest) in no in
     let all = λ (b : ℕ) (out : InExtent (owner_in next) id v.size v.extents b → ⊥).
-    ap (λ (x : History). held (h ++ x) b) (sym (take_all (length made.more) made.more (omega arith))) ∙ made.rest (length made.more) b out in
-    let same_mid : IsSameTable old (held mid) = λ k l. stands.1 k l ∙ sym (all k (low k l)) in
-    let same : IsSameTable next (held new) = laid_table mid made.entry old next made.laid same_mid in
-    let moved = with_moved id n (extent_count count) text old next (held h) (held new) stands.1 same with in
+    ap (λ (x : History). after_all (h ++ x) b) (sym (take_all (length made.more) made.more (omega arith))) ∙ made.rest (length made.more) b out in
+    let same_mid : IsSameTable old (after_all mid) = λ k l. stands.1 k l ∙ sym (all k (low k l)) in
+    let same : IsSameTable next (after_all new) = laid_table mid made.entry old next made.laid same_mid in
+    let moved = with_moved id n (extent_count count) text old next (after_all h) (after_all new) stands.1 same with in
     let few = extents_few count v.large in
     let counted = v.counted in
     let into = λ (b : ℕ) (inside : InExtent (owner_in next) id v.size v.extents b).
-    inside_moved (owner_in next) (owner_in (held new)) id v.size (extent_size count) v.extents (extent_count count) b v.sized v.counted
-    (λ e l. same_owner next (held new) same e (omega (arith, l, few, counted))) inside in
-    let from = λ (b : ℕ) (inside : InExtent (owner_in (held new)) id (extent_size count) (extent_count count) b).
-    inside_moved (owner_in (held new)) (owner_in next) id (extent_size count) v.size (extent_count count) v.extents b (sym v.sized) (sym v.counted)
-    (λ e l. sym (same_owner next (held new) same e (omega (arith, l, few)))) inside in
-    let free = λ (live : _). least.free (same_live (held h) old (back old (held h) stands.1) id live) in
+    inside_moved (owner_in next) (owner_in (after_all new)) id v.size (extent_size count) v.extents (extent_count count) b v.sized v.counted
+    (λ e l. same_owner next (after_all new) same e (omega (arith, l, few, counted))) inside in
+    let from = λ (b : ℕ) (inside : InExtent (owner_in (after_all new)) id (extent_size count) (extent_count count) b).
+    inside_moved (owner_in (after_all new)) (owner_in next) id (extent_size count) v.size (extent_count count) v.extents b (sym v.sized) (sym v.counted)
+    (λ e l. sym (same_owner next (after_all new) same e (omega (arith, l, few)))) inside in
+    let free = λ (live : _). least.free (same_live (after_all h) old (back old (after_all h) stands.1) id live) in
     let fresh = λ (i : ℕ) (live : _) (named : _).
-    c.in_default-find.ensures.none i (same_live (held h) old (back old (held h) stands.1) i live) (λ k l. named k l ∙ sym (same_name old (held h) stands.1 i k)) in
+    c.in_default-find.ensures.none i (same_live (after_all h) old (back old (after_all h) stands.1) i live) (λ k l. named k l ∙ sym (same_name old (after_all h) stands.1 i k)) in
     let refused = c.if-free-extents.false in
     let number = c.free-free.ensures in
-    let owned_same = same_owned old (held h) stands.1 0 (extent_count count) few in
-    let room : c.args.extents ≤ owned (owner_in (held h)) 0 (extent_count count) = omega (arith, refused, number, owned_same) in
+    let owned_same = same_owned old (after_all h) stands.1 0 (extent_count count) few in
+    let room : c.args.extents ≤ extents_owned (owner_in (after_all h)) 0 (extent_count count) = omega (arith, refused, number, owned_same) in
     record {
       more = made.more;
       entry = made.entry;
       stands = (made.stands, same);
       during = λ k.
-          shows_still count id n text (held h) (held new) v.large shows.table least.low least.high free some room fresh moved (held (h ++ take k made.more))
+          shows_still count id n text (after_all h) (after_all new) v.large shows.table least.low least.high free some room fresh moved (after_all (h ++ take k made.more))
           (λ p out. made.rest k p (λ inside. out (into p inside))) s shows;
-      shows = shows_new count id n text (held h) (held new) v.large shows.table least.low least.high free some room fresh moved
+      shows = shows_new count id n text (after_all h) (after_all new) v.large shows.table least.low least.high free some room fresh moved
           (λ p past out. laid_rest mid made.entry old next made.laid p past ∙ all p (λ inside. out (into p inside)))
           (λ p past inside. laid_rest mid made.entry old next made.laid p past ∙ made.zeros p (from p inside)) s shows;
     }
@@ -101,9 +101,9 @@ returns-in-Ok-clause-lived g c = λ from start log lived tells.
     lived_create _ _ _ start log lived (letter_of c.args.name.now) c.args.extents c.in-Some-free_id.id (record { field = c.args.name.now.field; some = c.args.name.now.some })
     (omega (arith, none))
     (λ h s stands shows.
-    let free = free_is _ (in_table v.table) (held h) s stands.1 shows v.large in (
-      unused _ (in_table v.table) (held h) s stands.1 shows c.args.name.now c.in_default-find.ensures.none,
-      least_unnamed _ (in_table v.table) (held h) s stands.1 shows c.in-Some-free_id.id c.in-Some-free_id.ensures.some,
+    let free = free_is _ (in_table v.table) (after_all h) s stands.1 shows v.large in (
+      unused _ (in_table v.table) (after_all h) s stands.1 shows c.args.name.now c.in_default-find.ensures.none,
+      least_unnamed _ (in_table v.table) (after_all h) s stands.1 shows c.in-Some-free_id.id c.in-Some-free_id.ensures.some,
       omega (arith, refused, number, free),
     ))
     (λ h s stands shows. returns-in-Ok-clause-makes g c from h s stands shows tells)
@@ -111,23 +111,23 @@ returns-in-Ok-clause-lived g c = λ from start log lived tells.
 pub returns-in-Some-find-clause-lived_refused : goal.returns-in-Some-find-clause-lived_refused
 returns-in-Some-find-clause-lived_refused g c = λ none from start log lived tells.
     lived_refused _ _ _ start log lived (create (letter_of c.args.name.now) c.args.extents) (Exists c.in-Some-find.id) (λ h stands. stands)
-    (λ h s stands shows. create_refused _ (in_table c.args.self.now.table) (held h) s stands.1 shows c.args.self.now.large None refl c.args.name.now c.args.extents (Exists c.in-Some-find.id)
+    (λ h s stands shows. create_refused _ (in_table c.args.self.now.table) (after_all h) s stands.1 shows c.args.self.now.large None refl c.args.name.now c.args.extents (Exists c.in-Some-find.id)
     c.in-Some-find.ensures.some)
 
 pub returns-then-extents-eq0-clause-lived_refused : goal.returns-then-extents-eq0-clause-lived_refused
 returns-then-extents-eq0-clause-lived_refused g c = λ none from start log lived tells.
     lived_refused _ _ _ start log lived (create (letter_of c.args.name.now) c.args.extents) NoExtents (λ h stands. stands)
-    (λ h s stands shows. create_refused _ (in_table c.args.self.now.table) (held h) s stands.1 shows c.args.self.now.large None refl c.args.name.now c.args.extents NoExtents
+    (λ h s stands shows. create_refused _ (in_table c.args.self.now.table) (after_all h) s stands.1 shows c.args.self.now.large None refl c.args.name.now c.args.extents NoExtents
     (c.in_default-find.ensures.none, c.if-extents-eq0.true))
 
 pub returns-in_default-free_id-clause-lived_refused : goal.returns-in_default-free_id-clause-lived_refused
 returns-in_default-free_id-clause-lived_refused g c = λ none from start log lived tells.
     lived_refused _ _ _ start log lived (create (letter_of c.args.name.now) c.args.extents) Names (λ h stands. stands)
-    (λ h s stands shows. create_refused _ (in_table c.args.self.now.table) (held h) s stands.1 shows c.args.self.now.large None refl c.args.name.now c.args.extents Names
+    (λ h s stands shows. create_refused _ (in_table c.args.self.now.table) (after_all h) s stands.1 shows c.args.self.now.large None refl c.args.name.now c.args.extents Names
     (c.in_default-find.ensures.none, (let some = c.if-extents-eq0.false in omega (arith, some)), c.in_default-free_id.ensures.none))
 
 pub returns-then-free-extents-clause-lived_refused : goal.returns-then-free-extents-clause-lived_refused
 returns-then-free-extents-clause-lived_refused g c = λ none from start log lived tells.
     lived_refused _ _ _ start log lived (create (letter_of c.args.name.now) c.args.extents) (Space c.free-free.result) (λ h stands. stands)
-    (λ h s stands shows. create_refused _ (in_table c.args.self.now.table) (held h) s stands.1 shows c.args.self.now.large None refl c.args.name.now c.args.extents (Space c.free-free.result)
+    (λ h s stands shows. create_refused _ (in_table c.args.self.now.table) (after_all h) s stands.1 shows c.args.self.now.large None refl c.args.name.now c.args.extents (Space c.free-free.result)
     (c.in_default-find.ensures.none, (c.in-Some-free_id.id, c.in-Some-free_id.ensures.some), c.free-free.ensures, c.if-free-extents.true))

@@ -1,9 +1,9 @@
 use Rattle.std.proofs.Common.{ℕ, ◌∙◌, ◌++◌, ◌∷◌, [], sym, ap, subst, arith}
-use Rattle.paraid_base.specs.History.{held}
+use Rattle.paraid_base.specs.History.{after_all}
 use Rattle.paraid_base.specs.Pairs.{pairs_of}
 use Rattle.paraid_volume.specs.Laid.{IsWithout}
 use Rattle.paraid_volume.specs.TableBlocks.{in_table}
-use Rattle.paraid_volume.specs.Tables.{IsTable, extent_count, extent_size}
+use Rattle.paraid_volume.specs.Tables.{IsVolumeTable, extent_count, extent_size}
 use Rattle.paraid_volume.specs.Values.{device_of}
 use Rattle.paraid_volume.proofs.ChangeLemmas.{shows_without, without_moved, without_table}
 use Rattle.paraid_volume.proofs.ExtentLemmas.{same_live}
@@ -12,7 +12,7 @@ use Rattle.std.proofs.Common.{refl, None}
 use Rattle.std.proofs.lemmas.Bool.{false≢true}
 use Rattle.paraid_volume.specs.declared.fault.VolFault.TheVariants.{NoVolume}
 use Rattle.paraid_volume.specs.Lives.{delete}
-use Rattle.paraid_volume.proofs.LivedLemmas.{lived_delete, lived_refused}
+use Rattle.paraid_volume.proofs.OneCallLemmas.{lived_delete, lived_refused}
 use Rattle.paraid_volume.proofs.RefusalLemmas.{live_named, delete_refused}
 use Rattle.paraid_volume.proofs.volumes.Volumes.delete.Goals as goal
 
@@ -30,7 +30,7 @@ invariant_of-self-in-Ok g c =
       fits = omega (arith, size, fits);
       sized = v.sized ∙ ap extent_size (sym size);
       counted = v.counted ∙ ap extent_count (sym size);
-      valid = subst (λ (n : ℕ). IsTable n (in_table c.without-next.result)) (sym size) (without_table count c.args.id (in_table v.table) (in_table c.without-next.result) v.large v.valid live without);
+      valid = subst (λ (n : ℕ). IsVolumeTable n (in_table c.without-next.result)) (sym size) (without_table count c.args.id (in_table v.table) (in_table c.without-next.result) v.large v.valid live without);
       halted = c.in-Ok.ensures.halt ∙ sym c.in_default.is;
     }
 
@@ -48,8 +48,8 @@ returns-in-Ok-clause-adds g c = λ from h s stands shows tells.
     record {
       entry = entry;
       stands = (c.in-Ok.ensures.adds from h stands.0 tells, same);
-      shows = shows_without count c.args.id (held h) (held new) v.large shows.table (same_live old (held h) stands.1 c.args.id live)
-          (without_moved c.args.id (extent_count count) old next (held h) (held new) stands.1 same without)
+      shows = shows_without count c.args.id (after_all h) (after_all new) v.large shows.table (same_live old (after_all h) stands.1 c.args.id live)
+          (without_moved c.args.id (extent_count count) old next (after_all h) (after_all new) stands.1 same without)
           (laid_rest h entry old next c.changes.ensures) s shows;
     }
 
@@ -57,11 +57,11 @@ pub returns-in-Ok-clause-lived : goal.returns-in-Ok-clause-lived
 returns-in-Ok-clause-lived g c = λ from start log lived tells.
     let live = c.is_live.ensures.0 c.if-not-is_live.false in
     lived_delete _ _ _ start log lived c.args.id
-    (λ h s stands shows. live_named _ (in_table c.args.self.now.table) (held h) s stands.1 shows c.args.id live)
+    (λ h s stands shows. live_named _ (in_table c.args.self.now.table) (after_all h) s stands.1 shows c.args.id live)
     (λ h s stands shows. returns-in-Ok-clause-adds g c from h s stands shows tells)
 
 pub returns-then-not-is_live-clause-lived_refused : goal.returns-then-not-is_live-clause-lived_refused
 returns-then-not-is_live-clause-lived_refused g c = λ none from start log lived tells.
     lived_refused _ _ _ start log lived (delete c.args.id) (NoVolume c.args.id) (λ h stands. stands)
-    (λ h s stands shows. delete_refused _ (in_table c.args.self.now.table) (held h) s stands.1 shows None refl c.args.id (NoVolume c.args.id)
+    (λ h s stands shows. delete_refused _ (in_table c.args.self.now.table) (after_all h) s stands.1 shows None refl c.args.id (NoVolume c.args.id)
     (refl, λ live. false≢true (sym c.if-not-is_live.true ∙ c.is_live.ensures.1 live)))

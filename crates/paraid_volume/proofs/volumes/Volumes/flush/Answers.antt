@@ -1,8 +1,8 @@
 use Rattle.paraid_base.specs.declared.event.Event.TheVariants.{Flush}
 use Rattle.paraid_base.specs.declared.event.Answer.TheVariants.{Flushed}
 use Rattle.paraid_volume.specs.Values.{device_of}
-use Rattle.paraid_volume.proofs.LivedLemmas.{lived_flush}
-use Rattle.paraid_volume.proofs.DeviceLemmas.{Grown-one, holds_same, holds_stands}
+use Rattle.paraid_volume.proofs.OneCallLemmas.{lived_flush}
+use Rattle.paraid_volume.proofs.DeviceLemmas.{KeepsMore-one, holds_same, holds_stands}
 use Rattle.std.proofs.Common.{refl}
 use Rattle.paraid_volume.proofs.volumes.Volumes.flush.Goals as goal
 
@@ -19,7 +19,7 @@ pub returns-in-Ok-clause-lived : goal.returns-in-Ok-clause-lived
 returns-in-Ok-clause-lived g c = λ from start log lived tells. lived_flush _ _ _ start log lived _ (λ h stands. returns-in-Ok-clause-stands g c from h stands tells)
 
 pub returns-in-Ok-clause-grown : goal.returns-in-Ok-clause-grown
-returns-in-Ok-clause-grown g c = Grown-one _ _ _ _ _ _ _ c.flush.ensures.events tt
+returns-in-Ok-clause-grown g c = KeepsMore-one _ _ _ _ _ _ _ c.flush.ensures.events tt
 
 pub returns-in-Err-clause-grown : goal.returns-in-Err-clause-grown
-returns-in-Err-clause-grown g c = Grown-one _ _ _ _ _ _ _ c.flush.ensures.events tt
+returns-in-Err-clause-grown g c = KeepsMore-one _ _ _ _ _ _ _ c.flush.ensures.events tt

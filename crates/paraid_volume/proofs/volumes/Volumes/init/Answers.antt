@@ -1,17 +1,17 @@
 use Rattle.std.proofs.Common.{◌≡◌, ℕ, ◌≤◌, ◌∙◌, ◌++◌, ◌∷◌, [], refl, sym, ap, subst, arith}
 use Rattle.std.specs.Prelude.{true}
-use Rattle.paraid_base.specs.History.{held}
+use Rattle.paraid_base.specs.History.{after_all}
 use Rattle.paraid_base.specs.Pairs.{pairs_of}
 use Rattle.paraid_volume.specs.Device.{halt_in}
 use Rattle.paraid_volume.specs.TableBlocks.{in_table}
-use Rattle.paraid_volume.specs.Tables.{IsTable, head_bytes, extent_size, extent_count}
+use Rattle.paraid_volume.specs.Tables.{IsVolumeTable, head_bytes, extent_size, extent_count}
 use Rattle.paraid_base.specs.declared.block.Block.{Block}
 use Rattle.paraid_volume.proofs.ExtentLemmas.{back, same_table}
 use Rattle.paraid_volume.proofs.ChangeLemmas.{shows_nothing}
 use Rattle.paraid_volume.proofs.LaidLemmas.{laid_table}
 use Rattle.paraid_volume.proofs.StateLemmas.{lived_begun}
 use Rattle.std.proofs.lemmas.Bool.{false≢true}
-use Rattle.paraid_volume.proofs.DeviceLemmas.{Grown-then, Grown-weaker, read_either, write_either}
+use Rattle.paraid_volume.proofs.DeviceLemmas.{KeepsMore-then, KeepsMore-weaker, read_either, write_either}
 use Rattle.paraid_volume.proofs.volumes.Volumes.init.Goals as goal
 
 pub returns-then-is_table-clause-refused : goal.returns-then-is_table-clause-refused
@@ -23,8 +23,8 @@ returns-then-is_table-clause-refused g c =
       large,
       c.read_table.ensures.halt ∙ ap halt_in c.in_default.is,
       λ h stands tells.
-          same_table (in_table c.read_table.new.table) (held h) (read.read h stands tells) (g.B.Blocks.block_count c.args.blocks) large
-          (subst (λ (n : ℕ). IsTable n (in_table c.read_table.new.table)) count (c.is_table.ensures.0 c.if-is_table.true)),
+          same_table (in_table c.read_table.new.table) (after_all h) (read.read h stands tells) (g.B.Blocks.block_count c.args.blocks) large
+          (subst (λ (n : ℕ). IsVolumeTable n (in_table c.read_table.new.table)) count (c.is_table.ensures.0 c.if-is_table.true)),
     )
 
 pub write_table-requires-clause-below : goal.write_table-requires-clause-below
@@ -40,10 +40,10 @@ returns-clause-stands g c = λ from h stands tells.
     let entry = pairs_of c.whole.result in
     let new = h ++ entry ∷ [] in
     let t = in_table c.empty-table.result in
-    let same = laid_table h entry (held h) t (c.whole.ensures (held h)) (λ k l. refl) in record {
+    let same = laid_table h entry (after_all h) t (c.whole.ensures (after_all h)) (λ k l. refl) in record {
       entry = entry;
       stands = (c.in_default-write_table.ensures.adds from h mid tells, same);
-      shows = shows_nothing count (held new) large
+      shows = shows_nothing count (after_all new) large
           (ap (λ (x : Block). x.bytes) (sym (same 0 (omega arith))) ∙ c.empty-table.ensures.head ∙ ap (λ (n : ℕ). head_bytes (extent_size n) (extent_count n)) number)
           (λ k low high. sym (same k high) ∙ c.empty-table.ensures.rest k low);
     }
@@ -52,16 +52,16 @@ pub returns-clause-lived : goal.returns-clause-lived
 returns-clause-lived g c = λ from h stands tells. lived_begun _ _ h (returns-clause-stands g c from h stands tells)
 
 pub returns-in-Err-clause-grown_refused : goal.returns-in-Err-clause-grown_refused
-returns-in-Err-clause-grown_refused g c = Grown-weaker _ _ _ _ _ _ read_either c.read_table.ensures.grown
+returns-in-Err-clause-grown_refused g c = KeepsMore-weaker _ _ _ _ _ _ read_either c.read_table.ensures.grown
 
 pub returns-then-is_table-clause-grown_refused : goal.returns-then-is_table-clause-grown_refused
-returns-then-is_table-clause-grown_refused g c = Grown-weaker _ _ _ _ _ _ read_either c.read_table.ensures.grown
+returns-then-is_table-clause-grown_refused g c = KeepsMore-weaker _ _ _ _ _ _ read_either c.read_table.ensures.grown
 
 pub returns-in-Err-write_table-clause-grown_refused : goal.returns-in-Err-write_table-clause-grown_refused
-returns-in-Err-write_table-clause-grown_refused g c = Grown-then _ _ _ _ _ _ c.write_table.ensures.went.told (Grown-weaker _ _ _ _ _ _ read_either c.read_table.ensures.grown) (Grown-weaker _ _ _ _ _ _ write_either c.write_table.ensures.grown)
+returns-in-Err-write_table-clause-grown_refused g c = KeepsMore-then _ _ _ _ _ _ c.write_table.ensures.went.told (KeepsMore-weaker _ _ _ _ _ _ read_either c.read_table.ensures.grown) (KeepsMore-weaker _ _ _ _ _ _ write_either c.write_table.ensures.grown)
 
 pub returns-clause-grown : goal.returns-clause-grown
-returns-clause-grown g c = Grown-then _ _ _ _ _ _ c.write_table.ensures.went.told (Grown-weaker _ _ _ _ _ _ read_either c.read_table.ensures.grown) (Grown-weaker _ _ _ _ _ _ write_either c.write_table.ensures.grown)
+returns-clause-grown g c = KeepsMore-then _ _ _ _ _ _ c.write_table.ensures.went.told (KeepsMore-weaker _ _ _ _ _ _ read_either c.read_table.ensures.grown) (KeepsMore-weaker _ _ _ _ _ _ write_either c.write_table.ensures.grown)
 
 pub returns-clause-taken : goal.returns-clause-taken
 returns-clause-taken g c = λ h stands tells table.
@@ -69,6 +69,6 @@ returns-clause-taken g c = λ h stands tells table.
     let past = c.if-count-lt7.false in
     let large : 7 ≤ g.B.Blocks.block_count c.args.blocks = subst (λ (n : ℕ). 7 ≤ n) count past in
     let same = c.in_default.ensures.read h stands (c.write_table.ensures.went.told tells) in
-    let here = same_table (held h) (in_table c.read_table.new.table) (back _ _ same) (g.B.Blocks.block_count c.args.blocks) large table in
-    let is : c.is_table.result ≡ true = c.is_table.ensures.1 (subst (λ (n : ℕ). IsTable n (in_table c.read_table.new.table)) (sym count) here) in
+    let here = same_table (after_all h) (in_table c.read_table.new.table) (back _ _ same) (g.B.Blocks.block_count c.args.blocks) large table in
+    let is : c.is_table.result ≡ true = c.is_table.ensures.1 (subst (λ (n : ℕ). IsVolumeTable n (in_table c.read_table.new.table)) (sym count) here) in
     absurd (false≢true (sym c.if-is_table.false ∙ is))

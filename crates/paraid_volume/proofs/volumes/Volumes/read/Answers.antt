@@ -1,17 +1,17 @@
 use Rattle.paraid_base.specs.declared.event.Event.TheVariants.{Read}
 use Rattle.paraid_base.specs.declared.event.Answer.TheVariants.{Value}
 use Rattle.std.proofs.Common.{◌∙◌, sym}
-use Rattle.paraid_base.specs.History.{held}
+use Rattle.paraid_base.specs.History.{after_all}
 use Rattle.std.proofs.Common.{rules}
 use Rattle.std.specs.Prelude.{IfErr}
 use Rattle.std.proofs.lemmas.Result.{IfErr-weaker}
 use Rattle.paraid_volume.specs.Faults.{IsPlaceFault}
 use Rattle.paraid_volume.specs.Lives.{read}
-use Rattle.paraid_volume.specs.Values.{device_of, halted_of, table_of}
+use Rattle.paraid_volume.specs.Values.{device_of, halted_of, volume_table}
 use Rattle.paraid_volume.proofs.ExtentLemmas.{same_place}
-use Rattle.paraid_volume.proofs.DeviceLemmas.{Grown-one, holds_same, holds_stands}
+use Rattle.paraid_volume.proofs.DeviceLemmas.{KeepsMore-one, holds_same, holds_stands}
 use Rattle.std.proofs.Common.{refl}
-use Rattle.paraid_volume.proofs.LivedLemmas.{lived_read, lived_refused}
+use Rattle.paraid_volume.proofs.OneCallLemmas.{lived_read, lived_refused}
 use Rattle.paraid_volume.proofs.RefusalLemmas.{block_of, place_served, read_refused}
 use Rattle.paraid_volume.proofs.volumes.Volumes.read.Goals as goal
 
@@ -19,16 +19,16 @@ pub returns-in-Ok-clause-value : goal.returns-in-Ok-clause-value
 returns-in-Ok-clause-value g c = λ h s stands shows tells.
     let v = c.args.self.now in
     c.in-Ok.ensures.value h stands.0 tells
-    ∙ sym (shows.block c.args.id c.args.block c.in_ok-place.place (same_place (table_of v) (held h) stands.1 _ c.args.id c.args.block c.in_ok-place.place v.large c.in_ok-place.ensures.ok))
+    ∙ sym (shows.block c.args.id c.args.block c.in_ok-place.place (same_place (volume_table v) (after_all h) stands.1 _ c.args.id c.args.block c.in_ok-place.place v.large c.in_ok-place.ensures.ok))
 
 pub returns-in-Ok-clause-served : goal.returns-in-Ok-clause-served
 returns-in-Ok-clause-served g c = place_served _ _ _ _ _ c.args.self.now.large c.in_ok-place.ensures.ok
 
 pub returns-in-Ok-clause-grown : goal.returns-in-Ok-clause-grown
-returns-in-Ok-clause-grown g c = Grown-one _ _ _ _ _ _ _ c.read.ensures.events tt
+returns-in-Ok-clause-grown g c = KeepsMore-one _ _ _ _ _ _ _ c.read.ensures.events tt
 
 pub returns-in-Err-Halt-clause-grown : goal.returns-in-Err-Halt-clause-grown
-returns-in-Err-Halt-clause-grown g c = Grown-one _ _ _ _ _ _ _ c.read.ensures.events tt
+returns-in-Err-Halt-clause-grown g c = KeepsMore-one _ _ _ _ _ _ _ c.read.ensures.events tt
 
 pub returns-in-Ok-clause-stands : goal.returns-in-Ok-clause-stands
 returns-in-Ok-clause-stands g c = λ none from h stands tells.
@@ -38,7 +38,7 @@ pub returns-in-Ok-clause-lived : goal.returns-in-Ok-clause-lived
 returns-in-Ok-clause-lived g c = λ from start log lived tells.
     let v = c.args.self.now in
     lived_read _ _ _ start log lived c.args.id c.args.block c.read.new.into
-    (λ h s stands shows. block_of _ (table_of v) (held h) s stands.1 shows v.large c.args.id c.args.block (returns-in-Ok-clause-served g c))
+    (λ h s stands shows. block_of _ (volume_table v) (after_all h) s stands.1 shows v.large c.args.id c.args.block (returns-in-Ok-clause-served g c))
     (λ h stands. returns-in-Ok-clause-stands g c (sym c.in_ok-place.ensures.halt) from h stands tells)
     (λ h s stands shows. returns-in-Ok-clause-value g c h s (holds_stands g.B.Blocks.stands g.B.Blocks.kept from (device_of c.args.self.now) h stands.0, stands.1) shows tells)
 
@@ -46,7 +46,7 @@ pub returns-in_err-place-clause-lived_refused : goal.returns-in_err-place-clause
 returns-in_err-place-clause-lived_refused g c =
     let v = c.args.self.now in
     let count = g.B.Blocks.block_count (device_of v) in
-    let due : IfErr c.from_residual.result (IsPlaceFault count (table_of v) (halted_of v) c.args.id c.args.block) = search rules in
+    let due : IfErr c.from_residual.result (IsPlaceFault count (volume_table v) (halted_of v) c.args.id c.args.block) = search rules in
     IfErr-weaker c.from_residual.result _ _
     (λ fault is none from start log lived tells. lived_refused _ _ _ start log lived (read c.args.id c.args.block) fault (λ h stands. stands)
-    (λ h s stands shows. read_refused count (table_of v) (held h) s stands.1 shows v.large (halted_of v) none c.args.id c.args.block fault is)) due
+    (λ h s stands shows. read_refused count (volume_table v) (after_all h) s stands.1 shows v.large (halted_of v) none c.args.id c.args.block fault is)) due

@@ -1,18 +1,18 @@
-use Rattle.paraid_base.specs.Pairs.{one}
+use Rattle.paraid_base.specs.Pairs.{single_pair}
 use Rattle.std.proofs.Common.{◌∙◌, ◌≢◌, ℕ, ◌++◌, ◌∷◌, []}
-use Rattle.paraid_base.specs.History.{held}
-use Rattle.paraid_base.proofs.HistoryLemmas.{held-written, held-other}
+use Rattle.paraid_base.specs.History.{after_all}
+use Rattle.paraid_base.proofs.HistoryLemmas.{after_all-written, after_all-other}
 use Rattle.std.proofs.Common.{rules}
 use Rattle.std.specs.Prelude.{IfErr}
 use Rattle.std.proofs.lemmas.Result.{IfErr-weaker}
 use Rattle.paraid_volume.specs.Faults.{IsPlaceFault}
 use Rattle.paraid_volume.specs.Lives.{write}
-use Rattle.paraid_volume.specs.Values.{device_of, halted_of, table_of}
+use Rattle.paraid_volume.specs.Values.{device_of, halted_of, volume_table}
 use Rattle.paraid_volume.proofs.ExtentLemmas.{same_place}
 use Rattle.paraid_volume.proofs.ShowsLemmas.{same, shows_written}
-use Rattle.paraid_volume.proofs.DeviceLemmas.{Grown-one, holds_write}
+use Rattle.paraid_volume.proofs.DeviceLemmas.{KeepsMore-one, holds_write}
 use Rattle.paraid_base.proofs.PairsLemmas.{pairs_of-one}
-use Rattle.paraid_volume.proofs.LivedLemmas.{lived_write, lived_refused}
+use Rattle.paraid_volume.proofs.OneCallLemmas.{lived_write, lived_refused}
 use Rattle.paraid_volume.proofs.RefusalLemmas.{block_of, place_served, write_refused}
 use Rattle.paraid_volume.proofs.volumes.Volumes.write.Goals as goal
 
@@ -24,39 +24,39 @@ returns-in-Ok-clause-adds g c = λ from h s stands shows tells.
     let bytes = c.args.bytes.now in
     let place = c.in_ok-place.place in
     let count = g.B.Blocks.block_count v.blocks in
-    let at = same_place (table_of v) (held h) stands.1 count id block place v.large c.in_ok-place.ensures.ok in
+    let at = same_place (volume_table v) (after_all h) stands.1 count id block place v.large c.in_ok-place.ensures.ok in
     let new = h ++ ((place, bytes) ∷ []) ∷ [] in
-    let here = held-written h place bytes in
-    let other = λ (k : ℕ) (not : place ≢ k). held-other h place k bytes not in record {
+    let here = after_all-written h place bytes in
+    let other = λ (k : ℕ) (not : place ≢ k). after_all-other h place k bytes not in record {
       entry = (place, bytes) ∷ [];
       stands = (
-        holds_write g.B.Blocks.stands g.B.Blocks.kept from v.blocks c.write.new.self h (one place bytes) ((place, bytes) ∷ []) c.in-Ok.field-0 (λ x. (c.in-Ok.ensures.history h x tells).1) (λ events k. c.in-Ok.ensures.events events k tells) (pairs_of-one place bytes) stands.0,
-        λ k l. stands.1 k l ∙ same count (held h) (held new) id block place bytes v.large at here other k l,
+        holds_write g.B.Blocks.stands g.B.Blocks.kept from v.blocks c.write.new.self h (single_pair place bytes) ((place, bytes) ∷ []) c.in-Ok.field-0 (λ x. (c.in-Ok.ensures.history h x tells).1) (λ events k. c.in-Ok.ensures.events events k tells) (pairs_of-one place bytes) stands.0,
+        λ k l. stands.1 k l ∙ same count (after_all h) (after_all new) id block place bytes v.large at here other k l,
       );
-      shows = shows_written count (held h) (held new) id block place bytes v.large at here other s shows;
+      shows = shows_written count (after_all h) (after_all new) id block place bytes v.large at here other s shows;
     }
 
 pub returns-in-Ok-clause-served : goal.returns-in-Ok-clause-served
 returns-in-Ok-clause-served g c = place_served _ _ _ _ _ c.args.self.now.large c.in_ok-place.ensures.ok
 
 pub returns-in-Ok-clause-grown : goal.returns-in-Ok-clause-grown
-returns-in-Ok-clause-grown g c = Grown-one _ _ _ _ _ _ _ c.write.ensures.events tt
+returns-in-Ok-clause-grown g c = KeepsMore-one _ _ _ _ _ _ _ c.write.ensures.events tt
 
 pub returns-in-Err-Halt-clause-grown : goal.returns-in-Err-Halt-clause-grown
-returns-in-Err-Halt-clause-grown g c = Grown-one _ _ _ _ _ _ _ c.write.ensures.events tt
+returns-in-Err-Halt-clause-grown g c = KeepsMore-one _ _ _ _ _ _ _ c.write.ensures.events tt
 
 pub returns-in-Ok-clause-lived : goal.returns-in-Ok-clause-lived
 returns-in-Ok-clause-lived g c = λ from start log lived tells.
     let v = c.args.self.now in
     lived_write _ _ _ start log lived c.args.id c.args.block c.args.bytes.now
-    (λ h s stands shows. block_of _ (table_of v) (held h) s stands.1 shows v.large c.args.id c.args.block (returns-in-Ok-clause-served g c))
+    (λ h s stands shows. block_of _ (volume_table v) (after_all h) s stands.1 shows v.large c.args.id c.args.block (returns-in-Ok-clause-served g c))
     (λ h s stands shows. returns-in-Ok-clause-adds g c from h s stands shows tells)
 
 pub returns-in_err-place-clause-lived_refused : goal.returns-in_err-place-clause-lived_refused
 returns-in_err-place-clause-lived_refused g c =
     let v = c.args.self.now in
     let count = g.B.Blocks.block_count (device_of v) in
-    let due : IfErr c.from_residual.result (IsPlaceFault count (table_of v) (halted_of v) c.args.id c.args.block) = search rules in
+    let due : IfErr c.from_residual.result (IsPlaceFault count (volume_table v) (halted_of v) c.args.id c.args.block) = search rules in
     IfErr-weaker c.from_residual.result _ _
     (λ fault is none from start log lived tells. lived_refused _ _ _ start log lived (write c.args.id c.args.block c.args.bytes.now) fault (λ h stands. stands)
-    (λ h s stands shows. write_refused count (table_of v) (held h) s stands.1 shows v.large (halted_of v) none c.args.id c.args.block c.args.bytes.now fault is)) due
+    (λ h s stands shows. write_refused count (volume_table v) (after_all h) s stands.1 shows v.large (halted_of v) none c.args.id c.args.block c.args.bytes.now fault is)) due

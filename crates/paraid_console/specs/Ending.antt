@@ -1,0 +1,28 @@
+-- How a command begins and ends: its lines, and the status.
+use Rattle.std.specs.Prelude.{◌≡◌, ℕ, ◌≤◌, ◌⊎◌, List, ◌++◌, length, take, codes, decimal, Option}
+use Rattle.paraid_base.specs.declared.event.Answer.TheVariants.{Halted}
+use Rattle.paraid_base.specs.declared.fault.Halt.{Halt}
+use Rattle.paraid_base.specs.declared.fault.Halt.TheVariants.{Two, Worn}
+use Rattle.paraid_base.specs.Told.{GrowsByBytes}
+use Rattle.paraid_trace.specs.Replies.{reply_of}
+
+abbrev pub mount_line : ℕ → ℕ → List ℕ
+mount_line writes gear = codes "mounted " ++ decimal writes ++ codes " gear " ++ decimal gear ++ codes "\n"
+
+abbrev pub end_line : ℕ → List ℕ
+end_line writes = codes "end " ++ decimal writes ++ codes "\n"
+
+abbrev pub halt_line : Halt → List ℕ
+halt_line halt = reply_of (Halted halt)
+
+-- the status of a halt
+abbrev pub status_of_halt : Halt → ℕ
+status_of_halt (Two two) = 5
+status_of_halt (Worn count) = 12
+
+-- A last line was written whole, with this status, or a first part of it at 4.
+pub record EndsWithLine (before after : Option (List ℕ)) (line : List ℕ) (code status : ℕ) : Type 0 where
+  pub count : ℕ
+  pub within : count ≤ length line
+  pub grows : GrowsByBytes before after (take count line)
+  pub whole : (status ≡ 4) ⊎ ((count ≡ length line) × (status ≡ code))

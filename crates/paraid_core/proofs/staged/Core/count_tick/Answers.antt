@@ -1,0 +1,12 @@
+use Rattle.std.proofs.Common.{arith}
+use Rattle.paraid_core.proofs.MarkLemmas.{tick_ready, tick_stands}
+use Rattle.paraid_core.proofs.staged.Core.count_tick.Goals as goal
+
+pub returns-clause-stands : goal.returns-clause-stands
+returns-clause-stands g c h lo = tick_stands g.R.Rack.slot_count g.R.Rack.slot g.R.Rack.told c.args.self.now c.requires.ready _ h lo
+
+pub returns-clause-ready : goal.returns-clause-ready
+returns-clause-ready g c =
+    let fits = c.requires.ready.in_range.counters.ticks_fit in
+    let is = c.saturating_add-self.ensures in
+    tick_ready _ _ _ _ _ c.args.self.now.meta _ _ c.saturating_add-self.result (grind arith) (grind arith) c.requires.ready

@@ -1,0 +1,95 @@
+use Rattle.std.specs.Prelude.{ℕ, ◌+◌, ◌<◌, None}
+use Rattle.std.proofs.Common.{◌∙◌, sym, ap, subst}
+use Rattle.paraid_moves.specs.MoveMetas.{copied_block}
+use Rattle.paraid_txn.specs.Stores.{store_rack}
+use Rattle.paraid_view.specs.Reads.{seen_by}
+use Rattle.paraid_view.proofs.TwoLemmas.{left_spared, spared_then}
+use Rattle.paraid_core.specs.declared.staged.Core.{Core}
+use Rattle.paraid_core.specs.Cores.{CoreStandsFor}
+use Rattle.paraid_core.specs.Fills.{Filled, Filling}
+use Rattle.paraid_core.proofs.AfterLemmas.{handed}
+use Rattle.paraid_core.proofs.FillLemmas.{gather_held, gather_lost_leaves, gather_lost_stands, gathered, gathered_leaves}
+use Rattle.paraid_core.proofs.StepLemmas.{held_runs_then, leaves_then, runs_then, two_then}
+use Rattle.paraid_core.proofs.staged.Core.fill_stripe.Goals as goal
+use Rattle.paraid_core.proofs.staged.Core.fill_stripe.Goals.{After-from_residual, In_ok-done}
+
+pub returns-in_err-done-clause-spared : goal.returns-in_err-done-clause-spared
+returns-in_err-done-clause-spared g c =
+    spared_then (g.R.Rack.slot (store_rack c.args.self.now.store)) (g.R.Rack.slot (store_rack c.gather.new.store)) (g.R.Rack.slot (store_rack c.write_members.new.self.store)) (left_spared _ _ _ c.in_default.ensures.read.left) c.write_members.ensures.spared
+
+pub returns-in_err-done-clause-two : goal.returns-in_err-done-clause-two
+returns-in_err-done-clause-two g c =
+    handed _ c.from_residual.result _ c.from_residual.ensures.1
+    (two_then g.R.Rack.slot_count g.R.Rack.slot g.R.Rack.told c.args.self.now (record c.args.self.now { store = c.gather.new.store })
+    (gathered_leaves g.R.Rack.slot_count g.R.Rack.slot g.R.Rack.told c.args.self.now c.requires.ready c.gather.new.store c.in_default.ensures.read c.requires.serves.stays) c.write_members.new.self c.write_members.ensures.spared _ c.in_err-done.ensures.two)
+
+pub returns-in_err-done-clause-moments : goal.returns-in_err-done-clause-moments
+returns-in_err-done-clause-moments g c h lo =
+    let old = c.args.self.now in
+    let mid : Core g.row.R.Denot g.R.Rack = record old { store = c.gather.new.store } in
+    let q = c.requires in
+    held_runs_then g.R.Rack.slot_count g.R.Rack.slot g.R.Rack.told old mid (gathered_leaves g.R.Rack.slot_count g.R.Rack.slot g.R.Rack.told old q.ready c.gather.new.store c.in_default.ensures.read q.serves.stays) c.write_members.new.self
+    (Filled g.R.Rack.slot_count old h lo c.args.s) (Filling g.R.Rack.slot_count mid h lo c.args.s c.gather.new.blocks 0) h lo
+    (gathered g.R.Rack.slot_count g.R.Rack.slot g.R.Rack.told old q.ready c.gather.new.store c.args.s c.gather.new.blocks c.in_default.ensures.read q.whole q.nothing q.no_draft q.region (g.met.R.Rack.agrees (store_rack old.store))
+    (g.met.R.Rack.agrees (store_rack c.gather.new.store)) (g.met.R.Rack.slots_hold (store_rack c.gather.new.store)).absent
+    (λ f shows some e l. c.in_default.ensures.value f shows some e (subst (λ (z : ℕ). e < z) (sym c.to-to.ensures) l) ∙ ap (λ (z : ℕ). copied_block (seen_by old.meta old.dirty None f) z c.args.s e) c.to-to.ensures) h lo)
+    (c.write_members.ensures.moments h lo)
+
+pub returns-in_default-clause-leaves : goal.returns-in_default-clause-leaves
+returns-in_default-clause-leaves g c =
+    leaves_then g.R.Rack.slot_count g.R.Rack.slot g.R.Rack.told c.args.self.now (record c.args.self.now { store = c.gather.new.store })
+    (gathered_leaves g.R.Rack.slot_count g.R.Rack.slot g.R.Rack.told c.args.self.now c.requires.ready c.gather.new.store c.in_default.ensures.read c.requires.serves.stays) c.write_members.new.self c.in_ok-done.ensures.leaves
+
+pub returns-in_default-clause-spared : goal.returns-in_default-clause-spared
+returns-in_default-clause-spared g c =
+    spared_then (g.R.Rack.slot (store_rack c.args.self.now.store)) (g.R.Rack.slot (store_rack c.gather.new.store)) (g.R.Rack.slot (store_rack c.write_members.new.self.store)) (left_spared _ _ _ c.in_default.ensures.read.left) c.write_members.ensures.spared
+
+pub returns-in_default-clause-filled : goal.returns-in_default-clause-filled
+returns-in_default-clause-filled g c is h lo =
+    let old = c.args.self.now in
+    let mid : Core g.row.R.Denot g.R.Rack = record old { store = c.gather.new.store } in
+    let q = c.requires in
+    runs_then g.R.Rack.slot_count g.R.Rack.slot g.R.Rack.told old mid (gathered_leaves g.R.Rack.slot_count g.R.Rack.slot g.R.Rack.told old q.ready c.gather.new.store c.in_default.ensures.read q.serves.stays) c.write_members.new.self
+    (Filled g.R.Rack.slot_count old h lo c.args.s) (Filling g.R.Rack.slot_count mid h lo c.args.s c.gather.new.blocks 0) (Filled g.R.Rack.slot_count c.write_members.new.self h lo (c.args.s + 1)) h lo
+    (gathered g.R.Rack.slot_count g.R.Rack.slot g.R.Rack.told old q.ready c.gather.new.store c.args.s c.gather.new.blocks c.in_default.ensures.read q.whole q.nothing q.no_draft q.region (g.met.R.Rack.agrees (store_rack old.store))
+    (g.met.R.Rack.agrees (store_rack c.gather.new.store)) (g.met.R.Rack.slots_hold (store_rack c.gather.new.store)).absent
+    (λ f shows some e l. c.in_default.ensures.value f shows some e (subst (λ (z : ℕ). e < z) (sym c.to-to.ensures) l) ∙ ap (λ (z : ℕ). copied_block (seen_by old.meta old.dirty None f) z c.args.s e) c.to-to.ensures) h lo)
+    (c.in_ok-done.ensures.filled is h lo)
+
+pub returns-in_default-clause-lost : goal.returns-in_default-clause-lost
+returns-in_default-clause-lost g c is h lo =
+    let old = c.args.self.now in
+    let mid : Core g.row.R.Denot g.R.Rack = record old { store = c.gather.new.store } in
+    let q = c.requires in
+    runs_then g.R.Rack.slot_count g.R.Rack.slot g.R.Rack.told old mid (gathered_leaves g.R.Rack.slot_count g.R.Rack.slot g.R.Rack.told old q.ready c.gather.new.store c.in_default.ensures.read q.serves.stays) c.write_members.new.self
+    (Filled g.R.Rack.slot_count old h lo c.args.s) (Filling g.R.Rack.slot_count mid h lo c.args.s c.gather.new.blocks 0) (CoreStandsFor g.R.Rack.slot_count c.write_members.new.self h lo) h lo
+    (gathered g.R.Rack.slot_count g.R.Rack.slot g.R.Rack.told old q.ready c.gather.new.store c.args.s c.gather.new.blocks c.in_default.ensures.read q.whole q.nothing q.no_draft q.region (g.met.R.Rack.agrees (store_rack old.store))
+    (g.met.R.Rack.agrees (store_rack c.gather.new.store)) (g.met.R.Rack.slots_hold (store_rack c.gather.new.store)).absent
+    (λ f shows some e l. c.in_default.ensures.value f shows some e (subst (λ (z : ℕ). e < z) (sym c.to-to.ensures) l) ∙ ap (λ (z : ℕ). copied_block (seen_by old.meta old.dirty None f) z c.args.s e) c.to-to.ensures) h lo)
+    (c.in_ok-done.ensures.lost is h lo)
+
+pub returns-in_default-clause-moments : goal.returns-in_default-clause-moments
+returns-in_default-clause-moments g c h lo =
+    let old = c.args.self.now in
+    let mid : Core g.row.R.Denot g.R.Rack = record old { store = c.gather.new.store } in
+    let q = c.requires in
+    held_runs_then g.R.Rack.slot_count g.R.Rack.slot g.R.Rack.told old mid (gathered_leaves g.R.Rack.slot_count g.R.Rack.slot g.R.Rack.told old q.ready c.gather.new.store c.in_default.ensures.read q.serves.stays) c.write_members.new.self
+    (Filled g.R.Rack.slot_count old h lo c.args.s) (Filling g.R.Rack.slot_count mid h lo c.args.s c.gather.new.blocks 0) h lo
+    (gathered g.R.Rack.slot_count g.R.Rack.slot g.R.Rack.told old q.ready c.gather.new.store c.args.s c.gather.new.blocks c.in_default.ensures.read q.whole q.nothing q.no_draft q.region (g.met.R.Rack.agrees (store_rack old.store))
+    (g.met.R.Rack.agrees (store_rack c.gather.new.store)) (g.met.R.Rack.slots_hold (store_rack c.gather.new.store)).absent
+    (λ f shows some e l. c.in_default.ensures.value f shows some e (subst (λ (z : ℕ). e < z) (sym c.to-to.ensures) l) ∙ ap (λ (z : ℕ). copied_block (seen_by old.meta old.dirty None f) z c.args.s e) c.to-to.ensures) h lo)
+    (c.write_members.ensures.moments h lo)
+
+pub returns-clause-leaves : goal.returns-clause-leaves
+returns-clause-leaves g c =
+    gather_lost_leaves g.R.Rack.slot_count g.R.Rack.slot g.R.Rack.told c.args.self.now c.requires.ready c.gather.new.store c.in-Err.disk c.in-Err.ensures.read c.in-Err.ensures.below c.requires.whole c.requires.serves.stays c.lose.new.meta
+    c.in_ok-lose.ensures.marked
+
+pub returns-clause-lost : goal.returns-clause-lost
+returns-clause-lost g c is h lo =
+    gather_lost_stands g.R.Rack.slot_count g.R.Rack.slot g.R.Rack.told c.args.self.now c.requires.ready c.gather.new.store c.in-Err.disk c.in-Err.ensures.read c.in-Err.ensures.below c.requires.whole c.requires.serves.stays c.lose.new.meta
+    c.in_ok-lose.ensures.marked c.requires.nothing (g.met.R.Rack.agrees (store_rack c.args.self.now.store)) (g.met.R.Rack.agrees (store_rack c.gather.new.store)) (g.met.R.Rack.slots_hold (store_rack c.gather.new.store)).absent c.args.s h lo
+
+pub returns-clause-moments : goal.returns-clause-moments
+returns-clause-moments g c h lo =
+    gather_held g.R.Rack.slot_count g.R.Rack.slot g.R.Rack.told c.args.self.now c.requires.ready _ c.in-Err.ensures.read.calls c.args.s h lo

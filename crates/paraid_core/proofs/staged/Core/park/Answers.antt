@@ -1,0 +1,107 @@
+use Rattle.std.proofs.Common.{◌≡◌, ℕ, ◌∙◌, ◌<◌, Some, sym, ap, subst, refl, false}
+use Rattle.std.specs.Prelude.{Option, is_ok}
+use Rattle.paraid_image.specs.Out.{named_out}
+use Rattle.paraid_rack.specs.declared.call.Call.TheVariants.{Park}
+use Rattle.paraid_rack.specs.Disks.{is_present, step}
+use Rattle.paraid_rack.specs.Slots.{Slot}
+use Rattle.paraid_record.specs.declared.meta.Meta.{Meta}
+use Rattle.paraid_txn.specs.Stores.{named_of, store_rack}
+use Rattle.paraid_image.specs.Mark.{meta_after_loss}
+use Rattle.paraid_core.specs.declared.staged.Core.{Core}
+use Rattle.paraid_core.specs.CoreInvariant.{CanServe, HoldsBetweenCalls, lost_in, meta_with_lost}
+use Rattle.paraid_core.proofs.AfterLemmas.{lost_in_there, ready_after, ready_moved, serve_after}
+use Rattle.paraid_core.proofs.CallLemmas.{call_stands}
+use Rattle.paraid_core.proofs.LostDiskLemmas.{keeps_failed}
+use Rattle.paraid_core.proofs.ParkLemmas.{park_done, park_held, parked_ready, parked_serves}
+use Rattle.paraid_core.proofs.ReadyLemmas.{IsLostOnly, some_is}
+use Rattle.paraid_core.proofs.staged.Core.park.Given.{Over}
+use Rattle.paraid_core.proofs.staged.Core.park.Goals as goal
+use Rattle.paraid_core.proofs.staged.Core.park.Goals.{In_default, In_ok-lose}
+
+pub returns-in_default-clause-done : goal.returns-in_default-clause-done
+returns-in_default-clause-done g c is h lo =
+    let q = c.requires in
+    park_done g.R.Rack.slot_count g.R.Rack.slot g.R.Rack.told c.args.self.now _ c.args.disk _ c.park.ensures.told (g.met.R.Rack.agrees (store_rack c.args.self.now.store)) q.spinning q.disk q.past_logs q.past_gear q.past_rise q.not_out
+    (ap is_ok c.in_default.is) _ _ c.park.ensures.slots c.park.ensures.same.named h lo
+
+pub returns-in_default-clause-moments : goal.returns-in_default-clause-moments
+returns-in_default-clause-moments g c h lo =
+    let q = c.requires in
+    park_held g.R.Rack.slot_count g.R.Rack.slot g.R.Rack.told c.args.self.now _ c.args.disk _ c.park.ensures.told (g.met.R.Rack.agrees (store_rack c.args.self.now.store)) q.spinning q.disk q.past_logs q.past_gear q.past_rise q.not_out h lo
+
+pub returns-in_err-lose-clause-moments : goal.returns-in_err-lose-clause-moments
+returns-in_err-lose-clause-moments g c h lo =
+    let q = c.requires in
+    park_held g.R.Rack.slot_count g.R.Rack.slot g.R.Rack.told c.args.self.now _ c.args.disk _ c.park.ensures.told (g.met.R.Rack.agrees (store_rack c.args.self.now.store)) q.spinning q.disk q.past_logs q.past_gear q.past_rise q.not_out h lo
+
+pub returns-in_default-clause-ready : goal.returns-in_default-clause-ready
+returns-in_default-clause-ready g c =
+    let q = c.requires in
+    ready_moved _ _ _ _ _ _ _ _ _ c.args.self.now.meta _ _ _ c.park.ensures.slots c.park.ensures.same.epoch c.park.ensures.same.disks c.park.ensures.same.named refl
+    (parked_ready _ (g.R.Rack.slot (store_rack c.args.self.now.store)) _ _ _ _ _ _ _ c.args.disk c.park.ensures.slot.others q.past_gear q.past_rise q.not_out
+    (ap (λ (s : Slot). s.power) (c.park.ensures.slot.done (ap is_ok c.in_default.is))) q.nothing q.ready)
+
+pub returns-in_default-clause-serves : goal.returns-in_default-clause-serves
+returns-in_default-clause-serves g c serves =
+    let q = c.requires in
+    subst (λ (z : Option ℕ). CanServe (g.R.Rack.slot (store_rack c.park.new.self)) z c.args.self.now.meta) (sym c.park.ensures.same.named)
+    (parked_serves (g.R.Rack.slot_count (store_rack c.args.self.now.store)) (g.R.Rack.slot (store_rack c.args.self.now.store)) _ 0 0 _ _ 0 c.args.self.now.batch c.args.disk c.park.ensures.slot.others q.past_gear q.past_rise q.not_out serves)
+
+-- it failed, and no other disk is out
+module _ (g : Over) (c : In_ok-lose g) where
+  abbrev old : Core g.row.R.Denot g.R.Rack
+  old = c.args.self.now
+
+  failed : is_ok c.park.result ≡ false
+  failed = ap is_ok c.in-Err.is
+
+  is_lost : lost_in old.meta (Some c.args.disk) ≡ Some c.args.disk
+  is_lost = lost_in_there old.meta (Some c.args.disk) c.args.disk c.requires.disk refl
+
+  meta_is : c.lose.new.meta ≡ meta_after_loss old.meta c.args.disk
+  meta_is = c.in_ok-lose.ensures.marked ∙ ap (λ (o : Option ℕ). meta_with_lost o old.meta) is_lost
+
+  alone : (x : ℕ) → named_out old.meta.out ≡ Some x → x ≡ c.args.disk
+  alone x is = c.in_ok-lose.ensures.alone c.args.disk x refl is c.requires.disk
+
+  only : IsLostOnly old.meta.setup.geometry.disks (lost_in old.meta (Some c.args.disk)) (g.R.Rack.slot (store_rack old.store)) (g.R.Rack.slot (store_rack c.park.new.self))
+  only = subst (λ (o : Option ℕ). IsLostOnly old.meta.setup.geometry.disks o (g.R.Rack.slot (store_rack old.store)) (g.R.Rack.slot (store_rack c.park.new.self))) (sym is_lost) (record {
+    power = λ x l not. ap (λ (s : Slot). s.power) (c.park.ensures.slot.others x (λ here. not (ap Some (sym here))));
+    size = λ x l not. ap (λ (s : Slot). s.size) (c.park.ensures.slot.others x (λ here. not (ap Some (sym here))));
+    gone = λ x k. ap (λ (e : ℕ). (g.R.Rack.slot (store_rack c.park.new.self) e).power) (sym (some_is c.args.disk x k)) ∙ c.park.ensures.slot.absent failed;
+  })
+
+  alone_in : (d x : ℕ) → lost_in old.meta (Some c.args.disk) ≡ Some d → named_out old.meta.out ≡ Some x → x ≡ d
+  alone_in d x is k = alone x k ∙ some_is c.args.disk d (sym is_lost ∙ is)
+
+  low_in : (d : ℕ) → lost_in old.meta (Some c.args.disk) ≡ Some d → d < old.meta.setup.geometry.disks
+  low_in d is = subst (λ (e : ℕ). e < old.meta.setup.geometry.disks) (some_is c.args.disk d (sym is_lost ∙ is)) c.requires.disk
+
+pub returns-clause-meta : goal.returns-clause-meta
+returns-clause-meta g c = record { lost = Some c.args.disk; is = meta_is g c; alone = λ d x is k. alone g c x k ∙ some_is c.args.disk d is }
+
+pub returns-clause-ready : goal.returns-clause-ready
+returns-clause-ready g c =
+    let park = c.park.ensures in
+    ready_moved _ _ _ _ _ _ _ _ _ (meta_with_lost (lost_in c.args.self.now.meta (Some c.args.disk)) c.args.self.now.meta) _ _ _ park.slots park.same.epoch park.same.disks park.same.named c.in_ok-lose.ensures.marked
+    (ready_after _ _ _ _ _ _ c.args.self.now.meta _ _ c.requires.ready (Some c.args.disk) (only g c) (alone_in g c) (λ d x is k. alone_in g c d x is (c.requires.still x k)) (low_in g c))
+
+pub returns-clause-serves : goal.returns-clause-serves
+returns-clause-serves g c serves =
+    subst (λ (z : Option ℕ). CanServe (g.R.Rack.slot (store_rack c.park.new.self)) z c.lose.new.meta) (sym c.park.ensures.same.named)
+    (subst (λ (z : Meta). CanServe (g.R.Rack.slot (store_rack c.park.new.self)) (named_of c.args.self.now.store) z) (sym c.in_ok-lose.ensures.marked)
+    (serve_after _ _ _ _ _ _ c.args.self.now.meta _ _ c.requires.ready (Some c.args.disk) (only g c) (alone_in g c) (λ d x is k. alone_in g c d x is (c.requires.still x k)) (low_in g c) serves))
+
+pub returns-clause-lost : goal.returns-clause-lost
+returns-clause-lost g c is =
+    let ready = c.requires.ready in
+    let old = c.args.self.now in
+    call_stands g.R.Rack.slot_count g.R.Rack.slot g.R.Rack.told old _ _ c.park.ensures.told (g.met.R.Rack.agrees (store_rack old.store)) _ _ _ _ _ _ c.park.ensures.slots c.park.ensures.same.named
+    (ap (λ (z : Meta). z.setup) (meta_is g c))
+    (λ h lo s agrees k. subst (λ (z : Meta). HoldsBetweenCalls (g.R.Rack.slot_count (store_rack old.store)) (named_of old.store) z old.dirty old.batch old.copied h lo (step (Park c.args.disk (is_ok c.park.result)) s)) (sym (meta_is g c))
+    (keeps_failed _ _ old.meta _ _ _ h lo s (Park c.args.disk (is_ok c.park.result)) ready.in_range c.requires.disk (failed g c) (λ x l gone. ready.absent x l (ap is_present (sym (agrees.power x)) ∙ gone)) (alone g c) c.requires.still k))
+
+pub returns-clause-moments : goal.returns-clause-moments
+returns-clause-moments g c h lo =
+    let q = c.requires in
+    park_held g.R.Rack.slot_count g.R.Rack.slot g.R.Rack.told c.args.self.now _ c.args.disk _ c.park.ensures.told (g.met.R.Rack.agrees (store_rack c.args.self.now.store)) q.spinning q.disk q.past_logs q.past_gear q.past_rise q.not_out h lo

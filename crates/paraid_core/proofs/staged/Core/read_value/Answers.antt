@@ -1,0 +1,141 @@
+use Rattle.std.proofs.Common.{◌++◌, ◌≡◌, ℕ, ◌∙◌, Some, None, sym, ap, subst, Option, ◌<◌}
+use Rattle.paraid_rack.specs.Trail.{now}
+use Rattle.paraid_txn.specs.Stores.{disks_of, named_of, store_rack}
+use Rattle.paraid_core.proofs.ReadsLemmas.{cell_value, knows_named, reads_moments, reads_stand, rows_zero, shows_contents, stripes_zero}
+use Rattle.paraid_record.specs.declared.meta.Meta.{Meta}
+use Rattle.paraid_txn.specs.Losses.{AreTwoDown}
+use Rattle.std.proofs.lemmas.List.{append-nil}
+use Rattle.paraid_image.specs.Sides.{Batch}
+use Rattle.paraid_image.specs.Standing.{contents}
+use Rattle.paraid_view.specs.Reads.{ShowsContents}
+use Rattle.paraid_image.specs.Out.{named_out, or_else, out_disk}
+use Rattle.paraid_view.proofs.TwoLemmas.{left_spared}
+use Rattle.paraid_core.specs.CoreInvariant.{CanServe, lost_in, meta_with_lost}
+use Rattle.paraid_core.proofs.AfterLemmas.{down_named, handed, lost_in_is, lost_in_low, marked_setup, marked_writes, named_is_out, out_is_named, ready_after, ready_moved, serve_after, two_by}
+use Rattle.std.specs.Prelude.{false}
+use Rattle.paraid_core.specs.Cleaning.{is_cleaned}
+use Rattle.paraid_core.proofs.CleanLemmas.{cleans_marked}
+use Rattle.paraid_core.proofs.ChainLemmas.{down_read, marked_epoch}
+use Rattle.paraid_core.proofs.ReadyLemmas.{IsLostOnly, left_lost_only}
+use Rattle.paraid_core.proofs.staged.Core.read_value.Given.{Over}
+use Rattle.paraid_core.proofs.staged.Core.read_value.Goals as goal
+use Rattle.paraid_core.proofs.staged.Core.read_value.Goals.{In_ok-lose}
+
+pub returns-clause-moments : goal.returns-clause-moments
+returns-clause-moments g c h lo =
+    let old = c.args.self.now in
+    reads_moments (g.R.Rack.slot_count (store_rack old.store)) (named_of old.store) old.meta old.dirty old.batch old.copied h lo (or_else (named_of old.store) (named_out old.meta.out)) (knows_named (named_of old.store) (named_out old.meta.out)) (disks_of old.store) _ _ (sym c.requires.ready.array_is) c.in_ok-lost.ensures.read.calls
+
+pub returns-clause-stands : goal.returns-clause-stands
+returns-clause-stands g c h lo =
+    let old = c.args.self.now in
+    let read = c.in_ok-lost.ensures in
+    reads_stand (g.R.Rack.slot_count (store_rack old.store)) (named_of old.store) old.meta old.dirty old.batch old.copied h lo (or_else (named_of old.store) (named_out old.meta.out)) (knows_named (named_of old.store) (named_out old.meta.out)) (disks_of old.store) _ _ (g.R.Rack.slot (store_rack old.store)) (g.R.Rack.slot (store_rack c.read_cell.new.store))
+    c.in_ok-lost.lost c.requires.ready.in_range (sym c.requires.ready.array_is) (g.met.R.Rack.agrees (store_rack old.store)) (g.met.R.Rack.agrees (store_rack c.read_cell.new.store)) read.read.left
+    (g.met.R.Rack.slots_hold (store_rack c.read_cell.new.store)).absent (λ d is. subst (λ (z : ℕ). d < z) (sym c.requires.ready.array_is) (read.below d is)) (λ d is. read.one d is) c.requires.serves.stays
+    _ _ _ read.read.slots read.read.same.named c.in_ok-lose.ensures.marked read.read.calls
+
+pub returns-clause-value : goal.returns-clause-value
+returns-clause-value g c h lo t tells keeps some =
+    let old = c.args.self.now in
+    let slots : ℕ = g.R.Rack.slot_count (store_rack old.store) in
+    let agrees = g.met.R.Rack.agrees (store_rack old.store) t tells in
+    let powers : (λ (x : ℕ). (g.R.Rack.slot (store_rack old.store) x).power) ≡ (now t).power = (λ i. λ x. sym (agrees.power x) i) in
+    let p = λ (x : ℕ). (g.R.Rack.slot (store_rack old.store) x).power in
+    cell_value slots (named_of old.store) old.meta old.dirty old.batch old.copied h lo (now t) keeps p powers c.args.r c.args.d _ c.requires.row
+    (c.in_ok-lost.ensures.value (contents (now t) old.batch)
+    (subst (λ (z : Batch). ShowsContents (g.R.Rack.told (store_rack old.store)) z (contents (now t) old.batch)) (sym (ap (λ (z : Batch). old.batch ++ z) c.requires.no_draft ∙ append-nil old.batch)) (shows_contents _ old.batch t tells)) some
+    (rows_zero slots (named_of old.store) old.meta old.dirty old.batch old.copied h lo (now t) keeps p powers) (stripes_zero slots (named_of old.store) old.meta old.dirty old.batch old.copied h lo (now t) keeps p powers))
+
+pub returns-in_err-lost-clause-moments : goal.returns-in_err-lost-clause-moments
+returns-in_err-lost-clause-moments g c h lo =
+    let old = c.args.self.now in
+    reads_moments (g.R.Rack.slot_count (store_rack old.store)) (named_of old.store) old.meta old.dirty old.batch old.copied h lo (or_else (named_of old.store) (named_out old.meta.out)) (knows_named (named_of old.store) (named_out old.meta.out)) (disks_of old.store) _ _ (sym c.requires.ready.array_is) c.in_err-lost.ensures.two.calls
+
+pub returns-in_err-lost-clause-two : goal.returns-in_err-lost-clause-two
+returns-in_err-lost-clause-two g c =
+    let old = c.args.self.now in
+    let slot = g.R.Rack.slot (store_rack old.store) in
+    let ready = c.requires.ready in
+    handed (AreTwoDown (or_else (named_of old.store) (named_out old.meta.out)) slot (g.R.Rack.slot (store_rack c.read_cell.new.store))) c.from_residual.result _ c.from_residual.ensures.1
+    (two_by (out_disk (λ x. (slot x).power) old.meta) (or_else (named_of old.store) (named_out old.meta.out)) slot (g.R.Rack.slot (store_rack c.read_cell.new.store)) _
+    (λ x is. down_named (named_of old.store) old.meta ready.one x (out_is_named (λ x. (slot x).power) old.meta ready.absent x is)) c.in_err-lost.ensures.two.down)
+
+-- what was lost is the one disk that is out
+module _ (g : Over) (c : In_ok-lose g) where
+  abbrev m : Meta
+  m = c.args.self.now.meta
+
+  low : (d : ℕ) → c.in_ok-lost.lost ≡ Some d → d < m.setup.geometry.disks
+  low d is = subst (λ (z : ℕ). d < z) (sym c.requires.ready.array_is) (c.in_ok-lost.ensures.below d is)
+
+  same : lost_in m c.in_ok-lost.lost ≡ c.in_ok-lost.lost
+  same = lost_in_is m c.in_ok-lost.lost low
+
+  none_out : (d x : ℕ) → lost_in m c.in_ok-lost.lost ≡ Some d → named_out m.out ≡ Some x → x ≡ d
+  none_out d x is k =
+      let none = c.in_ok-lost.ensures.one d (sym same ∙ is) in
+      let z : None ≡ Some x = sym none ∙ named_is_out (λ e. (g.R.Rack.slot (store_rack c.args.self.now.store) e).power) m x k in cc
+
+  only : IsLostOnly m.setup.geometry.disks (lost_in m c.in_ok-lost.lost) (g.R.Rack.slot (store_rack c.args.self.now.store)) (g.R.Rack.slot (store_rack c.read_cell.new.store))
+  only = subst (λ (o : Option ℕ). IsLostOnly m.setup.geometry.disks o (g.R.Rack.slot (store_rack c.args.self.now.store)) (g.R.Rack.slot (store_rack c.read_cell.new.store))) (sym same)
+      (left_lost_only m.setup.geometry.disks c.in_ok-lost.lost _ _ c.in_ok-lost.ensures.read.left)
+
+pub returns-clause-ready : goal.returns-clause-ready
+returns-clause-ready g c =
+    let old = c.args.self.now in
+    let read = c.in_ok-lost.ensures.read in
+    ready_moved _ _ _ _ _ _ _ _ _ (meta_with_lost (lost_in old.meta c.in_ok-lost.lost) old.meta) _ _ _ read.slots read.same.epoch read.same.disks read.same.named c.in_ok-lose.ensures.marked
+    (ready_after _ _ _ _ _ _ old.meta _ _ c.requires.ready c.in_ok-lost.lost (only g c) (none_out g c) (λ d x is was. none_out g c d x is (c.requires.serves.stays x was)) (λ d is. lost_in_low old.meta c.in_ok-lost.lost d is))
+
+pub returns-clause-serves : goal.returns-clause-serves
+returns-clause-serves g c =
+    let old = c.args.self.now in
+    let read = c.in_ok-lost.ensures.read in
+    subst (λ (z : Option ℕ). CanServe (g.R.Rack.slot (store_rack c.read_cell.new.store)) z c.lose.new.meta) (sym read.same.named)
+    (subst (λ (z : Meta). CanServe (g.R.Rack.slot (store_rack c.read_cell.new.store)) (named_of old.store) z) (sym c.in_ok-lose.ensures.marked)
+    (serve_after _ _ _ _ _ _ old.meta _ _ c.requires.ready c.in_ok-lost.lost (only g c) (none_out g c) (λ d x is was. none_out g c d x is (c.requires.serves.stays x was)) (λ d is. lost_in_low old.meta c.in_ok-lost.lost d is)
+    c.requires.serves))
+
+pub returns-clause-spared : goal.returns-clause-spared
+returns-clause-spared g c = left_spared c.in_ok-lost.lost _ _ c.in_ok-lost.ensures.read.left
+
+pub returns-clause-moments_since : goal.returns-clause-moments_since
+returns-clause-moments_since g c h lo =
+    let old = c.args.self.now in
+    reads_moments (g.R.Rack.slot_count (store_rack old.store)) (named_of old.store) old.meta old.dirty old.batch old.copied h lo (named_of old.store) (λ d is. is) (disks_of old.store) _ _ (sym c.requires.ready.array_is) c.in_ok-lost.ensures.read.calls
+
+pub returns-in_err-lost-clause-moments_since : goal.returns-in_err-lost-clause-moments_since
+returns-in_err-lost-clause-moments_since g c h lo =
+    let old = c.args.self.now in
+    reads_moments (g.R.Rack.slot_count (store_rack old.store)) (named_of old.store) old.meta old.dirty old.batch old.copied h lo (named_of old.store) (λ d is. is) (disks_of old.store) _ _ (sym c.requires.ready.array_is) c.in_err-lost.ensures.two.calls
+
+pub returns-clause-since : goal.returns-clause-since
+returns-clause-since g c h lo =
+    let old = c.args.self.now in
+    let read = c.in_ok-lost.ensures in
+    reads_stand (g.R.Rack.slot_count (store_rack old.store)) (named_of old.store) old.meta old.dirty old.batch old.copied h lo (named_of old.store) (λ d is. is) (disks_of old.store) _ _ (g.R.Rack.slot (store_rack old.store)) (g.R.Rack.slot (store_rack c.read_cell.new.store))
+    c.in_ok-lost.lost c.requires.ready.in_range (sym c.requires.ready.array_is) (g.met.R.Rack.agrees (store_rack old.store)) (g.met.R.Rack.agrees (store_rack c.read_cell.new.store)) read.read.left
+    (g.met.R.Rack.slots_hold (store_rack c.read_cell.new.store)).absent (λ d is. subst (λ (z : ℕ). d < z) (sym c.requires.ready.array_is) (read.below d is)) (λ d is. read.one d is) c.requires.serves.stays
+    _ _ _ read.read.slots read.read.same.named c.in_ok-lose.ensures.marked read.read.calls
+
+pub returns-clause-setup : goal.returns-clause-setup
+returns-clause-setup g c = ap (λ (z : Meta). z.setup) c.in_ok-lose.ensures.marked ∙ marked_setup (lost_in c.args.self.now.meta c.in_ok-lost.lost) c.args.self.now.meta
+
+pub returns-clause-writes : goal.returns-clause-writes
+returns-clause-writes g c = ap (λ (z : Meta). z.writes) c.in_ok-lose.ensures.marked ∙ marked_writes (lost_in c.args.self.now.meta c.in_ok-lost.lost) c.args.self.now.meta
+
+pub returns-clause-epoch : goal.returns-clause-epoch
+returns-clause-epoch g c = ap (λ (z : Meta). z.epoch) c.in_ok-lose.ensures.marked ∙ marked_epoch (lost_in c.args.self.now.meta c.in_ok-lost.lost) c.args.self.now.meta
+
+pub returns-clause-down : goal.returns-clause-down
+returns-clause-down g c =
+    let old = c.args.self.now in
+    let read = c.in_ok-lost.ensures.read in
+    down_read (named_of old.store) old.meta c.in_ok-lost.lost c.lose.new.meta (named_of c.read_cell.new.store) _ _ c.requires.ready.one
+    (ap (λ (z : Meta). named_out z.out) c.in_ok-lose.ensures.marked) read.left.failed read.same.named
+
+pub returns-clause-cleans_less : goal.returns-clause-cleans_less
+returns-clause-cleans_less g c r d is =
+    let old = c.args.self.now in
+    subst (λ (z : Meta). is_cleaned z old.dirty r d ≡ false) (sym c.in_ok-lose.ensures.marked) (cleans_marked (lost_in old.meta c.in_ok-lost.lost) old.meta old.meta.epoch old.dirty r d is)

@@ -1,0 +1,45 @@
+use Rattle.std.specs.Prelude.{true, false}
+use Rattle.std.proofs.Common.{◌≡◌, ◌∙◌, arith, below_more, refl, inl}
+use Rattle.paraid_txn.specs.Losses.{IsSyncedAt}
+use Rattle.paraid_txn.specs.Stores.{store_rack}
+use Rattle.paraid_core.specs.CoreInvariant.{is_copied}
+use Rattle.paraid_core.proofs.StepLemmas.{dry_both, filled_none, filled_then, still_synced, held_then, leaves_none, leaves_then, stands_none, stands_then, stands_held}
+use Rattle.paraid_core.proofs.staged.Core.settle.Goals as goal
+
+pub loop-disk-init : goal.loop-disk-init
+loop-disk-init g c = record {
+  leaves = leaves_none g.R.Rack.slot_count g.R.Rack.slot g.R.Rack.told c.args.self.now c.requires.ready c.requires.still;
+  still_synced = λ d here wet. inl wet;
+  synced = λ d lt is. absurd (omega arith);
+  copies_synced = λ d lt. absurd (omega arith);
+  others = λ d le. refl;
+  stands = stands_none g.R.Rack.slot_count g.R.Rack.slot g.R.Rack.told c.args.self.now;
+  filled = filled_none g.R.Rack.slot_count g.R.Rack.slot g.R.Rack.told c.args.self.now;
+}
+
+pub loop-disk-preserved : goal.loop-disk-preserved
+loop-disk-preserved g c =
+    let was = c.loop-disk.invariant in
+    let one = c.in_ok-settle_one.ensures in
+    record {
+      leaves = leaves_then g.R.Rack.slot_count g.R.Rack.slot g.R.Rack.told c.args.self.now c.loop-disk.self was.leaves c.settle_one.new.self one.leaves;
+      still_synced = dry_both (g.R.Rack.slot (store_rack c.args.self.now.store)) (g.R.Rack.slot (store_rack c.loop-disk.self.store)) (g.R.Rack.slot (store_rack c.settle_one.new.self.store)) was.still_synced c.settle_one.ensures.still_synced c.settle_one.ensures.spared;
+      synced = below_more (λ d. is_copied c.args.self.now.copied d ≡ true → IsSyncedAt (g.R.Rack.slot (store_rack c.settle_one.new.self.store)) d) c.loop-disk.disk
+          (λ d lt is. still_synced (g.R.Rack.slot (store_rack c.loop-disk.self.store)) (g.R.Rack.slot (store_rack c.settle_one.new.self.store)) d (was.synced d lt is) c.settle_one.ensures.still_synced c.settle_one.ensures.spared)
+          (λ is. one.synced (was.others c.loop-disk.disk (omega arith) ∙ is));
+      copies_synced = below_more (λ d. is_copied c.settle_one.new.self.copied d ≡ false) c.loop-disk.disk
+          (λ d lt. one.cleared.others d (λ is. absurd (omega arith)) ∙ was.copies_synced d lt) one.cleared.here;
+      others = λ d le. one.cleared.others d (λ is. absurd (omega arith)) ∙ was.others d (omega arith);
+      stands = stands_then g.R.Rack.slot_count g.R.Rack.slot g.R.Rack.told c.args.self.now c.loop-disk.self was.leaves c.settle_one.new.self was.stands one.stands;
+      filled = filled_then g.R.Rack.slot_count g.R.Rack.slot g.R.Rack.told c.args.self.now c.loop-disk.self was.leaves c.settle_one.new.self one.leaves was.filled one.filled;
+    }
+
+pub returns-in_err-settle_one-clause-moments : goal.returns-in_err-settle_one-clause-moments
+returns-in_err-settle_one-clause-moments g c =
+    let was = c.loop-disk.invariant in
+    held_then g.R.Rack.slot_count g.R.Rack.slot g.R.Rack.told c.args.self.now c.loop-disk.self was.leaves c.settle_one.new.self was.stands c.settle_one.ensures.moments
+
+pub returns-clause-moments : goal.returns-clause-moments
+returns-clause-moments g c =
+    let was = c.loop-disk.invariant in
+    stands_held g.R.Rack.slot_count g.R.Rack.slot g.R.Rack.told c.args.self.now c.loop-disk.self was.leaves was.stands

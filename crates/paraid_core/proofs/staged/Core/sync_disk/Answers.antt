@@ -1,0 +1,94 @@
+use Rattle.paraid_base.specs.declared.state.Out.TheVariants.{Gone, No}
+use Rattle.paraid_image.specs.Mark.{meta_after_loss}
+use Rattle.std.proofs.Common.{◌≡◌, ℕ, ◌∙◌, ◌<◌, Some, None, sym, ap, subst, refl, false, true}
+use Rattle.std.specs.Prelude.{Option, is_ok, slice_set}
+use Rattle.paraid_base.specs.Told.{HasRisen}
+use Rattle.paraid_image.specs.Out.{named_out}
+use Rattle.paraid_rack.specs.declared.call.Call.TheVariants.{Sync}
+use Rattle.paraid_rack.specs.Disks.{is_present, step}
+use Rattle.paraid_record.specs.declared.meta.Meta.{Meta}
+use Rattle.paraid_txn.specs.Stores.{named_of, store_rack}
+use Rattle.paraid_core.specs.declared.staged.Core.{Core}
+use Rattle.paraid_core.specs.CoreInvariant.{HoldsBetweenCalls, lost_in, meta_with_lost}
+use Rattle.paraid_core.proofs.AfterLemmas.{lost_in_there}
+use Rattle.paraid_core.proofs.CallLemmas.{call_held, call_leaves, call_spared, call_stands, done_only, failed_only, keeps_held}
+use Rattle.paraid_core.proofs.ReadyLemmas.{some_is}
+use Rattle.paraid_core.proofs.UnsyncedLemmas.{marks_cleared}
+use Rattle.paraid_core.proofs.SettleLemmas.{cleared_at, keeps_synced, keeps_unsynced, sync_filled}
+use Rattle.paraid_core.proofs.staged.Core.sync_disk.Given.{Over}
+use Rattle.paraid_core.proofs.staged.Core.sync_disk.Goals as goal
+use Rattle.paraid_core.proofs.staged.Core.sync_disk.Goals.{In_default, In_ok-lose}
+
+-- it was done
+module _ (g : Over) (c : In_default g) where
+  done : is_ok c.sync-answer.result ≡ true
+  done = ap is_ok c.in_default.is
+
+pub returns-in_default-clause-leaves : goal.returns-in_default-clause-leaves
+returns-in_default-clause-leaves g c =
+    call_leaves g.R.Rack.slot_count g.R.Rack.slot c.args.self.now _ c.requires.ready c.requires.still c.sync-answer.ensures.slots c.sync-answer.ensures.same refl refl refl
+    None (λ d is. cc) (done_only _ _ _ _ _ _ _ c.sync-answer.ensures.slot refl refl (done g c)) (λ d x is. cc) refl
+    (call_spared 8 _ _ _ _ _ _ c.sync-answer.ensures.slot refl refl refl) (λ d is. cc) (marks_cleared _ _ _ _ _ _ c.sync-answer.ensures.slot _ _ refl (cleared_at _ _))
+
+pub returns-in_default-clause-moments : goal.returns-in_default-clause-moments
+returns-in_default-clause-moments g c =
+    call_held g.R.Rack.slot_count g.R.Rack.slot g.R.Rack.told c.args.self.now _ _ c.sync-answer.ensures.told c.requires.disk
+    (λ is h lo s k. keeps_held _ _ _ _ _ (slice_set c.args.self.now.copied c.args.disk false) h lo _ (keeps_synced _ _ _ _ _ _ _ h lo s _ (cleared_at _ _) k _ is))
+
+pub returns-in_default-clause-stands : goal.returns-in_default-clause-stands
+returns-in_default-clause-stands g c =
+    call_stands g.R.Rack.slot_count g.R.Rack.slot g.R.Rack.told c.args.self.now _ _ c.sync-answer.ensures.told (g.met.R.Rack.agrees (store_rack c.args.self.now.store)) _ _ _ _ _ _ c.sync-answer.ensures.slots c.sync-answer.ensures.same.named refl
+    (λ h lo s agrees k. keeps_synced _ _ _ _ _ _ _ h lo s _ (cleared_at _ _) k _ (done g c))
+
+pub returns-in_err-lose-clause-moments : goal.returns-in_err-lose-clause-moments
+returns-in_err-lose-clause-moments g c =
+    call_held g.R.Rack.slot_count g.R.Rack.slot g.R.Rack.told c.args.self.now _ _ c.sync-answer.ensures.told c.requires.disk
+    (λ is h lo s k. keeps_held _ _ _ _ _ (slice_set c.args.self.now.copied c.args.disk false) h lo _ (keeps_synced _ _ _ _ _ _ _ h lo s _ (cleared_at _ _) k _ is))
+
+-- it failed, and no other disk is out
+module _ (g : Over) (c : In_ok-lose g) where
+  abbrev old : Core g.row.R.Denot g.R.Rack
+  old = c.args.self.now
+
+  failed : is_ok c.sync-answer.result ≡ false
+  failed = ap is_ok c.in-Err.is
+
+  is_lost : lost_in old.meta (Some c.args.disk) ≡ Some c.args.disk
+  is_lost = lost_in_there old.meta (Some c.args.disk) c.args.disk c.requires.disk refl
+
+  meta_is : c.lose.new.meta ≡ meta_after_loss old.meta c.args.disk
+  meta_is = c.in_ok-lose.ensures.marked ∙ ap (λ (o : Option ℕ). meta_with_lost o old.meta) is_lost
+
+  alone : (x : ℕ) → named_out old.meta.out ≡ Some x → x ≡ c.args.disk
+  alone x is = c.in_ok-lose.ensures.alone c.args.disk x refl is c.requires.disk
+
+pub returns-clause-leaves : goal.returns-clause-leaves
+returns-clause-leaves g c =
+    call_leaves g.R.Rack.slot_count g.R.Rack.slot c.args.self.now _ c.requires.ready c.requires.still c.sync-answer.ensures.slots c.sync-answer.ensures.same refl refl refl
+    (Some c.args.disk) (λ d is. subst (λ (e : ℕ). e < c.args.self.now.meta.setup.geometry.disks) (some_is c.args.disk d is) c.requires.disk)
+    (failed_only _ _ _ _ _ _ _ c.sync-answer.ensures.slot refl refl (failed g c)) (λ d x is k. alone g c x k ∙ some_is c.args.disk d is) (meta_is g c)
+    (call_spared 8 _ _ _ _ _ _ c.sync-answer.ensures.slot refl refl refl)
+    (λ d is. subst (λ (e : ℕ). HasRisen (g.R.Rack.slot (store_rack c.args.self.now.store) e).faults (g.R.Rack.slot (store_rack c.sync-answer.new.self) e).faults) (some_is c.args.disk d is) (c.sync-answer.ensures.slot.risen (failed g c))) (marks_cleared _ _ _ _ _ _ c.sync-answer.ensures.slot _ _ refl (cleared_at _ _))
+
+pub returns-clause-moments : goal.returns-clause-moments
+returns-clause-moments g c =
+    call_held g.R.Rack.slot_count g.R.Rack.slot g.R.Rack.told c.args.self.now _ _ c.sync-answer.ensures.told c.requires.disk
+    (λ is h lo s k. keeps_held _ _ _ _ _ (slice_set c.args.self.now.copied c.args.disk false) h lo _ (keeps_synced _ _ _ _ _ _ _ h lo s _ (cleared_at _ _) k _ is))
+
+pub returns-clause-stands : goal.returns-clause-stands
+returns-clause-stands g c =
+    let ready = c.requires.ready in
+    call_stands g.R.Rack.slot_count g.R.Rack.slot g.R.Rack.told c.args.self.now _ _ c.sync-answer.ensures.told (g.met.R.Rack.agrees (store_rack c.args.self.now.store)) _ _ _ _ _ _ c.sync-answer.ensures.slots c.sync-answer.ensures.same.named
+    (ap (λ (z : Meta). z.setup) (meta_is g c))
+    (λ h lo s agrees k. subst (λ (z : Meta). HoldsBetweenCalls (g.R.Rack.slot_count (store_rack c.args.self.now.store)) (named_of c.args.self.now.store) z c.args.self.now.dirty c.args.self.now.batch (slice_set c.args.self.now.copied c.args.disk false) h lo (step (Sync c.args.disk (is_ok c.sync-answer.result)) s)) (sym (meta_is g c))
+    (keeps_unsynced _ _ _ _ _ _ _ h lo s _ (cleared_at _ _) k _ (failed g c) ready.in_range c.requires.disk (λ x l gone. ready.absent x l (ap is_present (sym (agrees.power x)) ∙ gone)) (alone g c) c.requires.still))
+
+pub returns-in_default-clause-filled : goal.returns-in_default-clause-filled
+returns-in_default-clause-filled g c whole = (
+  refl,
+  λ h lo end. sync_filled g.R.Rack.slot_count g.R.Rack.told c.args.self.now _ _ c.args.disk _ c.sync-answer.ensures.told (cleared_at _ _) (done g c) _ _ c.sync-answer.ensures.slots c.sync-answer.ensures.same.named h lo end,
+)
+
+-- that disk is out
+pub returns-clause-filled : goal.returns-clause-filled
+returns-clause-filled g c whole = let z : Gone c.args.disk ≡ No = ap (λ (m : Meta). m.out) (sym (meta_is g c)) ∙ whole in absurd cc

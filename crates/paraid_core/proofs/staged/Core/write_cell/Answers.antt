@@ -1,0 +1,91 @@
+use Rattle.paraid_image.specs.Mark.{meta_after_loss}
+use Rattle.std.proofs.Common.{arith, ◌≡◌, ◌≢◌, ℕ, ◌∙◌, ◌<◌, Some, None, sym, ap, subst, refl, false}
+use Rattle.std.specs.Prelude.{Option, is_ok}
+use Rattle.paraid_base.specs.Told.{HasRisen}
+use Rattle.paraid_image.specs.Out.{named_out}
+use Rattle.paraid_rack.specs.declared.call.Call.TheVariants.{Write}
+use Rattle.paraid_rack.specs.Disks.{is_present, step}
+use Rattle.paraid_record.specs.declared.meta.Meta.{Meta}
+use Rattle.paraid_txn.specs.Stores.{named_of, store_rack}
+use Rattle.paraid_core.specs.declared.staged.Core.{Core}
+use Rattle.paraid_core.specs.CoreInvariant.{HoldsBetweenCalls, lost_in, meta_with_lost}
+use Rattle.paraid_core.proofs.AfterLemmas.{lost_in_there}
+use Rattle.paraid_core.proofs.CallLemmas.{call_leaves, call_spared, call_stands, done_only, failed_only}
+use Rattle.paraid_core.proofs.ReadyLemmas.{some_is}
+use Rattle.paraid_core.proofs.UnsyncedLemmas.{marks_written}
+use Rattle.paraid_core.proofs.CopyCellLemmas.{cell_copied, cell_held, disk_in}
+use Rattle.paraid_core.proofs.StripeLemmas.{keeps_unwritten}
+use Rattle.paraid_base.proofs.RegionsLemmas.{hard_place_below}
+use Rattle.paraid_rack.proofs.TrailsLemmas.{weaker}
+use Rattle.paraid_core.specs.CellCopies.{CopyingCell}
+use Rattle.paraid_core.specs.Cores.{CoreStandsFor, IsCoreHeldSinceCommit}
+use Rattle.paraid_core.proofs.staged.Core.write_cell.Given.{Over}
+use Rattle.paraid_core.proofs.staged.Core.write_cell.Goals as goal
+use Rattle.paraid_core.proofs.staged.Core.write_cell.Goals.{In_ok-lose}
+
+pub returns-in_default-clause-leaves : goal.returns-in_default-clause-leaves
+returns-in_default-clause-leaves g c =
+    call_leaves g.R.Rack.slot_count g.R.Rack.slot c.args.self.now _ c.requires.ready c.requires.serves.stays c.write_free-answer.ensures.slots c.write_free-answer.ensures.same refl refl refl
+    None (λ d is. cc) (done_only _ _ _ _ _ _ _ c.write_free-answer.ensures.slot refl refl (ap is_ok c.in_default.is)) (λ d x is. cc) refl
+    (call_spared 8 _ _ _ _ _ _ c.write_free-answer.ensures.slot refl refl refl) (λ d is. cc) (marks_written _ _ _ _ _ _ c.write_free-answer.ensures.slot _ _ (record { here = c.mark.ensures.here; others = c.mark.ensures.others }))
+
+pub returns-in_default-clause-copied : goal.returns-in_default-clause-copied
+returns-in_default-clause-copied g c is h lo cells =
+    let q = c.requires in
+    let m = c.args.self.now.meta in
+    let in_all : named_out m.out ≢ Some c.args.disk = (λ named. let z : None ≡ Some c.args.disk = ap named_out (sym q.whole) ∙ named in cc) in
+    let large = q.serves.large c.args.disk q.rises in_all in
+    let fits = hard_place_below m.setup.geometry c.args.r q.row in
+    cell_copied g.R.Rack.slot_count g.R.Rack.slot g.R.Rack.told c.args.self.now q.ready q.whole (g.met.R.Rack.agrees (store_rack c.args.self.now.store)) q.nothing c.args.r c.args.disk _ c.args.block.now c.hard_place-place.result c.hard_place-place.ensures.value _
+    c.write_free-answer.ensures.told q.serves.stays q.row (disk_in m c.args.disk q.ready.in_range q.rises) q.past_gear q.dirty _ (record { here = c.mark.ensures.here; others = c.mark.ensures.others }) h lo cells
+    _ _ c.write_free-answer.ensures.slots c.write_free-answer.ensures.same.named (ap is_ok c.in_default.is) (q.serves.spins c.args.disk q.rises in_all) (omega arith)
+
+pub returns-in_default-clause-moments : goal.returns-in_default-clause-moments
+returns-in_default-clause-moments g c h lo cells =
+    let q = c.requires in
+    cell_held g.R.Rack.slot_count g.R.Rack.slot g.R.Rack.told c.args.self.now q.ready q.whole (g.met.R.Rack.agrees (store_rack c.args.self.now.store)) q.nothing c.args.r c.args.disk _ c.args.block.now c.hard_place-place.result c.hard_place-place.ensures.value _
+    c.write_free-answer.ensures.told q.serves.stays q.row (disk_in c.args.self.now.meta c.args.disk q.ready.in_range q.rises) q.past_gear q.dirty _ (record { here = c.mark.ensures.here; others = c.mark.ensures.others }) h lo cells
+
+-- it failed, and no other disk is out
+module _ (g : Over) (c : In_ok-lose g) where
+  abbrev old : Core g.row.R.Denot g.R.Rack
+  old = c.args.self.now
+
+  failed : is_ok c.write_free-answer.result ≡ false
+  failed = ap is_ok c.in-Err.is
+
+  is_lost : lost_in old.meta (Some c.args.disk) ≡ Some c.args.disk
+  is_lost = lost_in_there old.meta (Some c.args.disk) c.args.disk (disk_in c.args.self.now.meta c.args.disk c.requires.ready.in_range c.requires.rises) refl
+
+  meta_is : c.lose.new.meta ≡ meta_after_loss old.meta c.args.disk
+  meta_is = c.in_ok-lose.ensures.marked ∙ ap (λ (o : Option ℕ). meta_with_lost o old.meta) is_lost
+
+  alone : (x : ℕ) → named_out old.meta.out ≡ Some x → x ≡ c.args.disk
+  alone x is = c.in_ok-lose.ensures.alone c.args.disk x refl is (disk_in c.args.self.now.meta c.args.disk c.requires.ready.in_range c.requires.rises)
+
+pub returns-clause-leaves : goal.returns-clause-leaves
+returns-clause-leaves g c =
+    call_leaves g.R.Rack.slot_count g.R.Rack.slot c.args.self.now _ c.requires.ready c.requires.serves.stays c.write_free-answer.ensures.slots c.write_free-answer.ensures.same refl refl refl
+    (Some c.args.disk) (λ d is. subst (λ (e : ℕ). e < c.args.self.now.meta.setup.geometry.disks) (some_is c.args.disk d is) (disk_in c.args.self.now.meta c.args.disk c.requires.ready.in_range c.requires.rises))
+    (failed_only _ _ _ _ _ _ _ c.write_free-answer.ensures.slot refl refl (failed g c)) (λ d x is k. alone g c x k ∙ some_is c.args.disk d is) (meta_is g c)
+    (call_spared 8 _ _ _ _ _ _ c.write_free-answer.ensures.slot refl refl refl)
+    (λ d is. subst (λ (e : ℕ). HasRisen (g.R.Rack.slot (store_rack c.args.self.now.store) e).faults (g.R.Rack.slot (store_rack c.write_free-answer.new.self) e).faults) (some_is c.args.disk d is) (c.write_free-answer.ensures.slot.risen (failed g c))) (marks_written _ _ _ _ _ _ c.write_free-answer.ensures.slot _ _ (record { here = c.mark.ensures.here; others = c.mark.ensures.others }))
+
+pub returns-clause-spared : goal.returns-clause-spared
+returns-clause-spared g c = call_spared 8 _ _ _ _ _ _ c.write_free-answer.ensures.slot refl refl refl
+
+pub returns-clause-lost : goal.returns-clause-lost
+returns-clause-lost g c is h lo cells =
+    let old = c.args.self.now in
+    let ready = c.requires.ready in
+    weaker (IsCoreHeldSinceCommit g.R.Rack.slot_count old h lo) (CoreStandsFor g.R.Rack.slot_count old h lo) (CopyingCell g.R.Rack.slot_count old h lo cells c.args.r c.args.disk c.args.block.now) _ _ _ _ (λ s k. k.before.keeps) (λ s k. k)
+    (call_stands g.R.Rack.slot_count g.R.Rack.slot g.R.Rack.told old _ _ c.write_free-answer.ensures.told (g.met.R.Rack.agrees (store_rack old.store)) _ _ _ _ _ _ c.write_free-answer.ensures.slots c.write_free-answer.ensures.same.named
+    (ap (λ (z : Meta). z.setup) (meta_is g c))
+    (λ h lo s agrees k. subst (λ (z : Meta). HoldsBetweenCalls (g.R.Rack.slot_count (store_rack old.store)) (named_of old.store) z old.dirty old.batch (c.mark.new.copied) h lo (step (Write c.args.disk c.hard_place-place.result c.args.block.now (is_ok c.write_free-answer.result)) s)) (sym (meta_is g c))
+    (keeps_unwritten _ _ _ _ _ _ _ h lo s _ _ _ (record { here = c.mark.ensures.here; others = c.mark.ensures.others }) _ (failed g c) ready.in_range (disk_in old.meta c.args.disk ready.in_range c.requires.rises) (λ x l gone. ready.absent x l (ap is_present (sym (agrees.power x)) ∙ gone)) (alone g c) c.requires.serves.stays k)) h lo)
+
+pub returns-clause-moments : goal.returns-clause-moments
+returns-clause-moments g c h lo cells =
+    let q = c.requires in
+    cell_held g.R.Rack.slot_count g.R.Rack.slot g.R.Rack.told c.args.self.now q.ready q.whole (g.met.R.Rack.agrees (store_rack c.args.self.now.store)) q.nothing c.args.r c.args.disk _ c.args.block.now c.hard_place-place.result c.hard_place-place.ensures.value _
+    c.write_free-answer.ensures.told q.serves.stays q.row (disk_in c.args.self.now.meta c.args.disk q.ready.in_range q.rises) q.past_gear q.dirty _ (record { here = c.mark.ensures.here; others = c.mark.ensures.others }) h lo cells

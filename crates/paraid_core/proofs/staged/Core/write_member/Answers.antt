@@ -1,0 +1,79 @@
+use Rattle.paraid_image.specs.Mark.{meta_after_loss}
+use Rattle.std.proofs.Common.{◌≡◌, ℕ, ◌∙◌, ◌<◌, Some, None, sym, ap, subst, refl, false}
+use Rattle.std.specs.Prelude.{Option, is_ok}
+use Rattle.paraid_base.specs.Told.{HasRisen}
+use Rattle.paraid_image.specs.Out.{named_out}
+use Rattle.paraid_rack.specs.declared.call.Call.TheVariants.{Write}
+use Rattle.paraid_rack.specs.Disks.{is_present, step}
+use Rattle.paraid_record.specs.declared.meta.Meta.{Meta}
+use Rattle.paraid_txn.specs.Stores.{named_of, store_rack}
+use Rattle.paraid_core.specs.declared.staged.Core.{Core}
+use Rattle.paraid_core.specs.CoreInvariant.{HoldsBetweenCalls, lost_in, meta_with_lost}
+use Rattle.paraid_core.proofs.AfterLemmas.{lost_in_there}
+use Rattle.paraid_core.proofs.CallLemmas.{call_leaves, call_spared, call_stands, done_only, failed_only}
+use Rattle.paraid_core.proofs.ReadyLemmas.{some_is}
+use Rattle.paraid_core.proofs.UnsyncedLemmas.{marks_written}
+use Rattle.paraid_core.proofs.StripeLemmas.{keeps_unwritten, member_held, member_written}
+use Rattle.paraid_core.proofs.staged.Core.write_member.Given.{Over}
+use Rattle.paraid_core.proofs.staged.Core.write_member.Goals as goal
+use Rattle.paraid_core.proofs.staged.Core.write_member.Goals.{In_default, In_ok-lose}
+
+pub returns-in_default-clause-leaves : goal.returns-in_default-clause-leaves
+returns-in_default-clause-leaves g c =
+    call_leaves g.R.Rack.slot_count g.R.Rack.slot c.args.self.now _ c.requires.ready c.requires.still c.write_free-answer.ensures.slots c.write_free-answer.ensures.same refl refl refl
+    None (λ d is. cc) (done_only _ _ _ _ _ _ _ c.write_free-answer.ensures.slot refl refl (ap is_ok c.in_default.is)) (λ d x is. cc) refl
+    (call_spared 8 _ _ _ _ _ _ c.write_free-answer.ensures.slot refl refl refl) (λ d is. cc) (marks_written _ _ _ _ _ _ c.write_free-answer.ensures.slot _ _ (record { here = c.mark.ensures.here; others = c.mark.ensures.others }))
+
+pub returns-in_default-clause-written : goal.returns-in_default-clause-written
+returns-in_default-clause-written g c is h lo blocks block =
+    let q = c.requires in
+    member_written g.R.Rack.slot_count g.R.Rack.slot g.R.Rack.told c.args.self.now _ c.args.s c.args.disk c.args.place c.args.block.now _ c.write_free-answer.ensures.told (g.met.R.Rack.agrees (store_rack c.args.self.now.store))
+    q.ready.absent q.ready.in_range q.whole q.shifts q.from q.stripe q.disk _ (record { here = c.mark.ensures.here; others = c.mark.ensures.others }) q.place _ _ c.write_free-answer.ensures.slots c.write_free-answer.ensures.same.named (ap is_ok c.in_default.is) q.region q.spins q.within h lo blocks block
+
+pub returns-in_default-clause-moments : goal.returns-in_default-clause-moments
+returns-in_default-clause-moments g c h lo =
+    let q = c.requires in
+    member_held g.R.Rack.slot_count g.R.Rack.slot g.R.Rack.told c.args.self.now _ c.args.s c.args.disk c.args.place c.args.block.now _ c.write_free-answer.ensures.told (g.met.R.Rack.agrees (store_rack c.args.self.now.store))
+    q.ready.absent q.ready.in_range q.whole q.shifts q.from q.stripe q.disk _ (record { here = c.mark.ensures.here; others = c.mark.ensures.others }) q.place h lo
+
+-- it failed, and no other disk is out
+module _ (g : Over) (c : In_ok-lose g) where
+  abbrev old : Core g.row.R.Denot g.R.Rack
+  old = c.args.self.now
+
+  failed : is_ok c.write_free-answer.result ≡ false
+  failed = ap is_ok c.in-Err.is
+
+  is_lost : lost_in old.meta (Some c.args.disk) ≡ Some c.args.disk
+  is_lost = lost_in_there old.meta (Some c.args.disk) c.args.disk c.requires.disk refl
+
+  meta_is : c.lose.new.meta ≡ meta_after_loss old.meta c.args.disk
+  meta_is = c.in_ok-lose.ensures.marked ∙ ap (λ (o : Option ℕ). meta_with_lost o old.meta) is_lost
+
+  alone : (x : ℕ) → named_out old.meta.out ≡ Some x → x ≡ c.args.disk
+  alone x is = c.in_ok-lose.ensures.alone c.args.disk x refl is c.requires.disk
+
+pub returns-clause-leaves : goal.returns-clause-leaves
+returns-clause-leaves g c =
+    call_leaves g.R.Rack.slot_count g.R.Rack.slot c.args.self.now _ c.requires.ready c.requires.still c.write_free-answer.ensures.slots c.write_free-answer.ensures.same refl refl refl
+    (Some c.args.disk) (λ d is. subst (λ (e : ℕ). e < c.args.self.now.meta.setup.geometry.disks) (some_is c.args.disk d is) c.requires.disk)
+    (failed_only _ _ _ _ _ _ _ c.write_free-answer.ensures.slot refl refl (failed g c)) (λ d x is k. alone g c x k ∙ some_is c.args.disk d is) (meta_is g c)
+    (call_spared 8 _ _ _ _ _ _ c.write_free-answer.ensures.slot refl refl refl)
+    (λ d is. subst (λ (e : ℕ). HasRisen (g.R.Rack.slot (store_rack c.args.self.now.store) e).faults (g.R.Rack.slot (store_rack c.write_free-answer.new.self) e).faults) (some_is c.args.disk d is) (c.write_free-answer.ensures.slot.risen (failed g c))) (marks_written _ _ _ _ _ _ c.write_free-answer.ensures.slot _ _ (record { here = c.mark.ensures.here; others = c.mark.ensures.others }))
+
+pub returns-clause-spared : goal.returns-clause-spared
+returns-clause-spared g c = call_spared 8 _ _ _ _ _ _ c.write_free-answer.ensures.slot refl refl refl
+
+pub returns-clause-lost : goal.returns-clause-lost
+returns-clause-lost g c is =
+    let ready = c.requires.ready in
+    call_stands g.R.Rack.slot_count g.R.Rack.slot g.R.Rack.told c.args.self.now _ _ c.write_free-answer.ensures.told (g.met.R.Rack.agrees (store_rack c.args.self.now.store)) _ _ _ _ _ _ c.write_free-answer.ensures.slots c.write_free-answer.ensures.same.named
+    (ap (λ (z : Meta). z.setup) (meta_is g c))
+    (λ h lo s agrees k. subst (λ (z : Meta). HoldsBetweenCalls (g.R.Rack.slot_count (store_rack c.args.self.now.store)) (named_of c.args.self.now.store) z c.args.self.now.dirty c.args.self.now.batch (c.mark.new.copied) h lo (step (Write c.args.disk c.args.place c.args.block.now (is_ok c.write_free-answer.result)) s)) (sym (meta_is g c))
+    (keeps_unwritten _ _ _ _ _ _ _ h lo s _ _ _ (record { here = c.mark.ensures.here; others = c.mark.ensures.others }) _ (failed g c) ready.in_range c.requires.disk (λ x l gone. ready.absent x l (ap is_present (sym (agrees.power x)) ∙ gone)) (alone g c) c.requires.still k))
+
+pub returns-clause-moments : goal.returns-clause-moments
+returns-clause-moments g c h lo =
+    let q = c.requires in
+    member_held g.R.Rack.slot_count g.R.Rack.slot g.R.Rack.told c.args.self.now _ c.args.s c.args.disk c.args.place c.args.block.now _ c.write_free-answer.ensures.told (g.met.R.Rack.agrees (store_rack c.args.self.now.store))
+    q.ready.absent q.ready.in_range q.whole q.shifts q.from q.stripe q.disk _ (record { here = c.mark.ensures.here; others = c.mark.ensures.others }) q.place h lo

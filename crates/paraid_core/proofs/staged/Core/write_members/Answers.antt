@@ -1,0 +1,84 @@
+use Rattle.std.specs.Prelude.{ℕ, ◌+◌}
+use Rattle.std.proofs.Common.{◌≡◌, ◌<◌, ◌∙◌, sym, ap, subst, refl, arith, Ok}
+use Rattle.paraid_base.specs.States.{phase_to}
+use Rattle.paraid_record.specs.declared.meta.Meta.{Meta}
+use Rattle.paraid_rack.proofs.TrailsLemmas.{weaker}
+use Rattle.paraid_txn.specs.Stores.{named_of, store_rack}
+use Rattle.paraid_view.proofs.TwoLemmas.{spared_then}
+use Rattle.paraid_core.specs.Cores.{IsCoreHeldSinceCommit, CoreStandsFor}
+use Rattle.paraid_core.specs.Fills.{Filled, Filling}
+use Rattle.paraid_core.specs.CoreInvariant.{HoldsBetweenCalls}
+use Rattle.paraid_core.proofs.AfterLemmas.{handed}
+use Rattle.paraid_core.proofs.StepLemmas.{leaves_none, leaves_then, runs_end, runs_none, runs_then, two_then}
+use Rattle.paraid_core.proofs.StripeLemmas.{filling_done, members_held, shift_low}
+use Rattle.paraid_core.proofs.staged.Core.write_members.Goals as goal
+use Rattle.paraid_core.proofs.staged.Core.write_members.Goals.{After-write_member, In_ok-done}
+
+pub loop-disk-init : goal.loop-disk-init
+loop-disk-init g c = record {
+  leaves = leaves_none g.R.Rack.slot_count g.R.Rack.slot g.R.Rack.told c.args.self.now c.requires.ready c.requires.serves.stays;
+  meta = refl;
+  written = λ h lo. runs_none g.R.Rack.slot_count g.R.Rack.slot g.R.Rack.told c.args.self.now (Filling g.R.Rack.slot_count c.args.self.now h lo c.args.s c.args.blocks.now 0) h lo (λ s f. f.before.keeps);
+}
+
+pub returns-in_err-done-clause-spared : goal.returns-in_err-done-clause-spared
+returns-in_err-done-clause-spared g c = spared_then (g.R.Rack.slot (store_rack c.args.self.now.store)) (g.R.Rack.slot (store_rack c.loop-disk.self.store)) (g.R.Rack.slot (store_rack c.write_member.new.self.store)) c.loop-disk.invariant.leaves.spared c.write_member.ensures.spared
+
+pub returns-in_err-done-clause-two : goal.returns-in_err-done-clause-two
+returns-in_err-done-clause-two g c =
+    handed _ c.from_residual.result _ c.from_residual.ensures.1
+    (two_then g.R.Rack.slot_count g.R.Rack.slot g.R.Rack.told c.args.self.now c.loop-disk.self c.loop-disk.invariant.leaves c.write_member.new.self c.write_member.ensures.spared _ c.in_err-done.ensures.two)
+
+pub returns-in_err-done-clause-moments : goal.returns-in_err-done-clause-moments
+returns-in_err-done-clause-moments g c h lo =
+    members_held g.R.Rack.slot_count g.R.Rack.slot g.R.Rack.told c.args.self.now c.loop-disk.self c.write_member.new.self c.loop-disk.invariant.leaves c.args.s c.args.blocks.now c.loop-disk.disk h lo
+    (c.loop-disk.invariant.written h lo) (c.write_member.ensures.moments h lo)
+
+pub returns-then-not-done-clause-leaves : goal.returns-then-not-done-clause-leaves
+returns-then-not-done-clause-leaves g c =
+    leaves_then g.R.Rack.slot_count g.R.Rack.slot g.R.Rack.told c.args.self.now c.loop-disk.self c.loop-disk.invariant.leaves c.write_member.new.self c.in_ok-done.ensures.leaves
+
+pub returns-then-not-done-clause-spared : goal.returns-then-not-done-clause-spared
+returns-then-not-done-clause-spared g c = spared_then (g.R.Rack.slot (store_rack c.args.self.now.store)) (g.R.Rack.slot (store_rack c.loop-disk.self.store)) (g.R.Rack.slot (store_rack c.write_member.new.self.store)) c.loop-disk.invariant.leaves.spared c.write_member.ensures.spared
+
+pub returns-then-not-done-clause-lost : goal.returns-then-not-done-clause-lost
+returns-then-not-done-clause-lost g c is h lo =
+    let was = c.loop-disk.invariant in
+    runs_then g.R.Rack.slot_count g.R.Rack.slot g.R.Rack.told c.args.self.now c.loop-disk.self was.leaves c.write_member.new.self
+    (Filling g.R.Rack.slot_count c.args.self.now h lo c.args.s c.args.blocks.now 0) (Filling g.R.Rack.slot_count c.loop-disk.self h lo c.args.s c.args.blocks.now c.loop-disk.disk) (CoreStandsFor g.R.Rack.slot_count c.write_member.new.self h lo) h lo (was.written h lo)
+    (weaker (IsCoreHeldSinceCommit g.R.Rack.slot_count c.loop-disk.self h lo) (CoreStandsFor g.R.Rack.slot_count c.loop-disk.self h lo) (Filling g.R.Rack.slot_count c.loop-disk.self h lo c.args.s c.args.blocks.now c.loop-disk.disk) _ _ _ _
+    (λ s f. subst (λ (z : _). HoldsBetweenCalls (g.R.Rack.slot_count (store_rack c.loop-disk.self.store)) (named_of c.loop-disk.self.store) c.loop-disk.self.meta c.loop-disk.self.dirty z c.loop-disk.self.copied h lo s) (sym (was.leaves.batch ∙ c.requires.nothing)) f.before.keeps) (λ s p. p)
+    (c.in_ok-done.ensures.lost (ap Ok c.if-not-done.true) h lo))
+
+pub returns-then-not-done-clause-moments : goal.returns-then-not-done-clause-moments
+returns-then-not-done-clause-moments g c h lo =
+    members_held g.R.Rack.slot_count g.R.Rack.slot g.R.Rack.told c.args.self.now c.loop-disk.self c.write_member.new.self c.loop-disk.invariant.leaves c.args.s c.args.blocks.now c.loop-disk.disk h lo
+    (c.loop-disk.invariant.written h lo) (c.write_member.ensures.moments h lo)
+
+pub loop-disk-preserved : goal.loop-disk-preserved
+loop-disk-preserved g c =
+    let was = c.loop-disk.invariant in
+    let call = c.in_ok-done.ensures in
+    let done = c.if-not-done.false in
+    record {
+      leaves = leaves_then g.R.Rack.slot_count g.R.Rack.slot g.R.Rack.told c.args.self.now c.loop-disk.self was.leaves c.write_member.new.self call.leaves;
+      meta = call.same (ap Ok done) ∙ was.meta;
+      written = λ h lo.
+          runs_then g.R.Rack.slot_count g.R.Rack.slot g.R.Rack.told c.args.self.now c.loop-disk.self was.leaves c.write_member.new.self
+          (Filling g.R.Rack.slot_count c.args.self.now h lo c.args.s c.args.blocks.now 0) (Filling g.R.Rack.slot_count c.loop-disk.self h lo c.args.s c.args.blocks.now c.loop-disk.disk)
+          (Filling g.R.Rack.slot_count c.write_member.new.self h lo c.args.s c.args.blocks.now (c.loop-disk.disk + 1)) h lo (was.written h lo)
+          (call.written (ap Ok done) h lo c.args.blocks.now (c.block_of.ensures));
+    }
+
+pub returns-clause-filled : goal.returns-clause-filled
+returns-clause-filled g c is h lo =
+    let was = c.loop-disk.invariant in
+    let l = c.loop-disk.self in
+    let all : c.loop-disk.disk ≡ phase_to l.meta.phase = (let to = c.to-to.ensures in let same = ap (λ (z : Meta). phase_to z.phase) was.meta in let test = c.loop-disk-test.false in let end = c.loop-disk.auto.disk-end in omega arith) in
+    weaker _ _ _ (Filling g.R.Rack.slot_count l h lo c.args.s c.args.blocks.now c.loop-disk.disk) (Filled g.R.Rack.slot_count l h lo (c.args.s + 1)) _ _ (λ s a. a)
+    (λ s f. filling_done _ _ l.meta _ _ h lo c.args.s s c.args.blocks.now was.leaves.ready.in_range (ap (λ (z : Meta). z.out) was.meta ∙ c.requires.whole)
+    (shift_low l.meta was.leaves.ready.in_range (subst (λ (z : Meta). 0 < phase_to z.phase) (sym was.meta) c.requires.shifts))
+    (subst (λ (d : ℕ). Filling g.R.Rack.slot_count l h lo c.args.s c.args.blocks.now d s) all f)) (was.written h lo)
+
+pub returns-clause-moments : goal.returns-clause-moments
+returns-clause-moments g c h lo = runs_end g.R.Rack.slot_count g.R.Rack.slot g.R.Rack.told c.args.self.now _ _ _ h lo (c.loop-disk.invariant.written h lo)

@@ -1,0 +1,72 @@
+use Rattle.std.proofs.Common.{◌≡◌, ℕ, ap, subst}
+use Rattle.std.specs.Prelude.{Bool, false, true, ◌∷◌, ◌++◌, [], if◌then◌else◌}
+use Rattle.paraid_base.specs.History.{Entry, History}
+use Rattle.paraid_base.specs.Pairs.{pairs_of}
+use Rattle.paraid_record.specs.declared.meta.Setup.{Setup}
+use Rattle.paraid_rack.specs.Told.{Ran, CrashTriple}
+use Rattle.paraid_rack.specs.Disks.{Disks}
+use Rattle.paraid_txn.specs.Losses.{AreTwoDown}
+use Rattle.paraid_txn.specs.Stores.{named_of}
+use Rattle.paraid_core.specs.declared.staged.Core.{Core}
+use Rattle.paraid_core.specs.Cores.{IsCoreHeldSinceCommit, CoreStandsFor, core_down, core_rack}
+use Rattle.paraid_core.proofs.AfterLemmas.{handed}
+use Rattle.paraid_core.proofs.ChainLemmas.{after_same, done_then, ended, two_after}
+use Rattle.paraid_core.proofs.staged.Core.write_whole.Given.{Over}
+use Rattle.paraid_core.proofs.staged.Core.write_whole.Goals as goal
+use Rattle.paraid_core.proofs.staged.Core.write_whole.Goals.{In_ok-try_write}
+
+pub returns-then-done-clause-stands : goal.returns-then-done-clause-stands
+returns-then-done-clause-stands g c h lo =
+    let old = c.args.self.now in
+    let new = c.try_write.new.self in
+    subst (λ (b : Bool). Ran (g.R.Rack.told (core_rack old)) (g.R.Rack.told (core_rack new)) (CrashTriple (IsCoreHeldSinceCommit g.R.Rack.slot_count old h lo) (CoreStandsFor g.R.Rack.slot_count old h lo)
+    (CoreStandsFor g.R.Rack.slot_count new (if b then h ++ pairs_of c.args.pairs.now ∷ [] else h) lo))) c.if-done.true (c.in_ok-done.ensures.since h lo)
+
+-- the plan was dropped, and made once more
+module _ (g : Over) (old mid new : Core g.row.R.Denot g.R.Rack) (entry : Entry) (done : Bool) (dropped : done ≡ false) (h : History) (lo : ℕ)
+    (since : Ran (g.R.Rack.told (core_rack old)) (g.R.Rack.told (core_rack mid)) (CrashTriple (IsCoreHeldSinceCommit g.R.Rack.slot_count old h lo) (CoreStandsFor g.R.Rack.slot_count old h lo)
+    (CoreStandsFor g.R.Rack.slot_count mid (if done then h ++ entry ∷ [] else h) lo)))
+    (slots : g.R.Rack.slot_count (core_rack mid) ≡ g.R.Rack.slot_count (core_rack old)) (setup : mid.meta.setup ≡ old.meta.setup) (named : named_of mid.store ≡ named_of old.store) (C : Disks → Type 0)
+    (later : Ran (g.R.Rack.told (core_rack mid)) (g.R.Rack.told (core_rack new)) (CrashTriple (IsCoreHeldSinceCommit g.R.Rack.slot_count mid h lo) (CoreStandsFor g.R.Rack.slot_count mid h lo) C)) where
+  both : Ran (g.R.Rack.told (core_rack old)) (g.R.Rack.told (core_rack new)) (CrashTriple (IsCoreHeldSinceCommit g.R.Rack.slot_count old h lo) (CoreStandsFor g.R.Rack.slot_count old h lo) C)
+  both =
+      after_same (g.R.Rack.slot_count (core_rack old)) _ _ _ _ _ h lo _ _ C _ _ _ slots (ap (λ (z : Setup). z.geometry.disks) setup) named
+      (subst (λ (b : Bool). Ran (g.R.Rack.told (core_rack old)) (g.R.Rack.told (core_rack mid)) (CrashTriple (IsCoreHeldSinceCommit g.R.Rack.slot_count old h lo) (CoreStandsFor g.R.Rack.slot_count old h lo)
+      (CoreStandsFor g.R.Rack.slot_count mid (if b then h ++ entry ∷ [] else h) lo))) dropped since) later
+
+pub returns-in_err-try_write-clause-moments : goal.returns-in_err-try_write-clause-moments
+returns-in_err-try_write-clause-moments g c h lo =
+    let done = c.in_ok-done.ensures in
+    ended _ _ (IsCoreHeldSinceCommit g.R.Rack.slot_count c.try_write.new.self h lo) _ _
+    (both g c.args.self.now c.try_write.new.self c.try_write-2.new.self (pairs_of c.args.pairs.now) c.in_ok-done.done c.if-done.false h lo (done.since h lo) done.slots done.setup done.named
+    (IsCoreHeldSinceCommit g.R.Rack.slot_count c.try_write.new.self h lo) (c.in_err-try_write.ensures.moments_since h lo))
+
+pub returns-clause-moments : goal.returns-clause-moments
+returns-clause-moments g c h lo =
+    let done = c.in_ok-done.ensures in
+    ended _ _ (IsCoreHeldSinceCommit g.R.Rack.slot_count c.try_write.new.self h lo) _ _
+    (both g c.args.self.now c.try_write.new.self c.try_write-2.new.self (pairs_of c.args.pairs.now) c.in_ok-done.done c.if-done.false h lo (done.since h lo) done.slots done.setup done.named
+    (IsCoreHeldSinceCommit g.R.Rack.slot_count c.try_write.new.self h lo) (c.in_ok-try_write.ensures.moments_since h lo))
+
+pub returns-in_err-try_write-clause-two : goal.returns-in_err-try_write-clause-two
+returns-in_err-try_write-clause-two g c =
+    let old = c.args.self.now in
+    let mid = c.try_write.new.self in
+    let new = c.try_write-2.new.self in
+    handed (AreTwoDown (core_down old) (g.R.Rack.slot (core_rack old)) (g.R.Rack.slot (core_rack new))) c.from_residual-in_err-try_write.result _ c.from_residual-in_err-try_write.ensures.1
+    (two_after (core_down old) (core_down mid) _ _ _ _ c.in_ok-done.ensures.down c.in_ok-done.ensures.spared c.in_err-try_write.ensures.spared c.in_err-try_write.ensures.two)
+
+-- the second try is not without success
+again : (g : Over) (c : In_ok-try_write g) → c.in_ok-try_write.field-0 ≡ true
+again g c =
+    done_then (core_down c.args.self.now) (core_down c.try_write.new.self) (core_down c.try_write-2.new.self) _ _ _ _ c.in_ok-try_write.field-0
+    (c.in_ok-done.ensures.lost c.if-done.false) c.in_ok-try_write.ensures.lost
+
+pub returns-clause-stands : goal.returns-clause-stands
+returns-clause-stands g c h lo =
+    let mid = c.try_write.new.self in
+    let new = c.try_write-2.new.self in
+    let done = c.in_ok-done.ensures in
+    both g c.args.self.now mid new (pairs_of c.args.pairs.now) c.in_ok-done.done c.if-done.false h lo (done.since h lo) done.slots done.setup done.named _
+    (subst (λ (b : Bool). Ran (g.R.Rack.told (core_rack mid)) (g.R.Rack.told (core_rack new)) (CrashTriple (IsCoreHeldSinceCommit g.R.Rack.slot_count mid h lo) (CoreStandsFor g.R.Rack.slot_count mid h lo)
+    (CoreStandsFor g.R.Rack.slot_count new (if b then h ++ pairs_of c.args.pairs.now ∷ [] else h) lo))) (again g c) (c.in_ok-try_write.ensures.since h lo))

@@ -1,0 +1,191 @@
+//! The read of a block, which in access mode brings a dirty cell back to its hard place.
+ghost use Rattle.paraid_record.specs.Modes.{is_access as is_access_in};
+ghost use Rattle.std.specs.Prelude.{◌≡◌, ℕ, ◌+◌, ◌^◌, ◌<◌, ◌≤◌, [], length, None, OnOk, IfErr, IsSome, Some, true, false, if◌then◌else◌};
+ghost use Rattle.paraid_base.specs.Cells.{home_disk, home_row};
+ghost use Rattle.paraid_base.specs.History.{History, after_all as held_by};
+ghost use Rattle.paraid_dirty.specs.Table.{is_dirty};
+ghost use Rattle.paraid_image.specs.Content.{view_by};
+ghost use Rattle.paraid_image.specs.Out.{named_out as named_out_of};
+ghost use Rattle.paraid_image.specs.Spot.{rising_to as rising_to_of};
+ghost use Rattle.paraid_image.specs.Standing.{contents};
+ghost use Rattle.paraid_image.specs.Value.{value as value_of};
+ghost use Rattle.paraid_rack.specs.Told.{Ran, CrashTriple};
+ghost use Rattle.paraid_rack.specs.Trail.{Trail, now};
+ghost use Rattle.paraid_txn.specs.Losses.{StaySynced, OnlyLosesSlots, AreTwoDown};
+ghost use Rattle.paraid_core.specs.Steps.{AreUnsyncedCopied};
+ghost use Rattle.paraid_core.specs.Cleaning.{cleaning as cleaning_in, is_cleaned, read_commits_first};
+
+use crate::staged::Core;
+use crate::take::take;
+use paraid_base::{Block, BlockNo, DiskNo, Row, Two};
+use paraid_layout::{hard_place, home};
+use paraid_rack::Rack;
+use paraid_record::Mode;
+
+fn is_access(mode: Mode) -> bool
+    ensures { result ≡ is_access_in mode }
+{
+    match mode {
+        Mode::Whole => false,
+        Mode::Access => true,
+    }
+}
+
+impl<R: Rack> Core<R> {
+    ghost use Rattle.paraid_core.specs.Down.{IsDownAfter};
+    ghost use Rattle.paraid_core.specs.CoreInvariant.{AreCopiesSynced};
+    ghost use Rattle.paraid_core.specs.Cores.{IsCoreHeld, IsCoreReady, CanCoreServe, CoreStandsFor, batch_of, copied_of, core_block_count, core_down, draft_of, meta_of, core_rack, store_of, core_table};
+
+    // Whether a read of this cell cleans it.
+    fn cleans(&self, r: Row, d: DiskNo) -> bool
+        requires row { r < length (core_table self.now) }
+        requires disk { d < 8 }
+        ensures { result ≡ is_cleaned (meta_of self.now) (core_table self.now) r d }
+    {
+        is_access(self.meta.setup.mode)
+            && !self.meta.out.is_any()
+            && self.meta.gear <= d
+            && d < self.meta.phase.rising_to()
+            && self.dirty.has(r, d)
+    }
+
+    // Stages the value of a cell for its hard place, and makes it clean.
+    fn clean(&mut self, r: Row, d: DiskNo, value: &Block)
+        requires ready { IsCoreReady R.slot_count R.slot self.old }
+        requires serves { CanCoreServe R.slot self.old }
+        requires row { r < (meta_of self.old).setup.geometry.rows }
+        requires disk { d < (meta_of self.old).setup.geometry.disks }
+        requires rises { d < rising_to_of (meta_of self.old).phase }
+        requires whole { named_out_of (meta_of self.old).out ≡ None }
+        requires room { length (batch_of self.old) + 3 ≤ 96 }
+        ensures store { store_of self.new ≡ store_of self.old }
+        ensures meta { meta_of self.new ≡ meta_of self.old }
+        ensures copied { copied_of self.new ≡ copied_of self.old }
+        ensures draft { draft_of self.new ≡ [] }
+        ensures staged { length (batch_of self.new) ≤ length (batch_of self.old) + 3 }
+        ensures cleaned { is_dirty (core_table self.new) r d ≡ false }
+        ensures ready { IsCoreReady R.slot_count R.slot self.new }
+        ensures serves { CanCoreServe R.slot self.new }
+        ensures stands { (h : History) (lo : ℕ) (t : Trail) → R.told (core_rack self.old) ≡ Some t
+            → value.now ≡ value_of (view_by (meta_of self.old) (now t).power
+            (contents (now t) (batch_of self.old))) r d
+            → CoreStandsFor R.slot_count self.old h lo (now t)
+            → CoreStandsFor R.slot_count self.new h lo (now t) }
+    {
+        let m = self.meta;
+        let j = r / 512;
+        let mut map = Block::zero();
+        self.dirty.clear(r, d);
+        self.dirty.map_block(j, &mut map);
+        self.draft.clear();
+        self.draft.push(d, hard_place(&m.setup.geometry, r), value);
+        self.draft.push(0, 100 + j, &map);
+        self.draft.push(1, 100 + j, &map);
+        take(&mut self.batch, &m, &self.draft);
+        self.draft.clear();
+    }
+
+    // How many targets a read of this cell stages.
+    fn cleaning(&self, r: Row, d: DiskNo) -> u8
+        requires row { r < length (core_table self.now) }
+        requires disk { d < 8 }
+        ensures value { result ≡ cleaning_in (meta_of self.now) (core_table self.now) r d }
+        ensures few { result ≤ 3 }
+    {
+        if self.cleans(r, d) { 3 } else { 0 }
+    }
+
+    // Cleans a cell if there was room kept for it, and it can still be cleaned.
+    fn clean_in_room(&mut self, room: u8, r: Row, d: DiskNo, value: &Block)
+        requires ready { IsCoreReady R.slot_count R.slot self.old }
+        requires serves { CanCoreServe R.slot self.old }
+        requires no_draft { draft_of self.old ≡ [] }
+        requires row { r < (meta_of self.old).setup.geometry.rows }
+        requires disk { d < (meta_of self.old).setup.geometry.disks }
+        requires room { length (batch_of self.old) + room ≤ 96 }
+        requires kept { room < 3 → is_cleaned (meta_of self.old) (core_table self.old) r d ≡ false }
+        ensures cleaned { is_cleaned (meta_of self.new) (core_table self.new) r d ≡ false }
+        ensures nothing { room < 3 → (batch_of self.new ≡ batch_of self.old)
+            × (core_table self.new ≡ core_table self.old) }
+        ensures store { store_of self.new ≡ store_of self.old }
+        ensures meta { meta_of self.new ≡ meta_of self.old }
+        ensures copied { copied_of self.new ≡ copied_of self.old }
+        ensures draft { draft_of self.new ≡ [] }
+        ensures staged { length (batch_of self.new) ≤ length (batch_of self.old) + room }
+        ensures ready { IsCoreReady R.slot_count R.slot self.new }
+        ensures serves { CanCoreServe R.slot self.new }
+        ensures stands { (h : History) (lo : ℕ) (t : Trail) → R.told (core_rack self.old) ≡ Some t
+            → value.now ≡ value_of (view_by (meta_of self.old) (now t).power
+            (contents (now t) (batch_of self.old))) r d
+            → CoreStandsFor R.slot_count self.old h lo (now t)
+            → CoreStandsFor R.slot_count self.new h lo (now t) }
+    {
+        if room < 3 {
+            return;
+        }
+        if !self.cleans(r, d) {
+            return;
+        }
+        self.clean(r, d, value);
+    }
+
+    /// Reads a block: the bytes last written to it, or zeros. A disk that fails in the read is out
+    /// from then on.
+    ///
+    /// In access mode, in a shift up with no disk out, it stages the value of a dirty cell for its
+    /// hard place on a disk that comes up, and makes the cell clean. It first commits what is staged,
+    /// where that leaves no room for this.
+    pub fn read(&mut self, block: BlockNo, into: &mut Block) -> Result<(), Two>
+        requires ready { IsCoreReady R.slot_count R.slot self.old }
+        requires serves { CanCoreServe R.slot self.old }
+        requires block { block < core_block_count self.old }
+        requires no_draft { draft_of self.old ≡ [] }
+        requires epoch { (meta_of self.old).epoch < 2 ^ 63 }
+        requires synced { AreCopiesSynced (meta_of self.old).setup.geometry.disks (copied_of self.old) }
+
+        ensures draft { draft_of self.new ≡ [] }
+        ensures copied { copied_of self.new ≡ copied_of self.old }
+        ensures slots { R.slot_count (core_rack self.new) ≡ R.slot_count (core_rack self.old) }
+        ensures ready { OnOk result (IsCoreReady R.slot_count R.slot self.new) }
+        ensures serves { OnOk result (CanCoreServe R.slot self.new) }
+        ensures setup { OnOk result ((meta_of self.new).setup ≡ (meta_of self.old).setup) }
+        ensures writes { OnOk result ((meta_of self.new).writes ≡ (meta_of self.old).writes) }
+        ensures epoch { OnOk result ((meta_of self.new).epoch ≡ (meta_of self.old).epoch
+            + (if read_commits_first (meta_of self.old) (core_table self.old) (batch_of self.old) block then 1 else 0)) }
+        ensures cleaned { OnOk result (is_cleaned (meta_of self.new) (core_table self.new)
+            (home_row (meta_of self.old).setup.geometry.disks block)
+            (home_disk (meta_of self.old).setup.geometry.disks block) ≡ false) }
+        ensures nothing { OnOk result (is_cleaned (meta_of self.old) (core_table self.old)
+            (home_row (meta_of self.old).setup.geometry.disks block)
+            (home_disk (meta_of self.old).setup.geometry.disks block) ≡ false
+            → (batch_of self.new ≡ batch_of self.old) × (core_table self.new ≡ core_table self.old)) }
+        ensures spared { OnlyLosesSlots (R.slot (core_rack self.old)) (R.slot (core_rack self.new)) }
+        ensures still_synced { OnOk result (StaySynced (R.slot (core_rack self.old)) (R.slot (core_rack self.new))) }
+        ensures unsynced { OnOk result (AreUnsyncedCopied R.slot self.old → AreUnsyncedCopied R.slot self.new) }
+        ensures two { IfErr result (AreTwoDown (core_down self.old)
+            (R.slot (core_rack self.old)) (R.slot (core_rack self.new))) }
+        ensures down { OnOk result (IsDownAfter (core_down self.old) (core_down self.new)
+            (R.slot (core_rack self.old)) (R.slot (core_rack self.new))) }
+
+        // Each stop leaves what it left before, and where it commits first, all writes.
+        ensures moments { (h : History) (lo : ℕ)
+            → Ran (R.told (core_rack self.old)) (R.told (core_rack self.new))
+            (CrashTriple (IsCoreHeld R.slot_count self.old h lo) (CoreStandsFor R.slot_count self.old h lo)
+            (IsCoreHeld R.slot_count self.old h lo)) }
+        ensures stands { OnOk result ((h : History) (lo : ℕ)
+            → Ran (R.told (core_rack self.old)) (R.told (core_rack self.new))
+            (CrashTriple (IsCoreHeld R.slot_count self.old h lo) (CoreStandsFor R.slot_count self.old h lo)
+            (CoreStandsFor R.slot_count self.new h
+            (if read_commits_first (meta_of self.old) (core_table self.old) (batch_of self.old) block then length h else lo)))) }
+        ensures value { OnOk result ((h : History) (lo : ℕ) (t : Trail)
+            → R.told (core_rack self.old) ≡ Some t → CoreStandsFor R.slot_count self.old h lo (now t)
+            → IsSome (R.told (core_rack self.new)) → into.new ≡ held_by h block) }
+    {
+        let (r, d) = home(&self.meta.setup.geometry, block);
+        let room = self.cleaning(r, d);
+        self.make_room(room)?;
+        self.read_only(block, into)?;
+        self.clean_in_room(room, r, d, into);
+        Ok(())
+    }
+}

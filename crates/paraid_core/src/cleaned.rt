@@ -1,0 +1,55 @@
+//! Cells that are copied to their hard places are marked as clean. It is staged, and the next commit brings it to the
+//! disks. No call is made.
+ghost use Rattle.std.specs.Prelude.{◌≡◌, ℕ, ◌+◌, ◌<◌, ◌≤◌, Bool, true, false, [], length};
+ghost use Rattle.paraid_base.specs.declared.state.Out.TheVariants.{No};
+ghost use Rattle.paraid_base.specs.History.{History};
+ghost use Rattle.paraid_base.specs.States.{rising_to};
+ghost use Rattle.paraid_core.specs.CellCopies.{CellsCopied};
+ghost use Rattle.paraid_dirty.specs.Table.{is_dirty, table_with_bit};
+ghost use Rattle.paraid_rack.specs.Told.{CrashTriple, Ran};
+
+use crate::staged::Core;
+use crate::take::take;
+use paraid_base::{Block, DiskNo, Row};
+use paraid_rack::Rack;
+
+impl<R: Rack> Core<R> {
+    ghost use Rattle.paraid_core.specs.Cores.{CanCoreServe, IsCoreHeldSinceCommit, IsCoreReady, batch_of, copied_of, core_rack, core_table, draft_of, meta_of, store_of};
+
+    /// Marks a dirty cell of a disk that comes up as clean: its bit is cleared, and its block of the map is
+    /// staged on both log disks. The cell is copied; the commit asks that each copy is synced.
+    pub fn mark_cleaned(&mut self, r: Row, d: DiskNo)
+        requires ready { IsCoreReady R.slot_count R.slot self.old }
+        requires serves { CanCoreServe R.slot self.old }
+        requires no_draft { draft_of self.old ≡ [] }
+        requires whole { (meta_of self.old).out ≡ No }
+        requires row { r < (meta_of self.old).setup.geometry.rows }
+        requires rises { d < rising_to (meta_of self.old).phase }
+        requires dirty { is_dirty (core_table self.old) r d ≡ true }
+        requires room { length (batch_of self.old) + 2 ≤ 96 }
+        ensures store { store_of self.new ≡ store_of self.old }
+        ensures meta { meta_of self.new ≡ meta_of self.old }
+        ensures copied { copied_of self.new ≡ copied_of self.old }
+        ensures draft { draft_of self.new ≡ [] }
+        ensures staged { length (batch_of self.new) ≤ length (batch_of self.old) + 2 }
+        ensures table { (q e : ℕ) → is_dirty (core_table self.new) q e
+            ≡ table_with_bit (is_dirty (core_table self.old)) r d false q e }
+        ensures ready { IsCoreReady R.slot_count R.slot self.new }
+        ensures serves { CanCoreServe R.slot self.new }
+        ensures marked { (h : History) (lo : ℕ) (cells : ℕ → ℕ → Bool) → cells r d ≡ true
+            → Ran (R.told (core_rack self.old)) (R.told (core_rack self.new))
+            (CrashTriple (IsCoreHeldSinceCommit R.slot_count self.old h lo)
+            (CellsCopied R.slot_count self.old h lo cells) (CellsCopied R.slot_count self.new h lo cells)) }
+    {
+        let m = self.meta;
+        let j = r / 512;
+        let mut map = Block::zero();
+        self.dirty.clear(r, d);
+        self.dirty.map_block(j, &mut map);
+        self.draft.clear();
+        self.draft.push(0, 100 + j, &map);
+        self.draft.push(1, 100 + j, &map);
+        take(&mut self.batch, &m, &self.draft);
+        self.draft.clear();
+    }
+}

@@ -1,0 +1,198 @@
+//! Stripes of the region of the new gear are copied past the log.
+ghost use Rattle.std.specs.Prelude.{◌≡◌, ◌≢◌, ℕ, ◌+◌, ◌<◌, ◌≤◌, true, false, [], None, OnOk, IfErr, Ok, Some};
+ghost use Rattle.paraid_base.specs.declared.block.Block.{Block as BlockType};
+ghost use Rattle.paraid_base.specs.declared.state.Out.TheVariants.{No};
+ghost use Rattle.paraid_base.specs.History.{History};
+ghost use Rattle.paraid_base.specs.Regions.{soft_place_of};
+ghost use Rattle.paraid_base.specs.Soft.{stripe_count};
+ghost use Rattle.paraid_base.specs.States.{phase_to};
+ghost use Rattle.paraid_core.specs.Fills.{Filled, Filling, member};
+ghost use Rattle.paraid_core.specs.CoreInvariant.{is_copied};
+ghost use Rattle.paraid_core.specs.Steps.{IsHeldStill, IsStillOut, LeavesCore, StandsStill};
+ghost use Rattle.paraid_rack.specs.declared.call.Power.TheVariants.{Spinning};
+ghost use Rattle.paraid_rack.specs.Told.{Ran, CrashTriple};
+ghost use Rattle.paraid_txn.specs.Losses.{OnlyLosesSlots, AreTwoDown};
+ghost use Rattle.paraid_txn.specs.Stores.{named_of};
+
+use crate::gather::gather;
+use crate::staged::{Core, lose};
+use paraid_base::{Block, DiskNo, Place, Two};
+use paraid_layout::soft_place;
+use paraid_rack::Rack;
+
+// Notes that a copy went to this disk.
+pub(crate) fn mark(copied: &mut [bool; 8], disk: DiskNo)
+    requires { disk < 8 }
+    ensures here { is_copied copied.new disk ≡ true }
+    ensures others { (x : ℕ) → x ≢ disk → is_copied copied.new x ≡ is_copied copied.old x }
+{
+    copied[disk as usize] = true;
+}
+
+// One of the blocks.
+fn block_of(blocks: &[Block; 8], at: DiskNo) -> &Block
+    requires { at < 8 }
+    ensures { result.now ≡ member blocks.now at }
+{
+    &blocks[at as usize]
+}
+
+impl<R: Rack> Core<R> {
+    ghost use Rattle.paraid_core.specs.Cores.{IsCoreHeldSinceCommit, IsCoreReady, CanCoreServe, CoreStandsFor, batch_of, copied_of, core_down, draft_of, meta_of, core_rack, store_of, core_table};
+
+    // Writes block `disk` of stripe `s` into its place in the region of the new gear. False where
+    // the disk was lost.
+    fn write_member(
+        &mut self,
+        s: u32,
+        disk: DiskNo,
+        place: Place,
+        block: &Block,
+    ) -> Result<bool, Two>
+        requires ready { IsCoreReady R.slot_count R.slot self.old }
+        requires still { IsStillOut (named_of (store_of self.old)) (meta_of self.old) }
+        requires whole { (meta_of self.old).out ≡ No }
+        requires shifts { 0 < phase_to (meta_of self.old).phase }
+        requires region { phase_to (meta_of self.old).phase < (meta_of self.old).setup.geometry.disks }
+        requires from { (meta_of self.old).fill ≤ s }
+        requires stripe { s < stripe_count (meta_of self.old).setup.geometry.disks
+            (meta_of self.old).setup.geometry.rows (phase_to (meta_of self.old).phase) }
+        requires nothing { batch_of self.old ≡ [] }
+        requires disk { disk < (meta_of self.old).setup.geometry.disks }
+        requires spins { (R.slot (core_rack self.old) disk).power ≡ Spinning }
+        requires place { place ≡ soft_place_of (meta_of self.old).setup.geometry
+            (phase_to (meta_of self.old).phase) s }
+        requires within { place < (R.slot (core_rack self.old) disk).size }
+        ensures leaves { OnOk result (LeavesCore R.slot_count R.slot self.old self.new) }
+        ensures same { result ≡ Ok true → meta_of self.new ≡ meta_of self.old }
+        ensures spared { OnlyLosesSlots (R.slot (core_rack self.old)) (R.slot (core_rack self.new)) }
+        ensures two { IfErr result (AreTwoDown (core_down self.old)
+            (R.slot (core_rack self.old)) (R.slot (core_rack self.new))) }
+        ensures written { result ≡ Ok true → (h : History) (lo : ℕ) (blocks : _)
+            → block.now ≡ member blocks disk
+            → Ran (R.told (core_rack self.old)) (R.told (core_rack self.new))
+            (CrashTriple (IsCoreHeldSinceCommit R.slot_count self.old h lo)
+            (Filling R.slot_count self.old h lo s blocks disk)
+            (Filling R.slot_count self.new h lo s blocks (disk + 1))) }
+        ensures lost { result ≡ Ok false → (h : History) (lo : ℕ) → Ran (R.told (core_rack self.old)) (R.told (core_rack self.new))
+            (CrashTriple (IsCoreHeldSinceCommit R.slot_count self.old h lo) (CoreStandsFor R.slot_count self.old h lo) (CoreStandsFor R.slot_count self.new h lo)) }
+        ensures moments { (h : History) (lo : ℕ) → Ran (R.told (core_rack self.old)) (R.told (core_rack self.new))
+            (CrashTriple (IsCoreHeldSinceCommit R.slot_count self.old h lo) (Filled R.slot_count self.old h lo s)
+            (IsCoreHeldSinceCommit R.slot_count self.old h lo)) }
+    {
+        let answer = self.store.write_free(disk, place, block);
+        mark(&mut self.copied, disk);
+        let Err(_) = answer else {
+            return Ok(true);
+        };
+        lose(&mut self.meta, Some(disk))?;
+        Ok(false)
+    }
+
+    // Writes the blocks of stripe `s` in ascending order of disks. False where a disk was lost.
+    fn write_members(&mut self, s: u32, blocks: &[Block; 8]) -> Result<bool, Two>
+        requires ready { IsCoreReady R.slot_count R.slot self.old }
+        requires serves { CanCoreServe R.slot self.old }
+        requires whole { (meta_of self.old).out ≡ No }
+        requires shifts { 0 < phase_to (meta_of self.old).phase }
+        requires region { phase_to (meta_of self.old).phase < (meta_of self.old).setup.geometry.disks }
+        requires from { (meta_of self.old).fill ≤ s }
+        requires stripe { s < stripe_count (meta_of self.old).setup.geometry.disks
+            (meta_of self.old).setup.geometry.rows (phase_to (meta_of self.old).phase) }
+        requires nothing { batch_of self.old ≡ [] }
+        ensures leaves { OnOk result (LeavesCore R.slot_count R.slot self.old self.new) }
+        ensures same { result ≡ Ok true → meta_of self.new ≡ meta_of self.old }
+        ensures spared { OnlyLosesSlots (R.slot (core_rack self.old)) (R.slot (core_rack self.new)) }
+        ensures two { IfErr result (AreTwoDown (core_down self.old)
+            (R.slot (core_rack self.old)) (R.slot (core_rack self.new))) }
+        ensures filled { result ≡ Ok true → (h : History) (lo : ℕ)
+            → Ran (R.told (core_rack self.old)) (R.told (core_rack self.new))
+            (CrashTriple (IsCoreHeldSinceCommit R.slot_count self.old h lo)
+            (Filling R.slot_count self.old h lo s blocks.now 0)
+            (Filled R.slot_count self.new h lo (s + 1))) }
+        ensures lost { result ≡ Ok false → (h : History) (lo : ℕ)
+            → Ran (R.told (core_rack self.old)) (R.told (core_rack self.new))
+            (CrashTriple (IsCoreHeldSinceCommit R.slot_count self.old h lo)
+            (Filling R.slot_count self.old h lo s blocks.now 0)
+            (CoreStandsFor R.slot_count self.new h lo)) }
+        ensures moments { (h : History) (lo : ℕ)
+            → Ran (R.told (core_rack self.old)) (R.told (core_rack self.new))
+            (CrashTriple (IsCoreHeldSinceCommit R.slot_count self.old h lo)
+            (Filling R.slot_count self.old h lo s blocks.now 0)
+            (IsCoreHeldSinceCommit R.slot_count self.old h lo)) }
+    {
+        let to = self.meta.phase.to();
+        let place = soft_place(&self.meta.setup.geometry, to, s);
+        for disk in 0..to {
+            let done = self.write_member(s, disk, place, block_of(blocks, disk))?;
+            if !done {
+                return Ok(false);
+            }
+        }
+        Ok(true)
+    }
+
+    /// Copies stripe `s` of the region of the new gear past the log: the values of its cells, zeros
+    /// for its pads and their XOR, each into its free place.
+    ///
+    /// It reads each cell of the stripe once by value, and then writes each block once, in ascending
+    /// order of disks. True once the stripe is copied. False where a disk was lost: that disk is out
+    /// from then on, and the stripe does not count.
+    pub fn fill_stripe(&mut self, s: u32) -> Result<bool, Two>
+        requires ready { IsCoreReady R.slot_count R.slot self.old }
+        requires serves { CanCoreServe R.slot self.old }
+        requires no_draft { draft_of self.old ≡ [] }
+        requires whole { (meta_of self.old).out ≡ No }
+        requires shifts { 0 < phase_to (meta_of self.old).phase }
+        requires region { phase_to (meta_of self.old).phase < (meta_of self.old).setup.geometry.disks }
+        requires from { (meta_of self.old).fill ≤ s }
+        requires stripe { s < stripe_count (meta_of self.old).setup.geometry.disks
+            (meta_of self.old).setup.geometry.rows (phase_to (meta_of self.old).phase) }
+        requires nothing { batch_of self.old ≡ [] }
+        ensures leaves { OnOk result (LeavesCore R.slot_count R.slot self.old self.new) }
+        ensures same { result ≡ Ok true → meta_of self.new ≡ meta_of self.old }
+        ensures spared { OnlyLosesSlots (R.slot (core_rack self.old)) (R.slot (core_rack self.new)) }
+        ensures two { IfErr result (AreTwoDown (core_down self.old)
+            (R.slot (core_rack self.old)) (R.slot (core_rack self.new))) }
+        // The stripes before it stay copied, and this one is.
+        ensures filled { result ≡ Ok true → (h : History) (lo : ℕ)
+            → Ran (R.told (core_rack self.old)) (R.told (core_rack self.new))
+            (CrashTriple (IsCoreHeldSinceCommit R.slot_count self.old h lo) (Filled R.slot_count self.old h lo s)
+            (Filled R.slot_count self.new h lo (s + 1))) }
+        ensures lost { result ≡ Ok false → (h : History) (lo : ℕ)
+            → Ran (R.told (core_rack self.old)) (R.told (core_rack self.new))
+            (CrashTriple (IsCoreHeldSinceCommit R.slot_count self.old h lo) (Filled R.slot_count self.old h lo s)
+            (CoreStandsFor R.slot_count self.new h lo)) }
+        ensures moments { (h : History) (lo : ℕ)
+            → Ran (R.told (core_rack self.old)) (R.told (core_rack self.new))
+            (CrashTriple (IsCoreHeldSinceCommit R.slot_count self.old h lo) (Filled R.slot_count self.old h lo s)
+            (IsCoreHeldSinceCommit R.slot_count self.old h lo)) }
+    {
+        let mut blocks = [
+            Block::zero(),
+            Block::zero(),
+            Block::zero(),
+            Block::zero(),
+            Block::zero(),
+            Block::zero(),
+            Block::zero(),
+            Block::zero(),
+        ];
+        let to = self.meta.phase.to();
+        let Err(disk) = gather(
+            &mut self.store,
+            &self.batch,
+            &self.draft,
+            &self.meta,
+            &self.dirty,
+            to,
+            s,
+            &mut blocks,
+        ) else {
+            let done = self.write_members(s, &blocks)?;
+            return Ok(done);
+        };
+        lose(&mut self.meta, Some(disk))?;
+        Ok(false)
+    }
+}

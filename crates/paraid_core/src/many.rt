@@ -1,0 +1,205 @@
+//! The write of one to eight blocks as one entry, which first commits what leaves no room for it.
+ghost use Rattle.std.specs.Prelude.{◌≡◌, ℕ, ◌+◌, ◌*◌, ◌^◌, ◌<◌, ◌≤◌, ◌∷◌, ◌++◌, [], length, Some, All, OnOk, IfErr, if◌then◌else◌, false};
+ghost use Rattle.paraid_base.specs.declared.block.Block.{Block as BlockType};
+ghost use Rattle.paraid_base.specs.History.{History};
+ghost use Rattle.paraid_base.specs.Pairs.{pairs_of};
+ghost use Rattle.paraid_rack.specs.Told.{Ran, CrashTriple};
+ghost use Rattle.paraid_txn.specs.Losses.{StaySynced, OnlyLosesSlots, AreTwoDown};
+
+use crate::staged::Core;
+use paraid_base::{Block, BlockNo, Pairs, Two};
+use paraid_rack::Rack;
+
+impl<R: Rack> Core<R> {
+    ghost use Rattle.paraid_core.specs.Cores.{IsCoreHeld, IsCoreHeldSinceCommit, IsCoreReady, CanCoreServe, CoreStandsFor, batch_of, copied_of, core_block_count, core_down, draft_of, meta_of, core_rack, core_table, store_of};
+    ghost use Rattle.paraid_core.specs.Cleaning.{is_cleaned};
+    ghost use Rattle.paraid_core.specs.Steps.{AreUnsyncedCopied};
+    ghost use Rattle.paraid_core.specs.Down.{IsDownAfter};
+    ghost use Rattle.paraid_core.specs.Room.{commits_first};
+    ghost use Rattle.paraid_core.specs.CoreInvariant.{AreCopiesSynced};
+    ghost use Rattle.paraid_txn.specs.Stores.{named_of};
+
+    // Commits where more is staged than leaves room for so many targets.
+    pub(crate) fn make_room(&mut self, targets: u8) -> Result<(), Two>
+        requires few { targets ≤ 80 }
+        requires ready { IsCoreReady R.slot_count R.slot self.old }
+        requires serves { CanCoreServe R.slot self.old }
+        requires epoch { (meta_of self.old).epoch < 2 ^ 63 }
+        requires copies_synced { AreCopiesSynced (meta_of self.old).setup.geometry.disks (copied_of self.old) }
+
+        ensures draft { draft_of self.new ≡ draft_of self.old }
+        ensures copied { copied_of self.new ≡ copied_of self.old }
+        ensures slots { R.slot_count (core_rack self.new) ≡ R.slot_count (core_rack self.old) }
+        ensures ready { OnOk result (IsCoreReady R.slot_count R.slot self.new) }
+        ensures serves { OnOk result (CanCoreServe R.slot self.new) }
+        ensures room { OnOk result (length (batch_of self.new) + targets ≤ 96) }
+        ensures staged { OnOk result (length (batch_of self.new)
+            ≤ (if commits_first (batch_of self.old) targets then 0 else length (batch_of self.old))) }
+        ensures cleans_less { OnOk result ((r d : ℕ)
+            → is_cleaned (meta_of self.old) (core_table self.old) r d ≡ false
+            → is_cleaned (meta_of self.new) (core_table self.new) r d ≡ false) }
+        ensures nothing { OnOk result (targets ≡ 0 → (batch_of self.new ≡ batch_of self.old)
+            × (core_table self.new ≡ core_table self.old)) }
+        ensures setup { OnOk result ((meta_of self.new).setup ≡ (meta_of self.old).setup) }
+        ensures writes { OnOk result ((meta_of self.new).writes ≡ (meta_of self.old).writes) }
+        ensures epoch { OnOk result ((meta_of self.new).epoch ≡ (meta_of self.old).epoch
+            + (if commits_first (batch_of self.old) targets then 1 else 0)) }
+        ensures spared { OnlyLosesSlots (R.slot (core_rack self.old)) (R.slot (core_rack self.new)) }
+        ensures still_synced { OnOk result (StaySynced (R.slot (core_rack self.old)) (R.slot (core_rack self.new))) }
+        ensures unsynced { OnOk result (AreUnsyncedCopied R.slot self.old → AreUnsyncedCopied R.slot self.new) }
+        ensures two { IfErr result (AreTwoDown (core_down self.old)
+            (R.slot (core_rack self.old)) (R.slot (core_rack self.new))) }
+        ensures down { OnOk result (IsDownAfter (core_down self.old) (core_down self.new)
+            (R.slot (core_rack self.old)) (R.slot (core_rack self.new))) }
+        ensures named { OnOk result ((d : ℕ) → named_of (store_of self.new) ≡ Some d
+            → core_down self.old ≡ Some d) }
+        ensures moments { (h : History) (lo : ℕ)
+            → Ran (R.told (core_rack self.old)) (R.told (core_rack self.new))
+            (CrashTriple (IsCoreHeld R.slot_count self.old h lo) (CoreStandsFor R.slot_count self.old h lo)
+            (IsCoreHeld R.slot_count self.old h lo)) }
+        ensures stands { OnOk result ((h : History) (lo : ℕ)
+            → Ran (R.told (core_rack self.old)) (R.told (core_rack self.new))
+            (CrashTriple (IsCoreHeld R.slot_count self.old h lo) (CoreStandsFor R.slot_count self.old h lo)
+            (CoreStandsFor R.slot_count self.new h
+            (if commits_first (batch_of self.old) targets then length h else lo)))) }
+    {
+        if self.batch.count() <= 96 - targets {
+            return Ok(());
+        }
+        self.commit()?;
+        Ok(())
+    }
+
+    // Plans the write, and where a disk fails in that plans it once more without this disk.
+    fn write_whole(&mut self, pairs: &Pairs) -> Result<(), Two>
+        requires ready { IsCoreReady R.slot_count R.slot self.old }
+        requires serves { CanCoreServe R.slot self.old }
+        requires blocks { All (λ (pair : ℕ × BlockType). pair.0 < core_block_count self.old) (pairs_of pairs.now) }
+        requires room { length (batch_of self.old) + 10 * pairs.now.count ≤ 96 }
+        requires fits { (meta_of self.old).writes + 1 < 2 ^ 64 }
+
+        ensures draft { draft_of self.new ≡ [] }
+        ensures copied { copied_of self.new ≡ copied_of self.old }
+        ensures slots { R.slot_count (core_rack self.new) ≡ R.slot_count (core_rack self.old) }
+        ensures ready { OnOk result (IsCoreReady R.slot_count R.slot self.new) }
+        ensures serves { OnOk result (CanCoreServe R.slot self.new) }
+        ensures staged { OnOk result (length (batch_of self.new)
+            ≤ length (batch_of self.old) + 10 * pairs.now.count) }
+        ensures setup { OnOk result ((meta_of self.new).setup ≡ (meta_of self.old).setup) }
+        ensures writes { OnOk result ((meta_of self.new).writes ≡ (meta_of self.old).writes + 1) }
+        ensures epoch { OnOk result ((meta_of self.new).epoch ≡ (meta_of self.old).epoch) }
+        ensures spared { OnlyLosesSlots (R.slot (core_rack self.old)) (R.slot (core_rack self.new)) }
+        ensures still_synced { StaySynced (R.slot (core_rack self.old)) (R.slot (core_rack self.new)) }
+        ensures unsynced { OnOk result (AreUnsyncedCopied R.slot self.old → AreUnsyncedCopied R.slot self.new) }
+        ensures two { IfErr result (AreTwoDown (core_down self.old)
+            (R.slot (core_rack self.old)) (R.slot (core_rack self.new))) }
+        ensures down { OnOk result (IsDownAfter (core_down self.old) (core_down self.new)
+            (R.slot (core_rack self.old)) (R.slot (core_rack self.new))) }
+        ensures moments { (h : History) (lo : ℕ)
+            → Ran (R.told (core_rack self.old)) (R.told (core_rack self.new))
+            (CrashTriple (IsCoreHeldSinceCommit R.slot_count self.old h lo) (CoreStandsFor R.slot_count self.old h lo)
+            (IsCoreHeldSinceCommit R.slot_count self.old h lo)) }
+        ensures stands { OnOk result ((h : History) (lo : ℕ)
+            → Ran (R.told (core_rack self.old)) (R.told (core_rack self.new))
+            (CrashTriple (IsCoreHeldSinceCommit R.slot_count self.old h lo) (CoreStandsFor R.slot_count self.old h lo)
+            (CoreStandsFor R.slot_count self.new (h ++ pairs_of pairs.now ∷ []) lo))) }
+    {
+        let done = self.try_write(pairs)?;
+        if done {
+            return Ok(());
+        }
+        // One disk is out now, so a further failure is the second one.
+        self.try_write(pairs)?;
+        Ok(())
+    }
+
+    /// Writes these pairs as one entry of the writes. A disk that fails in it is out from then on,
+    /// and the write is made without it.
+    ///
+    /// It first commits what is staged, where that leaves no room for ten targets for each pair.
+    pub fn write_many(&mut self, pairs: &Pairs) -> Result<(), Two>
+        requires ready { IsCoreReady R.slot_count R.slot self.old }
+        requires serves { CanCoreServe R.slot self.old }
+        requires blocks { All (λ (pair : ℕ × BlockType). pair.0 < core_block_count self.old) (pairs_of pairs.now) }
+        requires epoch { (meta_of self.old).epoch < 2 ^ 63 }
+        requires copies_synced { AreCopiesSynced (meta_of self.old).setup.geometry.disks (copied_of self.old) }
+        requires fits { (meta_of self.old).writes + 1 < 2 ^ 64 }
+
+        ensures draft { OnOk result (draft_of self.new ≡ []) }
+        ensures copied { copied_of self.new ≡ copied_of self.old }
+        ensures slots { R.slot_count (core_rack self.new) ≡ R.slot_count (core_rack self.old) }
+        ensures ready { OnOk result (IsCoreReady R.slot_count R.slot self.new) }
+        ensures serves { OnOk result (CanCoreServe R.slot self.new) }
+        ensures staged { OnOk result (length (batch_of self.new)
+            ≤ (if commits_first (batch_of self.old) (10 * pairs.now.count) then 0 else length (batch_of self.old))
+            + 10 * pairs.now.count) }
+        ensures setup { OnOk result ((meta_of self.new).setup ≡ (meta_of self.old).setup) }
+        ensures writes { OnOk result ((meta_of self.new).writes ≡ (meta_of self.old).writes + 1) }
+        ensures epoch { OnOk result ((meta_of self.new).epoch ≡ (meta_of self.old).epoch
+            + (if commits_first (batch_of self.old) (10 * pairs.now.count) then 1 else 0)) }
+        ensures spared { OnlyLosesSlots (R.slot (core_rack self.old)) (R.slot (core_rack self.new)) }
+        ensures still_synced { OnOk result (StaySynced (R.slot (core_rack self.old)) (R.slot (core_rack self.new))) }
+        ensures unsynced { OnOk result (AreUnsyncedCopied R.slot self.old → AreUnsyncedCopied R.slot self.new) }
+        ensures two { IfErr result (AreTwoDown (core_down self.old)
+            (R.slot (core_rack self.old)) (R.slot (core_rack self.new))) }
+        ensures down { OnOk result (IsDownAfter (core_down self.old) (core_down self.new)
+            (R.slot (core_rack self.old)) (R.slot (core_rack self.new))) }
+
+        // Each stop leaves what it left before, and where it commits first, all writes before this one.
+        ensures moments { (h : History) (lo : ℕ)
+            → Ran (R.told (core_rack self.old)) (R.told (core_rack self.new))
+            (CrashTriple (IsCoreHeld R.slot_count self.old h lo) (CoreStandsFor R.slot_count self.old h lo)
+            (IsCoreHeld R.slot_count self.old h lo)) }
+        ensures stands { OnOk result ((h : History) (lo : ℕ)
+            → Ran (R.told (core_rack self.old)) (R.told (core_rack self.new))
+            (CrashTriple (IsCoreHeld R.slot_count self.old h lo) (CoreStandsFor R.slot_count self.old h lo)
+            (CoreStandsFor R.slot_count self.new (h ++ pairs_of pairs.now ∷ [])
+            (if commits_first (batch_of self.old) (10 * pairs.now.count) then length h else lo)))) }
+    {
+        self.make_room(10 * pairs.count)?;
+        self.write_whole(pairs)?;
+        Ok(())
+    }
+
+    /// Writes one block.
+    pub fn write(&mut self, block: BlockNo, bytes: &Block) -> Result<(), Two>
+        requires ready { IsCoreReady R.slot_count R.slot self.old }
+        requires serves { CanCoreServe R.slot self.old }
+        requires block { block < core_block_count self.old }
+        requires epoch { (meta_of self.old).epoch < 2 ^ 63 }
+        requires copies_synced { AreCopiesSynced (meta_of self.old).setup.geometry.disks (copied_of self.old) }
+        requires fits { (meta_of self.old).writes + 1 < 2 ^ 64 }
+
+        ensures draft { OnOk result (draft_of self.new ≡ []) }
+        ensures copied { copied_of self.new ≡ copied_of self.old }
+        ensures slots { R.slot_count (core_rack self.new) ≡ R.slot_count (core_rack self.old) }
+        ensures ready { OnOk result (IsCoreReady R.slot_count R.slot self.new) }
+        ensures serves { OnOk result (CanCoreServe R.slot self.new) }
+        ensures staged { OnOk result (length (batch_of self.new)
+            ≤ (if commits_first (batch_of self.old) 10 then 0 else length (batch_of self.old)) + 10) }
+        ensures setup { OnOk result ((meta_of self.new).setup ≡ (meta_of self.old).setup) }
+        ensures writes { OnOk result ((meta_of self.new).writes ≡ (meta_of self.old).writes + 1) }
+        ensures epoch { OnOk result ((meta_of self.new).epoch ≡ (meta_of self.old).epoch
+            + (if commits_first (batch_of self.old) 10 then 1 else 0)) }
+        ensures spared { OnlyLosesSlots (R.slot (core_rack self.old)) (R.slot (core_rack self.new)) }
+        ensures still_synced { OnOk result (StaySynced (R.slot (core_rack self.old)) (R.slot (core_rack self.new))) }
+        ensures unsynced { OnOk result (AreUnsyncedCopied R.slot self.old → AreUnsyncedCopied R.slot self.new) }
+        ensures two { IfErr result (AreTwoDown (core_down self.old)
+            (R.slot (core_rack self.old)) (R.slot (core_rack self.new))) }
+        ensures down { OnOk result (IsDownAfter (core_down self.old) (core_down self.new)
+            (R.slot (core_rack self.old)) (R.slot (core_rack self.new))) }
+        ensures moments { (h : History) (lo : ℕ)
+            → Ran (R.told (core_rack self.old)) (R.told (core_rack self.new))
+            (CrashTriple (IsCoreHeld R.slot_count self.old h lo) (CoreStandsFor R.slot_count self.old h lo)
+            (IsCoreHeld R.slot_count self.old h lo)) }
+        ensures stands { OnOk result ((h : History) (lo : ℕ)
+            → Ran (R.told (core_rack self.old)) (R.told (core_rack self.new))
+            (CrashTriple (IsCoreHeld R.slot_count self.old h lo) (CoreStandsFor R.slot_count self.old h lo)
+            (CoreStandsFor R.slot_count self.new (h ++ ((block, bytes.now) ∷ []) ∷ [])
+            (if commits_first (batch_of self.old) 10 then length h else lo)))) }
+    {
+        let pairs = Pairs::one(block, bytes);
+        self.write_many(&pairs)?;
+        Ok(())
+    }
+}

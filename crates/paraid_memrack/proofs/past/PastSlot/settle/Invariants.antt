@@ -1,7 +1,0 @@
-use Rattle.std.proofs.Common.{◌≡◌, ◌++◌, map, take, drop}
-use Rattle.paraid_memrack.specs.Versions.{settled_to}
-use Rattle.paraid_memrack.proofs.past.PastSlot.settle.Given as goal
-
-abbrev pub invariant-loop-at : goal.invariant-loop-at
-invariant-loop-at l =
-    (l.self.power ≡ l.initial.self.power) × (l.self.versions.items ≡ map settled_to (take l.at l.initial.self.versions.items) ++ drop l.at l.initial.self.versions.items)

@@ -1,0 +1,20 @@
+-- Which of the commands the program does.
+use Rattle.std.specs.Prelude.{Option, Some, None}
+use Rattle.paraid_words.specs.declared.command.Command.{Command}
+use Rattle.paraid_words.specs.declared.command.Command.TheVariants as command
+use Rattle.paraid_program.specs.declared.words.Task.{Task}
+use Rattle.paraid_program.specs.declared.words.Task.TheVariants.{Format, Run, Status}
+
+-- the command of a task
+abbrev pub task_command : Task → Command
+task_command (Format force) = command.Format force
+task_command Run = command.Run
+task_command Status = command.Status
+
+-- the task of a command, if the program does it
+abbrev pub command_task : Command → Option Task
+command_task (command.Format force) = Some (Format force)
+command_task command.Run = Some Run
+command_task command.Status = Some Status
+command_task command.Check = None
+command_task (command.Gen number lines) = None

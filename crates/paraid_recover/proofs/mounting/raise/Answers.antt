@@ -1,0 +1,108 @@
+use Rattle.std.specs.Prelude.{◌≡◌, ℕ, length, Option, None}
+use Rattle.std.proofs.Common.{ap, refl, subst, sym, ◌∙◌}
+use Rattle.paraid_rack.specs.Trail.{Trail}
+use Rattle.paraid_record.specs.declared.meta.Meta.{Meta}
+use Rattle.paraid_record.specs.declared.meta.Setup.{Setup}
+use Rattle.paraid_image.specs.Out.{named_out}
+use Rattle.paraid_image.specs.Sides.{LogState}
+use Rattle.paraid_txn.specs.Losses.{IsOutOfCommit, AreTwoDownBeside}
+use Rattle.paraid_txn.specs.Stores.{store_out, store_rack}
+use Rattle.paraid_recover.specs.HeldMoments.{EndsHeld, IsOutAtEnd, Recovers, RecoversHeld}
+use Rattle.paraid_recover.specs.RecoveryMark.{to_mark, with_mark}
+use Rattle.paraid_recover.specs.Mounted.{IsServable, with_loss}
+use Rattle.paraid_dirty.specs.Table.{is_dirty}
+use Rattle.paraid_recover.specs.Powers.{IsPowerCall}
+use Rattle.paraid_recover.proofs.FarLemmas.{far_ran, map_on, turn_far}
+use Rattle.paraid_recover.proofs.ServableLemmas.{disks_marked, names_stay, servable, two_marked, who_is_out}
+use Rattle.paraid_recover.proofs.TurnsLemmas.{turns_end, turns_hold}
+use Rattle.paraid_recover.proofs.mounting.raise.Given.{Over}
+use Rattle.paraid_recover.proofs.mounting.raise.Goals as goal
+use Rattle.paraid_recover.proofs.mounting.raise.Goals.{After-power_disks}
+
+-- the meta that stands has the setup of the one before
+setup_is : (g : Over) (c : After-power_disks g) → c.in-Ok.standing.setup ≡ c.args.meta.now.setup
+setup_is g c = let given = c.in-Ok.ensures.given in ap (λ (x : Meta). x.setup) given.1 ∙ disks_marked c.args.meta.now given.0
+
+disks_same : (g : Over) (c : After-power_disks g) → c.in-Ok.standing.setup.geometry.disks ≡ c.args.meta.now.setup.geometry.disks
+disks_same g c = ap (λ (s : Setup). s.geometry.disks) (setup_is g c)
+
+pub returns-clause-servable : goal.returns-clause-servable
+returns-clause-servable g c =
+    let at = (goal.at.returns-clause-servable g c).After-power_disks in
+    let m = c.in-Ok.standing in
+    let part = c.in_default.ensures in
+    let a = g.R.Rack.slot (store_rack c.settle.new.store) in
+    let b = g.R.Rack.slot (store_rack c.power_disks.new.store) in
+    let o = to_mark (λ d. (b d).power) m in
+    subst (λ (x : Meta). IsServable (g.R.Rack.slot_count (store_rack c.power_disks.new.store)) b c.power_disks.new.store.epoch c.power_disks.new.store.disks c.power_disks.new.store.named x (length c.settle.new.table)) (sym c.with_loss.ensures)
+    (subst (λ (k : ℕ). IsServable k b c.power_disks.new.store.epoch c.power_disks.new.store.disks c.power_disks.new.store.named (with_loss m o) (length c.settle.new.table)) (sym part.slots)
+    (servable (g.R.Rack.slot_count (store_rack c.settle.new.store)) a b m c.in-Ok.ensures.fit part.turned part.powered (part.one c.in-Ok.ensures.fit.one) o refl
+    c.power_disks.new.store.epoch c.power_disks.new.store.disks (length c.settle.new.table) c.power_disks.new.store.named
+    (disks_same g at ∙ sym (part.same.disks ∙ c.settle.ensures.disks ∙ c.requires.disks)) c.in-Ok.ensures.version
+    (c.in-Ok.ensures.epoch ∙ sym part.same.epoch)
+    (part.same.named ∙ sym c.in-Ok.ensures.named)
+    (c.settle.ensures.rows ∙ c.requires.rows ∙ sym (ap (λ (s : Setup). s.geometry.rows) (setup_is g at)))
+    c.in-Ok.ensures.synced))
+
+pub returns-in-Err-power_disks-clause-two : goal.returns-in-Err-power_disks-clause-two
+returns-in-Err-power_disks-clause-two g c =
+    let at = (goal.at.returns-in-Err-power_disks-clause-two g c).After-power_disks in
+    let meta = c.args.meta.now in
+    let given = c.in-Ok.ensures.given in
+    let b = g.R.Rack.slot (store_rack c.settle.new.store) in
+    let d = g.R.Rack.slot (store_rack c.power_disks.new.store) in
+    two_marked meta given.0 (g.R.Rack.slot (store_rack c.args.store.now)) b d c.settle.ensures.each c.settle.ensures.powers.no_fall (λ x. (c.power_disks.ensures.turned x).later) given.2 c.in-Err-power_disks.two
+    (subst (λ (k : ℕ). AreTwoDownBeside (IsOutOfCommit (λ e. (b e).power) k (named_out (with_mark meta given.0).out) None) b d c.in-Err-power_disks.two) (ap (λ (s : Setup). s.geometry.disks) (disks_marked meta given.0))
+    (subst (λ (x : Meta). AreTwoDownBeside (IsOutOfCommit (λ e. (b e).power) x.setup.geometry.disks (named_out x.out) None) b d c.in-Err-power_disks.two) given.1 c.in-Err-power_disks.ensures.two))
+
+-- who is out as the disks are powered
+who : (g : Over) (c : After-power_disks g) (said : LogState) → said.meta ≡ c.args.meta.now → IsOutAtEnd said c.in-Ok.standing (g.R.Rack.told (store_rack c.settle.new.store))
+who g c said is =
+    let given = c.in-Ok.ensures.given in
+    let told = g.R.Rack.told (store_rack c.settle.new.store) in
+    subst (λ (x : Meta). IsOutAtEnd said x told) (sym given.1)
+    (who_is_out c.args.meta.now given.0 (g.R.Rack.slot (store_rack c.args.store.now)) (g.R.Rack.slot (store_rack c.settle.new.store)) (g.R.Rack.slot (store_rack c.power_disks.new.store))
+    c.settle.ensures.each c.settle.ensures.powers.no_fall (λ x. (c.power_disks.ensures.turned x).later) given.2 said told is (g.met.R.Rack.agrees (store_rack c.settle.new.store)))
+
+disks_said : (g : Over) (c : After-power_disks g) (said : LogState) → said.meta ≡ c.args.meta.now → c.in-Ok.standing.setup.geometry.disks ≡ said.meta.setup.geometry.disks
+disks_said g c said is = disks_same g c ∙ ap (λ (x : Meta). x.setup.geometry.disks) (sym is)
+
+holds : (g : Over) (c : After-power_disks g) (slots x : ℕ) (said : LogState) (old : Option Trail) → said.meta ≡ c.args.meta.now → Recovers slots x said old (g.R.Rack.told (store_rack c.args.store.now))
+    → RecoversHeld slots x said old (g.R.Rack.told (store_rack c.power_disks.new.store))
+holds g c slots x said old is r =
+    turns_hold slots x said c.in-Ok.standing old (g.R.Rack.told (store_rack c.settle.new.store)) (g.R.Rack.told (store_rack c.power_disks.new.store)) (disks_said g c said is) (who g c said is)
+    c.power_disks.ensures.calls (c.settle.ensures.holds slots x said old is r) (c.in-Ok.ensures.ends slots x said old is r)
+
+pub returns-in-Err-power_disks-clause-holds : goal.returns-in-Err-power_disks-clause-holds
+returns-in-Err-power_disks-clause-holds g c = holds g (goal.at.returns-in-Err-power_disks-clause-holds g c).After-power_disks
+
+pub returns-clause-holds : goal.returns-clause-holds
+returns-clause-holds g c = holds g (goal.at.returns-clause-holds g c).After-power_disks
+
+ends : (g : Over) (c : After-power_disks g) (slots x : ℕ) (said : LogState) (old : Option Trail) → said.meta ≡ c.args.meta.now → Recovers slots x said old (g.R.Rack.told (store_rack c.args.store.now))
+    → EndsHeld slots x said c.in-Ok.standing old (g.R.Rack.told (store_rack c.power_disks.new.store))
+ends g c slots x said old is r =
+    turns_end slots x said c.in-Ok.standing old (g.R.Rack.told (store_rack c.settle.new.store)) (g.R.Rack.told (store_rack c.power_disks.new.store)) (disks_said g c said is) (who g c said is)
+    c.power_disks.ensures.calls (c.settle.ensures.holds slots x said old is r) (c.in-Ok.ensures.ends slots x said old is r)
+
+pub returns-clause-ends : goal.returns-clause-ends
+returns-clause-ends g c =
+    let at = (goal.at.returns-clause-ends g c).After-power_disks in
+    let given = c.in-Ok.ensures.given in (
+      c.in-Ok.standing,
+      to_mark (λ d. (g.R.Rack.slot (store_rack c.power_disks.new.store) d).power) c.in-Ok.standing,
+      c.with_loss.ensures,
+      setup_is g at,
+      λ d name. ap (λ (x : Meta). named_out x.out) given.1 ∙ names_stay c.args.meta.now given.0 (λ e is. given.3 e is) d name,
+      c.in-Ok.ensures.version,
+      (given.0, given.1),
+      ends g at,
+    )
+
+pub returns-clause-map : goal.returns-clause-map
+returns-clause-map g c =
+    let told_0 = g.R.Rack.told (store_rack c.args.store.now) in
+    let told_1 = g.R.Rack.told (store_rack c.settle.new.store) in
+    let told_2 = g.R.Rack.told (store_rack c.power_disks.new.store) in
+    map_on c.args.meta.now.setup.geometry (store_out g.R.Rack.slot c.args.store.now) (is_dirty c.settle.new.table) told_0 told_1 told_2
+    (far_ran (IsPowerCall c.in-Ok.standing) told_1 told_2 (turn_far c.in-Ok.standing) c.power_disks.ensures.calls) c.in-Ok.ensures.map

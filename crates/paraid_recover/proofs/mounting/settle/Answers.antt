@@ -1,0 +1,205 @@
+use Rattle.std.specs.Prelude.{◌≡◌, ℕ, Option}
+use Rattle.std.proofs.Common.{ap, refl, subst, sym, ◌∙◌}
+use Rattle.paraid_rack.specs.Slots.{Slot}
+use Rattle.paraid_rack.specs.Told.{Ran}
+use Rattle.paraid_rack.specs.Trail.{Trail}
+use Rattle.paraid_record.specs.declared.meta.Meta.{Meta}
+use Rattle.paraid_image.specs.Out.{first_absent, named_out, or_else}
+use Rattle.paraid_image.specs.Sides.{LogState}
+use Rattle.paraid_txn.specs.Losses.{AreFailedOrWell, IsOneOut, OnlyLosesSlots}
+use Rattle.paraid_txn.specs.Stores.{store_out, store_rack}
+use Rattle.paraid_txn.specs.Uses.{EachCall}
+use Rattle.paraid_view.proofs.TwoLemmas.{left_spared}
+use Rattle.paraid_recover.specs.HeldMoments.{Recovers}
+use Rattle.paraid_recover.specs.RecoveryMark.{to_mark}
+use Rattle.paraid_recover.specs.Mounted.{IsFit}
+use Rattle.paraid_dirty.specs.Table.{is_dirty}
+use Rattle.paraid_recover.specs.Quiet.{IsInLog, IsReadOrSync}
+use Rattle.paraid_recover.proofs.FarLemmas.{far_ran, log_far, map_on, map_read, quiet_far}
+use Rattle.paraid_recover.proofs.FitLemmas.{each_then, fit_stays, fit_with_mark, map_ready, marked_absent, marks, one_read, quiet_reads, quiet_syncs, spared_both, two_by_out, two_at, two_sooner}
+use Rattle.paraid_recover.proofs.RenewLemmas.{version_marked}
+use Rattle.paraid_recover.proofs.QuietCallsLemmas.{quiet_recovers}
+use Rattle.paraid_recover.proofs.mounting.settle.Given.{Over}
+use Rattle.paraid_recover.proofs.mounting.settle.Goals as goal
+use Rattle.paraid_recover.proofs.mounting.settle.Goals.{After-mark_out, After-read_map, After-sync_all}
+
+-- the disk that is out as it begins
+out_by : (g : Over) (c : After-read_map g) → store_out g.R.Rack.slot c.args.store.now
+    ≡ or_else (named_out c.args.meta.now.out) (first_absent (λ d. (g.R.Rack.slot (store_rack c.args.store.now) d).power) c.args.meta.now.setup.geometry.disks)
+out_by g c =
+    ap (λ (o : Option ℕ). or_else o (first_absent (λ d. (g.R.Rack.slot (store_rack c.args.store.now) d).power) c.args.store.now.disks)) c.requires.named
+    ∙ ap (λ (n : ℕ). or_else (named_out c.args.meta.now.out) (first_absent (λ d. (g.R.Rack.slot (store_rack c.args.store.now) d).power) n)) c.requires.disks
+
+pub read_map-requires-clause-ready : goal.read_map-requires-clause-ready
+read_map-requires-clause-ready g c =
+    map_ready (g.R.Rack.slot_count (store_rack c.args.store.now)) (g.R.Rack.slot (store_rack c.args.store.now)) c.args.meta.now c.requires.fit (store_out g.R.Rack.slot c.args.store.now)
+    (ap (λ (o : Option ℕ). or_else o (first_absent (λ d. (g.R.Rack.slot (store_rack c.args.store.now) d).power) c.args.store.now.disks)) c.requires.named
+    ∙ ap (λ (n : ℕ). or_else (named_out c.args.meta.now.out) (first_absent (λ d. (g.R.Rack.slot (store_rack c.args.store.now) d).power) n)) c.requires.disks)
+
+-- reads and syncs after what was recovered
+on : (said : LogState) (m : Meta) (n : ℕ) → n ≡ m.setup.geometry.disks → said.meta ≡ m → n ≡ said.meta.setup.geometry.disks
+on said m n is same = is ∙ ap (λ (o : Meta). o.setup.geometry.disks) (sym same)
+
+pub returns-in-Err-clause-each : goal.returns-in-Err-clause-each
+returns-in-Err-clause-each g c = c.read_map.ensures.each
+
+pub returns-in-Err-clause-two : goal.returns-in-Err-clause-two
+returns-in-Err-clause-two g c =
+    let at = goal.at.returns-in-Err-clause-two g c in
+    two_by_out c.args.meta.now.setup.geometry.disks (named_out c.args.meta.now.out) _ _ _ _ (out_by g at.After-read_map) c.in-Err.ensures.two.down
+
+pub returns-in-Err-clause-holds : goal.returns-in-Err-clause-holds
+returns-in-Err-clause-holds g c slots x said old is r =
+    let n_is = on said c.args.meta.now c.args.store.now.disks c.requires.disks is in
+    (quiet_recovers slots x said old (g.R.Rack.told (store_rack c.args.store.now)) (g.R.Rack.told (store_rack c.read_map.new.store))
+    (subst (λ (n : ℕ). Ran (g.R.Rack.told (store_rack c.args.store.now)) (g.R.Rack.told (store_rack c.read_map.new.store)) (EachCall (IsReadOrSync n))) n_is (quiet_reads c.args.store.now.disks _ _ c.in-Err.ensures.two.calls)) r).holds
+
+-- once the map was read
+abbrev slot_0 : (g : Over) (c : After-sync_all g) → ℕ → Slot
+slot_0 g c = g.R.Rack.slot (store_rack c.args.store.now)
+
+abbrev slot_1 : (g : Over) (c : After-sync_all g) → ℕ → Slot
+slot_1 g c = g.R.Rack.slot (store_rack c.read_map.new.store)
+
+abbrev slot_2 : (g : Over) (c : After-sync_all g) → ℕ → Slot
+slot_2 g c = g.R.Rack.slot (store_rack c.sync_all.new.self)
+
+first_spared : (g : Over) (c : After-sync_all g) → OnlyLosesSlots (slot_0 g c) (slot_1 g c)
+first_spared g c = left_spared c.in_default.field-0 (slot_0 g c) (slot_1 g c) c.in_default.ensures.read.left
+
+synced_recovers : (g : Over) (c : After-sync_all g) (slots x : ℕ) (said : LogState) (old : Option Trail) → said.meta ≡ c.args.meta.now → Recovers slots x said old (g.R.Rack.told (store_rack c.args.store.now))
+    → Recovers slots x said old (g.R.Rack.told (store_rack c.sync_all.new.self))
+synced_recovers g c slots x said old is r =
+    let told_0 = g.R.Rack.told (store_rack c.args.store.now) in
+    let told_1 = g.R.Rack.told (store_rack c.read_map.new.store) in
+    let told_2 = g.R.Rack.told (store_rack c.sync_all.new.self) in
+    let n_is = on said c.args.meta.now c.args.store.now.disks c.requires.disks is in
+    quiet_recovers slots x said old told_1 told_2
+    (subst (λ (n : ℕ). Ran told_1 told_2 (EachCall (IsReadOrSync n))) (c.in_default.ensures.read.same.disks ∙ n_is) (quiet_syncs c.read_map.new.store.disks _ _ _ c.sync_all.ensures.calls))
+    (quiet_recovers slots x said old told_0 told_1
+    (subst (λ (n : ℕ). Ran told_0 told_1 (EachCall (IsReadOrSync n))) n_is (quiet_reads c.args.store.now.disks _ _ c.in_default.ensures.read.calls)) r)
+
+pub returns-in-Err-sync_all-clause-each : goal.returns-in-Err-sync_all-clause-each
+returns-in-Err-sync_all-clause-each g c =
+    let at = goal.at.returns-in-Err-sync_all-clause-each g c in
+    each_then _ _ _ c.read_map.ensures.each c.sync_all.ensures.each (first_spared g at.After-sync_all).no_fall c.sync_all.ensures.powers.no_fall
+
+pub returns-in-Err-sync_all-clause-two : goal.returns-in-Err-sync_all-clause-two
+returns-in-Err-sync_all-clause-two g c =
+    let at = goal.at.returns-in-Err-sync_all-clause-two g c in
+    let same = c.in_default.ensures.read.same in
+    two_sooner c.args.meta.now.setup.geometry.disks (named_out c.args.meta.now.out) _ _ _ _ c.read_map.ensures.each (first_spared g at.After-sync_all).no_fall c.sync_all.ensures.powers.no_fall
+    (rw (← (same.disks ∙ c.requires.disks), ← (same.named ∙ c.requires.named)) c.in-Err-sync_all.ensures.two)
+
+pub returns-in-Err-sync_all-clause-holds : goal.returns-in-Err-sync_all-clause-holds
+returns-in-Err-sync_all-clause-holds g c slots x said old is r =
+    (synced_recovers g (goal.at.returns-in-Err-sync_all-clause-holds g c).After-sync_all slots x said old is r).holds
+
+-- once all disks were synced
+abbrev slot_3 : (g : Over) (c : After-mark_out g) → ℕ → Slot
+slot_3 g c = g.R.Rack.slot (store_rack c.mark_out.new.store)
+
+abbrev n : (g : Over) (c : After-mark_out g) → ℕ
+n g c = c.args.meta.now.setup.geometry.disks
+
+disks_is : (g : Over) (c : After-mark_out g) → c.sync_all.new.self.disks ≡ n g c
+disks_is g c = c.sync_all.ensures.same.disks ∙ c.in_default.ensures.read.same.disks ∙ c.requires.disks
+
+named_is : (g : Over) (c : After-mark_out g) → c.sync_all.new.self.named ≡ named_out c.args.meta.now.out
+named_is g c = c.sync_all.ensures.same.named ∙ c.in_default.ensures.read.same.named ∙ c.requires.named
+
+both_spared : (g : Over) (c : After-mark_out g) → OnlyLosesSlots (g.R.Rack.slot (store_rack c.args.store.now)) (g.R.Rack.slot (store_rack c.sync_all.new.self))
+both_spared g c =
+    spared_both _ _ _ (left_spared c.in_default.field-0 (g.R.Rack.slot (store_rack c.args.store.now)) (g.R.Rack.slot (store_rack c.read_map.new.store)) c.in_default.ensures.read.left) c.sync_all.ensures.powers
+
+both_each : (g : Over) (c : After-mark_out g) → AreFailedOrWell (g.R.Rack.slot (store_rack c.args.store.now)) (g.R.Rack.slot (store_rack c.sync_all.new.self))
+both_each g c =
+    each_then _ _ _ c.read_map.ensures.each c.sync_all.ensures.each
+    (left_spared c.in_default.field-0 (g.R.Rack.slot (store_rack c.args.store.now)) (g.R.Rack.slot (store_rack c.read_map.new.store)) c.in_default.ensures.read.left).no_fall c.sync_all.ensures.powers.no_fall
+
+one_out : (g : Over) (c : After-mark_out g) → IsOneOut (n g c) (named_out c.args.meta.now.out) (g.R.Rack.slot (store_rack c.sync_all.new.self))
+one_out g c =
+    let same = c.in_default.ensures.read.same in
+    let m = c.args.meta.now in
+    let slot = g.R.Rack.slot (store_rack c.args.store.now) in
+    let out_is : store_out g.R.Rack.slot c.args.store.now ≡ or_else (named_out m.out) (first_absent (λ d. (slot d).power) m.setup.geometry.disks) =
+    ap (λ (o : Option ℕ). or_else o (first_absent (λ d. (slot d).power) c.args.store.now.disks)) c.requires.named
+    ∙ ap (λ (k : ℕ). or_else (named_out m.out) (first_absent (λ d. (slot d).power) k)) c.requires.disks in
+    let read = one_read (n g c) (named_out m.out) c.in_default.field-0 slot (g.R.Rack.slot (store_rack c.read_map.new.store)) c.in_default.ensures.read.left
+    (λ e is. sym out_is ∙ (c.in_default.ensures.alone e is).1) c.requires.fit.one in
+    subst (λ (o : Option ℕ). IsOneOut (n g c) o (g.R.Rack.slot (store_rack c.sync_all.new.self))) (same.named ∙ c.requires.named)
+    (subst (λ (k : ℕ). IsOneOut k c.read_map.new.store.named (g.R.Rack.slot (store_rack c.sync_all.new.self))) (same.disks ∙ c.requires.disks)
+    (c.in_default-sync_all.ensures.one
+    (subst (λ (k : ℕ). IsOneOut k c.read_map.new.store.named (g.R.Rack.slot (store_rack c.read_map.new.store))) (sym (same.disks ∙ c.requires.disks))
+    (subst (λ (o : Option ℕ). IsOneOut (n g c) o (g.R.Rack.slot (store_rack c.read_map.new.store))) (sym (same.named ∙ c.requires.named)) read))))
+
+fits : (g : Over) (c : After-mark_out g) → IsFit (g.R.Rack.slot_count (store_rack c.args.store.now)) (g.R.Rack.slot (store_rack c.sync_all.new.self)) c.args.meta.now
+fits g c = fit_stays _ _ _ c.args.meta.now (both_spared g c) (one_out g c) c.requires.fit
+
+pub returns-in-Ok-clause-given : goal.returns-in-Ok-clause-given
+returns-in-Ok-clause-given g c =
+    let at = goal.at.returns-in-Ok-clause-given g c in (
+      to_mark (λ d. (g.R.Rack.slot (store_rack c.sync_all.new.self) d).power) c.args.meta.now,
+      c.in-Ok.ensures.given,
+      λ d is. marked_absent _ (slot_3 g at.After-mark_out) c.args.meta.now d c.requires.fit.in_range is c.mark_out.ensures.powers,
+      λ d is. (marks _ c.args.meta.now d c.requires.fit.in_range is).2,
+    )
+
+pub returns-in-Ok-clause-version : goal.returns-in-Ok-clause-version
+returns-in-Ok-clause-version g c =
+    ap (λ (x : Meta). x.version) c.in-Ok.ensures.given ∙ version_marked c.args.meta.now (to_mark (λ d. (g.R.Rack.slot (store_rack c.sync_all.new.self) d).power) c.args.meta.now) c.requires.fit.in_range
+
+pub returns-in-Ok-clause-fit : goal.returns-in-Ok-clause-fit
+returns-in-Ok-clause-fit g c =
+    let at = (goal.at.returns-in-Ok-clause-fit g c).After-mark_out in
+    let m = c.args.meta.now in
+    let o = to_mark (λ d. (g.R.Rack.slot (store_rack c.sync_all.new.self) d).power) m in
+    let count = c.mark_out.ensures.slots ∙ c.sync_all.ensures.slots ∙ c.in_default.ensures.read.slots in
+    let one = subst (λ (k : ℕ). IsOneOut k (named_out c.in-Ok.marked.out) (slot_3 g at)) (disks_is g at)
+    (c.in-Ok.ensures.one
+    (subst (λ (k : ℕ). IsOneOut k c.sync_all.new.self.named (g.R.Rack.slot (store_rack c.sync_all.new.self))) (sym (disks_is g at))
+    (subst (λ (x : Option ℕ). IsOneOut (n g at) x (g.R.Rack.slot (store_rack c.sync_all.new.self))) (sym (named_is g at)) (one_out g at)))) in
+    subst (λ (k : ℕ). IsFit k (slot_3 g at) c.in-Ok.marked) (sym count)
+    (subst (λ (x : Meta). IsFit (g.R.Rack.slot_count (store_rack c.args.store.now)) (slot_3 g at) x) (sym c.in-Ok.ensures.given)
+    (fit_with_mark _ _ (slot_3 g at) m o refl (fits g at) c.mark_out.ensures.powers c.requires.few
+    (subst (λ (x : Meta). IsOneOut (n g at) (named_out x.out) (slot_3 g at)) c.in-Ok.ensures.given one)))
+
+pub returns-in-Ok-clause-holds : goal.returns-in-Ok-clause-holds
+returns-in-Ok-clause-holds g c slots x said old is r =
+    c.mark_out.ensures.holds slots x said old is (synced_recovers g (goal.at.returns-in-Ok-clause-holds g c).After-sync_all slots x said old is r)
+
+pub returns-in-Ok-clause-ends : goal.returns-in-Ok-clause-ends
+returns-in-Ok-clause-ends g c slots x said old is r =
+    c.in-Ok.ensures.ends slots x said old is (synced_recovers g (goal.at.returns-in-Ok-clause-ends g c).After-sync_all slots x said old is r)
+
+pub returns-in-Err-mark_out-clause-powers : goal.returns-in-Err-mark_out-clause-powers
+returns-in-Err-mark_out-clause-powers g c = spared_both _ _ _ (both_spared g (goal.at.returns-in-Err-mark_out-clause-powers g c).After-mark_out) c.mark_out.ensures.powers
+
+pub returns-in-Err-mark_out-clause-two : goal.returns-in-Err-mark_out-clause-two
+returns-in-Err-mark_out-clause-two g c =
+    let at = (goal.at.returns-in-Err-mark_out-clause-two g c).After-mark_out in
+    let m = c.args.meta.now in
+    two_sooner (n g at) (named_out m.out) _ _ _ _ (both_each g at) (both_spared g at).no_fall c.mark_out.ensures.powers.no_fall
+    (two_at (n g at) _ (named_out m.out) _ (to_mark (λ d. (g.R.Rack.slot (store_rack c.sync_all.new.self) d).power) m) (g.R.Rack.slot (store_rack c.sync_all.new.self)) (slot_3 g at) c.in-Err-mark_out.two
+    (disks_is g at) (named_is g at) (λ d is. let it = marks _ m d c.requires.fit.in_range is in (it.0, it.1)) c.in-Err-mark_out.ensures.two)
+
+pub returns-in-Err-mark_out-clause-holds : goal.returns-in-Err-mark_out-clause-holds
+returns-in-Err-mark_out-clause-holds g c slots x said old is r =
+    c.mark_out.ensures.holds slots x said old is (synced_recovers g (goal.at.returns-in-Err-mark_out-clause-holds g c).After-sync_all slots x said old is r)
+
+pub returns-in-Ok-clause-map : goal.returns-in-Ok-clause-map
+returns-in-Ok-clause-map g c =
+    let told_0 = g.R.Rack.told (store_rack c.args.store.now) in
+    let told_1 = g.R.Rack.told (store_rack c.read_map.new.store) in
+    let told_2 = g.R.Rack.told (store_rack c.sync_all.new.self) in
+    let told_3 = g.R.Rack.told (store_rack c.mark_out.new.store) in
+    let geometry = c.args.meta.now.setup.geometry in
+    let out = store_out g.R.Rack.slot c.args.store.now in
+    let dirty = is_dirty c.read_map.new.table in
+    let n_0 = c.args.store.now.disks in
+    let n_1 = c.read_map.new.store.disks in
+    let n_2 = c.sync_all.new.self.disks in
+    map_on geometry out dirty told_0 told_2 told_3 (far_ran (IsInLog n_2) told_2 told_3 (log_far n_2) c.mark_out.ensures.calls)
+    (map_on geometry out dirty told_0 told_1 told_2 (far_ran (IsReadOrSync n_1) told_1 told_2 (quiet_far n_1) (quiet_syncs n_1 _ told_1 told_2 c.sync_all.ensures.calls))
+    (map_read geometry out c.in_default.field-0 dirty told_0 told_1 (far_ran (IsReadOrSync n_0) told_0 told_1 (quiet_far n_0) (quiet_reads n_0 told_0 told_1 c.in_default.ensures.read.calls))
+    (λ e is. (c.in_default.ensures.alone e is).1) c.in_default.ensures.shows))

@@ -1,0 +1,16 @@
+use Rattle.std.proofs.Common.{arith}
+use Rattle.paraid_recover.proofs.PowersLemmas.{powers_none, powers_raised, powers_then}
+use Rattle.paraid_recover.proofs.powers.power_disks.Goals as goal
+
+pub loop-disk-init : goal.loop-disk-init
+loop-disk-init g c = record { part = powers_none g.R.Rack c.args.meta.now c.args.store.now }
+
+pub loop-disk-preserved : goal.loop-disk-preserved
+loop-disk-preserved g c = record {
+  part = powers_then g.R.Rack c.args.meta.now c.loop-disk.disk c.args.store.now c.loop-disk.store c.power_disk.new.store c.loop-disk.invariant.part c.in_ok-power_disk.ensures;
+}
+
+pub returns-in_err-power_disk : goal.returns-in_err-power_disk
+returns-in_err-power_disk g c =
+    powers_raised g.R.Rack c.args.meta.now c.loop-disk.disk c.args.store.now c.loop-disk.store c.power_disk.new.store c.from_residual.result c.in_err-power_disk.field-0.0 (omega arith)
+    c.from_residual.ensures.1 c.loop-disk.invariant.part c.in_err-power_disk.ensures

@@ -1,0 +1,99 @@
+use Rattle.std.specs.Prelude.{◌≡◌, ◌+◌, ℕ, [], Option, Some}
+use Rattle.std.proofs.Common.{ap, subst, sym, ◌∙◌}
+use Rattle.paraid_rack.specs.Told.{Ran}
+use Rattle.paraid_rack.specs.Trail.{Trail}
+use Rattle.paraid_record.specs.declared.meta.Meta.{Meta}
+use Rattle.paraid_image.specs.Sides.{Batch, LogState}
+use Rattle.paraid_txn.specs.Commit.{EndsCommitted, IsWholeOrAbsent}
+use Rattle.paraid_txn.specs.Losses.{IsAlone, IsOneOut, IsOutOfCommit, AreTwoDownBeside}
+use Rattle.paraid_txn.specs.Uses.{EachCall, Uses}
+use Rattle.paraid_txn.proofs.CommitPartLemmas.{EachCall-milder, ran_milder}
+use Rattle.paraid_txn.proofs.SyncLemmas.{raised}
+use Rattle.paraid_recover.specs.HeldMoments.{EndsHeld, Recovers, RecoversHeld}
+use Rattle.paraid_recover.specs.Quiet.{IsInLog}
+use Rattle.paraid_recover.specs.RecoveryMark.{of_version_two}
+use Rattle.paraid_recover.proofs.FitLemmas.{two_named}
+use Rattle.paraid_recover.proofs.OneMarkedLemmas.{in_log}
+use Rattle.paraid_recover.proofs.RenewLemmas.{after, one_kept, renew_ends, renew_recovers}
+use Rattle.paraid_recover.proofs.recovery.renew.Given.{Over}
+use Rattle.paraid_recover.proofs.recovery.renew.Goals as goal
+use Rattle.paraid_recover.proofs.recovery.renew.Goals.{After-commit}
+
+-- no commit is made
+pub returns-then-meta-ne1-clause-one : goal.returns-then-meta-ne1-clause-one
+returns-then-meta-ne1-clause-one g c one = subst (λ (o : Option ℕ). IsOneOut c.args.store.now.disks o (g.R.Rack.slot c.args.store.now.rack)) c.requires.named one
+
+pub returns-then-meta-ne1-clause-ends : goal.returns-then-meta-ne1-clause-ends
+returns-then-meta-ne1-clause-ends g c slots x said old is recovers =
+    subst (λ (m : Meta). EndsHeld slots x said m old (g.R.Rack.told c.args.store.now.rack)) is recovers.ends
+
+-- the commit
+abbrev told_0 : (g : Over) (c : After-commit g) → Option Trail
+told_0 g c = g.R.Rack.told c.args.store.now.rack
+
+abbrev told_1 : (g : Over) (c : After-commit g) → Option Trail
+told_1 g c = g.R.Rack.told c.commit.new.self.rack
+
+whole : (g : Over) (c : After-commit g) (m : Meta) → m ≡ c.args.meta.now → IsWholeOrAbsent (told_0 g c) (told_1 g c) m (after m) []
+whole g c m is =
+    subst (λ (n : Meta). IsWholeOrAbsent (told_0 g c) (told_1 g c) n (after n) []) (sym is)
+    (subst (λ (b : Batch). IsWholeOrAbsent (told_0 g c) (told_1 g c) c.args.meta.now (after c.args.meta.now) b) c.requires.empty
+    (subst (λ (e : ℕ). IsWholeOrAbsent (told_0 g c) (told_1 g c) c.args.meta.now (record c.args.meta.now { version = 2; epoch = e + 1 }) c.args.nothing.now) c.requires.epoch
+    (c.commit.ensures.any_moment c.args.meta.now c.requires.named)))
+
+holds : (g : Over) (c : After-commit g) (slots x : ℕ) (said : LogState) (old : Option Trail) → said.meta ≡ c.args.meta.now → Recovers slots x said old (told_0 g c) → RecoversHeld slots x said old (told_1 g c)
+holds g c slots x said old is recovers = renew_recovers slots x said old (told_0 g c) (told_1 g c) recovers.holds recovers.ends (whole g c said.meta is)
+
+log_calls : (g : Over) (c : After-commit g) → Ran (told_0 g c) (told_1 g c) (EachCall (IsInLog c.args.store.now.disks))
+log_calls g c =
+    let next = of_version_two c.args.meta.now in
+    ran_milder (EachCall (Uses next [])) (EachCall (IsInLog c.args.store.now.disks))
+    (EachCall-milder (Uses next []) (IsInLog c.args.store.now.disks) (λ call uses. subst (λ (n : ℕ). IsInLog n call) (sym c.requires.disks) (in_log next call uses)))
+    (subst (λ (b : Batch). Ran (told_0 g c) (told_1 g c) (EachCall (Uses next b))) c.requires.empty c.commit.ensures.calls)
+
+pub returns-in_err-commit-clause-calls : goal.returns-in_err-commit-clause-calls
+returns-in_err-commit-clause-calls g c = log_calls g (goal.at.returns-in_err-commit-clause-calls g c).After-commit
+
+pub returns-in_err-commit-clause-two : goal.returns-in_err-commit-clause-two
+returns-in_err-commit-clause-two g c =
+    let n = c.args.store.now.disks in
+    let named = c.args.store.now.named in
+    let a = g.R.Rack.slot c.args.store.now.rack in
+    let b = g.R.Rack.slot c.commit.new.self.rack in
+    raised _ _ _ c.from_residual.ensures.1
+    (two_named n named a b c.in_err-commit.field-0.0
+    (subst (λ (o : Option ℕ). AreTwoDownBeside (IsOutOfCommit (λ e. (a e).power) n named o) a b c.in_err-commit.field-0.0) (sym c.requires.named) c.in_err-commit.ensures.two))
+
+pub returns-in_err-commit-clause-holds : goal.returns-in_err-commit-clause-holds
+returns-in_err-commit-clause-holds g c = holds g (goal.at.returns-in_err-commit-clause-holds g c).After-commit
+
+pub returns-clause-one : goal.returns-clause-one
+returns-clause-one g c one =
+    let n = c.args.store.now.disks in
+    let named = c.args.store.now.named in
+    let a = g.R.Rack.slot c.args.store.now.rack in
+    let b = g.R.Rack.slot c.commit.new.self.rack in
+    let it = c.in_ok-commit in
+    subst (λ (o : Option ℕ). IsOneOut n o b) c.requires.named
+    (one_kept n named it.field-0 a b it.ensures.well
+    (subst (λ (o : Option ℕ). (d : ℕ) → it.field-0 ≡ Some d → IsAlone n (IsOutOfCommit (λ e. (a e).power) n named o) d) (sym c.requires.named) it.ensures.alone) one)
+
+pub returns-clause-calls : goal.returns-clause-calls
+returns-clause-calls g c = log_calls g (goal.at.returns-clause-calls g c).After-commit
+
+pub returns-clause-holds : goal.returns-clause-holds
+returns-clause-holds g c = holds g (goal.at.returns-clause-holds g c).After-commit
+
+pub returns-clause-ends : goal.returns-clause-ends
+returns-clause-ends g c slots x said old is recovers =
+    let at = (goal.at.returns-clause-ends g c).After-commit in
+    let m = c.args.meta.now in
+    let epoch : c.epoch.result ≡ m.epoch + 1 = c.epoch.ensures ∙ c.in_ok-commit.ensures.epoch ∙ ap (λ (k : ℕ). k + 1) c.requires.epoch in
+    let commits : EndsCommitted (told_0 g at) (told_1 g at) m (after m) [] =
+    subst (λ (b : Batch). EndsCommitted (told_0 g at) (told_1 g at) m (after m) b) c.requires.empty
+    (subst (λ (e : ℕ). EndsCommitted (told_0 g at) (told_1 g at) m (record m { version = 2; epoch = e + 1 }) c.args.nothing.now) c.requires.epoch
+    (c.in_ok-commit.ensures.committed m c.requires.named)) in
+    subst (λ (e : ℕ). EndsHeld slots x said (record m { version = 2; epoch = e }) old (told_1 g at)) (sym epoch)
+    (subst (λ (n : Meta). EndsHeld slots x said (after n) old (told_1 g at)) is
+    (renew_ends slots x said old (told_0 g at) (told_1 g at) recovers.holds recovers.ends (whole g at said.meta is)
+    (subst (λ (n : Meta). EndsCommitted (told_0 g at) (told_1 g at) n (after n) []) (sym is) commits)))

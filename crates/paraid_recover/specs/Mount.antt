@@ -1,0 +1,59 @@
+-- What a mount promises: what is told of it, and why it is refused.
+use Rattle.std.specs.Prelude.{◌≡◌, ℕ, Bool, Option, Some, None}
+use Rattle.paraid_base.specs.declared.fault.Two.{Two}
+use Rattle.paraid_rack.specs.Slots.{Slot}
+use Rattle.paraid_rack.specs.Told.{Ran}
+use Rattle.paraid_rack.specs.Trail.{Trail, now}
+use Rattle.paraid_record.specs.declared.meta.Meta.{Meta}
+use Rattle.paraid_image.specs.Out.{named_out}
+use Rattle.paraid_image.specs.Sides.{LogState}
+use Rattle.paraid_image.specs.Standing.{Stands}
+use Rattle.paraid_mount.specs.declared.fault.MountFault.{MountFault}
+use Rattle.paraid_mount.specs.declared.fault.MountFault.TheVariants.{NoMemory, Two as BothMissing}
+use Rattle.paraid_mount.specs.Examined.{IsExamined, IsRefused}
+use Rattle.paraid_sides.specs.HeardSides.{IsReadLosing, IsReadOnly, ReadsLogs}
+use Rattle.paraid_txn.specs.Losses.{IsOutOfCommit, AreTwoDownBeside}
+use Rattle.paraid_txn.specs.Uses.{EachCall}
+use Rattle.paraid_recover.specs.HeldMoments.{EndsHeld, RecoversHeld, ShowsAtEnd}
+use Rattle.paraid_recover.specs.Mounted.{with_loss}
+use Rattle.paraid_recover.specs.RecoveryMark.{with_mark}
+
+-- What is told of a mount that is not refused before a write: the log disks were read, and log disk
+-- `side` stands and says this then; from there on each moment holds what was held.
+pub record HasRecovered (side : ℕ) (said : LogState) (old new : Option Trail) : Type 0 where
+  pub read : Option Trail
+  pub reads : IsReadOnly old read
+  pub stands : (t : Trail) → read ≡ Some t → Stands (now t) side said
+  pub holds : (slots : ℕ) → RecoversHeld slots side said read new
+
+-- At its end the disks are at rest under the meta that stands, of version 2, which is this one, but
+-- for a disk that was lost since the last commit; and hold the writes that it counts. These are then
+-- its dirty cells.
+pub record HasSettled (side : ℕ) (said : LogState) (m : Meta) (dirty : ℕ → ℕ → Bool) (old new : Option Trail) : Type 0 where
+  pub recovered : HasRecovered side said old new
+  pub standing : Meta
+  pub lost : Option ℕ
+  pub is : m ≡ with_loss standing lost
+  pub version_is : standing.version ≡ 2
+  -- it is the meta that the log disk said, or that of one commit after it: with version 2, and with this
+  -- disk marked or none
+  pub mark : Option ℕ
+  pub standing_is : standing ≡ with_mark said.meta mark
+  pub ends : (slots : ℕ) → EndsHeld slots side said standing recovered.read new
+  pub map : (slots : ℕ) → ShowsAtEnd slots side said standing dirty recovered.read new
+
+-- Only reads of the log disks are told.
+pub record HasOnlyRead (old new : Option Trail) : Type 0 where
+  pub calls : Ran old new (EachCall ReadsLogs)
+  pub quiet : IsReadLosing old new
+
+-- Why a mount is refused: for want of memory or by what the reads of the log disks found, after
+-- these reads alone; or because a second disk is down.
+pub data IsCauseOfRefusal (count : ℕ) (old new : ℕ → Slot) (told_old told_new : Option Trail) (fault : MountFault) : Type 0 where
+  no_memory : fault ≡ NoMemory → HasOnlyRead told_old told_new → IsCauseOfRefusal count old new told_old told_new fault
+  examined : IsRefused count old new told_new fault → HasOnlyRead told_old told_new → IsCauseOfRefusal count old new told_old told_new fault
+  -- the first was out after the reads, by what stands then, or has failed since; then the second has
+  two_down : (read : ℕ → Slot) (side : ℕ) (said : LogState) (two : Two) (recovered : HasRecovered side said told_old told_new)
+      → IsExamined count old read recovered.read side said → fault ≡ BothMissing two
+      → AreTwoDownBeside (IsOutOfCommit (λ d. (read d).power) said.meta.setup.geometry.disks (named_out said.meta.out) None) read new two
+      → IsCauseOfRefusal count old new told_old told_new fault

@@ -1,0 +1,290 @@
+//! A mount: an array of the disks that a rack brings, or why there is none.
+ghost use Rattle.std.specs.Prelude.{◌≡◌, ◌≢◌, ℕ, ◌+◌, ◌^◌, ◌<◌, ◌≤◌, ◌⊎◌, [], false, length, Option, Some, None, OnOk, IfErr, IfOk};
+ghost use Rattle.paraid_dirty.specs.Table.{is_dirty};
+ghost use Rattle.paraid_base.specs.declared.fault.Two.{Two as TwoType};
+ghost use Rattle.paraid_base.specs.Told.{HasRisen};
+ghost use Rattle.paraid_mount.specs.Examined.{IsExamined};
+ghost use Rattle.paraid_rack.specs.Slots.{Slot};
+ghost use Rattle.paraid_sides.specs.HeardSides.{IsReadOnly};
+ghost use Rattle.paraid_mount.specs.declared.fault.MountFault.TheVariants.{Two as BothMissing};
+ghost use Rattle.paraid_txn.specs.Resume.{CanResume, log_state};
+ghost use Rattle.paraid_rack.specs.declared.call.Power.TheVariants.{Absent};
+ghost use Rattle.paraid_rack.specs.Disks.{is_present};
+ghost use Rattle.paraid_record.specs.declared.meta.Meta.{Meta as MetaType};
+ghost use Rattle.paraid_record.specs.Range.{IsInRange};
+ghost use Rattle.paraid_rack.specs.Trail.{Trail};
+ghost use Rattle.paraid_image.specs.Out.{named_out as named_of};
+ghost use Rattle.paraid_image.specs.Sides.{LogState};
+ghost use Rattle.paraid_recover.specs.HeldMoments.{EndsHeld, Recovers, RecoversHeld, ShowsAtEnd};
+ghost use Rattle.paraid_recover.specs.Map.{HasMap, IsNarrow};
+ghost use Rattle.paraid_recover.specs.RecoveryMark.{to_mark, with_mark};
+ghost use Rattle.paraid_recover.specs.Mount.{HasSettled, IsCauseOfRefusal};
+ghost use Rattle.paraid_recover.specs.Mounted.{AreAllSynced, IsFit, IsServable, with_loss as with_loss_of};
+ghost use Rattle.paraid_txn.specs.Losses.{AreFailedOrWell, IsOutOfCommit, OnlyLosesSlots, AreTwoDownBeside};
+ghost use Rattle.paraid_txn.specs.Stores.{disks_of, epoch_of, named_of as named_by, store_out, store_rack};
+
+use crate::map::read_map;
+use crate::marking::marked;
+use crate::powers::power_disks;
+use crate::recovery::{mark_out, unmarked};
+use paraid_base::Two;
+use paraid_dirty::DirtyTable;
+use paraid_mount::{MountFault, Standing, examine};
+use paraid_rack::Rack;
+use paraid_record::Meta;
+use paraid_txn::{Batch, Store};
+use std::alloc::Global;
+
+// After an interrupted commit was ended: the map is read, all disks are synced, an absent disk is
+// marked, and a meta of version 1 is brought to version 2. It gives the meta that stands then.
+fn settle<R: Rack>(
+    store: &mut Store<R>,
+    nothing: &Batch,
+    meta: &Meta,
+    table: &mut DirtyTable,
+) -> Result<Meta, Two>
+    requires empty { nothing.now ≡ [] }
+    requires fit { IsFit (R.slot_count (store_rack store.old)) (R.slot (store_rack store.old)) meta.now }
+    requires few { meta.now.epoch < 2 ^ 62 }
+    requires disks { disks_of store.old ≡ meta.now.setup.geometry.disks }
+    requires named { named_by store.old ≡ named_of meta.now.out }
+    requires epoch { epoch_of store.old ≡ meta.now.epoch }
+    requires rows { length table.old ≡ meta.now.setup.geometry.rows }
+    requires narrow { IsNarrow (is_dirty table.old) }
+    ensures rows { length table.new ≡ length table.old }
+    ensures narrow { IsNarrow (is_dirty table.new) }
+    ensures slots { R.slot_count (store_rack store.new) ≡ R.slot_count (store_rack store.old) }
+    ensures disks { disks_of store.new ≡ disks_of store.old }
+    ensures epoch { IfOk result (λ m. m.epoch ≡ epoch_of store.new) }
+    ensures named { IfOk result (λ m. named_of m.out ≡ named_by store.new) }
+    ensures version { IfOk result (λ m. m.version ≡ 2) }
+    ensures given { IfOk result (λ m. (lost : Option ℕ) × (m ≡ with_mark meta.now lost)
+        × ((d : ℕ) → lost ≡ Some d → (is_present (R.slot (store_rack store.new) d).power ≡ false)
+        × (d < meta.now.setup.geometry.disks))
+        × ((d : ℕ) → lost ≡ Some d → (e : ℕ) → named_of meta.now.out ≡ Some e → e ≡ d)) }
+    ensures fit { IfOk result (IsFit (R.slot_count (store_rack store.new))
+        (R.slot (store_rack store.new))) }
+    ensures synced { IfOk result (λ m. AreAllSynced m (R.slot (store_rack store.new))) }
+    ensures powers { OnlyLosesSlots (R.slot (store_rack store.old)) (R.slot (store_rack store.new)) }
+    ensures each { AreFailedOrWell (R.slot (store_rack store.old)) (R.slot (store_rack store.new)) }
+    ensures two { IfErr result (AreTwoDownBeside (IsOutOfCommit (λ e. (R.slot (store_rack store.old) e).power)
+        meta.now.setup.geometry.disks (named_of meta.now.out) None)
+        (R.slot (store_rack store.old)) (R.slot (store_rack store.new))) }
+    ensures holds { (slots x : ℕ) (said : LogState) (old : Option Trail) → said.meta ≡ meta.now
+        → Recovers slots x said old (R.told (store_rack store.old))
+        → RecoversHeld slots x said old (R.told (store_rack store.new)) }
+    ensures ends { IfOk result (λ m. (slots x : ℕ) (said : LogState) (old : Option Trail)
+        → said.meta ≡ meta.now → Recovers slots x said old (R.told (store_rack store.old))
+        → EndsHeld slots x said m old (R.told (store_rack store.new))) }
+    ensures map { IfOk result (λ m. HasMap meta.now.setup.geometry (store_out R.slot store.old)
+        (is_dirty table.new) (R.told (store_rack store.old)) (R.told (store_rack store.new))) }
+{
+    if let Err(two) = read_map(store, meta, table) {
+        return Err(two);
+    }
+    if let Err(two) = store.sync_all(meta.out.gone()) {
+        return Err(two);
+    }
+    match mark_out(store, nothing, meta) {
+        Ok(marked) => Ok(marked),
+        Err(two) => Err(two),
+    }
+}
+
+// The meta that stands, with a disk that was lost since marked in memory.
+fn with_loss<R: Rack>(store: &Store<R>, meta: &Meta) -> Meta
+    requires named { named_by store.now ≡ named_of meta.now.out }
+    requires in_range { IsInRange meta.now }
+    requires exists { meta.now.setup.geometry.disks ≤ R.slot_count (store_rack store.now) }
+    requires disks { disks_of store.now ≡ meta.now.setup.geometry.disks }
+    ensures { result ≡ with_loss_of meta.now
+        (to_mark (λ d. (R.slot (store_rack store.now) d).power) meta.now) }
+{
+    match unmarked(store, meta) {
+        None => *meta,
+        Some(disk) => marked(meta, disk),
+    }
+}
+
+// The last steps: after those above the disks are powered by the gear. It gives the meta with which
+// the array is served.
+fn raise<R: Rack>(
+    store: &mut Store<R>,
+    nothing: &Batch,
+    meta: &Meta,
+    table: &mut DirtyTable,
+) -> Result<Meta, Two>
+    requires empty { nothing.now ≡ [] }
+    requires fit { IsFit (R.slot_count (store_rack store.old)) (R.slot (store_rack store.old)) meta.now }
+    requires few { meta.now.epoch < 2 ^ 62 }
+    requires disks { disks_of store.old ≡ meta.now.setup.geometry.disks }
+    requires named { named_by store.old ≡ named_of meta.now.out }
+    requires epoch { epoch_of store.old ≡ meta.now.epoch }
+    requires rows { length table.old ≡ meta.now.setup.geometry.rows }
+    requires narrow { IsNarrow (is_dirty table.old) }
+    ensures rows { length table.new ≡ length table.old }
+    ensures narrow { IsNarrow (is_dirty table.new) }
+    ensures slots { R.slot_count (store_rack store.new) ≡ R.slot_count (store_rack store.old) }
+    ensures servable { IfOk result (λ m. IsServable (R.slot_count (store_rack store.new))
+        (R.slot (store_rack store.new)) (epoch_of store.new) (disks_of store.new)
+        (named_by store.new) m (length table.new)) }
+    ensures two { IfErr result (AreTwoDownBeside (IsOutOfCommit (λ e. (R.slot (store_rack store.old) e).power)
+        meta.now.setup.geometry.disks (named_of meta.now.out) None)
+        (R.slot (store_rack store.old)) (R.slot (store_rack store.new))) }
+    ensures later { (d : ℕ) → (R.slot (store_rack store.old) d).faults
+        ≤ (R.slot (store_rack store.new) d).faults }
+    ensures failed { (d : ℕ) → (R.slot (store_rack store.new) d).power ≡ Absent
+        → ((R.slot (store_rack store.old) d).power ≡ Absent)
+        ⊎ HasRisen (R.slot (store_rack store.old) d).faults (R.slot (store_rack store.new) d).faults }
+    ensures holds { (slots x : ℕ) (said : LogState) (old : Option Trail) → said.meta ≡ meta.now
+        → Recovers slots x said old (R.told (store_rack store.old))
+        → RecoversHeld slots x said old (R.told (store_rack store.new)) }
+    ensures absent { (d : ℕ) → (R.slot (store_rack store.old) d).power ≡ Absent
+        → (R.slot (store_rack store.new) d).power ≡ Absent }
+    ensures ends { IfOk result (λ m. (standing : MetaType) × (lost : Option ℕ)
+        × (m ≡ with_loss_of standing lost) × (standing.setup ≡ meta.now.setup)
+        × ((d : ℕ) → named_of meta.now.out ≡ Some d → named_of standing.out ≡ Some d)
+        × (standing.version ≡ 2) × ((mark : Option ℕ) × (standing ≡ with_mark meta.now mark))
+        × ((slots x : ℕ) (said : LogState) (old : Option Trail)
+        → said.meta ≡ meta.now → Recovers slots x said old (R.told (store_rack store.old))
+        → EndsHeld slots x said standing old (R.told (store_rack store.new)))) }
+    ensures map { IfOk result (λ m. HasMap meta.now.setup.geometry (store_out R.slot store.old)
+        (is_dirty table.new) (R.told (store_rack store.old)) (R.told (store_rack store.new))) }
+{
+    let standing = match settle(store, nothing, meta, table) {
+        Ok(standing) => standing,
+        Err(two) => return Err(two),
+    };
+    if let Err(two) = power_disks(store, &standing) {
+        return Err(two);
+    }
+    Ok(with_loss(store, &standing))
+}
+
+/// An array that was mounted. No batch is staged.
+#[derive(Drop)]
+pub struct Mounted<R: Rack> {
+    pub store: Store<R>,
+    pub meta: Meta,
+    pub dirty: DirtyTable,
+    pub batch: Batch,
+}
+
+/// A rack is not mounted, and is handed back.
+#[derive(Drop)]
+pub struct MountRefused<R: Rack> {
+    pub fault: MountFault,
+    pub rack: R,
+}
+
+// The interrupted commit is ended, and all steps after it are made.
+fn bring_up<R: Rack>(
+    rack: R,
+    standing: &Standing,
+    batch: Batch,
+    dirty: DirtyTable,
+) -> Result<Mounted<R>, MountRefused<R>>
+    requires can { CanResume (R.slot_count rack) (R.slot rack) standing.now.side
+        standing.now.gate_open batch standing.now.meta }
+    requires fit { IsFit (R.slot_count rack) (R.slot rack) standing.now.meta }
+    requires few { standing.now.meta.epoch < 2 ^ 62 }
+    requires rows { length dirty ≡ standing.now.meta.setup.geometry.rows }
+    requires narrow { IsNarrow (is_dirty dirty) }
+    ensures slots { IfOk result (λ it. R.slot_count (store_rack it.store) ≡ R.slot_count rack) }
+    ensures servable { IfOk result (λ it. IsServable (R.slot_count (store_rack it.store))
+        (R.slot (store_rack it.store)) (epoch_of it.store) (disks_of it.store)
+        (named_by it.store) it.meta (length it.dirty)) }
+    ensures nothing { IfOk result (λ it. it.batch ≡ []) }
+    ensures two { IfErr result (λ refused. (two : TwoType)
+        × (refused.fault ≡ BothMissing two) × AreTwoDownBeside (IsOutOfCommit (λ e. (R.slot rack e).power)
+        standing.now.meta.setup.geometry.disks (named_of standing.now.meta.out) None)
+        (R.slot rack) (R.slot refused.rack) two) }
+    ensures holds { IfOk result (λ it. (slots : ℕ) → RecoversHeld slots standing.now.side
+        (log_state standing.now.gate_open standing.now.meta batch) (R.told rack)
+        (R.told (store_rack it.store))) }
+    ensures refused { IfErr result (λ refused. (slots : ℕ) → RecoversHeld slots
+        standing.now.side (log_state standing.now.gate_open standing.now.meta batch)
+        (R.told rack) (R.told refused.rack)) }
+    ensures ends { IfOk result (λ it. (stands : MetaType) × (lost : Option ℕ)
+        × (it.meta ≡ with_loss_of stands lost) × (stands.version ≡ 2)
+        × ((mark : Option ℕ) × (stands ≡ with_mark standing.now.meta mark))
+        × ((slots : ℕ) → EndsHeld slots
+        standing.now.side (log_state standing.now.gate_open standing.now.meta batch) stands
+        (R.told rack) (R.told (store_rack it.store)))
+        × ((slots : ℕ) → ShowsAtEnd slots standing.now.side
+        (log_state standing.now.gate_open standing.now.meta batch) stands (is_dirty it.dirty)
+        (R.told rack) (R.told (store_rack it.store)))) }
+{
+    let meta = &standing.meta;
+    let mut store = match Store::resume(rack, standing.side, standing.gate_open, &batch, meta) {
+        Ok(store) => store,
+        Err(refused) => {
+            return Err(MountRefused {
+                fault: MountFault::Two(refused.two),
+                rack: refused.rack,
+            });
+        }
+    };
+    let mut batch = batch;
+    batch.clear();
+    let mut dirty = dirty;
+    match raise(&mut store, &batch, meta, &mut dirty) {
+        Ok(meta) => Ok(Mounted {
+            store,
+            meta,
+            dirty,
+            batch,
+        }),
+        Err(two) => Err(MountRefused {
+            fault: MountFault::Two(two),
+            rack: store.close(),
+        }),
+    }
+}
+
+/// Mounts an array: it examines what both log disks say, ends a commit that was interrupted, reads
+/// the dirty map, syncs all disks, marks an absent one and powers the others by the gear. A meta of
+/// version 1 comes to version 2, by the commit that marks a disk or by one of its own.
+///
+/// The memory for the dirty table is taken after reads alone and before the first write, that for
+/// the batch of the second log disk before all. What was in `batch` is dropped. A disk that fails
+/// goes out; where a second one is down, the mount names both.
+pub fn mount<R: Rack>(alloc: Global, batch: Batch, rack: R) -> Result<Mounted<R>, MountRefused<R>>
+    ensures slots { IfOk result (λ it. R.slot_count (store_rack it.store) ≡ R.slot_count rack) }
+    ensures servable { IfOk result (λ it. IsServable (R.slot_count (store_rack it.store))
+        (R.slot (store_rack it.store)) (epoch_of it.store) (disks_of it.store)
+        (named_by it.store) it.meta (length it.dirty)) }
+    ensures nothing { IfOk result (λ it. it.batch ≡ []) }
+    // no cause of a refusal is there, before the reads and after them
+    ensures served { IfOk result (λ it. (read : ℕ → Slot) × (told : Option Trail)
+        × (side : ℕ) × (said : LogState) × IsReadOnly (R.told rack) told
+        × IsExamined (R.slot_count rack) (R.slot rack) read told side said) }
+    ensures told { IfOk result (λ it. (side : ℕ) × (said : LogState) × HasSettled side said
+        it.meta (is_dirty it.dirty) (R.told rack) (R.told (store_rack it.store))) }
+    ensures refused { IfErr result (λ refused. IsCauseOfRefusal (R.slot_count rack)
+        (R.slot rack) (R.slot refused.rack) (R.told rack) (R.told refused.rack)
+        refused.fault) }
+{
+    let Ok(mut other) = Batch::new(alloc) else {
+        return Err(MountRefused {
+            fault: MountFault::NoMemory,
+            rack,
+        });
+    };
+    let mut rack = rack;
+    let mut batch = batch;
+    let standing = match examine(&mut rack, &mut batch, &mut other) {
+        Ok(standing) => standing,
+        Err(fault) => return Err(MountRefused { fault, rack }),
+    };
+    let Ok(dirty) = DirtyTable::new(alloc, standing.meta.setup.geometry.rows()) else {
+        return Err(MountRefused {
+            fault: MountFault::NoMemory,
+            rack,
+        });
+    };
+    match bring_up(rack, &standing, batch, dirty) {
+        Ok(mounted) => Ok(mounted),
+        Err(refused) => Err(refused),
+    }
+}

@@ -1,0 +1,14 @@
+pub mod CallsLemmas
+pub mod DownLemmas
+pub mod ReadsLemmas
+pub mod SetupLemmas
+pub mod FirstLemmas
+pub mod SpinsLemmas
+pub mod PartsLemmas
+pub mod BaseLemmas
+pub mod RestLemmas
+pub mod BeginsLemmas
+pub mod StillLemmas
+pub mod MayStandLemmas
+pub mod BeganLemmas
+pub mod MayLoseLemmas

@@ -1,0 +1,6 @@
+pub mod Calls
+pub mod Held
+pub mod First
+pub mod Recorded
+pub mod Parts
+pub mod MayStand

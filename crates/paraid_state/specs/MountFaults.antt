@@ -1,0 +1,24 @@
+-- Why an array was not mounted: the last line, and its status.
+use Rattle.std.specs.Prelude.{ℕ, List, ◌++◌, codes, decimal}
+use Rattle.paraid_mount.specs.declared.fault.MountFault.{MountFault}
+use Rattle.paraid_mount.specs.declared.fault.MountFault.TheVariants.{NotFormatted, BadLog, BadMeta, Size, Power, Two as TwoDown, Worn, NoMemory}
+
+abbrev pub mount_fault_line : MountFault → List ℕ
+mount_fault_line NotFormatted = codes "notformatted\n"
+mount_fault_line (BadLog disk) = codes "badlog " ++ decimal disk ++ codes "\n"
+mount_fault_line (BadMeta disk) = codes "badmeta " ++ decimal disk ++ codes "\n"
+mount_fault_line (Size disk found needed) = codes "size " ++ decimal disk ++ codes " " ++ decimal found ++ codes " " ++ decimal needed ++ codes "\n"
+mount_fault_line (Power disk) = codes "power " ++ decimal disk ++ codes "\n"
+mount_fault_line (TwoDown two) = codes "two " ++ decimal two.first ++ codes " " ++ decimal two.second ++ codes "\n"
+mount_fault_line (Worn count) = codes "worn " ++ decimal count ++ codes "\n"
+mount_fault_line NoMemory = codes "nomemory\n"
+
+abbrev pub mount_fault_status : MountFault → ℕ
+mount_fault_status NotFormatted = 6
+mount_fault_status (BadLog disk) = 6
+mount_fault_status (BadMeta disk) = 6
+mount_fault_status (Size disk found needed) = 6
+mount_fault_status (Power disk) = 6
+mount_fault_status (TwoDown two) = 5
+mount_fault_status (Worn count) = 12
+mount_fault_status NoMemory = 7

@@ -1,0 +1,43 @@
+use Rattle.std.specs.Prelude.{◌≡◌, ◌+◌, false}
+use Rattle.std.proofs.Common.{ap, ◌∙◌}
+use Rattle.paraid_rack.specs.Told.{Ran, CrashTriple}
+use Rattle.paraid_image.specs.Sides.{Batch}
+use Rattle.paraid_txn.specs.CommitStages.{IsSpelled, Job, SyncIn, HoldsLate, job_gone}
+use Rattle.paraid_txn.specs.Batches.{names_disk}
+use Rattle.paraid_txn.proofs.StageCallsLemmas.{ends, sync_in_none_ran, sync_in_one_ran, sync_in_whole}
+use Rattle.paraid_txn.proofs.ReadyLemmas.{disk_can}
+use Rattle.paraid_txn.proofs.CommitPartLemmas.{CommitPart_none, CommitPart_raised, syncs_target}
+use Rattle.paraid_txn.proofs.CrashSpecificationLemmas.{crash_failed, crash_ran}
+use Rattle.paraid_txn.proofs.commit.sync_target_slot.Given.{Over}
+use Rattle.paraid_txn.proofs.commit.sync_target_slot.Goals as goal
+use Rattle.paraid_txn.proofs.commit.sync_target_slot.Goals.{After-sync_slot}
+
+pub sync_slot-requires-clause-can : goal.sync_slot-requires-clause-can
+sync_slot-requires-clause-can g c not = disk_can c.args.batch.now c.args.disk c.requires.ready (cc) not
+
+pub returns-then-not-has_disk-clause-crash : goal.returns-then-not-has_disk-clause-crash
+returns-then-not-has_disk-clause-crash g c j good is same =
+    let off : names_disk c.args.batch.now c.args.disk ≡ false = cc in
+    crash_ran (sync_in_whole j good (c.args.disk + 1)) (sync_in_none_ran j good c.args.disk (ap (λ (batch : Batch). names_disk batch c.args.disk) same ∙ off))
+
+synced : (g : Over) (c : After-sync_slot g) (j : Job) → IsSpelled j → job_gone j ≡ c.args.skip
+    → Ran (g.R.Rack.told c.args.rack.now) (g.R.Rack.told c.sync_slot.new.rack) (CrashTriple (HoldsLate j) (SyncIn j c.args.disk) (SyncIn j (c.args.disk + 1)))
+synced g c j good is = sync_in_one_ran j good (g.met.R.Rack.agrees c.args.rack.now) is c.args.disk c.sync_slot.ensures.does
+
+pub returns-in_err-sync_slot-clause-crash : goal.returns-in_err-sync_slot-clause-crash
+returns-in_err-sync_slot-clause-crash g c j good is same =
+    crash_failed _ _ c.from_residual.ensures.1
+    (ends (sync_in_whole j good (c.args.disk + 1)) (synced g (goal.at.returns-in_err-sync_slot-clause-crash g c).After-sync_slot j good is))
+
+pub returns-clause-crash : goal.returns-clause-crash
+returns-clause-crash g c j good is same =
+    crash_ran (sync_in_whole j good (c.args.disk + 1)) (synced g (goal.at.returns-clause-crash g c).After-sync_slot j good is)
+
+pub returns-then-not-has_disk-clause-part : goal.returns-then-not-has_disk-clause-part
+returns-then-not-has_disk-clause-part g c = CommitPart_none _ _ _ _ tt
+
+pub returns-in_err-sync_slot-clause-part : goal.returns-in_err-sync_slot-clause-part
+returns-in_err-sync_slot-clause-part g c = CommitPart_raised _ c.from_residual.ensures.1 (syncs_target c.args.batch.now (cc) c.in_err-sync_slot.ensures.part)
+
+pub returns-clause-part : goal.returns-clause-part
+returns-clause-part g c = syncs_target c.args.batch.now (cc) c.in_ok-sync_slot.ensures.part

@@ -1,0 +1,280 @@
+-- The stages of a commit, each as a fact about the disks at a moment.
+use Rattle.std.specs.Prelude.{◌≡◌, ◌≢◌, ◌⊎◌, ◌<◌, ◌≤◌, ◌+◌, ℕ, true, false, length, take, get_or, Option, Some}
+use Rattle.std.proofs.Common.{zero, suc}
+use Rattle.paraid_base.specs.declared.block.Block.{Block}
+use Rattle.paraid_base.specs.Xor.{zero_block}
+use Rattle.paraid_rack.specs.Atoms.{IsLeftByStop, IsSeen, IsSure}
+use Rattle.paraid_rack.specs.Disks.{Disks, IsPresent}
+use Rattle.paraid_record.specs.declared.meta.Meta.{Meta}
+use Rattle.paraid_record.specs.Targets.{AreTargets, targets_bytes}
+use Rattle.paraid_image.specs.Rest.{closed_over}
+use Rattle.paraid_txn.specs.Commit.{gone_out}
+use Rattle.paraid_image.specs.Neutral.{names_place}
+use Rattle.paraid_image.specs.Out.{named_out}
+use Rattle.paraid_image.specs.Sides.{Batch, LogState, Says, Spells, is_open, targets}
+use Rattle.paraid_txn.specs.Batches.{batch_blocks}
+use Rattle.paraid_image.specs.Standing.{overlaid_block, other_log}
+
+-- What a commit does: the disks with which it begins, the batch, the meta that it brings, the
+-- blocks that spell meta and targets, the log disk that it leaves alone, if any, and the log disk
+-- whose gate it opens first.
+pub record Job : Type 0 where
+  pub start : Disks
+  pub meta : Meta
+  pub batch : Batch
+  pub spelled : Block
+  pub list : Block
+  pub left : Option ℕ
+  pub first : ℕ
+
+abbrev pub job : Disks → Meta → Batch → Block → Block → ℕ → Job
+job start meta batch spelled list first = record {
+  start = start;
+  meta = meta;
+  batch = batch;
+  spelled = spelled;
+  list = list;
+  left = named_out meta.out;
+  first = first;
+}
+
+-- the log disk whose gate is opened first, and the other one
+abbrev pub nth_log : ℕ → ℕ → ℕ
+nth_log first zero = first
+nth_log first (suc n) = other_log first
+
+abbrev pub job_log : Job → ℕ → ℕ
+job_log j n = nth_log j.first n
+
+-- the blocks spell what they are to spell
+pub record IsSpelled (j : Job) : Type 0 where
+  pub meta : Spells j.spelled j.meta
+  pub in_range : AreTargets j.meta.setup.geometry (targets j.batch)
+  pub list : j.list.bytes ≡ targets_bytes (targets j.batch)
+  pub first : j.first < 2
+
+-- the log disk that the commit leaves alone, and the disk whose targets it leaves out
+abbrev pub job_named : Job → Option ℕ
+job_named j = j.left
+
+abbrev pub job_gone : Job → Option ℕ
+job_gone j = gone_out j.meta.out
+
+-- a log disk that the commit writes
+abbrev pub IsLiveLog : Job → ℕ → Type 0
+IsLiveLog j x = (x < 2) × (job_named j ≢ Some x)
+
+-- a disk that gets its targets
+abbrev pub GetsTargets : Job → ℕ → Type 0
+GetsTargets j d = job_gone j ≢ Some d
+
+-- the block of target `k`
+abbrev pub target_block : Job → ℕ → Block
+target_block j k = get_or (batch_blocks j.batch) k zero_block
+
+-- the block at a place past the log, before and with the batch laid over
+abbrev pub block_before : Job → ℕ → ℕ → Block
+block_before j d p = j.start.block d p
+
+abbrev pub block_with_batch : Job → ℕ → ℕ → Block
+block_with_batch j d p = overlaid_block j.batch d p (block_before j d p)
+
+abbrev pub IsBlock : Block → Block → Type 0
+IsBlock value b = b ≡ value
+
+-- what a log disk says by its open gate
+abbrev pub open_with : Job → LogState
+open_with j = record { opened = true; meta = j.meta; batch = j.batch }
+
+-- a disk that is there has the power and the size with which the commit began, and a live log disk
+-- has all places of the log
+pub record KeepsSlotsAndLogs (j : Job) (s : Disks) : Type 0 where
+  pub present : (d : ℕ) → IsPresent s d → IsPresent j.start d
+  pub power : (d : ℕ) → IsPresent s d → s.power d ≡ j.start.power d
+  pub size : (d : ℕ) → IsPresent s d → s.size d ≡ j.start.size d
+  pub large : (x : ℕ) → IsLiveLog j x → IsPresent s x → 100 ≤ s.size x
+
+-- the log of a log disk that is left alone is as it was
+pub record IsAside (j : Job) (s : Disks) : Type 0 where
+  pub log : (y p : ℕ) → y < 2 → job_named j ≡ Some y → p < 100 → IsSure s y p (IsBlock (j.start.block y p))
+
+-- what holds at every moment of a commit, whatever the step
+pub record HoldsThroughout (j : Job) (s : Disks) : Type 0 where
+  pub kept : KeepsSlotsAndLogs j s
+  pub aside : IsAside j s
+
+abbrev pub IsGateClosed : Disks → ℕ → Type 0
+IsGateClosed s x = IsSure s x 0 (λ b. is_open b ≡ false)
+
+abbrev pub IsGateOpen : Disks → ℕ → Type 0
+IsGateOpen s x = IsSure s x 0 (λ b. is_open b ≡ true)
+
+-- the places of the batch hold it
+pub record IsBatchLogged (j : Job) (s : Disks) (x : ℕ) : Type 0 where
+  pub meta : IsSure s x 2 (IsBlock j.spelled)
+  pub list : IsSure s x 3 (IsBlock j.list)
+  pub blocks : (k : ℕ) → k < length j.batch → IsSure s x (4 + k) (IsBlock (target_block j k))
+
+-- not loose
+abbrev pub IsSyncedPlace : Disks → ℕ → ℕ → Type 0
+IsSyncedPlace s d p = IsSure s d p (λ b. Unit {0})
+
+pub record AllSynced (s : Disks) : Type 0 where
+  pub synced : (d p : ℕ) → IsSyncedPlace s d p
+
+-- all but what disk `k` holds, if it is written at all
+pub record SyncedBut (skip : Option ℕ) (k : ℕ) (s : Disks) : Type 0 where
+  pub synced : (d p : ℕ) → (skip ≢ Some k → d ≢ k) → IsSyncedPlace s d p
+
+-- the old meta of each live log disk
+abbrev pub OldMetas : Job → Disks → Type 0
+OldMetas j s = (x : ℕ) → IsLiveLog j x → IsSure s x 1 (IsBlock (j.start.block x 1))
+
+-- past the log all is as it was
+abbrev pub ContentsAreOld : Job → Disks → Type 0
+ContentsAreOld j s = (d p : ℕ) → 100 ≤ p → IsSure s d p (IsBlock (block_before j d p))
+
+-- past the log the batch is laid
+abbrev pub ContentsAreNew : Job → Disks → Type 0
+ContentsAreNew j s = (d p : ℕ) → GetsTargets j d → 100 ≤ p → IsSure s d p (IsBlock (block_with_batch j d p))
+
+-- Step 1: the gates are closed, and the log disks below `k` are logged.
+pub record LogCore (j : Job) (k : ℕ) (s : Disks) : Type 0 where
+  pub beside : HoldsThroughout j s
+  pub meta : OldMetas j s
+  pub shut : (x : ℕ) → IsLiveLog j x → IsGateClosed s x
+  pub logged : (x : ℕ) → x < k → IsLiveLog j x → IsBatchLogged j s x
+  pub held : ContentsAreOld j s
+
+-- between two log disks
+pub record LogStage (j : Job) (k : ℕ) (s : Disks) : Type 0 where
+  pub core : LogCore j k s
+  pub synced : AllSynced s
+
+-- with the meta of the batch written on disk `k`
+pub record LogMeta (j : Job) (k : ℕ) (s : Disks) : Type 0 where
+  pub core : LogCore j k s
+  pub synced : SyncedBut (job_named j) k s
+  pub meta : job_named j ≢ Some k → IsSeen s k 2 (IsBlock j.spelled)
+
+-- with the list and the first `n` blocks too
+pub record LogIn (j : Job) (k n : ℕ) (s : Disks) : Type 0 where
+  pub core : LogCore j k s
+  pub synced : SyncedBut (job_named j) k s
+  pub meta : job_named j ≢ Some k → IsSeen s k 2 (IsBlock j.spelled)
+  pub list : job_named j ≢ Some k → IsSeen s k 3 (IsBlock j.list)
+  pub blocks : (m : ℕ) → m < n → job_named j ≢ Some k → IsSeen s k (4 + m) (IsBlock (target_block j m))
+
+-- Step 2: all live log disks are logged, and the gates of the first `k` are open; those after the
+-- next one are closed.
+pub record OpenCore (j : Job) (k : ℕ) (s : Disks) : Type 0 where
+  pub beside : HoldsThroughout j s
+  pub meta : OldMetas j s
+  pub logged : (x : ℕ) → IsLiveLog j x → IsBatchLogged j s x
+  pub opened : (n : ℕ) → n < k → IsLiveLog j (job_log j n) → IsGateOpen s (job_log j n)
+  pub waiting : (n : ℕ) → k < n → n < 2 → IsLiveLog j (job_log j n) → IsGateClosed s (job_log j n)
+  pub held : ContentsAreOld j s
+
+pub record OpenStage (j : Job) (k : ℕ) (s : Disks) : Type 0 where
+  pub core : OpenCore j k s
+  pub synced : AllSynced s
+
+-- with the next gate written
+pub record OpenIn (j : Job) (k : ℕ) (s : Disks) : Type 0 where
+  pub core : OpenCore j k s
+  pub synced : SyncedBut (job_named j) (job_log j k) s
+  pub gate : job_named j ≢ Some (job_log j k) → IsSeen s (job_log j k) 0 (λ b. is_open b ≡ true)
+
+-- Step 3: all gates are open, and what is no target is as it was.
+pub record LayCore (j : Job) (s : Disks) : Type 0 where
+  pub beside : HoldsThroughout j s
+  pub logged : (x : ℕ) → IsLiveLog j x → IsBatchLogged j s x
+  pub opened : (x : ℕ) → IsLiveLog j x → IsGateOpen s x
+  pub others : (d p : ℕ) → 100 ≤ p → (names_place j.batch d p ≡ true) ⊎ IsSure s d p (IsBlock (block_before j d p))
+  pub synced : (d p : ℕ) → ((names_place j.batch d p ≡ true) × GetsTargets j d) ⊎ IsSyncedPlace s d p
+
+-- with the first `n` targets written
+pub record LayIn (j : Job) (n : ℕ) (s : Disks) : Type 0 where
+  pub core : LayCore j s
+  pub held : (d p : ℕ) → GetsTargets j d → 100 ≤ p → IsSeen s d p (IsBlock (overlaid_block (take n j.batch) d p (block_before j d p)))
+
+-- with all targets written, and the disks below `n` synced
+pub record SyncIn (j : Job) (n : ℕ) (s : Disks) : Type 0 where
+  pub core : LayCore j s
+  pub held : (d p : ℕ) → GetsTargets j d → 100 ≤ p → IsSeen s d p (IsBlock (block_with_batch j d p))
+  pub synced : (d p : ℕ) → d < n → IsSyncedPlace s d p
+
+-- Step 4: the batch is laid, and the meta stands at place 1 of the log disks below `k`.
+pub record MarkCore (j : Job) (k : ℕ) (s : Disks) : Type 0 where
+  pub beside : HoldsThroughout j s
+  pub logged : (x : ℕ) → IsLiveLog j x → IsBatchLogged j s x
+  pub opened : (x : ℕ) → IsLiveLog j x → IsGateOpen s x
+  pub meta : (x : ℕ) → x < k → IsLiveLog j x → IsSure s x 1 (IsBlock j.spelled)
+  pub held : ContentsAreNew j s
+
+pub record MarkStage (j : Job) (k : ℕ) (s : Disks) : Type 0 where
+  pub core : MarkCore j k s
+  pub synced : AllSynced s
+
+-- with the meta of disk `k` written
+pub record MarkIn (j : Job) (k : ℕ) (s : Disks) : Type 0 where
+  pub core : MarkCore j k s
+  pub synced : SyncedBut (job_named j) k s
+  pub meta : job_named j ≢ Some k → IsSeen s k 1 (IsBlock j.spelled)
+
+-- Step 5: the meta stands on all live log disks, and the gates of those below `k` are closed.
+pub record CloseCore (j : Job) (k : ℕ) (s : Disks) : Type 0 where
+  pub beside : HoldsThroughout j s
+  pub logged : (x : ℕ) → IsLiveLog j x → IsBatchLogged j s x
+  pub meta : (x : ℕ) → IsLiveLog j x → IsSure s x 1 (IsBlock j.spelled)
+  pub shut : (x : ℕ) → x < k → IsLiveLog j x → IsGateClosed s x
+  pub held : ContentsAreNew j s
+
+pub record CloseStage (j : Job) (k : ℕ) (s : Disks) : Type 0 where
+  pub core : CloseCore j k s
+  pub synced : AllSynced s
+
+-- with the gate of disk `k` written
+pub record CloseIn (j : Job) (k : ℕ) (s : Disks) : Type 0 where
+  pub core : CloseCore j k s
+  pub synced : SyncedBut (job_named j) k s
+  pub gate : job_named j ≢ Some k → IsSeen s k 0 (λ b. is_open b ≡ false)
+
+-- What a stop may leave before the targets are touched: each live log disk is closed as it was, or
+-- open with the batch; and where the first one is closed, so is the other.
+pub record IsEarlyImage (j : Job) (i : Disks) : Type 0 where
+  pub kept : KeepsSlotsAndLogs j i
+  pub sides : (x : ℕ) → IsLiveLog j x → IsPresent i x
+      → ((is_open (i.block x 0) ≡ false) × (i.block x 1 ≡ j.start.block x 1)) ⊎ Says i x (open_with j)
+  pub in_order : IsLiveLog j j.first → IsPresent i j.first → is_open (i.block j.first 0) ≡ false
+      → (y : ℕ) → IsLiveLog j y → IsPresent i y → is_open (i.block y 0) ≡ false
+  pub held : (d p : ℕ) → IsPresent i d → 100 ≤ p → i.block d p ≡ block_before j d p
+
+-- And from then on: each live log disk is open with the batch, or closed over the new meta with
+-- the batch laid.
+pub record IsLateImage (j : Job) (i : Disks) : Type 0 where
+  pub kept : KeepsSlotsAndLogs j i
+  pub sides : (x : ℕ) → IsLiveLog j x → IsPresent i x
+      → Says i x (open_with j) ⊎ Says i x (closed_over j.meta)
+  pub held : (d p : ℕ) → GetsTargets j d → IsPresent i d → 100 ≤ p
+      → overlaid_block j.batch d p (i.block d p) ≡ block_with_batch j d p
+  pub done : (x d p : ℕ) → IsLiveLog j x → IsPresent i x → Says i x (closed_over j.meta) → GetsTargets j d
+      → IsPresent i d → 100 ≤ p → i.block d p ≡ block_with_batch j d p
+
+-- what holds at every moment before the targets are touched, of all that a stop may leave there
+pub record HoldsEarly (j : Job) (s : Disks) : Type 0 where
+  pub early : (i : Disks) → IsLeftByStop s i → IsEarlyImage j i
+  pub aside : (i : Disks) → IsLeftByStop s i → (y p : ℕ) → y < 2 → job_named j ≡ Some y → p < 100 → IsPresent i y
+      → i.block y p ≡ j.start.block y p
+
+-- and from then on
+pub record HoldsLate (j : Job) (s : Disks) : Type 0 where
+  pub late : (i : Disks) → IsLeftByStop s i → IsLateImage j i
+  pub aside : (i : Disks) → IsLeftByStop s i → (y p : ℕ) → y < 2 → job_named j ≡ Some y → p < 100 → IsPresent i y
+      → i.block y p ≡ j.start.block y p
+
+-- what holds at every moment of a commit, of all that a stop may leave there, with any slots lost
+pub record HoldsWhole (j : Job) (s : Disks) : Type 0 where
+  pub either : ((i : Disks) → IsLeftByStop s i → IsEarlyImage j i) ⊎ ((i : Disks) → IsLeftByStop s i → IsLateImage j i)
+  pub aside : (i : Disks) → IsLeftByStop s i → (y p : ℕ) → y < 2 → job_named j ≡ Some y → p < 100 → IsPresent i y
+      → i.block y p ≡ j.start.block y p

@@ -1,0 +1,14 @@
+use Rattle.std.specs.Prelude.{◌≡◌, []}
+use Rattle.paraid_core.specs.Cores.{IsCoreReady, CanCoreServe, copied_of, draft_of, meta_of}
+use Rattle.paraid_core.specs.CoreInvariant.{AreCopiesSynced}
+use Rattle.paraid_memrack.specs.Rules.{rack_slot_count, slots_of}
+use Rattle.tests_core.proofs.shifts.bytes_of.Given as goal
+
+-- the array can be read
+abbrev pub invariant-loop-at : goal.invariant-loop-at
+invariant-loop-at l = record {
+  ready : IsCoreReady rack_slot_count slots_of l.core;
+  serves : CanCoreServe slots_of l.core;
+  draft : draft_of l.core ≡ [];
+  synced : AreCopiesSynced (meta_of l.core).setup.geometry.disks (copied_of l.core);
+}

@@ -1,0 +1,15 @@
+//! Tests of an array between two commits, on a rack in memory: what its calls read and stage.
+#![tactic(auto)]
+
+#[cfg(test)]
+mod arrays;
+#[cfg(test)]
+mod cells;
+#[cfg(test)]
+mod fills;
+#[cfg(test)]
+mod reads;
+#[cfg(test)]
+mod shifts;
+#[cfg(test)]
+mod writes;

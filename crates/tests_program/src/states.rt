@@ -1,0 +1,218 @@
+//! The program with `status` on arrays whose disks were changed since they were made.
+
+use crate::formats::{NEVER, NONE, bare_rack, configuration, formatted, shown};
+use Change::{Filled, Fresh, Lost, MetaByte, Parked};
+use paraid_base::{Block, DiskNo, Place};
+use paraid_memrack::{MemRack, Pick, Planned};
+use paraid_rack::{Call, Power, Rack};
+use std::alloc::Global;
+use std::process::Abort;
+use std::test::Fail;
+
+/// A change of the disks.
+#[derive(Clone, Copy, Debug)]
+enum Change {
+    Lost(DiskNo),
+    /// A disk of so many blocks of zeros is put into a slot.
+    Fresh(DiskNo, u32),
+    Parked(DiskNo),
+    /// All bytes of a disk are this one.
+    Filled(DiskNo, u8),
+    /// A byte of the metas of both log disks.
+    MetaByte(usize, u8),
+}
+
+// The disks as they are, before any call.
+fn restarted(alloc: Global, rack: &MemRack) -> Result<MemRack, Fail> {
+    let left = rack.stopped(alloc, rack.calls(), Pick::New, NEVER, Vec::new(alloc))?;
+    Ok(left)
+}
+
+// The disks without this one, before any call.
+fn without(alloc: Global, rack: &MemRack, disk: DiskNo) -> Result<MemRack, Fail> {
+    let mut left = rack.stopped(alloc, rack.calls(), Pick::New, NEVER, Vec::new(alloc))?;
+    if disk < left.slots() {
+        left.lose(disk);
+    }
+    Ok(left)
+}
+
+fn park(rack: &mut MemRack, disk: DiskNo) {
+    if disk < rack.slots() && rack.power(disk) == Power::Spinning && !rack.unsynced(disk) {
+        let _parked = rack.park(disk);
+    }
+}
+
+fn put(rack: &mut MemRack, disk: DiskNo, place: Place, block: &Block) {
+    if disk >= rack.slots() || rack.power(disk) != Power::Spinning || place >= rack.size(disk) {
+        return;
+    }
+    let _written = rack.write(disk, place, block);
+}
+
+// A byte of the meta of a log disk with a closed gate.
+fn meta_byte(rack: &MemRack, disk: DiskNo, at: usize) -> Option<u8> {
+    if disk < rack.slots() && rack.size(disk) > 1 && at < 512 {
+        Some(rack.block(disk, 1).bytes[at])
+    } else {
+        None
+    }
+}
+
+fn set_meta_byte(rack: &mut MemRack, disk: DiskNo, at: usize, byte: u8) {
+    if disk < rack.slots() && rack.size(disk) > 1 && at < 512 {
+        let mut meta = rack.block(disk, 1).copy();
+        meta.set(at, byte);
+        put(rack, disk, 1, &meta);
+    }
+}
+
+fn change_disk(rack: &mut MemRack, change: Change) {
+    match change {
+        Lost(_) => {}
+        Fresh(disk, size) => {
+            if disk < rack.slots() {
+                let _attached = rack.attach(disk, size);
+            }
+        }
+        Parked(disk) => park(rack, disk),
+        Filled(disk, byte) => {
+            let block = Block::from_array([byte; 512]);
+            for place in 0..108 {
+                put(rack, disk, place, &block);
+            }
+        }
+        MetaByte(at, byte) => {
+            set_meta_byte(rack, 0, at, byte);
+            set_meta_byte(rack, 1, at, byte);
+        }
+    }
+}
+
+// A new array of five disks with these changes, before any call.
+fn array(rt: &(impl Abort + AllocGlobal), changes: &[Change]) -> Result<MemRack, Fail> {
+    let alloc = rt.alloc();
+    let bytes = configuration(alloc, NONE, "")?;
+    let bare = bare_rack(rt, 5, Planned::AtCall(NEVER));
+    let (_status, _text, mut rack) = formatted(alloc, false, bytes, NEVER, NEVER, bare)?;
+    for &change in changes {
+        if let Lost(disk) = change {
+            rack = without(alloc, &rack, disk)?;
+        } else {
+            change_disk(&mut rack, change);
+        }
+    }
+    restarted(alloc, &rack)
+}
+
+const WHOLE: &str = "mounted 0 gear 5\nstate 5 steady dirty 0 fill 0 out none spins 0 0 0 0 0\n";
+
+const TWO_GONE: &str =
+    "mounted 0 gear 5\nstate 5 steady dirty 0 fill 0 out 2 gone spins 0 0 0 0 0\n";
+
+// The changes, and what is then told.
+const STATES: [(&[Change], u8, &str); 10] = [
+    (&[], 0, WHOLE),
+    (&[Lost(2)], 0, TWO_GONE),
+    (&[Filled(0, 255)], 6, "badlog 0\n"),
+    // A log disk of zeros has no meta.
+    (&[Fresh(1, 108)], 6, "badmeta 1\n"),
+    (&[Fresh(3, 100)], 6, "size 3 100 108\n"),
+    (&[Parked(2)], 6, "power 2\n"),
+    (&[Lost(0), Lost(1)], 6, "notformatted\n"),
+    (&[Lost(2), Lost(3)], 5, "two 2 3\n"),
+    // The epoch is 2^62, and one less.
+    (
+        &[MetaByte(44, 0x40), MetaByte(51, 0)],
+        12,
+        "worn 4611686018427387904\n",
+    ),
+    (
+        &[
+            MetaByte(44, 0x3f),
+            MetaByte(45, 0xff),
+            MetaByte(46, 0xff),
+            MetaByte(47, 0xff),
+            MetaByte(48, 0xff),
+            MetaByte(49, 0xff),
+            MetaByte(50, 0xff),
+            MetaByte(51, 0xff),
+        ],
+        0,
+        WHOLE,
+    ),
+];
+
+// Whether each call was a read.
+fn are_reads(rack: &MemRack) -> bool {
+    for at in 0..rack.calls() {
+        match rack.call(at) {
+            Call::Read { .. } => {}
+            _ => return false,
+        }
+    }
+    true
+}
+
+#[test]
+fn a_changed_array_is_shown_or_refused(rt: HostRuntime) -> Result<(), Fail> {
+    for (changes, code, want) in STATES {
+        let rack = array(&rt, changes)?;
+        let (status, told, left) = shown(rt.alloc(), rack)?;
+        assert_eq!(rt; told.as_slice(), want.as_bytes(), "{changes:?}");
+        assert_eq!(rt; status, code);
+        // A refusal leaves all disks as they were.
+        assert!(rt; code == 0 || are_reads(&left));
+    }
+    Ok(())
+}
+
+#[test]
+fn a_lost_disk_is_marked_once(rt: HostRuntime) -> Result<(), Fail> {
+    let alloc = rt.alloc();
+    let mut rack = array(&rt, &[Lost(2)])?;
+    for _ in 0..2u8 {
+        let (status, told, left) = shown(alloc, rack)?;
+        rack = left;
+        assert_eq!(rt; told.as_slice(), TWO_GONE.as_bytes());
+        assert_eq!(rt; status, 0);
+        for disk in 0..2 {
+            assert_eq!(rt; meta_byte(&rack, disk, 51), Some(2), "the epoch on {disk}");
+        }
+    }
+    let bytes = configuration(alloc, NONE, "")?;
+    let (status, told, _rack) = formatted(alloc, false, bytes, NEVER, NEVER, rack)?;
+    assert_eq!(rt; told.as_slice(), "already 2\n".as_bytes());
+    assert_eq!(rt; status, 9);
+    Ok(())
+}
+
+const PICKS: [Pick; 4] = [Pick::Old, Pick::New, Pick::Filled(165), Pick::Mixed];
+
+// Version 1 has no burst and no period.
+const VERSION_ONE: [Change; 3] = [MetaByte(9, 1), MetaByte(113, 0), MetaByte(117, 0)];
+
+#[test]
+fn an_array_of_version_one_is_brought_to_version_two(rt: HostRuntime) -> Result<(), Fail> {
+    let alloc = rt.alloc();
+    let (status, told, rack) = shown(alloc, array(&rt, &VERSION_ONE)?)?;
+    assert_eq!(rt; told.as_slice(), WHOLE.as_bytes());
+    assert_eq!(rt; status, 0);
+    // The version, the epoch, the burst, which is the ration, and the period.
+    for (at, byte) in [(9, 2), (51, 2), (113, 100), (117, 1)] {
+        for disk in 0..2 {
+            assert_eq!(rt; meta_byte(&rack, disk, at), Some(byte), "{at} on {disk}");
+        }
+    }
+    // Eleven reads and syncs, and a commit of nine calls on each log disk.
+    assert_eq!(rt; rack.calls(), 29);
+    for moment in 0..30 {
+        for pick in PICKS {
+            let left = rack.stopped(alloc, moment, pick, NEVER, Vec::new(alloc))?;
+            let (status, told, _rack) = shown(alloc, left)?;
+            assert_eq!(rt; told.as_slice(), WHOLE.as_bytes(), "at {moment}, {pick:?}");
+            assert_eq!(rt; status, 0);
+        }
+    }
+    Ok(())
+}
