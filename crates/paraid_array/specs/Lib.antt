@@ -1,6 +1,1 @@
-pub mod Cells
-pub mod Powers
-pub mod Losses
-pub mod Mount
-pub mod Arrays
-pub mod Events
+pub mod Service

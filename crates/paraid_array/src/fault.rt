@@ -1,20 +1,42 @@
-use paraid_base::DiskNo;
+use paraid_base::{DiskNo, Halt};
 
-/// Why an array was not mounted.
+/// Why a shift does not begin.
 #[derive(Clone, Copy, Debug, PartialEq, Eq)]
-pub enum MountFault {
-    /// The slot of this disk is missing or does not spin, with `found` 0, or its disk has only
-    /// `found` blocks. It is the least such disk, and `needed` blocks are needed.
-    Size {
-        disk: DiskNo,
-        found: u32,
-        needed: u32,
-    },
+pub enum ShiftFault {
+    /// The array has halted.
+    Halt(Halt),
+    /// There is no higher gear.
+    Top,
+    /// There is no lower gear.
+    Lowest,
+    /// A shift to `to` is under way.
+    Shifting { to: u8 },
+    /// This disk is out.
+    Out { disk: DiskNo },
+    /// This disk has used its allowance of spin-ups.
+    Ration { disk: DiskNo },
 }
 
-/// A rack on which no array was mounted, and why. It is as it was given.
-#[derive(Drop)]
-pub struct MountRefused<R> {
-    pub fault: MountFault,
-    pub rack: R,
+/// Why a disk is not taken out.
+#[derive(Clone, Copy, Debug, PartialEq, Eq)]
+pub enum FailFault {
+    /// The array has halted.
+    Halt(Halt),
+    /// The array has no such disk.
+    NoDisk { disk: DiskNo },
+    /// This disk is out.
+    Out { disk: DiskNo },
+}
+
+/// Why a disk is not replaced.
+#[derive(Clone, Copy, Debug, PartialEq, Eq)]
+pub enum ReplaceFault {
+    /// The array has halted.
+    Halt(Halt),
+    /// The array has no such disk.
+    NoDisk { disk: DiskNo },
+    /// This disk is not out.
+    NotOut { disk: DiskNo },
+    /// No fresh disk came in its place.
+    NoFresh { disk: DiskNo },
 }

@@ -1,20 +1,18 @@
-//! An array of disks in rows, each row with a parity block, so that one lost disk changes no
-//! answer.
+//! An array with gears over the disks of a rack: reads and writes, ticks, shifts and failures.
 //!
-//! `Array` stands for the history of the writes that it accepted: a read gives the last write of
-//! its block, from its disk or, where that is out, as the sum of the row's other blocks. A second
-//! lost disk ends its service. A write goes in place, to the block and to its row's parity.
+//! Each call is made of calls of the core and of the shifts, under their conditions. After two disks are down, or the
+//! array is worn, each call gives the same halt.
 #![tactic(auto)]
 
-mod array;
-mod device;
-mod entry;
+mod failing;
 mod fault;
-mod loss;
-mod mount;
-mod row;
-mod sync;
+mod rebuilding;
+mod replacing;
+mod requests;
+mod shifts;
 
-pub use array::Array;
-pub use fault::{MountFault, MountRefused};
-pub use row::WriteRoom;
+pub use failing::take_out;
+pub use fault::{FailFault, ReplaceFault, ShiftFault};
+pub use replacing::replace;
+pub use requests::{flush, read, write_many};
+pub use shifts::{Asked, advance, down, gear_above, gear_below, up};

@@ -1,3 +1,5 @@
+ghost use Rattle.std.specs.Prelude.{◌≡◌, ◌≢◌, ℕ, Some, None};
+
 use crate::{BlockNo, DiskNo};
 
 /// A call of the outside did not succeed. Its object's count of faults has risen.
@@ -13,6 +15,25 @@ pub struct NoMemory;
 pub struct Two {
     pub first: DiskNo,
     pub second: DiskNo,
+}
+
+impl Two {
+    /// The two disks that are down once this one is lost beside the one that is out. None where no
+    /// other disk is out: the first loss is borne.
+    pub fn beside(out: Option<DiskNo>, lost: DiskNo) -> Option<Two>
+        ensures none { result ≡ None → (d : ℕ) → out ≡ Some d → d ≡ lost }
+        ensures two { (two : _) → result ≡ Some two
+            → (out ≡ Some two.first) × (two.second ≡ lost) × (two.first ≢ two.second) }
+    {
+        let first = out?;
+        if first == lost {
+            return None;
+        }
+        Some(Two {
+            first,
+            second: lost,
+        })
+    }
 }
 
 /// Why an array serves no more. Every later call gives the same halt.

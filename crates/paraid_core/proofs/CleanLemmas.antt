@@ -33,8 +33,9 @@ use Rattle.paraid_rack.proofs.TrailsLemmas.{now-extend}
 use Rattle.paraid_record.specs.declared.meta.Meta.{Meta}
 use Rattle.paraid_record.specs.declared.targets.Target.{Target}
 use Rattle.paraid_record.specs.Range.{IsInRange}
-use Rattle.paraid_core.specs.Cleaning.{is_cleaned}
+use Rattle.paraid_core.specs.Cleaning.{cleaning, is_cleaned, read_commits_first}
 use Rattle.paraid_core.specs.CoreInvariant.{HoldsBetweenCalls, meta_with_lost}
+use Rattle.paraid_core.specs.Room.{commits_first}
 use Rattle.paraid_core.proofs.CommitLemmas.{out_all}
 use Rattle.paraid_core.proofs.WriteLemmas.{contents_laid, laid_there}
 
@@ -195,3 +196,9 @@ no_room false room is low = refl
 pub room_none : (b : Bool) (room : ℕ) → room ≡ (if b then 3 else 0) → b ≡ false → room ≡ 0
 room_none true room is never = absurd (false≢true (sym never))
 room_none false room is never = is
+
+-- a read commits first where its room is not left
+pub first_by : (m : Meta) (table : List (List Bool)) (batch : Batch) (b r d room : ℕ) → room ≡ cleaning m table r d → r ≡ home_row m.setup.geometry.disks b → d ≡ home_disk m.setup.geometry.disks b
+    → commits_first batch room ≡ read_commits_first m table batch b
+first_by m table batch b r d room is row disk =
+    ap (commits_first batch) (is ∙ ap (λ (z : ℕ). cleaning m table z d) row ∙ ap (λ (z : ℕ). cleaning m table (home_row m.setup.geometry.disks b) z) disk)

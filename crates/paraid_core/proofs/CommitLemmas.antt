@@ -40,6 +40,7 @@ use Rattle.paraid_moves.proofs.FailLemmas.{marks_gone}
 use Rattle.paraid_moves.proofs.MoveLemmas.{fits_later}
 use Rattle.paraid_moves.proofs.NextLemmas.{holds_now, next_gone, next_same, rest_now}
 use Rattle.paraid_core.specs.Fills.{KeepsFilled}
+use Rattle.paraid_core.specs.Replaced.{KeepsCommitted}
 use Rattle.paraid_core.specs.CoreInvariant.{AreCopiesSynced, IsHeldWithOneMissing, HoldsBetweenCalls, meta_with_lost}
 use Rattle.paraid_core.proofs.AfterLemmas.{down_named}
 pub use Rattle.paraid_core.proofs.LostDiskLemmas.{out_all}
@@ -191,9 +192,24 @@ module _ (slots : ℕ) (named : Option ℕ) (m : Meta) (table : List (List Bool)
         };
       }
 
+  -- the same of the metas that stand: the last one, or the next
+  pub commit_whole : (old new : Option Trail) → ((before : Meta) → named ≡ named_out before.out → IsWholeOrAbsent old new before after batch)
+      → Ran old new (λ start calls. (k : HoldsBetweenCalls slots named m table batch copied h lo start) → Through (IsOldOrNew start k.base (record m { epoch = m.epoch + 1 }) batch) start calls)
+  commit_whole old new each t tells =
+      let r = for_each_before named (AtEach after batch) old new (record m { out = out_of named }) (out_of_named named) each t tells in
+      record {
+        from = r.from;
+        was = r.was;
+        calls = r.calls;
+        is = r.is;
+        holds = λ k.
+            subst (λ (z : ℕ). Through (IsOldOrNew (now r.from) k.base (record m { epoch = z + 1 }) batch) (now r.from) r.calls) (sym epoch_is)
+            (r.holds k.base (sym k.named_by) (rest (now r.from) k) (next (now r.from) k));
+      }
+
   -- the end, where one disk was lost, or none
-  module _ (stays : (x : ℕ) → named ≡ Some x → named_out m.out ≡ Some x) (s t : Disks) (k : HoldsBetweenCalls slots named m table batch copied h lo s) (done : IsCommitted s t k.base after batch)
-      (lost : Option ℕ) (low : (d : ℕ) → lost ≡ Some d → d < m.setup.geometry.disks) (gone : (d : ℕ) → lost ≡ Some d → t.power d ≡ Absent)
+  module _ (s t : Disks) (k : HoldsBetweenCalls slots named m table batch copied h lo s) (done : IsCommitted s t k.base after batch)
+      (lost : Option ℕ) (known : (x d : ℕ) → named ≡ Some x → named_out (meta_with_lost lost m).out ≡ Some d → x ≡ d) (low : (d : ℕ) → lost ≡ Some d → d < m.setup.geometry.disks) (gone : (d : ℕ) → lost ≡ Some d → t.power d ≡ Absent)
       (alone : (d x : ℕ) → lost ≡ Some d → named_out m.out ≡ Some x → x ≡ d)
       (power : (x : ℕ) → x < m.setup.geometry.disks → lost ≢ Some x → t.power x ≡ s.power x) (size : (x : ℕ) → x < m.setup.geometry.disks → lost ≢ Some x → t.size x ≡ s.size x)
       (absent : (d : ℕ) → d < m.setup.geometry.disks → is_present (s.power d) ≡ false → named_out m.out ≡ Some d)
@@ -202,15 +218,21 @@ module _ (slots : ℕ) (named : Option ℕ) (m : Meta) (table : List (List Bool)
     named_by_lost None is x k = k
     named_by_lost (Some d) is x k = ap Some (sym (alone d x is k))
 
-    down_then : (d : ℕ) → IsEitherMissing t.power k.base after d → named_out (meta_with_lost lost m).out ≡ Some d
+    down_then : (d : ℕ) → IsEitherMissing t.power k.base after d → (named ≡ Some d) ⊎ (named_out (meta_with_lost lost m).out ≡ Some d)
     down_then d (inl missing) = elim missing.is [
-      | inl g ↦ absent_then d (subst (λ (z : ℕ). d < z) (sym (shape s k)) missing.disk) g
-      | inr is ↦ named_by_lost lost refl d (stays d (sym k.named_by ∙ is))
+      | inl g ↦ inr (absent_then d (subst (λ (z : ℕ). d < z) (sym (shape s k)) missing.disk) g)
+      | inr is ↦ inl (sym k.named_by ∙ is)
     ]
-    down_then d (inr missing) = elim missing.is [ inl g ↦ absent_then d missing.disk g | inr is ↦ named_by_lost lost refl d is ]
+    down_then d (inr missing) = inr (elim missing.is [ inl g ↦ absent_then d missing.disk g | inr is ↦ named_by_lost lost refl d is ])
+
+    one_down : (d e : ℕ) → (named ≡ Some d) ⊎ (named_out (meta_with_lost lost m).out ≡ Some d) → (named ≡ Some e) ⊎ (named_out (meta_with_lost lost m).out ≡ Some e) → d ≡ e
+    one_down d e (inl p) (inl q) = some_is d e (sym p ∙ q)
+    one_down d e (inl p) (inr q) = known d e p q
+    one_down d e (inr p) (inl q) = sym (known e d q p)
+    one_down d e (inr p) (inr q) = some_is d e (sym p ∙ q)
 
     one_missing : IsOneMissing t.power k.base after
-    one_missing = record { one = λ d e p q. some_is d e (sym (down_then d p) ∙ down_then e q) }
+    one_missing = record { one = λ d e p q. one_down d e (down_then d p) (down_then e q) }
 
     rest_then : IsAtRest t after
     rest_then = done.rest one_missing
@@ -365,7 +387,7 @@ module _ (slots : ℕ) (named : Option ℕ) (m : Meta) (table : List (List Bool)
 
     filled_by : (p : Option ℕ) → lost ≡ p → KeepsFilled slots (named_out m.out) (meta_with_lost p after) table copied h (length h) (meta_with_lost p after).fill t
     unfolding keeps_by
-    filled_by None is = record { keeps = keeps_by None is; shift = record { gear = refl; rises = refl; fresh = λ d u fresh. ap named_out fresh; phase = λ whole. refl; fill = λ whole. refl }; filled = λ x from l. absurd (omega arith) }
+    filled_by None is = record { keeps = keeps_by None is; shift = record { gear = refl; rises = refl; fresh = λ d u fresh. ap named_out fresh; phase = λ whole. refl; fill = λ whole. refl; rebuilt = λ d u is. is }; filled = λ x from l. absurd (omega arith) }
     filled_by (Some d) is = record {
       keeps = keeps_by (Some d) is;
       shift = record {
@@ -374,17 +396,26 @@ module _ (slots : ℕ) (named : Option ℕ) (m : Meta) (table : List (List Bool)
         fresh = λ x u fresh. ap Some (sym (alone d x is (ap named_out fresh)));
         phase = λ whole. let z : Gone d ≡ No = whole in cc;
         fill = λ whole. let z : Gone d ≡ No = whole in cc;
+        rebuilt = λ x u is. let z : Gone d ≡ Fresh x u = is in absurd cc;
       };
       filled = λ x from l. absurd (omega arith);
     }
+
+    marked_by : (p : Option ℕ) → lost ≡ p → KeepsCommitted slots (named_out m.out) (meta_with_lost p after) table copied h (length h) m.out t
+    unfolding filled_by
+    marked_by None is = record { filled = filled_by None is; marks = refl }
+    marked_by (Some d) is = record { filled = filled_by (Some d) is; marks = refl }
+
+    pub marked_then : KeepsCommitted slots (named_out m.out) (meta_with_lost lost after) table copied h (length h) m.out t
+    marked_then = marked_by lost refl
 
     -- with nothing staged over it
     pub filled_then : KeepsFilled slots (named_out m.out) (meta_with_lost lost after) table copied h (length h) (meta_with_lost lost after).fill t
     filled_then = filled_by lost refl
 
   -- over the calls
-  module _ (stays : (x : ℕ) → named ≡ Some x → named_out m.out ≡ Some x) (old new : Option Trail) (slot later_slot : ℕ → Slot) (before : (s : Trail) → old ≡ Some s → Agrees (now s) slot)
-      (later : (s : Trail) → new ≡ Some s → Agrees (now s) later_slot) (lost : Option ℕ) (low : (d : ℕ) → lost ≡ Some d → d < m.setup.geometry.disks)
+  module _ (old new : Option Trail) (slot later_slot : ℕ → Slot) (before : (s : Trail) → old ≡ Some s → Agrees (now s) slot)
+      (later : (s : Trail) → new ≡ Some s → Agrees (now s) later_slot) (lost : Option ℕ) (known : (x d : ℕ) → named ≡ Some x → named_out (meta_with_lost lost m).out ≡ Some d → x ≡ d) (low : (d : ℕ) → lost ≡ Some d → d < m.setup.geometry.disks)
       (only : IsLostOnly m.setup.geometry.disks lost slot later_slot) (alone : (d x : ℕ) → lost ≡ Some d → named_out m.out ≡ Some x → x ≡ d)
       (absent : (d : ℕ) → d < m.setup.geometry.disks → is_present (slot d).power ≡ false → named_out m.out ≡ Some d)
       (absent_then : (d : ℕ) → d < m.setup.geometry.disks → is_present (later_slot d).power ≡ false → named_out (meta_with_lost lost m).out ≡ Some d) where
@@ -429,7 +460,7 @@ module _ (slots : ℕ) (named : Option ℕ) (m : Meta) (table : List (List Bool)
         (subst (λ (z : Option ℕ). HoldsBetweenCalls slots z m_then table batch_then copied h (length h) t) (sym en)
         (subst (λ (z : Meta). HoldsBetweenCalls slots (named_out m.out) z table batch_then copied h (length h) t) (sym em)
         (subst (λ (z : Batch). HoldsBetweenCalls slots (named_out m.out) (meta_with_lost lost after) table z copied h (length h) t) (sym eb)
-        (keeps_then stays s t k done lost low gone alone power size absent_at absent_now))))) each last
+        (keeps_then s t k done lost known low gone alone power size absent_at absent_now))))) each last
 
     -- with nothing staged over it
     pub commit_filled : (slots_then : ℕ) (named_then : Option ℕ) (m_then : Meta) → slots_then ≡ slots → named_then ≡ named_out m.out → m_then ≡ meta_with_lost lost after
@@ -440,4 +471,23 @@ module _ (slots : ℕ) (named : Option ℕ) (m : Meta) (table : List (List Bool)
         subst (λ (z : ℕ). KeepsFilled z named_then m_then table copied h (length h) m_then.fill t) (sym es)
         (subst (λ (z : Option ℕ). KeepsFilled slots z m_then table copied h (length h) m_then.fill t) (sym en)
         (subst (λ (z : Meta). KeepsFilled slots (named_out m.out) z table copied h (length h) z.fill t) (sym em)
-        (filled_then stays s t k done lost low gone alone power size absent_at absent_now)))) each last
+        (filled_then s t k done lost known low gone alone power size absent_at absent_now)))) each last
+
+    -- with what it says of the disk that is out
+    pub commit_marked : (slots_then : ℕ) (named_then : Option ℕ) (m_then : Meta) → slots_then ≡ slots → named_then ≡ named_out m.out → m_then ≡ meta_with_lost lost after
+        → ((before : Meta) → named ≡ named_out before.out → IsWholeOrAbsent old new before after batch) → ((before : Meta) → named ≡ named_out before.out → EndsCommitted old new before after batch)
+        → Ran old new (CrashTriple P (HoldsBetweenCalls slots named m table batch copied h lo) (KeepsCommitted slots_then named_then m_then table copied h (length h) m.out))
+    commit_marked slots_then named_then m_then es en em each last =
+        commit_runs (KeepsCommitted slots_then named_then m_then table copied h (length h) m.out) (λ s t k done gone power size absent_at absent_now.
+        subst (λ (z : ℕ). KeepsCommitted z named_then m_then table copied h (length h) m.out t) (sym es)
+        (subst (λ (z : Option ℕ). KeepsCommitted slots z m_then table copied h (length h) m.out t) (sym en)
+        (subst (λ (z : Meta). KeepsCommitted slots (named_out m.out) z table copied h (length h) m.out t) (sym em)
+        (marked_then s t k done lost known low gone alone power size absent_at absent_now)))) each last
+
+    -- and the disks are at rest under it
+    pub commit_rests : ((before : Meta) → named ≡ named_out before.out → IsWholeOrAbsent old new before after batch) → ((before : Meta) → named ≡ named_out before.out → EndsCommitted old new before after batch)
+        → Ran old new (λ start calls. HoldsBetweenCalls slots named m table batch copied h lo start → IsAtRest (run start calls) (record m { epoch = m.epoch + 1 }))
+    commit_rests each last t tells =
+        let r = commit_runs (λ u. IsAtRest u (record m { epoch = m.epoch + 1 })) (λ s t k done gone power size absent_at absent_now.
+        subst (λ (z : ℕ). IsAtRest t (record m { epoch = z + 1 })) (sym epoch_is) (rest_then s t k done lost known low gone alone power size absent_at absent_now)) each last t tells in
+        record { from = r.from; was = r.was; calls = r.calls; is = r.is; holds = λ k. (r.holds.goes k).1 }

@@ -34,7 +34,7 @@ gone_phase Steady is = refl
 gone_phase (Down to) is = absurd (false≢true (sym is))
 gone_phase (Up to) is = refl
 
-gone_again : (m : Meta) (d : ℕ) (spins : List ℕ) → IsInRange m → m.out ≡ Gone d → record (meta_after_loss m d) { spins = spins } ≡ record m { spins = spins }
+pub gone_again : (m : Meta) (d : ℕ) (spins : List ℕ) → IsInRange m → m.out ≡ Gone d → record (meta_after_loss m d) { spins = spins } ≡ record m { spins = spins }
 gone_again m d spins range gone =
     let out : has_out m.out ≡ true = ap has_out gone in
     let down : is_down m.phase ≡ false = not_down (is_down m.phase) refl out in

@@ -1,4 +1,7 @@
+mod CanBeginLemmas
 pub mod MomentLemmas
+mod RejoinLemmas
+mod AttachStoodLemmas
 pub mod LostDiskLemmas
 pub mod ReadyLemmas
 pub mod DirtyLemmas
@@ -7,6 +10,7 @@ pub mod AfterLemmas
 pub mod CommitLemmas
 pub mod WriteLemmas
 pub mod PlanLemmas
+mod AttachLemmas
 mod TakeLemmas
 mod TryLemmas
 mod AcceptLemmas
@@ -19,6 +23,9 @@ pub mod SettleLemmas
 pub mod StepLemmas
 pub mod StripeLemmas
 pub mod GatherLemmas
+pub mod UnitCopyLemmas
+pub mod UnitWriteLemmas
+pub mod UnitMarkLemmas
 pub mod FillLemmas
 pub mod MarkLemmas
 pub mod ParkLemmas
@@ -30,3 +37,14 @@ pub mod FreeWriteLemmas
 pub mod CopyCellLemmas
 pub mod SinceLemmas
 pub mod MarkCellLemmas
+pub mod LossShiftLemmas
+pub mod SettleCellLemmas
+pub mod TurnLemmas
+pub mod SettleUnitLemmas
+pub mod KindLemmas
+mod BeginLemmas
+mod LeadsLemmas
+pub mod StoodLemmas
+pub mod LostMarkLemmas
+pub mod OldNewLemmas
+pub mod RestLemmas

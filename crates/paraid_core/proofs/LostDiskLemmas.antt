@@ -178,6 +178,10 @@ module _ (slots : ℕ) (named : Option ℕ) (m : Meta) (table : List (List Bool)
     dirty = dirty_after;
   }
 
+  pub failed_base : keeps_failed.base ≡ k.base
+  unfolding keeps_failed
+  failed_base = refl
+
 -- a disk is lost where none was out
 pub keeps_lost : (slots : ℕ) (named : Option ℕ) (m : Meta) (table : List (List Bool)) (batch : Batch) (copied : List Bool) (h : History) (lo : ℕ) (s : Disks) (d : ℕ)
     → IsInRange m → d < m.setup.geometry.disks → out_disk s.power m ≡ None → ((x : ℕ) → named ≡ Some x → named_out m.out ≡ Some x)

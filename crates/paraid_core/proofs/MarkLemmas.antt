@@ -32,7 +32,7 @@ use Rattle.paraid_txn.specs.Stores.{named_of, store_rack}
 use Rattle.paraid_core.specs.declared.staged.Core.{Core}
 use Rattle.paraid_core.specs.CoreInvariant.{AreSlotsReady, HoldsBetweenCalls, IsHeldWithOneMissing}
 use Rattle.paraid_core.specs.Cores.{CanCoreServe, CoreStandsFor, IsCoreHeldSinceCommit, IsCoreReady}
-use Rattle.paraid_core.specs.Fills.{Filled}
+use Rattle.paraid_core.specs.Fills.{Filled, KeepsFilled}
 use Rattle.paraid_core.proofs.CallLemmas.{keeps_held}
 use Rattle.paraid_core.proofs.LostDiskLemmas.{out_all}
 
@@ -81,6 +81,16 @@ module _ (m : Meta) (gear : ℕ) (phase : Phase) (fill ticks : ℕ) (spins : Lis
     apart = ready.apart;
   }
 
+-- with nothing staged
+restaged_filled : (m : Meta) (ticks slots : ℕ) (named : Option ℕ) (table : List (List Bool)) (copied : List Bool) (h : History) (lo : ℕ) (s : Disks) → KeepsFilled slots named m table copied h lo m.fill s
+    → ContentOk slots s.power s.size (view_by (record m { ticks = ticks }) s.power (contents s [])) h (length h) → KeepsFilled slots named (record m { ticks = ticks }) table copied h lo m.fill s
+unfolding keeps_restaged
+restaged_filled m ticks slots named table copied h lo s kf staged = record {
+  keeps = keeps_restaged m m.gear m.phase m.fill ticks m.spins slots named table [] copied h lo s staged kf.keeps;
+  shift = record { gear = kf.shift.gear; rises = kf.shift.rises; fresh = kf.shift.fresh; phase = kf.shift.phase; fill = kf.shift.fill; rebuilt = kf.shift.rebuilt };
+  filled = λ t from l. absurd (omega arith);
+}
+
 pub tick_ready : (count : ℕ) (slot : ℕ → Slot) (last array : ℕ) (named : Option ℕ) (m : Meta) (rows : ℕ) (batch : Batch) (ticks : ℕ) → m.ticks ≤ ticks → ticks < 2 ^ 64
     → AreSlotsReady count slot last array named m rows batch → AreSlotsReady count slot last array named (record m { ticks = ticks }) rows batch
 tick_ready count slot last array named m rows batch ticks low high ready =
@@ -102,6 +112,20 @@ tick_stands count slot told old ready ticks h lo =
     (λ t tells k. keeps_restaged m m.gear m.phase m.fill ticks m.spins slots named old.dirty old.batch old.copied h lo (now t)
     (fits_later slots (now t).power (now t).size h (length h) m (record m { ticks = ticks }) (contents (now t) old.batch) (record { setup = refl; gear = refl; phase = refl; fill = refl; out = refl; spins = refl })
     (λ d u fresh. named_below m.setup.geometry m.gear m.out d ready.in_range.out (ap named_out fresh.is)) k.staged) k)
+
+-- copies can begin after it where they could before
+pub tick_filled : {R : Type 0} {g : _} (count : R → ℕ) (told : R → Option Trail) (old : Core R g) → IsInRange old.meta → (ticks : ℕ) (h : History) (lo : ℕ)
+    → Ran (told (store_rack old.store)) (told (store_rack old.store)) (CrashTriple (IsCoreHeldSinceCommit count old h lo) (Filled count old h lo old.meta.fill)
+    (KeepsFilled (count (store_rack old.store)) (named_of old.store) (record old.meta { ticks = ticks }) old.dirty old.copied h lo old.meta.fill))
+tick_filled count told old range ticks h lo =
+    let m = old.meta in
+    let slots = count (store_rack old.store) in
+    let named = named_of old.store in
+    stays (IsCoreHeldSinceCommit count old h lo) (Filled count old h lo m.fill) (KeepsFilled slots named (record m { ticks = ticks }) old.dirty old.copied h lo m.fill) (told (store_rack old.store))
+    (λ s kf. keeps_held slots named (record m { ticks = ticks }) old.dirty [] old.copied h lo s kf.keeps)
+    (λ t tells kf. restaged_filled m ticks slots named old.dirty old.copied h lo (now t) kf
+    (fits_later slots (now t).power (now t).size h (length h) m (record m { ticks = ticks }) (contents (now t) []) (record { setup = refl; gear = refl; phase = refl; fill = refl; out = refl; spins = refl })
+    (λ d u fresh. named_below m.setup.geometry m.gear m.out d range.out (ap named_out fresh.is)) kf.keeps.staged))
 
 -- a disk that is parked can count one more
 pub spin_fits : (m : Meta) (d : ℕ) → IsInRange m → m.phase ≡ Steady → m.gear ≤ d → d < m.setup.geometry.disks → slice_index m.spins d < 65535

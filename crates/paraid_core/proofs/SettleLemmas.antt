@@ -50,7 +50,7 @@ cleared_at copied d = record {
 
 module _ (slots : ℕ) (named : Option ℕ) (m : Meta) (table : List (List Bool)) (batch : Batch) (copied copied_then : List Bool) (h : History) (lo : ℕ) (s : Disks) (d : ℕ)
     (cleared : IsCleared copied copied_then d) (k : HoldsBetweenCalls slots named m table batch copied h lo s) where
-  place_synced : (x p : ℕ) → IsPresent (step (Sync d true) s) x → (x < m.setup.geometry.disks → is_copied copied_then x ≡ false) → (step (Sync d true) s).loose x p ≡ false
+  pub place_synced : (x p : ℕ) → IsPresent (step (Sync d true) s) x → (x < m.setup.geometry.disks → is_copied copied_then x ≡ false) → (step (Sync d true) s).loose x p ≡ false
   unfolding step
   place_synced x p here copies_synced = elim (cases_eq x d) [
     | inl is ↦ ap (λ (l : ℕ → Bool). l p) (with_at_same s.loose d (λ q. false) x is)

@@ -178,7 +178,7 @@ module _ (slots : ℕ) (named : Option ℕ) (m : Meta) (table : List (List Bool)
   unfolding keeps_then
   filled_then = record {
     keeps = keeps_then;
-    shift = record { gear = kf.shift.gear; rises = kf.shift.rises; fresh = kf.shift.fresh; phase = kf.shift.phase; fill = kf.shift.fill };
+    shift = record { gear = kf.shift.gear; rises = kf.shift.rises; fresh = kf.shift.fresh; phase = kf.shift.phase; fill = kf.shift.fill; rebuilt = kf.shift.rebuilt };
     filled = λ t low_t high. filled_stays m s.power f after in_range all_in agree to t (λ x. elsewhere x (soft_place_of g to t) (λ is. λ here. absurd (omega arith))) (kf.filled t low_t high);
   }
 

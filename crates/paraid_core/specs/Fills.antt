@@ -19,13 +19,14 @@ use Rattle.paraid_core.specs.CoreInvariant.{HoldsBetweenCalls}
 use Rattle.paraid_core.specs.Cores.{IsCoreHeldSinceCommit}
 
 -- The gear is that of the last commit, and while no disk is out the shift is; a disk that was being
--- rebuilt is out.
+-- rebuilt is out, and while one is being rebuilt its marks are those of the last commit.
 pub record IsShiftCommitted (base m : Meta) : Type 0 where
   pub gear : base.gear ≡ m.gear
   pub rises : rising_to base.phase ≡ rising_to m.phase
   pub fresh : (d units : ℕ) → base.out ≡ Fresh d units → named_out m.out ≡ Some d
   pub phase : m.out ≡ No → base.phase ≡ m.phase
   pub fill : m.out ≡ No → base.fill ≡ m.fill
+  pub rebuilt : (d units : ℕ) → m.out ≡ Fresh d units → base.out ≡ Fresh d units
 
 -- What the disks hold while stripes are copied: nothing is staged over the last commit, and the
 -- stripes of the new gear from the fill mark to `end` are copied.

@@ -7,8 +7,8 @@ use Rattle.paraid_rack.specs.Trail.{Trail}
 use Rattle.paraid_record.specs.declared.meta.Meta.{Meta}
 use Rattle.paraid_image.specs.Out.{named_out}
 use Rattle.paraid_txn.specs.Stores.{disks_of, store_rack}
-use Rattle.paraid_view.specs.Reads.{AreLeft, AreArrayReads}
-use Rattle.paraid_view.proofs.ReadLemmas.{left_none, left_then, ran_none, ran_then, told_before}
+use Rattle.paraid_view.specs.Reads.{AreLeft, AreArrayReads, AreOffDisk}
+use Rattle.paraid_view.proofs.ReadLemmas.{left_none, left_then, off_none, off_then, ran_none, ran_then, told_before}
 use Rattle.paraid_core.specs.declared.staged.Core.{Core}
 use Rattle.paraid_core.specs.Plans.{LeadsTo}
 
@@ -24,6 +24,7 @@ module _ {R : Type 0} {g : _} (count : R → ℕ) (slot : R → ℕ → Slot) (t
     undone_same = refl;
     logged = λ are. are;
     calls = ran_none (told (store_rack a.store)) (disks_of a.store);
+    off = off_none (named_out a.meta.out) (told (store_rack a.store));
     left = λ none. subst (λ (f : Option ℕ). AreLeft f (slot (store_rack a.store)) (slot (store_rack a.store))) (sym none) (left_none (slot (store_rack a.store)));
     over = λ e is. (is, refl);
     below = λ e none is. let z : None ≡ Some e = sym none ∙ is in cc;
@@ -64,6 +65,8 @@ module _ {R : Type 0} {g : _} (count : R → ℕ) (slot : R → ℕ → Slot) (t
       logged = λ are. q.logged (p.logged are);
       calls = ran_then (told (store_rack a.store)) (told (store_rack b.store)) (told (store_rack c.store)) (disks_of a.store) p.calls
           (subst (λ (n : ℕ). Ran (told (store_rack b.store)) (told (store_rack c.store)) (AreArrayReads n)) p.same.disks q.calls);
+      off = off_then (named_out a.meta.out) (told (store_rack a.store)) (told (store_rack b.store)) (told (store_rack c.store)) p.off
+          (subst (λ (m : Meta). Ran (told (store_rack b.store)) (told (store_rack c.store)) (AreOffDisk (named_out m.out))) p.meta q.off);
       left = left_by b.failed refl;
       over = λ e is. let o = p.over e is in let k = q.over e o.0 in (k.0, k.1 ∙ o.1);
       below = below_by b.failed refl;

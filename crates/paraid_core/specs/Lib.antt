@@ -12,3 +12,8 @@ pub mod Begin
 pub mod Steps
 pub mod Fills
 pub mod CellCopies
+pub mod Calls
+pub mod Replaced
+pub mod Units
+pub mod Stood
+pub mod Lost

@@ -12,7 +12,7 @@ use Rattle.paraid_image.specs.Out.{named_out}
 use Rattle.paraid_image.specs.Sides.{Batch}
 use Rattle.paraid_image.specs.Standing.{Contents, contents}
 use Rattle.paraid_txn.specs.Stores.{IsSameStore, disks_of, store_rack}
-use Rattle.paraid_view.specs.Reads.{AreLeft, AreArrayReads, CanRead}
+use Rattle.paraid_view.specs.Reads.{AreLeft, AreArrayReads, AreOffDisk, CanRead}
 use Rattle.paraid_core.specs.declared.staged.Core.{Core}
 use Rattle.paraid_core.specs.Undo.{AreOfTable, undo_changes}
 
@@ -53,6 +53,7 @@ pub record LeadsTo {R : Type 0} {g : _} (count : R → ℕ) (slot : R → ℕ �
   pub undone_same : undo_changes b.changes (is_dirty b.dirty) ≡ undo_changes a.changes (is_dirty a.dirty)
   pub logged : AreOfTable (length a.dirty) a.changes → AreOfTable (length b.dirty) b.changes
   pub calls : Ran (told (store_rack a.store)) (told (store_rack b.store)) (AreArrayReads (disks_of a.store))
+  pub off : Ran (told (store_rack a.store)) (told (store_rack b.store)) (AreOffDisk (named_out a.meta.out))
   pub left : a.failed ≡ None → AreLeft b.failed (slot (store_rack a.store)) (slot (store_rack b.store))
   pub over : (e : ℕ) → a.failed ≡ Some e → (b.failed ≡ Some e) × (slot (store_rack b.store) ≡ slot (store_rack a.store))
   pub below : (e : ℕ) → a.failed ≡ None → b.failed ≡ Some e → (e < disks_of a.store) × (named_out a.meta.out ≢ Some e)

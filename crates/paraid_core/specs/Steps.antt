@@ -1,5 +1,5 @@
 -- What one call between two commits leaves of a core.
-use Rattle.std.specs.Prelude.{◌≡◌, ◌≢◌, ℕ, ◌<◌, ◌⊎◌, Bool, true, false, List, Option, Some}
+use Rattle.std.specs.Prelude.{◌≡◌, ◌≢◌, ℕ, ◌<◌, ◌≤◌, ◌⊎◌, Bool, true, false, List, Option, Some}
 use Rattle.paraid_base.specs.History.{History}
 use Rattle.paraid_base.specs.Told.{HasRisen}
 use Rattle.paraid_rack.specs.Disks.{is_present}
@@ -33,6 +33,12 @@ IsNamedOrAbsent slot core = (d : ℕ) → named_out core.meta.out ≡ Some d
 abbrev pub AreUnsyncedCopied : {R : Type 0} {g : _} → (R → ℕ → Slot) → Core R g → Type 0
 AreUnsyncedCopied slot core = (d : ℕ) → d < core.meta.setup.geometry.disks → is_present (slot (store_rack core.store) d).power ≡ true
     → (slot (store_rack core.store) d).unsynced ≡ true → is_copied core.copied d ≡ true
+
+-- A disk that is there was there before, with the same size, and no count of faults falls.
+pub record OnlyTurnsDisks (old new : ℕ → Slot) : Type 0 where
+  pub there : (d : ℕ) → is_present (new d).power ≡ true → is_present (old d).power ≡ true
+  pub size : (d : ℕ) → is_present (new d).power ≡ true → (new d).size ≡ (old d).size
+  pub no_fall : (d : ℕ) → (old d).faults ≤ (new d).faults
 
 -- Over every rack: what is staged is as it was, and a disk that was lost is marked; it has failed.
 pub record LeavesCore {R : Type 0} {g : _} (count : R → ℕ) (slot : R → ℕ → Slot) (old new : Core R g) : Type 0 where

@@ -7,10 +7,13 @@ ghost use Rattle.paraid_core.specs.CellCopies.{CellsCopied, CopyingCell, KeepsCe
 ghost use Rattle.paraid_core.specs.Fills.{KeepsFilled};
 ghost use Rattle.paraid_core.specs.Steps.{LeavesCore};
 ghost use Rattle.paraid_dirty.specs.Table.{is_dirty};
+ghost use Rattle.paraid_image.specs.Mark.{meta_after_loss};
 ghost use Rattle.paraid_rack.specs.Disks.{Disks};
 ghost use Rattle.paraid_rack.specs.Told.{Ran, CrashTriple};
 ghost use Rattle.paraid_record.specs.declared.meta.Meta.{Meta as MetaType};
-ghost use Rattle.paraid_txn.specs.Losses.{OnlyLosesSlots, AreTwoDown};
+ghost use Rattle.paraid_txn.specs.Losses.{IsLostNow, OnlyLosesSlots, AreTwoDown};
+ghost use Rattle.paraid_core.specs.Calls.{MakesDataCalls};
+ghost use Rattle.paraid_core.specs.Lost.{CoreLosesDisk, CoreMarksLost};
 
 use crate::fill::mark;
 use crate::staged::{Core, lose};
@@ -38,11 +41,16 @@ impl<R: Rack> Core<R> {
         ensures spared { OnlyLosesSlots (R.slot (core_rack self.old)) (R.slot (core_rack self.new)) }
         ensures two { IfErr result (AreTwoDown (core_down self.old)
             (R.slot (core_rack self.old)) (R.slot (core_rack self.new))) }
+        ensures calls { MakesDataCalls R.told self.old self.new }
+        ensures marks { OnOk result (CoreMarksLost R.slot self.old self.new) }
         ensures copied { result ≡ Ok true → (h : History) (lo : ℕ) (cells : ℕ → ℕ → Bool)
             → Ran (R.told (core_rack self.old)) (R.told (core_rack self.new))
             (CrashTriple (IsCoreHeldSinceCommit R.slot_count self.old h lo)
             (CopyingCell R.slot_count self.old h lo cells r disk block.now)
             (CellsCopied R.slot_count self.new h lo (copied_with cells r disk))) }
+        // The disk has failed, and is gone.
+        ensures gone { result ≡ Ok false → meta_of self.new ≡ meta_after_loss (meta_of self.old) disk }
+        ensures failed { result ≡ Ok false → IsLostNow (R.slot (core_rack self.old)) (R.slot (core_rack self.new)) disk }
         ensures lost { result ≡ Ok false → (h : History) (lo : ℕ) (cells : ℕ → ℕ → Bool)
             → Ran (R.told (core_rack self.old)) (R.told (core_rack self.new))
             (CrashTriple (IsCoreHeldSinceCommit R.slot_count self.old h lo)
@@ -83,12 +91,16 @@ impl<R: Rack> Core<R> {
         ensures spared { OnlyLosesSlots (R.slot (core_rack self.old)) (R.slot (core_rack self.new)) }
         ensures two { IfErr result (AreTwoDown (core_down self.old)
             (R.slot (core_rack self.old)) (R.slot (core_rack self.new))) }
+        ensures calls { MakesDataCalls R.told self.old self.new }
+        ensures marks { OnOk result (CoreMarksLost R.slot self.old self.new) }
         // The cells before it stay copied, and this one is.
         ensures copied { result ≡ Ok true → (h : History) (lo : ℕ) (cells : ℕ → ℕ → Bool)
             → Ran (R.told (core_rack self.old)) (R.told (core_rack self.new))
             (CrashTriple (IsCoreHeldSinceCommit R.slot_count self.old h lo)
             (CellsCopied R.slot_count self.old h lo cells)
             (CellsCopied R.slot_count self.new h lo (copied_with cells r disk))) }
+        // A disk of the array has failed, and is gone.
+        ensures failed { result ≡ Ok false → CoreLosesDisk R.slot self.old self.new }
         ensures lost { result ≡ Ok false → (h : History) (lo : ℕ) (cells : ℕ → ℕ → Bool)
             → Ran (R.told (core_rack self.old)) (R.told (core_rack self.new))
             (CrashTriple (IsCoreHeldSinceCommit R.slot_count self.old h lo)

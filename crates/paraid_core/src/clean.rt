@@ -14,6 +14,9 @@ ghost use Rattle.paraid_rack.specs.Trail.{Trail, now};
 ghost use Rattle.paraid_txn.specs.Losses.{StaySynced, OnlyLosesSlots, AreTwoDown};
 ghost use Rattle.paraid_core.specs.Steps.{AreUnsyncedCopied};
 ghost use Rattle.paraid_core.specs.Cleaning.{cleaning as cleaning_in, is_cleaned, read_commits_first};
+ghost use Rattle.paraid_core.specs.Calls.{MakesTransferCalls, CommitsWhole, MakesDataCalls, RestsCommitted};
+ghost use Rattle.paraid_core.specs.Lost.{CoreMarksLost};
+ghost use Rattle.paraid_txn.specs.Stores.{named_of};
 
 use crate::staged::Core;
 use crate::take::take;
@@ -164,6 +167,17 @@ impl<R: Rack> Core<R> {
         ensures unsynced { OnOk result (AreUnsyncedCopied R.slot self.old → AreUnsyncedCopied R.slot self.new) }
         ensures two { IfErr result (AreTwoDown (core_down self.old)
             (R.slot (core_rack self.old)) (R.slot (core_rack self.new))) }
+        ensures calls { MakesTransferCalls R.told self.old self.new }
+        // Where it commits first, one of two metas stands at each moment; else it writes nothing in the log.
+        ensures kept { read_commits_first (meta_of self.old) (core_table self.old) (batch_of self.old) block ≡ false → MakesDataCalls R.told self.old self.new }
+        ensures whole { read_commits_first (meta_of self.old) (core_table self.old) (batch_of self.old) block ≡ true
+            → CommitsWhole R.slot_count R.told self.old self.new }
+        ensures rest { OnOk result (read_commits_first (meta_of self.old) (core_table self.old) (batch_of self.old) block ≡ true
+            → RestsCommitted R.slot_count R.told self.old self.new) }
+        ensures names { OnOk result (named_of (store_of self.new)
+            ≡ (if read_commits_first (meta_of self.old) (core_table self.old) (batch_of self.old) block then named_out_of (meta_of self.old).out else named_of (store_of self.old))) }
+        // A disk that failed is marked as out and absent, and no other one has failed.
+        ensures marks { OnOk result (CoreMarksLost R.slot self.old self.new) }
         ensures down { OnOk result (IsDownAfter (core_down self.old) (core_down self.new)
             (R.slot (core_rack self.old)) (R.slot (core_rack self.new))) }
 

@@ -9,10 +9,13 @@ ghost use Rattle.paraid_base.specs.States.{phase_to};
 ghost use Rattle.paraid_core.specs.Fills.{Filled, Filling, member};
 ghost use Rattle.paraid_core.specs.CoreInvariant.{is_copied};
 ghost use Rattle.paraid_core.specs.Steps.{IsHeldStill, IsStillOut, LeavesCore, StandsStill};
+ghost use Rattle.paraid_image.specs.Mark.{meta_after_loss};
 ghost use Rattle.paraid_rack.specs.declared.call.Power.TheVariants.{Spinning};
 ghost use Rattle.paraid_rack.specs.Told.{Ran, CrashTriple};
-ghost use Rattle.paraid_txn.specs.Losses.{OnlyLosesSlots, AreTwoDown};
+ghost use Rattle.paraid_txn.specs.Losses.{IsLostNow, OnlyLosesSlots, AreTwoDown};
 ghost use Rattle.paraid_txn.specs.Stores.{named_of};
+ghost use Rattle.paraid_core.specs.Calls.{MakesDataCalls};
+ghost use Rattle.paraid_core.specs.Lost.{CoreLosesDisk, CoreMarksLost};
 
 use crate::gather::gather;
 use crate::staged::{Core, lose};
@@ -68,12 +71,17 @@ impl<R: Rack> Core<R> {
         ensures spared { OnlyLosesSlots (R.slot (core_rack self.old)) (R.slot (core_rack self.new)) }
         ensures two { IfErr result (AreTwoDown (core_down self.old)
             (R.slot (core_rack self.old)) (R.slot (core_rack self.new))) }
+        ensures calls { MakesDataCalls R.told self.old self.new }
+        ensures marks { OnOk result (CoreMarksLost R.slot self.old self.new) }
         ensures written { result ≡ Ok true → (h : History) (lo : ℕ) (blocks : _)
             → block.now ≡ member blocks disk
             → Ran (R.told (core_rack self.old)) (R.told (core_rack self.new))
             (CrashTriple (IsCoreHeldSinceCommit R.slot_count self.old h lo)
             (Filling R.slot_count self.old h lo s blocks disk)
             (Filling R.slot_count self.new h lo s blocks (disk + 1))) }
+        // The disk has failed, and is gone.
+        ensures gone { result ≡ Ok false → meta_of self.new ≡ meta_after_loss (meta_of self.old) disk }
+        ensures failed { result ≡ Ok false → IsLostNow (R.slot (core_rack self.old)) (R.slot (core_rack self.new)) disk }
         ensures lost { result ≡ Ok false → (h : History) (lo : ℕ) → Ran (R.told (core_rack self.old)) (R.told (core_rack self.new))
             (CrashTriple (IsCoreHeldSinceCommit R.slot_count self.old h lo) (CoreStandsFor R.slot_count self.old h lo) (CoreStandsFor R.slot_count self.new h lo)) }
         ensures moments { (h : History) (lo : ℕ) → Ran (R.told (core_rack self.old)) (R.told (core_rack self.new))
@@ -105,11 +113,15 @@ impl<R: Rack> Core<R> {
         ensures spared { OnlyLosesSlots (R.slot (core_rack self.old)) (R.slot (core_rack self.new)) }
         ensures two { IfErr result (AreTwoDown (core_down self.old)
             (R.slot (core_rack self.old)) (R.slot (core_rack self.new))) }
+        ensures calls { MakesDataCalls R.told self.old self.new }
+        ensures marks { OnOk result (CoreMarksLost R.slot self.old self.new) }
         ensures filled { result ≡ Ok true → (h : History) (lo : ℕ)
             → Ran (R.told (core_rack self.old)) (R.told (core_rack self.new))
             (CrashTriple (IsCoreHeldSinceCommit R.slot_count self.old h lo)
             (Filling R.slot_count self.old h lo s blocks.now 0)
             (Filled R.slot_count self.new h lo (s + 1))) }
+        // A disk of the array has failed, and is gone.
+        ensures failed { result ≡ Ok false → CoreLosesDisk R.slot self.old self.new }
         ensures lost { result ≡ Ok false → (h : History) (lo : ℕ)
             → Ran (R.told (core_rack self.old)) (R.told (core_rack self.new))
             (CrashTriple (IsCoreHeldSinceCommit R.slot_count self.old h lo)
@@ -154,11 +166,15 @@ impl<R: Rack> Core<R> {
         ensures spared { OnlyLosesSlots (R.slot (core_rack self.old)) (R.slot (core_rack self.new)) }
         ensures two { IfErr result (AreTwoDown (core_down self.old)
             (R.slot (core_rack self.old)) (R.slot (core_rack self.new))) }
+        ensures calls { MakesDataCalls R.told self.old self.new }
+        ensures marks { OnOk result (CoreMarksLost R.slot self.old self.new) }
         // The stripes before it stay copied, and this one is.
         ensures filled { result ≡ Ok true → (h : History) (lo : ℕ)
             → Ran (R.told (core_rack self.old)) (R.told (core_rack self.new))
             (CrashTriple (IsCoreHeldSinceCommit R.slot_count self.old h lo) (Filled R.slot_count self.old h lo s)
             (Filled R.slot_count self.new h lo (s + 1))) }
+        // A disk of the array has failed, and is gone.
+        ensures failed { result ≡ Ok false → CoreLosesDisk R.slot self.old self.new }
         ensures lost { result ≡ Ok false → (h : History) (lo : ℕ)
             → Ran (R.told (core_rack self.old)) (R.told (core_rack self.new))
             (CrashTriple (IsCoreHeldSinceCommit R.slot_count self.old h lo) (Filled R.slot_count self.old h lo s)

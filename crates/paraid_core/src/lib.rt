@@ -14,14 +14,20 @@ mod marks;
 mod park;
 mod plan;
 mod ready;
+mod replace;
 mod settle;
 mod staged;
 mod take;
+mod units;
 mod values;
 mod write;
 
 pub use cells::cells_are_copied_beside_stripes;
 pub use changes::{Change, Changes};
-pub use laws::{a_rest_is_stood_for, a_taken_write_is_accepted};
+pub use laws::{
+    a_powered_array_can_begin, a_rest_is_stood_for, a_taken_write_is_accepted,
+    an_attach_brings_no_meta, what_stands_stood_before,
+};
 pub use ready::can_begin;
 pub use staged::Core;
+pub use units::{RebuildUnit, units_are_copied_beside_stripes};

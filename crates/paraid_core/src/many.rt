@@ -1,10 +1,14 @@
 //! The write of one to eight blocks as one entry, which first commits what leaves no room for it.
-ghost use Rattle.std.specs.Prelude.{◌≡◌, ℕ, ◌+◌, ◌*◌, ◌^◌, ◌<◌, ◌≤◌, ◌∷◌, ◌++◌, [], length, Some, All, OnOk, IfErr, if◌then◌else◌, false};
+ghost use Rattle.std.specs.Prelude.{◌≡◌, ℕ, ◌+◌, ◌*◌, ◌^◌, ◌<◌, ◌≤◌, ◌∷◌, ◌++◌, [], length, Some, All, OnOk, IfErr, if◌then◌else◌, false, true};
 ghost use Rattle.paraid_base.specs.declared.block.Block.{Block as BlockType};
 ghost use Rattle.paraid_base.specs.History.{History};
 ghost use Rattle.paraid_base.specs.Pairs.{pairs_of};
 ghost use Rattle.paraid_rack.specs.Told.{Ran, CrashTriple};
+ghost use Rattle.paraid_txn.specs.Commit.{gone_out as gone_out_of};
 ghost use Rattle.paraid_txn.specs.Losses.{StaySynced, OnlyLosesSlots, AreTwoDown};
+ghost use Rattle.paraid_core.specs.Calls.{MakesDataCalls, MakesTransferCalls, CommitsWhole, RestsCommitted};
+ghost use Rattle.paraid_core.specs.Lost.{CoreMarksLost, MakesReads};
+ghost use Rattle.paraid_image.specs.Out.{named_out as named_out_of};
 
 use crate::staged::Core;
 use paraid_base::{Block, BlockNo, Pairs, Two};
@@ -49,10 +53,18 @@ impl<R: Rack> Core<R> {
         ensures unsynced { OnOk result (AreUnsyncedCopied R.slot self.old → AreUnsyncedCopied R.slot self.new) }
         ensures two { IfErr result (AreTwoDown (core_down self.old)
             (R.slot (core_rack self.old)) (R.slot (core_rack self.new))) }
+        ensures calls { MakesTransferCalls R.told self.old self.new }
+        ensures idle { commits_first (batch_of self.old) targets ≡ false → R.told (core_rack self.new) ≡ R.told (core_rack self.old) }
+        ensures whole { commits_first (batch_of self.old) targets ≡ true → CommitsWhole R.slot_count R.told self.old self.new }
+        ensures marks { OnOk result (CoreMarksLost R.slot self.old self.new) }
+        ensures names { OnOk result (named_of (store_of self.new)
+            ≡ (if commits_first (batch_of self.old) targets then named_out_of (meta_of self.old).out else named_of (store_of self.old))) }
         ensures down { OnOk result (IsDownAfter (core_down self.old) (core_down self.new)
             (R.slot (core_rack self.old)) (R.slot (core_rack self.new))) }
         ensures named { OnOk result ((d : ℕ) → named_of (store_of self.new) ≡ Some d
             → core_down self.old ≡ Some d) }
+        ensures gone { OnOk result ((d : ℕ) → gone_out_of (meta_of self.old).out ≡ Some d
+            → gone_out_of (meta_of self.new).out ≡ Some d) }
         ensures moments { (h : History) (lo : ℕ)
             → Ran (R.told (core_rack self.old)) (R.told (core_rack self.new))
             (CrashTriple (IsCoreHeld R.slot_count self.old h lo) (CoreStandsFor R.slot_count self.old h lo)
@@ -93,6 +105,10 @@ impl<R: Rack> Core<R> {
         ensures unsynced { OnOk result (AreUnsyncedCopied R.slot self.old → AreUnsyncedCopied R.slot self.new) }
         ensures two { IfErr result (AreTwoDown (core_down self.old)
             (R.slot (core_rack self.old)) (R.slot (core_rack self.new))) }
+        ensures calls { MakesDataCalls R.told self.old self.new }
+        ensures reads { MakesReads R.told self.old self.new }
+        ensures marks { OnOk result (CoreMarksLost R.slot self.old self.new) }
+        ensures named { OnOk result (named_of (store_of self.new) ≡ named_of (store_of self.old)) }
         ensures down { OnOk result (IsDownAfter (core_down self.old) (core_down self.new)
             (R.slot (core_rack self.old)) (R.slot (core_rack self.new))) }
         ensures moments { (h : History) (lo : ℕ)
@@ -142,6 +158,17 @@ impl<R: Rack> Core<R> {
         ensures unsynced { OnOk result (AreUnsyncedCopied R.slot self.old → AreUnsyncedCopied R.slot self.new) }
         ensures two { IfErr result (AreTwoDown (core_down self.old)
             (R.slot (core_rack self.old)) (R.slot (core_rack self.new))) }
+        ensures calls { MakesTransferCalls R.told self.old self.new }
+        // Where it commits first, one of two metas stands at each moment; else it writes nothing in the log.
+        ensures kept { commits_first (batch_of self.old) (10 * pairs.now.count) ≡ false → MakesDataCalls R.told self.old self.new }
+        ensures whole { commits_first (batch_of self.old) (10 * pairs.now.count) ≡ true
+            → CommitsWhole R.slot_count R.told self.old self.new }
+        ensures rest { OnOk result (commits_first (batch_of self.old) (10 * pairs.now.count) ≡ true
+            → RestsCommitted R.slot_count R.told self.old self.new) }
+        ensures names { OnOk result (named_of (store_of self.new)
+            ≡ (if commits_first (batch_of self.old) (10 * pairs.now.count) then named_out_of (meta_of self.old).out else named_of (store_of self.old))) }
+        // A disk that failed is marked as out and absent, and no other one has failed.
+        ensures marks { OnOk result (CoreMarksLost R.slot self.old self.new) }
         ensures down { OnOk result (IsDownAfter (core_down self.old) (core_down self.new)
             (R.slot (core_rack self.old)) (R.slot (core_rack self.new))) }
 
@@ -186,6 +213,17 @@ impl<R: Rack> Core<R> {
         ensures unsynced { OnOk result (AreUnsyncedCopied R.slot self.old → AreUnsyncedCopied R.slot self.new) }
         ensures two { IfErr result (AreTwoDown (core_down self.old)
             (R.slot (core_rack self.old)) (R.slot (core_rack self.new))) }
+        ensures calls { MakesTransferCalls R.told self.old self.new }
+        // Where it commits first, one of two metas stands at each moment; else it writes nothing in the log.
+        ensures kept { commits_first (batch_of self.old) 10 ≡ false → MakesDataCalls R.told self.old self.new }
+        ensures whole { commits_first (batch_of self.old) 10 ≡ true
+            → CommitsWhole R.slot_count R.told self.old self.new }
+        ensures rest { OnOk result (commits_first (batch_of self.old) 10 ≡ true
+            → RestsCommitted R.slot_count R.told self.old self.new) }
+        ensures names { OnOk result (named_of (store_of self.new)
+            ≡ (if commits_first (batch_of self.old) 10 then named_out_of (meta_of self.old).out else named_of (store_of self.old))) }
+        // A disk that failed is marked as out and absent, and no other one has failed.
+        ensures marks { OnOk result (CoreMarksLost R.slot self.old self.new) }
         ensures down { OnOk result (IsDownAfter (core_down self.old) (core_down self.new)
             (R.slot (core_rack self.old)) (R.slot (core_rack self.new))) }
         ensures moments { (h : History) (lo : ℕ)

@@ -183,6 +183,12 @@ impl<R: Rack> Core<R> {
             → Ran (R.told (core_rack self.old)) (R.told (core_rack self.new))
             (CrashTriple (IsCoreHeldSinceCommit R.slot_count self.old h lo)
             (CoreStandsFor R.slot_count self.old h lo) (CoreStandsFor R.slot_count self.new h lo)) }
+        // Copies can begin after it where they could before.
+        ensures filled { (h : History) (lo : ℕ)
+            → Ran (R.told (core_rack self.old)) (R.told (core_rack self.new))
+            (CrashTriple (IsCoreHeldSinceCommit R.slot_count self.old h lo)
+            (Filled R.slot_count self.old h lo (meta_of self.old).fill)
+            (Filled R.slot_count self.new h lo (meta_of self.new).fill)) }
     {
         self.meta.ticks = self.meta.ticks.saturating_add(1);
     }

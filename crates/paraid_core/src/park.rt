@@ -1,14 +1,19 @@
 //! Disks are parked and spun up while nothing is staged.
-ghost use Rattle.std.specs.Prelude.{◌≡◌, ◌≢◌, ℕ, ◌<◌, ◌≤◌, true, false, [], Ok, Some, OnOk, IfErr};
+ghost use Rattle.std.specs.Prelude.{◌≡◌, ◌≢◌, ℕ, ◌<◌, ◌≤◌, ◌⊎◌, true, false, [], Ok, Some, OnOk, IfErr};
+ghost use Rattle.paraid_base.specs.declared.state.Out.TheVariants.{Gone};
 ghost use Rattle.paraid_base.specs.History.{History};
 ghost use Rattle.paraid_base.specs.States.{rising_to};
+ghost use Rattle.paraid_base.specs.Told.{HasRisen};
 ghost use Rattle.paraid_core.specs.Fills.{Filled};
-ghost use Rattle.paraid_core.specs.Steps.{AreUnsyncedCopied, IsMarkedFrom, IsStillOut};
+ghost use Rattle.paraid_core.specs.Replaced.{HaveComeUpBut};
+ghost use Rattle.paraid_core.specs.Steps.{AreUnsyncedCopied, IsMarkedFrom, IsNamedOrAbsent, IsStillOut, OnlyTurnsDisks};
 ghost use Rattle.paraid_image.specs.Out.{named_out as named_out_of};
 ghost use Rattle.paraid_rack.specs.declared.call.Power.TheVariants.{Parked, Spinning};
 ghost use Rattle.paraid_rack.specs.Told.{CrashTriple, Ran};
-ghost use Rattle.paraid_txn.specs.Losses.{AreTwoDown};
+ghost use Rattle.paraid_txn.specs.Losses.{AreTwoDown, IsLostNow};
 ghost use Rattle.paraid_txn.specs.Stores.{IsSameStore, named_of};
+ghost use Rattle.paraid_core.specs.Calls.{MakesOneCall};
+ghost use Rattle.paraid_rack.specs.declared.call.Call.TheVariants.{Park, SpinUp};
 
 use crate::staged::{Core, lose};
 use paraid_base::{DiskNo, Two};
@@ -43,8 +48,16 @@ impl<R: Rack> Core<R> {
         ensures copied { copied_of self.new ≡ copied_of self.old }
         ensures draft { draft_of self.new ≡ draft_of self.old }
         ensures unsynced { OnOk result (AreUnsyncedCopied R.slot self.old → AreUnsyncedCopied R.slot self.new) }
+        ensures turned { OnlyTurnsDisks (R.slot (core_rack self.old)) (R.slot (core_rack self.new)) }
+        ensures risen { OnOk result ((d : ℕ) → named_out_of (meta_of self.new).out ≡ Some d
+            → (named_out_of (meta_of self.old).out ≡ Some d)
+            ⊎ HasRisen (R.slot (core_rack self.old) d).faults (R.slot (core_rack self.new) d).faults) }
+        ensures gone { result ≡ Ok false → (meta_of self.new).out ≡ Gone disk }
+        ensures failed { result ≡ Ok false → IsLostNow (R.slot (core_rack self.old)) (R.slot (core_rack self.new)) disk }
+        ensures absent { OnOk result (IsNamedOrAbsent R.slot self.old → IsNamedOrAbsent R.slot self.new) }
         ensures two { IfErr result (AreTwoDown (core_down self.old)
             (R.slot (core_rack self.old)) (R.slot (core_rack self.new))) }
+        ensures calls { MakesOneCall R.told (λ done. Park disk done) self.old self.new }
         ensures done { result ≡ Ok true → (h : History) (lo : ℕ)
             → Ran (R.told (core_rack self.old)) (R.told (core_rack self.new))
             (CrashTriple (IsCoreHeldSinceCommit R.slot_count self.old h lo)
@@ -54,6 +67,11 @@ impl<R: Rack> Core<R> {
             → Ran (R.told (core_rack self.old)) (R.told (core_rack self.new))
             (CrashTriple (IsCoreHeldSinceCommit R.slot_count self.old h lo)
             (CoreStandsFor R.slot_count self.old h lo) (CoreStandsFor R.slot_count self.new h lo)) }
+        ensures lost_filled { result ≡ Ok false → (h : History) (lo : ℕ)
+            → Ran (R.told (core_rack self.old)) (R.told (core_rack self.new))
+            (CrashTriple (IsCoreHeldSinceCommit R.slot_count self.old h lo)
+            (Filled R.slot_count self.old h lo (meta_of self.old).fill)
+            (Filled R.slot_count self.new h lo (meta_of self.new).fill)) }
         ensures moments { (h : History) (lo : ℕ)
             → Ran (R.told (core_rack self.old)) (R.told (core_rack self.new))
             (CrashTriple (IsCoreHeldSinceCommit R.slot_count self.old h lo)
@@ -85,14 +103,25 @@ impl<R: Rack> Core<R> {
         ensures meta { OnOk result (IsMarkedFrom (meta_of self.old) (meta_of self.new)) }
         ensures same { result ≡ Ok true → meta_of self.new ≡ meta_of self.old }
         ensures ready { OnOk result (IsCoreReady R.slot_count R.slot self.new) }
+        // Once all disks of the gear that the shift goes to have come up, cells can be read and written.
+        ensures serves { OnOk result (HaveComeUpBut (R.slot (core_rack self.old)) (meta_of self.old) disk
+            → CanCoreServe R.slot self.new) }
         ensures store { IsSameStore (store_of self.old) (store_of self.new) }
         ensures table { core_table self.new ≡ core_table self.old }
         ensures batch { batch_of self.new ≡ batch_of self.old }
         ensures copied { copied_of self.new ≡ copied_of self.old }
         ensures draft { draft_of self.new ≡ draft_of self.old }
         ensures unsynced { OnOk result (AreUnsyncedCopied R.slot self.old → AreUnsyncedCopied R.slot self.new) }
+        ensures turned { OnlyTurnsDisks (R.slot (core_rack self.old)) (R.slot (core_rack self.new)) }
+        ensures risen { OnOk result ((d : ℕ) → named_out_of (meta_of self.new).out ≡ Some d
+            → (named_out_of (meta_of self.old).out ≡ Some d)
+            ⊎ HasRisen (R.slot (core_rack self.old) d).faults (R.slot (core_rack self.new) d).faults) }
+        ensures gone { result ≡ Ok false → (meta_of self.new).out ≡ Gone disk }
+        ensures failed { result ≡ Ok false → IsLostNow (R.slot (core_rack self.old)) (R.slot (core_rack self.new)) disk }
+        ensures absent { OnOk result (IsNamedOrAbsent R.slot self.old → IsNamedOrAbsent R.slot self.new) }
         ensures two { IfErr result (AreTwoDown (core_down self.old)
             (R.slot (core_rack self.old)) (R.slot (core_rack self.new))) }
+        ensures calls { MakesOneCall R.told (λ done. SpinUp disk done) self.old self.new }
         ensures done { result ≡ Ok true → (h : History) (lo : ℕ)
             → Ran (R.told (core_rack self.old)) (R.told (core_rack self.new))
             (CrashTriple (IsCoreHeldSinceCommit R.slot_count self.old h lo)
@@ -102,6 +131,11 @@ impl<R: Rack> Core<R> {
             → Ran (R.told (core_rack self.old)) (R.told (core_rack self.new))
             (CrashTriple (IsCoreHeldSinceCommit R.slot_count self.old h lo)
             (CoreStandsFor R.slot_count self.old h lo) (CoreStandsFor R.slot_count self.new h lo)) }
+        ensures lost_filled { result ≡ Ok false → (h : History) (lo : ℕ)
+            → Ran (R.told (core_rack self.old)) (R.told (core_rack self.new))
+            (CrashTriple (IsCoreHeldSinceCommit R.slot_count self.old h lo)
+            (Filled R.slot_count self.old h lo (meta_of self.old).fill)
+            (Filled R.slot_count self.new h lo (meta_of self.new).fill)) }
         ensures moments { (h : History) (lo : ℕ)
             → Ran (R.told (core_rack self.old)) (R.told (core_rack self.new))
             (CrashTriple (IsCoreHeldSinceCommit R.slot_count self.old h lo)

@@ -5,9 +5,10 @@ ghost use Rattle.paraid_core.specs.Undo.{AreOfTable, undo_changes};
 ghost use Rattle.paraid_dirty.specs.Table.{table_with_bit, is_dirty};
 ghost use Rattle.paraid_image.specs.Standing.{Contents};
 ghost use Rattle.paraid_plan.specs.WriteTargets.{soft_count, stripe_block_now};
+ghost use Rattle.paraid_rack.specs.Told.{Ran};
 ghost use Rattle.paraid_record.specs.Range.{IsInRange};
 ghost use Rattle.paraid_txn.specs.Stores.{disks_of, store_rack};
-ghost use Rattle.paraid_view.specs.Reads.{CanRead, HaveRead, ShowsContents, lost_by, seen_by};
+ghost use Rattle.paraid_view.specs.Reads.{AreOffDisk, CanRead, HaveRead, ShowsContents, lost_by, seen_by};
 
 use crate::changes::Changes;
 use crate::staged::Core;
@@ -49,6 +50,7 @@ fn read_stripe<R: Rack>(
         store.old store.new }
     ensures below { IfErr result (λ d. d < disks_of store.old) }
     ensures failed { IfErr result (λ d. out ≢ Some d) }
+    ensures off { Ran (R.told (store_rack store.old)) (R.told (store_rack store.new)) (AreOffDisk out) }
     ensures value { OnOk result ((f : Contents) (table : _) → ShowsContents (R.told (store_rack store.old)) (batch.now ++ draft.now) f
         → IsSome (R.told (store_rack store.new))
         → into.new ≡ stripe_block_now (seen_by meta.now table out f) s e) }

@@ -1,11 +1,16 @@
 //! Copies past the log are made to last: each disk to which copies went is synced once.
 ghost use Rattle.std.specs.Prelude.{◌≡◌, ◌≢◌, ℕ, ◌<◌, ◌≤◌, true, false, OnOk, IfErr};
+ghost use Rattle.paraid_core.specs.CellCopies.{StaysCopied};
 ghost use Rattle.paraid_core.specs.CoreInvariant.{AreCopiesSynced, is_copied};
 ghost use Rattle.paraid_core.specs.Fills.{StaysFilled};
+ghost use Rattle.paraid_core.specs.Units.{StaysRebuilt};
 ghost use Rattle.paraid_core.specs.Steps.{IsHeldStill, IsCleared, IsStillOut, LeavesCore, StandsStill};
 ghost use Rattle.paraid_rack.specs.declared.call.Power.TheVariants.{Spinning};
 ghost use Rattle.paraid_txn.specs.Losses.{StaySynced, IsSyncedAt, OnlyLosesSlots, AreTwoDown};
 ghost use Rattle.paraid_txn.specs.Stores.{named_of};
+ghost use Rattle.paraid_core.specs.Calls.{MakesCopySyncs, MakesOneCall};
+ghost use Rattle.paraid_rack.specs.declared.call.Call.TheVariants.{Sync};
+ghost use Rattle.paraid_core.specs.Lost.{CoreMarksLost};
 
 use crate::staged::{Core, lose};
 use paraid_base::{DiskNo, Two};
@@ -39,9 +44,13 @@ impl<R: Rack> Core<R> {
         ensures cleared { IsCleared (copied_of self.old) (copied_of self.new) disk }
         ensures two { IfErr result (AreTwoDown (core_down self.old)
             (R.slot (core_rack self.old)) (R.slot (core_rack self.new))) }
+        ensures calls { MakesOneCall R.told (λ done. Sync disk done) self.old self.new }
+        ensures marks { OnOk result (CoreMarksLost R.slot self.old self.new) }
         ensures moments { IsHeldStill R.slot_count R.told self.old self.new }
         ensures stands { OnOk result (StandsStill R.slot_count R.told self.old self.new) }
         ensures filled { OnOk result (StaysFilled R.slot_count R.told self.old self.new) }
+        ensures cells { OnOk result (StaysCopied R.slot_count R.told self.old self.new) }
+        ensures rebuilt { OnOk result (StaysRebuilt R.slot_count R.told self.old self.new) }
     {
         let answer = self.store.sync(disk);
         self.copied[disk as usize] = false;
@@ -65,9 +74,13 @@ impl<R: Rack> Core<R> {
         ensures cleared { OnOk result (IsCleared (copied_of self.old) (copied_of self.new) disk) }
         ensures two { IfErr result (AreTwoDown (core_down self.old)
             (R.slot (core_rack self.old)) (R.slot (core_rack self.new))) }
+        ensures calls { MakesCopySyncs R.told self.old self.new }
+        ensures marks { OnOk result (CoreMarksLost R.slot self.old self.new) }
         ensures moments { IsHeldStill R.slot_count R.told self.old self.new }
         ensures stands { OnOk result (StandsStill R.slot_count R.told self.old self.new) }
         ensures filled { OnOk result (StaysFilled R.slot_count R.told self.old self.new) }
+        ensures cells { OnOk result (StaysCopied R.slot_count R.told self.old self.new) }
+        ensures rebuilt { OnOk result (StaysRebuilt R.slot_count R.told self.old self.new) }
     {
         if !self.copied[disk as usize] {
             return Ok(());
@@ -94,10 +107,14 @@ impl<R: Rack> Core<R> {
             (copied_of self.new)) }
         ensures two { IfErr result (AreTwoDown (core_down self.old)
             (R.slot (core_rack self.old)) (R.slot (core_rack self.new))) }
+        ensures calls { MakesCopySyncs R.told self.old self.new }
+        ensures marks { OnOk result (CoreMarksLost R.slot self.old self.new) }
         // Each stop leaves what it left before, and the writes are as before.
         ensures moments { IsHeldStill R.slot_count R.told self.old self.new }
         ensures stands { OnOk result (StandsStill R.slot_count R.told self.old self.new) }
         ensures filled { OnOk result (StaysFilled R.slot_count R.told self.old self.new) }
+        ensures cells { OnOk result (StaysCopied R.slot_count R.told self.old self.new) }
+        ensures rebuilt { OnOk result (StaysRebuilt R.slot_count R.told self.old self.new) }
     {
         for disk in 0..self.meta.setup.geometry.disks {
             self.settle_one(disk)?;

@@ -7,9 +7,12 @@ ghost use Rattle.paraid_txn.specs.Losses.{StaySynced, OnlyLosesSlots, AreTwoDown
 ghost use Rattle.paraid_txn.specs.Stores.{IsSameStore, disks_of, epoch_of, named_of, store_rack};
 ghost use Rattle.paraid_core.specs.Steps.{AreUnsyncedCopied};
 ghost use Rattle.paraid_core.specs.Fills.{Filled};
+ghost use Rattle.paraid_core.specs.Replaced.{CoreCommitted, HaveComeUp};
 ghost use Rattle.paraid_core.specs.Steps.{IsMarkedFrom, IsNamedOrAbsent};
 ghost use Rattle.paraid_core.specs.CoreInvariant.{AreCopiesSynced, lost_in, meta_with_lost};
 ghost use Rattle.paraid_image.specs.Out.{named_out as named_out_of};
+ghost use Rattle.paraid_core.specs.Calls.{CommitsWhole, MakesDataCalls, MakesTransferCalls, RestsCommitted};
+ghost use Rattle.paraid_core.specs.Lost.{CoreMarksLost, MakesReads};
 
 use crate::changes::Changes;
 use paraid_base::{Block, BlockNo, DiskNo, Out, Two};
@@ -51,13 +54,8 @@ pub(crate) fn lose(meta: &mut Meta, lost: Option<DiskNo>) -> Result<(), Two>
     if disk >= meta.setup.geometry.disks {
         return Ok(());
     }
-    if let Some(first) = meta.out.named() {
-        if first != disk {
-            return Err(Two {
-                first,
-                second: disk,
-            });
-        }
+    if let Some(two) = Two::beside(meta.out.named(), disk) {
+        return Err(two);
     }
     *meta = Meta {
         out: Out::Gone { disk },
@@ -172,6 +170,12 @@ impl<R: Rack> Core<R> {
         ensures still_synced { StaySynced (R.slot (core_rack self.old)) (R.slot (core_rack self.new)) }
         ensures two { IfErr result (AreTwoDown (core_down self.old)
             (R.slot (core_rack self.old)) (R.slot (core_rack self.new))) }
+        // No call is on a disk that is gone, or writes in the log.
+        ensures calls { MakesDataCalls R.told self.old self.new }
+        ensures reads { MakesReads R.told self.old self.new }
+        // A disk that failed is marked as out and absent, and no other one has failed.
+        ensures marks { OnOk result (CoreMarksLost R.slot self.old self.new) }
+        ensures named { named_of (store_of self.new) ≡ named_of (store_of self.old) }
 
         // Each stop leaves what it left before, and the writes are as before.
         ensures moments { (h : History) (lo : ℕ)
@@ -201,20 +205,23 @@ impl<R: Rack> Core<R> {
     }
 
     /// Brings all that is staged to the disks, whole or not at all. A disk that fails in it is out
-    /// from then on; the commit goes on without it.
+    /// from then on; the commit goes on without it. A disk that was out and is so no longer by what is
+    /// staged comes back in it; then no other one can be lost.
     pub fn commit(&mut self) -> Result<(), Two>
         requires ready { IsCoreReady R.slot_count R.slot self.old }
         requires epoch { (meta_of self.old).epoch < 2 ^ 63 }
         // each copy is synced
         requires copies_synced { AreCopiesSynced (meta_of self.old).setup.geometry.disks (copied_of self.old) }
-        // no disk comes back in it
-        requires stays { (d : ℕ) → named_of (store_of self.old) ≡ Some d → named_out_of (meta_of self.old).out ≡ Some d }
 
         ensures draft { draft_of self.new ≡ draft_of self.old }
+        ensures table { core_table self.new ≡ core_table self.old }
         ensures copied { copied_of self.new ≡ copied_of self.old }
         ensures slots { R.slot_count (core_rack self.new) ≡ R.slot_count (core_rack self.old) }
         ensures ready { OnOk result (IsCoreReady R.slot_count R.slot self.new) }
         ensures serves { OnOk result (CanCoreServe R.slot self.old → CanCoreServe R.slot self.new) }
+        // So it can after a commit in which a disk comes back.
+        ensures serves_again { OnOk result (HaveComeUp (R.slot (core_rack self.old)) (meta_of self.old)
+            → CanCoreServe R.slot self.new) }
         ensures setup { OnOk result ((meta_of self.new).setup ≡ (meta_of self.old).setup) }
         ensures writes { OnOk result ((meta_of self.new).writes ≡ (meta_of self.old).writes) }
         // It is that of the next epoch, with the marks of a disk that was lost, if one was.
@@ -225,12 +232,20 @@ impl<R: Rack> Core<R> {
         ensures unsynced { OnOk result (AreUnsyncedCopied R.slot self.old → AreUnsyncedCopied R.slot self.new) }
         ensures two { IfErr result (AreTwoDown (core_down self.old)
             (R.slot (core_rack self.old)) (R.slot (core_rack self.new))) }
+        ensures calls { MakesTransferCalls R.told self.old self.new }
+        ensures whole { CommitsWhole R.slot_count R.told self.old self.new }
+        ensures rest { OnOk result (RestsCommitted R.slot_count R.told self.old self.new) }
+        // A disk that failed is marked as out and absent, and no other one has failed.
+        ensures marks { OnOk result (CoreMarksLost R.slot self.old self.new) }
         ensures epoch { OnOk result ((meta_of self.new).epoch ≡ (meta_of self.old).epoch + 1) }
         ensures cleans_less { OnOk result ((r d : ℕ)
             → is_cleaned (meta_of self.old) (core_table self.old) r d ≡ false
             → is_cleaned (meta_of self.new) (core_table self.new) r d ≡ false) }
         ensures nothing { OnOk result (batch_of self.new ≡ []) }
         ensures named { OnOk result (named_of (store_of self.new) ≡ named_out_of (meta_of self.old).out) }
+        // Where a disk was out by the last commit, no other one is out after this one, also where it comes back.
+        ensures alone { OnOk result ((x d : ℕ) → named_of (store_of self.old) ≡ Some x
+            → named_out_of (meta_of self.new).out ≡ Some d → x ≡ d) }
         ensures down { OnOk result (IsDownAfter (core_down self.old) (core_down self.new)
             (R.slot (core_rack self.old)) (R.slot (core_rack self.new))) }
 
@@ -261,6 +276,11 @@ impl<R: Rack> Core<R> {
             → Ran (R.told (core_rack self.old)) (R.told (core_rack self.new))
             (CrashTriple (IsCoreHeldSinceCommit R.slot_count self.old h lo) (CoreStandsFor R.slot_count self.old h lo)
             (Filled R.slot_count self.new h (length h) (meta_of self.new).fill))) }
+        // What it says of the disk that is out is on the disks.
+        ensures committed { OnOk result (IsNamedOrAbsent R.slot self.old → (h : History) (lo : ℕ)
+            → Ran (R.told (core_rack self.old)) (R.told (core_rack self.new))
+            (CrashTriple (IsCoreHeldSinceCommit R.slot_count self.old h lo) (CoreStandsFor R.slot_count self.old h lo)
+            (CoreCommitted R.slot_count self.new h (length h) (meta_of self.old).out))) }
         ensures absent { OnOk result (IsNamedOrAbsent R.slot self.new) }
     {
         let lost = self.store.commit(&self.batch, &self.meta)?;

@@ -3,13 +3,17 @@ ghost use Rattle.std.specs.Prelude.{◌≡◌, ◌≢◌, ℕ, ◌<◌, ◌≤�
 ghost use Rattle.paraid_base.specs.History.{History};
 ghost use Rattle.paraid_core.specs.Steps.{IsHeldStill, IsStillOut, LeavesCore, StandsStill};
 ghost use Rattle.paraid_image.specs.Content.{view_by};
+ghost use Rattle.paraid_image.specs.Mark.{meta_after_loss};
 ghost use Rattle.paraid_image.specs.Standing.{contents};
 ghost use Rattle.paraid_image.specs.Value.{value as value_of};
 ghost use Rattle.paraid_rack.specs.declared.call.Power.TheVariants.{Spinning};
 ghost use Rattle.paraid_rack.specs.Told.{Ran, CrashTriple};
 ghost use Rattle.paraid_rack.specs.Trail.{Trail, now};
-ghost use Rattle.paraid_txn.specs.Losses.{StaySynced, OnlyLosesSlots, AreTwoDown};
+ghost use Rattle.paraid_txn.specs.Losses.{IsLostNow, StaySynced, OnlyLosesSlots, AreTwoDown};
 ghost use Rattle.paraid_txn.specs.Stores.{named_of};
+ghost use Rattle.paraid_core.specs.Calls.{MakesDataCalls, MakesOneCall};
+ghost use Rattle.paraid_rack.specs.declared.call.Call.TheVariants.{Read};
+ghost use Rattle.paraid_core.specs.Lost.{CoreMarksLost, MakesReads};
 
 use crate::staged::{Core, lose};
 use paraid_base::{Block, DiskNo, Place, Row, Two};
@@ -49,6 +53,12 @@ impl<R: Rack> Core<R> {
         ensures still_synced { StaySynced (R.slot (core_rack self.old)) (R.slot (core_rack self.new)) }
         ensures two { IfErr result (AreTwoDown (core_down self.old)
             (R.slot (core_rack self.old)) (R.slot (core_rack self.new))) }
+        // No call is on a disk that is gone, or writes in the log.
+        ensures calls { MakesDataCalls R.told self.old self.new }
+        ensures reads { MakesReads R.told self.old self.new }
+        // A disk that failed is marked as out and absent, and no other one has failed.
+        ensures marks { OnOk result (CoreMarksLost R.slot self.old self.new) }
+        ensures named { named_of (store_of self.new) ≡ named_of (store_of self.old) }
 
         // Each stop leaves what it left before, and the writes are as before.
         ensures moments { (h : History) (lo : ℕ)
@@ -103,6 +113,11 @@ impl<R: Rack> Core<R> {
         ensures still_synced { StaySynced (R.slot (core_rack self.old)) (R.slot (core_rack self.new)) }
         ensures two { IfErr result (AreTwoDown (core_down self.old)
             (R.slot (core_rack self.old)) (R.slot (core_rack self.new))) }
+        ensures calls { MakesOneCall R.told (λ done. Read disk place done) self.old self.new }
+        ensures marks { OnOk result (CoreMarksLost R.slot self.old self.new) }
+        // The disk has failed, and is gone.
+        ensures gone { result ≡ Ok false → meta_of self.new ≡ meta_after_loss (meta_of self.old) disk }
+        ensures failed { result ≡ Ok false → IsLostNow (R.slot (core_rack self.old)) (R.slot (core_rack self.new)) disk }
         ensures value { result ≡ Ok true → (t : Trail) → R.told (core_rack self.old) ≡ Some t
             → into.new ≡ (now t).block disk place }
         ensures moments { IsHeldStill R.slot_count R.told self.old self.new }

@@ -6,6 +6,8 @@ ghost use Rattle.paraid_base.specs.Pairs.{pairs_of};
 ghost use Rattle.paraid_plan.specs.Desk.{StageAll};
 ghost use Rattle.paraid_rack.specs.Told.{Ran, CrashTriple};
 ghost use Rattle.paraid_txn.specs.Losses.{StaySynced, OnlyLosesSlots, AreTwoDown};
+ghost use Rattle.paraid_core.specs.Calls.{MakesDataCalls};
+ghost use Rattle.paraid_core.specs.Lost.{CoreMarksLost, MakesReads};
 
 use crate::plan::undo;
 use crate::staged::{Core, lose};
@@ -59,6 +61,11 @@ impl<R: Rack> Core<R> {
         ensures still_synced { StaySynced (R.slot (core_rack self.old)) (R.slot (core_rack self.new)) }
         ensures two { IfErr result (AreTwoDown (core_down self.old)
             (R.slot (core_rack self.old)) (R.slot (core_rack self.new))) }
+        // No call is on a disk that is gone, or writes in the log.
+        ensures calls { MakesDataCalls R.told self.old self.new }
+        ensures reads { MakesReads R.told self.old self.new }
+        // A disk that failed is marked as out and absent, and no other one has failed.
+        ensures marks { OnOk result (CoreMarksLost R.slot self.old self.new) }
         ensures room { IfOk result (λ done. length (batch_of self.new)
             ≤ length (batch_of self.old) + (if done then 10 * pairs.now.count else 0)) }
         ensures dropped { IfOk result (λ done. done ≡ false → batch_of self.new ≡ batch_of self.old) }

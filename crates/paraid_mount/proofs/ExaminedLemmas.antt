@@ -132,7 +132,7 @@ second_asleep slot awake sleeps = record { below = omega arith; holds = sleeps; 
 
 -- Stands
 
-side_heard : (i : Disks) (x : ℕ) (h : Option Heard) (b : Batch) → IsHeardAt i x h b → IsSide i x (side_by h b)
+pub side_heard : (i : Disks) (x : ℕ) (h : Option Heard) (b : Batch) → IsHeardAt i x h b → IsSide i x (side_by h b)
 side_heard i x None b is = is
 side_heard i x (Some Blank) b is = is
 side_heard i x (Some (Bad gate_open)) b is = is.0

@@ -1,3 +1,4 @@
+pub mod WearLemmas
 mod AlikeLemmas
 mod CauseLemmas
 mod ExactLemmas

@@ -18,7 +18,10 @@ mod wear;
 pub use examining::{examine, refusal_by_slots};
 pub use fault::MountFault;
 pub use lacking::two_missing;
-pub use law::{a_mount_is_refused_by_one_cause, a_mount_is_refused_or_goes_on};
+pub use law::{
+    a_mount_is_refused_by_one_cause, a_mount_is_refused_or_goes_on,
+    what_is_held_is_refused_for_wear,
+};
 pub use power::first_asleep;
 pub use refusal::refusal_by;
 pub use sides::refusal_by_sides;

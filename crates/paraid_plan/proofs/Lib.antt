@@ -12,9 +12,6 @@ pub mod WriteLemmas
 pub mod DeskLemmas
 pub mod RestLemmas
 pub mod SyncLemmas
-pub mod RebuildLemmas
-pub mod NextStripeLemmas
-pub mod UnitLemmas
 pub mod CommitTargetLemmas
 pub mod BatchLemmas
 pub mod LostLemmas

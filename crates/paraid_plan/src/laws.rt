@@ -3,7 +3,7 @@ ghost use Rattle.paraid_plan.specs.Desk.{DeskWriteKeeps, ManyWritesKeep};
 ghost use Rattle.paraid_plan.specs.StoredCells.{KeptIsStored, KeptPlacesTell, StoredIsKept};
 ghost use Rattle.paraid_plan.specs.LossMark.{LostKeeps};
 ghost use Rattle.paraid_plan.specs.Placed.{WriteIsPlaced};
-ghost use Rattle.paraid_plan.specs.Units.{FillKeeps, SyncKeeps, UnitKeeps};
+ghost use Rattle.paraid_plan.specs.Units.{SyncKeeps};
 ghost use Rattle.paraid_plan.specs.Written.{WriteKeeps};
 
 /// A write keeps the disks well and changes one block, whichever disk is out.
@@ -19,16 +19,6 @@ pub fn a_staged_block_keeps_the_disks_well()
 /// A cell that goes back to its hard place leaves what is held.
 pub fn a_synced_cell_keeps_the_disks_well()
     ensures { SyncKeeps }
-{}
-
-/// The next stripe of the region of the new gear leaves what is held.
-pub fn a_filled_stripe_keeps_the_disks_well()
-    ensures { FillKeeps }
-{}
-
-/// The next unit of a rebuild leaves what is held.
-pub fn a_rebuilt_unit_keeps_the_disks_well()
-    ensures { UnitKeeps }
 {}
 
 /// Each target of a write can be committed: it is in range, on a disk that is powered and not gone.

@@ -15,7 +15,7 @@ use Rattle.paraid_base.specs.History.{Entry, History}
 use Rattle.paraid_rack.specs.Slots.{Slot}
 use Rattle.paraid_rack.specs.Trail.{Trail}
 use Rattle.paraid_rack.proofs.TrailsLemmas.{Ran-none}
-use Rattle.paraid_array.specs.Losses.{AreServedBelow, AreArrayCalls}
+use Rattle.paraid_rows.specs.Losses.{AreServedBelow, AreArrayCalls}
 use Rattle.paraid_program.specs.Trace.{answer_to, missing_of, next}
 use Rattle.paraid_program.specs.Calls.{IsFive}
 

@@ -12,7 +12,7 @@ use Rattle.paraid_rack.specs.Slots.{Slot}
 use Rattle.paraid_rack.specs.Trail.{Trail, run}
 use Rattle.paraid_rack.specs.Told.{Ran}
 use Rattle.paraid_rack.proofs.TrailsLemmas.{Ran-none, Ran-then}
-use Rattle.paraid_array.specs.Losses.{AreServedBelow, AreArrayCalls, WasLost, IsCause}
+use Rattle.paraid_rows.specs.Losses.{AreServedBelow, AreArrayCalls, WasLost, IsCause}
 use Rattle.paraid_program.specs.Calls.{NoFall, HasFailed, IsDown, MayBeDown, SinceStart}
 
 AreServedBelow-append : (n : ℕ) (s : Disks) (cs ds : List Call) → AreServedBelow n s cs → AreServedBelow n (run s cs) ds → AreServedBelow n s (cs ++ ds)

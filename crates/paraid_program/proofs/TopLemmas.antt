@@ -14,10 +14,10 @@ use Rattle.paraid_base.proofs.ToldLemmas.{Gives-none, GrowsByBytes-then}
 use Rattle.paraid_io.specs.Lines.{lines_of}
 use Rattle.paraid_rack.specs.Slots.{Slot}
 use Rattle.paraid_rack.specs.Trail.{Trail}
-use Rattle.paraid_array.specs.declared.fault.MountFault.{MountFault}
-use Rattle.paraid_array.specs.declared.fault.MountFault.TheVariants.{Size}
-use Rattle.paraid_array.specs.Mount.{IsMisfit, IsMountFault}
-use Rattle.paraid_array.specs.Powers.{FitsGeometry as FitsArray}
+use Rattle.paraid_rows.specs.declared.fault.MountFault.{MountFault}
+use Rattle.paraid_rows.specs.declared.fault.MountFault.TheVariants.{Size}
+use Rattle.paraid_rows.specs.Mount.{IsMisfit, IsMountFault}
+use Rattle.paraid_rows.specs.Powers.{FitsGeometry as FitsArray}
 use Rattle.paraid_program.specs.Trace.{history_of, transcript, halt_transcript, TellsAnswers}
 use Rattle.paraid_program.specs.Calls.{IsDown, MayBeDown}
 use Rattle.paraid_program.specs.declared.session.Stop.{Stop}

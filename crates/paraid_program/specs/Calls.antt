@@ -9,9 +9,9 @@ use Rattle.paraid_base.specs.Told.{HasRisen}
 use Rattle.paraid_rack.specs.Slots.{Slot}
 use Rattle.paraid_rack.specs.Told.{Ran}
 use Rattle.paraid_rack.specs.Trail.{Trail}
-use Rattle.paraid_array.specs.declared.array.Array.{Array}
-use Rattle.paraid_array.specs.Arrays.{geometry_of, IsArrayReady, LastsFor, HaltsFor}
-use Rattle.paraid_array.specs.Losses.{AreServedBelow}
+use Rattle.paraid_rows.specs.declared.array.Array.{Array}
+use Rattle.paraid_rows.specs.Arrays.{geometry_of, IsArrayReady, LastsFor, HaltsFor}
+use Rattle.paraid_rows.specs.Losses.{AreServedBelow}
 
 -- five disks of 108 blocks with five rows: 20 blocks
 pub record IsFive (g : Geometry) : Type 0 where

@@ -3,7 +3,7 @@ use Rattle.std.specs.Prelude.{◌≡◌, ◌≢◌, ℕ, ◌<◌, ◌⊎◌, fal
 use Rattle.paraid_base.specs.declared.fault.Two.{Two}
 use Rattle.paraid_rack.specs.Slots.{Slot}
 use Rattle.paraid_rack.specs.Trail.{Trail, now}
-use Rattle.paraid_array.specs.Mount.{IsMisfit}
+use Rattle.paraid_rows.specs.Mount.{IsMisfit}
 use Rattle.paraid_program.specs.Calls.{HasFailed, HaveFailed}
 
 abbrev pub usage : List ℕ

@@ -8,10 +8,10 @@ use Rattle.paraid_console.specs.Ending.{end_line, halt_line}
 use Rattle.paraid_io.specs.Lines.{lines_of, whole_lines}
 use Rattle.paraid_rack.specs.Slots.{Slot}
 use Rattle.paraid_rack.specs.Trail.{Trail}
-use Rattle.paraid_array.specs.declared.fault.MountFault.{MountFault}
-use Rattle.paraid_array.specs.declared.fault.MountFault.TheVariants.{Size}
-use Rattle.paraid_array.specs.Cells.{DisksHold}
-use Rattle.paraid_array.specs.Mount.{IsMountFault, found_in}
+use Rattle.paraid_rows.specs.declared.fault.MountFault.{MountFault}
+use Rattle.paraid_rows.specs.declared.fault.MountFault.TheVariants.{Size}
+use Rattle.paraid_rows.specs.Cells.{DisksHold}
+use Rattle.paraid_rows.specs.Mount.{IsMountFault, found_in}
 use Rattle.paraid_program.specs.Trace.{history_of, transcript, TellsAnswers}
 use Rattle.paraid_program.specs.Calls.{IsFive, IsDown, MayBeDown}
 

@@ -1,17 +1,17 @@
 ghost use Rattle.std.specs.Prelude.{◌≡◌, ◌≤◌, [], None, Some, IsErrOf, OnOk};
 ghost use Rattle.paraid_base.specs.declared.fault.Halt.{Halt};
 ghost use Rattle.paraid_base.specs.Told.{AtEnd, HasRisen};
-ghost use Rattle.paraid_array.specs.Arrays.{array_rack, geometry_of, array_out, array_writes, array_halt, ArrayStandsFor, IsArrayReady, IsArraySynced};
+ghost use Rattle.paraid_rows.specs.Arrays.{array_rack, geometry_of, array_out, array_writes, array_halt, ArrayStandsFor, IsArrayReady, IsArraySynced};
 ghost use Rattle.paraid_program.specs.Calls.{IsFive, SinceStart};
 ghost use Rattle.paraid_program.specs.Session.{FiveSession};
 
 use crate::serve::answer;
 use crate::session::Stop;
-use paraid_array::{Array, WriteRoom};
 use paraid_base::{Answer, Block, Pairs};
 use paraid_console::hear::hear;
 use paraid_io::{LineFault, LineReader, Sink, Source, write_all};
 use paraid_rack::Rack;
+use paraid_rows::{Array, WriteRoom};
 use paraid_trace::{Text, reply};
 
 /// Answers each line, and flushes at the end. It gives the number of writes.

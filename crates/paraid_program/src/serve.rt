@@ -2,15 +2,15 @@ ghost use Rattle.std.specs.Prelude.{◌≡◌, ◌+◌, ◌≤◌, None, Some, I
 ghost use Rattle.paraid_base.specs.declared.event.Event.TheVariants.{Read as ReadEvent, Write as WriteEvent, Flush as FlushEvent};
 ghost use Rattle.paraid_base.specs.declared.fault.Halt.{Halt};
 ghost use Rattle.paraid_base.specs.History.{History};
-ghost use Rattle.paraid_array.specs.Arrays.{array_rack, geometry_of, array_writes, array_halt, ArrayStandsFor, IsArrayReady};
+ghost use Rattle.paraid_rows.specs.Arrays.{array_rack, geometry_of, array_writes, array_halt, ArrayStandsFor, IsArrayReady};
 ghost use Rattle.paraid_trace.specs.Asked.{event_with};
 ghost use Rattle.paraid_trace.specs.Replies.{HasFewDisks};
 ghost use Rattle.paraid_program.specs.Trace.{IsReplied, halt_answer, next};
 ghost use Rattle.paraid_program.specs.Calls.{IsFive, LeavesFive};
 
-use paraid_array::{Array, WriteRoom};
 use paraid_base::{Answer, Block, BlockFault, BlockNo, Pairs};
 use paraid_rack::Rack;
+use paraid_rows::{Array, WriteRoom};
 use paraid_trace::Asked;
 
 // The answer to a read. `room` is for the block, and then holds any bytes.

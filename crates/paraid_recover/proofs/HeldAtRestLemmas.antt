@@ -82,7 +82,7 @@ module _ (slots : ℕ) (s : Disks) (m : Meta) (h : History) (lo : ℕ) (down : O
   pub said_whole : (i : Disks) (x : ℕ) (said : LogState) → IsImage s i → Stands i x said → said ≡ closed_over m
   said_whole i x said image st = (Stands-same i x rest.disk said (closed_over m) st (stands i image)).1
 
-  said_lost : (i : Disks) (d x : ℕ) (said : LogState) → IsImage s i → MayLose i d → Stands (lose d i) x said → said ≡ closed_over m
+  pub said_lost : (i : Disks) (d x : ℕ) (said : LogState) → IsImage s i → MayLose i d → Stands (lose d i) x said → said ≡ closed_over m
   said_lost i d x said image may st =
       let says = says_of_lost i d x said st.says in
       let there = stands i image in

@@ -1,3 +1,11 @@
+pub mod StillLemmas
+pub mod FallbackLemmas
+pub mod ResumeMetasLemmas
+pub mod CommitMetasLemmas
+pub mod RestMetasLemmas
+pub mod MarkMomentLemmas
+pub mod DirtyKeptLemmas
+pub mod KeepsDirtyLemmas
 pub mod ExaminedHeldLemmas
 pub mod ShownLemmas
 pub mod FarLemmas
@@ -15,3 +23,5 @@ pub mod HeldAtRestLemmas
 pub mod QuietCallsLemmas
 pub mod EndsLemmas
 pub mod RenewLemmas
+pub mod MountCallsLemmas
+pub mod GoneLemmas

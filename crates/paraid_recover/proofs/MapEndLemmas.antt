@@ -28,17 +28,17 @@ unfolding map_bit
 bit_same g a b r d same = ap (λ (x : Block). bit_at (slice_index x.bytes (r % 512)) d == 1) same
 
 -- a block past the log of a disk that has it
-contents_there : (s : Disks) (d p : ℕ) → has_place s d p ≡ true → 100 ≤ p → contents s [] d p ≡ s.block d p
+pub contents_there : (s : Disks) (d p : ℕ) → has_place s d p ≡ true → 100 ≤ p → contents s [] d p ≡ s.block d p
 unfolding contents
 contents_there s d p there far =
     let low : nat_lt p 100 ≡ false = grind (arith, nat_tests) in
     ap (λ (x : Bool). if x then zero_block else (if has_place s d p then s.block d p else zero_block)) low
     ∙ ap (λ (x : Bool). if x then s.block d p else zero_block) there
 
-place_there : (s : Disks) (d p : ℕ) → is_present (s.power d) ≡ true → p < s.size d → has_place s d p ≡ true
+pub place_there : (s : Disks) (d p : ℕ) → is_present (s.power d) ≡ true → p < s.size d → has_place s d p ≡ true
 place_there s d p here low = ap (λ (x : Bool). x && nat_lt p (s.size d)) here ∙ (grind (arith, nat_tests))
 
-map_place_low : (m : Meta) (r : ℕ) → r < 512 * map_count m.setup.geometry → 100 + r / 512 < disk_size m.setup.geometry
+pub map_place_low : (m : Meta) (r : ℕ) → r < 512 * map_count m.setup.geometry → 100 + r / 512 < disk_size m.setup.geometry
 map_place_low m r low = let rows = m.setup.geometry.rows_low in omega arith
 
 -- the lower log disk that is not out is not out
@@ -56,6 +56,22 @@ map_disk_in (Some d) = split (0 == d) refl
         let apart : 0 ≢ d = (λ z. absurd (false≢true (sym is ∙ grind (arith, nat_tests)))) in
         (omega arith, λ same. let z : d ≡ map_disk (Some d) = cc in apart (omega arith))
 
+-- a missing disk is the out disk
+pub missing_out : (power : ℕ → _) (n : Meta) (d : ℕ) → IsInRange n → ((a b : ℕ) → IsMissing power n a → IsMissing power n b → a ≡ b) → IsMissing power n d → out_disk power n ≡ Some d
+missing_out power n d in_range one missing = elim missing.is [
+  | inl gone ↦ missing_is_out power n d in_range one missing gone
+  | inr name ↦ ap (λ (o : Option ℕ). or_else o (first_absent power n.setup.geometry.disks)) name
+]
+
+-- a disk of the array that is not out is there, with all of the map
+pub there_by : (t : Disks) (n : Meta) (d : ℕ) → IsInRange n → ((a b : ℕ) → IsMissing t.power n a → IsMissing t.power n b → a ≡ b) → d < n.setup.geometry.disks → out_disk t.power n ≢ Some d
+    → is_present (t.power d) ≡ true
+there_by t n d in_range one low not = split (is_present (t.power d)) refl
+  where
+    split : (x : Bool) → is_present (t.power d) ≡ x → is_present (t.power d) ≡ true
+    split true here = here
+    split false off = absurd (not (missing_out t.power n d in_range one (record { disk = low; is = inl off })))
+
 module _ (slots : ℕ) (meta m : Meta) (h k_h : History) (k n_k : ℕ) (s e : Disks) (setup : m.setup ≡ meta.setup) (range_s : IsInRange meta) (range : IsInRange m)
     (single_s : (a b : ℕ) → IsMissing s.power meta a → IsMissing s.power meta b → a ≡ b) (single : (a b : ℕ) → IsMissing e.power m a → IsMissing e.power m b → a ≡ b)
     (content_s : ContentOk slots s.power s.size (view_by meta s.power (contents s [])) h k) (content : ContentOk slots e.power e.size (view_by m e.power (contents e [])) k_h n_k)
@@ -65,22 +81,6 @@ module _ (slots : ℕ) (meta m : Meta) (h k_h : History) (k n_k : ℕ) (s e : Di
 
   geometry_is : g ≡ meta.setup.geometry
   geometry_is = ap (λ (x : Setup). x.geometry) setup
-
-  -- a missing disk is the out disk
-  out_is : (power : ℕ → _) (n : Meta) (d : ℕ) → IsInRange n → ((a b : ℕ) → IsMissing power n a → IsMissing power n b → a ≡ b) → IsMissing power n d → out_disk power n ≡ Some d
-  out_is power n d in_range one missing = elim missing.is [
-    | inl gone ↦ missing_is_out power n d in_range one missing gone
-    | inr name ↦ ap (λ (o : Option ℕ). or_else o (first_absent power n.setup.geometry.disks)) name
-  ]
-
-  -- a disk of the array that is not out is there, with all of the map
-  there_by : (t : Disks) (n : Meta) (d : ℕ) → IsInRange n → ((a b : ℕ) → IsMissing t.power n a → IsMissing t.power n b → a ≡ b) → d < n.setup.geometry.disks → out_disk t.power n ≢ Some d
-      → is_present (t.power d) ≡ true
-  there_by t n d in_range one low not = split (is_present (t.power d)) refl
-    where
-      split : (x : Bool) → is_present (t.power d) ≡ x → is_present (t.power d) ≡ true
-      split true here = here
-      split false off = absurd (not (out_is t.power n d in_range one (record { disk = low; is = inl off })))
 
   abbrev z : ℕ
   z = map_disk (out_disk e.power m)
@@ -140,7 +140,7 @@ module _ (slots : ℕ) (meta m : Meta) (h k_h : History) (k n_k : ℕ) (s e : Di
         split : (o : Option ℕ) → out_disk s.power meta ≡ o → y ≡ map_disk (out_disk s.power meta) → e.block y (100 + r / 512) ≡ e.block z (100 + r / 512)
         split None none is = both r none (let a = is ∙ ap map_disk none in omega arith) below
         split (Some d) some is =
-            let end : out_disk e.power m ≡ Some d = out_is e.power m d range single (stays d (out_missing s.power meta d range_s some)) in
+            let end : out_disk e.power m ≡ Some d = missing_out e.power m d range single (stays d (out_missing s.power meta d range_s some)) in
             ap (λ (x : ℕ). e.block x (100 + r / 512)) (is ∙ ap map_disk some ∙ sym (ap map_disk end))
 
     pub map_shown : (r d : ℕ) → r < 512 * map_count g → dirty r d ≡ (view_by m e.power (contents e [])).dirty r d

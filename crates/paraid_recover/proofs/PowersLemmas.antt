@@ -23,7 +23,7 @@ use Rattle.paraid_image.proofs.OutLemmas.{first_absent_finds, first_absent_is}
 use Rattle.paraid_txn.specs.declared.store.Lost.{Lost}
 use Rattle.paraid_txn.specs.declared.store.Lost.TheVariants.{One as LostOne, Two as LostTwo}
 use Rattle.paraid_txn.specs.declared.store.Store.{Store}
-use Rattle.paraid_txn.specs.Losses.{IsLostBy, IsOneOut, IsOutOfCommit, AreTwoDownBeside}
+use Rattle.paraid_txn.specs.Losses.{AreGoneSince, IsGoneSince, IsLostBy, IsOneOut, IsOutOfCommit, AreTwoDownBeside}
 use Rattle.paraid_txn.specs.Losses.IsOutOfCommit.{is_absent, was_named, is_named}
 use Rattle.paraid_txn.specs.Stores.{IsSameStore, store_out, store_rack}
 use Rattle.paraid_txn.specs.Uses.{EachCall}
@@ -91,6 +91,7 @@ module _ {R : Type 0} {l : _} (g : Ghosts R) (m : Meta) (disk : ℕ) where
     calls = Ran-none (EachCall (IsPowerCall m)) (λ s. tt) (g.told (store_rack s));
     kept = λ here. here;
     lost = tt;
+    gone = tt;
   }
 
   module _ (old new : Store R l) (call : Bool → Call) (power : Power) where
@@ -133,6 +134,11 @@ module _ {R : Type 0} {l : _} (g : Ghosts R) (m : Meta) (disk : ℕ) where
     kept_is (Ok it) touched is = λ was. ap (λ (s : Slot). is_present s.power) (touched.done refl) ∙ is
     kept_is (Err x) touched is = tt
 
+    gone_is : (result : Result (Unit {0}) Lost) → ChangesOneSlot a b disk (record (a disk) { power = power }) false (is_ok result) → is_present (a disk).power ≡ true
+        → IfErr result (λ lost. IsGoneSince a b disk)
+    gone_is (Ok it) touched was = tt
+    gone_is (Err x) touched was = record { there = was; absent = touched.absent refl }
+
     pub turned_call : (result : Result (Unit {0}) Lost) → g.slot_count (store_rack new) ≡ g.slot_count (store_rack old) → IsSameStore old new
         → ChangesOneSlot a b disk (record (a disk) { power = power }) false (is_ok result) → GrowsByCall (g.told (store_rack old)) (g.told (store_rack new)) (call (is_ok result))
         → ((done : Bool) → IsPowerCall m (call done)) → ((s : Trail) (done : Bool) → g.told (store_rack old) ≡ Some s → IsLawful (now s) (call done))
@@ -147,6 +153,7 @@ module _ {R : Type 0} {l : _} (g : Ghosts R) (m : Meta) (disk : ℕ) where
       calls = Ran-call (EachCall (IsPowerCall m)) (g.told (store_rack old)) (g.told (store_rack new)) (call (is_ok result)) grows (λ s tells. (lawful s (is_ok result) tells, turn (is_ok result), tt));
       kept = kept_is result touched is;
       lost = lost;
+      gone = gone_is result touched was;
     }
 
   -- a failure is borne, or two are down
@@ -175,6 +182,7 @@ module _ {R : Type 0} {l : _} (g : Ghosts R) (m : Meta) (disk : ℕ) where
       calls = t.calls;
       one = λ one d e x y. one d e (was d x) (was e y);
       two = tt;
+      gone = tt;
     }
       where
         split : (d : ℕ) → d ≡ disk → IsOutOfCommit q n (named_out m.out) None d → (x : Bool) → is_present (p disk) ≡ x → IsOutOfCommit p n (named_out m.out) None d
@@ -196,6 +204,7 @@ module _ {R : Type 0} {l : _} (g : Ghosts R) (m : Meta) (disk : ℕ) where
       calls = t.calls;
       one = λ one d e x y. is one d x ∙ sym (is one e y);
       two = tt;
+      gone = tt;
     }
       where
         is : IsOneOut n (named_out m.out) (g.slot (store_rack old)) → (d : ℕ) → IsOutOfCommit q n (named_out m.out) None d → d ≡ disk
@@ -222,6 +231,10 @@ module _ {R : Type 0} {l : _} (g : Ghosts R) (m : Meta) (disk : ℕ) where
         apart = λ is. t.lost.3 (is ∙ t.lost.0);
         second = subst (λ (k : ℕ). HasRisen (g.slot (store_rack old) k).faults (g.slot (store_rack new) k).faults) (sym t.lost.0) t.lost.1;
       };
+      gone = record {
+        first = inl (out_is p n (named_out m.out) two.first (sym out_by ∙ t.lost.2));
+        second = subst (IsGoneSince (g.slot (store_rack old)) (g.slot (store_rack new))) (sym t.lost.0) t.gone;
+      };
     }
 
 -- some disks, one after the other
@@ -236,6 +249,7 @@ module _ {R : Type 0} {l : _} (g : Ghosts R) (m : Meta) where
     calls = Ran-none (EachCall (IsPowerCall m)) (λ s. tt) (g.told (store_rack s));
     one = λ one. one;
     two = tt;
+    gone = tt;
   }
 
   module _ (k : ℕ) (a b c : Store R l) where
@@ -273,6 +287,7 @@ module _ {R : Type 0} {l : _} (g : Ghosts R) (m : Meta) where
       calls = calls_on (Ok tt) p q;
       one = λ one. q.one (p.one one);
       two = tt;
+      gone = tt;
     }
 
     was_out : ArePowered g m k a b (Ok tt) → (d : ℕ) → IsOutOfCommit (λ e. (y e).power) m.setup.geometry.disks (named_out m.out) None d
@@ -307,8 +322,33 @@ module _ {R : Type 0} {l : _} (g : Ghosts R) (m : Meta) where
         apart = q.two.apart;
         second = HasRisen-sooner _ _ _ (p.turned two.second).later q.two.second;
       });
+      gone = subst (AreGoneSince (IsOutOfCommit (λ e. (x e).power) m.setup.geometry.disks (named_out m.out) None) x z) (sym is) (record {
+        first = elim q.gone.first [ inl out ↦ out_since out | inr gone ↦ inr (since two.first gone) ];
+        second = since two.second q.gone.second;
+      });
     }
       where
+        since : (d : ℕ) → IsGoneSince y z d → IsGoneSince x z d
+        since d gone = record { there = (p.turned d).there gone.there; absent = gone.absent }
+
+        there : (d : ℕ) → is_present (z d).power ≡ true → is_present (y d).power ≡ true
+        there d here = elim (cases_eq d k) [
+          | inl is ↦ subst (λ (e : ℕ). is_present (y e).power ≡ true) (sym is) (q.here.there (subst (λ (e : ℕ). is_present (z e).power ≡ true) is here))
+          | inr apart ↦ sym (ap (λ (s : Slot). is_present s.power) (q.others d apart)) ∙ here
+        ]
+
+        out_since : IsOutOfCommit (λ e. (y e).power) m.setup.geometry.disks (named_out m.out) None two.first
+            → IsOutOfCommit (λ e. (x e).power) m.setup.geometry.disks (named_out m.out) None two.first ⊎ IsGoneSince x z two.first
+        out_since (was_named name) = inl (was_named name)
+        out_since (is_named name) = inl (is_named name)
+        out_since (is_absent below gone) = split (is_present (x two.first).power) refl (is_present (z two.first).power) refl
+          where
+            split : (t : Bool) → is_present (x two.first).power ≡ t → (u : Bool) → is_present (z two.first).power ≡ u
+                → IsOutOfCommit (λ e. (x e).power) m.setup.geometry.disks (named_out m.out) None two.first ⊎ IsGoneSince x z two.first
+            split false off u still = inl (is_absent below (absent_power (x two.first).power off))
+            split true here false off = inr (record { there = here; absent = absent_power (z two.first).power off })
+            split true here true still = absurd (false≢true (sym (ap is_present gone) ∙ there two.first still))
+
         later : (d : ℕ) → (y d).faults ≤ (z d).faults
         later d = elim (cases_eq d k) [
           | inl is ↦ subst (λ (e : ℕ). (y e).faults ≤ (z e).faults) (sym is) q.here.later

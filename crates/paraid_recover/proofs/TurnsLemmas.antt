@@ -156,7 +156,7 @@ module _ (slots : ℕ) (m : Meta) (h : History) (lo : ℕ) where
       ] in
       (resting_rest slots m h lo (step c s) after, held_beside (step c s) down after absent named)
 
-  rests_through : (s : Disks) (cs : List Call) → EachCall (IsPowerCall m) s cs → RestsBeside slots m h lo s → Through (RestsBeside slots m h lo) s cs × RestsBeside slots m h lo (run s cs)
+  pub rests_through : (s : Disks) (cs : List Call) → EachCall (IsPowerCall m) s cs → RestsBeside slots m h lo s → Through (RestsBeside slots m h lo) s cs × RestsBeside slots m h lo (run s cs)
   rests_through s [] each rests = (rests, rests)
   rests_through s (c ∷ cs) each rests =
       let it = rests_through (step c s) cs each.2 (rests_turned c s each.1 each.0 rests) in

@@ -4,4 +4,7 @@ pub mod Map
 pub mod RecoveryMark
 pub mod Powers
 pub mod Mounted
+pub mod EndOfMount
+pub mod StandingMetas
 pub mod Mount
+pub mod MountCalls

@@ -1,7 +1,7 @@
 -- What a mount promises: what is told of it, and why it is refused.
 use Rattle.std.specs.Prelude.{◌≡◌, ℕ, Bool, Option, Some, None}
 use Rattle.paraid_base.specs.declared.fault.Two.{Two}
-use Rattle.paraid_rack.specs.Slots.{Slot}
+use Rattle.paraid_rack.specs.Slots.{Agrees, Slot}
 use Rattle.paraid_rack.specs.Told.{Ran}
 use Rattle.paraid_rack.specs.Trail.{Trail, now}
 use Rattle.paraid_record.specs.declared.meta.Meta.{Meta}
@@ -12,19 +12,28 @@ use Rattle.paraid_mount.specs.declared.fault.MountFault.{MountFault}
 use Rattle.paraid_mount.specs.declared.fault.MountFault.TheVariants.{NoMemory, Two as BothMissing}
 use Rattle.paraid_mount.specs.Examined.{IsExamined, IsRefused}
 use Rattle.paraid_sides.specs.HeardSides.{IsReadLosing, IsReadOnly, ReadsLogs}
-use Rattle.paraid_txn.specs.Losses.{IsOutOfCommit, AreTwoDownBeside}
+use Rattle.paraid_txn.specs.Losses.{AreGoneSince, IsOutOfCommit, AreTwoDownBeside}
 use Rattle.paraid_txn.specs.Uses.{EachCall}
+use Rattle.paraid_recover.specs.EndOfMount.{IsMarkAtEnd, IsMarkAtMoment, KeepsDirty}
 use Rattle.paraid_recover.specs.HeldMoments.{EndsHeld, RecoversHeld, ShowsAtEnd}
 use Rattle.paraid_recover.specs.Mounted.{with_loss}
+use Rattle.paraid_recover.specs.MountCalls.{OnlyMountCalls}
 use Rattle.paraid_recover.specs.RecoveryMark.{with_mark}
+use Rattle.paraid_recover.specs.StandingMetas.{StandsThroughMount}
 
 -- What is told of a mount that is not refused before a write: the log disks were read, and log disk
--- `side` stands and says this then; from there on each moment holds what was held.
+-- `side` stands and says this then; from there on each moment holds what was held. All calls are such
+-- as a mount may make of this array, and the first of them only read the logs. What stands in an image
+-- that is looked at is foreseen.
 pub record HasRecovered (side : ℕ) (said : LogState) (old new : Option Trail) : Type 0 where
   pub read : Option Trail
   pub reads : IsReadOnly old read
+  pub first_calls : Ran old read (EachCall ReadsLogs)
+  pub later_calls : OnlyMountCalls said.meta read new
+  pub calls : OnlyMountCalls said.meta old new
   pub stands : (t : Trail) → read ≡ Some t → Stands (now t) side said
   pub holds : (slots : ℕ) → RecoversHeld slots side said read new
+  pub metas : StandsThroughMount side said read new
 
 -- At its end the disks are at rest under the meta that stands, of version 2, which is this one, but
 -- for a disk that was lost since the last commit; and hold the writes that it counts. These are then
@@ -39,8 +48,24 @@ pub record HasSettled (side : ℕ) (said : LogState) (m : Meta) (dirty : ℕ →
   -- disk marked or none
   pub mark : Option ℕ
   pub standing_is : standing ≡ with_mark said.meta mark
+  -- so it had to be by the powers at a moment since the reads, and so the disk that was lost by those
+  -- at the end
+  pub mark_is : IsMarkAtMoment said.meta mark recovered.read new
+  pub lost_is : IsMarkAtEnd standing lost new
   pub ends : (slots : ℕ) → EndsHeld slots side said standing recovered.read new
   pub map : (slots : ℕ) → ShowsAtEnd slots side said standing dirty recovered.read new
+  -- and they are those that the log disk showed after the reads
+  pub cells : (slots : ℕ) → KeepsDirty slots side said standing recovered.read new
+
+-- A mount is served: no cause of a refusal is there, before the reads of the log disks and after them,
+-- by which log disk `side` stands with this; and it is this that is recovered and settled.
+pub record HasMounted (count : ℕ) (old : ℕ → Slot) (m : Meta) (dirty : ℕ → ℕ → Bool) (told_old told_new : Option Trail) : Type 0 where
+  pub side : ℕ
+  pub said : LogState
+  pub settled : HasSettled side said m dirty told_old told_new
+  pub read : ℕ → Slot
+  pub agrees : (t : Trail) → settled.recovered.read ≡ Some t → Agrees (now t) read
+  pub examined : IsExamined count old read settled.recovered.read side said
 
 -- Only reads of the log disks are told.
 pub record HasOnlyRead (old new : Option Trail) : Type 0 where
@@ -52,8 +77,11 @@ pub record HasOnlyRead (old new : Option Trail) : Type 0 where
 pub data IsCauseOfRefusal (count : ℕ) (old new : ℕ → Slot) (told_old told_new : Option Trail) (fault : MountFault) : Type 0 where
   no_memory : fault ≡ NoMemory → HasOnlyRead told_old told_new → IsCauseOfRefusal count old new told_old told_new fault
   examined : IsRefused count old new told_new fault → HasOnlyRead told_old told_new → IsCauseOfRefusal count old new told_old told_new fault
-  -- the first was out after the reads, by what stands then, or has failed since; then the second has
+  -- the first was out after the reads, by what stands then, or has failed since; then the second has;
+  -- one that failed is absent since
   two_down : (read : ℕ → Slot) (side : ℕ) (said : LogState) (two : Two) (recovered : HasRecovered side said told_old told_new)
+      → ((t : Trail) → recovered.read ≡ Some t → Agrees (now t) read)
       → IsExamined count old read recovered.read side said → fault ≡ BothMissing two
       → AreTwoDownBeside (IsOutOfCommit (λ d. (read d).power) said.meta.setup.geometry.disks (named_out said.meta.out) None) read new two
+      → AreGoneSince (IsOutOfCommit (λ d. (read d).power) said.meta.setup.geometry.disks (named_out said.meta.out) None) read new two
       → IsCauseOfRefusal count old new told_old told_new fault

@@ -14,7 +14,7 @@ use Rattle.paraid_image.specs.Power.{power_by_gear}
 use Rattle.paraid_image.specs.Spot.{rising_to}
 use Rattle.paraid_txn.specs.declared.store.Lost.{Lost}
 use Rattle.paraid_txn.specs.declared.store.Store.{Store}
-use Rattle.paraid_txn.specs.Losses.{IsLostBy, IsOneOut, IsOutOfCommit, AreTwoDownBeside}
+use Rattle.paraid_txn.specs.Losses.{AreGoneSince, IsGoneSince, IsLostBy, IsOneOut, IsOutOfCommit, AreTwoDownBeside}
 use Rattle.paraid_txn.specs.Stores.{IsSameStore, store_out, store_rack}
 use Rattle.paraid_txn.specs.Uses.{EachCall}
 
@@ -55,6 +55,7 @@ pub record HasChangedPower {R : Type 0} {l : _} (g : Ghosts R) (m : Meta) (disk 
   pub calls : Ran (g.told (store_rack old)) (g.told (store_rack new)) (EachCall (IsPowerCall m))
   pub kept : OnOk result (is_present (g.slot (store_rack old) disk).power ≡ true → is_present (g.slot (store_rack new) disk).power ≡ true)
   pub lost : IfErr result (IsLostBy (store_out g.slot old) disk (g.slot (store_rack old)) (g.slot (store_rack new)))
+  pub gone : IfErr result (λ lost. IsGoneSince (g.slot (store_rack old)) (g.slot (store_rack new)) disk)
 
 -- The same, where a failure beside which none was out is borne; or two are down.
 pub record HasPowered {R : Type 0} {l : _} (g : Ghosts R) (m : Meta) (disk : ℕ) (old new : Store R l) (result : Result (Unit {0}) Two) : Type 0 where
@@ -67,6 +68,8 @@ pub record HasPowered {R : Type 0} {l : _} (g : Ghosts R) (m : Meta) (disk : ℕ
   pub one : OnOk result (IsOneOut m.setup.geometry.disks (named_out m.out) (g.slot (store_rack old))
       → IsOneOut m.setup.geometry.disks (named_out m.out) (g.slot (store_rack new)))
   pub two : IfErr result (AreTwoDownBeside (IsOutOfCommit (λ d. (g.slot (store_rack old) d).power) m.setup.geometry.disks (named_out m.out) None)
+      (g.slot (store_rack old)) (g.slot (store_rack new)))
+  pub gone : IfErr result (AreGoneSince (IsOutOfCommit (λ d. (g.slot (store_rack old) d).power) m.setup.geometry.disks (named_out m.out) None)
       (g.slot (store_rack old)) (g.slot (store_rack new)))
 
 -- The first `k` disks are powered so, but for one that has failed and beside which none was out; or
@@ -81,4 +84,6 @@ pub record ArePowered {R : Type 0} {l : _} (g : Ghosts R) (m : Meta) (k : ℕ) (
   pub one : OnOk result (IsOneOut m.setup.geometry.disks (named_out m.out) (g.slot (store_rack old))
       → IsOneOut m.setup.geometry.disks (named_out m.out) (g.slot (store_rack new)))
   pub two : IfErr result (AreTwoDownBeside (IsOutOfCommit (λ d. (g.slot (store_rack old) d).power) m.setup.geometry.disks (named_out m.out) None)
+      (g.slot (store_rack old)) (g.slot (store_rack new)))
+  pub gone : IfErr result (AreGoneSince (IsOutOfCommit (λ d. (g.slot (store_rack old) d).power) m.setup.geometry.disks (named_out m.out) None)
       (g.slot (store_rack old)) (g.slot (store_rack new)))

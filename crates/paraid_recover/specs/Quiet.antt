@@ -1,4 +1,4 @@
--- The calls between the end of an interrupted commit and the mark of an absent disk.
+-- The calls of a mount by their kinds.
 use Rattle.std.specs.Prelude.{ℕ, ◌<◌}
 use Rattle.paraid_rack.specs.declared.call.Call.{Call}
 use Rattle.paraid_rack.specs.declared.call.Call.TheVariants.{Read, Write, Sync, Park, SpinUp, Attach}
@@ -20,3 +20,12 @@ IsInLog n (Sync d done) = d < n
 IsInLog n (Park d done) = ⊥
 IsInLog n (SpinUp d done) = ⊥
 IsInLog n (Attach d size done) = ⊥
+
+-- a read, a write or a sync
+abbrev pub IsStill : Call → Type 0
+IsStill (Read d p done) = Unit {0}
+IsStill (Write d p b done) = Unit {0}
+IsStill (Sync d done) = Unit {0}
+IsStill (Park d done) = ⊥
+IsStill (SpinUp d done) = ⊥
+IsStill (Attach d size done) = ⊥

@@ -1,15 +1,18 @@
 //! The dirty map is read into the table.
-ghost use Rattle.std.specs.Prelude.{◌≡◌, ◌≢◌, ℕ, ◌+◌, ◌*◌, ◌<◌, ◌≤◌, [], length, slice_index, Option, Some, None, OnOk, IfOk, IfErr, IsSome};
+ghost use Rattle.std.specs.Prelude.{◌≡◌, ◌≢◌, ℕ, ◌+◌, ◌*◌, ◌<◌, ◌≤◌, [], length, slice_index, Option, Some, None, OnOk, IfOk, IfErr, IsSome, is_ok};
 ghost use Rattle.paraid_base.specs.Regions.{map_count};
 ghost use Rattle.paraid_dirty.specs.Bits.{bit_of};
 ghost use Rattle.paraid_dirty.specs.Table.{table_with_bit, is_dirty};
+ghost use Rattle.paraid_rack.specs.declared.call.Call.TheVariants.{Read};
+ghost use Rattle.paraid_rack.specs.Told.{GrowsByCall, Ran};
 ghost use Rattle.paraid_rack.specs.declared.call.Power.TheVariants.{Spinning};
 ghost use Rattle.paraid_image.specs.Out.{or_else};
 ghost use Rattle.paraid_image.specs.Spot.{map_disk as map_disk_of};
 ghost use Rattle.paraid_image.specs.Standing.{Contents};
-ghost use Rattle.paraid_recover.specs.Map.{IsMapReady, IsNarrow, ShowsMap};
-ghost use Rattle.paraid_txn.specs.Losses.{AreFailedOrWell};
+ghost use Rattle.paraid_recover.specs.Map.{IsMapReady, IsNarrow, ReadsMap, ReadsMapOf, ShowsMap};
+ghost use Rattle.paraid_txn.specs.Losses.{AreFailedOrWell, AreGoneSince};
 ghost use Rattle.paraid_txn.specs.Stores.{disks_of, store_out, store_rack};
+ghost use Rattle.paraid_txn.specs.Uses.{EachCall};
 ghost use Rattle.paraid_view.specs.Reads.{HaveLostTwo, HaveRead, ShowsContents, lost_by};
 
 use paraid_base::{Block, DiskNo, Geometry, Place, Row, Two};
@@ -87,6 +90,8 @@ fn read_block<R: Rack>(
     ensures read { HaveRead R.slot_count R.slot R.told (disks_of store.old) (lost_by result)
         store.old store.new }
     ensures failed { IfErr result (λ e. e ≡ disk) }
+    ensures called { GrowsByCall (R.told (store_rack store.old)) (R.told (store_rack store.new))
+        (Read disk place (is_ok result)) }
     ensures value { OnOk result ((f : Contents) → ShowsContents (R.told (store_rack store.old)) [] f
         → IsSome (R.told (store_rack store.new)) → into.new ≡ f disk place) }
 {
@@ -114,6 +119,8 @@ fn read_map_of<R: Rack>(
     ensures read { HaveRead R.slot_count R.slot R.told (disks_of store.old) (lost_by result)
         store.old store.new }
     ensures failed { IfErr result (λ e. e ≡ disk) }
+    ensures calls { Ran (R.told (store_rack store.old)) (R.told (store_rack store.new))
+        (EachCall (ReadsMapOf geometry.now disk)) }
     ensures shows { OnOk result ((f : Contents) → ShowsContents (R.told (store_rack store.old)) [] f
         → IsSome (R.told (store_rack store.new))
         → ShowsMap geometry.now (f disk) (is_dirty table.new)) }
@@ -156,10 +163,14 @@ pub fn read_map<R: Rack>(
     ensures read { IfOk result (λ lost. HaveRead R.slot_count R.slot R.told (disks_of store.old)
         lost store.old store.new) }
     ensures each { AreFailedOrWell (R.slot (store_rack store.old)) (R.slot (store_rack store.new)) }
+    ensures calls { Ran (R.told (store_rack store.old)) (R.told (store_rack store.new))
+        (EachCall (ReadsMap meta.now.setup.geometry (store_out R.slot store.old))) }
     ensures alone { IfOk result (λ lost. (e : ℕ) → lost ≡ Some e
         → (e < disks_of store.old) × (store_out R.slot store.old ≡ None)) }
     ensures two { IfErr result (λ two. HaveLostTwo R.slot_count R.slot R.told (disks_of store.old)
         (store_out R.slot store.old) two store.old store.new) }
+    ensures gone { IfErr result (AreGoneSince (λ d. store_out R.slot store.old ≡ Some d)
+        (R.slot (store_rack store.old)) (R.slot (store_rack store.new))) }
     ensures shows { IfOk result (λ lost. (f : Contents) → ShowsContents (R.told (store_rack store.old)) [] f
         → IsSome (R.told (store_rack store.new))
         → ShowsMap meta.now.setup.geometry

@@ -5,9 +5,9 @@ ghost use Rattle.paraid_rack.specs.Disks.{Disks};
 ghost use Rattle.paraid_recover.specs.HeldMoments.{Extends, KeepsHeld};
 ghost use Rattle.paraid_record.specs.Range.{IsInRange};
 ghost use Rattle.paraid_image.specs.Rest.{IsAtRest};
-ghost use Rattle.paraid_txn.specs.Commit.{EndsCommitted};
+ghost use Rattle.paraid_txn.specs.Commit.{EndsCommitted, IsWholeOrAbsent};
 ghost use Rattle.paraid_rack.specs.Told.{Ran};
-ghost use Rattle.paraid_txn.specs.Losses.{StaySynced, AreFailedOrWell, IsOneOut, IsOutOfCommit, OnlyLosesSlots, AreTwoDownBeside};
+ghost use Rattle.paraid_txn.specs.Losses.{AreGoneSince, StaySynced, AreFailedOrWell, IsOneOut, IsOutOfCommit, OnlyLosesSlots, AreTwoDownBeside};
 ghost use Rattle.paraid_txn.specs.Uses.{EachCall, Uses};
 ghost use Rattle.paraid_image.specs.Mark.{marked_gone as marked_of};
 ghost use Rattle.paraid_image.specs.Out.{named_out as named_of};
@@ -70,6 +70,9 @@ pub fn mark<R: Rack>(
     ensures two { IfErr result (AreTwoDownBeside (IsOutOfCommit (λ e. (R.slot (store_rack store.old) e).power)
         (disks_of store.old) (named_by store.old) (Some disk))
         (R.slot (store_rack store.old)) (R.slot (store_rack store.new))) }
+    ensures gone { IfErr result (AreGoneSince (IsOutOfCommit (λ e. (R.slot (store_rack store.old) e).power)
+        (disks_of store.old) (named_by store.old) (Some disk))
+        (R.slot (store_rack store.old)) (R.slot (store_rack store.new))) }
     ensures calls { Ran (R.told (store_rack store.old)) (R.told (store_rack store.new))
         (EachCall (Uses (marked_of (of_version_two meta.now) disk meta.now.epoch) [])) }
     ensures one { OnOk result (IsOneOut (disks_of store.old) (named_by store.old)
@@ -78,6 +81,8 @@ pub fn mark<R: Rack>(
     ensures grows { Extends (R.told (store_rack store.old)) (R.told (store_rack store.new)) }
     ensures held { (slots : ℕ) → KeepsHeld (λ s. IsAtRest s meta.now) slots
         meta.now.setup.geometry.disks (R.told (store_rack store.old)) (R.told (store_rack store.new)) }
+    ensures moments { IsWholeOrAbsent (R.told (store_rack store.old)) (R.told (store_rack store.new))
+        meta.now (marked_of (of_version_two meta.now) disk (meta.now.epoch + 1)) [] }
     ensures committed { OnOk result (EndsCommitted (R.told (store_rack store.old))
         (R.told (store_rack store.new)) meta.now
         (marked_of (of_version_two meta.now) disk (meta.now.epoch + 1)) batch.now) }

@@ -15,12 +15,19 @@ ghost use Rattle.paraid_record.specs.Range.{IsInRange};
 ghost use Rattle.paraid_rack.specs.Trail.{Trail};
 ghost use Rattle.paraid_image.specs.Out.{named_out as named_of};
 ghost use Rattle.paraid_image.specs.Sides.{LogState};
-ghost use Rattle.paraid_recover.specs.HeldMoments.{EndsHeld, Recovers, RecoversHeld, ShowsAtEnd};
+ghost use Rattle.paraid_recover.specs.EndOfMount.{IsMarkAtEnd, IsMarkAtMoment, KeepsDirty};
+ghost use Rattle.paraid_recover.specs.HeldMoments.{EndsHeld, IsOutAtEnd, Recovers, RecoversHeld, ShowsAtEnd};
 ghost use Rattle.paraid_recover.specs.Map.{HasMap, IsNarrow};
+ghost use Rattle.paraid_recover.specs.MountCalls.{OnlyMountCalls};
 ghost use Rattle.paraid_recover.specs.RecoveryMark.{to_mark, with_mark};
-ghost use Rattle.paraid_recover.specs.Mount.{HasSettled, IsCauseOfRefusal};
+ghost use Rattle.paraid_recover.specs.StandingMetas.{StandsInMoments, StandsThroughMount};
+ghost use Rattle.paraid_recover.specs.Powers.{IsPowerCall};
+ghost use Rattle.paraid_recover.specs.Quiet.{IsStill};
+ghost use Rattle.paraid_rack.specs.Told.{Ran};
+ghost use Rattle.paraid_txn.specs.Uses.{EachCall};
+ghost use Rattle.paraid_recover.specs.Mount.{HasMounted, IsCauseOfRefusal};
 ghost use Rattle.paraid_recover.specs.Mounted.{AreAllSynced, IsFit, IsServable, with_loss as with_loss_of};
-ghost use Rattle.paraid_txn.specs.Losses.{AreFailedOrWell, IsOutOfCommit, OnlyLosesSlots, AreTwoDownBeside};
+ghost use Rattle.paraid_txn.specs.Losses.{AreFailedOrWell, AreGoneSince, IsOutOfCommit, OnlyLosesSlots, AreTwoDownBeside};
 ghost use Rattle.paraid_txn.specs.Stores.{disks_of, epoch_of, named_of as named_by, store_out, store_rack};
 
 use crate::map::read_map;
@@ -61,7 +68,8 @@ fn settle<R: Rack>(
     ensures given { IfOk result (λ m. (lost : Option ℕ) × (m ≡ with_mark meta.now lost)
         × ((d : ℕ) → lost ≡ Some d → (is_present (R.slot (store_rack store.new) d).power ≡ false)
         × (d < meta.now.setup.geometry.disks))
-        × ((d : ℕ) → lost ≡ Some d → (e : ℕ) → named_of meta.now.out ≡ Some e → e ≡ d)) }
+        × ((d : ℕ) → lost ≡ Some d → (e : ℕ) → named_of meta.now.out ≡ Some e → e ≡ d)
+        × IsMarkAtMoment meta.now lost (R.told (store_rack store.old)) (R.told (store_rack store.new))) }
     ensures fit { IfOk result (IsFit (R.slot_count (store_rack store.new))
         (R.slot (store_rack store.new))) }
     ensures synced { IfOk result (λ m. AreAllSynced m (R.slot (store_rack store.new))) }
@@ -70,9 +78,20 @@ fn settle<R: Rack>(
     ensures two { IfErr result (AreTwoDownBeside (IsOutOfCommit (λ e. (R.slot (store_rack store.old) e).power)
         meta.now.setup.geometry.disks (named_of meta.now.out) None)
         (R.slot (store_rack store.old)) (R.slot (store_rack store.new))) }
+    ensures gone { IfErr result (AreGoneSince (IsOutOfCommit (λ e. (R.slot (store_rack store.old) e).power)
+        meta.now.setup.geometry.disks (named_of meta.now.out) None)
+        (R.slot (store_rack store.old)) (R.slot (store_rack store.new))) }
+    ensures still { Ran (R.told (store_rack store.old)) (R.told (store_rack store.new))
+        (EachCall IsStill) }
+    ensures allowed { OnlyMountCalls meta.now (R.told (store_rack store.old))
+        (R.told (store_rack store.new)) }
     ensures holds { (slots x : ℕ) (said : LogState) (old : Option Trail) → said.meta ≡ meta.now
         → Recovers slots x said old (R.told (store_rack store.old))
         → RecoversHeld slots x said old (R.told (store_rack store.new)) }
+    ensures metas { (slots x : ℕ) (said : LogState) (old : Option Trail) → said.meta ≡ meta.now
+        → Recovers slots x said old (R.told (store_rack store.old))
+        → StandsInMoments slots x said old (R.told (store_rack store.old))
+        → StandsInMoments slots x said old (R.told (store_rack store.new)) }
     ensures ends { IfOk result (λ m. (slots x : ℕ) (said : LogState) (old : Option Trail)
         → said.meta ≡ meta.now → Recovers slots x said old (R.told (store_rack store.old))
         → EndsHeld slots x said m old (R.told (store_rack store.new))) }
@@ -131,23 +150,42 @@ fn raise<R: Rack>(
     ensures two { IfErr result (AreTwoDownBeside (IsOutOfCommit (λ e. (R.slot (store_rack store.old) e).power)
         meta.now.setup.geometry.disks (named_of meta.now.out) None)
         (R.slot (store_rack store.old)) (R.slot (store_rack store.new))) }
+    ensures gone { IfErr result (AreGoneSince (IsOutOfCommit (λ e. (R.slot (store_rack store.old) e).power)
+        meta.now.setup.geometry.disks (named_of meta.now.out) None)
+        (R.slot (store_rack store.old)) (R.slot (store_rack store.new))) }
     ensures later { (d : ℕ) → (R.slot (store_rack store.old) d).faults
         ≤ (R.slot (store_rack store.new) d).faults }
     ensures failed { (d : ℕ) → (R.slot (store_rack store.new) d).power ≡ Absent
         → ((R.slot (store_rack store.old) d).power ≡ Absent)
         ⊎ HasRisen (R.slot (store_rack store.old) d).faults (R.slot (store_rack store.new) d).faults }
+    ensures allowed { OnlyMountCalls meta.now (R.told (store_rack store.old))
+        (R.told (store_rack store.new)) }
+    ensures split { (mid : Option Trail) × Ran (R.told (store_rack store.old)) mid (EachCall IsStill)
+        × ((R.told (store_rack store.new) ≡ mid) ⊎ ((mark : Option ℕ)
+        × ((slots x : ℕ) (said : LogState) (old : Option Trail) → said.meta ≡ meta.now
+        → Recovers slots x said old (R.told (store_rack store.old))
+        → EndsHeld slots x said (with_mark meta.now mark) old mid)
+        × ((said : LogState) → said.meta ≡ meta.now
+        → IsOutAtEnd said (with_mark meta.now mark) mid)
+        × Ran mid (R.told (store_rack store.new)) (EachCall (IsPowerCall (with_mark meta.now mark))))) }
     ensures holds { (slots x : ℕ) (said : LogState) (old : Option Trail) → said.meta ≡ meta.now
         → Recovers slots x said old (R.told (store_rack store.old))
         → RecoversHeld slots x said old (R.told (store_rack store.new)) }
+    ensures metas { (slots x : ℕ) (said : LogState) (old : Option Trail) → said.meta ≡ meta.now
+        → Recovers slots x said old (R.told (store_rack store.old))
+        → StandsInMoments slots x said old (R.told (store_rack store.old))
+        → StandsInMoments slots x said old (R.told (store_rack store.new)) }
     ensures absent { (d : ℕ) → (R.slot (store_rack store.old) d).power ≡ Absent
         → (R.slot (store_rack store.new) d).power ≡ Absent }
     ensures ends { IfOk result (λ m. (standing : MetaType) × (lost : Option ℕ)
         × (m ≡ with_loss_of standing lost) × (standing.setup ≡ meta.now.setup)
         × ((d : ℕ) → named_of meta.now.out ≡ Some d → named_of standing.out ≡ Some d)
-        × (standing.version ≡ 2) × ((mark : Option ℕ) × (standing ≡ with_mark meta.now mark))
+        × (standing.version ≡ 2) × ((mark : Option ℕ) × (standing ≡ with_mark meta.now mark)
+        × IsMarkAtMoment meta.now mark (R.told (store_rack store.old)) (R.told (store_rack store.new)))
         × ((slots x : ℕ) (said : LogState) (old : Option Trail)
         → said.meta ≡ meta.now → Recovers slots x said old (R.told (store_rack store.old))
-        → EndsHeld slots x said standing old (R.told (store_rack store.new)))) }
+        → EndsHeld slots x said standing old (R.told (store_rack store.new)))
+        × IsMarkAtEnd standing lost (R.told (store_rack store.new))) }
     ensures map { IfOk result (λ m. HasMap meta.now.setup.geometry (store_out R.slot store.old)
         (is_dirty table.new) (R.told (store_rack store.old)) (R.told (store_rack store.new))) }
 {
@@ -198,7 +236,20 @@ fn bring_up<R: Rack>(
     ensures two { IfErr result (λ refused. (two : TwoType)
         × (refused.fault ≡ BothMissing two) × AreTwoDownBeside (IsOutOfCommit (λ e. (R.slot rack e).power)
         standing.now.meta.setup.geometry.disks (named_of standing.now.meta.out) None)
+        (R.slot rack) (R.slot refused.rack) two
+        × AreGoneSince (IsOutOfCommit (λ e. (R.slot rack e).power)
+        standing.now.meta.setup.geometry.disks (named_of standing.now.meta.out) None)
         (R.slot rack) (R.slot refused.rack) two) }
+    ensures allowed { IfOk result (λ it. OnlyMountCalls standing.now.meta (R.told rack)
+        (R.told (store_rack it.store))) }
+    ensures refused_allowed { IfErr result (λ refused. OnlyMountCalls standing.now.meta
+        (R.told rack) (R.told refused.rack)) }
+    ensures metas { IfOk result (λ it. StandsThroughMount standing.now.side
+        (log_state standing.now.gate_open standing.now.meta batch) (R.told rack)
+        (R.told (store_rack it.store))) }
+    ensures refused_metas { IfErr result (λ refused. StandsThroughMount standing.now.side
+        (log_state standing.now.gate_open standing.now.meta batch) (R.told rack)
+        (R.told refused.rack)) }
     ensures holds { IfOk result (λ it. (slots : ℕ) → RecoversHeld slots standing.now.side
         (log_state standing.now.gate_open standing.now.meta batch) (R.told rack)
         (R.told (store_rack it.store))) }
@@ -207,12 +258,17 @@ fn bring_up<R: Rack>(
         (R.told rack) (R.told refused.rack)) }
     ensures ends { IfOk result (λ it. (stands : MetaType) × (lost : Option ℕ)
         × (it.meta ≡ with_loss_of stands lost) × (stands.version ≡ 2)
-        × ((mark : Option ℕ) × (stands ≡ with_mark standing.now.meta mark))
+        × ((mark : Option ℕ) × (stands ≡ with_mark standing.now.meta mark)
+        × IsMarkAtMoment standing.now.meta mark (R.told rack) (R.told (store_rack it.store)))
         × ((slots : ℕ) → EndsHeld slots
         standing.now.side (log_state standing.now.gate_open standing.now.meta batch) stands
         (R.told rack) (R.told (store_rack it.store)))
         × ((slots : ℕ) → ShowsAtEnd slots standing.now.side
         (log_state standing.now.gate_open standing.now.meta batch) stands (is_dirty it.dirty)
+        (R.told rack) (R.told (store_rack it.store)))
+        × IsMarkAtEnd stands lost (R.told (store_rack it.store))
+        × ((slots : ℕ) → KeepsDirty slots standing.now.side
+        (log_state standing.now.gate_open standing.now.meta batch) stands
         (R.told rack) (R.told (store_rack it.store)))) }
 {
     let meta = &standing.meta;
@@ -255,11 +311,8 @@ pub fn mount<R: Rack>(alloc: Global, batch: Batch, rack: R) -> Result<Mounted<R>
         (R.slot (store_rack it.store)) (epoch_of it.store) (disks_of it.store)
         (named_by it.store) it.meta (length it.dirty)) }
     ensures nothing { IfOk result (λ it. it.batch ≡ []) }
-    // no cause of a refusal is there, before the reads and after them
-    ensures served { IfOk result (λ it. (read : ℕ → Slot) × (told : Option Trail)
-        × (side : ℕ) × (said : LogState) × IsReadOnly (R.told rack) told
-        × IsExamined (R.slot_count rack) (R.slot rack) read told side said) }
-    ensures told { IfOk result (λ it. (side : ℕ) × (said : LogState) × HasSettled side said
+    // no cause of a refusal was there, and all that is told is told of what stood then
+    ensures served { IfOk result (λ it. HasMounted (R.slot_count rack) (R.slot rack)
         it.meta (is_dirty it.dirty) (R.told rack) (R.told (store_rack it.store))) }
     ensures refused { IfErr result (λ refused. IsCauseOfRefusal (R.slot_count rack)
         (R.slot rack) (R.slot refused.rack) (R.told rack) (R.told refused.rack)

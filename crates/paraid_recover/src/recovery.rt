@@ -5,12 +5,14 @@ ghost use Rattle.paraid_rack.specs.declared.call.Power.TheVariants.{Absent};
 ghost use Rattle.paraid_rack.specs.Told.{Ran};
 ghost use Rattle.paraid_rack.specs.Trail.{Trail};
 ghost use Rattle.paraid_recover.specs.HeldMoments.{EndsHeld, Recovers, RecoversHeld};
+ghost use Rattle.paraid_recover.specs.MountCalls.{OnlyMountCalls};
 ghost use Rattle.paraid_recover.specs.Quiet.{IsInLog};
 ghost use Rattle.paraid_recover.specs.RecoveryMark.{renewed as renewed_of, to_mark, with_mark};
+ghost use Rattle.paraid_recover.specs.StandingMetas.{StandsInMoments};
 ghost use Rattle.paraid_record.specs.Range.{IsInRange};
 ghost use Rattle.paraid_image.specs.Out.{named_out as named_of};
 ghost use Rattle.paraid_image.specs.Sides.{LogState};
-ghost use Rattle.paraid_txn.specs.Losses.{StaySynced, AreFailedOrWell, IsOneOut, IsOutOfCommit, OnlyLosesSlots, AreTwoDownBeside};
+ghost use Rattle.paraid_txn.specs.Losses.{AreGoneSince, StaySynced, AreFailedOrWell, IsOneOut, IsOutOfCommit, OnlyLosesSlots, AreTwoDownBeside};
 ghost use Rattle.paraid_txn.specs.Ready.{IsLogReady};
 ghost use Rattle.paraid_txn.specs.Stores.{disks_of, epoch_of, named_of as named_by, store_rack};
 ghost use Rattle.paraid_txn.specs.Uses.{EachCall};
@@ -70,12 +72,21 @@ fn renew<R: Rack>(store: &mut Store<R>, nothing: &Batch, meta: &Meta) -> Result<
         → IsOneOut (disks_of store.old) (named_of m.out) (R.slot (store_rack store.new))) }
     ensures calls { Ran (R.told (store_rack store.old)) (R.told (store_rack store.new))
         (EachCall (IsInLog (disks_of store.old))) }
+    ensures allowed { OnlyMountCalls meta.now (R.told (store_rack store.old))
+        (R.told (store_rack store.new)) }
     ensures two { IfErr result (AreTwoDownBeside (IsOutOfCommit (λ e. (R.slot (store_rack store.old) e).power)
+        (disks_of store.old) (named_by store.old) None)
+        (R.slot (store_rack store.old)) (R.slot (store_rack store.new))) }
+    ensures gone { IfErr result (AreGoneSince (IsOutOfCommit (λ e. (R.slot (store_rack store.old) e).power)
         (disks_of store.old) (named_by store.old) None)
         (R.slot (store_rack store.old)) (R.slot (store_rack store.new))) }
     ensures holds { (slots x : ℕ) (said : LogState) (old : Option Trail) → said.meta ≡ meta.now
         → Recovers slots x said old (R.told (store_rack store.old))
         → RecoversHeld slots x said old (R.told (store_rack store.new)) }
+    ensures metas { (slots x : ℕ) (said : LogState) (old : Option Trail) → said.meta ≡ meta.now
+        → Recovers slots x said old (R.told (store_rack store.old))
+        → StandsInMoments slots x said old (R.told (store_rack store.old))
+        → StandsInMoments slots x said old (R.told (store_rack store.new)) }
     ensures ends { IfOk result (λ m. (slots x : ℕ) (said : LogState) (old : Option Trail)
         → said.meta ≡ meta.now → Recovers slots x said old (R.told (store_rack store.old))
         → EndsHeld slots x said m old (R.told (store_rack store.new))) }
@@ -121,13 +132,23 @@ pub fn mark_out<R: Rack>(store: &mut Store<R>, nothing: &Batch, meta: &Meta) -> 
         → IsOneOut (disks_of store.old) (named_of m.out) (R.slot (store_rack store.new))) }
     ensures calls { Ran (R.told (store_rack store.old)) (R.told (store_rack store.new))
         (EachCall (IsInLog (disks_of store.old))) }
+    ensures allowed { OnlyMountCalls meta.now (R.told (store_rack store.old))
+        (R.told (store_rack store.new)) }
     ensures two { IfErr result (AreTwoDownBeside (IsOutOfCommit (λ e. (R.slot (store_rack store.old) e).power)
+        (disks_of store.old) (named_by store.old)
+        (to_mark (λ d. (R.slot (store_rack store.old) d).power) meta.now))
+        (R.slot (store_rack store.old)) (R.slot (store_rack store.new))) }
+    ensures gone { IfErr result (AreGoneSince (IsOutOfCommit (λ e. (R.slot (store_rack store.old) e).power)
         (disks_of store.old) (named_by store.old)
         (to_mark (λ d. (R.slot (store_rack store.old) d).power) meta.now))
         (R.slot (store_rack store.old)) (R.slot (store_rack store.new))) }
     ensures holds { (slots x : ℕ) (said : LogState) (old : Option Trail) → said.meta ≡ meta.now
         → Recovers slots x said old (R.told (store_rack store.old))
         → RecoversHeld slots x said old (R.told (store_rack store.new)) }
+    ensures metas { (slots x : ℕ) (said : LogState) (old : Option Trail) → said.meta ≡ meta.now
+        → Recovers slots x said old (R.told (store_rack store.old))
+        → StandsInMoments slots x said old (R.told (store_rack store.old))
+        → StandsInMoments slots x said old (R.told (store_rack store.new)) }
     ensures ends { IfOk result (λ m. (slots x : ℕ) (said : LogState) (old : Option Trail)
         → said.meta ≡ meta.now → Recovers slots x said old (R.told (store_rack store.old))
         → EndsHeld slots x said m old (R.told (store_rack store.new))) }

@@ -1,4 +1,4 @@
-ghost use Rattle.std.specs.Prelude.{◌≡◌, ◌<◌, ◌↔◌, ◌+◌, IfOk, IsTrue};
+ghost use Rattle.std.specs.Prelude.{◌≡◌, ◌<◌, ◌↔◌, ◌+◌, IfOk, IfErr, OnOk, IsTrue};
 ghost use Rattle.paraid_base.specs.Regions.{IsGear, map_count};
 ghost use Rattle.paraid_base.specs.Soft.{stripe_count};
 ghost use Rattle.paraid_base.specs.Sums.{xor_upto};
@@ -18,7 +18,9 @@ use paraid_txn::Lost;
 fn row_sum<C: Stored>(core: &mut C, row: Row, disks: u8) -> Result<Block, Lost>
     requires row { row < (C.meta core.old).setup.geometry.rows }
     requires disks { disks ≡ (C.meta core.old).setup.geometry.disks }
-    ensures { IfOk result (λ sum. KeepsView (C.meta core.old) (C.meta core.new)
+    ensures leads { OnOk result (C.leads core.old core.new) }
+    ensures lost { IfErr result (C.loses core.old core.new) }
+    ensures shown { IfOk result (λ sum. KeepsView (C.meta core.old) (C.meta core.new)
         (C.ready core.old) (C.ready core.new) (C.shows core.old) (C.shows core.new)
         (λ v. sum ≡ xor_upto (value v row) disks)) }
 {
@@ -34,7 +36,9 @@ fn row_sum<C: Stored>(core: &mut C, row: Row, disks: u8) -> Result<Block, Lost>
 /// Whether the values of a row do not sum to zero.
 pub fn is_row_off<C: Stored>(core: &mut C, row: Row) -> Result<bool, Lost>
     requires row { row < (C.meta core.old).setup.geometry.rows }
-    ensures { IfOk result (λ off. KeepsView (C.meta core.old) (C.meta core.new)
+    ensures leads { OnOk result (C.leads core.old core.new) }
+    ensures lost { IfErr result (C.loses core.old core.new) }
+    ensures shown { IfOk result (λ off. KeepsView (C.meta core.old) (C.meta core.new)
         (C.ready core.old) (C.ready core.new) (C.shows core.old) (C.shows core.new)
         (λ v. IsTrue off ↔ IsOff v RowKind row)) }
 {
@@ -51,7 +55,9 @@ fn stripe_sum<C: Stored>(core: &mut C, at: u32, gear: u8) -> Result<Block, Lost>
     requires whole { IsTrue (is_whole_below (named_out (C.meta core.old).out) gear) }
     requires at { at < stripe_count (C.meta core.old).setup.geometry.disks
         (C.meta core.old).setup.geometry.rows gear }
-    ensures { IfOk result (λ sum. KeepsView (C.meta core.old) (C.meta core.new)
+    ensures leads { OnOk result (C.leads core.old core.new) }
+    ensures lost { IfErr result (C.loses core.old core.new) }
+    ensures shown { IfOk result (λ sum. KeepsView (C.meta core.old) (C.meta core.new)
         (C.ready core.old) (C.ready core.new) (C.shows core.old) (C.shows core.new)
         (λ v. sum ≡ xor_upto (stripe (C.meta core.old).setup.geometry v.block gear at) gear)) }
 {
@@ -73,7 +79,9 @@ pub fn is_stripe_off<C: Stored>(core: &mut C, at: u32) -> Result<bool, Lost>
         (C.meta core.old).gear) }
     requires at { at < stripe_count (C.meta core.old).setup.geometry.disks
         (C.meta core.old).setup.geometry.rows (C.meta core.old).gear }
-    ensures { IfOk result (λ off. KeepsView (C.meta core.old) (C.meta core.new)
+    ensures leads { OnOk result (C.leads core.old core.new) }
+    ensures lost { IfErr result (C.loses core.old core.new) }
+    ensures shown { IfOk result (λ off. KeepsView (C.meta core.old) (C.meta core.new)
         (C.ready core.old) (C.ready core.new) (C.shows core.old) (C.shows core.new)
         (λ v. IsTrue off ↔ IsOff v StripeKind at)) }
 {
@@ -87,7 +95,9 @@ pub fn is_mirror_off<C: Stored>(core: &mut C, at: u32) -> Result<bool, Lost>
     requires checkable { IsCheckable (C.meta core.old) (C.ready core.old) }
     requires whole { IsTrue (is_whole_below (named_out (C.meta core.old).out) 2) }
     requires at { at < map_count (C.meta core.old).setup.geometry }
-    ensures { IfOk result (λ off. KeepsView (C.meta core.old) (C.meta core.new)
+    ensures leads { OnOk result (C.leads core.old core.new) }
+    ensures lost { IfErr result (C.loses core.old core.new) }
+    ensures shown { IfOk result (λ off. KeepsView (C.meta core.old) (C.meta core.new)
         (C.ready core.old) (C.ready core.new) (C.shows core.old) (C.shows core.new)
         (λ v. IsTrue off ↔ IsOff v MirrorKind at)) }
 {

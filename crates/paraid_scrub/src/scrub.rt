@@ -1,4 +1,4 @@
-ghost use Rattle.std.specs.Prelude.{◌≡◌, ◌<◌, ℕ, IfOk, IsTrue, if◌then◌else◌};
+ghost use Rattle.std.specs.Prelude.{◌≡◌, ◌<◌, ℕ, false, IfOk, IfErr, IsTrue, if◌then◌else◌};
 ghost use Rattle.paraid_base.specs.Regions.{map_count};
 ghost use Rattle.paraid_base.specs.Soft.{stripe_count};
 ghost use Rattle.paraid_image.specs.Out.{named_out};
@@ -6,6 +6,7 @@ ghost use Rattle.paraid_scrub.specs.Counts.{IsCheckable, is_whole_below};
 ghost use Rattle.paraid_image.specs.Spot.{View};
 ghost use Rattle.paraid_scrub.specs.declared.kind.Kind.TheVariants.{Row as RowKind, Stripe as StripeKind, Mirror as MirrorKind};
 ghost use Rattle.paraid_scrub.specs.ReadParts.{KeepsView, PartCount};
+ghost use Rattle.paraid_txn.specs.declared.store.Lost.TheVariants.{One as LostOne, Two as LostTwo};
 
 use crate::Stored;
 use crate::member::{is_mirror_off, is_row_off, is_stripe_off};
@@ -27,6 +28,11 @@ fn one_if(off: bool) -> u32
 
 /// Counts the rows whose values do not sum to zero. A disk that is lost inside ends it.
 pub fn count_rows<C: Stored>(core: &mut C) -> Result<Part, Two>
+    // It answers so only where a disk was lost.
+    ensures ended { IfOk result (λ part. part.whole ≡ false
+        → (d : ℕ) × C.loses core.old core.new (LostOne d)) }
+    ensures two { IfErr result (λ two. C.loses core.old core.new (LostTwo two)) }
+    ensures leads { IfOk result (λ part. IsTrue part.whole → C.leads core.old core.new) }
     ensures counts { IfOk result (λ part. (v : View) → C.shows core.old v
         → PartCount v RowKind (C.meta core.old).setup.geometry.rows part.found part.whole) }
     ensures kept { IfOk result (λ part. IsTrue part.whole → KeepsView (C.meta core.old)
@@ -57,6 +63,11 @@ pub fn count_stripes<C: Stored>(core: &mut C) -> Result<Part, Two>
     requires region { (C.meta core.old).gear < (C.meta core.old).setup.geometry.disks }
     requires whole { IsTrue (is_whole_below (named_out (C.meta core.old).out)
         (C.meta core.old).gear) }
+    // It answers so only where a disk was lost.
+    ensures ended { IfOk result (λ part. part.whole ≡ false
+        → (d : ℕ) × C.loses core.old core.new (LostOne d)) }
+    ensures two { IfErr result (λ two. C.loses core.old core.new (LostTwo two)) }
+    ensures leads { IfOk result (λ part. IsTrue part.whole → C.leads core.old core.new) }
     ensures counts { IfOk result (λ part. (v : View) → C.shows core.old v
         → PartCount v StripeKind (stripe_count
         (C.meta core.old).setup.geometry.disks (C.meta core.old).setup.geometry.rows
@@ -89,6 +100,11 @@ pub fn count_stripes<C: Stored>(core: &mut C) -> Result<Part, Two>
 pub fn count_mirrors<C: Stored>(core: &mut C) -> Result<Part, Two>
     requires checkable { IsCheckable (C.meta core.old) (C.ready core.old) }
     requires whole { IsTrue (is_whole_below (named_out (C.meta core.old).out) 2) }
+    // It answers so only where a disk was lost.
+    ensures ended { IfOk result (λ part. part.whole ≡ false
+        → (d : ℕ) × C.loses core.old core.new (LostOne d)) }
+    ensures two { IfErr result (λ two. C.loses core.old core.new (LostTwo two)) }
+    ensures leads { IfOk result (λ part. IsTrue part.whole → C.leads core.old core.new) }
     ensures counts { IfOk result (λ part. (v : View) → C.shows core.old v
         → PartCount v MirrorKind (map_count (C.meta core.old).setup.geometry)
         part.found part.whole) }

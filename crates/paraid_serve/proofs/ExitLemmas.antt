@@ -91,19 +91,17 @@ pub IsMountedFromEach-follows : (slots : ℕ) (setup : Setup) (began : ℕ) (sta
     → ((p : Point) → IsMark slots setup p → ((t : Trail) → start ≡ Some t → p.disks ≡ now t) → P p → Q p) → IsMountedFromEach slots setup began start P → IsMountedFromEach slots setup began start Q
 IsMountedFromEach-follows slots setup began start P Q more mounted t tells h lo down x said entry stands =
     let m = mounted t tells h lo down x said entry stands in
-    let n = m.1 in (
-      m.0,
-      record {
-        mounting = n.mounting;
-        ends = elim n.ends [
-          | inl both ↦ inl both
-          | inr begun ↦
-              let b = begun.1 in
-              let here : begun.0.disks ≡ now t = b.disks ∙ mounted_disks t began in
-              inr (begun.0, b, more begun.0 (subst (λ (u : Setup). IsMark slots u begun.0) m.0 b.mark) (λ u is. here ∙ ap now (same_trail start t u tells is)) begun.2)
-        ];
-      },
-    )
+    record {
+      mounting = m.mounting;
+      ends = elim m.ends [
+        | inl both ↦ inl both
+        | inr begun ↦
+            let b = begun.1 in
+            let here : begun.0.disks ≡ now t = b.disks ∙ mounted_disks t began in
+            let same = begun.2.0 in
+            inr (begun.0, b, (same, more begun.0 (subst (λ (u : Setup). IsMark slots u begun.0) same b.mark) (λ u is. here ∙ ap now (same_trail start t u tells is)) begun.2.1))
+      ];
+    }
 
 pub headline : (slots : ℕ) (setup : Setup) (began : ℕ) (stood : Point → Type 0) (start final : Option Trail) (left_before left written_before written : Option (List ℕ)) (status : ℕ)
     → IsMountedFromEach slots setup began start stood → ProgramRun slots setup stood start final left_before left written_before written status

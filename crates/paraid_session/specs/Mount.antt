@@ -1,13 +1,14 @@
 -- What a mount leaves: from a rack that held a history to the first point of a session.
-use Rattle.std.specs.Prelude.{◌≡◌, ℕ, ◌+◌, ◌^◌, ◌<◌, ◌≤◌, ◌⊎◌, min, max, true, List, length, take, drop, Option, Some, None}
+use Rattle.std.specs.Prelude.{◌≡◌, ℕ, ◌+◌, ◌^◌, ◌<◌, ◌≤◌, ◌⊎◌, min, max, true, false, List, length, take, drop, Option, Some, None}
 use Rattle.paraid_base.specs.declared.state.Out.TheVariants.{Gone}
 use Rattle.paraid_base.specs.History.{History}
 use Rattle.paraid_base.specs.States.{gone_out}
 use Rattle.paraid_rack.specs.declared.call.Call.{Call}
 use Rattle.paraid_rack.specs.Disks.{Disks, lose}
+use Rattle.paraid_rack.specs.Lawful.{IsLawful}
 use Rattle.paraid_rack.specs.Trail.{Trail, disks, run}
 use Rattle.paraid_record.specs.declared.meta.Setup.{Setup}
-use Rattle.paraid_image.specs.Calls.{disk_of, reads_log}
+use Rattle.paraid_image.specs.Calls.{disk_of, is_attach, reads_log}
 use Rattle.paraid_image.specs.RunStart.{IsRunStart}
 use Rattle.paraid_image.specs.HeldAt.{MayLose}
 use Rattle.paraid_image.specs.Spins.{first_used}
@@ -32,9 +33,12 @@ pub data IsBase (s : Disks) (x : ℕ) (said : LogState) (base : ℕ → ℕ) (ti
 abbrev pub start_watch : Disks → Option ℕ → (ℕ → ℕ) → Watch
 start_watch s down base = record { disks = s; down = down_from_out down; spun = base; awaited = None }
 
--- a mount attaches no disk, and only reads the log of one that was gone
+-- A call of a mount is lawful by the power of its disk and attaches none. While at most one disk is
+-- down it is one that is allowed, and only reads the log of a disk that was gone.
 pub record IsAllowedInMount (said : LogState) (w : Watch) (call : Call) : Type 0 where
-  pub allowed : IsAllowed said.meta.setup None w call
+  pub power : IsLawful w.disks call
+  pub attaches : is_attach call ≡ false
+  pub allowed : IsServing w.down → IsAllowed said.meta.setup None w call
   pub gone : IsServing w.down → said.meta.out ≡ Gone (disk_of call) → reads_log call ≡ true
 
 -- the state begins as this one is, with no sample yet
@@ -122,10 +126,11 @@ FromRunStart slots began told P = (t : Trail) → told ≡ Some t → (h : Histo
     → IsRunStart slots (disks t began) h lo down → Stands (disks t began) x said
     → P (disks t began) x said h lo down (drop began t.calls)
 
--- So it is for each history that the rack held, where its record is told.
+-- So it is for each history that the rack held, where its record is told. Where a session follows,
+-- its setup is that of what stood.
 abbrev pub IsMountedFromEach : ℕ → Setup → ℕ → Option Trail → (Point → Type 0) → Type 0
 IsMountedFromEach slots setup began told follows = FromRunStart slots began told
-    (λ s x said h lo down calls. (said.meta.setup ≡ setup) × IsMounted slots s x said h lo down calls follows)
+    (λ s x said h lo down calls. IsMounted slots s x said h lo down calls (λ p. (said.meta.setup ≡ setup) × follows p))
 
 -- the same of a mount that is refused
 abbrev pub IsRefusedFromEach : ℕ → ℕ → Option Trail → Refusal → Type 0

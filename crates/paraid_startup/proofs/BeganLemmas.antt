@@ -6,7 +6,7 @@ use Rattle.paraid_rack.specs.Told.{Ran}
 use Rattle.paraid_rack.specs.Trail.{Trail, disks, extend, moments, now}
 use Rattle.paraid_recover.proofs.RecoverLemmas.{disks_before, disks_last}
 
-drop_past : {A : Type 0} (xs ys : List A) → drop (length xs) (xs ++ ys) ≡ ys
+pub drop_past : {A : Type 0} (xs ys : List A) → drop (length xs) (xs ++ ys) ≡ ys
 drop_past [] ys = refl
 drop_past (x ∷ xs) ys = let e : length (x ∷ xs) ≡ suc (length xs) = refl in ap (λ (k : ℕ). drop k (x ∷ xs ++ ys)) e ∙ drop_past xs ys
 

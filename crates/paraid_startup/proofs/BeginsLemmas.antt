@@ -29,11 +29,11 @@ use Rattle.paraid_session.specs.Mount.{BeginsSession}
 use Rattle.paraid_session.specs.Mount.BeginsSession.{losing, quietly, without}
 use Rattle.paraid_session.specs.Watch.{fails_on, first_lost}
 use Rattle.paraid_session.proofs.LayerLemmas.{absent_failed, fails_first}
-use Rattle.paraid_startup.specs.Calls.{IsMountCall}
+use Rattle.paraid_recover.specs.MountCalls.{IsMountCall}
 use Rattle.paraid_txn.specs.Uses.{EachCall}
 
 -- the least absent disk is known by which disks are there
-first_absent_by : (p q : ℕ → Power) (n : ℕ) → ((e : ℕ) → e < n → is_present (q e) ≡ is_present (p e)) → first_absent q n ≡ first_absent p n
+pub first_absent_by : (p q : ℕ → Power) (n : ℕ) → ((e : ℕ) → e < n → is_present (q e) ≡ is_present (p e)) → first_absent q n ≡ first_absent p n
 unfolding first_absent
 first_absent_by p q zero same = refl
 first_absent_by p q (suc n) same =

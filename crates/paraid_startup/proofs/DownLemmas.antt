@@ -56,7 +56,7 @@ in_after_by false e down d is = elim is [
   | inr failed ↦ subst (λ (x : ℕ). IsIn (with_down x down) d) failed.1 (in_with_self d down)
 ]
 
-in_after : (w : Watch) (c : Call) (d : ℕ) → IsIn w.down d ⊎ ((is_done c ≡ false) × (d ≡ disk_of c)) → IsIn (watch c w).down d
+pub in_after : (w : Watch) (c : Call) (d : ℕ) → IsIn w.down d ⊎ ((is_done c ≡ false) × (d ≡ disk_of c)) → IsIn (watch c w).down d
 in_after w c d is = in_after_by (is_done c) (disk_of c) w.down d is
 
 pub in_stays : (w : Watch) (cs : List Call) (d : ℕ) → IsIn w.down d → IsIn (watch_all cs w).down d

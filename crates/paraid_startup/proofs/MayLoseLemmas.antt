@@ -21,7 +21,7 @@ use Rattle.paraid_image.proofs.SidesLemmas.{Says-same}
 use Rattle.paraid_image.proofs.StandingLemmas.{Stands-same}
 use Rattle.paraid_session.specs.Watch.{IsServing, Watch, watch_all}
 use Rattle.paraid_session.proofs.LayerLemmas.{IsIn}
-use Rattle.paraid_startup.specs.Calls.{IsMountCall}
+use Rattle.paraid_recover.specs.MountCalls.{IsMountCall}
 use Rattle.paraid_startup.proofs.BeginsLemmas.{stays_absent}
 use Rattle.paraid_startup.proofs.DownLemmas.{in_absent, in_stays, several_in}
 use Rattle.paraid_startup.proofs.RestLemmas.{out_by_name}

@@ -102,7 +102,7 @@ module _ (slots : ℕ) (s : Disks) (x : ℕ) (said : LogState) (h : History) (lo
   some_held t several serving is = absurd serving
 
   -- what is held at its end
-  at_end : IsServing (down_after_mount s down parts.base calls) → (beside : Option ℕ) × IsHeld slots (run s calls) h lo beside
+  pub at_end : IsServing (down_after_mount s down parts.base calls) → (beside : Option ℕ) × IsHeld slots (run s calls) h lo beside
   at_end serving =
       let last = each_at (λ (v : Watch). IsHeldWhileServing slots v.disks h lo v.down) _ w calls [] (subst (Each _ _ w) (sym (append-nil calls)) held) in
       let it = some_held (watch_all calls w).disks (watch_all calls w).down serving last in
@@ -138,13 +138,13 @@ module _ (slots : ℕ) (s : Disks) (x : ℕ) (said : LogState) (h : History) (lo
 
   -- A mount that is served.
   pub mounted : (follows : Point → Type 0) (standing : Meta) → (IsServing (down_after_mount s down parts.base calls) → EndsServed slots s said h calls standing)
-      → follows (first_point (run s calls) standing h (watch_all calls w).spun) → IsMounted slots s x said h lo down calls follows
+      → (IsServing (down_after_mount s down parts.base calls) → follows (first_point (run s calls) standing h (watch_all calls w).spun)) → IsMounted slots s x said h lo down calls follows
   unfolding mounting
   mounted follows standing ends after = record {
     mounting = mounting;
     ends = elim (two_or_one (down_after_mount s down parts.base calls)) [
       | inl two ↦ inl two
-      | inr serving ↦ inr (first_point (run s calls) standing h (watch_all calls w).spun, begun standing serving (ends serving), after)
+      | inr serving ↦ inr (first_point (run s calls) standing h (watch_all calls w).spun, begun standing serving (ends serving), after serving)
     ];
   }
 
@@ -157,7 +157,7 @@ module _ (slots : ℕ) (s : Disks) (x : ℕ) (said : LogState) (h : History) (lo
       | inl two ↦ inl two
       | inr serving ↦
           let kept = at_end serving in
-          let own = run_start slots (run s calls) h lo kept.0 ends.synced kept.1 in
+          let own = run_start slots (run s calls) h lo kept.0 (ends.synced serving) kept.1 in
           inr (own.0, own.1, ends.cause serving)
     ];
     worn_out = ends.worn_out;

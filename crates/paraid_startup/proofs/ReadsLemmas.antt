@@ -85,11 +85,11 @@ module _ (slots : ℕ) (h : History) (lo : ℕ) (down : Option ℕ) where
       reads_held (step c s) cs k each.2 (λ j d le low off. absent (suc j) d (omega arith) low off)
       (step_held s c (each.0, each.1, tt) (λ d low off. absent 1 d (omega arith) low off) held)
 
-take_past : {A : Type 0} (xs ys : List A) (n : ℕ) → take (length xs + n) (xs ++ ys) ≡ xs ++ take n ys
+pub take_past : {A : Type 0} (xs ys : List A) (n : ℕ) → take (length xs + n) (xs ++ ys) ≡ xs ++ take n ys
 take_past [] ys n = ap (λ (k : ℕ). take k ys) (omega arith)
 take_past (x ∷ xs) ys n = let e : length (x ∷ xs) + n ≡ suc (length xs + n) = omega arith in ap (λ (k : ℕ). take k (x ∷ xs ++ ys)) e ∙ ap (λ l. x ∷ l) (take_past xs ys n)
 
-run_append : (s : Disks) (cs ds : List Call) → run s (cs ++ ds) ≡ run (run s cs) ds
+pub run_append : (s : Disks) (cs ds : List Call) → run s (cs ++ ds) ≡ run (run s cs) ds
 run_append s [] ds = refl
 run_append s (c ∷ cs) ds = run_append (step c s) cs ds
 

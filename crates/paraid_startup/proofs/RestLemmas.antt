@@ -149,7 +149,7 @@ module _ (t : Disks) (m : Meta) (rest : IsAtRest t m) where
       let up = rises m.phase d to in
       content.kept.disks.recorded up.0 d up.1 from up.2 parked (out_present t.power m d (ap is_present parked) not)
 
-beside_of : (down : Down) → IsServing down → (beside : Option ℕ) × ((d : ℕ) → IsIn down d → beside ≡ Some d)
+pub beside_of : (down : Down) → IsServing down → (beside : Option ℕ) × ((d : ℕ) → IsIn down d → beside ≡ Some d)
 beside_of nobody serving = (None, λ d is. absurd is)
 beside_of (only d) serving = (Some d, λ e is. ap (λ (k : ℕ). Some k) (sym is))
 beside_of several serving = absurd serving

@@ -71,7 +71,7 @@ log_kept s t x k = record {
 abbrev setup_of : LogState → Setup
 setup_of a = a.meta.setup
 
-paired_setup : (a b : LogState) → Pairing a b → a.meta.setup ≡ b.meta.setup
+pub paired_setup : (a b : LogState) → Pairing a b → a.meta.setup ≡ b.meta.setup
 paired_setup a b (alike is) = ap setup_of is
 paired_setup a b (first_ahead is) = is.setup
 paired_setup a b (second_ahead is) = sym is.setup
@@ -86,15 +86,18 @@ module _ (slots : ℕ) (s : Disks) (h : History) (lo : ℕ) (down : Option ℕ) 
   log : LogOk s x said said.meta.writes
   log = stood_log slots s h lo down start.synced start.held x said stands
 
-  back : (y : ℕ) (z : LogState) → Says t y z → Says s y z
+  pub back : (y : ℕ) (z : LogState) → Says t y z → Says s y z
   back y z says = says_back s t y z (log_kept s t y (kept_by_reads s rs y each says.present)) says
 
   -- the log disk that stood is still there
-  pub still_stands : IsPresent t x → then_said ≡ said
-  still_stands here =
+  pub still_both : IsPresent t x → (side ≡ x) × (then_said ≡ said)
+  still_both here =
       let says = says_forth s t x said (log_kept s t x (kept_by_reads s rs x each here)) stands.says in
       let at : Stands t x said = record { log_disk = stands.log_disk; says = says; first = λ other q. stands.first other (back (other_log x) other q) } in
-      (Stands-same t side x then_said said then_stands at).1
+      Stands-same t side x then_said said then_stands at
+
+  pub still_stands : IsPresent t x → then_said ≡ said
+  still_stands here = (still_both here).1
 
   both : Says s side then_said → out_disk s.power said.meta ≢ Some x → out_disk s.power said.meta ≢ Some side → side ≢ x → then_said.meta.setup ≡ said.meta.setup
   both says not_x not_side apart = elim (cases_eq x 0) [

@@ -3,4 +3,4 @@ pub mod Held
 pub mod First
 pub mod Recorded
 pub mod Parts
-pub mod MayStand
+pub mod Refusals

@@ -16,10 +16,9 @@ use Rattle.paraid_recover.specs.Mounted.{IsServable, with_loss}
 use Rattle.paraid_recover.specs.RecoveryMark.{to_mark}
 use Rattle.paraid_session.specs.Mount.{BeginsSession, IsBase, IsCauseOutsideDisks, IsWornOut, Refusal, down_after_mount, mount_bounds, start_watch, worn}
 use Rattle.paraid_session.specs.Watch.{Each, IsServing, watch_all}
-use Rattle.paraid_startup.specs.Calls.{IsMountCall, IsSpinUpRecorded}
+use Rattle.paraid_startup.specs.Calls.{IsSpinUpRecorded, MakesMountCall}
 use Rattle.paraid_startup.specs.Held.{HoldsAfter}
 use Rattle.paraid_startup.specs.Recorded.{StaysWithin}
-use Rattle.paraid_txn.specs.Uses.{EachCall}
 
 -- Of the calls of a mount: which they are, what is held after each first part of them, and that what
 -- stands is within the bounds.
@@ -27,7 +26,7 @@ pub record AreMountCalls (slots : ℕ) (s : Disks) (x : ℕ) (said : LogState) (
   pub base : ℕ → ℕ
   pub ticks : ℕ
   pub is_base : IsBase s x said base ticks
-  pub each : EachCall (IsMountCall said.meta.setup.geometry.disks (gone_out said.meta.out)) s calls
+  pub each : Each (λ w. Unit {0}) (MakesMountCall said.meta.setup.geometry.disks (gone_out said.meta.out)) (start_watch s down base) calls
   pub held : (k : ℕ) → k ≤ length calls → IsServing (watch_all (take k calls) (start_watch s down base)).down
       → HoldsAfter slots said.meta.setup.geometry.disks s h lo calls k
   pub within : Each (StaysWithin (mount_bounds said ticks)) IsSpinUpRecorded (start_watch s down base) calls
@@ -48,9 +47,9 @@ pub record EndsServed (slots : ℕ) (s : Disks) (said : LogState) (h : History) 
   pub servable : IsServable count slot last array named (with_loss standing (to_mark (run s calls).power standing)) rows
   pub begins : BeginsSession s said calls standing.writes (initial_state (run s calls) (closed_over standing))
 
--- Of the end of a mount that is refused while one disk at most is down: nothing is loose, and the
+-- Of the end of a mount that is refused: while one disk at most is down nothing is loose, and the
 -- cause lies not in the disks.
 pub record EndsRefused (s : Disks) (down : Option ℕ) (base : ℕ → ℕ) (calls : List Call) (why : Refusal) : Type 0 where
-  pub synced : AreSynced (run s calls)
+  pub synced : IsServing (down_after_mount s down base calls) → AreSynced (run s calls)
   pub cause : IsServing (down_after_mount s down base calls) → IsCauseOutsideDisks why
   pub worn_out : (k : ℕ) → why ≡ worn k → IsWornOut s calls k

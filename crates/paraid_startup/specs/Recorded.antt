@@ -1,7 +1,7 @@
 -- The spin-ups that a meta has recorded, while the disks are powered by it.
 use Rattle.std.specs.Prelude.{◌≡◌, ◌≢◌, ℕ, ◌<◌, ◌≤◌, slice_index, Bool, Some}
 use Rattle.paraid_rack.specs.declared.call.Call.{Call}
-use Rattle.paraid_rack.specs.declared.call.Call.TheVariants.{Read, Write, Sync, Park, SpinUp, Attach}
+use Rattle.paraid_rack.specs.declared.call.Call.TheVariants.{SpinUp}
 use Rattle.paraid_rack.specs.Disks.{Disks, IsPresent}
 use Rattle.paraid_record.specs.declared.meta.Meta.{Meta}
 use Rattle.paraid_image.specs.Looked.{IsLooked}
@@ -9,6 +9,7 @@ use Rattle.paraid_image.specs.Out.{named_out}
 use Rattle.paraid_image.specs.Sides.{LogState}
 use Rattle.paraid_image.specs.Spins.{first_used}
 use Rattle.paraid_image.specs.Standing.{Stands}
+pub use Rattle.paraid_recover.specs.Quiet.{IsStill}
 use Rattle.paraid_session.specs.Watch.{Bounds, IsServing, IsWithinBounds, Watch}
 
 -- while one disk at most is down, this meta stands in each image that is looked at
@@ -26,15 +27,6 @@ AreSpinUpsRecorded m w = IsServing w.down → (d : ℕ) → d < m.setup.geometry
 -- while one disk at most is down, what stands in each image that is looked at is within the bounds
 abbrev pub StaysWithin : Bounds → Watch → Type 0
 StaysWithin b w = IsServing w.down → (x : ℕ) (i : Disks) (said : LogState) → IsLooked w.disks i → Stands i x said → IsWithinBounds b w.spun i said.meta
-
--- a read, a write or a sync
-abbrev pub IsStill : Call → Type 0
-IsStill (Read d p done) = Unit {0}
-IsStill (Write d p b done) = Unit {0}
-IsStill (Sync d done) = Unit {0}
-IsStill (Park d done) = ⊥
-IsStill (SpinUp d done) = ⊥
-IsStill (Attach d size done) = ⊥
 
 -- The meta `m` that stands in image `i` is within the bounds, where these spin-ups were made, and the
 -- disks that are there have the power that they have in `s`.

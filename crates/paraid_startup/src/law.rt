@@ -26,18 +26,18 @@ ghost use Rattle.paraid_session.specs.Turn.{IsMark};
 ghost use Rattle.paraid_session.specs.Watch.{Bounds, Each, IsHeldWhileServing, IsServing, Watch, fails_on, first_lost, watch_all};
 ghost use Rattle.paraid_session.proofs.LayerLemmas.{IsIn};
 ghost use Rattle.paraid_sides.specs.HeardSides.{ReadsLogs};
-ghost use Rattle.paraid_startup.specs.Calls.{IsMountCall, IsSpinUpRecorded};
+ghost use Rattle.paraid_recover.specs.MountCalls.{IsMountCall};
+ghost use Rattle.paraid_startup.specs.Calls.{IsSpinUpRecorded, MakesMountCall};
 ghost use Rattle.paraid_startup.specs.First.{first_point};
 ghost use Rattle.paraid_startup.specs.Held.{HoldsAfter};
-ghost use Rattle.paraid_startup.specs.MayStand.{MayStand};
+ghost use Rattle.paraid_recover.specs.StandingMetas.{StandsForeseen};
 ghost use Rattle.paraid_startup.specs.Parts.{AreMountCalls, EndsRefused, EndsServed};
 ghost use Rattle.paraid_startup.specs.Recorded.{AreSpinUpsRecorded, HasRecord, IsStill, IsWithinBoundsAt, OnlyStands, StaysWithin, StaysWithinAt};
-ghost use Rattle.paraid_txn.specs.Commit.{ImageStandsForEither};
-ghost use Rattle.paraid_txn.specs.Resume.{ImageStandsForBroken, IsBroken};
+ghost use Rattle.paraid_txn.specs.Resume.{IsBroken};
 ghost use Rattle.paraid_txn.specs.Uses.{EachCall, Uses, UsesSync};
 
-/// The calls of each part of a mount are such as a mount may make; and lawful ones are all that a
-/// session allows, where each spin-up is recorded.
+/// The calls of each part of a mount are such as a mount may make; and they are all that a session
+/// allows, where each spin-up is recorded.
 pub fn calls_of_a_mount_are_allowed()
     ensures reads { (n : ℕ) (gone : Option ℕ) (c : CallType) → 2 ≤ n → ReadsLogs c
         → IsMountCall n gone c }
@@ -51,7 +51,8 @@ pub fn calls_of_a_mount_are_allowed()
         → IsMountCall m.setup.geometry.disks (gone_out m.out) c }
     ensures allowed { (said : LogState) (s : Disks) (down : Option ℕ) (base : ℕ → ℕ)
         (cs : List CallType)
-        → EachCall (IsMountCall said.meta.setup.geometry.disks (gone_out said.meta.out)) s cs
+        → Each (λ w. Unit {0}) (MakesMountCall said.meta.setup.geometry.disks
+        (gone_out said.meta.out)) (start_watch s down base) cs
         → Each (λ w. Unit {0}) IsSpinUpRecorded (start_watch s down base) cs
         → Each (λ w. Unit {0}) (IsAllowedInMount said) (start_watch s down base) cs }
 {}
@@ -183,27 +184,16 @@ pub fn a_recovery_spins_no_disk_up()
         → Each (StaysWithin b) IsSpinUpRecorded w cs }
 {}
 
-/// While an interrupted commit is ended and a disk is marked, what stands in an image is what stood,
-/// or without the log disk that stood what the other one says, or the mark; and it is within the
+/// What may stand after the reads of the log disks, while one disk at most is down, is within the
 /// bounds of a mount.
-pub fn what_stands_in_a_recovery_is_within_bounds()
-    ensures resumed { (s : Disks) (x : ℕ) (said : LogState) (i : Disks) (z : ℕ) (o : LogState)
-        → Stands s x said → ImageStandsForBroken s x said i → Stands i z o
-        → MayStand s x said i o.meta }
-    ensures marked { (s start : Disks) (x : ℕ) (said : LogState) (mark : Option ℕ) (batch : Batch) (i : Disks)
-        (z : ℕ) (o : LogState) → ImageStandsForEither start said.meta
-        (with_mark said.meta mark) batch i → Stands i z o
-        → MayStand s x said i o.meta }
-    ensures within { (s : Disks) (x : ℕ) (said : LogState) (base : ℕ → ℕ) (ticks : ℕ) (i : Disks)
-        (m : MetaType) → Stands s x said → IsBase s x said base ticks → MayStand s x said i m
-        → (is_present (i.power x) ≡ false → (o : LogState) → Says s (other_log x) o
-        → m ≡ o.meta → MayLose s x × (o.meta.setup ≡ said.meta.setup) × (o.meta.epoch ≤ said.meta.epoch))
+pub fn what_is_foreseen_is_within_bounds()
+    ensures { (slots : ℕ) (s : Disks) (h : History) (lo : ℕ) (down : Option ℕ) (x side : ℕ)
+        (said after : LogState) (base : ℕ → ℕ) (ticks : ℕ) (rs : List CallType) (i : Disks)
+        (m : MetaType) → IsRunStart slots s h lo down → Stands s x said
+        → IsBase s x said base ticks → EachCall ReadsLogs s rs
+        → IsServing (watch_all rs (start_watch s down base)).down
+        → IsBroken (run s rs) side after → StandsForeseen (run s rs) side after i m
         → IsWithinBoundsAt (mount_bounds said ticks) base s i m }
-    ensures within_mark { (s start : Disks) (x : ℕ) (said : LogState) (base : ℕ → ℕ)
-        (ticks : ℕ) (mark : Option ℕ) (batch : Batch) (i : Disks) (z : ℕ) (o : LogState) → Stands s x said
-        → IsBase s x said base ticks → ImageStandsForEither start said.meta
-        (with_mark said.meta mark) batch i → Stands i z o
-        → IsWithinBoundsAt (mount_bounds said ticks) base s i o.meta }
 {}
 
 /// What is told of the calls of a mount from one record to the next holds of those from the moment

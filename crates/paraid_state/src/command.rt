@@ -11,9 +11,9 @@ use paraid_console::ending::last;
 use paraid_io::Sink;
 use paraid_mount::MountFault;
 use paraid_rack::Rack;
-use paraid_recover::{MountRefused, Mounted, mount};
+use paraid_recover::{MountRefused, Mounted};
+use paraid_startup::mount;
 use paraid_trace::Text;
-use paraid_txn::Batch;
 use std::alloc::Global;
 
 /// How the command ended: the status, and the rack with its list of calls extended.
@@ -43,13 +43,7 @@ pub fn show_state<K: Sink, R: Rack>(alloc: Global, sink: &mut K, rack: R) -> Sho
     ensures status { IsShowStatus result.status }
     ensures sink { result.status ≡ 4 → HasRisen (K.faults sink.old) (K.faults sink.new) }
 {
-    let Ok(batch) = Batch::new(alloc) else {
-        return Shown {
-            status: tell_refusal(sink, MountFault::NoMemory),
-            rack,
-        };
-    };
-    match mount(alloc, batch, rack) {
+    match mount(alloc, rack) {
         Ok(
             Mounted {
                 store,

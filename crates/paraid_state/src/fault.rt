@@ -2,7 +2,8 @@
 ghost use Rattle.std.specs.Prelude.{◌≡◌, ◌≤◌, [], ◌++◌, length, codes, decimal};
 ghost use Rattle.paraid_state.specs.MountFaults.{mount_fault_line, mount_fault_status as mount_fault_status_of};
 
-use paraid_base::{DiskNo, Two};
+use paraid_base::Two;
+use paraid_console::ending::size_text;
 use paraid_console::status;
 use paraid_mount::MountFault;
 use paraid_trace::Text;
@@ -27,20 +28,6 @@ fn two_text(text: &mut Text, two: Two)
     text.push_number(u64::from(two.first));
     text.push(b" ");
     text.push_number(u64::from(two.second));
-    text.push(b"\n");
-}
-
-fn size_text(text: &mut Text, disk: DiskNo, found: u32, needed: u32)
-    requires { text.old ≡ [] }
-    ensures { text.new ≡ codes "size " ++ decimal disk ++ codes " " ++ decimal found
-        ++ codes " " ++ decimal needed ++ codes "\n" }
-{
-    text.push(b"size ");
-    text.push_number(u64::from(disk));
-    text.push(b" ");
-    text.push_number(u64::from(found));
-    text.push(b" ");
-    text.push_number(u64::from(needed));
     text.push(b"\n");
 }
 

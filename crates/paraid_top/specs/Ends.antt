@@ -5,37 +5,32 @@ use Rattle.paraid_rack.specs.Trail.{Trail, extend, moments}
 use Rattle.paraid_rack.specs.declared.call.Call.{Call}
 use Rattle.paraid_record.specs.declared.meta.Setup.{Setup}
 use Rattle.paraid_scrub.specs.declared.kind.CheckReport.{CheckReport}
-use Rattle.paraid_session.specs.Mount.{IsMountedFromEach, Refusal, IsRefusedFromEach, lacking, no_memory, worn}
+use Rattle.paraid_session.specs.Mount.{IsMountedFromEach, IsRefusedFromEach}
 use Rattle.paraid_console.specs.Ending.{EndsWithLine, halt_line, status_of_halt}
 use Rattle.paraid_serve.specs.Output.{Headline}
 use Rattle.paraid_words.specs.declared.command.Command.{Command}
 use Rattle.paraid_words.specs.declared.command.Command.TheVariants.{Format, Run, Status, Check, Gen}
 use Rattle.paraid_commands.specs.Generating.{GenHeadline}
 use Rattle.paraid_commands.specs.Telling.{state_lines}
-use Rattle.paraid_top.specs.declared.fault.MountFault.{MountFault}
-use Rattle.paraid_top.specs.declared.fault.MountFault.TheVariants.{NoMemory, Worn}
-use Rattle.paraid_top.specs.Faults.{check_line, check_status, fault_line, fault_status}
+use Rattle.paraid_mount.specs.declared.fault.MountFault.{MountFault}
+use Rattle.paraid_startup.specs.Refusals.{refusal_by_fault}
+use Rattle.paraid_state.specs.MountFaults.{mount_fault_line, mount_fault_status}
+use Rattle.paraid_top.specs.Counts.{check_line, check_status}
 
 -- Where the record is told after a mount, it was told before; it is longer by the calls of the
 -- mount, which began at this moment.
 pub record BeginsAt (before middle : Option Trail) (began : ℕ) : Type 0 where
   pub calls : (t : Trail) → middle ≡ Some t → (s : Trail) × (cs : List Call) × (before ≡ Some s) × (t ≡ extend s cs) × (began ≡ moments s)
 
--- the cause of a refusal, so far as it lies in what the rack held or not
-abbrev pub refusal_of : MountFault → Refusal
-refusal_of NoMemory = no_memory
-refusal_of (Worn count) = worn count
-refusal_of fault = lacking
-
 -- A mount that began at some moment was refused, and the rack was handed back.
 pub record HandsBack (slots : ℕ) (before after : Option Trail) (fault : MountFault) : Type 0 where
   pub began : ℕ
   pub begins : BeginsAt before after began
-  pub refused : IsRefusedFromEach slots began after (refusal_of fault)
+  pub refused : IsRefusedFromEach slots began after (refusal_by_fault fault)
 
 -- A rack was not mounted, and the fault was told; or it was, and then this holds.
 pub data MountsAndThen (slots : ℕ) (before after : Option Trail) (written_before written : Option (List ℕ)) (status : ℕ) (P : Setup → ℕ → Option Trail → Type 0) : Type 0 where
-  refused : (fault : MountFault) → HandsBack slots before after fault → EndsWithLine written_before written (fault_line fault) (fault_status fault) status
+  refused : (fault : MountFault) → HandsBack slots before after fault → EndsWithLine written_before written (mount_fault_line fault) (mount_fault_status fault) status
       → MountsAndThen slots before after written_before written status P
   mounted : (setup : Setup) (began : ℕ) (middle : Option Trail) → BeginsAt before middle began → P setup began middle → MountsAndThen slots before after written_before written status P
 

@@ -5,22 +5,16 @@ ghost use Rattle.paraid_scrub.specs.declared.kind.CheckReport.{CheckReport as Re
 ghost use Rattle.paraid_session.specs.Mount.{IsMountedFromEach};
 ghost use Rattle.paraid_top.specs.Ends.{BeginsAt, HandsBack};
 
-use crate::fault::MountFault;
 use paraid_base::Halt;
 use paraid_io::{Sink, Source};
 use paraid_rack::Rack;
+use paraid_recover::MountRefused;
 use paraid_scrub::CheckReport;
 use paraid_serve::Serves;
 
 /// How a call of the program ended: the status, and the rack with its list of calls extended.
 pub struct Ended<R> {
     pub status: u8,
-    pub rack: R,
-}
-
-/// A rack that was not mounted is handed back.
-pub struct MountRefused<R> {
-    pub fault: MountFault,
     pub rack: R,
 }
 

@@ -5,33 +5,35 @@ ghost use Rattle.paraid_serve.specs.Output.{Headline};
 ghost use Rattle.paraid_commands.specs.Generating.{GenHeadline};
 ghost use Rattle.paraid_words.specs.declared.command.Command.{Command as CommandType};
 ghost use Rattle.paraid_words.specs.Words.{AskFor, usage_line};
-ghost use Rattle.paraid_top.specs.Faults.{fault_line, fault_status as fault_status_of};
+ghost use Rattle.paraid_state.specs.MountFaults.{mount_fault_line, mount_fault_status as mount_fault_status_of};
 ghost use Rattle.paraid_top.specs.Ends.{DoesCommand, MountsAndThen, TellsCounts, TellsState};
 
-use crate::fault::MountFault;
-use crate::outside::{Ended, MountRefused, Outside};
-use crate::text::{check_status, check_text, fault_status, fault_text};
+use crate::outside::{Ended, Outside};
+use crate::text::{check_status, check_text};
 use paraid_base::Answer;
 use paraid_commands::generate::serve_generated_mounted;
 use paraid_commands::state::tell_state;
 use paraid_console::ending::{halt_status, last};
 use paraid_console::status;
 use paraid_io::{Sink, Source};
+use paraid_mount::MountFault;
 use paraid_rack::Rack;
+use paraid_recover::MountRefused;
 use paraid_serve::Serves;
 use paraid_serve::top::serve_mounted;
+use paraid_state::{mount_fault_status, mount_fault_text};
 use paraid_trace::{Text, reply};
 use paraid_words::{Command, read_words};
 
 // Tells why nothing was mounted.
 fn refused<K: Sink>(sink: &mut K, fault: MountFault) -> u8
-    ensures ends { EndsWithLine (K.written sink.old) (K.written sink.new) (fault_line fault)
-        (fault_status_of fault) result }
+    ensures ends { EndsWithLine (K.written sink.old) (K.written sink.new) (mount_fault_line fault)
+        (mount_fault_status_of fault) result }
     ensures sink { result ≡ 4 → HasRisen (K.faults sink.old) (K.faults sink.new) }
 {
     let mut text = Text::new();
-    fault_text(&mut text, fault);
-    last(sink, text.as_slice(), fault_status(fault))
+    mount_fault_text(&mut text, fault);
+    last(sink, text.as_slice(), mount_fault_status(fault))
 }
 
 /// Mounts and answers each line of the source.

@@ -9,7 +9,7 @@ use Rattle.paraid_rack.specs.Disks.{is_present}
 use Rattle.paraid_rack.specs.Slots.{Slot}
 use Rattle.paraid_image.specs.Out.{first_absent, or_else}
 use Rattle.paraid_image.proofs.OutLemmas.{first_absent_finds, first_absent_is}
-use Rattle.paraid_txn.specs.Losses.{IsOutOfCommit, AreTwoDown, AreTwoDownBeside}
+use Rattle.paraid_txn.specs.Losses.{AreGoneSince, IsOutOfCommit, AreTwoDown, AreTwoDownBeside}
 use Rattle.paraid_txn.specs.Losses.IsOutOfCommit.{is_absent, was_named, is_named}
 
 not_there : (p : Power) → is_present p ≡ false → p ≡ Absent
@@ -56,6 +56,14 @@ pub two_beside : (power : ℕ → Power) (n : ℕ) (before after down : Option �
 two_beside power n before after down old new two is it = record {
   first = elim it.first [ inl was ↦ inl (first_is_out power n before after two.first (sym is ∙ was)) | inr risen ↦ inr risen ];
   apart = it.apart;
+  second = it.second;
+}
+
+-- and which of them are absent since
+pub gone_beside : (power : ℕ → Power) (n : ℕ) (before after down : Option ℕ) (old new : ℕ → Slot) (two : Two) → down ≡ or_else (first_absent power n) (or_else before after)
+    → AreGoneSince (λ d. down ≡ Some d) old new two → AreGoneSince (IsOutOfCommit power n before after) old new two
+gone_beside power n before after down old new two is it = record {
+  first = elim it.first [ inl was ↦ inl (first_is_out power n before after two.first (sym is ∙ was)) | inr gone ↦ inr gone ];
   second = it.second;
 }
 

@@ -18,7 +18,7 @@ use Rattle.paraid_txn.specs.Resume.{IsFallback, EndsResume, IsShutImage}
 use Rattle.paraid_image.specs.Sides.{LogState, Says, SaysBy, Spells, has_place, is_open, stored_block, targets}
 use Rattle.paraid_image.specs.Sound.{IsBatchInPlace, IsFresh, LogOk, Pairing}
 use Rattle.paraid_image.specs.Sound.Pairing.{alike, first_done, second_done}
-use Rattle.paraid_txn.specs.CommitStages.{IsLiveLog, IsSpelled, Job, job_gone, job_named}
+use Rattle.paraid_txn.specs.CommitStages.{IsLiveLog, IsSpelled, Job, job_named}
 use Rattle.paraid_image.specs.Standing.{Stands, contents, overlaid_block, other_log, stands_before}
 use Rattle.paraid_txn.proofs.CommitLemmas.{closed_said}
 use Rattle.paraid_image.proofs.NeutralLemmas.{few_logged, says_forth}
@@ -369,16 +369,19 @@ module _ (j : Job) (good : IsSpelled j) (names : job_named j ≡ named_out j.met
           stored_shut s z (subst (λ (w : ℕ). is_open (s.block w 0) ≡ false) (sym at) (closed live (subst (IsPresent s) at here)))
     ]
 
+    -- the blocks are as they were
+    pub shut_stands : IsSingle s j.meta → ImageStandsFor j.start s j.meta []
+    shut_stands single = elim (cases_Bool (is_present (s.power x))) [
+      | inl here ↦ with_x_shut s c single here
+      | inr gone ↦ let there = other_there s c single gone in shut_alone s c single gone (closed_voice s c there.1 there.0 (closed there.1 there.0))
+    ]
+
     pub shut_ends : EndsResume s j.meta
     shut_ends = record {
       synced = synced;
       shut = end_shut;
       rest = λ one.
-          let single : IsSingle s j.meta = λ d e p q. one.one d e (inl p) (inl q) in
-          let for : ImageStandsFor j.start s j.meta [] = elim (cases_Bool (is_present (s.power x))) [
-            | inl here ↦ with_x_shut s c single here
-            | inr gone ↦ let there = other_there s c single gone in shut_alone s c single gone (closed_voice s c there.1 there.0 (closed there.1 there.0))
-          ] in
+          let for = shut_stands (λ d e p q. one.one d e (inl p) (inl q)) in
           let in_array : named_out j.meta.out ≢ Some for.disk = λ e. for.log.standing_in (ap (λ (m : Meta). named_out m.out) for.meta ∙ e) in
           let closed_too : for.said.opened ≡ false = sym for.log.stands.says.gate ∙ end_shut for.disk for.log.stands.log_disk for.log.stands.says.present in_array in
           record {

@@ -7,6 +7,7 @@ use Rattle.paraid_base.specs.declared.fault.Two.{Two}
 use Rattle.paraid_base.specs.Told.{HasRisen}
 use Rattle.paraid_rack.specs.declared.call.Call.{Call}
 use Rattle.paraid_rack.specs.declared.call.Call.TheVariants.{Read, Write, Sync, Park, SpinUp, Attach}
+use Rattle.paraid_rack.specs.declared.call.Power.TheVariants.{Absent}
 use Rattle.paraid_rack.specs.declared.rack.Rack.{Ghosts}
 use Rattle.paraid_rack.specs.Disks.{Disks, is_present, step}
 use Rattle.paraid_rack.specs.Lawful.{IsLawful}
@@ -23,11 +24,11 @@ use Rattle.paraid_image.specs.Sides.{Batch, targets}
 use Rattle.paraid_txn.specs.declared.losses.Losses.{Losses}
 use Rattle.paraid_txn.specs.Commit.{gone_out}
 use Rattle.paraid_txn.specs.CommitPart.{CommitPart}
-use Rattle.paraid_txn.specs.Losses.{StaySynced, AreFailedOrWell, FollowsAnswer, AreTwoDown, IsWell, AreCommitCalls}
+use Rattle.paraid_txn.specs.Losses.{AreGoneSince, IsGoneSince, StaySynced, AreFailedOrWell, FollowsAnswer, AreTwoDown, IsWell, AreCommitCalls}
 use Rattle.paraid_txn.specs.Ready.{IsLogReady}
 use Rattle.paraid_txn.specs.Batches.{names_disk}
 use Rattle.paraid_txn.specs.Uses.{EachCall, IsUnskippedLog, IsOn, IsThisCall, Uses, UsesLog, UsesTarget}
-use Rattle.paraid_txn.proofs.DownLemmas.{StaySyncedBut-both, AreOthersWell-none, AreOthersWell-then, AreTwoDown-later, AreCommitCalls-none, AreCommitCalls-present, AreCommitCalls-then}
+use Rattle.paraid_txn.proofs.DownLemmas.{StaySyncedBut-both, AreOthersWell-none, AreOthersWell-then, AreTwoDown-later, AreCommitCalls-gone, AreCommitCalls-none, AreCommitCalls-present, AreCommitCalls-then}
 use Rattle.paraid_txn.proofs.ReadyLemmas.{log_stays_ready}
 use Rattle.paraid_txn.proofs.BatchesLemmas.{names_disk-named}
 use Rattle.paraid_txn.proofs.TargetsLemmas.{names_disk-below}
@@ -123,6 +124,7 @@ module _ {R : Type 0} (g : Ghosts R) {skip : Option ℕ} {disk : ℕ} (call : Bo
     lasts = done_lasts touched same from;
     well = λ d not. touched_well touched same d (λ _. is.0);
     two = tt;
+    gone = tt;
     on = λ d lost. inl lost;
     calls = made;
   })
@@ -130,6 +132,7 @@ module _ {R : Type 0} (g : Ghosts R) {skip : Option ℕ} {disk : ℕ} (call : Bo
     lasts = borne_lasts touched same from to is.0 is.1 is.2 is.3;
     well = λ d other. touched_well touched same d (λ e. absurd (other (is.2 ∙ ap Some (sym e))));
     two = tt;
+    gone = tt;
     on = λ d lost.
         let same : disk ≡ d = (let e : Some disk ≡ Some d = sym is.2 ∙ lost in cc) in
         inr ((call ok, (not, ok, refl), at ok ∙ same), subst (λ (k : ℕ). is_present (g.slot old k).power ≡ true) same here);
@@ -143,6 +146,7 @@ module _ {R : Type 0} (g : Ghosts R) {skip : Option ℕ} {disk : ℕ} (call : Bo
       apart = λ e. is.3 (e ∙ is.4);
       second = subst (λ (k : ℕ). HasRisen (g.slot old k).faults (g.slot new k).faults) (sym is.4) (touched.risen is.0);
     };
+    gone = record { first = inl is.2; second = subst (IsGoneSince (g.slot old) (g.slot new)) (sym is.4) (record { there = here; absent = touched.absent is.0 }) };
     on = λ d lost. inl lost;
     calls = made;
   })
@@ -155,6 +159,7 @@ CommitPart_none g uses a r it = record {
   lasts = AreCommitCalls-none a (g.slot r);
   well = AreOthersWell-none a (g.slot r);
   two = tt;
+  gone = tt;
   on = λ d is. inl is;
   calls = Ran-none (EachCall uses) (λ s. tt) (g.told r);
 }
@@ -168,6 +173,27 @@ on_then g uses a b c r s lasts first second d is = elim (second d is) [
   | inr on ↦ inr (on.0, AreCommitCalls-present a b (g.slot r) (g.slot s) d lasts on.1)
 ]
 
+-- disks that are gone in the second part are so in the whole
+gone_then : {R : Type 0} (g : Ghosts R) (uses : Call → Type 0) (a b c : Losses) (r s t : R) (two : Two) → AreCommitCalls a b (g.slot r) (g.slot s) → AreCommitCalls b c (g.slot s) (g.slot t)
+    → ((d : ℕ) → b.lost ≡ Some d → (a.lost ≡ Some d) ⊎ (IsOn uses d × (is_present (g.slot r d).power ≡ true)))
+    → AreGoneSince (λ d. b.down ≡ Some d) (g.slot s) (g.slot t) two → AreGoneSince (λ d. a.down ≡ Some d) (g.slot r) (g.slot t) two
+gone_then g uses a b c r s t two before after on is = record {
+  first = elim is.first [
+    | inl down ↦ elim (before.down two.first down) [ inl was ↦ inl was | inr lost ↦ split lost (on two.first lost) (before.absent two.first lost) ]
+    | inr gone ↦ inr (since two.first gone)
+  ];
+  second = since two.second is.second;
+}
+  where
+    since : (d : ℕ) → IsGoneSince (g.slot s) (g.slot t) d → IsGoneSince (g.slot r) (g.slot t) d
+    since d gone = record { there = AreCommitCalls-present a b (g.slot r) (g.slot s) d before gone.there; absent = gone.absent }
+
+    split : b.lost ≡ Some two.first → (a.lost ≡ Some two.first) ⊎ (IsOn uses two.first × (is_present (g.slot r two.first).power ≡ true))
+        → (a.lost ≡ Some two.first) ⊎ ((g.slot s two.first).power ≡ Absent) → (a.down ≡ Some two.first) ⊎ IsGoneSince (g.slot r) (g.slot t) two.first
+    split lost (inl was) gone = inl (a.agrees two.first was)
+    split lost (inr on) (inl was) = inl (a.agrees two.first was)
+    split lost (inr on) (inr gone) = inr (record { there = on.1; absent = AreCommitCalls-gone b c (g.slot s) (g.slot t) two.first after gone })
+
 -- a part that ended well, and then another
 pub CommitPart_then : {R A B : Type 0} {g : Ghosts R} {uses : Call → Type 0} {a b c : Losses} {r s t : R} {it : A} {result : Result B Two}
     → CommitPart g uses a b r s (Ok it) → CommitPart g uses b c s t result → CommitPart g uses a c r t result
@@ -175,6 +201,7 @@ CommitPart_then {g = g} {uses = uses} {a = a} {b = b} {c = c} {r = r} {s = s} {t
   lasts = AreCommitCalls-then a b c (g.slot r) (g.slot s) (g.slot t) first.lasts second.lasts;
   well = AreOthersWell-then a b c (g.slot r) (g.slot s) (g.slot t) first.lasts second.lasts first.well second.well;
   two = tt;
+  gone = tt;
   on = on_then g uses a b c r s first.lasts first.on second.on;
   calls = Ran-then (EachCall uses) (EachCall-append uses) (g.told r) (g.told s) (g.told t) first.calls second.calls;
 }
@@ -182,6 +209,7 @@ CommitPart_then {g = g} {uses = uses} {a = a} {b = b} {c = c} {r = r} {s = s} {t
   lasts = AreCommitCalls-then a b c (g.slot r) (g.slot s) (g.slot t) first.lasts second.lasts;
   well = tt;
   two = AreTwoDown-later a b c (g.slot r) (g.slot s) (g.slot t) two first.lasts second.lasts second.two;
+  gone = gone_then g uses a b c r s t two first.lasts second.lasts first.on second.gone;
   on = on_then g uses a b c r s first.lasts first.on second.on;
   calls = Ran-then (EachCall uses) (EachCall-append uses) (g.told r) (g.told s) (g.told t) first.calls second.calls;
 }
@@ -194,6 +222,7 @@ CommitPart_raised {g = g} {a = a} {r = r} {s = s} (Err other) is part = record {
   lasts = part.lasts;
   well = tt;
   two = subst (λ (t : Two). AreTwoDown a.down (g.slot r) (g.slot s) t) (sym is) part.two;
+  gone = subst (λ (t : Two). AreGoneSince (λ d. a.down ≡ Some d) (g.slot r) (g.slot s) t) (sym is) part.gone;
   on = part.on;
   calls = part.calls;
 }
@@ -201,7 +230,7 @@ CommitPart_raised {g = g} {a = a} {r = r} {s = s} (Err other) is part = record {
 -- and where it ends well with another value
 pub CommitPart_answer : {R A B : Type 0} {g : Ghosts R} {uses : Call → Type 0} {a b : Losses} {r s : R} {it : A} (any : B)
     → CommitPart g uses a b r s (Ok it) → CommitPart g uses a b r s (Ok any)
-CommitPart_answer any part = record { lasts = part.lasts; well = part.well; two = tt; on = part.on; calls = part.calls }
+CommitPart_answer any part = record { lasts = part.lasts; well = part.well; two = tt; gone = tt; on = part.on; calls = part.calls }
 
 -- less is said of the calls
 pub CommitPart_milder : {R A : Type 0} {g : Ghosts R} {u v : Call → Type 0} {a b : Losses} {r s : R} {result : Result A Two} → ((c : Call) → u c → v c)
@@ -210,6 +239,7 @@ CommitPart_milder {u = u} {v = v} more part = record {
   lasts = part.lasts;
   well = part.well;
   two = part.two;
+  gone = part.gone;
   on = λ d is. elim (part.on d is) [ inl was ↦ inl was | inr on ↦ inr ((on.0.0, more on.0.0 on.0.1, on.0.2), on.1) ];
   calls = ran_milder (EachCall u) (EachCall v) (EachCall-milder u v more) part.calls;
 }

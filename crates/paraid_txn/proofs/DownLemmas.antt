@@ -36,6 +36,10 @@ pub AreCommitCalls-present : (a b : Losses) (s t : ℕ → Slot) (d : ℕ) → A
     → is_present (t d).power ≡ true → is_present (s d).power ≡ true
 AreCommitCalls-present a b s t d lasts there = ap is_present (sym (lasts.power d there)) ∙ there
 
+-- one that is absent stays so
+pub AreCommitCalls-gone : (a b : Losses) (s t : ℕ → Slot) (d : ℕ) → AreCommitCalls a b s t → (s d).power ≡ Absent → (t d).power ≡ Absent
+AreCommitCalls-gone a b s t d lasts gone = no_disk (t d).power (λ there. true≢false (sym (AreCommitCalls-present a b s t d lasts there) ∙ ap is_present gone))
+
 -- one part after the other
 pub AreCommitCalls-then : (a b c : Losses) (s t u : ℕ → Slot) → AreCommitCalls a b s t → AreCommitCalls b c t u → AreCommitCalls a c s u
 AreCommitCalls-then a b c s t u first second = record {
@@ -66,7 +70,7 @@ AreCommitCalls-then a b c s t u first second = record {
     | inr gone ↦ inr gone
     | inl was ↦ elim (first.absent d was) [
       | inl at_first ↦ inl at_first
-      | inr gone ↦ inr (no_disk (u d).power (λ there. true≢false (sym (AreCommitCalls-present b c t u d second there) ∙ ap is_present gone)))
+      | inr gone ↦ inr (AreCommitCalls-gone b c t u d second gone)
     ]
   ];
 }

@@ -492,13 +492,18 @@ module _ (j : Job) (good : IsSpelled j) (names : job_named j ≡ named_out j.met
     all_synced : AreSynced s
     all_synced d p here = ((c.synced.synced d p).holds here).0
 
+    -- the batch is laid
+    pub open_stands : IsSingle s j.meta → ImageStandsFor j.start s j.meta j.batch
+    open_stands single =
+        let late = closing_whole j good 2 s c.core in
+        late_stands_for s (late.late s self_left) (late.aside s self_left) single
+
     pub open_ends : EndsResume s j.meta
     open_ends = record {
       synced = all_synced;
       shut = all_shut;
       rest = λ one.
-          let late = closing_whole j good 2 s c.core in
-          let for = late_stands_for s (late.late s self_left) (late.aside s self_left) (λ d e p q. one.one d e (inl p) (inl q)) in
+          let for = open_stands (λ d e p q. one.one d e (inl p) (inl q)) in
           let in_array : named_out j.meta.out ≢ Some for.disk = λ e. for.log.standing_in (ap (λ (m : Meta). named_out m.out) for.meta ∙ e) in
           let closed : for.said.opened ≡ false = sym for.log.stands.says.gate ∙ all_shut for.disk for.log.stands.log_disk for.log.stands.says.present in_array in
           record {

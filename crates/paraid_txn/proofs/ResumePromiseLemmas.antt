@@ -10,18 +10,21 @@ use Rattle.paraid_rack.specs.Disks.{Disks, IsPresent}
 use Rattle.paraid_rack.specs.Told.{Ran, CrashTriple}
 use Rattle.paraid_rack.specs.Trail.{Trail, now, run}
 use Rattle.paraid_record.specs.declared.meta.Meta.{Meta}
-use Rattle.paraid_txn.specs.Commit.{IsEachImage}
+use Rattle.paraid_txn.specs.Commit.{IsEachImage, ImageStandsFor}
 use Rattle.paraid_image.specs.Out.{named_out}
-use Rattle.paraid_txn.specs.Resume.{IsBroken, StandsWhileResumed, LeadsResume, ImageStandsForBroken, HoldsThroughResume, AreDisksSame, EndsAsCommitted, ShutEnd, HoldsThroughShut, log_state}
+use Rattle.paraid_txn.specs.Resume.{IsBroken, StandsWhileResumed, LeadsResume, ImageStandsForBroken, HoldsThroughResume, AreDisksSame, EndsAsCommitted, EndsLaid, ShutEnd, HoldsThroughShut, log_state}
 use Rattle.paraid_image.specs.Sides.{Batch, Says, is_open}
 use Rattle.paraid_txn.specs.CommitStages.{CloseStage, IsLiveLog, IsSpelled, Job, job}
 use Rattle.paraid_image.specs.Standing.{other_log}
-use Rattle.paraid_txn.proofs.ClosedLemmas.{shut_each, shut_ends, shut_metas}
-use Rattle.paraid_txn.proofs.ResumeImagesLemmas.{is_alike, meant_images, open_ends, resuming_each, resuming_keeps, resuming_metas}
+use Rattle.paraid_txn.proofs.ClosedLemmas.{shut_each, shut_ends, shut_metas, shut_stands}
+use Rattle.paraid_txn.proofs.ResumeImagesLemmas.{is_alike, meant_images, open_ends, open_stands, resuming_each, resuming_keeps, resuming_metas}
 use Rattle.paraid_txn.proofs.RanLemmas.{Through-end, ran_from, ran_given, through_milder}
 use Rattle.paraid_image.proofs.OutLemmas.{out_present}
 use Rattle.paraid_txn.proofs.StoreLemmas.{IsStartReady}
 use Rattle.paraid_txn.proofs.WholeLemmas.{stored_here}
+
+left_self : (s : Disks) → IsLeftByStop s s
+left_self s = record { present = λ d here. here; power = λ d here. refl; size = λ d here. refl; block = λ d p synced. refl }
 
 pub no_disks : Disks
 no_disks = record { power = λ d. Absent; size = λ d. 0; block = λ d p. zero_block; loose = λ d p. false }
@@ -109,6 +112,21 @@ module _ (m : Meta) (batch : Batch) (spelled list : Block) (x : ℕ) (good : (st
             open_ends (it (now r.from)) (good (now r.from)) refl x lead broken.log (ready r.from r.was).spins (run (now r.from) r.calls) (r.holds lead (same r.from r.was broken.synced)).1;
       }
 
+  pub open_lays : ((start : Disks) → LeadsResume (it start) x → Ran old new (CrashTriple (HoldsThroughResume (it start) x) (AreDisksSame (it start)) (CloseStage (it start) 2)))
+      → EndsLaid old new x (log_state true m batch)
+  open_lays ran t tells =
+      let r = ran_given (λ start. HoldsThroughResume (it start) x) (λ start. AreDisksSame (it start)) (λ start. CloseStage (it start) 2) (λ start. LeadsResume (it start) x) no_disks none_leads old new ran t tells in
+      record {
+        from = r.from;
+        was = r.was;
+        calls = r.calls;
+        is = r.is;
+        holds = λ broken one.
+            let lead = leads r.from r.was broken in
+            open_stands (it (now r.from)) (good (now r.from)) refl x lead broken.log (ready r.from r.was).spins (run (now r.from) r.calls) (r.holds lead (same r.from r.was broken.synced)).1
+            (λ d e p q. one.one d e (inl p) (inl q));
+      }
+
   -- it is closed
   module _ (empty : batch ≡ []) where
     heard_is : log_state false m batch ≡ log_state false m []
@@ -154,12 +172,33 @@ module _ (m : Meta) (batch : Batch) (spelled list : Block) (x : ℕ) (good : (st
               let y_low : other_log x < 2 = omega (arith, low) in
               let whole = Through-end (HoldsThroughShut j (other_log x)) (now r.from) r.calls all.0 in
               elim all.1 [
-                | inl still ↦ shut_ends j (good (now r.from)) refl x (live (now r.from)) (large r.from r.was) log.log end (whole.each end (self end))
+                | inl still ↦ shut_ends j (good (now r.from)) refl x (live (now r.from)) (large r.from r.was) log.log end (whole.each end (left_self end))
                     (λ d p here. ((still.core.same d p).holds here).0) (λ l here. still.shut (y_low, l) here)
-                | inr done ↦ shut_ends j (good (now r.from)) refl x (live (now r.from)) (large r.from r.was) log.log end (whole.each end (self end))
+                | inr done ↦ shut_ends j (good (now r.from)) refl x (live (now r.from)) (large r.from r.was) log.log end (whole.each end (left_self end))
                     (λ d p here. ((done.synced.synced d p).holds here).0) (λ l here. ((done.gate l).holds here).1)
               ];
         }
-      where
-        self : (s : Disks) → IsLeftByStop s s
-        self s = record { present = λ d here. here; power = λ d here. refl; size = λ d here. refl; block = λ d p synced. refl }
+
+    pub closed_lays : ((start : Disks) → Ran old new (CrashTriple (HoldsThroughShut (it start) (other_log x)) (AreDisksSame (it start)) (ShutEnd (it start) (other_log x))))
+        → EndsLaid old new x (log_state false m batch)
+    closed_lays ran t tells =
+        let r = ran_from (λ start. HoldsThroughShut (it start) (other_log x)) (λ start. AreDisksSame (it start)) (λ start. ShutEnd (it start) (other_log x)) old new ran t tells in
+        let j = it (now r.from) in
+        let end = run (now r.from) r.calls in
+        record {
+          from = r.from;
+          was = r.was;
+          calls = r.calls;
+          is = r.is;
+          holds = λ broken one.
+              let log = subst (λ v. IsBroken (now r.from) x v) heard_is broken in
+              let all = r.holds (same r.from r.was broken.synced) in
+              let y_low : other_log x < 2 = omega (arith, low) in
+              let image = (Through-end (HoldsThroughShut j (other_log x)) (now r.from) r.calls all.0).each end (left_self end) in
+              subst (λ (b : Batch). ImageStandsFor (now r.from) end m b) (sym empty) (elim all.1 [
+                | inl still ↦ shut_stands j (good (now r.from)) refl x (live (now r.from)) (large r.from r.was) log.log end image
+                    (λ d p here. ((still.core.same d p).holds here).0) (λ l here. still.shut (y_low, l) here) (λ d e p q. one.one d e (inl p) (inl q))
+                | inr done ↦ shut_stands j (good (now r.from)) refl x (live (now r.from)) (large r.from r.was) log.log end image
+                    (λ d p here. ((done.synced.synced d p).holds here).0) (λ l here. ((done.gate l).holds here).1) (λ d e p q. one.one d e (inl p) (inl q))
+              ]);
+        }

@@ -6,7 +6,7 @@ use Rattle.paraid_rack.specs.declared.rack.Rack.{Ghosts}
 use Rattle.paraid_rack.specs.Disks.{is_present}
 use Rattle.paraid_rack.specs.Told.{Ran}
 use Rattle.paraid_txn.specs.declared.losses.Losses.{Losses}
-use Rattle.paraid_txn.specs.Losses.{AreOthersWell, AreTwoDown, AreCommitCalls}
+use Rattle.paraid_txn.specs.Losses.{AreGoneSince, AreOthersWell, AreTwoDown, AreCommitCalls}
 use Rattle.paraid_txn.specs.Uses.{EachCall, IsOn}
 
 -- A part whose calls are of one kind. Where it ends well no disk has failed but the one that is
@@ -15,5 +15,6 @@ pub record CommitPart {R A : Type 0} (g : Ghosts R) (uses : Call → Type 0) (fr
   pub lasts : AreCommitCalls from to (g.slot old) (g.slot new)
   pub well : OnOk result (AreOthersWell to (g.slot old) (g.slot new))
   pub two : IfErr result (AreTwoDown from.down (g.slot old) (g.slot new))
+  pub gone : IfErr result (AreGoneSince (λ d. from.down ≡ Some d) (g.slot old) (g.slot new))
   pub on : (d : ℕ) → to.lost ≡ Some d → (from.lost ≡ Some d) ⊎ (IsOn uses d × (is_present (g.slot old d).power ≡ true))
   pub calls : Ran (g.told old) (g.told new) (EachCall uses)

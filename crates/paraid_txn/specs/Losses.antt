@@ -108,6 +108,17 @@ pub record AreTwoDownBeside (out : ℕ → Type 0) (old new : ℕ → Slot) (two
   pub apart : two.first ≢ two.second
   pub second : HasRisen (old two.second).faults (new two.second).faults
 
+-- disk `d` was there, and is absent since
+pub record IsGoneSince (old new : ℕ → Slot) (d : ℕ) : Type 0 where
+  pub there : is_present (old d).power ≡ true
+  pub absent : (new d).power ≡ Absent
+
+-- Of two disks that are down the second was there and is absent since; so is the first, unless it was
+-- out before.
+pub record AreGoneSince (out : ℕ → Type 0) (old new : ℕ → Slot) (two : Two) : Type 0 where
+  pub first : out two.first ⊎ IsGoneSince old new two.first
+  pub second : IsGoneSince old new two.second
+
 -- of the first disks one at most is absent or named out
 abbrev pub IsOneOut : ℕ → Option ℕ → (ℕ → Slot) → Type 0
 IsOneOut disks named slot = (d e : ℕ) → IsOutOfCommit (λ x. (slot x).power) disks named None d → IsOutOfCommit (λ x. (slot x).power) disks named None e → d ≡ e

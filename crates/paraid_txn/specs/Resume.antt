@@ -56,6 +56,13 @@ pub record EndsResume (end : Disks) (m : Meta) : Type 0 where
 abbrev pub EndsAsCommitted : Option Trail → Option Trail → ℕ → LogState → Type 0
 EndsAsCommitted old new x said = Ran old new (λ start calls. IsBroken start x said → EndsResume (run start calls) said.meta)
 
+-- At the end, where at most one disk is out, the disks stand for what the log disk said, with its
+-- batch laid over.
+abbrev pub EndsLaid : Option Trail → Option Trail → ℕ → LogState → Type 0
+EndsLaid old new x said = Ran old new (λ start calls. IsBroken start x said
+    → IsOneMissing (run start calls).power said.meta said.meta
+    → ImageStandsFor start (run start calls) said.meta said.batch)
+
 -- What can be resumed on a rack of so many slots: the log disk is not named out, the meta and the
 -- targets are in range, each live log disk and each disk with targets can be written, unless it is
 -- absent, and there are no targets under a closed gate.

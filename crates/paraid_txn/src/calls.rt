@@ -22,13 +22,8 @@ fn follow(losses: &mut Losses, disk: DiskNo, answer: Result<(), Failed>) -> Resu
     let Err(Failed) = answer else {
         return Ok(());
     };
-    if let Some(first) = losses.down {
-        if first != disk {
-            return Err(Two {
-                first,
-                second: disk,
-            });
-        }
+    if let Some(two) = Two::beside(losses.down, disk) {
+        return Err(two);
     }
     *losses = Losses {
         down: Some(disk),

@@ -30,7 +30,7 @@ ghost use Rattle.paraid_rack.specs.Disks.{Disks};
 ghost use Rattle.paraid_rack.specs.Told.{Ran};
 ghost use Rattle.paraid_txn.specs.CommitPart.{CommitPart};
 ghost use Rattle.paraid_txn.specs.CrashSpecification.{CrashSpecification};
-ghost use Rattle.paraid_txn.specs.Losses.{StaySynced, StaySyncedBut, AreFailedOrWell, IsAlone, IsSyncedAt, IsLostNow, IsOutOfCommit, OnlyLosesSlots, AreTwoDownBeside, IsWell};
+ghost use Rattle.paraid_txn.specs.Losses.{AreGoneSince, StaySynced, StaySyncedBut, AreFailedOrWell, IsAlone, IsSyncedAt, IsLostNow, IsOutOfCommit, OnlyLosesSlots, AreTwoDownBeside, IsWell};
 ghost use Rattle.paraid_txn.specs.Uses.{EachCall, Uses, UsesLog, UsesTarget};
 ghost use Rattle.paraid_txn.specs.Ready.{AreTargetsReady, CanCommit, IsLogReady};
 ghost use Rattle.paraid_image.specs.Sides.{is_open, targets};
@@ -376,16 +376,7 @@ fn find_second(lost: Option<DiskNo>, named: Option<DiskNo>) -> Option<Two>
     ensures two { (two : TwoType) → result ≡ Some two
         → (named ≡ Some two.first) × (lost ≡ Some two.second) × (two.first ≢ two.second) }
 {
-    let Some(second) = lost else {
-        return None;
-    };
-    let Some(first) = named else {
-        return None;
-    };
-    if first == second {
-        return None;
-    }
-    Some(Two { first, second })
+    Two::beside(named, lost?)
 }
 
 // The block that spells the targets of a batch.
@@ -446,6 +437,9 @@ impl<R: Rack> Store<R> {
             → IsWell (R.slot (store_rack self.old) d) (R.slot (store_rack self.new) d)) }
         ensures each { AreFailedOrWell (R.slot (store_rack self.old)) (R.slot (store_rack self.new)) }
         ensures two { IfErr result (AreTwoDownBeside (IsOutOfCommit (λ e. (R.slot (store_rack self.old) e).power)
+            (disks_of self.old) (named_by self.old) (named_of meta.now.out))
+            (R.slot (store_rack self.old)) (R.slot (store_rack self.new))) }
+        ensures gone { IfErr result (AreGoneSince (IsOutOfCommit (λ e. (R.slot (store_rack self.old) e).power)
             (disks_of self.old) (named_by self.old) (named_of meta.now.out))
             (R.slot (store_rack self.old)) (R.slot (store_rack self.new))) }
 

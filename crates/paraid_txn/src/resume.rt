@@ -15,11 +15,11 @@ ghost use Rattle.paraid_record.specs.Targets.{AreTargets};
 ghost use Rattle.paraid_txn.specs.Commit.{gone_out as gone_of};
 ghost use Rattle.paraid_txn.specs.CommitPart.{CommitPart};
 ghost use Rattle.paraid_txn.specs.CrashSpecification.{CrashSpecification};
-ghost use Rattle.paraid_txn.specs.Losses.{StaySynced, AreFailedOrWell, IsOneOut, IsOutOfCommit, OnlyLosesSlots, AreTwoDownBeside};
+ghost use Rattle.paraid_txn.specs.Losses.{AreGoneSince, StaySynced, AreFailedOrWell, IsOneOut, IsOutOfCommit, OnlyLosesSlots, AreTwoDownBeside};
 ghost use Rattle.paraid_txn.specs.Uses.{EachCall, Uses, UsesLog};
 ghost use Rattle.paraid_image.specs.Out.{named_out as named_of};
 ghost use Rattle.paraid_txn.specs.Ready.{AreTargetsReady, IsLogReady};
-ghost use Rattle.paraid_txn.specs.Resume.{CanResume, StandsWhileResumed, LeadsResume, HoldsThroughResume, AreDisksSame, EndsAsCommitted, ShutSynced, ShutEnd, HoldsThroughShut, log_state};
+ghost use Rattle.paraid_txn.specs.Resume.{CanResume, StandsWhileResumed, LeadsResume, HoldsThroughResume, AreDisksSame, EndsAsCommitted, EndsLaid, ShutSynced, ShutEnd, HoldsThroughShut, log_state};
 ghost use Rattle.paraid_image.specs.Sides.{is_open, targets};
 ghost use Rattle.paraid_txn.specs.CommitStages.{CloseStage, IsSpelled, Job, LayIn, job_gone, job_named};
 ghost use Rattle.paraid_image.specs.Standing.{other_log};
@@ -194,6 +194,8 @@ fn end_commit<R: Rack>(
         (log_state gate_open meta.now batch.now) }
     ensures done { OnOk result (EndsAsCommitted (R.told rack.old) (R.told rack.new) side
         (log_state gate_open meta.now batch.now)) }
+    ensures laid { OnOk result (EndsLaid (R.told rack.old) (R.told rack.new) side
+        (log_state gate_open meta.now batch.now)) }
 {
     let list = spell_targets(batch);
     let spelled = spell_meta(meta);
@@ -248,6 +250,10 @@ impl<R: Rack> Store<R> {
             (IsOutOfCommit (λ e. (R.slot rack e).power) meta.now.setup.geometry.disks
             (named_of meta.now.out) (named_of meta.now.out))
             (R.slot rack) (R.slot refused.rack) refused.two) }
+        ensures refused_gone { IfErr result (λ refused. AreGoneSince
+            (IsOutOfCommit (λ e. (R.slot rack e).power) meta.now.setup.geometry.disks
+            (named_of meta.now.out) (named_of meta.now.out))
+            (R.slot rack) (R.slot refused.rack) refused.two) }
         ensures refused_powers { IfErr result (λ refused. OnlyLosesSlots (R.slot rack)
             (R.slot refused.rack)) }
         ensures refused_each { IfErr result (λ refused. AreFailedOrWell (R.slot rack)
@@ -259,6 +265,8 @@ impl<R: Rack> Store<R> {
         ensures refused { IfErr result (λ refused. StandsWhileResumed (R.told rack)
             (R.told refused.rack) side (log_state gate_open meta.now batch.now)) }
         ensures ended { IfOk result (λ store. EndsAsCommitted (R.told rack) (R.told (store_rack store))
+            side (log_state gate_open meta.now batch.now)) }
+        ensures laid { IfOk result (λ store. EndsLaid (R.told rack) (R.told (store_rack store))
             side (log_state gate_open meta.now batch.now)) }
     {
         let mut store = Store::adopt(rack, meta);

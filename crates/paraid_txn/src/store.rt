@@ -1,6 +1,6 @@
 //! The disks of an array as its layers above see them: a rack of which at most one disk is out.
 ghost use Rattle.std.specs.Prelude.{◌≡◌, ◌≢◌, ℕ, ◌<◌, ◌≤◌, true, false, Some, None, OnOk, IfErr, is_ok};
-ghost use Rattle.paraid_rack.specs.declared.call.Call.TheVariants.{Park, Read, SpinUp, Sync, Write};
+ghost use Rattle.paraid_rack.specs.declared.call.Call.TheVariants.{Attach, Park, Read, SpinUp, Sync, Write};
 ghost use Rattle.paraid_rack.specs.declared.call.Power.TheVariants.{Absent, Parked, Spinning};
 ghost use Rattle.paraid_rack.specs.Slots.{ChangesOneSlot};
 ghost use Rattle.paraid_rack.specs.Told.{GrowsByCall};
@@ -72,15 +72,10 @@ fn loss_of(out: Option<DiskNo>, disk: DiskNo) -> Lost
     ensures two { (two : _) → result ≡ Lost.Two two
         → (two.second ≡ disk) × (out ≡ Some two.first) × (two.first ≢ disk) }
 {
-    if let Some(first) = out {
-        if first != disk {
-            return Lost::Two(Two {
-                first,
-                second: disk,
-            });
-        }
+    match Two::beside(out, disk) {
+        Some(two) => Lost::Two(two),
+        None => Lost::One { disk },
     }
-    Lost::One { disk }
 }
 
 impl<R: Rack> Store<R> {
@@ -246,6 +241,26 @@ impl<R: Rack> Store<R> {
     {
         let out = self.out();
         let Ok(()) = self.rack.spin_up(disk) else {
+            return Err(loss_of(out, disk));
+        };
+        Ok(())
+    }
+
+    /// Puts a fresh disk of `size` blocks of zeros into the slot, spinning.
+    pub fn attach(&mut self, disk: DiskNo, size: u32) -> Result<(), Lost>
+        requires exists { disk < R.slot_count (store_rack self.old) }
+        ensures slots { R.slot_count (store_rack self.new) ≡ R.slot_count (store_rack self.old) }
+        ensures same { IsSameStore self.old self.new }
+        ensures slot { ChangesOneSlot (R.slot (store_rack self.old)) (R.slot (store_rack self.new)) disk
+            (record (R.slot (store_rack self.old) disk) { power = Spinning; size = size; unsynced = false })
+            (R.slot (store_rack self.old) disk).unsynced (is_ok result) }
+        ensures told { GrowsByCall (R.told (store_rack self.old)) (R.told (store_rack self.new))
+            (Attach disk size (is_ok result)) }
+        ensures lost { IfErr result (IsLostBy (store_out R.slot self.old) disk
+            (R.slot (store_rack self.old)) (R.slot (store_rack self.new))) }
+    {
+        let out = self.out();
+        let Ok(()) = self.rack.attach(disk, size) else {
             return Err(loss_of(out, disk));
         };
         Ok(())

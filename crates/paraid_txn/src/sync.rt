@@ -3,7 +3,7 @@ ghost use Rattle.std.specs.Prelude.{◌≡◌, ◌≢◌, ℕ, ◌<◌, ◌≤�
 ghost use Rattle.paraid_rack.specs.declared.call.Power.TheVariants.{Spinning};
 ghost use Rattle.paraid_rack.specs.Told.{Ran};
 ghost use Rattle.paraid_txn.specs.CommitPart.{CommitPart};
-ghost use Rattle.paraid_txn.specs.Losses.{StaySynced, AreFailedOrWell, IsSyncedAt, IsOneOut, IsOutOfCommit, OnlyLosesSlots, AreTwoDownBeside};
+ghost use Rattle.paraid_txn.specs.Losses.{AreGoneSince, StaySynced, AreFailedOrWell, IsSyncedAt, IsOneOut, IsOutOfCommit, OnlyLosesSlots, AreTwoDownBeside};
 ghost use Rattle.paraid_txn.specs.Uses.{CanSync, EachCall, UsesSync};
 
 use crate::calls::sync_slot;
@@ -77,6 +77,9 @@ impl<R: Rack> Store<R> {
         ensures one { OnOk result (IsOneOut (disks_of self.old) (named_of self.old) (R.slot (store_rack self.old))
             → IsOneOut (disks_of self.old) (named_of self.old) (R.slot (store_rack self.new))) }
         ensures two { IfErr result (AreTwoDownBeside (IsOutOfCommit (λ e. (R.slot (store_rack self.old) e).power)
+            (disks_of self.old) (named_of self.old) None)
+            (R.slot (store_rack self.old)) (R.slot (store_rack self.new))) }
+        ensures gone { IfErr result (AreGoneSince (IsOutOfCommit (λ e. (R.slot (store_rack self.old) e).power)
             (disks_of self.old) (named_of self.old) None)
             (R.slot (store_rack self.old)) (R.slot (store_rack self.new))) }
         ensures calls { Ran (R.told (store_rack self.old)) (R.told (store_rack self.new))

@@ -1,5 +1,5 @@
 -- Some reads, one after the other.
-use Rattle.std.specs.Prelude.{◌≡◌, ℕ, ◌<◌, ◌≤◌, Bool, true, false, List, [], ◌∷◌, ◌++◌, Option, Some, None, Result, Ok, Err, IsErrAnd, IsSome, ◌&&◌, nat_lt}
+use Rattle.std.specs.Prelude.{◌≡◌, ◌≢◌, ℕ, ◌<◌, ◌≤◌, Bool, true, false, List, [], ◌∷◌, ◌++◌, Option, Some, None, Result, Ok, Err, IsErrAnd, IsSome, ◌&&◌, nat_lt}
 use Rattle.std.proofs.Common.{refl, sym, ◌∙◌, ap, subst, arith, inl, inr}
 use Rattle.std.proofs.lemmas.Bool.{cases_eq, false≢true}
 use Rattle.std.proofs.lemmas.Bool.Decides.{nat_tests}
@@ -9,18 +9,19 @@ use Rattle.paraid_rack.specs.declared.call.Call.{Call}
 use Rattle.paraid_rack.specs.declared.call.Call.TheVariants.{Read, Write, Sync, Park, SpinUp, Attach}
 use Rattle.paraid_rack.specs.declared.call.Power.{Power}
 use Rattle.paraid_rack.specs.declared.call.Power.TheVariants.{Spinning, Absent}
+use Rattle.paraid_rack.specs.Calls.{disk_of}
 use Rattle.paraid_rack.specs.Disks.{Disks, is_present, power_after, size_after, step, with_at}
 use Rattle.paraid_rack.specs.Slots.{Agrees, Slot, ChangesOneSlot}
 use Rattle.paraid_rack.specs.Told.{GrowsByCall, Ran}
 use Rattle.paraid_rack.specs.Trail.{Trail, now, run}
 use Rattle.paraid_rack.proofs.AtomsLemmas.{read_block-same, with_at_other, with_at_same}
-use Rattle.paraid_rack.proofs.TrailsLemmas.{Ran-then, now-extend}
+use Rattle.paraid_rack.proofs.TrailsLemmas.{Ran-call, Ran-none, Ran-then, now-extend}
 use Rattle.paraid_txn.specs.declared.store.Store.{Store}
 use Rattle.paraid_txn.specs.Losses.{IsLostNow}
 use Rattle.paraid_image.specs.Sides.{Batch, has_place}
 use Rattle.paraid_image.specs.Standing.{Contents, overlaid_block}
 use Rattle.paraid_txn.specs.Stores.{IsSameStore, store_rack}
-use Rattle.paraid_view.specs.Reads.{AreLeft, AreArrayReads, HaveRead, ShowsContents, lost_by}
+use Rattle.paraid_view.specs.Reads.{AreLeft, AreArrayReads, AreOffDisk, HaveRead, ShowsContents, lost_by}
 
 -- calls
 
@@ -51,6 +52,35 @@ ran_one old new n d p done low spins grows t tells =
 
 pub ran_then : (old mid new : Option Trail) (n : ℕ) → Ran old mid (AreArrayReads n) → Ran mid new (AreArrayReads n) → Ran old new (AreArrayReads n)
 ran_then old mid new n first second = Ran-then (AreArrayReads n) (AreArrayReads-append n) old mid new first second
+
+-- calls that are not on this disk
+
+AreOffDisk-append : (out : Option ℕ) (s : Disks) (cs ds : List Call) → AreOffDisk out s cs → AreOffDisk out (run s cs) ds → AreOffDisk out s (cs ++ ds)
+AreOffDisk-append out s [] ds a b = b
+AreOffDisk-append out s (c ∷ cs) ds a b = (a.0, AreOffDisk-append out (step c s) cs ds a.1 b)
+
+pub off_none : (out : Option ℕ) (told : Option Trail) → Ran told told (AreOffDisk out)
+off_none out told = Ran-none (AreOffDisk out) (λ s. tt) told
+
+pub off_one : (out : Option ℕ) (old new : Option Trail) (d p : ℕ) (done : Bool) → out ≢ Some d → GrowsByCall old new (Read d p done) → Ran old new (AreOffDisk out)
+off_one out old new d p done not grows = Ran-call (AreOffDisk out) old new (Read d p done) grows (λ t is. (not, tt))
+
+pub off_then : (out : Option ℕ) (old mid new : Option Trail) → Ran old mid (AreOffDisk out) → Ran mid new (AreOffDisk out) → Ran old new (AreOffDisk out)
+off_then out old mid new first second = Ran-then (AreOffDisk out) (AreOffDisk-append out) old mid new first second
+
+off_all : (s : Disks) (cs : List Call) → AreOffDisk None s cs
+off_all s [] = tt
+off_all s (c ∷ cs) = (λ is. let z : None ≡ Some (disk_of c) = is in cc, off_all (step c s) cs)
+
+-- where this one is the other one
+pub off_same : (out off : Option ℕ) (old new : Option Trail) → out ≡ off → Ran old new (AreOffDisk off) → Ran old new (AreOffDisk out)
+off_same out off old new is ran = subst (λ (o : Option ℕ). Ran old new (AreOffDisk o)) (sym is) ran
+
+-- where none is named, no call is on it
+pub off_nobody : (out : Option ℕ) (Q : Disks → List Call → Type 0) (old new : Option Trail) → out ≡ None → Ran old new Q → Ran old new (AreOffDisk out)
+off_nobody out Q old new none ran t tells =
+    let r = ran t tells in
+    record { from = r.from; was = r.was; calls = r.calls; is = r.is; holds = subst (λ (o : Option ℕ). AreOffDisk o (now r.from) r.calls) (sym none) (off_all (now r.from) r.calls) }
 
 -- what is told now was told before
 pub told_before : (old new : Option Trail) (Q : Disks → List Call → Type 0) → Ran old new Q → IsSome new → IsSome old

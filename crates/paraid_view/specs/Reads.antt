@@ -5,6 +5,7 @@ use Rattle.paraid_dirty.specs.Table.{is_dirty}
 use Rattle.paraid_rack.specs.declared.call.Call.{Call}
 use Rattle.paraid_rack.specs.declared.call.Call.TheVariants.{Read, Write, Sync, Park, SpinUp, Attach}
 use Rattle.paraid_rack.specs.declared.call.Power.TheVariants.{Spinning}
+use Rattle.paraid_rack.specs.Calls.{disk_of}
 use Rattle.paraid_rack.specs.Disks.{Disks, step}
 use Rattle.paraid_rack.specs.Slots.{Slot}
 use Rattle.paraid_rack.specs.Told.{Ran}
@@ -44,6 +45,11 @@ IsArrayRead n s (Attach d size done) = ⊥
 abbrev pub AreArrayReads : ℕ → Disks → List Call → Type 0
 AreArrayReads n s [] = Unit {0}
 AreArrayReads n s (c ∷ cs) = IsArrayRead n s c × AreArrayReads n (step c s) cs
+
+-- none of these calls is on this disk
+abbrev pub AreOffDisk : Option ℕ → Disks → List Call → Type 0
+AreOffDisk out s [] = Unit {0}
+AreOffDisk out s (c ∷ cs) = (out ≢ Some (disk_of c)) × AreOffDisk out (step c s) cs
 
 -- the disk that failed, if one did
 abbrev pub lost_by : Result (Unit {0}) ℕ → Option ℕ

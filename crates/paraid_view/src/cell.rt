@@ -1,6 +1,7 @@
 //! The value of a cell, whichever one disk is out.
 ghost use Rattle.std.specs.Prelude.{◌++◌, ◌≡◌, ◌≢◌, ℕ, ◌+◌, ◌<◌, ◌≤◌, Option, Some, None, OnOk, IfOk, IfErr, IsSome, IsTrue, length, ◌↔◌, true, false};
 ghost use Rattle.paraid_base.specs.Sums.{without, xor_upto};
+ghost use Rattle.paraid_rack.specs.Told.{Ran};
 ghost use Rattle.paraid_record.specs.Range.{IsInRange};
 ghost use Rattle.paraid_image.specs.Out.{first_absent, named_out as named_of, or_else, out_disk};
 ghost use Rattle.paraid_image.specs.Spot.{is_hard as hard_in};
@@ -8,7 +9,7 @@ ghost use Rattle.paraid_image.specs.Sound.{AreRowsZero, AreStripesZero};
 ghost use Rattle.paraid_image.specs.Standing.{Contents};
 ghost use Rattle.paraid_txn.specs.Stores.{disks_of, store_rack};
 ghost use Rattle.paraid_image.specs.Value.{near as near_of, soft_value, value as value_of};
-ghost use Rattle.paraid_view.specs.Reads.{CanRead, HaveLostTwo, HaveRead, ShowsContents, lost_by, seen_by};
+ghost use Rattle.paraid_view.specs.Reads.{AreOffDisk, CanRead, HaveLostTwo, HaveRead, ShowsContents, lost_by, seen_by};
 
 use crate::draft::Draft;
 use crate::laid::{read_laid, read_rest};
@@ -50,6 +51,7 @@ fn read_soft<R: Rack>(
         store.old store.new }
     ensures below { IfErr result (λ e. e < disks_of store.old) }
     ensures failed { IfErr result (λ e. out ≢ Some e) }
+    ensures off { Ran (R.told (store_rack store.old)) (R.told (store_rack store.new)) (AreOffDisk out) }
     ensures value { OnOk result ((f : Contents) (table : _) → ShowsContents (R.told (store_rack store.old)) (batch.now ++ draft.now) f
         → IsSome (R.told (store_rack store.new))
         → into.new ≡ soft_value (seen_by meta.now table out f) r d) }
@@ -94,6 +96,7 @@ fn read_near<R: Rack>(
         store.old store.new }
     ensures below { IfErr result (λ e. e < disks_of store.old) }
     ensures failed { IfErr result (λ e. out ≢ Some e) }
+    ensures off { Ran (R.told (store_rack store.old)) (R.told (store_rack store.new)) (AreOffDisk out) }
     ensures value { OnOk result ((f : Contents) → ShowsContents (R.told (store_rack store.old)) (batch.now ++ draft.now) f
         → IsSome (R.told (store_rack store.new))
         → into.new ≡ near_of (seen_by meta.now dirty.now out f) r d) }
@@ -136,6 +139,7 @@ fn add_near<R: Rack>(
         store.old store.new }
     ensures below { IfErr result (λ e. e < disks_of store.old) }
     ensures failed { IfErr result (λ e. out ≢ e) }
+    ensures off { Ran (R.told (store_rack store.old)) (R.told (store_rack store.new)) (AreOffDisk (Some out)) }
     ensures value { OnOk result ((f : Contents) → ShowsContents (R.told (store_rack store.old)) (batch.now ++ draft.now) f
         → IsSome (R.told (store_rack store.new))
         → sum.old ≡ xor_upto (without (without (near_of (seen_by meta.now dirty.now (Some out) f) r) out) skipped) d
@@ -183,6 +187,7 @@ pub fn read_others<R: Rack>(
         store.old store.new }
     ensures below { IfErr result (λ e. e < disks_of store.old) }
     ensures failed { IfErr result (λ e. out ≢ e) }
+    ensures off { Ran (R.told (store_rack store.old)) (R.told (store_rack store.new)) (AreOffDisk (Some out)) }
     ensures value { OnOk result ((f : Contents) → ShowsContents (R.told (store_rack store.old)) (batch.now ++ draft.now) f
         → IsSome (R.told (store_rack store.new))
         → into.new ≡ xor_upto (without (without (near_of (seen_by meta.now dirty.now (Some out) f) r) out) skipped) meta.now.setup.geometry.disks) }
@@ -218,6 +223,7 @@ pub fn read_value<R: Rack>(
         store.old store.new }
     ensures below { IfErr result (λ e. e < disks_of store.old) }
     ensures failed { IfErr result (λ e. out ≢ Some e) }
+    ensures off { Ran (R.told (store_rack store.old)) (R.told (store_rack store.new)) (AreOffDisk out) }
     ensures value { OnOk result ((f : Contents) → ShowsContents (R.told (store_rack store.old)) (batch.now ++ draft.now) f
         → IsSome (R.told (store_rack store.new))
         → into.new ≡ value_of (seen_by meta.now dirty.now out f) r d) }
@@ -262,6 +268,8 @@ pub fn read_cell<R: Rack>(
     ensures read { IfOk result (λ lost. HaveRead R.slot_count R.slot R.told (disks_of store.old)
         lost store.old store.new) }
     ensures below { IfOk result (λ lost. (e : ℕ) → lost ≡ Some e → e < disks_of store.old) }
+    ensures off { Ran (R.told (store_rack store.old)) (R.told (store_rack store.new))
+        (AreOffDisk (out_disk (λ e. (R.slot (store_rack store.old) e).power) meta.now)) }
     ensures one { IfOk result (λ lost. (e : ℕ) → lost ≡ Some e
         → out_disk (λ x. (R.slot (store_rack store.old) x).power) meta.now ≡ None) }
     ensures value { OnOk result ((f : Contents) → ShowsContents (R.told (store_rack store.old)) (batch.now ++ draft.now) f

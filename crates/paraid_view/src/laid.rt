@@ -4,12 +4,13 @@ ghost use Rattle.paraid_base.specs.Regions.{disk_size, soft_place_of};
 ghost use Rattle.paraid_base.specs.Soft.{stripe_count};
 ghost use Rattle.paraid_base.specs.Sums.{without, xor_upto};
 ghost use Rattle.paraid_rack.specs.declared.call.Power.TheVariants.{Spinning};
+ghost use Rattle.paraid_rack.specs.Told.{Ran};
 ghost use Rattle.paraid_record.specs.Range.{IsInRange};
 ghost use Rattle.paraid_base.specs.declared.block.Block.{Block as BlockType};
 ghost use Rattle.paraid_image.specs.Standing.{Contents, overlaid_block};
 ghost use Rattle.paraid_txn.specs.Stores.{disks_of, store_rack};
 ghost use Rattle.paraid_image.specs.Value.{stripe_rest};
-ghost use Rattle.paraid_view.specs.Reads.{CanRead, HaveRead, ShowsContents, lost_by};
+ghost use Rattle.paraid_view.specs.Reads.{AreOffDisk, CanRead, HaveRead, ShowsContents, lost_by};
 
 use crate::draft::Draft;
 use paraid_base::{Block, DiskNo, Place};
@@ -53,6 +54,8 @@ pub fn read_laid<R: Rack>(
         store.old store.new }
     ensures below { IfErr result (λ e. e < disks_of store.old) }
     ensures failed { IfErr result (λ e. e ≡ disk) }
+    ensures off { (out : Option ℕ) → out ≢ Some disk
+        → Ran (R.told (store_rack store.old)) (R.told (store_rack store.new)) (AreOffDisk out) }
     ensures value { OnOk result ((f : Contents) → ShowsContents (R.told (store_rack store.old)) (batch.now ++ draft.now) f
         → IsSome (R.told (store_rack store.new)) → into.new ≡ f disk place) }
 {
@@ -85,6 +88,7 @@ fn add_block<R: Rack>(
         store.old store.new }
     ensures below { IfErr result (λ e. e < disks_of store.old) }
     ensures failed { IfErr result (λ e. (e ≡ disk) × (e ≢ skipped)) }
+    ensures off { Ran (R.told (store_rack store.old)) (R.told (store_rack store.new)) (AreOffDisk (Some skipped)) }
     ensures value { OnOk result ((f : Contents) → ShowsContents (R.told (store_rack store.old)) (batch.now ++ draft.now) f
         → IsSome (R.told (store_rack store.new))
         → sum.old ≡ xor_upto (without (λ e. f e place) skipped) disk
@@ -119,6 +123,7 @@ pub fn read_rest<R: Rack>(
         store.old store.new }
     ensures below { IfErr result (λ e. e < disks_of store.old) }
     ensures failed { IfErr result (λ e. e ≢ skipped) }
+    ensures off { Ran (R.told (store_rack store.old)) (R.told (store_rack store.new)) (AreOffDisk (Some skipped)) }
     ensures value { OnOk result ((f : Contents) → ShowsContents (R.told (store_rack store.old)) (batch.now ++ draft.now) f
         → IsSome (R.told (store_rack store.new))
         → into.new ≡ stripe_rest meta.now.setup.geometry f meta.now.gear stripe skipped) }

@@ -10,6 +10,10 @@ mod fills;
 #[cfg(test)]
 mod reads;
 #[cfg(test)]
+mod rebuilds;
+#[cfg(test)]
+mod replaces;
+#[cfg(test)]
 mod shifts;
 #[cfg(test)]
 mod writes;

@@ -31,8 +31,8 @@ fn is_synced(rack: &MemRack, disks: u8) -> bool
     true
 }
 
-// A core over a rack with nothing staged, where no cell is dirty and nothing is unsynced.
-fn taken_over(alloc: Global, rack: MemRack, meta: Meta) -> Option<Core<MemRack>>
+/// A core over a rack with nothing staged, where no cell is dirty and nothing is unsynced.
+pub fn taken_over(alloc: Global, rack: MemRack, meta: Meta) -> Option<Core<MemRack>>
     ensures rack { IfSome result (λ core. core_rack core ≡ rack) }
     ensures meta { IfSome result (λ core. meta_of core ≡ meta) }
     ensures unsynced { IfSome result (λ core. AreUnsyncedCopied slots_of core) }
@@ -57,8 +57,8 @@ fn taken_over(alloc: Global, rack: MemRack, meta: Meta) -> Option<Core<MemRack>>
     Some(Core::new(store, meta, dirty, batch, draft, changes))
 }
 
-// Writes the first blocks of a list, if the array has them.
-fn write(core: &mut Core<MemRack>, blocks: &[BlockNo; 8], count: u8) -> Option<()>
+/// Writes the first blocks of a list, if the array has them.
+pub fn write(core: &mut Core<MemRack>, blocks: &[BlockNo; 8], count: u8) -> Option<()>
     requires ready { IsCoreReady rack_slot_count slots_of core.old }
     requires serves { CanCoreServe slots_of core.old }
     requires synced { AreCopiesSynced (meta_of core.old).setup.geometry.disks (copied_of core.old) }
@@ -79,8 +79,8 @@ fn write(core: &mut Core<MemRack>, blocks: &[BlockNo; 8], count: u8) -> Option<(
     Some(())
 }
 
-// Brings what is staged to the disks.
-fn commit(core: &mut Core<MemRack>) -> Option<()>
+/// Brings what is staged to the disks.
+pub fn commit(core: &mut Core<MemRack>) -> Option<()>
     requires ready { IsCoreReady rack_slot_count slots_of core.old }
     requires serves { CanCoreServe slots_of core.old }
     requires no_draft { draft_of core.old ≡ [] }
@@ -234,7 +234,7 @@ fn end(core: &mut Core<MemRack>) -> Option<()>
 }
 
 // Parks a disk past the gear, with nothing staged.
-fn park(core: &mut Core<MemRack>, disk: DiskNo) -> Option<()>
+pub fn park(core: &mut Core<MemRack>, disk: DiskNo) -> Option<()>
     requires ready { IsCoreReady rack_slot_count slots_of core.old }
     requires serves { CanCoreServe slots_of core.old }
     requires no_draft { draft_of core.old ≡ [] }
@@ -283,8 +283,8 @@ fn read(core: &mut Core<MemRack>, block: BlockNo) -> Option<Block>
     Some(into)
 }
 
-// The first bytes of blocks 0 to 19, where each block has one byte repeated.
-fn bytes_of(core: &mut Core<MemRack>) -> Option<[u8; 20]>
+/// The first bytes of blocks 0 to 19, where each block has one byte repeated.
+pub fn bytes_of(core: &mut Core<MemRack>) -> Option<[u8; 20]>
     requires ready { IsCoreReady rack_slot_count slots_of core.old }
     requires serves { CanCoreServe slots_of core.old }
     requires no_draft { draft_of core.old ≡ [] }
@@ -307,7 +307,7 @@ fn bytes_of(core: &mut Core<MemRack>) -> Option<[u8; 20]>
 }
 
 // Four writes in gear 5 and a shift down to gear 4, without the last park.
-fn shifted(alloc: Global) -> Option<Core<MemRack>>
+pub fn shifted(alloc: Global) -> Option<Core<MemRack>>
     ensures ready { IfSome result (λ core. IsCoreReady rack_slot_count slots_of core) }
     ensures serves { IfSome result (λ core. CanCoreServe slots_of core) }
     ensures draft { IfSome result (λ core. draft_of core ≡ []) }
@@ -339,10 +339,11 @@ fn played(alloc: Global) -> Option<([u8; 20], u8, MemRack)> {
     Some((bytes, seven.as_slice()[0], low.close()))
 }
 
-const WRITTEN: [BlockNo; 8] = [0, 7, 11, 19, 0, 0, 0, 0];
+/// The blocks that are written.
+pub const WRITTEN: [BlockNo; 8] = [0, 7, 11, 19, 0, 0, 0, 0];
 
-// The bytes of the four writes, each in its block.
-const HELD: [u8; 20] = [
+/// The bytes of the four writes, each in its block.
+pub const HELD: [u8; 20] = [
     0x11, 0, 0, 0, 0, 0, 0, 0x12, 0, 0, 0, 0x13, 0, 0, 0, 0, 0, 0, 0, 0x14,
 ];
 
@@ -373,8 +374,8 @@ const STEPS: [(u32, u32, u32, u32); 11] = [
     (1, 0, 0, 0),
 ];
 
-// How many of some calls are reads, writes, syncs and parks.
-fn kinds_of(rack: &MemRack, from: u32, count: u32) -> (u32, u32, u32, u32) {
+/// How many of some calls are reads, writes, syncs and parks.
+pub fn kinds_of(rack: &MemRack, from: u32, count: u32) -> (u32, u32, u32, u32) {
     let mut kinds = (0u32, 0u32, 0u32, 0u32);
     for at in from..from.saturating_add(count) {
         if at < rack.calls() {
@@ -390,8 +391,8 @@ fn kinds_of(rack: &MemRack, from: u32, count: u32) -> (u32, u32, u32, u32) {
     kinds
 }
 
-// The calls of a step.
-fn sum_of(reads: u32, writes: u32, syncs: u32, parks: u32) -> u32 {
+/// The calls of a step.
+pub fn sum_of(reads: u32, writes: u32, syncs: u32, parks: u32) -> u32 {
     reads
         .saturating_add(writes)
         .saturating_add(syncs)

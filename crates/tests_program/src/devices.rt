@@ -1,9 +1,9 @@
 //! The array over rows as a block device: lost disks, and how many reads a write makes.
 
-use paraid_array::{Array, MountFault, MountRefused};
 use paraid_base::{Block, BlockFault, BlockNo, Blocks, Halt, Two};
 use paraid_memrack::{MemRack, Planned};
 use paraid_rack::{Call, Rack};
+use paraid_rows::{Array, MountFault, MountRefused};
 use std::process::Abort;
 
 // Zero disks of these sizes, and none where the size is 0, in a rack with these plans.

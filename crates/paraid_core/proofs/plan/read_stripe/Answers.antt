@@ -4,6 +4,7 @@ use Rattle.paraid_base.specs.Regions.{disk_size}
 use Rattle.paraid_plan.proofs.StoredLemmas.{stripe_gone, stripe_there}
 use Rattle.paraid_txn.specs.Stores.{store_rack}
 use Rattle.paraid_view.specs.Reads.{seen_by}
+use Rattle.paraid_view.proofs.ReadLemmas.{off_same}
 use Rattle.paraid_view.proofs.ValueLemmas.{ok_map}
 use Rattle.paraid_core.proofs.plan.read_stripe.Goals as goal
 
@@ -26,3 +27,9 @@ returns-clause-value g c =
     ok_map c.read_laid.result (λ value. λ f table shows some.
     value f shows some ∙ ap (f c.args.e) c.soft_place-place.ensures.value
     ∙ sym (stripe_there (seen_by c.args.meta.now table c.args.out f) c.args.s c.args.e (λ e. false≢true (sym c.if-is_at.false ∙ c.is_at.ensures.1 e)))) c.read_laid.ensures.value
+
+pub returns-then-is_at-clause-off : goal.returns-then-is_at-clause-off
+returns-then-is_at-clause-off g c = off_same c.args.out _ _ _ (c.is_at.ensures.0 c.if-is_at.true) c.read_rest.ensures.off
+
+pub returns-clause-off : goal.returns-clause-off
+returns-clause-off g c = c.read_laid.ensures.off c.args.out (λ e. false≢true (sym c.if-is_at.false ∙ c.is_at.ensures.1 e))

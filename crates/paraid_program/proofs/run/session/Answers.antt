@@ -1,5 +1,5 @@
 use Rattle.std.proofs.Common.{sym, arith}
-use Rattle.paraid_array.specs.Arrays.{array_halt}
+use Rattle.paraid_rows.specs.Arrays.{array_halt}
 use Rattle.paraid_program.proofs.Since.{since_start, since_more, may_be_down, lasts_told, going, same_halt}
 use Rattle.paraid_program.proofs.Sofar.{sofar_start, sofar_more, few_more, ends_well, ends_halted, ends_at_source, ends_too_long, ends_at_sink}
 use Rattle.paraid_program.proofs.run.session.Goals as goal

@@ -1,5 +1,5 @@
 use Rattle.std.proofs.Common.{◌≤◌, ◌+◌, ◌-◌, ◌^◌, length, []}
-use Rattle.paraid_array.specs.Arrays.{array_rack, geometry_of, array_out, array_writes, array_halt, ArrayStandsFor, IsArrayReady}
+use Rattle.paraid_rows.specs.Arrays.{array_rack, geometry_of, array_out, array_writes, array_halt, ArrayStandsFor, IsArrayReady}
 use Rattle.paraid_program.specs.Calls.{IsFive, SinceStart}
 use Rattle.paraid_program.proofs.Sofar.{Sofar}
 use Rattle.paraid_program.proofs.run.session.Given as goal

@@ -5,7 +5,7 @@ use Rattle.std.proofs.lemmas.Option.{none-some}
 use Rattle.paraid_trace.specs.declared.asked.Asked.{Asked}
 use Rattle.paraid_trace.specs.Asked.{event_with}
 use Rattle.paraid_base.specs.History.{History}
-use Rattle.paraid_array.specs.Arrays.{ArrayStandsFor}
+use Rattle.paraid_rows.specs.Arrays.{ArrayStandsFor}
 use Rattle.paraid_program.specs.Trace.{IsReplied, answer_to, next}
 use Rattle.paraid_program.proofs.ServeLemmas.{lasts_none, later_event}
 use Rattle.paraid_program.proofs.serve.serve.Goals as goal

@@ -3,7 +3,7 @@ use Rattle.paraid_base.specs.declared.event.Answer.TheVariants.{Wrote, NoBlock}
 use Rattle.paraid_base.specs.declared.event.Event.TheVariants.{Write}
 use Rattle.paraid_base.specs.declared.fault.Halt.{Halt}
 use Rattle.paraid_base.specs.Pairs.{pairs_of}
-use Rattle.paraid_array.specs.Arrays.{ArrayStandsFor}
+use Rattle.paraid_rows.specs.Arrays.{ArrayStandsFor}
 use Rattle.paraid_program.specs.Trace.{IsReplied, with_write, write_answer}
 use Rattle.paraid_program.proofs.ServeLemmas.{none_missing, one_missing}
 use Rattle.paraid_program.proofs.serve.write_pairs.Goals as goal

@@ -1,5 +1,5 @@
 use Rattle.std.proofs.Common.{arith, rules}
-use Rattle.paraid_array.specs.Arrays.{array_out}
+use Rattle.paraid_rows.specs.Arrays.{array_out}
 use Rattle.paraid_program.proofs.TopLemmas.{done_run, halted_run, source_run, too_long_run, sink_run, no_mount_run, down_status}
 use Rattle.paraid_program.proofs.top.serve.Goals as goal
 

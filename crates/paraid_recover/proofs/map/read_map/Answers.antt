@@ -1,12 +1,20 @@
-use Rattle.std.specs.Prelude.{◌≡◌, ℕ, [], Option, Some, None}
-use Rattle.std.proofs.Common.{ap, arith, subst, sym, ◌∙◌}
+use Rattle.std.specs.Prelude.{◌≡◌, ◌≢◌, ℕ, ◌<◌, true, [], Option, Some, None}
+use Rattle.std.proofs.Common.{ap, arith, inl, inr, refl, subst, sym, ◌∙◌}
 use Rattle.paraid_dirty.specs.Table.{is_dirty}
 use Rattle.paraid_image.specs.Out.{or_else}
 use Rattle.paraid_image.specs.Spot.{map_disk as map_disk_of}
-use Rattle.paraid_txn.specs.Stores.{disks_of, store_out}
+use Rattle.paraid_txn.specs.Stores.{disks_of, store_out, store_rack}
 use Rattle.paraid_view.proofs.ReadLemmas.{shows_after}
 use Rattle.paraid_view.proofs.TwoLemmas.{read_beside, two_lost}
-use Rattle.paraid_recover.specs.Map.{ShowsMap}
+use Rattle.paraid_rack.specs.Disks.{is_present}
+use Rattle.paraid_rack.specs.Slots.{Slot}
+use Rattle.paraid_rack.specs.Told.{Ran}
+use Rattle.paraid_txn.specs.Uses.{EachCall}
+use Rattle.paraid_recover.specs.Map.{ReadsMap, ReadsMapOf, ShowsMap}
+use Rattle.paraid_recover.proofs.MapEndLemmas.{map_disk_in}
+use Rattle.paraid_recover.proofs.MountCallsLemmas.{calls_milder, calls_then, of_map}
+use Rattle.paraid_recover.proofs.map.read_map.Given.{Over}
+use Rattle.paraid_recover.proofs.map.read_map.Goals.{After-read_map_of, After-read_map_of-2}
 use Rattle.paraid_recover.proofs.FitLemmas.{each_read, left_well}
 use Rattle.paraid_recover.proofs.map.read_map.Goals as goal
 
@@ -42,3 +50,75 @@ returns-in-Ok-clause-each g c = each_read _ _ _ _ _ c.in-Err.ensures.read.left c
 
 pub returns-in-Err-read_map_of-clause-each : goal.returns-in-Err-read_map_of-clause-each
 returns-in-Err-read_map_of-clause-each g c = each_read _ _ _ _ _ c.in-Err.ensures.read.left c.in-Err-read_map_of.ensures.read.left
+
+-- the reads of the first log disk
+first_calls : (g : Over) (c : After-read_map_of g)
+    → Ran (g.R.Rack.told (store_rack c.args.store.now)) (g.R.Rack.told (store_rack c.read_map_of.new.store)) (EachCall (ReadsMap c.args.meta.now.setup.geometry (store_out g.R.Rack.slot c.args.store.now)))
+first_calls g c =
+    let out = store_out g.R.Rack.slot c.args.store.now in
+    let geometry = c.args.meta.now.setup.geometry in
+    let log = map_disk_in out in
+    calls_milder (ReadsMapOf geometry (map_disk_of out)) (ReadsMap geometry out) _ _ (λ call reads. of_map geometry out (map_disk_of out) call log.0 log.1 reads)
+    (subst (λ (x : ℕ). Ran (g.R.Rack.told (store_rack c.args.store.now)) (g.R.Rack.told (store_rack c.read_map_of.new.store)) (EachCall (ReadsMapOf geometry x)))
+    (c.map_disk-disk.ensures ∙ ap map_disk_of c.out-out.ensures) c.read_map_of.ensures.calls)
+
+-- and those of the other one, where none was out
+both_calls : (g : Over) (c : After-read_map_of-2 g)
+    → Ran (g.R.Rack.told (store_rack c.args.store.now)) (g.R.Rack.told (store_rack c.read_map_of-2.new.store)) (EachCall (ReadsMap c.args.meta.now.setup.geometry (store_out g.R.Rack.slot c.args.store.now)))
+both_calls g c =
+    let out = store_out g.R.Rack.slot c.args.store.now in
+    let geometry = c.args.meta.now.setup.geometry in
+    let none : out ≡ None = sym c.out-out.ensures ∙ c.in_default-out.is in
+    calls_then (ReadsMap geometry out) (g.R.Rack.told (store_rack c.args.store.now)) (g.R.Rack.told (store_rack c.read_map_of.new.store)) (g.R.Rack.told (store_rack c.read_map_of-2.new.store))
+    (first_calls g (goal.at.After-read_map_of-2 g c).After-read_map_of)
+    (calls_milder (ReadsMapOf geometry 1) (ReadsMap geometry out) _ _
+    (λ call reads. of_map geometry out 1 call (omega arith) (λ is. let z : None ≡ Some 1 = sym none ∙ is in cc) reads) c.read_map_of-2.ensures.calls)
+
+pub returns-in_default-clause-calls : goal.returns-in_default-clause-calls
+returns-in_default-clause-calls g c = first_calls g (goal.at.returns-in_default-clause-calls g c).After-read_map_of
+
+pub returns-in-Some-clause-calls : goal.returns-in-Some-clause-calls
+returns-in-Some-clause-calls g c = first_calls g (goal.at.returns-in-Some-clause-calls g c).After-read_map_of
+
+pub returns-in-Ok-clause-calls : goal.returns-in-Ok-clause-calls
+returns-in-Ok-clause-calls g c = both_calls g (goal.at.returns-in-Ok-clause-calls g c).After-read_map_of-2
+
+pub returns-in-Err-read_map_of-clause-calls : goal.returns-in-Err-read_map_of-clause-calls
+returns-in-Err-read_map_of-clause-calls g c = both_calls g (goal.at.returns-in-Err-read_map_of-clause-calls g c).After-read_map_of-2
+
+-- a log disk whose map is read is there
+log_there : (g : Over) (c : After-read_map_of g) (x : ℕ) → x < 2 → store_out g.R.Rack.slot c.args.store.now ≢ Some x → is_present (g.R.Rack.slot (store_rack c.args.store.now) x).power ≡ true
+log_there g c x low not = ap is_present (c.requires.ready x low not).0
+
+first_there : (g : Over) (c : After-read_map_of g) (lost : ℕ) → lost ≡ c.map_disk-disk.result → is_present (g.R.Rack.slot (store_rack c.args.store.now) lost).power ≡ true
+first_there g c lost is =
+    let log = map_disk_in (store_out g.R.Rack.slot c.args.store.now) in
+    subst (λ (x : ℕ). is_present (g.R.Rack.slot (store_rack c.args.store.now) x).power ≡ true) (sym (is ∙ c.map_disk-disk.ensures ∙ ap map_disk_of c.out-out.ensures))
+    (log_there g c (map_disk_of (store_out g.R.Rack.slot c.args.store.now)) log.0 log.1)
+
+pub returns-in-Some-clause-gone : goal.returns-in-Some-clause-gone
+returns-in-Some-clause-gone g c =
+    let at = (goal.at.returns-in-Some-clause-gone g c).After-read_map_of in
+    record {
+      first = inl (sym c.out-out.ensures ∙ c.in-Some.is);
+      second = record { there = first_there g at c.in-Err.lost c.in-Err.ensures.failed; absent = (c.in-Err.ensures.read.left.failed c.in-Err.lost refl).absent };
+    }
+
+pub returns-in-Err-read_map_of-clause-gone : goal.returns-in-Err-read_map_of-clause-gone
+returns-in-Err-read_map_of-clause-gone g c =
+    let at = (goal.at.returns-in-Err-read_map_of-clause-gone g c).After-read_map_of in
+    let first : c.in-Err.lost ≡ 0 = c.in-Err.ensures.failed ∙ c.map_disk-disk.ensures ∙ ap map_disk_of c.in_default-out.is in
+    let second : c.in-Err-read_map_of.second ≡ 1 = c.in-Err-read_map_of.ensures.failed in
+    let none : store_out g.R.Rack.slot c.args.store.now ≡ None = sym c.out-out.ensures ∙ c.in_default-out.is in
+    let slot_0 = g.R.Rack.slot (store_rack c.args.store.now) in
+    record {
+      first = inr (record {
+        there = first_there g at c.in-Err.lost c.in-Err.ensures.failed;
+        absent = ap (λ (s : Slot). s.power) (c.in-Err-read_map_of.ensures.read.left.others c.in-Err.lost (λ is. let z : Some c.in-Err-read_map_of.second ≡ Some c.in-Err.lost = is in let y : c.in-Err-read_map_of.second ≡ c.in-Err.lost = cc in absurd (omega arith)))
+            ∙ (c.in-Err.ensures.read.left.failed c.in-Err.lost refl).absent;
+      });
+      second = record {
+        there = subst (λ (x : ℕ). is_present (slot_0 x).power ≡ true) (sym second) (log_there g at 1 (omega arith) (λ is. let z : None ≡ Some 1 = sym none ∙ is in cc));
+        absent = (c.in-Err-read_map_of.ensures.read.left.failed c.in-Err-read_map_of.second refl).absent;
+      };
+    }

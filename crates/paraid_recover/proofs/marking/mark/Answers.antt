@@ -1,7 +1,7 @@
 use Rattle.std.specs.Prelude.{◌≡◌, ◌+◌, ℕ, [], Option, Some, IfErr, IfOk}
 use Rattle.paraid_rack.specs.Told.{Ran}
 use Rattle.paraid_image.specs.Out.{named_out}
-use Rattle.paraid_txn.specs.Losses.{IsAlone, IsOutOfCommit, AreTwoDownBeside}
+use Rattle.paraid_txn.specs.Losses.{AreGoneSince, IsAlone, IsOutOfCommit, AreTwoDownBeside}
 use Rattle.paraid_txn.specs.Uses.{EachCall, Uses}
 use Rattle.std.proofs.Common.{arith, ap, subst, ◌∙◌}
 use Rattle.paraid_rack.specs.Disks.{is_present}
@@ -71,6 +71,11 @@ returns-clause-two g c =
     subst (λ (o : Option ℕ). IfErr c.commit.result (AreTwoDownBeside (IsOutOfCommit (λ e. (g.R.Rack.slot c.args.store.now.rack e).power) c.args.store.now.disks c.args.store.now.named o)
     (g.R.Rack.slot c.args.store.now.rack) (g.R.Rack.slot c.commit.new.self.rack))) (ap (λ (n : Meta). named_out n.out) c.next_marked-next.ensures) c.commit.ensures.two
 
+pub returns-clause-gone : goal.returns-clause-gone
+returns-clause-gone g c =
+    subst (λ (o : Option ℕ). IfErr c.commit.result (AreGoneSince (IsOutOfCommit (λ e. (g.R.Rack.slot c.args.store.now.rack e).power) c.args.store.now.disks c.args.store.now.named o)
+    (g.R.Rack.slot c.args.store.now.rack) (g.R.Rack.slot c.commit.new.self.rack))) (ap (λ (n : Meta). named_out n.out) c.next_marked-next.ensures) c.commit.ensures.gone
+
 pub returns-clause-named : goal.returns-clause-named
 returns-clause-named g c = on_ok_weaker c.commit.result (λ is. is ∙ ap (λ (n : Meta). named_out n.out) c.next_marked-next.ensures) c.commit.ensures.named
 
@@ -86,3 +91,6 @@ returns-clause-one g c =
     one_marked c.args.store.now.disks c.args.store.now.named c.args.disk (g.R.Rack.slot c.args.store.now.rack) (g.R.Rack.slot c.commit.new.self.rack)
     (let low = c.requires.low in let same = c.requires.can.array in omega arith) c.requires.absent c.commit.result c.commit.ensures.well
     (subst (λ (o : Option ℕ). IfOk c.commit.result (λ lost. (d : ℕ) → lost ≡ Some d → IsAlone c.args.store.now.disks (IsOutOfCommit (λ e. (g.R.Rack.slot c.args.store.now.rack e).power) c.args.store.now.disks c.args.store.now.named o) d)) named c.commit.ensures.alone)
+
+pub returns-clause-moments : goal.returns-clause-moments
+returns-clause-moments g c = each g (goal.at.returns-clause-moments g c).After-commit

@@ -1,4 +1,4 @@
-use Rattle.std.specs.Prelude.{◌≡◌, ℕ, Option, Some}
+use Rattle.std.specs.Prelude.{◌≡◌, ℕ, Option, Some, None}
 use Rattle.std.proofs.Common.{ap, arith, inl, inr, refl, subst, sym, ◌∙◌}
 use Rattle.paraid_rack.specs.declared.call.Power.{Power}
 use Rattle.paraid_rack.specs.Disks.{is_present}
@@ -10,12 +10,21 @@ use Rattle.paraid_txn.proofs.MeansLemmas.{absent_power}
 use Rattle.paraid_recover.proofs.ShownLemmas.{shown}
 use Rattle.paraid_image.specs.Sides.{LogState}
 use Rattle.paraid_txn.specs.Resume.{log_state}
+use Rattle.paraid_txn.specs.Losses.{AreGoneSince, AreTwoDownBeside, IsOutOfCommit}
 use Rattle.paraid_txn.specs.Stores.{store_out, store_rack}
 use Rattle.paraid_recover.specs.HeldMoments.{Recovers, RecoversHeld}
+use Rattle.paraid_recover.specs.MountCalls.{OnlyMountCalls}
 use Rattle.paraid_recover.specs.Mounted.{IsFit}
 use Rattle.paraid_recover.proofs.EndsLemmas.{ends_resumed}
-use Rattle.paraid_recover.proofs.FitLemmas.{fit_stays}
+use Rattle.paraid_recover.proofs.FitLemmas.{fit_stays, two_named, two_sooner}
+use Rattle.paraid_recover.proofs.GoneLemmas.{gone_beside, gone_sooner, none_comes, out_named_twice}
+use Rattle.paraid_recover.proofs.KeepsDirtyLemmas.{keeps_dirty}
+use Rattle.paraid_recover.proofs.MarkMomentLemmas.{mark_later}
+use Rattle.paraid_recover.proofs.MountCallsLemmas.{mount_then, resume_calls}
+use Rattle.paraid_recover.specs.StandingMetas.{StandsThroughMount}
 use Rattle.paraid_recover.proofs.RecoverLemmas.{grows, resumes_held}
+use Rattle.paraid_recover.proofs.ResumeMetasLemmas.{resumed_metas}
+use Rattle.paraid_recover.proofs.StillLemmas.{commit_still, still_then}
 use Rattle.paraid_recover.proofs.mounting.bring_up.Given.{Over}
 use Rattle.paraid_recover.proofs.mounting.bring_up.Goals as goal
 use Rattle.paraid_recover.proofs.mounting.bring_up.Goals.{After-raise, After-resume}
@@ -88,11 +97,15 @@ returns-in-Ok-raise-clause-ends g c =
       it.1,
       it.2,
       it.5,
-      it.6,
+      (it.6.0, it.6.1, mark_later c.args.standing.now.meta it.6.0 old (g.R.Rack.told (store_rack c.in-Ok.store)) (g.R.Rack.told (store_rack c.raise.new.store)) c.in-Ok.ensures.calls it.6.2),
       λ slots. it.7 slots x s old refl (resumed g at slots),
       λ slots.
           shown slots x s it.0 c.raise.new.table (store_out g.R.Rack.slot c.in-Ok.store) old (g.R.Rack.told (store_rack c.in-Ok.store)) (g.R.Rack.told (store_rack c.raise.new.store)) (resumed g at slots)
           (it.7 slots x s old refl (resumed g at slots)) it.3 (c.raise.ensures.rows ∙ c.requires.rows) c.in-Ok-raise.ensures.map (out_is g at) (stays g at it.0 it.4 it.3),
+      it.8,
+      λ slots.
+          keeps_dirty slots x s it.0 old (g.R.Rack.told (store_rack c.in-Ok.store)) (g.R.Rack.told (store_rack c.raise.new.store)) (resumed g at slots) c.in-Ok.ensures.laid
+          (it.7 slots x s old refl (resumed g at slots)) it.3 c.in-Ok-raise.ensures.map.far (stays g at it.0 it.4 it.3),
     )
 
 pub returns-in-Err-raise-clause-refused : goal.returns-in-Err-raise-clause-refused
@@ -101,3 +114,92 @@ returns-in-Err-raise-clause-refused g c slots =
     let s = log_state c.args.standing.now.gate_open c.args.standing.now.meta c.args.batch in
     subst (λ (r : _). RecoversHeld slots c.args.standing.now.side s (g.R.Rack.told c.args.rack) (g.R.Rack.told r)) (sym c.close.ensures)
     (c.raise.ensures.holds slots c.args.standing.now.side s (g.R.Rack.told c.args.rack) refl (resumed g at slots))
+
+-- the calls are those of a mount
+pub returns-in-Err-clause-refused_allowed : goal.returns-in-Err-clause-refused_allowed
+returns-in-Err-clause-refused_allowed g c = resume_calls c.args.standing.now.meta (g.R.Rack.told c.args.rack) (g.R.Rack.told c.in-Err.refused.rack) c.args.batch c.in-Err.ensures.refused_calls
+
+all_allowed : (g : Over) (c : After-raise g) → OnlyMountCalls c.args.standing.now.meta (g.R.Rack.told c.args.rack) (g.R.Rack.told (store_rack c.raise.new.store))
+all_allowed g c =
+    let m = c.args.standing.now.meta in
+    let told_1 = g.R.Rack.told (store_rack c.in-Ok.store) in
+    mount_then m (g.R.Rack.told c.args.rack) told_1 (g.R.Rack.told (store_rack c.raise.new.store)) (resume_calls m (g.R.Rack.told c.args.rack) told_1 c.args.batch c.in-Ok.ensures.calls) c.raise.ensures.allowed
+
+pub returns-in-Ok-raise-clause-allowed : goal.returns-in-Ok-raise-clause-allowed
+returns-in-Ok-raise-clause-allowed g c = all_allowed g (goal.at.returns-in-Ok-raise-clause-allowed g c).After-raise
+
+pub returns-in-Err-raise-clause-refused_allowed : goal.returns-in-Err-raise-clause-refused_allowed
+returns-in-Err-raise-clause-refused_allowed g c =
+    subst (λ (r : _). OnlyMountCalls c.args.standing.now.meta (g.R.Rack.told c.args.rack) (g.R.Rack.told r)) (sym c.close.ensures) (all_allowed g (goal.at.returns-in-Err-raise-clause-refused_allowed g c).After-raise)
+
+-- which meta stands
+pub returns-in-Err-clause-refused_metas : goal.returns-in-Err-clause-refused_metas
+returns-in-Err-clause-refused_metas g c =
+    let s = said g (goal.at.returns-in-Err-clause-refused_metas g c).After-resume in
+    let old = g.R.Rack.told c.args.rack in
+    let new = g.R.Rack.told c.in-Err.refused.rack in
+    record {
+      foreseen = λ slots. resumed_metas slots c.args.standing.now.side s old new c.in-Err.ensures.refused;
+      settled = new;
+      still = commit_still c.args.standing.now.meta c.args.batch old new c.in-Err.ensures.refused_calls;
+      powers = inl refl;
+    }
+
+all_metas : (g : Over) (c : After-raise g)
+    → StandsThroughMount c.args.standing.now.side (log_state c.args.standing.now.gate_open c.args.standing.now.meta c.args.batch) (g.R.Rack.told c.args.rack) (g.R.Rack.told (store_rack c.raise.new.store))
+all_metas g c =
+    let x = c.args.standing.now.side in
+    let m = c.args.standing.now.meta in
+    let s = log_state c.args.standing.now.gate_open m c.args.batch in
+    let old = g.R.Rack.told c.args.rack in
+    let told_1 = g.R.Rack.told (store_rack c.in-Ok.store) in
+    let it = c.raise.ensures.split in
+    record {
+      foreseen = λ slots. c.raise.ensures.metas slots x s old refl (resumed g c slots) (resumed_metas slots x s old told_1 c.in-Ok.ensures.any_moment);
+      settled = it.0;
+      still = still_then old told_1 it.0 (commit_still m c.args.batch old told_1 c.in-Ok.ensures.calls) it.1;
+      powers = elim it.2 [
+        | inl same ↦ inl same
+        | inr powered ↦ inr (record { mark = powered.0; rests = λ slots. powered.1 slots x s old refl (resumed g c slots); out = powered.2 s refl; calls = powered.3 })
+      ];
+    }
+
+pub returns-in-Ok-raise-clause-metas : goal.returns-in-Ok-raise-clause-metas
+returns-in-Ok-raise-clause-metas g c = all_metas g (goal.at.returns-in-Ok-raise-clause-metas g c).After-raise
+
+pub returns-in-Err-raise-clause-refused_metas : goal.returns-in-Err-raise-clause-refused_metas
+returns-in-Err-raise-clause-refused_metas g c =
+    let s = log_state c.args.standing.now.gate_open c.args.standing.now.meta c.args.batch in
+    subst (λ (r : _). StandsThroughMount c.args.standing.now.side s (g.R.Rack.told c.args.rack) (g.R.Rack.told r)) (sym c.close.ensures) (all_metas g (goal.at.returns-in-Err-raise-clause-refused_metas g c).After-raise)
+
+-- why it is refused, and which disks are absent since
+pub returns-in-Err-clause-two : goal.returns-in-Err-clause-two
+returns-in-Err-clause-two g c =
+    let m = c.args.standing.now.meta in
+    let k = m.setup.geometry.disks in
+    let a = g.R.Rack.slot c.args.rack in
+    let b = g.R.Rack.slot c.in-Err.refused.rack in
+    let power = (λ (e : ℕ). (a e).power) in
+    let named = named_out m.out in
+    let two = c.in-Err.refused.two in
+    let out_0 = IsOutOfCommit power k named named in (
+      two,
+      refl,
+      two_named k named a b two c.in-Err.ensures.two,
+      gone_beside out_0 (IsOutOfCommit power k named None) a b two (out_named_twice power k named) c.in-Err.ensures.refused_gone,
+    )
+
+pub returns-in-Err-raise-clause-two : goal.returns-in-Err-raise-clause-two
+returns-in-Err-raise-clause-two g c =
+    let m = c.args.standing.now.meta in
+    let k = m.setup.geometry.disks in
+    let a = g.R.Rack.slot c.args.rack in
+    let b = g.R.Rack.slot (store_rack c.in-Ok.store) in
+    let d = g.R.Rack.slot (store_rack c.raise.new.store) in
+    let out = IsOutOfCommit (λ e. (a e).power) k (named_out m.out) None in
+    let two = c.in-Err-raise.two in (
+      two,
+      refl,
+      subst (λ (r : _). AreTwoDownBeside out a (g.R.Rack.slot r) two) (sym c.close.ensures) (two_sooner k (named_out m.out) a b d two c.in-Ok.ensures.each c.in-Ok.ensures.powers.no_fall c.raise.ensures.later c.in-Err-raise.ensures.two),
+      subst (λ (r : _). AreGoneSince out a (g.R.Rack.slot r) two) (sym c.close.ensures) (gone_sooner k (named_out m.out) a b d (none_comes a b c.in-Ok.ensures.powers) c.raise.ensures.absent two c.in-Err-raise.ensures.gone),
+    )

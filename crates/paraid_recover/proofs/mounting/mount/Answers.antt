@@ -2,9 +2,15 @@ use Rattle.std.specs.Prelude.{ℕ}
 use Rattle.std.proofs.Common.{subst, sym}
 use Rattle.paraid_mount.specs.Order.{IsNotRefused}
 use Rattle.paraid_txn.specs.Resume.{log_state}
+use Rattle.paraid_txn.specs.Stores.{store_rack}
+use Rattle.paraid_dirty.specs.Table.{is_dirty}
+use Rattle.paraid_recover.specs.Mount.{HasSettled}
 use Rattle.paraid_recover.specs.Mount.IsCauseOfRefusal.{examined, two_down}
 use Rattle.paraid_recover.proofs.ExaminedLemmas.{fit_examined}
+use Rattle.paraid_recover.proofs.MountCallsLemmas.{reads_then}
+use Rattle.paraid_recover.proofs.mounting.mount.Given.{Over}
 use Rattle.paraid_recover.proofs.mounting.mount.Goals as goal
+use Rattle.paraid_recover.proofs.mounting.mount.Goals.{In-Ok-bring_up}
 
 pub returns-in-Err-clause-refused : goal.returns-in-Err-clause-refused
 returns-in-Err-clause-refused g c = examined c.in-Err.ensures.refused (record { calls = c.examine.ensures.calls; quiet = c.examine.ensures.quiet })
@@ -17,40 +23,63 @@ bring_up-requires-clause-fit g c =
     c.examine.ensures.powers it.readable.0
     (subst (λ (k : ℕ). IsNotRefused k (g.R.Rack.slot c.examine.new.rack) c.in-Ok-examine.standing.meta c.examine.new.batch) (sym c.examine.ensures.slots) it.served.served) can.in_range can.exists
 
-pub returns-in-Ok-bring_up-clause-told : goal.returns-in-Ok-bring_up-clause-told
-returns-in-Ok-bring_up-clause-told g c =
+-- what is told
+settled : (g : Over) (c : In-Ok-bring_up g)
+    → HasSettled c.in-Ok-examine.standing.side (log_state c.in-Ok-examine.standing.gate_open c.in-Ok-examine.standing.meta c.examine.new.batch) c.in-Ok-bring_up.mounted.meta
+    (is_dirty c.in-Ok-bring_up.mounted.dirty) (g.R.Rack.told c.args.rack) (g.R.Rack.told (store_rack c.in-Ok-bring_up.mounted.store))
+settled g c =
     let s = c.in-Ok-examine.standing in
-    let ends = c.in-Ok-bring_up.ensures.ends in (
-      s.side,
-      log_state s.gate_open s.meta c.examine.new.batch,
-      record {
-        recovered = record { read = g.R.Rack.told c.examine.new.rack; reads = c.in-Ok-examine.ensures.one; stands = c.in-Ok-examine.ensures.stands; holds = c.in-Ok-bring_up.ensures.holds };
-        standing = ends.0;
-        lost = ends.1;
-        is = ends.2;
-        version_is = ends.3;
-        mark = ends.4.0;
-        standing_is = ends.4.1;
-        ends = ends.5;
-        map = ends.6;
-      },
-    )
+    let ends = c.in-Ok-bring_up.ensures.ends in
+    record {
+      recovered = record {
+        read = g.R.Rack.told c.examine.new.rack;
+        reads = c.in-Ok-examine.ensures.one;
+        first_calls = c.examine.ensures.calls;
+        later_calls = c.in-Ok-bring_up.ensures.allowed;
+        calls = reads_then s.meta (g.R.Rack.told c.args.rack) (g.R.Rack.told c.examine.new.rack) (g.R.Rack.told (store_rack c.in-Ok-bring_up.mounted.store)) c.examine.ensures.calls c.in-Ok-bring_up.ensures.allowed;
+        stands = c.in-Ok-examine.ensures.stands;
+        holds = c.in-Ok-bring_up.ensures.holds;
+        metas = c.in-Ok-bring_up.ensures.metas;
+      };
+      standing = ends.0;
+      lost = ends.1;
+      is = ends.2;
+      version_is = ends.3;
+      mark = ends.4.0;
+      standing_is = ends.4.1;
+      mark_is = ends.4.2;
+      lost_is = ends.7;
+      ends = ends.5;
+      map = ends.6;
+      cells = ends.8;
+    }
+
+pub returns-in-Ok-bring_up-clause-served : goal.returns-in-Ok-bring_up-clause-served
+unfolding settled
+returns-in-Ok-bring_up-clause-served g c =
+    let s = c.in-Ok-examine.standing in
+    record {
+      side = s.side;
+      said = log_state s.gate_open s.meta c.examine.new.batch;
+      settled = settled g (goal.at.returns-in-Ok-bring_up-clause-served g c).In-Ok-bring_up;
+      read = g.R.Rack.slot c.examine.new.rack;
+      agrees = g.met.R.Rack.agrees c.examine.new.rack;
+      examined = c.in-Ok-examine.ensures.ok;
+    }
 
 pub returns-clause-refused : goal.returns-clause-refused
 returns-clause-refused g c =
     let s = c.in-Ok-examine.standing in
     let two = c.in-Err-bring_up.ensures.two in
     two_down (g.R.Rack.slot c.examine.new.rack) s.side (log_state s.gate_open s.meta c.examine.new.batch) two.0
-    (record { read = g.R.Rack.told c.examine.new.rack; reads = c.in-Ok-examine.ensures.one; stands = c.in-Ok-examine.ensures.stands; holds = c.in-Err-bring_up.ensures.refused })
-    c.in-Ok-examine.ensures.ok two.1 two.2
-
-pub returns-in-Ok-bring_up-clause-served : goal.returns-in-Ok-bring_up-clause-served
-returns-in-Ok-bring_up-clause-served g c =
-    let s = c.in-Ok-examine.standing in (
-      g.R.Rack.slot c.examine.new.rack,
-      g.R.Rack.told c.examine.new.rack,
-      s.side,
-      log_state s.gate_open s.meta c.examine.new.batch,
-      c.in-Ok-examine.ensures.one,
-      c.in-Ok-examine.ensures.ok,
-    )
+    (record {
+      read = g.R.Rack.told c.examine.new.rack;
+      reads = c.in-Ok-examine.ensures.one;
+      first_calls = c.examine.ensures.calls;
+      later_calls = c.in-Err-bring_up.ensures.refused_allowed;
+      calls = reads_then s.meta (g.R.Rack.told c.args.rack) (g.R.Rack.told c.examine.new.rack) (g.R.Rack.told c.in-Err-bring_up.refused.rack) c.examine.ensures.calls c.in-Err-bring_up.ensures.refused_allowed;
+      stands = c.in-Ok-examine.ensures.stands;
+      holds = c.in-Err-bring_up.ensures.refused;
+      metas = c.in-Err-bring_up.ensures.refused_metas;
+    })
+    (g.met.R.Rack.agrees c.examine.new.rack) c.in-Ok-examine.ensures.ok two.1 two.2 two.3

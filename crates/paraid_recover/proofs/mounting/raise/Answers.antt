@@ -1,19 +1,28 @@
 use Rattle.std.specs.Prelude.{◌≡◌, ℕ, length, Option, None}
-use Rattle.std.proofs.Common.{ap, refl, subst, sym, ◌∙◌}
-use Rattle.paraid_rack.specs.Trail.{Trail}
+use Rattle.std.proofs.Common.{ap, inl, inr, refl, subst, sym, ◌∙◌}
+use Rattle.paraid_rack.specs.Told.{Ran}
+use Rattle.paraid_rack.specs.Trail.{Trail, now}
 use Rattle.paraid_record.specs.declared.meta.Meta.{Meta}
 use Rattle.paraid_record.specs.declared.meta.Setup.{Setup}
 use Rattle.paraid_image.specs.Out.{named_out}
 use Rattle.paraid_image.specs.Sides.{LogState}
-use Rattle.paraid_txn.specs.Losses.{IsOutOfCommit, AreTwoDownBeside}
+use Rattle.paraid_txn.specs.Losses.{AreGoneSince, IsOutOfCommit, AreTwoDownBeside}
+use Rattle.paraid_txn.specs.Uses.{EachCall}
 use Rattle.paraid_txn.specs.Stores.{store_out, store_rack}
 use Rattle.paraid_recover.specs.HeldMoments.{EndsHeld, IsOutAtEnd, Recovers, RecoversHeld}
+use Rattle.paraid_recover.specs.MountCalls.{OnlyMountCalls}
 use Rattle.paraid_recover.specs.RecoveryMark.{to_mark, with_mark}
 use Rattle.paraid_recover.specs.Mounted.{IsServable, with_loss}
 use Rattle.paraid_dirty.specs.Table.{is_dirty}
 use Rattle.paraid_recover.specs.Powers.{IsPowerCall}
 use Rattle.paraid_recover.proofs.FarLemmas.{far_ran, map_on, turn_far}
+use Rattle.paraid_recover.proofs.MarkMomentLemmas.{mark_by_slots, mark_sooner}
+use Rattle.paraid_recover.proofs.GoneLemmas.{gone_beside, gone_sooner, none_comes, out_marked, stays_absent}
+use Rattle.paraid_recover.proofs.MountCallsLemmas.{mount_then, power_calls}
 use Rattle.paraid_recover.proofs.ServableLemmas.{disks_marked, names_stay, servable, two_marked, who_is_out}
+use Rattle.paraid_recover.specs.StandingMetas.{StandsInMoments}
+use Rattle.paraid_recover.specs.StandingMetas.StandsForeseen.{marked}
+use Rattle.paraid_recover.proofs.RestMetasLemmas.{turns_metas}
 use Rattle.paraid_recover.proofs.TurnsLemmas.{turns_end, turns_hold}
 use Rattle.paraid_recover.proofs.mounting.raise.Given.{Over}
 use Rattle.paraid_recover.proofs.mounting.raise.Goals as goal
@@ -95,8 +104,14 @@ returns-clause-ends g c =
       setup_is g at,
       λ d name. ap (λ (x : Meta). named_out x.out) given.1 ∙ names_stay c.args.meta.now given.0 (λ e is. given.3 e is) d name,
       c.in-Ok.ensures.version,
-      (given.0, given.1),
+      (
+        given.0,
+        given.1,
+        mark_sooner c.args.meta.now given.0 (g.R.Rack.told (store_rack c.args.store.now)) (g.R.Rack.told (store_rack c.settle.new.store)) (g.R.Rack.told (store_rack c.power_disks.new.store)) given.4
+            c.power_disks.ensures.calls,
+      ),
       ends g at,
+      λ t tells. mark_by_slots (now t) (g.R.Rack.slot (store_rack c.power_disks.new.store)) c.in-Ok.standing (g.met.R.Rack.agrees (store_rack c.power_disks.new.store) t tells),
     )
 
 pub returns-clause-map : goal.returns-clause-map
@@ -106,3 +121,76 @@ returns-clause-map g c =
     let told_2 = g.R.Rack.told (store_rack c.power_disks.new.store) in
     map_on c.args.meta.now.setup.geometry (store_out g.R.Rack.slot c.args.store.now) (is_dirty c.settle.new.table) told_0 told_1 told_2
     (far_ran (IsPowerCall c.in-Ok.standing) told_1 told_2 (turn_far c.in-Ok.standing) c.power_disks.ensures.calls) c.in-Ok.ensures.map
+
+-- the calls are those of a mount
+allowed : (g : Over) (c : After-power_disks g) → OnlyMountCalls c.args.meta.now (g.R.Rack.told (store_rack c.args.store.now)) (g.R.Rack.told (store_rack c.power_disks.new.store))
+allowed g c =
+    let m = c.args.meta.now in
+    let given = c.in-Ok.ensures.given in
+    let told_1 = g.R.Rack.told (store_rack c.settle.new.store) in
+    let told_2 = g.R.Rack.told (store_rack c.power_disks.new.store) in
+    mount_then m (g.R.Rack.told (store_rack c.args.store.now)) told_1 told_2 c.settle.ensures.allowed
+    (power_calls m told_1 told_2 given.0 (λ d e is. given.3 d is e) (subst (λ (x : Meta). Ran told_1 told_2 (EachCall (IsPowerCall x))) given.1 c.power_disks.ensures.calls))
+
+pub returns-in-Err-power_disks-clause-allowed : goal.returns-in-Err-power_disks-clause-allowed
+returns-in-Err-power_disks-clause-allowed g c = allowed g (goal.at.returns-in-Err-power_disks-clause-allowed g c).After-power_disks
+
+pub returns-clause-allowed : goal.returns-clause-allowed
+returns-clause-allowed g c = allowed g (goal.at.returns-clause-allowed g c).After-power_disks
+
+-- which meta stands at each moment
+metas : (g : Over) (c : After-power_disks g) (slots x : ℕ) (said : LogState) (old : Option Trail) → said.meta ≡ c.args.meta.now → Recovers slots x said old (g.R.Rack.told (store_rack c.args.store.now))
+    → StandsInMoments slots x said old (g.R.Rack.told (store_rack c.args.store.now)) → StandsInMoments slots x said old (g.R.Rack.told (store_rack c.power_disks.new.store))
+metas g c slots x said old is r before =
+    let given = c.in-Ok.ensures.given in
+    turns_metas slots x said c.in-Ok.standing old (g.R.Rack.told (store_rack c.settle.new.store)) (g.R.Rack.told (store_rack c.power_disks.new.store)) (disks_said g c said is) (who g c said is)
+    c.power_disks.ensures.calls (c.settle.ensures.holds slots x said old is r) (c.in-Ok.ensures.ends slots x said old is r)
+    (λ s i. marked given.0 (given.1 ∙ ap (λ (m : Meta). with_mark m given.0) (sym is))) (c.settle.ensures.metas slots x said old is r before)
+
+pub returns-in-Err-power_disks-clause-metas : goal.returns-in-Err-power_disks-clause-metas
+returns-in-Err-power_disks-clause-metas g c = metas g (goal.at.returns-in-Err-power_disks-clause-metas g c).After-power_disks
+
+pub returns-clause-metas : goal.returns-clause-metas
+returns-clause-metas g c = metas g (goal.at.returns-clause-metas g c).After-power_disks
+
+-- where the disks begin to be powered
+pub returns-in-Err-clause-split : goal.returns-in-Err-clause-split
+returns-in-Err-clause-split g c = (g.R.Rack.told (store_rack c.settle.new.store), c.settle.ensures.still, inl refl)
+
+powers : (g : Over) (c : After-power_disks g) → (mark : Option ℕ)
+    × ((slots x : ℕ) (said : LogState) (old : Option Trail) → said.meta ≡ c.args.meta.now → Recovers slots x said old (g.R.Rack.told (store_rack c.args.store.now))
+    → EndsHeld slots x said (with_mark c.args.meta.now mark) old (g.R.Rack.told (store_rack c.settle.new.store)))
+    × ((said : LogState) → said.meta ≡ c.args.meta.now → IsOutAtEnd said (with_mark c.args.meta.now mark) (g.R.Rack.told (store_rack c.settle.new.store)))
+    × Ran (g.R.Rack.told (store_rack c.settle.new.store)) (g.R.Rack.told (store_rack c.power_disks.new.store)) (EachCall (IsPowerCall (with_mark c.args.meta.now mark)))
+powers g c =
+    let given = c.in-Ok.ensures.given in
+    let told_1 = g.R.Rack.told (store_rack c.settle.new.store) in (
+      given.0,
+      λ slots x said old is r. subst (λ (m : Meta). EndsHeld slots x said m old told_1) given.1 (c.in-Ok.ensures.ends slots x said old is r),
+      λ said is. subst (λ (m : Meta). IsOutAtEnd said m told_1) given.1 (who g c said is),
+      subst (λ (m : Meta). Ran told_1 (g.R.Rack.told (store_rack c.power_disks.new.store)) (EachCall (IsPowerCall m))) given.1 c.power_disks.ensures.calls,
+    )
+
+pub returns-in-Err-power_disks-clause-split : goal.returns-in-Err-power_disks-clause-split
+returns-in-Err-power_disks-clause-split g c =
+    (g.R.Rack.told (store_rack c.settle.new.store), c.settle.ensures.still, inr (powers g (goal.at.returns-in-Err-power_disks-clause-split g c).After-power_disks))
+
+pub returns-clause-split : goal.returns-clause-split
+returns-clause-split g c = (g.R.Rack.told (store_rack c.settle.new.store), c.settle.ensures.still, inr (powers g (goal.at.returns-clause-split g c).After-power_disks))
+
+-- which disks are absent since, where two are down
+pub returns-in-Err-power_disks-clause-gone : goal.returns-in-Err-power_disks-clause-gone
+returns-in-Err-power_disks-clause-gone g c =
+    let m = c.args.meta.now in
+    let given = c.in-Ok.ensures.given in
+    let a = g.R.Rack.slot (store_rack c.args.store.now) in
+    let b = g.R.Rack.slot (store_rack c.settle.new.store) in
+    let d = g.R.Rack.slot (store_rack c.power_disks.new.store) in
+    let k = m.setup.geometry.disks in
+    let power = (λ (e : ℕ). (b e).power) in
+    let two = c.in-Err-power_disks.two in
+    let marked_is = with_mark m given.0 in
+    gone_sooner k (named_out m.out) a b d (none_comes a b c.settle.ensures.powers) (λ e. stays_absent b d e (λ x. (c.power_disks.ensures.turned x).there)) two
+    (gone_beside (IsOutOfCommit power k (named_out marked_is.out) None) (IsOutOfCommit power k (named_out m.out) None) b d two (out_marked m given.0 power given.2)
+    (subst (λ (x : ℕ). AreGoneSince (IsOutOfCommit power x (named_out marked_is.out) None) b d two) (ap (λ (s : Setup). s.geometry.disks) (disks_marked m given.0))
+    (subst (λ (x : Meta). AreGoneSince (IsOutOfCommit power x.setup.geometry.disks (named_out x.out) None) b d two) given.1 c.in-Err-power_disks.ensures.gone)))

@@ -1,24 +1,32 @@
-use Rattle.std.specs.Prelude.{◌≡◌, ℕ, Option}
+use Rattle.std.specs.Prelude.{◌≡◌, ℕ, Option, Some, None}
 use Rattle.std.proofs.Common.{ap, refl, subst, sym, ◌∙◌}
 use Rattle.paraid_rack.specs.Slots.{Slot}
 use Rattle.paraid_rack.specs.Told.{Ran}
-use Rattle.paraid_rack.specs.Trail.{Trail}
+use Rattle.paraid_rack.specs.Trail.{Trail, now}
 use Rattle.paraid_record.specs.declared.meta.Meta.{Meta}
 use Rattle.paraid_image.specs.Out.{first_absent, named_out, or_else}
 use Rattle.paraid_image.specs.Sides.{LogState}
-use Rattle.paraid_txn.specs.Losses.{AreFailedOrWell, IsOneOut, OnlyLosesSlots}
+use Rattle.paraid_txn.specs.Losses.{AreFailedOrWell, AreGoneSince, IsOneOut, IsOutOfCommit, OnlyLosesSlots}
 use Rattle.paraid_txn.specs.Stores.{store_out, store_rack}
 use Rattle.paraid_txn.specs.Uses.{EachCall}
 use Rattle.paraid_view.proofs.TwoLemmas.{left_spared}
+use Rattle.paraid_recover.specs.EndOfMount.{IsMarkAtMoment}
 use Rattle.paraid_recover.specs.HeldMoments.{Recovers}
+use Rattle.paraid_recover.proofs.MarkMomentLemmas.{mark_before, mark_by_slots, mark_later}
+use Rattle.paraid_recover.specs.MountCalls.{OnlyMountCalls}
 use Rattle.paraid_recover.specs.RecoveryMark.{to_mark}
 use Rattle.paraid_recover.specs.Mounted.{IsFit}
 use Rattle.paraid_dirty.specs.Table.{is_dirty}
-use Rattle.paraid_recover.specs.Quiet.{IsInLog, IsReadOrSync}
+use Rattle.paraid_recover.specs.Quiet.{IsInLog, IsReadOrSync, IsStill}
 use Rattle.paraid_recover.proofs.FarLemmas.{far_ran, log_far, map_on, map_read, quiet_far}
 use Rattle.paraid_recover.proofs.FitLemmas.{each_then, fit_stays, fit_with_mark, map_ready, marked_absent, marks, one_read, quiet_reads, quiet_syncs, spared_both, two_by_out, two_at, two_sooner}
+use Rattle.paraid_recover.proofs.GoneLemmas.{gone_beside, gone_sooner, none_comes, out_by_name, out_unmarked, stays_absent}
+use Rattle.paraid_recover.proofs.MountCallsLemmas.{map_calls, mount_then, sync_calls}
 use Rattle.paraid_recover.proofs.RenewLemmas.{version_marked}
+use Rattle.paraid_recover.specs.StandingMetas.{StandsInMoments}
 use Rattle.paraid_recover.proofs.QuietCallsLemmas.{quiet_recovers}
+use Rattle.paraid_recover.proofs.RestMetasLemmas.{quiet_metas}
+use Rattle.paraid_recover.proofs.StillLemmas.{log_still, quiet_still, still_then}
 use Rattle.paraid_recover.proofs.mounting.settle.Given.{Over}
 use Rattle.paraid_recover.proofs.mounting.settle.Goals as goal
 use Rattle.paraid_recover.proofs.mounting.settle.Goals.{After-mark_out, After-read_map, After-sync_all}
@@ -136,6 +144,20 @@ one_out g c =
 fits : (g : Over) (c : After-mark_out g) → IsFit (g.R.Rack.slot_count (store_rack c.args.store.now)) (g.R.Rack.slot (store_rack c.sync_all.new.self)) c.args.meta.now
 fits g c = fit_stays _ _ _ c.args.meta.now (both_spared g c) (one_out g c) c.requires.fit
 
+-- the disk is marked by the powers once all disks were synced
+marked_then : (g : Over) (c : After-mark_out g)
+    → IsMarkAtMoment c.args.meta.now (to_mark (λ d. (g.R.Rack.slot (store_rack c.sync_all.new.self) d).power) c.args.meta.now) (g.R.Rack.told (store_rack c.args.store.now)) (g.R.Rack.told (store_rack c.mark_out.new.store))
+marked_then g c =
+    let m = c.args.meta.now in
+    let mark = to_mark (λ d. (g.R.Rack.slot (store_rack c.sync_all.new.self) d).power) m in
+    let told_0 = g.R.Rack.told (store_rack c.args.store.now) in
+    let told_1 = g.R.Rack.told (store_rack c.read_map.new.store) in
+    let told_2 = g.R.Rack.told (store_rack c.sync_all.new.self) in
+    let told_3 = g.R.Rack.told (store_rack c.mark_out.new.store) in
+    mark_later m mark told_0 told_1 told_3 c.in_default.ensures.read.calls
+    (mark_later m mark told_1 told_2 told_3 c.sync_all.ensures.calls
+    (mark_before m mark told_2 told_3 (λ u tells. mark_by_slots (now u) (g.R.Rack.slot (store_rack c.sync_all.new.self)) m (g.met.R.Rack.agrees (store_rack c.sync_all.new.self) u tells)) c.mark_out.ensures.calls))
+
 pub returns-in-Ok-clause-given : goal.returns-in-Ok-clause-given
 returns-in-Ok-clause-given g c =
     let at = goal.at.returns-in-Ok-clause-given g c in (
@@ -143,6 +165,7 @@ returns-in-Ok-clause-given g c =
       c.in-Ok.ensures.given,
       λ d is. marked_absent _ (slot_3 g at.After-mark_out) c.args.meta.now d c.requires.fit.in_range is c.mark_out.ensures.powers,
       λ d is. (marks _ c.args.meta.now d c.requires.fit.in_range is).2,
+      marked_then g at.After-mark_out,
     )
 
 pub returns-in-Ok-clause-version : goal.returns-in-Ok-clause-version
@@ -203,3 +226,151 @@ returns-in-Ok-clause-map g c =
     (map_on geometry out dirty told_0 told_1 told_2 (far_ran (IsReadOrSync n_1) told_1 told_2 (quiet_far n_1) (quiet_syncs n_1 _ told_1 told_2 c.sync_all.ensures.calls))
     (map_read geometry out c.in_default.field-0 dirty told_0 told_1 (far_ran (IsReadOrSync n_0) told_0 told_1 (quiet_far n_0) (quiet_reads n_0 told_0 told_1 c.in_default.ensures.read.calls))
     (λ e is. (c.in_default.ensures.alone e is).1) c.in_default.ensures.shows))
+
+-- the reads of the map, and the syncs after them, are calls of a mount
+map_allowed : (g : Over) (c : After-read_map g) → OnlyMountCalls c.args.meta.now (g.R.Rack.told (store_rack c.args.store.now)) (g.R.Rack.told (store_rack c.read_map.new.store))
+map_allowed g c =
+    map_calls c.args.meta.now (g.R.Rack.told (store_rack c.args.store.now)) (g.R.Rack.told (store_rack c.read_map.new.store)) (store_out g.R.Rack.slot c.args.store.now)
+    (first_absent (λ d. (g.R.Rack.slot (store_rack c.args.store.now) d).power) c.args.meta.now.setup.geometry.disks) (out_by g c) c.read_map.ensures.calls
+
+sync_allowed : (g : Over) (c : After-sync_all g) → OnlyMountCalls c.args.meta.now (g.R.Rack.told (store_rack c.args.store.now)) (g.R.Rack.told (store_rack c.sync_all.new.self))
+sync_allowed g c =
+    let m = c.args.meta.now in
+    let told_1 = g.R.Rack.told (store_rack c.read_map.new.store) in
+    let told_2 = g.R.Rack.told (store_rack c.sync_all.new.self) in
+    mount_then m (g.R.Rack.told (store_rack c.args.store.now)) told_1 told_2 (map_allowed g (goal.at.After-sync_all g c).After-read_map)
+    (sync_calls m told_1 told_2 c.read_map.new.store.disks _ (c.in_default.ensures.read.same.disks ∙ c.requires.disks) c.gone.ensures c.sync_all.ensures.calls)
+
+all_allowed : (g : Over) (c : After-mark_out g) → OnlyMountCalls c.args.meta.now (g.R.Rack.told (store_rack c.args.store.now)) (g.R.Rack.told (store_rack c.mark_out.new.store))
+all_allowed g c =
+    mount_then c.args.meta.now (g.R.Rack.told (store_rack c.args.store.now)) (g.R.Rack.told (store_rack c.sync_all.new.self)) (g.R.Rack.told (store_rack c.mark_out.new.store))
+    (sync_allowed g (goal.at.After-mark_out g c).After-sync_all) c.mark_out.ensures.allowed
+
+pub returns-in-Err-clause-allowed : goal.returns-in-Err-clause-allowed
+returns-in-Err-clause-allowed g c = map_allowed g (goal.at.returns-in-Err-clause-allowed g c).After-read_map
+
+pub returns-in-Err-sync_all-clause-allowed : goal.returns-in-Err-sync_all-clause-allowed
+returns-in-Err-sync_all-clause-allowed g c = sync_allowed g (goal.at.returns-in-Err-sync_all-clause-allowed g c).After-sync_all
+
+pub returns-in-Ok-clause-allowed : goal.returns-in-Ok-clause-allowed
+returns-in-Ok-clause-allowed g c = all_allowed g (goal.at.returns-in-Ok-clause-allowed g c).After-mark_out
+
+pub returns-in-Err-mark_out-clause-allowed : goal.returns-in-Err-mark_out-clause-allowed
+returns-in-Err-mark_out-clause-allowed g c = all_allowed g (goal.at.returns-in-Err-mark_out-clause-allowed g c).After-mark_out
+
+-- which meta stands once the map was read
+read_metas : (g : Over) (c : After-read_map g) (slots x : ℕ) (said : LogState) (old : Option Trail) → said.meta ≡ c.args.meta.now
+    → Ran (g.R.Rack.told (store_rack c.args.store.now)) (g.R.Rack.told (store_rack c.read_map.new.store)) (EachCall (IsReadOrSync c.args.store.now.disks))
+    → Recovers slots x said old (g.R.Rack.told (store_rack c.args.store.now)) → StandsInMoments slots x said old (g.R.Rack.told (store_rack c.args.store.now))
+    → StandsInMoments slots x said old (g.R.Rack.told (store_rack c.read_map.new.store))
+read_metas g c slots x said old is ran r metas =
+    let told_0 = g.R.Rack.told (store_rack c.args.store.now) in
+    let told_1 = g.R.Rack.told (store_rack c.read_map.new.store) in
+    quiet_metas slots x said old told_0 told_1
+    (subst (λ (n : ℕ). Ran told_0 told_1 (EachCall (IsReadOrSync n))) (on said c.args.meta.now c.args.store.now.disks c.requires.disks is) ran) r metas
+
+pub returns-in-Err-clause-metas : goal.returns-in-Err-clause-metas
+returns-in-Err-clause-metas g c slots x said old is r metas =
+    read_metas g (goal.at.returns-in-Err-clause-metas g c).After-read_map slots x said old is (quiet_reads c.args.store.now.disks _ _ c.in-Err.ensures.two.calls) r metas
+
+-- and once all disks were synced
+synced_metas : (g : Over) (c : After-sync_all g) (slots x : ℕ) (said : LogState) (old : Option Trail) → said.meta ≡ c.args.meta.now → Recovers slots x said old (g.R.Rack.told (store_rack c.args.store.now))
+    → StandsInMoments slots x said old (g.R.Rack.told (store_rack c.args.store.now)) → StandsInMoments slots x said old (g.R.Rack.told (store_rack c.sync_all.new.self))
+synced_metas g c slots x said old is r metas =
+    let told_0 = g.R.Rack.told (store_rack c.args.store.now) in
+    let told_1 = g.R.Rack.told (store_rack c.read_map.new.store) in
+    let told_2 = g.R.Rack.told (store_rack c.sync_all.new.self) in
+    let n_is = on said c.args.meta.now c.args.store.now.disks c.requires.disks is in
+    let reads = quiet_reads c.args.store.now.disks told_0 told_1 c.in_default.ensures.read.calls in
+    quiet_metas slots x said old told_1 told_2
+    (subst (λ (n : ℕ). Ran told_1 told_2 (EachCall (IsReadOrSync n))) (c.in_default.ensures.read.same.disks ∙ n_is) (quiet_syncs c.read_map.new.store.disks _ _ _ c.sync_all.ensures.calls))
+    (quiet_recovers slots x said old told_0 told_1 (subst (λ (n : ℕ). Ran told_0 told_1 (EachCall (IsReadOrSync n))) n_is reads) r)
+    (read_metas g (goal.at.After-sync_all g c).After-read_map slots x said old is reads r metas)
+
+pub returns-in-Err-sync_all-clause-metas : goal.returns-in-Err-sync_all-clause-metas
+returns-in-Err-sync_all-clause-metas g c = synced_metas g (goal.at.returns-in-Err-sync_all-clause-metas g c).After-sync_all
+
+pub returns-in-Ok-clause-metas : goal.returns-in-Ok-clause-metas
+returns-in-Ok-clause-metas g c slots x said old is r metas =
+    let at = (goal.at.returns-in-Ok-clause-metas g c).After-sync_all in
+    c.mark_out.ensures.metas slots x said old is (synced_recovers g at slots x said old is r) (synced_metas g at slots x said old is r metas)
+
+pub returns-in-Err-mark_out-clause-metas : goal.returns-in-Err-mark_out-clause-metas
+returns-in-Err-mark_out-clause-metas g c slots x said old is r metas =
+    let at = (goal.at.returns-in-Err-mark_out-clause-metas g c).After-sync_all in
+    c.mark_out.ensures.metas slots x said old is (synced_recovers g at slots x said old is r) (synced_metas g at slots x said old is r metas)
+
+-- there are only reads, writes and syncs
+map_still : (g : Over) (c : After-read_map g) → Ran (g.R.Rack.told (store_rack c.args.store.now)) (g.R.Rack.told (store_rack c.read_map.new.store)) (EachCall (IsReadOrSync c.args.store.now.disks))
+    → Ran (g.R.Rack.told (store_rack c.args.store.now)) (g.R.Rack.told (store_rack c.read_map.new.store)) (EachCall IsStill)
+map_still g c reads = quiet_still c.args.store.now.disks (g.R.Rack.told (store_rack c.args.store.now)) (g.R.Rack.told (store_rack c.read_map.new.store)) reads
+
+pub returns-in-Err-clause-still : goal.returns-in-Err-clause-still
+returns-in-Err-clause-still g c = map_still g (goal.at.returns-in-Err-clause-still g c).After-read_map (quiet_reads c.args.store.now.disks _ _ c.in-Err.ensures.two.calls)
+
+sync_still : (g : Over) (c : After-sync_all g) → Ran (g.R.Rack.told (store_rack c.args.store.now)) (g.R.Rack.told (store_rack c.sync_all.new.self)) (EachCall IsStill)
+sync_still g c =
+    let told_0 = g.R.Rack.told (store_rack c.args.store.now) in
+    let told_1 = g.R.Rack.told (store_rack c.read_map.new.store) in
+    let told_2 = g.R.Rack.told (store_rack c.sync_all.new.self) in
+    still_then told_0 told_1 told_2 (map_still g (goal.at.After-sync_all g c).After-read_map (quiet_reads c.args.store.now.disks told_0 told_1 c.in_default.ensures.read.calls))
+    (quiet_still c.read_map.new.store.disks told_1 told_2 (quiet_syncs c.read_map.new.store.disks _ told_1 told_2 c.sync_all.ensures.calls))
+
+pub returns-in-Err-sync_all-clause-still : goal.returns-in-Err-sync_all-clause-still
+returns-in-Err-sync_all-clause-still g c = sync_still g (goal.at.returns-in-Err-sync_all-clause-still g c).After-sync_all
+
+all_still : (g : Over) (c : After-mark_out g) → Ran (g.R.Rack.told (store_rack c.args.store.now)) (g.R.Rack.told (store_rack c.mark_out.new.store)) (EachCall IsStill)
+all_still g c =
+    let told_2 = g.R.Rack.told (store_rack c.sync_all.new.self) in
+    let told_3 = g.R.Rack.told (store_rack c.mark_out.new.store) in
+    still_then (g.R.Rack.told (store_rack c.args.store.now)) told_2 told_3 (sync_still g (goal.at.After-mark_out g c).After-sync_all) (log_still c.sync_all.new.self.disks told_2 told_3 c.mark_out.ensures.calls)
+
+pub returns-in-Ok-clause-still : goal.returns-in-Ok-clause-still
+returns-in-Ok-clause-still g c = all_still g (goal.at.returns-in-Ok-clause-still g c).After-mark_out
+
+pub returns-in-Err-mark_out-clause-still : goal.returns-in-Err-mark_out-clause-still
+returns-in-Err-mark_out-clause-still g c = all_still g (goal.at.returns-in-Err-mark_out-clause-still g c).After-mark_out
+
+-- which disks are absent since, where two are down
+abbrev out_at : (g : Over) (c : After-read_map g) → (ℕ → Slot) → Option ℕ → ℕ → Type 0
+out_at g c slot mark = IsOutOfCommit (λ e. (slot e).power) c.args.meta.now.setup.geometry.disks (named_out c.args.meta.now.out) mark
+
+pub returns-in-Err-clause-gone : goal.returns-in-Err-clause-gone
+returns-in-Err-clause-gone g c =
+    let at = (goal.at.returns-in-Err-clause-gone g c).After-read_map in
+    let out = store_out g.R.Rack.slot c.args.store.now in
+    let a = g.R.Rack.slot (store_rack c.args.store.now) in
+    gone_beside (λ d. out ≡ Some d) (out_at g at a None) a (g.R.Rack.slot (store_rack c.read_map.new.store)) _
+    (out_by_name (λ d. (a d).power) c.args.meta.now.setup.geometry.disks (named_out c.args.meta.now.out) out (out_by g at)) c.in-Err.ensures.gone
+
+pub returns-in-Err-sync_all-clause-gone : goal.returns-in-Err-sync_all-clause-gone
+returns-in-Err-sync_all-clause-gone g c =
+    let at = (goal.at.returns-in-Err-sync_all-clause-gone g c).After-sync_all in
+    let same = c.in_default.ensures.read.same in
+    let after = none_comes (slot_1 g at) (slot_2 g at) c.sync_all.ensures.powers in
+    let power = (λ (e : ℕ). (slot_1 g at e).power) in
+    let k = c.args.meta.now.setup.geometry.disks in
+    let two = c.in-Err-sync_all.two in
+    gone_sooner k (named_out c.args.meta.now.out) (slot_0 g at) (slot_1 g at) (slot_2 g at)
+    (none_comes (slot_0 g at) (slot_1 g at) (first_spared g at)) (λ d. stays_absent (slot_1 g at) (slot_2 g at) d after) two
+    (subst (λ (o : Option ℕ). AreGoneSince (IsOutOfCommit power k o None) (slot_1 g at) (slot_2 g at) two) (same.named ∙ c.requires.named)
+    (subst (λ (x : ℕ). AreGoneSince (IsOutOfCommit power x c.read_map.new.store.named None) (slot_1 g at) (slot_2 g at) two) (same.disks ∙ c.requires.disks) c.in-Err-sync_all.ensures.gone))
+
+pub returns-in-Err-sync_all-clause-powers : goal.returns-in-Err-sync_all-clause-powers
+returns-in-Err-sync_all-clause-powers g c = spared_both _ _ _ (first_spared g (goal.at.returns-in-Err-sync_all-clause-powers g c).After-sync_all) c.sync_all.ensures.powers
+
+pub returns-in-Err-mark_out-clause-gone : goal.returns-in-Err-mark_out-clause-gone
+returns-in-Err-mark_out-clause-gone g c =
+    let at = (goal.at.returns-in-Err-mark_out-clause-gone g c).After-mark_out in
+    let m = c.args.meta.now in
+    let a = g.R.Rack.slot (store_rack c.args.store.now) in
+    let b = g.R.Rack.slot (store_rack c.sync_all.new.self) in
+    let power = (λ (e : ℕ). (b e).power) in
+    let mark = to_mark power m in
+    let two = c.in-Err-mark_out.two in
+    let after = none_comes b (slot_3 g at) c.mark_out.ensures.powers in
+    gone_sooner (n g at) (named_out m.out) a b (slot_3 g at) (none_comes a b (both_spared g at)) (λ d. stays_absent b (slot_3 g at) d after) two
+    (gone_beside (IsOutOfCommit power (n g at) (named_out m.out) mark) (IsOutOfCommit power (n g at) (named_out m.out) None) b (slot_3 g at) two
+    (out_unmarked power (n g at) (named_out m.out) mark (λ d is. let it = marks power m d c.requires.fit.in_range is in (it.0, it.1)))
+    (subst (λ (o : Option ℕ). AreGoneSince (IsOutOfCommit power (n g at) o mark) b (slot_3 g at) two) (named_is g at)
+    (subst (λ (k : ℕ). AreGoneSince (IsOutOfCommit power k c.sync_all.new.self.named mark) b (slot_3 g at) two) (disks_is g at) c.in-Err-mark_out.ensures.gone)))

@@ -1,5 +1,5 @@
 use Rattle.std.specs.Prelude.{◌≡◌, ℕ, ◌+◌, ◌<◌, false, [], Some, All, Option}
-use Rattle.std.proofs.Common.{arith, ap, refl, sym, subst, ◌∙◌}
+use Rattle.std.proofs.Common.{arith, ap, inr, refl, sym, subst, ◌∙◌}
 use Rattle.paraid_rack.specs.Disks.{Disks, is_present}
 use Rattle.paraid_rack.specs.Trail.{Trail, now}
 use Rattle.paraid_record.specs.declared.meta.Meta.{Meta}
@@ -9,8 +9,8 @@ use Rattle.paraid_image.specs.Out.{named_out}
 use Rattle.paraid_image.specs.Sides.{Batch, LogState, targets}
 use Rattle.paraid_image.proofs.MarkLemmas.{marked_in_range}
 use Rattle.paraid_image.specs.Rest.{IsAtRest}
-use Rattle.paraid_txn.specs.Commit.{EndsCommitted, IsNext}
-use Rattle.paraid_txn.specs.Losses.{IsOneOut, IsOutOfCommit, AreTwoDownBeside}
+use Rattle.paraid_txn.specs.Commit.{EndsCommitted, IsNext, IsWholeOrAbsent}
+use Rattle.paraid_txn.specs.Losses.{AreGoneSince, IsOneOut, IsOutOfCommit, AreTwoDownBeside}
 use Rattle.paraid_rack.specs.Told.{Ran}
 use Rattle.paraid_txn.specs.Uses.{EachCall, Uses}
 use Rattle.paraid_txn.proofs.CommitPartLemmas.{EachCall-milder, ran_milder}
@@ -18,7 +18,11 @@ use Rattle.paraid_txn.proofs.SyncLemmas.{raised}
 use Rattle.paraid_recover.specs.Quiet.{IsInLog}
 use Rattle.paraid_recover.proofs.OneMarkedLemmas.{in_log}
 use Rattle.paraid_recover.specs.HeldMoments.{EndsHeld, KeepsHeld, Recovers, RecoversHeld}
+use Rattle.paraid_recover.specs.MountCalls.{OnlyMountCalls}
 use Rattle.paraid_recover.specs.RecoveryMark.{of_version_two, with_mark}
+use Rattle.paraid_recover.proofs.MountCallsLemmas.{mark_calls}
+use Rattle.paraid_recover.specs.StandingMetas.{StandsInMoments}
+use Rattle.paraid_recover.proofs.CommitMetasLemmas.{committed_metas}
 use Rattle.paraid_recover.proofs.EndsLemmas.{ends_marked, then_marked}
 use Rattle.paraid_recover.proofs.RecoverLemmas.{none_ready}
 use Rattle.paraid_recover.proofs.RenewLemmas.{in_version_two}
@@ -86,6 +90,12 @@ returns-in_err-mark-clause-two g c =
     (subst (λ (o : Option ℕ). AreTwoDownBeside (IsOutOfCommit (λ e. (g.R.Rack.slot c.args.store.now.rack e).power) c.args.store.now.disks c.args.store.now.named o)
     (g.R.Rack.slot c.args.store.now.rack) (g.R.Rack.slot c.mark.new.store.rack) c.in_err-mark.field-0.0) (sym c.in-Some.is ∙ c.unmarked.ensures.value) c.in_err-mark.ensures.two)
 
+pub returns-in_err-mark-clause-gone : goal.returns-in_err-mark-clause-gone
+returns-in_err-mark-clause-gone g c =
+    raised _ _ _ c.from_residual.ensures.1
+    (subst (λ (o : Option ℕ). AreGoneSince (IsOutOfCommit (λ e. (g.R.Rack.slot c.args.store.now.rack e).power) c.args.store.now.disks c.args.store.now.named o)
+    (g.R.Rack.slot c.args.store.now.rack) (g.R.Rack.slot c.mark.new.store.rack) c.in_err-mark.field-0.0) (sym c.in-Some.is ∙ c.unmarked.ensures.value) c.in_err-mark.ensures.gone)
+
 pub returns-clause-ends : goal.returns-clause-ends
 returns-clause-ends g c slots x said old is recovers =
     let at = goal.at.returns-clause-ends g c in
@@ -120,3 +130,36 @@ returns-in_err-mark-clause-calls g c = log_calls g (goal.at.returns-in_err-mark-
 
 pub returns-clause-calls : goal.returns-clause-calls
 returns-clause-calls g c = log_calls g (goal.at.returns-clause-calls g c).After-mark
+
+-- which a mount may make
+allowed : (g : Over) (c : After-mark g) → OnlyMountCalls c.args.meta.now (g.R.Rack.told c.args.store.now.rack) (g.R.Rack.told c.mark.new.store.rack)
+allowed g c =
+    mark_calls c.args.meta.now (g.R.Rack.told c.args.store.now.rack) (g.R.Rack.told c.mark.new.store.rack) c.in-Some.disk c.args.meta.now.epoch
+    (λ e. c.unmarked.ensures.only c.in-Some.disk e c.in-Some.is) c.mark.ensures.calls
+
+pub returns-in_err-mark-clause-allowed : goal.returns-in_err-mark-clause-allowed
+returns-in_err-mark-clause-allowed g c = allowed g (goal.at.returns-in_err-mark-clause-allowed g c).After-mark
+
+pub returns-clause-allowed : goal.returns-clause-allowed
+returns-clause-allowed g c = allowed g (goal.at.returns-clause-allowed g c).After-mark
+
+-- which meta stands in the mark
+metas : (g : Over) (c : After-mark g) (slots x : ℕ) (said : LogState) (old : Option Trail) → said.meta ≡ c.args.meta.now → Recovers slots x said old (g.R.Rack.told c.args.store.now.rack)
+    → StandsInMoments slots x said old (g.R.Rack.told c.args.store.now.rack) → StandsInMoments slots x said old (g.R.Rack.told c.mark.new.store.rack)
+metas g c slots x said old is recovers before =
+    let d = c.in-Some.disk in
+    let mid = g.R.Rack.told c.args.store.now.rack in
+    let new = g.R.Rack.told c.mark.new.store.rack in
+    let after : Meta → Meta = λ m. marked_gone (of_version_two m) d (m.epoch + 1) in
+    committed_metas slots x said old mid new (after said.meta) (Some d) refl refl
+    (λ t tells e name. let same : d ≡ e = (let z : Some d ≡ Some e = name in cc) in
+    inr (subst (λ (k : ℕ). (k < said.meta.setup.geometry.disks) × (is_present ((now t).power k) ≡ false)) same
+    (subst (λ (m : Meta). d < m.setup.geometry.disks) (sym is) (low g c), gone g c t tells)))
+    (next_marked said.meta d (λ e names. c.unmarked.ensures.only d e c.in-Some.is (ap (λ (m : Meta). named_out m.out) (sym is) ∙ names)))
+    before recovers.ends (subst (λ (m : Meta). IsWholeOrAbsent mid new m (after m) []) (sym is) c.mark.ensures.moments)
+
+pub returns-in_err-mark-clause-metas : goal.returns-in_err-mark-clause-metas
+returns-in_err-mark-clause-metas g c = metas g (goal.at.returns-in_err-mark-clause-metas g c).After-mark
+
+pub returns-clause-metas : goal.returns-clause-metas
+returns-clause-metas g c = metas g (goal.at.returns-clause-metas g c).After-mark

@@ -1,20 +1,26 @@
-use Rattle.std.specs.Prelude.{◌≡◌, ◌+◌, ℕ, [], Option, Some}
-use Rattle.std.proofs.Common.{ap, subst, sym, ◌∙◌}
+use Rattle.std.specs.Prelude.{◌≡◌, ◌+◌, ℕ, [], Option, Some, None}
+use Rattle.std.proofs.Common.{ap, arith, inl, refl, subst, sym, ◌∙◌}
+use Rattle.std.proofs.lemmas.Bool.Decides.{nat_tests}
 use Rattle.paraid_rack.specs.Told.{Ran}
 use Rattle.paraid_rack.specs.Trail.{Trail}
 use Rattle.paraid_record.specs.declared.meta.Meta.{Meta}
 use Rattle.paraid_image.specs.Sides.{Batch, LogState}
 use Rattle.paraid_txn.specs.Commit.{EndsCommitted, IsWholeOrAbsent}
-use Rattle.paraid_txn.specs.Losses.{IsAlone, IsOneOut, IsOutOfCommit, AreTwoDownBeside}
+use Rattle.paraid_txn.specs.Losses.{AreGoneSince, IsAlone, IsOneOut, IsOutOfCommit, AreTwoDownBeside}
 use Rattle.paraid_txn.specs.Uses.{EachCall, Uses}
 use Rattle.paraid_txn.proofs.CommitPartLemmas.{EachCall-milder, ran_milder}
 use Rattle.paraid_txn.proofs.SyncLemmas.{raised}
 use Rattle.paraid_recover.specs.HeldMoments.{EndsHeld, Recovers, RecoversHeld}
 use Rattle.paraid_recover.specs.Quiet.{IsInLog}
+use Rattle.paraid_recover.specs.MountCalls.{OnlyMountCalls}
 use Rattle.paraid_recover.specs.RecoveryMark.{of_version_two}
 use Rattle.paraid_recover.proofs.FitLemmas.{two_named}
+use Rattle.paraid_recover.proofs.GoneLemmas.{gone_beside, out_named_twice}
+use Rattle.paraid_recover.proofs.MountCallsLemmas.{no_calls, renew_calls}
 use Rattle.paraid_recover.proofs.OneMarkedLemmas.{in_log}
-use Rattle.paraid_recover.proofs.RenewLemmas.{after, one_kept, renew_ends, renew_recovers}
+use Rattle.paraid_recover.specs.StandingMetas.{StandsInMoments}
+use Rattle.paraid_recover.proofs.CommitMetasLemmas.{committed_metas}
+use Rattle.paraid_recover.proofs.RenewLemmas.{after, next_renewed, one_kept, renew_ends, renew_recovers, renewed_one}
 use Rattle.paraid_recover.proofs.recovery.renew.Given.{Over}
 use Rattle.paraid_recover.proofs.recovery.renew.Goals as goal
 use Rattle.paraid_recover.proofs.recovery.renew.Goals.{After-commit}
@@ -54,6 +60,20 @@ log_calls g c =
 pub returns-in_err-commit-clause-calls : goal.returns-in_err-commit-clause-calls
 returns-in_err-commit-clause-calls g c = log_calls g (goal.at.returns-in_err-commit-clause-calls g c).After-commit
 
+-- which a mount may make
+allowed : (g : Over) (c : After-commit g) → OnlyMountCalls c.args.meta.now (told_0 g c) (told_1 g c)
+allowed g c =
+    renew_calls c.args.meta.now (told_0 g c) (told_1 g c) (subst (λ (b : Batch). Ran (told_0 g c) (told_1 g c) (EachCall (Uses (of_version_two c.args.meta.now) b))) c.requires.empty c.commit.ensures.calls)
+
+pub returns-in_err-commit-clause-allowed : goal.returns-in_err-commit-clause-allowed
+returns-in_err-commit-clause-allowed g c = allowed g (goal.at.returns-in_err-commit-clause-allowed g c).After-commit
+
+pub returns-clause-allowed : goal.returns-clause-allowed
+returns-clause-allowed g c = allowed g (goal.at.returns-clause-allowed g c).After-commit
+
+pub returns-then-meta-ne1-clause-allowed : goal.returns-then-meta-ne1-clause-allowed
+returns-then-meta-ne1-clause-allowed g c = no_calls c.args.meta.now (g.R.Rack.told c.args.store.now.rack)
+
 pub returns-in_err-commit-clause-two : goal.returns-in_err-commit-clause-two
 returns-in_err-commit-clause-two g c =
     let n = c.args.store.now.disks in
@@ -63,6 +83,17 @@ returns-in_err-commit-clause-two g c =
     raised _ _ _ c.from_residual.ensures.1
     (two_named n named a b c.in_err-commit.field-0.0
     (subst (λ (o : Option ℕ). AreTwoDownBeside (IsOutOfCommit (λ e. (a e).power) n named o) a b c.in_err-commit.field-0.0) (sym c.requires.named) c.in_err-commit.ensures.two))
+
+pub returns-in_err-commit-clause-gone : goal.returns-in_err-commit-clause-gone
+returns-in_err-commit-clause-gone g c =
+    let n = c.args.store.now.disks in
+    let named = c.args.store.now.named in
+    let a = g.R.Rack.slot c.args.store.now.rack in
+    let b = g.R.Rack.slot c.commit.new.self.rack in
+    let power = (λ (e : ℕ). (a e).power) in
+    raised _ _ _ c.from_residual.ensures.1
+    (gone_beside (IsOutOfCommit power n named named) (IsOutOfCommit power n named None) a b c.in_err-commit.field-0.0 (out_named_twice power n named)
+    (subst (λ (o : Option ℕ). AreGoneSince (IsOutOfCommit power n named o) a b c.in_err-commit.field-0.0) (sym c.requires.named) c.in_err-commit.ensures.gone))
 
 pub returns-in_err-commit-clause-holds : goal.returns-in_err-commit-clause-holds
 returns-in_err-commit-clause-holds g c = holds g (goal.at.returns-in_err-commit-clause-holds g c).After-commit
@@ -97,3 +128,22 @@ returns-clause-ends g c slots x said old is recovers =
     (subst (λ (n : Meta). EndsHeld slots x said (after n) old (told_1 g at)) is
     (renew_ends slots x said old (told_0 g at) (told_1 g at) recovers.holds recovers.ends (whole g at said.meta is)
     (subst (λ (n : Meta). EndsCommitted (told_0 g at) (told_1 g at) n (after n) []) (sym is) commits)))
+
+-- which meta stands in the commit
+metas : (g : Over) (c : After-commit g) → c.args.meta.now.version ≡ 1 → (slots x : ℕ) (said : LogState) (old : Option Trail) → said.meta ≡ c.args.meta.now → Recovers slots x said old (told_0 g c)
+    → StandsInMoments slots x said old (told_0 g c) → StandsInMoments slots x said old (told_1 g c)
+metas g c one slots x said old is recovers before =
+    committed_metas slots x said old (told_0 g c) (told_1 g c) (after said.meta) None (sym (renewed_one said.meta (ap (λ (m : Meta). m.version) is ∙ one))) refl (λ t tells d name. inl name)
+    (next_renewed said.meta) before recovers.ends (whole g c said.meta is)
+
+pub returns-in_err-commit-clause-metas : goal.returns-in_err-commit-clause-metas
+returns-in_err-commit-clause-metas g c =
+    let not = c.if-meta-ne1.false in
+    let one : c.args.meta.now.version ≡ 1 = grind (arith, nat_tests, not) in
+    metas g (goal.at.returns-in_err-commit-clause-metas g c).After-commit one
+
+pub returns-clause-metas : goal.returns-clause-metas
+returns-clause-metas g c =
+    let not = c.if-meta-ne1.false in
+    let one : c.args.meta.now.version ≡ 1 = grind (arith, nat_tests, not) in
+    metas g (goal.at.returns-clause-metas g c).After-commit one

@@ -3,8 +3,8 @@ use Rattle.paraid_scrub.specs.declared.kind.Kind.TheVariants.{Mirror}
 use Rattle.paraid_scrub.proofs.LookedLemmas.{differs}
 use Rattle.paraid_scrub.proofs.member.is_mirror_off.Goals as goal
 
-pub returns : goal.returns
-returns g c =
+pub returns-clause-shown : goal.returns-clause-shown
+returns-clause-shown g c =
     let a = c.in_ok-read_stored.ensures in
     let b = c.in_ok-read_stored-2.ensures in
     record {

@@ -1,33 +1,24 @@
-use Rattle.std.proofs.Common.{◌≡◌, subst, refl, ℕ, length}
+use Rattle.std.proofs.Common.{◌≡◌, subst, ℕ, length}
 use Rattle.paraid_dirty.specs.Table.{is_dirty}
-use Rattle.paraid_mount.specs.declared.fault.MountFault.TheVariants.{NoMemory}
 use Rattle.paraid_state.specs.MountFaults.{mount_fault_line, mount_fault_status}
-use Rattle.paraid_state.specs.Showing.ShowOutcome.{no_memory, refused, shown}
+use Rattle.paraid_state.specs.Showing.ShowOutcome.{refused, shown}
 use Rattle.paraid_state.specs.States.{status_lines}
 use Rattle.paraid_recover.specs.Mounted.{IsServable}
 use Rattle.paraid_txn.specs.Stores.{disks_of, epoch_of, named_of, store_rack}
 use Rattle.paraid_state.proofs.command.show_state.Goals as goal
 
-pub returns-in_default-clause-shows : goal.returns-in_default-clause-shows
-returns-in_default-clause-shows g c = record {
-  code = mount_fault_status NoMemory;
-  lines = mount_fault_line NoMemory;
-  outcome = no_memory (λ d. refl) refl;
-  ends = c.tell_refusal.ensures.tells;
-}
-
 pub returns-clause-shows : goal.returns-clause-shows
 returns-clause-shows g c = record {
   code = mount_fault_status c.in-Err.field-0.fault;
   lines = mount_fault_line c.in-Err.field-0.fault;
-  outcome = refused c.in-Err.field-0.fault c.in-Err.ensures.refused;
-  ends = c.tell_refusal-in-Err.ensures.tells;
+  outcome = refused c.in-Err.field-0.fault c.in-Err.ensures.cause (λ began at. c.in-Err.ensures.refused began at);
+  ends = c.tell_refusal.ensures.tells;
 }
 
-pub returns-in-Ok-mount-clause-shows : goal.returns-in-Ok-mount-clause-shows
-returns-in-Ok-mount-clause-shows g c =
-    let e = c.in-Ok-mount.ensures in
-    let it = c.in-Ok-mount.field-0 in
+pub returns-in-Ok-clause-shows : goal.returns-in-Ok-clause-shows
+returns-in-Ok-clause-shows g c =
+    let e = c.in-Ok.ensures in
+    let it = c.in-Ok.field-0 in
     let slot = g.R.Rack.slot (store_rack it.store) in
     let rack : c.close.result ≡ store_rack it.store = c.close.ensures in
     rw rack (record {
@@ -39,9 +30,8 @@ returns-in-Ok-mount-clause-shows g c =
         named = named_of it.store;
         rows = length it.dirty;
         servable = subst (λ (n : ℕ). IsServable n slot (epoch_of it.store) (disks_of it.store) (named_of it.store) it.meta (length it.dirty)) e.slots e.servable;
-        side = e.told.0;
-        said = e.told.1;
-        synced = e.told.2;
+        mounted = e.mounted.0;
+        session = λ began at. e.mounted.1 _ began at;
       });
       ends = c.tell_state-status.ensures.tells;
     })

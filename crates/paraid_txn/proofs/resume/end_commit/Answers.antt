@@ -2,9 +2,9 @@ use Rattle.std.specs.Prelude.{◌≡◌, Bool, Some}
 use Rattle.std.proofs.Common.{refl, sym, subst}
 use Rattle.paraid_rack.specs.Disks.{Disks}
 use Rattle.paraid_rack.specs.Trail.{Trail, now}
-use Rattle.paraid_txn.specs.Resume.{StandsWhileResumed, EndsAsCommitted, log_state}
+use Rattle.paraid_txn.specs.Resume.{StandsWhileResumed, EndsAsCommitted, EndsLaid, log_state}
 use Rattle.paraid_txn.specs.CommitStages.{IsSpelled, job}
-use Rattle.paraid_txn.proofs.ResumePromiseLemmas.{closed_resumes, closed_settles, open_resumes, open_settles}
+use Rattle.paraid_txn.proofs.ResumePromiseLemmas.{closed_lays, closed_resumes, closed_settles, open_lays, open_resumes, open_settles}
 use Rattle.paraid_txn.proofs.StoreLemmas.{IsStartReady, start_ready}
 use Rattle.paraid_txn.proofs.CommitPartLemmas.{CommitPart_answer, CommitPart_logs, CommitPart_raised}
 use Rattle.paraid_txn.proofs.resume.end_commit.Given.{Over}
@@ -44,6 +44,13 @@ returns-then-gate_open-clause-done g c =
     (open_settles _ _ _ _ _ (good g at.After-spell_meta-spelled) c.requires.log_disk c.requires.in_array _ _ (ready g at.After-spell_meta-spelled)
     (λ start leads. (c.in_ok-resume_open.ensures.crash _ (good g at.After-spell_meta-spelled start) refl refl refl refl refl leads).done))
 
+pub returns-then-gate_open-clause-laid : goal.returns-then-gate_open-clause-laid
+returns-then-gate_open-clause-laid g c =
+    let at = goal.at.returns-then-gate_open-clause-laid g c in
+    subst (λ (o : Bool). EndsLaid (g.R.Rack.told c.args.rack.now) (g.R.Rack.told c.resume_open.new.rack) c.args.side (log_state o c.args.meta.now c.args.batch.now)) (sym c.if-gate_open.true)
+    (open_lays _ _ _ _ _ (good g at.After-spell_meta-spelled) c.requires.log_disk c.requires.in_array _ _ (ready g at.After-spell_meta-spelled)
+    (λ start leads. (c.in_ok-resume_open.ensures.crash _ (good g at.After-spell_meta-spelled start) refl refl refl refl refl leads).done))
+
 pub returns-in_err-resume_closed-clause-moments : goal.returns-in_err-resume_closed-clause-moments
 returns-in_err-resume_closed-clause-moments g c =
     let at = goal.at.returns-in_err-resume_closed-clause-moments g c in
@@ -63,6 +70,13 @@ returns-clause-done g c =
     let at = goal.at.returns-clause-done g c in
     subst (λ (o : Bool). EndsAsCommitted (g.R.Rack.told c.args.rack.now) (g.R.Rack.told c.resume_closed.new.rack) c.args.side (log_state o c.args.meta.now c.args.batch.now)) (sym c.if-gate_open.false)
     (closed_settles _ _ _ _ _ (good g at.After-spell_meta-spelled) c.requires.log_disk c.requires.in_array _ _ (ready g at.After-spell_meta-spelled) (c.requires.empty c.if-gate_open.false)
+    (λ start. (c.in_ok-resume_closed.ensures.crash _ (good g at.After-spell_meta-spelled start) (sym c.named.ensures) refl).done))
+
+pub returns-clause-laid : goal.returns-clause-laid
+returns-clause-laid g c =
+    let at = goal.at.returns-clause-laid g c in
+    subst (λ (o : Bool). EndsLaid (g.R.Rack.told c.args.rack.now) (g.R.Rack.told c.resume_closed.new.rack) c.args.side (log_state o c.args.meta.now c.args.batch.now)) (sym c.if-gate_open.false)
+    (closed_lays _ _ _ _ _ (good g at.After-spell_meta-spelled) c.requires.log_disk c.requires.in_array _ _ (ready g at.After-spell_meta-spelled) (c.requires.empty c.if-gate_open.false)
     (λ start. (c.in_ok-resume_closed.ensures.crash _ (good g at.After-spell_meta-spelled start) (sym c.named.ensures) refl).done))
 
 pub returns-in_err-resume_open-clause-part : goal.returns-in_err-resume_open-clause-part

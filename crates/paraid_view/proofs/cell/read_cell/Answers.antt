@@ -3,7 +3,7 @@ use Rattle.paraid_dirty.specs.Table.{is_dirty}
 use Rattle.paraid_image.specs.Out.{out_disk}
 use Rattle.paraid_txn.specs.Stores.{disks_of, store_rack}
 use Rattle.paraid_image.proofs.ViewLemmas.{value_same}
-use Rattle.paraid_view.proofs.ReadLemmas.{shows_after}
+use Rattle.paraid_view.proofs.ReadLemmas.{off_nobody, off_same, shows_after}
 use Rattle.paraid_view.proofs.TwoLemmas.{read_beside, two_lost}
 use Rattle.paraid_view.proofs.cell.read_cell.Goals as goal
 
@@ -25,3 +25,19 @@ pub returns-in-Err-read_value-clause-two : goal.returns-in-Err-read_value-clause
 returns-in-Err-read_value-clause-two g c =
     two_lost g.R.Rack.slot_count g.R.Rack.slot g.R.Rack.told (disks_of c.args.store.now) (disks_of c.read_value.new.store) c.in-Err.lost c.in-Err-read_value.second _ c.args.store.now c.read_value.new.store c.read_value-2.new.store
     c.in-Err.ensures.read.same.disks (λ is. c.in-Err-read_value.ensures.failed (ap Some is)) c.in-Err.ensures.read c.in-Err-read_value.ensures.read
+
+pub returns-in-Ok-clause-off : goal.returns-in-Ok-clause-off
+returns-in-Ok-clause-off g c =
+    let none : out_disk (λ e. (g.R.Rack.slot (store_rack c.args.store.now) e).power) c.args.meta.now ≡ None = sym c.out_of-out.ensures ∙ c.in_default-out.is in
+    off_nobody _ _ _ _ none (returns-in-Ok-clause-read g c).calls
+
+pub returns-in-Err-read_value-clause-off : goal.returns-in-Err-read_value-clause-off
+returns-in-Err-read_value-clause-off g c =
+    let none : out_disk (λ e. (g.R.Rack.slot (store_rack c.args.store.now) e).power) c.args.meta.now ≡ None = sym c.out_of-out.ensures ∙ c.in_default-out.is in
+    off_nobody _ _ _ _ none (returns-in-Err-read_value-clause-two g c).calls
+
+pub returns-in_default-clause-off : goal.returns-in_default-clause-off
+returns-in_default-clause-off g c = off_same _ _ _ _ (sym c.out_of-out.ensures) c.read_value.ensures.off
+
+pub returns-in-Some-clause-off : goal.returns-in-Some-clause-off
+returns-in-Some-clause-off g c = off_same _ _ _ _ (sym c.out_of-out.ensures) c.read_value.ensures.off

@@ -44,3 +44,12 @@ returns-clause-value g c =
     let m = c.args.meta.now in
     value f c.args.dirty.now shows some
     ∙ sym (near_soft (seen_by m c.args.dirty.now c.args.out f) c.args.r c.args.d (sym (c.is_hard.ensures.value c.args.out f) ∙ c.if-is_hard.false))) c.read_soft.ensures.value
+
+pub returns-then-is_hard-clause-off : goal.returns-then-is_hard-clause-off
+returns-then-is_hard-clause-off g c =
+    let m = c.args.meta.now in
+    let hard : is_hard (seen_by m c.args.dirty.now c.args.out blank) c.args.r c.args.d ≡ true = sym (c.is_hard.ensures.value c.args.out blank) ∙ c.if-is_hard.true in
+    c.read_laid.ensures.off c.args.out (c.requires.near blank hard)
+
+pub returns-clause-off : goal.returns-clause-off
+returns-clause-off g c = c.read_soft.ensures.off

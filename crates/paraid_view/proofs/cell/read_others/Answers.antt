@@ -2,15 +2,16 @@ use Rattle.std.proofs.Common.{◌++◌, ◌≡◌, ◌∙◌, None, Some, ap, ar
 use Rattle.paraid_base.proofs.SumsLemmas.{others_none}
 use Rattle.paraid_base.specs.Sums.{without, xor_upto}
 use Rattle.paraid_image.specs.Spot.{View}
-use Rattle.paraid_txn.specs.Stores.{disks_of}
+use Rattle.paraid_txn.specs.Stores.{disks_of, store_rack}
 use Rattle.paraid_image.specs.Value.{near}
 use Rattle.paraid_view.specs.Reads.{seen_by}
-use Rattle.paraid_view.proofs.ReadLemmas.{read_failed, read_none, read_then, shows_after, told_before}
+use Rattle.paraid_view.proofs.ReadLemmas.{off_none, off_then, read_failed, read_none, read_then, shows_after, told_before}
 use Rattle.paraid_view.proofs.cell.read_others.Goals as goal
 
 pub loop-d-init : goal.loop-d-init
 loop-d-init g c = record {
   read = read_none g.R.Rack.slot_count g.R.Rack.slot g.R.Rack.told (disks_of c.args.store.now) c.args.store.now;
+  off = off_none (Some c.args.out) (g.R.Rack.told (store_rack c.args.store.now));
   value = λ f shows some. c.zero.ensures ∙ others_none _ _;
 }
 
@@ -26,6 +27,7 @@ loop-d-preserved g c =
     let call = c.in_ok-add_near.ensures in
     record {
       read = read_then g.R.Rack.slot_count g.R.Rack.slot g.R.Rack.told (disks_of c.args.store.now) (disks_of c.loop-d.store) None c.args.store.now c.loop-d.store c.add_near.new.store before.read.same.disks before.read call.read;
+      off = off_then (Some c.args.out) _ _ _ before.off c.add_near.ensures.off;
       value = λ f shows some.
           call.value f (shows_after (disks_of c.args.store.now) _ _ (c.args.batch.now ++ c.args.draft.now) f before.read.calls shows) some (before.value f shows (told_before _ _ _ call.read.calls some));
     }
@@ -35,3 +37,9 @@ returns-clause-value g c f shows some =
     let v : View = seen_by c.args.meta.now c.args.dirty.now (Some c.args.out) f in
     let all : c.loop-d.d ≡ c.args.meta.now.setup.geometry.disks = omega arith in
     c.loop-d.invariant.value f shows some ∙ ap (xor_upto (without (without (near v c.args.r) c.args.out) c.args.skipped)) all
+
+pub returns-in_err-add_near-clause-off : goal.returns-in_err-add_near-clause-off
+returns-in_err-add_near-clause-off g c = off_then (Some c.args.out) _ _ _ c.loop-d.invariant.off c.add_near.ensures.off
+
+pub returns-clause-off : goal.returns-clause-off
+returns-clause-off g c = c.loop-d.invariant.off

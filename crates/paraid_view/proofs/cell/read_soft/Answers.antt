@@ -5,6 +5,7 @@ use Rattle.paraid_base.specs.Soft.{soft_disk, soft_stripe}
 use Rattle.paraid_txn.specs.Stores.{store_rack}
 use Rattle.paraid_image.specs.Value.{stripe_rest}
 use Rattle.paraid_view.specs.Reads.{seen_by}
+use Rattle.paraid_view.proofs.ReadLemmas.{off_same}
 use Rattle.paraid_view.proofs.ValueLemmas.{ok_map, soft_out, soft_there}
 use Rattle.paraid_view.proofs.cell.read_soft.Goals as goal
 
@@ -39,3 +40,9 @@ returns-clause-value g c =
     ∙ ap (f c.soft_of-stripe.result.1) (c.soft_place.ensures.value ∙ ap (soft_place_of m.setup.geometry m.gear) cell.stripe)
     ∙ ap (λ (e : ℕ). f e (soft_place_of m.setup.geometry m.gear (soft_stripe m.setup.geometry.disks m.gear c.args.r c.args.d))) cell.disk
     ∙ sym (soft_there (seen_by m table c.args.out f) c.args.r c.args.d not)) c.read_laid.ensures.value
+
+pub returns-then-is_at-clause-off : goal.returns-then-is_at-clause-off
+returns-then-is_at-clause-off g c = off_same c.args.out _ _ _ (c.is_at.ensures.0 c.if-is_at.true) c.read_rest.ensures.off
+
+pub returns-clause-off : goal.returns-clause-off
+returns-clause-off g c = c.read_laid.ensures.off c.args.out (λ e. false≢true (sym c.if-is_at.false ∙ c.is_at.ensures.1 e))

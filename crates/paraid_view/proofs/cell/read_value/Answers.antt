@@ -4,6 +4,7 @@ use Rattle.paraid_image.specs.Spot.{is_hard}
 use Rattle.paraid_image.specs.Standing.{Contents}
 use Rattle.paraid_image.specs.Value.{far}
 use Rattle.paraid_view.specs.Reads.{seen_by}
+use Rattle.paraid_view.proofs.ReadLemmas.{off_same}
 use Rattle.paraid_view.proofs.ValueLemmas.{far_is, ok_map, value_far, value_near}
 use Rattle.paraid_view.proofs.cell.read_value.Goals.{else-is_at-via-then-is_at+else-is_hard, else-is_at-via-else-is_at}
 use Rattle.paraid_view.proofs.cell.read_value.Goals as goal
@@ -26,3 +27,9 @@ returns-clause-value g c =
       | else-is_at-via-then-is_at+else-is_hard w ↦ false≢true (sym w.if-is_hard.false ∙ w.is_hard.ensures.value c.args.out f ∙ hard)
       | else-is_at-via-else-is_at w ↦ false≢true (sym w.if-is_at.false ∙ c.is_at.ensures.1 out)
     ]
+
+pub returns-then-is_hard-clause-off : goal.returns-then-is_hard-clause-off
+returns-then-is_hard-clause-off g c = off_same c.args.out _ _ _ (c.is_at.ensures.0 c.if-is_at.true) c.read_others.ensures.off
+
+pub returns-clause-off : goal.returns-clause-off
+returns-clause-off g c = c.read_near.ensures.off

@@ -1,7 +1,7 @@
 use Rattle.std.proofs.Common.{◌++◌, ◌≡◌, ◌∙◌, Ok, Err, sym, ap}
 use Rattle.std.specs.Prelude.{is_ok}
 use Rattle.paraid_txn.specs.Stores.{disks_of, store_rack}
-use Rattle.paraid_view.proofs.ReadLemmas.{ran_none, read_one, value_laid}
+use Rattle.paraid_view.proofs.ReadLemmas.{off_none, off_one, ran_none, read_one, value_laid}
 use Rattle.paraid_view.proofs.laid.read_laid.Goals as goal
 
 pub returns-in-Some-clause-value : goal.returns-in-Some-clause-value
@@ -29,3 +29,12 @@ returns-clause-value g c f shows some =
     value_laid (c.args.batch.now ++ c.args.draft.now) f _ _ _ (g.R.Rack.slot (store_rack c.args.store.now)) c.args.disk c.args.place _ (g.met.R.Rack.agrees (store_rack c.args.store.now))
     c.requires.spinning c.requires.within c.requires.past_log (returns-clause-read g c).calls shows some
     (λ t tells. c.in-Ok.ensures.bytes t tells ∙ sym (c.in_default.ensures _))
+
+pub returns-in-Some-clause-off : goal.returns-in-Some-clause-off
+returns-in-Some-clause-off g c out not = off_none out (g.R.Rack.told (store_rack c.args.store.now))
+
+pub returns-in_default-read-clause-off : goal.returns-in_default-read-clause-off
+returns-in_default-read-clause-off g c out not = off_one out _ _ c.args.disk c.args.place (is_ok c.read.result) not c.read.ensures.told
+
+pub returns-clause-off : goal.returns-clause-off
+returns-clause-off g c out not = off_one out _ _ c.args.disk c.args.place (is_ok c.read.result) not c.read.ensures.told

@@ -1,13 +1,14 @@
-use Rattle.std.proofs.Common.{◌++◌, ◌≡◌, ℕ, ◌+◌, ◌∙◌, None, sym, subst}
+use Rattle.std.proofs.Common.{◌++◌, ◌≡◌, ℕ, ◌+◌, ◌∙◌, None, Some, sym, subst}
 use Rattle.paraid_base.proofs.SumsLemmas.{others_none}
 use Rattle.paraid_base.specs.Sums.{without, xor_upto}
-use Rattle.paraid_txn.specs.Stores.{disks_of}
-use Rattle.paraid_view.proofs.ReadLemmas.{read_failed, read_none, read_then, shows_after, told_before}
+use Rattle.paraid_txn.specs.Stores.{disks_of, store_rack}
+use Rattle.paraid_view.proofs.ReadLemmas.{off_none, off_then, read_failed, read_none, read_then, shows_after, told_before}
 use Rattle.paraid_view.proofs.laid.read_rest.Goals as goal
 
 pub loop-disk-init : goal.loop-disk-init
 loop-disk-init g c = record {
   read = read_none g.R.Rack.slot_count g.R.Rack.slot g.R.Rack.told (disks_of c.args.store.now) c.args.store.now;
+  off = off_none (Some c.args.skipped) (g.R.Rack.told (store_rack c.args.store.now));
   value = λ f shows some. c.zero.ensures ∙ others_none _ _;
 }
 
@@ -23,6 +24,7 @@ loop-disk-preserved g c =
     let call = c.in_ok-add_block.ensures in
     record {
       read = read_then g.R.Rack.slot_count g.R.Rack.slot g.R.Rack.told (disks_of c.args.store.now) (disks_of c.loop-disk.store) None c.args.store.now c.loop-disk.store c.add_block.new.store before.read.same.disks before.read call.read;
+      off = off_then (Some c.args.skipped) _ _ _ before.off c.add_block.ensures.off;
       value = λ f shows some.
           let place = c.soft_place-place.ensures.value in
           subst (λ (p : ℕ). c.add_block.new.sum ≡ xor_upto (without (λ e. f e p) c.args.skipped) (c.loop-disk.disk + 1)) place
@@ -30,3 +32,9 @@ loop-disk-preserved g c =
           (subst (λ (p : ℕ). c.loop-disk.into ≡ xor_upto (without (λ e. f e p) c.args.skipped) c.loop-disk.disk) (sym place)
           (before.value f shows (told_before _ _ _ call.read.calls some))));
     }
+
+pub returns-in_err-add_block-clause-off : goal.returns-in_err-add_block-clause-off
+returns-in_err-add_block-clause-off g c = off_then (Some c.args.skipped) _ _ _ c.loop-disk.invariant.off c.add_block.ensures.off
+
+pub returns-clause-off : goal.returns-clause-off
+returns-clause-off g c = c.loop-disk.invariant.off

@@ -1,7 +1,7 @@
-use Rattle.std.proofs.Common.{ℕ, ◌∙◌, Option, ap, sym}
+use Rattle.std.proofs.Common.{◌∙◌, sym}
 use Rattle.paraid_dirty.specs.Table.{is_dirty}
 use Rattle.paraid_image.specs.Standing.{Contents}
-use Rattle.paraid_plan.specs.WriteTargets.{overlaid_blocks, row_rest}
+use Rattle.paraid_plan.specs.WriteTargets.{overlaid_blocks}
 use Rattle.paraid_plan.proofs.RestLemmas.{rest_same}
 use Rattle.paraid_txn.specs.Stores.{disks_of, store_rack}
 use Rattle.paraid_core.specs.Plans.{base_of}

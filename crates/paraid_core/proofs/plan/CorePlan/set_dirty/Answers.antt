@@ -33,6 +33,7 @@ returns-clause-leads g c =
       undone_same = undone_change old.changes c.push.new.self (is_dirty old.dirty) (is_dirty c.turn.new.dirty) change c.args.bit c.push.ensures c.has-was.ensures c.turn.ensures.cells;
       logged = λ are. logged_more _ _ old.changes c.push.new.self change c.turn.ensures.rows c.push.ensures below are;
       calls = stay.calls;
+      off = stay.off;
       left = stay.left;
       over = stay.over;
       below = stay.below;

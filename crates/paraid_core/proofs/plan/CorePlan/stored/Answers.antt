@@ -1,9 +1,13 @@
+use Rattle.std.specs.Prelude.{◌≡◌, ◌≢◌, ℕ, ◌<◌, Some, None}
+use Rattle.std.proofs.Common.{◌∙◌, ap, refl, subst, sym}
 use Rattle.paraid_dirty.specs.Table.{is_dirty}
 use Rattle.paraid_image.specs.Standing.{Contents}
 use Rattle.paraid_plan.specs.WriteTargets.{overlaid_blocks}
 use Rattle.paraid_txn.specs.Stores.{disks_of, store_rack}
 use Rattle.paraid_core.specs.Plans.{base_of}
 use Rattle.paraid_core.proofs.PlanLemmas.{base_same, desk_same, shows_desk}
+use Rattle.paraid_image.specs.Out.{named_out}
+use Rattle.paraid_core.proofs.LeadsLemmas.{leads_read}
 use Rattle.paraid_core.proofs.plan.CorePlan.stored.Goals as goal
 
 pub returns-in_default-clause-ok : goal.returns-in_default-clause-ok
@@ -18,3 +22,18 @@ returns-in_default-clause-same g c some =
     let read = c.in_default.ensures.read in
     desk_same (is_dirty old.dirty) old.draft _ _
     (base_same (disks_of old.store) _ _ (g.R.Rack.slot (store_rack old.store)) (g.R.Rack.slot (store_rack c.read_laid.new.store)) old.batch (g.met.R.Rack.agrees (store_rack old.store)) (g.met.R.Rack.agrees (store_rack c.read_laid.new.store)) read.left read.calls some)
+
+pub returns-in_default-clause-leads : goal.returns-in_default-clause-leads
+returns-in_default-clause-leads g c =
+    let old = c.args.self.now in
+    let serves = c.requires.serves in
+    leads_read g.R.Rack.slot_count g.R.Rack.slot g.R.Rack.told old serves.whole c.read_laid.new.store None c.in_default.ensures.read (c.read_laid.ensures.off (named_out old.meta.out) (λ is. c.requires.not_out (serves.out ∙ is))) (λ e is. cc) old.failed
+    serves.whole
+
+pub returns-clause-leads : goal.returns-clause-leads
+returns-clause-leads g c =
+    let old = c.args.self.now in
+    let serves = c.requires.serves in
+    let not_out : named_out old.meta.out ≢ Some c.args.disk = (λ is. c.requires.not_out (serves.out ∙ is)) in
+    leads_read g.R.Rack.slot_count g.R.Rack.slot g.R.Rack.told old serves.whole c.read_laid.new.store (Some c.in-Err.failed) c.in-Err.ensures.read (c.read_laid.ensures.off (named_out old.meta.out) not_out)
+    (λ e is. let y : c.in-Err.failed ≡ e = cc in (subst (λ (z : ℕ). z < disks_of old.store) y c.in-Err.ensures.below, λ k. not_out (k ∙ ap Some (sym y ∙ c.in-Err.ensures.failed)))) (Some c.in-Err.failed) refl

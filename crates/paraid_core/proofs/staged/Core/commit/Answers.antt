@@ -1,21 +1,24 @@
 use Rattle.std.proofs.Common.{◌≡◌, ℕ, ◌+◌, ◌∙◌, Some, None, sym, ap, subst, Option, ◌<◌}
 use Rattle.paraid_txn.specs.Stores.{disks_of, epoch_of, named_of, store_rack}
 use Rattle.paraid_record.specs.declared.meta.Meta.{Meta}
-use Rattle.paraid_core.proofs.CommitLemmas.{commit_filled, commit_moments, commit_stands}
+use Rattle.paraid_core.proofs.CommitLemmas.{commit_filled, commit_marked, commit_moments, commit_stands, commit_whole, commit_rests}
 use Rattle.std.specs.Prelude.{◌-◌, ◌^◌, ◌⊎◌, length, false, []}
 use Rattle.std.proofs.Common.{arith, inl, inr, refl}
 use Rattle.paraid_rack.specs.Disks.{is_present}
 use Rattle.paraid_rack.specs.Slots.{Slot}
 use Rattle.paraid_txn.specs.Losses.{AreTwoDown}
+use Rattle.paraid_txn.specs.Losses.IsOutOfCommit.{was_named}
 use Rattle.paraid_image.specs.Out.{named_out, or_else}
 use Rattle.paraid_image.specs.Sides.{Batch}
 use Rattle.paraid_core.specs.CoreInvariant.{CanServe, AreSlotsReady, lost_in, meta_with_lost}
-use Rattle.paraid_core.proofs.AfterLemmas.{commit_lost_only, handed, lost_in_low, lost_in_was, ready_after, ready_moved, marked_setup, marked_writes, ready_next, serve_after, two_down}
+use Rattle.paraid_core.proofs.AfterLemmas.{commit_lost_only, handed, lost_in_low, lost_in_was, ready_after, ready_moved, marked_setup, marked_writes, ready_next, serve_after, two_down, lost_in_is}
 use Rattle.paraid_core.specs.Cleaning.{is_cleaned}
 use Rattle.paraid_core.proofs.CleanLemmas.{cleans_marked}
 use Rattle.paraid_core.proofs.ChainLemmas.{down_marked, marked_out}
-use Rattle.paraid_core.proofs.ReadyLemmas.{IsLostOnly}
+use Rattle.paraid_core.proofs.ReadyLemmas.{IsLostOnly, some_is}
 use Rattle.paraid_core.proofs.SinceLemmas.{core_since, core_since_end}
+use Rattle.paraid_core.proofs.KindLemmas.{calls_milder, uses_transfer}
+use Rattle.paraid_core.proofs.LostMarkLemmas.{marks_commit}
 use Rattle.paraid_core.proofs.staged.Core.commit.Given.{Over}
 use Rattle.paraid_core.proofs.staged.Core.commit.Goals as goal
 use Rattle.paraid_core.proofs.staged.Core.commit.Goals.{In_ok-lose}
@@ -82,6 +85,17 @@ module _ (g : Over) (c : In_ok-lose g) where
       by None absent = absent d ld gone
       by (Some e) absent = absent d ld gone
 
+  -- the disk that is lost is the one that was named out, where one was
+  alone_named : (d x : ℕ) → lost ≡ Some d → named_of c.args.self.now.store ≡ Some x → x ≡ d
+  alone_named d x is was = (c.in_ok-lost.ensures.alone d (lost_in_was m c.in_ok-lost.lost d is)).alone x (was_named was)
+
+  known : (x d : ℕ) → named_of c.args.self.now.store ≡ Some x → named_out (meta_with_lost lost m).out ≡ Some d → x ≡ d
+  known x d was is = by lost refl is
+    where
+      by : (o : Option ℕ) → lost ≡ o → named_out (meta_with_lost o m).out ≡ Some d → x ≡ d
+      by None e k = c.requires.ready.one x d was k
+      by (Some e) at k = alone_named e x at was ∙ some_is e d k
+
 pub returns-clause-ready : goal.returns-clause-ready
 returns-clause-ready g c =
     subst (λ (z : Batch). AreSlotsReady (g.R.Rack.slot_count (store_rack c.commit.new.self)) (then g c) (epoch_of c.commit.new.self) (disks_of c.commit.new.self) (named_of c.commit.new.self) c.lose.new.meta (length c.args.self.now.dirty) z) (sym c.clear.ensures)
@@ -91,7 +105,7 @@ pub returns-clause-stands : goal.returns-clause-stands
 returns-clause-stands g c h lo =
     let old = c.args.self.now in
     commit_stands (g.R.Rack.slot_count (store_rack old.store)) (named_of old.store) old.meta old.dirty old.batch old.copied c.requires.copies_synced h lo (epoch_of old.store) c.requires.ready.epoch_is c.requires.ready.in_range c.requires.ready.one
-    c.requires.stays _ _ (slot g c) (then g c) (g.met.R.Rack.agrees (store_rack old.store)) (g.met.R.Rack.agrees (store_rack c.commit.new.self)) (lost g c) (λ d is. lost_in_low old.meta c.in_ok-lost.lost d is) (only g c) (alone g c)
+    _ _ (slot g c) (then g c) (g.met.R.Rack.agrees (store_rack old.store)) (g.met.R.Rack.agrees (store_rack c.commit.new.self)) (lost g c) (known g c) (λ d is. lost_in_low old.meta c.in_ok-lost.lost d is) (only g c) (alone g c)
     c.requires.ready.absent (absent_then g c) _ _ _ _ c.commit.ensures.slots c.in_ok-lost.ensures.named (meta_is g c) c.clear.ensures c.commit.ensures.any_moment
     c.in_ok-lost.ensures.committed
 
@@ -99,7 +113,7 @@ pub returns-clause-filled : goal.returns-clause-filled
 returns-clause-filled g c h lo =
     let old = c.args.self.now in
     commit_filled (g.R.Rack.slot_count (store_rack old.store)) (named_of old.store) old.meta old.dirty old.batch old.copied c.requires.copies_synced h lo (epoch_of old.store) c.requires.ready.epoch_is c.requires.ready.in_range c.requires.ready.one
-    c.requires.stays _ _ (slot g c) (then g c) (g.met.R.Rack.agrees (store_rack old.store)) (g.met.R.Rack.agrees (store_rack c.commit.new.self)) (lost g c) (λ d is. lost_in_low old.meta c.in_ok-lost.lost d is) (only g c) (alone g c)
+    _ _ (slot g c) (then g c) (g.met.R.Rack.agrees (store_rack old.store)) (g.met.R.Rack.agrees (store_rack c.commit.new.self)) (lost g c) (known g c) (λ d is. lost_in_low old.meta c.in_ok-lost.lost d is) (only g c) (alone g c)
     c.requires.ready.absent (absent_then g c) _ _ _ c.commit.ensures.slots c.in_ok-lost.ensures.named (meta_is g c) c.commit.ensures.any_moment
     c.in_ok-lost.ensures.committed
 
@@ -115,6 +129,18 @@ returns-clause-serves g c serves =
     (serve_after _ (slot g c) (then g c) (epoch_of old.store + 1) _ (named_out old.meta.out) after _ [] next c.in_ok-lost.lost (only g c) (alone g c) (alone g c) (λ d is. lost_in_low old.meta c.in_ok-lost.lost d is)
     (record { spins = serves.spins; large = serves.large; stays = λ d is. is })))
 
+pub returns-clause-serves_again : goal.returns-clause-serves_again
+returns-clause-serves_again g c up =
+    let old = c.args.self.now in
+    let after : Meta = record old.meta { epoch = epoch_of old.store + 1 } in
+    let low = c.requires.ready.epoch_is in
+    let epoch = c.requires.epoch in
+    let next = ready_next _ (slot g c) (epoch_of old.store) _ _ old.meta _ _ (omega arith) c.requires.ready in
+    subst (λ (z : Option ℕ). CanServe (then g c) z c.lose.new.meta) (sym c.in_ok-lost.ensures.named)
+    (subst (λ (z : Meta). CanServe (then g c) (named_out old.meta.out) z) (sym (meta_is g c))
+    (serve_after _ (slot g c) (then g c) (epoch_of old.store + 1) _ (named_out old.meta.out) after _ [] next c.in_ok-lost.lost (only g c) (alone g c) (alone g c) (λ d is. lost_in_low old.meta c.in_ok-lost.lost d is)
+    (record { spins = up.spins; large = up.large; stays = λ d is. is })))
+
 pub returns-clause-setup : goal.returns-clause-setup
 returns-clause-setup g c = ap (λ (z : Meta). z.setup) (meta_is g c) ∙ marked_setup (lost g c) _
 
@@ -126,6 +152,9 @@ returns-clause-down g c =
     let old = c.args.self.now in
     down_marked (named_of old.store) old.meta c.in_ok-lost.lost c.lose.new.meta (named_of c.commit.new.self) (slot g c) (then g c) c.requires.ready.one
     (ap (λ (z : Meta). named_out z.out) (meta_is g c) ∙ marked_out (lost g c) old.meta _) c.in_ok-lost.ensures.lost c.in_ok-lost.ensures.named
+
+pub returns-clause-alone : goal.returns-clause-alone
+returns-clause-alone g c x d was is = known g c x d was (sym (ap (λ (z : Meta). named_out z.out) (meta_is g c) ∙ marked_out (lost g c) c.args.self.now.meta _) ∙ is)
 
 pub returns-clause-cleans_less : goal.returns-clause-cleans_less
 returns-clause-cleans_less g c r d is =
@@ -154,6 +183,15 @@ returns-clause-since g c absent h lo = core_since g.R.Rack.slot_count g.R.Rack.s
 pub returns-clause-filled_since : goal.returns-clause-filled_since
 returns-clause-filled_since g c absent h lo = core_since g.R.Rack.slot_count g.R.Rack.slot g.R.Rack.told c.args.self.now c.requires.ready absent (g.met.R.Rack.agrees (store_rack c.args.self.now.store)) _ c.commit.ensures.calls h lo _ _ (returns-clause-filled g c h lo)
 
+pub returns-clause-committed : goal.returns-clause-committed
+returns-clause-committed g c absent h lo =
+    let old = c.args.self.now in
+    core_since g.R.Rack.slot_count g.R.Rack.slot g.R.Rack.told old c.requires.ready absent (g.met.R.Rack.agrees (store_rack old.store)) _ c.commit.ensures.calls h lo _ _
+    (commit_marked (g.R.Rack.slot_count (store_rack old.store)) (named_of old.store) old.meta old.dirty old.batch old.copied c.requires.copies_synced h lo (epoch_of old.store) c.requires.ready.epoch_is c.requires.ready.in_range c.requires.ready.one
+    _ _ (slot g c) (then g c) (g.met.R.Rack.agrees (store_rack old.store)) (g.met.R.Rack.agrees (store_rack c.commit.new.self)) (lost g c) (known g c) (λ d is. lost_in_low old.meta c.in_ok-lost.lost d is) (only g c) (alone g c)
+    c.requires.ready.absent (absent_then g c) _ _ _ c.commit.ensures.slots c.in_ok-lost.ensures.named (meta_is g c) c.commit.ensures.any_moment
+    c.in_ok-lost.ensures.committed)
+
 pub returns-clause-absent : goal.returns-clause-absent
 returns-clause-absent g c d is = by (lost g c) refl (ap (λ (z : Meta). named_out z.out) (sym (meta_is g c)) ∙ is)
   where
@@ -161,3 +199,42 @@ returns-clause-absent g c d is = by (lost g c) refl (ap (λ (z : Meta). named_ou
         → (named_of c.commit.new.self ≡ Some d) ⊎ (is_present (then g c d).power ≡ false)
     by None e k = inl (c.in_ok-lost.ensures.named ∙ k)
     by (Some x) e k = inr (ap is_present ((only g c).gone d (e ∙ k)))
+
+pub returns-clause-calls : goal.returns-clause-calls
+returns-clause-calls g c = calls_milder _ _ (uses_transfer c.args.self.now.meta c.args.self.now.batch) _ _ c.commit.ensures.calls
+
+pub returns-in_err-lost-clause-calls : goal.returns-in_err-lost-clause-calls
+returns-in_err-lost-clause-calls g c = calls_milder _ _ (uses_transfer c.args.self.now.meta c.args.self.now.batch) _ _ c.commit.ensures.calls
+
+pub returns-in_err-lose-clause-calls : goal.returns-in_err-lose-clause-calls
+returns-in_err-lose-clause-calls g c = calls_milder _ _ (uses_transfer c.args.self.now.meta c.args.self.now.batch) _ _ c.commit.ensures.calls
+
+pub returns-clause-whole : goal.returns-clause-whole
+returns-clause-whole g c h lo =
+    let old = c.args.self.now in
+    commit_whole (g.R.Rack.slot_count (store_rack old.store)) (named_of old.store) old.meta old.dirty old.batch old.copied c.requires.copies_synced h lo (epoch_of old.store) c.requires.ready.epoch_is c.requires.ready.in_range c.requires.ready.one _ _ c.commit.ensures.any_moment
+
+pub returns-in_err-lost-clause-whole : goal.returns-in_err-lost-clause-whole
+returns-in_err-lost-clause-whole g c h lo =
+    let old = c.args.self.now in
+    commit_whole (g.R.Rack.slot_count (store_rack old.store)) (named_of old.store) old.meta old.dirty old.batch old.copied c.requires.copies_synced h lo (epoch_of old.store) c.requires.ready.epoch_is c.requires.ready.in_range c.requires.ready.one _ _ c.commit.ensures.any_moment
+
+pub returns-in_err-lose-clause-whole : goal.returns-in_err-lose-clause-whole
+returns-in_err-lose-clause-whole g c h lo =
+    let old = c.args.self.now in
+    commit_whole (g.R.Rack.slot_count (store_rack old.store)) (named_of old.store) old.meta old.dirty old.batch old.copied c.requires.copies_synced h lo (epoch_of old.store) c.requires.ready.epoch_is c.requires.ready.in_range c.requires.ready.one _ _ c.commit.ensures.any_moment
+
+pub returns-clause-marks : goal.returns-clause-marks
+returns-clause-marks g c =
+    let m = c.args.self.now.meta in
+    let low : (d : ℕ) → c.in_ok-lost.lost ≡ Some d → d < m.setup.geometry.disks = (λ d is. subst (λ (z : ℕ). d < z) (sym c.requires.ready.array_is) (c.in_ok-lost.ensures.alone d is).below) in
+    let last = epoch_of c.args.self.now.store in
+    marks_commit m c.lose.new.meta c.in_ok-lost.lost _ _ (last + 1) c.in_ok-lost.ensures.well c.in_ok-lost.ensures.lost
+    (meta_is g c ∙ ap (λ (o : Option ℕ). meta_with_lost o (record m { epoch = last + 1 })) (lost_in_is m c.in_ok-lost.lost low)) low (λ d x is k. c.in_ok-lose.ensures.alone d x is k (low d is))
+
+pub returns-clause-rest : goal.returns-clause-rest
+returns-clause-rest g c h lo =
+    let old = c.args.self.now in
+    commit_rests (g.R.Rack.slot_count (store_rack old.store)) (named_of old.store) old.meta old.dirty old.batch old.copied c.requires.copies_synced h lo (epoch_of old.store) c.requires.ready.epoch_is c.requires.ready.in_range c.requires.ready.one
+    _ _ (slot g c) (then g c) (g.met.R.Rack.agrees (store_rack old.store)) (g.met.R.Rack.agrees (store_rack c.commit.new.self)) (lost g c) (known g c) (λ d is. lost_in_low old.meta c.in_ok-lost.lost d is) (only g c) (alone g c)
+    c.requires.ready.absent (absent_then g c) c.commit.ensures.any_moment c.in_ok-lost.ensures.committed

@@ -1,5 +1,5 @@
 use Rattle.std.proofs.Common.{arith}
-use Rattle.paraid_core.proofs.MarkLemmas.{tick_ready, tick_stands}
+use Rattle.paraid_core.proofs.MarkLemmas.{tick_filled, tick_ready, tick_stands}
 use Rattle.paraid_core.proofs.staged.Core.count_tick.Goals as goal
 
 pub returns-clause-stands : goal.returns-clause-stands
@@ -10,3 +10,6 @@ returns-clause-ready g c =
     let fits = c.requires.ready.in_range.counters.ticks_fit in
     let is = c.saturating_add-self.ensures in
     tick_ready _ _ _ _ _ c.args.self.now.meta _ _ c.saturating_add-self.result (grind arith) (grind arith) c.requires.ready
+
+pub returns-clause-filled : goal.returns-clause-filled
+returns-clause-filled g c h lo = tick_filled g.R.Rack.slot_count g.R.Rack.told c.args.self.now c.requires.ready.in_range _ h lo

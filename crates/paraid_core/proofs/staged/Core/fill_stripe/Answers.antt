@@ -1,5 +1,5 @@
 use Rattle.std.specs.Prelude.{ℕ, ◌+◌, ◌<◌, None}
-use Rattle.std.proofs.Common.{◌∙◌, sym, ap, subst}
+use Rattle.std.proofs.Common.{◌∙◌, sym, ap, subst, ◌≡◌, Some, refl}
 use Rattle.paraid_moves.specs.MoveMetas.{copied_block}
 use Rattle.paraid_txn.specs.Stores.{store_rack}
 use Rattle.paraid_view.specs.Reads.{seen_by}
@@ -10,6 +10,10 @@ use Rattle.paraid_core.specs.Fills.{Filled, Filling}
 use Rattle.paraid_core.proofs.AfterLemmas.{handed}
 use Rattle.paraid_core.proofs.FillLemmas.{gather_held, gather_lost_leaves, gather_lost_stands, gathered, gathered_leaves}
 use Rattle.paraid_core.proofs.StepLemmas.{held_runs_then, leaves_then, runs_then, two_then}
+use Rattle.paraid_txn.specs.Commit.{gone_out}
+use Rattle.paraid_core.proofs.KindLemmas.{calls_then, calls_whole}
+use Rattle.paraid_core.proofs.LostMarkLemmas.{loses_after, loses_read, marks_read, marks_then}
+use Rattle.paraid_core.proofs.ReadyLemmas.{some_is}
 use Rattle.paraid_core.proofs.staged.Core.fill_stripe.Goals as goal
 use Rattle.paraid_core.proofs.staged.Core.fill_stripe.Goals.{After-from_residual, In_ok-done}
 
@@ -93,3 +97,41 @@ returns-clause-lost g c is h lo =
 pub returns-clause-moments : goal.returns-clause-moments
 returns-clause-moments g c h lo =
     gather_held g.R.Rack.slot_count g.R.Rack.slot g.R.Rack.told c.args.self.now c.requires.ready _ c.in-Err.ensures.read.calls c.args.s h lo
+
+pub returns-in_err-done-clause-calls : goal.returns-in_err-done-clause-calls
+returns-in_err-done-clause-calls g c =
+    let old = c.args.self.now in
+    calls_then _ _ (g.R.Rack.told (store_rack c.gather.new.store)) _ (calls_whole _ _ _ (sym c.requires.ready.array_is) (ap gone_out c.requires.whole) _ _ c.in_default.ensures.read.calls) c.write_members.ensures.calls
+
+pub returns-in_default-clause-calls : goal.returns-in_default-clause-calls
+returns-in_default-clause-calls g c =
+    let old = c.args.self.now in
+    calls_then _ _ (g.R.Rack.told (store_rack c.gather.new.store)) _ (calls_whole _ _ _ (sym c.requires.ready.array_is) (ap gone_out c.requires.whole) _ _ c.in_default.ensures.read.calls) c.write_members.ensures.calls
+
+pub returns-clause-calls : goal.returns-clause-calls
+returns-clause-calls g c = calls_whole _ _ _ (sym c.requires.ready.array_is) (ap gone_out c.requires.whole) _ _ c.in-Err.ensures.read.calls
+
+pub returns-in_err-lose-clause-calls : goal.returns-in_err-lose-clause-calls
+returns-in_err-lose-clause-calls g c = calls_whole _ _ _ (sym c.requires.ready.array_is) (ap gone_out c.requires.whole) _ _ c.in-Err.ensures.read.calls
+
+pub returns-in_default-clause-marks : goal.returns-in_default-clause-marks
+returns-in_default-clause-marks g c =
+    let m = c.args.self.now.meta in
+    let left = c.in_default.ensures.read.left in
+    marks_then _ (g.R.Rack.slot (store_rack c.gather.new.store)) _ m m _ (marks_read m m None _ _ m.epoch m.writes left refl (λ d is. let z : None ≡ Some d = is in cc) (λ d x is. let z : None ≡ Some d = is in cc)) c.in_ok-done.ensures.marks (left_spared _ _ _ left) c.write_members.ensures.spared
+
+pub returns-clause-marks : goal.returns-clause-marks
+returns-clause-marks g c =
+    let m = c.args.self.now.meta in
+    let low : (d : ℕ) → Some c.in-Err.disk ≡ Some d → d < m.setup.geometry.disks =
+    (λ d is. subst (λ (z : ℕ). z < m.setup.geometry.disks) (some_is c.in-Err.disk d is) (subst (λ (z : ℕ). c.in-Err.disk < z) (sym c.requires.ready.array_is) c.in-Err.ensures.below)) in
+    marks_read m c.lose.new.meta (Some c.in-Err.disk) _ _ m.epoch m.writes c.in-Err.ensures.read.left c.in_ok-lose.ensures.marked low (λ d x is k. c.in_ok-lose.ensures.alone d x is k (low d is))
+
+pub returns-in_default-clause-failed : goal.returns-in_default-clause-failed
+returns-in_default-clause-failed g c is =
+    loses_after _ (g.R.Rack.slot (store_rack c.gather.new.store)) _ c.args.self.now.meta _ (left_spared _ _ _ c.in_default.ensures.read.left) (c.in_ok-done.ensures.failed is)
+
+pub returns-clause-failed : goal.returns-clause-failed
+returns-clause-failed g c is =
+    loses_read c.args.self.now.meta c.lose.new.meta c.in-Err.disk _ _ c.in-Err.ensures.read.left c.in_ok-lose.ensures.marked
+    (subst (λ (z : ℕ). c.in-Err.disk < z) (sym c.requires.ready.array_is) c.in-Err.ensures.below)

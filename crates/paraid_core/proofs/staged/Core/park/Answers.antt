@@ -1,6 +1,7 @@
-use Rattle.std.proofs.Common.{◌≡◌, ℕ, ◌∙◌, ◌<◌, Some, sym, ap, subst, refl, false}
+use Rattle.std.proofs.Common.{◌≡◌, ℕ, ◌∙◌, ◌<◌, Some, sym, ap, subst, refl, false, inr}
 use Rattle.std.specs.Prelude.{Option, is_ok}
 use Rattle.paraid_image.specs.Out.{named_out}
+use Rattle.paraid_base.specs.Told.{HasRisen}
 use Rattle.paraid_rack.specs.declared.call.Call.TheVariants.{Park}
 use Rattle.paraid_rack.specs.Disks.{is_present, step}
 use Rattle.paraid_rack.specs.Slots.{Slot}
@@ -11,10 +12,15 @@ use Rattle.paraid_core.specs.declared.staged.Core.{Core}
 use Rattle.paraid_core.specs.CoreInvariant.{CanServe, HoldsBetweenCalls, lost_in, meta_with_lost}
 use Rattle.paraid_core.proofs.AfterLemmas.{lost_in_there, ready_after, ready_moved, serve_after}
 use Rattle.paraid_core.proofs.CallLemmas.{call_stands}
+use Rattle.paraid_core.specs.Fills.{KeepsFilled}
+use Rattle.paraid_core.proofs.LossShiftLemmas.{call_filled, filled_failed}
 use Rattle.paraid_core.proofs.LostDiskLemmas.{keeps_failed}
 use Rattle.paraid_core.proofs.ParkLemmas.{park_done, park_held, parked_ready, parked_serves}
 use Rattle.paraid_core.proofs.ReadyLemmas.{IsLostOnly, some_is}
+use Rattle.paraid_core.proofs.KindLemmas.{one_call, may_park}
+use Rattle.paraid_rack.specs.Trail.{now}
 use Rattle.paraid_core.proofs.staged.Core.park.Given.{Over}
+use Rattle.paraid_core.proofs.TurnLemmas.{only_turns}
 use Rattle.paraid_core.proofs.staged.Core.park.Goals as goal
 use Rattle.paraid_core.proofs.staged.Core.park.Goals.{In_default, In_ok-lose}
 
@@ -105,3 +111,55 @@ pub returns-clause-moments : goal.returns-clause-moments
 returns-clause-moments g c h lo =
     let q = c.requires in
     park_held g.R.Rack.slot_count g.R.Rack.slot g.R.Rack.told c.args.self.now _ c.args.disk _ c.park.ensures.told (g.met.R.Rack.agrees (store_rack c.args.self.now.store)) q.spinning q.disk q.past_logs q.past_gear q.past_rise q.not_out h lo
+
+pub returns-clause-lost_filled : goal.returns-clause-lost_filled
+returns-clause-lost_filled g c is =
+    let ready = c.requires.ready in
+    let old = c.args.self.now in
+    call_filled g.R.Rack.slot_count g.R.Rack.slot g.R.Rack.told old _ _ c.park.ensures.told (g.met.R.Rack.agrees (store_rack old.store)) _ _ _ c.park.ensures.slots c.park.ensures.same.named
+    (ap (λ (z : Meta). z.setup) (meta_is g c))
+    (λ h lo s agrees kf. subst (λ (z : Meta). KeepsFilled (g.R.Rack.slot_count (store_rack old.store)) (named_of old.store) z old.dirty old.copied h lo z.fill (step (Park c.args.disk (is_ok c.park.result)) s)) (sym (meta_is g c))
+    (filled_failed _ _ old.meta _ _ h lo s (Park c.args.disk (is_ok c.park.result)) ready.in_range c.requires.disk (failed g c) (λ x l gone. ready.absent x l (ap is_present (sym (agrees.power x)) ∙ gone)) (alone g c) c.requires.still kf))
+
+pub returns-in_default-clause-turned : goal.returns-in_default-clause-turned
+returns-in_default-clause-turned g c =
+    let old = c.args.self.now in
+    only_turns (g.R.Rack.slot (store_rack old.store)) _ c.args.disk _ _ _ c.park.ensures.slot (ap is_present c.requires.spinning) refl refl
+
+pub returns-in_err-lose-clause-turned : goal.returns-in_err-lose-clause-turned
+returns-in_err-lose-clause-turned g c =
+    let old = c.args.self.now in
+    only_turns (g.R.Rack.slot (store_rack old.store)) _ c.args.disk _ _ _ c.park.ensures.slot (ap is_present c.requires.spinning) refl refl
+
+pub returns-clause-turned : goal.returns-clause-turned
+returns-clause-turned g c =
+    let old = c.args.self.now in
+    only_turns (g.R.Rack.slot (store_rack old.store)) _ c.args.disk _ _ _ c.park.ensures.slot (ap is_present c.requires.spinning) refl refl
+
+pub returns-clause-risen : goal.returns-clause-risen
+returns-clause-risen g c d is =
+    let same : c.args.disk ≡ d = some_is c.args.disk d (ap (λ (z : Meta). named_out z.out) (sym (meta_is g c)) ∙ is) in
+    inr (subst (λ (e : ℕ). HasRisen (g.R.Rack.slot (store_rack c.args.self.now.store) e).faults (g.R.Rack.slot (store_rack c.park.new.self) e).faults) same (c.park.ensures.slot.risen (failed g c)))
+
+pub returns-clause-absent : goal.returns-clause-absent
+returns-clause-absent g c was d is =
+    let same : c.args.disk ≡ d = some_is c.args.disk d (ap (λ (z : Meta). named_out z.out) (sym (meta_is g c)) ∙ is) in
+    inr (ap is_present (ap (λ (e : ℕ). (g.R.Rack.slot (store_rack c.park.new.self) e).power) (sym same) ∙ c.park.ensures.slot.absent (failed g c)))
+
+pub returns-clause-gone : goal.returns-clause-gone
+returns-clause-gone g c is = ap (λ (z : Meta). z.out) (meta_is g c)
+
+pub returns-in_default-clause-calls : goal.returns-in_default-clause-calls
+returns-in_default-clause-calls g c =
+    one_call _ _ _ (is_ok c.park.result) c.park.ensures.told (λ t tells. may_park (now t) (g.R.Rack.slot (store_rack c.args.self.now.store)) c.args.disk (g.met.R.Rack.agrees (store_rack c.args.self.now.store) t tells) c.requires.spinning c.requires.synced)
+
+pub returns-clause-calls : goal.returns-clause-calls
+returns-clause-calls g c =
+    one_call _ _ _ (is_ok c.park.result) c.park.ensures.told (λ t tells. may_park (now t) (g.R.Rack.slot (store_rack c.args.self.now.store)) c.args.disk (g.met.R.Rack.agrees (store_rack c.args.self.now.store) t tells) c.requires.spinning c.requires.synced)
+
+pub returns-in_err-lose-clause-calls : goal.returns-in_err-lose-clause-calls
+returns-in_err-lose-clause-calls g c =
+    one_call _ _ _ (is_ok c.park.result) c.park.ensures.told (λ t tells. may_park (now t) (g.R.Rack.slot (store_rack c.args.self.now.store)) c.args.disk (g.met.R.Rack.agrees (store_rack c.args.self.now.store) t tells) c.requires.spinning c.requires.synced)
+
+pub returns-clause-failed : goal.returns-clause-failed
+returns-clause-failed g c is = record { risen = c.park.ensures.slot.risen (failed g c); absent = c.park.ensures.slot.absent (failed g c) }

@@ -1,10 +1,10 @@
-use Rattle.std.proofs.Common.{◌≡◌, ℕ, ◌<◌, ◌*◌, ◌-◌, ◌∙◌, sym, ap, subst, length, arith}
+use Rattle.std.proofs.Common.{◌≡◌, ℕ, ◌<◌, ◌*◌, ◌-◌, ◌∙◌, sym, ap, subst, length, arith, ◌+◌, Option}
 use Rattle.std.specs.Prelude.{Bool, IsSome, if◌then◌else◌, false}
 use Rattle.paraid_base.specs.declared.block.Block.{Block}
 use Rattle.paraid_base.specs.Cells.{home_row}
 use Rattle.paraid_base.specs.History.{after_all}
 use Rattle.paraid_image.specs.Out.{named_out, or_else}
-use Rattle.paraid_rack.specs.Told.{Ran, CrashTriple}
+use Rattle.paraid_rack.specs.Told.{Ran, CrashTriple, Through}
 use Rattle.paraid_record.specs.declared.meta.Meta.{Meta}
 use Rattle.paraid_record.specs.declared.meta.Setup.{Setup}
 use Rattle.paraid_txn.specs.declared.store.Store.{Store}
@@ -17,8 +17,17 @@ use Rattle.paraid_core.specs.Down.{IsDownAfter}
 use Rattle.paraid_core.specs.Room.{commits_first}
 use Rattle.paraid_core.proofs.AfterLemmas.{handed}
 use Rattle.paraid_core.proofs.ChainLemmas.{after_raised, down_both, ended, two_after}
-use Rattle.paraid_core.proofs.CleanLemmas.{after_clean, after_first, cell_read, no_room, room_none}
+use Rattle.paraid_core.proofs.CleanLemmas.{after_clean, after_first, cell_read, no_room, room_none, first_by}
 use Rattle.paraid_core.proofs.StepLemmas.{dry_both}
+use Rattle.paraid_core.proofs.KindLemmas.{calls_then, transfer_after, data_after, idle_calls, idle_then}
+use Rattle.paraid_txn.specs.Commit.{gone_out, IsOldOrNew}
+use Rattle.paraid_txn.specs.Uses.{EachCall}
+use Rattle.paraid_core.specs.Calls.{IsTransferCall, IsDataCall}
+use Rattle.paraid_core.proofs.LostMarkLemmas.{marks_then}
+use Rattle.paraid_core.proofs.OldNewLemmas.{whole_then_reads}
+use Rattle.paraid_rack.specs.Trail.{Trail}
+use Rattle.paraid_core.specs.Lost.{MarksLost}
+use Rattle.paraid_core.proofs.RestLemmas.{rest_ran}
 use Rattle.paraid_core.proofs.staged.Core.read.Given.{Over}
 use Rattle.paraid_core.proofs.staged.Core.read.Goals as goal
 use Rattle.paraid_core.proofs.staged.Core.read.Goals.{After-clean_in_room}
@@ -149,3 +158,72 @@ returns-clause-nothing g c is =
     let first = c.in_ok-make_room.ensures.nothing none in
     let last = c.clean_in_room.ensures.nothing (omega arith) in
     (last.0 ∙ c.in_ok-read_only.ensures.batch ∙ first.0, last.1 ∙ c.in_ok-read_only.ensures.table ∙ first.1)
+
+pub returns-in_err-read_only-clause-calls : goal.returns-in_err-read_only-clause-calls
+returns-in_err-read_only-clause-calls g c =
+    calls_then _ _ (g.R.Rack.told (core_rack c.make_room.new.self)) _ c.make_room.ensures.calls
+    (transfer_after c.args.self.now.meta c.make_room.new.self.meta c.in_ok-make_room.ensures.setup c.in_ok-make_room.ensures.gone _ _ c.read_only.ensures.calls)
+
+pub returns-clause-calls : goal.returns-clause-calls
+returns-clause-calls g c =
+    subst (λ (z : g.row.R.Denot). Ran (g.R.Rack.told (core_rack c.args.self.now)) (g.R.Rack.told z) (EachCall (IsTransferCall c.args.self.now.meta.setup.geometry.disks (gone_out c.args.self.now.meta.out)))) (sym (rack_is g c))
+    (calls_then _ _ (g.R.Rack.told (core_rack c.make_room.new.self)) _ c.make_room.ensures.calls
+    (transfer_after c.args.self.now.meta c.make_room.new.self.meta c.in_ok-make_room.ensures.setup c.in_ok-make_room.ensures.gone _ _ c.read_only.ensures.calls))
+
+pub returns-in_err-make_room-clause-kept : goal.returns-in_err-make_room-clause-kept
+returns-in_err-make_room-clause-kept g c is = idle_calls _ _ _ (c.make_room.ensures.idle (first_by c.args.self.now.meta c.args.self.now.dirty c.args.self.now.batch c.args.block c.home-r.result.0 c.home-r.result.1 c.cleaning-room.result c.cleaning-room.ensures.value c.home-r.ensures.row c.home-r.ensures.disk ∙ is))
+
+pub returns-in_err-make_room-clause-whole : goal.returns-in_err-make_room-clause-whole
+returns-in_err-make_room-clause-whole g c is = c.make_room.ensures.whole (first_by c.args.self.now.meta c.args.self.now.dirty c.args.self.now.batch c.args.block c.home-r.result.0 c.home-r.result.1 c.cleaning-room.result c.cleaning-room.ensures.value c.home-r.ensures.row c.home-r.ensures.disk ∙ is)
+
+pub returns-in_err-read_only-clause-kept : goal.returns-in_err-read_only-clause-kept
+returns-in_err-read_only-clause-kept g c is =
+    idle_then _ _ (g.R.Rack.told (core_rack c.make_room.new.self)) _ (c.make_room.ensures.idle (first_by c.args.self.now.meta c.args.self.now.dirty c.args.self.now.batch c.args.block c.home-r.result.0 c.home-r.result.1 c.cleaning-room.result c.cleaning-room.ensures.value c.home-r.ensures.row c.home-r.ensures.disk ∙ is))
+    (data_after c.args.self.now.meta c.make_room.new.self.meta c.in_ok-make_room.ensures.setup c.in_ok-make_room.ensures.gone _ _ c.read_only.ensures.calls)
+
+pub returns-in_err-read_only-clause-whole : goal.returns-in_err-read_only-clause-whole
+returns-in_err-read_only-clause-whole g c is h lo =
+    let old = c.args.self.now in
+    whole_then_reads (CoreStandsFor g.R.Rack.slot_count old h lo) (λ s k. k.base) (record old.meta { epoch = old.meta.epoch + 1 }) old.batch c.make_room.new.self.meta.setup.geometry.disks (λ s k. k.next.setup)
+    (ap (λ (z : Setup). z.geometry.disks) c.in_ok-make_room.ensures.setup) _ _ _ (c.make_room.ensures.whole (first_by c.args.self.now.meta c.args.self.now.dirty c.args.self.now.batch c.args.block c.home-r.result.0 c.home-r.result.1 c.cleaning-room.result c.cleaning-room.ensures.value c.home-r.ensures.row c.home-r.ensures.disk ∙ is) h lo) c.read_only.ensures.reads
+
+pub returns-clause-kept : goal.returns-clause-kept
+returns-clause-kept g c is =
+    let old = c.args.self.now in
+    subst (λ (z : g.row.R.Denot). Ran (g.R.Rack.told (core_rack old)) (g.R.Rack.told z) (EachCall (IsDataCall old.meta.setup.geometry.disks (gone_out old.meta.out)))) (sym (rack_is g c))
+    (subst (λ (z : Option Trail). Ran z (g.R.Rack.told (core_rack c.read_only.new.self)) (EachCall (IsDataCall old.meta.setup.geometry.disks (gone_out old.meta.out)))) (c.make_room.ensures.idle (first_by c.args.self.now.meta c.args.self.now.dirty c.args.self.now.batch c.args.block c.home-r.result.0 c.home-r.result.1 c.cleaning-room.result c.cleaning-room.ensures.value c.home-r.ensures.row c.home-r.ensures.disk ∙ is))
+    (data_after old.meta c.make_room.new.self.meta c.in_ok-make_room.ensures.setup c.in_ok-make_room.ensures.gone _ _ c.read_only.ensures.calls))
+
+pub returns-clause-whole : goal.returns-clause-whole
+returns-clause-whole g c is h lo =
+    let old = c.args.self.now in
+    subst (λ (z : g.row.R.Denot). Ran (g.R.Rack.told (core_rack old)) (g.R.Rack.told z) (λ start calls. (k : CoreStandsFor g.R.Rack.slot_count old h lo start) → Through (IsOldOrNew start k.base (record old.meta { epoch = old.meta.epoch + 1 }) old.batch) start calls)) (sym (rack_is g c))
+    (whole_then_reads (CoreStandsFor g.R.Rack.slot_count old h lo) (λ s k. k.base) (record old.meta { epoch = old.meta.epoch + 1 }) old.batch c.make_room.new.self.meta.setup.geometry.disks (λ s k. k.next.setup)
+    (ap (λ (z : Setup). z.geometry.disks) c.in_ok-make_room.ensures.setup) _ _ _ (c.make_room.ensures.whole (first_by c.args.self.now.meta c.args.self.now.dirty c.args.self.now.batch c.args.block c.home-r.result.0 c.home-r.result.1 c.cleaning-room.result c.cleaning-room.ensures.value c.home-r.ensures.row c.home-r.ensures.disk ∙ is) h lo) c.read_only.ensures.reads)
+
+pub returns-clause-marks : goal.returns-clause-marks
+returns-clause-marks g c =
+    let old = c.args.self.now in
+    let new = c.clean_in_room.new.self in
+    subst (λ (z : g.row.R.Denot). MarksLost (g.R.Rack.slot (core_rack old)) (g.R.Rack.slot z) old.meta new.meta) (sym (rack_is g c))
+    (subst (MarksLost (g.R.Rack.slot (core_rack old)) (g.R.Rack.slot (core_rack c.read_only.new.self)) old.meta) (sym c.clean_in_room.ensures.meta)
+    (marks_then _ _ _ _ _ _ c.in_ok-make_room.ensures.marks c.in_ok-read_only.ensures.marks c.make_room.ensures.spared c.read_only.ensures.spared))
+
+pub returns-clause-names : goal.returns-clause-names
+returns-clause-names g c =
+    let old = c.args.self.now in
+    let new = c.clean_in_room.new.self in
+    ap (λ (z : Store g.row.R.Denot g.R.Rack). named_of z) c.clean_in_room.ensures.store ∙ c.in_ok-read_only.ensures.named ∙ c.in_ok-make_room.ensures.names
+    ∙ ap (λ (b : Bool). if b then named_out old.meta.out else named_of old.store) (first_by old.meta old.dirty old.batch c.args.block c.home-r.result.0 c.home-r.result.1 c.cleaning-room.result c.cleaning-room.ensures.value c.home-r.ensures.row c.home-r.ensures.disk)
+
+pub returns-clause-rest : goal.returns-clause-rest
+returns-clause-rest g c is h lo =
+    let old = c.args.self.now in
+    let new = c.clean_in_room.new.self in
+    let ready = c.clean_in_room.ensures.ready in
+    let names : named_of new.store ≡ named_out old.meta.out = returns-clause-names g c ∙ ap (λ (b : Bool). if b then named_out old.meta.out else named_of old.store) is in
+    let epoch : new.meta.epoch ≡ old.meta.epoch + 1 = (ap (λ (z : Meta). z.epoch) c.clean_in_room.ensures.meta ∙ c.in_ok-read_only.ensures.epoch ∙ c.in_ok-make_room.ensures.epoch ∙ ap (λ (b : Bool). old.meta.epoch + (if b then 1 else 0)) (first_is g c)) ∙ ap (λ (b : Bool). old.meta.epoch + (if b then 1 else 0)) is in
+    rest_ran (CoreStandsFor g.R.Rack.slot_count old h lo) (λ s k. k.base) (record old.meta { epoch = old.meta.epoch + 1 }) old.batch _ _ (named_of new.store) new.meta _ _ new.copied old.copied _ _ (g.R.Rack.slot (core_rack new)) _ _ (g.met.R.Rack.agrees (core_rack new))
+    ready.absent ready.one names (λ s k d is_out. c.requires.serves.stays d (sym k.named_by ∙ is_out)) (λ s k. k.next.setup)
+    (ap (λ (z : Meta). z.setup) c.clean_in_room.ensures.meta ∙ setup_is g c) (λ s k. let was = k.epoch in omega (arith, was, epoch))
+    (c.clean_in_room.ensures.copied ∙ c.in_ok-read_only.ensures.copied ∙ c.in_ok-make_room.ensures.copied) c.requires.synced (returns-clause-whole g c is h lo) (returns-clause-stands g c h lo)

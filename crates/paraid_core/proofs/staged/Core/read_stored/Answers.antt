@@ -15,6 +15,8 @@ use Rattle.paraid_core.proofs.ReadyLemmas.{some_is}
 use Rattle.paraid_core.proofs.UnsyncedLemmas.{marks_read}
 use Rattle.paraid_core.proofs.LostDiskLemmas.{keeps_failed}
 use Rattle.paraid_core.proofs.StoredLemmas.{keeps_read}
+use Rattle.paraid_core.proofs.KindLemmas.{one_call}
+use Rattle.paraid_core.proofs.LostMarkLemmas.{marks_done, marks_failed}
 use Rattle.paraid_core.proofs.staged.Core.read_stored.Given.{Over}
 use Rattle.paraid_core.proofs.staged.Core.read_stored.Goals as goal
 use Rattle.paraid_core.proofs.staged.Core.read_stored.Goals.{In_default, In_ok-lose}
@@ -82,3 +84,27 @@ returns-clause-stands g c =
     (ap (λ (z : Meta). z.setup) (meta_is g c))
     (λ h lo s agrees k. subst (λ (z : Meta). HoldsBetweenCalls (g.R.Rack.slot_count (store_rack c.args.self.now.store)) (named_of c.args.self.now.store) z c.args.self.now.dirty c.args.self.now.batch c.args.self.now.copied h lo (step (Read c.args.disk c.args.place (is_ok c.read.result)) s)) (sym (meta_is g c))
     (keeps_failed _ _ c.args.self.now.meta _ _ _ h lo s (Read c.args.disk c.args.place (is_ok c.read.result)) ready.in_range c.requires.disk (failed g c) (λ x l gone. ready.absent x l (ap is_present (sym (agrees.power x)) ∙ gone)) (alone g c) c.requires.still k))
+
+pub returns-in_default-clause-calls : goal.returns-in_default-clause-calls
+returns-in_default-clause-calls g c =
+    one_call _ _ _ (is_ok c.read.result) c.read.ensures.told (λ t tells. (g.met.R.Rack.agrees (store_rack c.args.self.now.store) t tells).power c.args.disk ∙ c.requires.spins)
+
+pub returns-clause-calls : goal.returns-clause-calls
+returns-clause-calls g c =
+    one_call _ _ _ (is_ok c.read.result) c.read.ensures.told (λ t tells. (g.met.R.Rack.agrees (store_rack c.args.self.now.store) t tells).power c.args.disk ∙ c.requires.spins)
+
+pub returns-in_err-lose-clause-calls : goal.returns-in_err-lose-clause-calls
+returns-in_err-lose-clause-calls g c =
+    one_call _ _ _ (is_ok c.read.result) c.read.ensures.told (λ t tells. (g.met.R.Rack.agrees (store_rack c.args.self.now.store) t tells).power c.args.disk ∙ c.requires.spins)
+
+pub returns-in_default-clause-marks : goal.returns-in_default-clause-marks
+returns-in_default-clause-marks g c = marks_done c.args.self.now.meta _ _ c.args.disk _ _ _ c.read.ensures.slot (record { faults = refl; power = refl; size = refl }) (ap is_ok c.in_default.is)
+
+pub returns-clause-marks : goal.returns-clause-marks
+returns-clause-marks g c = marks_failed c.args.self.now.meta c.lose.new.meta _ _ c.args.disk _ _ _ c.read.ensures.slot (failed g c) (meta_is g c) c.requires.disk (λ x k. c.in_ok-lose.ensures.alone c.args.disk x refl k c.requires.disk)
+
+pub returns-clause-gone : goal.returns-clause-gone
+returns-clause-gone g c is = meta_is g c
+
+pub returns-clause-failed : goal.returns-clause-failed
+returns-clause-failed g c is = record { risen = c.read.ensures.slot.risen (failed g c); absent = c.read.ensures.slot.absent (failed g c) }

@@ -17,6 +17,9 @@ use Rattle.paraid_core.specs.Cleaning.{is_cleaned}
 use Rattle.paraid_core.proofs.CleanLemmas.{cleans_marked}
 use Rattle.paraid_core.proofs.ChainLemmas.{down_read, marked_epoch}
 use Rattle.paraid_core.proofs.ReadyLemmas.{IsLostOnly, left_lost_only}
+use Rattle.paraid_core.proofs.KindLemmas.{calls_off, gone_named, reads_of}
+use Rattle.paraid_image.proofs.CallLemmas.{out_named}
+use Rattle.paraid_core.proofs.LostMarkLemmas.{marks_read}
 use Rattle.paraid_core.proofs.staged.Core.read_value.Given.{Over}
 use Rattle.paraid_core.proofs.staged.Core.read_value.Goals as goal
 use Rattle.paraid_core.proofs.staged.Core.read_value.Goals.{In_ok-lose}
@@ -139,3 +142,41 @@ pub returns-clause-cleans_less : goal.returns-clause-cleans_less
 returns-clause-cleans_less g c r d is =
     let old = c.args.self.now in
     subst (λ (z : Meta). is_cleaned z old.dirty r d ≡ false) (sym c.in_ok-lose.ensures.marked) (cleans_marked (lost_in old.meta c.in_ok-lost.lost) old.meta old.meta.epoch old.dirty r d is)
+
+pub returns-clause-calls : goal.returns-clause-calls
+returns-clause-calls g c =
+    let old = c.args.self.now in
+    calls_off _ _ _ _ (sym c.requires.ready.array_is) (λ d is. out_named (λ x. (g.R.Rack.slot (store_rack old.store) x).power) old.meta d (gone_named old.meta.out d is)) _ _ c.in_ok-lost.ensures.read.calls c.read_cell.ensures.off
+
+pub returns-in_err-lost-clause-calls : goal.returns-in_err-lost-clause-calls
+returns-in_err-lost-clause-calls g c =
+    let old = c.args.self.now in
+    calls_off _ _ _ _ (sym c.requires.ready.array_is) (λ d is. out_named (λ x. (g.R.Rack.slot (store_rack old.store) x).power) old.meta d (gone_named old.meta.out d is)) _ _ c.in_err-lost.ensures.two.calls c.read_cell.ensures.off
+
+pub returns-in_err-lose-clause-calls : goal.returns-in_err-lose-clause-calls
+returns-in_err-lose-clause-calls g c =
+    let old = c.args.self.now in
+    calls_off _ _ _ _ (sym c.requires.ready.array_is) (λ d is. out_named (λ x. (g.R.Rack.slot (store_rack old.store) x).power) old.meta d (gone_named old.meta.out d is)) _ _ c.in_ok-lost.ensures.read.calls c.read_cell.ensures.off
+
+pub returns-clause-reads : goal.returns-clause-reads
+returns-clause-reads g c = reads_of _ _ (sym c.requires.ready.array_is) _ _ c.in_ok-lost.ensures.read.calls
+
+pub returns-in_err-lost-clause-reads : goal.returns-in_err-lost-clause-reads
+returns-in_err-lost-clause-reads g c = reads_of _ _ (sym c.requires.ready.array_is) _ _ c.in_err-lost.ensures.two.calls
+
+pub returns-in_err-lose-clause-reads : goal.returns-in_err-lose-clause-reads
+returns-in_err-lose-clause-reads g c = reads_of _ _ (sym c.requires.ready.array_is) _ _ c.in_ok-lost.ensures.read.calls
+
+pub returns-clause-marks : goal.returns-clause-marks
+returns-clause-marks g c =
+    let m = c.args.self.now.meta in
+    marks_read m c.lose.new.meta c.in_ok-lost.lost _ _ m.epoch m.writes c.in_ok-lost.ensures.read.left c.in_ok-lose.ensures.marked (low g c) (λ d x is k. c.in_ok-lose.ensures.alone d x is k (low g c d is))
+
+pub returns-clause-named : goal.returns-clause-named
+returns-clause-named g c = c.in_ok-lost.ensures.read.same.named
+
+pub returns-in_err-lost-clause-named : goal.returns-in_err-lost-clause-named
+returns-in_err-lost-clause-named g c = c.in_err-lost.ensures.two.same.named
+
+pub returns-in_err-lose-clause-named : goal.returns-in_err-lose-clause-named
+returns-in_err-lose-clause-named g c = c.in_ok-lost.ensures.read.same.named

@@ -3,7 +3,11 @@ use Rattle.std.proofs.Common.{◌≡◌, ◌∙◌, arith, below_more, refl, inl
 use Rattle.paraid_txn.specs.Losses.{IsSyncedAt}
 use Rattle.paraid_txn.specs.Stores.{store_rack}
 use Rattle.paraid_core.specs.CoreInvariant.{is_copied}
+use Rattle.paraid_core.proofs.SettleCellLemmas.{copied_none, copied_then}
+use Rattle.paraid_core.proofs.SettleUnitLemmas.{units_none, units_then}
 use Rattle.paraid_core.proofs.StepLemmas.{dry_both, filled_none, filled_then, still_synced, held_then, leaves_none, leaves_then, stands_none, stands_then, stands_held}
+use Rattle.paraid_core.proofs.KindLemmas.{calls_none, calls_then, copy_syncs_still}
+use Rattle.paraid_core.proofs.LostMarkLemmas.{marks_none, marks_then}
 use Rattle.paraid_core.proofs.staged.Core.settle.Goals as goal
 
 pub loop-disk-init : goal.loop-disk-init
@@ -14,7 +18,11 @@ loop-disk-init g c = record {
   copies_synced = λ d lt. absurd (omega arith);
   others = λ d le. refl;
   stands = stands_none g.R.Rack.slot_count g.R.Rack.slot g.R.Rack.told c.args.self.now;
+  calls = calls_none _ (g.R.Rack.told (store_rack c.args.self.now.store));
+  marks = marks_none c.args.self.now.meta c.args.self.now.meta _ _ c.args.self.now.meta.epoch c.args.self.now.meta.writes (λ d. refl) refl;
   filled = filled_none g.R.Rack.slot_count g.R.Rack.slot g.R.Rack.told c.args.self.now;
+  cells = copied_none g.R.Rack.slot_count g.R.Rack.slot g.R.Rack.told c.args.self.now;
+  rebuilt = units_none g.R.Rack.slot_count g.R.Rack.slot g.R.Rack.told c.args.self.now;
 }
 
 pub loop-disk-preserved : goal.loop-disk-preserved
@@ -30,8 +38,12 @@ loop-disk-preserved g c =
       copies_synced = below_more (λ d. is_copied c.settle_one.new.self.copied d ≡ false) c.loop-disk.disk
           (λ d lt. one.cleared.others d (λ is. absurd (omega arith)) ∙ was.copies_synced d lt) one.cleared.here;
       others = λ d le. one.cleared.others d (λ is. absurd (omega arith)) ∙ was.others d (omega arith);
+      marks = marks_then _ _ _ _ _ _ was.marks one.marks was.leaves.spared c.settle_one.ensures.spared;
+      calls = calls_then _ _ _ _ was.calls (copy_syncs_still _ _ was.leaves.meta c.loop-disk.disk _ _ was.copies_synced was.others _ _ c.settle_one.ensures.calls);
       stands = stands_then g.R.Rack.slot_count g.R.Rack.slot g.R.Rack.told c.args.self.now c.loop-disk.self was.leaves c.settle_one.new.self was.stands one.stands;
       filled = filled_then g.R.Rack.slot_count g.R.Rack.slot g.R.Rack.told c.args.self.now c.loop-disk.self was.leaves c.settle_one.new.self one.leaves was.filled one.filled;
+      cells = copied_then g.R.Rack.slot_count g.R.Rack.slot g.R.Rack.told c.args.self.now c.loop-disk.self c.settle_one.new.self was.leaves one.leaves was.cells one.cells;
+      rebuilt = units_then g.R.Rack.slot_count g.R.Rack.slot g.R.Rack.told c.args.self.now c.loop-disk.self c.settle_one.new.self was.leaves one.leaves was.rebuilt one.rebuilt;
     }
 
 pub returns-in_err-settle_one-clause-moments : goal.returns-in_err-settle_one-clause-moments
@@ -43,3 +55,15 @@ pub returns-clause-moments : goal.returns-clause-moments
 returns-clause-moments g c =
     let was = c.loop-disk.invariant in
     stands_held g.R.Rack.slot_count g.R.Rack.slot g.R.Rack.told c.args.self.now c.loop-disk.self was.leaves was.stands
+
+pub returns-in_err-settle_one-clause-calls : goal.returns-in_err-settle_one-clause-calls
+returns-in_err-settle_one-clause-calls g c =
+    let was = c.loop-disk.invariant in
+    calls_then _ _ _ _ was.calls
+    (copy_syncs_still _ _ was.leaves.meta c.loop-disk.disk _ _ was.copies_synced was.others _ _ c.settle_one.ensures.calls)
+
+pub returns-clause-calls : goal.returns-clause-calls
+returns-clause-calls g c = c.loop-disk.invariant.calls
+
+pub returns-clause-marks : goal.returns-clause-marks
+returns-clause-marks g c = c.loop-disk.invariant.marks

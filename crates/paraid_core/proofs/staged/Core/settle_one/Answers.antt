@@ -1,9 +1,14 @@
 use Rattle.std.proofs.Common.{◌≢◌, ◌∙◌, refl, sym}
 use Rattle.paraid_rack.specs.declared.call.Power.TheVariants.{Spinning}
 use Rattle.paraid_txn.specs.Stores.{store_rack}
+use Rattle.paraid_core.proofs.SettleCellLemmas.{copied_marked, copied_none}
+use Rattle.paraid_core.proofs.SettleUnitLemmas.{units_idle, units_none}
 use Rattle.paraid_core.proofs.SettleLemmas.{cleared_at, filled_marked, idle_unmarked}
 use Rattle.paraid_core.proofs.StepLemmas.{filled_none, held_none, leaves_unmarked, stands_marked, stands_none}
 use Rattle.paraid_core.proofs.UnsyncedLemmas.{marks_idle}
+use Rattle.paraid_core.proofs.KindLemmas.{calls_none, one_is_each}
+use Rattle.paraid_rack.specs.declared.call.Call.TheVariants.{Sync}
+use Rattle.paraid_core.proofs.LostMarkLemmas.{marks_none}
 use Rattle.paraid_core.proofs.staged.Core.settle_one.Goals as goal
 
 pub returns-then-not-is_spinning-clause-leaves : goal.returns-then-not-is_spinning-clause-leaves
@@ -37,3 +42,46 @@ returns-then-not-is_spinning-clause-filled g c whole =
       filled_marked g.R.Rack.slot_count g.R.Rack.told c.args.self.now _
           (λ t x p tells here copies_synced h lo k. idle_unmarked _ _ (g.met.R.Rack.slots_hold (store_rack c.args.self.now.store)) _ (g.met.R.Rack.agrees (store_rack c.args.self.now.store) t tells) _ _ _ _ _ _ _ h lo _ (cleared_at _ _) idle k x p here copies_synced),
     )
+
+pub returns-then-not-self-disk-clause-cells : goal.returns-then-not-self-disk-clause-cells
+returns-then-not-self-disk-clause-cells g c = copied_none g.R.Rack.slot_count g.R.Rack.slot g.R.Rack.told c.args.self.now
+
+pub returns-then-not-is_spinning-clause-cells : goal.returns-then-not-is_spinning-clause-cells
+returns-then-not-is_spinning-clause-cells g c whole =
+    let idle : (g.R.Rack.slot (store_rack c.args.self.now.store) c.args.disk).power ≢ Spinning = (λ is. c.is_spinning.ensures.rests (c.if-not-is_spinning.true) (sym (sym c.power.ensures) ∙ is)) in (
+      refl,
+      copied_marked g.R.Rack.slot_count g.R.Rack.told c.args.self.now _
+          (λ t x p tells here copies_synced h lo k. idle_unmarked _ _ (g.met.R.Rack.slots_hold (store_rack c.args.self.now.store)) _ (g.met.R.Rack.agrees (store_rack c.args.self.now.store) t tells) _ _ _ _ _ _ _ h lo _ (cleared_at _ _) idle k x p here copies_synced),
+    )
+
+pub returns-then-not-self-disk-clause-rebuilt : goal.returns-then-not-self-disk-clause-rebuilt
+returns-then-not-self-disk-clause-rebuilt g c = units_none g.R.Rack.slot_count g.R.Rack.slot g.R.Rack.told c.args.self.now
+
+pub returns-then-not-is_spinning-clause-rebuilt : goal.returns-then-not-is_spinning-clause-rebuilt
+returns-then-not-is_spinning-clause-rebuilt g c d units fresh =
+    let idle : (g.R.Rack.slot (store_rack c.args.self.now.store) c.args.disk).power ≢ Spinning = (λ is. c.is_spinning.ensures.rests (c.if-not-is_spinning.true) (sym (sym c.power.ensures) ∙ is)) in (
+      refl,
+      units_idle g.R.Rack.slot_count g.R.Rack.told c.args.self.now _
+          (λ t x p tells here copies_synced h lo k. idle_unmarked _ _ (g.met.R.Rack.slots_hold (store_rack c.args.self.now.store)) _ (g.met.R.Rack.agrees (store_rack c.args.self.now.store) t tells) _ _ _ _ _ _ _ h lo _ (cleared_at _ _) idle k x p here copies_synced),
+    )
+
+pub returns-then-not-self-disk-clause-calls : goal.returns-then-not-self-disk-clause-calls
+returns-then-not-self-disk-clause-calls g c = calls_none _ (g.R.Rack.told (store_rack c.args.self.now.store))
+
+pub returns-then-not-is_spinning-clause-calls : goal.returns-then-not-is_spinning-clause-calls
+returns-then-not-is_spinning-clause-calls g c = calls_none _ (g.R.Rack.told (store_rack c.args.self.now.store))
+
+pub returns-in_err-sync_disk-clause-calls : goal.returns-in_err-sync_disk-clause-calls
+returns-in_err-sync_disk-clause-calls g c = one_is_each (λ done. Sync c.args.disk done) _ (λ done. (c.requires.disk, c.if-not-self-disk.false)) _ _ c.sync_disk.ensures.calls
+
+pub returns-clause-calls : goal.returns-clause-calls
+returns-clause-calls g c = one_is_each (λ done. Sync c.args.disk done) _ (λ done. (c.requires.disk, c.if-not-self-disk.false)) _ _ c.sync_disk.ensures.calls
+
+pub returns-then-not-self-disk-clause-marks : goal.returns-then-not-self-disk-clause-marks
+returns-then-not-self-disk-clause-marks g c = marks_none c.args.self.now.meta c.args.self.now.meta _ _ c.args.self.now.meta.epoch c.args.self.now.meta.writes (λ d. refl) refl
+
+pub returns-then-not-is_spinning-clause-marks : goal.returns-then-not-is_spinning-clause-marks
+returns-then-not-is_spinning-clause-marks g c = marks_none c.args.self.now.meta c.args.self.now.meta _ _ c.args.self.now.meta.epoch c.args.self.now.meta.writes (λ d. refl) refl
+
+pub returns-clause-marks : goal.returns-clause-marks
+returns-clause-marks g c = c.in_ok-sync_disk.ensures.marks

@@ -5,8 +5,13 @@ use Rattle.paraid_core.specs.Cores.{CoreStandsFor}
 use Rattle.paraid_core.specs.CellCopies.{CellsCopied, CopyingCell, copied_with}
 use Rattle.paraid_core.proofs.AfterLemmas.{handed}
 use Rattle.paraid_core.proofs.FillLemmas.{gather_lost_leaves, gathered_leaves}
-use Rattle.paraid_core.proofs.CopyCellLemmas.{cell_gathered, cell_lost, cell_reads_held}
+use Rattle.paraid_core.proofs.CopyCellLemmas.{cell_gathered, cell_lost, cell_reads_held, disk_in}
 use Rattle.paraid_core.proofs.StepLemmas.{held_runs_then, leaves_then, runs_then, two_then}
+use Rattle.std.proofs.Common.{sym, ap, ◌≡◌, ℕ, ◌<◌, None, Some, refl, subst}
+use Rattle.paraid_txn.specs.Commit.{gone_out}
+use Rattle.paraid_core.proofs.KindLemmas.{calls_then, calls_whole}
+use Rattle.paraid_core.proofs.LostMarkLemmas.{loses_read, lost_after, marks_read, marks_then}
+use Rattle.paraid_core.proofs.ReadyLemmas.{some_is}
 use Rattle.paraid_core.proofs.staged.Core.sync_cell.Goals as goal
 
 pub returns-in_err-done-clause-spared : goal.returns-in_err-done-clause-spared
@@ -88,3 +93,45 @@ returns-clause-lost g c is h lo cells =
 
 pub returns-clause-moments : goal.returns-clause-moments
 returns-clause-moments g c h lo cells = cell_reads_held g.R.Rack.slot_count g.R.Rack.slot g.R.Rack.told c.args.self.now c.requires.ready _ c.in-Err.ensures.read.calls h lo cells
+
+pub returns-in_err-done-clause-calls : goal.returns-in_err-done-clause-calls
+returns-in_err-done-clause-calls g c =
+    let old = c.args.self.now in
+    calls_then _ _ (g.R.Rack.told (store_rack c.read_value.new.store)) _ (calls_whole _ _ _ (sym c.requires.ready.array_is) (ap gone_out c.requires.whole) _ _ c.in_default.ensures.read.calls) c.write_cell.ensures.calls
+
+pub returns-in_default-clause-calls : goal.returns-in_default-clause-calls
+returns-in_default-clause-calls g c =
+    let old = c.args.self.now in
+    calls_then _ _ (g.R.Rack.told (store_rack c.read_value.new.store)) _ (calls_whole _ _ _ (sym c.requires.ready.array_is) (ap gone_out c.requires.whole) _ _ c.in_default.ensures.read.calls) c.write_cell.ensures.calls
+
+pub returns-clause-calls : goal.returns-clause-calls
+returns-clause-calls g c = calls_whole _ _ _ (sym c.requires.ready.array_is) (ap gone_out c.requires.whole) _ _ c.in-Err.ensures.read.calls
+
+pub returns-in_err-lose-clause-calls : goal.returns-in_err-lose-clause-calls
+returns-in_err-lose-clause-calls g c = calls_whole _ _ _ (sym c.requires.ready.array_is) (ap gone_out c.requires.whole) _ _ c.in-Err.ensures.read.calls
+
+pub returns-in_default-clause-marks : goal.returns-in_default-clause-marks
+returns-in_default-clause-marks g c =
+    let m = c.args.self.now.meta in
+    let left = c.in_default.ensures.read.left in
+    marks_then _ (g.R.Rack.slot (store_rack c.read_value.new.store)) _ m m _ (marks_read m m None _ _ m.epoch m.writes left refl (λ d is. let z : None ≡ Some d = is in cc) (λ d x is. let z : None ≡ Some d = is in cc)) c.in_ok-done.ensures.marks (left_spared _ _ _ left) c.write_cell.ensures.spared
+
+pub returns-clause-marks : goal.returns-clause-marks
+returns-clause-marks g c =
+    let m = c.args.self.now.meta in
+    let low : (d : ℕ) → Some c.in-Err.lost ≡ Some d → d < m.setup.geometry.disks =
+    (λ d is. subst (λ (z : ℕ). z < m.setup.geometry.disks) (some_is c.in-Err.lost d is) (subst (λ (z : ℕ). c.in-Err.lost < z) (sym c.requires.ready.array_is) c.in-Err.ensures.below)) in
+    marks_read m c.lose.new.meta (Some c.in-Err.lost) _ _ m.epoch m.writes c.in-Err.ensures.read.left c.in_ok-lose.ensures.marked low (λ d x is k. c.in_ok-lose.ensures.alone d x is k (low d is))
+
+pub returns-in_default-clause-failed : goal.returns-in_default-clause-failed
+returns-in_default-clause-failed g c is = record {
+  disk = c.args.disk;
+  low = disk_in c.args.self.now.meta c.args.disk c.requires.ready.in_range c.requires.rises;
+  failed = lost_after _ (g.R.Rack.slot (store_rack c.read_value.new.store)) _ c.args.disk (left_spared _ _ _ c.in_default.ensures.read.left) (c.in_ok-done.ensures.failed is);
+  gone = c.in_ok-done.ensures.gone is;
+}
+
+pub returns-clause-failed : goal.returns-clause-failed
+returns-clause-failed g c is =
+    loses_read c.args.self.now.meta c.lose.new.meta c.in-Err.lost _ _ c.in-Err.ensures.read.left c.in_ok-lose.ensures.marked
+    (subst (λ (z : ℕ). c.in-Err.lost < z) (sym c.requires.ready.array_is) c.in-Err.ensures.below)

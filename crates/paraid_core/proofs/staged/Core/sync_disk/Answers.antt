@@ -1,4 +1,4 @@
-use Rattle.paraid_base.specs.declared.state.Out.TheVariants.{Gone, No}
+use Rattle.paraid_base.specs.declared.state.Out.TheVariants.{Fresh, Gone, No}
 use Rattle.paraid_image.specs.Mark.{meta_after_loss}
 use Rattle.std.proofs.Common.{◌≡◌, ℕ, ◌∙◌, ◌<◌, Some, None, sym, ap, subst, refl, false, true}
 use Rattle.std.specs.Prelude.{Option, is_ok, slice_set}
@@ -14,7 +14,11 @@ use Rattle.paraid_core.proofs.AfterLemmas.{lost_in_there}
 use Rattle.paraid_core.proofs.CallLemmas.{call_held, call_leaves, call_spared, call_stands, done_only, failed_only, keeps_held}
 use Rattle.paraid_core.proofs.ReadyLemmas.{some_is}
 use Rattle.paraid_core.proofs.UnsyncedLemmas.{marks_cleared}
+use Rattle.paraid_core.proofs.SettleCellLemmas.{sync_copied}
+use Rattle.paraid_core.proofs.SettleUnitLemmas.{sync_units}
 use Rattle.paraid_core.proofs.SettleLemmas.{cleared_at, keeps_synced, keeps_unsynced, sync_filled}
+use Rattle.paraid_core.proofs.KindLemmas.{one_call}
+use Rattle.paraid_core.proofs.LostMarkLemmas.{marks_done, marks_failed}
 use Rattle.paraid_core.proofs.staged.Core.sync_disk.Given.{Over}
 use Rattle.paraid_core.proofs.staged.Core.sync_disk.Goals as goal
 use Rattle.paraid_core.proofs.staged.Core.sync_disk.Goals.{In_default, In_ok-lose}
@@ -92,3 +96,39 @@ returns-in_default-clause-filled g c whole = (
 -- that disk is out
 pub returns-clause-filled : goal.returns-clause-filled
 returns-clause-filled g c whole = let z : Gone c.args.disk ≡ No = ap (λ (m : Meta). m.out) (sym (meta_is g c)) ∙ whole in absurd cc
+
+pub returns-in_default-clause-cells : goal.returns-in_default-clause-cells
+returns-in_default-clause-cells g c whole = (
+  refl,
+  λ h lo cells. sync_copied g.R.Rack.slot_count g.R.Rack.told c.args.self.now _ _ c.args.disk _ c.sync-answer.ensures.told (cleared_at _ _) (done g c) _ _ c.sync-answer.ensures.slots c.sync-answer.ensures.same.named h lo cells,
+)
+
+pub returns-clause-cells : goal.returns-clause-cells
+returns-clause-cells g c whole = let z : Gone c.args.disk ≡ No = ap (λ (m : Meta). m.out) (sym (meta_is g c)) ∙ whole in absurd cc
+
+pub returns-in_default-clause-rebuilt : goal.returns-in_default-clause-rebuilt
+returns-in_default-clause-rebuilt g c d units fresh = (
+  refl,
+  λ h lo end. sync_units g.R.Rack.slot_count g.R.Rack.told c.args.self.now _ _ c.args.disk _ c.sync-answer.ensures.told (cleared_at _ _) (done g c) _ _ c.sync-answer.ensures.slots c.sync-answer.ensures.same.named h lo end,
+)
+
+pub returns-clause-rebuilt : goal.returns-clause-rebuilt
+returns-clause-rebuilt g c d units fresh = let z : Gone c.args.disk ≡ Fresh d units = ap (λ (m : Meta). m.out) (sym (meta_is g c)) ∙ fresh in absurd cc
+
+pub returns-in_default-clause-calls : goal.returns-in_default-clause-calls
+returns-in_default-clause-calls g c =
+    one_call _ _ _ (is_ok c.sync-answer.result) c.sync-answer.ensures.told (λ t tells. (g.met.R.Rack.agrees (store_rack c.args.self.now.store) t tells).power c.args.disk ∙ c.requires.spins)
+
+pub returns-clause-calls : goal.returns-clause-calls
+returns-clause-calls g c =
+    one_call _ _ _ (is_ok c.sync-answer.result) c.sync-answer.ensures.told (λ t tells. (g.met.R.Rack.agrees (store_rack c.args.self.now.store) t tells).power c.args.disk ∙ c.requires.spins)
+
+pub returns-in_err-lose-clause-calls : goal.returns-in_err-lose-clause-calls
+returns-in_err-lose-clause-calls g c =
+    one_call _ _ _ (is_ok c.sync-answer.result) c.sync-answer.ensures.told (λ t tells. (g.met.R.Rack.agrees (store_rack c.args.self.now.store) t tells).power c.args.disk ∙ c.requires.spins)
+
+pub returns-in_default-clause-marks : goal.returns-in_default-clause-marks
+returns-in_default-clause-marks g c = marks_done c.args.self.now.meta _ _ c.args.disk _ _ _ c.sync-answer.ensures.slot (record { faults = refl; power = refl; size = refl }) (ap is_ok c.in_default.is)
+
+pub returns-clause-marks : goal.returns-clause-marks
+returns-clause-marks g c = marks_failed c.args.self.now.meta c.lose.new.meta _ _ c.args.disk _ _ _ c.sync-answer.ensures.slot (failed g c) (meta_is g c) c.requires.disk (λ x k. c.in_ok-lose.ensures.alone c.args.disk x refl k c.requires.disk)

@@ -4,7 +4,7 @@ use Rattle.paraid_dirty.specs.Table.{is_dirty}
 use Rattle.paraid_image.specs.Out.{named_out, or_else}
 use Rattle.paraid_record.specs.declared.meta.Meta.{Meta}
 use Rattle.paraid_txn.specs.Stores.{disks_of, epoch_of, named_of, store_rack}
-use Rattle.paraid_core.specs.CoreInvariant.{CanServe, AreSlotsReady}
+use Rattle.paraid_core.specs.CoreInvariant.{CanServe, AreSlotsReady, lost_in, meta_with_lost}
 use Rattle.std.specs.Prelude.{◌^◌, false}
 use Rattle.paraid_image.specs.Sides.{Batch}
 use Rattle.paraid_rack.specs.Disks.{is_present}
@@ -15,6 +15,9 @@ use Rattle.paraid_core.proofs.AfterLemmas.{marked_setup}
 use Rattle.paraid_core.proofs.ChainLemmas.{down_lost, down_same}
 use Rattle.paraid_core.proofs.FailLemmas.{is_err_then, lost_one}
 use Rattle.paraid_core.proofs.TryLemmas.{dropped_ready, dropped_serves, dropped_stands, kept_ready, kept_serves, kept_stands, ended_held, not_err, since_held, try_moments}
+use Rattle.paraid_core.proofs.KindLemmas.{calls_off, gone_named, reads_of}
+use Rattle.paraid_core.proofs.LostMarkLemmas.{marks_none, marks_read}
+use Rattle.paraid_view.specs.Reads.{AreLeft}
 use Rattle.paraid_core.proofs.staged.Core.try_write.Given.{Over}
 use Rattle.paraid_core.proofs.staged.Core.try_write.Goals as goal
 use Rattle.paraid_core.proofs.staged.Core.try_write.Goals.{After-clear-2, In_ok-lose}
@@ -148,3 +151,43 @@ returns-then-is_err-clause-moments_since g c h lo = try_moments g.R.Rack.slot_co
 
 pub returns-clause-moments_since : goal.returns-clause-moments_since
 returns-clause-moments_since g c h lo = try_moments g.R.Rack.slot_count g.R.Rack.slot g.R.Rack.told c.args.self.now c.draft_writes.new.self c.draft_writes.ensures.leads c.requires.ready h lo
+
+pub returns-in_err-lose-clause-calls : goal.returns-in_err-lose-clause-calls
+returns-in_err-lose-clause-calls g c =
+    let led = c.draft_writes.ensures.leads in
+    calls_off _ _ _ _ (sym c.requires.ready.array_is) (gone_named c.args.self.now.meta.out) _ _ led.calls led.off
+
+pub returns-then-is_err-clause-calls : goal.returns-then-is_err-clause-calls
+returns-then-is_err-clause-calls g c =
+    let led = c.draft_writes.ensures.leads in
+    calls_off _ _ _ _ (sym c.requires.ready.array_is) (gone_named c.args.self.now.meta.out) _ _ led.calls led.off
+
+pub returns-clause-calls : goal.returns-clause-calls
+returns-clause-calls g c =
+    let led = c.draft_writes.ensures.leads in
+    calls_off _ _ _ _ (sym c.requires.ready.array_is) (gone_named c.args.self.now.meta.out) _ _ led.calls led.off
+
+pub returns-in_err-lose-clause-reads : goal.returns-in_err-lose-clause-reads
+returns-in_err-lose-clause-reads g c = reads_of _ _ (sym c.requires.ready.array_is) _ _ c.draft_writes.ensures.leads.calls
+
+pub returns-then-is_err-clause-reads : goal.returns-then-is_err-clause-reads
+returns-then-is_err-clause-reads g c = reads_of _ _ (sym c.requires.ready.array_is) _ _ c.draft_writes.ensures.leads.calls
+
+pub returns-clause-reads : goal.returns-clause-reads
+returns-clause-reads g c = reads_of _ _ (sym c.requires.ready.array_is) _ _ c.draft_writes.ensures.leads.calls
+
+pub returns-then-is_err-clause-marks : goal.returns-then-is_err-clause-marks
+returns-then-is_err-clause-marks g c =
+    let m = c.args.self.now.meta in
+    let led = c.draft_writes.ensures.leads in
+    let lost = c.draft_writes.new.self.failed in
+    marks_read m c.lose.new.meta lost _ _ m.epoch m.writes (led.left refl) (c.in_ok-lose.ensures.marked ∙ ap (λ (z : Meta). meta_with_lost (lost_in z lost) z) led.meta)
+    (λ d is. subst (λ (z : ℕ). d < z) (sym c.requires.ready.array_is) (led.below d refl is).0) (λ d x is k. absurd (free g c d x is k))
+
+pub returns-clause-marks : goal.returns-clause-marks
+returns-clause-marks g c =
+    let m = c.args.self.now.meta in
+    let led = c.draft_writes.ensures.leads in
+    let left = subst (λ (o : Option ℕ). AreLeft o (g.R.Rack.slot (store_rack c.args.self.now.store)) (g.R.Rack.slot (store_rack c.draft_writes.new.self.store))) (whole g c) (led.left refl) in
+    marks_none m _ (g.R.Rack.slot (store_rack c.args.self.now.store)) (g.R.Rack.slot (store_rack c.draft_writes.new.self.store)) m.epoch (m.writes + 1)
+    (λ d. left.others d (λ is. let z : None ≡ Some d = is in cc)) (ap (λ (z : Meta). record z { writes = z.writes + 1 }) led.meta)

@@ -19,6 +19,8 @@ use Rattle.paraid_base.proofs.RegionsLemmas.{hard_place_below}
 use Rattle.paraid_rack.proofs.TrailsLemmas.{weaker}
 use Rattle.paraid_core.specs.CellCopies.{CopyingCell}
 use Rattle.paraid_core.specs.Cores.{CoreStandsFor, IsCoreHeldSinceCommit}
+use Rattle.paraid_core.proofs.KindLemmas.{gone_named, written_calls}
+use Rattle.paraid_core.proofs.LostMarkLemmas.{marks_done, marks_failed}
 use Rattle.paraid_core.proofs.staged.Core.write_cell.Given.{Over}
 use Rattle.paraid_core.proofs.staged.Core.write_cell.Goals as goal
 use Rattle.paraid_core.proofs.staged.Core.write_cell.Goals.{In_ok-lose}
@@ -89,3 +91,42 @@ returns-clause-moments g c h lo cells =
     let q = c.requires in
     cell_held g.R.Rack.slot_count g.R.Rack.slot g.R.Rack.told c.args.self.now q.ready q.whole (g.met.R.Rack.agrees (store_rack c.args.self.now.store)) q.nothing c.args.r c.args.disk _ c.args.block.now c.hard_place-place.result c.hard_place-place.ensures.value _
     c.write_free-answer.ensures.told q.serves.stays q.row (disk_in c.args.self.now.meta c.args.disk q.ready.in_range q.rises) q.past_gear q.dirty _ (record { here = c.mark.ensures.here; others = c.mark.ensures.others }) h lo cells
+
+pub returns-in_default-clause-calls : goal.returns-in_default-clause-calls
+returns-in_default-clause-calls g c =
+    let q = c.requires in
+    let m = c.args.self.now.meta in
+    let in_all : named_out m.out ≢ Some c.args.disk = (λ named. let z : None ≡ Some c.args.disk = ap named_out (sym q.whole) ∙ named in cc) in
+    let far = c.hard_place-place.ensures.after_map in
+    written_calls _ _ c.args.disk c.hard_place-place.result c.args.block.now (is_ok c.write_free-answer.result) _ _ c.write_free-answer.ensures.told (disk_in m c.args.disk q.ready.in_range q.rises)
+    (λ gone. in_all (gone_named m.out c.args.disk gone)) (omega (arith, far)) (λ t tells. (g.met.R.Rack.agrees (store_rack c.args.self.now.store) t tells).power c.args.disk ∙ q.serves.spins c.args.disk q.rises in_all)
+
+pub returns-clause-calls : goal.returns-clause-calls
+returns-clause-calls g c =
+    let q = c.requires in
+    let m = c.args.self.now.meta in
+    let in_all : named_out m.out ≢ Some c.args.disk = (λ named. let z : None ≡ Some c.args.disk = ap named_out (sym q.whole) ∙ named in cc) in
+    let far = c.hard_place-place.ensures.after_map in
+    written_calls _ _ c.args.disk c.hard_place-place.result c.args.block.now (is_ok c.write_free-answer.result) _ _ c.write_free-answer.ensures.told (disk_in m c.args.disk q.ready.in_range q.rises)
+    (λ gone. in_all (gone_named m.out c.args.disk gone)) (omega (arith, far)) (λ t tells. (g.met.R.Rack.agrees (store_rack c.args.self.now.store) t tells).power c.args.disk ∙ q.serves.spins c.args.disk q.rises in_all)
+
+pub returns-in_err-lose-clause-calls : goal.returns-in_err-lose-clause-calls
+returns-in_err-lose-clause-calls g c =
+    let q = c.requires in
+    let m = c.args.self.now.meta in
+    let in_all : named_out m.out ≢ Some c.args.disk = (λ named. let z : None ≡ Some c.args.disk = ap named_out (sym q.whole) ∙ named in cc) in
+    let far = c.hard_place-place.ensures.after_map in
+    written_calls _ _ c.args.disk c.hard_place-place.result c.args.block.now (is_ok c.write_free-answer.result) _ _ c.write_free-answer.ensures.told (disk_in m c.args.disk q.ready.in_range q.rises)
+    (λ gone. in_all (gone_named m.out c.args.disk gone)) (omega (arith, far)) (λ t tells. (g.met.R.Rack.agrees (store_rack c.args.self.now.store) t tells).power c.args.disk ∙ q.serves.spins c.args.disk q.rises in_all)
+
+pub returns-in_default-clause-marks : goal.returns-in_default-clause-marks
+returns-in_default-clause-marks g c = marks_done c.args.self.now.meta _ _ c.args.disk _ _ _ c.write_free-answer.ensures.slot (record { faults = refl; power = refl; size = refl }) (ap is_ok c.in_default.is)
+
+pub returns-clause-marks : goal.returns-clause-marks
+returns-clause-marks g c = marks_failed c.args.self.now.meta c.lose.new.meta _ _ c.args.disk _ _ _ c.write_free-answer.ensures.slot (failed g c) (meta_is g c) (disk_in c.args.self.now.meta c.args.disk c.requires.ready.in_range c.requires.rises) (λ x k. c.in_ok-lose.ensures.alone c.args.disk x refl k (disk_in c.args.self.now.meta c.args.disk c.requires.ready.in_range c.requires.rises))
+
+pub returns-clause-gone : goal.returns-clause-gone
+returns-clause-gone g c is = meta_is g c
+
+pub returns-clause-failed : goal.returns-clause-failed
+returns-clause-failed g c is = record { risen = c.write_free-answer.ensures.slot.risen (failed g c); absent = c.write_free-answer.ensures.slot.absent (failed g c) }

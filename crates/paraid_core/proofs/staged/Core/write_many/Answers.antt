@@ -1,11 +1,18 @@
-use Rattle.std.proofs.Common.{ℕ, ap, length}
+use Rattle.std.proofs.Common.{ℕ, ap, length, ◌+◌, ◌≡◌, ◌∙◌, sym, arith}
 use Rattle.std.specs.Prelude.{Bool, ◌*◌, ◌∷◌, ◌++◌, [], if◌then◌else◌}
 use Rattle.paraid_base.specs.Pairs.{pairs_of}
 use Rattle.paraid_record.specs.declared.meta.Setup.{Setup}
 use Rattle.paraid_txn.specs.Stores.{named_of}
 use Rattle.paraid_core.specs.Cores.{IsCoreHeldSinceCommit, CoreStandsFor, batch_of, core_down, core_rack}
 use Rattle.paraid_core.specs.Room.{commits_first}
-use Rattle.paraid_core.proofs.ChainLemmas.{after_raised, ended}
+use Rattle.paraid_core.proofs.ChainLemmas.{after_raised, ended, two_after}
+use Rattle.paraid_core.proofs.KindLemmas.{calls_then, transfer_after, data_after, idle_calls, idle_then}
+use Rattle.paraid_core.proofs.LostMarkLemmas.{marks_then}
+use Rattle.paraid_core.proofs.OldNewLemmas.{whole_then_reads}
+use Rattle.paraid_core.proofs.AfterLemmas.{handed}
+use Rattle.paraid_txn.specs.Losses.{AreTwoDown}
+use Rattle.paraid_core.proofs.RestLemmas.{rest_ran}
+use Rattle.paraid_image.specs.Out.{named_out}
 use Rattle.paraid_core.proofs.staged.Core.write_many.Goals as goal
 
 pub returns-in_err-write_whole-clause-moments : goal.returns-in_err-write_whole-clause-moments
@@ -43,3 +50,65 @@ returns-clause-stands g c h lo =
     (CoreStandsFor g.R.Rack.slot_count new (h ++ pairs_of c.args.pairs.now ∷ []) low) _ _ _
     c.in_ok-make_room.ensures.slots (ap (λ (z : Setup). z.geometry.disks) c.in_ok-make_room.ensures.setup) c.in_ok-make_room.ensures.named
     (c.in_ok-make_room.ensures.stands h lo) (c.in_ok-write_whole.ensures.stands h low)
+
+pub returns-in_err-write_whole-clause-calls : goal.returns-in_err-write_whole-clause-calls
+returns-in_err-write_whole-clause-calls g c =
+    calls_then _ _ _ _ c.make_room.ensures.calls
+    (transfer_after c.args.self.now.meta c.make_room.new.self.meta c.in_ok-make_room.ensures.setup c.in_ok-make_room.ensures.gone _ _ c.write_whole.ensures.calls)
+
+pub returns-clause-calls : goal.returns-clause-calls
+returns-clause-calls g c =
+    calls_then _ _ _ _ c.make_room.ensures.calls
+    (transfer_after c.args.self.now.meta c.make_room.new.self.meta c.in_ok-make_room.ensures.setup c.in_ok-make_room.ensures.gone _ _ c.write_whole.ensures.calls)
+
+pub returns-in_err-make_room-clause-kept : goal.returns-in_err-make_room-clause-kept
+returns-in_err-make_room-clause-kept g c is = idle_calls _ _ _ (c.make_room.ensures.idle is)
+
+pub returns-in_err-make_room-clause-whole : goal.returns-in_err-make_room-clause-whole
+returns-in_err-make_room-clause-whole g c is = c.make_room.ensures.whole is
+
+pub returns-in_err-write_whole-clause-kept : goal.returns-in_err-write_whole-clause-kept
+returns-in_err-write_whole-clause-kept g c is =
+    idle_then _ _ (g.R.Rack.told (core_rack c.make_room.new.self)) _ (c.make_room.ensures.idle is)
+    (data_after c.args.self.now.meta c.make_room.new.self.meta c.in_ok-make_room.ensures.setup c.in_ok-make_room.ensures.gone _ _ c.write_whole.ensures.calls)
+
+pub returns-clause-kept : goal.returns-clause-kept
+returns-clause-kept g c is =
+    idle_then _ _ (g.R.Rack.told (core_rack c.make_room.new.self)) _ (c.make_room.ensures.idle is)
+    (data_after c.args.self.now.meta c.make_room.new.self.meta c.in_ok-make_room.ensures.setup c.in_ok-make_room.ensures.gone _ _ c.write_whole.ensures.calls)
+
+pub returns-in_err-write_whole-clause-whole : goal.returns-in_err-write_whole-clause-whole
+returns-in_err-write_whole-clause-whole g c is h lo =
+    let old = c.args.self.now in
+    whole_then_reads (CoreStandsFor g.R.Rack.slot_count old h lo) (λ s k. k.base) (record old.meta { epoch = old.meta.epoch + 1 }) old.batch c.make_room.new.self.meta.setup.geometry.disks (λ s k. k.next.setup)
+    (ap (λ (z : Setup). z.geometry.disks) c.in_ok-make_room.ensures.setup) _ _ _ (c.make_room.ensures.whole is h lo) c.write_whole.ensures.reads
+
+pub returns-clause-whole : goal.returns-clause-whole
+returns-clause-whole g c is h lo =
+    let old = c.args.self.now in
+    whole_then_reads (CoreStandsFor g.R.Rack.slot_count old h lo) (λ s k. k.base) (record old.meta { epoch = old.meta.epoch + 1 }) old.batch c.make_room.new.self.meta.setup.geometry.disks (λ s k. k.next.setup)
+    (ap (λ (z : Setup). z.geometry.disks) c.in_ok-make_room.ensures.setup) _ _ _ (c.make_room.ensures.whole is h lo) c.write_whole.ensures.reads
+
+pub returns-clause-marks : goal.returns-clause-marks
+returns-clause-marks g c = marks_then _ _ _ _ _ _ c.in_ok-make_room.ensures.marks c.in_ok-write_whole.ensures.marks c.make_room.ensures.spared c.write_whole.ensures.spared
+
+pub returns-in_err-write_whole-clause-two : goal.returns-in_err-write_whole-clause-two
+returns-in_err-write_whole-clause-two g c =
+    let old = c.args.self.now in
+    handed (AreTwoDown (core_down old) (g.R.Rack.slot (core_rack old)) (g.R.Rack.slot (core_rack c.write_whole.new.self))) c.from_residual-in_err-write_whole.result _ c.from_residual-in_err-write_whole.ensures.1
+    (two_after (core_down old) (core_down c.make_room.new.self) _ _ _ _ c.in_ok-make_room.ensures.down c.in_ok-make_room.ensures.spared c.in_err-write_whole.ensures.spared c.in_err-write_whole.ensures.two)
+
+pub returns-clause-names : goal.returns-clause-names
+returns-clause-names g c = c.in_ok-write_whole.ensures.named ∙ c.in_ok-make_room.ensures.names
+
+pub returns-clause-rest : goal.returns-clause-rest
+returns-clause-rest g c is h lo =
+    let old = c.args.self.now in
+    let new = c.write_whole.new.self in
+    let first = c.in_ok-make_room.ensures in
+    let then_it = c.in_ok-write_whole.ensures in
+    let names : named_of new.store ≡ named_out old.meta.out = returns-clause-names g c ∙ ap (λ (b : Bool). if b then named_out old.meta.out else named_of old.store) is in
+    let epoch : new.meta.epoch ≡ old.meta.epoch + 1 = then_it.epoch ∙ first.epoch ∙ ap (λ (b : Bool). old.meta.epoch + (if b then 1 else 0)) is in
+    rest_ran (CoreStandsFor g.R.Rack.slot_count old h lo) (λ s k. k.base) (record old.meta { epoch = old.meta.epoch + 1 }) old.batch _ _ (named_of new.store) new.meta _ _ new.copied old.copied _ _ (g.R.Rack.slot (core_rack new)) _ _ (g.met.R.Rack.agrees (core_rack new))
+    then_it.ready.absent then_it.ready.one names (λ s k d is_out. c.requires.serves.stays d (sym k.named_by ∙ is_out)) (λ s k. k.next.setup) (then_it.setup ∙ first.setup) (λ s k. let was = k.epoch in omega (arith, was, epoch))
+    (then_it.copied ∙ first.copied) c.requires.copies_synced (returns-clause-whole g c is h lo) (returns-clause-stands g c h lo)

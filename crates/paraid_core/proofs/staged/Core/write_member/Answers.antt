@@ -1,5 +1,5 @@
 use Rattle.paraid_image.specs.Mark.{meta_after_loss}
-use Rattle.std.proofs.Common.{◌≡◌, ℕ, ◌∙◌, ◌<◌, Some, None, sym, ap, subst, refl, false}
+use Rattle.std.proofs.Common.{◌≡◌, ℕ, ◌∙◌, ◌<◌, Some, None, sym, ap, subst, refl, false, ◌≢◌, arith}
 use Rattle.std.specs.Prelude.{Option, is_ok}
 use Rattle.paraid_base.specs.Told.{HasRisen}
 use Rattle.paraid_image.specs.Out.{named_out}
@@ -14,6 +14,8 @@ use Rattle.paraid_core.proofs.CallLemmas.{call_leaves, call_spared, call_stands,
 use Rattle.paraid_core.proofs.ReadyLemmas.{some_is}
 use Rattle.paraid_core.proofs.UnsyncedLemmas.{marks_written}
 use Rattle.paraid_core.proofs.StripeLemmas.{keeps_unwritten, member_held, member_written}
+use Rattle.paraid_core.proofs.KindLemmas.{gone_named, written_calls}
+use Rattle.paraid_core.proofs.LostMarkLemmas.{marks_done, marks_failed}
 use Rattle.paraid_core.proofs.staged.Core.write_member.Given.{Over}
 use Rattle.paraid_core.proofs.staged.Core.write_member.Goals as goal
 use Rattle.paraid_core.proofs.staged.Core.write_member.Goals.{In_default, In_ok-lose}
@@ -77,3 +79,42 @@ returns-clause-moments g c h lo =
     let q = c.requires in
     member_held g.R.Rack.slot_count g.R.Rack.slot g.R.Rack.told c.args.self.now _ c.args.s c.args.disk c.args.place c.args.block.now _ c.write_free-answer.ensures.told (g.met.R.Rack.agrees (store_rack c.args.self.now.store))
     q.ready.absent q.ready.in_range q.whole q.shifts q.from q.stripe q.disk _ (record { here = c.mark.ensures.here; others = c.mark.ensures.others }) q.place h lo
+
+pub returns-in_default-clause-calls : goal.returns-in_default-clause-calls
+returns-in_default-clause-calls g c =
+    let q = c.requires in
+    let m = c.args.self.now.meta in
+    let in_all : named_out m.out ≢ Some c.args.disk = (λ named. let z : None ≡ Some c.args.disk = ap named_out (sym q.whole) ∙ named in cc) in
+    let at = q.place in
+    written_calls _ _ c.args.disk c.args.place c.args.block.now (is_ok c.write_free-answer.result) _ _ c.write_free-answer.ensures.told q.disk
+    (λ gone. in_all (gone_named m.out c.args.disk gone)) (omega (arith, at)) (λ t tells. (g.met.R.Rack.agrees (store_rack c.args.self.now.store) t tells).power c.args.disk ∙ q.spins)
+
+pub returns-clause-calls : goal.returns-clause-calls
+returns-clause-calls g c =
+    let q = c.requires in
+    let m = c.args.self.now.meta in
+    let in_all : named_out m.out ≢ Some c.args.disk = (λ named. let z : None ≡ Some c.args.disk = ap named_out (sym q.whole) ∙ named in cc) in
+    let at = q.place in
+    written_calls _ _ c.args.disk c.args.place c.args.block.now (is_ok c.write_free-answer.result) _ _ c.write_free-answer.ensures.told q.disk
+    (λ gone. in_all (gone_named m.out c.args.disk gone)) (omega (arith, at)) (λ t tells. (g.met.R.Rack.agrees (store_rack c.args.self.now.store) t tells).power c.args.disk ∙ q.spins)
+
+pub returns-in_err-lose-clause-calls : goal.returns-in_err-lose-clause-calls
+returns-in_err-lose-clause-calls g c =
+    let q = c.requires in
+    let m = c.args.self.now.meta in
+    let in_all : named_out m.out ≢ Some c.args.disk = (λ named. let z : None ≡ Some c.args.disk = ap named_out (sym q.whole) ∙ named in cc) in
+    let at = q.place in
+    written_calls _ _ c.args.disk c.args.place c.args.block.now (is_ok c.write_free-answer.result) _ _ c.write_free-answer.ensures.told q.disk
+    (λ gone. in_all (gone_named m.out c.args.disk gone)) (omega (arith, at)) (λ t tells. (g.met.R.Rack.agrees (store_rack c.args.self.now.store) t tells).power c.args.disk ∙ q.spins)
+
+pub returns-in_default-clause-marks : goal.returns-in_default-clause-marks
+returns-in_default-clause-marks g c = marks_done c.args.self.now.meta _ _ c.args.disk _ _ _ c.write_free-answer.ensures.slot (record { faults = refl; power = refl; size = refl }) (ap is_ok c.in_default.is)
+
+pub returns-clause-marks : goal.returns-clause-marks
+returns-clause-marks g c = marks_failed c.args.self.now.meta c.lose.new.meta _ _ c.args.disk _ _ _ c.write_free-answer.ensures.slot (failed g c) (meta_is g c) c.requires.disk (λ x k. c.in_ok-lose.ensures.alone c.args.disk x refl k c.requires.disk)
+
+pub returns-clause-gone : goal.returns-clause-gone
+returns-clause-gone g c is = meta_is g c
+
+pub returns-clause-failed : goal.returns-clause-failed
+returns-clause-failed g c is = record { risen = c.write_free-answer.ensures.slot.risen (failed g c); absent = c.write_free-answer.ensures.slot.absent (failed g c) }

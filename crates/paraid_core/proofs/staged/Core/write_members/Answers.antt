@@ -2,6 +2,7 @@ use Rattle.std.specs.Prelude.{ℕ, ◌+◌}
 use Rattle.std.proofs.Common.{◌≡◌, ◌<◌, ◌∙◌, sym, ap, subst, refl, arith, Ok}
 use Rattle.paraid_base.specs.States.{phase_to}
 use Rattle.paraid_record.specs.declared.meta.Meta.{Meta}
+use Rattle.paraid_image.specs.Mark.{meta_after_loss}
 use Rattle.paraid_rack.proofs.TrailsLemmas.{weaker}
 use Rattle.paraid_txn.specs.Stores.{named_of, store_rack}
 use Rattle.paraid_view.proofs.TwoLemmas.{spared_then}
@@ -11,6 +12,8 @@ use Rattle.paraid_core.specs.CoreInvariant.{HoldsBetweenCalls}
 use Rattle.paraid_core.proofs.AfterLemmas.{handed}
 use Rattle.paraid_core.proofs.StepLemmas.{leaves_none, leaves_then, runs_end, runs_none, runs_then, two_then}
 use Rattle.paraid_core.proofs.StripeLemmas.{filling_done, members_held, shift_low}
+use Rattle.paraid_core.proofs.KindLemmas.{calls_none, calls_then, data_same}
+use Rattle.paraid_core.proofs.LostMarkLemmas.{lost_after, marks_none, marks_then}
 use Rattle.paraid_core.proofs.staged.Core.write_members.Goals as goal
 use Rattle.paraid_core.proofs.staged.Core.write_members.Goals.{After-write_member, In_ok-done}
 
@@ -18,6 +21,8 @@ pub loop-disk-init : goal.loop-disk-init
 loop-disk-init g c = record {
   leaves = leaves_none g.R.Rack.slot_count g.R.Rack.slot g.R.Rack.told c.args.self.now c.requires.ready c.requires.serves.stays;
   meta = refl;
+  calls = calls_none _ (g.R.Rack.told (store_rack c.args.self.now.store));
+  marks = marks_none c.args.self.now.meta c.args.self.now.meta _ _ c.args.self.now.meta.epoch c.args.self.now.meta.writes (λ d. refl) refl;
   written = λ h lo. runs_none g.R.Rack.slot_count g.R.Rack.slot g.R.Rack.told c.args.self.now (Filling g.R.Rack.slot_count c.args.self.now h lo c.args.s c.args.blocks.now 0) h lo (λ s f. f.before.keeps);
 }
 
@@ -62,6 +67,8 @@ loop-disk-preserved g c =
     let done = c.if-not-done.false in
     record {
       leaves = leaves_then g.R.Rack.slot_count g.R.Rack.slot g.R.Rack.told c.args.self.now c.loop-disk.self was.leaves c.write_member.new.self call.leaves;
+      marks = marks_then _ _ _ _ _ _ was.marks call.marks was.leaves.spared c.write_member.ensures.spared;
+      calls = calls_then _ _ _ _ was.calls (data_same _ _ was.meta _ _ c.write_member.ensures.calls);
       meta = call.same (ap Ok done) ∙ was.meta;
       written = λ h lo.
           runs_then g.R.Rack.slot_count g.R.Rack.slot g.R.Rack.told c.args.self.now c.loop-disk.self was.leaves c.write_member.new.self
@@ -82,3 +89,30 @@ returns-clause-filled g c is h lo =
 
 pub returns-clause-moments : goal.returns-clause-moments
 returns-clause-moments g c h lo = runs_end g.R.Rack.slot_count g.R.Rack.slot g.R.Rack.told c.args.self.now _ _ _ h lo (c.loop-disk.invariant.written h lo)
+
+pub returns-in_err-done-clause-calls : goal.returns-in_err-done-clause-calls
+returns-in_err-done-clause-calls g c = calls_then _ _ _ _ c.loop-disk.invariant.calls (data_same _ _ c.loop-disk.invariant.meta _ _ c.write_member.ensures.calls)
+
+pub returns-then-not-done-clause-calls : goal.returns-then-not-done-clause-calls
+returns-then-not-done-clause-calls g c = calls_then _ _ _ _ c.loop-disk.invariant.calls (data_same _ _ c.loop-disk.invariant.meta _ _ c.write_member.ensures.calls)
+
+pub returns-clause-calls : goal.returns-clause-calls
+returns-clause-calls g c = c.loop-disk.invariant.calls
+
+pub returns-then-not-done-clause-marks : goal.returns-then-not-done-clause-marks
+returns-then-not-done-clause-marks g c = marks_then _ _ _ _ _ _ c.loop-disk.invariant.marks c.in_ok-done.ensures.marks c.loop-disk.invariant.leaves.spared c.write_member.ensures.spared
+
+pub returns-clause-marks : goal.returns-clause-marks
+returns-clause-marks g c = c.loop-disk.invariant.marks
+
+pub returns-then-not-done-clause-failed : goal.returns-then-not-done-clause-failed
+returns-then-not-done-clause-failed g c is =
+    let was = c.loop-disk.invariant in
+    let call = c.in_ok-done.ensures in
+    let now = ap Ok c.if-not-done.true in
+    record {
+      disk = c.loop-disk.disk;
+      low = (let to = c.to-to.ensures in let test = c.loop-disk-test.true in let region = c.requires.region in omega arith);
+      failed = lost_after _ (g.R.Rack.slot (store_rack c.loop-disk.self.store)) _ c.loop-disk.disk was.leaves.spared (call.failed now);
+      gone = call.gone now ∙ ap (λ (z : Meta). meta_after_loss z c.loop-disk.disk) was.meta;
+    }

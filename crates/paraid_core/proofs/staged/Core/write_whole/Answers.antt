@@ -1,4 +1,4 @@
-use Rattle.std.proofs.Common.{◌≡◌, ℕ, ap, subst}
+use Rattle.std.proofs.Common.{◌≡◌, ℕ, ap, subst, ◌∙◌}
 use Rattle.std.specs.Prelude.{Bool, false, true, ◌∷◌, ◌++◌, [], if◌then◌else◌}
 use Rattle.paraid_base.specs.History.{Entry, History}
 use Rattle.paraid_base.specs.Pairs.{pairs_of}
@@ -11,6 +11,8 @@ use Rattle.paraid_core.specs.declared.staged.Core.{Core}
 use Rattle.paraid_core.specs.Cores.{IsCoreHeldSinceCommit, CoreStandsFor, core_down, core_rack}
 use Rattle.paraid_core.proofs.AfterLemmas.{handed}
 use Rattle.paraid_core.proofs.ChainLemmas.{after_same, done_then, ended, two_after}
+use Rattle.paraid_core.proofs.KindLemmas.{calls_then, data_after, none_gone, reads_then}
+use Rattle.paraid_core.proofs.LostMarkLemmas.{marks_then}
 use Rattle.paraid_core.proofs.staged.Core.write_whole.Given.{Over}
 use Rattle.paraid_core.proofs.staged.Core.write_whole.Goals as goal
 use Rattle.paraid_core.proofs.staged.Core.write_whole.Goals.{In_ok-try_write}
@@ -70,3 +72,43 @@ returns-clause-stands g c h lo =
     both g c.args.self.now mid new (pairs_of c.args.pairs.now) c.in_ok-done.done c.if-done.false h lo (done.since h lo) done.slots done.setup done.named _
     (subst (λ (b : Bool). Ran (g.R.Rack.told (core_rack mid)) (g.R.Rack.told (core_rack new)) (CrashTriple (IsCoreHeldSinceCommit g.R.Rack.slot_count mid h lo) (CoreStandsFor g.R.Rack.slot_count mid h lo)
     (CoreStandsFor g.R.Rack.slot_count new (if b then h ++ pairs_of c.args.pairs.now ∷ [] else h) lo))) (again g c) (c.in_ok-try_write.ensures.since h lo))
+
+pub returns-in_err-done-clause-calls : goal.returns-in_err-done-clause-calls
+returns-in_err-done-clause-calls g c = c.try_write.ensures.calls
+
+pub returns-then-done-clause-calls : goal.returns-then-done-clause-calls
+returns-then-done-clause-calls g c = c.try_write.ensures.calls
+
+pub returns-in_err-try_write-clause-calls : goal.returns-in_err-try_write-clause-calls
+returns-in_err-try_write-clause-calls g c =
+    calls_then _ _ _ _ c.try_write.ensures.calls
+    (data_after c.args.self.now.meta c.try_write.new.self.meta c.in_ok-done.ensures.setup (λ d is. absurd (none_gone (named_of c.args.self.now.store) c.args.self.now.meta.out d (c.in_ok-done.ensures.lost c.if-done.false).none is)) _ _ c.try_write-2.ensures.calls)
+
+pub returns-clause-calls : goal.returns-clause-calls
+returns-clause-calls g c =
+    calls_then _ _ _ _ c.try_write.ensures.calls
+    (data_after c.args.self.now.meta c.try_write.new.self.meta c.in_ok-done.ensures.setup (λ d is. absurd (none_gone (named_of c.args.self.now.store) c.args.self.now.meta.out d (c.in_ok-done.ensures.lost c.if-done.false).none is)) _ _ c.try_write-2.ensures.calls)
+
+pub returns-in_err-done-clause-reads : goal.returns-in_err-done-clause-reads
+returns-in_err-done-clause-reads g c = c.try_write.ensures.reads
+
+pub returns-then-done-clause-reads : goal.returns-then-done-clause-reads
+returns-then-done-clause-reads g c = c.try_write.ensures.reads
+
+pub returns-in_err-try_write-clause-reads : goal.returns-in_err-try_write-clause-reads
+returns-in_err-try_write-clause-reads g c = reads_then _ _ (ap (λ (z : Setup). z.geometry.disks) c.in_ok-done.ensures.setup) _ _ _ c.try_write.ensures.reads c.try_write-2.ensures.reads
+
+pub returns-clause-reads : goal.returns-clause-reads
+returns-clause-reads g c = reads_then _ _ (ap (λ (z : Setup). z.geometry.disks) c.in_ok-done.ensures.setup) _ _ _ c.try_write.ensures.reads c.try_write-2.ensures.reads
+
+pub returns-then-done-clause-marks : goal.returns-then-done-clause-marks
+returns-then-done-clause-marks g c = c.in_ok-done.ensures.marks
+
+pub returns-clause-marks : goal.returns-clause-marks
+returns-clause-marks g c = marks_then _ _ _ _ _ _ c.in_ok-done.ensures.marks c.in_ok-try_write.ensures.marks c.try_write.ensures.spared c.try_write-2.ensures.spared
+
+pub returns-then-done-clause-named : goal.returns-then-done-clause-named
+returns-then-done-clause-named g c = c.try_write.ensures.named
+
+pub returns-clause-named : goal.returns-clause-named
+returns-clause-named g c = c.try_write-2.ensures.named ∙ c.try_write.ensures.named

@@ -7,7 +7,7 @@ use Rattle.paraid_image.specs.Out.{first_absent, named_out, or_else}
 use Rattle.paraid_txn.specs.Losses.IsOutOfCommit.{is_named}
 use Rattle.paraid_rack.specs.Disks.{Disks}
 use Rattle.paraid_txn.specs.CommitStages.{IsSpelled, job}
-use Rattle.paraid_txn.proofs.AloneLemmas.{alone_out, two_beside}
+use Rattle.paraid_txn.proofs.AloneLemmas.{alone_out, gone_beside, two_beside}
 use Rattle.paraid_txn.proofs.DownLemmas.{AreCommitCalls-absent, AreCommitCalls-risen}
 use Rattle.paraid_txn.proofs.StoreLemmas.{commits, next_in_range, start_ready, whole_or_absent}
 use Rattle.paraid_txn.proofs.store.Store.commit.Given.{Over}
@@ -110,6 +110,25 @@ pub returns-in_err-run-clause-two : goal.returns-in_err-run-clause-two
 returns-in_err-run-clause-two g c =
     let at = goal.at.returns-in_err-run-clause-two g c in
     raised _ _ _ c.from_residual.ensures.1 (two_beside _ _ _ _ _ _ _ _ (down_is g at.After-run) c.in_err-run.ensures.part.two)
+
+pub returns-in_err-run-clause-gone : goal.returns-in_err-run-clause-gone
+returns-in_err-run-clause-gone g c =
+    let at = goal.at.returns-in_err-run-clause-gone g c in
+    raised _ _ _ c.from_residual.ensures.1 (gone_beside _ _ _ _ _ _ _ _ (down_is g at.After-run) c.in_err-run.ensures.part.gone)
+
+pub returns-in-Some-clause-gone : goal.returns-in-Some-clause-gone
+returns-in-Some-clause-gone g c =
+    let both = c.find_second.ensures.two c.in-Some.two (cc) in
+    record {
+      first = inl (is_named (sym c.named-named.ensures ∙ both.0));
+      second = record {
+        there = elim (c.run.ensures.part.on c.in-Some.two.second both.1) [
+          | inl none ↦ (let never : None ≡ Some c.in-Some.two.second = none in cc)
+          | inr on ↦ on.1
+        ];
+        absent = AreCommitCalls-absent _ _ _ _ _ c.run.ensures.part.lasts refl both.1;
+      };
+    }
 
 pub returns-in-Some-clause-two : goal.returns-in-Some-clause-two
 returns-in-Some-clause-two g c =

@@ -1,7 +1,7 @@
 use Rattle.std.specs.Prelude.{◌≡◌}
 use Rattle.std.proofs.Common.{refl, ◌∙◌}
 use Rattle.paraid_image.specs.Out.{first_absent, named_out, or_else}
-use Rattle.paraid_txn.proofs.AloneLemmas.{two_beside}
+use Rattle.paraid_txn.proofs.AloneLemmas.{gone_beside, two_beside}
 use Rattle.paraid_txn.proofs.OneLemmas.{one_stays}
 use Rattle.paraid_txn.proofs.store.Store.resume.Given.{Over}
 use Rattle.paraid_txn.proofs.store.Store.resume.Goals as goal
@@ -18,6 +18,12 @@ returns-in-Err-clause-two g c =
     let at = goal.at.returns-in-Err-clause-two g c in
     two_beside _ _ _ _ _ _ _ _ (down_is g at.After-end_commit-ended)
     (rw (← (c.adopt-store.ensures.rack), c.close.ensures) c.in-Err.ensures.part.two)
+
+pub returns-in-Err-clause-refused_gone : goal.returns-in-Err-clause-refused_gone
+returns-in-Err-clause-refused_gone g c =
+    let at = goal.at.returns-in-Err-clause-refused_gone g c in
+    gone_beside _ _ _ _ _ _ _ _ (down_is g at.After-end_commit-ended)
+    (rw (← (c.adopt-store.ensures.rack), c.close.ensures) c.in-Err.ensures.part.gone)
 
 pub returns-in-Err-clause-refused_powers : goal.returns-in-Err-clause-refused_powers
 returns-in-Err-clause-refused_powers g c =

@@ -1,7 +1,7 @@
 use Rattle.std.specs.Prelude.{◌≡◌, Some, None}
 use Rattle.std.proofs.Common.{refl, ◌∙◌}
 use Rattle.paraid_image.specs.Out.{first_absent, or_else}
-use Rattle.paraid_txn.proofs.AloneLemmas.{two_beside}
+use Rattle.paraid_txn.proofs.AloneLemmas.{gone_beside, two_beside}
 use Rattle.paraid_txn.proofs.OneLemmas.{one_stays}
 use Rattle.paraid_txn.proofs.SyncLemmas.{raised}
 use Rattle.paraid_txn.proofs.store.Store.sync_all.Given.{Over}
@@ -17,6 +17,11 @@ pub returns-in_err-sync_each-clause-two : goal.returns-in_err-sync_each-clause-t
 returns-in_err-sync_each-clause-two g c =
     let at = goal.at.returns-in_err-sync_each-clause-two g c in
     raised _ _ _ c.from_residual.ensures.1 (two_beside _ _ _ _ _ _ _ _ (down_is g at.After-sync_each) c.in_err-sync_each.ensures.part.two)
+
+pub returns-in_err-sync_each-clause-gone : goal.returns-in_err-sync_each-clause-gone
+returns-in_err-sync_each-clause-gone g c =
+    let at = goal.at.returns-in_err-sync_each-clause-gone g c in
+    raised _ _ _ c.from_residual.ensures.1 (gone_beside _ _ _ _ _ _ _ _ (down_is g at.After-sync_each) c.in_err-sync_each.ensures.part.gone)
 
 pub returns-in_err-sync_each-clause-powers : goal.returns-in_err-sync_each-clause-powers
 returns-in_err-sync_each-clause-powers g c =

@@ -1,0 +1,57 @@
+-- What keeps an array in service.
+use Rattle.std.specs.Prelude.{◌≡◌, ◌≢◌, ℕ, ◌<◌, [], Option, Some, None}
+use Rattle.std.proofs.Common.{refl, sym, ◌∙◌, ap, subst, arith}
+use Rattle.paraid_base.specs.Regions.{disk_size}
+use Rattle.paraid_rack.specs.Slots.{Slot}
+use Rattle.paraid_record.specs.declared.meta.Meta.{Meta}
+use Rattle.paraid_record.specs.declared.meta.Setup.{Setup}
+use Rattle.paraid_image.specs.Out.{named_out}
+use Rattle.paraid_txn.specs.Stores.{store_rack}
+use Rattle.paraid_core.specs.declared.staged.Core.{Core}
+use Rattle.paraid_core.specs.CoreInvariant.{meta_with_lost}
+use Rattle.paraid_core.specs.Cores.{CanCoreServe, IsCoreReady}
+use Rattle.paraid_core.specs.Lost.{CoreMarksLost, MarksLost}
+use Rattle.paraid_core.specs.Steps.{AreUnsyncedCopied}
+use Rattle.paraid_shift.specs.Serving.{AreAllLarge, IsCoreServing}
+use Rattle.paraid_shift.proofs.ServingLemmas.{copies_kept}
+use Rattle.paraid_array.specs.Service.{IsInService}
+
+-- a disk that is not out has not failed, and was not out before
+large_lost : (old new : ℕ → Slot) (m m_then : Meta) → MarksLost old new m m_then → m_then.setup ≡ m.setup → AreAllLarge old m → AreAllLarge new m_then
+large_lost old new m m_then marks setup large d low not =
+    let not_lost : marks.lost ≢ Some d = (λ is. not (ap (λ (z : Meta). named_out z.out) marks.is ∙ ap (λ (o : Option ℕ). named_out (meta_with_lost o m).out) is)) in
+    let well = marks.others d not_lost in
+    let was = large d (subst (λ (z : Setup). d < z.geometry.disks) setup low) (λ is. not (by marks.lost is refl)) in
+    let same = well.size in
+    let setups : disk_size m_then.setup.geometry ≡ disk_size m.setup.geometry = ap (λ (z : Setup). disk_size z.geometry) setup in
+    omega arith
+  where
+    by : (o : Option ℕ) → named_out m.out ≡ Some d → marks.lost ≡ o → named_out m_then.out ≡ Some d
+    by None is e = ap (λ (z : Meta). named_out z.out) marks.is ∙ ap (λ (o : Option ℕ). named_out (meta_with_lost o m).out) e ∙ is
+    by (Some x) is e = ap (λ (z : Meta). named_out z.out) marks.is ∙ ap (λ (o : Option ℕ). named_out (meta_with_lost o m).out) e ∙ ap Some (sym (marks.alone x d e is))
+
+module _ {R : Type 0} {g : _} (count : R → ℕ) (slot : R → ℕ → Slot) where
+  -- after a call
+  pub service_then : (a b : Core R g) → IsInService count slot a → CoreMarksLost slot a b → b.meta.setup ≡ a.meta.setup → IsCoreReady count slot b → CanCoreServe slot b → b.draft ≡ [] → b.copied ≡ a.copied → IsInService count slot b
+  service_then a b q marks setup ready serves draft copied = record {
+    ready = ready;
+    serves = serves;
+    draft = draft;
+    copies_synced = copies_kept a b setup copied q.copies_synced;
+    large = large_lost (slot (store_rack a.store)) (slot (store_rack b.store)) a.meta b.meta marks setup q.large;
+  }
+
+  pub service_serving : (a : Core R g) → IsInService count slot a → AreUnsyncedCopied slot a → IsCoreServing count slot a
+  service_serving a q unsynced = record { ready = q.ready; serves = q.serves; draft = q.draft; copies_synced = q.copies_synced; unsynced = unsynced; large = q.large }
+
+  pub serving_service : (a : Core R g) → IsCoreServing count slot a → IsInService count slot a
+  serving_service a q = record { ready = q.ready; serves = q.serves; draft = q.draft; copies_synced = q.copies_synced; large = q.large }
+
+-- a disk is marked as gone: no call is made
+pub large_marked : {R : Type 0} {g : _} (slot : R → ℕ → Slot) (a b : Core R g) → b.store ≡ a.store → b.meta.setup ≡ a.meta.setup → (disk : ℕ) → named_out b.meta.out ≡ Some disk → ((x : ℕ) → named_out a.meta.out ≡ Some x → x ≡ disk)
+    → AreAllLarge (slot (store_rack a.store)) a.meta → AreAllLarge (slot (store_rack b.store)) b.meta
+large_marked slot a b store setup disk out alone large d low not =
+    let was = large d (subst (λ (z : Setup). d < z.geometry.disks) setup low) (λ is. not (out ∙ ap Some (sym (alone d is)))) in
+    let same : (slot (store_rack b.store) d).size ≡ (slot (store_rack a.store) d).size = ap (λ (z : _). (slot (store_rack z) d).size) store in
+    let setups : disk_size b.meta.setup.geometry ≡ disk_size a.meta.setup.geometry = ap (λ (z : Setup). disk_size z.geometry) setup in
+    omega arith

@@ -1,0 +1,33 @@
+use Rattle.std.specs.Prelude.{◌+◌}
+use Rattle.std.proofs.Common.{◌∙◌, ap}
+use Rattle.paraid_image.specs.Out.{named_out}
+use Rattle.paraid_record.specs.declared.meta.Meta.{Meta}
+use Rattle.paraid_shift.proofs.ServingLemmas.{copies_kept}
+use Rattle.paraid_array.proofs.OutLemmas.{gone_marked, known_gone}
+use Rattle.paraid_array.proofs.ServiceLemmas.{large_marked, service_then}
+use Rattle.paraid_array.proofs.failing.mark_gone.Goals as goal
+
+pub returns-clause-service : goal.returns-clause-service
+returns-clause-service g c =
+    let q = c.requires.service in
+    let a = c.args.core.now in
+    let b = c.mark_out.new.self in
+    let marks = c.mark_out.ensures in
+    let done = c.in_ok-commit.ensures in
+    service_then g.R.Rack.slot_count g.R.Rack.slot b c.commit.new.self
+    (record {
+      ready = marks.ready;
+      serves = marks.serves q.serves;
+      draft = marks.draft ∙ q.draft;
+      copies_synced = copies_kept a b (ap (λ (m : Meta). m.setup) marks.meta) marks.copied q.copies_synced;
+      large = large_marked g.R.Rack.slot a b marks.store (ap (λ (m : Meta). m.setup) marks.meta) c.args.disk (ap (λ (m : Meta). named_out m.out) marks.meta) c.requires.alone q.large;
+    })
+    done.marks done.setup done.ready (done.serves (marks.serves q.serves)) (done.draft ∙ marks.draft ∙ q.draft) done.copied
+
+pub returns-clause-known : goal.returns-clause-known
+returns-clause-known g c =
+    let b = c.mark_out.new.self in
+    let new = c.commit.new.self in
+    let done = c.in_ok-commit.ensures in
+    known_gone g.R.Rack.slot new c.args.disk
+    (gone_marked (record b.meta { epoch = b.meta.epoch + 1 }) new.meta c.args.disk (ap (λ (m : Meta). m.out) c.mark_out.ensures.meta) done.meta) done.absent

@@ -1,0 +1,42 @@
+use Rattle.std.proofs.Common.{ap, Ok}
+use Rattle.paraid_image.specs.Out.{named_out}
+use Rattle.paraid_record.specs.declared.meta.Meta.{Meta}
+use Rattle.paraid_core.proofs.AfterLemmas.{handed}
+use Rattle.paraid_shift.proofs.ServingLemmas.{leaves_array_then, two_array}
+use Rattle.paraid_array.proofs.OutLemmas.{known_gone, leaves_back, leaves_out}
+use Rattle.paraid_array.proofs.rebuilding.come_back.Goals as goal
+
+pub returns-then-not-copied-clause-leaves : goal.returns-then-not-copied-clause-leaves
+returns-then-not-copied-clause-leaves g c =
+    let a = c.args.core.now in
+    let b = c.finish.new.core in
+    let done = c.in_ok-copied.ensures in
+    let meta = done.gone (ap Ok c.if-not-copied.true) in
+    leaves_out g.R.Rack.slot_count g.R.Rack.slot a b c.args.disk c.requires.serving.ready done.serving.ready (ap named_out c.requires.fresh) (ap (λ (m : Meta). named_out m.out) meta) done.slots
+    (ap (λ (m : Meta). m.setup) meta) (ap (λ (m : Meta). m.writes) meta) c.finish.ensures.spared
+
+pub returns-then-not-copied-clause-known : goal.returns-then-not-copied-clause-known
+returns-then-not-copied-clause-known g c =
+    let done = c.in_ok-copied.ensures in
+    known_gone g.R.Rack.slot c.finish.new.core c.args.disk (ap (λ (m : Meta). m.out) (done.gone (ap Ok c.if-not-copied.true))) done.absent
+
+pub returns-in_err-back-clause-two : goal.returns-in_err-back-clause-two
+returns-in_err-back-clause-two g c =
+    let a = c.args.core.now in
+    let b = c.finish.new.core in
+    let done = c.in_ok-copied.ensures in
+    let meta = done.back (ap Ok c.if-not-copied.false) in
+    let leaves = leaves_back g.R.Rack.slot_count g.R.Rack.slot a b (done.named (ap Ok c.if-not-copied.false)) (ap (λ (m : Meta). m.out) meta) done.slots
+    (ap (λ (m : Meta). m.setup) meta) (ap (λ (m : Meta). m.writes) meta) c.finish.ensures.spared in
+    handed _ c.from_residual-in_err-back.result _ c.from_residual-in_err-back.ensures.1
+    (two_array g.R.Rack.slot_count g.R.Rack.slot a b c.park_back.new.core leaves c.park_back.ensures.no_fall _ c.in_err-back.ensures.two)
+
+pub returns-clause-leaves : goal.returns-clause-leaves
+returns-clause-leaves g c =
+    let a = c.args.core.now in
+    let b = c.finish.new.core in
+    let done = c.in_ok-copied.ensures in
+    let meta = done.back (ap Ok c.if-not-copied.false) in
+    let leaves = leaves_back g.R.Rack.slot_count g.R.Rack.slot a b (done.named (ap Ok c.if-not-copied.false)) (ap (λ (m : Meta). m.out) meta) done.slots
+    (ap (λ (m : Meta). m.setup) meta) (ap (λ (m : Meta). m.writes) meta) c.finish.ensures.spared in
+    leaves_array_then g.R.Rack.slot_count g.R.Rack.slot a b c.park_back.new.core leaves c.in_ok-back.ensures.leaves

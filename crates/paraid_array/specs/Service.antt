@@ -1,0 +1,26 @@
+-- An array in service.
+use Rattle.std.specs.Prelude.{◌≡◌, ℕ, [], Some}
+use Rattle.paraid_rack.specs.declared.call.Power.TheVariants.{Spinning}
+use Rattle.paraid_rack.specs.Slots.{Slot}
+use Rattle.paraid_txn.specs.Stores.{named_of, store_rack}
+use Rattle.paraid_core.specs.declared.staged.Core.{Core}
+use Rattle.paraid_core.specs.CoreInvariant.{AreCopiesSynced}
+use Rattle.paraid_core.specs.Cores.{CanCoreServe, IsCoreReady}
+use Rattle.paraid_core.specs.Steps.{IsNamedOrAbsent}
+use Rattle.paraid_core.specs.Units.{IsRebuilding}
+use Rattle.paraid_shift.specs.Serving.{AreAllLarge}
+
+-- Over every rack: the core can be read and written, no plan is under way, each copy is synced, and each disk that is
+-- not out has the size of the array.
+pub record IsInService {R : Type 0} {g : _} (count : R → ℕ) (slot : R → ℕ → Slot) (core : Core R g) : Type 0 where
+  pub ready : IsCoreReady count slot core
+  pub serves : CanCoreServe slot core
+  pub draft : core.draft ≡ []
+  pub copies_synced : AreCopiesSynced core.meta.setup.geometry.disks core.copied
+  pub large : AreAllLarge (slot (store_rack core.store)) core.meta
+
+-- The disk that is out is named by the last commit, or absent; one that is being rebuilt is named, and spins.
+pub record IsOutKnown {R : Type 0} {g : _} (slot : R → ℕ → Slot) (core : Core R g) : Type 0 where
+  pub absent : IsNamedOrAbsent slot core
+  pub named : (d : ℕ) → IsRebuilding core.meta d → named_of core.store ≡ Some d
+  pub spins : (d : ℕ) → IsRebuilding core.meta d → (slot (store_rack core.store) d).power ≡ Spinning

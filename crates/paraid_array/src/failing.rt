@@ -1,0 +1,63 @@
+//! A disk is taken out.
+ghost use Rattle.std.specs.Prelude.{◌≡◌, ℕ, ◌^◌, ◌<◌, ◌≤◌, ◌⊎◌, Some, OnOk, IfErr};
+ghost use Rattle.paraid_core.specs.Cores.{core_down, core_rack, meta_of};
+ghost use Rattle.paraid_core.specs.Steps.{AreUnsyncedCopied};
+ghost use Rattle.paraid_array.specs.Service.{IsInService, IsOutKnown};
+ghost use Rattle.paraid_txn.specs.Losses.{AreTwoDownBeside, OnlyLosesSlots};
+ghost use Rattle.paraid_image.specs.Out.{named_out};
+
+use crate::fault::FailFault;
+use crate::requests::flush;
+use paraid_base::{DiskNo, Two};
+use paraid_core::Core;
+use paraid_rack::Rack;
+
+// Marks a disk as gone, where no other one is out, and commits that.
+fn mark_gone<R: Rack>(core: &mut Core<R>, disk: DiskNo) -> Result<(), Two>
+    requires service { IsInService R.slot_count R.slot core.old }
+    requires epoch { (meta_of core.old).epoch < 2 ^ 63 }
+    requires disk { disk < (meta_of core.old).setup.geometry.disks }
+    requires alone { (x : ℕ) → named_out (meta_of core.old).out ≡ Some x → x ≡ disk }
+    ensures service { OnOk result (IsInService R.slot_count R.slot core.new) }
+    ensures setup { OnOk result ((meta_of core.new).setup ≡ (meta_of core.old).setup) }
+    ensures writes { OnOk result ((meta_of core.new).writes ≡ (meta_of core.old).writes) }
+    ensures unsynced { OnOk result (AreUnsyncedCopied R.slot core.old → AreUnsyncedCopied R.slot core.new) }
+    ensures known { OnOk result (IsOutKnown R.slot core.new) }
+    ensures spared { OnlyLosesSlots (R.slot (core_rack core.old)) (R.slot (core_rack core.new)) }
+    ensures two { IfErr result (AreTwoDownBeside (λ d. (core_down core.old ≡ Some d) ⊎ (d ≡ disk))
+        (R.slot (core_rack core.old)) (R.slot (core_rack core.new))) }
+{
+    core.mark_out(disk);
+    core.commit()?;
+    Ok(())
+}
+
+/// Takes a disk out, unless it is refused: where there is no such disk, or one is out. What is staged is committed
+/// first; another disk that is lost in that refuses it too. It gives the refusal.
+pub fn take_out<R: Rack>(core: &mut Core<R>, disk: DiskNo) -> Result<Option<FailFault>, Two>
+    requires service { IsInService R.slot_count R.slot core.old }
+    requires epoch { (meta_of core.old).epoch < 2 ^ 62 }
+    ensures service { OnOk result (IsInService R.slot_count R.slot core.new) }
+    ensures setup { OnOk result ((meta_of core.new).setup ≡ (meta_of core.old).setup) }
+    ensures writes { OnOk result ((meta_of core.new).writes ≡ (meta_of core.old).writes) }
+    ensures unsynced { OnOk result (AreUnsyncedCopied R.slot core.old → AreUnsyncedCopied R.slot core.new) }
+    ensures known { OnOk result (IsOutKnown R.slot core.old → IsOutKnown R.slot core.new) }
+    // The first of two disks may be the one that is taken out.
+    ensures two { IfErr result (AreTwoDownBeside (λ d. (core_down core.old ≡ Some d) ⊎ (d ≡ disk))
+        (R.slot (core_rack core.old)) (R.slot (core_rack core.new))) }
+{
+    if disk >= core.meta().setup.geometry.disks {
+        return Ok(Some(FailFault::NoDisk { disk }));
+    }
+    if let Some(out) = core.out().named() {
+        return Ok(Some(FailFault::Out { disk: out }));
+    }
+    flush(core)?;
+    if let Some(out) = core.out().named() {
+        if out != disk {
+            return Ok(Some(FailFault::Out { disk: out }));
+        }
+    }
+    mark_gone(core, disk)?;
+    Ok(None)
+}

@@ -1,0 +1,171 @@
+//! A disk that is out is replaced, and the ticks of its rebuild.
+ghost use Rattle.std.specs.Prelude.{◌≡◌, ℕ, ◌+◌, ◌^◌, ◌<◌, ◌≤◌, true, false, [], None, Ok, Some, OnOk, IfOk, IfErr};
+ghost use Rattle.paraid_base.specs.declared.state.Out.TheVariants.{Fresh, Gone, No};
+ghost use Rattle.paraid_base.specs.declared.state.TickEvent.TheVariants.{Gone as GoneInTick, Rebuilt};
+ghost use Rattle.paraid_base.specs.States.{rebuilt_count};
+ghost use Rattle.paraid_base.specs.Told.{HasRisen};
+ghost use Rattle.paraid_core.specs.Cores.{batch_of, core_down, core_rack, meta_of, store_of};
+ghost use Rattle.paraid_core.specs.Units.{IsRebuilding};
+ghost use Rattle.paraid_array.specs.Service.{IsOutKnown};
+ghost use Rattle.paraid_rack.specs.declared.call.Power.TheVariants.{Spinning};
+ghost use Rattle.paraid_record.specs.Range.{rebuild_units as units_of_rebuild};
+ghost use Rattle.paraid_shift.specs.Serving.{IsCoreServing, LeavesArray};
+ghost use Rattle.paraid_txn.specs.Losses.{AreTwoDown};
+ghost use Rattle.paraid_txn.specs.Stores.{named_of};
+
+use paraid_base::{DiskNo, TickEvent, Two};
+use paraid_core::Core;
+use paraid_rack::Rack;
+use paraid_rebuild::{commit_staged, finish, step};
+use paraid_record::rebuild_units;
+
+// Parks the disk that has come back, unless the array needs it. False where it was lost in that.
+fn park_back<R: Rack>(core: &mut Core<R>, disk: DiskNo) -> Result<bool, Two>
+    requires serving { IsCoreServing R.slot_count R.slot core.old }
+    requires nothing { batch_of core.old ≡ [] }
+    requires whole { (meta_of core.old).out ≡ No }
+    requires named { named_of (store_of core.old) ≡ None }
+    requires disk { disk < (meta_of core.old).setup.geometry.disks }
+    requires spins { (R.slot (core_rack core.old) disk).power ≡ Spinning }
+    ensures serving { OnOk result (IsCoreServing R.slot_count R.slot core.new) }
+    ensures leaves { OnOk result (LeavesArray R.slot_count R.slot core.old core.new) }
+    ensures known { OnOk result (IsOutKnown R.slot core.new) }
+    ensures back { result ≡ Ok true → (meta_of core.new).out ≡ No }
+    ensures gone { result ≡ Ok false → (meta_of core.new).out ≡ Gone disk }
+    ensures failed { result ≡ Ok false
+        → HasRisen (R.slot (core_rack core.old) disk).faults (R.slot (core_rack core.new) disk).faults }
+    ensures no_fall { (d : ℕ) → (R.slot (core_rack core.old) d).faults ≤ (R.slot (core_rack core.new) d).faults }
+    ensures two { IfErr result (AreTwoDown (core_down core.old)
+        (R.slot (core_rack core.old)) (R.slot (core_rack core.new))) }
+{
+    let meta = core.meta();
+    if disk < meta.gear || disk < meta.phase.rising_to() {
+        return Ok(true);
+    }
+    let parked = core.park(disk)?;
+    if !parked {
+        return Ok(false);
+    }
+    Ok(true)
+}
+
+// Copies the units that are left, and takes the disk into the array again. False where it was lost in that.
+fn come_back<R: Rack>(core: &mut Core<R>, disk: DiskNo) -> Result<bool, Two>
+    requires serving { IsCoreServing R.slot_count R.slot core.old }
+    requires nothing { batch_of core.old ≡ [] }
+    requires fresh { IsRebuilding (meta_of core.old) disk }
+    requires disk { disk < (meta_of core.old).setup.geometry.disks }
+    requires named { named_of (store_of core.old) ≡ Some disk }
+    requires spins { (R.slot (core_rack core.old) disk).power ≡ Spinning }
+    requires epoch { (meta_of core.old).epoch < 2 ^ 63 }
+    ensures serving { OnOk result (IsCoreServing R.slot_count R.slot core.new) }
+    ensures leaves { OnOk result (LeavesArray R.slot_count R.slot core.old core.new) }
+    ensures known { OnOk result (IsOutKnown R.slot core.new) }
+    ensures back { result ≡ Ok true → (meta_of core.new).out ≡ No }
+    ensures gone { result ≡ Ok false → (meta_of core.new).out ≡ Gone disk }
+    ensures failed { result ≡ Ok false
+        → HasRisen (R.slot (core_rack core.old) disk).faults (R.slot (core_rack core.new) disk).faults }
+    ensures no_fall { (d : ℕ) → (R.slot (core_rack core.old) d).faults ≤ (R.slot (core_rack core.new) d).faults }
+    ensures two { IfErr result (AreTwoDown (core_down core.old)
+        (R.slot (core_rack core.old)) (R.slot (core_rack core.new))) }
+{
+    let copied = finish(core, disk)?;
+    if !copied {
+        return Ok(false);
+    }
+    let back = park_back(core, disk)?;
+    Ok(back)
+}
+
+// The last tick of a rebuild: what is staged is committed first. False where the disk was lost in it.
+fn end_rebuild<R: Rack>(core: &mut Core<R>, disk: DiskNo) -> Result<bool, Two>
+    requires serving { IsCoreServing R.slot_count R.slot core.old }
+    requires fresh { IsRebuilding (meta_of core.old) disk }
+    requires disk { disk < (meta_of core.old).setup.geometry.disks }
+    requires named { named_of (store_of core.old) ≡ Some disk }
+    requires spins { (R.slot (core_rack core.old) disk).power ≡ Spinning }
+    requires epoch { (meta_of core.old).epoch + 1 < 2 ^ 63 }
+    ensures serving { OnOk result (IsCoreServing R.slot_count R.slot core.new) }
+    ensures leaves { OnOk result (LeavesArray R.slot_count R.slot core.old core.new) }
+    ensures known { OnOk result (IsOutKnown R.slot core.new) }
+    ensures back { result ≡ Ok true → (meta_of core.new).out ≡ No }
+    ensures gone { result ≡ Ok false → (meta_of core.new).out ≡ Gone disk }
+    ensures failed { result ≡ Ok false
+        → HasRisen (R.slot (core_rack core.old) disk).faults (R.slot (core_rack core.new) disk).faults }
+    ensures no_fall { (d : ℕ) → (R.slot (core_rack core.old) d).faults ≤ (R.slot (core_rack core.new) d).faults }
+    ensures two { IfErr result (AreTwoDown (core_down core.old)
+        (R.slot (core_rack core.old)) (R.slot (core_rack core.new))) }
+{
+    let there = commit_staged(core, disk)?;
+    if !there {
+        return Ok(false);
+    }
+    let back = come_back(core, disk)?;
+    Ok(back)
+}
+
+// Another tick of it: the units below `end` are moved. False where the disk was lost in that.
+fn move_units<R: Rack>(core: &mut Core<R>, disk: DiskNo, end: u32) -> Result<bool, Two>
+    requires serving { IsCoreServing R.slot_count R.slot core.old }
+    requires fresh { IsRebuilding (meta_of core.old) disk }
+    requires named { named_of (store_of core.old) ≡ Some disk }
+    requires spins { (R.slot (core_rack core.old) disk).power ≡ Spinning }
+    requires from { rebuilt_count (meta_of core.old).out ≤ end }
+    requires limit { end ≤ units_of_rebuild (meta_of core.old).setup.geometry (meta_of core.old).gear disk }
+    requires epoch { (meta_of core.old).epoch + 2 < 2 ^ 63 }
+    ensures serving { OnOk result (IsCoreServing R.slot_count R.slot core.new) }
+    ensures leaves { OnOk result (LeavesArray R.slot_count R.slot core.old core.new) }
+    ensures known { OnOk result (IsOutKnown R.slot core.new) }
+    ensures moved { result ≡ Ok true → (meta_of core.new).out ≡ Fresh disk end }
+    ensures gone { result ≡ Ok false → (meta_of core.new).out ≡ Gone disk }
+    ensures failed { result ≡ Ok false
+        → HasRisen (R.slot (core_rack core.old) disk).faults (R.slot (core_rack core.new) disk).faults }
+    ensures no_fall { (d : ℕ) → (R.slot (core_rack core.old) d).faults ≤ (R.slot (core_rack core.new) d).faults }
+    ensures two { IfErr result (AreTwoDown (core_down core.old)
+        (R.slot (core_rack core.old)) (R.slot (core_rack core.new))) }
+{
+    let moved = step(core, disk, end)?;
+    if !moved {
+        return Ok(false);
+    }
+    Ok(true)
+}
+
+// The tick of a rebuild: it moves units, and ends the rebuild with the last of them.
+pub(crate) fn rebuild<R: Rack>(
+    core: &mut Core<R>,
+    disk: DiskNo,
+    first: u32,
+) -> Result<(u32, TickEvent), Two>
+    requires serving { IsCoreServing R.slot_count R.slot core.old }
+    requires fresh { (meta_of core.old).out ≡ Fresh disk first }
+    requires known { IsOutKnown R.slot core.old }
+    requires epoch { (meta_of core.old).epoch < 2 ^ 62 }
+    ensures serving { OnOk result (IsCoreServing R.slot_count R.slot core.new) }
+    ensures leaves { OnOk result (LeavesArray R.slot_count R.slot core.old core.new) }
+    ensures known { OnOk result (IsOutKnown R.slot core.new) }
+    // A disk that is told as rebuilt is back, and one that is told as gone has failed in the tick.
+    ensures back { IfOk result (λ done. done.1 ≡ Rebuilt disk → (meta_of core.new).out ≡ No) }
+    ensures gone { IfOk result (λ done. done.1 ≡ GoneInTick disk → (meta_of core.new).out ≡ Gone disk) }
+    ensures failed { IfOk result (λ done. done.1 ≡ GoneInTick disk
+        → HasRisen (R.slot (core_rack core.old) disk).faults (R.slot (core_rack core.new) disk).faults) }
+    ensures no_fall { (d : ℕ) → (R.slot (core_rack core.old) d).faults ≤ (R.slot (core_rack core.new) d).faults }
+    ensures two { IfErr result (AreTwoDown (core_down core.old)
+        (R.slot (core_rack core.old)) (R.slot (core_rack core.new))) }
+{
+    let setup = &core.meta().setup;
+    let rate = setup.rate;
+    let left = rebuild_units(&setup.geometry, core.meta().gear, disk) - first;
+    if rate < left {
+        let moved = move_units(core, disk, first + rate)?;
+        if moved {
+            return Ok((rate, TickEvent::Moving));
+        }
+        return Ok((0, TickEvent::Gone { disk }));
+    }
+    let back = end_rebuild(core, disk)?;
+    if back {
+        return Ok((left, TickEvent::Rebuilt { disk }));
+    }
+    Ok((0, TickEvent::Gone { disk }))
+}

@@ -1,0 +1,74 @@
+//! A disk that is out is replaced by a fresh one.
+ghost use Rattle.std.specs.Prelude.{◌≡◌, ◌≢◌, ℕ, ◌^◌, ◌<◌, ◌⊎◌, None, Ok, Some, IsSome, OnOk, IfErr};
+ghost use Rattle.paraid_base.specs.declared.state.Out.TheVariants.{Fresh, Gone};
+ghost use Rattle.paraid_base.specs.Told.{HasRisen};
+ghost use Rattle.paraid_core.specs.Cores.{core_down, core_rack, meta_of};
+ghost use Rattle.paraid_array.specs.declared.fault.ReplaceFault.TheVariants.{NoDisk, NoFresh, NotOut};
+ghost use Rattle.paraid_array.specs.Service.{IsOutKnown};
+ghost use Rattle.paraid_image.specs.Out.{named_out};
+ghost use Rattle.paraid_rebuild.specs.Replacing.{IsReplacedFrom, LeavesArrayBut};
+ghost use Rattle.paraid_shift.specs.Serving.{IsCoreServing};
+ghost use Rattle.paraid_txn.specs.Losses.{AreTwoDown};
+
+use crate::fault::ReplaceFault;
+use paraid_base::{DiskNo, Two};
+use paraid_core::Core;
+use paraid_rack::Rack;
+use paraid_rebuild::begin;
+
+// Brings a fresh disk. The refusal where the slot has failed.
+fn bring<R: Rack>(core: &mut Core<R>, disk: DiskNo) -> Result<Option<ReplaceFault>, Two>
+    requires serving { IsCoreServing R.slot_count R.slot core.old }
+    requires known { IsOutKnown R.slot core.old }
+    requires out { named_out (meta_of core.old).out ≡ Some disk }
+    requires epoch { (meta_of core.old).epoch < 2 ^ 62 }
+    ensures serving { OnOk result (IsCoreServing R.slot_count R.slot core.new) }
+    ensures known { OnOk result (IsOutKnown R.slot core.new) }
+    ensures leaves { OnOk result (LeavesArrayBut R.slot_count R.slot core.old core.new disk) }
+    ensures fresh { result ≡ Ok None → IsReplacedFrom (meta_of core.old) (meta_of core.new) disk 2 (Fresh disk 0) }
+    ensures gone { result ≡ Ok (Some (NoFresh disk)) → IsReplacedFrom (meta_of core.old) (meta_of core.new) disk 1 (Gone disk)
+        ⊎ IsReplacedFrom (meta_of core.old) (meta_of core.new) disk 2 (Gone disk) }
+    ensures risen { result ≡ Ok (Some (NoFresh disk))
+        → HasRisen (R.slot (core_rack core.old) disk).faults (R.slot (core_rack core.new) disk).faults }
+    ensures no_disk { result ≢ Ok (Some (NoDisk disk)) }
+    ensures not_out { result ≢ Ok (Some (NotOut disk)) }
+    ensures two { IfErr result (AreTwoDown (core_down core.old)
+        (R.slot (core_rack core.old)) (R.slot (core_rack core.new))) }
+{
+    let there = begin(core, disk)?;
+    if there {
+        return Ok(None);
+    }
+    Ok(Some(ReplaceFault::NoFresh { disk }))
+}
+
+/// Replaces a disk that is out, also one that is being rebuilt, unless it is refused: where there is no such disk, or it
+/// is not out. It gives the refusal; where no fresh disk came the disk is gone, with no spin-up counted.
+pub fn replace<R: Rack>(core: &mut Core<R>, disk: DiskNo) -> Result<Option<ReplaceFault>, Two>
+    requires serving { IsCoreServing R.slot_count R.slot core.old }
+    requires known { IsOutKnown R.slot core.old }
+    requires epoch { (meta_of core.old).epoch < 2 ^ 62 }
+    ensures serving { OnOk result (IsCoreServing R.slot_count R.slot core.new) }
+    ensures known { OnOk result (IsOutKnown R.slot core.new) }
+    ensures setup { OnOk result ((meta_of core.new).setup ≡ (meta_of core.old).setup) }
+    ensures writes { OnOk result ((meta_of core.new).writes ≡ (meta_of core.old).writes) }
+    ensures fresh { result ≡ Ok None → IsReplacedFrom (meta_of core.old) (meta_of core.new) disk 2 (Fresh disk 0) }
+    // The disk is gone, and its slot has failed.
+    ensures gone { result ≡ Ok (Some (NoFresh disk)) → IsReplacedFrom (meta_of core.old) (meta_of core.new) disk 1 (Gone disk)
+        ⊎ IsReplacedFrom (meta_of core.old) (meta_of core.new) disk 2 (Gone disk) }
+    ensures risen { result ≡ Ok (Some (NoFresh disk))
+        → HasRisen (R.slot (core_rack core.old) disk).faults (R.slot (core_rack core.new) disk).faults }
+    // After another refusal nothing has changed.
+    ensures no_disk { result ≡ Ok (Some (NoDisk disk)) → core.new ≡ core.old }
+    ensures not_out { result ≡ Ok (Some (NotOut disk)) → core.new ≡ core.old }
+    ensures two { IfErr result (AreTwoDown (core_down core.old)
+        (R.slot (core_rack core.old)) (R.slot (core_rack core.new))) }
+{
+    if disk >= core.meta().setup.geometry.disks {
+        return Ok(Some(ReplaceFault::NoDisk { disk }));
+    }
+    if !core.out().names(disk) {
+        return Ok(Some(ReplaceFault::NotOut { disk }));
+    }
+    bring(core, disk)
+}

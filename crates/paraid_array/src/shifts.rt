@@ -1,0 +1,236 @@
+//! Shifts that are asked for, and those that a tick begins or moves.
+ghost use Rattle.std.specs.Prelude.{◌≡◌, ◌≢◌, ℕ, ◌+◌, ◌^◌, ◌<◌, ◌≤◌, [], OnOk, IfOk, IfErr, slice_index};
+ghost use Rattle.paraid_base.specs.declared.state.Out.TheVariants.{Fresh, No};
+ghost use Rattle.paraid_base.specs.declared.state.TickEvent.TheVariants.{Gone as GoneInTick, Rebuilt};
+ghost use Rattle.paraid_base.specs.Told.{HasRisen};
+ghost use Rattle.paraid_base.specs.declared.state.Phase.TheVariants.{Steady};
+ghost use Rattle.paraid_core.specs.Cores.{core_down, core_rack, meta_of};
+ghost use Rattle.paraid_array.specs.Service.{IsOutKnown};
+ghost use Rattle.paraid_gear.specs.ThreeWindows.{lengths_of};
+ghost use Rattle.paraid_record.specs.Range.{AreNextGears, IsInRange, allowed_spins};
+ghost use Rattle.paraid_shift.specs.Serving.{IsCoreServing, LeavesArray};
+ghost use Rattle.paraid_txn.specs.Losses.{AreTwoDown};
+
+use crate::fault::ShiftFault;
+use crate::rebuilding::rebuild;
+use paraid_base::{Out, Phase, TickEvent, Two};
+use paraid_core::Core;
+use paraid_gear::{Decision, Windows};
+use paraid_rack::Rack;
+use paraid_ration::{allowance, may_park};
+use paraid_record::{Meta, Mode};
+use paraid_shift::{begin_down, begin_up, commit_staged, flip, is_done, step, units_left};
+
+// A shift under way, or a disk that is out.
+fn hindrance(meta: &Meta) -> Result<(), ShiftFault>
+    ensures steady { OnOk result (meta.now.phase ≡ Steady) }
+    ensures whole { OnOk result (meta.now.out ≡ No) }
+{
+    match meta.phase {
+        Phase::Steady => {}
+        Phase::Down { to } | Phase::Up { to } => return Err(ShiftFault::Shifting { to }),
+    }
+    match meta.out {
+        Out::No => Ok(()),
+        Out::Gone { disk } | Out::Fresh { disk, .. } => Err(ShiftFault::Out { disk }),
+    }
+}
+
+/// The next lower gear, if a shift to it may begin.
+pub fn gear_below(meta: &Meta) -> Result<u8, ShiftFault>
+    requires in_range { IsInRange meta.now }
+    ensures next { IfOk result (λ to. AreNextGears meta.now.setup.geometry to meta.now.gear) }
+    ensures steady { OnOk result (meta.now.phase ≡ Steady) }
+    ensures whole { OnOk result (meta.now.out ≡ No) }
+    ensures spared { IfOk result (λ to. (d : ℕ) → to ≤ d → d < meta.now.gear
+        → slice_index meta.now.spins d < allowed_spins meta.now) }
+{
+    let setup = &meta.setup;
+    let Some(to) = setup.geometry.lower(meta.gear) else {
+        return Err(ShiftFault::Lowest);
+    };
+    hindrance(meta)?;
+    let allowed = allowance(setup.ration, setup.burst, setup.period, meta.ticks);
+    match may_park(&meta.spins, allowed, to, meta.gear) {
+        Ok(()) => Ok(to),
+        Err(disk) => Err(ShiftFault::Ration { disk }),
+    }
+}
+
+/// The next higher gear, if a shift to it may begin.
+pub fn gear_above(meta: &Meta) -> Result<u8, ShiftFault>
+    requires in_range { IsInRange meta.now }
+    ensures next { IfOk result (λ to. AreNextGears meta.now.setup.geometry meta.now.gear to) }
+    ensures steady { OnOk result (meta.now.phase ≡ Steady) }
+    ensures whole { OnOk result (meta.now.out ≡ No) }
+{
+    let Some(to) = meta.setup.geometry.higher(meta.gear) else {
+        return Err(ShiftFault::Top);
+    };
+    hindrance(meta)?;
+    Ok(to)
+}
+
+/// What came of a shift that was asked for.
+#[derive(Clone, Copy, Debug, PartialEq, Eq)]
+pub enum Asked {
+    /// It has begun.
+    Begun { to: u8 },
+    /// It has not.
+    Refused(ShiftFault),
+}
+
+/// Begins a shift to the next lower gear, unless it is refused. What is staged is committed first; a disk that is lost in
+/// that refuses it too.
+pub fn down<R: Rack>(core: &mut Core<R>) -> Result<Asked, Two>
+    requires serving { IsCoreServing R.slot_count R.slot core.old }
+    requires epoch { (meta_of core.old).epoch < 2 ^ 62 }
+    ensures serving { OnOk result (IsCoreServing R.slot_count R.slot core.new) }
+    ensures leaves { OnOk result (LeavesArray R.slot_count R.slot core.old core.new) }
+    // With a disk out nothing changes.
+    ensures out { (meta_of core.old).out ≢ No → core.new ≡ core.old }
+    ensures no_fall { (d : ℕ) → (R.slot (core_rack core.old) d).faults ≤ (R.slot (core_rack core.new) d).faults }
+    ensures two { IfErr result (AreTwoDown (core_down core.old)
+        (R.slot (core_rack core.old)) (R.slot (core_rack core.new))) }
+{
+    if let Err(fault) = gear_below(core.meta()) {
+        return Ok(Asked::Refused(fault));
+    }
+    commit_staged(core)?;
+    match gear_below(core.meta()) {
+        Ok(to) => {
+            begin_down(core, to)?;
+            Ok(Asked::Begun { to })
+        }
+        Err(fault) => Ok(Asked::Refused(fault)),
+    }
+}
+
+/// Begins a shift to the next higher gear, likewise.
+pub fn up<R: Rack>(core: &mut Core<R>) -> Result<Asked, Two>
+    requires serving { IsCoreServing R.slot_count R.slot core.old }
+    requires epoch { (meta_of core.old).epoch < 2 ^ 62 }
+    ensures serving { OnOk result (IsCoreServing R.slot_count R.slot core.new) }
+    ensures leaves { OnOk result (LeavesArray R.slot_count R.slot core.old core.new) }
+    // With a disk out nothing changes.
+    ensures out { (meta_of core.old).out ≢ No → core.new ≡ core.old }
+    ensures no_fall { (d : ℕ) → (R.slot (core_rack core.old) d).faults ≤ (R.slot (core_rack core.new) d).faults }
+    ensures two { IfErr result (AreTwoDown (core_down core.old)
+        (R.slot (core_rack core.old)) (R.slot (core_rack core.new))) }
+{
+    if let Err(fault) = gear_above(core.meta()) {
+        return Ok(Asked::Refused(fault));
+    }
+    commit_staged(core)?;
+    match gear_above(core.meta()) {
+        Ok(to) => {
+            begin_up(core, to)?;
+            Ok(Asked::Begun { to })
+        }
+        Err(fault) => Ok(Asked::Refused(fault)),
+    }
+}
+
+// How many units of a shift a tick moves: all of a shift up in whole mode, else as many as the rate says.
+fn units_of_tick<R: Rack>(core: &Core<R>) -> u32
+    requires serving { IsCoreServing R.slot_count R.slot core.now }
+{
+    let left = units_left(core);
+    let setup = &core.meta().setup;
+    if let (Mode::Whole, Phase::Up { .. }) = (setup.mode, core.meta().phase) {
+        return left;
+    }
+    left.min(setup.rate)
+}
+
+// The tick of a shift under way: it moves units, and ends the shift with the last of them.
+fn move_on<R: Rack>(core: &mut Core<R>) -> Result<(u32, TickEvent), Two>
+    requires serving { IsCoreServing R.slot_count R.slot core.old }
+    requires epoch { (meta_of core.old).epoch < 2 ^ 62 }
+    ensures serving { OnOk result (IsCoreServing R.slot_count R.slot core.new) }
+    ensures leaves { OnOk result (LeavesArray R.slot_count R.slot core.old core.new) }
+    ensures no_fall { (d : ℕ) → (R.slot (core_rack core.old) d).faults ≤ (R.slot (core_rack core.new) d).faults }
+    ensures two { IfErr result (AreTwoDown (core_down core.old)
+        (R.slot (core_rack core.old)) (R.slot (core_rack core.new))) }
+{
+    let units = units_of_tick(core);
+    let moved = step(core, units)?;
+    match core.out() {
+        Out::Gone { disk } | Out::Fresh { disk, .. } => return Ok((
+            moved.units,
+            TickEvent::Lost { disk },
+        )),
+        Out::No => {}
+    }
+    if core.meta().phase.to() == 0 || !is_done(core) {
+        return Ok((moved.units, TickEvent::Moving));
+    }
+    flip(core)?;
+    Ok((moved.units, TickEvent::Flipped))
+}
+
+// The tick of an array at rest: it begins the shift that the samples ask for.
+fn decide<R: Rack>(core: &mut Core<R>, windows: &Windows) -> Result<TickEvent, Two>
+    requires serving { IsCoreServing R.slot_count R.slot core.old }
+    requires epoch { (meta_of core.old).epoch < 2 ^ 62 }
+    requires lengths { lengths_of windows.now ≡ (meta_of core.old).setup.windows }
+    ensures serving { OnOk result (IsCoreServing R.slot_count R.slot core.new) }
+    ensures leaves { OnOk result (LeavesArray R.slot_count R.slot core.old core.new) }
+    ensures no_fall { (d : ℕ) → (R.slot (core_rack core.old) d).faults ≤ (R.slot (core_rack core.new) d).faults }
+    ensures two { IfErr result (AreTwoDown (core_down core.old)
+        (R.slot (core_rack core.old)) (R.slot (core_rack core.new))) }
+{
+    let meta = *core.meta();
+    match windows.decide(&meta.setup, meta.gear) {
+        Decision::Stay => Ok(TickEvent::Steady),
+        Decision::Up { .. } => match gear_above(&meta) {
+            Ok(to) => {
+                begin_up(core, to)?;
+                Ok(TickEvent::Begun { to })
+            }
+            Err(_) => Ok(TickEvent::Steady),
+        },
+        Decision::Down { .. } => match gear_below(&meta) {
+            Ok(to) => {
+                begin_down(core, to)?;
+                Ok(TickEvent::Begun { to })
+            }
+            Err(ShiftFault::Ration { disk }) => Ok(TickEvent::Ration { disk }),
+            Err(_) => Ok(TickEvent::Steady),
+        },
+    }
+}
+
+/// What a tick does that has counted itself. With a disk out it waits, or rebuilds it.
+pub fn advance<R: Rack>(core: &mut Core<R>, windows: &Windows) -> Result<(u32, TickEvent), Two>
+    requires serving { IsCoreServing R.slot_count R.slot core.old }
+    requires epoch { (meta_of core.old).epoch < 2 ^ 62 }
+    requires known { IsOutKnown R.slot core.old }
+    requires lengths { lengths_of windows.now ≡ (meta_of core.old).setup.windows }
+    ensures serving { OnOk result (IsCoreServing R.slot_count R.slot core.new) }
+    ensures leaves { OnOk result (LeavesArray R.slot_count R.slot core.old core.new) }
+    ensures known { OnOk result ((meta_of core.old).out ≢ No → IsOutKnown R.slot core.new) }
+    // Of a disk that is out: one that is told as rebuilt is back, and one that is told as gone has failed in the tick.
+    ensures back { IfOk result (λ done. (d u : ℕ) → (meta_of core.old).out ≡ Fresh d u → done.1 ≡ Rebuilt d
+        → (meta_of core.new).out ≡ No) }
+    ensures failed { IfOk result (λ done. (d u : ℕ) → (meta_of core.old).out ≡ Fresh d u → done.1 ≡ GoneInTick d
+        → HasRisen (R.slot (core_rack core.old) d).faults (R.slot (core_rack core.new) d).faults) }
+    ensures no_fall { (d : ℕ) → (R.slot (core_rack core.old) d).faults ≤ (R.slot (core_rack core.new) d).faults }
+    ensures two { IfErr result (AreTwoDown (core_down core.old)
+        (R.slot (core_rack core.old)) (R.slot (core_rack core.new))) }
+{
+    match core.out() {
+        Out::Gone { .. } => return Ok((0, TickEvent::Waiting)),
+        Out::Fresh { disk, rebuilt } => {
+            let done = rebuild(core, disk, rebuilt)?;
+            return Ok(done);
+        }
+        Out::No => {}
+    }
+    if let Phase::Steady = core.meta().phase {
+        let event = decide(core, windows)?;
+        return Ok((0, event));
+    }
+    let done = move_on(core)?;
+    Ok(done)
+}

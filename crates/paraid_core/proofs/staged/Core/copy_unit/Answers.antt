@@ -1,0 +1,107 @@
+use Rattle.paraid_base.specs.Told.{HasRisen}
+use Rattle.paraid_rack.specs.Slots.{Slot}
+use Rattle.paraid_txn.specs.Stores.{store_rack}
+use Rattle.paraid_view.proofs.TwoLemmas.{left_spared, spared_then}
+use Rattle.paraid_core.specs.declared.staged.Core.{Core}
+use Rattle.paraid_core.specs.Cores.{CoreStandsFor}
+use Rattle.paraid_core.specs.Units.{CopyingUnit, UnitsRebuilt}
+use Rattle.paraid_core.proofs.FillLemmas.{gathered_leaves}
+use Rattle.paraid_core.proofs.StepLemmas.{held_runs_then, leaves_then, runs_then}
+use Rattle.paraid_core.proofs.UnitWriteLemmas.{unit_gathered, unit_reads_held}
+use Rattle.paraid_core.proofs.KindLemmas.{calls_then, calls_whole}
+use Rattle.paraid_txn.specs.Commit.{gone_out}
+use Rattle.std.proofs.Common.{None, Some, ap, refl, subst, sym, ◌≡◌}
+use Rattle.paraid_core.proofs.LostMarkLemmas.{marks_read, marks_then}
+use Rattle.paraid_core.proofs.staged.Core.copy_unit.Goals as goal
+
+pub write_unit-requires-clause-ready : goal.write_unit-requires-clause-ready
+write_unit-requires-clause-ready g c =
+    (gathered_leaves g.R.Rack.slot_count g.R.Rack.slot g.R.Rack.told c.args.self.now c.requires.ready c.read_unit.new.store c.in_default.ensures.read c.requires.serves.stays).ready
+
+pub returns-in_err-done-clause-spared : goal.returns-in_err-done-clause-spared
+returns-in_err-done-clause-spared g c =
+    spared_then (g.R.Rack.slot (store_rack c.args.self.now.store)) (g.R.Rack.slot (store_rack c.read_unit.new.store)) (g.R.Rack.slot (store_rack c.write_unit.new.self.store)) (left_spared _ _ _ c.in_default.ensures.read.left) c.write_unit.ensures.spared
+
+pub returns-in_err-done-clause-moments : goal.returns-in_err-done-clause-moments
+returns-in_err-done-clause-moments g c h lo =
+    let old = c.args.self.now in
+    let mid : Core g.row.R.Denot g.R.Rack = record old { store = c.read_unit.new.store } in
+    let q = c.requires in
+    held_runs_then g.R.Rack.slot_count g.R.Rack.slot g.R.Rack.told old mid (gathered_leaves g.R.Rack.slot_count g.R.Rack.slot g.R.Rack.told old q.ready c.read_unit.new.store c.in_default.ensures.read q.serves.stays) c.write_unit.new.self
+    (UnitsRebuilt g.R.Rack.slot_count old h lo c.args.number) (CopyingUnit g.R.Rack.slot_count mid h lo c.args.number c.args.disk c.args.unit c.read_unit.new.into) h lo
+    (unit_gathered g.R.Rack.slot_count g.R.Rack.slot g.R.Rack.told old q.ready (g.met.R.Rack.agrees (store_rack old.store)) q.nothing c.args.number c.args.disk c.args.unit q.fresh q.unit c.read_unit.new.store c.read_unit.new.into c.in_default.ensures.read q.no_draft
+    (g.met.R.Rack.agrees (store_rack c.read_unit.new.store)) (g.met.R.Rack.slots_hold (store_rack c.read_unit.new.store)).absent c.in_default.ensures.value h lo)
+    (c.write_unit.ensures.moments h lo)
+
+pub returns-in_default-clause-leaves : goal.returns-in_default-clause-leaves
+returns-in_default-clause-leaves g c =
+    leaves_then g.R.Rack.slot_count g.R.Rack.slot g.R.Rack.told c.args.self.now (record c.args.self.now { store = c.read_unit.new.store })
+    (gathered_leaves g.R.Rack.slot_count g.R.Rack.slot g.R.Rack.told c.args.self.now c.requires.ready c.read_unit.new.store c.in_default.ensures.read c.requires.serves.stays) c.write_unit.new.self c.in_ok-done.ensures.leaves
+
+pub returns-in_default-clause-spared : goal.returns-in_default-clause-spared
+returns-in_default-clause-spared g c =
+    spared_then (g.R.Rack.slot (store_rack c.args.self.now.store)) (g.R.Rack.slot (store_rack c.read_unit.new.store)) (g.R.Rack.slot (store_rack c.write_unit.new.self.store)) (left_spared _ _ _ c.in_default.ensures.read.left) c.write_unit.ensures.spared
+
+pub returns-in_default-clause-copied : goal.returns-in_default-clause-copied
+returns-in_default-clause-copied g c is h lo =
+    let old = c.args.self.now in
+    let mid : Core g.row.R.Denot g.R.Rack = record old { store = c.read_unit.new.store } in
+    let q = c.requires in
+    runs_then g.R.Rack.slot_count g.R.Rack.slot g.R.Rack.told old mid (gathered_leaves g.R.Rack.slot_count g.R.Rack.slot g.R.Rack.told old q.ready c.read_unit.new.store c.in_default.ensures.read q.serves.stays) c.write_unit.new.self
+    (UnitsRebuilt g.R.Rack.slot_count old h lo c.args.number) (CopyingUnit g.R.Rack.slot_count mid h lo c.args.number c.args.disk c.args.unit c.read_unit.new.into) _ h lo
+    (unit_gathered g.R.Rack.slot_count g.R.Rack.slot g.R.Rack.told old q.ready (g.met.R.Rack.agrees (store_rack old.store)) q.nothing c.args.number c.args.disk c.args.unit q.fresh q.unit c.read_unit.new.store c.read_unit.new.into c.in_default.ensures.read q.no_draft
+    (g.met.R.Rack.agrees (store_rack c.read_unit.new.store)) (g.met.R.Rack.slots_hold (store_rack c.read_unit.new.store)).absent c.in_default.ensures.value h lo)
+    (c.in_ok-done.ensures.copied is h lo)
+
+pub returns-in_default-clause-lost : goal.returns-in_default-clause-lost
+returns-in_default-clause-lost g c is h lo =
+    let old = c.args.self.now in
+    let mid : Core g.row.R.Denot g.R.Rack = record old { store = c.read_unit.new.store } in
+    let q = c.requires in
+    runs_then g.R.Rack.slot_count g.R.Rack.slot g.R.Rack.told old mid (gathered_leaves g.R.Rack.slot_count g.R.Rack.slot g.R.Rack.told old q.ready c.read_unit.new.store c.in_default.ensures.read q.serves.stays) c.write_unit.new.self
+    (UnitsRebuilt g.R.Rack.slot_count old h lo c.args.number) (CopyingUnit g.R.Rack.slot_count mid h lo c.args.number c.args.disk c.args.unit c.read_unit.new.into) (CoreStandsFor g.R.Rack.slot_count c.write_unit.new.self h lo) h lo
+    (unit_gathered g.R.Rack.slot_count g.R.Rack.slot g.R.Rack.told old q.ready (g.met.R.Rack.agrees (store_rack old.store)) q.nothing c.args.number c.args.disk c.args.unit q.fresh q.unit c.read_unit.new.store c.read_unit.new.into c.in_default.ensures.read q.no_draft
+    (g.met.R.Rack.agrees (store_rack c.read_unit.new.store)) (g.met.R.Rack.slots_hold (store_rack c.read_unit.new.store)).absent c.in_default.ensures.value h lo)
+    (c.in_ok-done.ensures.lost is h lo)
+
+pub returns-in_default-clause-moments : goal.returns-in_default-clause-moments
+returns-in_default-clause-moments g c h lo =
+    let old = c.args.self.now in
+    let mid : Core g.row.R.Denot g.R.Rack = record old { store = c.read_unit.new.store } in
+    let q = c.requires in
+    held_runs_then g.R.Rack.slot_count g.R.Rack.slot g.R.Rack.told old mid (gathered_leaves g.R.Rack.slot_count g.R.Rack.slot g.R.Rack.told old q.ready c.read_unit.new.store c.in_default.ensures.read q.serves.stays) c.write_unit.new.self
+    (UnitsRebuilt g.R.Rack.slot_count old h lo c.args.number) (CopyingUnit g.R.Rack.slot_count mid h lo c.args.number c.args.disk c.args.unit c.read_unit.new.into) h lo
+    (unit_gathered g.R.Rack.slot_count g.R.Rack.slot g.R.Rack.told old q.ready (g.met.R.Rack.agrees (store_rack old.store)) q.nothing c.args.number c.args.disk c.args.unit q.fresh q.unit c.read_unit.new.store c.read_unit.new.into c.in_default.ensures.read q.no_draft
+    (g.met.R.Rack.agrees (store_rack c.read_unit.new.store)) (g.met.R.Rack.slots_hold (store_rack c.read_unit.new.store)).absent c.in_default.ensures.value h lo)
+    (c.write_unit.ensures.moments h lo)
+
+pub returns-clause-moments : goal.returns-clause-moments
+returns-clause-moments g c h lo = unit_reads_held g.R.Rack.slot_count g.R.Rack.slot g.R.Rack.told c.args.self.now c.requires.ready _ c.in-Err.ensures.read.calls c.args.number h lo
+
+pub returns-in_err-done-clause-calls : goal.returns-in_err-done-clause-calls
+returns-in_err-done-clause-calls g c =
+    calls_then _ _ (g.R.Rack.told (store_rack c.read_unit.new.store)) _ (calls_whole _ _ _ (sym c.requires.ready.array_is) (ap gone_out c.requires.fresh) _ _ c.in_default.ensures.read.calls) c.write_unit.ensures.calls
+
+pub returns-in_default-clause-calls : goal.returns-in_default-clause-calls
+returns-in_default-clause-calls g c =
+    calls_then _ _ (g.R.Rack.told (store_rack c.read_unit.new.store)) _ (calls_whole _ _ _ (sym c.requires.ready.array_is) (ap gone_out c.requires.fresh) _ _ c.in_default.ensures.read.calls) c.write_unit.ensures.calls
+
+pub returns-clause-calls : goal.returns-clause-calls
+returns-clause-calls g c = calls_whole _ _ _ (sym c.requires.ready.array_is) (ap gone_out c.requires.fresh) _ _ c.in-Err.ensures.read.calls
+
+pub returns-in_default-clause-marks : goal.returns-in_default-clause-marks
+returns-in_default-clause-marks g c =
+    let m = c.args.self.now.meta in
+    let left = c.in_default.ensures.read.left in
+    marks_then _ (g.R.Rack.slot (store_rack c.read_unit.new.store)) _ m m _ (marks_read m m None _ _ m.epoch m.writes left refl (λ d is. let z : None ≡ Some d = is in cc) (λ d x is. let z : None ≡ Some d = is in cc)) c.in_ok-done.ensures.marks (left_spared _ _ _ left) c.write_unit.ensures.spared
+
+pub returns-in_default-clause-gone : goal.returns-in_default-clause-gone
+returns-in_default-clause-gone g c is = c.in_ok-done.ensures.gone is
+
+pub returns-in_default-clause-failed : goal.returns-in_default-clause-failed
+returns-in_default-clause-failed g c is =
+    let now = c.in_ok-done.ensures.failed is in
+    record {
+      risen = subst (λ (z : Slot). HasRisen z.faults (g.R.Rack.slot (store_rack c.write_unit.new.self.store) c.args.disk).faults) (c.in_default.ensures.read.left.others c.args.disk (λ k. cc)) now.risen;
+      absent = now.absent;
+    }

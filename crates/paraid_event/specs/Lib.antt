@@ -1,0 +1,14 @@
+pub mod Marks
+pub mod Service
+pub mod Stands
+pub mod Parts
+pub mod Counts
+pub mod Lost
+pub mod Fails
+pub mod Ticks
+pub mod Marked
+pub mod Begins
+pub mod Powering
+pub mod Upshift
+pub mod First
+pub mod Cleaned

@@ -1,0 +1,248 @@
+use Rattle.std.specs.Prelude.{ℕ, ◌+◌, Option, Some}
+use Rattle.std.proofs.Common.{◌≡◌, ◌∙◌, sym, ap, subst}
+use Rattle.paraid_base.specs.declared.state.Out.TheVariants.{No}
+use Rattle.paraid_base.specs.States.{gone_out, rebuilt_count}
+use Rattle.paraid_base.specs.Told.{HasRisen}
+use Rattle.paraid_image.specs.Mark.{meta_after_loss}
+use Rattle.paraid_image.specs.Out.{named_out, or_else}
+use Rattle.paraid_record.specs.declared.meta.Meta.{Meta}
+use Rattle.paraid_record.specs.Range.{rebuild_units}
+use Rattle.paraid_txn.specs.Losses.{OnlyLosesSlots}
+use Rattle.paraid_txn.specs.Stores.{named_of, store_rack}
+use Rattle.paraid_core.specs.Cores.{CoreStandsFor, IsCoreHeldSinceCommit, core_down}
+use Rattle.paraid_core.specs.Units.{UnitsRebuilt}
+use Rattle.paraid_core.proofs.AfterLemmas.{handed}
+use Rattle.paraid_shift.specs.Serving.{RestsInShift}
+use Rattle.paraid_shift.proofs.ServingLemmas.{chain, chain_held, lowered, unsynced_still}
+use Rattle.paraid_rebuild.proofs.ReplacingLemmas.{all_there, alone_failed, back_well, marked_alone, marked_back, serving_again, two_marked}
+use Rattle.paraid_rebuild.proofs.ending.come_back.Goals as goal
+
+pub rejoin-requires-clause-there : goal.rejoin-requires-clause-there
+rejoin-requires-clause-there g c d low = all_there g.R.Rack.slot_count g.R.Rack.slot c.args.core.now c.args.disk c.requires.serving c.requires.fresh c.requires.spins d low
+
+pub returns-in_err-commit-clause-moments : goal.returns-in_err-commit-clause-moments
+returns-in_err-commit-clause-moments g c h lo =
+    let a = c.args.core.now in
+    let b = c.rejoin.new.self in
+    let new = c.commit.new.self in
+    let marks = c.rejoin.ensures in
+    let setup : b.meta.setup ≡ a.meta.setup = ap (λ (m : Meta). m.setup) marks.meta in
+    let out : b.meta.out ≡ No = ap (λ (m : Meta). m.out) marks.meta in
+    let named : named_of b.store ≡ Some c.args.disk = ap named_of marks.store ∙ c.requires.named in
+    chain_held g.R.Rack.slot_count g.R.Rack.told a b (ap (λ (z : _). g.R.Rack.slot_count (store_rack z)) marks.store) setup (ap named_of marks.store)
+    (UnitsRebuilt g.R.Rack.slot_count a h lo (rebuild_units a.meta.setup.geometry a.meta.gear c.args.disk)) (CoreStandsFor g.R.Rack.slot_count b h lo) h lo _ (marks.stands c.args.disk (rebuilt_count a.meta.out) c.requires.fresh h lo) (c.commit.ensures.moments_since marks.absent h lo)
+
+pub returns-in_err-commit-clause-spared : goal.returns-in_err-commit-clause-spared
+returns-in_err-commit-clause-spared g c =
+    let a = c.args.core.now in
+    let b = c.rejoin.new.self in
+    let new = c.commit.new.self in
+    let marks = c.rejoin.ensures in
+    let setup : b.meta.setup ≡ a.meta.setup = ap (λ (m : Meta). m.setup) marks.meta in
+    let out : b.meta.out ≡ No = ap (λ (m : Meta). m.out) marks.meta in
+    let named : named_of b.store ≡ Some c.args.disk = ap named_of marks.store ∙ c.requires.named in
+    subst (λ (z : _). OnlyLosesSlots (g.R.Rack.slot (store_rack z)) (g.R.Rack.slot (store_rack new.store))) marks.store c.commit.ensures.spared
+
+pub returns-in_err-commit-clause-two : goal.returns-in_err-commit-clause-two
+returns-in_err-commit-clause-two g c =
+    let a = c.args.core.now in
+    let b = c.rejoin.new.self in
+    let new = c.commit.new.self in
+    let marks = c.rejoin.ensures in
+    let setup : b.meta.setup ≡ a.meta.setup = ap (λ (m : Meta). m.setup) marks.meta in
+    let out : b.meta.out ≡ No = ap (λ (m : Meta). m.out) marks.meta in
+    let named : named_of b.store ≡ Some c.args.disk = ap named_of marks.store ∙ c.requires.named in
+    let down : core_down b ≡ core_down a = ap (λ (o : Option ℕ). or_else o (named_out b.meta.out)) named ∙ sym (ap (λ (o : Option ℕ). or_else o (named_out a.meta.out)) c.requires.named) in
+    handed _ c.from_residual.result _ c.from_residual.ensures.1
+    (two_marked g.R.Rack.slot a b new _ marks.store down c.in_err-commit.ensures.two)
+
+pub returns-then-is_gone-clause-moments : goal.returns-then-is_gone-clause-moments
+returns-then-is_gone-clause-moments g c h lo =
+    let a = c.args.core.now in
+    let b = c.rejoin.new.self in
+    let new = c.commit.new.self in
+    let marks = c.rejoin.ensures in
+    let setup : b.meta.setup ≡ a.meta.setup = ap (λ (m : Meta). m.setup) marks.meta in
+    let out : b.meta.out ≡ No = ap (λ (m : Meta). m.out) marks.meta in
+    let named : named_of b.store ≡ Some c.args.disk = ap named_of marks.store ∙ c.requires.named in
+    chain_held g.R.Rack.slot_count g.R.Rack.told a b (ap (λ (z : _). g.R.Rack.slot_count (store_rack z)) marks.store) setup (ap named_of marks.store)
+    (UnitsRebuilt g.R.Rack.slot_count a h lo (rebuild_units a.meta.setup.geometry a.meta.gear c.args.disk)) (CoreStandsFor g.R.Rack.slot_count b h lo) h lo _ (marks.stands c.args.disk (rebuilt_count a.meta.out) c.requires.fresh h lo) (c.commit.ensures.moments_since marks.absent h lo)
+
+pub returns-then-is_gone-clause-spared : goal.returns-then-is_gone-clause-spared
+returns-then-is_gone-clause-spared g c =
+    let a = c.args.core.now in
+    let b = c.rejoin.new.self in
+    let new = c.commit.new.self in
+    let marks = c.rejoin.ensures in
+    let setup : b.meta.setup ≡ a.meta.setup = ap (λ (m : Meta). m.setup) marks.meta in
+    let out : b.meta.out ≡ No = ap (λ (m : Meta). m.out) marks.meta in
+    let named : named_of b.store ≡ Some c.args.disk = ap named_of marks.store ∙ c.requires.named in
+    subst (λ (z : _). OnlyLosesSlots (g.R.Rack.slot (store_rack z)) (g.R.Rack.slot (store_rack new.store))) marks.store c.commit.ensures.spared
+
+pub returns-then-is_gone-clause-serving : goal.returns-then-is_gone-clause-serving
+returns-then-is_gone-clause-serving g c =
+    let a = c.args.core.now in
+    let b = c.rejoin.new.self in
+    let new = c.commit.new.self in
+    let marks = c.rejoin.ensures in
+    let setup : b.meta.setup ≡ a.meta.setup = ap (λ (m : Meta). m.setup) marks.meta in
+    let out : b.meta.out ≡ No = ap (λ (m : Meta). m.out) marks.meta in
+    let named : named_of b.store ≡ Some c.args.disk = ap named_of marks.store ∙ c.requires.named in
+    let done = c.in_ok-commit.ensures in
+    serving_again g.R.Rack.slot_count g.R.Rack.slot a c.args.disk c.requires.serving c.requires.fresh c.requires.spins new done.ready (done.serves_again (marks.up c.requires.serving.serves))
+    (done.unsynced (unsynced_still g.R.Rack.slot_count g.R.Rack.slot a b c.requires.serving setup marks.store marks.copied)) (done.draft ∙ marks.draft) (done.copied ∙ marks.copied) (done.setup ∙ setup)
+    (subst (λ (z : _). OnlyLosesSlots (g.R.Rack.slot (store_rack z)) (g.R.Rack.slot (store_rack new.store))) marks.store c.commit.ensures.spared)
+
+pub returns-then-is_gone-clause-epoch : goal.returns-then-is_gone-clause-epoch
+returns-then-is_gone-clause-epoch g c =
+    let a = c.args.core.now in
+    let b = c.rejoin.new.self in
+    let new = c.commit.new.self in
+    let marks = c.rejoin.ensures in
+    let setup : b.meta.setup ≡ a.meta.setup = ap (λ (m : Meta). m.setup) marks.meta in
+    let out : b.meta.out ≡ No = ap (λ (m : Meta). m.out) marks.meta in
+    let named : named_of b.store ≡ Some c.args.disk = ap named_of marks.store ∙ c.requires.named in
+    c.in_ok-commit.ensures.epoch ∙ ap (λ (m : Meta). m.epoch + 1) marks.meta
+
+pub returns-then-is_gone-clause-named : goal.returns-then-is_gone-clause-named
+returns-then-is_gone-clause-named g c =
+    let a = c.args.core.now in
+    let b = c.rejoin.new.self in
+    let new = c.commit.new.self in
+    let marks = c.rejoin.ensures in
+    let setup : b.meta.setup ≡ a.meta.setup = ap (λ (m : Meta). m.setup) marks.meta in
+    let out : b.meta.out ≡ No = ap (λ (m : Meta). m.out) marks.meta in
+    let named : named_of b.store ≡ Some c.args.disk = ap named_of marks.store ∙ c.requires.named in
+    c.in_ok-commit.ensures.named ∙ ap named_out out
+
+pub returns-then-is_gone-clause-rests : goal.returns-then-is_gone-clause-rests
+returns-then-is_gone-clause-rests g c h lo =
+    let a = c.args.core.now in
+    let b = c.rejoin.new.self in
+    let new = c.commit.new.self in
+    let marks = c.rejoin.ensures in
+    let setup : b.meta.setup ≡ a.meta.setup = ap (λ (m : Meta). m.setup) marks.meta in
+    let out : b.meta.out ≡ No = ap (λ (m : Meta). m.out) marks.meta in
+    let named : named_of b.store ≡ Some c.args.disk = ap named_of marks.store ∙ c.requires.named in
+    chain g.R.Rack.slot_count g.R.Rack.told a b (ap (λ (z : _). g.R.Rack.slot_count (store_rack z)) marks.store) setup (ap named_of marks.store)
+    (UnitsRebuilt g.R.Rack.slot_count a h lo (rebuild_units a.meta.setup.geometry a.meta.gear c.args.disk)) (CoreStandsFor g.R.Rack.slot_count b h lo) (RestsInShift g.R.Rack.slot_count new h lo) h lo _ (marks.stands c.args.disk (rebuilt_count a.meta.out) c.requires.fresh h lo) (lowered g.R.Rack.slot_count b new (IsCoreHeldSinceCommit g.R.Rack.slot_count b h lo) h lo _ _ (c.in_ok-commit.ensures.filled_since marks.absent h lo))
+
+pub returns-clause-moments : goal.returns-clause-moments
+returns-clause-moments g c h lo =
+    let a = c.args.core.now in
+    let b = c.rejoin.new.self in
+    let new = c.commit.new.self in
+    let marks = c.rejoin.ensures in
+    let setup : b.meta.setup ≡ a.meta.setup = ap (λ (m : Meta). m.setup) marks.meta in
+    let out : b.meta.out ≡ No = ap (λ (m : Meta). m.out) marks.meta in
+    let named : named_of b.store ≡ Some c.args.disk = ap named_of marks.store ∙ c.requires.named in
+    chain_held g.R.Rack.slot_count g.R.Rack.told a b (ap (λ (z : _). g.R.Rack.slot_count (store_rack z)) marks.store) setup (ap named_of marks.store)
+    (UnitsRebuilt g.R.Rack.slot_count a h lo (rebuild_units a.meta.setup.geometry a.meta.gear c.args.disk)) (CoreStandsFor g.R.Rack.slot_count b h lo) h lo _ (marks.stands c.args.disk (rebuilt_count a.meta.out) c.requires.fresh h lo) (c.commit.ensures.moments_since marks.absent h lo)
+
+pub returns-clause-spared : goal.returns-clause-spared
+returns-clause-spared g c =
+    let a = c.args.core.now in
+    let b = c.rejoin.new.self in
+    let new = c.commit.new.self in
+    let marks = c.rejoin.ensures in
+    let setup : b.meta.setup ≡ a.meta.setup = ap (λ (m : Meta). m.setup) marks.meta in
+    let out : b.meta.out ≡ No = ap (λ (m : Meta). m.out) marks.meta in
+    let named : named_of b.store ≡ Some c.args.disk = ap named_of marks.store ∙ c.requires.named in
+    subst (λ (z : _). OnlyLosesSlots (g.R.Rack.slot (store_rack z)) (g.R.Rack.slot (store_rack new.store))) marks.store c.commit.ensures.spared
+
+pub returns-clause-serving : goal.returns-clause-serving
+returns-clause-serving g c =
+    let a = c.args.core.now in
+    let b = c.rejoin.new.self in
+    let new = c.commit.new.self in
+    let marks = c.rejoin.ensures in
+    let setup : b.meta.setup ≡ a.meta.setup = ap (λ (m : Meta). m.setup) marks.meta in
+    let out : b.meta.out ≡ No = ap (λ (m : Meta). m.out) marks.meta in
+    let named : named_of b.store ≡ Some c.args.disk = ap named_of marks.store ∙ c.requires.named in
+    let done = c.in_ok-commit.ensures in
+    serving_again g.R.Rack.slot_count g.R.Rack.slot a c.args.disk c.requires.serving c.requires.fresh c.requires.spins new done.ready (done.serves_again (marks.up c.requires.serving.serves))
+    (done.unsynced (unsynced_still g.R.Rack.slot_count g.R.Rack.slot a b c.requires.serving setup marks.store marks.copied)) (done.draft ∙ marks.draft) (done.copied ∙ marks.copied) (done.setup ∙ setup)
+    (subst (λ (z : _). OnlyLosesSlots (g.R.Rack.slot (store_rack z)) (g.R.Rack.slot (store_rack new.store))) marks.store c.commit.ensures.spared)
+
+pub returns-clause-epoch : goal.returns-clause-epoch
+returns-clause-epoch g c =
+    let a = c.args.core.now in
+    let b = c.rejoin.new.self in
+    let new = c.commit.new.self in
+    let marks = c.rejoin.ensures in
+    let setup : b.meta.setup ≡ a.meta.setup = ap (λ (m : Meta). m.setup) marks.meta in
+    let out : b.meta.out ≡ No = ap (λ (m : Meta). m.out) marks.meta in
+    let named : named_of b.store ≡ Some c.args.disk = ap named_of marks.store ∙ c.requires.named in
+    c.in_ok-commit.ensures.epoch ∙ ap (λ (m : Meta). m.epoch + 1) marks.meta
+
+pub returns-clause-named : goal.returns-clause-named
+returns-clause-named g c =
+    let a = c.args.core.now in
+    let b = c.rejoin.new.self in
+    let new = c.commit.new.self in
+    let marks = c.rejoin.ensures in
+    let setup : b.meta.setup ≡ a.meta.setup = ap (λ (m : Meta). m.setup) marks.meta in
+    let out : b.meta.out ≡ No = ap (λ (m : Meta). m.out) marks.meta in
+    let named : named_of b.store ≡ Some c.args.disk = ap named_of marks.store ∙ c.requires.named in
+    c.in_ok-commit.ensures.named ∙ ap named_out out
+
+pub returns-clause-rests : goal.returns-clause-rests
+returns-clause-rests g c h lo =
+    let a = c.args.core.now in
+    let b = c.rejoin.new.self in
+    let new = c.commit.new.self in
+    let marks = c.rejoin.ensures in
+    let setup : b.meta.setup ≡ a.meta.setup = ap (λ (m : Meta). m.setup) marks.meta in
+    let out : b.meta.out ≡ No = ap (λ (m : Meta). m.out) marks.meta in
+    let named : named_of b.store ≡ Some c.args.disk = ap named_of marks.store ∙ c.requires.named in
+    chain g.R.Rack.slot_count g.R.Rack.told a b (ap (λ (z : _). g.R.Rack.slot_count (store_rack z)) marks.store) setup (ap named_of marks.store)
+    (UnitsRebuilt g.R.Rack.slot_count a h lo (rebuild_units a.meta.setup.geometry a.meta.gear c.args.disk)) (CoreStandsFor g.R.Rack.slot_count b h lo) (RestsInShift g.R.Rack.slot_count new h lo) h lo _ (marks.stands c.args.disk (rebuilt_count a.meta.out) c.requires.fresh h lo) (lowered g.R.Rack.slot_count b new (IsCoreHeldSinceCommit g.R.Rack.slot_count b h lo) h lo _ _ (c.in_ok-commit.ensures.filled_since marks.absent h lo))
+
+pub returns-then-is_gone-clause-gone : goal.returns-then-is_gone-clause-gone
+returns-then-is_gone-clause-gone g c is =
+    let a = c.args.core.now in
+    let b = c.rejoin.new.self in
+    let new = c.commit.new.self in
+    let marks = c.rejoin.ensures in
+    let setup : b.meta.setup ≡ a.meta.setup = ap (λ (m : Meta). m.setup) marks.meta in
+    let out : b.meta.out ≡ No = ap (λ (m : Meta). m.out) marks.meta in
+    let named : named_of b.store ≡ Some c.args.disk = ap named_of marks.store ∙ c.requires.named in
+    let alone = (λ (d : ℕ) (is : named_out new.meta.out ≡ Some d). sym (c.in_ok-commit.ensures.alone c.args.disk d named is)) in
+    marked_alone _ new.meta c.args.disk (ap gone_out out) c.in_ok-commit.ensures.meta alone (c.is_gone.ensures.gone c.if-is_gone.true)
+    ∙ ap (λ (m : Meta). meta_after_loss (record m { epoch = m.epoch + 1 }) c.args.disk) marks.meta
+
+pub returns-then-is_gone-clause-failed : goal.returns-then-is_gone-clause-failed
+returns-then-is_gone-clause-failed g c is =
+    let a = c.args.core.now in
+    let b = c.rejoin.new.self in
+    let new = c.commit.new.self in
+    let marks = c.rejoin.ensures in
+    let setup : b.meta.setup ≡ a.meta.setup = ap (λ (m : Meta). m.setup) marks.meta in
+    let out : b.meta.out ≡ No = ap (λ (m : Meta). m.out) marks.meta in
+    let named : named_of b.store ≡ Some c.args.disk = ap named_of marks.store ∙ c.requires.named in
+    let alone = (λ (d : ℕ) (is : named_out new.meta.out ≡ Some d). sym (c.in_ok-commit.ensures.alone c.args.disk d named is)) in
+    subst (λ (z : _). HasRisen (g.R.Rack.slot (store_rack z) c.args.disk).faults (g.R.Rack.slot (store_rack new.store) c.args.disk).faults) marks.store
+    (alone_failed (g.R.Rack.slot (store_rack b.store)) (g.R.Rack.slot (store_rack new.store)) b.meta new.meta c.args.disk (ap gone_out out) c.in_ok-commit.ensures.marks alone (c.is_gone.ensures.gone c.if-is_gone.true))
+
+pub returns-clause-back : goal.returns-clause-back
+returns-clause-back g c is =
+    let a = c.args.core.now in
+    let b = c.rejoin.new.self in
+    let new = c.commit.new.self in
+    let marks = c.rejoin.ensures in
+    let setup : b.meta.setup ≡ a.meta.setup = ap (λ (m : Meta). m.setup) marks.meta in
+    let out : b.meta.out ≡ No = ap (λ (m : Meta). m.out) marks.meta in
+    let named : named_of b.store ≡ Some c.args.disk = ap named_of marks.store ∙ c.requires.named in
+    marked_back _ new.meta c.in_ok-commit.ensures.meta (c.is_gone.ensures.back c.if-is_gone.false) ∙ ap (λ (m : Meta). record m { epoch = m.epoch + 1 }) marks.meta
+
+pub returns-clause-spins : goal.returns-clause-spins
+returns-clause-spins g c is =
+    let a = c.args.core.now in
+    let b = c.rejoin.new.self in
+    let new = c.commit.new.self in
+    let marks = c.rejoin.ensures in
+    let setup : b.meta.setup ≡ a.meta.setup = ap (λ (m : Meta). m.setup) marks.meta in
+    let out : b.meta.out ≡ No = ap (λ (m : Meta). m.out) marks.meta in
+    let named : named_of b.store ≡ Some c.args.disk = ap named_of marks.store ∙ c.requires.named in
+    (back_well (g.R.Rack.slot (store_rack b.store)) (g.R.Rack.slot (store_rack new.store)) b.meta new.meta c.args.disk c.in_ok-commit.ensures.marks (c.is_gone.ensures.back c.if-is_gone.false)).0
+    ∙ ap (λ (z : _). (g.R.Rack.slot (store_rack z) c.args.disk).power) marks.store ∙ c.requires.spins

@@ -1,0 +1,106 @@
+use Rattle.std.specs.Prelude.{ℕ, ◌+◌, Some}
+use Rattle.std.proofs.Common.{◌≡◌, ◌∙◌, sym, ap, subst, refl, arith, Ok}
+use Rattle.paraid_base.proofs.ToldLemmas.{HasRisen-sooner}
+use Rattle.paraid_image.specs.Mark.{meta_after_loss}
+use Rattle.paraid_image.specs.Out.{named_out}
+use Rattle.paraid_rack.specs.Told.{CrashTriple, Ran}
+use Rattle.paraid_record.specs.declared.meta.Meta.{Meta}
+use Rattle.paraid_rack.proofs.TrailsLemmas.{weaker}
+use Rattle.paraid_txn.specs.Stores.{named_of, store_rack}
+use Rattle.paraid_view.proofs.TwoLemmas.{spared_then}
+use Rattle.paraid_core.specs.Cores.{IsCoreHeldSinceCommit, CoreStandsFor}
+use Rattle.paraid_core.specs.Units.{UnitsRebuilt}
+use Rattle.paraid_core.specs.CoreInvariant.{HoldsBetweenCalls}
+use Rattle.paraid_core.proofs.AfterLemmas.{handed}
+use Rattle.paraid_core.proofs.StepLemmas.{held_runs_then, leaves_none, leaves_then, runs_end, runs_none, runs_then, two_then}
+use Rattle.paraid_rebuild.proofs.moving.copy_units.Goals as goal
+
+pub loop-number-init : goal.loop-number-init
+loop-number-init g c =
+    let a = c.args.core.now in
+    record {
+      leaves = leaves_none g.R.Rack.slot_count g.R.Rack.slot g.R.Rack.told a c.requires.ready c.requires.serves.stays;
+      meta = refl;
+      spins = c.requires.spins;
+      from = omega arith;
+      copied = λ h lo. runs_none g.R.Rack.slot_count g.R.Rack.slot g.R.Rack.told a (UnitsRebuilt g.R.Rack.slot_count c.args.core.now h lo c.args.first) h lo (λ s kr. kr.keeps);
+    }
+
+pub returns-in_err-done-clause-spared : goal.returns-in_err-done-clause-spared
+returns-in_err-done-clause-spared g c =
+    spared_then (g.R.Rack.slot (store_rack c.args.core.now.store)) (g.R.Rack.slot (store_rack c.loop-number.core.store)) (g.R.Rack.slot (store_rack c.rebuild_unit.new.self.store)) c.loop-number.invariant.leaves.spared c.rebuild_unit.ensures.spared
+
+pub returns-in_err-done-clause-two : goal.returns-in_err-done-clause-two
+returns-in_err-done-clause-two g c =
+    handed _ c.from_residual.result _ c.from_residual.ensures.1
+    (two_then g.R.Rack.slot_count g.R.Rack.slot g.R.Rack.told c.args.core.now c.loop-number.core c.loop-number.invariant.leaves c.rebuild_unit.new.self c.rebuild_unit.ensures.spared _ c.in_err-done.ensures.two)
+
+pub returns-in_err-done-clause-moments : goal.returns-in_err-done-clause-moments
+returns-in_err-done-clause-moments g c h lo =
+    let was = c.loop-number.invariant in
+    held_runs_then g.R.Rack.slot_count g.R.Rack.slot g.R.Rack.told c.args.core.now c.loop-number.core was.leaves c.rebuild_unit.new.self (UnitsRebuilt g.R.Rack.slot_count c.args.core.now h lo c.args.first) (UnitsRebuilt g.R.Rack.slot_count c.loop-number.core h lo c.loop-number.number) h lo (was.copied h lo) (c.rebuild_unit.ensures.moments h lo)
+
+pub returns-then-not-done-clause-leaves : goal.returns-then-not-done-clause-leaves
+returns-then-not-done-clause-leaves g c =
+    leaves_then g.R.Rack.slot_count g.R.Rack.slot g.R.Rack.told c.args.core.now c.loop-number.core c.loop-number.invariant.leaves c.rebuild_unit.new.self c.in_ok-done.ensures.leaves
+
+pub returns-then-not-done-clause-spared : goal.returns-then-not-done-clause-spared
+returns-then-not-done-clause-spared g c =
+    spared_then (g.R.Rack.slot (store_rack c.args.core.now.store)) (g.R.Rack.slot (store_rack c.loop-number.core.store)) (g.R.Rack.slot (store_rack c.rebuild_unit.new.self.store)) c.loop-number.invariant.leaves.spared c.rebuild_unit.ensures.spared
+
+pub returns-then-not-done-clause-stands : goal.returns-then-not-done-clause-stands
+returns-then-not-done-clause-stands g c h lo =
+    let was = c.loop-number.invariant in
+    runs_then g.R.Rack.slot_count g.R.Rack.slot g.R.Rack.told c.args.core.now c.loop-number.core was.leaves c.rebuild_unit.new.self (UnitsRebuilt g.R.Rack.slot_count c.args.core.now h lo c.args.first) (UnitsRebuilt g.R.Rack.slot_count c.loop-number.core h lo c.loop-number.number) (CoreStandsFor g.R.Rack.slot_count c.rebuild_unit.new.self h lo) h lo (was.copied h lo)
+    (c.in_ok-done.ensures.lost (ap Ok c.if-not-done.true) h lo)
+
+pub returns-then-not-done-clause-moments : goal.returns-then-not-done-clause-moments
+returns-then-not-done-clause-moments g c h lo =
+    let was = c.loop-number.invariant in
+    held_runs_then g.R.Rack.slot_count g.R.Rack.slot g.R.Rack.told c.args.core.now c.loop-number.core was.leaves c.rebuild_unit.new.self (UnitsRebuilt g.R.Rack.slot_count c.args.core.now h lo c.args.first) (UnitsRebuilt g.R.Rack.slot_count c.loop-number.core h lo c.loop-number.number) h lo (was.copied h lo) (c.rebuild_unit.ensures.moments h lo)
+
+pub returns-then-not-done-clause-gone : goal.returns-then-not-done-clause-gone
+returns-then-not-done-clause-gone g c is =
+    let was = c.loop-number.invariant in
+    let named : named_out c.loop-number.core.meta.out ≡ Some c.args.disk = ap (λ (m : Meta). named_out m.out) was.meta ∙ ap named_out c.requires.fresh in
+    c.in_ok-done.ensures.gone (ap Ok c.if-not-done.true) c.args.disk named ∙ ap (λ (m : Meta). meta_after_loss m c.args.disk) was.meta
+
+pub returns-then-not-done-clause-failed : goal.returns-then-not-done-clause-failed
+returns-then-not-done-clause-failed g c is =
+    let was = c.loop-number.invariant in
+    let named : named_out c.loop-number.core.meta.out ≡ Some c.args.disk = ap (λ (m : Meta). named_out m.out) was.meta ∙ ap named_out c.requires.fresh in
+    HasRisen-sooner _ _ _ (was.leaves.spared.no_fall c.args.disk) (c.in_ok-done.ensures.failed (ap Ok c.if-not-done.true) c.args.disk named).risen
+
+pub loop-number-preserved : goal.loop-number-preserved
+loop-number-preserved g c =
+    let was = c.loop-number.invariant in
+    let call = c.in_ok-done.ensures in
+    let done = c.if-not-done.false in
+    let named : named_out c.loop-number.core.meta.out ≡ Some c.args.disk = ap (λ (m : Meta). named_out m.out) was.meta ∙ ap named_out c.requires.fresh in
+    record {
+      leaves = leaves_then g.R.Rack.slot_count g.R.Rack.slot g.R.Rack.told c.args.core.now c.loop-number.core was.leaves c.rebuild_unit.new.self call.leaves;
+      meta = call.same (ap Ok done) ∙ was.meta;
+      spins = call.spins (ap Ok done) c.args.disk named;
+      from = let low = was.from in omega arith;
+      copied = λ h lo.
+          runs_then g.R.Rack.slot_count g.R.Rack.slot g.R.Rack.told c.args.core.now c.loop-number.core was.leaves c.rebuild_unit.new.self (UnitsRebuilt g.R.Rack.slot_count c.args.core.now h lo c.args.first) (UnitsRebuilt g.R.Rack.slot_count c.loop-number.core h lo c.loop-number.number)
+          (UnitsRebuilt g.R.Rack.slot_count c.rebuild_unit.new.self h lo (c.loop-number.number + 1)) h lo (was.copied h lo) (call.copied (ap Ok done) h lo);
+    }
+
+pub returns-clause-copied : goal.returns-clause-copied
+returns-clause-copied g c is h lo =
+    let was = c.loop-number.invariant in
+    let l = c.loop-number.core in
+    let all : c.loop-number.number ≡ c.args.end = (let low = c.requires.order in let test = c.loop-number-test.false in let end = c.loop-number.auto.number-end in omega arith) in
+    subst (λ (z : ℕ). Ran (g.R.Rack.told (store_rack c.args.core.now.store)) (g.R.Rack.told (store_rack l.store)) (CrashTriple (IsCoreHeldSinceCommit g.R.Rack.slot_count c.args.core.now h lo) (UnitsRebuilt g.R.Rack.slot_count c.args.core.now h lo c.args.first) (UnitsRebuilt g.R.Rack.slot_count l h lo z))) all (was.copied h lo)
+
+pub returns-clause-stands : goal.returns-clause-stands
+returns-clause-stands g c h lo =
+    let was = c.loop-number.invariant in
+    let l = c.loop-number.core in
+    weaker _ _ _ (UnitsRebuilt g.R.Rack.slot_count l h lo c.loop-number.number) (CoreStandsFor g.R.Rack.slot_count l h lo) _ _ (λ s k. k)
+    (λ s kf. subst (λ (z : _). HoldsBetweenCalls (g.R.Rack.slot_count (store_rack l.store)) (named_of l.store) l.meta l.dirty z l.copied h lo s) (sym (was.leaves.batch ∙ c.requires.nothing)) kf.keeps) (was.copied h lo)
+
+pub returns-clause-moments : goal.returns-clause-moments
+returns-clause-moments g c h lo =
+    runs_end g.R.Rack.slot_count g.R.Rack.slot g.R.Rack.told c.args.core.now _ _ _ h lo (c.loop-number.invariant.copied h lo)

@@ -1,0 +1,66 @@
+use Rattle.std.specs.Prelude.{length}
+use Rattle.std.proofs.Common.{◌≡◌, ◌∙◌, ap, sym, ℕ, Option, Some}
+use Rattle.paraid_base.specs.declared.state.Out.TheVariants.{Fresh, Gone}
+use Rattle.paraid_image.specs.Out.{named_out, or_else}
+use Rattle.paraid_record.specs.declared.meta.Meta.{Meta}
+use Rattle.paraid_txn.specs.Stores.{named_of}
+use Rattle.paraid_core.specs.Cores.{CoreStandsFor, IsCoreHeld, core_down}
+use Rattle.paraid_core.specs.Replaced.{CoreCommitted}
+use Rattle.paraid_core.proofs.AfterLemmas.{down_named}
+use Rattle.paraid_core.proofs.ChainLemmas.{ended, keeps_low}
+use Rattle.paraid_rebuild.proofs.ReplacingLemmas.{after, replaced_then}
+use Rattle.paraid_rebuild.proofs.replaced.begin.Goals as goal
+
+pub returns-clause-fresh : goal.returns-clause-fresh
+returns-clause-fresh g c is =
+    replaced_then c.args.core.now.meta c.commit_gone.new.core.meta c.bring_fresh.new.core.meta c.args.disk (Fresh c.args.disk 0) c.in_ok-commit_gone.ensures.meta (c.in_ok-there.ensures.fresh is)
+
+pub returns-in_err-there-clause-moments : goal.returns-in_err-there-clause-moments
+returns-in_err-there-clause-moments g c h lo =
+    let a = c.args.core.now in
+    let b = c.commit_gone.new.core in
+    let new = c.bring_fresh.new.core in
+    let was = c.in_ok-commit_gone.ensures in
+    let down : core_down b ≡ Some c.args.disk = ap (λ (o : Option ℕ). or_else o (named_out b.meta.out)) was.named in
+    let known : core_down a ≡ Some c.args.disk = down_named (named_of a.store) a.meta c.requires.serving.ready.one c.args.disk c.requires.out in
+    ended (IsCoreHeld g.R.Rack.slot_count a h lo) (CoreStandsFor g.R.Rack.slot_count a h lo) (IsCoreHeld g.R.Rack.slot_count b h (length h)) _ _
+    (after _ _ _ _ (core_down a) (core_down b) h was.slots (ap (λ (m : Meta). m.setup.geometry.disks) was.meta.is) (λ x is. known ∙ sym down ∙ is) lo
+    (CoreStandsFor g.R.Rack.slot_count a h lo) (CoreCommitted g.R.Rack.slot_count b h (length h) (Gone c.args.disk)) (IsCoreHeld g.R.Rack.slot_count b h (length h)) _ _ _
+    (λ s k. keeps_low _ _ _ _ _ _ h lo s k) (was.committed h lo) (c.bring_fresh.ensures.moments h (length h)))
+
+pub returns-clause-moments : goal.returns-clause-moments
+returns-clause-moments g c h lo =
+    let a = c.args.core.now in
+    let b = c.commit_gone.new.core in
+    let new = c.bring_fresh.new.core in
+    let was = c.in_ok-commit_gone.ensures in
+    let down : core_down b ≡ Some c.args.disk = ap (λ (o : Option ℕ). or_else o (named_out b.meta.out)) was.named in
+    let known : core_down a ≡ Some c.args.disk = down_named (named_of a.store) a.meta c.requires.serving.ready.one c.args.disk c.requires.out in
+    ended (IsCoreHeld g.R.Rack.slot_count a h lo) (CoreStandsFor g.R.Rack.slot_count a h lo) (IsCoreHeld g.R.Rack.slot_count b h (length h)) _ _
+    (after _ _ _ _ (core_down a) (core_down b) h was.slots (ap (λ (m : Meta). m.setup.geometry.disks) was.meta.is) (λ x is. known ∙ sym down ∙ is) lo
+    (CoreStandsFor g.R.Rack.slot_count a h lo) (CoreCommitted g.R.Rack.slot_count b h (length h) (Gone c.args.disk)) (IsCoreHeld g.R.Rack.slot_count b h (length h)) _ _ _
+    (λ s k. keeps_low _ _ _ _ _ _ h lo s k) (was.committed h lo) (c.bring_fresh.ensures.moments h (length h)))
+
+pub returns-clause-stands : goal.returns-clause-stands
+returns-clause-stands g c h lo =
+    let a = c.args.core.now in
+    let b = c.commit_gone.new.core in
+    let new = c.bring_fresh.new.core in
+    let was = c.in_ok-commit_gone.ensures in
+    let down : core_down b ≡ Some c.args.disk = ap (λ (o : Option ℕ). or_else o (named_out b.meta.out)) was.named in
+    let known : core_down a ≡ Some c.args.disk = down_named (named_of a.store) a.meta c.requires.serving.ready.one c.args.disk c.requires.out in
+    after _ _ _ _ (core_down a) (core_down b) h was.slots (ap (λ (m : Meta). m.setup.geometry.disks) was.meta.is) (λ x is. known ∙ sym down ∙ is) lo
+    (CoreStandsFor g.R.Rack.slot_count a h lo) (CoreCommitted g.R.Rack.slot_count b h (length h) (Gone c.args.disk)) (CoreStandsFor g.R.Rack.slot_count new h (length h)) _ _ _
+    (λ s k. keeps_low _ _ _ _ _ _ h lo s k) (was.committed h lo) (c.in_ok-there.ensures.stands h)
+
+pub returns-clause-committed : goal.returns-clause-committed
+returns-clause-committed g c is h lo =
+    let a = c.args.core.now in
+    let b = c.commit_gone.new.core in
+    let new = c.bring_fresh.new.core in
+    let was = c.in_ok-commit_gone.ensures in
+    let down : core_down b ≡ Some c.args.disk = ap (λ (o : Option ℕ). or_else o (named_out b.meta.out)) was.named in
+    let known : core_down a ≡ Some c.args.disk = down_named (named_of a.store) a.meta c.requires.serving.ready.one c.args.disk c.requires.out in
+    after _ _ _ _ (core_down a) (core_down b) h was.slots (ap (λ (m : Meta). m.setup.geometry.disks) was.meta.is) (λ x is. known ∙ sym down ∙ is) lo
+    (CoreStandsFor g.R.Rack.slot_count a h lo) (CoreCommitted g.R.Rack.slot_count b h (length h) (Gone c.args.disk)) (CoreCommitted g.R.Rack.slot_count new h (length h) (Fresh c.args.disk 0)) _ _ _
+    (λ s k. keeps_low _ _ _ _ _ _ h lo s k) (was.committed h lo) (c.in_ok-there.ensures.committed is h)

@@ -1,0 +1,290 @@
+use Rattle.std.specs.Prelude.{length}
+use Rattle.std.proofs.Common.{◌≡◌, ◌∙◌, ◌+◌, ◌≤◌, ap, subst, sym, refl, arith, ℕ, Option, Some, inl, inr, true}
+use Rattle.std.proofs.lemmas.Bool.{cases_eq}
+use Rattle.paraid_base.specs.declared.state.Out.{Out}
+use Rattle.paraid_base.specs.declared.state.Out.TheVariants.{Fresh, Gone}
+use Rattle.paraid_base.specs.States.{gone_out}
+use Rattle.paraid_base.specs.Told.{HasRisen}
+use Rattle.paraid_image.specs.Mark.{meta_after_loss}
+use Rattle.paraid_image.specs.Out.{named_out, or_else}
+use Rattle.paraid_rack.specs.Slots.{Slot}
+use Rattle.paraid_rack.specs.Told.{CrashTriple, Ran}
+use Rattle.paraid_record.specs.declared.meta.Meta.{Meta}
+use Rattle.paraid_txn.specs.Stores.{named_of, store_rack}
+use Rattle.paraid_core.specs.Cores.{CoreStandsFor, IsCoreHeld, IsCoreHeldSinceCommit, core_down}
+use Rattle.paraid_core.specs.Replaced.{CoreCommitted}
+use Rattle.paraid_core.proofs.AfterLemmas.{handed}
+use Rattle.paraid_core.proofs.ChainLemmas.{ended}
+use Rattle.paraid_core.proofs.ReadsLemmas.{knows_named}
+use Rattle.paraid_shift.proofs.ServingLemmas.{chain, chain_held, marked_named}
+use Rattle.paraid_rebuild.proofs.ReplacingLemmas.{back_well, beside, but_lost, gone_failed, gone_settled, lost_none, marked_back, marked_lost, serving_then, two_since}
+use Rattle.paraid_rebuild.proofs.replaced.bring_fresh.Goals as goal
+
+pub returns-then-not-attach-clause-leaves : goal.returns-then-not-attach-clause-leaves
+returns-then-not-attach-clause-leaves g c =
+    let a = c.args.core.now in
+    let b = c.attach.new.self in
+    let meta = c.attach.ensures.same c.if-not-attach.true in
+    record {
+      slots = c.attach.ensures.slots;
+      setup = ap (λ (m : Meta). m.setup) meta;
+      writes = ap (λ (m : Meta). m.writes) meta;
+      spared = but_lost (g.R.Rack.slot (store_rack a.store)) (g.R.Rack.slot (store_rack b.store)) (g.R.Rack.slot (store_rack b.store)) c.args.disk c.attach.ensures.others (lost_none (g.R.Rack.slot (store_rack b.store)));
+    }
+
+pub returns-then-not-attach-clause-moments : goal.returns-then-not-attach-clause-moments
+returns-then-not-attach-clause-moments g c h lo =
+    let a = c.args.core.now in
+    let b = c.attach.new.self in
+    ended (IsCoreHeld g.R.Rack.slot_count a h lo) (CoreCommitted g.R.Rack.slot_count a h lo (Gone c.args.disk)) (CoreStandsFor g.R.Rack.slot_count b h lo) _ _
+    (beside _ _ _ _ (core_down a) (named_of a.store) h refl refl (λ x is. knows_named (named_of a.store) (named_out a.meta.out) x is) lo (CoreCommitted g.R.Rack.slot_count a h lo (Gone c.args.disk)) (CoreStandsFor g.R.Rack.slot_count b h lo) _ _
+    (c.attach.ensures.stands h lo))
+
+pub returns-then-not-attach-clause-stands : goal.returns-then-not-attach-clause-stands
+returns-then-not-attach-clause-stands g c h =
+    let a = c.args.core.now in
+    let b = c.attach.new.self in
+    beside _ _ _ _ (core_down a) (named_of a.store) h refl refl (λ x is. knows_named (named_of a.store) (named_out a.meta.out) x is) (length h) (CoreCommitted g.R.Rack.slot_count a h (length h) (Gone c.args.disk)) (CoreStandsFor g.R.Rack.slot_count b h (length h)) _ _
+    (c.attach.ensures.stands h (length h))
+
+pub returns-then-not-attach-clause-serving : goal.returns-then-not-attach-clause-serving
+returns-then-not-attach-clause-serving g c =
+    let a = c.args.core.now in
+    let b = c.attach.new.self in
+    let meta = c.attach.ensures.same c.if-not-attach.true in
+    serving_then g.R.Rack.slot_count g.R.Rack.slot a b c.requires.serving c.attach.ensures.ready (c.attach.ensures.serves c.requires.serving.serves) (c.attach.ensures.unsynced c.requires.serving.unsynced) c.attach.ensures.draft c.attach.ensures.copied
+    (ap (λ (m : Meta). m.setup) meta) (λ d is. ap (λ (m : Meta). named_out m.out) meta ∙ is)
+    (λ d not there. ap (λ (s : Slot). s.size) (c.attach.ensures.others d (λ is. not (ap (λ (m : Meta). named_out m.out) meta ∙ ap named_out c.requires.gone ∙ ap Some (sym is)))))
+
+pub returns-in_err-commit-clause-two : goal.returns-in_err-commit-clause-two
+returns-in_err-commit-clause-two g c =
+    let a = c.args.core.now in
+    let b = c.attach.new.self in
+    let here : c.attach.result ≡ true = c.if-not-attach.false in
+    let fresh = c.attach.ensures.fresh here in
+    let out : b.meta.out ≡ Fresh c.args.disk 0 = ap (λ (m : Meta). m.out) fresh in
+    let setup : b.meta.setup ≡ a.meta.setup = ap (λ (m : Meta). m.setup) fresh in
+    let same = c.attach.ensures.store in
+    let down : core_down b ≡ core_down a = ap (λ (o : Option ℕ). or_else o (named_out b.meta.out)) (same.named ∙ c.requires.named) ∙ sym (ap (λ (o : Option ℕ). or_else o (named_out a.meta.out)) c.requires.named) in
+    handed _ c.from_residual.result _ c.from_residual.ensures.1
+    (two_since (core_down a) (core_down b) (g.R.Rack.slot (store_rack a.store)) (g.R.Rack.slot (store_rack b.store)) (g.R.Rack.slot (store_rack c.commit.new.self.store)) _ down
+    (λ d. elim (cases_eq d c.args.disk) [
+      | inl is ↦ let e = ap (λ (s : Slot). s.faults) (c.attach.ensures.attached here) in subst (λ (x : ℕ). (g.R.Rack.slot (store_rack a.store) x).faults ≤ (g.R.Rack.slot (store_rack b.store) x).faults) (sym is) (omega arith)
+      | inr apart ↦ let e = ap (λ (s : Slot). s.faults) (c.attach.ensures.others d apart) in omega arith
+    ]) c.in_err-commit.ensures.two)
+
+pub returns-in_err-commit-clause-moments : goal.returns-in_err-commit-clause-moments
+returns-in_err-commit-clause-moments g c h lo =
+    let a = c.args.core.now in
+    let b = c.attach.new.self in
+    let here : c.attach.result ≡ true = c.if-not-attach.false in
+    let fresh = c.attach.ensures.fresh here in
+    let out : b.meta.out ≡ Fresh c.args.disk 0 = ap (λ (m : Meta). m.out) fresh in
+    let setup : b.meta.setup ≡ a.meta.setup = ap (λ (m : Meta). m.setup) fresh in
+    let same = c.attach.ensures.store in
+    ended (IsCoreHeld g.R.Rack.slot_count a h lo) (CoreCommitted g.R.Rack.slot_count a h lo (Gone c.args.disk)) (IsCoreHeldSinceCommit g.R.Rack.slot_count a h lo) _ _
+    (beside _ _ _ _ (core_down a) (named_of a.store) h refl refl (λ x is. knows_named (named_of a.store) (named_out a.meta.out) x is) lo (CoreCommitted g.R.Rack.slot_count a h lo (Gone c.args.disk)) (IsCoreHeldSinceCommit g.R.Rack.slot_count a h lo) _ _
+    (chain_held g.R.Rack.slot_count g.R.Rack.told a b c.attach.ensures.slots setup same.named (CoreCommitted g.R.Rack.slot_count a h lo (Gone c.args.disk)) (CoreStandsFor g.R.Rack.slot_count b h lo) h lo _ (c.attach.ensures.stands h lo) (c.commit.ensures.moments_since c.attach.ensures.absent h lo)))
+
+pub returns-then-is_gone-clause-serving : goal.returns-then-is_gone-clause-serving
+returns-then-is_gone-clause-serving g c =
+    let a = c.args.core.now in
+    let b = c.attach.new.self in
+    let new = c.commit.new.self in
+    let here : c.attach.result ≡ true = c.if-not-attach.false in
+    let fresh = c.attach.ensures.fresh here in
+    let out : b.meta.out ≡ Fresh c.args.disk 0 = ap (λ (m : Meta). m.out) fresh in
+    let setup : b.meta.setup ≡ a.meta.setup = ap (λ (m : Meta). m.setup) fresh in
+    let same = c.attach.ensures.store in
+    let marked = c.in_ok-commit.ensures.meta in
+    serving_then g.R.Rack.slot_count g.R.Rack.slot a new c.requires.serving c.in_ok-commit.ensures.ready (c.in_ok-commit.ensures.serves (c.attach.ensures.serves c.requires.serving.serves))
+    (c.in_ok-commit.ensures.unsynced (c.attach.ensures.unsynced c.requires.serving.unsynced)) (c.in_ok-commit.ensures.draft ∙ c.attach.ensures.draft) (c.in_ok-commit.ensures.copied ∙ c.attach.ensures.copied)
+    (c.in_ok-commit.ensures.setup ∙ setup)
+    (λ d is. marked_named _ new.meta marked d (ap named_out out ∙ sym (ap named_out c.requires.gone) ∙ is))
+    (λ d not there. c.commit.ensures.spared.size d there ∙ ap (λ (s : Slot). s.size) (c.attach.ensures.others d (λ is. not (marked_named _ new.meta marked d (ap named_out out ∙ ap Some (sym is))))))
+
+pub returns-then-is_gone-clause-leaves : goal.returns-then-is_gone-clause-leaves
+returns-then-is_gone-clause-leaves g c =
+    let a = c.args.core.now in
+    let b = c.attach.new.self in
+    let new = c.commit.new.self in
+    let here : c.attach.result ≡ true = c.if-not-attach.false in
+    let fresh = c.attach.ensures.fresh here in
+    let out : b.meta.out ≡ Fresh c.args.disk 0 = ap (λ (m : Meta). m.out) fresh in
+    let setup : b.meta.setup ≡ a.meta.setup = ap (λ (m : Meta). m.setup) fresh in
+    let same = c.attach.ensures.store in
+    record {
+      slots = c.in_ok-commit.ensures.slots ∙ c.attach.ensures.slots;
+      setup = c.in_ok-commit.ensures.setup ∙ setup;
+      writes = c.in_ok-commit.ensures.writes ∙ ap (λ (m : Meta). m.writes) fresh;
+      spared = but_lost (g.R.Rack.slot (store_rack a.store)) (g.R.Rack.slot (store_rack b.store)) (g.R.Rack.slot (store_rack new.store)) c.args.disk c.attach.ensures.others c.commit.ensures.spared;
+    }
+
+pub returns-then-is_gone-clause-moments : goal.returns-then-is_gone-clause-moments
+returns-then-is_gone-clause-moments g c h lo =
+    let a = c.args.core.now in
+    let b = c.attach.new.self in
+    let here : c.attach.result ≡ true = c.if-not-attach.false in
+    let fresh = c.attach.ensures.fresh here in
+    let out : b.meta.out ≡ Fresh c.args.disk 0 = ap (λ (m : Meta). m.out) fresh in
+    let setup : b.meta.setup ≡ a.meta.setup = ap (λ (m : Meta). m.setup) fresh in
+    let same = c.attach.ensures.store in
+    ended (IsCoreHeld g.R.Rack.slot_count a h lo) (CoreCommitted g.R.Rack.slot_count a h lo (Gone c.args.disk)) (IsCoreHeldSinceCommit g.R.Rack.slot_count a h lo) _ _
+    (beside _ _ _ _ (core_down a) (named_of a.store) h refl refl (λ x is. knows_named (named_of a.store) (named_out a.meta.out) x is) lo (CoreCommitted g.R.Rack.slot_count a h lo (Gone c.args.disk)) (IsCoreHeldSinceCommit g.R.Rack.slot_count a h lo) _ _
+    (chain_held g.R.Rack.slot_count g.R.Rack.told a b c.attach.ensures.slots setup same.named (CoreCommitted g.R.Rack.slot_count a h lo (Gone c.args.disk)) (CoreStandsFor g.R.Rack.slot_count b h lo) h lo _ (c.attach.ensures.stands h lo) (c.commit.ensures.moments_since c.attach.ensures.absent h lo)))
+
+pub returns-then-is_gone-clause-stands : goal.returns-then-is_gone-clause-stands
+returns-then-is_gone-clause-stands g c h =
+    let a = c.args.core.now in
+    let b = c.attach.new.self in
+    let new = c.commit.new.self in
+    let here : c.attach.result ≡ true = c.if-not-attach.false in
+    let fresh = c.attach.ensures.fresh here in
+    let out : b.meta.out ≡ Fresh c.args.disk 0 = ap (λ (m : Meta). m.out) fresh in
+    let setup : b.meta.setup ≡ a.meta.setup = ap (λ (m : Meta). m.setup) fresh in
+    let same = c.attach.ensures.store in
+    beside _ _ _ _ (core_down a) (named_of a.store) h refl refl (λ x is. knows_named (named_of a.store) (named_out a.meta.out) x is) (length h) (CoreCommitted g.R.Rack.slot_count a h (length h) (Gone c.args.disk)) (CoreStandsFor g.R.Rack.slot_count new h (length h)) _ _
+    (chain g.R.Rack.slot_count g.R.Rack.told a b c.attach.ensures.slots setup same.named (CoreCommitted g.R.Rack.slot_count a h (length h) (Gone c.args.disk)) (CoreStandsFor g.R.Rack.slot_count b h (length h)) (CoreStandsFor g.R.Rack.slot_count new h (length h)) h (length h) _ (c.attach.ensures.stands h (length h)) (c.in_ok-commit.ensures.since c.attach.ensures.absent h (length h)))
+
+pub returns-clause-serving : goal.returns-clause-serving
+returns-clause-serving g c =
+    let a = c.args.core.now in
+    let b = c.attach.new.self in
+    let new = c.commit.new.self in
+    let here : c.attach.result ≡ true = c.if-not-attach.false in
+    let fresh = c.attach.ensures.fresh here in
+    let out : b.meta.out ≡ Fresh c.args.disk 0 = ap (λ (m : Meta). m.out) fresh in
+    let setup : b.meta.setup ≡ a.meta.setup = ap (λ (m : Meta). m.setup) fresh in
+    let same = c.attach.ensures.store in
+    let marked = c.in_ok-commit.ensures.meta in
+    serving_then g.R.Rack.slot_count g.R.Rack.slot a new c.requires.serving c.in_ok-commit.ensures.ready (c.in_ok-commit.ensures.serves (c.attach.ensures.serves c.requires.serving.serves))
+    (c.in_ok-commit.ensures.unsynced (c.attach.ensures.unsynced c.requires.serving.unsynced)) (c.in_ok-commit.ensures.draft ∙ c.attach.ensures.draft) (c.in_ok-commit.ensures.copied ∙ c.attach.ensures.copied)
+    (c.in_ok-commit.ensures.setup ∙ setup)
+    (λ d is. marked_named _ new.meta marked d (ap named_out out ∙ sym (ap named_out c.requires.gone) ∙ is))
+    (λ d not there. c.commit.ensures.spared.size d there ∙ ap (λ (s : Slot). s.size) (c.attach.ensures.others d (λ is. not (marked_named _ new.meta marked d (ap named_out out ∙ ap Some (sym is))))))
+
+pub returns-clause-leaves : goal.returns-clause-leaves
+returns-clause-leaves g c =
+    let a = c.args.core.now in
+    let b = c.attach.new.self in
+    let new = c.commit.new.self in
+    let here : c.attach.result ≡ true = c.if-not-attach.false in
+    let fresh = c.attach.ensures.fresh here in
+    let out : b.meta.out ≡ Fresh c.args.disk 0 = ap (λ (m : Meta). m.out) fresh in
+    let setup : b.meta.setup ≡ a.meta.setup = ap (λ (m : Meta). m.setup) fresh in
+    let same = c.attach.ensures.store in
+    record {
+      slots = c.in_ok-commit.ensures.slots ∙ c.attach.ensures.slots;
+      setup = c.in_ok-commit.ensures.setup ∙ setup;
+      writes = c.in_ok-commit.ensures.writes ∙ ap (λ (m : Meta). m.writes) fresh;
+      spared = but_lost (g.R.Rack.slot (store_rack a.store)) (g.R.Rack.slot (store_rack b.store)) (g.R.Rack.slot (store_rack new.store)) c.args.disk c.attach.ensures.others c.commit.ensures.spared;
+    }
+
+pub returns-clause-moments : goal.returns-clause-moments
+returns-clause-moments g c h lo =
+    let a = c.args.core.now in
+    let b = c.attach.new.self in
+    let here : c.attach.result ≡ true = c.if-not-attach.false in
+    let fresh = c.attach.ensures.fresh here in
+    let out : b.meta.out ≡ Fresh c.args.disk 0 = ap (λ (m : Meta). m.out) fresh in
+    let setup : b.meta.setup ≡ a.meta.setup = ap (λ (m : Meta). m.setup) fresh in
+    let same = c.attach.ensures.store in
+    ended (IsCoreHeld g.R.Rack.slot_count a h lo) (CoreCommitted g.R.Rack.slot_count a h lo (Gone c.args.disk)) (IsCoreHeldSinceCommit g.R.Rack.slot_count a h lo) _ _
+    (beside _ _ _ _ (core_down a) (named_of a.store) h refl refl (λ x is. knows_named (named_of a.store) (named_out a.meta.out) x is) lo (CoreCommitted g.R.Rack.slot_count a h lo (Gone c.args.disk)) (IsCoreHeldSinceCommit g.R.Rack.slot_count a h lo) _ _
+    (chain_held g.R.Rack.slot_count g.R.Rack.told a b c.attach.ensures.slots setup same.named (CoreCommitted g.R.Rack.slot_count a h lo (Gone c.args.disk)) (CoreStandsFor g.R.Rack.slot_count b h lo) h lo _ (c.attach.ensures.stands h lo) (c.commit.ensures.moments_since c.attach.ensures.absent h lo)))
+
+pub returns-clause-stands : goal.returns-clause-stands
+returns-clause-stands g c h =
+    let a = c.args.core.now in
+    let b = c.attach.new.self in
+    let new = c.commit.new.self in
+    let here : c.attach.result ≡ true = c.if-not-attach.false in
+    let fresh = c.attach.ensures.fresh here in
+    let out : b.meta.out ≡ Fresh c.args.disk 0 = ap (λ (m : Meta). m.out) fresh in
+    let setup : b.meta.setup ≡ a.meta.setup = ap (λ (m : Meta). m.setup) fresh in
+    let same = c.attach.ensures.store in
+    beside _ _ _ _ (core_down a) (named_of a.store) h refl refl (λ x is. knows_named (named_of a.store) (named_out a.meta.out) x is) (length h) (CoreCommitted g.R.Rack.slot_count a h (length h) (Gone c.args.disk)) (CoreStandsFor g.R.Rack.slot_count new h (length h)) _ _
+    (chain g.R.Rack.slot_count g.R.Rack.told a b c.attach.ensures.slots setup same.named (CoreCommitted g.R.Rack.slot_count a h (length h) (Gone c.args.disk)) (CoreStandsFor g.R.Rack.slot_count b h (length h)) (CoreStandsFor g.R.Rack.slot_count new h (length h)) h (length h) _ (c.attach.ensures.stands h (length h)) (c.in_ok-commit.ensures.since c.attach.ensures.absent h (length h)))
+
+pub returns-then-is_gone-clause-gone : goal.returns-then-is_gone-clause-gone
+returns-then-is_gone-clause-gone g c is =
+    let a = c.args.core.now in
+    let b = c.attach.new.self in
+    let new = c.commit.new.self in
+    let here : c.attach.result ≡ true = c.if-not-attach.false in
+    let fresh = c.attach.ensures.fresh here in
+    let out : b.meta.out ≡ Fresh c.args.disk 0 = ap (λ (m : Meta). m.out) fresh in
+    let setup : b.meta.setup ≡ a.meta.setup = ap (λ (m : Meta). m.setup) fresh in
+    let same = c.attach.ensures.store in
+    let marked = c.in_ok-commit.ensures.meta in
+    let lost = marked_lost _ new.meta c.args.disk (ap named_out out) (ap gone_out out) marked (c.is_gone.ensures.gone c.if-is_gone.true) in
+    inr (lost ∙ ap (λ (m : Meta). meta_after_loss (record m { epoch = m.epoch + 1 }) c.args.disk) fresh ∙ ap (λ (m : Meta). record m { epoch = m.epoch + 1 }) (gone_settled a.meta c.args.disk c.requires.serving.ready.in_range c.requires.gone))
+
+pub returns-then-is_gone-clause-risen : goal.returns-then-is_gone-clause-risen
+returns-then-is_gone-clause-risen g c is =
+    let a = c.args.core.now in
+    let b = c.attach.new.self in
+    let new = c.commit.new.self in
+    let here : c.attach.result ≡ true = c.if-not-attach.false in
+    let fresh = c.attach.ensures.fresh here in
+    let out : b.meta.out ≡ Fresh c.args.disk 0 = ap (λ (m : Meta). m.out) fresh in
+    let setup : b.meta.setup ≡ a.meta.setup = ap (λ (m : Meta). m.setup) fresh in
+    let same = c.attach.ensures.store in
+    let faults = ap (λ (s : Slot). s.faults) (c.attach.ensures.attached here) in
+    subst (λ (x : ℕ). HasRisen x (g.R.Rack.slot (store_rack new.store) c.args.disk).faults) faults
+    (gone_failed (g.R.Rack.slot (store_rack b.store)) (g.R.Rack.slot (store_rack new.store)) b.meta new.meta c.args.disk (ap named_out out) (ap gone_out out) c.in_ok-commit.ensures.marks (c.is_gone.ensures.gone c.if-is_gone.true))
+
+pub returns-clause-fresh : goal.returns-clause-fresh
+returns-clause-fresh g c is =
+    let a = c.args.core.now in
+    let b = c.attach.new.self in
+    let new = c.commit.new.self in
+    let here : c.attach.result ≡ true = c.if-not-attach.false in
+    let fresh = c.attach.ensures.fresh here in
+    let out : b.meta.out ≡ Fresh c.args.disk 0 = ap (λ (m : Meta). m.out) fresh in
+    let setup : b.meta.setup ≡ a.meta.setup = ap (λ (m : Meta). m.setup) fresh in
+    let same = c.attach.ensures.store in
+    let marked = c.in_ok-commit.ensures.meta in
+    marked_back _ new.meta marked (c.is_gone.ensures.back c.if-is_gone.false) ∙ ap (λ (m : Meta). record m { epoch = m.epoch + 1 }) fresh
+
+pub returns-clause-spins : goal.returns-clause-spins
+returns-clause-spins g c is =
+    let a = c.args.core.now in
+    let b = c.attach.new.self in
+    let new = c.commit.new.self in
+    let here : c.attach.result ≡ true = c.if-not-attach.false in
+    let fresh = c.attach.ensures.fresh here in
+    let out : b.meta.out ≡ Fresh c.args.disk 0 = ap (λ (m : Meta). m.out) fresh in
+    let setup : b.meta.setup ≡ a.meta.setup = ap (λ (m : Meta). m.setup) fresh in
+    let same = c.attach.ensures.store in
+    (back_well (g.R.Rack.slot (store_rack b.store)) (g.R.Rack.slot (store_rack new.store)) b.meta new.meta c.args.disk c.in_ok-commit.ensures.marks (c.is_gone.ensures.back c.if-is_gone.false)).0
+    ∙ ap (λ (s : Slot). s.power) (c.attach.ensures.attached here)
+
+pub returns-clause-size : goal.returns-clause-size
+returns-clause-size g c is =
+    let a = c.args.core.now in
+    let b = c.attach.new.self in
+    let new = c.commit.new.self in
+    let here : c.attach.result ≡ true = c.if-not-attach.false in
+    let fresh = c.attach.ensures.fresh here in
+    let out : b.meta.out ≡ Fresh c.args.disk 0 = ap (λ (m : Meta). m.out) fresh in
+    let setup : b.meta.setup ≡ a.meta.setup = ap (λ (m : Meta). m.setup) fresh in
+    let same = c.attach.ensures.store in
+    (back_well (g.R.Rack.slot (store_rack b.store)) (g.R.Rack.slot (store_rack new.store)) b.meta new.meta c.args.disk c.in_ok-commit.ensures.marks (c.is_gone.ensures.back c.if-is_gone.false)).1
+    ∙ ap (λ (s : Slot). s.size) (c.attach.ensures.attached here)
+
+pub returns-clause-committed : goal.returns-clause-committed
+returns-clause-committed g c is h =
+    let a = c.args.core.now in
+    let b = c.attach.new.self in
+    let new = c.commit.new.self in
+    let here : c.attach.result ≡ true = c.if-not-attach.false in
+    let fresh = c.attach.ensures.fresh here in
+    let out : b.meta.out ≡ Fresh c.args.disk 0 = ap (λ (m : Meta). m.out) fresh in
+    let setup : b.meta.setup ≡ a.meta.setup = ap (λ (m : Meta). m.setup) fresh in
+    let same = c.attach.ensures.store in
+    let last =
+    subst (λ (o : Out). Ran (g.R.Rack.told (store_rack b.store)) (g.R.Rack.told (store_rack new.store)) (CrashTriple (IsCoreHeldSinceCommit g.R.Rack.slot_count b h (length h)) (CoreStandsFor g.R.Rack.slot_count b h (length h)) (CoreCommitted g.R.Rack.slot_count new h (length h) o))) out
+    (c.in_ok-commit.ensures.committed c.attach.ensures.absent h (length h)) in
+    beside _ _ _ _ (core_down a) (named_of a.store) h refl refl (λ x is. knows_named (named_of a.store) (named_out a.meta.out) x is) (length h) (CoreCommitted g.R.Rack.slot_count a h (length h) (Gone c.args.disk)) (CoreCommitted g.R.Rack.slot_count new h (length h) (Fresh c.args.disk 0)) _ _
+    (chain g.R.Rack.slot_count g.R.Rack.told a b c.attach.ensures.slots setup same.named (CoreCommitted g.R.Rack.slot_count a h (length h) (Gone c.args.disk)) (CoreStandsFor g.R.Rack.slot_count b h (length h)) (CoreCommitted g.R.Rack.slot_count new h (length h) (Fresh c.args.disk 0)) h (length h) _ (c.attach.ensures.stands h (length h)) (last))

@@ -1,0 +1,124 @@
+use Rattle.std.specs.Prelude.{ℕ, ◌+◌, Option, Some}
+use Rattle.std.proofs.Common.{◌≡◌, ◌∙◌, sym, ap, subst, inl}
+use Rattle.paraid_image.specs.Out.{named_out, or_else}
+use Rattle.paraid_record.specs.declared.meta.Meta.{Meta}
+use Rattle.paraid_txn.specs.Losses.{OnlyLosesSlots}
+use Rattle.paraid_txn.specs.Stores.{named_of, store_rack}
+use Rattle.paraid_core.specs.Cores.{CoreStandsFor, IsCoreHeldSinceCommit, core_down}
+use Rattle.paraid_core.specs.Steps.{IsNamedOrAbsent}
+use Rattle.paraid_core.proofs.AfterLemmas.{handed}
+use Rattle.paraid_shift.specs.Serving.{RestsInShift}
+use Rattle.paraid_shift.proofs.ServingLemmas.{chain, chain_held, lowered, marked_named, unsynced_still}
+use Rattle.paraid_rebuild.proofs.ReplacingLemmas.{gone_stays, serving_then, two_marked}
+use Rattle.paraid_rebuild.proofs.stepping.commit_lost.Goals as goal
+
+pub returns-in_err-commit-clause-moments : goal.returns-in_err-commit-clause-moments
+returns-in_err-commit-clause-moments g c h lo =
+    let a = c.args.core.now in
+    let b = c.mark_out.new.self in
+    let new = c.commit.new.self in
+    let marks = c.mark_out.ensures in
+    let setup : b.meta.setup ≡ a.meta.setup = ap (λ (m : Meta). m.setup) marks.meta in
+    let out : named_out b.meta.out ≡ Some c.args.disk = ap (λ (m : Meta). named_out m.out) marks.meta in
+    let named : named_of b.store ≡ Some c.args.disk = ap named_of marks.store ∙ c.requires.named in
+    let away : IsNamedOrAbsent g.R.Rack.slot b = (λ x is. inl (named ∙ sym out ∙ is)) in
+    chain_held g.R.Rack.slot_count g.R.Rack.told a b (ap (λ (z : _). g.R.Rack.slot_count (store_rack z)) marks.store) setup (ap named_of marks.store)
+    (CoreStandsFor g.R.Rack.slot_count a h lo) (CoreStandsFor g.R.Rack.slot_count b h lo) h lo _ (marks.stands h lo) (c.commit.ensures.moments_since away h lo)
+
+pub returns-in_err-commit-clause-spared : goal.returns-in_err-commit-clause-spared
+returns-in_err-commit-clause-spared g c =
+    let a = c.args.core.now in
+    let b = c.mark_out.new.self in
+    let new = c.commit.new.self in
+    let marks = c.mark_out.ensures in
+    let setup : b.meta.setup ≡ a.meta.setup = ap (λ (m : Meta). m.setup) marks.meta in
+    let out : named_out b.meta.out ≡ Some c.args.disk = ap (λ (m : Meta). named_out m.out) marks.meta in
+    let named : named_of b.store ≡ Some c.args.disk = ap named_of marks.store ∙ c.requires.named in
+    subst (λ (z : _). OnlyLosesSlots (g.R.Rack.slot (store_rack z)) (g.R.Rack.slot (store_rack new.store))) marks.store c.commit.ensures.spared
+
+pub returns-in_err-commit-clause-two : goal.returns-in_err-commit-clause-two
+returns-in_err-commit-clause-two g c =
+    let a = c.args.core.now in
+    let b = c.mark_out.new.self in
+    let new = c.commit.new.self in
+    let marks = c.mark_out.ensures in
+    let setup : b.meta.setup ≡ a.meta.setup = ap (λ (m : Meta). m.setup) marks.meta in
+    let out : named_out b.meta.out ≡ Some c.args.disk = ap (λ (m : Meta). named_out m.out) marks.meta in
+    let named : named_of b.store ≡ Some c.args.disk = ap named_of marks.store ∙ c.requires.named in
+    let down : core_down b ≡ core_down a = ap (λ (o : Option ℕ). or_else o (named_out b.meta.out)) named ∙ sym (ap (λ (o : Option ℕ). or_else o (named_out a.meta.out)) c.requires.named) in
+    handed _ c.from_residual.result _ c.from_residual.ensures.1
+    (two_marked g.R.Rack.slot a b new _ marks.store down c.in_err-commit.ensures.two)
+
+pub returns-clause-moments : goal.returns-clause-moments
+returns-clause-moments g c h lo =
+    let a = c.args.core.now in
+    let b = c.mark_out.new.self in
+    let new = c.commit.new.self in
+    let marks = c.mark_out.ensures in
+    let setup : b.meta.setup ≡ a.meta.setup = ap (λ (m : Meta). m.setup) marks.meta in
+    let out : named_out b.meta.out ≡ Some c.args.disk = ap (λ (m : Meta). named_out m.out) marks.meta in
+    let named : named_of b.store ≡ Some c.args.disk = ap named_of marks.store ∙ c.requires.named in
+    let away : IsNamedOrAbsent g.R.Rack.slot b = (λ x is. inl (named ∙ sym out ∙ is)) in
+    chain_held g.R.Rack.slot_count g.R.Rack.told a b (ap (λ (z : _). g.R.Rack.slot_count (store_rack z)) marks.store) setup (ap named_of marks.store)
+    (CoreStandsFor g.R.Rack.slot_count a h lo) (CoreStandsFor g.R.Rack.slot_count b h lo) h lo _ (marks.stands h lo) (c.commit.ensures.moments_since away h lo)
+
+pub returns-clause-spared : goal.returns-clause-spared
+returns-clause-spared g c =
+    let a = c.args.core.now in
+    let b = c.mark_out.new.self in
+    let new = c.commit.new.self in
+    let marks = c.mark_out.ensures in
+    let setup : b.meta.setup ≡ a.meta.setup = ap (λ (m : Meta). m.setup) marks.meta in
+    let out : named_out b.meta.out ≡ Some c.args.disk = ap (λ (m : Meta). named_out m.out) marks.meta in
+    let named : named_of b.store ≡ Some c.args.disk = ap named_of marks.store ∙ c.requires.named in
+    subst (λ (z : _). OnlyLosesSlots (g.R.Rack.slot (store_rack z)) (g.R.Rack.slot (store_rack new.store))) marks.store c.commit.ensures.spared
+
+pub returns-clause-serving : goal.returns-clause-serving
+returns-clause-serving g c =
+    let a = c.args.core.now in
+    let b = c.mark_out.new.self in
+    let new = c.commit.new.self in
+    let marks = c.mark_out.ensures in
+    let setup : b.meta.setup ≡ a.meta.setup = ap (λ (m : Meta). m.setup) marks.meta in
+    let out : named_out b.meta.out ≡ Some c.args.disk = ap (λ (m : Meta). named_out m.out) marks.meta in
+    let named : named_of b.store ≡ Some c.args.disk = ap named_of marks.store ∙ c.requires.named in
+    let done = c.in_ok-commit.ensures in
+    serving_then g.R.Rack.slot_count g.R.Rack.slot a new c.requires.serving done.ready (done.serves (marks.serves c.requires.serving.serves))
+    (done.unsynced (unsynced_still g.R.Rack.slot_count g.R.Rack.slot a b c.requires.serving setup marks.store marks.copied)) (done.draft ∙ marks.draft) (done.copied ∙ marks.copied) (done.setup ∙ setup)
+    (λ d is. marked_named _ new.meta done.meta d (out ∙ sym c.requires.out ∙ is))
+    (λ d not there. c.commit.ensures.spared.size d there ∙ ap (λ (z : _). (g.R.Rack.slot (store_rack z) d).size) marks.store)
+
+pub returns-clause-named : goal.returns-clause-named
+returns-clause-named g c =
+    let a = c.args.core.now in
+    let b = c.mark_out.new.self in
+    let new = c.commit.new.self in
+    let marks = c.mark_out.ensures in
+    let setup : b.meta.setup ≡ a.meta.setup = ap (λ (m : Meta). m.setup) marks.meta in
+    let out : named_out b.meta.out ≡ Some c.args.disk = ap (λ (m : Meta). named_out m.out) marks.meta in
+    let named : named_of b.store ≡ Some c.args.disk = ap named_of marks.store ∙ c.requires.named in
+    c.in_ok-commit.ensures.named ∙ out
+
+pub returns-clause-rests : goal.returns-clause-rests
+returns-clause-rests g c h lo =
+    let a = c.args.core.now in
+    let b = c.mark_out.new.self in
+    let new = c.commit.new.self in
+    let marks = c.mark_out.ensures in
+    let setup : b.meta.setup ≡ a.meta.setup = ap (λ (m : Meta). m.setup) marks.meta in
+    let out : named_out b.meta.out ≡ Some c.args.disk = ap (λ (m : Meta). named_out m.out) marks.meta in
+    let named : named_of b.store ≡ Some c.args.disk = ap named_of marks.store ∙ c.requires.named in
+    let away : IsNamedOrAbsent g.R.Rack.slot b = (λ x is. inl (named ∙ sym out ∙ is)) in
+    chain g.R.Rack.slot_count g.R.Rack.told a b (ap (λ (z : _). g.R.Rack.slot_count (store_rack z)) marks.store) setup (ap named_of marks.store)
+    (CoreStandsFor g.R.Rack.slot_count a h lo) (CoreStandsFor g.R.Rack.slot_count b h lo) (RestsInShift g.R.Rack.slot_count new h lo) h lo _ (marks.stands h lo) (lowered g.R.Rack.slot_count b new (IsCoreHeldSinceCommit g.R.Rack.slot_count b h lo) h lo _ _ (c.in_ok-commit.ensures.filled_since away h lo))
+
+pub returns-clause-gone : goal.returns-clause-gone
+returns-clause-gone g c =
+    let a = c.args.core.now in
+    let b = c.mark_out.new.self in
+    let new = c.commit.new.self in
+    let marks = c.mark_out.ensures in
+    let setup : b.meta.setup ≡ a.meta.setup = ap (λ (m : Meta). m.setup) marks.meta in
+    let out : named_out b.meta.out ≡ Some c.args.disk = ap (λ (m : Meta). named_out m.out) marks.meta in
+    let named : named_of b.store ≡ Some c.args.disk = ap named_of marks.store ∙ c.requires.named in
+    gone_stays (record a.meta { epoch = a.meta.epoch + 1 }) (record b.meta { epoch = b.meta.epoch + 1 }) new.meta c.args.disk (ap (λ (m : Meta). record m { epoch = m.epoch + 1 }) marks.meta) c.in_ok-commit.ensures.meta

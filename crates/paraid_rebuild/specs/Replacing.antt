@@ -1,0 +1,30 @@
+-- What a call leaves in which a disk is replaced.
+use Rattle.std.specs.Prelude.{◌≡◌, ◌≢◌, ℕ, ◌+◌, ◌≤◌, true, slice_index}
+use Rattle.paraid_base.specs.declared.state.Out.{Out}
+use Rattle.paraid_rack.specs.Disks.{is_present}
+use Rattle.paraid_rack.specs.Slots.{Slot}
+use Rattle.paraid_record.specs.declared.meta.Meta.{Meta}
+use Rattle.paraid_image.specs.Mark.{meta_after_loss}
+use Rattle.paraid_txn.specs.Stores.{store_rack}
+use Rattle.paraid_core.specs.declared.staged.Core.{Core}
+
+-- The meta after so many commits, by which disk `disk` is out so, with no spin-up counted for it; a shift down has ended,
+-- and nothing else has changed.
+pub record IsReplacedFrom (m new : Meta) (disk commits : ℕ) (out : Out) : Type 0 where
+  pub is : new ≡ record (meta_after_loss m disk) { epoch = m.epoch + commits; out = out; spins = new.spins }
+  pub cleared : slice_index new.spins disk ≡ 0
+  pub others : (e : ℕ) → e ≢ disk → slice_index new.spins e ≡ slice_index m.spins e
+
+-- A disk that is there, but for this one, was there before, with the same power and size, and its count of faults has
+-- not fallen.
+pub record OnlyLosesBut (old new : ℕ → Slot) (disk : ℕ) : Type 0 where
+  pub power : (d : ℕ) → d ≢ disk → is_present (new d).power ≡ true → (new d).power ≡ (old d).power
+  pub size : (d : ℕ) → d ≢ disk → is_present (new d).power ≡ true → (new d).size ≡ (old d).size
+  pub no_fall : (d : ℕ) → d ≢ disk → (old d).faults ≤ (new d).faults
+
+-- The array and the number of its writes are as they were, and so is each disk but this one, unless it was lost.
+pub record LeavesArrayBut {R : Type 0} {g : _} (count : R → ℕ) (slot : R → ℕ → Slot) (old new : Core R g) (disk : ℕ) : Type 0 where
+  pub slots : count (store_rack new.store) ≡ count (store_rack old.store)
+  pub setup : new.meta.setup ≡ old.meta.setup
+  pub writes : new.meta.writes ≡ old.meta.writes
+  pub spared : OnlyLosesBut (slot (store_rack old.store)) (slot (store_rack new.store)) disk

@@ -1,0 +1,235 @@
+//! A step of a rebuild: what is staged is committed first, then units are copied and marked by a commit.
+ghost use Rattle.std.specs.Prelude.{◌≡◌, ℕ, ◌+◌, ◌^◌, ◌<◌, ◌≤◌, true, false, [], Ok, Some, OnOk, IfErr};
+ghost use Rattle.paraid_base.specs.declared.state.Out.TheVariants.{Fresh};
+ghost use Rattle.paraid_base.specs.History.{History};
+ghost use Rattle.paraid_base.specs.States.{rebuilt_count};
+ghost use Rattle.paraid_base.specs.Told.{HasRisen};
+ghost use Rattle.paraid_core.specs.Cores.{CoreStandsFor, IsCoreHeldSinceCommit, batch_of, core_down, core_rack, core_table, meta_of, store_of};
+ghost use Rattle.paraid_core.specs.Steps.{IsNamedOrAbsent};
+ghost use Rattle.paraid_core.specs.Units.{IsRebuilding};
+ghost use Rattle.paraid_image.specs.Mark.{meta_after_loss};
+ghost use Rattle.paraid_image.specs.Out.{named_out};
+ghost use Rattle.paraid_rack.specs.declared.call.Power.TheVariants.{Spinning};
+ghost use Rattle.paraid_rack.specs.Told.{CrashTriple, Ran};
+ghost use Rattle.paraid_record.specs.Range.{rebuild_units};
+ghost use Rattle.paraid_shift.specs.Serving.{IsHeldFromRest, IsHeldInShift, IsCoreServing, RestsInShift, StandsInShift};
+ghost use Rattle.paraid_txn.specs.Losses.{AreTwoDown, OnlyLosesSlots};
+ghost use Rattle.paraid_txn.specs.Stores.{named_of};
+
+use crate::ending::mark_units;
+use crate::moving::move_units;
+use crate::replaced::is_gone;
+use paraid_base::{DiskNo, Two};
+use paraid_core::Core;
+use paraid_rack::Rack;
+
+// Whether nothing is staged.
+fn is_clear<R: Rack>(core: &Core<R>) -> bool
+    ensures nothing { result ≡ true → batch_of core.now ≡ [] }
+{
+    core.staged() == 0
+}
+
+/// Commits what is staged, if anything is. False where the disk that is rebuilt was lost in it.
+pub fn commit_staged<R: Rack>(core: &mut Core<R>, disk: DiskNo) -> Result<bool, Two>
+    requires serving { IsCoreServing R.slot_count R.slot core.old }
+    requires fresh { IsRebuilding (meta_of core.old) disk }
+    requires named { named_of (store_of core.old) ≡ Some disk }
+    requires spins { (R.slot (core_rack core.old) disk).power ≡ Spinning }
+    requires epoch { (meta_of core.old).epoch < 2 ^ 63 }
+    ensures serving { OnOk result (IsCoreServing R.slot_count R.slot core.new) }
+    ensures nothing { OnOk result (batch_of core.new ≡ []) }
+    ensures named { OnOk result (named_of (store_of core.new) ≡ Some disk) }
+    ensures slots { R.slot_count (core_rack core.new) ≡ R.slot_count (core_rack core.old) }
+    ensures few { OnOk result ((meta_of core.new).epoch ≤ (meta_of core.old).epoch + 1) }
+    ensures same { result ≡ Ok true → meta_of core.new ≡ record (meta_of core.old) { epoch = (meta_of core.new).epoch } }
+    ensures spins { result ≡ Ok true → (R.slot (core_rack core.new) disk).power ≡ Spinning }
+    // The disk has failed, and is gone.
+    ensures gone { result ≡ Ok false → meta_of core.new
+        ≡ record (meta_after_loss (meta_of core.old) disk) { epoch = (meta_of core.old).epoch + 1 } }
+    ensures failed { result ≡ Ok false
+        → HasRisen (R.slot (core_rack core.old) disk).faults (R.slot (core_rack core.new) disk).faults }
+    ensures table { core_table core.new ≡ core_table core.old }
+    ensures spared { OnlyLosesSlots (R.slot (core_rack core.old)) (R.slot (core_rack core.new)) }
+    ensures two { IfErr result (AreTwoDown (core_down core.old)
+        (R.slot (core_rack core.old)) (R.slot (core_rack core.new))) }
+    ensures moments { IsHeldInShift R.slot_count R.told core.old core.new }
+    ensures rests { OnOk result ((h : History) (lo : ℕ)
+        → Ran (R.told (core_rack core.old)) (R.told (core_rack core.new))
+        (CrashTriple (IsCoreHeldSinceCommit R.slot_count core.old h lo) (StandsInShift R.slot_count core.old h lo)
+        (RestsInShift R.slot_count core.new h lo))) }
+{
+    if is_clear(core) {
+        return Ok(true);
+    }
+    core.commit()?;
+    if is_gone(core) {
+        return Ok(false);
+    }
+    Ok(true)
+}
+
+// Commits that the disk which was rebuilt is gone again.
+fn commit_lost<R: Rack>(core: &mut Core<R>, disk: DiskNo) -> Result<(), Two>
+    requires serving { IsCoreServing R.slot_count R.slot core.old }
+    requires out { named_out (meta_of core.old).out ≡ Some disk }
+    requires named { named_of (store_of core.old) ≡ Some disk }
+    requires epoch { (meta_of core.old).epoch < 2 ^ 63 }
+    ensures serving { OnOk result (IsCoreServing R.slot_count R.slot core.new) }
+    ensures nothing { OnOk result (batch_of core.new ≡ []) }
+    ensures absent { OnOk result (IsNamedOrAbsent R.slot core.new) }
+    ensures named { OnOk result (named_of (store_of core.new) ≡ Some disk) }
+    ensures slots { R.slot_count (core_rack core.new) ≡ R.slot_count (core_rack core.old) }
+    ensures gone { OnOk result (meta_of core.new
+        ≡ record (meta_after_loss (meta_of core.old) disk) { epoch = (meta_of core.old).epoch + 1 }) }
+    ensures table { core_table core.new ≡ core_table core.old }
+    ensures spared { OnlyLosesSlots (R.slot (core_rack core.old)) (R.slot (core_rack core.new)) }
+    ensures two { IfErr result (AreTwoDown (core_down core.old)
+        (R.slot (core_rack core.old)) (R.slot (core_rack core.new))) }
+    ensures moments { (h : History) (lo : ℕ) → Ran (R.told (core_rack core.old)) (R.told (core_rack core.new))
+        (CrashTriple (IsCoreHeldSinceCommit R.slot_count core.old h lo) (CoreStandsFor R.slot_count core.old h lo)
+        (IsCoreHeldSinceCommit R.slot_count core.old h lo)) }
+    ensures rests { OnOk result ((h : History) (lo : ℕ)
+        → Ran (R.told (core_rack core.old)) (R.told (core_rack core.new))
+        (CrashTriple (IsCoreHeldSinceCommit R.slot_count core.old h lo) (CoreStandsFor R.slot_count core.old h lo)
+        (RestsInShift R.slot_count core.new h lo))) }
+{
+    core.mark_out(disk);
+    core.commit()?;
+    Ok(())
+}
+
+// Copies the units below `end` that are not rebuilt, and marks them by a commit. False where the disk was lost.
+fn advance<R: Rack>(core: &mut Core<R>, disk: DiskNo, end: u32) -> Result<bool, Two>
+    requires serving { IsCoreServing R.slot_count R.slot core.old }
+    requires nothing { batch_of core.old ≡ [] }
+    requires fresh { IsRebuilding (meta_of core.old) disk }
+    requires named { named_of (store_of core.old) ≡ Some disk }
+    requires spins { (R.slot (core_rack core.old) disk).power ≡ Spinning }
+    requires from { rebuilt_count (meta_of core.old).out ≤ end }
+    requires limit { end ≤ rebuild_units (meta_of core.old).setup.geometry (meta_of core.old).gear disk }
+    requires epoch { (meta_of core.old).epoch < 2 ^ 63 }
+    ensures serving { OnOk result (IsCoreServing R.slot_count R.slot core.new) }
+    ensures nothing { OnOk result (batch_of core.new ≡ []) }
+    ensures named { OnOk result (named_of (store_of core.new) ≡ Some disk) }
+    ensures slots { OnOk result (R.slot_count (core_rack core.new) ≡ R.slot_count (core_rack core.old)) }
+    ensures few { OnOk result ((meta_of core.new).epoch ≤ (meta_of core.old).epoch + 1) }
+    ensures moved { result ≡ Ok true → meta_of core.new ≡ record (meta_of core.old)
+        { epoch = (meta_of core.new).epoch; out = Fresh disk end } }
+    ensures spins { result ≡ Ok true → (R.slot (core_rack core.new) disk).power ≡ Spinning }
+    // The disk has failed, and is gone.
+    ensures gone { result ≡ Ok false → meta_of core.new
+        ≡ record (meta_after_loss (meta_of core.old) disk) { epoch = (meta_of core.new).epoch } }
+    ensures failed { result ≡ Ok false
+        → HasRisen (R.slot (core_rack core.old) disk).faults (R.slot (core_rack core.new) disk).faults }
+    ensures table { OnOk result (core_table core.new ≡ core_table core.old) }
+    ensures spared { OnlyLosesSlots (R.slot (core_rack core.old)) (R.slot (core_rack core.new)) }
+    ensures two { IfErr result (AreTwoDown (core_down core.old)
+        (R.slot (core_rack core.old)) (R.slot (core_rack core.new))) }
+    ensures moments { IsHeldFromRest R.slot_count R.told core.old core.new }
+    ensures stands { OnOk result ((h : History) (lo : ℕ)
+        → Ran (R.told (core_rack core.old)) (R.told (core_rack core.new))
+        (CrashTriple (IsCoreHeldSinceCommit R.slot_count core.old h lo) (RestsInShift R.slot_count core.old h lo)
+        (CoreStandsFor R.slot_count core.new h lo))) }
+    ensures rests { result ≡ Ok true → (h : History) (lo : ℕ)
+        → Ran (R.told (core_rack core.old)) (R.told (core_rack core.new))
+        (CrashTriple (IsCoreHeldSinceCommit R.slot_count core.old h lo) (RestsInShift R.slot_count core.old h lo)
+        (RestsInShift R.slot_count core.new h lo)) }
+{
+    let first = core.out().rebuilt();
+    let copied = move_units(core, disk, first, end)?;
+    if !copied {
+        return Ok(false);
+    }
+    let marked = mark_units(core, disk, end)?;
+    Ok(marked)
+}
+
+// The same after a commit of what is staged, if anything is.
+fn go_on<R: Rack>(core: &mut Core<R>, disk: DiskNo, end: u32) -> Result<bool, Two>
+    requires serving { IsCoreServing R.slot_count R.slot core.old }
+    requires fresh { IsRebuilding (meta_of core.old) disk }
+    requires named { named_of (store_of core.old) ≡ Some disk }
+    requires spins { (R.slot (core_rack core.old) disk).power ≡ Spinning }
+    requires from { rebuilt_count (meta_of core.old).out ≤ end }
+    requires limit { end ≤ rebuild_units (meta_of core.old).setup.geometry (meta_of core.old).gear disk }
+    requires epoch { (meta_of core.old).epoch + 1 < 2 ^ 63 }
+    ensures serving { OnOk result (IsCoreServing R.slot_count R.slot core.new) }
+    ensures nothing { OnOk result (batch_of core.new ≡ []) }
+    ensures named { OnOk result (named_of (store_of core.new) ≡ Some disk) }
+    ensures slots { OnOk result (R.slot_count (core_rack core.new) ≡ R.slot_count (core_rack core.old)) }
+    ensures few { OnOk result ((meta_of core.new).epoch ≤ (meta_of core.old).epoch + 2) }
+    ensures moved { result ≡ Ok true → meta_of core.new ≡ record (meta_of core.old)
+        { epoch = (meta_of core.new).epoch; out = Fresh disk end } }
+    ensures spins { result ≡ Ok true → (R.slot (core_rack core.new) disk).power ≡ Spinning }
+    // The disk has failed, and is gone.
+    ensures gone { result ≡ Ok false → meta_of core.new
+        ≡ record (meta_after_loss (meta_of core.old) disk) { epoch = (meta_of core.new).epoch } }
+    ensures failed { result ≡ Ok false
+        → HasRisen (R.slot (core_rack core.old) disk).faults (R.slot (core_rack core.new) disk).faults }
+    ensures table { OnOk result (core_table core.new ≡ core_table core.old) }
+    ensures spared { OnlyLosesSlots (R.slot (core_rack core.old)) (R.slot (core_rack core.new)) }
+    ensures two { IfErr result (AreTwoDown (core_down core.old)
+        (R.slot (core_rack core.old)) (R.slot (core_rack core.new))) }
+    ensures moments { IsHeldInShift R.slot_count R.told core.old core.new }
+    ensures stands { OnOk result ((h : History) (lo : ℕ)
+        → Ran (R.told (core_rack core.old)) (R.told (core_rack core.new))
+        (CrashTriple (IsCoreHeldSinceCommit R.slot_count core.old h lo) (StandsInShift R.slot_count core.old h lo)
+        (CoreStandsFor R.slot_count core.new h lo))) }
+    ensures rests { result ≡ Ok true → (h : History) (lo : ℕ)
+        → Ran (R.told (core_rack core.old)) (R.told (core_rack core.new))
+        (CrashTriple (IsCoreHeldSinceCommit R.slot_count core.old h lo) (StandsInShift R.slot_count core.old h lo)
+        (RestsInShift R.slot_count core.new h lo)) }
+{
+    let there = commit_staged(core, disk)?;
+    if !there {
+        return Ok(false);
+    }
+    let moved = advance(core, disk, end)?;
+    Ok(moved)
+}
+
+/// A step of a rebuild: what is staged is committed first, if anything is; then the units below `end` that are not rebuilt
+/// are copied past the log, made to last and marked by one commit.
+///
+/// True once they are. False where the disk was lost again.
+pub fn step<R: Rack>(core: &mut Core<R>, disk: DiskNo, end: u32) -> Result<bool, Two>
+    requires serving { IsCoreServing R.slot_count R.slot core.old }
+    requires fresh { IsRebuilding (meta_of core.old) disk }
+    requires named { named_of (store_of core.old) ≡ Some disk }
+    requires spins { (R.slot (core_rack core.old) disk).power ≡ Spinning }
+    requires from { rebuilt_count (meta_of core.old).out ≤ end }
+    requires limit { end ≤ rebuild_units (meta_of core.old).setup.geometry (meta_of core.old).gear disk }
+    requires epoch { (meta_of core.old).epoch + 2 < 2 ^ 63 }
+    ensures serving { OnOk result (IsCoreServing R.slot_count R.slot core.new) }
+    ensures nothing { OnOk result (batch_of core.new ≡ []) }
+    ensures absent { OnOk result (IsNamedOrAbsent R.slot core.new) }
+    ensures named { OnOk result (named_of (store_of core.new) ≡ Some disk) }
+    ensures slots { OnOk result (R.slot_count (core_rack core.new) ≡ R.slot_count (core_rack core.old)) }
+    ensures few { OnOk result ((meta_of core.new).epoch ≤ (meta_of core.old).epoch + 3) }
+    ensures moved { result ≡ Ok true → meta_of core.new ≡ record (meta_of core.old)
+        { epoch = (meta_of core.new).epoch; out = Fresh disk end } }
+    ensures spins { result ≡ Ok true → (R.slot (core_rack core.new) disk).power ≡ Spinning }
+    // False only where the disk has failed: that it is gone is committed.
+    ensures gone { result ≡ Ok false → meta_of core.new
+        ≡ record (meta_after_loss (meta_of core.old) disk) { epoch = (meta_of core.new).epoch } }
+    ensures failed { result ≡ Ok false
+        → HasRisen (R.slot (core_rack core.old) disk).faults (R.slot (core_rack core.new) disk).faults }
+    ensures table { OnOk result (core_table core.new ≡ core_table core.old) }
+    ensures spared { OnlyLosesSlots (R.slot (core_rack core.old)) (R.slot (core_rack core.new)) }
+    ensures two { IfErr result (AreTwoDown (core_down core.old)
+        (R.slot (core_rack core.old)) (R.slot (core_rack core.new))) }
+    ensures moments { IsHeldInShift R.slot_count R.told core.old core.new }
+    // Each stop leaves what it left before, and the writes are as they were, with nothing staged.
+    ensures rests { OnOk result ((h : History) (lo : ℕ)
+        → Ran (R.told (core_rack core.old)) (R.told (core_rack core.new))
+        (CrashTriple (IsCoreHeldSinceCommit R.slot_count core.old h lo) (StandsInShift R.slot_count core.old h lo)
+        (RestsInShift R.slot_count core.new h lo))) }
+{
+    let moved = go_on(core, disk, end)?;
+    if moved {
+        return Ok(true);
+    }
+    commit_lost(core, disk)?;
+    Ok(false)
+}

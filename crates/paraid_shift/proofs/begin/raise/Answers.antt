@@ -1,0 +1,55 @@
+use Rattle.std.proofs.Common.{◌≡◌, ◌≢◌, ◌∙◌, ℕ, Some, Ok, ap, arith, inl, inr, sym}
+use Rattle.std.proofs.lemmas.Bool.{cases_Bool, cases_eq}
+use Rattle.paraid_image.specs.Out.{named_out}
+use Rattle.paraid_rack.specs.declared.call.Power.TheVariants.{Spinning}
+use Rattle.paraid_rack.specs.Slots.{Slot}
+use Rattle.paraid_txn.specs.Stores.{store_rack}
+use Rattle.paraid_core.proofs.StepLemmas.{marked_from_setup, runs_end, runs_none}
+use Rattle.paraid_shift.specs.Serving.{RestsInShift}
+use Rattle.paraid_shift.proofs.ServingLemmas.{copies_kept, large_then, marked_named, still_then}
+use Rattle.paraid_shift.proofs.begin.raise.Given.{Over}
+use Rattle.paraid_shift.proofs.begin.raise.Goals as goal
+use Rattle.paraid_shift.proofs.begin.raise.Goals.{In_ok-spin_up}
+
+pub returns-then-not-is_down-clause-moments : goal.returns-then-not-is_down-clause-moments
+returns-then-not-is_down-clause-moments g c h lo =
+    let a = c.args.core.now in
+    runs_end g.R.Rack.slot_count g.R.Rack.slot g.R.Rack.told a _ (RestsInShift g.R.Rack.slot_count a h lo) (RestsInShift g.R.Rack.slot_count a h lo) h lo
+    (runs_none g.R.Rack.slot_count g.R.Rack.slot g.R.Rack.told a (RestsInShift g.R.Rack.slot_count a h lo) h lo (λ s kf. kf.keeps))
+
+pub returns-then-not-is_down-clause-rests : goal.returns-then-not-is_down-clause-rests
+returns-then-not-is_down-clause-rests g c h lo =
+    let a = c.args.core.now in
+    runs_none g.R.Rack.slot_count g.R.Rack.slot g.R.Rack.told a (RestsInShift g.R.Rack.slot_count a h lo) h lo (λ s kf. kf.keeps)
+
+-- the disk itself
+raised : (g : Over) (c : In_ok-spin_up g) → named_out c.spin_up.new.self.meta.out ≢ Some c.args.disk → (g.R.Rack.slot (store_rack c.spin_up.new.self.store) c.args.disk).power ≡ Spinning
+raised g c not = elim (cases_Bool c.in_ok-spin_up.field-0) [
+  | inl done ↦ c.in_ok-spin_up.ensures.spins (ap Ok done)
+  | inr failed ↦ absurd (not (ap named_out (c.in_ok-spin_up.ensures.gone (ap Ok failed))))
+]
+
+pub returns-clause-rising : goal.returns-clause-rising
+returns-clause-rising g c =
+    let q = c.requires.rising in
+    let a = c.args.core.now in
+    let new = c.spin_up.new.self in
+    let done = c.in_ok-spin_up.ensures in
+    let setup = marked_from_setup a.meta new.meta done.meta in
+    record {
+      ready = done.ready;
+      still = still_then a new c.spin_up.ensures.store done.meta q.still;
+      up = λ d low not. elim (cases_eq d c.args.disk) [
+        | inl is ↦
+            ap (λ (e : ℕ). (g.R.Rack.slot (store_rack new.store) e).power) is ∙ raised g c (λ k. not (k ∙ ap Some (sym is)))
+        | inr apart ↦
+            ap (λ (s : Slot). s.power) (c.spin_up.ensures.others d apart)
+            ∙ q.up d (omega arith) (λ k. not (marked_named a.meta new.meta done.meta d k))
+      ];
+      draft = c.spin_up.ensures.draft ∙ q.draft;
+      copies_synced = copies_kept a new setup c.spin_up.ensures.copied q.copies_synced;
+      unsynced = done.unsynced q.unsynced;
+      large = large_then (g.R.Rack.slot (store_rack a.store)) (g.R.Rack.slot (store_rack new.store)) a.meta new.meta q.large c.spin_up.ensures.turned setup
+          (marked_named a.meta new.meta done.meta) done.ready.absent;
+      nothing = c.spin_up.ensures.batch ∙ q.nothing;
+    }

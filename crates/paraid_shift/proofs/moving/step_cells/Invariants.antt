@@ -1,0 +1,12 @@
+use Rattle.std.specs.Prelude.{◌+◌, ◌≤◌}
+use Rattle.paraid_shift.specs.Serving.{IsCoreServing, LeavesArray}
+use Rattle.paraid_shift.proofs.moving.step_cells.Given as goal
+
+-- so many cells are moved
+abbrev pub invariant-loop-at : goal.invariant-loop-at
+invariant-loop-at g l = record {
+  serving : IsCoreServing g.R.Rack.slot_count g.R.Rack.slot l.core;
+  leaves : LeavesArray g.R.Rack.slot_count g.R.Rack.slot l.fn.core l.core;
+  epoch : l.core.meta.epoch ≤ l.fn.core.meta.epoch + l.at;
+  few : l.moved ≤ l.fn.most;
+}

@@ -1,0 +1,168 @@
+//! A shift begins: its phase is committed, with each spin-up counted, and then the disks that a shift up needs are
+//! spun up.
+ghost use Rattle.std.specs.Prelude.{◌≡◌, ◌≢◌, ℕ, ◌+◌, ◌^◌, ◌<◌, ◌≤◌, true, false, [], Some, OnOk, IfErr, length, slice_index};
+ghost use Rattle.paraid_base.specs.declared.state.Out.TheVariants.{No};
+ghost use Rattle.paraid_base.specs.declared.state.Phase.TheVariants.{Down, Steady, Up};
+ghost use Rattle.paraid_base.specs.History.{History};
+ghost use Rattle.paraid_base.specs.States.{rising_to};
+ghost use Rattle.paraid_core.specs.Cores.{CoreStandsFor, IsCoreHeldSinceCommit, IsCoreReady, batch_of, core_down, core_rack, core_table, meta_of, store_of};
+ghost use Rattle.paraid_core.specs.Steps.{IsHeldStill, IsMarkedFrom};
+ghost use Rattle.paraid_image.specs.Out.{named_out};
+ghost use Rattle.paraid_moves.specs.MoveMetas.{meta_after_begin};
+ghost use Rattle.paraid_rack.specs.declared.call.Power.TheVariants.{Parked, Spinning};
+ghost use Rattle.paraid_rack.specs.Told.{CrashTriple, Ran};
+ghost use Rattle.paraid_record.specs.Range.{AreNextGears, allowed_spins};
+ghost use Rattle.paraid_shift.specs.Serving.{HasBegunUp, IsComingUp, IsHeldFromRest, IsCoreServing, LeavesArray, RestsInShift, StaysAtRest};
+ghost use Rattle.paraid_txn.specs.Losses.{AreTwoDown, OnlyLosesSlots};
+ghost use Rattle.paraid_txn.specs.Stores.{IsSameStore, named_of};
+
+use paraid_base::{DiskNo, Two};
+use paraid_core::Core;
+use paraid_rack::{Power, Rack};
+
+/// Begins a shift down to the next lower gear, by one commit with all that is staged.
+pub fn begin_down<R: Rack>(core: &mut Core<R>, to: u8) -> Result<(), Two>
+    requires serving { IsCoreServing R.slot_count R.slot core.old }
+    requires epoch { (meta_of core.old).epoch < 2 ^ 63 }
+    requires whole { (meta_of core.old).out ≡ No }
+    requires steady { (meta_of core.old).phase ≡ Steady }
+    requires next { AreNextGears (meta_of core.old).setup.geometry to (meta_of core.old).gear }
+    requires spared { (d : ℕ) → to ≤ d → d < (meta_of core.old).gear
+        → slice_index (meta_of core.old).spins d < allowed_spins (meta_of core.old) }
+    ensures serving { OnOk result (IsCoreServing R.slot_count R.slot core.new) }
+    ensures leaves { OnOk result (LeavesArray R.slot_count R.slot core.old core.new) }
+    ensures meta { OnOk result (IsMarkedFrom (record (meta_after_begin (meta_of core.old) (Down to) (meta_of core.old).spins)
+        { epoch = (meta_of core.old).epoch + 1 }) (meta_of core.new)) }
+    ensures table { core_table core.new ≡ core_table core.old }
+    ensures nothing { OnOk result (batch_of core.new ≡ []) }
+    ensures spared { OnlyLosesSlots (R.slot (core_rack core.old)) (R.slot (core_rack core.new)) }
+    ensures two { IfErr result (AreTwoDown (core_down core.old)
+        (R.slot (core_rack core.old)) (R.slot (core_rack core.new))) }
+    ensures moments { IsHeldStill R.slot_count R.told core.old core.new }
+    ensures rests { OnOk result ((h : History) (lo : ℕ)
+        → Ran (R.told (core_rack core.old)) (R.told (core_rack core.new))
+        (CrashTriple (IsCoreHeldSinceCommit R.slot_count core.old h lo) (CoreStandsFor R.slot_count core.old h lo)
+        (RestsInShift R.slot_count core.new h (length h)))) }
+{
+    core.begin_down(to);
+    core.commit()?;
+    Ok(())
+}
+
+// Whether a disk that comes up has still to be spun up.
+fn is_down<R: Rack>(core: &Core<R>, disk: DiskNo) -> bool
+    requires ready { IsCoreReady R.slot_count R.slot core.now }
+    requires disk { disk < (meta_of core.now).setup.geometry.disks }
+    ensures parked { result ≡ true → (R.slot (core_rack core.now) disk).power ≡ Parked }
+    ensures not_out { result ≡ true → named_out (meta_of core.now).out ≢ Some disk }
+    ensures up { result ≡ false → named_out (meta_of core.now).out ≢ Some disk
+        → (R.slot (core_rack core.now) disk).power ≡ Spinning }
+{
+    if core.out().names(disk) {
+        return false;
+    }
+    match core.power(disk) {
+        Power::Parked => true,
+        Power::Spinning => false,
+        Power::Absent => false,
+    }
+}
+
+// Spins up a disk, unless it is out or spins. A disk that fails is out from then on.
+fn raise<R: Rack>(core: &mut Core<R>, disk: DiskNo) -> Result<(), Two>
+    requires rising { IsComingUp R.slot_count R.slot core.old disk }
+    requires disk { disk < (meta_of core.old).setup.geometry.disks }
+    requires past_gear { (meta_of core.old).gear ≤ disk }
+    requires rises { disk < rising_to (meta_of core.old).phase }
+    ensures rising { OnOk result (IsComingUp R.slot_count R.slot core.new (disk + 1)) }
+    ensures leaves { OnOk result (LeavesArray R.slot_count R.slot core.old core.new) }
+    ensures meta { OnOk result (IsMarkedFrom (meta_of core.old) (meta_of core.new)) }
+    ensures store { IsSameStore (store_of core.old) (store_of core.new) }
+    ensures table { core_table core.new ≡ core_table core.old }
+    ensures no_fall { (d : ℕ) → (R.slot (core_rack core.old) d).faults ≤ (R.slot (core_rack core.new) d).faults }
+    ensures two { IfErr result (AreTwoDown (core_down core.old)
+        (R.slot (core_rack core.old)) (R.slot (core_rack core.new))) }
+    ensures moments { IsHeldFromRest R.slot_count R.told core.old core.new }
+    ensures rests { OnOk result (StaysAtRest R.slot_count R.told core.old core.new) }
+{
+    if !is_down(core, disk) {
+        return Ok(());
+    }
+    core.spin_up(disk)?;
+    Ok(())
+}
+
+// Spins up each disk from the gear to that of a shift up, in ascending order. After one that fails the others are spun
+// up still.
+fn bring_up<R: Rack>(core: &mut Core<R>) -> Result<(), Two>
+    requires rising { IsComingUp R.slot_count R.slot core.old (meta_of core.old).gear }
+    ensures serving { OnOk result (IsCoreServing R.slot_count R.slot core.new) }
+    ensures nothing { OnOk result (batch_of core.new ≡ []) }
+    ensures leaves { OnOk result (LeavesArray R.slot_count R.slot core.old core.new) }
+    ensures meta { OnOk result (IsMarkedFrom (meta_of core.old) (meta_of core.new)) }
+    ensures table { core_table core.new ≡ core_table core.old }
+    ensures no_fall { (d : ℕ) → (R.slot (core_rack core.old) d).faults ≤ (R.slot (core_rack core.new) d).faults }
+    ensures two { IfErr result (AreTwoDown (core_down core.old)
+        (R.slot (core_rack core.old)) (R.slot (core_rack core.new))) }
+    ensures moments { IsHeldFromRest R.slot_count R.told core.old core.new }
+    ensures rests { OnOk result (StaysAtRest R.slot_count R.told core.old core.new) }
+{
+    let gear = core.meta().gear;
+    for disk in gear..core.meta().phase.rising_to() {
+        raise(core, disk)?;
+    }
+    Ok(())
+}
+
+// Commits the phase of a shift up, with the spin-ups counted.
+fn commit_up<R: Rack>(core: &mut Core<R>, to: u8) -> Result<(), Two>
+    requires serving { IsCoreServing R.slot_count R.slot core.old }
+    requires epoch { (meta_of core.old).epoch < 2 ^ 63 }
+    requires whole { (meta_of core.old).out ≡ No }
+    requires steady { (meta_of core.old).phase ≡ Steady }
+    requires next { AreNextGears (meta_of core.old).setup.geometry (meta_of core.old).gear to }
+    ensures rising { OnOk result (IsComingUp R.slot_count R.slot core.new (meta_of core.new).gear) }
+    ensures leaves { OnOk result (LeavesArray R.slot_count R.slot core.old core.new) }
+    ensures meta { OnOk result (HasBegunUp (meta_of core.old) (meta_of core.new) to) }
+    ensures table { core_table core.new ≡ core_table core.old }
+    ensures named { OnOk result (named_of (store_of core.new) ≡ named_of (store_of core.old)) }
+    ensures spared { OnlyLosesSlots (R.slot (core_rack core.old)) (R.slot (core_rack core.new)) }
+    ensures two { IfErr result (AreTwoDown (core_down core.old)
+        (R.slot (core_rack core.old)) (R.slot (core_rack core.new))) }
+    ensures moments { IsHeldStill R.slot_count R.told core.old core.new }
+    ensures rests { OnOk result ((h : History) (lo : ℕ)
+        → Ran (R.told (core_rack core.old)) (R.told (core_rack core.new))
+        (CrashTriple (IsCoreHeldSinceCommit R.slot_count core.old h lo) (CoreStandsFor R.slot_count core.old h lo)
+        (RestsInShift R.slot_count core.new h lo))) }
+{
+    core.begin_up(to);
+    core.commit()?;
+    Ok(())
+}
+
+/// Begins a shift up to the next higher gear: by one commit with all that is staged, in which a spin-up is counted for
+/// each disk that comes up; then they are spun up in ascending order.
+pub fn begin_up<R: Rack>(core: &mut Core<R>, to: u8) -> Result<(), Two>
+    requires serving { IsCoreServing R.slot_count R.slot core.old }
+    requires epoch { (meta_of core.old).epoch < 2 ^ 63 }
+    requires whole { (meta_of core.old).out ≡ No }
+    requires steady { (meta_of core.old).phase ≡ Steady }
+    requires next { AreNextGears (meta_of core.old).setup.geometry (meta_of core.old).gear to }
+    ensures serving { OnOk result (IsCoreServing R.slot_count R.slot core.new) }
+    ensures leaves { OnOk result (LeavesArray R.slot_count R.slot core.old core.new) }
+    ensures meta { OnOk result (HasBegunUp (meta_of core.old) (meta_of core.new) to) }
+    ensures table { core_table core.new ≡ core_table core.old }
+    ensures nothing { OnOk result (batch_of core.new ≡ []) }
+    ensures no_fall { (d : ℕ) → (R.slot (core_rack core.old) d).faults ≤ (R.slot (core_rack core.new) d).faults }
+    ensures two { IfErr result (AreTwoDown (core_down core.old)
+        (R.slot (core_rack core.old)) (R.slot (core_rack core.new))) }
+    ensures moments { IsHeldStill R.slot_count R.told core.old core.new }
+    ensures rests { OnOk result ((h : History) (lo : ℕ)
+        → Ran (R.told (core_rack core.old)) (R.told (core_rack core.new))
+        (CrashTriple (IsCoreHeldSinceCommit R.slot_count core.old h lo) (CoreStandsFor R.slot_count core.old h lo)
+        (RestsInShift R.slot_count core.new h lo))) }
+{
+    commit_up(core, to)?;
+    bring_up(core)?;
+    Ok(())
+}

@@ -1,0 +1,161 @@
+//! Dirty cells of the disks that come up are copied past the log, made to last and marked as clean.
+ghost use Rattle.std.specs.Prelude.{◌≡◌, ℕ, ◌+◌, ◌-◌, ◌^◌, ◌<◌, ◌≤◌, [], true, false, OnOk, IfOk, IfErr, IfSome};
+ghost use Rattle.paraid_base.specs.declared.state.Out.TheVariants.{No};
+ghost use Rattle.paraid_core.specs.Cores.{CanCoreServe, IsCoreReady, batch_of, core_down, core_rack, draft_of, meta_of, store_of};
+ghost use Rattle.paraid_core.specs.Steps.{IsMarkedFrom, LeavesCore};
+ghost use Rattle.paraid_shift.specs.Serving.{IsCoreServing, LeavesArray};
+ghost use Rattle.paraid_txn.specs.Losses.{AreTwoDown, OnlyLosesSlots};
+
+use crate::units::{first_cell, next_cell};
+use paraid_base::{DiskNo, Out, Row, Two};
+use paraid_core::Core;
+use paraid_rack::Rack;
+
+/// The most blocks of the map in which the cells of one group lie.
+const MOST_MAP_BLOCKS: u32 = 48;
+
+// Some cells: so many, in so many blocks of the map, the last of them just before this one.
+#[derive(Clone, Copy)]
+struct Group {
+    count: u32,
+    blocks: u32,
+    row: Row,
+    disk: DiskNo,
+}
+
+// The group with the cell of row `r` and disk `d`, unless that one lies in one block of the map too many.
+fn with_cell(group: Group, r: Row, d: DiskNo) -> Option<Group>
+    requires few { group.count < 2 ^ 32 - 1 }
+    requires disk { d < 8 }
+    ensures count { IfSome result (λ more. more.count ≡ group.count + 1) }
+    ensures disk { IfSome result (λ more. more.disk ≤ 8) }
+{
+    let mut blocks = group.blocks;
+    if group.count == 0 || group.row / 512 != r / 512 {
+        blocks = blocks.saturating_add(1);
+    }
+    if blocks > MOST_MAP_BLOCKS {
+        return None;
+    }
+    Some(Group {
+        count: group.count + 1,
+        blocks,
+        row: r,
+        disk: d + 1,
+    })
+}
+
+// Copies dirty cells of the disks that come up, in their order and at most `most`. None where a disk was lost.
+fn copy_cells<R: Rack>(core: &mut Core<R>, most: u32) -> Result<Option<Group>, Two>
+    requires ready { IsCoreReady R.slot_count R.slot core.old }
+    requires serves { CanCoreServe R.slot core.old }
+    requires no_draft { draft_of core.old ≡ [] }
+    requires whole { (meta_of core.old).out ≡ No }
+    requires nothing { batch_of core.old ≡ [] }
+    ensures leaves { OnOk result (LeavesCore R.slot_count R.slot core.old core.new) }
+    ensures few { IfOk result (λ group. IfSome group (λ it. it.count ≤ most)) }
+    ensures spared { OnlyLosesSlots (R.slot (core_rack core.old)) (R.slot (core_rack core.new)) }
+    ensures two { IfErr result (AreTwoDown (core_down core.old)
+        (R.slot (core_rack core.old)) (R.slot (core_rack core.new))) }
+{
+    let mut group = Group {
+        count: 0,
+        blocks: 0,
+        row: 0,
+        disk: 0,
+    };
+    for at in 0..most {
+        let Some((r, d)) = next_cell(core, group.row, group.disk) else {
+            return Ok(Some(group));
+        };
+        let Some(more) = with_cell(group, r, d) else {
+            return Ok(Some(group));
+        };
+        let done = core.sync_cell(r, d)?;
+        if !done {
+            return Ok(None);
+        }
+        group = more;
+    }
+    Ok(Some(group))
+}
+
+// Marks the first dirty cell of the disks that come up as clean, if it is one of the group and there is room.
+fn mark_one<R: Rack>(core: &mut Core<R>, group: &Group) -> bool
+    requires serving { IsCoreServing R.slot_count R.slot core.old }
+    requires whole { (meta_of core.old).out ≡ No }
+    ensures serving { IsCoreServing R.slot_count R.slot core.new }
+    ensures meta { meta_of core.new ≡ meta_of core.old }
+    ensures store { store_of core.new ≡ store_of core.old }
+{
+    if core.staged() > 94 {
+        return false;
+    }
+    let Some((r, d)) = first_cell(core) else {
+        return false;
+    };
+    if group.row < r || group.row == r && group.disk <= d {
+        return false;
+    }
+    core.mark_cleaned(r, d);
+    true
+}
+
+// Marks the cells of a group as clean, and gives how many there were.
+fn mark_cells<R: Rack>(core: &mut Core<R>, group: &Group) -> u32
+    requires serving { IsCoreServing R.slot_count R.slot core.old }
+    requires whole { (meta_of core.old).out ≡ No }
+    ensures serving { IsCoreServing R.slot_count R.slot core.new }
+    ensures meta { meta_of core.new ≡ meta_of core.old }
+    ensures store { store_of core.new ≡ store_of core.old }
+    ensures few { result ≤ group.now.count }
+{
+    for marked in 0..group.count {
+        if !mark_one(core, group) {
+            return marked;
+        }
+    }
+    group.count
+}
+
+/// Copies a group of dirty cells of the disks that come up, at most `most`, makes them last and marks them; the marks
+/// are staged. It gives how many were marked, none where a disk was lost.
+pub(crate) fn move_group<R: Rack>(core: &mut Core<R>, most: u32) -> Result<u32, Two>
+    requires serving { IsCoreServing R.slot_count R.slot core.old }
+    requires whole { (meta_of core.old).out ≡ No }
+    requires nothing { batch_of core.old ≡ [] }
+    ensures serving { OnOk result (IsCoreServing R.slot_count R.slot core.new) }
+    ensures leaves { OnOk result (LeavesArray R.slot_count R.slot core.old core.new) }
+    ensures meta { OnOk result (IsMarkedFrom (meta_of core.old) (meta_of core.new)) }
+    ensures few { IfOk result (λ count. count ≤ most) }
+    ensures spared { OnlyLosesSlots (R.slot (core_rack core.old)) (R.slot (core_rack core.new)) }
+    ensures two { IfErr result (AreTwoDown (core_down core.old)
+        (R.slot (core_rack core.old)) (R.slot (core_rack core.new))) }
+{
+    let copied = copy_group(core, most)?;
+    let Some(group) = copied else {
+        return Ok(0);
+    };
+    Ok(mark_cells(core, &group))
+}
+
+// Copies a group and makes it last. None where a disk was lost.
+fn copy_group<R: Rack>(core: &mut Core<R>, most: u32) -> Result<Option<Group>, Two>
+    requires serving { IsCoreServing R.slot_count R.slot core.old }
+    requires whole { (meta_of core.old).out ≡ No }
+    requires nothing { batch_of core.old ≡ [] }
+    ensures serving { OnOk result (IsCoreServing R.slot_count R.slot core.new) }
+    ensures leaves { OnOk result (LeavesCore R.slot_count R.slot core.old core.new) }
+    ensures whole { IfOk result (λ group. IfSome group (λ it. (meta_of core.new).out ≡ No)) }
+    ensures few { IfOk result (λ group. IfSome group (λ it. it.count ≤ most)) }
+    ensures spared { OnlyLosesSlots (R.slot (core_rack core.old)) (R.slot (core_rack core.new)) }
+    ensures two { IfErr result (AreTwoDown (core_down core.old)
+        (R.slot (core_rack core.old)) (R.slot (core_rack core.new))) }
+{
+    let copied = copy_cells(core, most)?;
+    core.settle()?;
+    let Out::No = core.out() else {
+        return Ok(None);
+    };
+    Ok(copied)
+}

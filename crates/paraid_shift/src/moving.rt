@@ -1,0 +1,205 @@
+//! A step of a shift: units are copied past the log, made to last, marked and committed.
+ghost use Rattle.std.specs.Prelude.{◌≡◌, ℕ, ◌+◌, ◌-◌, ◌^◌, ◌<◌, ◌≤◌, [], true, false, OnOk, IfOk, IfErr};
+ghost use Rattle.paraid_base.specs.declared.state.Out.TheVariants.{No};
+ghost use Rattle.paraid_base.specs.Soft.{stripe_count};
+ghost use Rattle.paraid_base.specs.States.{phase_to};
+ghost use Rattle.paraid_image.specs.Out.{named_out};
+ghost use Rattle.paraid_core.specs.Cores.{IsCoreReady, batch_of, core_down, core_rack, meta_of};
+ghost use Rattle.paraid_shift.specs.Serving.{IsCoreServing, LeavesArray};
+ghost use Rattle.paraid_txn.specs.Losses.{AreTwoDown, OnlyLosesSlots};
+
+use crate::cells::move_group;
+use crate::stripes::move_stripes;
+use crate::units::{cells_left, is_done, stripes_left};
+use paraid_base::{DiskNo, Out, Two};
+use paraid_core::Core;
+use paraid_rack::Rack;
+
+/// What a step of a shift moved: so many units, of which so many are left, and the disk that was lost in it.
+#[derive(Clone, Copy, Debug, PartialEq, Eq)]
+pub struct Moved {
+    pub units: u32,
+    pub left: u32,
+    pub lost: Option<DiskNo>,
+}
+
+// Commits what is staged.
+fn commit<R: Rack>(core: &mut Core<R>) -> Result<(), Two>
+    requires serving { IsCoreServing R.slot_count R.slot core.old }
+    requires epoch { (meta_of core.old).epoch < 2 ^ 63 }
+    ensures serving { OnOk result (IsCoreServing R.slot_count R.slot core.new) }
+    ensures leaves { OnOk result (LeavesArray R.slot_count R.slot core.old core.new) }
+    ensures nothing { OnOk result (batch_of core.new ≡ []) }
+    ensures epoch { OnOk result ((meta_of core.new).epoch ≡ (meta_of core.old).epoch + 1) }
+    ensures phase { OnOk result ((meta_of core.new).out ≡ No → (meta_of core.new).phase ≡ (meta_of core.old).phase) }
+    ensures spared { OnlyLosesSlots (R.slot (core_rack core.old)) (R.slot (core_rack core.new)) }
+    ensures two { IfErr result (AreTwoDown (core_down core.old)
+        (R.slot (core_rack core.old)) (R.slot (core_rack core.new))) }
+{
+    core.commit()?;
+    Ok(())
+}
+
+/// Commits what is staged, if anything is.
+pub fn commit_staged<R: Rack>(core: &mut Core<R>) -> Result<(), Two>
+    requires serving { IsCoreServing R.slot_count R.slot core.old }
+    requires epoch { (meta_of core.old).epoch < 2 ^ 63 }
+    ensures serving { OnOk result (IsCoreServing R.slot_count R.slot core.new) }
+    ensures leaves { OnOk result (LeavesArray R.slot_count R.slot core.old core.new) }
+    ensures nothing { OnOk result (batch_of core.new ≡ []) }
+    ensures epoch { OnOk result ((meta_of core.new).epoch ≤ (meta_of core.old).epoch + 1) }
+    ensures no_fall { (d : ℕ) → (R.slot (core_rack core.old) d).faults ≤ (R.slot (core_rack core.new) d).faults }
+    ensures two { IfErr result (AreTwoDown (core_down core.old)
+        (R.slot (core_rack core.old)) (R.slot (core_rack core.new))) }
+{
+    if core.staged() == 0 {
+        return Ok(());
+    }
+    commit(core)?;
+    Ok(())
+}
+
+// Whether a shift has no unit left, or there is none under way.
+fn has_ended<R: Rack>(core: &Core<R>) -> bool
+    requires ready { IsCoreReady R.slot_count R.slot core.now }
+{
+    core.meta().phase.to() == 0 || is_done(core)
+}
+
+// Moves a group of cells, at most `most`, and commits it, unless the shift ends with it. It gives how many they were.
+fn step_group<R: Rack>(core: &mut Core<R>, most: u32) -> Result<u32, Two>
+    requires serving { IsCoreServing R.slot_count R.slot core.old }
+    requires whole { (meta_of core.old).out ≡ No }
+    requires nothing { batch_of core.old ≡ [] }
+    requires epoch { (meta_of core.old).epoch < 2 ^ 63 }
+    ensures serving { OnOk result (IsCoreServing R.slot_count R.slot core.new) }
+    ensures leaves { OnOk result (LeavesArray R.slot_count R.slot core.old core.new) }
+    ensures few { IfOk result (λ count. count ≤ most) }
+    ensures epoch { OnOk result ((meta_of core.new).epoch ≤ (meta_of core.old).epoch + 1) }
+    ensures no_fall { (d : ℕ) → (R.slot (core_rack core.old) d).faults ≤ (R.slot (core_rack core.new) d).faults }
+    ensures two { IfErr result (AreTwoDown (core_down core.old)
+        (R.slot (core_rack core.old)) (R.slot (core_rack core.new))) }
+{
+    let count = move_group(core, most)?;
+    if count == 0 || has_ended(core) {
+        return Ok(count);
+    }
+    commit(core)?;
+    Ok(count)
+}
+
+// Moves dirty cells of the disks that come up, group by group and at most `most`. It gives how many they were.
+fn step_cells<R: Rack>(core: &mut Core<R>, most: u32) -> Result<u32, Two>
+    requires serving { IsCoreServing R.slot_count R.slot core.old }
+    requires epoch { (meta_of core.old).epoch + most < 2 ^ 63 }
+    ensures serving { OnOk result (IsCoreServing R.slot_count R.slot core.new) }
+    ensures leaves { OnOk result (LeavesArray R.slot_count R.slot core.old core.new) }
+    ensures few { IfOk result (λ count. count ≤ most) }
+    ensures epoch { OnOk result ((meta_of core.new).epoch ≤ (meta_of core.old).epoch + most) }
+    ensures no_fall { (d : ℕ) → (R.slot (core_rack core.old) d).faults ≤ (R.slot (core_rack core.new) d).faults }
+    ensures two { IfErr result (AreTwoDown (core_down core.old)
+        (R.slot (core_rack core.old)) (R.slot (core_rack core.new))) }
+{
+    let mut moved = 0;
+    for at in 0..most {
+        let Out::No = core.out() else {
+            return Ok(moved);
+        };
+        if core.staged() != 0 {
+            return Ok(moved);
+        }
+        let count = step_group(core, most - moved)?;
+        if count == 0 {
+            return Ok(moved);
+        }
+        moved += count;
+    }
+    Ok(moved)
+}
+
+// The stripe after the next `most` that are not filled.
+fn next_end<R: Rack>(core: &Core<R>, most: u32) -> u32
+    requires ready { IsCoreReady R.slot_count R.slot core.now }
+    ensures from { (meta_of core.now).fill ≤ result }
+    ensures few { result ≤ (meta_of core.now).fill + most }
+    ensures shifts { (meta_of core.now).fill < result → 0 < phase_to (meta_of core.now).phase }
+    ensures region { (meta_of core.now).fill < result
+        → phase_to (meta_of core.now).phase < (meta_of core.now).setup.geometry.disks }
+    ensures stripe { (meta_of core.now).fill < result → result ≤ stripe_count (meta_of core.now).setup.geometry.disks
+        (meta_of core.now).setup.geometry.rows (phase_to (meta_of core.now).phase) }
+{
+    let meta = core.meta();
+    let to = meta.phase.to();
+    if to == 0 || to >= meta.setup.geometry.disks {
+        return meta.fill;
+    }
+    meta.fill + stripes_left(core).min(most)
+}
+
+// Fills the next stripes, at most `most`, and commits that, unless the shift ends with them. It gives how many they
+// were, none where a disk was lost.
+fn step_stripes<R: Rack>(core: &mut Core<R>, most: u32) -> Result<u32, Two>
+    requires serving { IsCoreServing R.slot_count R.slot core.old }
+    requires epoch { (meta_of core.old).epoch < 2 ^ 63 }
+    ensures serving { OnOk result (IsCoreServing R.slot_count R.slot core.new) }
+    ensures leaves { OnOk result (LeavesArray R.slot_count R.slot core.old core.new) }
+    ensures few { IfOk result (λ count. count ≤ most) }
+    ensures epoch { OnOk result ((meta_of core.new).epoch ≤ (meta_of core.old).epoch + 1) }
+    ensures no_fall { (d : ℕ) → (R.slot (core_rack core.old) d).faults ≤ (R.slot (core_rack core.new) d).faults }
+    ensures two { IfErr result (AreTwoDown (core_down core.old)
+        (R.slot (core_rack core.old)) (R.slot (core_rack core.new))) }
+{
+    let from = core.meta().fill;
+    let end = next_end(core, most);
+    let Out::No = core.out() else {
+        return Ok(0);
+    };
+    if core.staged() != 0 || end <= from {
+        return Ok(0);
+    }
+    let done = move_stripes(core, end)?;
+    if !done {
+        return Ok(0);
+    }
+    if has_ended(core) {
+        return Ok(end - from);
+    }
+    commit(core)?;
+    Ok(end - from)
+}
+
+/// How many units of a shift are left.
+pub fn units_left<R: Rack>(core: &Core<R>) -> u32
+    requires ready { IsCoreReady R.slot_count R.slot core.now }
+{
+    if core.meta().phase.to() == 0 {
+        return 0;
+    }
+    cells_left(core).saturating_add(stripes_left(core))
+}
+
+/// A step of a shift that moves the next units, at most so many: what is staged is committed first, if anything is;
+/// then dirty cells of the disks that come up are copied, group by group, and then stripes of the region of the new
+/// gear. Each group is made to last, marked and committed; only the marks of units with which the shift ends are left
+/// staged, for the commit of its end. Where a disk is lost, no more is moved.
+pub fn step<R: Rack>(core: &mut Core<R>, units: u32) -> Result<Moved, Two>
+    requires serving { IsCoreServing R.slot_count R.slot core.old }
+    requires epoch { (meta_of core.old).epoch < 2 ^ 63 - 2 ^ 32 - 2 }
+    ensures serving { OnOk result (IsCoreServing R.slot_count R.slot core.new) }
+    ensures leaves { OnOk result (LeavesArray R.slot_count R.slot core.old core.new) }
+    ensures few { IfOk result (λ moved. moved.units ≤ units) }
+    ensures epoch { OnOk result ((meta_of core.new).epoch ≤ (meta_of core.old).epoch + units + 2) }
+    ensures lost { IfOk result (λ moved. moved.lost ≡ named_out (meta_of core.new).out) }
+    ensures no_fall { (d : ℕ) → (R.slot (core_rack core.old) d).faults ≤ (R.slot (core_rack core.new) d).faults }
+    ensures two { IfErr result (AreTwoDown (core_down core.old)
+        (R.slot (core_rack core.old)) (R.slot (core_rack core.new))) }
+{
+    commit_staged(core)?;
+    let cells = step_cells(core, units)?;
+    let stripes = step_stripes(core, units - cells)?;
+    Ok(Moved {
+        units: cells + stripes,
+        left: units_left(core),
+        lost: core.out().named(),
+    })
+}
