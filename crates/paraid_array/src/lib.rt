@@ -1,7 +1,7 @@
-//! An array with gears over the disks of a rack: reads and writes, ticks, shifts and failures.
+//! The events of an array with gears over a core: reads and writes, ticks, shifts, failures and replacements.
 //!
-//! Each call is made of calls of the core and of the shifts, under their conditions. After two disks are down, or the
-//! array is worn, each call gives the same halt.
+//! Each call is made of calls of the core, the shifts and the rebuild, under their conditions. Which halt follows a second
+//! loss or wear is for the array that is to stand on these.
 #![tactic(auto)]
 
 mod failing;
