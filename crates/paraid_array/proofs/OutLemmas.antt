@@ -4,7 +4,8 @@ use Rattle.std.proofs.Common.{refl, sym, ◌∙◌, ap, subst, inl, inr}
 use Rattle.paraid_base.specs.declared.fault.Two.{Two}
 use Rattle.paraid_base.specs.declared.state.Out.{Out}
 use Rattle.paraid_base.specs.declared.state.Out.TheVariants.{Fresh, Gone, No}
-use Rattle.paraid_base.specs.States.{gone_out, rebuilt_count}
+use Rattle.paraid_base.specs.declared.state.Phase.TheVariants.{Steady}
+use Rattle.paraid_base.specs.States.{gone_out, phase_beside, rebuilt_count}
 use Rattle.paraid_base.proofs.ToldLemmas.{HasRisen-later, HasRisen-sooner}
 use Rattle.paraid_rack.specs.declared.call.Power.TheVariants.{Spinning}
 use Rattle.paraid_rack.specs.Disks.{is_present}
@@ -108,6 +109,14 @@ gone_marked m n disk gone marked = by marked.lost refl
     by None e = ap (λ (z : Meta). z.out) (marked.is ∙ ap (λ (o : Option ℕ). meta_with_lost o m) e) ∙ gone
     by (Some d) e =
         ap (λ (z : Meta). z.out) (marked.is ∙ ap (λ (o : Option ℕ). meta_with_lost o m) e) ∙ ap Gone (sym (marked.alone d disk e (ap named_out gone)))
+
+-- and where no shift is under way there is none
+pub steady_marked : (m n : Meta) → m.phase ≡ Steady → IsMarkedFrom m n → n.phase ≡ Steady
+steady_marked m n steady marked = by marked.lost refl
+  where
+    by : (o : Option ℕ) → marked.lost ≡ o → n.phase ≡ Steady
+    by None e = ap (λ (z : Meta). z.phase) (marked.is ∙ ap (λ (o : Option ℕ). meta_with_lost o m) e) ∙ steady
+    by (Some d) e = ap (λ (z : Meta). z.phase) (marked.is ∙ ap (λ (o : Option ℕ). meta_with_lost o m) e) ∙ ap (phase_beside true) steady
 
 -- the first of two disks may be the one that was taken out
 pub two_taken : {R : Type 0} {g : _} (slot : R → ℕ → Slot) (a m new : Core R g) (disk : ℕ) (two : Two) → m.store ≡ a.store → named_out m.meta.out ≡ Some disk → AreTwoDown (core_down m) (slot (store_rack m.store)) (slot (store_rack new.store)) two

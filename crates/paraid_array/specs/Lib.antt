@@ -1,1 +1,4 @@
 pub mod Service
+pub mod Refusals
+pub mod DiskRefusals
+pub mod TickAnswers

@@ -1,7 +1,10 @@
 //! A disk is taken out.
-ghost use Rattle.std.specs.Prelude.{◌≡◌, ℕ, ◌^◌, ◌<◌, ◌≤◌, ◌⊎◌, Some, OnOk, IfErr};
+ghost use Rattle.std.specs.Prelude.{◌≡◌, ℕ, ◌^◌, ◌<◌, ◌≤◌, ◌⊎◌, None, Ok, Some, OnOk, IfErr, IfOk, IfSome};
+ghost use Rattle.paraid_base.specs.declared.state.Out.TheVariants.{Gone};
 ghost use Rattle.paraid_core.specs.Cores.{core_down, core_rack, meta_of};
 ghost use Rattle.paraid_core.specs.Steps.{AreUnsyncedCopied};
+ghost use Rattle.paraid_array.specs.declared.fault.FailFault.TheVariants.{NoDisk, Out as OutFault};
+ghost use Rattle.paraid_array.specs.DiskRefusals.{IsFailRefused};
 ghost use Rattle.paraid_array.specs.Service.{IsInService, IsOutKnown};
 ghost use Rattle.paraid_txn.specs.Losses.{AreTwoDownBeside, OnlyLosesSlots};
 ghost use Rattle.paraid_image.specs.Out.{named_out};
@@ -23,6 +26,7 @@ fn mark_gone<R: Rack>(core: &mut Core<R>, disk: DiskNo) -> Result<(), Two>
     ensures writes { OnOk result ((meta_of core.new).writes ≡ (meta_of core.old).writes) }
     ensures unsynced { OnOk result (AreUnsyncedCopied R.slot core.old → AreUnsyncedCopied R.slot core.new) }
     ensures known { OnOk result (IsOutKnown R.slot core.new) }
+    ensures gone { OnOk result ((meta_of core.new).out ≡ Gone disk) }
     ensures spared { OnlyLosesSlots (R.slot (core_rack core.old)) (R.slot (core_rack core.new)) }
     ensures two { IfErr result (AreTwoDownBeside (λ d. (core_down core.old ≡ Some d) ⊎ (d ≡ disk))
         (R.slot (core_rack core.old)) (R.slot (core_rack core.new))) }
@@ -42,6 +46,15 @@ pub fn take_out<R: Rack>(core: &mut Core<R>, disk: DiskNo) -> Result<Option<Fail
     ensures writes { OnOk result ((meta_of core.new).writes ≡ (meta_of core.old).writes) }
     ensures unsynced { OnOk result (AreUnsyncedCopied R.slot core.old → AreUnsyncedCopied R.slot core.new) }
     ensures known { OnOk result (IsOutKnown R.slot core.old → IsOutKnown R.slot core.new) }
+    // Where there is no such disk, or one is out, that is the answer, and nothing has changed.
+    ensures no_disk { (meta_of core.old).setup.geometry.disks ≤ disk
+        → (result ≡ Ok (Some (NoDisk disk))) × (core.new ≡ core.old) }
+    ensures out { (d : ℕ) → disk < (meta_of core.old).setup.geometry.disks
+        → named_out (meta_of core.old).out ≡ Some d → (result ≡ Ok (Some (OutFault d))) × (core.new ≡ core.old) }
+    ensures refused { IfOk result (λ refusal. IfSome refusal
+        (IsFailRefused (meta_of core.old) (meta_of core.new) disk)) }
+    ensures taken { result ≡ Ok None → (disk < (meta_of core.old).setup.geometry.disks)
+        × (named_out (meta_of core.old).out ≡ None) × ((meta_of core.new).out ≡ Gone disk) }
     // The first of two disks may be the one that is taken out.
     ensures two { IfErr result (AreTwoDownBeside (λ d. (core_down core.old ≡ Some d) ⊎ (d ≡ disk))
         (R.slot (core_rack core.old)) (R.slot (core_rack core.new))) }

@@ -6,6 +6,7 @@
 
 mod failing;
 mod fault;
+mod laws;
 mod rebuilding;
 mod replacing;
 mod requests;
@@ -13,6 +14,7 @@ mod shifts;
 
 pub use failing::take_out;
 pub use fault::{FailFault, ReplaceFault, ShiftFault};
+pub use laws::a_shift_is_answered_by_the_machine;
 pub use replacing::replace;
 pub use requests::{flush, read, write_many};
 pub use shifts::{Asked, advance, down, gear_above, gear_below, up};

@@ -7,6 +7,7 @@ ghost use Rattle.paraid_base.specs.Told.{HasRisen};
 ghost use Rattle.paraid_core.specs.Cores.{batch_of, core_down, core_rack, meta_of, store_of};
 ghost use Rattle.paraid_core.specs.Units.{IsRebuilding};
 ghost use Rattle.paraid_array.specs.Service.{IsOutKnown};
+ghost use Rattle.paraid_array.specs.TickAnswers.{TellsRebuild};
 ghost use Rattle.paraid_rack.specs.declared.call.Power.TheVariants.{Spinning};
 ghost use Rattle.paraid_record.specs.Range.{rebuild_units as units_of_rebuild};
 ghost use Rattle.paraid_shift.specs.Serving.{IsCoreServing, LeavesArray};
@@ -144,6 +145,7 @@ pub(crate) fn rebuild<R: Rack>(
     ensures serving { OnOk result (IsCoreServing R.slot_count R.slot core.new) }
     ensures leaves { OnOk result (LeavesArray R.slot_count R.slot core.old core.new) }
     ensures known { OnOk result (IsOutKnown R.slot core.new) }
+    ensures tells { IfOk result (λ done. TellsRebuild (meta_of core.old) (meta_of core.new) disk first done.0 done.1) }
     // A disk that is told as rebuilt is back, and one that is told as gone has failed in the tick.
     ensures back { IfOk result (λ done. done.1 ≡ Rebuilt disk → (meta_of core.new).out ≡ No) }
     ensures gone { IfOk result (λ done. done.1 ≡ GoneInTick disk → (meta_of core.new).out ≡ Gone disk) }

@@ -1,9 +1,10 @@
 //! A disk that is out is replaced by a fresh one.
-ghost use Rattle.std.specs.Prelude.{◌≡◌, ◌≢◌, ℕ, ◌^◌, ◌<◌, ◌⊎◌, None, Ok, Some, IsSome, OnOk, IfErr};
+ghost use Rattle.std.specs.Prelude.{◌≡◌, ◌≢◌, ℕ, ◌^◌, ◌<◌, ◌≤◌, ◌⊎◌, None, Ok, Some, IsSome, OnOk, IfErr, IfOk, IfSome};
 ghost use Rattle.paraid_base.specs.declared.state.Out.TheVariants.{Fresh, Gone};
 ghost use Rattle.paraid_base.specs.Told.{HasRisen};
 ghost use Rattle.paraid_core.specs.Cores.{core_down, core_rack, meta_of};
 ghost use Rattle.paraid_array.specs.declared.fault.ReplaceFault.TheVariants.{NoDisk, NoFresh, NotOut};
+ghost use Rattle.paraid_array.specs.DiskRefusals.{IsReplaceRefused};
 ghost use Rattle.paraid_array.specs.Service.{IsOutKnown};
 ghost use Rattle.paraid_image.specs.Out.{named_out};
 ghost use Rattle.paraid_rebuild.specs.Replacing.{IsReplacedFrom, LeavesArrayBut};
@@ -30,6 +31,7 @@ fn bring<R: Rack>(core: &mut Core<R>, disk: DiskNo) -> Result<Option<ReplaceFaul
         ⊎ IsReplacedFrom (meta_of core.old) (meta_of core.new) disk 2 (Gone disk) }
     ensures risen { result ≡ Ok (Some (NoFresh disk))
         → HasRisen (R.slot (core_rack core.old) disk).faults (R.slot (core_rack core.new) disk).faults }
+    ensures refused { IfOk result (λ refusal. IfSome refusal (λ fault. fault ≡ NoFresh disk)) }
     ensures no_disk { result ≢ Ok (Some (NoDisk disk)) }
     ensures not_out { result ≢ Ok (Some (NotOut disk)) }
     ensures two { IfErr result (AreTwoDown (core_down core.old)
@@ -58,6 +60,14 @@ pub fn replace<R: Rack>(core: &mut Core<R>, disk: DiskNo) -> Result<Option<Repla
         ⊎ IsReplacedFrom (meta_of core.old) (meta_of core.new) disk 2 (Gone disk) }
     ensures risen { result ≡ Ok (Some (NoFresh disk))
         → HasRisen (R.slot (core_rack core.old) disk).faults (R.slot (core_rack core.new) disk).faults }
+    // Where there is no such disk, or it is not out, that is the answer, and nothing has changed.
+    ensures missing { (meta_of core.old).setup.geometry.disks ≤ disk
+        → (result ≡ Ok (Some (NoDisk disk))) × (core.new ≡ core.old) }
+    ensures in_place { disk < (meta_of core.old).setup.geometry.disks
+        → named_out (meta_of core.old).out ≢ Some disk → (result ≡ Ok (Some (NotOut disk))) × (core.new ≡ core.old) }
+    ensures refused { IfOk result (λ refusal. IfSome refusal (IsReplaceRefused (meta_of core.old) disk)) }
+    ensures replaced { result ≡ Ok None → (disk < (meta_of core.old).setup.geometry.disks)
+        × (named_out (meta_of core.old).out ≡ Some disk) }
     // After another refusal nothing has changed.
     ensures no_disk { result ≡ Ok (Some (NoDisk disk)) → core.new ≡ core.old }
     ensures not_out { result ≡ Ok (Some (NotOut disk)) → core.new ≡ core.old }

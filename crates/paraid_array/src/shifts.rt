@@ -1,12 +1,19 @@
 //! Shifts that are asked for, and those that a tick begins or moves.
-ghost use Rattle.std.specs.Prelude.{◌≡◌, ◌≢◌, ℕ, ◌+◌, ◌^◌, ◌<◌, ◌≤◌, [], OnOk, IfOk, IfErr, slice_index};
-ghost use Rattle.paraid_base.specs.declared.state.Out.TheVariants.{Fresh, No};
-ghost use Rattle.paraid_base.specs.declared.state.TickEvent.TheVariants.{Gone as GoneInTick, Rebuilt};
+ghost use Rattle.std.specs.Prelude.{◌≡◌, ◌≢◌, ℕ, ◌+◌, ◌^◌, ◌<◌, ◌≤◌, [], List, Ok, OnOk, IfOk, IfErr, slice_index};
+ghost use Rattle.paraid_base.specs.declared.state.Out.TheVariants.{Fresh, Gone, No};
+ghost use Rattle.paraid_base.specs.declared.state.TickEvent.TheVariants.{Gone as GoneInTick, Ration as WornInTick, Rebuilt, Waiting};
 ghost use Rattle.paraid_base.specs.Told.{HasRisen};
 ghost use Rattle.paraid_base.specs.declared.state.Phase.TheVariants.{Steady};
 ghost use Rattle.paraid_core.specs.Cores.{core_down, core_rack, meta_of};
+ghost use Rattle.paraid_array.specs.declared.fault.ShiftFault.{ShiftFault as ShiftFaultType};
+ghost use Rattle.paraid_array.specs.declared.fault.ShiftFault.TheVariants.{Ration as Worn};
+ghost use Rattle.paraid_array.specs.declared.shifts.Asked.TheVariants.{Refused};
+ghost use Rattle.paraid_array.specs.Refusals.{IsDownRefused, IsHinderedBy, IsShiftStateOf, IsUpRefused, MayGoDown, MayGoUp};
 ghost use Rattle.paraid_array.specs.Service.{IsOutKnown};
-ghost use Rattle.paraid_gear.specs.ThreeWindows.{lengths_of};
+ghost use Rattle.paraid_array.specs.TickAnswers.{IsIdleTick, TellsDecision, TellsMove, TellsRebuild};
+ghost use Rattle.paraid_gear.specs.Decision.{decision};
+ghost use Rattle.paraid_gear.specs.ThreeWindows.{HoldLastSamples, lengths_of};
+ghost use Rattle.paraid_image.specs.Power.{PowerState};
 ghost use Rattle.paraid_record.specs.Range.{AreNextGears, IsInRange, allowed_spins};
 ghost use Rattle.paraid_shift.specs.Serving.{IsCoreServing, LeavesArray};
 ghost use Rattle.paraid_txn.specs.Losses.{AreTwoDown};
@@ -25,6 +32,7 @@ use paraid_shift::{begin_down, begin_up, commit_staged, flip, is_done, step, uni
 fn hindrance(meta: &Meta) -> Result<(), ShiftFault>
     ensures steady { OnOk result (meta.now.phase ≡ Steady) }
     ensures whole { OnOk result (meta.now.out ≡ No) }
+    ensures hinders { IfErr result (IsHinderedBy meta.now.phase meta.now.out) }
 {
     match meta.phase {
         Phase::Steady => {}
@@ -44,6 +52,10 @@ pub fn gear_below(meta: &Meta) -> Result<u8, ShiftFault>
     ensures whole { OnOk result (meta.now.out ≡ No) }
     ensures spared { IfOk result (λ to. (d : ℕ) → to ≤ d → d < meta.now.gear
         → slice_index meta.now.spins d < allowed_spins meta.now) }
+    // By the conditions of the machine, one after the other.
+    ensures may { IfOk result (λ to. (s : PowerState) → IsShiftStateOf meta.now s → MayGoDown meta.now.setup s to) }
+    ensures refused { IfErr result (λ fault. (s : PowerState) → IsShiftStateOf meta.now s
+        → IsDownRefused meta.now.setup s fault) }
 {
     let setup = &meta.setup;
     let Some(to) = setup.geometry.lower(meta.gear) else {
@@ -63,6 +75,10 @@ pub fn gear_above(meta: &Meta) -> Result<u8, ShiftFault>
     ensures next { IfOk result (λ to. AreNextGears meta.now.setup.geometry meta.now.gear to) }
     ensures steady { OnOk result (meta.now.phase ≡ Steady) }
     ensures whole { OnOk result (meta.now.out ≡ No) }
+    // By the conditions of the machine.
+    ensures may { IfOk result (λ to. (s : PowerState) → IsShiftStateOf meta.now s → MayGoUp meta.now.setup s to) }
+    ensures refused { IfErr result (λ fault. (s : PowerState) → IsShiftStateOf meta.now s
+        → IsUpRefused meta.now.setup s fault) }
 {
     let Some(to) = meta.setup.geometry.higher(meta.gear) else {
         return Err(ShiftFault::Top);
@@ -87,6 +103,9 @@ pub fn down<R: Rack>(core: &mut Core<R>) -> Result<Asked, Two>
     requires epoch { (meta_of core.old).epoch < 2 ^ 62 }
     ensures serving { OnOk result (IsCoreServing R.slot_count R.slot core.new) }
     ensures leaves { OnOk result (LeavesArray R.slot_count R.slot core.old core.new) }
+    // Where the machine refuses it, this is its refusal, and nothing changes.
+    ensures refused { (fault : ShiftFaultType) (s : PowerState) → IsShiftStateOf (meta_of core.old) s
+        → IsDownRefused (meta_of core.old).setup s fault → (result ≡ Ok (Refused fault)) × (core.new ≡ core.old) }
     // With a disk out nothing changes.
     ensures out { (meta_of core.old).out ≢ No → core.new ≡ core.old }
     ensures no_fall { (d : ℕ) → (R.slot (core_rack core.old) d).faults ≤ (R.slot (core_rack core.new) d).faults }
@@ -112,6 +131,9 @@ pub fn up<R: Rack>(core: &mut Core<R>) -> Result<Asked, Two>
     requires epoch { (meta_of core.old).epoch < 2 ^ 62 }
     ensures serving { OnOk result (IsCoreServing R.slot_count R.slot core.new) }
     ensures leaves { OnOk result (LeavesArray R.slot_count R.slot core.old core.new) }
+    // Where the machine refuses it, this is its refusal, and nothing changes.
+    ensures refused { (fault : ShiftFaultType) (s : PowerState) → IsShiftStateOf (meta_of core.old) s
+        → IsUpRefused (meta_of core.old).setup s fault → (result ≡ Ok (Refused fault)) × (core.new ≡ core.old) }
     // With a disk out nothing changes.
     ensures out { (meta_of core.old).out ≢ No → core.new ≡ core.old }
     ensures no_fall { (d : ℕ) → (R.slot (core_rack core.old) d).faults ≤ (R.slot (core_rack core.new) d).faults }
@@ -148,6 +170,7 @@ fn move_on<R: Rack>(core: &mut Core<R>) -> Result<(u32, TickEvent), Two>
     requires serving { IsCoreServing R.slot_count R.slot core.old }
     requires epoch { (meta_of core.old).epoch < 2 ^ 62 }
     ensures serving { OnOk result (IsCoreServing R.slot_count R.slot core.new) }
+    ensures tells { IfOk result (λ done. TellsMove (meta_of core.new) done.1) }
     ensures leaves { OnOk result (LeavesArray R.slot_count R.slot core.old core.new) }
     ensures no_fall { (d : ℕ) → (R.slot (core_rack core.old) d).faults ≤ (R.slot (core_rack core.new) d).faults }
     ensures two { IfErr result (AreTwoDown (core_down core.old)
@@ -169,13 +192,31 @@ fn move_on<R: Rack>(core: &mut Core<R>) -> Result<(u32, TickEvent), Two>
     Ok((moved.units, TickEvent::Flipped))
 }
 
+// What a tick tells where the shift down that is due does not begin.
+fn event_of(fault: ShiftFault) -> TickEvent
+    ensures worn { (d : ℕ) → fault ≡ Worn d → result ≡ WornInTick d }
+    ensures idle { IsIdleTick result }
+{
+    if let ShiftFault::Ration { disk } = fault {
+        return TickEvent::Ration { disk };
+    }
+    TickEvent::Steady
+}
+
 // The tick of an array at rest: it begins the shift that the samples ask for.
 fn decide<R: Rack>(core: &mut Core<R>, windows: &Windows) -> Result<TickEvent, Two>
     requires serving { IsCoreServing R.slot_count R.slot core.old }
     requires epoch { (meta_of core.old).epoch < 2 ^ 62 }
     requires lengths { lengths_of windows.now ≡ (meta_of core.old).setup.windows }
+    requires steady { (meta_of core.old).phase ≡ Steady }
+    requires whole { (meta_of core.old).out ≡ No }
     ensures serving { OnOk result (IsCoreServing R.slot_count R.slot core.new) }
     ensures leaves { OnOk result (LeavesArray R.slot_count R.slot core.old core.new) }
+    // It begins the shift that the samples ask for, unless a disk is worn.
+    ensures tells { IfOk result (λ event. (samples : List ℕ) → HoldLastSamples windows.now samples
+        → (s : PowerState) → IsShiftStateOf (meta_of core.old) s
+        → TellsDecision (meta_of core.old).setup s (decision (meta_of core.old).setup s.gear samples) event) }
+    ensures idle { IfOk result (λ event. IsIdleTick event → core.new ≡ core.old) }
     ensures no_fall { (d : ℕ) → (R.slot (core_rack core.old) d).faults ≤ (R.slot (core_rack core.new) d).faults }
     ensures two { IfErr result (AreTwoDown (core_down core.old)
         (R.slot (core_rack core.old)) (R.slot (core_rack core.new))) }
@@ -195,8 +236,7 @@ fn decide<R: Rack>(core: &mut Core<R>, windows: &Windows) -> Result<TickEvent, T
                 begin_down(core, to)?;
                 Ok(TickEvent::Begun { to })
             }
-            Err(ShiftFault::Ration { disk }) => Ok(TickEvent::Ration { disk }),
-            Err(_) => Ok(TickEvent::Steady),
+            Err(fault) => Ok(event_of(fault)),
         },
     }
 }
@@ -210,6 +250,19 @@ pub fn advance<R: Rack>(core: &mut Core<R>, windows: &Windows) -> Result<(u32, T
     ensures serving { OnOk result (IsCoreServing R.slot_count R.slot core.new) }
     ensures leaves { OnOk result (LeavesArray R.slot_count R.slot core.old core.new) }
     ensures known { OnOk result ((meta_of core.old).out ≢ No → IsOutKnown R.slot core.new) }
+    // With a disk gone it waits, and nothing changes.
+    ensures waits { (d : ℕ) → (meta_of core.old).out ≡ Gone d → (result ≡ Ok (0, Waiting)) × (core.new ≡ core.old) }
+    ensures rebuilds { IfOk result (λ done. (d u : ℕ) → (meta_of core.old).out ≡ Fresh d u
+        → TellsRebuild (meta_of core.old) (meta_of core.new) d u done.0 done.1) }
+    // At rest it begins the shift that the samples ask for, unless a disk is worn.
+    ensures decides { IfOk result (λ done. (meta_of core.old).out ≡ No → (meta_of core.old).phase ≡ Steady
+        → (samples : List ℕ) → HoldLastSamples windows.now samples
+        → (s : PowerState) → IsShiftStateOf (meta_of core.old) s
+        → (done.0 ≡ 0) × TellsDecision (meta_of core.old).setup s (decision (meta_of core.old).setup s.gear samples) done.1) }
+    ensures idle { IfOk result (λ done. (meta_of core.old).out ≡ No → (meta_of core.old).phase ≡ Steady
+        → IsIdleTick done.1 → core.new ≡ core.old) }
+    ensures moves { IfOk result (λ done. (meta_of core.old).out ≡ No → (meta_of core.old).phase ≢ Steady
+        → TellsMove (meta_of core.new) done.1) }
     // Of a disk that is out: one that is told as rebuilt is back, and one that is told as gone has failed in the tick.
     ensures back { IfOk result (λ done. (d u : ℕ) → (meta_of core.old).out ≡ Fresh d u → done.1 ≡ Rebuilt d
         → (meta_of core.new).out ≡ No) }

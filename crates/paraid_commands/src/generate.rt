@@ -1,4 +1,4 @@
-ghost use Rattle.std.specs.Prelude.{◌≡◌, ◌≤◌, ◌<◌, None, IsSome};
+ghost use Rattle.std.specs.Prelude.{◌≡◌, ℕ, ◌≤◌, ◌<◌, None, IsSome};
 ghost use Rattle.paraid_base.specs.Told.{HasRisen};
 ghost use Rattle.paraid_session.specs.Mount.{IsMountedFromEach};
 ghost use Rattle.paraid_session.specs.Turn.{Point};
@@ -82,7 +82,7 @@ pub fn serve_generated<K: Sink, A: Serves>(
     }
 }
 
-/// The same, by the contract of the mount.
+/// The same, by a mount that began at some moment.
 pub fn serve_generated_mounted<K: Sink, A: Serves>(
     sink: &mut K,
     array: &mut A,
@@ -91,9 +91,9 @@ pub fn serve_generated_mounted<K: Sink, A: Serves>(
 ) -> u8
     requires few { lines ≤ 1000000 }
     requires going { A.halted array.old ≡ None }
-    requires mounted { IsMountedFromEach (A.slots array.old) (A.setup array.old) (A.began array.old)
-        (A.told array.old) (A.stands array.old) }
-    ensures headline { GenHeadline (A.slots array.old) (A.setup array.old) (A.began array.old)
+    ensures headline { (began : ℕ) → IsMountedFromEach (A.slots array.old) (A.setup array.old) began
+        (A.told array.old) (A.stands array.old)
+        → GenHeadline (A.slots array.old) (A.setup array.old) began
         (A.told array.old) (A.told array.new) (K.written sink.old) (K.written sink.new)
         number lines result }
     ensures sink { result ≡ 4 → HasRisen (K.faults sink.old) (K.faults sink.new) }

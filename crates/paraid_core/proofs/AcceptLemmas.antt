@@ -8,11 +8,11 @@ use Rattle.paraid_image.specs.Out.{named_out}
 use Rattle.paraid_image.specs.Sides.{Batch}
 use Rattle.paraid_image.specs.Standing.{contents}
 use Rattle.paraid_image.proofs.CallLemmas.{decide_some}
-use Rattle.paraid_plan.specs.Desk.{Desk, StageAll, sees}
+use Rattle.paraid_plan.specs.Desk.{Desk}
 use Rattle.paraid_plan.specs.Placed.{ArePlaced, IsPlaced}
-use Rattle.paraid_plan.specs.WriteTargets.{write_targets}
+use Rattle.paraid_plan.specs.RowWrites.{StageAll}
 use Rattle.paraid_plan.proofs.LayLemmas.{lay_nil}
-use Rattle.paraid_plan.proofs.CommitTargetLemmas.{write_is_placed}
+use Rattle.paraid_plan.proofs.CommitTargetLemmas.{placed_append}
 use Rattle.paraid_rack.specs.Disks.{Disks, is_present}
 use Rattle.paraid_rack.specs.Slots.{Agrees, Slot}
 use Rattle.paraid_rack.specs.Told.{Ran, CrashTriple}
@@ -32,18 +32,9 @@ use Rattle.paraid_core.specs.Taken.{IsTakenIn}
 use Rattle.paraid_core.proofs.PlanLemmas.{base_same}
 use Rattle.paraid_core.proofs.WriteLemmas.{taken_write_keeps}
 
-placed_append : (m : Meta) (a b : Batch) → ArePlaced m a → ArePlaced m b → ArePlaced m (a ++ b)
-placed_append m [] b p q = q
-placed_append m (w ∷ a) b p q = (p.0, placed_append m a b p.1 q)
-
 -- what a plan has staged can be committed
-all_placed : (m : Meta) → IsInRange m → (before later : Desk) (ws : Entry) → StageAll m before later ws → ArePlaced m before.staged → ArePlaced m later.staged
-all_placed m range before later [] all placed = subst (λ (s : Desk). ArePlaced m s.staged) all placed
-all_placed m range before later (w ∷ ws) all placed =
-    let one = all.2 in
-    let first : Batch = write_targets (sees m before) w.0 w.1 one.staged one.map in
-    all_placed m range all.0 later ws all.3
-    (subst (ArePlaced m) (sym one.targets) (placed_append m before.staged first placed (write_is_placed (sees m before) w.0 w.1 one.staged one.map range all.1)))
+all_placed : (m : Meta) (before later : Desk) (ws : Entry) → StageAll m before later ws → ArePlaced m before.staged → ArePlaced m later.staged
+all_placed m before later ws all placed = subst (ArePlaced m) (sym all.adds.staged) (placed_append m before.staged all.adds.targets placed all.adds.placed)
 
 -- a placed target can be written
 module _ (count : ℕ) (slot : ℕ → Slot) (last array : ℕ) (named : Option ℕ) (m : Meta) (rows : ℕ) (batch : Batch) (ready : AreSlotsReady count slot last array named m rows batch) (serves : CanServe slot named m) where
@@ -152,7 +143,7 @@ module _ {R : Type 0} {g : _} (count : R → ℕ) (slot : R → ℕ → Slot) (t
         taken_write_keeps slots named m old.dirty pl.dirty old.batch batch_then pl.copied h lo (now t) (desk_of told (without_draft old)) (desk_of told pl) entry range
         (λ d l gone. absent d l (ap is_present (sym ((agrees t tells).power d)) ∙ gone))
         (subst (λ (z : List Bool). HoldsBetweenCalls slots named m old.dirty old.batch z h lo (now t)) (sym led.copied) k) (record { block = desk_block t tells; dirty = k.dirty; staged = refl }) staged
-        (record { laid_same = taken.laid_same (all_placed m range (desk_of told (without_draft old)) (desk_of told pl) entry staged tt); bits = λ r d l. refl })
+        (record { laid_same = taken.laid_same (all_placed m (desk_of told (without_draft old)) (desk_of told pl) entry staged tt); bits = λ r d l. refl })
 
   pub accepted_stands : (slots : ℕ) (named : Option ℕ) (m_then : Meta) (h : History) (lo : ℕ) → m_then ≡ record m { writes = m.writes + 1 }
       → Ran (told (store_rack old.store)) (told (store_rack pl.store)) (CrashTriple P A (HoldsBetweenCalls slots named m old.dirty old.batch old.copied h lo))

@@ -3,6 +3,7 @@ use Rattle.std.specs.Prelude.{◌≡◌, ℕ, ◌*◌, ◌<◌, ◌≤◌, ◌�
 use Rattle.std.proofs.Common.{refl, sym, ◌∙◌, ap, subst, arith, inl, inr}
 use Rattle.std.proofs.lemmas.Bool.{cases_Bool, cases_eq, false≢true}
 use Rattle.paraid_base.specs.History.{History}
+use Rattle.paraid_base.specs.States.{gone_out}
 use Rattle.paraid_base.specs.Told.{HasRisen}
 use Rattle.paraid_rack.specs.declared.call.Call.{Call}
 use Rattle.paraid_rack.specs.Disks.{Disks, IsPresent, is_present, step}
@@ -30,7 +31,7 @@ use Rattle.paraid_core.proofs.AfterLemmas.{lost_in_is, marked_setup, ready_after
 use Rattle.paraid_core.proofs.MomentLemmas.{beside, failed_holding}
 use Rattle.paraid_core.proofs.MomentLemmas.Holding.{intact}
 use Rattle.paraid_core.proofs.ReadyLemmas.{IsLostOnly, some_is}
-use Rattle.paraid_core.proofs.UnsyncedLemmas.{IsMarkedOrBefore, marked_still}
+use Rattle.paraid_core.proofs.UnsyncedLemmas.{IsMarkedOrBefore, gone_still, marked_still}
 
 -- a call on one slot that leaves its power and its size
 module _ (n : ℕ) (slot then : ℕ → Slot) (d : ℕ) (leaves : Slot) (dirt done : Bool) (touched : ChangesOneSlot slot then d leaves dirt done)
@@ -168,7 +169,8 @@ module _ {R : Type 0} {g : _} (count : R → ℕ) (slot : R → ℕ → Slot) (o
     ready = ready_now;
     serves = serves_now;
     absent = λ was d is. absent_by lost refl was d (ap (λ (z : Meta). named_out z.out) (sym meta) ∙ is);
-    unsynced = λ was d l here wet. marked_still (slot (store_rack old.store)) then old.copied new.copied spared.power marks d here wet (was d (subst (λ (z : _). d < z.geometry.disks) (ap (λ (z : Meta). z.setup) meta ∙ marked_setup lost m) l));
+    unsynced = λ was d l stays here wet. marked_still (slot (store_rack old.store)) then old.copied new.copied spared.power marks d here wet
+        (was d (subst (λ (z : _). d < z.geometry.disks) (ap (λ (z : Meta). z.setup) meta ∙ marked_setup lost m) l) (λ is. stays (ap (λ (z : Meta). gone_out z.out) meta ∙ gone_still m lost alone d is)));
     still = subst (λ (z : Option ℕ). IsStillOut z new.meta) (sym same.named) (subst (IsStillOut (named_of old.store)) (sym meta) (still_by lost refl));
     spared = spared;
     risen = λ d is. risen_by lost refl d (ap (λ (z : Meta). named_out z.out) (sym meta) ∙ is);

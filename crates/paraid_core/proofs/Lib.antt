@@ -1,7 +1,7 @@
 mod CanBeginLemmas
 pub mod MomentLemmas
 mod RejoinLemmas
-mod AttachStoodLemmas
+pub mod AttachStoodLemmas
 pub mod LostDiskLemmas
 pub mod ReadyLemmas
 pub mod DirtyLemmas
@@ -17,6 +17,7 @@ mod AcceptLemmas
 pub mod ChainLemmas
 pub mod FailLemmas
 pub mod CleanLemmas
+mod BitsLemmas
 pub mod UnsyncedLemmas
 pub mod CallLemmas
 pub mod SettleLemmas
@@ -42,8 +43,9 @@ pub mod SettleCellLemmas
 pub mod TurnLemmas
 pub mod SettleUnitLemmas
 pub mod KindLemmas
-mod BeginLemmas
+pub mod BeginLemmas
 mod LeadsLemmas
+pub mod OrderLemmas
 pub mod StoodLemmas
 pub mod LostMarkLemmas
 pub mod OldNewLemmas

@@ -118,7 +118,7 @@ module _ {R : Type 0} {g : _} (count : R → ℕ) (slot : R → ℕ → Slot) (t
       ready = ready;
       serves = λ s. s;
       absent = λ s. s;
-      unsynced = λ was d low here wet. marked_still (slot (store_rack a.store)) (slot (store_rack a.store)) a.copied copied (λ e h. refl) marks d here wet (was d low);
+      unsynced = λ was d low stays here wet. marked_still (slot (store_rack a.store)) (slot (store_rack a.store)) a.copied copied (λ e h. refl) marks d here wet (was d low stays);
       still = still;
       spared = record { power = λ d here. refl; size = λ d here. refl; no_fall = λ d. omega arith };
       risen = λ d is. inl is;

@@ -9,15 +9,15 @@ use Rattle.paraid_base.specs.Regions.{disk_size, map_count, map_place_of}
 use Rattle.paraid_base.specs.Xor.{zero_block}
 use Rattle.paraid_base.proofs.HistoryLemmas.{after-append, after_all-append}
 use Rattle.paraid_dirty.specs.Table.{is_dirty}
-use Rattle.paraid_plan.specs.Desk.{AreWritten, Desk, IsKeptDesk, StageAll, sees}
+use Rattle.paraid_plan.specs.Desk.{Desk, IsKeptDesk, sees}
+use Rattle.paraid_plan.specs.RowWrites.{AddsTargets, StageAll}
 use Rattle.paraid_plan.specs.WriteTargets.{overlaid_blocks}
 use Rattle.paraid_plan.specs.StoredCells.{IsUnitKept}
 use Rattle.paraid_plan.specs.StoredCells.IsUnitKept.{there, rebuilt}
 use Rattle.paraid_plan.proofs.LayLemmas.{laid_append}
-use Rattle.paraid_plan.proofs.ManyLemmas.{AreLaid, staged_laid}
 use Rattle.paraid_plan.proofs.MetaLemmas.{kept_writes, value_writes}
 use Rattle.paraid_plan.proofs.KeptPlaceLemmas.{places_tell}
-use Rattle.paraid_plan.proofs.WriteLemmas.{block_other, kept_other, many_writes_keep}
+use Rattle.paraid_plan.proofs.WriteLemmas.{block_other, kept_other}
 use Rattle.paraid_rack.specs.Disks.{Disks, is_present}
 use Rattle.paraid_record.specs.declared.meta.Meta.{Meta}
 use Rattle.paraid_record.specs.Range.{IsInRange}
@@ -117,11 +117,11 @@ module _ (slots : ℕ) (named : Option ℕ) (m : Meta) (table table_then : List 
   blocks_was b l =
       ap (λ (z : View). blocks_of z b) (sym seen_desk) ∙ block_other slots s.power s.size seen_was before.dirty in_range refl was_bits was_kept b l ∙ ap (λ (z : View). blocks_of z b) seen
 
-  all : AreWritten slots s.power s.size m before later entry
-  all = many_writes_keep slots s.power s.size m entry before later in_range kept stage
+  kept_later : IsKeptDesk slots s.power s.size m later
+  kept_later = stage.kept slots s.power s.size kept
 
-  laid_now : AreLaid before later
-  laid_now = staged_laid m before later entry stage
+  laid_now : AddsTargets m before later
+  laid_now = stage.adds
 
   staged_is : later.staged ≡ laid_now.targets
   staged_is = laid_now.staged ∙ ap (λ (z : Batch). z ++ laid_now.targets) begins.staged
@@ -149,7 +149,7 @@ module _ (slots : ℕ) (named : Option ℕ) (m : Meta) (table table_then : List 
 
   placed : IsWellKept slots s.power s.size seen_then
       × ((r d : ℕ) → r < m.setup.geometry.rows → d < m.setup.geometry.disks → value seen_then r d ≡ value (sees m later) r d)
-  placed = places_tell slots s.power s.size (sees m later) g in_range refl all.kept.kept agree
+  placed = places_tell slots s.power s.size (sees m later) g in_range refl kept_later.kept agree
 
   low_x : x < m.setup.geometry.disks
   low_x = let two = map_disk_low (named_out m.out) in let three = m.setup.geometry.disks_low in omega arith
@@ -161,7 +161,7 @@ module _ (slots : ℕ) (named : Option ℕ) (m : Meta) (table table_then : List 
   bits q e l =
       let near : map_place_of m.setup.geometry q < disk_size m.setup.geometry = omega arith in
       map_bit_same m.setup.geometry (g x) (later.block x) q e (agree x 0 (map_place_of m.setup.geometry q) low_x (there not_out) (omega arith) near)
-      ∙ sym (all.kept.shown q e l)
+      ∙ sym (kept_later.shown q e l)
 
   abbrev mapped : View
   mapped = record { meta = m; dirty = map_bit m.setup.geometry (g (map_disk (named_out m.out))); out = named_out m.out; block = g }
@@ -182,7 +182,7 @@ module _ (slots : ℕ) (named : Option ℕ) (m : Meta) (table table_then : List 
       value_writes mapped (m.writes + 1) (home_row shape.disks b) (home_disk shape.disks b)
       ∙ block_other slots s.power s.size seen_then mapped.dirty in_range refl bits placed.0 b l
       ∙ placed.1 (home_row shape.disks b) (home_disk shape.disks b) (home_row_below shape.disks b shape.rows (omega arith) l) (home_disk_below shape.disks b (omega arith))
-      ∙ all.blocks b l
+      ∙ stage.blocks slots s.power s.size kept b l
       ∙ ap (λ (y : Block). last_of b y entry) (blocks_was b l ∙ k.staged.blocks b l)
       ∙ sym (after_all-append h entry b)
 

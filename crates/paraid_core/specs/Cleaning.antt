@@ -1,5 +1,5 @@
 -- Which reads clean a cell.
-use Rattle.std.specs.Prelude.{ℕ, ◌&&◌, not, nat_le, nat_lt, Bool, List, if◌then◌else◌}
+use Rattle.std.specs.Prelude.{◌≡◌, ℕ, ◌&&◌, not, nat_le, nat_lt, Bool, true, false, List, if◌then◌else◌}
 use Rattle.paraid_base.specs.Cells.{home_disk, home_row}
 use Rattle.paraid_base.specs.States.{has_out}
 use Rattle.paraid_dirty.specs.Table.{is_dirty}
@@ -23,3 +23,9 @@ cleaning m table r d = if is_cleaned m table r d then 3 else 0
 abbrev pub read_commits_first : Meta → List (List Bool) → Batch → ℕ → Bool
 read_commits_first m table batch b =
     commits_first batch (cleaning m table (home_row m.setup.geometry.disks b) (home_disk m.setup.geometry.disks b))
+
+-- A read of the cell of row `r` and disk `d` cleans it where it does so by this meta, and leaves all other bits.
+pub record CleansCell (m : Meta) (table table_then : List (List Bool)) (r d : ℕ) : Type 0 where
+  pub cleaned : is_cleaned m table r d ≡ true → is_dirty table_then r d ≡ false
+  pub kept : is_cleaned m table r d ≡ false → is_dirty table_then r d ≡ is_dirty table r d
+  pub others : (q e : ℕ) → (q ≡ r → e ≡ d → ⊥) → is_dirty table_then q e ≡ is_dirty table q e

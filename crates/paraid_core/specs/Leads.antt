@@ -5,7 +5,10 @@ use Rattle.paraid_rack.specs.Slots.{Slot}
 use Rattle.paraid_rack.specs.Told.{Ran}
 use Rattle.paraid_rack.specs.Trail.{Trail}
 use Rattle.paraid_record.specs.declared.meta.Meta.{Meta}
+use Rattle.paraid_image.specs.Lost.{first_lost}
 use Rattle.paraid_image.specs.Out.{named_out}
+use Rattle.paraid_image.proofs.LostLemmas.{ran_first, ran_past}
+use Rattle.paraid_rack.proofs.TrailsLemmas.{Ran-none}
 use Rattle.paraid_txn.specs.Stores.{disks_of, store_rack}
 use Rattle.paraid_view.specs.Reads.{AreLeft, AreArrayReads, AreOffDisk}
 use Rattle.paraid_view.proofs.ReadLemmas.{left_none, left_then, off_none, off_then, ran_none, ran_then, told_before}
@@ -26,6 +29,7 @@ module _ {R : Type 0} {g : _} (count : R → ℕ) (slot : R → ℕ → Slot) (t
     calls = ran_none (told (store_rack a.store)) (disks_of a.store);
     off = off_none (named_out a.meta.out) (told (store_rack a.store));
     left = λ none. subst (λ (f : Option ℕ). AreLeft f (slot (store_rack a.store)) (slot (store_rack a.store))) (sym none) (left_none (slot (store_rack a.store)));
+    first = λ none. Ran-none (λ s cs. first_lost cs ≡ a.failed) (λ s. sym none) (told (store_rack a.store));
     over = λ e is. (is, refl);
     below = λ e none is. let z : None ≡ Some e = sym none ∙ is in cc;
   }
@@ -42,6 +46,13 @@ module _ {R : Type 0} {g : _} (count : R → ℕ) (slot : R → ℕ → Slot) (t
     left_by (Some e) is none =
         let o = q.over e is in
         subst (λ (s : ℕ → Slot). AreLeft c.failed sa s) (sym o.1) (subst (λ (f : Option ℕ). AreLeft f sa (slot (store_rack b.store))) (is ∙ sym o.0) (p.left none))
+
+    first_by : (f : Option ℕ) → b.failed ≡ f → a.failed ≡ None → Ran (told (store_rack a.store)) (told (store_rack c.store)) (λ s cs. first_lost cs ≡ c.failed)
+    first_by None is none = ran_first c.failed (told (store_rack a.store)) (told (store_rack b.store)) (told (store_rack c.store))
+        (subst (λ (f : Option ℕ). Ran (told (store_rack a.store)) (told (store_rack b.store)) (λ s cs. first_lost cs ≡ f)) is (p.first none)) (q.first is)
+    first_by (Some e) is none = subst (λ (f : Option ℕ). Ran (told (store_rack a.store)) (told (store_rack c.store)) (λ s cs. first_lost cs ≡ f)) (sym (q.over e is).0)
+        (ran_past e (AreArrayReads (disks_of b.store)) (told (store_rack a.store)) (told (store_rack b.store)) (told (store_rack c.store))
+        (subst (λ (f : Option ℕ). Ran (told (store_rack a.store)) (told (store_rack b.store)) (λ s cs. first_lost cs ≡ f)) is (p.first none)) q.calls)
 
     below_by : (f : Option ℕ) → b.failed ≡ f → (e : ℕ) → a.failed ≡ None → c.failed ≡ Some e → (e < disks_of a.store) × (named_out a.meta.out ≢ Some e)
     below_by None is e none at =
@@ -68,6 +79,7 @@ module _ {R : Type 0} {g : _} (count : R → ℕ) (slot : R → ℕ → Slot) (t
       off = off_then (named_out a.meta.out) (told (store_rack a.store)) (told (store_rack b.store)) (told (store_rack c.store)) p.off
           (subst (λ (m : Meta). Ran (told (store_rack b.store)) (told (store_rack c.store)) (AreOffDisk (named_out m.out))) p.meta q.off);
       left = left_by b.failed refl;
+      first = first_by b.failed refl;
       over = λ e is. let o = p.over e is in let k = q.over e o.0 in (k.0, k.1 ∙ o.1);
       below = below_by b.failed refl;
     }

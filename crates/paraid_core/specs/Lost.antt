@@ -3,7 +3,9 @@ use Rattle.std.specs.Prelude.{◌≡◌, ◌≢◌, ℕ, ◌<◌, Option, Some}
 use Rattle.paraid_rack.specs.Slots.{Slot}
 use Rattle.paraid_rack.specs.Told.{Ran}
 use Rattle.paraid_rack.specs.Trail.{Trail}
+use Rattle.paraid_base.specs.declared.fault.Two.{Two}
 use Rattle.paraid_record.specs.declared.meta.Meta.{Meta}
+use Rattle.paraid_image.specs.Lost.{TellsLosses}
 use Rattle.paraid_image.specs.Mark.{meta_after_loss}
 use Rattle.paraid_image.specs.Out.{named_out}
 use Rattle.paraid_txn.specs.Losses.{IsLostNow, IsWell}
@@ -40,3 +42,7 @@ CoreLosesDisk slot old new = LosesDisk (slot (store_rack old.store)) (slot (stor
 -- it makes reads alone
 abbrev pub MakesReads : {R : Type 0} {g : _} → (R → Option Trail) → Core R g → Core R g → Type 0
 MakesReads told old new = Ran (told (store_rack old.store)) (told (store_rack new.store)) (AreArrayReads old.meta.setup.geometry.disks)
+
+-- Of two disks that are lost in a call, beside this one that was out or with none, it is told which was lost first.
+abbrev pub CoreTellsLosses : {R : Type 0} {g : _} → (R → Option Trail) → Option ℕ → Core R g → Core R g → Two → Type 0
+CoreTellsLosses told out old new = λ two. Ran (told (store_rack old.store)) (told (store_rack new.store)) (λ start calls. TellsLosses out two calls)

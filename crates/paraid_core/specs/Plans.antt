@@ -8,6 +8,7 @@ use Rattle.paraid_rack.specs.Slots.{Slot}
 use Rattle.paraid_rack.specs.Told.{Ran}
 use Rattle.paraid_rack.specs.Trail.{Trail, now}
 use Rattle.paraid_record.specs.declared.meta.Meta.{Meta}
+use Rattle.paraid_image.specs.Lost.{first_lost}
 use Rattle.paraid_image.specs.Out.{named_out}
 use Rattle.paraid_image.specs.Sides.{Batch}
 use Rattle.paraid_image.specs.Standing.{Contents, contents}
@@ -55,5 +56,6 @@ pub record LeadsTo {R : Type 0} {g : _} (count : R → ℕ) (slot : R → ℕ �
   pub calls : Ran (told (store_rack a.store)) (told (store_rack b.store)) (AreArrayReads (disks_of a.store))
   pub off : Ran (told (store_rack a.store)) (told (store_rack b.store)) (AreOffDisk (named_out a.meta.out))
   pub left : a.failed ≡ None → AreLeft b.failed (slot (store_rack a.store)) (slot (store_rack b.store))
+  pub first : a.failed ≡ None → Ran (told (store_rack a.store)) (told (store_rack b.store)) (λ s cs. first_lost cs ≡ b.failed)
   pub over : (e : ℕ) → a.failed ≡ Some e → (b.failed ≡ Some e) × (slot (store_rack b.store) ≡ slot (store_rack a.store))
   pub below : (e : ℕ) → a.failed ≡ None → b.failed ≡ Some e → (e < disks_of a.store) × (named_out a.meta.out ≢ Some e)

@@ -1,6 +1,7 @@
 -- What one call between two commits leaves of a core.
 use Rattle.std.specs.Prelude.{◌≡◌, ◌≢◌, ℕ, ◌<◌, ◌≤◌, ◌⊎◌, Bool, true, false, List, Option, Some}
 use Rattle.paraid_base.specs.History.{History}
+use Rattle.paraid_base.specs.States.{gone_out}
 use Rattle.paraid_base.specs.Told.{HasRisen}
 use Rattle.paraid_rack.specs.Disks.{is_present}
 use Rattle.paraid_rack.specs.Slots.{Slot}
@@ -29,9 +30,9 @@ abbrev pub IsNamedOrAbsent : {R : Type 0} {g : _} → (R → ℕ → Slot) → C
 IsNamedOrAbsent slot core = (d : ℕ) → named_out core.meta.out ≡ Some d
     → (named_of core.store ≡ Some d) ⊎ (is_present (slot (store_rack core.store) d).power ≡ false)
 
--- a disk of the array that is there, and that is unsynced, is one to which copies went
+-- a disk of the array that is there and not gone, and that is unsynced, is one to which copies went
 abbrev pub AreUnsyncedCopied : {R : Type 0} {g : _} → (R → ℕ → Slot) → Core R g → Type 0
-AreUnsyncedCopied slot core = (d : ℕ) → d < core.meta.setup.geometry.disks → is_present (slot (store_rack core.store) d).power ≡ true
+AreUnsyncedCopied slot core = (d : ℕ) → d < core.meta.setup.geometry.disks → gone_out core.meta.out ≢ Some d → is_present (slot (store_rack core.store) d).power ≡ true
     → (slot (store_rack core.store) d).unsynced ≡ true → is_copied core.copied d ≡ true
 
 -- A disk that is there was there before, with the same size, and no count of faults falls.

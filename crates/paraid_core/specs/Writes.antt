@@ -4,7 +4,8 @@ use Rattle.paraid_base.specs.declared.block.Block.{Block}
 use Rattle.paraid_base.specs.History.{Entry, History}
 use Rattle.paraid_base.specs.Regions.{map_count}
 use Rattle.paraid_dirty.specs.Table.{is_dirty}
-use Rattle.paraid_plan.specs.Desk.{Desk, StageAll}
+use Rattle.paraid_plan.specs.Desk.{Desk}
+use Rattle.paraid_plan.specs.RowWrites.{StageAll}
 use Rattle.paraid_rack.specs.Disks.{Disks, is_present}
 use Rattle.paraid_record.specs.declared.meta.Meta.{Meta}
 use Rattle.paraid_record.specs.Range.{IsInRange}

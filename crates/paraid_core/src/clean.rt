@@ -3,7 +3,7 @@ ghost use Rattle.paraid_record.specs.Modes.{is_access as is_access_in};
 ghost use Rattle.std.specs.Prelude.{◌≡◌, ℕ, ◌+◌, ◌^◌, ◌<◌, ◌≤◌, [], length, None, OnOk, IfErr, IsSome, Some, true, false, if◌then◌else◌};
 ghost use Rattle.paraid_base.specs.Cells.{home_disk, home_row};
 ghost use Rattle.paraid_base.specs.History.{History, after_all as held_by};
-ghost use Rattle.paraid_dirty.specs.Table.{is_dirty};
+ghost use Rattle.paraid_dirty.specs.Table.{is_dirty, table_with_bit};
 ghost use Rattle.paraid_image.specs.Content.{view_by};
 ghost use Rattle.paraid_image.specs.Out.{named_out as named_out_of};
 ghost use Rattle.paraid_image.specs.Spot.{rising_to as rising_to_of};
@@ -13,9 +13,9 @@ ghost use Rattle.paraid_rack.specs.Told.{Ran, CrashTriple};
 ghost use Rattle.paraid_rack.specs.Trail.{Trail, now};
 ghost use Rattle.paraid_txn.specs.Losses.{StaySynced, OnlyLosesSlots, AreTwoDown};
 ghost use Rattle.paraid_core.specs.Steps.{AreUnsyncedCopied};
-ghost use Rattle.paraid_core.specs.Cleaning.{cleaning as cleaning_in, is_cleaned, read_commits_first};
+ghost use Rattle.paraid_core.specs.Cleaning.{CleansCell, cleaning as cleaning_in, is_cleaned, read_commits_first};
 ghost use Rattle.paraid_core.specs.Calls.{MakesTransferCalls, CommitsWhole, MakesDataCalls, RestsCommitted};
-ghost use Rattle.paraid_core.specs.Lost.{CoreMarksLost};
+ghost use Rattle.paraid_core.specs.Lost.{CoreMarksLost, CoreTellsLosses};
 ghost use Rattle.paraid_txn.specs.Stores.{named_of};
 
 use crate::staged::Core;
@@ -67,6 +67,8 @@ impl<R: Rack> Core<R> {
         ensures draft { draft_of self.new ≡ [] }
         ensures staged { length (batch_of self.new) ≤ length (batch_of self.old) + 3 }
         ensures cleaned { is_dirty (core_table self.new) r d ≡ false }
+        ensures bits { (q e : ℕ) → is_dirty (core_table self.new) q e
+            ≡ table_with_bit (is_dirty (core_table self.old)) r d false q e }
         ensures ready { IsCoreReady R.slot_count R.slot self.new }
         ensures serves { CanCoreServe R.slot self.new }
         ensures stands { (h : History) (lo : ℕ) (t : Trail) → R.told (core_rack self.old) ≡ Some t
@@ -99,6 +101,7 @@ impl<R: Rack> Core<R> {
     }
 
     // Cleans a cell if there was room kept for it, and it can still be cleaned.
+    #[tactic(auto, using(crate::proofs::BitsLemmas::cell_kept, crate::proofs::BitsLemmas::cell_cleaned))]
     fn clean_in_room(&mut self, room: u8, r: Row, d: DiskNo, value: &Block)
         requires ready { IsCoreReady R.slot_count R.slot self.old }
         requires serves { CanCoreServe R.slot self.old }
@@ -108,6 +111,7 @@ impl<R: Rack> Core<R> {
         requires room { length (batch_of self.old) + room ≤ 96 }
         requires kept { room < 3 → is_cleaned (meta_of self.old) (core_table self.old) r d ≡ false }
         ensures cleaned { is_cleaned (meta_of self.new) (core_table self.new) r d ≡ false }
+        ensures bits { CleansCell (meta_of self.new) (core_table self.old) (core_table self.new) r d }
         ensures nothing { room < 3 → (batch_of self.new ≡ batch_of self.old)
             × (core_table self.new ≡ core_table self.old) }
         ensures store { store_of self.new ≡ store_of self.old }
@@ -158,6 +162,10 @@ impl<R: Rack> Core<R> {
         ensures cleaned { OnOk result (is_cleaned (meta_of self.new) (core_table self.new)
             (home_row (meta_of self.old).setup.geometry.disks block)
             (home_disk (meta_of self.old).setup.geometry.disks block) ≡ false) }
+        // By the meta after it the cell is cleaned or not, and no other bit changes.
+        ensures bits { OnOk result (CleansCell (meta_of self.new) (core_table self.old) (core_table self.new)
+            (home_row (meta_of self.old).setup.geometry.disks block)
+            (home_disk (meta_of self.old).setup.geometry.disks block)) }
         ensures nothing { OnOk result (is_cleaned (meta_of self.old) (core_table self.old)
             (home_row (meta_of self.old).setup.geometry.disks block)
             (home_disk (meta_of self.old).setup.geometry.disks block) ≡ false
@@ -167,6 +175,7 @@ impl<R: Rack> Core<R> {
         ensures unsynced { OnOk result (AreUnsyncedCopied R.slot self.old → AreUnsyncedCopied R.slot self.new) }
         ensures two { IfErr result (AreTwoDown (core_down self.old)
             (R.slot (core_rack self.old)) (R.slot (core_rack self.new))) }
+        ensures tells { IfErr result (CoreTellsLosses R.told (named_out_of (meta_of self.old).out) self.old self.new) }
         ensures calls { MakesTransferCalls R.told self.old self.new }
         // Where it commits first, one of two metas stands at each moment; else it writes nothing in the log.
         ensures kept { read_commits_first (meta_of self.old) (core_table self.old) (batch_of self.old) block ≡ false → MakesDataCalls R.told self.old self.new }

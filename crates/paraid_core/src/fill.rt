@@ -15,7 +15,8 @@ ghost use Rattle.paraid_rack.specs.Told.{Ran, CrashTriple};
 ghost use Rattle.paraid_txn.specs.Losses.{IsLostNow, OnlyLosesSlots, AreTwoDown};
 ghost use Rattle.paraid_txn.specs.Stores.{named_of};
 ghost use Rattle.paraid_core.specs.Calls.{MakesDataCalls};
-ghost use Rattle.paraid_core.specs.Lost.{CoreLosesDisk, CoreMarksLost};
+ghost use Rattle.paraid_image.specs.Out.{named_out as named_out_of};
+ghost use Rattle.paraid_core.specs.Lost.{CoreLosesDisk, CoreMarksLost, CoreTellsLosses};
 
 use crate::gather::gather;
 use crate::staged::{Core, lose};
@@ -71,6 +72,7 @@ impl<R: Rack> Core<R> {
         ensures spared { OnlyLosesSlots (R.slot (core_rack self.old)) (R.slot (core_rack self.new)) }
         ensures two { IfErr result (AreTwoDown (core_down self.old)
             (R.slot (core_rack self.old)) (R.slot (core_rack self.new))) }
+        ensures tells { IfErr result (CoreTellsLosses R.told (named_out_of (meta_of self.old).out) self.old self.new) }
         ensures calls { MakesDataCalls R.told self.old self.new }
         ensures marks { OnOk result (CoreMarksLost R.slot self.old self.new) }
         ensures written { result ≡ Ok true → (h : History) (lo : ℕ) (blocks : _)
@@ -113,6 +115,7 @@ impl<R: Rack> Core<R> {
         ensures spared { OnlyLosesSlots (R.slot (core_rack self.old)) (R.slot (core_rack self.new)) }
         ensures two { IfErr result (AreTwoDown (core_down self.old)
             (R.slot (core_rack self.old)) (R.slot (core_rack self.new))) }
+        ensures tells { IfErr result (CoreTellsLosses R.told (named_out_of (meta_of self.old).out) self.old self.new) }
         ensures calls { MakesDataCalls R.told self.old self.new }
         ensures marks { OnOk result (CoreMarksLost R.slot self.old self.new) }
         ensures filled { result ≡ Ok true → (h : History) (lo : ℕ)
@@ -166,6 +169,7 @@ impl<R: Rack> Core<R> {
         ensures spared { OnlyLosesSlots (R.slot (core_rack self.old)) (R.slot (core_rack self.new)) }
         ensures two { IfErr result (AreTwoDown (core_down self.old)
             (R.slot (core_rack self.old)) (R.slot (core_rack self.new))) }
+        ensures tells { IfErr result (CoreTellsLosses R.told (named_out_of (meta_of self.old).out) self.old self.new) }
         ensures calls { MakesDataCalls R.told self.old self.new }
         ensures marks { OnOk result (CoreMarksLost R.slot self.old self.new) }
         // The stripes before it stay copied, and this one is.

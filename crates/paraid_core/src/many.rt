@@ -3,11 +3,13 @@ ghost use Rattle.std.specs.Prelude.{◌≡◌, ℕ, ◌+◌, ◌*◌, ◌^◌, �
 ghost use Rattle.paraid_base.specs.declared.block.Block.{Block as BlockType};
 ghost use Rattle.paraid_base.specs.History.{History};
 ghost use Rattle.paraid_base.specs.Pairs.{pairs_of};
+ghost use Rattle.paraid_dirty.specs.Table.{is_dirty};
+ghost use Rattle.paraid_plan.specs.WrittenBits.{bits_after_block, bits_after_writes};
 ghost use Rattle.paraid_rack.specs.Told.{Ran, CrashTriple};
 ghost use Rattle.paraid_txn.specs.Commit.{gone_out as gone_out_of};
 ghost use Rattle.paraid_txn.specs.Losses.{StaySynced, OnlyLosesSlots, AreTwoDown};
 ghost use Rattle.paraid_core.specs.Calls.{MakesDataCalls, MakesTransferCalls, CommitsWhole, RestsCommitted};
-ghost use Rattle.paraid_core.specs.Lost.{CoreMarksLost, MakesReads};
+ghost use Rattle.paraid_core.specs.Lost.{CoreMarksLost, CoreTellsLosses, MakesReads};
 ghost use Rattle.paraid_image.specs.Out.{named_out as named_out_of};
 
 use crate::staged::Core;
@@ -32,6 +34,7 @@ impl<R: Rack> Core<R> {
         requires copies_synced { AreCopiesSynced (meta_of self.old).setup.geometry.disks (copied_of self.old) }
 
         ensures draft { draft_of self.new ≡ draft_of self.old }
+        ensures table { core_table self.new ≡ core_table self.old }
         ensures copied { copied_of self.new ≡ copied_of self.old }
         ensures slots { R.slot_count (core_rack self.new) ≡ R.slot_count (core_rack self.old) }
         ensures ready { OnOk result (IsCoreReady R.slot_count R.slot self.new) }
@@ -53,6 +56,7 @@ impl<R: Rack> Core<R> {
         ensures unsynced { OnOk result (AreUnsyncedCopied R.slot self.old → AreUnsyncedCopied R.slot self.new) }
         ensures two { IfErr result (AreTwoDown (core_down self.old)
             (R.slot (core_rack self.old)) (R.slot (core_rack self.new))) }
+        ensures tells { IfErr result (CoreTellsLosses R.told (named_out_of (meta_of self.old).out) self.old self.new) }
         ensures calls { MakesTransferCalls R.told self.old self.new }
         ensures idle { commits_first (batch_of self.old) targets ≡ false → R.told (core_rack self.new) ≡ R.told (core_rack self.old) }
         ensures whole { commits_first (batch_of self.old) targets ≡ true → CommitsWhole R.slot_count R.told self.old self.new }
@@ -97,6 +101,8 @@ impl<R: Rack> Core<R> {
         ensures serves { OnOk result (CanCoreServe R.slot self.new) }
         ensures staged { OnOk result (length (batch_of self.new)
             ≤ length (batch_of self.old) + 10 * pairs.now.count) }
+        ensures bits { OnOk result (is_dirty (core_table self.new)
+            ≡ bits_after_writes (meta_of self.new) (pairs_of pairs.now) (is_dirty (core_table self.old))) }
         ensures setup { OnOk result ((meta_of self.new).setup ≡ (meta_of self.old).setup) }
         ensures writes { OnOk result ((meta_of self.new).writes ≡ (meta_of self.old).writes + 1) }
         ensures epoch { OnOk result ((meta_of self.new).epoch ≡ (meta_of self.old).epoch) }
@@ -105,6 +111,7 @@ impl<R: Rack> Core<R> {
         ensures unsynced { OnOk result (AreUnsyncedCopied R.slot self.old → AreUnsyncedCopied R.slot self.new) }
         ensures two { IfErr result (AreTwoDown (core_down self.old)
             (R.slot (core_rack self.old)) (R.slot (core_rack self.new))) }
+        ensures tells { IfErr result (CoreTellsLosses R.told (named_out_of (meta_of self.old).out) self.old self.new) }
         ensures calls { MakesDataCalls R.told self.old self.new }
         ensures reads { MakesReads R.told self.old self.new }
         ensures marks { OnOk result (CoreMarksLost R.slot self.old self.new) }
@@ -149,6 +156,9 @@ impl<R: Rack> Core<R> {
         ensures staged { OnOk result (length (batch_of self.new)
             ≤ (if commits_first (batch_of self.old) (10 * pairs.now.count) then 0 else length (batch_of self.old))
             + 10 * pairs.now.count) }
+        // The dirty cells are those that the writes leave by the meta after them.
+        ensures bits { OnOk result (is_dirty (core_table self.new)
+            ≡ bits_after_writes (meta_of self.new) (pairs_of pairs.now) (is_dirty (core_table self.old))) }
         ensures setup { OnOk result ((meta_of self.new).setup ≡ (meta_of self.old).setup) }
         ensures writes { OnOk result ((meta_of self.new).writes ≡ (meta_of self.old).writes + 1) }
         ensures epoch { OnOk result ((meta_of self.new).epoch ≡ (meta_of self.old).epoch
@@ -158,6 +168,7 @@ impl<R: Rack> Core<R> {
         ensures unsynced { OnOk result (AreUnsyncedCopied R.slot self.old → AreUnsyncedCopied R.slot self.new) }
         ensures two { IfErr result (AreTwoDown (core_down self.old)
             (R.slot (core_rack self.old)) (R.slot (core_rack self.new))) }
+        ensures tells { IfErr result (CoreTellsLosses R.told (named_out_of (meta_of self.old).out) self.old self.new) }
         ensures calls { MakesTransferCalls R.told self.old self.new }
         // Where it commits first, one of two metas stands at each moment; else it writes nothing in the log.
         ensures kept { commits_first (batch_of self.old) (10 * pairs.now.count) ≡ false → MakesDataCalls R.told self.old self.new }
@@ -204,6 +215,8 @@ impl<R: Rack> Core<R> {
         ensures serves { OnOk result (CanCoreServe R.slot self.new) }
         ensures staged { OnOk result (length (batch_of self.new)
             ≤ (if commits_first (batch_of self.old) 10 then 0 else length (batch_of self.old)) + 10) }
+        ensures bits { OnOk result (is_dirty (core_table self.new)
+            ≡ bits_after_block (meta_of self.new) block (is_dirty (core_table self.old))) }
         ensures setup { OnOk result ((meta_of self.new).setup ≡ (meta_of self.old).setup) }
         ensures writes { OnOk result ((meta_of self.new).writes ≡ (meta_of self.old).writes + 1) }
         ensures epoch { OnOk result ((meta_of self.new).epoch ≡ (meta_of self.old).epoch
@@ -213,6 +226,7 @@ impl<R: Rack> Core<R> {
         ensures unsynced { OnOk result (AreUnsyncedCopied R.slot self.old → AreUnsyncedCopied R.slot self.new) }
         ensures two { IfErr result (AreTwoDown (core_down self.old)
             (R.slot (core_rack self.old)) (R.slot (core_rack self.new))) }
+        ensures tells { IfErr result (CoreTellsLosses R.told (named_out_of (meta_of self.old).out) self.old self.new) }
         ensures calls { MakesTransferCalls R.told self.old self.new }
         // Where it commits first, one of two metas stands at each moment; else it writes nothing in the log.
         ensures kept { commits_first (batch_of self.old) 10 ≡ false → MakesDataCalls R.told self.old self.new }

@@ -12,6 +12,7 @@ ghost use Rattle.paraid_rack.specs.declared.call.Power.TheVariants.{Parked, Spin
 ghost use Rattle.paraid_rack.specs.Told.{CrashTriple, Ran};
 ghost use Rattle.paraid_txn.specs.Losses.{AreTwoDown, IsLostNow};
 ghost use Rattle.paraid_txn.specs.Stores.{IsSameStore, named_of};
+ghost use Rattle.paraid_core.specs.Lost.{CoreTellsLosses};
 ghost use Rattle.paraid_core.specs.Calls.{MakesOneCall};
 ghost use Rattle.paraid_rack.specs.declared.call.Call.TheVariants.{Park, SpinUp};
 
@@ -57,6 +58,7 @@ impl<R: Rack> Core<R> {
         ensures absent { OnOk result (IsNamedOrAbsent R.slot self.old → IsNamedOrAbsent R.slot self.new) }
         ensures two { IfErr result (AreTwoDown (core_down self.old)
             (R.slot (core_rack self.old)) (R.slot (core_rack self.new))) }
+        ensures tells { IfErr result (CoreTellsLosses R.told (named_out_of (meta_of self.old).out) self.old self.new) }
         ensures calls { MakesOneCall R.told (λ done. Park disk done) self.old self.new }
         ensures done { result ≡ Ok true → (h : History) (lo : ℕ)
             → Ran (R.told (core_rack self.old)) (R.told (core_rack self.new))
@@ -121,6 +123,7 @@ impl<R: Rack> Core<R> {
         ensures absent { OnOk result (IsNamedOrAbsent R.slot self.old → IsNamedOrAbsent R.slot self.new) }
         ensures two { IfErr result (AreTwoDown (core_down self.old)
             (R.slot (core_rack self.old)) (R.slot (core_rack self.new))) }
+        ensures tells { IfErr result (CoreTellsLosses R.told (named_out_of (meta_of self.old).out) self.old self.new) }
         ensures calls { MakesOneCall R.told (λ done. SpinUp disk done) self.old self.new }
         ensures done { result ≡ Ok true → (h : History) (lo : ℕ)
             → Ran (R.told (core_rack self.old)) (R.told (core_rack self.new))

@@ -19,7 +19,7 @@ use paraid_plan::{Lost, Plan};
 use paraid_rack::Rack;
 use paraid_record::Meta;
 use paraid_txn::{Batch, Store};
-use paraid_view::{Draft, read_laid, read_others, read_rest, read_value};
+use paraid_view::{Draft, read_laid, read_rest, read_value};
 
 // Whether this disk is out.
 fn is_at(out: Option<DiskNo>, disk: DiskNo) -> bool
@@ -125,31 +125,6 @@ impl<R: Rack> Plan for Core<R> {
         Err(Lost)
     }
 
-    fn rest(
-        &mut self,
-        m: &Meta,
-        r: Row,
-        out: DiskNo,
-        other: DiskNo,
-        into: &mut Block,
-    ) -> Result<(), Lost> {
-        let Err(disk) = read_others(
-            &mut self.store,
-            &self.batch,
-            &self.draft,
-            m,
-            &self.dirty,
-            out,
-            other,
-            r,
-            into,
-        ) else {
-            return Ok(());
-        };
-        self.failed = Some(disk);
-        Err(Lost)
-    }
-
     fn stripe(&mut self, m: &Meta, s: u32, e: DiskNo, into: &mut Block) -> Result<(), Lost> {
         let out = m.out.named();
         let Err(disk) = read_stripe(
@@ -181,6 +156,10 @@ impl<R: Rack> Plan for Core<R> {
         };
         self.failed = Some(failed);
         Err(Lost)
+    }
+
+    fn is_staged(&self, disk: DiskNo, place: Place) -> bool {
+        self.draft.get(disk, place).is_some() || self.batch.get(disk, place).is_some()
     }
 
     fn is_dirty(&self, m: &Meta, r: Row, d: DiskNo) -> bool {

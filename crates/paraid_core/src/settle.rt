@@ -10,7 +10,8 @@ ghost use Rattle.paraid_txn.specs.Losses.{StaySynced, IsSyncedAt, OnlyLosesSlots
 ghost use Rattle.paraid_txn.specs.Stores.{named_of};
 ghost use Rattle.paraid_core.specs.Calls.{MakesCopySyncs, MakesOneCall};
 ghost use Rattle.paraid_rack.specs.declared.call.Call.TheVariants.{Sync};
-ghost use Rattle.paraid_core.specs.Lost.{CoreMarksLost};
+ghost use Rattle.paraid_image.specs.Out.{named_out as named_out_of};
+ghost use Rattle.paraid_core.specs.Lost.{CoreMarksLost, CoreTellsLosses};
 
 use crate::staged::{Core, lose};
 use paraid_base::{DiskNo, Two};
@@ -44,6 +45,7 @@ impl<R: Rack> Core<R> {
         ensures cleared { IsCleared (copied_of self.old) (copied_of self.new) disk }
         ensures two { IfErr result (AreTwoDown (core_down self.old)
             (R.slot (core_rack self.old)) (R.slot (core_rack self.new))) }
+        ensures tells { IfErr result (CoreTellsLosses R.told (named_out_of (meta_of self.old).out) self.old self.new) }
         ensures calls { MakesOneCall R.told (λ done. Sync disk done) self.old self.new }
         ensures marks { OnOk result (CoreMarksLost R.slot self.old self.new) }
         ensures moments { IsHeldStill R.slot_count R.told self.old self.new }
@@ -74,6 +76,7 @@ impl<R: Rack> Core<R> {
         ensures cleared { OnOk result (IsCleared (copied_of self.old) (copied_of self.new) disk) }
         ensures two { IfErr result (AreTwoDown (core_down self.old)
             (R.slot (core_rack self.old)) (R.slot (core_rack self.new))) }
+        ensures tells { IfErr result (CoreTellsLosses R.told (named_out_of (meta_of self.old).out) self.old self.new) }
         ensures calls { MakesCopySyncs R.told self.old self.new }
         ensures marks { OnOk result (CoreMarksLost R.slot self.old self.new) }
         ensures moments { IsHeldStill R.slot_count R.told self.old self.new }
@@ -107,6 +110,7 @@ impl<R: Rack> Core<R> {
             (copied_of self.new)) }
         ensures two { IfErr result (AreTwoDown (core_down self.old)
             (R.slot (core_rack self.old)) (R.slot (core_rack self.new))) }
+        ensures tells { IfErr result (CoreTellsLosses R.told (named_out_of (meta_of self.old).out) self.old self.new) }
         ensures calls { MakesCopySyncs R.told self.old self.new }
         ensures marks { OnOk result (CoreMarksLost R.slot self.old self.new) }
         // Each stop leaves what it left before, and the writes are as before.

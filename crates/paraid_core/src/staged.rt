@@ -12,7 +12,7 @@ ghost use Rattle.paraid_core.specs.Steps.{IsMarkedFrom, IsNamedOrAbsent};
 ghost use Rattle.paraid_core.specs.CoreInvariant.{AreCopiesSynced, lost_in, meta_with_lost};
 ghost use Rattle.paraid_image.specs.Out.{named_out as named_out_of};
 ghost use Rattle.paraid_core.specs.Calls.{CommitsWhole, MakesDataCalls, MakesTransferCalls, RestsCommitted};
-ghost use Rattle.paraid_core.specs.Lost.{CoreMarksLost, MakesReads};
+ghost use Rattle.paraid_core.specs.Lost.{CoreMarksLost, CoreTellsLosses, MakesReads};
 
 use crate::changes::Changes;
 use paraid_base::{Block, BlockNo, DiskNo, Out, Two};
@@ -170,6 +170,7 @@ impl<R: Rack> Core<R> {
         ensures still_synced { StaySynced (R.slot (core_rack self.old)) (R.slot (core_rack self.new)) }
         ensures two { IfErr result (AreTwoDown (core_down self.old)
             (R.slot (core_rack self.old)) (R.slot (core_rack self.new))) }
+        ensures tells { IfErr result (CoreTellsLosses R.told (named_out_of (meta_of self.old).out) self.old self.new) }
         // No call is on a disk that is gone, or writes in the log.
         ensures calls { MakesDataCalls R.told self.old self.new }
         ensures reads { MakesReads R.told self.old self.new }
@@ -232,6 +233,7 @@ impl<R: Rack> Core<R> {
         ensures unsynced { OnOk result (AreUnsyncedCopied R.slot self.old → AreUnsyncedCopied R.slot self.new) }
         ensures two { IfErr result (AreTwoDown (core_down self.old)
             (R.slot (core_rack self.old)) (R.slot (core_rack self.new))) }
+        ensures tells { IfErr result (CoreTellsLosses R.told (core_down self.old) self.old self.new) }
         ensures calls { MakesTransferCalls R.told self.old self.new }
         ensures whole { CommitsWhole R.slot_count R.told self.old self.new }
         ensures rest { OnOk result (RestsCommitted R.slot_count R.told self.old self.new) }

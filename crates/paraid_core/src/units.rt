@@ -23,7 +23,7 @@ ghost use Rattle.paraid_txn.specs.Stores.{disks_of, named_of, store_rack as rack
 ghost use Rattle.paraid_view.specs.Reads.{CanRead, HaveRead, ShowsContents, lost_by, seen_by};
 ghost use Rattle.paraid_core.specs.declared.units.RebuildUnit.TheVariants.{Row as RowUnit};
 ghost use Rattle.paraid_core.specs.Calls.{MakesDataCalls};
-ghost use Rattle.paraid_core.specs.Lost.{CoreMarksLost};
+ghost use Rattle.paraid_core.specs.Lost.{CoreMarksLost, CoreTellsLosses};
 
 use crate::fill::mark;
 use crate::staged::{Core, lose};
@@ -182,6 +182,7 @@ impl<R: Rack> Core<R> {
         ensures spared { OnlyLosesSlots (R.slot (core_rack self.old)) (R.slot (core_rack self.new)) }
         ensures two { IfErr result (AreTwoDown (core_down self.old)
             (R.slot (core_rack self.old)) (R.slot (core_rack self.new))) }
+        ensures tells { IfErr result (CoreTellsLosses R.told (named_out_of (meta_of self.old).out) self.old self.new) }
         ensures calls { MakesDataCalls R.told self.old self.new }
         ensures marks { OnOk result (CoreMarksLost R.slot self.old self.new) }
         ensures copied { result ≡ Ok true → (h : History) (lo : ℕ)
@@ -229,6 +230,7 @@ impl<R: Rack> Core<R> {
         ensures spared { OnlyLosesSlots (R.slot (core_rack self.old)) (R.slot (core_rack self.new)) }
         ensures two { IfErr result (AreTwoDown (core_down self.old)
             (R.slot (core_rack self.old)) (R.slot (core_rack self.new))) }
+        ensures tells { IfErr result (CoreTellsLosses R.told (named_out_of (meta_of self.old).out) self.old self.new) }
         ensures calls { MakesDataCalls R.told self.old self.new }
         ensures marks { OnOk result (CoreMarksLost R.slot self.old self.new) }
         ensures copied { result ≡ Ok true → (h : History) (lo : ℕ)
@@ -294,6 +296,7 @@ impl<R: Rack> Core<R> {
         ensures spared { OnlyLosesSlots (R.slot (core_rack self.old)) (R.slot (core_rack self.new)) }
         ensures two { IfErr result (AreTwoDown (core_down self.old)
             (R.slot (core_rack self.old)) (R.slot (core_rack self.new))) }
+        ensures tells { IfErr result (CoreTellsLosses R.told (named_out_of (meta_of self.old).out) self.old self.new) }
         ensures calls { MakesDataCalls R.told self.old self.new }
         ensures marks { OnOk result (CoreMarksLost R.slot self.old self.new) }
         // No call is made for the dirty cell of a disk from the gear on.

@@ -13,7 +13,8 @@ ghost use Rattle.paraid_txn.specs.Losses.{IsLostNow, StaySynced, OnlyLosesSlots,
 ghost use Rattle.paraid_txn.specs.Stores.{named_of};
 ghost use Rattle.paraid_core.specs.Calls.{MakesDataCalls, MakesOneCall};
 ghost use Rattle.paraid_rack.specs.declared.call.Call.TheVariants.{Read};
-ghost use Rattle.paraid_core.specs.Lost.{CoreMarksLost, MakesReads};
+ghost use Rattle.paraid_image.specs.Out.{named_out as named_out_of};
+ghost use Rattle.paraid_core.specs.Lost.{CoreMarksLost, CoreTellsLosses, MakesReads};
 
 use crate::staged::{Core, lose};
 use paraid_base::{Block, DiskNo, Place, Row, Two};
@@ -53,6 +54,7 @@ impl<R: Rack> Core<R> {
         ensures still_synced { StaySynced (R.slot (core_rack self.old)) (R.slot (core_rack self.new)) }
         ensures two { IfErr result (AreTwoDown (core_down self.old)
             (R.slot (core_rack self.old)) (R.slot (core_rack self.new))) }
+        ensures tells { IfErr result (CoreTellsLosses R.told (named_out_of (meta_of self.old).out) self.old self.new) }
         // No call is on a disk that is gone, or writes in the log.
         ensures calls { MakesDataCalls R.told self.old self.new }
         ensures reads { MakesReads R.told self.old self.new }
@@ -113,6 +115,7 @@ impl<R: Rack> Core<R> {
         ensures still_synced { StaySynced (R.slot (core_rack self.old)) (R.slot (core_rack self.new)) }
         ensures two { IfErr result (AreTwoDown (core_down self.old)
             (R.slot (core_rack self.old)) (R.slot (core_rack self.new))) }
+        ensures tells { IfErr result (CoreTellsLosses R.told (named_out_of (meta_of self.old).out) self.old self.new) }
         ensures calls { MakesOneCall R.told (λ done. Read disk place done) self.old self.new }
         ensures marks { OnOk result (CoreMarksLost R.slot self.old self.new) }
         // The disk has failed, and is gone.

@@ -3,11 +3,14 @@ ghost use Rattle.std.specs.Prelude.{◌≡◌, ℕ, ◌+◌, ◌*◌, ◌^◌, �
 ghost use Rattle.paraid_base.specs.declared.block.Block.{Block as BlockType};
 ghost use Rattle.paraid_base.specs.History.{History};
 ghost use Rattle.paraid_base.specs.Pairs.{pairs_of};
-ghost use Rattle.paraid_plan.specs.Desk.{StageAll};
+ghost use Rattle.paraid_dirty.specs.Table.{is_dirty};
+ghost use Rattle.paraid_plan.specs.RowWrites.{StageAll};
+ghost use Rattle.paraid_plan.specs.WrittenBits.{bits_after_writes};
 ghost use Rattle.paraid_rack.specs.Told.{Ran, CrashTriple};
 ghost use Rattle.paraid_txn.specs.Losses.{StaySynced, OnlyLosesSlots, AreTwoDown};
 ghost use Rattle.paraid_core.specs.Calls.{MakesDataCalls};
-ghost use Rattle.paraid_core.specs.Lost.{CoreMarksLost, MakesReads};
+ghost use Rattle.paraid_image.specs.Out.{named_out as named_out_of};
+ghost use Rattle.paraid_core.specs.Lost.{CoreMarksLost, CoreTellsLosses, MakesReads};
 
 use crate::plan::undo;
 use crate::staged::{Core, lose};
@@ -17,7 +20,7 @@ use paraid_plan::{Lost, write_blocks};
 use paraid_rack::Rack;
 
 impl<R: Rack> Core<R> {
-    ghost use Rattle.paraid_core.specs.Cores.{IsCoreHeld, IsCoreHeldSinceCommit, IsCoreReady, CanCoreServe, CoreStandsFor, batch_of, copied_of, core_block_count, core_down, draft_of, failed_of, meta_of, core_rack, store_of};
+    ghost use Rattle.paraid_core.specs.Cores.{IsCoreHeld, IsCoreHeldSinceCommit, IsCoreReady, CanCoreServe, CoreStandsFor, batch_of, copied_of, core_block_count, core_down, draft_of, failed_of, meta_of, core_rack, core_table, store_of};
     ghost use Rattle.paraid_core.specs.Down.{HasLostOne, IsDownAfter};
     ghost use Rattle.paraid_txn.specs.Stores.{named_of};
     ghost use Rattle.paraid_core.specs.Plans.{LeadsTo, ServesPlan, without_draft, desk_of};
@@ -33,6 +36,8 @@ impl<R: Rack> Core<R> {
         ensures fails { IfErr result (λ lost. IsSome (failed_of self.new)) }
         ensures writes { OnOk result (IsSome (R.told (core_rack self.new))
             → StageAll (meta_of self.old) (desk_of R.told (without_draft self.old)) (desk_of R.told self.new) (pairs_of pairs.now)) }
+        ensures bits { OnOk result (is_dirty (core_table self.new)
+            ≡ bits_after_writes (meta_of self.old) (pairs_of pairs.now) (is_dirty (core_table self.old))) }
     {
         self.draft.clear();
         self.changes.clear();
@@ -61,6 +66,7 @@ impl<R: Rack> Core<R> {
         ensures still_synced { StaySynced (R.slot (core_rack self.old)) (R.slot (core_rack self.new)) }
         ensures two { IfErr result (AreTwoDown (core_down self.old)
             (R.slot (core_rack self.old)) (R.slot (core_rack self.new))) }
+        ensures tells { IfErr result (CoreTellsLosses R.told (named_out_of (meta_of self.old).out) self.old self.new) }
         // No call is on a disk that is gone, or writes in the log.
         ensures calls { MakesDataCalls R.told self.old self.new }
         ensures reads { MakesReads R.told self.old self.new }
@@ -69,6 +75,9 @@ impl<R: Rack> Core<R> {
         ensures room { IfOk result (λ done. length (batch_of self.new)
             ≤ length (batch_of self.old) + (if done then 10 * pairs.now.count else 0)) }
         ensures dropped { IfOk result (λ done. done ≡ false → batch_of self.new ≡ batch_of self.old) }
+        ensures bits { IfOk result (λ done. is_dirty (core_table self.new)
+            ≡ (if done then bits_after_writes (meta_of self.new) (pairs_of pairs.now) (is_dirty (core_table self.old))
+            else is_dirty (core_table self.old))) }
         ensures writes { IfOk result (λ done. (meta_of self.new).writes
             ≡ (meta_of self.old).writes + (if done then 1 else 0)) }
         ensures epoch { OnOk result ((meta_of self.new).epoch ≡ (meta_of self.old).epoch) }

@@ -375,10 +375,10 @@ fails_later (c ∷ cs) ds e is = fails_tail c (cs ++ ds) e (fails_later cs ds e 
 
 -- a shift that may begin makes calls
 module _ (told : Option Trail) (k : Service) (setup : Setup) (p : Point) (at : StandsAt told k setup p) (to : ℕ) (steady : p.state.phase ≡ Steady) (no_out : p.state.out ≡ No) where
-  free : shift_refusal p.state.phase p.state.out ≡ None
+  pub free : shift_refusal p.state.phase p.state.out ≡ None
   free = ap (λ (x : Phase). shift_refusal x p.state.out) steady ∙ ap (λ (o : Out). shift_refusal Steady o) no_out
 
-  down_busy : next_lower setup.geometry p.state.gear ≡ Some to → first_worn setup p.state to ≡ None → (answer : Answer) (new : PowerState) → IsUnhurt setup p AskDown answer new → makes_no_call answer ≡ false
+  pub down_busy : next_lower setup.geometry p.state.gear ≡ Some to → first_worn setup p.state to ≡ None → (answer : Answer) (new : PowerState) → IsUnhurt setup p AskDown answer new → makes_no_call answer ≡ false
   unfolding outcomes
   down_busy some unworn answer new is =
       let one = subst (λ (o : Option ℕ). Contains {X = Answer × PowerState} (go_down setup None p.state o) (answer, new)) some is.among in
@@ -386,7 +386,7 @@ module _ (told : Option Trail) (k : Service) (setup : Setup) (p : Point) (at : S
       (ap (λ (o : Option Answer). refusal_else o (ration_refusal (first_worn setup p.state to))) free ∙ ap ration_refusal unworn) one in
       ap makes_no_call (sym (one_outcome (Shift p.state.gear to, begun_down to p.state) answer new two))
 
-  up_busy : next_higher setup.geometry p.state.gear ≡ Some to → (answer : Answer) (new : PowerState) → IsUnhurt setup p AskUp answer new → makes_no_call answer ≡ false
+  pub up_busy : next_higher setup.geometry p.state.gear ≡ Some to → (answer : Answer) (new : PowerState) → IsUnhurt setup p AskUp answer new → makes_no_call answer ≡ false
   unfolding outcomes
   up_busy some answer new is =
       let one = subst (λ (o : Option ℕ). Contains {X = Answer × PowerState} (go_up setup None p.state o) (answer, new)) some is.among in

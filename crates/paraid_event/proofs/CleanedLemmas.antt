@@ -12,7 +12,7 @@ use Rattle.paraid_image.specs.Power.{PowerState}
 use Rattle.paraid_machine.specs.Moves.{block_read, state_with_bit}
 use Rattle.paraid_record.specs.declared.meta.Meta.{Meta}
 use Rattle.paraid_record.specs.Modes.{is_access}
-use Rattle.paraid_event.specs.Cleaned.{CleansCell}
+use Rattle.paraid_core.specs.Cleaning.{CleansCell}
 use Rattle.paraid_event.specs.Counts.{with_counts_of}
 use Rattle.paraid_event.specs.Service.{IsStateOf, Service}
 

@@ -29,6 +29,7 @@ use Rattle.paraid_event.specs.Marks.{IsMarkedBy}
 use Rattle.paraid_event.specs.Parts.{BringsMeta, committed_meta}
 use Rattle.paraid_event.specs.Parts.BringsMeta.{commit, nothing}
 use Rattle.paraid_event.specs.Service.{Service}
+pub use Rattle.paraid_event.specs.Steps.{IsOnly}
 use Rattle.paraid_event.specs.Stands.{ServiceStandsFor, StandsIn}
 use Rattle.paraid_event.proofs.ChainLemmas.{Follows, FollowsLog, base_names, either_stands, follows_log_step, follows_step, kept_end, only_base, start_follows, start_follows_log}
 use Rattle.paraid_event.proofs.MarksLemmas.{marked_setup, marked_used, newly_named, same_ticks, still_gone, still_named}
@@ -39,12 +40,6 @@ self_image s = record { power = λ d. refl; size = λ d. refl; block = λ d p dr
 pub through_last : (P : Disks → Type 0) (s : Disks) (cs : List Call) → Through P s cs → P (run s cs)
 through_last P s [] p = p
 through_last P s (c ∷ cs) p = through_last P (step c s) cs p.1
-
--- at most this disk is down
-abbrev pub IsOnly : Option ℕ → Down → Type 0
-IsOnly o nobody = Unit {0}
-IsOnly o (only d) = o ≡ Some d
-IsOnly o several = ⊥
 
 pub only_serving : (o : Option ℕ) (down : Down) → IsOnly o down → IsServing down
 only_serving o nobody is = tt
@@ -191,7 +186,7 @@ module _ (k k_then : Service) (h h_then : History) (lo lo_then : ℕ) (base : Me
     then_awaited d is = still_gone v.disks.power k.meta k_then.meta marks d (at.awaited d (sym end_follows.awaited ∙ is))
 
     -- what stands after calls that write no block of the log
-    data_base : (keeps : ServiceStandsFor k_then h_then lo_then v.disks) → EachCall (IsDataCall n (gone_out k.meta.out)) w.disks cs → IsServing v.down → keeps.base ≡ base
+    pub data_base : (keeps : ServiceStandsFor k_then h_then lo_then v.disks) → EachCall (IsDataCall n (gone_out k.meta.out)) w.disks cs → IsServing v.down → keeps.base ≡ base
     data_base keeps past serving =
         let f = kept_end (IsDataCall n (gone_out k.meta.out)) (FollowsLog n w) (λ u c lawful is g. follows_log_step n w u c is.2 g) w cs past (start_follows_log k h lo base w at) in
         let i = keeps.copies.copying (record v.disks { loose = λ d p. false }) (self_image v.disks) in

@@ -24,16 +24,12 @@ use Rattle.paraid_event.specs.Marks.{ArePoweredByGear, IsMarkedBy, ShowsMeta}
 use Rattle.paraid_event.specs.Parts.{AreEventCalls, BringsMeta, EndsEvent, committed_meta}
 use Rattle.paraid_event.specs.Parts.BringsMeta.{commit, nothing}
 use Rattle.paraid_event.specs.Service.{IsStateOf, Service}
+pub use Rattle.paraid_event.specs.Steps.{IsSettled}
 use Rattle.paraid_event.specs.Stands.{IsMidway, ServiceStandsFor, StandsIn}
 use Rattle.paraid_event.proofs.ChainLemmas.{base_setup, commit_within, data_transfer, data_within, no_attach, transfer_each}
-use Rattle.paraid_event.proofs.EndLemmas.{IsOnly, end_base, end_follows, end_stands, failed_absent, fails_below, only_end, stays_off}
+use Rattle.paraid_event.proofs.EndLemmas.{IsOnly, data_base, end_base, end_follows, end_stands, failed_absent, fails_below, only_end, stays_off}
 use Rattle.paraid_event.proofs.MarksLemmas.{again, if_again, kept_fill, kept_out, kept_phase, lost_fill, lost_out, lost_phase, marked_setup, same_gear, same_spins, same_ticks, newly_named, out_named, still_powered, still_shown}
 use Rattle.paraid_event.proofs.TurnLemmas.{moved_less, state_after}
-
--- the phase and the fill mark of a meta go with the disk that it names out
-pub record IsSettled (m : Meta) : Type 0 where
-  pub phase : phase_beside (has_out m.out) m.phase ≡ m.phase
-  pub fill : (if has_out m.out then 0 else m.fill) ≡ m.fill
 
 attached : (is_it : Bool) (count : ℕ) → is_it ≡ false → (if is_it then count + 1 else count) ≡ count
 attached true count is = let z : true ≡ false = is in cc
@@ -101,6 +97,11 @@ module _ (k : Service) (h : History) (lo : ℕ) (base : Meta) (w : Watch) (at : 
     pub part_base : IsServing v.down → (ends.keeps.base ≡ base) ⊎ (ends.keeps.base ≡ committed_meta k)
     part_base serving = subst (λ (m : Meta). (m ≡ base) ⊎ (m ≡ committed_meta k)) (moved_keeps lo_then (omega arith)).1
         (end_base k k_then h h_then lo lo_then base w at.stands cs part_calls part_marks (moved_keeps lo_then (omega arith)).0 part.brings serving)
+
+    -- that of before, after calls between two commits
+    pub part_data : EachCall (IsDataCall n (gone_out k.meta.out)) w.disks cs → IsServing v.down → ends.keeps.base ≡ base
+    part_data past serving = sym (moved_keeps lo_then (omega arith)).1
+        ∙ data_base k k_then h h_then lo lo_then base w at.stands cs part_calls part_marks (moved_keeps lo_then (omega arith)).0 past serving
 
     -- The core stands after it.
     pub part_stands : (less : ℕ) → less ≤ lo_then → IsServing v.down → IsMidway k_then h_then less ends.keeps.base v

@@ -1,6 +1,8 @@
 pub mod Marks
 pub mod Service
 pub mod Stands
+pub mod Steps
+pub mod Moving
 pub mod Parts
 pub mod Counts
 pub mod Lost
@@ -11,4 +13,5 @@ pub mod Begins
 pub mod Powering
 pub mod Upshift
 pub mod First
-pub mod Cleaned
+pub mod Replacements
+pub mod RebuildTicks

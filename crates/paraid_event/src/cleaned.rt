@@ -4,7 +4,7 @@ ghost use Rattle.paraid_base.specs.Cells.{home_disk, home_row};
 ghost use Rattle.paraid_dirty.specs.Table.{is_dirty};
 ghost use Rattle.paraid_image.specs.Power.{PowerState};
 ghost use Rattle.paraid_machine.specs.Moves.{block_read};
-ghost use Rattle.paraid_event.specs.Cleaned.{CleansCell};
+ghost use Rattle.paraid_core.specs.Cleaning.{CleansCell};
 ghost use Rattle.paraid_event.specs.Counts.{with_counts_of};
 ghost use Rattle.paraid_event.specs.Service.{IsStateOf, Service};
 

@@ -22,3 +22,4 @@ pub mod MarkLemmas
 pub mod CutLemmas
 pub mod LookedLemmas
 pub mod ContentsLemmas
+pub mod LostLemmas

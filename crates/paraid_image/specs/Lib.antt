@@ -14,6 +14,7 @@ pub mod Formatted
 pub mod Neutral
 pub mod Free
 pub mod LostDisk
+pub mod Lost
 pub mod Parking
 pub mod Gate
 pub mod Open

@@ -9,14 +9,12 @@ use Rattle.paraid_base.specs.declared.state.Out.{Out}
 use Rattle.paraid_base.specs.declared.state.Out.TheVariants.{No, Gone, Fresh}
 use Rattle.paraid_base.specs.declared.state.Phase.{Phase}
 use Rattle.paraid_base.specs.declared.state.Phase.TheVariants.{Steady, Down, Up}
-use Rattle.paraid_base.specs.Cells.{home_disk, home_row, parity_disk}
 use Rattle.paraid_base.specs.Regions.{hard_place_of, map_count, soft_place_of}
 use Rattle.paraid_base.specs.Soft.{soft_disk, soft_parity_disk, soft_stripe}
-use Rattle.paraid_base.proofs.CellsLemmas.{home_disk_below, home_row_below, parity_disk_below}
 use Rattle.paraid_base.proofs.RegionsLemmas.{hard_place_below, soft_place_below}
 use Rattle.paraid_base.proofs.SoftLemmas.{soft_disk_below, soft_parity_disk_below, soft_stripe_below}
-use Rattle.paraid_plan.specs.Placed.{ArePlaced, IsPlaced, WriteIsPlaced}
-use Rattle.paraid_plan.specs.WriteTargets.{cell_targets, fill_targets, goes_hard, hard_targets, is_filled, is_written, map_targets, row_parity, soft_count, soft_targets, target_if, view_with_cell}
+use Rattle.paraid_plan.specs.Placed.{ArePlaced, IsPlaced}
+use Rattle.paraid_plan.specs.WriteTargets.{cell_targets, fill_targets, goes_hard, hard_targets, is_filled, is_written, map_targets, soft_count, soft_targets, target_if}
 use Rattle.paraid_plan.specs.Units.{sync_targets}
 use Rattle.paraid_plan.proofs.DeskLemmas.{parked_of}
 use Rattle.paraid_plan.proofs.LiesLemmas.{fill_gear}
@@ -30,7 +28,7 @@ use Rattle.paraid_image.specs.Sides.{Batch}
 use Rattle.paraid_image.specs.Spot.{View, is_hard, rising_to}
 use Rattle.paraid_image.specs.Value.{value}
 
-placed_append : (m : Meta) (a b : Batch) → ArePlaced m a → ArePlaced m b → ArePlaced m (a ++ b)
+pub placed_append : (m : Meta) (a b : Batch) → ArePlaced m a → ArePlaced m b → ArePlaced m (a ++ b)
 placed_append m [] b p q = q
 placed_append m (w ∷ a) b p q = (p.0, placed_append m a b p.1 q)
 
@@ -156,24 +154,10 @@ module _ (v : View) (in_range : IsInRange v.meta) where
       place_by true is = placed_if m (is_written m.out d r) d (hard_place_of g r) new (hard_one is)
       place_by false is = soft_both is
 
-pub write_is_placed : WriteIsPlaced
-write_is_placed v b new staged map in_range lb =
-    let g = v.meta.setup.geometry in
-    let low = g.disks_low in
-    let n : ℕ = g.disks in
-    let r : ℕ = home_row n b in
-    let d : ℕ = home_disk n b in
-    let p : ℕ = parity_disk n r in
-    let lr : r < g.rows = home_row_below n b g.rows (omega arith) lb in
-    let ld = home_disk_below n b (omega arith) in
-    let lp = parity_disk_below n r (omega arith) in
-    placed_append v.meta _ _ (cell_placed v in_range r d (value v r d) new lr ld)
-    (placed_append v.meta _ _ (cell_placed (view_with_cell v r d (value v r d) new) in_range r p (value v r p) (row_parity v r d new) lr lp)
-    (last staged (map_targets v.meta (r / 512) map) (map_placed v in_range (r / 512) map (omega arith))))
-  where
-    last : (s : Bool) (a : Batch) → ArePlaced v.meta a → ArePlaced v.meta (if s then a else [])
-    last true a p = p
-    last false a p = tt
+-- The targets of the map, where it is staged.
+pub map_placed_if : (v : View) (staged : Bool) (j : ℕ) (b : Block) → IsInRange v.meta → j < map_count v.meta.setup.geometry → ArePlaced v.meta (if staged then map_targets v.meta j b else [])
+map_placed_if v true j b in_range lj = map_placed v in_range j b lj
+map_placed_if v false j b in_range lj = tt
 
 -- The targets of a cell that goes back to its hard place.
 pub sync_placed : (v : View) (r d : ℕ) (map : Block) → IsInRange v.meta → r < v.meta.setup.geometry.rows → d < v.meta.setup.geometry.disks → d < rising_to v.meta.phase → named_out v.meta.out ≡ None

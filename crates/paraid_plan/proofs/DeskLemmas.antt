@@ -1,17 +1,15 @@
 -- What the parts of a write stage, put together.
-use Rattle.std.specs.Prelude.{◌≡◌, ◌≢◌, ℕ, ◌+◌, ◌/◌, ◌≤◌, ◌&&◌, ◌||◌, nat_lt, Bool, true, false, not, [], ◌++◌, length, if◌then◌else◌}
-use Rattle.std.proofs.Common.{refl, sym, ◌∙◌, ap, subst, arith, inl, inr}
-use Rattle.std.proofs.lemmas.Bool.{cases_Bool, cases_eq, true≢false}
+use Rattle.std.specs.Prelude.{◌≡◌, ◌≢◌, ℕ, ◌+◌, ◌≤◌, ◌&&◌, ◌||◌, nat_lt, Bool, true, false, not, [], ◌++◌, length, if◌then◌else◌}
+use Rattle.std.proofs.Common.{refl, sym, ◌∙◌, ap, arith}
+use Rattle.std.proofs.lemmas.Bool.{true≢false}
 use Rattle.std.proofs.lemmas.List.{append_assoc, append-nil, length-append}
 use Rattle.paraid_base.specs.declared.block.Block.{Block}
-use Rattle.paraid_base.specs.Cells.{home_disk, home_row, parity_disk}
 use Rattle.paraid_base.specs.Regions.{hard_place_of, soft_place_of}
 use Rattle.paraid_base.specs.Soft.{soft_disk, soft_parity_disk, soft_stripe}
 use Rattle.paraid_base.specs.Xor.{xor}
-use Rattle.paraid_base.proofs.CellsLemmas.{home_disk_other}
 use Rattle.paraid_base.proofs.XorLemmas.{xor_assoc}
-use Rattle.paraid_plan.specs.Desk.{Desk, StagesMap, StagesWrite, cell_desk, copy_targets, place_targets, sees, desk_with_bit, with_targets}
-use Rattle.paraid_plan.specs.WriteTargets.{cell_targets, fill_targets, goes_hard, hard_targets, is_filled, is_written, needs_new, needs_old, overlaid_blocks, map_targets, row_parity, soft_count, soft_targets, stripe_block_now, target_if, view_with_cell, with_cells}
+use Rattle.paraid_plan.specs.Desk.{Desk, StagesMap, cell_desk, copy_targets, place_targets, sees, desk_with_bit, with_targets}
+use Rattle.paraid_plan.specs.WriteTargets.{cell_targets, fill_targets, goes_hard, hard_targets, is_filled, is_written, needs_new, needs_old, overlaid_blocks, map_targets, soft_count, soft_targets, stripe_block_now, target_if}
 use Rattle.paraid_dirty.specs.Table.{ShowsBits}
 use Rattle.paraid_plan.proofs.CellLemmas.{goes_parked}
 use Rattle.paraid_plan.proofs.LayLemmas.{changed_off, overlaid_blocks-append}
@@ -20,15 +18,10 @@ use Rattle.paraid_record.specs.Codes.{phase_to}
 use Rattle.paraid_image.specs.Sides.{Batch}
 use Rattle.paraid_image.specs.Out.{is_out, named_out}
 use Rattle.paraid_image.specs.Spot.{View, is_hard, rising_to}
-use Rattle.paraid_image.specs.Value.{value}
 
 pub with_targets_none : (s : Desk) → s ≡ with_targets s []
 unfolding with_targets overlaid_blocks
 with_targets_none s = λ t. record { block = s.block; dirty = s.dirty; staged = sym (append-nil s.staged) t }
-
-targets_dirty : (s : Desk) (b : Batch) → (with_targets s b).dirty ≡ s.dirty
-unfolding with_targets
-targets_dirty s b = refl
 
 pub with_targets_append : (s : Desk) (a b : Batch) → with_targets (with_targets s a) b ≡ with_targets s (a ++ b)
 unfolding with_targets
@@ -162,80 +155,13 @@ map_both m s s1 s2 s3 j staged w1 w2 b h shows e1 ew1 ew2 e2 e3 = record {
   is = two_steps s1 s2 s3 (target_if w1 0 (100 + j) b) (target_if w2 1 (100 + j) b) e2 e3 ∙ rw (e1, ew1, ew2, h) refl;
 }
 
-module _ (m : Meta) (s : Desk) (b : ℕ) (new : Block) where
-  abbrev seen : View
-  seen = sees m s
-
-  abbrev r : ℕ
-  r = home_row m.setup.geometry.disks b
-
-  abbrev d : ℕ
-  d = home_disk m.setup.geometry.disks b
-
-  abbrev p : ℕ
-  p = parity_disk m.setup.geometry.disks (home_row m.setup.geometry.disks b)
-
-  abbrev first : Desk
-  first = cell_desk m s r d (value seen r d) new
-
-  abbrev second : Desk
-  second = cell_desk m first r p (value seen r p) (row_parity seen r d new)
-
-  abbrev first_targets : Batch
-  first_targets = cell_targets seen r d (value seen r d) new
-
-  abbrev second_targets : Batch
-  second_targets = cell_targets (view_with_cell seen r d (value seen r d) new) r p (value seen r p) (row_parity seen r d new)
-
-  second_dirty : second.dirty ≡ (with_cells seen r d new).dirty
-  unfolding cell_desk desk_with_bit with_targets
-  second_dirty = refl
-
-  all_staged : (more : Batch) → (with_targets second more).staged ≡ s.staged ++ (first_targets ++ (second_targets ++ more))
-  unfolding cell_desk desk_with_bit with_targets
-  all_staged more = append_assoc (s.staged ++ first_targets) second_targets more ∙ append_assoc s.staged first_targets (second_targets ++ more)
-
-  all_laid : (more : Batch) → (with_targets second more).block ≡ overlaid_blocks (first_targets ++ (second_targets ++ more)) s.block
-  unfolding cell_desk desk_with_bit with_targets
-  all_laid more =
-      sym (overlaid_blocks-append first_targets (second_targets ++ more) s.block ∙ overlaid_blocks-append second_targets more (overlaid_blocks first_targets s.block))
-
-  same_bits : second.dirty r d ≡ s.dirty r d → second.dirty r p ≡ s.dirty r p → (e : ℕ) → second.dirty r e ≡ s.dirty r e
-  unfolding cell_desk desk_with_bit with_targets
-  same_bits data_same parity_same e = elim (cases_eq e d) [
-    | inl is ↦ ap (second.dirty r) is ∙ data_same ∙ ap (s.dirty r) (sym is)
-    | inr other ↦ elim (cases_eq e p) [
-      | inl is ↦ ap (second.dirty r) is ∙ parity_same ∙ ap (s.dirty r) (sym is)
-      | inr another ↦ changed_off first.dirty r p _ r e (λ _ z. another z) ∙ changed_off s.dirty r d _ r e (λ _ z. other z)
-    ]
-  ]
-
-  pub writes_from : (s4 s5 : Desk) (staged : Bool) → s4 ≡ second → (staged ≡ false → s4.dirty r d ≡ s.dirty r d) → (staged ≡ false → s4.dirty r p ≡ s.dirty r p)
-      → StagesMap m s4 s5 (r / 512) staged → StagesWrite m s s5 b new
-  writes_from s4 s5 staged e4 data_same parity_same map =
-      let last : s5 ≡ with_targets second (if staged then map_targets m (r / 512) map.map else []) =
-      map.is ∙ ap (λ (z : Desk). with_targets z (if staged then map_targets m (r / 512) map.map else [])) e4 in
-      record {
-        staged = staged;
-        map = map.map;
-        is_map = record {
-          shows = λ h. subst (ShowsBits map.map (r / 512)) (ap (λ (z : Desk). z.dirty) e4 ∙ second_dirty) (map.shows h);
-          same = λ h e.
-              ap (λ (f : ℕ → ℕ → Bool). f r e) (sym second_dirty)
-              ∙ same_bits (ap (λ (z : Desk). z.dirty r d) (sym e4) ∙ data_same h) (ap (λ (z : Desk). z.dirty r p) (sym e4) ∙ parity_same h) e;
-        };
-        targets = ap (λ (z : Desk). z.staged) last ∙ all_staged (if staged then map_targets m (r / 512) map.map else []);
-        blocks = ap (λ (z : Desk). z.block) last ∙ all_laid (if staged then map_targets m (r / 512) map.map else []);
-        dirty = ap (λ (z : Desk). z.dirty) last ∙ targets_dirty second (if staged then map_targets m (r / 512) map.map else []) ∙ second_dirty;
-      }
-
 -- what a block does not show does not matter
 
-first_of_or : (a b : Bool) → (a || b) ≡ false → a ≡ false
+pub first_of_or : (a b : Bool) → (a || b) ≡ false → a ≡ false
 first_of_or true b h = h
 first_of_or false b h = refl
 
-second_of_or : (a b : Bool) → (a || b) ≡ false → b ≡ false
+pub second_of_or : (a b : Bool) → (a || b) ≡ false → b ≡ false
 second_of_or true b h = absurd (true≢false h)
 second_of_or false b h = h
 
@@ -271,17 +197,6 @@ targets_without_new v r d old new h =
     ap (λ (z : Batch). z ++ fill_targets v r d old new) (hard_none (goes_hard v r d) _ v r d old new (first_of_or _ (is_filled v.meta r d) h) refl)
     ∙ fill_none v r d old new (second_of_or _ (is_filled v.meta r d) h)
 
-desk_without_old : (m : Meta) (s : Desk) (r d : ℕ) (old other new : Block) → needs_old (sees m s) r d ≡ false → cell_desk m s r d old new ≡ cell_desk m s r d other new
-unfolding cell_desk
-desk_without_old m s r d old other new h =
-    ap (λ (z : Batch). desk_with_bit (with_targets s z) r d (not (goes_hard (sees m s) r d))) (targets_without_old (sees m s) r d old other new h)
-
-desk_without_new : (m : Meta) (s : Desk) (r d : ℕ) (old new other another : Block) → needs_new (sees m s) r d ≡ false → cell_desk m s r d old new ≡ cell_desk m s r d other another
-unfolding cell_desk
-desk_without_new m s r d old new other another h =
-    ap (λ (z : Batch). desk_with_bit (with_targets s z) r d (not (goes_hard (sees m s) r d)))
-    (targets_without_new (sees m s) r d old new h ∙ sym (targets_without_new (sees m s) r d other another h))
-
 -- the write of another cell of the row leaves what is needed of this one
 hard_after : (m : Meta) (s : Desk) (r d p : ℕ) (old new : Block) → d ≢ p → goes_hard (sees m (cell_desk m s r d old new)) r p ≡ goes_hard (sees m s) r p
 unfolding goes_hard is_hard cell_desk desk_with_bit with_targets
@@ -289,65 +204,8 @@ hard_after m s r d p old new apart =
     ap (λ (z : Bool). (nat_lt p m.gear || (nat_lt p (rising_to m.phase) && not z)) || (nat_lt p (rising_to m.phase) && not (is_out (named_out m.out) p)))
     (changed_off s.dirty r d (not (goes_hard (sees m s) r d)) r p (λ _ z. apart (sym z)))
 
-needs_new_after : (m : Meta) (s : Desk) (r d p : ℕ) (old new : Block) → d ≢ p → needs_new (sees m (cell_desk m s r d old new)) r p ≡ needs_new (sees m s) r p
-unfolding needs_new
-needs_new_after m s r d p old new apart = ap (λ (z : Bool). not z || is_written m.out p r || is_filled m r p) (hard_after m s r d p old new apart)
-
-needs_old_after : (m : Meta) (s : Desk) (r d p : ℕ) (old new : Block) → d ≢ p → needs_old (sees m (cell_desk m s r d old new)) r p ≡ needs_old (sees m s) r p
+pub needs_old_after : (m : Meta) (s : Desk) (r d p : ℕ) (old new : Block) → d ≢ p → needs_old (sees m (cell_desk m s r d old new)) r p ≡ needs_old (sees m s) r p
 unfolding needs_old
 needs_old_after m s r d p old new apart =
     ap (λ (z : Bool). (not z && is_written m.out (soft_parity_disk m.gear (soft_stripe m.setup.geometry.disks m.gear r p)) (m.setup.geometry.rows + soft_stripe m.setup.geometry.disks m.gear r p)) || is_filled m r p)
     (hard_after m s r d p old new apart)
-
--- a block's cell is not its row's parity
-pub apart_by : (n b r d p : ℕ) → r ≡ home_row n b → d ≡ home_disk n b → p ≡ parity_disk n r → d ≢ p
-apart_by n b r d p er ed ep is = home_disk_other n b (sym ed ∙ is ∙ ep ∙ ap (parity_disk n) er)
-
--- the data cell, whatever was read of it, unless that is needed
-first_desk : (m : Meta) (s : Desk) (r d : ℕ) (old new : Block)
-    → (needs_old (sees m s) r d ≡ true → old ≡ value (sees m s) r d)
-    → cell_desk m s r d old new ≡ cell_desk m s r d (value (sees m s) r d) new
-first_desk m s r d old new is_old = elim (cases_Bool (needs_old (sees m s) r d)) [
-  | inl h ↦ ap (λ (z : Block). cell_desk m s r d z new) (is_old h)
-  | inr h ↦ desk_without_old m s r d old (value (sees m s) r d) new h
-]
-
--- and the parity cell
-second_desk : (m : Meta) (s : Desk) (r d p : ℕ) (parity fixed new : Block) → d ≢ p
-    → (needs_new (sees m s) r p ≡ true → needs_old (sees m s) r p ≡ true → parity ≡ value (sees m s) r p)
-    → (needs_new (sees m s) r p ≡ true → fixed ≡ xor (value (sees m s) r p) (xor (value (sees m s) r d) new))
-    → cell_desk m (cell_desk m s r d (value (sees m s) r d) new) r p parity fixed
-    ≡ cell_desk m (cell_desk m s r d (value (sees m s) r d) new) r p (value (sees m s) r p) (xor (value (sees m s) r p) (xor (value (sees m s) r d) new))
-second_desk m s r d p parity fixed new apart is_parity is_fixed =
-    let f : Desk = cell_desk m s r d (value (sees m s) r d) new in
-    elim (cases_Bool (needs_new (sees m s) r p)) [
-      | inl h ↦ ap (cell_desk m f r p parity) (is_fixed h) ∙ elim (cases_Bool (needs_old (sees m s) r p)) [
-        | inl o ↦ ap (λ (z : Block). cell_desk m f r p z (xor (value (sees m s) r p) (xor (value (sees m s) r d) new))) (is_parity h o)
-        | inr o ↦ desk_without_old m f r p parity (value (sees m s) r p) (xor (value (sees m s) r p) (xor (value (sees m s) r d) new))
-            (needs_old_after m s r d p (value (sees m s) r d) new apart ∙ o)
-      ]
-      | inr h ↦ desk_without_new m f r p parity fixed _ _ (needs_new_after m s r d p (value (sees m s) r d) new apart ∙ h)
-    ]
-
--- the same, over what the calls of the write said
-pub writes_from_calls : (m : Meta) (s s1 s2 s3 s4 : Desk) (b r d p : ℕ) (old parity fixed new : Block) (was parity_was staged : Bool)
-    → r ≡ home_row m.setup.geometry.disks b → d ≡ home_disk m.setup.geometry.disks b → p ≡ parity_disk m.setup.geometry.disks r
-    → s1 ≡ s → (needs_old (sees m s) r d ≡ true → old ≡ value (sees m s) r d)
-    → (needs_new (sees m s) r p ≡ true → needs_old (sees m s) r p ≡ true → parity ≡ value (sees m s) r p)
-    → (needs_new (sees m s) r p ≡ true → fixed ≡ xor (value (sees m s) r p) (xor (value (sees m s) r d) new))
-    → was ≡ s1.dirty r d → parity_was ≡ s1.dirty r p
-    → s2 ≡ cell_desk m s1 r d old new → s3 ≡ cell_desk m s2 r p parity fixed
-    → (staged ≡ false → s3.dirty r d ≡ was) → (staged ≡ false → s3.dirty r p ≡ parity_was)
-    → StagesMap m s3 s4 (r / 512) staged → StagesWrite m s s4 b new
-writes_from_calls m s s1 s2 s3 s4 b r d p old parity fixed new was parity_was staged er ed ep e1 is_old is_parity is_fixed is_was is_parity_was d1 d2 data_same parity_same map =
-    let n : ℕ = m.setup.geometry.disks in
-    let ep' : p ≡ parity_disk n (home_row n b) = ep ∙ ap (parity_disk n) er in
-    let apart : d ≢ p = apart_by n b r d p er ed ep in
-    let first' : s2 ≡ cell_desk m s r d (value (sees m s) r d) new = d1 ∙ ap (λ (z : Desk). cell_desk m z r d old new) e1 ∙ first_desk m s r d old new is_old in
-    let second' : s3 ≡ cell_desk m (cell_desk m s r d (value (sees m s) r d) new) r p (value (sees m s) r p) (xor (value (sees m s) r p) (xor (value (sees m s) r d) new)) =
-    d2 ∙ ap (λ (z : Desk). cell_desk m z r p parity fixed) first' ∙ second_desk m s r d p parity fixed new apart is_parity is_fixed in
-    writes_from m s b new s3 s4 staged
-    (second' ∙ rw (er, ed, ep') refl)
-    (λ h. rw (er, ed) at (data_same h ∙ is_was ∙ ap (λ (z : Desk). z.dirty r d) e1))
-    (λ h. rw (er, ep') at (parity_same h ∙ is_parity_was ∙ ap (λ (z : Desk). z.dirty r p) e1))
-    (rw er at map)

@@ -10,10 +10,14 @@ pub mod MapLemmas
 pub mod KeptPlaceLemmas
 pub mod WriteLemmas
 pub mod DeskLemmas
-pub mod RestLemmas
+pub mod RowLemmas
+pub mod PairLemmas
+pub mod PartLemmas
 pub mod SyncLemmas
 pub mod CommitTargetLemmas
 pub mod BatchLemmas
 pub mod LostLemmas
 pub mod ManyLemmas
 pub mod FilledCopyLemmas
+pub mod WrittenBitsLemmas
+pub mod RowBitsLemmas

@@ -1,7 +1,9 @@
 pub mod WriteTargets
 pub mod StoredCells
-pub mod Written
 pub mod Desk
 pub mod Units
 pub mod Placed
+pub mod RowWrites
 pub mod LossMark
+pub mod WrittenBits
+pub mod RowBits

@@ -1,5 +1,5 @@
 -- What a cell stages that goes back to its hard place.
-use Rattle.std.specs.Prelude.{◌≡◌, ◌≢◌, ℕ, ◌+◌, ◌-◌, ◌*◌, ◌/◌, ◌<◌, ◌==◌, ◌&&◌, false, Some, [], ◌∷◌, ◌++◌}
+use Rattle.std.specs.Prelude.{◌≡◌, ◌≢◌, ℕ, ◌-◌, ◌*◌, ◌/◌, ◌<◌, false, Some, ◌++◌}
 use Rattle.paraid_base.specs.declared.block.Block.{Block}
 use Rattle.paraid_dirty.specs.Table.{table_with_bit}
 use Rattle.paraid_image.specs.Sound.{IsWellKept}

@@ -1,12 +1,10 @@
--- What the write of one block stages, as a function of what is seen of the disks.
-use Rattle.std.specs.Prelude.{ℕ, ◌+◌, ◌/◌, ◌==◌, ◌&&◌, ◌||◌, nat_lt, nat_le, Bool, true, not, [], ◌∷◌, ◌++◌, if◌then◌else◌}
+-- What the write of a cell stages, as a function of what is seen of the disks.
+use Rattle.std.specs.Prelude.{ℕ, ◌+◌, ◌==◌, ◌&&◌, ◌||◌, nat_lt, nat_le, Bool, true, not, [], ◌∷◌, ◌++◌, if◌then◌else◌}
 use Rattle.paraid_base.specs.declared.block.Block.{Block}
 use Rattle.paraid_base.specs.declared.state.Out.{Out}
 use Rattle.paraid_base.specs.declared.state.Out.TheVariants.{No, Gone, Fresh}
-use Rattle.paraid_base.specs.Cells.{home_disk, home_row, parity_disk}
 use Rattle.paraid_base.specs.Regions.{hard_place_of, soft_place_of}
 use Rattle.paraid_base.specs.Soft.{soft_disk, soft_parity_disk, soft_stripe, stripe_count}
-use Rattle.paraid_base.specs.Sums.{without, xor_upto}
 use Rattle.paraid_base.specs.Xor.{xor}
 use Rattle.paraid_dirty.specs.Table.{table_with_bit}
 use Rattle.paraid_record.specs.declared.meta.Meta.{Meta}
@@ -15,7 +13,7 @@ use Rattle.paraid_image.specs.Out.{is_out}
 use Rattle.paraid_image.specs.Sides.{Batch}
 use Rattle.paraid_image.specs.Spot.{View, is_hard, rising_to}
 use Rattle.paraid_image.specs.Standing.{Contents, overlaid_block}
-use Rattle.paraid_image.specs.Value.{near, stripe_rest, value}
+use Rattle.paraid_image.specs.Value.{stripe_rest}
 
 -- whether the place of unit `u` of disk `d` is written: the disk is not out, or that unit of it is
 -- rebuilt
@@ -93,10 +91,6 @@ needs_old v r d =
     let s = soft_stripe g.disks v.meta.gear r d in
     (not (goes_hard v r d) && is_written v.meta.out (soft_parity_disk v.meta.gear s) (g.rows + s)) || is_filled v.meta r d
 
--- the XOR of the values of a row's cells but for two
-unfoldable pub row_rest : View → ℕ → ℕ → ℕ → Block
-row_rest v r d p = xor_upto (without (without (near v r) d) p) v.meta.setup.geometry.disks
-
 -- what is seen after it, but for the map of dirty cells
 abbrev pub view_with_cell : View → ℕ → ℕ → Block → Block → View
 view_with_cell v r d old new = record v {
@@ -104,30 +98,8 @@ view_with_cell v r d old new = record v {
   block = overlaid_blocks (cell_targets v r d old new) v.block;
 }
 
--- the parity of row `r` after its cell of disk `d` changes to `new`
-abbrev pub row_parity : View → ℕ → ℕ → Block → Block
-row_parity v r d new = xor (value v r (parity_disk v.meta.setup.geometry.disks r)) (xor (value v r d) new)
-
--- what is seen after both cells of a write to row `r`, but for the map
-abbrev pub with_cells : View → ℕ → ℕ → Block → View
-with_cells v r d new =
-    let p = parity_disk v.meta.setup.geometry.disks r in
-    view_with_cell (view_with_cell v r d (value v r d) new) r p (value v r p) (row_parity v r d new)
-
 -- block `j` of the map of dirty cells, on each disk on which it is written
 abbrev pub map_targets : Meta → ℕ → Block → Batch
 map_targets m j b =
     target_if (is_written m.out 0 (m.setup.geometry.rows + soft_count m + j)) 0 (100 + j) b
     ++ target_if (is_written m.out 1 (m.setup.geometry.rows + soft_count m + j)) 1 (100 + j) b
-
--- All that the write of block `b` stages, in its order; `map` is the block of the map with the new
--- bits, which is staged where a bit has changed.
-abbrev pub write_targets : View → ℕ → Block → Bool → Block → Batch
-write_targets v b new staged map =
-    let n = v.meta.setup.geometry.disks in
-    let r = home_row n b in
-    let d = home_disk n b in
-    let p = parity_disk n r in
-    cell_targets v r d (value v r d) new
-    ++ (cell_targets (view_with_cell v r d (value v r d) new) r p (value v r p) (row_parity v r d new)
-    ++ (if staged then map_targets v.meta (r / 512) map else []))

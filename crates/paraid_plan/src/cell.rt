@@ -5,6 +5,7 @@ ghost use Rattle.paraid_base.specs.Regions.{soft_place_of};
 ghost use Rattle.paraid_base.specs.Xor.{xor};
 ghost use Rattle.paraid_plan.specs.Desk.{Desk, with_targets, desk_with_bit, sees, place_targets, copy_targets, cell_desk};
 ghost use Rattle.paraid_plan.specs.WriteTargets.{stripe_block_now, target_if, goes_hard as goes_hard_in, is_written as written_in, is_filled as filled_in, needs_new as needs_new_in, needs_old as needs_old_in};
+ghost use Rattle.paraid_plan.specs.WrittenBits.{bits_after_cell};
 ghost use Rattle.paraid_record.specs.Codes.{phase_to as phase_to_of};
 ghost use Rattle.paraid_record.specs.Range.{IsInRange};
 ghost use Rattle.paraid_record.specs.declared.meta.Meta.{Meta as MetaType};
@@ -20,7 +21,7 @@ use paraid_parity::xor_into;
 use paraid_record::Meta;
 
 #[tactic(auto, unfolding(paraid_image::specs::Spot::is_hard))]
-fn is_hard<P: Plan>(plan: &P, m: &Meta, r: Row, d: DiskNo) -> bool
+pub(crate) fn is_hard<P: Plan>(plan: &P, m: &Meta, r: Row, d: DiskNo) -> bool
     requires serves { P.serves plan.now m.now }
     requires row { r < m.now.setup.geometry.rows }
     requires disk { d < m.now.setup.geometry.disks }
@@ -39,9 +40,9 @@ fn goes_hard<P: Plan>(plan: &P, m: &Meta, r: Row, d: DiskNo) -> bool
     is_hard(plan, m, r, d) || (d < m.phase.rising_to() && !m.out.names(d))
 }
 
-// Whether what a write of this cell stages shows its new value.
+/// Whether what a write of this cell stages shows its new value.
 #[tactic(auto, unfolding(crate::specs::WriteTargets::needs_new))]
-fn needs_new<P: Plan>(plan: &P, m: &Meta, r: Row, d: DiskNo) -> bool
+pub(crate) fn needs_new<P: Plan>(plan: &P, m: &Meta, r: Row, d: DiskNo) -> bool
     requires serves { P.serves plan.now m.now }
     requires in_range { IsInRange m.now }
     requires row { r < m.now.setup.geometry.rows }
@@ -66,9 +67,9 @@ fn has_parity(m: &Meta, r: Row, d: DiskNo) -> bool
     is_written(m.out, parity, m.setup.geometry.rows + s)
 }
 
-// Whether what a write of this cell stages depends on its old value.
+/// Whether what a write of this cell stages depends on its old value.
 #[tactic(auto, unfolding(crate::specs::WriteTargets::needs_old))]
-fn needs_old<P: Plan>(plan: &P, m: &Meta, r: Row, d: DiskNo) -> bool
+pub(crate) fn needs_old<P: Plan>(plan: &P, m: &Meta, r: Row, d: DiskNo) -> bool
     requires serves { P.serves plan.now m.now }
     requires in_range { IsInRange m.now }
     requires row { r < m.now.setup.geometry.rows }
@@ -81,8 +82,8 @@ fn needs_old<P: Plan>(plan: &P, m: &Meta, r: Row, d: DiskNo) -> bool
     has_parity(m, r, d) || is_filled(m, r, d)
 }
 
-// Reads the value of a cell where it is needed.
-fn read_if<P: Plan>(
+/// Reads the value of a cell where it is needed.
+pub(crate) fn read_if<P: Plan>(
     plan: &mut P,
     m: &Meta,
     needed: bool,
@@ -97,6 +98,7 @@ fn read_if<P: Plan>(
     ensures ok { OnOk result (P.tells plan.new → needed ≡ true
         → into.new ≡ value_of (sees m.now (P.desk plan.old)) r d) }
     ensures same { OnOk result (P.tells plan.new → P.desk plan.new ≡ P.desk plan.old) }
+    ensures bits { OnOk result ((P.desk plan.new).dirty ≡ (P.desk plan.old).dirty) }
     ensures staged { OnOk result
         (length (P.desk plan.new).staged ≡ length (P.desk plan.old).staged) }
     ensures changes { OnOk result (P.changes plan.new ≡ P.changes plan.old) }
@@ -108,145 +110,6 @@ fn read_if<P: Plan>(
         return Ok(());
     }
     plan.value(m, r, d, into)?;
-    Ok(())
-}
-
-// Whether the cell is lost, and its old value is needed for nothing but the new parity.
-fn is_made_of_rest<P: Plan>(plan: &P, m: &Meta, r: Row, d: DiskNo) -> bool
-    requires serves { P.serves plan.now m.now }
-    requires in_range { IsInRange m.now }
-    requires row { r < m.now.setup.geometry.rows }
-    requires disk { d < m.now.setup.geometry.disks }
-    ensures out { result ≡ true → named_out_of m.now.out ≡ Some d }
-    ensures hard { result ≡ true → hard_in (sees m.now (P.desk plan.now)) r d ≡ true }
-    ensures data { result ≡ true → needs_old_in (sees m.now (P.desk plan.now)) r d ≡ false }
-{
-    if !m.out.names(d) || !is_hard(plan, m, r, d) {
-        return false;
-    }
-    !needs_old(plan, m, r, d)
-}
-
-// Sums up the rest of a row and the new bytes of a cell that is lost.
-fn read_rest<P: Plan>(
-    plan: &mut P,
-    m: &Meta,
-    r: Row,
-    d: DiskNo,
-    p: DiskNo,
-    bytes: &Block,
-    fixed: &mut Block,
-) -> Result<(), Lost>
-    requires serves { P.serves plan.old m.now }
-    requires in_range { IsInRange m.now }
-    requires row { r < m.now.setup.geometry.rows }
-    requires disk { d < m.now.setup.geometry.disks }
-    requires parity_disk { p < m.now.setup.geometry.disks }
-    requires apart { d ≢ p }
-    requires out { named_out_of m.now.out ≡ Some d }
-    requires hard { hard_in (sees m.now (P.desk plan.old)) r d ≡ true }
-    ensures fixed { OnOk result (P.tells plan.new
-        → fixed.new ≡ xor (value_of (sees m.now (P.desk plan.old)) r p) (xor (value_of (sees m.now (P.desk plan.old)) r d) bytes.now)) }
-    ensures same { OnOk result (P.tells plan.new → P.desk plan.new ≡ P.desk plan.old) }
-    ensures staged { OnOk result
-        (length (P.desk plan.new).staged ≡ length (P.desk plan.old).staged) }
-    ensures changes { OnOk result (P.changes plan.new ≡ P.changes plan.old) }
-    ensures goes_on { OnOk result (P.serves plan.new m.now) }
-    ensures fails { IfErr result (λ lost. P.fails plan.new) }
-    ensures leads { P.leads plan.old plan.new }
-{
-    plan.rest(m, r, d, p, fixed)?;
-    xor_into(fixed, bytes);
-    Ok(())
-}
-
-// Reads the old values of a cell and of the parity of its row, and changes the parity with the cell.
-fn read_both<P: Plan>(
-    plan: &mut P,
-    m: &Meta,
-    r: Row,
-    d: DiskNo,
-    p: DiskNo,
-    bytes: &Block,
-    old: &mut Block,
-    parity: &mut Block,
-    fixed: &mut Block,
-) -> Result<(), Lost>
-    requires serves { P.serves plan.old m.now }
-    requires in_range { IsInRange m.now }
-    requires row { r < m.now.setup.geometry.rows }
-    requires disk { d < m.now.setup.geometry.disks }
-    requires parity_disk { p < m.now.setup.geometry.disks }
-    ensures data { OnOk result (P.tells plan.new → old.new ≡ value_of (sees m.now (P.desk plan.old)) r d) }
-    ensures parity { OnOk result (P.tells plan.new → parity.new ≡ value_of (sees m.now (P.desk plan.old)) r p) }
-    ensures fixed { OnOk result (P.tells plan.new → fixed.new ≡ xor parity.new (xor old.new bytes.now)) }
-    ensures same { OnOk result (P.tells plan.new → P.desk plan.new ≡ P.desk plan.old) }
-    ensures staged { OnOk result
-        (length (P.desk plan.new).staged ≡ length (P.desk plan.old).staged) }
-    ensures changes { OnOk result (P.changes plan.new ≡ P.changes plan.old) }
-    ensures goes_on { OnOk result (P.serves plan.new m.now) }
-    ensures fails { IfErr result (λ lost. P.fails plan.new) }
-    ensures leads { P.leads plan.old plan.new }
-{
-    plan.value(m, r, d, old)?;
-    plan.value(m, r, p, parity)?;
-    let mut change = Block::zero();
-    change.copy_from(old);
-    xor_into(&mut change, bytes);
-    fixed.copy_from(parity);
-    xor_into(fixed, &change);
-    Ok(())
-}
-
-/// Makes the new parity of a row, and reads the old values that are needed of the cell and of the
-/// parity: by the old parity, or where the cell is lost by the rest of the row.
-pub(crate) fn read_old<P: Plan>(
-    plan: &mut P,
-    m: &Meta,
-    r: Row,
-    d: DiskNo,
-    p: DiskNo,
-    bytes: &Block,
-    old: &mut Block,
-    parity: &mut Block,
-    fixed: &mut Block,
-) -> Result<(), Lost>
-    requires serves { P.serves plan.old m.now }
-    requires in_range { IsInRange m.now }
-    requires row { r < m.now.setup.geometry.rows }
-    requires disk { d < m.now.setup.geometry.disks }
-    requires parity_disk { p < m.now.setup.geometry.disks }
-    requires apart { d ≢ p }
-    ensures data { OnOk result (P.tells plan.new
-        → needs_old_in (sees m.now (P.desk plan.old)) r d ≡ true
-        → old.new ≡ value_of (sees m.now (P.desk plan.old)) r d) }
-    ensures parity { OnOk result (P.tells plan.new
-        → needs_new_in (sees m.now (P.desk plan.old)) r p ≡ true
-        → needs_old_in (sees m.now (P.desk plan.old)) r p ≡ true
-        → parity.new ≡ value_of (sees m.now (P.desk plan.old)) r p) }
-    ensures fixed { OnOk result (P.tells plan.new
-        → needs_new_in (sees m.now (P.desk plan.old)) r p ≡ true
-        → fixed.new ≡ xor (value_of (sees m.now (P.desk plan.old)) r p) (xor (value_of (sees m.now (P.desk plan.old)) r d) bytes.now)) }
-    ensures same { OnOk result (P.tells plan.new → P.desk plan.new ≡ P.desk plan.old) }
-    ensures staged { OnOk result
-        (length (P.desk plan.new).staged ≡ length (P.desk plan.old).staged) }
-    ensures changes { OnOk result (P.changes plan.new ≡ P.changes plan.old) }
-    ensures goes_on { OnOk result (P.serves plan.new m.now) }
-    ensures fails { IfErr result (λ lost. P.fails plan.new) }
-    ensures leads { P.leads plan.old plan.new }
-{
-    if !needs_new(plan, m, r, p) {
-        let needed = needs_old(plan, m, r, d);
-        read_if(plan, m, needed, r, d, old)?;
-        return Ok(());
-    }
-    if is_made_of_rest(plan, m, r, d) {
-        let needed = needs_old(plan, m, r, p);
-        read_rest(plan, m, r, d, p, bytes, fixed)?;
-        read_if(plan, m, needed, r, p, parity)?;
-        return Ok(());
-    }
-    read_both(plan, m, r, d, p, bytes, old, parity, fixed)?;
     Ok(())
 }
 
@@ -270,6 +133,7 @@ fn read_parity<P: Plan>(
         written_in m.now.out (soft_parity_disk m.now.gear s) (m.now.setup.geometry.rows + s) ≡ true
         → into.new ≡ xor (xor (stripe_block_now (sees m.now (P.desk plan.old)) s (soft_parity_disk m.now.gear s)) old.now) new.now) }
     ensures same { OnOk result (P.tells plan.new → P.desk plan.new ≡ P.desk plan.old) }
+    ensures bits { OnOk result ((P.desk plan.new).dirty ≡ (P.desk plan.old).dirty) }
     ensures staged { OnOk result
         (length (P.desk plan.new).staged ≡ length (P.desk plan.old).staged) }
     ensures changes { OnOk result (P.changes plan.new ≡ P.changes plan.old) }
@@ -309,6 +173,7 @@ fn read_place<P: Plan>(
         → written_in m.now.out (soft_parity_disk m.now.gear s) (m.now.setup.geometry.rows + s) ≡ true
         → into.new ≡ xor (xor (stripe_block_now (sees m.now (P.desk plan.old)) s (soft_parity_disk m.now.gear s)) old.now) new.now) }
     ensures same { OnOk result (P.tells plan.new → P.desk plan.new ≡ P.desk plan.old) }
+    ensures bits { OnOk result ((P.desk plan.new).dirty ≡ (P.desk plan.old).dirty) }
     ensures staged { OnOk result
         (length (P.desk plan.new).staged ≡ length (P.desk plan.old).staged) }
     ensures changes { OnOk result (P.changes plan.new ≡ P.changes plan.old) }
@@ -344,6 +209,7 @@ fn read_copy<P: Plan>(
         let s = soft_stripe m.now.setup.geometry.disks to r d in filled ≡ true
         → into.new ≡ xor (xor ((P.desk plan.old).block (soft_parity_disk to s) (soft_place_of m.now.setup.geometry to s)) old.now) new.now) }
     ensures same { OnOk result (P.tells plan.new → P.desk plan.new ≡ P.desk plan.old) }
+    ensures bits { OnOk result ((P.desk plan.new).dirty ≡ (P.desk plan.old).dirty) }
     ensures staged { OnOk result
         (length (P.desk plan.new).staged ≡ length (P.desk plan.old).staged) }
     ensures changes { OnOk result (P.changes plan.new ≡ P.changes plan.old) }
@@ -471,6 +337,7 @@ pub fn write_cell<P: Plan>(
     requires room { length (P.desk plan.old).staged + 4 ≤ 80 }
     requires few { P.changes plan.old < 16 }
     ensures desk { OnOk result (P.tells plan.new → P.desk plan.new ≡ cell_desk m.now (P.desk plan.old) r d old.now new.now) }
+    ensures bits { OnOk result ((P.desk plan.new).dirty ≡ bits_after_cell m.now r d (P.desk plan.old).dirty) }
     ensures room { OnOk result (length (P.desk plan.new).staged ≤ length (P.desk plan.old).staged + 4) }
     ensures changes { OnOk result (P.changes plan.new ≡ P.changes plan.old + 1) }
     ensures goes_on { OnOk result (P.serves plan.new m.now) }

@@ -2,7 +2,7 @@
 ghost use Rattle.std.specs.Prelude.{◌≡◌, ◌≢◌, ℕ, ◌+◌, ◌<◌, ◌≤◌, ◌⊎◌, true, length, OnOk, IfErr, Some};
 ghost use Rattle.paraid_base.specs.Regions.{map_count, disk_size};
 ghost use Rattle.paraid_plan.specs.Desk.{Desk, with_targets, desk_with_bit, sees};
-ghost use Rattle.paraid_plan.specs.WriteTargets.{row_rest, soft_count, stripe_block_now, target_if};
+ghost use Rattle.paraid_plan.specs.WriteTargets.{soft_count, stripe_block_now, target_if};
 ghost use Rattle.paraid_dirty.specs.Table.{ShowsBits};
 ghost use Rattle.paraid_record.specs.Range.{IsInRange};
 ghost use Rattle.paraid_image.specs.Out.{named_out as named_out_of};
@@ -45,29 +45,7 @@ pub trait Plan {
         requires disk { d < m.now.setup.geometry.disks }
         ensures ok { OnOk result (tells self.new → into.new ≡ value_of (sees m.now (desk self.old)) r d) }
         ensures same { OnOk result (tells self.new → desk self.new ≡ desk self.old) }
-        ensures staged { OnOk result
-            (length (desk self.new).staged ≡ length (desk self.old).staged) }
-        ensures changes { OnOk result (changes self.new ≡ changes self.old) }
-        ensures goes_on { OnOk result (serves self.new m.now) }
-        ensures fails { IfErr result (λ lost. fails self.new) }
-        ensures leads { leads self.old self.new };
-
-    /// Reads the values of a row's cells but for that of the disk that is out and that of one other, and
-    /// sums them up.
-    fn rest(
-        &mut self,
-        m: &Meta,
-        r: Row,
-        out: DiskNo,
-        other: DiskNo,
-        into: &mut Block,
-    ) -> Result<(), Lost>
-        requires serves { serves self.old m.now }
-        requires in_range { IsInRange m.now }
-        requires row { r < m.now.setup.geometry.rows }
-        requires out { named_out_of m.now.out ≡ Some out }
-        ensures ok { OnOk result (tells self.new → into.new ≡ row_rest (sees m.now (desk self.old)) r out other) }
-        ensures same { OnOk result (tells self.new → desk self.new ≡ desk self.old) }
+        ensures bits { OnOk result ((desk self.new).dirty ≡ (desk self.old).dirty) }
         ensures staged { OnOk result
             (length (desk self.new).staged ≡ length (desk self.old).staged) }
         ensures changes { OnOk result (changes self.new ≡ changes self.old) }
@@ -83,6 +61,7 @@ pub trait Plan {
         requires disk { e < m.now.gear }
         ensures ok { OnOk result (tells self.new → into.new ≡ stripe_block_now (sees m.now (desk self.old)) s e) }
         ensures same { OnOk result (tells self.new → desk self.new ≡ desk self.old) }
+        ensures bits { OnOk result ((desk self.new).dirty ≡ (desk self.old).dirty) }
         ensures staged { OnOk result
             (length (desk self.new).staged ≡ length (desk self.old).staged) }
         ensures changes { OnOk result (changes self.new ≡ changes self.old) }
@@ -101,12 +80,16 @@ pub trait Plan {
         requires past_log { 100 ≤ place }
         ensures ok { OnOk result (tells self.new → into.new ≡ (desk self.old).block disk place) }
         ensures same { OnOk result (tells self.new → desk self.new ≡ desk self.old) }
+        ensures bits { OnOk result ((desk self.new).dirty ≡ (desk self.old).dirty) }
         ensures staged { OnOk result
             (length (desk self.new).staged ≡ length (desk self.old).staged) }
         ensures changes { OnOk result (changes self.new ≡ changes self.old) }
         ensures goes_on { OnOk result (serves self.new m.now) }
         ensures fails { IfErr result (λ lost. fails self.new) }
         ensures leads { leads self.old self.new };
+
+    /// Whether a block is staged, so that no disk is asked for it.
+    fn is_staged(&self, disk: DiskNo, place: Place) -> bool;
 
     /// Whether a cell is dirty.
     fn is_dirty(&self, m: &Meta, r: Row, d: DiskNo) -> bool

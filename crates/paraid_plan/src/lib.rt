@@ -5,18 +5,20 @@
 //! speak of no history: which blocks are held before and after is all that they say.
 #![tactic(auto)]
 
+mod blocks;
 mod cell;
 mod desk;
+mod given;
 mod laws;
 mod marks;
+mod read;
+mod rule;
 mod write;
 
 pub use cell::write_cell;
 pub use desk::{Lost, Plan};
 pub use laws::{
-    a_lost_disk_is_marked_out, a_staged_block_keeps_the_disks_well,
-    a_synced_cell_keeps_the_disks_well, a_write_can_be_committed, a_write_keeps_the_disks_well,
-    kept_places_alone_tell, many_staged_writes_keep_the_disks_well, what_is_kept_well_is_stored,
-    what_is_stored_is_kept_well,
+    a_lost_disk_is_marked_out, a_synced_cell_keeps_the_disks_well, kept_places_alone_tell,
+    what_is_kept_well_is_stored, what_is_stored_is_kept_well,
 };
-pub use write::{write_block, write_blocks};
+pub use write::write_blocks;

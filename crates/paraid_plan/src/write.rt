@@ -1,16 +1,25 @@
-//! The write of a block, in any gear and phase and whichever disk is out: at most ten targets; and
-//! that of up to eight blocks.
-ghost use Rattle.std.specs.Prelude.{◌≡◌, ℕ, ◌+◌, ◌-◌, ◌*◌, ◌/◌, ◌<◌, ◌≤◌, true, false, length, All, OnOk, IfErr};
+//! The write of up to eight blocks, in any gear and phase and whichever disk is out: row by row, each
+//! with one new parity, and at most ten targets for each block.
+ghost use Rattle.std.specs.Prelude.{◌≡◌, ◌≢◌, ℕ, ◌+◌, ◌-◌, ◌*◌, ◌/◌, ◌<◌, ◌≤◌, ◌==◌, ◌&&◌, ◌∷◌, [], true, false, length, get_or, All, OnOk, IfErr, if◌then◌else◌};
 ghost use Rattle.paraid_base.specs.declared.block.Block.{Block as BlockType};
+ghost use Rattle.paraid_base.specs.Cells.{home_row, parity_disk as parity_disk_of};
+ghost use Rattle.paraid_base.specs.History.{Entry, last_of};
 ghost use Rattle.paraid_base.specs.Pairs.{pairs_of};
-ghost use Rattle.paraid_plan.specs.Desk.{Desk, StageAll, StagesMap, StagesWrite};
+ghost use Rattle.paraid_base.specs.Xor.{zero_block};
+ghost use Rattle.paraid_plan.specs.Desk.{Desk, StagesMap};
+ghost use Rattle.paraid_plan.specs.RowWrites.{AddsTargets, AreOldRead, StageAll, StagesBlocks, TurnsRow, count_in_row, count_of_new_row, given_row, names_block, one_in_row, row_change};
+ghost use Rattle.paraid_plan.specs.RowBits.{TurnsBits, names_cell, turns_cell_of, turns_in_new_row};
+ghost use Rattle.paraid_plan.specs.WrittenBits.{bits_after_writes};
 ghost use Rattle.paraid_record.specs.Range.{IsInRange};
 ghost use Rattle.paraid_record.specs.declared.meta.Meta.{Meta as MetaType};
 
-use crate::cell::{read_old, stage_if, write_cell};
+use crate::blocks::{block_of, put};
+use crate::cell::{stage_if, write_cell};
 use crate::desk::{Lost, Plan};
+use crate::given::is_row_before;
 use crate::marks::is_written;
-use paraid_base::{Block, BlockNo, DiskNo, Pairs, Row};
+use crate::read::read_row;
+use paraid_base::{Block, DiskNo, Pairs, Row};
 use paraid_layout::{home, parity_disk};
 use paraid_record::Meta;
 
@@ -36,65 +45,218 @@ fn stage_map<P: Plan>(plan: &mut P, m: &Meta, r: Row, staged: bool)
     stage_if(plan, is_written(m.out, 1, unit), 1, 100 + j, &block);
 }
 
-// Whether one of two dirty bits is not what it was.
-fn has_changed<P: Plan>(
-    plan: &P,
-    m: &Meta,
-    r: Row,
-    d: DiskNo,
-    was: bool,
-    p: DiskNo,
-    parity_was: bool,
-) -> bool
-    requires serves { P.serves plan.now m.now }
-    requires row { r < m.now.setup.geometry.rows }
-    requires disk { d < m.now.setup.geometry.disks }
-    requires parity_disk { p < m.now.setup.geometry.disks }
-    ensures data { result ≡ false → (P.desk plan.now).dirty r d ≡ was }
-    ensures parity { result ≡ false → (P.desk plan.now).dirty r p ≡ parity_was }
+// Sets one of the bits.
+fn set_bit(bits: &mut [bool; 8], at: DiskNo, bit: bool)
+    requires { at < 8 }
+    ensures here { get_or bits.new at false ≡ bit }
+    ensures others { (x : ℕ) → x ≢ at → get_or bits.new x false ≡ get_or bits.old x false }
 {
-    plan.is_dirty(m, r, d) != was || plan.is_dirty(m, r, p) != parity_was
+    bits[at as usize] = bit;
 }
 
-/// Writes a block: its cell and the parity of its row, each in its place or its copy and in the
-/// region that is being filled, and the changed dirty bits.
-pub fn write_block<P: Plan>(
+// The dirty bits of a row.
+fn bits_of<P: Plan>(plan: &P, m: &Meta, r: Row) -> [bool; 8]
+    requires serves { P.serves plan.now m.now }
+    requires row { r < m.now.setup.geometry.rows }
+    ensures { (e : ℕ) → e < m.now.setup.geometry.disks → get_or result e false ≡ (P.desk plan.now).dirty r e }
+{
+    let mut bits = [false; 8];
+    for d in 0..m.setup.geometry.disks {
+        set_bit(&mut bits, d, plan.is_dirty(m, r, d));
+    }
+    bits
+}
+
+// Whether two bits are the same.
+fn is_same(first: bool, second: bool) -> bool
+    ensures { result ≡ true → first ≡ second }
+{
+    first == second
+}
+
+// Whether one of the dirty bits of a row is not what it was.
+fn has_changed<P: Plan>(plan: &P, m: &Meta, r: Row, was: &[bool; 8]) -> bool
+    requires serves { P.serves plan.now m.now }
+    requires row { r < m.now.setup.geometry.rows }
+    ensures { result ≡ false → (e : ℕ) → e < m.now.setup.geometry.disks → (P.desk plan.now).dirty r e ≡ get_or was.now e false }
+{
+    for d in 0..m.setup.geometry.disks {
+        let same = is_same(plan.is_dirty(m, r, d), was[d as usize]);
+        if !same {
+            return true;
+        }
+    }
+    false
+}
+
+// Writes the cell of one pair, unless it lies in another row; its new bytes are the old ones of what
+// follows.
+fn write_pair<P: Plan>(
     plan: &mut P,
     m: &Meta,
-    block: BlockNo,
-    bytes: &Block,
+    pairs: &Pairs,
+    at: usize,
+    r: Row,
+    old: &mut [Block; 8],
 ) -> Result<(), Lost>
     requires serves { P.serves plan.old m.now }
     requires in_range { IsInRange m.now }
-    requires block { block < m.now.setup.geometry.rows * (m.now.setup.geometry.disks - 1) }
-    requires room { length (P.desk plan.old).staged + 10 ≤ 80 }
-    requires bits { P.changes plan.old + 2 ≤ 16 }
-    ensures write { OnOk result (P.tells plan.new
-        → StagesWrite m.now (P.desk plan.old) (P.desk plan.new) block bytes.now) }
-    ensures few { OnOk result
-        (length (P.desk plan.new).staged ≤ length (P.desk plan.old).staged + 10) }
-    ensures changes { OnOk result (P.changes plan.new ≡ P.changes plan.old + 2) }
+    requires row { r < m.now.setup.geometry.rows }
+    requires at { at < pairs.now.count }
+    requires block { get_or pairs.now.blocks at 0 < m.now.setup.geometry.rows * (m.now.setup.geometry.disks - 1) }
+    requires room { length (P.desk plan.old).staged
+        + 4 * one_in_row m.now.setup.geometry.disks (get_or pairs.now.blocks at 0) r ≤ 80 }
+    requires bits { P.changes plan.old
+        + one_in_row m.now.setup.geometry.disks (get_or pairs.now.blocks at 0) r ≤ 16 }
+    ensures adds { OnOk result (P.tells plan.new → AddsTargets m.now (P.desk plan.old) (P.desk plan.new)) }
+    ensures turns { OnOk result (P.tells plan.new → (ws : Entry) (row : ℕ → BlockType)
+        → names_block ws (get_or pairs.now.blocks at 0) ≡ true
+        → AreOldRead m.now (P.desk plan.old) ws r old.old row
+        → TurnsRow m.now r (P.desk plan.old) (P.desk plan.new) row
+        (given_row m.now.setup.geometry.disks ((get_or pairs.now.blocks at 0, get_or pairs.now.bytes at zero_block) ∷ []) r row)) }
+    ensures old { OnOk result (P.tells plan.new → (ws : Entry) (row : ℕ → BlockType)
+        → AreOldRead m.now (P.desk plan.old) ws r old.old row → AreOldRead m.now (P.desk plan.new) ws r old.new
+        (given_row m.now.setup.geometry.disks ((get_or pairs.now.blocks at 0, get_or pairs.now.bytes at zero_block) ∷ []) r row)) }
+    ensures parity { OnOk result (P.tells plan.new → (P.desk plan.new).dirty r (parity_disk_of m.now.setup.geometry.disks r)
+        ≡ (P.desk plan.old).dirty r (parity_disk_of m.now.setup.geometry.disks r)) }
+    ensures bits { OnOk result (TurnsBits m.now (P.desk plan.old).dirty (P.desk plan.new).dirty
+        (λ q e. q == r && names_cell m.now.setup.geometry.disks ((get_or pairs.now.blocks at 0, get_or pairs.now.bytes at zero_block) ∷ []) r e)) }
+    ensures room { OnOk result (length (P.desk plan.new).staged ≤ length (P.desk plan.old).staged
+        + 4 * one_in_row m.now.setup.geometry.disks (get_or pairs.now.blocks at 0) r) }
+    ensures changes { OnOk result (P.changes plan.new ≡ P.changes plan.old
+        + one_in_row m.now.setup.geometry.disks (get_or pairs.now.blocks at 0) r) }
     ensures goes_on { OnOk result (P.serves plan.new m.now) }
     ensures fails { IfErr result (λ lost. P.fails plan.new) }
     ensures leads { P.leads plan.old plan.new }
 {
-    let (r, d) = home(&m.setup.geometry, block);
+    let (q, d) = home(&m.setup.geometry, pairs.blocks[at]);
+    if q != r {
+        return Ok(());
+    }
+    let bytes = block_of(&pairs.bytes, at);
+    write_cell(plan, m, r, d, block_of(old, d as usize), bytes)?;
+    put(old, d, bytes);
+    Ok(())
+}
+
+// Writes the cells that the pairs name in a row, one after the other.
+fn write_pairs<P: Plan>(
+    plan: &mut P,
+    m: &Meta,
+    pairs: &Pairs,
+    r: Row,
+    old: &mut [Block; 8],
+) -> Result<(), Lost>
+    requires serves { P.serves plan.old m.now }
+    requires in_range { IsInRange m.now }
+    requires row { r < m.now.setup.geometry.rows }
+    requires blocks { All (λ (pair : ℕ × BlockType). pair.0 < m.now.setup.geometry.rows * (m.now.setup.geometry.disks - 1)) (pairs_of pairs.now) }
+    requires room { length (P.desk plan.old).staged
+        + 4 * count_in_row m.now.setup.geometry.disks (pairs_of pairs.now) r ≤ 80 }
+    requires bits { P.changes plan.old + count_in_row m.now.setup.geometry.disks (pairs_of pairs.now) r ≤ 16 }
+    ensures adds { OnOk result (P.tells plan.new → AddsTargets m.now (P.desk plan.old) (P.desk plan.new)) }
+    ensures turns { OnOk result (P.tells plan.new → (row : ℕ → BlockType)
+        → AreOldRead m.now (P.desk plan.old) (pairs_of pairs.now) r old.old row
+        → TurnsRow m.now r (P.desk plan.old) (P.desk plan.new) row (given_row m.now.setup.geometry.disks (pairs_of pairs.now) r row)) }
+    ensures old { OnOk result (P.tells plan.new → (row : ℕ → BlockType)
+        → AreOldRead m.now (P.desk plan.old) (pairs_of pairs.now) r old.old row
+        → AreOldRead m.now (P.desk plan.new) (pairs_of pairs.now) r old.new (given_row m.now.setup.geometry.disks (pairs_of pairs.now) r row)) }
+    ensures parity { OnOk result (P.tells plan.new → (P.desk plan.new).dirty r (parity_disk_of m.now.setup.geometry.disks r)
+        ≡ (P.desk plan.old).dirty r (parity_disk_of m.now.setup.geometry.disks r)) }
+    ensures bits { OnOk result (TurnsBits m.now (P.desk plan.old).dirty (P.desk plan.new).dirty
+        (λ q e. q == r && names_cell m.now.setup.geometry.disks (pairs_of pairs.now) r e)) }
+    ensures room { OnOk result (length (P.desk plan.new).staged
+        ≤ length (P.desk plan.old).staged + 4 * count_in_row m.now.setup.geometry.disks (pairs_of pairs.now) r) }
+    ensures changes { OnOk result (P.changes plan.new
+        ≡ P.changes plan.old + count_in_row m.now.setup.geometry.disks (pairs_of pairs.now) r) }
+    ensures goes_on { OnOk result (P.serves plan.new m.now) }
+    ensures fails { IfErr result (λ lost. P.fails plan.new) }
+    ensures leads { P.leads plan.old plan.new }
+{
+    for at in 0..pairs.count as usize {
+        write_pair(plan, m, pairs, at, r, old)?;
+    }
+    Ok(())
+}
+
+// Eight blocks of zeros.
+fn eight_zeros() -> [Block; 8] {
+    [
+        Block::zero(),
+        Block::zero(),
+        Block::zero(),
+        Block::zero(),
+        Block::zero(),
+        Block::zero(),
+        Block::zero(),
+        Block::zero(),
+    ]
+}
+
+// Writes the cells that the pairs name in a row, its parity once, and the changed dirty bits.
+fn write_row<P: Plan>(plan: &mut P, m: &Meta, pairs: &Pairs, r: Row) -> Result<(), Lost>
+    requires serves { P.serves plan.old m.now }
+    requires in_range { IsInRange m.now }
+    requires row { r < m.now.setup.geometry.rows }
+    requires blocks { All (λ (pair : ℕ × BlockType). pair.0 < m.now.setup.geometry.rows * (m.now.setup.geometry.disks - 1)) (pairs_of pairs.now) }
+    requires some { 1 ≤ count_in_row m.now.setup.geometry.disks (pairs_of pairs.now) r }
+    requires room { length (P.desk plan.old).staged
+        + 10 * count_in_row m.now.setup.geometry.disks (pairs_of pairs.now) r ≤ 80 }
+    requires bits { P.changes plan.old + 2 * count_in_row m.now.setup.geometry.disks (pairs_of pairs.now) r ≤ 16 }
+    ensures write { OnOk result (P.tells plan.new → StagesBlocks m.now (P.desk plan.old) (P.desk plan.new)
+        (λ c x. if home_row m.now.setup.geometry.disks c == r then last_of c x (pairs_of pairs.now) else x)) }
+    ensures bits { OnOk result (TurnsBits m.now (P.desk plan.old).dirty (P.desk plan.new).dirty
+        (λ q e. q == r && turns_cell_of m.now.setup.geometry.disks (pairs_of pairs.now) r e)) }
+    ensures few { OnOk result (length (P.desk plan.new).staged
+        ≤ length (P.desk plan.old).staged + 10 * count_in_row m.now.setup.geometry.disks (pairs_of pairs.now) r) }
+    ensures changes { OnOk result (P.changes plan.new
+        ≤ P.changes plan.old + 2 * count_in_row m.now.setup.geometry.disks (pairs_of pairs.now) r) }
+    ensures goes_on { OnOk result (P.serves plan.new m.now) }
+    ensures fails { IfErr result (λ lost. P.fails plan.new) }
+    ensures leads { P.leads plan.old plan.new }
+{
     let p = parity_disk(&m.setup.geometry, r);
-    let mut old = Block::zero();
-    let mut parity = Block::zero();
+    let mut old = eight_zeros();
     let mut fixed = Block::zero();
-    read_old(plan, m, r, d, p, bytes, &mut old, &mut parity, &mut fixed)?;
-    let was = plan.is_dirty(m, r, d);
-    let parity_was = plan.is_dirty(m, r, p);
-    write_cell(plan, m, r, d, &old, bytes)?;
-    write_cell(plan, m, r, p, &parity, &fixed)?;
-    let staged = has_changed(plan, m, r, d, was, p, parity_was);
+    read_row(plan, m, pairs, r, p, &mut old, &mut fixed)?;
+    let was = bits_of(plan, m, r);
+    write_pairs(plan, m, pairs, r, &mut old)?;
+    write_cell(plan, m, r, p, block_of(&old, p as usize), &fixed)?;
+    let staged = has_changed(plan, m, r, &was);
     stage_map(plan, m, r, staged);
     Ok(())
 }
 
-/// Writes the blocks of these pairs, one after the other, in one plan: at most ten targets for
-/// each.
+// Writes the row of one pair, unless a pair before it lies in the same row.
+fn write_row_of<P: Plan>(plan: &mut P, m: &Meta, pairs: &Pairs, at: usize) -> Result<(), Lost>
+    requires serves { P.serves plan.old m.now }
+    requires in_range { IsInRange m.now }
+    requires at { at < pairs.now.count }
+    requires blocks { All (λ (pair : ℕ × BlockType). pair.0 < m.now.setup.geometry.rows * (m.now.setup.geometry.disks - 1)) (pairs_of pairs.now) }
+    requires room { length (P.desk plan.old).staged + 10 * count_of_new_row m.now.setup.geometry.disks pairs.now at ≤ 80 }
+    requires bits { P.changes plan.old + 2 * count_of_new_row m.now.setup.geometry.disks pairs.now at ≤ 16 }
+    ensures write { OnOk result (P.tells plan.new → StagesBlocks m.now (P.desk plan.old) (P.desk plan.new)
+        (row_change m.now.setup.geometry.disks pairs.now at)) }
+    ensures bits { OnOk result (TurnsBits m.now (P.desk plan.old).dirty (P.desk plan.new).dirty
+        (turns_in_new_row m.now.setup.geometry.disks pairs.now at)) }
+    ensures few { OnOk result (length (P.desk plan.new).staged
+        ≤ length (P.desk plan.old).staged + 10 * count_of_new_row m.now.setup.geometry.disks pairs.now at) }
+    ensures changes { OnOk result (P.changes plan.new
+        ≤ P.changes plan.old + 2 * count_of_new_row m.now.setup.geometry.disks pairs.now at) }
+    ensures goes_on { OnOk result (P.serves plan.new m.now) }
+    ensures fails { IfErr result (λ lost. P.fails plan.new) }
+    ensures leads { P.leads plan.old plan.new }
+{
+    let (r, _d) = home(&m.setup.geometry, pairs.blocks[at]);
+    if is_row_before(&m.setup.geometry, pairs, at, r) {
+        return Ok(());
+    }
+    write_row(plan, m, pairs, r)?;
+    Ok(())
+}
+
+/// Writes the blocks of these pairs in one plan, row by row: at most ten targets for each pair. Of
+/// several pairs that name a block the last one counts.
 pub fn write_blocks<P: Plan>(plan: &mut P, m: &Meta, pairs: &Pairs) -> Result<(), Lost>
     requires serves { P.serves plan.old m.now }
     requires in_range { IsInRange m.now }
@@ -103,6 +265,7 @@ pub fn write_blocks<P: Plan>(plan: &mut P, m: &Meta, pairs: &Pairs) -> Result<()
     requires bits { P.changes plan.old + 2 * pairs.now.count ≤ 16 }
     ensures writes { OnOk result (P.tells plan.new
         → StageAll m.now (P.desk plan.old) (P.desk plan.new) (pairs_of pairs.now)) }
+    ensures bits { OnOk result ((P.desk plan.new).dirty ≡ bits_after_writes m.now (pairs_of pairs.now) (P.desk plan.old).dirty) }
     ensures few { OnOk result
         (length (P.desk plan.new).staged ≤ length (P.desk plan.old).staged + 10 * pairs.now.count) }
     ensures goes_on { OnOk result (P.serves plan.new m.now) }
@@ -110,7 +273,7 @@ pub fn write_blocks<P: Plan>(plan: &mut P, m: &Meta, pairs: &Pairs) -> Result<()
     ensures leads { P.leads plan.old plan.new }
 {
     for at in 0..pairs.count as usize {
-        write_block(plan, m, pairs.blocks[at], &pairs.bytes[at])?;
+        write_row_of(plan, m, pairs, at)?;
     }
     Ok(())
 }

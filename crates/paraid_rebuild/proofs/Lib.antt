@@ -1,1 +1,4 @@
 pub mod ReplacingLemmas
+pub mod ReplacementEventLemmas
+pub mod MovedLemmas
+pub mod StepEventLemmas

@@ -1,12 +1,18 @@
 -- What a call leaves in which a disk is replaced.
-use Rattle.std.specs.Prelude.{◌≡◌, ◌≢◌, ℕ, ◌+◌, ◌≤◌, true, slice_index}
+use Rattle.std.specs.Prelude.{◌≡◌, ◌≢◌, ℕ, ◌+◌, ◌≤◌, true, length, Option, Some, slice_index}
 use Rattle.paraid_base.specs.declared.state.Out.{Out}
-use Rattle.paraid_rack.specs.Disks.{is_present}
+use Rattle.paraid_rack.specs.Disks.{Disks, is_present}
 use Rattle.paraid_rack.specs.Slots.{Slot}
 use Rattle.paraid_record.specs.declared.meta.Meta.{Meta}
 use Rattle.paraid_image.specs.Mark.{meta_after_loss}
 use Rattle.paraid_txn.specs.Stores.{store_rack}
+use Rattle.paraid_base.specs.History.{History}
+use Rattle.paraid_rack.specs.Told.{Ran}
+use Rattle.paraid_rack.specs.Trail.{Trail, now}
 use Rattle.paraid_core.specs.declared.staged.Core.{Core}
+use Rattle.paraid_event.specs.Service.{Service}
+use Rattle.paraid_event.specs.Stands.{ServiceStandsFor}
+use Rattle.paraid_event.specs.Steps.{MarksInMemory, ServesMarked}
 
 -- The meta after so many commits, by which disk `disk` is out so, with no spin-up counted for it; a shift down has ended,
 -- and nothing else has changed.
@@ -28,3 +34,13 @@ pub record LeavesArrayBut {R : Type 0} {g : _} (count : R → ℕ) (slot : R →
   pub setup : new.meta.setup ≡ old.meta.setup
   pub writes : new.meta.writes ≡ old.meta.writes
   pub spared : OnlyLosesBut (slot (store_rack old.store)) (slot (store_rack new.store)) disk
+
+-- In an event: from where so much is copied, the service is marked in memory, and the mark is committed.
+pub record CommitsCopies (told told_then : Option Trail) (k marked k_then : Service) (h : History) (lo : ℕ) (Copied : Disks → Type 0) : Type 0 where
+  pub mark : MarksInMemory k marked
+  pub stands : (t : Trail) → told ≡ Some t → Copied (now t) → ServiceStandsFor marked h lo (now t)
+  pub ran : Ran told told_then (ServesMarked marked k_then h lo (length h))
+  pub epoch : k_then.meta.epoch ≡ marked.meta.epoch + 1
+  pub slots : k_then.slots ≡ marked.slots
+  pub gear : marked.meta.gear ≡ k.meta.gear
+  pub phase : marked.meta.phase ≡ k.meta.phase

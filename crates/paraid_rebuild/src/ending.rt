@@ -1,14 +1,16 @@
 //! Units that are copied are marked by a commit; once all of them are, the disk comes back by one.
-ghost use Rattle.std.specs.Prelude.{◌≡◌, ℕ, ◌+◌, ◌^◌, ◌<◌, ◌≤◌, true, false, [], None, Ok, Some, OnOk, IfErr};
+ghost use Rattle.std.specs.Prelude.{◌≡◌, ℕ, ◌+◌, ◌^◌, ◌<◌, ◌≤◌, true, false, List, [], None, Ok, Some, OnOk, IfErr};
 ghost use Rattle.paraid_base.specs.declared.state.Out.TheVariants.{Fresh, No};
 ghost use Rattle.paraid_base.specs.History.{History};
 ghost use Rattle.paraid_base.specs.Told.{HasRisen};
 ghost use Rattle.paraid_core.specs.Cores.{IsCoreHeldSinceCommit, batch_of, core_down, core_rack, core_table, meta_of, store_of};
 ghost use Rattle.paraid_core.specs.Steps.{IsNamedOrAbsent};
 ghost use Rattle.paraid_core.specs.Units.{IsRebuilding, UnitsRebuilt};
+ghost use Rattle.paraid_event.specs.Service.{Service, service_of};
 ghost use Rattle.paraid_image.specs.Mark.{meta_after_loss};
-ghost use Rattle.paraid_rack.specs.declared.call.Power.TheVariants.{Spinning};
+ghost use Rattle.paraid_rack.specs.declared.call.Power.TheVariants.{Absent, Spinning};
 ghost use Rattle.paraid_rack.specs.Told.{CrashTriple, Ran};
+ghost use Rattle.paraid_rebuild.specs.Replacing.{CommitsCopies};
 ghost use Rattle.paraid_record.specs.Range.{rebuild_units};
 ghost use Rattle.paraid_shift.specs.Serving.{IsCoreServing, RestsInShift};
 ghost use Rattle.paraid_txn.specs.Losses.{AreTwoDown, OnlyLosesSlots};
@@ -42,6 +44,7 @@ pub(crate) fn mark_units<R: Rack>(core: &mut Core<R>, disk: DiskNo, end: u32) ->
         ≡ record (meta_after_loss (meta_of core.old) disk) { epoch = (meta_of core.old).epoch + 1 } }
     ensures failed { result ≡ Ok false
         → HasRisen (R.slot (core_rack core.old) disk).faults (R.slot (core_rack core.new) disk).faults }
+    ensures away { result ≡ Ok false → (R.slot (core_rack core.new) disk).power ≡ Absent }
     ensures table { core_table core.new ≡ core_table core.old }
     ensures spared { OnlyLosesSlots (R.slot (core_rack core.old)) (R.slot (core_rack core.new)) }
     ensures two { IfErr result (AreTwoDown (core_down core.old)
@@ -53,6 +56,11 @@ pub(crate) fn mark_units<R: Rack>(core: &mut Core<R>, disk: DiskNo, end: u32) ->
         → Ran (R.told (core_rack core.old)) (R.told (core_rack core.new))
         (CrashTriple (IsCoreHeldSinceCommit R.slot_count core.old h lo)
         (UnitsRebuilt R.slot_count core.old h lo end) (RestsInShift R.slot_count core.new h lo))) }
+    ensures event { OnOk result ((samples : List ℕ) (served energy : ℕ) (h : History) (lo : ℕ) → (marked : Service)
+        × CommitsCopies (R.told (core_rack core.old)) (R.told (core_rack core.new))
+        (service_of R.slot_count core.old samples served energy) marked
+        (service_of R.slot_count core.new samples served energy) h lo
+        (UnitsRebuilt R.slot_count core.old h lo end)) }
 {
     core.mark_rebuilt(end);
     core.commit()?;

@@ -3,11 +3,12 @@ ghost use Rattle.std.specs.Prelude.{◌≡◌, ℕ, ◌+◌, ◌<◌, ◌≤◌,
 ghost use Rattle.paraid_base.specs.History.{History};
 ghost use Rattle.paraid_base.specs.States.{rebuilt_count};
 ghost use Rattle.paraid_base.specs.Told.{HasRisen};
+ghost use Rattle.paraid_core.specs.Calls.{MakesDataCalls};
 ghost use Rattle.paraid_core.specs.Cores.{CanCoreServe, CoreStandsFor, IsCoreHeldSinceCommit, IsCoreReady, batch_of, core_down, core_rack, draft_of, meta_of};
 ghost use Rattle.paraid_core.specs.Steps.{LeavesCore};
 ghost use Rattle.paraid_core.specs.Units.{IsRebuilding, UnitsRebuilt};
 ghost use Rattle.paraid_image.specs.Mark.{meta_after_loss};
-ghost use Rattle.paraid_rack.specs.declared.call.Power.TheVariants.{Spinning};
+ghost use Rattle.paraid_rack.specs.declared.call.Power.TheVariants.{Absent, Spinning};
 ghost use Rattle.paraid_rack.specs.Told.{CrashTriple, Ran};
 ghost use Rattle.paraid_record.specs.Range.{rebuild_units};
 ghost use Rattle.paraid_shift.specs.Serving.{IsCoreServing};
@@ -36,7 +37,9 @@ fn copy_units<R: Rack>(core: &mut Core<R>, disk: DiskNo, first: u32, end: u32) -
     ensures gone { result ≡ Ok false → meta_of core.new ≡ meta_after_loss (meta_of core.old) disk }
     ensures failed { result ≡ Ok false
         → HasRisen (R.slot (core_rack core.old) disk).faults (R.slot (core_rack core.new) disk).faults }
+    ensures away { result ≡ Ok false → (R.slot (core_rack core.new) disk).power ≡ Absent }
     ensures spared { OnlyLosesSlots (R.slot (core_rack core.old)) (R.slot (core_rack core.new)) }
+    ensures calls { MakesDataCalls R.told core.old core.new }
     ensures two { IfErr result (AreTwoDown (core_down core.old)
         (R.slot (core_rack core.old)) (R.slot (core_rack core.new))) }
     ensures copied { result ≡ Ok true → (h : History) (lo : ℕ)
@@ -82,7 +85,9 @@ pub(crate) fn move_units<R: Rack>(
     ensures gone { result ≡ Ok false → meta_of core.new ≡ meta_after_loss (meta_of core.old) disk }
     ensures failed { result ≡ Ok false
         → HasRisen (R.slot (core_rack core.old) disk).faults (R.slot (core_rack core.new) disk).faults }
+    ensures away { result ≡ Ok false → (R.slot (core_rack core.new) disk).power ≡ Absent }
     ensures spared { OnlyLosesSlots (R.slot (core_rack core.old)) (R.slot (core_rack core.new)) }
+    ensures calls { MakesDataCalls R.told core.old core.new }
     ensures two { IfErr result (AreTwoDown (core_down core.old)
         (R.slot (core_rack core.old)) (R.slot (core_rack core.new))) }
     ensures copied { result ≡ Ok true → (h : History) (lo : ℕ)

@@ -1,6 +1,6 @@
 //! A disk that is out is replaced: that it is gone is committed, with all that is staged; then a fresh disk is attached
 //! in its place, and that it is there is committed.
-ghost use Rattle.std.specs.Prelude.{◌≡◌, ◌≢◌, ℕ, ◌+◌, ◌^◌, ◌<◌, ◌≤◌, ◌⊎◌, true, false, [], length, Ok, None, Some, OnOk, IfErr};
+ghost use Rattle.std.specs.Prelude.{◌≡◌, ◌≢◌, ℕ, ◌+◌, ◌^◌, ◌<◌, ◌≤◌, ◌⊎◌, true, false, List, [], length, Ok, None, Some, OnOk, IfErr};
 ghost use Rattle.paraid_base.specs.declared.state.Out.TheVariants.{Fresh, Gone};
 ghost use Rattle.paraid_base.specs.History.{History};
 ghost use Rattle.paraid_base.specs.Regions.{disk_size};
@@ -9,6 +9,8 @@ ghost use Rattle.paraid_base.specs.Told.{HasRisen};
 ghost use Rattle.paraid_core.specs.Cores.{CoreStandsFor, IsCoreHeld, batch_of, core_down, core_rack, core_table, meta_of, store_of};
 ghost use Rattle.paraid_core.specs.Replaced.{CoreCommitted};
 ghost use Rattle.paraid_core.specs.Steps.{IsNamedOrAbsent};
+ghost use Rattle.paraid_event.specs.Replacements.{BringsFresh, CommitsReplaced, ReplacesDisk};
+ghost use Rattle.paraid_event.specs.Service.{Service, service_of};
 ghost use Rattle.paraid_image.specs.Out.{named_out};
 ghost use Rattle.paraid_rack.specs.declared.call.Power.TheVariants.{Spinning};
 ghost use Rattle.paraid_rack.specs.Told.{CrashTriple, Ran};
@@ -51,6 +53,11 @@ fn commit_gone<R: Rack>(core: &mut Core<R>, disk: DiskNo) -> Result<(), Two>
         → Ran (R.told (core_rack core.old)) (R.told (core_rack core.new))
         (CrashTriple (IsCoreHeld R.slot_count core.old h lo) (CoreStandsFor R.slot_count core.old h lo)
         (CoreCommitted R.slot_count core.new h (length h) (Gone disk)))) }
+    // In an event it is the mark and the commit of it.
+    ensures event { OnOk result ((samples : List ℕ) (served energy : ℕ) (h : History) (lo : ℕ) → (marked : Service)
+        × CommitsReplaced (R.told (core_rack core.old)) (R.told (core_rack core.new))
+        (service_of R.slot_count core.old samples served energy) marked
+        (service_of R.slot_count core.new samples served energy) h lo disk) }
 {
     core.mark_out(disk);
     core.clear_spins(disk);
@@ -95,6 +102,10 @@ fn bring_fresh<R: Rack>(core: &mut Core<R>, disk: DiskNo) -> Result<bool, Two>
         (CrashTriple (IsCoreHeld R.slot_count core.old h (length h))
         (CoreCommitted R.slot_count core.old h (length h) (Gone disk))
         (CoreCommitted R.slot_count core.new h (length h) (Fresh disk 0))) }
+    ensures event { OnOk result ((samples : List ℕ) (served energy : ℕ) (h : History) (lo : ℕ)
+        → BringsFresh (R.told (core_rack core.old)) (R.told (core_rack core.new))
+        (service_of R.slot_count core.old samples served energy)
+        (service_of R.slot_count core.new samples served energy) h lo disk) }
 {
     if !core.attach(disk) {
         return Ok(false);
@@ -146,6 +157,11 @@ pub fn begin<R: Rack>(core: &mut Core<R>, disk: DiskNo) -> Result<bool, Two>
         → Ran (R.told (core_rack core.old)) (R.told (core_rack core.new))
         (CrashTriple (IsCoreHeld R.slot_count core.old h lo) (CoreStandsFor R.slot_count core.old h lo)
         (CoreCommitted R.slot_count core.new h (length h) (Fresh disk 0))) }
+    // In an event these are the calls in which a disk is replaced.
+    ensures event { OnOk result ((samples : List ℕ) (served energy : ℕ) (h : History) (lo : ℕ)
+        → ReplacesDisk (R.told (core_rack core.old)) (R.told (core_rack core.new))
+        (service_of R.slot_count core.old samples served energy)
+        (service_of R.slot_count core.new samples served energy) h lo disk) }
 {
     commit_gone(core, disk)?;
     let there = bring_fresh(core, disk)?;

@@ -1,15 +1,16 @@
 //! A step of a rebuild: what is staged is committed first, then units are copied and marked by a commit.
-ghost use Rattle.std.specs.Prelude.{◌≡◌, ℕ, ◌+◌, ◌^◌, ◌<◌, ◌≤◌, true, false, [], Ok, Some, OnOk, IfErr};
-ghost use Rattle.paraid_base.specs.declared.state.Out.TheVariants.{Fresh};
+ghost use Rattle.std.specs.Prelude.{◌≡◌, ℕ, ◌+◌, ◌^◌, ◌<◌, ◌≤◌, true, false, List, [], Ok, Some, OnOk, IfErr};
+ghost use Rattle.paraid_base.specs.declared.state.Out.TheVariants.{Fresh, Gone};
 ghost use Rattle.paraid_base.specs.History.{History};
 ghost use Rattle.paraid_base.specs.States.{rebuilt_count};
 ghost use Rattle.paraid_base.specs.Told.{HasRisen};
 ghost use Rattle.paraid_core.specs.Cores.{CoreStandsFor, IsCoreHeldSinceCommit, batch_of, core_down, core_rack, core_table, meta_of, store_of};
 ghost use Rattle.paraid_core.specs.Steps.{IsNamedOrAbsent};
 ghost use Rattle.paraid_core.specs.Units.{IsRebuilding};
+ghost use Rattle.paraid_event.specs.Service.{service_of};
+ghost use Rattle.paraid_event.specs.Steps.{StepsInEvent};
 ghost use Rattle.paraid_image.specs.Mark.{meta_after_loss};
-ghost use Rattle.paraid_image.specs.Out.{named_out};
-ghost use Rattle.paraid_rack.specs.declared.call.Power.TheVariants.{Spinning};
+ghost use Rattle.paraid_rack.specs.declared.call.Power.TheVariants.{Absent, Spinning};
 ghost use Rattle.paraid_rack.specs.Told.{CrashTriple, Ran};
 ghost use Rattle.paraid_record.specs.Range.{rebuild_units};
 ghost use Rattle.paraid_shift.specs.Serving.{IsHeldFromRest, IsHeldInShift, IsCoreServing, RestsInShift, StandsInShift};
@@ -49,6 +50,7 @@ pub fn commit_staged<R: Rack>(core: &mut Core<R>, disk: DiskNo) -> Result<bool, 
         ≡ record (meta_after_loss (meta_of core.old) disk) { epoch = (meta_of core.old).epoch + 1 } }
     ensures failed { result ≡ Ok false
         → HasRisen (R.slot (core_rack core.old) disk).faults (R.slot (core_rack core.new) disk).faults }
+    ensures away { result ≡ Ok false → (R.slot (core_rack core.new) disk).power ≡ Absent }
     ensures table { core_table core.new ≡ core_table core.old }
     ensures spared { OnlyLosesSlots (R.slot (core_rack core.old)) (R.slot (core_rack core.new)) }
     ensures two { IfErr result (AreTwoDown (core_down core.old)
@@ -58,6 +60,11 @@ pub fn commit_staged<R: Rack>(core: &mut Core<R>, disk: DiskNo) -> Result<bool, 
         → Ran (R.told (core_rack core.old)) (R.told (core_rack core.new))
         (CrashTriple (IsCoreHeldSinceCommit R.slot_count core.old h lo) (StandsInShift R.slot_count core.old h lo)
         (RestsInShift R.slot_count core.new h lo))) }
+    // In an event it is a part with at most one commit.
+    ensures event { OnOk result ((samples : List ℕ) (served energy : ℕ) (h : History) (lo : ℕ)
+        → Ran (R.told (core_rack core.old)) (R.told (core_rack core.new))
+        (StepsInEvent (service_of R.slot_count core.old samples served energy)
+        (service_of R.slot_count core.new samples served energy) h lo 1)) }
 {
     if is_clear(core) {
         return Ok(true);
@@ -72,7 +79,7 @@ pub fn commit_staged<R: Rack>(core: &mut Core<R>, disk: DiskNo) -> Result<bool, 
 // Commits that the disk which was rebuilt is gone again.
 fn commit_lost<R: Rack>(core: &mut Core<R>, disk: DiskNo) -> Result<(), Two>
     requires serving { IsCoreServing R.slot_count R.slot core.old }
-    requires out { named_out (meta_of core.old).out ≡ Some disk }
+    requires out { (meta_of core.old).out ≡ Gone disk }
     requires named { named_of (store_of core.old) ≡ Some disk }
     requires epoch { (meta_of core.old).epoch < 2 ^ 63 }
     ensures serving { OnOk result (IsCoreServing R.slot_count R.slot core.new) }
@@ -93,6 +100,10 @@ fn commit_lost<R: Rack>(core: &mut Core<R>, disk: DiskNo) -> Result<(), Two>
         → Ran (R.told (core_rack core.old)) (R.told (core_rack core.new))
         (CrashTriple (IsCoreHeldSinceCommit R.slot_count core.old h lo) (CoreStandsFor R.slot_count core.old h lo)
         (RestsInShift R.slot_count core.new h lo))) }
+    ensures event { OnOk result ((samples : List ℕ) (served energy : ℕ) (h : History) (lo : ℕ)
+        → Ran (R.told (core_rack core.old)) (R.told (core_rack core.new))
+        (StepsInEvent (service_of R.slot_count core.old samples served energy)
+        (service_of R.slot_count core.new samples served energy) h lo 1)) }
 {
     core.mark_out(disk);
     core.commit()?;
@@ -122,6 +133,7 @@ fn advance<R: Rack>(core: &mut Core<R>, disk: DiskNo, end: u32) -> Result<bool, 
         ≡ record (meta_after_loss (meta_of core.old) disk) { epoch = (meta_of core.new).epoch } }
     ensures failed { result ≡ Ok false
         → HasRisen (R.slot (core_rack core.old) disk).faults (R.slot (core_rack core.new) disk).faults }
+    ensures away { result ≡ Ok false → (R.slot (core_rack core.new) disk).power ≡ Absent }
     ensures table { OnOk result (core_table core.new ≡ core_table core.old) }
     ensures spared { OnlyLosesSlots (R.slot (core_rack core.old)) (R.slot (core_rack core.new)) }
     ensures two { IfErr result (AreTwoDown (core_down core.old)
@@ -135,6 +147,10 @@ fn advance<R: Rack>(core: &mut Core<R>, disk: DiskNo, end: u32) -> Result<bool, 
         → Ran (R.told (core_rack core.old)) (R.told (core_rack core.new))
         (CrashTriple (IsCoreHeldSinceCommit R.slot_count core.old h lo) (RestsInShift R.slot_count core.old h lo)
         (RestsInShift R.slot_count core.new h lo)) }
+    ensures event { OnOk result ((samples : List ℕ) (served energy : ℕ) (h : History) (lo : ℕ)
+        → Ran (R.told (core_rack core.old)) (R.told (core_rack core.new))
+        (StepsInEvent (service_of R.slot_count core.old samples served energy)
+        (service_of R.slot_count core.new samples served energy) h lo 1)) }
 {
     let first = core.out().rebuilt();
     let copied = move_units(core, disk, first, end)?;
@@ -167,6 +183,7 @@ fn go_on<R: Rack>(core: &mut Core<R>, disk: DiskNo, end: u32) -> Result<bool, Tw
         ≡ record (meta_after_loss (meta_of core.old) disk) { epoch = (meta_of core.new).epoch } }
     ensures failed { result ≡ Ok false
         → HasRisen (R.slot (core_rack core.old) disk).faults (R.slot (core_rack core.new) disk).faults }
+    ensures away { result ≡ Ok false → (R.slot (core_rack core.new) disk).power ≡ Absent }
     ensures table { OnOk result (core_table core.new ≡ core_table core.old) }
     ensures spared { OnlyLosesSlots (R.slot (core_rack core.old)) (R.slot (core_rack core.new)) }
     ensures two { IfErr result (AreTwoDown (core_down core.old)
@@ -180,6 +197,10 @@ fn go_on<R: Rack>(core: &mut Core<R>, disk: DiskNo, end: u32) -> Result<bool, Tw
         → Ran (R.told (core_rack core.old)) (R.told (core_rack core.new))
         (CrashTriple (IsCoreHeldSinceCommit R.slot_count core.old h lo) (StandsInShift R.slot_count core.old h lo)
         (RestsInShift R.slot_count core.new h lo)) }
+    ensures event { OnOk result ((samples : List ℕ) (served energy : ℕ) (h : History) (lo : ℕ)
+        → Ran (R.told (core_rack core.old)) (R.told (core_rack core.new))
+        (StepsInEvent (service_of R.slot_count core.old samples served energy)
+        (service_of R.slot_count core.new samples served energy) h lo 2)) }
 {
     let there = commit_staged(core, disk)?;
     if !there {
@@ -215,6 +236,7 @@ pub fn step<R: Rack>(core: &mut Core<R>, disk: DiskNo, end: u32) -> Result<bool,
         ≡ record (meta_after_loss (meta_of core.old) disk) { epoch = (meta_of core.new).epoch } }
     ensures failed { result ≡ Ok false
         → HasRisen (R.slot (core_rack core.old) disk).faults (R.slot (core_rack core.new) disk).faults }
+    ensures away { result ≡ Ok false → (R.slot (core_rack core.new) disk).power ≡ Absent }
     ensures table { OnOk result (core_table core.new ≡ core_table core.old) }
     ensures spared { OnlyLosesSlots (R.slot (core_rack core.old)) (R.slot (core_rack core.new)) }
     ensures two { IfErr result (AreTwoDown (core_down core.old)
@@ -225,6 +247,11 @@ pub fn step<R: Rack>(core: &mut Core<R>, disk: DiskNo, end: u32) -> Result<bool,
         → Ran (R.told (core_rack core.old)) (R.told (core_rack core.new))
         (CrashTriple (IsCoreHeldSinceCommit R.slot_count core.old h lo) (StandsInShift R.slot_count core.old h lo)
         (RestsInShift R.slot_count core.new h lo))) }
+    // In an event these are parts with at most three commits.
+    ensures event { OnOk result ((samples : List ℕ) (served energy : ℕ) (h : History) (lo : ℕ)
+        → Ran (R.told (core_rack core.old)) (R.told (core_rack core.new))
+        (StepsInEvent (service_of R.slot_count core.old samples served energy)
+        (service_of R.slot_count core.new samples served energy) h lo 3)) }
 {
     let moved = go_on(core, disk, end)?;
     if moved {

@@ -16,7 +16,7 @@ use Rattle.paraid_txn.specs.Losses.{AreGoneSince, IsOutOfCommit, AreTwoDownBesid
 use Rattle.paraid_txn.specs.Uses.{EachCall}
 use Rattle.paraid_recover.specs.EndOfMount.{IsMarkAtEnd, IsMarkAtMoment, KeepsDirty}
 use Rattle.paraid_recover.specs.HeldMoments.{EndsHeld, RecoversHeld, ShowsAtEnd}
-use Rattle.paraid_recover.specs.Mounted.{with_loss}
+use Rattle.paraid_recover.specs.Mounted.{IsStandingWithLoss, with_loss}
 use Rattle.paraid_recover.specs.MountCalls.{OnlyMountCalls}
 use Rattle.paraid_recover.specs.RecoveryMark.{with_mark}
 use Rattle.paraid_recover.specs.StandingMetas.{StandsThroughMount}
@@ -58,11 +58,13 @@ pub record HasSettled (side : ℕ) (said : LogState) (m : Meta) (dirty : ℕ →
   pub cells : (slots : ℕ) → KeepsDirty slots side said standing recovered.read new
 
 -- A mount is served: no cause of a refusal is there, before the reads of the log disks and after them,
--- by which log disk `side` stands with this; and it is this that is recovered and settled.
-pub record HasMounted (count : ℕ) (old : ℕ → Slot) (m : Meta) (dirty : ℕ → ℕ → Bool) (told_old told_new : Option Trail) : Type 0 where
+-- by which log disk `side` stands with this; and it is this that is recovered and settled. The array is
+-- served under the meta that stands at the end, over these slots.
+pub record HasMounted (count : ℕ) (old new : ℕ → Slot) (named : Option ℕ) (m : Meta) (dirty : ℕ → ℕ → Bool) (told_old told_new : Option Trail) : Type 0 where
   pub side : ℕ
   pub said : LogState
   pub settled : HasSettled side said m dirty told_old told_new
+  pub under : IsStandingWithLoss new named settled.standing m
   pub read : ℕ → Slot
   pub agrees : (t : Trail) → settled.recovered.read ≡ Some t → Agrees (now t) read
   pub examined : IsExamined count old read settled.recovered.read side said

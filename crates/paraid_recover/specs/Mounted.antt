@@ -12,6 +12,7 @@ use Rattle.paraid_image.specs.Mark.{marked_gone}
 use Rattle.paraid_image.specs.Out.{named_out}
 use Rattle.paraid_image.specs.Power.{power_by_gear}
 use Rattle.paraid_txn.specs.Losses.{IsSyncedAt, IsOneOut}
+use Rattle.paraid_recover.specs.RecoveryMark.{to_mark}
 
 -- The slots fit the meta: each disk of the array has its slot, and each that is there and not gone
 -- its size; no disk is parked that is to spin, no log disk is parked, and one disk at most is out.
@@ -33,6 +34,12 @@ AreAllSynced m slot = (d : ℕ) → d < m.setup.geometry.disks → gone_out m.ou
 abbrev pub with_loss : Meta → Option ℕ → Meta
 with_loss m None = m
 with_loss m (Some d) = marked_gone m d m.epoch
+
+-- The array is served with the meta that stands, and with the mark of a disk that is absent by the slots, or of none. The
+-- disk that the last commit named out is the one that the meta that stands names.
+pub record IsStandingWithLoss (slot : ℕ → Slot) (named : Option ℕ) (standing m : Meta) : Type 0 where
+  pub named_by : named ≡ named_out standing.out
+  pub is : m ≡ with_loss standing (to_mark (λ d. (slot d).power) standing)
 
 -- With this meta the array is served; it has version 2. The last commit had this epoch, on an array
 -- of so many disks, and named this disk out; the table has a row for each of the array.

@@ -26,7 +26,7 @@ ghost use Rattle.paraid_recover.specs.Quiet.{IsStill};
 ghost use Rattle.paraid_rack.specs.Told.{Ran};
 ghost use Rattle.paraid_txn.specs.Uses.{EachCall};
 ghost use Rattle.paraid_recover.specs.Mount.{HasMounted, IsCauseOfRefusal};
-ghost use Rattle.paraid_recover.specs.Mounted.{AreAllSynced, IsFit, IsServable, with_loss as with_loss_of};
+ghost use Rattle.paraid_recover.specs.Mounted.{AreAllSynced, IsFit, IsServable, IsStandingWithLoss, with_loss as with_loss_of};
 ghost use Rattle.paraid_txn.specs.Losses.{AreFailedOrWell, AreGoneSince, IsOutOfCommit, OnlyLosesSlots, AreTwoDownBeside};
 ghost use Rattle.paraid_txn.specs.Stores.{disks_of, epoch_of, named_of as named_by, store_out, store_rack};
 
@@ -185,7 +185,8 @@ fn raise<R: Rack>(
         × ((slots x : ℕ) (said : LogState) (old : Option Trail)
         → said.meta ≡ meta.now → Recovers slots x said old (R.told (store_rack store.old))
         → EndsHeld slots x said standing old (R.told (store_rack store.new)))
-        × IsMarkAtEnd standing lost (R.told (store_rack store.new))) }
+        × IsMarkAtEnd standing lost (R.told (store_rack store.new))
+        × IsStandingWithLoss (R.slot (store_rack store.new)) (named_by store.new) standing m) }
     ensures map { IfOk result (λ m. HasMap meta.now.setup.geometry (store_out R.slot store.old)
         (is_dirty table.new) (R.told (store_rack store.old)) (R.told (store_rack store.new))) }
 {
@@ -269,7 +270,8 @@ fn bring_up<R: Rack>(
         × IsMarkAtEnd stands lost (R.told (store_rack it.store))
         × ((slots : ℕ) → KeepsDirty slots standing.now.side
         (log_state standing.now.gate_open standing.now.meta batch) stands
-        (R.told rack) (R.told (store_rack it.store)))) }
+        (R.told rack) (R.told (store_rack it.store)))
+        × IsStandingWithLoss (R.slot (store_rack it.store)) (named_by it.store) stands it.meta) }
 {
     let meta = &standing.meta;
     let mut store = match Store::resume(rack, standing.side, standing.gate_open, &batch, meta) {
@@ -313,7 +315,8 @@ pub fn mount<R: Rack>(alloc: Global, batch: Batch, rack: R) -> Result<Mounted<R>
     ensures nothing { IfOk result (λ it. it.batch ≡ []) }
     // no cause of a refusal was there, and all that is told is told of what stood then
     ensures served { IfOk result (λ it. HasMounted (R.slot_count rack) (R.slot rack)
-        it.meta (is_dirty it.dirty) (R.told rack) (R.told (store_rack it.store))) }
+        (R.slot (store_rack it.store)) (named_by it.store) it.meta (is_dirty it.dirty)
+        (R.told rack) (R.told (store_rack it.store))) }
     ensures refused { IfErr result (λ refused. IsCauseOfRefusal (R.slot_count rack)
         (R.slot rack) (R.slot refused.rack) (R.told rack) (R.told refused.rack)
         refused.fault) }

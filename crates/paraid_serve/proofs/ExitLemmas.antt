@@ -1,21 +1,28 @@
 -- What a run leaves is a rack that held a history.
-use Rattle.std.proofs.Common.{◌≡◌, ℕ, List, [], ◌∷◌, ◌++◌, take, drop, Option, Some, None, refl, sym, ap, ◌∙◌, inl, inr, subst, take-append-drop}
+use Rattle.std.proofs.Common.{◌≡◌, ℕ, List, [], ◌∷◌, ◌++◌, take, drop, Option, Some, None, refl, sym, ap, ◌∙◌, inl, inr, subst, arith, take-append-drop}
 use Rattle.paraid_base.specs.declared.fault.Halt.{Halt}
 use Rattle.paraid_base.specs.declared.fault.Halt.TheVariants.{Two as HaltTwo, Worn}
 use Rattle.paraid_base.specs.declared.fault.Two.{Two}
+use Rattle.paraid_base.specs.declared.event.Answer.{Answer}
+use Rattle.paraid_base.specs.declared.event.Answer.TheVariants.{Bad as IsBad, Flushed, Halted}
 use Rattle.paraid_base.specs.declared.event.Event.{Event}
+use Rattle.paraid_base.specs.declared.event.Event.TheVariants.{Flush}
+use Rattle.paraid_io.specs.Lines.{lines_of}
 use Rattle.paraid_rack.specs.declared.call.Call.{Call}
 use Rattle.paraid_rack.specs.Disks.{Disks, step}
 use Rattle.paraid_rack.specs.Trail.{Trail, disks, initial, now, run}
 use Rattle.paraid_rack.proofs.TrailsLemmas.{now-extend}
 use Rattle.paraid_record.specs.declared.meta.Setup.{Setup}
 use Rattle.paraid_image.specs.Out.{named_out}
+use Rattle.paraid_image.specs.Rest.{AreSynced}
 use Rattle.paraid_image.specs.RunStart.{IsRunStart}
 use Rattle.paraid_session.proofs.RunStartLemmas.{mark_entry}
 use Rattle.paraid_session.specs.Mount.{IsMountedFromEach}
-use Rattle.paraid_serve.specs.Output.{FollowsFromPoint, Headline, IsLeftByStretch, ProgramRun}
+use Rattle.paraid_serve.specs.Output.{FollowsFromPoint, Headline, IsLeftByStretch, OutputText, ProgramRun, WritesOutput}
 use Rattle.paraid_serve.specs.Output.IsLeftByStretch.{two_down as left_two, rests as left_rests}
-use Rattle.paraid_serve.specs.Stretch.{Stretch, Turn, TurnsLead, turn_calls}
+use Rattle.paraid_serve.specs.Output.OutputText.{done as text_done, halted as text_halted, source as text_source, too_long as text_long}
+use Rattle.paraid_serve.specs.Output.WritesOutput.{whole as wrote_whole, last_line as wrote_last, answers as wrote_answers}
+use Rattle.paraid_serve.specs.Stretch.{EndsStretch, Stretch, Turn, TurnsLead, events_in, turn_calls}
 use Rattle.paraid_session.specs.Turn.{IsMark, IsTurn, Point, with_halt}
 use Rattle.paraid_session.specs.Turn.IsTurn.{again, answered, bad, two, worn}
 
@@ -76,6 +83,19 @@ stretch_leaves slots setup start final p events c mark here =
       | rests m ↦ left_rests (subst (λ (s : Disks). IsRunStart slots s c.end.history c.end.low (named_out c.end.state.out)) there (mark_entry slots setup c.end m))
     ]
 
+-- the last turn of a session
+last_turn : (slots : ℕ) (setup : Setup) (p q : Point) (ts : List Turn) (t : Turn) → TurnsLead slots setup p (ts ++ t ∷ []) q → (mid : Point) × IsTurn slots setup mid t.event t.answer t.calls q
+last_turn slots setup p q [] t went = (p, subst (λ (x : Point). IsTurn slots setup p t.event t.answer t.calls x) (sym went.2) went.1)
+last_turn slots setup p q (x ∷ ts) t went = last_turn slots setup went.0 q ts t went.2
+
+-- after a flush that is answered there is no halt
+flushed_going : (slots : ℕ) (setup : Setup) (p q : Point) (e : Event) (a : Answer) (cs : List Call) (writes : ℕ) → IsTurn slots setup p e a cs q → a ≡ Flushed writes → q.halt ≡ None
+flushed_going slots setup p q e a cs writes (answered going apart it) is = it.going
+flushed_going slots setup p q e a cs writes (two pair going apart halted it) is = absurd (let z : Halted (HaltTwo pair) ≡ Flushed writes = sym halted ∙ is in cc)
+flushed_going slots setup p q e a cs writes (worn count going apart halted it none same) is = absurd (let z : Halted (Worn count) ≡ Flushed writes = sym halted ∙ is in cc)
+flushed_going slots setup p q e a cs writes (again halt was apart halted none same) is = absurd (let z : Halted halt ≡ Flushed writes = sym halted ∙ is in cc)
+flushed_going slots setup p q e a cs writes (bad was isbad none same) is = absurd (let z : IsBad ≡ Flushed writes = sym isbad ∙ is in cc)
+
 same_trail : (o : Option Trail) (a b : Trail) → o ≡ Some a → o ≡ Some b → a ≡ b
 same_trail o a b e f = some_same a b (sym e ∙ f)
   where
@@ -103,6 +123,30 @@ IsMountedFromEach-follows slots setup began start P Q more mounted t tells h lo 
       ];
     }
 
+module _ (slots : ℕ) (setup : Setup) (start final : Option Trail) (p : Point) (mark : IsMark slots setup p) (here : (t : Trail) → start ≡ Some t → p.disks ≡ now t) where
+  -- where the last answer is that to a flush, nothing is loose
+  ends_synced : (events : List Event) (writes : ℕ) (e : EndsStretch slots setup start final p events (Flushed writes)) → AreSynced (now e.all.to)
+  ends_synced events writes e =
+      let last = last_turn slots setup p e.all.end e.before e.last (subst (λ (ts : List Turn). TurnsLead slots setup p ts e.all.end) e.split e.all.went) in
+      let going = flushed_going slots setup last.0 e.all.end e.last.event e.last.answer e.last.calls writes last.1 e.answered in
+      elim (stretch_leaves slots setup start final p events e.all mark (here e.all.from e.all.was)) [
+        | left_two pair halted ↦ absurd (none_some e.all.end.halt (HaltTwo pair) going halted)
+        | left_rests r ↦ r.synced
+      ]
+
+  text_synced : (bytes : List ℕ) (code : ℕ) (text : List ℕ) → OutputText slots setup start final p bytes code text → code ≡ 0 → (t : Trail) → final ≡ Some t → AreSynced (now t)
+  text_synced bytes code text (text_done writes e) zero t tells =
+      subst (λ (u : Trail). AreSynced (now u)) (same_trail final e.all.to t e.all.is tells) (ends_synced (events_in (lines_of bytes) ++ Flush ∷ []) writes e)
+  text_synced bytes code text (text_halted (HaltTwo pair) e) zero t tells = absurd (omega (arith, zero))
+  text_synced bytes code text (text_halted (Worn count) e) zero t tells = absurd (omega (arith, zero))
+  text_synced bytes code text (text_source c) zero t tells = absurd (omega (arith, zero))
+  text_synced bytes code text (text_long ten c) zero t tells = absurd (omega (arith, zero))
+
+  pub output_synced : (bytes : List ℕ) (status : ℕ) (text : List ℕ) → WritesOutput slots setup start final p bytes status text → status ≡ 0 → (t : Trail) → final ≡ Some t → AreSynced (now t)
+  output_synced bytes status text (wrote_whole out) zero = text_synced bytes status text out zero
+  output_synced bytes status text (wrote_last four code full rest out front) zero = absurd (omega (arith, four, zero))
+  output_synced bytes status text (wrote_answers four lines more rest lines_are c front) zero = absurd (omega (arith, four, zero))
+
 pub headline : (slots : ℕ) (setup : Setup) (began : ℕ) (stood : Point → Type 0) (start final : Option Trail) (left_before left written_before written : Option (List ℕ)) (status : ℕ)
     → IsMountedFromEach slots setup began start stood → ProgramRun slots setup stood start final left_before left written_before written status
     → Headline slots setup began start final left_before left written_before written status
@@ -118,5 +162,6 @@ headline slots setup began stood start final left_before left written_before wri
       (λ p mark here at_p. record {
         wrote = r.wrote t p at_p;
         left = λ events c. stretch_leaves slots setup start final p events c mark (here c.from c.was);
+        synced = output_synced slots setup start final p mark here r.bytes status r.text (r.wrote t p at_p);
       }) mounted;
 }

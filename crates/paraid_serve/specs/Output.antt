@@ -12,6 +12,7 @@ use Rattle.paraid_record.specs.declared.meta.Setup.{Setup}
 use Rattle.paraid_base.specs.declared.event.Event.{Event}
 use Rattle.paraid_base.specs.declared.fault.Two.{Two}
 use Rattle.paraid_image.specs.Out.{named_out}
+use Rattle.paraid_image.specs.Rest.{AreSynced}
 use Rattle.paraid_image.specs.RunStart.{IsRunStart}
 use Rattle.paraid_session.specs.Mount.{IsMountedFromEach}
 use Rattle.paraid_serve.specs.Form.{HasAnswers}
@@ -91,10 +92,12 @@ pub data IsLeftByStretch (slots : ℕ) {setup : Setup} {start final : Option Tra
   two_down : (pair : Two) → c.end.halt ≡ Some (HaltTwo pair) → IsLeftByStretch slots c
   rests : IsRunStart slots (now c.to) c.end.history c.end.low (named_out c.end.state.out) → IsLeftByStretch slots c
 
--- what follows from the first point of a session
+-- What follows from the first point of a session. After a run that ends well no block of a disk that is there is loose, so no stop
+-- changes one.
 pub record FollowsFromPoint (slots : ℕ) (setup : Setup) (start final : Option Trail) (bytes : List ℕ) (status : ℕ) (text : List ℕ) (p : Point) : Type 0 where
   pub wrote : WritesOutput slots setup start final p bytes status text
   pub left : (events : List Event) (c : Stretch slots setup start final p events) → IsLeftByStretch slots c
+  pub synced : status ≡ 0 → (t : Trail) → final ≡ Some t → AreSynced (now t)
 
 -- The headline. The run took these bytes, and its text has the form of a run's. On a rack that held a
 -- history the mount keeps it; and from its end on, unless two disks are down there, the text is what

@@ -27,9 +27,6 @@ pub trait Serves {
     /// What it is configured to be.
     ghost setup: { Self → Setup };
 
-    /// The moment of the record at which its mount began.
-    ghost began: { Self → ℕ };
-
     /// How its disks are powered.
     ghost power: { Self → ℕ → Power };
 

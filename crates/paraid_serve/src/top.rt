@@ -1,4 +1,4 @@
-ghost use Rattle.std.specs.Prelude.{◌≡◌, ◌≢◌, ◌≤◌, [], None, codes, decimal};
+ghost use Rattle.std.specs.Prelude.{◌≡◌, ◌≢◌, ℕ, ◌≤◌, [], None, codes, decimal};
 ghost use Rattle.paraid_base.specs.Told.{HasRisen};
 ghost use Rattle.paraid_session.specs.Mount.{IsMountedFromEach};
 ghost use Rattle.paraid_serve.specs.Calls.{IsNotDouble};
@@ -44,16 +44,16 @@ pub fn serve<S: Source, K: Sink, A: Serves>(source: &mut S, sink: &mut K, array:
     }
 }
 
-/// Serves the trace with an array that was just mounted, by the contract of the mount.
+/// Serves the trace with an array that was just mounted, by a mount that began at some moment.
 pub fn serve_mounted<S: Source, K: Sink, A: Serves>(
     source: &mut S,
     sink: &mut K,
     array: &mut A,
 ) -> u8
     requires going { A.halted array.old ≡ None }
-    requires mounted { IsMountedFromEach (A.slots array.old) (A.setup array.old) (A.began array.old)
-        (A.told array.old) (A.stands array.old) }
-    ensures headline { Headline (A.slots array.old) (A.setup array.old) (A.began array.old)
+    ensures headline { (began : ℕ) → IsMountedFromEach (A.slots array.old) (A.setup array.old) began
+        (A.told array.old) (A.stands array.old)
+        → Headline (A.slots array.old) (A.setup array.old) began
         (A.told array.old) (A.told array.new) (S.left source.old) (S.left source.new)
         (K.written sink.old) (K.written sink.new) result }
     ensures present { result ≡ 0 → IsNotDouble (A.setup array.old) (A.power array.new) }

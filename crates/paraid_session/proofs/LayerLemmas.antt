@@ -5,17 +5,14 @@ use Rattle.std.proofs.lemmas.Bool.{false≢true}
 use Rattle.std.proofs.lemmas.Bool.Decides.{nat_tests}
 use Rattle.paraid_base.specs.History.{History}
 use Rattle.paraid_rack.specs.declared.call.Call.{Call}
-use Rattle.paraid_rack.specs.declared.call.Call.TheVariants.{Read, Write, Sync, Park, SpinUp, Attach}
-use Rattle.paraid_rack.specs.declared.call.Power.{Power}
-use Rattle.paraid_rack.specs.declared.call.Power.TheVariants.{Spinning, Parked, Absent}
-use Rattle.paraid_rack.specs.Disks.{Disks, is_present, power_after, step, with_at}
+use Rattle.paraid_rack.specs.Disks.{Disks, is_present, step}
 use Rattle.paraid_rack.specs.Lawful.{IsLawful, AreLawful}
 use Rattle.paraid_rack.specs.Told.{Through}
 use Rattle.paraid_rack.specs.Trail.{run}
-use Rattle.paraid_rack.proofs.AtomsLemmas.{at_use}
 use Rattle.paraid_image.specs.Calls.{disk_of, is_done}
 use Rattle.paraid_image.specs.HeldAt.{IsHeld}
-use Rattle.paraid_session.specs.Watch.{Down, Each, IsHeldWhileServing, Watch, down_after, fails_on, first_lost, nobody, only, several, watch, with_down, watch_all}
+pub use Rattle.paraid_image.proofs.LostLemmas.{absent_before, absent_failed, fails_first, first_fails, only_lost}
+use Rattle.paraid_session.specs.Watch.{Down, Each, IsHeldWhileServing, Watch, down_after, nobody, only, several, watch, with_down, watch_all}
 
 -- disk `d` of the array is absent, or it is the one that is out or is taken out
 pub record IsMissingBeside (n : ℕ) (out : Option ℕ) (s : Disks) (d : ℕ) : Type 0 where
@@ -63,24 +60,6 @@ in_with_self d nobody = refl
 in_with_self d (only f) = in_with_self_by d f (d == f) (same_if d f)
 in_with_self d several = tt
 
--- one call on one disk, which is left with this power where the call is done
-touched_absent : (s : Disks) (e : ℕ) (done : Bool) (left : Power) (d : ℕ) → (is_present left ≡ false → is_present (s.power e) ≡ false)
-    → is_present (with_at s.power e (power_after done left) d) ≡ false → (is_present (s.power d) ≡ false) ⊎ ((done ≡ false) × (d ≡ e))
-touched_absent s e true left d was absent = at_use (λ (p : Power). is_present p ≡ false) ((is_present (s.power d) ≡ false) ⊎ ((true ≡ false) × (d ≡ e))) s.power e left d
-    (λ here gone. inl (subst (λ (x : ℕ). is_present (s.power x) ≡ false) (sym here) (was gone))) (λ there gone. inl gone) absent
-touched_absent s e false left d was absent = at_use (λ (p : Power). is_present p ≡ false) ((is_present (s.power d) ≡ false) ⊎ ((false ≡ false) × (d ≡ e))) s.power e Absent d
-    (λ here gone. inr (refl, here)) (λ there gone. inl gone) absent
-
--- a disk that is absent after a call was so before, or the call on it has failed
-pub absent_before : (s : Disks) (c : Call) (d : ℕ) → is_present ((step c s).power d) ≡ false → (is_present (s.power d) ≡ false) ⊎ ((is_done c ≡ false) × (d ≡ disk_of c))
-unfolding step
-absent_before s (Read e p done) d gone = touched_absent s e done (s.power e) d (λ g. g) gone
-absent_before s (Write e p b done) d gone = touched_absent s e done (s.power e) d (λ g. g) gone
-absent_before s (Sync e done) d gone = touched_absent s e done (s.power e) d (λ g. g) gone
-absent_before s (Park e done) d gone = touched_absent s e done Parked d (λ g. absurd (false≢true (sym g))) gone
-absent_before s (SpinUp e done) d gone = touched_absent s e done Spinning d (λ g. absurd (false≢true (sym g))) gone
-absent_before s (Attach e size done) d gone = touched_absent s e done Spinning d (λ g. absurd (false≢true (sym g))) gone
-
 after_call : (done : Bool) (e : ℕ) (down : Down) (d : ℕ) → IsIn down d ⊎ ((done ≡ false) × (d ≡ e)) → IsIn (if done then down else with_down e down) d
 after_call true e down d is = elim is [ inl before ↦ before | inr failed ↦ absurd (false≢true (sym failed.0)) ]
 after_call false e down d is = elim is [
@@ -119,61 +98,6 @@ each_both P Q A B w (c ∷ cs) first second = ((first.0, second.0), (first.1, se
 pub each_map : (P Q : Watch → Type 0) (A B : Watch → Call → Type 0) → ((v : Watch) → P v → Q v) → ((v : Watch) (c : Call) → A v c → B v c) → (w : Watch) (cs : List Call) → Each P A w cs → Each Q B w cs
 each_map P Q A B f g w [] each = f w each
 each_map P Q A B f g w (c ∷ cs) each = (f w each.0, g w c each.1, each_map P Q A B f g (watch c w) cs each.2)
-
-fails_here : (done : Bool) (e d : ℕ) (later : Bool) → done ≡ false → d ≡ e → (if done then later else (if e == d then true else later)) ≡ true
-fails_here true e d later failed here = absurd (false≢true (sym failed))
-fails_here false e d later failed here = if_same e d later here
-  where
-    if_same : (e d : ℕ) (later : Bool) → d ≡ e → (if e == d then true else later) ≡ true
-    if_same e d later here = grind (arith, nat_tests)
-
-fails_later : (done : Bool) (e d : ℕ) (later : Bool) → later ≡ true → (if done then later else (if e == d then true else later)) ≡ true
-fails_later true e d later is = is
-fails_later false e d later is = either (e == d)
-  where
-    either : (same : Bool) → (if same then true else later) ≡ true
-    either true = refl
-    either false = is
-
--- a disk that is absent after some calls was so before, or one of the calls on it has failed
-pub absent_failed : (s : Disks) (cs : List Call) (d : ℕ) → is_present ((run s cs).power d) ≡ false → (is_present (s.power d) ≡ false) ⊎ (fails_on d cs ≡ true)
-absent_failed s [] d gone = inl gone
-absent_failed s (c ∷ cs) d gone = elim (absent_failed (step c s) cs d gone) [
-  | inl here ↦ elim (absent_before s c d here) [
-    | inl before ↦ inl before
-    | inr failed ↦ inr (fails_here (is_done c) (disk_of c) d (fails_on d cs) failed.0 failed.1)
-  ]
-  | inr later ↦ inr (fails_later (is_done c) (disk_of c) d (fails_on d cs) later)
-]
-
-first_of : (done : Bool) (e d : ℕ) (later : Bool) (first : Option ℕ) → (if done then later else (if e == d then true else later)) ≡ true → (later ≡ true → (x : ℕ) × (first ≡ Some x))
-    → (x : ℕ) × ((if done then first else Some e) ≡ Some x)
-first_of true e d later first is more = more is
-first_of false e d later first is more = (e, refl)
-
--- where a call has failed there is a first one
-pub fails_first : (cs : List Call) (d : ℕ) → fails_on d cs ≡ true → (x : ℕ) × (first_lost cs ≡ Some x)
-fails_first [] d is = absurd (false≢true is)
-fails_first (c ∷ cs) d is = first_of (is_done c) (disk_of c) d (fails_on d cs) (first_lost cs) is (fails_first cs d)
-
-first_fails_by : (done : Bool) (e x : ℕ) (later : Bool) (first : Option ℕ) → (if done then first else Some e) ≡ Some x → (first ≡ Some x → later ≡ true) → (if done then later else (if e == x then true else later)) ≡ true
-first_fails_by true e x later first is more = more is
-first_fails_by false e x later first is more = fails_here false e x later refl (some_same e x is)
-  where
-    some_same : (a b : ℕ) → Some a ≡ Some b → b ≡ a
-    some_same a b e = cc
-
--- and that one has failed
-pub first_fails : (cs : List Call) (x : ℕ) → first_lost cs ≡ Some x → fails_on x cs ≡ true
-first_fails [] x is = absurd (none_some x is)
-  where
-    none_some : (x : ℕ) → None ≡ Some x → ⊥
-    none_some x e = cc
-first_fails (c ∷ cs) x is = first_fails_by (is_done c) (disk_of c) x (fails_on x cs) (first_lost cs) is (first_fails cs x)
-
--- Where just one disk has failed in some calls, it is the first one.
-pub only_lost : (cs : List Call) (d : ℕ) → fails_on d cs ≡ true → ((e : ℕ) → fails_on e cs ≡ true → e ≡ d) → first_lost cs ≡ Some d
-only_lost cs d is alone = let x = fails_first cs d is in x.1 ∙ ap (λ (k : ℕ). Some k) (alone x.0 (first_fails cs x.0 x.1))
 
 -- What holds at each moment of some calls, by the number of the moment.
 pub through_of : (P : Disks → Type 0) (s : Disks) (cs : List Call) → ((k : ℕ) → P (run s (take k cs))) → Through P s cs

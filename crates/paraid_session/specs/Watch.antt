@@ -11,6 +11,7 @@ use Rattle.paraid_record.specs.declared.meta.Setup.{Setup}
 use Rattle.paraid_image.specs.Calls.{spin_ups_after, disk_of, is_attach, is_done}
 use Rattle.paraid_image.specs.HeldAt.{IsHeld}
 use Rattle.paraid_image.specs.Looked.{IsLooked}
+pub use Rattle.paraid_image.specs.Lost.{fails_on, first_lost}
 use Rattle.paraid_image.specs.Out.{named_out}
 use Rattle.paraid_image.specs.Sides.{LogState}
 use Rattle.paraid_image.specs.Spins.{first_used}
@@ -114,20 +115,10 @@ pub record IsAllowed (setup : Setup) (asked : Option ℕ) (w : Watch) (call : Ca
       → (x : ℕ) (i : Disks) (said : LogState) → IsLooked w.disks i → Stands i x said
       → w.spun d + 1 ≤ slice_index said.meta.spins d
 
--- the disk of the first failed call
-abbrev pub first_lost : List Call → Option ℕ
-first_lost [] = None
-first_lost (call ∷ calls) = if is_done call then first_lost calls else Some (disk_of call)
-
 -- the calls before the first failed one
 abbrev pub before_loss : List Call → List Call
 before_loss [] = []
 before_loss (call ∷ calls) = if is_done call then call ∷ before_loss calls else []
-
--- disk `d` failed in one of these calls
-abbrev pub fails_on : ℕ → List Call → Bool
-fails_on d [] = false
-fails_on d (call ∷ calls) = if is_done call then fails_on d calls else (if disk_of call == d then true else fails_on d calls)
 
 -- how often a disk is attached
 abbrev pub attach_count : List Call → ℕ

@@ -8,7 +8,7 @@ use Rattle.paraid_base.specs.declared.state.Out.TheVariants.{Fresh, Gone, No}
 use Rattle.paraid_base.specs.declared.state.Phase.{Phase}
 use Rattle.paraid_base.specs.declared.state.Phase.TheVariants.{Down, Steady, Up}
 use Rattle.paraid_base.specs.History.{History}
-use Rattle.paraid_base.specs.States.{has_out, phase_beside}
+use Rattle.paraid_base.specs.States.{gone_out, has_out, phase_beside}
 use Rattle.paraid_base.specs.Regions.{disk_size}
 use Rattle.paraid_base.specs.Told.{HasRisen}
 use Rattle.paraid_base.proofs.ToldLemmas.{HasRisen-later, HasRisen-sooner}
@@ -218,10 +218,10 @@ module _ {R : Type 0} {g : _} (count : R → ℕ) (slot : R → ℕ → Slot) (a
   copies_still copied = copies_kept a b setup copied q.copies_synced
 
   -- nothing was called
-  pub unsynced_still : b.store ≡ a.store → b.copied ≡ a.copied → AreUnsyncedCopied slot b
-  unsynced_still store copied d low here wet =
+  pub unsynced_still : ((d : ℕ) → gone_out a.meta.out ≡ Some d → gone_out b.meta.out ≡ Some d) → b.store ≡ a.store → b.copied ≡ a.copied → AreUnsyncedCopied slot b
+  unsynced_still out store copied d low stays here wet =
       ap (λ (z : List Bool). is_copied z d) copied
-      ∙ q.unsynced d (subst (λ (z : Setup). d < z.geometry.disks) setup low) (ap (λ (z : _). is_present (slot (store_rack z) d).power) (sym store) ∙ here) (ap (λ (z : _). (slot (store_rack z) d).unsynced) (sym store) ∙ wet)
+      ∙ q.unsynced d (subst (λ (z : Setup). d < z.geometry.disks) setup low) (λ is. stays (out d is)) (ap (λ (z : _). is_present (slot (store_rack z) d).power) (sym store) ∙ here) (ap (λ (z : _). (slot (store_rack z) d).unsynced) (sym store) ∙ wet)
 
 -- calls between two commits
 module _ {R : Type 0} {g : _} (count : R → ℕ) (slot : R → ℕ → Slot) (a b : Core R g) (l : LeavesCore count slot a b) where
@@ -256,7 +256,7 @@ module _ {R : Type 0} {g : _} (count : R → ℕ) (slot : R → ℕ → Slot) (a
     serves = serves;
     draft = draft ∙ q.draft;
     copies_synced = copies_still count slot a b q setup copied;
-    unsynced = unsynced_still count slot a b q setup store copied;
+    unsynced = unsynced_still count slot a b q setup (λ d is. ap gone_out out ∙ is) store copied;
     large = large_then (slot (store_rack a.store)) (slot (store_rack b.store)) a.meta b.meta q.large
         (subst (λ (z : Store R g). OnlyTurnsDisks (slot (store_rack a.store)) (slot (store_rack z))) (sym store) (turns_none (slot (store_rack a.store)))) setup (λ d is. ap named_out out ∙ is) ready.absent;
   }

@@ -1,1 +1,3 @@
 pub mod Serving
+pub mod Units
+pub mod Steps

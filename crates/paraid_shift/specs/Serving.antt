@@ -1,5 +1,5 @@
 -- A core between two events, and what an event leaves of it.
-use Rattle.std.specs.Prelude.{◌≡◌, ◌≢◌, ℕ, ◌+◌, ◌<◌, ◌≤◌, ◌⊎◌, false, List, [], Option, Some, slice_index}
+use Rattle.std.specs.Prelude.{◌≡◌, ◌≢◌, ℕ, ◌+◌, ◌<◌, ◌≤◌, ◌⊎◌, Bool, false, List, [], Option, Some, slice_index}
 use Rattle.paraid_base.specs.declared.state.Phase.TheVariants.{Up}
 use Rattle.paraid_base.specs.History.{History}
 use Rattle.paraid_base.specs.Regions.{disk_size}
@@ -15,7 +15,7 @@ use Rattle.paraid_txn.specs.Stores.{named_of, store_rack}
 use Rattle.paraid_core.specs.declared.staged.Core.{Core}
 use Rattle.paraid_core.specs.CellCopies.{CellsCopied}
 use Rattle.paraid_core.specs.CoreInvariant.{AreCopiesSynced}
-use Rattle.paraid_core.specs.Cores.{CanCoreServe, IsCoreHeldSinceCommit, IsCoreReady, core_down}
+use Rattle.paraid_core.specs.Cores.{CanCoreServe, CoreStandsFor, IsCoreHeldSinceCommit, IsCoreReady, core_down}
 use Rattle.paraid_core.specs.Down.{IsDownAfter}
 use Rattle.paraid_core.specs.Fills.{Filled}
 use Rattle.paraid_core.specs.Steps.{AreUnsyncedCopied, IsMarkedFrom, IsStillOut, OnlyTurnsDisks}
@@ -70,6 +70,21 @@ StaysAtRest count told old new = (h : History) (lo : ℕ) → Ran (told (store_r
 abbrev pub IsHeldFromRest : {R : Type 0} {g : _} → (R → ℕ) → (R → Option Trail) → Core R g → Core R g → Type 0
 IsHeldFromRest count told old new = (h : History) (lo : ℕ) → Ran (told (store_rack old.store)) (told (store_rack new.store))
     (CrashTriple (IsCoreHeldSinceCommit count old h lo) (RestsInShift count old h lo) (IsCoreHeldSinceCommit count old h lo))
+
+-- From such a rest on the writes are as they were.
+abbrev pub StandsFromRest : {R : Type 0} {g : _} → (R → ℕ) → (R → Option Trail) → Core R g → Core R g → Type 0
+StandsFromRest count told old new = (h : History) (lo : ℕ) → Ran (told (store_rack old.store)) (told (store_rack new.store))
+    (CrashTriple (IsCoreHeldSinceCommit count old h lo) (RestsInShift count old h lo) (CoreStandsFor count new h lo))
+
+-- From such a rest on these cells are copied.
+abbrev pub CopiesFromRest : {R : Type 0} {g : _} → (R → ℕ) → (R → Option Trail) → Core R g → Core R g → (ℕ → ℕ → Bool) → Type 0
+CopiesFromRest count told old new cells = (h : History) (lo : ℕ) → Ran (told (store_rack old.store)) (told (store_rack new.store))
+    (CrashTriple (IsCoreHeldSinceCommit count old h lo) (RestsInShift count old h lo) (CellsCopied count new h lo cells))
+
+-- These cells are copied still.
+abbrev pub KeepsCopied : {R : Type 0} {g : _} → (R → ℕ) → (R → Option Trail) → Core R g → Core R g → (ℕ → ℕ → Bool) → Type 0
+KeepsCopied count told old new cells = (h : History) (lo : ℕ) → Ran (told (store_rack old.store)) (told (store_rack new.store))
+    (CrashTriple (IsCoreHeldSinceCommit count old h lo) (CellsCopied count old h lo cells) (CellsCopied count new h lo cells))
 
 -- the same from a core that may have something staged
 abbrev pub IsHeldInShift : {R : Type 0} {g : _} → (R → ℕ) → (R → Option Trail) → Core R g → Core R g → Type 0

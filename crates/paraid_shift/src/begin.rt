@@ -1,18 +1,19 @@
 //! A shift begins: its phase is committed, with each spin-up counted, and then the disks that a shift up needs are
 //! spun up.
-ghost use Rattle.std.specs.Prelude.{◌≡◌, ◌≢◌, ℕ, ◌+◌, ◌^◌, ◌<◌, ◌≤◌, true, false, [], Some, OnOk, IfErr, length, slice_index};
+ghost use Rattle.std.specs.Prelude.{◌≡◌, ◌≢◌, ℕ, ◌+◌, ◌^◌, ◌<◌, ◌≤◌, ◌⊎◌, true, false, [], Some, OnOk, IfErr, length, slice_index};
 ghost use Rattle.paraid_base.specs.declared.state.Out.TheVariants.{No};
 ghost use Rattle.paraid_base.specs.declared.state.Phase.TheVariants.{Down, Steady, Up};
 ghost use Rattle.paraid_base.specs.History.{History};
 ghost use Rattle.paraid_base.specs.States.{rising_to};
 ghost use Rattle.paraid_core.specs.Cores.{CoreStandsFor, IsCoreHeldSinceCommit, IsCoreReady, batch_of, core_down, core_rack, core_table, meta_of, store_of};
-ghost use Rattle.paraid_core.specs.Steps.{IsHeldStill, IsMarkedFrom};
+ghost use Rattle.paraid_core.specs.Steps.{IsHeldStill, IsMarkedFrom, IsNamedOrAbsent};
 ghost use Rattle.paraid_image.specs.Out.{named_out};
 ghost use Rattle.paraid_moves.specs.MoveMetas.{meta_after_begin};
 ghost use Rattle.paraid_rack.specs.declared.call.Power.TheVariants.{Parked, Spinning};
 ghost use Rattle.paraid_rack.specs.Told.{CrashTriple, Ran};
 ghost use Rattle.paraid_record.specs.Range.{AreNextGears, allowed_spins};
 ghost use Rattle.paraid_shift.specs.Serving.{HasBegunUp, IsComingUp, IsHeldFromRest, IsCoreServing, LeavesArray, RestsInShift, StaysAtRest};
+ghost use Rattle.paraid_shift.specs.Steps.{CoreStepsInEvent, MakesPowerCalls, MarksPowered, OpensUp};
 ghost use Rattle.paraid_txn.specs.Losses.{AreTwoDown, OnlyLosesSlots};
 ghost use Rattle.paraid_txn.specs.Stores.{IsSameStore, named_of};
 
@@ -30,11 +31,13 @@ pub fn begin_down<R: Rack>(core: &mut Core<R>, to: u8) -> Result<(), Two>
     requires spared { (d : ℕ) → to ≤ d → d < (meta_of core.old).gear
         → slice_index (meta_of core.old).spins d < allowed_spins (meta_of core.old) }
     ensures serving { OnOk result (IsCoreServing R.slot_count R.slot core.new) }
+    ensures absent { OnOk result (IsNamedOrAbsent R.slot core.new) }
     ensures leaves { OnOk result (LeavesArray R.slot_count R.slot core.old core.new) }
     ensures meta { OnOk result (IsMarkedFrom (record (meta_after_begin (meta_of core.old) (Down to) (meta_of core.old).spins)
         { epoch = (meta_of core.old).epoch + 1 }) (meta_of core.new)) }
     ensures table { core_table core.new ≡ core_table core.old }
     ensures nothing { OnOk result (batch_of core.new ≡ []) }
+    ensures steps { OnOk result (CoreStepsInEvent R.slot_count R.told core.old core.new 1) }
     ensures spared { OnlyLosesSlots (R.slot (core_rack core.old)) (R.slot (core_rack core.new)) }
     ensures two { IfErr result (AreTwoDown (core_down core.old)
         (R.slot (core_rack core.old)) (R.slot (core_rack core.new))) }
@@ -75,11 +78,18 @@ fn raise<R: Rack>(core: &mut Core<R>, disk: DiskNo) -> Result<(), Two>
     requires past_gear { (meta_of core.old).gear ≤ disk }
     requires rises { disk < rising_to (meta_of core.old).phase }
     ensures rising { OnOk result (IsComingUp R.slot_count R.slot core.new (disk + 1)) }
+    ensures absent { OnOk result (IsNamedOrAbsent R.slot core.old → IsNamedOrAbsent R.slot core.new) }
     ensures leaves { OnOk result (LeavesArray R.slot_count R.slot core.old core.new) }
     ensures meta { OnOk result (IsMarkedFrom (meta_of core.old) (meta_of core.new)) }
     ensures store { IsSameStore (store_of core.old) (store_of core.new) }
     ensures table { core_table core.new ≡ core_table core.old }
     ensures no_fall { (d : ℕ) → (R.slot (core_rack core.old) d).faults ≤ (R.slot (core_rack core.new) d).faults }
+    ensures calls { MakesPowerCalls R.told core.old core.new }
+    ensures lost { OnOk result (MarksPowered (R.slot (core_rack core.new)) (meta_of core.old) (meta_of core.new)) }
+    ensures up { OnOk result (named_out (meta_of core.new).out ≢ Some disk
+        → (R.slot (core_rack core.new) disk).power ≡ Spinning) }
+    ensures others { (d : ℕ) → d ≢ disk → R.slot (core_rack core.new) d ≡ R.slot (core_rack core.old) d }
+    ensures within { disk < rising_to (meta_of core.old).phase }
     ensures two { IfErr result (AreTwoDown (core_down core.old)
         (R.slot (core_rack core.old)) (R.slot (core_rack core.new))) }
     ensures moments { IsHeldFromRest R.slot_count R.told core.old core.new }
@@ -98,10 +108,15 @@ fn bring_up<R: Rack>(core: &mut Core<R>) -> Result<(), Two>
     requires rising { IsComingUp R.slot_count R.slot core.old (meta_of core.old).gear }
     ensures serving { OnOk result (IsCoreServing R.slot_count R.slot core.new) }
     ensures nothing { OnOk result (batch_of core.new ≡ []) }
+    ensures absent { OnOk result (IsNamedOrAbsent R.slot core.old → IsNamedOrAbsent R.slot core.new) }
     ensures leaves { OnOk result (LeavesArray R.slot_count R.slot core.old core.new) }
     ensures meta { OnOk result (IsMarkedFrom (meta_of core.old) (meta_of core.new)) }
     ensures table { core_table core.new ≡ core_table core.old }
     ensures no_fall { (d : ℕ) → (R.slot (core_rack core.old) d).faults ≤ (R.slot (core_rack core.new) d).faults }
+    ensures calls { MakesPowerCalls R.told core.old core.new }
+    ensures lost { OnOk result (MarksPowered (R.slot (core_rack core.new)) (meta_of core.old) (meta_of core.new)) }
+    ensures others { OnOk result ((d : ℕ) → (d < (meta_of core.old).gear) ⊎ (rising_to (meta_of core.old).phase ≤ d)
+        → R.slot (core_rack core.new) d ≡ R.slot (core_rack core.old) d) }
     ensures two { IfErr result (AreTwoDown (core_down core.old)
         (R.slot (core_rack core.old)) (R.slot (core_rack core.new))) }
     ensures moments { IsHeldFromRest R.slot_count R.told core.old core.new }
@@ -122,11 +137,15 @@ fn commit_up<R: Rack>(core: &mut Core<R>, to: u8) -> Result<(), Two>
     requires steady { (meta_of core.old).phase ≡ Steady }
     requires next { AreNextGears (meta_of core.old).setup.geometry (meta_of core.old).gear to }
     ensures rising { OnOk result (IsComingUp R.slot_count R.slot core.new (meta_of core.new).gear) }
+    ensures absent { OnOk result (IsNamedOrAbsent R.slot core.new) }
     ensures leaves { OnOk result (LeavesArray R.slot_count R.slot core.old core.new) }
     ensures meta { OnOk result (HasBegunUp (meta_of core.old) (meta_of core.new) to) }
     ensures table { core_table core.new ≡ core_table core.old }
     ensures named { OnOk result (named_of (store_of core.new) ≡ named_of (store_of core.old)) }
     ensures spared { OnlyLosesSlots (R.slot (core_rack core.old)) (R.slot (core_rack core.new)) }
+    ensures opens { OnOk result (OpensUp R.slot_count R.told core.old core.new to) }
+    ensures nothing { OnOk result (batch_of core.new ≡ []) }
+    ensures epoch { OnOk result ((meta_of core.new).epoch ≡ (meta_of core.old).epoch + 1) }
     ensures two { IfErr result (AreTwoDown (core_down core.old)
         (R.slot (core_rack core.old)) (R.slot (core_rack core.new))) }
     ensures moments { IsHeldStill R.slot_count R.told core.old core.new }
@@ -149,11 +168,13 @@ pub fn begin_up<R: Rack>(core: &mut Core<R>, to: u8) -> Result<(), Two>
     requires steady { (meta_of core.old).phase ≡ Steady }
     requires next { AreNextGears (meta_of core.old).setup.geometry (meta_of core.old).gear to }
     ensures serving { OnOk result (IsCoreServing R.slot_count R.slot core.new) }
+    ensures absent { OnOk result (IsNamedOrAbsent R.slot core.new) }
     ensures leaves { OnOk result (LeavesArray R.slot_count R.slot core.old core.new) }
     ensures meta { OnOk result (HasBegunUp (meta_of core.old) (meta_of core.new) to) }
     ensures table { core_table core.new ≡ core_table core.old }
     ensures nothing { OnOk result (batch_of core.new ≡ []) }
     ensures no_fall { (d : ℕ) → (R.slot (core_rack core.old) d).faults ≤ (R.slot (core_rack core.new) d).faults }
+    ensures steps { OnOk result (CoreStepsInEvent R.slot_count R.told core.old core.new 1) }
     ensures two { IfErr result (AreTwoDown (core_down core.old)
         (R.slot (core_rack core.old)) (R.slot (core_rack core.new))) }
     ensures moments { IsHeldStill R.slot_count R.told core.old core.new }

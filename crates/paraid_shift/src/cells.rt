@@ -1,9 +1,12 @@
 //! Dirty cells of the disks that come up are copied past the log, made to last and marked as clean.
-ghost use Rattle.std.specs.Prelude.{◌≡◌, ℕ, ◌+◌, ◌-◌, ◌^◌, ◌<◌, ◌≤◌, [], true, false, OnOk, IfOk, IfErr, IfSome};
+ghost use Rattle.std.specs.Prelude.{◌≡◌, ◌≢◌, ℕ, ◌+◌, ◌-◌, ◌^◌, ◌<◌, ◌≤◌, ◌⊎◌, [], true, false, length, OnOk, IfOk, IfErr, IfNone, IfSome};
 ghost use Rattle.paraid_base.specs.declared.state.Out.TheVariants.{No};
-ghost use Rattle.paraid_core.specs.Cores.{CanCoreServe, IsCoreReady, batch_of, core_down, core_rack, draft_of, meta_of, store_of};
-ghost use Rattle.paraid_core.specs.Steps.{IsMarkedFrom, LeavesCore};
-ghost use Rattle.paraid_shift.specs.Serving.{IsCoreServing, LeavesArray};
+ghost use Rattle.paraid_core.specs.Cores.{CanCoreServe, IsCoreReady, batch_of, core_down, core_rack, core_table, draft_of, meta_of, store_of};
+ghost use Rattle.paraid_core.specs.Steps.{IsMarkedFrom, IsNamedOrAbsent, LeavesCore};
+ghost use Rattle.paraid_core.specs.Calls.{MakesDataCalls};
+ghost use Rattle.paraid_core.specs.Lost.{CoreMarksLost};
+ghost use Rattle.paraid_shift.specs.Serving.{CopiesFromRest, IsCoreServing, IsHeldFromRest, KeepsCopied, LeavesArray, StandsFromRest};
+ghost use Rattle.paraid_shift.specs.Units.{AreCellsDone, CoreCountsMoved, HasDirtyBefore, IsGroupOf, are_copied_before};
 ghost use Rattle.paraid_txn.specs.Losses.{AreTwoDown, OnlyLosesSlots};
 
 use crate::units::{first_cell, next_cell};
@@ -27,8 +30,11 @@ struct Group {
 fn with_cell(group: Group, r: Row, d: DiskNo) -> Option<Group>
     requires few { group.count < 2 ^ 32 - 1 }
     requires disk { d < 8 }
+    requires none { group.count ≡ 0 → group.blocks ≡ 0 }
+    ensures some { IfNone result (0 < group.count) }
     ensures count { IfSome result (λ more. more.count ≡ group.count + 1) }
-    ensures disk { IfSome result (λ more. more.disk ≤ 8) }
+    ensures row { IfSome result (λ more. more.row ≡ r) }
+    ensures disk { IfSome result (λ more. more.disk ≡ d + 1) }
 {
     let mut blocks = group.blocks;
     if group.count == 0 || group.row / 512 != r / 512 {
@@ -53,10 +59,18 @@ fn copy_cells<R: Rack>(core: &mut Core<R>, most: u32) -> Result<Option<Group>, T
     requires whole { (meta_of core.old).out ≡ No }
     requires nothing { batch_of core.old ≡ [] }
     ensures leaves { OnOk result (LeavesCore R.slot_count R.slot core.old core.new) }
-    ensures few { IfOk result (λ group. IfSome group (λ it. it.count ≤ most)) }
+    ensures group { IfOk result (λ group. IfSome group (λ it.
+        IsGroupOf (meta_of core.old) (core_table core.old) most it.count it.row it.disk)) }
+    ensures lost { IfOk result (λ group. IfNone group ((meta_of core.new).out ≢ No)) }
     ensures spared { OnlyLosesSlots (R.slot (core_rack core.old)) (R.slot (core_rack core.new)) }
     ensures two { IfErr result (AreTwoDown (core_down core.old)
         (R.slot (core_rack core.old)) (R.slot (core_rack core.new))) }
+    ensures calls { MakesDataCalls R.told core.old core.new }
+    ensures marks { OnOk result (CoreMarksLost R.slot core.old core.new) }
+    ensures copied { IfOk result (λ group. IfSome group (λ it. CopiesFromRest R.slot_count R.told core.old core.new
+        (are_copied_before (meta_of core.old) it.row it.disk))) }
+    ensures stands { OnOk result (StandsFromRest R.slot_count R.told core.old core.new) }
+    ensures moments { IsHeldFromRest R.slot_count R.told core.old core.new }
 {
     let mut group = Group {
         count: 0,
@@ -80,6 +94,17 @@ fn copy_cells<R: Rack>(core: &mut Core<R>, most: u32) -> Result<Option<Group>, T
     Ok(Some(group))
 }
 
+// Whether the cell of row `r` and disk `d` does not come after the last one of the group.
+fn is_within(group: &Group, r: Row, d: DiskNo) -> bool
+    ensures within { result ≡ true → (r < group.now.row) ⊎ ((r ≡ group.now.row) × (d < group.now.disk)) }
+    ensures past { result ≡ false → (group.now.row < r) ⊎ ((group.now.row ≡ r) × (group.now.disk ≤ d)) }
+{
+    if group.row == r {
+        return d < group.disk;
+    }
+    r < group.row
+}
+
 // Marks the first dirty cell of the disks that come up as clean, if it is one of the group and there is room.
 fn mark_one<R: Rack>(core: &mut Core<R>, group: &Group) -> bool
     requires serving { IsCoreServing R.slot_count R.slot core.old }
@@ -87,6 +112,12 @@ fn mark_one<R: Rack>(core: &mut Core<R>, group: &Group) -> bool
     ensures serving { IsCoreServing R.slot_count R.slot core.new }
     ensures meta { meta_of core.new ≡ meta_of core.old }
     ensures store { store_of core.new ≡ store_of core.old }
+    ensures moves { result ≡ true → CoreCountsMoved R.slot_count core.old core.new 1 }
+    ensures idle { result ≡ false → core.new ≡ core.old }
+    ensures some { result ≡ false → length (batch_of core.old) ≤ 94
+        → HasDirtyBefore (meta_of core.old) (core_table core.old) group.now.row group.now.disk → ⊥ }
+    ensures copied { KeepsCopied R.slot_count R.told core.old core.new
+        (are_copied_before (meta_of core.old) group.now.row group.now.disk) }
 {
     if core.staged() > 94 {
         return false;
@@ -94,7 +125,7 @@ fn mark_one<R: Rack>(core: &mut Core<R>, group: &Group) -> bool
     let Some((r, d)) = first_cell(core) else {
         return false;
     };
-    if group.row < r || group.row == r && group.disk <= d {
+    if !is_within(group, r, d) {
         return false;
     }
     core.mark_cleaned(r, d);
@@ -109,6 +140,12 @@ fn mark_cells<R: Rack>(core: &mut Core<R>, group: &Group) -> u32
     ensures meta { meta_of core.new ≡ meta_of core.old }
     ensures store { store_of core.new ≡ store_of core.old }
     ensures few { result ≤ group.now.count }
+    ensures moves { CoreCountsMoved R.slot_count core.old core.new result }
+    ensures idle { result ≡ 0 → core.new ≡ core.old }
+    ensures some { length (batch_of core.old) ≤ 94 → 0 < group.now.count
+        → HasDirtyBefore (meta_of core.old) (core_table core.old) group.now.row group.now.disk → 0 < result }
+    ensures copied { KeepsCopied R.slot_count R.told core.old core.new
+        (are_copied_before (meta_of core.old) group.now.row group.now.disk) }
 {
     for marked in 0..group.count {
         if !mark_one(core, group) {
@@ -126,11 +163,21 @@ pub(crate) fn move_group<R: Rack>(core: &mut Core<R>, most: u32) -> Result<u32, 
     requires nothing { batch_of core.old ≡ [] }
     ensures serving { OnOk result (IsCoreServing R.slot_count R.slot core.new) }
     ensures leaves { OnOk result (LeavesArray R.slot_count R.slot core.old core.new) }
+    ensures absent { OnOk result (IsNamedOrAbsent R.slot core.old → IsNamedOrAbsent R.slot core.new) }
     ensures meta { OnOk result (IsMarkedFrom (meta_of core.old) (meta_of core.new)) }
     ensures few { IfOk result (λ count. count ≤ most) }
+    ensures moves { IfOk result (λ count. CoreCountsMoved R.slot_count core.old core.new count) }
+    ensures whole { IfOk result (λ count. 0 < count → (meta_of core.new).out ≡ No) }
+    ensures idle { IfOk result (λ count. count ≡ 0 → batch_of core.new ≡ []) }
+    ensures all { IfOk result (λ count. count ≡ 0 → (meta_of core.new).out ≡ No
+        → (most ≡ 0) ⊎ AreCellsDone (meta_of core.new) (core_table core.new)) }
     ensures spared { OnlyLosesSlots (R.slot (core_rack core.old)) (R.slot (core_rack core.new)) }
     ensures two { IfErr result (AreTwoDown (core_down core.old)
         (R.slot (core_rack core.old)) (R.slot (core_rack core.new))) }
+    ensures calls { MakesDataCalls R.told core.old core.new }
+    ensures marks { OnOk result (CoreMarksLost R.slot core.old core.new) }
+    ensures stands { OnOk result (StandsFromRest R.slot_count R.told core.old core.new) }
+    ensures moments { IsHeldFromRest R.slot_count R.told core.old core.new }
 {
     let copied = copy_group(core, most)?;
     let Some(group) = copied else {
@@ -147,10 +194,18 @@ fn copy_group<R: Rack>(core: &mut Core<R>, most: u32) -> Result<Option<Group>, T
     ensures serving { OnOk result (IsCoreServing R.slot_count R.slot core.new) }
     ensures leaves { OnOk result (LeavesCore R.slot_count R.slot core.old core.new) }
     ensures whole { IfOk result (λ group. IfSome group (λ it. (meta_of core.new).out ≡ No)) }
-    ensures few { IfOk result (λ group. IfSome group (λ it. it.count ≤ most)) }
+    ensures group { IfOk result (λ group. IfSome group (λ it.
+        IsGroupOf (meta_of core.new) (core_table core.new) most it.count it.row it.disk)) }
+    ensures lost { IfOk result (λ group. IfNone group ((meta_of core.new).out ≢ No)) }
     ensures spared { OnlyLosesSlots (R.slot (core_rack core.old)) (R.slot (core_rack core.new)) }
     ensures two { IfErr result (AreTwoDown (core_down core.old)
         (R.slot (core_rack core.old)) (R.slot (core_rack core.new))) }
+    ensures calls { MakesDataCalls R.told core.old core.new }
+    ensures marks { OnOk result (CoreMarksLost R.slot core.old core.new) }
+    ensures copied { IfOk result (λ group. IfSome group (λ it. CopiesFromRest R.slot_count R.told core.old core.new
+        (are_copied_before (meta_of core.old) it.row it.disk))) }
+    ensures stands { OnOk result (StandsFromRest R.slot_count R.told core.old core.new) }
+    ensures moments { IsHeldFromRest R.slot_count R.told core.old core.new }
 {
     let copied = copy_cells(core, most)?;
     core.settle()?;

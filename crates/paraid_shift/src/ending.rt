@@ -1,18 +1,19 @@
 //! A shift ends: the new gear is committed, and after a shift down the disks that it does not need are parked.
-ghost use Rattle.std.specs.Prelude.{◌≡◌, ◌≢◌, ℕ, ◌+◌, ◌^◌, ◌<◌, ◌≤◌, [], true, false, Some, OnOk, IfErr};
+ghost use Rattle.std.specs.Prelude.{◌≡◌, ◌≢◌, ℕ, ◌+◌, ◌^◌, ◌<◌, ◌≤◌, ◌⊎◌, [], true, false, Some, OnOk, IfErr};
 ghost use Rattle.paraid_base.specs.declared.state.Out.TheVariants.{No};
 ghost use Rattle.paraid_base.specs.declared.state.Phase.TheVariants.{Steady};
 ghost use Rattle.paraid_base.specs.History.{History};
 ghost use Rattle.paraid_base.specs.Soft.{stripe_count};
 ghost use Rattle.paraid_base.specs.States.{phase_to};
 ghost use Rattle.paraid_core.specs.Cores.{CoreStandsFor, IsCoreHeldSinceCommit, IsCoreReady, batch_of, core_down, core_rack, core_table, meta_of, store_of};
-ghost use Rattle.paraid_core.specs.Steps.{IsHeldStill, IsMarkedFrom};
+ghost use Rattle.paraid_core.specs.Steps.{IsHeldStill, IsMarkedFrom, IsNamedOrAbsent};
 ghost use Rattle.paraid_dirty.specs.Table.{is_dirty};
 ghost use Rattle.paraid_image.specs.Out.{named_out};
 ghost use Rattle.paraid_moves.specs.MoveMetas.{meta_flipped_to};
-ghost use Rattle.paraid_rack.specs.declared.call.Power.TheVariants.{Spinning};
+ghost use Rattle.paraid_rack.specs.declared.call.Power.TheVariants.{Parked, Spinning};
 ghost use Rattle.paraid_rack.specs.Told.{CrashTriple, Ran};
 ghost use Rattle.paraid_shift.specs.Serving.{IsHeldFromRest, IsCoreServing, LeavesArray, RestsInShift, StaysAtRest};
+ghost use Rattle.paraid_shift.specs.Steps.{CommitsMark, EndsInSteps, MakesPowerCalls, MarksPowered};
 ghost use Rattle.paraid_txn.specs.Losses.{AreTwoDown, OnlyLosesSlots};
 ghost use Rattle.paraid_txn.specs.Stores.{IsSameStore, named_of};
 
@@ -25,6 +26,8 @@ fn is_up<R: Rack>(core: &Core<R>, disk: DiskNo) -> bool
     requires ready { IsCoreReady R.slot_count R.slot core.now }
     requires disk { disk < (meta_of core.now).setup.geometry.disks }
     ensures spins { result ≡ true → (R.slot (core_rack core.now) disk).power ≡ Spinning }
+    ensures down { result ≡ false → named_out (meta_of core.now).out ≢ Some disk
+        → (R.slot (core_rack core.now) disk).power ≡ Parked }
     ensures not_out { result ≡ true → named_out (meta_of core.now).out ≢ Some disk }
 {
     if core.out().names(disk) {
@@ -46,11 +49,17 @@ fn lower<R: Rack>(core: &mut Core<R>, disk: DiskNo) -> Result<(), Two>
     requires nothing { batch_of core.old ≡ [] }
     ensures serving { OnOk result (IsCoreServing R.slot_count R.slot core.new) }
     ensures nothing { OnOk result (batch_of core.new ≡ []) }
+    ensures absent { OnOk result (IsNamedOrAbsent R.slot core.old → IsNamedOrAbsent R.slot core.new) }
     ensures leaves { OnOk result (LeavesArray R.slot_count R.slot core.old core.new) }
     ensures meta { OnOk result (IsMarkedFrom (meta_of core.old) (meta_of core.new)) }
     ensures store { IsSameStore (store_of core.old) (store_of core.new) }
     ensures table { core_table core.new ≡ core_table core.old }
     ensures no_fall { (d : ℕ) → (R.slot (core_rack core.old) d).faults ≤ (R.slot (core_rack core.new) d).faults }
+    ensures calls { MakesPowerCalls R.told core.old core.new }
+    ensures lost { OnOk result (MarksPowered (R.slot (core_rack core.new)) (meta_of core.old) (meta_of core.new)) }
+    ensures parked { OnOk result (named_out (meta_of core.new).out ≢ Some disk
+        → (R.slot (core_rack core.new) disk).power ≡ Parked) }
+    ensures others { (d : ℕ) → d ≢ disk → R.slot (core_rack core.new) d ≡ R.slot (core_rack core.old) d }
     ensures two { IfErr result (AreTwoDown (core_down core.old)
         (R.slot (core_rack core.old)) (R.slot (core_rack core.new))) }
     ensures moments { IsHeldFromRest R.slot_count R.told core.old core.new }
@@ -71,10 +80,17 @@ fn park_down<R: Rack>(core: &mut Core<R>, hi: u8) -> Result<(), Two>
     requires nothing { batch_of core.old ≡ [] }
     ensures serving { OnOk result (IsCoreServing R.slot_count R.slot core.new) }
     ensures nothing { OnOk result (batch_of core.new ≡ []) }
+    ensures absent { OnOk result (IsNamedOrAbsent R.slot core.old → IsNamedOrAbsent R.slot core.new) }
     ensures leaves { OnOk result (LeavesArray R.slot_count R.slot core.old core.new) }
     ensures meta { OnOk result (IsMarkedFrom (meta_of core.old) (meta_of core.new)) }
     ensures table { core_table core.new ≡ core_table core.old }
     ensures no_fall { (d : ℕ) → (R.slot (core_rack core.old) d).faults ≤ (R.slot (core_rack core.new) d).faults }
+    ensures calls { MakesPowerCalls R.told core.old core.new }
+    ensures lost { OnOk result (MarksPowered (R.slot (core_rack core.new)) (meta_of core.old) (meta_of core.new)) }
+    ensures parked { OnOk result ((d : ℕ) → (meta_of core.old).gear ≤ d → d < hi
+        → named_out (meta_of core.new).out ≢ Some d → (R.slot (core_rack core.new) d).power ≡ Parked) }
+    ensures others { OnOk result ((d : ℕ) → (d < (meta_of core.old).gear) ⊎ (hi ≤ d)
+        → R.slot (core_rack core.new) d ≡ R.slot (core_rack core.old) d) }
     ensures two { IfErr result (AreTwoDown (core_down core.old)
         (R.slot (core_rack core.old)) (R.slot (core_rack core.new))) }
     ensures moments { IsHeldFromRest R.slot_count R.told core.old core.new }
@@ -98,6 +114,7 @@ fn commit_gear<R: Rack>(core: &mut Core<R>) -> Result<(), Two>
         → d < phase_to (meta_of core.old).phase → is_dirty (core_table core.old) r d ≡ false }
     ensures serving { OnOk result (IsCoreServing R.slot_count R.slot core.new) }
     ensures nothing { OnOk result (batch_of core.new ≡ []) }
+    ensures absent { OnOk result (IsNamedOrAbsent R.slot core.new) }
     ensures leaves { OnOk result (LeavesArray R.slot_count R.slot core.old core.new) }
     ensures steady { OnOk result ((meta_of core.new).phase ≡ Steady) }
     ensures meta { OnOk result (IsMarkedFrom (record (meta_flipped_to (meta_of core.old) (phase_to (meta_of core.old).phase))
@@ -105,6 +122,9 @@ fn commit_gear<R: Rack>(core: &mut Core<R>) -> Result<(), Two>
     ensures table { core_table core.new ≡ core_table core.old }
     ensures named { OnOk result (named_of (store_of core.new) ≡ named_of (store_of core.old)) }
     ensures spared { OnlyLosesSlots (R.slot (core_rack core.old)) (R.slot (core_rack core.new)) }
+    ensures opens { OnOk result (CommitsMark R.slot_count R.told core.old core.new
+        (meta_flipped_to (meta_of core.old) (phase_to (meta_of core.old).phase))) }
+    ensures epoch { OnOk result ((meta_of core.new).epoch ≡ (meta_of core.old).epoch + 1) }
     ensures two { IfErr result (AreTwoDown (core_down core.old)
         (R.slot (core_rack core.old)) (R.slot (core_rack core.new))) }
     ensures moments { IsHeldStill R.slot_count R.told core.old core.new }
@@ -131,11 +151,15 @@ pub fn flip<R: Rack>(core: &mut Core<R>) -> Result<(), Two>
         → d < phase_to (meta_of core.old).phase → is_dirty (core_table core.old) r d ≡ false }
     ensures serving { OnOk result (IsCoreServing R.slot_count R.slot core.new) }
     ensures nothing { OnOk result (batch_of core.new ≡ []) }
+    ensures absent { OnOk result (IsNamedOrAbsent R.slot core.new) }
     ensures leaves { OnOk result (LeavesArray R.slot_count R.slot core.old core.new) }
     ensures meta { OnOk result (IsMarkedFrom (record (meta_flipped_to (meta_of core.old) (phase_to (meta_of core.old).phase))
         { epoch = (meta_of core.old).epoch + 1 }) (meta_of core.new)) }
     ensures table { core_table core.new ≡ core_table core.old }
     ensures no_fall { (d : ℕ) → (R.slot (core_rack core.old) d).faults ≤ (R.slot (core_rack core.new) d).faults }
+    // Wherever the last marks of the shift wait in memory, they are brought with one commit more, and the event is
+    // underway again.
+    ensures steps { OnOk result (EndsInSteps R.slot_count R.told core.old core.new) }
     ensures two { IfErr result (AreTwoDown (core_down core.old)
         (R.slot (core_rack core.old)) (R.slot (core_rack core.new))) }
     ensures moments { IsHeldStill R.slot_count R.told core.old core.new }

@@ -1,11 +1,14 @@
 //! A step of a shift: units are copied past the log, made to last, marked and committed.
-ghost use Rattle.std.specs.Prelude.{◌≡◌, ℕ, ◌+◌, ◌-◌, ◌^◌, ◌<◌, ◌≤◌, [], true, false, OnOk, IfOk, IfErr};
+ghost use Rattle.std.specs.Prelude.{◌≡◌, ◌≢◌, ℕ, ◌+◌, ◌-◌, ◌^◌, ◌<◌, ◌≤◌, ◌⊎◌, [], true, false, OnOk, IfOk, IfErr};
 ghost use Rattle.paraid_base.specs.declared.state.Out.TheVariants.{No};
 ghost use Rattle.paraid_base.specs.Soft.{stripe_count};
 ghost use Rattle.paraid_base.specs.States.{phase_to};
 ghost use Rattle.paraid_image.specs.Out.{named_out};
-ghost use Rattle.paraid_core.specs.Cores.{IsCoreReady, batch_of, core_down, core_rack, meta_of};
+ghost use Rattle.paraid_core.specs.Cores.{IsCoreReady, batch_of, core_down, core_rack, core_table, meta_of};
+ghost use Rattle.paraid_core.specs.Steps.{IsMarkedFrom, IsNamedOrAbsent};
 ghost use Rattle.paraid_shift.specs.Serving.{IsCoreServing, LeavesArray};
+ghost use Rattle.paraid_shift.specs.Steps.{CoreServesMarked, CoreStepsInEvent, StepsOrWaits};
+ghost use Rattle.paraid_shift.specs.Units.{AreCellsDone, AreCoreUnitsLeft, AreUnitsDone, CoreCountsMoved, MovesUpTo};
 ghost use Rattle.paraid_txn.specs.Losses.{AreTwoDown, OnlyLosesSlots};
 
 use crate::cells::move_group;
@@ -32,6 +35,14 @@ fn commit<R: Rack>(core: &mut Core<R>) -> Result<(), Two>
     ensures nothing { OnOk result (batch_of core.new ≡ []) }
     ensures epoch { OnOk result ((meta_of core.new).epoch ≡ (meta_of core.old).epoch + 1) }
     ensures phase { OnOk result ((meta_of core.new).out ≡ No → (meta_of core.new).phase ≡ (meta_of core.old).phase) }
+    ensures absent { OnOk result (IsNamedOrAbsent R.slot core.new) }
+    ensures meta { OnOk result (IsMarkedFrom (record (meta_of core.old) { epoch = (meta_of core.old).epoch + 1 })
+        (meta_of core.new)) }
+    ensures table { core_table core.new ≡ core_table core.old }
+    ensures moves { OnOk result ((meta_of core.old).out ≡ No → CoreCountsMoved R.slot_count core.old core.new 0) }
+    ensures steps { OnOk result (IsNamedOrAbsent R.slot core.old
+        → CoreStepsInEvent R.slot_count R.told core.old core.new 1) }
+    ensures marked { OnOk result (IsNamedOrAbsent R.slot core.old → CoreServesMarked R.slot_count R.told core.old core.new) }
     ensures spared { OnlyLosesSlots (R.slot (core_rack core.old)) (R.slot (core_rack core.new)) }
     ensures two { IfErr result (AreTwoDown (core_down core.old)
         (R.slot (core_rack core.old)) (R.slot (core_rack core.new))) }
@@ -47,7 +58,14 @@ pub fn commit_staged<R: Rack>(core: &mut Core<R>) -> Result<(), Two>
     ensures serving { OnOk result (IsCoreServing R.slot_count R.slot core.new) }
     ensures leaves { OnOk result (LeavesArray R.slot_count R.slot core.old core.new) }
     ensures nothing { OnOk result (batch_of core.new ≡ []) }
+    ensures absent { OnOk result (IsNamedOrAbsent R.slot core.old → IsNamedOrAbsent R.slot core.new) }
     ensures epoch { OnOk result ((meta_of core.new).epoch ≤ (meta_of core.old).epoch + 1) }
+    ensures meta { OnOk result (IsMarkedFrom (record (meta_of core.old) { epoch = (meta_of core.new).epoch })
+        (meta_of core.new)) }
+    ensures table { core_table core.new ≡ core_table core.old }
+    ensures moves { OnOk result ((meta_of core.old).out ≡ No → CoreCountsMoved R.slot_count core.old core.new 0) }
+    ensures steps { OnOk result (IsNamedOrAbsent R.slot core.old
+        → CoreStepsInEvent R.slot_count R.told core.old core.new 1) }
     ensures no_fall { (d : ℕ) → (R.slot (core_rack core.old) d).faults ≤ (R.slot (core_rack core.new) d).faults }
     ensures two { IfErr result (AreTwoDown (core_down core.old)
         (R.slot (core_rack core.old)) (R.slot (core_rack core.new))) }
@@ -62,8 +80,12 @@ pub fn commit_staged<R: Rack>(core: &mut Core<R>) -> Result<(), Two>
 // Whether a shift has no unit left, or there is none under way.
 fn has_ended<R: Rack>(core: &Core<R>) -> bool
     requires ready { IsCoreReady R.slot_count R.slot core.now }
+    ensures done { result ≡ true → AreUnitsDone (meta_of core.now) (core_table core.now) }
 {
-    core.meta().phase.to() == 0 || is_done(core)
+    if core.meta().phase.to() == 0 {
+        return true;
+    }
+    is_done(core)
 }
 
 // Moves a group of cells, at most `most`, and commits it, unless the shift ends with it. It gives how many they were.
@@ -74,14 +96,23 @@ fn step_group<R: Rack>(core: &mut Core<R>, most: u32) -> Result<u32, Two>
     requires epoch { (meta_of core.old).epoch < 2 ^ 63 }
     ensures serving { OnOk result (IsCoreServing R.slot_count R.slot core.new) }
     ensures leaves { OnOk result (LeavesArray R.slot_count R.slot core.old core.new) }
+    ensures absent { OnOk result (IsNamedOrAbsent R.slot core.old → IsNamedOrAbsent R.slot core.new) }
     ensures few { IfOk result (λ count. count ≤ most) }
+    ensures moves { IfOk result (λ count. CoreCountsMoved R.slot_count core.old core.new count) }
+    ensures all { IfOk result (λ count. count ≡ 0 → (meta_of core.new).out ≡ No
+        → (most ≡ 0) ⊎ AreCellsDone (meta_of core.new) (core_table core.new)) }
+    ensures ended { OnOk result (batch_of core.new ≢ [] → AreUnitsDone (meta_of core.new) (core_table core.new)) }
+    ensures steps { OnOk result (CoreStepsInEvent R.slot_count R.told core.old core.new 1) }
     ensures epoch { OnOk result ((meta_of core.new).epoch ≤ (meta_of core.old).epoch + 1) }
     ensures no_fall { (d : ℕ) → (R.slot (core_rack core.old) d).faults ≤ (R.slot (core_rack core.new) d).faults }
     ensures two { IfErr result (AreTwoDown (core_down core.old)
         (R.slot (core_rack core.old)) (R.slot (core_rack core.new))) }
 {
     let count = move_group(core, most)?;
-    if count == 0 || has_ended(core) {
+    if count == 0 {
+        return Ok(0);
+    }
+    if has_ended(core) {
         return Ok(count);
     }
     commit(core)?;
@@ -91,10 +122,16 @@ fn step_group<R: Rack>(core: &mut Core<R>, most: u32) -> Result<u32, Two>
 // Moves dirty cells of the disks that come up, group by group and at most `most`. It gives how many they were.
 fn step_cells<R: Rack>(core: &mut Core<R>, most: u32) -> Result<u32, Two>
     requires serving { IsCoreServing R.slot_count R.slot core.old }
+    requires whole { (meta_of core.old).out ≡ No }
+    requires nothing { batch_of core.old ≡ [] }
     requires epoch { (meta_of core.old).epoch + most < 2 ^ 63 }
     ensures serving { OnOk result (IsCoreServing R.slot_count R.slot core.new) }
     ensures leaves { OnOk result (LeavesArray R.slot_count R.slot core.old core.new) }
+    ensures absent { OnOk result (IsNamedOrAbsent R.slot core.old → IsNamedOrAbsent R.slot core.new) }
     ensures few { IfOk result (λ count. count ≤ most) }
+    ensures moves { IfOk result (λ count. MovesUpTo R.slot_count core.old core.new
+        (AreCellsDone (meta_of core.new) (core_table core.new)) most count) }
+    ensures steps { OnOk result (CoreStepsInEvent R.slot_count R.told core.old core.new most) }
     ensures epoch { OnOk result ((meta_of core.new).epoch ≤ (meta_of core.old).epoch + most) }
     ensures no_fall { (d : ℕ) → (R.slot (core_rack core.old) d).faults ≤ (R.slot (core_rack core.new) d).faults }
     ensures two { IfErr result (AreTwoDown (core_down core.old)
@@ -127,6 +164,8 @@ fn next_end<R: Rack>(core: &Core<R>, most: u32) -> u32
         → phase_to (meta_of core.now).phase < (meta_of core.now).setup.geometry.disks }
     ensures stripe { (meta_of core.now).fill < result → result ≤ stripe_count (meta_of core.now).setup.geometry.disks
         (meta_of core.now).setup.geometry.rows (phase_to (meta_of core.now).phase) }
+    ensures all { (result ≡ (meta_of core.now).fill + most) ⊎ (result ≡ stripe_count (meta_of core.now).setup.geometry.disks
+        (meta_of core.now).setup.geometry.rows (phase_to (meta_of core.now).phase)) }
 {
     let meta = core.meta();
     let to = meta.phase.to();
@@ -140,10 +179,17 @@ fn next_end<R: Rack>(core: &Core<R>, most: u32) -> u32
 // were, none where a disk was lost.
 fn step_stripes<R: Rack>(core: &mut Core<R>, most: u32) -> Result<u32, Two>
     requires serving { IsCoreServing R.slot_count R.slot core.old }
+    requires whole { (meta_of core.old).out ≡ No }
+    requires nothing { batch_of core.old ≡ [] }
+    requires clean { 0 < most → AreCellsDone (meta_of core.old) (core_table core.old) }
     requires epoch { (meta_of core.old).epoch < 2 ^ 63 }
     ensures serving { OnOk result (IsCoreServing R.slot_count R.slot core.new) }
     ensures leaves { OnOk result (LeavesArray R.slot_count R.slot core.old core.new) }
+    ensures absent { OnOk result (IsNamedOrAbsent R.slot core.old → IsNamedOrAbsent R.slot core.new) }
     ensures few { IfOk result (λ count. count ≤ most) }
+    ensures moves { IfOk result (λ count. MovesUpTo R.slot_count core.old core.new
+        (AreUnitsDone (meta_of core.new) (core_table core.new)) most count) }
+    ensures steps { OnOk result (StepsOrWaits R.slot_count R.told core.old core.new 1) }
     ensures epoch { OnOk result ((meta_of core.new).epoch ≤ (meta_of core.old).epoch + 1) }
     ensures no_fall { (d : ℕ) → (R.slot (core_rack core.old) d).faults ≤ (R.slot (core_rack core.new) d).faults }
     ensures two { IfErr result (AreTwoDown (core_down core.old)
@@ -151,10 +197,7 @@ fn step_stripes<R: Rack>(core: &mut Core<R>, most: u32) -> Result<u32, Two>
 {
     let from = core.meta().fill;
     let end = next_end(core, most);
-    let Out::No = core.out() else {
-        return Ok(0);
-    };
-    if core.staged() != 0 || end <= from {
+    if end <= from {
         return Ok(0);
     }
     let done = move_stripes(core, end)?;
@@ -168,9 +211,64 @@ fn step_stripes<R: Rack>(core: &mut Core<R>, most: u32) -> Result<u32, Two>
     Ok(end - from)
 }
 
+// Moves the next units, at most `most`: cells and then stripes, while no disk is out.
+fn step_units<R: Rack>(core: &mut Core<R>, most: u32) -> Result<u32, Two>
+    requires serving { IsCoreServing R.slot_count R.slot core.old }
+    requires whole { (meta_of core.old).out ≡ No }
+    requires nothing { batch_of core.old ≡ [] }
+    requires epoch { (meta_of core.old).epoch + most < 2 ^ 63 }
+    ensures serving { OnOk result (IsCoreServing R.slot_count R.slot core.new) }
+    ensures leaves { OnOk result (LeavesArray R.slot_count R.slot core.old core.new) }
+    ensures absent { OnOk result (IsNamedOrAbsent R.slot core.old → IsNamedOrAbsent R.slot core.new) }
+    ensures few { IfOk result (λ count. count ≤ most) }
+    ensures moves { IfOk result (λ count. MovesUpTo R.slot_count core.old core.new
+        (AreUnitsDone (meta_of core.new) (core_table core.new)) most count) }
+    ensures steps { OnOk result (StepsOrWaits R.slot_count R.told core.old core.new (most + 1)) }
+    ensures epoch { OnOk result ((meta_of core.new).epoch ≤ (meta_of core.old).epoch + most + 1) }
+    ensures no_fall { (d : ℕ) → (R.slot (core_rack core.old) d).faults ≤ (R.slot (core_rack core.new) d).faults }
+    ensures two { IfErr result (AreTwoDown (core_down core.old)
+        (R.slot (core_rack core.old)) (R.slot (core_rack core.new))) }
+{
+    let cells = step_cells(core, most)?;
+    let Out::No = core.out() else {
+        return Ok(cells);
+    };
+    if core.staged() != 0 {
+        return Ok(cells);
+    }
+    let stripes = step_stripes(core, most - cells)?;
+    Ok(cells + stripes)
+}
+
+// Moves the next units where no disk is out, and none where one is.
+fn step_whole<R: Rack>(core: &mut Core<R>, most: u32) -> Result<u32, Two>
+    requires serving { IsCoreServing R.slot_count R.slot core.old }
+    requires nothing { batch_of core.old ≡ [] }
+    requires epoch { (meta_of core.old).epoch + most < 2 ^ 63 }
+    ensures serving { OnOk result (IsCoreServing R.slot_count R.slot core.new) }
+    ensures leaves { OnOk result (LeavesArray R.slot_count R.slot core.old core.new) }
+    ensures absent { OnOk result (IsNamedOrAbsent R.slot core.old → IsNamedOrAbsent R.slot core.new) }
+    ensures few { IfOk result (λ count. count ≤ most) }
+    ensures moves { IfOk result (λ count. (meta_of core.old).out ≡ No → MovesUpTo R.slot_count core.old core.new
+        (AreUnitsDone (meta_of core.new) (core_table core.new)) most count) }
+    ensures idle { IfOk result (λ count. (meta_of core.old).out ≢ No → (count ≡ 0) × (core.new ≡ core.old)) }
+    ensures steps { OnOk result (StepsOrWaits R.slot_count R.told core.old core.new (most + 1)) }
+    ensures epoch { OnOk result ((meta_of core.new).epoch ≤ (meta_of core.old).epoch + most + 1) }
+    ensures no_fall { (d : ℕ) → (R.slot (core_rack core.old) d).faults ≤ (R.slot (core_rack core.new) d).faults }
+    ensures two { IfErr result (AreTwoDown (core_down core.old)
+        (R.slot (core_rack core.old)) (R.slot (core_rack core.new))) }
+{
+    let Out::No = core.out() else {
+        return Ok(0);
+    };
+    let count = step_units(core, most)?;
+    Ok(count)
+}
+
 /// How many units of a shift are left.
 pub fn units_left<R: Rack>(core: &Core<R>) -> u32
     requires ready { IsCoreReady R.slot_count R.slot core.now }
+    ensures units { AreCoreUnitsLeft R.slot_count core.now result }
 {
     if core.meta().phase.to() == 0 {
         return 0;
@@ -187,7 +285,16 @@ pub fn step<R: Rack>(core: &mut Core<R>, units: u32) -> Result<Moved, Two>
     requires epoch { (meta_of core.old).epoch < 2 ^ 63 - 2 ^ 32 - 2 }
     ensures serving { OnOk result (IsCoreServing R.slot_count R.slot core.new) }
     ensures leaves { OnOk result (LeavesArray R.slot_count R.slot core.old core.new) }
+    ensures absent { OnOk result (IsNamedOrAbsent R.slot core.old → IsNamedOrAbsent R.slot core.new) }
     ensures few { IfOk result (λ moved. moved.units ≤ units) }
+    // The units moved are the next ones by the state of the machine; where no disk was lost they are as many as were
+    // asked for, or no unit is left.
+    ensures moves { IfOk result (λ moved. (meta_of core.old).out ≡ No → MovesUpTo R.slot_count core.old core.new
+        (AreUnitsDone (meta_of core.new) (core_table core.new)) units moved.units) }
+    // An event is underway after it, or its last marks wait in memory for the commit with which the shift ends.
+    ensures steps { OnOk result (IsNamedOrAbsent R.slot core.old
+        → StepsOrWaits R.slot_count R.told core.old core.new (units + 2)) }
+    ensures left { IfOk result (λ moved. AreCoreUnitsLeft R.slot_count core.new moved.left) }
     ensures epoch { OnOk result ((meta_of core.new).epoch ≤ (meta_of core.old).epoch + units + 2) }
     ensures lost { IfOk result (λ moved. moved.lost ≡ named_out (meta_of core.new).out) }
     ensures no_fall { (d : ℕ) → (R.slot (core_rack core.old) d).faults ≤ (R.slot (core_rack core.new) d).faults }
@@ -195,10 +302,9 @@ pub fn step<R: Rack>(core: &mut Core<R>, units: u32) -> Result<Moved, Two>
         (R.slot (core_rack core.old)) (R.slot (core_rack core.new))) }
 {
     commit_staged(core)?;
-    let cells = step_cells(core, units)?;
-    let stripes = step_stripes(core, units - cells)?;
+    let count = step_whole(core, units)?;
     Ok(Moved {
-        units: cells + stripes,
+        units: count,
         left: units_left(core),
         lost: core.out().named(),
     })

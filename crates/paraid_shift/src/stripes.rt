@@ -1,15 +1,18 @@
 //! Stripes of the region of the new gear are copied past the log, made to last and marked.
-ghost use Rattle.std.specs.Prelude.{◌≡◌, ℕ, ◌+◌, ◌<◌, ◌≤◌, [], true, false, Ok, OnOk, IfErr};
+ghost use Rattle.std.specs.Prelude.{◌≡◌, ◌≢◌, ℕ, ◌+◌, ◌<◌, ◌≤◌, [], true, false, Ok, OnOk, IfErr};
 ghost use Rattle.paraid_base.specs.declared.state.Out.TheVariants.{No};
 ghost use Rattle.paraid_base.specs.History.{History};
 ghost use Rattle.paraid_base.specs.Soft.{stripe_count};
 ghost use Rattle.paraid_base.specs.States.{phase_to};
 ghost use Rattle.paraid_core.specs.Cores.{CanCoreServe, CoreStandsFor, IsCoreHeldSinceCommit, IsCoreReady, batch_of, core_down, core_rack, core_table, draft_of, meta_of, store_of};
+ghost use Rattle.paraid_core.specs.Calls.{MakesDataCalls};
 ghost use Rattle.paraid_core.specs.Fills.{Filled};
-ghost use Rattle.paraid_core.specs.Steps.{IsMarkedFrom, LeavesCore};
+ghost use Rattle.paraid_core.specs.Lost.{CoreMarksLost};
+ghost use Rattle.paraid_core.specs.Steps.{IsMarkedFrom, IsNamedOrAbsent, LeavesCore};
 ghost use Rattle.paraid_moves.specs.MoveMetas.{filled_to};
 ghost use Rattle.paraid_rack.specs.Told.{CrashTriple, Ran};
 ghost use Rattle.paraid_shift.specs.Serving.{IsHeldFromRest, IsCoreServing, LeavesArray, RestsInShift};
+ghost use Rattle.paraid_shift.specs.Steps.{CoreStepsToMark};
 ghost use Rattle.paraid_txn.specs.Losses.{AreTwoDown, OnlyLosesSlots};
 ghost use Rattle.paraid_txn.specs.Stores.{IsSameStore};
 
@@ -31,6 +34,7 @@ fn fill_stripes<R: Rack>(core: &mut Core<R>, end: u32) -> Result<bool, Two>
     requires nothing { batch_of core.old ≡ [] }
     ensures leaves { OnOk result (LeavesCore R.slot_count R.slot core.old core.new) }
     ensures same { result ≡ Ok true → meta_of core.new ≡ meta_of core.old }
+    ensures gone { result ≡ Ok false → (meta_of core.new).out ≢ No }
     ensures spared { OnlyLosesSlots (R.slot (core_rack core.old)) (R.slot (core_rack core.new)) }
     ensures two { IfErr result (AreTwoDown (core_down core.old)
         (R.slot (core_rack core.old)) (R.slot (core_rack core.new))) }
@@ -43,6 +47,8 @@ fn fill_stripes<R: Rack>(core: &mut Core<R>, end: u32) -> Result<bool, Two>
         (CrashTriple (IsCoreHeldSinceCommit R.slot_count core.old h lo) (RestsInShift R.slot_count core.old h lo)
         (CoreStandsFor R.slot_count core.new h lo))) }
     ensures moments { IsHeldFromRest R.slot_count R.told core.old core.new }
+    ensures calls { MakesDataCalls R.told core.old core.new }
+    ensures marks { OnOk result (CoreMarksLost R.slot core.old core.new) }
 {
     let from = core.meta().fill;
     for s in from..end {
@@ -72,10 +78,15 @@ pub(crate) fn move_stripes<R: Rack>(core: &mut Core<R>, end: u32) -> Result<bool
     ensures table { OnOk result (core_table core.new ≡ core_table core.old) }
     ensures filled { result ≡ Ok true → meta_of core.new ≡ filled_to (meta_of core.old) end }
     ensures lost { result ≡ Ok false → IsMarkedFrom (meta_of core.old) (meta_of core.new) }
+    ensures gone { result ≡ Ok false → (meta_of core.new).out ≢ No }
+    ensures absent { OnOk result (IsNamedOrAbsent R.slot core.old → IsNamedOrAbsent R.slot core.new) }
+    ensures waits { result ≡ Ok true → CoreStepsToMark R.slot_count R.told core.old core.new (meta_of core.new) 0 }
     ensures spared { OnlyLosesSlots (R.slot (core_rack core.old)) (R.slot (core_rack core.new)) }
     ensures two { IfErr result (AreTwoDown (core_down core.old)
         (R.slot (core_rack core.old)) (R.slot (core_rack core.new))) }
     ensures moments { IsHeldFromRest R.slot_count R.told core.old core.new }
+    ensures calls { MakesDataCalls R.told core.old core.new }
+    ensures marks { result ≡ Ok false → CoreMarksLost R.slot core.old core.new }
     ensures stands { OnOk result ((h : History) (lo : ℕ)
         → Ran (R.told (core_rack core.old)) (R.told (core_rack core.new))
         (CrashTriple (IsCoreHeldSinceCommit R.slot_count core.old h lo) (RestsInShift R.slot_count core.old h lo)

@@ -1,9 +1,11 @@
 //! The units of a shift that are left: dirty cells of the disks that come up, and stripes of the region of the new gear.
-ghost use Rattle.std.specs.Prelude.{◌≡◌, ℕ, ◌-◌, ◌<◌, ◌≤◌, true, false, IfNone, IfSome};
+ghost use Rattle.std.specs.Prelude.{◌≡◌, ℕ, ◌-◌, ◌<◌, ◌≤◌, true, false, List, IfNone, IfSome};
 ghost use Rattle.paraid_base.specs.Soft.{stripe_count};
 ghost use Rattle.paraid_base.specs.States.{phase_to, rising_to};
 ghost use Rattle.paraid_core.specs.Cores.{IsCoreReady, core_table, meta_of};
-ghost use Rattle.paraid_dirty.specs.Table.{IsClean, IsFirstDirty, IsFirstFrom, dirty_count, is_dirty};
+ghost use Rattle.paraid_dirty.specs.Table.{IsClean, IsCleanFrom, IsFirstDirty, IsFirstFrom, dirty_count, is_dirty};
+ghost use Rattle.paraid_event.specs.Service.{service_of};
+ghost use Rattle.paraid_shift.specs.Units.{AreUnitsDone, TellsDone};
 
 use paraid_base::{DiskNo, Row};
 use paraid_core::Core;
@@ -42,6 +44,8 @@ pub fn first_cell<R: Rack>(core: &Core<R>) -> Option<(Row, DiskNo)>
 pub(crate) fn next_cell<R: Rack>(core: &Core<R>, r: Row, d: DiskNo) -> Option<(Row, DiskNo)>
     requires ready { IsCoreReady R.slot_count R.slot core.now }
     requires disk { d ≤ 8 }
+    ensures none { IfNone result (IsCleanFrom (is_dirty (core_table core.now)) r d (meta_of core.now).gear
+        (rising_to (meta_of core.now).phase)) }
     ensures first { IfSome result (λ cell. IsFirstFrom (is_dirty (core_table core.now)) r d (meta_of core.now).gear
         (rising_to (meta_of core.now).phase) cell.0 cell.1) }
     ensures row { IfSome result (λ cell. cell.0 < (meta_of core.now).setup.geometry.rows) }
@@ -78,6 +82,15 @@ pub fn is_done<R: Rack>(core: &Core<R>) -> bool
         (meta_of core.now).setup.geometry.rows (phase_to (meta_of core.now).phase) }
     ensures clean { result ≡ true → (r d : ℕ) → r < (meta_of core.now).setup.geometry.rows
         → (meta_of core.now).gear ≤ d → d < phase_to (meta_of core.now).phase → is_dirty (core_table core.now) r d ≡ false }
+    ensures done { result ≡ true → AreUnitsDone (meta_of core.now) (core_table core.now) }
+    ensures units { (samples : List ℕ) (served energy : ℕ)
+        → TellsDone (service_of R.slot_count core.now samples served energy) result }
 {
-    stripes_left(core) == 0 && first_cell(core).is_none()
+    if stripes_left(core) != 0 {
+        return false;
+    }
+    match first_cell(core) {
+        Some(_) => false,
+        None => true,
+    }
 }

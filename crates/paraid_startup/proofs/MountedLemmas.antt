@@ -61,9 +61,9 @@ from_moment : (P : Disks → List Call → Type 0) (t f : Trail) (cs : List Call
 from_moment P t f cs began is at p =
     subst (λ (u : Disks). P u (drop began t.calls)) (sym (began_disks t f cs began is at)) (subst (P (now f)) (sym (began_calls t f cs began is at)) p)
 
-module _ (count : ℕ) (old_slot : ℕ → Slot) (m : Meta) (dirty : ℕ → ℕ → Bool) (old new : Option Trail) (it : HasMounted count old_slot m dirty old new)
-    (new_slot : ℕ → Slot) (agrees : (t : Trail) → new ≡ Some t → Agrees (now t) new_slot)
-    (new_count last array rows : ℕ) (named : Option ℕ) (servable : IsServable new_count new_slot last array named m rows) where
+module _ (count : ℕ) (old_slot new_slot : ℕ → Slot) (named : Option ℕ) (m : Meta) (dirty : ℕ → ℕ → Bool) (old new : Option Trail) (it : HasMounted count old_slot new_slot named m dirty old new)
+    (agrees : (t : Trail) → new ≡ Some t → Agrees (now t) new_slot)
+    (new_count last array rows : ℕ) (servable : IsServable new_count new_slot last array named m rows) where
   abbrev side : ℕ
   side = it.side
 
@@ -149,15 +149,19 @@ module _ (count : ℕ) (old_slot : ℕ → Slot) (m : Meta) (dirty : ℕ → ℕ
           new_count last array rows new_slot named (agrees t tells)
           (subst (λ (n : Meta). IsServable new_count new_slot last array named n rows) (it.settled.is ∙ ap (with_loss standing) (it.settled.lost_is t tells)) servable)
 
-      -- the table has the dirty cells that are shown
-      shown_cells : (r d : ℕ) → r < standing.setup.geometry.rows → dirty r d ≡ (initial_state (now t) (closed_over standing)).dirty r d
-      shown_cells r d low =
+      -- the table is the map that is shown
+      shown_map : (r d : ℕ) → r < 512 * map_count standing.setup.geometry → dirty r d ≡ (view_by standing (now t).power (contents (now t) [])).dirty r d
+      shown_map =
           let e = it.settled.map slots t tells in
-          let same = (subst (λ (u : Trail). IsBroken (now u) side then_said → IsHeld slots (now u) h lo one → IsAbsentSince then_said.meta.setup.geometry.disks t (moments u) (moments t) one
+          (subst (λ (u : Trail). IsBroken (now u) side then_said → IsHeld slots (now u) h lo one → IsAbsentSince then_said.meta.setup.geometry.disks t (moments u) (moments t) one
           → ((w : ℕ) → IsWeak (now u) w → one ≡ Some w)
           → (q c : ℕ) → q < 512 * map_count standing.setup.geometry → dirty q c ≡ (view_by standing (now t).power (contents (now t) [])).dirty q c)
-          (same_trail it.settled.recovered.read e.0 told.read e.1 told.reads) (e.2 h lo one one)) broken held absent weak r d (omega (arith, low)) in
-          same ∙ sym (ap (λ (f : ℕ → ℕ → Bool). f r d) (shown_dirty (now t) (closed_over standing)))
+          (same_trail it.settled.recovered.read e.0 told.read e.1 told.reads) (e.2 h lo one one)) broken held absent weak
+
+      -- so it has the dirty cells that are shown
+      shown_cells : (r d : ℕ) → r < standing.setup.geometry.rows → dirty r d ≡ (initial_state (now t) (closed_over standing)).dirty r d
+      shown_cells r d low =
+          shown_map r d (omega (arith, low)) ∙ sym (ap (λ (f : ℕ → ℕ → Bool). f r d) (shown_dirty (now t) (closed_over standing)))
 
       counted : length (take standing.writes h) ≡ standing.writes
       counted =
@@ -179,6 +183,7 @@ module _ (count : ℕ) (old_slot : ℕ → Slot) (m : Meta) (dirty : ℕ → ℕ
               recorded_by within disks_is d low here not;
           writes = counted;
           cells = λ r d low. shown_cells r d low ∙ ap (λ (u : Disks). (initial_state u (closed_over standing)).dirty r d) now_is;
+          map = λ r d low. shown_map r d low ∙ ap (λ (u : Disks). (view_by standing u.power (contents u [])).dirty r d) now_is;
         },
       )
         where
@@ -261,8 +266,8 @@ no_calls told = record {
 pub ran_extends : (Q : Disks → List Call → Type 0) (old new : Option Trail) → Ran old new Q → Extends old new
 ran_extends Q old new ran t tells = let r = ran t tells in record { from = r.from; was = r.was; calls = r.calls; is = r.is; holds = tt }
 
-pub mounted_extends : (count : ℕ) (old_slot : ℕ → Slot) (m : Meta) (dirty : ℕ → ℕ → Bool) (old new : Option Trail) → HasMounted count old_slot m dirty old new → Extends old new
-mounted_extends count old_slot m dirty old new it = ran_extends _ old new it.settled.recovered.calls
+pub mounted_extends : (count : ℕ) (old_slot new_slot : ℕ → Slot) (named : Option ℕ) (m : Meta) (dirty : ℕ → ℕ → Bool) (old new : Option Trail) → HasMounted count old_slot new_slot named m dirty old new → Extends old new
+mounted_extends count old_slot new_slot named m dirty old new it = ran_extends _ old new it.settled.recovered.calls
 
 pub refused_extends : (count : ℕ) (old_slot new_slot : ℕ → Slot) (old new : Option Trail) (fault : MountFault) → IsCauseOfRefusal count old_slot new_slot old new fault → Extends old new
 refused_extends count old_slot new_slot old new fault (no_memory is only) = ran_extends _ old new only.calls

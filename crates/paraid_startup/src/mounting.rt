@@ -30,7 +30,8 @@ pub fn mount<R: Rack>(alloc: Global, rack: R) -> Result<Mounted<R>, MountRefused
     ensures refused_grows { IfErr result (λ refused. Extends (R.told rack) (R.told refused.rack)) }
     // what stands, and with it the session that begins
     ensures mounted { IfOk result (λ it. (told : HasMounted (R.slot_count rack) (R.slot rack)
-        it.meta (is_dirty it.dirty) (R.told rack) (R.told (store_rack it.store)))
+        (R.slot (store_rack it.store)) (named_by it.store) it.meta (is_dirty it.dirty)
+        (R.told rack) (R.told (store_rack it.store)))
         × ((slots began : ℕ) → ((t : Trail) → R.told rack ≡ Some t → began ≡ moments t)
         → IsMountedFromEach slots it.meta.setup began (R.told (store_rack it.store))
         (IsFirstPoint told.settled.standing (is_dirty it.dirty)

@@ -26,7 +26,7 @@ pub record IsServedBy (slots : ℕ) (old new : ℕ → Slot) (told told_now : Op
   pub named : Option ℕ
   pub rows : ℕ
   pub servable : IsServable slots new epoch disks named meta rows
-  pub mounted : HasMounted slots old meta dirty told told_now
+  pub mounted : HasMounted slots old new named meta dirty told told_now
   pub session : (began : ℕ) → BeganAt told began → IsMountedFromEach slots meta.setup began told_now (IsFirstPoint mounted.settled.standing dirty told_now)
 
 -- How `status` came out that met no fault of the sink: its status, and the lines that tell it. A mount

@@ -1,6 +1,6 @@
 -- From what a mounted array does to what the program does.
-use Rattle.std.proofs.Common.{◌≡◌, ℕ, List, Option, Some, None, sym, ◌∙◌, subst}
-use Rattle.paraid_rack.specs.Trail.{Trail}
+use Rattle.std.proofs.Common.{◌≡◌, ℕ, List, Option, Some, None, ap, sym, ◌∙◌, subst}
+use Rattle.paraid_rack.specs.Trail.{Trail, moments}
 use Rattle.paraid_record.specs.declared.meta.Setup.{Setup}
 use Rattle.paraid_session.specs.Mount.{IsMountedFromEach}
 use Rattle.paraid_console.specs.Ending.{EndsWithLine}
@@ -11,7 +11,20 @@ use Rattle.paraid_commands.specs.Generating.{GenHeadline}
 use Rattle.paraid_commands.specs.Telling.{state_lines}
 use Rattle.paraid_words.specs.declared.command.Command.{Command}
 use Rattle.paraid_words.specs.Words.{AskFor}
-use Rattle.paraid_top.specs.Ends.{TellsState}
+use Rattle.paraid_recover.specs.HeldMoments.{Extends}
+use Rattle.paraid_state.specs.Showing.{BeganAt}
+use Rattle.paraid_top.specs.Ends.{BeginsAt, TellsState}
+
+-- the moment at which a record ends, or the first one where none is told
+abbrev pub end_moment : Option Trail → ℕ
+end_moment None = 0
+end_moment (Some t) = moments t
+
+pub began_at_end : (before : Option Trail) → BeganAt before (end_moment before)
+began_at_end before t is = ap end_moment is
+
+pub begins_at_end : (before middle : Option Trail) → Extends before middle → BeginsAt before middle (end_moment before)
+begins_at_end before middle grows = record { calls = λ t tells. let r = grows t tells in (r.from, r.calls, r.was, r.is, ap end_moment r.was) }
 
 pub headline_over : (slots slots_now : ℕ) (setup : Setup) (began : ℕ) (middle final after : Option Trail) (l m w x : Option (List ℕ)) (status : ℕ) → slots_now ≡ slots → after ≡ final
     → Headline slots_now setup began middle final l m w x status → Headline slots setup began middle after l m w x status

@@ -1,6 +1,7 @@
 -- How the program ends on each of its words.
 use Rattle.std.specs.Prelude.{◌≡◌, ℕ, Bool, List, Option, Some}
 use Rattle.paraid_base.specs.declared.fault.Halt.{Halt}
+use Rattle.paraid_rack.specs.Slots.{Slot}
 use Rattle.paraid_rack.specs.Trail.{Trail, extend, moments}
 use Rattle.paraid_rack.specs.declared.call.Call.{Call}
 use Rattle.paraid_record.specs.declared.meta.Setup.{Setup}
@@ -13,7 +14,10 @@ use Rattle.paraid_words.specs.declared.command.Command.TheVariants.{Format, Run,
 use Rattle.paraid_commands.specs.Generating.{GenHeadline}
 use Rattle.paraid_commands.specs.Telling.{state_lines}
 use Rattle.paraid_mount.specs.declared.fault.MountFault.{MountFault}
+use Rattle.paraid_recover.specs.HeldMoments.{Extends}
+use Rattle.paraid_recover.specs.Mount.{IsCauseOfRefusal}
 use Rattle.paraid_startup.specs.Refusals.{refusal_by_fault}
+use Rattle.paraid_state.specs.Showing.{BeganAt}
 use Rattle.paraid_state.specs.MountFaults.{mount_fault_line, mount_fault_status}
 use Rattle.paraid_top.specs.Counts.{check_line, check_status}
 
@@ -22,17 +26,17 @@ use Rattle.paraid_top.specs.Counts.{check_line, check_status}
 pub record BeginsAt (before middle : Option Trail) (began : ℕ) : Type 0 where
   pub calls : (t : Trail) → middle ≡ Some t → (s : Trail) × (cs : List Call) × (before ≡ Some s) × (t ≡ extend s cs) × (began ≡ moments s)
 
--- A mount that began at some moment was refused, and the rack was handed back.
-pub record HandsBack (slots : ℕ) (before after : Option Trail) (fault : MountFault) : Type 0 where
-  pub began : ℕ
-  pub begins : BeginsAt before after began
-  pub refused : IsRefusedFromEach slots began after (refusal_by_fault fault)
+-- A mount was refused for this cause, as a session allows it, and the rack was handed back.
+pub record HandsBack (slots : ℕ) (old new : ℕ → Slot) (before after : Option Trail) (fault : MountFault) : Type 0 where
+  pub cause : IsCauseOfRefusal slots old new before after fault
+  pub grows : Extends before after
+  pub refused : (began : ℕ) → BeganAt before began → IsRefusedFromEach slots began after (refusal_by_fault fault)
 
 -- A rack was not mounted, and the fault was told; or it was, and then this holds.
-pub data MountsAndThen (slots : ℕ) (before after : Option Trail) (written_before written : Option (List ℕ)) (status : ℕ) (P : Setup → ℕ → Option Trail → Type 0) : Type 0 where
-  refused : (fault : MountFault) → HandsBack slots before after fault → EndsWithLine written_before written (mount_fault_line fault) (mount_fault_status fault) status
-      → MountsAndThen slots before after written_before written status P
-  mounted : (setup : Setup) (began : ℕ) (middle : Option Trail) → BeginsAt before middle began → P setup began middle → MountsAndThen slots before after written_before written status P
+pub data MountsAndThen (slots : ℕ) (old new : ℕ → Slot) (before after : Option Trail) (written_before written : Option (List ℕ)) (status : ℕ) (P : Setup → ℕ → Option Trail → Type 0) : Type 0 where
+  refused : (fault : MountFault) → HandsBack slots old new before after fault → EndsWithLine written_before written (mount_fault_line fault) (mount_fault_status fault) status
+      → MountsAndThen slots old new before after written_before written status P
+  mounted : (setup : Setup) (began : ℕ) (middle : Option Trail) → BeginsAt before middle began → P setup began middle → MountsAndThen slots old new before after written_before written status P
 
 -- the state of the first point of a session was told
 abbrev pub TellsState : ℕ → Option (List ℕ) → Option (List ℕ) → ℕ → Setup → ℕ → Option Trail → Type 0
@@ -44,12 +48,12 @@ pub data TellsCounts (Counts : CheckReport → Type 0) (written_before written :
   halted : (halt : Halt) → EndsWithLine written_before written (halt_line halt) (status_of_halt halt) status → TellsCounts Counts written_before written status
 
 -- What the program does on a command.
-abbrev pub DoesCommand : ℕ → Option Trail → Option Trail → Option (List ℕ) → Option (List ℕ) → Option (List ℕ) → Option (List ℕ) → ℕ → (Option Trail → Option Trail → CheckReport → Type 0) → (Bool → Type 0) → Command → Type 0
-DoesCommand slots before after left_before left written_before written status counts formats (Format force) = formats force
-DoesCommand slots before after left_before left written_before written status counts formats Run =
-    MountsAndThen slots before after written_before written status (λ setup began middle. Headline slots setup began middle after left_before left written_before written status)
-DoesCommand slots before after left_before left written_before written status counts formats Status = MountsAndThen slots before after written_before written status (TellsState slots written_before written status)
-DoesCommand slots before after left_before left written_before written status counts formats Check =
-    MountsAndThen slots before after written_before written status (λ setup began middle. TellsCounts (counts middle after) written_before written status)
-DoesCommand slots before after left_before left written_before written status counts formats (Gen number lines) =
-    MountsAndThen slots before after written_before written status (λ setup began middle. GenHeadline slots setup began middle after written_before written number lines status)
+abbrev pub DoesCommand : ℕ → (ℕ → Slot) → (ℕ → Slot) → Option Trail → Option Trail → Option (List ℕ) → Option (List ℕ) → Option (List ℕ) → Option (List ℕ) → ℕ → (Option Trail → Option Trail → CheckReport → Type 0) → (Bool → Type 0) → Command → Type 0
+DoesCommand slots old new before after left_before left written_before written status counts formats (Format force) = formats force
+DoesCommand slots old new before after left_before left written_before written status counts formats Run =
+    MountsAndThen slots old new before after written_before written status (λ setup began middle. Headline slots setup began middle after left_before left written_before written status)
+DoesCommand slots old new before after left_before left written_before written status counts formats Status = MountsAndThen slots old new before after written_before written status (TellsState slots written_before written status)
+DoesCommand slots old new before after left_before left written_before written status counts formats Check =
+    MountsAndThen slots old new before after written_before written status (λ setup began middle. TellsCounts (counts middle after) written_before written status)
+DoesCommand slots old new before after left_before left written_before written status counts formats (Gen number lines) =
+    MountsAndThen slots old new before after written_before written status (λ setup began middle. GenHeadline slots setup began middle after written_before written number lines status)

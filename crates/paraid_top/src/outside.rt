@@ -1,9 +1,12 @@
 ghost use Rattle.std.specs.Prelude.{◌≡◌, ℕ, Bool, List, Option, None, IfErr, IfOk};
 ghost use Rattle.paraid_base.specs.Told.{HasRisen};
+ghost use Rattle.paraid_rack.specs.Slots.{Slot};
 ghost use Rattle.paraid_rack.specs.Trail.{Trail};
+ghost use Rattle.paraid_recover.specs.HeldMoments.{Extends};
 ghost use Rattle.paraid_scrub.specs.declared.kind.CheckReport.{CheckReport as Report};
 ghost use Rattle.paraid_session.specs.Mount.{IsMountedFromEach};
-ghost use Rattle.paraid_top.specs.Ends.{BeginsAt, HandsBack};
+ghost use Rattle.paraid_state.specs.Showing.{BeganAt};
+ghost use Rattle.paraid_top.specs.Ends.{HandsBack};
 
 use paraid_base::Halt;
 use paraid_io::{Sink, Source};
@@ -20,30 +23,24 @@ pub struct Ended<R> {
 
 /// What makes an array of a rack, and a rack of an array.
 pub trait Outside<R: Rack, A: Serves> {
-    /// The counts that a check gives, by the records before and after it.
-    ghost counts: { Self → Option Trail → Option Trail → Report → Type 0 };
-
-    /// What a format leaves and writes, by its status.
-    ghost formats: { Self → Bool → Option Trail → Option Trail → Option (List ℕ)
-        → Option (List ℕ) → Option (List ℕ) → Option (List ℕ) → ℕ → Type 0 };
+    /// What a format leaves and writes, by the number of slots, the slots, the records, what is left of
+    /// the source, its faults and what was written, each before and after it, and by its status.
+    ghost formats: { Self → Bool → ℕ → (ℕ → Slot) → (ℕ → Slot) → Option Trail → Option Trail
+        → Option (List ℕ) → Option (List ℕ) → ℕ → ℕ → Option (List ℕ) → Option (List ℕ) → ℕ
+        → Type 0 };
 
     fn mount(&self, rack: R) -> Result<A, MountRefused<R>>
         ensures going { IfOk result (λ a. A.halted a ≡ None) }
         ensures slots { IfOk result (λ a. A.slots a ≡ R.slot_count rack) }
-        ensures began { IfOk result (λ a. BeginsAt (R.told rack) (A.told a) (A.began a)) }
-        ensures refused { IfErr result (λ r. HandsBack (R.slot_count rack) (R.told rack)
-            (R.told r.rack) r.fault) }
-        ensures mounted { IfOk result (λ a. IsMountedFromEach (A.slots a) (A.setup a) (A.began a)
-            (A.told a) (A.stands a)) };
+        ensures grows { IfOk result (λ a. Extends (R.told rack) (A.told a)) }
+        ensures refused { IfErr result (λ r. HandsBack (R.slot_count rack) (R.slot rack)
+            (R.slot r.rack) (R.told rack) (R.told r.rack) r.fault) }
+        ensures mounted { IfOk result (λ a. (began : ℕ) → BeganAt (R.told rack) began
+            → IsMountedFromEach (A.slots a) (A.setup a) began (A.told a) (A.stands a)) };
 
     /// Makes no call; what is staged is dropped.
     fn unmount(&self, array: A) -> R
         ensures told { R.told result ≡ A.told array };
-
-    /// Keeps all writes, and counts what is false.
-    fn check(&self, array: &mut A) -> Result<CheckReport, Halt>
-        requires going { A.halted array.old ≡ None }
-        ensures counts { IfOk result (counts self.now (A.told array.old) (A.told array.new)) };
 
     /// Reads a configuration and makes a new array of the rack.
     fn format<S: Source, K: Sink>(
@@ -53,10 +50,22 @@ pub trait Outside<R: Rack, A: Serves> {
         sink: &mut K,
         rack: R,
     ) -> Ended<R>
-        ensures formats { formats self.now force (R.told rack) (R.told result.rack)
-            (S.left source.old) (S.left source.new) (K.written sink.old) (K.written sink.new)
-            result.status }
+        ensures formats { formats self.now force (R.slot_count rack) (R.slot rack)
+            (R.slot result.rack) (R.told rack) (R.told result.rack) (S.left source.old)
+            (S.left source.new) (S.faults source.old) (S.faults source.new)
+            (K.written sink.old) (K.written sink.new) result.status }
         ensures source { result.status ≡ 3 → HasRisen (S.faults source.old)
             (S.faults source.new) }
         ensures sink { result.status ≡ 4 → HasRisen (K.faults sink.old) (K.faults sink.new) };
+}
+
+/// What counts what is false in an array.
+pub trait Checks<A: Serves> {
+    /// The counts that a check gives, by the records before and after it.
+    ghost counts: { Self → Option Trail → Option Trail → Report → Type 0 };
+
+    /// Keeps all writes, and counts what is false.
+    fn check(&self, array: &mut A) -> Result<CheckReport, Halt>
+        requires going { A.halted array.old ≡ None }
+        ensures counts { IfOk result (counts self.now (A.told array.old) (A.told array.new)) };
 }

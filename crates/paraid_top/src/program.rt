@@ -8,7 +8,7 @@ ghost use Rattle.paraid_words.specs.Words.{AskFor, usage_line};
 ghost use Rattle.paraid_state.specs.MountFaults.{mount_fault_line, mount_fault_status as mount_fault_status_of};
 ghost use Rattle.paraid_top.specs.Ends.{DoesCommand, MountsAndThen, TellsCounts, TellsState};
 
-use crate::outside::{Ended, Outside};
+use crate::outside::{Checks, Ended, Outside};
 use crate::text::{check_status, check_text};
 use paraid_base::Answer;
 use paraid_commands::generate::serve_generated_mounted;
@@ -43,7 +43,8 @@ pub fn run<S: Source, K: Sink, R: Rack, A: Serves, O: Outside<R, A>>(
     sink: &mut K,
     rack: R,
 ) -> Ended<R>
-    ensures run { MountsAndThen (R.slot_count rack) (R.told rack) (R.told result.rack) (K.written sink.old) (K.written sink.new) result.status
+    ensures run { MountsAndThen (R.slot_count rack) (R.slot rack) (R.slot result.rack) (R.told rack)
+        (R.told result.rack) (K.written sink.old) (K.written sink.new) result.status
         (λ setup began middle. Headline (R.slot_count rack) setup began middle
         (R.told result.rack) (S.left source.old) (S.left source.new) (K.written sink.old)
         (K.written sink.new) result.status) }
@@ -74,7 +75,8 @@ pub fn generate<K: Sink, R: Rack, A: Serves, O: Outside<R, A>>(
     lines: u32,
 ) -> Ended<R>
     requires few { lines ≤ 1000000 }
-    ensures run { MountsAndThen (R.slot_count rack) (R.told rack) (R.told result.rack) (K.written sink.old) (K.written sink.new) result.status
+    ensures run { MountsAndThen (R.slot_count rack) (R.slot rack) (R.slot result.rack) (R.told rack)
+        (R.told result.rack) (K.written sink.old) (K.written sink.new) result.status
         (λ setup began middle. GenHeadline (R.slot_count rack) setup began middle
         (R.told result.rack) (K.written sink.old) (K.written sink.new) number lines
         result.status) }
@@ -101,7 +103,8 @@ pub fn state<K: Sink, R: Rack, A: Serves, O: Outside<R, A>>(
     sink: &mut K,
     rack: R,
 ) -> Ended<R>
-    ensures run { MountsAndThen (R.slot_count rack) (R.told rack) (R.told result.rack) (K.written sink.old) (K.written sink.new) result.status
+    ensures run { MountsAndThen (R.slot_count rack) (R.slot rack) (R.slot result.rack) (R.told rack)
+        (R.told result.rack) (K.written sink.old) (K.written sink.new) result.status
         (TellsState (R.slot_count rack) (K.written sink.old) (K.written sink.new)
         result.status) }
     ensures sink { result.status ≡ 4 → HasRisen (K.faults sink.old) (K.faults sink.new) }
@@ -122,11 +125,7 @@ pub fn state<K: Sink, R: Rack, A: Serves, O: Outside<R, A>>(
 }
 
 // Tells the counts, or the halt that ended them.
-fn tell_counts<K: Sink, R: Rack, A: Serves, O: Outside<R, A>>(
-    outside: &O,
-    sink: &mut K,
-    array: &mut A,
-) -> u8
+fn tell_counts<K: Sink, A: Serves, O: Checks<A>>(outside: &O, sink: &mut K, array: &mut A) -> u8
     requires going { A.halted array.old ≡ None }
     ensures counts { TellsCounts (O.counts outside.now (A.told array.old) (A.told array.new))
         (K.written sink.old) (K.written sink.new) result }
@@ -146,12 +145,13 @@ fn tell_counts<K: Sink, R: Rack, A: Serves, O: Outside<R, A>>(
 }
 
 /// Mounts and counts what is false.
-pub fn check<K: Sink, R: Rack, A: Serves, O: Outside<R, A>>(
+pub fn check<K: Sink, R: Rack, A: Serves, O: Outside<R, A> + Checks<A>>(
     outside: &O,
     sink: &mut K,
     rack: R,
 ) -> Ended<R>
-    ensures run { MountsAndThen (R.slot_count rack) (R.told rack) (R.told result.rack) (K.written sink.old) (K.written sink.new) result.status
+    ensures run { MountsAndThen (R.slot_count rack) (R.slot rack) (R.slot result.rack) (R.told rack)
+        (R.told result.rack) (K.written sink.old) (K.written sink.new) result.status
         (λ setup began middle. TellsCounts (O.counts outside.now middle (R.told result.rack))
         (K.written sink.old) (K.written sink.new) result.status) }
     ensures sink { result.status ≡ 4 → HasRisen (K.faults sink.old) (K.faults sink.new) }
@@ -172,7 +172,7 @@ pub fn check<K: Sink, R: Rack, A: Serves, O: Outside<R, A>>(
 }
 
 /// The program. On words that ask for nothing it tells which there are, and does nothing else.
-pub fn paraid<S: Source, K: Sink, R: Rack, A: Serves, O: Outside<R, A>>(
+pub fn paraid<S: Source, K: Sink, R: Rack, A: Serves, O: Outside<R, A> + Checks<A>>(
     outside: &O,
     words: &Vec<String>,
     source: &mut S,
@@ -184,12 +184,13 @@ pub fn paraid<S: Source, K: Sink, R: Rack, A: Serves, O: Outside<R, A>>(
     ensures untouched { ((c : CommandType) → AskFor c (map string_bytes words.now.items) → ⊥)
         → (result.rack ≡ rack) × (source.new ≡ source.old) }
     ensures does { (c : CommandType) → AskFor c (map string_bytes words.now.items)
-        → DoesCommand (R.slot_count rack) (R.told rack) (R.told result.rack) (S.left source.old)
-        (S.left source.new) (K.written sink.old) (K.written sink.new) result.status
-        (O.counts outside.now)
-        (λ force. O.formats outside.now force (R.told rack) (R.told result.rack)
-        (S.left source.old) (S.left source.new) (K.written sink.old) (K.written sink.new)
-        result.status) c }
+        → DoesCommand (R.slot_count rack) (R.slot rack) (R.slot result.rack) (R.told rack)
+        (R.told result.rack) (S.left source.old) (S.left source.new) (K.written sink.old)
+        (K.written sink.new) result.status (O.counts outside.now)
+        (λ force. O.formats outside.now force (R.slot_count rack) (R.slot rack)
+        (R.slot result.rack) (R.told rack) (R.told result.rack) (S.left source.old)
+        (S.left source.new) (S.faults source.old) (S.faults source.new) (K.written sink.old)
+        (K.written sink.new) result.status) c }
     ensures sink { result.status ≡ 4 → HasRisen (K.faults sink.old) (K.faults sink.new) }
 {
     match read_words(words) {

@@ -1,5 +1,5 @@
 -- Where a disk is lost and a commit goes on, no other disk was out.
-use Rattle.std.specs.Prelude.{◌≡◌, ℕ, true, false, Option, Some, None}
+use Rattle.std.specs.Prelude.{◌≡◌, ◌≢◌, ◌⊎◌, ℕ, true, false, Option, Some, None}
 use Rattle.std.proofs.Common.{refl, sym, ◌∙◌, ap, subst, inl, inr}
 use Rattle.std.proofs.lemmas.Bool.{false≢true}
 use Rattle.paraid_base.specs.declared.fault.Two.{Two}
@@ -9,7 +9,7 @@ use Rattle.paraid_rack.specs.Disks.{is_present}
 use Rattle.paraid_rack.specs.Slots.{Slot}
 use Rattle.paraid_image.specs.Out.{first_absent, or_else}
 use Rattle.paraid_image.proofs.OutLemmas.{first_absent_finds, first_absent_is}
-use Rattle.paraid_txn.specs.Losses.{AreGoneSince, IsOutOfCommit, AreTwoDown, AreTwoDownBeside}
+use Rattle.paraid_txn.specs.Losses.{AreGoneSince, IsOnlyOut, IsOutOfCommit, AreTwoDown, AreTwoDownBeside}
 use Rattle.paraid_txn.specs.Losses.IsOutOfCommit.{is_absent, was_named, is_named}
 
 not_there : (p : Power) → is_present p ≡ false → p ≡ Absent
@@ -49,6 +49,44 @@ module _ (power : ℕ → Power) (n : ℕ) (before after : Option ℕ) where
       by (is_absent low gone) = let f = first_absent_finds power n e low (ap is_present gone) in absurd (never f.0 f.1)
       by (was_named is) = split (first_absent power n) refl is
       by (is_named is) = named e is
+
+  -- one is found where one is out
+  out_found : (e : ℕ) → IsOutOfCommit power n before after e → or_else (first_absent power n) (or_else before after) ≢ None
+  out_found e (is_absent low gone) none =
+      let f = first_absent_finds power n e low (ap is_present gone) in
+      let z : Some f.0 ≡ None = ap (λ (o : Option ℕ). or_else o (or_else before after)) (sym f.1) ∙ none in
+      cc
+  out_found e (was_named is) none = split (first_absent power n) (ap (λ (b : Option ℕ). or_else (first_absent power n) (or_else b after)) (sym is) ∙ none)
+    where
+      split : (f : Option ℕ) → or_else f (Some e) ≡ None → ⊥
+      split (Some x) z = cc
+      split None z = cc
+  out_found e (is_named is) none = split (first_absent power n) before (ap (λ (a : Option ℕ). or_else (first_absent power n) (or_else before a)) (sym is) ∙ none)
+    where
+      split : (f b : Option ℕ) → or_else f (or_else b (Some e)) ≡ None → ⊥
+      split (Some x) b z = cc
+      split None (Some x) z = cc
+      split None None z = cc
+
+  -- so it is the one that is out, if one is
+  pub first_only : (only : Option ℕ) → IsOnlyOut (IsOutOfCommit power n before after) only → or_else (first_absent power n) (or_else before after) ≡ only
+  first_only only is = split (or_else (first_absent power n) (or_else before after)) refl only refl
+    where
+      split : (o : Option ℕ) → or_else (first_absent power n) (or_else before after) ≡ o → (p : Option ℕ) → only ≡ p → o ≡ only
+      split (Some e) found p k = sym (is.one e (first_is_out e found))
+      split None found None k = sym k
+      split None found (Some x) k = absurd (out_found x (is.is x k) found)
+
+-- a disk that was lost, or else the one that was out before
+pub lost_down : (was now lost : Option ℕ) → ((d : ℕ) → lost ≡ Some d → now ≡ Some d) → ((d : ℕ) → now ≡ Some d → (was ≡ Some d) ⊎ (lost ≡ Some d)) → ((d : ℕ) → was ≡ Some d → now ≡ Some d)
+    → now ≡ or_else lost was
+lost_down was now (Some d) agrees down remains = agrees d refl
+lost_down None now None agrees down remains = split now refl
+  where
+    split : (o : Option ℕ) → now ≡ o → now ≡ None
+    split None is = is
+    split (Some x) is = absurd (elim (down x is) [ inl was ↦ (let z : None ≡ Some x = was in cc) | inr lost ↦ (let z : None ≡ Some x = lost in cc) ])
+lost_down (Some x) now None agrees down remains = remains x refl
 
 -- why two disks are down, by all that were out
 pub two_beside : (power : ℕ → Power) (n : ℕ) (before after down : Option ℕ) (old new : ℕ → Slot) (two : Two) → down ≡ or_else (first_absent power n) (or_else before after)

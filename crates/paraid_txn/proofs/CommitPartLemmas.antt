@@ -17,8 +17,10 @@ use Rattle.paraid_rack.specs.Trail.{Trail, now, run}
 use Rattle.paraid_rack.proofs.TrailsLemmas.{Ran-call, Ran-none, Ran-then}
 use Rattle.paraid_record.specs.declared.meta.Meta.{Meta}
 use Rattle.paraid_record.specs.declared.targets.Target.{Target}
-use Rattle.paraid_image.specs.Calls.{disk_of}
+use Rattle.paraid_image.specs.Calls.{disk_of, is_done}
+use Rattle.paraid_image.specs.Lost.{AnswersLosses, BearsLoss, TellsLosses}
 use Rattle.paraid_image.specs.Neutral.{names_place}
+use Rattle.paraid_image.proofs.LostLemmas.{bears_done, bears_failed, bears_none, ran_bears, ran_tells, tells_failed}
 use Rattle.paraid_image.specs.Out.{named_out}
 use Rattle.paraid_image.specs.Sides.{Batch, targets}
 use Rattle.paraid_txn.specs.declared.losses.Losses.{Losses}
@@ -112,11 +114,20 @@ module _ {old new : ℕ → Slot} {disk : ℕ} {leaves : Slot} {dirt ok : Bool} 
   }
 
 module _ {R : Type 0} (g : Ghosts R) {skip : Option ℕ} {disk : ℕ} (call : Bool → Call) {old new : R} {leaves : Slot} {dirt ok : Bool} (not : skip ≢ Some disk)
-    (here : is_present (g.slot old disk).power ≡ true) (at : (done : Bool) → disk_of (call done) ≡ disk)
+    (here : is_present (g.slot old disk).power ≡ true) (at : (done : Bool) → disk_of (call done) ≡ disk) (does : (done : Bool) → is_done (call done) ≡ done)
     (lawful : (t : Trail) → g.told old ≡ Some t → IsLawful (now t) (call ok)) (same : IsWell (g.slot old disk) leaves)
     (touched : ChangesOneSlot (g.slot old) (g.slot new) disk leaves dirt ok) (grows : GrowsByCall (g.told old) (g.told new) (call ok)) where
   made : Ran (g.told old) (g.told new) (EachCall (IsThisCall skip disk call))
   made = Ran-call (EachCall (IsThisCall skip disk call)) (g.told old) (g.told new) (call ok) grows (λ s is. (lawful s is, (not, ok, refl), tt))
+
+  -- which disk is lost by the answer
+  answered : (from to : Losses) (result : Result (Unit {0}) Two) → FollowsAnswer from to disk ok result → AnswersLosses from.down to.down result (call ok ∷ [])
+  answered from to (Ok it) (inl is) = subst (λ (b : Losses). BearsLoss from.down b.down (call ok ∷ [])) (sym is.1) (bears_done from.down (call ok) (does ok ∙ is.0))
+  answered from to (Ok it) (inr is) = bears_failed from.down to.down (call ok) (does ok ∙ is.0) (is.1 ∙ ap Some (sym (at ok))) (λ x out. is.3 x out ∙ sym (at ok))
+  answered from to (Err two) is = tells_failed from.down two (call ok) (does ok ∙ is.0) is.2 (λ e. is.3 (e ∙ is.4)) (is.4 ∙ sym (at ok))
+
+  ordered : (from to : Losses) (result : Result (Unit {0}) Two) → FollowsAnswer from to disk ok result → Ran (g.told old) (g.told new) (λ s cs. AnswersLosses from.down to.down result cs)
+  ordered from to result follows = Ran-call (λ s cs. AnswersLosses from.down to.down result cs) (g.told old) (g.told new) (call ok) grows (λ s is. answered from to result follows)
 
   -- the call and what follows its answer
   pub called_leaves : (from to : Losses) (result : Result (Unit {0}) Two) → FollowsAnswer from to disk ok result → CommitPart g (IsThisCall skip disk call) from to old new result
@@ -127,6 +138,7 @@ module _ {R : Type 0} (g : Ghosts R) {skip : Option ℕ} {disk : ℕ} (call : Bo
     gone = tt;
     on = λ d lost. inl lost;
     calls = made;
+    order = ordered from from (Ok it) (inl (is.0, refl));
   })
   called_leaves from to (Ok it) (inr is) = record {
     lasts = borne_lasts touched same from to is.0 is.1 is.2 is.3;
@@ -137,6 +149,7 @@ module _ {R : Type 0} (g : Ghosts R) {skip : Option ℕ} {disk : ℕ} (call : Bo
         let same : disk ≡ d = (let e : Some disk ≡ Some d = sym is.2 ∙ lost in cc) in
         inr ((call ok, (not, ok, refl), at ok ∙ same), subst (λ (k : ℕ). is_present (g.slot old k).power ≡ true) same here);
     calls = made;
+    order = ordered from to (Ok it) (inr is);
   }
   called_leaves from to (Err two) is = subst (λ (b : Losses). CommitPart {A = Unit {0}} g (IsThisCall skip disk call) from b old new (Err two)) (sym is.1) (record {
     lasts = done_lasts touched same from;
@@ -149,6 +162,7 @@ module _ {R : Type 0} (g : Ghosts R) {skip : Option ℕ} {disk : ℕ} (call : Bo
     gone = record { first = inl is.2; second = subst (IsGoneSince (g.slot old) (g.slot new)) (sym is.4) (record { there = here; absent = touched.absent is.0 }) };
     on = λ d lost. inl lost;
     calls = made;
+    order = ordered from from (Err two) (is.0, refl, is.2, is.3, is.4);
   })
 
 -- Parts
@@ -162,6 +176,7 @@ CommitPart_none g uses a r it = record {
   gone = tt;
   on = λ d is. inl is;
   calls = Ran-none (EachCall uses) (λ s. tt) (g.told r);
+  order = Ran-none (λ s cs. BearsLoss a.down a.down cs) (λ s. bears_none a.down) (g.told r);
 }
 
 on_then : {R : Type 0} (g : Ghosts R) (uses : Call → Type 0) (a b c : Losses) (r s : R) → AreCommitCalls a b (g.slot r) (g.slot s)
@@ -204,6 +219,7 @@ CommitPart_then {g = g} {uses = uses} {a = a} {b = b} {c = c} {r = r} {s = s} {t
   gone = tt;
   on = on_then g uses a b c r s first.lasts first.on second.on;
   calls = Ran-then (EachCall uses) (EachCall-append uses) (g.told r) (g.told s) (g.told t) first.calls second.calls;
+  order = ran_bears a.down b.down c.down (g.told r) (g.told s) (g.told t) first.order second.order;
 }
 CommitPart_then {g = g} {uses = uses} {a = a} {b = b} {c = c} {r = r} {s = s} {t = t} {result = Err two} first second = record {
   lasts = AreCommitCalls-then a b c (g.slot r) (g.slot s) (g.slot t) first.lasts second.lasts;
@@ -212,6 +228,7 @@ CommitPart_then {g = g} {uses = uses} {a = a} {b = b} {c = c} {r = r} {s = s} {t
   gone = gone_then g uses a b c r s t two first.lasts second.lasts first.on second.gone;
   on = on_then g uses a b c r s first.lasts first.on second.on;
   calls = Ran-then (EachCall uses) (EachCall-append uses) (g.told r) (g.told s) (g.told t) first.calls second.calls;
+  order = ran_tells a.down b.down two (g.told r) (g.told s) (g.told t) first.order second.order;
 }
 
 -- the same where a `?` hands on the error
@@ -225,12 +242,13 @@ CommitPart_raised {g = g} {a = a} {r = r} {s = s} (Err other) is part = record {
   gone = subst (λ (t : Two). AreGoneSince (λ d. a.down ≡ Some d) (g.slot r) (g.slot s) t) (sym is) part.gone;
   on = part.on;
   calls = part.calls;
+  order = subst (λ (t : Two). Ran (g.told r) (g.told s) (λ x cs. TellsLosses a.down t cs)) (sym is) part.order;
 }
 
 -- and where it ends well with another value
 pub CommitPart_answer : {R A B : Type 0} {g : Ghosts R} {uses : Call → Type 0} {a b : Losses} {r s : R} {it : A} (any : B)
     → CommitPart g uses a b r s (Ok it) → CommitPart g uses a b r s (Ok any)
-CommitPart_answer any part = record { lasts = part.lasts; well = part.well; two = tt; gone = tt; on = part.on; calls = part.calls }
+CommitPart_answer any part = record { lasts = part.lasts; well = part.well; two = tt; gone = tt; on = part.on; calls = part.calls; order = part.order }
 
 -- less is said of the calls
 pub CommitPart_milder : {R A : Type 0} {g : Ghosts R} {u v : Call → Type 0} {a b : Losses} {r s : R} {result : Result A Two} → ((c : Call) → u c → v c)
@@ -242,6 +260,7 @@ CommitPart_milder {u = u} {v = v} more part = record {
   gone = part.gone;
   on = λ d is. elim (part.on d is) [ inl was ↦ inl was | inr on ↦ inr ((on.0.0, more on.0.0 on.0.1, on.0.2), on.1) ];
   calls = ran_milder (EachCall u) (EachCall v) (EachCall-milder u v more) part.calls;
+  order = part.order;
 }
 
 -- Of which kind they are

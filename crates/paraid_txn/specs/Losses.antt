@@ -102,6 +102,11 @@ pub data IsOutOfCommit (power : ℕ → Power) (disks : ℕ) (before after : Opt
   was_named : before ≡ Some e → IsOutOfCommit power disks before after e
   is_named : after ≡ Some e → IsOutOfCommit power disks before after e
 
+-- this is the one disk that is out as a commit begins, if one is
+pub record IsOnlyOut (out : ℕ → Type 0) (only : Option ℕ) : Type 0 where
+  pub one : (e : ℕ) → out e → only ≡ Some e
+  pub is : (e : ℕ) → only ≡ Some e → out e
+
 -- Two disks are down: the first was out, or has failed since, and then the second has failed.
 pub record AreTwoDownBeside (out : ℕ → Type 0) (old new : ℕ → Slot) (two : Two) : Type 0 where
   pub first : out two.first ⊎ HasRisen (old two.first).faults (new two.first).faults

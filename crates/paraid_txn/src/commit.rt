@@ -30,14 +30,15 @@ ghost use Rattle.paraid_rack.specs.Disks.{Disks};
 ghost use Rattle.paraid_rack.specs.Told.{Ran};
 ghost use Rattle.paraid_txn.specs.CommitPart.{CommitPart};
 ghost use Rattle.paraid_txn.specs.CrashSpecification.{CrashSpecification};
-ghost use Rattle.paraid_txn.specs.Losses.{AreGoneSince, StaySynced, StaySyncedBut, AreFailedOrWell, IsAlone, IsSyncedAt, IsLostNow, IsOutOfCommit, OnlyLosesSlots, AreTwoDownBeside, IsWell};
+ghost use Rattle.paraid_txn.specs.Losses.{AreGoneSince, StaySynced, StaySyncedBut, AreFailedOrWell, IsAlone, IsOnlyOut, IsSyncedAt, IsLostNow, IsOutOfCommit, OnlyLosesSlots, AreTwoDownBeside, IsWell};
 ghost use Rattle.paraid_txn.specs.Uses.{EachCall, Uses, UsesLog, UsesTarget};
 ghost use Rattle.paraid_txn.specs.Ready.{AreTargetsReady, CanCommit, IsLogReady};
 ghost use Rattle.paraid_image.specs.Sides.{is_open, targets};
 ghost use Rattle.paraid_txn.specs.Batches.{names_disk};
 ghost use Rattle.paraid_txn.specs.CommitStages.{CloseStage, HoldsEarly, IsSpelled, Job, HoldsLate, LayIn, LogStage, LogIn, MarkStage, OpenStage, SyncIn, HoldsWhole, job_gone, job, job_named};
 ghost use Rattle.paraid_txn.specs.Commit.{EndsCommitted, IsWholeOrAbsent, gone_out as gone_of};
-ghost use Rattle.paraid_image.specs.Out.{named_out as named_of};
+ghost use Rattle.paraid_image.specs.Lost.{BearsLoss, TellsLosses};
+ghost use Rattle.paraid_image.specs.Out.{named_out as named_of, or_else};
 ghost use Rattle.paraid_record.specs.declared.meta.Meta.{Meta as MetaType};
 ghost use Rattle.paraid_record.specs.Meta.{meta_bytes};
 ghost use Rattle.paraid_record.specs.Range.{IsInRange};
@@ -442,6 +443,14 @@ impl<R: Rack> Store<R> {
         ensures gone { IfErr result (AreGoneSince (IsOutOfCommit (λ e. (R.slot (store_rack self.old) e).power)
             (disks_of self.old) (named_by self.old) (named_of meta.now.out))
             (R.slot (store_rack self.old)) (R.slot (store_rack self.new))) }
+
+        // Which disk failed first, where at most one was out.
+        ensures order { IfErr result (λ two. (only : _) → IsOnlyOut (IsOutOfCommit (λ e. (R.slot (store_rack self.old) e).power)
+            (disks_of self.old) (named_by self.old) (named_of meta.now.out)) only
+            → Ran (R.told (store_rack self.old)) (R.told (store_rack self.new)) (λ start calls. TellsLosses only two calls)) }
+        ensures bears { IfOk result (λ lost. (only : _) → IsOnlyOut (IsOutOfCommit (λ e. (R.slot (store_rack self.old) e).power)
+            (disks_of self.old) (named_by self.old) (named_of meta.now.out)) only
+            → Ran (R.told (store_rack self.old)) (R.told (store_rack self.new)) (λ start calls. BearsLoss only (or_else lost only) calls)) }
 
         // Which calls are made.
         ensures calls { Ran (R.told (store_rack self.old)) (R.told (store_rack self.new))

@@ -1,5 +1,5 @@
 -- Reads in which two disks are down.
-use Rattle.std.specs.Prelude.{◌≡◌, ◌≢◌, ℕ, true, Option, Some, None}
+use Rattle.std.specs.Prelude.{◌≡◌, ◌≢◌, ℕ, true, ◌++◌, Option, Some, None}
 use Rattle.std.proofs.Common.{refl, sym, ◌∙◌, ap, subst, arith, inl, inr}
 use Rattle.std.proofs.lemmas.Bool.{false≢true}
 use Rattle.paraid_base.specs.declared.fault.Two.{Two}
@@ -11,7 +11,9 @@ use Rattle.paraid_rack.specs.Trail.{Trail}
 use Rattle.paraid_txn.specs.declared.store.Store.{Store}
 use Rattle.paraid_txn.specs.Losses.{StaySynced, OnlyLosesSlots}
 use Rattle.paraid_txn.specs.Stores.{store_rack}
+use Rattle.paraid_image.specs.Lost.{TellsLosses, first_lost}
 use Rattle.paraid_image.proofs.CallLemmas.{decide_some}
+use Rattle.paraid_image.proofs.LostLemmas.{ran_beside, ran_parts, ran_past, tells_both}
 use Rattle.paraid_view.specs.Reads.{AreLeft, AreArrayReads, HaveLostTwo, HaveRead}
 use Rattle.paraid_view.proofs.ReadLemmas.{left_same, ran_then}
 
@@ -61,12 +63,13 @@ module _ {R : Type 0} {g : _} (count : R → ℕ) (slot : R → ℕ → Slot) (t
     spared = left_spared (Some e) (slot (store_rack a)) (slot (store_rack b)) read.left;
     synced = left_synced (Some e) (slot (store_rack a)) (slot (store_rack b)) read.left;
     calls = read.calls;
+    tells = ran_beside out (two_of first e) (told (store_rack a)) (told (store_rack b)) is apart read.first;
   }
 
   -- one fails, and then another
-  pub two_lost : (n k first e : ℕ) (out : Option ℕ) (a b c : Store R g) → k ≡ n → first ≢ e → HaveRead count slot told n (Some first) a b → HaveRead count slot told k (Some e) b c
+  pub two_lost : (n k first e : ℕ) (out : Option ℕ) (a b c : Store R g) → out ≡ None → k ≡ n → first ≢ e → HaveRead count slot told n (Some first) a b → HaveRead count slot told k (Some e) b c
       → HaveLostTwo count slot told n out (two_of first e) a c
-  two_lost n k first e out a b c is apart one two = record {
+  two_lost n k first e out a b c none is apart one two = record {
     slots = two.slots ∙ one.slots;
     same = record { disks = two.same.disks ∙ one.same.disks; epoch = two.same.epoch ∙ one.same.epoch; named = two.same.named ∙ one.same.named };
     down = record {
@@ -77,6 +80,9 @@ module _ {R : Type 0} {g : _} (count : R → ℕ) (slot : R → ℕ → Slot) (t
     spared = spared_then (slot (store_rack a)) (slot (store_rack b)) (slot (store_rack c)) (left_spared (Some first) (slot (store_rack a)) (slot (store_rack b)) one.left) (left_spared (Some e) (slot (store_rack b)) (slot (store_rack c)) two.left);
     synced = synced_then (Some e) (slot (store_rack a)) (slot (store_rack b)) (slot (store_rack c)) (left_synced (Some first) (slot (store_rack a)) (slot (store_rack b)) one.left) two.left;
     calls = ran_then (told (store_rack a)) (told (store_rack b)) (told (store_rack c)) n one.calls (subst (λ (m : ℕ). Ran (told (store_rack b)) (told (store_rack c)) (AreArrayReads m)) is two.calls);
+    tells = ran_parts (λ cs. first_lost cs ≡ Some first) (λ cs. first_lost cs ≡ Some e) (TellsLosses out (two_of first e))
+        (λ cs ds x y. subst (λ (o : Option ℕ). TellsLosses o (two_of first e) (cs ++ ds)) (sym none) (tells_both (two_of first e) cs ds apart x y))
+        (told (store_rack a)) (told (store_rack b)) (told (store_rack c)) one.first two.first;
   }
 
   -- one fails, and the rest is read without it
@@ -86,4 +92,5 @@ module _ {R : Type 0} {g : _} (count : R → ℕ) (slot : R → ℕ → Slot) (t
     same = record { disks = two.same.disks ∙ one.same.disks; epoch = two.same.epoch ∙ one.same.epoch; named = two.same.named ∙ one.same.named };
     left = subst (AreLeft (Some e) (slot (store_rack a))) (sym (left_same (slot (store_rack b)) (slot (store_rack c)) two.left)) one.left;
     calls = ran_then (told (store_rack a)) (told (store_rack b)) (told (store_rack c)) n one.calls (subst (λ (m : ℕ). Ran (told (store_rack b)) (told (store_rack c)) (AreArrayReads m)) is two.calls);
+    first = ran_past e (AreArrayReads k) (told (store_rack a)) (told (store_rack b)) (told (store_rack c)) one.first two.calls;
   }

@@ -14,6 +14,7 @@ use Rattle.paraid_record.specs.declared.meta.Meta.{Meta}
 use Rattle.paraid_txn.specs.declared.store.Store.{Store}
 use Rattle.paraid_base.specs.declared.fault.Two.{Two}
 use Rattle.paraid_txn.specs.Losses.{StaySynced, IsLostNow, OnlyLosesSlots, AreTwoDown}
+use Rattle.paraid_image.specs.Lost.{TellsLosses, first_lost}
 use Rattle.paraid_image.specs.Sides.{Batch, has_place}
 use Rattle.paraid_image.specs.Spot.{View, rising_to}
 use Rattle.paraid_image.specs.Standing.{Contents, overlaid_block}
@@ -62,6 +63,7 @@ pub record HaveRead {R : Type 0} {g : _} (count : R → ℕ) (slot : R → ℕ �
   pub same : IsSameStore old new
   pub left : AreLeft lost (slot (store_rack old)) (slot (store_rack new))
   pub calls : Ran (told (store_rack old)) (told (store_rack new)) (AreArrayReads n)
+  pub first : Ran (told (store_rack old)) (told (store_rack new)) (λ s cs. first_lost cs ≡ lost)
 
 -- with the batch laid over, the disks hold these blocks past the log
 abbrev pub ShowsContents : Option Trail → Batch → Contents → Type 0
@@ -72,7 +74,7 @@ ShowsContents told batch f = (t : Trail) → told ≡ Some t → (d p : ℕ) →
 abbrev pub seen_by : Meta → List (List Bool) → Option ℕ → Contents → View
 seen_by m table out f = record { meta = m; dirty = is_dirty table; out = out; block = f }
 
--- Reads in which two disks were found down: the first was out, or has failed in the reads before.
+-- Reads in which two disks were found down: the first was out, or has failed in the reads before. Their record tells which.
 pub record HaveLostTwo {R : Type 0} {g : _} (count : R → ℕ) (slot : R → ℕ → Slot) (told : R → Option Trail) (n : ℕ) (out : Option ℕ) (two : Two) (old new : Store R g) : Type 0 where
   pub slots : count (store_rack new) ≡ count (store_rack old)
   pub same : IsSameStore old new
@@ -80,3 +82,4 @@ pub record HaveLostTwo {R : Type 0} {g : _} (count : R → ℕ) (slot : R → �
   pub spared : OnlyLosesSlots (slot (store_rack old)) (slot (store_rack new))
   pub synced : StaySynced (slot (store_rack old)) (slot (store_rack new))
   pub calls : Ran (told (store_rack old)) (told (store_rack new)) (AreArrayReads n)
+  pub tells : Ran (told (store_rack old)) (told (store_rack new)) (λ s cs. TellsLosses out two cs)

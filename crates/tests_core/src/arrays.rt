@@ -1,4 +1,6 @@
-//! Arrays of five disks with gears 4 and 5, formatted by hand on a rack in memory.
+//! Arrays of five disks with gears 4 and 5, and of others with one gear, formatted by hand on a rack in
+//! memory.
+ghost use Rattle.std.specs.Prelude.{◌≤◌};
 
 use paraid_base::{Block, BlockNo, DiskNo, Out, Pairs};
 use paraid_core::{Changes, Core, can_begin};
@@ -37,14 +39,20 @@ const META: [u8; 118] = [
     0x00, 0x64, 0x00, 0x00, 0x00, 0x01,
 ];
 
-// The meta of an array of so many rows in this gear, with this disk out.
-fn meta_of(rows: u8, gear: u8, out: Option<DiskNo>) -> Option<Meta> {
+// The block of the meta.
+fn meta_block() -> Block {
     let mut block = Block::zero();
     for at in 0..META.len() {
         if at < 512 {
             block.set(at, META[at]);
         }
     }
+    block
+}
+
+// The meta of an array of so many rows in this gear, with this disk out.
+fn meta_of(rows: u8, gear: u8, out: Option<DiskNo>) -> Option<Meta> {
+    let mut block = meta_block();
     block.set(23, rows);
     let meta = read_meta(&block)?;
     match out {
@@ -75,12 +83,15 @@ fn add_disk(rack: &mut MemRack, size: u32, gear: u8, disk: DiskNo) -> bool {
 fn disks_of(
     alloc: Global,
     shape: Shape,
+    disks: u8,
     gear: u8,
     out: Option<DiskNo>,
     plan: Vec<Planned>,
-) -> Option<MemRack> {
-    let mut rack = MemRack::new(alloc, 5, shape.size, 100, Vec::new(alloc)).ok()?;
-    for disk in 0..5 {
+) -> Option<MemRack>
+    requires { disks ≤ 8 }
+{
+    let mut rack = MemRack::new(alloc, disks, shape.size, 100, Vec::new(alloc)).ok()?;
+    for disk in 0..disks {
         if !add_disk(&mut rack, shape.size, gear, disk) {
             return None;
         }
@@ -105,7 +116,23 @@ pub fn new_array(
     plan: Vec<Planned>,
 ) -> Option<(MemRack, Meta)> {
     let meta = meta_of(shape.rows, gear, out)?;
-    let rack = disks_of(alloc, shape, gear, out, plan)?;
+    let rack = disks_of(alloc, shape, 5, gear, out, plan)?;
+    Some((rack, meta))
+}
+
+/// An array of zeros of so many disks, with no gear but that of all of them.
+pub fn flat_array(alloc: Global, disks: u8) -> Option<(MemRack, Meta)> {
+    if disks > 8 {
+        return None;
+    }
+    let mut block = meta_block();
+    block.set(10, disks);
+    block.set(11, 1);
+    block.set(12, disks);
+    block.set(13, 0);
+    block.set(68, disks);
+    let meta = read_meta(&block)?;
+    let rack = disks_of(alloc, SMALL, disks, disks, None, Vec::new(alloc))?;
     Some((rack, meta))
 }
 

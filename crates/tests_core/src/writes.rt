@@ -4,15 +4,37 @@ ghost use Rattle.paraid_core.specs.Cores.{IsCoreReady, CanCoreServe, copied_of, 
 ghost use Rattle.paraid_core.specs.CoreInvariant.{AreCopiesSynced};
 ghost use Rattle.paraid_memrack.specs.Rules.{rack_slot_count, slots_of};
 
-use crate::arrays::{LARGE, SMALL, Shape, new_array, pairs_of, reads_of};
+use crate::arrays::{LARGE, SMALL, Shape, flat_array, new_array, pairs_of, reads_of};
 use paraid_base::{Block, BlockNo, DiskNo, Out, Pairs, Place, Two};
 use paraid_core::{Changes, Core, can_begin};
 use paraid_dirty::DirtyTable;
 use paraid_memrack::{MemRack, Planned};
 use paraid_rack::Rack;
+use paraid_record::Meta;
 use paraid_txn::{Batch, Store};
 use paraid_view::Draft;
 use std::alloc::Global;
+
+// A core with nothing staged over these disks.
+fn begun_over(alloc: Global, rack: MemRack, meta: Meta) -> Option<Core<MemRack>>
+    ensures ready { IfSome result (λ core. IsCoreReady rack_slot_count slots_of core) }
+    ensures serves { IfSome result (λ core. CanCoreServe slots_of core) }
+    ensures synced { IfSome result (λ core. AreCopiesSynced (meta_of core).setup.geometry.disks (copied_of core)) }
+{
+    let Ok(dirty) = DirtyTable::new(alloc, meta.setup.geometry.rows) else {
+        return None;
+    };
+    let Ok(batch) = Batch::new(alloc) else {
+        return None;
+    };
+    let draft = Draft::new(alloc).ok()?;
+    let changes = Changes::new(alloc).ok()?;
+    if !can_begin(&rack, &meta) {
+        return None;
+    }
+    let store = Store::adopt(rack, &meta);
+    Some(Core::new(store, meta, dirty, batch, draft, changes))
+}
 
 // A core with nothing staged over an array of zeros.
 fn begun(
@@ -27,19 +49,7 @@ fn begun(
     ensures synced { IfSome result (λ core. AreCopiesSynced (meta_of core).setup.geometry.disks (copied_of core)) }
 {
     let (rack, meta) = new_array(alloc, shape, gear, out, plan)?;
-    let Ok(dirty) = DirtyTable::new(alloc, meta.setup.geometry.rows) else {
-        return None;
-    };
-    let Ok(batch) = Batch::new(alloc) else {
-        return None;
-    };
-    let draft = Draft::new(alloc).ok()?;
-    let changes = Changes::new(alloc).ok()?;
-    if !can_begin(&rack, &meta) {
-        return None;
-    }
-    let store = Store::adopt(rack, &meta);
-    Some(Core::new(store, meta, dirty, batch, draft, changes))
+    begun_over(alloc, rack, meta)
 }
 
 // Writes some blocks, if the array has them.
@@ -83,18 +93,20 @@ const SPREAD: [BlockNo; 8] = [0, 4, 8, 12, 16, 1, 5, 9];
 
 // The gear, the disk that is out, the blocks, and by hand: the reads and the targets.
 //
-// A block costs a read of its old bytes and one of its row's parity, in each gear, and a read of the
-// parity of each soft stripe that changes. A block that was staged is not read again. Where the data is
-// on the disk that is out, the new parity is made of the three others of its row that are data; a copy
-// there is had from the three others of its stripe. Where the row's parity is on that disk, nothing is
-// read for it.
+// The new parity of a row is made of the old bytes of the blocks that change and the old parity, or of the
+// blocks that do not change, whichever reads less. In a low gear the old bytes of what is soft are
+// read, and the parity of each soft stripe that changes. A block that was staged is not read again. Where
+// the data is on the disk that is out, the new parity is made of the three others of its row that are
+// data; a copy there is had from the three others of its stripe. Where the row's parity is on that disk,
+// nothing is read for it.
 const COSTS: [(u8, Option<DiskNo>, [BlockNo; 8], u8, u32, u8); 19] = [
     // the top gear: data and parity
     (5, None, [0, 0, 0, 0, 0, 0, 0, 0], 1, 2, 2),
     (5, None, [19, 0, 0, 0, 0, 0, 0, 0], 1, 2, 2),
-    // the old bytes of eight blocks, and the parity of two rows or of five
-    (5, None, ROWS, 8, 10, 10),
-    (5, None, SPREAD, 8, 13, 13),
+    // the new bytes alone make the parity of a whole row
+    (5, None, ROWS, 8, 0, 10),
+    // the two other blocks of each of three rows, and the old bytes and the parity of two rows
+    (5, None, SPREAD, 8, 10, 13),
     // the same block twice
     (5, None, [6, 6, 0, 0, 0, 0, 0, 0], 2, 2, 2),
     // gear 4: both cells are hard
@@ -103,16 +115,17 @@ const COSTS: [(u8, Option<DiskNo>, [BlockNo; 8], u8, u32, u8); 19] = [
     (4, None, [7, 0, 0, 0, 0, 0, 0, 0], 1, 3, 5),
     // the parity is soft
     (4, None, [0, 0, 0, 0, 0, 0, 0, 0], 1, 3, 5),
-    // both rows: eight blocks, two parities, one soft parity, two blocks of the map
-    (4, None, ROWS, 8, 11, 13),
+    // both rows: the old parity of one and the old data of the other that are soft, and their soft
+    // parity; two blocks of the map
+    (4, None, ROWS, 8, 3, 13),
     // the data is on the disk that is out: the three others
     (5, Some(0), [0, 0, 0, 0, 0, 0, 0, 0], 1, 3, 1),
     // the parity is: nothing
     (5, Some(0), [16, 0, 0, 0, 0, 0, 0, 0], 1, 0, 1),
     // neither is
     (5, Some(0), [5, 0, 0, 0, 0, 0, 0, 0], 1, 2, 2),
-    // of each row one block by the three others, and these three blocks; the parity is staged by then
-    (5, Some(0), ROWS, 8, 12, 8),
+    // of whole rows nothing
+    (5, Some(0), ROWS, 8, 0, 8),
     // gear 4: the copy is on the disk that is out: three others of the stripe, the parity, and the
     // soft parity again; one block of the map, since that disk had the other one
     (4, Some(1), [7, 0, 0, 0, 0, 0, 0, 0], 1, 5, 3),
@@ -146,6 +159,70 @@ fn a_write_reads_what_changes_its_parities_and_stages_what_it_changes(rt: HostRu
     }
 }
 
+// The reads of a write of these blocks, which lie in one row.
+fn reads_of_row(alloc: Global, rack: MemRack, meta: Meta, pairs: &Pairs) -> Option<u32> {
+    let mut core = begun_over(alloc, rack, meta)?;
+    let Ok(()) = write(&mut core, pairs)? else {
+        return None;
+    };
+    reads_of(&core.close())
+}
+
+// For 3 to 8 disks in the top gear, and for a write of 1 block of the first row to all of them: the lesser of
+// one more than it writes and the number of data blocks that it does not write.
+const LEAST: [[u32; 7]; 6] = [
+    [1, 0, 0, 0, 0, 0, 0],
+    [2, 1, 0, 0, 0, 0, 0],
+    [2, 2, 1, 0, 0, 0, 0],
+    [2, 3, 2, 1, 0, 0, 0],
+    [2, 3, 3, 2, 1, 0, 0],
+    [2, 3, 4, 3, 2, 1, 0],
+];
+
+#[test]
+fn a_write_of_one_row_reads_what_the_smaller_rule_needs(rt: HostRuntime) {
+    let alloc = rt.alloc();
+    for (more, least) in LEAST.iter().enumerate() {
+        let disks = 3 + (more % 8) as u8;
+        for (before, wanted) in least.iter().enumerate() {
+            let count = 1 + (before % 8) as u8;
+            if count < disks {
+                let (rack, meta) = flat_array(alloc, disks).expect(&rt, "disks");
+                let pairs = pairs_of(&[0, 1, 2, 3, 4, 5, 6, 7], count);
+                let reads = reads_of_row(alloc, rack, meta, &pairs);
+                assert!(rt;
+                    reads == Some(*wanted),
+                    "{disks} disks: {count} blocks: {reads:?}"
+                );
+            }
+        }
+    }
+}
+
+// For five disks in gear 4, and for a write of 1 to 4 blocks of the first row and of the second: the old parity
+// of the first and the last block of the second are soft, and are read with the parity of their stripe.
+const LEAST_SOFT: [[u32; 4]; 2] = [[3, 4, 3, 2], [2, 2, 1, 2]];
+
+#[test]
+fn a_write_of_one_row_in_a_low_gear_reads_what_the_smaller_rule_needs(rt: HostRuntime) {
+    let alloc = rt.alloc();
+    for (row, least) in LEAST_SOFT.iter().enumerate() {
+        for (before, wanted) in least.iter().enumerate() {
+            let count = 1 + (before % 4) as u8;
+            let first = 4 * (row % 2) as BlockNo;
+            let blocks = [first, first + 1, first + 2, first + 3, 0, 0, 0, 0];
+            let (rack, meta) = new_array(alloc, SMALL, 4, None, Vec::new(alloc)).expect(
+                &rt, "disks",
+            );
+            let reads = reads_of_row(alloc, rack, meta, &pairs_of(&blocks, count));
+            assert!(rt;
+                reads == Some(*wanted),
+                "row {row}: {count} blocks: {reads:?}"
+            );
+        }
+    }
+}
+
 // The gear, the disk that fails and at which of its calls, the blocks, and by hand: the reads, done or
 // failed, the targets, and the disk that is out then.
 const LOSSES: [(u8, DiskNo, u32, [BlockNo; 8], u8, u32, u8); 5] = [
@@ -153,10 +230,9 @@ const LOSSES: [(u8, DiskNo, u32, [BlockNo; 8], u8, u32, u8); 5] = [
     (5, 0, 0, [0, 0, 0, 0, 0, 0, 0, 0], 1, 4, 1),
     // the parity's disk: the data and the failed read, and then nothing
     (5, 4, 0, [0, 0, 0, 0, 0, 0, 0, 0], 1, 2, 1),
-    // the third block's disk: three reads and the failed one; then two for block 0, one for block 1,
-    // for block 2 the one other of its row that is not staged yet, one for block 3; and five likewise
-    // for the second row
-    (5, 2, 0, ROWS, 8, 14, 8),
+    // the disk of a block that does not change: the failed read; then the two old blocks and the parity of
+    // two rows, nothing of the row whose parity is lost, and the old block and the parity of two rows
+    (5, 2, 0, SPREAD, 8, 11, 12),
     // the soft parity's disk: three reads of which the last has failed; then the data, the row's
     // parity, and no soft parity
     (4, 3, 0, [0, 0, 0, 0, 0, 0, 0, 0], 1, 5, 4),

@@ -31,3 +31,8 @@ returns-clause-known g c =
     let done = c.in_ok-commit.ensures in
     known_gone g.R.Rack.slot new c.args.disk
     (gone_marked (record b.meta { epoch = b.meta.epoch + 1 }) new.meta c.args.disk (ap (λ (m : Meta). m.out) c.mark_out.ensures.meta) done.meta) done.absent
+
+pub returns-clause-gone : goal.returns-clause-gone
+returns-clause-gone g c =
+    let b = c.mark_out.new.self in
+    gone_marked (record b.meta { epoch = b.meta.epoch + 1 }) c.commit.new.self.meta c.args.disk (ap (λ (m : Meta). m.out) c.mark_out.ensures.meta) c.in_ok-commit.ensures.meta

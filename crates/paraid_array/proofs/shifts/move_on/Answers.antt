@@ -1,5 +1,9 @@
+use Rattle.std.proofs.Common.{◌+◌, refl}
+use Rattle.paraid_base.specs.States.{phase_to}
+use Rattle.paraid_moves.specs.MoveMetas.{meta_flipped_to}
 use Rattle.paraid_core.proofs.AfterLemmas.{handed}
 use Rattle.paraid_shift.proofs.ServingLemmas.{leaves_array_then, two_array}
+use Rattle.paraid_array.proofs.OutLemmas.{steady_marked}
 use Rattle.paraid_array.proofs.shifts.move_on.Goals as goal
 
 pub returns-in_err-flip-clause-two : goal.returns-in_err-flip-clause-two
@@ -10,3 +14,8 @@ returns-in_err-flip-clause-two g c =
 pub returns-clause-leaves : goal.returns-clause-leaves
 returns-clause-leaves g c =
     leaves_array_then g.R.Rack.slot_count g.R.Rack.slot c.args.core.now c.step.new.core c.flip.new.core c.in_ok-moved.ensures.leaves c.in_ok-flip.ensures.leaves
+
+pub returns-clause-tells : goal.returns-clause-tells
+returns-clause-tells g c =
+    let b = c.step.new.core.meta in
+    steady_marked (record (meta_flipped_to b (phase_to b.phase)) { epoch = b.epoch + 1 }) c.flip.new.core.meta refl c.in_ok-flip.ensures.meta

@@ -1,6 +1,7 @@
 use Rattle.std.proofs.Common.{◌∙◌, sym}
 use Rattle.paraid_plan.proofs.cell.write_cell.Goals as goal
 use Rattle.paraid_plan.proofs.DeskLemmas.{cell_desk_is, cell_room, parked_of}
+use Rattle.paraid_plan.proofs.WrittenBitsLemmas.{cell_bits}
 use Rattle.paraid_plan.specs.Desk.{sees}
 
 pub read_place-requires-clause-parked : goal.read_place-requires-clause-parked
@@ -24,3 +25,8 @@ pub returns-clause-room : goal.returns-clause-room
 returns-clause-room g c =
     cell_room (g.P.Plan.desk c.args.plan.now) (g.P.Plan.desk c.read_place.new.plan) (g.P.Plan.desk c.read_copy.new.plan) (g.P.Plan.desk c.stage_place.new.plan) (g.P.Plan.desk c.stage_copy.new.plan) (g.P.Plan.desk c.set_dirty.new.self) c.args.r c.args.d _ c.in_ok-read_place.ensures.staged c.in_ok-read_copy.ensures.staged
     c.stage_place.ensures.room c.stage_copy.ensures.room c.set_dirty.ensures.desk
+
+pub returns-clause-bits : goal.returns-clause-bits
+returns-clause-bits g c =
+    cell_bits c.args.m.now (g.P.Plan.desk c.args.plan.now) (g.P.Plan.desk c.read_place.new.plan) (g.P.Plan.desk c.read_copy.new.plan) (g.P.Plan.desk c.stage_place.new.plan) (g.P.Plan.desk c.stage_copy.new.plan) (g.P.Plan.desk c.set_dirty.new.self) c.args.r c.args.d c.goes_hard-hard.result _ _
+    c.in_ok-read_place.ensures.bits c.in_ok-read_copy.ensures.bits c.stage_place.ensures.desk c.stage_copy.ensures.desk c.goes_hard-hard.ensures c.set_dirty.ensures.desk

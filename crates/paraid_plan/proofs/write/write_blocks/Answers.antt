@@ -1,68 +1,112 @@
-use Rattle.std.proofs.Common.{◌≡◌, ℕ, ◌∙◌, take, refl, sym, subst, arith, get_or}
-use Rattle.paraid_base.specs.History.{Entry}
-use Rattle.paraid_base.specs.Pairs.{pairs_of, numbered_blocks}
-use Rattle.paraid_base.proofs.PairsLemmas.{take-zipped}
-use Rattle.paraid_plan.specs.Desk.{StageAll}
-use Rattle.paraid_plan.proofs.ManyLemmas.{pair_below, stage_more}
+use Rattle.std.specs.Prelude.{◌&&◌}
+use Rattle.std.proofs.Common.{◌≡◌, ◌∙◌, ◌+◌, ℕ, ap, refl, sym, subst, arith}
+use Rattle.paraid_base.specs.History.{Entry, last_of}
+use Rattle.paraid_base.specs.Pairs.{pairs_of}
+use Rattle.paraid_base.proofs.PairsLemmas.{length-pairs_of}
+use Rattle.paraid_plan.specs.RowBits.{TurnsBits, turns_cell_of, turns_in_new_row}
+use Rattle.paraid_plan.specs.RowWrites.{names_row, pairs_before, row_change}
+use Rattle.paraid_plan.proofs.PairLemmas.{before_all, before_none, change_all, change_next, change_none, counted_few, counted_next, rows_change}
+use Rattle.paraid_plan.proofs.RowBitsLemmas.{bits_none, bits_then, rows_turn_next, rows_turn_none, writes_turn}
+use Rattle.paraid_plan.proofs.RowLemmas.{stages_none, stages_same, stages_then}
 use Rattle.paraid_plan.proofs.write.write_blocks.Goals as goal
 
 pub loop-at-init : goal.loop-at-init
-loop-at-init g c = record { writes = λ tells. refl; few = omega arith; changes = omega arith; goes_on = c.requires.serves; leads = g.met.P.Plan.stays c.args.plan.now }
+loop-at-init g c =
+    let m = c.args.m.now in
+    let n = m.setup.geometry.disks in
+    let p = c.args.pairs.now in
+    let s = g.P.Plan.desk c.args.plan.now in
+    record {
+      writes = λ tells. stages_same m s s (λ i x. x) (rows_change n (pairs_before p 0) (pairs_of p))
+          (λ i x. ap (λ (z : Entry). rows_change n z (pairs_of p) i x) (before_none p) ∙ change_none n (pairs_of p) i x) (stages_none m s);
+      bits = bits_none m s.dirty s.dirty _ refl (λ q e. rows_turn_none n p q e);
+      few = omega arith;
+      changes = omega arith;
+      goes_on = c.requires.serves;
+      leads = g.met.P.Plan.stays c.args.plan.now;
+    }
 
-pub write_block-requires-clause-block : goal.write_block-requires-clause-block
-write_block-requires-clause-block g c = pair_below c.args.pairs.now _ c.loop-at.at c.requires.blocks c.loop-at-test.true
-
-pub write_block-requires-clause-room : goal.write_block-requires-clause-room
-write_block-requires-clause-room g c =
+pub write_row_of-requires-clause-room : goal.write_row_of-requires-clause-room
+write_row_of-requires-clause-room g c =
+    let n = c.args.m.now.setup.geometry.disks in
+    let p = c.args.pairs.now in
+    let next = counted_next n p c.loop-at.at c.loop-at-test.true in
+    let most = counted_few n (pairs_before p (c.loop-at.at + 1)) (pairs_of p) in
+    let long = length-pairs_of p in
     let few = c.loop-at.invariant.few in
     let room = c.requires.room in
-    let test = c.loop-at-test.true in
-    omega arith
+    omega (arith, next, most, long, few, room)
 
-pub write_block-requires-clause-bits : goal.write_block-requires-clause-bits
-write_block-requires-clause-bits g c =
-    let bits = c.loop-at.invariant.changes in
-    let room = c.requires.bits in
-    let test = c.loop-at-test.true in
-    omega arith
+pub write_row_of-requires-clause-bits : goal.write_row_of-requires-clause-bits
+write_row_of-requires-clause-bits g c =
+    let n = c.args.m.now.setup.geometry.disks in
+    let p = c.args.pairs.now in
+    let next = counted_next n p c.loop-at.at c.loop-at-test.true in
+    let most = counted_few n (pairs_before p (c.loop-at.at + 1)) (pairs_of p) in
+    let long = length-pairs_of p in
+    let few = c.loop-at.invariant.changes in
+    let bits = c.requires.bits in
+    omega (arith, next, most, long, few, bits)
 
 pub loop-at-preserved : goal.loop-at-preserved
 loop-at-preserved g c =
+    let m = c.args.m.now in
+    let n = m.setup.geometry.disks in
     let p = c.args.pairs.now in
-    let blocks = p.blocks_whole in
-    let count = p.few in
+    let at = c.loop-at.at in
     let test = c.loop-at-test.true in
-    let few = c.loop-at.invariant.few in
-    let wrote = c.in_ok-write_block.ensures in
-    let more = wrote.few in
+    let before = c.loop-at.invariant in
+    let call = c.in_ok-write_row_of.ensures in
+    let next = counted_next n p at test in
+    let few = before.few in
+    let more = call.few in
+    let turned = before.changes in
+    let bit = call.changes in
     record {
       writes = λ tells.
-          subst (λ (e : Entry). StageAll c.args.m.now (g.P.Plan.desk c.args.plan.now) (g.P.Plan.desk c.write_block.new.plan) e)
-          (sym (take-zipped p.blocks p.bytes c.loop-at.at 0 c.index-pairs-at.result (p.blocks_whole ∙ sym p.bytes_whole) (omega (arith, blocks, count, test))))
-          (stage_more c.args.m.now (g.P.Plan.desk c.args.plan.now) (g.P.Plan.desk c.loop-at.plan) (g.P.Plan.desk c.write_block.new.plan)
-          (take c.loop-at.at (numbered_blocks p.blocks p.bytes)) (get_or p.blocks c.loop-at.at 0, get_or p.bytes c.loop-at.at c.index-pairs-at.result)
-          (c.loop-at.invariant.writes (g.met.P.Plan.told c.loop-at.plan c.write_block.new.plan wrote.leads tells))
-          (pair_below p _ c.loop-at.at c.requires.blocks test) (wrote.write tells));
-      few = omega arith;
-      changes = (let bits = c.loop-at.invariant.changes in let two = wrote.changes in omega arith);
-      goes_on = wrote.goes_on;
-      leads = g.met.P.Plan.then _ _ _ c.loop-at.invariant.leads wrote.leads;
+          stages_same m (g.P.Plan.desk c.args.plan.now) (g.P.Plan.desk c.write_row_of.new.plan) (λ i x. row_change n p at i (rows_change n (pairs_before p at) (pairs_of p) i x))
+          (rows_change n (pairs_before p (at + 1)) (pairs_of p)) (λ i x. change_next n p at i x test)
+          (stages_then m (g.P.Plan.desk c.args.plan.now) (g.P.Plan.desk c.loop-at.plan) (g.P.Plan.desk c.write_row_of.new.plan) (rows_change n (pairs_before p at) (pairs_of p)) (row_change n p at)
+          (before.writes (g.met.P.Plan.told c.loop-at.plan c.write_row_of.new.plan call.leads tells)) (call.write tells));
+      bits = bits_then m (g.P.Plan.desk c.args.plan.now).dirty (g.P.Plan.desk c.loop-at.plan).dirty (g.P.Plan.desk c.write_row_of.new.plan).dirty
+          (λ q e. names_row n (pairs_before p at) q && turns_cell_of n (pairs_of p) q e) (turns_in_new_row n p at) _ (λ q e. rows_turn_next n p at q e test) before.bits call.bits;
+      few = omega (arith, next, few, more);
+      changes = omega (arith, next, turned, bit);
+      goes_on = call.goes_on;
+      leads = g.met.P.Plan.then _ _ _ before.leads call.leads;
     }
 
 pub returns-clause-writes : goal.returns-clause-writes
-unfolding pairs_of
 returns-clause-writes g c tells =
+    let m = c.args.m.now in
+    let n = m.setup.geometry.disks in
+    let p = c.args.pairs.now in
     let past = c.loop-at-test.false in
     let until = c.loop-at.auto.at-end in
-    let same : c.loop-at.at ≡ c.args.pairs.now.count = omega (arith, past, until) in
-    subst (λ (n : ℕ). StageAll c.args.m.now (g.P.Plan.desk c.args.plan.now) (g.P.Plan.desk c.loop-at.plan) (take n (numbered_blocks c.args.pairs.now.blocks c.args.pairs.now.bytes))) same (c.loop-at.invariant.writes tells)
+    let same : c.loop-at.at ≡ p.count = omega (arith, past, until) in
+    stages_same m (g.P.Plan.desk c.args.plan.now) (g.P.Plan.desk c.loop-at.plan) (rows_change n (pairs_before p c.loop-at.at) (pairs_of p)) (λ i x. last_of i x (pairs_of p))
+    (λ i x. change_all n p i x ∙ ap (λ (z : ℕ). rows_change n (pairs_before p z) (pairs_of p) i x) (sym same)) (c.loop-at.invariant.writes tells)
 
 pub returns-clause-few : goal.returns-clause-few
 returns-clause-few g c =
+    let p = c.args.pairs.now in
+    let most = counted_few c.args.m.now.setup.geometry.disks (pairs_before p c.loop-at.at) (pairs_of p) in
+    let long = length-pairs_of p in
+    let few = c.loop-at.invariant.few in
+    omega (arith, most, long, few)
+
+pub returns-in_err-write_row_of-clause-leads : goal.returns-in_err-write_row_of-clause-leads
+returns-in_err-write_row_of-clause-leads g c = g.met.P.Plan.then _ _ _ c.loop-at.invariant.leads c.write_row_of.ensures.leads
+
+pub returns-clause-bits : goal.returns-clause-bits
+returns-clause-bits g c =
+    let m = c.args.m.now in
+    let n = m.setup.geometry.disks in
+    let p = c.args.pairs.now in
     let past = c.loop-at-test.false in
     let until = c.loop-at.auto.at-end in
-    let few = c.loop-at.invariant.few in
-    omega arith
-
-pub returns-in_err-write_block-clause-leads : goal.returns-in_err-write_block-clause-leads
-returns-in_err-write_block-clause-leads g c = g.met.P.Plan.then _ _ _ c.loop-at.invariant.leads c.write_block.ensures.leads
+    let same : c.loop-at.at ≡ p.count = omega (arith, past, until) in
+    let all : TurnsBits m (g.P.Plan.desk c.args.plan.now).dirty (g.P.Plan.desk c.loop-at.plan).dirty (λ q e. names_row n (pairs_of p) q && turns_cell_of n (pairs_of p) q e) =
+    subst (λ (z : Entry). TurnsBits m (g.P.Plan.desk c.args.plan.now).dirty (g.P.Plan.desk c.loop-at.plan).dirty (λ q e. names_row n z q && turns_cell_of n (pairs_of p) q e))
+    (ap (pairs_before p) same ∙ before_all p) c.loop-at.invariant.bits in
+    λ t. λ q e. (all q e ∙ sym (writes_turn m (pairs_of p) (g.P.Plan.desk c.args.plan.now).dirty q e)) t

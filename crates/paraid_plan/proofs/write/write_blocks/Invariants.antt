@@ -1,14 +1,18 @@
-use Rattle.std.specs.Prelude.{◌≡◌, ◌+◌, ◌*◌, ◌≤◌, length, take}
-use Rattle.paraid_base.specs.Pairs.{numbered_blocks}
-use Rattle.paraid_plan.specs.Desk.{StageAll}
+use Rattle.std.specs.Prelude.{◌&&◌, ◌+◌, ◌*◌, ◌≤◌, length}
+use Rattle.paraid_base.specs.Pairs.{pairs_of}
+use Rattle.paraid_plan.specs.RowBits.{TurnsBits, turns_cell_of}
+use Rattle.paraid_plan.specs.RowWrites.{StagesBlocks, names_row, pairs_before}
+use Rattle.paraid_plan.proofs.PairLemmas.{counted, rows_change}
 use Rattle.paraid_plan.proofs.write.write_blocks.Given as goal
 
--- the pairs before this one are written
+-- the rows of the pairs before this one are written
 abbrev pub invariant-loop-at : goal.invariant-loop-at
 invariant-loop-at g l = record {
-  writes : g.P.Plan.tells l.plan → StageAll l.fn.m (g.P.Plan.desk l.fn.plan) (g.P.Plan.desk l.plan) (take l.at (numbered_blocks l.fn.pairs.blocks l.fn.pairs.bytes));
-  few : length (g.P.Plan.desk l.plan).staged ≤ length (g.P.Plan.desk l.fn.plan).staged + 10 * l.at;
-  changes : g.P.Plan.changes l.plan ≡ g.P.Plan.changes l.fn.plan + 2 * l.at;
+  writes : g.P.Plan.tells l.plan
+      → StagesBlocks l.fn.m (g.P.Plan.desk l.fn.plan) (g.P.Plan.desk l.plan) (rows_change l.fn.m.setup.geometry.disks (pairs_before l.fn.pairs l.at) (pairs_of l.fn.pairs));
+  bits : TurnsBits l.fn.m (g.P.Plan.desk l.fn.plan).dirty (g.P.Plan.desk l.plan).dirty (λ q e. names_row l.fn.m.setup.geometry.disks (pairs_before l.fn.pairs l.at) q && turns_cell_of l.fn.m.setup.geometry.disks (pairs_of l.fn.pairs) q e);
+  few : length (g.P.Plan.desk l.plan).staged ≤ length (g.P.Plan.desk l.fn.plan).staged + 10 * counted l.fn.m.setup.geometry.disks (pairs_before l.fn.pairs l.at) (pairs_of l.fn.pairs);
+  changes : g.P.Plan.changes l.plan ≤ g.P.Plan.changes l.fn.plan + 2 * counted l.fn.m.setup.geometry.disks (pairs_before l.fn.pairs l.at) (pairs_of l.fn.pairs);
   goes_on : g.P.Plan.serves l.plan l.fn.m;
   leads : g.P.Plan.leads l.fn.plan l.plan;
 }

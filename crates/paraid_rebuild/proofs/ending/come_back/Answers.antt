@@ -1,4 +1,4 @@
-use Rattle.std.specs.Prelude.{ℕ, ◌+◌, Option, Some}
+use Rattle.std.specs.Prelude.{ℕ, ◌+◌, Option, Some, None}
 use Rattle.std.proofs.Common.{◌≡◌, ◌∙◌, sym, ap, subst}
 use Rattle.paraid_base.specs.declared.state.Out.TheVariants.{No}
 use Rattle.paraid_base.specs.States.{gone_out, rebuilt_count}
@@ -90,7 +90,7 @@ returns-then-is_gone-clause-serving g c =
     let named : named_of b.store ≡ Some c.args.disk = ap named_of marks.store ∙ c.requires.named in
     let done = c.in_ok-commit.ensures in
     serving_again g.R.Rack.slot_count g.R.Rack.slot a c.args.disk c.requires.serving c.requires.fresh c.requires.spins new done.ready (done.serves_again (marks.up c.requires.serving.serves))
-    (done.unsynced (unsynced_still g.R.Rack.slot_count g.R.Rack.slot a b c.requires.serving setup marks.store marks.copied)) (done.draft ∙ marks.draft) (done.copied ∙ marks.copied) (done.setup ∙ setup)
+    (done.unsynced (unsynced_still g.R.Rack.slot_count g.R.Rack.slot a b c.requires.serving setup (λ d is. let z : None ≡ Some d = sym (ap gone_out c.requires.fresh) ∙ is in cc) marks.store marks.copied)) (done.draft ∙ marks.draft) (done.copied ∙ marks.copied) (done.setup ∙ setup)
     (subst (λ (z : _). OnlyLosesSlots (g.R.Rack.slot (store_rack z)) (g.R.Rack.slot (store_rack new.store))) marks.store c.commit.ensures.spared)
 
 pub returns-then-is_gone-clause-epoch : goal.returns-then-is_gone-clause-epoch
@@ -161,7 +161,7 @@ returns-clause-serving g c =
     let named : named_of b.store ≡ Some c.args.disk = ap named_of marks.store ∙ c.requires.named in
     let done = c.in_ok-commit.ensures in
     serving_again g.R.Rack.slot_count g.R.Rack.slot a c.args.disk c.requires.serving c.requires.fresh c.requires.spins new done.ready (done.serves_again (marks.up c.requires.serving.serves))
-    (done.unsynced (unsynced_still g.R.Rack.slot_count g.R.Rack.slot a b c.requires.serving setup marks.store marks.copied)) (done.draft ∙ marks.draft) (done.copied ∙ marks.copied) (done.setup ∙ setup)
+    (done.unsynced (unsynced_still g.R.Rack.slot_count g.R.Rack.slot a b c.requires.serving setup (λ d is. let z : None ≡ Some d = sym (ap gone_out c.requires.fresh) ∙ is in cc) marks.store marks.copied)) (done.draft ∙ marks.draft) (done.copied ∙ marks.copied) (done.setup ∙ setup)
     (subst (λ (z : _). OnlyLosesSlots (g.R.Rack.slot (store_rack z)) (g.R.Rack.slot (store_rack new.store))) marks.store c.commit.ensures.spared)
 
 pub returns-clause-epoch : goal.returns-clause-epoch

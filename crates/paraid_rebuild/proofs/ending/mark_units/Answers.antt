@@ -1,4 +1,4 @@
-use Rattle.std.specs.Prelude.{ℕ, ◌+◌, Option, Some}
+use Rattle.std.specs.Prelude.{ℕ, ◌+◌, Option, Some, None}
 use Rattle.std.proofs.Common.{◌≡◌, ◌∙◌, sym, ap, subst, inl}
 use Rattle.paraid_base.specs.declared.state.Out.TheVariants.{Fresh}
 use Rattle.paraid_base.specs.States.{gone_out}
@@ -15,6 +15,17 @@ use Rattle.paraid_core.proofs.AfterLemmas.{handed}
 use Rattle.paraid_shift.specs.Serving.{RestsInShift}
 use Rattle.paraid_shift.proofs.ServingLemmas.{chain, chain_held, lowered, marked_named, unsynced_still}
 use Rattle.paraid_rebuild.proofs.ReplacingLemmas.{back_well, gone_failed, marked_back, marked_lost, serving_then, two_marked}
+use Rattle.std.specs.Prelude.{true, length, ◌<◌}
+use Rattle.paraid_base.specs.States.{rebuilt_count}
+use Rattle.paraid_moves.specs.MoveMetas.{meta_with_out}
+use Rattle.paraid_rack.specs.Disks.{is_present}
+use Rattle.paraid_rack.specs.Told.{Ran}
+use Rattle.paraid_record.specs.declared.meta.Setup.{Setup}
+use Rattle.paraid_event.specs.Service.{service_of}
+use Rattle.paraid_event.specs.Steps.{ServesMarked}
+use Rattle.paraid_rebuild.proofs.ReplacementEventLemmas.{commit_told, fresh_stays, marked_told, named_there, same_service, still_told}
+use Rattle.paraid_rebuild.proofs.StepEventLemmas.{marked_serves, units_marked}
+use Rattle.paraid_rebuild.proofs.MovedLemmas.{gone_away}
 use Rattle.paraid_rebuild.proofs.ending.mark_units.Goals as goal
 
 pub returns-in_err-commit-clause-moments : goal.returns-in_err-commit-clause-moments
@@ -101,7 +112,7 @@ returns-then-is_gone-clause-serving g c =
     let named : named_of b.store ≡ Some c.args.disk = ap named_of marks.store ∙ c.requires.named in
     let done = c.in_ok-commit.ensures in
     serving_then g.R.Rack.slot_count g.R.Rack.slot a new c.requires.serving done.ready (done.serves (marks.serves c.requires.serving.serves))
-    (done.unsynced (unsynced_still g.R.Rack.slot_count g.R.Rack.slot a b c.requires.serving setup marks.store marks.copied)) (done.draft ∙ marks.draft) (done.copied ∙ marks.copied) (done.setup ∙ setup)
+    (done.unsynced (unsynced_still g.R.Rack.slot_count g.R.Rack.slot a b c.requires.serving setup (λ d is. let z : None ≡ Some d = sym (ap gone_out c.requires.fresh) ∙ is in cc) marks.store marks.copied)) (done.draft ∙ marks.draft) (done.copied ∙ marks.copied) (done.setup ∙ setup)
     (λ d is. marked_named _ new.meta done.meta d (ap named_out out ∙ sym was ∙ is))
     (λ d not there. c.commit.ensures.spared.size d there ∙ ap (λ (z : _). (g.R.Rack.slot (store_rack z) d).size) marks.store)
 
@@ -187,7 +198,7 @@ returns-clause-serving g c =
     let named : named_of b.store ≡ Some c.args.disk = ap named_of marks.store ∙ c.requires.named in
     let done = c.in_ok-commit.ensures in
     serving_then g.R.Rack.slot_count g.R.Rack.slot a new c.requires.serving done.ready (done.serves (marks.serves c.requires.serving.serves))
-    (done.unsynced (unsynced_still g.R.Rack.slot_count g.R.Rack.slot a b c.requires.serving setup marks.store marks.copied)) (done.draft ∙ marks.draft) (done.copied ∙ marks.copied) (done.setup ∙ setup)
+    (done.unsynced (unsynced_still g.R.Rack.slot_count g.R.Rack.slot a b c.requires.serving setup (λ d is. let z : None ≡ Some d = sym (ap gone_out c.requires.fresh) ∙ is in cc) marks.store marks.copied)) (done.draft ∙ marks.draft) (done.copied ∙ marks.copied) (done.setup ∙ setup)
     (λ d is. marked_named _ new.meta done.meta d (ap named_out out ∙ sym was ∙ is))
     (λ d not there. c.commit.ensures.spared.size d there ∙ ap (λ (z : _). (g.R.Rack.slot (store_rack z) d).size) marks.store)
 
@@ -286,3 +297,90 @@ returns-clause-spins g c is =
     let named : named_of b.store ≡ Some c.args.disk = ap named_of marks.store ∙ c.requires.named in
     (back_well (g.R.Rack.slot (store_rack b.store)) (g.R.Rack.slot (store_rack new.store)) b.meta new.meta c.args.disk c.in_ok-commit.ensures.marks (c.is_gone.ensures.back c.if-is_gone.false)).0
     ∙ ap (λ (z : _). (g.R.Rack.slot (store_rack z) c.args.disk).power) marks.store ∙ c.requires.spins
+
+pub returns-then-is_gone-clause-event : goal.returns-then-is_gone-clause-event
+returns-then-is_gone-clause-event g c samples served energy h lo =
+    let a = c.args.core.now in
+    let b = c.mark_rebuilt.new.self in
+    let new = c.commit.new.self in
+    let marks = c.mark_rebuilt.ensures in
+    let was : named_out a.meta.out ≡ Some c.args.disk = ap named_out c.requires.fresh in
+    let is_meta = marks.meta c.args.disk was in
+    let out : b.meta.out ≡ Fresh c.args.disk c.args.end = ap (λ (m : Meta). m.out) is_meta in
+    let named : named_of b.store ≡ Some c.args.disk = ap named_of marks.store ∙ c.requires.named in
+    let away : IsNamedOrAbsent g.R.Rack.slot b = (λ x is. inl (named ∙ sym (ap named_out out) ∙ is)) in
+    let k = service_of g.R.Rack.slot_count a samples served energy in
+    let j = service_of g.R.Rack.slot_count b samples served energy in
+    let k_then = service_of g.R.Rack.slot_count new samples served energy in
+    let new_setup : new.meta.setup ≡ b.meta.setup = c.in_ok-commit.ensures.setup in
+    let ready = c.in_ok-commit.ensures.ready in
+    let lost = c.in_ok-commit.ensures.marks in
+    let there : is_present (g.R.Rack.slot (store_rack b.store) c.args.disk).power ≡ true = ap (λ (z : _). is_present (g.R.Rack.slot (store_rack z) c.args.disk).power) marks.store ∙ ap is_present c.requires.spins in (
+      j,
+      record {
+        mark = units_marked k j c.args.disk (rebuilt_count a.meta.out) c.args.end
+            (same_service g.R.Rack.slot_count a b samples served energy (meta_with_out a.meta (Fresh c.args.disk c.args.end)) (ap (λ (z : _). g.R.Rack.slot_count (store_rack z)) marks.store) (ap named_of marks.store) is_meta marks.table marks.batch marks.copied)
+            c.requires.fresh c.requires.serving.ready.in_range;
+        stands = λ t tells copied. still_told (IsCoreHeldSinceCommit g.R.Rack.slot_count a h lo) (UnitsRebuilt g.R.Rack.slot_count a h lo c.args.end) (CoreStandsFor g.R.Rack.slot_count b h lo) (g.R.Rack.told (store_rack a.store)) (g.R.Rack.told (store_rack b.store))
+            (ap (λ (z : _). g.R.Rack.told (store_rack z)) marks.store) (marks.stands h lo) t tells copied;
+        ran = subst (λ (z : _). Ran (g.R.Rack.told (store_rack z)) (g.R.Rack.told (store_rack new.store)) (ServesMarked j k_then h lo (length h))) marks.store
+            (marked_serves (g.R.Rack.told (store_rack b.store)) (g.R.Rack.told (store_rack new.store)) j k_then h lo
+            (commit_told (g.R.Rack.told (store_rack b.store)) (g.R.Rack.told (store_rack new.store)) j k_then h lo c.commit.ensures.calls (c.in_ok-commit.ensures.since away h lo) (c.commit.ensures.whole h lo)
+            (marked_told (g.R.Rack.told (store_rack new.store)) (g.R.Rack.slot (store_rack b.store)) (g.R.Rack.slot (store_rack new.store)) (g.met.R.Rack.agrees (store_rack new.store)) b.meta new.meta lost
+            (λ x low absent. ready.absent x (subst (λ (z : Setup). x < z.geometry.disks) (sym new_setup) low) absent)
+            (fresh_stays (g.R.Rack.slot (store_rack b.store)) (g.R.Rack.slot (store_rack new.store)) b.meta new.meta lost
+            (named_there (g.R.Rack.slot (store_rack b.store)) b.meta c.args.disk c.args.end out there)))));
+        epoch = c.in_ok-commit.ensures.epoch;
+        slots = c.commit.ensures.slots;
+        gear = ap (λ (m : Meta). m.gear) is_meta;
+        phase = ap (λ (m : Meta). m.phase) is_meta;
+      },
+    )
+
+pub returns-clause-event : goal.returns-clause-event
+returns-clause-event g c samples served energy h lo =
+    let a = c.args.core.now in
+    let b = c.mark_rebuilt.new.self in
+    let new = c.commit.new.self in
+    let marks = c.mark_rebuilt.ensures in
+    let was : named_out a.meta.out ≡ Some c.args.disk = ap named_out c.requires.fresh in
+    let is_meta = marks.meta c.args.disk was in
+    let out : b.meta.out ≡ Fresh c.args.disk c.args.end = ap (λ (m : Meta). m.out) is_meta in
+    let named : named_of b.store ≡ Some c.args.disk = ap named_of marks.store ∙ c.requires.named in
+    let away : IsNamedOrAbsent g.R.Rack.slot b = (λ x is. inl (named ∙ sym (ap named_out out) ∙ is)) in
+    let k = service_of g.R.Rack.slot_count a samples served energy in
+    let j = service_of g.R.Rack.slot_count b samples served energy in
+    let k_then = service_of g.R.Rack.slot_count new samples served energy in
+    let new_setup : new.meta.setup ≡ b.meta.setup = c.in_ok-commit.ensures.setup in
+    let ready = c.in_ok-commit.ensures.ready in
+    let lost = c.in_ok-commit.ensures.marks in
+    let there : is_present (g.R.Rack.slot (store_rack b.store) c.args.disk).power ≡ true = ap (λ (z : _). is_present (g.R.Rack.slot (store_rack z) c.args.disk).power) marks.store ∙ ap is_present c.requires.spins in (
+      j,
+      record {
+        mark = units_marked k j c.args.disk (rebuilt_count a.meta.out) c.args.end
+            (same_service g.R.Rack.slot_count a b samples served energy (meta_with_out a.meta (Fresh c.args.disk c.args.end)) (ap (λ (z : _). g.R.Rack.slot_count (store_rack z)) marks.store) (ap named_of marks.store) is_meta marks.table marks.batch marks.copied)
+            c.requires.fresh c.requires.serving.ready.in_range;
+        stands = λ t tells copied. still_told (IsCoreHeldSinceCommit g.R.Rack.slot_count a h lo) (UnitsRebuilt g.R.Rack.slot_count a h lo c.args.end) (CoreStandsFor g.R.Rack.slot_count b h lo) (g.R.Rack.told (store_rack a.store)) (g.R.Rack.told (store_rack b.store))
+            (ap (λ (z : _). g.R.Rack.told (store_rack z)) marks.store) (marks.stands h lo) t tells copied;
+        ran = subst (λ (z : _). Ran (g.R.Rack.told (store_rack z)) (g.R.Rack.told (store_rack new.store)) (ServesMarked j k_then h lo (length h))) marks.store
+            (marked_serves (g.R.Rack.told (store_rack b.store)) (g.R.Rack.told (store_rack new.store)) j k_then h lo
+            (commit_told (g.R.Rack.told (store_rack b.store)) (g.R.Rack.told (store_rack new.store)) j k_then h lo c.commit.ensures.calls (c.in_ok-commit.ensures.since away h lo) (c.commit.ensures.whole h lo)
+            (marked_told (g.R.Rack.told (store_rack new.store)) (g.R.Rack.slot (store_rack b.store)) (g.R.Rack.slot (store_rack new.store)) (g.met.R.Rack.agrees (store_rack new.store)) b.meta new.meta lost
+            (λ x low absent. ready.absent x (subst (λ (z : Setup). x < z.geometry.disks) (sym new_setup) low) absent)
+            (fresh_stays (g.R.Rack.slot (store_rack b.store)) (g.R.Rack.slot (store_rack new.store)) b.meta new.meta lost
+            (named_there (g.R.Rack.slot (store_rack b.store)) b.meta c.args.disk c.args.end out there)))));
+        epoch = c.in_ok-commit.ensures.epoch;
+        slots = c.commit.ensures.slots;
+        gear = ap (λ (m : Meta). m.gear) is_meta;
+        phase = ap (λ (m : Meta). m.phase) is_meta;
+      },
+    )
+
+pub returns-then-is_gone-clause-away : goal.returns-then-is_gone-clause-away
+returns-then-is_gone-clause-away g c is =
+    let a = c.args.core.now in
+    let b = c.mark_rebuilt.new.self in
+    let new = c.commit.new.self in
+    let was : named_out a.meta.out ≡ Some c.args.disk = ap named_out c.requires.fresh in
+    let out : b.meta.out ≡ Fresh c.args.disk c.args.end = ap (λ (m : Meta). m.out) (c.mark_rebuilt.ensures.meta c.args.disk was) in
+    gone_away (g.R.Rack.slot (store_rack b.store)) (g.R.Rack.slot (store_rack new.store)) b.meta new.meta c.args.disk (ap named_out out) (ap gone_out out) c.in_ok-commit.ensures.marks (c.is_gone.ensures.gone c.if-is_gone.true)

@@ -13,6 +13,10 @@ use Rattle.paraid_core.specs.Units.{UnitsRebuilt}
 use Rattle.paraid_core.specs.CoreInvariant.{HoldsBetweenCalls}
 use Rattle.paraid_core.proofs.AfterLemmas.{handed}
 use Rattle.paraid_core.proofs.StepLemmas.{held_runs_then, leaves_none, leaves_then, runs_end, runs_none, runs_then, two_then}
+use Rattle.paraid_txn.specs.Commit.{gone_out}
+use Rattle.paraid_core.specs.Calls.{IsDataCall}
+use Rattle.paraid_core.proofs.KindLemmas.{calls_none}
+use Rattle.paraid_rebuild.proofs.MovedLemmas.{data_then}
 use Rattle.paraid_rebuild.proofs.moving.copy_units.Goals as goal
 
 pub loop-number-init : goal.loop-number-init
@@ -23,6 +27,7 @@ loop-number-init g c =
       meta = refl;
       spins = c.requires.spins;
       from = omega arith;
+      calls = calls_none (IsDataCall a.meta.setup.geometry.disks (gone_out a.meta.out)) (g.R.Rack.told (store_rack a.store));
       copied = λ h lo. runs_none g.R.Rack.slot_count g.R.Rack.slot g.R.Rack.told a (UnitsRebuilt g.R.Rack.slot_count c.args.core.now h lo c.args.first) h lo (λ s kr. kr.keeps);
     }
 
@@ -82,6 +87,7 @@ loop-number-preserved g c =
       meta = call.same (ap Ok done) ∙ was.meta;
       spins = call.spins (ap Ok done) c.args.disk named;
       from = let low = was.from in omega arith;
+      calls = data_then c.args.core.now.meta c.loop-number.core.meta was.meta (g.R.Rack.told (store_rack c.args.core.now.store)) (g.R.Rack.told (store_rack c.loop-number.core.store)) (g.R.Rack.told (store_rack c.rebuild_unit.new.self.store)) was.calls c.rebuild_unit.ensures.calls;
       copied = λ h lo.
           runs_then g.R.Rack.slot_count g.R.Rack.slot g.R.Rack.told c.args.core.now c.loop-number.core was.leaves c.rebuild_unit.new.self (UnitsRebuilt g.R.Rack.slot_count c.args.core.now h lo c.args.first) (UnitsRebuilt g.R.Rack.slot_count c.loop-number.core h lo c.loop-number.number)
           (UnitsRebuilt g.R.Rack.slot_count c.rebuild_unit.new.self h lo (c.loop-number.number + 1)) h lo (was.copied h lo) (call.copied (ap Ok done) h lo);
@@ -104,3 +110,19 @@ returns-clause-stands g c h lo =
 pub returns-clause-moments : goal.returns-clause-moments
 returns-clause-moments g c h lo =
     runs_end g.R.Rack.slot_count g.R.Rack.slot g.R.Rack.told c.args.core.now _ _ _ h lo (c.loop-number.invariant.copied h lo)
+
+pub returns-in_err-done-clause-calls : goal.returns-in_err-done-clause-calls
+returns-in_err-done-clause-calls g c =
+    let was = c.loop-number.invariant in
+    data_then c.args.core.now.meta c.loop-number.core.meta was.meta (g.R.Rack.told (store_rack c.args.core.now.store)) (g.R.Rack.told (store_rack c.loop-number.core.store)) (g.R.Rack.told (store_rack c.rebuild_unit.new.self.store)) was.calls c.rebuild_unit.ensures.calls
+
+pub returns-then-not-done-clause-calls : goal.returns-then-not-done-clause-calls
+returns-then-not-done-clause-calls g c =
+    let was = c.loop-number.invariant in
+    data_then c.args.core.now.meta c.loop-number.core.meta was.meta (g.R.Rack.told (store_rack c.args.core.now.store)) (g.R.Rack.told (store_rack c.loop-number.core.store)) (g.R.Rack.told (store_rack c.rebuild_unit.new.self.store)) was.calls c.rebuild_unit.ensures.calls
+
+pub returns-then-not-done-clause-away : goal.returns-then-not-done-clause-away
+returns-then-not-done-clause-away g c is =
+    let was = c.loop-number.invariant in
+    let named : named_out c.loop-number.core.meta.out ≡ Some c.args.disk = ap (λ (m : Meta). named_out m.out) was.meta ∙ ap named_out c.requires.fresh in
+    (c.in_ok-done.ensures.failed (ap Ok c.if-not-done.true) c.args.disk named).absent

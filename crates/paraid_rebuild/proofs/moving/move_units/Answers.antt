@@ -21,6 +21,9 @@ use Rattle.paraid_core.proofs.StepLemmas.{held_runs_then, leaves_then, marked_fr
 use Rattle.paraid_shift.specs.Serving.{IsCoreServing}
 use Rattle.paraid_shift.proofs.ServingLemmas.{serving_left}
 use Rattle.paraid_rebuild.proofs.ReplacingLemmas.{back_well, gone_failed, gone_stays, marked_back, marked_lost}
+use Rattle.paraid_txn.specs.Uses.{EachCall}
+use Rattle.paraid_core.specs.Calls.{IsDataCall}
+use Rattle.paraid_rebuild.proofs.MovedLemmas.{data_settled, gone_away, stays_away}
 use Rattle.paraid_rebuild.proofs.moving.move_units.Given.{Over}
 use Rattle.paraid_rebuild.proofs.moving.move_units.Goals as goal
 use Rattle.paraid_rebuild.proofs.moving.move_units.Goals.{In_ok-settle}
@@ -50,6 +53,10 @@ module _ (g : Over) (c : In_ok-settle g) where
   stands h lo =
       runs_then g.R.Rack.slot_count g.R.Rack.slot g.R.Rack.told a b c.in_ok-done.ensures.leaves d (UnitsRebuilt g.R.Rack.slot_count a h lo c.args.first) (CoreStandsFor g.R.Rack.slot_count b h lo) (CoreStandsFor g.R.Rack.slot_count d h lo) h lo
       (c.in_ok-done.ensures.stands h lo) (c.in_ok-settle.ensures.stands h lo)
+
+  calls : Ran (g.R.Rack.told (store_rack a.store)) (g.R.Rack.told (store_rack d.store)) (EachCall (IsDataCall a.meta.setup.geometry.disks (gone_out a.meta.out)))
+  calls = data_settled a.meta b.meta b.copied (marked_from_setup a.meta b.meta c.in_ok-done.ensures.leaves.meta) (ap gone_out c.requires.fresh)
+      (g.R.Rack.told (store_rack a.store)) (g.R.Rack.told (store_rack b.store)) (g.R.Rack.told (store_rack d.store)) c.copy_units.ensures.calls c.settle.ensures.calls
 
   held : (h : History) (lo : ℕ) → Ran (g.R.Rack.told (store_rack a.store)) (g.R.Rack.told (store_rack d.store))
       (CrashTriple (IsCoreHeldSinceCommit g.R.Rack.slot_count a h lo) (UnitsRebuilt g.R.Rack.slot_count a h lo c.args.first) (IsCoreHeldSinceCommit g.R.Rack.slot_count a h lo))
@@ -193,3 +200,37 @@ returns-clause-copied g c is h lo =
     let still : d.meta.out ≡ Fresh c.args.disk (rebuilt_count a.meta.out) = ap (λ (m : Meta). m.out) (marked_back b.meta d.meta c.in_ok-settle.ensures.leaves.meta (c.is_gone.ensures.back c.if-is_gone.false)) ∙ out in
     runs_then g.R.Rack.slot_count g.R.Rack.slot g.R.Rack.told a b c.in_ok-done.ensures.leaves d (UnitsRebuilt g.R.Rack.slot_count a h lo c.args.first) (UnitsRebuilt g.R.Rack.slot_count b h lo c.args.end) (UnitsRebuilt g.R.Rack.slot_count d h lo c.args.end) h lo
     (c.in_ok-done.ensures.copied (ap Ok c.if-not-done.false) h lo) ((c.in_ok-settle.ensures.rebuilt c.args.disk (rebuilt_count a.meta.out) still).1 h lo c.args.end)
+
+pub returns-in_err-settle-clause-calls : goal.returns-in_err-settle-clause-calls
+returns-in_err-settle-clause-calls g c =
+    let a = c.args.core.now in
+    let b = c.copy_units.new.core in
+    data_settled a.meta b.meta b.copied (marked_from_setup a.meta b.meta c.in_ok-done.ensures.leaves.meta) (ap gone_out c.requires.fresh)
+    (g.R.Rack.told (store_rack a.store)) (g.R.Rack.told (store_rack b.store)) (g.R.Rack.told (store_rack c.settle.new.self.store)) c.copy_units.ensures.calls c.settle.ensures.calls
+
+pub returns-then-not-done-clause-calls : goal.returns-then-not-done-clause-calls
+returns-then-not-done-clause-calls g c =
+    calls g c.before
+
+pub returns-then-is_gone-clause-calls : goal.returns-then-is_gone-clause-calls
+returns-then-is_gone-clause-calls g c =
+    calls g c.before.before.before
+
+pub returns-clause-calls : goal.returns-clause-calls
+returns-clause-calls g c =
+    calls g c.before.before.before
+
+pub returns-then-not-done-clause-away : goal.returns-then-not-done-clause-away
+returns-then-not-done-clause-away g c is =
+    let b = c.copy_units.new.core in
+    let d = c.settle.new.self in
+    stays_away (g.R.Rack.slot (store_rack b.store)) (g.R.Rack.slot (store_rack d.store)) c.settle.ensures.spared c.args.disk (c.in_ok-done.ensures.away (ap Ok c.if-not-done.true))
+
+pub returns-then-is_gone-clause-away : goal.returns-then-is_gone-clause-away
+returns-then-is_gone-clause-away g c is =
+    let a = c.args.core.now in
+    let b = c.copy_units.new.core in
+    let d = c.settle.new.self in
+    let same = c.in_ok-done.ensures.same (ap Ok c.if-not-done.false) in
+    let out : b.meta.out ≡ Fresh c.args.disk (rebuilt_count a.meta.out) = ap (λ (m : Meta). m.out) same ∙ c.requires.fresh in
+    gone_away (g.R.Rack.slot (store_rack b.store)) (g.R.Rack.slot (store_rack d.store)) b.meta d.meta c.args.disk (ap named_out out) (ap gone_out out) c.in_ok-settle.ensures.marks (c.is_gone.ensures.gone c.if-is_gone.true)

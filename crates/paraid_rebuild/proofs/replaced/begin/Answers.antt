@@ -9,6 +9,8 @@ use Rattle.paraid_core.specs.Replaced.{CoreCommitted}
 use Rattle.paraid_core.proofs.AfterLemmas.{down_named}
 use Rattle.paraid_core.proofs.ChainLemmas.{ended, keeps_low}
 use Rattle.paraid_rebuild.proofs.ReplacingLemmas.{after, replaced_then}
+use Rattle.paraid_txn.specs.Stores.{store_rack}
+use Rattle.paraid_event.specs.Service.{service_of}
 use Rattle.paraid_rebuild.proofs.replaced.begin.Goals as goal
 
 pub returns-clause-fresh : goal.returns-clause-fresh
@@ -64,3 +66,15 @@ returns-clause-committed g c is h lo =
     after _ _ _ _ (core_down a) (core_down b) h was.slots (ap (λ (m : Meta). m.setup.geometry.disks) was.meta.is) (λ x is. known ∙ sym down ∙ is) lo
     (CoreStandsFor g.R.Rack.slot_count a h lo) (CoreCommitted g.R.Rack.slot_count b h (length h) (Gone c.args.disk)) (CoreCommitted g.R.Rack.slot_count new h (length h) (Fresh c.args.disk 0)) _ _ _
     (λ s k. keeps_low _ _ _ _ _ _ h lo s k) (was.committed h lo) (c.in_ok-there.ensures.committed is h)
+
+pub returns-clause-event : goal.returns-clause-event
+returns-clause-event g c samples served energy h lo =
+    let b = c.commit_gone.new.core in
+    let one = c.in_ok-commit_gone.ensures.event samples served energy h lo in
+    record {
+      mid = g.R.Rack.told (store_rack b.store);
+      marked = one.0;
+      committed = service_of g.R.Rack.slot_count b samples served energy;
+      commits = one.1;
+      brings = c.in_ok-there.ensures.event samples served energy h lo;
+    }

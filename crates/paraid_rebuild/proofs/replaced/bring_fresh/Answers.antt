@@ -18,6 +18,18 @@ use Rattle.paraid_core.proofs.ChainLemmas.{ended}
 use Rattle.paraid_core.proofs.ReadsLemmas.{knows_named}
 use Rattle.paraid_shift.proofs.ServingLemmas.{chain, chain_held, marked_named}
 use Rattle.paraid_rebuild.proofs.ReplacingLemmas.{back_well, beside, but_lost, gone_failed, gone_settled, lost_none, marked_back, marked_lost, serving_then, two_since}
+use Rattle.std.specs.Prelude.{false, List, [], ◌<◌}
+use Rattle.std.proofs.Common.{None}
+use Rattle.paraid_base.specs.History.{History}
+use Rattle.paraid_moves.specs.MoveMetas.{meta_with_out}
+use Rattle.paraid_rack.specs.Disks.{is_present}
+use Rattle.paraid_record.specs.declared.meta.Setup.{Setup}
+use Rattle.paraid_event.specs.Parts.{ServesEvent}
+use Rattle.paraid_event.specs.Replacements.{AttachesInEvent, CommitsAll, with_fresh}
+use Rattle.paraid_event.specs.Replacements.BringsFresh.{came, failed}
+use Rattle.paraid_event.specs.Service.{Service, service_of}
+use Rattle.paraid_shift.proofs.ServingLemmas.{copies_kept}
+use Rattle.paraid_rebuild.proofs.ReplacementEventLemmas.{attach_told, commit_told, commits_all, fresh_stays, fresh_there, marked_told, same_service}
 use Rattle.paraid_rebuild.proofs.replaced.bring_fresh.Goals as goal
 
 pub returns-then-not-attach-clause-leaves : goal.returns-then-not-attach-clause-leaves
@@ -288,3 +300,75 @@ returns-clause-committed g c is h =
     (c.in_ok-commit.ensures.committed c.attach.ensures.absent h (length h)) in
     beside _ _ _ _ (core_down a) (named_of a.store) h refl refl (λ x is. knows_named (named_of a.store) (named_out a.meta.out) x is) (length h) (CoreCommitted g.R.Rack.slot_count a h (length h) (Gone c.args.disk)) (CoreCommitted g.R.Rack.slot_count new h (length h) (Fresh c.args.disk 0)) _ _
     (chain g.R.Rack.slot_count g.R.Rack.told a b c.attach.ensures.slots setup same.named (CoreCommitted g.R.Rack.slot_count a h (length h) (Gone c.args.disk)) (CoreStandsFor g.R.Rack.slot_count b h (length h)) (CoreCommitted g.R.Rack.slot_count new h (length h) (Fresh c.args.disk 0)) h (length h) _ (c.attach.ensures.stands h (length h)) (last))
+
+pub returns-then-not-attach-clause-event : goal.returns-then-not-attach-clause-event
+returns-then-not-attach-clause-event g c samples served energy h lo =
+    let a = c.args.core.now in
+    let b = c.attach.new.self in
+    let it = c.attach.ensures in
+    let k = service_of g.R.Rack.slot_count a samples served energy in
+    let k_then = service_of g.R.Rack.slot_count b samples served energy in
+    let equal : k_then ≡ k = same_service g.R.Rack.slot_count a b samples served energy a.meta it.slots it.store.named (it.same c.if-not-attach.true) it.table it.batch it.copied in
+    failed equal (subst (λ (y : Service). Ran (g.R.Rack.told (store_rack a.store)) (g.R.Rack.told (store_rack b.store)) (AttachesInEvent k y h lo c.args.disk false)) equal
+    (attach_told (g.R.Rack.told (store_rack a.store)) (g.R.Rack.told (store_rack b.store)) k k_then h lo c.args.disk false (g.R.Rack.slot (store_rack b.store)) (g.met.R.Rack.agrees (store_rack b.store))
+    (ap is_present (it.lost c.if-not-attach.true).absent) it.calls (it.stands h lo)))
+
+pub returns-then-is_gone-clause-event : goal.returns-then-is_gone-clause-event
+returns-then-is_gone-clause-event g c samples served energy h lo =
+    let a = c.args.core.now in
+    let b = c.attach.new.self in
+    let new = c.commit.new.self in
+    let it = c.attach.ensures in
+    let here : c.attach.result ≡ true = c.if-not-attach.false in
+    let fresh = it.fresh here in
+    let setup : b.meta.setup ≡ a.meta.setup = ap (λ (m : Meta). m.setup) fresh in
+    let k = service_of g.R.Rack.slot_count a samples served energy in
+    let k_fresh = service_of g.R.Rack.slot_count b samples served energy in
+    let k_then = service_of g.R.Rack.slot_count new samples served energy in
+    let equal : k_fresh ≡ with_fresh k c.args.disk = same_service g.R.Rack.slot_count a b samples served energy (meta_with_out a.meta (Fresh c.args.disk 0)) it.slots it.store.named fresh it.table it.batch it.copied in
+    let spins : is_present (g.R.Rack.slot (store_rack b.store) c.args.disk).power ≡ true = ap (λ (s : Slot). is_present s.power) (it.attached here) in
+    let ready = c.in_ok-commit.ensures.ready in
+    let new_setup : new.meta.setup ≡ b.meta.setup = c.in_ok-commit.ensures.setup in
+    came (record {
+      attached = g.R.Rack.told (store_rack b.store);
+      attach = subst (λ (y : Service). Ran (g.R.Rack.told (store_rack a.store)) (g.R.Rack.told (store_rack b.store)) (AttachesInEvent k y h lo c.args.disk true)) equal
+          (attach_told (g.R.Rack.told (store_rack a.store)) (g.R.Rack.told (store_rack b.store)) k k_fresh h lo c.args.disk true (g.R.Rack.slot (store_rack b.store)) (g.met.R.Rack.agrees (store_rack b.store)) spins it.calls (it.stands h lo));
+      ran = subst (λ (y : Service). Ran (g.R.Rack.told (store_rack b.store)) (g.R.Rack.told (store_rack new.store)) (ServesEvent y k_then h lo h (length h))) equal
+          (commit_told (g.R.Rack.told (store_rack b.store)) (g.R.Rack.told (store_rack new.store)) k_fresh k_then h lo c.commit.ensures.calls (c.in_ok-commit.ensures.since it.absent h lo) (c.commit.ensures.whole h lo)
+          (marked_told (g.R.Rack.told (store_rack new.store)) (g.R.Rack.slot (store_rack b.store)) (g.R.Rack.slot (store_rack new.store)) (g.met.R.Rack.agrees (store_rack new.store)) b.meta new.meta c.in_ok-commit.ensures.marks
+          (λ x low absent. ready.absent x (subst (λ (z : Setup). x < z.geometry.disks) (sym new_setup) low) absent)
+          (fresh_stays (g.R.Rack.slot (store_rack b.store)) (g.R.Rack.slot (store_rack new.store)) b.meta new.meta c.in_ok-commit.ensures.marks
+          (λ x u out. fresh_there (g.R.Rack.slot (store_rack b.store)) c.args.disk x u spins (sym (ap (λ (m : Meta). m.out) fresh) ∙ out)))));
+      ends = subst (λ (y : Service). CommitsAll y k_then) equal
+          (commits_all g.R.Rack.slot_count b new samples served energy (copies_kept a b setup it.copied c.requires.serving.copies_synced) c.commit.ensures.slots new_setup c.in_ok-commit.ensures.epoch c.in_ok-commit.ensures.nothing c.commit.ensures.table c.commit.ensures.copied);
+    })
+
+pub returns-clause-event : goal.returns-clause-event
+returns-clause-event g c samples served energy h lo =
+    let a = c.args.core.now in
+    let b = c.attach.new.self in
+    let new = c.commit.new.self in
+    let it = c.attach.ensures in
+    let here : c.attach.result ≡ true = c.if-not-attach.false in
+    let fresh = it.fresh here in
+    let setup : b.meta.setup ≡ a.meta.setup = ap (λ (m : Meta). m.setup) fresh in
+    let k = service_of g.R.Rack.slot_count a samples served energy in
+    let k_fresh = service_of g.R.Rack.slot_count b samples served energy in
+    let k_then = service_of g.R.Rack.slot_count new samples served energy in
+    let equal : k_fresh ≡ with_fresh k c.args.disk = same_service g.R.Rack.slot_count a b samples served energy (meta_with_out a.meta (Fresh c.args.disk 0)) it.slots it.store.named fresh it.table it.batch it.copied in
+    let spins : is_present (g.R.Rack.slot (store_rack b.store) c.args.disk).power ≡ true = ap (λ (s : Slot). is_present s.power) (it.attached here) in
+    let ready = c.in_ok-commit.ensures.ready in
+    let new_setup : new.meta.setup ≡ b.meta.setup = c.in_ok-commit.ensures.setup in
+    came (record {
+      attached = g.R.Rack.told (store_rack b.store);
+      attach = subst (λ (y : Service). Ran (g.R.Rack.told (store_rack a.store)) (g.R.Rack.told (store_rack b.store)) (AttachesInEvent k y h lo c.args.disk true)) equal
+          (attach_told (g.R.Rack.told (store_rack a.store)) (g.R.Rack.told (store_rack b.store)) k k_fresh h lo c.args.disk true (g.R.Rack.slot (store_rack b.store)) (g.met.R.Rack.agrees (store_rack b.store)) spins it.calls (it.stands h lo));
+      ran = subst (λ (y : Service). Ran (g.R.Rack.told (store_rack b.store)) (g.R.Rack.told (store_rack new.store)) (ServesEvent y k_then h lo h (length h))) equal
+          (commit_told (g.R.Rack.told (store_rack b.store)) (g.R.Rack.told (store_rack new.store)) k_fresh k_then h lo c.commit.ensures.calls (c.in_ok-commit.ensures.since it.absent h lo) (c.commit.ensures.whole h lo)
+          (marked_told (g.R.Rack.told (store_rack new.store)) (g.R.Rack.slot (store_rack b.store)) (g.R.Rack.slot (store_rack new.store)) (g.met.R.Rack.agrees (store_rack new.store)) b.meta new.meta c.in_ok-commit.ensures.marks
+          (λ x low absent. ready.absent x (subst (λ (z : Setup). x < z.geometry.disks) (sym new_setup) low) absent)
+          (fresh_stays (g.R.Rack.slot (store_rack b.store)) (g.R.Rack.slot (store_rack new.store)) b.meta new.meta c.in_ok-commit.ensures.marks
+          (λ x u out. fresh_there (g.R.Rack.slot (store_rack b.store)) c.args.disk x u spins (sym (ap (λ (m : Meta). m.out) fresh) ∙ out)))));
+      ends = subst (λ (y : Service). CommitsAll y k_then) equal
+          (commits_all g.R.Rack.slot_count b new samples served energy (copies_kept a b setup it.copied c.requires.serving.copies_synced) c.commit.ensures.slots new_setup c.in_ok-commit.ensures.epoch c.in_ok-commit.ensures.nothing c.commit.ensures.table c.commit.ensures.copied);
+    })

@@ -1,5 +1,5 @@
-use Rattle.std.specs.Prelude.{length}
-use Rattle.std.proofs.Common.{◌≡◌, ◌∙◌, ap, subst, refl}
+use Rattle.std.specs.Prelude.{length, slice_index, List, Some}
+use Rattle.std.proofs.Common.{◌≡◌, ◌∙◌, ◌<◌, ap, subst, sym, refl}
 use Rattle.paraid_base.specs.declared.state.Out.{Out}
 use Rattle.paraid_base.specs.declared.state.Out.TheVariants.{Gone}
 use Rattle.paraid_image.specs.Out.{named_out}
@@ -10,8 +10,15 @@ use Rattle.paraid_core.specs.Cores.{CoreStandsFor, IsCoreHeld, IsCoreHeldSinceCo
 use Rattle.paraid_core.specs.Replaced.{CoreCommitted}
 use Rattle.paraid_core.proofs.ChainLemmas.{ended}
 use Rattle.paraid_core.proofs.ReadsLemmas.{knows_named}
-use Rattle.paraid_shift.proofs.ServingLemmas.{chain, chain_held}
-use Rattle.paraid_rebuild.proofs.ReplacingLemmas.{away_marked, beside}
+use Rattle.paraid_shift.proofs.ServingLemmas.{chain, chain_held, copies_kept, marked_named, unsynced_still}
+use Rattle.paraid_rebuild.proofs.ReplacingLemmas.{away_marked, beside, serving_then}
+use Rattle.paraid_record.specs.declared.meta.Setup.{Setup}
+use Rattle.paraid_image.specs.Mark.{meta_after_loss}
+use Rattle.paraid_event.specs.Parts.{ServesEvent}
+use Rattle.paraid_event.specs.Service.{service_of}
+use Rattle.paraid_rebuild.proofs.ReplacementEventLemmas.{commit_told, commits_all, gone_fresh, marked_told, same_service, still_told}
+use Rattle.paraid_base.specs.States.{gone_out}
+use Rattle.paraid_core.proofs.KindLemmas.{gone_named}
 use Rattle.paraid_rebuild.proofs.replaced.commit_gone.Goals as goal
 
 pub returns-in_err-commit-clause-moments : goal.returns-in_err-commit-clause-moments
@@ -71,3 +78,63 @@ returns-clause-committed g c h lo =
     (c.in_ok-commit.ensures.committed away h lo) in
     beside _ _ _ _ (core_down a) (named_of a.store) h refl refl (λ x is. knows_named (named_of a.store) (named_out a.meta.out) x is) lo (CoreStandsFor g.R.Rack.slot_count a h lo) (CoreCommitted g.R.Rack.slot_count new h (length h) (Gone c.args.disk)) _ _
     (chain g.R.Rack.slot_count g.R.Rack.told a d (ap (λ (z : _). g.R.Rack.slot_count (store_rack z)) store) setup (ap named_of store) (CoreStandsFor g.R.Rack.slot_count a h lo) (CoreStandsFor g.R.Rack.slot_count d h lo) (CoreCommitted g.R.Rack.slot_count new h (length h) (Gone c.args.disk)) h lo _ staged last)
+
+pub returns-clause-event : goal.returns-clause-event
+returns-clause-event g c samples served energy h lo =
+    let a = c.args.core.now in
+    let b = c.mark_out.new.self in
+    let d = c.clear_spins.new.self in
+    let new = c.commit.new.self in
+    let marks = c.mark_out.ensures in
+    let clears = c.clear_spins.ensures in
+    let store = clears.store ∙ marks.store in
+    let setup = ap (λ (m : Meta). m.setup) clears.meta ∙ ap (λ (m : Meta). m.setup) marks.meta in
+    let out = ap (λ (m : Meta). named_out m.out) clears.meta ∙ ap (λ (m : Meta). named_out m.out) marks.meta in
+    let away = away_marked g.R.Rack.slot a d c.args.disk store c.requires.out out c.requires.absent in
+    let gone : d.meta.out ≡ Gone c.args.disk = ap (λ (m : Meta). m.out) clears.meta ∙ ap (λ (m : Meta). m.out) marks.meta in
+    let copied = clears.copied ∙ marks.copied in
+    let meta : d.meta ≡ record (meta_after_loss a.meta c.args.disk) { spins = d.meta.spins } = clears.meta ∙ ap (λ (m : Meta). record m { spins = d.meta.spins }) marks.meta in
+    let staged =
+    chain g.R.Rack.slot_count g.R.Rack.told a b (ap (λ (z : _). g.R.Rack.slot_count (store_rack z)) marks.store) (ap (λ (m : Meta). m.setup) marks.meta) (ap named_of marks.store)
+    (CoreStandsFor g.R.Rack.slot_count a h lo) (CoreStandsFor g.R.Rack.slot_count b h lo) (CoreStandsFor g.R.Rack.slot_count d h lo) h lo _ (marks.stands h lo) (clears.stands h lo) in
+    let ready = c.in_ok-commit.ensures.ready in
+    let new_setup : new.meta.setup ≡ d.meta.setup = c.in_ok-commit.ensures.setup in
+    let lost = c.in_ok-commit.ensures.marks in (
+      service_of g.R.Rack.slot_count d samples served energy,
+      record {
+        marks = record {
+          mark = same_service g.R.Rack.slot_count a d samples served energy (record (meta_after_loss a.meta c.args.disk) { spins = d.meta.spins }) (ap (λ (z : _). g.R.Rack.slot_count (store_rack z)) store) (ap named_of store) meta
+              (clears.table ∙ marks.table) (clears.batch ∙ marks.batch) copied;
+          as_many = clears.ready.in_range.eight ∙ sym c.requires.serving.ready.in_range.eight;
+          cleared = clears.cleared;
+          others = λ e apart. clears.others e apart ∙ ap (λ (m : Meta). slice_index m.spins e) marks.meta;
+        };
+        stands = λ t tells k. still_told (IsCoreHeldSinceCommit g.R.Rack.slot_count a h lo) (CoreStandsFor g.R.Rack.slot_count a h lo) (CoreStandsFor g.R.Rack.slot_count d h lo) (g.R.Rack.told (store_rack a.store)) (g.R.Rack.told (store_rack d.store))
+            (ap (λ (z : _). g.R.Rack.told (store_rack z)) store) staged t tells k;
+        ran = subst (λ (z : _). Ran (g.R.Rack.told (store_rack z)) (g.R.Rack.told (store_rack new.store)) (ServesEvent (service_of g.R.Rack.slot_count d samples served energy) (service_of g.R.Rack.slot_count new samples served energy) h lo h (length h))) store
+            (commit_told (g.R.Rack.told (store_rack d.store)) (g.R.Rack.told (store_rack new.store)) (service_of g.R.Rack.slot_count d samples served energy) (service_of g.R.Rack.slot_count new samples served energy) h lo
+            c.commit.ensures.calls (c.in_ok-commit.ensures.since away h lo) (c.commit.ensures.whole h lo)
+            (marked_told (g.R.Rack.told (store_rack new.store)) (g.R.Rack.slot (store_rack d.store)) (g.R.Rack.slot (store_rack new.store)) (g.met.R.Rack.agrees (store_rack new.store)) d.meta new.meta lost
+            (λ x low absent. ready.absent x (subst (λ (z : Setup). x < z.geometry.disks) (sym new_setup) low) absent)
+            (gone_fresh (g.R.Rack.slot (store_rack d.store)) (g.R.Rack.slot (store_rack new.store)) d.meta new.meta lost c.args.disk gone)));
+        ends = commits_all g.R.Rack.slot_count d new samples served energy (copies_kept a d setup copied c.requires.serving.copies_synced) c.commit.ensures.slots new_setup c.in_ok-commit.ensures.epoch c.in_ok-commit.ensures.nothing c.commit.ensures.table c.commit.ensures.copied;
+      },
+    )
+
+pub returns-clause-serving : goal.returns-clause-serving
+returns-clause-serving g c =
+    let a = c.args.core.now in
+    let d = c.clear_spins.new.self in
+    let new = c.commit.new.self in
+    let marks = c.mark_out.ensures in
+    let clears = c.clear_spins.ensures in
+    let store = clears.store ∙ marks.store in
+    let setup : d.meta.setup ≡ a.meta.setup = ap (λ (m : Meta). m.setup) clears.meta ∙ ap (λ (m : Meta). m.setup) marks.meta in
+    let out : named_out d.meta.out ≡ Some c.args.disk = ap (λ (m : Meta). named_out m.out) clears.meta ∙ ap (λ (m : Meta). named_out m.out) marks.meta in
+    let gone : gone_out d.meta.out ≡ Some c.args.disk = ap (λ (m : Meta). gone_out m.out) clears.meta ∙ ap (λ (m : Meta). gone_out m.out) marks.meta in
+    let done = c.in_ok-commit.ensures in
+    serving_then g.R.Rack.slot_count g.R.Rack.slot a new c.requires.serving done.ready (done.serves (clears.serves (marks.serves c.requires.serving.serves)))
+    (done.unsynced (unsynced_still g.R.Rack.slot_count g.R.Rack.slot a d c.requires.serving setup (λ x is. gone ∙ sym c.requires.out ∙ gone_named a.meta.out x is) store (clears.copied ∙ marks.copied)))
+    (done.draft ∙ clears.draft ∙ marks.draft) (done.copied ∙ clears.copied ∙ marks.copied) (done.setup ∙ setup)
+    (λ x is. marked_named _ new.meta done.meta x (out ∙ sym c.requires.out ∙ is))
+    (λ x not there. c.commit.ensures.spared.size x there ∙ ap (λ (z : _). (g.R.Rack.slot (store_rack z) x).size) store)

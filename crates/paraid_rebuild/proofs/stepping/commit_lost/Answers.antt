@@ -1,5 +1,7 @@
 use Rattle.std.specs.Prelude.{ℕ, ◌+◌, Option, Some}
 use Rattle.std.proofs.Common.{◌≡◌, ◌∙◌, sym, ap, subst, inl}
+use Rattle.paraid_base.specs.States.{gone_out}
+use Rattle.paraid_core.proofs.KindLemmas.{gone_named}
 use Rattle.paraid_image.specs.Out.{named_out, or_else}
 use Rattle.paraid_record.specs.declared.meta.Meta.{Meta}
 use Rattle.paraid_txn.specs.Losses.{OnlyLosesSlots}
@@ -9,7 +11,14 @@ use Rattle.paraid_core.specs.Steps.{IsNamedOrAbsent}
 use Rattle.paraid_core.proofs.AfterLemmas.{handed}
 use Rattle.paraid_shift.specs.Serving.{RestsInShift}
 use Rattle.paraid_shift.proofs.ServingLemmas.{chain, chain_held, lowered, marked_named, unsynced_still}
-use Rattle.paraid_rebuild.proofs.ReplacingLemmas.{gone_stays, serving_then, two_marked}
+use Rattle.paraid_rebuild.proofs.ReplacingLemmas.{gone_settled, gone_stays, serving_then, two_marked}
+use Rattle.std.specs.Prelude.{◌<◌}
+use Rattle.paraid_base.specs.declared.state.Out.TheVariants.{Gone}
+use Rattle.paraid_rack.specs.Told.{Ran}
+use Rattle.paraid_record.specs.declared.meta.Setup.{Setup}
+use Rattle.paraid_event.specs.Service.{Service, service_of}
+use Rattle.paraid_event.specs.Steps.{StepsInEvent}
+use Rattle.paraid_rebuild.proofs.ReplacementEventLemmas.{commit_steps, commit_told, gone_fresh, marked_told, same_service}
 use Rattle.paraid_rebuild.proofs.stepping.commit_lost.Goals as goal
 
 pub returns-in_err-commit-clause-moments : goal.returns-in_err-commit-clause-moments
@@ -84,8 +93,8 @@ returns-clause-serving g c =
     let named : named_of b.store ≡ Some c.args.disk = ap named_of marks.store ∙ c.requires.named in
     let done = c.in_ok-commit.ensures in
     serving_then g.R.Rack.slot_count g.R.Rack.slot a new c.requires.serving done.ready (done.serves (marks.serves c.requires.serving.serves))
-    (done.unsynced (unsynced_still g.R.Rack.slot_count g.R.Rack.slot a b c.requires.serving setup marks.store marks.copied)) (done.draft ∙ marks.draft) (done.copied ∙ marks.copied) (done.setup ∙ setup)
-    (λ d is. marked_named _ new.meta done.meta d (out ∙ sym c.requires.out ∙ is))
+    (done.unsynced (unsynced_still g.R.Rack.slot_count g.R.Rack.slot a b c.requires.serving setup (λ d is. ap (λ (m : Meta). gone_out m.out) marks.meta ∙ sym (ap named_out c.requires.out) ∙ gone_named a.meta.out d is) marks.store marks.copied)) (done.draft ∙ marks.draft) (done.copied ∙ marks.copied) (done.setup ∙ setup)
+    (λ d is. marked_named _ new.meta done.meta d (out ∙ sym (ap named_out c.requires.out) ∙ is))
     (λ d not there. c.commit.ensures.spared.size d there ∙ ap (λ (z : _). (g.R.Rack.slot (store_rack z) d).size) marks.store)
 
 pub returns-clause-named : goal.returns-clause-named
@@ -122,3 +131,28 @@ returns-clause-gone g c =
     let out : named_out b.meta.out ≡ Some c.args.disk = ap (λ (m : Meta). named_out m.out) marks.meta in
     let named : named_of b.store ≡ Some c.args.disk = ap named_of marks.store ∙ c.requires.named in
     gone_stays (record a.meta { epoch = a.meta.epoch + 1 }) (record b.meta { epoch = b.meta.epoch + 1 }) new.meta c.args.disk (ap (λ (m : Meta). record m { epoch = m.epoch + 1 }) marks.meta) c.in_ok-commit.ensures.meta
+
+pub returns-clause-event : goal.returns-clause-event
+returns-clause-event g c samples served energy h lo =
+    let a = c.args.core.now in
+    let b = c.mark_out.new.self in
+    let new = c.commit.new.self in
+    let marks = c.mark_out.ensures in
+    let same : b.meta ≡ a.meta = marks.meta ∙ gone_settled a.meta c.args.disk c.requires.serving.ready.in_range c.requires.out in
+    let gone : b.meta.out ≡ Gone c.args.disk = ap (λ (m : Meta). m.out) same ∙ c.requires.out in
+    let named : named_of b.store ≡ Some c.args.disk = ap named_of marks.store ∙ c.requires.named in
+    let away : IsNamedOrAbsent g.R.Rack.slot b = (λ x is. inl (named ∙ sym (ap named_out gone) ∙ is)) in
+    let k = service_of g.R.Rack.slot_count a samples served energy in
+    let j = service_of g.R.Rack.slot_count b samples served energy in
+    let k_then = service_of g.R.Rack.slot_count new samples served energy in
+    let equal : j ≡ k = same_service g.R.Rack.slot_count a b samples served energy a.meta (ap (λ (z : _). g.R.Rack.slot_count (store_rack z)) marks.store) (ap named_of marks.store) same marks.table marks.batch marks.copied in
+    let new_setup : new.meta.setup ≡ b.meta.setup = c.in_ok-commit.ensures.setup in
+    let ready = c.in_ok-commit.ensures.ready in
+    let lost = c.in_ok-commit.ensures.marks in
+    subst (λ (y : Service). Ran (g.R.Rack.told (store_rack a.store)) (g.R.Rack.told (store_rack new.store)) (StepsInEvent y k_then h lo 1)) equal
+    (subst (λ (z : _). Ran (g.R.Rack.told (store_rack z)) (g.R.Rack.told (store_rack new.store)) (StepsInEvent j k_then h lo 1)) marks.store
+    (commit_steps (g.R.Rack.told (store_rack b.store)) (g.R.Rack.told (store_rack new.store)) j k_then h lo c.commit.ensures.slots
+    (commit_told (g.R.Rack.told (store_rack b.store)) (g.R.Rack.told (store_rack new.store)) j k_then h lo c.commit.ensures.calls (c.in_ok-commit.ensures.since away h lo) (c.commit.ensures.whole h lo)
+    (marked_told (g.R.Rack.told (store_rack new.store)) (g.R.Rack.slot (store_rack b.store)) (g.R.Rack.slot (store_rack new.store)) (g.met.R.Rack.agrees (store_rack new.store)) b.meta new.meta lost
+    (λ x low absent. ready.absent x (subst (λ (z : Setup). x < z.geometry.disks) (sym new_setup) low) absent)
+    (gone_fresh (g.R.Rack.slot (store_rack b.store)) (g.R.Rack.slot (store_rack new.store)) b.meta new.meta lost c.args.disk gone)))))

@@ -15,6 +15,13 @@ use Rattle.paraid_core.proofs.StepLemmas.{held_none, runs_none}
 use Rattle.paraid_shift.specs.Serving.{RestsInShift, StandsInShift}
 use Rattle.paraid_shift.proofs.ServingLemmas.{lowered, marked_named}
 use Rattle.paraid_rebuild.proofs.ReplacingLemmas.{back_well, gone_failed, marked_back, marked_lost, serving_then}
+use Rattle.std.specs.Prelude.{true, ◌<◌}
+use Rattle.paraid_rack.specs.Disks.{is_present}
+use Rattle.paraid_base.specs.States.{rebuilt_count}
+use Rattle.paraid_record.specs.declared.meta.Setup.{Setup}
+use Rattle.paraid_event.specs.Service.{service_of}
+use Rattle.paraid_rebuild.proofs.ReplacementEventLemmas.{commit_steps, commit_told, fresh_stays, marked_told, named_there, none_steps}
+use Rattle.paraid_rebuild.proofs.MovedLemmas.{gone_away}
 use Rattle.paraid_rebuild.proofs.stepping.commit_staged.Goals as goal
 
 pub returns-then-is_clear-clause-moments : goal.returns-then-is_clear-clause-moments
@@ -159,3 +166,50 @@ returns-clause-spins g c is =
     let was : named_out a.meta.out ≡ Some c.args.disk = ap named_out c.requires.fresh in
     let away : IsNamedOrAbsent g.R.Rack.slot a = (λ x is. inl (c.requires.named ∙ sym was ∙ is)) in
     (back_well (g.R.Rack.slot (store_rack a.store)) (g.R.Rack.slot (store_rack new.store)) a.meta new.meta c.args.disk c.in_ok-commit.ensures.marks (c.is_gone.ensures.back c.if-is_gone.false)).0 ∙ c.requires.spins
+
+pub returns-then-is_clear-clause-event : goal.returns-then-is_clear-clause-event
+returns-then-is_clear-clause-event g c samples served energy h lo =
+    let a = c.args.core.now in
+    none_steps (g.R.Rack.told (store_rack a.store)) (service_of g.R.Rack.slot_count a samples served energy) h lo 1
+
+pub returns-then-is_gone-clause-event : goal.returns-then-is_gone-clause-event
+returns-then-is_gone-clause-event g c samples served energy h lo =
+    let a = c.args.core.now in
+    let new = c.commit.new.self in
+    let was : named_out a.meta.out ≡ Some c.args.disk = ap named_out c.requires.fresh in
+    let away : IsNamedOrAbsent g.R.Rack.slot a = (λ x is. inl (c.requires.named ∙ sym was ∙ is)) in
+    let k = service_of g.R.Rack.slot_count a samples served energy in
+    let k_then = service_of g.R.Rack.slot_count new samples served energy in
+    let new_setup : new.meta.setup ≡ a.meta.setup = c.in_ok-commit.ensures.setup in
+    let ready = c.in_ok-commit.ensures.ready in
+    let lost = c.in_ok-commit.ensures.marks in
+    commit_steps (g.R.Rack.told (store_rack a.store)) (g.R.Rack.told (store_rack new.store)) k k_then h lo c.commit.ensures.slots
+    (commit_told (g.R.Rack.told (store_rack a.store)) (g.R.Rack.told (store_rack new.store)) k k_then h lo c.commit.ensures.calls (c.in_ok-commit.ensures.since away h lo) (c.commit.ensures.whole h lo)
+    (marked_told (g.R.Rack.told (store_rack new.store)) (g.R.Rack.slot (store_rack a.store)) (g.R.Rack.slot (store_rack new.store)) (g.met.R.Rack.agrees (store_rack new.store)) a.meta new.meta lost
+    (λ x low absent. ready.absent x (subst (λ (z : Setup). x < z.geometry.disks) (sym new_setup) low) absent)
+    (fresh_stays (g.R.Rack.slot (store_rack a.store)) (g.R.Rack.slot (store_rack new.store)) a.meta new.meta lost
+    (named_there (g.R.Rack.slot (store_rack a.store)) a.meta c.args.disk (rebuilt_count a.meta.out) c.requires.fresh (ap is_present c.requires.spins)))))
+
+pub returns-clause-event : goal.returns-clause-event
+returns-clause-event g c samples served energy h lo =
+    let a = c.args.core.now in
+    let new = c.commit.new.self in
+    let was : named_out a.meta.out ≡ Some c.args.disk = ap named_out c.requires.fresh in
+    let away : IsNamedOrAbsent g.R.Rack.slot a = (λ x is. inl (c.requires.named ∙ sym was ∙ is)) in
+    let k = service_of g.R.Rack.slot_count a samples served energy in
+    let k_then = service_of g.R.Rack.slot_count new samples served energy in
+    let new_setup : new.meta.setup ≡ a.meta.setup = c.in_ok-commit.ensures.setup in
+    let ready = c.in_ok-commit.ensures.ready in
+    let lost = c.in_ok-commit.ensures.marks in
+    commit_steps (g.R.Rack.told (store_rack a.store)) (g.R.Rack.told (store_rack new.store)) k k_then h lo c.commit.ensures.slots
+    (commit_told (g.R.Rack.told (store_rack a.store)) (g.R.Rack.told (store_rack new.store)) k k_then h lo c.commit.ensures.calls (c.in_ok-commit.ensures.since away h lo) (c.commit.ensures.whole h lo)
+    (marked_told (g.R.Rack.told (store_rack new.store)) (g.R.Rack.slot (store_rack a.store)) (g.R.Rack.slot (store_rack new.store)) (g.met.R.Rack.agrees (store_rack new.store)) a.meta new.meta lost
+    (λ x low absent. ready.absent x (subst (λ (z : Setup). x < z.geometry.disks) (sym new_setup) low) absent)
+    (fresh_stays (g.R.Rack.slot (store_rack a.store)) (g.R.Rack.slot (store_rack new.store)) a.meta new.meta lost
+    (named_there (g.R.Rack.slot (store_rack a.store)) a.meta c.args.disk (rebuilt_count a.meta.out) c.requires.fresh (ap is_present c.requires.spins)))))
+
+pub returns-then-is_gone-clause-away : goal.returns-then-is_gone-clause-away
+returns-then-is_gone-clause-away g c is =
+    let a = c.args.core.now in
+    let new = c.commit.new.self in
+    gone_away (g.R.Rack.slot (store_rack a.store)) (g.R.Rack.slot (store_rack new.store)) a.meta new.meta c.args.disk (ap named_out c.requires.fresh) (ap gone_out c.requires.fresh) c.in_ok-commit.ensures.marks (c.is_gone.ensures.gone c.if-is_gone.true)

@@ -15,6 +15,8 @@ use Rattle.paraid_core.proofs.AfterLemmas.{handed}
 use Rattle.paraid_shift.specs.Serving.{RestsInShift, StandsInShift}
 use Rattle.paraid_shift.proofs.ServingLemmas.{chain, chain_held}
 use Rattle.paraid_rebuild.proofs.ReplacingLemmas.{two_since}
+use Rattle.paraid_event.specs.Service.{service_of}
+use Rattle.paraid_rebuild.proofs.StepEventLemmas.{steps_then, steps_within}
 use Rattle.paraid_rebuild.proofs.stepping.go_on.Goals as goal
 
 pub returns-then-not-there-clause-stands : goal.returns-then-not-there-clause-stands
@@ -131,3 +133,22 @@ returns-clause-slots g c =
 pub returns-clause-table : goal.returns-clause-table
 returns-clause-table g c =
     c.in_ok-moved.ensures.table ∙ c.commit_staged.ensures.table
+
+pub returns-then-not-there-clause-event : goal.returns-then-not-there-clause-event
+returns-then-not-there-clause-event g c samples served energy h lo =
+    let a = c.args.core.now in
+    let b = c.commit_staged.new.core in
+    steps_within (g.R.Rack.told (store_rack a.store)) (g.R.Rack.told (store_rack b.store)) (service_of g.R.Rack.slot_count a samples served energy) (service_of g.R.Rack.slot_count b samples served energy) h lo 1 2 (omega arith)
+    (c.in_ok-there.ensures.event samples served energy h lo)
+
+pub returns-clause-event : goal.returns-clause-event
+returns-clause-event g c samples served energy h lo =
+    let a = c.args.core.now in
+    let b = c.commit_staged.new.core in
+    let new = c.advance.new.core in
+    steps_then (g.R.Rack.told (store_rack a.store)) (g.R.Rack.told (store_rack b.store)) (g.R.Rack.told (store_rack new.store)) (service_of g.R.Rack.slot_count a samples served energy) (service_of g.R.Rack.slot_count b samples served energy)
+    (service_of g.R.Rack.slot_count new samples served energy) h lo 1 1 (c.in_ok-there.ensures.event samples served energy h lo) (c.in_ok-moved.ensures.event samples served energy h lo)
+
+pub returns-then-not-there-clause-away : goal.returns-then-not-there-clause-away
+returns-then-not-there-clause-away g c is =
+    c.in_ok-there.ensures.away (ap Ok c.if-not-there.true)

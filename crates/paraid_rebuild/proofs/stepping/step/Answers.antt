@@ -10,6 +10,9 @@ use Rattle.paraid_core.proofs.AfterLemmas.{handed}
 use Rattle.paraid_shift.specs.Serving.{RestsInShift, StandsInShift}
 use Rattle.paraid_shift.proofs.ServingLemmas.{chain, chain_held}
 use Rattle.paraid_rebuild.proofs.ReplacingLemmas.{again, two_since}
+use Rattle.paraid_event.specs.Service.{service_of}
+use Rattle.paraid_rebuild.proofs.MovedLemmas.{stays_away}
+use Rattle.paraid_rebuild.proofs.StepEventLemmas.{steps_then, steps_within}
 use Rattle.paraid_rebuild.proofs.stepping.step.Goals as goal
 
 pub returns-then-moved-clause-absent : goal.returns-then-moved-clause-absent
@@ -121,3 +124,24 @@ returns-clause-slots g c =
 pub returns-clause-table : goal.returns-clause-table
 returns-clause-table g c =
     c.commit_lost.ensures.table ∙ c.in_ok-moved.ensures.table
+
+pub returns-then-moved-clause-event : goal.returns-then-moved-clause-event
+returns-then-moved-clause-event g c samples served energy h lo =
+    let a = c.args.core.now in
+    let b = c.go_on.new.core in
+    steps_within (g.R.Rack.told (store_rack a.store)) (g.R.Rack.told (store_rack b.store)) (service_of g.R.Rack.slot_count a samples served energy) (service_of g.R.Rack.slot_count b samples served energy) h lo 2 3 (omega arith)
+    (c.in_ok-moved.ensures.event samples served energy h lo)
+
+pub returns-clause-event : goal.returns-clause-event
+returns-clause-event g c samples served energy h lo =
+    let a = c.args.core.now in
+    let b = c.go_on.new.core in
+    let new = c.commit_lost.new.core in
+    steps_then (g.R.Rack.told (store_rack a.store)) (g.R.Rack.told (store_rack b.store)) (g.R.Rack.told (store_rack new.store)) (service_of g.R.Rack.slot_count a samples served energy) (service_of g.R.Rack.slot_count b samples served energy)
+    (service_of g.R.Rack.slot_count new samples served energy) h lo 2 1 (c.in_ok-moved.ensures.event samples served energy h lo) (c.in_ok-commit_lost.ensures.event samples served energy h lo)
+
+pub returns-clause-away : goal.returns-clause-away
+returns-clause-away g c is =
+    let b = c.go_on.new.core in
+    let new = c.commit_lost.new.core in
+    stays_away (g.R.Rack.slot (store_rack b.store)) (g.R.Rack.slot (store_rack new.store)) c.commit_lost.ensures.spared c.args.disk (c.in_ok-moved.ensures.away (ap Ok c.if-moved.false))

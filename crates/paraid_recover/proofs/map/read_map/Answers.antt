@@ -1,11 +1,12 @@
-use Rattle.std.specs.Prelude.{◌≡◌, ◌≢◌, ℕ, ◌<◌, true, [], Option, Some, None}
+use Rattle.std.specs.Prelude.{◌≡◌, ◌≢◌, ℕ, ◌<◌, Bool, true, false, [], Option, Some, None, if◌then◌else◌}
 use Rattle.std.proofs.Common.{ap, arith, inl, inr, refl, subst, sym, ◌∙◌}
 use Rattle.paraid_dirty.specs.Table.{is_dirty}
-use Rattle.paraid_image.specs.Out.{or_else}
+use Rattle.std.proofs.lemmas.Bool.{false≢true}
+use Rattle.paraid_image.specs.Out.{is_out, or_else}
 use Rattle.paraid_image.specs.Spot.{map_disk as map_disk_of}
 use Rattle.paraid_txn.specs.Stores.{disks_of, store_out, store_rack}
 use Rattle.paraid_view.proofs.ReadLemmas.{shows_after}
-use Rattle.paraid_view.proofs.TwoLemmas.{read_beside, two_lost}
+use Rattle.paraid_view.proofs.TwoLemmas.{read_beside, two_beside, two_lost}
 use Rattle.paraid_rack.specs.Disks.{is_present}
 use Rattle.paraid_rack.specs.Slots.{Slot}
 use Rattle.paraid_rack.specs.Told.{Ran}
@@ -32,12 +33,26 @@ returns-in-Ok-clause-shows g c f shows some =
     subst (λ (k : ℕ). ShowsMap c.args.meta.now.setup.geometry (f k) (is_dirty c.read_map_of-2.new.table)) (sym at)
     (c.in-Ok.ensures.shows f (shows_after (disks_of c.args.store.now) _ _ [] f c.in-Err.ensures.read.calls shows) some)
 
+-- the map is read of another disk than the one that is out
+map_apart : (first : ℕ) → first ≢ map_disk_of (Some first)
+map_apart first is = by (is_out (Some first) 0) refl is
+  where
+    by : (out : Bool) → is_out (Some first) 0 ≡ out → first ≡ (if out then 1 else 0) → ⊥
+    by true out same = false≢true (subst (λ (k : ℕ). is_out (Some k) 0 ≡ true) same out)
+    by false out same = false≢true (sym (subst (λ (k : ℕ). is_out (Some k) 0 ≡ false) same out))
+
+pub returns-in-Some-clause-two : goal.returns-in-Some-clause-two
+returns-in-Some-clause-two g c =
+    two_beside g.R.Rack.slot_count g.R.Rack.slot g.R.Rack.told (disks_of c.args.store.now) c.in-Some.first c.in-Err.lost _ c.args.store.now c.read_map_of.new.store
+    (sym c.out-out.ensures ∙ c.in-Some.is) (λ same. map_apart c.in-Some.first (same ∙ c.in-Err.ensures.failed ∙ c.map_disk-disk.ensures ∙ ap map_disk_of c.in-Some.is)) c.in-Err.ensures.read
+
 pub returns-in-Err-read_map_of-clause-two : goal.returns-in-Err-read_map_of-clause-two
 returns-in-Err-read_map_of-clause-two g c =
     let first : c.in-Err.lost ≡ 0 = c.in-Err.ensures.failed ∙ c.map_disk-disk.ensures ∙ ap map_disk_of c.in_default-out.is in
     let second = c.in-Err-read_map_of.ensures.failed in
+    let none : store_out g.R.Rack.slot c.args.store.now ≡ None = sym c.out-out.ensures ∙ c.in_default-out.is in
     two_lost g.R.Rack.slot_count g.R.Rack.slot g.R.Rack.told (disks_of c.args.store.now) (disks_of c.read_map_of.new.store) c.in-Err.lost c.in-Err-read_map_of.second _ c.args.store.now c.read_map_of.new.store c.read_map_of-2.new.store
-    c.in-Err.ensures.read.same.disks (λ is. absurd (omega arith)) c.in-Err.ensures.read c.in-Err-read_map_of.ensures.read
+    none c.in-Err.ensures.read.same.disks (λ is. absurd (omega arith)) c.in-Err.ensures.read c.in-Err-read_map_of.ensures.read
 
 pub returns-in_default-clause-each : goal.returns-in_default-clause-each
 returns-in_default-clause-each g c = left_well _ _ _ c.in_default.ensures.read.left

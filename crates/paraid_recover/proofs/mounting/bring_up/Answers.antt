@@ -106,6 +106,7 @@ returns-in-Ok-raise-clause-ends g c =
       λ slots.
           keeps_dirty slots x s it.0 old (g.R.Rack.told (store_rack c.in-Ok.store)) (g.R.Rack.told (store_rack c.raise.new.store)) (resumed g at slots) c.in-Ok.ensures.laid
           (it.7 slots x s old refl (resumed g at slots)) it.3 c.in-Ok-raise.ensures.map.far (stays g at it.0 it.4 it.3),
+      it.9,
     )
 
 pub returns-in-Err-raise-clause-refused : goal.returns-in-Err-raise-clause-refused

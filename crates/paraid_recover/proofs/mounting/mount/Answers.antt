@@ -62,6 +62,7 @@ returns-in-Ok-bring_up-clause-served g c =
       side = s.side;
       said = log_state s.gate_open s.meta c.examine.new.batch;
       settled = settled g (goal.at.returns-in-Ok-bring_up-clause-served g c).In-Ok-bring_up;
+      under = c.in-Ok-bring_up.ensures.ends.9;
       read = g.R.Rack.slot c.examine.new.rack;
       agrees = g.met.R.Rack.agrees c.examine.new.rack;
       examined = c.in-Ok-examine.ensures.ok;

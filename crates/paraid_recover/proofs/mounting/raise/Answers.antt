@@ -112,6 +112,7 @@ returns-clause-ends g c =
       ),
       ends g at,
       λ t tells. mark_by_slots (now t) (g.R.Rack.slot (store_rack c.power_disks.new.store)) c.in-Ok.standing (g.met.R.Rack.agrees (store_rack c.power_disks.new.store) t tells),
+      record { named_by = c.in_default.ensures.same.named ∙ sym c.in-Ok.ensures.named; is = c.with_loss.ensures },
     )
 
 pub returns-clause-map : goal.returns-clause-map

@@ -1,3 +1,7 @@
+use Rattle.paraid_rack.specs.Disks.{is_present}
+use Rattle.paraid_recover.specs.Powers.{IsPowerCall}
+use Rattle.paraid_core.proofs.KindLemmas.{calls_none, one_is_each}
+use Rattle.paraid_shift.proofs.PowersLemmas.{powered_lost, powered_none, powered_same, spin_is}
 use Rattle.std.proofs.Common.{◌≡◌, ◌≢◌, ◌∙◌, ℕ, Some, Ok, ap, arith, inl, inr, sym}
 use Rattle.std.proofs.lemmas.Bool.{cases_Bool, cases_eq}
 use Rattle.paraid_image.specs.Out.{named_out}
@@ -53,3 +57,31 @@ returns-clause-rising g c =
           (marked_named a.meta new.meta done.meta) done.ready.absent;
       nothing = c.spin_up.ensures.batch ∙ q.nothing;
     }
+
+pub returns-then-not-is_down-clause-calls : goal.returns-then-not-is_down-clause-calls
+returns-then-not-is_down-clause-calls g c = calls_none _ (g.R.Rack.told (store_rack c.args.core.now.store))
+
+pub returns-then-not-is_down-clause-lost : goal.returns-then-not-is_down-clause-lost
+returns-then-not-is_down-clause-lost g c = powered_none (g.R.Rack.slot (store_rack c.args.core.now.store)) c.args.core.now.meta
+
+pub returns-in_err-spin_up-clause-calls : goal.returns-in_err-spin_up-clause-calls
+returns-in_err-spin_up-clause-calls g c =
+    one_is_each _ (IsPowerCall c.args.core.now.meta) (λ done. spin_is c.args.core.now.meta c.args.disk done c.requires.disk c.requires.past_gear c.requires.rises (c.is_down.ensures.not_out c.if-not-is_down.false)) _ _ c.spin_up.ensures.calls
+
+pub returns-clause-calls : goal.returns-clause-calls
+returns-clause-calls g c =
+    one_is_each _ (IsPowerCall c.args.core.now.meta) (λ done. spin_is c.args.core.now.meta c.args.disk done c.requires.disk c.requires.past_gear c.requires.rises (c.is_down.ensures.not_out c.if-not-is_down.false)) _ _ c.spin_up.ensures.calls
+
+pub returns-clause-lost : goal.returns-clause-lost
+returns-clause-lost g c =
+    let a = c.args.core.now in
+    let new = c.spin_up.new.self in
+    let done = c.in_ok-spin_up.ensures in
+    elim (cases_Bool c.in_ok-spin_up.field-0) [
+      | inl ok ↦ powered_same (g.R.Rack.slot (store_rack new.store)) a.meta new.meta (done.same (ap Ok ok))
+      | inr failed ↦
+          powered_lost (g.R.Rack.slot (store_rack new.store)) a.meta new.meta c.args.disk done.meta c.requires.disk (c.is_down.ensures.not_out c.if-not-is_down.false) (done.gone (ap Ok failed)) (ap is_present (done.failed (ap Ok failed)).absent)
+    ]
+
+pub returns-clause-up : goal.returns-clause-up
+returns-clause-up g c not = raised g c not

@@ -1,5 +1,17 @@
+use Rattle.std.specs.Prelude.{Option}
+use Rattle.std.proofs.Common.{◌≡◌}
+use Rattle.paraid_rack.specs.Told.{Ran}
+use Rattle.paraid_rack.specs.Trail.{Trail, now}
+use Rattle.paraid_base.specs.States.{phase_to}
+use Rattle.paraid_moves.specs.MoveMetas.{meta_flipped_to}
+use Rattle.paraid_event.specs.Service.{Service, service_of}
+use Rattle.paraid_event.specs.Stands.{ServiceStandsFor}
+use Rattle.paraid_event.specs.Steps.{ServesMarked}
+use Rattle.paraid_shift.proofs.PowersLemmas.{mark_service}
+use Rattle.paraid_shift.proofs.StepsLemmas.{commit_is_marked, commit_stands, mark_stands}
 use Rattle.std.specs.Prelude.{length}
 use Rattle.std.proofs.Common.{◌∙◌, ap, subst}
+use Rattle.paraid_base.specs.States.{gone_out}
 use Rattle.paraid_record.specs.declared.meta.Meta.{Meta}
 use Rattle.paraid_txn.specs.Losses.{OnlyLosesSlots}
 use Rattle.paraid_txn.specs.Stores.{named_of, store_rack}
@@ -50,8 +62,29 @@ returns-clause-serving g c =
       serves = done.serves marks.serves;
       draft = done.draft ∙ marks.draft ∙ q.draft;
       copies_synced = copies_still g.R.Rack.slot_count g.R.Rack.slot a new q setup (done.copied ∙ marks.copied);
-      unsynced = done.unsynced (unsynced_still g.R.Rack.slot_count g.R.Rack.slot a b q (ap (λ (m : Meta). m.setup) marks.meta) marks.store marks.copied);
+      unsynced = done.unsynced (unsynced_still g.R.Rack.slot_count g.R.Rack.slot a b q (ap (λ (m : Meta). m.setup) marks.meta) (λ d is. ap (λ (m : Meta). gone_out m.out) marks.meta ∙ is) marks.store marks.copied);
       large = large_then (g.R.Rack.slot (store_rack a.store)) (g.R.Rack.slot (store_rack new.store)) a.meta new.meta q.large
           (turns_lost _ _ (subst (λ (z : _). OnlyLosesSlots (g.R.Rack.slot (store_rack z)) (g.R.Rack.slot (store_rack new.store))) marks.store c.commit.ensures.spared)) setup
           (λ d is. none_known a.meta c.requires.whole d is) done.ready.absent;
+    }
+
+pub returns-clause-opens : goal.returns-clause-opens
+returns-clause-opens g c =
+    let a = c.args.core.now in
+    let b = c.flip.new.self in
+    let new = c.commit.new.self in
+    let marks = c.flip.ensures in
+    let done = c.in_ok-commit.ensures in
+    let away = none_away g.R.Rack.slot b (ap (λ (m : Meta). m.out) marks.meta ∙ c.requires.whole) in
+    let same : g.R.Rack.told (store_rack b.store) ≡ g.R.Rack.told (store_rack a.store) = ap (λ (z : _). g.R.Rack.told (store_rack z)) marks.store in
+    record {
+      stands = λ h lo samples served energy t tells holds.
+          subst (λ (j : Service). ServiceStandsFor j h lo (now t)) (mark_service g.R.Rack.slot_count a b (meta_flipped_to a.meta (phase_to a.meta.phase)) marks.store marks.meta marks.table marks.batch marks.copied samples served energy)
+          (mark_stands (IsCoreHeldSinceCommit g.R.Rack.slot_count a h lo) (CoreStandsFor g.R.Rack.slot_count a h lo) (CoreStandsFor g.R.Rack.slot_count b h lo) _ _ same (marks.stands h lo) t (same ∙ tells) holds);
+      serves = λ h lo samples served energy.
+          subst (λ (z : Option Trail). Ran z (g.R.Rack.told (store_rack new.store)) (ServesMarked (record (service_of g.R.Rack.slot_count a samples served energy) { meta = meta_flipped_to a.meta (phase_to a.meta.phase) }) (service_of g.R.Rack.slot_count new samples served energy) h lo lo)) same
+          (subst (λ (j : Service). Ran (g.R.Rack.told (store_rack b.store)) (g.R.Rack.told (store_rack new.store)) (ServesMarked j (service_of g.R.Rack.slot_count new samples served energy) h lo lo))
+          (mark_service g.R.Rack.slot_count a b (meta_flipped_to a.meta (phase_to a.meta.phase)) marks.store marks.meta marks.table marks.batch marks.copied samples served energy)
+          (commit_is_marked g.R.Rack.slot_count g.R.Rack.slot g.R.Rack.told b new (g.met.R.Rack.agrees (store_rack b.store)) (g.met.R.Rack.agrees (store_rack new.store)) c.commit.ensures.slots done.setup done.ready done.marks c.commit.ensures.calls c.commit.ensures.whole
+          (commit_stands g.R.Rack.slot_count g.R.Rack.slot g.R.Rack.told b new done.nothing (done.filled_since away)) h lo samples served energy));
     }

@@ -1,3 +1,10 @@
+use Rattle.std.proofs.Common.{Ok, ap, inl, inr}
+use Rattle.std.proofs.lemmas.Bool.{cases_Bool}
+use Rattle.paraid_image.specs.Out.{named_out}
+use Rattle.paraid_rack.specs.Disks.{is_present}
+use Rattle.paraid_recover.specs.Powers.{IsPowerCall}
+use Rattle.paraid_core.proofs.KindLemmas.{calls_none, one_is_each}
+use Rattle.paraid_shift.proofs.PowersLemmas.{park_is, powered_lost, powered_none, powered_same}
 use Rattle.std.proofs.Common.{◌∙◌}
 use Rattle.paraid_txn.specs.Stores.{store_rack}
 use Rattle.paraid_core.proofs.StepLemmas.{marked_from_setup, runs_end, runs_none}
@@ -32,3 +39,34 @@ returns-clause-serving g c =
       large = large_then (g.R.Rack.slot (store_rack a.store)) (g.R.Rack.slot (store_rack new.store)) a.meta new.meta q.large c.park.ensures.turned setup
           (marked_named a.meta new.meta done.meta) done.ready.absent;
     }
+
+pub returns-then-not-is_up-clause-calls : goal.returns-then-not-is_up-clause-calls
+returns-then-not-is_up-clause-calls g c = calls_none _ (g.R.Rack.told (store_rack c.args.core.now.store))
+
+pub returns-then-not-is_up-clause-lost : goal.returns-then-not-is_up-clause-lost
+returns-then-not-is_up-clause-lost g c = powered_none (g.R.Rack.slot (store_rack c.args.core.now.store)) c.args.core.now.meta
+
+pub returns-in_err-park-clause-calls : goal.returns-in_err-park-clause-calls
+returns-in_err-park-clause-calls g c =
+    one_is_each _ (IsPowerCall c.args.core.now.meta) (λ done. park_is c.args.core.now.meta c.args.disk done c.requires.steady c.requires.disk c.requires.past_gear (c.is_up.ensures.not_out c.if-not-is_up.false)) _ _ c.park.ensures.calls
+
+pub returns-clause-calls : goal.returns-clause-calls
+returns-clause-calls g c =
+    one_is_each _ (IsPowerCall c.args.core.now.meta) (λ done. park_is c.args.core.now.meta c.args.disk done c.requires.steady c.requires.disk c.requires.past_gear (c.is_up.ensures.not_out c.if-not-is_up.false)) _ _ c.park.ensures.calls
+
+pub returns-clause-lost : goal.returns-clause-lost
+returns-clause-lost g c =
+    let a = c.args.core.now in
+    let new = c.park.new.self in
+    let done = c.in_ok-park.ensures in
+    elim (cases_Bool c.in_ok-park.field-0) [
+      | inl ok ↦ powered_same (g.R.Rack.slot (store_rack new.store)) a.meta new.meta (done.same (ap Ok ok))
+      | inr failed ↦
+          powered_lost (g.R.Rack.slot (store_rack new.store)) a.meta new.meta c.args.disk done.meta c.requires.disk (c.is_up.ensures.not_out c.if-not-is_up.false) (done.gone (ap Ok failed)) (ap is_present (done.failed (ap Ok failed)).absent)
+    ]
+
+pub returns-clause-parked : goal.returns-clause-parked
+returns-clause-parked g c not = elim (cases_Bool c.in_ok-park.field-0) [
+  | inl ok ↦ c.in_ok-park.ensures.parked (ap Ok ok)
+  | inr failed ↦ absurd (not (ap named_out (c.in_ok-park.ensures.gone (ap Ok failed))))
+]

@@ -1,8 +1,16 @@
+use Rattle.std.specs.Prelude.{ℕ, Some}
+use Rattle.std.proofs.Common.{ap, arith, inl, inr, sym}
+use Rattle.std.proofs.lemmas.Bool.{cases_eq, cases_lt}
+use Rattle.paraid_rack.specs.Slots.{Slot}
+use Rattle.paraid_record.specs.declared.meta.Meta.{Meta}
+use Rattle.paraid_txn.specs.Stores.{store_rack}
+use Rattle.paraid_core.proofs.KindLemmas.{calls_none, calls_then}
+use Rattle.paraid_shift.proofs.PowersLemmas.{power_calls_after, powered_none, powered_then}
 use Rattle.std.proofs.Common.{◌∙◌, refl}
 use Rattle.paraid_core.proofs.AfterLemmas.{handed}
 use Rattle.paraid_core.proofs.StepLemmas.{runs_end, runs_none}
 use Rattle.paraid_shift.specs.Serving.{RestsInShift}
-use Rattle.paraid_shift.proofs.ServingLemmas.{chain, chain_held, leaves_array_none, leaves_array_then, marked_none, marked_then, same_none, same_then, two_array}
+use Rattle.paraid_shift.proofs.ServingLemmas.{chain, chain_held, leaves_array_none, leaves_array_then, marked_named, marked_none, marked_then, same_none, same_then, two_array}
 use Rattle.paraid_shift.proofs.ending.park_down.Goals as goal
 
 pub loop-disk-init : goal.loop-disk-init
@@ -15,6 +23,13 @@ loop-disk-init g c =
       meta = marked_none a.meta;
       store = same_none a.store;
       table = refl;
+      absent = λ q. q;
+      calls = calls_none _ (g.R.Rack.told (store_rack a.store));
+      lost = powered_none (g.R.Rack.slot (store_rack a.store)) a.meta;
+      from = let start = ap (λ (m : Meta). m.gear) c.meta.ensures in omega arith;
+      until = λ d low past. (let start = ap (λ (m : Meta). m.gear) c.meta.ensures in omega (arith, low));
+      parked = λ d low under not. absurd (let start = ap (λ (m : Meta). m.gear) c.meta.ensures in omega arith);
+      others = λ d place. refl;
       rests = λ h lo. runs_none g.R.Rack.slot_count g.R.Rack.slot g.R.Rack.told a (RestsInShift g.R.Rack.slot_count a h lo) h lo (λ s kf. kf.keeps);
     }
 
@@ -40,6 +55,20 @@ loop-disk-preserved g c =
       meta = marked_then a.meta b.meta new.meta was.meta one.meta;
       store = same_then a.store b.store new.store was.store c.lower.ensures.store;
       table = c.lower.ensures.table ∙ was.table;
+      absent = λ q. one.absent (was.absent q);
+      calls = calls_then _ _ _ _ was.calls (power_calls_after a.meta b.meta was.meta _ _ c.lower.ensures.calls);
+      lost = powered_then (g.R.Rack.slot (store_rack b.store)) (g.R.Rack.slot (store_rack new.store)) a.meta b.meta new.meta was.lost one.leaves.turned was.leaves.setup one.lost;
+      from = let low = was.from in omega arith;
+      until = λ d low past. (let test = c.loop-disk-test.true in omega (arith, past));
+      parked = λ d low under not. elim (cases_eq d c.loop-disk.disk) [
+        | inl same ↦
+            ap (λ (e : ℕ). (g.R.Rack.slot (store_rack new.store) e).power) same ∙ one.parked (λ k. not (k ∙ ap Some (sym same)))
+        | inr apart ↦
+            ap (λ (s : Slot). s.power) (c.lower.ensures.others d apart)
+            ∙ was.parked d low (omega (arith, under, apart)) (λ k. not (marked_named b.meta new.meta one.meta d k))
+      ];
+      others = λ d place. c.lower.ensures.others d (λ same. elim place [ inl low ↦ (let from = was.from in absurd (omega (arith, low, from, same))) | inr past ↦ absurd (omega (arith, past, same)) ])
+          ∙ was.others d (elim place [ inl low ↦ inl low | inr past ↦ inr (omega (arith, past)) ]);
       rests = λ h lo.
           chain g.R.Rack.slot_count g.R.Rack.told a b was.leaves.slots was.leaves.setup was.store.named
           (RestsInShift g.R.Rack.slot_count a h lo) (RestsInShift g.R.Rack.slot_count b h lo) (RestsInShift g.R.Rack.slot_count new h lo) h lo _ (was.rests h lo) (one.rests h lo);
@@ -54,3 +83,26 @@ pub returns-in_err-lower-clause-two : goal.returns-in_err-lower-clause-two
 returns-in_err-lower-clause-two g c =
     handed _ c.from_residual.result _ c.from_residual.ensures.1
     (two_array g.R.Rack.slot_count g.R.Rack.slot c.args.core.now c.loop-disk.core c.lower.new.core c.loop-disk.invariant.leaves c.lower.ensures.no_fall _ c.in_err-lower.ensures.two)
+
+pub returns-in_err-lower-clause-calls : goal.returns-in_err-lower-clause-calls
+returns-in_err-lower-clause-calls g c =
+    let was = c.loop-disk.invariant in
+    calls_then _ _ _ _ was.calls (power_calls_after c.args.core.now.meta c.loop-disk.core.meta was.meta _ _ c.lower.ensures.calls)
+
+pub returns-clause-calls : goal.returns-clause-calls
+returns-clause-calls g c = c.loop-disk.invariant.calls
+
+pub returns-clause-lost : goal.returns-clause-lost
+returns-clause-lost g c = c.loop-disk.invariant.lost
+
+pub returns-clause-parked : goal.returns-clause-parked
+returns-clause-parked g c d low under not = c.loop-disk.invariant.parked d low (let test = c.loop-disk-test.false in omega (arith, under)) not
+
+pub returns-clause-others : goal.returns-clause-others
+returns-clause-others g c d place = elim (cases_lt d c.args.core.now.meta.gear) [
+  | inl low ↦ c.loop-disk.invariant.others d (inl low)
+  | inr from ↦ elim place [
+    | inl low ↦ absurd (omega (arith, low, from))
+    | inr past ↦ c.loop-disk.invariant.others d (inr (c.loop-disk.invariant.until d from past))
+  ]
+]

@@ -1,5 +1,8 @@
-use Rattle.std.specs.Prelude.{◌+◌, ◌≤◌}
+use Rattle.std.specs.Prelude.{◌≢◌, ◌+◌, ◌≤◌, []}
+use Rattle.paraid_core.specs.Steps.{IsNamedOrAbsent}
 use Rattle.paraid_shift.specs.Serving.{IsCoreServing, LeavesArray}
+use Rattle.paraid_shift.specs.Steps.{CoreStepsInEvent}
+use Rattle.paraid_shift.specs.Units.{AreUnitsDone, CoreCountsMoved}
 use Rattle.paraid_shift.proofs.moving.step_cells.Given as goal
 
 -- so many cells are moved
@@ -7,6 +10,11 @@ abbrev pub invariant-loop-at : goal.invariant-loop-at
 invariant-loop-at g l = record {
   serving : IsCoreServing g.R.Rack.slot_count g.R.Rack.slot l.core;
   leaves : LeavesArray g.R.Rack.slot_count g.R.Rack.slot l.fn.core l.core;
+  absent : IsNamedOrAbsent g.R.Rack.slot l.fn.core → IsNamedOrAbsent g.R.Rack.slot l.core;
   epoch : l.core.meta.epoch ≤ l.fn.core.meta.epoch + l.at;
   few : l.moved ≤ l.fn.most;
+  going : l.at ≤ l.moved;
+  moves : CoreCountsMoved g.R.Rack.slot_count l.fn.core l.core l.moved;
+  steps : CoreStepsInEvent g.R.Rack.slot_count g.R.Rack.told l.fn.core l.core l.at;
+  ended : l.core.batch ≢ [] → AreUnitsDone l.core.meta l.core.dirty;
 }

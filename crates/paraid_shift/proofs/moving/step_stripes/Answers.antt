@@ -1,4 +1,12 @@
+use Rattle.paraid_txn.specs.Stores.{store_rack}
+use Rattle.paraid_shift.proofs.StepsLemmas.{copies_are_steps, core_steps_none, core_steps_within, core_waits_within, marks_committed}
+use Rattle.paraid_shift.proofs.ServingLemmas.{none_away}
+use Rattle.std.specs.Prelude.{◌-◌}
+use Rattle.std.proofs.Common.{◌≡◌, ◌∙◌, ap, arith, inl, inr, Ok, refl}
+use Rattle.paraid_base.specs.declared.state.Out.TheVariants.{No}
+use Rattle.paraid_record.specs.declared.meta.Meta.{Meta}
 use Rattle.paraid_core.proofs.AfterLemmas.{handed}
+use Rattle.paraid_shift.proofs.MovingLemmas.{core_moves_none, core_moves_so, core_moves_then, core_stripes_move, done_committed, stripes_done}
 use Rattle.paraid_shift.proofs.ServingLemmas.{leaves_array_then, two_array}
 use Rattle.paraid_shift.proofs.moving.step_stripes.Goals as goal
 
@@ -10,3 +18,82 @@ returns-in_err-commit-clause-two g c =
 pub returns-clause-leaves : goal.returns-clause-leaves
 returns-clause-leaves g c =
     leaves_array_then g.R.Rack.slot_count g.R.Rack.slot c.args.core.now c.move_stripes.new.core c.commit.new.core c.in_ok-done.ensures.leaves c.in_ok-commit.ensures.leaves
+
+pub returns-then-not-done-clause-moves : goal.returns-then-not-done-clause-moves
+returns-then-not-done-clause-moves g c =
+    let a = c.args.core.now in
+    let done = c.in_ok-done.ensures in
+    record {
+      moves = core_moves_none g.R.Rack.slot_count a c.move_stripes.new.core a.meta.epoch c.requires.whole (done.lost (ap Ok c.if-not-done.true)) done.table;
+      all = λ none. absurd (done.gone (ap Ok c.if-not-done.true) none);
+      ended = λ some. absurd (some done.nothing);
+    }
+
+pub returns-then-has_ended-clause-moves : goal.returns-then-has_ended-clause-moves
+returns-then-has_ended-clause-moves g c =
+    let a = c.args.core.now in
+    let b = c.move_stripes.new.core in
+    let done = c.in_ok-done.ensures in
+    let fill = ap (λ (m : Meta). m.fill) c.meta.ensures in
+    let from = c.next_end-end.ensures.from in
+    let few = c.next_end-end.ensures.few in
+    let ended = c.has_ended.ensures.done c.if-has_ended.true in
+    record {
+      moves = core_moves_so g.R.Rack.slot_count a b _ _ (omega arith)
+          (core_stripes_move g.R.Rack.slot_count a b c.next_end-end.result (done.filled (ap Ok c.if-not-done.false)) done.table (c.requires.clean (omega arith)) c.requires.whole from (c.next_end-end.ensures.stripe (omega arith)));
+      all = λ none. inr ended;
+      ended = λ some. ended;
+    }
+
+pub returns-clause-moves : goal.returns-clause-moves
+returns-clause-moves g c =
+    let a = c.args.core.now in
+    let b = c.move_stripes.new.core in
+    let new = c.commit.new.core in
+    let done = c.in_ok-done.ensures in
+    let made = c.in_ok-commit.ensures in
+    let fill = ap (λ (m : Meta). m.fill) c.meta.ensures in
+    let from = c.next_end-end.ensures.from in
+    let few = c.next_end-end.ensures.few in
+    let meta = done.filled (ap Ok c.if-not-done.false) in
+    let clean = c.requires.clean (omega arith) in
+    let whole : b.meta.out ≡ No = ap (λ (m : Meta). m.out) meta ∙ c.requires.whole in
+    record {
+      moves = core_moves_so g.R.Rack.slot_count a new _ _ (omega arith)
+          (core_moves_then g.R.Rack.slot_count a b new (c.next_end-end.result - a.meta.fill) 0
+          (core_stripes_move g.R.Rack.slot_count a b c.next_end-end.result meta done.table clean c.requires.whole from (c.next_end-end.ensures.stripe (omega arith))) whole done.leaves.setup (made.moves whole));
+      all = λ none. elim c.next_end-end.ensures.all [
+        | inl full ↦ inl (omega arith)
+        | inr all ↦ inr (done_committed b.meta new.meta _ b.dirty new.dirty made.meta none c.commit.ensures.table (stripes_done g.R.Rack.slot_count a b c.next_end-end.result meta done.table clean all))
+      ];
+      ended = λ some. absurd (some made.nothing);
+    }
+
+pub returns-then-end-from-clause-steps : goal.returns-then-end-from-clause-steps
+returns-then-end-from-clause-steps g c =
+    inl (core_steps_within g.R.Rack.slot_count g.R.Rack.slot g.R.Rack.told c.args.core.now c.args.core.now 0 1 (omega arith) (core_steps_none g.R.Rack.slot_count g.R.Rack.slot g.R.Rack.told c.args.core.now))
+
+pub returns-then-not-done-clause-steps : goal.returns-then-not-done-clause-steps
+returns-then-not-done-clause-steps g c =
+    let a = c.args.core.now in
+    let b = c.move_stripes.new.core in
+    let done = c.in_ok-done.ensures in
+    inl (core_steps_within g.R.Rack.slot_count g.R.Rack.slot g.R.Rack.told a b 0 1 (omega arith)
+    (copies_are_steps g.R.Rack.slot_count g.R.Rack.slot g.R.Rack.told a b (g.met.R.Rack.agrees (store_rack a.store)) (g.met.R.Rack.agrees (store_rack b.store)) done.leaves.slots done.leaves.setup done.serving.ready (done.marks (ap Ok c.if-not-done.true))
+    c.requires.nothing c.move_stripes.ensures.calls done.stands))
+
+pub returns-then-has_ended-clause-steps : goal.returns-then-has_ended-clause-steps
+returns-then-has_ended-clause-steps g c =
+    let a = c.args.core.now in
+    let b = c.move_stripes.new.core in
+    inr (c.has_ended.ensures.done c.if-has_ended.true, core_waits_within g.R.Rack.slot_count g.R.Rack.slot g.R.Rack.told a b b.meta 0 1 (omega arith) (c.in_ok-done.ensures.waits (ap Ok c.if-not-done.false)))
+
+pub returns-clause-steps : goal.returns-clause-steps
+returns-clause-steps g c =
+    let a = c.args.core.now in
+    let b = c.move_stripes.new.core in
+    let new = c.commit.new.core in
+    let done = c.in_ok-done.ensures in
+    let whole : b.meta.out ≡ No = ap (λ (m : Meta). m.out) (done.filled (ap Ok c.if-not-done.false)) ∙ c.requires.whole in
+    inl (marks_committed g.R.Rack.slot_count g.R.Rack.slot g.R.Rack.told a b new b.meta 0 (done.waits (ap Ok c.if-not-done.false)) c.in_ok-commit.ensures.leaves.slots c.in_ok-commit.ensures.epoch (λ d. refl)
+    (c.in_ok-commit.ensures.marked (none_away g.R.Rack.slot b whole)))

@@ -9,6 +9,8 @@ use Rattle.paraid_core.specs.Cores.{IsCoreHeldSinceCommit, CoreStandsFor}
 use Rattle.paraid_core.specs.Fills.{Filled}
 use Rattle.paraid_core.specs.CoreInvariant.{HoldsBetweenCalls}
 use Rattle.paraid_core.proofs.AfterLemmas.{handed}
+use Rattle.paraid_core.proofs.KindLemmas.{calls_none, calls_then, data_same}
+use Rattle.paraid_core.proofs.LostMarkLemmas.{marks_none, marks_then}
 use Rattle.paraid_core.proofs.StepLemmas.{held_runs_then, leaves_none, leaves_then, runs_end, runs_none, runs_then, two_then}
 use Rattle.paraid_shift.specs.Serving.{RestsInShift}
 use Rattle.paraid_shift.proofs.stripes.fill_stripes.Goals as goal
@@ -21,6 +23,8 @@ loop-s-init g c =
       leaves = leaves_none g.R.Rack.slot_count g.R.Rack.slot g.R.Rack.told a c.requires.ready c.requires.serves.stays;
       meta = refl;
       from = omega arith;
+      calls = calls_none _ (g.R.Rack.told (store_rack a.store));
+      marks = marks_none a.meta a.meta _ _ a.meta.epoch a.meta.writes (λ d. refl) refl;
       filled = λ h lo.
           subst (λ (z : ℕ). Ran (g.R.Rack.told (store_rack a.store)) (g.R.Rack.told (store_rack a.store)) (CrashTriple (IsCoreHeldSinceCommit g.R.Rack.slot_count a h lo) (RestsInShift g.R.Rack.slot_count a h lo) (Filled g.R.Rack.slot_count a h lo z))) (sym e)
           (runs_none g.R.Rack.slot_count g.R.Rack.slot g.R.Rack.told a (RestsInShift g.R.Rack.slot_count a h lo) h lo (λ s kf. kf.keeps));
@@ -69,6 +73,8 @@ loop-s-preserved g c =
       leaves = leaves_then g.R.Rack.slot_count g.R.Rack.slot g.R.Rack.told c.args.core.now c.loop-s.core was.leaves c.fill_stripe.new.self call.leaves;
       meta = call.same (ap Ok done) ∙ was.meta;
       from = let low = was.from in omega arith;
+      calls = calls_then _ _ _ _ was.calls (data_same c.loop-s.core.meta c.args.core.now.meta was.meta _ _ c.fill_stripe.ensures.calls);
+      marks = marks_then _ _ _ _ _ _ was.marks call.marks was.leaves.spared c.fill_stripe.ensures.spared;
       filled = λ h lo.
           runs_then g.R.Rack.slot_count g.R.Rack.slot g.R.Rack.told c.args.core.now c.loop-s.core was.leaves c.fill_stripe.new.self
           (RestsInShift g.R.Rack.slot_count c.args.core.now h lo) (Filled g.R.Rack.slot_count c.loop-s.core h lo c.loop-s.s)
@@ -92,3 +98,24 @@ returns-clause-stands g c h lo =
 
 pub returns-clause-moments : goal.returns-clause-moments
 returns-clause-moments g c h lo = runs_end g.R.Rack.slot_count g.R.Rack.slot g.R.Rack.told c.args.core.now _ _ _ h lo (c.loop-s.invariant.filled h lo)
+
+pub returns-in_err-done-clause-calls : goal.returns-in_err-done-clause-calls
+returns-in_err-done-clause-calls g c =
+    let was = c.loop-s.invariant in
+    calls_then _ _ _ _ was.calls (data_same c.loop-s.core.meta c.args.core.now.meta was.meta _ _ c.fill_stripe.ensures.calls)
+
+pub returns-then-not-done-clause-calls : goal.returns-then-not-done-clause-calls
+returns-then-not-done-clause-calls g c =
+    let was = c.loop-s.invariant in
+    calls_then _ _ _ _ was.calls (data_same c.loop-s.core.meta c.args.core.now.meta was.meta _ _ c.fill_stripe.ensures.calls)
+
+pub returns-then-not-done-clause-marks : goal.returns-then-not-done-clause-marks
+returns-then-not-done-clause-marks g c =
+    let was = c.loop-s.invariant in
+    marks_then _ _ _ _ _ _ was.marks c.in_ok-done.ensures.marks was.leaves.spared c.fill_stripe.ensures.spared
+
+pub returns-clause-calls : goal.returns-clause-calls
+returns-clause-calls g c = c.loop-s.invariant.calls
+
+pub returns-clause-marks : goal.returns-clause-marks
+returns-clause-marks g c = c.loop-s.invariant.marks

@@ -1,3 +1,4 @@
+use Rattle.paraid_shift.proofs.StepsLemmas.{stripes_wait}
 use Rattle.std.specs.Prelude.{ℕ}
 use Rattle.std.proofs.Common.{◌<◌, ◌∙◌, sym, ap, subst, Ok}
 use Rattle.paraid_base.specs.History.{History}
@@ -14,8 +15,15 @@ use Rattle.paraid_core.specs.CoreInvariant.{AreCopiesSynced}
 use Rattle.paraid_core.specs.Fills.{Filled}
 use Rattle.paraid_core.specs.Steps.{LeavesCore}
 use Rattle.paraid_core.proofs.AfterLemmas.{handed}
+use Rattle.paraid_core.specs.Calls.{IsDataCall, MakesDataCalls}
+use Rattle.paraid_txn.specs.Commit.{gone_out}
+use Rattle.paraid_txn.specs.Uses.{EachCall}
+use Rattle.paraid_core.specs.Lost.{CoreMarksLost}
+use Rattle.paraid_core.proofs.KindLemmas.{calls_then}
+use Rattle.paraid_core.proofs.LostMarkLemmas.{marks_then}
 use Rattle.paraid_core.proofs.StepLemmas.{held_runs_then, leaves_then, marked_from_setup, runs_end, runs_then, two_then}
 use Rattle.paraid_shift.specs.Serving.{IsHeldFromRest, IsCoreServing, LeavesArray, RestsInShift}
+use Rattle.paraid_shift.proofs.CopiedLemmas.{syncs_are_data}
 use Rattle.paraid_shift.proofs.ServingLemmas.{array_left, array_marked, leaves_array_then, out_none, serving_left, serving_marked}
 use Rattle.paraid_shift.proofs.stripes.move_stripes.Given.{Over}
 use Rattle.paraid_shift.proofs.stripes.move_stripes.Goals as goal
@@ -48,6 +56,14 @@ module _ (g : Over) (c : In_ok-settle g) where
   stands h lo =
       runs_then g.R.Rack.slot_count g.R.Rack.slot g.R.Rack.told a b c.in_ok-done.ensures.leaves d (RestsInShift g.R.Rack.slot_count a h lo) (CoreStandsFor g.R.Rack.slot_count b h lo) (CoreStandsFor g.R.Rack.slot_count d h lo) h lo
       (c.in_ok-done.ensures.stands h lo) (c.in_ok-settle.ensures.stands h lo)
+
+  calls : MakesDataCalls g.R.Rack.told a d
+  calls =
+      calls_then _ _ _ _ c.fill_stripes.ensures.calls
+      (syncs_are_data a.meta b.meta b.copied (marked_from_setup a.meta b.meta c.in_ok-done.ensures.leaves.meta) c.requires.whole _ _ c.settle.ensures.calls)
+
+  marks : CoreMarksLost g.R.Rack.slot a d
+  marks = marks_then _ _ _ _ _ _ c.in_ok-done.ensures.marks c.in_ok-settle.ensures.marks c.fill_stripes.ensures.spared c.settle.ensures.spared
 
   held : IsHeldFromRest g.R.Rack.slot_count g.R.Rack.told a d
   held h lo = runs_end g.R.Rack.slot_count g.R.Rack.slot g.R.Rack.told a _ (RestsInShift g.R.Rack.slot_count a h lo) (CoreStandsFor g.R.Rack.slot_count d h lo) h lo (stands h lo)
@@ -137,3 +153,38 @@ returns-clause-stands g c h lo =
     (runs_then g.R.Rack.slot_count g.R.Rack.slot g.R.Rack.told a b c.in_ok-done.ensures.leaves d (RestsInShift g.R.Rack.slot_count a h lo) (Filled g.R.Rack.slot_count b h lo c.args.end) (Filled g.R.Rack.slot_count d h lo c.args.end) h lo
     (c.in_ok-done.ensures.filled (ap Ok c.if-not-done.false) h lo) ((c.in_ok-settle.ensures.filled still).1 h lo c.args.end))
     (c.mark_filled.ensures.stands h lo)
+
+pub returns-in_err-settle-clause-calls : goal.returns-in_err-settle-clause-calls
+returns-in_err-settle-clause-calls g c =
+    let a = c.args.core.now in
+    let b = c.fill_stripes.new.core in
+    calls_then _ _ _ _ c.fill_stripes.ensures.calls
+    (syncs_are_data a.meta b.meta b.copied (marked_from_setup a.meta b.meta c.in_ok-done.ensures.leaves.meta) c.requires.whole _ _ c.settle.ensures.calls)
+
+pub returns-then-not-done-clause-calls : goal.returns-then-not-done-clause-calls
+returns-then-not-done-clause-calls g c = calls g c.before
+
+pub returns-then-not-done-clause-marks : goal.returns-then-not-done-clause-marks
+returns-then-not-done-clause-marks g c is = marks g c.before
+
+pub returns-then-is_any-clause-calls : goal.returns-then-is_any-clause-calls
+returns-then-is_any-clause-calls g c = calls g c.before.before.before.before
+
+pub returns-then-is_any-clause-marks : goal.returns-then-is_any-clause-marks
+returns-then-is_any-clause-marks g c is = marks g c.before.before.before.before
+
+pub returns-clause-calls : goal.returns-clause-calls
+returns-clause-calls g c =
+    let a = c.args.core.now in
+    subst (λ (z : _). Ran (g.R.Rack.told (store_rack a.store)) (g.R.Rack.told (store_rack z)) (EachCall (IsDataCall a.meta.setup.geometry.disks (gone_out a.meta.out)))) (sym c.mark_filled.ensures.store)
+    (calls g c.before.before.before.before.before.before)
+
+pub returns-clause-waits : goal.returns-clause-waits
+returns-clause-waits g c is =
+    let a = c.args.core.now in
+    let d = c.settle.new.self in
+    let b = c.mark_filled.new.self in
+    let at = c.before.before.before.before.before.before in
+    let still = out_none d.meta.out (ap has_out (sym c.out.ensures) ∙ sym c.is_any.ensures ∙ c.if-is_any.false) in
+    stripes_wait g.R.Rack.slot_count g.R.Rack.slot g.R.Rack.told a d b (g.met.R.Rack.agrees (store_rack a.store)) (g.met.R.Rack.agrees (store_rack d.store)) (left g at).slots (marked_from_setup a.meta d.meta (left g at).meta) (left g at).ready (marks g at)
+    c.args.end c.mark_filled.ensures.store still c.mark_filled.ensures.meta c.requires.nothing (calls g at) (stands g at) (returns-clause-stands g c)

@@ -1,4 +1,5 @@
 use Rattle.paraid_top.specs.Ends.MountsAndThen.{mounted, refused}
+use Rattle.paraid_top.proofs.EndLemmas.{begins_at_end, end_moment}
 use Rattle.paraid_top.proofs.program.check.Goals as goal
 
 pub returns-in-Err-clause-run : goal.returns-in-Err-clause-run
@@ -7,5 +8,6 @@ returns-in-Err-clause-run g c = refused c.in-Err.field-0.fault c.in-Err.ensures.
 pub returns-in-Ok-clause-run : goal.returns-in-Ok-clause-run
 returns-in-Ok-clause-run g c =
     let e = c.in-Ok.ensures in
-    mounted (g.A.Serves.setup c.in-Ok.array) (g.A.Serves.began c.in-Ok.array) (g.A.Serves.told c.in-Ok.array) e.began
+    let before = g.R.Rack.told c.args.rack in
+    mounted (g.A.Serves.setup c.in-Ok.array) (end_moment before) (g.A.Serves.told c.in-Ok.array) (begins_at_end before (g.A.Serves.told c.in-Ok.array) e.grows)
     (rw c.unmount.ensures.told c.tell_counts-status.ensures.counts)

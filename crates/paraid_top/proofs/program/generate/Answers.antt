@@ -1,5 +1,5 @@
 use Rattle.paraid_top.specs.Ends.MountsAndThen.{mounted, refused}
-use Rattle.paraid_top.proofs.EndLemmas.{generated_over}
+use Rattle.paraid_top.proofs.EndLemmas.{began_at_end, begins_at_end, end_moment, generated_over}
 use Rattle.paraid_top.proofs.program.generate.Goals as goal
 
 pub returns-in-Err-clause-run : goal.returns-in-Err-clause-run
@@ -8,5 +8,6 @@ returns-in-Err-clause-run g c = refused c.in-Err.field-0.fault c.in-Err.ensures.
 pub returns-in-Ok-clause-run : goal.returns-in-Ok-clause-run
 returns-in-Ok-clause-run g c =
     let e = c.in-Ok.ensures in
-    mounted (g.A.Serves.setup c.in-Ok.array) (g.A.Serves.began c.in-Ok.array) (g.A.Serves.told c.in-Ok.array) e.began
-    (generated_over _ _ _ _ _ _ _ _ _ _ _ _ e.slots c.unmount.ensures.told c.serve_generated_mounted-status.ensures.headline)
+    let before = g.R.Rack.told c.args.rack in
+    mounted (g.A.Serves.setup c.in-Ok.array) (end_moment before) (g.A.Serves.told c.in-Ok.array) (begins_at_end before (g.A.Serves.told c.in-Ok.array) e.grows)
+    (generated_over _ _ _ _ _ _ _ _ _ _ _ _ e.slots c.unmount.ensures.told (c.serve_generated_mounted-status.ensures.headline (end_moment before) (e.mounted (end_moment before) (began_at_end before))))

@@ -1,5 +1,5 @@
 use Rattle.paraid_top.specs.Ends.MountsAndThen.{mounted, refused}
-use Rattle.paraid_top.proofs.EndLemmas.{state_over}
+use Rattle.paraid_top.proofs.EndLemmas.{began_at_end, begins_at_end, end_moment, state_over}
 use Rattle.paraid_top.proofs.program.state.Goals as goal
 
 pub returns-in-Err-clause-run : goal.returns-in-Err-clause-run
@@ -8,5 +8,6 @@ returns-in-Err-clause-run g c = refused c.in-Err.field-0.fault c.in-Err.ensures.
 pub returns-in-Ok-clause-run : goal.returns-in-Ok-clause-run
 returns-in-Ok-clause-run g c =
     let e = c.in-Ok.ensures in
-    mounted (g.A.Serves.setup c.in-Ok.array) (g.A.Serves.began c.in-Ok.array) (g.A.Serves.told c.in-Ok.array) e.began
-    (state_over _ _ (g.A.Serves.setup c.in-Ok.array) _ _ _ _ _ _ e.slots e.mounted c.tell_state-status.ensures.lines)
+    let before = g.R.Rack.told c.args.rack in
+    mounted (g.A.Serves.setup c.in-Ok.array) (end_moment before) (g.A.Serves.told c.in-Ok.array) (begins_at_end before (g.A.Serves.told c.in-Ok.array) e.grows)
+    (state_over _ _ (g.A.Serves.setup c.in-Ok.array) _ _ _ _ _ _ e.slots (e.mounted (end_moment before) (began_at_end before)) c.tell_state-status.ensures.lines)

@@ -21,7 +21,7 @@ returns-in_err-follow-clause-part g c =
     let not = c.is_passed.ensures.called c.if-is_passed.false in
     let here = c.is_passed.ensures.present c.if-is_passed.false in
     CommitPart_raised _ c.from_residual.ensures.1
-    (called_leaves g.R.Rack (λ done. Read c.args.disk c.args.place done) not here (λ done. refl) (λ t is. (g.met.R.Rack.agrees c.args.rack.now t is).power c.args.disk ∙ (c.requires.can not).spins here)
+    (called_leaves g.R.Rack (λ done. Read c.args.disk c.args.place done) not here (λ done. refl) (λ done. refl) (λ t is. (g.met.R.Rack.agrees c.args.rack.now t is).power c.args.disk ∙ (c.requires.can not).spins here)
     (record { faults = refl; power = refl; size = refl }) c.read-answer.ensures.slot c.read-answer.ensures.told _ _ _ c.in_err-follow.ensures)
 
 pub returns-clause-part : goal.returns-clause-part
@@ -29,5 +29,5 @@ returns-clause-part g c =
     let not = c.is_passed.ensures.called c.if-is_passed.false in
     let here = c.is_passed.ensures.present c.if-is_passed.false in
     CommitPart_answer c.is_ok-read.result
-    (called_leaves g.R.Rack (λ done. Read c.args.disk c.args.place done) not here (λ done. refl) (λ t is. (g.met.R.Rack.agrees c.args.rack.now t is).power c.args.disk ∙ (c.requires.can not).spins here)
+    (called_leaves g.R.Rack (λ done. Read c.args.disk c.args.place done) not here (λ done. refl) (λ done. refl) (λ t is. (g.met.R.Rack.agrees c.args.rack.now t is).power c.args.disk ∙ (c.requires.can not).spins here)
     (record { faults = refl; power = refl; size = refl }) c.read-answer.ensures.slot c.read-answer.ensures.told _ _ _ c.in_ok-follow.ensures)

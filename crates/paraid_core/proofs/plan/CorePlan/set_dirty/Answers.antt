@@ -35,6 +35,7 @@ returns-clause-leads g c =
       calls = stay.calls;
       off = stay.off;
       left = stay.left;
+      first = stay.first;
       over = stay.over;
       below = stay.below;
     }

@@ -7,6 +7,10 @@ use Rattle.paraid_txn.specs.Stores.{disks_of, store_rack}
 use Rattle.paraid_view.specs.Reads.{seen_by}
 use Rattle.paraid_core.specs.Plans.{base_of}
 use Rattle.paraid_core.proofs.PlanLemmas.{base_same, desk_same, shows_desk}
+use Rattle.std.proofs.Common.{None, sym}
+use Rattle.paraid_image.specs.Out.{named_out}
+use Rattle.paraid_view.proofs.ReadLemmas.{off_same}
+use Rattle.paraid_core.proofs.LeadsLemmas.{leads_read}
 use Rattle.paraid_core.proofs.plan.CorePlan.value.Goals as goal
 
 pub returns-in_default-clause-ok : goal.returns-in_default-clause-ok
@@ -22,3 +26,10 @@ returns-in_default-clause-same g c some =
     let read = c.in_default.ensures.read in
     desk_same (is_dirty old.dirty) old.draft _ _
     (base_same (disks_of old.store) _ _ (g.R.Rack.slot (store_rack old.store)) (g.R.Rack.slot (store_rack c.read_value.new.store)) old.batch (g.met.R.Rack.agrees (store_rack old.store)) (g.met.R.Rack.agrees (store_rack c.read_value.new.store)) read.left read.calls some)
+
+pub returns-in_default-clause-leads : goal.returns-in_default-clause-leads
+returns-in_default-clause-leads g c =
+    let old = c.args.self.now in
+    let serves = c.requires.serves in
+    leads_read g.R.Rack.slot_count g.R.Rack.slot g.R.Rack.told old serves.whole c.read_value.new.store None c.in_default.ensures.read
+    (off_same (named_out old.meta.out) c.named-out.result _ _ (sym serves.out ∙ sym c.named-out.ensures) c.read_value.ensures.off) (λ e is. cc) old.failed serves.whole

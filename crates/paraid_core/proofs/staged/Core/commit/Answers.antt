@@ -19,6 +19,10 @@ use Rattle.paraid_core.proofs.ReadyLemmas.{IsLostOnly, some_is}
 use Rattle.paraid_core.proofs.SinceLemmas.{core_since, core_since_end}
 use Rattle.paraid_core.proofs.KindLemmas.{calls_milder, uses_transfer}
 use Rattle.paraid_core.proofs.LostMarkLemmas.{marks_commit}
+use Rattle.paraid_txn.specs.Losses.IsOutOfCommit.{is_named}
+use Rattle.paraid_core.proofs.OrderLemmas.{commit_only}
+use Rattle.paraid_rack.specs.Told.{Ran}
+use Rattle.paraid_image.specs.Lost.{TellsLosses}
 use Rattle.paraid_core.proofs.staged.Core.commit.Given.{Over}
 use Rattle.paraid_core.proofs.staged.Core.commit.Goals as goal
 use Rattle.paraid_core.proofs.staged.Core.commit.Goals.{In_ok-lose}
@@ -238,3 +242,16 @@ returns-clause-rest g c h lo =
     commit_rests (g.R.Rack.slot_count (store_rack old.store)) (named_of old.store) old.meta old.dirty old.batch old.copied c.requires.copies_synced h lo (epoch_of old.store) c.requires.ready.epoch_is c.requires.ready.in_range c.requires.ready.one
     _ _ (slot g c) (then g c) (g.met.R.Rack.agrees (store_rack old.store)) (g.met.R.Rack.agrees (store_rack c.commit.new.self)) (lost g c) (known g c) (λ d is. lost_in_low old.meta c.in_ok-lost.lost d is) (only g c) (alone g c)
     c.requires.ready.absent (absent_then g c) c.commit.ensures.any_moment c.in_ok-lost.ensures.committed
+
+pub returns-in_err-lost-clause-tells : goal.returns-in_err-lost-clause-tells
+returns-in_err-lost-clause-tells g c =
+    let old = c.args.self.now in
+    let ready = c.requires.ready in
+    handed (λ two. Ran (g.R.Rack.told (store_rack c.args.self.now.store)) (g.R.Rack.told (store_rack c.commit.new.self)) (λ s cs. TellsLosses (or_else (named_of c.args.self.now.store) (named_out c.args.self.now.meta.out)) two cs)) c.from_residual.result _ c.from_residual.ensures.1
+    (c.in_err-lost.ensures.order (or_else (named_of old.store) (named_out old.meta.out)) (commit_only (named_of old.store) (λ e. (g.R.Rack.slot (store_rack old.store) e).power) (disks_of old.store) old.meta ready.array_is ready.absent ready.one))
+
+-- no other disk was out
+pub returns-in_err-lose-clause-tells : goal.returns-in_err-lose-clause-tells
+returns-in_err-lose-clause-tells g c =
+    let both = c.in_err-lose.ensures.two in
+    absurd (both.2 ((c.in_ok-lost.ensures.alone _ both.0).alone _ (is_named both.1)))

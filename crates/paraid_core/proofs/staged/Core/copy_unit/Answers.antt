@@ -12,6 +12,12 @@ use Rattle.paraid_core.proofs.KindLemmas.{calls_then, calls_whole}
 use Rattle.paraid_txn.specs.Commit.{gone_out}
 use Rattle.std.proofs.Common.{None, Some, ap, refl, subst, sym, ◌≡◌}
 use Rattle.paraid_core.proofs.LostMarkLemmas.{marks_read, marks_then}
+use Rattle.paraid_core.proofs.OrderLemmas.{tells_unhurt}
+use Rattle.paraid_rack.specs.Told.{Ran}
+use Rattle.paraid_image.specs.Out.{named_out}
+use Rattle.paraid_image.specs.Lost.{TellsLosses}
+use Rattle.paraid_core.proofs.AfterLemmas.{handed}
+use Rattle.paraid_image.proofs.LostLemmas.{ran_beside}
 use Rattle.paraid_core.proofs.staged.Core.copy_unit.Goals as goal
 
 pub write_unit-requires-clause-ready : goal.write_unit-requires-clause-ready
@@ -105,3 +111,11 @@ returns-in_default-clause-failed g c is =
       risen = subst (λ (z : Slot). HasRisen z.faults (g.R.Rack.slot (store_rack c.write_unit.new.self.store) c.args.disk).faults) (c.in_default.ensures.read.left.others c.args.disk (λ k. cc)) now.risen;
       absent = now.absent;
     }
+
+pub returns-in_err-done-clause-tells : goal.returns-in_err-done-clause-tells
+returns-in_err-done-clause-tells g c =
+    handed (λ two. Ran (g.R.Rack.told (store_rack c.args.self.now.store)) (g.R.Rack.told (store_rack c.write_unit.new.self.store)) (λ s cs. TellsLosses (named_out c.args.self.now.meta.out) two cs)) c.from_residual.result _ c.from_residual.ensures.1
+    (tells_unhurt (named_out c.args.self.now.meta.out) _ _ (g.R.Rack.told (store_rack c.read_unit.new.store)) _ c.in_default.ensures.read.first c.in_err-done.ensures.tells)
+
+pub returns-clause-tells : goal.returns-clause-tells
+returns-clause-tells g c = ran_beside (named_out c.args.self.now.meta.out) _ _ _ (ap named_out c.requires.fresh) (λ is. c.in-Err.ensures.failed (sym is)) c.in-Err.ensures.read.first

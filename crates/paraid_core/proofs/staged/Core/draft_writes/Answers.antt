@@ -1,6 +1,6 @@
 use Rattle.std.proofs.Common.{◌≡◌, None, subst, OnOk, IsSome}
 use Rattle.paraid_base.specs.Pairs.{pairs_of}
-use Rattle.paraid_plan.specs.Desk.{StageAll}
+use Rattle.paraid_plan.specs.RowWrites.{StageAll}
 use Rattle.paraid_core.specs.Cores.{core_rack}
 use Rattle.paraid_core.specs.Plans.{LeadsTo, without_draft, desk_of}
 use Rattle.paraid_core.proofs.staged.Core.draft_writes.Given.{Over}
@@ -19,3 +19,6 @@ pub returns-clause-writes : goal.returns-clause-writes
 returns-clause-writes g c =
     subst (λ (z : _). OnOk c.write_blocks.result (IsSome (g.R.Rack.told (core_rack c.write_blocks.new.plan)) → StageAll c.args.self.now.meta (desk_of g.R.Rack.told z) (desk_of g.R.Rack.told c.write_blocks.new.plan) (pairs_of c.args.pairs.now)))
     (begun g c) c.write_blocks.ensures.writes
+
+pub returns-clause-bits : goal.returns-clause-bits
+returns-clause-bits g c = c.write_blocks.ensures.bits

@@ -9,6 +9,10 @@ use Rattle.paraid_core.proofs.ReadsLemmas.{knows_named}
 use Rattle.paraid_core.proofs.KindLemmas.{calls_none, gone_marked, first_true}
 use Rattle.paraid_core.proofs.LostMarkLemmas.{marks_none}
 use Rattle.std.proofs.lemmas.Bool.{false≢true}
+use Rattle.std.proofs.Common.{Option, ℕ}
+use Rattle.paraid_core.proofs.OrderLemmas.{down_is_named}
+use Rattle.paraid_image.specs.Lost.{TellsLosses}
+use Rattle.paraid_core.proofs.AfterLemmas.{handed}
 use Rattle.paraid_core.proofs.staged.Core.make_room.Goals as goal
 
 pub returns-then-count-targets-clause-stands : goal.returns-then-count-targets-clause-stands
@@ -87,3 +91,9 @@ returns-clause-names g c =
     let value = c.count.ensures.value in
     let high = c.if-count-targets.false in
     subst (λ (b : Bool). named_of c.commit.new.self.store ≡ (if b then named_out old.meta.out else named_of old.store)) (sym (first_true old.batch c.args.targets (omega arith))) c.in_ok-commit.ensures.named
+
+pub returns-in_err-commit-clause-tells : goal.returns-in_err-commit-clause-tells
+returns-in_err-commit-clause-tells g c =
+    let old = c.args.self.now in
+    handed (λ two. Ran (g.R.Rack.told (store_rack c.args.self.now.store)) (g.R.Rack.told (store_rack c.commit.new.self.store)) (λ s cs. TellsLosses (named_out c.args.self.now.meta.out) two cs)) c.from_residual.result _ c.from_residual.ensures.1
+    (subst (λ (o : Option ℕ). Ran (g.R.Rack.told (store_rack old.store)) (g.R.Rack.told (store_rack c.commit.new.self.store)) (λ s cs. TellsLosses o c.in_err-commit.field-0.0 cs)) (down_is_named (named_of old.store) (named_out old.meta.out) c.requires.serves.stays) c.in_err-commit.ensures.tells)

@@ -19,6 +19,10 @@ use Rattle.paraid_core.proofs.ParkLemmas.{park_done, park_held, parked_ready, pa
 use Rattle.paraid_core.proofs.ReadyLemmas.{IsLostOnly, some_is}
 use Rattle.paraid_core.proofs.KindLemmas.{one_call, may_park}
 use Rattle.paraid_rack.specs.Trail.{now}
+use Rattle.paraid_core.proofs.OrderLemmas.{call_tells}
+use Rattle.paraid_rack.specs.Told.{Ran}
+use Rattle.paraid_image.specs.Lost.{TellsLosses}
+use Rattle.paraid_core.proofs.AfterLemmas.{handed}
 use Rattle.paraid_core.proofs.staged.Core.park.Given.{Over}
 use Rattle.paraid_core.proofs.TurnLemmas.{only_turns}
 use Rattle.paraid_core.proofs.staged.Core.park.Goals as goal
@@ -163,3 +167,8 @@ returns-in_err-lose-clause-calls g c =
 
 pub returns-clause-failed : goal.returns-clause-failed
 returns-clause-failed g c is = record { risen = c.park.ensures.slot.risen (failed g c); absent = c.park.ensures.slot.absent (failed g c) }
+
+pub returns-in_err-lose-clause-tells : goal.returns-in_err-lose-clause-tells
+returns-in_err-lose-clause-tells g c =
+    handed (λ two. Ran (g.R.Rack.told (store_rack c.args.self.now.store)) (g.R.Rack.told (store_rack c.park.new.self)) (λ s cs. TellsLosses (named_out c.args.self.now.meta.out) two cs)) c.from_residual.result _ c.from_residual.ensures.1
+    (call_tells (named_out c.args.self.now.meta.out) _ (Park c.args.disk (is_ok c.park.result)) _ _ c.park.ensures.told (ap is_ok c.in-Err.is) c.in_err-lose.ensures.two)

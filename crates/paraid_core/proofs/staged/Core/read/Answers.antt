@@ -16,6 +16,7 @@ use Rattle.paraid_core.specs.Cores.{IsCoreHeld, IsCoreHeldSinceCommit, CoreStand
 use Rattle.paraid_core.specs.Down.{IsDownAfter}
 use Rattle.paraid_core.specs.Room.{commits_first}
 use Rattle.paraid_core.proofs.AfterLemmas.{handed}
+use Rattle.paraid_core.proofs.BitsLemmas.{cell_of}
 use Rattle.paraid_core.proofs.ChainLemmas.{after_raised, down_both, ended, two_after}
 use Rattle.paraid_core.proofs.CleanLemmas.{after_clean, after_first, cell_read, no_room, room_none, first_by}
 use Rattle.paraid_core.proofs.StepLemmas.{dry_both}
@@ -28,7 +29,10 @@ use Rattle.paraid_core.proofs.OldNewLemmas.{whole_then_reads}
 use Rattle.paraid_rack.specs.Trail.{Trail}
 use Rattle.paraid_core.specs.Lost.{MarksLost}
 use Rattle.paraid_core.proofs.RestLemmas.{rest_ran}
+use Rattle.paraid_core.proofs.OrderLemmas.{core_tells_then, transfer_bears}
+use Rattle.paraid_image.specs.Lost.{TellsLosses}
 use Rattle.paraid_core.proofs.staged.Core.read.Given.{Over}
+use Rattle.paraid_core.proofs.UnsyncedLemmas.{gone_lost, unsynced_kept, unsynced_same}
 use Rattle.paraid_core.proofs.staged.Core.read.Goals as goal
 use Rattle.paraid_core.proofs.staged.Core.read.Goals.{After-clean_in_room}
 
@@ -227,3 +231,26 @@ returns-clause-rest g c is h lo =
     ready.absent ready.one names (λ s k d is_out. c.requires.serves.stays d (sym k.named_by ∙ is_out)) (λ s k. k.next.setup)
     (ap (λ (z : Meta). z.setup) c.clean_in_room.ensures.meta ∙ setup_is g c) (λ s k. let was = k.epoch in omega (arith, was, epoch))
     (c.clean_in_room.ensures.copied ∙ c.in_ok-read_only.ensures.copied ∙ c.in_ok-make_room.ensures.copied) c.requires.synced (returns-clause-whole g c is h lo) (returns-clause-stands g c h lo)
+
+pub returns-clause-bits : goal.returns-clause-bits
+returns-clause-bits g c =
+    cell_of c.clean_in_room.new.self.meta c.read_only.new.self.dirty c.args.self.now.dirty c.clean_in_room.new.self.dirty c.home-r.result.0 _ c.home-r.result.1 _
+    (c.in_ok-read_only.ensures.table ∙ c.in_ok-make_room.ensures.table) c.home-r.ensures.row c.home-r.ensures.disk c.clean_in_room.ensures.bits
+
+pub returns-in_err-read_only-clause-tells : goal.returns-in_err-read_only-clause-tells
+returns-in_err-read_only-clause-tells g c =
+    let old = c.args.self.now in
+    let mid = c.make_room.new.self in
+    let marks = c.in_ok-make_room.ensures.marks in
+    handed (λ two. Ran (g.R.Rack.told (store_rack c.args.self.now.store)) (g.R.Rack.told (store_rack c.read_only.new.self.store)) (λ s cs. TellsLosses (named_out c.args.self.now.meta.out) two cs)) c.from_residual-in_err-read_only.result _ c.from_residual-in_err-read_only.ensures.1
+    (core_tells_then g.R.Rack.slot g.R.Rack.told g.met.R.Rack.agrees old mid c.requires.ready.absent marks c.read_only.new.self _
+    (transfer_bears g.R.Rack.slot g.R.Rack.told g.met.R.Rack.agrees old mid c.requires.ready.absent marks c.make_room.ensures.calls) c.in_err-read_only.ensures.tells)
+
+pub returns-clause-unsynced : goal.returns-clause-unsynced
+returns-clause-unsynced g c was =
+    let slot = g.R.Rack.slot in
+    let mid = c.make_room.new.self in
+    let next = c.read_only.new.self in
+    let read = c.in_ok-read_only.ensures in
+    unsynced_same slot next c.clean_in_room.new.self c.clean_in_room.ensures.store c.clean_in_room.ensures.meta c.clean_in_room.ensures.copied
+    (unsynced_kept slot mid next read.setup (gone_lost _ _ mid.meta next.meta read.marks) c.read_only.ensures.spared c.read_only.ensures.copied c.read_only.ensures.still_synced (c.in_ok-make_room.ensures.unsynced was))

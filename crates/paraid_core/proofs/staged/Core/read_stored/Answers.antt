@@ -17,6 +17,10 @@ use Rattle.paraid_core.proofs.LostDiskLemmas.{keeps_failed}
 use Rattle.paraid_core.proofs.StoredLemmas.{keeps_read}
 use Rattle.paraid_core.proofs.KindLemmas.{one_call}
 use Rattle.paraid_core.proofs.LostMarkLemmas.{marks_done, marks_failed}
+use Rattle.paraid_core.proofs.OrderLemmas.{call_tells}
+use Rattle.paraid_rack.specs.Told.{Ran}
+use Rattle.paraid_image.specs.Lost.{TellsLosses}
+use Rattle.paraid_core.proofs.AfterLemmas.{handed}
 use Rattle.paraid_core.proofs.staged.Core.read_stored.Given.{Over}
 use Rattle.paraid_core.proofs.staged.Core.read_stored.Goals as goal
 use Rattle.paraid_core.proofs.staged.Core.read_stored.Goals.{In_default, In_ok-lose}
@@ -108,3 +112,8 @@ returns-clause-gone g c is = meta_is g c
 
 pub returns-clause-failed : goal.returns-clause-failed
 returns-clause-failed g c is = record { risen = c.read.ensures.slot.risen (failed g c); absent = c.read.ensures.slot.absent (failed g c) }
+
+pub returns-in_err-lose-clause-tells : goal.returns-in_err-lose-clause-tells
+returns-in_err-lose-clause-tells g c =
+    handed (λ two. Ran (g.R.Rack.told (store_rack c.args.self.now.store)) (g.R.Rack.told (store_rack c.read.new.self)) (λ s cs. TellsLosses (named_out c.args.self.now.meta.out) two cs)) c.from_residual.result _ c.from_residual.ensures.1
+    (call_tells (named_out c.args.self.now.meta.out) _ (Read c.args.disk c.args.place (is_ok c.read.result)) _ _ c.read.ensures.told (ap is_ok c.in-Err.is) c.in_err-lose.ensures.two)

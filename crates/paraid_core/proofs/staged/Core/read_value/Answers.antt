@@ -20,6 +20,9 @@ use Rattle.paraid_core.proofs.ReadyLemmas.{IsLostOnly, left_lost_only}
 use Rattle.paraid_core.proofs.KindLemmas.{calls_off, gone_named, reads_of}
 use Rattle.paraid_image.proofs.CallLemmas.{out_named}
 use Rattle.paraid_core.proofs.LostMarkLemmas.{marks_read}
+use Rattle.paraid_core.proofs.OrderLemmas.{lose_tells, out_tells}
+use Rattle.paraid_rack.specs.Told.{Ran}
+use Rattle.paraid_image.specs.Lost.{TellsLosses}
 use Rattle.paraid_core.proofs.staged.Core.read_value.Given.{Over}
 use Rattle.paraid_core.proofs.staged.Core.read_value.Goals as goal
 use Rattle.paraid_core.proofs.staged.Core.read_value.Goals.{In_ok-lose}
@@ -180,3 +183,13 @@ returns-in_err-lost-clause-named g c = c.in_err-lost.ensures.two.same.named
 
 pub returns-in_err-lose-clause-named : goal.returns-in_err-lose-clause-named
 returns-in_err-lose-clause-named g c = c.in_ok-lost.ensures.read.same.named
+
+pub returns-in_err-lost-clause-tells : goal.returns-in_err-lost-clause-tells
+returns-in_err-lost-clause-tells g c =
+    handed (λ two. Ran (g.R.Rack.told (store_rack c.args.self.now.store)) (g.R.Rack.told (store_rack c.read_cell.new.store)) (λ s cs. TellsLosses (named_out c.args.self.now.meta.out) two cs)) c.from_residual.result _ c.from_residual.ensures.1
+    (out_tells (λ x. (g.R.Rack.slot (store_rack c.args.self.now.store) x).power) c.args.self.now.meta c.requires.ready.absent _ _ _ c.in_err-lost.ensures.two.tells)
+
+pub returns-in_err-lose-clause-tells : goal.returns-in_err-lose-clause-tells
+returns-in_err-lose-clause-tells g c =
+    handed (λ two. Ran (g.R.Rack.told (store_rack c.args.self.now.store)) (g.R.Rack.told (store_rack c.read_cell.new.store)) (λ s cs. TellsLosses (named_out c.args.self.now.meta.out) two cs)) c.from_residual-in_err-lose.result _ c.from_residual-in_err-lose.ensures.1
+    (lose_tells (named_out c.args.self.now.meta.out) c.in_ok-lost.lost _ _ _ c.in_err-lose.ensures.two c.in_ok-lost.ensures.read.first)

@@ -8,6 +8,11 @@ use Rattle.paraid_core.proofs.SettleUnitLemmas.{units_none, units_then}
 use Rattle.paraid_core.proofs.StepLemmas.{dry_both, filled_none, filled_then, still_synced, held_then, leaves_none, leaves_then, stands_none, stands_then, stands_held}
 use Rattle.paraid_core.proofs.KindLemmas.{calls_none, calls_then, copy_syncs_still}
 use Rattle.paraid_core.proofs.LostMarkLemmas.{marks_none, marks_then}
+use Rattle.paraid_core.proofs.OrderLemmas.{core_tells_then, sync_bears}
+use Rattle.paraid_rack.specs.Told.{Ran}
+use Rattle.paraid_image.specs.Out.{named_out}
+use Rattle.paraid_image.specs.Lost.{TellsLosses}
+use Rattle.paraid_core.proofs.AfterLemmas.{handed}
 use Rattle.paraid_core.proofs.staged.Core.settle.Goals as goal
 
 pub loop-disk-init : goal.loop-disk-init
@@ -67,3 +72,12 @@ returns-clause-calls g c = c.loop-disk.invariant.calls
 
 pub returns-clause-marks : goal.returns-clause-marks
 returns-clause-marks g c = c.loop-disk.invariant.marks
+
+pub returns-in_err-settle_one-clause-tells : goal.returns-in_err-settle_one-clause-tells
+returns-in_err-settle_one-clause-tells g c =
+    let old = c.args.self.now in
+    let mid = c.loop-disk.self in
+    let marks = c.loop-disk.invariant.marks in
+    handed (λ two. Ran (g.R.Rack.told (store_rack c.args.self.now.store)) (g.R.Rack.told (store_rack c.settle_one.new.self.store)) (λ s cs. TellsLosses (named_out c.args.self.now.meta.out) two cs)) c.from_residual.result _ c.from_residual.ensures.1
+    (core_tells_then g.R.Rack.slot g.R.Rack.told g.met.R.Rack.agrees old mid c.requires.ready.absent marks c.settle_one.new.self _
+    (sync_bears g.R.Rack.slot g.R.Rack.told g.met.R.Rack.agrees old mid c.requires.ready.absent marks c.loop-disk.invariant.calls) c.in_err-settle_one.ensures.tells)

@@ -1,4 +1,6 @@
-use Rattle.std.proofs.Common.{◌≡◌, ℕ, ◌∙◌, ◌<◌, Some, sym, ap, subst, refl, false, inr}
+use Rattle.std.proofs.Common.{◌≡◌, ℕ, ◌∙◌, ◌<◌, Some, sym, ap, subst, refl, false, inl, inr}
+use Rattle.std.proofs.lemmas.Bool.{cases_eq, false≢true}
+use Rattle.paraid_base.specs.States.{gone_out}
 use Rattle.std.specs.Prelude.{Option, is_ok}
 use Rattle.paraid_image.specs.Out.{named_out}
 use Rattle.paraid_base.specs.Told.{HasRisen}
@@ -19,8 +21,13 @@ use Rattle.paraid_core.proofs.SpinLemmas.{spin_done, spin_held, spun_ready}
 use Rattle.paraid_core.proofs.ReadyLemmas.{IsLostOnly, some_is}
 use Rattle.paraid_core.proofs.BeginLemmas.{lost_serves, up_serves}
 use Rattle.paraid_core.proofs.KindLemmas.{one_call}
+use Rattle.paraid_core.proofs.OrderLemmas.{call_tells}
+use Rattle.paraid_rack.specs.Told.{Ran}
+use Rattle.paraid_image.specs.Lost.{TellsLosses}
+use Rattle.paraid_core.proofs.AfterLemmas.{handed}
 use Rattle.paraid_core.proofs.staged.Core.spin_up.Given.{Over}
 use Rattle.paraid_core.proofs.TurnLemmas.{only_turns}
+use Rattle.paraid_core.proofs.UnsyncedLemmas.{gone_still}
 use Rattle.paraid_core.proofs.staged.Core.spin_up.Goals as goal
 use Rattle.paraid_core.proofs.staged.Core.spin_up.Goals.{In_default, In_ok-lose}
 
@@ -167,3 +174,20 @@ returns-clause-serves g c up =
 
 pub returns-clause-failed : goal.returns-clause-failed
 returns-clause-failed g c is = record { risen = c.spin_up.ensures.slot.risen (failed g c); absent = c.spin_up.ensures.slot.absent (failed g c) }
+
+pub returns-in_err-lose-clause-tells : goal.returns-in_err-lose-clause-tells
+returns-in_err-lose-clause-tells g c =
+    handed (λ two. Ran (g.R.Rack.told (store_rack c.args.self.now.store)) (g.R.Rack.told (store_rack c.spin_up.new.self)) (λ s cs. TellsLosses (named_out c.args.self.now.meta.out) two cs)) c.from_residual.result _ c.from_residual.ensures.1
+    (call_tells (named_out c.args.self.now.meta.out) _ (SpinUp c.args.disk (is_ok c.spin_up.result)) _ _ c.spin_up.ensures.told (ap is_ok c.in-Err.is) c.in_err-lose.ensures.two)
+
+pub returns-clause-unsynced : goal.returns-clause-unsynced
+returns-clause-unsynced g c was d low stays here wet =
+    let m = c.args.self.now.meta in
+    let slot = c.spin_up.ensures.slot in
+    elim (cases_eq d c.args.disk) [
+      | inl is ↦ absurd (false≢true (sym (ap is_present (ap (λ (e : ℕ). (g.R.Rack.slot (store_rack c.spin_up.new.self) e).power) is ∙ slot.absent (failed g c))) ∙ here))
+      | inr apart ↦
+          was d (subst (λ (n : Meta). d < n.setup.geometry.disks) (meta_is g c) low)
+          (λ is. stays (ap (λ (n : Meta). gone_out n.out) (meta_is g c) ∙ gone_still m (Some c.args.disk) (λ e x k named. alone g c x named ∙ some_is c.args.disk e k) d is))
+          (ap (λ (s : Slot). is_present s.power) (sym (slot.others d apart)) ∙ here) (ap (λ (s : Slot). s.unsynced) (sym (slot.others d apart)) ∙ wet)
+    ]

@@ -12,6 +12,11 @@ use Rattle.paraid_txn.specs.Commit.{gone_out}
 use Rattle.paraid_core.proofs.KindLemmas.{calls_then, calls_whole}
 use Rattle.paraid_core.proofs.LostMarkLemmas.{loses_read, lost_after, marks_read, marks_then}
 use Rattle.paraid_core.proofs.ReadyLemmas.{some_is}
+use Rattle.paraid_core.proofs.OrderLemmas.{tells_unhurt}
+use Rattle.paraid_rack.specs.Told.{Ran}
+use Rattle.paraid_image.specs.Out.{named_out}
+use Rattle.paraid_image.specs.Lost.{TellsLosses}
+use Rattle.paraid_core.proofs.OrderLemmas.{lose_tells}
 use Rattle.paraid_core.proofs.staged.Core.sync_cell.Goals as goal
 
 pub returns-in_err-done-clause-spared : goal.returns-in_err-done-clause-spared
@@ -135,3 +140,13 @@ pub returns-clause-failed : goal.returns-clause-failed
 returns-clause-failed g c is =
     loses_read c.args.self.now.meta c.lose.new.meta c.in-Err.lost _ _ c.in-Err.ensures.read.left c.in_ok-lose.ensures.marked
     (subst (λ (z : ℕ). c.in-Err.lost < z) (sym c.requires.ready.array_is) c.in-Err.ensures.below)
+
+pub returns-in_err-done-clause-tells : goal.returns-in_err-done-clause-tells
+returns-in_err-done-clause-tells g c =
+    handed (λ two. Ran (g.R.Rack.told (store_rack c.args.self.now.store)) (g.R.Rack.told (store_rack c.write_cell.new.self.store)) (λ s cs. TellsLosses (named_out c.args.self.now.meta.out) two cs)) c.from_residual.result _ c.from_residual.ensures.1
+    (tells_unhurt (named_out c.args.self.now.meta.out) _ _ (g.R.Rack.told (store_rack c.read_value.new.store)) _ c.in_default.ensures.read.first c.in_err-done.ensures.tells)
+
+pub returns-in_err-lose-clause-tells : goal.returns-in_err-lose-clause-tells
+returns-in_err-lose-clause-tells g c =
+    handed (λ two. Ran (g.R.Rack.told (store_rack c.args.self.now.store)) (g.R.Rack.told (store_rack c.read_value.new.store)) (λ s cs. TellsLosses (named_out c.args.self.now.meta.out) two cs)) c.from_residual-in_err-lose.result _ c.from_residual-in_err-lose.ensures.1
+    (lose_tells (named_out c.args.self.now.meta.out) (Some c.in-Err.lost) _ _ _ c.in_err-lose.ensures.two c.in-Err.ensures.read.first)

@@ -19,6 +19,10 @@ use Rattle.paraid_core.proofs.SettleUnitLemmas.{sync_units}
 use Rattle.paraid_core.proofs.SettleLemmas.{cleared_at, keeps_synced, keeps_unsynced, sync_filled}
 use Rattle.paraid_core.proofs.KindLemmas.{one_call}
 use Rattle.paraid_core.proofs.LostMarkLemmas.{marks_done, marks_failed}
+use Rattle.paraid_core.proofs.OrderLemmas.{call_tells}
+use Rattle.paraid_rack.specs.Told.{Ran}
+use Rattle.paraid_image.specs.Lost.{TellsLosses}
+use Rattle.paraid_core.proofs.AfterLemmas.{handed}
 use Rattle.paraid_core.proofs.staged.Core.sync_disk.Given.{Over}
 use Rattle.paraid_core.proofs.staged.Core.sync_disk.Goals as goal
 use Rattle.paraid_core.proofs.staged.Core.sync_disk.Goals.{In_default, In_ok-lose}
@@ -132,3 +136,8 @@ returns-in_default-clause-marks g c = marks_done c.args.self.now.meta _ _ c.args
 
 pub returns-clause-marks : goal.returns-clause-marks
 returns-clause-marks g c = marks_failed c.args.self.now.meta c.lose.new.meta _ _ c.args.disk _ _ _ c.sync-answer.ensures.slot (failed g c) (meta_is g c) c.requires.disk (λ x k. c.in_ok-lose.ensures.alone c.args.disk x refl k c.requires.disk)
+
+pub returns-in_err-lose-clause-tells : goal.returns-in_err-lose-clause-tells
+returns-in_err-lose-clause-tells g c =
+    handed (λ two. Ran (g.R.Rack.told (store_rack c.args.self.now.store)) (g.R.Rack.told (store_rack c.sync-answer.new.self)) (λ s cs. TellsLosses (named_out c.args.self.now.meta.out) two cs)) c.from_residual.result _ c.from_residual.ensures.1
+    (call_tells (named_out c.args.self.now.meta.out) _ (Sync c.args.disk (is_ok c.sync-answer.result)) _ _ c.sync-answer.ensures.told (ap is_ok c.in-Err.is) c.in_err-lose.ensures.two)

@@ -12,12 +12,18 @@ use Rattle.paraid_core.specs.declared.staged.Core.{Core}
 use Rattle.paraid_core.specs.Taken.{IsTakenIn}
 use Rattle.paraid_core.proofs.AcceptLemmas.{accepted_ready, accepted_stands}
 use Rattle.paraid_core.proofs.AfterLemmas.{marked_setup}
+use Rattle.paraid_core.proofs.BitsLemmas.{bits_counted}
+use Rattle.paraid_plan.specs.WrittenBits.{bits_after_writes}
 use Rattle.paraid_core.proofs.ChainLemmas.{down_lost, down_same}
 use Rattle.paraid_core.proofs.FailLemmas.{is_err_then, lost_one}
 use Rattle.paraid_core.proofs.TryLemmas.{dropped_ready, dropped_serves, dropped_stands, kept_ready, kept_serves, kept_stands, ended_held, not_err, since_held, try_moments}
 use Rattle.paraid_core.proofs.KindLemmas.{calls_off, gone_named, reads_of}
 use Rattle.paraid_core.proofs.LostMarkLemmas.{marks_none, marks_read}
 use Rattle.paraid_view.specs.Reads.{AreLeft}
+use Rattle.paraid_core.proofs.OrderLemmas.{lose_tells}
+use Rattle.paraid_rack.specs.Told.{Ran}
+use Rattle.paraid_image.specs.Lost.{TellsLosses}
+use Rattle.paraid_core.proofs.AfterLemmas.{handed}
 use Rattle.paraid_core.proofs.staged.Core.try_write.Given.{Over}
 use Rattle.paraid_core.proofs.staged.Core.try_write.Goals as goal
 use Rattle.paraid_core.proofs.staged.Core.try_write.Goals.{After-clear-2, In_ok-lose}
@@ -191,3 +197,19 @@ returns-clause-marks g c =
     let left = subst (λ (o : Option ℕ). AreLeft o (g.R.Rack.slot (store_rack c.args.self.now.store)) (g.R.Rack.slot (store_rack c.draft_writes.new.self.store))) (whole g c) (led.left refl) in
     marks_none m _ (g.R.Rack.slot (store_rack c.args.self.now.store)) (g.R.Rack.slot (store_rack c.draft_writes.new.self.store)) m.epoch (m.writes + 1)
     (λ d. left.others d (λ is. let z : None ≡ Some d = is in cc)) (ap (λ (z : Meta). record z { writes = z.writes + 1 }) led.meta)
+
+pub returns-then-is_err-clause-bits : goal.returns-then-is_err-clause-bits
+returns-then-is_err-clause-bits g c = bits g c
+
+pub returns-clause-bits : goal.returns-clause-bits
+returns-clause-bits g c =
+    not_err c.draft_writes.result _ (sym c.is_err.ensures.value ∙ c.if-is_err.false) c.draft_writes.ensures.bits
+    ∙ sym (bits_counted c.args.self.now.meta (pairs_of c.args.pairs.now) (c.args.self.now.meta.writes + 1) (is_dirty c.args.self.now.dirty))
+    ∙ ap (λ (z : Meta). bits_after_writes (record z { writes = z.writes + 1 }) (pairs_of c.args.pairs.now) (is_dirty c.args.self.now.dirty)) (sym c.draft_writes.ensures.leads.meta)
+
+pub returns-in_err-lose-clause-tells : goal.returns-in_err-lose-clause-tells
+returns-in_err-lose-clause-tells g c =
+    let led = c.draft_writes.ensures.leads in
+    let both = c.in_err-lose.ensures.two in
+    handed (λ two. Ran (g.R.Rack.told (store_rack c.args.self.now.store)) (g.R.Rack.told (store_rack c.draft_writes.new.self.store)) (λ s cs. TellsLosses (named_out c.args.self.now.meta.out) two cs)) c.from_residual.result _ c.from_residual.ensures.1
+    (lose_tells (named_out c.args.self.now.meta.out) c.draft_writes.new.self.failed _ _ _ (both.0, sym (ap (λ (z : Meta). named_out z.out) led.meta) ∙ both.1, both.2) (led.first refl))

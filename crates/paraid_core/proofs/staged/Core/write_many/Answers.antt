@@ -1,6 +1,8 @@
 use Rattle.std.proofs.Common.{ℕ, ap, length, ◌+◌, ◌≡◌, ◌∙◌, sym, arith}
-use Rattle.std.specs.Prelude.{Bool, ◌*◌, ◌∷◌, ◌++◌, [], if◌then◌else◌}
+use Rattle.std.specs.Prelude.{Bool, List, ◌*◌, ◌∷◌, ◌++◌, [], if◌then◌else◌}
 use Rattle.paraid_base.specs.Pairs.{pairs_of}
+use Rattle.paraid_dirty.specs.Table.{is_dirty}
+use Rattle.paraid_plan.specs.WrittenBits.{bits_after_writes}
 use Rattle.paraid_record.specs.declared.meta.Setup.{Setup}
 use Rattle.paraid_txn.specs.Stores.{named_of}
 use Rattle.paraid_core.specs.Cores.{IsCoreHeldSinceCommit, CoreStandsFor, batch_of, core_down, core_rack}
@@ -13,6 +15,10 @@ use Rattle.paraid_core.proofs.AfterLemmas.{handed}
 use Rattle.paraid_txn.specs.Losses.{AreTwoDown}
 use Rattle.paraid_core.proofs.RestLemmas.{rest_ran}
 use Rattle.paraid_image.specs.Out.{named_out}
+use Rattle.paraid_core.proofs.OrderLemmas.{core_tells_then, transfer_bears}
+use Rattle.paraid_rack.specs.Told.{Ran}
+use Rattle.paraid_txn.specs.Stores.{store_rack}
+use Rattle.paraid_image.specs.Lost.{TellsLosses}
 use Rattle.paraid_core.proofs.staged.Core.write_many.Goals as goal
 
 pub returns-in_err-write_whole-clause-moments : goal.returns-in_err-write_whole-clause-moments
@@ -112,3 +118,16 @@ returns-clause-rest g c is h lo =
     rest_ran (CoreStandsFor g.R.Rack.slot_count old h lo) (λ s k. k.base) (record old.meta { epoch = old.meta.epoch + 1 }) old.batch _ _ (named_of new.store) new.meta _ _ new.copied old.copied _ _ (g.R.Rack.slot (core_rack new)) _ _ (g.met.R.Rack.agrees (core_rack new))
     then_it.ready.absent then_it.ready.one names (λ s k d is_out. c.requires.serves.stays d (sym k.named_by ∙ is_out)) (λ s k. k.next.setup) (then_it.setup ∙ first.setup) (λ s k. let was = k.epoch in omega (arith, was, epoch))
     (then_it.copied ∙ first.copied) c.requires.copies_synced (returns-clause-whole g c is h lo) (returns-clause-stands g c h lo)
+
+pub returns-clause-bits : goal.returns-clause-bits
+returns-clause-bits g c =
+    c.in_ok-write_whole.ensures.bits ∙ ap (λ (z : List (List Bool)). bits_after_writes c.write_whole.new.self.meta (pairs_of c.args.pairs.now) (is_dirty z)) c.in_ok-make_room.ensures.table
+
+pub returns-in_err-write_whole-clause-tells : goal.returns-in_err-write_whole-clause-tells
+returns-in_err-write_whole-clause-tells g c =
+    let old = c.args.self.now in
+    let mid = c.make_room.new.self in
+    let marks = c.in_ok-make_room.ensures.marks in
+    handed (λ two. Ran (g.R.Rack.told (store_rack c.args.self.now.store)) (g.R.Rack.told (store_rack c.write_whole.new.self.store)) (λ s cs. TellsLosses (named_out c.args.self.now.meta.out) two cs)) c.from_residual-in_err-write_whole.result _ c.from_residual-in_err-write_whole.ensures.1
+    (core_tells_then g.R.Rack.slot g.R.Rack.told g.met.R.Rack.agrees old mid c.requires.ready.absent marks c.write_whole.new.self _
+    (transfer_bears g.R.Rack.slot g.R.Rack.told g.met.R.Rack.agrees old mid c.requires.ready.absent marks c.make_room.ensures.calls) c.in_err-write_whole.ensures.tells)

@@ -14,6 +14,10 @@ use Rattle.paraid_core.proofs.StepLemmas.{leaves_none, leaves_then, runs_end, ru
 use Rattle.paraid_core.proofs.StripeLemmas.{filling_done, members_held, shift_low}
 use Rattle.paraid_core.proofs.KindLemmas.{calls_none, calls_then, data_same}
 use Rattle.paraid_core.proofs.LostMarkLemmas.{lost_after, marks_none, marks_then}
+use Rattle.paraid_core.proofs.OrderLemmas.{core_tells_then, data_bears}
+use Rattle.paraid_rack.specs.Told.{Ran}
+use Rattle.paraid_image.specs.Out.{named_out}
+use Rattle.paraid_image.specs.Lost.{TellsLosses}
 use Rattle.paraid_core.proofs.staged.Core.write_members.Goals as goal
 use Rattle.paraid_core.proofs.staged.Core.write_members.Goals.{After-write_member, In_ok-done}
 
@@ -116,3 +120,12 @@ returns-then-not-done-clause-failed g c is =
       failed = lost_after _ (g.R.Rack.slot (store_rack c.loop-disk.self.store)) _ c.loop-disk.disk was.leaves.spared (call.failed now);
       gone = call.gone now ∙ ap (λ (z : Meta). meta_after_loss z c.loop-disk.disk) was.meta;
     }
+
+pub returns-in_err-done-clause-tells : goal.returns-in_err-done-clause-tells
+returns-in_err-done-clause-tells g c =
+    let old = c.args.self.now in
+    let mid = c.loop-disk.self in
+    let marks = c.loop-disk.invariant.marks in
+    handed (λ two. Ran (g.R.Rack.told (store_rack c.args.self.now.store)) (g.R.Rack.told (store_rack c.write_member.new.self.store)) (λ s cs. TellsLosses (named_out c.args.self.now.meta.out) two cs)) c.from_residual.result _ c.from_residual.ensures.1
+    (core_tells_then g.R.Rack.slot g.R.Rack.told g.met.R.Rack.agrees old mid c.requires.ready.absent marks c.write_member.new.self _
+    (data_bears g.R.Rack.slot g.R.Rack.told g.met.R.Rack.agrees old mid c.requires.ready.absent marks c.loop-disk.invariant.calls) c.in_err-done.ensures.tells)

@@ -21,6 +21,10 @@ use Rattle.paraid_rack.proofs.TrailsLemmas.{weaker}
 use Rattle.paraid_core.proofs.KindLemmas.{written_calls}
 use Rattle.paraid_txn.specs.Commit.{gone_out}
 use Rattle.paraid_core.proofs.LostMarkLemmas.{marks_done, marks_failed}
+use Rattle.paraid_core.proofs.OrderLemmas.{call_tells}
+use Rattle.paraid_rack.specs.Told.{Ran}
+use Rattle.paraid_image.specs.Lost.{TellsLosses}
+use Rattle.paraid_core.proofs.AfterLemmas.{handed}
 use Rattle.paraid_core.proofs.staged.Core.write_unit.Given.{Over}
 use Rattle.paraid_core.proofs.staged.Core.write_unit.Goals as goal
 use Rattle.paraid_core.proofs.staged.Core.write_unit.Goals.{In_ok-lose}
@@ -132,3 +136,8 @@ returns-clause-gone g c is = meta_is g c
 
 pub returns-clause-failed : goal.returns-clause-failed
 returns-clause-failed g c is = record { risen = c.write_free-answer.ensures.slot.risen (failed g c); absent = c.write_free-answer.ensures.slot.absent (failed g c) }
+
+pub returns-in_err-lose-clause-tells : goal.returns-in_err-lose-clause-tells
+returns-in_err-lose-clause-tells g c =
+    handed (λ two. Ran (g.R.Rack.told (store_rack c.args.self.now.store)) (g.R.Rack.told (store_rack c.write_free-answer.new.self)) (λ s cs. TellsLosses (named_out c.args.self.now.meta.out) two cs)) c.from_residual.result _ c.from_residual.ensures.1
+    (call_tells (named_out c.args.self.now.meta.out) _ (Write c.args.disk c.place_of_unit-place.result c.args.block.now (is_ok c.write_free-answer.result)) _ _ c.write_free-answer.ensures.told (ap is_ok c.in-Err.is) c.in_err-lose.ensures.two)

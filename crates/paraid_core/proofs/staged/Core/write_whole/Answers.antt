@@ -2,6 +2,8 @@ use Rattle.std.proofs.Common.{◌≡◌, ℕ, ap, subst, ◌∙◌}
 use Rattle.std.specs.Prelude.{Bool, false, true, ◌∷◌, ◌++◌, [], if◌then◌else◌}
 use Rattle.paraid_base.specs.History.{Entry, History}
 use Rattle.paraid_base.specs.Pairs.{pairs_of}
+use Rattle.paraid_dirty.specs.Table.{is_dirty}
+use Rattle.paraid_plan.specs.WrittenBits.{bits_after_writes}
 use Rattle.paraid_record.specs.declared.meta.Setup.{Setup}
 use Rattle.paraid_rack.specs.Told.{Ran, CrashTriple}
 use Rattle.paraid_rack.specs.Disks.{Disks}
@@ -13,6 +15,11 @@ use Rattle.paraid_core.proofs.AfterLemmas.{handed}
 use Rattle.paraid_core.proofs.ChainLemmas.{after_same, done_then, ended, two_after}
 use Rattle.paraid_core.proofs.KindLemmas.{calls_then, data_after, none_gone, reads_then}
 use Rattle.paraid_core.proofs.LostMarkLemmas.{marks_then}
+use Rattle.paraid_core.proofs.OrderLemmas.{core_tells_then, data_bears}
+use Rattle.paraid_txn.specs.Stores.{store_rack}
+use Rattle.paraid_image.specs.Out.{named_out}
+use Rattle.paraid_image.specs.Lost.{TellsLosses}
+use Rattle.paraid_core.proofs.UnsyncedLemmas.{gone_lost, unsynced_kept}
 use Rattle.paraid_core.proofs.staged.Core.write_whole.Given.{Over}
 use Rattle.paraid_core.proofs.staged.Core.write_whole.Goals as goal
 use Rattle.paraid_core.proofs.staged.Core.write_whole.Goals.{In_ok-try_write}
@@ -112,3 +119,34 @@ returns-then-done-clause-named g c = c.try_write.ensures.named
 
 pub returns-clause-named : goal.returns-clause-named
 returns-clause-named g c = c.try_write-2.ensures.named ∙ c.try_write.ensures.named
+
+pub returns-then-done-clause-bits : goal.returns-then-done-clause-bits
+returns-then-done-clause-bits g c =
+    let old = c.args.self.now in
+    let new = c.try_write.new.self in
+    c.in_ok-done.ensures.bits ∙ ap (λ (b : Bool). if b then bits_after_writes new.meta (pairs_of c.args.pairs.now) (is_dirty old.dirty) else is_dirty old.dirty) c.if-done.true
+
+pub returns-clause-bits : goal.returns-clause-bits
+returns-clause-bits g c =
+    let old = c.args.self.now in
+    let mid = c.try_write.new.self in
+    let new = c.try_write-2.new.self in
+    c.in_ok-try_write.ensures.bits ∙ ap (λ (b : Bool). if b then bits_after_writes new.meta (pairs_of c.args.pairs.now) (is_dirty mid.dirty) else is_dirty mid.dirty) (again g c)
+    ∙ ap (bits_after_writes new.meta (pairs_of c.args.pairs.now))
+    (c.in_ok-done.ensures.bits ∙ ap (λ (b : Bool). if b then bits_after_writes mid.meta (pairs_of c.args.pairs.now) (is_dirty old.dirty) else is_dirty old.dirty) c.if-done.false)
+
+pub returns-in_err-try_write-clause-tells : goal.returns-in_err-try_write-clause-tells
+returns-in_err-try_write-clause-tells g c =
+    let old = c.args.self.now in
+    let mid = c.try_write.new.self in
+    let marks = c.in_ok-done.ensures.marks in
+    handed (λ two. Ran (g.R.Rack.told (store_rack c.args.self.now.store)) (g.R.Rack.told (store_rack c.try_write-2.new.self.store)) (λ s cs. TellsLosses (named_out c.args.self.now.meta.out) two cs)) c.from_residual-in_err-try_write.result _ c.from_residual-in_err-try_write.ensures.1
+    (core_tells_then g.R.Rack.slot g.R.Rack.told g.met.R.Rack.agrees old mid c.requires.ready.absent marks c.try_write-2.new.self _
+    (data_bears g.R.Rack.slot g.R.Rack.told g.met.R.Rack.agrees old mid c.requires.ready.absent marks c.try_write.ensures.calls) c.in_err-try_write.ensures.tells)
+
+pub returns-then-done-clause-unsynced : goal.returns-then-done-clause-unsynced
+returns-then-done-clause-unsynced g c =
+    let old = c.args.self.now in
+    let new = c.try_write.new.self in
+    let done = c.in_ok-done.ensures in
+    unsynced_kept g.R.Rack.slot old new done.setup (gone_lost _ _ old.meta new.meta done.marks) c.try_write.ensures.spared c.try_write.ensures.copied c.try_write.ensures.still_synced

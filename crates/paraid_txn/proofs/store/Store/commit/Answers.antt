@@ -1,13 +1,16 @@
-use Rattle.std.specs.Prelude.{◌≡◌, ◌≢◌, ◌<◌, ℕ, Some, None, Result, Ok, Err, IfErr, IsErrAnd}
-use Rattle.std.proofs.Common.{◌+◌, ◌∙◌, refl, sym, subst, inl, inr}
+use Rattle.std.specs.Prelude.{◌≡◌, ◌≢◌, ◌<◌, ℕ, Option, Some, None, Result, Ok, Err, IfErr, IsErrAnd}
+use Rattle.std.proofs.Common.{◌+◌, ◌∙◌, ap, refl, sym, subst, inl, inr}
 use Rattle.paraid_base.specs.declared.fault.Two.{Two}
 use Rattle.paraid_record.specs.declared.meta.Meta.{Meta}
 use Rattle.paraid_image.specs.Calls.{disk_of}
+use Rattle.paraid_image.specs.Lost.{BearsLoss, TellsLosses}
 use Rattle.paraid_image.specs.Out.{first_absent, named_out, or_else}
 use Rattle.paraid_txn.specs.Losses.IsOutOfCommit.{is_named}
+use Rattle.paraid_txn.specs.Losses.{IsOnlyOut, IsOutOfCommit}
 use Rattle.paraid_rack.specs.Disks.{Disks}
+use Rattle.paraid_rack.specs.Told.{Ran}
 use Rattle.paraid_txn.specs.CommitStages.{IsSpelled, job}
-use Rattle.paraid_txn.proofs.AloneLemmas.{alone_out, gone_beside, two_beside}
+use Rattle.paraid_txn.proofs.AloneLemmas.{alone_out, first_only, gone_beside, lost_down, two_beside}
 use Rattle.paraid_txn.proofs.DownLemmas.{AreCommitCalls-absent, AreCommitCalls-risen}
 use Rattle.paraid_txn.proofs.StoreLemmas.{commits, next_in_range, start_ready, whole_or_absent}
 use Rattle.paraid_txn.proofs.store.Store.commit.Given.{Over}
@@ -161,3 +164,30 @@ returns-clause-alone g c d is =
 
 pub returns-clause-well : goal.returns-clause-well
 returns-clause-well g c d not = c.in_ok-run.ensures.part.well d not
+
+-- the one disk that is out, if one is
+only_down : (g : Over) (c : After-run g) (only : Option ℕ)
+    → IsOnlyOut (IsOutOfCommit (λ e. (g.R.Rack.slot c.args.self.now.rack e).power) c.args.self.now.disks c.args.self.now.named (named_out c.args.meta.now.out)) only → c.out_first.result ≡ only
+only_down g c only is = down_is g c ∙ first_only _ _ _ _ only is
+
+pub returns-in_err-run-clause-order : goal.returns-in_err-run-clause-order
+returns-in_err-run-clause-order g c =
+    let at = goal.at.returns-in_err-run-clause-order g c in
+    raised _ _ _ c.from_residual.ensures.1 (λ only is. subst (λ (o : Option ℕ). Ran (g.R.Rack.told c.args.self.now.rack) (g.R.Rack.told c.run.new.rack) (λ start calls. TellsLosses o c.in_err-run.field-0.0 calls)) (only_down g at.After-run only is) c.in_err-run.ensures.part.order)
+
+pub returns-in-Some-clause-order : goal.returns-in-Some-clause-order
+returns-in-Some-clause-order g c only is =
+    let at = goal.at.returns-in-Some-clause-order g c in
+    let both = c.find_second.ensures.two c.in-Some.two (cc) in
+    let down = only_down g at.After-run only is ∙ is.one c.in-Some.two.first (is_named (sym c.named-named.ensures ∙ both.0)) in
+    let still = c.run.ensures.part.lasts.remains c.in-Some.two.first down in
+    let lost = c.run.new.losses.agrees c.in-Some.two.second both.1 in
+    absurd (both.2 (let same : Some c.in-Some.two.first ≡ Some c.in-Some.two.second = sym still ∙ lost in cc))
+
+pub returns-clause-bears : goal.returns-clause-bears
+returns-clause-bears g c only is =
+    let at = goal.at.returns-clause-bears g c in
+    let after = c.run.new.losses in
+    let down = lost_down c.out_first.result after.down after.lost after.agrees c.run.ensures.part.lasts.down c.run.ensures.part.lasts.remains in
+    subst (λ (o : Option ℕ). Ran (g.R.Rack.told c.args.self.now.rack) (g.R.Rack.told c.run.new.rack) (λ start calls. BearsLoss o (or_else after.lost o) calls)) (only_down g at.After-run only is)
+    (subst (λ (o : Option ℕ). Ran (g.R.Rack.told c.args.self.now.rack) (g.R.Rack.told c.run.new.rack) (λ start calls. BearsLoss c.out_first.result o calls)) down c.in_ok-run.ensures.part.order)

@@ -1,0 +1,76 @@
+-- When a shift that is asked for begins, and why it is refused: the conditions of the machine, one after the other.
+use Rattle.std.specs.Prelude.{◌≡◌, ◌≢◌, ℕ, Some, None}
+use Rattle.paraid_base.specs.declared.event.Answer.{Answer}
+use Rattle.paraid_base.specs.declared.event.Answer.TheVariants.{Halted, Lowest as IsLowest, Out as IsOut, Ration as RationUsed, Shifting as IsShifting, Top as IsTop}
+use Rattle.paraid_base.specs.declared.state.Out.{Out as OutState}
+use Rattle.paraid_base.specs.declared.state.Out.TheVariants.{No}
+use Rattle.paraid_base.specs.declared.state.Phase.{Phase}
+use Rattle.paraid_base.specs.declared.state.Phase.TheVariants.{Steady}
+use Rattle.paraid_base.specs.Gears.{next_higher, next_lower}
+use Rattle.paraid_base.specs.States.{named_out, phase_to}
+use Rattle.paraid_record.specs.declared.meta.Meta.{Meta}
+use Rattle.paraid_record.specs.declared.meta.Setup.{Setup}
+use Rattle.paraid_image.specs.Power.{PowerState}
+use Rattle.paraid_machine.specs.Moves.{first_worn}
+use Rattle.paraid_array.specs.declared.fault.ShiftFault.{ShiftFault}
+use Rattle.paraid_array.specs.declared.fault.ShiftFault.TheVariants.{Halt, Lowest, Out, Ration, Shifting, Top}
+
+-- what a shift sees of the state is what this meta says
+pub record IsShiftStateOf (m : Meta) (s : PowerState) : Type 0 where
+  pub gear : s.gear ≡ m.gear
+  pub phase : s.phase ≡ m.phase
+  pub out : s.out ≡ m.out
+  pub spins : s.spins ≡ m.spins
+  pub ticks : s.ticks ≡ m.ticks
+
+-- the answer that tells a refusal
+abbrev pub fault_answer : ShiftFault → Answer
+fault_answer (Halt halt) = Halted halt
+fault_answer Top = IsTop
+fault_answer Lowest = IsLowest
+fault_answer (Shifting to) = IsShifting to
+fault_answer (Out d) = IsOut d
+fault_answer (Ration d) = RationUsed d
+
+-- no shift is under way, and no disk is out
+pub record IsAtEase (phase : Phase) (out : OutState) : Type 0 where
+  pub steady : phase ≡ Steady
+  pub whole : out ≡ No
+
+-- A shift that is under way hinders another one, and else the disk that is out.
+abbrev pub IsHinderedBy : Phase → OutState → ShiftFault → Type 0
+IsHinderedBy phase out (Halt halt) = ⊥
+IsHinderedBy phase out Top = ⊥
+IsHinderedBy phase out Lowest = ⊥
+IsHinderedBy phase out (Shifting to) = (phase ≢ Steady) × (to ≡ phase_to phase)
+IsHinderedBy phase out (Out d) = (phase ≡ Steady) × (named_out out ≡ Some d)
+IsHinderedBy phase out (Ration d) = ⊥
+
+-- a shift down to this gear may begin: it is the next lower one, nothing hinders it, and no disk that it parks is worn
+pub record MayGoDown (setup : Setup) (s : PowerState) (to : ℕ) : Type 0 where
+  pub next : next_lower setup.geometry s.gear ≡ Some to
+  pub at_ease : IsAtEase s.phase s.out
+  pub unworn : first_worn setup s to ≡ None
+
+-- a shift up to this gear may begin
+pub record MayGoUp (setup : Setup) (s : PowerState) (to : ℕ) : Type 0 where
+  pub next : next_higher setup.geometry s.gear ≡ Some to
+  pub at_ease : IsAtEase s.phase s.out
+
+-- a shift down is refused so
+abbrev pub IsDownRefused : Setup → PowerState → ShiftFault → Type 0
+IsDownRefused setup s (Halt halt) = ⊥
+IsDownRefused setup s Top = ⊥
+IsDownRefused setup s Lowest = next_lower setup.geometry s.gear ≡ None
+IsDownRefused setup s (Shifting to) = (next : ℕ) × (next_lower setup.geometry s.gear ≡ Some next) × IsHinderedBy s.phase s.out (Shifting to)
+IsDownRefused setup s (Out d) = (next : ℕ) × (next_lower setup.geometry s.gear ≡ Some next) × IsHinderedBy s.phase s.out (Out d)
+IsDownRefused setup s (Ration d) = (next : ℕ) × (next_lower setup.geometry s.gear ≡ Some next) × IsAtEase s.phase s.out × (first_worn setup s next ≡ Some d)
+
+-- a shift up is refused so
+abbrev pub IsUpRefused : Setup → PowerState → ShiftFault → Type 0
+IsUpRefused setup s (Halt halt) = ⊥
+IsUpRefused setup s Top = next_higher setup.geometry s.gear ≡ None
+IsUpRefused setup s Lowest = ⊥
+IsUpRefused setup s (Shifting to) = (next : ℕ) × (next_higher setup.geometry s.gear ≡ Some next) × IsHinderedBy s.phase s.out (Shifting to)
+IsUpRefused setup s (Out d) = (next : ℕ) × (next_higher setup.geometry s.gear ≡ Some next) × IsHinderedBy s.phase s.out (Out d)
+IsUpRefused setup s (Ration d) = ⊥

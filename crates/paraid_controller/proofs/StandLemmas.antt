@@ -1,0 +1,166 @@
+-- Where an array stands, from one event to the next.
+use Rattle.std.proofs.Common.{◌≡◌, ◌≢◌, ℕ, ◌+◌, ◌^◌, ◌<◌, ◌≤◌, Bool, true, false, if◌then◌else◌, List, [], ◌∷◌, ◌++◌, length, Option, Some, None, refl, sym, ap, ◌∙◌, subst, arith}
+use Rattle.std.specs.Prelude.{max, IsSome}
+use Rattle.std.proofs.lemmas.List.{append-nil}
+use Rattle.paraid_base.specs.declared.event.Answer.{Answer}
+use Rattle.paraid_base.specs.declared.event.Answer.TheVariants.{Halted}
+use Rattle.paraid_base.specs.declared.event.Event.{Event}
+use Rattle.paraid_base.specs.declared.event.Event.TheVariants.{Bad}
+use Rattle.paraid_base.specs.declared.fault.Halt.{Halt}
+use Rattle.paraid_base.specs.declared.fault.Halt.TheVariants.{Two as HaltTwo, Worn}
+use Rattle.paraid_base.specs.History.{Entry, History}
+use Rattle.paraid_dirty.specs.Table.{dirty_count, is_dirty}
+use Rattle.paraid_dirty.proofs.MaskLemmas.{sum_before_same}
+use Rattle.paraid_gear.specs.ThreeWindows.{HoldLastSamples, sample_of}
+use Rattle.paraid_rack.specs.declared.call.Call.{Call}
+use Rattle.paraid_rack.specs.Disks.{Disks}
+use Rattle.paraid_rack.specs.Told.{Ran}
+use Rattle.paraid_rack.specs.Trail.{Trail, now}
+use Rattle.paraid_record.specs.declared.meta.Meta.{Meta}
+use Rattle.paraid_record.specs.declared.meta.Setup.{Setup}
+use Rattle.paraid_image.specs.Shown.{accepted_write}
+use Rattle.paraid_core.specs.declared.staged.Core.{Core}
+use Rattle.paraid_core.specs.Cores.{CoreStandsFor, core_rack}
+use Rattle.paraid_session.specs.Turn.{GoesOn, IsTurn, Point, halt_told, may_halt, point_wear, with_halt}
+use Rattle.paraid_session.specs.Turn.IsTurn.{again, answered, bad, two, worn}
+use Rattle.paraid_event.specs.Service.{Service, service_of}
+use Rattle.paraid_event.specs.Stands.{StandsAt}
+use Rattle.paraid_event.proofs.QuietLemmas.{worn_turn}
+use Rattle.paraid_controller.specs.declared.array.Array.{Array}
+use Rattle.paraid_controller.specs.declared.ended.Ended.{Ended}
+use Rattle.paraid_controller.specs.Arrays.{ArrayStandsAt, GoesOnByEvent, HasEndedAt, ServesAt, halt_of_end, told_of_array}
+
+pub none_ended : (o : Option Ended) → halt_of_end o ≡ None → o ≡ None
+none_ended None e = refl
+none_ended (Some x) e = let z : Some x.halt ≡ None = e in cc
+
+pub none_some : {A : Type 0} {B : Type 0} (o : Option A) (x : A) → o ≡ None → o ≡ Some x → B
+none_some o x none some = let z : None ≡ Some x = sym none ∙ some in absurd cc
+
+-- how many commits or writes a core has made
+pub wear_is : (told : Option Trail) (k : Service) (setup : Setup) (p : Point) → StandsAt told k setup p → point_wear p ≡ max k.meta.epoch k.meta.writes
+wear_is told k setup p at =
+    let epoch : p.meta.epoch ≡ k.meta.epoch = ap (λ (m : Meta). m.epoch) (sym at.stands.is_base) ∙ sym at.stands.keeps.epoch in
+    let writes : length p.history ≡ k.meta.writes = sym at.stands.keeps.writes in
+    rw (epoch, writes) refl
+
+pub wear_fits : (told : Option Trail) (k : Service) (setup : Setup) (p : Point) → StandsAt told k setup p → k.meta.epoch < 2 ^ 62 → k.meta.writes < 2 ^ 62 → point_wear p < 2 ^ 62
+wear_fits told k setup p at epoch writes = let is = wear_is told k setup p at in rw is (below (k.meta.epoch) (k.meta.writes) epoch writes)
+  where
+    below : (a b : ℕ) → a < 2 ^ 62 → b < 2 ^ 62 → max a b < 2 ^ 62
+    below a b x y = grind (arith)
+
+-- the writes after an event that was answered
+pub turn_history : (slots : ℕ) (setup : Setup) (p : Point) (event : Event) (answer : Answer) (cs : List Call) (q : Point) → IsTurn slots setup p event answer cs q → halt_told answer ≡ None → event ≢ Bad
+    → q.history ≡ p.history ++ accepted_write event answer
+turn_history slots setup p event answer cs q (answered going not_bad is) none event_not = is.history
+turn_history slots setup p event answer cs q (two x going not_bad is loses) none event_not = absurd (none_some (halt_told answer) (HaltTwo x) none (ap halt_told is))
+turn_history slots setup p event answer cs q (worn count going not_bad is w no_calls rest) none event_not = absurd (none_some (halt_told answer) (Worn count) none (ap halt_told is))
+turn_history slots setup p event answer cs q (again halt halted not_bad is no_calls rest) none event_not = absurd (none_some (halt_told answer) halt none (ap halt_told is))
+turn_history slots setup p event answer cs q (bad is is_answer no_calls rest) none event_not = absurd (event_not is)
+
+module _ {R : Type 0} {g : _} (count : R → ℕ) (told : R → Option Trail) where
+  -- An event that was answered with no halt: the laws say where its core stands, and so much is counted beside it.
+  pub served_on : (a b : Array R g) (p : Point) (event : Event) (answer : Answer) (samples : List ℕ) (requests : ℕ)
+      → halt_told answer ≡ None → event ≢ Bad → b.ended ≡ None → b.setup ≡ a.setup
+      → HoldLastSamples b.windows samples → b.served ≡ sample_of requests
+      → ((t : Trail) → told_of_array told b ≡ Some t → CoreStandsFor count b.core (p.history ++ accepted_write event answer) b.kept (now t))
+      → Ran (told_of_array told a) (told_of_array told b) (GoesOn (count (core_rack a.core)) a.setup p event answer (StandsAt (told_of_array told b) (service_of count b.core samples requests b.energy) a.setup))
+      → Ran (told_of_array told a) (told_of_array told b) (GoesOn (count (core_rack a.core)) a.setup p event answer (ArrayStandsAt count told b))
+  served_on a b p event answer samples requests no_halt not_bad going setup windows served kept ran t tells =
+      let r = ran t tells in
+      let q : Point = r.holds.0 in
+      let is = turn_history (count (core_rack a.core)) a.setup p event answer r.calls q r.holds.1 no_halt not_bad in
+      record {
+        from = r.from;
+        was = r.was;
+        calls = r.calls;
+        is = r.is;
+        holds = (
+          q,
+          r.holds.1,
+          record {
+            serves = λ e. record {
+              samples = samples;
+              requests = requests;
+              windows = windows;
+              served = served;
+              stands = subst (λ (z : Setup). StandsAt (told_of_array told b) (service_of count b.core samples requests b.energy) z q) (sym setup) r.holds.2;
+              kept = λ u u_tells. subst (λ (h : History). CoreStandsFor count b.core h b.kept (now u)) (sym is) (kept u u_tells);
+            };
+            halted = λ e some. none_some b.ended e going some;
+          },
+        );
+      }
+
+  -- An event that was refused: nothing has changed.
+  pub stays_on : (a : Array R g) (event : Event) (answer : Answer) → halt_of_end a.ended ≡ None → halt_told answer ≡ None → event ≢ Bad → accepted_write event answer ≡ []
+      → ((p : Point) (samples : List ℕ) (requests : ℕ) → StandsAt (told_of_array told a) (service_of count a.core samples requests a.energy) a.setup p
+      → Ran (told_of_array told a) (told_of_array told a) (GoesOn (count (core_rack a.core)) a.setup p event answer (StandsAt (told_of_array told a) (service_of count a.core samples requests a.energy) a.setup)))
+      → GoesOnByEvent count told a a event answer
+  stays_on a event answer going no_halt not_bad none law p at =
+      let s = at.serves (none_ended a.ended going) in
+      served_on a a p event answer s.samples s.requests no_halt not_bad (none_ended a.ended going) refl s.windows s.served
+      (λ t tells. subst (λ (h : History). CoreStandsFor count a.core h a.kept (now t)) (sym (append-nil p.history) ∙ ap (λ (more : History). p.history ++ more) (sym none)) (s.kept t tells))
+      (law p s.samples s.requests s.stands)
+
+  -- So it is of one that an array takes which has made fewer commits and writes.
+  pub refuses : (a : Array R g) (event : Event) (answer : Answer) → halt_of_end a.ended ≡ None → halt_told answer ≡ None → event ≢ Bad → accepted_write event answer ≡ []
+      → a.core.meta.epoch < 2 ^ 62 → a.core.meta.writes < 2 ^ 62
+      → ((p : Point) (samples : List ℕ) (requests : ℕ) → StandsAt (told_of_array told a) (service_of count a.core samples requests a.energy) a.setup p → point_wear p < 2 ^ 62
+      → Ran (told_of_array told a) (told_of_array told a) (GoesOn (count (core_rack a.core)) a.setup p event answer (StandsAt (told_of_array told a) (service_of count a.core samples requests a.energy) a.setup)))
+      → GoesOnByEvent count told a a event answer
+  refuses a event answer going no_halt not_bad none epoch writes law = stays_on a event answer going no_halt not_bad none
+      (λ p samples requests at. law p samples requests at (wear_fits (told_of_array told a) (service_of count a.core samples requests a.energy) a.setup p at epoch writes))
+
+  -- An event that ended the service.
+  pub ended_on : (a b : Array R g) (p : Point) (event : Event) (answer : Answer) (ended : Ended) (P : Point → Type 0)
+      → b.ended ≡ Some ended → ((q : Point) → P q → HasEndedAt ended b.energy q)
+      → Ran (told_of_array told a) (told_of_array told b) (GoesOn (count (core_rack a.core)) a.setup p event answer P)
+      → Ran (told_of_array told a) (told_of_array told b) (GoesOn (count (core_rack a.core)) a.setup p event answer (ArrayStandsAt count told b))
+  ended_on a b p event answer ended P is ends ran t tells =
+      let r = ran t tells in
+      record {
+        from = r.from;
+        was = r.was;
+        calls = r.calls;
+        is = r.is;
+        holds = (
+          r.holds.0,
+          r.holds.1,
+          record {
+            serves = λ none. none_some b.ended ended none is;
+            halted = λ e some. let same : Some ended ≡ Some e = sym is ∙ some in let one : ended ≡ e = cc in subst (λ (x : Ended). HasEndedAt x b.energy r.holds.0) one (ends r.holds.0 r.holds.2);
+          },
+        );
+      }
+
+abbrev pub end_by : Halt → ℕ → Ended
+end_by halt gear = record { halt = halt; gear = gear }
+
+-- An array that takes no more ends its service.
+module _ {R : Type 0} {g : _} (count : R → ℕ) (told : R → Option Trail) (a b : Array R g) (event : Event) (n : ℕ) (going : halt_of_end a.ended ≡ None) (not_bad : event ≢ Bad) (asked : may_halt event ≡ true) (many : 2 ^ 62 ≤ n)
+    (is : n ≡ max a.core.meta.epoch a.core.meta.writes) (core : b.core ≡ a.core) (energy : b.energy ≡ a.energy) (ended : b.ended ≡ Some (end_by (Worn n) a.core.meta.gear)) where
+  pub worn_on : GoesOnByEvent count told a b event (Halted (Worn n))
+  worn_on p at =
+      let s = at.serves (none_ended a.ended going) in
+      let wear : point_wear p ≡ n = wear_is (told_of_array told a) (service_of count a.core s.samples s.requests a.energy) a.setup p s.stands ∙ sym is in
+      let ran = worn_turn (told_of_array told a) (service_of count a.core s.samples s.requests a.energy) a.setup p s.stands event not_bad asked (subst (λ (x : ℕ). 2 ^ 62 ≤ x) (sym wear) many) in
+      let named = subst (λ (x : ℕ). Ran (told_of_array told a) (told_of_array told a) (GoesOn (count (core_rack a.core)) a.setup p event (Halted (Worn x)) (λ q. q ≡ with_halt p (Worn x)))) wear ran in
+      let moved = subst (λ (c : Core R g). Ran (told_of_array told a) (told (core_rack c)) (GoesOn (count (core_rack a.core)) a.setup p event (Halted (Worn n)) (λ q. q ≡ with_halt p (Worn n)))) (sym core) named in
+      ended_on count told a b p event (Halted (Worn n)) (end_by (Worn n) a.core.meta.gear) (λ q. q ≡ with_halt p (Worn n)) ended
+      (λ q e. record {
+        halt = ap (λ (z : Point). z.halt) e;
+        gear = ap (λ (z : Point). z.state.gear) e ∙ s.stands.state.gear;
+        energy = ap (λ (z : Point). z.energy) e ∙ s.stands.energy ∙ sym energy;
+      }) moved
+
+-- what is told after calls was told before
+pub told_before : (old new : Option Trail) (Q : Disks → List Call → Type 0) → Ran old new Q → IsSome new → IsSome old
+told_before old (Some t) Q ran some = let r = ran t refl in subst (λ (o : Option Trail). IsSome o) (sym r.was) refl
+told_before old None Q ran some = let z : false ≡ true = some in absurd cc
+
+-- what was kept, where an epoch begins or not
+pub kept_flag : (f : Bool) (new kept all before after : ℕ) → after ≡ before + (if f then 1 else 0) → (after ≡ before → new ≡ kept) → (after ≡ before + 1 → new ≡ all) → new ≡ (if f then all else kept)
+kept_flag true new kept all before after is same more = more is
+kept_flag false new kept all before after is same more = same (omega (arith, is))

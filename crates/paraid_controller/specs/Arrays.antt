@@ -1,0 +1,100 @@
+-- What contracts see of an array, and where it stands in a session.
+use Rattle.std.specs.Prelude.{◌≡◌, ℕ, ◌<◌, [], List, Option, Some, None}
+use Rattle.paraid_base.specs.declared.event.Answer.{Answer}
+use Rattle.paraid_base.specs.declared.event.Event.{Event}
+use Rattle.paraid_base.specs.declared.event.Answer.TheVariants.{Halted}
+use Rattle.paraid_base.specs.declared.fault.Halt.{Halt}
+use Rattle.paraid_base.specs.declared.fault.Halt.TheVariants.{Two as HaltTwo}
+use Rattle.paraid_base.specs.declared.fault.Two.{Two}
+use Rattle.paraid_dirty.specs.Table.{is_dirty}
+use Rattle.paraid_image.specs.Power.{PowerState}
+use Rattle.paraid_gear.specs.ThreeWindows.{HoldLastSamples, sample_of}
+use Rattle.paraid_rack.specs.declared.call.Power.{Power}
+use Rattle.paraid_rack.specs.Slots.{Slot}
+use Rattle.paraid_rack.specs.Told.{Ran}
+use Rattle.paraid_rack.specs.Trail.{Trail, now}
+use Rattle.paraid_record.specs.declared.meta.Setup.{Setup}
+use Rattle.paraid_core.specs.declared.staged.Core.{Core}
+use Rattle.paraid_core.specs.Cores.{CoreStandsFor, core_rack}
+use Rattle.paraid_session.specs.Turn.{GoesOn, Point}
+use Rattle.paraid_event.specs.Lost.{TellsTwo}
+use Rattle.paraid_event.specs.Counts.{with_counts_of}
+use Rattle.paraid_event.specs.Service.{IsStateOf, service_of}
+use Rattle.paraid_event.specs.Stands.{StandsAt}
+use Rattle.paraid_controller.specs.declared.array.Array.{Array}
+use Rattle.paraid_controller.specs.declared.ended.Ended.{Ended}
+
+-- its core
+abbrev pub core_of_array : {R : Type 0} {g : _} → Array R g → Core R g
+core_of_array array = array.core
+
+-- the record of its rack, where it is told
+abbrev pub told_of_array : {R : Type 0} {g : _} → (R → Option Trail) → Array R g → Option Trail
+told_of_array told array = told (core_rack array.core)
+
+-- the number of slots of its rack
+abbrev pub slots_of_array : {R : Type 0} {g : _} → (R → ℕ) → Array R g → ℕ
+slots_of_array count array = count (core_rack array.core)
+
+-- what it is configured to be
+abbrev pub setup_of_array : {R : Type 0} {g : _} → Array R g → Setup
+setup_of_array array = array.setup
+
+-- how its disks are powered
+abbrev pub power_of_array : {R : Type 0} {g : _} → (R → ℕ → Slot) → Array R g → ℕ → Power
+power_of_array slot array d = (slot (core_rack array.core) d).power
+
+abbrev pub halt_of_end : Option Ended → Option Halt
+halt_of_end None = None
+halt_of_end (Some ended) = Some ended.halt
+
+-- how many writes the last commit has brought to the disks, as it counts them
+abbrev pub kept_by_array : {R : Type 0} {g : _} → Array R g → ℕ
+kept_by_array array = array.kept
+
+-- what has ended its service
+abbrev pub end_of_array : {R : Type 0} {g : _} → Array R g → Option Ended
+end_of_array array = array.ended
+
+-- the halt that has ended its service
+abbrev pub halt_of_array : {R : Type 0} {g : _} → Array R g → Option Halt
+halt_of_array array = halt_of_end array.ended
+
+-- It serves, and stands at this point of a session: by all samples since its mount, of which its windows hold the last, and
+-- all requests since the last tick, of which it counts no more than a sample may have. Of the writes no stop takes away
+-- the first ones that it counts as kept.
+pub record ServesAt {R : Type 0} {g : _} (count : R → ℕ) (told : R → Option Trail) (array : Array R g) (p : Point) : Type 0 where
+  pub samples : List ℕ
+  pub requests : ℕ
+  pub windows : HoldLastSamples array.windows samples
+  pub served : array.served ≡ sample_of requests
+  pub stands : StandsAt (told_of_array told array) (service_of count array.core samples requests array.energy) array.setup p
+  pub kept : (t : Trail) → told_of_array told array ≡ Some t → CoreStandsFor count array.core p.history array.kept (now t)
+
+-- Its service has ended: the point tells the halt, the gear before it, and so much energy.
+pub record HasEndedAt (ended : Ended) (used : ℕ) (p : Point) : Type 0 where
+  pub halt : p.halt ≡ Some ended.halt
+  pub gear : p.state.gear ≡ ended.gear
+  pub energy : p.energy ≡ used
+
+-- where an array stands in a session, also after a halt
+pub record ArrayStandsAt {R : Type 0} {g : _} (count : R → ℕ) (told : R → Option Trail) (array : Array R g) (p : Point) : Type 0 where
+  pub serves : array.ended ≡ None → ServesAt count told array p
+  pub halted : (ended : Ended) → array.ended ≡ Some ended → HasEndedAt ended array.energy p
+
+-- An event takes each point at which the array stood to one at which it stands then.
+abbrev pub GoesOnByEvent : {R : Type 0} {g : _} → (R → ℕ) → (R → Option Trail) → Array R g → Array R g → Event → Answer → Type 0
+GoesOnByEvent count told old new event answer = (p : Point) → ArrayStandsAt count told old p
+    → Ran (told_of_array told old) (told_of_array told new)
+    (GoesOn (slots_of_array count old) old.setup p event answer (ArrayStandsAt count told new))
+
+-- Where two disks were lost, the calls tell which one was first: one that was out, or the first that failed.
+abbrev pub TellsLossesInOrder : {R : Type 0} {g : _} → (R → ℕ) → (R → Option Trail) → Array R g → Array R g → Answer → Type 0
+TellsLossesInOrder count told old new answer = (two : Two) → answer ≡ Halted (HaltTwo two)
+    → Ran (told_of_array told old) (told_of_array told new) (TellsTwo (service_of count old.core [] 0 0) two)
+
+-- The dirty cells are then those that this change makes of each state that the array showed, by its meta as it is then.
+abbrev pub ChangesCellsBy : {R : Type 0} {g : _} → (R → ℕ) → Array R g → Array R g → (PowerState → PowerState) → Type 0
+ChangesCellsBy count old new change = (samples : List ℕ) (requests : ℕ) (s : PowerState)
+    → IsStateOf (with_counts_of (service_of count new.core samples requests new.energy) (service_of count old.core samples requests old.energy)) s
+    → (r d : ℕ) → r < new.core.meta.setup.geometry.rows → is_dirty new.core.dirty r d ≡ (change s).dirty r d

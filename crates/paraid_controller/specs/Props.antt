@@ -1,0 +1,30 @@
+-- That an array can serve is a fact with one proof, so that an array can carry it.
+use Rattle.std.specs.Prelude.{ℕ, List}
+use Rattle.std.proofs.Props.{props}
+use Rattle.paraid_base.specs.declared.geometry.Geometry.{Geometry}
+use Rattle.paraid_base.specs.declared.state.Out.{Out}
+use Rattle.paraid_base.specs.declared.state.Out.TheVariants.{No, Gone, Fresh}
+use Rattle.paraid_base.specs.declared.state.Phase.{Phase}
+use Rattle.paraid_base.specs.declared.state.Phase.TheVariants.{Steady, Down, Up}
+use Rattle.paraid_rack.specs.Slots.{Slot}
+use Rattle.paraid_record.specs.declared.meta.Setup.{Setup}
+use Rattle.paraid_record.specs.Range.{IsOutInRange, IsPhaseInRange}
+use Rattle.paraid_core.specs.declared.staged.Core.{Core}
+use Rattle.paraid_controller.specs.Lasting.{IsArrayServing}
+
+phase_once : (g : Geometry) (gear : ℕ) (phase : Phase) → IsProp (IsPhaseInRange g gear phase)
+phase_once g gear Steady = hlevel props
+phase_once g gear (Down to) = hlevel props
+phase_once g gear (Up to) = hlevel props
+
+out_once : (g : Geometry) (gear : ℕ) (out : Out) → IsProp (IsOutInRange g gear out)
+out_once g gear No = hlevel props
+out_once g gear (Gone disk) = hlevel props
+out_once g gear (Fresh disk rebuilt) = hlevel props
+
+pub IsArrayServing-prop : {R : Type 0} {g : _} (count : R → ℕ) (slot : R → ℕ → Slot) (core : Core R g) (lengths : List ℕ) (setup : Setup) → IsProp (IsArrayServing count slot core lengths setup)
+IsArrayServing-prop count slot core lengths setup = hlevel (props, phase_once, out_once)
+
+-- what is asked only under a condition has one proof where it has one
+pub while_prop : {A : Type 0} {B : Type 0} → IsProp B → IsProp (A → B)
+while_prop once = hlevel once

@@ -1,0 +1,82 @@
+//! An array in service: a core, and what is counted of its events.
+ghost use Rattle.std.specs.Prelude.{◌≡◌, None};
+ghost use Rattle.paraid_gear.specs.ThreeWindows.{lengths_of};
+ghost use Rattle.paraid_controller.specs.Lasting.{IsArrayServing};
+ghost use Rattle.paraid_controller.specs.Props.{IsArrayServing-prop, while_prop};
+
+use crate::ended::Ended;
+use paraid_core::Core;
+use paraid_gear::Windows;
+use paraid_rack::Rack;
+use paraid_record::Setup;
+
+/// An array with gears. It answers the events of a session; after a halt each of them gives the halt.
+#[derive(Drop)]
+pub struct Array<R: Rack> {
+    pub(crate) core: Core<R>,
+    pub(crate) windows: Windows,
+    pub(crate) setup: Setup,
+    // the requests since the last tick, as many as a sample may have
+    pub(crate) served: u32,
+    pub(crate) energy: u64,
+    // the writes that the last commit has brought to the disks
+    pub(crate) kept: u64,
+    pub(crate) ended: Option<Ended>,
+    ghost serving: { ended ≡ None → IsArrayServing R.slot_count R.slot core (lengths_of windows) setup } by { while_prop (IsArrayServing-prop R.slot_count R.slot core (lengths_of windows) setup) },
+}
+
+impl<R: Rack> Array<R> {
+    ghost use Rattle.std.specs.Prelude.{ℕ, ◌≤◌, [], length};
+    ghost use Rattle.paraid_core.specs.Cores.{core_rack, meta_of};
+    ghost use Rattle.paraid_event.specs.Service.{service_of};
+    ghost use Rattle.paraid_event.specs.Stands.{StandsAt};
+    ghost use Rattle.paraid_gear.specs.ThreeWindows.{HoldLastSamples};
+    ghost use Rattle.paraid_session.specs.Turn.{Point};
+    ghost use Rattle.paraid_controller.specs.Arrays.{ArrayStandsAt, core_of_array, halt_of_array, setup_of_array};
+
+    /// Takes over a core as a mount leaves it, with windows of the lengths of its setup that hold no sample.
+    pub fn new(core: Core<R>, windows: Windows) -> Array<R>
+        requires serving { IsArrayServing R.slot_count R.slot core (lengths_of windows) (meta_of core).setup }
+        ensures core { core_of_array result ≡ core }
+        ensures setup { setup_of_array result ≡ (meta_of core).setup }
+        ensures going { halt_of_array result ≡ None }
+        // It stands where its core does, if all writes are kept there.
+        ensures stands { (p : Point) → HoldLastSamples windows []
+            → StandsAt (R.told (core_rack core)) (service_of R.slot_count core [] 0 0) (meta_of core).setup p
+            → length p.history ≤ p.low → ArrayStandsAt R.slot_count R.told result p }
+    {
+        let setup = core.meta().setup;
+        let kept = core.meta().writes;
+        Array {
+            core,
+            windows,
+            setup,
+            served: 0,
+            energy: 0,
+            kept,
+            ended: None,
+        }
+    }
+
+    /// The energy that it has used since its mount.
+    pub fn energy(&self) -> u64
+        ensures point { (p : Point) → ArrayStandsAt R.slot_count R.told self.now p → result ≡ p.energy }
+    {
+        self.energy
+    }
+
+    /// How many writes it has accepted.
+    pub fn writes(&self) -> u64
+        requires going { halt_of_array self.now ≡ None }
+        ensures point { (p : Point) → ArrayStandsAt R.slot_count R.told self.now p → result ≡ length p.history }
+    {
+        self.core.meta().writes
+    }
+
+    /// Gives the rack back. It makes no call, and what is staged is dropped.
+    pub fn close(self) -> R
+        ensures { result ≡ core_rack (core_of_array self) }
+    {
+        self.core.close()
+    }
+}

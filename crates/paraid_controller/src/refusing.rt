@@ -1,0 +1,125 @@
+//! Questions, and events that are refused with no call of the rack.
+ghost use Rattle.std.specs.Prelude.{◌≡◌, ◌≢◌, ◌*◌, ◌-◌, ◌<◌, ◌≤◌, ◌^◌, max, true, length, None, Some, IfNone, IfSome, IsSome};
+ghost use Rattle.paraid_base.specs.declared.event.Answer.TheVariants.{Halted};
+ghost use Rattle.paraid_base.specs.declared.event.Event.{Event as EventType};
+ghost use Rattle.paraid_base.specs.declared.event.Event.TheVariants.{Bad as BadEvent, Energy as AskEnergy, State as AskState};
+ghost use Rattle.paraid_base.specs.declared.fault.Halt.TheVariants.{Worn};
+ghost use Rattle.paraid_machine.specs.Machine.{block_count, state_status};
+ghost use Rattle.paraid_serve.specs.Form.{is_answer_to};
+ghost use Rattle.paraid_session.specs.Turn.{Point, halt_told, may_halt};
+ghost use Rattle.paraid_trace.specs.Replies.{HasFewDisks};
+ghost use Rattle.paraid_core.specs.Cores.{meta_of};
+
+use crate::Array;
+use crate::ended::Ended;
+use paraid_base::{Answer, Halt, Status};
+use paraid_rack::Rack;
+use paraid_record::Meta;
+
+/// An array that has made so many commits or writes takes no more.
+const WORN: u64 = 1 << 62;
+
+// How many commits or writes were made, the greater of the two, where the array takes no more.
+pub(crate) fn worn(meta: &Meta) -> Option<u64>
+    ensures worn { IfSome result (λ count. (2 ^ 62 ≤ count) × (count ≡ max meta.now.epoch meta.now.writes)) }
+    ensures fit { IfNone result ((meta.now.epoch < 2 ^ 62) × (meta.now.writes < 2 ^ 62)) }
+{
+    let count = meta.epoch.max(meta.writes);
+    if count >= WORN { Some(count) } else { None }
+}
+
+impl<R: Rack> Array<R> {
+    ghost use Rattle.paraid_controller.specs.Arrays.{ArrayStandsAt, GoesOnByEvent, core_of_array, halt_of_array, setup_of_array, slots_of_array, told_of_array};
+
+    /// The halt that each event gives from now on, if it has halted.
+    pub fn halt(&self) -> Option<Halt>
+        ensures { result ≡ halt_of_array self.now }
+    {
+        match self.ended {
+            Some(ended) => Some(ended.halt),
+            None => None,
+        }
+    }
+
+    /// The number of its blocks.
+    pub fn blocks(&self) -> u32
+        ensures value { result ≡ block_count (setup_of_array self.now) }
+        ensures some { 0 < result }
+    {
+        self.setup.geometry.blocks()
+    }
+
+    /// The number of its disks.
+    pub fn disks(&self) -> u8
+        ensures value { result ≡ (setup_of_array self.now).geometry.disks }
+        ensures few { result ≤ 8 }
+    {
+        self.setup.geometry.disks()
+    }
+
+    /// Its state.
+    pub fn status(&self) -> Status
+        requires going { halt_of_array self.now ≡ None }
+        ensures { (p : Point) → ArrayStandsAt R.slot_count R.told self.now p
+            → result ≡ state_status (setup_of_array self.now) (length p.history) p.state }
+    {
+        let meta = self.core.meta();
+        Status {
+            writes: meta.writes,
+            ticks: meta.ticks,
+            gear: meta.gear,
+            phase: meta.phase,
+            dirty: self
+                .core
+                .dirty()
+                .count(meta.gear, self.setup.geometry.disks()),
+            fill: meta.fill,
+            out: meta.out,
+            spins: meta.spins,
+            halt: None,
+        }
+    }
+
+    /// Tells the state.
+    pub(crate) fn tell_state(&self) -> Answer
+        requires going { halt_of_array self.now ≡ None }
+        ensures turn { GoesOnByEvent R.slot_count R.told self.now self.now AskState result }
+        ensures halt { halt_told result ≡ None }
+        ensures kind { is_answer_to AskState result ≡ true }
+        ensures few { HasFewDisks result }
+    {
+        Answer::State {
+            status: self.status(),
+            disks: self.disks(),
+        }
+    }
+
+    /// Tells the energy since the mount.
+    pub(crate) fn tell_energy(&self) -> Answer
+        requires going { halt_of_array self.now ≡ None }
+        ensures turn { GoesOnByEvent R.slot_count R.told self.now self.now AskEnergy result }
+        ensures halt { halt_told result ≡ None }
+        ensures kind { is_answer_to AskEnergy result ≡ true }
+        ensures few { HasFewDisks result }
+    {
+        Answer::Energy { total: self.energy }
+    }
+
+    // Ends the service of an array that takes no more.
+    pub(crate) fn wear_out(&mut self, count: u64) -> Halt
+        requires going { halt_of_array self.old ≡ None }
+        requires many { 2 ^ 62 ≤ count }
+        requires is { count ≡ max (meta_of (core_of_array self.old)).epoch (meta_of (core_of_array self.old)).writes }
+        ensures turn { (event : EventType) → event ≢ BadEvent → may_halt event ≡ true
+            → GoesOnByEvent R.slot_count R.told self.old self.new event (Halted result) }
+        ensures told { IsSome (told_of_array R.told self.new) → IsSome (told_of_array R.told self.old) }
+        ensures slots { slots_of_array R.slot_count self.new ≡ slots_of_array R.slot_count self.old }
+        ensures setup { setup_of_array self.new ≡ setup_of_array self.old }
+        ensures halt { halt_of_array self.new ≡ Some result }
+    {
+        let gear = self.core.meta().gear;
+        let halt = Halt::Worn { count };
+        self.ended = Some(Ended { halt, gear });
+        halt
+    }
+}

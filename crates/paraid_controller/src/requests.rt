@@ -1,0 +1,146 @@
+//! Reads and writes of an array.
+ghost use Rattle.std.specs.Prelude.{◌≡◌, ◌≢◌, ℕ, ◌+◌, ◌<◌, ◌≤◌, ◌^◌, [], All, None, Option, Some, IsSome, true};
+ghost use Rattle.paraid_base.specs.declared.block.Block.{Block as BlockType};
+ghost use Rattle.paraid_base.specs.declared.event.Event.TheVariants.{Read as ReadEvent, Write as WriteEvent};
+ghost use Rattle.paraid_base.specs.Pairs.{pairs_of};
+ghost use Rattle.paraid_core.specs.Cores.{meta_of};
+ghost use Rattle.paraid_gear.specs.ThreeWindows.{sample_of};
+ghost use Rattle.paraid_machine.specs.Machine.{block_count};
+ghost use Rattle.paraid_serve.specs.Form.{is_answer_to};
+ghost use Rattle.paraid_session.specs.Turn.{halt_told};
+ghost use Rattle.paraid_trace.specs.Replies.{HasFewDisks};
+
+use crate::Array;
+use crate::ended::Ended;
+use crate::refusing::worn;
+use paraid_base::{Answer, Block, BlockNo, Halt, Pairs};
+use paraid_rack::Rack;
+
+/// The greatest sample. More requests are not counted.
+const MOST: u32 = 1048576;
+
+// One request more, of which no more are counted than a sample may have.
+fn one_more(served: u32) -> u32
+    ensures { (n : ℕ) → served ≡ sample_of n → result ≡ sample_of (n + 1) }
+{
+    if served < MOST { served + 1 } else { served }
+}
+
+// The writes that were kept, or all of them where an epoch has begun.
+fn kept_after(kept: u64, writes: u64, before: u64, after: u64) -> u64
+    ensures same { after ≡ before → result ≡ kept }
+    ensures more { after ≡ before + 1 → result ≡ writes }
+{
+    if after == before { kept } else { writes }
+}
+
+impl<R: Rack> Array<R> {
+    ghost use Rattle.paraid_controller.specs.Arrays.{GoesOnByEvent, TellsLossesInOrder, core_of_array, end_of_array, halt_of_array, setup_of_array, slots_of_array, told_of_array};
+
+    // Reads a block that there is.
+    fn read_there(&mut self, block: BlockNo) -> Answer
+        requires going { end_of_array self.old ≡ None }
+        requires epoch { (meta_of (core_of_array self.old)).epoch < 2 ^ 62 }
+        requires writes { (meta_of (core_of_array self.old)).writes < 2 ^ 62 }
+        requires block { block < block_count (setup_of_array self.old) }
+        ensures turn { TellsLossesInOrder R.slot_count R.told self.old self.new result
+            → GoesOnByEvent R.slot_count R.told self.old self.new (ReadEvent block) result }
+        ensures told { IsSome (told_of_array R.told self.new) → IsSome (told_of_array R.told self.old) }
+        ensures slots { slots_of_array R.slot_count self.new ≡ slots_of_array R.slot_count self.old }
+        ensures setup { setup_of_array self.new ≡ setup_of_array self.old }
+        ensures halt { halt_of_array self.new ≡ halt_told result }
+        ensures kind { is_answer_to (ReadEvent block) result ≡ true }
+        ensures few { HasFewDisks result }
+    {
+        let gear = self.core.meta().gear;
+        let epoch = self.core.meta().epoch;
+        let writes = self.core.meta().writes;
+        let mut bytes = Block::zero();
+        match self.core.read(block, &mut bytes) {
+            Ok(()) => {
+                self.served = one_more(self.served);
+                self.kept = kept_after(self.kept, writes, epoch, self.core.meta().epoch);
+                Answer::Value { block, bytes }
+            }
+            Err(two) => {
+                let halt = Halt::Two(two);
+                self.ended = Some(Ended { halt, gear });
+                Answer::Halted(halt)
+            }
+        }
+    }
+
+    // Writes blocks that there are.
+    fn write_there(&mut self, pairs: &Pairs) -> Answer
+        requires going { end_of_array self.old ≡ None }
+        requires epoch { (meta_of (core_of_array self.old)).epoch < 2 ^ 62 }
+        requires writes { (meta_of (core_of_array self.old)).writes < 2 ^ 62 }
+        requires blocks { All (λ (pair : ℕ × BlockType). pair.0 < block_count (setup_of_array self.old)) (pairs_of pairs.now) }
+        ensures turn { TellsLossesInOrder R.slot_count R.told self.old self.new result
+            → GoesOnByEvent R.slot_count R.told self.old self.new (WriteEvent pairs.now) result }
+        ensures told { IsSome (told_of_array R.told self.new) → IsSome (told_of_array R.told self.old) }
+        ensures slots { slots_of_array R.slot_count self.new ≡ slots_of_array R.slot_count self.old }
+        ensures setup { setup_of_array self.new ≡ setup_of_array self.old }
+        ensures halt { halt_of_array self.new ≡ halt_told result }
+        ensures kind { is_answer_to (WriteEvent pairs.now) result ≡ true }
+        ensures few { HasFewDisks result }
+    {
+        let gear = self.core.meta().gear;
+        let epoch = self.core.meta().epoch;
+        let writes = self.core.meta().writes;
+        match self.core.write_many(pairs) {
+            Ok(()) => {
+                self.served = one_more(self.served);
+                self.kept = kept_after(self.kept, writes, epoch, self.core.meta().epoch);
+                Answer::Wrote { number: writes + 1 }
+            }
+            Err(two) => {
+                let halt = Halt::Two(two);
+                self.ended = Some(Ended { halt, gear });
+                Answer::Halted(halt)
+            }
+        }
+    }
+
+    /// Answers a read.
+    pub fn read(&mut self, block: BlockNo) -> Answer
+        requires going { halt_of_array self.old ≡ None }
+        ensures turn { TellsLossesInOrder R.slot_count R.told self.old self.new result
+            → GoesOnByEvent R.slot_count R.told self.old self.new (ReadEvent block) result }
+        ensures told { IsSome (told_of_array R.told self.new) → IsSome (told_of_array R.told self.old) }
+        ensures slots { slots_of_array R.slot_count self.new ≡ slots_of_array R.slot_count self.old }
+        ensures setup { setup_of_array self.new ≡ setup_of_array self.old }
+        ensures halt { halt_of_array self.new ≡ halt_told result }
+        ensures kind { is_answer_to (ReadEvent block) result ≡ true }
+        ensures few { HasFewDisks result }
+    {
+        if let Some(count) = worn(self.core.meta()) {
+            return Answer::Halted(self.wear_out(count));
+        }
+        if block >= self.blocks() {
+            return Answer::NoBlock { block };
+        }
+        self.read_there(block)
+    }
+
+    /// Answers a write.
+    pub fn write(&mut self, pairs: &Pairs) -> Answer
+        requires going { halt_of_array self.old ≡ None }
+        ensures turn { TellsLossesInOrder R.slot_count R.told self.old self.new result
+            → GoesOnByEvent R.slot_count R.told self.old self.new (WriteEvent pairs.now) result }
+        ensures told { IsSome (told_of_array R.told self.new) → IsSome (told_of_array R.told self.old) }
+        ensures slots { slots_of_array R.slot_count self.new ≡ slots_of_array R.slot_count self.old }
+        ensures setup { setup_of_array self.new ≡ setup_of_array self.old }
+        ensures halt { halt_of_array self.new ≡ halt_told result }
+        ensures kind { is_answer_to (WriteEvent pairs.now) result ≡ true }
+        ensures few { HasFewDisks result }
+    {
+        if let Some(count) = worn(self.core.meta()) {
+            return Answer::Halted(self.wear_out(count));
+        }
+        if let Some(block) = pairs.missing(self.blocks()) {
+            return Answer::NoBlock { block };
+        }
+        self.write_there(pairs)
+    }
+}

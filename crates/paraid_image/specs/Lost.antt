@@ -1,0 +1,32 @@
+-- Which disk failed first in some calls, and what is told of two that are lost.
+use Rattle.std.specs.Prelude.{◌≡◌, ◌≢◌, ◌⊎◌, ℕ, ◌==◌, Bool, true, false, List, [], ◌∷◌, Option, Some, None, Result, Ok, Err, if◌then◌else◌}
+use Rattle.paraid_base.specs.declared.fault.Two.{Two}
+use Rattle.paraid_rack.specs.declared.call.Call.{Call}
+use Rattle.paraid_image.specs.Calls.{disk_of, is_done}
+
+-- the disk of the first failed call
+abbrev pub first_lost : List Call → Option ℕ
+first_lost [] = None
+first_lost (call ∷ calls) = if is_done call then first_lost calls else Some (disk_of call)
+
+-- disk `d` failed in one of these calls
+abbrev pub fails_on : ℕ → List Call → Bool
+fails_on d [] = false
+fails_on d (call ∷ calls) = if is_done call then fails_on d calls else (if disk_of call == d then true else fails_on d calls)
+
+-- Two disks are lost: the second failed in these calls; the first was out, or none was, and it failed first.
+pub record TellsLosses (out : Option ℕ) (two : Two) (cs : List Call) : Type 0 where
+  pub second : fails_on two.second cs ≡ true
+  pub apart : two.first ≢ two.second
+  pub first : (out ≡ Some two.first) ⊎ ((out ≡ None) × (first_lost cs ≡ Some two.first))
+
+-- One disk is lost at most: where none was out, the one that is out now is the first that failed in these
+-- calls, and where one was out, it is so still.
+pub record BearsLoss (was now : Option ℕ) (cs : List Call) : Type 0 where
+  pub first : was ≡ None → first_lost cs ≡ now
+  pub stays : (d : ℕ) → was ≡ Some d → now ≡ Some d
+
+-- what is told of a part by its answer
+abbrev pub AnswersLosses : {A : Type 0} → Option ℕ → Option ℕ → Result A Two → List Call → Type 0
+AnswersLosses was now (Ok it) cs = BearsLoss was now cs
+AnswersLosses was now (Err two) cs = TellsLosses was two cs

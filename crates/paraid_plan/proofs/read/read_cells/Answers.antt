@@ -1,0 +1,109 @@
+use Rattle.std.proofs.Common.{◌≡◌, ◌≢◌, ◌+◌, ℕ, true, ◌∙◌, refl, sym, ap, subst, arith, get_or, inl, inr, below_more}
+use Rattle.std.proofs.lemmas.Bool.{cases_eq}
+use Rattle.paraid_base.specs.Cells.{parity_disk}
+use Rattle.paraid_base.specs.Pairs.{pairs_of}
+use Rattle.paraid_base.specs.Sums.{without, xor_upto}
+use Rattle.paraid_base.specs.Xor.{zero_block}
+use Rattle.paraid_base.proofs.CellsLemmas.{parity_disk_below}
+use Rattle.paraid_base.proofs.SumsLemmas.{others_none}
+use Rattle.paraid_plan.specs.Desk.{Desk, sees}
+use Rattle.paraid_plan.specs.RowWrites.{is_changed, parity_part}
+use Rattle.paraid_plan.specs.WriteTargets.{needs_old}
+use Rattle.paraid_image.specs.Value.{value}
+use Rattle.paraid_plan.proofs.PartLemmas.{whole_part}
+use Rattle.paraid_plan.proofs.read.read_cells.Goals as goal
+
+pub loop-d-init : goal.loop-d-init
+loop-d-init g c = record {
+  sum = λ tells needed. c.zero.ensures ∙ others_none _ _;
+  olds = λ tells e l apart changed old. absurd (omega (arith, l));
+  same = λ tells. refl;
+  bits = refl;
+  staged = refl;
+  changes = refl;
+  goes_on = c.requires.serves;
+  leads = g.met.P.Plan.stays c.args.plan.now;
+}
+
+pub loop-d-preserved : goal.loop-d-preserved
+loop-d-preserved g c =
+    let m = c.args.m.now in
+    let n = m.setup.geometry.disks in
+    let p : ℕ = parity_disk n c.args.r in
+    let ws = pairs_of c.args.pairs.now in
+    let before = c.loop-d.invariant in
+    let call = c.in_ok-read_data.ensures in
+    let law = g.met.P.Plan.told c.loop-d.plan c.read_data.new.plan call.leads in
+    record {
+      sum = λ tells needed.
+          subst (λ (z : Desk). c.loop-d.sum ≡ xor_upto (without (parity_part n ws c.args.r (value (sees m z) c.args.r) c.args.anew) p) c.loop-d.d
+          → c.read_data.new.sum ≡ xor_upto (without (parity_part n ws c.args.r (value (sees m z) c.args.r) c.args.anew) p) (c.loop-d.d + 1))
+          (before.same (law tells)) (call.sum tells needed) (before.sum (law tells) needed);
+      olds = λ tells. below_more (λ e. e ≢ p → is_changed n ws c.args.r e ≡ true → needs_old (sees m (g.P.Plan.desk c.args.plan.now)) c.args.r e ≡ true
+          → get_or c.read_data.new.old e zero_block ≡ value (sees m (g.P.Plan.desk c.args.plan.now)) c.args.r e) c.loop-d.d
+          (λ e l apart changed old. call.others e (λ is. absurd (omega (arith, l, is))) ∙ before.olds (law tells) e l apart changed old)
+          (λ apart changed old.
+          subst (λ (z : Desk). needs_old (sees m z) c.args.r c.loop-d.d ≡ true → get_or c.read_data.new.old c.loop-d.d zero_block ≡ value (sees m z) c.args.r c.loop-d.d)
+          (before.same (law tells)) (λ k. call.here tells apart changed k) old);
+      same = λ tells. call.same tells ∙ before.same (law tells);
+      bits = call.bits ∙ before.bits;
+      staged = call.staged ∙ before.staged;
+      changes = call.changes ∙ before.changes;
+      goes_on = call.goes_on;
+      leads = g.met.P.Plan.then _ _ _ before.leads call.leads;
+    }
+
+pub returns-clause-old : goal.returns-clause-old
+returns-clause-old g c tells =
+    let m = c.args.m.now in
+    let n = m.setup.geometry.disks in
+    let ws = pairs_of c.args.pairs.now in
+    let before = c.loop-d.invariant in
+    let call = c.in_ok-read_cell.ensures in
+    let t = g.met.P.Plan.told c.loop-d.plan c.read_cell.new.plan call.leads tells in
+    let p = c.parity_disk-p.result in
+    let past = c.loop-d-test.false in
+    let until = c.loop-d.auto.d-end in
+    record {
+      read = λ e le changed old. elim (cases_eq e c.parity_disk-p.result) [
+        | inl is ↦
+            ap (λ (z : ℕ). get_or c.read_cell.new.old z zero_block) is
+            ∙ subst (λ (z : Desk). needs_old (sees m z) c.args.r c.parity_disk-p.result ≡ true → get_or c.read_cell.new.old c.parity_disk-p.result zero_block ≡ value (sees m z) c.args.r c.parity_disk-p.result)
+            (before.same t) (λ k. call.here tells (subst (λ (z : ℕ). is_changed n ws c.args.r z ≡ true) is changed) k) (subst (λ (z : ℕ). needs_old (sees m (g.P.Plan.desk c.args.plan.now)) c.args.r z ≡ true) is old)
+            ∙ ap (λ (z : ℕ). value (sees m (g.P.Plan.desk c.args.plan.now)) c.args.r z) (sym is)
+        | inr off ↦ call.others e off ∙ before.olds t e (omega (arith, le, past, until)) (λ is. off (is ∙ sym c.parity_disk-p.ensures.value)) changed old
+      ];
+    }
+
+pub returns-clause-sum : goal.returns-clause-sum
+returns-clause-sum g c tells needed =
+    let m = c.args.m.now in
+    let n = m.setup.geometry.disks in
+    let low = m.setup.geometry.disks_low in
+    let ws = pairs_of c.args.pairs.now in
+    let before = c.loop-d.invariant in
+    let call = c.in_ok-read_cell.ensures in
+    let t = g.met.P.Plan.told c.loop-d.plan c.read_cell.new.plan call.leads tells in
+    let past = c.loop-d-test.false in
+    let until = c.loop-d.auto.d-end in
+    let same : c.loop-d.d ≡ n = omega (arith, past, until) in
+    whole_part (parity_part n ws c.args.r (value (sees m (g.P.Plan.desk c.args.plan.now)) c.args.r) c.args.anew) (parity_disk n c.args.r) c.parity_disk-p.result n c.loop-d.d _ _ _
+    c.parity_disk-p.ensures.value (parity_disk_below n c.args.r (omega (arith, low))) same (before.sum t needed)
+    (ap (λ (z : Desk). parity_part n ws c.args.r (value (sees m z) c.args.r) c.args.anew c.parity_disk-p.result) (before.same t)) (call.sum tells needed)
+
+pub returns-clause-same : goal.returns-clause-same
+returns-clause-same g c tells =
+    let call = c.in_ok-read_cell.ensures in
+    call.same tells ∙ c.loop-d.invariant.same (g.met.P.Plan.told c.loop-d.plan c.read_cell.new.plan call.leads tells)
+
+pub returns-clause-leads : goal.returns-clause-leads
+returns-clause-leads g c = g.met.P.Plan.then _ _ _ c.loop-d.invariant.leads c.in_ok-read_cell.ensures.leads
+
+pub returns-in_err-read_data-clause-leads : goal.returns-in_err-read_data-clause-leads
+returns-in_err-read_data-clause-leads g c = g.met.P.Plan.then _ _ _ c.loop-d.invariant.leads c.read_data.ensures.leads
+
+pub returns-in_err-read_cell-clause-leads : goal.returns-in_err-read_cell-clause-leads
+returns-in_err-read_cell-clause-leads g c = g.met.P.Plan.then _ _ _ c.loop-d.invariant.leads c.read_cell.ensures.leads
+
+pub returns-clause-bits : goal.returns-clause-bits
+returns-clause-bits g c = c.in_ok-read_cell.ensures.bits ∙ c.loop-d.invariant.bits

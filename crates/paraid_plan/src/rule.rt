@@ -1,0 +1,54 @@
+//! Which of two rules makes the new parity of a row with fewer reads of the disks. Either makes the
+//! same parity, so that nothing but the number of reads depends on what is chosen here.
+ghost use Rattle.std.specs.Prelude.{◌<◌};
+ghost use Rattle.paraid_record.specs.Range.{IsInRange};
+
+use crate::cell::{is_hard, needs_old};
+use crate::desk::Plan;
+use crate::given::is_changed;
+use paraid_base::{DiskNo, Pairs, Place, Row};
+use paraid_layout::{hard_place, soft_of, soft_place};
+use paraid_record::Meta;
+
+// How many blocks of the disks are read for one of them, of which so many others can be made it.
+fn reads_at<P: Plan>(plan: &P, m: &Meta, disk: DiskNo, place: Place, others: u8) -> u8 {
+    if m.out.names(disk) {
+        return others;
+    }
+    if plan.is_staged(disk, place) { 0 } else { 1 }
+}
+
+// How many blocks of the disks are read for the value of a cell.
+fn reads_of<P: Plan>(plan: &P, m: &Meta, r: Row, d: DiskNo) -> u8
+    requires serves { P.serves plan.now m.now }
+    requires in_range { IsInRange m.now }
+    requires row { r < m.now.setup.geometry.rows }
+    requires disk { d < m.now.setup.geometry.disks }
+{
+    let g = &m.setup.geometry;
+    if is_hard(plan, m, r, d) {
+        return reads_at(plan, m, d, hard_place(g, r), g.disks - 1);
+    }
+    let (s, copy) = soft_of(g, m.gear, r, d);
+    reads_at(plan, m, copy, soft_place(g, m.gear, s), m.gear - 1)
+}
+
+/// Whether the new parity of a row is made of the values of its cells that do not change, and not of
+/// the old values of those that do: where that reads less.
+pub(crate) fn is_made_anew<P: Plan>(plan: &P, m: &Meta, pairs: &Pairs, r: Row) -> bool
+    requires serves { P.serves plan.now m.now }
+    requires in_range { IsInRange m.now }
+    requires row { r < m.now.setup.geometry.rows }
+{
+    let mut old = 0u8;
+    let mut rest = 0u8;
+    for d in 0..m.setup.geometry.disks {
+        let reads = reads_of(plan, m, r, d);
+        if !is_changed(&m.setup.geometry, pairs, r, d) {
+            rest = rest.saturating_add(reads);
+        } else if !needs_old(plan, m, r, d) {
+            old = old.saturating_add(reads);
+        }
+    }
+    rest < old
+}

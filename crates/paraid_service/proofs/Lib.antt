@@ -1,0 +1,2 @@
+pub mod SettledLemmas
+pub mod BeginLemmas

@@ -1,0 +1,55 @@
+use Rattle.paraid_shift.proofs.StepsLemmas.{core_steps_within, steps_or_waits_then}
+use Rattle.std.proofs.Common.{◌≡◌, ◌∙◌, sym, arith, inr, ◌+◌, inl}
+use Rattle.paraid_base.specs.declared.state.Out.TheVariants.{No}
+use Rattle.paraid_core.proofs.AfterLemmas.{handed}
+use Rattle.paraid_shift.proofs.MovingLemmas.{staged_some, up_to_more}
+use Rattle.paraid_shift.proofs.ServingLemmas.{leaves_array_then, two_array}
+use Rattle.paraid_shift.proofs.moving.step_units.Goals as goal
+
+pub returns-in_err-stripes-clause-two : goal.returns-in_err-stripes-clause-two
+returns-in_err-stripes-clause-two g c =
+    handed _ c.from_residual-in_err-stripes.result _ c.from_residual-in_err-stripes.ensures.1
+    (two_array g.R.Rack.slot_count g.R.Rack.slot c.args.core.now c.step_cells.new.core c.step_stripes.new.core c.in_ok-cells.ensures.leaves c.step_stripes.ensures.no_fall _ c.in_err-stripes.ensures.two)
+
+pub returns-in_default-clause-moves : goal.returns-in_default-clause-moves
+returns-in_default-clause-moves g c =
+    let was = c.in_ok-cells.ensures.moves in
+    record {
+      moves = was.moves;
+      all = λ none. absurd (c.in_default.not-No (c.out.ensures ∙ none));
+      ended = was.ended;
+    }
+
+pub returns-then-staged-ne0-clause-moves : goal.returns-then-staged-ne0-clause-moves
+returns-then-staged-ne0-clause-moves g c =
+    let was = c.in_ok-cells.ensures.moves in
+    record {
+      moves = was.moves;
+      all = λ none. inr (was.ended (staged_some c.step_cells.new.core.batch _ c.staged.ensures (omega arith)));
+      ended = was.ended;
+    }
+
+pub returns-clause-leaves : goal.returns-clause-leaves
+returns-clause-leaves g c =
+    leaves_array_then g.R.Rack.slot_count g.R.Rack.slot c.args.core.now c.step_cells.new.core c.step_stripes.new.core c.in_ok-cells.ensures.leaves c.in_ok-stripes.ensures.leaves
+
+pub returns-clause-absent : goal.returns-clause-absent
+returns-clause-absent g c q = c.in_ok-stripes.ensures.absent (c.in_ok-cells.ensures.absent q)
+
+pub returns-clause-moves : goal.returns-clause-moves
+returns-clause-moves g c =
+    let cells = c.in_ok-cells.ensures in
+    let whole : c.step_cells.new.core.meta.out ≡ No = sym c.out.ensures ∙ c.in-No.is in
+    up_to_more g.R.Rack.slot_count c.args.core.now c.step_cells.new.core c.step_stripes.new.core _ c.args.most c.in_ok-cells.cells c.in_ok-stripes.stripes cells.moves.moves whole cells.leaves.setup cells.few c.in_ok-stripes.ensures.moves
+
+pub returns-in_default-clause-steps : goal.returns-in_default-clause-steps
+returns-in_default-clause-steps g c =
+    inl (core_steps_within g.R.Rack.slot_count g.R.Rack.slot g.R.Rack.told c.args.core.now c.step_cells.new.core c.args.most (c.args.most + 1) (omega arith) c.in_ok-cells.ensures.steps)
+
+pub returns-then-staged-ne0-clause-steps : goal.returns-then-staged-ne0-clause-steps
+returns-then-staged-ne0-clause-steps g c =
+    inl (core_steps_within g.R.Rack.slot_count g.R.Rack.slot g.R.Rack.told c.args.core.now c.step_cells.new.core c.args.most (c.args.most + 1) (omega arith) c.in_ok-cells.ensures.steps)
+
+pub returns-clause-steps : goal.returns-clause-steps
+returns-clause-steps g c =
+    steps_or_waits_then g.R.Rack.slot_count g.R.Rack.slot g.R.Rack.told c.args.core.now c.step_cells.new.core c.step_stripes.new.core c.args.most 1 (c.args.most + 1) (omega arith) c.in_ok-cells.ensures.steps c.in_ok-stripes.ensures.steps
