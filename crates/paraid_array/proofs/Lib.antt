@@ -3,3 +3,7 @@ pub mod OutLemmas
 pub mod RefusalLemmas
 pub mod DecisionLemmas
 pub mod MachineLemmas
+pub mod TurnLemmas
+pub mod AskedLemmas
+pub mod TickTurnLemmas
+pub mod RebuildTurnLemmas

@@ -2,3 +2,5 @@ pub mod Service
 pub mod Refusals
 pub mod DiskRefusals
 pub mod TickAnswers
+pub mod Turns
+pub mod TickTurns

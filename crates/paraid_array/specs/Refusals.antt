@@ -12,6 +12,8 @@ use Rattle.paraid_record.specs.declared.meta.Meta.{Meta}
 use Rattle.paraid_record.specs.declared.meta.Setup.{Setup}
 use Rattle.paraid_image.specs.Power.{PowerState}
 use Rattle.paraid_machine.specs.Moves.{first_worn}
+use Rattle.paraid_array.specs.declared.asked.Asked.{Asked}
+use Rattle.paraid_array.specs.declared.asked.Asked.TheVariants.{Begun, Refused}
 use Rattle.paraid_array.specs.declared.fault.ShiftFault.{ShiftFault}
 use Rattle.paraid_array.specs.declared.fault.ShiftFault.TheVariants.{Halt, Lowest, Out, Ration, Shifting, Top}
 
@@ -74,3 +76,8 @@ IsUpRefused setup s Lowest = ⊥
 IsUpRefused setup s (Shifting to) = (next : ℕ) × (next_higher setup.geometry s.gear ≡ Some next) × IsHinderedBy s.phase s.out (Shifting to)
 IsUpRefused setup s (Out d) = (next : ℕ) × (next_higher setup.geometry s.gear ≡ Some next) × IsHinderedBy s.phase s.out (Out d)
 IsUpRefused setup s (Ration d) = ⊥
+
+-- A shift to gear `to` has begun; or it was refused, since a disk is out by the meta after it.
+abbrev pub HasBegunOrLost : Meta → ℕ → Asked → Type 0
+HasBegunOrLost m_then to (Begun gear) = gear ≡ to
+HasBegunOrLost m_then to (Refused fault) = (d : ℕ) × (fault ≡ Out d) × (named_out m_then.out ≡ Some d)

@@ -1,19 +1,47 @@
 //! A disk is taken out.
-ghost use Rattle.std.specs.Prelude.{◌≡◌, ℕ, ◌^◌, ◌<◌, ◌≤◌, ◌⊎◌, None, Ok, Some, OnOk, IfErr, IfOk, IfSome};
+ghost use Rattle.std.specs.Prelude.{◌≡◌, ℕ, ◌+◌, ◌^◌, ◌<◌, ◌≤◌, ◌⊎◌, [], None, Ok, Some, OnOk, IfErr, IfOk, IfSome};
+ghost use Rattle.paraid_base.specs.declared.event.Event.TheVariants.{Fail as FailEvent};
 ghost use Rattle.paraid_base.specs.declared.state.Out.TheVariants.{Gone};
-ghost use Rattle.paraid_core.specs.Cores.{core_down, core_rack, meta_of};
+ghost use Rattle.paraid_core.specs.Cores.{batch_of, core_down, core_rack, core_table, meta_of};
+ghost use Rattle.paraid_core.specs.Down.{IsDownAfter};
 ghost use Rattle.paraid_core.specs.Steps.{AreUnsyncedCopied};
 ghost use Rattle.paraid_array.specs.declared.fault.FailFault.TheVariants.{NoDisk, Out as OutFault};
 ghost use Rattle.paraid_array.specs.DiskRefusals.{IsFailRefused};
 ghost use Rattle.paraid_array.specs.Service.{IsInService, IsOutKnown};
-ghost use Rattle.paraid_txn.specs.Losses.{AreTwoDownBeside, OnlyLosesSlots};
+ghost use Rattle.paraid_array.specs.Turns.{CanMarkTaken, CoreCommits, CoreCommitsTaken, CoreGoesOn, CoreHalts, CoreLosesCommit, CoreLosesTaken, fail_answer};
+ghost use Rattle.paraid_txn.specs.Losses.{AreTwoDown, AreTwoDownBeside, OnlyLosesSlots};
 ghost use Rattle.paraid_image.specs.Out.{named_out};
 
 use crate::fault::FailFault;
-use crate::requests::flush;
 use paraid_base::{DiskNo, Two};
 use paraid_core::Core;
 use paraid_rack::Rack;
+
+// Commits all writes, also where nothing is staged: they are kept, and counted, before a disk is taken out, whatever is lost
+// as it is marked.
+fn commit_writes<R: Rack>(core: &mut Core<R>) -> Result<(), Two>
+    requires service { IsInService R.slot_count R.slot core.old }
+    requires epoch { (meta_of core.old).epoch < 2 ^ 62 }
+    ensures service { OnOk result (IsInService R.slot_count R.slot core.new) }
+    ensures known { OnOk result (IsOutKnown R.slot core.old → IsOutKnown R.slot core.new) }
+    ensures unsynced { OnOk result (AreUnsyncedCopied R.slot core.old → AreUnsyncedCopied R.slot core.new) }
+    ensures nothing { OnOk result (batch_of core.new ≡ []) }
+    ensures table { core_table core.new ≡ core_table core.old }
+    ensures slots { R.slot_count (core_rack core.new) ≡ R.slot_count (core_rack core.old) }
+    ensures spared { OnlyLosesSlots (R.slot (core_rack core.old)) (R.slot (core_rack core.new)) }
+    ensures down { OnOk result (IsDownAfter (core_down core.old) (core_down core.new)
+        (R.slot (core_rack core.old)) (R.slot (core_rack core.new))) }
+    ensures setup { OnOk result ((meta_of core.new).setup ≡ (meta_of core.old).setup) }
+    ensures writes { OnOk result ((meta_of core.new).writes ≡ (meta_of core.old).writes) }
+    ensures epoch { OnOk result ((meta_of core.new).epoch ≡ (meta_of core.old).epoch + 1) }
+    ensures commits { OnOk result (CoreCommits R.slot_count R.told core.old core.new) }
+    ensures loses { IfErr result (λ two. CoreLosesCommit R.slot_count R.told core.old core.new two) }
+    ensures two { IfErr result (AreTwoDown (core_down core.old)
+        (R.slot (core_rack core.old)) (R.slot (core_rack core.new))) }
+{
+    core.commit()?;
+    Ok(())
+}
 
 // Marks a disk as gone, where no other one is out, and commits that.
 fn mark_gone<R: Rack>(core: &mut Core<R>, disk: DiskNo) -> Result<(), Two>
@@ -27,6 +55,13 @@ fn mark_gone<R: Rack>(core: &mut Core<R>, disk: DiskNo) -> Result<(), Two>
     ensures unsynced { OnOk result (AreUnsyncedCopied R.slot core.old → AreUnsyncedCopied R.slot core.new) }
     ensures known { OnOk result (IsOutKnown R.slot core.new) }
     ensures gone { OnOk result ((meta_of core.new).out ≡ Gone disk) }
+    ensures table { core_table core.new ≡ core_table core.old }
+    ensures slots { R.slot_count (core_rack core.new) ≡ R.slot_count (core_rack core.old) }
+    ensures epoch { OnOk result ((meta_of core.new).epoch ≡ (meta_of core.old).epoch + 1) }
+    // In an event the mark is one in memory, and is committed.
+    ensures marks { CanMarkTaken R.slot_count R.told core.old disk }
+    ensures commits { OnOk result (CoreCommitsTaken R.slot_count R.told core.old core.new disk) }
+    ensures loses { IfErr result (λ two. CoreLosesTaken R.slot_count R.told core.old core.new disk two) }
     ensures spared { OnlyLosesSlots (R.slot (core_rack core.old)) (R.slot (core_rack core.new)) }
     ensures two { IfErr result (AreTwoDownBeside (λ d. (core_down core.old ≡ Some d) ⊎ (d ≡ disk))
         (R.slot (core_rack core.old)) (R.slot (core_rack core.new))) }
@@ -36,7 +71,7 @@ fn mark_gone<R: Rack>(core: &mut Core<R>, disk: DiskNo) -> Result<(), Two>
     Ok(())
 }
 
-/// Takes a disk out, unless it is refused: where there is no such disk, or one is out. What is staged is committed
+/// Takes a disk out, unless it is refused: where there is no such disk, or one is out. All writes are committed
 /// first; another disk that is lost in that refuses it too. It gives the refusal.
 pub fn take_out<R: Rack>(core: &mut Core<R>, disk: DiskNo) -> Result<Option<FailFault>, Two>
     requires service { IsInService R.slot_count R.slot core.old }
@@ -55,6 +90,13 @@ pub fn take_out<R: Rack>(core: &mut Core<R>, disk: DiskNo) -> Result<Option<Fail
         (IsFailRefused (meta_of core.old) (meta_of core.new) disk)) }
     ensures taken { result ≡ Ok None → (disk < (meta_of core.old).setup.geometry.disks)
         × (named_out (meta_of core.old).out ≡ None) × ((meta_of core.new).out ≡ Gone disk) }
+    ensures slots { R.slot_count (core_rack core.new) ≡ R.slot_count (core_rack core.old) }
+    ensures table { core_table core.new ≡ core_table core.old }
+    ensures epoch { OnOk result ((meta_of core.new).epoch ≤ (meta_of core.old).epoch + 2) }
+    // It is an event of a session.
+    ensures turn { IfOk result (λ refusal. CoreGoesOn R.slot_count R.told core.old core.new
+        (FailEvent disk) (fail_answer disk refusal)) }
+    ensures halts { IfErr result (λ two. CoreHalts R.slot_count R.told core.old core.new (FailEvent disk) two) }
     // The first of two disks may be the one that is taken out.
     ensures two { IfErr result (AreTwoDownBeside (λ d. (core_down core.old ≡ Some d) ⊎ (d ≡ disk))
         (R.slot (core_rack core.old)) (R.slot (core_rack core.new))) }
@@ -65,7 +107,7 @@ pub fn take_out<R: Rack>(core: &mut Core<R>, disk: DiskNo) -> Result<Option<Fail
     if let Some(out) = core.out().named() {
         return Ok(Some(FailFault::Out { disk: out }));
     }
-    flush(core)?;
+    commit_writes(core)?;
     if let Some(out) = core.out().named() {
         if out != disk {
             return Ok(Some(FailFault::Out { disk: out }));

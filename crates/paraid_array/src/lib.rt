@@ -4,6 +4,7 @@
 //! loss or wear is for the array that is to stand on these.
 #![tactic(auto)]
 
+mod asked;
 mod failing;
 mod fault;
 mod laws;
@@ -12,9 +13,10 @@ mod replacing;
 mod requests;
 mod shifts;
 
+pub use asked::{Asked, down, up};
 pub use failing::take_out;
 pub use fault::{FailFault, ReplaceFault, ShiftFault};
 pub use laws::a_shift_is_answered_by_the_machine;
 pub use replacing::replace;
 pub use requests::{flush, read, write_many};
-pub use shifts::{Asked, advance, down, gear_above, gear_below, up};
+pub use shifts::{advance, gear_above, gear_below};

@@ -1,13 +1,17 @@
 //! A disk that is out is replaced, and the ticks of its rebuild.
-ghost use Rattle.std.specs.Prelude.{◌≡◌, ℕ, ◌+◌, ◌^◌, ◌<◌, ◌≤◌, true, false, [], None, Ok, Some, OnOk, IfOk, IfErr};
+ghost use Rattle.std.specs.Prelude.{◌≡◌, ℕ, ◌+◌, ◌^◌, ◌<◌, ◌≤◌, true, false, [], None, Ok, Some, OnOk, IfOk, IfErr, if◌then◌else◌};
 ghost use Rattle.paraid_base.specs.declared.state.Out.TheVariants.{Fresh, Gone, No};
-ghost use Rattle.paraid_base.specs.declared.state.TickEvent.TheVariants.{Gone as GoneInTick, Rebuilt};
+ghost use Rattle.paraid_base.specs.declared.state.TickEvent.TheVariants.{Gone as GoneInTick, Moving, Rebuilt};
 ghost use Rattle.paraid_base.specs.States.{rebuilt_count};
 ghost use Rattle.paraid_base.specs.Told.{HasRisen};
-ghost use Rattle.paraid_core.specs.Cores.{batch_of, core_down, core_rack, meta_of, store_of};
+ghost use Rattle.paraid_core.specs.Cores.{batch_of, core_down, core_rack, core_table, meta_of, store_of};
 ghost use Rattle.paraid_core.specs.Units.{IsRebuilding};
 ghost use Rattle.paraid_array.specs.Service.{IsOutKnown};
-ghost use Rattle.paraid_array.specs.TickAnswers.{TellsRebuild};
+ghost use Rattle.paraid_array.specs.TickAnswers.{TellsRebuild, units_unbuilt};
+ghost use Rattle.paraid_array.specs.TickTurns.{CoreComesBack, CoreLosesComing, CoreParksBack};
+ghost use Rattle.paraid_array.specs.Turns.{CoreTickHalts, CoreTicks};
+ghost use Rattle.paraid_gear.specs.declared.windows.Windows.{Windows as WindowsType};
+ghost use Rattle.paraid_image.specs.Mark.{meta_after_loss};
 ghost use Rattle.paraid_rack.specs.declared.call.Power.TheVariants.{Spinning};
 ghost use Rattle.paraid_record.specs.Range.{rebuild_units as units_of_rebuild};
 ghost use Rattle.paraid_shift.specs.Serving.{IsCoreServing, LeavesArray};
@@ -35,12 +39,20 @@ fn park_back<R: Rack>(core: &mut Core<R>, disk: DiskNo) -> Result<bool, Two>
     ensures gone { result ≡ Ok false → (meta_of core.new).out ≡ Gone disk }
     ensures failed { result ≡ Ok false
         → HasRisen (R.slot (core_rack core.old) disk).faults (R.slot (core_rack core.new) disk).faults }
+    ensures same { result ≡ Ok true → meta_of core.new ≡ meta_of core.old }
+    ensures marked { result ≡ Ok false → meta_of core.new ≡ meta_after_loss (meta_of core.old) disk }
+    ensures table { core_table core.new ≡ core_table core.old }
+    // In the event of a tick it is the park with which a rebuild ends; no second disk is lost in one call.
+    ensures parks { OnOk result (CoreParksBack R.slot_count R.told core.old core.new disk) }
+    ensures alone { IfErr result (λ two. R.told (core_rack core.new) ≡ None) }
     ensures no_fall { (d : ℕ) → (R.slot (core_rack core.old) d).faults ≤ (R.slot (core_rack core.new) d).faults }
     ensures two { IfErr result (AreTwoDown (core_down core.old)
         (R.slot (core_rack core.old)) (R.slot (core_rack core.new))) }
 {
-    let meta = core.meta();
-    if disk < meta.gear || disk < meta.phase.rising_to() {
+    if disk < core.meta().gear {
+        return Ok(true);
+    }
+    if disk < core.meta().phase.rising_to() {
         return Ok(true);
     }
     let parked = core.park(disk)?;
@@ -66,6 +78,14 @@ fn come_back<R: Rack>(core: &mut Core<R>, disk: DiskNo) -> Result<bool, Two>
     ensures gone { result ≡ Ok false → (meta_of core.new).out ≡ Gone disk }
     ensures failed { result ≡ Ok false
         → HasRisen (R.slot (core_rack core.old) disk).faults (R.slot (core_rack core.new) disk).faults }
+    ensures rejoined { result ≡ Ok true → meta_of core.new ≡ record (meta_of core.old)
+        { epoch = (meta_of core.new).epoch; out = No } }
+    ensures marked { result ≡ Ok false → meta_of core.new
+        ≡ record (meta_after_loss (meta_of core.old) disk) { epoch = (meta_of core.new).epoch } }
+    ensures table { OnOk result (core_table core.new ≡ core_table core.old) }
+    // In the event of a tick these are the calls with which a rebuild ends.
+    ensures comes { IfOk result (λ back. CoreComesBack R.slot_count R.told core.old core.new disk back) }
+    ensures loses { IfErr result (λ two. CoreLosesComing R.slot_count R.told core.old core.new disk two) }
     ensures no_fall { (d : ℕ) → (R.slot (core_rack core.old) d).faults ≤ (R.slot (core_rack core.new) d).faults }
     ensures two { IfErr result (AreTwoDown (core_down core.old)
         (R.slot (core_rack core.old)) (R.slot (core_rack core.new))) }
@@ -93,6 +113,16 @@ fn end_rebuild<R: Rack>(core: &mut Core<R>, disk: DiskNo) -> Result<bool, Two>
     ensures gone { result ≡ Ok false → (meta_of core.new).out ≡ Gone disk }
     ensures failed { result ≡ Ok false
         → HasRisen (R.slot (core_rack core.old) disk).faults (R.slot (core_rack core.new) disk).faults }
+    // It is a tick of a session, with so many units as were left.
+    ensures turn { IfOk result (λ back. (rebuilt : ℕ) (windows : WindowsType) → (meta_of core.old).out ≡ Fresh disk rebuilt
+        → units_unbuilt (meta_of core.old) disk rebuilt ≤ (meta_of core.old).setup.rate
+        → CoreTicks R.slot_count R.told windows core.old core.new (record {
+          gear = (meta_of core.new).gear;
+          moved = if back then units_unbuilt (meta_of core.old) disk rebuilt else 0;
+          event = if back then Rebuilt disk else GoneInTick disk;
+        })) }
+    ensures halts { IfErr result (λ two. (rebuilt : ℕ) (windows : WindowsType) → (meta_of core.old).out ≡ Fresh disk rebuilt
+        → CoreTickHalts R.slot_count R.told windows core.old core.new two) }
     ensures no_fall { (d : ℕ) → (R.slot (core_rack core.old) d).faults ≤ (R.slot (core_rack core.new) d).faults }
     ensures two { IfErr result (AreTwoDown (core_down core.old)
         (R.slot (core_rack core.old)) (R.slot (core_rack core.new))) }
@@ -121,6 +151,17 @@ fn move_units<R: Rack>(core: &mut Core<R>, disk: DiskNo, end: u32) -> Result<boo
     ensures gone { result ≡ Ok false → (meta_of core.new).out ≡ Gone disk }
     ensures failed { result ≡ Ok false
         → HasRisen (R.slot (core_rack core.old) disk).faults (R.slot (core_rack core.new) disk).faults }
+    // It is a tick of a session, where the rate leaves some units.
+    ensures turn { IfOk result (λ moved. (rebuilt : ℕ) (windows : WindowsType) → (meta_of core.old).out ≡ Fresh disk rebuilt
+        → (meta_of core.old).setup.rate < units_unbuilt (meta_of core.old) disk rebuilt
+        → end ≡ rebuilt + (meta_of core.old).setup.rate
+        → CoreTicks R.slot_count R.told windows core.old core.new (record {
+          gear = (meta_of core.new).gear;
+          moved = if moved then (meta_of core.old).setup.rate else 0;
+          event = if moved then Moving else GoneInTick disk;
+        })) }
+    ensures halts { IfErr result (λ two. (rebuilt : ℕ) (windows : WindowsType) → (meta_of core.old).out ≡ Fresh disk rebuilt
+        → CoreTickHalts R.slot_count R.told windows core.old core.new two) }
     ensures no_fall { (d : ℕ) → (R.slot (core_rack core.old) d).faults ≤ (R.slot (core_rack core.new) d).faults }
     ensures two { IfErr result (AreTwoDown (core_down core.old)
         (R.slot (core_rack core.old)) (R.slot (core_rack core.new))) }
@@ -151,6 +192,11 @@ pub(crate) fn rebuild<R: Rack>(
     ensures gone { IfOk result (λ done. done.1 ≡ GoneInTick disk → (meta_of core.new).out ≡ Gone disk) }
     ensures failed { IfOk result (λ done. done.1 ≡ GoneInTick disk
         → HasRisen (R.slot (core_rack core.old) disk).faults (R.slot (core_rack core.new) disk).faults) }
+    // It is a tick of a session.
+    ensures turn { IfOk result (λ done. (windows : WindowsType) → CoreTicks R.slot_count R.told windows core.old core.new
+        (record { gear = (meta_of core.new).gear; moved = done.0; event = done.1 })) }
+    ensures halts { IfErr result (λ two. (windows : WindowsType)
+        → CoreTickHalts R.slot_count R.told windows core.old core.new two) }
     ensures no_fall { (d : ℕ) → (R.slot (core_rack core.old) d).faults ≤ (R.slot (core_rack core.new) d).faults }
     ensures two { IfErr result (AreTwoDown (core_down core.old)
         (R.slot (core_rack core.old)) (R.slot (core_rack core.new))) }

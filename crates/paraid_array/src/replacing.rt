@@ -1,11 +1,13 @@
 //! A disk that is out is replaced by a fresh one.
 ghost use Rattle.std.specs.Prelude.{◌≡◌, ◌≢◌, ℕ, ◌^◌, ◌<◌, ◌≤◌, ◌⊎◌, None, Ok, Some, IsSome, OnOk, IfErr, IfOk, IfSome};
+ghost use Rattle.paraid_base.specs.declared.event.Event.TheVariants.{Replace as ReplaceEvent};
 ghost use Rattle.paraid_base.specs.declared.state.Out.TheVariants.{Fresh, Gone};
 ghost use Rattle.paraid_base.specs.Told.{HasRisen};
 ghost use Rattle.paraid_core.specs.Cores.{core_down, core_rack, meta_of};
 ghost use Rattle.paraid_array.specs.declared.fault.ReplaceFault.TheVariants.{NoDisk, NoFresh, NotOut};
 ghost use Rattle.paraid_array.specs.DiskRefusals.{IsReplaceRefused};
 ghost use Rattle.paraid_array.specs.Service.{IsOutKnown};
+ghost use Rattle.paraid_array.specs.Turns.{CoreGoesOn, CoreHalts, replace_answer};
 ghost use Rattle.paraid_image.specs.Out.{named_out};
 ghost use Rattle.paraid_rebuild.specs.Replacing.{IsReplacedFrom, LeavesArrayBut};
 ghost use Rattle.paraid_shift.specs.Serving.{IsCoreServing};
@@ -22,6 +24,7 @@ fn bring<R: Rack>(core: &mut Core<R>, disk: DiskNo) -> Result<Option<ReplaceFaul
     requires serving { IsCoreServing R.slot_count R.slot core.old }
     requires known { IsOutKnown R.slot core.old }
     requires out { named_out (meta_of core.old).out ≡ Some disk }
+    requires disk { disk < (meta_of core.old).setup.geometry.disks }
     requires epoch { (meta_of core.old).epoch < 2 ^ 62 }
     ensures serving { OnOk result (IsCoreServing R.slot_count R.slot core.new) }
     ensures known { OnOk result (IsOutKnown R.slot core.new) }
@@ -34,6 +37,10 @@ fn bring<R: Rack>(core: &mut Core<R>, disk: DiskNo) -> Result<Option<ReplaceFaul
     ensures refused { IfOk result (λ refusal. IfSome refusal (λ fault. fault ≡ NoFresh disk)) }
     ensures no_disk { result ≢ Ok (Some (NoDisk disk)) }
     ensures not_out { result ≢ Ok (Some (NotOut disk)) }
+    // It is an event of a session.
+    ensures turn { IfOk result (λ refusal. CoreGoesOn R.slot_count R.told core.old core.new
+        (ReplaceEvent disk) (replace_answer disk refusal)) }
+    ensures halts { IfErr result (λ two. CoreHalts R.slot_count R.told core.old core.new (ReplaceEvent disk) two) }
     ensures two { IfErr result (AreTwoDown (core_down core.old)
         (R.slot (core_rack core.old)) (R.slot (core_rack core.new))) }
 {
@@ -71,6 +78,10 @@ pub fn replace<R: Rack>(core: &mut Core<R>, disk: DiskNo) -> Result<Option<Repla
     // After another refusal nothing has changed.
     ensures no_disk { result ≡ Ok (Some (NoDisk disk)) → core.new ≡ core.old }
     ensures not_out { result ≡ Ok (Some (NotOut disk)) → core.new ≡ core.old }
+    // It is an event of a session.
+    ensures turn { IfOk result (λ refusal. CoreGoesOn R.slot_count R.told core.old core.new
+        (ReplaceEvent disk) (replace_answer disk refusal)) }
+    ensures halts { IfErr result (λ two. CoreHalts R.slot_count R.told core.old core.new (ReplaceEvent disk) two) }
     ensures two { IfErr result (AreTwoDown (core_down core.old)
         (R.slot (core_rack core.old)) (R.slot (core_rack core.new))) }
 {

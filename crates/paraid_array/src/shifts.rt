@@ -1,19 +1,21 @@
-//! Shifts that are asked for, and those that a tick begins or moves.
+//! When a shift may begin, and those that a tick begins or moves.
 ghost use Rattle.std.specs.Prelude.{◌≡◌, ◌≢◌, ℕ, ◌+◌, ◌^◌, ◌<◌, ◌≤◌, [], List, Ok, OnOk, IfOk, IfErr, slice_index};
 ghost use Rattle.paraid_base.specs.declared.state.Out.TheVariants.{Fresh, Gone, No};
 ghost use Rattle.paraid_base.specs.declared.state.TickEvent.TheVariants.{Gone as GoneInTick, Ration as WornInTick, Rebuilt, Waiting};
 ghost use Rattle.paraid_base.specs.Told.{HasRisen};
 ghost use Rattle.paraid_base.specs.declared.state.Phase.TheVariants.{Steady};
 ghost use Rattle.paraid_core.specs.Cores.{core_down, core_rack, meta_of};
-ghost use Rattle.paraid_array.specs.declared.fault.ShiftFault.{ShiftFault as ShiftFaultType};
 ghost use Rattle.paraid_array.specs.declared.fault.ShiftFault.TheVariants.{Ration as Worn};
-ghost use Rattle.paraid_array.specs.declared.shifts.Asked.TheVariants.{Refused};
 ghost use Rattle.paraid_array.specs.Refusals.{IsDownRefused, IsHinderedBy, IsShiftStateOf, IsUpRefused, MayGoDown, MayGoUp};
 ghost use Rattle.paraid_array.specs.Service.{IsOutKnown};
 ghost use Rattle.paraid_array.specs.TickAnswers.{IsIdleTick, TellsDecision, TellsMove, TellsRebuild};
+ghost use Rattle.paraid_array.specs.TickTurns.{AreUnitsOfTick};
+ghost use Rattle.paraid_array.specs.Turns.{CoreTickHalts, CoreTicks};
 ghost use Rattle.paraid_gear.specs.Decision.{decision};
 ghost use Rattle.paraid_gear.specs.ThreeWindows.{HoldLastSamples, lengths_of};
+ghost use Rattle.paraid_gear.specs.declared.windows.Windows.{Windows as WindowsType};
 ghost use Rattle.paraid_image.specs.Power.{PowerState};
+ghost use Rattle.paraid_machine.specs.Moves.{units_by};
 ghost use Rattle.paraid_record.specs.Range.{AreNextGears, IsInRange, allowed_spins};
 ghost use Rattle.paraid_shift.specs.Serving.{IsCoreServing, LeavesArray};
 ghost use Rattle.paraid_txn.specs.Losses.{AreTwoDown};
@@ -26,7 +28,7 @@ use paraid_gear::{Decision, Windows};
 use paraid_rack::Rack;
 use paraid_ration::{allowance, may_park};
 use paraid_record::{Meta, Mode};
-use paraid_shift::{begin_down, begin_up, commit_staged, flip, is_done, step, units_left};
+use paraid_shift::{begin_down, begin_up, flip, is_done, step, units_left};
 
 // A shift under way, or a disk that is out.
 fn hindrance(meta: &Meta) -> Result<(), ShiftFault>
@@ -87,91 +89,44 @@ pub fn gear_above(meta: &Meta) -> Result<u8, ShiftFault>
     Ok(to)
 }
 
-/// What came of a shift that was asked for.
-#[derive(Clone, Copy, Debug, PartialEq, Eq)]
-pub enum Asked {
-    /// It has begun.
-    Begun { to: u8 },
-    /// It has not.
-    Refused(ShiftFault),
-}
-
-/// Begins a shift to the next lower gear, unless it is refused. What is staged is committed first; a disk that is lost in
-/// that refuses it too.
-pub fn down<R: Rack>(core: &mut Core<R>) -> Result<Asked, Two>
-    requires serving { IsCoreServing R.slot_count R.slot core.old }
-    requires epoch { (meta_of core.old).epoch < 2 ^ 62 }
-    ensures serving { OnOk result (IsCoreServing R.slot_count R.slot core.new) }
-    ensures leaves { OnOk result (LeavesArray R.slot_count R.slot core.old core.new) }
-    // Where the machine refuses it, this is its refusal, and nothing changes.
-    ensures refused { (fault : ShiftFaultType) (s : PowerState) → IsShiftStateOf (meta_of core.old) s
-        → IsDownRefused (meta_of core.old).setup s fault → (result ≡ Ok (Refused fault)) × (core.new ≡ core.old) }
-    // With a disk out nothing changes.
-    ensures out { (meta_of core.old).out ≢ No → core.new ≡ core.old }
-    ensures no_fall { (d : ℕ) → (R.slot (core_rack core.old) d).faults ≤ (R.slot (core_rack core.new) d).faults }
-    ensures two { IfErr result (AreTwoDown (core_down core.old)
-        (R.slot (core_rack core.old)) (R.slot (core_rack core.new))) }
+// How many of so many units that are left a tick moves: all of a shift up in whole mode, else as many as the rate says.
+fn units_among(meta: &Meta, left: u32) -> u32
+    ensures units { result ≡ units_by meta.now.setup.mode meta.now.phase meta.now.setup.rate left }
 {
-    if let Err(fault) = gear_below(core.meta()) {
-        return Ok(Asked::Refused(fault));
-    }
-    commit_staged(core)?;
-    match gear_below(core.meta()) {
-        Ok(to) => {
-            begin_down(core, to)?;
-            Ok(Asked::Begun { to })
-        }
-        Err(fault) => Ok(Asked::Refused(fault)),
+    match meta.setup.mode {
+        Mode::Access => meta.setup.rate.min(left),
+        Mode::Whole => match meta.phase {
+            Phase::Up { .. } => left,
+            Phase::Down { .. } => meta.setup.rate.min(left),
+            Phase::Steady => meta.setup.rate.min(left),
+        },
     }
 }
 
-/// Begins a shift to the next higher gear, likewise.
-pub fn up<R: Rack>(core: &mut Core<R>) -> Result<Asked, Two>
-    requires serving { IsCoreServing R.slot_count R.slot core.old }
-    requires epoch { (meta_of core.old).epoch < 2 ^ 62 }
-    ensures serving { OnOk result (IsCoreServing R.slot_count R.slot core.new) }
-    ensures leaves { OnOk result (LeavesArray R.slot_count R.slot core.old core.new) }
-    // Where the machine refuses it, this is its refusal, and nothing changes.
-    ensures refused { (fault : ShiftFaultType) (s : PowerState) → IsShiftStateOf (meta_of core.old) s
-        → IsUpRefused (meta_of core.old).setup s fault → (result ≡ Ok (Refused fault)) × (core.new ≡ core.old) }
-    // With a disk out nothing changes.
-    ensures out { (meta_of core.old).out ≢ No → core.new ≡ core.old }
-    ensures no_fall { (d : ℕ) → (R.slot (core_rack core.old) d).faults ≤ (R.slot (core_rack core.new) d).faults }
-    ensures two { IfErr result (AreTwoDown (core_down core.old)
-        (R.slot (core_rack core.old)) (R.slot (core_rack core.new))) }
-{
-    if let Err(fault) = gear_above(core.meta()) {
-        return Ok(Asked::Refused(fault));
-    }
-    commit_staged(core)?;
-    match gear_above(core.meta()) {
-        Ok(to) => {
-            begin_up(core, to)?;
-            Ok(Asked::Begun { to })
-        }
-        Err(fault) => Ok(Asked::Refused(fault)),
-    }
-}
-
-// How many units of a shift a tick moves: all of a shift up in whole mode, else as many as the rate says.
+// How many units of a shift a tick moves.
 fn units_of_tick<R: Rack>(core: &Core<R>) -> u32
     requires serving { IsCoreServing R.slot_count R.slot core.now }
+    ensures units { AreUnitsOfTick R.slot_count core.now result }
 {
     let left = units_left(core);
-    let setup = &core.meta().setup;
-    if let (Mode::Whole, Phase::Up { .. }) = (setup.mode, core.meta().phase) {
-        return left;
-    }
-    left.min(setup.rate)
+    units_among(core.meta(), left)
 }
 
 // The tick of a shift under way: it moves units, and ends the shift with the last of them.
 fn move_on<R: Rack>(core: &mut Core<R>) -> Result<(u32, TickEvent), Two>
     requires serving { IsCoreServing R.slot_count R.slot core.old }
     requires epoch { (meta_of core.old).epoch < 2 ^ 62 }
+    requires whole { (meta_of core.old).out ≡ No }
+    requires shifts { (meta_of core.old).phase ≢ Steady }
     ensures serving { OnOk result (IsCoreServing R.slot_count R.slot core.new) }
     ensures tells { IfOk result (λ done. TellsMove (meta_of core.new) done.1) }
     ensures leaves { OnOk result (LeavesArray R.slot_count R.slot core.old core.new) }
+    ensures known { OnOk result (IsOutKnown R.slot core.new) }
+    // It is a tick of a session.
+    ensures turn { IfOk result (λ done. (windows : WindowsType) → CoreTicks R.slot_count R.told windows core.old core.new
+        (record { gear = (meta_of core.new).gear; moved = done.0; event = done.1 })) }
+    ensures halts { IfErr result (λ two. (windows : WindowsType)
+        → CoreTickHalts R.slot_count R.told windows core.old core.new two) }
     ensures no_fall { (d : ℕ) → (R.slot (core_rack core.old) d).faults ≤ (R.slot (core_rack core.new) d).faults }
     ensures two { IfErr result (AreTwoDown (core_down core.old)
         (R.slot (core_rack core.old)) (R.slot (core_rack core.new))) }
@@ -185,7 +140,7 @@ fn move_on<R: Rack>(core: &mut Core<R>) -> Result<(u32, TickEvent), Two>
         )),
         Out::No => {}
     }
-    if core.meta().phase.to() == 0 || !is_done(core) {
+    if !is_done(core) {
         return Ok((moved.units, TickEvent::Moving));
     }
     flip(core)?;
@@ -217,6 +172,11 @@ fn decide<R: Rack>(core: &mut Core<R>, windows: &Windows) -> Result<TickEvent, T
         → (s : PowerState) → IsShiftStateOf (meta_of core.old) s
         → TellsDecision (meta_of core.old).setup s (decision (meta_of core.old).setup s.gear samples) event) }
     ensures idle { IfOk result (λ event. IsIdleTick event → core.new ≡ core.old) }
+    ensures known { OnOk result (IsOutKnown R.slot core.new) }
+    // It is a tick of a session.
+    ensures turn { IfOk result (λ event. CoreTicks R.slot_count R.told windows.now core.old core.new
+        (record { gear = (meta_of core.new).gear; moved = 0; event = event })) }
+    ensures halts { IfErr result (λ two. CoreTickHalts R.slot_count R.told windows.now core.old core.new two) }
     ensures no_fall { (d : ℕ) → (R.slot (core_rack core.old) d).faults ≤ (R.slot (core_rack core.new) d).faults }
     ensures two { IfErr result (AreTwoDown (core_down core.old)
         (R.slot (core_rack core.old)) (R.slot (core_rack core.new))) }
@@ -249,7 +209,11 @@ pub fn advance<R: Rack>(core: &mut Core<R>, windows: &Windows) -> Result<(u32, T
     requires lengths { lengths_of windows.now ≡ (meta_of core.old).setup.windows }
     ensures serving { OnOk result (IsCoreServing R.slot_count R.slot core.new) }
     ensures leaves { OnOk result (LeavesArray R.slot_count R.slot core.old core.new) }
-    ensures known { OnOk result ((meta_of core.old).out ≢ No → IsOutKnown R.slot core.new) }
+    ensures known { OnOk result (IsOutKnown R.slot core.new) }
+    // It is a tick of a session, whether it ends or a second disk is lost in it.
+    ensures turn { IfOk result (λ done. CoreTicks R.slot_count R.told windows.now core.old core.new
+        (record { gear = (meta_of core.new).gear; moved = done.0; event = done.1 })) }
+    ensures halts { IfErr result (λ two. CoreTickHalts R.slot_count R.told windows.now core.old core.new two) }
     // With a disk gone it waits, and nothing changes.
     ensures waits { (d : ℕ) → (meta_of core.old).out ≡ Gone d → (result ≡ Ok (0, Waiting)) × (core.new ≡ core.old) }
     ensures rebuilds { IfOk result (λ done. (d u : ℕ) → (meta_of core.old).out ≡ Fresh d u
@@ -280,10 +244,14 @@ pub fn advance<R: Rack>(core: &mut Core<R>, windows: &Windows) -> Result<(u32, T
         }
         Out::No => {}
     }
-    if let Phase::Steady = core.meta().phase {
-        let event = decide(core, windows)?;
-        return Ok((0, event));
+    match core.meta().phase {
+        Phase::Steady => {
+            let event = decide(core, windows)?;
+            Ok((0, event))
+        }
+        Phase::Down { .. } | Phase::Up { .. } => {
+            let done = move_on(core)?;
+            Ok(done)
+        }
     }
-    let done = move_on(core)?;
-    Ok(done)
 }

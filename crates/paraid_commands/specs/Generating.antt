@@ -1,5 +1,5 @@
 -- What `gen` answers and writes.
-use Rattle.std.specs.Prelude.{◌≡◌, ℕ, List, [], ◌∷◌, ◌++◌, codes, decimal, Option, IsSome}
+use Rattle.std.specs.Prelude.{◌≡◌, ℕ, ◌⊎◌, List, [], ◌∷◌, ◌++◌, codes, decimal, Option, IsSome}
 use Rattle.std.proofs.Common.{zero, suc}
 use Rattle.paraid_base.specs.declared.event.Answer.{Answer}
 use Rattle.paraid_base.specs.declared.event.Answer.TheVariants.{Flushed, Halted}
@@ -19,6 +19,10 @@ use Rattle.paraid_serve.specs.Stretch.{Stretch, Turn, turn_with}
 use Rattle.paraid_session.specs.Turn.{Point}
 use Rattle.paraid_commands.specs.declared.tally.Tally.{Tally}
 use Rattle.paraid_commands.specs.Tally.{empty_tally, tally_of}
+
+-- the statuses of `gen` on an array that is mounted
+abbrev pub IsGenStatus : ℕ → Type 0
+IsGenStatus status = (status ≡ 0) ⊎ (status ≡ 4) ⊎ (status ≡ 5) ⊎ (status ≡ 12)
 
 -- the first lines of the trace of a number, on so many blocks
 abbrev pub generated_events : ℕ → ℕ → ℕ → List Event

@@ -13,6 +13,7 @@ use paraid_trace::{Text, reply};
 
 /// Tells the state of an array that is mounted, and gives the status. It makes no device call.
 pub fn tell_state<K: Sink, A: Serves>(sink: &mut K, array: &A) -> u8
+    requires going { A.halted array.now ≡ None }
     ensures lines { (p : Point) → A.stands array.now p
         → EndsWithLine (K.written sink.old) (K.written sink.new) (state_lines (A.setup array.now) p) 0 result }
     ensures sink { result ≡ 4 → HasRisen (K.faults sink.old) (K.faults sink.new) }

@@ -1,23 +1,21 @@
 -- From the clauses of a core to what is told of its calls in an event of an array.
-use Rattle.std.proofs.Common.{◌≡◌, ◌≢◌, ℕ, ◌+◌, ◌^◌, ◌<◌, ◌≤◌, ◌⊎◌, Bool, true, false, List, [], ◌∷◌, ◌++◌, length, Option, Some, None, refl, sym, ap, ◌∙◌, inl, inr, subst, arith, if◌then◌else◌}
+use Rattle.std.proofs.Common.{◌≡◌, ◌≢◌, ℕ, ◌<◌, ◌⊎◌, Bool, true, false, List, [], Option, Some, None, refl, sym, ap, ◌∙◌, inl, inr, subst, arith, if◌then◌else◌}
 use Rattle.std.specs.Prelude.{◌==◌}
 use Rattle.std.proofs.lemmas.Bool.Decides.{nat_tests}
 use Rattle.paraid_base.specs.declared.fault.Two.{Two}
 use Rattle.paraid_base.specs.History.{History}
-use Rattle.paraid_rack.specs.declared.call.Call.{Call}
 use Rattle.paraid_rack.specs.Disks.{Disks, is_present}
 use Rattle.paraid_rack.specs.Slots.{Agrees, Slot}
 use Rattle.paraid_rack.specs.Told.{CrashTriple, Ran}
-use Rattle.paraid_rack.specs.Trail.{Trail, now, run}
+use Rattle.paraid_rack.specs.Trail.{Trail, now}
 use Rattle.paraid_rack.proofs.TrailsLemmas.{now-extend}
 use Rattle.paraid_record.specs.declared.meta.Setup.{Setup}
 use Rattle.paraid_image.specs.Out.{named_out, or_else}
 use Rattle.paraid_txn.specs.Stores.{named_of, store_rack}
 use Rattle.paraid_core.specs.declared.staged.Core.{Core}
 use Rattle.paraid_core.specs.Calls.{CommitsWhole, MakesDataCalls, MakesTransferCalls}
-use Rattle.paraid_core.specs.CoreInvariant.{AreCopiesSynced}
 use Rattle.paraid_core.specs.Cores.{CanCoreServe, CoreStandsFor, IsCoreHeld, IsCoreReady, core_down, core_rack}
-use Rattle.paraid_core.specs.Lost.{CoreMarksLost}
+use Rattle.paraid_core.specs.Lost.{CoreMarksLost, CoreTellsLosses}
 use Rattle.paraid_core.specs.Steps.{AreUnsyncedCopied}
 use Rattle.paraid_session.specs.Turn.{Point}
 use Rattle.paraid_shift.specs.Serving.{IsCoreServing}
@@ -27,7 +25,7 @@ use Rattle.paraid_array.proofs.ServiceLemmas.{service_serving, service_then, ser
 use Rattle.paraid_event.specs.Lost.{TellsTwo}
 use Rattle.paraid_event.specs.Marks.{IsMarkedBy}
 use Rattle.paraid_event.specs.Parts.{LosesInEvent, ServesEvent}
-use Rattle.paraid_event.specs.Service.{Service, service_of}
+use Rattle.paraid_event.specs.Service.{service_of}
 use Rattle.paraid_event.specs.Stands.{StandsAt}
 use Rattle.paraid_event.proofs.GivenLemmas.{between_loses, between_serves, commit_loses, commit_serves}
 use Rattle.paraid_event.proofs.SlotsLemmas.{marked_by_slots}
@@ -54,30 +52,45 @@ named_or (Some x) d X f = by (x == d) refl
     by false e = inr (f (λ s. let z : x ≡ d = cc in other_disk x d e z))
 
 module _ {R : Type 0} {g : _} (count : R → ℕ) (slot : R → ℕ → Slot) where
-  pub known_of : (a : Core R g) (lengths : List ℕ) (setup : Setup) → IsArrayServing count slot a lengths setup → IsOutKnown slot a
-  known_of a lengths setup q = record {
+  pub known_of : (a : Core R g) (lengths : List ℕ) (setup : Setup) (slots : ℕ) → IsArrayServing count slot a lengths setup slots → IsOutKnown slot a
+  known_of a lengths setup slots q = record {
     absent = λ d is. named_or (named_of a.store) d (is_present (slot (store_rack a.store) d).power ≡ false) (q.absent d is);
     named = q.named;
     spins = q.spins;
   }
 
-  pub serving_of : (b : Core R g) (lengths : List ℕ) (setup : Setup) → IsCoreServing count slot b → IsOutKnown slot b → lengths ≡ setup.windows → b.meta.setup ≡ setup → IsArrayServing count slot b lengths setup
-  serving_of b lengths setup serving known windows same = record {
+  pub serving_of : (b : Core R g) (lengths : List ℕ) (setup : Setup) (slots : ℕ) → IsCoreServing count slot b → IsOutKnown slot b → lengths ≡ setup.windows → b.meta.setup ≡ setup → count (store_rack b.store) ≡ slots
+      → IsArrayServing count slot b lengths setup slots
+  serving_of b lengths setup slots serving known windows same same_slots = record {
     serving = serving;
     absent = λ d is not. elim (known.absent d is) [ inl named ↦ absurd (not named) | inr away ↦ away ];
     named = known.named;
     spins = known.spins;
     windows = windows;
     same_setup = same;
+    same_slots = same_slots;
   }
 
   -- after a call of the core
-  pub serving_then : (a b : Core R g) (lengths : List ℕ) (setup : Setup) (flag : Bool) → IsArrayServing count slot a lengths setup → CoreMarksLost slot a b → b.meta.setup ≡ a.meta.setup → IsCoreReady count slot b → CanCoreServe slot b
-      → b.draft ≡ [] → b.copied ≡ a.copied → (AreUnsyncedCopied slot a → AreUnsyncedCopied slot b) → named_of b.store ≡ (if flag then named_out a.meta.out else named_of a.store) → IsArrayServing count slot b lengths setup
-  serving_then a b lengths setup flag q marks same ready serves draft copied unsynced names =
-      serving_of b lengths setup
+  pub serving_then : (a b : Core R g) (lengths : List ℕ) (setup : Setup) (slots : ℕ) (flag : Bool) → IsArrayServing count slot a lengths setup slots → CoreMarksLost slot a b → b.meta.setup ≡ a.meta.setup
+      → count (store_rack b.store) ≡ count (store_rack a.store) → IsCoreReady count slot b → CanCoreServe slot b
+      → b.draft ≡ [] → b.copied ≡ a.copied → (AreUnsyncedCopied slot a → AreUnsyncedCopied slot b) → named_of b.store ≡ (if flag then named_out a.meta.out else named_of a.store) → IsArrayServing count slot b lengths setup slots
+  serving_then a b lengths setup slots flag q marks same same_slots ready serves draft copied unsynced names =
+      serving_of b lengths setup slots
       (service_serving count slot b (service_then count slot a b (serving_service count slot a q.serving) marks same ready serves draft copied) (unsynced q.serving.unsynced))
-      (known_then slot a b flag (known_of a lengths setup q) marks names) q.windows (same ∙ q.same_setup)
+      (known_then slot a b flag (known_of a lengths setup slots q) marks names) q.windows (same ∙ q.same_setup) (same_slots ∙ q.same_slots)
+
+-- A disk that the last commit names out is named out by the meta: so the disk that is down is that one.
+module _ {R : Type 0} {g : _} (slot : R → ℕ → Slot) where
+  down_named : (a : Core R g) → CanCoreServe slot a → core_down a ≡ named_out a.meta.out
+  down_named a serves = by (named_of a.store) refl
+    where
+      by : (o : Option ℕ) → named_of a.store ≡ o → or_else o (named_out a.meta.out) ≡ named_out a.meta.out
+      by None e = refl
+      by (Some d) e = sym (serves.stays d e)
+
+  pub tells_by_down : (told : R → Option Trail) (a b : Core R g) (two : Two) → CanCoreServe slot a → CoreTellsLosses told (core_down a) a b two → CoreTellsLosses told (named_out a.meta.out) a b two
+  tells_by_down told a b two serves tells = subst (λ (o : Option ℕ). CoreTellsLosses told o a b two) (down_named a serves) tells
 
 module _ {R : Type 0} {g : _} (count : R → ℕ) (slot : R → ℕ → Slot) (told : R → Option Trail) (agrees : (x : R) (t : Trail) → told x ≡ Some t → Agrees (now t) (slot x)) (a b : Core R g) where
   out_by : (d : ℕ) → core_down a ≡ Some d → (named_of a.store ≡ Some d) ⊎ (named_out a.meta.out ≡ Some d)

@@ -1,8 +1,7 @@
 -- Where an array stands that has answered no event yet, and what it tells of the point at which it stands.
-use Rattle.std.proofs.Common.{◌≡◌, ℕ, ◌≤◌, [], length, Option, Some, None, refl, sym, ap, ◌∙◌, subst, arith}
+use Rattle.std.proofs.Common.{◌≡◌, ℕ, ◌≤◌, [], length, Option, Some, None, refl, sym, ◌∙◌, subst, arith}
 use Rattle.paraid_gear.specs.ThreeWindows.{HoldLastSamples}
-use Rattle.paraid_rack.specs.Disks.{Disks}
-use Rattle.paraid_rack.specs.Trail.{Trail, now}
+use Rattle.paraid_rack.specs.Trail.{Trail}
 use Rattle.paraid_core.specs.Cores.{CoreStandsFor}
 use Rattle.paraid_session.specs.Turn.{Point}
 use Rattle.paraid_event.specs.Service.{service_of}
@@ -56,3 +55,9 @@ module _ {R : Type 0} {g : _} (count : R → ℕ) (told : R → Option Trail) (a
 
   pub writes_at : halt_of_end a.ended ≡ None → (p : Point) → ArrayStandsAt count told a p → a.core.meta.writes ≡ length p.history
   writes_at going p at = (at.serves (none_ended a.ended going)).stands.stands.keeps.writes
+
+  -- the gear, after a halt that before it
+  pub gear_at : (p : Point) → ArrayStandsAt count told a p → (o : Option Ended) → a.ended ≡ o → (gear : ℕ)
+      → ((e : Ended) → o ≡ Some e → gear ≡ e.gear) → (o ≡ None → gear ≡ a.core.meta.gear) → gear ≡ p.state.gear
+  gear_at p at None is gear some none = none refl ∙ sym (at.serves is).stands.state.gear
+  gear_at p at (Some e) is gear some none = some e refl ∙ sym (at.halted e is).gear

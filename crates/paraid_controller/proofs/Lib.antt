@@ -4,3 +4,11 @@ pub mod CoreLemmas
 pub mod FlushLemmas
 pub mod RequestLemmas
 pub mod FirstLemmas
+pub mod TurnLemmas
+pub mod TickLemmas
+pub mod EnergyLemmas
+pub mod AnswerLemmas
+pub mod LossLemmas
+pub mod MountLemmas
+pub mod AskedLemmas
+pub mod CountedLemmas

@@ -24,7 +24,7 @@ use Rattle.paraid_rack.specs.Trail.{Trail, now}
 use Rattle.paraid_core.specs.Cores.{CoreStandsFor, core_rack}
 use Rattle.paraid_machine.specs.Machine.{block_count, blocks_named, first_missing, state_status}
 use Rattle.paraid_session.specs.Turn.{GoesOn, Point}
-use Rattle.paraid_event.specs.Service.{Service, service_of}
+use Rattle.paraid_event.specs.Service.{service_of}
 use Rattle.paraid_event.specs.Stands.{StandsAt}
 use Rattle.paraid_event.proofs.EventLemmas.{energy_turn, state_turn}
 use Rattle.paraid_event.proofs.QuietLemmas.{fail_no_disk, fail_out, read_missing, replace_no_disk, replace_not_out, write_missing}

@@ -1,5 +1,5 @@
 -- Where an array stands, from one event to the next.
-use Rattle.std.proofs.Common.{◌≡◌, ◌≢◌, ℕ, ◌+◌, ◌^◌, ◌<◌, ◌≤◌, Bool, true, false, if◌then◌else◌, List, [], ◌∷◌, ◌++◌, length, Option, Some, None, refl, sym, ap, ◌∙◌, subst, arith}
+use Rattle.std.proofs.Common.{◌≡◌, ◌≢◌, ℕ, ◌+◌, ◌^◌, ◌<◌, ◌≤◌, Bool, true, false, if◌then◌else◌, List, [], ◌++◌, length, Option, Some, None, refl, sym, ap, ◌∙◌, subst, arith}
 use Rattle.std.specs.Prelude.{max, IsSome}
 use Rattle.std.proofs.lemmas.List.{append-nil}
 use Rattle.paraid_base.specs.declared.event.Answer.{Answer}
@@ -8,9 +8,7 @@ use Rattle.paraid_base.specs.declared.event.Event.{Event}
 use Rattle.paraid_base.specs.declared.event.Event.TheVariants.{Bad}
 use Rattle.paraid_base.specs.declared.fault.Halt.{Halt}
 use Rattle.paraid_base.specs.declared.fault.Halt.TheVariants.{Two as HaltTwo, Worn}
-use Rattle.paraid_base.specs.History.{Entry, History}
-use Rattle.paraid_dirty.specs.Table.{dirty_count, is_dirty}
-use Rattle.paraid_dirty.proofs.MaskLemmas.{sum_before_same}
+use Rattle.paraid_base.specs.History.{History}
 use Rattle.paraid_gear.specs.ThreeWindows.{HoldLastSamples, sample_of}
 use Rattle.paraid_rack.specs.declared.call.Call.{Call}
 use Rattle.paraid_rack.specs.Disks.{Disks}
@@ -28,7 +26,7 @@ use Rattle.paraid_event.specs.Stands.{StandsAt}
 use Rattle.paraid_event.proofs.QuietLemmas.{worn_turn}
 use Rattle.paraid_controller.specs.declared.array.Array.{Array}
 use Rattle.paraid_controller.specs.declared.ended.Ended.{Ended}
-use Rattle.paraid_controller.specs.Arrays.{ArrayStandsAt, GoesOnByEvent, HasEndedAt, ServesAt, halt_of_end, told_of_array}
+use Rattle.paraid_controller.specs.Arrays.{ArrayStandsAt, GoesOnByEvent, HasEndedAt, halt_of_end, told_of_array}
 
 pub none_ended : (o : Option Ended) → halt_of_end o ≡ None → o ≡ None
 none_ended None e = refl
@@ -164,3 +162,9 @@ told_before old None Q ran some = let z : false ≡ true = some in absurd cc
 pub kept_flag : (f : Bool) (new kept all before after : ℕ) → after ≡ before + (if f then 1 else 0) → (after ≡ before → new ≡ kept) → (after ≡ before + 1 → new ≡ all) → new ≡ (if f then all else kept)
 kept_flag true new kept all before after is same more = more is
 kept_flag false new kept all before after is same more = same (omega (arith, is))
+
+-- The slots are those of the rack, so it is a turn over them.
+pub over_slots : {R : Type 0} {g : _} (count : R → ℕ) (told : R → Option Trail) (a b : Array R g) (event : Event) (answer : Answer) → count (core_rack a.core) ≡ a.slots → GoesOnByEvent count told a b event answer
+    → (p : Point) → ArrayStandsAt count told a p → Ran (told_of_array told a) (told_of_array told b) (GoesOn a.slots a.setup p event answer (ArrayStandsAt count told b))
+over_slots count told a b event answer same turn p at =
+    subst (λ (n : ℕ). Ran (told_of_array told a) (told_of_array told b) (GoesOn n a.setup p event answer (ArrayStandsAt count told b))) same (turn p at)

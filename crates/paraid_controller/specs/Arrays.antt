@@ -1,15 +1,11 @@
 -- What contracts see of an array, and where it stands in a session.
-use Rattle.std.specs.Prelude.{◌≡◌, ℕ, ◌<◌, [], List, Option, Some, None}
+use Rattle.std.specs.Prelude.{◌≡◌, ℕ, ◌<◌, List, Option, Some, None}
 use Rattle.paraid_base.specs.declared.event.Answer.{Answer}
 use Rattle.paraid_base.specs.declared.event.Event.{Event}
-use Rattle.paraid_base.specs.declared.event.Answer.TheVariants.{Halted}
 use Rattle.paraid_base.specs.declared.fault.Halt.{Halt}
-use Rattle.paraid_base.specs.declared.fault.Halt.TheVariants.{Two as HaltTwo}
-use Rattle.paraid_base.specs.declared.fault.Two.{Two}
 use Rattle.paraid_dirty.specs.Table.{is_dirty}
 use Rattle.paraid_image.specs.Power.{PowerState}
 use Rattle.paraid_gear.specs.ThreeWindows.{HoldLastSamples, sample_of}
-use Rattle.paraid_rack.specs.declared.call.Power.{Power}
 use Rattle.paraid_rack.specs.Slots.{Slot}
 use Rattle.paraid_rack.specs.Told.{Ran}
 use Rattle.paraid_rack.specs.Trail.{Trail, now}
@@ -17,7 +13,6 @@ use Rattle.paraid_record.specs.declared.meta.Setup.{Setup}
 use Rattle.paraid_core.specs.declared.staged.Core.{Core}
 use Rattle.paraid_core.specs.Cores.{CoreStandsFor, core_rack}
 use Rattle.paraid_session.specs.Turn.{GoesOn, Point}
-use Rattle.paraid_event.specs.Lost.{TellsTwo}
 use Rattle.paraid_event.specs.Counts.{with_counts_of}
 use Rattle.paraid_event.specs.Service.{IsStateOf, service_of}
 use Rattle.paraid_event.specs.Stands.{StandsAt}
@@ -33,16 +28,16 @@ abbrev pub told_of_array : {R : Type 0} {g : _} → (R → Option Trail) → Arr
 told_of_array told array = told (core_rack array.core)
 
 -- the number of slots of its rack
-abbrev pub slots_of_array : {R : Type 0} {g : _} → (R → ℕ) → Array R g → ℕ
-slots_of_array count array = count (core_rack array.core)
+abbrev pub slots_of_array : {R : Type 0} {g : _} → Array R g → ℕ
+slots_of_array array = array.slots
 
 -- what it is configured to be
 abbrev pub setup_of_array : {R : Type 0} {g : _} → Array R g → Setup
 setup_of_array array = array.setup
 
--- how its disks are powered
-abbrev pub power_of_array : {R : Type 0} {g : _} → (R → ℕ → Slot) → Array R g → ℕ → Power
-power_of_array slot array d = (slot (core_rack array.core) d).power
+-- what is always told of the slots of its rack
+abbrev pub slot_of_array : {R : Type 0} {g : _} → (R → ℕ → Slot) → Array R g → ℕ → Slot
+slot_of_array slot array = slot (core_rack array.core)
 
 abbrev pub halt_of_end : Option Ended → Option Halt
 halt_of_end None = None
@@ -86,12 +81,7 @@ pub record ArrayStandsAt {R : Type 0} {g : _} (count : R → ℕ) (told : R → 
 abbrev pub GoesOnByEvent : {R : Type 0} {g : _} → (R → ℕ) → (R → Option Trail) → Array R g → Array R g → Event → Answer → Type 0
 GoesOnByEvent count told old new event answer = (p : Point) → ArrayStandsAt count told old p
     → Ran (told_of_array told old) (told_of_array told new)
-    (GoesOn (slots_of_array count old) old.setup p event answer (ArrayStandsAt count told new))
-
--- Where two disks were lost, the calls tell which one was first: one that was out, or the first that failed.
-abbrev pub TellsLossesInOrder : {R : Type 0} {g : _} → (R → ℕ) → (R → Option Trail) → Array R g → Array R g → Answer → Type 0
-TellsLossesInOrder count told old new answer = (two : Two) → answer ≡ Halted (HaltTwo two)
-    → Ran (told_of_array told old) (told_of_array told new) (TellsTwo (service_of count old.core [] 0 0) two)
+    (GoesOn (count (core_rack old.core)) old.setup p event answer (ArrayStandsAt count told new))
 
 -- The dirty cells are then those that this change makes of each state that the array showed, by its meta as it is then.
 abbrev pub ChangesCellsBy : {R : Type 0} {g : _} → (R → ℕ) → Array R g → Array R g → (PowerState → PowerState) → Type 0

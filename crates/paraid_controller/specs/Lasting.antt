@@ -1,5 +1,5 @@
 -- What an array keeps between two events, over every rack, while there is no halt.
-use Rattle.std.specs.Prelude.{◌≡◌, ◌≢◌, ℕ, ◌≤◌, false, List, Some}
+use Rattle.std.specs.Prelude.{◌≡◌, ◌≢◌, ℕ, false, List, Some}
 use Rattle.paraid_rack.specs.declared.call.Power.TheVariants.{Spinning}
 use Rattle.paraid_rack.specs.Disks.{is_present}
 use Rattle.paraid_rack.specs.Slots.{Slot}
@@ -10,12 +10,13 @@ use Rattle.paraid_core.specs.declared.staged.Core.{Core}
 use Rattle.paraid_core.specs.Units.{IsRebuilding}
 use Rattle.paraid_shift.specs.Serving.{IsCoreServing}
 
--- Its core can serve, with this setup; the disk that is out is absent unless the last commit names it, and one that is
--- being rebuilt is named and spins; its windows have the lengths of the setup.
-pub record IsArrayServing {R : Type 0} {g : _} (count : R → ℕ) (slot : R → ℕ → Slot) (core : Core R g) (lengths : List ℕ) (setup : Setup) : Type 0 where
+-- Its core can serve, with this setup and over so many slots; the disk that is out is absent unless the last commit names it,
+-- and one that is being rebuilt is named and spins; its windows have the lengths of the setup.
+pub record IsArrayServing {R : Type 0} {g : _} (count : R → ℕ) (slot : R → ℕ → Slot) (core : Core R g) (lengths : List ℕ) (setup : Setup) (slots : ℕ) : Type 0 where
   pub serving : IsCoreServing count slot core
   pub absent : (d : ℕ) → named_out core.meta.out ≡ Some d → named_of core.store ≢ Some d → is_present (slot (store_rack core.store) d).power ≡ false
   pub named : (d : ℕ) → IsRebuilding core.meta d → named_of core.store ≡ Some d
   pub spins : (d : ℕ) → IsRebuilding core.meta d → (slot (store_rack core.store) d).power ≡ Spinning
   pub windows : lengths ≡ setup.windows
   pub same_setup : core.meta.setup ≡ setup
+  pub same_slots : count (store_rack core.store) ≡ slots

@@ -1,3 +1,4 @@
 pub mod Lasting
 pub mod Props
 pub mod Arrays
+pub mod Used

@@ -22,8 +22,8 @@ out_once g gear No = hlevel props
 out_once g gear (Gone disk) = hlevel props
 out_once g gear (Fresh disk rebuilt) = hlevel props
 
-pub IsArrayServing-prop : {R : Type 0} {g : _} (count : R → ℕ) (slot : R → ℕ → Slot) (core : Core R g) (lengths : List ℕ) (setup : Setup) → IsProp (IsArrayServing count slot core lengths setup)
-IsArrayServing-prop count slot core lengths setup = hlevel (props, phase_once, out_once)
+pub IsArrayServing-prop : {R : Type 0} {g : _} (count : R → ℕ) (slot : R → ℕ → Slot) (core : Core R g) (lengths : List ℕ) (setup : Setup) (slots : ℕ) → IsProp (IsArrayServing count slot core lengths setup slots)
+IsArrayServing-prop count slot core lengths setup slots = hlevel (props, phase_once, out_once)
 
 -- what is asked only under a condition has one proof where it has one
 pub while_prop : {A : Type 0} {B : Type 0} → IsProp B → IsProp (A → B)

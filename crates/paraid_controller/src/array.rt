@@ -16,13 +16,15 @@ pub struct Array<R: Rack> {
     pub(crate) core: Core<R>,
     pub(crate) windows: Windows,
     pub(crate) setup: Setup,
+    // the number of slots of the rack
+    pub(crate) slots: u8,
     // the requests since the last tick, as many as a sample may have
     pub(crate) served: u32,
     pub(crate) energy: u64,
     // the writes that the last commit has brought to the disks
     pub(crate) kept: u64,
     pub(crate) ended: Option<Ended>,
-    ghost serving: { ended ≡ None → IsArrayServing R.slot_count R.slot core (lengths_of windows) setup } by { while_prop (IsArrayServing-prop R.slot_count R.slot core (lengths_of windows) setup) },
+    ghost serving: { ended ≡ None → IsArrayServing R.slot_count R.slot core (lengths_of windows) setup slots } by { while_prop (IsArrayServing-prop R.slot_count R.slot core (lengths_of windows) setup slots) },
 }
 
 impl<R: Rack> Array<R> {
@@ -32,13 +34,15 @@ impl<R: Rack> Array<R> {
     ghost use Rattle.paraid_event.specs.Stands.{StandsAt};
     ghost use Rattle.paraid_gear.specs.ThreeWindows.{HoldLastSamples};
     ghost use Rattle.paraid_session.specs.Turn.{Point};
-    ghost use Rattle.paraid_controller.specs.Arrays.{ArrayStandsAt, core_of_array, halt_of_array, setup_of_array};
+    ghost use Rattle.paraid_controller.specs.Arrays.{ArrayStandsAt, core_of_array, halt_of_array, setup_of_array, slots_of_array};
 
-    /// Takes over a core as a mount leaves it, with windows of the lengths of its setup that hold no sample.
-    pub fn new(core: Core<R>, windows: Windows) -> Array<R>
-        requires serving { IsArrayServing R.slot_count R.slot core (lengths_of windows) (meta_of core).setup }
+    /// Takes over a core as a mount leaves it, over so many slots, with windows of the lengths of its setup that hold no
+    /// sample.
+    pub fn new(core: Core<R>, windows: Windows, slots: u8) -> Array<R>
+        requires serving { IsArrayServing R.slot_count R.slot core (lengths_of windows) (meta_of core).setup slots }
         ensures core { core_of_array result ≡ core }
         ensures setup { setup_of_array result ≡ (meta_of core).setup }
+        ensures slots { slots_of_array result ≡ slots }
         ensures going { halt_of_array result ≡ None }
         // It stands where its core does, if all writes are kept there.
         ensures stands { (p : Point) → HoldLastSamples windows []
@@ -51,6 +55,7 @@ impl<R: Rack> Array<R> {
             core,
             windows,
             setup,
+            slots,
             served: 0,
             energy: 0,
             kept,

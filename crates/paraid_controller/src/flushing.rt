@@ -2,6 +2,7 @@
 ghost use Rattle.std.specs.Prelude.{◌≡◌, ℕ, ◌<◌, ◌^◌, true, [], None, Option, Some, IsSome};
 ghost use Rattle.paraid_base.specs.BlockAnswers.{answer_to_flush, flush_halt_of};
 ghost use Rattle.paraid_base.specs.declared.event.Event.TheVariants.{Flush as FlushEvent};
+ghost use Rattle.paraid_serve.specs.Calls.{HaltsBySecondLoss};
 ghost use Rattle.paraid_core.specs.Cores.{batch_of, meta_of};
 
 use crate::Array;
@@ -11,7 +12,7 @@ use paraid_base::Halt;
 use paraid_rack::Rack;
 
 impl<R: Rack> Array<R> {
-    ghost use Rattle.paraid_controller.specs.Arrays.{GoesOnByEvent, TellsLossesInOrder, core_of_array, end_of_array, halt_of_array, kept_by_array, setup_of_array, slots_of_array, told_of_array};
+    ghost use Rattle.paraid_controller.specs.Arrays.{GoesOnByEvent, core_of_array, end_of_array, halt_of_array, kept_by_array, setup_of_array, slot_of_array, slots_of_array, told_of_array};
 
     // Whether nothing is staged, and the last commit has brought all writes to the disks.
     fn is_kept(&self) -> bool
@@ -26,12 +27,12 @@ impl<R: Rack> Array<R> {
         requires going { end_of_array self.old ≡ None }
         requires epoch { (meta_of (core_of_array self.old)).epoch < 2 ^ 62 }
         requires writes { (meta_of (core_of_array self.old)).writes < 2 ^ 62 }
-        ensures turn { TellsLossesInOrder R.slot_count R.told self.old self.new (answer_to_flush result)
-            → GoesOnByEvent R.slot_count R.told self.old self.new FlushEvent (answer_to_flush result) }
+        ensures turn { GoesOnByEvent R.slot_count R.told self.old self.new FlushEvent (answer_to_flush result) }
         ensures told { IsSome (told_of_array R.told self.new) → IsSome (told_of_array R.told self.old) }
-        ensures slots { slots_of_array R.slot_count self.new ≡ slots_of_array R.slot_count self.old }
+        ensures slots { slots_of_array self.new ≡ slots_of_array self.old }
         ensures setup { setup_of_array self.new ≡ setup_of_array self.old }
         ensures halt { halt_of_array self.new ≡ flush_halt_of result }
+        ensures two { HaltsBySecondLoss (slot_of_array R.slot self.old) (slot_of_array R.slot self.new) (halt_of_array self.new) }
     {
         let gear = self.core.meta().gear;
         let writes = self.core.meta().writes;
@@ -51,12 +52,12 @@ impl<R: Rack> Array<R> {
     /// Keeps all writes that were accepted, and gives their number.
     pub fn flush(&mut self) -> Result<u64, Halt>
         requires going { halt_of_array self.old ≡ None }
-        ensures turn { TellsLossesInOrder R.slot_count R.told self.old self.new (answer_to_flush result)
-            → GoesOnByEvent R.slot_count R.told self.old self.new FlushEvent (answer_to_flush result) }
+        ensures turn { GoesOnByEvent R.slot_count R.told self.old self.new FlushEvent (answer_to_flush result) }
         ensures told { IsSome (told_of_array R.told self.new) → IsSome (told_of_array R.told self.old) }
-        ensures slots { slots_of_array R.slot_count self.new ≡ slots_of_array R.slot_count self.old }
+        ensures slots { slots_of_array self.new ≡ slots_of_array self.old }
         ensures setup { setup_of_array self.new ≡ setup_of_array self.old }
         ensures halt { halt_of_array self.new ≡ flush_halt_of result }
+        ensures two { HaltsBySecondLoss (slot_of_array R.slot self.old) (slot_of_array R.slot self.new) (halt_of_array self.new) }
     {
         if let Some(count) = worn(self.core.meta()) {
             let halt = self.wear_out(count);

@@ -2,10 +2,16 @@
 #![tactic(auto)]
 
 mod array;
+mod disks;
 mod ended;
+mod energy;
 mod flushing;
+mod mounting;
 mod refusing;
 mod requests;
+mod shifting;
+mod ticking;
 
 pub use array::Array;
 pub use ended::Ended;
+pub use mounting::mount_array;

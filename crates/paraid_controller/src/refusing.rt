@@ -5,6 +5,7 @@ ghost use Rattle.paraid_base.specs.declared.event.Event.{Event as EventType};
 ghost use Rattle.paraid_base.specs.declared.event.Event.TheVariants.{Bad as BadEvent, Energy as AskEnergy, State as AskState};
 ghost use Rattle.paraid_base.specs.declared.fault.Halt.TheVariants.{Worn};
 ghost use Rattle.paraid_machine.specs.Machine.{block_count, state_status};
+ghost use Rattle.paraid_serve.specs.Calls.{HaltsBySecondLoss};
 ghost use Rattle.paraid_serve.specs.Form.{is_answer_to};
 ghost use Rattle.paraid_session.specs.Turn.{Point, halt_told, may_halt};
 ghost use Rattle.paraid_trace.specs.Replies.{HasFewDisks};
@@ -29,7 +30,7 @@ pub(crate) fn worn(meta: &Meta) -> Option<u64>
 }
 
 impl<R: Rack> Array<R> {
-    ghost use Rattle.paraid_controller.specs.Arrays.{ArrayStandsAt, GoesOnByEvent, core_of_array, halt_of_array, setup_of_array, slots_of_array, told_of_array};
+    ghost use Rattle.paraid_controller.specs.Arrays.{ArrayStandsAt, GoesOnByEvent, core_of_array, halt_of_array, setup_of_array, slot_of_array, slots_of_array, told_of_array};
 
     /// The halt that each event gives from now on, if it has halted.
     pub fn halt(&self) -> Option<Halt>
@@ -38,6 +39,16 @@ impl<R: Rack> Array<R> {
         match self.ended {
             Some(ended) => Some(ended.halt),
             None => None,
+        }
+    }
+
+    /// Its gear, after a halt that before it.
+    pub fn gear(&self) -> u8
+        ensures point { (p : Point) → ArrayStandsAt R.slot_count R.told self.now p → result ≡ p.state.gear }
+    {
+        match self.ended {
+            Some(ended) => ended.gear,
+            None => self.core.meta().gear,
         }
     }
 
@@ -113,9 +124,10 @@ impl<R: Rack> Array<R> {
         ensures turn { (event : EventType) → event ≢ BadEvent → may_halt event ≡ true
             → GoesOnByEvent R.slot_count R.told self.old self.new event (Halted result) }
         ensures told { IsSome (told_of_array R.told self.new) → IsSome (told_of_array R.told self.old) }
-        ensures slots { slots_of_array R.slot_count self.new ≡ slots_of_array R.slot_count self.old }
+        ensures slots { slots_of_array self.new ≡ slots_of_array self.old }
         ensures setup { setup_of_array self.new ≡ setup_of_array self.old }
         ensures halt { halt_of_array self.new ≡ Some result }
+        ensures two { HaltsBySecondLoss (slot_of_array R.slot self.old) (slot_of_array R.slot self.new) (halt_of_array self.new) }
     {
         let gear = self.core.meta().gear;
         let halt = Halt::Worn { count };

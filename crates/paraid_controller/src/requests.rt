@@ -6,6 +6,7 @@ ghost use Rattle.paraid_base.specs.Pairs.{pairs_of};
 ghost use Rattle.paraid_core.specs.Cores.{meta_of};
 ghost use Rattle.paraid_gear.specs.ThreeWindows.{sample_of};
 ghost use Rattle.paraid_machine.specs.Machine.{block_count};
+ghost use Rattle.paraid_serve.specs.Calls.{HaltsBySecondLoss};
 ghost use Rattle.paraid_serve.specs.Form.{is_answer_to};
 ghost use Rattle.paraid_session.specs.Turn.{halt_told};
 ghost use Rattle.paraid_trace.specs.Replies.{HasFewDisks};
@@ -35,7 +36,7 @@ fn kept_after(kept: u64, writes: u64, before: u64, after: u64) -> u64
 }
 
 impl<R: Rack> Array<R> {
-    ghost use Rattle.paraid_controller.specs.Arrays.{GoesOnByEvent, TellsLossesInOrder, core_of_array, end_of_array, halt_of_array, setup_of_array, slots_of_array, told_of_array};
+    ghost use Rattle.paraid_controller.specs.Arrays.{GoesOnByEvent, core_of_array, end_of_array, halt_of_array, setup_of_array, slot_of_array, slots_of_array, told_of_array};
 
     // Reads a block that there is.
     fn read_there(&mut self, block: BlockNo) -> Answer
@@ -43,12 +44,12 @@ impl<R: Rack> Array<R> {
         requires epoch { (meta_of (core_of_array self.old)).epoch < 2 ^ 62 }
         requires writes { (meta_of (core_of_array self.old)).writes < 2 ^ 62 }
         requires block { block < block_count (setup_of_array self.old) }
-        ensures turn { TellsLossesInOrder R.slot_count R.told self.old self.new result
-            → GoesOnByEvent R.slot_count R.told self.old self.new (ReadEvent block) result }
+        ensures turn { GoesOnByEvent R.slot_count R.told self.old self.new (ReadEvent block) result }
         ensures told { IsSome (told_of_array R.told self.new) → IsSome (told_of_array R.told self.old) }
-        ensures slots { slots_of_array R.slot_count self.new ≡ slots_of_array R.slot_count self.old }
+        ensures slots { slots_of_array self.new ≡ slots_of_array self.old }
         ensures setup { setup_of_array self.new ≡ setup_of_array self.old }
         ensures halt { halt_of_array self.new ≡ halt_told result }
+        ensures two { HaltsBySecondLoss (slot_of_array R.slot self.old) (slot_of_array R.slot self.new) (halt_of_array self.new) }
         ensures kind { is_answer_to (ReadEvent block) result ≡ true }
         ensures few { HasFewDisks result }
     {
@@ -76,12 +77,12 @@ impl<R: Rack> Array<R> {
         requires epoch { (meta_of (core_of_array self.old)).epoch < 2 ^ 62 }
         requires writes { (meta_of (core_of_array self.old)).writes < 2 ^ 62 }
         requires blocks { All (λ (pair : ℕ × BlockType). pair.0 < block_count (setup_of_array self.old)) (pairs_of pairs.now) }
-        ensures turn { TellsLossesInOrder R.slot_count R.told self.old self.new result
-            → GoesOnByEvent R.slot_count R.told self.old self.new (WriteEvent pairs.now) result }
+        ensures turn { GoesOnByEvent R.slot_count R.told self.old self.new (WriteEvent pairs.now) result }
         ensures told { IsSome (told_of_array R.told self.new) → IsSome (told_of_array R.told self.old) }
-        ensures slots { slots_of_array R.slot_count self.new ≡ slots_of_array R.slot_count self.old }
+        ensures slots { slots_of_array self.new ≡ slots_of_array self.old }
         ensures setup { setup_of_array self.new ≡ setup_of_array self.old }
         ensures halt { halt_of_array self.new ≡ halt_told result }
+        ensures two { HaltsBySecondLoss (slot_of_array R.slot self.old) (slot_of_array R.slot self.new) (halt_of_array self.new) }
         ensures kind { is_answer_to (WriteEvent pairs.now) result ≡ true }
         ensures few { HasFewDisks result }
     {
@@ -105,12 +106,12 @@ impl<R: Rack> Array<R> {
     /// Answers a read.
     pub fn read(&mut self, block: BlockNo) -> Answer
         requires going { halt_of_array self.old ≡ None }
-        ensures turn { TellsLossesInOrder R.slot_count R.told self.old self.new result
-            → GoesOnByEvent R.slot_count R.told self.old self.new (ReadEvent block) result }
+        ensures turn { GoesOnByEvent R.slot_count R.told self.old self.new (ReadEvent block) result }
         ensures told { IsSome (told_of_array R.told self.new) → IsSome (told_of_array R.told self.old) }
-        ensures slots { slots_of_array R.slot_count self.new ≡ slots_of_array R.slot_count self.old }
+        ensures slots { slots_of_array self.new ≡ slots_of_array self.old }
         ensures setup { setup_of_array self.new ≡ setup_of_array self.old }
         ensures halt { halt_of_array self.new ≡ halt_told result }
+        ensures two { HaltsBySecondLoss (slot_of_array R.slot self.old) (slot_of_array R.slot self.new) (halt_of_array self.new) }
         ensures kind { is_answer_to (ReadEvent block) result ≡ true }
         ensures few { HasFewDisks result }
     {
@@ -126,12 +127,12 @@ impl<R: Rack> Array<R> {
     /// Answers a write.
     pub fn write(&mut self, pairs: &Pairs) -> Answer
         requires going { halt_of_array self.old ≡ None }
-        ensures turn { TellsLossesInOrder R.slot_count R.told self.old self.new result
-            → GoesOnByEvent R.slot_count R.told self.old self.new (WriteEvent pairs.now) result }
+        ensures turn { GoesOnByEvent R.slot_count R.told self.old self.new (WriteEvent pairs.now) result }
         ensures told { IsSome (told_of_array R.told self.new) → IsSome (told_of_array R.told self.old) }
-        ensures slots { slots_of_array R.slot_count self.new ≡ slots_of_array R.slot_count self.old }
+        ensures slots { slots_of_array self.new ≡ slots_of_array self.old }
         ensures setup { setup_of_array self.new ≡ setup_of_array self.old }
         ensures halt { halt_of_array self.new ≡ halt_told result }
+        ensures two { HaltsBySecondLoss (slot_of_array R.slot self.old) (slot_of_array R.slot self.new) (halt_of_array self.new) }
         ensures kind { is_answer_to (WriteEvent pairs.now) result ≡ true }
         ensures few { HasFewDisks result }
     {

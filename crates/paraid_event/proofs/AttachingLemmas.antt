@@ -35,6 +35,7 @@ use Rattle.paraid_event.specs.Service.{Service}
 use Rattle.paraid_event.specs.Stands.{IsMidway, ServiceStandsFor}
 use Rattle.paraid_event.proofs.ChainLemmas.{base_setup, only_base, start_follows_log}
 use Rattle.paraid_event.proofs.EndLemmas.{IsOnly, fails_split, only_end, only_is, only_serving}
+use Rattle.paraid_event.proofs.MarksLemmas.{gone_is_named}
 
 -- no call is on a disk that is gone
 pub fails_beside : (n : ℕ) (skip : Option ℕ) (s : Disks) (cs : List Call) (e : ℕ) → EachCall (IsTransferCall n skip) s cs → fails_on e cs ≡ true → skip ≢ Some e
@@ -135,6 +136,10 @@ module _ (k : Service) (h : History) (lo : ℕ) (base : Meta) (w : Watch) (at : 
       by true t = absurd (apart (equal_if e d t))
       by false t = refl
 
+  -- none is counted since the attach
+  spun_none : (e : ℕ) → e ≡ d → ◌≡◌ {A = ℕ} (v.spun e) 0
+  spun_none e same = ap (λ (t : Bool). if t then 0 else w.spun e) (equal_self e d same)
+
   only_then : IsOnly (Some d) v.down
   only_then = only_end (Some d) w (c ∷ []) is_only (λ e failed. elim (fails_split c [] e failed) [
     | inl here ↦ ap (λ (x : ℕ). Some x) here.1
@@ -169,7 +174,7 @@ module _ (k : Service) (h : History) (lo : ℕ) (base : Meta) (w : Watch) (at : 
           recorded = λ e low here not.
               let apart : e ≢ d = (λ is. not (ap named_out base_gone ∙ ap (λ (y : ℕ). Some y) (sym is))) in
               let power = sym (it.power e apart) ∙ it.is.power e in
-              let was = at.stands.recorded e (subst (λ (z : Setup). e < z.geometry.disks) (sym setup) low) (ap is_present (sym power) ∙ here) not in
+              let was = at.stands.recorded e (subst (λ (z : Setup). e < z.geometry.disks) (sym setup) low) (ap is_present (sym power) ∙ here) (λ is. not (gone_is_named base.out e is)) in
               let used = same_used base i.power w.disks.power e power in
               let count = spun_same e apart in
               omega (arith, was, used, count);
@@ -218,19 +223,21 @@ module _ (k : Service) (h : History) (lo : ℕ) (base : Meta) (w : Watch) (at : 
         named_down = λ e e_named. in_stays w (c ∷ []) e (at.stands.named_down e (named ∙ sym o_named ∙ e_named));
         stays = λ e e_named. o_named ∙ sym named ∙ at.stands.stays e e_named;
         recorded = λ e low here not.
-            let apart : e ≢ d = (λ same. not (ap named_out base_gone ∙ ap (λ (y : ℕ). Some y) (sym same))) in
+            let apart : e ≢ d = (λ same. not (ap gone_out base_gone ∙ ap (λ (y : ℕ). Some y) (sym same))) in
             let power = power_same e apart in
             let was = at.stands.recorded e low (ap is_present (sym power) ∙ here) not in
             let used = same_used base v.disks.power w.disks.power e power in
             let count = spun_same e apart in
             omega (arith, was, used, count);
-        recorded_next = λ e low here not.
-            let apart : e ≢ d = (λ same. not (o_named ∙ ap (λ (y : ℕ). Some y) (sym same))) in
-            let power = power_same e apart in
-            let was = at.stands.recorded_next e low (ap is_present (sym power) ∙ here) (λ e_named. not (o_named ∙ sym named ∙ e_named)) in
-            let used = same_used k.meta v.disks.power w.disks.power e power in
-            let count = spun_same e apart in
-            omega (arith, was, used, count);
+        recorded_next = λ e low here not. elim (cases_eq e d) [
+          | inl same ↦ let none = spun_none e same in omega (arith, none)
+          | inr apart ↦
+              let power = power_same e apart in
+              let was = at.stands.recorded_next e low (ap is_present (sym power) ∙ here) (λ is. let z : Some e ≡ Some d = sym is ∙ ap gone_out gone in apart (let same : e ≡ d = cc in same)) in
+              let used = same_used k.meta v.disks.power w.disks.power e power in
+              let count = spun_same e apart in
+              omega (arith, was, used, count)
+        ];
         awaited = λ e waits. absurd (none_awaited e waits);
         ticks = at.stands.ticks;
       };

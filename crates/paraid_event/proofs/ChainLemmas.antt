@@ -30,8 +30,9 @@ use Rattle.paraid_startup.proofs.StillLemmas.{each_still}
 use Rattle.paraid_txn.specs.Commit.{ImageStandsFor, IsEitherMissing, IsOldOrNew, IsOneMissing}
 use Rattle.paraid_txn.specs.Uses.{EachCall}
 use Rattle.paraid_event.specs.Service.{Service}
-use Rattle.paraid_event.specs.Stands.{StandsIn}
+use Rattle.paraid_event.specs.Stands.{IsRecordedBy, StandsIn}
 use Rattle.paraid_event.proofs.LogsLemmas.{IsLogHeld, held_only, held_self, log_held, power_at}
+use Rattle.paraid_event.proofs.MarksLemmas.{gone_is_named}
 
 -- what each call keeps holds at each moment, and at the end
 module _ (P : Call → Type 0) (I : Watch → Type 0) (keeps : (v : Watch) (c : Call) → IsLawful v.disks c → P c → I v → I (watch c v)) where
@@ -179,7 +180,7 @@ module _ (k : Service) (h : History) (lo : ℕ) (base : Meta) (w : Watch) (at : 
       recorded = λ d low here not.
           let there = looked_power v.disks i d looked here in
           let was = f.power d (ap is_present (sym there) ∙ here) in
-          at.recorded d (subst (λ (z : Setup). d < z.geometry.disks) (sym setup) low) (ap is_present (sym was) ∙ ap is_present (sym there) ∙ here) not;
+          at.recorded d (subst (λ (z : Setup). d < z.geometry.disks) (sym setup) low) (ap is_present (sym was) ∙ ap is_present (sym there) ∙ here) (λ gone. not (gone_is_named base.out d gone));
     }
 
     -- so is what stands, where no block of the log is written
@@ -224,63 +225,74 @@ module _ (k : Service) (h : History) (lo : ℕ) (base : Meta) (w : Watch) (at : 
 stood : (start i : Disks) (m : Meta) (batch : Batch) (x : ℕ) (said : LogState) → ImageStandsFor start i m batch → Stands i x said → said.meta ≡ m
 stood start i m batch x said is stands = ap (λ (z : LogState). z.meta) (Stands-same i x is.disk said is.said stands is.log.stands).1 ∙ is.meta
 
--- In a commit what stands is the meta of the last one or the next one.
-module _ (k : Service) (h : History) (lo : ℕ) (base : Meta) (w : Watch) (at : StandsIn k h lo base w) where
-  abbrev after : Meta
-  after = record k.meta { epoch = k.meta.epoch + 1 }
-
-  in_of : (v : Watch) → Follows k.meta.setup.geometry.disks w v → (i : Disks) → ((d : ℕ) → is_present (i.power d) ≡ false → is_present (v.disks.power d) ≡ false) → (d : ℕ) → IsEitherMissing i.power base after d → IsIn v.down d
+-- In a commit what stands is the meta of the last one or the next one, `next`, with a batch laid over.
+module _ (k : Service) (h : History) (lo : ℕ) (base : Meta) (w : Watch) (at : StandsIn k h lo base w) (next : Meta) (batch : Batch) (next_setup : next.setup ≡ k.meta.setup) (next_down : (d : ℕ) → named_out next.out ≡ Some d → IsIn w.down d) where
+  in_of : (v : Watch) → Follows k.meta.setup.geometry.disks w v → (i : Disks) → ((d : ℕ) → is_present (i.power d) ≡ false → is_present (v.disks.power d) ≡ false) → (d : ℕ) → IsEitherMissing i.power base next d → IsIn v.down d
   in_of v f i off d missing = elim missing [
     | inl was ↦ elim was.is [
       | inl gone ↦ f.absent d (subst (λ (z : Setup). d < z.geometry.disks) (base_setup k h lo base w at) was.disk) (off d gone)
       | inr named ↦ f.down d (at.named_down d (base_names k h lo base w at d named))
     ]
-    | inr next ↦ elim next.is [
-      | inl gone ↦ f.absent d next.disk (off d gone)
-      | inr named ↦ f.down d (at.named_down d named)
+    | inr then_missing ↦ elim then_missing.is [
+      | inl gone ↦ f.absent d (subst (λ (z : Setup). d < z.geometry.disks) next_setup then_missing.disk) (off d gone)
+      | inr named ↦ f.down d (next_down d named)
     ]
   ]
 
-  one_missing : (v : Watch) → Follows k.meta.setup.geometry.disks w v → IsServing v.down → (i : Disks) → IsImage v.disks i → IsOneMissing i.power base after
+  one_missing : (v : Watch) → Follows k.meta.setup.geometry.disks w v → IsServing v.down → (i : Disks) → IsImage v.disks i → IsOneMissing i.power base next
   one_missing v f serving i image = record {
     one = λ d e a b. several_in v.down d e serving
         (in_of v f i (λ x gone. ap is_present (sym (image.power x)) ∙ gone) d a)
         (in_of v f i (λ x gone. ap is_present (sym (image.power x)) ∙ gone) e b);
   }
 
-  pub either_stands : (v : Watch) → Follows k.meta.setup.geometry.disks w v → IsOldOrNew w.disks base after k.batch v.disks → IsServing v.down → (x : ℕ) (i : Disks) (said : LogState) → IsLooked v.disks i → Stands i x said
-      → (said.meta ≡ base) ⊎ (said.meta ≡ after)
-  either_stands v f old serving x i said (whole image) stands = elim (old.images.whole i image (one_missing v f serving i image)) [
+  pub next_stands : (v : Watch) → Follows k.meta.setup.geometry.disks w v → IsOldOrNew w.disks base next batch v.disks → IsServing v.down → (x : ℕ) (i : Disks) (said : LogState) → IsLooked v.disks i → Stands i x said
+      → (said.meta ≡ base) ⊎ (said.meta ≡ next)
+  next_stands v f old serving x i said (whole image) stands = elim (old.images.whole i image (one_missing v f serving i image)) [
     | inl a ↦ inl (stood w.disks i base [] x said a stands)
-    | inr b ↦ inr (stood w.disks i after k.batch x said b stands)
+    | inr b ↦ inr (stood w.disks i next batch x said b stands)
   ]
-  either_stands v f old serving x i said (lost j d image may is) stands =
+  next_stands v f old serving x i said (lost j d image may is) stands =
       let there = subst (λ (z : Disks). Stands z x said) (sym is) stands in
       elim (old.images.lost j d image (one_missing v f serving j image) may.weak) [
         | inl a ↦ inl (stood w.disks (lose d j) base [] x said a there)
-        | inr b ↦ inr (stood w.disks (lose d j) after k.batch x said b there)
+        | inr b ↦ inr (stood w.disks (lose d j) next batch x said b there)
       ]
 
-  module _ (b : Bounds) (setup : k.meta.setup ≡ b.setup) (ticks : k.meta.ticks ≤ b.ticks) where
-    next_within : (v : Watch) → Follows k.meta.setup.geometry.disks w v → base.epoch + 1 ≤ b.epoch → (i : Disks) → IsLooked v.disks i → IsWithinBoundsAt b w.spun w.disks i after
+  module _ (next_recorded : (d : ℕ) → d < k.meta.setup.geometry.disks → IsRecordedBy next w d) (b : Bounds) (setup : k.meta.setup ≡ b.setup) (ticks : k.meta.ticks ≤ b.ticks) (next_ticks : next.ticks ≤ b.ticks) (next_epoch : next.epoch ≤ base.epoch + 1) where
+    next_within : (v : Watch) → Follows k.meta.setup.geometry.disks w v → base.epoch + 1 ≤ b.epoch → (i : Disks) → IsLooked v.disks i → IsWithinBoundsAt b w.spun w.disks i next
     next_within v f epoch i looked = record {
-      same_setup = setup;
-      in_time = let e = at.keeps.epoch in let z = ap (λ (m : Meta). m.epoch) at.is_base in omega (arith, e, z, epoch);
-      counted_ticks = ticks;
+      same_setup = next_setup ∙ setup;
+      in_time = omega (arith, next_epoch, epoch);
+      counted_ticks = next_ticks;
       recorded = λ d low here not.
           let there = looked_power v.disks i d looked here in
           let was = f.power d (ap is_present (sym there) ∙ here) in
-          at.recorded_next d (subst (λ (z : Setup). d < z.geometry.disks) (sym setup) low) (ap is_present (sym was) ∙ ap is_present (sym there) ∙ here) not;
+          next_recorded d (subst (λ (z : Setup). d < z.geometry.disks) (sym setup) low) (ap is_present (sym was) ∙ ap is_present (sym there) ∙ here) (λ gone. not (gone_is_named next.out d gone));
     }
 
-    pub commit_within : (cs : List Call) → base.epoch + 1 ≤ b.epoch → EachCall (IsTransferCall k.meta.setup.geometry.disks (gone_out k.meta.out)) w.disks cs → Through (IsOldOrNew w.disks base after k.batch) w.disks cs
+    pub commit_within_by : (cs : List Call) → base.epoch + 1 ≤ b.epoch → EachCall (IsTransferCall k.meta.setup.geometry.disks (gone_out k.meta.out)) w.disks cs → Through (IsOldOrNew w.disks base next batch) w.disks cs
         → Each (StaysWithinAt b w.spun w.disks) (λ (v : Watch) (c : Call). Unit {0}) w cs
-    commit_within cs epoch calls through =
-        each_map (λ (v : Watch). IsOldOrNew w.disks base after k.batch v.disks × Follows k.meta.setup.geometry.disks w v) (StaysWithinAt b w.spun w.disks) (λ (v : Watch) (c : Call). Unit {0}) (λ (v : Watch) (c : Call). Unit {0})
-        (λ v z serving x i said looked stands. elim (either_stands v z.1 z.0 serving x i said looked stands) [
+    commit_within_by cs epoch calls through =
+        each_map (λ (v : Watch). IsOldOrNew w.disks base next batch v.disks × Follows k.meta.setup.geometry.disks w v) (StaysWithinAt b w.spun w.disks) (λ (v : Watch) (c : Call). Unit {0}) (λ (v : Watch) (c : Call). Unit {0})
+        (λ v z serving x i said looked stands. elim (next_stands v z.1 z.0 serving x i said looked stands) [
           | inl old ↦ subst (IsWithinBoundsAt b w.spun w.disks i) (sym old) (base_within k h lo base w at b setup ticks v z.1 (omega (arith, epoch)) i looked)
           | inr new ↦ subst (IsWithinBoundsAt b w.spun w.disks i) (sym new) (next_within v z.1 epoch i looked)
         ])
         (λ v c u. u) w cs
-        (each_through (IsOldOrNew w.disks base after k.batch) (λ (v : Watch) (c : Call). Unit {0}) (Follows k.meta.setup.geometry.disks w) w cs through
+        (each_through (IsOldOrNew w.disks base next batch) (λ (v : Watch) (c : Call). Unit {0}) (Follows k.meta.setup.geometry.disks w) w cs through
         (kept_each (IsTransferCall k.meta.setup.geometry.disks (gone_out k.meta.out)) (Follows k.meta.setup.geometry.disks w) (λ v c lawful is f. follows_step k.meta.setup.geometry.disks w v c is.2 f) w cs calls (start_follows k h lo base w at)))
+
+-- So it is with all that its core has staged.
+module _ (k : Service) (h : History) (lo : ℕ) (base : Meta) (w : Watch) (at : StandsIn k h lo base w) where
+  abbrev after : Meta
+  after = record k.meta { epoch = k.meta.epoch + 1 }
+
+  pub either_stands : (v : Watch) → Follows k.meta.setup.geometry.disks w v → IsOldOrNew w.disks base after k.batch v.disks → IsServing v.down → (x : ℕ) (i : Disks) (said : LogState) → IsLooked v.disks i → Stands i x said
+      → (said.meta ≡ base) ⊎ (said.meta ≡ after)
+  either_stands v f old serving x i said looked stands = next_stands k h lo base w at after k.batch refl at.named_down v f old serving x i said looked stands
+
+  pub commit_within : (b : Bounds) → k.meta.setup ≡ b.setup → k.meta.ticks ≤ b.ticks → (cs : List Call) → base.epoch + 1 ≤ b.epoch → EachCall (IsTransferCall k.meta.setup.geometry.disks (gone_out k.meta.out)) w.disks cs → Through (IsOldOrNew w.disks base after k.batch) w.disks cs
+      → Each (StaysWithinAt b w.spun w.disks) (λ (v : Watch) (c : Call). Unit {0}) w cs
+  commit_within b setup ticks cs epoch calls through =
+      commit_within_by k h lo base w at after k.batch refl at.named_down at.recorded_next b setup ticks ticks (let e = at.keeps.epoch in let z = ap (λ (m : Meta). m.epoch) at.is_base in omega (arith, e, z)) cs epoch calls through

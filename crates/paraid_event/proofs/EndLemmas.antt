@@ -159,8 +159,8 @@ module _ (k k_then : Service) (h h_then : History) (lo lo_then : ℕ) (base : Me
     low_then : (d : ℕ) → d < k_then.meta.setup.geometry.disks → d < n
     low_then d low = subst (λ (z : Setup). d < z.geometry.disks) (marked_setup v.disks.power k.meta k_then.meta marks) low
 
-    not_then : (d : ℕ) → named_out k_then.meta.out ≢ Some d → named_out k.meta.out ≢ Some d
-    not_then d not named = not (still_named v.disks.power k.meta k_then.meta marks d named)
+    not_then : (d : ℕ) → gone_out k_then.meta.out ≢ Some d → gone_out k.meta.out ≢ Some d
+    not_then d not gone = not (still_gone v.disks.power k.meta k_then.meta marks d gone)
 
     then_named : (d : ℕ) → named_out k_then.meta.out ≡ Some d → IsIn v.down d
     then_named d is = elim (newly_named v.disks.power k.meta k_then.meta marks d is) [
@@ -168,7 +168,7 @@ module _ (k k_then : Service) (h h_then : History) (lo lo_then : ℕ) (base : Me
       | inr gone ↦ end_follows.absent d gone.0 gone.1
     ]
 
-    recorded_by : (m : Meta) → ((d : ℕ) → d < n → IsPresent w.disks d → named_out m.out ≢ Some d → w.spun d ≤ first_used m w.disks.power d) → (d : ℕ) → d < n → IsPresent v.disks d → named_out m.out ≢ Some d → v.spun d ≤ first_used m v.disks.power d
+    recorded_by : (m : Meta) → ((d : ℕ) → d < n → IsPresent w.disks d → gone_out m.out ≢ Some d → w.spun d ≤ first_used m w.disks.power d) → (d : ℕ) → d < n → IsPresent v.disks d → gone_out m.out ≢ Some d → v.spun d ≤ first_used m v.disks.power d
     recorded_by m was d low here not =
         let power = end_follows.power d here in
         let count = end_follows.spun d in
@@ -176,7 +176,7 @@ module _ (k k_then : Service) (h h_then : History) (lo lo_then : ℕ) (base : Me
         let used = same_used m v.disks.power w.disks.power d power in
         omega (arith, count, before, used)
 
-    then_recorded : (d : ℕ) → d < k_then.meta.setup.geometry.disks → IsPresent v.disks d → named_out k_then.meta.out ≢ Some d → v.spun d ≤ first_used k_then.meta v.disks.power d
+    then_recorded : (d : ℕ) → d < k_then.meta.setup.geometry.disks → IsPresent v.disks d → gone_out k_then.meta.out ≢ Some d → v.spun d ≤ first_used k_then.meta v.disks.power d
     then_recorded d low here not =
         let was = recorded_by k.meta at.recorded_next d (low_then d low) here (not_then d not) in
         let used = marked_used v.disks.power k.meta k_then.meta marks v.disks.power d in
@@ -226,12 +226,12 @@ module _ (k k_then : Service) (h h_then : History) (lo lo_then : ℕ) (base : Me
         base_ticks (inl old) = let z = ap (λ (m : Meta). m.ticks) old in let l = at.ticks in omega (arith, z, l)
         base_ticks (inr new) = let z = ap (λ (m : Meta). m.ticks) new in omega (arith, z)
 
-        recorded_base : (d : ℕ) → d < n → IsPresent v.disks d → named_out keeps.base.out ≢ Some d → (keeps.base ≡ base) ⊎ (keeps.base ≡ committed_meta k) → v.spun d ≤ first_used keeps.base v.disks.power d
+        recorded_base : (d : ℕ) → d < n → IsPresent v.disks d → gone_out keeps.base.out ≢ Some d → (keeps.base ≡ base) ⊎ (keeps.base ≡ committed_meta k) → v.spun d ≤ first_used keeps.base v.disks.power d
         recorded_base d low here not (inl old) =
-            let was = recorded_by base at.recorded d low here (λ is. not (ap (λ (m : Meta). named_out m.out) old ∙ is)) in
+            let was = recorded_by base at.recorded d low here (λ is. not (ap (λ (m : Meta). gone_out m.out) old ∙ is)) in
             let used = ap (λ (m : Meta). first_used m v.disks.power d) old in
             omega (arith, was, used)
         recorded_base d low here not (inr new) =
-            let was = recorded_by k.meta at.recorded_next d low here (λ is. not (ap (λ (m : Meta). named_out m.out) new ∙ is)) in
+            let was = recorded_by k.meta at.recorded_next d low here (λ is. not (ap (λ (m : Meta). gone_out m.out) new ∙ is)) in
             let used = ap (λ (m : Meta). first_used m v.disks.power d) new in
             omega (arith, was, used)

@@ -43,7 +43,7 @@ use Rattle.paraid_event.specs.Parts.{AreEventCalls, EndsEvent, ServesEvent, comm
 use Rattle.paraid_event.specs.Service.{IsStateOf, Service}
 use Rattle.paraid_event.specs.Stands.{IsMidway, ServiceStandsFor, StandsAt, StandsIn}
 use Rattle.paraid_event.proofs.EndLemmas.{IsOnly, fails_head, fails_split, fails_tail, only_is, only_serving, self_image}
-use Rattle.paraid_event.proofs.MarksLemmas.{kept_fill, kept_out, kept_phase, lost_fill, lost_out, lost_phase, marked_setup, same_gear, same_spins, same_ticks, still_named, twice}
+use Rattle.paraid_event.proofs.MarksLemmas.{gone_is_named, kept_fill, kept_out, kept_phase, lost_fill, lost_out, lost_phase, marked_setup, same_gear, same_spins, same_ticks, still_named, twice}
 use Rattle.paraid_event.proofs.PartLemmas.{IsSettled, part_attaches, part_base, part_committed, part_each, part_epoch, part_failed, part_marks, part_only, part_powered, part_stands}
 use Rattle.paraid_event.proofs.PointLemmas.{stands_mark}
 use Rattle.paraid_event.proofs.TurnLemmas.{absent_named, fresh_there, out_low}
@@ -105,21 +105,16 @@ taken_midway k j h lo base v d at is alone low down keeps = subst (λ (z : Servi
     stays = λ e named. ap (λ (x : ℕ). Some x) (sym (alone e (at.stands.stays e named)));
     recorded = at.stands.recorded;
     recorded_next = λ e e_low here not.
-        let before = at.stands.recorded_next e e_low here (λ named. not (ap (λ (x : ℕ). Some x) (sym (alone e named)))) in
+        let before = at.stands.recorded_next e e_low here (λ gone. not (ap (λ (x : ℕ). Some x) (sym (alone e (gone_is_named k.meta.out e gone))))) in
         let used = taken_used k.meta d v.disks.power e in
         omega (arith, before, used);
-    awaited = λ e waits. ap (λ (x : ℕ). Some x) (sym (alone e (gone_named k.meta.out e (at.stands.awaited e waits))));
+    awaited = λ e waits. ap (λ (x : ℕ). Some x) (sym (alone e (gone_is_named k.meta.out e (at.stands.awaited e waits))));
     ticks = at.stands.ticks;
   };
   named = λ e e_low gone. ap (λ (x : ℕ). Some x) (sym (alone e (at.named e e_low gone)));
   low = λ e named. let z : Some d ≡ Some e = named in let same_disk : d ≡ e = cc in subst (λ (x : ℕ). x < k.meta.setup.geometry.disks) same_disk low;
   fresh = λ e u named. let z : Gone d ≡ Fresh e u = named in cc;
 })
-  where
-    gone_named : (o : Out) (e : ℕ) → gone_out o ≡ Some e → named_out o ≡ Some e
-    gone_named No e z = z
-    gone_named (Gone x) e z = z
-    gone_named (Fresh x u) e z = let y : None ≡ Some e = z in cc
 
 one_or_same : (o : Option ℕ) (d e : ℕ) → (o ≡ Some e → e ≡ d) → o ≡ Some e → Some d ≡ Some e
 one_or_same o d e alone is = ap (λ (x : ℕ). Some x) (sym (alone is))

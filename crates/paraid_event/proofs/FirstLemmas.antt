@@ -128,18 +128,6 @@ module _ (told : Option Trail) (s : Disks) (standing : Meta) (h : History) (spun
   absent_named : (d : ℕ) → d < k.meta.setup.geometry.disks → is_present (s.power d) ≡ false → named_out k.meta.out ≡ Some d
   absent_named d low gone = ap (λ (m : Meta). named_out m.out) begins.meta ∙ begins.servable.absent d (below_lost d low) (ap is_present (sym (begins.agrees.power d)) ∙ gone)
 
-  names_still : (o : Option ℕ) (d : ℕ) → o ≡ mark → named_out standing.out ≡ Some d → named_out (out_state s.power standing) ≡ Some d
-  names_still o d is named = by standing.out named
-    where
-      fresh_by : (there : Bool) (e u : ℕ) → e ≡ d → named_out (if there then Fresh e u else Gone e) ≡ Some d
-      fresh_by true e u same = ap (λ (x : ℕ). Some x) same
-      fresh_by false e u same = ap (λ (x : ℕ). Some x) same
-
-      by : (z : Out) → named_out z ≡ Some d → named_out (out_after z s.power (first_absent s.power standing.setup.geometry.disks)) ≡ Some d
-      by No n = let y : None ≡ Some d = n in cc
-      by (Gone e) n = n
-      by (Fresh e u) n = fresh_by (is_present (s.power e)) e u (let y : Some e ≡ Some d = n in cc)
-
   shown : ShowsMeta s.power standing k.meta
   shown = subst (ShowsMeta s.power standing) (sym begins.meta) (record {
     gear = sym (loss_gear standing mark);
@@ -183,9 +171,9 @@ module _ (told : Option Trail) (s : Disks) (standing : Meta) (h : History) (spun
       absent_down = λ d low gone. named_in d (absent_named d low gone);
       named_down = named_in;
       stays = λ d named. ap (λ (m : Meta). named_out m.out) begins.meta ∙ begins.servable.stays d named;
-      recorded = λ d low here not. begins.recorded d (below d low) here not;
+      recorded = λ d low here not. begins.recorded d here;
       recorded_next = λ d low here not.
-          let was = begins.recorded d (below d low) here (λ named. not (ap named_out out_is ∙ names_still mark d refl named)) in
+          let was = begins.recorded d here in
           let used = ap (λ (m : Meta). first_used m s.power d) begins.meta ∙ loss_used standing mark s.power d in
           omega (arith, was, used);
       awaited = λ d waits. sym (ap gone_out state_is) ∙ waits;

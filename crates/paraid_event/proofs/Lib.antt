@@ -38,3 +38,7 @@ pub mod AttachingLemmas
 pub mod ReplacementLemmas
 pub mod ReplacementToldLemmas
 pub mod RebuildTickLemmas
+pub mod RejoinLemmas
+pub mod ParkBackLemmas
+pub mod RebuildEndLemmas
+pub mod RebuildFinishLemmas

@@ -38,6 +38,12 @@ named_after (Fresh d rebuilt) power slot = named_fresh (is_present (power d)) d 
 pub named_state : (power : ℕ → Power) (m : Meta) → named_out (out_state power m) ≡ out_disk power m
 named_state power m = named_after m.out power (first_absent power m.setup.geometry.disks)
 
+-- a disk that is gone is named out
+pub gone_is_named : (o : Out) (d : ℕ) → gone_out o ≡ Some d → named_out o ≡ Some d
+gone_is_named No d is = is
+gone_is_named (Gone e) d is = is
+gone_is_named (Fresh e rebuilt) d is = let z : None ≡ Some d = is in cc
+
 some_is : {A : Type 0} (a b : A) → Some a ≡ Some b → a ≡ b
 some_is {A} a b e = cc
 
@@ -188,12 +194,7 @@ module _ (power : ℕ → Power) (m new : Meta) (marks : IsMarkedBy power m new)
   still_named d is = split _ (λ none. ap named_out (kept_out none) ∙ is) (λ x some. ap named_out (lost_out x some) ∙ ap (λ (z : ℕ). Some z) (sym (marks.alone x d some is)))
 
   pub still_gone : (d : ℕ) → gone_out m.out ≡ Some d → gone_out new.out ≡ Some d
-  still_gone d is = split _ (λ none. ap gone_out (kept_out none) ∙ is) (λ x some. ap gone_out (lost_out x some) ∙ ap (λ (z : ℕ). Some z) (sym (marks.alone x d some (gone_named m.out d is))))
-    where
-      gone_named : (o : Out) (d : ℕ) → gone_out o ≡ Some d → named_out o ≡ Some d
-      gone_named No d e = e
-      gone_named (Gone e) d at = at
-      gone_named (Fresh e rebuilt) d at = let z : None ≡ Some d = at in cc
+  still_gone d is = split _ (λ none. ap gone_out (kept_out none) ∙ is) (λ x some. ap gone_out (lost_out x some) ∙ ap (λ (z : ℕ). Some z) (sym (marks.alone x d some (gone_is_named m.out d is))))
 
   -- one that is named out now was so, or is absent
   pub newly_named : (d : ℕ) → named_out new.out ≡ Some d → (named_out m.out ≡ Some d) ⊎ ((d < m.setup.geometry.disks) × (is_present (power d) ≡ false))

@@ -21,7 +21,7 @@ use Rattle.paraid_startup.proofs.RestLemmas.{rest_only}
 use Rattle.paraid_startup.proofs.SpinsLemmas.{looked_power, same_used}
 use Rattle.paraid_event.specs.Service.{Service}
 use Rattle.paraid_event.specs.Stands.{StandsAt}
-use Rattle.paraid_event.proofs.MarksLemmas.{named_state, powers_of, state_shown}
+use Rattle.paraid_event.proofs.MarksLemmas.{gone_is_named, named_state, powers_of, state_shown}
 
 held_beside : (slots : ℕ) (s : Disks) (h : History) (lo : ℕ) (o : Option ℕ) → IsHeld slots s h lo o → IsHeldWhileServing slots s h lo (down_from_out o)
 held_beside slots s h lo None held = held
@@ -70,7 +70,7 @@ module _ (told : Option Trail) (k : Service) (setup : Setup) (p : Point) (at : S
     recorded = λ d low here not.
         let power = looked_power p.disks i d looked here in
         let used = same_used p.meta i.power p.disks.power d power in
-        let before = at.stands.recorded d (subst (λ (z : Setup). d < z.geometry.disks) (sym at.same_setup) low) (ap is_present (sym power) ∙ here) not in
+        let before = at.stands.recorded d (subst (λ (z : Setup). d < z.geometry.disks) (sym at.same_setup) low) (ap is_present (sym power) ∙ here) (λ gone. not (gone_is_named p.meta.out d gone)) in
         omega (arith, used, before);
   })
 

@@ -8,7 +8,7 @@ use Rattle.paraid_base.specs.declared.state.Out.TheVariants.{No, Gone, Fresh}
 use Rattle.paraid_base.specs.declared.state.Phase.{Phase}
 use Rattle.paraid_base.specs.declared.state.Phase.TheVariants.{Steady, Down as PhaseDown, Up}
 use Rattle.paraid_base.specs.History.{History}
-use Rattle.paraid_base.specs.States.{has_out, named_out, phase_beside, rising_to}
+use Rattle.paraid_base.specs.States.{gone_out, has_out, named_out, phase_beside, rising_to}
 use Rattle.paraid_rack.specs.declared.call.Call.{Call}
 use Rattle.paraid_rack.specs.declared.call.Call.TheVariants.{Read, Write, Sync, Park, SpinUp, Attach}
 use Rattle.paraid_rack.specs.declared.call.Power.{Power}
@@ -23,7 +23,8 @@ use Rattle.paraid_record.specs.declared.meta.Setup.{Setup}
 use Rattle.paraid_image.specs.Calls.{disk_of, is_attach, is_done}
 use Rattle.paraid_image.specs.HeldAt.{IsHeld}
 use Rattle.paraid_image.specs.Looked.IsLooked.{whole}
-use Rattle.paraid_image.specs.Power.{PowerState}
+use Rattle.paraid_image.specs.Out.{first_absent}
+use Rattle.paraid_image.specs.Power.{PowerState, out_after}
 use Rattle.paraid_image.specs.Rest.{closed_over}
 use Rattle.paraid_image.specs.Sides.{LogState}
 use Rattle.paraid_image.specs.Spins.{first_used}
@@ -39,7 +40,7 @@ use Rattle.paraid_startup.specs.Calls.{IsSpinUpRecorded}
 use Rattle.paraid_startup.specs.Recorded.{AreSpinUpsRecorded, HasRecord, OnlyStands, StaysWithin}
 use Rattle.paraid_startup.proofs.CallsLemmas.{each_map as each_call_map}
 use Rattle.paraid_startup.proofs.DownLemmas.{in_absent, in_stays, watched_disks}
-use Rattle.paraid_startup.proofs.SpinsLemmas.{each_recorded, serving_by}
+use Rattle.paraid_startup.proofs.SpinsLemmas.{each_recorded, one_recorded, serving_by}
 use Rattle.paraid_txn.specs.Uses.{EachCall}
 use Rattle.paraid_event.specs.Marks.{ArePoweredByGear, IsMarkedBy, ShowsMeta}
 use Rattle.paraid_event.specs.Powering.{AreDisksPowered, EndsPowered}
@@ -47,9 +48,15 @@ use Rattle.paraid_event.specs.Service.{IsStateOf, Service}
 use Rattle.paraid_event.specs.Stands.{IsMidway, ServiceStandsFor}
 use Rattle.paraid_event.proofs.ChainLemmas.{base_names, base_setup, only_base, start_follows_log}
 use Rattle.paraid_event.proofs.EndLemmas.{IsOnly, fails_split, only_end, self_image}
-use Rattle.paraid_event.proofs.MarksLemmas.{kept_fill, kept_out, kept_phase, lost_fill, lost_out, lost_phase, marked_setup, marked_used, newly_named, same_gear, same_spins, same_ticks, still_named, still_shown, twice}
+use Rattle.paraid_event.proofs.MarksLemmas.{gone_is_named, kept_fill, kept_out, kept_phase, lost_fill, lost_out, lost_phase, marked_setup, marked_used, newly_named, same_gear, same_spins, same_ticks, still_gone, still_named, still_shown, twice}
 use Rattle.paraid_event.proofs.PartLemmas.{IsSettled}
 use Rattle.paraid_event.proofs.TurnLemmas.{moved, state_after}
+
+-- a disk that is gone by the last commit is so by what the disks show
+still_out : (o : Out) (d : ℕ) → gone_out o ≡ Some d → (power : ℕ → Power) (slot : Option ℕ) → gone_out (out_after o power slot) ≡ Some d
+still_out No d is power slot = let z : None ≡ Some d = is in cc
+still_out (Gone e) d is power slot = is
+still_out (Fresh e u) d is power slot = let z : None ≡ Some d = is in cc
 
 each_last : (P : Watch → Type 0) (A : Watch → Call → Type 0) (w : Watch) (cs : List Call) → Each P A w cs → P (watch_all cs w)
 each_last P A w [] each = each
@@ -180,12 +187,17 @@ power_there m s (c ∷ cs) e each is = elim (fails_split c cs e is) [
     before true t there = t
     before false t there = absurd (false≢true (sym (off_step m s c e each.0 each.1 t) ∙ there))
 
+-- disk `e` is spun up in these calls
+abbrev pub Raises : ℕ → List Call → Type 0
+Raises e [] = ⊥
+Raises e (c ∷ cs) = ((done : Bool) × (c ≡ SpinUp e done)) ⊎ Raises e cs
+
 none_after : (o : Option ℕ) (c : Call) → ((d : ℕ) → o ≡ Some d → ⊥) → (d : ℕ) → awaited_after o c ≡ Some d → ⊥
 none_after None c none d is = let z : None ≡ Some d = is in cc
 none_after (Some x) c none d is = none x refl
 
 module _ (k : Service) (h : History) (lo : ℕ) (base : Meta) (w : Watch) (at : IsMidway k h lo base w) (shows : ShowsMeta w.disks.power base k.meta) (none_awaited : (d : ℕ) → w.awaited ≡ Some d → ⊥)
-    (has : (d : ℕ) → base.gear ≤ d → d < rising_to base.phase → 1 ≤ slice_index base.spins d) (cs : List Call) (part : AreDisksPowered k h lo w.disks cs) where
+    (cs : List Call) (part : AreDisksPowered k h lo w.disks cs) (has : (e : ℕ) → Raises e cs → base.gear ≤ e → e < rising_to base.phase → 1 ≤ slice_index base.spins e) where
   abbrev v : Watch
   v = watch_all cs w
 
@@ -274,33 +286,33 @@ module _ (k : Service) (h : History) (lo : ℕ) (base : Meta) (w : Watch) (at : 
       alone now_serving x it.image said it.looked it.stands
   only_step u (Attach e size done) lawful is cover held alone serving x i said looked stands = absurd is
 
-  record_of : (u : Watch) (c : Call) → IsPowerCall base c → HasRecord base u c
-  record_of u (Read e p done) is serving d made same = absurd is
-  record_of u (Write e p b done) is serving d made same = absurd is
-  record_of u (Sync e done) is serving d made same = absurd is
-  record_of u (Park e done) is serving d made same = absurd (let z : Park e done ≡ SpinUp d made = same in cc)
-  record_of u (SpinUp e done) is serving d made same = let one : e ≡ d = (let z : SpinUp e done ≡ SpinUp d made = same in cc) in subst (λ (x : ℕ). 1 ≤ slice_index base.spins x) one (has e is.1 is.2)
-  record_of u (Attach e size done) is serving d made same = absurd is
+  record_of : (u : Watch) (c : Call) → IsPowerCall base c → ((e : ℕ) (done : Bool) → c ≡ SpinUp e done → base.gear ≤ e → e < rising_to base.phase → 1 ≤ slice_index base.spins e) → HasRecord base u c
+  record_of u (Read e p done) is one serving d made same = absurd is
+  record_of u (Write e p b done) is one serving d made same = absurd is
+  record_of u (Sync e done) is one serving d made same = absurd is
+  record_of u (Park e done) is one serving d made same = absurd (let z : Park e done ≡ SpinUp d made = same in cc)
+  record_of u (SpinUp e done) is one serving d made same = let equal : e ≡ d = (let z : SpinUp e done ≡ SpinUp d made = same in cc) in subst (λ (x : ℕ). 1 ≤ slice_index base.spins x) equal (one e done refl is.1 is.2)
+  record_of u (Attach e size done) is one serving d made same = absurd is
 
-  resting : (u : Watch) (ds : List Call) → Covers u → Through P u.disks ds → EachCall (IsPowerCall base) u.disks ds → OnlyStands base u → Each (OnlyStands base) (HasRecord base) u ds
-  resting u [] cover through each alone = alone
-  resting u (c ∷ ds) cover through each alone = (
+  resting : (u : Watch) (ds : List Call) → ((e : ℕ) → Raises e ds → base.gear ≤ e → e < rising_to base.phase → 1 ≤ slice_index base.spins e) → Covers u → Through P u.disks ds → EachCall (IsPowerCall base) u.disks ds → OnlyStands base u → Each (OnlyStands base) (HasRecord base) u ds
+  resting u [] raised cover through each alone = alone
+  resting u (c ∷ ds) raised cover through each alone = (
     alone,
-    record_of u c each.1,
-    resting (watch c u) ds (covers_step u c cover) through.1 each.2 (only_step u c each.0 each.1 cover through.0 alone),
+    record_of u c each.1 (λ e done is. raised e (inl (done, is))),
+    resting (watch c u) ds (λ e is. raised e (inr is)) (covers_step u c cover) through.1 each.2 (only_step u c each.0 each.1 cover through.0 alone),
   )
 
   covered : Covers w
   covered = record { absent = at.stands.absent_down; out = λ d is. at.stands.named_down d (outs d is) }
 
   alone_each : Each (OnlyStands base) (HasRecord base) w cs
-  alone_each = resting w cs covered part.held calls (λ serving x i said looked stands. only_base k h lo base w at.stands w (start_follows_log k h lo base w at.stands) serving x i said looked stands)
+  alone_each = resting w cs has covered part.held calls (λ serving x i said looked stands. only_base k h lo base w at.stands w (start_follows_log k h lo base w at.stands) serving x i said looked stands)
 
   alone_end : OnlyStands base v
   alone_end = each_last (OnlyStands base) (HasRecord base) w cs alone_each
 
   recorded_start : AreSpinUpsRecorded base w
-  recorded_start serving d low here not = at.stands.recorded d (subst (λ (z : Setup). d < z.geometry.disks) same_setup low) here not
+  recorded_start serving d low here not = at.stands.recorded d (subst (λ (z : Setup). d < z.geometry.disks) same_setup low) here (λ gone. not (gone_is_named base.out d gone))
 
   allowed_each : (b : Bounds) (asked : Option ℕ) → base.setup ≡ b.setup → (u : Watch) (ds : List Call) → ((d : ℕ) → u.awaited ≡ Some d → ⊥) → EachCall (IsPowerCall base) u.disks ds
       → Each (λ (u : Watch). Unit {0}) (λ (u : Watch) (c : Call). IsSpinUpRecorded u c → IsAllowed b.setup asked u c) u ds
@@ -369,13 +381,8 @@ module _ (k : Service) (h : History) (lo : ℕ) (base : Meta) (w : Watch) (at : 
     base_is : IsServing v.down → keeps_there.0.base ≡ base
     base_is serving = let i = keeps_there.0.copies.copying image (self_image v.disks) in alone_end serving i.disk image said (whole (self_image v.disks)) i.log.stands
 
-    recorded_end : IsServing v.down → (d : ℕ) → d < n → IsPresent v.disks d → named_out base.out ≢ Some d → v.spun d ≤ first_used base v.disks.power d
-    recorded_end serving d low here not =
-        let b : Bounds = record { setup = base.setup; epoch = base.epoch; ticks = base.ticks } in
-        let end = each_last (StaysWithin b) IsSpinUpRecorded w cs (each_recorded base b refl (omega arith) (omega arith) w cs calls alone_each recorded_start) in
-        let i = keeps_there.0.copies.copying image (self_image v.disks) in
-        subst (λ (m : Meta). v.spun d ≤ first_used m v.disks.power d) (base_is serving)
-        ((end serving i.disk image said (whole (self_image v.disks)) i.log.stands).recorded d (below d low) here (λ named. not (ap (λ (m : Meta). named_out m.out) (sym (base_is serving)) ∙ named)))
+    recorded_end : IsServing v.down → (d : ℕ) → d < n → IsPresent v.disks d → gone_out base.out ≢ Some d → v.spun d ≤ first_used base v.disks.power d
+    recorded_end serving d low here not = one_recorded base d w cs calls alone_each (λ now_serving there. at.stands.recorded d low there not) serving here
 
     low_then : (d : ℕ) → d < k_then.meta.setup.geometry.disks → d < n
     low_then d low = subst (λ (z : Setup). d < z.geometry.disks) (marked_setup v.disks.power k.meta k_then.meta power_marks) low
@@ -408,8 +415,8 @@ module _ (k : Service) (h : History) (lo : ℕ) (base : Meta) (w : Watch) (at : 
             (base_names k h lo base w at.stands d (ap (λ (m : Meta). named_out m.out) (sym (base_is serving)) ∙ keeps_there.0.named_by ∙ is));
         recorded = λ d low here not. recorded_end serving d (low_then d low) here not;
         recorded_next = λ d low here not.
-            let not_was : named_out k.meta.out ≢ Some d = (λ named. not (still_named v.disks.power k.meta k_then.meta power_marks d named)) in
-            let was = recorded_end serving d (low_then d low) here (not_base d not_was) in
+            let not_was : gone_out base.out ≢ Some d = (λ gone. not (still_gone v.disks.power k.meta k_then.meta power_marks d (ap gone_out (sym shows.out) ∙ still_out base.out d gone w.disks.power (first_absent w.disks.power base.setup.geometry.disks)))) in
+            let was = recorded_end serving d (low_then d low) here not_was in
             let used = marked_used v.disks.power k.meta k_then.meta power_marks v.disks.power d in
             let same = base_used d in
             omega (arith, was, used, same);

@@ -91,13 +91,13 @@ module _ (P : Watch → Type 0) (setup : Setup) (asked : Option ℕ) where
     | inr later ↦ failed_off (watch c w) cs e each.2 no.1 later
   ]
 
-capped_sum : (a b t x y : ℕ) → a ≡ b → x ≡ min (b + t) 18446744073709551615 → y ≡ x → min (a + (t + 0)) 18446744073709551615 ≡ y
+pub capped_sum : (a b t x y : ℕ) → a ≡ b → x ≡ min (b + t) 18446744073709551615 → y ≡ x → min (a + (t + 0)) 18446744073709551615 ≡ y
 capped_sum a b t x y equal is last = grind (arith)
 
-under_cap : (x y a : ℕ) → x ≡ min a 18446744073709551615 → y ≡ x → y ≤ 18446744073709551615
+pub under_cap : (x y a : ℕ) → x ≡ min a 18446744073709551615 → y ≡ x → y ≤ 18446744073709551615
 under_cap x y a is last = grind (arith)
 
-equal_test : (a b : ℕ) → a ≡ b → (a == b) ≡ true
+pub equal_test : (a b : ℕ) → a ≡ b → (a == b) ≡ true
 equal_test a b same_disk = grind (arith, nat_tests)
 
 less_min : (a b : ℕ) → a < b → min a b ≡ a
@@ -106,7 +106,7 @@ less_min a b l = grind (arith)
 apart_test : (a b : ℕ) → a < b → (a == b) ≡ false
 apart_test a b l = grind (arith, nat_tests)
 
-some_trail : (a b : Trail) → Some a ≡ Some b → a ≡ b
+pub some_trail : (a b : Trail) → Some a ≡ Some b → a ≡ b
 some_trail a b e = cc
 
 -- so it is answered: units are moved, or the disk is gone again
@@ -136,20 +136,20 @@ module _ (told : Option Trail) (k k1 : Service) (setup : Setup) (p : Point) (at 
   abbrev b : Bounds
   b = bounds_at setup p s1
 
-  state1 : IsStateOf k1 s1
+  pub state1 : IsStateOf k1 s1
   state1 = subst (λ (z : Service). IsStateOf z s1) (sym counts.is) (state_then told k k1 setup p at counts fit)
 
-  out1 : k1.meta.out ≡ Fresh d rebuilt
+  pub out1 : k1.meta.out ≡ Fresh d rebuilt
   out1 = sym state1.out ∙ is_fresh
 
-  setup1 : k1.meta.setup ≡ setup
+  pub setup1 : k1.meta.setup ≡ setup
   setup1 = ap (λ (z : Service). z.meta.setup) counts.is ∙ at.same_setup
 
-  slots1 : k1.slots ≡ k.slots
+  pub slots1 : k1.slots ≡ k.slots
   slots1 = ap (λ (z : Service). z.slots) counts.is
 
   -- the tick is counted
-  underway1 : IsUnderway k1 p.history p.low p.meta w0
+  pub underway1 : IsUnderway k1 p.history p.low p.meta w0
   underway1 = subst (λ (z : Service). IsUnderway z p.history p.low p.meta w0) (sym counts.is) (record {
     midway = record { stands = stands_in told k k1 setup p at counts fit; named = absent_named told k setup p at; low = out_low told k setup p at; fresh = fresh_there told k setup p at };
     only = subst (λ (o : Out). IsOnly (named_out o) (down_from_out (named_out p.state.out))) at.state.out (only_from (named_out p.state.out));
@@ -157,14 +157,14 @@ module _ (told : Option Trail) (k k1 : Service) (setup : Setup) (p : Point) (at 
     powered = record { by_gear = at.powered.by_gear; fresh = at.powered.fresh };
   })
 
-  counted_energy : k1.energy ≡ min (k.energy + tick_energy setup p.state) 18446744073709551615
+  pub counted_energy : k1.energy ≡ min (k.energy + tick_energy setup p.state) 18446744073709551615
   counted_energy = used told k k1 setup p at counts fit
 
   abbrev Held : List Call → Type 0
   Held = Each (HoldsWhileServing k.slots p.history p.low b) (IsAllowed setup None) w0
 
   -- what a session asks of each moment
-  moments : (cs : List Call) → AreStepCalls k1 p.history p.low most p.meta w0 cs → Held cs
+  pub moments : (cs : List Call) → AreStepCalls k1 p.history p.low most p.meta w0 cs → Held cs
   moments cs calls = subst (λ (n : ℕ). Each (HoldsWhileServing n p.history p.low b) (IsAllowed setup None) w0 cs) slots1
       (calls.moments b None setup1 (let e = state1.ticks in omega (arith, e)) (omega (arith, few)))
 
@@ -344,7 +344,7 @@ module _ (told : Option Trail) (k k1 : Service) (setup : Setup) (p : Point) (at 
     served = state1.served ∙ sym counts2.counts_then.served;
   }
 
-  gone_state : (k2 : Service) → CountsRebuild k k1 k2 → MarksGoneAgain k1 k2 d → IsStateOf k2 (rebuilt_state setup s1 d rebuilt false)
+  pub gone_state : (k2 : Service) → CountsRebuild k k1 k2 → MarksGoneAgain k1 k2 d → IsStateOf k2 (rebuilt_state setup s1 d rebuilt false)
   gone_state k2 counts2 marks = record {
     gear = state1.gear ∙ sym (ap (λ (m : Meta). m.gear) marks.is);
     phase = ap (phase_beside true) state1.phase ∙ sym (ap (λ (m : Meta). m.phase) marks.is);

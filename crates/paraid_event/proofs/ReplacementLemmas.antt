@@ -59,7 +59,7 @@ use Rattle.paraid_event.proofs.BeginLemmas.{first_append}
 use Rattle.paraid_event.proofs.EndLemmas.{IsOnly, failed_absent, fails_tail, only_is, only_serving}
 use Rattle.paraid_event.proofs.FailLemmas.{same_base, watch_append}
 use Rattle.paraid_event.proofs.LostLemmas.{capped_own, one_outcome}
-use Rattle.paraid_event.proofs.MarksLemmas.{kept_fill, kept_out, kept_phase, lost_fill, lost_out, lost_phase, marked_setup, same_gear, same_ticks, still_named}
+use Rattle.paraid_event.proofs.MarksLemmas.{gone_is_named, kept_fill, kept_out, kept_phase, lost_fill, lost_out, lost_phase, marked_setup, same_gear, same_ticks, still_named}
 use Rattle.paraid_event.proofs.PartLemmas.{IsSettled, part_attaches, part_calls, part_committed, part_each, part_epoch, part_failed, part_marks, part_only, part_powered, part_stands, part_state}
 use Rattle.paraid_event.proofs.PointLemmas.{stands_mark}
 use Rattle.paraid_event.proofs.TurnLemmas.{absent_named, fresh_there, out_low, state_after}
@@ -73,11 +73,6 @@ has_named : (o : Out) (d : ℕ) → named_out o ≡ Some d → has_out o ≡ tru
 has_named No d is = let z : None ≡ Some d = is in cc
 has_named (Gone e) d is = refl
 has_named (Fresh e u) d is = refl
-
-gone_named : (o : Out) (d : ℕ) → gone_out o ≡ Some d → named_out o ≡ Some d
-gone_named No d is = is
-gone_named (Gone e) d is = is
-gone_named (Fresh e u) d is = let z : None ≡ Some d = is in cc
 
 below_test : (a b : ℕ) → a < b → nat_lt a b ≡ true
 below_test a b l = grind (arith, nat_tests)
@@ -139,10 +134,10 @@ replaced_midway k j h lo base v d spins at named others is keeps = subst (λ (z 
     recorded = at.stands.recorded;
     recorded_next = λ e low here not.
         let apart : e ≢ d = (λ same_disk. not (ap (λ (x : ℕ). Some x) (sym same_disk))) in
-        let before = at.stands.recorded_next e low here (λ e_named. not (sym named ∙ e_named)) in
+        let before = at.stands.recorded_next e low here (λ e_gone. not (sym named ∙ gone_is_named k.meta.out e e_gone)) in
         let used = replaced_used k.meta spins d v.disks.power e (others e apart) in
         omega (arith, before, used);
-    awaited = λ e waits. sym named ∙ gone_named k.meta.out e (at.stands.awaited e waits);
+    awaited = λ e waits. sym named ∙ gone_is_named k.meta.out e (at.stands.awaited e waits);
     ticks = at.stands.ticks;
   };
   named = λ e low gone. sym named ∙ at.named e low gone;

@@ -33,7 +33,7 @@ use Rattle.paraid_event.proofs.ShownLemmas.{shown_shift}
 use Rattle.paraid_event.proofs.StepLemmas.{both_go, both_lose, data_steps, one_calls, one_leaves, one_midway, one_only, one_room, one_serving, only_grows}
 
 -- the disk that is being rebuilt by a meta with a mark was so before it
-fresh_of : (o : Out) (d : ℕ) → named_out o ≡ Some d → gone_out o ≡ None → (u : ℕ) × (o ≡ Fresh d u)
+pub fresh_of : (o : Out) (d : ℕ) → named_out o ≡ Some d → gone_out o ≡ None → (u : ℕ) × (o ≡ Fresh d u)
 fresh_of No d named gone = let z : None ≡ Some d = named in cc
 fresh_of (Gone e) d named gone = let z : Some e ≡ None = gone in cc
 fresh_of (Fresh e u) d named gone = let z : Some e ≡ Some d = named in (u, ap (λ (x : ℕ). Fresh x u) (let same : e ≡ d = cc in same))
@@ -55,7 +55,7 @@ module _ (k j : Service) (mark : MarksInMemory k j) (h : History) (lo : ℕ) (ba
       named_down = λ d is. at.stands.named_down d (sym mark.names ∙ is);
       stays = λ d said. mark.names ∙ at.stands.stays d (sym mark.named ∙ said);
       recorded = λ d low here not. at.stands.recorded d (below d low) here not;
-      recorded_next = λ d low here not. let before = at.stands.recorded_next d (below d low) here (λ named. not (mark.names ∙ named)) in let used = mark.used w.disks.power d (below d low) in omega (arith, before, used);
+      recorded_next = λ d low here not. let before = at.stands.recorded_next d (below d low) here (λ gone. not (mark.gone ∙ gone)) in let used = mark.used w.disks.power d (below d low) in omega (arith, before, used);
       awaited = λ d is. mark.gone ∙ at.stands.awaited d is;
       ticks = let l = at.stands.ticks in let e = mark.ticks in omega (arith, l, e);
     };
@@ -245,7 +245,7 @@ module _ (k k_then : Service) (h : History) (lo : ℕ) (slots : k_then.slots ≡
 
   pub raised_calls : AreStepCalls k h lo 0 base w cs
   raised_calls = record {
-    moments = λ b asked setup ticks room. power_each k h lo base w mid shown none_awaited has cs part b setup (let t = mid.stands.ticks in omega (arith, ticks, t)) (omega (arith, room)) asked;
+    moments = λ b asked setup ticks room. power_each k h lo base w mid shown none_awaited cs part (λ e raised. has e) b setup (let t = mid.stands.ticks in omega (arith, ticks, t)) (omega (arith, room)) asked;
     attaches = power_attaches k.meta w.disks cs part.calls;
   }
 
@@ -255,10 +255,10 @@ module _ (k k_then : Service) (h : History) (lo : ℕ) (slots : k_then.slots ≡
 
   module _ (ends : EndsPowered k k_then h lo w.disks cs) where
     raised_marks : IsMarkedBy u.disks.power k.meta k_then.meta
-    raised_marks = power_marks k h lo base w mid shown none_awaited has cs part k_then ends
+    raised_marks = power_marks k h lo base w mid shown none_awaited cs part (λ e raised. has e) k_then ends
 
     raised_only : IsOnly (named_out k_then.meta.out) u.down
-    raised_only = power_only k h lo base w mid shown none_awaited has cs part k_then ends (named_out k_then.meta.out)
+    raised_only = power_only k h lo base w mid shown none_awaited cs part (λ e raised. has e) k_then ends (named_out k_then.meta.out)
         (only_grows (named_out k.meta.out) (named_out k_then.meta.out) w.down (λ d is. still_named u.disks.power k.meta k_then.meta raised_marks d is) is_only) (λ e is. is)
 
     raised_newly : (e : ℕ) → named_out k_then.meta.out ≡ Some e → (named_out k.meta.out ≡ Some e) ⊎ (first_lost cs ≡ Some e)
@@ -268,7 +268,7 @@ module _ (k k_then : Service) (h : History) (lo : ℕ) (slots : k_then.slots ≡
         | inl before ↦ inl (mid.named e gone.0 before)
         | inr failed ↦
             let x = fails_first cs e failed in
-            let also = power_named k h lo base w mid shown none_awaited has cs part k_then ends x.0 (first_fails cs x.0 x.1) in
+            let also = power_named k h lo base w mid shown none_awaited cs part (λ e raised. has e) k_then ends x.0 (first_fails cs x.0 x.1) in
             let z : Some x.0 ≡ Some e = sym also ∙ named in
             inr (x.1 ∙ z)
       ]
@@ -279,9 +279,9 @@ module _ (k k_then : Service) (h : History) (lo : ℕ) (slots : k_then.slots ≡
       calls = raised_calls;
       leaves = record {
         slots = slots;
-        setup = power_setup k h lo base w mid shown none_awaited has cs part k_then ends;
+        setup = power_setup k h lo base w mid shown none_awaited cs part (λ e raised. has e) k_then ends;
         ticks = same_ticks u.disks.power k.meta k_then.meta raised_marks;
-        failed = λ e is. power_named k h lo base w mid shown none_awaited has cs part k_then ends e is;
+        failed = λ e is. power_named k h lo base w mid shown none_awaited cs part (λ e raised. has e) k_then ends e is;
         still = λ e is. still_named u.disks.power k.meta k_then.meta raised_marks e is;
         newly = raised_newly;
         awaited = none_after w.awaited refl;
@@ -289,10 +289,10 @@ module _ (k k_then : Service) (h : History) (lo : ℕ) (slots : k_then.slots ≡
       base_then = base;
       room = omega arith;
       ends = record {
-        midway = power_stands k h lo base w mid shown none_awaited has cs part k_then ends (only_serving (named_out k_then.meta.out) u.down raised_only);
+        midway = power_stands k h lo base w mid shown none_awaited cs part (λ e raised. has e) k_then ends (only_serving (named_out k_then.meta.out) u.down raised_only);
         only = raised_only;
-        shown = power_shown k h lo base w mid shown none_awaited has cs part k_then ends;
-        powered = power_powered k h lo base w mid shown none_awaited has cs part k_then ends;
+        shown = power_shown k h lo base w mid shown none_awaited cs part (λ e raised. has e) k_then ends;
+        powered = power_powered k h lo base w mid shown none_awaited cs part (λ e raised. has e) k_then ends;
       };
     }
 

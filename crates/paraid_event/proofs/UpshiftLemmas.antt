@@ -377,7 +377,7 @@ module _ (told : Option Trail) (k k1 k2 : Service) (setup : Setup) (p : Point) (
 
             each3 : Each (HoldsWhileServing k.slots p.history p.low b) (IsAllowed setup None) v3 es
             each3 = subst (λ (n : ℕ). Each (HoldsWhileServing n p.history p.low b) (IsAllowed setup None) v3 es) opens.counts.slots
-                (power_each k3 p.history p.low ends2.keeps.base v3 mid3 shown3 none_awaited3 has3 es part3 b setup3 ticks3 epoch3 None)
+                (power_each k3 p.history p.low ends2.keeps.base v3 mid3 shown3 none_awaited3 es part3 (λ e raised. has3 e) b setup3 ticks3 epoch3 None)
               where
                 ticks3 : ends2.keeps.base.ticks ≤ b.ticks
                 ticks3 = let e = ap (λ (m : Meta). m.ticks) base3 in let f = ticks2 in omega (arith, e, f)
@@ -432,26 +432,26 @@ module _ (told : Option Trail) (k k1 k2 : Service) (setup : Setup) (p : Point) (
 
             module _ (k4 : Service) (ends_up : EndsShiftUp k k4 to) (ends3 : EndsPowered k3 k4 p.history p.low v3.disks es) where
               marks4 : IsMarkedBy v4.disks.power k3.meta k4.meta
-              marks4 = power_marks k3 p.history p.low ends2.keeps.base v3 mid3 shown3 none_awaited3 has3 es part3 k4 ends3
+              marks4 = power_marks k3 p.history p.low ends2.keeps.base v3 mid3 shown3 none_awaited3 es part3 (λ e raised. has3 e) k4 ends3
 
               only4 : IsOnly (named_out k4.meta.out) v4.down
-              only4 = power_only k3 p.history p.low ends2.keeps.base v3 mid3 shown3 none_awaited3 has3 es part3 k4 ends3 (named_out k4.meta.out)
+              only4 = power_only k3 p.history p.low ends2.keeps.base v3 mid3 shown3 none_awaited3 es part3 (λ e raised. has3 e) k4 ends3 (named_out k4.meta.out)
                   (only3_by (named_out k4.meta.out) (λ e named. still_named v4.disks.power k3.meta k4.meta marks4 e named)) (λ e named. named)
 
               serving4 : IsServing v4.down
               serving4 = only_serving (named_out k4.meta.out) v4.down only4
 
               mid4 : IsMidway k4 p.history p.low ends2.keeps.base v4
-              mid4 = power_stands k3 p.history p.low ends2.keeps.base v3 mid3 shown3 none_awaited3 has3 es part3 k4 ends3 serving4
+              mid4 = power_stands k3 p.history p.low ends2.keeps.base v3 mid3 shown3 none_awaited3 es part3 (λ e raised. has3 e) k4 ends3 serving4
 
               shown4 : ShowsMeta v4.disks.power ends2.keeps.base k4.meta
-              shown4 = power_shown k3 p.history p.low ends2.keeps.base v3 mid3 shown3 none_awaited3 has3 es part3 k4 ends3
+              shown4 = power_shown k3 p.history p.low ends2.keeps.base v3 mid3 shown3 none_awaited3 es part3 (λ e raised. has3 e) k4 ends3
 
               powered4 : ArePoweredByGear v4.disks.power k4.meta
-              powered4 = power_powered k3 p.history p.low ends2.keeps.base v3 mid3 shown3 none_awaited3 has3 es part3 k4 ends3
+              powered4 = power_powered k3 p.history p.low ends2.keeps.base v3 mid3 shown3 none_awaited3 es part3 (λ e raised. has3 e) k4 ends3
 
               setup4 : k4.meta.setup ≡ setup
-              setup4 = power_setup k3 p.history p.low ends2.keeps.base v3 mid3 shown3 none_awaited3 has3 es part3 k4 ends3 ∙ setup3
+              setup4 = power_setup k3 p.history p.low ends2.keeps.base v3 mid3 shown3 none_awaited3 es part3 (λ e raised. has3 e) k4 ends3 ∙ setup3
 
               -- after a disk was lost no call fails
               none_later : (d : ℕ) → first_lost ds ≡ Some d → first_lost es ≡ None
@@ -462,7 +462,7 @@ module _ (told : Option Trail) (k k1 k2 : Service) (setup : Setup) (p : Point) (
                   by (Some e) first =
                       let fails = first_fails es e first in
                       let failed = first_fails ds d is in
-                      let named_now = power_named k3 p.history p.low ends2.keeps.base v3 mid3 shown3 none_awaited3 has3 es part3 k4 ends3 e fails in
+                      let named_now = power_named k3 p.history p.low ends2.keeps.base v3 mid3 shown3 none_awaited3 es part3 (λ e raised. has3 e) k4 ends3 e fails in
                       let named_was = still_named v4.disks.power k3.meta k4.meta marks4 d (part_failed k2 p.history p.low ends.keeps.base v1 mid2 ds part2 k3 p.history lo3 ends2 d failed) in
                       let same_disk : d ≡ e = (let z : Some d ≡ Some e = sym named_was ∙ named_now in cc) in
                       let off = failed_absent k2.meta.setup.geometry.disks (gone_out k2.meta.out) v1 ds d (part_calls k2 p.history p.low ends.keeps.base v1 mid2 ds part2) failed in
@@ -480,7 +480,7 @@ module _ (told : Option Trail) (k k1 k2 : Service) (setup : Setup) (p : Point) (
 
               counted4 : IsStateOf (record k4 { table = k3.table; samples = k3.samples; served = k3.served }) s4
               counted4 = subst (IsStateOf (record k4 { table = k3.table; samples = k3.samples; served = k3.served })) same_state
-                  (power_state k3 p.history p.low ends2.keeps.base v3 mid3 shown3 none_awaited3 has3 es part3 k4 ends3 s3 state3 settled3)
+                  (power_state k3 p.history p.low ends2.keeps.base v3 mid3 shown3 none_awaited3 es part3 (λ e raised. has3 e) k4 ends3 s3 state3 settled3)
 
               state4 : IsStateOf k4 s4
               state4 = record {

@@ -15,3 +15,4 @@ pub mod Upshift
 pub mod First
 pub mod Replacements
 pub mod RebuildTicks
+pub mod RebuildEnds

@@ -20,9 +20,9 @@ use Rattle.paraid_event.specs.Service.{IsStateOf, Service}
 abbrev pub ServiceStandsFor : Service → History → ℕ → Disks → Type 0
 ServiceStandsFor k h lo = HoldsBetweenCalls k.slots k.named k.meta k.table k.batch k.copied h lo
 
--- Of disk `d` the spin-ups that were made are recorded by this meta, unless it names the disk out.
+-- Of disk `d` the spin-ups that were made are recorded by this meta, unless the disk is gone by it.
 abbrev pub IsRecordedBy : Meta → Watch → ℕ → Type 0
-IsRecordedBy m w d = IsPresent w.disks d → named_out m.out ≢ Some d → w.spun d ≤ first_used m w.disks.power d
+IsRecordedBy m w d = IsPresent w.disks d → gone_out m.out ≢ Some d → w.spun d ≤ first_used m w.disks.power d
 
 -- Between two calls of its core, in an event: it stands for `h`, the meta `base` stands on the disks,
 -- and each disk that is absent or named out is down.

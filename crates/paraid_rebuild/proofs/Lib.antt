@@ -2,3 +2,4 @@ pub mod ReplacingLemmas
 pub mod ReplacementEventLemmas
 pub mod MovedLemmas
 pub mod StepEventLemmas
+pub mod LossLemmas

@@ -1,38 +1,38 @@
 -- What the calls of a step of a rebuild are in an event of a session.
 use Rattle.std.specs.Prelude.{length}
-use Rattle.std.proofs.Common.{◌≡◌, ℕ, ◌+◌, ◌<◌, ◌≤◌, ◌⊎◌, Bool, true, false, List, [], ◌∷◌, Option, Some, None, refl, sym, ap, ◌∙◌, inl, inr, subst, arith, if◌then◌else◌}
+use Rattle.std.proofs.Common.{◌≡◌, ℕ, ◌+◌, ◌<◌, ◌≤◌, Bool, true, false, Option, Some, None, refl, sym, ap, ◌∙◌, inl, inr, subst, arith, if◌then◌else◌}
 use Rattle.std.proofs.lemmas.Bool.{cases_Bool}
+use Rattle.paraid_base.specs.declared.fault.Two.{Two}
 use Rattle.paraid_base.specs.declared.state.Out.{Out}
-use Rattle.paraid_base.specs.declared.state.Out.TheVariants.{Fresh, Gone, No}
+use Rattle.paraid_base.specs.declared.state.Out.TheVariants.{Fresh, Gone}
 use Rattle.paraid_base.specs.declared.state.Phase.{Phase}
 use Rattle.paraid_base.specs.declared.state.Phase.TheVariants.{Down, Steady, Up}
 use Rattle.paraid_base.specs.History.{History}
 use Rattle.paraid_base.specs.States.{gone_out, has_out, is_down, named_out, phase_beside}
-use Rattle.paraid_rack.specs.declared.call.Call.{Call}
 use Rattle.paraid_rack.specs.declared.call.Power.TheVariants.{Absent}
 use Rattle.paraid_rack.specs.Disks.{Disks, is_present}
 use Rattle.paraid_rack.specs.Slots.{Agrees, Slot}
-use Rattle.paraid_rack.specs.Told.{CrashTriple, Ran, Through}
+use Rattle.paraid_rack.specs.Told.{CrashTriple, Ran}
 use Rattle.paraid_rack.specs.Trail.{Trail, now, run}
 use Rattle.paraid_rack.proofs.TrailsLemmas.{now-extend}
 use Rattle.paraid_record.specs.declared.meta.Meta.{Meta}
 use Rattle.paraid_record.specs.Range.{IsInRange, IsOutInRange}
 use Rattle.paraid_image.specs.Mark.{meta_after_loss}
-use Rattle.paraid_core.specs.Calls.{IsDataCall, IsTransferCall}
+use Rattle.paraid_core.specs.Calls.{IsDataCall}
 use Rattle.paraid_core.specs.CoreInvariant.{IsHeldWithOneMissing}
 use Rattle.paraid_core.proofs.CommitLemmas.{both_of}
 use Rattle.paraid_moves.specs.MoveMetas.{meta_with_out}
-use Rattle.paraid_txn.specs.Commit.{IsOldOrNew}
 use Rattle.paraid_txn.specs.Uses.{EachCall}
+use Rattle.paraid_event.specs.Lost.{TellsTwo}
 use Rattle.paraid_event.specs.Marks.{IsMarkedBy, ShowsMeta}
-use Rattle.paraid_event.specs.Parts.{EndsEvent, ServesEvent, committed_meta}
+use Rattle.paraid_event.specs.Parts.{LosesInEvent, ServesEvent}
 use Rattle.paraid_event.specs.Parts.BringsMeta.{nothing}
 use Rattle.paraid_event.specs.Service.{Service}
 use Rattle.paraid_event.specs.Stands.{ServiceStandsFor}
-use Rattle.paraid_event.specs.Steps.{IsSettled, MarksInMemory, ServesAndMarks, ServesMarked, ServesShown, StepsInEvent}
+use Rattle.paraid_event.specs.Steps.{IsSettled, LosesInSteps, MarksInMemory, ServesAndMarks, ServesMarked, ServesShown, StepsInEvent}
 use Rattle.paraid_event.proofs.StepLemmas.{data_steps, follow, goes_bound, ran_both, ran_then}
-use Rattle.paraid_event.proofs.StepMarkLemmas.{commit_steps as mark_commits, copied_steps}
-use Rattle.paraid_rebuild.specs.Replacing.{CommitsCopies}
+use Rattle.paraid_event.proofs.StepMarkLemmas.{commit_loses_steps, commit_steps as mark_commits, copied_steps}
+use Rattle.paraid_rebuild.specs.Replacing.{CommitsCopies, LosesCopies}
 
 some_trail : (a b : Trail) → Some a ≡ Some b → a ≡ b
 some_trail a b e = cc
@@ -103,8 +103,8 @@ module _ (told told_then : Option Trail) (k k_then : Service) (h : History) (lo 
         (λ s cs both. data_steps k k_then h lo lo (omega arith) slots s cs both) told told_then
         (both_of (ServesShown k k_then h lo lo) (EachCall (IsDataCall k.meta.setup.geometry.disks (gone_out k.meta.out))) told told_then (copies_shown keeps) calls)
 
-    -- and with a mark of them and the commit of it one with one commit
-    module _ (told_last : Option Trail) (j k_last : Service) (keeps : (t : Trail) → told_then ≡ Some t → B (now t) → ServiceStandsFor k_then h lo (now t)) (commits : CommitsCopies told_then told_last k_then j k_last h lo B) where
+    -- and a mark can follow them, with which the core stands
+    module _ (j : Service) (keeps : (t : Trail) → told_then ≡ Some t → B (now t) → ServiceStandsFor k_then h lo (now t)) (with_mark : (t : Trail) → told_then ≡ Some t → B (now t) → ServiceStandsFor j h lo (now t)) where
       copies_marked : Ran told told_then (ServesAndMarks k k_then j h lo)
       copies_marked t tells =
           let r = both_of (EachCall (IsDataCall k.meta.setup.geometry.disks (gone_out k.meta.out))) (CrashTriple P A B) told told_then calls stands t tells in
@@ -122,10 +122,15 @@ module _ (told told_then : Option Trail) (k k_then : Service) (h : History) (lo 
                     keeps = subst (ServiceStandsFor k_then h lo) end (keeps t tells there);
                     marks = subst (λ (s : Disks). IsMarkedBy s.power k.meta k_then.meta) end (marked t tells);
                   },
-                  subst (ServiceStandsFor j h lo) end (commits.stands t tells there),
+                  subst (ServiceStandsFor j h lo) end (with_mark t tells there),
                 );
           }
 
+      pub copies_both : Ran told told_then (λ s cs. ServesAndMarks k k_then j h lo s cs × EachCall (IsDataCall k.meta.setup.geometry.disks (gone_out k.meta.out)) s cs)
+      copies_both = both_of (ServesAndMarks k k_then j h lo) (EachCall (IsDataCall k.meta.setup.geometry.disks (gone_out k.meta.out))) told told_then copies_marked calls
+
+    -- With a mark of them and the commit of it they are one with one commit,
+    module _ (told_last : Option Trail) (j k_last : Service) (keeps : (t : Trail) → told_then ≡ Some t → B (now t) → ServiceStandsFor k_then h lo (now t)) (commits : CommitsCopies told_then told_last k_then j k_last h lo B) where
       pub copies_committed : Ran told told_last (StepsInEvent k k_last h lo 1)
       copies_committed = ran_both (λ s cs. ServesAndMarks k k_then j h lo s cs × EachCall (IsDataCall k.meta.setup.geometry.disks (gone_out k.meta.out)) s cs) (ServesMarked j k_last h lo (length h)) (StepsInEvent k k_last h lo 1)
           (λ s cs ds x y base w is at.
@@ -133,7 +138,13 @@ module _ (told told_then : Option Trail) (k k_then : Service) (h : History) (lo 
           let high = at.midway.stands.keeps.copies.high in
           mark_commits k j k_then.meta h lo 0 s cs ds (copied_steps k k_then j slots commits.mark h lo s cs x) k_last (length h) (omega (arith, low, high)) commits.slots commits.epoch
           (λ d. rw (commits.gear, commits.phase) refl) y base w is at)
-          told told_then told_last (both_of (ServesAndMarks k k_then j h lo) (EachCall (IsDataCall k.meta.setup.geometry.disks (gone_out k.meta.out))) told told_then copies_marked calls) commits.ran
+          told told_then told_last (copies_both j keeps commits.stands) commits.ran
+
+    -- also where a second disk is lost in the commit.
+    module _ (told_last : Option Trail) (j : Service) (two : Two) (keeps : (t : Trail) → told_then ≡ Some t → B (now t) → ServiceStandsFor k_then h lo (now t)) (loses : LosesCopies told_then told_last k_then j h lo two B) where
+      pub copies_lost : Ran told told_last (LosesInSteps k h lo 1 two)
+      copies_lost = ran_both (λ s cs. ServesAndMarks k k_then j h lo s cs × EachCall (IsDataCall k.meta.setup.geometry.disks (gone_out k.meta.out)) s cs) (λ s cs. LosesInEvent j h lo s cs × TellsTwo j two s cs) (LosesInSteps k h lo 1 two)
+          (λ s cs ds x y. commit_loses_steps k j k_then.meta h lo 0 s cs ds (copied_steps k k_then j slots loses.mark h lo s cs x) two y) told told_then told_last (copies_both j keeps loses.stands) loses.ran
 
 -- a disk that is being rebuilt is of the array
 pub fresh_low : (m : Meta) (d u : ℕ) → IsInRange m → m.out ≡ Fresh d u → d < m.setup.geometry.disks

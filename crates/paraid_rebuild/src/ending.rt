@@ -10,7 +10,7 @@ ghost use Rattle.paraid_event.specs.Service.{Service, service_of};
 ghost use Rattle.paraid_image.specs.Mark.{meta_after_loss};
 ghost use Rattle.paraid_rack.specs.declared.call.Power.TheVariants.{Absent, Spinning};
 ghost use Rattle.paraid_rack.specs.Told.{CrashTriple, Ran};
-ghost use Rattle.paraid_rebuild.specs.Replacing.{CommitsCopies};
+ghost use Rattle.paraid_rebuild.specs.Replacing.{CommitsCopies, JoinsCopied, LosesCopies, LosesJoining};
 ghost use Rattle.paraid_record.specs.Range.{rebuild_units};
 ghost use Rattle.paraid_shift.specs.Serving.{IsCoreServing, RestsInShift};
 ghost use Rattle.paraid_txn.specs.Losses.{AreTwoDown, OnlyLosesSlots};
@@ -61,6 +61,10 @@ pub(crate) fn mark_units<R: Rack>(core: &mut Core<R>, disk: DiskNo, end: u32) ->
         (service_of R.slot_count core.old samples served energy) marked
         (service_of R.slot_count core.new samples served energy) h lo
         (UnitsRebuilt R.slot_count core.old h lo end)) }
+    ensures loses { IfErr result (λ two. (samples : List ℕ) (served energy : ℕ) (h : History) (lo : ℕ)
+        → (marked : Service) × LosesCopies (R.told (core_rack core.old)) (R.told (core_rack core.new))
+        (service_of R.slot_count core.old samples served energy) marked h lo two
+        (UnitsRebuilt R.slot_count core.old h lo end)) }
 {
     core.mark_rebuilt(end);
     core.commit()?;
@@ -106,6 +110,16 @@ pub(crate) fn come_back<R: Rack>(core: &mut Core<R>, disk: DiskNo) -> Result<boo
         (CrashTriple (IsCoreHeldSinceCommit R.slot_count core.old h lo) (UnitsRebuilt R.slot_count core.old h lo
         (rebuild_units (meta_of core.old).setup.geometry (meta_of core.old).gear disk))
         (RestsInShift R.slot_count core.new h lo))) }
+    ensures event { OnOk result ((samples : List ℕ) (served energy : ℕ) (h : History) (lo : ℕ) → (joined : Service)
+        × JoinsCopied (R.told (core_rack core.old)) (R.told (core_rack core.new))
+        (service_of R.slot_count core.old samples served energy) joined
+        (service_of R.slot_count core.new samples served energy) h lo disk (UnitsRebuilt R.slot_count core.old h lo
+        (rebuild_units (meta_of core.old).setup.geometry (meta_of core.old).gear disk))) }
+    ensures loses { IfErr result (λ two. (samples : List ℕ) (served energy : ℕ) (h : History) (lo : ℕ)
+        → (joined : Service) × LosesJoining (R.told (core_rack core.old)) (R.told (core_rack core.new))
+        (service_of R.slot_count core.old samples served energy) joined h lo disk two
+        (UnitsRebuilt R.slot_count core.old h lo
+        (rebuild_units (meta_of core.old).setup.geometry (meta_of core.old).gear disk))) }
 {
     core.rejoin();
     core.commit()?;

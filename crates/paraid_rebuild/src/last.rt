@@ -1,5 +1,5 @@
 //! A rebuild ends: the units that are left are copied past the log, and the disk comes back by a commit.
-ghost use Rattle.std.specs.Prelude.{◌≡◌, ℕ, ◌+◌, ◌^◌, ◌<◌, ◌≤◌, true, false, [], None, Ok, Some, OnOk, IfErr};
+ghost use Rattle.std.specs.Prelude.{◌≡◌, ℕ, ◌+◌, ◌^◌, ◌<◌, ◌≤◌, true, false, List, [], None, Ok, Some, OnOk, IfErr};
 ghost use Rattle.paraid_base.specs.declared.state.Out.TheVariants.{No};
 ghost use Rattle.paraid_base.specs.History.{History};
 ghost use Rattle.paraid_base.specs.States.{rebuilt_count};
@@ -7,6 +7,8 @@ ghost use Rattle.paraid_base.specs.Told.{HasRisen};
 ghost use Rattle.paraid_core.specs.Cores.{CoreStandsFor, IsCoreHeldSinceCommit, batch_of, core_down, core_rack, core_table, meta_of, store_of};
 ghost use Rattle.paraid_core.specs.Steps.{IsNamedOrAbsent};
 ghost use Rattle.paraid_core.specs.Units.{IsRebuilding};
+ghost use Rattle.paraid_event.specs.RebuildEnds.{FinishesRebuild, LosesFinishing};
+ghost use Rattle.paraid_event.specs.Service.{service_of};
 ghost use Rattle.paraid_image.specs.Mark.{meta_after_loss};
 ghost use Rattle.paraid_rack.specs.declared.call.Power.TheVariants.{Spinning};
 ghost use Rattle.paraid_rack.specs.Told.{CrashTriple, Ran};
@@ -59,6 +61,13 @@ fn conclude<R: Rack>(core: &mut Core<R>, disk: DiskNo, end: u32) -> Result<bool,
         → Ran (R.told (core_rack core.old)) (R.told (core_rack core.new))
         (CrashTriple (IsCoreHeldSinceCommit R.slot_count core.old h lo) (RestsInShift R.slot_count core.old h lo)
         (RestsInShift R.slot_count core.new h lo)) }
+    ensures event { OnOk result ((samples : List ℕ) (served energy : ℕ) (h : History) (lo : ℕ)
+        → FinishesRebuild (R.told (core_rack core.old)) (R.told (core_rack core.new))
+        (service_of R.slot_count core.old samples served energy)
+        (service_of R.slot_count core.new samples served energy) h lo disk) }
+    ensures loses { IfErr result (λ two. (samples : List ℕ) (served energy : ℕ) (h : History) (lo : ℕ)
+        → LosesFinishing (R.told (core_rack core.old)) (R.told (core_rack core.new))
+        (service_of R.slot_count core.old samples served energy) h lo disk two) }
 {
     let first = core.out().rebuilt();
     let copied = move_units(core, disk, first, end)?;
@@ -107,6 +116,15 @@ pub fn finish<R: Rack>(core: &mut Core<R>, disk: DiskNo) -> Result<bool, Two>
         → Ran (R.told (core_rack core.old)) (R.told (core_rack core.new))
         (CrashTriple (IsCoreHeldSinceCommit R.slot_count core.old h lo) (RestsInShift R.slot_count core.old h lo)
         (RestsInShift R.slot_count core.new h lo)) }
+    // In the event of a tick these are the calls with which a rebuild ends.
+    ensures event { OnOk result ((samples : List ℕ) (served energy : ℕ) (h : History) (lo : ℕ)
+        → FinishesRebuild (R.told (core_rack core.old)) (R.told (core_rack core.new))
+        (service_of R.slot_count core.old samples served energy)
+        (service_of R.slot_count core.new samples served energy) h lo disk) }
+    // So they are where a second disk is lost in them.
+    ensures loses { IfErr result (λ two. (samples : List ℕ) (served energy : ℕ) (h : History) (lo : ℕ)
+        → LosesFinishing (R.told (core_rack core.old)) (R.told (core_rack core.new))
+        (service_of R.slot_count core.old samples served energy) h lo disk two) }
 {
     let end = rebuild_units(&core.meta().setup.geometry, core.meta().gear, disk);
     let joined = conclude(core, disk, end)?;

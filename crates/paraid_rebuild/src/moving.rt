@@ -1,10 +1,11 @@
 //! Units of the disk that is rebuilt are copied past the log and made to last.
 ghost use Rattle.std.specs.Prelude.{◌≡◌, ℕ, ◌+◌, ◌<◌, ◌≤◌, [], true, false, Ok, OnOk, IfErr};
 ghost use Rattle.paraid_base.specs.History.{History};
-ghost use Rattle.paraid_base.specs.States.{rebuilt_count};
+ghost use Rattle.paraid_base.specs.States.{named_out, rebuilt_count};
 ghost use Rattle.paraid_base.specs.Told.{HasRisen};
 ghost use Rattle.paraid_core.specs.Calls.{MakesDataCalls};
 ghost use Rattle.paraid_core.specs.Cores.{CanCoreServe, CoreStandsFor, IsCoreHeldSinceCommit, IsCoreReady, batch_of, core_down, core_rack, draft_of, meta_of};
+ghost use Rattle.paraid_core.specs.Lost.{CoreTellsLosses};
 ghost use Rattle.paraid_core.specs.Steps.{LeavesCore};
 ghost use Rattle.paraid_core.specs.Units.{IsRebuilding, UnitsRebuilt};
 ghost use Rattle.paraid_image.specs.Mark.{meta_after_loss};
@@ -42,6 +43,7 @@ fn copy_units<R: Rack>(core: &mut Core<R>, disk: DiskNo, first: u32, end: u32) -
     ensures calls { MakesDataCalls R.told core.old core.new }
     ensures two { IfErr result (AreTwoDown (core_down core.old)
         (R.slot (core_rack core.old)) (R.slot (core_rack core.new))) }
+    ensures tells { IfErr result (CoreTellsLosses R.told (named_out (meta_of core.old).out) core.old core.new) }
     ensures copied { result ≡ Ok true → (h : History) (lo : ℕ)
         → Ran (R.told (core_rack core.old)) (R.told (core_rack core.new))
         (CrashTriple (IsCoreHeldSinceCommit R.slot_count core.old h lo)
@@ -90,6 +92,7 @@ pub(crate) fn move_units<R: Rack>(
     ensures calls { MakesDataCalls R.told core.old core.new }
     ensures two { IfErr result (AreTwoDown (core_down core.old)
         (R.slot (core_rack core.old)) (R.slot (core_rack core.new))) }
+    ensures tells { IfErr result (CoreTellsLosses R.told (named_out (meta_of core.old).out) core.old core.new) }
     ensures copied { result ≡ Ok true → (h : History) (lo : ℕ)
         → Ran (R.told (core_rack core.old)) (R.told (core_rack core.new))
         (CrashTriple (IsCoreHeldSinceCommit R.slot_count core.old h lo)

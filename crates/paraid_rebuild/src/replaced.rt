@@ -9,12 +9,12 @@ ghost use Rattle.paraid_base.specs.Told.{HasRisen};
 ghost use Rattle.paraid_core.specs.Cores.{CoreStandsFor, IsCoreHeld, batch_of, core_down, core_rack, core_table, meta_of, store_of};
 ghost use Rattle.paraid_core.specs.Replaced.{CoreCommitted};
 ghost use Rattle.paraid_core.specs.Steps.{IsNamedOrAbsent};
-ghost use Rattle.paraid_event.specs.Replacements.{BringsFresh, CommitsReplaced, ReplacesDisk};
+ghost use Rattle.paraid_event.specs.Replacements.{BringsFresh, CommitsReplaced, LosesReplaced, ReplacesDisk};
 ghost use Rattle.paraid_event.specs.Service.{Service, service_of};
 ghost use Rattle.paraid_image.specs.Out.{named_out};
 ghost use Rattle.paraid_rack.specs.declared.call.Power.TheVariants.{Spinning};
 ghost use Rattle.paraid_rack.specs.Told.{CrashTriple, Ran};
-ghost use Rattle.paraid_rebuild.specs.Replacing.{IsReplacedFrom, LeavesArrayBut};
+ghost use Rattle.paraid_rebuild.specs.Replacing.{IsReplacedFrom, LeavesArrayBut, LosesFresh};
 ghost use Rattle.paraid_shift.specs.Serving.{IsCoreServing};
 ghost use Rattle.paraid_txn.specs.Losses.{AreTwoDown, OnlyLosesSlots};
 ghost use Rattle.paraid_txn.specs.Stores.{named_of};
@@ -58,6 +58,9 @@ fn commit_gone<R: Rack>(core: &mut Core<R>, disk: DiskNo) -> Result<(), Two>
         × CommitsReplaced (R.told (core_rack core.old)) (R.told (core_rack core.new))
         (service_of R.slot_count core.old samples served energy) marked
         (service_of R.slot_count core.new samples served energy) h lo disk) }
+    ensures loses { IfErr result (λ two. (samples : List ℕ) (served energy : ℕ) (h : History) (lo : ℕ)
+        → LosesReplaced (R.told (core_rack core.old)) (R.told (core_rack core.new))
+        (service_of R.slot_count core.old samples served energy) h lo disk two) }
 {
     core.mark_out(disk);
     core.clear_spins(disk);
@@ -106,6 +109,9 @@ fn bring_fresh<R: Rack>(core: &mut Core<R>, disk: DiskNo) -> Result<bool, Two>
         → BringsFresh (R.told (core_rack core.old)) (R.told (core_rack core.new))
         (service_of R.slot_count core.old samples served energy)
         (service_of R.slot_count core.new samples served energy) h lo disk) }
+    ensures loses { IfErr result (λ two. (samples : List ℕ) (served energy : ℕ) (h : History) (lo : ℕ)
+        → LosesFresh (R.told (core_rack core.old)) (R.told (core_rack core.new))
+        (service_of R.slot_count core.old samples served energy) h lo disk two) }
 {
     if !core.attach(disk) {
         return Ok(false);
@@ -162,6 +168,10 @@ pub fn begin<R: Rack>(core: &mut Core<R>, disk: DiskNo) -> Result<bool, Two>
         → ReplacesDisk (R.told (core_rack core.old)) (R.told (core_rack core.new))
         (service_of R.slot_count core.old samples served energy)
         (service_of R.slot_count core.new samples served energy) h lo disk) }
+    // So they are where a second disk is lost in one of the commits.
+    ensures loses { IfErr result (λ two. (samples : List ℕ) (served energy : ℕ) (h : History) (lo : ℕ)
+        → LosesReplaced (R.told (core_rack core.old)) (R.told (core_rack core.new))
+        (service_of R.slot_count core.old samples served energy) h lo disk two) }
 {
     commit_gone(core, disk)?;
     let there = bring_fresh(core, disk)?;

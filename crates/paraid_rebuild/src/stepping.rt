@@ -8,7 +8,7 @@ ghost use Rattle.paraid_core.specs.Cores.{CoreStandsFor, IsCoreHeldSinceCommit, 
 ghost use Rattle.paraid_core.specs.Steps.{IsNamedOrAbsent};
 ghost use Rattle.paraid_core.specs.Units.{IsRebuilding};
 ghost use Rattle.paraid_event.specs.Service.{service_of};
-ghost use Rattle.paraid_event.specs.Steps.{StepsInEvent};
+ghost use Rattle.paraid_event.specs.Steps.{LosesInSteps, StepsInEvent};
 ghost use Rattle.paraid_image.specs.Mark.{meta_after_loss};
 ghost use Rattle.paraid_rack.specs.declared.call.Power.TheVariants.{Absent, Spinning};
 ghost use Rattle.paraid_rack.specs.Told.{CrashTriple, Ran};
@@ -65,6 +65,10 @@ pub fn commit_staged<R: Rack>(core: &mut Core<R>, disk: DiskNo) -> Result<bool, 
         → Ran (R.told (core_rack core.old)) (R.told (core_rack core.new))
         (StepsInEvent (service_of R.slot_count core.old samples served energy)
         (service_of R.slot_count core.new samples served energy) h lo 1)) }
+    // So it is where a second disk is lost in it.
+    ensures loses { IfErr result (λ two. (samples : List ℕ) (served energy : ℕ) (h : History) (lo : ℕ)
+        → Ran (R.told (core_rack core.old)) (R.told (core_rack core.new))
+        (LosesInSteps (service_of R.slot_count core.old samples served energy) h lo 1 two)) }
 {
     if is_clear(core) {
         return Ok(true);
@@ -104,6 +108,9 @@ fn commit_lost<R: Rack>(core: &mut Core<R>, disk: DiskNo) -> Result<(), Two>
         → Ran (R.told (core_rack core.old)) (R.told (core_rack core.new))
         (StepsInEvent (service_of R.slot_count core.old samples served energy)
         (service_of R.slot_count core.new samples served energy) h lo 1)) }
+    ensures loses { IfErr result (λ two. (samples : List ℕ) (served energy : ℕ) (h : History) (lo : ℕ)
+        → Ran (R.told (core_rack core.old)) (R.told (core_rack core.new))
+        (LosesInSteps (service_of R.slot_count core.old samples served energy) h lo 1 two)) }
 {
     core.mark_out(disk);
     core.commit()?;
@@ -151,6 +158,9 @@ fn advance<R: Rack>(core: &mut Core<R>, disk: DiskNo, end: u32) -> Result<bool, 
         → Ran (R.told (core_rack core.old)) (R.told (core_rack core.new))
         (StepsInEvent (service_of R.slot_count core.old samples served energy)
         (service_of R.slot_count core.new samples served energy) h lo 1)) }
+    ensures loses { IfErr result (λ two. (samples : List ℕ) (served energy : ℕ) (h : History) (lo : ℕ)
+        → Ran (R.told (core_rack core.old)) (R.told (core_rack core.new))
+        (LosesInSteps (service_of R.slot_count core.old samples served energy) h lo 1 two)) }
 {
     let first = core.out().rebuilt();
     let copied = move_units(core, disk, first, end)?;
@@ -201,6 +211,9 @@ fn go_on<R: Rack>(core: &mut Core<R>, disk: DiskNo, end: u32) -> Result<bool, Tw
         → Ran (R.told (core_rack core.old)) (R.told (core_rack core.new))
         (StepsInEvent (service_of R.slot_count core.old samples served energy)
         (service_of R.slot_count core.new samples served energy) h lo 2)) }
+    ensures loses { IfErr result (λ two. (samples : List ℕ) (served energy : ℕ) (h : History) (lo : ℕ)
+        → Ran (R.told (core_rack core.old)) (R.told (core_rack core.new))
+        (LosesInSteps (service_of R.slot_count core.old samples served energy) h lo 2 two)) }
 {
     let there = commit_staged(core, disk)?;
     if !there {
@@ -252,6 +265,10 @@ pub fn step<R: Rack>(core: &mut Core<R>, disk: DiskNo, end: u32) -> Result<bool,
         → Ran (R.told (core_rack core.old)) (R.told (core_rack core.new))
         (StepsInEvent (service_of R.slot_count core.old samples served energy)
         (service_of R.slot_count core.new samples served energy) h lo 3)) }
+    // So they are where a second disk is lost in it.
+    ensures loses { IfErr result (λ two. (samples : List ℕ) (served energy : ℕ) (h : History) (lo : ℕ)
+        → Ran (R.told (core_rack core.old)) (R.told (core_rack core.new))
+        (LosesInSteps (service_of R.slot_count core.old samples served energy) h lo 3 two)) }
 {
     let moved = go_on(core, disk, end)?;
     if moved {

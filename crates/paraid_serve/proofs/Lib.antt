@@ -1,4 +1,5 @@
 pub mod StretchLemmas
+pub mod HaltLemmas
 pub mod FormLemmas
 pub mod Sofar
 pub mod TopLemmas

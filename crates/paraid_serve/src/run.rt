@@ -1,6 +1,6 @@
-ghost use Rattle.std.specs.Prelude.{◌≡◌, ◌≤◌, None, IsErrOf, OnOk, IsSome};
+ghost use Rattle.std.specs.Prelude.{◌≡◌, ◌≤◌, None, IfErr, IsErrOf, OnOk, IsSome};
 ghost use Rattle.paraid_base.specs.Told.{HasRisen};
-ghost use Rattle.paraid_serve.specs.Session.{ServesSession};
+ghost use Rattle.paraid_serve.specs.Session.{IsStopOfFailed, ServesSession};
 
 use crate::Serves;
 use crate::answer::{answer, finish};
@@ -23,6 +23,7 @@ pub fn session<S: Source, K: Sink, A: Serves>(
     ensures told { IsSome (A.told array.new) → IsSome (A.told array.old) }
     ensures setup { A.setup array.new ≡ A.setup array.old }
     ensures going { OnOk result (A.halted array.new ≡ None) }
+    ensures failed { IfErr result (IsStopOfFailed (A.slot array.new)) }
     ensures source { IsErrOf result Stop.Source
         → HasRisen (S.faults source.old) (S.faults source.new) }
     ensures sink { IsErrOf result Stop.Sink → HasRisen (K.faults sink.old) (K.faults sink.new) }

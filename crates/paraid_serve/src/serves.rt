@@ -3,13 +3,13 @@ ghost use Rattle.paraid_base.specs.BlockAnswers.{answer_to_flush, flush_halt_of}
 ghost use Rattle.paraid_base.specs.declared.event.Event.TheVariants.{Flush as FlushEvent, Bad as BadEvent};
 ghost use Rattle.paraid_base.specs.declared.fault.Halt.{Halt as HaltType};
 ghost use Rattle.paraid_machine.specs.Machine.{block_count, state_status};
-ghost use Rattle.paraid_rack.specs.declared.call.Power.{Power};
+ghost use Rattle.paraid_rack.specs.Slots.{Slot};
 ghost use Rattle.paraid_rack.specs.Told.{Ran};
 ghost use Rattle.paraid_rack.specs.Trail.{Trail};
 ghost use Rattle.paraid_record.specs.declared.meta.Setup.{Setup};
 ghost use Rattle.paraid_trace.specs.Asked.{event_with};
 ghost use Rattle.paraid_trace.specs.Replies.{HasFewDisks};
-ghost use Rattle.paraid_serve.specs.Calls.{IsNotDouble};
+ghost use Rattle.paraid_serve.specs.Calls.{HaltsBySecondLoss, IsNotDouble};
 ghost use Rattle.paraid_serve.specs.Form.{is_answer_to};
 ghost use Rattle.paraid_session.specs.Turn.{GoesOn, Point, halt_told};
 
@@ -27,8 +27,8 @@ pub trait Serves {
     /// What it is configured to be.
     ghost setup: { Self → Setup };
 
-    /// How its disks are powered.
-    ghost power: { Self → ℕ → Power };
+    /// What is always told of the slots of its rack.
+    ghost slot: { Self → ℕ → Slot };
 
     /// The halt that has ended its service.
     ghost halted: { Self → Option HaltType };
@@ -47,6 +47,7 @@ pub trait Serves {
         ensures slots { slots self.new ≡ slots self.old }
         ensures setup { setup self.new ≡ setup self.old }
         ensures halt { halted self.new ≡ halt_told result }
+        ensures two { HaltsBySecondLoss (slot self.old) (slot self.new) (halted self.new) }
         ensures kind { is_answer_to (event_with asked pairs.now) result ≡ true }
         ensures few { HasFewDisks result };
 
@@ -59,11 +60,13 @@ pub trait Serves {
         ensures told { IsSome (told self.new) → IsSome (told self.old) }
         ensures slots { slots self.new ≡ slots self.old }
         ensures setup { setup self.new ≡ setup self.old }
-        ensures halt { halted self.new ≡ flush_halt_of result };
+        ensures halt { halted self.new ≡ flush_halt_of result }
+        ensures two { HaltsBySecondLoss (slot self.old) (slot self.new) (halted self.new) };
 
-    /// How many writes it has accepted.
+    /// How many writes it has accepted, while there is no halt.
     fn writes(&self) -> u64
-        ensures { (p : Point) → stands self.now p → result ≡ length p.history };
+        ensures { halted self.now ≡ None → (p : Point) → stands self.now p
+            → result ≡ length p.history };
 
     /// Its gear.
     fn gear(&self) -> u8
@@ -74,9 +77,9 @@ pub trait Serves {
         ensures value { result ≡ block_count (setup self.now) }
         ensures some { 0 < result };
 
-    /// Its state.
+    /// Its state, while there is no halt.
     fn status(&self) -> Status
-        ensures { (p : Point) → stands self.now p
+        ensures { halted self.now ≡ None → (p : Point) → stands self.now p
             → result ≡ state_status (setup self.now) (length p.history) p.state };
 
     /// The number of its disks.
@@ -88,7 +91,7 @@ pub trait Serves {
         ensures { (p : Point) → stands self.now p → result ≡ p.energy };
 
     /// While there is no halt, at most one of its disks is absent.
-    ghost serves: { (x : Self) → halted x ≡ None → IsNotDouble (setup x) (power x) };
+    ghost serves: { (x : Self) → halted x ≡ None → IsNotDouble (setup x) (slot x) };
 
     /// A point tells the halt.
     ghost agrees: { (x : Self) (p : Point) → stands x p → p.halt ≡ halted x };

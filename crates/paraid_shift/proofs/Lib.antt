@@ -4,3 +4,6 @@ pub mod MovingLemmas
 pub mod CopiedLemmas
 pub mod StepsLemmas
 pub mod PowersLemmas
+pub mod MovedLossLemmas
+pub mod LossLemmas
+pub mod WaitLemmas

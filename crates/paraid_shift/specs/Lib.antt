@@ -1,3 +1,4 @@
 pub mod Serving
 pub mod Units
 pub mod Steps
+pub mod Losing

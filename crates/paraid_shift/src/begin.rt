@@ -6,14 +6,16 @@ ghost use Rattle.paraid_base.specs.declared.state.Phase.TheVariants.{Down, Stead
 ghost use Rattle.paraid_base.specs.History.{History};
 ghost use Rattle.paraid_base.specs.States.{rising_to};
 ghost use Rattle.paraid_core.specs.Cores.{CoreStandsFor, IsCoreHeldSinceCommit, IsCoreReady, batch_of, core_down, core_rack, core_table, meta_of, store_of};
+ghost use Rattle.paraid_core.specs.Lost.{CoreTellsLosses};
 ghost use Rattle.paraid_core.specs.Steps.{IsHeldStill, IsMarkedFrom, IsNamedOrAbsent};
 ghost use Rattle.paraid_image.specs.Out.{named_out};
 ghost use Rattle.paraid_moves.specs.MoveMetas.{meta_after_begin};
 ghost use Rattle.paraid_rack.specs.declared.call.Power.TheVariants.{Parked, Spinning};
 ghost use Rattle.paraid_rack.specs.Told.{CrashTriple, Ran};
 ghost use Rattle.paraid_record.specs.Range.{AreNextGears, allowed_spins};
+ghost use Rattle.paraid_shift.specs.Losing.{CoreBearsLoss, LosesUp};
 ghost use Rattle.paraid_shift.specs.Serving.{HasBegunUp, IsComingUp, IsHeldFromRest, IsCoreServing, LeavesArray, RestsInShift, StaysAtRest};
-ghost use Rattle.paraid_shift.specs.Steps.{CoreStepsInEvent, MakesPowerCalls, MarksPowered, OpensUp};
+ghost use Rattle.paraid_shift.specs.Steps.{CoreLosesInSteps, CoreStepsInEvent, MakesPowerCalls, MarksPowered, OpensUp};
 ghost use Rattle.paraid_txn.specs.Losses.{AreTwoDown, OnlyLosesSlots};
 ghost use Rattle.paraid_txn.specs.Stores.{IsSameStore, named_of};
 
@@ -38,6 +40,7 @@ pub fn begin_down<R: Rack>(core: &mut Core<R>, to: u8) -> Result<(), Two>
     ensures table { core_table core.new ≡ core_table core.old }
     ensures nothing { OnOk result (batch_of core.new ≡ []) }
     ensures steps { OnOk result (CoreStepsInEvent R.slot_count R.told core.old core.new 1) }
+    ensures loses { IfErr result (λ two. CoreLosesInSteps R.slot_count R.told core.old core.new 1 two) }
     ensures spared { OnlyLosesSlots (R.slot (core_rack core.old)) (R.slot (core_rack core.new)) }
     ensures two { IfErr result (AreTwoDown (core_down core.old)
         (R.slot (core_rack core.old)) (R.slot (core_rack core.new))) }
@@ -86,6 +89,8 @@ fn raise<R: Rack>(core: &mut Core<R>, disk: DiskNo) -> Result<(), Two>
     ensures no_fall { (d : ℕ) → (R.slot (core_rack core.old) d).faults ≤ (R.slot (core_rack core.new) d).faults }
     ensures calls { MakesPowerCalls R.told core.old core.new }
     ensures lost { OnOk result (MarksPowered (R.slot (core_rack core.new)) (meta_of core.old) (meta_of core.new)) }
+    ensures bears { OnOk result (CoreBearsLoss R.told core.old core.new) }
+    ensures tells { IfErr result (CoreTellsLosses R.told (named_out (meta_of core.old).out) core.old core.new) }
     ensures up { OnOk result (named_out (meta_of core.new).out ≢ Some disk
         → (R.slot (core_rack core.new) disk).power ≡ Spinning) }
     ensures others { (d : ℕ) → d ≢ disk → R.slot (core_rack core.new) d ≡ R.slot (core_rack core.old) d }
@@ -115,6 +120,7 @@ fn bring_up<R: Rack>(core: &mut Core<R>) -> Result<(), Two>
     ensures no_fall { (d : ℕ) → (R.slot (core_rack core.old) d).faults ≤ (R.slot (core_rack core.new) d).faults }
     ensures calls { MakesPowerCalls R.told core.old core.new }
     ensures lost { OnOk result (MarksPowered (R.slot (core_rack core.new)) (meta_of core.old) (meta_of core.new)) }
+    ensures tells { IfErr result (CoreTellsLosses R.told (named_out (meta_of core.old).out) core.old core.new) }
     ensures others { OnOk result ((d : ℕ) → (d < (meta_of core.old).gear) ⊎ (rising_to (meta_of core.old).phase ≤ d)
         → R.slot (core_rack core.new) d ≡ R.slot (core_rack core.old) d) }
     ensures two { IfErr result (AreTwoDown (core_down core.old)
@@ -144,6 +150,7 @@ fn commit_up<R: Rack>(core: &mut Core<R>, to: u8) -> Result<(), Two>
     ensures named { OnOk result (named_of (store_of core.new) ≡ named_of (store_of core.old)) }
     ensures spared { OnlyLosesSlots (R.slot (core_rack core.old)) (R.slot (core_rack core.new)) }
     ensures opens { OnOk result (OpensUp R.slot_count R.told core.old core.new to) }
+    ensures loses { IfErr result (λ two. LosesUp R.slot_count R.told core.old core.new to two) }
     ensures nothing { OnOk result (batch_of core.new ≡ []) }
     ensures epoch { OnOk result ((meta_of core.new).epoch ≡ (meta_of core.old).epoch + 1) }
     ensures two { IfErr result (AreTwoDown (core_down core.old)
@@ -175,6 +182,7 @@ pub fn begin_up<R: Rack>(core: &mut Core<R>, to: u8) -> Result<(), Two>
     ensures nothing { OnOk result (batch_of core.new ≡ []) }
     ensures no_fall { (d : ℕ) → (R.slot (core_rack core.old) d).faults ≤ (R.slot (core_rack core.new) d).faults }
     ensures steps { OnOk result (CoreStepsInEvent R.slot_count R.told core.old core.new 1) }
+    ensures loses { IfErr result (λ two. CoreLosesInSteps R.slot_count R.told core.old core.new 1 two) }
     ensures two { IfErr result (AreTwoDown (core_down core.old)
         (R.slot (core_rack core.old)) (R.slot (core_rack core.new))) }
     ensures moments { IsHeldStill R.slot_count R.told core.old core.new }

@@ -4,8 +4,10 @@ ghost use Rattle.paraid_base.specs.declared.state.Out.TheVariants.{No};
 ghost use Rattle.paraid_core.specs.Cores.{CanCoreServe, IsCoreReady, batch_of, core_down, core_rack, core_table, draft_of, meta_of, store_of};
 ghost use Rattle.paraid_core.specs.Steps.{IsMarkedFrom, IsNamedOrAbsent, LeavesCore};
 ghost use Rattle.paraid_core.specs.Calls.{MakesDataCalls};
-ghost use Rattle.paraid_core.specs.Lost.{CoreMarksLost};
+ghost use Rattle.paraid_core.specs.Lost.{CoreMarksLost, CoreTellsLosses};
+ghost use Rattle.paraid_image.specs.Out.{named_out};
 ghost use Rattle.paraid_shift.specs.Serving.{CopiesFromRest, IsCoreServing, IsHeldFromRest, KeepsCopied, LeavesArray, StandsFromRest};
+ghost use Rattle.paraid_shift.specs.Steps.{CoreLosesInSteps};
 ghost use Rattle.paraid_shift.specs.Units.{AreCellsDone, CoreCountsMoved, HasDirtyBefore, IsGroupOf, are_copied_before};
 ghost use Rattle.paraid_txn.specs.Losses.{AreTwoDown, OnlyLosesSlots};
 
@@ -65,6 +67,7 @@ fn copy_cells<R: Rack>(core: &mut Core<R>, most: u32) -> Result<Option<Group>, T
     ensures spared { OnlyLosesSlots (R.slot (core_rack core.old)) (R.slot (core_rack core.new)) }
     ensures two { IfErr result (AreTwoDown (core_down core.old)
         (R.slot (core_rack core.old)) (R.slot (core_rack core.new))) }
+    ensures tells { IfErr result (CoreTellsLosses R.told (named_out (meta_of core.old).out) core.old core.new) }
     ensures calls { MakesDataCalls R.told core.old core.new }
     ensures marks { OnOk result (CoreMarksLost R.slot core.old core.new) }
     ensures copied { IfOk result (λ group. IfSome group (λ it. CopiesFromRest R.slot_count R.told core.old core.new
@@ -174,6 +177,7 @@ pub(crate) fn move_group<R: Rack>(core: &mut Core<R>, most: u32) -> Result<u32, 
     ensures spared { OnlyLosesSlots (R.slot (core_rack core.old)) (R.slot (core_rack core.new)) }
     ensures two { IfErr result (AreTwoDown (core_down core.old)
         (R.slot (core_rack core.old)) (R.slot (core_rack core.new))) }
+    ensures loses { IfErr result (λ two. CoreLosesInSteps R.slot_count R.told core.old core.new 1 two) }
     ensures calls { MakesDataCalls R.told core.old core.new }
     ensures marks { OnOk result (CoreMarksLost R.slot core.old core.new) }
     ensures stands { OnOk result (StandsFromRest R.slot_count R.told core.old core.new) }
@@ -200,6 +204,7 @@ fn copy_group<R: Rack>(core: &mut Core<R>, most: u32) -> Result<Option<Group>, T
     ensures spared { OnlyLosesSlots (R.slot (core_rack core.old)) (R.slot (core_rack core.new)) }
     ensures two { IfErr result (AreTwoDown (core_down core.old)
         (R.slot (core_rack core.old)) (R.slot (core_rack core.new))) }
+    ensures tells { IfErr result (CoreTellsLosses R.told (named_out (meta_of core.old).out) core.old core.new) }
     ensures calls { MakesDataCalls R.told core.old core.new }
     ensures marks { OnOk result (CoreMarksLost R.slot core.old core.new) }
     ensures copied { IfOk result (λ group. IfSome group (λ it. CopiesFromRest R.slot_count R.told core.old core.new

@@ -6,14 +6,16 @@ ghost use Rattle.paraid_base.specs.History.{History};
 ghost use Rattle.paraid_base.specs.Soft.{stripe_count};
 ghost use Rattle.paraid_base.specs.States.{phase_to};
 ghost use Rattle.paraid_core.specs.Cores.{CoreStandsFor, IsCoreHeldSinceCommit, IsCoreReady, batch_of, core_down, core_rack, core_table, meta_of, store_of};
+ghost use Rattle.paraid_core.specs.Lost.{CoreTellsLosses};
 ghost use Rattle.paraid_core.specs.Steps.{IsHeldStill, IsMarkedFrom, IsNamedOrAbsent};
 ghost use Rattle.paraid_dirty.specs.Table.{is_dirty};
 ghost use Rattle.paraid_image.specs.Out.{named_out};
 ghost use Rattle.paraid_moves.specs.MoveMetas.{meta_flipped_to};
 ghost use Rattle.paraid_rack.specs.declared.call.Power.TheVariants.{Parked, Spinning};
 ghost use Rattle.paraid_rack.specs.Told.{CrashTriple, Ran};
+ghost use Rattle.paraid_shift.specs.Losing.{CoreBearsLoss, LosesMark};
 ghost use Rattle.paraid_shift.specs.Serving.{IsHeldFromRest, IsCoreServing, LeavesArray, RestsInShift, StaysAtRest};
-ghost use Rattle.paraid_shift.specs.Steps.{CommitsMark, EndsInSteps, MakesPowerCalls, MarksPowered};
+ghost use Rattle.paraid_shift.specs.Steps.{CommitsMark, EndsInSteps, EndsLosing, MakesPowerCalls, MarksPowered};
 ghost use Rattle.paraid_txn.specs.Losses.{AreTwoDown, OnlyLosesSlots};
 ghost use Rattle.paraid_txn.specs.Stores.{IsSameStore, named_of};
 
@@ -57,6 +59,8 @@ fn lower<R: Rack>(core: &mut Core<R>, disk: DiskNo) -> Result<(), Two>
     ensures no_fall { (d : ℕ) → (R.slot (core_rack core.old) d).faults ≤ (R.slot (core_rack core.new) d).faults }
     ensures calls { MakesPowerCalls R.told core.old core.new }
     ensures lost { OnOk result (MarksPowered (R.slot (core_rack core.new)) (meta_of core.old) (meta_of core.new)) }
+    ensures bears { OnOk result (CoreBearsLoss R.told core.old core.new) }
+    ensures tells { IfErr result (CoreTellsLosses R.told (named_out (meta_of core.old).out) core.old core.new) }
     ensures parked { OnOk result (named_out (meta_of core.new).out ≢ Some disk
         → (R.slot (core_rack core.new) disk).power ≡ Parked) }
     ensures others { (d : ℕ) → d ≢ disk → R.slot (core_rack core.new) d ≡ R.slot (core_rack core.old) d }
@@ -87,6 +91,7 @@ fn park_down<R: Rack>(core: &mut Core<R>, hi: u8) -> Result<(), Two>
     ensures no_fall { (d : ℕ) → (R.slot (core_rack core.old) d).faults ≤ (R.slot (core_rack core.new) d).faults }
     ensures calls { MakesPowerCalls R.told core.old core.new }
     ensures lost { OnOk result (MarksPowered (R.slot (core_rack core.new)) (meta_of core.old) (meta_of core.new)) }
+    ensures tells { IfErr result (CoreTellsLosses R.told (named_out (meta_of core.old).out) core.old core.new) }
     ensures parked { OnOk result ((d : ℕ) → (meta_of core.old).gear ≤ d → d < hi
         → named_out (meta_of core.new).out ≢ Some d → (R.slot (core_rack core.new) d).power ≡ Parked) }
     ensures others { OnOk result ((d : ℕ) → (d < (meta_of core.old).gear) ⊎ (hi ≤ d)
@@ -124,6 +129,8 @@ fn commit_gear<R: Rack>(core: &mut Core<R>) -> Result<(), Two>
     ensures spared { OnlyLosesSlots (R.slot (core_rack core.old)) (R.slot (core_rack core.new)) }
     ensures opens { OnOk result (CommitsMark R.slot_count R.told core.old core.new
         (meta_flipped_to (meta_of core.old) (phase_to (meta_of core.old).phase))) }
+    ensures loses { IfErr result (λ two. LosesMark R.slot_count R.told core.old core.new
+        (meta_flipped_to (meta_of core.old) (phase_to (meta_of core.old).phase)) two) }
     ensures epoch { OnOk result ((meta_of core.new).epoch ≡ (meta_of core.old).epoch + 1) }
     ensures two { IfErr result (AreTwoDown (core_down core.old)
         (R.slot (core_rack core.old)) (R.slot (core_rack core.new))) }
@@ -160,6 +167,7 @@ pub fn flip<R: Rack>(core: &mut Core<R>) -> Result<(), Two>
     // Wherever the last marks of the shift wait in memory, they are brought with one commit more, and the event is
     // underway again.
     ensures steps { OnOk result (EndsInSteps R.slot_count R.told core.old core.new) }
+    ensures loses { IfErr result (λ two. EndsLosing R.slot_count R.told core.old core.new two) }
     ensures two { IfErr result (AreTwoDown (core_down core.old)
         (R.slot (core_rack core.old)) (R.slot (core_rack core.new))) }
     ensures moments { IsHeldStill R.slot_count R.told core.old core.new }

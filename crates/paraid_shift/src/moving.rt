@@ -7,7 +7,7 @@ ghost use Rattle.paraid_image.specs.Out.{named_out};
 ghost use Rattle.paraid_core.specs.Cores.{IsCoreReady, batch_of, core_down, core_rack, core_table, meta_of};
 ghost use Rattle.paraid_core.specs.Steps.{IsMarkedFrom, IsNamedOrAbsent};
 ghost use Rattle.paraid_shift.specs.Serving.{IsCoreServing, LeavesArray};
-ghost use Rattle.paraid_shift.specs.Steps.{CoreServesMarked, CoreStepsInEvent, StepsOrWaits};
+ghost use Rattle.paraid_shift.specs.Steps.{CoreLosesInEvent, CoreLosesInSteps, CoreServesMarked, CoreStepsInEvent, StepsOrWaits};
 ghost use Rattle.paraid_shift.specs.Units.{AreCellsDone, AreCoreUnitsLeft, AreUnitsDone, CoreCountsMoved, MovesUpTo};
 ghost use Rattle.paraid_txn.specs.Losses.{AreTwoDown, OnlyLosesSlots};
 
@@ -46,6 +46,10 @@ fn commit<R: Rack>(core: &mut Core<R>) -> Result<(), Two>
     ensures spared { OnlyLosesSlots (R.slot (core_rack core.old)) (R.slot (core_rack core.new)) }
     ensures two { IfErr result (AreTwoDown (core_down core.old)
         (R.slot (core_rack core.old)) (R.slot (core_rack core.new))) }
+    ensures loses { IfErr result (λ two. IsNamedOrAbsent R.slot core.old
+        → CoreLosesInSteps R.slot_count R.told core.old core.new 1 two) }
+    ensures loses_marked { IfErr result (λ two. IsNamedOrAbsent R.slot core.old
+        → CoreLosesInEvent R.slot_count R.told core.old core.new two) }
 {
     core.commit()?;
     Ok(())
@@ -69,6 +73,8 @@ pub fn commit_staged<R: Rack>(core: &mut Core<R>) -> Result<(), Two>
     ensures no_fall { (d : ℕ) → (R.slot (core_rack core.old) d).faults ≤ (R.slot (core_rack core.new) d).faults }
     ensures two { IfErr result (AreTwoDown (core_down core.old)
         (R.slot (core_rack core.old)) (R.slot (core_rack core.new))) }
+    ensures loses { IfErr result (λ two. IsNamedOrAbsent R.slot core.old
+        → CoreLosesInSteps R.slot_count R.told core.old core.new 1 two) }
 {
     if core.staged() == 0 {
         return Ok(());
@@ -107,6 +113,7 @@ fn step_group<R: Rack>(core: &mut Core<R>, most: u32) -> Result<u32, Two>
     ensures no_fall { (d : ℕ) → (R.slot (core_rack core.old) d).faults ≤ (R.slot (core_rack core.new) d).faults }
     ensures two { IfErr result (AreTwoDown (core_down core.old)
         (R.slot (core_rack core.old)) (R.slot (core_rack core.new))) }
+    ensures loses { IfErr result (λ two. CoreLosesInSteps R.slot_count R.told core.old core.new 1 two) }
 {
     let count = move_group(core, most)?;
     if count == 0 {
@@ -136,6 +143,7 @@ fn step_cells<R: Rack>(core: &mut Core<R>, most: u32) -> Result<u32, Two>
     ensures no_fall { (d : ℕ) → (R.slot (core_rack core.old) d).faults ≤ (R.slot (core_rack core.new) d).faults }
     ensures two { IfErr result (AreTwoDown (core_down core.old)
         (R.slot (core_rack core.old)) (R.slot (core_rack core.new))) }
+    ensures loses { IfErr result (λ two. CoreLosesInSteps R.slot_count R.told core.old core.new most two) }
 {
     let mut moved = 0;
     for at in 0..most {
@@ -194,6 +202,7 @@ fn step_stripes<R: Rack>(core: &mut Core<R>, most: u32) -> Result<u32, Two>
     ensures no_fall { (d : ℕ) → (R.slot (core_rack core.old) d).faults ≤ (R.slot (core_rack core.new) d).faults }
     ensures two { IfErr result (AreTwoDown (core_down core.old)
         (R.slot (core_rack core.old)) (R.slot (core_rack core.new))) }
+    ensures loses { IfErr result (λ two. CoreLosesInSteps R.slot_count R.told core.old core.new 1 two) }
 {
     let from = core.meta().fill;
     let end = next_end(core, most);
@@ -228,6 +237,7 @@ fn step_units<R: Rack>(core: &mut Core<R>, most: u32) -> Result<u32, Two>
     ensures no_fall { (d : ℕ) → (R.slot (core_rack core.old) d).faults ≤ (R.slot (core_rack core.new) d).faults }
     ensures two { IfErr result (AreTwoDown (core_down core.old)
         (R.slot (core_rack core.old)) (R.slot (core_rack core.new))) }
+    ensures loses { IfErr result (λ two. CoreLosesInSteps R.slot_count R.told core.old core.new (most + 1) two) }
 {
     let cells = step_cells(core, most)?;
     let Out::No = core.out() else {
@@ -257,6 +267,7 @@ fn step_whole<R: Rack>(core: &mut Core<R>, most: u32) -> Result<u32, Two>
     ensures no_fall { (d : ℕ) → (R.slot (core_rack core.old) d).faults ≤ (R.slot (core_rack core.new) d).faults }
     ensures two { IfErr result (AreTwoDown (core_down core.old)
         (R.slot (core_rack core.old)) (R.slot (core_rack core.new))) }
+    ensures loses { IfErr result (λ two. CoreLosesInSteps R.slot_count R.told core.old core.new (most + 1) two) }
 {
     let Out::No = core.out() else {
         return Ok(0);
@@ -300,6 +311,9 @@ pub fn step<R: Rack>(core: &mut Core<R>, units: u32) -> Result<Moved, Two>
     ensures no_fall { (d : ℕ) → (R.slot (core_rack core.old) d).faults ≤ (R.slot (core_rack core.new) d).faults }
     ensures two { IfErr result (AreTwoDown (core_down core.old)
         (R.slot (core_rack core.old)) (R.slot (core_rack core.new))) }
+    // Where a second disk is lost, so it is told, with what led there.
+    ensures loses { IfErr result (λ two. IsNamedOrAbsent R.slot core.old
+        → CoreLosesInSteps R.slot_count R.told core.old core.new (units + 2) two) }
 {
     commit_staged(core)?;
     let count = step_whole(core, units)?;

@@ -7,12 +7,13 @@ ghost use Rattle.paraid_base.specs.States.{phase_to};
 ghost use Rattle.paraid_core.specs.Cores.{CanCoreServe, CoreStandsFor, IsCoreHeldSinceCommit, IsCoreReady, batch_of, core_down, core_rack, core_table, draft_of, meta_of, store_of};
 ghost use Rattle.paraid_core.specs.Calls.{MakesDataCalls};
 ghost use Rattle.paraid_core.specs.Fills.{Filled};
-ghost use Rattle.paraid_core.specs.Lost.{CoreMarksLost};
+ghost use Rattle.paraid_core.specs.Lost.{CoreMarksLost, CoreTellsLosses};
+ghost use Rattle.paraid_image.specs.Out.{named_out};
 ghost use Rattle.paraid_core.specs.Steps.{IsMarkedFrom, IsNamedOrAbsent, LeavesCore};
 ghost use Rattle.paraid_moves.specs.MoveMetas.{filled_to};
 ghost use Rattle.paraid_rack.specs.Told.{CrashTriple, Ran};
 ghost use Rattle.paraid_shift.specs.Serving.{IsHeldFromRest, IsCoreServing, LeavesArray, RestsInShift};
-ghost use Rattle.paraid_shift.specs.Steps.{CoreStepsToMark};
+ghost use Rattle.paraid_shift.specs.Steps.{CoreLosesInSteps, CoreStepsToMark};
 ghost use Rattle.paraid_txn.specs.Losses.{AreTwoDown, OnlyLosesSlots};
 ghost use Rattle.paraid_txn.specs.Stores.{IsSameStore};
 
@@ -38,6 +39,7 @@ fn fill_stripes<R: Rack>(core: &mut Core<R>, end: u32) -> Result<bool, Two>
     ensures spared { OnlyLosesSlots (R.slot (core_rack core.old)) (R.slot (core_rack core.new)) }
     ensures two { IfErr result (AreTwoDown (core_down core.old)
         (R.slot (core_rack core.old)) (R.slot (core_rack core.new))) }
+    ensures tells { IfErr result (CoreTellsLosses R.told (named_out (meta_of core.old).out) core.old core.new) }
     ensures filled { result ≡ Ok true → (h : History) (lo : ℕ)
         → Ran (R.told (core_rack core.old)) (R.told (core_rack core.new))
         (CrashTriple (IsCoreHeldSinceCommit R.slot_count core.old h lo) (RestsInShift R.slot_count core.old h lo)
@@ -84,6 +86,7 @@ pub(crate) fn move_stripes<R: Rack>(core: &mut Core<R>, end: u32) -> Result<bool
     ensures spared { OnlyLosesSlots (R.slot (core_rack core.old)) (R.slot (core_rack core.new)) }
     ensures two { IfErr result (AreTwoDown (core_down core.old)
         (R.slot (core_rack core.old)) (R.slot (core_rack core.new))) }
+    ensures loses { IfErr result (λ two. CoreLosesInSteps R.slot_count R.told core.old core.new 1 two) }
     ensures moments { IsHeldFromRest R.slot_count R.told core.old core.new }
     ensures calls { MakesDataCalls R.told core.old core.new }
     ensures marks { result ≡ Ok false → CoreMarksLost R.slot core.old core.new }

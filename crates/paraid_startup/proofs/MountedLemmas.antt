@@ -1,6 +1,6 @@
 -- A mount is what a session asks of it, from each rack on which a run begins.
 use Rattle.std.proofs.Common.{◌≡◌, ◌≢◌, ℕ, ◌*◌, ◌<◌, ◌≤◌, Bool, List, [], ◌++◌, Option, Some, None, refl, sym, ap, ◌∙◌, subst, drop, take, arith, length, inl}
-use Rattle.std.proofs.lemmas.List.{append-nil, length-take-le}
+use Rattle.std.proofs.lemmas.List.{length-take-le}
 use Rattle.paraid_base.specs.declared.fault.Two.{Two}
 use Rattle.paraid_base.specs.History.{History}
 use Rattle.paraid_base.specs.States.{gone_out}
@@ -30,24 +30,21 @@ use Rattle.paraid_recover.specs.Mount.{HasMounted, HasOnlyRead, HasRecovered, Is
 use Rattle.paraid_recover.specs.Mount.IsCauseOfRefusal.{examined, no_memory, two_down}
 use Rattle.paraid_recover.specs.MountCalls.{IsMountCall}
 use Rattle.paraid_recover.specs.Mounted.{IsServable, with_loss}
-use Rattle.paraid_session.specs.Mount.{IsMountRefused, IsMounted, IsMountedFromEach, IsRefusedFromEach, Refusal, mount_bounds, start_watch}
+use Rattle.paraid_session.specs.Mount.{IsMountRefused, IsMounted, IsMountedFromEach, IsRefusedFromEach, Refusal, start_watch}
 use Rattle.paraid_session.specs.Mount.Refusal.{no_memory as for_memory}
-use Rattle.paraid_session.specs.Watch.{Each, IsServing, Watch, watch_all}
-use Rattle.paraid_session.proofs.LayerLemmas.{each_at}
+use Rattle.paraid_session.specs.Watch.{IsServing, Watch, watch_all}
 use Rattle.paraid_sides.specs.HeardSides.{AmongOne, AmongTwo, ReadsLogs}
-use Rattle.paraid_startup.specs.Calls.{IsSpinUpRecorded}
 use Rattle.paraid_startup.specs.First.{IsFirstPoint, first_point}
 use Rattle.paraid_startup.specs.Parts.{AreMountCalls, EndsServed}
-use Rattle.paraid_startup.specs.Recorded.{StaysWithin}
 use Rattle.paraid_startup.specs.Refusals.{refusal_by_fault}
 use Rattle.paraid_startup.proofs.BaseLemmas.{some_base}
+use Rattle.paraid_startup.proofs.BasedLemmas.{next_marked}
 use Rattle.paraid_startup.proofs.DownLemmas.{watched_disks}
 use Rattle.paraid_startup.proofs.PartsLemmas.{at_end, mounted, refused, writes_between}
 use Rattle.paraid_startup.proofs.PiecesLemmas.{reads_parts}
 use Rattle.paraid_startup.proofs.RefusedLemmas.{after_reads, second_down, without_memory}
 use Rattle.paraid_startup.proofs.ServedLemmas.{absent_end, beside_end, broken_end, ends_served, held_end, weak_end}
 use Rattle.paraid_startup.proofs.ToldLemmas.{IsToldOf, began_calls, began_disks, ran_at, same_trail, told_of, told_parts}
-use Rattle.paraid_startup.proofs.WithinLemmas.{within_recorded}
 use Rattle.paraid_txn.specs.Losses.{AreGoneSince, IsOutOfCommit}
 use Rattle.paraid_txn.specs.Resume.{IsBroken}
 use Rattle.paraid_txn.specs.Uses.{EachCall}
@@ -176,23 +173,18 @@ module _ (count : ℕ) (old_slot new_slot : ℕ → Slot) (named : Option ℕ) (
           history = h;
           spun = v.spun;
           is = λ u tells_u. ap (λ (k : Disks). first_point k standing h v.spun) (sym now_is ∙ ap now (same_trail new t u tells tells_u));
-          recorded = λ d low here not.
-              let disks_is = watched_disks (start_watch s down parts.base) calls in
-              let within = each_at (StaysWithin (mount_bounds said parts.ticks)) IsSpinUpRecorded (start_watch s down parts.base) calls []
-              (subst (Each (StaysWithin (mount_bounds said parts.ticks)) IsSpinUpRecorded (start_watch s down parts.base)) (sym (append-nil calls)) parts.within) in
-              recorded_by within disks_is d low here not;
+          recorded = λ d here. recorded_by (watched_disks (start_watch s down parts.base) calls) d here;
           writes = counted;
           cells = λ r d low. shown_cells r d low ∙ ap (λ (u : Disks). (initial_state u (closed_over standing)).dirty r d) now_is;
           map = λ r d low. shown_map r d low ∙ ap (λ (u : Disks). (view_by standing u.power (contents u [])).dirty r d) now_is;
         },
       )
         where
-          recorded_by : StaysWithin (mount_bounds said parts.ticks) v → v.disks ≡ run s calls → (d : ℕ) → d < standing.setup.geometry.disks → IsPresent (run s calls) d → named_out standing.out ≢ Some d
-              → v.spun d ≤ first_used standing (run s calls).power d
-          recorded_by within disks_is d low here not =
-              subst (λ (u : Disks). v.spun d ≤ first_used standing u.power d) disks_is
-              (within_recorded (mount_bounds said parts.ticks) v standing within serving (subst (λ (u : Disks). IsAtRest u standing) (now_is ∙ sym disks_is) at_rest.0) ends.setup d low
-              (subst (λ (u : Disks). IsPresent u d) (sym disks_is) here) not)
+          recorded_by : v.disks ≡ run s calls → (d : ℕ) → IsPresent (run s calls) d → v.spun d ≤ first_used standing (run s calls).power d
+          recorded_by disks_is d here =
+              let last = told.recorded slots h lo down start x said stood parts.base parts.ticks parts.is_base d serving (subst (λ (u : Disks). IsPresent u d) (sym disks_is) here) in
+              let used = ap (λ (n : Meta). first_used n v.disks.power d) it.settled.standing_is ∙ (next_marked then_said.meta it.settled.mark).used v.disks.power d in
+              subst (λ (u : Disks). v.spun d ≤ first_used standing u.power d) disks_is (omega (arith, last, used))
 
     served : IsMounted slots s x said h lo down calls (λ p. (said.meta.setup ≡ m.setup) × IsFirstPoint standing dirty new p)
     served = mounted slots s x said h lo down calls start stood parts (λ p. (said.meta.setup ≡ m.setup) × IsFirstPoint standing dirty new p) standing ends begins

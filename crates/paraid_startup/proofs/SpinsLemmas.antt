@@ -17,7 +17,7 @@ use Rattle.paraid_image.specs.Looked.IsLooked.{lost, whole}
 use Rattle.paraid_image.specs.Spins.{first_used}
 use Rattle.paraid_image.specs.Spot.{rising_to}
 use Rattle.paraid_recover.specs.Powers.{IsPowerCall}
-use Rattle.paraid_session.specs.Watch.{Bounds, Down, Each, IsServing, IsWithinBounds, Watch, down_after, nobody, only, several, watch}
+use Rattle.paraid_session.specs.Watch.{Bounds, Down, Each, IsServing, IsWithinBounds, Watch, down_after, nobody, only, several, watch, watch_all}
 use Rattle.paraid_startup.specs.Calls.{IsSpinUpRecorded}
 use Rattle.paraid_startup.specs.Recorded.{AreSpinUpsRecorded, HasRecord, OnlyStands, StaysWithin}
 use Rattle.paraid_txn.specs.Uses.{EachCall}
@@ -98,29 +98,33 @@ serving_by several c serving = by (is_done c) serving
     by true s = s
     by false s = s
 
+-- the spin-ups of one disk are recorded, while it is there
+abbrev pub IsOneRecorded : Meta → ℕ → Watch → Type 0
+IsOneRecorded m d w = IsServing w.down → IsPresent w.disks d → w.spun d ≤ first_used m w.disks.power d
+
 module _ (m : Meta) where
-  park_step : (w : Watch) (e : ℕ) (done : Bool) → IsPowerCall m (Park e done) → w.disks.power e ≡ Spinning → AreSpinUpsRecorded m w → AreSpinUpsRecorded m (watch (Park e done) w)
+  park_step : (d : ℕ) (w : Watch) (e : ℕ) (done : Bool) → IsPowerCall m (Park e done) → w.disks.power e ≡ Spinning → IsOneRecorded m d w → IsOneRecorded m d (watch (Park e done) w)
   unfolding step
-  park_step w e done is spins was serving d low here not = let now = serving_by w.down (Park e done) serving in elim (cases_eq d e) [
+  park_step d w e done is spins was serving here = let now = serving_by w.down (Park e done) serving in elim (cases_eq d e) [
     | inl same ↦
         let high = is.2 in
         let used = settled_used m (with_at w.disks.power e (power_after done Parked)) d (omega (arith, high, same)) in
-        let before = was now d low (present_at w.disks e d Spinning same spins refl) not in
+        let before = was now (present_at w.disks e d Spinning same spins refl) in
         let most = used_at_most m w.disks.power d in
         omega (arith, used, before, most)
     | inr apart ↦
         let same = with_at_other w.disks.power e (power_after done Parked) d apart in
-        let before = was now d low (ap is_present (sym same) ∙ here) not in
+        let before = was now (ap is_present (sym same) ∙ here) in
         let used = same_used m (with_at w.disks.power e (power_after done Parked)) w.disks.power d same in
         omega (arith, used, before)
   ]
 
-  spin_up_step : (w : Watch) (e : ℕ) (done : Bool) → IsPowerCall m (SpinUp e done) → w.disks.power e ≡ Parked → (IsServing w.down → 1 ≤ slice_index m.spins e) → AreSpinUpsRecorded m w → AreSpinUpsRecorded m (watch (SpinUp e done) w)
+  spin_up_step : (d : ℕ) (w : Watch) (e : ℕ) (done : Bool) → IsPowerCall m (SpinUp e done) → w.disks.power e ≡ Parked → (IsServing w.down → 1 ≤ slice_index m.spins e) → IsOneRecorded m d w → IsOneRecorded m d (watch (SpinUp e done) w)
   unfolding step
-  spin_up_step w e done is parked some was serving d low here not = let now = serving_by w.down (SpinUp e done) serving in elim (cases_eq d e) [
+  spin_up_step d w e done is parked some was serving here = let now = serving_by w.down (SpinUp e done) serving in elim (cases_eq d e) [
     | inl same ↦
         let used = spinning_used m (with_at w.disks.power e (power_after done Spinning)) d (power_now w.disks e done Spinning d same here) in
-        let before = was now d low (present_at w.disks e d Parked same parked refl) not in
+        let before = was now (present_at w.disks e d Parked same parked refl) in
         let from = is.1 in
         let to = is.2 in
         let pending = pending_used m w.disks.power d (omega (arith, from, same)) (omega (arith, to, same)) (ap w.disks.power same ∙ parked) in
@@ -129,19 +133,27 @@ module _ (m : Meta) where
         omega (arith, used, before, pending, count, has)
     | inr apart ↦
         let same = with_at_other w.disks.power e (power_after done Spinning) d apart in
-        let before = was now d low (ap is_present (sym same) ∙ here) not in
+        let before = was now (ap is_present (sym same) ∙ here) in
         let used = same_used m (with_at w.disks.power e (power_after done Spinning)) w.disks.power d same in
         let count = if_other d e (w.spun d) apart in
         omega (arith, used, before, count)
   ]
 
+  one_step : (d : ℕ) (w : Watch) (c : Call) → EachCall (IsPowerCall m) w.disks (c ∷ []) → HasRecord m w c → IsOneRecorded m d w → IsOneRecorded m d (watch c w)
+  one_step d w (Read e p done) each has was = absurd each.1
+  one_step d w (Write e p b done) each has was = absurd each.1
+  one_step d w (Sync e done) each has was = absurd each.1
+  one_step d w (Park e done) each has was = park_step d w e done each.1 each.0.0 was
+  one_step d w (SpinUp e done) each has was = spin_up_step d w e done each.1 each.0 (λ serving. has serving e done refl) was
+  one_step d w (Attach e size done) each has was = absurd each.1
+
   recorded_step : (w : Watch) (c : Call) → EachCall (IsPowerCall m) w.disks (c ∷ []) → HasRecord m w c → AreSpinUpsRecorded m w → AreSpinUpsRecorded m (watch c w)
-  recorded_step w (Read d p done) each has was = absurd each.1
-  recorded_step w (Write d p b done) each has was = absurd each.1
-  recorded_step w (Sync d done) each has was = absurd each.1
-  recorded_step w (Park d done) each has was = park_step w d done each.1 each.0.0 was
-  recorded_step w (SpinUp d done) each has was = spin_up_step w d done each.1 each.0 (λ serving. has serving d done refl) was
-  recorded_step w (Attach d size done) each has was = absurd each.1
+  recorded_step w c each has was serving d low here not = one_step d w c each has (λ before there. was before d low there not) serving here
+
+  -- While the disks are powered, the spin-ups of each disk whose spin-ups are recorded are so at the end.
+  pub one_recorded : (d : ℕ) (w : Watch) (cs : List Call) → EachCall (IsPowerCall m) w.disks cs → Each (OnlyStands m) (HasRecord m) w cs → IsOneRecorded m d w → IsOneRecorded m d (watch_all cs w)
+  one_recorded d w [] each alone was = was
+  one_recorded d w (c ∷ cs) each alone was = one_recorded d (watch c w) cs each.2 alone.2 (one_step d w c (each.0, each.1, tt) alone.1 was)
 
   -- the spin-up of this disk is among those that are recorded
   room : (w : Watch) (c : Call) → EachCall (IsPowerCall m) w.disks (c ∷ []) → HasRecord m w c → AreSpinUpsRecorded m w → OnlyStands m w → IsSpinUpRecorded w c

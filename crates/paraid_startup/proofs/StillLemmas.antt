@@ -6,7 +6,7 @@ use Rattle.paraid_rack.specs.declared.call.Call.TheVariants.{Read, Write, Sync, 
 use Rattle.paraid_rack.specs.declared.call.Power.TheVariants.{Absent}
 use Rattle.paraid_rack.specs.Disks.{Disks, IsPresent, is_present, power_after, step, with_at}
 use Rattle.paraid_rack.proofs.AtomsLemmas.{with_at_other, with_at_same}
-use Rattle.paraid_session.specs.Watch.{Bounds, Each, Watch, watch}
+use Rattle.paraid_session.specs.Watch.{Bounds, Each, Watch, watch, watch_all}
 use Rattle.paraid_startup.specs.Calls.{IsSpinUpRecorded}
 use Rattle.paraid_startup.specs.Recorded.{IsStill, StaysWithin, StaysWithinAt}
 use Rattle.paraid_startup.proofs.SetupLemmas.{self_at}
@@ -36,6 +36,15 @@ still_spun w (Sync e done) d still = refl
 still_spun w (Park e done) d still = absurd still
 still_spun w (SpinUp e done) d still = absurd still
 still_spun w (Attach e size done) d still = absurd still
+
+-- so they are at the end
+pub still_end : (w : Watch) (cs : List Call) (d : ℕ) → EachCall IsStill w.disks cs → ((watch_all cs w).spun d ≡ w.spun d) × (IsPresent (watch_all cs w).disks d → (watch_all cs w).disks.power d ≡ w.disks.power d)
+still_end w [] d each = (refl, λ here. refl)
+still_end w (c ∷ cs) d each =
+    let later = still_end (watch c w) cs d each.2 in (
+      later.0 ∙ still_spun w c d each.1,
+      (λ here. let after = later.1 here in after ∙ still_power w.disks c d each.1 (ap is_present (sym after) ∙ here)),
+    )
 
 no_spin_up : (w : Watch) (c : Call) → IsStill c → IsSpinUpRecorded w c
 no_spin_up w (Read e p done) still = record { recorded = λ d made at. absurd (let z : Read e p done ≡ SpinUp d made = at in cc) }

@@ -22,7 +22,7 @@ use Rattle.paraid_recover.specs.RecoveryMark.{with_mark}
 use Rattle.paraid_recover.specs.StandingMetas.{IsPoweredFrom, StandsForeseen}
 use Rattle.paraid_recover.proofs.RecoverLemmas.{disks_before, disks_last}
 use Rattle.paraid_session.specs.Mount.{IsBase, mount_bounds, start_watch}
-use Rattle.paraid_session.specs.Watch.{Each}
+use Rattle.paraid_session.specs.Watch.{Each, watch_all}
 use Rattle.paraid_sides.specs.HeardSides.{ReadsLogs}
 use Rattle.paraid_startup.specs.Calls.{IsSpinUpRecorded}
 use Rattle.paraid_startup.specs.Parts.{AreMountCalls}
@@ -30,7 +30,8 @@ use Rattle.paraid_startup.specs.Recorded.{StaysWithin}
 use Rattle.paraid_startup.proofs.BaseLemmas.{some_base}
 use Rattle.paraid_startup.proofs.BeganLemmas.{drop_past}
 use Rattle.paraid_startup.proofs.PiecesLemmas.{parts_of}
-use Rattle.paraid_startup.proofs.WithinLemmas.{all_within, still_within}
+use Rattle.paraid_startup.proofs.SpinsLemmas.{IsOneRecorded}
+use Rattle.paraid_startup.proofs.WithinLemmas.{all_recorded, all_within, still_recorded, still_within}
 use Rattle.paraid_txn.specs.Resume.{IsBroken}
 use Rattle.paraid_txn.specs.Uses.{EachCall}
 
@@ -70,6 +71,8 @@ pub record IsToldOf (side : ℕ) (said : LogState) (old reading : Option Trail) 
   pub later : EachCall (IsMountCall said.meta.setup.geometry.disks (gone_out said.meta.out)) (now read) ls
   pub within : (slots : ℕ) (h : History) (lo : ℕ) (down : Option ℕ) → IsRunStart slots (now began) h lo down → (x : ℕ) (stood : LogState) → Stands (now began) x stood
       → (base : ℕ → ℕ) (ticks : ℕ) → IsBase (now began) x stood base ticks → Each (StaysWithin (mount_bounds stood ticks)) IsSpinUpRecorded (start_watch (now began) down base) (rs ++ ls)
+  pub recorded : (slots : ℕ) (h : History) (lo : ℕ) (down : Option ℕ) → IsRunStart slots (now began) h lo down → (x : ℕ) (stood : LogState) → Stands (now began) x stood
+      → (base : ℕ → ℕ) (ticks : ℕ) → IsBase (now began) x stood base ticks → (d : ℕ) → IsOneRecorded said.meta d (watch_all (rs ++ ls) (start_watch (now began) down base))
 
 module _ (side : ℕ) (said : LogState) (old new : Option Trail) (it : HasRecovered side said old new) (t : Trail) (tells : new ≡ Some t) where
   foreseen_at : (slots : ℕ) (r : Trail) → it.read ≡ Some r
@@ -101,6 +104,9 @@ module _ (side : ℕ) (said : LogState) (old new : Option Trail) (it : HasRecove
         within = λ slots h lo down start x stood stands base ticks is_base.
             still_within slots b.from a.from t t b.calls a.calls [] b.is a.is (ap (λ (cs : List Call). record t { calls = cs }) (sym (append-nil t.calls))) b.holds h lo down start x stood stands
             side said (it.stands a.from a.was) base ticks is_base (foreseen_at slots a.from a.was) a.holds;
+        recorded = λ slots h lo down start x stood stands base ticks is_base d.
+            still_recorded slots b.from a.from t t b.calls a.calls [] b.is a.is (ap (λ (cs : List Call). record t { calls = cs }) (sym (append-nil t.calls))) b.holds h lo down start x stood stands
+            side said (it.stands a.from a.was) base ticks is_base (foreseen_at slots a.from a.was) a.holds d;
       }
 
   powered : IsPoweredFrom side said it.read it.metas.settled new → IsToldOf side said old it.read t
@@ -124,6 +130,10 @@ module _ (side : ℕ) (said : LogState) (old new : Option Trail) (it : HasRecove
             all_within slots b.from a.from e.from t b.calls a.calls e.calls b.is a.is e.is b.holds h lo down start x stood stands
             side said (it.stands a.from a.was) base ticks is_base (foreseen_at slots a.from a.was) a.holds
             pf.mark (rests_at slots a.from a.was e.from e.was pf) (pf.out e.from e.was) e.holds;
+        recorded = λ slots h lo down start x stood stands base ticks is_base d.
+            all_recorded slots b.from a.from e.from t b.calls a.calls e.calls b.is a.is e.is b.holds h lo down start x stood stands
+            side said (it.stands a.from a.was) base ticks is_base (foreseen_at slots a.from a.was) a.holds
+            pf.mark (rests_at slots a.from a.was e.from e.was pf) (pf.out e.from e.was) e.holds d;
       }
     where
       rests_at : (slots : ℕ) (r : Trail) → it.read ≡ Some r → (st : Trail) → it.metas.settled ≡ Some st → (q : IsPoweredFrom side said it.read it.metas.settled new)

@@ -32,7 +32,7 @@ use Rattle.paraid_session.specs.Watch.{Bounds, Down, Each, IsServing, Watch, nob
 use Rattle.paraid_session.proofs.LayerLemmas.{IsIn, each_at}
 use Rattle.paraid_sides.specs.HeardSides.{ReadsLogs}
 use Rattle.paraid_startup.specs.Calls.{IsSpinUpRecorded}
-use Rattle.paraid_startup.specs.Recorded.{AreSpinUpsRecorded, IsStill, StaysWithin, StaysWithinAt}
+use Rattle.paraid_startup.specs.Recorded.{AreSpinUpsRecorded, HasRecord, IsStill, OnlyStands, StaysWithin, StaysWithinAt}
 use Rattle.paraid_startup.proofs.BaseLemmas.{each_append}
 use Rattle.paraid_startup.proofs.CallsLemmas.{each_map}
 use Rattle.paraid_startup.proofs.DownLemmas.{absent_weak, each_of, in_absent, in_stays, watched_disks, weak_in}
@@ -43,9 +43,9 @@ use Rattle.paraid_startup.proofs.PartsLemmas.{stopped, stopped_alike, stopped_im
 use Rattle.paraid_startup.proofs.ReadWithinLemmas.{read_within}
 use Rattle.paraid_startup.proofs.RestLemmas.{each_resting}
 use Rattle.paraid_startup.proofs.ServedLemmas.{absent_end, beside_end, broken_end, held_end, setup_end, weak_end}
-use Rattle.paraid_startup.proofs.SpinsLemmas.{each_recorded, same_used, serving_by}
-use Rattle.paraid_startup.proofs.StillLemmas.{each_still}
-use Rattle.paraid_startup.proofs.StoryLemmas.{absent_since, at, beside, broken, down_append, held_read, long, now_end, now_read, reads_serve, serving_before, weak_read}
+use Rattle.paraid_startup.proofs.SpinsLemmas.{IsOneRecorded, each_recorded, one_recorded, same_used, serving_by}
+use Rattle.paraid_startup.proofs.StillLemmas.{each_still, still_end}
+use Rattle.paraid_startup.proofs.StoryLemmas.{absent_since, at, beside, broken, down_append, held_read, long, now_end, now_read, reads_serve, serving_before, watch_append, weak_read}
 use Rattle.paraid_txn.specs.Resume.{IsBroken}
 use Rattle.paraid_txn.specs.Uses.{EachCall}
 
@@ -177,6 +177,19 @@ module _ (slots : ℕ) (from read settled t : Trail) (rs ls1 ls2 : List Call) (r
       (each_first (StaysWithinAt b base s) (λ (v : Watch) (c : Call). Unit {0}) w (rs ++ ls1) ls2
       (subst (Each (StaysWithinAt b base s) (λ (v : Watch) (c : Call). Unit {0}) w) (sym (append_assoc rs ls1 ls2)) (each_of (StaysWithinAt b base s) w calls at_each)))
 
+  -- so are the spin-ups of each disk
+  pub still_recorded : (d : ℕ) → IsOneRecorded then_said.meta d (watch_all (rs ++ ls1) w)
+  still_recorded d serving here =
+      let reads_serving = serving_before (watch_all rs w) ls1 (subst IsServing (down_append w rs ls1) serving) in
+      let is_broken = broken_end slots from read settled rs ls1 read_is settled_is each h lo down start x said stood side then_said then_stands base serving in
+      let based = then_based slots s h lo down start x said stood base rs each side then_said stands_read reads_serving ticks is_base (single_read is_broken) in
+      let end = still_end w (rs ++ ls1) d (calls_append IsStill s rs ls1 (each_map ReadsLogs IsStill reads_still s rs each) (subst (λ (u : Disks). EachCall IsStill u ls1) read_end still)) in
+      let power : (watch_all (rs ++ ls1) w).disks.power d ≡ s.power d = end.1 here in
+      let used = same_used then_said.meta (watch_all (rs ++ ls1) w).disks.power s.power d power in
+      let least = based.recorded d in
+      let count : (watch_all (rs ++ ls1) w).spun d ≡ base d = end.0 in
+      omega (arith, used, least, count)
+
   module _ (mark : Option ℕ)
       (rests : (h : History) (lo : ℕ) (was down : Option ℕ) → IsBroken (now read) side then_said → IsHeld slots (now read) h lo was
       → IsAbsentSince then_said.meta.setup.geometry.disks settled (moments read) (moments settled) down → ((v : ℕ) → IsWeak (now read) v → down ≡ Some v)
@@ -246,6 +259,17 @@ module _ (slots : ℕ) (from read settled t : Trail) (rs ls1 ls2 : List Call) (r
       powers_now : EachCall (IsPowerCall m) v.disks ls2
       powers_now = subst (λ (u : Disks). EachCall (IsPowerCall m) u ls2) disks_now powers
 
+      resting : Each (OnlyStands m) (HasRecord m) v ls2
+      resting = each_resting slots m (take m.writes h) m.writes v ls2 (named_now, absent_down) (rests_through slots m (take m.writes h) m.writes v.disks ls2 powers_now rests_beside).0 powers_now
+
+      powered_recorded : (d : ℕ) → IsOneRecorded then_said.meta d (watch_all ls2 v)
+      powered_recorded d at_end here =
+          let next = next_marked then_said.meta mark in
+          let was : IsOneRecorded m d v = (λ sv there. let before = still_recorded d sv there in let used = next.used v.disks.power d in omega (arith, before, used)) in
+          let last = one_recorded m d v ls2 powers_now resting was at_end here in
+          let used = next.used (watch_all ls2 v).disks.power d in
+          omega (arith, last, used)
+
       powers_serving : Each (StaysWithin b) IsSpinUpRecorded v ls2
       powers_serving =
           let based = then_based slots s h lo down start x said stood base rs each side then_said stands_read serving_reads ticks is_base (single_read broken_now) in
@@ -253,9 +277,7 @@ module _ (slots : ℕ) (from read settled t : Trail) (rs ls1 ls2 : List Call) (r
           each_recorded m b setup_now
           (let e = next.epoch in let time = based.time in omega (arith, e, time))
           (let k = next.ticks in let most = based.counted in omega (arith, k, most))
-          v ls2 powers_now
-          (each_resting slots m (take m.writes h) m.writes v ls2 (named_now, absent_down) (rests_through slots m (take m.writes h) m.writes v.disks ls2 powers_now rests_beside).0 powers_now)
-          recorded_now
+          v ls2 powers_now resting recorded_now
 
     powers_within : Each (StaysWithin b) IsSpinUpRecorded v ls2
     powers_within = elim (serves_or_not v.down) [
@@ -267,3 +289,10 @@ module _ (slots : ℕ) (from read settled t : Trail) (rs ls1 ls2 : List Call) (r
     pub all_within : Each (StaysWithin b) IsSpinUpRecorded w calls
     all_within = subst (Each (StaysWithin b) IsSpinUpRecorded w) (append_assoc rs ls1 ls2)
         (each_append (StaysWithin b) IsSpinUpRecorded w (rs ++ ls1) ls2 still_within powers_within)
+
+    -- And at the end the spin-ups of each disk are recorded.
+    pub all_recorded : (d : ℕ) → IsOneRecorded then_said.meta d (watch_all calls w)
+    all_recorded d = subst (IsOneRecorded then_said.meta d) (sym end_is) (λ serving. powered_recorded (serving_before v ls2 serving) d serving)
+      where
+        end_is : watch_all calls w ≡ watch_all ls2 v
+        end_is = ap (λ (cs : List Call). watch_all cs w) (sym (append_assoc rs ls1 ls2)) ∙ watch_append w (rs ++ ls1) ls2

@@ -1,19 +1,24 @@
 -- From what a mounted array does to what the program does.
-use Rattle.std.proofs.Common.{◌≡◌, ℕ, List, Option, Some, None, ap, sym, ◌∙◌, subst}
+use Rattle.std.proofs.Common.{◌≡◌, ℕ, ◌⊎◌, List, length, Option, Some, None, inl, inr, ap, sym, ◌∙◌, subst}
+use Rattle.paraid_mount.specs.declared.fault.MountFault.{MountFault}
+use Rattle.paraid_mount.specs.declared.fault.MountFault.TheVariants.{NotFormatted, BadLog, BadMeta, Size, Power, Two as TwoDown, Worn, NoMemory}
+use Rattle.paraid_rack.specs.Slots.{Slot}
 use Rattle.paraid_rack.specs.Trail.{Trail, moments}
 use Rattle.paraid_record.specs.declared.meta.Setup.{Setup}
 use Rattle.paraid_session.specs.Mount.{IsMountedFromEach}
 use Rattle.paraid_console.specs.Ending.{EndsWithLine}
-use Rattle.paraid_serve.specs.Output.{Headline}
+use Rattle.paraid_serve.specs.Calls.{IsNotDouble, IsPairNamed}
+use Rattle.paraid_serve.specs.Output.{Headline, IsServedStatus}
 use Rattle.paraid_session.specs.Turn.{Point}
 use Rattle.paraid_serve.proofs.ExitLemmas.{IsMountedFromEach-follows}
-use Rattle.paraid_commands.specs.Generating.{GenHeadline}
+use Rattle.paraid_commands.specs.Generating.{GenHeadline, IsGenStatus}
 use Rattle.paraid_commands.specs.Telling.{state_lines}
 use Rattle.paraid_words.specs.declared.command.Command.{Command}
 use Rattle.paraid_words.specs.Words.{AskFor}
 use Rattle.paraid_recover.specs.HeldMoments.{Extends}
+use Rattle.paraid_state.specs.MountFaults.{mount_fault_status}
 use Rattle.paraid_state.specs.Showing.{BeganAt}
-use Rattle.paraid_top.specs.Ends.{BeginsAt, TellsState}
+use Rattle.paraid_top.specs.Ends.{BeginsAt, IsEndOver, IsStatusOfGen, IsStatusOfRun, ServesGenerated, ServesLines, TellsState}
 
 -- the moment at which a record ends, or the first one where none is told
 abbrev pub end_moment : Option Trail → ℕ
@@ -26,15 +31,84 @@ began_at_end before t is = ap end_moment is
 pub begins_at_end : (before middle : Option Trail) → Extends before middle → BeginsAt before middle (end_moment before)
 begins_at_end before middle grows = record { calls = λ t tells. let r = grows t tells in (r.from, r.calls, r.was, r.is, ap end_moment r.was) }
 
-pub headline_over : (slots slots_now : ℕ) (setup : Setup) (began : ℕ) (middle final after : Option Trail) (l m w x : Option (List ℕ)) (status : ℕ) → slots_now ≡ slots → after ≡ final
-    → Headline slots_now setup began middle final l m w x status → Headline slots setup began middle after l m w x status
-headline_over slots slots_now setup began middle final after l m w x status e f h =
-    subst (λ (k : ℕ). Headline k setup began middle after l m w x status) e (subst (λ (t : Option Trail). Headline slots_now setup began middle t l m w x status) (sym f) h)
+-- the slots that an array hands back are those that it had
+end_over : (setup : Setup) (now slot : ℕ → Slot) (status : ℕ) → slot ≡ now → (status ≡ 0 → IsNotDouble setup now) → (status ≡ 5 → IsPairNamed now) → IsEndOver setup slot status
+end_over setup now slot status same present two = record {
+  present = λ zero. subst (IsNotDouble setup) (sym same) (present zero);
+  two = λ five. subst IsPairNamed (sym same) (two five);
+}
 
-pub generated_over : (slots slots_now : ℕ) (setup : Setup) (began : ℕ) (middle final after : Option Trail) (w x : Option (List ℕ)) (number count status : ℕ) → slots_now ≡ slots → after ≡ final
-    → GenHeadline slots_now setup began middle final w x number count status → GenHeadline slots setup began middle after w x number count status
-generated_over slots slots_now setup began middle final after w x number count status e f h =
-    subst (λ (k : ℕ). GenHeadline k setup began middle after w x number count status) e (subst (λ (t : Option Trail). GenHeadline slots_now setup began middle t w x number count status) (sym f) h)
+pub headline_over : (slots slots_now : ℕ) (now slot : ℕ → Slot) (setup : Setup) (began : ℕ) (middle final after : Option Trail) (l m w x : Option (List ℕ)) (status : ℕ) → slots_now ≡ slots → after ≡ final → slot ≡ now
+    → (status ≡ 0 → IsNotDouble setup now) → (status ≡ 5 → IsPairNamed now)
+    → Headline slots_now setup began middle final l m w x status → ServesLines slots slot after l m w x status setup began middle
+headline_over slots slots_now now slot setup began middle final after l m w x status e f same present two h = record {
+  headline = subst (λ (k : ℕ). Headline k setup began middle after l m w x status) e (subst (λ (t : Option Trail). Headline slots_now setup began middle t l m w x status) (sym f) h);
+  end = end_over setup now slot status same present two;
+}
+
+pub generated_over : (slots slots_now : ℕ) (now slot : ℕ → Slot) (setup : Setup) (began : ℕ) (middle final after : Option Trail) (w x : Option (List ℕ)) (number count status : ℕ) → slots_now ≡ slots → after ≡ final → slot ≡ now
+    → (status ≡ 0 → IsNotDouble setup now) → (status ≡ 5 → IsPairNamed now)
+    → GenHeadline slots_now setup began middle final w x number count status → ServesGenerated slots slot after w x number count status setup began middle
+generated_over slots slots_now now slot setup began middle final after w x number count status e f same present two h = record {
+  headline = subst (λ (k : ℕ). GenHeadline k setup began middle after w x number count status) e (subst (λ (t : Option Trail). GenHeadline slots_now setup began middle t w x number count status) (sym f) h);
+  end = end_over setup now slot status same present two;
+}
+
+-- the statuses of a run are those of a session, and those of a mount that is refused
+pub run_status : (status : ℕ) → IsServedStatus status → IsStatusOfRun status
+run_status status (inl z) = inl z
+run_status status (inr (inl z)) = inr (inl z)
+run_status status (inr (inr (inl z))) = inr (inr (inl z))
+run_status status (inr (inr (inr (inl z)))) = inr (inr (inr (inl z)))
+run_status status (inr (inr (inr (inr (inl z))))) = inr (inr (inr (inr (inr (inr (inl z))))))
+run_status status (inr (inr (inr (inr (inr z))))) = inr (inr (inr (inr (inr (inr (inr z))))))
+
+pub generate_status : (status : ℕ) → IsGenStatus status → IsStatusOfGen status
+generate_status status (inl z) = inl z
+generate_status status (inr (inl z)) = inr (inl z)
+generate_status status (inr (inr (inl z))) = inr (inr (inl z))
+generate_status status (inr (inr (inr z))) = inr (inr (inr (inr (inr z))))
+
+-- the statuses of a mount that is refused, or 4 where the sink has failed
+abbrev pub IsRefusedStatus : ℕ → Type 0
+IsRefusedStatus status = (status ≡ 4) ⊎ (status ≡ 5) ⊎ (status ≡ 6) ⊎ (status ≡ 7) ⊎ (status ≡ 12)
+
+fault_status : (fault : MountFault) (status : ℕ) → status ≡ mount_fault_status fault → IsRefusedStatus status
+fault_status NotFormatted status is = inr (inr (inl is))
+fault_status (BadLog disk) status is = inr (inr (inl is))
+fault_status (BadMeta disk) status is = inr (inr (inl is))
+fault_status (Size disk found needed) status is = inr (inr (inl is))
+fault_status (Power disk) status is = inr (inr (inl is))
+fault_status (TwoDown two) status is = inr (inl is)
+fault_status (Worn count) status is = inr (inr (inr (inr is)))
+fault_status NoMemory status is = inr (inr (inr (inl is)))
+
+refused_so : (fault : MountFault) (status n m : ℕ) → (status ≡ 4) ⊎ ((n ≡ m) × (status ≡ mount_fault_status fault)) → IsRefusedStatus status
+refused_so fault status n m (inl four) = inl four
+refused_so fault status n m (inr all) = fault_status fault status all.1
+
+refused_status : (fault : MountFault) (before after : Option (List ℕ)) (line : List ℕ) (status : ℕ) → EndsWithLine before after line (mount_fault_status fault) status → IsRefusedStatus status
+refused_status fault before after line status end = refused_so fault status end.count (length line) end.whole
+
+run_refused : (status : ℕ) → IsRefusedStatus status → IsStatusOfRun status
+run_refused status (inl z) = inr (inr (inl z))
+run_refused status (inr (inl z)) = inr (inr (inr (inl z)))
+run_refused status (inr (inr (inl z))) = inr (inr (inr (inr (inl z))))
+run_refused status (inr (inr (inr (inl z)))) = inr (inr (inr (inr (inr (inl z)))))
+run_refused status (inr (inr (inr (inr z)))) = inr (inr (inr (inr (inr (inr (inr z))))))
+
+generate_refused : (status : ℕ) → IsRefusedStatus status → IsStatusOfGen status
+generate_refused status (inl z) = inr (inl z)
+generate_refused status (inr (inl z)) = inr (inr (inl z))
+generate_refused status (inr (inr (inl z))) = inr (inr (inr (inl z)))
+generate_refused status (inr (inr (inr (inl z)))) = inr (inr (inr (inr (inl z))))
+generate_refused status (inr (inr (inr (inr z)))) = inr (inr (inr (inr (inr z))))
+
+pub run_is_refused : (fault : MountFault) (before after : Option (List ℕ)) (line : List ℕ) (status : ℕ) → EndsWithLine before after line (mount_fault_status fault) status → IsStatusOfRun status
+run_is_refused fault before after line status end = run_refused status (refused_status fault before after line status end)
+
+pub generate_is_refused : (fault : MountFault) (before after : Option (List ℕ)) (line : List ℕ) (status : ℕ) → EndsWithLine before after line (mount_fault_status fault) status → IsStatusOfGen status
+generate_is_refused fault before after line status end = generate_refused status (refused_status fault before after line status end)
 
 pub state_over : (slots slots_now : ℕ) (setup : Setup) (began : ℕ) (middle : Option Trail) (w x : Option (List ℕ)) (status : ℕ) (stands : Point → Type 0) → slots_now ≡ slots
     → IsMountedFromEach slots_now setup began middle stands → ((p : Point) → stands p → EndsWithLine w x (state_lines setup p) 0 status) → TellsState slots w x status setup began middle

@@ -1,5 +1,5 @@
 -- How the program ends on each of its words.
-use Rattle.std.specs.Prelude.{◌≡◌, ℕ, Bool, List, Option, Some}
+use Rattle.std.specs.Prelude.{◌≡◌, ℕ, ◌⊎◌, Bool, List, Option, Some}
 use Rattle.paraid_base.specs.declared.fault.Halt.{Halt}
 use Rattle.paraid_rack.specs.Slots.{Slot}
 use Rattle.paraid_rack.specs.Trail.{Trail, extend, moments}
@@ -8,6 +8,7 @@ use Rattle.paraid_record.specs.declared.meta.Setup.{Setup}
 use Rattle.paraid_scrub.specs.declared.kind.CheckReport.{CheckReport}
 use Rattle.paraid_session.specs.Mount.{IsMountedFromEach, IsRefusedFromEach}
 use Rattle.paraid_console.specs.Ending.{EndsWithLine, halt_line, status_of_halt}
+use Rattle.paraid_serve.specs.Calls.{IsNotDouble, IsPairNamed}
 use Rattle.paraid_serve.specs.Output.{Headline}
 use Rattle.paraid_words.specs.declared.command.Command.{Command}
 use Rattle.paraid_words.specs.declared.command.Command.TheVariants.{Format, Run, Status, Check, Gen}
@@ -38,6 +39,30 @@ pub data MountsAndThen (slots : ℕ) (old new : ℕ → Slot) (before after : Op
       → MountsAndThen slots old new before after written_before written status P
   mounted : (setup : Setup) (began : ℕ) (middle : Option Trail) → BeginsAt before middle began → P setup began middle → MountsAndThen slots old new before after written_before written status P
 
+-- the statuses of a run
+abbrev pub IsStatusOfRun : ℕ → Type 0
+IsStatusOfRun status = (status ≡ 0) ⊎ (status ≡ 3) ⊎ (status ≡ 4) ⊎ (status ≡ 5) ⊎ (status ≡ 6) ⊎ (status ≡ 7) ⊎ (status ≡ 10) ⊎ (status ≡ 12)
+
+-- those of generated lines
+abbrev pub IsStatusOfGen : ℕ → Type 0
+IsStatusOfGen status = (status ≡ 0) ⊎ (status ≡ 4) ⊎ (status ≡ 5) ⊎ (status ≡ 6) ⊎ (status ≡ 7) ⊎ (status ≡ 12)
+
+-- What is known over every rack of the slots at the end of a session: at 0 at most one disk of the array
+-- is absent, and at 5 the second of two different disks has failed.
+pub record IsEndOver (setup : Setup) (slot : ℕ → Slot) (status : ℕ) : Type 0 where
+  pub present : status ≡ 0 → IsNotDouble setup slot
+  pub two : status ≡ 5 → IsPairNamed slot
+
+-- A run served a mounted array: its headline, and what is known of its end over every rack.
+pub record ServesLines (slots : ℕ) (slot : ℕ → Slot) (after : Option Trail) (left_before left written_before written : Option (List ℕ)) (status : ℕ) (setup : Setup) (began : ℕ) (middle : Option Trail) : Type 0 where
+  pub headline : Headline slots setup began middle after left_before left written_before written status
+  pub end : IsEndOver setup slot status
+
+-- The same of generated lines.
+pub record ServesGenerated (slots : ℕ) (slot : ℕ → Slot) (after : Option Trail) (written_before written : Option (List ℕ)) (number lines status : ℕ) (setup : Setup) (began : ℕ) (middle : Option Trail) : Type 0 where
+  pub headline : GenHeadline slots setup began middle after written_before written number lines status
+  pub end : IsEndOver setup slot status
+
 -- the state of the first point of a session was told
 abbrev pub TellsState : ℕ → Option (List ℕ) → Option (List ℕ) → ℕ → Setup → ℕ → Option Trail → Type 0
 TellsState slots written_before written status setup began middle = IsMountedFromEach slots setup began middle (λ p. EndsWithLine written_before written (state_lines setup p) 0 status)
@@ -51,9 +76,9 @@ pub data TellsCounts (Counts : CheckReport → Type 0) (written_before written :
 abbrev pub DoesCommand : ℕ → (ℕ → Slot) → (ℕ → Slot) → Option Trail → Option Trail → Option (List ℕ) → Option (List ℕ) → Option (List ℕ) → Option (List ℕ) → ℕ → (Option Trail → Option Trail → CheckReport → Type 0) → (Bool → Type 0) → Command → Type 0
 DoesCommand slots old new before after left_before left written_before written status counts formats (Format force) = formats force
 DoesCommand slots old new before after left_before left written_before written status counts formats Run =
-    MountsAndThen slots old new before after written_before written status (λ setup began middle. Headline slots setup began middle after left_before left written_before written status)
+    MountsAndThen slots old new before after written_before written status (ServesLines slots new after left_before left written_before written status)
 DoesCommand slots old new before after left_before left written_before written status counts formats Status = MountsAndThen slots old new before after written_before written status (TellsState slots written_before written status)
 DoesCommand slots old new before after left_before left written_before written status counts formats Check =
     MountsAndThen slots old new before after written_before written status (λ setup began middle. TellsCounts (counts middle after) written_before written status)
 DoesCommand slots old new before after left_before left written_before written status counts formats (Gen number lines) =
-    MountsAndThen slots old new before after written_before written status (λ setup began middle. GenHeadline slots setup began middle after written_before written number lines status)
+    MountsAndThen slots old new before after written_before written status (ServesGenerated slots new after written_before written number lines status)

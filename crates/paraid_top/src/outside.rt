@@ -40,7 +40,8 @@ pub trait Outside<R: Rack, A: Serves> {
 
     /// Makes no call; what is staged is dropped.
     fn unmount(&self, array: A) -> R
-        ensures told { R.told result ≡ A.told array };
+        ensures told { R.told result ≡ A.told array }
+        ensures slot { R.slot result ≡ A.slot array };
 
     /// Reads a configuration and makes a new array of the rack.
     fn format<S: Source, K: Sink>(

@@ -1,12 +1,10 @@
 ghost use Rattle.std.specs.Prelude.{◌≡◌, ◌≢◌, ◌≤◌, ◌<◌, ◌++◌, ℕ, Bool, None, map, string_bytes, codes, decimal};
 ghost use Rattle.paraid_base.specs.Told.{HasRisen};
 ghost use Rattle.paraid_console.specs.Ending.{EndsWithLine};
-ghost use Rattle.paraid_serve.specs.Output.{Headline};
-ghost use Rattle.paraid_commands.specs.Generating.{GenHeadline};
 ghost use Rattle.paraid_words.specs.declared.command.Command.{Command as CommandType};
 ghost use Rattle.paraid_words.specs.Words.{AskFor, usage_line};
 ghost use Rattle.paraid_state.specs.MountFaults.{mount_fault_line, mount_fault_status as mount_fault_status_of};
-ghost use Rattle.paraid_top.specs.Ends.{DoesCommand, MountsAndThen, TellsCounts, TellsState};
+ghost use Rattle.paraid_top.specs.Ends.{DoesCommand, IsStatusOfGen, IsStatusOfRun, MountsAndThen, ServesGenerated, ServesLines, TellsCounts, TellsState};
 
 use crate::outside::{Checks, Ended, Outside};
 use crate::text::{check_status, check_text};
@@ -45,9 +43,10 @@ pub fn run<S: Source, K: Sink, R: Rack, A: Serves, O: Outside<R, A>>(
 ) -> Ended<R>
     ensures run { MountsAndThen (R.slot_count rack) (R.slot rack) (R.slot result.rack) (R.told rack)
         (R.told result.rack) (K.written sink.old) (K.written sink.new) result.status
-        (λ setup began middle. Headline (R.slot_count rack) setup began middle
-        (R.told result.rack) (S.left source.old) (S.left source.new) (K.written sink.old)
-        (K.written sink.new) result.status) }
+        (ServesLines (R.slot_count rack) (R.slot result.rack) (R.told result.rack)
+        (S.left source.old) (S.left source.new) (K.written sink.old) (K.written sink.new)
+        result.status) }
+    ensures status { IsStatusOfRun result.status }
     ensures source { result.status ≡ 3 → HasRisen (S.faults source.old) (S.faults source.new) }
     ensures sink { result.status ≡ 4 → HasRisen (K.faults sink.old) (K.faults sink.new) }
 {
@@ -77,9 +76,9 @@ pub fn generate<K: Sink, R: Rack, A: Serves, O: Outside<R, A>>(
     requires few { lines ≤ 1000000 }
     ensures run { MountsAndThen (R.slot_count rack) (R.slot rack) (R.slot result.rack) (R.told rack)
         (R.told result.rack) (K.written sink.old) (K.written sink.new) result.status
-        (λ setup began middle. GenHeadline (R.slot_count rack) setup began middle
-        (R.told result.rack) (K.written sink.old) (K.written sink.new) number lines
-        result.status) }
+        (ServesGenerated (R.slot_count rack) (R.slot result.rack) (R.told result.rack)
+        (K.written sink.old) (K.written sink.new) number lines result.status) }
+    ensures status { IsStatusOfGen result.status }
     ensures sink { result.status ≡ 4 → HasRisen (K.faults sink.old) (K.faults sink.new) }
 {
     match outside.mount(rack) {

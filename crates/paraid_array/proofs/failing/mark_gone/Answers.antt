@@ -2,9 +2,11 @@ use Rattle.std.specs.Prelude.{◌+◌}
 use Rattle.std.proofs.Common.{◌∙◌, ap}
 use Rattle.paraid_image.specs.Out.{named_out}
 use Rattle.paraid_record.specs.declared.meta.Meta.{Meta}
+use Rattle.paraid_core.proofs.AfterLemmas.{handed}
 use Rattle.paraid_shift.proofs.ServingLemmas.{copies_kept}
 use Rattle.paraid_array.proofs.OutLemmas.{gone_marked, known_gone}
 use Rattle.paraid_array.proofs.ServiceLemmas.{large_marked, service_then}
+use Rattle.paraid_array.proofs.TurnLemmas.{can_mark, commits_taken, taken_lost}
 use Rattle.paraid_array.proofs.failing.mark_gone.Goals as goal
 
 pub returns-clause-service : goal.returns-clause-service
@@ -36,3 +38,27 @@ pub returns-clause-gone : goal.returns-clause-gone
 returns-clause-gone g c =
     let b = c.mark_out.new.self in
     gone_marked (record b.meta { epoch = b.meta.epoch + 1 }) c.commit.new.self.meta c.args.disk (ap (λ (m : Meta). m.out) c.mark_out.ensures.meta) c.in_ok-commit.ensures.meta
+
+pub returns-clause-marks : goal.returns-clause-marks
+returns-clause-marks g c =
+    let marks = c.mark_out.ensures in
+    can_mark g.R.Rack.slot_count g.R.Rack.slot g.R.Rack.told g.met.R.Rack.agrees c.args.core.now c.mark_out.new.self c.args.disk marks.store marks.meta marks.table marks.batch marks.copied marks.stands
+
+pub returns-in_err-commit-clause-marks : goal.returns-in_err-commit-clause-marks
+returns-in_err-commit-clause-marks g c =
+    let marks = c.mark_out.ensures in
+    can_mark g.R.Rack.slot_count g.R.Rack.slot g.R.Rack.told g.met.R.Rack.agrees c.args.core.now c.mark_out.new.self c.args.disk marks.store marks.meta marks.table marks.batch marks.copied marks.stands
+
+pub returns-clause-commits : goal.returns-clause-commits
+returns-clause-commits g c =
+    let marks = c.mark_out.ensures in
+    let done = c.in_ok-commit.ensures in
+    commits_taken g.R.Rack.slot_count g.R.Rack.slot g.R.Rack.told g.met.R.Rack.agrees c.args.core.now c.mark_out.new.self c.args.disk marks.store marks.meta marks.table marks.batch marks.copied
+    c.commit.new.self c.commit.ensures.calls c.commit.ensures.whole done.stands done.marks done.ready done.setup
+
+pub returns-in_err-commit-clause-loses : goal.returns-in_err-commit-clause-loses
+returns-in_err-commit-clause-loses g c =
+    let marks = c.mark_out.ensures in
+    handed _ c.from_residual.result _ c.from_residual.ensures.1
+    (taken_lost g.R.Rack.slot_count g.R.Rack.slot g.R.Rack.told g.met.R.Rack.agrees c.args.core.now c.mark_out.new.self c.args.disk marks.store marks.meta marks.table marks.batch marks.copied
+    c.commit.new.self c.commit.ensures.calls c.commit.ensures.whole c.commit.ensures.moments (marks.serves c.requires.service.serves) _ c.in_err-commit.ensures.tells)

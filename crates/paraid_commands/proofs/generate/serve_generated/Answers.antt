@@ -1,11 +1,12 @@
+use Rattle.paraid_serve.proofs.HaltLemmas.{names_pair, no_halt_yet}
 use Rattle.paraid_commands.proofs.LineLemmas.{done_gen, halted_gen, no_line_run, no_summary_run}
 use Rattle.paraid_commands.proofs.generate.serve_generated.Goals as goal
 
 pub returns-in_default-clause-run : goal.returns-in_default-clause-run
-returns-in_default-clause-run g c = no_line_run _ _ _ _ _ _ c.writes.result c.gear.result _ _ c.writes.ensures c.gear.ensures (rw (c.as_slice.ensures.value, c.mount_text.ensures) at c.in_default.ensures.part)
+returns-in_default-clause-run g c = no_line_run _ _ _ _ _ _ c.writes.result c.gear.result _ _ (c.writes.ensures c.requires.going) c.gear.ensures (rw (c.as_slice.ensures.value, c.mount_text.ensures) at c.in_default.ensures.part)
 
 pub returns-in_default-write_all-clause-run : goal.returns-in_default-write_all-clause-run
-returns-in_default-write_all-clause-run g c = no_summary_run _ _ _ _ _ _ _ _ c.writes.result c.gear.result _ _ c.writes.ensures c.gear.ensures _ _ c.answer_lines-tally.ensures.counted c.gear-2.result c.energy.result c.gear-2.ensures c.energy.ensures
+returns-in_default-write_all-clause-run g c = no_summary_run _ _ _ _ _ _ _ _ c.writes.result c.gear.result _ _ (c.writes.ensures c.requires.going) c.gear.ensures _ _ c.answer_lines-tally.ensures.counted c.gear-2.result c.energy.result c.gear-2.ensures c.energy.ensures
     (rw (c.as_slice.ensures.value, c.mount_text.ensures) at c.in-Ok.ensures.grows)
     (rw (c.as_slice-2.ensures.value, c.summary_text.ensures) at c.in_default-write_all.ensures.part)
 
@@ -13,7 +14,7 @@ pub returns-in-Ok-finish-clause-run : goal.returns-in-Ok-finish-clause-run
 returns-in-Ok-finish-clause-run g c =
     let a = c.answer_lines-tally.ensures in
     let f = c.in-Ok-finish.ensures in
-    done_gen _ _ _ _ _ _ _ _ c.writes.result c.gear.result _ _ c.writes.ensures c.gear.ensures _ _ a.counted c.gear-2.result c.energy.result c.gear-2.ensures c.energy.ensures
+    done_gen _ _ _ _ _ _ _ _ c.writes.result c.gear.result _ _ (c.writes.ensures c.requires.going) c.gear.ensures _ _ a.counted c.gear-2.result c.energy.result c.gear-2.ensures c.energy.ensures
     (rw (c.as_slice.ensures.value, c.mount_text.ensures) at c.in-Ok.ensures.grows)
     (rw (c.as_slice-2.ensures.value, c.summary_text.ensures) at c.in-Ok-write_all.ensures.grows)
     _ _ _ _ _ a.slots a.setup f.told _ c.in-Ok-finish.writes f.turn
@@ -23,8 +24,12 @@ pub returns-in-Err-clause-run : goal.returns-in-Err-clause-run
 returns-in-Err-clause-run g c =
     let a = c.answer_lines-tally.ensures in
     let f = c.in-Err.ensures in
-    halted_gen _ _ _ _ _ _ _ _ c.writes.result c.gear.result _ _ c.writes.ensures c.gear.ensures _ _ a.counted c.gear-2.result c.energy.result c.gear-2.ensures c.energy.ensures
+    halted_gen _ _ _ _ _ _ _ _ c.writes.result c.gear.result _ _ (c.writes.ensures c.requires.going) c.gear.ensures _ _ a.counted c.gear-2.result c.energy.result c.gear-2.ensures c.energy.ensures
     (rw (c.as_slice.ensures.value, c.mount_text.ensures) at c.in-Ok.ensures.grows)
     (rw (c.as_slice-2.ensures.value, c.summary_text.ensures) at c.in-Ok-write_all.ensures.grows)
     _ _ _ _ _ a.slots a.setup f.told _ c.in-Err.halt f.turn
     (rw (c.as_slice-in-Err.ensures.value, c.reply.ensures.value, c.halt_status.ensures) at c.last-in-Err.ensures.ends)
+
+pub returns-in-Err-clause-two : goal.returns-in-Err-clause-two
+returns-in-Err-clause-two g c = names_pair _ c.in-Err.halt _ _ _ _ (c.in-Err.ensures.failed (c.answer_lines-tally.ensures.failed (no_halt_yet _ _ c.requires.going)))
+    (rw c.halt_status.ensures at c.last-in-Err.ensures.ends)

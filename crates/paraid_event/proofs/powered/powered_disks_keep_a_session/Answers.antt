@@ -3,6 +3,6 @@ use Rattle.paraid_event.proofs.powered.powered_disks_keep_a_session.Goals as goa
 
 pub returns : goal.returns
 returns c = record {
-  each = λ k h lo base w b asked cs at shows none has setup ticks epoch part. power_each k h lo base w at shows none has cs part b setup ticks epoch asked;
-  stands = λ k k_then h lo base w cs at shows none has part ends serving. power_stands k h lo base w at shows none has cs part k_then ends serving;
+  each = λ k h lo base w b asked cs at shows none has setup ticks epoch part. power_each k h lo base w at shows none cs part (λ e raised. has e) b setup ticks epoch asked;
+  stands = λ k k_then h lo base w cs at shows none has part ends serving. power_stands k h lo base w at shows none cs part (λ e raised. has e) k_then ends serving;
 }

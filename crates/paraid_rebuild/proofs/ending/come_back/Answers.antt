@@ -15,6 +15,14 @@ use Rattle.paraid_core.proofs.AfterLemmas.{handed}
 use Rattle.paraid_shift.specs.Serving.{RestsInShift}
 use Rattle.paraid_shift.proofs.ServingLemmas.{chain, chain_held, lowered, unsynced_still}
 use Rattle.paraid_rebuild.proofs.ReplacingLemmas.{all_there, alone_failed, back_well, marked_alone, marked_back, serving_again, two_marked}
+use Rattle.std.specs.Prelude.{◌<◌}
+use Rattle.paraid_base.specs.declared.state.Out.TheVariants.{Fresh}
+use Rattle.paraid_moves.specs.MoveMetas.{meta_with_out}
+use Rattle.paraid_record.specs.declared.meta.Setup.{Setup}
+use Rattle.paraid_event.specs.RebuildEnds.{CommitsRejoined}
+use Rattle.paraid_event.specs.Service.{service_of}
+use Rattle.paraid_rebuild.proofs.ReplacementEventLemmas.{commit_told, fresh_stays, marked_told, same_service, still_told}
+use Rattle.paraid_rebuild.proofs.LossLemmas.{LosesBack, join_lost, tells_by}
 use Rattle.paraid_rebuild.proofs.ending.come_back.Goals as goal
 
 pub rejoin-requires-clause-there : goal.rejoin-requires-clause-there
@@ -246,3 +254,86 @@ returns-clause-spins g c is =
     let named : named_of b.store ≡ Some c.args.disk = ap named_of marks.store ∙ c.requires.named in
     (back_well (g.R.Rack.slot (store_rack b.store)) (g.R.Rack.slot (store_rack new.store)) b.meta new.meta c.args.disk c.in_ok-commit.ensures.marks (c.is_gone.ensures.back c.if-is_gone.false)).0
     ∙ ap (λ (z : _). (g.R.Rack.slot (store_rack z) c.args.disk).power) marks.store ∙ c.requires.spins
+
+pub returns-then-is_gone-clause-event : goal.returns-then-is_gone-clause-event
+returns-then-is_gone-clause-event g c samples served energy h lo =
+    let a = c.args.core.now in
+    let b = c.rejoin.new.self in
+    let new = c.commit.new.self in
+    let marks = c.rejoin.ensures in
+    let out : b.meta.out ≡ No = ap (λ (m : Meta). m.out) marks.meta in
+    let named : named_of b.store ≡ Some c.args.disk = ap named_of marks.store ∙ c.requires.named in
+    let j = service_of g.R.Rack.slot_count b samples served energy in
+    let k_then = service_of g.R.Rack.slot_count new samples served energy in
+    let new_setup : new.meta.setup ≡ b.meta.setup = c.in_ok-commit.ensures.setup in
+    let ready = c.in_ok-commit.ensures.ready in
+    let lost = c.in_ok-commit.ensures.marks in (
+      j,
+      record {
+        mark = same_service g.R.Rack.slot_count a b samples served energy (meta_with_out a.meta No) (ap (λ (z : _). g.R.Rack.slot_count (store_rack z)) marks.store) (ap named_of marks.store) marks.meta marks.table marks.batch marks.copied;
+        stands = λ t tells copied. still_told (IsCoreHeldSinceCommit g.R.Rack.slot_count a h lo) (UnitsRebuilt g.R.Rack.slot_count a h lo (rebuild_units a.meta.setup.geometry a.meta.gear c.args.disk)) (CoreStandsFor g.R.Rack.slot_count b h lo)
+            (g.R.Rack.told (store_rack a.store)) (g.R.Rack.told (store_rack b.store)) (ap (λ (z : _). g.R.Rack.told (store_rack z)) marks.store) (marks.stands c.args.disk (rebuilt_count a.meta.out) c.requires.fresh h lo) t tells copied;
+        commits = subst (λ (z : _). CommitsRejoined (g.R.Rack.told (store_rack z)) (g.R.Rack.told (store_rack new.store)) j k_then h lo c.args.disk) marks.store (record {
+          ran = commit_told (g.R.Rack.told (store_rack b.store)) (g.R.Rack.told (store_rack new.store)) j k_then h lo c.commit.ensures.calls (c.in_ok-commit.ensures.since marks.absent h lo) (c.commit.ensures.whole h lo)
+              (marked_told (g.R.Rack.told (store_rack new.store)) (g.R.Rack.slot (store_rack b.store)) (g.R.Rack.slot (store_rack new.store)) (g.met.R.Rack.agrees (store_rack new.store)) b.meta new.meta lost
+              (λ x low absent. ready.absent x (subst (λ (z : Setup). x < z.geometry.disks) (sym new_setup) low) absent)
+              (fresh_stays (g.R.Rack.slot (store_rack b.store)) (g.R.Rack.slot (store_rack new.store)) b.meta new.meta lost (λ x u fresh. let z : No ≡ Fresh x u = sym out ∙ fresh in cc)));
+          alone = λ e is. sym (c.in_ok-commit.ensures.alone c.args.disk e named is);
+          epoch = c.in_ok-commit.ensures.epoch;
+          slots = c.commit.ensures.slots;
+          nothing_staged = c.in_ok-commit.ensures.nothing;
+        });
+      },
+    )
+
+pub returns-clause-event : goal.returns-clause-event
+returns-clause-event g c samples served energy h lo =
+    let a = c.args.core.now in
+    let b = c.rejoin.new.self in
+    let new = c.commit.new.self in
+    let marks = c.rejoin.ensures in
+    let out : b.meta.out ≡ No = ap (λ (m : Meta). m.out) marks.meta in
+    let named : named_of b.store ≡ Some c.args.disk = ap named_of marks.store ∙ c.requires.named in
+    let j = service_of g.R.Rack.slot_count b samples served energy in
+    let k_then = service_of g.R.Rack.slot_count new samples served energy in
+    let new_setup : new.meta.setup ≡ b.meta.setup = c.in_ok-commit.ensures.setup in
+    let ready = c.in_ok-commit.ensures.ready in
+    let lost = c.in_ok-commit.ensures.marks in (
+      j,
+      record {
+        mark = same_service g.R.Rack.slot_count a b samples served energy (meta_with_out a.meta No) (ap (λ (z : _). g.R.Rack.slot_count (store_rack z)) marks.store) (ap named_of marks.store) marks.meta marks.table marks.batch marks.copied;
+        stands = λ t tells copied. still_told (IsCoreHeldSinceCommit g.R.Rack.slot_count a h lo) (UnitsRebuilt g.R.Rack.slot_count a h lo (rebuild_units a.meta.setup.geometry a.meta.gear c.args.disk)) (CoreStandsFor g.R.Rack.slot_count b h lo)
+            (g.R.Rack.told (store_rack a.store)) (g.R.Rack.told (store_rack b.store)) (ap (λ (z : _). g.R.Rack.told (store_rack z)) marks.store) (marks.stands c.args.disk (rebuilt_count a.meta.out) c.requires.fresh h lo) t tells copied;
+        commits = subst (λ (z : _). CommitsRejoined (g.R.Rack.told (store_rack z)) (g.R.Rack.told (store_rack new.store)) j k_then h lo c.args.disk) marks.store (record {
+          ran = commit_told (g.R.Rack.told (store_rack b.store)) (g.R.Rack.told (store_rack new.store)) j k_then h lo c.commit.ensures.calls (c.in_ok-commit.ensures.since marks.absent h lo) (c.commit.ensures.whole h lo)
+              (marked_told (g.R.Rack.told (store_rack new.store)) (g.R.Rack.slot (store_rack b.store)) (g.R.Rack.slot (store_rack new.store)) (g.met.R.Rack.agrees (store_rack new.store)) b.meta new.meta lost
+              (λ x low absent. ready.absent x (subst (λ (z : Setup). x < z.geometry.disks) (sym new_setup) low) absent)
+              (fresh_stays (g.R.Rack.slot (store_rack b.store)) (g.R.Rack.slot (store_rack new.store)) b.meta new.meta lost (λ x u fresh. let z : No ≡ Fresh x u = sym out ∙ fresh in cc)));
+          alone = λ e is. sym (c.in_ok-commit.ensures.alone c.args.disk e named is);
+          epoch = c.in_ok-commit.ensures.epoch;
+          slots = c.commit.ensures.slots;
+          nothing_staged = c.in_ok-commit.ensures.nothing;
+        });
+      },
+    )
+
+pub returns-in_err-commit-clause-loses : goal.returns-in_err-commit-clause-loses
+returns-in_err-commit-clause-loses g c =
+    let a = c.args.core.now in
+    let b = c.rejoin.new.self in
+    let new = c.commit.new.self in
+    let marks = c.rejoin.ensures in
+    let named : named_of b.store ≡ Some c.args.disk = ap named_of marks.store ∙ c.requires.named in
+    let down : core_down b ≡ Some c.args.disk = ap (λ (o : Option ℕ). or_else o (named_out b.meta.out)) named in
+    handed (LosesBack g.R.Rack.slot_count g.R.Rack.told a new c.args.disk) c.from_residual.result _ c.from_residual.ensures.1
+    (λ samples served energy h lo.
+    let j = service_of g.R.Rack.slot_count b samples served energy in (
+      j,
+      record {
+        mark = same_service g.R.Rack.slot_count a b samples served energy (meta_with_out a.meta No) (ap (λ (z : _). g.R.Rack.slot_count (store_rack z)) marks.store) (ap named_of marks.store) marks.meta marks.table marks.batch marks.copied;
+        stands = λ t tells copied. still_told (IsCoreHeldSinceCommit g.R.Rack.slot_count a h lo) (UnitsRebuilt g.R.Rack.slot_count a h lo (rebuild_units a.meta.setup.geometry a.meta.gear c.args.disk)) (CoreStandsFor g.R.Rack.slot_count b h lo)
+            (g.R.Rack.told (store_rack a.store)) (g.R.Rack.told (store_rack b.store)) (ap (λ (z : _). g.R.Rack.told (store_rack z)) marks.store) (marks.stands c.args.disk (rebuilt_count a.meta.out) c.requires.fresh h lo) t tells copied;
+        ran = join_lost (g.R.Rack.told (store_rack b.store)) (g.R.Rack.told (store_rack new.store)) j h lo _ (g.R.Rack.told (store_rack a.store)) c.args.disk (ap (λ (z : _). g.R.Rack.told (store_rack z)) marks.store)
+            c.commit.ensures.calls (c.commit.ensures.moments_since marks.absent h lo) (c.commit.ensures.whole h lo) (tells_by (g.R.Rack.told (store_rack b.store)) (g.R.Rack.told (store_rack new.store)) (core_down b) (Some c.args.disk) _ down c.in_err-commit.ensures.tells);
+      },
+    ))

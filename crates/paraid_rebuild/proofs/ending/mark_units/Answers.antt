@@ -26,6 +26,7 @@ use Rattle.paraid_event.specs.Steps.{ServesMarked}
 use Rattle.paraid_rebuild.proofs.ReplacementEventLemmas.{commit_told, fresh_stays, marked_told, named_there, same_service, still_told}
 use Rattle.paraid_rebuild.proofs.StepEventLemmas.{marked_serves, units_marked}
 use Rattle.paraid_rebuild.proofs.MovedLemmas.{gone_away}
+use Rattle.paraid_rebuild.proofs.LossLemmas.{LosesMark, commit_lost, tells_by}
 use Rattle.paraid_rebuild.proofs.ending.mark_units.Goals as goal
 
 pub returns-in_err-commit-clause-moments : goal.returns-in_err-commit-clause-moments
@@ -384,3 +385,31 @@ returns-then-is_gone-clause-away g c is =
     let was : named_out a.meta.out ≡ Some c.args.disk = ap named_out c.requires.fresh in
     let out : b.meta.out ≡ Fresh c.args.disk c.args.end = ap (λ (m : Meta). m.out) (c.mark_rebuilt.ensures.meta c.args.disk was) in
     gone_away (g.R.Rack.slot (store_rack b.store)) (g.R.Rack.slot (store_rack new.store)) b.meta new.meta c.args.disk (ap named_out out) (ap gone_out out) c.in_ok-commit.ensures.marks (c.is_gone.ensures.gone c.if-is_gone.true)
+
+pub returns-in_err-commit-clause-loses : goal.returns-in_err-commit-clause-loses
+returns-in_err-commit-clause-loses g c =
+    let a = c.args.core.now in
+    let b = c.mark_rebuilt.new.self in
+    let new = c.commit.new.self in
+    let marks = c.mark_rebuilt.ensures in
+    let was : named_out a.meta.out ≡ Some c.args.disk = ap named_out c.requires.fresh in
+    let is_meta = marks.meta c.args.disk was in
+    let out : b.meta.out ≡ Fresh c.args.disk c.args.end = ap (λ (m : Meta). m.out) is_meta in
+    let named : named_of b.store ≡ Some c.args.disk = ap named_of marks.store ∙ c.requires.named in
+    let away : IsNamedOrAbsent g.R.Rack.slot b = (λ x is. inl (named ∙ sym (ap named_out out) ∙ is)) in
+    let down : core_down b ≡ named_out b.meta.out = ap (λ (o : Option ℕ). or_else o (named_out b.meta.out)) named ∙ sym (ap named_out out) in
+    handed (LosesMark g.R.Rack.slot_count g.R.Rack.told a new c.args.end) c.from_residual.result _ c.from_residual.ensures.1
+    (λ samples served energy h lo.
+    let k = service_of g.R.Rack.slot_count a samples served energy in
+    let j = service_of g.R.Rack.slot_count b samples served energy in (
+      j,
+      record {
+        mark = units_marked k j c.args.disk (rebuilt_count a.meta.out) c.args.end
+            (same_service g.R.Rack.slot_count a b samples served energy (meta_with_out a.meta (Fresh c.args.disk c.args.end)) (ap (λ (z : _). g.R.Rack.slot_count (store_rack z)) marks.store) (ap named_of marks.store) is_meta marks.table marks.batch marks.copied)
+            c.requires.fresh c.requires.serving.ready.in_range;
+        stands = λ t tells copied. still_told (IsCoreHeldSinceCommit g.R.Rack.slot_count a h lo) (UnitsRebuilt g.R.Rack.slot_count a h lo c.args.end) (CoreStandsFor g.R.Rack.slot_count b h lo) (g.R.Rack.told (store_rack a.store)) (g.R.Rack.told (store_rack b.store))
+            (ap (λ (z : _). g.R.Rack.told (store_rack z)) marks.store) (marks.stands h lo) t tells copied;
+        ran = commit_lost (g.R.Rack.told (store_rack b.store)) (g.R.Rack.told (store_rack new.store)) j h lo _ (g.R.Rack.told (store_rack a.store)) (ap (λ (z : _). g.R.Rack.told (store_rack z)) marks.store)
+            c.commit.ensures.calls (c.commit.ensures.moments_since away h lo) (c.commit.ensures.whole h lo) (tells_by (g.R.Rack.told (store_rack b.store)) (g.R.Rack.told (store_rack new.store)) (core_down b) (named_out b.meta.out) _ down c.in_err-commit.ensures.tells);
+      },
+    ))

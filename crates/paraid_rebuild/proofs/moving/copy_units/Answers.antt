@@ -17,6 +17,9 @@ use Rattle.paraid_txn.specs.Commit.{gone_out}
 use Rattle.paraid_core.specs.Calls.{IsDataCall}
 use Rattle.paraid_core.proofs.KindLemmas.{calls_none}
 use Rattle.paraid_rebuild.proofs.MovedLemmas.{data_then}
+use Rattle.paraid_image.specs.Lost.{TellsLosses}
+use Rattle.paraid_txn.specs.Uses.{EachCall}
+use Rattle.paraid_rebuild.proofs.LossLemmas.{tells_later}
 use Rattle.paraid_rebuild.proofs.moving.copy_units.Goals as goal
 
 pub loop-number-init : goal.loop-number-init
@@ -126,3 +129,13 @@ returns-then-not-done-clause-away g c is =
     let was = c.loop-number.invariant in
     let named : named_out c.loop-number.core.meta.out ≡ Some c.args.disk = ap (λ (m : Meta). named_out m.out) was.meta ∙ ap named_out c.requires.fresh in
     (c.in_ok-done.ensures.failed (ap Ok c.if-not-done.true) c.args.disk named).absent
+
+pub returns-in_err-done-clause-tells : goal.returns-in_err-done-clause-tells
+returns-in_err-done-clause-tells g c =
+    let a = c.args.core.now in
+    let l = c.loop-number.core in
+    let new = c.rebuild_unit.new.self in
+    let was = c.loop-number.invariant in
+    handed (λ two. Ran (g.R.Rack.told (store_rack a.store)) (g.R.Rack.told (store_rack new.store)) (λ s cs. TellsLosses (named_out a.meta.out) two cs)) c.from_residual.result _ c.from_residual.ensures.1
+    (tells_later (EachCall (IsDataCall a.meta.setup.geometry.disks (gone_out a.meta.out))) (g.R.Rack.told (store_rack a.store)) (g.R.Rack.told (store_rack l.store)) (g.R.Rack.told (store_rack new.store)) (named_out a.meta.out) (named_out l.meta.out) c.args.disk _
+    (ap named_out c.requires.fresh) (ap (λ (m : Meta). named_out m.out) was.meta ∙ ap named_out c.requires.fresh) was.calls c.in_err-done.ensures.tells)

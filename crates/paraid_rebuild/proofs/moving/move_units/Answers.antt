@@ -26,6 +26,10 @@ use Rattle.paraid_core.specs.Calls.{IsDataCall}
 use Rattle.paraid_rebuild.proofs.MovedLemmas.{data_settled, gone_away, stays_away}
 use Rattle.paraid_rebuild.proofs.moving.move_units.Given.{Over}
 use Rattle.paraid_rebuild.proofs.moving.move_units.Goals as goal
+use Rattle.std.proofs.Common.{Some}
+use Rattle.paraid_image.specs.Lost.{TellsLosses}
+use Rattle.paraid_shift.proofs.ServingLemmas.{marked_named}
+use Rattle.paraid_rebuild.proofs.LossLemmas.{tells_later}
 use Rattle.paraid_rebuild.proofs.moving.move_units.Goals.{In_ok-settle}
 
 -- the units are copied, or the disk was lost, and the disks are synced
@@ -234,3 +238,13 @@ returns-then-is_gone-clause-away g c is =
     let same = c.in_ok-done.ensures.same (ap Ok c.if-not-done.false) in
     let out : b.meta.out ≡ Fresh c.args.disk (rebuilt_count a.meta.out) = ap (λ (m : Meta). m.out) same ∙ c.requires.fresh in
     gone_away (g.R.Rack.slot (store_rack b.store)) (g.R.Rack.slot (store_rack d.store)) b.meta d.meta c.args.disk (ap named_out out) (ap gone_out out) c.in_ok-settle.ensures.marks (c.is_gone.ensures.gone c.if-is_gone.true)
+
+pub returns-in_err-settle-clause-tells : goal.returns-in_err-settle-clause-tells
+returns-in_err-settle-clause-tells g c =
+    let a = c.args.core.now in
+    let b = c.copy_units.new.core in
+    let d = c.settle.new.self in
+    let was : named_out a.meta.out ≡ Some c.args.disk = ap named_out c.requires.fresh in
+    handed (λ two. Ran (g.R.Rack.told (store_rack a.store)) (g.R.Rack.told (store_rack d.store)) (λ s cs. TellsLosses (named_out a.meta.out) two cs)) c.from_residual-in_err-settle.result _ c.from_residual-in_err-settle.ensures.1
+    (tells_later (EachCall (IsDataCall a.meta.setup.geometry.disks (gone_out a.meta.out))) (g.R.Rack.told (store_rack a.store)) (g.R.Rack.told (store_rack b.store)) (g.R.Rack.told (store_rack d.store)) (named_out a.meta.out) (named_out b.meta.out) c.args.disk _
+    was (marked_named a.meta b.meta c.in_ok-done.ensures.leaves.meta c.args.disk was) c.copy_units.ensures.calls c.in_err-settle.ensures.tells)

@@ -11,6 +11,9 @@ use Rattle.paraid_core.proofs.ChainLemmas.{ended, keeps_low}
 use Rattle.paraid_rebuild.proofs.ReplacingLemmas.{after, replaced_then}
 use Rattle.paraid_txn.specs.Stores.{store_rack}
 use Rattle.paraid_event.specs.Service.{service_of}
+use Rattle.paraid_core.proofs.AfterLemmas.{handed}
+use Rattle.paraid_event.specs.Replacements.LosesReplaced.{second}
+use Rattle.paraid_rebuild.proofs.LossLemmas.{LosesBegun}
 use Rattle.paraid_rebuild.proofs.replaced.begin.Goals as goal
 
 pub returns-clause-fresh : goal.returns-clause-fresh
@@ -78,3 +81,14 @@ returns-clause-event g c samples served energy h lo =
       commits = one.1;
       brings = c.in_ok-there.ensures.event samples served energy h lo;
     }
+
+pub returns-in_err-there-clause-loses : goal.returns-in_err-there-clause-loses
+returns-in_err-there-clause-loses g c =
+    let a = c.args.core.now in
+    let b = c.commit_gone.new.core in
+    let new = c.bring_fresh.new.core in
+    handed (LosesBegun g.R.Rack.slot_count g.R.Rack.told a new c.args.disk) c.from_residual-in_err-there.result _ c.from_residual-in_err-there.ensures.1
+    (λ samples served energy h lo.
+    let one = c.in_ok-commit_gone.ensures.event samples served energy h lo in
+    let fresh = c.in_err-there.ensures.loses samples served energy h lo in
+    second (g.R.Rack.told (store_rack b.store)) fresh.attached one.0 (service_of g.R.Rack.slot_count b samples served energy) one.1 fresh.attach fresh.ran)

@@ -18,9 +18,7 @@ use Rattle.paraid_core.proofs.ChainLemmas.{ended}
 use Rattle.paraid_core.proofs.ReadsLemmas.{knows_named}
 use Rattle.paraid_shift.proofs.ServingLemmas.{chain, chain_held, marked_named}
 use Rattle.paraid_rebuild.proofs.ReplacingLemmas.{back_well, beside, but_lost, gone_failed, gone_settled, lost_none, marked_back, marked_lost, serving_then, two_since}
-use Rattle.std.specs.Prelude.{false, List, [], ◌<◌}
-use Rattle.std.proofs.Common.{None}
-use Rattle.paraid_base.specs.History.{History}
+use Rattle.std.specs.Prelude.{false, ◌<◌}
 use Rattle.paraid_moves.specs.MoveMetas.{meta_with_out}
 use Rattle.paraid_rack.specs.Disks.{is_present}
 use Rattle.paraid_record.specs.declared.meta.Setup.{Setup}
@@ -30,6 +28,7 @@ use Rattle.paraid_event.specs.Replacements.BringsFresh.{came, failed}
 use Rattle.paraid_event.specs.Service.{Service, service_of}
 use Rattle.paraid_shift.proofs.ServingLemmas.{copies_kept}
 use Rattle.paraid_rebuild.proofs.ReplacementEventLemmas.{attach_told, commit_told, commits_all, fresh_stays, fresh_there, marked_told, same_service}
+use Rattle.paraid_rebuild.proofs.LossLemmas.{LosesBrought, commit_lost_fresh, tells_by}
 use Rattle.paraid_rebuild.proofs.replaced.bring_fresh.Goals as goal
 
 pub returns-then-not-attach-clause-leaves : goal.returns-then-not-attach-clause-leaves
@@ -371,4 +370,29 @@ returns-clause-event g c samples served energy h lo =
           (λ x u out. fresh_there (g.R.Rack.slot (store_rack b.store)) c.args.disk x u spins (sym (ap (λ (m : Meta). m.out) fresh) ∙ out)))));
       ends = subst (λ (y : Service). CommitsAll y k_then) equal
           (commits_all g.R.Rack.slot_count b new samples served energy (copies_kept a b setup it.copied c.requires.serving.copies_synced) c.commit.ensures.slots new_setup c.in_ok-commit.ensures.epoch c.in_ok-commit.ensures.nothing c.commit.ensures.table c.commit.ensures.copied);
+    })
+
+pub returns-in_err-commit-clause-loses : goal.returns-in_err-commit-clause-loses
+returns-in_err-commit-clause-loses g c =
+    let a = c.args.core.now in
+    let b = c.attach.new.self in
+    let new = c.commit.new.self in
+    let here : c.attach.result ≡ true = c.if-not-attach.false in
+    let it = c.attach.ensures in
+    let fresh = it.fresh here in
+    let named : named_of b.store ≡ Some c.args.disk = it.store.named ∙ c.requires.named in
+    let out : named_out b.meta.out ≡ Some c.args.disk = ap (λ (m : Meta). named_out m.out) fresh in
+    let down : core_down b ≡ named_out b.meta.out = ap (λ (o : Option ℕ). or_else o (named_out b.meta.out)) named ∙ sym out in
+    let spins : is_present (g.R.Rack.slot (store_rack b.store) c.args.disk).power ≡ true = ap (λ (s : Slot). is_present s.power) (it.attached here) in
+    handed (LosesBrought g.R.Rack.slot_count g.R.Rack.told a new c.args.disk) c.from_residual.result _ c.from_residual.ensures.1
+    (λ samples served energy h lo.
+    let k = service_of g.R.Rack.slot_count a samples served energy in
+    let k_fresh = service_of g.R.Rack.slot_count b samples served energy in
+    let equal : k_fresh ≡ with_fresh k c.args.disk = same_service g.R.Rack.slot_count a b samples served energy (meta_with_out a.meta (Fresh c.args.disk 0)) it.slots it.store.named fresh it.table it.batch it.copied in
+    record {
+      attached = g.R.Rack.told (store_rack b.store);
+      attach = subst (λ (y : Service). Ran (g.R.Rack.told (store_rack a.store)) (g.R.Rack.told (store_rack b.store)) (AttachesInEvent k y h lo c.args.disk true)) equal
+          (attach_told (g.R.Rack.told (store_rack a.store)) (g.R.Rack.told (store_rack b.store)) k k_fresh h lo c.args.disk true (g.R.Rack.slot (store_rack b.store)) (g.met.R.Rack.agrees (store_rack b.store)) spins it.calls (it.stands h lo));
+      ran = commit_lost_fresh (g.R.Rack.told (store_rack b.store)) (g.R.Rack.told (store_rack new.store)) k_fresh h lo _ (with_fresh k c.args.disk) equal
+          c.commit.ensures.calls (c.commit.ensures.moments_since it.absent h lo) (c.commit.ensures.whole h lo) (tells_by (g.R.Rack.told (store_rack b.store)) (g.R.Rack.told (store_rack new.store)) (core_down b) (named_out b.meta.out) _ down c.in_err-commit.ensures.tells);
     })

@@ -1,4 +1,4 @@
-use Rattle.std.specs.Prelude.{length, slice_index, List, Some}
+use Rattle.std.specs.Prelude.{length, slice_index, Some}
 use Rattle.std.proofs.Common.{◌≡◌, ◌∙◌, ◌<◌, ap, subst, sym, refl}
 use Rattle.paraid_base.specs.declared.state.Out.{Out}
 use Rattle.paraid_base.specs.declared.state.Out.TheVariants.{Gone}
@@ -19,6 +19,9 @@ use Rattle.paraid_event.specs.Service.{service_of}
 use Rattle.paraid_rebuild.proofs.ReplacementEventLemmas.{commit_told, commits_all, gone_fresh, marked_told, same_service, still_told}
 use Rattle.paraid_base.specs.States.{gone_out}
 use Rattle.paraid_core.proofs.KindLemmas.{gone_named}
+use Rattle.paraid_core.proofs.AfterLemmas.{down_named, handed}
+use Rattle.paraid_event.specs.Replacements.LosesReplaced.{first}
+use Rattle.paraid_rebuild.proofs.LossLemmas.{LosesBegun, commit_lost, tells_by}
 use Rattle.paraid_rebuild.proofs.replaced.commit_gone.Goals as goal
 
 pub returns-in_err-commit-clause-moments : goal.returns-in_err-commit-clause-moments
@@ -138,3 +141,35 @@ returns-clause-serving g c =
     (done.draft ∙ clears.draft ∙ marks.draft) (done.copied ∙ clears.copied ∙ marks.copied) (done.setup ∙ setup)
     (λ x is. marked_named _ new.meta done.meta x (out ∙ sym c.requires.out ∙ is))
     (λ x not there. c.commit.ensures.spared.size x there ∙ ap (λ (z : _). (g.R.Rack.slot (store_rack z) x).size) store)
+
+pub returns-in_err-commit-clause-loses : goal.returns-in_err-commit-clause-loses
+returns-in_err-commit-clause-loses g c =
+    let a = c.args.core.now in
+    let b = c.mark_out.new.self in
+    let d = c.clear_spins.new.self in
+    let new = c.commit.new.self in
+    let marks = c.mark_out.ensures in
+    let clears = c.clear_spins.ensures in
+    let store = clears.store ∙ marks.store in
+    let out : named_out d.meta.out ≡ Some c.args.disk = ap (λ (m : Meta). named_out m.out) clears.meta ∙ ap (λ (m : Meta). named_out m.out) marks.meta in
+    let away = away_marked g.R.Rack.slot a d c.args.disk store c.requires.out out c.requires.absent in
+    let copied = clears.copied ∙ marks.copied in
+    let meta : d.meta ≡ record (meta_after_loss a.meta c.args.disk) { spins = d.meta.spins } = clears.meta ∙ ap (λ (m : Meta). record m { spins = d.meta.spins }) marks.meta in
+    let down : core_down d ≡ named_out d.meta.out = down_named (named_of d.store) d.meta clears.ready.one c.args.disk out ∙ sym out in
+    handed (LosesBegun g.R.Rack.slot_count g.R.Rack.told a new c.args.disk) c.from_residual.result _ c.from_residual.ensures.1
+    (λ samples served energy h lo.
+    let staged =
+    chain g.R.Rack.slot_count g.R.Rack.told a b (ap (λ (z : _). g.R.Rack.slot_count (store_rack z)) marks.store) (ap (λ (m : Meta). m.setup) marks.meta) (ap named_of marks.store)
+    (CoreStandsFor g.R.Rack.slot_count a h lo) (CoreStandsFor g.R.Rack.slot_count b h lo) (CoreStandsFor g.R.Rack.slot_count d h lo) h lo _ (marks.stands h lo) (clears.stands h lo) in
+    first (service_of g.R.Rack.slot_count d samples served energy)
+    (record {
+      mark = same_service g.R.Rack.slot_count a d samples served energy (record (meta_after_loss a.meta c.args.disk) { spins = d.meta.spins }) (ap (λ (z : _). g.R.Rack.slot_count (store_rack z)) store) (ap named_of store) meta
+          (clears.table ∙ marks.table) (clears.batch ∙ marks.batch) copied;
+      as_many = clears.ready.in_range.eight ∙ sym c.requires.serving.ready.in_range.eight;
+      cleared = clears.cleared;
+      others = λ e apart. clears.others e apart ∙ ap (λ (m : Meta). slice_index m.spins e) marks.meta;
+    })
+    (λ t tells k. still_told (IsCoreHeldSinceCommit g.R.Rack.slot_count a h lo) (CoreStandsFor g.R.Rack.slot_count a h lo) (CoreStandsFor g.R.Rack.slot_count d h lo) (g.R.Rack.told (store_rack a.store)) (g.R.Rack.told (store_rack d.store))
+    (ap (λ (z : _). g.R.Rack.told (store_rack z)) store) staged t tells k)
+    (commit_lost (g.R.Rack.told (store_rack d.store)) (g.R.Rack.told (store_rack new.store)) (service_of g.R.Rack.slot_count d samples served energy) h lo _ (g.R.Rack.told (store_rack a.store)) (ap (λ (z : _). g.R.Rack.told (store_rack z)) store)
+    c.commit.ensures.calls (c.commit.ensures.moments_since away h lo) (c.commit.ensures.whole h lo) (tells_by (g.R.Rack.told (store_rack d.store)) (g.R.Rack.told (store_rack new.store)) (core_down d) (named_out d.meta.out) _ down c.in_err-commit.ensures.tells)))

@@ -17,7 +17,7 @@ use Rattle.paraid_core.proofs.AfterLemmas.{handed}
 use Rattle.paraid_core.proofs.StepLemmas.{held_runs_then, runs_then, two_then}
 use Rattle.paraid_core.proofs.UnitCopyLemmas.{units_begin}
 use Rattle.paraid_shift.specs.Serving.{RestsInShift}
-use Rattle.std.specs.Prelude.{true, false, ◌<◌, List, [], Some}
+use Rattle.std.specs.Prelude.{false, ◌<◌, [], Some}
 use Rattle.paraid_image.specs.Out.{named_out}
 use Rattle.paraid_rack.specs.Disks.{is_present}
 use Rattle.paraid_rack.specs.Trail.{now}
@@ -27,6 +27,8 @@ use Rattle.paraid_event.specs.Service.{service_of}
 use Rattle.paraid_event.proofs.ShownLemmas.{shown_rests}
 use Rattle.paraid_rebuild.proofs.ReplacementEventLemmas.{named_there}
 use Rattle.paraid_rebuild.proofs.StepEventLemmas.{copies_committed, copies_step, fresh_low, gone_told, same_told, steps_within}
+use Rattle.paraid_rebuild.proofs.LossLemmas.{LosesSteps, copies_lost_steps, lost_within}
+use Rattle.paraid_rebuild.proofs.StepEventLemmas.{copies_lost}
 use Rattle.paraid_rebuild.proofs.stepping.advance.Goals as goal
 
 pub returns-in_err-copied-clause-moments : goal.returns-in_err-copied-clause-moments
@@ -233,3 +235,44 @@ returns-clause-event g c samples served energy h lo =
 pub returns-then-not-copied-clause-away : goal.returns-then-not-copied-clause-away
 returns-then-not-copied-clause-away g c is =
     c.in_ok-copied.ensures.away (ap Ok c.if-not-copied.true)
+
+pub returns-in_err-copied-clause-loses : goal.returns-in_err-copied-clause-loses
+returns-in_err-copied-clause-loses g c =
+    let a = c.args.core.now in
+    let b = c.move_units.new.core in
+    let first : c.rebuilt-first.result ≡ rebuilt_count a.meta.out = c.rebuilt-first.ensures ∙ ap rebuilt_count c.out.ensures in
+    handed (LosesSteps g.R.Rack.slot_count g.R.Rack.told a b 1) c.from_residual.result _ c.from_residual.ensures.1
+    (λ samples served energy h lo.
+    let k = service_of g.R.Rack.slot_count a samples served energy in
+    let begins : (s : Disks) → RestsInShift g.R.Rack.slot_count a h lo s → UnitsRebuilt g.R.Rack.slot_count a h lo c.rebuilt-first.result s = (λ s z. subst (λ (u : ℕ). UnitsRebuilt g.R.Rack.slot_count a h lo u s) (sym first)
+    (units_begin (g.R.Rack.slot_count (store_rack a.store)) (named_of a.store) a.meta a.dirty a.copied h lo s z)) in
+    lost_within (g.R.Rack.told (store_rack a.store)) (g.R.Rack.told (store_rack b.store)) k h lo _ 0 1 (omega arith)
+    (copies_lost_steps (g.R.Rack.told (store_rack a.store)) (g.R.Rack.told (store_rack b.store)) k h lo _ (UnitsRebuilt g.R.Rack.slot_count a h lo c.rebuilt-first.result)
+    (λ s z shows. begins s (shown_rests k h lo s z shows c.requires.nothing)) c.move_units.ensures.calls (c.move_units.ensures.moments h lo) c.in_err-copied.ensures.tells))
+
+pub returns-in_err-marked-clause-loses : goal.returns-in_err-marked-clause-loses
+returns-in_err-marked-clause-loses g c =
+    let a = c.args.core.now in
+    let b = c.move_units.new.core in
+    let new = c.mark_units.new.core in
+    let first : c.rebuilt-first.result ≡ rebuilt_count a.meta.out = c.rebuilt-first.ensures ∙ ap rebuilt_count c.out.ensures in
+    let left = c.in_ok-copied.ensures.leaves in
+    let setup = marked_from_setup a.meta b.meta left.meta in
+    let names : (x : ℕ) → x < a.meta.setup.geometry.disks → is_present (g.R.Rack.slot (store_rack b.store) x).power ≡ false → named_out b.meta.out ≡ Some x = (λ x low absent. left.ready.absent x (subst (λ (z : Setup). x < z.geometry.disks) (sym setup) low) absent) in
+    let same = c.in_ok-copied.ensures.same (ap Ok c.if-not-copied.false) in
+    let out : b.meta.out ≡ Fresh c.args.disk (rebuilt_count a.meta.out) = ap (λ (m : Meta). m.out) same ∙ c.requires.fresh in
+    let spins = c.in_ok-copied.ensures.spins (ap Ok c.if-not-copied.false) in
+    let nothing : b.batch ≡ [] = left.batch ∙ c.requires.nothing in
+    handed (LosesSteps g.R.Rack.slot_count g.R.Rack.told a new 1) c.from_residual-in_err-marked.result _ c.from_residual-in_err-marked.ensures.1
+    (λ samples served energy h lo.
+    let k = service_of g.R.Rack.slot_count a samples served energy in
+    let j = service_of g.R.Rack.slot_count b samples served energy in
+    let begins : (s : Disks) → RestsInShift g.R.Rack.slot_count a h lo s → UnitsRebuilt g.R.Rack.slot_count a h lo c.rebuilt-first.result s = (λ s z. subst (λ (u : ℕ). UnitsRebuilt g.R.Rack.slot_count a h lo u s) (sym first)
+    (units_begin (g.R.Rack.slot_count (store_rack a.store)) (named_of a.store) a.meta a.dirty a.copied h lo s z)) in
+    let marked = c.in_err-marked.ensures.loses samples served energy h lo in
+    copies_lost (g.R.Rack.told (store_rack a.store)) (g.R.Rack.told (store_rack b.store)) k j h lo (UnitsRebuilt g.R.Rack.slot_count a h lo c.rebuilt-first.result) (UnitsRebuilt g.R.Rack.slot_count b h lo c.args.end)
+    (λ s z shows. begins s (shown_rests k h lo s z shows c.requires.nothing)) c.move_units.ensures.calls (c.in_ok-copied.ensures.copied (ap Ok c.if-not-copied.false) h lo)
+    (same_told (g.R.Rack.told (store_rack b.store)) (g.R.Rack.slot (store_rack b.store)) (g.met.R.Rack.agrees (store_rack b.store)) a.meta b.meta same names
+    (named_there (g.R.Rack.slot (store_rack b.store)) b.meta c.args.disk (rebuilt_count a.meta.out) out (ap is_present spins)))
+    left.slots (g.R.Rack.told (store_rack new.store)) marked.0 _
+    (λ t tells kr. subst (λ (z : Batch). HoldsBetweenCalls (g.R.Rack.slot_count (store_rack b.store)) (named_of b.store) b.meta b.dirty z b.copied h lo (now t)) (sym nothing) kr.keeps) marked.1)

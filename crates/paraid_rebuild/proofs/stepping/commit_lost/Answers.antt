@@ -19,6 +19,7 @@ use Rattle.paraid_record.specs.declared.meta.Setup.{Setup}
 use Rattle.paraid_event.specs.Service.{Service, service_of}
 use Rattle.paraid_event.specs.Steps.{StepsInEvent}
 use Rattle.paraid_rebuild.proofs.ReplacementEventLemmas.{commit_steps, commit_told, gone_fresh, marked_told, same_service}
+use Rattle.paraid_rebuild.proofs.LossLemmas.{LosesSteps, commit_lost_steps, lost_same, tells_by}
 use Rattle.paraid_rebuild.proofs.stepping.commit_lost.Goals as goal
 
 pub returns-in_err-commit-clause-moments : goal.returns-in_err-commit-clause-moments
@@ -156,3 +157,23 @@ returns-clause-event g c samples served energy h lo =
     (marked_told (g.R.Rack.told (store_rack new.store)) (g.R.Rack.slot (store_rack b.store)) (g.R.Rack.slot (store_rack new.store)) (g.met.R.Rack.agrees (store_rack new.store)) b.meta new.meta lost
     (λ x low absent. ready.absent x (subst (λ (z : Setup). x < z.geometry.disks) (sym new_setup) low) absent)
     (gone_fresh (g.R.Rack.slot (store_rack b.store)) (g.R.Rack.slot (store_rack new.store)) b.meta new.meta lost c.args.disk gone)))))
+
+pub returns-in_err-commit-clause-loses : goal.returns-in_err-commit-clause-loses
+returns-in_err-commit-clause-loses g c =
+    let a = c.args.core.now in
+    let b = c.mark_out.new.self in
+    let new = c.commit.new.self in
+    let marks = c.mark_out.ensures in
+    let same : b.meta ≡ a.meta = marks.meta ∙ gone_settled a.meta c.args.disk c.requires.serving.ready.in_range c.requires.out in
+    let gone : b.meta.out ≡ Gone c.args.disk = ap (λ (m : Meta). m.out) same ∙ c.requires.out in
+    let named : named_of b.store ≡ Some c.args.disk = ap named_of marks.store ∙ c.requires.named in
+    let away : IsNamedOrAbsent g.R.Rack.slot b = (λ x is. inl (named ∙ sym (ap named_out gone) ∙ is)) in
+    let down : core_down b ≡ named_out b.meta.out = ap (λ (o : Option ℕ). or_else o (named_out b.meta.out)) named ∙ sym (ap named_out gone) in
+    handed (LosesSteps g.R.Rack.slot_count g.R.Rack.told a new 1) c.from_residual.result _ c.from_residual.ensures.1
+    (λ samples served energy h lo.
+    let k = service_of g.R.Rack.slot_count a samples served energy in
+    let j = service_of g.R.Rack.slot_count b samples served energy in
+    let equal : j ≡ k = same_service g.R.Rack.slot_count a b samples served energy a.meta (ap (λ (z : _). g.R.Rack.slot_count (store_rack z)) marks.store) (ap named_of marks.store) same marks.table marks.batch marks.copied in
+    lost_same (g.R.Rack.told (store_rack a.store)) (g.R.Rack.told (store_rack new.store)) j h lo _ k 1 equal
+    (commit_lost_steps (g.R.Rack.told (store_rack b.store)) (g.R.Rack.told (store_rack new.store)) j h lo _ (g.R.Rack.told (store_rack a.store)) (ap (λ (z : _). g.R.Rack.told (store_rack z)) marks.store)
+    c.commit.ensures.calls (c.commit.ensures.moments_since away h lo) (c.commit.ensures.whole h lo) (tells_by (g.R.Rack.told (store_rack b.store)) (g.R.Rack.told (store_rack new.store)) (core_down b) (named_out b.meta.out) _ down c.in_err-commit.ensures.tells)))

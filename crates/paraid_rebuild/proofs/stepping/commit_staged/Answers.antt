@@ -15,13 +15,19 @@ use Rattle.paraid_core.proofs.StepLemmas.{held_none, runs_none}
 use Rattle.paraid_shift.specs.Serving.{RestsInShift, StandsInShift}
 use Rattle.paraid_shift.proofs.ServingLemmas.{lowered, marked_named}
 use Rattle.paraid_rebuild.proofs.ReplacingLemmas.{back_well, gone_failed, marked_back, marked_lost, serving_then}
-use Rattle.std.specs.Prelude.{true, ◌<◌}
+use Rattle.std.specs.Prelude.{◌<◌}
 use Rattle.paraid_rack.specs.Disks.{is_present}
 use Rattle.paraid_base.specs.States.{rebuilt_count}
 use Rattle.paraid_record.specs.declared.meta.Setup.{Setup}
 use Rattle.paraid_event.specs.Service.{service_of}
 use Rattle.paraid_rebuild.proofs.ReplacementEventLemmas.{commit_steps, commit_told, fresh_stays, marked_told, named_there, none_steps}
 use Rattle.paraid_rebuild.proofs.MovedLemmas.{gone_away}
+use Rattle.std.specs.Prelude.{Option}
+use Rattle.paraid_image.specs.Out.{or_else}
+use Rattle.std.proofs.Common.{refl}
+use Rattle.paraid_core.specs.Cores.{core_down}
+use Rattle.paraid_core.proofs.AfterLemmas.{handed}
+use Rattle.paraid_rebuild.proofs.LossLemmas.{LosesSteps, commit_lost_steps, tells_by}
 use Rattle.paraid_rebuild.proofs.stepping.commit_staged.Goals as goal
 
 pub returns-then-is_clear-clause-moments : goal.returns-then-is_clear-clause-moments
@@ -213,3 +219,14 @@ returns-then-is_gone-clause-away g c is =
     let a = c.args.core.now in
     let new = c.commit.new.self in
     gone_away (g.R.Rack.slot (store_rack a.store)) (g.R.Rack.slot (store_rack new.store)) a.meta new.meta c.args.disk (ap named_out c.requires.fresh) (ap gone_out c.requires.fresh) c.in_ok-commit.ensures.marks (c.is_gone.ensures.gone c.if-is_gone.true)
+
+pub returns-in_err-commit-clause-loses : goal.returns-in_err-commit-clause-loses
+returns-in_err-commit-clause-loses g c =
+    let a = c.args.core.now in
+    let new = c.commit.new.self in
+    let was : named_out a.meta.out ≡ Some c.args.disk = ap named_out c.requires.fresh in
+    let away : IsNamedOrAbsent g.R.Rack.slot a = (λ x is. inl (c.requires.named ∙ sym was ∙ is)) in
+    let down : core_down a ≡ named_out a.meta.out = ap (λ (o : Option ℕ). or_else o (named_out a.meta.out)) c.requires.named ∙ sym was in
+    handed (LosesSteps g.R.Rack.slot_count g.R.Rack.told a new 1) c.from_residual.result _ c.from_residual.ensures.1
+    (λ samples served energy h lo. commit_lost_steps (g.R.Rack.told (store_rack a.store)) (g.R.Rack.told (store_rack new.store)) (service_of g.R.Rack.slot_count a samples served energy) h lo _ (g.R.Rack.told (store_rack a.store)) refl
+    c.commit.ensures.calls (c.commit.ensures.moments_since away h lo) (c.commit.ensures.whole h lo) (tells_by (g.R.Rack.told (store_rack a.store)) (g.R.Rack.told (store_rack new.store)) (core_down a) (named_out a.meta.out) _ down c.in_err-commit.ensures.tells))

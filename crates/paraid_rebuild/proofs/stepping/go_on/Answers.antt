@@ -17,6 +17,7 @@ use Rattle.paraid_shift.proofs.ServingLemmas.{chain, chain_held}
 use Rattle.paraid_rebuild.proofs.ReplacingLemmas.{two_since}
 use Rattle.paraid_event.specs.Service.{service_of}
 use Rattle.paraid_rebuild.proofs.StepEventLemmas.{steps_then, steps_within}
+use Rattle.paraid_rebuild.proofs.LossLemmas.{LosesSteps, lost_then, lost_within}
 use Rattle.paraid_rebuild.proofs.stepping.go_on.Goals as goal
 
 pub returns-then-not-there-clause-stands : goal.returns-then-not-there-clause-stands
@@ -152,3 +153,20 @@ returns-clause-event g c samples served energy h lo =
 pub returns-then-not-there-clause-away : goal.returns-then-not-there-clause-away
 returns-then-not-there-clause-away g c is =
     c.in_ok-there.ensures.away (ap Ok c.if-not-there.true)
+
+pub returns-in_err-there-clause-loses : goal.returns-in_err-there-clause-loses
+returns-in_err-there-clause-loses g c =
+    let a = c.args.core.now in
+    let b = c.commit_staged.new.core in
+    handed (LosesSteps g.R.Rack.slot_count g.R.Rack.told a b 2) c.from_residual.result _ c.from_residual.ensures.1
+    (λ samples served energy h lo. lost_within (g.R.Rack.told (store_rack a.store)) (g.R.Rack.told (store_rack b.store)) (service_of g.R.Rack.slot_count a samples served energy) h lo _ 1 2 (omega arith)
+    (c.in_err-there.ensures.loses samples served energy h lo))
+
+pub returns-in_err-moved-clause-loses : goal.returns-in_err-moved-clause-loses
+returns-in_err-moved-clause-loses g c =
+    let a = c.args.core.now in
+    let b = c.commit_staged.new.core in
+    let new = c.advance.new.core in
+    handed (LosesSteps g.R.Rack.slot_count g.R.Rack.told a new 2) c.from_residual-in_err-moved.result _ c.from_residual-in_err-moved.ensures.1
+    (λ samples served energy h lo. lost_then (g.R.Rack.told (store_rack a.store)) (g.R.Rack.told (store_rack b.store)) (g.R.Rack.told (store_rack new.store)) (service_of g.R.Rack.slot_count a samples served energy) (service_of g.R.Rack.slot_count b samples served energy)
+    h lo 1 1 _ (c.in_ok-there.ensures.event samples served energy h lo) (c.in_err-moved.ensures.loses samples served energy h lo))

@@ -13,6 +13,7 @@ use Rattle.paraid_rebuild.proofs.ReplacingLemmas.{again, two_since}
 use Rattle.paraid_event.specs.Service.{service_of}
 use Rattle.paraid_rebuild.proofs.MovedLemmas.{stays_away}
 use Rattle.paraid_rebuild.proofs.StepEventLemmas.{steps_then, steps_within}
+use Rattle.paraid_rebuild.proofs.LossLemmas.{LosesSteps, lost_then, lost_within}
 use Rattle.paraid_rebuild.proofs.stepping.step.Goals as goal
 
 pub returns-then-moved-clause-absent : goal.returns-then-moved-clause-absent
@@ -145,3 +146,20 @@ returns-clause-away g c is =
     let b = c.go_on.new.core in
     let new = c.commit_lost.new.core in
     stays_away (g.R.Rack.slot (store_rack b.store)) (g.R.Rack.slot (store_rack new.store)) c.commit_lost.ensures.spared c.args.disk (c.in_ok-moved.ensures.away (ap Ok c.if-moved.false))
+
+pub returns-in_err-moved-clause-loses : goal.returns-in_err-moved-clause-loses
+returns-in_err-moved-clause-loses g c =
+    let a = c.args.core.now in
+    let b = c.go_on.new.core in
+    handed (LosesSteps g.R.Rack.slot_count g.R.Rack.told a b 3) c.from_residual.result _ c.from_residual.ensures.1
+    (λ samples served energy h lo. lost_within (g.R.Rack.told (store_rack a.store)) (g.R.Rack.told (store_rack b.store)) (service_of g.R.Rack.slot_count a samples served energy) h lo _ 2 3 (omega arith)
+    (c.in_err-moved.ensures.loses samples served energy h lo))
+
+pub returns-in_err-commit_lost-clause-loses : goal.returns-in_err-commit_lost-clause-loses
+returns-in_err-commit_lost-clause-loses g c =
+    let a = c.args.core.now in
+    let b = c.go_on.new.core in
+    let new = c.commit_lost.new.core in
+    handed (LosesSteps g.R.Rack.slot_count g.R.Rack.told a new 3) c.from_residual-in_err-commit_lost.result _ c.from_residual-in_err-commit_lost.ensures.1
+    (λ samples served energy h lo. lost_then (g.R.Rack.told (store_rack a.store)) (g.R.Rack.told (store_rack b.store)) (g.R.Rack.told (store_rack new.store)) (service_of g.R.Rack.slot_count a samples served energy) (service_of g.R.Rack.slot_count b samples served energy)
+    h lo 2 1 _ (c.in_ok-moved.ensures.event samples served energy h lo) (c.in_err-commit_lost.ensures.loses samples served energy h lo))

@@ -1,5 +1,7 @@
-use Rattle.std.proofs.Common.{refl, sym, ◌∙◌, ◌≢◌}
+use Rattle.std.proofs.Common.{refl, sym, ◌∙◌, ◌≢◌, subst}
 use Rattle.paraid_base.specs.declared.event.Event.TheVariants.{Bad, Flush}
+use Rattle.paraid_serve.specs.Calls.{IsHaltOfFailed}
+use Rattle.paraid_serve.proofs.HaltLemmas.{has_failed}
 use Rattle.paraid_serve.proofs.StretchLemmas.{again_turn}
 use Rattle.paraid_serve.proofs.answer.finish.Goals as goal
 
@@ -13,4 +15,8 @@ returns-in-Some g c = record {
   slots = refl;
   setup = refl;
   going = tt;
+  failed = λ f. subst (IsHaltOfFailed (g.A.Serves.slot c.args.array.now)) (sym c.requires.halt ∙ c.in-Some.is) f;
 }
+
+pub returns-in-Err-clause-failed : goal.returns-in-Err-clause-failed
+returns-in-Err-clause-failed g c f two is = has_failed _ _ _ c.in-Err.ensures.two two (c.in-Err.ensures.halt ∙ is)

@@ -12,6 +12,8 @@ use Rattle.paraid_txn.specs.Stores.{named_of, store_rack}
 use Rattle.paraid_core.specs.Cores.{CoreStandsFor}
 use Rattle.paraid_core.specs.Fills.{Filled}
 use Rattle.paraid_shift.proofs.ServingLemmas.{chain, chain_held, copies_still, large_then, none_away, none_known, turns_lost, unsynced_still}
+use Rattle.paraid_core.proofs.AfterLemmas.{handed}
+use Rattle.paraid_shift.proofs.LossLemmas.{commit_is_lost, marks_lost}
 use Rattle.paraid_shift.proofs.begin.begin_down.Goals as goal
 
 pub returns-in_err-commit-clause-moments : goal.returns-in_err-commit-clause-moments
@@ -75,3 +77,17 @@ returns-clause-steps g c =
     (λ d. down_powers a.meta c.args.to d c.requires.steady ∙ sym (ap (λ (m : Meta). power_by_gear m.gear m.phase d) marks.meta))
     (commit_is_marked g.R.Rack.slot_count g.R.Rack.slot g.R.Rack.told b new (g.met.R.Rack.agrees (store_rack b.store)) (g.met.R.Rack.agrees (store_rack new.store)) c.commit.ensures.slots done.setup done.ready done.marks c.commit.ensures.calls c.commit.ensures.whole
     (commit_stands g.R.Rack.slot_count g.R.Rack.slot g.R.Rack.told b new done.nothing (done.filled_since away)))
+
+pub returns-in_err-commit-clause-loses : goal.returns-in_err-commit-clause-loses
+returns-in_err-commit-clause-loses g c =
+    let a = c.args.core.now in
+    let b = c.begin_down.new.self in
+    let new = c.commit.new.self in
+    let marks = c.begin_down.ensures in
+    let away = none_away g.R.Rack.slot b (ap (λ (m : Meta). m.out) marks.meta ∙ c.requires.whole) in
+    handed _ c.from_residual.result _ c.from_residual.ensures.1
+    (marks_lost g.R.Rack.slot_count g.R.Rack.slot g.R.Rack.told a b new a.meta 0 _
+    (marks_wait g.R.Rack.slot_count g.R.Rack.slot g.R.Rack.told a a b 0 (core_steps_none g.R.Rack.slot_count g.R.Rack.slot g.R.Rack.told a) marks.store
+    (λ samples served energy. down_mark (service_of g.R.Rack.slot_count a samples served energy) (service_of g.R.Rack.slot_count b samples served energy) (ap (λ (z : _). g.R.Rack.slot_count (store_rack z)) marks.store) (ap named_of marks.store) c.args.to c.requires.whole marks.meta)
+    marks.stands)
+    (commit_is_lost g.R.Rack.slot_count g.R.Rack.slot g.R.Rack.told b new _ c.commit.ensures.calls c.commit.ensures.whole (c.commit.ensures.moments_since away) marks.serves.stays c.in_err-commit.ensures.tells))

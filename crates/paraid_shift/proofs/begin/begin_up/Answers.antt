@@ -14,6 +14,8 @@ use Rattle.paraid_shift.proofs.StepsLemmas.{core_steps_none}
 use Rattle.paraid_core.specs.Cores.{CoreStandsFor}
 use Rattle.paraid_shift.specs.Serving.{RestsInShift}
 use Rattle.paraid_shift.proofs.ServingLemmas.{chain, chain_held, marked_gear, marked_then}
+use Rattle.paraid_core.proofs.AfterLemmas.{handed}
+use Rattle.paraid_shift.proofs.LossLemmas.{powers_are_lost, rise_lost, up_lost}
 use Rattle.paraid_shift.proofs.begin.begin_up.Goals as goal
 
 pub returns-in_err-bring_up-clause-moments : goal.returns-in_err-bring_up-clause-moments
@@ -70,3 +72,18 @@ returns-clause-steps g c h lo samples served energy =
     two.others
     (λ d place. ap (λ (p : Phase). power_by_gear a.meta.gear p d) c.requires.steady ∙ ap (λ (x : ℕ). power_by_gear x Steady d) (sym gear_then)
     ∙ rising_same n.meta.gear d n.meta.phase (omega (arith, gear_then, rises_then, rises, below)) (elim place [ inl low ↦ inl (omega (arith, low, gear, gear_then)) | inr past ↦ inr (omega (arith, past, rises_then)) ])) h lo samples served energy)
+
+pub returns-in_err-commit_up-clause-loses : goal.returns-in_err-commit_up-clause-loses
+returns-in_err-commit_up-clause-loses g c =
+    handed _ c.from_residual.result _ c.from_residual.ensures.1
+    (up_lost g.R.Rack.slot_count g.R.Rack.slot g.R.Rack.told c.args.core.now c.commit_up.new.core c.args.to _ c.requires.whole c.in_err-commit_up.ensures.loses)
+
+pub returns-in_err-bring_up-clause-loses : goal.returns-in_err-bring_up-clause-loses
+returns-in_err-bring_up-clause-loses g c =
+    let a = c.args.core.now in
+    let b = c.commit_up.new.core in
+    let n = c.bring_up.new.core in
+    let one = c.in_ok-commit_up.ensures in
+    handed _ c.from_residual-in_err-bring_up.result _ c.from_residual-in_err-bring_up.ensures.1
+    (rise_lost g.R.Rack.slot_count g.R.Rack.slot g.R.Rack.told a b n c.args.to _ c.requires.whole one.opens one.leaves.slots one.epoch
+    (powers_are_lost g.R.Rack.slot_count g.R.Rack.slot g.R.Rack.told b n _ one.nothing c.bring_up.ensures.calls c.bring_up.ensures.moments c.in_err-bring_up.ensures.tells))

@@ -9,6 +9,7 @@ use Rattle.paraid_core.proofs.StepLemmas.{runs_end, runs_none}
 use Rattle.paraid_shift.specs.Serving.{IsComingUp, RestsInShift}
 use Rattle.paraid_shift.proofs.ServingLemmas.{chain, chain_held, leaves_array_none, leaves_array_then, marked_none, marked_then, same_none, same_then, two_array}
 use Rattle.paraid_core.proofs.AfterLemmas.{handed}
+use Rattle.paraid_shift.proofs.LossLemmas.{core_bears_none, core_bears_then, core_tells_after}
 use Rattle.paraid_shift.proofs.begin.bring_up.Goals as goal
 
 pub loop-disk-init : goal.loop-disk-init
@@ -23,6 +24,7 @@ loop-disk-init g c =
       absent = λ q. q;
       calls = calls_none _ (g.R.Rack.told (store_rack a.store));
       lost = powered_none (g.R.Rack.slot (store_rack a.store)) a.meta;
+      bears = core_bears_none g.R.Rack.slot_count g.R.Rack.slot g.R.Rack.told a;
       from = (let start = ap (λ (m : Meta). m.gear) c.meta.ensures in omega arith);
       until = λ d low past. (let start = ap (λ (m : Meta). m.gear) c.meta.ensures in omega (arith, low));
       others = λ d place. refl;
@@ -53,6 +55,7 @@ loop-disk-preserved g c =
       absent = λ q. one.absent (was.absent q);
       calls = calls_then _ _ _ _ was.calls (power_calls_after a.meta b.meta was.meta _ _ c.raise.ensures.calls);
       lost = powered_then (g.R.Rack.slot (store_rack b.store)) (g.R.Rack.slot (store_rack new.store)) a.meta b.meta new.meta was.lost one.leaves.turned was.leaves.setup one.lost;
+      bears = core_bears_then g.R.Rack.slot_count g.R.Rack.slot g.R.Rack.told a b new was.bears one.bears;
       from = (let low = was.from in omega arith);
       until = λ d low past. (let within = c.raise.ensures.within in let same = rises_same a.meta b.meta was.meta in omega (arith, past, within, same));
       others = λ d place. c.raise.ensures.others d (λ same. elim place [ inl low ↦ (let from = was.from in absurd (omega (arith, low, from, same))) | inr past ↦ absurd (omega (arith, past, same)) ])
@@ -91,3 +94,8 @@ pub returns-in_err-raise-clause-two : goal.returns-in_err-raise-clause-two
 returns-in_err-raise-clause-two g c =
     handed _ c.from_residual.result _ c.from_residual.ensures.1
     (two_array g.R.Rack.slot_count g.R.Rack.slot c.args.core.now c.loop-disk.core c.raise.new.core c.loop-disk.invariant.leaves c.raise.ensures.no_fall _ c.in_err-raise.ensures.two)
+
+pub returns-in_err-raise-clause-tells : goal.returns-in_err-raise-clause-tells
+returns-in_err-raise-clause-tells g c =
+    handed _ c.from_residual.result _ c.from_residual.ensures.1
+    (core_tells_after g.R.Rack.slot_count g.R.Rack.slot g.R.Rack.told c.args.core.now c.loop-disk.core c.raise.new.core _ c.loop-disk.invariant.bears c.in_err-raise.ensures.tells)

@@ -17,6 +17,11 @@ use Rattle.paraid_txn.specs.Stores.{named_of, store_rack}
 use Rattle.paraid_core.specs.Cores.{CoreStandsFor, IsCoreHeldSinceCommit}
 use Rattle.paraid_core.specs.Fills.{Filled}
 use Rattle.paraid_shift.proofs.ServingLemmas.{chain, chain_held, lowered, none_away}
+use Rattle.std.proofs.Common.{sym}
+use Rattle.paraid_base.specs.States.{named_out}
+use Rattle.paraid_core.proofs.AfterLemmas.{handed}
+use Rattle.paraid_shift.specs.Losing.{LosesUp}
+use Rattle.paraid_shift.proofs.LossLemmas.{commit_is_lost, mark_is_lost}
 use Rattle.paraid_shift.proofs.begin.commit_up.Goals as goal
 
 pub returns-in_err-commit-clause-moments : goal.returns-in_err-commit-clause-moments
@@ -74,3 +79,20 @@ returns-clause-opens g c =
             (commit_stands g.R.Rack.slot_count g.R.Rack.slot g.R.Rack.told b new done.nothing (done.filled_since away)) h lo samples served energy));
       };
     }
+
+pub returns-in_err-commit-clause-loses : goal.returns-in_err-commit-clause-loses
+returns-in_err-commit-clause-loses g c =
+    let a = c.args.core.now in
+    let b = c.begin_up.new.self in
+    let new = c.commit.new.self in
+    let marks = c.begin_up.ensures in
+    let away = none_away g.R.Rack.slot b (ap (λ (m : Meta). m.out) marks.meta ∙ c.requires.whole) in
+    handed (λ two. LosesUp g.R.Rack.slot_count g.R.Rack.told a new c.args.to two) c.from_residual.result _ c.from_residual.ensures.1
+    (record {
+      spins = b.meta.spins;
+      raised = marks.raised;
+      others = marks.others;
+      loses = mark_is_lost g.R.Rack.slot_count g.R.Rack.slot g.R.Rack.told a b new (meta_after_begin a.meta (Up c.args.to) b.meta.spins) _ marks.store marks.meta marks.table marks.batch marks.copied marks.stands
+          (commit_is_lost g.R.Rack.slot_count g.R.Rack.slot g.R.Rack.told b new _ c.commit.ensures.calls c.commit.ensures.whole (c.commit.ensures.moments_since away)
+          (λ d is. ap (λ (m : Meta). named_out m.out) marks.meta ∙ c.requires.serving.serves.stays d (sym (ap named_of marks.store) ∙ is)) c.in_err-commit.ensures.tells);
+    })

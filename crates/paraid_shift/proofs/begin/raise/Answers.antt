@@ -12,6 +12,8 @@ use Rattle.paraid_core.proofs.StepLemmas.{marked_from_setup, runs_end, runs_none
 use Rattle.paraid_shift.specs.Serving.{RestsInShift}
 use Rattle.paraid_shift.proofs.ServingLemmas.{copies_kept, large_then, marked_named, still_then}
 use Rattle.paraid_shift.proofs.begin.raise.Given.{Over}
+use Rattle.paraid_core.proofs.AfterLemmas.{handed}
+use Rattle.paraid_shift.proofs.LossLemmas.{core_bears_none, spun_bears}
 use Rattle.paraid_shift.proofs.begin.raise.Goals as goal
 use Rattle.paraid_shift.proofs.begin.raise.Goals.{In_ok-spin_up}
 
@@ -85,3 +87,21 @@ returns-clause-lost g c =
 
 pub returns-clause-up : goal.returns-clause-up
 returns-clause-up g c not = raised g c not
+
+pub returns-then-not-is_down-clause-bears : goal.returns-then-not-is_down-clause-bears
+returns-then-not-is_down-clause-bears g c = core_bears_none g.R.Rack.slot_count g.R.Rack.slot g.R.Rack.told c.args.core.now
+
+pub returns-in_err-spin_up-clause-tells : goal.returns-in_err-spin_up-clause-tells
+returns-in_err-spin_up-clause-tells g c = handed _ c.from_residual.result _ c.from_residual.ensures.1 c.in_err-spin_up.ensures.tells
+
+pub returns-clause-bears : goal.returns-clause-bears
+returns-clause-bears g c =
+    let a = c.args.core.now in
+    let new = c.spin_up.new.self in
+    let done = c.in_ok-spin_up.ensures in
+    spun_bears c.args.disk _ _ (g.R.Rack.slot (store_rack new.store)) a.meta new.meta c.in_ok-spin_up.field-0 (g.met.R.Rack.agrees (store_rack new.store))
+    (elim (cases_Bool c.in_ok-spin_up.field-0) [
+      | inl ok ↦ ap is_present (done.spins (ap Ok ok)) ∙ sym ok
+      | inr failed ↦ ap is_present (done.failed (ap Ok failed)).absent ∙ sym failed
+    ])
+    done.meta (λ ok. done.same (ap Ok ok)) (λ failed. done.gone (ap Ok failed)) c.spin_up.ensures.calls

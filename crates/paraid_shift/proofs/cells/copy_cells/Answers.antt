@@ -11,6 +11,8 @@ use Rattle.paraid_shift.specs.Serving.{RestsInShift}
 use Rattle.paraid_shift.specs.Units.{are_copied_before}
 use Rattle.paraid_shift.proofs.CopiedLemmas.{copied_at, copies_more, copies_none, copies_stand, stands_from_held}
 use Rattle.paraid_shift.proofs.MovingLemmas.{named_not, one_before}
+use Rattle.paraid_core.specs.Lost.{CoreTellsLosses}
+use Rattle.paraid_shift.proofs.MovedLossLemmas.{copies_tell_then}
 use Rattle.paraid_shift.proofs.cells.copy_cells.Goals as goal
 
 pub loop-at-init : goal.loop-at-init
@@ -129,3 +131,11 @@ loop-at-preserved g c =
       copied = copied_at g.R.Rack.slot_count g.R.Rack.slot g.R.Rack.told a new _ _ _ _ more.row more.disk
           (copies_more g.R.Rack.slot_count g.R.Rack.slot g.R.Rack.told a b new was.leaves _ _ _ _ was.meta call.leaves.table first was.copied (call.copied (ap Ok c.if-not-done.false)));
     }
+
+pub returns-in_err-done-clause-tells : goal.returns-in_err-done-clause-tells
+returns-in_err-done-clause-tells g c =
+    let a = c.args.core.now in
+    let was = c.loop-at.invariant in
+    let new = c.sync_cell.new.self in
+    handed (CoreTellsLosses g.R.Rack.told (named_out a.meta.out) a new) c.from_residual.result _ c.from_residual.ensures.1
+    (copies_tell_then g.R.Rack.slot_count g.R.Rack.slot g.R.Rack.told g.met.R.Rack.agrees a c.loop-at.core new _ c.requires.ready was.marks was.calls c.in_err-done.ensures.tells)

@@ -4,7 +4,7 @@ use Rattle.paraid_record.specs.declared.meta.Setup.{Setup}
 use Rattle.paraid_core.specs.declared.staged.Core.{Core}
 use Rattle.paraid_core.specs.Calls.{MakesDataCalls}
 use Rattle.paraid_core.specs.CoreInvariant.{AreCopiesSynced}
-use Rattle.paraid_core.specs.Lost.{CoreMarksLost}
+use Rattle.paraid_core.specs.Lost.{CoreMarksLost, CoreTellsLosses}
 use Rattle.paraid_core.specs.Steps.{LeavesCore}
 use Rattle.paraid_core.proofs.AfterLemmas.{handed}
 use Rattle.paraid_core.proofs.KindLemmas.{calls_then}
@@ -17,6 +17,8 @@ use Rattle.paraid_shift.proofs.CopiedLemmas.{copies_then, held_from_then, stands
 use Rattle.paraid_shift.proofs.MovingLemmas.{some_more}
 use Rattle.paraid_shift.proofs.ServingLemmas.{serving_left}
 use Rattle.paraid_shift.proofs.cells.copy_group.Given.{Over}
+use Rattle.paraid_image.specs.Out.{named_out}
+use Rattle.paraid_shift.proofs.MovedLossLemmas.{copies_tell_then}
 use Rattle.paraid_shift.proofs.cells.copy_group.Goals as goal
 use Rattle.paraid_shift.proofs.cells.copy_group.Goals.{After-out}
 
@@ -63,6 +65,7 @@ returns-in_default g c = record {
   lost = λ none. c.in_default.not-No (c.before.out.ensures ∙ none);
   spared = (left g c.before).spared;
   two = tt;
+  tells = tt;
   calls = calls g c.before;
   marks = marks g c.before;
   copied = tt;
@@ -112,3 +115,15 @@ returns-clause-copied g c =
     some_more _ (λ (it : Group). CopiesFromRest g.R.Rack.slot_count g.R.Rack.told a c.copy_cells.new.core (are_copied_before a.meta it.row it.disk)) (λ (it : Group). CopiesFromRest g.R.Rack.slot_count g.R.Rack.told a d (are_copied_before a.meta it.row it.disk))
     (λ it was. copies_then g.R.Rack.slot_count g.R.Rack.slot g.R.Rack.told a c.copy_cells.new.core d c.in_ok-copied.ensures.leaves (are_copied_before a.meta it.row it.disk) was (λ h lo. (c.in_ok-settle.ensures.cells still).1 h lo (are_copied_before a.meta it.row it.disk)))
     c.in_ok-copied.ensures.copied
+
+pub returns-in_err-copied-clause-tells : goal.returns-in_err-copied-clause-tells
+returns-in_err-copied-clause-tells g c =
+    let a = c.args.core.now in
+    handed (CoreTellsLosses g.R.Rack.told (named_out a.meta.out) a c.copy_cells.new.core) c.from_residual.result _ c.from_residual.ensures.1 c.in_err-copied.ensures.tells
+
+pub returns-in_err-settle-clause-tells : goal.returns-in_err-settle-clause-tells
+returns-in_err-settle-clause-tells g c =
+    let a = c.args.core.now in
+    let new = c.settle.new.self in
+    handed (CoreTellsLosses g.R.Rack.told (named_out a.meta.out) a new) c.from_residual-in_err-settle.result _ c.from_residual-in_err-settle.ensures.1
+    (copies_tell_then g.R.Rack.slot_count g.R.Rack.slot g.R.Rack.told g.met.R.Rack.agrees a c.copy_cells.new.core new _ c.requires.serving.ready c.in_ok-copied.ensures.marks c.copy_cells.ensures.calls c.in_err-settle.ensures.tells)

@@ -8,6 +8,9 @@ use Rattle.paraid_shift.specs.Units.{AreCellsDone, are_copied_before}
 use Rattle.paraid_shift.proofs.CopiedLemmas.{copies_stand, copies_then}
 use Rattle.paraid_shift.proofs.MovingLemmas.{core_moves_none, core_moves_so, core_moves_then, some_at}
 use Rattle.paraid_shift.proofs.ServingLemmas.{array_left}
+use Rattle.paraid_core.proofs.AfterLemmas.{handed}
+use Rattle.paraid_shift.specs.Steps.{CoreLosesInSteps}
+use Rattle.paraid_shift.proofs.MovedLossLemmas.{copies_lose}
 use Rattle.paraid_shift.proofs.cells.move_group.Goals as goal
 
 pub returns-in_default-clause-leaves : goal.returns-in_default-clause-leaves
@@ -48,3 +51,10 @@ returns-clause-stands g c =
     copies_stand g.R.Rack.slot_count g.R.Rack.slot g.R.Rack.told a c.mark_cells.new.core (are_copied_before a.meta c.in-Some.group.row c.in-Some.group.disk)
     (copies_then g.R.Rack.slot_count g.R.Rack.slot g.R.Rack.told a b c.mark_cells.new.core left (are_copied_before a.meta c.in-Some.group.row c.in-Some.group.disk) (some_at _ _ _ c.in-Some.is c.in_ok-copied.ensures.copied)
     (subst (λ (m : Meta). KeepsCopied g.R.Rack.slot_count g.R.Rack.told b c.mark_cells.new.core (are_copied_before m c.in-Some.group.row c.in-Some.group.disk)) same c.mark_cells.ensures.copied))
+
+pub returns-in_err-copied-clause-loses : goal.returns-in_err-copied-clause-loses
+returns-in_err-copied-clause-loses g c =
+    let a = c.args.core.now in
+    let new = c.copy_group.new.core in
+    handed (CoreLosesInSteps g.R.Rack.slot_count g.R.Rack.told a new 1) c.from_residual.result _ c.from_residual.ensures.1
+    (copies_lose g.R.Rack.slot_count g.R.Rack.told a new _ c.requires.nothing c.copy_group.ensures.calls c.copy_group.ensures.moments c.in_err-copied.ensures.tells)

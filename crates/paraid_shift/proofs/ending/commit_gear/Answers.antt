@@ -18,6 +18,8 @@ use Rattle.paraid_txn.specs.Stores.{named_of, store_rack}
 use Rattle.paraid_core.specs.Cores.{CoreStandsFor, IsCoreHeldSinceCommit}
 use Rattle.paraid_core.specs.Fills.{Filled}
 use Rattle.paraid_shift.proofs.ServingLemmas.{chain, chain_held, copies_still, large_then, lowered, none_away, none_known, turns_lost, unsynced_still}
+use Rattle.paraid_core.proofs.AfterLemmas.{handed}
+use Rattle.paraid_shift.proofs.LossLemmas.{commit_is_lost, mark_is_lost}
 use Rattle.paraid_shift.proofs.ending.commit_gear.Goals as goal
 
 pub returns-in_err-commit-clause-moments : goal.returns-in_err-commit-clause-moments
@@ -88,3 +90,14 @@ returns-clause-opens g c =
           (commit_is_marked g.R.Rack.slot_count g.R.Rack.slot g.R.Rack.told b new (g.met.R.Rack.agrees (store_rack b.store)) (g.met.R.Rack.agrees (store_rack new.store)) c.commit.ensures.slots done.setup done.ready done.marks c.commit.ensures.calls c.commit.ensures.whole
           (commit_stands g.R.Rack.slot_count g.R.Rack.slot g.R.Rack.told b new done.nothing (done.filled_since away)) h lo samples served energy));
     }
+
+pub returns-in_err-commit-clause-loses : goal.returns-in_err-commit-clause-loses
+returns-in_err-commit-clause-loses g c =
+    let a = c.args.core.now in
+    let b = c.flip.new.self in
+    let new = c.commit.new.self in
+    let marks = c.flip.ensures in
+    let away = none_away g.R.Rack.slot b (ap (λ (m : Meta). m.out) marks.meta ∙ c.requires.whole) in
+    handed _ c.from_residual.result _ c.from_residual.ensures.1
+    (mark_is_lost g.R.Rack.slot_count g.R.Rack.slot g.R.Rack.told a b new (meta_flipped_to a.meta (phase_to a.meta.phase)) _ marks.store marks.meta marks.table marks.batch marks.copied marks.stands
+    (commit_is_lost g.R.Rack.slot_count g.R.Rack.slot g.R.Rack.told b new _ c.commit.ensures.calls c.commit.ensures.whole (c.commit.ensures.moments_since away) marks.serves.stays c.in_err-commit.ensures.tells))

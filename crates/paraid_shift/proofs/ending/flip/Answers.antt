@@ -13,6 +13,7 @@ use Rattle.paraid_core.specs.Cores.{CoreStandsFor}
 use Rattle.paraid_core.proofs.AfterLemmas.{handed}
 use Rattle.paraid_shift.specs.Serving.{RestsInShift}
 use Rattle.paraid_shift.proofs.ServingLemmas.{chain, chain_held, leaves_array_then, marked_gear, marked_steady, marked_then, two_array}
+use Rattle.paraid_shift.proofs.LossLemmas.{flip_lost, park_lost, powers_are_lost}
 use Rattle.paraid_shift.proofs.ending.flip.Goals as goal
 
 pub returns-in_err-park_down-clause-moments : goal.returns-in_err-park_down-clause-moments
@@ -68,3 +69,25 @@ returns-clause-steps g c before k h lo most samples served energy first =
     (not_fresh _ n.meta (marked_then _ b.meta n.meta one.meta two.meta) c.requires.whole) a.meta _ one.nothing two.nothing (marked_steady b.meta n.meta two.meta one.steady) c.park_down.ensures.calls two.rests two.parked two.others
     (λ d place. flipped_powers a.meta _ d hi c.requires.shifts (elim place [ inl low ↦ inl (omega (arith, gear, low)) | inr past ↦ inr past ]) (phase_down a.meta c.requires.serving.ready.in_range) (phase_up a.meta c.requires.serving.ready.in_range)
     ∙ ap (λ (x : ℕ). power_by_gear x Steady d) (sym gear)) h lo samples served energy)
+
+pub returns-in_err-commit_gear-clause-loses : goal.returns-in_err-commit_gear-clause-loses
+returns-in_err-commit_gear-clause-loses g c =
+    let a = c.args.core.now in
+    let m = meta_flipped_to a.meta (phase_to a.meta.phase) in
+    handed _ c.from_residual.result _ c.from_residual.ensures.1
+    (flip_lost g.R.Rack.slot_count g.R.Rack.slot g.R.Rack.told a m
+    (λ samples served energy. flipped_mark (service_of g.R.Rack.slot_count a samples served energy) (record (service_of g.R.Rack.slot_count a samples served energy) { meta = m }) refl refl (phase_to a.meta.phase) c.requires.whole refl)
+    c.commit_gear.new.core _ c.in_err-commit_gear.ensures.loses)
+
+pub returns-in_err-park_down-clause-loses : goal.returns-in_err-park_down-clause-loses
+returns-in_err-park_down-clause-loses g c =
+    let a = c.args.core.now in
+    let b = c.commit_gear.new.core in
+    let n = c.park_down.new.core in
+    let one = c.in_ok-commit_gear.ensures in
+    let m = meta_flipped_to a.meta (phase_to a.meta.phase) in
+    handed _ c.from_residual-in_err-park_down.result _ c.from_residual-in_err-park_down.ensures.1
+    (park_lost g.R.Rack.slot_count g.R.Rack.slot g.R.Rack.told a m
+    (λ samples served energy. flipped_mark (service_of g.R.Rack.slot_count a samples served energy) (record (service_of g.R.Rack.slot_count a samples served energy) { meta = m }) refl refl (phase_to a.meta.phase) c.requires.whole refl)
+    b n _ one.leaves.slots one.epoch c.requires.whole refl one.opens
+    (powers_are_lost g.R.Rack.slot_count g.R.Rack.slot g.R.Rack.told b n _ one.nothing c.park_down.ensures.calls c.park_down.ensures.moments c.in_err-park_down.ensures.tells))

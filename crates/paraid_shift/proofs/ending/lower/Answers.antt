@@ -1,4 +1,4 @@
-use Rattle.std.proofs.Common.{Ok, ap, inl, inr}
+use Rattle.std.proofs.Common.{Ok, ap, inl, inr, sym}
 use Rattle.std.proofs.lemmas.Bool.{cases_Bool}
 use Rattle.paraid_image.specs.Out.{named_out}
 use Rattle.paraid_rack.specs.Disks.{is_present}
@@ -10,6 +10,8 @@ use Rattle.paraid_txn.specs.Stores.{store_rack}
 use Rattle.paraid_core.proofs.StepLemmas.{marked_from_setup, runs_end, runs_none}
 use Rattle.paraid_shift.specs.Serving.{RestsInShift}
 use Rattle.paraid_shift.proofs.ServingLemmas.{copies_kept, large_then, marked_named}
+use Rattle.paraid_core.proofs.AfterLemmas.{handed}
+use Rattle.paraid_shift.proofs.LossLemmas.{core_bears_none, parked_bears}
 use Rattle.paraid_shift.proofs.ending.lower.Goals as goal
 
 pub returns-then-not-is_up-clause-moments : goal.returns-then-not-is_up-clause-moments
@@ -70,3 +72,21 @@ returns-clause-parked g c not = elim (cases_Bool c.in_ok-park.field-0) [
   | inl ok ↦ c.in_ok-park.ensures.parked (ap Ok ok)
   | inr failed ↦ absurd (not (ap named_out (c.in_ok-park.ensures.gone (ap Ok failed))))
 ]
+
+pub returns-then-not-is_up-clause-bears : goal.returns-then-not-is_up-clause-bears
+returns-then-not-is_up-clause-bears g c = core_bears_none g.R.Rack.slot_count g.R.Rack.slot g.R.Rack.told c.args.core.now
+
+pub returns-in_err-park-clause-tells : goal.returns-in_err-park-clause-tells
+returns-in_err-park-clause-tells g c = handed _ c.from_residual.result _ c.from_residual.ensures.1 c.in_err-park.ensures.tells
+
+pub returns-clause-bears : goal.returns-clause-bears
+returns-clause-bears g c =
+    let a = c.args.core.now in
+    let new = c.park.new.self in
+    let done = c.in_ok-park.ensures in
+    parked_bears c.args.disk _ _ (g.R.Rack.slot (store_rack new.store)) a.meta new.meta c.in_ok-park.field-0 (g.met.R.Rack.agrees (store_rack new.store))
+    (elim (cases_Bool c.in_ok-park.field-0) [
+      | inl ok ↦ ap is_present (done.parked (ap Ok ok)) ∙ sym ok
+      | inr failed ↦ ap is_present (done.failed (ap Ok failed)).absent ∙ sym failed
+    ])
+    done.meta (λ ok. done.same (ap Ok ok)) (λ failed. done.gone (ap Ok failed)) c.park.ensures.calls

@@ -11,6 +11,7 @@ use Rattle.paraid_core.proofs.AfterLemmas.{handed}
 use Rattle.paraid_core.proofs.StepLemmas.{runs_end, runs_none}
 use Rattle.paraid_shift.specs.Serving.{RestsInShift}
 use Rattle.paraid_shift.proofs.ServingLemmas.{chain, chain_held, leaves_array_none, leaves_array_then, marked_named, marked_none, marked_then, same_none, same_then, two_array}
+use Rattle.paraid_shift.proofs.LossLemmas.{core_bears_none, core_bears_then, core_tells_after}
 use Rattle.paraid_shift.proofs.ending.park_down.Goals as goal
 
 pub loop-disk-init : goal.loop-disk-init
@@ -26,6 +27,7 @@ loop-disk-init g c =
       absent = λ q. q;
       calls = calls_none _ (g.R.Rack.told (store_rack a.store));
       lost = powered_none (g.R.Rack.slot (store_rack a.store)) a.meta;
+      bears = core_bears_none g.R.Rack.slot_count g.R.Rack.slot g.R.Rack.told a;
       from = let start = ap (λ (m : Meta). m.gear) c.meta.ensures in omega arith;
       until = λ d low past. (let start = ap (λ (m : Meta). m.gear) c.meta.ensures in omega (arith, low));
       parked = λ d low under not. absurd (let start = ap (λ (m : Meta). m.gear) c.meta.ensures in omega arith);
@@ -58,6 +60,7 @@ loop-disk-preserved g c =
       absent = λ q. one.absent (was.absent q);
       calls = calls_then _ _ _ _ was.calls (power_calls_after a.meta b.meta was.meta _ _ c.lower.ensures.calls);
       lost = powered_then (g.R.Rack.slot (store_rack b.store)) (g.R.Rack.slot (store_rack new.store)) a.meta b.meta new.meta was.lost one.leaves.turned was.leaves.setup one.lost;
+      bears = core_bears_then g.R.Rack.slot_count g.R.Rack.slot g.R.Rack.told a b new was.bears one.bears;
       from = let low = was.from in omega arith;
       until = λ d low past. (let test = c.loop-disk-test.true in omega (arith, past));
       parked = λ d low under not. elim (cases_eq d c.loop-disk.disk) [
@@ -106,3 +109,8 @@ returns-clause-others g c d place = elim (cases_lt d c.args.core.now.meta.gear) 
     | inr past ↦ c.loop-disk.invariant.others d (inr (c.loop-disk.invariant.until d from past))
   ]
 ]
+
+pub returns-in_err-lower-clause-tells : goal.returns-in_err-lower-clause-tells
+returns-in_err-lower-clause-tells g c =
+    handed _ c.from_residual.result _ c.from_residual.ensures.1
+    (core_tells_after g.R.Rack.slot_count g.R.Rack.slot g.R.Rack.told c.args.core.now c.loop-disk.core c.lower.new.core _ c.loop-disk.invariant.bears c.in_err-lower.ensures.tells)

@@ -3,6 +3,7 @@ use Rattle.paraid_image.specs.Out.{named_out}
 use Rattle.paraid_rack.specs.declared.call.Power.TheVariants.{Parked}
 use Rattle.paraid_txn.specs.Stores.{IsSameStore, store_rack}
 use Rattle.paraid_core.specs.Steps.{IsMarkedFrom, IsNamedOrAbsent}
+use Rattle.paraid_shift.specs.Losing.{CoreBearsLoss}
 use Rattle.paraid_shift.specs.Serving.{IsCoreServing, LeavesArray, StaysAtRest}
 use Rattle.paraid_shift.specs.Steps.{MakesPowerCalls, MarksPowered}
 use Rattle.paraid_shift.proofs.ending.park_down.Given as goal
@@ -19,6 +20,7 @@ invariant-loop-disk g l = record {
   absent : IsNamedOrAbsent g.R.Rack.slot l.fn.core → IsNamedOrAbsent g.R.Rack.slot l.core;
   calls : MakesPowerCalls g.R.Rack.told l.fn.core l.core;
   lost : MarksPowered (g.R.Rack.slot (store_rack l.core.store)) l.fn.core.meta l.core.meta;
+  bears : CoreBearsLoss g.R.Rack.told l.fn.core l.core;
   from : l.fn.core.meta.gear ≤ l.disk;
   until : (d : ℕ) → l.fn.core.meta.gear ≤ d → l.fn.hi ≤ d → l.disk ≤ d;
   parked : (d : ℕ) → l.fn.core.meta.gear ≤ d → d < l.disk → named_out l.core.meta.out ≢ Some d → (g.R.Rack.slot (store_rack l.core.store) d).power ≡ Parked;

@@ -1,5 +1,9 @@
 use Rattle.paraid_txn.specs.Stores.{store_rack}
 use Rattle.paraid_shift.proofs.StepsLemmas.{commit_is_marked, commit_is_step, commit_stands}
+use Rattle.paraid_core.proofs.AfterLemmas.{handed}
+use Rattle.paraid_shift.proofs.MovedLossLemmas.{commit_loses_both, commit_loses_step}
+use Rattle.paraid_shift.specs.Steps.{CoreLosesInEvent, CoreLosesInSteps}
+use Rattle.paraid_core.specs.Steps.{IsNamedOrAbsent}
 use Rattle.paraid_shift.proofs.moving.commit.Goals as goal
 
 pub returns-clause-steps : goal.returns-clause-steps
@@ -17,3 +21,20 @@ returns-clause-marked g c absent =
     let done = c.in_ok-commit.ensures in
     commit_is_marked g.R.Rack.slot_count g.R.Rack.slot g.R.Rack.told a b (g.met.R.Rack.agrees (store_rack a.store)) (g.met.R.Rack.agrees (store_rack b.store)) c.commit.ensures.slots done.setup done.ready done.marks c.commit.ensures.calls c.commit.ensures.whole
     (commit_stands g.R.Rack.slot_count g.R.Rack.slot g.R.Rack.told a b done.nothing (done.filled_since absent))
+
+pub returns-in_err-commit-clause-loses_marked : goal.returns-in_err-commit-clause-loses_marked
+returns-in_err-commit-clause-loses_marked g c =
+    let a = c.args.core.now in
+    let b = c.commit.new.self in
+    let all = c.commit.ensures in
+    handed (λ two. IsNamedOrAbsent g.R.Rack.slot a → CoreLosesInEvent g.R.Rack.slot_count g.R.Rack.told a b two) c.from_residual.result _ c.from_residual.ensures.1
+    (λ absent. commit_loses_both g.R.Rack.slot_count g.R.Rack.told a b _ c.requires.serving.serves.stays all.calls all.whole (all.moments_since absent) c.in_err-commit.ensures.tells)
+
+pub returns-in_err-commit-clause-loses : goal.returns-in_err-commit-clause-loses
+returns-in_err-commit-clause-loses g c =
+    let a = c.args.core.now in
+    let b = c.commit.new.self in
+    let all = c.commit.ensures in
+    handed (λ two. IsNamedOrAbsent g.R.Rack.slot a → CoreLosesInSteps g.R.Rack.slot_count g.R.Rack.told a b 1 two) c.from_residual.result _ c.from_residual.ensures.1
+    (λ absent. commit_loses_step g.R.Rack.slot_count g.R.Rack.told a b _
+    (commit_loses_both g.R.Rack.slot_count g.R.Rack.told a b _ c.requires.serving.serves.stays all.calls all.whole (all.moments_since absent) c.in_err-commit.ensures.tells))

@@ -4,6 +4,8 @@ use Rattle.paraid_base.specs.declared.state.Out.TheVariants.{No}
 use Rattle.paraid_core.proofs.AfterLemmas.{handed}
 use Rattle.paraid_shift.proofs.MovingLemmas.{core_moves_same, core_moves_so, core_moves_then, staged_some}
 use Rattle.paraid_shift.proofs.ServingLemmas.{leaves_array_none, leaves_array_then, two_array}
+use Rattle.paraid_shift.proofs.MovedLossLemmas.{core_loses_then, core_loses_within}
+use Rattle.paraid_shift.specs.Steps.{CoreLosesInSteps}
 use Rattle.paraid_shift.proofs.moving.step_cells.Goals as goal
 
 pub loop-at-init : goal.loop-at-init
@@ -110,3 +112,12 @@ returns-then-count-eq0-clause-steps g c =
 
 pub returns-clause-steps : goal.returns-clause-steps
 returns-clause-steps g c = core_steps_within g.R.Rack.slot_count g.R.Rack.slot g.R.Rack.told c.args.core.now c.loop-at.core c.loop-at.at c.args.most (let going = c.loop-at.invariant.going in let few = c.loop-at.invariant.few in omega arith) c.loop-at.invariant.steps
+
+pub returns-in_err-count-clause-loses : goal.returns-in_err-count-clause-loses
+returns-in_err-count-clause-loses g c =
+    let a = c.args.core.now in
+    let b = c.loop-at.core in
+    let new = c.step_group.new.core in
+    handed (CoreLosesInSteps g.R.Rack.slot_count g.R.Rack.told a new c.args.most) c.from_residual.result _ c.from_residual.ensures.1
+    (core_loses_within g.R.Rack.slot_count g.R.Rack.told a new (c.loop-at.at + 1) c.args.most _ (let low = c.loop-at-test.true in omega arith)
+    (core_loses_then g.R.Rack.slot_count g.R.Rack.told a b new c.loop-at.at 1 _ c.loop-at.invariant.steps c.in_err-count.ensures.loses))

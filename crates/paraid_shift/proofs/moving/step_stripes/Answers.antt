@@ -8,6 +8,8 @@ use Rattle.paraid_record.specs.declared.meta.Meta.{Meta}
 use Rattle.paraid_core.proofs.AfterLemmas.{handed}
 use Rattle.paraid_shift.proofs.MovingLemmas.{core_moves_none, core_moves_so, core_moves_then, core_stripes_move, done_committed, stripes_done}
 use Rattle.paraid_shift.proofs.ServingLemmas.{leaves_array_then, two_array}
+use Rattle.paraid_shift.proofs.MovedLossLemmas.{marks_lose}
+use Rattle.paraid_shift.specs.Steps.{CoreLosesInSteps}
 use Rattle.paraid_shift.proofs.moving.step_stripes.Goals as goal
 
 pub returns-in_err-commit-clause-two : goal.returns-in_err-commit-clause-two
@@ -86,7 +88,8 @@ pub returns-then-has_ended-clause-steps : goal.returns-then-has_ended-clause-ste
 returns-then-has_ended-clause-steps g c =
     let a = c.args.core.now in
     let b = c.move_stripes.new.core in
-    inr (c.has_ended.ensures.done c.if-has_ended.true, core_waits_within g.R.Rack.slot_count g.R.Rack.slot g.R.Rack.told a b b.meta 0 1 (omega arith) (c.in_ok-done.ensures.waits (ap Ok c.if-not-done.false)))
+    let whole : b.meta.out ≡ No = ap (λ (m : Meta). m.out) (c.in_ok-done.ensures.filled (ap Ok c.if-not-done.false)) ∙ c.requires.whole in
+    inr ((c.has_ended.ensures.done c.if-has_ended.true, whole), core_waits_within g.R.Rack.slot_count g.R.Rack.slot g.R.Rack.told a b b.meta 0 1 (omega arith) (c.in_ok-done.ensures.waits (ap Ok c.if-not-done.false)))
 
 pub returns-clause-steps : goal.returns-clause-steps
 returns-clause-steps g c =
@@ -97,3 +100,16 @@ returns-clause-steps g c =
     let whole : b.meta.out ≡ No = ap (λ (m : Meta). m.out) (done.filled (ap Ok c.if-not-done.false)) ∙ c.requires.whole in
     inl (marks_committed g.R.Rack.slot_count g.R.Rack.slot g.R.Rack.told a b new b.meta 0 (done.waits (ap Ok c.if-not-done.false)) c.in_ok-commit.ensures.leaves.slots c.in_ok-commit.ensures.epoch (λ d. refl)
     (c.in_ok-commit.ensures.marked (none_away g.R.Rack.slot b whole)))
+
+pub returns-in_err-done-clause-loses : goal.returns-in_err-done-clause-loses
+returns-in_err-done-clause-loses g c =
+    handed (CoreLosesInSteps g.R.Rack.slot_count g.R.Rack.told c.args.core.now c.move_stripes.new.core 1) c.from_residual.result _ c.from_residual.ensures.1 c.in_err-done.ensures.loses
+
+pub returns-in_err-commit-clause-loses : goal.returns-in_err-commit-clause-loses
+returns-in_err-commit-clause-loses g c =
+    let a = c.args.core.now in
+    let b = c.move_stripes.new.core in
+    let done = c.in_ok-done.ensures in
+    let whole : b.meta.out ≡ No = ap (λ (m : Meta). m.out) (done.filled (ap Ok c.if-not-done.false)) ∙ c.requires.whole in
+    handed (CoreLosesInSteps g.R.Rack.slot_count g.R.Rack.told a c.commit.new.core 1) c.from_residual-in_err-commit.result _ c.from_residual-in_err-commit.ensures.1
+    (marks_lose g.R.Rack.slot_count g.R.Rack.told a b c.commit.new.core b.meta 0 _ (done.waits (ap Ok c.if-not-done.false)) (c.in_err-commit.ensures.loses_marked (none_away g.R.Rack.slot b whole)))

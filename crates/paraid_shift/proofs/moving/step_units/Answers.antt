@@ -4,6 +4,8 @@ use Rattle.paraid_base.specs.declared.state.Out.TheVariants.{No}
 use Rattle.paraid_core.proofs.AfterLemmas.{handed}
 use Rattle.paraid_shift.proofs.MovingLemmas.{staged_some, up_to_more}
 use Rattle.paraid_shift.proofs.ServingLemmas.{leaves_array_then, two_array}
+use Rattle.paraid_shift.proofs.MovedLossLemmas.{core_loses_then, core_loses_within}
+use Rattle.paraid_shift.specs.Steps.{CoreLosesInSteps}
 use Rattle.paraid_shift.proofs.moving.step_units.Goals as goal
 
 pub returns-in_err-stripes-clause-two : goal.returns-in_err-stripes-clause-two
@@ -53,3 +55,17 @@ returns-then-staged-ne0-clause-steps g c =
 pub returns-clause-steps : goal.returns-clause-steps
 returns-clause-steps g c =
     steps_or_waits_then g.R.Rack.slot_count g.R.Rack.slot g.R.Rack.told c.args.core.now c.step_cells.new.core c.step_stripes.new.core c.args.most 1 (c.args.most + 1) (omega arith) c.in_ok-cells.ensures.steps c.in_ok-stripes.ensures.steps
+
+pub returns-in_err-cells-clause-loses : goal.returns-in_err-cells-clause-loses
+returns-in_err-cells-clause-loses g c =
+    let a = c.args.core.now in
+    let new = c.step_cells.new.core in
+    handed (CoreLosesInSteps g.R.Rack.slot_count g.R.Rack.told a new (c.args.most + 1)) c.from_residual.result _ c.from_residual.ensures.1
+    (core_loses_within g.R.Rack.slot_count g.R.Rack.told a new c.args.most (c.args.most + 1) _ (omega arith) c.in_err-cells.ensures.loses)
+
+pub returns-in_err-stripes-clause-loses : goal.returns-in_err-stripes-clause-loses
+returns-in_err-stripes-clause-loses g c =
+    let a = c.args.core.now in
+    let new = c.step_stripes.new.core in
+    handed (CoreLosesInSteps g.R.Rack.slot_count g.R.Rack.told a new (c.args.most + 1)) c.from_residual-in_err-stripes.result _ c.from_residual-in_err-stripes.ensures.1
+    (core_loses_then g.R.Rack.slot_count g.R.Rack.told a c.step_cells.new.core new c.args.most 1 _ c.in_ok-cells.ensures.steps c.in_err-stripes.ensures.loses)

@@ -13,6 +13,9 @@ use Rattle.paraid_core.proofs.KindLemmas.{calls_none, calls_then, data_same}
 use Rattle.paraid_core.proofs.LostMarkLemmas.{marks_none, marks_then}
 use Rattle.paraid_core.proofs.StepLemmas.{held_runs_then, leaves_none, leaves_then, runs_end, runs_none, runs_then, two_then}
 use Rattle.paraid_shift.specs.Serving.{RestsInShift}
+use Rattle.paraid_image.specs.Out.{named_out}
+use Rattle.paraid_core.specs.Lost.{CoreTellsLosses}
+use Rattle.paraid_shift.proofs.MovedLossLemmas.{copies_tell_then}
 use Rattle.paraid_shift.proofs.stripes.fill_stripes.Goals as goal
 
 pub loop-s-init : goal.loop-s-init
@@ -119,3 +122,11 @@ returns-clause-calls g c = c.loop-s.invariant.calls
 
 pub returns-clause-marks : goal.returns-clause-marks
 returns-clause-marks g c = c.loop-s.invariant.marks
+
+pub returns-in_err-done-clause-tells : goal.returns-in_err-done-clause-tells
+returns-in_err-done-clause-tells g c =
+    let a = c.args.core.now in
+    let was = c.loop-s.invariant in
+    let new = c.fill_stripe.new.self in
+    handed (CoreTellsLosses g.R.Rack.told (named_out a.meta.out) a new) c.from_residual.result _ c.from_residual.ensures.1
+    (copies_tell_then g.R.Rack.slot_count g.R.Rack.slot g.R.Rack.told g.met.R.Rack.agrees a c.loop-s.core new _ c.requires.ready was.marks was.calls c.in_err-done.ensures.tells)

@@ -26,6 +26,8 @@ use Rattle.paraid_shift.specs.Serving.{IsHeldFromRest, IsCoreServing, LeavesArra
 use Rattle.paraid_shift.proofs.CopiedLemmas.{syncs_are_data}
 use Rattle.paraid_shift.proofs.ServingLemmas.{array_left, array_marked, leaves_array_then, out_none, serving_left, serving_marked}
 use Rattle.paraid_shift.proofs.stripes.move_stripes.Given.{Over}
+use Rattle.paraid_shift.specs.Steps.{CoreLosesInSteps}
+use Rattle.paraid_shift.proofs.MovedLossLemmas.{copies_lose, copies_tell_then}
 use Rattle.paraid_shift.proofs.stripes.move_stripes.Goals as goal
 use Rattle.paraid_shift.proofs.stripes.move_stripes.Goals.{In_ok-settle}
 
@@ -188,3 +190,19 @@ returns-clause-waits g c is =
     let still = out_none d.meta.out (ap has_out (sym c.out.ensures) ∙ sym c.is_any.ensures ∙ c.if-is_any.false) in
     stripes_wait g.R.Rack.slot_count g.R.Rack.slot g.R.Rack.told a d b (g.met.R.Rack.agrees (store_rack a.store)) (g.met.R.Rack.agrees (store_rack d.store)) (left g at).slots (marked_from_setup a.meta d.meta (left g at).meta) (left g at).ready (marks g at)
     c.args.end c.mark_filled.ensures.store still c.mark_filled.ensures.meta c.requires.nothing (calls g at) (stands g at) (returns-clause-stands g c)
+
+pub returns-in_err-done-clause-loses : goal.returns-in_err-done-clause-loses
+returns-in_err-done-clause-loses g c =
+    let a = c.args.core.now in
+    let new = c.fill_stripes.new.core in
+    handed (CoreLosesInSteps g.R.Rack.slot_count g.R.Rack.told a new 1) c.from_residual.result _ c.from_residual.ensures.1
+    (copies_lose g.R.Rack.slot_count g.R.Rack.told a new _ c.requires.nothing c.fill_stripes.ensures.calls c.fill_stripes.ensures.moments c.in_err-done.ensures.tells)
+
+pub returns-in_err-settle-clause-loses : goal.returns-in_err-settle-clause-loses
+returns-in_err-settle-clause-loses g c =
+    let a = c.args.core.now in
+    let b = c.fill_stripes.new.core in
+    let new = c.settle.new.self in
+    handed (CoreLosesInSteps g.R.Rack.slot_count g.R.Rack.told a new 1) c.from_residual-in_err-settle.result _ c.from_residual-in_err-settle.ensures.1
+    (copies_lose g.R.Rack.slot_count g.R.Rack.told a new _ c.requires.nothing (returns-in_err-settle-clause-calls g c) (returns-in_err-settle-clause-moments g c)
+    (copies_tell_then g.R.Rack.slot_count g.R.Rack.slot g.R.Rack.told g.met.R.Rack.agrees a b new _ c.requires.serving.ready c.in_ok-done.ensures.marks c.fill_stripes.ensures.calls c.in_err-settle.ensures.tells))

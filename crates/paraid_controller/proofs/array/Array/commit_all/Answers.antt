@@ -3,9 +3,10 @@ use Rattle.paraid_base.specs.declared.fault.Halt.TheVariants.{Two as HaltTwo}
 use Rattle.paraid_record.specs.declared.meta.Meta.{Meta}
 use Rattle.paraid_gear.specs.ThreeWindows.{lengths_of}
 use Rattle.paraid_shift.proofs.ServingLemmas.{copies_kept}
-use Rattle.paraid_controller.proofs.CoreLemmas.{serving_then}
+use Rattle.paraid_controller.proofs.CoreLemmas.{serving_then, tells_by_down}
 use Rattle.paraid_controller.proofs.FlushLemmas.{flush_lost, flush_on}
 use Rattle.paraid_controller.proofs.StandLemmas.{end_by}
+use Rattle.paraid_controller.proofs.LossLemmas.{going_lost, second_lost}
 use Rattle.paraid_controller.proofs.array.Array.commit_all.Goals as goal
 
 pub invariant_of-self : goal.invariant_of-self
@@ -14,12 +15,12 @@ invariant_of-self g c =
     let all = c.commit.ensures in
     let done = c.in-Ok.ensures in
     record {
-      serving = λ e. serving_then g.R.Rack.slot_count g.R.Rack.slot a.core c.commit.new.self (lengths_of a.windows) a.setup true (a.serving e) done.marks done.setup done.ready (done.serves (a.serving e).serving.serves)
+      serving = λ e. serving_then g.R.Rack.slot_count g.R.Rack.slot a.core c.commit.new.self (lengths_of a.windows) a.setup a.slots true (a.serving e) done.marks done.setup c.commit.ensures.slots done.ready (done.serves (a.serving e).serving.serves)
           (all.draft ∙ (a.serving e).serving.draft) all.copied done.unsynced done.named;
     }
 
 pub returns-in-Ok-clause-turn : goal.returns-in-Ok-clause-turn
-returns-in-Ok-clause-turn g c tells =
+returns-in-Ok-clause-turn g c =
     let a = c.args.self.now in
     let all = c.commit.ensures in
     let done = c.in-Ok.ensures in
@@ -28,8 +29,15 @@ returns-in-Ok-clause-turn g c tells =
     (copies_kept a.core c.commit.new.self done.setup all.copied (a.serving c.requires.going).serving.copies_synced) done.nothing
 
 pub returns-in-Err-clause-turn : goal.returns-in-Err-clause-turn
-returns-in-Err-clause-turn g c tells =
+returns-in-Err-clause-turn g c =
     let a = c.args.self.now in
     let all = c.commit.ensures in
     flush_lost g.R.Rack.slot_count g.R.Rack.slot g.R.Rack.told g.met.R.Rack.agrees a _ c.requires.going c.requires.epoch c.requires.writes all.calls all.whole
-    c.in-Err.two refl (ap (λ (m : Meta). Some (end_by (HaltTwo c.in-Err.two) m.gear)) c.meta.ensures) all.moments (tells c.in-Err.two refl)
+    c.in-Err.two refl (ap (λ (m : Meta). Some (end_by (HaltTwo c.in-Err.two) m.gear)) c.meta.ensures) all.moments
+    (tells_by_down g.R.Rack.slot g.R.Rack.told a.core c.commit.new.self c.in-Err.two (a.serving c.requires.going).serving.serves c.in-Err.ensures.tells)
+
+pub returns-in-Ok-clause-two : goal.returns-in-Ok-clause-two
+returns-in-Ok-clause-two g c = going_lost _ _ c.args.self.now.ended c.requires.going
+
+pub returns-in-Err-clause-two : goal.returns-in-Err-clause-two
+returns-in-Err-clause-two g c = second_lost _ _ c.in-Err.two c.in-Err.ensures.two.apart c.in-Err.ensures.two.second

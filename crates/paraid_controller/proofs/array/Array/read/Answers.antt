@@ -1,9 +1,14 @@
 use Rattle.std.proofs.Common.{ℕ, ◌^◌, ◌<◌, ◌≤◌, subst}
 use Rattle.paraid_record.specs.declared.meta.Meta.{Meta}
 use Rattle.paraid_controller.proofs.QuietLemmas.{read_refused}
+use Rattle.paraid_controller.proofs.LossLemmas.{going_lost}
+use Rattle.paraid_controller.proofs.StandLemmas.{none_ended}
 use Rattle.paraid_controller.proofs.array.Array.read.Goals as goal
 
 pub returns-then-block-blocks-clause-turn : goal.returns-then-block-blocks-clause-turn
-returns-then-block-blocks-clause-turn g c tells =
+returns-then-block-blocks-clause-turn g c =
     let fit = subst (λ (m : Meta). (m.epoch < 2 ^ 62) × (m.writes < 2 ^ 62)) c.meta.ensures c.in_default.ensures.fit in
     read_refused g.R.Rack.slot_count g.R.Rack.told c.args.self.now c.requires.going fit.0 fit.1 c.args.block (subst (λ (n : ℕ). n ≤ c.args.block) c.blocks-2.ensures.value c.if-block-blocks.true)
+
+pub returns-then-block-blocks-clause-two : goal.returns-then-block-blocks-clause-two
+returns-then-block-blocks-clause-two g c = going_lost _ _ c.args.self.now.ended (none_ended c.args.self.now.ended c.requires.going)

@@ -6,7 +6,8 @@ use Rattle.paraid_core.specs.Room.{commits_first}
 use Rattle.paraid_shift.proofs.ServingLemmas.{copies_kept}
 use Rattle.paraid_controller.proofs.CoreLemmas.{serving_then}
 use Rattle.paraid_controller.proofs.RequestLemmas.{write_lost, write_on}
-use Rattle.paraid_controller.proofs.StandLemmas.{end_by, kept_flag, told_before}
+use Rattle.paraid_controller.proofs.StandLemmas.{end_by, kept_flag}
+use Rattle.paraid_controller.proofs.LossLemmas.{going_lost, second_lost}
 use Rattle.paraid_controller.proofs.array.Array.write_there.Goals as goal
 
 pub invariant_of-self : goal.invariant_of-self
@@ -14,12 +15,12 @@ invariant_of-self g c =
     let a = c.args.self.now in
     let done = c.in-Ok.ensures in
     record {
-      serving = λ e. serving_then g.R.Rack.slot_count g.R.Rack.slot a.core c.write_many.new.self (lengths_of a.windows) a.setup (commits_first c.args.self.now.core.batch (10 * c.args.pairs.now.count)) (a.serving e) done.marks done.setup done.ready done.serves
+      serving = λ e. serving_then g.R.Rack.slot_count g.R.Rack.slot a.core c.write_many.new.self (lengths_of a.windows) a.setup a.slots (commits_first c.args.self.now.core.batch (10 * c.args.pairs.now.count)) (a.serving e) done.marks done.setup c.write_many.ensures.slots done.ready done.serves
           done.draft done.copied done.unsynced done.names;
     }
 
 pub returns-in-Ok-clause-turn : goal.returns-in-Ok-clause-turn
-returns-in-Ok-clause-turn g c tells =
+returns-in-Ok-clause-turn g c =
     let a = c.args.self.now in
     let all = c.write_many.ensures in
     let done = c.in-Ok.ensures in
@@ -31,8 +32,14 @@ returns-in-Ok-clause-turn g c tells =
     c.args.pairs.now (c.meta-3.result.now.writes + 1) (ap (λ (m : Meta). m.writes + 1) c.meta-3.ensures) c.requires.blocks done.stands (a.serving c.requires.going).same_setup done.bits
 
 pub returns-in-Err-clause-turn : goal.returns-in-Err-clause-turn
-returns-in-Err-clause-turn g c tells =
+returns-in-Err-clause-turn g c =
     let a = c.args.self.now in
     let all = c.write_many.ensures in
     write_lost g.R.Rack.slot_count g.R.Rack.slot g.R.Rack.told g.met.R.Rack.agrees a _ c.requires.going c.requires.epoch c.requires.writes (commits_first c.args.self.now.core.batch (10 * c.args.pairs.now.count)) all.calls all.kept all.whole
-    c.in-Err.two refl (ap (λ (m : Meta). Some (end_by (HaltTwo c.in-Err.two) m.gear)) c.meta.ensures) all.moments (tells c.in-Err.two refl) c.args.pairs.now c.requires.blocks
+    c.in-Err.two refl (ap (λ (m : Meta). Some (end_by (HaltTwo c.in-Err.two) m.gear)) c.meta.ensures) all.moments c.in-Err.ensures.tells c.args.pairs.now c.requires.blocks
+
+pub returns-in-Ok-clause-two : goal.returns-in-Ok-clause-two
+returns-in-Ok-clause-two g c = going_lost _ _ c.args.self.now.ended c.requires.going
+
+pub returns-in-Err-clause-two : goal.returns-in-Err-clause-two
+returns-in-Err-clause-two g c = second_lost _ _ c.in-Err.two c.in-Err.ensures.two.apart c.in-Err.ensures.two.second

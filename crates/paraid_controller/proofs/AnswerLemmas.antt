@@ -1,0 +1,84 @@
+-- The answers to disks that are taken out, and to shifts.
+use Rattle.std.proofs.Common.{◌≡◌, ℕ, true, Option, Some, None, refl, arith}
+use Rattle.std.specs.Prelude.{◌==◌, IfSome}
+use Rattle.std.proofs.lemmas.Bool.Decides.{nat_tests}
+use Rattle.paraid_base.specs.declared.event.Event.TheVariants.{Fail}
+use Rattle.paraid_image.specs.Power.{PowerState}
+use Rattle.paraid_image.specs.Shown.{with_flush}
+use Rattle.paraid_machine.specs.Energy.{energy_of}
+use Rattle.paraid_record.specs.declared.meta.Meta.{Meta}
+use Rattle.paraid_record.specs.declared.meta.Setup.{Setup}
+use Rattle.paraid_serve.specs.Form.{is_answer_to}
+use Rattle.paraid_session.specs.Turn.{halt_told}
+use Rattle.paraid_trace.specs.Replies.{HasFewDisks}
+use Rattle.paraid_array.specs.declared.asked.Asked.{Asked}
+use Rattle.paraid_array.specs.declared.asked.Asked.TheVariants.{Begun, Refused}
+use Rattle.paraid_array.specs.declared.fault.FailFault.{FailFault}
+use Rattle.paraid_array.specs.declared.fault.FailFault.TheVariants.{Halt as FailHalt, NoDisk as FailNoDisk, Out as FailOut}
+use Rattle.paraid_array.specs.declared.fault.ShiftFault.TheVariants.{Halt as ShiftHalt, Lowest, Out as ShiftOut, Ration, Shifting, Top}
+use Rattle.paraid_array.specs.DiskRefusals.{IsFailRefused}
+use Rattle.paraid_array.specs.Turns.{asked_answer, fail_answer}
+use Rattle.paraid_controller.specs.Used.{asked_energy}
+
+same_test : (a b : ℕ) → a ≡ b → (a == b) ≡ true
+same_test a b e = grind (e, arith, nat_tests)
+
+-- a disk that is taken out
+module _ (d : ℕ) (m m_then : Meta) where
+  pub fail_going : (r : Option FailFault) → IfSome r (IsFailRefused m m_then d) → halt_told (fail_answer d r) ≡ None
+  fail_going None w = refl
+  fail_going (Some (FailHalt halt)) w = absurd w
+  fail_going (Some (FailNoDisk e)) w = refl
+  fail_going (Some (FailOut e)) w = refl
+
+  pub fail_kind : (r : Option FailFault) → IfSome r (IsFailRefused m m_then d) → is_answer_to (Fail d) (fail_answer d r) ≡ true
+  fail_kind None w = same_test d d refl
+  fail_kind (Some (FailHalt halt)) w = absurd w
+  fail_kind (Some (FailNoDisk e)) w = same_test e d w.0
+  fail_kind (Some (FailOut e)) w = refl
+
+pub fail_low : (d low : ℕ) (r : Option FailFault) → with_flush low (fail_answer d r) ≡ low
+fail_low d low None = refl
+fail_low d low (Some (FailHalt halt)) = refl
+fail_low d low (Some (FailNoDisk e)) = refl
+fail_low d low (Some (FailOut e)) = refl
+
+pub fail_uses : (setup : Setup) (s : PowerState) (d : ℕ) (r : Option FailFault) → energy_of setup s (fail_answer d r) ≡ 0
+fail_uses setup s d None = refl
+fail_uses setup s d (Some (FailHalt halt)) = refl
+fail_uses setup s d (Some (FailNoDisk e)) = refl
+fail_uses setup s d (Some (FailOut e)) = refl
+
+pub fail_few : (d : ℕ) (r : Option FailFault) → HasFewDisks (fail_answer d r)
+fail_few d None = tt
+fail_few d (Some (FailHalt halt)) = tt
+fail_few d (Some (FailNoDisk e)) = tt
+fail_few d (Some (FailOut e)) = tt
+
+-- a shift that is asked for
+pub asked_low : (gear low : ℕ) (x : Asked) → with_flush low (asked_answer gear x) ≡ low
+asked_low gear low (Begun to) = refl
+asked_low gear low (Refused (ShiftHalt halt)) = refl
+asked_low gear low (Refused Top) = refl
+asked_low gear low (Refused Lowest) = refl
+asked_low gear low (Refused (Shifting to)) = refl
+asked_low gear low (Refused (ShiftOut d)) = refl
+asked_low gear low (Refused (Ration d)) = refl
+
+pub asked_uses : (setup : Setup) (s : PowerState) (gear : ℕ) (x : Asked) → energy_of setup s (asked_answer gear x) ≡ asked_energy setup gear x
+asked_uses setup s gear (Begun to) = refl
+asked_uses setup s gear (Refused (ShiftHalt halt)) = refl
+asked_uses setup s gear (Refused Top) = refl
+asked_uses setup s gear (Refused Lowest) = refl
+asked_uses setup s gear (Refused (Shifting to)) = refl
+asked_uses setup s gear (Refused (ShiftOut d)) = refl
+asked_uses setup s gear (Refused (Ration d)) = refl
+
+pub asked_few : (gear : ℕ) (x : Asked) → HasFewDisks (asked_answer gear x)
+asked_few gear (Begun to) = tt
+asked_few gear (Refused (ShiftHalt halt)) = tt
+asked_few gear (Refused Top) = tt
+asked_few gear (Refused Lowest) = tt
+asked_few gear (Refused (Shifting to)) = tt
+asked_few gear (Refused (ShiftOut d)) = tt
+asked_few gear (Refused (Ration d)) = tt

@@ -1,0 +1,68 @@
+use Rattle.std.proofs.Common.{◌≡◌, ℕ, refl, sym, ap, ◌∙◌, Some, subst, min, ◌+◌}
+use Rattle.paraid_base.specs.declared.event.Answer.{Answer}
+use Rattle.paraid_base.specs.declared.event.Event.TheVariants.{Bad, Down}
+use Rattle.paraid_base.specs.declared.fault.Halt.TheVariants.{Two as HaltTwo}
+use Rattle.paraid_gear.specs.ThreeWindows.{lengths_of}
+use Rattle.paraid_record.specs.declared.meta.Meta.{Meta}
+use Rattle.paraid_array.specs.Turns.{CoreGoesOn, asked_answer}
+use Rattle.paraid_image.specs.Shown.{with_flush}
+use Rattle.paraid_machine.specs.Energy.{energy_after}
+use Rattle.paraid_serve.specs.Form.{is_answer_to}
+use Rattle.paraid_session.specs.Turn.{halt_told}
+use Rattle.paraid_trace.specs.Replies.{HasFewDisks}
+use Rattle.paraid_controller.specs.Arrays.{halt_of_end}
+use Rattle.paraid_controller.proofs.AnswerLemmas.{asked_few, asked_low}
+use Rattle.paraid_controller.proofs.AskedLemmas.{MayTellDown, down_going, down_kind, down_tells}
+use Rattle.paraid_controller.proofs.CoreLemmas.{known_of, serving_of}
+use Rattle.paraid_controller.proofs.EnergyLemmas.{asked_used}
+use Rattle.paraid_controller.proofs.StandLemmas.{end_by}
+use Rattle.paraid_controller.proofs.TurnLemmas.{core_halts, core_on}
+use Rattle.paraid_controller.proofs.LossLemmas.{going_lost, second_lost}
+use Rattle.paraid_controller.proofs.array.Array.down_there.Goals as goal
+
+pub invariant_of-self : goal.invariant_of-self
+invariant_of-self g c =
+    let a = c.args.self.now in
+    let done = c.in-Ok.ensures in
+    record {
+      serving = λ e. let q = a.serving e in serving_of g.R.Rack.slot_count g.R.Rack.slot c.down.new.core (lengths_of a.windows) a.setup a.slots
+          done.serving (done.known (known_of g.R.Rack.slot_count g.R.Rack.slot a.core (lengths_of a.windows) a.setup a.slots q)) q.windows (done.leaves.setup ∙ q.same_setup) (done.leaves.slots ∙ q.same_slots);
+    }
+
+pub returns-in-Ok-clause-turn : goal.returns-in-Ok-clause-turn
+returns-in-Ok-clause-turn g c =
+    let a = c.args.self.now in
+    let x = c.in-Ok.asked in
+    let n = c.meta.result.now.gear in
+    let gear : n ≡ a.core.meta.gear = ap (λ (m : Meta). m.gear) c.meta.ensures in
+    let told = c.asked_told.ensures in
+    let may : MayTellDown x = down_tells a.core.meta c.down.new.core.meta x (λ f s of why. (c.in-Ok.ensures.refused f s of why).0) c.in-Ok.ensures.begins in
+    core_on g.R.Rack.slot_count g.R.Rack.told a _ c.requires.going c.requires.epoch c.requires.writes Down c.asked_told.result
+    (subst (λ (z : Answer). CoreGoesOn g.R.Rack.slot_count g.R.Rack.told a.core c.down.new.core Down z) (sym told)
+    (subst (λ (y : ℕ). CoreGoesOn g.R.Rack.slot_count g.R.Rack.told a.core c.down.new.core Down (asked_answer y x)) (sym gear) c.in-Ok.ensures.turn))
+    (ap halt_told told ∙ down_going n x may) (λ e. let z : Down ≡ Bad = e in cc) (λ low. ap (with_flush low) told ∙ asked_low n low x) c.requires.going refl refl refl refl
+    (λ s fits. c.saturating_add-self.ensures ∙ ap (λ (y : ℕ). min (a.energy + y) 18446744073709551615) c.asked_energy-used.ensures ∙ asked_used a.setup a.energy s n x ∙ ap (energy_after a.setup a.energy s) (sym told))
+
+pub returns-in-Err-clause-turn : goal.returns-in-Err-clause-turn
+returns-in-Err-clause-turn g c =
+    core_halts g.R.Rack.slot_count g.R.Rack.told c.args.self.now _ c.requires.going c.requires.epoch c.requires.writes Down c.in-Err.two c.in-Err.ensures.halts refl
+    (ap (λ (m : Meta). Some (end_by (HaltTwo c.in-Err.two) m.gear)) c.meta.ensures)
+
+pub returns-in-Ok-clause-halt : goal.returns-in-Ok-clause-halt
+returns-in-Ok-clause-halt g c =
+    let may : MayTellDown c.in-Ok.asked = down_tells c.args.self.now.core.meta c.down.new.core.meta c.in-Ok.asked (λ f s of why. (c.in-Ok.ensures.refused f s of why).0) c.in-Ok.ensures.begins in
+    ap halt_of_end c.requires.going ∙ sym (ap halt_told c.asked_told.ensures ∙ down_going c.meta.result.now.gear c.in-Ok.asked may)
+
+pub returns-in-Ok-clause-kind : goal.returns-in-Ok-clause-kind
+returns-in-Ok-clause-kind g c =
+    let may : MayTellDown c.in-Ok.asked = down_tells c.args.self.now.core.meta c.down.new.core.meta c.in-Ok.asked (λ f s of why. (c.in-Ok.ensures.refused f s of why).0) c.in-Ok.ensures.begins in
+    ap (is_answer_to Down) c.asked_told.ensures ∙ down_kind c.meta.result.now.gear c.in-Ok.asked may
+
+pub returns-in-Ok-clause-few : goal.returns-in-Ok-clause-few
+returns-in-Ok-clause-few g c = subst HasFewDisks (sym c.asked_told.ensures) (asked_few c.meta.result.now.gear c.in-Ok.asked)
+
+pub returns-in-Ok-clause-two : goal.returns-in-Ok-clause-two
+returns-in-Ok-clause-two g c = going_lost _ _ c.args.self.now.ended c.requires.going
+
+pub returns-in-Err-clause-two : goal.returns-in-Err-clause-two
+returns-in-Err-clause-two g c = second_lost _ _ c.in-Err.two c.in-Err.ensures.two.apart c.in-Err.ensures.two.second

@@ -1,0 +1,67 @@
+use Rattle.std.proofs.Common.{◌≡◌, refl, sym, ap, ◌∙◌, Some, subst}
+use Rattle.paraid_base.specs.declared.event.Answer.{Answer}
+use Rattle.paraid_base.specs.declared.event.Event.TheVariants.{Bad, Fail}
+use Rattle.paraid_base.specs.declared.fault.Halt.TheVariants.{Two as HaltTwo}
+use Rattle.paraid_gear.specs.ThreeWindows.{lengths_of}
+use Rattle.paraid_record.specs.declared.meta.Meta.{Meta}
+use Rattle.paraid_array.proofs.ServiceLemmas.{service_serving, serving_service}
+use Rattle.paraid_array.specs.Turns.{CoreGoesOn}
+use Rattle.paraid_image.specs.Shown.{with_flush}
+use Rattle.paraid_machine.specs.Energy.{energy_of}
+use Rattle.paraid_serve.specs.Form.{is_answer_to}
+use Rattle.paraid_session.specs.Turn.{halt_told}
+use Rattle.paraid_trace.specs.Replies.{HasFewDisks}
+use Rattle.paraid_controller.specs.Arrays.{halt_of_end}
+use Rattle.paraid_controller.proofs.AnswerLemmas.{fail_few, fail_going, fail_kind, fail_low, fail_uses}
+use Rattle.paraid_controller.proofs.CoreLemmas.{known_of, serving_of}
+use Rattle.paraid_controller.proofs.EnergyLemmas.{uses_none}
+use Rattle.paraid_controller.proofs.StandLemmas.{end_by}
+use Rattle.paraid_controller.proofs.TurnLemmas.{core_halts, core_on}
+use Rattle.paraid_controller.proofs.LossLemmas.{going_lost, second_lost}
+use Rattle.paraid_controller.proofs.array.Array.fail_there.Goals as goal
+
+pub take_out-requires-clause-service : goal.take_out-requires-clause-service
+take_out-requires-clause-service g c =
+    let a = c.args.self.now in
+    serving_service g.R.Rack.slot_count g.R.Rack.slot a.core (a.serving c.requires.going).serving
+
+pub invariant_of-self : goal.invariant_of-self
+invariant_of-self g c =
+    let a = c.args.self.now in
+    let done = c.in-Ok.ensures in
+    record {
+      serving = λ e. let q = a.serving e in serving_of g.R.Rack.slot_count g.R.Rack.slot c.take_out.new.core (lengths_of a.windows) a.setup a.slots
+          (service_serving g.R.Rack.slot_count g.R.Rack.slot c.take_out.new.core done.service (done.unsynced q.serving.unsynced))
+          (done.known (known_of g.R.Rack.slot_count g.R.Rack.slot a.core (lengths_of a.windows) a.setup a.slots q)) q.windows (done.setup ∙ q.same_setup) (c.take_out.ensures.slots ∙ q.same_slots);
+    }
+
+pub returns-in-Ok-clause-turn : goal.returns-in-Ok-clause-turn
+returns-in-Ok-clause-turn g c =
+    let a = c.args.self.now in
+    let d = c.args.disk in
+    let r = c.in-Ok.refusal in
+    let told = c.fail_told.ensures in
+    core_on g.R.Rack.slot_count g.R.Rack.told a _ c.requires.going c.requires.epoch c.requires.writes (Fail d) c.fail_told.result
+    (subst (λ (z : Answer). CoreGoesOn g.R.Rack.slot_count g.R.Rack.told a.core c.take_out.new.core (Fail d) z) (sym told) c.in-Ok.ensures.turn)
+    (ap halt_told told ∙ fail_going d a.core.meta c.take_out.new.core.meta r c.in-Ok.ensures.refused) (λ e. let z : Fail d ≡ Bad = e in cc) (λ low. ap (with_flush low) told ∙ fail_low d low r) c.requires.going refl refl refl refl
+    (λ s fits. uses_none a.setup a.energy s c.fail_told.result (ap (energy_of a.setup s) told ∙ fail_uses a.setup s d r) fits)
+
+pub returns-in-Err-clause-turn : goal.returns-in-Err-clause-turn
+returns-in-Err-clause-turn g c =
+    core_halts g.R.Rack.slot_count g.R.Rack.told c.args.self.now _ c.requires.going c.requires.epoch c.requires.writes (Fail c.args.disk) c.in-Err.two c.in-Err.ensures.halts refl
+    (ap (λ (m : Meta). Some (end_by (HaltTwo c.in-Err.two) m.gear)) c.meta.ensures)
+
+pub returns-in-Ok-clause-halt : goal.returns-in-Ok-clause-halt
+returns-in-Ok-clause-halt g c = ap halt_of_end c.requires.going ∙ sym (ap halt_told c.fail_told.ensures ∙ fail_going c.args.disk c.args.self.now.core.meta c.take_out.new.core.meta c.in-Ok.refusal c.in-Ok.ensures.refused)
+
+pub returns-in-Ok-clause-kind : goal.returns-in-Ok-clause-kind
+returns-in-Ok-clause-kind g c = ap (is_answer_to (Fail c.args.disk)) c.fail_told.ensures ∙ fail_kind c.args.disk c.args.self.now.core.meta c.take_out.new.core.meta c.in-Ok.refusal c.in-Ok.ensures.refused
+
+pub returns-in-Ok-clause-few : goal.returns-in-Ok-clause-few
+returns-in-Ok-clause-few g c = subst HasFewDisks (sym c.fail_told.ensures) (fail_few c.args.disk c.in-Ok.refusal)
+
+pub returns-in-Ok-clause-two : goal.returns-in-Ok-clause-two
+returns-in-Ok-clause-two g c = going_lost _ _ c.args.self.now.ended c.requires.going
+
+pub returns-in-Err-clause-two : goal.returns-in-Err-clause-two
+returns-in-Err-clause-two g c = second_lost _ _ c.in-Err.two c.in-Err.ensures.two.apart c.in-Err.ensures.two.second

@@ -1,0 +1,88 @@
+use Rattle.std.proofs.Common.{refl, sym, ap, ◌∙◌, ◌+◌, ◌^◌, ◌<◌, Some, ℕ, min, subst}
+use Rattle.paraid_base.specs.declared.fault.Halt.TheVariants.{Two as HaltTwo}
+use Rattle.paraid_gear.specs.ThreeWindows.{lengths_of}
+use Rattle.paraid_record.specs.declared.meta.Meta.{Meta}
+use Rattle.paraid_record.specs.declared.meta.Setup.{Setup}
+use Rattle.paraid_txn.specs.declared.store.Store.{Store}
+use Rattle.paraid_base.specs.declared.state.GearReport.{GearReport}
+use Rattle.paraid_base.specs.declared.state.TickEvent.{TickEvent}
+use Rattle.paraid_base.specs.Places.{sum_before}
+use Rattle.paraid_array.specs.Turns.{CoreTicks}
+use Rattle.paraid_base.specs.Told.{HasRisen}
+use Rattle.paraid_txn.specs.Stores.{store_rack}
+use Rattle.paraid_machine.specs.Energy.{begun_energy}
+use Rattle.paraid_controller.specs.Used.{used_by}
+use Rattle.paraid_controller.proofs.CoreLemmas.{known_of, serving_of}
+use Rattle.paraid_controller.proofs.CountedLemmas.{known_counted, serving_counted}
+use Rattle.paraid_controller.proofs.EnergyLemmas.{tick_uses}
+use Rattle.paraid_controller.proofs.StandLemmas.{end_by}
+use Rattle.paraid_controller.proofs.TickLemmas.{tick_halts, ticks_on}
+use Rattle.paraid_controller.proofs.LossLemmas.{going_lost, second_lost}
+use Rattle.paraid_controller.proofs.array.Array.tick_there.Goals as goal
+
+-- what a tick tells
+abbrev report : ℕ → ℕ → TickEvent → GearReport
+report gear moved event = record { gear = gear; moved = moved; event = event }
+
+pub advance-requires-clause-serving : goal.advance-requires-clause-serving
+advance-requires-clause-serving g c =
+    let a = c.args.self.now in
+    let q = a.serving c.requires.going in
+    let t = c.count_tick.ensures in
+    serving_counted g.R.Rack.slot_count g.R.Rack.slot a.core c.count_tick.new.self t.store t.meta q.serving t.ready (t.serves q.serving.serves) t.draft t.copied
+
+pub advance-requires-clause-known : goal.advance-requires-clause-known
+advance-requires-clause-known g c =
+    let a = c.args.self.now in
+    let t = c.count_tick.ensures in
+    known_counted g.R.Rack.slot_count g.R.Rack.slot a.core c.count_tick.new.self t.store t.meta (known_of g.R.Rack.slot_count g.R.Rack.slot a.core (lengths_of a.windows) a.setup a.slots (a.serving c.requires.going))
+
+pub advance-requires-clause-epoch : goal.advance-requires-clause-epoch
+advance-requires-clause-epoch g c = subst (λ (m : Meta). m.epoch < 2 ^ 62) (sym c.count_tick.ensures.meta) c.requires.epoch
+
+pub advance-requires-clause-lengths : goal.advance-requires-clause-lengths
+advance-requires-clause-lengths g c =
+    let q = c.args.self.now.serving c.requires.going in
+    c.push.ensures.lengths ∙ q.windows ∙ ap (λ (z : Setup). z.windows) (sym q.same_setup) ∙ ap (λ (m : Meta). m.setup.windows) (sym c.count_tick.ensures.meta)
+
+pub invariant_of-self : goal.invariant_of-self
+invariant_of-self g c =
+    let a = c.args.self.now in
+    let t = c.count_tick.ensures in
+    let done = c.in-Ok.ensures in
+    record {
+      serving = λ e. let q = a.serving e in serving_of g.R.Rack.slot_count g.R.Rack.slot c.advance.new.core (lengths_of c.push.new.self) a.setup a.slots
+          done.serving done.known (c.push.ensures.lengths ∙ q.windows) (done.leaves.setup ∙ ap (λ (m : Meta). m.setup) t.meta ∙ q.same_setup)
+          (done.leaves.slots ∙ ap (λ (s : Store _ _). g.R.Rack.slot_count s.rack) t.store ∙ q.same_slots);
+    }
+
+pub returns-in-Ok-clause-turn : goal.returns-in-Ok-clause-turn
+returns-in-Ok-clause-turn g c =
+    let a = c.args.self.now in
+    let t = c.count_tick.ensures in
+    ticks_on g.R.Rack.slot_count g.R.Rack.told a _ c.count_tick.new.self c.requires.going c.requires.epoch c.requires.writes t.store t.meta t.table t.batch t.copied c.saturating_add-self.result
+    (λ s gear phase out. c.saturating_add-self.ensures
+    ∙ ap (λ (n : ℕ). min (a.energy + n) 18446744073709551615) (c.energy_of_tick-used.ensures ∙ ap (λ (m : Meta). sum_before (used_by m) m.setup.geometry.disks) c.meta-2.ensures ∙ tick_uses a.core.meta s gear phase out))
+    c.push.ensures.more (report c.meta-in-Ok.result.now.gear c.in-Ok.moved c.in-Ok.event)
+    (subst (λ (m : Meta). CoreTicks g.R.Rack.slot_count g.R.Rack.told c.push.new.self c.count_tick.new.self c.advance.new.core (report m.gear c.in-Ok.moved c.in-Ok.event)) (sym c.meta-in-Ok.ensures) c.in-Ok.ensures.turn)
+    c.requires.going refl refl refl
+    (c.saturating_add-self-in-Ok.ensures ∙ ap (λ (n : ℕ). min (c.saturating_add-self.result + n) 18446744073709551615)
+    (c.begun_energy-begun.ensures ∙ ap (λ (m : Meta). begun_energy a.setup m.gear c.in-Ok.event) c.meta.ensures))
+
+pub returns-in-Err-clause-turn : goal.returns-in-Err-clause-turn
+returns-in-Err-clause-turn g c =
+    let a = c.args.self.now in
+    let t = c.count_tick.ensures in
+    tick_halts g.R.Rack.slot_count g.R.Rack.told a _ c.count_tick.new.self c.requires.going c.requires.epoch c.requires.writes t.store t.meta t.table t.batch t.copied c.saturating_add-self.result
+    (λ s gear phase out. c.saturating_add-self.ensures
+    ∙ ap (λ (n : ℕ). min (a.energy + n) 18446744073709551615) (c.energy_of_tick-used.ensures ∙ ap (λ (m : Meta). sum_before (used_by m) m.setup.geometry.disks) c.meta-2.ensures ∙ tick_uses a.core.meta s gear phase out))
+    c.push.ensures.more c.in-Err.two c.in-Err.ensures.halts refl (ap (λ (m : Meta). Some (end_by (HaltTwo c.in-Err.two) m.gear)) c.meta.ensures)
+
+pub returns-in-Ok-clause-two : goal.returns-in-Ok-clause-two
+returns-in-Ok-clause-two g c = going_lost _ _ c.args.self.now.ended c.requires.going
+
+pub returns-in-Err-clause-two : goal.returns-in-Err-clause-two
+returns-in-Err-clause-two g c =
+    let lost = c.in-Err.ensures.two in
+    second_lost _ _ c.in-Err.two lost.apart
+    (subst (λ (s : Store _ _). HasRisen (g.R.Rack.slot (store_rack s) c.in-Err.two.second).faults (g.R.Rack.slot (store_rack c.advance.new.core.store) c.in-Err.two.second).faults) c.count_tick.ensures.store lost.second)

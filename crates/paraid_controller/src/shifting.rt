@@ -1,0 +1,138 @@
+//! Shifts of an array that are asked for.
+ghost use Rattle.std.specs.Prelude.{◌≡◌, ◌<◌, ◌^◌, true, None};
+ghost use Rattle.paraid_array.specs.Turns.{asked_answer};
+ghost use Rattle.paraid_base.specs.declared.event.Event.TheVariants.{Down as DownEvent, Up as UpEvent};
+ghost use Rattle.paraid_core.specs.Cores.{meta_of};
+ghost use Rattle.paraid_controller.specs.Used.{asked_energy as energy_asked};
+ghost use Rattle.paraid_serve.specs.Calls.{HaltsBySecondLoss};
+ghost use Rattle.paraid_serve.specs.Form.{is_answer_to};
+ghost use Rattle.paraid_session.specs.Turn.{halt_told};
+ghost use Rattle.paraid_trace.specs.Replies.{HasFewDisks};
+
+use crate::Array;
+use crate::ended::Ended;
+use crate::energy::spin_up_energy;
+use crate::refusing::worn;
+use paraid_array::{Asked, ShiftFault, down, up};
+use paraid_base::{Answer, Halt};
+use paraid_rack::Rack;
+use paraid_record::Setup;
+
+// What is told of a shift that was asked for.
+fn asked_told(gear: u8, asked: Asked) -> Answer
+    ensures { result ≡ asked_answer gear asked }
+{
+    match asked {
+        Asked::Begun { to } => Answer::Shift { gear, to },
+        Asked::Refused(ShiftFault::Halt(halt)) => Answer::Halted(halt),
+        Asked::Refused(ShiftFault::Top) => Answer::Top,
+        Asked::Refused(ShiftFault::Lowest) => Answer::Lowest,
+        Asked::Refused(ShiftFault::Shifting { to }) => Answer::Shifting { to },
+        Asked::Refused(ShiftFault::Out { disk }) => Answer::Out { disk },
+        Asked::Refused(ShiftFault::Ration { disk }) => Answer::Ration { disk },
+    }
+}
+
+// What it uses.
+fn asked_energy(setup: &Setup, gear: u8, asked: Asked) -> u64
+    ensures { result ≡ energy_asked setup.now gear asked }
+{
+    match asked {
+        Asked::Begun { to } => spin_up_energy(setup, gear, to),
+        Asked::Refused(_) => 0,
+    }
+}
+
+impl<R: Rack> Array<R> {
+    ghost use Rattle.paraid_controller.specs.Arrays.{GoesOnByEvent, core_of_array, end_of_array, halt_of_array, setup_of_array, slot_of_array, slots_of_array};
+
+    // Asks for a shift up.
+    fn up_there(&mut self) -> Answer
+        requires going { end_of_array self.old ≡ None }
+        requires epoch { (meta_of (core_of_array self.old)).epoch < 2 ^ 62 }
+        requires writes { (meta_of (core_of_array self.old)).writes < 2 ^ 62 }
+        ensures turn { GoesOnByEvent R.slot_count R.told self.old self.new UpEvent result }
+        ensures slots { slots_of_array self.new ≡ slots_of_array self.old }
+        ensures setup { setup_of_array self.new ≡ setup_of_array self.old }
+        ensures halt { halt_of_array self.new ≡ halt_told result }
+        ensures two { HaltsBySecondLoss (slot_of_array R.slot self.old) (slot_of_array R.slot self.new) (halt_of_array self.new) }
+        ensures kind { is_answer_to UpEvent result ≡ true }
+        ensures few { HasFewDisks result }
+    {
+        let gear = self.core.meta().gear;
+        match up(&mut self.core) {
+            Ok(asked) => {
+                let used = asked_energy(&self.setup, gear, asked);
+                self.energy = self.energy.saturating_add(used);
+                asked_told(gear, asked)
+            }
+            Err(two) => {
+                let halt = Halt::Two(two);
+                self.ended = Some(Ended { halt, gear });
+                Answer::Halted(halt)
+            }
+        }
+    }
+
+    // Asks for a shift down.
+    fn down_there(&mut self) -> Answer
+        requires going { end_of_array self.old ≡ None }
+        requires epoch { (meta_of (core_of_array self.old)).epoch < 2 ^ 62 }
+        requires writes { (meta_of (core_of_array self.old)).writes < 2 ^ 62 }
+        ensures turn { GoesOnByEvent R.slot_count R.told self.old self.new DownEvent result }
+        ensures slots { slots_of_array self.new ≡ slots_of_array self.old }
+        ensures setup { setup_of_array self.new ≡ setup_of_array self.old }
+        ensures halt { halt_of_array self.new ≡ halt_told result }
+        ensures two { HaltsBySecondLoss (slot_of_array R.slot self.old) (slot_of_array R.slot self.new) (halt_of_array self.new) }
+        ensures kind { is_answer_to DownEvent result ≡ true }
+        ensures few { HasFewDisks result }
+    {
+        let gear = self.core.meta().gear;
+        match down(&mut self.core) {
+            Ok(asked) => {
+                let used = asked_energy(&self.setup, gear, asked);
+                self.energy = self.energy.saturating_add(used);
+                asked_told(gear, asked)
+            }
+            Err(two) => {
+                let halt = Halt::Two(two);
+                self.ended = Some(Ended { halt, gear });
+                Answer::Halted(halt)
+            }
+        }
+    }
+
+    /// Answers that a shift up is asked for.
+    pub fn up(&mut self) -> Answer
+        requires going { halt_of_array self.old ≡ None }
+        ensures turn { GoesOnByEvent R.slot_count R.told self.old self.new UpEvent result }
+        ensures slots { slots_of_array self.new ≡ slots_of_array self.old }
+        ensures setup { setup_of_array self.new ≡ setup_of_array self.old }
+        ensures halt { halt_of_array self.new ≡ halt_told result }
+        ensures two { HaltsBySecondLoss (slot_of_array R.slot self.old) (slot_of_array R.slot self.new) (halt_of_array self.new) }
+        ensures kind { is_answer_to UpEvent result ≡ true }
+        ensures few { HasFewDisks result }
+    {
+        if let Some(count) = worn(self.core.meta()) {
+            return Answer::Halted(self.wear_out(count));
+        }
+        self.up_there()
+    }
+
+    /// Answers that a shift down is asked for.
+    pub fn down(&mut self) -> Answer
+        requires going { halt_of_array self.old ≡ None }
+        ensures turn { GoesOnByEvent R.slot_count R.told self.old self.new DownEvent result }
+        ensures slots { slots_of_array self.new ≡ slots_of_array self.old }
+        ensures setup { setup_of_array self.new ≡ setup_of_array self.old }
+        ensures halt { halt_of_array self.new ≡ halt_told result }
+        ensures two { HaltsBySecondLoss (slot_of_array R.slot self.old) (slot_of_array R.slot self.new) (halt_of_array self.new) }
+        ensures kind { is_answer_to DownEvent result ≡ true }
+        ensures few { HasFewDisks result }
+    {
+        if let Some(count) = worn(self.core.meta()) {
+            return Answer::Halted(self.wear_out(count));
+        }
+        self.down_there()
+    }
+}

@@ -1,0 +1,74 @@
+//! Ticks of an array.
+ghost use Rattle.std.specs.Prelude.{◌≡◌, ◌<◌, ◌^◌, true, None};
+ghost use Rattle.paraid_base.specs.declared.event.Event.TheVariants.{Tick as TickEvent};
+ghost use Rattle.paraid_core.specs.Cores.{meta_of};
+ghost use Rattle.paraid_serve.specs.Calls.{HaltsBySecondLoss};
+ghost use Rattle.paraid_serve.specs.Form.{is_answer_to};
+ghost use Rattle.paraid_session.specs.Turn.{halt_told};
+ghost use Rattle.paraid_trace.specs.Replies.{HasFewDisks};
+
+use crate::Array;
+use crate::ended::Ended;
+use crate::energy::{begun_energy, energy_of_tick};
+use crate::refusing::worn;
+use paraid_array::advance;
+use paraid_base::{Answer, GearReport, Halt};
+use paraid_rack::Rack;
+
+impl<R: Rack> Array<R> {
+    ghost use Rattle.paraid_controller.specs.Arrays.{GoesOnByEvent, core_of_array, end_of_array, halt_of_array, setup_of_array, slot_of_array, slots_of_array};
+
+    // Counts a tick, with its sample and what the disks used since the last one, and does what is due.
+    fn tick_there(&mut self) -> Answer
+        requires going { end_of_array self.old ≡ None }
+        requires epoch { (meta_of (core_of_array self.old)).epoch < 2 ^ 62 }
+        requires writes { (meta_of (core_of_array self.old)).writes < 2 ^ 62 }
+        ensures turn { GoesOnByEvent R.slot_count R.told self.old self.new TickEvent result }
+        ensures slots { slots_of_array self.new ≡ slots_of_array self.old }
+        ensures setup { setup_of_array self.new ≡ setup_of_array self.old }
+        ensures halt { halt_of_array self.new ≡ halt_told result }
+        ensures two { HaltsBySecondLoss (slot_of_array R.slot self.old) (slot_of_array R.slot self.new) (halt_of_array self.new) }
+        ensures kind { is_answer_to TickEvent result ≡ true }
+        ensures few { HasFewDisks result }
+    {
+        let gear = self.core.meta().gear;
+        let used = energy_of_tick(self.core.meta());
+        self.core.count_tick();
+        self.windows.push(self.served);
+        self.served = 0;
+        self.energy = self.energy.saturating_add(used);
+        match advance(&mut self.core, &self.windows) {
+            Ok((moved, event)) => {
+                let begun = begun_energy(&self.setup, gear, event);
+                self.energy = self.energy.saturating_add(begun);
+                Answer::Ticked(GearReport {
+                    gear: self.core.meta().gear,
+                    moved,
+                    event,
+                })
+            }
+            Err(two) => {
+                let halt = Halt::Two(two);
+                self.ended = Some(Ended { halt, gear });
+                Answer::Halted(halt)
+            }
+        }
+    }
+
+    /// Answers a tick.
+    pub fn tick(&mut self) -> Answer
+        requires going { halt_of_array self.old ≡ None }
+        ensures turn { GoesOnByEvent R.slot_count R.told self.old self.new TickEvent result }
+        ensures slots { slots_of_array self.new ≡ slots_of_array self.old }
+        ensures setup { setup_of_array self.new ≡ setup_of_array self.old }
+        ensures halt { halt_of_array self.new ≡ halt_told result }
+        ensures two { HaltsBySecondLoss (slot_of_array R.slot self.old) (slot_of_array R.slot self.new) (halt_of_array self.new) }
+        ensures kind { is_answer_to TickEvent result ≡ true }
+        ensures few { HasFewDisks result }
+    {
+        if let Some(count) = worn(self.core.meta()) {
+            return Answer::Halted(self.wear_out(count));
+        }
+        self.tick_there()
+    }
+}

@@ -1,0 +1,365 @@
+-- The parts of the tick with which a rebuild ends.
+use Rattle.std.proofs.Common.{◌≡◌, ◌≢◌, ℕ, ◌+◌, ◌^◌, ◌<◌, ◌≤◌, ◌⊎◌, Bool, true, false, List, [], ◌∷◌, ◌++◌, length, Option, Some, None, refl, sym, ap, ◌∙◌, inl, inr, subst, arith}
+use Rattle.paraid_base.specs.declared.event.Answer.TheVariants.{Halted}
+use Rattle.paraid_base.specs.declared.event.Event.TheVariants.{Tick}
+use Rattle.paraid_base.specs.declared.fault.Halt.TheVariants.{Two as HaltTwo}
+use Rattle.paraid_base.specs.declared.fault.Two.{Two}
+use Rattle.paraid_base.specs.declared.state.Out.TheVariants.{No, Gone, Fresh}
+use Rattle.paraid_base.specs.declared.state.TickEvent.TheVariants.{Gone as GoneAgain, Rebuilt}
+use Rattle.paraid_base.specs.History.{History}
+use Rattle.paraid_base.specs.States.{gone_out, named_out, rising_to}
+use Rattle.paraid_rack.specs.declared.call.Call.{Call}
+use Rattle.paraid_rack.specs.declared.call.Call.TheVariants.{Park}
+use Rattle.paraid_rack.specs.declared.call.Power.{Power}
+use Rattle.paraid_rack.specs.Disks.{Disks, is_present}
+use Rattle.paraid_rack.specs.Told.{Ran}
+use Rattle.paraid_rack.specs.Trail.{Trail, now, run}
+use Rattle.paraid_rack.proofs.TrailsLemmas.{now-extend}
+use Rattle.paraid_record.specs.declared.meta.Meta.{Meta}
+use Rattle.paraid_record.specs.declared.meta.Setup.{Setup}
+use Rattle.paraid_image.specs.Lost.{TellsLosses, fails_on, first_lost}
+use Rattle.paraid_image.specs.Mark.{meta_after_loss}
+use Rattle.paraid_core.specs.Calls.{IsOneCall}
+use Rattle.paraid_core.specs.CoreInvariant.{meta_with_lost}
+use Rattle.paraid_core.proofs.CommitLemmas.{both_of}
+use Rattle.paraid_machine.specs.Machine.{report}
+use Rattle.paraid_machine.specs.Moves.{state_with_tick, units_to_rebuild}
+use Rattle.paraid_moves.specs.MoveMetas.{meta_with_out}
+use Rattle.paraid_session.specs.Turn.{GoesOn, Point, point_wear}
+use Rattle.paraid_session.specs.Watch.{Watch, watch_all}
+use Rattle.paraid_serve.specs.Calls.{watch_at}
+use Rattle.paraid_startup.proofs.DownLemmas.{watched_disks}
+use Rattle.paraid_event.specs.Lost.{TellsTwo}
+use Rattle.paraid_event.specs.Marks.{IsMarkedBy, ShowsMeta}
+use Rattle.paraid_event.specs.Parts.{AreEventCalls, EndsEvent, LosesInEvent, ServesEvent}
+use Rattle.paraid_event.specs.RebuildEnds.{CommitsRejoined, CopiesRest, FinishesRebuild, IsParkCall, LosesFinishing, MarksRejoined, ParksBack, ParksInEvent, RejoinsDisk}
+use Rattle.paraid_event.specs.RebuildEnds.FinishesRebuild.{committing, copying}
+use Rattle.paraid_event.specs.RebuildEnds.LosesFinishing.{as_committed, as_copied}
+use Rattle.paraid_event.specs.RebuildEnds.ParksBack.{fails, parks, stays}
+use Rattle.paraid_event.specs.RebuildTicks.{CountsRebuild, MarksGoneAgain}
+use Rattle.paraid_event.specs.Service.{IsStateOf, Service}
+use Rattle.paraid_event.specs.Stands.{ServiceStandsFor, StandsAt}
+use Rattle.paraid_event.specs.Steps.{AreStepCalls, GoesInSteps, IsUnderway, LosesInSteps, ServesAndMarks, StepsInEvent}
+use Rattle.paraid_event.specs.Ticks.{CountsTick, IsHaltedWith}
+use Rattle.paraid_event.proofs.EndLemmas.{fails_split}
+use Rattle.paraid_event.proofs.FailLemmas.{watch_append}
+use Rattle.paraid_event.proofs.MarksLemmas.{kept_out, lost_out}
+use Rattle.paraid_event.proofs.ParkBackLemmas.{IsEnded, ended_gone, ended_parked, ended_spinning, lost_by, park_away, park_calls}
+use Rattle.paraid_event.proofs.RebuildEndLemmas.{back_state, ended_turn, ends_as, moved_as, out_as, state_as}
+use Rattle.paraid_event.proofs.RebuildTickLemmas.{gone_state, gone_told, out1, rebuild_loses, some_trail, underway1}
+use Rattle.paraid_event.proofs.RejoinLemmas.{GoesBack, IsBack, back_after, calls_then, rejoin_calls, rejoined}
+use Rattle.paraid_event.proofs.ShownLemmas.{shown_rests}
+use Rattle.paraid_event.proofs.StepLemmas.{data_steps, fails_later, follow, lose_then, ran_both, ran_then}
+use Rattle.paraid_event.proofs.StepMarkLemmas.{fresh_of}
+
+-- a disk that was marked where none was out is absent
+lost_away : (power : ℕ → Power) (m new : Meta) → IsMarkedBy power m new → m.out ≡ No → (d : ℕ) → new.out ≡ Gone d → is_present (power d) ≡ false
+lost_away power m new marks none_out d is = by marks.lost refl
+  where
+    by : (o : Option ℕ) → marks.lost ≡ o → is_present (power d) ≡ false
+    by None none = let z : No ≡ Gone d = sym none_out ∙ sym (kept_out power m new marks none) ∙ is in cc
+    by (Some x) some =
+        let z : Gone x ≡ Gone d = sym (lost_out power m new marks x some) ∙ is in
+        let same_disk : x ≡ d = cc in
+        subst (λ (y : ℕ). is_present (power y) ≡ false) same_disk (marks.absent x some)
+
+-- the units that are left are copied, and the core stands with the disk back too
+copies_goes : (j copied joined : Service) → copied.slots ≡ j.slots → (h : History) (lo : ℕ) (s : Disks) (cs : List Call) → CopiesRest j copied joined h lo s cs → (base : Meta) (w : Watch) → w.disks ≡ s → IsUnderway j h lo base w
+    → GoesInSteps j copied h lo 0 (IsUnderway copied h lo) base w cs × ServiceStandsFor joined h lo (watch_all cs w).disks
+copies_goes j copied joined slots h lo s cs rest base w same at =
+    let here = subst (λ (u : Disks). ServesAndMarks j copied joined h lo u cs) (sym same) rest.0 at.midway.stands.keeps (subst (λ (m : Meta). ShowsMeta w.disks.power m j.meta) (sym at.midway.stands.is_base) at.shown) in (
+      data_steps j copied h lo lo (omega arith) slots s cs ((λ z shows. let x = rest.0 z shows in (x.0, x.1)), rest.1) base w same at,
+      subst (ServiceStandsFor joined h lo) (sym (watched_disks w cs)) here.2,
+    )
+
+-- So parts of an event go to where disk `d`, which was out, is back or lost again; then it is absent.
+abbrev BackFrom : Service → Service → History → ℕ → ℕ → ℕ → Disks → List Call → Type 0
+BackFrom k back h lo most d s cs = (base : Meta) (w : Watch) → w.disks ≡ s → IsUnderway k h lo base w → named_out k.meta.out ≡ Some d
+    → GoesBack k back h lo most d base w cs × (back.meta.out ≡ Gone d → is_present ((watch_all cs w).disks.power d) ≡ false)
+
+-- or a second one is lost in them
+abbrev LosesFrom : Service → History → ℕ → ℕ → ℕ → Two → Disks → List Call → Type 0
+LosesFrom k h lo most d two s cs = (base : Meta) (w : Watch) → w.disks ≡ s → IsUnderway k h lo base w → named_out k.meta.out ≡ Some d → AreStepCalls k h lo most base w cs × TellsLosses (Some d) two cs
+
+later_losses : (d : ℕ) (two : Two) (cs ds : List Call) → TellsLosses (Some d) two ds → TellsLosses (Some d) two (cs ++ ds)
+later_losses d two cs ds tells = record {
+  second = fails_later cs ds two.second tells.second;
+  apart = tells.apart;
+  first = elim tells.first [ inl was ↦ inl was | inr none ↦ absurd (let z : Some d ≡ None = none.0 in cc) ];
+}
+
+module _ (j copied joined : Service) (h : History) (lo d : ℕ) (there : gone_out j.meta.out ≡ None) (same : copied.meta ≡ j.meta) (slots : copied.slots ≡ j.slots) (mark : joined ≡ record copied { meta = meta_with_out copied.meta No }) where
+  abbrev back_now : Service
+  back_now = record copied { meta = meta_with_out copied.meta No }
+
+  fresh_copied : named_out j.meta.out ≡ Some d → (u : ℕ) × (copied.meta.out ≡ Fresh d u)
+  fresh_copied named = let it = fresh_of j.meta.out d named there in (it.0, ap (λ (m : Meta). m.out) same ∙ it.1)
+
+  -- that it is back is committed
+  rejoin_from : (back : Service) → ((e : ℕ) → named_out back.meta.out ≡ Some e → e ≡ d) → back.meta.epoch ≡ joined.meta.epoch + 1 → back.slots ≡ joined.slots
+      → (s : Disks) (cs ds : List Call) → CopiesRest j copied joined h lo s cs → ServesEvent joined back h lo h (length h) (run s cs) ds → BackFrom j back h lo (0 + 1) d s (cs ++ ds)
+  rejoin_from back alone epoch more_slots s cs ds rest serves base w same_disks at named =
+      let goes = copies_goes j copied joined slots h lo s cs rest base w same_disks at in
+      let fresh = fresh_copied named in
+      let end : (watch_all cs w).disks ≡ run s cs = watched_disks w cs ∙ ap (λ (u : Disks). run u cs) same_disks in
+      let keeps : ServiceStandsFor back_now h lo (watch_all cs w).disks = subst (λ (z : Service). ServiceStandsFor z h lo (watch_all cs w).disks) mark goes.1 in
+      let both = subst (λ (z : Service). ServesEvent z back h lo h (length h) (watch_all cs w).disks ds) mark (subst (λ (u : Disks). ServesEvent joined back h lo h (length h) u ds) (sym end) serves) keeps in
+      let le : lo ≤ length h = (let l = keeps.copies.low in let m = keeps.copies.high in omega (arith, l, m)) in
+      let more : back.meta.epoch ≡ copied.meta.epoch + 1 = (let e : joined.meta.epoch ≡ copied.meta.epoch = ap (λ (z : Service). z.meta.epoch) mark in omega (arith, epoch, e)) in
+      let second = rejoined copied d fresh.0 h lo goes.0.base_then (watch_all cs w) goes.0.ends fresh.1 keeps ds both.0 back (length h) le both.1 alone (more_slots ∙ ap (λ (z : Service). z.slots) mark) more in (
+        back_after j copied back h lo 0 1 d base w cs ds goes.0 second,
+        (λ is. subst (λ (u : Watch). is_present (u.disks.power d) ≡ false) (sym (watch_append cs ds w))
+            (subst (λ (u : Disks). is_present (u.power d) ≡ false) (sym (watched_disks (watch_all cs w) ds)) (lost_away (run (watch_all cs w).disks ds).power back_now.meta back.meta both.1.marks refl d is))),
+      )
+
+  -- or a second disk is lost in that commit
+  lose_from : (two : Two) (s : Disks) (cs ds : List Call) → CopiesRest j copied joined h lo s cs → LosesInEvent joined h lo (run s cs) ds × TellsLosses (Some d) two ds → LosesFrom j h lo (0 + 1) d two s (cs ++ ds)
+  lose_from two s cs ds rest loses base w same_disks at named =
+      let goes = copies_goes j copied joined slots h lo s cs rest base w same_disks at in
+      let fresh = fresh_copied named in
+      let end : (watch_all cs w).disks ≡ run s cs = watched_disks w cs ∙ ap (λ (u : Disks). run u cs) same_disks in
+      let keeps : ServiceStandsFor back_now h lo (watch_all cs w).disks = subst (λ (z : Service). ServiceStandsFor z h lo (watch_all cs w).disks) mark goes.1 in
+      let part = subst (λ (z : Service). LosesInEvent z h lo (watch_all cs w).disks ds) mark (subst (λ (u : Disks). LosesInEvent joined h lo u ds) (sym end) loses.0) keeps in
+      let second = rejoin_calls copied d fresh.0 h lo goes.0.base_then (watch_all cs w) goes.0.ends fresh.1 keeps ds part in (
+        calls_then j copied h lo 0 1 base goes.0.base_then w cs ds goes.0.leaves.slots goes.0.leaves.setup goes.0.leaves.ticks goes.0.room goes.0.calls second,
+        later_losses d two cs ds loses.1,
+      )
+
+-- parts of the event before
+back_before : (k j back : Service) (h : History) (lo most more d : ℕ) (s : Disks) (cs ds : List Call) → StepsInEvent k j h lo most s cs → BackFrom j back h lo more d (run s cs) ds → BackFrom k back h lo (most + more) d s (cs ++ ds)
+back_before k j back h lo most more d s cs ds steps from base w same at named =
+    let goes = steps base w same at in
+    let second = from goes.base_then (watch_all cs w) (watched_disks w cs ∙ ap (λ (u : Disks). run u cs) same) goes.ends (goes.leaves.still d named) in (
+      back_after k j back h lo most more d base w cs ds goes second.0,
+      (λ is. subst (λ (u : Watch). is_present (u.disks.power d) ≡ false) (sym (watch_append cs ds w)) (second.1 is)),
+    )
+
+lose_before : (k j : Service) (h : History) (lo most more d : ℕ) (two : Two) (named : named_out k.meta.out ≡ Some d) (s : Disks) (cs ds : List Call) → StepsInEvent k j h lo most s cs → LosesFrom j h lo more d two (run s cs) ds → LosesInSteps k h lo (most + more) two s (cs ++ ds)
+lose_before k j h lo most more d two named s cs ds steps from base w same at =
+    let goes = steps base w same at in
+    let second = from goes.base_then (watch_all cs w) (watched_disks w cs ∙ ap (λ (u : Disks). run u cs) same) goes.ends (goes.leaves.still d named) in (
+      calls_then k j h lo most more base goes.base_then w cs ds goes.leaves.slots goes.leaves.setup goes.leaves.ticks goes.room goes.calls second.0,
+      subst (λ (o : Option ℕ). TellsLosses o two (cs ++ ds)) (sym named) (later_losses d two cs ds second.1),
+    )
+
+-- The event ends so.
+record EndsIn (k k_then : Service) (h : History) (lo bound d : ℕ) (base : Meta) (w : Watch) (cs : List Call) : Type 0 where
+  calls : AreStepCalls k h lo bound base w cs
+  base_then : Meta
+  ended : IsEnded k k_then h lo d base_then (watch_all cs w)
+  away : k_then.meta.out ≡ Gone d → is_present ((watch_all cs w).disks.power d) ≡ false
+
+abbrev EndsFrom : Service → Service → History → ℕ → ℕ → ℕ → Disks → List Call → Type 0
+EndsFrom k k_then h lo bound d s cs = (base : Meta) (w : Watch) → w.disks ≡ s → IsUnderway k h lo base w → named_out k.meta.out ≡ Some d → EndsIn k k_then h lo bound d base w cs
+
+-- with an end that is told of where the disk is back
+ended_for : (k back k_then : Service) (h : History) (lo d : ℕ) (base : Meta) (w : Watch) → back.slots ≡ k.slots → back.meta.setup ≡ k.meta.setup → IsEnded back k_then h lo d base w → IsEnded k k_then h lo d base w
+ended_for k back k_then h lo d base w slots setup it = record {
+  slots = it.slots ∙ slots;
+  setup = it.setup ∙ setup;
+  midway = it.midway;
+  only = it.only;
+  shown = it.shown;
+  powered = it.powered;
+}
+
+-- it is lost again, or spins on
+ends_gone : (k back : Service) (h : History) (lo most d : ℕ) → back.meta.out ≡ Gone d → (s : Disks) (cs : List Call) → BackFrom k back h lo most d s cs → EndsFrom k back h lo most d s cs
+ends_gone k back h lo most d gone s cs from base w same at named =
+    let it = from base w same at named in
+    let goes = it.0 in
+    record {
+      calls = goes.calls;
+      base_then = goes.base_then;
+      ended = ended_for k back back h lo d goes.base_then (watch_all cs w) goes.slots goes.setup (ended_gone back h lo d goes.base_then (watch_all cs w) goes.ends gone);
+      away = it.1;
+    }
+
+ends_spinning : (k back : Service) (h : History) (lo most d : ℕ) → back.meta.out ≡ No → (d < back.meta.gear) ⊎ (d < rising_to back.meta.phase) → (s : Disks) (cs : List Call) → BackFrom k back h lo most d s cs → EndsFrom k back h lo most d s cs
+ends_spinning k back h lo most d none_out under s cs from base w same at named =
+    let it = from base w same at named in
+    let goes = it.0 in
+    record {
+      calls = goes.calls;
+      base_then = goes.base_then;
+      ended = ended_for k back back h lo d goes.base_then (watch_all cs w) goes.slots goes.setup (ended_spinning back h lo d goes.base_then (watch_all cs w) goes.ends none_out under);
+      away = it.1;
+    }
+
+-- or it is parked, or lost in that
+ends_parked : (k back k_then : Service) (h : History) (lo most d : ℕ) (done : Bool) → back.batch ≡ [] → back.meta.out ≡ No → back.meta.gear ≤ d → rising_to back.meta.phase ≤ d → k_then.slots ≡ back.slots → k_then.meta ≡ meta_with_lost (lost_by d done) back.meta
+    → (s : Disks) (cs ds : List Call) → BackFrom k back h lo most d s cs → ParksInEvent back k_then h lo d done (run s cs) ds → EndsFrom k k_then h lo (most + 0) d s (cs ++ ds)
+ends_parked k back k_then h lo most d done nothing none_out past_gear past_rise slots meta_is s cs ds from park base w same at named =
+    let goes = (from base w same at named).0 in
+    let v = watch_all cs w in
+    let end : v.disks ≡ run s cs = watched_disks w cs ∙ ap (λ (u : Disks). run u cs) same in
+    let shows = subst (λ (m : Meta). ShowsMeta v.disks.power m back.meta) (sym goes.ends.midway.stands.is_base) goes.ends.shown in
+    let it = subst (λ (u : Disks). ParksInEvent back k_then h lo d done u ds) (sym end) park (shown_rests back h lo v.disks goes.ends.midway.stands.keeps shows nothing) in
+    let held = subst (λ (es : List Call). IsParkCall back h lo d done v.disks es) it.0.is it.0 in
+    let keeps = subst (λ (es : List Call). ServiceStandsFor k_then h lo (run v.disks es)) it.0.is it.1 in
+    subst (λ (es : List Call). EndsIn k k_then h lo (most + 0) d base w (cs ++ es)) (sym it.0.is) (record {
+      calls = calls_then k back h lo most 0 base goes.base_then w cs (Park d done ∷ []) goes.slots goes.setup goes.ticks goes.room goes.calls
+          (park_calls back h lo d goes.base_then v goes.ends none_out past_gear past_rise done held.lawful held.held);
+      base_then = goes.base_then;
+      ended = subst (IsEnded k k_then h lo d goes.base_then) (sym (watch_append cs (Park d done ∷ []) w))
+          (ended_for k back k_then h lo d goes.base_then (watch_all (Park d done ∷ []) v) goes.slots goes.setup
+          (ended_parked back h lo d goes.base_then v goes.ends none_out past_gear past_rise done held.lawful held.held k_then slots meta_is keeps));
+      away = λ is. subst (λ (u : Watch). is_present (u.disks.power d) ≡ false) (sym (watch_append cs (Park d done ∷ []) w))
+          (park_away back h lo d goes.base_then v goes.ends none_out past_gear past_rise done held.lawful held.held k_then slots meta_is keeps is);
+    })
+
+-- what is told of the parts up to the commit
+module _ (told before mid : Option Trail) (k1 j back : Service) (h : History) (lo most d : ℕ) (steps : Ran told before (StepsInEvent k1 j h lo most)) where
+  back_told : (m : Option Trail) (copied joined : Service) → RejoinsDisk before m j copied joined h lo → CommitsRejoined m mid joined back h lo d → Ran told mid (BackFrom k1 back h lo (most + (0 + 1)) d)
+  back_told m copied joined rejoins commits =
+      ran_both (StepsInEvent k1 j h lo most) (BackFrom j back h lo (0 + 1) d) (BackFrom k1 back h lo (most + (0 + 1)) d)
+      (λ s cs ds x y. back_before k1 j back h lo most (0 + 1) d s cs ds x y) told before mid steps
+      (ran_both (CopiesRest j copied joined h lo) (ServesEvent joined back h lo h (length h)) (BackFrom j back h lo (0 + 1) d)
+      (λ s cs ds x y. rejoin_from j copied joined h lo d rejoins.there rejoins.same rejoins.slots rejoins.mark back commits.alone commits.epoch commits.slots s cs ds x y) before m mid rejoins.ran commits.ran)
+
+  pub loses_told : named_out k1.meta.out ≡ Some d → (two : Two) → LosesFinishing before mid j h lo d two → Ran told mid (LosesInSteps k1 h lo (most + (0 + 1)) two)
+  loses_told named two (as_copied loses) =
+      ran_both (StepsInEvent k1 j h lo most) (LosesInSteps j h lo 0 two) (LosesInSteps k1 h lo (most + (0 + 1)) two)
+      (λ s cs ds x y. loses_more s (cs ++ ds) (lose_then k1 j h lo most 0 two s cs ds x y)) told before mid steps loses
+    where
+      loses_more : (s : Disks) (cs : List Call) → LosesInSteps k1 h lo (most + 0) two s cs → LosesInSteps k1 h lo (most + (0 + 1)) two s cs
+      loses_more s cs loses base w same at = let x = loses base w same at in (
+        record { moments = λ b asked setup ticks room. x.0.moments b asked setup ticks (omega (arith, room)); attaches = x.0.attaches },
+        x.1,
+      )
+  loses_told named two (as_committed m copied joined rejoins loses) =
+      ran_both (StepsInEvent k1 j h lo most) (LosesFrom j h lo (0 + 1) d two) (LosesInSteps k1 h lo (most + (0 + 1)) two)
+      (λ s cs ds x y. lose_before k1 j h lo most (0 + 1) d two named s cs ds x y) told before mid steps
+      (ran_both (CopiesRest j copied joined h lo) (λ s cs. LosesInEvent joined h lo s cs × TellsLosses (Some d) two cs) (LosesFrom j h lo (0 + 1) d two)
+      (λ s cs ds x y. lose_from j copied joined h lo d rejoins.there rejoins.same rejoins.slots rejoins.mark two s cs ds x y) before m mid rejoins.ran loses)
+
+-- in one call no two disks are lost
+pub one_call_loses_one : (mid told_then : Option Trail) (d : ℕ) (two : Two) → Ran mid told_then (IsOneCall (λ done. Park d done)) → Ran mid told_then (λ s cs. TellsLosses None two cs) → told_then ≡ None
+one_call_loses_one mid told_then d two calls loses = by told_then refl
+  where
+    first_is : (done : Bool) → first_lost (Park d done ∷ []) ≡ Some two.first → d ≡ two.first
+    first_is true is = let z : None ≡ Some two.first = is in cc
+    first_is false is = let z : Some d ≡ Some two.first = is in cc
+
+    second_is : (done : Bool) → fails_on two.second (Park d done ∷ []) ≡ true → d ≡ two.second
+    second_is done is = elim (fails_split (Park d done) [] two.second is) [
+      | inl here ↦ here.1
+      | inr later ↦ let z : false ≡ true = later in cc
+    ]
+
+    never : (done : Bool) (cs : List Call) → cs ≡ Park d done ∷ [] → TellsLosses None two cs → ⊥
+    never done cs is tells =
+        let second = second_is done (subst (λ (es : List Call). fails_on two.second es ≡ true) is tells.second) in
+        elim tells.first [
+          | inl was ↦ let z : None ≡ Some two.first = was in cc
+          | inr first ↦ tells.apart (sym (first_is done (subst (λ (es : List Call). first_lost es ≡ Some two.first) is first.1)) ∙ second)
+        ]
+
+    by : (o : Option Trail) → told_then ≡ o → told_then ≡ None
+    by None is = is
+    by (Some t) is =
+        let r = both_of (IsOneCall (λ done. Park d done)) (λ s cs. TellsLosses None two cs) mid told_then calls loses t is in
+        absurd (never r.holds.0.0 r.calls r.holds.0.1 r.holds.1)
+
+module _ (told : Option Trail) (k k1 : Service) (setup : Setup) (p : Point) (at : StandsAt told k setup p) (d rebuilt : ℕ) (is_fresh : p.state.out ≡ Fresh d rebuilt) (counts : CountsTick k k1) (fit : point_wear p < 2 ^ 62) where
+  abbrev h : History
+  h = p.history
+
+  abbrev lo : ℕ
+  lo = p.low
+
+  abbrev left : ℕ
+  left = units_to_rebuild setup (state_with_tick p.state) d rebuilt
+
+  abbrev w0 : Watch
+  w0 = watch_at p
+
+  named1 : named_out k1.meta.out ≡ Some d
+  named1 = ap named_out (out1 told k k1 setup p at d rebuilt is_fresh counts fit 0 (omega arith))
+
+  -- an end that is told is a turn
+  ends_turn : (bound : ℕ) → bound ≤ 2 ^ 20 → (came : Bool) (k2 : Service) (told_then : Option Trail) → CountsRebuild k k1 k2 → (came ≡ true → left ≤ setup.rate) → k2.meta.out ≡ out_as d came → IsStateOf k2 (state_as (state_with_tick p.state) d came)
+      → Ran told told_then (EndsFrom k1 k2 h lo bound d) → Ran told told_then (GoesOn k.slots setup p Tick (report p.state (moved_as left came) (ends_as d came)).0 (StandsAt told_then k2 setup))
+  ends_turn bound few came k2 told_then counts2 fits_rate out2 state2 ran t tells =
+      let r = ran t tells in
+      let from : now r.from ≡ p.disks = at.disks r.from r.was in
+      let it = r.holds p.meta w0 (sym from) (underway1 told k k1 setup p at d rebuilt is_fresh counts fit bound few) named1 in
+      let end : now t ≡ (watch_all r.calls w0).disks = ap now r.is ∙ now-extend r.from r.calls ∙ ap (λ (s : Disks). run s r.calls) from ∙ sym (watched_disks w0 r.calls) in
+      record {
+        from = r.from;
+        was = r.was;
+        calls = r.calls;
+        is = r.is;
+        holds = ended_turn told k k1 setup p at d rebuilt is_fresh counts fit bound few came k2 counts2 fits_rate r.calls it.calls it.base_then it.ended out2 state2
+            (λ is. it.away (out2 ∙ ap (out_as d) is)) told_then (λ u u_tells. ap now (some_trail u t (sym u_tells ∙ tells)) ∙ end);
+      }
+
+  module _ (before mid told_then : Option Trail) (j back k2 : Service) (most : ℕ) (few : most + 1 ≤ 2 ^ 20) (counts2 : CountsRebuild k k1 k2) (steps : Ran told before (StepsInEvent k1 j h lo most)) where
+    abbrev up_to : ℕ
+    up_to = most + (0 + 1)
+
+    -- the disk is back, and is parked where the gear does not need it
+    pub back_turn : MarksRejoined k1 k2 → left ≤ setup.rate → FinishesRebuild before mid j back h lo d → ParksBack mid told_then back k2 h lo d → Ran told told_then (GoesOn k.slots setup p Tick (report p.state left (Rebuilt d)).0 (StandsAt told_then k2 setup))
+    back_turn marks few_left finish park = by_finish finish
+      where
+        none_out2 : k2.meta.out ≡ No
+        none_out2 = ap (λ (m : Meta). m.out) marks.is
+
+        none_out : ParksBack mid told_then back k2 h lo d → back.meta.out ≡ No
+        none_out (stays under told_is is) = ap (λ (z : Service). z.meta.out) (sym is) ∙ none_out2
+        none_out (parks past_gear past_rise slots meta_is ran) = ap (λ (m : Meta). m.out) (sym meta_is) ∙ none_out2
+        none_out (fails past_gear past_rise slots meta_is ran) = absurd (let z : No ≡ Gone d = sym none_out2 ∙ ap (λ (m : Meta). m.out) meta_is in cc)
+
+        turn : (bound : ℕ) → bound ≤ 2 ^ 20 → Ran told told_then (EndsFrom k1 k2 h lo bound d) → Ran told told_then (GoesOn k.slots setup p Tick (report p.state left (Rebuilt d)).0 (StandsAt told_then k2 setup))
+        turn bound le ran = ends_turn bound le true k2 told_then counts2 (λ e. few_left) none_out2 (back_state told k k1 setup p at d rebuilt is_fresh counts fit bound le k2 counts2 marks) ran
+
+        by_park : back.batch ≡ [] → Ran told mid (BackFrom k1 back h lo up_to d) → ParksBack mid told_then back k2 h lo d → Ran told told_then (GoesOn k.slots setup p Tick (report p.state left (Rebuilt d)).0 (StandsAt told_then k2 setup))
+        by_park nothing from (stays under told_is is) = turn up_to (omega (arith, few))
+            (subst (λ (z : Service). Ran told told_then (EndsFrom k1 z h lo up_to d)) (sym is) (subst (λ (o : Option Trail). Ran told o (EndsFrom k1 back h lo up_to d)) (sym told_is)
+            (ran_then (BackFrom k1 back h lo up_to d) (EndsFrom k1 back h lo up_to d) (λ s cs x. ends_spinning k1 back h lo up_to d (none_out park) under s cs x) told mid from)))
+        by_park nothing from (parks past_gear past_rise slots meta_is ran) = turn (up_to + 0) (omega (arith, few))
+            (ran_both (BackFrom k1 back h lo up_to d) (ParksInEvent back k2 h lo d true) (EndsFrom k1 k2 h lo (up_to + 0) d)
+            (λ s cs ds x y. ends_parked k1 back k2 h lo up_to d true nothing (none_out park) past_gear past_rise slots meta_is s cs ds x y) told mid told_then from ran)
+        by_park nothing from (fails past_gear past_rise slots meta_is ran) = absurd (let z : No ≡ Gone d = sym none_out2 ∙ ap (λ (m : Meta). m.out) meta_is in cc)
+
+        by_finish : FinishesRebuild before mid j back h lo d → Ran told told_then (GoesOn k.slots setup p Tick (report p.state left (Rebuilt d)).0 (StandsAt told_then k2 setup))
+        by_finish (copying gone absent ran) = absurd (let z : No ≡ Gone d = sym (none_out park) ∙ gone in cc)
+        by_finish (committing m copied joined rejoins commits) = by_park commits.nothing_staged (back_told told before mid k1 j back h lo most d steps m copied joined rejoins commits) park
+
+    -- it is lost in the park
+    pub park_failed_turn : MarksRejoined k1 back → MarksGoneAgain k1 k2 d → FinishesRebuild before mid j back h lo d → ParksBack mid told_then back k2 h lo d → Ran told told_then (GoesOn k.slots setup p Tick (report p.state 0 (GoneAgain d)).0 (StandsAt told_then k2 setup))
+    park_failed_turn marks marks2 finish park = by_finish finish
+      where
+        none_out : back.meta.out ≡ No
+        none_out = ap (λ (m : Meta). m.out) marks.is
+
+        gone2 : k2.meta.out ≡ Gone d
+        gone2 = ap (λ (m : Meta). m.out) marks2.is
+
+        by_park : back.batch ≡ [] → Ran told mid (BackFrom k1 back h lo up_to d) → ParksBack mid told_then back k2 h lo d → Ran told told_then (GoesOn k.slots setup p Tick (report p.state 0 (GoneAgain d)).0 (StandsAt told_then k2 setup))
+        by_park nothing from (stays under told_is is) = absurd (let z : No ≡ Gone d = sym none_out ∙ ap (λ (s : Service). s.meta.out) (sym is) ∙ gone2 in cc)
+        by_park nothing from (parks past_gear past_rise slots meta_is ran) = absurd (let z : No ≡ Gone d = sym none_out ∙ ap (λ (m : Meta). m.out) (sym meta_is) ∙ gone2 in cc)
+        by_park nothing from (fails past_gear past_rise slots meta_is ran) = ends_turn (up_to + 0) (omega (arith, few)) false k2 told_then counts2 (λ e. let z : false ≡ true = e in cc) gone2
+            (gone_state told k k1 setup p at d rebuilt is_fresh counts fit (up_to + 0) (omega (arith, few)) k2 counts2 marks2)
+            (ran_both (BackFrom k1 back h lo up_to d) (ParksInEvent back k2 h lo d false) (EndsFrom k1 k2 h lo (up_to + 0) d)
+            (λ s cs ds x y. ends_parked k1 back k2 h lo up_to d false nothing none_out past_gear past_rise slots meta_is s cs ds x y) told mid told_then from ran)
+
+        by_finish : FinishesRebuild before mid j back h lo d → Ran told told_then (GoesOn k.slots setup p Tick (report p.state 0 (GoneAgain d)).0 (StandsAt told_then k2 setup))
+        by_finish (copying gone absent ran) = absurd (let z : No ≡ Gone d = sym none_out ∙ gone in cc)
+        by_finish (committing m copied joined rejoins commits) = by_park commits.nothing_staged (back_told told before mid k1 j back h lo most d steps m copied joined rejoins commits) park
+
+  module _ (before told_then : Option Trail) (j k2 : Service) (most : ℕ) (few : most + 1 ≤ 2 ^ 20) (steps : Ran told before (StepsInEvent k1 j h lo most)) where
+    -- it is lost before that
+    pub finish_gone_turn : CountsRebuild k k1 k2 → MarksGoneAgain k1 k2 d → FinishesRebuild before told_then j k2 h lo d → Ran told told_then (GoesOn k.slots setup p Tick (report p.state 0 (GoneAgain d)).0 (StandsAt told_then k2 setup))
+    finish_gone_turn counts2 marks2 (copying gone absent ran) = gone_told told k k1 setup p at d rebuilt is_fresh counts fit (most + 0) (omega (arith, few)) k2 counts2 marks2 told_then absent
+        (ran_both (StepsInEvent k1 j h lo most) (StepsInEvent j k2 h lo 0) (StepsInEvent k1 k2 h lo (most + 0)) (λ s cs ds x y. follow k1 j k2 h lo most 0 s cs ds x y) told before told_then steps ran)
+    finish_gone_turn counts2 marks2 (committing m copied joined rejoins commits) =
+        let gone2 : k2.meta.out ≡ Gone d = ap (λ (m : Meta). m.out) marks2.is in
+        ends_turn (most + (0 + 1)) (omega (arith, few)) false k2 told_then counts2 (λ e. let z : false ≡ true = e in cc) gone2
+        (gone_state told k k1 setup p at d rebuilt is_fresh counts fit (most + (0 + 1)) (omega (arith, few)) k2 counts2 marks2)
+        (ran_then (BackFrom k1 k2 h lo (most + (0 + 1)) d) (EndsFrom k1 k2 h lo (most + (0 + 1)) d) (λ s cs x. ends_gone k1 k2 h lo (most + (0 + 1)) d gone2 s cs x) told told_then
+        (back_told told before told_then k1 j k2 h lo most d steps m copied joined rejoins commits))
+
+    -- a second disk is lost
+    pub finish_loses_turn : (two : Two) → LosesFinishing before told_then j h lo d two → Ran told told_then (GoesOn k.slots setup p Tick (Halted (HaltTwo two)) (IsHaltedWith p (HaltTwo two) k1.energy))
+    finish_loses_turn two loses = rebuild_loses told k k1 setup p at d rebuilt is_fresh counts fit (most + (0 + 1)) (omega (arith, few)) two told_then (loses_told told before told_then k1 j k1 h lo most d steps named1 two loses)
