@@ -1,5 +1,5 @@
-// The program as plain Rust: the same lines, answers and device writes as the proved one, on five
-// disks in memory of which none fails, with no list of calls. It is the peer that bench/run
+// A plain Rust program that gives the proved one's answers to reads, writes and flushes, on five
+// disks in memory of which none fails, in place and with no journal. It is the peer that bench/run
 // compares with.
 use std::io::{self, Read, Write};
 

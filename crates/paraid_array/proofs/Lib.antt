@@ -7,3 +7,4 @@ pub mod TurnLemmas
 pub mod AskedLemmas
 pub mod TickTurnLemmas
 pub mod RebuildTurnLemmas
+pub mod ToldLemmas

@@ -1,5 +1,5 @@
 //! A disk that is out is replaced, and the ticks of its rebuild.
-ghost use Rattle.std.specs.Prelude.{◌≡◌, ℕ, ◌+◌, ◌^◌, ◌<◌, ◌≤◌, true, false, [], None, Ok, Some, OnOk, IfOk, IfErr, if◌then◌else◌};
+ghost use Rattle.std.specs.Prelude.{◌≡◌, ℕ, ◌+◌, ◌^◌, ◌<◌, ◌≤◌, true, false, [], None, Ok, Some, IsSome, OnOk, IfOk, IfErr, if◌then◌else◌};
 ghost use Rattle.paraid_base.specs.declared.state.Out.TheVariants.{Fresh, Gone, No};
 ghost use Rattle.paraid_base.specs.declared.state.TickEvent.TheVariants.{Gone as GoneInTick, Moving, Rebuilt};
 ghost use Rattle.paraid_base.specs.States.{rebuilt_count};
@@ -48,6 +48,7 @@ fn park_back<R: Rack>(core: &mut Core<R>, disk: DiskNo) -> Result<bool, Two>
     ensures no_fall { (d : ℕ) → (R.slot (core_rack core.old) d).faults ≤ (R.slot (core_rack core.new) d).faults }
     ensures two { IfErr result (AreTwoDown (core_down core.old)
         (R.slot (core_rack core.old)) (R.slot (core_rack core.new))) }
+    ensures told { IsSome (R.told (core_rack core.new)) → IsSome (R.told (core_rack core.old)) }
 {
     if disk < core.meta().gear {
         return Ok(true);
@@ -89,6 +90,7 @@ fn come_back<R: Rack>(core: &mut Core<R>, disk: DiskNo) -> Result<bool, Two>
     ensures no_fall { (d : ℕ) → (R.slot (core_rack core.old) d).faults ≤ (R.slot (core_rack core.new) d).faults }
     ensures two { IfErr result (AreTwoDown (core_down core.old)
         (R.slot (core_rack core.old)) (R.slot (core_rack core.new))) }
+    ensures told { IsSome (R.told (core_rack core.new)) → IsSome (R.told (core_rack core.old)) }
 {
     let copied = finish(core, disk)?;
     if !copied {
@@ -126,6 +128,7 @@ fn end_rebuild<R: Rack>(core: &mut Core<R>, disk: DiskNo) -> Result<bool, Two>
     ensures no_fall { (d : ℕ) → (R.slot (core_rack core.old) d).faults ≤ (R.slot (core_rack core.new) d).faults }
     ensures two { IfErr result (AreTwoDown (core_down core.old)
         (R.slot (core_rack core.old)) (R.slot (core_rack core.new))) }
+    ensures told { IsSome (R.told (core_rack core.new)) → IsSome (R.told (core_rack core.old)) }
 {
     let there = commit_staged(core, disk)?;
     if !there {
@@ -165,6 +168,7 @@ fn move_units<R: Rack>(core: &mut Core<R>, disk: DiskNo, end: u32) -> Result<boo
     ensures no_fall { (d : ℕ) → (R.slot (core_rack core.old) d).faults ≤ (R.slot (core_rack core.new) d).faults }
     ensures two { IfErr result (AreTwoDown (core_down core.old)
         (R.slot (core_rack core.old)) (R.slot (core_rack core.new))) }
+    ensures told { IsSome (R.told (core_rack core.new)) → IsSome (R.told (core_rack core.old)) }
 {
     let moved = step(core, disk, end)?;
     if !moved {
@@ -200,6 +204,7 @@ pub(crate) fn rebuild<R: Rack>(
     ensures no_fall { (d : ℕ) → (R.slot (core_rack core.old) d).faults ≤ (R.slot (core_rack core.new) d).faults }
     ensures two { IfErr result (AreTwoDown (core_down core.old)
         (R.slot (core_rack core.old)) (R.slot (core_rack core.new))) }
+    ensures told { IsSome (R.told (core_rack core.new)) → IsSome (R.told (core_rack core.old)) }
 {
     let setup = &core.meta().setup;
     let rate = setup.rate;

@@ -43,6 +43,8 @@ fn bring<R: Rack>(core: &mut Core<R>, disk: DiskNo) -> Result<Option<ReplaceFaul
     ensures halts { IfErr result (λ two. CoreHalts R.slot_count R.told core.old core.new (ReplaceEvent disk) two) }
     ensures two { IfErr result (AreTwoDown (core_down core.old)
         (R.slot (core_rack core.old)) (R.slot (core_rack core.new))) }
+    ensures slots { OnOk result (R.slot_count (core_rack core.new) ≡ R.slot_count (core_rack core.old)) }
+    ensures told { IsSome (R.told (core_rack core.new)) → IsSome (R.told (core_rack core.old)) }
 {
     let there = begin(core, disk)?;
     if there {
@@ -84,6 +86,8 @@ pub fn replace<R: Rack>(core: &mut Core<R>, disk: DiskNo) -> Result<Option<Repla
     ensures halts { IfErr result (λ two. CoreHalts R.slot_count R.told core.old core.new (ReplaceEvent disk) two) }
     ensures two { IfErr result (AreTwoDown (core_down core.old)
         (R.slot (core_rack core.old)) (R.slot (core_rack core.new))) }
+    ensures slots { OnOk result (R.slot_count (core_rack core.new) ≡ R.slot_count (core_rack core.old)) }
+    ensures told { IsSome (R.told (core_rack core.new)) → IsSome (R.told (core_rack core.old)) }
 {
     if disk >= core.meta().setup.geometry.disks {
         return Ok(Some(ReplaceFault::NoDisk { disk }));

@@ -1,8 +1,8 @@
--- The answers to disks that are taken out, and to shifts.
-use Rattle.std.proofs.Common.{◌≡◌, ℕ, true, Option, Some, None, refl, arith}
+-- The answers to disks that are taken out or replaced, and to shifts.
+use Rattle.std.proofs.Common.{◌≡◌, ℕ, ◌≤◌, Bool, true, false, Option, Some, None, refl, sym, ap, ◌∙◌, arith, min}
 use Rattle.std.specs.Prelude.{◌==◌, IfSome}
 use Rattle.std.proofs.lemmas.Bool.Decides.{nat_tests}
-use Rattle.paraid_base.specs.declared.event.Event.TheVariants.{Fail}
+use Rattle.paraid_base.specs.declared.event.Event.TheVariants.{Down, Fail, Replace, Up}
 use Rattle.paraid_image.specs.Power.{PowerState}
 use Rattle.paraid_image.specs.Shown.{with_flush}
 use Rattle.paraid_machine.specs.Energy.{energy_of}
@@ -15,9 +15,12 @@ use Rattle.paraid_array.specs.declared.asked.Asked.{Asked}
 use Rattle.paraid_array.specs.declared.asked.Asked.TheVariants.{Begun, Refused}
 use Rattle.paraid_array.specs.declared.fault.FailFault.{FailFault}
 use Rattle.paraid_array.specs.declared.fault.FailFault.TheVariants.{Halt as FailHalt, NoDisk as FailNoDisk, Out as FailOut}
+use Rattle.paraid_array.specs.declared.fault.ReplaceFault.{ReplaceFault}
+use Rattle.paraid_array.specs.declared.fault.ReplaceFault.TheVariants.{Halt as ReplaceHalt, NoDisk as ReplaceNoDisk, NoFresh, NotOut}
+use Rattle.paraid_array.specs.declared.fault.ShiftFault.{ShiftFault}
 use Rattle.paraid_array.specs.declared.fault.ShiftFault.TheVariants.{Halt as ShiftHalt, Lowest, Out as ShiftOut, Ration, Shifting, Top}
-use Rattle.paraid_array.specs.DiskRefusals.{IsFailRefused}
-use Rattle.paraid_array.specs.Turns.{asked_answer, fail_answer}
+use Rattle.paraid_array.specs.DiskRefusals.{IsFailRefused, IsReplaceRefused}
+use Rattle.paraid_array.specs.Turns.{asked_answer, fail_answer, replace_answer}
 use Rattle.paraid_controller.specs.Used.{asked_energy}
 
 same_test : (a b : ℕ) → a ≡ b → (a == b) ≡ true
@@ -54,6 +57,43 @@ fail_few d None = tt
 fail_few d (Some (FailHalt halt)) = tt
 fail_few d (Some (FailNoDisk e)) = tt
 fail_few d (Some (FailOut e)) = tt
+
+-- one that is replaced
+module _ (d : ℕ) (m : Meta) where
+  pub replace_going : (r : Option ReplaceFault) → IfSome r (IsReplaceRefused m d) → halt_told (replace_answer d r) ≡ None
+  replace_going None w = refl
+  replace_going (Some (ReplaceHalt halt)) w = absurd w
+  replace_going (Some (ReplaceNoDisk e)) w = refl
+  replace_going (Some (NotOut e)) w = refl
+  replace_going (Some (NoFresh e)) w = refl
+
+  pub replace_kind : (r : Option ReplaceFault) → IfSome r (IsReplaceRefused m d) → is_answer_to (Replace d) (replace_answer d r) ≡ true
+  replace_kind None w = same_test d d refl
+  replace_kind (Some (ReplaceHalt halt)) w = absurd w
+  replace_kind (Some (ReplaceNoDisk e)) w = same_test e d w.0
+  replace_kind (Some (NotOut e)) w = same_test e d w.0
+  replace_kind (Some (NoFresh e)) w = same_test e d w.0
+
+pub replace_low : (d low : ℕ) (r : Option ReplaceFault) → with_flush low (replace_answer d r) ≡ low
+replace_low d low None = refl
+replace_low d low (Some (ReplaceHalt halt)) = refl
+replace_low d low (Some (ReplaceNoDisk e)) = refl
+replace_low d low (Some (NotOut e)) = refl
+replace_low d low (Some (NoFresh e)) = refl
+
+pub replace_uses : (setup : Setup) (s : PowerState) (d : ℕ) (r : Option ReplaceFault) → energy_of setup s (replace_answer d r) ≡ 0
+replace_uses setup s d None = refl
+replace_uses setup s d (Some (ReplaceHalt halt)) = refl
+replace_uses setup s d (Some (ReplaceNoDisk e)) = refl
+replace_uses setup s d (Some (NotOut e)) = refl
+replace_uses setup s d (Some (NoFresh e)) = refl
+
+pub replace_few : (d : ℕ) (r : Option ReplaceFault) → HasFewDisks (replace_answer d r)
+replace_few d None = tt
+replace_few d (Some (ReplaceHalt halt)) = tt
+replace_few d (Some (ReplaceNoDisk e)) = tt
+replace_few d (Some (NotOut e)) = tt
+replace_few d (Some (NoFresh e)) = tt
 
 -- a shift that is asked for
 pub asked_low : (gear low : ℕ) (x : Asked) → with_flush low (asked_answer gear x) ≡ low

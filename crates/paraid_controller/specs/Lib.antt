@@ -2,3 +2,4 @@ pub mod Lasting
 pub mod Props
 pub mod Arrays
 pub mod Used
+pub mod Laws

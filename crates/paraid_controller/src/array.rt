@@ -70,10 +70,10 @@ impl<R: Rack> Array<R> {
         self.energy
     }
 
-    /// How many writes it has accepted.
+    /// How many writes it has accepted, while there is no halt.
     pub fn writes(&self) -> u64
-        requires going { halt_of_array self.now ≡ None }
-        ensures point { (p : Point) → ArrayStandsAt R.slot_count R.told self.now p → result ≡ length p.history }
+        ensures point { halt_of_array self.now ≡ None → (p : Point) → ArrayStandsAt R.slot_count R.told self.now p
+            → result ≡ length p.history }
     {
         self.core.meta().writes
     }

@@ -9,6 +9,7 @@ mod flushing;
 mod mounting;
 mod refusing;
 mod requests;
+mod serving;
 mod shifting;
 mod ticking;
 

@@ -1,5 +1,5 @@
 //! Shifts of an array that are asked for.
-ghost use Rattle.std.specs.Prelude.{◌≡◌, ◌<◌, ◌^◌, true, None};
+ghost use Rattle.std.specs.Prelude.{◌≡◌, ◌<◌, ◌^◌, true, None, IsSome};
 ghost use Rattle.paraid_array.specs.Turns.{asked_answer};
 ghost use Rattle.paraid_base.specs.declared.event.Event.TheVariants.{Down as DownEvent, Up as UpEvent};
 ghost use Rattle.paraid_core.specs.Cores.{meta_of};
@@ -44,7 +44,7 @@ fn asked_energy(setup: &Setup, gear: u8, asked: Asked) -> u64
 }
 
 impl<R: Rack> Array<R> {
-    ghost use Rattle.paraid_controller.specs.Arrays.{GoesOnByEvent, core_of_array, end_of_array, halt_of_array, setup_of_array, slot_of_array, slots_of_array};
+    ghost use Rattle.paraid_controller.specs.Arrays.{GoesOnByEvent, core_of_array, end_of_array, halt_of_array, setup_of_array, slot_of_array, slots_of_array, told_of_array};
 
     // Asks for a shift up.
     fn up_there(&mut self) -> Answer
@@ -52,6 +52,7 @@ impl<R: Rack> Array<R> {
         requires epoch { (meta_of (core_of_array self.old)).epoch < 2 ^ 62 }
         requires writes { (meta_of (core_of_array self.old)).writes < 2 ^ 62 }
         ensures turn { GoesOnByEvent R.slot_count R.told self.old self.new UpEvent result }
+        ensures told { IsSome (told_of_array R.told self.new) → IsSome (told_of_array R.told self.old) }
         ensures slots { slots_of_array self.new ≡ slots_of_array self.old }
         ensures setup { setup_of_array self.new ≡ setup_of_array self.old }
         ensures halt { halt_of_array self.new ≡ halt_told result }
@@ -80,6 +81,7 @@ impl<R: Rack> Array<R> {
         requires epoch { (meta_of (core_of_array self.old)).epoch < 2 ^ 62 }
         requires writes { (meta_of (core_of_array self.old)).writes < 2 ^ 62 }
         ensures turn { GoesOnByEvent R.slot_count R.told self.old self.new DownEvent result }
+        ensures told { IsSome (told_of_array R.told self.new) → IsSome (told_of_array R.told self.old) }
         ensures slots { slots_of_array self.new ≡ slots_of_array self.old }
         ensures setup { setup_of_array self.new ≡ setup_of_array self.old }
         ensures halt { halt_of_array self.new ≡ halt_told result }
@@ -106,6 +108,7 @@ impl<R: Rack> Array<R> {
     pub fn up(&mut self) -> Answer
         requires going { halt_of_array self.old ≡ None }
         ensures turn { GoesOnByEvent R.slot_count R.told self.old self.new UpEvent result }
+        ensures told { IsSome (told_of_array R.told self.new) → IsSome (told_of_array R.told self.old) }
         ensures slots { slots_of_array self.new ≡ slots_of_array self.old }
         ensures setup { setup_of_array self.new ≡ setup_of_array self.old }
         ensures halt { halt_of_array self.new ≡ halt_told result }
@@ -123,6 +126,7 @@ impl<R: Rack> Array<R> {
     pub fn down(&mut self) -> Answer
         requires going { halt_of_array self.old ≡ None }
         ensures turn { GoesOnByEvent R.slot_count R.told self.old self.new DownEvent result }
+        ensures told { IsSome (told_of_array R.told self.new) → IsSome (told_of_array R.told self.old) }
         ensures slots { slots_of_array self.new ≡ slots_of_array self.old }
         ensures setup { setup_of_array self.new ≡ setup_of_array self.old }
         ensures halt { halt_of_array self.new ≡ halt_told result }

@@ -1,5 +1,5 @@
 //! Ticks of an array.
-ghost use Rattle.std.specs.Prelude.{◌≡◌, ◌<◌, ◌^◌, true, None};
+ghost use Rattle.std.specs.Prelude.{◌≡◌, ◌<◌, ◌^◌, true, None, IsSome};
 ghost use Rattle.paraid_base.specs.declared.event.Event.TheVariants.{Tick as TickEvent};
 ghost use Rattle.paraid_core.specs.Cores.{meta_of};
 ghost use Rattle.paraid_serve.specs.Calls.{HaltsBySecondLoss};
@@ -16,7 +16,7 @@ use paraid_base::{Answer, GearReport, Halt};
 use paraid_rack::Rack;
 
 impl<R: Rack> Array<R> {
-    ghost use Rattle.paraid_controller.specs.Arrays.{GoesOnByEvent, core_of_array, end_of_array, halt_of_array, setup_of_array, slot_of_array, slots_of_array};
+    ghost use Rattle.paraid_controller.specs.Arrays.{GoesOnByEvent, core_of_array, end_of_array, halt_of_array, setup_of_array, slot_of_array, slots_of_array, told_of_array};
 
     // Counts a tick, with its sample and what the disks used since the last one, and does what is due.
     fn tick_there(&mut self) -> Answer
@@ -24,6 +24,7 @@ impl<R: Rack> Array<R> {
         requires epoch { (meta_of (core_of_array self.old)).epoch < 2 ^ 62 }
         requires writes { (meta_of (core_of_array self.old)).writes < 2 ^ 62 }
         ensures turn { GoesOnByEvent R.slot_count R.told self.old self.new TickEvent result }
+        ensures told { IsSome (told_of_array R.told self.new) → IsSome (told_of_array R.told self.old) }
         ensures slots { slots_of_array self.new ≡ slots_of_array self.old }
         ensures setup { setup_of_array self.new ≡ setup_of_array self.old }
         ensures halt { halt_of_array self.new ≡ halt_told result }
@@ -59,6 +60,7 @@ impl<R: Rack> Array<R> {
     pub fn tick(&mut self) -> Answer
         requires going { halt_of_array self.old ≡ None }
         ensures turn { GoesOnByEvent R.slot_count R.told self.old self.new TickEvent result }
+        ensures told { IsSome (told_of_array R.told self.new) → IsSome (told_of_array R.told self.old) }
         ensures slots { slots_of_array self.new ≡ slots_of_array self.old }
         ensures setup { setup_of_array self.new ≡ setup_of_array self.old }
         ensures halt { halt_of_array self.new ≡ halt_told result }

@@ -1,5 +1,2 @@
 pub mod WordLemmas
-pub mod ServeLemmas
-pub mod Since
-pub mod Sofar
-pub mod TopLemmas
+pub mod EndLemmas

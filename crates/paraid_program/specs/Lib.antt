@@ -1,6 +1,2 @@
 pub mod Tasks
-pub mod Trace
-pub mod Calls
-pub mod Session
-pub mod Output
 pub mod Ends

@@ -1,15 +1,15 @@
-//! The program over any source, sink and rack: it makes an array of the disks of the rack, or serves
-//! a trace over an array of five disks, of which one may be lost.
+//! The program over any source, sink and rack: it makes an array with gears of the disks of a rack,
+//! tells its state, and answers a trace or generated lines with it.
 //!
-//! The contract of `paraid` says what is written at each status, which losses a status has for its
-//! cause, and what the disks hold.
+//! The contract of `paraid` says what is written at each status, what the disks then hold, and which
+//! losses a status has for its cause.
 #![tactic(auto)]
 
-mod run;
-mod serve;
-mod session;
+mod arrays;
 mod top;
 mod words;
 
-pub use top::{Ended, paraid};
+pub use arrays::Arrays;
+pub use paraid_top::outside::Ended;
+pub use top::paraid;
 pub use words::{Task, read_task};

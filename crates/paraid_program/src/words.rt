@@ -15,6 +15,8 @@ pub enum Task {
     Run,
     /// Tells the state.
     Status,
+    /// Answers the first lines of the trace of a number.
+    Gen { number: u32, lines: u32 },
 }
 
 fn task_of(command: Command) -> Option<Task>
@@ -25,7 +27,7 @@ fn task_of(command: Command) -> Option<Task>
         Command::Run => Some(Task::Run),
         Command::Status => Some(Task::Status),
         Command::Check => None,
-        Command::Gen { .. } => None,
+        Command::Gen { number, lines } => Some(Task::Gen { number, lines }),
     }
 }
 

@@ -30,18 +30,33 @@ pub const NONE: usize = 13;
 /// The number of a call that none here has.
 pub const NEVER: u32 = 1000;
 
-/// The configuration with this text in place of a line, or after all of them.
-pub fn configuration(alloc: Global, line: usize, text: &str) -> Result<Vec<u8>, Fail> {
+// The text in place of this line.
+fn text_at(texts: &[(usize, &'static str)], at: usize) -> Option<&'static str> {
+    for &(line, text) in texts {
+        if line == at {
+            return Some(text);
+        }
+    }
+    None
+}
+
+/// The configuration with these texts in place of its lines of these numbers, or after all of them.
+pub fn configured(alloc: Global, texts: &[(usize, &'static str)]) -> Result<Vec<u8>, Fail> {
     let mut bytes = Vec::new(alloc);
     for at in 0..LINES.len() {
-        let kept = if at == line { text } else { LINES[at] };
+        let kept = text_at(texts, at).unwrap_or(LINES[at]);
         bytes.extend_from_slice(kept.as_bytes())?;
         bytes.push(b'\n')?;
     }
-    if line >= LINES.len() {
+    if let Some(text) = text_at(texts, NONE) {
         bytes.extend_from_slice(text.as_bytes())?;
     }
     Ok(bytes)
+}
+
+/// The configuration with this text in place of a line, or after all of them.
+pub fn configuration(alloc: Global, line: usize, text: &'static str) -> Result<Vec<u8>, Fail> {
+    configured(alloc, &[(line, text)])
 }
 
 /// A rack without disks, on which this call fails.

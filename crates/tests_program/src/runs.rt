@@ -1,29 +1,22 @@
-//! Runs of the program over a source, a sink and a rack in memory.
+//! Runs of the program over a source, a sink and disks in memory that were made an array of.
 
+use crate::formats::{NEVER, bare_rack, configured, formatted};
 use paraid_io::{MemSink, MemSource};
-use paraid_memrack::{MemRack, Planned};
+use paraid_memrack::{MemRack, Pick, Planned};
 use paraid_program::{Ended, paraid};
-use paraid_rack::Rack;
 use std::alloc::Global;
+use std::process::Abort;
 use std::test::Fail;
 
-// The number of disks, and the blocks that each needs.
 const DISKS: u8 = 5;
 
-const PLACES: u32 = 108;
-
-// The number of a call that no run here makes.
-const NEVER: u32 = 1000;
-
-// The one call of the source and of the sink and the two calls of the rack that fail, and how many
-// blocks the last disk has.
+// The one call of the source and of the sink and the two calls of the rack that fail.
 #[derive(Clone, Copy)]
 struct Faults {
     source: u32,
     sink: u32,
     first: Planned,
     second: Planned,
-    last_size: u32,
 }
 
 // No call fails.
@@ -32,34 +25,66 @@ const NONE: Faults = Faults {
     sink: NEVER,
     first: Planned::AtCall(NEVER),
     second: Planned::AtCall(NEVER),
-    last_size: PLACES,
 };
 
-// The status of a run with this word over this input, and what it wrote.
-fn outcome(alloc: Global, word: &str, input: &[u8], faults: Faults) -> Result<(u8, Vec<u8>), Fail> {
+/// A new array by the configuration with these texts in place of its lines, before any call. These
+/// calls fail.
+pub fn array(
+    rt: &(impl Abort + AllocGlobal),
+    texts: &[(usize, &'static str)],
+    plan: &[Planned],
+) -> Result<MemRack, Fail> {
+    let alloc = rt.alloc();
+    let bare = bare_rack(rt, DISKS, Planned::AtCall(NEVER));
+    let bytes = configured(alloc, texts)?;
+    let (_status, _text, rack) = formatted(alloc, false, bytes, NEVER, NEVER, bare)?;
+    let mut fails = Vec::new(alloc);
+    for &planned in plan {
+        fails.push(planned)?;
+    }
+    let left = rack.stopped(alloc, rack.calls(), Pick::New, NEVER, fails)?;
+    Ok(left)
+}
+
+/// The status of the program with these words over this input and these disks, and what it wrote.
+/// These calls of the source and of the sink fail.
+pub fn outcome(
+    alloc: Global,
+    words: &[&str],
+    input: &[u8],
+    source_fails: u32,
+    sink_fails: u32,
+    rack: MemRack,
+) -> Result<(u8, Vec<u8>, MemRack), Fail> {
     let mut bytes = Vec::new(alloc);
     bytes.extend_from_slice(input)?;
-    let mut source = MemSource::new(bytes, vec![in alloc; faults.source]?);
-    let mut sink = MemSink::new(alloc, 4096, vec![in alloc; faults.sink]?)?;
-    let plan = vec![in alloc; faults.first, faults.second]?;
-    let mut rack = MemRack::new(alloc, DISKS, 200, NEVER, plan)?;
-    for disk in 0..DISKS {
-        let size = if disk + 1 < DISKS {
-            PLACES
-        } else {
-            faults.last_size
-        };
-        if size > 0 && disk < rack.slots() {
-            let _attached = rack.attach(disk, size);
-        }
+    let mut source = MemSource::new(bytes, vec![in alloc; source_fails]?);
+    let mut sink = MemSink::new(alloc, 4096, vec![in alloc; sink_fails]?)?;
+    let mut list = Vec::new(alloc);
+    for word in words {
+        list.push(String::from_str(alloc, word)?)?;
     }
-    let words = vec![in alloc; String::from_str(alloc, word)?]?;
-    let Ended {
-        status,
-        rack: _rack,
-    } = paraid(alloc, &words, &mut source, &mut sink, rack);
+    let Ended { status, rack } = paraid(alloc, &list, &mut source, &mut sink, rack);
     let mut text = Vec::new(alloc);
     text.extend_from_slice(sink.bytes())?;
+    Ok((status, text, rack))
+}
+
+// What `run` does over a new array with these faults.
+fn ran(
+    rt: &(impl Abort + AllocGlobal),
+    input: &[u8],
+    faults: Faults,
+) -> Result<(u8, Vec<u8>), Fail> {
+    let rack = array(rt, &[], &[faults.first, faults.second])?;
+    let (status, text, _rack) = outcome(
+        rt.alloc(),
+        &["run"],
+        input,
+        faults.source,
+        faults.sink,
+        rack,
+    )?;
     Ok((status, text))
 }
 
@@ -95,46 +120,45 @@ fn every_line_is_answered(rt: HostRuntime) -> Result<(), Fail> {
             "wrote 1\n19=0aff\n18=00\nnoblock 20\nnoblock 4294967295\nend 1\n",
         ),
         (
-            "t\nup\ndown\nfail 9\nreplace 300\ns\ne\n".as_bytes(),
-            "later\nlater\nlater\nlater\nlater\nlater\nlater\nend 0\n",
-        ),
-        (
             b"r\0 0\n\xff\xfe\n r 0\nr  0\nr 0 \nR 0\n",
             "bad\nbad\nbad\nbad\nbad\nbad\nend 0\n",
         ),
         (long.as_slice(), "bad\nbad\nbad\nbad\nend 0\n"),
     ];
     for (input, answers) in rows {
-        let (status, text) = outcome(alloc, "run", input, NONE)?;
+        let (status, text) = ran(&rt, input, NONE)?;
         let want = format!(in alloc; "mounted 0 gear 5\n{answers}")?;
         assert_eq!(rt; text.as_slice(), want.as_bytes());
         assert_eq!(rt; status, 0);
     }
-    for word in ["runs", "check", "gen", "--help"] {
-        let (status, text) = outcome(alloc, word, b"f\n", NONE)?;
-        let want = "usage: paraid format [--force] | run | status\n";
+    Ok(())
+}
+
+#[test]
+fn other_words_tell_which_there_are(rt: HostRuntime) -> Result<(), Fail> {
+    let alloc = rt.alloc();
+    let lists: [&[&str]; 5] = [&["runs"], &["run", "x"], &["check"], &["gen"], &["--help"]];
+    for words in lists {
+        let rack = bare_rack(&rt, DISKS, Planned::AtCall(NEVER));
+        let (status, text, left) = outcome(alloc, words, b"f\n", NEVER, NEVER, rack)?;
+        let want = "usage: paraid format [--force] | run | status | gen --number N --lines L\n";
         assert_eq!(rt; text.as_slice(), want.as_bytes());
         assert_eq!(rt; status, 2);
+        assert_eq!(rt; left.calls(), 0);
     }
     Ok(())
 }
 
-// A disk whose call of this number, from its attach on, fails.
-fn disk(disk: u8, nth: u32) -> Faults {
-    let mut faults = NONE;
-    faults.first = Planned::OnDisk { disk, nth };
-    faults
-}
-
 #[test]
 fn a_lost_disk_changes_no_answer(rt: HostRuntime) -> Result<(), Fail> {
-    let alloc = rt.alloc();
-    for number in 0..DISKS {
-        for nth in 1..10u32 {
-            let input = "w 3 11\nw 7 22\nf\nr 3\nr 7\n";
-            let (status, text) = outcome(alloc, "run", input.as_bytes(), disk(number, nth))?;
+    // In the mount, in the writes and in the flush. From some call on none of these is made.
+    for disk in 0..DISKS {
+        for nth in 0..28u32 {
+            let mut faults = NONE;
+            faults.first = Planned::OnDisk { disk, nth };
+            let (status, text) = ran(&rt, b"w 3 11\nw 7 22\nf\nr 3\nr 7\n", faults)?;
             let want = "mounted 0 gear 5\nwrote 1\nwrote 2\nflushed 2\n3=11\n7=22\nend 2\n";
-            assert_eq!(rt; text.as_slice(), want.as_bytes());
+            assert_eq!(rt; text.as_slice(), want.as_bytes(), "disk {disk}, call {nth}");
             assert_eq!(rt; status, 0);
         }
     }
@@ -155,23 +179,26 @@ fn sink(call: u32) -> Faults {
     faults
 }
 
-// Two disks whose calls of these numbers fail.
+// Two disks whose calls of these numbers fail, after the sync of the mount.
 fn disks(first: u8, second: u8, nth: u32) -> Faults {
-    let mut faults = disk(first, 1);
+    let mut faults = NONE;
+    faults.first = Planned::OnDisk {
+        disk: first,
+        nth: 1,
+    };
     faults.second = Planned::OnDisk { disk: second, nth };
     faults
 }
 
-// The last disk has only so many blocks.
-fn last_size(size: u32) -> Faults {
+// One disk whose call of this number fails.
+fn disk(disk: u8, nth: u32) -> Faults {
     let mut faults = NONE;
-    faults.last_size = size;
+    faults.first = Planned::OnDisk { disk, nth };
     faults
 }
 
 #[test]
 fn a_fault_ends_the_run_with_its_status(rt: HostRuntime) -> Result<(), Fail> {
-    let alloc = rt.alloc();
     let rows = [
         ("r 0\n", source(0), 3, "mounted 0 gear 5\nsource\n"),
         // A rest without a newline is not answered.
@@ -200,17 +227,54 @@ fn a_fault_ends_the_run_with_its_status(rt: HostRuntime) -> Result<(), Fail> {
         // The flush at the end halts.
         (
             "r 2\nw 3 11\n",
-            disks(2, 3, 4),
+            disks(2, 3, 3),
             5,
             "mounted 0 gear 5\n2=00\nwrote 1\ntwo 2 3\n",
         ),
-        ("r 0\n", last_size(107), 6, "size 4 107 108\n"),
-        ("r 0\n", last_size(0), 6, "size 4 0 108\n"),
+        // The first disk was taken out.
+        (
+            "fail 2\nr 2\nf\nxyz\n",
+            disk(3, 1),
+            5,
+            "mounted 0 gear 5\nfailed 2\ntwo 2 3\ntwo 2 3\nbad\ntwo 2 3\n",
+        ),
+        (
+            "fail 2\nw 3 11\n",
+            disk(3, 2),
+            5,
+            "mounted 0 gear 5\nfailed 2\nwrote 1\ntwo 2 3\n",
+        ),
+        // The fresh disk fails at its first write, or does not come.
+        (
+            "fail 2\nreplace 2\nt\nr 2\n",
+            disk(2, 2),
+            0,
+            "mounted 0 gear 5\nfailed 2\nreplaced 2\ntick 5 moved 0 gone 2\n2=00\nend 0\n",
+        ),
+        (
+            "fail 2\nreplace 2\n",
+            disk(2, 1),
+            0,
+            "mounted 0 gear 5\nfailed 2\nnofresh 2\nend 0\n",
+        ),
     ];
     for (input, faults, code, want) in rows {
-        let (status, text) = outcome(alloc, "run", input.as_bytes(), faults)?;
-        assert_eq!(rt; text.as_slice(), want.as_bytes());
+        let (status, text) = ran(&rt, input.as_bytes(), faults)?;
+        assert_eq!(rt; text.as_slice(), want.as_bytes(), "{input}");
         assert_eq!(rt; status, code);
+    }
+    Ok(())
+}
+
+#[test]
+fn no_array_is_served(rt: HostRuntime) -> Result<(), Fail> {
+    let alloc = rt.alloc();
+    let lists: [&[&str]; 2] = [&["run"], &["gen", "--number=0", "--lines=6"]];
+    for words in lists {
+        let rack = bare_rack(&rt, DISKS, Planned::AtCall(NEVER));
+        let (status, text, _rack) = outcome(alloc, words, b"r 0\n", NEVER, NEVER, rack)?;
+        assert_eq!(rt; text.as_slice(), "notformatted\n".as_bytes());
+        assert_eq!(rt; status, 6);
     }
     Ok(())
 }

@@ -1,4 +1,4 @@
-use Rattle.std.proofs.Common.{◌≡◌, ℕ, ◌+◌, ◌<◌, sym, ap, subst, refl, arith, Ok}
+use Rattle.std.proofs.Common.{◌≡◌, ℕ, ◌+◌, ◌<◌, sym, ap, subst, refl, arith, Ok, []}
 use Rattle.paraid_base.specs.declared.state.Out.TheVariants.{No}
 use Rattle.paraid_base.specs.declared.state.Phase.TheVariants.{Down, Steady}
 use Rattle.paraid_record.specs.declared.meta.Meta.{Meta}
@@ -11,6 +11,7 @@ use Rattle.paraid_array.proofs.AskedLemmas.{core_loses_then, down_begun, down_ha
 use Rattle.paraid_array.proofs.RefusalLemmas.{down_may_not, down_refused_same}
 use Rattle.paraid_core.proofs.AfterLemmas.{handed}
 use Rattle.paraid_shift.proofs.ServingLemmas.{leaves_array_then, none_away, two_array}
+use Rattle.paraid_array.proofs.ToldLemmas.{told_core}
 use Rattle.paraid_array.proofs.asked.down.Goals as goal
 
 pub returns-in_err-begin_down-in-Ok-clause-two : goal.returns-in_err-begin_down-in-Ok-clause-two
@@ -104,3 +105,15 @@ returns-in-Err-gear_below-clause-turn g c =
     down_stopped g.R.Rack.slot_count g.R.Rack.told a steady whole m m.meta.epoch staged.meta c.commit_staged.ensures.table (staged.steps (none_away g.R.Rack.slot a whole)) c.in_default.field-0 c.in-Err-gear_below.fault staged.serving.copies_synced
     (subst (λ (z : Meta). (s : PowerState) → IsShiftStateOf z s → MayGoDown z.setup s c.in_default.field-0) c.meta.ensures c.in_default.ensures.may)
     (subst (λ (z : Meta). (s : PowerState) → IsShiftStateOf z s → IsDownRefused z.setup s c.in-Err-gear_below.fault) c.meta-2.ensures c.in-Err-gear_below.ensures.refused)
+
+pub returns-in_err-commit_staged-clause-told : goal.returns-in_err-commit_staged-clause-told
+returns-in_err-commit_staged-clause-told g c some = told_core g.R.Rack.told c.args.core.now c.commit_staged.new.core _ (c.in_err-commit_staged.ensures.loses (none_away g.R.Rack.slot c.args.core.now (subst (λ (z : Meta). z.out ≡ No) c.meta.ensures c.in_default.ensures.whole)) [] 0 [] 0 0) some
+
+pub returns-in_err-begin_down-in-Ok-clause-told : goal.returns-in_err-begin_down-in-Ok-clause-told
+returns-in_err-begin_down-in-Ok-clause-told g c some = told_core g.R.Rack.told c.args.core.now c.commit_staged.new.core _ (c.in_ok-commit_staged.ensures.steps (none_away g.R.Rack.slot c.args.core.now (subst (λ (z : Meta). z.out ≡ No) c.meta.ensures c.in_default.ensures.whole)) [] 0 [] 0 0) (told_core g.R.Rack.told c.commit_staged.new.core c.begin_down.new.core _ (c.begin_down.ensures.moments [] 0) some)
+
+pub returns-in_ok-begin_down-in-Ok-clause-told : goal.returns-in_ok-begin_down-in-Ok-clause-told
+returns-in_ok-begin_down-in-Ok-clause-told g c some = told_core g.R.Rack.told c.args.core.now c.commit_staged.new.core _ (c.in_ok-commit_staged.ensures.steps (none_away g.R.Rack.slot c.args.core.now (subst (λ (z : Meta). z.out ≡ No) c.meta.ensures c.in_default.ensures.whole)) [] 0 [] 0 0) (told_core g.R.Rack.told c.commit_staged.new.core c.begin_down.new.core _ (c.begin_down.ensures.moments [] 0) some)
+
+pub returns-in-Err-gear_below-clause-told : goal.returns-in-Err-gear_below-clause-told
+returns-in-Err-gear_below-clause-told g c some = told_core g.R.Rack.told c.args.core.now c.commit_staged.new.core _ (c.in_ok-commit_staged.ensures.steps (none_away g.R.Rack.slot c.args.core.now (subst (λ (z : Meta). z.out ≡ No) c.meta.ensures c.in_default.ensures.whole)) [] 0 [] 0 0) some

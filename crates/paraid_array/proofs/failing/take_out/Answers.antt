@@ -75,3 +75,9 @@ returns-clause-turn g c =
     let done = c.in_ok-mark_gone.ensures in
     taken_turn g.R.Rack.slot_count g.R.Rack.told c.args.core.now c.args.disk below none m c.mark_gone.new.core c.in_ok-commit_writes.ensures.commits c.mark_gone.ensures.marks alone c.commit_writes.ensures.slots
     done.commits done.epoch (c.mark_gone.ensures.slots ∙ c.commit_writes.ensures.slots) (c.mark_gone.ensures.table ∙ c.commit_writes.ensures.table) done.service.copies_synced
+
+pub returns-clause-told : goal.returns-clause-told
+returns-clause-told g c some = c.commit_writes.ensures.told (c.mark_gone.ensures.told some)
+
+pub returns-in_err-mark_gone-clause-told : goal.returns-in_err-mark_gone-clause-told
+returns-in_err-mark_gone-clause-told g c some = c.commit_writes.ensures.told (c.mark_gone.ensures.told some)

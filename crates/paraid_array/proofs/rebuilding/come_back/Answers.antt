@@ -1,4 +1,4 @@
-use Rattle.std.proofs.Common.{ℕ, ◌∙◌, refl, ap, Ok}
+use Rattle.std.proofs.Common.{ℕ, ◌∙◌, refl, ap, Ok, []}
 use Rattle.paraid_base.specs.declared.state.Out.TheVariants.{No}
 use Rattle.paraid_image.specs.Out.{named_out}
 use Rattle.paraid_record.specs.declared.meta.Meta.{Meta}
@@ -8,6 +8,7 @@ use Rattle.paraid_array.specs.TickTurns.CoreComesBack.{lost}
 use Rattle.paraid_array.specs.TickTurns.CoreLosesComing.{finishing, untold}
 use Rattle.paraid_array.proofs.OutLemmas.{known_gone, leaves_back, leaves_out}
 use Rattle.paraid_array.proofs.RebuildTurnLemmas.{comes_by, kept_epoch, lost_epoch, rejoined_mid}
+use Rattle.paraid_array.proofs.ToldLemmas.{told_core}
 use Rattle.paraid_array.proofs.rebuilding.come_back.Goals as goal
 
 pub returns-then-not-copied-clause-leaves : goal.returns-then-not-copied-clause-leaves
@@ -75,3 +76,15 @@ returns-in_err-copied-clause-loses g c = handed _ c.from_residual.result _ c.fro
 
 pub returns-in_err-back-clause-loses : goal.returns-in_err-back-clause-loses
 returns-in_err-back-clause-loses g c = handed _ c.from_residual-in_err-back.result _ c.from_residual-in_err-back.ensures.1 (untold c.in_err-back.ensures.alone)
+
+pub returns-in_err-copied-clause-told : goal.returns-in_err-copied-clause-told
+returns-in_err-copied-clause-told g c some = told_core g.R.Rack.told c.args.core.now c.finish.new.core _ (c.finish.ensures.moments [] 0) some
+
+pub returns-then-not-copied-clause-told : goal.returns-then-not-copied-clause-told
+returns-then-not-copied-clause-told g c some = told_core g.R.Rack.told c.args.core.now c.finish.new.core _ (c.finish.ensures.moments [] 0) some
+
+pub returns-clause-told : goal.returns-clause-told
+returns-clause-told g c some = told_core g.R.Rack.told c.args.core.now c.finish.new.core _ (c.finish.ensures.moments [] 0) (c.park_back.ensures.told some)
+
+pub returns-in_err-back-clause-told : goal.returns-in_err-back-clause-told
+returns-in_err-back-clause-told g c some = told_core g.R.Rack.told c.args.core.now c.finish.new.core _ (c.finish.ensures.moments [] 0) (c.park_back.ensures.told some)

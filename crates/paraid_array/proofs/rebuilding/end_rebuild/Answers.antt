@@ -1,4 +1,4 @@
-use Rattle.std.proofs.Common.{◌+◌, ◌∙◌, sym, ap, arith, inl, Ok}
+use Rattle.std.proofs.Common.{◌+◌, ◌∙◌, sym, ap, arith, inl, Ok, []}
 use Rattle.paraid_image.specs.Mark.{meta_after_loss}
 use Rattle.paraid_txn.specs.Stores.{store_rack}
 use Rattle.paraid_image.specs.Out.{named_out}
@@ -7,6 +7,7 @@ use Rattle.paraid_core.proofs.AfterLemmas.{handed}
 use Rattle.paraid_shift.proofs.ServingLemmas.{leaves_array_then, two_array}
 use Rattle.paraid_array.proofs.OutLemmas.{known_gone, leaves_out}
 use Rattle.paraid_array.proofs.RebuildTurnLemmas.{counts_on, ended_halts, ended_told, own_epoch, part_halts, rebuild_gone}
+use Rattle.paraid_array.proofs.ToldLemmas.{told_core}
 use Rattle.paraid_array.proofs.rebuilding.end_rebuild.Goals as goal
 
 pub returns-then-not-there-clause-leaves : goal.returns-then-not-there-clause-leaves
@@ -80,3 +81,15 @@ returns-clause-turn g c rebuilt windows fresh few k setup p samples served energ
     ended_told g.R.Rack.slot_count g.R.Rack.told a k setup p samples served energy at fit counts m b c.args.disk rebuilt fresh (done.same (ap Ok c.if-not-there.false)) (done.event samples served energy p.history p.low)
     (counts_on g.R.Rack.slot_count g.R.Rack.told a k setup p samples served energy at fit counts b c.args.disk rebuilt fresh (ended.leaves.slots ∙ c.commit_staged.ensures.slots) (ended.table ∙ c.commit_staged.ensures.table) ended.serving.copies_synced)
     c.in_ok-back.back ended.comes (λ is. ended.rejoined (ap Ok is)) (λ is. ended.marked (ap Ok is)) few
+
+pub returns-in_err-there-clause-told : goal.returns-in_err-there-clause-told
+returns-in_err-there-clause-told g c some = told_core g.R.Rack.told c.args.core.now c.commit_staged.new.core _ (c.commit_staged.ensures.moments [] 0) some
+
+pub returns-then-not-there-clause-told : goal.returns-then-not-there-clause-told
+returns-then-not-there-clause-told g c some = told_core g.R.Rack.told c.args.core.now c.commit_staged.new.core _ (c.commit_staged.ensures.moments [] 0) some
+
+pub returns-clause-told : goal.returns-clause-told
+returns-clause-told g c some = told_core g.R.Rack.told c.args.core.now c.commit_staged.new.core _ (c.commit_staged.ensures.moments [] 0) (c.come_back.ensures.told some)
+
+pub returns-in_err-back-clause-told : goal.returns-in_err-back-clause-told
+returns-in_err-back-clause-told g c some = told_core g.R.Rack.told c.args.core.now c.commit_staged.new.core _ (c.commit_staged.ensures.moments [] 0) (c.come_back.ensures.told some)

@@ -1,0 +1,14 @@
+use Rattle.std.proofs.Common.{ℕ, ◌^◌, ◌<◌, ◌≤◌, subst}
+use Rattle.paraid_record.specs.declared.meta.Meta.{Meta}
+use Rattle.paraid_controller.proofs.QuietLemmas.{replace_refused}
+use Rattle.paraid_controller.proofs.LossLemmas.{going_lost}
+use Rattle.paraid_controller.proofs.StandLemmas.{none_ended}
+use Rattle.paraid_controller.proofs.array.Array.replace.Goals as goal
+
+pub returns-then-disk-disks-clause-turn : goal.returns-then-disk-disks-clause-turn
+returns-then-disk-disks-clause-turn g c =
+    let fit = subst (λ (m : Meta). (m.epoch < 2 ^ 62) × (m.writes < 2 ^ 62)) c.meta.ensures c.in_default.ensures.fit in
+    replace_refused g.R.Rack.slot_count g.R.Rack.told c.args.self.now c.requires.going fit.0 fit.1 c.args.disk (subst (λ (n : ℕ). n ≤ c.args.disk) c.disks.ensures.value c.if-disk-disks.true)
+
+pub returns-then-disk-disks-clause-two : goal.returns-then-disk-disks-clause-two
+returns-then-disk-disks-clause-two g c = going_lost _ _ c.args.self.now.ended (none_ended c.args.self.now.ended c.requires.going)

@@ -1,0 +1,14 @@
+use Rattle.std.proofs.Common.{ℕ, sym, subst}
+use Rattle.paraid_rack.specs.Told.{Ran}
+use Rattle.paraid_session.specs.Turn.{GoesOn}
+use Rattle.paraid_trace.specs.Asked.{event_with}
+use Rattle.paraid_controller.specs.Arrays.{ArrayStandsAt, told_of_array}
+use Rattle.paraid_controller.specs.Laws.{going_end}
+use Rattle.paraid_controller.proofs.serving.ArrayServes.serve.Goals as goal
+
+pub returns-clause-turn : goal.returns-clause-turn
+returns-clause-turn g c p at =
+    let a = c.args.self.now in
+    let b = c.answer.new.self in
+    subst (λ (n : ℕ). Ran (told_of_array g.R.Rack.told a) (told_of_array g.R.Rack.told b) (GoesOn n a.setup p (event_with c.args.asked c.args.pairs.now) c.answer.result (ArrayStandsAt g.R.Rack.slot_count g.R.Rack.told b)))
+    ((a.serving (going_end a.ended c.requires.going)).same_slots) (c.answer.ensures.turn p at)

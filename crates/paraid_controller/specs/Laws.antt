@@ -1,0 +1,37 @@
+-- What an array keeps at any time, as its events are asked to.
+use Rattle.std.specs.Prelude.{◌≡◌, ℕ, ◌<◌, false, List, Option, Some, None}
+use Rattle.std.proofs.Common.{refl, sym, ap, ◌∙◌, subst}
+use Rattle.paraid_rack.specs.Disks.{is_present}
+use Rattle.paraid_rack.specs.Slots.{Slot}
+use Rattle.paraid_rack.specs.Trail.{Trail}
+use Rattle.paraid_record.specs.declared.meta.Setup.{Setup}
+use Rattle.paraid_image.specs.Out.{named_out}
+use Rattle.paraid_txn.specs.Stores.{store_rack}
+use Rattle.paraid_core.specs.declared.staged.Core.{Core}
+use Rattle.paraid_serve.specs.Calls.{IsNotDouble}
+use Rattle.paraid_session.specs.Turn.{Point}
+use Rattle.paraid_controller.specs.declared.array.Array.{Array}
+use Rattle.paraid_controller.specs.declared.ended.Ended.{Ended}
+use Rattle.paraid_controller.specs.Arrays.{ArrayStandsAt, halt_of_end}
+use Rattle.paraid_controller.specs.Lasting.{IsArrayServing}
+
+-- a point at which it stands tells its halt
+pub halt_at : {R : Type 0} {g : _} (count : R → ℕ) (told : R → Option Trail) (a : Array R g) (p : Point) → ArrayStandsAt count told a p → p.halt ≡ halt_of_end a.ended
+halt_at count told a p at = by a.ended refl
+  where
+    by : (o : Option Ended) → a.ended ≡ o → p.halt ≡ halt_of_end a.ended
+    by None e = (at.serves e).stands.going ∙ sym (ap halt_of_end e)
+    by (Some ended) e = (at.halted ended e).halt ∙ sym (ap halt_of_end e)
+
+-- what has not ended has no halt
+pub going_end : (o : Option Ended) → halt_of_end o ≡ None → o ≡ None
+going_end None e = refl
+going_end (Some ended) e = let z : Some ended.halt ≡ None = e in cc
+
+-- one that serves has at most one absent disk
+pub not_double : {R : Type 0} {g : _} (count : R → ℕ) (slot : R → ℕ → Slot) (core : Core R g) (lengths : List ℕ) (setup : Setup) (slots : ℕ) → IsArrayServing count slot core lengths setup slots
+    → IsNotDouble setup (slot (store_rack core.store))
+not_double count slot core lengths setup slots q d e d_low e_low d_away e_away = let z : Some d ≡ Some e = sym (out d d_low d_away) ∙ out e e_low e_away in cc
+  where
+    out : (x : ℕ) → x < setup.geometry.disks → is_present (slot (store_rack core.store) x).power ≡ false → named_out core.meta.out ≡ Some x
+    out x low away = q.serving.ready.absent x (subst (λ (z : Setup). x < z.geometry.disks) (sym q.same_setup) low) away
