@@ -29,7 +29,6 @@ enum Event {
     Read(u32),
     Write,
     Flush,
-    Later,
     Bad,
 }
 
@@ -90,14 +89,9 @@ fn pairs_of(mut text: &[u8], pairs: &mut Vec<(u32, Block)>) -> Option<()> {
 fn parse(line: &[u8], pairs: &mut Vec<(u32, Block)>) -> Event {
     let event = match line {
         b"f" => Some(Event::Flush),
-        b"t" | b"up" | b"down" | b"s" | b"e" => Some(Event::Later),
         [b'r', b' ', rest @ ..] => number(rest).map(Event::Read),
         [b'w', b' ', rest @ ..] => pairs_of(rest, pairs).map(|()| Event::Write),
-        _ => line
-            .strip_prefix(b"fail ")
-            .or_else(|| line.strip_prefix(b"replace "))
-            .and_then(number)
-            .map(|_| Event::Later),
+        _ => None,
     };
     event.unwrap_or(Event::Bad)
 }
@@ -162,7 +156,6 @@ fn answer(array: &mut Array, line: Option<&[u8]>, text: &mut Vec<u8>) {
             }
             writeln!(text, "flushed {writes}").unwrap();
         }
-        Event::Later => text.extend_from_slice(b"later\n"),
         Event::Bad => text.extend_from_slice(b"bad\n"),
     }
 }

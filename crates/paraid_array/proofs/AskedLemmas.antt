@@ -1,8 +1,7 @@
 -- Shifts that are asked for, as events of a session.
-use Rattle.std.proofs.Common.{◌≡◌, ◌≢◌, suc, ℕ, ◌+◌, ◌-◌, ◌*◌, ◌^◌, ◌<◌, ◌≤◌, ◌⊎◌, Bool, true, false, if◌then◌else◌, List, [], ◌∷◌, length, Option, Some, None, refl, sym, ap, ◌∙◌, inl, inr, subst, arith, min}
+use Rattle.std.proofs.Common.{◌≡◌, suc, ℕ, ◌+◌, ◌-◌, ◌*◌, ◌^◌, ◌<◌, ◌≤◌, ◌⊎◌, Bool, true, false, if◌then◌else◌, List, [], ◌∷◌, length, Option, Some, None, refl, sym, ap, ◌∙◌, inl, inr, subst, arith, min}
 use Rattle.std.specs.Prelude.{◌&&◌, nat_le, nat_lt, slice_index}
 use Rattle.std.proofs.lemmas.Bool.Decides.{nat_tests}
-use Rattle.paraid_base.specs.declared.event.Answer.{Answer}
 use Rattle.paraid_base.specs.declared.event.Answer.TheVariants.{Halted, Out as IsOut, Shift, Shifting as IsShifting}
 use Rattle.paraid_base.specs.declared.event.Event.TheVariants.{Down as AskDown, Up as AskUp}
 use Rattle.paraid_base.specs.declared.fault.Halt.TheVariants.{Two as HaltTwo}
@@ -17,7 +16,6 @@ use Rattle.paraid_rack.specs.Told.{Ran}
 use Rattle.paraid_rack.specs.Trail.{Trail}
 use Rattle.paraid_record.specs.declared.meta.Meta.{Meta}
 use Rattle.paraid_record.specs.declared.meta.Setup.{Setup}
-use Rattle.paraid_image.specs.Mark.{meta_after_loss}
 use Rattle.paraid_image.specs.Power.{PowerState}
 use Rattle.paraid_moves.specs.MoveMetas.{meta_after_begin}
 use Rattle.paraid_core.specs.declared.staged.Core.{Core}
@@ -25,7 +23,7 @@ use Rattle.paraid_core.specs.CoreInvariant.{AreCopiesSynced, meta_with_lost}
 use Rattle.paraid_core.specs.Cores.{core_rack}
 use Rattle.paraid_core.specs.Steps.{IsMarkedFrom, IsNamedOrAbsent}
 use Rattle.paraid_machine.specs.Energy.{energy_after, energy_of, spin_up_energy}
-use Rattle.paraid_machine.specs.Moves.{begun_down, begun_up, with_spin_ups, with_spins}
+use Rattle.paraid_machine.specs.Moves.{with_spin_ups, with_spins}
 use Rattle.paraid_session.specs.Turn.{GoesOn, Point, point_wear}
 use Rattle.paraid_event.specs.Moving.{GoesToState}
 use Rattle.paraid_event.specs.Service.{IsStateOf, Service, service_of}
@@ -44,7 +42,7 @@ use Rattle.paraid_array.specs.Refusals.{IsDownRefused, IsShiftStateOf, IsUpRefus
 use Rattle.paraid_array.specs.Service.{IsOutKnown}
 use Rattle.paraid_array.specs.Turns.{CoreGoesOn, CoreHalts}
 use Rattle.paraid_array.specs.declared.fault.ShiftFault.{ShiftFault}
-use Rattle.paraid_array.specs.declared.fault.ShiftFault.TheVariants.{Halt, Lowest, Out, Ration, Shifting, Top}
+use Rattle.paraid_array.specs.declared.fault.ShiftFault.TheVariants.{Lowest, Out, Ration, Shifting, Top}
 use Rattle.paraid_array.proofs.OutLemmas.{known_gone, known_whole}
 use Rattle.paraid_array.proofs.RefusalLemmas.{down_may_not, down_refused_same, up_may_not, up_refused_same}
 use Rattle.paraid_array.proofs.TurnLemmas.{goes_same}
@@ -54,7 +52,6 @@ shift_state : (k : Service) (s : PowerState) → IsStateOf k s → IsShiftStateO
 shift_state k s of = record { gear = of.gear; phase = of.phase; out = of.out; spins = of.spins; ticks = of.ticks }
 
 no_energy : (fault : ShiftFault) (setup : Setup) (s : PowerState) → energy_of setup s (fault_answer fault) ≡ 0
-no_energy (Halt halt) setup s = refl
 no_energy Top setup s = refl
 no_energy Lowest setup s = refl
 no_energy (Shifting to) setup s = refl
@@ -70,7 +67,6 @@ no_spin_ups mj to gear l = let e : to - gear ≡ 0 = omega (arith, l) in rw e (z
 -- A refused shift makes no call.
 module _ (told : Option Trail) (k : Service) (setup : Setup) (p : Point) (at : StandsAt told k setup p) (fit : point_wear p < 2 ^ 62) where
   down_refused : (fault : ShiftFault) → IsDownRefused setup p.state fault → Ran told told (GoesOn k.slots setup p AskDown (fault_answer fault) (StandsAt told k setup))
-  down_refused (Halt halt) why = absurd why
   down_refused Top why = absurd why
   down_refused Lowest why = down_lowest told k setup p at fit why
   down_refused (Shifting to) why = subst (λ (x : ℕ). Ran told told (GoesOn k.slots setup p AskDown (IsShifting x) (StandsAt told k setup))) (sym why.2.1) (down_shifting told k setup p at fit why.0 why.1 why.2.0)
@@ -78,7 +74,6 @@ module _ (told : Option Trail) (k : Service) (setup : Setup) (p : Point) (at : S
   down_refused (Ration d) why = down_ration told k setup p at fit why.0 d why.1 why.2.steady why.2.whole why.3
 
   up_refused : (fault : ShiftFault) → IsUpRefused setup p.state fault → Ran told told (GoesOn k.slots setup p AskUp (fault_answer fault) (StandsAt told k setup))
-  up_refused (Halt halt) why = absurd why
   up_refused Top why = up_top told k setup p at fit why
   up_refused Lowest why = absurd why
   up_refused (Shifting to) why = subst (λ (x : ℕ). Ran told told (GoesOn k.slots setup p AskUp (IsShifting x) (StandsAt told k setup))) (sym why.2.1) (up_shifting told k setup p at fit why.0 why.1 why.2.0)

@@ -15,7 +15,7 @@ use Rattle.paraid_machine.specs.Moves.{first_worn}
 use Rattle.paraid_array.specs.Refusals.{IsAtEase, IsDownRefused, IsUpRefused, MayGoDown, MayGoUp}
 use Rattle.paraid_array.specs.TickAnswers.{TellsDecision, TellsWorn}
 use Rattle.paraid_array.specs.declared.fault.ShiftFault.{ShiftFault}
-use Rattle.paraid_array.specs.declared.fault.ShiftFault.TheVariants.{Halt, Lowest, Out, Ration, Shifting, Top}
+use Rattle.paraid_array.specs.declared.fault.ShiftFault.TheVariants.{Lowest, Out, Ration, Shifting, Top}
 
 both_up : (full : Bool) (up down : Option ℕ) (to : ℕ) → (if full then first_of_both up down else Stay) ≡ Up to → up ≡ Some to
 both_up false up down to is = let z : Stay ≡ Up to = is in cc
@@ -74,7 +74,6 @@ module _ (setup : Setup) (s : PowerState) (made : Decision) (to : ℕ) where
 
   -- in an array at rest a shift up that the samples ask for is not refused
   pub up_free : (samples : List ℕ) (fault : ShiftFault) → made ≡ decision setup s.gear samples → made ≡ Up to → IsAtEase s.phase s.out → IsUpRefused setup s fault → ⊥
-  up_free samples (Halt halt) by is ease why = why
   up_free samples Top by is ease why = let z : None ≡ Some to = sym why ∙ decided_up setup s.gear samples to (sym by ∙ is) in cc
   up_free samples Lowest by is ease why = why
   up_free samples (Shifting x) by is ease why = why.2.0 ease.steady
@@ -83,7 +82,6 @@ module _ (setup : Setup) (s : PowerState) (made : Decision) (to : ℕ) where
 
   -- and a shift down only by a worn disk
   pub down_worn_only : (samples : List ℕ) (fault : ShiftFault) → made ≡ decision setup s.gear samples → made ≡ Down to → IsAtEase s.phase s.out → IsDownRefused setup s fault → (d : ℕ) × (fault ≡ Ration d)
-  down_worn_only samples (Halt halt) by is ease why = absurd why
   down_worn_only samples Top by is ease why = absurd why
   down_worn_only samples Lowest by is ease why = let z : None ≡ Some to = sym why ∙ decided_down setup s.gear samples to (sym by ∙ is) in cc
   down_worn_only samples (Shifting x) by is ease why = absurd (why.2.0 ease.steady)

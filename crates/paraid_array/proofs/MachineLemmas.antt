@@ -14,7 +14,7 @@ use Rattle.paraid_machine.specs.Machine.{begin, go_down, go_up, out_refusal, rat
 use Rattle.paraid_machine.specs.Moves.{begun_down, begun_up, first_worn}
 use Rattle.paraid_array.specs.Refusals.{IsAtEase, IsDownRefused, IsUpRefused, MayGoDown, MayGoUp, fault_answer}
 use Rattle.paraid_array.specs.declared.fault.ShiftFault.{ShiftFault}
-use Rattle.paraid_array.specs.declared.fault.ShiftFault.TheVariants.{Halt, Lowest, Out, Ration, Shifting, Top}
+use Rattle.paraid_array.specs.declared.fault.ShiftFault.TheVariants.{Lowest, Out, Ration, Shifting, Top}
 
 at_ease : (phase : Phase) (out : OutState) → IsAtEase phase out → shift_refusal phase out ≡ None
 at_ease phase out ease = ap (λ (z : Phase). shift_refusal z out) ease.steady ∙ ap out_refusal ease.whole
@@ -51,7 +51,6 @@ module _ (setup : Setup) (s : PowerState) where
   up_begins to may = up_by to None may.next (at_ease s.phase s.out may.at_ease)
 
   pub down_stays : (fault : ShiftFault) → IsDownRefused setup s fault → go_down setup None s (next_lower setup.geometry s.gear) ≡ (fault_answer fault, s) ∷ []
-  down_stays (Halt halt) why = absurd why
   down_stays Top why = absurd why
   down_stays Lowest why = ap (go_down setup None s) why
   down_stays (Shifting to) why = down_by why.0 (Some (IsShifting to)) why.1 (shifting s.phase s.out to why.2.0 why.2.1)
@@ -61,7 +60,6 @@ module _ (setup : Setup) (s : PowerState) where
       ∙ ap (λ (z : Option ℕ). begin (refusal_else None (ration_refusal z)) None s why.0 (begun_down why.0 s)) why.3
 
   pub up_stays : (fault : ShiftFault) → IsUpRefused setup s fault → go_up setup None s (next_higher setup.geometry s.gear) ≡ (fault_answer fault, s) ∷ []
-  up_stays (Halt halt) why = absurd why
   up_stays Top why = ap (go_up setup None s) why
   up_stays Lowest why = absurd why
   up_stays (Shifting to) why = up_by why.0 (Some (IsShifting to)) why.1 (shifting s.phase s.out to why.2.0 why.2.1)

@@ -1,6 +1,6 @@
 -- The ticks of a rebuild over a core, as turns of a session.
-use Rattle.std.specs.Prelude.{◌≡◌, ℕ, ◌+◌, ◌-◌, ◌^◌, ◌<◌, ◌≤◌, ◌⊎◌, Bool, true, false, List, [], ◌∷◌, Option, Some, None, if◌then◌else◌}
-use Rattle.std.proofs.Common.{refl, sym, ◌∙◌, ap, subst, arith, inl, inr}
+use Rattle.std.specs.Prelude.{◌≡◌, ℕ, ◌+◌, ◌-◌, ◌^◌, ◌<◌, ◌≤◌, Bool, true, false, List, [], ◌∷◌, Option, Some, None, if◌then◌else◌}
+use Rattle.std.proofs.Common.{refl, sym, ◌∙◌, ap, subst, arith}
 use Rattle.paraid_base.specs.declared.event.Answer.TheVariants.{Ticked}
 use Rattle.paraid_base.specs.declared.event.Event.TheVariants.{Tick}
 use Rattle.paraid_base.specs.declared.fault.Two.{Two}
@@ -8,7 +8,6 @@ use Rattle.paraid_base.specs.declared.state.Out.TheVariants.{Fresh, Gone, No}
 use Rattle.paraid_base.specs.declared.state.TickEvent.TheVariants.{Gone as GoneAgain, Moving, Rebuilt}
 use Rattle.paraid_base.specs.History.{History}
 use Rattle.paraid_rack.specs.declared.call.Call.TheVariants.{Park}
-use Rattle.paraid_rack.specs.declared.call.Power.{Power}
 use Rattle.paraid_rack.specs.declared.call.Power.TheVariants.{Absent, Parked}
 use Rattle.paraid_rack.specs.Disks.{Disks, is_present, power_after, step}
 use Rattle.paraid_rack.specs.Slots.{Agrees, Slot}
@@ -37,7 +36,7 @@ use Rattle.paraid_machine.specs.Moves.{state_with_tick, units_to_rebuild}
 use Rattle.paraid_session.specs.Turn.{GoesOn, Point, point_wear}
 use Rattle.paraid_event.specs.Powering.{ServiceRests}
 use Rattle.paraid_event.specs.RebuildEnds.{MarksRejoined, ParksInEvent}
-use Rattle.paraid_event.specs.RebuildTicks.{CountsRebuild, MarksGoneAgain, MarksRebuilt}
+use Rattle.paraid_event.specs.RebuildTicks.{CountsRebuild, MarksGoneAgain}
 use Rattle.paraid_event.specs.Service.{Service, service_of}
 use Rattle.paraid_event.specs.Stands.{ServiceStandsFor, StandsAt}
 use Rattle.paraid_event.specs.Steps.{LosesInSteps, StepsInEvent}

@@ -17,7 +17,7 @@ use Rattle.paraid_image.specs.Power.{PowerState}
 use Rattle.paraid_machine.specs.Moves.{first_worn}
 use Rattle.paraid_array.specs.Refusals.{IsAtEase, IsDownRefused, IsHinderedBy, IsShiftStateOf, IsUpRefused, MayGoDown, MayGoUp}
 use Rattle.paraid_array.specs.declared.fault.ShiftFault.{ShiftFault}
-use Rattle.paraid_array.specs.declared.fault.ShiftFault.TheVariants.{Halt, Lowest, Out, Ration, Shifting, Top}
+use Rattle.paraid_array.specs.declared.fault.ShiftFault.TheVariants.{Lowest, Out, Ration, Shifting, Top}
 
 module _ (m : Meta) (s : PowerState) (of : IsShiftStateOf m s) where
   lower_of : (answer : Option ℕ) → IsLower m.setup.geometry m.gear answer → next_lower m.setup.geometry s.gear ≡ answer
@@ -30,7 +30,6 @@ module _ (m : Meta) (s : PowerState) (of : IsShiftStateOf m s) where
   ease_of steady whole = record { steady = of.phase ∙ steady; whole = of.out ∙ whole }
 
   hindered_of : (fault : ShiftFault) → IsHinderedBy m.phase m.out fault → IsHinderedBy s.phase s.out fault
-  hindered_of (Halt halt) h = h
   hindered_of Top h = h
   hindered_of Lowest h = h
   hindered_of (Shifting to) h = (λ is. h.0 (sym of.phase ∙ is), h.1 ∙ ap phase_to (sym of.phase))
@@ -44,7 +43,6 @@ module _ (m : Meta) (s : PowerState) (of : IsShiftStateOf m s) where
   highest answer none is = higher_of answer is ∙ none
 
   pub down_hindered : (answer : Option ℕ) (to : ℕ) (fault : ShiftFault) → answer ≡ Some to → IsLower m.setup.geometry m.gear answer → IsHinderedBy m.phase m.out fault → IsDownRefused m.setup s fault
-  down_hindered answer to (Halt halt) some is h = h
   down_hindered answer to Top some is h = h
   down_hindered answer to Lowest some is h = absurd h
   down_hindered answer to (Shifting x) some is h = (to, lower_of answer is ∙ some, hindered_of (Shifting x) h)
@@ -52,7 +50,6 @@ module _ (m : Meta) (s : PowerState) (of : IsShiftStateOf m s) where
   down_hindered answer to (Ration d) some is h = absurd h
 
   pub up_hindered : (answer : Option ℕ) (to : ℕ) (fault : ShiftFault) → answer ≡ Some to → IsHigher m.setup.geometry m.gear answer → IsHinderedBy m.phase m.out fault → IsUpRefused m.setup s fault
-  up_hindered answer to (Halt halt) some is h = h
   up_hindered answer to Top some is h = absurd h
   up_hindered answer to Lowest some is h = h
   up_hindered answer to (Shifting x) some is h = (to, higher_of answer is ∙ some, hindered_of (Shifting x) h)
@@ -107,17 +104,14 @@ same_some {a} {x} {y} first second = let z : Some x ≡ Some y = sym first ∙ s
 
 -- two faults that hinder a shift are the same
 hindered_same : (phase : Phase) (out : OutState) (a b : ShiftFault) → IsHinderedBy phase out a → IsHinderedBy phase out b → a ≡ b
-hindered_same phase out (Halt halt) b first second = absurd first
 hindered_same phase out Top b first second = absurd first
 hindered_same phase out Lowest b first second = absurd first
 hindered_same phase out (Ration d) b first second = absurd first
-hindered_same phase out (Shifting x) (Halt halt) first second = absurd second
 hindered_same phase out (Shifting x) Top first second = absurd second
 hindered_same phase out (Shifting x) Lowest first second = absurd second
 hindered_same phase out (Shifting x) (Ration d) first second = absurd second
 hindered_same phase out (Shifting x) (Shifting y) first second = ap Shifting (first.1 ∙ sym second.1)
 hindered_same phase out (Shifting x) (Out d) first second = absurd (first.0 second.0)
-hindered_same phase out (Out d) (Halt halt) first second = absurd second
 hindered_same phase out (Out d) Top first second = absurd second
 hindered_same phase out (Out d) Lowest first second = absurd second
 hindered_same phase out (Out d) (Ration e) first second = absurd second
@@ -125,7 +119,6 @@ hindered_same phase out (Out d) (Shifting x) first second = absurd (second.0 fir
 hindered_same phase out (Out d) (Out e) first second = ap Out (same_some first.1 second.1)
 
 ease_hindered : (phase : Phase) (out : OutState) (fault : ShiftFault) → IsAtEase phase out → IsHinderedBy phase out fault → ⊥
-ease_hindered phase out (Halt halt) ease h = h
 ease_hindered phase out Top ease h = h
 ease_hindered phase out Lowest ease h = h
 ease_hindered phase out (Shifting x) ease h = h.0 ease.steady
@@ -134,27 +127,22 @@ ease_hindered phase out (Ration d) ease h = h
 
 -- a shift down has one refusal
 pub down_refused_same : (setup : Setup) (s : PowerState) (a b : ShiftFault) → IsDownRefused setup s a → IsDownRefused setup s b → a ≡ b
-down_refused_same setup s (Halt halt) b first second = absurd first
 down_refused_same setup s Top b first second = absurd first
-down_refused_same setup s Lowest (Halt halt) first second = absurd second
 down_refused_same setup s Lowest Top first second = absurd second
 down_refused_same setup s Lowest Lowest first second = refl
 down_refused_same setup s Lowest (Shifting y) first second = absurd (none_some first second.1)
 down_refused_same setup s Lowest (Out e) first second = absurd (none_some first second.1)
 down_refused_same setup s Lowest (Ration e) first second = absurd (none_some first second.1)
-down_refused_same setup s (Shifting x) (Halt halt) first second = absurd second
 down_refused_same setup s (Shifting x) Top first second = absurd second
 down_refused_same setup s (Shifting x) Lowest first second = absurd (none_some second first.1)
 down_refused_same setup s (Shifting x) (Shifting y) first second = hindered_same s.phase s.out (Shifting x) (Shifting y) first.2 second.2
 down_refused_same setup s (Shifting x) (Out e) first second = hindered_same s.phase s.out (Shifting x) (Out e) first.2 second.2
 down_refused_same setup s (Shifting x) (Ration e) first second = absurd (ease_hindered s.phase s.out (Shifting x) second.2 first.2)
-down_refused_same setup s (Out d) (Halt halt) first second = absurd second
 down_refused_same setup s (Out d) Top first second = absurd second
 down_refused_same setup s (Out d) Lowest first second = absurd (none_some second first.1)
 down_refused_same setup s (Out d) (Shifting y) first second = hindered_same s.phase s.out (Out d) (Shifting y) first.2 second.2
 down_refused_same setup s (Out d) (Out e) first second = hindered_same s.phase s.out (Out d) (Out e) first.2 second.2
 down_refused_same setup s (Out d) (Ration e) first second = absurd (ease_hindered s.phase s.out (Out d) second.2 first.2)
-down_refused_same setup s (Ration d) (Halt halt) first second = absurd second
 down_refused_same setup s (Ration d) Top first second = absurd second
 down_refused_same setup s (Ration d) Lowest first second = absurd (none_some second first.1)
 down_refused_same setup s (Ration d) (Shifting y) first second = absurd (ease_hindered s.phase s.out (Shifting y) first.2 second.2)
@@ -165,7 +153,6 @@ down_refused_same setup s (Ration d) (Ration e) first second =
 
 -- and none where it may begin
 pub down_may_not : (setup : Setup) (s : PowerState) (to : ℕ) (fault : ShiftFault) → MayGoDown setup s to → IsDownRefused setup s fault → ⊥
-down_may_not setup s to (Halt halt) may why = why
 down_may_not setup s to Top may why = why
 down_may_not setup s to Lowest may why = none_some why may.next
 down_may_not setup s to (Shifting x) may why = ease_hindered s.phase s.out (Shifting x) may.at_ease why.2
@@ -173,22 +160,18 @@ down_may_not setup s to (Out d) may why = ease_hindered s.phase s.out (Out d) ma
 down_may_not setup s to (Ration d) may why = none_some (ap (first_worn setup s) (same_some why.1 may.next) ∙ may.unworn) why.3
 
 pub up_refused_same : (setup : Setup) (s : PowerState) (a b : ShiftFault) → IsUpRefused setup s a → IsUpRefused setup s b → a ≡ b
-up_refused_same setup s (Halt halt) b first second = absurd first
 up_refused_same setup s Lowest b first second = absurd first
 up_refused_same setup s (Ration d) b first second = absurd first
-up_refused_same setup s Top (Halt halt) first second = absurd second
 up_refused_same setup s Top Lowest first second = absurd second
 up_refused_same setup s Top (Ration e) first second = absurd second
 up_refused_same setup s Top Top first second = refl
 up_refused_same setup s Top (Shifting y) first second = absurd (none_some first second.1)
 up_refused_same setup s Top (Out e) first second = absurd (none_some first second.1)
-up_refused_same setup s (Shifting x) (Halt halt) first second = absurd second
 up_refused_same setup s (Shifting x) Lowest first second = absurd second
 up_refused_same setup s (Shifting x) (Ration e) first second = absurd second
 up_refused_same setup s (Shifting x) Top first second = absurd (none_some second first.1)
 up_refused_same setup s (Shifting x) (Shifting y) first second = hindered_same s.phase s.out (Shifting x) (Shifting y) first.2 second.2
 up_refused_same setup s (Shifting x) (Out e) first second = hindered_same s.phase s.out (Shifting x) (Out e) first.2 second.2
-up_refused_same setup s (Out d) (Halt halt) first second = absurd second
 up_refused_same setup s (Out d) Lowest first second = absurd second
 up_refused_same setup s (Out d) (Ration e) first second = absurd second
 up_refused_same setup s (Out d) Top first second = absurd (none_some second first.1)
@@ -196,7 +179,6 @@ up_refused_same setup s (Out d) (Shifting y) first second = hindered_same s.phas
 up_refused_same setup s (Out d) (Out e) first second = hindered_same s.phase s.out (Out d) (Out e) first.2 second.2
 
 pub up_may_not : (setup : Setup) (s : PowerState) (to : ℕ) (fault : ShiftFault) → MayGoUp setup s to → IsUpRefused setup s fault → ⊥
-up_may_not setup s to (Halt halt) may why = why
 up_may_not setup s to Top may why = none_some why may.next
 up_may_not setup s to Lowest may why = why
 up_may_not setup s to (Shifting x) may why = ease_hindered s.phase s.out (Shifting x) may.at_ease why.2

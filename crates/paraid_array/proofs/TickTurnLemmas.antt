@@ -2,7 +2,6 @@
 use Rattle.std.specs.Prelude.{◌≡◌, ◌≢◌, ℕ, ◌+◌, ◌-◌, ◌*◌, ◌^◌, ◌<◌, ◌≤◌, ◌⊎◌, ◌==◌, ◌&&◌, nat_le, nat_lt, min, Bool, true, false, List, [], ◌∷◌, length, Option, Some, None, slice_index, if◌then◌else◌}
 use Rattle.std.proofs.Common.{refl, sym, ◌∙◌, ap, subst, arith, inl, inr, zero, suc}
 use Rattle.std.proofs.lemmas.Bool.Decides.{nat_tests}
-use Rattle.paraid_base.specs.declared.event.Answer.{Answer}
 use Rattle.paraid_base.specs.declared.event.Answer.TheVariants.{Halted, Ticked}
 use Rattle.paraid_base.specs.declared.event.Event.TheVariants.{Tick}
 use Rattle.paraid_base.specs.declared.fault.Halt.TheVariants.{Two as HaltTwo}
@@ -40,7 +39,7 @@ use Rattle.paraid_core.specs.CoreInvariant.{AreCopiesSynced, meta_with_lost}
 use Rattle.paraid_core.specs.Steps.{IsMarkedFrom, IsNamedOrAbsent}
 use Rattle.paraid_machine.specs.Energy.{begun_energy, spin_up_energy, tick_energy}
 use Rattle.paraid_machine.specs.Machine.{report}
-use Rattle.paraid_machine.specs.Moves.{after_loss, after_unit, after_units, first_dirty, first_worn, state_with_tick, units_by, units_left, units_of_tick, with_spin_ups, with_spins}
+use Rattle.paraid_machine.specs.Moves.{after_unit, after_units, first_dirty, first_worn, state_with_tick, units_by, units_left, units_of_tick, with_spin_ups, with_spins}
 use Rattle.paraid_session.specs.Turn.{GoesOn, Point, point_wear}
 use Rattle.paraid_session.specs.Watch.{Watch, watch_all}
 use Rattle.paraid_event.specs.Moving.{EndsShift, GoesToState, MovesUnits}

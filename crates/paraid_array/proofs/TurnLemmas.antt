@@ -1,5 +1,6 @@
 -- Disks that are taken out and replaced, and what is refused, as events of a session.
 use Rattle.std.proofs.Common.{◌≡◌, ◌≢◌, ℕ, ◌+◌, ◌^◌, ◌<◌, ◌≤◌, ◌⊎◌, true, false, List, [], length, Option, Some, None, refl, sym, ap, ◌∙◌, inl, inr, subst, arith, min}
+use Rattle.std.proofs.lemmas.List.{append-nil}
 use Rattle.paraid_base.specs.declared.event.Answer.{Answer}
 use Rattle.paraid_base.specs.declared.event.Answer.TheVariants.{Failed, NoDisk, NoFresh, NotOut, Out as IsOut, Replaced}
 use Rattle.paraid_base.specs.declared.event.Event.{Event}
@@ -7,6 +8,8 @@ use Rattle.paraid_base.specs.declared.event.Event.TheVariants.{Fail, Replace}
 use Rattle.paraid_base.specs.declared.fault.Two.{Two}
 use Rattle.paraid_base.specs.declared.state.Out.TheVariants.{Fresh, Gone, No}
 use Rattle.paraid_base.specs.History.{History}
+use Rattle.paraid_rack.specs.declared.call.Call.{Call}
+use Rattle.paraid_rack.proofs.TrailsLemmas.{Ran-none}
 use Rattle.paraid_rack.specs.Slots.{Agrees, Slot}
 use Rattle.paraid_rack.specs.Told.{CrashTriple, Ran}
 use Rattle.paraid_rack.specs.Trail.{Trail, now}
@@ -21,11 +24,15 @@ use Rattle.paraid_core.specs.Calls.{CommitsWhole, MakesTransferCalls}
 use Rattle.paraid_core.specs.CoreInvariant.{AreCopiesSynced}
 use Rattle.paraid_core.specs.Cores.{CanCoreServe, CoreStandsFor, IsCoreHeld, IsCoreHeldSinceCommit, IsCoreReady, core_down, core_rack}
 use Rattle.paraid_core.specs.Lost.{CoreMarksLost, CoreTellsLosses}
+use Rattle.paraid_core.proofs.CallLemmas.{keeps_held}
+use Rattle.paraid_core.proofs.LostMarkLemmas.{marks_none}
+use Rattle.paraid_core.proofs.WriteLemmas.{all_kept}
 use Rattle.paraid_machine.specs.Energy.{energy_of}
 use Rattle.paraid_session.specs.Turn.{GoesOn, Point, point_wear}
 use Rattle.paraid_event.specs.Counts.{CountsFlushed}
 use Rattle.paraid_event.specs.Lost.{TellsTwo}
 use Rattle.paraid_event.specs.Parts.{LosesInEvent, ServesEvent}
+use Rattle.paraid_event.specs.Parts.BringsMeta.{nothing as nothing_brought}
 use Rattle.paraid_event.specs.Replacements.{LosesReplaced, ReplacesDisk}
 use Rattle.paraid_event.specs.Service.{Service, service_of}
 use Rattle.paraid_event.specs.Stands.{ServiceStandsFor, StandsAt}
@@ -105,6 +112,32 @@ module _ {R : Type 0} {g : _} (count : R → ℕ) (slot : R → ℕ → Slot) (t
         let k = service_of count a samples served energy in
         commit_loses (told (core_rack a)) (told (core_rack b)) k k h lo h lo (core_down a) (out_by a) (TellsTwo k two) calls (moments h lo) (whole h lo)
         (subst (λ (o : Option ℕ). CoreTellsLosses told o a b two) (down_named a serves.stays) tells)
+
+  -- where nothing is staged, all writes are kept with no call
+  pub commits_none : (a : Core R g) → IsCoreReady count slot a → length a.batch ≡ 0 → CoreCommits count told a a
+  commits_none a ready none setup p samples served energy at t tells =
+      let k = service_of count a samples served energy in
+      let marked = marked_by_slots (told (core_rack a)) (told (core_rack a)) k a.meta setup p at (slot (core_rack a)) (slot (core_rack a)) (λ _ _. Unit {0})
+      (Ran-none (λ _ _. Unit {0}) (λ _. tt) (told (core_rack a))) (agrees (core_rack a)) (agrees (core_rack a))
+      (marks_none a.meta a.meta (slot (core_rack a)) (slot (core_rack a)) a.meta.epoch a.meta.writes (λ d. refl) refl) ready.absent in
+      record {
+        from = t;
+        was = tells;
+        calls = [];
+        is = ap (λ (l : List Call). record { start = t.start; calls = l }) (sym (append-nil t.calls));
+        holds = λ z. (
+          record {
+            out = named_of a.store;
+            is_out = λ d e. inl e;
+            held = keeps_held k.slots k.named a.meta a.dirty a.batch a.copied p.history p.low (now t) z;
+            brings = nothing_brought tt;
+          },
+          record {
+            keeps = (all_kept k.slots k.named a.meta a.dirty a.batch a.copied p.history p.low (now t) none z).0;
+            marks = marked t tells;
+          },
+        );
+      }
 
   -- The mark that a disk is gone, and the commit of it.
   module _ (a b : Core R g) (d : ℕ) (store : b.store ≡ a.store) (meta : b.meta ≡ meta_after_loss a.meta d) (table : b.dirty ≡ a.dirty) (batch : b.batch ≡ a.batch) (copied : b.copied ≡ a.copied) where

@@ -3,21 +3,19 @@ use Rattle.std.specs.Prelude.{◌≡◌, ◌≢◌, ℕ, ◌<◌, ◌≤◌, ◌
 use Rattle.paraid_record.specs.declared.meta.Meta.{Meta}
 use Rattle.paraid_image.specs.Out.{named_out}
 use Rattle.paraid_array.specs.declared.fault.FailFault.{FailFault}
-use Rattle.paraid_array.specs.declared.fault.FailFault.TheVariants.{Halt as FailHalt, NoDisk as FailNoDisk, Out}
+use Rattle.paraid_array.specs.declared.fault.FailFault.TheVariants.{NoDisk as FailNoDisk, Out}
 use Rattle.paraid_array.specs.declared.fault.ReplaceFault.{ReplaceFault}
-use Rattle.paraid_array.specs.declared.fault.ReplaceFault.TheVariants.{Halt, NoDisk, NoFresh, NotOut}
+use Rattle.paraid_array.specs.declared.fault.ReplaceFault.TheVariants.{NoDisk, NoFresh, NotOut}
 
 -- Disk `d` is not taken out under `m`, after which the meta is `m_then`: there is no such disk, one was out before, or none
 -- was and another one was lost with what was staged.
 abbrev pub IsFailRefused : Meta → Meta → ℕ → FailFault → Type 0
-IsFailRefused m m_then d (FailHalt halt) = ⊥
 IsFailRefused m m_then d (FailNoDisk e) = (e ≡ d) × (m.setup.geometry.disks ≤ d)
 IsFailRefused m m_then d (Out e) =
     (d < m.setup.geometry.disks) × ((named_out m.out ≡ Some e) ⊎ ((named_out m.out ≡ None) × (named_out m_then.out ≡ Some e) × (e ≢ d)))
 
 -- disk `d` is not replaced under `m`: there is no such disk, it is not out, or it is and no fresh one came
 abbrev pub IsReplaceRefused : Meta → ℕ → ReplaceFault → Type 0
-IsReplaceRefused m d (Halt halt) = ⊥
 IsReplaceRefused m d (NoDisk e) = (e ≡ d) × (m.setup.geometry.disks ≤ d)
 IsReplaceRefused m d (NotOut e) = (e ≡ d) × (d < m.setup.geometry.disks) × (named_out m.out ≢ Some d)
 IsReplaceRefused m d (NoFresh e) = (e ≡ d) × (d < m.setup.geometry.disks) × (named_out m.out ≡ Some d)

@@ -1,7 +1,7 @@
 -- When a shift that is asked for begins, and why it is refused: the conditions of the machine, one after the other.
 use Rattle.std.specs.Prelude.{◌≡◌, ◌≢◌, ℕ, Some, None}
 use Rattle.paraid_base.specs.declared.event.Answer.{Answer}
-use Rattle.paraid_base.specs.declared.event.Answer.TheVariants.{Halted, Lowest as IsLowest, Out as IsOut, Ration as RationUsed, Shifting as IsShifting, Top as IsTop}
+use Rattle.paraid_base.specs.declared.event.Answer.TheVariants.{Lowest as IsLowest, Out as IsOut, Ration as RationUsed, Shifting as IsShifting, Top as IsTop}
 use Rattle.paraid_base.specs.declared.state.Out.{Out as OutState}
 use Rattle.paraid_base.specs.declared.state.Out.TheVariants.{No}
 use Rattle.paraid_base.specs.declared.state.Phase.{Phase}
@@ -15,7 +15,7 @@ use Rattle.paraid_machine.specs.Moves.{first_worn}
 use Rattle.paraid_array.specs.declared.asked.Asked.{Asked}
 use Rattle.paraid_array.specs.declared.asked.Asked.TheVariants.{Begun, Refused}
 use Rattle.paraid_array.specs.declared.fault.ShiftFault.{ShiftFault}
-use Rattle.paraid_array.specs.declared.fault.ShiftFault.TheVariants.{Halt, Lowest, Out, Ration, Shifting, Top}
+use Rattle.paraid_array.specs.declared.fault.ShiftFault.TheVariants.{Lowest, Out, Ration, Shifting, Top}
 
 -- what a shift sees of the state is what this meta says
 pub record IsShiftStateOf (m : Meta) (s : PowerState) : Type 0 where
@@ -27,7 +27,6 @@ pub record IsShiftStateOf (m : Meta) (s : PowerState) : Type 0 where
 
 -- the answer that tells a refusal
 abbrev pub fault_answer : ShiftFault → Answer
-fault_answer (Halt halt) = Halted halt
 fault_answer Top = IsTop
 fault_answer Lowest = IsLowest
 fault_answer (Shifting to) = IsShifting to
@@ -41,7 +40,6 @@ pub record IsAtEase (phase : Phase) (out : OutState) : Type 0 where
 
 -- A shift that is under way hinders another one, and else the disk that is out.
 abbrev pub IsHinderedBy : Phase → OutState → ShiftFault → Type 0
-IsHinderedBy phase out (Halt halt) = ⊥
 IsHinderedBy phase out Top = ⊥
 IsHinderedBy phase out Lowest = ⊥
 IsHinderedBy phase out (Shifting to) = (phase ≢ Steady) × (to ≡ phase_to phase)
@@ -61,7 +59,6 @@ pub record MayGoUp (setup : Setup) (s : PowerState) (to : ℕ) : Type 0 where
 
 -- a shift down is refused so
 abbrev pub IsDownRefused : Setup → PowerState → ShiftFault → Type 0
-IsDownRefused setup s (Halt halt) = ⊥
 IsDownRefused setup s Top = ⊥
 IsDownRefused setup s Lowest = next_lower setup.geometry s.gear ≡ None
 IsDownRefused setup s (Shifting to) = (next : ℕ) × (next_lower setup.geometry s.gear ≡ Some next) × IsHinderedBy s.phase s.out (Shifting to)
@@ -70,7 +67,6 @@ IsDownRefused setup s (Ration d) = (next : ℕ) × (next_lower setup.geometry s.
 
 -- a shift up is refused so
 abbrev pub IsUpRefused : Setup → PowerState → ShiftFault → Type 0
-IsUpRefused setup s (Halt halt) = ⊥
 IsUpRefused setup s Top = next_higher setup.geometry s.gear ≡ None
 IsUpRefused setup s Lowest = ⊥
 IsUpRefused setup s (Shifting to) = (next : ℕ) × (next_higher setup.geometry s.gear ≡ Some next) × IsHinderedBy s.phase s.out (Shifting to)

@@ -27,9 +27,9 @@ use Rattle.paraid_array.specs.Refusals.{fault_answer}
 use Rattle.paraid_array.specs.declared.asked.Asked.{Asked}
 use Rattle.paraid_array.specs.declared.asked.Asked.TheVariants.{Begun, Refused}
 use Rattle.paraid_array.specs.declared.fault.FailFault.{FailFault}
-use Rattle.paraid_array.specs.declared.fault.FailFault.TheVariants.{Halt as FailHalt, NoDisk as FailNoDisk, Out as FailOut}
+use Rattle.paraid_array.specs.declared.fault.FailFault.TheVariants.{NoDisk as FailNoDisk, Out as FailOut}
 use Rattle.paraid_array.specs.declared.fault.ReplaceFault.{ReplaceFault}
-use Rattle.paraid_array.specs.declared.fault.ReplaceFault.TheVariants.{Halt as ReplaceHalt, NoDisk as ReplaceNoDisk, NoFresh as ReplaceNoFresh, NotOut as ReplaceNotOut}
+use Rattle.paraid_array.specs.declared.fault.ReplaceFault.TheVariants.{NoDisk as ReplaceNoDisk, NoFresh as ReplaceNoFresh, NotOut as ReplaceNotOut}
 
 -- The event takes each point at which the core stood, with any counts, to one at which it stands then, with the energy that it
 -- has used.
@@ -68,14 +68,12 @@ CoreTickHalts count told windows old new two = (k : Service) (setup : Setup) (p 
 -- the answer that tells that disk `d` was taken out, or why not
 abbrev pub fail_answer : ℕ → Option FailFault → Answer
 fail_answer d None = Failed d
-fail_answer d (Some (FailHalt halt)) = Halted halt
 fail_answer d (Some (FailNoDisk e)) = NoDisk e
 fail_answer d (Some (FailOut e)) = IsOut e
 
 -- the answer that tells that disk `d` was replaced, or why not
 abbrev pub replace_answer : ℕ → Option ReplaceFault → Answer
 replace_answer d None = Replaced d
-replace_answer d (Some (ReplaceHalt halt)) = Halted halt
 replace_answer d (Some (ReplaceNoDisk e)) = NoDisk e
 replace_answer d (Some (ReplaceNotOut e)) = NotOut e
 replace_answer d (Some (ReplaceNoFresh e)) = NoFresh e

@@ -17,8 +17,8 @@ use paraid_base::{DiskNo, Two};
 use paraid_core::Core;
 use paraid_rack::Rack;
 
-// Commits all writes, also where nothing is staged: they are kept, and counted, before a disk is taken out, whatever is lost
-// as it is marked.
+// Commits what is staged, if anything is: so all writes are kept before a disk is taken out, whatever is lost as it is
+// marked.
 fn commit_writes<R: Rack>(core: &mut Core<R>) -> Result<(), Two>
     requires service { IsInService R.slot_count R.slot core.old }
     requires epoch { (meta_of core.old).epoch < 2 ^ 62 }
@@ -26,6 +26,7 @@ fn commit_writes<R: Rack>(core: &mut Core<R>) -> Result<(), Two>
     ensures known { OnOk result (IsOutKnown R.slot core.old → IsOutKnown R.slot core.new) }
     ensures unsynced { OnOk result (AreUnsyncedCopied R.slot core.old → AreUnsyncedCopied R.slot core.new) }
     ensures nothing { OnOk result (batch_of core.new ≡ []) }
+    ensures idle { batch_of core.old ≡ [] → core.new ≡ core.old }
     ensures table { core_table core.new ≡ core_table core.old }
     ensures slots { R.slot_count (core_rack core.new) ≡ R.slot_count (core_rack core.old) }
     ensures spared { OnlyLosesSlots (R.slot (core_rack core.old)) (R.slot (core_rack core.new)) }
@@ -33,13 +34,16 @@ fn commit_writes<R: Rack>(core: &mut Core<R>) -> Result<(), Two>
         (R.slot (core_rack core.old)) (R.slot (core_rack core.new))) }
     ensures setup { OnOk result ((meta_of core.new).setup ≡ (meta_of core.old).setup) }
     ensures writes { OnOk result ((meta_of core.new).writes ≡ (meta_of core.old).writes) }
-    ensures epoch { OnOk result ((meta_of core.new).epoch ≡ (meta_of core.old).epoch + 1) }
+    ensures epoch { OnOk result ((meta_of core.new).epoch ≤ (meta_of core.old).epoch + 1) }
     ensures commits { OnOk result (CoreCommits R.slot_count R.told core.old core.new) }
     ensures loses { IfErr result (λ two. CoreLosesCommit R.slot_count R.told core.old core.new two) }
     ensures two { IfErr result (AreTwoDown (core_down core.old)
         (R.slot (core_rack core.old)) (R.slot (core_rack core.new))) }
     ensures told { IsSome (R.told (core_rack core.new)) → IsSome (R.told (core_rack core.old)) }
 {
+    if core.staged() == 0 {
+        return Ok(());
+    }
     core.commit()?;
     Ok(())
 }
@@ -73,8 +77,8 @@ fn mark_gone<R: Rack>(core: &mut Core<R>, disk: DiskNo) -> Result<(), Two>
     Ok(())
 }
 
-/// Takes a disk out, unless it is refused: where there is no such disk, or one is out. All writes are committed
-/// first; another disk that is lost in that refuses it too. It gives the refusal.
+/// Takes a disk out, unless it is refused: where there is no such disk, or one is out. What is staged is committed
+/// first, if anything is; another disk that is lost in that refuses it too. It gives the refusal.
 pub fn take_out<R: Rack>(core: &mut Core<R>, disk: DiskNo) -> Result<Option<FailFault>, Two>
     requires service { IsInService R.slot_count R.slot core.old }
     requires epoch { (meta_of core.old).epoch < 2 ^ 62 }
@@ -95,10 +99,13 @@ pub fn take_out<R: Rack>(core: &mut Core<R>, disk: DiskNo) -> Result<Option<Fail
     ensures slots { R.slot_count (core_rack core.new) ≡ R.slot_count (core_rack core.old) }
     ensures table { core_table core.new ≡ core_table core.old }
     ensures epoch { OnOk result ((meta_of core.new).epoch ≤ (meta_of core.old).epoch + 2) }
+    // Where nothing is staged, the mark is the only commit.
+    ensures alone { batch_of core.old ≡ [] → OnOk result ((meta_of core.new).epoch ≤ (meta_of core.old).epoch + 1) }
     // It is an event of a session.
     ensures turn { IfOk result (λ refusal. CoreGoesOn R.slot_count R.told core.old core.new
         (FailEvent disk) (fail_answer disk refusal)) }
     ensures halts { IfErr result (λ two. CoreHalts R.slot_count R.told core.old core.new (FailEvent disk) two) }
+    ensures no_fall { (d : ℕ) → (R.slot (core_rack core.old) d).faults ≤ (R.slot (core_rack core.new) d).faults }
     // The first of two disks may be the one that is taken out.
     ensures two { IfErr result (AreTwoDownBeside (λ d. (core_down core.old ≡ Some d) ⊎ (d ≡ disk))
         (R.slot (core_rack core.old)) (R.slot (core_rack core.new))) }

@@ -1,10 +1,8 @@
-use paraid_base::{DiskNo, Halt};
+use paraid_base::DiskNo;
 
 /// Why a shift does not begin.
 #[derive(Clone, Copy, Debug, PartialEq, Eq)]
 pub enum ShiftFault {
-    /// The array has halted.
-    Halt(Halt),
     /// There is no higher gear.
     Top,
     /// There is no lower gear.
@@ -20,8 +18,6 @@ pub enum ShiftFault {
 /// Why a disk is not taken out.
 #[derive(Clone, Copy, Debug, PartialEq, Eq)]
 pub enum FailFault {
-    /// The array has halted.
-    Halt(Halt),
     /// The array has no such disk.
     NoDisk { disk: DiskNo },
     /// This disk is out.
@@ -31,8 +27,6 @@ pub enum FailFault {
 /// Why a disk is not replaced.
 #[derive(Clone, Copy, Debug, PartialEq, Eq)]
 pub enum ReplaceFault {
-    /// The array has halted.
-    Halt(Halt),
     /// The array has no such disk.
     NoDisk { disk: DiskNo },
     /// This disk is not out.

@@ -10,6 +10,7 @@ ghost use Rattle.paraid_array.specs.Service.{IsOutKnown};
 ghost use Rattle.paraid_array.specs.Turns.{CoreGoesOn, CoreHalts, replace_answer};
 ghost use Rattle.paraid_image.specs.Out.{named_out};
 ghost use Rattle.paraid_rebuild.specs.Replacing.{IsReplacedFrom, LeavesArrayBut};
+ghost use Rattle.paraid_session.specs.Faults.{HaveNotFallen};
 ghost use Rattle.paraid_shift.specs.Serving.{IsCoreServing};
 ghost use Rattle.paraid_txn.specs.Losses.{AreTwoDown};
 
@@ -41,6 +42,7 @@ fn bring<R: Rack>(core: &mut Core<R>, disk: DiskNo) -> Result<Option<ReplaceFaul
     ensures turn { IfOk result (λ refusal. CoreGoesOn R.slot_count R.told core.old core.new
         (ReplaceEvent disk) (replace_answer disk refusal)) }
     ensures halts { IfErr result (λ two. CoreHalts R.slot_count R.told core.old core.new (ReplaceEvent disk) two) }
+    ensures later { HaveNotFallen (R.slot (core_rack core.old)) (R.slot (core_rack core.new)) }
     ensures two { IfErr result (AreTwoDown (core_down core.old)
         (R.slot (core_rack core.old)) (R.slot (core_rack core.new))) }
     ensures slots { OnOk result (R.slot_count (core_rack core.new) ≡ R.slot_count (core_rack core.old)) }
@@ -84,6 +86,7 @@ pub fn replace<R: Rack>(core: &mut Core<R>, disk: DiskNo) -> Result<Option<Repla
     ensures turn { IfOk result (λ refusal. CoreGoesOn R.slot_count R.told core.old core.new
         (ReplaceEvent disk) (replace_answer disk refusal)) }
     ensures halts { IfErr result (λ two. CoreHalts R.slot_count R.told core.old core.new (ReplaceEvent disk) two) }
+    ensures later { HaveNotFallen (R.slot (core_rack core.old)) (R.slot (core_rack core.new)) }
     ensures two { IfErr result (AreTwoDown (core_down core.old)
         (R.slot (core_rack core.old)) (R.slot (core_rack core.new))) }
     ensures slots { OnOk result (R.slot_count (core_rack core.new) ≡ R.slot_count (core_rack core.old)) }

@@ -68,8 +68,6 @@ pub enum Answer {
     Energy { total: u64 },
     /// The line is no event.
     Bad,
-    /// Nothing of this event's kind is built yet.
-    Later,
     /// The array has halted.
     Halted(Halt),
 }

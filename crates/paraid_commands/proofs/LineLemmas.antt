@@ -19,7 +19,8 @@ use Rattle.paraid_session.specs.Mount.{IsMountedFromEach}
 use Rattle.paraid_console.specs.Ending.{EndsWithLine, end_line, halt_line, mount_line, status_of_halt}
 use Rattle.paraid_serve.specs.Output.{begins_with}
 use Rattle.paraid_session.specs.Turn.{GoesOn, Point}
-use Rattle.paraid_serve.proofs.ExitLemmas.{IsMountedFromEach-follows, stretch_leaves}
+use Rattle.paraid_serve.proofs.ExitLemmas.{stretch_leaves}
+use Rattle.paraid_session.proofs.MountLemmas.{IsMountedFromEach-follows}
 use Rattle.paraid_commands.specs.declared.tally.Tally.{Tally}
 use Rattle.paraid_commands.specs.Generating.{Flushes, GenFollows, GenHeadline, GenOutput, GenRun, GenWrote, first_lines, summary, summary_of}
 use Rattle.paraid_commands.specs.Generating.GenOutput.{done, halted}

@@ -2,7 +2,7 @@
 use Rattle.std.proofs.Common.{◌≡◌, ℕ, ◌+◌, ◌*◌, ◌<◌, ◌≤◌, List, [], ◌∷◌, ◌++◌, refl, arith}
 use Rattle.paraid_base.specs.declared.block.Block.{Block}
 use Rattle.paraid_base.specs.declared.event.Answer.{Answer}
-use Rattle.paraid_base.specs.declared.event.Answer.TheVariants.{Value, NoBlock, Wrote, Flushed, Ticked, Shift, Top, Lowest, Shifting, Failed, Replaced, NoDisk, Out as IsOut, NotOut, NoFresh, Ration as RationUsed, State as IsState, Energy as EnergyUsed, Bad as IsBad, Later, Halted}
+use Rattle.paraid_base.specs.declared.event.Answer.TheVariants.{Value, NoBlock, Wrote, Flushed, Ticked, Shift, Top, Lowest, Shifting, Failed, Replaced, NoDisk, Out as IsOut, NotOut, NoFresh, Ration as RationUsed, State as IsState, Energy as EnergyUsed, Bad as IsBad, Halted}
 use Rattle.paraid_base.specs.declared.event.Event.{Event}
 use Rattle.paraid_base.specs.declared.event.Event.TheVariants.{Read, Write, Flush, Tick, Up, Down, Fail, Replace, State, Energy, Bad}
 use Rattle.paraid_base.specs.declared.state.TickEvent.{TickEvent}
@@ -101,7 +101,6 @@ fits_answer t (RationUsed b) n m f = more_answers t n m f
 fits_answer t (IsState b c) n m f = more_answers t n m f
 fits_answer t (EnergyUsed b) n m f = more_answers t n m f
 fits_answer t IsBad n m f = more_answers t n m f
-fits_answer t Later n m f = more_answers t n m f
 fits_answer t (Halted b) n m f = more_answers t n m f
 
 pub tally_of-push : (t : Tally) (turns : List Turn) (e : Event) (a : Answer) (cs : List Call) → tally_of t (turns ++ turn_with e a cs ∷ []) ≡ tally_with_answer (tally_with_event (tally_of t turns) e) a

@@ -1,6 +1,8 @@
 ghost use Rattle.std.specs.Prelude.{◌≡◌, ℕ, ◌≤◌, ◌<◌, None, IsSome};
 ghost use Rattle.paraid_base.specs.Told.{HasRisen};
-ghost use Rattle.paraid_serve.specs.Calls.{IsHaltOfFailed, IsNotDouble, IsPairNamed};
+ghost use Rattle.paraid_rack.specs.Slots.{Slot};
+ghost use Rattle.paraid_serve.specs.Calls.{IsNotDouble};
+ghost use Rattle.paraid_serve.specs.Lost.{HasServedSince, NamesTwoLost};
 ghost use Rattle.paraid_session.specs.Mount.{IsMountedFromEach};
 ghost use Rattle.paraid_session.specs.Turn.{Point};
 ghost use Rattle.paraid_commands.specs.Generating.{GenHeadline, GenRun, IsGenStatus};
@@ -32,8 +34,8 @@ pub fn answer_lines<A: Serves>(
     ensures slots { A.slots array.new ≡ A.slots array.old }
     ensures setup { A.setup array.new ≡ A.setup array.old }
     ensures halt { halt.new ≡ A.halted array.new }
-    ensures failed { IsHaltOfFailed (A.slot array.old) (A.halted array.old)
-        → IsHaltOfFailed (A.slot array.new) (A.halted array.new) }
+    ensures since { (start : ℕ → Slot) → HasServedSince start (A.slot array.old) (A.halted array.old)
+        → HasServedSince start (A.slot array.new) (A.halted array.new) }
 {
     let blocks = array.blocks();
     let mut tally = Tally::new();
@@ -60,7 +62,8 @@ pub fn serve_generated<K: Sink, A: Serves>(
         number lines result }
     ensures status { IsGenStatus result }
     ensures present { result ≡ 0 → IsNotDouble (A.setup array.old) (A.slot array.new) }
-    ensures two { result ≡ 5 → IsPairNamed (A.slot array.new) }
+    ensures two { result ≡ 5 → NamesTwoLost (A.slot array.old) (A.slot array.new)
+        (K.written sink.old) (K.written sink.new) }
     ensures sink { result ≡ 4 → HasRisen (K.faults sink.old) (K.faults sink.new) }
 {
     let mut text = Text::new();
@@ -104,7 +107,8 @@ pub fn serve_generated_mounted<K: Sink, A: Serves>(
         number lines result }
     ensures status { IsGenStatus result }
     ensures present { result ≡ 0 → IsNotDouble (A.setup array.old) (A.slot array.new) }
-    ensures two { result ≡ 5 → IsPairNamed (A.slot array.new) }
+    ensures two { result ≡ 5 → NamesTwoLost (A.slot array.old) (A.slot array.new)
+        (K.written sink.old) (K.written sink.new) }
     ensures sink { result ≡ 4 → HasRisen (K.faults sink.old) (K.faults sink.new) }
 {
     serve_generated(sink, array, number, lines)

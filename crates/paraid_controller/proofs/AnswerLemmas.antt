@@ -1,10 +1,9 @@
 -- The answers to disks that are taken out or replaced, and to shifts.
-use Rattle.std.proofs.Common.{◌≡◌, ℕ, ◌≤◌, Bool, true, false, Option, Some, None, refl, sym, ap, ◌∙◌, arith, min}
+use Rattle.std.proofs.Common.{◌≡◌, ℕ, true, Option, Some, None, refl, arith}
 use Rattle.std.specs.Prelude.{◌==◌, IfSome}
 use Rattle.std.proofs.lemmas.Bool.Decides.{nat_tests}
-use Rattle.paraid_base.specs.declared.event.Event.TheVariants.{Down, Fail, Replace, Up}
+use Rattle.paraid_base.specs.declared.event.Event.TheVariants.{Fail, Replace}
 use Rattle.paraid_image.specs.Power.{PowerState}
-use Rattle.paraid_image.specs.Shown.{with_flush}
 use Rattle.paraid_machine.specs.Energy.{energy_of}
 use Rattle.paraid_record.specs.declared.meta.Meta.{Meta}
 use Rattle.paraid_record.specs.declared.meta.Setup.{Setup}
@@ -14,11 +13,10 @@ use Rattle.paraid_trace.specs.Replies.{HasFewDisks}
 use Rattle.paraid_array.specs.declared.asked.Asked.{Asked}
 use Rattle.paraid_array.specs.declared.asked.Asked.TheVariants.{Begun, Refused}
 use Rattle.paraid_array.specs.declared.fault.FailFault.{FailFault}
-use Rattle.paraid_array.specs.declared.fault.FailFault.TheVariants.{Halt as FailHalt, NoDisk as FailNoDisk, Out as FailOut}
+use Rattle.paraid_array.specs.declared.fault.FailFault.TheVariants.{NoDisk as FailNoDisk, Out as FailOut}
 use Rattle.paraid_array.specs.declared.fault.ReplaceFault.{ReplaceFault}
-use Rattle.paraid_array.specs.declared.fault.ReplaceFault.TheVariants.{Halt as ReplaceHalt, NoDisk as ReplaceNoDisk, NoFresh, NotOut}
-use Rattle.paraid_array.specs.declared.fault.ShiftFault.{ShiftFault}
-use Rattle.paraid_array.specs.declared.fault.ShiftFault.TheVariants.{Halt as ShiftHalt, Lowest, Out as ShiftOut, Ration, Shifting, Top}
+use Rattle.paraid_array.specs.declared.fault.ReplaceFault.TheVariants.{NoDisk as ReplaceNoDisk, NoFresh, NotOut}
+use Rattle.paraid_array.specs.declared.fault.ShiftFault.TheVariants.{Lowest, Out as ShiftOut, Ration, Shifting, Top}
 use Rattle.paraid_array.specs.DiskRefusals.{IsFailRefused, IsReplaceRefused}
 use Rattle.paraid_array.specs.Turns.{asked_answer, fail_answer, replace_answer}
 use Rattle.paraid_controller.specs.Used.{asked_energy}
@@ -30,31 +28,21 @@ same_test a b e = grind (e, arith, nat_tests)
 module _ (d : ℕ) (m m_then : Meta) where
   pub fail_going : (r : Option FailFault) → IfSome r (IsFailRefused m m_then d) → halt_told (fail_answer d r) ≡ None
   fail_going None w = refl
-  fail_going (Some (FailHalt halt)) w = absurd w
   fail_going (Some (FailNoDisk e)) w = refl
   fail_going (Some (FailOut e)) w = refl
 
   pub fail_kind : (r : Option FailFault) → IfSome r (IsFailRefused m m_then d) → is_answer_to (Fail d) (fail_answer d r) ≡ true
   fail_kind None w = same_test d d refl
-  fail_kind (Some (FailHalt halt)) w = absurd w
   fail_kind (Some (FailNoDisk e)) w = same_test e d w.0
   fail_kind (Some (FailOut e)) w = refl
 
-pub fail_low : (d low : ℕ) (r : Option FailFault) → with_flush low (fail_answer d r) ≡ low
-fail_low d low None = refl
-fail_low d low (Some (FailHalt halt)) = refl
-fail_low d low (Some (FailNoDisk e)) = refl
-fail_low d low (Some (FailOut e)) = refl
-
 pub fail_uses : (setup : Setup) (s : PowerState) (d : ℕ) (r : Option FailFault) → energy_of setup s (fail_answer d r) ≡ 0
 fail_uses setup s d None = refl
-fail_uses setup s d (Some (FailHalt halt)) = refl
 fail_uses setup s d (Some (FailNoDisk e)) = refl
 fail_uses setup s d (Some (FailOut e)) = refl
 
 pub fail_few : (d : ℕ) (r : Option FailFault) → HasFewDisks (fail_answer d r)
 fail_few d None = tt
-fail_few d (Some (FailHalt halt)) = tt
 fail_few d (Some (FailNoDisk e)) = tt
 fail_few d (Some (FailOut e)) = tt
 
@@ -62,52 +50,31 @@ fail_few d (Some (FailOut e)) = tt
 module _ (d : ℕ) (m : Meta) where
   pub replace_going : (r : Option ReplaceFault) → IfSome r (IsReplaceRefused m d) → halt_told (replace_answer d r) ≡ None
   replace_going None w = refl
-  replace_going (Some (ReplaceHalt halt)) w = absurd w
   replace_going (Some (ReplaceNoDisk e)) w = refl
   replace_going (Some (NotOut e)) w = refl
   replace_going (Some (NoFresh e)) w = refl
 
   pub replace_kind : (r : Option ReplaceFault) → IfSome r (IsReplaceRefused m d) → is_answer_to (Replace d) (replace_answer d r) ≡ true
   replace_kind None w = same_test d d refl
-  replace_kind (Some (ReplaceHalt halt)) w = absurd w
   replace_kind (Some (ReplaceNoDisk e)) w = same_test e d w.0
   replace_kind (Some (NotOut e)) w = same_test e d w.0
   replace_kind (Some (NoFresh e)) w = same_test e d w.0
 
-pub replace_low : (d low : ℕ) (r : Option ReplaceFault) → with_flush low (replace_answer d r) ≡ low
-replace_low d low None = refl
-replace_low d low (Some (ReplaceHalt halt)) = refl
-replace_low d low (Some (ReplaceNoDisk e)) = refl
-replace_low d low (Some (NotOut e)) = refl
-replace_low d low (Some (NoFresh e)) = refl
-
 pub replace_uses : (setup : Setup) (s : PowerState) (d : ℕ) (r : Option ReplaceFault) → energy_of setup s (replace_answer d r) ≡ 0
 replace_uses setup s d None = refl
-replace_uses setup s d (Some (ReplaceHalt halt)) = refl
 replace_uses setup s d (Some (ReplaceNoDisk e)) = refl
 replace_uses setup s d (Some (NotOut e)) = refl
 replace_uses setup s d (Some (NoFresh e)) = refl
 
 pub replace_few : (d : ℕ) (r : Option ReplaceFault) → HasFewDisks (replace_answer d r)
 replace_few d None = tt
-replace_few d (Some (ReplaceHalt halt)) = tt
 replace_few d (Some (ReplaceNoDisk e)) = tt
 replace_few d (Some (NotOut e)) = tt
 replace_few d (Some (NoFresh e)) = tt
 
 -- a shift that is asked for
-pub asked_low : (gear low : ℕ) (x : Asked) → with_flush low (asked_answer gear x) ≡ low
-asked_low gear low (Begun to) = refl
-asked_low gear low (Refused (ShiftHalt halt)) = refl
-asked_low gear low (Refused Top) = refl
-asked_low gear low (Refused Lowest) = refl
-asked_low gear low (Refused (Shifting to)) = refl
-asked_low gear low (Refused (ShiftOut d)) = refl
-asked_low gear low (Refused (Ration d)) = refl
-
 pub asked_uses : (setup : Setup) (s : PowerState) (gear : ℕ) (x : Asked) → energy_of setup s (asked_answer gear x) ≡ asked_energy setup gear x
 asked_uses setup s gear (Begun to) = refl
-asked_uses setup s gear (Refused (ShiftHalt halt)) = refl
 asked_uses setup s gear (Refused Top) = refl
 asked_uses setup s gear (Refused Lowest) = refl
 asked_uses setup s gear (Refused (Shifting to)) = refl
@@ -116,7 +83,6 @@ asked_uses setup s gear (Refused (Ration d)) = refl
 
 pub asked_few : (gear : ℕ) (x : Asked) → HasFewDisks (asked_answer gear x)
 asked_few gear (Begun to) = tt
-asked_few gear (Refused (ShiftHalt halt)) = tt
 asked_few gear (Refused Top) = tt
 asked_few gear (Refused Lowest) = tt
 asked_few gear (Refused (Shifting to)) = tt

@@ -16,7 +16,7 @@ use Rattle.paraid_session.specs.Turn.{halt_told}
 use Rattle.paraid_array.specs.declared.asked.Asked.{Asked}
 use Rattle.paraid_array.specs.declared.asked.Asked.TheVariants.{Begun, Refused}
 use Rattle.paraid_array.specs.declared.fault.ShiftFault.{ShiftFault}
-use Rattle.paraid_array.specs.declared.fault.ShiftFault.TheVariants.{Halt, Lowest, Out, Ration, Shifting, Top}
+use Rattle.paraid_array.specs.declared.fault.ShiftFault.TheVariants.{Lowest, Out, Ration, Shifting, Top}
 use Rattle.paraid_array.specs.Refusals.{HasBegunOrLost, IsDownRefused, IsShiftStateOf, IsUpRefused, MayGoDown, MayGoUp}
 use Rattle.paraid_array.specs.Turns.{asked_answer}
 
@@ -30,7 +30,6 @@ is_state m = record { gear = refl; phase = refl; out = refl; spins = refl; ticks
 -- a shift up may be told so, and a shift down
 abbrev pub MayTellUp : Asked → Type 0
 MayTellUp (Begun to) = Unit {0}
-MayTellUp (Refused (Halt halt)) = ⊥
 MayTellUp (Refused Top) = Unit {0}
 MayTellUp (Refused Lowest) = ⊥
 MayTellUp (Refused (Shifting to)) = Unit {0}
@@ -39,7 +38,6 @@ MayTellUp (Refused (Ration d)) = ⊥
 
 abbrev pub MayTellDown : Asked → Type 0
 MayTellDown (Begun to) = Unit {0}
-MayTellDown (Refused (Halt halt)) = ⊥
 MayTellDown (Refused Top) = ⊥
 MayTellDown (Refused Lowest) = Unit {0}
 MayTellDown (Refused (Shifting to)) = Unit {0}
@@ -47,7 +45,6 @@ MayTellDown (Refused (Out d)) = Unit {0}
 MayTellDown (Refused (Ration d)) = Unit {0}
 
 up_may : (setup : Setup) (s : PowerState) (f : ShiftFault) → IsUpRefused setup s f → MayTellUp (Refused f)
-up_may setup s (Halt halt) w = w
 up_may setup s Top w = tt
 up_may setup s Lowest w = w
 up_may setup s (Shifting to) w = tt
@@ -55,7 +52,6 @@ up_may setup s (Out d) w = tt
 up_may setup s (Ration d) w = w
 
 down_may : (setup : Setup) (s : PowerState) (f : ShiftFault) → IsDownRefused setup s f → MayTellDown (Refused f)
-down_may setup s (Halt halt) w = w
 down_may setup s Top w = w
 down_may setup s Lowest w = tt
 down_may setup s (Shifting to) w = tt
@@ -116,7 +112,6 @@ module _ (m m_then : Meta) (x : Asked) where
 -- no halt is told, and the answer is of its kind
 pub up_going : (gear : ℕ) (x : Asked) → MayTellUp x → halt_told (asked_answer gear x) ≡ None
 up_going gear (Begun to) w = refl
-up_going gear (Refused (Halt halt)) w = absurd w
 up_going gear (Refused Top) w = refl
 up_going gear (Refused Lowest) w = absurd w
 up_going gear (Refused (Shifting to)) w = refl
@@ -125,7 +120,6 @@ up_going gear (Refused (Ration d)) w = absurd w
 
 pub up_kind : (gear : ℕ) (x : Asked) → MayTellUp x → is_answer_to AskUp (asked_answer gear x) ≡ true
 up_kind gear (Begun to) w = refl
-up_kind gear (Refused (Halt halt)) w = absurd w
 up_kind gear (Refused Top) w = refl
 up_kind gear (Refused Lowest) w = absurd w
 up_kind gear (Refused (Shifting to)) w = refl
@@ -134,7 +128,6 @@ up_kind gear (Refused (Ration d)) w = absurd w
 
 pub down_going : (gear : ℕ) (x : Asked) → MayTellDown x → halt_told (asked_answer gear x) ≡ None
 down_going gear (Begun to) w = refl
-down_going gear (Refused (Halt halt)) w = absurd w
 down_going gear (Refused Top) w = absurd w
 down_going gear (Refused Lowest) w = refl
 down_going gear (Refused (Shifting to)) w = refl
@@ -143,7 +136,6 @@ down_going gear (Refused (Ration d)) w = refl
 
 pub down_kind : (gear : ℕ) (x : Asked) → MayTellDown x → is_answer_to AskDown (asked_answer gear x) ≡ true
 down_kind gear (Begun to) w = refl
-down_kind gear (Refused (Halt halt)) w = absurd w
 down_kind gear (Refused Top) w = absurd w
 down_kind gear (Refused Lowest) w = refl
 down_kind gear (Refused (Shifting to)) w = refl

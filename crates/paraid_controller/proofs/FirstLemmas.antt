@@ -1,8 +1,7 @@
 -- Where an array stands that has answered no event yet, and what it tells of the point at which it stands.
-use Rattle.std.proofs.Common.{◌≡◌, ℕ, ◌≤◌, [], length, Option, Some, None, refl, sym, ◌∙◌, subst, arith}
+use Rattle.std.proofs.Common.{◌≡◌, ℕ, [], length, Option, Some, None, refl, sym, ◌∙◌, subst}
 use Rattle.paraid_gear.specs.ThreeWindows.{HoldLastSamples}
 use Rattle.paraid_rack.specs.Trail.{Trail}
-use Rattle.paraid_core.specs.Cores.{CoreStandsFor}
 use Rattle.paraid_session.specs.Turn.{Point}
 use Rattle.paraid_event.specs.Service.{service_of}
 use Rattle.paraid_event.specs.Stands.{StandsAt}
@@ -12,38 +11,19 @@ use Rattle.paraid_controller.specs.Arrays.{ArrayStandsAt, halt_of_end, told_of_a
 use Rattle.paraid_controller.proofs.StandLemmas.{none_ended, none_some}
 
 module _ {R : Type 0} {g : _} (count : R → ℕ) (told : R → Option Trail) (a : Array R g) where
-  -- after a mount all writes are kept
-  pub begins_at : a.ended ≡ None → a.served ≡ 0 → a.energy ≡ 0 → a.kept ≡ a.core.meta.writes → HoldLastSamples a.windows []
-      → (p : Point) → StandsAt (told_of_array told a) (service_of count a.core [] 0 0) a.setup p → length p.history ≤ p.low → ArrayStandsAt count told a p
-  begins_at going served energy kept windows p at all = record {
+  -- after a mount
+  pub begins_at : a.ended ≡ None → a.served ≡ 0 → a.energy ≡ 0 → HoldLastSamples a.windows []
+      → (p : Point) → StandsAt (told_of_array told a) (service_of count a.core [] 0 0) a.setup p → ArrayStandsAt count told a p
+  begins_at going served energy windows p at = record {
     serves = λ e. record {
       samples = [];
       requests = 0;
       windows = windows;
       served = served;
       stands = subst (λ (n : ℕ). StandsAt (told_of_array told a) (service_of count a.core [] 0 n) a.setup p) (sym energy) at;
-      kept = λ t tells. subst (CoreStandsFor count a.core p.history a.kept) (sym (at.disks t tells)) here;
     };
     halted = λ e some. none_some a.ended e going some;
   }
-    where
-      here : CoreStandsFor count a.core p.history a.kept p.disks
-      here =
-          let z : CoreStandsFor count a.core p.history p.low p.disks = at.stands.keeps in
-          let low : p.low ≤ z.base.writes = z.copies.low in
-          let long : a.core.meta.writes ≡ length p.history = z.writes in
-          record {
-            base = z.base;
-            held = z.held;
-            copies = record { copying = z.copies.copying; low = omega (arith, low, long, kept, all); high = z.copies.high; content = z.copies.content };
-            synced = z.synced;
-            named_by = z.named_by;
-            epoch = z.epoch;
-            next = z.next;
-            writes = z.writes;
-            staged = z.staged;
-            dirty = z.dirty;
-          }
 
   -- the energy and the number of writes
   pub energy_at : (p : Point) → ArrayStandsAt count told a p → a.energy ≡ p.energy

@@ -1,7 +1,6 @@
 -- A flush of an array.
-use Rattle.std.proofs.Common.{◌≡◌, ℕ, ◌^◌, ◌<◌, ◌≤◌, true, List, [], length, Option, Some, None, refl, sym, ap, ◌∙◌, inl, subst, arith}
+use Rattle.std.proofs.Common.{◌≡◌, ℕ, ◌^◌, ◌<◌, true, List, [], length, Option, Some, None, refl, sym, ap, ◌∙◌, subst, arith}
 use Rattle.std.proofs.lemmas.Bool.{false≢true}
-use Rattle.std.proofs.lemmas.List.{append-nil}
 use Rattle.paraid_base.specs.declared.event.Answer.TheVariants.{Flushed, Halted}
 use Rattle.paraid_base.specs.declared.event.Event.TheVariants.{Bad, Flush}
 use Rattle.paraid_base.specs.declared.fault.Halt.TheVariants.{Two as HaltTwo}
@@ -9,33 +8,25 @@ use Rattle.paraid_base.specs.declared.fault.Two.{Two}
 use Rattle.paraid_base.specs.History.{History}
 use Rattle.paraid_gear.specs.declared.windows.Windows.{Windows}
 use Rattle.paraid_gear.specs.ThreeWindows.{HoldLastSamples}
-use Rattle.paraid_rack.specs.declared.call.Call.{Call}
-use Rattle.paraid_rack.proofs.TrailsLemmas.{Ran-none}
 use Rattle.paraid_rack.specs.Slots.{Agrees, Slot}
 use Rattle.paraid_rack.specs.Told.{CrashTriple, Ran}
 use Rattle.paraid_rack.specs.Trail.{Trail, now}
-use Rattle.paraid_record.specs.declared.meta.Meta.{Meta}
 use Rattle.paraid_core.specs.Calls.{CommitsWhole, MakesTransferCalls}
 use Rattle.paraid_core.specs.CoreInvariant.{AreCopiesSynced}
 use Rattle.paraid_core.specs.Cores.{CoreStandsFor, IsCoreHeld, IsCoreReady, core_rack}
-use Rattle.paraid_core.specs.Lost.{CoreMarksLost, MarksLost}
-use Rattle.paraid_core.proofs.CallLemmas.{keeps_held}
-use Rattle.paraid_txn.specs.Stores.{named_of}
+use Rattle.paraid_image.specs.Sides.{Batch}
+use Rattle.paraid_core.specs.Lost.{CoreMarksLost}
+use Rattle.paraid_array.proofs.TurnLemmas.{commits_none}
 use Rattle.paraid_session.specs.Turn.{GoesOn, Point}
 use Rattle.paraid_event.specs.Counts.{CountsFlushed}
 use Rattle.paraid_event.specs.Lost.{IsHaltedFrom, TellsTwo}
 use Rattle.paraid_event.specs.Service.{Service, service_of}
-use Rattle.paraid_event.specs.Marks.{IsMarkedBy}
-use Rattle.paraid_event.specs.Parts.{ServesEvent}
-use Rattle.paraid_event.specs.Parts.BringsMeta.{nothing as nothing_brought}
-use Rattle.paraid_event.specs.Stands.{ServiceStandsFor, StandsAt}
-use Rattle.paraid_event.proofs.FailLemmas.{same_base}
-use Rattle.paraid_event.proofs.SlotsLemmas.{marked_by_slots}
+use Rattle.paraid_event.specs.Stands.{StandsAt}
 use Rattle.paraid_event.proofs.EventLemmas.{flush_turn, told_turn}
 use Rattle.paraid_event.proofs.LostLemmas.{flush_loses}
 use Rattle.paraid_controller.specs.declared.array.Array.{Array}
 use Rattle.paraid_controller.specs.Arrays.{GoesOnByEvent, ServesAt, told_of_array}
-use Rattle.paraid_controller.proofs.CoreLemmas.{loses_core, reached, serves_core}
+use Rattle.paraid_controller.proofs.CoreLemmas.{loses_core, serves_core}
 use Rattle.paraid_controller.proofs.StandLemmas.{end_by, ended_on, served_on, wear_fits}
 
 -- what is told of two losses rests on the disk alone that was out
@@ -48,11 +39,11 @@ tells_alike count told a b samples requests x ran t is =
 module _ {R : Type 0} {g : _} (count : R → ℕ) (slot : R → ℕ → Slot) (told : R → Option Trail) (agrees : (x : R) (t : Trail) → told x ≡ Some t → Agrees (now t) (slot x)) (a b : Array R g) (going : a.ended ≡ None)
     (epoch : a.core.meta.epoch < 2 ^ 62) (writes : a.core.meta.writes < 2 ^ 62) (calls : MakesTransferCalls told a.core b.core) (whole : CommitsWhole count told a.core b.core) where
   -- all that is staged was committed
-  pub flush_on : (n : ℕ) → n ≡ a.core.meta.writes → b.ended ≡ None → b.setup ≡ a.setup → b.windows ≡ a.windows → b.served ≡ a.served → b.energy ≡ a.energy → b.kept ≡ n
+  pub flush_on : (n : ℕ) → n ≡ a.core.meta.writes → b.ended ≡ None → b.setup ≡ a.setup → b.windows ≡ a.windows → b.served ≡ a.served → b.energy ≡ a.energy
       → ((h : History) (lo : ℕ) → Ran (told_of_array told a) (told_of_array told b) (CrashTriple (IsCoreHeld count a.core h lo) (CoreStandsFor count a.core h lo) (CoreStandsFor count b.core h (length h))))
       → CoreMarksLost slot a.core b.core → IsCoreReady count slot b.core → b.core.meta.setup ≡ a.core.meta.setup → count (core_rack b.core) ≡ count (core_rack a.core) → b.core.dirty ≡ a.core.dirty
       → AreCopiesSynced b.core.meta.setup.geometry.disks b.core.copied → b.core.batch ≡ [] → GoesOnByEvent count told a b Flush (Flushed n)
-  flush_on n number ended setup windows served energy kept stands marks ready same slots table copies nothing p at =
+  flush_on n number ended setup windows served energy stands marks ready same slots table copies nothing p at =
       let s : ServesAt count told a p = at.serves going in
       let k : Service = service_of count a.core s.samples s.requests a.energy in
       let k_then : Service = service_of count b.core s.samples s.requests b.energy in
@@ -64,10 +55,6 @@ module _ {R : Type 0} {g : _} (count : R → ℕ) (slot : R → ℕ → Slot) (t
       (flush_turn (told_of_array told a) (told_of_array told b) k k_then a.setup p s.stands p.history (length p.history) fit counts refl (omega arith)) ran in
       served_on count told a b p Flush (Flushed n) s.samples s.requests refl (λ e. let z : Flush ≡ Bad = e in cc) ended setup
       (subst (λ (w : Windows). HoldLastSamples w s.samples) (sym windows) s.windows) (served ∙ s.served)
-      (λ t tells. subst (λ (h : History). CoreStandsFor count b.core h b.kept (now t)) (sym (append-nil p.history))
-      (subst (λ (x : ℕ). CoreStandsFor count b.core p.history x (now t)) (long ∙ sym kept)
-      (reached (IsCoreHeld count a.core p.history p.low) (CoreStandsFor count a.core p.history p.low) (CoreStandsFor count b.core p.history (length p.history)) (told_of_array told a) (told_of_array told b) (stands p.history p.low)
-      (λ u u_tells. subst (CoreStandsFor count a.core p.history p.low) (sym (s.stands.disks u u_tells)) s.stands.stands.keeps) t tells)))
       (subst (λ (x : ℕ). Ran (told_of_array told a) (told_of_array told b) (GoesOn (count (core_rack a.core)) a.setup p Flush (Flushed x) (StandsAt (told_of_array told b) k_then a.setup))) long law)
 
   -- a second disk was lost in that
@@ -89,76 +76,17 @@ module _ {R : Type 0} {g : _} (count : R → ℕ) (slot : R → ℕ → Slot) (t
       (flush_loses (told_of_array told a) (told_of_array told b) k a.setup p s.stands two fit loses)
 
 module _ {R : Type 0} {g : _} (count : R → ℕ) (slot : R → ℕ → Slot) (told : R → Option Trail) (agrees : (x : R) (t : Trail) → told x ≡ Some t → Agrees (now t) (slot x)) (a : Array R g) (going : a.ended ≡ None)
-    (epoch : a.core.meta.epoch < 2 ^ 62) (writes : a.core.meta.writes < 2 ^ 62) (ready : IsCoreReady count slot a.core) (copies : AreCopiesSynced a.core.meta.setup.geometry.disks a.core.copied) (nothing : a.core.batch ≡ []) (kept : a.kept ≡ a.core.meta.writes) where
-  -- no disk is lost
-  unmarked : MarksLost (slot (core_rack a.core)) (slot (core_rack a.core)) a.core.meta a.core.meta
-  unmarked = record {
-    lost = None;
-    is = refl;
-    disk = λ d e. let z : None ≡ Some d = e in absurd cc;
-    alone = λ d x e out. let z : None ≡ Some d = e in absurd cc;
-    failed = λ d e. let z : None ≡ Some d = e in absurd cc;
-    others = λ d not. record { faults = refl; power = refl; size = refl };
-  }
-
-  module _ (p : Point) (s : ServesAt count told a p) where
-    abbrev k : Service
-    k = service_of count a.core s.samples s.requests a.energy
-
-    -- all writes are kept
-    high : (t : Trail) → told_of_array told a ≡ Some t → (z : ServiceStandsFor k p.history p.low (now t)) → length p.history ≤ z.base.writes
-    high t tells z =
-        let y : ServiceStandsFor k p.history a.kept (now t) = s.kept t tells in
-        let low : a.kept ≤ y.base.writes = y.copies.low in
-        let same : z.base.writes ≡ y.base.writes = ap (λ (m : Meta). m.writes) (same_base k k p.history p.history a.kept p.low (now t) y z) in
-        let long : a.core.meta.writes ≡ length p.history = s.stands.stands.keeps.writes in
-        omega (arith, low, same, long, kept)
-
-    marked : (t : Trail) → told_of_array told a ≡ Some t → IsMarkedBy (now t).power a.core.meta a.core.meta
-    marked = marked_by_slots (told_of_array told a) (told_of_array told a) k a.core.meta a.setup p s.stands (slot (core_rack a.core)) (slot (core_rack a.core)) (λ _ _. Unit {0})
-        (Ran-none (λ _ _. Unit {0}) (λ _. tt) (told_of_array told a)) (agrees (core_rack a.core)) (agrees (core_rack a.core)) unmarked ready.absent
-
-    no_call : Ran (told_of_array told a) (told_of_array told a) (ServesEvent k k p.history p.low p.history (length p.history))
-    no_call t tells = record {
-      from = t;
-      was = tells;
-      calls = [];
-      is = ap (λ (l : List Call). record { start = t.start; calls = l }) (sym (append-nil t.calls));
-      holds = λ z. (
-        record {
-          out = named_of a.core.store;
-          is_out = λ d e. inl e;
-          held = keeps_held (count (core_rack a.core)) (named_of a.core.store) a.core.meta a.core.dirty a.core.batch a.core.copied p.history p.low (now t) z;
-          brings = nothing_brought tt;
-        },
-        record {
-          keeps = record {
-            base = z.base;
-            held = z.held;
-            copies = record { copying = z.copies.copying; low = high t tells z; high = z.copies.high; content = z.copies.content };
-            synced = z.synced;
-            named_by = z.named_by;
-            epoch = z.epoch;
-            next = z.next;
-            writes = z.writes;
-            staged = z.staged;
-            dirty = z.dirty;
-          };
-          marks = marked t tells;
-        },
-      );
-    }
-
-  -- nothing is staged, and the last commit has brought all writes to the disks
-  pub flush_kept : GoesOnByEvent count told a a Flush (Flushed a.kept)
-  flush_kept p at =
+    (epoch : a.core.meta.epoch < 2 ^ 62) (writes : a.core.meta.writes < 2 ^ 62) (ready : IsCoreReady count slot a.core) (copies : AreCopiesSynced a.core.meta.setup.geometry.disks a.core.copied) (nothing : a.core.batch ≡ []) where
+  -- where nothing is staged, the last commit has brought all writes to the disks
+  pub flush_kept : (n : ℕ) → n ≡ a.core.meta.writes → GoesOnByEvent count told a a Flush (Flushed n)
+  flush_kept n number p at =
       let s : ServesAt count told a p = at.serves going in
       let k : Service = service_of count a.core s.samples s.requests a.energy in
-      let long : length p.history ≡ a.kept = sym s.stands.stands.keeps.writes ∙ sym kept in
+      let long : length p.history ≡ n = sym s.stands.stands.keeps.writes ∙ sym number in
       let counts : CountsFlushed k k = record { slots = refl; copies_synced = copies; samples = refl; served = refl; energy = refl; table = refl; nothing_staged = nothing } in
       let fit = wear_fits (told_of_array told a) k a.setup p s.stands epoch writes in
       let law = told_turn (told_of_array told a) (told_of_array told a) k k a.setup p s.stands p.history (length p.history) Flush (Flushed (length p.history))
-      (flush_turn (told_of_array told a) (told_of_array told a) k k a.setup p s.stands p.history (length p.history) fit counts refl (omega arith)) (no_call p s) in
-      served_on count told a a p Flush (Flushed a.kept) s.samples s.requests refl (λ e. let z : Flush ≡ Bad = e in cc) going refl s.windows s.served
-      (λ t tells. subst (λ (h : History). CoreStandsFor count a.core h a.kept (now t)) (sym (append-nil p.history)) (s.kept t tells))
+      (flush_turn (told_of_array told a) (told_of_array told a) k k a.setup p s.stands p.history (length p.history) fit counts refl (omega arith))
+      (commits_none count slot told agrees a.core ready (ap (λ (b : Batch). length b) nothing) a.setup p s.samples s.requests a.energy s.stands) in
+      served_on count told a a p Flush (Flushed n) s.samples s.requests refl (λ e. let z : Flush ≡ Bad = e in cc) going refl s.windows s.served
       (subst (λ (x : ℕ). Ran (told_of_array told a) (told_of_array told a) (GoesOn (count (core_rack a.core)) a.setup p Flush (Flushed x) (StandsAt (told_of_array told a) k a.setup))) long law)

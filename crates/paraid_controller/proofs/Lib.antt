@@ -12,3 +12,5 @@ pub mod LossLemmas
 pub mod MountLemmas
 pub mod AskedLemmas
 pub mod CountedLemmas
+pub mod CheckLemmas
+pub mod CountLemmas

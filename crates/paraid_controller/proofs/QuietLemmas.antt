@@ -1,6 +1,5 @@
 -- Questions and refusals of an array.
-use Rattle.std.proofs.lemmas.List.{append-nil}
-use Rattle.paraid_base.specs.History.{Entry, History}
+use Rattle.paraid_base.specs.History.{Entry}
 use Rattle.std.specs.Prelude.{All, nat_lt}
 use Rattle.std.proofs.lemmas.Bool.Decides.{nat_tests}
 use Rattle.std.proofs.lemmas.List.Elements.{All-head, All-tail}
@@ -20,8 +19,8 @@ use Rattle.paraid_base.specs.declared.state.Phase.{Phase}
 use Rattle.paraid_record.specs.declared.meta.Meta.{Meta}
 use Rattle.paraid_record.specs.declared.meta.Setup.{Setup}
 use Rattle.paraid_rack.specs.Told.{Ran}
-use Rattle.paraid_rack.specs.Trail.{Trail, now}
-use Rattle.paraid_core.specs.Cores.{CoreStandsFor, core_rack}
+use Rattle.paraid_rack.specs.Trail.{Trail}
+use Rattle.paraid_core.specs.Cores.{core_rack}
 use Rattle.paraid_machine.specs.Machine.{block_count, blocks_named, first_missing, state_status}
 use Rattle.paraid_session.specs.Turn.{GoesOn, Point}
 use Rattle.paraid_event.specs.Service.{service_of}
@@ -48,7 +47,6 @@ module _ {R : Type 0} {g : _} (count : R → ℕ) (told : R → Option Trail) (a
   state_asked status is p at =
       let s = at.serves (none_ended a.ended going) in
       served_on count told a a p AskState (IsState status a.setup.geometry.disks) s.samples s.requests refl (λ e. let z : AskState ≡ Bad = e in cc) (none_ended a.ended going) refl s.windows s.served
-      (λ t tells. subst (λ (h : History). CoreStandsFor count a.core h a.kept (now t)) (sym (append-nil p.history)) (s.kept t tells))
       (subst (λ (x : Status). Ran (told_of_array told a) (told_of_array told a) (GoesOn (count (core_rack a.core)) a.setup p AskState (IsState x a.setup.geometry.disks) (StandsAt (told_of_array told a) (service_of count a.core s.samples s.requests a.energy) a.setup))) (sym (is p at))
       (state_turn (told_of_array told a) (service_of count a.core s.samples s.requests a.energy) a.setup p s.stands))
 

@@ -1,7 +1,6 @@
 -- Reads and writes of an array.
 use Rattle.std.proofs.Common.{◌≡◌, ℕ, ◌+◌, ◌^◌, ◌<◌, ◌≤◌, Bool, true, false, [], ◌∷◌, ◌++◌, length, Option, Some, None, refl, sym, ap, ◌∙◌, subst, arith, if◌then◌else◌}
 use Rattle.std.specs.Prelude.{All, IsSome}
-use Rattle.std.proofs.lemmas.List.{append-nil}
 use Rattle.paraid_base.specs.declared.block.Block.{Block}
 use Rattle.paraid_base.specs.declared.event.Answer.TheVariants.{Halted, Value, Wrote}
 use Rattle.paraid_base.specs.declared.event.Event.{Event}
@@ -40,7 +39,7 @@ use Rattle.paraid_event.proofs.EventLemmas.{read_turn, told_turn, write_turn}
 use Rattle.paraid_event.proofs.LostLemmas.{read_loses, write_loses}
 use Rattle.paraid_controller.specs.declared.array.Array.{Array}
 use Rattle.paraid_controller.specs.Arrays.{ChangesCellsBy, GoesOnByEvent, ServesAt, told_of_array}
-use Rattle.paraid_controller.proofs.CoreLemmas.{loses_core, reached, serves_core}
+use Rattle.paraid_controller.proofs.CoreLemmas.{loses_core, serves_core}
 use Rattle.paraid_controller.proofs.FlushLemmas.{tells_alike}
 use Rattle.paraid_controller.proofs.StandLemmas.{end_by, ended_on, served_on, wear_fits}
 
@@ -65,16 +64,8 @@ module _ {R : Type 0} {g : _} (count : R → ℕ) (slot : R → ℕ → Slot) (t
   low_by true low long l = l
   low_by false low long l = omega arith
 
-  -- the writes that a commit has brought to the disks, or those that it had before
-  kept_by : (p : Point) (s : ServesAt count told a p) (h_then : History) → b.kept ≡ (if flag then a.core.meta.writes else a.kept)
-      → Ran (told_of_array told a) (told_of_array told b) (CrashTriple (IsCoreHeld count a.core p.history a.kept) (CoreStandsFor count a.core p.history a.kept) (CoreStandsFor count b.core h_then (if flag then length p.history else a.kept)))
-      → (t : Trail) → told_of_array told b ≡ Some t → CoreStandsFor count b.core h_then b.kept (now t)
-  kept_by p s h_then kept stands t tells =
-      subst (λ (x : ℕ). CoreStandsFor count b.core h_then x (now t)) (sym (kept ∙ ap (λ (n : ℕ). if flag then n else a.kept) s.stands.stands.keeps.writes))
-      (reached (IsCoreHeld count a.core p.history a.kept) (CoreStandsFor count a.core p.history a.kept) (CoreStandsFor count b.core h_then (if flag then length p.history else a.kept)) (told_of_array told a) (told_of_array told b) stands s.kept t tells)
-
   module _ (ended : b.ended ≡ None) (setup : b.setup ≡ a.setup) (windows : b.windows ≡ a.windows) (served : (n : ℕ) → a.served ≡ sample_of n → b.served ≡ sample_of (n + 1)) (energy : b.energy ≡ a.energy)
-      (kept : b.kept ≡ (if flag then a.core.meta.writes else a.kept)) (marks : CoreMarksLost slot a.core b.core) (ready : IsCoreReady count slot b.core) (same : b.core.meta.setup ≡ a.core.meta.setup)
+      (marks : CoreMarksLost slot a.core b.core) (ready : IsCoreReady count slot b.core) (same : b.core.meta.setup ≡ a.core.meta.setup)
       (slots : count (core_rack b.core) ≡ count (core_rack a.core)) (copies : AreCopiesSynced b.core.meta.setup.geometry.disks b.core.copied) where
     counts_by : (p : Point) (s : ServesAt count told a p) (change : PowerState → PowerState) → ChangesCellsBy count a b change
         → CountsServed (service_of count a.core s.samples s.requests a.energy) (service_of count b.core s.samples (s.requests + 1) b.energy) change
@@ -101,7 +92,6 @@ module _ {R : Type 0} {g : _} (count : R → ℕ) (slot : R → ℕ → Slot) (t
         (read_turn (told_of_array told a) (told_of_array told b) k k_then a.setup p s.stands p.history lo_then block bytes fit there is (counts_by p s (block_read a.setup block) cells) refl (low_by flag p.low (length p.history) short)) ran in
         served_on count told a b p (Read block) (Value block bytes) s.samples (s.requests + 1) refl (λ e. let z : Read block ≡ Bad = e in cc) ended setup
         (subst (λ (w : Windows). HoldLastSamples w s.samples) (sym windows) s.windows) (served s.requests s.served)
-        (λ u u_tells. subst (λ (h : History). CoreStandsFor count b.core h b.kept (now u)) (sym (append-nil p.history)) (kept_by p s p.history kept (stands p.history a.kept) u u_tells))
         law t tells
 
     -- some blocks were written
@@ -123,7 +113,6 @@ module _ {R : Type 0} {g : _} (count : R → ℕ) (slot : R → ℕ → Slot) (t
         (write_turn (told_of_array told a) (told_of_array told b) k k_then a.setup p s.stands h_then lo_then pairs fit there (counts_by p s (all_written a.setup.geometry.disks (blocks_named (pairs_of pairs))) cells) refl (low_by flag p.low (length p.history) short)) ran in
         served_on count told a b p (Write pairs) (Wrote n) s.samples (s.requests + 1) refl (λ e. let z : Write pairs ≡ Bad = e in cc) ended setup
         (subst (λ (w : Windows). HoldLastSamples w s.samples) (sym windows) s.windows) (served s.requests s.served)
-        (kept_by p s h_then kept (stands p.history a.kept))
         (subst (λ (x : ℕ). Ran (told_of_array told a) (told_of_array told b) (GoesOn (count (core_rack a.core)) a.setup p (Write pairs) (Wrote x) (StandsAt (told_of_array told b) k_then a.setup))) long law)
 
   -- a second disk was lost in a read or a write

@@ -1,26 +1,23 @@
 -- Where an array stands, from one event to the next.
-use Rattle.std.proofs.Common.{◌≡◌, ◌≢◌, ℕ, ◌+◌, ◌^◌, ◌<◌, ◌≤◌, Bool, true, false, if◌then◌else◌, List, [], ◌++◌, length, Option, Some, None, refl, sym, ap, ◌∙◌, subst, arith}
+use Rattle.std.proofs.Common.{◌≡◌, ◌≢◌, ℕ, ◌^◌, ◌<◌, ◌≤◌, true, false, List, [], length, Option, Some, None, refl, sym, ap, ◌∙◌, subst, arith}
 use Rattle.std.specs.Prelude.{max, IsSome}
-use Rattle.std.proofs.lemmas.List.{append-nil}
 use Rattle.paraid_base.specs.declared.event.Answer.{Answer}
 use Rattle.paraid_base.specs.declared.event.Answer.TheVariants.{Halted}
 use Rattle.paraid_base.specs.declared.event.Event.{Event}
 use Rattle.paraid_base.specs.declared.event.Event.TheVariants.{Bad}
 use Rattle.paraid_base.specs.declared.fault.Halt.{Halt}
-use Rattle.paraid_base.specs.declared.fault.Halt.TheVariants.{Two as HaltTwo, Worn}
-use Rattle.paraid_base.specs.History.{History}
+use Rattle.paraid_base.specs.declared.fault.Halt.TheVariants.{Worn}
 use Rattle.paraid_gear.specs.ThreeWindows.{HoldLastSamples, sample_of}
 use Rattle.paraid_rack.specs.declared.call.Call.{Call}
 use Rattle.paraid_rack.specs.Disks.{Disks}
 use Rattle.paraid_rack.specs.Told.{Ran}
-use Rattle.paraid_rack.specs.Trail.{Trail, now}
+use Rattle.paraid_rack.specs.Trail.{Trail}
 use Rattle.paraid_record.specs.declared.meta.Meta.{Meta}
 use Rattle.paraid_record.specs.declared.meta.Setup.{Setup}
 use Rattle.paraid_image.specs.Shown.{accepted_write}
 use Rattle.paraid_core.specs.declared.staged.Core.{Core}
-use Rattle.paraid_core.specs.Cores.{CoreStandsFor, core_rack}
-use Rattle.paraid_session.specs.Turn.{GoesOn, IsTurn, Point, halt_told, may_halt, point_wear, with_halt}
-use Rattle.paraid_session.specs.Turn.IsTurn.{again, answered, bad, two, worn}
+use Rattle.paraid_core.specs.Cores.{core_rack}
+use Rattle.paraid_session.specs.Turn.{GoesOn, Point, halt_told, may_halt, point_wear, with_halt}
 use Rattle.paraid_event.specs.Service.{Service, service_of}
 use Rattle.paraid_event.specs.Stands.{StandsAt}
 use Rattle.paraid_event.proofs.QuietLemmas.{worn_turn}
@@ -48,27 +45,16 @@ wear_fits told k setup p at epoch writes = let is = wear_is told k setup p at in
     below : (a b : ℕ) → a < 2 ^ 62 → b < 2 ^ 62 → max a b < 2 ^ 62
     below a b x y = grind (arith)
 
--- the writes after an event that was answered
-pub turn_history : (slots : ℕ) (setup : Setup) (p : Point) (event : Event) (answer : Answer) (cs : List Call) (q : Point) → IsTurn slots setup p event answer cs q → halt_told answer ≡ None → event ≢ Bad
-    → q.history ≡ p.history ++ accepted_write event answer
-turn_history slots setup p event answer cs q (answered going not_bad is) none event_not = is.history
-turn_history slots setup p event answer cs q (two x going not_bad is loses) none event_not = absurd (none_some (halt_told answer) (HaltTwo x) none (ap halt_told is))
-turn_history slots setup p event answer cs q (worn count going not_bad is w no_calls rest) none event_not = absurd (none_some (halt_told answer) (Worn count) none (ap halt_told is))
-turn_history slots setup p event answer cs q (again halt halted not_bad is no_calls rest) none event_not = absurd (none_some (halt_told answer) halt none (ap halt_told is))
-turn_history slots setup p event answer cs q (bad is is_answer no_calls rest) none event_not = absurd (event_not is)
-
 module _ {R : Type 0} {g : _} (count : R → ℕ) (told : R → Option Trail) where
   -- An event that was answered with no halt: the laws say where its core stands, and so much is counted beside it.
   pub served_on : (a b : Array R g) (p : Point) (event : Event) (answer : Answer) (samples : List ℕ) (requests : ℕ)
       → halt_told answer ≡ None → event ≢ Bad → b.ended ≡ None → b.setup ≡ a.setup
       → HoldLastSamples b.windows samples → b.served ≡ sample_of requests
-      → ((t : Trail) → told_of_array told b ≡ Some t → CoreStandsFor count b.core (p.history ++ accepted_write event answer) b.kept (now t))
       → Ran (told_of_array told a) (told_of_array told b) (GoesOn (count (core_rack a.core)) a.setup p event answer (StandsAt (told_of_array told b) (service_of count b.core samples requests b.energy) a.setup))
       → Ran (told_of_array told a) (told_of_array told b) (GoesOn (count (core_rack a.core)) a.setup p event answer (ArrayStandsAt count told b))
-  served_on a b p event answer samples requests no_halt not_bad going setup windows served kept ran t tells =
+  served_on a b p event answer samples requests no_halt not_bad going setup windows served ran t tells =
       let r = ran t tells in
       let q : Point = r.holds.0 in
-      let is = turn_history (count (core_rack a.core)) a.setup p event answer r.calls q r.holds.1 no_halt not_bad in
       record {
         from = r.from;
         was = r.was;
@@ -84,7 +70,6 @@ module _ {R : Type 0} {g : _} (count : R → ℕ) (told : R → Option Trail) wh
               windows = windows;
               served = served;
               stands = subst (λ (z : Setup). StandsAt (told_of_array told b) (service_of count b.core samples requests b.energy) z q) (sym setup) r.holds.2;
-              kept = λ u u_tells. subst (λ (h : History). CoreStandsFor count b.core h b.kept (now u)) (sym is) (kept u u_tells);
             };
             halted = λ e some. none_some b.ended e going some;
           },
@@ -99,7 +84,6 @@ module _ {R : Type 0} {g : _} (count : R → ℕ) (told : R → Option Trail) wh
   stays_on a event answer going no_halt not_bad none law p at =
       let s = at.serves (none_ended a.ended going) in
       served_on a a p event answer s.samples s.requests no_halt not_bad (none_ended a.ended going) refl s.windows s.served
-      (λ t tells. subst (λ (h : History). CoreStandsFor count a.core h a.kept (now t)) (sym (append-nil p.history) ∙ ap (λ (more : History). p.history ++ more) (sym none)) (s.kept t tells))
       (law p s.samples s.requests s.stands)
 
   -- So it is of one that an array takes which has made fewer commits and writes.
@@ -157,11 +141,6 @@ module _ {R : Type 0} {g : _} (count : R → ℕ) (told : R → Option Trail) (a
 pub told_before : (old new : Option Trail) (Q : Disks → List Call → Type 0) → Ran old new Q → IsSome new → IsSome old
 told_before old (Some t) Q ran some = let r = ran t refl in subst (λ (o : Option Trail). IsSome o) (sym r.was) refl
 told_before old None Q ran some = let z : false ≡ true = some in absurd cc
-
--- what was kept, where an epoch begins or not
-pub kept_flag : (f : Bool) (new kept all before after : ℕ) → after ≡ before + (if f then 1 else 0) → (after ≡ before → new ≡ kept) → (after ≡ before + 1 → new ≡ all) → new ≡ (if f then all else kept)
-kept_flag true new kept all before after is same more = more is
-kept_flag false new kept all before after is same more = same (omega (arith, is))
 
 -- The slots are those of the rack, so it is a turn over them.
 pub over_slots : {R : Type 0} {g : _} (count : R → ℕ) (told : R → Option Trail) (a b : Array R g) (event : Event) (answer : Answer) → count (core_rack a.core) ≡ a.slots → GoesOnByEvent count told a b event answer

@@ -25,7 +25,6 @@ use Rattle.paraid_controller.specs.declared.array.Array.{Array}
 use Rattle.paraid_controller.specs.Arrays.{GoesOnByEvent, ServesAt, told_of_array}
 use Rattle.paraid_controller.proofs.CountedLemmas.{with_tick}
 use Rattle.paraid_controller.proofs.StandLemmas.{end_by, ended_on, served_on, wear_fits}
-use Rattle.paraid_controller.proofs.TurnLemmas.{kept_after, point_with, stands_kept}
 
 -- a count that was cut is cut no more
 pub cut_twice : (n : ℕ) → sample_of (sample_of n) ≡ sample_of n
@@ -58,9 +57,9 @@ module _ {R : Type 0} {g : _} (count : R → ℕ) (told : R → Option Trail) (a
 
     -- it was answered
     pub ticks_on : (report : GearReport) → CoreTicks count told b.windows c b.core report
-        → b.ended ≡ None → b.setup ≡ a.setup → b.served ≡ 0 → b.kept ≡ a.kept → b.energy ≡ min (used + begun_energy a.setup a.core.meta.gear report.event) 18446744073709551615
+        → b.ended ≡ None → b.setup ≡ a.setup → b.served ≡ 0 → b.energy ≡ min (used + begun_energy a.setup a.core.meta.gear report.event) 18446744073709551615
         → GoesOnByEvent count told a b Tick (Ticked report)
-    ticks_on report turn ended setup served kept energy p at t tells =
+    ticks_on report turn ended setup served energy p at =
         let s : ServesAt count told a p = at.serves going in
         let k : Service = service_of count a.core s.samples s.requests a.energy in
         let fit : point_wear p < 2 ^ 62 = wear_fits (told_of_array told a) k a.setup p s.stands epoch writes in
@@ -68,19 +67,11 @@ module _ {R : Type 0} {g : _} (count : R → ℕ) (told : R → Option Trail) (a
         let held : HoldLastSamples b.windows samples = windows_then s.samples s.requests s.windows s.served in
         let all : ℕ = min (used + begun_energy a.setup p.state.gear report.event) 18446744073709551615 in
         let is : b.energy ≡ all = energy ∙ ap (λ (n : ℕ). min (used + begun_energy a.setup n report.event) 18446744073709551615) (sym s.stands.state.gear) in
-        let law : (z : Point) → StandsAt (told_of_array told a) k a.setup z → point_wear z < 2 ^ 62 → z.state.gear ≡ p.state.gear
-        → Ran (told_of_array told a) (told_of_array told b) (GoesOn (count (core_rack a.core)) a.setup z Tick (Ticked report) (StandsAt (told_of_array told b) (service_of count b.core samples 0 all) a.setup)) =
-        λ z stands low gear. subst (λ (n : ℕ). Ran (told_of_array told a) (told_of_array told b) (GoesOn (count (core_rack a.core)) a.setup z Tick (Ticked report) (StandsAt (told_of_array told b) (service_of count b.core samples 0 (min (used + begun_energy a.setup n report.event) 18446744073709551615)) a.setup))) gear
-        (subst (λ (x : Store R g). Ran (told (store_rack x)) (told_of_array told b) (GoesOn (count (store_rack x)) a.setup z Tick (Ticked report) (StandsAt (told_of_array told b) (service_of count b.core samples 0 (min (used + begun_energy a.setup z.state.gear report.event) 18446744073709551615)) a.setup))) store
-        (turn k a.setup z samples 0 used held (subst (λ (x : Store R g). StandsAt (told (store_rack x)) k a.setup z) (sym store) stands) low (counts s.samples s.requests))) in
-        let from : Trail = (law p s.stands fit refl t tells).from in
-        let was : told_of_array told a ≡ Some from = (law p s.stands fit refl t tells).was in
+        let law : Ran (told_of_array told a) (told_of_array told b) (GoesOn (count (core_rack a.core)) a.setup p Tick (Ticked report) (StandsAt (told_of_array told b) (service_of count b.core samples 0 all) a.setup)) =
+        subst (λ (x : Store R g). Ran (told (store_rack x)) (told_of_array told b) (GoesOn (count (store_rack x)) a.setup p Tick (Ticked report) (StandsAt (told_of_array told b) (service_of count b.core samples 0 all) a.setup))) store
+        (turn k a.setup p samples 0 used held (subst (λ (x : Store R g). StandsAt (told (store_rack x)) k a.setup p) (sym store) s.stands) fit (counts s.samples s.requests)) in
         served_on count told a b p Tick (Ticked report) samples 0 refl (λ e. let z : Tick ≡ Bad = e in cc) ended setup held served
-        (kept_after count told b (service_of count b.core samples 0 all) p Tick (Ticked report) (count (core_rack a.core)) a.setup (told_of_array told a) a.kept
-        (λ h lo u z. z) refl (λ e. let z : Tick ≡ Bad = e in cc) refl kept (law (point_with p a.kept) (stands_kept count told a p s from was) fit refl))
-        (subst (λ (n : ℕ). Ran (told_of_array told a) (told_of_array told b) (GoesOn (count (core_rack a.core)) a.setup p Tick (Ticked report) (StandsAt (told_of_array told b) (service_of count b.core samples 0 n) a.setup))) (sym is)
-        (law p s.stands fit refl))
-        t tells
+        (subst (λ (n : ℕ). Ran (told_of_array told a) (told_of_array told b) (GoesOn (count (core_rack a.core)) a.setup p Tick (Ticked report) (StandsAt (told_of_array told b) (service_of count b.core samples 0 n) a.setup))) (sym is) law)
 
     -- a second disk was lost in it
     pub tick_halts : (x : Two) → CoreTickHalts count told b.windows c b.core x → b.energy ≡ used → b.ended ≡ Some (end_by (HaltTwo x) a.core.meta.gear) → GoesOnByEvent count told a b Tick (Halted (HaltTwo x))

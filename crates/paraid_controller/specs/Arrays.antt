@@ -4,14 +4,15 @@ use Rattle.paraid_base.specs.declared.event.Answer.{Answer}
 use Rattle.paraid_base.specs.declared.event.Event.{Event}
 use Rattle.paraid_base.specs.declared.fault.Halt.{Halt}
 use Rattle.paraid_dirty.specs.Table.{is_dirty}
+use Rattle.paraid_image.specs.Out.{named_out}
 use Rattle.paraid_image.specs.Power.{PowerState}
 use Rattle.paraid_gear.specs.ThreeWindows.{HoldLastSamples, sample_of}
 use Rattle.paraid_rack.specs.Slots.{Slot}
 use Rattle.paraid_rack.specs.Told.{Ran}
-use Rattle.paraid_rack.specs.Trail.{Trail, now}
+use Rattle.paraid_rack.specs.Trail.{Trail}
 use Rattle.paraid_record.specs.declared.meta.Setup.{Setup}
 use Rattle.paraid_core.specs.declared.staged.Core.{Core}
-use Rattle.paraid_core.specs.Cores.{CoreStandsFor, core_rack}
+use Rattle.paraid_core.specs.Cores.{core_rack}
 use Rattle.paraid_session.specs.Turn.{GoesOn, Point}
 use Rattle.paraid_event.specs.Counts.{with_counts_of}
 use Rattle.paraid_event.specs.Service.{IsStateOf, service_of}
@@ -39,13 +40,13 @@ setup_of_array array = array.setup
 abbrev pub slot_of_array : {R : Type 0} {g : _} → (R → ℕ → Slot) → Array R g → ℕ → Slot
 slot_of_array slot array = slot (core_rack array.core)
 
+-- the disk that is out
+abbrev pub down_of_array : {R : Type 0} {g : _} → Array R g → Option ℕ
+down_of_array array = named_out array.core.meta.out
+
 abbrev pub halt_of_end : Option Ended → Option Halt
 halt_of_end None = None
 halt_of_end (Some ended) = Some ended.halt
-
--- how many writes the last commit has brought to the disks, as it counts them
-abbrev pub kept_by_array : {R : Type 0} {g : _} → Array R g → ℕ
-kept_by_array array = array.kept
 
 -- what has ended its service
 abbrev pub end_of_array : {R : Type 0} {g : _} → Array R g → Option Ended
@@ -56,15 +57,13 @@ abbrev pub halt_of_array : {R : Type 0} {g : _} → Array R g → Option Halt
 halt_of_array array = halt_of_end array.ended
 
 -- It serves, and stands at this point of a session: by all samples since its mount, of which its windows hold the last, and
--- all requests since the last tick, of which it counts no more than a sample may have. Of the writes no stop takes away
--- the first ones that it counts as kept.
+-- all requests since the last tick, of which it counts no more than a sample may have.
 pub record ServesAt {R : Type 0} {g : _} (count : R → ℕ) (told : R → Option Trail) (array : Array R g) (p : Point) : Type 0 where
   pub samples : List ℕ
   pub requests : ℕ
   pub windows : HoldLastSamples array.windows samples
   pub served : array.served ≡ sample_of requests
   pub stands : StandsAt (told_of_array told array) (service_of count array.core samples requests array.energy) array.setup p
-  pub kept : (t : Trail) → told_of_array told array ≡ Some t → CoreStandsFor count array.core p.history array.kept (now t)
 
 -- Its service has ended: the point tells the halt, the gear before it, and so much energy.
 pub record HasEndedAt (ended : Ended) (used : ℕ) (p : Point) : Type 0 where

@@ -8,7 +8,7 @@ use Rattle.paraid_record.specs.declared.meta.Setup.{Setup}
 use Rattle.paraid_image.specs.Out.{named_out}
 use Rattle.paraid_txn.specs.Stores.{store_rack}
 use Rattle.paraid_core.specs.declared.staged.Core.{Core}
-use Rattle.paraid_serve.specs.Calls.{IsNotDouble}
+use Rattle.paraid_serve.specs.Calls.{IsAbsentOut, IsNotDouble}
 use Rattle.paraid_session.specs.Turn.{Point}
 use Rattle.paraid_controller.specs.declared.array.Array.{Array}
 use Rattle.paraid_controller.specs.declared.ended.Ended.{Ended}
@@ -28,10 +28,15 @@ pub going_end : (o : Option Ended) → halt_of_end o ≡ None → o ≡ None
 going_end None e = refl
 going_end (Some ended) e = let z : Some ended.halt ≡ None = e in cc
 
--- one that serves has at most one absent disk
+-- a disk of one that serves is absent only where it is out
+pub absent_out : {R : Type 0} {g : _} (count : R → ℕ) (slot : R → ℕ → Slot) (core : Core R g) (lengths : List ℕ) (setup : Setup) (slots : ℕ) → IsArrayServing count slot core lengths setup slots
+    → IsAbsentOut setup (named_out core.meta.out) (slot (store_rack core.store))
+absent_out count slot core lengths setup slots q x low away = q.serving.ready.absent x (subst (λ (z : Setup). x < z.geometry.disks) (sym q.same_setup) low) away
+
+-- so it has at most one absent disk
 pub not_double : {R : Type 0} {g : _} (count : R → ℕ) (slot : R → ℕ → Slot) (core : Core R g) (lengths : List ℕ) (setup : Setup) (slots : ℕ) → IsArrayServing count slot core lengths setup slots
     → IsNotDouble setup (slot (store_rack core.store))
 not_double count slot core lengths setup slots q d e d_low e_low d_away e_away = let z : Some d ≡ Some e = sym (out d d_low d_away) ∙ out e e_low e_away in cc
   where
-    out : (x : ℕ) → x < setup.geometry.disks → is_present (slot (store_rack core.store) x).power ≡ false → named_out core.meta.out ≡ Some x
-    out x low away = q.serving.ready.absent x (subst (λ (z : Setup). x < z.geometry.disks) (sym q.same_setup) low) away
+    out : IsAbsentOut setup (named_out core.meta.out) (slot (store_rack core.store))
+    out = absent_out count slot core lengths setup slots q

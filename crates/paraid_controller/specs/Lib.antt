@@ -3,3 +3,4 @@ pub mod Props
 pub mod Arrays
 pub mod Used
 pub mod Laws
+pub mod Checked

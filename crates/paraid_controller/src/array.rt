@@ -21,14 +21,12 @@ pub struct Array<R: Rack> {
     // the requests since the last tick, as many as a sample may have
     pub(crate) served: u32,
     pub(crate) energy: u64,
-    // the writes that the last commit has brought to the disks
-    pub(crate) kept: u64,
     pub(crate) ended: Option<Ended>,
     ghost serving: { ended ≡ None → IsArrayServing R.slot_count R.slot core (lengths_of windows) setup slots } by { while_prop (IsArrayServing-prop R.slot_count R.slot core (lengths_of windows) setup slots) },
 }
 
 impl<R: Rack> Array<R> {
-    ghost use Rattle.std.specs.Prelude.{ℕ, ◌≤◌, [], length};
+    ghost use Rattle.std.specs.Prelude.{ℕ, [], length};
     ghost use Rattle.paraid_core.specs.Cores.{core_rack, meta_of};
     ghost use Rattle.paraid_event.specs.Service.{service_of};
     ghost use Rattle.paraid_event.specs.Stands.{StandsAt};
@@ -44,13 +42,12 @@ impl<R: Rack> Array<R> {
         ensures setup { setup_of_array result ≡ (meta_of core).setup }
         ensures slots { slots_of_array result ≡ slots }
         ensures going { halt_of_array result ≡ None }
-        // It stands where its core does, if all writes are kept there.
+        // It stands where its core does.
         ensures stands { (p : Point) → HoldLastSamples windows []
             → StandsAt (R.told (core_rack core)) (service_of R.slot_count core [] 0 0) (meta_of core).setup p
-            → length p.history ≤ p.low → ArrayStandsAt R.slot_count R.told result p }
+            → ArrayStandsAt R.slot_count R.told result p }
     {
         let setup = core.meta().setup;
-        let kept = core.meta().writes;
         Array {
             core,
             windows,
@@ -58,7 +55,6 @@ impl<R: Rack> Array<R> {
             slots,
             served: 0,
             energy: 0,
-            kept,
             ended: None,
         }
     }

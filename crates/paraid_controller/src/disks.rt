@@ -4,8 +4,9 @@ ghost use Rattle.paraid_array.specs.DiskRefusals.{IsFailRefused, IsReplaceRefuse
 ghost use Rattle.paraid_array.specs.Turns.{fail_answer, replace_answer};
 ghost use Rattle.paraid_base.specs.declared.event.Event.TheVariants.{Fail as FailEvent, Replace as ReplaceEvent};
 ghost use Rattle.paraid_core.specs.Cores.{meta_of};
-ghost use Rattle.paraid_serve.specs.Calls.{HaltsBySecondLoss};
 ghost use Rattle.paraid_serve.specs.Form.{is_answer_to};
+ghost use Rattle.paraid_serve.specs.Lost.{HaltsByTwoLost};
+ghost use Rattle.paraid_session.specs.Faults.{HaveNotFallen};
 ghost use Rattle.paraid_session.specs.Turn.{halt_told};
 ghost use Rattle.paraid_trace.specs.Replies.{HasFewDisks};
 
@@ -22,7 +23,6 @@ fn fail_told(disk: DiskNo, refusal: Option<FailFault>) -> Answer
 {
     match refusal {
         None => Answer::Failed { disk },
-        Some(FailFault::Halt(halt)) => Answer::Halted(halt),
         Some(FailFault::NoDisk { disk }) => Answer::NoDisk { disk: disk as u32 },
         Some(FailFault::Out { disk }) => Answer::Out { disk },
     }
@@ -34,7 +34,6 @@ fn replace_told(disk: DiskNo, refusal: Option<ReplaceFault>) -> Answer
 {
     match refusal {
         None => Answer::Replaced { disk },
-        Some(ReplaceFault::Halt(halt)) => Answer::Halted(halt),
         Some(ReplaceFault::NoDisk { disk }) => Answer::NoDisk { disk: disk as u32 },
         Some(ReplaceFault::NotOut { disk }) => Answer::NotOut { disk },
         Some(ReplaceFault::NoFresh { disk }) => Answer::NoFresh { disk },
@@ -42,7 +41,7 @@ fn replace_told(disk: DiskNo, refusal: Option<ReplaceFault>) -> Answer
 }
 
 impl<R: Rack> Array<R> {
-    ghost use Rattle.paraid_controller.specs.Arrays.{GoesOnByEvent, core_of_array, end_of_array, halt_of_array, setup_of_array, slot_of_array, slots_of_array, told_of_array};
+    ghost use Rattle.paraid_controller.specs.Arrays.{GoesOnByEvent, core_of_array, down_of_array, end_of_array, halt_of_array, setup_of_array, slot_of_array, slots_of_array, told_of_array};
 
     // Takes out a disk of the array.
     fn fail_there(&mut self, disk: DiskNo) -> Answer
@@ -54,7 +53,9 @@ impl<R: Rack> Array<R> {
         ensures slots { slots_of_array self.new ≡ slots_of_array self.old }
         ensures setup { setup_of_array self.new ≡ setup_of_array self.old }
         ensures halt { halt_of_array self.new ≡ halt_told result }
-        ensures two { HaltsBySecondLoss (slot_of_array R.slot self.old) (slot_of_array R.slot self.new) (halt_of_array self.new) }
+        ensures two { HaltsByTwoLost (down_of_array self.old) (FailEvent disk)
+            (slot_of_array R.slot self.old) (slot_of_array R.slot self.new) (halt_of_array self.new) }
+        ensures later { HaveNotFallen (slot_of_array R.slot self.old) (slot_of_array R.slot self.new) }
         ensures kind { is_answer_to (FailEvent disk) result ≡ true }
         ensures few { HasFewDisks result }
     {
@@ -79,7 +80,9 @@ impl<R: Rack> Array<R> {
         ensures slots { slots_of_array self.new ≡ slots_of_array self.old }
         ensures setup { setup_of_array self.new ≡ setup_of_array self.old }
         ensures halt { halt_of_array self.new ≡ halt_told result }
-        ensures two { HaltsBySecondLoss (slot_of_array R.slot self.old) (slot_of_array R.slot self.new) (halt_of_array self.new) }
+        ensures two { HaltsByTwoLost (down_of_array self.old) (ReplaceEvent disk)
+            (slot_of_array R.slot self.old) (slot_of_array R.slot self.new) (halt_of_array self.new) }
+        ensures later { HaveNotFallen (slot_of_array R.slot self.old) (slot_of_array R.slot self.new) }
         ensures kind { is_answer_to (ReplaceEvent disk) result ≡ true }
         ensures few { HasFewDisks result }
     {
@@ -102,7 +105,9 @@ impl<R: Rack> Array<R> {
         ensures slots { slots_of_array self.new ≡ slots_of_array self.old }
         ensures setup { setup_of_array self.new ≡ setup_of_array self.old }
         ensures halt { halt_of_array self.new ≡ halt_told result }
-        ensures two { HaltsBySecondLoss (slot_of_array R.slot self.old) (slot_of_array R.slot self.new) (halt_of_array self.new) }
+        ensures two { HaltsByTwoLost (down_of_array self.old) (FailEvent disk)
+            (slot_of_array R.slot self.old) (slot_of_array R.slot self.new) (halt_of_array self.new) }
+        ensures later { HaveNotFallen (slot_of_array R.slot self.old) (slot_of_array R.slot self.new) }
         ensures kind { is_answer_to (FailEvent disk) result ≡ true }
         ensures few { HasFewDisks result }
     {
@@ -123,7 +128,9 @@ impl<R: Rack> Array<R> {
         ensures slots { slots_of_array self.new ≡ slots_of_array self.old }
         ensures setup { setup_of_array self.new ≡ setup_of_array self.old }
         ensures halt { halt_of_array self.new ≡ halt_told result }
-        ensures two { HaltsBySecondLoss (slot_of_array R.slot self.old) (slot_of_array R.slot self.new) (halt_of_array self.new) }
+        ensures two { HaltsByTwoLost (down_of_array self.old) (ReplaceEvent disk)
+            (slot_of_array R.slot self.old) (slot_of_array R.slot self.new) (halt_of_array self.new) }
+        ensures later { HaveNotFallen (slot_of_array R.slot self.old) (slot_of_array R.slot self.new) }
         ensures kind { is_answer_to (ReplaceEvent disk) result ≡ true }
         ensures few { HasFewDisks result }
     {

@@ -2,7 +2,8 @@
 ghost use Rattle.std.specs.Prelude.{◌≡◌, ℕ, ◌<◌, ◌^◌, true, [], None, Option, Some, IsSome};
 ghost use Rattle.paraid_base.specs.BlockAnswers.{answer_to_flush, flush_halt_of};
 ghost use Rattle.paraid_base.specs.declared.event.Event.TheVariants.{Flush as FlushEvent};
-ghost use Rattle.paraid_serve.specs.Calls.{HaltsBySecondLoss};
+ghost use Rattle.paraid_serve.specs.Lost.{HaltsByTwoLost};
+ghost use Rattle.paraid_session.specs.Faults.{HaveNotFallen};
 ghost use Rattle.paraid_core.specs.Cores.{batch_of, meta_of};
 
 use crate::Array;
@@ -12,14 +13,14 @@ use paraid_base::Halt;
 use paraid_rack::Rack;
 
 impl<R: Rack> Array<R> {
-    ghost use Rattle.paraid_controller.specs.Arrays.{GoesOnByEvent, core_of_array, end_of_array, halt_of_array, kept_by_array, setup_of_array, slot_of_array, slots_of_array, told_of_array};
+    ghost use Rattle.paraid_controller.specs.Arrays.{GoesOnByEvent, core_of_array, down_of_array, end_of_array, halt_of_array, setup_of_array, slot_of_array, slots_of_array, told_of_array};
 
-    // Whether nothing is staged, and the last commit has brought all writes to the disks.
-    fn is_kept(&self) -> bool
+    // Whether nothing is staged: then the last commit has brought all writes to the disks.
+    pub(crate) fn is_kept(&self) -> bool
         ensures nothing { result ≡ true → batch_of (core_of_array self.now) ≡ [] }
-        ensures kept { result ≡ true → kept_by_array self.now ≡ (meta_of (core_of_array self.now)).writes }
+        ensures kept { batch_of (core_of_array self.now) ≡ [] → result ≡ true }
     {
-        self.core.staged() == 0 && self.kept == self.core.meta().writes
+        self.core.staged() == 0
     }
 
     // Commits all that is staged.
@@ -32,15 +33,14 @@ impl<R: Rack> Array<R> {
         ensures slots { slots_of_array self.new ≡ slots_of_array self.old }
         ensures setup { setup_of_array self.new ≡ setup_of_array self.old }
         ensures halt { halt_of_array self.new ≡ flush_halt_of result }
-        ensures two { HaltsBySecondLoss (slot_of_array R.slot self.old) (slot_of_array R.slot self.new) (halt_of_array self.new) }
+        ensures two { HaltsByTwoLost (down_of_array self.old) FlushEvent
+            (slot_of_array R.slot self.old) (slot_of_array R.slot self.new) (halt_of_array self.new) }
+        ensures later { HaveNotFallen (slot_of_array R.slot self.old) (slot_of_array R.slot self.new) }
     {
         let gear = self.core.meta().gear;
         let writes = self.core.meta().writes;
         match self.core.commit() {
-            Ok(()) => {
-                self.kept = writes;
-                Ok(writes)
-            }
+            Ok(()) => Ok(writes),
             Err(two) => {
                 let halt = Halt::Two(two);
                 self.ended = Some(Ended { halt, gear });
@@ -49,22 +49,25 @@ impl<R: Rack> Array<R> {
         }
     }
 
-    /// Keeps all writes that were accepted, and gives their number.
+    /// Keeps all writes that were accepted, and gives their number. Where nothing is staged it makes no call.
     pub fn flush(&mut self) -> Result<u64, Halt>
         requires going { halt_of_array self.old ≡ None }
+        ensures idle { batch_of (core_of_array self.old) ≡ [] → core_of_array self.new ≡ core_of_array self.old }
         ensures turn { GoesOnByEvent R.slot_count R.told self.old self.new FlushEvent (answer_to_flush result) }
         ensures told { IsSome (told_of_array R.told self.new) → IsSome (told_of_array R.told self.old) }
         ensures slots { slots_of_array self.new ≡ slots_of_array self.old }
         ensures setup { setup_of_array self.new ≡ setup_of_array self.old }
         ensures halt { halt_of_array self.new ≡ flush_halt_of result }
-        ensures two { HaltsBySecondLoss (slot_of_array R.slot self.old) (slot_of_array R.slot self.new) (halt_of_array self.new) }
+        ensures two { HaltsByTwoLost (down_of_array self.old) FlushEvent
+            (slot_of_array R.slot self.old) (slot_of_array R.slot self.new) (halt_of_array self.new) }
+        ensures later { HaveNotFallen (slot_of_array R.slot self.old) (slot_of_array R.slot self.new) }
     {
         if let Some(count) = worn(self.core.meta()) {
             let halt = self.wear_out(count);
             return Err(halt);
         }
         if self.is_kept() {
-            return Ok(self.kept);
+            return Ok(self.core.meta().writes);
         }
         self.commit_all()
     }

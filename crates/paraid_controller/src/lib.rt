@@ -2,6 +2,8 @@
 #![tactic(auto)]
 
 mod array;
+mod checking;
+mod counting;
 mod disks;
 mod ended;
 mod energy;

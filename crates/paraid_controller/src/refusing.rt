@@ -4,9 +4,11 @@ ghost use Rattle.paraid_base.specs.declared.event.Answer.TheVariants.{Halted};
 ghost use Rattle.paraid_base.specs.declared.event.Event.{Event as EventType};
 ghost use Rattle.paraid_base.specs.declared.event.Event.TheVariants.{Bad as BadEvent, Energy as AskEnergy, State as AskState};
 ghost use Rattle.paraid_base.specs.declared.fault.Halt.TheVariants.{Worn};
+ghost use Rattle.paraid_image.specs.Out.{named_out};
 ghost use Rattle.paraid_machine.specs.Machine.{block_count, state_status};
-ghost use Rattle.paraid_serve.specs.Calls.{HaltsBySecondLoss};
 ghost use Rattle.paraid_serve.specs.Form.{is_answer_to};
+ghost use Rattle.paraid_serve.specs.Lost.{HaltsByTwoLost};
+ghost use Rattle.paraid_session.specs.Faults.{HaveNotFallen};
 ghost use Rattle.paraid_session.specs.Turn.{Point, halt_told, may_halt};
 ghost use Rattle.paraid_trace.specs.Replies.{HasFewDisks};
 ghost use Rattle.paraid_core.specs.Cores.{meta_of};
@@ -30,7 +32,7 @@ pub(crate) fn worn(meta: &Meta) -> Option<u64>
 }
 
 impl<R: Rack> Array<R> {
-    ghost use Rattle.paraid_controller.specs.Arrays.{ArrayStandsAt, GoesOnByEvent, core_of_array, halt_of_array, setup_of_array, slot_of_array, slots_of_array, told_of_array};
+    ghost use Rattle.paraid_controller.specs.Arrays.{ArrayStandsAt, GoesOnByEvent, core_of_array, down_of_array, halt_of_array, setup_of_array, slot_of_array, slots_of_array, told_of_array};
 
     /// The halt that each event gives from now on, if it has halted.
     pub fn halt(&self) -> Option<Halt>
@@ -71,8 +73,9 @@ impl<R: Rack> Array<R> {
     /// Its state.
     pub fn status(&self) -> Status
         requires going { halt_of_array self.now ≡ None }
-        ensures { (p : Point) → ArrayStandsAt R.slot_count R.told self.now p
+        ensures point { (p : Point) → ArrayStandsAt R.slot_count R.told self.now p
             → result ≡ state_status (setup_of_array self.now) (length p.history) p.state }
+        ensures down { named_out result.out ≡ down_of_array self.now }
     {
         let meta = self.core.meta();
         Status {
@@ -123,11 +126,14 @@ impl<R: Rack> Array<R> {
         requires is { count ≡ max (meta_of (core_of_array self.old)).epoch (meta_of (core_of_array self.old)).writes }
         ensures turn { (event : EventType) → event ≢ BadEvent → may_halt event ≡ true
             → GoesOnByEvent R.slot_count R.told self.old self.new event (Halted result) }
+        ensures core { core_of_array self.new ≡ core_of_array self.old }
         ensures told { IsSome (told_of_array R.told self.new) → IsSome (told_of_array R.told self.old) }
         ensures slots { slots_of_array self.new ≡ slots_of_array self.old }
         ensures setup { setup_of_array self.new ≡ setup_of_array self.old }
         ensures halt { halt_of_array self.new ≡ Some result }
-        ensures two { HaltsBySecondLoss (slot_of_array R.slot self.old) (slot_of_array R.slot self.new) (halt_of_array self.new) }
+        ensures two { (event : EventType) → HaltsByTwoLost (down_of_array self.old) event
+            (slot_of_array R.slot self.old) (slot_of_array R.slot self.new) (halt_of_array self.new) }
+        ensures later { HaveNotFallen (slot_of_array R.slot self.old) (slot_of_array R.slot self.new) }
     {
         let gear = self.core.meta().gear;
         let halt = Halt::Worn { count };

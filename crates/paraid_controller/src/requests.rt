@@ -6,8 +6,9 @@ ghost use Rattle.paraid_base.specs.Pairs.{pairs_of};
 ghost use Rattle.paraid_core.specs.Cores.{meta_of};
 ghost use Rattle.paraid_gear.specs.ThreeWindows.{sample_of};
 ghost use Rattle.paraid_machine.specs.Machine.{block_count};
-ghost use Rattle.paraid_serve.specs.Calls.{HaltsBySecondLoss};
 ghost use Rattle.paraid_serve.specs.Form.{is_answer_to};
+ghost use Rattle.paraid_serve.specs.Lost.{HaltsByTwoLost};
+ghost use Rattle.paraid_session.specs.Faults.{HaveNotFallen};
 ghost use Rattle.paraid_session.specs.Turn.{halt_told};
 ghost use Rattle.paraid_trace.specs.Replies.{HasFewDisks};
 
@@ -27,16 +28,8 @@ fn one_more(served: u32) -> u32
     if served < MOST { served + 1 } else { served }
 }
 
-// The writes that were kept, or all of them where an epoch has begun.
-fn kept_after(kept: u64, writes: u64, before: u64, after: u64) -> u64
-    ensures same { after ≡ before → result ≡ kept }
-    ensures more { after ≡ before + 1 → result ≡ writes }
-{
-    if after == before { kept } else { writes }
-}
-
 impl<R: Rack> Array<R> {
-    ghost use Rattle.paraid_controller.specs.Arrays.{GoesOnByEvent, core_of_array, end_of_array, halt_of_array, setup_of_array, slot_of_array, slots_of_array, told_of_array};
+    ghost use Rattle.paraid_controller.specs.Arrays.{GoesOnByEvent, core_of_array, down_of_array, end_of_array, halt_of_array, setup_of_array, slot_of_array, slots_of_array, told_of_array};
 
     // Reads a block that there is.
     fn read_there(&mut self, block: BlockNo) -> Answer
@@ -49,18 +42,17 @@ impl<R: Rack> Array<R> {
         ensures slots { slots_of_array self.new ≡ slots_of_array self.old }
         ensures setup { setup_of_array self.new ≡ setup_of_array self.old }
         ensures halt { halt_of_array self.new ≡ halt_told result }
-        ensures two { HaltsBySecondLoss (slot_of_array R.slot self.old) (slot_of_array R.slot self.new) (halt_of_array self.new) }
+        ensures two { HaltsByTwoLost (down_of_array self.old) (ReadEvent block)
+            (slot_of_array R.slot self.old) (slot_of_array R.slot self.new) (halt_of_array self.new) }
+        ensures later { HaveNotFallen (slot_of_array R.slot self.old) (slot_of_array R.slot self.new) }
         ensures kind { is_answer_to (ReadEvent block) result ≡ true }
         ensures few { HasFewDisks result }
     {
         let gear = self.core.meta().gear;
-        let epoch = self.core.meta().epoch;
-        let writes = self.core.meta().writes;
         let mut bytes = Block::zero();
         match self.core.read(block, &mut bytes) {
             Ok(()) => {
                 self.served = one_more(self.served);
-                self.kept = kept_after(self.kept, writes, epoch, self.core.meta().epoch);
                 Answer::Value { block, bytes }
             }
             Err(two) => {
@@ -82,17 +74,17 @@ impl<R: Rack> Array<R> {
         ensures slots { slots_of_array self.new ≡ slots_of_array self.old }
         ensures setup { setup_of_array self.new ≡ setup_of_array self.old }
         ensures halt { halt_of_array self.new ≡ halt_told result }
-        ensures two { HaltsBySecondLoss (slot_of_array R.slot self.old) (slot_of_array R.slot self.new) (halt_of_array self.new) }
+        ensures two { HaltsByTwoLost (down_of_array self.old) (WriteEvent pairs.now)
+            (slot_of_array R.slot self.old) (slot_of_array R.slot self.new) (halt_of_array self.new) }
+        ensures later { HaveNotFallen (slot_of_array R.slot self.old) (slot_of_array R.slot self.new) }
         ensures kind { is_answer_to (WriteEvent pairs.now) result ≡ true }
         ensures few { HasFewDisks result }
     {
         let gear = self.core.meta().gear;
-        let epoch = self.core.meta().epoch;
         let writes = self.core.meta().writes;
         match self.core.write_many(pairs) {
             Ok(()) => {
                 self.served = one_more(self.served);
-                self.kept = kept_after(self.kept, writes, epoch, self.core.meta().epoch);
                 Answer::Wrote { number: writes + 1 }
             }
             Err(two) => {
@@ -111,7 +103,9 @@ impl<R: Rack> Array<R> {
         ensures slots { slots_of_array self.new ≡ slots_of_array self.old }
         ensures setup { setup_of_array self.new ≡ setup_of_array self.old }
         ensures halt { halt_of_array self.new ≡ halt_told result }
-        ensures two { HaltsBySecondLoss (slot_of_array R.slot self.old) (slot_of_array R.slot self.new) (halt_of_array self.new) }
+        ensures two { HaltsByTwoLost (down_of_array self.old) (ReadEvent block)
+            (slot_of_array R.slot self.old) (slot_of_array R.slot self.new) (halt_of_array self.new) }
+        ensures later { HaveNotFallen (slot_of_array R.slot self.old) (slot_of_array R.slot self.new) }
         ensures kind { is_answer_to (ReadEvent block) result ≡ true }
         ensures few { HasFewDisks result }
     {
@@ -132,7 +126,9 @@ impl<R: Rack> Array<R> {
         ensures slots { slots_of_array self.new ≡ slots_of_array self.old }
         ensures setup { setup_of_array self.new ≡ setup_of_array self.old }
         ensures halt { halt_of_array self.new ≡ halt_told result }
-        ensures two { HaltsBySecondLoss (slot_of_array R.slot self.old) (slot_of_array R.slot self.new) (halt_of_array self.new) }
+        ensures two { HaltsByTwoLost (down_of_array self.old) (WriteEvent pairs.now)
+            (slot_of_array R.slot self.old) (slot_of_array R.slot self.new) (halt_of_array self.new) }
+        ensures later { HaveNotFallen (slot_of_array R.slot self.old) (slot_of_array R.slot self.new) }
         ensures kind { is_answer_to (WriteEvent pairs.now) result ≡ true }
         ensures few { HasFewDisks result }
     {

@@ -1,8 +1,9 @@
 //! An array answers each event of a session.
 ghost use Rattle.std.specs.Prelude.{◌≡◌, ◌≢◌, true, None, IsSome};
 ghost use Rattle.paraid_base.specs.declared.event.Event.TheVariants.{Bad as BadEvent, Flush as FlushEvent};
-ghost use Rattle.paraid_serve.specs.Calls.{HaltsBySecondLoss};
 ghost use Rattle.paraid_serve.specs.Form.{is_answer_to};
+ghost use Rattle.paraid_serve.specs.Lost.{HaltsByTwoLost};
+ghost use Rattle.paraid_session.specs.Faults.{HaveNotFallen};
 ghost use Rattle.paraid_session.specs.Turn.{halt_told};
 ghost use Rattle.paraid_trace.specs.Asked.{event_with};
 ghost use Rattle.paraid_trace.specs.Replies.{HasFewDisks};
@@ -14,7 +15,7 @@ use paraid_serve::Serves;
 use paraid_trace::Asked;
 
 impl<R: Rack> Array<R> {
-    ghost use Rattle.paraid_controller.specs.Arrays.{GoesOnByEvent, halt_of_array, setup_of_array, slot_of_array, slots_of_array, told_of_array};
+    ghost use Rattle.paraid_controller.specs.Arrays.{GoesOnByEvent, down_of_array, halt_of_array, setup_of_array, slot_of_array, slots_of_array, told_of_array};
 
     // The answer to a flush.
     fn flush_told(&mut self) -> Answer
@@ -24,7 +25,9 @@ impl<R: Rack> Array<R> {
         ensures slots { slots_of_array self.new ≡ slots_of_array self.old }
         ensures setup { setup_of_array self.new ≡ setup_of_array self.old }
         ensures halt { halt_of_array self.new ≡ halt_told result }
-        ensures two { HaltsBySecondLoss (slot_of_array R.slot self.old) (slot_of_array R.slot self.new) (halt_of_array self.new) }
+        ensures two { HaltsByTwoLost (down_of_array self.old) FlushEvent
+            (slot_of_array R.slot self.old) (slot_of_array R.slot self.new) (halt_of_array self.new) }
+        ensures later { HaveNotFallen (slot_of_array R.slot self.old) (slot_of_array R.slot self.new) }
         ensures kind { is_answer_to FlushEvent result ≡ true }
         ensures few { HasFewDisks result }
     {
@@ -59,7 +62,9 @@ impl<R: Rack> Array<R> {
         ensures slots { slots_of_array self.new ≡ slots_of_array self.old }
         ensures setup { setup_of_array self.new ≡ setup_of_array self.old }
         ensures halt { halt_of_array self.new ≡ halt_told result }
-        ensures two { HaltsBySecondLoss (slot_of_array R.slot self.old) (slot_of_array R.slot self.new) (halt_of_array self.new) }
+        ensures two { HaltsByTwoLost (down_of_array self.old) (event_with asked pairs.now)
+            (slot_of_array R.slot self.old) (slot_of_array R.slot self.new) (halt_of_array self.new) }
+        ensures later { HaveNotFallen (slot_of_array R.slot self.old) (slot_of_array R.slot self.new) }
         ensures kind { is_answer_to (event_with asked pairs.now) result ≡ true }
         ensures few { HasFewDisks result }
     {
@@ -80,8 +85,8 @@ impl<R: Rack> Array<R> {
 }
 
 impl<R: Rack> Serves for Array<R> {
-    ghost use Rattle.paraid_controller.specs.Arrays.{ArrayStandsAt, halt_of_array, setup_of_array, slot_of_array, slots_of_array, told_of_array};
-    ghost use Rattle.paraid_controller.specs.Laws.{going_end, halt_at, not_double};
+    ghost use Rattle.paraid_controller.specs.Arrays.{ArrayStandsAt, down_of_array, halt_of_array, setup_of_array, slot_of_array, slots_of_array, told_of_array};
+    ghost use Rattle.paraid_controller.specs.Laws.{absent_out, going_end, halt_at, not_double};
     ghost use Rattle.paraid_gear.specs.ThreeWindows.{lengths_of};
 
     ghost told = { told_of_array R.told };
@@ -94,9 +99,13 @@ impl<R: Rack> Serves for Array<R> {
 
     ghost halted = { halt_of_array };
 
+    ghost down = { down_of_array };
+
     ghost stands = { ArrayStandsAt R.slot_count R.told };
 
     ghost serves = { λ array going. not_double R.slot_count R.slot array.core (lengths_of array.windows) array.setup array.slots (array.serving (going_end array.ended going)) };
+
+    ghost absent = { λ array going. absent_out R.slot_count R.slot array.core (lengths_of array.windows) array.setup array.slots (array.serving (going_end array.ended going)) };
 
     ghost agrees = { λ array p at. halt_at R.slot_count R.told array p at };
 

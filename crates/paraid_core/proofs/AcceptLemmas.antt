@@ -1,5 +1,5 @@
 -- A plan over a core that was taken into its batch.
-use Rattle.std.specs.Prelude.{◌≡◌, ◌≢◌, ℕ, ◌+◌, ◌^◌, ◌<◌, Bool, List, false, [], ◌∷◌, ◌++◌, Option, Some, None, IsSome}
+use Rattle.std.specs.Prelude.{◌≡◌, ◌≢◌, ℕ, ◌+◌, ◌^◌, ◌<◌, ◌≤◌, length, Bool, List, false, [], ◌∷◌, ◌++◌, Option, Some, None, IsSome}
 use Rattle.std.proofs.Common.{refl, sym, ◌∙◌, ap, subst, arith, inl, inr}
 use Rattle.paraid_base.specs.declared.state.Out.{Out}
 use Rattle.paraid_base.specs.declared.state.Out.TheVariants.{Fresh, Gone, No}
@@ -121,7 +121,7 @@ module _ {R : Type 0} {g : _} (count : R → ℕ) (slot : R → ℕ → Slot) (t
     (agrees_was : (t : Trail) → told (store_rack old.store) ≡ Some t → Agrees (now t) (slot (store_rack old.store))) (agrees : (t : Trail) → told (store_rack pl.store) ≡ Some t → Agrees (now t) (slot (store_rack pl.store)))
     (absent : (d : ℕ) → d < old.meta.setup.geometry.disks → is_present (slot (store_rack pl.store) d).power ≡ false → named_out old.meta.out ≡ Some d)
     (entry : Entry) (stage : IsSome (told (store_rack pl.store)) → StageAll old.meta (desk_of told (without_draft old)) (desk_of told pl) entry)
-    (batch_then : Batch) (taken : IsTakenIn old.meta old.batch pl.draft batch_then) (P : Disks → Type 0) (A : Disks → Type 0) where
+    (some : IsSome (told (store_rack pl.store)) → 1 ≤ length pl.draft) (batch_then : Batch) (taken : IsTakenIn old.meta old.batch pl.draft batch_then) (P : Disks → Type 0) (A : Disks → Type 0) where
   abbrev m : Meta
   m = old.meta
 
@@ -138,12 +138,15 @@ module _ {R : Type 0} {g : _} (count : R → ℕ) (slot : R → ℕ → Slot) (t
     staged : StageAll m (desk_of told (without_draft old)) (desk_of told pl) entry
     staged = stage (subst IsSome (sym tells) refl)
 
+    placed : ArePlaced m pl.draft
+    placed = all_placed m (desk_of told (without_draft old)) (desk_of told pl) entry staged tt
+
     pub accepted_keeps : HoldsBetweenCalls slots named (record m { writes = m.writes + 1 }) pl.dirty batch_then pl.copied (h ++ entry ∷ []) lo (now t)
     accepted_keeps =
         taken_write_keeps slots named m old.dirty pl.dirty old.batch batch_then pl.copied h lo (now t) (desk_of told (without_draft old)) (desk_of told pl) entry range
         (λ d l gone. absent d l (ap is_present (sym ((agrees t tells).power d)) ∙ gone))
         (subst (λ (z : List Bool). HoldsBetweenCalls slots named m old.dirty old.batch z h lo (now t)) (sym led.copied) k) (record { block = desk_block t tells; dirty = k.dirty; staged = refl }) staged
-        (record { laid_same = taken.laid_same (all_placed m (desk_of told (without_draft old)) (desk_of told pl) entry staged tt); bits = λ r d l. refl })
+        (record { laid_same = taken.laid_same placed; some = taken.some placed (some (subst IsSome (sym tells) refl)); bits = λ r d l. refl })
 
   pub accepted_stands : (slots : ℕ) (named : Option ℕ) (m_then : Meta) (h : History) (lo : ℕ) → m_then ≡ record m { writes = m.writes + 1 }
       → Ran (told (store_rack old.store)) (told (store_rack pl.store)) (CrashTriple P A (HoldsBetweenCalls slots named m old.dirty old.batch old.copied h lo))

@@ -151,6 +151,7 @@ module _ (slots : ℕ) (named : Option ℕ) (m : Meta) (table : List (List Bool)
     epoch = k.epoch;
     next = next_then;
     writes = k.writes;
+    brought = k.brought;
     staged = staged_then;
     dirty = dirty_then;
   }

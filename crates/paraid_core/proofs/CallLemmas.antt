@@ -202,6 +202,7 @@ module _ (slots : ℕ) (named : Option ℕ) (m : Meta) (table : List (List Bool)
     epoch = k.epoch;
     next = k.next;
     writes = k.writes;
+    brought = k.brought;
     staged = k.staged;
     dirty = k.dirty;
   }
@@ -239,6 +240,7 @@ module _ (slots : ℕ) (named : Option ℕ) (m : Meta) (table : List (List Bool)
       fresh_shut = λ x u fresh l. ap is_open (stored_still s loose x 0) ∙ k.next.fresh_shut x u (record { is = fresh.is; present = fresh.present }) l;
     };
     writes = k.writes;
+    brought = k.brought;
     staged = staged_still;
     dirty = dirty_still;
   }

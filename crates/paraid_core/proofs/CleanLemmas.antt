@@ -1,6 +1,6 @@
 -- What the cleaning of a cell leaves of what a core stands for.
 use Rattle.paraid_record.specs.Modes.{is_access}
-use Rattle.std.specs.Prelude.{◌≡◌, ◌≢◌, ℕ, ◌+◌, ◌-◌, ◌*◌, ◌/◌, ◌<◌, ◌≤◌, ◌&&◌, not, nat_le, nat_lt, Bool, true, false, List, [], ◌∷◌, ◌++◌, Option, Some, None, IsSome, if◌then◌else◌}
+use Rattle.std.specs.Prelude.{◌≡◌, ◌≢◌, ℕ, ◌+◌, ◌-◌, ◌*◌, ◌/◌, ◌<◌, ◌≤◌, ◌&&◌, not, nat_le, nat_lt, Bool, true, false, List, [], ◌∷◌, ◌++◌, length, Option, Some, None, IsSome, if◌then◌else◌}
 use Rattle.std.proofs.Common.{refl, sym, ◌∙◌, ap, subst, arith, inl, inr}
 use Rattle.std.proofs.lemmas.Bool.{cases_Bool, false≢true}
 use Rattle.std.proofs.lemmas.Bool.Decides.{nat_tests}
@@ -72,7 +72,7 @@ module _ (slots : ℕ) (named : Option ℕ) (m : Meta) (table table_then : List 
     (in_range : IsInRange m) (absent : (d : ℕ) → d < m.setup.geometry.disks → is_present (s.power d) ≡ false → named_out m.out ≡ Some d)
     (k : HoldsBetweenCalls slots named m table batch copied h lo s) (r d : ℕ) (lr : r < m.setup.geometry.rows) (ld : d < m.setup.geometry.disks) (rises : d < rising_to m.phase) (none : named_out m.out ≡ None) (map : Block)
     (turned : (q e : ℕ) → is_dirty table_then q e ≡ table_with_bit (is_dirty table) r d false q e) (shows : ShowsBits map (r / 512) (is_dirty table_then))
-    (draft_is : draft ≡ sync_targets (view_by m s.power (contents s batch)) r d map) (laid_same : (e p : ℕ) (x : Block) → overlaid_block batch_then e p x ≡ overlaid_block (batch ++ draft) e p x) where
+    (draft_is : draft ≡ sync_targets (view_by m s.power (contents s batch)) r d map) (laid_same : (e p : ℕ) (x : Block) → overlaid_block batch_then e p x ≡ overlaid_block (batch ++ draft) e p x) (grows : length batch ≤ length batch_then) where
   abbrev f : Contents
   f = contents s batch
 
@@ -123,6 +123,7 @@ module _ (slots : ℕ) (named : Option ℕ) (m : Meta) (table table_then : List 
     epoch = k.epoch;
     next = k.next;
     writes = k.writes;
+    brought = λ none. k.brought (omega (arith, none, grows));
     staged = record { kept = same.kept; blocks = λ b l. same.blocks b l ∙ k.staged.blocks b l };
     dirty = λ q e l. turned_v q e l ∙ sym (sync_bits slots s.power s.size m f r d map in_range out_was k.staged.kept lr ld rises apart shows_v g agree q e l);
   }

@@ -366,6 +366,7 @@ module _ (slots : ℕ) (named : Option ℕ) (m : Meta) (table : List (List Bool)
       epoch = refl;
       next = next_keeps None is;
       writes = k.writes;
+      brought = λ none. refl;
       staged = subst (λ (n : ℕ). ContentOk slots t.power t.size (view_by after t.power (contents t [])) h n) k.writes (staged_after None is);
       dirty = dirty_by None is;
     }
@@ -378,6 +379,7 @@ module _ (slots : ℕ) (named : Option ℕ) (m : Meta) (table : List (List Bool)
       epoch = refl;
       next = next_keeps (Some d) is;
       writes = k.writes;
+      brought = λ none. refl;
       staged = subst (λ (n : ℕ). ContentOk slots t.power t.size (view_by (meta_after_loss after d) t.power (contents t [])) h n) k.writes (staged_after (Some d) is);
       dirty = dirty_by (Some d) is;
     }

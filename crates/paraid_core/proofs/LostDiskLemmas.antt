@@ -174,6 +174,7 @@ module _ (slots : ℕ) (named : Option ℕ) (m : Meta) (table : List (List Bool)
     epoch = k.epoch;
     next = next_after;
     writes = k.writes;
+    brought = k.brought;
     staged = staged_after;
     dirty = dirty_after;
   }

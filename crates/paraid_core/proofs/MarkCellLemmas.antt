@@ -1,5 +1,5 @@
 -- A cell that is copied is marked as clean.
-use Rattle.std.specs.Prelude.{◌≡◌, ◌≢◌, ℕ, ◌+◌, ◌*◌, ◌/◌, ◌<◌, ◌≤◌, Bool, true, false, List, [], ◌∷◌, ◌++◌, Option, Some, None}
+use Rattle.std.specs.Prelude.{◌≡◌, ◌≢◌, ℕ, ◌+◌, ◌*◌, ◌/◌, ◌<◌, ◌≤◌, Bool, true, false, List, [], ◌∷◌, ◌++◌, length, Option, Some, None}
 use Rattle.std.proofs.Common.{refl, sym, ◌∙◌, ap, arith, inl, inr}
 use Rattle.std.proofs.lemmas.Bool.{cases_Bool, false≢true}
 use Rattle.std.proofs.lemmas.Bool.Decides.{nat_tests}
@@ -52,7 +52,7 @@ module _ (slots : ℕ) (named : Option ℕ) (m : Meta) (table table_then : List 
     (kc : KeepsCellCopies slots named m table batch copied h lo cells s) (r d : ℕ) (lr : r < m.setup.geometry.rows) (ld : d < m.setup.geometry.disks) (rises : d < rising_to m.phase)
     (dirty : is_dirty table r d ≡ true) (is_copied : cells r d ≡ true) (map : Block)
     (turned : (q e : ℕ) → is_dirty table_then q e ≡ table_with_bit (is_dirty table) r d false q e) (shows : ShowsBits map (r / 512) (is_dirty table_then))
-    (draft_is : draft ≡ map_targets m (r / 512) map) (laid_same : (e p : ℕ) (x : Block) → overlaid_block batch_then e p x ≡ overlaid_block (batch ++ draft) e p x) where
+    (draft_is : draft ≡ map_targets m (r / 512) map) (laid_same : (e p : ℕ) (x : Block) → overlaid_block batch_then e p x ≡ overlaid_block (batch ++ draft) e p x) (grows : length batch ≤ length batch_then) where
   abbrev k : HoldsBetweenCalls slots named m table batch copied h lo s
   k = kc.keeps
 
@@ -136,6 +136,7 @@ module _ (slots : ℕ) (named : Option ℕ) (m : Meta) (table table_then : List 
     epoch = k.epoch;
     next = k.next;
     writes = k.writes;
+    brought = λ none. k.brought (omega (arith, none, grows));
     staged = record { kept = same.kept; blocks = λ b l. same.blocks b l ∙ k.staged.blocks b l };
     dirty = dirty_then;
   }

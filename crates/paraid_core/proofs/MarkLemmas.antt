@@ -57,6 +57,7 @@ module _ (m : Meta) (gear : ℕ) (phase : Phase) (fill ticks : ℕ) (spins : Lis
       fresh_shut = λ x u fresh l. k.next.fresh_shut x u (record { is = fresh.is; present = fresh.present }) l;
     };
     writes = k.writes;
+    brought = k.brought;
     staged = staged;
     dirty = k.dirty;
   }

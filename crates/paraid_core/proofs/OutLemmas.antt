@@ -121,6 +121,7 @@ module _ (m : Meta) (named : Option ℕ) (d : ℕ) (in_range : IsInRange m) (low
       epoch = k.epoch;
       next = next_after;
       writes = k.writes;
+      brought = k.brought;
       staged = staged_after;
       dirty = λ r e l. k.dirty r e l ∙ sym (dirty_without m.setup.geometry (out_disk s.power m) (contents s batch) (contents s batch) d was_out (λ x q apart. refl)
           (λ j lj none. k.staged.kept.map.mirrored j lj (λ o. let z : None ≡ Some 0 = sym none ∙ o in cc) (λ o. let z : None ≡ Some 1 = sym none ∙ o in cc)) r e l);

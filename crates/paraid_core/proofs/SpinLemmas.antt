@@ -97,6 +97,7 @@ module _ (slots : ℕ) (named : Option ℕ) (m : Meta) (table : List (List Bool)
       fresh_shut = λ x n fresh l. ap is_open (stored_spun x 0) ∙ k.next.fresh_shut x n (record { is = fresh.is; present = sym (there x) ∙ fresh.present }) l;
     };
     writes = k.writes;
+    brought = k.brought;
     staged = staged_then;
     dirty = dirty_then;
   }

@@ -167,6 +167,7 @@ module _ (slots : ℕ) (named : Option ℕ) (m : Meta) (table : List (List Bool)
       fresh_shut = λ x n fresh l. let z : No ≡ Fresh x n = sym all_in ∙ fresh.is in cc;
     };
     writes = k.writes;
+    brought = k.brought;
     staged = staged_then;
     dirty = dirty_then;
   }

@@ -34,6 +34,18 @@ with_all P (w ∷ b) t x all p = elim (cases_Bool (w.0.disk == t.disk && w.0.pla
   | inr other ↦ rw other (All-cons P w.0 (targets (with_target b t x)) (head P w.0 (targets b) all) (with_all P b t x (All-tail P w.0 (targets b) all) p))
 ]
 
+-- it is not shorter, and not empty
+with_more : (b : Batch) (t : Target) (x : Block) → length b ≤ length (with_target b t x)
+with_more [] t x = omega arith
+with_more (w ∷ b) t x = elim (cases_Bool (w.0.disk == t.disk && w.0.place == t.place)) [
+  | inl same ↦ rw same (omega arith)
+  | inr other ↦ rw other (let l = with_more b t x in omega arith)
+]
+
+with_some : (b : Batch) (t : Target) (x : Block) → 1 ≤ length (with_target b t x)
+with_some [] t x = omega arith
+with_some (w ∷ b) t x = let l = with_more (w ∷ b) t x in omega arith
+
 pub with_length : (b : Batch) (t : Target) (x : Block) → length (with_target b t x) ≤ length b + 1
 with_length [] t x = omega arith
 with_length (w ∷ b) t x = elim (cases_Bool (w.0.disk == t.disk && w.0.place == t.place)) [
@@ -58,6 +70,8 @@ with_apart (w ∷ b) t x apart = elim (cases_Bool (w.0.disk == t.disk && w.0.pla
 pub none_taken : (m : Meta) (old : Batch) → AreApart old → IsTakenIn m old [] old
 none_taken m old apart = record {
   room = omega arith;
+  grows = omega arith;
+  some = λ are long. absurd (omega (arith, long));
   apart = apart;
   laid_same = λ are d p x. ap (λ (z : Batch). overlaid_block z d p x) (sym (append-nil old));
   each = λ all. all;
@@ -68,6 +82,8 @@ none_taken m old apart = record {
 pub left_out : (m : Meta) (old : Batch) (t : Target) (b : Block) → AreApart old → (IsPlaced m t → ⊥) → IsTakenIn m old ((t, b) ∷ []) old
 left_out m old t b apart not = record {
   room = omega arith;
+  grows = omega arith;
+  some = λ are long. absurd (not are.0);
   apart = apart;
   laid_same = λ are d p x. absurd (not are.0);
   each = λ all. all;
@@ -77,6 +93,8 @@ left_out m old t b apart not = record {
 pub one_taken : (m : Meta) (old : Batch) (t : Target) (b : Block) → AreApart old → IsPlaced m t → IsTakenIn m old ((t, b) ∷ []) (with_target old t b)
 one_taken m old t b apart placed = record {
   room = with_length old t b;
+  grows = with_more old t b;
+  some = λ are long. with_some old t b;
   apart = with_apart old t b apart;
   laid_same = λ are d p x. overlaid_block-with_target old t b d p x apart;
   each = λ all. with_all (IsTargetInRange m.setup.geometry) old t b all placed.in_range;
@@ -94,6 +112,8 @@ then_taken m a draft w b c p q =
     let second = q.room in
     record {
       room = omega arith;
+      grows = (let more = p.grows in let next = q.grows in omega (arith, more, next));
+      some = λ are long. q.some (placed_left m draft (w ∷ []) are).1 (omega arith);
       apart = q.apart;
       laid_same = λ are d q x. laid_by are d q x;
       each = λ all. q.each (p.each all);

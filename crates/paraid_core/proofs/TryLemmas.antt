@@ -74,6 +74,7 @@ keeps_bits slots named m m_then table table_then batch batch_then copied copied_
       epoch = k.epoch;
       next = k.next;
       writes = k.writes;
+      brought = k.brought;
       staged = k.staged;
       dirty = λ r d l. ap (λ (f : ℕ → ℕ → Bool). f r d) bits ∙ k.dirty r d l;
     })))

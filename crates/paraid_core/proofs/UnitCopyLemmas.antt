@@ -190,6 +190,7 @@ module _ (slots : ℕ) (named : Option ℕ) (m : Meta) (table : List (List Bool)
       fresh_shut = λ x n is l. ap is_open (gate_still x) ∙ k.next.fresh_shut x n (record { is = is.is; present = is.present }) l;
     };
     writes = k.writes;
+    brought = k.brought;
     staged = staged_then;
     dirty = dirty_then;
   }

@@ -101,6 +101,7 @@ module _ (m : Meta) (d end : ℕ) (fresh : IsRebuilding m d) where
         fresh_shut = λ x units is l. k.next.fresh_shut x (rebuilt_count m.out) (record { is = fresh_is x units is.is; present = is.present }) l;
       };
       writes = k.writes;
+      brought = k.brought;
       staged = staged_then;
       dirty = λ r e l. k.dirty r e l ∙ ap (λ (o : Option ℕ). map_bit m.setup.geometry (f (map_disk o)) r e) out_is;
     }

@@ -205,6 +205,7 @@ module _ (slots : ℕ) (named : Option ℕ) (m : Meta) (table table_then : List 
     epoch = k.epoch;
     next = record { epoch = k.next.epoch; setup = k.next.setup; out = k.next.out; comes_in = k.next.comes_in; fresh_shut = λ d u fresh l. k.next.fresh_shut d u (record { is = fresh.is; present = fresh.present }) l };
     writes = (let e = k.writes in let longer = length-append h (entry ∷ []) in omega arith);
+    brought = λ none. absurd (let some = taken.some in omega (arith, none, some));
     staged = staged_then;
     dirty = dirty_then;
   }
@@ -228,6 +229,27 @@ rest_keeps slots m table copied h lo s rest writes low ok dirty = record {
   epoch = refl;
   next = next_same s m (record m { epoch = m.epoch + 1 }) refl refl rest refl;
   writes = writes;
+  brought = λ none. refl;
   staged = ok;
   dirty = dirty;
 }
+
+-- where nothing is staged, the last commit has brought all writes
+pub all_kept : (slots : ℕ) (named : Option ℕ) (m : Meta) (table : List (List Bool)) (batch : Batch) (copied : List Bool) (h : History) (lo : ℕ) (s : Disks) → length batch ≡ 0
+    → (z : HoldsBetweenCalls slots named m table batch copied h lo s) → (y : HoldsBetweenCalls slots named m table batch copied h (length h) s) × (y.base ≡ z.base)
+all_kept slots named m table batch copied h lo s none z = (
+  record {
+    base = z.base;
+    held = z.held;
+    copies = record { copying = z.copies.copying; low = (let all = z.brought none in let long = z.writes in omega (arith, all, long)); high = z.copies.high; content = z.copies.content };
+    synced = z.synced;
+    named_by = z.named_by;
+    epoch = z.epoch;
+    next = z.next;
+    writes = z.writes;
+    brought = z.brought;
+    staged = z.staged;
+    dirty = z.dirty;
+  },
+  refl,
+)

@@ -39,8 +39,9 @@ AreCopiesSynced n copied = (d : ℕ) → d < n → is_copied copied d ≡ false
 
 -- What the disks hold between two calls, where `named` is the disk that the meta of the last commit
 -- names out: the contents of that commit, `base` and `held`, which hold a first part of the writes;
--- and with all that is staged laid over, contents that hold all of them under the core's meta. A block is
--- loose only on a disk to which copies went: a copy is in a free place, where a stop may leave anything.
+-- and with all that is staged laid over, contents that hold all of them under the core's meta. Where nothing
+-- is staged, that commit has brought all of them. A block is loose only on a disk to which copies went: a copy
+-- is in a free place, where a stop may leave anything.
 pub record HoldsBetweenCalls (slots : ℕ) (named : Option ℕ) (m : Meta) (table : List (List Bool)) (batch : Batch) (copied : List Bool) (h : History) (lo : ℕ) (s : Disks) : Type 0 where
   pub base : Meta
   pub held : Contents
@@ -50,6 +51,7 @@ pub record HoldsBetweenCalls (slots : ℕ) (named : Option ℕ) (m : Meta) (tabl
   pub epoch : m.epoch ≡ base.epoch
   pub next : IsNext s base (record m { epoch = m.epoch + 1 })
   pub writes : m.writes ≡ length h
+  pub brought : length batch ≡ 0 → base.writes ≡ m.writes
   pub staged : ContentOk slots s.power s.size (view_by m s.power (contents s batch)) h (length h)
   pub dirty : (r d : ℕ) → r < 512 * map_count m.setup.geometry
       → is_dirty table r d ≡ (view_by m s.power (contents s batch)).dirty r d

@@ -19,6 +19,8 @@ AreApart batch = AllPairs (λ (s : Target) (t : Target). s ≢ t) (targets batch
 -- committed still can.
 pub record IsTakenIn (m : Meta) (old draft new : Batch) : Type 0 where
   pub room : length new ≤ length old + length draft
+  pub grows : length old ≤ length new
+  pub some : ArePlaced m draft → 1 ≤ length draft → 1 ≤ length new
   pub apart : AreApart new
   pub laid_same : ArePlaced m draft → (d p : ℕ) (x : Block) → overlaid_block new d p x ≡ overlaid_block (old ++ draft) d p x
   pub each : All (IsTargetInRange m.setup.geometry) (targets old) → All (IsTargetInRange m.setup.geometry) (targets new)

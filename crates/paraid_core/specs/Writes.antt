@@ -23,9 +23,10 @@ pub record IsFirstDesk (m : Meta) (batch : Batch) (s : Disks) (desk : Desk) : Ty
   pub dirty : (r d : ℕ) → r < 512 * map_count m.setup.geometry → desk.dirty r d ≡ (view_by m s.power (contents s batch)).dirty r d
   pub staged : desk.staged ≡ []
 
--- All that a plan has staged was added to the batch, and its bits set in the table.
+-- All that a plan has staged was added to the batch, which is not empty then, and its bits set in the table.
 pub record IsTaken (m : Meta) (batch batch_then : Batch) (table_then : List (List Bool)) (desk : Desk) : Type 0 where
   pub laid_same : (d p : ℕ) (x : Block) → overlaid_block batch_then d p x ≡ overlaid_block (batch ++ desk.staged) d p x
+  pub some : 1 ≤ length batch_then
   pub bits : (r d : ℕ) → r < 512 * map_count m.setup.geometry → is_dirty table_then r d ≡ desk.dirty r d
 
 -- A write of several blocks that was planned and taken adds one entry to the writes that a core stands for.

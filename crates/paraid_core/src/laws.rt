@@ -1,5 +1,5 @@
 //! What planned writes leave of what a core stands for, and what its calls leave of what stands.
-ghost use Rattle.std.specs.Prelude.{◌≡◌, ℕ, Bool, List, Option, false, []};
+ghost use Rattle.std.specs.Prelude.{◌≡◌, ℕ, Bool, List, Option, false, [], length};
 ghost use Rattle.paraid_base.specs.declared.state.Out.TheVariants.{Gone};
 ghost use Rattle.paraid_base.specs.History.{History};
 ghost use Rattle.paraid_core.specs.Begin.{IsPoweredBy};
@@ -29,6 +29,13 @@ pub fn a_taken_write_is_accepted()
 /// A core that begins at a rest with nothing staged stands for what its disks hold.
 pub fn a_rest_is_stood_for()
     ensures { RestKeeps }
+{}
+
+/// Where nothing is staged, the last commit has brought all writes that a core stands for: no stop takes one away.
+pub fn an_empty_batch_keeps_all()
+    ensures { (slots : ℕ) (named : Option ℕ) (m : MetaType) (table : List (List Bool)) (batch : Batch) (copied : List Bool)
+        (h : History) (lo : ℕ) (s : Disks) → length batch ≡ 0 → (z : HoldsBetweenCalls slots named m table batch copied h lo s)
+        → (y : HoldsBetweenCalls slots named m table batch copied h (length h) s) × (y.base ≡ z.base) }
 {}
 
 /// What stands after a call that writes no block of the log, in an image that is looked at, stood so before it. So no call

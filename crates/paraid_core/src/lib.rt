@@ -26,7 +26,7 @@ pub use cells::cells_are_copied_beside_stripes;
 pub use changes::{Change, Changes};
 pub use laws::{
     a_powered_array_can_begin, a_rest_is_stood_for, a_taken_write_is_accepted,
-    an_attach_brings_no_meta, what_stands_stood_before,
+    an_attach_brings_no_meta, an_empty_batch_keeps_all, what_stands_stood_before,
 };
 pub use ready::can_begin;
 pub use staged::Core;

@@ -36,6 +36,7 @@ impl<R: Rack> Core<R> {
         ensures fails { IfErr result (λ lost. IsSome (failed_of self.new)) }
         ensures writes { OnOk result (IsSome (R.told (core_rack self.new))
             → StageAll (meta_of self.old) (desk_of R.told (without_draft self.old)) (desk_of R.told self.new) (pairs_of pairs.now)) }
+        ensures some { OnOk result (IsSome (R.told (core_rack self.new)) → 1 ≤ length (draft_of self.new)) }
         ensures bits { OnOk result (is_dirty (core_table self.new)
             ≡ bits_after_writes (meta_of self.old) (pairs_of pairs.now) (is_dirty (core_table self.old))) }
     {

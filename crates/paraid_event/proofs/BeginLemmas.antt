@@ -37,7 +37,7 @@ use Rattle.paraid_session.specs.Turn.IsSecondLossGear.{same}
 use Rattle.paraid_session.specs.Turn.IsTurn.{answered, two as second_loss}
 use Rattle.paraid_session.specs.Watch.{Bounds, Down as DownDisks, Each, HoldsWhileServing, IsAllowed, IsServing, Watch, down_from_out, fails_on, first_lost, nobody, only, several, watch_all}
 use Rattle.paraid_session.proofs.LayerLemmas.{first_fails}
-use Rattle.paraid_serve.specs.Calls.{watch_at}
+use Rattle.paraid_session.specs.Resting.{watch_at}
 use Rattle.paraid_startup.proofs.BaseLemmas.{each_append}
 use Rattle.paraid_startup.proofs.DownLemmas.{watched_disks}
 use Rattle.paraid_event.specs.Begins.{BeginsDown, MarksShiftDown}

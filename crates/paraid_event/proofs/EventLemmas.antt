@@ -31,7 +31,7 @@ use Rattle.paraid_machine.specs.Moves.{all_written, block_read, block_written, s
 use Rattle.paraid_session.specs.Turn.{GoesOn, Point, awaited_by, bounds_at, bounds_of, is_flush, may_halt, point_wear, watch_of}
 use Rattle.paraid_session.specs.Turn.IsTurn.{answered}
 use Rattle.paraid_session.specs.Watch.{Bounds, HoldsWhileServing, IsServing, Watch, down_from_out, first_lost}
-use Rattle.paraid_serve.specs.Calls.{watch_at}
+use Rattle.paraid_session.specs.Resting.{watch_at}
 use Rattle.paraid_event.specs.Counts.{CountsFlushed, CountsServed, with_counts_of}
 use Rattle.paraid_event.specs.Parts.{AreEventCalls, EndsEvent, ServesEvent}
 use Rattle.paraid_event.specs.Service.{IsStateOf, Service}

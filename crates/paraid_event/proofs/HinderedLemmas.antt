@@ -24,7 +24,7 @@ use Rattle.paraid_machine.specs.Moves.{after_loss, first_worn}
 use Rattle.paraid_session.specs.Turn.{GoesOn, Point, bounds_at, bounds_of, point_wear, watch_of}
 use Rattle.paraid_session.specs.Watch.{first_lost}
 use Rattle.paraid_session.proofs.LayerLemmas.{absent_failed, fails_first}
-use Rattle.paraid_serve.specs.Calls.{watch_at}
+use Rattle.paraid_session.specs.Resting.{watch_at}
 use Rattle.paraid_event.specs.Counts.{CountsFlushed, with_counts_of}
 use Rattle.paraid_event.specs.Parts.{AreEventCalls, EndsEvent, ServesEvent}
 use Rattle.paraid_event.specs.Service.{IsStateOf, Service}

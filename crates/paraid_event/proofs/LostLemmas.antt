@@ -27,7 +27,7 @@ use Rattle.paraid_session.specs.Turn.IsSecondLossEnergy.{own}
 use Rattle.paraid_session.specs.Turn.IsSecondLossGear.{same}
 use Rattle.paraid_session.specs.Turn.IsTurn.{two as second_loss}
 use Rattle.paraid_session.specs.Watch.{Bounds, Each, HoldsWhileServing, IsAllowed, Watch}
-use Rattle.paraid_serve.specs.Calls.{watch_at}
+use Rattle.paraid_session.specs.Resting.{watch_at}
 use Rattle.paraid_event.specs.Lost.{IsHaltedFrom, TellsTwo}
 use Rattle.paraid_event.specs.Parts.{AreEventCalls, LosesInEvent}
 use Rattle.paraid_event.specs.Service.{Service}

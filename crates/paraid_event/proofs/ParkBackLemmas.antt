@@ -1,5 +1,5 @@
 -- A disk that has come back is parked, or is lost in that.
-use Rattle.std.proofs.Common.{◌≡◌, ◌≢◌, ℕ, ◌+◌, ◌<◌, ◌≤◌, ◌⊎◌, Bool, true, false, List, [], ◌∷◌, Option, Some, None, refl, sym, ap, ◌∙◌, inl, inr, subst, arith, if◌then◌else◌}
+use Rattle.std.proofs.Common.{◌≡◌, ◌≢◌, ℕ, ◌<◌, ◌≤◌, ◌⊎◌, Bool, true, false, List, [], ◌∷◌, Option, Some, None, refl, sym, ap, ◌∙◌, inl, inr, subst, arith, if◌then◌else◌}
 use Rattle.std.specs.Prelude.{◌||◌, nat_lt, slice_index}
 use Rattle.std.proofs.lemmas.Bool.{cases_eq, false≢true}
 use Rattle.std.proofs.lemmas.Bool.Decides.{nat_tests}
@@ -8,7 +8,6 @@ use Rattle.paraid_base.specs.History.{History}
 use Rattle.paraid_base.specs.States.{gone_out, named_out, rising_to}
 use Rattle.paraid_rack.specs.declared.call.Call.{Call}
 use Rattle.paraid_rack.specs.declared.call.Call.TheVariants.{Park, SpinUp}
-use Rattle.paraid_rack.specs.declared.call.Power.{Power}
 use Rattle.paraid_rack.specs.declared.call.Power.TheVariants.{Parked, Spinning}
 use Rattle.paraid_rack.specs.Disks.{Disks, IsPresent, is_present, power_after, step}
 use Rattle.paraid_rack.specs.Lawful.{IsLawful}
@@ -17,21 +16,19 @@ use Rattle.paraid_rack.specs.Trail.{run}
 use Rattle.paraid_rack.proofs.AtomsLemmas.{with_at_other, with_at_same}
 use Rattle.paraid_record.specs.declared.meta.Meta.{Meta}
 use Rattle.paraid_record.specs.declared.meta.Setup.{Setup}
-use Rattle.paraid_image.specs.Mark.{meta_after_loss}
 use Rattle.paraid_image.specs.Power.{power_by_gear}
 use Rattle.paraid_core.specs.CoreInvariant.{IsHeldWithOneMissing, meta_with_lost}
 use Rattle.paraid_session.specs.Watch.{IsServing, Watch, watch_all}
 use Rattle.paraid_startup.proofs.DownLemmas.{watched_disks}
 use Rattle.paraid_event.specs.Marks.{ArePoweredByGear, IsMarkedBy, ShowsMeta}
 use Rattle.paraid_event.specs.Powering.{AreDisksPowered, EndsPowered}
-use Rattle.paraid_event.specs.RebuildEnds.{IsParkCall}
 use Rattle.paraid_event.specs.Service.{Service}
 use Rattle.paraid_event.specs.Stands.{IsMidway, ServiceStandsFor}
 use Rattle.paraid_event.specs.Steps.{AreStepCalls, IsOnly}
 use Rattle.paraid_event.proofs.EndLemmas.{only_serving}
-use Rattle.paraid_event.proofs.MarksLemmas.{marked_gear, marked_setup, same_ticks}
+use Rattle.paraid_event.proofs.MarksLemmas.{marked_gear, marked_setup}
 use Rattle.paraid_event.proofs.PowerLemmas.{Raises, power_attaches, power_each, power_only, power_powered, power_shown, power_stands}
-use Rattle.paraid_event.proofs.RejoinLemmas.{IsBack, calls_then}
+use Rattle.paraid_event.proofs.RejoinLemmas.{IsBack}
 
 not_below : (a b : ℕ) → b ≤ a → nat_lt a b ≡ false
 not_below a b l = grind (arith, nat_tests)

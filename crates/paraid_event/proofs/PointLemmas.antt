@@ -16,7 +16,7 @@ use Rattle.paraid_moves.proofs.CopyCommitLemmas.{rest_from_copying}
 use Rattle.paraid_moves.proofs.RunLemmas.{copies_held}
 use Rattle.paraid_session.specs.Turn.{IsMark, Point, bounds_at}
 use Rattle.paraid_session.specs.Watch.{IsHeldWhileServing, IsWithinBounds, down_from_out}
-use Rattle.paraid_serve.specs.Calls.{IsResting}
+use Rattle.paraid_session.specs.Resting.{IsResting}
 use Rattle.paraid_startup.proofs.RestLemmas.{rest_only}
 use Rattle.paraid_startup.proofs.SpinsLemmas.{looked_power, same_used}
 use Rattle.paraid_event.specs.Service.{Service}

@@ -1,38 +1,33 @@
 -- The tick with which a rebuild ends.
-use Rattle.std.proofs.Common.{◌≡◌, ◌≢◌, ℕ, ◌+◌, ◌^◌, ◌<◌, ◌≤◌, ◌⊎◌, Bool, true, false, List, [], ◌∷◌, ◌++◌, length, Option, Some, None, refl, sym, ap, ◌∙◌, inl, inr, subst, arith, min, if◌then◌else◌}
+use Rattle.std.proofs.Common.{◌≡◌, ℕ, ◌+◌, ◌^◌, ◌<◌, ◌≤◌, Bool, true, false, List, [], ◌∷◌, Option, Some, None, refl, sym, ap, ◌∙◌, inl, inr, subst, arith, min, if◌then◌else◌}
 use Rattle.std.specs.Prelude.{◌==◌, Contains}
-use Rattle.std.proofs.lemmas.Bool.{cases_eq, false≢true}
+use Rattle.std.proofs.lemmas.Bool.{false≢true}
 use Rattle.std.proofs.lemmas.List.{append-nil}
 use Rattle.paraid_base.specs.declared.event.Answer.{Answer}
-use Rattle.paraid_base.specs.declared.event.Answer.TheVariants.{Halted}
 use Rattle.paraid_base.specs.declared.event.Event.TheVariants.{Tick, Bad}
-use Rattle.paraid_base.specs.declared.fault.Halt.TheVariants.{Two as HaltTwo}
-use Rattle.paraid_base.specs.declared.fault.Two.{Two}
 use Rattle.paraid_base.specs.declared.state.Out.{Out}
 use Rattle.paraid_base.specs.declared.state.Out.TheVariants.{No, Gone, Fresh}
 use Rattle.paraid_base.specs.declared.state.TickEvent.{TickEvent}
 use Rattle.paraid_base.specs.declared.state.TickEvent.TheVariants.{Gone as GoneAgain, Moving, Rebuilt}
-use Rattle.paraid_base.specs.History.{History}
-use Rattle.paraid_base.specs.States.{gone_out, named_out}
+use Rattle.paraid_base.specs.States.{named_out}
 use Rattle.paraid_dirty.specs.Table.{is_dirty}
 use Rattle.paraid_rack.specs.declared.call.Call.{Call}
 use Rattle.paraid_rack.specs.Disks.{Disks, is_present}
-use Rattle.paraid_rack.specs.Trail.{Trail, now, run}
+use Rattle.paraid_rack.specs.Trail.{Trail, now}
 use Rattle.paraid_record.specs.declared.meta.Meta.{Meta}
 use Rattle.paraid_record.specs.declared.meta.Setup.{Setup}
-use Rattle.paraid_image.specs.Calls.{disk_of}
 use Rattle.paraid_image.specs.Power.{PowerState}
 use Rattle.paraid_machine.specs.Energy.{energy_after, tick_energy}
 use Rattle.paraid_machine.specs.Machine.{IsEventStep, outcomes, rebuild, report, tick_by_out}
 use Rattle.paraid_machine.specs.Moves.{after_loss, state_with_tick, units_to_rebuild}
 use Rattle.paraid_session.specs.Turn.{GoesOn, IsMark, Point, bounds_at, makes_no_call, point_wear}
 use Rattle.paraid_session.specs.Turn.IsTurn.{answered}
-use Rattle.paraid_session.specs.Watch.{Bounds, Down, Each, HoldsWhileServing, IsAllowed, IsServing, Watch, down_from_out, fails_on, first_lost, nobody, only, watch, watch_all}
+use Rattle.paraid_session.specs.Watch.{Bounds, Down, Each, HoldsWhileServing, IsAllowed, IsServing, Watch, down_from_out, fails_on, first_lost, only, watch, watch_all}
 use Rattle.paraid_session.proofs.LayerLemmas.{absent_failed, fails_first, first_fails}
-use Rattle.paraid_serve.specs.Calls.{watch_at}
+use Rattle.paraid_session.specs.Resting.{watch_at}
 use Rattle.paraid_startup.proofs.DownLemmas.{watched_disks}
 use Rattle.paraid_event.specs.RebuildEnds.{MarksRejoined}
-use Rattle.paraid_event.specs.RebuildTicks.{CountsRebuild, MarksGoneAgain}
+use Rattle.paraid_event.specs.RebuildTicks.{CountsRebuild}
 use Rattle.paraid_event.specs.Service.{IsStateOf, Service}
 use Rattle.paraid_event.specs.Stands.{IsMidway, StandsAt, StandsIn}
 use Rattle.paraid_event.specs.Steps.{AreStepCalls}
@@ -40,7 +35,7 @@ use Rattle.paraid_event.specs.Ticks.{CountsTick}
 use Rattle.paraid_event.proofs.EndLemmas.{fails_split, only_is, only_serving}
 use Rattle.paraid_event.proofs.ParkBackLemmas.{IsEnded}
 use Rattle.paraid_event.proofs.PointLemmas.{stands_mark}
-use Rattle.paraid_event.proofs.RebuildTickLemmas.{capped_sum, counted_energy, equal_test, failed_off, gone_state, moments, out1, setup1, slots1, state1, under_cap}
+use Rattle.paraid_event.proofs.RebuildTickLemmas.{capped_sum, counted_energy, equal_test, failed_off, moments, setup1, slots1, state1, under_cap}
 use Rattle.paraid_event.proofs.TurnLemmas.{fresh_there}
 
 min_is : (a b : ℕ) → a ≤ b → min b a ≡ a

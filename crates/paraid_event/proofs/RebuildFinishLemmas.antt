@@ -1,5 +1,5 @@
 -- The parts of the tick with which a rebuild ends.
-use Rattle.std.proofs.Common.{◌≡◌, ◌≢◌, ℕ, ◌+◌, ◌^◌, ◌<◌, ◌≤◌, ◌⊎◌, Bool, true, false, List, [], ◌∷◌, ◌++◌, length, Option, Some, None, refl, sym, ap, ◌∙◌, inl, inr, subst, arith}
+use Rattle.std.proofs.Common.{◌≡◌, ℕ, ◌+◌, ◌^◌, ◌<◌, ◌≤◌, ◌⊎◌, Bool, true, false, List, [], ◌∷◌, ◌++◌, length, Option, Some, None, refl, sym, ap, ◌∙◌, inl, inr, subst, arith}
 use Rattle.paraid_base.specs.declared.event.Answer.TheVariants.{Halted}
 use Rattle.paraid_base.specs.declared.event.Event.TheVariants.{Tick}
 use Rattle.paraid_base.specs.declared.fault.Halt.TheVariants.{Two as HaltTwo}
@@ -18,7 +18,6 @@ use Rattle.paraid_rack.proofs.TrailsLemmas.{now-extend}
 use Rattle.paraid_record.specs.declared.meta.Meta.{Meta}
 use Rattle.paraid_record.specs.declared.meta.Setup.{Setup}
 use Rattle.paraid_image.specs.Lost.{TellsLosses, fails_on, first_lost}
-use Rattle.paraid_image.specs.Mark.{meta_after_loss}
 use Rattle.paraid_core.specs.Calls.{IsOneCall}
 use Rattle.paraid_core.specs.CoreInvariant.{meta_with_lost}
 use Rattle.paraid_core.proofs.CommitLemmas.{both_of}
@@ -27,11 +26,10 @@ use Rattle.paraid_machine.specs.Moves.{state_with_tick, units_to_rebuild}
 use Rattle.paraid_moves.specs.MoveMetas.{meta_with_out}
 use Rattle.paraid_session.specs.Turn.{GoesOn, Point, point_wear}
 use Rattle.paraid_session.specs.Watch.{Watch, watch_all}
-use Rattle.paraid_serve.specs.Calls.{watch_at}
+use Rattle.paraid_session.specs.Resting.{watch_at}
 use Rattle.paraid_startup.proofs.DownLemmas.{watched_disks}
-use Rattle.paraid_event.specs.Lost.{TellsTwo}
 use Rattle.paraid_event.specs.Marks.{IsMarkedBy, ShowsMeta}
-use Rattle.paraid_event.specs.Parts.{AreEventCalls, EndsEvent, LosesInEvent, ServesEvent}
+use Rattle.paraid_event.specs.Parts.{LosesInEvent, ServesEvent}
 use Rattle.paraid_event.specs.RebuildEnds.{CommitsRejoined, CopiesRest, FinishesRebuild, IsParkCall, LosesFinishing, MarksRejoined, ParksBack, ParksInEvent, RejoinsDisk}
 use Rattle.paraid_event.specs.RebuildEnds.FinishesRebuild.{committing, copying}
 use Rattle.paraid_event.specs.RebuildEnds.LosesFinishing.{as_committed, as_copied}
@@ -47,7 +45,7 @@ use Rattle.paraid_event.proofs.MarksLemmas.{kept_out, lost_out}
 use Rattle.paraid_event.proofs.ParkBackLemmas.{IsEnded, ended_gone, ended_parked, ended_spinning, lost_by, park_away, park_calls}
 use Rattle.paraid_event.proofs.RebuildEndLemmas.{back_state, ended_turn, ends_as, moved_as, out_as, state_as}
 use Rattle.paraid_event.proofs.RebuildTickLemmas.{gone_state, gone_told, out1, rebuild_loses, some_trail, underway1}
-use Rattle.paraid_event.proofs.RejoinLemmas.{GoesBack, IsBack, back_after, calls_then, rejoin_calls, rejoined}
+use Rattle.paraid_event.proofs.RejoinLemmas.{GoesBack, back_after, calls_then, rejoin_calls, rejoined}
 use Rattle.paraid_event.proofs.ShownLemmas.{shown_rests}
 use Rattle.paraid_event.proofs.StepLemmas.{data_steps, fails_later, follow, lose_then, ran_both, ran_then}
 use Rattle.paraid_event.proofs.StepMarkLemmas.{fresh_of}

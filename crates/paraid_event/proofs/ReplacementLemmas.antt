@@ -45,7 +45,7 @@ use Rattle.paraid_session.specs.Turn.IsSecondLossGear.{same}
 use Rattle.paraid_session.specs.Turn.IsTurn.{answered}
 use Rattle.paraid_session.specs.Watch.{Bounds, Down, Each, HoldsWhileServing, IsAllowed, IsServing, Watch, attach_count, down_from_out, fails_on, first_lost, only, watch, watch_all}
 use Rattle.paraid_session.proofs.LayerLemmas.{absent_failed, fails_first, first_fails}
-use Rattle.paraid_serve.specs.Calls.{watch_at}
+use Rattle.paraid_session.specs.Resting.{watch_at}
 use Rattle.paraid_startup.proofs.BaseLemmas.{each_append}
 use Rattle.paraid_startup.proofs.DownLemmas.{watched_disks}
 use Rattle.paraid_event.specs.Lost.{TellsTwo}

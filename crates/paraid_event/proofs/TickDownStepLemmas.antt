@@ -26,7 +26,7 @@ use Rattle.paraid_machine.specs.Machine.{IsEventStep, begin_by_tick, decide, out
 use Rattle.paraid_machine.specs.Moves.{after_loss, begun_down, first_worn, state_with_tick}
 use Rattle.paraid_session.specs.Turn.{GoesOn, IsUnhurt, Point, makes_no_call, point_wear}
 use Rattle.paraid_session.specs.Watch.{Watch, first_lost}
-use Rattle.paraid_serve.specs.Calls.{watch_at}
+use Rattle.paraid_session.specs.Resting.{watch_at}
 use Rattle.paraid_event.specs.Moving.{GoesToState}
 use Rattle.paraid_event.specs.Service.{IsStateOf, Service}
 use Rattle.paraid_event.specs.Stands.{StandsAt}

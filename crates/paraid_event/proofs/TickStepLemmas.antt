@@ -31,7 +31,7 @@ use Rattle.paraid_session.specs.Turn.{GoesOn, IsSecondLossEnergy, IsUnhurt, Poin
 use Rattle.paraid_session.specs.Turn.IsSecondLossEnergy.{begun, own}
 use Rattle.paraid_session.specs.Watch.{Watch, first_lost}
 use Rattle.paraid_session.proofs.LayerLemmas.{first_fails}
-use Rattle.paraid_serve.specs.Calls.{watch_at}
+use Rattle.paraid_session.specs.Resting.{watch_at}
 use Rattle.paraid_event.specs.Moving.{EndsShift, GoesToState, MovesUnits, StartsShiftUp}
 use Rattle.paraid_event.specs.Service.{IsStateOf, Service}
 use Rattle.paraid_event.specs.Stands.{StandsAt}

@@ -39,7 +39,7 @@ use Rattle.paraid_session.specs.Turn.{AreDirtyShown, GoesOn, IsMark, Point, awai
 use Rattle.paraid_session.specs.Turn.IsTurn.{answered}
 use Rattle.paraid_session.specs.Watch.{Bounds, Down, Each, HoldsWhileServing, IsAllowed, IsHeldWhileServing, IsServing, Watch, attach_count, down_from_out, first_lost, nobody, only, several, watch_all}
 use Rattle.paraid_session.proofs.LayerLemmas.{IsIn, absent_failed, each_map, fails_first, first_fails}
-use Rattle.paraid_serve.specs.Calls.{watch_at}
+use Rattle.paraid_session.specs.Resting.{watch_at}
 use Rattle.paraid_startup.specs.Recorded.{StaysWithinAt}
 use Rattle.paraid_startup.proofs.CallsLemmas.{each_map as each_call_map}
 use Rattle.paraid_startup.proofs.DownLemmas.{watched_disks}
@@ -75,6 +75,7 @@ keeps_less k h lo less s le z = record {
   epoch = z.epoch;
   next = z.next;
   writes = z.writes;
+  brought = z.brought;
   staged = z.staged;
   dirty = z.dirty;
 }

@@ -12,7 +12,7 @@ use Rattle.paraid_core.specs.CoreInvariant.{AreCopiesSynced, HoldsBetweenCalls}
 use Rattle.paraid_session.specs.Turn.{Point}
 use Rattle.paraid_session.specs.Watch.{Watch}
 use Rattle.paraid_session.proofs.LayerLemmas.{IsIn}
-use Rattle.paraid_serve.specs.Calls.{watch_at}
+use Rattle.paraid_session.specs.Resting.{watch_at}
 use Rattle.paraid_event.specs.Marks.{ArePoweredByGear, ShowsMeta}
 use Rattle.paraid_event.specs.Service.{IsStateOf, Service}
 

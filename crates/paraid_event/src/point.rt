@@ -3,7 +3,7 @@ ghost use Rattle.std.specs.Prelude.{Option};
 ghost use Rattle.paraid_rack.specs.Trail.{Trail};
 ghost use Rattle.paraid_record.specs.declared.meta.Setup.{Setup as SetupType};
 ghost use Rattle.paraid_session.specs.Turn.{IsMark, Point};
-ghost use Rattle.paraid_serve.specs.Calls.{IsResting};
+ghost use Rattle.paraid_session.specs.Resting.{IsResting};
 ghost use Rattle.paraid_event.specs.Service.{Service};
 ghost use Rattle.paraid_event.specs.Stands.{StandsAt};
 

@@ -2,7 +2,7 @@
 ghost use Rattle.std.specs.Prelude.{◌≡◌, ℕ, ◌^◌, ◌<◌, Option};
 ghost use Rattle.paraid_rack.specs.Trail.{Trail};
 ghost use Rattle.paraid_record.specs.declared.meta.Setup.{Setup as SetupType};
-ghost use Rattle.paraid_serve.specs.Calls.{watch_at};
+ghost use Rattle.paraid_session.specs.Resting.{watch_at};
 ghost use Rattle.paraid_session.specs.Turn.{Point, point_wear};
 ghost use Rattle.paraid_event.specs.Service.{IsStateOf, Service};
 ghost use Rattle.paraid_event.specs.Stands.{StandsAt};

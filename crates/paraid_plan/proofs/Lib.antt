@@ -21,3 +21,4 @@ pub mod ManyLemmas
 pub mod FilledCopyLemmas
 pub mod WrittenBitsLemmas
 pub mod RowBitsLemmas
+pub mod GrowthLemmas

@@ -1,6 +1,6 @@
 -- The dirty bits that a write leaves, row by row and pair by pair.
 use Rattle.std.specs.Prelude.{◌≡◌, ◌≢◌, ℕ, ◌+◌, ◌<◌, ◌==◌, ◌&&◌, ◌||◌, nat_lt, not, Bool, true, false, [], ◌∷◌, ◌++◌, get_or, if◌then◌else◌}
-use Rattle.std.proofs.Common.{refl, sym, ◌∙◌, ap, subst, arith, inl, inr}
+use Rattle.std.proofs.Common.{refl, sym, ◌∙◌, ap, arith, inl, inr}
 use Rattle.std.proofs.lemmas.Bool.{cases_Bool, cases_eq, true≢false}
 use Rattle.std.proofs.lemmas.Bool.Decides.{nat_tests}
 use Rattle.paraid_base.specs.declared.block.Block.{Block}
@@ -9,14 +9,13 @@ use Rattle.paraid_base.specs.Cells.{home_disk, home_row, parity_disk}
 use Rattle.paraid_base.specs.History.{Entry}
 use Rattle.paraid_base.specs.Pairs.{pairs_of}
 use Rattle.paraid_base.specs.Xor.{zero_block}
-use Rattle.paraid_dirty.specs.Table.{table_with_bit}
 use Rattle.paraid_image.specs.Out.{is_out, named_out}
 use Rattle.paraid_image.specs.Spot.{rising_to}
 use Rattle.paraid_plan.specs.RowBits.{TurnsBits, names_cell, turns_cell_of, turns_in_new_row}
 use Rattle.paraid_plan.specs.RowWrites.{names_row, pairs_before}
 use Rattle.paraid_plan.specs.WrittenBits.{bit_after_write, bits_after_block, bits_after_cell, bits_after_writes}
 use Rattle.paraid_plan.proofs.LayLemmas.{cases_both, changed_at, changed_off}
-use Rattle.paraid_plan.proofs.PairLemmas.{before_all, before_more, before_none, rows_append}
+use Rattle.paraid_plan.proofs.PairLemmas.{before_more, rows_append}
 use Rattle.paraid_record.specs.declared.meta.Meta.{Meta}
 
 -- a cell that is written twice has the bit of one write

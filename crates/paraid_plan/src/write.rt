@@ -1,6 +1,6 @@
 //! The write of up to eight blocks, in any gear and phase and whichever disk is out: row by row, each
 //! with one new parity, and at most ten targets for each block.
-ghost use Rattle.std.specs.Prelude.{◌≡◌, ◌≢◌, ℕ, ◌+◌, ◌-◌, ◌*◌, ◌/◌, ◌<◌, ◌≤◌, ◌==◌, ◌&&◌, ◌∷◌, [], true, false, length, get_or, All, OnOk, IfErr, if◌then◌else◌};
+ghost use Rattle.std.specs.Prelude.{◌≡◌, ◌≢◌, ℕ, ◌+◌, ◌-◌, ◌*◌, ◌/◌, ◌<◌, ◌≤◌, ◌==◌, ◌&&◌, ◌∷◌, [], true, false, length, get_or, Some, All, OnOk, IfErr, if◌then◌else◌};
 ghost use Rattle.paraid_base.specs.declared.block.Block.{Block as BlockType};
 ghost use Rattle.paraid_base.specs.Cells.{home_row, parity_disk as parity_disk_of};
 ghost use Rattle.paraid_base.specs.History.{Entry, last_of};
@@ -10,6 +10,7 @@ ghost use Rattle.paraid_plan.specs.Desk.{Desk, StagesMap};
 ghost use Rattle.paraid_plan.specs.RowWrites.{AddsTargets, AreOldRead, StageAll, StagesBlocks, TurnsRow, count_in_row, count_of_new_row, given_row, names_block, one_in_row, row_change};
 ghost use Rattle.paraid_plan.specs.RowBits.{TurnsBits, names_cell, turns_cell_of, turns_in_new_row};
 ghost use Rattle.paraid_plan.specs.WrittenBits.{bits_after_writes};
+ghost use Rattle.paraid_image.specs.Out.{named_out as named_out_of};
 ghost use Rattle.paraid_record.specs.Range.{IsInRange};
 ghost use Rattle.paraid_record.specs.declared.meta.Meta.{Meta as MetaType};
 
@@ -123,6 +124,10 @@ fn write_pair<P: Plan>(
         (λ q e. q == r && names_cell m.now.setup.geometry.disks ((get_or pairs.now.blocks at 0, get_or pairs.now.bytes at zero_block) ∷ []) r e)) }
     ensures room { OnOk result (length (P.desk plan.new).staged ≤ length (P.desk plan.old).staged
         + 4 * one_in_row m.now.setup.geometry.disks (get_or pairs.now.blocks at 0) r) }
+    ensures some { OnOk result (P.tells plan.new
+        → named_out_of m.now.out ≡ Some (parity_disk_of m.now.setup.geometry.disks r)
+        → length (P.desk plan.old).staged + one_in_row m.now.setup.geometry.disks (get_or pairs.now.blocks at 0) r
+        ≤ length (P.desk plan.new).staged) }
     ensures changes { OnOk result (P.changes plan.new ≡ P.changes plan.old
         + one_in_row m.now.setup.geometry.disks (get_or pairs.now.blocks at 0) r) }
     ensures goes_on { OnOk result (P.serves plan.new m.now) }
@@ -167,6 +172,10 @@ fn write_pairs<P: Plan>(
         (λ q e. q == r && names_cell m.now.setup.geometry.disks (pairs_of pairs.now) r e)) }
     ensures room { OnOk result (length (P.desk plan.new).staged
         ≤ length (P.desk plan.old).staged + 4 * count_in_row m.now.setup.geometry.disks (pairs_of pairs.now) r) }
+    ensures some { OnOk result (P.tells plan.new
+        → named_out_of m.now.out ≡ Some (parity_disk_of m.now.setup.geometry.disks r)
+        → length (P.desk plan.old).staged + count_in_row m.now.setup.geometry.disks (pairs_of pairs.now) r
+        ≤ length (P.desk plan.new).staged) }
     ensures changes { OnOk result (P.changes plan.new
         ≡ P.changes plan.old + count_in_row m.now.setup.geometry.disks (pairs_of pairs.now) r) }
     ensures goes_on { OnOk result (P.serves plan.new m.now) }
@@ -209,6 +218,7 @@ fn write_row<P: Plan>(plan: &mut P, m: &Meta, pairs: &Pairs, r: Row) -> Result<(
         (λ q e. q == r && turns_cell_of m.now.setup.geometry.disks (pairs_of pairs.now) r e)) }
     ensures few { OnOk result (length (P.desk plan.new).staged
         ≤ length (P.desk plan.old).staged + 10 * count_in_row m.now.setup.geometry.disks (pairs_of pairs.now) r) }
+    ensures grows { OnOk result (P.tells plan.new → length (P.desk plan.old).staged + 1 ≤ length (P.desk plan.new).staged) }
     ensures changes { OnOk result (P.changes plan.new
         ≤ P.changes plan.old + 2 * count_in_row m.now.setup.geometry.disks (pairs_of pairs.now) r) }
     ensures goes_on { OnOk result (P.serves plan.new m.now) }
@@ -241,6 +251,8 @@ fn write_row_of<P: Plan>(plan: &mut P, m: &Meta, pairs: &Pairs, at: usize) -> Re
         (turns_in_new_row m.now.setup.geometry.disks pairs.now at)) }
     ensures few { OnOk result (length (P.desk plan.new).staged
         ≤ length (P.desk plan.old).staged + 10 * count_of_new_row m.now.setup.geometry.disks pairs.now at) }
+    ensures grows { OnOk result (P.tells plan.new → 1 ≤ count_of_new_row m.now.setup.geometry.disks pairs.now at
+        → length (P.desk plan.old).staged + 1 ≤ length (P.desk plan.new).staged) }
     ensures changes { OnOk result (P.changes plan.new
         ≤ P.changes plan.old + 2 * count_of_new_row m.now.setup.geometry.disks pairs.now at) }
     ensures goes_on { OnOk result (P.serves plan.new m.now) }
@@ -255,8 +267,8 @@ fn write_row_of<P: Plan>(plan: &mut P, m: &Meta, pairs: &Pairs, at: usize) -> Re
     Ok(())
 }
 
-/// Writes the blocks of these pairs in one plan, row by row: at most ten targets for each pair. Of
-/// several pairs that name a block the last one counts.
+/// Writes the blocks of these pairs in one plan, row by row: at most ten targets for each pair, and at
+/// least one in all. Of several pairs that name a block the last one counts.
 pub fn write_blocks<P: Plan>(plan: &mut P, m: &Meta, pairs: &Pairs) -> Result<(), Lost>
     requires serves { P.serves plan.old m.now }
     requires in_range { IsInRange m.now }
@@ -268,6 +280,7 @@ pub fn write_blocks<P: Plan>(plan: &mut P, m: &Meta, pairs: &Pairs) -> Result<()
     ensures bits { OnOk result ((P.desk plan.new).dirty ≡ bits_after_writes m.now (pairs_of pairs.now) (P.desk plan.old).dirty) }
     ensures few { OnOk result
         (length (P.desk plan.new).staged ≤ length (P.desk plan.old).staged + 10 * pairs.now.count) }
+    ensures grows { OnOk result (P.tells plan.new → length (P.desk plan.old).staged + 1 ≤ length (P.desk plan.new).staged) }
     ensures goes_on { OnOk result (P.serves plan.new m.now) }
     ensures fails { IfErr result (λ lost. P.fails plan.new) }
     ensures leads { P.leads plan.old plan.new }

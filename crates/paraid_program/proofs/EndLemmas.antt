@@ -7,7 +7,7 @@ use Rattle.paraid_mount.specs.declared.fault.MountFault.TheVariants.{NotFormatte
 use Rattle.paraid_rack.specs.Slots.{Slot}
 use Rattle.paraid_rack.specs.Trail.{Trail}
 use Rattle.paraid_state.specs.MountFaults.{mount_fault_status}
-use Rattle.paraid_top.specs.Ends.{IsStatusOfGen, MountsAndThen, ServesLines}
+use Rattle.paraid_top.specs.Ends.{IsStatusOfCheck, IsStatusOfGen, MountsAndThen, ServesLines}
 use Rattle.paraid_top.specs.Ends.MountsAndThen.{mounted, refused}
 
 not_done : (fault : MountFault) (status : ℕ) → status ≡ mount_fault_status fault → status ≡ 0 → ⊥
@@ -40,3 +40,12 @@ not_read status (inr (inr (inl z))) three = omega (arith, z, three)
 not_read status (inr (inr (inr (inl z)))) three = omega (arith, z, three)
 not_read status (inr (inr (inr (inr (inl z))))) three = omega (arith, z, three)
 not_read status (inr (inr (inr (inr (inr z))))) three = omega (arith, z, three)
+
+pub check_not_read : (status : ℕ) → IsStatusOfCheck status → status ≡ 3 → ⊥
+check_not_read status (inl z) three = omega (arith, z, three)
+check_not_read status (inr (inl z)) three = omega (arith, z, three)
+check_not_read status (inr (inr (inl z))) three = omega (arith, z, three)
+check_not_read status (inr (inr (inr (inl z)))) three = omega (arith, z, three)
+check_not_read status (inr (inr (inr (inr (inl z))))) three = omega (arith, z, three)
+check_not_read status (inr (inr (inr (inr (inr (inl z)))))) three = omega (arith, z, three)
+check_not_read status (inr (inr (inr (inr (inr (inr z)))))) three = omega (arith, z, three)

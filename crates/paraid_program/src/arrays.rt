@@ -1,12 +1,14 @@
 //! The arrays with gears that the program makes of a rack.
 ghost use Rattle.paraid_formatter.specs.Outcome.{Formats};
 
+use paraid_base::Halt;
 use paraid_controller::{Array, mount_array};
 use paraid_formatter::format_array;
 use paraid_io::{Sink, Source};
 use paraid_rack::Rack;
 use paraid_recover::MountRefused;
-use paraid_top::outside::{Ended, Outside};
+use paraid_scrub::CheckReport;
+use paraid_top::outside::{Checks, Ended, Outside};
 use std::alloc::Global;
 
 /// What mounts an array with gears, by this allocator. After a mount it takes no memory.
@@ -45,5 +47,11 @@ impl<R: Rack> Outside<R, Array<R>> for Arrays {
         let mut rack = rack;
         let status = format_array(self.alloc, force, source, sink, &mut rack);
         Ended { status, rack }
+    }
+}
+
+impl<R: Rack> Checks<Array<R>> for Arrays {
+    fn check(&self, array: &mut Array<R>) -> Result<CheckReport, Halt> {
+        array.check()
     }
 }

@@ -3,7 +3,7 @@ ghost use Rattle.paraid_base.specs.Told.{AtEnd, HasRisen};
 ghost use Rattle.paraid_console.specs.Ending.{EndsWithLine};
 ghost use Rattle.paraid_formatter.specs.Outcome.{Formats, IsFormatStatus};
 ghost use Rattle.paraid_state.specs.Showing.{IsShowStatus, Shows};
-ghost use Rattle.paraid_top.specs.Ends.{IsStatusOfGen, IsStatusOfRun, MountsAndThen, ServesGenerated, ServesLines};
+ghost use Rattle.paraid_top.specs.Ends.{ChecksArray, IsStatusOfCheck, IsStatusOfGen, IsStatusOfRun, MountsAndThen, ServesGenerated, ServesLines};
 ghost use Rattle.paraid_words.specs.Words.{AskFor};
 ghost use Rattle.paraid_program.specs.Ends.{DoesTask, usage};
 ghost use Rattle.paraid_program.specs.declared.words.Task.{Task as TaskType};
@@ -95,22 +95,37 @@ fn state<K: Sink, R: Rack>(alloc: Global, sink: &mut K, rack: R) -> Ended<R>
     Ended { status, rack }
 }
 
+// Mounts one, and counts what is false.
+fn check<K: Sink, R: Rack>(alloc: Global, sink: &mut K, rack: R) -> Ended<R>
+    ensures run { MountsAndThen (R.slot_count rack) (R.slot rack) (R.slot result.rack) (R.told rack)
+        (R.told result.rack) (K.written sink.old) (K.written sink.new) result.status
+        (ChecksArray (R.slot_count rack) (R.slot result.rack) (R.told result.rack)
+        (K.written sink.old) (K.written sink.new) result.status) }
+    ensures status { IsStatusOfCheck result.status }
+    ensures sink { result.status ≡ 4 → HasRisen (K.faults sink.old) (K.faults sink.new) }
+{
+    let arrays = Arrays::new(alloc);
+    program::check::<K, R, Array<R>, Arrays>(&arrays, sink, rack)
+}
+
 /// The program: it takes the words of the command line, and does what they ask for.
 ///
 /// `format` and `format --force` read a configuration from the source and make an array of the
 /// disks of the rack. The others mount it: `status` tells its state, `run` answers each line of the
-/// source, and `gen` answers generated lines. Memory is taken before a mount has ended, and in a
+/// source, `gen` answers generated lines, and `check` counts what is false on the disks. Memory is taken before a mount has ended, and in a
 /// format. On all other words it tells which there are, and does nothing else.
 ///
 /// The statuses are 0, all was done; 2, the words ask for nothing; 3, the source has failed; 4, the
 /// sink has failed; 5, two disks are lost, and both are named; 6, the disks are no array, for the
 /// cause that is named; 7, there was no memory; 8, the configuration is refused; 9, the disks belong
 /// to an array; 10, 2^40 bytes were taken and no whole line is left; 11, a disk failed in a format,
-/// or there is no slot for it; and 12, 2^62 commits or writes were made.
+/// or there is no slot for it; 12, 2^62 commits or writes were made; and 13, a check has counted
+/// something that is false, and all counts were told.
 ///
 /// Where the rack tells its calls and held a history, `run` has the headline of a session: what is
 /// written is what the array answers to the lines, and the disks hold at each stop a first part of
-/// the writes, no fewer than the last flush has told.
+/// the writes, no fewer than the last flush has told. There a check is one flush, it counts nothing,
+/// and all writes that the disks held when they were mounted are held at each stop in it.
 pub fn paraid<S: Source, K: Sink, R: Rack>(
     alloc: Global,
     words: &Vec<String>,
@@ -144,11 +159,12 @@ pub fn paraid<S: Source, K: Sink, R: Rack>(
         Some(Task::Format { force }) => format(alloc, force, source, sink, rack),
         Some(Task::Run) => run(alloc, source, sink, rack),
         Some(Task::Status) => state(alloc, sink, rack),
+        Some(Task::Check) => check(alloc, sink, rack),
         Some(Task::Gen { number, lines }) => generate(alloc, sink, rack, number, lines),
         None => Ended {
             status: last(
                 sink,
-                b"usage: paraid format [--force] | run | status | gen --number N --lines L\n",
+                b"usage: paraid format [--force] | run | status | check | gen --number N --lines L\n",
                 status::WORDS,
             ),
             rack,

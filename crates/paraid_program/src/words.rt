@@ -15,6 +15,8 @@ pub enum Task {
     Run,
     /// Tells the state.
     Status,
+    /// Counts what is false.
+    Check,
     /// Answers the first lines of the trace of a number.
     Gen { number: u32, lines: u32 },
 }
@@ -26,7 +28,7 @@ fn task_of(command: Command) -> Option<Task>
         Command::Format { force } => Some(Task::Format { force }),
         Command::Run => Some(Task::Run),
         Command::Status => Some(Task::Status),
-        Command::Check => None,
+        Command::Check => Some(Task::Check),
         Command::Gen { number, lines } => Some(Task::Gen { number, lines }),
     }
 }

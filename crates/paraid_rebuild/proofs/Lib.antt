@@ -3,3 +3,4 @@ pub mod ReplacementEventLemmas
 pub mod MovedLemmas
 pub mod StepEventLemmas
 pub mod LossLemmas
+pub mod CountLemmas

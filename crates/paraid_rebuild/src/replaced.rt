@@ -15,6 +15,7 @@ ghost use Rattle.paraid_image.specs.Out.{named_out};
 ghost use Rattle.paraid_rack.specs.declared.call.Power.TheVariants.{Spinning};
 ghost use Rattle.paraid_rack.specs.Told.{CrashTriple, Ran};
 ghost use Rattle.paraid_rebuild.specs.Replacing.{IsReplacedFrom, LeavesArrayBut, LosesFresh};
+ghost use Rattle.paraid_session.specs.Faults.{HaveNotFallen};
 ghost use Rattle.paraid_shift.specs.Serving.{IsCoreServing};
 ghost use Rattle.paraid_txn.specs.Losses.{AreTwoDown, OnlyLosesSlots};
 ghost use Rattle.paraid_txn.specs.Stores.{named_of};
@@ -90,6 +91,7 @@ fn bring_fresh<R: Rack>(core: &mut Core<R>, disk: DiskNo) -> Result<bool, Two>
         → (R.slot (core_rack core.new) disk).size ≡ disk_size (meta_of core.old).setup.geometry }
     ensures table { core_table core.new ≡ core_table core.old }
     ensures named { OnOk result (named_of (store_of core.new) ≡ Some disk) }
+    ensures later { HaveNotFallen (R.slot (core_rack core.old)) (R.slot (core_rack core.new)) }
     ensures two { IfErr result (AreTwoDown (core_down core.old)
         (R.slot (core_rack core.old)) (R.slot (core_rack core.new))) }
     ensures moments { (h : History) (lo : ℕ) → Ran (R.told (core_rack core.old)) (R.told (core_rack core.new))
@@ -148,6 +150,7 @@ pub fn begin<R: Rack>(core: &mut Core<R>, disk: DiskNo) -> Result<bool, Two>
         → (R.slot (core_rack core.new) disk).size ≡ disk_size (meta_of core.old).setup.geometry }
     ensures table { core_table core.new ≡ core_table core.old }
     ensures named { OnOk result (named_of (store_of core.new) ≡ Some disk) }
+    ensures later { HaveNotFallen (R.slot (core_rack core.old)) (R.slot (core_rack core.new)) }
     ensures two { IfErr result (AreTwoDown (core_down core.old)
         (R.slot (core_rack core.old)) (R.slot (core_rack core.new))) }
     // Each stop leaves what it left before, and at the end all writes.

@@ -1,2 +1,9 @@
 pub mod LookedLemmas
 pub mod PartLemmas
+pub mod CellLemmas
+pub mod FillLemmas
+pub mod UnitLemmas
+pub mod KindLemmas
+pub mod ReadLemmas
+pub mod SoundLemmas
+pub mod EndLemmas

@@ -1,5 +1,5 @@
 -- The counts of the first members of all.
-use Rattle.std.proofs.Common.{◌≡◌, ℕ, ◌+◌, ◌-◌, ◌≤◌, Bool, true, false, IsTrue, refl, sym, ap, ◌∙◌, subst, arith, min}
+use Rattle.std.proofs.Common.{◌≡◌, ℕ, ◌+◌, ◌<◌, ◌≤◌, Bool, true, false, IsTrue, refl, sym, ap, ◌∙◌, subst, arith}
 use Rattle.std.specs.Prelude.{not}
 use Rattle.std.proofs.lemmas.Bool.{false≢true}
 use Rattle.paraid_image.specs.Spot.{View}
@@ -7,7 +7,7 @@ use Rattle.paraid_scrub.specs.declared.kind.CheckReport.{CheckReport}
 use Rattle.paraid_scrub.specs.declared.kind.Kind.{Kind}
 use Rattle.paraid_scrub.specs.declared.kind.Kind.TheVariants.{Row, Stripe, Fill, Unit as RebuiltUnit, Mirror}
 use Rattle.paraid_scrub.specs.Counts.{AreCounts, CountBelow, IsOff, all_members, part, total}
-use Rattle.paraid_scrub.specs.ReadParts.{PartCount}
+use Rattle.paraid_scrub.specs.Looks.{PartCount}
 use Rattle.paraid_scrub.proofs.LookedLemmas.{count_none}
 
 part_here : (from size s : ℕ) → s ≤ size → part (from + s) from size ≡ s
@@ -110,6 +110,23 @@ counts_5 v rows stripes fill units mirrors w0 p0 t0 w1 p1 t1 w2 p2 t2 w3 p3 t3 w
       },
       λ l. ap (λ (k : ℕ). total v.meta v.out Row + total v.meta v.out Stripe + total v.meta v.out Fill + total v.meta v.out RebuiltUnit + k) (p4.all (ends l)),
     )
+
+-- a part that was looked at to its end
+pub part_whole : (v : View) (kind : Kind) (at found size : ℕ) → at ≡ size → CountBelow (IsOff v kind) at found → PartCount v kind size found true
+part_whole v kind at found size is c = record { seen = at; within = omega (arith, is); count = c; all = λ t. is }
+
+-- and one that was not
+pub part_first : (v : View) (kind : Kind) (at found size : ℕ) → at < size → CountBelow (IsOff v kind) at found → PartCount v kind size found false
+part_first v kind at found size low c = record { seen = at; within = omega (arith, low); count = c; all = λ t. absurd (false≢true t) }
+
+-- by whether all was looked at
+pub told_by : {T : Type 0} (w : Bool) → (IsTrue w → T) → (w ≡ false → T) → T
+told_by true done lost = done refl
+told_by false done lost = lost refl
+
+pub was_not_whole : (w : Bool) → not w ≡ true → w ≡ false
+was_not_whole true e = sym e
+was_not_whole false e = refl
 
 pub was_whole : (w : Bool) → not w ≡ false → IsTrue w
 was_whole true e = refl

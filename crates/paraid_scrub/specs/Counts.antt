@@ -1,13 +1,12 @@
 -- What a check counts of an image.
-use Rattle.std.specs.Prelude.{◌≡◌, ◌≢◌, ℕ, ◌+◌, ◌-◌, ◌*◌, ◌<◌, ◌≤◌, min, nat_le, Bool, true, false, if◌then◌else◌, Option, Some, None}
-use Rattle.paraid_base.specs.Regions.{IsGear, hard_place_of, map_count}
+use Rattle.std.specs.Prelude.{◌≡◌, ◌≢◌, ℕ, ◌+◌, ◌-◌, ◌<◌, ◌≤◌, min, nat_le, Bool, true, false, if◌then◌else◌, Option, Some, None}
+use Rattle.paraid_base.specs.Regions.{hard_place_of, map_count}
 use Rattle.paraid_base.specs.Soft.{soft_disk, soft_stripe, stripe_count}
 use Rattle.paraid_base.specs.Sums.{xor_upto}
 use Rattle.paraid_base.specs.Xor.{zero_block}
 use Rattle.paraid_record.specs.declared.meta.Meta.{Meta}
 use Rattle.paraid_base.specs.States.{rebuilt_count}
 use Rattle.paraid_record.specs.Codes.{phase_to}
-use Rattle.paraid_image.specs.Out.{named_out}
 use Rattle.paraid_image.specs.Sound.{IsStripeZero, stripes_on}
 use Rattle.paraid_image.specs.Spot.{View}
 use Rattle.paraid_image.specs.Standing.{other_log}
@@ -28,6 +27,12 @@ pub record IsFillRight (v : View) (a s : ℕ) : Type 0 where
       → soft_stripe v.meta.setup.geometry.disks a r d ≡ s
       → stripe v.meta.setup.geometry v.block a s (soft_disk v.meta.setup.geometry.disks a r d) ≡ value v r d
   pub zero : IsStripeZero v a s
+
+-- what disk `e` stores of such a stripe is the value of the cell whose copy it is, if it is one
+abbrev pub IsCopyRight : View → ℕ → ℕ → ℕ → Type 0
+IsCopyRight v a s e = (r d : ℕ) → r < v.meta.setup.geometry.rows → a ≤ d → d < v.meta.setup.geometry.disks
+    → soft_stripe v.meta.setup.geometry.disks a r d ≡ s → soft_disk v.meta.setup.geometry.disks a r d ≡ e
+    → stripe v.meta.setup.geometry v.block a s e ≡ value v r d
 
 -- Unit `u` of disk `d` stores what the rest gives: a row, then a stripe, then a block of the map.
 -- A dirty cell of a parked disk is stored nowhere but in its copy.
@@ -84,7 +89,6 @@ pub record AreCounts (v : View) (seen : ℕ) (report : CheckReport) : Type 0 whe
 abbrev pub all_members : View → ℕ
 all_members v = total v.meta v.out Row + total v.meta v.out Stripe + total v.meta v.out Fill + total v.meta v.out RebuiltUnit + total v.meta v.out Mirror
 
--- What a check needs of a meta, and of which disks may be read.
-pub record IsCheckable (m : Meta) (ready : ℕ → Type 0) : Type 0 where
-  pub gear : IsGear m.setup.geometry m.gear
-  pub spins : (d : ℕ) → d < m.gear → named_out m.out ≢ Some d → ready d
+-- nothing is false
+abbrev pub no_faults : CheckReport
+no_faults = record { rows = 0; stripes = 0; fill = 0; units = 0; mirrors = 0 }

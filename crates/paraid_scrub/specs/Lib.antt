@@ -1,2 +1,4 @@
 pub mod Counts
-pub mod ReadParts
+pub mod Looks
+pub mod Cores
+pub mod Chains

@@ -4,13 +4,19 @@
 //! lost inside ends them, and they are then those of a first part of what is looked at.
 #![tactic(auto)]
 
+mod ending;
+mod fill;
 mod five;
 mod kind;
 mod member;
 mod scrub;
 mod stored;
+mod unit;
+mod value;
+mod whole;
 
-pub use five::{Checked, Counts, check};
+pub use ending::Ending;
+pub use five::Checked;
 pub use kind::{CheckReport, Kind};
-pub use scrub::{Part, count_mirrors, count_rows, count_stripes};
 pub use stored::Stored;
+pub use whole::{a_sound_array_counts_nothing, check};

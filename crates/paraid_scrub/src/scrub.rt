@@ -1,23 +1,26 @@
-ghost use Rattle.std.specs.Prelude.{◌≡◌, ◌<◌, ℕ, false, IfOk, IfErr, IsTrue, if◌then◌else◌};
-ghost use Rattle.paraid_base.specs.Regions.{map_count};
-ghost use Rattle.paraid_base.specs.Soft.{stripe_count};
+//! The members of one kind, in ascending order.
+ghost use Rattle.std.specs.Prelude.{◌≡◌, ◌<◌, ◌↔◌, ℕ, false, IfOk, IfErr, IsTrue, if◌then◌else◌};
+ghost use Rattle.paraid_record.specs.Range.{IsInRange};
 ghost use Rattle.paraid_image.specs.Out.{named_out};
-ghost use Rattle.paraid_scrub.specs.Counts.{IsCheckable, is_whole_below};
 ghost use Rattle.paraid_image.specs.Spot.{View};
-ghost use Rattle.paraid_scrub.specs.declared.kind.Kind.TheVariants.{Row as RowKind, Stripe as StripeKind, Mirror as MirrorKind};
-ghost use Rattle.paraid_scrub.specs.ReadParts.{KeepsView, PartCount};
-ghost use Rattle.paraid_txn.specs.declared.store.Lost.TheVariants.{One as LostOne, Two as LostTwo};
+ghost use Rattle.paraid_scrub.specs.Counts.{IsOff, is_whole_below, total, when_whole};
+ghost use Rattle.paraid_scrub.specs.Looks.{KeepsView, PartCount};
+ghost use Rattle.paraid_scrub.specs.declared.ending.Ending.TheVariants.{Lost as HasLost, Two as LostTwo};
 
-use crate::Stored;
-use crate::member::{is_mirror_off, is_row_off, is_stripe_off};
-use paraid_base::Two;
-use paraid_txn::Lost;
+use crate::ending::Ending;
+use crate::fill::is_fill_off;
+use crate::kind::Kind;
+use crate::member::{is_map_off, is_row_off, is_stripe_off};
+use crate::stored::Stored;
+use crate::unit::is_unit_off;
+use paraid_base::{DiskNo, Out, Two};
+use paraid_record::Meta;
 
 /// How many of a part are false, and whether all of it was looked at.
 #[derive(Clone, Copy)]
-pub struct Part {
-    pub found: u32,
-    pub whole: bool,
+pub(crate) struct Part {
+    pub(crate) found: u32,
+    pub(crate) whole: bool,
 }
 
 fn one_if(off: bool) -> u32
@@ -26,104 +29,117 @@ fn one_if(off: bool) -> u32
     if off { 1 } else { 0 }
 }
 
-/// Counts the rows whose values do not sum to zero. A disk that is lost inside ends it.
-pub fn count_rows<C: Stored>(core: &mut C) -> Result<Part, Two>
-    // It answers so only where a disk was lost.
-    ensures ended { IfOk result (λ part. part.whole ≡ false
-        → (d : ℕ) × C.loses core.old core.new (LostOne d)) }
-    ensures two { IfErr result (λ two. C.loses core.old core.new (LostTwo two)) }
-    ensures leads { IfOk result (λ part. IsTrue part.whole → C.leads core.old core.new) }
-    ensures counts { IfOk result (λ part. (v : View) → C.shows core.old v
-        → PartCount v RowKind (C.meta core.old).setup.geometry.rows part.found part.whole) }
-    ensures kept { IfOk result (λ part. IsTrue part.whole → KeepsView (C.meta core.old)
-        (C.meta core.new) (C.ready core.old) (C.ready core.new) (C.shows core.old)
-        (C.shows core.new) (λ v. C.shows core.new v)) }
+// All of them while no disk is out.
+fn while_whole(out: Option<DiskNo>, count: u32) -> u32
+    ensures { result ≡ when_whole out count }
 {
-    let rows = core.meta().setup.geometry.rows();
-    let mut found = 0;
-    for row in 0..rows {
-        let off = match is_row_off(core, row) {
-            Ok(off) => off,
-            Err(Lost::One { .. }) => {
-                return Ok(Part {
-                    found,
-                    whole: false,
-                });
-            }
-            Err(Lost::Two(two)) => return Err(two),
-        };
-        found += one_if(off);
+    match out {
+        None => count,
+        Some(_) => 0,
     }
-    Ok(Part { found, whole: true })
 }
 
-/// Counts the stripes of the gear that do not sum to zero. A disk that is lost inside ends it.
-pub fn count_stripes<C: Stored>(core: &mut C) -> Result<Part, Two>
-    requires checkable { IsCheckable (C.meta core.old) (C.ready core.old) }
-    requires region { (C.meta core.old).gear < (C.meta core.old).setup.geometry.disks }
-    requires whole { IsTrue (is_whole_below (named_out (C.meta core.old).out)
-        (C.meta core.old).gear) }
-    // It answers so only where a disk was lost.
-    ensures ended { IfOk result (λ part. part.whole ≡ false
-        → (d : ℕ) × C.loses core.old core.new (LostOne d)) }
-    ensures two { IfErr result (λ two. C.loses core.old core.new (LostTwo two)) }
-    ensures leads { IfOk result (λ part. IsTrue part.whole → C.leads core.old core.new) }
-    ensures counts { IfOk result (λ part. (v : View) → C.shows core.old v
-        → PartCount v StripeKind (stripe_count
-        (C.meta core.old).setup.geometry.disks (C.meta core.old).setup.geometry.rows
-        (C.meta core.old).gear) part.found part.whole) }
-    ensures kept { IfOk result (λ part. IsTrue part.whole → KeepsView (C.meta core.old)
-        (C.meta core.new) (C.ready core.old) (C.ready core.new) (C.shows core.old)
-        (C.shows core.new) (λ v. C.shows core.new v)) }
+// All of them while no disk below this one is out.
+fn while_whole_below(out: Option<DiskNo>, end: u8, count: u32) -> u32
+    ensures { result ≡ (if is_whole_below out end then count else 0) }
+{
+    let Some(disk) = out else {
+        return count;
+    };
+    if disk < end {
+        return 0;
+    }
+    count
+}
+
+// How many members of a kind there are.
+fn members(meta: &Meta, kind: Kind) -> u32
+    requires in_range { IsInRange meta.now }
+    ensures { result ≡ total meta.now (named_out meta.now.out) kind }
+{
+    let out = meta.out.named();
+    match kind {
+        Kind::Row => while_whole(out, meta.setup.geometry.rows()),
+        Kind::Stripe => while_whole_below(out, meta.gear, meta.setup.geometry.stripes(meta.gear)),
+        Kind::Fill => while_whole(out, meta.fill),
+        Kind::Unit => meta.out.rebuilt(),
+        Kind::Mirror => while_whole_below(out, 2, meta.setup.geometry.map_blocks()),
+    }
+}
+
+// Whether a rebuilt unit is false, by whichever disk is rebuilt.
+fn is_rebuilt_off<C: Stored>(core: &mut C, at: u32) -> Result<bool, Ending>
+    requires usable { C.usable core.old }
+    requires at { at < total (C.meta core.old) (named_out (C.meta core.old).out) Kind.Unit }
+    ensures shown { IfOk result (λ off. KeepsView C.meta C.usable C.tells C.shows C.leads core.old core.new
+        (λ v. IsTrue off ↔ IsOff v Kind.Unit at)) }
+    ensures lost { IfErr result (C.loses core.old core.new) }
+{
+    match core.meta().out {
+        Out::Fresh { disk, .. } => {
+            let off = is_unit_off(core, disk, at)?;
+            Ok(off)
+        }
+        Out::No => Ok(false),
+        Out::Gone { .. } => Ok(false),
+    }
+}
+
+// Whether a member of a kind is false.
+fn is_off<C: Stored>(core: &mut C, kind: Kind, at: u32) -> Result<bool, Ending>
+    requires usable { C.usable core.old }
+    requires at { at < total (C.meta core.old) (named_out (C.meta core.old).out) kind }
+    ensures shown { IfOk result (λ off. KeepsView C.meta C.usable C.tells C.shows C.leads core.old core.new
+        (λ v. IsTrue off ↔ IsOff v kind at)) }
+    ensures lost { IfErr result (C.loses core.old core.new) }
 {
     let meta = core.meta();
-    let stripes = meta.setup.geometry.stripes(meta.gear);
-    let mut found = 0;
-    for at in 0..stripes {
-        let off = match is_stripe_off(core, at) {
-            Ok(off) => off,
-            Err(Lost::One { .. }) => {
-                return Ok(Part {
-                    found,
-                    whole: false,
-                });
-            }
-            Err(Lost::Two(two)) => return Err(two),
-        };
-        found += one_if(off);
+    match kind {
+        Kind::Row => {
+            let off = is_row_off(core, at)?;
+            Ok(off)
+        }
+        Kind::Stripe => {
+            let off = is_stripe_off(core, meta.gear, at)?;
+            Ok(off)
+        }
+        Kind::Fill => {
+            let off = is_fill_off(core, meta.phase.to(), at)?;
+            Ok(off)
+        }
+        Kind::Unit => {
+            let off = is_rebuilt_off(core, at)?;
+            Ok(off)
+        }
+        Kind::Mirror => {
+            let off = is_map_off(core, 0, at)?;
+            Ok(off)
+        }
     }
-    Ok(Part { found, whole: true })
 }
 
-/// Counts the blocks of the map that the two log disks hold differently. A disk that is lost
-/// inside ends it.
-pub fn count_mirrors<C: Stored>(core: &mut C) -> Result<Part, Two>
-    requires checkable { IsCheckable (C.meta core.old) (C.ready core.old) }
-    requires whole { IsTrue (is_whole_below (named_out (C.meta core.old).out) 2) }
-    // It answers so only where a disk was lost.
-    ensures ended { IfOk result (λ part. part.whole ≡ false
-        → (d : ℕ) × C.loses core.old core.new (LostOne d)) }
+/// Counts the members of a kind that are false. A disk that is lost inside ends it.
+pub(crate) fn count<C: Stored>(core: &mut C, kind: Kind) -> Result<Part, Two>
+    requires usable { C.usable core.old }
+    ensures kept { IfOk result (λ part. IsTrue part.whole
+        → KeepsView C.meta C.usable C.tells C.shows C.leads core.old core.new (λ v. C.shows core.new v)) }
+    ensures ended { IfOk result (λ part. part.whole ≡ false → C.loses core.old core.new HasLost) }
     ensures two { IfErr result (λ two. C.loses core.old core.new (LostTwo two)) }
-    ensures leads { IfOk result (λ part. IsTrue part.whole → C.leads core.old core.new) }
-    ensures counts { IfOk result (λ part. (v : View) → C.shows core.old v
-        → PartCount v MirrorKind (map_count (C.meta core.old).setup.geometry)
-        part.found part.whole) }
-    ensures kept { IfOk result (λ part. IsTrue part.whole → KeepsView (C.meta core.old)
-        (C.meta core.new) (C.ready core.old) (C.ready core.new) (C.shows core.old)
-        (C.shows core.new) (λ v. C.shows core.new v)) }
+    ensures counts { IfOk result (λ part. (v : View) → C.shows core.old v → C.tells core.new
+        → PartCount v kind (total v.meta v.out kind) part.found part.whole) }
 {
-    let blocks = core.meta().setup.geometry.map_blocks();
+    let size = members(&core.meta(), kind);
     let mut found = 0;
-    for at in 0..blocks {
-        let off = match is_mirror_off(core, at) {
+    for at in 0..size {
+        let off = match is_off(core, kind, at) {
             Ok(off) => off,
-            Err(Lost::One { .. }) => {
+            Err(Ending::Lost) => {
                 return Ok(Part {
                     found,
                     whole: false,
                 });
             }
-            Err(Lost::Two(two)) => return Err(two),
+            Err(Ending::Two(two)) => return Err(two),
         };
         found += one_if(off);
     }

@@ -1,5 +1,5 @@
 -- What a run leaves is a rack that held a history.
-use Rattle.std.proofs.Common.{◌≡◌, ℕ, List, [], ◌∷◌, ◌++◌, take, drop, Option, Some, None, refl, sym, ap, ◌∙◌, inl, inr, subst, arith, take-append-drop}
+use Rattle.std.proofs.Common.{◌≡◌, ℕ, List, [], ◌∷◌, ◌++◌, Option, Some, None, refl, sym, ap, ◌∙◌, subst, arith}
 use Rattle.paraid_base.specs.declared.fault.Halt.{Halt}
 use Rattle.paraid_base.specs.declared.fault.Halt.TheVariants.{Two as HaltTwo, Worn}
 use Rattle.paraid_base.specs.declared.fault.Two.{Two}
@@ -9,13 +9,14 @@ use Rattle.paraid_base.specs.declared.event.Event.{Event}
 use Rattle.paraid_base.specs.declared.event.Event.TheVariants.{Flush}
 use Rattle.paraid_io.specs.Lines.{lines_of}
 use Rattle.paraid_rack.specs.declared.call.Call.{Call}
-use Rattle.paraid_rack.specs.Disks.{Disks, step}
-use Rattle.paraid_rack.specs.Trail.{Trail, disks, initial, now, run}
+use Rattle.paraid_rack.specs.Disks.{Disks}
+use Rattle.paraid_rack.specs.Trail.{Trail, now, run}
 use Rattle.paraid_rack.proofs.TrailsLemmas.{now-extend}
 use Rattle.paraid_record.specs.declared.meta.Setup.{Setup}
 use Rattle.paraid_image.specs.Out.{named_out}
 use Rattle.paraid_image.specs.Rest.{AreSynced}
 use Rattle.paraid_image.specs.RunStart.{IsRunStart}
+use Rattle.paraid_session.proofs.MountLemmas.{IsMountedFromEach-follows, run-append}
 use Rattle.paraid_session.proofs.RunStartLemmas.{mark_entry}
 use Rattle.paraid_session.specs.Mount.{IsMountedFromEach}
 use Rattle.paraid_serve.specs.Output.{FollowsFromPoint, Headline, IsLeftByStretch, OutputText, ProgramRun, WritesOutput}
@@ -65,10 +66,6 @@ pub went_over : (slots : ℕ) (setup : Setup) (p q : Point) (ts : List Turn) →
 went_over slots setup p q [] over went = subst (λ (x : Point). IsOver slots setup x) (sym went) over
 went_over slots setup p q (t ∷ ts) over went = went_over slots setup went.0 q ts (turn_over slots setup p went.0 t over went.1) went.2
 
-run-append : (s : Disks) (cs ds : List Call) → run s (cs ++ ds) ≡ run (run s cs) ds
-run-append s [] ds = refl
-run-append s (c ∷ cs) ds = run-append (step c s) cs ds
-
 pub went_disks : (slots : ℕ) (setup : Setup) (p q : Point) (ts : List Turn) → TurnsLead slots setup p ts q → q.disks ≡ run p.disks (turn_calls ts)
 went_disks slots setup p q [] went = ap (λ (x : Point). x.disks) went
 went_disks slots setup p q (t ∷ ts) went =
@@ -101,27 +98,6 @@ same_trail o a b e f = some_same a b (sym e ∙ f)
   where
     some_same : (a b : Trail) → Some a ≡ Some b → a ≡ b
     some_same a b e = cc
-
--- the disks as the mount ended
-mounted_disks : (t : Trail) (began : ℕ) → run (disks t began) (drop began t.calls) ≡ now t
-mounted_disks t began = sym (run-append (initial t.start) (take began t.calls) (drop began t.calls)) ∙ ap (run (initial t.start)) (take-append-drop began t.calls)
-
--- more may follow from the first point of a session
-pub IsMountedFromEach-follows : (slots : ℕ) (setup : Setup) (began : ℕ) (start : Option Trail) (P Q : Point → Type 0)
-    → ((p : Point) → IsMark slots setup p → ((t : Trail) → start ≡ Some t → p.disks ≡ now t) → P p → Q p) → IsMountedFromEach slots setup began start P → IsMountedFromEach slots setup began start Q
-IsMountedFromEach-follows slots setup began start P Q more mounted t tells h lo down x said entry stands =
-    let m = mounted t tells h lo down x said entry stands in
-    record {
-      mounting = m.mounting;
-      ends = elim m.ends [
-        | inl both ↦ inl both
-        | inr begun ↦
-            let b = begun.1 in
-            let here : begun.0.disks ≡ now t = b.disks ∙ mounted_disks t began in
-            let same = begun.2.0 in
-            inr (begun.0, b, (same, more begun.0 (subst (λ (u : Setup). IsMark slots u begun.0) same b.mark) (λ u is. here ∙ ap now (same_trail start t u tells is)) begun.2.1))
-      ];
-    }
 
 module _ (slots : ℕ) (setup : Setup) (start final : Option Trail) (p : Point) (mark : IsMark slots setup p) (here : (t : Trail) → start ≡ Some t → p.disks ≡ now t) where
   -- where the last answer is that to a flush, nothing is loose

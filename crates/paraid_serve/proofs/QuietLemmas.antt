@@ -11,7 +11,7 @@ use Rattle.paraid_rack.specs.Told.{Ran}
 use Rattle.paraid_rack.specs.Trail.{Trail}
 use Rattle.paraid_rack.proofs.TrailsLemmas.{Ran-none}
 use Rattle.paraid_image.specs.Out.{named_out}
-use Rattle.paraid_serve.specs.Calls.{IsResting}
+use Rattle.paraid_session.specs.Resting.{IsResting}
 use Rattle.paraid_session.specs.Turn.{GoesOn, IsMark, IsTurn, Point, bounds_at, watch_of}
 use Rattle.paraid_session.specs.Turn.IsTurn.{answered}
 use Rattle.paraid_session.specs.Watch.{HoldsWhileServing, IsServing, down_from_out}

@@ -3,3 +3,4 @@ pub mod Stretch
 pub mod Form
 pub mod Session
 pub mod Output
+pub mod Lost

@@ -9,7 +9,7 @@ use Rattle.paraid_rack.specs.Trail.{Trail}
 use Rattle.paraid_record.specs.declared.meta.Setup.{Setup}
 use Rattle.paraid_serve.specs.declared.stop.Stop.{Stop}
 use Rattle.paraid_serve.specs.declared.stop.Stop.TheVariants.{Source, TooLong, Sink, Halt as Halts}
-use Rattle.paraid_serve.specs.Calls.{IsHaltOfFailed}
+use Rattle.paraid_serve.specs.Lost.{HaltsBySecondLoss}
 use Rattle.paraid_serve.specs.Form.{BeginsAnswers, HasAnswers}
 use Rattle.paraid_serve.specs.Stretch.{EndsStretch, Stretch, events_in, replies}
 use Rattle.paraid_session.specs.Turn.{Point}
@@ -47,12 +47,12 @@ IsAllTaken (Err TooLong) bytes left = length bytes ≡ 2 ^ 40
 IsAllTaken (Err Source) bytes left = Unit {0}
 IsAllTaken (Err Sink) bytes left = Unit {0}
 
--- a halt that ends a session and names two disks has come of the failure of the second one
-abbrev pub IsStopOfFailed : (ℕ → Slot) → Stop → Type 0
-IsStopOfFailed slot (Halts halt) = IsHaltOfFailed slot (Some halt)
-IsStopOfFailed slot Source = Unit {0}
-IsStopOfFailed slot TooLong = Unit {0}
-IsStopOfFailed slot Sink = Unit {0}
+-- a halt that ends a session and names two disks has come of the failure of the second one in it
+abbrev pub IsStopOfFailed : (ℕ → Slot) → (ℕ → Slot) → Stop → Type 0
+IsStopOfFailed old new (Halts halt) = HaltsBySecondLoss old new (Some halt)
+IsStopOfFailed old new Source = Unit {0}
+IsStopOfFailed old new TooLong = Unit {0}
+IsStopOfFailed old new Sink = Unit {0}
 
 -- A session took these bytes and wrote this text. What it answered is known where the record is
 -- told, from each point at which the array stood.

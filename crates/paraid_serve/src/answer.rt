@@ -1,12 +1,13 @@
-ghost use Rattle.std.specs.Prelude.{◌≡◌, ◌≢◌, true, None, Some, IsSome, IfErr, OnOk};
+ghost use Rattle.std.specs.Prelude.{◌≡◌, ◌≢◌, ℕ, true, None, Some, IsSome, IfErr, OnOk};
 ghost use Rattle.paraid_base.specs.BlockAnswers.{answer_to_flush, flush_halt_of};
 ghost use Rattle.paraid_base.specs.declared.event.Event.TheVariants.{Flush as FlushEvent, Write as WriteEvent};
 ghost use Rattle.paraid_base.specs.declared.pairs.Pairs.{Pairs as PairsType};
+ghost use Rattle.paraid_rack.specs.Slots.{Slot};
 ghost use Rattle.paraid_rack.specs.Told.{Ran};
 ghost use Rattle.paraid_trace.specs.Asked.{event_with};
 ghost use Rattle.paraid_trace.specs.Replies.{HasFewDisks};
-ghost use Rattle.paraid_serve.specs.Calls.{IsHaltOfFailed};
 ghost use Rattle.paraid_serve.specs.Form.{is_answer_to};
+ghost use Rattle.paraid_serve.specs.Lost.{HasServedSince};
 ghost use Rattle.paraid_session.specs.Turn.{GoesOn, Point, halt_told};
 
 use crate::Serves;
@@ -59,8 +60,8 @@ pub fn answer<A: Serves>(
     ensures slots { A.slots array.new ≡ A.slots array.old }
     ensures setup { A.setup array.new ≡ A.setup array.old }
     ensures halt { halt.new ≡ A.halted array.new }
-    ensures failed { IsHaltOfFailed (A.slot array.old) (A.halted array.old)
-        → IsHaltOfFailed (A.slot array.new) (A.halted array.new) }
+    ensures since { (start : ℕ → Slot) → HasServedSince start (A.slot array.old) (A.halted array.old)
+        → HasServedSince start (A.slot array.new) (A.halted array.new) }
     ensures kind { is_answer_to (event_with asked pairs.now) result ≡ true }
     ensures few { HasFewDisks result }
 {
@@ -84,8 +85,8 @@ pub fn answer_event<A: Serves>(array: &mut A, halt: &mut Option<Halt>, event: &E
     ensures slots { A.slots array.new ≡ A.slots array.old }
     ensures setup { A.setup array.new ≡ A.setup array.old }
     ensures halt { halt.new ≡ A.halted array.new }
-    ensures failed { IsHaltOfFailed (A.slot array.old) (A.halted array.old)
-        → IsHaltOfFailed (A.slot array.new) (A.halted array.new) }
+    ensures since { (start : ℕ → Slot) → HasServedSince start (A.slot array.old) (A.halted array.old)
+        → HasServedSince start (A.slot array.new) (A.halted array.new) }
     ensures kind { is_answer_to event.now result ≡ true }
     ensures few { HasFewDisks result }
 {
@@ -106,8 +107,9 @@ pub fn finish<A: Serves>(array: &mut A, halt: Option<Halt>) -> Result<u64, Halt>
     ensures slots { A.slots array.new ≡ A.slots array.old }
     ensures setup { A.setup array.new ≡ A.setup array.old }
     ensures going { OnOk result (A.halted array.new ≡ None) }
-    ensures failed { IfErr result (λ halt. IsHaltOfFailed (A.slot array.old) (A.halted array.old)
-        → IsHaltOfFailed (A.slot array.new) (Some halt)) }
+    ensures since { IfErr result (λ halt. (start : ℕ → Slot)
+        → HasServedSince start (A.slot array.old) (A.halted array.old)
+        → HasServedSince start (A.slot array.new) (Some halt)) }
 {
     if let Some(halt) = halt {
         return Err(halt);

@@ -6,7 +6,8 @@ ghost use Rattle.paraid_rack.specs.Told.{Ran};
 ghost use Rattle.paraid_rack.specs.Trail.{Trail};
 ghost use Rattle.paraid_record.specs.declared.meta.Setup.{Setup};
 ghost use Rattle.paraid_machine.specs.Machine.{state_status};
-ghost use Rattle.paraid_serve.specs.Calls.{IsResting, answer_to_tick, tick_halt_of};
+ghost use Rattle.paraid_serve.specs.Calls.{answer_to_tick, tick_halt_of};
+ghost use Rattle.paraid_session.specs.Resting.{IsResting};
 ghost use Rattle.paraid_session.specs.Turn.{GoesOn, Point};
 
 use paraid_base::{Block, BlockFault, BlockNo, GearReport, Halt, Pairs, Status};

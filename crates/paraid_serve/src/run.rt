@@ -23,7 +23,7 @@ pub fn session<S: Source, K: Sink, A: Serves>(
     ensures told { IsSome (A.told array.new) → IsSome (A.told array.old) }
     ensures setup { A.setup array.new ≡ A.setup array.old }
     ensures going { OnOk result (A.halted array.new ≡ None) }
-    ensures failed { IfErr result (IsStopOfFailed (A.slot array.new)) }
+    ensures failed { IfErr result (IsStopOfFailed (A.slot array.old) (A.slot array.new)) }
     ensures source { IsErrOf result Stop.Source
         → HasRisen (S.faults source.old) (S.faults source.new) }
     ensures sink { IsErrOf result Stop.Sink → HasRisen (K.faults sink.old) (K.faults sink.new) }

@@ -2,6 +2,7 @@ ghost use Rattle.std.specs.Prelude.{◌≡◌, ◌≢◌, ◌<◌, ℕ, true, No
 ghost use Rattle.paraid_base.specs.BlockAnswers.{answer_to_flush, flush_halt_of};
 ghost use Rattle.paraid_base.specs.declared.event.Event.TheVariants.{Flush as FlushEvent, Bad as BadEvent};
 ghost use Rattle.paraid_base.specs.declared.fault.Halt.{Halt as HaltType};
+ghost use Rattle.paraid_image.specs.Out.{named_out};
 ghost use Rattle.paraid_machine.specs.Machine.{block_count, state_status};
 ghost use Rattle.paraid_rack.specs.Slots.{Slot};
 ghost use Rattle.paraid_rack.specs.Told.{Ran};
@@ -9,8 +10,10 @@ ghost use Rattle.paraid_rack.specs.Trail.{Trail};
 ghost use Rattle.paraid_record.specs.declared.meta.Setup.{Setup};
 ghost use Rattle.paraid_trace.specs.Asked.{event_with};
 ghost use Rattle.paraid_trace.specs.Replies.{HasFewDisks};
-ghost use Rattle.paraid_serve.specs.Calls.{HaltsBySecondLoss, IsNotDouble};
+ghost use Rattle.paraid_serve.specs.Calls.{IsAbsentOut, IsNotDouble};
 ghost use Rattle.paraid_serve.specs.Form.{is_answer_to};
+ghost use Rattle.paraid_serve.specs.Lost.{HaltsByTwoLost};
+ghost use Rattle.paraid_session.specs.Faults.{HaveNotFallen};
 ghost use Rattle.paraid_session.specs.Turn.{GoesOn, Point, halt_told};
 
 use paraid_base::{Answer, Halt, Pairs, Status};
@@ -33,6 +36,9 @@ pub trait Serves {
     /// The halt that has ended its service.
     ghost halted: { Self → Option HaltType };
 
+    /// The disk that is out, while there is no halt.
+    ghost down: { Self → Option ℕ };
+
     /// It stands at this point of a session.
     ghost stands: { Self → Point → Type 0 };
 
@@ -47,7 +53,9 @@ pub trait Serves {
         ensures slots { slots self.new ≡ slots self.old }
         ensures setup { setup self.new ≡ setup self.old }
         ensures halt { halted self.new ≡ halt_told result }
-        ensures two { HaltsBySecondLoss (slot self.old) (slot self.new) (halted self.new) }
+        ensures two { HaltsByTwoLost (down self.old) (event_with asked pairs.now) (slot self.old) (slot self.new)
+            (halted self.new) }
+        ensures later { HaveNotFallen (slot self.old) (slot self.new) }
         ensures kind { is_answer_to (event_with asked pairs.now) result ≡ true }
         ensures few { HasFewDisks result };
 
@@ -61,7 +69,9 @@ pub trait Serves {
         ensures slots { slots self.new ≡ slots self.old }
         ensures setup { setup self.new ≡ setup self.old }
         ensures halt { halted self.new ≡ flush_halt_of result }
-        ensures two { HaltsBySecondLoss (slot self.old) (slot self.new) (halted self.new) };
+        ensures two { HaltsByTwoLost (down self.old) FlushEvent (slot self.old) (slot self.new)
+            (halted self.new) }
+        ensures later { HaveNotFallen (slot self.old) (slot self.new) };
 
     /// How many writes it has accepted, while there is no halt.
     fn writes(&self) -> u64
@@ -79,8 +89,9 @@ pub trait Serves {
 
     /// Its state, while there is no halt.
     fn status(&self) -> Status
-        ensures { halted self.now ≡ None → (p : Point) → stands self.now p
-            → result ≡ state_status (setup self.now) (length p.history) p.state };
+        ensures point { halted self.now ≡ None → (p : Point) → stands self.now p
+            → result ≡ state_status (setup self.now) (length p.history) p.state }
+        ensures down { halted self.now ≡ None → named_out result.out ≡ down self.now };
 
     /// The number of its disks.
     fn disks(&self) -> u8
@@ -92,6 +103,9 @@ pub trait Serves {
 
     /// While there is no halt, at most one of its disks is absent.
     ghost serves: { (x : Self) → halted x ≡ None → IsNotDouble (setup x) (slot x) };
+
+    /// And that is the one that is out.
+    ghost absent: { (x : Self) → halted x ≡ None → IsAbsentOut (setup x) (down x) (slot x) };
 
     /// A point tells the halt.
     ghost agrees: { (x : Self) (p : Point) → stands x p → p.halt ≡ halted x };

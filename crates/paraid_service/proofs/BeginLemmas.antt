@@ -30,7 +30,7 @@ use Rattle.paraid_session.specs.Mount.{IsMountedFromEach}
 use Rattle.paraid_txn.specs.declared.store.Store.{Store}
 use Rattle.paraid_txn.specs.Stores.{disks_of, epoch_of, named_of, store_rack}
 use Rattle.paraid_session.specs.Turn.{IsMark, Point}
-use Rattle.paraid_serve.proofs.ExitLemmas.{IsMountedFromEach-follows}
+use Rattle.paraid_session.proofs.MountLemmas.{IsMountedFromEach-follows}
 use Rattle.paraid_startup.specs.First.{IsFirstPoint, first_point}
 use Rattle.paraid_startup.proofs.ToldLemmas.{same_trail}
 use Rattle.paraid_event.specs.First.{BeginsService}

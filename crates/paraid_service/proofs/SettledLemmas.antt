@@ -82,6 +82,7 @@ module _ (slots : ℕ) (s : Disks) (m : Meta) (table : List (List Bool)) (copied
       epoch = refl;
       next = next_gone s m (record (marked_gone m d m.epoch) { epoch = m.epoch + 1 }) refl refl rest d refl only;
       writes = counted;
+      brought = λ none. refl;
       staged = content_marked slots s.power s.size m d m.epoch (contents s []) h (length h) range rest.log.single below gone ok;
       dirty = λ r e l. dirty r e l ∙ ap (λ (o : Option ℕ). map_bit m.setup.geometry (contents s [] (map_disk o)) r e) out_is;
     }

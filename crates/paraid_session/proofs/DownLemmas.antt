@@ -3,7 +3,7 @@ use Rattle.std.proofs.Common.{◌≡◌, ◌≢◌, ℕ, ◌⊎◌, Bool, true, 
 use Rattle.std.specs.Prelude.{◌==◌}
 use Rattle.std.proofs.lemmas.Bool.Decides.{nat_tests}
 use Rattle.paraid_base.specs.declared.event.Answer.{Answer}
-use Rattle.paraid_base.specs.declared.event.Answer.TheVariants.{Value, NoBlock, Wrote, Flushed, Ticked, Shift, Top, Lowest, Shifting, Failed, Replaced, NoDisk, Out as IsOut, NotOut, NoFresh, Ration as RationUsed, State as IsState, Energy as EnergyUsed, Bad as IsBad, Later, Halted}
+use Rattle.paraid_base.specs.declared.event.Answer.TheVariants.{Value, NoBlock, Wrote, Flushed, Ticked, Shift, Top, Lowest, Shifting, Failed, Replaced, NoDisk, Out as IsOut, NotOut, NoFresh, Ration as RationUsed, State as IsState, Energy as EnergyUsed, Bad as IsBad, Halted}
 use Rattle.paraid_base.specs.declared.event.Event.{Event}
 use Rattle.paraid_base.specs.declared.fault.Halt.{Halt}
 use Rattle.paraid_rack.specs.declared.call.Call.{Call}
@@ -101,7 +101,6 @@ taken_start event (RationUsed d) out apart serving = ap down_from_out (sym (else
 taken_start event (IsState status disks) out apart serving = ap down_from_out (sym (else_none out))
 taken_start event (EnergyUsed total) out apart serving = ap down_from_out (sym (else_none out))
 taken_start event IsBad out apart serving = ap down_from_out (sym (else_none out))
-taken_start event Later out apart serving = ap down_from_out (sym (else_none out))
 
 -- one at most is down after some calls only where it was so before
 serving_before : (w : Watch) (cs : List Call) → IsServing (watch_all cs w).down → IsServing w.down

@@ -8,3 +8,5 @@ pub mod WriteLemmas
 pub mod SidesLemmas
 pub mod StageLemmas
 pub mod CourseLemmas
+pub mod MountLemmas
+pub mod FaultLemmas

@@ -2,3 +2,5 @@ pub mod Watch
 pub mod Turn
 pub mod Mount
 pub mod Course
+pub mod Resting
+pub mod Faults

@@ -298,6 +298,7 @@ module _ (slots : ℕ) (named : Option ℕ) (m : Meta) (table : List (List Bool)
           epoch = k.epoch;
           next = k.next;
           writes = k.writes;
+          brought = k.brought;
           staged = k.staged;
           dirty = k.dirty;
         };

@@ -7,10 +7,11 @@ use Rattle.paraid_rack.specs.Trail.{Trail, moments}
 use Rattle.paraid_record.specs.declared.meta.Setup.{Setup}
 use Rattle.paraid_session.specs.Mount.{IsMountedFromEach}
 use Rattle.paraid_console.specs.Ending.{EndsWithLine}
-use Rattle.paraid_serve.specs.Calls.{IsNotDouble, IsPairNamed}
+use Rattle.paraid_serve.specs.Calls.{IsNotDouble}
+use Rattle.paraid_serve.specs.Lost.{NamesTwoLost}
 use Rattle.paraid_serve.specs.Output.{Headline, IsServedStatus}
 use Rattle.paraid_session.specs.Turn.{Point}
-use Rattle.paraid_serve.proofs.ExitLemmas.{IsMountedFromEach-follows}
+use Rattle.paraid_session.proofs.MountLemmas.{IsMountedFromEach-follows}
 use Rattle.paraid_commands.specs.Generating.{GenHeadline, IsGenStatus}
 use Rattle.paraid_commands.specs.Telling.{state_lines}
 use Rattle.paraid_words.specs.declared.command.Command.{Command}
@@ -32,26 +33,28 @@ pub begins_at_end : (before middle : Option Trail) → Extends before middle →
 begins_at_end before middle grows = record { calls = λ t tells. let r = grows t tells in (r.from, r.calls, r.was, r.is, ap end_moment r.was) }
 
 -- the slots that an array hands back are those that it had
-end_over : (setup : Setup) (now slot : ℕ → Slot) (status : ℕ) → slot ≡ now → (status ≡ 0 → IsNotDouble setup now) → (status ≡ 5 → IsPairNamed now) → IsEndOver setup slot status
-end_over setup now slot status same present two = record {
+pub end_over : (setup : Setup) (first now slot : ℕ → Slot) (w x : Option (List ℕ)) (status : ℕ) → slot ≡ now → (status ≡ 0 → IsNotDouble setup now) → (status ≡ 5 → NamesTwoLost first now w x) → IsEndOver setup first slot w x status
+end_over setup first now slot w x status same present two = record {
   present = λ zero. subst (IsNotDouble setup) (sym same) (present zero);
-  two = λ five. subst IsPairNamed (sym same) (two five);
+  two = λ five. subst (λ (z : ℕ → Slot). NamesTwoLost first z w x) (sym same) (two five);
 }
 
-pub headline_over : (slots slots_now : ℕ) (now slot : ℕ → Slot) (setup : Setup) (began : ℕ) (middle final after : Option Trail) (l m w x : Option (List ℕ)) (status : ℕ) → slots_now ≡ slots → after ≡ final → slot ≡ now
-    → (status ≡ 0 → IsNotDouble setup now) → (status ≡ 5 → IsPairNamed now)
+pub headline_over : (slots slots_now : ℕ) (first now slot : ℕ → Slot) (setup : Setup) (began : ℕ) (middle final after : Option Trail) (l m w x : Option (List ℕ)) (status : ℕ) → slots_now ≡ slots → after ≡ final → slot ≡ now
+    → (status ≡ 0 → IsNotDouble setup now) → (status ≡ 5 → NamesTwoLost first now w x)
     → Headline slots_now setup began middle final l m w x status → ServesLines slots slot after l m w x status setup began middle
-headline_over slots slots_now now slot setup began middle final after l m w x status e f same present two h = record {
+headline_over slots slots_now first now slot setup began middle final after l m w x status e f same present two h = record {
   headline = subst (λ (k : ℕ). Headline k setup began middle after l m w x status) e (subst (λ (t : Option Trail). Headline slots_now setup began middle t l m w x status) (sym f) h);
-  end = end_over setup now slot status same present two;
+  mounted = first;
+  end = end_over setup first now slot w x status same present two;
 }
 
-pub generated_over : (slots slots_now : ℕ) (now slot : ℕ → Slot) (setup : Setup) (began : ℕ) (middle final after : Option Trail) (w x : Option (List ℕ)) (number count status : ℕ) → slots_now ≡ slots → after ≡ final → slot ≡ now
-    → (status ≡ 0 → IsNotDouble setup now) → (status ≡ 5 → IsPairNamed now)
+pub generated_over : (slots slots_now : ℕ) (first now slot : ℕ → Slot) (setup : Setup) (began : ℕ) (middle final after : Option Trail) (w x : Option (List ℕ)) (number count status : ℕ) → slots_now ≡ slots → after ≡ final → slot ≡ now
+    → (status ≡ 0 → IsNotDouble setup now) → (status ≡ 5 → NamesTwoLost first now w x)
     → GenHeadline slots_now setup began middle final w x number count status → ServesGenerated slots slot after w x number count status setup began middle
-generated_over slots slots_now now slot setup began middle final after w x number count status e f same present two h = record {
+generated_over slots slots_now first now slot setup began middle final after w x number count status e f same present two h = record {
   headline = subst (λ (k : ℕ). GenHeadline k setup began middle after w x number count status) e (subst (λ (t : Option Trail). GenHeadline slots_now setup began middle t w x number count status) (sym f) h);
-  end = end_over setup now slot status same present two;
+  mounted = first;
+  end = end_over setup first now slot w x status same present two;
 }
 
 -- the statuses of a run are those of a session, and those of a mount that is refused
@@ -87,7 +90,7 @@ refused_so : (fault : MountFault) (status n m : ℕ) → (status ≡ 4) ⊎ ((n 
 refused_so fault status n m (inl four) = inl four
 refused_so fault status n m (inr all) = fault_status fault status all.1
 
-refused_status : (fault : MountFault) (before after : Option (List ℕ)) (line : List ℕ) (status : ℕ) → EndsWithLine before after line (mount_fault_status fault) status → IsRefusedStatus status
+pub refused_status : (fault : MountFault) (before after : Option (List ℕ)) (line : List ℕ) (status : ℕ) → EndsWithLine before after line (mount_fault_status fault) status → IsRefusedStatus status
 refused_status fault before after line status end = refused_so fault status end.count (length line) end.whole
 
 run_refused : (status : ℕ) → IsRefusedStatus status → IsStatusOfRun status

@@ -1,15 +1,22 @@
 -- How the program ends on each of its words.
-use Rattle.std.specs.Prelude.{◌≡◌, ℕ, ◌⊎◌, Bool, List, Option, Some}
+use Rattle.std.specs.Prelude.{◌≡◌, ℕ, ◌⊎◌, Bool, List, [], ◌∷◌, length, Option, Some, IsSome}
+use Rattle.paraid_base.specs.declared.event.Answer.{Answer}
+use Rattle.paraid_base.specs.declared.event.Answer.TheVariants.{Flushed, Halted}
+use Rattle.paraid_base.specs.declared.event.Event.TheVariants.{Flush}
 use Rattle.paraid_base.specs.declared.fault.Halt.{Halt}
 use Rattle.paraid_rack.specs.Slots.{Slot}
 use Rattle.paraid_rack.specs.Trail.{Trail, extend, moments}
 use Rattle.paraid_rack.specs.declared.call.Call.{Call}
 use Rattle.paraid_record.specs.declared.meta.Setup.{Setup}
+use Rattle.paraid_scrub.specs.Counts.{no_faults}
 use Rattle.paraid_scrub.specs.declared.kind.CheckReport.{CheckReport}
 use Rattle.paraid_session.specs.Mount.{IsMountedFromEach, IsRefusedFromEach}
 use Rattle.paraid_console.specs.Ending.{EndsWithLine, halt_line, status_of_halt}
-use Rattle.paraid_serve.specs.Calls.{IsNotDouble, IsPairNamed}
-use Rattle.paraid_serve.specs.Output.{Headline}
+use Rattle.paraid_serve.specs.Calls.{IsNotDouble}
+use Rattle.paraid_serve.specs.Lost.{NamesTwoLost}
+use Rattle.paraid_serve.specs.Output.{Headline, IsLeftByStretch}
+use Rattle.paraid_serve.specs.Stretch.{EndsStretch}
+use Rattle.paraid_session.specs.Turn.{Point}
 use Rattle.paraid_words.specs.declared.command.Command.{Command}
 use Rattle.paraid_words.specs.declared.command.Command.TheVariants.{Format, Run, Status, Check, Gen}
 use Rattle.paraid_commands.specs.Generating.{GenHeadline}
@@ -47,38 +54,68 @@ IsStatusOfRun status = (status ≡ 0) ⊎ (status ≡ 3) ⊎ (status ≡ 4) ⊎ 
 abbrev pub IsStatusOfGen : ℕ → Type 0
 IsStatusOfGen status = (status ≡ 0) ⊎ (status ≡ 4) ⊎ (status ≡ 5) ⊎ (status ≡ 6) ⊎ (status ≡ 7) ⊎ (status ≡ 12)
 
--- What is known over every rack of the slots at the end of a session: at 0 at most one disk of the array
--- is absent, and at 5 the second of two different disks has failed.
-pub record IsEndOver (setup : Setup) (slot : ℕ → Slot) (status : ℕ) : Type 0 where
-  pub present : status ≡ 0 → IsNotDouble setup slot
-  pub two : status ≡ 5 → IsPairNamed slot
+-- those of a check of an array that is mounted
+abbrev pub IsCheckedStatus : ℕ → Type 0
+IsCheckedStatus status = (status ≡ 0) ⊎ (status ≡ 4) ⊎ (status ≡ 5) ⊎ (status ≡ 12) ⊎ (status ≡ 13)
 
--- A run served a mounted array: its headline, and what is known of its end over every rack.
+-- those of a check
+abbrev pub IsStatusOfCheck : ℕ → Type 0
+IsStatusOfCheck status = (status ≡ 0) ⊎ (status ≡ 4) ⊎ (status ≡ 5) ⊎ (status ≡ 6) ⊎ (status ≡ 7) ⊎ (status ≡ 12) ⊎ (status ≡ 13)
+
+-- What is known over every rack of a session that began on these slots, at its end: at 0 at most one disk of the array is
+-- absent; and at 5 the last line names two different disks, of which the second has failed since.
+pub record IsEndOver (setup : Setup) (began slot : ℕ → Slot) (written_before written : Option (List ℕ)) (status : ℕ) : Type 0 where
+  pub present : status ≡ 0 → IsNotDouble setup slot
+  pub two : status ≡ 5 → NamesTwoLost began slot written_before written
+
+-- A run served a mounted array: its headline, and what is known of its end over every rack. The session began on the
+-- slots that the mount has left.
 pub record ServesLines (slots : ℕ) (slot : ℕ → Slot) (after : Option Trail) (left_before left written_before written : Option (List ℕ)) (status : ℕ) (setup : Setup) (began : ℕ) (middle : Option Trail) : Type 0 where
   pub headline : Headline slots setup began middle after left_before left written_before written status
-  pub end : IsEndOver setup slot status
+  pub mounted : ℕ → Slot
+  pub end : IsEndOver setup mounted slot written_before written status
 
 -- The same of generated lines.
 pub record ServesGenerated (slots : ℕ) (slot : ℕ → Slot) (after : Option Trail) (written_before written : Option (List ℕ)) (number lines status : ℕ) (setup : Setup) (began : ℕ) (middle : Option Trail) : Type 0 where
   pub headline : GenHeadline slots setup began middle after written_before written number lines status
-  pub end : IsEndOver setup slot status
+  pub mounted : ℕ → Slot
+  pub end : IsEndOver setup mounted slot written_before written status
 
 -- the state of the first point of a session was told
 abbrev pub TellsState : ℕ → Option (List ℕ) → Option (List ℕ) → ℕ → Setup → ℕ → Option Trail → Type 0
 TellsState slots written_before written status setup began middle = IsMountedFromEach slots setup began middle (λ p. EndsWithLine written_before written (state_lines setup p) 0 status)
 
--- A check told its counts, or the halt that ended it.
-pub data TellsCounts (Counts : CheckReport → Type 0) (written_before written : Option (List ℕ)) (status : ℕ) : Type 0 where
-  counted : (report : CheckReport) → Counts report → EndsWithLine written_before written (check_line report) (check_status report) status → TellsCounts Counts written_before written status
-  halted : (halt : Halt) → EndsWithLine written_before written (halt_line halt) (status_of_halt halt) status → TellsCounts Counts written_before written status
+-- From this first point of a session a check is one flush, which is answered so. It leaves a rack that held all its writes,
+-- unless two disks are down.
+pub record ChecksFromPoint (slots : ℕ) (setup : Setup) (start final : Option Trail) (answer : Answer) (p : Point) : Type 0 where
+  pub flush : EndsStretch slots setup start final p (Flush ∷ []) answer
+  pub left : IsLeftByStretch slots flush.all
+
+-- A check told its counts, or the halt that ended it. On a rack that held a history nothing was counted, and its calls are
+-- those of one flush.
+pub data TellsCounts (slots : ℕ) (setup : Setup) (began : ℕ) (start final : Option Trail) (written_before written : Option (List ℕ)) (status : ℕ) : Type 0 where
+  counted : (report : CheckReport) → EndsWithLine written_before written (check_line report) (check_status report) status
+      → (IsSome final → IsMountedFromEach slots setup began start (λ p. (report ≡ no_faults) × ChecksFromPoint slots setup start final (Flushed (length p.history)) p))
+      → TellsCounts slots setup began start final written_before written status
+  halted : (halt : Halt) → EndsWithLine written_before written (halt_line halt) (status_of_halt halt) status
+      → (IsSome final → IsMountedFromEach slots setup began start (ChecksFromPoint slots setup start final (Halted halt)))
+      → TellsCounts slots setup began start final written_before written status
+
+-- A check of a mounted array: what it told, and what is known of its end over every rack. It began on the slots that the
+-- mount has left.
+pub record ChecksArray (slots : ℕ) (slot : ℕ → Slot) (after : Option Trail) (written_before written : Option (List ℕ)) (status : ℕ) (setup : Setup) (began : ℕ) (middle : Option Trail) : Type 0 where
+  pub told : TellsCounts slots setup began middle after written_before written status
+  pub mounted : ℕ → Slot
+  pub end : IsEndOver setup mounted slot written_before written status
+  pub found : status ≡ 13 → IsNotDouble setup slot
 
 -- What the program does on a command.
-abbrev pub DoesCommand : ℕ → (ℕ → Slot) → (ℕ → Slot) → Option Trail → Option Trail → Option (List ℕ) → Option (List ℕ) → Option (List ℕ) → Option (List ℕ) → ℕ → (Option Trail → Option Trail → CheckReport → Type 0) → (Bool → Type 0) → Command → Type 0
-DoesCommand slots old new before after left_before left written_before written status counts formats (Format force) = formats force
-DoesCommand slots old new before after left_before left written_before written status counts formats Run =
+abbrev pub DoesCommand : ℕ → (ℕ → Slot) → (ℕ → Slot) → Option Trail → Option Trail → Option (List ℕ) → Option (List ℕ) → Option (List ℕ) → Option (List ℕ) → ℕ → (Bool → Type 0) → Command → Type 0
+DoesCommand slots old new before after left_before left written_before written status formats (Format force) = formats force
+DoesCommand slots old new before after left_before left written_before written status formats Run =
     MountsAndThen slots old new before after written_before written status (ServesLines slots new after left_before left written_before written status)
-DoesCommand slots old new before after left_before left written_before written status counts formats Status = MountsAndThen slots old new before after written_before written status (TellsState slots written_before written status)
-DoesCommand slots old new before after left_before left written_before written status counts formats Check =
-    MountsAndThen slots old new before after written_before written status (λ setup began middle. TellsCounts (counts middle after) written_before written status)
-DoesCommand slots old new before after left_before left written_before written status counts formats (Gen number lines) =
+DoesCommand slots old new before after left_before left written_before written status formats Status = MountsAndThen slots old new before after written_before written status (TellsState slots written_before written status)
+DoesCommand slots old new before after left_before left written_before written status formats Check =
+    MountsAndThen slots old new before after written_before written status (ChecksArray slots new after written_before written status)
+DoesCommand slots old new before after left_before left written_before written status formats (Gen number lines) =
     MountsAndThen slots old new before after written_before written status (ServesGenerated slots new after written_before written number lines status)

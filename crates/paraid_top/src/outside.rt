@@ -1,10 +1,15 @@
-ghost use Rattle.std.specs.Prelude.{◌≡◌, ℕ, Bool, List, Option, None, IfErr, IfOk};
+ghost use Rattle.std.specs.Prelude.{◌≡◌, ℕ, Bool, List, length, Option, None, Some, IfErr, IfOk, IsSome, OnOk};
+ghost use Rattle.paraid_base.specs.declared.event.Answer.TheVariants.{Flushed, Halted};
+ghost use Rattle.paraid_base.specs.declared.event.Event.TheVariants.{Flush as FlushEvent};
 ghost use Rattle.paraid_base.specs.Told.{HasRisen};
 ghost use Rattle.paraid_rack.specs.Slots.{Slot};
+ghost use Rattle.paraid_rack.specs.Told.{Ran};
 ghost use Rattle.paraid_rack.specs.Trail.{Trail};
 ghost use Rattle.paraid_recover.specs.HeldMoments.{Extends};
-ghost use Rattle.paraid_scrub.specs.declared.kind.CheckReport.{CheckReport as Report};
+ghost use Rattle.paraid_scrub.specs.Counts.{no_faults};
+ghost use Rattle.paraid_serve.specs.Lost.{HaltsByTwoLost};
 ghost use Rattle.paraid_session.specs.Mount.{IsMountedFromEach};
+ghost use Rattle.paraid_session.specs.Turn.{GoesOn, Point};
 ghost use Rattle.paraid_state.specs.Showing.{BeganAt};
 ghost use Rattle.paraid_top.specs.Ends.{HandsBack};
 
@@ -62,11 +67,23 @@ pub trait Outside<R: Rack, A: Serves> {
 
 /// What counts what is false in an array.
 pub trait Checks<A: Serves> {
-    /// The counts that a check gives, by the records before and after it.
-    ghost counts: { Self → Option Trail → Option Trail → Report → Type 0 };
-
-    /// Keeps all writes, and counts what is false.
+    /// Keeps all writes, and counts what is false. It is one flush of a session.
     fn check(&self, array: &mut A) -> Result<CheckReport, Halt>
         requires going { A.halted array.old ≡ None }
-        ensures counts { IfOk result (counts self.now (A.told array.old) (A.told array.new)) };
+        ensures turn { OnOk result ((p : Point) → A.stands array.old p
+            → Ran (A.told array.old) (A.told array.new) (GoesOn (A.slots array.old)
+            (A.setup array.old) p FlushEvent (Flushed (length p.history)) (A.stands array.new))) }
+        ensures ended { IfErr result (λ halt. (p : Point) → A.stands array.old p
+            → Ran (A.told array.old) (A.told array.new) (GoesOn (A.slots array.old)
+            (A.setup array.old) p FlushEvent (Halted halt) (A.stands array.new))) }
+        ensures told { IsSome (A.told array.new) → IsSome (A.told array.old) }
+        ensures slots { A.slots array.new ≡ A.slots array.old }
+        ensures setup { A.setup array.new ≡ A.setup array.old }
+        ensures going { OnOk result (A.halted array.new ≡ None) }
+        ensures halt { IfErr result (λ halt. A.halted array.new ≡ Some halt) }
+        ensures two { HaltsByTwoLost (A.down array.old) FlushEvent (A.slot array.old)
+            (A.slot array.new) (A.halted array.new) }
+        // From where it stood there is nothing to count.
+        ensures sound { IfOk result (λ report. IsSome (A.told array.new) → (p : Point)
+            → A.stands array.old p → report ≡ no_faults) };
 }

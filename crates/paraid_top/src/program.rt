@@ -4,7 +4,10 @@ ghost use Rattle.paraid_console.specs.Ending.{EndsWithLine};
 ghost use Rattle.paraid_words.specs.declared.command.Command.{Command as CommandType};
 ghost use Rattle.paraid_words.specs.Words.{AskFor, usage_line};
 ghost use Rattle.paraid_state.specs.MountFaults.{mount_fault_line, mount_fault_status as mount_fault_status_of};
-ghost use Rattle.paraid_top.specs.Ends.{DoesCommand, IsStatusOfGen, IsStatusOfRun, MountsAndThen, ServesGenerated, ServesLines, TellsCounts, TellsState};
+ghost use Rattle.paraid_serve.specs.Calls.{IsNotDouble};
+ghost use Rattle.paraid_serve.specs.Lost.{NamesTwoLost};
+ghost use Rattle.paraid_session.specs.Mount.{IsMountedFromEach};
+ghost use Rattle.paraid_top.specs.Ends.{ChecksArray, DoesCommand, IsCheckedStatus, IsStatusOfCheck, IsStatusOfGen, IsStatusOfRun, MountsAndThen, ServesGenerated, ServesLines, TellsCounts, TellsState};
 
 use crate::outside::{Checks, Ended, Outside};
 use crate::text::{check_status, check_text};
@@ -123,11 +126,18 @@ pub fn state<K: Sink, R: Rack, A: Serves, O: Outside<R, A>>(
     }
 }
 
-// Tells the counts, or the halt that ended them.
+// Checks an array that was just mounted, by a mount that began at some moment: it tells the counts, or the halt that ended them.
 fn tell_counts<K: Sink, A: Serves, O: Checks<A>>(outside: &O, sink: &mut K, array: &mut A) -> u8
     requires going { A.halted array.old ≡ None }
-    ensures counts { TellsCounts (O.counts outside.now (A.told array.old) (A.told array.new))
-        (K.written sink.old) (K.written sink.new) result }
+    ensures counts { (began : ℕ) → IsMountedFromEach (A.slots array.old) (A.setup array.old) began
+        (A.told array.old) (A.stands array.old)
+        → TellsCounts (A.slots array.old) (A.setup array.old) began (A.told array.old)
+        (A.told array.new) (K.written sink.old) (K.written sink.new) result }
+    ensures status { IsCheckedStatus result }
+    ensures present { result ≡ 0 → IsNotDouble (A.setup array.old) (A.slot array.new) }
+    ensures found { result ≡ 13 → IsNotDouble (A.setup array.old) (A.slot array.new) }
+    ensures two { result ≡ 5 → NamesTwoLost (A.slot array.old) (A.slot array.new)
+        (K.written sink.old) (K.written sink.new) }
     ensures sink { result ≡ 4 → HasRisen (K.faults sink.old) (K.faults sink.new) }
 {
     let mut text = Text::new();
@@ -151,8 +161,9 @@ pub fn check<K: Sink, R: Rack, A: Serves, O: Outside<R, A> + Checks<A>>(
 ) -> Ended<R>
     ensures run { MountsAndThen (R.slot_count rack) (R.slot rack) (R.slot result.rack) (R.told rack)
         (R.told result.rack) (K.written sink.old) (K.written sink.new) result.status
-        (λ setup began middle. TellsCounts (O.counts outside.now middle (R.told result.rack))
+        (ChecksArray (R.slot_count rack) (R.slot result.rack) (R.told result.rack)
         (K.written sink.old) (K.written sink.new) result.status) }
+    ensures status { IsStatusOfCheck result.status }
     ensures sink { result.status ≡ 4 → HasRisen (K.faults sink.old) (K.faults sink.new) }
 {
     match outside.mount(rack) {
@@ -185,7 +196,7 @@ pub fn paraid<S: Source, K: Sink, R: Rack, A: Serves, O: Outside<R, A> + Checks<
     ensures does { (c : CommandType) → AskFor c (map string_bytes words.now.items)
         → DoesCommand (R.slot_count rack) (R.slot rack) (R.slot result.rack) (R.told rack)
         (R.told result.rack) (S.left source.old) (S.left source.new) (K.written sink.old)
-        (K.written sink.new) result.status (O.counts outside.now)
+        (K.written sink.new) result.status
         (λ force. O.formats outside.now force (R.slot_count rack) (R.slot rack)
         (R.slot result.rack) (R.told rack) (R.told result.rack) (S.left source.old)
         (S.left source.new) (S.faults source.old) (S.faults source.new) (K.written sink.old)

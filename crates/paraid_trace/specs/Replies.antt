@@ -3,7 +3,7 @@ use Rattle.std.specs.Prelude.{ℕ, ◌≤◌, ⊤, List, ◌++◌, codes, decima
 use Rattle.paraid_base.specs.declared.fault.Halt.{Halt}
 use Rattle.paraid_base.specs.declared.fault.Halt.TheVariants.{Two, Worn}
 use Rattle.paraid_base.specs.declared.event.Answer.{Answer}
-use Rattle.paraid_base.specs.declared.event.Answer.TheVariants.{Value, NoBlock, Wrote, Flushed, Ticked, Shift, Top, Lowest, Shifting, Failed, Replaced, NoDisk, Out, NotOut, NoFresh, Ration, State, Energy, Bad, Later, Halted}
+use Rattle.paraid_base.specs.declared.event.Answer.TheVariants.{Value, NoBlock, Wrote, Flushed, Ticked, Shift, Top, Lowest, Shifting, Failed, Replaced, NoDisk, Out, NotOut, NoFresh, Ration, State, Energy, Bad, Halted}
 use Rattle.paraid_trace.specs.BlockTexts.{block_text}
 use Rattle.paraid_trace.specs.StateTexts.{state_text}
 use Rattle.paraid_trace.specs.TickTexts.{tick_text}
@@ -33,7 +33,6 @@ answer_text (Ration disk) = codes "ration " ++ decimal disk
 answer_text (State status disks) = state_text status disks
 answer_text (Energy total) = codes "energy " ++ decimal total
 answer_text Bad = codes "bad"
-answer_text Later = codes "later"
 answer_text (Halted halt) = halt_text halt
 
 -- the line of an answer, with its newline

@@ -47,7 +47,6 @@ fn tell(answer: &Answer, into: &mut Text)
         Answer::State { status, disks } => tell_state(status, *disks, into),
         Answer::Energy { total } => tell_number(b"energy ", *total, into),
         Answer::Bad => into.push(b"bad"),
-        Answer::Later => into.push(b"later"),
         Answer::Halted(halt) => tell_halt(halt, into),
     }
 }

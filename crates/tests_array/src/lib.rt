@@ -7,3 +7,5 @@ mod arrays;
 mod lost;
 #[cfg(test)]
 mod played;
+#[cfg(test)]
+mod requests;

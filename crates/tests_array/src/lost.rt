@@ -8,10 +8,9 @@ ghost use Rattle.paraid_shift.specs.Serving.{IsCoreServing};
 
 use crate::arrays::{SMALL, new_array};
 use crate::played::{kinds, taken_over};
-use paraid_array::{
-    Asked, FailFault, ReplaceFault, ShiftFault, advance, down, read, replace, take_out, write_many,
-};
-use paraid_base::{Block, BlockNo, DiskNo, Out, Pairs, TickEvent};
+use crate::requests::{first_byte, written};
+use paraid_array::{Asked, FailFault, ReplaceFault, ShiftFault, advance, down, replace, take_out};
+use paraid_base::{BlockNo, DiskNo, Out, TickEvent};
 use paraid_core::Core;
 use paraid_gear::Windows;
 use paraid_memrack::{MemRack, Planned};
@@ -116,14 +115,7 @@ fn put(core: &mut Core<MemRack>, block: BlockNo, byte: u8) -> Option<Said>
     ensures known { IfSome result (λ said. IsOutKnown slots_of core.new) }
     ensures setup { IfSome result (λ said. (meta_of core.new).setup ≡ (meta_of core.old).setup) }
 {
-    let pairs = Pairs::one(block, &Block::from_array([byte; 512]));
-    let has = core.meta().setup.geometry.blocks();
-    if pairs.missing(has).is_some() || core.meta().epoch > 1000 || core.meta().writes > 1000 {
-        return None;
-    }
-    let Ok(number) = write_many(core, &pairs) else {
-        return None;
-    };
+    let number = written(core, block, byte)?;
     Some(Said::Number(number))
 }
 
@@ -135,14 +127,8 @@ fn get(core: &mut Core<MemRack>, block: BlockNo) -> Option<Said>
     ensures known { IfSome result (λ said. IsOutKnown slots_of core.new) }
     ensures setup { IfSome result (λ said. (meta_of core.new).setup ≡ (meta_of core.old).setup) }
 {
-    if block >= core.meta().setup.geometry.blocks() || core.meta().epoch > 1000 {
-        return None;
-    }
-    let mut into = Block::zero();
-    let Ok(()) = read(core, block, &mut into) else {
-        return None;
-    };
-    Some(Said::Byte(into.as_slice()[0]))
+    let byte = first_byte(core, block)?;
+    Some(Said::Byte(byte))
 }
 
 // One step.

@@ -8,8 +8,9 @@ ghost use Rattle.paraid_memrack.specs.Rules.{rack_slot_count, slots_of};
 ghost use Rattle.paraid_shift.specs.Serving.{AreAllLarge, IsCoreServing};
 
 use crate::arrays::{SMALL, new_array};
-use paraid_array::{Asked, ShiftFault, advance, down, flush, read, up, write_many};
-use paraid_base::{Block, BlockNo, DiskNo, Out, Pairs, TickEvent};
+use crate::requests::{first_byte, flushed, written};
+use paraid_array::{Asked, ShiftFault, advance, down, up};
+use paraid_base::{BlockNo, DiskNo, Out, TickEvent};
 use paraid_core::{Changes, Core, can_begin};
 use paraid_dirty::DirtyTable;
 use paraid_gear::Windows;
@@ -128,14 +129,7 @@ fn put(core: &mut Core<MemRack>, block: BlockNo, byte: u8) -> Option<Said>
     ensures serving { IfSome result (λ said. IsCoreServing rack_slot_count slots_of core.new) }
     ensures setup { IfSome result (λ said. (meta_of core.new).setup ≡ (meta_of core.old).setup) }
 {
-    let pairs = Pairs::one(block, &Block::from_array([byte; 512]));
-    let has = core.meta().setup.geometry.blocks();
-    if pairs.missing(has).is_some() || core.meta().epoch > 1000 || core.meta().writes > 1000 {
-        return None;
-    }
-    let Ok(number) = write_many(core, &pairs) else {
-        return None;
-    };
+    let number = written(core, block, byte)?;
     Some(Said::Number(number))
 }
 
@@ -145,14 +139,8 @@ fn get(core: &mut Core<MemRack>, block: BlockNo) -> Option<Said>
     ensures serving { IfSome result (λ said. IsCoreServing rack_slot_count slots_of core.new) }
     ensures setup { IfSome result (λ said. (meta_of core.new).setup ≡ (meta_of core.old).setup) }
 {
-    if block >= core.meta().setup.geometry.blocks() || core.meta().epoch > 1000 {
-        return None;
-    }
-    let mut into = Block::zero();
-    let Ok(()) = read(core, block, &mut into) else {
-        return None;
-    };
-    Some(Said::Byte(into.as_slice()[0]))
+    let byte = first_byte(core, block)?;
+    Some(Said::Byte(byte))
 }
 
 // A shift that is asked for.
@@ -177,12 +165,7 @@ fn keep(core: &mut Core<MemRack>) -> Option<Said>
     ensures serving { IfSome result (λ said. IsCoreServing rack_slot_count slots_of core.new) }
     ensures setup { IfSome result (λ said. (meta_of core.new).setup ≡ (meta_of core.old).setup) }
 {
-    if core.meta().epoch > 1000 {
-        return None;
-    }
-    let Ok(number) = flush(core) else {
-        return None;
-    };
+    let number = flushed(core)?;
     Some(Said::Number(number))
 }
 

@@ -252,12 +252,11 @@ fn answer(at: usize) -> Answer
         12 => Answer::NoFresh { disk: 2 },
         13 => Answer::Ration { disk: 4 },
         14 => Answer::Energy { total: 126900 },
-        15 => Answer::Later,
-        16 => Answer::Halted(Halt::Two(Two {
+        15 => Answer::Halted(Halt::Two(Two {
             first: 2,
             second: 3,
         })),
-        17 => Answer::Halted(Halt::Worn { count: 1 << 62 }),
+        16 => Answer::Halted(Halt::Worn { count: 1 << 62 }),
         _ => Answer::Bad,
     }
 }
@@ -280,13 +279,12 @@ fn an_answer_is_told_as_a_line(rt: HostRuntime) {
         "nofresh 2\n",
         "ration 4\n",
         "energy 126900\n",
-        "later\n",
         "two 2 3\n",
         "worn 4611686018427387904\n",
         "bad\n",
     ];
     let mut text = Text::new();
-    for at in 0..19 {
+    for at in 0..18 {
         reply(&answer(at), &mut text);
         assert_eq!(rt; text.as_slice(), lines[at].as_bytes());
     }

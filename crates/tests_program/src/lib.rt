@@ -3,6 +3,10 @@
 #![tactic(auto)]
 
 #[cfg(test)]
+mod checks;
+#[cfg(test)]
+mod flushes;
+#[cfg(test)]
 mod formats;
 #[cfg(test)]
 mod rows;

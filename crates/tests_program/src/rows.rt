@@ -1,6 +1,6 @@
 //! Worked traces of an array with gears: shifts, copies, rebuilds, decisions and rations.
 
-use crate::formats::NEVER;
+use crate::formats::{NEVER, NONE};
 use crate::runs::{array, outcome};
 use std::test::Fail;
 
@@ -22,7 +22,7 @@ const COPIED: Run = (
      state 4 steady dirty 1 fill 0 out none spins 0 0 0 0 0\n7=77\nend 1\n",
 );
 
-const ROWS: [Row; 13] = [
+const ROWS: [Row; 14] = [
     // A parked disk uses less.
     (
         &[],
@@ -96,6 +96,16 @@ const ROWS: [Row; 13] = [
             "down\nt\nt\nup\nt\ndown\n",
             "mounted 0 gear 5\nshift 5 4\ntick 5 moved 1 moving\ntick 4 moved 1 flipped\n\
              shift 4 5\ntick 5 moved 0 flipped\nration 4\nend 0\n",
+        )],
+    ),
+    // Four ticks allow one spin-up more.
+    (
+        &[(NONE, "burst = 1\nperiod = 4")],
+        &[(
+            "down\nt\nt\nup\nt\ndown\nt\ndown\n",
+            "mounted 0 gear 5\nshift 5 4\ntick 5 moved 1 moving\ntick 4 moved 1 flipped\n\
+             shift 4 5\ntick 5 moved 0 flipped\nration 4\ntick 5 moved 0 steady\nshift 5 4\n\
+             end 0\n",
         )],
     ),
     // A log disk is rebuilt: five rows, two stripes and a block of the map.

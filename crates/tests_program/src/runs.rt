@@ -101,6 +101,16 @@ fn every_line_is_answered(rt: HostRuntime) -> Result<(), Fail> {
             "w 3 11\nw 3 22\nf\nr 3\nr 40\n".as_bytes(),
             "wrote 1\nwrote 2\nflushed 2\n3=22\nnoblock 40\nend 2\n",
         ),
+        // The shortest period of the bytes is told, in lower case.
+        ("w 19 a1b2\nr 19\n".as_bytes(), "wrote 1\n19=a1b2\nend 1\n"),
+        (
+            "w 19 A1B2A1B2\nr 19\n".as_bytes(),
+            "wrote 1\n19=a1b2\nend 1\n",
+        ),
+        (
+            "r 20\nw 20 00\nr 19\n".as_bytes(),
+            "noblock 20\nnoblock 20\n19=00\nend 0\n",
+        ),
         ("".as_bytes(), "end 0\n"),
         ("r 0".as_bytes(), "0=00\nend 0\n"),
         (
@@ -137,11 +147,18 @@ fn every_line_is_answered(rt: HostRuntime) -> Result<(), Fail> {
 #[test]
 fn other_words_tell_which_there_are(rt: HostRuntime) -> Result<(), Fail> {
     let alloc = rt.alloc();
-    let lists: [&[&str]; 5] = [&["runs"], &["run", "x"], &["check"], &["gen"], &["--help"]];
+    let lists: [&[&str]; 5] = [
+        &["runs"],
+        &["run", "x"],
+        &["check", "x"],
+        &["gen"],
+        &["--help"],
+    ];
     for words in lists {
         let rack = bare_rack(&rt, DISKS, Planned::AtCall(NEVER));
         let (status, text, left) = outcome(alloc, words, b"f\n", NEVER, NEVER, rack)?;
-        let want = "usage: paraid format [--force] | run | status | gen --number N --lines L\n";
+        let want =
+            "usage: paraid format [--force] | run | status | check | gen --number N --lines L\n";
         assert_eq!(rt; text.as_slice(), want.as_bytes());
         assert_eq!(rt; status, 2);
         assert_eq!(rt; left.calls(), 0);
@@ -269,7 +286,7 @@ fn a_fault_ends_the_run_with_its_status(rt: HostRuntime) -> Result<(), Fail> {
 #[test]
 fn no_array_is_served(rt: HostRuntime) -> Result<(), Fail> {
     let alloc = rt.alloc();
-    let lists: [&[&str]; 2] = [&["run"], &["gen", "--number=0", "--lines=6"]];
+    let lists: [&[&str]; 3] = [&["run"], &["check"], &["gen", "--number=0", "--lines=6"]];
     for words in lists {
         let rack = bare_rack(&rt, DISKS, Planned::AtCall(NEVER));
         let (status, text, _rack) = outcome(alloc, words, b"r 0\n", NEVER, NEVER, rack)?;

@@ -1,6 +1,7 @@
 //! The program with `status` on arrays whose disks were changed since they were made.
 
 use crate::formats::{NEVER, NONE, bare_rack, configuration, formatted, shown};
+use crate::runs::outcome;
 use Change::{Filled, Fresh, Lost, MetaByte, Parked};
 use paraid_base::{Block, DiskNo, Place};
 use paraid_memrack::{MemRack, Pick, Planned};
@@ -168,6 +169,43 @@ fn a_changed_array_is_shown_or_refused(rt: HostRuntime) -> Result<(), Fail> {
 }
 
 #[test]
+fn a_refused_array_is_not_run(rt: HostRuntime) -> Result<(), Fail> {
+    for (changes, code, want) in STATES {
+        if code != 0 {
+            let rack = array(&rt, changes)?;
+            let (status, told, left) = outcome(rt.alloc(), &["run"], b"r 0\n", NEVER, NEVER, rack)?;
+            assert_eq!(rt; told.as_slice(), want.as_bytes(), "{changes:?}");
+            assert_eq!(rt; status, code);
+            assert!(rt; are_reads(&left));
+        }
+    }
+    Ok(())
+}
+
+// In gear 4, with disk 4 parked: a run of it, and one without disk 1, which has the copy of block 7.
+const LOW: [(&str, &str); 2] = [
+    (
+        "w 7 77\ns\nr 7\nw 0 01\ns\n",
+        "mounted 0 gear 4\nwrote 1\nstate 4 steady dirty 1 fill 0 out none spins 0 0 0 0 0\n7=77\n\
+         wrote 2\nstate 4 steady dirty 2 fill 0 out none spins 0 0 0 0 0\nend 2\n",
+    ),
+    ("r 7\n", "mounted 2 gear 4\n7=77\nend 2\n"),
+];
+
+#[test]
+fn an_array_of_zeros_is_served_in_a_low_gear(rt: HostRuntime) -> Result<(), Fail> {
+    let alloc = rt.alloc();
+    let mut rack = array(&rt, &[MetaByte(68, 4), Parked(4)])?;
+    for (input, want) in LOW {
+        let (status, told, left) = outcome(alloc, &["run"], input.as_bytes(), NEVER, NEVER, rack)?;
+        rack = without(alloc, &left, 1)?;
+        assert_eq!(rt; told.as_slice(), want.as_bytes());
+        assert_eq!(rt; status, 0);
+    }
+    Ok(())
+}
+
+#[test]
 fn a_lost_disk_is_marked_once(rt: HostRuntime) -> Result<(), Fail> {
     let alloc = rt.alloc();
     let mut rack = array(&rt, &[Lost(2)])?;
@@ -187,7 +225,8 @@ fn a_lost_disk_is_marked_once(rt: HostRuntime) -> Result<(), Fail> {
     Ok(())
 }
 
-const PICKS: [Pick; 4] = [Pick::Old, Pick::New, Pick::Filled(165), Pick::Mixed];
+/// What a stop may leave of what is loose.
+pub const PICKS: [Pick; 4] = [Pick::Old, Pick::New, Pick::Filled(165), Pick::Mixed];
 
 // Version 1 has no burst and no period.
 const VERSION_ONE: [Change; 3] = [MetaByte(9, 1), MetaByte(113, 0), MetaByte(117, 0)];

@@ -1,4 +1,4 @@
-use Rattle.std.proofs.Common.{◌≡◌, ℕ, ◌+◌, ◌<◌, sym, ap, subst, refl, arith, Ok, []}
+use Rattle.std.proofs.Common.{◌≡◌, ◌+◌, sym, ap, subst, refl, arith, Ok, []}
 use Rattle.paraid_base.specs.declared.state.Out.TheVariants.{No}
 use Rattle.paraid_base.specs.declared.state.Phase.TheVariants.{Steady, Up}
 use Rattle.paraid_record.specs.declared.meta.Meta.{Meta}

@@ -1,9 +1,9 @@
-use Rattle.std.proofs.Common.{◌∙◌}
+use Rattle.std.proofs.Common.{◌∙◌, sym}
 use Rattle.std.specs.Prelude.{true}
 use Rattle.paraid_core.proofs.AfterLemmas.{handed}
 use Rattle.paraid_array.proofs.OutLemmas.{known_then}
 use Rattle.paraid_array.proofs.ServiceLemmas.{service_then}
-use Rattle.paraid_array.proofs.TurnLemmas.{commit_lost, commits}
+use Rattle.paraid_array.proofs.TurnLemmas.{commit_lost, commits, commits_none}
 use Rattle.paraid_array.proofs.ToldLemmas.{told_core}
 use Rattle.paraid_array.proofs.failing.commit_writes.Goals as goal
 
@@ -30,3 +30,7 @@ returns-clause-told g c some = told_core g.R.Rack.told c.args.core.now c.commit.
 
 pub returns-in_err-commit-clause-told : goal.returns-in_err-commit-clause-told
 returns-in_err-commit-clause-told g c some = told_core g.R.Rack.told c.args.core.now c.commit.new.self _ (c.commit.ensures.calls) some
+
+pub returns-then-staged-eq0-clause-commits : goal.returns-then-staged-eq0-clause-commits
+returns-then-staged-eq0-clause-commits g c =
+    commits_none g.R.Rack.slot_count g.R.Rack.slot g.R.Rack.told g.met.R.Rack.agrees c.args.core.now c.requires.service.ready (sym c.staged.ensures ∙ c.if-staged-eq0.true)

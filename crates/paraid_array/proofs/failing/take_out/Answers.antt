@@ -1,4 +1,4 @@
-use Rattle.std.proofs.Common.{◌≡◌, ◌≢◌, ℕ, ◌<◌, ◌≤◌, Option, None, Some, ap, sym, subst, ◌∙◌}
+use Rattle.std.proofs.Common.{◌≡◌, ℕ, ◌<◌, ◌≤◌, Option, None, Some, ap, arith, sym, subst, ◌∙◌}
 use Rattle.paraid_image.specs.Out.{named_out}
 use Rattle.paraid_record.specs.declared.meta.Meta.{Meta}
 use Rattle.paraid_core.specs.Cores.{core_down}
@@ -81,3 +81,21 @@ returns-clause-told g c some = c.commit_writes.ensures.told (c.mark_gone.ensures
 
 pub returns-in_err-mark_gone-clause-told : goal.returns-in_err-mark_gone-clause-told
 returns-in_err-mark_gone-clause-told g c some = c.commit_writes.ensures.told (c.mark_gone.ensures.told some)
+
+pub returns-in_err-commit_writes-clause-no_fall : goal.returns-in_err-commit_writes-clause-no_fall
+returns-in_err-commit_writes-clause-no_fall g c = c.commit_writes.ensures.spared.no_fall
+
+pub returns-then-out-disk-clause-no_fall : goal.returns-then-out-disk-clause-no_fall
+returns-then-out-disk-clause-no_fall g c = c.commit_writes.ensures.spared.no_fall
+
+pub returns-in_err-mark_gone-clause-no_fall : goal.returns-in_err-mark_gone-clause-no_fall
+returns-in_err-mark_gone-clause-no_fall g c d =
+    let one = c.commit_writes.ensures.spared.no_fall d in
+    let two = c.mark_gone.ensures.spared.no_fall d in
+    omega (arith, one, two)
+
+pub returns-clause-no_fall : goal.returns-clause-no_fall
+returns-clause-no_fall g c d =
+    let one = c.commit_writes.ensures.spared.no_fall d in
+    let two = c.mark_gone.ensures.spared.no_fall d in
+    omega (arith, one, two)

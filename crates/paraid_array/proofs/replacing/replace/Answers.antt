@@ -4,6 +4,8 @@ use Rattle.std.proofs.lemmas.Bool.Decides.{nat_tests}
 use Rattle.paraid_image.specs.Out.{is_out, named_out}
 use Rattle.paraid_record.specs.declared.meta.Meta.{Meta}
 use Rattle.paraid_array.proofs.TurnLemmas.{replace_missing, replace_there}
+use Rattle.paraid_txn.specs.Stores.{store_rack}
+use Rattle.paraid_session.proofs.FaultLemmas.{same_counts}
 use Rattle.paraid_array.proofs.replacing.replace.Goals as goal
 
 not_named : (o : Option ℕ) (d : ℕ) → is_out o d ≡ false → o ≢ Some d
@@ -21,3 +23,9 @@ returns-then-not-names-clause-turn g c =
     let out = ap named_out c.out.ensures in
     replace_there g.R.Rack.slot_count g.R.Rack.told c.args.core.now c.args.disk (subst (λ (m : Meta). c.args.disk < m.setup.geometry.disks) c.meta.ensures c.if-disk-meta.false)
     (not_named (named_out c.args.core.now.meta.out) c.args.disk (subst (λ (o : Option ℕ). is_out o c.args.disk ≡ false) out (sym c.names.ensures ∙ c.if-not-names.true)))
+
+pub returns-then-disk-meta-clause-later : goal.returns-then-disk-meta-clause-later
+returns-then-disk-meta-clause-later g c = same_counts (g.R.Rack.slot (store_rack c.args.core.now.store))
+
+pub returns-then-not-names-clause-later : goal.returns-then-not-names-clause-later
+returns-then-not-names-clause-later g c = same_counts (g.R.Rack.slot (store_rack c.args.core.now.store))

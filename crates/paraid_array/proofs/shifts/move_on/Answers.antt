@@ -1,5 +1,4 @@
-use Rattle.std.proofs.Common.{◌≡◌, ◌+◌, Bool, refl, sym, ◌∙◌, ap, subst, []}
-use Rattle.paraid_base.specs.declared.state.Out.TheVariants.{No}
+use Rattle.std.proofs.Common.{◌+◌, refl, sym, ◌∙◌, subst, []}
 use Rattle.paraid_base.specs.States.{phase_to}
 use Rattle.paraid_moves.specs.MoveMetas.{meta_flipped_to}
 use Rattle.paraid_core.proofs.AfterLemmas.{handed}

@@ -1,4 +1,4 @@
-use Rattle.std.proofs.Common.{ℕ, sym, ◌∙◌, ap}
+use Rattle.std.proofs.Common.{sym, ◌∙◌, ap}
 use Rattle.paraid_base.specs.declared.state.Phase.{Phase}
 use Rattle.paraid_machine.specs.Moves.{units_by}
 use Rattle.paraid_record.specs.declared.meta.Meta.{Meta}

@@ -12,7 +12,7 @@ events-init g c = rw c.new-tally.ensures (record {
   slots = refl;
   setup = refl;
   halt = c.requires.halt;
-  failed = λ f. f;
+  since = λ start s. s;
   fits = fits_none;
 })
 
@@ -29,7 +29,7 @@ events-preserved g c =
       slots = e.slots ∙ i.slots;
       setup = e.setup ∙ i.setup;
       halt = e.halt;
-      failed = λ f. e.failed (i.failed f);
+      since = λ start s. e.since start (i.since start s);
       fits = rw new (fits_answer (tally_with_event c.events.tally c.generate-event.result) c.answer_event-answered.result (c.events.i + 1) c.events.i (fits_event c.events.tally c.generate-event.result c.events.i c.events.i i.fits));
     }
 

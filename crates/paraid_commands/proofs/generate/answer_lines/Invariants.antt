@@ -1,6 +1,7 @@
-use Rattle.std.proofs.Common.{◌≡◌, IsSome}
+use Rattle.std.proofs.Common.{◌≡◌, ℕ, IsSome}
 use Rattle.paraid_session.specs.Turn.{Point}
-use Rattle.paraid_serve.specs.Calls.{IsHaltOfFailed}
+use Rattle.paraid_rack.specs.Slots.{Slot}
+use Rattle.paraid_serve.specs.Lost.{HasServedSince}
 use Rattle.paraid_commands.specs.CountedLines.{CountsLines}
 use Rattle.paraid_commands.proofs.TallyLemmas.{Fits}
 use Rattle.paraid_commands.proofs.generate.answer_lines.Given as goal
@@ -12,6 +13,6 @@ invariant-events g l = record {
   slots : g.A.Serves.slots l.array ≡ g.A.Serves.slots l.initial.array;
   setup : g.A.Serves.setup l.array ≡ g.A.Serves.setup l.initial.array;
   halt : l.halt ≡ g.A.Serves.halted l.array;
-  failed : IsHaltOfFailed (g.A.Serves.slot l.initial.array) (g.A.Serves.halted l.initial.array) → IsHaltOfFailed (g.A.Serves.slot l.array) (g.A.Serves.halted l.array);
+  since : (start : ℕ → Slot) → HasServedSince start (g.A.Serves.slot l.initial.array) (g.A.Serves.halted l.initial.array) → HasServedSince start (g.A.Serves.slot l.array) (g.A.Serves.halted l.array);
   fits : Fits l.tally l.i l.i;
 }

@@ -1,4 +1,5 @@
-use Rattle.paraid_serve.proofs.HaltLemmas.{names_pair, no_halt_yet}
+use Rattle.paraid_base.proofs.ToldLemmas.{GrowsByBytes-then}
+use Rattle.paraid_serve.proofs.HaltLemmas.{names_two, no_event_yet}
 use Rattle.paraid_commands.proofs.LineLemmas.{done_gen, halted_gen, no_line_run, no_summary_run}
 use Rattle.paraid_commands.proofs.generate.serve_generated.Goals as goal
 
@@ -31,5 +32,8 @@ returns-in-Err-clause-run g c =
     (rw (c.as_slice-in-Err.ensures.value, c.reply.ensures.value, c.halt_status.ensures) at c.last-in-Err.ensures.ends)
 
 pub returns-in-Err-clause-two : goal.returns-in-Err-clause-two
-returns-in-Err-clause-two g c = names_pair _ c.in-Err.halt _ _ _ _ (c.in-Err.ensures.failed (c.answer_lines-tally.ensures.failed (no_halt_yet _ _ c.requires.going)))
-    (rw c.halt_status.ensures at c.last-in-Err.ensures.ends)
+returns-in-Err-clause-two g c five =
+    let start = g.A.Serves.slot c.args.array.now in
+    names_two start _ c.in-Err.halt _ _ _ _ _ (c.in-Err.ensures.since start (c.answer_lines-tally.ensures.since start (no_event_yet start _ c.requires.going))).lost
+    (GrowsByBytes-then _ _ _ _ _ (rw (c.as_slice.ensures.value, c.mount_text.ensures) at c.in-Ok.ensures.grows) (rw (c.as_slice-2.ensures.value, c.summary_text.ensures) at c.in-Ok-write_all.ensures.grows))
+    (rw (c.as_slice-in-Err.ensures.value, c.reply.ensures.value, c.halt_status.ensures) at c.last-in-Err.ensures.ends) five

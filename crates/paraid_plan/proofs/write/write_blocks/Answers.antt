@@ -5,6 +5,7 @@ use Rattle.paraid_base.specs.Pairs.{pairs_of}
 use Rattle.paraid_base.proofs.PairsLemmas.{length-pairs_of}
 use Rattle.paraid_plan.specs.RowBits.{TurnsBits, turns_cell_of, turns_in_new_row}
 use Rattle.paraid_plan.specs.RowWrites.{names_row, pairs_before, row_change}
+use Rattle.paraid_plan.proofs.GrowthLemmas.{pair_grows}
 use Rattle.paraid_plan.proofs.PairLemmas.{before_all, before_none, change_all, change_next, change_none, counted_few, counted_next, rows_change}
 use Rattle.paraid_plan.proofs.RowBitsLemmas.{bits_none, bits_then, rows_turn_next, rows_turn_none, writes_turn}
 use Rattle.paraid_plan.proofs.RowLemmas.{stages_none, stages_same, stages_then}
@@ -21,6 +22,7 @@ loop-at-init g c =
           (λ i x. ap (λ (z : Entry). rows_change n z (pairs_of p) i x) (before_none p) ∙ change_none n (pairs_of p) i x) (stages_none m s);
       bits = bits_none m s.dirty s.dirty _ refl (λ q e. rows_turn_none n p q e);
       few = omega arith;
+      grows = λ tells some. omega (arith, some);
       changes = omega arith;
       goes_on = c.requires.serves;
       leads = g.met.P.Plan.stays c.args.plan.now;
@@ -71,6 +73,9 @@ loop-at-preserved g c =
       bits = bits_then m (g.P.Plan.desk c.args.plan.now).dirty (g.P.Plan.desk c.loop-at.plan).dirty (g.P.Plan.desk c.write_row_of.new.plan).dirty
           (λ q e. names_row n (pairs_before p at) q && turns_cell_of n (pairs_of p) q e) (turns_in_new_row n p at) _ (λ q e. rows_turn_next n p at q e test) before.bits call.bits;
       few = omega (arith, next, few, more);
+      grows = λ tells some.
+          let was = g.met.P.Plan.told c.loop-at.plan c.write_row_of.new.plan call.leads tells in
+          pair_grows n p at m (g.P.Plan.desk c.args.plan.now) (g.P.Plan.desk c.loop-at.plan) (g.P.Plan.desk c.write_row_of.new.plan) (before.writes was).adds (call.write tells).adds (before.grows was) (call.grows tells);
       changes = omega (arith, next, turned, bit);
       goes_on = call.goes_on;
       leads = g.met.P.Plan.then _ _ _ before.leads call.leads;
@@ -110,3 +115,11 @@ returns-clause-bits g c =
     subst (λ (z : Entry). TurnsBits m (g.P.Plan.desk c.args.plan.now).dirty (g.P.Plan.desk c.loop-at.plan).dirty (λ q e. names_row n z q && turns_cell_of n (pairs_of p) q e))
     (ap (pairs_before p) same ∙ before_all p) c.loop-at.invariant.bits in
     λ t. λ q e. (all q e ∙ sym (writes_turn m (pairs_of p) (g.P.Plan.desk c.args.plan.now).dirty q e)) t
+
+pub returns-clause-grows : goal.returns-clause-grows
+returns-clause-grows g c tells =
+    let past = c.loop-at-test.false in
+    let until = c.loop-at.auto.at-end in
+    let p = c.args.pairs.now in
+    let some = p.some in
+    c.loop-at.invariant.grows tells (omega (arith, past, until, some))

@@ -12,6 +12,7 @@ invariant-loop-at g l = record {
       → StagesBlocks l.fn.m (g.P.Plan.desk l.fn.plan) (g.P.Plan.desk l.plan) (rows_change l.fn.m.setup.geometry.disks (pairs_before l.fn.pairs l.at) (pairs_of l.fn.pairs));
   bits : TurnsBits l.fn.m (g.P.Plan.desk l.fn.plan).dirty (g.P.Plan.desk l.plan).dirty (λ q e. names_row l.fn.m.setup.geometry.disks (pairs_before l.fn.pairs l.at) q && turns_cell_of l.fn.m.setup.geometry.disks (pairs_of l.fn.pairs) q e);
   few : length (g.P.Plan.desk l.plan).staged ≤ length (g.P.Plan.desk l.fn.plan).staged + 10 * counted l.fn.m.setup.geometry.disks (pairs_before l.fn.pairs l.at) (pairs_of l.fn.pairs);
+  grows : g.P.Plan.tells l.plan → 1 ≤ l.at → length (g.P.Plan.desk l.fn.plan).staged + 1 ≤ length (g.P.Plan.desk l.plan).staged;
   changes : g.P.Plan.changes l.plan ≤ g.P.Plan.changes l.fn.plan + 2 * counted l.fn.m.setup.geometry.disks (pairs_before l.fn.pairs l.at) (pairs_of l.fn.pairs);
   goes_on : g.P.Plan.serves l.plan l.fn.m;
   leads : g.P.Plan.leads l.fn.plan l.plan;

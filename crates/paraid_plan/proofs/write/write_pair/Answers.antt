@@ -4,6 +4,9 @@ use Rattle.paraid_base.specs.declared.block.Block.{Block}
 use Rattle.paraid_base.specs.Cells.{cell_block, parity_disk}
 use Rattle.paraid_base.specs.Xor.{zero_block}
 use Rattle.paraid_plan.specs.Desk.{cell_desk}
+use Rattle.paraid_image.specs.Out.{named_out}
+use Rattle.paraid_plan.proofs.GrowthLemmas.{cell_grows}
+use Rattle.paraid_plan.proofs.OutsLemmas.{only_out}
 use Rattle.paraid_plan.proofs.PairLemmas.{one_away_is, one_here_is}
 use Rattle.paraid_plan.proofs.PartLemmas.{elsewhere_old, elsewhere_turns, pair_old, pair_turns}
 use Rattle.paraid_plan.proofs.RowBitsLemmas.{and_false, bits_cell, bits_none, one_named, one_unnamed}
@@ -100,3 +103,18 @@ returns-clause-bits g c =
     bits_cell c.args.m.now c.args.r c.home-q.result.1 (g.P.Plan.desk c.args.plan.now).dirty (g.P.Plan.desk c.write_cell.new.plan).dirty _ c.in_ok-write_cell.ensures.bits
     (λ q e. ap (λ (z : Bool). q == c.args.r && z)
     (one_named n (get_or c.args.pairs.now.blocks c.args.at 0) c.args.r c.home-q.result.0 c.home-q.result.1 (get_or c.args.pairs.now.bytes c.args.at zero_block) e c.home-q.ensures.row c.home-q.ensures.disk c.if-q-r.false))
+
+pub returns-then-q-r-clause-some : goal.returns-then-q-r-clause-some
+returns-then-q-r-clause-some g c tells out =
+    let none = one_away_is c.args.m.now.setup.geometry.disks (get_or c.args.pairs.now.blocks c.args.at 0) c.args.r c.home-q.result.0 c.home-q.ensures.row c.if-q-r.true in
+    omega (arith, none)
+
+pub returns-clause-some : goal.returns-clause-some
+returns-clause-some g c tells out =
+    let m = c.args.m.now in
+    let n = m.setup.geometry.disks in
+    let d = c.home-q.result.1 in
+    let one = one_here_is n (get_or c.args.pairs.now.blocks c.args.at 0) c.args.r c.home-q.result.0 c.home-q.ensures.row c.if-q-r.false in
+    let more = cell_grows m (g.P.Plan.desk c.args.plan.now) (g.P.Plan.desk c.write_cell.new.plan) c.args.r d _ _ (c.in_ok-write_cell.ensures.desk tells)
+    (only_out (named_out m.out) (parity_disk n c.args.r) d out (λ is. c.home-q.ensures.not_parity (is ∙ ap (parity_disk n) (sym c.if-q-r.false)))) in
+    omega (arith, one, more)

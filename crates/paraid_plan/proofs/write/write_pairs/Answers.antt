@@ -26,6 +26,7 @@ loop-at-init g c =
       parity = λ tells. refl;
       bits = bits_none m s.dirty s.dirty _ refl (λ q e. cells_none n p c.args.r q e);
       few = omega (arith, none);
+      some = λ tells out. omega (arith, none);
       changes = omega (arith, none);
       goes_on = c.requires.serves;
       leads = g.met.P.Plan.stays c.args.plan.now;
@@ -84,6 +85,7 @@ loop-at-preserved g c =
       bits = bits_then m a.dirty b.dirty d.dirty (λ q e. q == r && names_cell n (pairs_before p at) r e) (λ q e. q == r && names_cell n ((get_or p.blocks at 0, get_or p.bytes at zero_block) ∷ []) r e) _
           (λ q e. cells_next n p at r q e test) before.bits call.bits;
       few = omega (arith, more, few, room);
+      some = λ tells out. (let first = before.some (law tells) out in let next = call.some tells out in omega (arith, more, first, next));
       changes = omega (arith, more, turned, one);
       goes_on = call.goes_on;
       leads = g.met.P.Plan.then _ _ _ before.leads call.leads;
@@ -140,3 +142,14 @@ returns-clause-bits g c =
     let same : c.loop-at.at ≡ p.count = omega (arith, past, until) in
     subst (λ (z : Entry). TurnsBits c.args.m.now (g.P.Plan.desk c.args.plan.now).dirty (g.P.Plan.desk c.loop-at.plan).dirty (λ q e. q == c.args.r && names_cell c.args.m.now.setup.geometry.disks z c.args.r e))
     (ap (pairs_before p) same ∙ before_all p) c.loop-at.invariant.bits
+
+pub returns-clause-some : goal.returns-clause-some
+returns-clause-some g c tells out =
+    let past = c.loop-at-test.false in
+    let until = c.loop-at.auto.at-end in
+    let p = c.args.pairs.now in
+    let same : c.loop-at.at ≡ p.count = omega (arith, past, until) in
+    let all : count_in_row c.args.m.now.setup.geometry.disks (pairs_before p c.loop-at.at) c.args.r ≡ count_in_row c.args.m.now.setup.geometry.disks (pairs_of p) c.args.r =
+    ap (λ (z : Entry). count_in_row c.args.m.now.setup.geometry.disks z c.args.r) (ap (pairs_before p) same ∙ before_all p) in
+    let some = c.loop-at.invariant.some tells out in
+    omega (arith, all, some)

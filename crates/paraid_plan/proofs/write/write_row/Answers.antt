@@ -1,9 +1,10 @@
-use Rattle.std.specs.Prelude.{◌==◌, ◌&&◌, ℕ, Bool}
+use Rattle.std.specs.Prelude.{◌==◌, ◌&&◌, ◌≡◌, ℕ, Bool, Some}
 use Rattle.std.proofs.Common.{◌∙◌, ap, refl, subst, arith}
 use Rattle.paraid_base.specs.declared.block.Block.{Block}
 use Rattle.paraid_base.specs.Pairs.{pairs_of}
 use Rattle.paraid_plan.specs.Desk.{cell_desk}
 use Rattle.paraid_plan.specs.RowBits.{TurnsBits, names_cell}
+use Rattle.paraid_plan.proofs.GrowthLemmas.{row_grows}
 use Rattle.paraid_plan.proofs.RowBitsLemmas.{bits_cell, bits_then, row_turns}
 use Rattle.paraid_plan.proofs.WrittenBitsLemmas.{map_bits}
 use Rattle.paraid_plan.proofs.RowLemmas.{row_from_calls}
@@ -90,3 +91,13 @@ returns-clause-bits g c =
     (subst (λ (z : ℕ → ℕ → Bool). TurnsBits m z mid (λ q e. q == c.args.r && names_cell n ws c.args.r e)) c.in_ok-read_row.ensures.bits c.in_ok-write_pairs.ensures.bits)
     (bits_cell m c.args.r c.parity_disk-p.result mid last _
     (map_bits m (g.P.Plan.desk c.write_cell.new.plan) (g.P.Plan.desk c.stage_map.new.plan) _ c.has_changed-staged.result c.stage_map.ensures.map ∙ c.in_ok-write_cell.ensures.bits) (λ q e. refl))
+
+pub returns-clause-grows : goal.returns-clause-grows
+returns-clause-grows g c tells =
+    let law = g.met.P.Plan.told in
+    let t3 = law c.write_cell.new.plan c.stage_map.new.plan c.stage_map.ensures.leads tells in
+    let t2 = law c.write_pairs.new.plan c.write_cell.new.plan c.in_ok-write_cell.ensures.leads t3 in
+    let p : c.parity_disk-p.result ≡ _ = c.parity_disk-p.ensures.value in
+    row_grows c.args.m.now (g.P.Plan.desk c.args.plan.now) (g.P.Plan.desk c.read_row.new.plan) (g.P.Plan.desk c.write_pairs.new.plan) (g.P.Plan.desk c.write_cell.new.plan) (g.P.Plan.desk c.stage_map.new.plan)
+    c.args.r c.parity_disk-p.result _ _ _ _ _ c.in_ok-read_row.ensures.staged (c.in_ok-write_pairs.ensures.adds t2) (λ out. c.in_ok-write_pairs.ensures.some t2 (out ∙ ap Some p)) c.requires.some
+    (c.in_ok-write_cell.ensures.desk t3) c.stage_map.ensures.map

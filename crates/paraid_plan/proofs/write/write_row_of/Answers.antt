@@ -4,6 +4,7 @@ use Rattle.paraid_base.specs.Cells.{home_row}
 use Rattle.paraid_base.specs.History.{last_of}
 use Rattle.paraid_base.specs.Pairs.{pairs_of}
 use Rattle.paraid_plan.specs.RowWrites.{count_in_row, names_row, pairs_before, row_change}
+use Rattle.paraid_plan.proofs.GrowthLemmas.{old_row_none}
 use Rattle.paraid_plan.proofs.ManyLemmas.{pair_below}
 use Rattle.paraid_plan.proofs.PairLemmas.{new_row_change, new_row_some, old_row_change, pair_counted}
 use Rattle.paraid_plan.specs.RowBits.{turns_cell_of}
@@ -87,3 +88,10 @@ returns-clause-bits g c =
     bits_same c.args.m.now (g.P.Plan.desk c.args.plan.now).dirty (g.P.Plan.desk c.write_row.new.plan).dirty (λ q e. q == c.home-r.result.0 && turns_cell_of n (pairs_of p) c.home-r.result.0 e) _
     (λ q e. new_row_turns n p c.args.at q e c.home-r.result.0 c.home-r.ensures.row (ap (names_row n (pairs_before p c.args.at)) (sym c.home-r.ensures.row) ∙ sym c.is_row_before.ensures ∙ c.if-is_row_before.false))
     c.in_ok-write_row.ensures.bits
+
+pub returns-then-is_row_before-clause-grows : goal.returns-then-is_row_before-clause-grows
+returns-then-is_row_before-clause-grows g c tells some =
+    let n = c.args.m.now.setup.geometry.disks in
+    let p = c.args.pairs.now in
+    let none = old_row_none n p c.args.at (ap (names_row n (pairs_before p c.args.at)) (sym c.home-r.ensures.row) ∙ sym c.is_row_before.ensures ∙ c.if-is_row_before.true) in
+    omega (arith, none, some)

@@ -1,12 +1,12 @@
 use Rattle.std.proofs.Common.{◌≡◌, ap, ◌∙◌, Some}
-use Rattle.paraid_program.specs.declared.words.Task.TheVariants.{Format, Run, Status, Gen}
-use Rattle.paraid_program.proofs.EndLemmas.{not_read}
+use Rattle.paraid_program.specs.declared.words.Task.TheVariants.{Format, Run, Status, Check, Gen}
+use Rattle.paraid_program.proofs.EndLemmas.{check_not_read, not_read}
 use Rattle.paraid_program.proofs.WordLemmas.{asks, does_it, nothing_asked}
 use Rattle.paraid_program.specs.Tasks.{TakesSource}
 use Rattle.paraid_program.specs.declared.words.Task.{Task}
 use Rattle.paraid_program.proofs.top.paraid.Given.{Over}
 use Rattle.paraid_program.proofs.top.paraid.Goals as goal
-use Rattle.paraid_program.proofs.top.paraid.Goals.{In-Some-Format, In-Some-Gen, In-Some-Run, In-Some-Status}
+use Rattle.paraid_program.proofs.top.paraid.Goals.{In-Some-Check, In-Some-Format, In-Some-Gen, In-Some-Run, In-Some-Status}
 
 format_is : (g : Over) (c : In-Some-Format g) → c.read_task.result ≡ Some (Format c.in-Some-Format.force)
 format_is g c = c.in-Some-Format.is ∙ ap Some c.in-Some-Format.field-0-is
@@ -16,6 +16,9 @@ run_is g c = c.in-Some-Run.is ∙ ap Some c.in-Some-Run.field-0-is
 
 status_is : (g : Over) (c : In-Some-Status g) → c.read_task.result ≡ Some Status
 status_is g c = c.in-Some-Status.is ∙ ap Some c.in-Some-Status.field-0-is
+
+check_is : (g : Over) (c : In-Some-Check g) → c.read_task.result ≡ Some Check
+check_is g c = c.in-Some-Check.is ∙ ap Some c.in-Some-Check.field-0-is
 
 gen_is : (g : Over) (c : In-Some-Gen g) → c.read_task.result ≡ Some (Gen c.in-Some-Gen.number c.in-Some-Gen.lines)
 gen_is g c = c.in-Some-Gen.is ∙ ap Some c.in-Some-Gen.field-0-is
@@ -76,3 +79,18 @@ returns-in-Some-Gen-clause-untouched g c none = absurd (none (Gen c.in-Some-Gen.
 
 pub returns-in-Some-Gen-clause-source : goal.returns-in-Some-Gen-clause-source
 returns-in-Some-Gen-clause-source g c three = absurd (not_read _ c.generate.ensures.status three)
+
+pub returns-in-Some-Check-clause-does : goal.returns-in-Some-Check-clause-does
+returns-in-Some-Check-clause-does g c = does_it _ _ c.read_task.ensures.exact _ Check (check_is g (goal.at.returns-in-Some-Check-clause-does g c).In-Some-Check) (c.check.ensures.run, c.check.ensures.status)
+
+pub returns-in-Some-Check-clause-end : goal.returns-in-Some-Check-clause-end
+returns-in-Some-Check-clause-end g c t takes asked zero = absurd (does_it _ _ c.read_task.ensures.exact (λ (u : Task). TakesSource u → ⊥) Check (check_is g (goal.at.returns-in-Some-Check-clause-end g c).In-Some-Check) (λ x. x) t asked takes)
+
+pub returns-in-Some-Check-clause-words : goal.returns-in-Some-Check-clause-words
+returns-in-Some-Check-clause-words g c none = absurd (none Check (asks _ _ c.read_task.ensures.exact Check (check_is g (goal.at.returns-in-Some-Check-clause-words g c).In-Some-Check)))
+
+pub returns-in-Some-Check-clause-untouched : goal.returns-in-Some-Check-clause-untouched
+returns-in-Some-Check-clause-untouched g c none = absurd (none Check (asks _ _ c.read_task.ensures.exact Check (check_is g (goal.at.returns-in-Some-Check-clause-untouched g c).In-Some-Check)))
+
+pub returns-in-Some-Check-clause-source : goal.returns-in-Some-Check-clause-source
+returns-in-Some-Check-clause-source g c three = absurd (check_not_read _ c.check.ensures.status three)

@@ -8,12 +8,13 @@ use Rattle.paraid_core.specs.Cores.{CoreStandsFor, IsCoreHeld, core_down}
 use Rattle.paraid_core.specs.Replaced.{CoreCommitted}
 use Rattle.paraid_core.proofs.AfterLemmas.{down_named}
 use Rattle.paraid_core.proofs.ChainLemmas.{ended, keeps_low}
-use Rattle.paraid_rebuild.proofs.ReplacingLemmas.{after, replaced_then}
+use Rattle.paraid_rebuild.proofs.ReplacingLemmas.{after, replaced_then, two_since}
 use Rattle.paraid_txn.specs.Stores.{store_rack}
 use Rattle.paraid_event.specs.Service.{service_of}
 use Rattle.paraid_core.proofs.AfterLemmas.{handed}
 use Rattle.paraid_event.specs.Replacements.LosesReplaced.{second}
 use Rattle.paraid_rebuild.proofs.LossLemmas.{LosesBegun}
+use Rattle.paraid_session.proofs.FaultLemmas.{counts_then, no_fall_counts}
 use Rattle.paraid_rebuild.proofs.replaced.begin.Goals as goal
 
 pub returns-clause-fresh : goal.returns-clause-fresh
@@ -92,3 +93,29 @@ returns-in_err-there-clause-loses g c =
     let one = c.in_ok-commit_gone.ensures.event samples served energy h lo in
     let fresh = c.in_err-there.ensures.loses samples served energy h lo in
     second (g.R.Rack.told (store_rack b.store)) fresh.attached one.0 (service_of g.R.Rack.slot_count b samples served energy) one.1 fresh.attach fresh.ran)
+
+pub returns-in_err-commit_gone-clause-later : goal.returns-in_err-commit_gone-clause-later
+returns-in_err-commit_gone-clause-later g c = no_fall_counts (g.R.Rack.slot (store_rack c.args.core.now.store)) (g.R.Rack.slot (store_rack c.commit_gone.new.core.store)) c.commit_gone.ensures.spared.no_fall
+
+pub returns-in_err-there-clause-later : goal.returns-in_err-there-clause-later
+returns-in_err-there-clause-later g c =
+    let old = g.R.Rack.slot (store_rack c.args.core.now.store) in
+    let mid = g.R.Rack.slot (store_rack c.commit_gone.new.core.store) in
+    counts_then old mid (g.R.Rack.slot (store_rack c.bring_fresh.new.core.store)) (no_fall_counts old mid c.commit_gone.ensures.spared.no_fall) c.bring_fresh.ensures.later
+
+pub returns-clause-later : goal.returns-clause-later
+returns-clause-later g c =
+    let old = g.R.Rack.slot (store_rack c.args.core.now.store) in
+    let mid = g.R.Rack.slot (store_rack c.commit_gone.new.core.store) in
+    counts_then old mid (g.R.Rack.slot (store_rack c.bring_fresh.new.core.store)) (no_fall_counts old mid c.commit_gone.ensures.spared.no_fall) c.bring_fresh.ensures.later
+
+pub returns-in_err-there-clause-two : goal.returns-in_err-there-clause-two
+returns-in_err-there-clause-two g c =
+    let a = c.args.core.now in
+    let b = c.commit_gone.new.core in
+    let new = c.bring_fresh.new.core in
+    let was = c.in_ok-commit_gone.ensures in
+    let down : core_down b ≡ Some c.args.disk = ap (λ (o : Option ℕ). or_else o (named_out b.meta.out)) was.named in
+    let known : core_down a ≡ Some c.args.disk = down_named (named_of a.store) a.meta c.requires.serving.ready.one c.args.disk c.requires.out in
+    handed _ c.from_residual-in_err-there.result _ c.from_residual-in_err-there.ensures.1
+    (two_since (core_down a) (core_down b) (g.R.Rack.slot (store_rack a.store)) (g.R.Rack.slot (store_rack b.store)) (g.R.Rack.slot (store_rack new.store)) _ (down ∙ sym known) c.commit_gone.ensures.spared.no_fall c.in_err-there.ensures.two)

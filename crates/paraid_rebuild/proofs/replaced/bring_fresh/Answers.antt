@@ -29,6 +29,8 @@ use Rattle.paraid_event.specs.Service.{Service, service_of}
 use Rattle.paraid_shift.proofs.ServingLemmas.{copies_kept}
 use Rattle.paraid_rebuild.proofs.ReplacementEventLemmas.{attach_told, commit_told, commits_all, fresh_stays, fresh_there, marked_told, same_service}
 use Rattle.paraid_rebuild.proofs.LossLemmas.{LosesBrought, commit_lost_fresh, tells_by}
+use Rattle.paraid_session.proofs.FaultLemmas.{counts_then, no_fall_counts}
+use Rattle.paraid_rebuild.proofs.CountLemmas.{attached_counts, failed_counts}
 use Rattle.paraid_rebuild.proofs.replaced.bring_fresh.Goals as goal
 
 pub returns-then-not-attach-clause-leaves : goal.returns-then-not-attach-clause-leaves
@@ -396,3 +398,28 @@ returns-in_err-commit-clause-loses g c =
       ran = commit_lost_fresh (g.R.Rack.told (store_rack b.store)) (g.R.Rack.told (store_rack new.store)) k_fresh h lo _ (with_fresh k c.args.disk) equal
           c.commit.ensures.calls (c.commit.ensures.moments_since it.absent h lo) (c.commit.ensures.whole h lo) (tells_by (g.R.Rack.told (store_rack b.store)) (g.R.Rack.told (store_rack new.store)) (core_down b) (named_out b.meta.out) _ down c.in_err-commit.ensures.tells);
     })
+
+pub returns-then-not-attach-clause-later : goal.returns-then-not-attach-clause-later
+returns-then-not-attach-clause-later g c =
+    failed_counts (g.R.Rack.slot (store_rack c.args.core.now.store)) (g.R.Rack.slot (store_rack c.attach.new.self.store)) c.args.disk c.attach.ensures.others (c.attach.ensures.lost c.if-not-attach.true).risen
+
+pub returns-in_err-commit-clause-later : goal.returns-in_err-commit-clause-later
+returns-in_err-commit-clause-later g c =
+    let old = g.R.Rack.slot (store_rack c.args.core.now.store) in
+    let mid = g.R.Rack.slot (store_rack c.attach.new.self.store) in
+    let new = g.R.Rack.slot (store_rack c.commit.new.self.store) in
+    counts_then old mid new (attached_counts old mid c.args.disk c.attach.ensures.others (ap (λ (s : Slot). s.faults) (c.attach.ensures.attached c.if-not-attach.false))) (no_fall_counts mid new c.commit.ensures.spared.no_fall)
+
+pub returns-then-is_gone-clause-later : goal.returns-then-is_gone-clause-later
+returns-then-is_gone-clause-later g c =
+    let old = g.R.Rack.slot (store_rack c.args.core.now.store) in
+    let mid = g.R.Rack.slot (store_rack c.attach.new.self.store) in
+    let new = g.R.Rack.slot (store_rack c.commit.new.self.store) in
+    counts_then old mid new (attached_counts old mid c.args.disk c.attach.ensures.others (ap (λ (s : Slot). s.faults) (c.attach.ensures.attached c.if-not-attach.false))) (no_fall_counts mid new c.commit.ensures.spared.no_fall)
+
+pub returns-clause-later : goal.returns-clause-later
+returns-clause-later g c =
+    let old = g.R.Rack.slot (store_rack c.args.core.now.store) in
+    let mid = g.R.Rack.slot (store_rack c.attach.new.self.store) in
+    let new = g.R.Rack.slot (store_rack c.commit.new.self.store) in
+    counts_then old mid new (attached_counts old mid c.args.disk c.attach.ensures.others (ap (λ (s : Slot). s.faults) (c.attach.ensures.attached c.if-not-attach.false))) (no_fall_counts mid new c.commit.ensures.spared.no_fall)

@@ -5,7 +5,7 @@ use Rattle.paraid_base.specs.declared.event.Answer.TheVariants.{Bad as IsBad}
 use Rattle.paraid_rack.specs.Told.{Ran}
 use Rattle.paraid_session.specs.Turn.{GoesOn}
 use Rattle.paraid_serve.proofs.FormLemmas.{halted_kind, not_bad}
-use Rattle.paraid_serve.proofs.HaltLemmas.{has_failed}
+use Rattle.paraid_serve.proofs.HaltLemmas.{served_more}
 use Rattle.paraid_serve.proofs.StretchLemmas.{bad_turn, again_turn}
 use Rattle.paraid_serve.proofs.answer.answer.Goals as goal
 
@@ -25,10 +25,10 @@ returns-in-Some g c =
       slots = refl;
       setup = refl;
       halt = c.requires.halt;
-      failed = λ f. f;
+      since = λ start s. s;
       kind = halted_kind event c.in-Some.halt good;
       few = tt;
     }
 
-pub returns-clause-failed : goal.returns-clause-failed
-returns-clause-failed g c f = has_failed _ _ _ c.serve-answer.ensures.two
+pub returns-clause-since : goal.returns-clause-since
+returns-clause-since g c start s = served_more start _ _ _ _ _ _ c.serve-answer.ensures.two c.serve-answer.ensures.later s

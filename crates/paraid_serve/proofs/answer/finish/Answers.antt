@@ -1,7 +1,8 @@
-use Rattle.std.proofs.Common.{refl, sym, ◌∙◌, ◌≢◌, subst}
+use Rattle.std.proofs.Common.{Option, refl, sym, ◌∙◌, ◌≢◌, subst}
 use Rattle.paraid_base.specs.declared.event.Event.TheVariants.{Bad, Flush}
-use Rattle.paraid_serve.specs.Calls.{IsHaltOfFailed}
-use Rattle.paraid_serve.proofs.HaltLemmas.{has_failed}
+use Rattle.paraid_base.specs.declared.fault.Halt.{Halt}
+use Rattle.paraid_serve.specs.Lost.{HasServedSince}
+use Rattle.paraid_serve.proofs.HaltLemmas.{served_more}
 use Rattle.paraid_serve.proofs.StretchLemmas.{again_turn}
 use Rattle.paraid_serve.proofs.answer.finish.Goals as goal
 
@@ -15,8 +16,8 @@ returns-in-Some g c = record {
   slots = refl;
   setup = refl;
   going = tt;
-  failed = λ f. subst (IsHaltOfFailed (g.A.Serves.slot c.args.array.now)) (sym c.requires.halt ∙ c.in-Some.is) f;
+  since = λ start s. subst (λ (o : Option Halt). HasServedSince start (g.A.Serves.slot c.args.array.now) o) (sym c.requires.halt ∙ c.in-Some.is) s;
 }
 
-pub returns-in-Err-clause-failed : goal.returns-in-Err-clause-failed
-returns-in-Err-clause-failed g c f two is = has_failed _ _ _ c.in-Err.ensures.two two (c.in-Err.ensures.halt ∙ is)
+pub returns-in-Err-clause-since : goal.returns-in-Err-clause-since
+returns-in-Err-clause-since g c start s = subst (λ (o : Option Halt). HasServedSince start (g.A.Serves.slot c.flush.new.self) o) c.in-Err.ensures.halt (served_more start _ _ _ _ _ _ c.flush.ensures.two c.flush.ensures.later s)

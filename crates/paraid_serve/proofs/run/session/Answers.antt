@@ -1,5 +1,5 @@
 use Rattle.std.proofs.Common.{sym, ◌∙◌, arith, refl}
-use Rattle.paraid_serve.proofs.HaltLemmas.{no_halt_yet}
+use Rattle.paraid_serve.proofs.HaltLemmas.{no_event_yet}
 use Rattle.paraid_serve.proofs.Sofar.{sofar_start, sofar_more, ends_well, ends_halted, ends_at_source, ends_too_long, ends_at_sink}
 use Rattle.paraid_serve.proofs.run.session.Goals as goal
 
@@ -9,7 +9,7 @@ lines-init g c = record {
   slots = refl;
   setup = refl;
   halt = sym c.requires.going;
-  failed = no_halt_yet _ _ c.requires.going;
+  since = no_event_yet _ _ c.requires.going;
   source = omega arith;
   sink = omega arith;
 }
@@ -25,7 +25,7 @@ lines-preserved g c =
       slots = e.slots ∙ i.slots;
       setup = e.setup ∙ i.setup;
       halt = e.halt;
-      failed = e.failed i.failed;
+      since = e.since (g.A.Serves.slot c.args.array.now) i.since;
       source = omega (arith, i.source, c.in-Ok-Some.ensures.later);
       sink = omega (arith, i.sink, k.later);
     }
@@ -57,4 +57,4 @@ returns-in-Err-clause-session g c =
     ends_halted i.sofar (rw c.in-Ok-None.field-0-is at c.in-Ok-None.ensures.heard) _ _ _ _ i.slots i.setup f.told c.in-Err.halt f.turn
 
 pub returns-in-Err-clause-failed : goal.returns-in-Err-clause-failed
-returns-in-Err-clause-failed g c = c.in-Err.ensures.failed c.lines.invariant.failed
+returns-in-Err-clause-failed g c = (c.in-Err.ensures.since (g.A.Serves.slot c.args.array.now) c.lines.invariant.since).lost

@@ -1,5 +1,5 @@
 use Rattle.std.proofs.Common.{◌≡◌, ◌≤◌, ◌+◌, ◌-◌, ◌^◌, length}
-use Rattle.paraid_serve.specs.Calls.{IsHaltOfFailed}
+use Rattle.paraid_serve.specs.Lost.{HasServedSince}
 use Rattle.paraid_serve.proofs.Sofar.{Sofar}
 use Rattle.paraid_serve.proofs.run.session.Given as goal
 
@@ -9,7 +9,7 @@ invariant-lines g l = record {
   slots : g.A.Serves.slots l.array ≡ g.A.Serves.slots l.initial.array;
   setup : g.A.Serves.setup l.array ≡ g.A.Serves.setup l.initial.array;
   halt : l.halt ≡ g.A.Serves.halted l.array;
-  failed : IsHaltOfFailed (g.A.Serves.slot l.array) (g.A.Serves.halted l.array);
+  since : HasServedSince (g.A.Serves.slot l.initial.array) (g.A.Serves.slot l.array) (g.A.Serves.halted l.array);
   source : g.S.Source.faults l.initial.source ≤ g.S.Source.faults l.source;
   sink : g.K.Sink.faults l.initial.sink ≤ g.K.Sink.faults l.sink;
 }

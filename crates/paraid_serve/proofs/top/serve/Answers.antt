@@ -1,4 +1,5 @@
-use Rattle.paraid_serve.proofs.HaltLemmas.{names_pair}
+use Rattle.paraid_base.proofs.ToldLemmas.{GrowsByBytes-then}
+use Rattle.paraid_serve.proofs.HaltLemmas.{names_two}
 use Rattle.paraid_serve.proofs.TopLemmas.{done_run, halted_run, source_run, too_long_run, sink_run, no_mount_run}
 use Rattle.paraid_serve.proofs.top.serve.Goals as goal
 
@@ -27,4 +28,8 @@ returns-in-Err-Halt-clause-run g c = halted_run _ _ _ _ _ _ _ _ _ _ _ c.writes.r
     (rw (c.as_slice-in-Err-Halt.ensures.value, c.reply.ensures.value, c.halt_status.ensures) at c.last-in-Err-Halt.ensures.ends)
 
 pub returns-in-Err-Halt-clause-two : goal.returns-in-Err-Halt-clause-two
-returns-in-Err-Halt-clause-two g c = names_pair _ c.in-Err-Halt.halt _ _ _ _ (rw c.in-Err-Halt.field-0-is at c.in-Err-Halt.ensures.failed) (rw c.halt_status.ensures at c.last-in-Err-Halt.ensures.ends)
+returns-in-Err-Halt-clause-two g c five =
+    let session = rw c.in-Err-Halt.field-0-is at c.in-Err-Halt.ensures.session in
+    names_two _ _ c.in-Err-Halt.halt _ _ _ _ _ (rw c.in-Err-Halt.field-0-is at c.in-Err-Halt.ensures.failed)
+    (GrowsByBytes-then _ _ _ _ _ (rw (c.as_slice.ensures.value, c.mount_text.ensures) at c.in-Ok.ensures.grows) session.grows)
+    (rw (c.as_slice-in-Err-Halt.ensures.value, c.reply.ensures.value, c.halt_status.ensures) at c.last-in-Err-Halt.ensures.ends) five

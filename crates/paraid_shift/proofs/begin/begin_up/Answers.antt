@@ -1,11 +1,10 @@
-use Rattle.std.specs.Prelude.{ℕ, ◌+◌, ◌<◌, ◌≤◌}
+use Rattle.std.specs.Prelude.{ℕ}
 use Rattle.std.proofs.Common.{◌≡◌, ◌∙◌, refl, ap, arith, sym, inl, inr}
 use Rattle.paraid_base.specs.declared.state.Phase.{Phase}
 use Rattle.paraid_base.specs.declared.state.Phase.TheVariants.{Steady, Up}
 use Rattle.paraid_base.specs.States.{rising_to}
 use Rattle.paraid_image.specs.Power.{power_by_gear}
 use Rattle.paraid_moves.specs.MoveMetas.{meta_after_begin}
-use Rattle.paraid_record.specs.declared.meta.Meta.{Meta}
 use Rattle.paraid_txn.specs.Stores.{store_rack}
 use Rattle.paraid_event.specs.Service.{service_of}
 use Rattle.paraid_event.proofs.ShiftStepLemmas.{up_in_steps}

@@ -1,4 +1,3 @@
-use Rattle.std.specs.Prelude.{ℕ}
 use Rattle.std.proofs.lemmas.Bool.{cases_lt}
 use Rattle.paraid_txn.specs.Stores.{store_rack}
 use Rattle.paraid_core.proofs.KindLemmas.{calls_none, calls_then}

@@ -1,4 +1,4 @@
-use Rattle.std.specs.Prelude.{◌+◌, Option, ℕ}
+use Rattle.std.specs.Prelude.{◌+◌, Option}
 use Rattle.std.proofs.Common.{◌≡◌, subst}
 use Rattle.paraid_rack.specs.Told.{Ran}
 use Rattle.paraid_rack.specs.Trail.{Trail, now}

@@ -10,7 +10,7 @@ returns-in-Ok-clause-run g c =
     let e = c.in-Ok.ensures in
     let before = g.R.Rack.told c.args.rack in
     mounted (g.A.Serves.setup c.in-Ok.array) (end_moment before) (g.A.Serves.told c.in-Ok.array) (begins_at_end before (g.A.Serves.told c.in-Ok.array) e.grows)
-    (headline_over _ _ _ _ _ _ _ _ _ _ _ _ _ _ e.slots c.unmount.ensures.told c.unmount.ensures.slot c.serve_mounted-status.ensures.present c.serve_mounted-status.ensures.two
+    (headline_over _ _ (g.A.Serves.slot c.in-Ok.array) _ _ _ _ _ _ _ _ _ _ _ _ e.slots c.unmount.ensures.told c.unmount.ensures.slot c.serve_mounted-status.ensures.present c.serve_mounted-status.ensures.two
     (c.serve_mounted-status.ensures.headline (end_moment before) (e.mounted (end_moment before) (began_at_end before))))
 
 pub returns-in-Err-clause-status : goal.returns-in-Err-clause-status

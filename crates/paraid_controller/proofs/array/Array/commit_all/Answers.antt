@@ -6,7 +6,10 @@ use Rattle.paraid_shift.proofs.ServingLemmas.{copies_kept}
 use Rattle.paraid_controller.proofs.CoreLemmas.{serving_then, tells_by_down}
 use Rattle.paraid_controller.proofs.FlushLemmas.{flush_lost, flush_on}
 use Rattle.paraid_controller.proofs.StandLemmas.{end_by}
-use Rattle.paraid_controller.proofs.LossLemmas.{going_lost, second_lost}
+use Rattle.paraid_controller.proofs.LossLemmas.{going_lost, two_lost}
+use Rattle.paraid_image.specs.Out.{named_out}
+use Rattle.paraid_txn.specs.Stores.{named_of, store_rack}
+use Rattle.paraid_session.proofs.FaultLemmas.{no_fall_counts}
 use Rattle.paraid_controller.proofs.array.Array.commit_all.Goals as goal
 
 pub invariant_of-self : goal.invariant_of-self
@@ -25,7 +28,7 @@ returns-in-Ok-clause-turn g c =
     let all = c.commit.ensures in
     let done = c.in-Ok.ensures in
     flush_on g.R.Rack.slot_count g.R.Rack.slot g.R.Rack.told g.met.R.Rack.agrees a _ c.requires.going c.requires.epoch c.requires.writes all.calls all.whole
-    c.meta-2.result.now.writes (ap (λ (m : Meta). m.writes) c.meta-2.ensures) c.requires.going refl refl refl refl refl done.stands done.marks done.ready done.setup all.slots all.table
+    c.meta-2.result.now.writes (ap (λ (m : Meta). m.writes) c.meta-2.ensures) c.requires.going refl refl refl refl done.stands done.marks done.ready done.setup all.slots all.table
     (copies_kept a.core c.commit.new.self done.setup all.copied (a.serving c.requires.going).serving.copies_synced) done.nothing
 
 pub returns-in-Err-clause-turn : goal.returns-in-Err-clause-turn
@@ -37,7 +40,15 @@ returns-in-Err-clause-turn g c =
     (tells_by_down g.R.Rack.slot g.R.Rack.told a.core c.commit.new.self c.in-Err.two (a.serving c.requires.going).serving.serves c.in-Err.ensures.tells)
 
 pub returns-in-Ok-clause-two : goal.returns-in-Ok-clause-two
-returns-in-Ok-clause-two g c = going_lost _ _ c.args.self.now.ended c.requires.going
+returns-in-Ok-clause-two g c = going_lost _ _ _ _ c.args.self.now.ended c.requires.going
 
 pub returns-in-Err-clause-two : goal.returns-in-Err-clause-two
-returns-in-Err-clause-two g c = second_lost _ _ c.in-Err.two c.in-Err.ensures.two.apart c.in-Err.ensures.two.second
+returns-in-Err-clause-two g c =
+    let a = c.args.self.now in
+    two_lost (named_of a.core.store) (named_out a.core.meta.out) (a.serving c.requires.going).serving.serves.stays _ _ _ c.in-Err.two c.in-Err.ensures.two
+
+pub returns-in-Ok-clause-later : goal.returns-in-Ok-clause-later
+returns-in-Ok-clause-later g c = no_fall_counts (g.R.Rack.slot (store_rack c.args.self.now.core.store)) (g.R.Rack.slot (store_rack c.commit.new.self.store)) c.commit.ensures.spared.no_fall
+
+pub returns-in-Err-clause-later : goal.returns-in-Err-clause-later
+returns-in-Err-clause-later g c = no_fall_counts (g.R.Rack.slot (store_rack c.args.self.now.core.store)) (g.R.Rack.slot (store_rack c.commit.new.self.store)) c.commit.ensures.spared.no_fall

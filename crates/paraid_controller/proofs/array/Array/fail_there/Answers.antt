@@ -6,18 +6,20 @@ use Rattle.paraid_gear.specs.ThreeWindows.{lengths_of}
 use Rattle.paraid_record.specs.declared.meta.Meta.{Meta}
 use Rattle.paraid_array.proofs.ServiceLemmas.{service_serving, serving_service}
 use Rattle.paraid_array.specs.Turns.{CoreGoesOn}
-use Rattle.paraid_image.specs.Shown.{with_flush}
 use Rattle.paraid_machine.specs.Energy.{energy_of}
 use Rattle.paraid_serve.specs.Form.{is_answer_to}
 use Rattle.paraid_session.specs.Turn.{halt_told}
 use Rattle.paraid_trace.specs.Replies.{HasFewDisks}
 use Rattle.paraid_controller.specs.Arrays.{halt_of_end}
-use Rattle.paraid_controller.proofs.AnswerLemmas.{fail_few, fail_going, fail_kind, fail_low, fail_uses}
+use Rattle.paraid_controller.proofs.AnswerLemmas.{fail_few, fail_going, fail_kind, fail_uses}
 use Rattle.paraid_controller.proofs.CoreLemmas.{known_of, serving_of}
 use Rattle.paraid_controller.proofs.EnergyLemmas.{uses_none}
 use Rattle.paraid_controller.proofs.StandLemmas.{end_by}
 use Rattle.paraid_controller.proofs.TurnLemmas.{core_halts, core_on}
-use Rattle.paraid_controller.proofs.LossLemmas.{going_lost, second_lost}
+use Rattle.paraid_controller.proofs.LossLemmas.{going_lost, taken_lost}
+use Rattle.paraid_image.specs.Out.{named_out}
+use Rattle.paraid_txn.specs.Stores.{named_of, store_rack}
+use Rattle.paraid_session.proofs.FaultLemmas.{no_fall_counts}
 use Rattle.paraid_controller.proofs.array.Array.fail_there.Goals as goal
 
 pub take_out-requires-clause-service : goal.take_out-requires-clause-service
@@ -43,7 +45,7 @@ returns-in-Ok-clause-turn g c =
     let told = c.fail_told.ensures in
     core_on g.R.Rack.slot_count g.R.Rack.told a _ c.requires.going c.requires.epoch c.requires.writes (Fail d) c.fail_told.result
     (subst (λ (z : Answer). CoreGoesOn g.R.Rack.slot_count g.R.Rack.told a.core c.take_out.new.core (Fail d) z) (sym told) c.in-Ok.ensures.turn)
-    (ap halt_told told ∙ fail_going d a.core.meta c.take_out.new.core.meta r c.in-Ok.ensures.refused) (λ e. let z : Fail d ≡ Bad = e in cc) (λ low. ap (with_flush low) told ∙ fail_low d low r) c.requires.going refl refl refl refl
+    (ap halt_told told ∙ fail_going d a.core.meta c.take_out.new.core.meta r c.in-Ok.ensures.refused) (λ e. let z : Fail d ≡ Bad = e in cc) c.requires.going refl refl refl
     (λ s fits. uses_none a.setup a.energy s c.fail_told.result (ap (energy_of a.setup s) told ∙ fail_uses a.setup s d r) fits)
 
 pub returns-in-Err-clause-turn : goal.returns-in-Err-clause-turn
@@ -61,7 +63,15 @@ pub returns-in-Ok-clause-few : goal.returns-in-Ok-clause-few
 returns-in-Ok-clause-few g c = subst HasFewDisks (sym c.fail_told.ensures) (fail_few c.args.disk c.in-Ok.refusal)
 
 pub returns-in-Ok-clause-two : goal.returns-in-Ok-clause-two
-returns-in-Ok-clause-two g c = going_lost _ _ c.args.self.now.ended c.requires.going
+returns-in-Ok-clause-two g c = going_lost _ _ _ _ c.args.self.now.ended c.requires.going
 
 pub returns-in-Err-clause-two : goal.returns-in-Err-clause-two
-returns-in-Err-clause-two g c = second_lost _ _ c.in-Err.two c.in-Err.ensures.two.apart c.in-Err.ensures.two.second
+returns-in-Err-clause-two g c =
+    let a = c.args.self.now in
+    taken_lost (named_of a.core.store) (named_out a.core.meta.out) (a.serving c.requires.going).serving.serves.stays _ _ _ c.in-Err.two c.args.disk refl c.in-Err.ensures.two
+
+pub returns-in-Ok-clause-later : goal.returns-in-Ok-clause-later
+returns-in-Ok-clause-later g c = no_fall_counts (g.R.Rack.slot (store_rack c.args.self.now.core.store)) (g.R.Rack.slot (store_rack c.take_out.new.core.store)) c.take_out.ensures.no_fall
+
+pub returns-in-Err-clause-later : goal.returns-in-Err-clause-later
+returns-in-Err-clause-later g c = no_fall_counts (g.R.Rack.slot (store_rack c.args.self.now.core.store)) (g.R.Rack.slot (store_rack c.take_out.new.core.store)) c.take_out.ensures.no_fall

@@ -1,22 +1,23 @@
-use Rattle.std.proofs.Common.{◌≡◌, ℕ, refl, sym, ap, ◌∙◌, Some, subst}
+use Rattle.std.proofs.Common.{◌≡◌, refl, sym, ap, ◌∙◌, Some, subst}
 use Rattle.paraid_base.specs.declared.event.Answer.{Answer}
 use Rattle.paraid_base.specs.declared.event.Event.TheVariants.{Bad, Replace}
 use Rattle.paraid_base.specs.declared.fault.Halt.TheVariants.{Two as HaltTwo}
 use Rattle.paraid_gear.specs.ThreeWindows.{lengths_of}
 use Rattle.paraid_record.specs.declared.meta.Meta.{Meta}
 use Rattle.paraid_array.specs.Turns.{CoreGoesOn}
-use Rattle.paraid_image.specs.Shown.{with_flush}
 use Rattle.paraid_machine.specs.Energy.{energy_of}
 use Rattle.paraid_serve.specs.Form.{is_answer_to}
 use Rattle.paraid_session.specs.Turn.{halt_told}
 use Rattle.paraid_trace.specs.Replies.{HasFewDisks}
 use Rattle.paraid_controller.specs.Arrays.{halt_of_end}
-use Rattle.paraid_controller.proofs.AnswerLemmas.{replace_few, replace_going, replace_kind, replace_low, replace_uses}
+use Rattle.paraid_controller.proofs.AnswerLemmas.{replace_few, replace_going, replace_kind, replace_uses}
 use Rattle.paraid_controller.proofs.CoreLemmas.{known_of, serving_of}
 use Rattle.paraid_controller.proofs.EnergyLemmas.{uses_none}
 use Rattle.paraid_controller.proofs.StandLemmas.{end_by}
 use Rattle.paraid_controller.proofs.TurnLemmas.{core_halts, core_on}
-use Rattle.paraid_controller.proofs.LossLemmas.{going_lost, second_lost}
+use Rattle.paraid_controller.proofs.LossLemmas.{going_lost, two_lost}
+use Rattle.paraid_image.specs.Out.{named_out}
+use Rattle.paraid_txn.specs.Stores.{named_of}
 use Rattle.paraid_controller.proofs.array.Array.replace_there.Goals as goal
 
 pub replace-requires-clause-known : goal.replace-requires-clause-known
@@ -41,7 +42,7 @@ returns-in-Ok-clause-turn g c =
     let told = c.replace_told.ensures in
     core_on g.R.Rack.slot_count g.R.Rack.told a _ c.requires.going c.requires.epoch c.requires.writes (Replace d) c.replace_told.result
     (subst (λ (z : Answer). CoreGoesOn g.R.Rack.slot_count g.R.Rack.told a.core c.replace.new.core (Replace d) z) (sym told) c.in-Ok.ensures.turn)
-    (ap halt_told told ∙ replace_going d a.core.meta r c.in-Ok.ensures.refused) (λ e. let z : Replace d ≡ Bad = e in cc) (λ low. ap (with_flush low) told ∙ replace_low d low r) c.requires.going refl refl refl refl
+    (ap halt_told told ∙ replace_going d a.core.meta r c.in-Ok.ensures.refused) (λ e. let z : Replace d ≡ Bad = e in cc) c.requires.going refl refl refl
     (λ s fits. uses_none a.setup a.energy s c.replace_told.result (ap (energy_of a.setup s) told ∙ replace_uses a.setup s d r) fits)
 
 pub returns-in-Err-clause-turn : goal.returns-in-Err-clause-turn
@@ -59,7 +60,9 @@ pub returns-in-Ok-clause-few : goal.returns-in-Ok-clause-few
 returns-in-Ok-clause-few g c = subst HasFewDisks (sym c.replace_told.ensures) (replace_few c.args.disk c.in-Ok.refusal)
 
 pub returns-in-Ok-clause-two : goal.returns-in-Ok-clause-two
-returns-in-Ok-clause-two g c = going_lost _ _ c.args.self.now.ended c.requires.going
+returns-in-Ok-clause-two g c = going_lost _ _ _ _ c.args.self.now.ended c.requires.going
 
 pub returns-in-Err-clause-two : goal.returns-in-Err-clause-two
-returns-in-Err-clause-two g c = second_lost _ _ c.in-Err.two c.in-Err.ensures.two.apart c.in-Err.ensures.two.second
+returns-in-Err-clause-two g c =
+    let a = c.args.self.now in
+    two_lost (named_of a.core.store) (named_out a.core.meta.out) (a.serving c.requires.going).serving.serves.stays _ _ _ c.in-Err.two c.in-Err.ensures.two

@@ -1,4 +1,4 @@
-use Rattle.std.proofs.Common.{refl, sym, ap, ◌∙◌, ◌+◌, ◌^◌, ◌<◌, Some, ℕ, min, subst}
+use Rattle.std.proofs.Common.{refl, sym, ap, ◌∙◌, ◌+◌, ◌^◌, ◌<◌, ◌≤◌, Some, ℕ, min, subst}
 use Rattle.paraid_base.specs.declared.fault.Halt.TheVariants.{Two as HaltTwo}
 use Rattle.paraid_gear.specs.ThreeWindows.{lengths_of}
 use Rattle.paraid_record.specs.declared.meta.Meta.{Meta}
@@ -8,8 +8,9 @@ use Rattle.paraid_base.specs.declared.state.GearReport.{GearReport}
 use Rattle.paraid_base.specs.declared.state.TickEvent.{TickEvent}
 use Rattle.paraid_base.specs.Places.{sum_before}
 use Rattle.paraid_array.specs.Turns.{CoreTicks}
-use Rattle.paraid_base.specs.Told.{HasRisen}
-use Rattle.paraid_txn.specs.Stores.{store_rack}
+use Rattle.paraid_image.specs.Out.{named_out, or_else}
+use Rattle.paraid_txn.specs.Losses.{AreTwoDown}
+use Rattle.paraid_txn.specs.Stores.{named_of, store_rack}
 use Rattle.paraid_machine.specs.Energy.{begun_energy}
 use Rattle.paraid_controller.specs.Used.{used_by}
 use Rattle.paraid_controller.proofs.CoreLemmas.{known_of, serving_of}
@@ -17,7 +18,8 @@ use Rattle.paraid_controller.proofs.CountedLemmas.{known_counted, serving_counte
 use Rattle.paraid_controller.proofs.EnergyLemmas.{tick_uses}
 use Rattle.paraid_controller.proofs.StandLemmas.{end_by}
 use Rattle.paraid_controller.proofs.TickLemmas.{tick_halts, ticks_on}
-use Rattle.paraid_controller.proofs.LossLemmas.{going_lost, second_lost}
+use Rattle.paraid_controller.proofs.LossLemmas.{going_lost, two_lost}
+use Rattle.paraid_session.proofs.FaultLemmas.{no_fall_counts}
 use Rattle.paraid_controller.proofs.array.Array.tick_there.Goals as goal
 
 -- what a tick tells
@@ -65,7 +67,7 @@ returns-in-Ok-clause-turn g c =
     ∙ ap (λ (n : ℕ). min (a.energy + n) 18446744073709551615) (c.energy_of_tick-used.ensures ∙ ap (λ (m : Meta). sum_before (used_by m) m.setup.geometry.disks) c.meta-2.ensures ∙ tick_uses a.core.meta s gear phase out))
     c.push.ensures.more (report c.meta-in-Ok.result.now.gear c.in-Ok.moved c.in-Ok.event)
     (subst (λ (m : Meta). CoreTicks g.R.Rack.slot_count g.R.Rack.told c.push.new.self c.count_tick.new.self c.advance.new.core (report m.gear c.in-Ok.moved c.in-Ok.event)) (sym c.meta-in-Ok.ensures) c.in-Ok.ensures.turn)
-    c.requires.going refl refl refl
+    c.requires.going refl refl
     (c.saturating_add-self-in-Ok.ensures ∙ ap (λ (n : ℕ). min (c.saturating_add-self.result + n) 18446744073709551615)
     (c.begun_energy-begun.ensures ∙ ap (λ (m : Meta). begun_energy a.setup m.gear c.in-Ok.event) c.meta.ensures))
 
@@ -79,10 +81,24 @@ returns-in-Err-clause-turn g c =
     c.push.ensures.more c.in-Err.two c.in-Err.ensures.halts refl (ap (λ (m : Meta). Some (end_by (HaltTwo c.in-Err.two) m.gear)) c.meta.ensures)
 
 pub returns-in-Ok-clause-two : goal.returns-in-Ok-clause-two
-returns-in-Ok-clause-two g c = going_lost _ _ c.args.self.now.ended c.requires.going
+returns-in-Ok-clause-two g c = going_lost _ _ _ _ c.args.self.now.ended c.requires.going
 
 pub returns-in-Err-clause-two : goal.returns-in-Err-clause-two
 returns-in-Err-clause-two g c =
-    let lost = c.in-Err.ensures.two in
-    second_lost _ _ c.in-Err.two lost.apart
-    (subst (λ (s : Store _ _). HasRisen (g.R.Rack.slot (store_rack s) c.in-Err.two.second).faults (g.R.Rack.slot (store_rack c.advance.new.core.store) c.in-Err.two.second).faults) c.count_tick.ensures.store lost.second)
+    let a = c.args.self.now in
+    let t = c.count_tick.ensures in
+    let new = g.R.Rack.slot (store_rack c.advance.new.core.store) in
+    let counted : AreTwoDown (or_else (named_of a.core.store) (named_out c.count_tick.new.self.meta.out)) (g.R.Rack.slot (store_rack a.core.store)) new c.in-Err.two =
+    subst (λ (s : Store _ _). AreTwoDown (or_else (named_of s) (named_out c.count_tick.new.self.meta.out)) (g.R.Rack.slot (store_rack s)) new c.in-Err.two) t.store c.in-Err.ensures.two in
+    two_lost (named_of a.core.store) (named_out a.core.meta.out) (a.serving c.requires.going).serving.serves.stays _ _ _ c.in-Err.two
+    (subst (λ (m : Meta). AreTwoDown (or_else (named_of a.core.store) (named_out m.out)) (g.R.Rack.slot (store_rack a.core.store)) new c.in-Err.two) t.meta counted)
+
+pub returns-in-Ok-clause-later : goal.returns-in-Ok-clause-later
+returns-in-Ok-clause-later g c =
+    let new = g.R.Rack.slot (store_rack c.advance.new.core.store) in
+    no_fall_counts (g.R.Rack.slot (store_rack c.args.self.now.core.store)) new (subst (λ (s : Store _ _). (d : ℕ) → (g.R.Rack.slot (store_rack s) d).faults ≤ (new d).faults) c.count_tick.ensures.store c.advance.ensures.no_fall)
+
+pub returns-in-Err-clause-later : goal.returns-in-Err-clause-later
+returns-in-Err-clause-later g c =
+    let new = g.R.Rack.slot (store_rack c.advance.new.core.store) in
+    no_fall_counts (g.R.Rack.slot (store_rack c.args.self.now.core.store)) new (subst (λ (s : Store _ _). (d : ℕ) → (g.R.Rack.slot (store_rack s) d).faults ≤ (new d).faults) c.count_tick.ensures.store c.advance.ensures.no_fall)

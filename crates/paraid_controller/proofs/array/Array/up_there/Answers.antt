@@ -5,19 +5,21 @@ use Rattle.paraid_base.specs.declared.fault.Halt.TheVariants.{Two as HaltTwo}
 use Rattle.paraid_gear.specs.ThreeWindows.{lengths_of}
 use Rattle.paraid_record.specs.declared.meta.Meta.{Meta}
 use Rattle.paraid_array.specs.Turns.{CoreGoesOn, asked_answer}
-use Rattle.paraid_image.specs.Shown.{with_flush}
 use Rattle.paraid_machine.specs.Energy.{energy_after}
 use Rattle.paraid_serve.specs.Form.{is_answer_to}
 use Rattle.paraid_session.specs.Turn.{halt_told}
 use Rattle.paraid_trace.specs.Replies.{HasFewDisks}
 use Rattle.paraid_controller.specs.Arrays.{halt_of_end}
-use Rattle.paraid_controller.proofs.AnswerLemmas.{asked_few, asked_low}
+use Rattle.paraid_controller.proofs.AnswerLemmas.{asked_few}
 use Rattle.paraid_controller.proofs.AskedLemmas.{MayTellUp, up_going, up_kind, up_tells}
 use Rattle.paraid_controller.proofs.CoreLemmas.{known_of, serving_of}
 use Rattle.paraid_controller.proofs.EnergyLemmas.{asked_used}
 use Rattle.paraid_controller.proofs.StandLemmas.{end_by}
 use Rattle.paraid_controller.proofs.TurnLemmas.{core_halts, core_on}
-use Rattle.paraid_controller.proofs.LossLemmas.{going_lost, second_lost}
+use Rattle.paraid_controller.proofs.LossLemmas.{going_lost, two_lost}
+use Rattle.paraid_image.specs.Out.{named_out}
+use Rattle.paraid_txn.specs.Stores.{named_of, store_rack}
+use Rattle.paraid_session.proofs.FaultLemmas.{no_fall_counts}
 use Rattle.paraid_controller.proofs.array.Array.up_there.Goals as goal
 
 pub invariant_of-self : goal.invariant_of-self
@@ -40,7 +42,7 @@ returns-in-Ok-clause-turn g c =
     core_on g.R.Rack.slot_count g.R.Rack.told a _ c.requires.going c.requires.epoch c.requires.writes Up c.asked_told.result
     (subst (λ (z : Answer). CoreGoesOn g.R.Rack.slot_count g.R.Rack.told a.core c.up.new.core Up z) (sym told)
     (subst (λ (y : ℕ). CoreGoesOn g.R.Rack.slot_count g.R.Rack.told a.core c.up.new.core Up (asked_answer y x)) (sym gear) c.in-Ok.ensures.turn))
-    (ap halt_told told ∙ up_going n x may) (λ e. let z : Up ≡ Bad = e in cc) (λ low. ap (with_flush low) told ∙ asked_low n low x) c.requires.going refl refl refl refl
+    (ap halt_told told ∙ up_going n x may) (λ e. let z : Up ≡ Bad = e in cc) c.requires.going refl refl refl
     (λ s fits. c.saturating_add-self.ensures ∙ ap (λ (y : ℕ). min (a.energy + y) 18446744073709551615) c.asked_energy-used.ensures ∙ asked_used a.setup a.energy s n x ∙ ap (energy_after a.setup a.energy s) (sym told))
 
 pub returns-in-Err-clause-turn : goal.returns-in-Err-clause-turn
@@ -62,7 +64,15 @@ pub returns-in-Ok-clause-few : goal.returns-in-Ok-clause-few
 returns-in-Ok-clause-few g c = subst HasFewDisks (sym c.asked_told.ensures) (asked_few c.meta.result.now.gear c.in-Ok.asked)
 
 pub returns-in-Ok-clause-two : goal.returns-in-Ok-clause-two
-returns-in-Ok-clause-two g c = going_lost _ _ c.args.self.now.ended c.requires.going
+returns-in-Ok-clause-two g c = going_lost _ _ _ _ c.args.self.now.ended c.requires.going
 
 pub returns-in-Err-clause-two : goal.returns-in-Err-clause-two
-returns-in-Err-clause-two g c = second_lost _ _ c.in-Err.two c.in-Err.ensures.two.apart c.in-Err.ensures.two.second
+returns-in-Err-clause-two g c =
+    let a = c.args.self.now in
+    two_lost (named_of a.core.store) (named_out a.core.meta.out) (a.serving c.requires.going).serving.serves.stays _ _ _ c.in-Err.two c.in-Err.ensures.two
+
+pub returns-in-Ok-clause-later : goal.returns-in-Ok-clause-later
+returns-in-Ok-clause-later g c = no_fall_counts (g.R.Rack.slot (store_rack c.args.self.now.core.store)) (g.R.Rack.slot (store_rack c.up.new.core.store)) c.up.ensures.no_fall
+
+pub returns-in-Err-clause-later : goal.returns-in-Err-clause-later
+returns-in-Err-clause-later g c = no_fall_counts (g.R.Rack.slot (store_rack c.args.self.now.core.store)) (g.R.Rack.slot (store_rack c.up.new.core.store)) c.up.ensures.no_fall

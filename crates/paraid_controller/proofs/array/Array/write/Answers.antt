@@ -6,6 +6,8 @@ use Rattle.paraid_record.specs.declared.meta.Meta.{Meta}
 use Rattle.paraid_controller.proofs.QuietLemmas.{missing_is, write_refused}
 use Rattle.paraid_controller.proofs.LossLemmas.{going_lost}
 use Rattle.paraid_controller.proofs.StandLemmas.{none_ended}
+use Rattle.paraid_txn.specs.Stores.{store_rack}
+use Rattle.paraid_session.proofs.FaultLemmas.{same_counts}
 use Rattle.paraid_controller.proofs.array.Array.write.Goals as goal
 
 pub returns-in-Some-missing-clause-turn : goal.returns-in-Some-missing-clause-turn
@@ -18,4 +20,10 @@ returns-in-Some-missing-clause-turn g c =
     write_refused g.R.Rack.slot_count g.R.Rack.told a c.requires.going fit.0 fit.1 c.args.pairs.now block (missing_is (block_count a.setup) entry block missing)
 
 pub returns-in-Some-missing-clause-two : goal.returns-in-Some-missing-clause-two
-returns-in-Some-missing-clause-two g c = going_lost _ _ c.args.self.now.ended (none_ended c.args.self.now.ended c.requires.going)
+returns-in-Some-missing-clause-two g c = going_lost _ _ _ _ c.args.self.now.ended (none_ended c.args.self.now.ended c.requires.going)
+
+pub returns-in-Some-missing-clause-later : goal.returns-in-Some-missing-clause-later
+returns-in-Some-missing-clause-later g c = same_counts (g.R.Rack.slot (store_rack c.args.self.now.core.store))
+
+pub returns-in-Some-clause-two : goal.returns-in-Some-clause-two
+returns-in-Some-clause-two g c = c.wear_out.ensures.two _

@@ -1,4 +1,4 @@
-use Rattle.std.proofs.Common.{refl, ap, sym, ◌∙◌, ◌+◌, ◌*◌, ℕ, Some, if◌then◌else◌}
+use Rattle.std.proofs.Common.{refl, ap, ◌+◌, ◌*◌, Some}
 use Rattle.paraid_base.specs.declared.fault.Halt.TheVariants.{Two as HaltTwo}
 use Rattle.paraid_record.specs.declared.meta.Meta.{Meta}
 use Rattle.paraid_gear.specs.ThreeWindows.{lengths_of}
@@ -6,8 +6,11 @@ use Rattle.paraid_core.specs.Room.{commits_first}
 use Rattle.paraid_shift.proofs.ServingLemmas.{copies_kept}
 use Rattle.paraid_controller.proofs.CoreLemmas.{serving_then}
 use Rattle.paraid_controller.proofs.RequestLemmas.{write_lost, write_on}
-use Rattle.paraid_controller.proofs.StandLemmas.{end_by, kept_flag}
-use Rattle.paraid_controller.proofs.LossLemmas.{going_lost, second_lost}
+use Rattle.paraid_controller.proofs.StandLemmas.{end_by}
+use Rattle.paraid_controller.proofs.LossLemmas.{going_lost, two_lost}
+use Rattle.paraid_image.specs.Out.{named_out}
+use Rattle.paraid_txn.specs.Stores.{named_of, store_rack}
+use Rattle.paraid_session.proofs.FaultLemmas.{no_fall_counts}
 use Rattle.paraid_controller.proofs.array.Array.write_there.Goals as goal
 
 pub invariant_of-self : goal.invariant_of-self
@@ -24,12 +27,9 @@ returns-in-Ok-clause-turn g c =
     let a = c.args.self.now in
     let all = c.write_many.ensures in
     let done = c.in-Ok.ensures in
-    let epoch = ap (λ (m : Meta). m.epoch) c.meta-in-Ok.ensures ∙ done.epoch ∙ ap (λ (n : ℕ). n + (if commits_first c.args.self.now.core.batch (10 * c.args.pairs.now.count) then 1 else 0)) (sym (ap (λ (m : Meta). m.epoch) c.meta-2.ensures)) in
-    let kept = kept_flag (commits_first c.args.self.now.core.batch (10 * c.args.pairs.now.count)) c.kept_after-self.result a.kept c.meta-3.result.now.writes c.meta-2.result.now.epoch c.meta-in-Ok.result.now.epoch epoch c.kept_after-self.ensures.same c.kept_after-self.ensures.more
-    ∙ ap (λ (n : ℕ). if commits_first c.args.self.now.core.batch (10 * c.args.pairs.now.count) then n else a.kept) (ap (λ (m : Meta). m.writes) c.meta-3.ensures) in
     write_on g.R.Rack.slot_count g.R.Rack.slot g.R.Rack.told g.met.R.Rack.agrees a _ c.requires.going c.requires.epoch c.requires.writes (commits_first c.args.self.now.core.batch (10 * c.args.pairs.now.count)) all.calls all.kept all.whole
-    c.requires.going refl refl c.one_more-self.ensures refl kept done.marks done.ready done.setup all.slots (copies_kept a.core c.write_many.new.self done.setup all.copied (a.serving c.requires.going).serving.copies_synced)
-    c.args.pairs.now (c.meta-3.result.now.writes + 1) (ap (λ (m : Meta). m.writes + 1) c.meta-3.ensures) c.requires.blocks done.stands (a.serving c.requires.going).same_setup done.bits
+    c.requires.going refl refl c.one_more-self.ensures refl done.marks done.ready done.setup all.slots (copies_kept a.core c.write_many.new.self done.setup all.copied (a.serving c.requires.going).serving.copies_synced)
+    c.args.pairs.now (c.meta-2.result.now.writes + 1) (ap (λ (m : Meta). m.writes + 1) c.meta-2.ensures) c.requires.blocks done.stands (a.serving c.requires.going).same_setup done.bits
 
 pub returns-in-Err-clause-turn : goal.returns-in-Err-clause-turn
 returns-in-Err-clause-turn g c =
@@ -39,7 +39,15 @@ returns-in-Err-clause-turn g c =
     c.in-Err.two refl (ap (λ (m : Meta). Some (end_by (HaltTwo c.in-Err.two) m.gear)) c.meta.ensures) all.moments c.in-Err.ensures.tells c.args.pairs.now c.requires.blocks
 
 pub returns-in-Ok-clause-two : goal.returns-in-Ok-clause-two
-returns-in-Ok-clause-two g c = going_lost _ _ c.args.self.now.ended c.requires.going
+returns-in-Ok-clause-two g c = going_lost _ _ _ _ c.args.self.now.ended c.requires.going
 
 pub returns-in-Err-clause-two : goal.returns-in-Err-clause-two
-returns-in-Err-clause-two g c = second_lost _ _ c.in-Err.two c.in-Err.ensures.two.apart c.in-Err.ensures.two.second
+returns-in-Err-clause-two g c =
+    let a = c.args.self.now in
+    two_lost (named_of a.core.store) (named_out a.core.meta.out) (a.serving c.requires.going).serving.serves.stays _ _ _ c.in-Err.two c.in-Err.ensures.two
+
+pub returns-in-Ok-clause-later : goal.returns-in-Ok-clause-later
+returns-in-Ok-clause-later g c = no_fall_counts (g.R.Rack.slot (store_rack c.args.self.now.core.store)) (g.R.Rack.slot (store_rack c.write_many.new.self.store)) c.write_many.ensures.spared.no_fall
+
+pub returns-in-Err-clause-later : goal.returns-in-Err-clause-later
+returns-in-Err-clause-later g c = no_fall_counts (g.R.Rack.slot (store_rack c.args.self.now.core.store)) (g.R.Rack.slot (store_rack c.write_many.new.self.store)) c.write_many.ensures.spared.no_fall

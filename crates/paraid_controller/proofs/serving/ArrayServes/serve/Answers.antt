@@ -1,4 +1,4 @@
-use Rattle.std.proofs.Common.{ℕ, sym, subst}
+use Rattle.std.proofs.Common.{ℕ, subst}
 use Rattle.paraid_rack.specs.Told.{Ran}
 use Rattle.paraid_session.specs.Turn.{GoesOn}
 use Rattle.paraid_trace.specs.Asked.{event_with}

@@ -34,7 +34,7 @@ returns-clause-stands g c h lo t tells is k =
     cleaned_keeps (g.R.Rack.slot_count (store_rack old.store)) (named_of old.store) m old.dirty c.clear.new.self old.batch c.take.new.batch c.push-3.new.self old.copied h lo (now t) c.requires.ready.in_range
     (λ d l gone. c.requires.ready.absent d l (ap is_present (sym ((g.met.R.Rack.agrees (store_rack old.store) t tells).power d)) ∙ gone)) k c.args.r c.args.d c.requires.row c.requires.disk c.requires.rises c.requires.whole map
     c.clear.ensures.cells c.map_block.ensures draft_is
-    (c.take.ensures.laid_same (subst (ArePlaced m) (sym {b = sync_targets v c.args.r c.args.d map} draft_is) (sync_placed v c.args.r c.args.d map c.requires.ready.in_range c.requires.row c.requires.disk c.requires.rises c.requires.whole)))
+    (c.take.ensures.laid_same (subst (ArePlaced m) (sym {b = sync_targets v c.args.r c.args.d map} draft_is) (sync_placed v c.args.r c.args.d map c.requires.ready.in_range c.requires.row c.requires.disk c.requires.rises c.requires.whole))) c.take.ensures.grows
 
 pub returns-clause-cleaned : goal.returns-clause-cleaned
 returns-clause-cleaned g c = c.clear.ensures.cells c.args.r c.args.d ∙ changed_at (is_dirty c.args.self.now.dirty) c.args.r c.args.d false c.args.r c.args.d refl refl

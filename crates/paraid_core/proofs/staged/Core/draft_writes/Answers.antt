@@ -1,4 +1,4 @@
-use Rattle.std.proofs.Common.{◌≡◌, None, subst, OnOk, IsSome}
+use Rattle.std.proofs.Common.{◌≡◌, ◌+◌, ◌≤◌, length, None, subst, OnOk, IsSome}
 use Rattle.paraid_base.specs.Pairs.{pairs_of}
 use Rattle.paraid_plan.specs.RowWrites.{StageAll}
 use Rattle.paraid_core.specs.Cores.{core_rack}
@@ -22,3 +22,8 @@ returns-clause-writes g c =
 
 pub returns-clause-bits : goal.returns-clause-bits
 returns-clause-bits g c = c.write_blocks.ensures.bits
+
+pub returns-clause-some : goal.returns-clause-some
+returns-clause-some g c =
+    subst (λ (z : _). OnOk c.write_blocks.result (IsSome (g.R.Rack.told (core_rack c.write_blocks.new.plan)) → length (desk_of g.R.Rack.told z).staged + 1 ≤ length c.write_blocks.new.plan.draft))
+    (begun g c) c.write_blocks.ensures.grows

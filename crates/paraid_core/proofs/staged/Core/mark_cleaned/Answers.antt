@@ -40,4 +40,4 @@ returns-clause-marked g c h lo cells here =
     cells_marked slots (named_of old.store) m old.dirty c.clear.new.self old.batch c.take.new.batch c.push-2.new.self old.copied h lo cells (now t) q.ready.in_range q.whole
     (λ d l gone. q.ready.absent d l (ap is_present (sym ((g.met.R.Rack.agrees (store_rack old.store) t tells).power d)) ∙ gone)) k c.args.r c.args.d q.row (disk_in m c.args.d q.ready.in_range q.rises) q.rises q.dirty here map
     c.clear.ensures.cells c.map_block.ensures draft_is
-    (c.take.ensures.laid_same (subst (ArePlaced m) (sym {b = map_targets m (c.args.r / 512) map} draft_is) (map_placed v q.ready.in_range (c.args.r / 512) map (omega arith)))))
+    (c.take.ensures.laid_same (subst (ArePlaced m) (sym {b = map_targets m (c.args.r / 512) map} draft_is) (map_placed v q.ready.in_range (c.args.r / 512) map (omega arith)))) c.take.ensures.grows)

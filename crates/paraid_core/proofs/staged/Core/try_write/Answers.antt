@@ -120,7 +120,8 @@ returns-clause-since g c h lo =
     let pl = c.draft_writes.new.self in
     let led = c.draft_writes.ensures.leads in
     accepted_stands g.R.Rack.slot_count g.R.Rack.slot g.R.Rack.told old pl led c.requires.ready.in_range (whole g c) (g.met.R.Rack.agrees (store_rack old.store)) (g.met.R.Rack.agrees (store_rack pl.store)) (absent_then g c)
-    (pairs_of c.args.pairs.now) (not_err c.draft_writes.result _ (sym c.is_err.ensures.value ∙ c.if-is_err.false) c.draft_writes.ensures.writes) c.take.new.batch (taken_from g c) _ _ _ _ _ h lo
+    (pairs_of c.args.pairs.now) (not_err c.draft_writes.result _ (sym c.is_err.ensures.value ∙ c.if-is_err.false) c.draft_writes.ensures.writes)
+    (not_err c.draft_writes.result _ (sym c.is_err.ensures.value ∙ c.if-is_err.false) c.draft_writes.ensures.some) c.take.new.batch (taken_from g c) _ _ _ _ _ h lo
     (ap (λ (z : Meta). record z { writes = z.writes + 1 }) led.meta)
     (kept_stands g.R.Rack.slot_count g.R.Rack.slot g.R.Rack.told old pl led c.requires.ready c.requires.serves (none_failed g c) (g.met.R.Rack.agrees (store_rack old.store)) (g.met.R.Rack.agrees (store_rack pl.store))
     (g.met.R.Rack.slots_hold (store_rack pl.store)).absent (whole g c) h lo)

@@ -1,0 +1,66 @@
+use Rattle.std.proofs.Common.{◌≡◌, ◌∙◌, refl, ap, Some, false}
+use Rattle.paraid_base.specs.declared.fault.Halt.TheVariants.{Two as HaltTwo}
+use Rattle.paraid_record.specs.declared.meta.Meta.{Meta}
+use Rattle.paraid_gear.specs.ThreeWindows.{lengths_of}
+use Rattle.paraid_scrub.specs.Counts.{no_faults}
+use Rattle.paraid_shift.proofs.ServingLemmas.{copies_kept}
+use Rattle.paraid_core.specs.Cores.{core_rack}
+use Rattle.paraid_rack.specs.Trail.{now}
+use Rattle.paraid_scrub.specs.Cores.{core_view}
+use Rattle.paraid_controller.proofs.CheckLemmas.{at_point, count_lost, count_on, counts_by, failed_one}
+use Rattle.paraid_controller.proofs.CoreLemmas.{serving_then}
+use Rattle.paraid_controller.proofs.StandLemmas.{end_by, told_before}
+use Rattle.paraid_controller.proofs.LossLemmas.{going_lost, two_lost}
+use Rattle.paraid_image.specs.Out.{named_out}
+use Rattle.paraid_txn.specs.Stores.{named_of}
+use Rattle.paraid_controller.proofs.array.Array.check_kept.Goals as goal
+
+pub invariant_of-self : goal.invariant_of-self
+invariant_of-self g c =
+    let a = c.args.self.now in
+    let all = c.check.ensures in
+    let done = c.in-Ok.ensures in
+    record {
+      serving = λ e. serving_then g.R.Rack.slot_count g.R.Rack.slot a.core c.check.new.core (lengths_of a.windows) a.setup a.slots false (a.serving e) done.marks done.setup done.slots done.ready done.serves
+          (done.draft ∙ (a.serving e).serving.draft) all.copied done.unsynced done.named;
+    }
+
+pub returns-in-Ok-clause-turn : goal.returns-in-Ok-clause-turn
+returns-in-Ok-clause-turn g c =
+    let a = c.args.self.now in
+    let all = c.check.ensures in
+    let done = c.in-Ok.ensures in
+    count_on g.R.Rack.slot_count g.R.Rack.slot g.R.Rack.told g.met.R.Rack.agrees a _ c.requires.going c.requires.epoch c.requires.writes all.calls
+    a.core.meta.writes refl c.requires.going refl refl refl refl c.requires.nothing done.stands done.marks done.ready done.setup done.slots done.table
+    (copies_kept a.core c.check.new.core done.setup all.copied (a.serving c.requires.going).serving.copies_synced) (done.batch ∙ c.requires.nothing)
+
+pub returns-in-Err-clause-ended : goal.returns-in-Err-clause-ended
+returns-in-Err-clause-ended g c =
+    let a = c.args.self.now in
+    let all = c.check.ensures in
+    count_lost g.R.Rack.slot_count g.R.Rack.slot g.R.Rack.told g.met.R.Rack.agrees a _ c.requires.going c.requires.epoch c.requires.writes all.calls
+    c.in-Err.two refl (ap (λ (m : Meta). Some (end_by (HaltTwo c.in-Err.two) m.gear)) c.meta.ensures) all.moments c.in-Err.ensures.tells
+
+pub returns-in-Ok-clause-told : goal.returns-in-Ok-clause-told
+returns-in-Ok-clause-told g c some = told_before (g.R.Rack.told c.args.self.now.core.store.rack) (g.R.Rack.told c.check.new.core.store.rack) _ c.check.ensures.calls some
+
+pub returns-in-Err-clause-told : goal.returns-in-Err-clause-told
+returns-in-Err-clause-told g c some = told_before (g.R.Rack.told c.args.self.now.core.store.rack) (g.R.Rack.told c.check.new.core.store.rack) _ c.check.ensures.calls some
+
+pub returns-in-Ok-clause-two : goal.returns-in-Ok-clause-two
+returns-in-Ok-clause-two g c = going_lost _ _ _ _ c.args.self.now.ended c.requires.going
+
+pub returns-in-Err-clause-two : goal.returns-in-Err-clause-two
+returns-in-Err-clause-two g c =
+    let a = c.args.self.now in
+    two_lost (named_of a.core.store) (named_out a.core.meta.out) (a.serving c.requires.going).serving.serves.stays _ _ _ c.in-Err.two c.in-Err.ensures.two
+
+pub returns-in-Ok-clause-sound : goal.returns-in-Ok-clause-sound
+returns-in-Ok-clause-sound g c some p at =
+    at_point g.R.Rack.slot_count g.R.Rack.told c.args.self.now c.requires.going (c.in-Ok.checked.report ≡ no_faults) (λ h lo t tells stands. c.in-Ok.ensures.zeros h lo t tells stands some)
+    (told_before (g.R.Rack.told c.args.self.now.core.store.rack) (g.R.Rack.told c.check.new.core.store.rack) _ c.check.ensures.calls some) p at
+
+pub returns-in-Ok-clause-counts : goal.returns-in-Ok-clause-counts
+returns-in-Ok-clause-counts g c nothing t tells some bits =
+    let it = c.in-Ok.ensures.counts t tells some bits in
+    counts_by (core_view c.args.self.now.core (now t)) (g.R.Rack.slot (core_rack c.args.self.now.core)) (g.R.Rack.slot (core_rack c.check.new.core)) c.in-Ok.checked.report c.in-Ok.checked.whole it.0 it.1 it.2 (λ part. failed_one g.R.Rack.slot c.args.self.now.core c.check.new.core (c.in-Ok.ensures.ended part))

@@ -1,0 +1,59 @@
+use Rattle.std.proofs.Common.{◌≡◌, refl, ap, Some, true}
+use Rattle.paraid_base.specs.declared.fault.Halt.TheVariants.{Two as HaltTwo}
+use Rattle.paraid_record.specs.declared.meta.Meta.{Meta}
+use Rattle.paraid_gear.specs.ThreeWindows.{lengths_of}
+use Rattle.paraid_scrub.specs.Counts.{no_faults}
+use Rattle.paraid_shift.proofs.ServingLemmas.{copies_kept}
+use Rattle.paraid_controller.proofs.CheckLemmas.{at_point}
+use Rattle.paraid_controller.proofs.CoreLemmas.{serving_then}
+use Rattle.paraid_controller.proofs.FlushLemmas.{flush_lost, flush_on}
+use Rattle.paraid_controller.proofs.StandLemmas.{end_by, told_before}
+use Rattle.paraid_controller.proofs.LossLemmas.{going_lost, two_lost}
+use Rattle.paraid_image.specs.Out.{named_out}
+use Rattle.paraid_txn.specs.Stores.{named_of}
+use Rattle.paraid_controller.proofs.array.Array.commit_and_check.Goals as goal
+
+pub invariant_of-self : goal.invariant_of-self
+invariant_of-self g c =
+    let a = c.args.self.now in
+    let all = c.commit_and_count.ensures in
+    let done = c.in-Ok.ensures in
+    record {
+      serving = λ e. serving_then g.R.Rack.slot_count g.R.Rack.slot a.core c.commit_and_count.new.core (lengths_of a.windows) a.setup a.slots true (a.serving e) done.marks done.setup done.slots done.ready done.serves
+          done.draft all.copied done.unsynced done.named;
+    }
+
+pub returns-in-Ok-clause-turn : goal.returns-in-Ok-clause-turn
+returns-in-Ok-clause-turn g c =
+    let a = c.args.self.now in
+    let all = c.commit_and_count.ensures in
+    let done = c.in-Ok.ensures in
+    flush_on g.R.Rack.slot_count g.R.Rack.slot g.R.Rack.told g.met.R.Rack.agrees a _ c.requires.going c.requires.epoch c.requires.writes all.calls all.whole
+    a.core.meta.writes refl c.requires.going refl refl refl refl done.stands done.marks done.ready done.setup done.slots done.table
+    (copies_kept a.core c.commit_and_count.new.core done.setup all.copied (a.serving c.requires.going).serving.copies_synced) done.nothing
+
+pub returns-in-Err-clause-ended : goal.returns-in-Err-clause-ended
+returns-in-Err-clause-ended g c =
+    let a = c.args.self.now in
+    let all = c.commit_and_count.ensures in
+    flush_lost g.R.Rack.slot_count g.R.Rack.slot g.R.Rack.told g.met.R.Rack.agrees a _ c.requires.going c.requires.epoch c.requires.writes all.calls all.whole
+    c.in-Err.two refl (ap (λ (m : Meta). Some (end_by (HaltTwo c.in-Err.two) m.gear)) c.meta.ensures) all.moments c.in-Err.ensures.tells
+
+pub returns-in-Ok-clause-told : goal.returns-in-Ok-clause-told
+returns-in-Ok-clause-told g c some = told_before (g.R.Rack.told c.args.self.now.core.store.rack) (g.R.Rack.told c.commit_and_count.new.core.store.rack) _ c.commit_and_count.ensures.calls some
+
+pub returns-in-Err-clause-told : goal.returns-in-Err-clause-told
+returns-in-Err-clause-told g c some = told_before (g.R.Rack.told c.args.self.now.core.store.rack) (g.R.Rack.told c.commit_and_count.new.core.store.rack) _ c.commit_and_count.ensures.calls some
+
+pub returns-in-Ok-clause-two : goal.returns-in-Ok-clause-two
+returns-in-Ok-clause-two g c = going_lost _ _ _ _ c.args.self.now.ended c.requires.going
+
+pub returns-in-Err-clause-two : goal.returns-in-Err-clause-two
+returns-in-Err-clause-two g c =
+    let a = c.args.self.now in
+    two_lost (named_of a.core.store) (named_out a.core.meta.out) (a.serving c.requires.going).serving.serves.stays _ _ _ c.in-Err.two c.in-Err.ensures.two
+
+pub returns-in-Ok-clause-sound : goal.returns-in-Ok-clause-sound
+returns-in-Ok-clause-sound g c some p at =
+    at_point g.R.Rack.slot_count g.R.Rack.told c.args.self.now c.requires.going (c.in-Ok.report ≡ no_faults) (λ h lo t tells stands. c.in-Ok.ensures.sound h lo t tells stands some)
+    (told_before (g.R.Rack.told c.args.self.now.core.store.rack) (g.R.Rack.told c.commit_and_count.new.core.store.rack) _ c.commit_and_count.ensures.calls some) p at

@@ -1,0 +1,141 @@
+//! A check of an array: all writes are kept, and then what is false is counted.
+ghost use Rattle.std.specs.Prelude.{◌≡◌, ℕ, ◌<◌, ◌^◌, [], length, None, Option, Some, OnOk, IfErr, IfOk, IsSome};
+ghost use Rattle.paraid_base.specs.declared.event.Answer.TheVariants.{Flushed, Halted};
+ghost use Rattle.paraid_base.specs.declared.event.Event.TheVariants.{Flush as FlushEvent};
+ghost use Rattle.paraid_core.specs.Cores.{batch_of, meta_of};
+ghost use Rattle.paraid_rack.specs.Told.{Ran};
+ghost use Rattle.paraid_scrub.specs.Counts.{no_faults};
+ghost use Rattle.paraid_serve.specs.Lost.{HaltsByTwoLost};
+ghost use Rattle.paraid_session.specs.Turn.{GoesOn, Point};
+
+use crate::Array;
+use crate::counting::commit_and_count;
+use crate::ended::Ended;
+use crate::refusing::worn;
+use paraid_base::Halt;
+use paraid_rack::Rack;
+use paraid_scrub::{CheckReport, check};
+
+impl<R: Rack> Array<R> {
+    ghost use Rattle.paraid_controller.specs.Checked.{CountsDisks};
+    ghost use Rattle.paraid_controller.specs.Arrays.{ArrayStandsAt, GoesOnByEvent, core_of_array, down_of_array, end_of_array, halt_of_array, setup_of_array, slot_of_array, slots_of_array, told_of_array};
+
+    // Commits all that is staged, and counts what is false.
+    fn commit_and_check(&mut self) -> Result<CheckReport, Halt>
+        requires going { end_of_array self.old ≡ None }
+        requires epoch { (meta_of (core_of_array self.old)).epoch < 2 ^ 62 }
+        requires writes { (meta_of (core_of_array self.old)).writes < 2 ^ 62 }
+        ensures turn { OnOk result (GoesOnByEvent R.slot_count R.told self.old self.new FlushEvent (Flushed (meta_of (core_of_array self.old)).writes)) }
+        ensures ended { IfErr result (λ halt. GoesOnByEvent R.slot_count R.told self.old self.new FlushEvent (Halted halt)) }
+        ensures told { IsSome (told_of_array R.told self.new) → IsSome (told_of_array R.told self.old) }
+        ensures slots { slots_of_array self.new ≡ slots_of_array self.old }
+        ensures setup { setup_of_array self.new ≡ setup_of_array self.old }
+        ensures going { OnOk result (halt_of_array self.new ≡ None) }
+        ensures halt { IfErr result (λ halt. halt_of_array self.new ≡ Some halt) }
+        ensures two { HaltsByTwoLost (down_of_array self.old) FlushEvent
+            (slot_of_array R.slot self.old) (slot_of_array R.slot self.new) (halt_of_array self.new) }
+        ensures sound { IfOk result (λ report. IsSome (told_of_array R.told self.new) → (p : Point)
+            → ArrayStandsAt R.slot_count R.told self.old p → report ≡ no_faults) }
+    {
+        let gear = self.core.meta().gear;
+        match commit_and_count(&mut self.core) {
+            Ok(report) => Ok(report),
+            Err(two) => {
+                let halt = Halt::Two(two);
+                self.ended = Some(Ended { halt, gear });
+                Err(halt)
+            }
+        }
+    }
+
+    // Counts what is false where nothing is staged.
+    fn check_kept(&mut self) -> Result<CheckReport, Halt>
+        requires going { end_of_array self.old ≡ None }
+        requires epoch { (meta_of (core_of_array self.old)).epoch < 2 ^ 62 }
+        requires writes { (meta_of (core_of_array self.old)).writes < 2 ^ 62 }
+        requires nothing { batch_of (core_of_array self.old) ≡ [] }
+        ensures turn { OnOk result (GoesOnByEvent R.slot_count R.told self.old self.new FlushEvent (Flushed (meta_of (core_of_array self.old)).writes)) }
+        ensures ended { IfErr result (λ halt. GoesOnByEvent R.slot_count R.told self.old self.new FlushEvent (Halted halt)) }
+        ensures told { IsSome (told_of_array R.told self.new) → IsSome (told_of_array R.told self.old) }
+        ensures slots { slots_of_array self.new ≡ slots_of_array self.old }
+        ensures setup { setup_of_array self.new ≡ setup_of_array self.old }
+        ensures going { OnOk result (halt_of_array self.new ≡ None) }
+        ensures halt { IfErr result (λ halt. halt_of_array self.new ≡ Some halt) }
+        ensures two { HaltsByTwoLost (down_of_array self.old) FlushEvent
+            (slot_of_array R.slot self.old) (slot_of_array R.slot self.new) (halt_of_array self.new) }
+        ensures sound { IfOk result (λ report. IsSome (told_of_array R.told self.new) → (p : Point)
+            → ArrayStandsAt R.slot_count R.told self.old p → report ≡ no_faults) }
+        ensures counts { IfOk result (CountsDisks R.slot R.told (core_of_array self.old) (core_of_array self.new)) }
+    {
+        let gear = self.core.meta().gear;
+        match check(&mut self.core) {
+            Ok(checked) => Ok(checked.report),
+            Err(two) => {
+                let halt = Halt::Two(two);
+                self.ended = Some(Ended { halt, gear });
+                Err(halt)
+            }
+        }
+    }
+
+    // Checks an array that takes more commits.
+    fn check_there(&mut self) -> Result<CheckReport, Halt>
+        requires going { end_of_array self.old ≡ None }
+        requires epoch { (meta_of (core_of_array self.old)).epoch < 2 ^ 62 }
+        requires writes { (meta_of (core_of_array self.old)).writes < 2 ^ 62 }
+        ensures turn { OnOk result (GoesOnByEvent R.slot_count R.told self.old self.new FlushEvent (Flushed (meta_of (core_of_array self.old)).writes)) }
+        ensures ended { IfErr result (λ halt. GoesOnByEvent R.slot_count R.told self.old self.new FlushEvent (Halted halt)) }
+        ensures told { IsSome (told_of_array R.told self.new) → IsSome (told_of_array R.told self.old) }
+        ensures slots { slots_of_array self.new ≡ slots_of_array self.old }
+        ensures setup { setup_of_array self.new ≡ setup_of_array self.old }
+        ensures going { OnOk result (halt_of_array self.new ≡ None) }
+        ensures halt { IfErr result (λ halt. halt_of_array self.new ≡ Some halt) }
+        ensures two { HaltsByTwoLost (down_of_array self.old) FlushEvent
+            (slot_of_array R.slot self.old) (slot_of_array R.slot self.new) (halt_of_array self.new) }
+        ensures sound { IfOk result (λ report. IsSome (told_of_array R.told self.new) → (p : Point)
+            → ArrayStandsAt R.slot_count R.told self.old p → report ≡ no_faults) }
+        ensures counts { IfOk result (CountsDisks R.slot R.told (core_of_array self.old) (core_of_array self.new)) }
+    {
+        if self.is_kept() {
+            return self.check_kept();
+        }
+        self.commit_and_check()
+    }
+
+    /// Keeps all writes that were accepted, and then counts what is false on the disks. In a session it is one flush.
+    ///
+    /// A disk that is lost ends the count: what was counted before it is told, and nothing where it was lost as the writes
+    /// were brought to the disks.
+    pub fn check(&mut self) -> Result<CheckReport, Halt>
+        requires going { halt_of_array self.old ≡ None }
+        ensures turn { OnOk result ((p : Point) → ArrayStandsAt R.slot_count R.told self.old p
+            → Ran (told_of_array R.told self.old) (told_of_array R.told self.new)
+            (GoesOn (slots_of_array self.old) (setup_of_array self.old) p FlushEvent (Flushed (length p.history))
+            (ArrayStandsAt R.slot_count R.told self.new))) }
+        ensures ended { IfErr result (λ halt. (p : Point) → ArrayStandsAt R.slot_count R.told self.old p
+            → Ran (told_of_array R.told self.old) (told_of_array R.told self.new)
+            (GoesOn (slots_of_array self.old) (setup_of_array self.old) p FlushEvent (Halted halt)
+            (ArrayStandsAt R.slot_count R.told self.new))) }
+        ensures told { IsSome (told_of_array R.told self.new) → IsSome (told_of_array R.told self.old) }
+        ensures slots { slots_of_array self.new ≡ slots_of_array self.old }
+        ensures setup { setup_of_array self.new ≡ setup_of_array self.old }
+        ensures going { OnOk result (halt_of_array self.new ≡ None) }
+        ensures halt { IfErr result (λ halt. halt_of_array self.new ≡ Some halt) }
+        ensures two { HaltsByTwoLost (down_of_array self.old) FlushEvent
+            (slot_of_array R.slot self.old) (slot_of_array R.slot self.new) (halt_of_array self.new) }
+        // An array that stands at a point of a session has nothing false.
+        ensures sound { IfOk result (λ report. IsSome (told_of_array R.told self.new) → (p : Point)
+            → ArrayStandsAt R.slot_count R.told self.old p → report ≡ no_faults) }
+        // With nothing staged the counts are those of the disks, whatever these hold.
+        ensures counts { IfOk result (CountsDisks R.slot R.told (core_of_array self.old) (core_of_array self.new)) }
+    {
+        if let Some(count) = worn(self.core.meta()) {
+            let halt = self.wear_out(count);
+            return Err(halt);
+        }
+        match self.check_there() {
+            Ok(report) => Ok(report),
+            Err(halt) => Err(halt),
+        }
+    }
+}

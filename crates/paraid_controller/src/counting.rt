@@ -1,0 +1,83 @@
+//! A commit of all that is staged, and a count of what is false after it.
+ghost use Rattle.std.specs.Prelude.{◌≡◌, ℕ, ◌<◌, ◌^◌, [], length, Some, OnOk, IfErr, IfOk, IsSome};
+ghost use Rattle.paraid_base.specs.History.{History};
+ghost use Rattle.paraid_core.specs.Calls.{CommitsWhole, MakesTransferCalls};
+ghost use Rattle.paraid_core.specs.CoreInvariant.{AreCopiesSynced};
+ghost use Rattle.paraid_core.specs.Cores.{CanCoreServe, CoreStandsFor, IsCoreHeld, IsCoreReady, batch_of, copied_of, core_down, core_rack, core_table, draft_of, meta_of, store_of};
+ghost use Rattle.paraid_core.specs.Lost.{CoreMarksLost, CoreTellsLosses};
+ghost use Rattle.paraid_core.specs.Steps.{AreUnsyncedCopied};
+ghost use Rattle.paraid_core.specs.Units.{IsRebuilding};
+ghost use Rattle.paraid_image.specs.Out.{named_out};
+ghost use Rattle.paraid_rack.specs.declared.call.Power.TheVariants.{Spinning};
+ghost use Rattle.paraid_rack.specs.Told.{CrashTriple, Ran};
+ghost use Rattle.paraid_rack.specs.Trail.{Trail, now};
+ghost use Rattle.paraid_scrub.specs.Counts.{no_faults};
+ghost use Rattle.paraid_txn.specs.Losses.{AreTwoDown};
+ghost use Rattle.paraid_txn.specs.Stores.{named_of};
+
+use paraid_base::Two;
+use paraid_core::Core;
+use paraid_rack::Rack;
+use paraid_scrub::{CheckReport, check};
+
+// Nothing was counted.
+fn nothing_counted() -> CheckReport
+    ensures { result ≡ no_faults }
+{
+    CheckReport {
+        rows: 0,
+        stripes: 0,
+        fill: 0,
+        units: 0,
+        mirrors: 0,
+    }
+}
+
+/// Commits all that is staged, and counts what is false then. Where a disk is lost in the commit nothing is counted.
+pub(crate) fn commit_and_count<R: Rack>(core: &mut Core<R>) -> Result<CheckReport, Two>
+    requires ready { IsCoreReady R.slot_count R.slot core.old }
+    requires serves { CanCoreServe R.slot core.old }
+    // the disk that is being rebuilt spins
+    requires fresh { (d : ℕ) → IsRebuilding (meta_of core.old) d
+        → (R.slot (core_rack core.old) d).power ≡ Spinning }
+    requires no_draft { draft_of core.old ≡ [] }
+    requires epoch { (meta_of core.old).epoch < 2 ^ 63 }
+    requires copies_synced { AreCopiesSynced (meta_of core.old).setup.geometry.disks (copied_of core.old) }
+    ensures copied { copied_of core.new ≡ copied_of core.old }
+    ensures draft { OnOk result (draft_of core.new ≡ []) }
+    ensures slots { OnOk result (R.slot_count (core_rack core.new) ≡ R.slot_count (core_rack core.old)) }
+    ensures table { OnOk result (core_table core.new ≡ core_table core.old) }
+    ensures nothing { OnOk result (batch_of core.new ≡ []) }
+    ensures ready { OnOk result (IsCoreReady R.slot_count R.slot core.new) }
+    ensures serves { OnOk result (CanCoreServe R.slot core.new) }
+    ensures setup { OnOk result ((meta_of core.new).setup ≡ (meta_of core.old).setup) }
+    ensures unsynced { OnOk result (AreUnsyncedCopied R.slot core.old → AreUnsyncedCopied R.slot core.new) }
+    ensures named { OnOk result (named_of (store_of core.new) ≡ named_out (meta_of core.old).out) }
+    ensures marks { OnOk result (CoreMarksLost R.slot core.old core.new) }
+    ensures two { IfErr result (AreTwoDown (core_down core.old)
+        (R.slot (core_rack core.old)) (R.slot (core_rack core.new))) }
+    ensures tells { IfErr result (CoreTellsLosses R.told (named_out (meta_of core.old).out) core.old core.new) }
+    ensures calls { MakesTransferCalls R.told core.old core.new }
+    ensures whole { CommitsWhole R.slot_count R.told core.old core.new }
+    // Each stop leaves what it left before or all writes, and at the end all writes.
+    ensures moments { (h : History) (lo : ℕ)
+        → Ran (R.told (core_rack core.old)) (R.told (core_rack core.new))
+        (CrashTriple (IsCoreHeld R.slot_count core.old h lo) (CoreStandsFor R.slot_count core.old h lo)
+        (IsCoreHeld R.slot_count core.old h lo)) }
+    ensures stands { OnOk result ((h : History) (lo : ℕ)
+        → Ran (R.told (core_rack core.old)) (R.told (core_rack core.new))
+        (CrashTriple (IsCoreHeld R.slot_count core.old h lo) (CoreStandsFor R.slot_count core.old h lo)
+        (CoreStandsFor R.slot_count core.new h (length h)))) }
+    // A core that stands for a history has nothing false.
+    ensures sound { IfOk result (λ report. (h : History) (lo : ℕ) (t : Trail)
+        → R.told (core_rack core.old) ≡ Some t → CoreStandsFor R.slot_count core.old h lo (now t)
+        → IsSome (R.told (core_rack core.new)) → report ≡ no_faults) }
+{
+    let out = core.out();
+    core.commit()?;
+    if core.out() != out {
+        return Ok(nothing_counted());
+    }
+    let checked = check(core)?;
+    Ok(checked.report)
+}

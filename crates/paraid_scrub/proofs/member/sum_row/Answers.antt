@@ -1,0 +1,36 @@
+use Rattle.std.proofs.Common.{◌≡◌, ◌<◌, ◌+◌, ◌∙◌, sym, ap, subst, arith}
+use Rattle.paraid_base.specs.Sums.{xor_upto}
+use Rattle.paraid_base.specs.Xor.{xor}
+use Rattle.paraid_record.specs.declared.meta.Meta.{Meta}
+use Rattle.paraid_image.specs.Value.{value}
+use Rattle.paraid_scrub.proofs.LookedLemmas.{keeps_none, keeps_so, keeps_then, sum_more, sum_none}
+use Rattle.paraid_scrub.proofs.member.sum_row.Goals as goal
+
+pub loop-disk-init : goal.loop-disk-init
+loop-disk-init g c = record {
+  kept = keeps_none c.args.core.now (g.met.C.Stored.stays c.args.core.now c.requires.usable) c.requires.usable (λ v s. sum_none _ _ c.zero.ensures);
+}
+
+pub read_value-requires-clause-usable : goal.read_value-requires-clause-usable
+read_value-requires-clause-usable g c = c.loop-disk.invariant.kept.still
+
+pub read_value-requires-clause-row : goal.read_value-requires-clause-row
+read_value-requires-clause-row g c = subst (λ (z : Meta). c.args.row < z.setup.geometry.rows) (sym c.loop-disk.invariant.kept.same) c.requires.row
+
+pub read_value-requires-clause-disk : goal.read_value-requires-clause-disk
+read_value-requires-clause-disk g c =
+    let low : c.loop-disk.disk < (g.C.Stored.meta c.args.core.now).setup.geometry.disks = subst (λ (z : Meta). c.loop-disk.disk < z.setup.geometry.disks) c.meta.ensures.value (let e = c.disks-disks.ensures in omega (arith, e)) in
+    subst (λ (z : Meta). c.loop-disk.disk < z.setup.geometry.disks) (sym c.loop-disk.invariant.kept.same) low
+
+pub loop-disk-preserved : goal.loop-disk-preserved
+loop-disk-preserved g c = record {
+  kept = keeps_then (λ v. c.xor_into.new.to ≡ xor_upto (value v c.args.row) (c.loop-disk.disk + 1)) g.met.C.Stored.then g.met.C.Stored.told c.loop-disk.invariant.kept c.in_ok-read_value.ensures.shown
+      (λ v s sum is. sum_more (value v c.args.row) c.loop-disk.disk _ _ sum (c.xor_into.ensures ∙ ap (xor c.loop-disk.into) is));
+}
+
+pub returns-clause-shown : goal.returns-clause-shown
+returns-clause-shown g c =
+    let m = g.C.Stored.meta c.args.core.now in
+    let all : c.loop-disk.disk ≡ m.setup.geometry.disks = (let e = c.disks-disks.ensures in let k : c.loop-disk.disk ≡ c.disks-disks.result = omega arith in k ∙ e ∙ ap (λ (z : Meta). z.setup.geometry.disks) c.meta.ensures.value) in
+    keeps_so (λ v. c.loop-disk.into ≡ xor_upto (value v c.args.row) m.setup.geometry.disks) c.loop-disk.invariant.kept
+    (λ v s is. is ∙ ap (xor_upto (value v c.args.row)) all)

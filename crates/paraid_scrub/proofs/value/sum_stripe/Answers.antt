@@ -1,0 +1,49 @@
+use Rattle.std.proofs.Common.{◌≡◌, ◌<◌, ◌+◌, ◌∙◌, sym, ap, subst, arith}
+use Rattle.paraid_base.specs.Regions.{IsGear}
+use Rattle.paraid_base.specs.Soft.{stripe_count}
+use Rattle.paraid_base.specs.Sums.{without, xor_upto}
+use Rattle.paraid_base.specs.Xor.{xor}
+use Rattle.paraid_record.specs.declared.meta.Meta.{Meta}
+use Rattle.paraid_image.specs.Value.{stripe}
+use Rattle.paraid_scrub.specs.Looks.{IsReadable}
+use Rattle.paraid_scrub.proofs.LookedLemmas.{keeps_none, keeps_so, keeps_then, sum_more, sum_none}
+use Rattle.paraid_scrub.proofs.value.sum_stripe.Goals as goal
+
+pub loop-disk-init : goal.loop-disk-init
+loop-disk-init g c = record {
+  kept = keeps_none c.args.core.now (g.met.C.Stored.stays c.args.core.now c.requires.usable) c.requires.usable (λ v s. sum_none _ _ c.zero.ensures);
+}
+
+pub add_member-requires-clause-usable : goal.add_member-requires-clause-usable
+add_member-requires-clause-usable g c = c.loop-disk.invariant.kept.still
+
+pub add_member-requires-clause-gear : goal.add_member-requires-clause-gear
+add_member-requires-clause-gear g c = subst (λ (z : Meta). IsGear z.setup.geometry c.args.gear) (sym c.loop-disk.invariant.kept.same) c.requires.gear
+
+pub add_member-requires-clause-region : goal.add_member-requires-clause-region
+add_member-requires-clause-region g c = subst (λ (z : Meta). c.args.gear < z.setup.geometry.disks) (sym c.loop-disk.invariant.kept.same) c.requires.region
+
+pub add_member-requires-clause-at : goal.add_member-requires-clause-at
+add_member-requires-clause-at g c =
+    subst (λ (z : Meta). c.args.at < stripe_count z.setup.geometry.disks z.setup.geometry.rows c.args.gear) (sym c.loop-disk.invariant.kept.same) c.requires.at
+
+pub add_member-requires-clause-readable : goal.add_member-requires-clause-readable
+add_member-requires-clause-readable g c ne =
+    subst (λ (z : Meta). IsReadable z c.loop-disk.disk) (sym c.loop-disk.invariant.kept.same) (c.requires.readable c.loop-disk.disk (omega arith) ne)
+
+pub loop-disk-preserved : goal.loop-disk-preserved
+loop-disk-preserved g c =
+    let m = g.C.Stored.meta c.args.core.now in
+    let was = c.loop-disk.invariant.kept in
+    record {
+      kept = keeps_then (λ v. c.add_member.new.sum ≡ xor_upto (without (stripe m.setup.geometry v.block c.args.gear c.args.at) c.args.skipped) (c.loop-disk.disk + 1)) g.met.C.Stored.then g.met.C.Stored.told
+          was c.in_ok-add_member.ensures.shown
+          (λ v s sum is. sum_more (without (stripe m.setup.geometry v.block c.args.gear c.args.at) c.args.skipped) c.loop-disk.disk _ _ sum
+          (is ∙ ap (λ (z : Meta). xor c.loop-disk.into (without (stripe z.setup.geometry v.block c.args.gear c.args.at) c.args.skipped c.loop-disk.disk)) was.same));
+    }
+
+pub returns-clause-shown : goal.returns-clause-shown
+returns-clause-shown g c =
+    let m = g.C.Stored.meta c.args.core.now in
+    keeps_so (λ v. c.loop-disk.into ≡ xor_upto (without (stripe m.setup.geometry v.block c.args.gear c.args.at) c.args.skipped) c.args.gear) c.loop-disk.invariant.kept
+    (λ v s is. is ∙ ap (xor_upto (without (stripe m.setup.geometry v.block c.args.gear c.args.at) c.args.skipped)) (omega arith))

@@ -1,0 +1,84 @@
+-- What a check sees of a core, and what its reads leave of it.
+use Rattle.std.specs.Prelude.{◌≡◌, ℕ, ◌<◌, [], Option, Some}
+use Rattle.paraid_base.specs.declared.fault.Two.{Two}
+use Rattle.paraid_dirty.specs.Table.{is_dirty}
+use Rattle.paraid_rack.specs.declared.call.Power.TheVariants.{Spinning}
+use Rattle.paraid_rack.specs.Disks.{Disks}
+use Rattle.paraid_rack.specs.Slots.{Slot}
+use Rattle.paraid_rack.specs.Trail.{Trail, now}
+use Rattle.paraid_image.specs.Content.{view_by}
+use Rattle.paraid_image.specs.Out.{named_out}
+use Rattle.paraid_image.specs.Spot.{View}
+use Rattle.paraid_image.specs.Standing.{contents}
+use Rattle.paraid_txn.specs.Losses.{AreTwoDown, OnlyLosesSlots, StaySynced}
+use Rattle.paraid_txn.specs.Stores.{store_rack}
+use Rattle.paraid_core.specs.declared.staged.Core.{Core}
+use Rattle.paraid_core.specs.Calls.{MakesDataCalls}
+use Rattle.paraid_core.specs.Cores.{CanCoreServe, IsCoreReady, core_down}
+use Rattle.paraid_core.specs.Lost.{CoreLosesDisk, CoreMarksLost, CoreTellsLosses, MakesReads}
+use Rattle.paraid_core.specs.Steps.{IsHeldStill, LeavesCore, StandsStill}
+use Rattle.paraid_core.specs.Units.{IsRebuilding}
+use Rattle.paraid_scrub.specs.declared.ending.Ending.{Ending}
+use Rattle.paraid_scrub.specs.declared.ending.Ending.TheVariants.{Lost, Two as LostTwo}
+
+-- the view of what a core stands for, by its meta
+abbrev pub core_view : {R : Type 0} {g : _} → Core R g → Disks → View
+core_view core s = view_by core.meta s.power (contents s core.batch)
+
+-- the core's table of dirty cells has the bits of the map
+abbrev pub HasMapBits : {R : Type 0} {g : _} → Core R g → View → Type 0
+HasMapBits core v = (r d : ℕ) → r < core.meta.setup.geometry.rows → is_dirty core.dirty r d ≡ v.dirty r d
+
+-- A core can be checked: it can be read, nothing is staged, and a disk that is being rebuilt spins.
+pub record CanBeChecked {R : Type 0} {g : _} (count : R → ℕ) (slot : R → ℕ → Slot) (core : Core R g) : Type 0 where
+  pub ready : IsCoreReady count slot core
+  pub serves : CanCoreServe slot core
+  pub draft : core.draft ≡ []
+  pub nothing : core.batch ≡ []
+  pub fresh : (d : ℕ) → IsRebuilding core.meta d → (slot (store_rack core.store) d).power ≡ Spinning
+
+-- the rack tells blocks of this view, under the core's meta
+pub record ShowsView {R : Type 0} {g : _} (told : R → Option Trail) (core : Core R g) (v : View) : Type 0 where
+  pub trail : Trail
+  pub tells : told (store_rack core.store) ≡ Some trail
+  pub meta : v.meta ≡ core.meta
+  pub out : v.out ≡ named_out core.meta.out
+  pub block : v.block ≡ contents (now trail) []
+  pub bits : (r d : ℕ) → r < core.meta.setup.geometry.rows → is_dirty core.dirty r d ≡ v.dirty r d
+
+-- Some reads were made, in which at most one disk was lost.
+pub record HasLooked {R : Type 0} {g : _} (count : R → ℕ) (slot : R → ℕ → Slot) (told : R → Option Trail) (old new : Core R g) : Type 0 where
+  pub leaves : LeavesCore count slot old new
+  pub copied : new.copied ≡ old.copied
+  pub synced : StaySynced (slot (store_rack old.store)) (slot (store_rack new.store))
+  pub calls : MakesDataCalls told old new
+  pub reads : MakesReads told old new
+  pub marks : CoreMarksLost slot old new
+  pub stands : StandsStill count told old new
+
+-- No disk was lost in them, and the core can be read on.
+pub record LooksOn {R : Type 0} {g : _} (count : R → ℕ) (slot : R → ℕ → Slot) (told : R → Option Trail) (old new : Core R g) : Type 0 where
+  pub began : IsCoreReady count slot old
+  pub looked : HasLooked count slot told old new
+  pub same : new.meta ≡ old.meta
+
+-- One disk was lost in them.
+pub record LooksTillLost {R : Type 0} {g : _} (count : R → ℕ) (slot : R → ℕ → Slot) (told : R → Option Trail) (old new : Core R g) : Type 0 where
+  pub looked : HasLooked count slot told old new
+  pub loses : CoreLosesDisk slot old new
+
+-- Two disks were found down in them.
+pub record LooksTillTwo {R : Type 0} {g : _} (count : R → ℕ) (slot : R → ℕ → Slot) (told : R → Option Trail) (old new : Core R g) (two : Two) : Type 0 where
+  pub copied : new.copied ≡ old.copied
+  pub spared : OnlyLosesSlots (slot (store_rack old.store)) (slot (store_rack new.store))
+  pub synced : StaySynced (slot (store_rack old.store)) (slot (store_rack new.store))
+  pub down : AreTwoDown (core_down old) (slot (store_rack old.store)) (slot (store_rack new.store)) two
+  pub tells : CoreTellsLosses told (named_out old.meta.out) old new two
+  pub calls : MakesDataCalls told old new
+  pub reads : MakesReads told old new
+  pub held : IsHeldStill count told old new
+
+-- how such reads end
+abbrev pub LooksTill : {R : Type 0} {g : _} → (R → ℕ) → (R → ℕ → Slot) → (R → Option Trail) → Core R g → Core R g → Ending → Type 0
+LooksTill count slot told old new Lost = LooksTillLost count slot told old new
+LooksTill count slot told old new (LostTwo two) = LooksTillTwo count slot told old new two

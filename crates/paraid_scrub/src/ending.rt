@@ -1,0 +1,10 @@
+use paraid_base::Two;
+
+/// What ends a count before its end.
+#[derive(Clone, Copy, Debug, PartialEq, Eq)]
+pub enum Ending {
+    /// A disk was lost, the first one down.
+    Lost,
+    /// Two disks are down.
+    Two(Two),
+}

@@ -1,0 +1,200 @@
+//! An answer to a flush is written no sooner than the disks keep the writes that it counts.
+ghost use Rattle.paraid_memrack.specs.Rules.{rack_slot_count, slots_of, told_of};
+
+use crate::arrays::{MOST, Outcome, WHOLE, array, left, run};
+use paraid_base::{Block, DiskNo, Failed, Place};
+use paraid_io::{MemSource, Sink};
+use paraid_memrack::{MemRack, Pick};
+use paraid_program::{Ended, paraid};
+use paraid_rack::{Power, Rack};
+use std::alloc::Global;
+use std::cell::Cell;
+use std::test::Fail;
+
+/// A rack in memory whose calls are counted where a sink sees the count.
+#[derive(Drop)]
+struct CountedRack<'a> {
+    rack: MemRack,
+    calls: &'a Cell<u32>,
+}
+
+impl<'a> CountedRack<'a> {
+    fn count(&self) {
+        self.calls.set(self.calls.get().saturating_add(1));
+    }
+}
+
+impl<'a> Rack for CountedRack<'a> {
+    ghost use Rattle.paraid_memrack.specs.Laws.{agrees_of};
+    ghost use Rattle.paraid_memrack.specs.Rules.{rack_slot_count, slots_of, told_of};
+    ghost use Rattle.paraid_memrack.specs.Slots.{full_slot_at};
+    ghost use Rattle.paraid_rack.specs.Trail.{now};
+
+    ghost slot_count = { λ it. rack_slot_count it.rack };
+
+    ghost slot = { λ it. slots_of it.rack };
+
+    ghost told = { λ it. told_of it.rack };
+
+    ghost slots_hold = { λ it. it.rack.sound };
+
+    ghost agrees = { λ it t is. agrees_of (now t) (full_slot_at it.rack.slots.items) (it.rack.keeps t is) };
+
+    fn slots(&self) -> u8 {
+        self.rack.slots()
+    }
+
+    fn size(&self, disk: DiskNo) -> u32 {
+        self.rack.size(disk)
+    }
+
+    fn power(&self, disk: DiskNo) -> Power {
+        self.rack.power(disk)
+    }
+
+    fn unsynced(&self, disk: DiskNo) -> bool {
+        self.rack.unsynced(disk)
+    }
+
+    fn read(&mut self, disk: DiskNo, place: Place, into: &mut Block) -> Result<(), Failed> {
+        self.count();
+        self.rack.read(disk, place, into)
+    }
+
+    fn write(&mut self, disk: DiskNo, place: Place, block: &Block) -> Result<(), Failed> {
+        self.count();
+        self.rack.write(disk, place, block)
+    }
+
+    fn sync(&mut self, disk: DiskNo) -> Result<(), Failed> {
+        self.count();
+        self.rack.sync(disk)
+    }
+
+    fn park(&mut self, disk: DiskNo) -> Result<(), Failed> {
+        self.count();
+        self.rack.park(disk)
+    }
+
+    fn spin_up(&mut self, disk: DiskNo) -> Result<(), Failed> {
+        self.count();
+        self.rack.spin_up(disk)
+    }
+
+    fn attach(&mut self, disk: DiskNo, size: u32) -> Result<(), Failed> {
+        self.count();
+        self.rack.attach(disk, size)
+    }
+}
+
+/// The first 256 bytes that are written, and how many calls the rack had been asked for by then.
+#[derive(Drop)]
+struct TimedSink<'a> {
+    text: [u8; 256],
+    times: [u32; 256],
+    length: u8,
+    calls: &'a Cell<u32>,
+}
+
+impl<'a> TimedSink<'a> {
+    fn keep(&mut self, byte: u8) {
+        if self.length < 255 {
+            let at = self.length as usize;
+            self.text[at] = byte;
+            self.times[at] = self.calls.get();
+            self.length += 1;
+        }
+    }
+}
+
+impl<'a> Sink for TimedSink<'a> {
+    ghost use Rattle.std.specs.Prelude.{None};
+
+    ghost faults = { λ it. 0 };
+
+    ghost written = { λ it. None };
+
+    fn write_some(&mut self, bytes: &[u8]) -> Result<usize, Failed> {
+        for at in 0..bytes.len() {
+            self.keep(bytes[at]);
+        }
+        Ok(bytes.len())
+    }
+}
+
+// The call before which the line of this number began to be written, from 0.
+fn time_of_line(sink: &TimedSink, line: u8) -> u32 {
+    let mut ends = 0u8;
+    for at in 0..255 {
+        if ends == line {
+            return sink.times[at];
+        }
+        if sink.text[at] == b'\n' {
+            ends = ends.saturating_add(1);
+        }
+    }
+    MOST
+}
+
+// The disks after a run over these lines, and when the answers to its two flushes began to be written.
+fn timed(alloc: Global, lines: &[u8]) -> Result<(u8, MemRack, [u32; 2]), Fail> {
+    let calls = Cell::new(0);
+    let rack = CountedRack {
+        rack: array(alloc, WHOLE, &[])?,
+        calls: &calls,
+    };
+    let mut sink = TimedSink {
+        text: [0; 256],
+        times: [0; 256],
+        length: 0,
+        calls: &calls,
+    };
+    let mut bytes = Vec::new(alloc);
+    bytes.extend_from_slice(lines)?;
+    let mut source = MemSource::new(bytes, Vec::new(alloc));
+    let words = vec![in alloc; String::from_str(alloc, "run")?]?;
+    let Ended { status, rack } = paraid(alloc, &words, &mut source, &mut sink, rack);
+    let times = [time_of_line(&sink, 2), time_of_line(&sink, 4)];
+    Ok((status, rack.rack, times))
+}
+
+// What is told of block 3 after what a stop at this moment leaves.
+fn told_after(
+    alloc: Global,
+    rack: &MemRack,
+    moment: u32,
+    pick: Pick,
+    lost: Option<DiskNo>,
+) -> Result<Outcome, Fail> {
+    run(alloc, b"r 3\n", left(alloc, rack, moment, pick, lost, &[])?)
+}
+
+const PICKS: [Pick; 4] = [Pick::Old, Pick::New, Pick::Filled(165), Pick::Mixed];
+
+const LOST: [Option<DiskNo>; 6] = [None, Some(0), Some(1), Some(2), Some(3), Some(4)];
+
+#[test]
+fn a_flush_is_answered_when_its_writes_are_kept(rt: HostRuntime) -> Result<(), Fail> {
+    let alloc = rt.alloc();
+    let (status, rack, times) = timed(alloc, b"w 3 11\nf\nw 3 22\nf\n")?;
+    assert_eq!(rt; status, 0);
+    // The mount's 11 calls, and twice two reads and a commit of 26.
+    assert_eq!(rt; times, [39, 67]);
+    let wants = [
+        "mounted 1 gear 5\n3=11\nend 1\n",
+        "mounted 2 gear 5\n3=22\nend 2\n",
+    ];
+    for at in 0..2usize {
+        for pick in PICKS {
+            for lost in LOST {
+                let told = told_after(alloc, &rack, times[at], pick, lost)?;
+                assert_eq!(rt;
+                    told.text.as_slice(),
+                    wants[at].as_bytes(),
+                    "{at} {pick:?} {lost:?}"
+                );
+            }
+        }
+    }
+    Ok(())
+}

@@ -1,0 +1,281 @@
+//! Worked traces that are stopped before each of their calls, with what is loose picked in four ways and a disk lost
+//! besides or none: the next run tells the first writes, at least those of the last flush, and nothing else.
+
+use crate::arrays::{Outcome, WHOLE, array, left, restarted, run};
+use paraid_base::DiskNo;
+use paraid_memrack::{MemRack, Pick, Planned};
+use std::alloc::Global;
+use std::process::Abort;
+use std::test::Fail;
+
+// The pairs of a write, each a block and its byte in text.
+type Entry = &'static [(u32, &'static str)];
+
+/// A run that is stopped.
+#[derive(Clone, Copy)]
+struct Stopped {
+    /// Runs that come before it.
+    before: &'static [&'static str],
+    lines: &'static str,
+    /// The calls that fail.
+    fails: &'static [Planned],
+    /// All writes, those of the runs before first.
+    writes: &'static [Entry],
+    /// How many the runs before have flushed.
+    kept: usize,
+    /// The disk that the first line takes out.
+    out: Option<DiskNo>,
+}
+
+// Each of the 20 blocks.
+const READS: &str =
+    "r 0\nr 1\nr 2\nr 3\nr 4\nr 5\nr 6\nr 7\nr 8\nr 9\nr 10\nr 11\nr 12\nr 13\nr 14\nr 15\nr 16\n\
+                     r 17\nr 18\nr 19\n";
+
+// What a block holds after these writes.
+fn held(writes: &[Entry], block: u32) -> &'static str {
+    let mut byte = "00";
+    for &entry in writes {
+        for &(at, text) in entry {
+            if at == block {
+                byte = text;
+            }
+        }
+    }
+    byte
+}
+
+// What a run tells of all blocks after these writes, in this gear.
+fn told(alloc: Global, writes: &[Entry], gear: u8) -> Result<Vec<u8>, Fail> {
+    let count = writes.len();
+    let first = format!(in alloc; "mounted {count} gear {gear}\n")?;
+    let mut text = Vec::new(alloc);
+    text.extend_from_slice(first.as_bytes())?;
+    for block in 0..20u32 {
+        let byte = held(writes, block);
+        let line = format!(in alloc; "{block}={byte}\n")?;
+        text.extend_from_slice(line.as_bytes())?;
+    }
+    let last = format!(in alloc; "end {count}\n")?;
+    text.extend_from_slice(last.as_bytes())?;
+    Ok(text)
+}
+
+// Each text that a run may tell, where at least so many of the writes are kept.
+fn texts(alloc: Global, writes: &'static [Entry], kept: usize) -> Result<Vec<Vec<u8>>, Fail> {
+    let mut texts = Vec::new(alloc);
+    for count in kept.min(writes.len())..=writes.len() {
+        for gear in [4, 5] {
+            texts.push(told(alloc, &writes[..count], gear)?)?;
+        }
+    }
+    Ok(texts)
+}
+
+fn is_among(texts: &Vec<Vec<u8>>, text: &[u8]) -> bool {
+    texts.iter().any(|one| one.as_slice() == text)
+}
+
+// All ways to pick what is loose, in two halves.
+const WHOLE_BLOCKS: [Pick; 2] = [Pick::Old, Pick::New];
+
+const TORN_BLOCKS: [Pick; 2] = [Pick::Filled(165), Pick::Mixed];
+
+// No disk, and each disk.
+const LOST: [Option<DiskNo>; 6] = [None, Some(0), Some(1), Some(2), Some(3), Some(4)];
+
+// Whether a disk may be lost: any one while none is out, or that one.
+fn may_be_lost(out: Option<DiskNo>, lost: Option<DiskNo>) -> bool {
+    out.is_none() || lost.is_none() || lost == out
+}
+
+// Whether a run over these disks, without this one, ends well and tells one of these texts.
+fn tells_one_of(
+    alloc: Global,
+    image: &MemRack,
+    lost: Option<DiskNo>,
+    texts: &Vec<Vec<u8>>,
+) -> Result<bool, Fail> {
+    let start = left(alloc, image, 0, Pick::New, lost, &[])?;
+    let Outcome { status, text, .. } = run(alloc, READS.as_bytes(), start)?;
+    Ok(status == 0 && is_among(texts, &text))
+}
+
+// Mounts what a stop before this call leaves, and tells the first of which another text than these is told.
+fn wrong_at(
+    alloc: Global,
+    rack: &MemRack,
+    moment: u32,
+    picks: &[Pick],
+    out: Option<DiskNo>,
+    texts: &Vec<Vec<u8>>,
+) -> Result<Option<(Pick, Option<DiskNo>)>, Fail> {
+    for &pick in picks {
+        let image = left(alloc, rack, moment, pick, None, &[])?;
+        for lost in LOST {
+            if may_be_lost(out, lost) {
+                let told = tells_one_of(alloc, &image, lost, texts)?;
+                if !told {
+                    return Ok(Some((pick, lost)));
+                }
+            }
+        }
+    }
+    Ok(None)
+}
+
+// How many calls a mount of these disks makes.
+fn mount_of(alloc: Global, rack: &MemRack) -> Result<u32, Fail> {
+    let run = run(alloc, b"", restarted(alloc, rack, &[])?)?;
+    Ok(run.rack.calls())
+}
+
+// Stops this run before each of its calls, and once it has ended.
+fn stop(rt: &(impl Abort + AllocGlobal), row: &Stopped, picks: &[Pick]) -> Result<(), Fail> {
+    let alloc = rt.alloc();
+    let start = array(alloc, WHOLE, row.before)?;
+    let mount = mount_of(alloc, &start)?;
+    let whole = run(
+        alloc,
+        row.lines.as_bytes(),
+        restarted(alloc, &start, row.fails)?,
+    )?;
+    assert_eq!(rt; whole.status, 0);
+    let within = texts(alloc, row.writes, row.kept)?;
+    for moment in 0..whole.rack.calls() {
+        let out = if moment > mount { row.out } else { None };
+        let wrong = wrong_at(alloc, &whole.rack, moment, picks, out, &within)?;
+        assert!(rt; wrong.is_none(), "before call {moment}: {wrong:?}");
+    }
+    let ended = texts(alloc, row.writes, row.writes.len())?;
+    let calls = whole.rack.calls();
+    let wrong = wrong_at(alloc, &whole.rack, calls, picks, row.out, &ended)?;
+    assert!(rt; wrong.is_none(), "at the end: {wrong:?}");
+    Ok(())
+}
+
+const SHIFTED: &str = "down\nt\nt\n";
+
+const SHIFT_DOWN: Stopped = Stopped {
+    before: &[],
+    lines: "down\nt\nt\ns\ne\n",
+    fails: &[],
+    writes: &[],
+    kept: 0,
+    out: None,
+};
+
+#[test]
+fn a_shift_down_is_stopped_with_nothing_of_it_kept(rt: HostRuntime) -> Result<(), Fail> {
+    stop(&rt, &SHIFT_DOWN, &[Pick::Old])
+}
+
+#[test]
+fn a_shift_down_is_stopped_with_all_of_it_kept(rt: HostRuntime) -> Result<(), Fail> {
+    stop(&rt, &SHIFT_DOWN, &[Pick::New])
+}
+
+#[test]
+fn a_shift_down_is_stopped_with_a_byte_in_its_place(rt: HostRuntime) -> Result<(), Fail> {
+    stop(&rt, &SHIFT_DOWN, &[Pick::Filled(165)])
+}
+
+#[test]
+fn a_shift_down_is_stopped_with_half_of_it_kept(rt: HostRuntime) -> Result<(), Fail> {
+    stop(&rt, &SHIFT_DOWN, &[Pick::Mixed])
+}
+
+const WRITE_TO_COPY: Stopped = Stopped {
+    before: &[SHIFTED, "w 7 77\n"],
+    lines: "w 0 01\ns\n",
+    fails: &[],
+    writes: &[&[(7, "77")], &[(0, "01")]],
+    kept: 1,
+    out: None,
+};
+
+#[test]
+fn a_write_to_a_copy_is_stopped_between_blocks(rt: HostRuntime) -> Result<(), Fail> {
+    stop(&rt, &WRITE_TO_COPY, &WHOLE_BLOCKS)
+}
+
+#[test]
+fn a_write_to_a_copy_is_stopped_within_a_block(rt: HostRuntime) -> Result<(), Fail> {
+    stop(&rt, &WRITE_TO_COPY, &TORN_BLOCKS)
+}
+
+const FAILURE_IN_LOW_GEAR: Stopped = Stopped {
+    before: &[SHIFTED, "w 7 77\n"],
+    lines: "fail 1\nr 7\ns\n",
+    fails: &[],
+    writes: &[&[(7, "77")]],
+    kept: 1,
+    out: Some(1),
+};
+
+#[test]
+fn a_failure_in_a_low_gear_is_stopped_between_blocks(rt: HostRuntime) -> Result<(), Fail> {
+    stop(&rt, &FAILURE_IN_LOW_GEAR, &WHOLE_BLOCKS)
+}
+
+#[test]
+fn a_failure_in_a_low_gear_is_stopped_within_a_block(rt: HostRuntime) -> Result<(), Fail> {
+    stop(&rt, &FAILURE_IN_LOW_GEAR, &TORN_BLOCKS)
+}
+
+const REFUSALS: Stopped = Stopped {
+    before: &[],
+    lines: "fail 2\nfail 3\nfail 2\nreplace 3\nreplace 5\nt\ndown\n",
+    fails: &[],
+    writes: &[],
+    kept: 0,
+    out: Some(2),
+};
+
+#[test]
+fn a_failure_and_its_refusals_are_stopped_between_blocks(rt: HostRuntime) -> Result<(), Fail> {
+    stop(&rt, &REFUSALS, &WHOLE_BLOCKS)
+}
+
+#[test]
+fn a_failure_and_its_refusals_are_stopped_within_a_block(rt: HostRuntime) -> Result<(), Fail> {
+    stop(&rt, &REFUSALS, &TORN_BLOCKS)
+}
+
+const FRESH_DISK: Stopped = Stopped {
+    before: &[],
+    lines: "fail 2\nreplace 2\nt\nr 2\n",
+    fails: &[Planned::OnDisk { disk: 2, nth: 2 }],
+    writes: &[],
+    kept: 0,
+    out: Some(2),
+};
+
+#[test]
+fn a_fresh_disk_that_fails_is_stopped_between_blocks(rt: HostRuntime) -> Result<(), Fail> {
+    stop(&rt, &FRESH_DISK, &WHOLE_BLOCKS)
+}
+
+#[test]
+fn a_fresh_disk_that_fails_is_stopped_within_a_block(rt: HostRuntime) -> Result<(), Fail> {
+    stop(&rt, &FRESH_DISK, &TORN_BLOCKS)
+}
+
+const THREE_BLOCKS: Stopped = Stopped {
+    before: &[],
+    lines: "w 3 11 7 22 11 33\nf\n",
+    fails: &[],
+    writes: &[&[(3, "11"), (7, "22"), (11, "33")]],
+    kept: 0,
+    out: None,
+};
+
+#[test]
+fn a_write_of_three_blocks_is_stopped_between_blocks(rt: HostRuntime) -> Result<(), Fail> {
+    stop(&rt, &THREE_BLOCKS, &WHOLE_BLOCKS)
+}
+
+#[test]
+fn a_write_of_three_blocks_is_stopped_within_a_block(rt: HostRuntime) -> Result<(), Fail> {
+    stop(&rt, &THREE_BLOCKS, &TORN_BLOCKS)
+}
