@@ -1,5 +1,5 @@
 -- The ticks of a rebuild over a core, as turns of a session.
-use Rattle.std.specs.Prelude.{◌≡◌, ℕ, ◌+◌, ◌-◌, ◌^◌, ◌<◌, ◌≤◌, Bool, true, false, List, [], ◌∷◌, Option, Some, None, if◌then◌else◌}
+use Rattle.std.specs.Prelude.{◌≡◌, ℕ, ◌+◌, ◌-◌, ◌^◌, ◌<◌, ◌≤◌, Bool, true, false, List, [], ◌∷◌, Option, Some, None}
 use Rattle.std.proofs.Common.{refl, sym, ◌∙◌, ap, subst, arith}
 use Rattle.paraid_base.specs.declared.event.Answer.TheVariants.{Ticked}
 use Rattle.paraid_base.specs.declared.event.Event.TheVariants.{Tick}
@@ -7,6 +7,7 @@ use Rattle.paraid_base.specs.declared.fault.Two.{Two}
 use Rattle.paraid_base.specs.declared.state.Out.TheVariants.{Fresh, Gone, No}
 use Rattle.paraid_base.specs.declared.state.TickEvent.TheVariants.{Gone as GoneAgain, Moving, Rebuilt}
 use Rattle.paraid_base.specs.History.{History}
+use Rattle.paraid_base.specs.States.{named_out}
 use Rattle.paraid_rack.specs.declared.call.Call.TheVariants.{Park}
 use Rattle.paraid_rack.specs.declared.call.Power.TheVariants.{Absent, Parked}
 use Rattle.paraid_rack.specs.Disks.{Disks, is_present, power_after, step}
@@ -31,17 +32,16 @@ use Rattle.paraid_core.specs.CoreInvariant.{AreCopiesSynced, HoldsBetweenCalls, 
 use Rattle.paraid_core.specs.Steps.{IsMarkedFrom}
 use Rattle.paraid_core.specs.Fills.{Filled}
 use Rattle.paraid_core.proofs.CommitLemmas.{both_of}
-use Rattle.paraid_machine.specs.Machine.{report}
 use Rattle.paraid_machine.specs.Moves.{state_with_tick, units_to_rebuild}
 use Rattle.paraid_session.specs.Turn.{GoesOn, Point, point_wear}
 use Rattle.paraid_event.specs.Powering.{ServiceRests}
 use Rattle.paraid_event.specs.RebuildEnds.{MarksRejoined, ParksInEvent}
-use Rattle.paraid_event.specs.RebuildTicks.{CountsRebuild, MarksGoneAgain}
+use Rattle.paraid_event.specs.RebuildTicks.{CountsRebuild}
 use Rattle.paraid_event.specs.Service.{Service, service_of}
 use Rattle.paraid_event.specs.Stands.{ServiceStandsFor, StandsAt}
 use Rattle.paraid_event.specs.Steps.{LosesInSteps, StepsInEvent}
 use Rattle.paraid_event.specs.Ticks.{CountsTick}
-use Rattle.paraid_event.proofs.RebuildFinishLemmas.{back_turn, finish_gone_turn, finish_loses_turn, one_call_loses_one, park_failed_turn}
+use Rattle.paraid_event.proofs.RebuildFinishLemmas.{back_turn, finish_gone_steps, finish_loses_turn, one_call_loses_one, park_failed_steps}
 use Rattle.paraid_event.proofs.RebuildTickLemmas.{gone_told, moving_told, rebuild_loses}
 use Rattle.paraid_array.specs.TickAnswers.{units_unbuilt}
 use Rattle.paraid_array.specs.TickTurns.{CoreComesBack, CoreLosesComing, FinishesAndParks}
@@ -64,6 +64,11 @@ kept_epoch f mid new is same = same ∙ is ∙ ap f (sym (ap (λ (z : Meta). z.e
 pub lost_epoch : (m mid new : Meta) (d : ℕ) → mid ≡ record m { epoch = mid.epoch; out = No } → new ≡ meta_after_loss mid d → new ≡ record (meta_after_loss m d) { epoch = new.epoch }
 lost_epoch m mid new d is gone =
     gone ∙ ap (λ (z : Meta). meta_after_loss z d) is ∙ ap (λ (e : ℕ). record (meta_after_loss m d) { epoch = e }) (sym (ap (λ (z : Meta). z.epoch) gone))
+
+-- the meta of one that had come back in so many commits, and is parked or lost in that
+pub few_parked : (m mid new : Meta) (d : ℕ) (back : Bool) → mid.epoch ≤ m.epoch + 1 → (back ≡ true → new ≡ mid) → (back ≡ false → new ≡ meta_after_loss mid d) → new.epoch ≤ m.epoch + 1
+few_parked m mid new d true few same gone = let e = ap (λ (z : Meta). z.epoch) (same refl) in omega (arith, few, e)
+few_parked m mid new d false few same gone = let e = ap (λ (z : Meta). z.epoch) (gone refl) in omega (arith, few, e)
 
 -- a disk that was lost where none was out
 pub lost_marked : (m new : Meta) (d : ℕ) → IsMarkedFrom m new → m.out ≡ No → new.out ≡ Gone d → new ≡ meta_after_loss m d
@@ -248,15 +253,10 @@ module _ {R : Type 0} {g : _} (count : R → ℕ) (told : R → Option Trail) (a
     is = recounted (meta_with_out a.meta No) c.meta (back ∙ ap (λ (z : Meta). record z { epoch = c.meta.epoch; out = No }) same);
   }
 
-  marks_lost : b.meta ≡ record (meta_after_loss m.meta d) { epoch = b.meta.epoch } → MarksGoneAgain start last d
-  marks_lost gone = record {
-    is = recounted (meta_after_loss a.meta d) b.meta (gone ∙ ap (λ (z : Meta). record (meta_after_loss z d) { epoch = b.meta.epoch }) same);
-  }
-
   pub ended_halts : (two : Two) → CoreLosesComing count told m b d two → Ran told_a told_b (Halts count told a k setup p samples served energy at fit counts two)
   ended_halts two (finishing loses) =
       halts_so count told a k setup p samples served energy at fit counts b two
-      (finish_loses_turn told_a k start setup p at d rebuilt fresh_shown counts fit told_m told_b staged start 1 (omega arith) steps two (loses samples served energy p.history p.low))
+      (finish_loses_turn told_a k start setup p at d rebuilt fresh_shown counts fit told_m told_b staged 1 (omega arith) steps two (loses samples served energy p.history p.low))
   ended_halts two (untold none) = λ t tells. let z : None ≡ Some t = sym none ∙ tells in absurd cc
 
   module _ (counted_on : CountsRebuild k start last) where
@@ -273,27 +273,21 @@ module _ {R : Type 0} {g : _} (count : R → ℕ) (told : R → Option Trail) (a
         (back_turn told_a k start setup p at d rebuilt fresh_shown counts fit told_m (told (store_rack it.mid.store)) told_b staged (service_of count it.mid samples served energy) last 1 (omega arith) counted_on steps (marks_back b back) within
         (it.finishes samples served energy p.history p.low) (it.parks samples served energy p.history p.low))))
 
-    gone_so : b.meta ≡ record (meta_after_loss m.meta d) { epoch = b.meta.epoch } → Ran told_a told_b (GoesOn k.slots setup p Tick (report p.state 0 (GoneAgain d)).0 (StandsAt told_b last setup))
-        → Ran told_a told_b (Goes count told a k setup p samples served energy at fit counts b (record { gear = b.meta.gear; moved = 0; event = GoneAgain d }))
-    gone_so gone goes =
-        let gear : p.state.gear ≡ b.meta.gear = gear_shown ∙ sym (ap (λ (z : Meta). z.gear) same) ∙ sym (ap (λ (z : Meta). z.gear) gone) in
-        goes_so count told a k setup p samples served energy at fit counts b (record { gear = b.meta.gear; moved = 0; event = GoneAgain d }) refl
-        (subst (λ (n : ℕ). Ran told_a told_b (GoesOn k.slots setup p Tick (Ticked (record { gear = n; moved = 0; event = GoneAgain d })) (StandsAt told_b last setup))) gear goes)
+    -- so it is told where the disk is back
+    pub ended_told : (back : Bool) → back ≡ true → CoreComesBack count told m b d back → b.meta ≡ record m.meta { epoch = b.meta.epoch; out = No } → units_unbuilt a.meta d rebuilt ≤ a.meta.setup.rate
+        → Ran told_a told_b (Goes count told a k setup p samples served energy at fit counts b (record { gear = b.meta.gear; moved = units_unbuilt a.meta d rebuilt; event = Rebuilt d }))
+    ended_told back came (ends is it) rejoined few = ended_back it rejoined few
+    ended_told back came (lost is it) rejoined few = let z : true ≡ false = sym came ∙ is in absurd cc
+    ended_told back came (lost_parked is it) rejoined few = let z : true ≡ false = sym came ∙ is in absurd cc
 
-    -- so it is told, whether the disk is back or lost
-    pub ended_told : (back : Bool) → CoreComesBack count told m b d back → (back ≡ true → b.meta ≡ record m.meta { epoch = b.meta.epoch; out = No }) → (back ≡ false → b.meta ≡ record (meta_after_loss m.meta d) { epoch = b.meta.epoch })
-        → units_unbuilt a.meta d rebuilt ≤ a.meta.setup.rate
-        → Ran told_a told_b (Goes count told a k setup p samples served energy at fit counts b (record { gear = b.meta.gear; moved = if back then units_unbuilt a.meta d rebuilt else 0; event = if back then Rebuilt d else GoneAgain d }))
-    ended_told true (ends is it) rejoined marked few = ended_back it (rejoined refl) few
-    ended_told true (lost is it) rejoined marked few = let z : true ≡ false = is in absurd cc
-    ended_told true (lost_parked is it) rejoined marked few = let z : true ≡ false = is in absurd cc
-    ended_told false (ends is it) rejoined marked few = let z : false ≡ true = is in absurd cc
-    ended_told false (lost is it) rejoined marked few =
-        gone_so (marked refl)
-        (finish_gone_turn told_a k start setup p at d rebuilt fresh_shown counts fit told_m told_b staged last 1 (omega arith) steps counted_on (marks_lost (marked refl)) (it samples served energy p.history p.low))
-    ended_told false (lost_parked is it) rejoined marked few =
-        let rejoins = it.rejoined samples served energy in
-        gone_so (marked refl)
-        (park_failed_turn told_a k start setup p at d rebuilt fresh_shown counts fit told_m (told (store_rack it.mid.store)) told_b staged (service_of count it.mid samples served energy) last 1 (omega arith) counted_on steps
-        (record { is = rejoins.is ∙ ap (λ (z : Meta). record (meta_with_out z No) { epoch = it.mid.meta.epoch; writes = it.mid.meta.writes }) same }) (marks_lost (marked refl))
-        (it.finishes samples served energy p.history p.low) (it.parks samples served energy p.history p.low))
+-- Where the disk is lost, that is so far parts of the tick.
+module _ {R : Type 0} {g : _} (count : R → ℕ) (told : R → Option Trail) (a m b : Core R g) (d : ℕ) (samples : List ℕ) (served energy : ℕ) (h : History) (lo : ℕ) (named : named_out a.meta.out ≡ Some d) (gone : b.meta.out ≡ Gone d)
+    (steps : Ran (told (store_rack a.store)) (told (store_rack m.store)) (StepsInEvent (service_of count a samples served energy) (service_of count m samples served energy) h lo 1)) where
+  pub ended_lost : (back : Bool) → back ≡ false → CoreComesBack count told m b d back → Ran (told (store_rack a.store)) (told (store_rack b.store)) (StepsInEvent (service_of count a samples served energy) (service_of count b samples served energy) h lo 2)
+  ended_lost back away (ends is it) = let z : true ≡ false = sym is ∙ away in absurd cc
+  ended_lost back away (lost is it) =
+      finish_gone_steps (told (store_rack a.store)) (told (store_rack m.store)) (told (store_rack b.store)) (service_of count a samples served energy) (service_of count m samples served energy) (service_of count b samples served energy) h lo 1 d steps
+      named gone (it samples served energy h lo)
+  ended_lost back away (lost_parked is it) =
+      park_failed_steps (told (store_rack a.store)) (told (store_rack m.store)) (told (store_rack it.mid.store)) (service_of count a samples served energy) (service_of count m samples served energy) (service_of count it.mid samples served energy) h lo 1 d steps
+      (told (store_rack b.store)) (service_of count b samples served energy) named (ap (λ (z : Meta). z.out) (it.rejoined samples served energy).is) gone (it.finishes samples served energy h lo) (it.parks samples served energy h lo)

@@ -1,23 +1,39 @@
--- What is told after calls was told before.
-use Rattle.std.proofs.Common.{◌≡◌, inl, inr, ℕ, true, false, [], List, Option, Some, None, refl, sym, subst}
-use Rattle.std.specs.Prelude.{IsSome}
+-- What is told after calls is what was told before, longer by some calls.
+use Rattle.std.proofs.Common.{◌≡◌, inl, inr, ℕ, [], List, Option, subst}
 use Rattle.paraid_rack.specs.declared.call.Call.{Call}
 use Rattle.paraid_rack.specs.Disks.{Disks}
 use Rattle.paraid_rack.specs.Told.{Ran}
 use Rattle.paraid_rack.specs.Trail.{Trail}
+use Rattle.paraid_rack.proofs.TrailsLemmas.{Ran-none, Ran-then}
+use Rattle.paraid_recover.specs.HeldMoments.{Extends}
+use Rattle.paraid_startup.proofs.MountedLemmas.{ran_extends}
+use Rattle.paraid_txn.specs.Stores.{store_rack}
 use Rattle.paraid_core.specs.declared.staged.Core.{Core}
 use Rattle.paraid_core.specs.Cores.{core_rack}
 use Rattle.paraid_shift.specs.Steps.{StepsOrWaits}
 
-pub told_before : (old new : Option Trail) (Q : Disks → List Call → Type 0) → Ran old new Q → IsSome new → IsSome old
-told_before old (Some t) Q ran some = let r = ran t refl in subst (λ (o : Option Trail). IsSome o) (sym r.was) refl
-told_before old None Q ran some = let z : false ≡ true = some in absurd cc
+-- no call
+pub extends_none : (told : Option Trail) → Extends told told
+extends_none told = Ran-none (λ _ _. Unit {0}) (λ _. tt) told
 
--- the same of cores
-pub told_core : {R : Type 0} {g : _} (told : R → Option Trail) (a b : Core R g) (Q : Disks → List Call → Type 0) → Ran (told (core_rack a)) (told (core_rack b)) Q → IsSome (told (core_rack b)) → IsSome (told (core_rack a))
-told_core told a b Q ran some = told_before (told (core_rack a)) (told (core_rack b)) Q ran some
+-- calls, then calls
+pub extends_then : (old mid new : Option Trail) → Extends old mid → Extends mid new → Extends old new
+extends_then old mid new first second = Ran-then (λ _ _. Unit {0}) (λ s cs ds a b. tt) old mid new first second
 
--- the same of the units that a shift moved
-pub told_steps : {R : Type 0} {g : _} (count : R → ℕ) (told : R → Option Trail) (a b : Core R g) (most : ℕ) → StepsOrWaits count told a b most → IsSome (told (core_rack b)) → IsSome (told (core_rack a))
-told_steps count told a b most (inl steps) some = told_core told a b _ (steps [] 0 [] 0 0) some
-told_steps count told a b most (inr (is, waits)) some = told_core told a b _ (waits [] 0 [] 0 0) some
+module _ {R : Type 0} {g : _} (told : R → Option Trail) where
+  -- calls from a core that has the store of another
+  pub extends_store : (a b c : Core R g) → b.store ≡ a.store → Extends (told (core_rack b)) (told (core_rack c)) → Extends (told (core_rack a)) (told (core_rack c))
+  extends_store a b c same then = subst (λ (x : _). Extends (told (store_rack x)) (told (core_rack c))) same then
+
+  -- calls of which more is told
+  pub extends_core : (a b : Core R g) (Q : Disks → List Call → Type 0) → Ran (told (core_rack a)) (told (core_rack b)) Q → Extends (told (core_rack a)) (told (core_rack b))
+  extends_core a b Q ran = ran_extends Q (told (core_rack a)) (told (core_rack b)) ran
+
+  -- calls, then calls
+  pub extends_cores : (a b c : Core R g) → Extends (told (core_rack a)) (told (core_rack b)) → Extends (told (core_rack b)) (told (core_rack c)) → Extends (told (core_rack a)) (told (core_rack c))
+  extends_cores a b c first second = extends_then (told (core_rack a)) (told (core_rack b)) (told (core_rack c)) first second
+
+  -- the calls of the units that a shift moved
+  pub extends_steps : (count : R → ℕ) (a b : Core R g) (most : ℕ) → StepsOrWaits count told a b most → Extends (told (core_rack a)) (told (core_rack b))
+  extends_steps count a b most (inl steps) = extends_core a b _ (steps [] 0 [] 0 0)
+  extends_steps count a b most (inr (is, waits)) = extends_core a b _ (waits [] 0 [] 0 0)

@@ -1,5 +1,5 @@
 //! Shifts that are asked for.
-ghost use Rattle.std.specs.Prelude.{◌≡◌, ◌≢◌, ℕ, ◌+◌, ◌^◌, ◌<◌, ◌≤◌, Ok, IsSome, OnOk, IfErr, IfOk};
+ghost use Rattle.std.specs.Prelude.{◌≡◌, ◌≢◌, ℕ, ◌+◌, ◌^◌, ◌<◌, ◌≤◌, Ok, OnOk, IfErr, IfOk};
 ghost use Rattle.paraid_base.specs.declared.event.Event.TheVariants.{Down as AskDown, Up as AskUp};
 ghost use Rattle.paraid_base.specs.declared.state.Out.TheVariants.{No};
 ghost use Rattle.paraid_core.specs.Cores.{core_down, core_rack, meta_of};
@@ -9,6 +9,7 @@ ghost use Rattle.paraid_array.specs.Refusals.{HasBegunOrLost, IsDownRefused, IsS
 ghost use Rattle.paraid_array.specs.Service.{IsOutKnown};
 ghost use Rattle.paraid_array.specs.Turns.{CoreGoesOn, CoreHalts, asked_answer};
 ghost use Rattle.paraid_image.specs.Power.{PowerState};
+ghost use Rattle.paraid_recover.specs.HeldMoments.{Extends};
 ghost use Rattle.paraid_shift.specs.Serving.{IsCoreServing, LeavesArray};
 ghost use Rattle.paraid_txn.specs.Losses.{AreTwoDown};
 
@@ -52,7 +53,7 @@ pub fn down<R: Rack>(core: &mut Core<R>) -> Result<Asked, Two>
     ensures no_fall { (d : ℕ) → (R.slot (core_rack core.old) d).faults ≤ (R.slot (core_rack core.new) d).faults }
     ensures two { IfErr result (AreTwoDown (core_down core.old)
         (R.slot (core_rack core.old)) (R.slot (core_rack core.new))) }
-    ensures told { IsSome (R.told (core_rack core.new)) → IsSome (R.told (core_rack core.old)) }
+    ensures told { Extends (R.told (core_rack core.old)) (R.told (core_rack core.new)) }
 {
     if let Err(fault) = gear_below(core.meta()) {
         return Ok(Asked::Refused(fault));
@@ -90,7 +91,7 @@ pub fn up<R: Rack>(core: &mut Core<R>) -> Result<Asked, Two>
     ensures no_fall { (d : ℕ) → (R.slot (core_rack core.old) d).faults ≤ (R.slot (core_rack core.new) d).faults }
     ensures two { IfErr result (AreTwoDown (core_down core.old)
         (R.slot (core_rack core.old)) (R.slot (core_rack core.new))) }
-    ensures told { IsSome (R.told (core_rack core.new)) → IsSome (R.told (core_rack core.old)) }
+    ensures told { Extends (R.told (core_rack core.old)) (R.told (core_rack core.new)) }
 {
     if let Err(fault) = gear_above(core.meta()) {
         return Ok(Asked::Refused(fault));

@@ -1,5 +1,5 @@
 //! A disk is taken out.
-ghost use Rattle.std.specs.Prelude.{◌≡◌, ℕ, ◌+◌, ◌^◌, ◌<◌, ◌≤◌, ◌⊎◌, [], None, Ok, Some, IsSome, OnOk, IfErr, IfOk, IfSome};
+ghost use Rattle.std.specs.Prelude.{◌≡◌, ℕ, ◌+◌, ◌^◌, ◌<◌, ◌≤◌, ◌⊎◌, [], None, Ok, Some, OnOk, IfErr, IfOk, IfSome};
 ghost use Rattle.paraid_base.specs.declared.event.Event.TheVariants.{Fail as FailEvent};
 ghost use Rattle.paraid_base.specs.declared.state.Out.TheVariants.{Gone};
 ghost use Rattle.paraid_core.specs.Cores.{batch_of, core_down, core_rack, core_table, meta_of};
@@ -9,6 +9,7 @@ ghost use Rattle.paraid_array.specs.declared.fault.FailFault.TheVariants.{NoDisk
 ghost use Rattle.paraid_array.specs.DiskRefusals.{IsFailRefused};
 ghost use Rattle.paraid_array.specs.Service.{IsInService, IsOutKnown};
 ghost use Rattle.paraid_array.specs.Turns.{CanMarkTaken, CoreCommits, CoreCommitsTaken, CoreGoesOn, CoreHalts, CoreLosesCommit, CoreLosesTaken, fail_answer};
+ghost use Rattle.paraid_recover.specs.HeldMoments.{Extends};
 ghost use Rattle.paraid_txn.specs.Losses.{AreTwoDown, AreTwoDownBeside, OnlyLosesSlots};
 ghost use Rattle.paraid_image.specs.Out.{named_out};
 
@@ -39,7 +40,7 @@ fn commit_writes<R: Rack>(core: &mut Core<R>) -> Result<(), Two>
     ensures loses { IfErr result (λ two. CoreLosesCommit R.slot_count R.told core.old core.new two) }
     ensures two { IfErr result (AreTwoDown (core_down core.old)
         (R.slot (core_rack core.old)) (R.slot (core_rack core.new))) }
-    ensures told { IsSome (R.told (core_rack core.new)) → IsSome (R.told (core_rack core.old)) }
+    ensures told { Extends (R.told (core_rack core.old)) (R.told (core_rack core.new)) }
 {
     if core.staged() == 0 {
         return Ok(());
@@ -70,7 +71,7 @@ fn mark_gone<R: Rack>(core: &mut Core<R>, disk: DiskNo) -> Result<(), Two>
     ensures spared { OnlyLosesSlots (R.slot (core_rack core.old)) (R.slot (core_rack core.new)) }
     ensures two { IfErr result (AreTwoDownBeside (λ d. (core_down core.old ≡ Some d) ⊎ (d ≡ disk))
         (R.slot (core_rack core.old)) (R.slot (core_rack core.new))) }
-    ensures told { IsSome (R.told (core_rack core.new)) → IsSome (R.told (core_rack core.old)) }
+    ensures told { Extends (R.told (core_rack core.old)) (R.told (core_rack core.new)) }
 {
     core.mark_out(disk);
     core.commit()?;
@@ -109,7 +110,7 @@ pub fn take_out<R: Rack>(core: &mut Core<R>, disk: DiskNo) -> Result<Option<Fail
     // The first of two disks may be the one that is taken out.
     ensures two { IfErr result (AreTwoDownBeside (λ d. (core_down core.old ≡ Some d) ⊎ (d ≡ disk))
         (R.slot (core_rack core.old)) (R.slot (core_rack core.new))) }
-    ensures told { IsSome (R.told (core_rack core.new)) → IsSome (R.told (core_rack core.old)) }
+    ensures told { Extends (R.told (core_rack core.old)) (R.told (core_rack core.new)) }
 {
     if disk >= core.meta().setup.geometry.disks {
         return Ok(Some(FailFault::NoDisk { disk }));

@@ -1,7 +1,8 @@
 //! A disk that is out is replaced, and the ticks of its rebuild.
-ghost use Rattle.std.specs.Prelude.{◌≡◌, ℕ, ◌+◌, ◌^◌, ◌<◌, ◌≤◌, true, false, [], None, Ok, Some, IsSome, OnOk, IfOk, IfErr, if◌then◌else◌};
+ghost use Rattle.std.specs.Prelude.{◌≡◌, ℕ, ◌+◌, ◌^◌, ◌<◌, ◌≤◌, true, false, List, [], None, Ok, Some, OnOk, IfOk, IfErr, if◌then◌else◌};
 ghost use Rattle.paraid_base.specs.declared.state.Out.TheVariants.{Fresh, Gone, No};
 ghost use Rattle.paraid_base.specs.declared.state.TickEvent.TheVariants.{Gone as GoneInTick, Moving, Rebuilt};
+ghost use Rattle.paraid_base.specs.History.{History};
 ghost use Rattle.paraid_base.specs.States.{rebuilt_count};
 ghost use Rattle.paraid_base.specs.Told.{HasRisen};
 ghost use Rattle.paraid_core.specs.Cores.{batch_of, core_down, core_rack, core_table, meta_of, store_of};
@@ -10,9 +11,13 @@ ghost use Rattle.paraid_array.specs.Service.{IsOutKnown};
 ghost use Rattle.paraid_array.specs.TickAnswers.{TellsRebuild, units_unbuilt};
 ghost use Rattle.paraid_array.specs.TickTurns.{CoreComesBack, CoreLosesComing, CoreParksBack};
 ghost use Rattle.paraid_array.specs.Turns.{CoreTickHalts, CoreTicks};
+ghost use Rattle.paraid_event.specs.Service.{service_of};
+ghost use Rattle.paraid_event.specs.Steps.{StepsInEvent};
 ghost use Rattle.paraid_gear.specs.declared.windows.Windows.{Windows as WindowsType};
 ghost use Rattle.paraid_image.specs.Mark.{meta_after_loss};
-ghost use Rattle.paraid_rack.specs.declared.call.Power.TheVariants.{Spinning};
+ghost use Rattle.paraid_rack.specs.declared.call.Power.TheVariants.{Absent, Spinning};
+ghost use Rattle.paraid_rack.specs.Told.{Ran};
+ghost use Rattle.paraid_recover.specs.HeldMoments.{Extends};
 ghost use Rattle.paraid_record.specs.Range.{rebuild_units as units_of_rebuild};
 ghost use Rattle.paraid_shift.specs.Serving.{IsCoreServing, LeavesArray};
 ghost use Rattle.paraid_txn.specs.Losses.{AreTwoDown};
@@ -21,7 +26,7 @@ ghost use Rattle.paraid_txn.specs.Stores.{named_of};
 use paraid_base::{DiskNo, TickEvent, Two};
 use paraid_core::Core;
 use paraid_rack::Rack;
-use paraid_rebuild::{commit_staged, finish, step};
+use paraid_rebuild::{commit_lost, commit_staged, finish, step};
 use paraid_record::rebuild_units;
 
 // Parks the disk that has come back, unless the array needs it. False where it was lost in that.
@@ -39,6 +44,7 @@ fn park_back<R: Rack>(core: &mut Core<R>, disk: DiskNo) -> Result<bool, Two>
     ensures gone { result ≡ Ok false → (meta_of core.new).out ≡ Gone disk }
     ensures failed { result ≡ Ok false
         → HasRisen (R.slot (core_rack core.old) disk).faults (R.slot (core_rack core.new) disk).faults }
+    ensures away { result ≡ Ok false → (R.slot (core_rack core.new) disk).power ≡ Absent }
     ensures same { result ≡ Ok true → meta_of core.new ≡ meta_of core.old }
     ensures marked { result ≡ Ok false → meta_of core.new ≡ meta_after_loss (meta_of core.old) disk }
     ensures table { core_table core.new ≡ core_table core.old }
@@ -48,7 +54,7 @@ fn park_back<R: Rack>(core: &mut Core<R>, disk: DiskNo) -> Result<bool, Two>
     ensures no_fall { (d : ℕ) → (R.slot (core_rack core.old) d).faults ≤ (R.slot (core_rack core.new) d).faults }
     ensures two { IfErr result (AreTwoDown (core_down core.old)
         (R.slot (core_rack core.old)) (R.slot (core_rack core.new))) }
-    ensures told { IsSome (R.told (core_rack core.new)) → IsSome (R.told (core_rack core.old)) }
+    ensures told { Extends (R.told (core_rack core.old)) (R.told (core_rack core.new)) }
 {
     if disk < core.meta().gear {
         return Ok(true);
@@ -75,10 +81,12 @@ fn come_back<R: Rack>(core: &mut Core<R>, disk: DiskNo) -> Result<bool, Two>
     ensures serving { OnOk result (IsCoreServing R.slot_count R.slot core.new) }
     ensures leaves { OnOk result (LeavesArray R.slot_count R.slot core.old core.new) }
     ensures known { OnOk result (IsOutKnown R.slot core.new) }
+    ensures few { OnOk result ((meta_of core.new).epoch ≤ (meta_of core.old).epoch + 1) }
     ensures back { result ≡ Ok true → (meta_of core.new).out ≡ No }
     ensures gone { result ≡ Ok false → (meta_of core.new).out ≡ Gone disk }
     ensures failed { result ≡ Ok false
         → HasRisen (R.slot (core_rack core.old) disk).faults (R.slot (core_rack core.new) disk).faults }
+    ensures away { result ≡ Ok false → (R.slot (core_rack core.new) disk).power ≡ Absent }
     ensures rejoined { result ≡ Ok true → meta_of core.new ≡ record (meta_of core.old)
         { epoch = (meta_of core.new).epoch; out = No } }
     ensures marked { result ≡ Ok false → meta_of core.new
@@ -90,7 +98,7 @@ fn come_back<R: Rack>(core: &mut Core<R>, disk: DiskNo) -> Result<bool, Two>
     ensures no_fall { (d : ℕ) → (R.slot (core_rack core.old) d).faults ≤ (R.slot (core_rack core.new) d).faults }
     ensures two { IfErr result (AreTwoDown (core_down core.old)
         (R.slot (core_rack core.old)) (R.slot (core_rack core.new))) }
-    ensures told { IsSome (R.told (core_rack core.new)) → IsSome (R.told (core_rack core.old)) }
+    ensures told { Extends (R.told (core_rack core.old)) (R.told (core_rack core.new)) }
 {
     let copied = finish(core, disk)?;
     if !copied {
@@ -100,8 +108,9 @@ fn come_back<R: Rack>(core: &mut Core<R>, disk: DiskNo) -> Result<bool, Two>
     Ok(back)
 }
 
-// The last tick of a rebuild: what is staged is committed first. False where the disk was lost in it.
-fn end_rebuild<R: Rack>(core: &mut Core<R>, disk: DiskNo) -> Result<bool, Two>
+// Commits what is staged, copies the units that are left, and takes the disk into the array again. False where it was lost
+// in that: it is gone, which no commit has brought to the disks yet.
+fn rejoin_disk<R: Rack>(core: &mut Core<R>, disk: DiskNo) -> Result<bool, Two>
     requires serving { IsCoreServing R.slot_count R.slot core.old }
     requires fresh { IsRebuilding (meta_of core.old) disk }
     requires disk { disk < (meta_of core.old).setup.geometry.disks }
@@ -111,8 +120,57 @@ fn end_rebuild<R: Rack>(core: &mut Core<R>, disk: DiskNo) -> Result<bool, Two>
     ensures serving { OnOk result (IsCoreServing R.slot_count R.slot core.new) }
     ensures leaves { OnOk result (LeavesArray R.slot_count R.slot core.old core.new) }
     ensures known { OnOk result (IsOutKnown R.slot core.new) }
+    ensures few { OnOk result ((meta_of core.new).epoch ≤ (meta_of core.old).epoch + 2) }
+    ensures back { result ≡ Ok true → (meta_of core.new).out ≡ No }
+    ensures marked { result ≡ Ok false → meta_of core.new
+        ≡ record (meta_after_loss (meta_of core.old) disk) { epoch = (meta_of core.new).epoch } }
+    ensures failed { result ≡ Ok false
+        → HasRisen (R.slot (core_rack core.old) disk).faults (R.slot (core_rack core.new) disk).faults }
+    ensures away { result ≡ Ok false → (R.slot (core_rack core.new) disk).power ≡ Absent }
+    ensures table { OnOk result (core_table core.new ≡ core_table core.old) }
+    // Where it is back, that is a tick of a session, with so many units as were left.
+    ensures turn { result ≡ Ok true → (rebuilt : ℕ) (windows : WindowsType) → (meta_of core.old).out ≡ Fresh disk rebuilt
+        → units_unbuilt (meta_of core.old) disk rebuilt ≤ (meta_of core.old).setup.rate
+        → CoreTicks R.slot_count R.told windows core.old core.new (record {
+          gear = (meta_of core.new).gear;
+          moved = units_unbuilt (meta_of core.old) disk rebuilt;
+          event = Rebuilt disk;
+        }) }
+    // Where it was lost, these are parts of the tick with at most two commits.
+    ensures event { result ≡ Ok false → (samples : List ℕ) (served energy : ℕ) (h : History) (lo : ℕ)
+        → Ran (R.told (core_rack core.old)) (R.told (core_rack core.new))
+        (StepsInEvent (service_of R.slot_count core.old samples served energy)
+        (service_of R.slot_count core.new samples served energy) h lo 2) }
+    ensures halts { IfErr result (λ two. (rebuilt : ℕ) (windows : WindowsType) → (meta_of core.old).out ≡ Fresh disk rebuilt
+        → CoreTickHalts R.slot_count R.told windows core.old core.new two) }
+    ensures no_fall { (d : ℕ) → (R.slot (core_rack core.old) d).faults ≤ (R.slot (core_rack core.new) d).faults }
+    ensures two { IfErr result (AreTwoDown (core_down core.old)
+        (R.slot (core_rack core.old)) (R.slot (core_rack core.new))) }
+    ensures told { Extends (R.told (core_rack core.old)) (R.told (core_rack core.new)) }
+{
+    let there = commit_staged(core, disk)?;
+    if !there {
+        return Ok(false);
+    }
+    let back = come_back(core, disk)?;
+    Ok(back)
+}
+
+// The last tick of a rebuild: what is staged is committed first. False where the disk was lost in it: that it is gone is
+// committed.
+fn end_rebuild<R: Rack>(core: &mut Core<R>, disk: DiskNo) -> Result<bool, Two>
+    requires serving { IsCoreServing R.slot_count R.slot core.old }
+    requires fresh { IsRebuilding (meta_of core.old) disk }
+    requires disk { disk < (meta_of core.old).setup.geometry.disks }
+    requires named { named_of (store_of core.old) ≡ Some disk }
+    requires spins { (R.slot (core_rack core.old) disk).power ≡ Spinning }
+    requires epoch { (meta_of core.old).epoch + 2 < 2 ^ 63 }
+    ensures serving { OnOk result (IsCoreServing R.slot_count R.slot core.new) }
+    ensures leaves { OnOk result (LeavesArray R.slot_count R.slot core.old core.new) }
+    ensures known { OnOk result (IsOutKnown R.slot core.new) }
     ensures back { result ≡ Ok true → (meta_of core.new).out ≡ No }
     ensures gone { result ≡ Ok false → (meta_of core.new).out ≡ Gone disk }
+    ensures committed { result ≡ Ok false → named_of (store_of core.new) ≡ Some disk }
     ensures failed { result ≡ Ok false
         → HasRisen (R.slot (core_rack core.old) disk).faults (R.slot (core_rack core.new) disk).faults }
     // It is a tick of a session, with so many units as were left.
@@ -128,14 +186,14 @@ fn end_rebuild<R: Rack>(core: &mut Core<R>, disk: DiskNo) -> Result<bool, Two>
     ensures no_fall { (d : ℕ) → (R.slot (core_rack core.old) d).faults ≤ (R.slot (core_rack core.new) d).faults }
     ensures two { IfErr result (AreTwoDown (core_down core.old)
         (R.slot (core_rack core.old)) (R.slot (core_rack core.new))) }
-    ensures told { IsSome (R.told (core_rack core.new)) → IsSome (R.told (core_rack core.old)) }
+    ensures told { Extends (R.told (core_rack core.old)) (R.told (core_rack core.new)) }
 {
-    let there = commit_staged(core, disk)?;
-    if !there {
-        return Ok(false);
+    let back = rejoin_disk(core, disk)?;
+    if back {
+        return Ok(true);
     }
-    let back = come_back(core, disk)?;
-    Ok(back)
+    commit_lost(core, disk)?;
+    Ok(false)
 }
 
 // Another tick of it: the units below `end` are moved. False where the disk was lost in that.
@@ -152,6 +210,7 @@ fn move_units<R: Rack>(core: &mut Core<R>, disk: DiskNo, end: u32) -> Result<boo
     ensures known { OnOk result (IsOutKnown R.slot core.new) }
     ensures moved { result ≡ Ok true → (meta_of core.new).out ≡ Fresh disk end }
     ensures gone { result ≡ Ok false → (meta_of core.new).out ≡ Gone disk }
+    ensures committed { result ≡ Ok false → named_of (store_of core.new) ≡ Some disk }
     ensures failed { result ≡ Ok false
         → HasRisen (R.slot (core_rack core.old) disk).faults (R.slot (core_rack core.new) disk).faults }
     // It is a tick of a session, where the rate leaves some units.
@@ -168,7 +227,7 @@ fn move_units<R: Rack>(core: &mut Core<R>, disk: DiskNo, end: u32) -> Result<boo
     ensures no_fall { (d : ℕ) → (R.slot (core_rack core.old) d).faults ≤ (R.slot (core_rack core.new) d).faults }
     ensures two { IfErr result (AreTwoDown (core_down core.old)
         (R.slot (core_rack core.old)) (R.slot (core_rack core.new))) }
-    ensures told { IsSome (R.told (core_rack core.new)) → IsSome (R.told (core_rack core.old)) }
+    ensures told { Extends (R.told (core_rack core.old)) (R.told (core_rack core.new)) }
 {
     let moved = step(core, disk, end)?;
     if !moved {
@@ -191,9 +250,11 @@ pub(crate) fn rebuild<R: Rack>(
     ensures leaves { OnOk result (LeavesArray R.slot_count R.slot core.old core.new) }
     ensures known { OnOk result (IsOutKnown R.slot core.new) }
     ensures tells { IfOk result (λ done. TellsRebuild (meta_of core.old) (meta_of core.new) disk first done.0 done.1) }
-    // A disk that is told as rebuilt is back, and one that is told as gone has failed in the tick.
+    // A disk that is told as rebuilt is back, and one that is told as gone has failed in the tick and is named out by its
+    // last commit.
     ensures back { IfOk result (λ done. done.1 ≡ Rebuilt disk → (meta_of core.new).out ≡ No) }
     ensures gone { IfOk result (λ done. done.1 ≡ GoneInTick disk → (meta_of core.new).out ≡ Gone disk) }
+    ensures committed { IfOk result (λ done. done.1 ≡ GoneInTick disk → named_of (store_of core.new) ≡ Some disk) }
     ensures failed { IfOk result (λ done. done.1 ≡ GoneInTick disk
         → HasRisen (R.slot (core_rack core.old) disk).faults (R.slot (core_rack core.new) disk).faults) }
     // It is a tick of a session.
@@ -204,7 +265,7 @@ pub(crate) fn rebuild<R: Rack>(
     ensures no_fall { (d : ℕ) → (R.slot (core_rack core.old) d).faults ≤ (R.slot (core_rack core.new) d).faults }
     ensures two { IfErr result (AreTwoDown (core_down core.old)
         (R.slot (core_rack core.old)) (R.slot (core_rack core.new))) }
-    ensures told { IsSome (R.told (core_rack core.new)) → IsSome (R.told (core_rack core.old)) }
+    ensures told { Extends (R.told (core_rack core.old)) (R.told (core_rack core.new)) }
 {
     let setup = &core.meta().setup;
     let rate = setup.rate;

@@ -1,5 +1,5 @@
 //! A disk that is out is replaced by a fresh one.
-ghost use Rattle.std.specs.Prelude.{◌≡◌, ◌≢◌, ℕ, ◌^◌, ◌<◌, ◌≤◌, ◌⊎◌, None, Ok, Some, IsSome, OnOk, IfErr, IfOk, IfSome};
+ghost use Rattle.std.specs.Prelude.{◌≡◌, ◌≢◌, ℕ, ◌^◌, ◌<◌, ◌≤◌, ◌⊎◌, None, Ok, Some, OnOk, IfErr, IfOk, IfSome};
 ghost use Rattle.paraid_base.specs.declared.event.Event.TheVariants.{Replace as ReplaceEvent};
 ghost use Rattle.paraid_base.specs.declared.state.Out.TheVariants.{Fresh, Gone};
 ghost use Rattle.paraid_base.specs.Told.{HasRisen};
@@ -10,6 +10,7 @@ ghost use Rattle.paraid_array.specs.Service.{IsOutKnown};
 ghost use Rattle.paraid_array.specs.Turns.{CoreGoesOn, CoreHalts, replace_answer};
 ghost use Rattle.paraid_image.specs.Out.{named_out};
 ghost use Rattle.paraid_rebuild.specs.Replacing.{IsReplacedFrom, LeavesArrayBut};
+ghost use Rattle.paraid_recover.specs.HeldMoments.{Extends};
 ghost use Rattle.paraid_session.specs.Faults.{HaveNotFallen};
 ghost use Rattle.paraid_shift.specs.Serving.{IsCoreServing};
 ghost use Rattle.paraid_txn.specs.Losses.{AreTwoDown};
@@ -46,7 +47,7 @@ fn bring<R: Rack>(core: &mut Core<R>, disk: DiskNo) -> Result<Option<ReplaceFaul
     ensures two { IfErr result (AreTwoDown (core_down core.old)
         (R.slot (core_rack core.old)) (R.slot (core_rack core.new))) }
     ensures slots { OnOk result (R.slot_count (core_rack core.new) ≡ R.slot_count (core_rack core.old)) }
-    ensures told { IsSome (R.told (core_rack core.new)) → IsSome (R.told (core_rack core.old)) }
+    ensures told { Extends (R.told (core_rack core.old)) (R.told (core_rack core.new)) }
 {
     let there = begin(core, disk)?;
     if there {
@@ -90,7 +91,7 @@ pub fn replace<R: Rack>(core: &mut Core<R>, disk: DiskNo) -> Result<Option<Repla
     ensures two { IfErr result (AreTwoDown (core_down core.old)
         (R.slot (core_rack core.old)) (R.slot (core_rack core.new))) }
     ensures slots { OnOk result (R.slot_count (core_rack core.new) ≡ R.slot_count (core_rack core.old)) }
-    ensures told { IsSome (R.told (core_rack core.new)) → IsSome (R.told (core_rack core.old)) }
+    ensures told { Extends (R.told (core_rack core.old)) (R.told (core_rack core.new)) }
 {
     if disk >= core.meta().setup.geometry.disks {
         return Ok(Some(ReplaceFault::NoDisk { disk }));

@@ -1,10 +1,10 @@
 //! When a shift may begin, and those that a tick begins or moves.
-ghost use Rattle.std.specs.Prelude.{◌≡◌, ◌≢◌, ℕ, ◌+◌, ◌^◌, ◌<◌, ◌≤◌, [], List, Ok, IsSome, OnOk, IfOk, IfErr, slice_index};
+ghost use Rattle.std.specs.Prelude.{◌≡◌, ◌≢◌, ℕ, ◌+◌, ◌^◌, ◌<◌, ◌≤◌, [], List, Ok, Some, OnOk, IfOk, IfErr, slice_index};
 ghost use Rattle.paraid_base.specs.declared.state.Out.TheVariants.{Fresh, Gone, No};
 ghost use Rattle.paraid_base.specs.declared.state.TickEvent.TheVariants.{Gone as GoneInTick, Ration as WornInTick, Rebuilt, Waiting};
 ghost use Rattle.paraid_base.specs.Told.{HasRisen};
 ghost use Rattle.paraid_base.specs.declared.state.Phase.TheVariants.{Steady};
-ghost use Rattle.paraid_core.specs.Cores.{core_down, core_rack, meta_of};
+ghost use Rattle.paraid_core.specs.Cores.{core_down, core_rack, meta_of, store_of};
 ghost use Rattle.paraid_array.specs.declared.fault.ShiftFault.TheVariants.{Ration as Worn};
 ghost use Rattle.paraid_array.specs.Refusals.{IsDownRefused, IsHinderedBy, IsShiftStateOf, IsUpRefused, MayGoDown, MayGoUp};
 ghost use Rattle.paraid_array.specs.Service.{IsOutKnown};
@@ -16,9 +16,11 @@ ghost use Rattle.paraid_gear.specs.ThreeWindows.{HoldLastSamples, lengths_of};
 ghost use Rattle.paraid_gear.specs.declared.windows.Windows.{Windows as WindowsType};
 ghost use Rattle.paraid_image.specs.Power.{PowerState};
 ghost use Rattle.paraid_machine.specs.Moves.{units_by};
+ghost use Rattle.paraid_recover.specs.HeldMoments.{Extends};
 ghost use Rattle.paraid_record.specs.Range.{AreNextGears, IsInRange, allowed_spins};
 ghost use Rattle.paraid_shift.specs.Serving.{IsCoreServing, LeavesArray};
 ghost use Rattle.paraid_txn.specs.Losses.{AreTwoDown};
+ghost use Rattle.paraid_txn.specs.Stores.{named_of};
 
 use crate::fault::ShiftFault;
 use crate::rebuilding::rebuild;
@@ -130,7 +132,7 @@ fn move_on<R: Rack>(core: &mut Core<R>) -> Result<(u32, TickEvent), Two>
     ensures no_fall { (d : ℕ) → (R.slot (core_rack core.old) d).faults ≤ (R.slot (core_rack core.new) d).faults }
     ensures two { IfErr result (AreTwoDown (core_down core.old)
         (R.slot (core_rack core.old)) (R.slot (core_rack core.new))) }
-    ensures told { IsSome (R.told (core_rack core.new)) → IsSome (R.told (core_rack core.old)) }
+    ensures told { Extends (R.told (core_rack core.old)) (R.told (core_rack core.new)) }
 {
     let units = units_of_tick(core);
     let moved = step(core, units)?;
@@ -181,7 +183,7 @@ fn decide<R: Rack>(core: &mut Core<R>, windows: &Windows) -> Result<TickEvent, T
     ensures no_fall { (d : ℕ) → (R.slot (core_rack core.old) d).faults ≤ (R.slot (core_rack core.new) d).faults }
     ensures two { IfErr result (AreTwoDown (core_down core.old)
         (R.slot (core_rack core.old)) (R.slot (core_rack core.new))) }
-    ensures told { IsSome (R.told (core_rack core.new)) → IsSome (R.told (core_rack core.old)) }
+    ensures told { Extends (R.told (core_rack core.old)) (R.told (core_rack core.new)) }
 {
     let meta = *core.meta();
     match windows.decide(&meta.setup, meta.gear) {
@@ -229,15 +231,18 @@ pub fn advance<R: Rack>(core: &mut Core<R>, windows: &Windows) -> Result<(u32, T
         → IsIdleTick done.1 → core.new ≡ core.old) }
     ensures moves { IfOk result (λ done. (meta_of core.old).out ≡ No → (meta_of core.old).phase ≢ Steady
         → TellsMove (meta_of core.new) done.1) }
-    // Of a disk that is out: one that is told as rebuilt is back, and one that is told as gone has failed in the tick.
+    // Of a disk that is out: one that is told as rebuilt is back, and one that is told as gone has failed in the tick and is
+    // named out by its last commit.
     ensures back { IfOk result (λ done. (d u : ℕ) → (meta_of core.old).out ≡ Fresh d u → done.1 ≡ Rebuilt d
         → (meta_of core.new).out ≡ No) }
     ensures failed { IfOk result (λ done. (d u : ℕ) → (meta_of core.old).out ≡ Fresh d u → done.1 ≡ GoneInTick d
         → HasRisen (R.slot (core_rack core.old) d).faults (R.slot (core_rack core.new) d).faults) }
+    ensures committed { IfOk result (λ done. (d u : ℕ) → (meta_of core.old).out ≡ Fresh d u → done.1 ≡ GoneInTick d
+        → named_of (store_of core.new) ≡ Some d) }
     ensures no_fall { (d : ℕ) → (R.slot (core_rack core.old) d).faults ≤ (R.slot (core_rack core.new) d).faults }
     ensures two { IfErr result (AreTwoDown (core_down core.old)
         (R.slot (core_rack core.old)) (R.slot (core_rack core.new))) }
-    ensures told { IsSome (R.told (core_rack core.new)) → IsSome (R.told (core_rack core.old)) }
+    ensures told { Extends (R.told (core_rack core.old)) (R.told (core_rack core.new)) }
 {
     match core.out() {
         Out::Gone { .. } => return Ok((0, TickEvent::Waiting)),

@@ -1,8 +1,8 @@
 ghost use Rattle.std.specs.Prelude.{◌≡◌, ℕ, ◌≤◌, ◌<◌, None, IsSome};
 ghost use Rattle.paraid_base.specs.Told.{HasRisen};
 ghost use Rattle.paraid_rack.specs.Slots.{Slot};
-ghost use Rattle.paraid_serve.specs.Calls.{IsNotDouble};
-ghost use Rattle.paraid_serve.specs.Lost.{HasServedSince, NamesTwoLost};
+ghost use Rattle.paraid_serve.specs.Calls.{Grows, IsNotDouble};
+ghost use Rattle.paraid_serve.specs.Lost.{HasServedSince, NamesTwoLost, TellsWear};
 ghost use Rattle.paraid_session.specs.Mount.{IsMountedFromEach};
 ghost use Rattle.paraid_session.specs.Turn.{Point};
 ghost use Rattle.paraid_commands.specs.Generating.{GenHeadline, GenRun, IsGenStatus};
@@ -30,7 +30,7 @@ pub fn answer_lines<A: Serves>(
     ensures counted { IsSome (A.told array.new) → (p : Point) → A.stands array.old p
         → CountsLines (A.slots array.old) (A.setup array.old) (A.told array.old) (A.told array.new) p
         number lines result (A.stands array.new) }
-    ensures told { IsSome (A.told array.new) → IsSome (A.told array.old) }
+    ensures told { Grows (A.told array.old) (A.told array.new) }
     ensures slots { A.slots array.new ≡ A.slots array.old }
     ensures setup { A.setup array.new ≡ A.setup array.old }
     ensures halt { halt.new ≡ A.halted array.new }
@@ -60,10 +60,12 @@ pub fn serve_generated<K: Sink, A: Serves>(
     ensures run { GenRun (A.slots array.old) (A.setup array.old) (A.stands array.old)
         (A.told array.old) (A.told array.new) (K.written sink.old) (K.written sink.new)
         number lines result }
+    ensures told { Grows (A.told array.old) (A.told array.new) }
     ensures status { IsGenStatus result }
     ensures present { result ≡ 0 → IsNotDouble (A.setup array.old) (A.slot array.new) }
     ensures two { result ≡ 5 → NamesTwoLost (A.slot array.old) (A.slot array.new)
         (K.written sink.old) (K.written sink.new) }
+    ensures worn { result ≡ 12 → TellsWear (K.written sink.old) (K.written sink.new) }
     ensures sink { result ≡ 4 → HasRisen (K.faults sink.old) (K.faults sink.new) }
 {
     let mut text = Text::new();
@@ -105,10 +107,12 @@ pub fn serve_generated_mounted<K: Sink, A: Serves>(
         → GenHeadline (A.slots array.old) (A.setup array.old) began
         (A.told array.old) (A.told array.new) (K.written sink.old) (K.written sink.new)
         number lines result }
+    ensures told { Grows (A.told array.old) (A.told array.new) }
     ensures status { IsGenStatus result }
     ensures present { result ≡ 0 → IsNotDouble (A.setup array.old) (A.slot array.new) }
     ensures two { result ≡ 5 → NamesTwoLost (A.slot array.old) (A.slot array.new)
         (K.written sink.old) (K.written sink.new) }
+    ensures worn { result ≡ 12 → TellsWear (K.written sink.old) (K.written sink.new) }
     ensures sink { result ≡ 4 → HasRisen (K.faults sink.old) (K.faults sink.new) }
 {
     serve_generated(sink, array, number, lines)

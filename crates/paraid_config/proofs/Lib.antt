@@ -1,3 +1,4 @@
 mod FaultLemmas
 mod KeyLemmas
 mod ListLemmas
+mod SayLemmas

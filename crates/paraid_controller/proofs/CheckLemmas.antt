@@ -1,8 +1,7 @@
 -- A check of an array: a flush, and reads after it.
-use Rattle.std.proofs.Common.{◌≡◌, ℕ, ◌^◌, ◌<◌, ◌≤◌, ◌⊎◌, Bool, true, false, List, [], length, Option, Some, None, Result, Ok, Err, inl, inr, refl, sym, ap, ◌∙◌, subst, arith}
+use Rattle.std.proofs.Common.{◌≡◌, ℕ, ◌^◌, ◌<◌, ◌⊎◌, Bool, true, false, [], length, Option, Some, None, Result, Ok, Err, inl, inr, refl, sym, ap, ◌∙◌, subst, arith}
 use Rattle.std.specs.Prelude.{IfOk, IsSome, IsTrue}
 use Rattle.std.proofs.lemmas.Bool.{false≢true}
-use Rattle.paraid_base.specs.declared.event.Answer.{Answer}
 use Rattle.paraid_base.specs.declared.event.Answer.TheVariants.{Flushed, Halted}
 use Rattle.paraid_base.specs.declared.event.Event.TheVariants.{Bad, Flush}
 use Rattle.paraid_base.specs.declared.fault.Halt.TheVariants.{Two as HaltTwo}
@@ -15,7 +14,7 @@ use Rattle.paraid_rack.specs.Disks.{Disks}
 use Rattle.paraid_rack.specs.Slots.{Agrees, Slot}
 use Rattle.paraid_rack.specs.Told.{CrashTriple, Ran}
 use Rattle.paraid_rack.specs.Trail.{Trail, now}
-use Rattle.paraid_core.specs.Calls.{IsDataCall, IsTransferCall, MakesDataCalls, MakesTransferCalls}
+use Rattle.paraid_core.specs.Calls.{MakesDataCalls, MakesTransferCalls}
 use Rattle.paraid_core.specs.CoreInvariant.{AreCopiesSynced}
 use Rattle.paraid_core.specs.Cores.{CoreStandsFor, IsCoreHeld, IsCoreReady, core_rack}
 use Rattle.paraid_core.specs.Lost.{CoreLosesDisk, CoreMarksLost}

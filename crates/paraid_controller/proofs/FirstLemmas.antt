@@ -7,7 +7,8 @@ use Rattle.paraid_event.specs.Service.{service_of}
 use Rattle.paraid_event.specs.Stands.{StandsAt}
 use Rattle.paraid_controller.specs.declared.array.Array.{Array}
 use Rattle.paraid_controller.specs.declared.ended.Ended.{Ended}
-use Rattle.paraid_controller.specs.Arrays.{ArrayStandsAt, halt_of_end, told_of_array}
+use Rattle.paraid_controller.specs.Arrays.{ArrayStandsAt, told_of_array}
+use Rattle.paraid_controller.specs.Lasting.{halt_of_end}
 use Rattle.paraid_controller.proofs.StandLemmas.{none_ended, none_some}
 
 module _ {R : Type 0} {g : _} (count : R → ℕ) (told : R → Option Trail) (a : Array R g) where

@@ -1,4 +1,4 @@
--- Two disks that are lost in an event.
+-- Two disks that are lost in an event, and what tells no wear.
 use Rattle.std.proofs.Common.{◌≡◌, ℕ, ◌⊎◌, inl, inr, Option, Some, None, sym, subst}
 use Rattle.paraid_base.specs.declared.event.Event.{Event}
 use Rattle.paraid_base.specs.declared.event.Event.TheVariants.{Fail}
@@ -6,6 +6,7 @@ use Rattle.paraid_base.specs.declared.fault.Halt.{Halt}
 use Rattle.paraid_base.specs.declared.fault.Halt.TheVariants.{Two as HaltTwo, Worn}
 use Rattle.paraid_base.specs.declared.fault.Two.{Two}
 use Rattle.paraid_base.specs.declared.pairs.Pairs.{Pairs}
+use Rattle.paraid_record.specs.declared.meta.Meta.{Meta}
 use Rattle.paraid_image.specs.Out.{or_else}
 use Rattle.paraid_rack.specs.Slots.{Slot}
 use Rattle.paraid_serve.specs.Lost.{AreTwoLost, HaltsByTwoLost}
@@ -14,7 +15,7 @@ use Rattle.paraid_trace.specs.Asked.{event_with}
 use Rattle.paraid_trace.specs.declared.asked.Asked.{Asked}
 use Rattle.paraid_txn.specs.Losses.{AreTwoDown, AreTwoDownBeside}
 use Rattle.paraid_controller.specs.declared.ended.Ended.{Ended}
-use Rattle.paraid_controller.specs.Arrays.{halt_of_end}
+use Rattle.paraid_controller.specs.Lasting.{TellsItsWear, halt_of_end}
 
 -- two that were lost are told so
 told_lost : (down : Option ℕ) (event : Event) (old new : ℕ → Slot) (x : Two) → AreTwoLost down event old new x → HaltsByTwoLost down event old new (Some (HaltTwo x))
@@ -33,6 +34,14 @@ worn_lost down event old new count y is = let z : Some (Worn count) ≡ Some (Ha
 -- what serves still tells no halt
 pub going_lost : (down : Option ℕ) (event : Event) (old new : ℕ → Slot) (o : Option Ended) → o ≡ None → HaltsByTwoLost down event old new (halt_of_end o)
 going_lost down event old new o going = subst (λ (z : Option Ended). HaltsByTwoLost down event old new (halt_of_end z)) (sym going) (none_lost down event old new)
+
+-- nor wear
+pub going_wear : (m : Meta) (o : Option Ended) → o ≡ None → TellsItsWear m (halt_of_end o)
+going_wear m o going = subst (λ (z : Option Ended). TellsItsWear m (halt_of_end z)) (sym going) (λ count is. let z : None ≡ Some (Worn count) = is in absurd cc)
+
+-- and two lost disks tell none
+pub two_wear : (m : Meta) (x : Two) → TellsItsWear m (Some (HaltTwo x))
+two_wear m x count is = let z : Some (HaltTwo x) ≡ Some (Worn count) = is in absurd cc
 
 -- the disk that is down by the last commit or the meta is out by the meta
 known_out : (named out : Option ℕ) → ((d : ℕ) → named ≡ Some d → out ≡ Some d) → (x : ℕ) → or_else named out ≡ Some x → out ≡ Some x

@@ -28,7 +28,8 @@ use Rattle.paraid_event.specs.Stands.{StandsAt}
 use Rattle.paraid_event.proofs.EventLemmas.{energy_turn, state_turn}
 use Rattle.paraid_event.proofs.QuietLemmas.{fail_no_disk, fail_out, read_missing, replace_no_disk, replace_not_out, write_missing}
 use Rattle.paraid_controller.specs.declared.array.Array.{Array}
-use Rattle.paraid_controller.specs.Arrays.{ArrayStandsAt, GoesOnByEvent, halt_of_end, told_of_array}
+use Rattle.paraid_controller.specs.Arrays.{ArrayStandsAt, GoesOnByEvent, told_of_array}
+use Rattle.paraid_controller.specs.Lasting.{halt_of_end}
 use Rattle.paraid_controller.proofs.StandLemmas.{none_ended, refuses, served_on, stays_on}
 
 -- equal dirty bits count alike

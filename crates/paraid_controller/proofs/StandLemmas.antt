@@ -23,7 +23,8 @@ use Rattle.paraid_event.specs.Stands.{StandsAt}
 use Rattle.paraid_event.proofs.QuietLemmas.{worn_turn}
 use Rattle.paraid_controller.specs.declared.array.Array.{Array}
 use Rattle.paraid_controller.specs.declared.ended.Ended.{Ended}
-use Rattle.paraid_controller.specs.Arrays.{ArrayStandsAt, GoesOnByEvent, HasEndedAt, halt_of_end, told_of_array}
+use Rattle.paraid_controller.specs.Arrays.{ArrayStandsAt, GoesOnByEvent, HasEndedAt, told_of_array}
+use Rattle.paraid_controller.specs.Lasting.{halt_of_end}
 
 pub none_ended : (o : Option Ended) → halt_of_end o ≡ None → o ≡ None
 none_ended None e = refl

@@ -19,6 +19,7 @@ use Rattle.paraid_event.specs.Service.{IsStateOf, service_of}
 use Rattle.paraid_event.specs.Stands.{StandsAt}
 use Rattle.paraid_controller.specs.declared.array.Array.{Array}
 use Rattle.paraid_controller.specs.declared.ended.Ended.{Ended}
+use Rattle.paraid_controller.specs.Lasting.{halt_of_end}
 
 -- its core
 abbrev pub core_of_array : {R : Type 0} {g : _} → Array R g → Core R g
@@ -43,10 +44,6 @@ slot_of_array slot array = slot (core_rack array.core)
 -- the disk that is out
 abbrev pub down_of_array : {R : Type 0} {g : _} → Array R g → Option ℕ
 down_of_array array = named_out array.core.meta.out
-
-abbrev pub halt_of_end : Option Ended → Option Halt
-halt_of_end None = None
-halt_of_end (Some ended) = Some ended.halt
 
 -- what has ended its service
 abbrev pub end_of_array : {R : Type 0} {g : _} → Array R g → Option Ended

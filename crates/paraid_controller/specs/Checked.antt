@@ -5,7 +5,9 @@ use Rattle.paraid_rack.specs.Slots.{Slot}
 use Rattle.paraid_rack.specs.Trail.{Trail, now}
 use Rattle.paraid_image.specs.Spot.{View}
 use Rattle.paraid_core.specs.declared.staged.Core.{Core}
+use Rattle.paraid_core.specs.Calls.{MakesTransferCalls}
 use Rattle.paraid_core.specs.Cores.{core_rack}
+use Rattle.paraid_core.specs.Lost.{CoreMarksLost, MakesReads}
 use Rattle.paraid_scrub.specs.Cores.{HasMapBits, core_view}
 use Rattle.paraid_scrub.specs.Counts.{AreCounts, all_members}
 use Rattle.paraid_scrub.specs.declared.kind.CheckReport.{CheckReport}
@@ -20,3 +22,15 @@ pub record CountsByView (v : View) (old new : ℕ → Slot) (report : CheckRepor
 abbrev pub CountsDisks : {R : Type 0} {g : _} → (R → ℕ → Slot) → (R → Option Trail) → Core R g → Core R g → CheckReport → Type 0
 CountsDisks slot told old new report = old.batch ≡ [] → (t : Trail) → told (core_rack old) ≡ Some t → IsSome (told (core_rack new))
     → HasMapBits old (core_view old (now t)) → CountsByView (core_view old (now t)) (slot (core_rack old)) (slot (core_rack new)) report
+
+-- All that was staged was committed, and this core was left with nothing staged; then reads alone were made. The counts are
+-- those of the disks as these reads began, if the table had the bits of the map on them.
+pub record CountsCommitted {R : Type 0} {g : _} (slot : R → ℕ → Slot) (told : R → Option Trail) (old new : Core R g) (report : CheckReport) : Type 0 where
+  pub kept : Core R g
+  pub nothing : kept.batch ≡ []
+  pub table : kept.dirty ≡ old.dirty
+  pub marks : CoreMarksLost slot old kept
+  pub calls : MakesTransferCalls told old kept
+  pub reads : MakesReads told kept new
+  pub counts : (t : Trail) → told (core_rack kept) ≡ Some t → IsSome (told (core_rack new)) → HasMapBits kept (core_view kept (now t))
+      → CountsByView (core_view kept (now t)) (slot (core_rack old)) (slot (core_rack new)) report

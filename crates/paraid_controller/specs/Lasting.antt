@@ -1,14 +1,18 @@
--- What an array keeps between two events, over every rack, while there is no halt.
-use Rattle.std.specs.Prelude.{◌≡◌, ◌≢◌, ℕ, false, List, Some}
+-- What an array keeps between two events, over every rack: while there is no halt, and after one.
+use Rattle.std.specs.Prelude.{◌≡◌, ◌≢◌, ℕ, ◌≤◌, ◌^◌, max, false, List, Option, Some, None}
+use Rattle.paraid_base.specs.declared.fault.Halt.{Halt}
+use Rattle.paraid_base.specs.declared.fault.Halt.TheVariants.{Worn}
 use Rattle.paraid_rack.specs.declared.call.Power.TheVariants.{Spinning}
 use Rattle.paraid_rack.specs.Disks.{is_present}
 use Rattle.paraid_rack.specs.Slots.{Slot}
+use Rattle.paraid_record.specs.declared.meta.Meta.{Meta}
 use Rattle.paraid_record.specs.declared.meta.Setup.{Setup}
 use Rattle.paraid_image.specs.Out.{named_out}
 use Rattle.paraid_txn.specs.Stores.{named_of, store_rack}
 use Rattle.paraid_core.specs.declared.staged.Core.{Core}
 use Rattle.paraid_core.specs.Units.{IsRebuilding}
 use Rattle.paraid_shift.specs.Serving.{IsCoreServing}
+use Rattle.paraid_controller.specs.declared.ended.Ended.{Ended}
 
 -- Its core can serve, with this setup and over so many slots; the disk that is out is absent unless the last commit names it,
 -- and one that is being rebuilt is named and spins; its windows have the lengths of the setup.
@@ -20,3 +24,11 @@ pub record IsArrayServing {R : Type 0} {g : _} (count : R → ℕ) (slot : R →
   pub windows : lengths ≡ setup.windows
   pub same_setup : core.meta.setup ≡ setup
   pub same_slots : count (store_rack core.store) ≡ slots
+
+abbrev pub halt_of_end : Option Ended → Option Halt
+halt_of_end None = None
+halt_of_end (Some ended) = Some ended.halt
+
+-- A halt that tells wear tells the greater of the commits and the writes that this meta counts, and that is 2^62 or more.
+abbrev pub TellsItsWear : Meta → Option Halt → Type 0
+TellsItsWear m halt = (count : ℕ) → halt ≡ Some (Worn count) → (2 ^ 62 ≤ count) × (count ≡ max m.epoch m.writes)

@@ -1,7 +1,6 @@
 -- What an array keeps at any time, as its events are asked to.
-use Rattle.std.specs.Prelude.{◌≡◌, ℕ, ◌<◌, false, List, Option, Some, None}
+use Rattle.std.specs.Prelude.{◌≡◌, ℕ, ◌<◌, List, Option, Some, None}
 use Rattle.std.proofs.Common.{refl, sym, ap, ◌∙◌, subst}
-use Rattle.paraid_rack.specs.Disks.{is_present}
 use Rattle.paraid_rack.specs.Slots.{Slot}
 use Rattle.paraid_rack.specs.Trail.{Trail}
 use Rattle.paraid_record.specs.declared.meta.Setup.{Setup}
@@ -12,8 +11,8 @@ use Rattle.paraid_serve.specs.Calls.{IsAbsentOut, IsNotDouble}
 use Rattle.paraid_session.specs.Turn.{Point}
 use Rattle.paraid_controller.specs.declared.array.Array.{Array}
 use Rattle.paraid_controller.specs.declared.ended.Ended.{Ended}
-use Rattle.paraid_controller.specs.Arrays.{ArrayStandsAt, halt_of_end}
-use Rattle.paraid_controller.specs.Lasting.{IsArrayServing}
+use Rattle.paraid_controller.specs.Arrays.{ArrayStandsAt}
+use Rattle.paraid_controller.specs.Lasting.{IsArrayServing, halt_of_end}
 
 -- a point at which it stands tells its halt
 pub halt_at : {R : Type 0} {g : _} (count : R → ℕ) (told : R → Option Trail) (a : Array R g) (p : Point) → ArrayStandsAt count told a p → p.halt ≡ halt_of_end a.ended

@@ -1,16 +1,18 @@
--- That an array can serve is a fact with one proof, so that an array can carry it.
-use Rattle.std.specs.Prelude.{ℕ, List}
+-- What an array carries is a fact with one proof.
+use Rattle.std.specs.Prelude.{ℕ, List, Option}
 use Rattle.std.proofs.Props.{props}
+use Rattle.paraid_base.specs.declared.fault.Halt.{Halt}
 use Rattle.paraid_base.specs.declared.geometry.Geometry.{Geometry}
 use Rattle.paraid_base.specs.declared.state.Out.{Out}
 use Rattle.paraid_base.specs.declared.state.Out.TheVariants.{No, Gone, Fresh}
 use Rattle.paraid_base.specs.declared.state.Phase.{Phase}
 use Rattle.paraid_base.specs.declared.state.Phase.TheVariants.{Steady, Down, Up}
 use Rattle.paraid_rack.specs.Slots.{Slot}
+use Rattle.paraid_record.specs.declared.meta.Meta.{Meta}
 use Rattle.paraid_record.specs.declared.meta.Setup.{Setup}
 use Rattle.paraid_record.specs.Range.{IsOutInRange, IsPhaseInRange}
 use Rattle.paraid_core.specs.declared.staged.Core.{Core}
-use Rattle.paraid_controller.specs.Lasting.{IsArrayServing}
+use Rattle.paraid_controller.specs.Lasting.{IsArrayServing, TellsItsWear}
 
 phase_once : (g : Geometry) (gear : ℕ) (phase : Phase) → IsProp (IsPhaseInRange g gear phase)
 phase_once g gear Steady = hlevel props
@@ -28,3 +30,6 @@ IsArrayServing-prop count slot core lengths setup slots = hlevel (props, phase_o
 -- what is asked only under a condition has one proof where it has one
 pub while_prop : {A : Type 0} {B : Type 0} → IsProp B → IsProp (A → B)
 while_prop once = hlevel once
+
+pub TellsItsWear-prop : (m : Meta) (halt : Option Halt) → IsProp (TellsItsWear m halt)
+TellsItsWear-prop m halt = hlevel props

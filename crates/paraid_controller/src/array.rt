@@ -1,8 +1,8 @@
 //! An array in service: a core, and what is counted of its events.
 ghost use Rattle.std.specs.Prelude.{◌≡◌, None};
 ghost use Rattle.paraid_gear.specs.ThreeWindows.{lengths_of};
-ghost use Rattle.paraid_controller.specs.Lasting.{IsArrayServing};
-ghost use Rattle.paraid_controller.specs.Props.{IsArrayServing-prop, while_prop};
+ghost use Rattle.paraid_controller.specs.Lasting.{IsArrayServing, TellsItsWear, halt_of_end};
+ghost use Rattle.paraid_controller.specs.Props.{IsArrayServing-prop, TellsItsWear-prop, while_prop};
 
 use crate::ended::Ended;
 use paraid_core::Core;
@@ -23,6 +23,7 @@ pub struct Array<R: Rack> {
     pub(crate) energy: u64,
     pub(crate) ended: Option<Ended>,
     ghost serving: { ended ≡ None → IsArrayServing R.slot_count R.slot core (lengths_of windows) setup slots } by { while_prop (IsArrayServing-prop R.slot_count R.slot core (lengths_of windows) setup slots) },
+    ghost worn: { TellsItsWear core.meta (halt_of_end ended) } by { TellsItsWear-prop core.meta (halt_of_end ended) },
 }
 
 impl<R: Rack> Array<R> {

@@ -1,11 +1,13 @@
 //! A check of an array: all writes are kept, and then what is false is counted.
-ghost use Rattle.std.specs.Prelude.{◌≡◌, ℕ, ◌<◌, ◌^◌, [], length, None, Option, Some, OnOk, IfErr, IfOk, IsSome};
+ghost use Rattle.std.specs.Prelude.{◌≡◌, ◌≢◌, ℕ, ◌<◌, ◌^◌, [], length, None, Option, Some, OnOk, IfErr, IfOk, IsSome};
 ghost use Rattle.paraid_base.specs.declared.event.Answer.TheVariants.{Flushed, Halted};
 ghost use Rattle.paraid_base.specs.declared.event.Event.TheVariants.{Flush as FlushEvent};
 ghost use Rattle.paraid_core.specs.Cores.{batch_of, meta_of};
 ghost use Rattle.paraid_rack.specs.Told.{Ran};
+ghost use Rattle.paraid_recover.specs.HeldMoments.{Extends};
 ghost use Rattle.paraid_scrub.specs.Counts.{no_faults};
 ghost use Rattle.paraid_serve.specs.Lost.{HaltsByTwoLost};
+ghost use Rattle.paraid_session.specs.Faults.{HaveNotFallen};
 ghost use Rattle.paraid_session.specs.Turn.{GoesOn, Point};
 
 use crate::Array;
@@ -17,7 +19,7 @@ use paraid_rack::Rack;
 use paraid_scrub::{CheckReport, check};
 
 impl<R: Rack> Array<R> {
-    ghost use Rattle.paraid_controller.specs.Checked.{CountsDisks};
+    ghost use Rattle.paraid_controller.specs.Checked.{CountsCommitted, CountsDisks};
     ghost use Rattle.paraid_controller.specs.Arrays.{ArrayStandsAt, GoesOnByEvent, core_of_array, down_of_array, end_of_array, halt_of_array, setup_of_array, slot_of_array, slots_of_array, told_of_array};
 
     // Commits all that is staged, and counts what is false.
@@ -27,15 +29,17 @@ impl<R: Rack> Array<R> {
         requires writes { (meta_of (core_of_array self.old)).writes < 2 ^ 62 }
         ensures turn { OnOk result (GoesOnByEvent R.slot_count R.told self.old self.new FlushEvent (Flushed (meta_of (core_of_array self.old)).writes)) }
         ensures ended { IfErr result (λ halt. GoesOnByEvent R.slot_count R.told self.old self.new FlushEvent (Halted halt)) }
-        ensures told { IsSome (told_of_array R.told self.new) → IsSome (told_of_array R.told self.old) }
+        ensures told { Extends (told_of_array R.told self.old) (told_of_array R.told self.new) }
         ensures slots { slots_of_array self.new ≡ slots_of_array self.old }
         ensures setup { setup_of_array self.new ≡ setup_of_array self.old }
         ensures going { OnOk result (halt_of_array self.new ≡ None) }
         ensures halt { IfErr result (λ halt. halt_of_array self.new ≡ Some halt) }
         ensures two { HaltsByTwoLost (down_of_array self.old) FlushEvent
             (slot_of_array R.slot self.old) (slot_of_array R.slot self.new) (halt_of_array self.new) }
+        ensures later { HaveNotFallen (slot_of_array R.slot self.old) (slot_of_array R.slot self.new) }
         ensures sound { IfOk result (λ report. IsSome (told_of_array R.told self.new) → (p : Point)
             → ArrayStandsAt R.slot_count R.told self.old p → report ≡ no_faults) }
+        ensures counts { IfOk result (CountsCommitted R.slot R.told (core_of_array self.old) (core_of_array self.new)) }
     {
         let gear = self.core.meta().gear;
         match commit_and_count(&mut self.core) {
@@ -56,13 +60,14 @@ impl<R: Rack> Array<R> {
         requires nothing { batch_of (core_of_array self.old) ≡ [] }
         ensures turn { OnOk result (GoesOnByEvent R.slot_count R.told self.old self.new FlushEvent (Flushed (meta_of (core_of_array self.old)).writes)) }
         ensures ended { IfErr result (λ halt. GoesOnByEvent R.slot_count R.told self.old self.new FlushEvent (Halted halt)) }
-        ensures told { IsSome (told_of_array R.told self.new) → IsSome (told_of_array R.told self.old) }
+        ensures told { Extends (told_of_array R.told self.old) (told_of_array R.told self.new) }
         ensures slots { slots_of_array self.new ≡ slots_of_array self.old }
         ensures setup { setup_of_array self.new ≡ setup_of_array self.old }
         ensures going { OnOk result (halt_of_array self.new ≡ None) }
         ensures halt { IfErr result (λ halt. halt_of_array self.new ≡ Some halt) }
         ensures two { HaltsByTwoLost (down_of_array self.old) FlushEvent
             (slot_of_array R.slot self.old) (slot_of_array R.slot self.new) (halt_of_array self.new) }
+        ensures later { HaveNotFallen (slot_of_array R.slot self.old) (slot_of_array R.slot self.new) }
         ensures sound { IfOk result (λ report. IsSome (told_of_array R.told self.new) → (p : Point)
             → ArrayStandsAt R.slot_count R.told self.old p → report ≡ no_faults) }
         ensures counts { IfOk result (CountsDisks R.slot R.told (core_of_array self.old) (core_of_array self.new)) }
@@ -85,16 +90,19 @@ impl<R: Rack> Array<R> {
         requires writes { (meta_of (core_of_array self.old)).writes < 2 ^ 62 }
         ensures turn { OnOk result (GoesOnByEvent R.slot_count R.told self.old self.new FlushEvent (Flushed (meta_of (core_of_array self.old)).writes)) }
         ensures ended { IfErr result (λ halt. GoesOnByEvent R.slot_count R.told self.old self.new FlushEvent (Halted halt)) }
-        ensures told { IsSome (told_of_array R.told self.new) → IsSome (told_of_array R.told self.old) }
+        ensures told { Extends (told_of_array R.told self.old) (told_of_array R.told self.new) }
         ensures slots { slots_of_array self.new ≡ slots_of_array self.old }
         ensures setup { setup_of_array self.new ≡ setup_of_array self.old }
         ensures going { OnOk result (halt_of_array self.new ≡ None) }
         ensures halt { IfErr result (λ halt. halt_of_array self.new ≡ Some halt) }
         ensures two { HaltsByTwoLost (down_of_array self.old) FlushEvent
             (slot_of_array R.slot self.old) (slot_of_array R.slot self.new) (halt_of_array self.new) }
+        ensures later { HaveNotFallen (slot_of_array R.slot self.old) (slot_of_array R.slot self.new) }
         ensures sound { IfOk result (λ report. IsSome (told_of_array R.told self.new) → (p : Point)
             → ArrayStandsAt R.slot_count R.told self.old p → report ≡ no_faults) }
         ensures counts { IfOk result (CountsDisks R.slot R.told (core_of_array self.old) (core_of_array self.new)) }
+        ensures committed { IfOk result (λ report. batch_of (core_of_array self.old) ≢ []
+            → CountsCommitted R.slot R.told (core_of_array self.old) (core_of_array self.new) report) }
     {
         if self.is_kept() {
             return self.check_kept();
@@ -116,26 +124,27 @@ impl<R: Rack> Array<R> {
             → Ran (told_of_array R.told self.old) (told_of_array R.told self.new)
             (GoesOn (slots_of_array self.old) (setup_of_array self.old) p FlushEvent (Halted halt)
             (ArrayStandsAt R.slot_count R.told self.new))) }
-        ensures told { IsSome (told_of_array R.told self.new) → IsSome (told_of_array R.told self.old) }
+        ensures told { Extends (told_of_array R.told self.old) (told_of_array R.told self.new) }
         ensures slots { slots_of_array self.new ≡ slots_of_array self.old }
         ensures setup { setup_of_array self.new ≡ setup_of_array self.old }
         ensures going { OnOk result (halt_of_array self.new ≡ None) }
         ensures halt { IfErr result (λ halt. halt_of_array self.new ≡ Some halt) }
         ensures two { HaltsByTwoLost (down_of_array self.old) FlushEvent
             (slot_of_array R.slot self.old) (slot_of_array R.slot self.new) (halt_of_array self.new) }
+        ensures later { HaveNotFallen (slot_of_array R.slot self.old) (slot_of_array R.slot self.new) }
         // An array that stands at a point of a session has nothing false.
         ensures sound { IfOk result (λ report. IsSome (told_of_array R.told self.new) → (p : Point)
             → ArrayStandsAt R.slot_count R.told self.old p → report ≡ no_faults) }
         // With nothing staged the counts are those of the disks, whatever these hold.
         ensures counts { IfOk result (CountsDisks R.slot R.told (core_of_array self.old) (core_of_array self.new)) }
+        // Else they are those after its commit.
+        ensures committed { IfOk result (λ report. batch_of (core_of_array self.old) ≢ []
+            → CountsCommitted R.slot R.told (core_of_array self.old) (core_of_array self.new) report) }
     {
         if let Some(count) = worn(self.core.meta()) {
             let halt = self.wear_out(count);
             return Err(halt);
         }
-        match self.check_there() {
-            Ok(report) => Ok(report),
-            Err(halt) => Err(halt),
-        }
+        self.check_there()
     }
 }

@@ -1,5 +1,5 @@
 //! A commit of all that is staged, and a count of what is false after it.
-ghost use Rattle.std.specs.Prelude.{◌≡◌, ℕ, ◌<◌, ◌^◌, [], length, Some, OnOk, IfErr, IfOk, IsSome};
+ghost use Rattle.std.specs.Prelude.{◌≡◌, ◌≢◌, ℕ, ◌<◌, ◌≤◌, ◌^◌, true, [], length, Some, OnOk, IfErr, IfOk, IsSome};
 ghost use Rattle.paraid_base.specs.History.{History};
 ghost use Rattle.paraid_core.specs.Calls.{CommitsWhole, MakesTransferCalls};
 ghost use Rattle.paraid_core.specs.CoreInvariant.{AreCopiesSynced};
@@ -14,8 +14,9 @@ ghost use Rattle.paraid_rack.specs.Trail.{Trail, now};
 ghost use Rattle.paraid_scrub.specs.Counts.{no_faults};
 ghost use Rattle.paraid_txn.specs.Losses.{AreTwoDown};
 ghost use Rattle.paraid_txn.specs.Stores.{named_of};
+ghost use Rattle.paraid_controller.specs.Checked.{CountsCommitted};
 
-use paraid_base::Two;
+use paraid_base::{Out, Two};
 use paraid_core::Core;
 use paraid_rack::Rack;
 use paraid_scrub::{CheckReport, check};
@@ -31,6 +32,13 @@ fn nothing_counted() -> CheckReport
         units: 0,
         mirrors: 0,
     }
+}
+
+// Whether another disk is out, or one is out otherwise.
+fn is_other(out: Out, before: Out) -> bool
+    ensures { result ≡ true → out ≢ before }
+{
+    out != before
 }
 
 /// Commits all that is staged, and counts what is false then. Where a disk is lost in the commit nothing is counted.
@@ -57,6 +65,7 @@ pub(crate) fn commit_and_count<R: Rack>(core: &mut Core<R>) -> Result<CheckRepor
     ensures two { IfErr result (AreTwoDown (core_down core.old)
         (R.slot (core_rack core.old)) (R.slot (core_rack core.new))) }
     ensures tells { IfErr result (CoreTellsLosses R.told (named_out (meta_of core.old).out) core.old core.new) }
+    ensures no_fall { (d : ℕ) → (R.slot (core_rack core.old) d).faults ≤ (R.slot (core_rack core.new) d).faults }
     ensures calls { MakesTransferCalls R.told core.old core.new }
     ensures whole { CommitsWhole R.slot_count R.told core.old core.new }
     // Each stop leaves what it left before or all writes, and at the end all writes.
@@ -72,10 +81,12 @@ pub(crate) fn commit_and_count<R: Rack>(core: &mut Core<R>) -> Result<CheckRepor
     ensures sound { IfOk result (λ report. (h : History) (lo : ℕ) (t : Trail)
         → R.told (core_rack core.old) ≡ Some t → CoreStandsFor R.slot_count core.old h lo (now t)
         → IsSome (R.told (core_rack core.new)) → report ≡ no_faults) }
+    // Whatever the disks held, what is counted is what they hold after the commit.
+    ensures counts { IfOk result (CountsCommitted R.slot R.told core.old core.new) }
 {
     let out = core.out();
     core.commit()?;
-    if core.out() != out {
+    if is_other(core.out(), out) {
         return Ok(nothing_counted());
     }
     let checked = check(core)?;

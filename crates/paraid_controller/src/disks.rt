@@ -1,9 +1,10 @@
 //! Disks of an array that are taken out and replaced.
-ghost use Rattle.std.specs.Prelude.{◌≡◌, ◌<◌, ◌^◌, true, None, IfSome, IsSome};
+ghost use Rattle.std.specs.Prelude.{◌≡◌, ◌<◌, ◌^◌, true, None, IfSome};
 ghost use Rattle.paraid_array.specs.DiskRefusals.{IsFailRefused, IsReplaceRefused};
 ghost use Rattle.paraid_array.specs.Turns.{fail_answer, replace_answer};
 ghost use Rattle.paraid_base.specs.declared.event.Event.TheVariants.{Fail as FailEvent, Replace as ReplaceEvent};
 ghost use Rattle.paraid_core.specs.Cores.{meta_of};
+ghost use Rattle.paraid_recover.specs.HeldMoments.{Extends};
 ghost use Rattle.paraid_serve.specs.Form.{is_answer_to};
 ghost use Rattle.paraid_serve.specs.Lost.{HaltsByTwoLost};
 ghost use Rattle.paraid_session.specs.Faults.{HaveNotFallen};
@@ -49,7 +50,7 @@ impl<R: Rack> Array<R> {
         requires epoch { (meta_of (core_of_array self.old)).epoch < 2 ^ 62 }
         requires writes { (meta_of (core_of_array self.old)).writes < 2 ^ 62 }
         ensures turn { GoesOnByEvent R.slot_count R.told self.old self.new (FailEvent disk) result }
-        ensures told { IsSome (told_of_array R.told self.new) → IsSome (told_of_array R.told self.old) }
+        ensures told { Extends (told_of_array R.told self.old) (told_of_array R.told self.new) }
         ensures slots { slots_of_array self.new ≡ slots_of_array self.old }
         ensures setup { setup_of_array self.new ≡ setup_of_array self.old }
         ensures halt { halt_of_array self.new ≡ halt_told result }
@@ -76,7 +77,7 @@ impl<R: Rack> Array<R> {
         requires epoch { (meta_of (core_of_array self.old)).epoch < 2 ^ 62 }
         requires writes { (meta_of (core_of_array self.old)).writes < 2 ^ 62 }
         ensures turn { GoesOnByEvent R.slot_count R.told self.old self.new (ReplaceEvent disk) result }
-        ensures told { IsSome (told_of_array R.told self.new) → IsSome (told_of_array R.told self.old) }
+        ensures told { Extends (told_of_array R.told self.old) (told_of_array R.told self.new) }
         ensures slots { slots_of_array self.new ≡ slots_of_array self.old }
         ensures setup { setup_of_array self.new ≡ setup_of_array self.old }
         ensures halt { halt_of_array self.new ≡ halt_told result }
@@ -101,7 +102,7 @@ impl<R: Rack> Array<R> {
     pub fn fail(&mut self, disk: u32) -> Answer
         requires going { halt_of_array self.old ≡ None }
         ensures turn { GoesOnByEvent R.slot_count R.told self.old self.new (FailEvent disk) result }
-        ensures told { IsSome (told_of_array R.told self.new) → IsSome (told_of_array R.told self.old) }
+        ensures told { Extends (told_of_array R.told self.old) (told_of_array R.told self.new) }
         ensures slots { slots_of_array self.new ≡ slots_of_array self.old }
         ensures setup { setup_of_array self.new ≡ setup_of_array self.old }
         ensures halt { halt_of_array self.new ≡ halt_told result }
@@ -124,7 +125,7 @@ impl<R: Rack> Array<R> {
     pub fn replace(&mut self, disk: u32) -> Answer
         requires going { halt_of_array self.old ≡ None }
         ensures turn { GoesOnByEvent R.slot_count R.told self.old self.new (ReplaceEvent disk) result }
-        ensures told { IsSome (told_of_array R.told self.new) → IsSome (told_of_array R.told self.old) }
+        ensures told { Extends (told_of_array R.told self.old) (told_of_array R.told self.new) }
         ensures slots { slots_of_array self.new ≡ slots_of_array self.old }
         ensures setup { setup_of_array self.new ≡ setup_of_array self.old }
         ensures halt { halt_of_array self.new ≡ halt_told result }

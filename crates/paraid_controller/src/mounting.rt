@@ -1,11 +1,13 @@
 //! A mount that gives an array in service.
-ghost use Rattle.std.specs.Prelude.{◌≡◌, ℕ, None, Some, IfErr, IfOk};
-ghost use Rattle.paraid_rack.specs.Trail.{Trail, moments};
+ghost use Rattle.std.specs.Prelude.{◌≡◌, ℕ, ◌≤◌, ◌⊎◌, None, Some, IfErr, IfOk};
+ghost use Rattle.paraid_rack.specs.Trail.{Trail, moments, now};
 ghost use Rattle.paraid_recover.specs.HeldMoments.{Extends};
 ghost use Rattle.paraid_recover.specs.Mount.{IsCauseOfRefusal};
+ghost use Rattle.paraid_scrub.specs.Cores.{HasMapBits, core_view};
 ghost use Rattle.paraid_session.specs.Mount.{IsMountedFromEach, IsRefusedFromEach};
 ghost use Rattle.paraid_startup.specs.Refusals.{refusal_by_fault};
-ghost use Rattle.paraid_controller.specs.Arrays.{ArrayStandsAt, halt_of_array, setup_of_array, slots_of_array, told_of_array};
+ghost use Rattle.paraid_txn.specs.Losses.{IsLostNow};
+ghost use Rattle.paraid_controller.specs.Arrays.{ArrayStandsAt, core_of_array, halt_of_array, setup_of_array, slot_of_array, slots_of_array, told_of_array};
 
 use crate::Array;
 use paraid_rack::Rack;
@@ -17,6 +19,15 @@ use std::alloc::Global;
 pub fn mount_array<R: Rack>(alloc: Global, rack: R) -> Result<Array<R>, MountRefused<R>>
     ensures going { IfOk result (λ array. halt_of_array array ≡ None) }
     ensures slots { IfOk result (λ array. slots_of_array array ≡ R.slot_count rack) }
+    ensures later { IfOk result (λ array. (d : ℕ) → (R.slot rack d).faults
+        ≤ (slot_of_array R.slot array d).faults) }
+    ensures refused_later { IfErr result (λ refused. (d : ℕ) → (R.slot rack d).faults
+        ≤ (R.slot refused.rack d).faults) }
+    // Held or not, its table has the bits of the map; or log disk 0 was lost in the mount, and it may
+    // have those of its map instead.
+    ensures bits { IfOk result (λ array. ((t : Trail) → told_of_array R.told array ≡ Some t
+        → HasMapBits (core_of_array array) (core_view (core_of_array array) (now t)))
+        ⊎ IsLostNow (R.slot rack) (slot_of_array R.slot array) 0) }
     ensures grows { IfOk result (λ array. Extends (R.told rack) (told_of_array R.told array)) }
     // From each rack that held a history it stands at the first point of a session.
     ensures mounted { IfOk result (λ array. (began : ℕ)

@@ -1,11 +1,12 @@
 //! Questions, and events that are refused with no call of the rack.
-ghost use Rattle.std.specs.Prelude.{◌≡◌, ◌≢◌, ◌*◌, ◌-◌, ◌<◌, ◌≤◌, ◌^◌, max, true, length, None, Some, IfNone, IfSome, IsSome};
+ghost use Rattle.std.specs.Prelude.{◌≡◌, ◌≢◌, ◌*◌, ◌-◌, ◌<◌, ◌≤◌, ◌^◌, max, true, length, None, Some, IfNone, IfSome};
 ghost use Rattle.paraid_base.specs.declared.event.Answer.TheVariants.{Halted};
 ghost use Rattle.paraid_base.specs.declared.event.Event.{Event as EventType};
 ghost use Rattle.paraid_base.specs.declared.event.Event.TheVariants.{Bad as BadEvent, Energy as AskEnergy, State as AskState};
 ghost use Rattle.paraid_base.specs.declared.fault.Halt.TheVariants.{Worn};
 ghost use Rattle.paraid_image.specs.Out.{named_out};
 ghost use Rattle.paraid_machine.specs.Machine.{block_count, state_status};
+ghost use Rattle.paraid_recover.specs.HeldMoments.{Extends};
 ghost use Rattle.paraid_serve.specs.Form.{is_answer_to};
 ghost use Rattle.paraid_serve.specs.Lost.{HaltsByTwoLost};
 ghost use Rattle.paraid_session.specs.Faults.{HaveNotFallen};
@@ -32,11 +33,13 @@ pub(crate) fn worn(meta: &Meta) -> Option<u64>
 }
 
 impl<R: Rack> Array<R> {
+    ghost use Rattle.paraid_controller.specs.Lasting.{TellsItsWear};
     ghost use Rattle.paraid_controller.specs.Arrays.{ArrayStandsAt, GoesOnByEvent, core_of_array, down_of_array, halt_of_array, setup_of_array, slot_of_array, slots_of_array, told_of_array};
 
     /// The halt that each event gives from now on, if it has halted.
     pub fn halt(&self) -> Option<Halt>
-        ensures { result ≡ halt_of_array self.now }
+        ensures value { result ≡ halt_of_array self.now }
+        ensures worn { TellsItsWear (meta_of (core_of_array self.now)) result }
     {
         match self.ended {
             Some(ended) => Some(ended.halt),
@@ -127,7 +130,7 @@ impl<R: Rack> Array<R> {
         ensures turn { (event : EventType) → event ≢ BadEvent → may_halt event ≡ true
             → GoesOnByEvent R.slot_count R.told self.old self.new event (Halted result) }
         ensures core { core_of_array self.new ≡ core_of_array self.old }
-        ensures told { IsSome (told_of_array R.told self.new) → IsSome (told_of_array R.told self.old) }
+        ensures told { Extends (told_of_array R.told self.old) (told_of_array R.told self.new) }
         ensures slots { slots_of_array self.new ≡ slots_of_array self.old }
         ensures setup { setup_of_array self.new ≡ setup_of_array self.old }
         ensures halt { halt_of_array self.new ≡ Some result }

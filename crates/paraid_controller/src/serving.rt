@@ -1,6 +1,7 @@
 //! An array answers each event of a session.
-ghost use Rattle.std.specs.Prelude.{◌≡◌, ◌≢◌, true, None, IsSome};
+ghost use Rattle.std.specs.Prelude.{◌≡◌, ◌≢◌, true, None};
 ghost use Rattle.paraid_base.specs.declared.event.Event.TheVariants.{Bad as BadEvent, Flush as FlushEvent};
+ghost use Rattle.paraid_recover.specs.HeldMoments.{Extends};
 ghost use Rattle.paraid_serve.specs.Form.{is_answer_to};
 ghost use Rattle.paraid_serve.specs.Lost.{HaltsByTwoLost};
 ghost use Rattle.paraid_session.specs.Faults.{HaveNotFallen};
@@ -21,7 +22,7 @@ impl<R: Rack> Array<R> {
     fn flush_told(&mut self) -> Answer
         requires going { halt_of_array self.old ≡ None }
         ensures turn { GoesOnByEvent R.slot_count R.told self.old self.new FlushEvent result }
-        ensures told { IsSome (told_of_array R.told self.new) → IsSome (told_of_array R.told self.old) }
+        ensures told { Extends (told_of_array R.told self.old) (told_of_array R.told self.new) }
         ensures slots { slots_of_array self.new ≡ slots_of_array self.old }
         ensures setup { setup_of_array self.new ≡ setup_of_array self.old }
         ensures halt { halt_of_array self.new ≡ halt_told result }
@@ -58,7 +59,7 @@ impl<R: Rack> Array<R> {
         requires going { halt_of_array self.old ≡ None }
         requires event { event_with asked pairs.now ≢ BadEvent }
         ensures turn { GoesOnByEvent R.slot_count R.told self.old self.new (event_with asked pairs.now) result }
-        ensures told { IsSome (told_of_array R.told self.new) → IsSome (told_of_array R.told self.old) }
+        ensures told { Extends (told_of_array R.told self.old) (told_of_array R.told self.new) }
         ensures slots { slots_of_array self.new ≡ slots_of_array self.old }
         ensures setup { setup_of_array self.new ≡ setup_of_array self.old }
         ensures halt { halt_of_array self.new ≡ halt_told result }
@@ -106,6 +107,8 @@ impl<R: Rack> Serves for Array<R> {
     ghost serves = { λ array going. not_double R.slot_count R.slot array.core (lengths_of array.windows) array.setup array.slots (array.serving (going_end array.ended going)) };
 
     ghost absent = { λ array going. absent_out R.slot_count R.slot array.core (lengths_of array.windows) array.setup array.slots (array.serving (going_end array.ended going)) };
+
+    ghost worn = { λ array count is. (array.worn count is).0 };
 
     ghost agrees = { λ array p at. halt_at R.slot_count R.told array p at };
 

@@ -1,9 +1,10 @@
 //! Shifts of an array that are asked for.
-ghost use Rattle.std.specs.Prelude.{◌≡◌, ◌<◌, ◌^◌, true, None, IsSome};
+ghost use Rattle.std.specs.Prelude.{◌≡◌, ◌<◌, ◌^◌, true, None};
 ghost use Rattle.paraid_array.specs.Turns.{asked_answer};
 ghost use Rattle.paraid_base.specs.declared.event.Event.TheVariants.{Down as DownEvent, Up as UpEvent};
 ghost use Rattle.paraid_core.specs.Cores.{meta_of};
 ghost use Rattle.paraid_controller.specs.Used.{asked_energy as energy_asked};
+ghost use Rattle.paraid_recover.specs.HeldMoments.{Extends};
 ghost use Rattle.paraid_serve.specs.Form.{is_answer_to};
 ghost use Rattle.paraid_serve.specs.Lost.{HaltsByTwoLost};
 ghost use Rattle.paraid_session.specs.Faults.{HaveNotFallen};
@@ -52,7 +53,7 @@ impl<R: Rack> Array<R> {
         requires epoch { (meta_of (core_of_array self.old)).epoch < 2 ^ 62 }
         requires writes { (meta_of (core_of_array self.old)).writes < 2 ^ 62 }
         ensures turn { GoesOnByEvent R.slot_count R.told self.old self.new UpEvent result }
-        ensures told { IsSome (told_of_array R.told self.new) → IsSome (told_of_array R.told self.old) }
+        ensures told { Extends (told_of_array R.told self.old) (told_of_array R.told self.new) }
         ensures slots { slots_of_array self.new ≡ slots_of_array self.old }
         ensures setup { setup_of_array self.new ≡ setup_of_array self.old }
         ensures halt { halt_of_array self.new ≡ halt_told result }
@@ -83,7 +84,7 @@ impl<R: Rack> Array<R> {
         requires epoch { (meta_of (core_of_array self.old)).epoch < 2 ^ 62 }
         requires writes { (meta_of (core_of_array self.old)).writes < 2 ^ 62 }
         ensures turn { GoesOnByEvent R.slot_count R.told self.old self.new DownEvent result }
-        ensures told { IsSome (told_of_array R.told self.new) → IsSome (told_of_array R.told self.old) }
+        ensures told { Extends (told_of_array R.told self.old) (told_of_array R.told self.new) }
         ensures slots { slots_of_array self.new ≡ slots_of_array self.old }
         ensures setup { setup_of_array self.new ≡ setup_of_array self.old }
         ensures halt { halt_of_array self.new ≡ halt_told result }
@@ -112,7 +113,7 @@ impl<R: Rack> Array<R> {
     pub fn up(&mut self) -> Answer
         requires going { halt_of_array self.old ≡ None }
         ensures turn { GoesOnByEvent R.slot_count R.told self.old self.new UpEvent result }
-        ensures told { IsSome (told_of_array R.told self.new) → IsSome (told_of_array R.told self.old) }
+        ensures told { Extends (told_of_array R.told self.old) (told_of_array R.told self.new) }
         ensures slots { slots_of_array self.new ≡ slots_of_array self.old }
         ensures setup { setup_of_array self.new ≡ setup_of_array self.old }
         ensures halt { halt_of_array self.new ≡ halt_told result }
@@ -132,7 +133,7 @@ impl<R: Rack> Array<R> {
     pub fn down(&mut self) -> Answer
         requires going { halt_of_array self.old ≡ None }
         ensures turn { GoesOnByEvent R.slot_count R.told self.old self.new DownEvent result }
-        ensures told { IsSome (told_of_array R.told self.new) → IsSome (told_of_array R.told self.old) }
+        ensures told { Extends (told_of_array R.told self.old) (told_of_array R.told self.new) }
         ensures slots { slots_of_array self.new ≡ slots_of_array self.old }
         ensures setup { setup_of_array self.new ≡ setup_of_array self.old }
         ensures halt { halt_of_array self.new ≡ halt_told result }

@@ -19,7 +19,6 @@ use Rattle.paraid_record.specs.declared.meta.Setup.{Setup}
 use Rattle.paraid_image.specs.Power.{power_by_gear}
 use Rattle.paraid_core.specs.CoreInvariant.{IsHeldWithOneMissing, meta_with_lost}
 use Rattle.paraid_session.specs.Watch.{IsServing, Watch, watch_all}
-use Rattle.paraid_startup.proofs.DownLemmas.{watched_disks}
 use Rattle.paraid_event.specs.Marks.{ArePoweredByGear, IsMarkedBy, ShowsMeta}
 use Rattle.paraid_event.specs.Powering.{AreDisksPowered, EndsPowered}
 use Rattle.paraid_event.specs.Service.{Service}
@@ -201,14 +200,6 @@ module _ (k : Service) (h : History) (lo d : ℕ) (base : Meta) (w : Watch) (at 
 
           serving : IsServing (watch_all cs w).down
           serving = only_serving (Some d) (watch_all cs w).down only_then
-
-          -- where it was lost it is absent
-          pub park_away : k_then.meta.out ≡ Gone d → is_present ((watch_all cs w).disks.power d) ≡ false
-          park_away is = by done (ap (λ (m : Meta). m.out) (sym meta_is) ∙ is) (ap is_present (ap (λ (x : Disks). x.power d) (watched_disks w cs) ∙ power_here))
-            where
-              by : (t : Bool) → (meta_with_lost (lost_by d t) k.meta).out ≡ Gone d → is_present ((watch_all cs w).disks.power d) ≡ is_present (power_after t Parked) → is_present ((watch_all cs w).disks.power d) ≡ false
-              by true out power = let z : No ≡ Gone d = sym none_out ∙ out in cc
-              by false out power = power
 
           pub ended_parked : IsEnded k k_then h lo d base (watch_all cs w)
           ended_parked = record {

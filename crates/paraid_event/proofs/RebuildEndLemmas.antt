@@ -6,24 +6,22 @@ use Rattle.std.proofs.lemmas.List.{append-nil}
 use Rattle.paraid_base.specs.declared.event.Answer.{Answer}
 use Rattle.paraid_base.specs.declared.event.Event.TheVariants.{Tick, Bad}
 use Rattle.paraid_base.specs.declared.state.Out.{Out}
-use Rattle.paraid_base.specs.declared.state.Out.TheVariants.{No, Gone, Fresh}
-use Rattle.paraid_base.specs.declared.state.TickEvent.{TickEvent}
-use Rattle.paraid_base.specs.declared.state.TickEvent.TheVariants.{Gone as GoneAgain, Moving, Rebuilt}
+use Rattle.paraid_base.specs.declared.state.Out.TheVariants.{No, Fresh}
+use Rattle.paraid_base.specs.declared.state.TickEvent.TheVariants.{Moving, Rebuilt}
 use Rattle.paraid_base.specs.States.{named_out}
 use Rattle.paraid_dirty.specs.Table.{is_dirty}
 use Rattle.paraid_rack.specs.declared.call.Call.{Call}
-use Rattle.paraid_rack.specs.Disks.{Disks, is_present}
 use Rattle.paraid_rack.specs.Trail.{Trail, now}
 use Rattle.paraid_record.specs.declared.meta.Meta.{Meta}
 use Rattle.paraid_record.specs.declared.meta.Setup.{Setup}
 use Rattle.paraid_image.specs.Power.{PowerState}
 use Rattle.paraid_machine.specs.Energy.{energy_after, tick_energy}
 use Rattle.paraid_machine.specs.Machine.{IsEventStep, outcomes, rebuild, report, tick_by_out}
-use Rattle.paraid_machine.specs.Moves.{after_loss, state_with_tick, units_to_rebuild}
+use Rattle.paraid_machine.specs.Moves.{state_with_tick, units_to_rebuild}
 use Rattle.paraid_session.specs.Turn.{GoesOn, IsMark, Point, bounds_at, makes_no_call, point_wear}
 use Rattle.paraid_session.specs.Turn.IsTurn.{answered}
-use Rattle.paraid_session.specs.Watch.{Bounds, Down, Each, HoldsWhileServing, IsAllowed, IsServing, Watch, down_from_out, fails_on, first_lost, only, watch, watch_all}
-use Rattle.paraid_session.proofs.LayerLemmas.{absent_failed, fails_first, first_fails}
+use Rattle.paraid_session.specs.Watch.{Bounds, Each, HoldsWhileServing, IsAllowed, IsServing, Watch, down_from_out, fails_on, first_lost, watch, watch_all}
+use Rattle.paraid_session.proofs.LayerLemmas.{first_fails}
 use Rattle.paraid_session.specs.Resting.{watch_at}
 use Rattle.paraid_startup.proofs.DownLemmas.{watched_disks}
 use Rattle.paraid_event.specs.RebuildEnds.{MarksRejoined}
@@ -32,43 +30,21 @@ use Rattle.paraid_event.specs.Service.{IsStateOf, Service}
 use Rattle.paraid_event.specs.Stands.{IsMidway, StandsAt, StandsIn}
 use Rattle.paraid_event.specs.Steps.{AreStepCalls}
 use Rattle.paraid_event.specs.Ticks.{CountsTick}
-use Rattle.paraid_event.proofs.EndLemmas.{fails_split, only_is, only_serving}
+use Rattle.paraid_event.proofs.EndLemmas.{fails_split, only_serving}
 use Rattle.paraid_event.proofs.ParkBackLemmas.{IsEnded}
 use Rattle.paraid_event.proofs.PointLemmas.{stands_mark}
 use Rattle.paraid_event.proofs.RebuildTickLemmas.{capped_sum, counted_energy, equal_test, failed_off, moments, setup1, slots1, state1, under_cap}
-use Rattle.paraid_event.proofs.TurnLemmas.{fresh_there}
 
 min_is : (a b : ℕ) → a ≤ b → min b a ≡ a
 min_is a b l = grind (arith)
 
 -- a disk on which a call failed is of the array
-failed_low : (P : Watch → Type 0) (setup : Setup) (asked : Option ℕ) (w : Watch) (cs : List Call) (e : ℕ) → Each P (IsAllowed setup asked) w cs → fails_on e cs ≡ true → e < setup.geometry.disks
+pub failed_low : (P : Watch → Type 0) (setup : Setup) (asked : Option ℕ) (w : Watch) (cs : List Call) (e : ℕ) → Each P (IsAllowed setup asked) w cs → fails_on e cs ≡ true → e < setup.geometry.disks
 failed_low P setup asked w [] e each is = absurd (false≢true is)
 failed_low P setup asked w (c ∷ cs) e each is = elim (fails_split c cs e is) [
   | inl here ↦ subst (λ (x : ℕ). x < setup.geometry.disks) here.1 each.1.disk
   | inr later ↦ failed_low P setup asked (watch c w) cs e each.2 later
 ]
-
--- so it is answered: the disk is back, or gone again
-abbrev pub ends_as : ℕ → Bool → TickEvent
-ends_as d true = Rebuilt d
-ends_as d false = GoneAgain d
-
-abbrev pub moved_as : ℕ → Bool → ℕ
-moved_as left true = left
-moved_as left false = 0
-
-abbrev pub out_as : ℕ → Bool → Out
-out_as d true = No
-out_as d false = Gone d
-
-abbrev pub state_as : PowerState → ℕ → Bool → PowerState
-state_as s d true = record s { out = No }
-state_as s d false = after_loss s d
-
-abbrev loss_as : ℕ → Bool → Option ℕ
-loss_as d true = None
-loss_as d false = Some d
 
 module _ (told : Option Trail) (k k1 : Service) (setup : Setup) (p : Point) (at : StandsAt told k setup p) (d rebuilt : ℕ) (is_fresh : p.state.out ≡ Fresh d rebuilt) (counts : CountsTick k k1) (fit : point_wear p < 2 ^ 62) (bound : ℕ) (few : bound ≤ 2 ^ 20) where
   abbrev w0 : Watch
@@ -95,17 +71,17 @@ module _ (told : Option Trail) (k k1 : Service) (setup : Setup) (p : Point) (at 
   ends_some : left ≤ setup.rate → Contains {X = Answer × PowerState} (rebuild setup None s1 d rebuilt) ((report p.state left (Rebuilt d)).0, record s1 { out = No })
   ends_some few_left = subst (λ (c : ℕ). Contains {X = Answer × PowerState} (end_outcome left c ∷ []) ((report p.state left (Rebuilt d)).0, record s1 { out = No })) (sym (min_is left setup.rate few_left)) (ends_left left)
 
-  -- The event has ended: the disk is back, or gone again.
-  module _ (came : Bool) (k2 : Service) (counts2 : CountsRebuild k k1 k2) (fits_rate : came ≡ true → left ≤ setup.rate) (cs : List Call) (calls : AreStepCalls k1 p.history p.low bound p.meta w0 cs) (base : Meta) (ended : IsEnded k1 k2 p.history p.low d base (watch_all cs w0))
-      (out2 : k2.meta.out ≡ out_as d came) (state2 : IsStateOf k2 (state_as s1 d came)) where
+  -- The event has ended: the disk is back.
+  module _ (k2 : Service) (counts2 : CountsRebuild k k1 k2) (few_left : left ≤ setup.rate) (cs : List Call) (calls : AreStepCalls k1 p.history p.low bound p.meta w0 cs) (base : Meta) (ended : IsEnded k1 k2 p.history p.low d base (watch_all cs w0))
+      (none_out : k2.meta.out ≡ No) (state2 : IsStateOf k2 (record s1 { out = No })) where
     abbrev v : Watch
     v = watch_all cs w0
 
     abbrev s2 : PowerState
-    s2 = state_as s1 d came
+    s2 = record s1 { out = No }
 
     abbrev answer : Answer
-    answer = (report p.state (moved_as left came) (ends_as d came)).0
+    answer = (report p.state left (Rebuilt d)).0
 
     mid2 : IsMidway k2 p.history p.low base v
     mid2 = ended.midway
@@ -124,48 +100,27 @@ module _ (told : Option Trail) (k k1 : Service) (setup : Setup) (p : Point) (at 
     failed2 e fails = mid2.named e (subst (λ (z : Setup). e < z.geometry.disks) (sym setup2) (failed_low (HoldsWhileServing k.slots p.history p.low b) setup None w0 cs e held fails))
         (failed_off (HoldsWhileServing k.slots p.history p.low b) setup None w0 cs e held calls.attaches fails)
 
-    -- one that is gone then has failed
-    lost_d : k2.meta.out ≡ Gone d → is_present (v.disks.power d) ≡ false → first_lost cs ≡ Some d
-    lost_d is off = elim (absent_failed p.disks cs d (subst (λ (s : Disks). is_present (s.power d) ≡ false) (watched_disks w0 cs) off)) [
-      | inl before ↦ absurd (false≢true (sym before ∙ fresh_there told k setup p at d rebuilt (sym at.state.out ∙ is_fresh)))
-      | inr fails ↦
-          let it = fails_first cs d fails in
-          let one : Some d ≡ Some it.0 = ap named_out (sym is) ∙ failed2 it.0 (first_fails cs it.0 it.1) in
-          it.1 ∙ sym one
-    ]
-
-    loss2 : (came ≡ false → is_present (v.disks.power d) ≡ false) → first_lost cs ≡ loss_as d came
-    loss2 off = by came refl
+    -- so none has
+    loss2 : first_lost cs ≡ None
+    loss2 = by (first_lost cs) refl
       where
-        none_by : (o : Option ℕ) → first_lost cs ≡ o → k2.meta.out ≡ No → first_lost cs ≡ None
-        none_by None none is = none
-        none_by (Some e) some is = let z : None ≡ Some e = sym (ap named_out is) ∙ failed2 e (first_fails cs e some) in cc
+        by : (o : Option ℕ) → first_lost cs ≡ o → first_lost cs ≡ None
+        by None none = none
+        by (Some e) some = let z : None ≡ Some e = sym (ap named_out none_out) ∙ failed2 e (first_fails cs e some) in cc
 
-        by : (t : Bool) → came ≡ t → first_lost cs ≡ loss_as d t
-        by true is = none_by (first_lost cs) refl (out2 ∙ ap (out_as d) is)
-        by false is = lost_d (out2 ∙ ap (out_as d) is) (off is)
-
-    named_down2 : (t : Bool) → came ≡ t → (e : ℕ) → named_out (out_as d t) ≡ Some e → named_out k2.meta.out ≡ Some e
-    named_down2 t is e named = ap named_out (out2 ∙ ap (out_as d) is) ∙ named
-
-    -- the disk that is out is down, and no other one
+    -- no disk is down
     down2 : StandsIn k2 p.history p.low base (record { disks = v.disks; down = down_from_out (named_out s2.out); spun = v.spun; awaited = v.awaited })
-    down2 = by came refl
-      where
-        by : (t : Bool) → came ≡ t → StandsIn k2 p.history p.low base (record { disks = v.disks; down = down_from_out (named_out (state_as s1 d t).out); spun = v.spun; awaited = v.awaited })
-        by true is = record {
-          keeps = mid2.stands.keeps;
-          is_base = mid2.stands.is_base;
-          absent_down = λ e low gone. let z : None ≡ Some e = sym (ap named_out (out2 ∙ ap (out_as d) is)) ∙ mid2.named e low gone in cc;
-          named_down = λ e named. let z : None ≡ Some e = sym (ap named_out (out2 ∙ ap (out_as d) is)) ∙ named in cc;
-          stays = mid2.stands.stays;
-          recorded = mid2.stands.recorded;
-          recorded_next = mid2.stands.recorded_next;
-          awaited = mid2.stands.awaited;
-          ticks = mid2.stands.ticks;
-        }
-        by false is = subst (λ (x : Down). StandsIn k2 p.history p.low base (record { disks = v.disks; down = x; spun = v.spun; awaited = v.awaited }))
-            (only_is (Some d) v.down ended.only (λ e named. mid2.stands.named_down e (named_down2 false is e named))) mid2.stands
+    down2 = record {
+      keeps = mid2.stands.keeps;
+      is_base = mid2.stands.is_base;
+      absent_down = λ e low gone. let z : None ≡ Some e = sym (ap named_out none_out) ∙ mid2.named e low gone in cc;
+      named_down = λ e named. let z : None ≡ Some e = sym (ap named_out none_out) ∙ named in cc;
+      stays = mid2.stands.stays;
+      recorded = mid2.stands.recorded;
+      recorded_next = mid2.stands.recorded_next;
+      awaited = mid2.stands.awaited;
+      ticks = mid2.stands.ticks;
+    }
 
     abbrev q : Point
     q = record {
@@ -184,11 +139,7 @@ module _ (told : Option Trail) (k k1 : Service) (setup : Setup) (p : Point) (at 
     counted = counted_energy told k k1 setup p at d rebuilt is_fresh counts fit bound few
 
     energy2 : energy_after setup p.energy p.state answer ≡ k2.energy
-    energy2 = by came
-      where
-        by : (t : Bool) → energy_after setup p.energy p.state (report p.state (moved_as left t) (ends_as d t)).0 ≡ k2.energy
-        by true = capped_sum p.energy k.energy (tick_energy setup p.state) k1.energy k2.energy at.energy counted counts2.energy
-        by false = capped_sum p.energy k.energy (tick_energy setup p.state) k1.energy k2.energy at.energy counted counts2.energy
+    energy2 = capped_sum p.energy k.energy (tick_energy setup p.state) k1.energy k2.energy at.energy counted counts2.energy
 
     after : (told_then : Option Trail) → ((t : Trail) → told_then ≡ Some t → now t ≡ v.disks) → StandsAt told_then k2 setup q
     after told_then tells = record {
@@ -204,34 +155,26 @@ module _ (told : Option Trail) (k k1 : Service) (setup : Setup) (p : Point) (at 
       going = refl;
     }
 
-    among : Contains {X = Answer × PowerState} (rebuild setup (loss_as d came) s1 d rebuilt) (answer, s2)
-    among = by came fits_rate
-      where
-        by : (t : Bool) → (t ≡ true → left ≤ setup.rate) → Contains {X = Answer × PowerState} (rebuild setup (loss_as d t) s1 d rebuilt) ((report p.state (moved_as left t) (ends_as d t)).0, state_as s1 d t)
-        by true few_left = ends_some (few_left refl)
-        by false few_left = let test = equal_test d d refl in rw test (0, omega arith, refl)
+    among : Contains {X = Answer × PowerState} (rebuild setup None s1 d rebuilt) (answer, s2)
+    among = ends_some few_left
 
-    machine : first_lost cs ≡ loss_as d came → IsEventStep setup p.history p.energy p.state Tick (first_lost cs) answer s2
+    machine : IsEventStep setup p.history p.energy p.state Tick (first_lost cs) answer s2
     unfolding outcomes
-    machine loss = record {
+    machine = record {
       among = subst (λ (o : Out). Contains {X = Answer × PowerState} (tick_by_out setup (first_lost cs) s1 o) (answer, s2)) (sym is_fresh)
-          (subst (λ (o : Option ℕ). Contains {X = Answer × PowerState} (rebuild setup o s1 d rebuilt) (answer, s2)) (sym loss) among);
+          (subst (λ (o : Option ℕ). Contains {X = Answer × PowerState} (rebuild setup o s1 d rebuilt) (answer, s2)) (sym loss2) among);
     }
 
     busy : makes_no_call answer ≡ false
-    busy = by came
-      where
-        by : (t : Bool) → makes_no_call (report p.state (moved_as left t) (ends_as d t)).0 ≡ false
-        by true = refl
-        by false = refl
+    busy = refl
 
     -- So it is a turn.
-    pub ended_turn : (came ≡ false → is_present (v.disks.power d) ≡ false) → (told_then : Option Trail) → ((t : Trail) → told_then ≡ Some t → now t ≡ v.disks) → GoesOn k.slots setup p Tick answer (StandsAt told_then k2 setup) p.disks cs
-    ended_turn off told_then tells = let there = after told_then tells in (
+    pub ended_turn : (told_then : Option Trail) → ((t : Trail) → told_then ≡ Some t → now t ≡ v.disks) → GoesOn k.slots setup p Tick answer (StandsAt told_then k2 setup) p.disks cs
+    ended_turn told_then tells = let there = after told_then tells in (
       q,
       answered at.going (λ e. let z : Tick ≡ Bad = e in cc) (record {
         fit = λ asked. fit;
-        machine = machine (loss2 off);
+        machine = machine;
         moments = held;
         once = let a = calls.attaches in omega (arith, a);
         quiet = λ still none. absurd (false≢true (sym busy ∙ still));
@@ -250,7 +193,7 @@ module _ (told : Option Trail) (k k1 : Service) (setup : Setup) (p : Point) (at 
     )
 
   -- the meta that is marked is that of the state
-  pub back_state : (k2 : Service) → CountsRebuild k k1 k2 → MarksRejoined k1 k2 → IsStateOf k2 (state_as s1 d true)
+  pub back_state : (k2 : Service) → CountsRebuild k k1 k2 → MarksRejoined k1 k2 → IsStateOf k2 (record s1 { out = No })
   back_state k2 counts2 marks = let state = state1 told k k1 setup p at d rebuilt is_fresh counts fit bound few in record {
     gear = state.gear ∙ sym (ap (λ (m : Meta). m.gear) marks.is);
     phase = state.phase ∙ sym (ap (λ (m : Meta). m.phase) marks.is);

@@ -5,18 +5,18 @@ use Rattle.paraid_base.specs.declared.event.Event.TheVariants.{Tick}
 use Rattle.paraid_base.specs.declared.fault.Halt.TheVariants.{Two as HaltTwo}
 use Rattle.paraid_base.specs.declared.fault.Two.{Two}
 use Rattle.paraid_base.specs.declared.state.Out.TheVariants.{No, Gone, Fresh}
-use Rattle.paraid_base.specs.declared.state.TickEvent.TheVariants.{Gone as GoneAgain, Rebuilt}
+use Rattle.paraid_base.specs.declared.state.TickEvent.TheVariants.{Rebuilt}
 use Rattle.paraid_base.specs.History.{History}
 use Rattle.paraid_base.specs.States.{gone_out, named_out, rising_to}
 use Rattle.paraid_rack.specs.declared.call.Call.{Call}
 use Rattle.paraid_rack.specs.declared.call.Call.TheVariants.{Park}
-use Rattle.paraid_rack.specs.declared.call.Power.{Power}
-use Rattle.paraid_rack.specs.Disks.{Disks, is_present}
+use Rattle.paraid_rack.specs.Disks.{Disks}
 use Rattle.paraid_rack.specs.Told.{Ran}
 use Rattle.paraid_rack.specs.Trail.{Trail, now, run}
 use Rattle.paraid_rack.proofs.TrailsLemmas.{now-extend}
 use Rattle.paraid_record.specs.declared.meta.Meta.{Meta}
 use Rattle.paraid_record.specs.declared.meta.Setup.{Setup}
+use Rattle.paraid_image.specs.Calls.{is_attach}
 use Rattle.paraid_image.specs.Lost.{TellsLosses, fails_on, first_lost}
 use Rattle.paraid_core.specs.Calls.{IsOneCall}
 use Rattle.paraid_core.specs.CoreInvariant.{meta_with_lost}
@@ -25,41 +25,29 @@ use Rattle.paraid_machine.specs.Machine.{report}
 use Rattle.paraid_machine.specs.Moves.{state_with_tick, units_to_rebuild}
 use Rattle.paraid_moves.specs.MoveMetas.{meta_with_out}
 use Rattle.paraid_session.specs.Turn.{GoesOn, Point, point_wear}
-use Rattle.paraid_session.specs.Watch.{Watch, watch_all}
+use Rattle.paraid_session.specs.Watch.{Bounds, HoldsWhileServing, Watch, attach_count, awaited_after, watch, watch_all}
 use Rattle.paraid_session.specs.Resting.{watch_at}
 use Rattle.paraid_startup.proofs.DownLemmas.{watched_disks}
-use Rattle.paraid_event.specs.Marks.{IsMarkedBy, ShowsMeta}
+use Rattle.paraid_event.specs.Marks.{ShowsMeta}
 use Rattle.paraid_event.specs.Parts.{LosesInEvent, ServesEvent}
 use Rattle.paraid_event.specs.RebuildEnds.{CommitsRejoined, CopiesRest, FinishesRebuild, IsParkCall, LosesFinishing, MarksRejoined, ParksBack, ParksInEvent, RejoinsDisk}
 use Rattle.paraid_event.specs.RebuildEnds.FinishesRebuild.{committing, copying}
 use Rattle.paraid_event.specs.RebuildEnds.LosesFinishing.{as_committed, as_copied}
 use Rattle.paraid_event.specs.RebuildEnds.ParksBack.{fails, parks, stays}
-use Rattle.paraid_event.specs.RebuildTicks.{CountsRebuild, MarksGoneAgain}
+use Rattle.paraid_event.specs.RebuildTicks.{CountsRebuild}
 use Rattle.paraid_event.specs.Service.{IsStateOf, Service}
 use Rattle.paraid_event.specs.Stands.{ServiceStandsFor, StandsAt}
-use Rattle.paraid_event.specs.Steps.{AreStepCalls, GoesInSteps, IsUnderway, LosesInSteps, ServesAndMarks, StepsInEvent}
+use Rattle.paraid_event.specs.Steps.{AreStepCalls, GoesInSteps, IsOnly, IsUnderway, LosesInSteps, ServesAndMarks, StepsInEvent}
 use Rattle.paraid_event.specs.Ticks.{CountsTick, IsHaltedWith}
 use Rattle.paraid_event.proofs.EndLemmas.{fails_split}
 use Rattle.paraid_event.proofs.FailLemmas.{watch_append}
-use Rattle.paraid_event.proofs.MarksLemmas.{kept_out, lost_out}
-use Rattle.paraid_event.proofs.ParkBackLemmas.{IsEnded, ended_gone, ended_parked, ended_spinning, lost_by, park_away, park_calls}
-use Rattle.paraid_event.proofs.RebuildEndLemmas.{back_state, ended_turn, ends_as, moved_as, out_as, state_as}
-use Rattle.paraid_event.proofs.RebuildTickLemmas.{gone_state, gone_told, out1, rebuild_loses, some_trail, underway1}
+use Rattle.paraid_event.proofs.ParkBackLemmas.{IsEnded, ended_gone, ended_parked, ended_spinning, lost_by, park_calls}
+use Rattle.paraid_event.proofs.RebuildEndLemmas.{back_state, ended_turn, failed_low}
+use Rattle.paraid_event.proofs.RebuildTickLemmas.{failed_off, none_first, out1, rebuild_loses, some_trail, underway1}
 use Rattle.paraid_event.proofs.RejoinLemmas.{GoesBack, back_after, calls_then, rejoin_calls, rejoined}
 use Rattle.paraid_event.proofs.ShownLemmas.{shown_rests}
-use Rattle.paraid_event.proofs.StepLemmas.{data_steps, fails_later, follow, lose_then, ran_both, ran_then}
+use Rattle.paraid_event.proofs.StepLemmas.{data_steps, fails_later, follow, goes_bound, lose_then, ran_both, ran_then}
 use Rattle.paraid_event.proofs.StepMarkLemmas.{fresh_of}
-
--- a disk that was marked where none was out is absent
-lost_away : (power : ℕ → Power) (m new : Meta) → IsMarkedBy power m new → m.out ≡ No → (d : ℕ) → new.out ≡ Gone d → is_present (power d) ≡ false
-lost_away power m new marks none_out d is = by marks.lost refl
-  where
-    by : (o : Option ℕ) → marks.lost ≡ o → is_present (power d) ≡ false
-    by None none = let z : No ≡ Gone d = sym none_out ∙ sym (kept_out power m new marks none) ∙ is in cc
-    by (Some x) some =
-        let z : Gone x ≡ Gone d = sym (lost_out power m new marks x some) ∙ is in
-        let same_disk : x ≡ d = cc in
-        subst (λ (y : ℕ). is_present (power y) ≡ false) same_disk (marks.absent x some)
 
 -- the units that are left are copied, and the core stands with the disk back too
 copies_goes : (j copied joined : Service) → copied.slots ≡ j.slots → (h : History) (lo : ℕ) (s : Disks) (cs : List Call) → CopiesRest j copied joined h lo s cs → (base : Meta) (w : Watch) → w.disks ≡ s → IsUnderway j h lo base w
@@ -70,10 +58,9 @@ copies_goes j copied joined slots h lo s cs rest base w same at =
       subst (ServiceStandsFor joined h lo) (sym (watched_disks w cs)) here.2,
     )
 
--- So parts of an event go to where disk `d`, which was out, is back or lost again; then it is absent.
+-- So parts of an event go to where disk `d`, which was out, is back or lost again,
 abbrev BackFrom : Service → Service → History → ℕ → ℕ → ℕ → Disks → List Call → Type 0
-BackFrom k back h lo most d s cs = (base : Meta) (w : Watch) → w.disks ≡ s → IsUnderway k h lo base w → named_out k.meta.out ≡ Some d
-    → GoesBack k back h lo most d base w cs × (back.meta.out ≡ Gone d → is_present ((watch_all cs w).disks.power d) ≡ false)
+BackFrom k back h lo most d s cs = (base : Meta) (w : Watch) → w.disks ≡ s → IsUnderway k h lo base w → named_out k.meta.out ≡ Some d → GoesBack k back h lo most d base w cs
 
 -- or a second one is lost in them
 abbrev LosesFrom : Service → History → ℕ → ℕ → ℕ → Two → Disks → List Call → Type 0
@@ -104,11 +91,8 @@ module _ (j copied joined : Service) (h : History) (lo d : ℕ) (there : gone_ou
       let both = subst (λ (z : Service). ServesEvent z back h lo h (length h) (watch_all cs w).disks ds) mark (subst (λ (u : Disks). ServesEvent joined back h lo h (length h) u ds) (sym end) serves) keeps in
       let le : lo ≤ length h = (let l = keeps.copies.low in let m = keeps.copies.high in omega (arith, l, m)) in
       let more : back.meta.epoch ≡ copied.meta.epoch + 1 = (let e : joined.meta.epoch ≡ copied.meta.epoch = ap (λ (z : Service). z.meta.epoch) mark in omega (arith, epoch, e)) in
-      let second = rejoined copied d fresh.0 h lo goes.0.base_then (watch_all cs w) goes.0.ends fresh.1 keeps ds both.0 back (length h) le both.1 alone (more_slots ∙ ap (λ (z : Service). z.slots) mark) more in (
-        back_after j copied back h lo 0 1 d base w cs ds goes.0 second,
-        (λ is. subst (λ (u : Watch). is_present (u.disks.power d) ≡ false) (sym (watch_append cs ds w))
-            (subst (λ (u : Disks). is_present (u.power d) ≡ false) (sym (watched_disks (watch_all cs w) ds)) (lost_away (run (watch_all cs w).disks ds).power back_now.meta back.meta both.1.marks refl d is))),
-      )
+      let second = rejoined copied d fresh.0 h lo goes.0.base_then (watch_all cs w) goes.0.ends fresh.1 keeps ds both.0 back (length h) le both.1 alone (more_slots ∙ ap (λ (z : Service). z.slots) mark) more in
+      back_after j copied back h lo 0 1 d base w cs ds goes.0 second
 
   -- or a second disk is lost in that commit
   lose_from : (two : Two) (s : Disks) (cs ds : List Call) → CopiesRest j copied joined h lo s cs → LosesInEvent joined h lo (run s cs) ds × TellsLosses (Some d) two ds → LosesFrom j h lo (0 + 1) d two s (cs ++ ds)
@@ -127,10 +111,8 @@ module _ (j copied joined : Service) (h : History) (lo d : ℕ) (there : gone_ou
 back_before : (k j back : Service) (h : History) (lo most more d : ℕ) (s : Disks) (cs ds : List Call) → StepsInEvent k j h lo most s cs → BackFrom j back h lo more d (run s cs) ds → BackFrom k back h lo (most + more) d s (cs ++ ds)
 back_before k j back h lo most more d s cs ds steps from base w same at named =
     let goes = steps base w same at in
-    let second = from goes.base_then (watch_all cs w) (watched_disks w cs ∙ ap (λ (u : Disks). run u cs) same) goes.ends (goes.leaves.still d named) in (
-      back_after k j back h lo most more d base w cs ds goes second.0,
-      (λ is. subst (λ (u : Watch). is_present (u.disks.power d) ≡ false) (sym (watch_append cs ds w)) (second.1 is)),
-    )
+    let second = from goes.base_then (watch_all cs w) (watched_disks w cs ∙ ap (λ (u : Disks). run u cs) same) goes.ends (goes.leaves.still d named) in
+    back_after k j back h lo most more d base w cs ds goes second
 
 lose_before : (k j : Service) (h : History) (lo most more d : ℕ) (two : Two) (named : named_out k.meta.out ≡ Some d) (s : Disks) (cs ds : List Call) → StepsInEvent k j h lo most s cs → LosesFrom j h lo more d two (run s cs) ds → LosesInSteps k h lo (most + more) two s (cs ++ ds)
 lose_before k j h lo most more d two named s cs ds steps from base w same at =
@@ -143,9 +125,10 @@ lose_before k j h lo most more d two named s cs ds steps from base w same at =
 -- The event ends so.
 record EndsIn (k k_then : Service) (h : History) (lo bound d : ℕ) (base : Meta) (w : Watch) (cs : List Call) : Type 0 where
   calls : AreStepCalls k h lo bound base w cs
+  ticks : k_then.meta.ticks ≡ k.meta.ticks
   base_then : Meta
+  room : base_then.epoch ≤ base.epoch + bound
   ended : IsEnded k k_then h lo d base_then (watch_all cs w)
-  away : k_then.meta.out ≡ Gone d → is_present ((watch_all cs w).disks.power d) ≡ false
 
 abbrev EndsFrom : Service → Service → History → ℕ → ℕ → ℕ → Disks → List Call → Type 0
 EndsFrom k k_then h lo bound d s cs = (base : Meta) (w : Watch) → w.disks ≡ s → IsUnderway k h lo base w → named_out k.meta.out ≡ Some d → EndsIn k k_then h lo bound d base w cs
@@ -164,31 +147,35 @@ ended_for k back k_then h lo d base w slots setup it = record {
 -- it is lost again, or spins on
 ends_gone : (k back : Service) (h : History) (lo most d : ℕ) → back.meta.out ≡ Gone d → (s : Disks) (cs : List Call) → BackFrom k back h lo most d s cs → EndsFrom k back h lo most d s cs
 ends_gone k back h lo most d gone s cs from base w same at named =
-    let it = from base w same at named in
-    let goes = it.0 in
+    let goes = from base w same at named in
     record {
       calls = goes.calls;
+      ticks = goes.ticks;
       base_then = goes.base_then;
+      room = goes.room;
       ended = ended_for k back back h lo d goes.base_then (watch_all cs w) goes.slots goes.setup (ended_gone back h lo d goes.base_then (watch_all cs w) goes.ends gone);
-      away = it.1;
     }
 
 ends_spinning : (k back : Service) (h : History) (lo most d : ℕ) → back.meta.out ≡ No → (d < back.meta.gear) ⊎ (d < rising_to back.meta.phase) → (s : Disks) (cs : List Call) → BackFrom k back h lo most d s cs → EndsFrom k back h lo most d s cs
 ends_spinning k back h lo most d none_out under s cs from base w same at named =
-    let it = from base w same at named in
-    let goes = it.0 in
+    let goes = from base w same at named in
     record {
       calls = goes.calls;
+      ticks = goes.ticks;
       base_then = goes.base_then;
+      room = goes.room;
       ended = ended_for k back back h lo d goes.base_then (watch_all cs w) goes.slots goes.setup (ended_spinning back h lo d goes.base_then (watch_all cs w) goes.ends none_out under);
-      away = it.1;
     }
+
+parked_ticks : (d : ℕ) (done : Bool) (m : Meta) → (meta_with_lost (lost_by d done) m).ticks ≡ m.ticks
+parked_ticks d true m = refl
+parked_ticks d false m = refl
 
 -- or it is parked, or lost in that
 ends_parked : (k back k_then : Service) (h : History) (lo most d : ℕ) (done : Bool) → back.batch ≡ [] → back.meta.out ≡ No → back.meta.gear ≤ d → rising_to back.meta.phase ≤ d → k_then.slots ≡ back.slots → k_then.meta ≡ meta_with_lost (lost_by d done) back.meta
     → (s : Disks) (cs ds : List Call) → BackFrom k back h lo most d s cs → ParksInEvent back k_then h lo d done (run s cs) ds → EndsFrom k k_then h lo (most + 0) d s (cs ++ ds)
 ends_parked k back k_then h lo most d done nothing none_out past_gear past_rise slots meta_is s cs ds from park base w same at named =
-    let goes = (from base w same at named).0 in
+    let goes = from base w same at named in
     let v = watch_all cs w in
     let end : v.disks ≡ run s cs = watched_disks w cs ∙ ap (λ (u : Disks). run u cs) same in
     let shows = subst (λ (m : Meta). ShowsMeta v.disks.power m back.meta) (sym goes.ends.midway.stands.is_base) goes.ends.shown in
@@ -198,13 +185,52 @@ ends_parked k back k_then h lo most d done nothing none_out past_gear past_rise 
     subst (λ (es : List Call). EndsIn k k_then h lo (most + 0) d base w (cs ++ es)) (sym it.0.is) (record {
       calls = calls_then k back h lo most 0 base goes.base_then w cs (Park d done ∷ []) goes.slots goes.setup goes.ticks goes.room goes.calls
           (park_calls back h lo d goes.base_then v goes.ends none_out past_gear past_rise done held.lawful held.held);
+      ticks = ap (λ (m : Meta). m.ticks) meta_is ∙ parked_ticks d done back.meta ∙ goes.ticks;
       base_then = goes.base_then;
+      room = let r = goes.room in omega (arith, r);
       ended = subst (IsEnded k k_then h lo d goes.base_then) (sym (watch_append cs (Park d done ∷ []) w))
           (ended_for k back k_then h lo d goes.base_then (watch_all (Park d done ∷ []) v) goes.slots goes.setup
           (ended_parked back h lo d goes.base_then v goes.ends none_out past_gear past_rise done held.lawful held.held k_then slots meta_is keeps));
-      away = λ is. subst (λ (u : Watch). is_present (u.disks.power d) ≡ false) (sym (watch_append cs (Park d done ∷ []) w))
-          (park_away back h lo d goes.base_then v goes.ends none_out past_gear past_rise done held.lawful held.held k_then slots meta_is keeps is);
     })
+
+-- where no disk is attached, the one that is awaited stays so
+waits : (o : Option ℕ) (c : Call) → is_attach c ≡ false → awaited_after o c ≡ o
+waits None c no_attach = refl
+waits (Some d) c no_attach = rw no_attach refl
+
+waits_all : (cs : List Call) (w : Watch) → attach_count cs ≡ 0 → (watch_all cs w).awaited ≡ w.awaited
+waits_all [] w none = refl
+waits_all (c ∷ cs) w none = let no = none_first (is_attach c) (attach_count cs) none in waits_all cs (watch c w) no.1 ∙ waits w.awaited c no.0
+
+-- Where the disk is gone in the end the event goes on: these were parts of it.
+ends_steps : (k k_then : Service) (h : History) (lo bound d : ℕ) → named_out k.meta.out ≡ Some d → k_then.meta.out ≡ Gone d → (s : Disks) (cs : List Call) → EndsFrom k k_then h lo bound d s cs → StepsInEvent k k_then h lo bound s cs
+ends_steps k k_then h lo bound d named gone s cs from base w same at =
+    let it = from base w same at named in
+    let still : named_out k_then.meta.out ≡ named_out k.meta.out = ap named_out gone ∙ sym named in
+    let b : Bounds = record { setup = k.meta.setup; epoch = base.epoch + bound; ticks = k.meta.ticks } in
+    let each = it.calls.moments b None refl (omega arith) (omega arith) in
+    let P : Watch → Type 0 = HoldsWhileServing k.slots h lo b in
+    record {
+      calls = it.calls;
+      leaves = record {
+        slots = it.ended.slots;
+        setup = it.ended.setup;
+        ticks = it.ticks;
+        failed = λ e fails. it.ended.midway.named e (subst (λ (z : Setup). e < z.geometry.disks) (sym it.ended.setup) (failed_low P k.meta.setup None w cs e each fails))
+            (failed_off P k.meta.setup None w cs e each it.calls.attaches fails);
+        still = λ e is. still ∙ is;
+        newly = λ e is. inl (sym still ∙ is);
+        awaited = waits_all cs w it.calls.attaches;
+      };
+      base_then = it.base_then;
+      room = it.room;
+      ends = record {
+        midway = it.ended.midway;
+        only = subst (λ (o : Option ℕ). IsOnly o (watch_all cs w).down) (sym (ap named_out gone)) it.ended.only;
+        shown = it.ended.shown;
+        powered = it.ended.powered;
+      };
+    }
 
 -- what is told of the parts up to the commit
 module _ (told before mid : Option Trail) (k1 j back : Service) (h : History) (lo most d : ℕ) (steps : Ran told before (StepsInEvent k1 j h lo most)) where
@@ -214,6 +240,33 @@ module _ (told before mid : Option Trail) (k1 j back : Service) (h : History) (l
       (λ s cs ds x y. back_before k1 j back h lo most (0 + 1) d s cs ds x y) told before mid steps
       (ran_both (CopiesRest j copied joined h lo) (ServesEvent joined back h lo h (length h)) (BackFrom j back h lo (0 + 1) d)
       (λ s cs ds x y. rejoin_from j copied joined h lo d rejoins.there rejoins.same rejoins.slots rejoins.mark back commits.alone commits.epoch commits.slots s cs ds x y) before m mid rejoins.ran commits.ran)
+
+  -- the disk is lost before it is back, or in the commit,
+  pub finish_gone_steps : named_out k1.meta.out ≡ Some d → back.meta.out ≡ Gone d → FinishesRebuild before mid j back h lo d → Ran told mid (StepsInEvent k1 back h lo (most + 1))
+  finish_gone_steps named gone (copying out absent ran) =
+      ran_both (StepsInEvent k1 j h lo most) (StepsInEvent j back h lo 0) (StepsInEvent k1 back h lo (most + 1))
+      (λ s cs ds x y. goes_bound k1 back h lo (most + 0) (most + 1) (omega arith) s (cs ++ ds) (follow k1 j back h lo most 0 s cs ds x y)) told before mid steps ran
+  finish_gone_steps named gone (committing m copied joined rejoins commits) =
+      ran_then (BackFrom k1 back h lo (most + (0 + 1)) d) (StepsInEvent k1 back h lo (most + 1))
+      (λ s cs x. goes_bound k1 back h lo (most + (0 + 1)) (most + 1) (omega arith) s cs
+      (ends_steps k1 back h lo (most + (0 + 1)) d named gone s cs (ends_gone k1 back h lo (most + (0 + 1)) d gone s cs x))) told mid (back_told m copied joined rejoins commits)
+
+  -- or in the park
+  pub park_failed_steps : (told_then : Option Trail) (k2 : Service) → named_out k1.meta.out ≡ Some d → back.meta.out ≡ No → k2.meta.out ≡ Gone d → FinishesRebuild before mid j back h lo d → ParksBack mid told_then back k2 h lo d
+      → Ran told told_then (StepsInEvent k1 k2 h lo (most + 1))
+  park_failed_steps told_then k2 named none_out gone finish park = by_finish finish
+    where
+      by_park : back.batch ≡ [] → Ran told mid (BackFrom k1 back h lo (most + (0 + 1)) d) → ParksBack mid told_then back k2 h lo d → Ran told told_then (StepsInEvent k1 k2 h lo (most + 1))
+      by_park nothing from (stays under told_is is) = absurd (let z : No ≡ Gone d = sym none_out ∙ ap (λ (s : Service). s.meta.out) (sym is) ∙ gone in cc)
+      by_park nothing from (parks past_gear past_rise slots meta_is ran) = absurd (let z : No ≡ Gone d = sym none_out ∙ ap (λ (m : Meta). m.out) (sym meta_is) ∙ gone in cc)
+      by_park nothing from (fails past_gear past_rise slots meta_is ran) =
+          ran_both (BackFrom k1 back h lo (most + (0 + 1)) d) (ParksInEvent back k2 h lo d false) (StepsInEvent k1 k2 h lo (most + 1))
+          (λ s cs ds x y. goes_bound k1 k2 h lo (most + (0 + 1) + 0) (most + 1) (omega arith) s (cs ++ ds)
+          (ends_steps k1 k2 h lo (most + (0 + 1) + 0) d named gone s (cs ++ ds) (ends_parked k1 back k2 h lo (most + (0 + 1)) d false nothing none_out past_gear past_rise slots meta_is s cs ds x y))) told mid told_then from ran
+
+      by_finish : FinishesRebuild before mid j back h lo d → Ran told told_then (StepsInEvent k1 k2 h lo (most + 1))
+      by_finish (copying out absent ran) = absurd (let z : No ≡ Gone d = sym none_out ∙ out in cc)
+      by_finish (committing m copied joined rejoins commits) = by_park commits.nothing_staged (back_told m copied joined rejoins commits) park
 
   pub loses_told : named_out k1.meta.out ≡ Some d → (two : Two) → LosesFinishing before mid j h lo d two → Ran told mid (LosesInSteps k1 h lo (most + (0 + 1)) two)
   loses_told named two (as_copied loses) =
@@ -276,9 +329,9 @@ module _ (told : Option Trail) (k k1 : Service) (setup : Setup) (p : Point) (at 
   named1 = ap named_out (out1 told k k1 setup p at d rebuilt is_fresh counts fit 0 (omega arith))
 
   -- an end that is told is a turn
-  ends_turn : (bound : ℕ) → bound ≤ 2 ^ 20 → (came : Bool) (k2 : Service) (told_then : Option Trail) → CountsRebuild k k1 k2 → (came ≡ true → left ≤ setup.rate) → k2.meta.out ≡ out_as d came → IsStateOf k2 (state_as (state_with_tick p.state) d came)
-      → Ran told told_then (EndsFrom k1 k2 h lo bound d) → Ran told told_then (GoesOn k.slots setup p Tick (report p.state (moved_as left came) (ends_as d came)).0 (StandsAt told_then k2 setup))
-  ends_turn bound few came k2 told_then counts2 fits_rate out2 state2 ran t tells =
+  ends_turn : (bound : ℕ) → bound ≤ 2 ^ 20 → (k2 : Service) (told_then : Option Trail) → CountsRebuild k k1 k2 → left ≤ setup.rate → k2.meta.out ≡ No → IsStateOf k2 (record (state_with_tick p.state) { out = No })
+      → Ran told told_then (EndsFrom k1 k2 h lo bound d) → Ran told told_then (GoesOn k.slots setup p Tick (report p.state left (Rebuilt d)).0 (StandsAt told_then k2 setup))
+  ends_turn bound few k2 told_then counts2 few_left out2 state2 ran t tells =
       let r = ran t tells in
       let from : now r.from ≡ p.disks = at.disks r.from r.was in
       let it = r.holds p.meta w0 (sym from) (underway1 told k k1 setup p at d rebuilt is_fresh counts fit bound few) named1 in
@@ -288,8 +341,7 @@ module _ (told : Option Trail) (k k1 : Service) (setup : Setup) (p : Point) (at 
         was = r.was;
         calls = r.calls;
         is = r.is;
-        holds = ended_turn told k k1 setup p at d rebuilt is_fresh counts fit bound few came k2 counts2 fits_rate r.calls it.calls it.base_then it.ended out2 state2
-            (λ is. it.away (out2 ∙ ap (out_as d) is)) told_then (λ u u_tells. ap now (some_trail u t (sym u_tells ∙ tells)) ∙ end);
+        holds = ended_turn told k k1 setup p at d rebuilt is_fresh counts fit bound few k2 counts2 few_left r.calls it.calls it.base_then it.ended out2 state2 told_then (λ u u_tells. ap now (some_trail u t (sym u_tells ∙ tells)) ∙ end);
       }
 
   module _ (before mid told_then : Option Trail) (j back k2 : Service) (most : ℕ) (few : most + 1 ≤ 2 ^ 20) (counts2 : CountsRebuild k k1 k2) (steps : Ran told before (StepsInEvent k1 j h lo most)) where
@@ -309,7 +361,7 @@ module _ (told : Option Trail) (k k1 : Service) (setup : Setup) (p : Point) (at 
         none_out (fails past_gear past_rise slots meta_is ran) = absurd (let z : No ≡ Gone d = sym none_out2 ∙ ap (λ (m : Meta). m.out) meta_is in cc)
 
         turn : (bound : ℕ) → bound ≤ 2 ^ 20 → Ran told told_then (EndsFrom k1 k2 h lo bound d) → Ran told told_then (GoesOn k.slots setup p Tick (report p.state left (Rebuilt d)).0 (StandsAt told_then k2 setup))
-        turn bound le ran = ends_turn bound le true k2 told_then counts2 (λ e. few_left) none_out2 (back_state told k k1 setup p at d rebuilt is_fresh counts fit bound le k2 counts2 marks) ran
+        turn bound le ran = ends_turn bound le k2 told_then counts2 few_left none_out2 (back_state told k k1 setup p at d rebuilt is_fresh counts fit bound le k2 counts2 marks) ran
 
         by_park : back.batch ≡ [] → Ran told mid (BackFrom k1 back h lo up_to d) → ParksBack mid told_then back k2 h lo d → Ran told told_then (GoesOn k.slots setup p Tick (report p.state left (Rebuilt d)).0 (StandsAt told_then k2 setup))
         by_park nothing from (stays under told_is is) = turn up_to (omega (arith, few))
@@ -324,40 +376,7 @@ module _ (told : Option Trail) (k k1 : Service) (setup : Setup) (p : Point) (at 
         by_finish (copying gone absent ran) = absurd (let z : No ≡ Gone d = sym (none_out park) ∙ gone in cc)
         by_finish (committing m copied joined rejoins commits) = by_park commits.nothing_staged (back_told told before mid k1 j back h lo most d steps m copied joined rejoins commits) park
 
-    -- it is lost in the park
-    pub park_failed_turn : MarksRejoined k1 back → MarksGoneAgain k1 k2 d → FinishesRebuild before mid j back h lo d → ParksBack mid told_then back k2 h lo d → Ran told told_then (GoesOn k.slots setup p Tick (report p.state 0 (GoneAgain d)).0 (StandsAt told_then k2 setup))
-    park_failed_turn marks marks2 finish park = by_finish finish
-      where
-        none_out : back.meta.out ≡ No
-        none_out = ap (λ (m : Meta). m.out) marks.is
-
-        gone2 : k2.meta.out ≡ Gone d
-        gone2 = ap (λ (m : Meta). m.out) marks2.is
-
-        by_park : back.batch ≡ [] → Ran told mid (BackFrom k1 back h lo up_to d) → ParksBack mid told_then back k2 h lo d → Ran told told_then (GoesOn k.slots setup p Tick (report p.state 0 (GoneAgain d)).0 (StandsAt told_then k2 setup))
-        by_park nothing from (stays under told_is is) = absurd (let z : No ≡ Gone d = sym none_out ∙ ap (λ (s : Service). s.meta.out) (sym is) ∙ gone2 in cc)
-        by_park nothing from (parks past_gear past_rise slots meta_is ran) = absurd (let z : No ≡ Gone d = sym none_out ∙ ap (λ (m : Meta). m.out) (sym meta_is) ∙ gone2 in cc)
-        by_park nothing from (fails past_gear past_rise slots meta_is ran) = ends_turn (up_to + 0) (omega (arith, few)) false k2 told_then counts2 (λ e. let z : false ≡ true = e in cc) gone2
-            (gone_state told k k1 setup p at d rebuilt is_fresh counts fit (up_to + 0) (omega (arith, few)) k2 counts2 marks2)
-            (ran_both (BackFrom k1 back h lo up_to d) (ParksInEvent back k2 h lo d false) (EndsFrom k1 k2 h lo (up_to + 0) d)
-            (λ s cs ds x y. ends_parked k1 back k2 h lo up_to d false nothing none_out past_gear past_rise slots meta_is s cs ds x y) told mid told_then from ran)
-
-        by_finish : FinishesRebuild before mid j back h lo d → Ran told told_then (GoesOn k.slots setup p Tick (report p.state 0 (GoneAgain d)).0 (StandsAt told_then k2 setup))
-        by_finish (copying gone absent ran) = absurd (let z : No ≡ Gone d = sym none_out ∙ gone in cc)
-        by_finish (committing m copied joined rejoins commits) = by_park commits.nothing_staged (back_told told before mid k1 j back h lo most d steps m copied joined rejoins commits) park
-
-  module _ (before told_then : Option Trail) (j k2 : Service) (most : ℕ) (few : most + 1 ≤ 2 ^ 20) (steps : Ran told before (StepsInEvent k1 j h lo most)) where
-    -- it is lost before that
-    pub finish_gone_turn : CountsRebuild k k1 k2 → MarksGoneAgain k1 k2 d → FinishesRebuild before told_then j k2 h lo d → Ran told told_then (GoesOn k.slots setup p Tick (report p.state 0 (GoneAgain d)).0 (StandsAt told_then k2 setup))
-    finish_gone_turn counts2 marks2 (copying gone absent ran) = gone_told told k k1 setup p at d rebuilt is_fresh counts fit (most + 0) (omega (arith, few)) k2 counts2 marks2 told_then absent
-        (ran_both (StepsInEvent k1 j h lo most) (StepsInEvent j k2 h lo 0) (StepsInEvent k1 k2 h lo (most + 0)) (λ s cs ds x y. follow k1 j k2 h lo most 0 s cs ds x y) told before told_then steps ran)
-    finish_gone_turn counts2 marks2 (committing m copied joined rejoins commits) =
-        let gone2 : k2.meta.out ≡ Gone d = ap (λ (m : Meta). m.out) marks2.is in
-        ends_turn (most + (0 + 1)) (omega (arith, few)) false k2 told_then counts2 (λ e. let z : false ≡ true = e in cc) gone2
-        (gone_state told k k1 setup p at d rebuilt is_fresh counts fit (most + (0 + 1)) (omega (arith, few)) k2 counts2 marks2)
-        (ran_then (BackFrom k1 k2 h lo (most + (0 + 1)) d) (EndsFrom k1 k2 h lo (most + (0 + 1)) d) (λ s cs x. ends_gone k1 k2 h lo (most + (0 + 1)) d gone2 s cs x) told told_then
-        (back_told told before told_then k1 j k2 h lo most d steps m copied joined rejoins commits))
-
+  module _ (before told_then : Option Trail) (j : Service) (most : ℕ) (few : most + 1 ≤ 2 ^ 20) (steps : Ran told before (StepsInEvent k1 j h lo most)) where
     -- a second disk is lost
     pub finish_loses_turn : (two : Two) → LosesFinishing before told_then j h lo d two → Ran told told_then (GoesOn k.slots setup p Tick (Halted (HaltTwo two)) (IsHaltedWith p (HaltTwo two) k1.energy))
     finish_loses_turn two loses = rebuild_loses told k k1 setup p at d rebuilt is_fresh counts fit (most + (0 + 1)) (omega (arith, few)) two told_then (loses_told told before told_then k1 j k1 h lo most d steps named1 two loses)

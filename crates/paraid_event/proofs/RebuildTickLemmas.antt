@@ -74,7 +74,7 @@ off_step s (Park e done) x lawful is off = off_at s.power e x (power_after done 
 off_step s (SpinUp e done) x lawful is off = off_at s.power e x (power_after done Spinning) Parked lawful (λ z. absurd (false≢true (sym z))) off
 off_step s (Attach e size done) x lawful is off = absurd (false≢true (sym is))
 
-none_first : (t : Bool) (count : ℕ) → (if t then count + 1 else count) ≡ 0 → (t ≡ false) × (count ≡ 0)
+pub none_first : (t : Bool) (count : ℕ) → (if t then count + 1 else count) ≡ 0 → (t ≡ false) × (count ≡ 0)
 none_first true count is = absurd (omega (arith, is))
 none_first false count is = (refl, is)
 

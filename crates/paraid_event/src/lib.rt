@@ -36,7 +36,10 @@ pub use asked::{a_lost_disk_hinders_an_asked_shift, an_asked_shift_begins_in_ste
 pub use begins::{a_second_loss_ends_a_shift, a_shift_down_begins};
 pub use calls::{calls_of_a_core_keep_a_session, parts_of_an_event_follow_each_other};
 pub use cleaned::a_read_cleans_its_cell;
-pub use ends::{a_second_loss_ends_the_last_tick_of_a_rebuild, a_tick_ends_a_rebuild};
+pub use ends::{
+    a_disk_is_lost_as_its_rebuild_ends, a_second_loss_ends_the_last_tick_of_a_rebuild,
+    a_tick_ends_a_rebuild,
+};
 pub use fails::a_disk_is_taken_out;
 pub use first::a_service_begins_at_the_first_point;
 pub use given::{a_core_loses_in_an_event, a_core_marks_what_is_told, a_core_serves_an_event};

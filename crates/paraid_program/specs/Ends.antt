@@ -17,10 +17,10 @@ abbrev pub DoesTask : ℕ → (ℕ → Slot) → (ℕ → Slot) → Option Trail
 DoesTask slots old new before after left_before left faults_before faults written_before written status (Format force) =
     Formats force slots old new before after left_before left faults_before faults written_before written status
 DoesTask slots old new before after left_before left faults_before faults written_before written status Run =
-    MountsAndThen slots old new before after written_before written status (ServesLines slots new after left_before left written_before written status) × IsStatusOfRun status
+    MountsAndThen slots old new before after written_before written status (ServesLines slots old new after left_before left written_before written status) × IsStatusOfRun status
 DoesTask slots old new before after left_before left faults_before faults written_before written status Status =
     Shows slots old new before after written_before written status
 DoesTask slots old new before after left_before left faults_before faults written_before written status Check =
-    MountsAndThen slots old new before after written_before written status (ChecksArray slots new after written_before written status) × IsStatusOfCheck status
+    MountsAndThen slots old new before after written_before written status (ChecksArray slots old new after written_before written status) × IsStatusOfCheck status
 DoesTask slots old new before after left_before left faults_before faults written_before written status (Gen number lines) =
-    MountsAndThen slots old new before after written_before written status (ServesGenerated slots new after written_before written number lines status) × IsStatusOfGen status
+    MountsAndThen slots old new before after written_before written status (ServesGenerated slots old new after written_before written number lines status) × IsStatusOfGen status

@@ -1,5 +1,5 @@
 -- Which of the commands the program does.
-use Rattle.std.specs.Prelude.{Option, Some, None}
+use Rattle.std.specs.Prelude.{Option, Some}
 use Rattle.paraid_words.specs.declared.command.Command.{Command}
 use Rattle.paraid_words.specs.declared.command.Command.TheVariants as command
 use Rattle.paraid_program.specs.declared.words.Task.{Task}

@@ -5,6 +5,7 @@ ghost use Rattle.paraid_formatter.specs.Outcome.{Formats, IsFormatStatus};
 ghost use Rattle.paraid_state.specs.Showing.{IsShowStatus, Shows};
 ghost use Rattle.paraid_top.specs.Ends.{ChecksArray, IsStatusOfCheck, IsStatusOfGen, IsStatusOfRun, MountsAndThen, ServesGenerated, ServesLines};
 ghost use Rattle.paraid_words.specs.Words.{AskFor};
+ghost use Rattle.paraid_program.specs.Complete.{CompletesTask};
 ghost use Rattle.paraid_program.specs.Ends.{DoesTask, usage};
 ghost use Rattle.paraid_program.specs.declared.words.Task.{Task as TaskType};
 ghost use Rattle.paraid_program.specs.Tasks.{TakesSource, task_command};
@@ -52,7 +53,7 @@ fn run<S: Source, K: Sink, R: Rack>(
 ) -> Ended<R>
     ensures run { MountsAndThen (R.slot_count rack) (R.slot rack) (R.slot result.rack) (R.told rack)
         (R.told result.rack) (K.written sink.old) (K.written sink.new) result.status
-        (ServesLines (R.slot_count rack) (R.slot result.rack) (R.told result.rack)
+        (ServesLines (R.slot_count rack) (R.slot rack) (R.slot result.rack) (R.told result.rack)
         (S.left source.old) (S.left source.new) (K.written sink.old) (K.written sink.new)
         result.status) }
     ensures status { IsStatusOfRun result.status }
@@ -75,7 +76,7 @@ fn generate<K: Sink, R: Rack>(
     requires few { lines ≤ 1000000 }
     ensures run { MountsAndThen (R.slot_count rack) (R.slot rack) (R.slot result.rack) (R.told rack)
         (R.told result.rack) (K.written sink.old) (K.written sink.new) result.status
-        (ServesGenerated (R.slot_count rack) (R.slot result.rack) (R.told result.rack)
+        (ServesGenerated (R.slot_count rack) (R.slot rack) (R.slot result.rack) (R.told result.rack)
         (K.written sink.old) (K.written sink.new) number lines result.status) }
     ensures status { IsStatusOfGen result.status }
     ensures sink { result.status ≡ 4 → HasRisen (K.faults sink.old) (K.faults sink.new) }
@@ -99,7 +100,7 @@ fn state<K: Sink, R: Rack>(alloc: Global, sink: &mut K, rack: R) -> Ended<R>
 fn check<K: Sink, R: Rack>(alloc: Global, sink: &mut K, rack: R) -> Ended<R>
     ensures run { MountsAndThen (R.slot_count rack) (R.slot rack) (R.slot result.rack) (R.told rack)
         (R.told result.rack) (K.written sink.old) (K.written sink.new) result.status
-        (ChecksArray (R.slot_count rack) (R.slot result.rack) (R.told result.rack)
+        (ChecksArray (R.slot_count rack) (R.slot rack) (R.slot result.rack) (R.told result.rack)
         (K.written sink.old) (K.written sink.new) result.status) }
     ensures status { IsStatusOfCheck result.status }
     ensures sink { result.status ≡ 4 → HasRisen (K.faults sink.old) (K.faults sink.new) }
@@ -137,6 +138,11 @@ pub fn paraid<S: Source, K: Sink, R: Rack>(
         → DoesTask (R.slot_count rack) (R.slot rack) (R.slot result.rack) (R.told rack)
         (R.told result.rack) (S.left source.old) (S.left source.new) (S.faults source.old)
         (S.faults source.new) (K.written sink.old) (K.written sink.new) result.status t }
+    ensures complete { (t : TaskType) → AskFor (task_command t) (map string_bytes words.now.items)
+        → CompletesTask (R.slot_count rack) (R.slot rack) (R.slot result.rack) (R.told rack)
+        (R.told result.rack) (S.left source.old) (S.left source.new) (S.faults source.old)
+        (S.faults source.new) (K.faults sink.old) (K.faults sink.new) (K.written sink.old)
+        (K.written sink.new) result.status t }
     ensures end { (t : TaskType) → TakesSource t
         → AskFor (task_command t) (map string_bytes words.now.items)
         → result.status ≡ 0 → AtEnd (S.left source.new) }

@@ -13,7 +13,7 @@ use Rattle.paraid_base.specs.States.{gone_out, has_out, is_down, phase_beside, r
 use Rattle.paraid_base.specs.Told.{HasRisen}
 use Rattle.paraid_base.proofs.ToldLemmas.{HasRisen-sooner}
 use Rattle.paraid_rack.specs.declared.call.Call.{Call}
-use Rattle.paraid_rack.specs.declared.call.Power.TheVariants.{Spinning}
+use Rattle.paraid_rack.specs.declared.call.Power.TheVariants.{Absent, Spinning}
 use Rattle.paraid_rack.specs.Disks.{Disks, is_present, step}
 use Rattle.paraid_rack.specs.Slots.{Slot}
 use Rattle.paraid_rack.specs.Told.{CrashTriple, Ran, Through}
@@ -22,7 +22,7 @@ use Rattle.paraid_record.specs.declared.meta.Meta.{Meta}
 use Rattle.paraid_record.specs.declared.meta.Setup.{Setup}
 use Rattle.paraid_record.specs.Range.{IsInRange}
 use Rattle.paraid_image.specs.Mark.{meta_after_loss}
-use Rattle.paraid_image.specs.Out.{named_out}
+use Rattle.paraid_image.specs.Out.{named_out, or_else}
 use Rattle.paraid_txn.specs.declared.store.Store.{Store}
 use Rattle.paraid_txn.specs.Losses.{AreTwoDown, OnlyLosesSlots}
 use Rattle.paraid_txn.specs.Stores.{named_of, store_rack}
@@ -215,6 +215,11 @@ two_marked slot a b new two store down it =
     subst (λ (o : Option ℕ). AreTwoDown o (slot (store_rack a.store)) (slot (store_rack new.store)) two) down
     (subst (λ (z : Store _ _). AreTwoDown (core_down b) (slot (store_rack z)) (slot (store_rack new.store)) two) store it)
 
+-- where a disk is out it is the one that is down
+pub out_down : (named out : Option ℕ) (disk : ℕ) → ((d e : ℕ) → named ≡ Some d → out ≡ Some e → d ≡ e) → out ≡ Some disk → or_else named out ≡ Some disk
+out_down None out disk one is = is
+out_down (Some d) out disk one is = ap Some (one d disk refl is)
+
 -- where no other disk can be the one that is out
 pub marked_alone : (m n : Meta) (disk : ℕ) → gone_out m.out ≡ None → IsMarkedFrom m n → ((d : ℕ) → named_out n.out ≡ Some d → d ≡ disk) → gone_out n.out ≢ None → n ≡ meta_after_loss m disk
 marked_alone m n disk back marked alone gone = by marked.lost refl
@@ -233,6 +238,15 @@ alone_failed a b m n disk back marks alone gone = by marks.lost refl
     by (Some d) e =
         let out : named_out n.out ≡ Some d = ap (λ (z : Meta). named_out z.out) marks.is ∙ ap (λ (o : Option ℕ). named_out (meta_with_lost o m).out) e in
         subst (λ (x : ℕ). HasRisen (a x).faults (b x).faults) (alone d out) (marks.failed d e).risen
+
+pub alone_away : (a b : ℕ → Slot) (m n : Meta) (disk : ℕ) → gone_out m.out ≡ None → MarksLost a b m n → ((d : ℕ) → named_out n.out ≡ Some d → d ≡ disk) → gone_out n.out ≢ None → (b disk).power ≡ Absent
+alone_away a b m n disk back marks alone gone = by marks.lost refl
+  where
+    by : (o : Option ℕ) → marks.lost ≡ o → (b disk).power ≡ Absent
+    by None e = absurd (gone (ap (λ (z : Meta). gone_out z.out) marks.is ∙ ap (λ (o : Option ℕ). gone_out (meta_with_lost o m).out) e ∙ back))
+    by (Some d) e =
+        let out : named_out n.out ≡ Some d = ap (λ (z : Meta). named_out z.out) marks.is ∙ ap (λ (o : Option ℕ). named_out (meta_with_lost o m).out) e in
+        subst (λ (x : ℕ). (b x).power ≡ Absent) (alone d out) (marks.failed d e).absent
 
 -- a disk that is rebuilt and spins is there, and so are all others
 module _ {R : Type 0} {g : _} (count : R → ℕ) (slot : R → ℕ → Slot) (a : Core R g) (disk : ℕ) (q : IsCoreServing count slot a) (fresh : IsRebuilding a.meta disk) (spins : (slot (store_rack a.store) disk).power ≡ Spinning) where

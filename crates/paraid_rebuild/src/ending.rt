@@ -97,6 +97,7 @@ pub(crate) fn come_back<R: Rack>(core: &mut Core<R>, disk: DiskNo) -> Result<boo
         ≡ record (meta_after_loss (meta_of core.old) disk) { epoch = (meta_of core.old).epoch + 1 } }
     ensures failed { result ≡ Ok false
         → HasRisen (R.slot (core_rack core.old) disk).faults (R.slot (core_rack core.new) disk).faults }
+    ensures away { result ≡ Ok false → (R.slot (core_rack core.new) disk).power ≡ Absent }
     ensures table { core_table core.new ≡ core_table core.old }
     ensures spared { OnlyLosesSlots (R.slot (core_rack core.old)) (R.slot (core_rack core.new)) }
     ensures two { IfErr result (AreTwoDown (core_down core.old)

@@ -10,7 +10,7 @@ ghost use Rattle.paraid_core.specs.Units.{IsRebuilding};
 ghost use Rattle.paraid_event.specs.RebuildEnds.{FinishesRebuild, LosesFinishing};
 ghost use Rattle.paraid_event.specs.Service.{service_of};
 ghost use Rattle.paraid_image.specs.Mark.{meta_after_loss};
-ghost use Rattle.paraid_rack.specs.declared.call.Power.TheVariants.{Spinning};
+ghost use Rattle.paraid_rack.specs.declared.call.Power.TheVariants.{Absent, Spinning};
 ghost use Rattle.paraid_rack.specs.Told.{CrashTriple, Ran};
 ghost use Rattle.paraid_record.specs.Range.{rebuild_units as units_of_rebuild};
 ghost use Rattle.paraid_shift.specs.Serving.{IsHeldFromRest, IsCoreServing, RestsInShift};
@@ -48,6 +48,7 @@ fn conclude<R: Rack>(core: &mut Core<R>, disk: DiskNo, end: u32) -> Result<bool,
         ≡ record (meta_after_loss (meta_of core.old) disk) { epoch = (meta_of core.new).epoch } }
     ensures failed { result ≡ Ok false
         → HasRisen (R.slot (core_rack core.old) disk).faults (R.slot (core_rack core.new) disk).faults }
+    ensures away { result ≡ Ok false → (R.slot (core_rack core.new) disk).power ≡ Absent }
     ensures table { OnOk result (core_table core.new ≡ core_table core.old) }
     ensures spared { OnlyLosesSlots (R.slot (core_rack core.old)) (R.slot (core_rack core.new)) }
     ensures two { IfErr result (AreTwoDown (core_down core.old)
@@ -81,7 +82,7 @@ fn conclude<R: Rack>(core: &mut Core<R>, disk: DiskNo, end: u32) -> Result<bool,
 /// Ends a rebuild, with nothing staged: copies the units that are left, and takes the disk into the array again by one
 /// commit. The disk is not parked.
 ///
-/// True once it is back. False where it was lost: it is gone, which the next commit brings to the disks.
+/// True once it is back. False where it was lost: it is gone, which the next commit, `commit_lost`, brings to the disks.
 pub fn finish<R: Rack>(core: &mut Core<R>, disk: DiskNo) -> Result<bool, Two>
     requires serving { IsCoreServing R.slot_count R.slot core.old }
     requires nothing { batch_of core.old ≡ [] }
@@ -103,6 +104,7 @@ pub fn finish<R: Rack>(core: &mut Core<R>, disk: DiskNo) -> Result<bool, Two>
         ≡ record (meta_after_loss (meta_of core.old) disk) { epoch = (meta_of core.new).epoch } }
     ensures failed { result ≡ Ok false
         → HasRisen (R.slot (core_rack core.old) disk).faults (R.slot (core_rack core.new) disk).faults }
+    ensures away { result ≡ Ok false → (R.slot (core_rack core.new) disk).power ≡ Absent }
     ensures table { OnOk result (core_table core.new ≡ core_table core.old) }
     ensures spared { OnlyLosesSlots (R.slot (core_rack core.old)) (R.slot (core_rack core.new)) }
     ensures two { IfErr result (AreTwoDown (core_down core.old)

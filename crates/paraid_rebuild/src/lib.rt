@@ -12,4 +12,4 @@ mod stepping;
 
 pub use last::finish;
 pub use replaced::begin;
-pub use stepping::{commit_staged, step};
+pub use stepping::{commit_lost, commit_staged, step};

@@ -80,11 +80,11 @@ pub fn commit_staged<R: Rack>(core: &mut Core<R>, disk: DiskNo) -> Result<bool, 
     Ok(true)
 }
 
-// Commits that the disk which was rebuilt is gone again.
-fn commit_lost<R: Rack>(core: &mut Core<R>, disk: DiskNo) -> Result<(), Two>
+/// Commits that a disk which was rebuilt is gone again, in the tick in which it was lost.
+pub fn commit_lost<R: Rack>(core: &mut Core<R>, disk: DiskNo) -> Result<(), Two>
     requires serving { IsCoreServing R.slot_count R.slot core.old }
     requires out { (meta_of core.old).out ≡ Gone disk }
-    requires named { named_of (store_of core.old) ≡ Some disk }
+    requires absent { IsNamedOrAbsent R.slot core.old }
     requires epoch { (meta_of core.old).epoch < 2 ^ 63 }
     ensures serving { OnOk result (IsCoreServing R.slot_count R.slot core.new) }
     ensures nothing { OnOk result (batch_of core.new ≡ []) }

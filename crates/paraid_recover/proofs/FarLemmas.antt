@@ -1,11 +1,14 @@
 -- The calls of a mount after an interrupted commit was ended leave all blocks past the log.
-use Rattle.std.specs.Prelude.{◌≡◌, ℕ, ◌+◌, ◌/◌, ◌<◌, ◌≤◌, ◌⊎◌, Bool, List, [], ◌∷◌, ◌++◌, Option, Some, None, IsSome}
+use Rattle.std.specs.Prelude.{◌≡◌, ℕ, ◌+◌, ◌/◌, ◌≤◌, ◌⊎◌, Bool, List, [], ◌∷◌, ◌++◌, Option, Some, None, IsSome}
 use Rattle.std.proofs.Common.{refl, sym, ◌∙◌, ap, subst, arith, inl, inr}
+use Rattle.std.proofs.lemmas.Bool.{cases_eq}
 use Rattle.paraid_base.specs.declared.block.Block.{Block}
 use Rattle.paraid_base.specs.declared.geometry.Geometry.{Geometry}
 use Rattle.paraid_rack.specs.declared.call.Call.{Call}
 use Rattle.paraid_rack.specs.declared.call.Call.TheVariants.{Read, Write, Sync, Park, SpinUp, Attach}
+use Rattle.paraid_rack.specs.declared.call.Power.TheVariants.{Absent}
 use Rattle.paraid_rack.specs.Disks.{Disks, step}
+use Rattle.paraid_rack.specs.Slots.{Slot}
 use Rattle.paraid_rack.specs.Told.{Ran}
 use Rattle.paraid_rack.specs.Trail.{Trail, now, run}
 use Rattle.paraid_rack.proofs.AtomsLemmas.{write_block_other}
@@ -20,7 +23,7 @@ use Rattle.paraid_view.specs.Reads.{ShowsContents}
 use Rattle.paraid_recover.specs.Map.{HasMap, KeepsFar, ShowsMap}
 use Rattle.paraid_recover.specs.Powers.{IsPowerCall}
 use Rattle.paraid_recover.specs.Quiet.{IsInLog, IsReadOrSync}
-use Rattle.paraid_recover.proofs.MapEndLemmas.{bit_same, map_disk_in}
+use Rattle.paraid_recover.proofs.MapEndLemmas.{bit_same, map_disk_zero}
 
 abbrev pub IsFar : (Call → Type 0) → Type 0
 IsFar uses = (c : Call) (s : Disks) → uses c → (d p : ℕ) → 100 ≤ p → (step c s).block d p ≡ s.block d p
@@ -79,11 +82,12 @@ far_now old new ran t tells =
 shows_by : (g : Geometry) (a b : ℕ → Block) (dirty : ℕ → ℕ → Bool) → ((p : ℕ) → 100 ≤ p → b p ≡ a p) → ShowsMap g a dirty → ShowsMap g b dirty
 shows_by g a b dirty same shows r d low = shows r d low ∙ bit_same g a b r d (sym (same (100 + r / 512) (omega arith)))
 
-pub map_on : (g : Geometry) (out : Option ℕ) (dirty : ℕ → ℕ → Bool) (old mid new : Option Trail) → KeepsFar mid new → HasMap g out dirty old mid → HasMap g out dirty old new
-map_on g out dirty old mid new far has = record {
+pub map_on : (g : Geometry) (out : Option ℕ) (a b : ℕ → Slot) (dirty : ℕ → ℕ → Bool) (old mid new : Option Trail) → ((a 0).power ≡ Absent → (b 0).power ≡ Absent)
+    → KeepsFar mid new → HasMap g out a dirty old mid → HasMap g out b dirty old new
+map_on g out a b dirty old mid new stays far has = record {
   far = far_then old mid new has.far far;
   disk = has.disk;
-  which = has.which;
+  which = elim has.which [ inl same ↦ inl same | inr second ↦ inr (second.0, second.1, stays second.2) ];
   shows = λ t tells.
       let s = far_now mid new far t tells in
       shows_by g ((now s.0).block has.disk) ((now t).block has.disk) dirty (s.2 has.disk) (has.shows s.0 s.1);
@@ -94,9 +98,10 @@ or_else_none None = refl
 or_else_none (Some d) = refl
 
 -- what was read of the map
-pub map_read : (g : Geometry) (out lost : Option ℕ) (dirty : ℕ → ℕ → Bool) (old new : Option Trail) → KeepsFar old new → ((e : ℕ) → lost ≡ Some e → out ≡ None)
-    → ((f : Contents) → ShowsContents old [] f → IsSome new → ShowsMap g (f (map_disk (or_else out lost))) dirty) → HasMap g out dirty old new
-map_read g out lost dirty old new far alone shows = record {
+pub map_read : (g : Geometry) (out lost : Option ℕ) (slot : ℕ → Slot) (dirty : ℕ → ℕ → Bool) (old new : Option Trail) → KeepsFar old new → ((e : ℕ) → lost ≡ Some e → out ≡ None)
+    → ((e : ℕ) → lost ≡ Some e → (slot e).power ≡ Absent) → ((f : Contents) → ShowsContents old [] f → IsSome new → ShowsMap g (f (map_disk (or_else out lost))) dirty)
+    → HasMap g out slot dirty old new
+map_read g out lost slot dirty old new far alone gone shows = record {
   far = far;
   disk = map_disk (or_else out lost);
   which = split lost refl;
@@ -107,6 +112,12 @@ map_read g out lost dirty old new far alone shows = record {
       (subst IsSome (sym tells) refl));
 }
   where
-    split : (o : Option ℕ) → lost ≡ o → ((out ≡ None) × (map_disk (or_else out lost) < 2)) ⊎ (map_disk (or_else out lost) ≡ map_disk out)
-    split None is = inr (ap (λ (o : Option ℕ). map_disk (or_else out o)) is ∙ ap map_disk (or_else_none out))
-    split (Some e) is = inl (alone e is, (map_disk_in (or_else out lost)).0)
+    split : (o : Option ℕ) → lost ≡ o → (map_disk (or_else out lost) ≡ map_disk out) ⊎ ((out ≡ None) × (map_disk (or_else out lost) ≡ 1) × ((slot 0).power ≡ Absent))
+    split None is = inl (ap (λ (o : Option ℕ). map_disk (or_else out o)) is ∙ ap map_disk (or_else_none out))
+    split (Some e) is =
+        let none = alone e is in
+        let at : map_disk (or_else out lost) ≡ map_disk (Some e) = ap (λ (o : Option ℕ). map_disk (or_else o lost)) none ∙ ap map_disk is in
+        elim (cases_eq e 0) [
+          | inl first ↦ inr (none, at ∙ ap (λ (k : ℕ). map_disk (Some k)) first, subst (λ (k : ℕ). (slot k).power ≡ Absent) first (gone e is))
+          | inr not ↦ inl (at ∙ map_disk_zero (Some e) (λ some. let z : Some e ≡ Some 0 = some in let y : e ≡ 0 = cc in not y) ∙ sym (ap map_disk none))
+        ]

@@ -34,7 +34,7 @@ stays_absent a b d there gone = split (is_present (b d).power) refl
     split false off = absent_power (b d).power off
     split true here = absurd (false≢true (sym (ap is_present gone) ∙ there d here))
 
-since_sooner : (a b c : ℕ → Slot) (d : ℕ) → NoneComes a b → IsGoneSince b c d → IsGoneSince a c d
+pub since_sooner : (a b c : ℕ → Slot) (d : ℕ) → NoneComes a b → IsGoneSince b c d → IsGoneSince a c d
 since_sooner a b c d there gone = record { there = there d gone.there; absent = gone.absent }
 
 -- by other disks that were out

@@ -10,6 +10,7 @@ pub mod ExaminedHeldLemmas
 pub mod ShownLemmas
 pub mod FarLemmas
 pub mod MapEndLemmas
+pub mod MapServedLemmas
 pub mod ExaminedLemmas
 pub mod ServableLemmas
 pub mod FitLemmas

@@ -56,6 +56,15 @@ map_disk_in (Some d) = split (0 == d) refl
         let apart : 0 ≢ d = (λ z. absurd (false≢true (sym is ∙ grind (arith, nat_tests)))) in
         (omega arith, λ same. let z : d ≡ map_disk (Some d) = cc in apart (omega arith))
 
+-- where log disk 0 is not out, it is that one
+pub map_disk_zero : (out : Option ℕ) → out ≢ Some 0 → map_disk out ≡ 0
+map_disk_zero None not = refl
+map_disk_zero (Some d) not = split (0 == d) refl
+  where
+    split : (x : Bool) → (0 == d) ≡ x → map_disk (Some d) ≡ 0
+    split true is = let zero : 0 ≡ d = grind (arith, nat_tests) in absurd (not (ap Some (sym zero)))
+    split false is = ap (λ (x : Bool). if x then 1 else 0) is
+
 -- a missing disk is the out disk
 pub missing_out : (power : ℕ → _) (n : Meta) (d : ℕ) → IsInRange n → ((a b : ℕ) → IsMissing power n a → IsMissing power n b → a ≡ b) → IsMissing power n d → out_disk power n ≡ Some d
 missing_out power n d in_range one missing = elim missing.is [

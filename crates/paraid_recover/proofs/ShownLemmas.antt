@@ -1,10 +1,11 @@
 -- At the end of a mount the table shows the map.
 use Rattle.std.specs.Prelude.{◌≡◌, ℕ, ◌<◌, ◌≤◌, ◌⊎◌, Bool, false, List, [], Option, Some, None, length, slice_index_or, take}
-use Rattle.std.proofs.Common.{sym, ◌∙◌, ap, subst, arith, length-append}
+use Rattle.std.proofs.Common.{sym, ◌∙◌, ap, subst, arith, inl, inr, length-append}
 use Rattle.std.proofs.lemmas.List.{get_or_past}
 use Rattle.paraid_base.specs.declared.geometry.Geometry.{Geometry}
 use Rattle.paraid_dirty.specs.Table.{is_dirty}
 use Rattle.paraid_rack.specs.Disks.{Disks, is_present}
+use Rattle.paraid_rack.specs.Slots.{Slot}
 use Rattle.paraid_rack.specs.Trail.{Trail, disks, moments, now}
 use Rattle.paraid_record.specs.declared.meta.Meta.{Meta}
 use Rattle.paraid_record.specs.declared.meta.Setup.{Setup}
@@ -26,8 +27,8 @@ past_table : (table : List (List Bool)) (r d : ℕ) → length table ≤ r → i
 unfolding is_dirty
 past_table table r d past = ap (λ (row : List Bool). slice_index_or row d false) (get_or_past table r [] past)
 
-module _ (slots x : ℕ) (said : LogState) (m : Meta) (table : List (List Bool)) (out : Option ℕ) (old mid new : Option Trail) (recovered : Recovers slots x said old mid)
-    (ends : EndsHeld slots x said m old new) (setup : m.setup ≡ said.meta.setup) (rows : length table ≡ said.meta.setup.geometry.rows) (has : HasMap said.meta.setup.geometry out (is_dirty table) mid new)
+module _ (slots x : ℕ) (said : LogState) (m : Meta) (table : List (List Bool)) (out : Option ℕ) (slot : ℕ → Slot) (old mid new : Option Trail) (recovered : Recovers slots x said old mid)
+    (ends : EndsHeld slots x said m old new) (setup : m.setup ≡ said.meta.setup) (rows : length table ≡ said.meta.setup.geometry.rows) (has : HasMap said.meta.setup.geometry out slot (is_dirty table) mid new)
     (out_is : (u : Trail) → mid ≡ Some u → out ≡ out_disk (now u).power said.meta)
     (stays : (u t : Trail) → mid ≡ Some u → new ≡ Some t → (d : ℕ) → IsMissing (now u).power said.meta d → IsMissing (now t).power m d) where
   pub shown : ShowsAtEnd slots x said m (is_dirty table) old new
@@ -66,7 +67,7 @@ module _ (slots x : ℕ) (said : LogState) (m : Meta) (table : List (List Bool))
       far_u d p far = ap (λ (v : Disks). v.block d p) (ap now (has.far t tells).is ∙ now-extend (has.far t tells).from (has.far t tells).calls) ∙ (has.far t tells).holds d p far
 
       which : out ≡ out_disk (now u).power said.meta → ((out_disk (now u).power said.meta ≡ None) × (has.disk < 2)) ⊎ (has.disk ≡ map_disk (out_disk (now u).power said.meta))
-      which is = subst (λ (o : Option ℕ). ((o ≡ None) × (has.disk < 2)) ⊎ (has.disk ≡ map_disk o)) is has.which
+      which is = subst (λ (o : Option ℕ). ((o ≡ None) × (has.disk < 2)) ⊎ (has.disk ≡ map_disk o)) is (elim has.which [ inl same ↦ inr same | inr second ↦ inl (second.0, (let one = second.1 in omega arith)) ])
 
       at : (k : ℕ) → k ≤ moments u → disks t k ≡ disks u k
       at k le = ap (λ (v : Trail). disks v k) (has.far t tells).is ∙ disks_before (has.far t tells).from (has.far t tells).calls k le

@@ -1,15 +1,21 @@
 -- What a mount reads of the dirty map.
-use Rattle.std.specs.Prelude.{◌≡◌, ◌≢◌, ℕ, ◌+◌, ◌<◌, ◌≤◌, ◌⊎◌, false, Bool, Option, Some, None}
+use Rattle.std.specs.Prelude.{◌≡◌, ◌≢◌, ℕ, ◌+◌, ◌<◌, ◌≤◌, ◌⊎◌, false, Bool, [], Option, Some, None}
 use Rattle.paraid_base.specs.declared.block.Block.{Block}
 use Rattle.paraid_base.specs.declared.geometry.Geometry.{Geometry}
 use Rattle.paraid_base.specs.Regions.{map_count}
+use Rattle.paraid_base.specs.Told.{HasRisen}
 use Rattle.paraid_rack.specs.declared.call.Call.{Call}
 use Rattle.paraid_rack.specs.declared.call.Call.TheVariants.{Read, Write, Sync, Park, SpinUp, Attach}
-use Rattle.paraid_rack.specs.declared.call.Power.TheVariants.{Spinning}
+use Rattle.paraid_rack.specs.declared.call.Power.TheVariants.{Absent, Spinning}
+use Rattle.paraid_rack.specs.Disks.{Disks}
 use Rattle.paraid_rack.specs.Slots.{Slot}
 use Rattle.paraid_rack.specs.Told.{Ran}
 use Rattle.paraid_rack.specs.Trail.{Trail, now, run}
+use Rattle.paraid_record.specs.declared.meta.Meta.{Meta}
+use Rattle.paraid_image.specs.Content.{view_by}
 use Rattle.paraid_image.specs.Spot.{map_bit, map_disk}
+use Rattle.paraid_image.specs.Standing.{contents}
+use Rattle.paraid_txn.specs.Losses.{IsGoneSince}
 
 -- no cell past the eighth disk is dirty
 abbrev pub IsNarrow : (ℕ → ℕ → Bool) → Type 0
@@ -46,9 +52,20 @@ abbrev pub KeepsFar : Option Trail → Option Trail → Type 0
 KeepsFar old new = Ran old new (λ start calls. (d p : ℕ) → 100 ≤ p → (run start calls).block d p ≡ start.block d p)
 
 -- The table shows the map of this log disk, which was the lower one that was not out as the map was
--- read; where none was out, it is either.
-pub record HasMap (g : Geometry) (out : Option ℕ) (dirty : ℕ → ℕ → Bool) (old new : Option Trail) : Type 0 where
+-- read; or it is the second one, where none was out and the first one failed in the reads.
+pub record HasMap (g : Geometry) (out : Option ℕ) (slot : ℕ → Slot) (dirty : ℕ → ℕ → Bool) (old new : Option Trail) : Type 0 where
   pub far : KeepsFar old new
   pub disk : ℕ
-  pub which : ((out ≡ None) × (disk < 2)) ⊎ (disk ≡ map_disk out)
+  pub which : (disk ≡ map_disk out) ⊎ ((out ≡ None) × (disk ≡ 1) × ((slot 0).power ≡ Absent))
   pub shows : (t : Trail) → new ≡ Some t → ShowsMap g ((now t).block disk) dirty
+
+-- the dirty cells of each row of the array are those that these disks show under this meta
+abbrev pub HasBitsOf : Meta → (ℕ → ℕ → Bool) → Disks → Type 0
+HasBitsOf m dirty s = (r d : ℕ) → r < m.setup.geometry.rows → dirty r d ≡ (view_by m s.power (contents s [])).dirty r d
+
+-- At the end of a mount the table has the bits of the map: those that the disks show then; or log disk
+-- 0 was lost after its map had been read, and they are those of that one.
+pub data HasMapAtEnd (old new : ℕ → Slot) (m : Meta) (dirty : ℕ → ℕ → Bool) (told : Option Trail) : Type 0 where
+  shown : ((t : Trail) → told ≡ Some t → HasBitsOf m dirty (now t)) → HasMapAtEnd old new m dirty told
+  lost : IsGoneSince old new 0 → HasRisen (old 0).faults (new 0).faults
+      → ((t : Trail) → told ≡ Some t → ShowsMap m.setup.geometry ((now t).block 0) dirty) → HasMapAtEnd old new m dirty told

@@ -1,5 +1,5 @@
 -- What a mount promises: what is told of it, and why it is refused.
-use Rattle.std.specs.Prelude.{◌≡◌, ℕ, Bool, Option, Some, None}
+use Rattle.std.specs.Prelude.{◌≡◌, ℕ, ◌≤◌, Bool, Option, Some, None}
 use Rattle.paraid_base.specs.declared.fault.Two.{Two}
 use Rattle.paraid_rack.specs.Slots.{Agrees, Slot}
 use Rattle.paraid_rack.specs.Told.{Ran}
@@ -16,6 +16,7 @@ use Rattle.paraid_txn.specs.Losses.{AreGoneSince, IsOutOfCommit, AreTwoDownBesid
 use Rattle.paraid_txn.specs.Uses.{EachCall}
 use Rattle.paraid_recover.specs.EndOfMount.{IsMarkAtEnd, IsMarkAtMoment, KeepsDirty}
 use Rattle.paraid_recover.specs.HeldMoments.{EndsHeld, RecoversHeld, ShowsAtEnd}
+use Rattle.paraid_recover.specs.Map.{HasMapAtEnd}
 use Rattle.paraid_recover.specs.Mounted.{IsStandingWithLoss, with_loss}
 use Rattle.paraid_recover.specs.MountCalls.{OnlyMountCalls}
 use Rattle.paraid_recover.specs.RecoveryMark.{with_mark}
@@ -59,7 +60,8 @@ pub record HasSettled (side : ℕ) (said : LogState) (m : Meta) (dirty : ℕ →
 
 -- A mount is served: no cause of a refusal is there, before the reads of the log disks and after them,
 -- by which log disk `side` stands with this; and it is this that is recovered and settled. The array is
--- served under the meta that stands at the end, over these slots.
+-- served under the meta that stands at the end, over these slots, of which no count of faults has fallen,
+-- with the bits of the map, held or not.
 pub record HasMounted (count : ℕ) (old new : ℕ → Slot) (named : Option ℕ) (m : Meta) (dirty : ℕ → ℕ → Bool) (told_old told_new : Option Trail) : Type 0 where
   pub side : ℕ
   pub said : LogState
@@ -68,6 +70,8 @@ pub record HasMounted (count : ℕ) (old new : ℕ → Slot) (named : Option ℕ
   pub read : ℕ → Slot
   pub agrees : (t : Trail) → settled.recovered.read ≡ Some t → Agrees (now t) read
   pub examined : IsExamined count old read settled.recovered.read side said
+  pub later : (d : ℕ) → (old d).faults ≤ (new d).faults
+  pub map : HasMapAtEnd old new m dirty told_new
 
 -- Only reads of the log disks are told.
 pub record HasOnlyRead (old new : Option Trail) : Type 0 where

@@ -17,7 +17,7 @@ ghost use Rattle.paraid_image.specs.Out.{named_out as named_of};
 ghost use Rattle.paraid_image.specs.Sides.{LogState};
 ghost use Rattle.paraid_recover.specs.EndOfMount.{IsMarkAtEnd, IsMarkAtMoment, KeepsDirty};
 ghost use Rattle.paraid_recover.specs.HeldMoments.{EndsHeld, IsOutAtEnd, Recovers, RecoversHeld, ShowsAtEnd};
-ghost use Rattle.paraid_recover.specs.Map.{HasMap, IsNarrow};
+ghost use Rattle.paraid_recover.specs.Map.{HasMap, HasMapAtEnd, IsNarrow};
 ghost use Rattle.paraid_recover.specs.MountCalls.{OnlyMountCalls};
 ghost use Rattle.paraid_recover.specs.RecoveryMark.{to_mark, with_mark};
 ghost use Rattle.paraid_recover.specs.StandingMetas.{StandsInMoments, StandsThroughMount};
@@ -96,7 +96,8 @@ fn settle<R: Rack>(
         → said.meta ≡ meta.now → Recovers slots x said old (R.told (store_rack store.old))
         → EndsHeld slots x said m old (R.told (store_rack store.new))) }
     ensures map { IfOk result (λ m. HasMap meta.now.setup.geometry (store_out R.slot store.old)
-        (is_dirty table.new) (R.told (store_rack store.old)) (R.told (store_rack store.new))) }
+        (R.slot (store_rack store.new)) (is_dirty table.new) (R.told (store_rack store.old))
+        (R.told (store_rack store.new))) }
 {
     if let Err(two) = read_map(store, meta, table) {
         return Err(two);
@@ -188,7 +189,11 @@ fn raise<R: Rack>(
         × IsMarkAtEnd standing lost (R.told (store_rack store.new))
         × IsStandingWithLoss (R.slot (store_rack store.new)) (named_by store.new) standing m) }
     ensures map { IfOk result (λ m. HasMap meta.now.setup.geometry (store_out R.slot store.old)
-        (is_dirty table.new) (R.told (store_rack store.old)) (R.told (store_rack store.new))) }
+        (R.slot (store_rack store.new)) (is_dirty table.new) (R.told (store_rack store.old))
+        (R.told (store_rack store.new))) }
+    ensures out { IfOk result (λ m. (d : ℕ) → named_of m.out ≡ Some d
+        → (named_of meta.now.out ≡ Some d)
+        ⊎ ((R.slot (store_rack store.new) d).power ≡ Absent)) }
 {
     let standing = match settle(store, nothing, meta, table) {
         Ok(standing) => standing,
@@ -241,6 +246,10 @@ fn bring_up<R: Rack>(
         × AreGoneSince (IsOutOfCommit (λ e. (R.slot rack e).power)
         standing.now.meta.setup.geometry.disks (named_of standing.now.meta.out) None)
         (R.slot rack) (R.slot refused.rack) two) }
+    ensures later { IfOk result (λ it. (d : ℕ) → (R.slot rack d).faults
+        ≤ (R.slot (store_rack it.store) d).faults) }
+    ensures refused_later { IfErr result (λ refused. (d : ℕ) → (R.slot rack d).faults
+        ≤ (R.slot refused.rack d).faults) }
     ensures allowed { IfOk result (λ it. OnlyMountCalls standing.now.meta (R.told rack)
         (R.told (store_rack it.store))) }
     ensures refused_allowed { IfErr result (λ refused. OnlyMountCalls standing.now.meta
@@ -272,6 +281,8 @@ fn bring_up<R: Rack>(
         (log_state standing.now.gate_open standing.now.meta batch) stands
         (R.told rack) (R.told (store_rack it.store)))
         × IsStandingWithLoss (R.slot (store_rack it.store)) (named_by it.store) stands it.meta) }
+    ensures map { IfOk result (λ it. HasMapAtEnd (R.slot rack) (R.slot (store_rack it.store)) it.meta
+        (is_dirty it.dirty) (R.told (store_rack it.store))) }
 {
     let meta = &standing.meta;
     let mut store = match Store::resume(rack, standing.side, standing.gate_open, &batch, meta) {
@@ -320,6 +331,8 @@ pub fn mount<R: Rack>(alloc: Global, batch: Batch, rack: R) -> Result<Mounted<R>
     ensures refused { IfErr result (λ refused. IsCauseOfRefusal (R.slot_count rack)
         (R.slot rack) (R.slot refused.rack) (R.told rack) (R.told refused.rack)
         refused.fault) }
+    ensures refused_later { IfErr result (λ refused. (d : ℕ) → (R.slot rack d).faults
+        ≤ (R.slot refused.rack d).faults) }
 {
     let Ok(mut other) = Batch::new(alloc) else {
         return Err(MountRefused {

@@ -1,7 +1,10 @@
 pub mod StretchLemmas
+pub mod GrowsLemmas
 pub mod HaltLemmas
 pub mod FormLemmas
 pub mod Sofar
 pub mod TopLemmas
 pub mod ExitLemmas
 pub mod QuietLemmas
+pub mod OutcomeLemmas
+pub mod CauseLemmas

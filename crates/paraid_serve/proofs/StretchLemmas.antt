@@ -53,6 +53,9 @@ pub some_told : (o : Option Trail) → IsSome o → (t : Trail) × (o ≡ Some t
 some_told (Some t) is = (t, refl)
 some_told None is = absurd (false≢true is)
 
+pub some_is : (o : Option Trail) (t : Trail) → o ≡ Some t → IsSome o
+some_is o t is = subst IsSome (sym is) refl
+
 same_trail : (o : Option Trail) (a b : Trail) → o ≡ Some a → o ≡ Some b → a ≡ b
 same_trail o a b e f = some_same a b (sym e ∙ f)
   where

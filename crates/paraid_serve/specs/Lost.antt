@@ -1,9 +1,9 @@
--- Why two disks are down that a halt names, over every rack.
-use Rattle.std.specs.Prelude.{◌≡◌, ◌≢◌, ℕ, List, ◌++◌, Option, Some}
+-- Why an array has halted, over every rack: which two disks are down, or how worn it is.
+use Rattle.std.specs.Prelude.{◌≡◌, ◌≢◌, ℕ, ◌≤◌, ◌^◌, List, ◌++◌, Option, Some}
 use Rattle.paraid_base.specs.declared.event.Event.{Event}
 use Rattle.paraid_base.specs.declared.event.Event.TheVariants.{Fail}
 use Rattle.paraid_base.specs.declared.fault.Halt.{Halt}
-use Rattle.paraid_base.specs.declared.fault.Halt.TheVariants.{Two as HaltTwo}
+use Rattle.paraid_base.specs.declared.fault.Halt.TheVariants.{Two as HaltTwo, Worn}
 use Rattle.paraid_base.specs.declared.fault.Two.{Two}
 use Rattle.paraid_base.specs.Told.{GrowsByBytes, HasRisen}
 use Rattle.paraid_console.specs.Ending.{halt_line}
@@ -48,3 +48,14 @@ pub record NamesTwoLost (old new : ℕ → Slot) (written_before written : Optio
   pub lost : IsSecondLost old new two
   pub text : List ℕ
   pub line : GrowsByBytes written_before written (text ++ halt_line (HaltTwo two))
+
+-- a halt that tells wear tells 2^62 commits or writes, or more
+abbrev pub HaltsByWear : Option Halt → Type 0
+HaltsByWear halt = (count : ℕ) → halt ≡ Some (Worn count) → 2 ^ 62 ≤ count
+
+-- The last line of what was written tells 2^62 commits or writes, or more.
+pub record TellsWear (written_before written : Option (List ℕ)) : Type 0 where
+  pub count : ℕ
+  pub many : 2 ^ 62 ≤ count
+  pub text : List ℕ
+  pub line : GrowsByBytes written_before written (text ++ halt_line (Worn count))

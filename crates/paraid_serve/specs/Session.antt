@@ -9,7 +9,7 @@ use Rattle.paraid_rack.specs.Trail.{Trail}
 use Rattle.paraid_record.specs.declared.meta.Setup.{Setup}
 use Rattle.paraid_serve.specs.declared.stop.Stop.{Stop}
 use Rattle.paraid_serve.specs.declared.stop.Stop.TheVariants.{Source, TooLong, Sink, Halt as Halts}
-use Rattle.paraid_serve.specs.Lost.{HaltsBySecondLoss}
+use Rattle.paraid_serve.specs.Lost.{HaltsBySecondLoss, HaltsByWear}
 use Rattle.paraid_serve.specs.Form.{BeginsAnswers, HasAnswers}
 use Rattle.paraid_serve.specs.Stretch.{EndsStretch, Stretch, events_in, replies}
 use Rattle.paraid_session.specs.Turn.{Point}
@@ -53,6 +53,13 @@ IsStopOfFailed old new (Halts halt) = HaltsBySecondLoss old new (Some halt)
 IsStopOfFailed old new Source = Unit {0}
 IsStopOfFailed old new TooLong = Unit {0}
 IsStopOfFailed old new Sink = Unit {0}
+
+-- a halt that ends a session and tells wear tells 2^62 commits or writes, or more
+abbrev pub IsStopByWear : Stop → Type 0
+IsStopByWear (Halts halt) = HaltsByWear (Some halt)
+IsStopByWear Source = Unit {0}
+IsStopByWear TooLong = Unit {0}
+IsStopByWear Sink = Unit {0}
 
 -- A session took these bytes and wrote this text. What it answered is known where the record is
 -- told, from each point at which the array stood.

@@ -1,4 +1,4 @@
-ghost use Rattle.std.specs.Prelude.{◌≡◌, ◌≢◌, ℕ, true, None, Some, IsSome, IfErr, OnOk};
+ghost use Rattle.std.specs.Prelude.{◌≡◌, ◌≢◌, ℕ, true, None, Some, IfErr, OnOk};
 ghost use Rattle.paraid_base.specs.BlockAnswers.{answer_to_flush, flush_halt_of};
 ghost use Rattle.paraid_base.specs.declared.event.Event.TheVariants.{Flush as FlushEvent, Write as WriteEvent};
 ghost use Rattle.paraid_base.specs.declared.pairs.Pairs.{Pairs as PairsType};
@@ -6,8 +6,9 @@ ghost use Rattle.paraid_rack.specs.Slots.{Slot};
 ghost use Rattle.paraid_rack.specs.Told.{Ran};
 ghost use Rattle.paraid_trace.specs.Asked.{event_with};
 ghost use Rattle.paraid_trace.specs.Replies.{HasFewDisks};
+ghost use Rattle.paraid_serve.specs.Calls.{Grows};
 ghost use Rattle.paraid_serve.specs.Form.{is_answer_to};
-ghost use Rattle.paraid_serve.specs.Lost.{HasServedSince};
+ghost use Rattle.paraid_serve.specs.Lost.{HasServedSince, HaltsByWear};
 ghost use Rattle.paraid_session.specs.Turn.{GoesOn, Point, halt_told};
 
 use crate::Serves;
@@ -56,7 +57,7 @@ pub fn answer<A: Serves>(
     ensures turn { (p : Point) → A.stands array.old p → Ran (A.told array.old) (A.told array.new)
         (GoesOn (A.slots array.old) (A.setup array.old) p (event_with asked pairs.now) result
         (A.stands array.new)) }
-    ensures told { IsSome (A.told array.new) → IsSome (A.told array.old) }
+    ensures told { Grows (A.told array.old) (A.told array.new) }
     ensures slots { A.slots array.new ≡ A.slots array.old }
     ensures setup { A.setup array.new ≡ A.setup array.old }
     ensures halt { halt.new ≡ A.halted array.new }
@@ -81,7 +82,7 @@ pub fn answer_event<A: Serves>(array: &mut A, halt: &mut Option<Halt>, event: &E
     requires halt { halt.old ≡ A.halted array.old }
     ensures turn { (p : Point) → A.stands array.old p → Ran (A.told array.old) (A.told array.new)
         (GoesOn (A.slots array.old) (A.setup array.old) p event.now result (A.stands array.new)) }
-    ensures told { IsSome (A.told array.new) → IsSome (A.told array.old) }
+    ensures told { Grows (A.told array.old) (A.told array.new) }
     ensures slots { A.slots array.new ≡ A.slots array.old }
     ensures setup { A.setup array.new ≡ A.setup array.old }
     ensures halt { halt.new ≡ A.halted array.new }
@@ -103,13 +104,14 @@ pub fn finish<A: Serves>(array: &mut A, halt: Option<Halt>) -> Result<u64, Halt>
     ensures turn { (p : Point) → A.stands array.old p → Ran (A.told array.old) (A.told array.new)
         (GoesOn (A.slots array.old) (A.setup array.old) p FlushEvent (answer_to_flush result)
         (A.stands array.new)) }
-    ensures told { IsSome (A.told array.new) → IsSome (A.told array.old) }
+    ensures told { Grows (A.told array.old) (A.told array.new) }
     ensures slots { A.slots array.new ≡ A.slots array.old }
     ensures setup { A.setup array.new ≡ A.setup array.old }
     ensures going { OnOk result (A.halted array.new ≡ None) }
     ensures since { IfErr result (λ halt. (start : ℕ → Slot)
         → HasServedSince start (A.slot array.old) (A.halted array.old)
         → HasServedSince start (A.slot array.new) (Some halt)) }
+    ensures worn { IfErr result (λ halt. HaltsByWear (Some halt)) }
 {
     if let Some(halt) = halt {
         return Err(halt);

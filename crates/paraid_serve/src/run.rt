@@ -1,6 +1,7 @@
-ghost use Rattle.std.specs.Prelude.{◌≡◌, ◌≤◌, None, IfErr, IsErrOf, OnOk, IsSome};
+ghost use Rattle.std.specs.Prelude.{◌≡◌, ◌≤◌, None, IfErr, IsErrOf, OnOk};
 ghost use Rattle.paraid_base.specs.Told.{HasRisen};
-ghost use Rattle.paraid_serve.specs.Session.{IsStopOfFailed, ServesSession};
+ghost use Rattle.paraid_serve.specs.Calls.{Grows};
+ghost use Rattle.paraid_serve.specs.Session.{IsStopByWear, IsStopOfFailed, ServesSession};
 
 use crate::Serves;
 use crate::answer::{answer, finish};
@@ -20,10 +21,11 @@ pub fn session<S: Source, K: Sink, A: Serves>(
     ensures session { ServesSession (A.slots array.old) (A.setup array.old) (A.stands array.old)
         (A.told array.old) (A.told array.new)
         (S.left source.old) (S.left source.new) (K.written sink.old) (K.written sink.new) result }
-    ensures told { IsSome (A.told array.new) → IsSome (A.told array.old) }
+    ensures told { Grows (A.told array.old) (A.told array.new) }
     ensures setup { A.setup array.new ≡ A.setup array.old }
     ensures going { OnOk result (A.halted array.new ≡ None) }
     ensures failed { IfErr result (IsStopOfFailed (A.slot array.old) (A.slot array.new)) }
+    ensures worn { IfErr result IsStopByWear }
     ensures source { IsErrOf result Stop.Source
         → HasRisen (S.faults source.old) (S.faults source.new) }
     ensures sink { IsErrOf result Stop.Sink → HasRisen (K.faults sink.old) (K.faults sink.new) }

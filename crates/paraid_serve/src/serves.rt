@@ -1,4 +1,4 @@
-ghost use Rattle.std.specs.Prelude.{◌≡◌, ◌≢◌, ◌<◌, ℕ, true, None, Option, IsSome, length};
+ghost use Rattle.std.specs.Prelude.{◌≡◌, ◌≢◌, ◌<◌, ℕ, true, None, Option, length};
 ghost use Rattle.paraid_base.specs.BlockAnswers.{answer_to_flush, flush_halt_of};
 ghost use Rattle.paraid_base.specs.declared.event.Event.TheVariants.{Flush as FlushEvent, Bad as BadEvent};
 ghost use Rattle.paraid_base.specs.declared.fault.Halt.{Halt as HaltType};
@@ -10,9 +10,9 @@ ghost use Rattle.paraid_rack.specs.Trail.{Trail};
 ghost use Rattle.paraid_record.specs.declared.meta.Setup.{Setup};
 ghost use Rattle.paraid_trace.specs.Asked.{event_with};
 ghost use Rattle.paraid_trace.specs.Replies.{HasFewDisks};
-ghost use Rattle.paraid_serve.specs.Calls.{IsAbsentOut, IsNotDouble};
+ghost use Rattle.paraid_serve.specs.Calls.{Grows, IsAbsentOut, IsNotDouble};
 ghost use Rattle.paraid_serve.specs.Form.{is_answer_to};
-ghost use Rattle.paraid_serve.specs.Lost.{HaltsByTwoLost};
+ghost use Rattle.paraid_serve.specs.Lost.{HaltsByTwoLost, HaltsByWear};
 ghost use Rattle.paraid_session.specs.Faults.{HaveNotFallen};
 ghost use Rattle.paraid_session.specs.Turn.{GoesOn, Point, halt_told};
 
@@ -49,7 +49,7 @@ pub trait Serves {
         ensures turn { (p : Point) → stands self.old p → Ran (told self.old) (told self.new)
             (GoesOn (slots self.old) (setup self.old) p (event_with asked pairs.now) result
             (stands self.new)) }
-        ensures told { IsSome (told self.new) → IsSome (told self.old) }
+        ensures told { Grows (told self.old) (told self.new) }
         ensures slots { slots self.new ≡ slots self.old }
         ensures setup { setup self.new ≡ setup self.old }
         ensures halt { halted self.new ≡ halt_told result }
@@ -65,7 +65,7 @@ pub trait Serves {
         ensures turn { (p : Point) → stands self.old p → Ran (told self.old) (told self.new)
             (GoesOn (slots self.old) (setup self.old) p FlushEvent (answer_to_flush result)
             (stands self.new)) }
-        ensures told { IsSome (told self.new) → IsSome (told self.old) }
+        ensures told { Grows (told self.old) (told self.new) }
         ensures slots { slots self.new ≡ slots self.old }
         ensures setup { setup self.new ≡ setup self.old }
         ensures halt { halted self.new ≡ flush_halt_of result }
@@ -106,6 +106,9 @@ pub trait Serves {
 
     /// And that is the one that is out.
     ghost absent: { (x : Self) → halted x ≡ None → IsAbsentOut (setup x) (down x) (slot x) };
+
+    /// It halts by wear only after 2^62 commits or writes, or more.
+    ghost worn: { (x : Self) → HaltsByWear (halted x) };
 
     /// A point tells the halt.
     ghost agrees: { (x : Self) (p : Point) → stands x p → p.halt ≡ halted x };

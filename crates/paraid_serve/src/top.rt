@@ -1,8 +1,8 @@
 ghost use Rattle.std.specs.Prelude.{◌≡◌, ◌≢◌, ℕ, ◌≤◌, [], None, codes, decimal};
 ghost use Rattle.paraid_base.specs.Told.{HasRisen};
 ghost use Rattle.paraid_session.specs.Mount.{IsMountedFromEach};
-ghost use Rattle.paraid_serve.specs.Calls.{IsNotDouble};
-ghost use Rattle.paraid_serve.specs.Lost.{NamesTwoLost};
+ghost use Rattle.paraid_serve.specs.Calls.{Grows, IsNotDouble};
+ghost use Rattle.paraid_serve.specs.Lost.{NamesTwoLost, TellsWear};
 ghost use Rattle.paraid_serve.specs.Output.{Headline, IsServedStatus, ProgramRun};
 
 use crate::Serves;
@@ -20,10 +20,12 @@ pub fn serve<S: Source, K: Sink, A: Serves>(source: &mut S, sink: &mut K, array:
     ensures run { ProgramRun (A.slots array.old) (A.setup array.old) (A.stands array.old)
         (A.told array.old) (A.told array.new) (S.left source.old) (S.left source.new)
         (K.written sink.old) (K.written sink.new) result }
+    ensures told { Grows (A.told array.old) (A.told array.new) }
     ensures status { IsServedStatus result }
     ensures present { result ≡ 0 → IsNotDouble (A.setup array.old) (A.slot array.new) }
     ensures two { result ≡ 5 → NamesTwoLost (A.slot array.old) (A.slot array.new)
         (K.written sink.old) (K.written sink.new) }
+    ensures worn { result ≡ 12 → TellsWear (K.written sink.old) (K.written sink.new) }
     ensures source { result ≡ 3 → HasRisen (S.faults source.old) (S.faults source.new) }
     ensures sink { result ≡ 4 → HasRisen (K.faults sink.old) (K.faults sink.new) }
 {
@@ -60,10 +62,12 @@ pub fn serve_mounted<S: Source, K: Sink, A: Serves>(
         → Headline (A.slots array.old) (A.setup array.old) began
         (A.told array.old) (A.told array.new) (S.left source.old) (S.left source.new)
         (K.written sink.old) (K.written sink.new) result }
+    ensures told { Grows (A.told array.old) (A.told array.new) }
     ensures status { IsServedStatus result }
     ensures present { result ≡ 0 → IsNotDouble (A.setup array.old) (A.slot array.new) }
     ensures two { result ≡ 5 → NamesTwoLost (A.slot array.old) (A.slot array.new)
         (K.written sink.old) (K.written sink.new) }
+    ensures worn { result ≡ 12 → TellsWear (K.written sink.old) (K.written sink.new) }
     ensures source { result ≡ 3 → HasRisen (S.faults source.old) (S.faults source.new) }
     ensures sink { result ≡ 4 → HasRisen (K.faults sink.old) (K.faults sink.new) }
 {

@@ -23,6 +23,7 @@ use Rattle.paraid_image.specs.Standing.{contents}
 use Rattle.paraid_core.specs.declared.staged.Core.{Core}
 use Rattle.paraid_core.specs.Begin.{IsPoweredBy}
 use Rattle.paraid_core.specs.CoreInvariant.{AreCopiesSynced, HoldsBetweenCalls, is_copied}
+use Rattle.paraid_recover.specs.Map.{HasMapAtEnd}
 use Rattle.paraid_recover.specs.Mount.{HasMounted}
 use Rattle.paraid_recover.specs.Mounted.{IsServable, IsStandingWithLoss, with_loss}
 use Rattle.paraid_recover.specs.RecoveryMark.{to_mark, to_mark_by}
@@ -214,6 +215,13 @@ module _ {R : Type 0} {g : _} (count : R → ℕ) (slot : R → ℕ → Slot) (t
   begun_under standing it =
       subst (λ (z : Store R g). IsStandingWithLoss (slot (store_rack z)) (named_of z) standing core.meta) (sym store_is)
       (subst (λ (n : Meta). IsStandingWithLoss (slot (store_rack store)) (named_of store) standing n) (sym meta_is) it)
+
+  pub begun_map : (old : ℕ → Slot) → HasMapAtEnd old (slot (store_rack store)) m (is_dirty table) (told (store_rack store))
+      → HasMapAtEnd old (slot (store_rack core.store)) core.meta (is_dirty core.dirty) (told (store_rack core.store))
+  begun_map old it =
+      subst (λ (z : Store R g). HasMapAtEnd old (slot (store_rack z)) core.meta (is_dirty core.dirty) (told (store_rack z))) (sym store_is)
+      (subst (λ (n : Meta). HasMapAtEnd old (slot (store_rack store)) n (is_dirty core.dirty) (told (store_rack store))) (sym meta_is)
+      (subst (λ (rows : List (List Bool)). HasMapAtEnd old (slot (store_rack store)) m (is_dirty rows) (told (store_rack store))) (sym table_is) it))
 
   module _ (slots began : ℕ) (batch_is : core.batch ≡ []) where
     abbrev Stands : Store R g → Meta → List (List Bool) → Batch → Type 0

@@ -1,5 +1,5 @@
 //! A mount, and that it is what a session asks of one.
-ghost use Rattle.std.specs.Prelude.{◌≡◌, ℕ, [], length, Some, IfErr, IfOk};
+ghost use Rattle.std.specs.Prelude.{◌≡◌, ℕ, ◌≤◌, [], length, Some, IfErr, IfOk};
 ghost use Rattle.paraid_dirty.specs.Table.{is_dirty};
 ghost use Rattle.paraid_rack.specs.Trail.{Trail, moments};
 ghost use Rattle.paraid_recover.specs.HeldMoments.{Extends};
@@ -26,6 +26,10 @@ pub fn mount<R: Rack>(alloc: Global, rack: R) -> Result<Mounted<R>, MountRefused
         (R.slot (store_rack it.store)) (epoch_of it.store) (disks_of it.store)
         (named_by it.store) it.meta (length it.dirty)) }
     ensures nothing { IfOk result (λ it. it.batch ≡ []) }
+    ensures later { IfOk result (λ it. (d : ℕ) → (R.slot rack d).faults
+        ≤ (R.slot (store_rack it.store) d).faults) }
+    ensures refused_later { IfErr result (λ refused. (d : ℕ) → (R.slot rack d).faults
+        ≤ (R.slot refused.rack d).faults) }
     ensures grows { IfOk result (λ it. Extends (R.told rack) (R.told (store_rack it.store))) }
     ensures refused_grows { IfErr result (λ refused. Extends (R.told rack) (R.told refused.rack)) }
     // what stands, and with it the session that begins

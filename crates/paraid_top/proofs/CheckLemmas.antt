@@ -1,5 +1,5 @@
 -- A check of a mounted array, as a flush of a session.
-use Rattle.std.proofs.Common.{◌≡◌, ℕ, ◌+◌, ◌⊎◌, Bool, true, false, List, [], ◌∷◌, length, Option, Some, None, IsSome, refl, sym, ap, ◌∙◌, inl, inr, subst, arith, if◌then◌else◌}
+use Rattle.std.proofs.Common.{◌≡◌, ℕ, ◌+◌, ◌⊎◌, Bool, true, false, List, [], ◌∷◌, length, Option, Some, IsSome, refl, sym, ◌∙◌, inl, inr, subst, arith, if◌then◌else◌}
 use Rattle.std.specs.Prelude.{◌==◌}
 use Rattle.paraid_base.specs.declared.event.Answer.{Answer}
 use Rattle.paraid_base.specs.declared.event.Answer.TheVariants.{Flushed, Halted}
@@ -18,16 +18,16 @@ use Rattle.paraid_session.specs.Mount.{IsMountedFromEach}
 use Rattle.paraid_session.specs.Turn.{GoesOn, IsMark, Point}
 use Rattle.paraid_console.specs.Ending.{EndsWithLine, halt_line, status_of_halt}
 use Rattle.paraid_serve.specs.Calls.{IsNotDouble}
-use Rattle.paraid_serve.specs.Lost.{HaltsByTwoLost, NamesTwoLost}
+use Rattle.paraid_serve.specs.Lost.{HaltsByTwoLost, HaltsByWear, NamesTwoLost, TellsWear}
 use Rattle.paraid_serve.proofs.ExitLemmas.{stretch_leaves}
 use Rattle.paraid_session.proofs.MountLemmas.{IsMountedFromEach-follows}
-use Rattle.paraid_serve.proofs.HaltLemmas.{names_two}
+use Rattle.paraid_serve.proofs.HaltLemmas.{names_two, tells_wear}
 use Rattle.paraid_serve.proofs.StretchLemmas.{stretch_more, stretch_none}
 use Rattle.paraid_state.specs.MountFaults.{mount_fault_status}
 use Rattle.paraid_top.specs.Counts.{check_line, check_status}
-use Rattle.paraid_top.specs.Ends.{ChecksArray, ChecksFromPoint, IsCheckedStatus, IsStatusOfCheck, TellsCounts}
+use Rattle.paraid_top.specs.Ends.{ChecksArray, ChecksFromPoint, IsCheckedStatus, IsEndOver, IsStatusOfCheck, TellsCounts}
 use Rattle.paraid_top.specs.Ends.TellsCounts.{counted, halted}
-use Rattle.paraid_top.proofs.EndLemmas.{IsRefusedStatus, end_over, refused_status}
+use Rattle.paraid_top.proofs.EndLemmas.{IsRefusedStatus, refused_status}
 
 -- what is told of the flush is a stretch of a session, and what it leaves
 module _ (slots : ℕ) (setup : Setup) (start final : Option Trail) (stood : Point → Type 0) (answer : Answer) (p : Point) (mark : IsMark slots setup p) (here : (t : Trail) → start ≡ Some t → p.disks ≡ now t) where
@@ -70,14 +70,17 @@ halted_so (Worn count) status n m (inr all) = inr (inr (inr (inl all.1)))
 pub halted_status : (halt : Halt) (before after : Option (List ℕ)) (line : List ℕ) (status : ℕ) → EndsWithLine before after line (status_of_halt halt) status → IsCheckedStatus status
 halted_status halt before after line status end = halted_so halt status end.count (length line) end.whole
 
-no_pair : (b : Bool) (status n m : ℕ) → (status ≡ 4) ⊎ ((n ≡ m) × (status ≡ (if b then 0 else 13))) → status ≡ 5 → ⊥
-no_pair b status n m (inl four) five = omega (arith, four, five)
-no_pair true status n m (inr all) five = omega (arith, all.1, five)
-no_pair false status n m (inr all) five = omega (arith, all.1, five)
+no_halt : (b : Bool) (status n m : ℕ) → (status ≡ 4) ⊎ ((n ≡ m) × (status ≡ (if b then 0 else 13))) → (status ≡ 5) ⊎ (status ≡ 12) → ⊥
+no_halt b status n m (inl four) (inl five) = omega (arith, four, five)
+no_halt b status n m (inl four) (inr twelve) = omega (arith, four, twelve)
+no_halt true status n m (inr all) (inl five) = omega (arith, all.1, five)
+no_halt true status n m (inr all) (inr twelve) = omega (arith, all.1, twelve)
+no_halt false status n m (inr all) (inl five) = omega (arith, all.1, five)
+no_halt false status n m (inr all) (inr twelve) = omega (arith, all.1, twelve)
 
--- counts are not told at 5
-pub counts_no_pair : {A : Type 0} (report : CheckReport) (before after : Option (List ℕ)) (line : List ℕ) (status : ℕ) → EndsWithLine before after line (check_status report) status → status ≡ 5 → A
-counts_no_pair report before after line status end five = absurd (no_pair (report.rows + report.stripes + report.fill + report.units + report.mirrors == 0) status end.count (length line) end.whole five)
+-- counts are told neither at 5 nor at 12
+pub counts_no_halt : {A : Type 0} (report : CheckReport) (before after : Option (List ℕ)) (line : List ℕ) (status : ℕ) → EndsWithLine before after line (check_status report) status → (status ≡ 5) ⊎ (status ≡ 12) → A
+counts_no_halt report before after line status end is = absurd (no_halt (report.rows + report.stripes + report.fill + report.units + report.mirrors == 0) status end.count (length line) end.whole is)
 
 not_whole : (halt : Halt) (status n m : ℕ) → (status ≡ 4) ⊎ ((n ≡ m) × (status ≡ status_of_halt halt)) → (status ≡ 0) ⊎ (status ≡ 13) → ⊥
 not_whole halt status n m (inl four) (inl zero) = omega (arith, four, zero)
@@ -97,6 +100,11 @@ pub halt_names_two : (down : Option ℕ) (old slot : ℕ → Slot) (halt : Halt)
 halt_names_two down old slot halt told before after status is by end = names_two old slot halt before before after [] status
     (λ two same. let lost = by two (is ∙ same) in record { apart = lost.apart; second = lost.second }) (GrowsByBytes-none before) end
 
+-- at 12 the halt tells wear
+pub halt_tells_wear : (halt : Halt) (told : Option Halt) (before after : Option (List ℕ)) (status : ℕ) → told ≡ Some halt → HaltsByWear told
+    → EndsWithLine before after (halt_line halt) (status_of_halt halt) status → status ≡ 12 → TellsWear before after
+halt_tells_wear halt told before after status is by end = tells_wear halt before before after [] status (λ count same. by count (is ∙ same)) (GrowsByBytes-none before) end
+
 pub check_status_of : (status : ℕ) → IsCheckedStatus status → IsStatusOfCheck status
 check_status_of status (inl z) = inl z
 check_status_of status (inr (inl z)) = inr (inl z)
@@ -115,12 +123,11 @@ pub check_is_refused : (fault : MountFault) (before after : Option (List ℕ)) (
 check_is_refused fault before after line status end = check_refused status (refused_status fault before after line status end)
 
 -- over the rack that is handed back
-pub checks_over : (slots slots_now : ℕ) (first now slot : ℕ → Slot) (setup : Setup) (began : ℕ) (middle final after : Option Trail) (w x : Option (List ℕ)) (status : ℕ) → slots_now ≡ slots → after ≡ final → slot ≡ now
-    → (status ≡ 0 → IsNotDouble setup now) → (status ≡ 13 → IsNotDouble setup now) → (status ≡ 5 → NamesTwoLost first now w x)
-    → TellsCounts slots_now setup began middle final w x status → ChecksArray slots slot after w x status setup began middle
-checks_over slots slots_now first now slot setup began middle final after w x status e f same present found two told = record {
+pub checks_over : (slots slots_now : ℕ) (setup : Setup) (old now slot : ℕ → Slot) (began : ℕ) (middle final after : Option Trail) (w x : Option (List ℕ)) (status : ℕ) → slots_now ≡ slots → after ≡ final → slot ≡ now
+    → IsEndOver setup old slot w x status → (status ≡ 13 → IsNotDouble setup now)
+    → TellsCounts slots_now setup began middle final w x status → ChecksArray slots old slot after w x status setup began middle
+checks_over slots slots_now setup old now slot began middle final after w x status e f same end found told = record {
   told = subst (λ (k : ℕ). TellsCounts k setup began middle after w x status) e (subst (λ (t : Option Trail). TellsCounts slots_now setup began middle t w x status) (sym f) told);
-  mounted = first;
-  end = end_over setup first now slot w x status same present two;
+  end = end;
   found = λ is. subst (IsNotDouble setup) (sym same) (found is);
 }

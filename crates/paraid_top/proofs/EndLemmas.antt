@@ -5,11 +5,13 @@ use Rattle.paraid_mount.specs.declared.fault.MountFault.TheVariants.{NotFormatte
 use Rattle.paraid_rack.specs.Slots.{Slot}
 use Rattle.paraid_rack.specs.Trail.{Trail, moments}
 use Rattle.paraid_record.specs.declared.meta.Setup.{Setup}
+use Rattle.paraid_session.specs.Faults.{HaveNotFallen}
 use Rattle.paraid_session.specs.Mount.{IsMountedFromEach}
 use Rattle.paraid_console.specs.Ending.{EndsWithLine}
 use Rattle.paraid_serve.specs.Calls.{IsNotDouble}
-use Rattle.paraid_serve.specs.Lost.{NamesTwoLost}
+use Rattle.paraid_serve.specs.Lost.{NamesTwoLost, TellsWear}
 use Rattle.paraid_serve.specs.Output.{Headline, IsServedStatus}
+use Rattle.paraid_serve.proofs.HaltLemmas.{names_since}
 use Rattle.paraid_session.specs.Turn.{Point}
 use Rattle.paraid_session.proofs.MountLemmas.{IsMountedFromEach-follows}
 use Rattle.paraid_commands.specs.Generating.{GenHeadline, IsGenStatus}
@@ -29,33 +31,33 @@ end_moment (Some t) = moments t
 pub began_at_end : (before : Option Trail) → BeganAt before (end_moment before)
 began_at_end before t is = ap end_moment is
 
-pub begins_at_end : (before middle : Option Trail) → Extends before middle → BeginsAt before middle (end_moment before)
-begins_at_end before middle grows = record { calls = λ t tells. let r = grows t tells in (r.from, r.calls, r.was, r.is, ap end_moment r.was) }
+pub begins_at_end : (before middle final after : Option Trail) → Extends before middle → after ≡ final → Extends middle final → BeginsAt before middle after (end_moment before)
+begins_at_end before middle final after grows same later = record {
+  calls = λ t tells. let r = grows t tells in (r.from, r.calls, r.was, r.is, ap end_moment r.was);
+  grows = subst (λ (o : Option Trail). Extends middle o) (sym same) later;
+}
 
--- the slots that an array hands back are those that it had
-pub end_over : (setup : Setup) (first now slot : ℕ → Slot) (w x : Option (List ℕ)) (status : ℕ) → slot ≡ now → (status ≡ 0 → IsNotDouble setup now) → (status ≡ 5 → NamesTwoLost first now w x) → IsEndOver setup first slot w x status
-end_over setup first now slot w x status same present two = record {
+-- The slots that an array hands back are those that it had, and no count fell in its mount.
+pub end_over : (setup : Setup) (old first now slot : ℕ → Slot) (w x : Option (List ℕ)) (status : ℕ) → slot ≡ now → HaveNotFallen old first → (status ≡ 0 → IsNotDouble setup now) → (status ≡ 5 → NamesTwoLost first now w x)
+    → (status ≡ 12 → TellsWear w x) → IsEndOver setup old slot w x status
+end_over setup old first now slot w x status same later present two worn = record {
   present = λ zero. subst (IsNotDouble setup) (sym same) (present zero);
-  two = λ five. subst (λ (z : ℕ → Slot). NamesTwoLost first z w x) (sym same) (two five);
+  two = λ five. subst (λ (z : ℕ → Slot). NamesTwoLost old z w x) (sym same) (names_since old first now w x later (two five));
+  worn = worn;
 }
 
-pub headline_over : (slots slots_now : ℕ) (first now slot : ℕ → Slot) (setup : Setup) (began : ℕ) (middle final after : Option Trail) (l m w x : Option (List ℕ)) (status : ℕ) → slots_now ≡ slots → after ≡ final → slot ≡ now
-    → (status ≡ 0 → IsNotDouble setup now) → (status ≡ 5 → NamesTwoLost first now w x)
-    → Headline slots_now setup began middle final l m w x status → ServesLines slots slot after l m w x status setup began middle
-headline_over slots slots_now first now slot setup began middle final after l m w x status e f same present two h = record {
-  headline = subst (λ (k : ℕ). Headline k setup began middle after l m w x status) e (subst (λ (t : Option Trail). Headline slots_now setup began middle t l m w x status) (sym f) h);
-  mounted = first;
-  end = end_over setup first now slot w x status same present two;
-}
+module _ (slots slots_now : ℕ) (setup : Setup) (old slot : ℕ → Slot) (began : ℕ) (middle final after : Option Trail) (w x : Option (List ℕ)) (status : ℕ) (e : slots_now ≡ slots) (f : after ≡ final) (end : IsEndOver setup old slot w x status) where
+  pub headline_over : (l m : Option (List ℕ)) → Headline slots_now setup began middle final l m w x status → ServesLines slots old slot after l m w x status setup began middle
+  headline_over l m h = record {
+    headline = subst (λ (k : ℕ). Headline k setup began middle after l m w x status) e (subst (λ (t : Option Trail). Headline slots_now setup began middle t l m w x status) (sym f) h);
+    end = end;
+  }
 
-pub generated_over : (slots slots_now : ℕ) (first now slot : ℕ → Slot) (setup : Setup) (began : ℕ) (middle final after : Option Trail) (w x : Option (List ℕ)) (number count status : ℕ) → slots_now ≡ slots → after ≡ final → slot ≡ now
-    → (status ≡ 0 → IsNotDouble setup now) → (status ≡ 5 → NamesTwoLost first now w x)
-    → GenHeadline slots_now setup began middle final w x number count status → ServesGenerated slots slot after w x number count status setup began middle
-generated_over slots slots_now first now slot setup began middle final after w x number count status e f same present two h = record {
-  headline = subst (λ (k : ℕ). GenHeadline k setup began middle after w x number count status) e (subst (λ (t : Option Trail). GenHeadline slots_now setup began middle t w x number count status) (sym f) h);
-  mounted = first;
-  end = end_over setup first now slot w x status same present two;
-}
+  pub generated_over : (number count : ℕ) → GenHeadline slots_now setup began middle final w x number count status → ServesGenerated slots old slot after w x number count status setup began middle
+  generated_over number count h = record {
+    headline = subst (λ (k : ℕ). GenHeadline k setup began middle after w x number count status) e (subst (λ (t : Option Trail). GenHeadline slots_now setup began middle t w x number count status) (sym f) h);
+    end = end;
+  }
 
 -- the statuses of a run are those of a session, and those of a mount that is refused
 pub run_status : (status : ℕ) → IsServedStatus status → IsStatusOfRun status

@@ -1,3 +1,4 @@
 pub mod EndLemmas
 pub mod TellLemmas
 pub mod CheckLemmas
+pub mod CompleteLemmas

@@ -13,7 +13,7 @@ use Rattle.paraid_scrub.specs.declared.kind.CheckReport.{CheckReport}
 use Rattle.paraid_session.specs.Mount.{IsMountedFromEach, IsRefusedFromEach}
 use Rattle.paraid_console.specs.Ending.{EndsWithLine, halt_line, status_of_halt}
 use Rattle.paraid_serve.specs.Calls.{IsNotDouble}
-use Rattle.paraid_serve.specs.Lost.{NamesTwoLost}
+use Rattle.paraid_serve.specs.Lost.{NamesTwoLost, TellsWear}
 use Rattle.paraid_serve.specs.Output.{Headline, IsLeftByStretch}
 use Rattle.paraid_serve.specs.Stretch.{EndsStretch}
 use Rattle.paraid_session.specs.Turn.{Point}
@@ -30,9 +30,11 @@ use Rattle.paraid_state.specs.MountFaults.{mount_fault_line, mount_fault_status}
 use Rattle.paraid_top.specs.Counts.{check_line, check_status}
 
 -- Where the record is told after a mount, it was told before; it is longer by the calls of the
--- mount, which began at this moment.
-pub record BeginsAt (before middle : Option Trail) (began : ℕ) : Type 0 where
+-- mount, which began at this moment. Where it is told at the end of all, it was told after the
+-- mount, and is longer by the calls since then.
+pub record BeginsAt (before middle after : Option Trail) (began : ℕ) : Type 0 where
   pub calls : (t : Trail) → middle ≡ Some t → (s : Trail) × (cs : List Call) × (before ≡ Some s) × (t ≡ extend s cs) × (began ≡ moments s)
+  pub grows : Extends middle after
 
 -- A mount was refused for this cause, as a session allows it, and the rack was handed back.
 pub record HandsBack (slots : ℕ) (old new : ℕ → Slot) (before after : Option Trail) (fault : MountFault) : Type 0 where
@@ -44,7 +46,7 @@ pub record HandsBack (slots : ℕ) (old new : ℕ → Slot) (before after : Opti
 pub data MountsAndThen (slots : ℕ) (old new : ℕ → Slot) (before after : Option Trail) (written_before written : Option (List ℕ)) (status : ℕ) (P : Setup → ℕ → Option Trail → Type 0) : Type 0 where
   refused : (fault : MountFault) → HandsBack slots old new before after fault → EndsWithLine written_before written (mount_fault_line fault) (mount_fault_status fault) status
       → MountsAndThen slots old new before after written_before written status P
-  mounted : (setup : Setup) (began : ℕ) (middle : Option Trail) → BeginsAt before middle began → P setup began middle → MountsAndThen slots old new before after written_before written status P
+  mounted : (setup : Setup) (began : ℕ) (middle : Option Trail) → BeginsAt before middle after began → P setup began middle → MountsAndThen slots old new before after written_before written status P
 
 -- the statuses of a run
 abbrev pub IsStatusOfRun : ℕ → Type 0
@@ -62,24 +64,23 @@ IsCheckedStatus status = (status ≡ 0) ⊎ (status ≡ 4) ⊎ (status ≡ 5) �
 abbrev pub IsStatusOfCheck : ℕ → Type 0
 IsStatusOfCheck status = (status ≡ 0) ⊎ (status ≡ 4) ⊎ (status ≡ 5) ⊎ (status ≡ 6) ⊎ (status ≡ 7) ⊎ (status ≡ 12) ⊎ (status ≡ 13)
 
--- What is known over every rack of a session that began on these slots, at its end: at 0 at most one disk of the array is
--- absent; and at 5 the last line names two different disks, of which the second has failed since.
-pub record IsEndOver (setup : Setup) (began slot : ℕ → Slot) (written_before written : Option (List ℕ)) (status : ℕ) : Type 0 where
-  pub present : status ≡ 0 → IsNotDouble setup slot
-  pub two : status ≡ 5 → NamesTwoLost began slot written_before written
+-- What is known over every rack of what was done with a mounted array, from the slots before the mount to those at the end:
+-- at 0 at most one disk of the array is absent; at 5 the last line names two different disks, of which the second has failed
+-- since before the mount; and at 12 it tells 2^62 commits or writes, or more.
+pub record IsEndOver (setup : Setup) (old new : ℕ → Slot) (written_before written : Option (List ℕ)) (status : ℕ) : Type 0 where
+  pub present : status ≡ 0 → IsNotDouble setup new
+  pub two : status ≡ 5 → NamesTwoLost old new written_before written
+  pub worn : status ≡ 12 → TellsWear written_before written
 
--- A run served a mounted array: its headline, and what is known of its end over every rack. The session began on the
--- slots that the mount has left.
-pub record ServesLines (slots : ℕ) (slot : ℕ → Slot) (after : Option Trail) (left_before left written_before written : Option (List ℕ)) (status : ℕ) (setup : Setup) (began : ℕ) (middle : Option Trail) : Type 0 where
+-- A run served a mounted array: its headline, and what is known of its end over every rack.
+pub record ServesLines (slots : ℕ) (old new : ℕ → Slot) (after : Option Trail) (left_before left written_before written : Option (List ℕ)) (status : ℕ) (setup : Setup) (began : ℕ) (middle : Option Trail) : Type 0 where
   pub headline : Headline slots setup began middle after left_before left written_before written status
-  pub mounted : ℕ → Slot
-  pub end : IsEndOver setup mounted slot written_before written status
+  pub end : IsEndOver setup old new written_before written status
 
 -- The same of generated lines.
-pub record ServesGenerated (slots : ℕ) (slot : ℕ → Slot) (after : Option Trail) (written_before written : Option (List ℕ)) (number lines status : ℕ) (setup : Setup) (began : ℕ) (middle : Option Trail) : Type 0 where
+pub record ServesGenerated (slots : ℕ) (old new : ℕ → Slot) (after : Option Trail) (written_before written : Option (List ℕ)) (number lines status : ℕ) (setup : Setup) (began : ℕ) (middle : Option Trail) : Type 0 where
   pub headline : GenHeadline slots setup began middle after written_before written number lines status
-  pub mounted : ℕ → Slot
-  pub end : IsEndOver setup mounted slot written_before written status
+  pub end : IsEndOver setup old new written_before written status
 
 -- the state of the first point of a session was told
 abbrev pub TellsState : ℕ → Option (List ℕ) → Option (List ℕ) → ℕ → Setup → ℕ → Option Trail → Type 0
@@ -101,21 +102,19 @@ pub data TellsCounts (slots : ℕ) (setup : Setup) (began : ℕ) (start final : 
       → (IsSome final → IsMountedFromEach slots setup began start (ChecksFromPoint slots setup start final (Halted halt)))
       → TellsCounts slots setup began start final written_before written status
 
--- A check of a mounted array: what it told, and what is known of its end over every rack. It began on the slots that the
--- mount has left.
-pub record ChecksArray (slots : ℕ) (slot : ℕ → Slot) (after : Option Trail) (written_before written : Option (List ℕ)) (status : ℕ) (setup : Setup) (began : ℕ) (middle : Option Trail) : Type 0 where
+-- A check of a mounted array: what it told, and what is known of its end over every rack.
+pub record ChecksArray (slots : ℕ) (old new : ℕ → Slot) (after : Option Trail) (written_before written : Option (List ℕ)) (status : ℕ) (setup : Setup) (began : ℕ) (middle : Option Trail) : Type 0 where
   pub told : TellsCounts slots setup began middle after written_before written status
-  pub mounted : ℕ → Slot
-  pub end : IsEndOver setup mounted slot written_before written status
-  pub found : status ≡ 13 → IsNotDouble setup slot
+  pub end : IsEndOver setup old new written_before written status
+  pub found : status ≡ 13 → IsNotDouble setup new
 
 -- What the program does on a command.
 abbrev pub DoesCommand : ℕ → (ℕ → Slot) → (ℕ → Slot) → Option Trail → Option Trail → Option (List ℕ) → Option (List ℕ) → Option (List ℕ) → Option (List ℕ) → ℕ → (Bool → Type 0) → Command → Type 0
 DoesCommand slots old new before after left_before left written_before written status formats (Format force) = formats force
 DoesCommand slots old new before after left_before left written_before written status formats Run =
-    MountsAndThen slots old new before after written_before written status (ServesLines slots new after left_before left written_before written status)
+    MountsAndThen slots old new before after written_before written status (ServesLines slots old new after left_before left written_before written status)
 DoesCommand slots old new before after left_before left written_before written status formats Status = MountsAndThen slots old new before after written_before written status (TellsState slots written_before written status)
 DoesCommand slots old new before after left_before left written_before written status formats Check =
-    MountsAndThen slots old new before after written_before written status (ChecksArray slots new after written_before written status)
+    MountsAndThen slots old new before after written_before written status (ChecksArray slots old new after written_before written status)
 DoesCommand slots old new before after left_before left written_before written status formats (Gen number lines) =
-    MountsAndThen slots old new before after written_before written status (ServesGenerated slots new after written_before written number lines status)
+    MountsAndThen slots old new before after written_before written status (ServesGenerated slots old new after written_before written number lines status)

@@ -8,6 +8,7 @@ ghost use Rattle.paraid_rack.specs.Trail.{Trail};
 ghost use Rattle.paraid_recover.specs.HeldMoments.{Extends};
 ghost use Rattle.paraid_scrub.specs.Counts.{no_faults};
 ghost use Rattle.paraid_serve.specs.Lost.{HaltsByTwoLost};
+ghost use Rattle.paraid_session.specs.Faults.{HaveNotFallen};
 ghost use Rattle.paraid_session.specs.Mount.{IsMountedFromEach};
 ghost use Rattle.paraid_session.specs.Turn.{GoesOn, Point};
 ghost use Rattle.paraid_state.specs.Showing.{BeganAt};
@@ -38,6 +39,8 @@ pub trait Outside<R: Rack, A: Serves> {
         ensures going { IfOk result (λ a. A.halted a ≡ None) }
         ensures slots { IfOk result (λ a. A.slots a ≡ R.slot_count rack) }
         ensures grows { IfOk result (λ a. Extends (R.told rack) (A.told a)) }
+        // No count of faults falls in a mount.
+        ensures later { IfOk result (λ a. HaveNotFallen (R.slot rack) (A.slot a)) }
         ensures refused { IfErr result (λ r. HandsBack (R.slot_count rack) (R.slot rack)
             (R.slot r.rack) (R.told rack) (R.told r.rack) r.fault) }
         ensures mounted { IfOk result (λ a. (began : ℕ) → BeganAt (R.told rack) began
@@ -76,13 +79,14 @@ pub trait Checks<A: Serves> {
         ensures ended { IfErr result (λ halt. (p : Point) → A.stands array.old p
             → Ran (A.told array.old) (A.told array.new) (GoesOn (A.slots array.old)
             (A.setup array.old) p FlushEvent (Halted halt) (A.stands array.new))) }
-        ensures told { IsSome (A.told array.new) → IsSome (A.told array.old) }
+        ensures told { Extends (A.told array.old) (A.told array.new) }
         ensures slots { A.slots array.new ≡ A.slots array.old }
         ensures setup { A.setup array.new ≡ A.setup array.old }
         ensures going { OnOk result (A.halted array.new ≡ None) }
         ensures halt { IfErr result (λ halt. A.halted array.new ≡ Some halt) }
         ensures two { HaltsByTwoLost (A.down array.old) FlushEvent (A.slot array.old)
             (A.slot array.new) (A.halted array.new) }
+        ensures later { HaveNotFallen (A.slot array.old) (A.slot array.new) }
         // From where it stood there is nothing to count.
         ensures sound { IfOk result (λ report. IsSome (A.told array.new) → (p : Point)
             → A.stands array.old p → report ≡ no_faults) };

@@ -3,9 +3,10 @@ ghost use Rattle.paraid_base.specs.Told.{HasRisen};
 ghost use Rattle.paraid_console.specs.Ending.{EndsWithLine};
 ghost use Rattle.paraid_words.specs.declared.command.Command.{Command as CommandType};
 ghost use Rattle.paraid_words.specs.Words.{AskFor, usage_line};
+ghost use Rattle.paraid_recover.specs.HeldMoments.{Extends};
 ghost use Rattle.paraid_state.specs.MountFaults.{mount_fault_line, mount_fault_status as mount_fault_status_of};
 ghost use Rattle.paraid_serve.specs.Calls.{IsNotDouble};
-ghost use Rattle.paraid_serve.specs.Lost.{NamesTwoLost};
+ghost use Rattle.paraid_serve.specs.Lost.{NamesTwoLost, TellsWear};
 ghost use Rattle.paraid_session.specs.Mount.{IsMountedFromEach};
 ghost use Rattle.paraid_top.specs.Ends.{ChecksArray, DoesCommand, IsCheckedStatus, IsStatusOfCheck, IsStatusOfGen, IsStatusOfRun, MountsAndThen, ServesGenerated, ServesLines, TellsCounts, TellsState};
 
@@ -46,7 +47,7 @@ pub fn run<S: Source, K: Sink, R: Rack, A: Serves, O: Outside<R, A>>(
 ) -> Ended<R>
     ensures run { MountsAndThen (R.slot_count rack) (R.slot rack) (R.slot result.rack) (R.told rack)
         (R.told result.rack) (K.written sink.old) (K.written sink.new) result.status
-        (ServesLines (R.slot_count rack) (R.slot result.rack) (R.told result.rack)
+        (ServesLines (R.slot_count rack) (R.slot rack) (R.slot result.rack) (R.told result.rack)
         (S.left source.old) (S.left source.new) (K.written sink.old) (K.written sink.new)
         result.status) }
     ensures status { IsStatusOfRun result.status }
@@ -79,7 +80,7 @@ pub fn generate<K: Sink, R: Rack, A: Serves, O: Outside<R, A>>(
     requires few { lines ≤ 1000000 }
     ensures run { MountsAndThen (R.slot_count rack) (R.slot rack) (R.slot result.rack) (R.told rack)
         (R.told result.rack) (K.written sink.old) (K.written sink.new) result.status
-        (ServesGenerated (R.slot_count rack) (R.slot result.rack) (R.told result.rack)
+        (ServesGenerated (R.slot_count rack) (R.slot rack) (R.slot result.rack) (R.told result.rack)
         (K.written sink.old) (K.written sink.new) number lines result.status) }
     ensures status { IsStatusOfGen result.status }
     ensures sink { result.status ≡ 4 → HasRisen (K.faults sink.old) (K.faults sink.new) }
@@ -133,11 +134,13 @@ fn tell_counts<K: Sink, A: Serves, O: Checks<A>>(outside: &O, sink: &mut K, arra
         (A.told array.old) (A.stands array.old)
         → TellsCounts (A.slots array.old) (A.setup array.old) began (A.told array.old)
         (A.told array.new) (K.written sink.old) (K.written sink.new) result }
+    ensures told { Extends (A.told array.old) (A.told array.new) }
     ensures status { IsCheckedStatus result }
     ensures present { result ≡ 0 → IsNotDouble (A.setup array.old) (A.slot array.new) }
     ensures found { result ≡ 13 → IsNotDouble (A.setup array.old) (A.slot array.new) }
     ensures two { result ≡ 5 → NamesTwoLost (A.slot array.old) (A.slot array.new)
         (K.written sink.old) (K.written sink.new) }
+    ensures worn { result ≡ 12 → TellsWear (K.written sink.old) (K.written sink.new) }
     ensures sink { result ≡ 4 → HasRisen (K.faults sink.old) (K.faults sink.new) }
 {
     let mut text = Text::new();
@@ -161,7 +164,7 @@ pub fn check<K: Sink, R: Rack, A: Serves, O: Outside<R, A> + Checks<A>>(
 ) -> Ended<R>
     ensures run { MountsAndThen (R.slot_count rack) (R.slot rack) (R.slot result.rack) (R.told rack)
         (R.told result.rack) (K.written sink.old) (K.written sink.new) result.status
-        (ChecksArray (R.slot_count rack) (R.slot result.rack) (R.told result.rack)
+        (ChecksArray (R.slot_count rack) (R.slot rack) (R.slot result.rack) (R.told result.rack)
         (K.written sink.old) (K.written sink.new) result.status) }
     ensures status { IsStatusOfCheck result.status }
     ensures sink { result.status ≡ 4 → HasRisen (K.faults sink.old) (K.faults sink.new) }

@@ -10,11 +10,12 @@ use crate::arrays::{SMALL, new_array};
 use crate::played::{kinds, taken_over};
 use crate::requests::{first_byte, written};
 use paraid_array::{Asked, FailFault, ReplaceFault, ShiftFault, advance, down, replace, take_out};
-use paraid_base::{BlockNo, DiskNo, Out, TickEvent};
+use paraid_base::{Block, BlockNo, DiskNo, Out, TickEvent};
 use paraid_core::Core;
 use paraid_gear::Windows;
 use paraid_memrack::{MemRack, Planned};
 use paraid_rack::{Power, Rack};
+use paraid_record::read_meta;
 use std::alloc::Global;
 
 // An array of zeros in this gear, whose calls fail as the plan says.
@@ -313,4 +314,70 @@ fn a_fresh_disk_that_fails_is_gone(rt: HostRuntime) {
     ];
     let (at, _) = play(alloc, 5, plan, &steps).expect(&rt, "the attach fails");
     assert!(rt; at == steps.len(), "step {at}");
+}
+
+// Whether the meta on this log disk says that a disk is gone.
+fn says_gone(rack: &mut MemRack, log: DiskNo, disk: DiskNo) -> bool {
+    if log >= rack.slots() || rack.power(log) != Power::Spinning || rack.size(log) < 2 {
+        return false;
+    }
+    let mut block = Block::zero();
+    let Ok(()) = rack.read(log, 1, &mut block) else {
+        return false;
+    };
+    match read_meta(&block) {
+        Some(meta) => meta.out == Out::Gone { disk },
+        None => false,
+    }
+}
+
+#[test]
+fn a_disk_that_is_lost_as_its_rebuild_ends_is_gone_on_the_disks(rt: HostRuntime) {
+    let alloc = rt.alloc();
+    // the row is written and synced, and the disk is parked
+    for nth in 9..12u32 {
+        let plan = vec![in alloc; Planned::OnDisk { disk: 4, nth }].expect(&rt, "memory");
+        let steps = [
+            failed(4, None),
+            replaced(4, None),
+            MOVED,
+            MOVED,
+            MOVED,
+            MOVED,
+            ticked(0, TickEvent::Gone { disk: 4 }),
+        ];
+        let (at, core) = play(alloc, 4, plan, &steps).expect(&rt, "a parked disk");
+        assert!(rt; at == steps.len(), "{nth} step {at}");
+        let mut rack = core.close();
+        assert!(rt;
+            says_gone(&mut rack, 0, 4) && says_gone(&mut rack, 1, 4),
+            "{nth}"
+        );
+    }
+    // a block that is staged and the map are written and synced, and then come the nine calls of the commit on this disk
+    for nth in 11..24u32 {
+        let plan = vec![in alloc; Planned::OnDisk { disk: 0, nth }].expect(&rt, "memory");
+        let steps = [
+            failed(0, None),
+            replaced(0, None),
+            MOVED,
+            MOVED,
+            MOVED,
+            MOVED,
+            MOVED,
+            (
+                Step::Write {
+                    block: 0,
+                    byte: 0x11,
+                },
+                Said::Number(1),
+            ),
+            ticked(0, TickEvent::Gone { disk: 0 }),
+            (Step::Read { block: 0 }, Said::Byte(0x11)),
+        ];
+        let (at, core) = play(alloc, 5, plan, &steps).expect(&rt, "a log disk");
+        assert!(rt; at == steps.len(), "{nth} step {at}");
+        let mut rack = core.close();
+        assert!(rt; says_gone(&mut rack, 1, 0), "{nth}");
+    }
 }

@@ -1,6 +1,9 @@
 //! Arrays of five disks with gears 4 and 5, and of others with one gear, formatted by hand on a rack in
 //! memory.
-ghost use Rattle.std.specs.Prelude.{◌≤◌};
+ghost use Rattle.std.specs.Prelude.{◌≡◌, ◌≤◌, [], length, IfSome};
+ghost use Rattle.paraid_core.specs.Cores.{IsCoreReady, CanCoreServe, batch_of, copied_of, core_rack, draft_of, meta_of};
+ghost use Rattle.paraid_core.specs.CoreInvariant.{AreCopiesSynced};
+ghost use Rattle.paraid_memrack.specs.Rules.{rack_slot_count, slots_of};
 
 use paraid_base::{Block, BlockNo, DiskNo, Out, Pairs};
 use paraid_core::{Changes, Core, can_begin};
@@ -134,6 +137,34 @@ pub fn flat_array(alloc: Global, disks: u8) -> Option<(MemRack, Meta)> {
     let meta = read_meta(&block)?;
     let rack = disks_of(alloc, SMALL, disks, disks, None, Vec::new(alloc))?;
     Some((rack, meta))
+}
+
+/// A core over a rack with nothing staged, where these cells are dirty.
+pub fn core_over(
+    alloc: Global,
+    rack: MemRack,
+    meta: Meta,
+    dirty: DirtyTable,
+) -> Option<Core<MemRack>>
+    requires rows { length dirty ≡ meta.setup.geometry.rows }
+    ensures rack { IfSome result (λ core. core_rack core ≡ rack) }
+    ensures meta { IfSome result (λ core. meta_of core ≡ meta) }
+    ensures ready { IfSome result (λ core. IsCoreReady rack_slot_count slots_of core) }
+    ensures serves { IfSome result (λ core. CanCoreServe slots_of core) }
+    ensures draft { IfSome result (λ core. draft_of core ≡ []) }
+    ensures synced { IfSome result (λ core. AreCopiesSynced (meta_of core).setup.geometry.disks (copied_of core)) }
+    ensures nothing { IfSome result (λ core. batch_of core ≡ []) }
+{
+    let Ok(batch) = Batch::new(alloc) else {
+        return None;
+    };
+    let draft = Draft::new(alloc).ok()?;
+    let changes = Changes::new(alloc).ok()?;
+    if !can_begin(&rack, &meta) {
+        return None;
+    }
+    let store = Store::adopt(rack, &meta);
+    Some(Core::new(store, meta, dirty, batch, draft, changes))
 }
 
 /// The writes of the first blocks of a list, each with other bytes.

@@ -3,15 +3,13 @@ ghost use Rattle.std.specs.Prelude.{◌≡◌, [], IfSome};
 ghost use Rattle.paraid_core.specs.Cores.{IsCoreReady, CanCoreServe, batch_of, draft_of};
 ghost use Rattle.paraid_memrack.specs.Rules.{rack_slot_count, slots_of};
 
-use crate::arrays::{SMALL, new_array};
+use crate::arrays::{SMALL, core_over, new_array};
 use crate::fills::calls_of;
 use paraid_base::{Out, Phase, Row};
-use paraid_core::{Changes, Core, can_begin};
+use paraid_core::Core;
 use paraid_dirty::DirtyTable;
 use paraid_memrack::MemRack;
 use paraid_record::Meta;
-use paraid_txn::{Batch, Store};
-use paraid_view::Draft;
 use std::alloc::Global;
 
 // A core over an array of zeros in a shift from gear 4 to 5, with nothing staged. The cells of rows 1 and
@@ -29,21 +27,13 @@ fn rising(alloc: Global) -> Option<Core<MemRack>>
         spins: [0, 0, 0, 0, 1, 0, 0, 0],
         ..whole
     };
-    let Ok(mut dirty) = DirtyTable::new(alloc, meta.setup.geometry.rows) else {
-        return None;
-    };
-    let Ok(batch) = Batch::new(alloc) else {
-        return None;
-    };
-    let draft = Draft::new(alloc).ok()?;
-    let changes = Changes::new(alloc).ok()?;
-    if !can_begin(&rack, &meta) || meta.setup.geometry.rows < 3 {
+    if meta.setup.geometry.rows < 3 {
         return None;
     }
+    let mut dirty = DirtyTable::new(alloc, meta.setup.geometry.rows).ok()?;
     dirty.set(1, 4);
     dirty.set(2, 4);
-    let store = Store::adopt(rack, &meta);
-    Some(Core::new(store, meta, dirty, batch, draft, changes))
+    core_over(alloc, rack, meta, dirty)
 }
 
 // Copies the cell of this row on disk 4.

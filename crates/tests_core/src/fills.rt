@@ -3,15 +3,13 @@ ghost use Rattle.std.specs.Prelude.{◌≡◌, [], IfSome};
 ghost use Rattle.paraid_core.specs.Cores.{IsCoreReady, CanCoreServe, batch_of, draft_of};
 ghost use Rattle.paraid_memrack.specs.Rules.{rack_slot_count, slots_of};
 
-use crate::arrays::{SMALL, new_array};
+use crate::arrays::{SMALL, core_over, new_array};
 use paraid_base::{Out, Phase};
-use paraid_core::{Changes, Core, can_begin};
+use paraid_core::Core;
 use paraid_dirty::DirtyTable;
 use paraid_memrack::MemRack;
 use paraid_rack::{Call, Rack};
 use paraid_record::Meta;
-use paraid_txn::{Batch, Store};
-use paraid_view::Draft;
 use std::alloc::Global;
 
 // A core over an array of zeros in a shift down to gear 4, with nothing staged.
@@ -26,19 +24,8 @@ fn shifting(alloc: Global) -> Option<Core<MemRack>>
         phase: Phase::Down { to: 4 },
         ..meta
     };
-    let Ok(dirty) = DirtyTable::new(alloc, down.setup.geometry.rows) else {
-        return None;
-    };
-    let Ok(batch) = Batch::new(alloc) else {
-        return None;
-    };
-    let draft = Draft::new(alloc).ok()?;
-    let changes = Changes::new(alloc).ok()?;
-    if !can_begin(&rack, &down) {
-        return None;
-    }
-    let store = Store::adopt(rack, &down);
-    Some(Core::new(store, down, dirty, batch, draft, changes))
+    let dirty = DirtyTable::new(alloc, down.setup.geometry.rows).ok()?;
+    core_over(alloc, rack, down, dirty)
 }
 
 // Copies a stripe and syncs its copies.

@@ -4,14 +4,12 @@ ghost use Rattle.paraid_core.specs.Cores.{IsCoreReady, CanCoreServe, copied_of, 
 ghost use Rattle.paraid_core.specs.CoreInvariant.{AreCopiesSynced};
 ghost use Rattle.paraid_memrack.specs.Rules.{rack_slot_count, slots_of};
 
-use crate::arrays::{SMALL, new_array, reads_of};
+use crate::arrays::{SMALL, core_over, new_array, reads_of};
 use paraid_base::{Block, BlockNo, DiskNo, Phase, Two};
-use paraid_core::{Changes, Core, can_begin};
+use paraid_core::Core;
 use paraid_dirty::DirtyTable;
 use paraid_memrack::{MemRack, Planned};
 use paraid_record::{Meta, Mode, Setup};
-use paraid_txn::{Batch, Store};
-use paraid_view::Draft;
 use std::alloc::Global;
 
 // An array of zeros in a shift from gear 4 to 5. Block 7, the cell of row 1 and disk 4, is dirty.
@@ -37,22 +35,12 @@ fn rising(
         spins: [0, 0, 0, 0, 1, 0, 0, 0],
         ..whole
     };
-    let Ok(mut dirty) = DirtyTable::new(alloc, meta.setup.geometry.rows) else {
-        return None;
-    };
-    let Ok(batch) = Batch::new(alloc) else {
-        return None;
-    };
-    let Ok(draft) = Draft::new(alloc) else {
-        return None;
-    };
-    let changes = Changes::new(alloc).ok()?;
-    if !can_begin(&rack, &meta) || meta.setup.geometry.rows < 2 {
+    if meta.setup.geometry.rows < 2 {
         return None;
     }
+    let mut dirty = DirtyTable::new(alloc, meta.setup.geometry.rows).ok()?;
     dirty.set(1, 4);
-    let store = Store::adopt(rack, &meta);
-    Some(Core::new(store, meta, dirty, batch, draft, changes))
+    core_over(alloc, rack, meta, dirty)
 }
 
 // Reads a block, if the array has it.
@@ -73,6 +61,24 @@ fn read(core: &mut Core<MemRack>, block: BlockNo) -> Option<Result<(), Two>>
     Some(core.read(block, &mut into))
 }
 
+// Reads a block once or twice.
+fn read_often(core: &mut Core<MemRack>, block: BlockNo, twice: bool) -> Option<()>
+    requires ready { IsCoreReady rack_slot_count slots_of core.old }
+    requires serves { CanCoreServe slots_of core.old }
+    requires synced { AreCopiesSynced (meta_of core.old).setup.geometry.disks (copied_of core.old) }
+    requires no_draft { draft_of core.old ≡ [] }
+{
+    let Ok(()) = read(core, block)? else {
+        return None;
+    };
+    if twice {
+        let Ok(()) = read(core, block)? else {
+            return None;
+        };
+    }
+    Some(())
+}
+
 // The reads of one read or of two of the same block, done or failed, and what is staged after them.
 fn cost_of(
     alloc: Global,
@@ -83,14 +89,7 @@ fn cost_of(
     twice: bool,
 ) -> Option<(u32, u8)> {
     let mut core = rising(alloc, mode, out, plan)?;
-    let Ok(()) = read(&mut core, block)? else {
-        return None;
-    };
-    if twice {
-        let Ok(()) = read(&mut core, block)? else {
-            return None;
-        };
-    }
+    read_often(&mut core, block, twice)?;
     let staged = core.staged();
     Some((reads_of(&core.close())?, staged))
 }

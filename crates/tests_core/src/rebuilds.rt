@@ -2,26 +2,38 @@
 ghost use Rattle.std.specs.Prelude.{◌≡◌, ℕ, ◌<◌, [], true, IfSome, OnOk};
 ghost use Rattle.paraid_core.specs.Cores.{IsCoreReady, CanCoreServe, batch_of, copied_of, core_rack, draft_of, meta_of};
 ghost use Rattle.paraid_core.specs.CoreInvariant.{AreCopiesSynced};
+ghost use Rattle.paraid_core.specs.Steps.{AreUnsyncedCopied};
 ghost use Rattle.paraid_memrack.specs.Rules.{rack_slot_count, slots_of};
 ghost use Rattle.paraid_rack.specs.Disks.{is_present};
 
+use crate::arrays::core_over;
 use crate::shifts::{commit, kinds_of, park, shifted, sum_of, write};
 use paraid_base::{DiskNo, Out, Two};
-use paraid_core::{Changes, Core, can_begin};
+use paraid_core::Core;
 use paraid_dirty::DirtyTable;
 use paraid_memrack::{MemRack, Pick, Planned};
 use paraid_rack::{Power, Rack};
 use paraid_record::{Meta, rebuild_units};
-use paraid_txn::{Batch, Store};
-use paraid_view::Draft;
 use std::alloc::Global;
+
+// Parks disk 4 and writes block 7, the cell of row 1 on it.
+fn park_and_write(core: &mut Core<MemRack>) -> Option<()>
+    requires ready { IsCoreReady rack_slot_count slots_of core.old }
+    requires serves { CanCoreServe slots_of core.old }
+    requires no_draft { draft_of core.old ≡ [] }
+    requires nothing { batch_of core.old ≡ [] }
+    requires synced { AreCopiesSynced (meta_of core.old).setup.geometry.disks (copied_of core.old) }
+    requires unsynced { AreUnsyncedCopied slots_of core.old }
+{
+    park(core, 4)?;
+    write(core, &[7, 0, 0, 0, 0, 0, 0, 0], 1)?;
+    commit(core)
+}
 
 // An array in gear 4 whose block 7 was written there: the cell of row 1 and disk 4 is dirty.
 fn low(alloc: Global) -> Option<(MemRack, Meta)> {
     let mut core = shifted(alloc)?;
-    park(&mut core, 4)?;
-    write(&mut core, &[7, 0, 0, 0, 0, 0, 0, 0], 1)?;
-    commit(&mut core)?;
+    park_and_write(&mut core)?;
     let meta = *core.meta();
     Some((core.close(), meta))
 }
@@ -41,20 +53,12 @@ fn replaced(alloc: Global, mut rack: MemRack, whole: Meta, disk: DiskNo) -> Opti
         out: Out::Fresh { disk, rebuilt: 0 },
         ..whole
     };
-    let Ok(mut dirty) = DirtyTable::new(alloc, meta.setup.geometry.rows) else {
-        return None;
-    };
-    let Ok(batch) = Batch::new(alloc) else {
-        return None;
-    };
-    let draft = Draft::new(alloc).ok()?;
-    let changes = Changes::new(alloc).ok()?;
-    if !can_begin(&rack, &meta) || meta.setup.geometry.rows < 2 {
+    if meta.setup.geometry.rows < 2 {
         return None;
     }
+    let mut dirty = DirtyTable::new(alloc, meta.setup.geometry.rows).ok()?;
     dirty.set(1, 4);
-    let store = Store::adopt(rack, &meta);
-    Some(Core::new(store, meta, dirty, batch, draft, changes))
+    core_over(alloc, rack, meta, dirty)
 }
 
 // Copies a unit, if the array has it.

@@ -7,7 +7,7 @@ ghost use Rattle.paraid_memrack.specs.Rules.{rack_slot_count, slots_of};
 ghost use Rattle.paraid_rack.specs.Disks.{is_present};
 
 use crate::arrays::{SMALL, new_array};
-use crate::shifts::{HELD, WRITTEN, bytes_of, commit, kinds_of, sum_of, taken_over, write};
+use crate::shifts::{HELD, bytes_of, commit, kinds_of, sum_of, taken_over, write_all};
 use paraid_base::{DiskNo, Out};
 use paraid_core::Core;
 use paraid_memrack::MemRack;
@@ -137,6 +137,43 @@ fn rejoin(core: &mut Core<MemRack>) -> Option<()>
     Some(())
 }
 
+// Disk 0 fails and is replaced.
+fn renew(core: &mut Core<MemRack>) -> Option<()>
+    requires ready { IsCoreReady rack_slot_count slots_of core.old }
+    requires serves { CanCoreServe slots_of core.old }
+    requires no_draft { draft_of core.old ≡ [] }
+    requires synced { AreCopiesSynced (meta_of core.old).setup.geometry.disks (copied_of core.old) }
+    ensures ready { IfSome result (λ done. IsCoreReady rack_slot_count slots_of core.new) }
+    ensures serves { IfSome result (λ done. CanCoreServe slots_of core.new) }
+    ensures draft { IfSome result (λ done. draft_of core.new ≡ []) }
+    ensures nothing { IfSome result (λ done. batch_of core.new ≡ []) }
+{
+    fail(core, 0)?;
+    replace(core)
+}
+
+// All its units are rebuilt, and it comes back.
+fn restore(core: &mut Core<MemRack>) -> Option<()>
+    requires ready { IsCoreReady rack_slot_count slots_of core.old }
+    requires serves { CanCoreServe slots_of core.old }
+    requires no_draft { draft_of core.old ≡ [] }
+    requires nothing { batch_of core.old ≡ [] }
+    ensures ready { IfSome result (λ done. IsCoreReady rack_slot_count slots_of core.new) }
+    ensures serves { IfSome result (λ done. CanCoreServe slots_of core.new) }
+    ensures draft { IfSome result (λ done. draft_of core.new ≡ []) }
+    ensures synced { IfSome result (λ done. AreCopiesSynced (meta_of core.new).setup.geometry.disks (copied_of core.new)) }
+{
+    rebuild(core, 0)?;
+    rebuild(core, 1)?;
+    rebuild(core, 2)?;
+    rebuild(core, 3)?;
+    rebuild(core, 4)?;
+    rebuild(core, 5)?;
+    rebuild(core, 6)?;
+    rebuild(core, 7)?;
+    rejoin(core)
+}
+
 // Four writes in gear 4, and disk 0 fails, is replaced, rebuilt and comes back.
 fn rebuilt(alloc: Global) -> Option<Core<MemRack>>
     ensures ready { IfSome result (λ core. IsCoreReady rack_slot_count slots_of core) }
@@ -146,19 +183,9 @@ fn rebuilt(alloc: Global) -> Option<Core<MemRack>>
 {
     let (rack, meta) = new_array(alloc, SMALL, 4, None, Vec::new(alloc))?;
     let mut core = taken_over(alloc, rack, meta)?;
-    write(&mut core, &WRITTEN, 4)?;
-    commit(&mut core)?;
-    fail(&mut core, 0)?;
-    replace(&mut core)?;
-    rebuild(&mut core, 0)?;
-    rebuild(&mut core, 1)?;
-    rebuild(&mut core, 2)?;
-    rebuild(&mut core, 3)?;
-    rebuild(&mut core, 4)?;
-    rebuild(&mut core, 5)?;
-    rebuild(&mut core, 6)?;
-    rebuild(&mut core, 7)?;
-    rejoin(&mut core)?;
+    write_all(&mut core)?;
+    renew(&mut core)?;
+    restore(&mut core)?;
     Some(core)
 }
 

@@ -6,16 +6,14 @@ ghost use Rattle.paraid_core.specs.Steps.{AreUnsyncedCopied};
 ghost use Rattle.paraid_memrack.specs.Rules.{rack_slot_count, slots_of};
 ghost use Rattle.paraid_record.specs.Range.{AreNextGears, allowed_spins};
 
-use crate::arrays::{SMALL, new_array, pairs_of};
+use crate::arrays::{SMALL, core_over, new_array, pairs_of};
 use paraid_base::{Block, BlockNo, DiskNo, Out, Phase, Place};
-use paraid_core::{Changes, Core, can_begin};
+use paraid_core::Core;
 use paraid_dirty::DirtyTable;
 use paraid_memrack::MemRack;
 use paraid_rack::{Call, Power, Rack};
 use paraid_ration::{allowance, may_park};
 use paraid_record::Meta;
-use paraid_txn::{Batch, Store};
-use paraid_view::Draft;
 use std::alloc::Global;
 
 // Whether nothing of these first disks is unsynced.
@@ -42,19 +40,11 @@ pub fn taken_over(alloc: Global, rack: MemRack, meta: Meta) -> Option<Core<MemRa
     ensures synced { IfSome result (λ core. AreCopiesSynced (meta_of core).setup.geometry.disks (copied_of core)) }
     ensures nothing { IfSome result (λ core. batch_of core ≡ []) }
 {
-    let Ok(dirty) = DirtyTable::new(alloc, meta.setup.geometry.rows) else {
-        return None;
-    };
-    let Ok(batch) = Batch::new(alloc) else {
-        return None;
-    };
-    let draft = Draft::new(alloc).ok()?;
-    let changes = Changes::new(alloc).ok()?;
-    if !can_begin(&rack, &meta) || !is_synced(&rack, meta.setup.geometry.disks) {
+    if meta.setup.geometry.disks > rack.slots() || !is_synced(&rack, meta.setup.geometry.disks) {
         return None;
     }
-    let store = Store::adopt(rack, &meta);
-    Some(Core::new(store, meta, dirty, batch, draft, changes))
+    let dirty = DirtyTable::new(alloc, meta.setup.geometry.rows).ok()?;
+    core_over(alloc, rack, meta, dirty)
 }
 
 /// Writes the first blocks of a list, if the array has them.
@@ -306,6 +296,46 @@ pub fn bytes_of(core: &mut Core<MemRack>) -> Option<[u8; 20]>
     Some(bytes)
 }
 
+/// Four writes, which are committed.
+pub fn write_all(core: &mut Core<MemRack>) -> Option<()>
+    requires ready { IsCoreReady rack_slot_count slots_of core.old }
+    requires serves { CanCoreServe slots_of core.old }
+    requires synced { AreCopiesSynced (meta_of core.old).setup.geometry.disks (copied_of core.old) }
+    requires unsynced { AreUnsyncedCopied slots_of core.old }
+    ensures unsynced { IfSome result (λ done. AreUnsyncedCopied slots_of core.new) }
+    ensures ready { IfSome result (λ done. IsCoreReady rack_slot_count slots_of core.new) }
+    ensures serves { IfSome result (λ done. CanCoreServe slots_of core.new) }
+    ensures draft { IfSome result (λ done. draft_of core.new ≡ []) }
+    ensures synced { IfSome result (λ done. AreCopiesSynced (meta_of core.new).setup.geometry.disks (copied_of core.new)) }
+{
+    write(core, &WRITTEN, 4)?;
+    commit(core)?;
+    Some(())
+}
+
+// A shift down, without the last park.
+fn fall(core: &mut Core<MemRack>) -> Option<()>
+    requires ready { IsCoreReady rack_slot_count slots_of core.old }
+    requires serves { CanCoreServe slots_of core.old }
+    requires no_draft { draft_of core.old ≡ [] }
+    requires synced { AreCopiesSynced (meta_of core.old).setup.geometry.disks (copied_of core.old) }
+    requires unsynced { AreUnsyncedCopied slots_of core.old }
+    ensures unsynced { IfSome result (λ done. AreUnsyncedCopied slots_of core.new) }
+    ensures ready { IfSome result (λ done. IsCoreReady rack_slot_count slots_of core.new) }
+    ensures serves { IfSome result (λ done. CanCoreServe slots_of core.new) }
+    ensures draft { IfSome result (λ done. draft_of core.new ≡ []) }
+    ensures synced { IfSome result (λ done. AreCopiesSynced (meta_of core.new).setup.geometry.disks (copied_of core.new)) }
+    ensures nothing { IfSome result (λ done. batch_of core.new ≡ []) }
+{
+    begin(core)?;
+    commit(core)?;
+    fill(core, 0)?;
+    fill(core, 1)?;
+    end(core)?;
+    commit(core)?;
+    Some(())
+}
+
 // Four writes in gear 5 and a shift down to gear 4, without the last park.
 pub fn shifted(alloc: Global) -> Option<Core<MemRack>>
     ensures ready { IfSome result (λ core. IsCoreReady rack_slot_count slots_of core) }
@@ -317,30 +347,37 @@ pub fn shifted(alloc: Global) -> Option<Core<MemRack>>
 {
     let (rack, meta) = new_array(alloc, SMALL, 5, None, Vec::new(alloc))?;
     let mut core = taken_over(alloc, rack, meta)?;
-    write(&mut core, &WRITTEN, 4)?;
-    commit(&mut core)?;
-    begin(&mut core)?;
-    commit(&mut core)?;
-    fill(&mut core, 0)?;
-    fill(&mut core, 1)?;
-    end(&mut core)?;
-    commit(&mut core)?;
+    write_all(&mut core)?;
+    fall(&mut core)?;
     Some(core)
 }
 
-// What all blocks hold after it, what block 7 holds once it is written again, and the rack.
-fn played(alloc: Global) -> Option<([u8; 20], u8, MemRack)> {
-    let mut low = shifted(alloc)?;
-    park(&mut low, 4)?;
-    let bytes = bytes_of(&mut low)?;
-    write(&mut low, &[7, 0, 0, 0, 0, 0, 0, 0], 1)?;
-    commit(&mut low)?;
-    let seven = read(&mut low, 7)?;
-    Some((bytes, seven.as_slice()[0], low.close()))
+// What all blocks hold after the last park, and what block 7 holds once it is written again.
+fn park_and_read(low: &mut Core<MemRack>) -> Option<([u8; 20], u8)>
+    requires ready { IsCoreReady rack_slot_count slots_of low.old }
+    requires serves { CanCoreServe slots_of low.old }
+    requires no_draft { draft_of low.old ≡ [] }
+    requires nothing { batch_of low.old ≡ [] }
+    requires synced { AreCopiesSynced (meta_of low.old).setup.geometry.disks (copied_of low.old) }
+    requires unsynced { AreUnsyncedCopied slots_of low.old }
+{
+    park(low, 4)?;
+    let bytes = bytes_of(low)?;
+    write(low, &[7, 0, 0, 0, 0, 0, 0, 0], 1)?;
+    commit(low)?;
+    let seven = read(low, 7)?;
+    Some((bytes, seven.as_slice()[0]))
 }
 
-/// The blocks that are written.
-pub const WRITTEN: [BlockNo; 8] = [0, 7, 11, 19, 0, 0, 0, 0];
+// The same, and the rack.
+fn played(alloc: Global) -> Option<([u8; 20], u8, MemRack)> {
+    let mut low = shifted(alloc)?;
+    let (bytes, seven) = park_and_read(&mut low)?;
+    Some((bytes, seven, low.close()))
+}
+
+// The blocks that are written.
+const WRITTEN: [BlockNo; 8] = [0, 7, 11, 19, 0, 0, 0, 0];
 
 /// The bytes of the four writes, each in its block.
 pub const HELD: [u8; 20] = [

@@ -4,15 +4,13 @@ ghost use Rattle.paraid_core.specs.Cores.{IsCoreReady, CanCoreServe, copied_of, 
 ghost use Rattle.paraid_core.specs.CoreInvariant.{AreCopiesSynced};
 ghost use Rattle.paraid_memrack.specs.Rules.{rack_slot_count, slots_of};
 
-use crate::arrays::{LARGE, SMALL, Shape, flat_array, new_array, pairs_of, reads_of};
+use crate::arrays::{LARGE, SMALL, Shape, core_over, flat_array, new_array, pairs_of, reads_of};
 use paraid_base::{Block, BlockNo, DiskNo, Out, Pairs, Place, Two};
-use paraid_core::{Changes, Core, can_begin};
+use paraid_core::Core;
 use paraid_dirty::DirtyTable;
 use paraid_memrack::{MemRack, Planned};
 use paraid_rack::Rack;
 use paraid_record::Meta;
-use paraid_txn::{Batch, Store};
-use paraid_view::Draft;
 use std::alloc::Global;
 
 // A core with nothing staged over these disks.
@@ -21,19 +19,8 @@ fn begun_over(alloc: Global, rack: MemRack, meta: Meta) -> Option<Core<MemRack>>
     ensures serves { IfSome result (λ core. CanCoreServe slots_of core) }
     ensures synced { IfSome result (λ core. AreCopiesSynced (meta_of core).setup.geometry.disks (copied_of core)) }
 {
-    let Ok(dirty) = DirtyTable::new(alloc, meta.setup.geometry.rows) else {
-        return None;
-    };
-    let Ok(batch) = Batch::new(alloc) else {
-        return None;
-    };
-    let draft = Draft::new(alloc).ok()?;
-    let changes = Changes::new(alloc).ok()?;
-    if !can_begin(&rack, &meta) {
-        return None;
-    }
-    let store = Store::adopt(rack, &meta);
-    Some(Core::new(store, meta, dirty, batch, draft, changes))
+    let dirty = DirtyTable::new(alloc, meta.setup.geometry.rows).ok()?;
+    core_over(alloc, rack, meta, dirty)
 }
 
 // A core with nothing staged over an array of zeros.

@@ -85,7 +85,7 @@ fn check(rt: &(impl Abort + AllocGlobal), table: &[Cases]) -> Result<(), Fail> {
         let start = array(alloc, group.lines, &[group.before])?;
         for &(prefix, event, answer, cost) in group.cases {
             let found = cost_of(alloc, &start, &[], prefix, event, answer)?;
-            assert_eq!(rt; found, (true, cost), "{prefix} {event}");
+            assert!(rt; found == (true, cost), "{prefix} {event}");
         }
     }
     Ok(())
@@ -461,7 +461,15 @@ fn a_flush_commits_nothing_twice(rt: HostRuntime) -> Result<(), Fail> {
 // event, its answer, and what it costs with the call that fails.
 type Loss = (DiskNo, u32, &'static str, &'static str, &'static str, Cost);
 
-const LOSSES: [Loss; 7] = [
+// Lines that lead to the last tick of a rebuild: of a disk that is to be parked, and of a log disk, with nothing staged or
+// with a block.
+const REBUILT_4: &str = "down\nt\nt\nfail 4\nreplace 4\nt\nt\nt\nt\n";
+
+const REBUILT_0: &str = "fail 0\nreplace 0\nt\nt\nt\nt\nt\n";
+
+const STAGED_0: &str = "fail 0\nreplace 0\nt\nt\nt\nt\nt\nw 0 01\n";
+
+const LOSSES: [Loss; 13] = [
     // A read that fails is had from the four other disks.
     (2, 1, "", "r 2", "2=00", [5, 0, 0, 0, 0, 0]),
     // A write is planned anew: its own block fails, and the three others make the parity.
@@ -501,6 +509,59 @@ const LOSSES: [Loss; 7] = [
         "tick 5 moved 0 gone 2",
         [4, 11, 8, 0, 0, 0],
     ),
+    // In the last tick of a rebuild too: the write of the last row fails, its sync, or the park, after which the disk had
+    // come back by a commit.
+    (
+        4,
+        16,
+        REBUILT_4,
+        "t",
+        "tick 4 moved 0 gone 4",
+        [1, 11, 8, 0, 0, 0],
+    ),
+    (
+        4,
+        17,
+        REBUILT_4,
+        "t",
+        "tick 4 moved 0 gone 4",
+        [1, 11, 9, 0, 0, 0],
+    ),
+    (
+        4,
+        18,
+        REBUILT_4,
+        "t",
+        "tick 4 moved 0 gone 4",
+        [1, 21, 17, 1, 0, 0],
+    ),
+    // A log disk fails in the first call of the commit with which it comes back, and in the last; the other one alone
+    // gets the mark.
+    (
+        0,
+        17,
+        REBUILT_0,
+        "t",
+        "tick 5 moved 0 gone 0",
+        [1, 12, 9, 0, 0, 0],
+    ),
+    (
+        0,
+        25,
+        REBUILT_0,
+        "t",
+        "tick 5 moved 0 gone 0",
+        [1, 16, 13, 0, 0, 0],
+    ),
+    // It fails as what is staged is committed: two blocks on two disks.
+    (
+        0,
+        15,
+        STAGED_0,
+        "t",
+        "tick 5 moved 0 gone 0",
+        [0, 14, 9, 0, 0, 0],
+    ),
     // The spin-up fails, after the five reads and the park of the shift down, and takes effect after the event.
     (4, 7, "down\nt\nt\n", "up", "shift 4 5", [0, 10, 8, 0, 1, 0]),
 ];
@@ -512,7 +573,7 @@ fn a_loss_costs_no_more_than_it_is_to_do(rt: HostRuntime) -> Result<(), Fail> {
     for (disk, nth, prefix, event, answer, cost) in LOSSES {
         let plan = [Planned::OnDisk { disk, nth }];
         let found = cost_of(alloc, &start, &plan, prefix, event, answer)?;
-        assert_eq!(rt; found, (true, cost), "{prefix} {event}");
+        assert!(rt; found == (true, cost), "{prefix} {event}");
     }
     Ok(())
 }
@@ -547,7 +608,7 @@ const MOUNTS: [(&str, &str, u32, Cost); 5] = [
 fn a_mount_costs_no_more_than_it_is_to_do(rt: HostRuntime) -> Result<(), Fail> {
     for (before, lines, moment, cost) in MOUNTS {
         let found = mount_of(rt.alloc(), before, lines, moment)?;
-        assert_eq!(rt; found, cost, "{before} {lines} {moment}");
+        assert!(rt; found == cost, "{before} {lines} {moment}");
     }
     Ok(())
 }

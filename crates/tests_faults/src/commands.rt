@@ -31,7 +31,7 @@ fn answered(alloc: Global, words: &[&str], start: &str) -> Result<(u8, bool), Fa
 fn options_have_one_spelling_in_either_order(rt: HostRuntime) -> Result<(), Fail> {
     for (words, code, start) in WORDS {
         let (status, starts) = answered(rt.alloc(), words, start)?;
-        assert_eq!(rt; (words, status), (words, code));
+        assert!(rt; status == code, "{start}");
         assert!(rt; starts, "{words:?}");
     }
     Ok(())

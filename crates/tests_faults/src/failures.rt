@@ -12,8 +12,8 @@ use std::test::Fail;
 fn the_trace_is_answered_as_it_was_worked(rt: HostRuntime) -> Result<(), Fail> {
     let alloc = rt.alloc();
     let (status, text, _rack) = played(alloc, new_array(alloc)?)?;
-    assert_eq!(rt; text, answers(alloc)?);
-    assert_eq!(rt; status, 0);
+    assert!(rt; text == answers(alloc)?);
+    assert!(rt; status == 0);
     Ok(())
 }
 

@@ -34,8 +34,8 @@ fn generated_lines_are_served_alike_in_each_run(rt: HostRuntime) -> Result<(), F
     let alloc = rt.alloc();
     for _ in 0..2u8 {
         let (status, text, rack) = generated(alloc)?;
-        assert_eq!(rt; text.as_slice(), SUMMARY.as_bytes());
-        assert_eq!(rt; status, 0);
+        assert!(rt; text.as_slice() == SUMMARY.as_bytes());
+        assert!(rt; status == 0);
         assert!(rt; is_sound(alloc, rack)?);
     }
     Ok(())

@@ -101,12 +101,12 @@ const OTHERS: [(usize, &str, bool, [u16; 3]); 3] = [
 #[test]
 fn a_text_is_read_to_its_values(rt: HostRuntime) {
     let alloc = rt.alloc();
-    for (line, want) in NUMBERS {
-        assert_eq!(rt; numbers(alloc, 13, line), Some(want));
+    for &(line, want) in &NUMBERS {
+        assert!(rt; numbers(alloc, 13, line) == Some(want), "{line}");
     }
-    for (place, line, is_whole, windows) in OTHERS {
+    for &(place, line, is_whole, windows) in &OTHERS {
         let want = Some((is_whole, windows, [false, true, true]));
-        assert_eq!(rt; others(alloc, place, line), want);
+        assert!(rt; others(alloc, place, line) == want, "{line}");
     }
 }
 
@@ -335,9 +335,9 @@ const REFUSED: [(usize, &str, Option<ConfigFault>); 40] = [
 #[test]
 fn a_text_is_refused_by_its_first_cause(rt: HostRuntime) {
     let alloc = rt.alloc();
-    for (place, line, fault) in REFUSED {
+    for &(place, line, fault) in &REFUSED {
         let found = read_with(alloc, place, line).err() == fault;
-        assert_eq!(rt; (line, found), (line, true));
+        assert!(rt; found, "{line}");
     }
 }
 
@@ -355,7 +355,7 @@ const FIRST: [(&[u8], ConfigFault); 4] = [
 #[test]
 fn the_order_of_the_keys_decides(rt: HostRuntime) {
     let alloc = rt.alloc();
-    for (text, fault) in FIRST {
+    for &(text, fault) in &FIRST {
         assert!(rt; read_config(alloc, text).err() == Some(fault));
     }
 }

@@ -57,9 +57,9 @@ const DECISIONS: [((u32, u8, u8), [u16; 3], u8, [u32; 2], Decision); 12] = [
 
 #[test]
 fn the_load_and_its_deviation_in_every_window_choose_the_gear(rt: HostRuntime) {
-    for (values, windows, gear, counts, want) in DECISIONS {
+    for (row, &(values, windows, gear, counts, want)) in DECISIONS.iter().enumerate() {
         let found = decided(rt.alloc(), values, windows, gear, counts);
-        assert_eq!(rt; (windows, counts, found), (windows, counts, Some(want)));
+        assert!(rt; found == Some(want), "row {row}");
     }
 }
 
@@ -91,15 +91,15 @@ const ALLOWED: [((u16, u16, u32, u64), u16); 10] = [
 #[test]
 fn spin_ups_are_allowed_by_age(rt: HostRuntime) {
     let spins = [9, 0, 1, 2, 3, 2, 0, 9];
-    for (allowed, lo, hi, want) in PARKING {
+    for &(allowed, lo, hi, want) in &PARKING {
         let found = may_park(&spins, allowed, lo, hi);
-        assert_eq!(rt; (allowed, lo, hi, found), (allowed, lo, hi, want));
+        assert!(rt; found == want, "{allowed} at {lo} to {hi}");
     }
     // A burst, one more for each period of ticks, and no more than the ration.
-    for ((ration, burst, period, ticks), want) in ALLOWED {
+    for &((ration, burst, period, ticks), want) in &ALLOWED {
         let period: u32 = period;
         let found = allowance(ration, burst, period.max(1), ticks);
-        assert_eq!(rt; (ticks, found), (ticks, want));
+        assert!(rt; found == want, "{ration} {burst} {period} at {ticks}");
     }
 }
 
@@ -130,12 +130,12 @@ fn next_of(table: &DirtyTable, from: (u32, u8), lo: u8, hi: u8) -> Option<(u32, 
 fn dirty_cells_are_found_in_order(rt: HostRuntime) {
     let table = table_of(rt.alloc(), &CELLS).expect(&rt, "there is memory");
     let mut from = (0, 0);
-    for (row, disk) in CELLS {
-        assert_eq!(rt; next_of(&table, from, 0, 8), Some((row, disk)));
+    for &(row, disk) in &CELLS {
+        assert!(rt; next_of(&table, from, 0, 8) == Some((row, disk)));
         from = (row, disk.wrapping_add(1));
     }
-    assert_eq!(rt; next_of(&table, from, 0, 8), None);
-    assert_eq!(rt; next_of(&table, (64, 0), 3, 7), Some((65535, 3)));
+    assert!(rt; next_of(&table, from, 0, 8) == None);
+    assert!(rt; next_of(&table, (64, 0), 3, 7) == Some((65535, 3)));
 }
 
 fn is_dirty(table: &DirtyTable, row: u32, disk: u8) -> Option<bool> {
@@ -150,15 +150,15 @@ fn is_dirty(table: &DirtyTable, row: u32, disk: u8) -> Option<bool> {
 fn dirty_cells_are_counted_and_cleaned(rt: HostRuntime) {
     let mut table = table_of(rt.alloc(), &CELLS).expect(&rt, "there is memory");
     let counts = (table.count(0, 8), table.count(7, 8), table.count(4, 7));
-    assert_eq!(rt; (counts, table.next(7, 8)), ((6, 3, 0), Some((0, 7))));
+    assert!(rt; (counts, table.next(7, 8)) == ((6, 3, 0), Some((0, 7))));
     let last = (is_dirty(&table, 65535, 7), is_dirty(&table, 65535, 6));
-    assert_eq!(rt; last, (Some(true), Some(false)));
-    for (row, disk) in CELLS {
+    assert!(rt; last == (Some(true), Some(false)));
+    for &(row, disk) in &CELLS {
         if row < table.rows() && disk < 8 {
             table.clear(row, disk);
         }
     }
-    assert_eq!(rt; (table.next(0, 8), table.count(0, 8)), (None, 0));
+    assert!(rt; (table.next(0, 8), table.count(0, 8)) == (None, 0));
 }
 
 /// The energy after two ticks at rest, after a tick with a parked disk, and after its spin-up.
@@ -175,5 +175,5 @@ fn energies() -> Option<[u64; 3]> {
 
 #[test]
 fn energy_is_added_up(rt: HostRuntime) {
-    assert_eq!(rt; energies(), Some([90000, 126900, 186900]));
+    assert!(rt; energies() == Some([90000, 126900, 186900]));
 }

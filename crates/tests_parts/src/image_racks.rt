@@ -206,10 +206,10 @@ fn act<H: Files<File = File>, R: Rack>(host: &H, rack: &mut R, disk: DiskNo, dee
 /// The disk is told, and its sidecar is, as the row says.
 fn look<H: Files + AllocGlobal + Abort, R: Rack>(host: &H, rack: &R, row: &Row) {
     let (disk, _, _, want, sidecar) = *row;
-    assert_eq!(host; told(rack, disk), Some(want), "at {row:?}");
+    assert!(host; told(rack, disk) == Some(want), "at {row:?}");
     match fs::read_to_string(host, names(disk).1) {
-        Ok(text) => assert_eq!(host; text.as_str(), sidecar, "at {row:?}"),
-        Err(_) => assert_eq!(host; "", sidecar, "at {row:?}"),
+        Ok(text) => assert!(host; text.as_str() == sidecar, "at {row:?}"),
+        Err(_) => assert!(host; "" == sidecar, "at {row:?}"),
     }
 }
 
@@ -221,7 +221,7 @@ fn walk<H: Files<File = File> + AllocGlobal + Abort>(
 ) -> Result<(), Fail> {
     let mut rack = ImageRack::load(host, host.alloc(), 3)?;
     for row in rows {
-        assert_eq!(host; act(host, &mut rack, row.0, row.1), row.2, "at {row:?}");
+        assert!(host; act(host, &mut rack, row.0, row.1) == row.2, "at {row:?}");
         if anew {
             rack = ImageRack::load(host, host.alloc(), 3)?;
         }

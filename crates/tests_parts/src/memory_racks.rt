@@ -115,9 +115,9 @@ fn walked(alloc: Global, calls: u32, first: Planned, second: Planned) -> Option<
 
 #[test]
 fn the_planned_calls_fail(rt: HostRuntime) {
-    for (calls, first, second, marks) in PLANS {
+    for (row, &(calls, first, second, marks)) in PLANS.iter().enumerate() {
         let found = walked(rt.alloc(), calls, first, second);
-        assert_eq!(rt; (first, found), (first, Some(*marks)));
+        assert!(rt; found == Some(*marks), "row {row}");
     }
 }
 
@@ -133,7 +133,7 @@ fn listed(alloc: Global, calls: u32) -> Option<(u32, bool, [[u8; 4]; 3])> {
 fn contents_stay_right_where_the_list_is_full(rt: HostRuntime) {
     let blocks = [[7; 4], [9; 4], [0; 4]];
     for (calls, count, is_listed) in [(100, 11, true), (4, 4, true), (3, 3, false)] {
-        assert_eq!(rt; listed(rt.alloc(), calls), Some((count, is_listed, blocks)));
+        assert!(rt; listed(rt.alloc(), calls) == Some((count, is_listed, blocks)));
     }
 }
 
@@ -150,7 +150,7 @@ const LARGE: [(DiskNo, Step); 6] = [
 #[test]
 fn an_attach_may_be_too_large(rt: HostRuntime) {
     let mut rack = rack_of(rt.alloc(), 1, 9, NEVER, NEVER).expect(&rt, "there is memory");
-    assert_eq!(rt; walk(&mut rack, &LARGE), *b"..x-..     ");
+    assert!(rt; walk(&mut rack, &LARGE) == *b"..x-..     ");
 }
 
 /// The rack after a stop, with room for nine calls and no plan; none where there is no such moment.
@@ -238,11 +238,11 @@ fn left(alloc: Global, rack: &MemRack, moment: u32, pick: Pick) -> Option<([u8; 
 fn a_stop_leaves_each_loose_block_as_picked(rt: HostRuntime) {
     let alloc = rt.alloc();
     let mut rack = rack_of(alloc, 1, 9, NEVER, NEVER).expect(&rt, "there is memory");
-    assert_eq!(rt; walk(&mut rack, &WRITES), *b".......    ");
-    for (moment, pick, want) in STOPS {
+    assert!(rt; walk(&mut rack, &WRITES) == *b".......    ");
+    for &(moment, pick, want) in &STOPS {
         let zeros = if moment == 0 { [238; 4] } else { [0; 4] };
         let found = left(alloc, &rack, moment, pick);
-        assert_eq!(rt; (moment, found), (moment, Some((want, zeros))));
+        assert!(rt; found == Some((want, zeros)), "at {moment}");
     }
 }
 
@@ -250,9 +250,9 @@ fn a_stop_leaves_each_loose_block_as_picked(rt: HostRuntime) {
 fn a_stop_goes_by_the_listed_calls(rt: HostRuntime) {
     let alloc = rt.alloc();
     let mut rack = rack_of(alloc, 1, 3, NEVER, NEVER).expect(&rt, "there is memory");
-    assert_eq!(rt; walk(&mut rack, &WRITES[..4]), *b"....       ");
+    assert!(rt; walk(&mut rack, &WRITES[..4]) == *b"....       ");
     let found = (ends(&rack, 0, 1), left(alloc, &rack, 3, Pick::New));
-    assert_eq!(rt; found, ([9; 4], Some(([7; 4], [0; 4]))));
+    assert!(rt; found == ([9; 4], Some(([7; 4], [0; 4]))));
 }
 
 // A moment, the powers after the stop, and what block 2 of disk 1 holds.
@@ -289,11 +289,11 @@ fn a_stop_keeps_powers(rt: HostRuntime) {
     let alloc = rt.alloc();
     let plan = Planned::OnDisk { disk: 1, nth: 2 };
     let mut rack = rack_of(alloc, 4, 9, plan, NEVER).expect(&rt, "there is memory");
-    assert_eq!(rt; walk(&mut rack, &POWERED), *b".....x.    ");
+    assert!(rt; walk(&mut rack, &POWERED) == *b".....x.    ");
     // Block 2 of disk 1 is loose before call 5, a sync that fails and takes the disk away.
-    for (moment, want, block) in POWERS {
+    for &(moment, want, block) in &POWERS {
         let found = powered(alloc, &rack, moment);
-        assert_eq!(rt; (moment, found), (moment, Some((*want, [block, [238; 4]]))));
+        assert!(rt; found == Some((*want, [block, [238; 4]])), "at {moment}");
     }
 }
 
@@ -335,10 +335,10 @@ fn stopped_again(
 fn a_rack_after_a_stop_serves_and_stops_again(rt: HostRuntime) {
     let alloc = rt.alloc();
     let (rack, marks) = stopped_once(alloc).expect(&rt, "there is memory");
-    assert_eq!(rt; (marks, rack.calls()), (*b".-..       ", 3));
+    assert!(rt; (marks, rack.calls()) == (*b".-..       ", 3));
     // What the first stop left is kept: it is what an old block is.
     let want = Some((*b"SAAA", [[9, 9, 7, 7], [238; 4]]));
-    assert_eq!(rt; stopped_again(alloc, &rack, 2, Pick::Mixed), want);
+    assert!(rt; stopped_again(alloc, &rack, 2, Pick::Mixed) == want);
     let want = Some((*b"SSAA", [[7; 4], [0; 4]]));
-    assert_eq!(rt; stopped_again(alloc, &rack, 3, Pick::Old), want);
+    assert!(rt; stopped_again(alloc, &rack, 3, Pick::Old) == want);
 }

@@ -46,10 +46,14 @@ fn stripes(shape: Shape, gear: u8) -> Option<u32> {
 
 #[test]
 fn arrays_have_these_sizes(rt: HostRuntime) {
-    for (shape, blocks, gears, size) in SIZES {
-        assert_eq!(rt; sizes(shape), Some((blocks, size)));
+    for &(shape, blocks, gears, size) in &SIZES {
+        assert!(rt; sizes(shape) == Some((blocks, size)), "{} disks", shape.0);
         for (gear, count) in gears {
-            assert_eq!(rt; stripes(shape, gear), Some(count));
+            assert!(rt;
+                stripes(shape, gear) == Some(count),
+                "{} disks, gear {gear}",
+                shape.0
+            );
         }
     }
 }
@@ -79,8 +83,12 @@ fn row_at(shape: Shape, row: Row) -> Option<(DiskNo, Place, Place)> {
 
 #[test]
 fn a_row_has_its_parity_and_places(rt: HostRuntime) {
-    for (shape, row, want) in ROWS {
-        assert_eq!(rt; row_at(shape, row), Some(want));
+    for &(shape, row, want) in &ROWS {
+        assert!(rt;
+            row_at(shape, row) == Some(want),
+            "{} disks, row {row}",
+            shape.0
+        );
     }
 }
 
@@ -115,10 +123,10 @@ fn home_of(shape: Shape, block: u32) -> Option<(Row, DiskNo)> {
 
 #[test]
 fn a_block_and_its_cell_lead_to_each_other(rt: HostRuntime) {
-    for (shape, cell, block) in CELLS {
-        assert_eq!(rt; held_at(shape, cell), block);
+    for (at, &(shape, cell, block)) in CELLS.iter().enumerate() {
+        assert!(rt; held_at(shape, cell) == block, "row {at}");
         if let Some(block) = block {
-            assert_eq!(rt; home_of(shape, block), Some(cell));
+            assert!(rt; home_of(shape, block) == Some(cell), "row {at}");
         }
     }
 }
@@ -145,8 +153,11 @@ fn stripe_at(shape: Shape, gear: u8, stripe: u32) -> Option<(DiskNo, Place)> {
 
 #[test]
 fn a_stripe_has_its_parity_and_place(rt: HostRuntime) {
-    for (shape, gear, stripe, want) in STRIPES {
-        assert_eq!(rt; stripe_at(shape, gear, stripe), Some(want));
+    for &(shape, gear, stripe, want) in &STRIPES {
+        assert!(rt;
+            stripe_at(shape, gear, stripe) == Some(want),
+            "gear {gear}, stripe {stripe}"
+        );
     }
 }
 
@@ -185,10 +196,13 @@ fn copy_of(shape: Shape, gear: u8, cell: (Row, DiskNo)) -> Option<(u32, DiskNo)>
 
 #[test]
 fn a_cell_and_its_copy_lead_to_each_other(rt: HostRuntime) {
-    for (shape, gear, index, cell, disk) in COPIES {
-        assert_eq!(rt; cell_in(shape, gear, index), cell);
+    for (at, &(shape, gear, index, cell, disk)) in COPIES.iter().enumerate() {
+        assert!(rt; cell_in(shape, gear, index) == cell, "row {at}");
         if let Some(cell) = cell {
-            assert_eq!(rt; copy_of(shape, gear, cell), Some((index.0, disk)));
+            assert!(rt;
+                copy_of(shape, gear, cell) == Some((index.0, disk)),
+                "row {at}"
+            );
         }
     }
 }
@@ -209,8 +223,8 @@ const REFUSED: [(Shape, GeoFault); 10] = [
 
 #[test]
 fn geometries_are_refused_by_disks_then_rows_then_gears(rt: HostRuntime) {
-    for (shape, want) in REFUSED {
+    for (at, &(shape, want)) in REFUSED.iter().enumerate() {
         let fault = Geometry::new(shape.0, shape.1, shape.2).err();
-        assert_eq!(rt; (shape, fault), (shape, Some(want)));
+        assert!(rt; fault == Some(want), "row {at}");
     }
 }

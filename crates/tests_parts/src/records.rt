@@ -137,9 +137,9 @@ const CHANGED: [(&[(usize, u8)], bool); 55] = [
 
 #[test]
 fn a_meta_is_read_from_its_one_spelling(rt: HostRuntime) {
-    for (changes, accepted) in CHANGED {
+    for (row, &(changes, accepted)) in CHANGED.iter().enumerate() {
         let found = read_meta(&fresh_with(changes)).is_some();
-        assert_eq!(rt; (changes, found), (changes, accepted));
+        assert!(rt; found == accepted, "row {row}");
     }
 }
 
@@ -156,11 +156,11 @@ fn allowance_of(block: &Block) -> Option<(u8, u16, u32)> {
 fn a_meta_is_written_in_its_one_spelling(rt: HostRuntime) {
     let fresh = fresh_meta().expect(&rt, "five disks");
     let block = spelled(&fresh).expect(&rt, "the meta is in range");
-    assert_eq!(rt; block.as_slice(), block_of(&FRESH).as_slice());
+    assert!(rt; block.as_slice() == block_of(&FRESH).as_slice());
     let old = fresh_with(OLD);
     let again = (is_written_again(&block), is_written_again(&old));
-    assert_eq!(rt; again, (Some(true), Some(true)));
-    assert_eq!(rt; allowance_of(&old), Some((1, 100, 1)));
+    assert!(rt; again == (Some(true), Some(true)));
+    assert!(rt; allowance_of(&old) == Some((1, 100, 1)));
 }
 
 // Beginnings of blocks, and whether they are lists of targets.
@@ -204,10 +204,10 @@ fn targets_are_read_from_their_one_spelling(rt: HostRuntime) {
     let geometry = Geometry::new(5, 5, &[4, 5]).ok().expect(&rt, "five disks");
     let block = two_targets();
     let bytes = [0, 2, 1, 0, 0, 0, 100, 4, 0, 0, 0, 107];
-    assert_eq!(rt; block.as_slice(), block_of(&bytes).as_slice());
-    assert_eq!(rt; listed(&block, &geometry), Some((2, (4, 107))));
-    for (bytes, accepted) in LISTS {
+    assert!(rt; block.as_slice() == block_of(&bytes).as_slice());
+    assert!(rt; listed(&block, &geometry) == Some((2, (4, 107))));
+    for (row, &(bytes, accepted)) in LISTS.iter().enumerate() {
         let found = read_targets(&block_of(&bytes), &geometry).is_some();
-        assert_eq!(rt; (bytes, found), (bytes, accepted));
+        assert!(rt; found == accepted, "row {row}");
     }
 }

@@ -41,10 +41,10 @@ const SUMS: [(usize, u8, u8, u8); 6] = [
 #[test]
 fn blocks_add_byte_by_byte_and_one_byte_shows(rt: HostRuntime) {
     assert!(rt; is_zero(&Block::zero()));
-    for (at, left, right, sum) in SUMS {
+    for &(at, left, right, sum) in &SUMS {
         if at < 512 {
             let want = (sum, [right == 0, sum == 0], left);
-            assert_eq!(rt; (at, sums(at, left, right)), (at, want));
+            assert!(rt; sums(at, left, right) == want, "at {at}");
         }
     }
 }

@@ -125,12 +125,12 @@ fn is_bad(line: &str) -> bool {
 #[test]
 fn a_line_asks_for_its_event(rt: HostRuntime) {
     let mut text = Text::new();
-    for line in EVENTS {
+    for &line in &EVENTS {
         spell(&parse_line(line.as_bytes()), &mut text);
-        assert_eq!(rt; text.as_slice(), line.as_bytes());
+        assert!(rt; text.as_slice() == line.as_bytes(), "{line}");
     }
-    for line in BAD {
-        assert_eq!(rt; (line, is_bad(line)), (line, true));
+    for &line in &BAD {
+        assert!(rt; is_bad(line), "{line}");
     }
 }
 
@@ -159,11 +159,8 @@ const WRITES: [(&str, &[(u32, &str)]); 7] = [
 
 #[test]
 fn a_write_has_one_to_eight_groups(rt: HostRuntime) {
-    for (line, want) in WRITES {
-        assert_eq!(rt;
-            (line, is_write_of(&parse_line(line.as_bytes()), want)),
-            (line, true)
-        );
+    for &(line, want) in &WRITES {
+        assert!(rt; is_write_of(&parse_line(line.as_bytes()), want), "{line}");
     }
 }
 
@@ -187,7 +184,7 @@ fn a_group_has_at_most_1024_digits(rt: HostRuntime) {
         is_write(1024),
         is_write(1026),
     );
-    assert_eq!(rt; found, (true, false, true, false));
+    assert!(rt; found == (true, false, true, false));
 }
 
 // Lines of another program that has the same definition.
@@ -221,15 +218,15 @@ const GENERATED_WRITES: [(u32, u32, u32, u32, &str); 5] = [
 #[test]
 fn a_number_makes_its_trace(rt: HostRuntime) {
     let mut text = Text::new();
-    for (number, i, blocks, event) in GENERATED {
+    for &(number, i, blocks, event) in &GENERATED {
         let blocks: u32 = blocks;
         spell(&generate(number, i, blocks.max(1)), &mut text);
-        assert_eq!(rt; text.as_slice(), event.as_bytes());
+        assert!(rt; text.as_slice() == event.as_bytes(), "{event}");
     }
-    for (number, i, blocks, block, bytes) in GENERATED_WRITES {
+    for &(number, i, blocks, block, bytes) in &GENERATED_WRITES {
         let blocks: u32 = blocks;
         let found = is_write_of(&generate(number, i, blocks.max(1)), &[(block, bytes)]);
-        assert_eq!(rt; (i, found), (i, true));
+        assert!(rt; found, "{number} at {i}");
     }
 }
 
@@ -286,7 +283,7 @@ fn an_answer_is_told_as_a_line(rt: HostRuntime) {
     let mut text = Text::new();
     for at in 0..18 {
         reply(&answer(at), &mut text);
-        assert_eq!(rt; text.as_slice(), lines[at].as_bytes());
+        assert!(rt; text.as_slice() == lines[at].as_bytes(), "{}", lines[at]);
     }
 }
 
@@ -325,7 +322,7 @@ fn a_tick_is_told_by_its_event(rt: HostRuntime) {
             event: tick_event(at),
         };
         reply(&Answer::Ticked(report), &mut text);
-        assert_eq!(rt; text.as_slice(), lines[at].as_bytes());
+        assert!(rt; text.as_slice() == lines[at].as_bytes(), "{}", lines[at]);
     }
 }
 
@@ -371,7 +368,7 @@ fn a_state_is_told_with_its_spins(rt: HostRuntime) {
             halt: None,
         };
         reply(&Answer::State { status, disks: 5 }, &mut text);
-        assert_eq!(rt; text.as_slice(), line.as_bytes());
+        assert!(rt; text.as_slice() == line.as_bytes(), "{line}");
     }
 }
 
@@ -389,14 +386,14 @@ fn a_block_is_told_by_its_shortest_period(rt: HostRuntime) {
     let mut text = Text::new();
     let mut bytes = [0; 512];
     reply(&value(2, bytes), &mut text);
-    assert_eq!(rt; text.as_slice(), b"2=00\n".as_slice());
+    assert!(rt; text.as_slice() == b"2=00\n".as_slice());
     for at in 0..512 {
         bytes[at] = [0xa1, 0xb2][at % 2];
     }
     reply(&value(19, bytes), &mut text);
-    assert_eq!(rt; text.as_slice(), b"19=a1b2\n".as_slice());
+    assert!(rt; text.as_slice() == b"19=a1b2\n".as_slice());
     bytes = [0; 512];
     bytes[511] = 1;
     reply(&value(4, bytes), &mut text);
-    assert_eq!(rt; text.as_slice().len(), 1027);
+    assert!(rt; text.as_slice().len() == 1027);
 }

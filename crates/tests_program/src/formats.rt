@@ -137,8 +137,8 @@ const CONFIGURATIONS: [(usize, &str, u8, &str); 18] = [
 fn a_configuration_is_refused_by_its_first_fault(rt: HostRuntime) -> Result<(), Fail> {
     for (line, text, code, want) in CONFIGURATIONS {
         let (status, told) = told_of(&rt, configuration(rt.alloc(), line, text)?)?;
-        assert_eq!(rt; told.as_slice(), want.as_bytes(), "at {text}");
-        assert_eq!(rt; status, code);
+        assert!(rt; told.as_slice() == want.as_bytes(), "at {text}");
+        assert!(rt; status == code, "{want}");
     }
     Ok(())
 }
@@ -147,8 +147,8 @@ fn a_configuration_is_refused_by_its_first_fault(rt: HostRuntime) -> Result<(), 
 fn a_configuration_may_have_65536_bytes(rt: HostRuntime) -> Result<(), Fail> {
     for (length, code, want) in [(65536, 0, "formatted 20\n"), (65537, 8, "config long\n")] {
         let (status, told) = told_of(&rt, long_configuration(rt.alloc(), length)?)?;
-        assert_eq!(rt; told.as_slice(), want.as_bytes());
-        assert_eq!(rt; status, code);
+        assert!(rt; told.as_slice() == want.as_bytes(), "{want}");
+        assert!(rt; status == code, "{want}");
     }
     Ok(())
 }
@@ -171,8 +171,8 @@ fn an_array_is_made_once(rt: HostRuntime) -> Result<(), Fail> {
         let bytes = configuration(alloc, NONE, text)?;
         let (status, told, left) = formatted(alloc, force, bytes, NEVER, NEVER, rack)?;
         rack = left;
-        assert_eq!(rt; told.as_slice(), want.as_bytes());
-        assert_eq!(rt; status, code);
+        assert!(rt; told.as_slice() == want.as_bytes(), "{want}");
+        assert!(rt; status == code, "{want}");
     }
     Ok(())
 }
@@ -204,8 +204,8 @@ fn a_fault_ends_a_format_with_its_status(rt: HostRuntime) -> Result<(), Fail> {
         let bytes = configuration(alloc, NONE, "")?;
         let rack = bare_rack(&rt, slots, fails);
         let (status, told, _rack) = formatted(alloc, false, bytes, source, sink, rack)?;
-        assert_eq!(rt; told.as_slice(), want.as_bytes());
-        assert_eq!(rt; status, code);
+        assert!(rt; told.as_slice() == want.as_bytes(), "{want}");
+        assert!(rt; status == code, "{want}");
     }
     Ok(())
 }
@@ -244,8 +244,8 @@ fn a_new_array_is_mounted_and_shown(rt: HostRuntime) -> Result<(), Fail> {
             rack = left;
         }
         let (status, told, _rack) = shown(alloc, rack)?;
-        assert_eq!(rt; told.as_slice(), want.as_bytes());
-        assert_eq!(rt; status, code);
+        assert!(rt; told.as_slice() == want.as_bytes(), "{want}");
+        assert!(rt; status == code, "{want}");
     }
     Ok(())
 }

@@ -197,8 +197,8 @@ fn traces_are_answered_as_they_were_worked(rt: HostRuntime) -> Result<(), Fail> 
                 rack,
             )?;
             rack = left;
-            assert_eq!(rt; text.as_slice(), want.as_bytes(), "{input}");
-            assert_eq!(rt; status, 0);
+            assert!(rt; text.as_slice() == want.as_bytes(), "{input}");
+            assert!(rt; status == 0);
         }
     }
     Ok(())
@@ -212,7 +212,7 @@ fn generated_lines_are_answered_and_counted(rt: HostRuntime) -> Result<(), Fail>
     let (status, text, _rack) = outcome(rt.alloc(), &words, b"", NEVER, NEVER, rack)?;
     let want = "mounted 0 gear 5\nlines 6 reads 4 writes 1 flushes 0 ticks 1 shifts 0\n\
                 sum 0 gear 5 energy 45000\nend 1\n";
-    assert_eq!(rt; text.as_slice(), want.as_bytes());
-    assert_eq!(rt; status, 0);
+    assert!(rt; text.as_slice() == want.as_bytes());
+    assert!(rt; status == 0);
     Ok(())
 }

@@ -138,8 +138,8 @@ fn every_line_is_answered(rt: HostRuntime) -> Result<(), Fail> {
     for (input, answers) in rows {
         let (status, text) = ran(&rt, input, NONE)?;
         let want = format!(in alloc; "mounted 0 gear 5\n{answers}")?;
-        assert_eq!(rt; text.as_slice(), want.as_bytes());
-        assert_eq!(rt; status, 0);
+        assert!(rt; text.as_slice() == want.as_bytes(), "{want}");
+        assert!(rt; status == 0);
     }
     Ok(())
 }
@@ -159,9 +159,9 @@ fn other_words_tell_which_there_are(rt: HostRuntime) -> Result<(), Fail> {
         let (status, text, left) = outcome(alloc, words, b"f\n", NEVER, NEVER, rack)?;
         let want =
             "usage: paraid format [--force] | run | status | check | gen --number N --lines L\n";
-        assert_eq!(rt; text.as_slice(), want.as_bytes());
-        assert_eq!(rt; status, 2);
-        assert_eq!(rt; left.calls(), 0);
+        assert!(rt; text.as_slice() == want.as_bytes(), "{want}");
+        assert!(rt; status == 2);
+        assert!(rt; left.calls() == 0);
     }
     Ok(())
 }
@@ -175,8 +175,11 @@ fn a_lost_disk_changes_no_answer(rt: HostRuntime) -> Result<(), Fail> {
             faults.first = Planned::OnDisk { disk, nth };
             let (status, text) = ran(&rt, b"w 3 11\nw 7 22\nf\nr 3\nr 7\n", faults)?;
             let want = "mounted 0 gear 5\nwrote 1\nwrote 2\nflushed 2\n3=11\n7=22\nend 2\n";
-            assert_eq!(rt; text.as_slice(), want.as_bytes(), "disk {disk}, call {nth}");
-            assert_eq!(rt; status, 0);
+            assert!(rt;
+                text.as_slice() == want.as_bytes(),
+                "disk {disk}, call {nth}"
+            );
+            assert!(rt; status == 0);
         }
     }
     Ok(())
@@ -277,8 +280,8 @@ fn a_fault_ends_the_run_with_its_status(rt: HostRuntime) -> Result<(), Fail> {
     ];
     for (input, faults, code, want) in rows {
         let (status, text) = ran(&rt, input.as_bytes(), faults)?;
-        assert_eq!(rt; text.as_slice(), want.as_bytes(), "{input}");
-        assert_eq!(rt; status, code);
+        assert!(rt; text.as_slice() == want.as_bytes(), "{input}");
+        assert!(rt; status == code, "{want}");
     }
     Ok(())
 }
@@ -290,8 +293,8 @@ fn no_array_is_served(rt: HostRuntime) -> Result<(), Fail> {
     for words in lists {
         let rack = bare_rack(&rt, DISKS, Planned::AtCall(NEVER));
         let (status, text, _rack) = outcome(alloc, words, b"r 0\n", NEVER, NEVER, rack)?;
-        assert_eq!(rt; text.as_slice(), "notformatted\n".as_bytes());
-        assert_eq!(rt; status, 6);
+        assert!(rt; text.as_slice() == "notformatted\n".as_bytes());
+        assert!(rt; status == 6);
     }
     Ok(())
 }

@@ -160,8 +160,8 @@ fn a_changed_array_is_shown_or_refused(rt: HostRuntime) -> Result<(), Fail> {
     for (changes, code, want) in STATES {
         let rack = array(&rt, changes)?;
         let (status, told, left) = shown(rt.alloc(), rack)?;
-        assert_eq!(rt; told.as_slice(), want.as_bytes(), "{changes:?}");
-        assert_eq!(rt; status, code);
+        assert!(rt; told.as_slice() == want.as_bytes(), "{changes:?}");
+        assert!(rt; status == code, "{want}");
         // A refusal leaves all disks as they were.
         assert!(rt; code == 0 || are_reads(&left));
     }
@@ -174,8 +174,8 @@ fn a_refused_array_is_not_run(rt: HostRuntime) -> Result<(), Fail> {
         if code != 0 {
             let rack = array(&rt, changes)?;
             let (status, told, left) = outcome(rt.alloc(), &["run"], b"r 0\n", NEVER, NEVER, rack)?;
-            assert_eq!(rt; told.as_slice(), want.as_bytes(), "{changes:?}");
-            assert_eq!(rt; status, code);
+            assert!(rt; told.as_slice() == want.as_bytes(), "{changes:?}");
+            assert!(rt; status == code, "{want}");
             assert!(rt; are_reads(&left));
         }
     }
@@ -199,8 +199,8 @@ fn an_array_of_zeros_is_served_in_a_low_gear(rt: HostRuntime) -> Result<(), Fail
     for (input, want) in LOW {
         let (status, told, left) = outcome(alloc, &["run"], input.as_bytes(), NEVER, NEVER, rack)?;
         rack = without(alloc, &left, 1)?;
-        assert_eq!(rt; told.as_slice(), want.as_bytes());
-        assert_eq!(rt; status, 0);
+        assert!(rt; told.as_slice() == want.as_bytes(), "{want}");
+        assert!(rt; status == 0);
     }
     Ok(())
 }
@@ -212,16 +212,19 @@ fn a_lost_disk_is_marked_once(rt: HostRuntime) -> Result<(), Fail> {
     for _ in 0..2u8 {
         let (status, told, left) = shown(alloc, rack)?;
         rack = left;
-        assert_eq!(rt; told.as_slice(), TWO_GONE.as_bytes());
-        assert_eq!(rt; status, 0);
+        assert!(rt; told.as_slice() == TWO_GONE.as_bytes());
+        assert!(rt; status == 0);
         for disk in 0..2 {
-            assert_eq!(rt; meta_byte(&rack, disk, 51), Some(2), "the epoch on {disk}");
+            assert!(rt;
+                meta_byte(&rack, disk, 51) == Some(2),
+                "the epoch on {disk}"
+            );
         }
     }
     let bytes = configuration(alloc, NONE, "")?;
     let (status, told, _rack) = formatted(alloc, false, bytes, NEVER, NEVER, rack)?;
-    assert_eq!(rt; told.as_slice(), "already 2\n".as_bytes());
-    assert_eq!(rt; status, 9);
+    assert!(rt; told.as_slice() == "already 2\n".as_bytes());
+    assert!(rt; status == 9);
     Ok(())
 }
 
@@ -235,22 +238,25 @@ const VERSION_ONE: [Change; 3] = [MetaByte(9, 1), MetaByte(113, 0), MetaByte(117
 fn an_array_of_version_one_is_brought_to_version_two(rt: HostRuntime) -> Result<(), Fail> {
     let alloc = rt.alloc();
     let (status, told, rack) = shown(alloc, array(&rt, &VERSION_ONE)?)?;
-    assert_eq!(rt; told.as_slice(), WHOLE.as_bytes());
-    assert_eq!(rt; status, 0);
+    assert!(rt; told.as_slice() == WHOLE.as_bytes());
+    assert!(rt; status == 0);
     // The version, the epoch, the burst, which is the ration, and the period.
     for (at, byte) in [(9, 2), (51, 2), (113, 100), (117, 1)] {
         for disk in 0..2 {
-            assert_eq!(rt; meta_byte(&rack, disk, at), Some(byte), "{at} on {disk}");
+            assert!(rt; meta_byte(&rack, disk, at) == Some(byte), "{at} on {disk}");
         }
     }
     // Eleven reads and syncs, and a commit of nine calls on each log disk.
-    assert_eq!(rt; rack.calls(), 29);
+    assert!(rt; rack.calls() == 29);
     for moment in 0..30 {
         for pick in PICKS {
             let left = rack.stopped(alloc, moment, pick, NEVER, Vec::new(alloc))?;
             let (status, told, _rack) = shown(alloc, left)?;
-            assert_eq!(rt; told.as_slice(), WHOLE.as_bytes(), "at {moment}, {pick:?}");
-            assert_eq!(rt; status, 0);
+            assert!(rt;
+                told.as_slice() == WHOLE.as_bytes(),
+                "at {moment}, {pick:?}"
+            );
+            assert!(rt; status == 0);
         }
     }
     Ok(())

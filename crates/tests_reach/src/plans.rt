@@ -33,8 +33,8 @@ fn plan_is(rt: &impl Abort, alloc: Global, demand: &[u32], ups: u16, cost: u64, 
 {
     match plan_gears(alloc, &five_disks(rt), demand, ups) {
         Ok(plan) => {
-            assert_eq!(rt; plan.cost(), cost);
-            assert_eq!(rt; plan.gears(), gears);
+            assert!(rt; plan.cost() == cost);
+            assert!(rt; plan.gears() == gears);
         }
         Err(_) => panic!(rt; "no plan"),
     }
@@ -75,7 +75,7 @@ fn a_demand_that_is_none_and_a_cost_that_is_too_low_are_refused(rt: HostRuntime)
     for (demand, want) in rows {
         match plan_gears(rt.alloc(), &setup, demand, 0) {
             Ok(_) => panic!(rt; "a plan for a demand that is none"),
-            Err(fault) => assert_eq!(rt; fault, want),
+            Err(fault) => assert!(rt; fault == want),
         }
     }
     let demand: [u32; 11] = [0, 0, 0, 0, 0, 0, 0, 0, 0, 0, 400];

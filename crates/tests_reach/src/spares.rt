@@ -39,12 +39,12 @@ fn spun() -> [u64; 4] {
 
 #[test]
 fn a_spare_is_used_at_the_tick_that_is_due(rt: HostRuntime) {
-    assert_eq!(rt; used_at_once(), (None, Some(2), 0, None));
+    assert!(rt; used_at_once() == (None, Some(2), 0, None));
     // A wait of one tick begins anew after a spare that could not be attached.
     let mut pool = Pool::new(2, 1);
-    assert_eq!(rt; due_after_a_tick(&mut pool), [None, Some(2), None]);
-    assert_eq!(rt; used(&mut pool), 1);
-    assert_eq!(rt; due_after_a_tick(&mut pool), [None, Some(2), None]);
-    assert_eq!(rt; used(&mut pool), 0);
-    assert_eq!(rt; spun(), [0, 1, 2, 0]);
+    assert!(rt; due_after_a_tick(&mut pool) == [None, Some(2), None]);
+    assert!(rt; used(&mut pool) == 1);
+    assert!(rt; due_after_a_tick(&mut pool) == [None, Some(2), None]);
+    assert!(rt; used(&mut pool) == 0);
+    assert!(rt; spun() == [0, 1, 2, 0]);
 }

@@ -115,7 +115,7 @@ fn made(alloc: Global, worn: usize) -> Option<Volumes<Kept>> {
 fn volumes_are_made_used_and_removed(rt: HostRuntime) {
     let mut volumes = made(rt.alloc(), 1000).expect(&rt, "no table yet");
     for (deed, want) in CALLS {
-        assert_eq!(rt; done(&mut volumes, deed), want);
+        assert!(rt; done(&mut volumes, deed) == want);
     }
 }
 
@@ -123,7 +123,7 @@ fn volumes_are_made_used_and_removed(rt: HostRuntime) {
 fn a_halt_in_a_call_leaves_the_table_and_stays(rt: HostRuntime) {
     let mut volumes = made(rt.alloc(), 3).expect(&rt, "no table yet");
     for (deed, want) in HALTED {
-        assert_eq!(rt; done(&mut volumes, deed), want);
+        assert!(rt; done(&mut volumes, deed) == want);
     }
 }
 
@@ -144,11 +144,11 @@ fn refused(device: Kept, new: bool) -> Option<VolFault> {
 fn a_device_is_refused_by_its_table_or_its_size(rt: HostRuntime) {
     let alloc = rt.alloc();
     let volumes = made(alloc, 1000).expect(&rt, "no table yet");
-    assert_eq!(rt; refused(volumes.finish(), true), Some(VolFault::Already));
+    assert!(rt; refused(volumes.finish(), true) == Some(VolFault::Already));
     let few = refused(Kept::new(alloc, 2, 1000), true);
     let none = refused(Kept::new(alloc, 20, 1000), false);
-    assert_eq!(rt; few, Some(VolFault::Small { blocks: 2 }));
-    assert_eq!(rt; none, Some(VolFault::NotVolumes));
+    assert!(rt; few == Some(VolFault::Small { blocks: 2 }));
+    assert!(rt; none == Some(VolFault::NotVolumes));
 }
 
 // The device after its writes: 1 the table, 2 to 4 zeros and 5 the table for `a`, 6 its block, 7 to
@@ -186,7 +186,7 @@ fn a_stop_at_each_write_of_a_new_volume_leaves_the_volumes_before_it_or_with_it(
     let mut device = written(rt.alloc()).expect(&rt, "there is memory");
     for seen in 1..19 {
         let (again, found) = left(device, seen).expect(&rt, "a stop leaves a table");
-        assert_eq!(rt; found, expected(seen));
+        assert!(rt; found == expected(seen));
         device = again;
     }
 }

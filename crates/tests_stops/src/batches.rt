@@ -11,7 +11,7 @@ fn filled(rt: &(impl Abort + AllocGlobal)) -> Batch {
     for number in 0..96u8 {
         let place = 100 + Place::from(number / 4);
         let block = Block::from_array([number; 512]);
-        assert_eq!(rt; batch.add(number % 4, place, &block), Ok(()), "{number}");
+        assert!(rt; batch.add(number % 4, place, &block) == Ok(()), "{number}");
     }
     batch
 }
@@ -38,36 +38,47 @@ const HELD: [(DiskNo, Place, Option<u8>); 9] = [
 fn a_batch_holds_96_targets_in_order(rt: HostRuntime) {
     let mut batch = filled(&rt);
     let new = Block::from_array([0xaa; 512]);
-    assert_eq!(rt; batch.add(1, 101, &new), Ok(()));
+    assert!(rt; batch.add(1, 101, &new) == Ok(()));
     for (disk, place) in [(4, 100), (0, 124), (3, 99)] {
         let full = Full { count: 96 };
-        assert_eq!(rt; batch.add(disk, place, &new), Err(full), "{disk} {place}");
+        assert!(rt; batch.add(disk, place, &new) == Err(full), "{disk} {place}");
     }
-    assert_eq!(rt; batch.count(), 96);
+    assert!(rt; batch.count() == 96);
     for (disk, place, want) in HELD {
-        assert_eq!(rt; held(&batch, disk, place), want, "{disk} {place}");
+        assert!(rt; held(&batch, disk, place) == want, "{disk} {place}");
     }
 }
 
 #[test]
-fn a_batch_tells_its_targets_and_is_cleared(rt: HostRuntime) {
-    let mut batch = filled(&rt);
+fn a_batch_tells_its_targets(rt: HostRuntime) {
+    let batch = filled(&rt);
     let targets = batch.targets();
-    assert_eq!(rt; targets.count, 96);
+    assert!(rt; targets.count == 96);
     for number in 0..96u8 {
         let target = targets.list[number as usize];
         let place = 100 + Place::from(number / 4);
-        assert_eq!(rt; (target.disk, target.place), (number % 4, place));
+        assert!(rt; (target.disk, target.place) == (number % 4, place));
     }
     for (disk, want) in [(0, true), (3, true), (4, false)] {
-        assert_eq!(rt; batch.has_disk(disk), want, "{disk}");
+        assert!(rt; batch.has_disk(disk) == want, "{disk}");
     }
+}
 
+// How many targets a batch holds and tells, and what it holds of disk 1.
+fn told(batch: &Batch) -> (u8, u8, bool, Option<u8>) {
+    (
+        batch.count(),
+        batch.targets().count,
+        batch.has_disk(1),
+        held(batch, 1, 101),
+    )
+}
+
+#[test]
+fn a_batch_that_is_cleared_holds_what_is_added_then(rt: HostRuntime) {
+    let mut batch = filled(&rt);
     batch.clear();
-    assert_eq!(rt; batch.count(), 0);
-    assert_eq!(rt; held(&batch, 1, 101), None);
-    assert_eq!(rt; batch.has_disk(1), false);
-    assert_eq!(rt; batch.targets().count, 0);
-    assert_eq!(rt; batch.add(5, 96, &Block::zero()), Ok(()));
-    assert_eq!(rt; held(&batch, 5, 96), Some(0));
+    assert!(rt; told(&batch) == (0, 0, false, None));
+    assert!(rt; batch.add(5, 96, &Block::zero()) == Ok(()));
+    assert!(rt; held(&batch, 5, 96) == Some(0));
 }

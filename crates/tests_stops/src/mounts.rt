@@ -7,22 +7,24 @@ use Power::{Absent, Parked};
 use paraid_base::{Block, DiskNo, Place, Two};
 use paraid_memrack::{MemRack, Pick, Planned};
 use paraid_mount::{MountFault, examine};
+use paraid_parity::is_zero;
 use paraid_plain::Image;
 use paraid_rack::{Call, Power, Rack};
 use paraid_txn::Batch;
 use std::alloc::Global;
 use std::process::Abort;
 
-// Writes a block of the image, unless it is zeros.
-fn put_block(rack: &mut MemRack, image: &Image, disk: DiskNo, place: Place) -> bool {
-    let block = image.stored(disk, place);
-    if block.as_slice() == Block::zero().as_slice() {
-        return true;
-    }
+fn write_block(rack: &mut MemRack, disk: DiskNo, place: Place, block: &Block) -> bool {
     if disk >= rack.slots() || rack.power(disk) != Power::Spinning || rack.size(disk) <= place {
         return false;
     }
-    rack.write(disk, place, &block).is_ok()
+    rack.write(disk, place, block).is_ok()
+}
+
+// Writes a block of the image, unless it is zeros.
+fn put_block(rack: &mut MemRack, image: &Image, disk: DiskNo, place: Place) -> bool {
+    let block = image.stored(disk, place);
+    is_zero(&block) || write_block(rack, disk, place, &block)
 }
 
 // Puts a disk of the image into its slot.
@@ -558,9 +560,9 @@ fn is_met(rt: &(impl Abort + AllocGlobal), row: &Row) -> bool {
 
 #[test]
 fn a_mount_is_refused_by_the_first_cause_that_is_there(rt: HostRuntime) {
-    for rows in TABLES {
-        for row in rows {
-            assert!(rt; is_met(&rt, row), "{row:?}");
+    for (table, rows) in TABLES.iter().enumerate() {
+        for (at, row) in rows.iter().enumerate() {
+            assert!(rt; is_met(&rt, row), "table {table}, row {at}");
         }
     }
 }
@@ -600,8 +602,8 @@ const COUNTS: [Count; 9] = [
 
 #[test]
 fn a_mount_reads_each_log_disk_once(rt: HostRuntime) {
-    for &(changes, failing, want) in &COUNTS {
+    for (at, &(changes, failing, want)) in COUNTS.iter().enumerate() {
         let reads = reads_of(&rt, changes, failing);
-        assert_eq!(rt; reads, Some(want), "{changes:?}, {failing:?} fail");
+        assert!(rt; reads == Some(want), "row {at}");
     }
 }

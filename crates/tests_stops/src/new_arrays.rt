@@ -28,31 +28,38 @@ fn make(rt: &impl Abort, rack: &mut MemRack, force: bool) -> Result<(), FormatFa
     format(&setup, force, rack)
 }
 
+const NEVER: Planned = Planned::AtCall(999);
+
+// The same, and how many calls of the rack were made by then.
+fn made(rt: &impl Abort, rack: &mut MemRack, force: bool) -> (Result<(), FormatFault>, u32) {
+    let answer = make(rt, rack, force);
+    (answer, rack.calls())
+}
+
 #[test]
 fn a_new_array_holds_no_write_and_is_not_made_twice(rt: HostRuntime) {
-    let never = Planned::AtCall(999);
-    let mut rack = rack_of(&rt, 6, never);
-    assert_eq!(rt; make(&rt, &mut rack, false), Ok(()));
+    let mut rack = rack_of(&rt, 6, NEVER);
     // Five disks are attached, and two metas written and synced.
-    assert_eq!(rt; rack.calls(), 9);
+    assert!(rt; made(&rt, &mut rack, false) == (Ok(()), 9));
     let image = image_of(rt.alloc(), &rack).expect(&rt, "there is memory");
     assert!(rt; is_sound(&image, &[], 0));
     let again = Err(FormatFault::AlreadyFormatted { epoch: 1 });
-    assert_eq!(rt; make(&rt, &mut rack, false), again);
-    let calls = rack.calls();
-    assert_eq!(rt; make(&rt, &mut rack, true), Ok(()));
-    assert_eq!(rt; rack.calls(), calls.saturating_add(9));
+    let (refused, calls) = made(&rt, &mut rack, false);
+    assert!(rt; refused == again);
+    assert!(rt; made(&rt, &mut rack, true) == (Ok(()), calls.saturating_add(9)));
+}
 
-    let mut small = rack_of(&rt, 4, never);
+#[test]
+fn a_disk_that_is_not_there_or_fails_is_named(rt: HostRuntime) {
+    let mut small = rack_of(&rt, 4, NEVER);
     let missing = Err(FormatFault::Disk { disk: 4 });
-    assert_eq!(rt; make(&rt, &mut small, false), missing);
-    assert_eq!(rt; small.calls(), 0);
+    assert!(rt; made(&rt, &mut small, false) == (missing, 0));
 
     let failing: [DiskNo; 9] = [0, 1, 2, 3, 4, 0, 0, 1, 1];
     for at in 0..9u32 {
         let mut rack = rack_of(&rt, 5, Planned::AtCall(at));
         let disk = failing[at as usize];
         let lost = Err(FormatFault::Disk { disk });
-        assert_eq!(rt; make(&rt, &mut rack, false), lost, "at {at}");
+        assert!(rt; make(&rt, &mut rack, false) == lost, "at {at}");
     }
 }

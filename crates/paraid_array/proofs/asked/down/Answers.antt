@@ -11,7 +11,7 @@ use Rattle.paraid_array.proofs.AskedLemmas.{core_loses_then, down_begun, down_ha
 use Rattle.paraid_array.proofs.RefusalLemmas.{down_may_not, down_refused_same}
 use Rattle.paraid_core.proofs.AfterLemmas.{handed}
 use Rattle.paraid_shift.proofs.ServingLemmas.{leaves_array_then, none_away, two_array}
-use Rattle.paraid_array.proofs.ToldLemmas.{told_core}
+use Rattle.paraid_array.proofs.ToldLemmas.{extends_core, extends_cores}
 use Rattle.paraid_array.proofs.asked.down.Goals as goal
 
 pub returns-in_err-begin_down-in-Ok-clause-two : goal.returns-in_err-begin_down-in-Ok-clause-two
@@ -107,13 +107,13 @@ returns-in-Err-gear_below-clause-turn g c =
     (subst (λ (z : Meta). (s : PowerState) → IsShiftStateOf z s → IsDownRefused z.setup s c.in-Err-gear_below.fault) c.meta-2.ensures c.in-Err-gear_below.ensures.refused)
 
 pub returns-in_err-commit_staged-clause-told : goal.returns-in_err-commit_staged-clause-told
-returns-in_err-commit_staged-clause-told g c some = told_core g.R.Rack.told c.args.core.now c.commit_staged.new.core _ (c.in_err-commit_staged.ensures.loses (none_away g.R.Rack.slot c.args.core.now (subst (λ (z : Meta). z.out ≡ No) c.meta.ensures c.in_default.ensures.whole)) [] 0 [] 0 0) some
+returns-in_err-commit_staged-clause-told g c = extends_core g.R.Rack.told c.args.core.now c.commit_staged.new.core _ (c.in_err-commit_staged.ensures.loses (none_away g.R.Rack.slot c.args.core.now (subst (λ (z : Meta). z.out ≡ No) c.meta.ensures c.in_default.ensures.whole)) [] 0 [] 0 0)
 
 pub returns-in_err-begin_down-in-Ok-clause-told : goal.returns-in_err-begin_down-in-Ok-clause-told
-returns-in_err-begin_down-in-Ok-clause-told g c some = told_core g.R.Rack.told c.args.core.now c.commit_staged.new.core _ (c.in_ok-commit_staged.ensures.steps (none_away g.R.Rack.slot c.args.core.now (subst (λ (z : Meta). z.out ≡ No) c.meta.ensures c.in_default.ensures.whole)) [] 0 [] 0 0) (told_core g.R.Rack.told c.commit_staged.new.core c.begin_down.new.core _ (c.begin_down.ensures.moments [] 0) some)
+returns-in_err-begin_down-in-Ok-clause-told g c = extends_cores g.R.Rack.told c.args.core.now c.commit_staged.new.core c.begin_down.new.core (extends_core g.R.Rack.told c.args.core.now c.commit_staged.new.core _ (c.in_ok-commit_staged.ensures.steps (none_away g.R.Rack.slot c.args.core.now (subst (λ (z : Meta). z.out ≡ No) c.meta.ensures c.in_default.ensures.whole)) [] 0 [] 0 0)) (extends_core g.R.Rack.told c.commit_staged.new.core c.begin_down.new.core _ (c.begin_down.ensures.moments [] 0))
 
 pub returns-in_ok-begin_down-in-Ok-clause-told : goal.returns-in_ok-begin_down-in-Ok-clause-told
-returns-in_ok-begin_down-in-Ok-clause-told g c some = told_core g.R.Rack.told c.args.core.now c.commit_staged.new.core _ (c.in_ok-commit_staged.ensures.steps (none_away g.R.Rack.slot c.args.core.now (subst (λ (z : Meta). z.out ≡ No) c.meta.ensures c.in_default.ensures.whole)) [] 0 [] 0 0) (told_core g.R.Rack.told c.commit_staged.new.core c.begin_down.new.core _ (c.begin_down.ensures.moments [] 0) some)
+returns-in_ok-begin_down-in-Ok-clause-told g c = extends_cores g.R.Rack.told c.args.core.now c.commit_staged.new.core c.begin_down.new.core (extends_core g.R.Rack.told c.args.core.now c.commit_staged.new.core _ (c.in_ok-commit_staged.ensures.steps (none_away g.R.Rack.slot c.args.core.now (subst (λ (z : Meta). z.out ≡ No) c.meta.ensures c.in_default.ensures.whole)) [] 0 [] 0 0)) (extends_core g.R.Rack.told c.commit_staged.new.core c.begin_down.new.core _ (c.begin_down.ensures.moments [] 0))
 
 pub returns-in-Err-gear_below-clause-told : goal.returns-in-Err-gear_below-clause-told
-returns-in-Err-gear_below-clause-told g c some = told_core g.R.Rack.told c.args.core.now c.commit_staged.new.core _ (c.in_ok-commit_staged.ensures.steps (none_away g.R.Rack.slot c.args.core.now (subst (λ (z : Meta). z.out ≡ No) c.meta.ensures c.in_default.ensures.whole)) [] 0 [] 0 0) some
+returns-in-Err-gear_below-clause-told g c = extends_core g.R.Rack.told c.args.core.now c.commit_staged.new.core _ (c.in_ok-commit_staged.ensures.steps (none_away g.R.Rack.slot c.args.core.now (subst (λ (z : Meta). z.out ≡ No) c.meta.ensures c.in_default.ensures.whole)) [] 0 [] 0 0)

@@ -4,7 +4,7 @@ use Rattle.paraid_core.proofs.AfterLemmas.{handed}
 use Rattle.paraid_array.proofs.OutLemmas.{known_then}
 use Rattle.paraid_array.proofs.ServiceLemmas.{service_then}
 use Rattle.paraid_array.proofs.TurnLemmas.{commit_lost, commits, commits_none}
-use Rattle.paraid_array.proofs.ToldLemmas.{told_core}
+use Rattle.paraid_array.proofs.ToldLemmas.{extends_core}
 use Rattle.paraid_array.proofs.failing.commit_writes.Goals as goal
 
 pub returns-clause-service : goal.returns-clause-service
@@ -26,10 +26,10 @@ returns-in_err-commit-clause-loses g c =
     (commit_lost g.R.Rack.slot_count g.R.Rack.slot g.R.Rack.told g.met.R.Rack.agrees c.args.core.now c.commit.new.self c.commit.ensures.calls c.commit.ensures.whole c.commit.ensures.moments c.requires.service.serves _ c.in_err-commit.ensures.tells)
 
 pub returns-clause-told : goal.returns-clause-told
-returns-clause-told g c some = told_core g.R.Rack.told c.args.core.now c.commit.new.self _ (c.commit.ensures.calls) some
+returns-clause-told g c = extends_core g.R.Rack.told c.args.core.now c.commit.new.self _ c.commit.ensures.calls
 
 pub returns-in_err-commit-clause-told : goal.returns-in_err-commit-clause-told
-returns-in_err-commit-clause-told g c some = told_core g.R.Rack.told c.args.core.now c.commit.new.self _ (c.commit.ensures.calls) some
+returns-in_err-commit-clause-told g c = extends_core g.R.Rack.told c.args.core.now c.commit.new.self _ c.commit.ensures.calls
 
 pub returns-then-staged-eq0-clause-commits : goal.returns-then-staged-eq0-clause-commits
 returns-then-staged-eq0-clause-commits g c =

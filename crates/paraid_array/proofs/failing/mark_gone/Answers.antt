@@ -6,6 +6,7 @@ use Rattle.paraid_core.proofs.AfterLemmas.{handed}
 use Rattle.paraid_shift.proofs.ServingLemmas.{copies_kept}
 use Rattle.paraid_array.proofs.OutLemmas.{gone_marked, known_gone}
 use Rattle.paraid_array.proofs.ServiceLemmas.{large_marked, service_then}
+use Rattle.paraid_array.proofs.ToldLemmas.{extends_core, extends_store}
 use Rattle.paraid_array.proofs.TurnLemmas.{can_mark, commits_taken, taken_lost}
 use Rattle.paraid_array.proofs.failing.mark_gone.Goals as goal
 
@@ -62,3 +63,13 @@ returns-in_err-commit-clause-loses g c =
     handed _ c.from_residual.result _ c.from_residual.ensures.1
     (taken_lost g.R.Rack.slot_count g.R.Rack.slot g.R.Rack.told g.met.R.Rack.agrees c.args.core.now c.mark_out.new.self c.args.disk marks.store marks.meta marks.table marks.batch marks.copied
     c.commit.new.self c.commit.ensures.calls c.commit.ensures.whole c.commit.ensures.moments (marks.serves c.requires.service.serves) _ c.in_err-commit.ensures.tells)
+
+pub returns-clause-told : goal.returns-clause-told
+returns-clause-told g c =
+    let b = c.mark_out.new.self in
+    extends_store g.R.Rack.told c.args.core.now b c.commit.new.self c.mark_out.ensures.store (extends_core g.R.Rack.told b c.commit.new.self _ c.commit.ensures.calls)
+
+pub returns-in_err-commit-clause-told : goal.returns-in_err-commit-clause-told
+returns-in_err-commit-clause-told g c =
+    let b = c.mark_out.new.self in
+    extends_store g.R.Rack.told c.args.core.now b c.commit.new.self c.mark_out.ensures.store (extends_core g.R.Rack.told b c.commit.new.self _ c.commit.ensures.calls)

@@ -6,6 +6,7 @@ use Rattle.paraid_core.proofs.AfterLemmas.{handed}
 use Rattle.paraid_array.proofs.OutLemmas.{two_taken_then}
 use Rattle.paraid_array.proofs.TurnLemmas.{beside_turn, fail_beside, fail_missing, marked_halts, staged_halts, taken_turn}
 use Rattle.paraid_array.proofs.failing.take_out.Goals.{in-Some-named+else-out-disk, in_default-named}
+use Rattle.paraid_array.proofs.ToldLemmas.{extends_cores}
 use Rattle.paraid_array.proofs.failing.take_out.Goals as goal
 
 -- the one disk that is out, or none, is this one
@@ -77,10 +78,10 @@ returns-clause-turn g c =
     done.commits done.epoch (c.mark_gone.ensures.slots ∙ c.commit_writes.ensures.slots) (c.mark_gone.ensures.table ∙ c.commit_writes.ensures.table) done.service.copies_synced
 
 pub returns-clause-told : goal.returns-clause-told
-returns-clause-told g c some = c.commit_writes.ensures.told (c.mark_gone.ensures.told some)
+returns-clause-told g c = extends_cores g.R.Rack.told c.args.core.now c.commit_writes.new.core c.mark_gone.new.core c.commit_writes.ensures.told c.mark_gone.ensures.told
 
 pub returns-in_err-mark_gone-clause-told : goal.returns-in_err-mark_gone-clause-told
-returns-in_err-mark_gone-clause-told g c some = c.commit_writes.ensures.told (c.mark_gone.ensures.told some)
+returns-in_err-mark_gone-clause-told g c = extends_cores g.R.Rack.told c.args.core.now c.commit_writes.new.core c.mark_gone.new.core c.commit_writes.ensures.told c.mark_gone.ensures.told
 
 pub returns-in_err-commit_writes-clause-no_fall : goal.returns-in_err-commit_writes-clause-no_fall
 returns-in_err-commit_writes-clause-no_fall g c = c.commit_writes.ensures.spared.no_fall

@@ -7,8 +7,8 @@ use Rattle.paraid_shift.proofs.ServingLemmas.{leaves_array_then, two_array}
 use Rattle.paraid_array.specs.TickTurns.CoreComesBack.{lost}
 use Rattle.paraid_array.specs.TickTurns.CoreLosesComing.{finishing, untold}
 use Rattle.paraid_array.proofs.OutLemmas.{known_gone, leaves_back, leaves_out}
-use Rattle.paraid_array.proofs.RebuildTurnLemmas.{comes_by, kept_epoch, lost_epoch, rejoined_mid}
-use Rattle.paraid_array.proofs.ToldLemmas.{told_core}
+use Rattle.paraid_array.proofs.RebuildTurnLemmas.{comes_by, few_parked, kept_epoch, lost_epoch, rejoined_mid}
+use Rattle.paraid_array.proofs.ToldLemmas.{extends_core, extends_cores}
 use Rattle.paraid_array.proofs.rebuilding.come_back.Goals as goal
 
 pub returns-then-not-copied-clause-leaves : goal.returns-then-not-copied-clause-leaves
@@ -78,13 +78,22 @@ pub returns-in_err-back-clause-loses : goal.returns-in_err-back-clause-loses
 returns-in_err-back-clause-loses g c = handed _ c.from_residual-in_err-back.result _ c.from_residual-in_err-back.ensures.1 (untold c.in_err-back.ensures.alone)
 
 pub returns-in_err-copied-clause-told : goal.returns-in_err-copied-clause-told
-returns-in_err-copied-clause-told g c some = told_core g.R.Rack.told c.args.core.now c.finish.new.core _ (c.finish.ensures.moments [] 0) some
+returns-in_err-copied-clause-told g c = extends_core g.R.Rack.told c.args.core.now c.finish.new.core _ (c.finish.ensures.moments [] 0)
 
 pub returns-then-not-copied-clause-told : goal.returns-then-not-copied-clause-told
-returns-then-not-copied-clause-told g c some = told_core g.R.Rack.told c.args.core.now c.finish.new.core _ (c.finish.ensures.moments [] 0) some
+returns-then-not-copied-clause-told g c = extends_core g.R.Rack.told c.args.core.now c.finish.new.core _ (c.finish.ensures.moments [] 0)
 
 pub returns-clause-told : goal.returns-clause-told
-returns-clause-told g c some = told_core g.R.Rack.told c.args.core.now c.finish.new.core _ (c.finish.ensures.moments [] 0) (c.park_back.ensures.told some)
+returns-clause-told g c = extends_cores g.R.Rack.told c.args.core.now c.finish.new.core c.park_back.new.core (extends_core g.R.Rack.told c.args.core.now c.finish.new.core _ (c.finish.ensures.moments [] 0)) c.park_back.ensures.told
 
 pub returns-in_err-back-clause-told : goal.returns-in_err-back-clause-told
-returns-in_err-back-clause-told g c some = told_core g.R.Rack.told c.args.core.now c.finish.new.core _ (c.finish.ensures.moments [] 0) (c.park_back.ensures.told some)
+returns-in_err-back-clause-told g c = extends_cores g.R.Rack.told c.args.core.now c.finish.new.core c.park_back.new.core (extends_core g.R.Rack.told c.args.core.now c.finish.new.core _ (c.finish.ensures.moments [] 0)) c.park_back.ensures.told
+
+pub returns-clause-few : goal.returns-clause-few
+returns-clause-few g c =
+    let back = c.in_ok-back.ensures in
+    few_parked c.args.core.now.meta c.finish.new.core.meta c.park_back.new.core.meta c.args.disk _ c.in_ok-copied.ensures.few (λ is. back.same (ap Ok is)) (λ is. back.marked (ap Ok is))
+
+pub returns-then-not-copied-clause-away : goal.returns-then-not-copied-clause-away
+returns-then-not-copied-clause-away g c is =
+    c.in_ok-copied.ensures.away (ap Ok c.if-not-copied.true)

@@ -5,7 +5,7 @@ use Rattle.paraid_txn.specs.Stores.{store_rack}
 use Rattle.paraid_core.proofs.AfterLemmas.{handed}
 use Rattle.paraid_array.proofs.OutLemmas.{known_fresh, known_gone, leaves_out}
 use Rattle.paraid_array.proofs.RebuildTurnLemmas.{part_halts, rebuild_gone, rebuild_moved}
-use Rattle.paraid_array.proofs.ToldLemmas.{told_core}
+use Rattle.paraid_array.proofs.ToldLemmas.{extends_core}
 use Rattle.paraid_array.proofs.rebuilding.move_units.Goals as goal
 
 pub returns-then-not-moved-clause-leaves : goal.returns-then-not-moved-clause-leaves
@@ -61,10 +61,10 @@ returns-in_err-moved-clause-halts g c =
     part_halts g.R.Rack.slot_count g.R.Rack.told a k setup p samples served energy at fit counts c.step.new.core c.args.disk rebuilt fresh 3 _ (omega arith) (c.in_err-moved.ensures.loses samples served energy p.history p.low))
 
 pub returns-clause-told : goal.returns-clause-told
-returns-clause-told g c some = told_core g.R.Rack.told c.args.core.now c.step.new.core _ (c.step.ensures.moments [] 0) some
+returns-clause-told g c = extends_core g.R.Rack.told c.args.core.now c.step.new.core _ (c.step.ensures.moments [] 0)
 
 pub returns-then-not-moved-clause-told : goal.returns-then-not-moved-clause-told
-returns-then-not-moved-clause-told g c some = told_core g.R.Rack.told c.args.core.now c.step.new.core _ (c.step.ensures.moments [] 0) some
+returns-then-not-moved-clause-told g c = extends_core g.R.Rack.told c.args.core.now c.step.new.core _ (c.step.ensures.moments [] 0)
 
 pub returns-in_err-moved-clause-told : goal.returns-in_err-moved-clause-told
-returns-in_err-moved-clause-told g c some = told_core g.R.Rack.told c.args.core.now c.step.new.core _ (c.step.ensures.moments [] 0) some
+returns-in_err-moved-clause-told g c = extends_core g.R.Rack.told c.args.core.now c.step.new.core _ (c.step.ensures.moments [] 0)

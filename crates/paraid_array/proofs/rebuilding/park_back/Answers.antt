@@ -7,7 +7,7 @@ use Rattle.paraid_core.proofs.AfterLemmas.{handed}
 use Rattle.paraid_event.specs.RebuildEnds.ParksBack.{fails, parks}
 use Rattle.paraid_array.proofs.OutLemmas.{known_gone, known_whole}
 use Rattle.paraid_array.proofs.RebuildTurnLemmas.{core_fails, core_parks, lost_marked, park_alone}
-use Rattle.paraid_array.proofs.ToldLemmas.{told_core}
+use Rattle.paraid_array.proofs.ToldLemmas.{extends_core}
 use Rattle.paraid_array.proofs.rebuilding.park_back.Goals as goal
 
 pub returns-then-not-parked-clause-known : goal.returns-then-not-parked-clause-known
@@ -51,10 +51,14 @@ returns-then-not-parked-clause-marked g c is =
     lost_marked c.args.core.now.meta c.park.new.self.meta c.args.disk c.in_ok-parked.ensures.meta c.requires.whole (c.in_ok-parked.ensures.gone (ap Ok c.if-not-parked.true))
 
 pub returns-clause-told : goal.returns-clause-told
-returns-clause-told g c some = told_core g.R.Rack.told c.args.core.now c.park.new.self _ (c.park.ensures.calls) some
+returns-clause-told g c = extends_core g.R.Rack.told c.args.core.now c.park.new.self _ c.park.ensures.calls
 
 pub returns-then-not-parked-clause-told : goal.returns-then-not-parked-clause-told
-returns-then-not-parked-clause-told g c some = told_core g.R.Rack.told c.args.core.now c.park.new.self _ (c.park.ensures.calls) some
+returns-then-not-parked-clause-told g c = extends_core g.R.Rack.told c.args.core.now c.park.new.self _ c.park.ensures.calls
 
 pub returns-in_err-parked-clause-told : goal.returns-in_err-parked-clause-told
-returns-in_err-parked-clause-told g c some = told_core g.R.Rack.told c.args.core.now c.park.new.self _ (c.park.ensures.calls) some
+returns-in_err-parked-clause-told g c = extends_core g.R.Rack.told c.args.core.now c.park.new.self _ c.park.ensures.calls
+
+pub returns-then-not-parked-clause-away : goal.returns-then-not-parked-clause-away
+returns-then-not-parked-clause-away g c is =
+    (c.in_ok-parked.ensures.failed (ap Ok c.if-not-parked.true)).absent

@@ -2,7 +2,7 @@ use Rattle.std.proofs.Common.{ap, inl, inr, Ok, []}
 use Rattle.paraid_record.specs.declared.meta.Meta.{Meta}
 use Rattle.paraid_core.proofs.AfterLemmas.{handed}
 use Rattle.paraid_array.proofs.TurnLemmas.{replaced_halts, replaced_turn, unreplaced_turn}
-use Rattle.paraid_array.proofs.ToldLemmas.{told_core}
+use Rattle.paraid_array.proofs.ToldLemmas.{extends_core}
 use Rattle.paraid_array.proofs.replacing.bring.Goals as goal
 
 pub returns-then-there-clause-turn : goal.returns-then-there-clause-turn
@@ -22,10 +22,10 @@ returns-in_err-there-clause-halts g c =
     (replaced_halts g.R.Rack.slot_count g.R.Rack.told c.args.core.now c.begin.new.core c.args.disk c.requires.disk c.requires.out _ c.in_err-there.ensures.loses)
 
 pub returns-clause-told : goal.returns-clause-told
-returns-clause-told g c some = told_core g.R.Rack.told c.args.core.now c.begin.new.core _ (c.begin.ensures.moments [] 0) some
+returns-clause-told g c = extends_core g.R.Rack.told c.args.core.now c.begin.new.core _ (c.begin.ensures.moments [] 0)
 
 pub returns-then-there-clause-told : goal.returns-then-there-clause-told
-returns-then-there-clause-told g c some = told_core g.R.Rack.told c.args.core.now c.begin.new.core _ (c.begin.ensures.moments [] 0) some
+returns-then-there-clause-told g c = extends_core g.R.Rack.told c.args.core.now c.begin.new.core _ (c.begin.ensures.moments [] 0)
 
 pub returns-in_err-there-clause-told : goal.returns-in_err-there-clause-told
-returns-in_err-there-clause-told g c some = told_core g.R.Rack.told c.args.core.now c.begin.new.core _ (c.begin.ensures.moments [] 0) some
+returns-in_err-there-clause-told g c = extends_core g.R.Rack.told c.args.core.now c.begin.new.core _ (c.begin.ensures.moments [] 0)

@@ -10,7 +10,7 @@ use Rattle.paraid_array.proofs.DecisionLemmas.{goes_down, goes_up, tells_down, u
 use Rattle.paraid_array.proofs.RefusalLemmas.{ease_of}
 use Rattle.paraid_array.proofs.OutLemmas.{known_whole}
 use Rattle.paraid_array.proofs.TickTurnLemmas.{down_halts, down_told, known_marked, shift_shown, stays_told, up_halts, up_told, worn_told}
-use Rattle.paraid_array.proofs.ToldLemmas.{told_core}
+use Rattle.paraid_array.proofs.ToldLemmas.{extends_core}
 use Rattle.paraid_array.proofs.shifts.decide.Goals as goal
 
 pub returns-in_ok-begin_up-in-Ok-clause-tells : goal.returns-in_ok-begin_up-in-Ok-clause-tells
@@ -133,13 +133,13 @@ returns-in-Err-gear_below-clause-turn g c k setup p samples served energy held a
     (subst (λ (z : Meta). IsDownRefused z.setup s c.in-Err-gear_below.fault) c.meta.ensures (c.in-Err-gear_below.ensures.refused s shown)) c.event_of.ensures.worn
 
 pub returns-in_err-begin_up-in-Ok-clause-told : goal.returns-in_err-begin_up-in-Ok-clause-told
-returns-in_err-begin_up-in-Ok-clause-told g c some = told_core g.R.Rack.told c.args.core.now c.begin_up.new.core _ (c.begin_up.ensures.moments [] 0) some
+returns-in_err-begin_up-in-Ok-clause-told g c = extends_core g.R.Rack.told c.args.core.now c.begin_up.new.core _ (c.begin_up.ensures.moments [] 0)
 
 pub returns-in_ok-begin_up-in-Ok-clause-told : goal.returns-in_ok-begin_up-in-Ok-clause-told
-returns-in_ok-begin_up-in-Ok-clause-told g c some = told_core g.R.Rack.told c.args.core.now c.begin_up.new.core _ (c.begin_up.ensures.moments [] 0) some
+returns-in_ok-begin_up-in-Ok-clause-told g c = extends_core g.R.Rack.told c.args.core.now c.begin_up.new.core _ (c.begin_up.ensures.moments [] 0)
 
 pub returns-in_err-begin_down-in-Ok-gear_below-clause-told : goal.returns-in_err-begin_down-in-Ok-gear_below-clause-told
-returns-in_err-begin_down-in-Ok-gear_below-clause-told g c some = told_core g.R.Rack.told c.args.core.now c.begin_down.new.core _ (c.begin_down.ensures.moments [] 0) some
+returns-in_err-begin_down-in-Ok-gear_below-clause-told g c = extends_core g.R.Rack.told c.args.core.now c.begin_down.new.core _ (c.begin_down.ensures.moments [] 0)
 
 pub returns-in_ok-begin_down-in-Ok-gear_below-clause-told : goal.returns-in_ok-begin_down-in-Ok-gear_below-clause-told
-returns-in_ok-begin_down-in-Ok-gear_below-clause-told g c some = told_core g.R.Rack.told c.args.core.now c.begin_down.new.core _ (c.begin_down.ensures.moments [] 0) some
+returns-in_ok-begin_down-in-Ok-gear_below-clause-told g c = extends_core g.R.Rack.told c.args.core.now c.begin_down.new.core _ (c.begin_down.ensures.moments [] 0)

@@ -7,7 +7,7 @@ use Rattle.paraid_shift.specs.Units.{TellsDone}
 use Rattle.paraid_shift.proofs.ServingLemmas.{leaves_array_then, none_away, two_array}
 use Rattle.paraid_array.proofs.OutLemmas.{known_gone, known_whole, steady_marked}
 use Rattle.paraid_array.proofs.TickTurnLemmas.{flip_halts, flipped_told, known_marked, lost_told, moved_gone, moved_shifts, moving_told, out_told, step_halts}
-use Rattle.paraid_array.proofs.ToldLemmas.{told_core, told_steps}
+use Rattle.paraid_array.proofs.ToldLemmas.{extends_core, extends_cores, extends_steps}
 use Rattle.paraid_array.proofs.shifts.move_on.Goals as goal
 
 pub is_done-requires-clause-shifts : goal.is_done-requires-clause-shifts
@@ -98,19 +98,19 @@ returns-in-Gone-2-clause-turn g c windows k setup p samples served energy held a
     c.step.new.core c.in_ok-moved.moved.units (moved.moves c.requires.whole) moved.serving.copies_synced (moved.steps (none_away g.R.Rack.slot a c.requires.whole)) c.in-Gone.disk moved.few (out_told c.out.result c.step.new.core.meta.out c.in-Gone.disk c.out.ensures c.in-Gone.is)
 
 pub returns-in_err-moved-clause-told : goal.returns-in_err-moved-clause-told
-returns-in_err-moved-clause-told g c some = told_core g.R.Rack.told c.args.core.now c.step.new.core _ (c.in_err-moved.ensures.loses (none_away g.R.Rack.slot c.args.core.now c.requires.whole) [] 0 [] 0 0) some
+returns-in_err-moved-clause-told g c = extends_core g.R.Rack.told c.args.core.now c.step.new.core _ (c.in_err-moved.ensures.loses (none_away g.R.Rack.slot c.args.core.now c.requires.whole) [] 0 [] 0 0)
 
 pub returns-in-Gone-clause-told : goal.returns-in-Gone-clause-told
-returns-in-Gone-clause-told g c some = told_steps g.R.Rack.slot_count g.R.Rack.told c.args.core.now c.step.new.core _ (c.in_ok-moved.ensures.steps (none_away g.R.Rack.slot c.args.core.now c.requires.whole)) some
+returns-in-Gone-clause-told g c = extends_steps g.R.Rack.told g.R.Rack.slot_count c.args.core.now c.step.new.core _ (c.in_ok-moved.ensures.steps (none_away g.R.Rack.slot c.args.core.now c.requires.whole))
 
 pub returns-in-Gone-2-clause-told : goal.returns-in-Gone-2-clause-told
-returns-in-Gone-2-clause-told g c some = told_steps g.R.Rack.slot_count g.R.Rack.told c.args.core.now c.step.new.core _ (c.in_ok-moved.ensures.steps (none_away g.R.Rack.slot c.args.core.now c.requires.whole)) some
+returns-in-Gone-2-clause-told g c = extends_steps g.R.Rack.told g.R.Rack.slot_count c.args.core.now c.step.new.core _ (c.in_ok-moved.ensures.steps (none_away g.R.Rack.slot c.args.core.now c.requires.whole))
 
 pub returns-then-not-is_done-clause-told : goal.returns-then-not-is_done-clause-told
-returns-then-not-is_done-clause-told g c some = told_steps g.R.Rack.slot_count g.R.Rack.told c.args.core.now c.step.new.core _ (c.in_ok-moved.ensures.steps (none_away g.R.Rack.slot c.args.core.now c.requires.whole)) some
+returns-then-not-is_done-clause-told g c = extends_steps g.R.Rack.told g.R.Rack.slot_count c.args.core.now c.step.new.core _ (c.in_ok-moved.ensures.steps (none_away g.R.Rack.slot c.args.core.now c.requires.whole))
 
 pub returns-in_err-flip-clause-told : goal.returns-in_err-flip-clause-told
-returns-in_err-flip-clause-told g c some = told_steps g.R.Rack.slot_count g.R.Rack.told c.args.core.now c.step.new.core _ (c.in_ok-moved.ensures.steps (none_away g.R.Rack.slot c.args.core.now c.requires.whole)) (told_core g.R.Rack.told c.step.new.core c.flip.new.core _ (c.flip.ensures.moments [] 0) some)
+returns-in_err-flip-clause-told g c = extends_cores g.R.Rack.told c.args.core.now c.step.new.core c.flip.new.core (extends_steps g.R.Rack.told g.R.Rack.slot_count c.args.core.now c.step.new.core _ (c.in_ok-moved.ensures.steps (none_away g.R.Rack.slot c.args.core.now c.requires.whole))) (extends_core g.R.Rack.told c.step.new.core c.flip.new.core _ (c.flip.ensures.moments [] 0))
 
 pub returns-clause-told : goal.returns-clause-told
-returns-clause-told g c some = told_steps g.R.Rack.slot_count g.R.Rack.told c.args.core.now c.step.new.core _ (c.in_ok-moved.ensures.steps (none_away g.R.Rack.slot c.args.core.now c.requires.whole)) (told_core g.R.Rack.told c.step.new.core c.flip.new.core _ (c.flip.ensures.moments [] 0) some)
+returns-clause-told g c = extends_cores g.R.Rack.told c.args.core.now c.step.new.core c.flip.new.core (extends_steps g.R.Rack.told g.R.Rack.slot_count c.args.core.now c.step.new.core _ (c.in_ok-moved.ensures.steps (none_away g.R.Rack.slot c.args.core.now c.requires.whole))) (extends_core g.R.Rack.told c.step.new.core c.flip.new.core _ (c.flip.ensures.moments [] 0))

@@ -1,4 +1,5 @@
 use Rattle.std.proofs.Common.{◌≡◌, ◌+◌, arith, ap, ◌∙◌, refl}
+use Rattle.paraid_serve.proofs.GrowsLemmas.{grows_none, grows_then, told_then}
 use Rattle.paraid_commands.specs.declared.tally.Tally.{Tally}
 use Rattle.paraid_commands.specs.Tally.{tally_with_answer, tally_with_event}
 use Rattle.paraid_commands.proofs.GenLemmas.{counted_more, counted_none}
@@ -8,7 +9,7 @@ use Rattle.paraid_commands.proofs.generate.answer_lines.Goals as goal
 pub events-init : goal.events-init
 events-init g c = rw c.new-tally.ensures (record {
   counted = λ t p s. counted_none _ _ _ p _ _ t s;
-  told = λ t. t;
+  told = grows_none _;
   slots = refl;
   setup = refl;
   halt = c.requires.halt;
@@ -23,9 +24,9 @@ events-preserved g c =
     let new : c.count_answer.new.self ≡ tally_with_answer (tally_with_event c.events.tally c.generate-event.result) c.answer_event-answered.result =
     c.count_answer.ensures ∙ ap (λ (t : Tally). tally_with_answer t c.answer_event-answered.result) c.count_event.ensures in
     record {
-      counted = λ t p s. counted_more (i.counted (e.told t) p s) c.generate-event.result c.answer_event-answered.result _ _ _ _ c.blocks-blocks.result c.count_answer.new.self i.slots i.setup
+      counted = λ t p s. counted_more (i.counted (told_then _ _ e.told t) p s) c.generate-event.result c.answer_event-answered.result _ _ _ _ c.blocks-blocks.result c.count_answer.new.self i.slots i.setup
           c.blocks-blocks.ensures.value c.generate-event.ensures.value new e.turn t;
-      told = λ t. i.told (e.told t);
+      told = grows_then _ _ _ i.told e.told;
       slots = e.slots ∙ i.slots;
       setup = e.setup ∙ i.setup;
       halt = e.halt;

@@ -1,9 +1,9 @@
-use Rattle.std.proofs.Common.{◌≡◌, ℕ, ◌+◌, ◌∙◌, ap, length, sym, true}
-use Rattle.paraid_record.specs.declared.meta.Meta.{Meta}
+use Rattle.std.proofs.Common.{◌≡◌, ◌+◌, ◌∙◌, ap, arith, length, refl, subst, sym, true}
 use Rattle.paraid_record.specs.declared.meta.Setup.{Setup}
 use Rattle.paraid_image.specs.Lost.{TellsLosses}
 use Rattle.paraid_image.specs.Out.{named_out}
 use Rattle.paraid_rack.specs.Told.{Ran}
+use Rattle.paraid_rack.specs.Trail.{now}
 use Rattle.paraid_txn.specs.Losses.{AreTwoDown}
 use Rattle.paraid_txn.specs.Stores.{named_of, store_rack}
 use Rattle.paraid_core.specs.Cores.{CoreStandsFor, IsCoreHeld, IsCoreHeldSinceCommit, core_down, core_rack}
@@ -15,8 +15,12 @@ use Rattle.paraid_core.proofs.LostMarkLemmas.{marks_then}
 use Rattle.paraid_core.proofs.OldNewLemmas.{whole_then_reads}
 use Rattle.paraid_core.proofs.OrderLemmas.{core_tells_then, transfer_bears}
 use Rattle.paraid_core.proofs.UnsyncedLemmas.{gone_lost}
-use Rattle.paraid_controller.proofs.CountLemmas.{was_down}
+use Rattle.paraid_controller.proofs.CheckLemmas.{counts_by, failed_one}
+use Rattle.paraid_controller.proofs.CountLemmas.{counts_all, counts_none, was_down}
+use Rattle.paraid_controller.specs.Checked.{CountsCommitted}
+use Rattle.paraid_scrub.specs.Cores.{core_view}
 use Rattle.paraid_scrub.specs.Counts.{no_faults}
+use Rattle.paraid_scrub.specs.declared.kind.CheckReport.{CheckReport}
 use Rattle.paraid_controller.proofs.counting.commit_and_count.Goals as goal
 
 pub returns-in_err-checked-clause-two : goal.returns-in_err-checked-clause-two
@@ -107,3 +111,25 @@ returns-clause-sound g c h lo t tells a some =
     let mid = c.commit.new.self in
     after_first (IsCoreHeld g.R.Rack.slot_count old h lo) (CoreStandsFor g.R.Rack.slot_count old h lo) (CoreStandsFor g.R.Rack.slot_count mid h (length h)) _ (c.in_ok-checked.checked.report ≡ no_faults) _ _ _
     (c.in_ok-commit.ensures.stands h lo) (c.in_ok-checked.ensures.since h (length h)) (λ u knows b is. c.in_ok-checked.ensures.zeros h (length h) u knows b is) t tells a some
+
+pub returns-in_err-checked-clause-no_fall : goal.returns-in_err-checked-clause-no_fall
+returns-in_err-checked-clause-no_fall g c d = omega (arith, c.commit.ensures.spared.no_fall d, c.check.ensures.spared.no_fall d)
+
+pub returns-clause-no_fall : goal.returns-clause-no_fall
+returns-clause-no_fall g c d = omega (arith, c.commit.ensures.spared.no_fall d, c.check.ensures.spared.no_fall d)
+
+pub returns-then-is_other-clause-counts : goal.returns-then-is_other-clause-counts
+returns-then-is_other-clause-counts g c =
+    let done = c.in_ok-commit.ensures in
+    subst (λ (r : CheckReport). CountsCommitted g.R.Rack.slot g.R.Rack.told c.args.core.now c.commit.new.self r) (sym c.nothing_counted.ensures)
+    (counts_none g.R.Rack.slot g.R.Rack.told c.args.core.now c.commit.new.self done.nothing c.commit.ensures.table done.marks c.commit.ensures.calls (λ same. c.if-is_other.ensures refl (c.out.ensures ∙ same ∙ sym c.out-out.ensures)))
+
+pub returns-clause-counts : goal.returns-clause-counts
+returns-clause-counts g c =
+    let done = c.in_ok-commit.ensures in
+    let kept = c.commit.new.self in
+    let new = c.check.new.core in
+    let checked = c.in_ok-checked.checked in
+    counts_all g.R.Rack.slot g.R.Rack.told c.args.core.now kept done.nothing c.commit.ensures.table done.marks c.commit.ensures.calls new checked.report c.commit.ensures.spared.no_fall c.check.ensures.reads
+    (λ t tells some bits. let it = c.in_ok-checked.ensures.counts t tells some bits in
+    counts_by (core_view kept (now t)) (g.R.Rack.slot (core_rack kept)) (g.R.Rack.slot (core_rack new)) checked.report checked.whole it.0 it.1 it.2 (λ part. failed_one g.R.Rack.slot kept new (c.in_ok-checked.ensures.ended part)))

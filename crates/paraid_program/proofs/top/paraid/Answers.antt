@@ -1,5 +1,7 @@
 use Rattle.std.proofs.Common.{◌≡◌, ap, ◌∙◌, Some}
 use Rattle.paraid_program.specs.declared.words.Task.TheVariants.{Format, Run, Status, Check, Gen}
+use Rattle.paraid_top.proofs.CompleteLemmas.{check_comes, gen_comes, run_comes, status_comes}
+use Rattle.paraid_program.proofs.CompleteLemmas.{format_comes}
 use Rattle.paraid_program.proofs.EndLemmas.{check_not_read, not_read}
 use Rattle.paraid_program.proofs.WordLemmas.{asks, does_it, nothing_asked}
 use Rattle.paraid_program.specs.Tasks.{TakesSource}
@@ -94,3 +96,26 @@ returns-in-Some-Check-clause-untouched g c none = absurd (none Check (asks _ _ c
 
 pub returns-in-Some-Check-clause-source : goal.returns-in-Some-Check-clause-source
 returns-in-Some-Check-clause-source g c three = absurd (check_not_read _ c.check.ensures.status three)
+
+pub returns-in-Some-Format-clause-complete : goal.returns-in-Some-Format-clause-complete
+returns-in-Some-Format-clause-complete g c = does_it _ _ c.read_task.ensures.exact _ (Format c.in-Some-Format.force) (format_is g (goal.at.returns-in-Some-Format-clause-complete g c).In-Some-Format)
+    (format_comes _ _ _ _ _ _ _ _ _ _ _ _ _ _ c.format.ensures.source c.format.ensures.sink c.in-Some-Format.force c.format.ensures.formats)
+
+pub returns-in-Some-Run-clause-complete : goal.returns-in-Some-Run-clause-complete
+returns-in-Some-Run-clause-complete g c = does_it _ _ c.read_task.ensures.exact _ Run (run_is g (goal.at.returns-in-Some-Run-clause-complete g c).In-Some-Run)
+    (λ h. run_comes h _ _ _ _ _ _ _ c.run.ensures.sink _ _ _ _ c.run.ensures.source c.run.ensures.run)
+
+pub returns-in-Some-Status-clause-complete : goal.returns-in-Some-Status-clause-complete
+returns-in-Some-Status-clause-complete g c = does_it _ _ c.read_task.ensures.exact _ Status (status_is g (goal.at.returns-in-Some-Status-clause-complete g c).In-Some-Status)
+    (λ h. status_comes h _ _ _ _ _ _ _ c.state.ensures.sink c.state.ensures.shows)
+
+pub returns-in-Some-Check-clause-complete : goal.returns-in-Some-Check-clause-complete
+returns-in-Some-Check-clause-complete g c = does_it _ _ c.read_task.ensures.exact _ Check (check_is g (goal.at.returns-in-Some-Check-clause-complete g c).In-Some-Check)
+    (λ h. check_comes h _ _ _ _ _ _ _ c.check.ensures.sink c.check.ensures.run)
+
+pub returns-in-Some-Gen-clause-complete : goal.returns-in-Some-Gen-clause-complete
+returns-in-Some-Gen-clause-complete g c = does_it _ _ c.read_task.ensures.exact _ (Gen c.in-Some-Gen.number c.in-Some-Gen.lines) (gen_is g (goal.at.returns-in-Some-Gen-clause-complete g c).In-Some-Gen)
+    (λ h. gen_comes h _ _ _ _ _ _ _ c.generate.ensures.sink _ _ c.generate.ensures.run)
+
+pub returns-in-None-clause-complete : goal.returns-in-None-clause-complete
+returns-in-None-clause-complete g c t asked = absurd (nothing_asked _ _ c.read_task.ensures.exact c.in-None.is t asked)

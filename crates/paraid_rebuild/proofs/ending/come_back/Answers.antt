@@ -14,7 +14,7 @@ use Rattle.paraid_core.specs.Units.{UnitsRebuilt}
 use Rattle.paraid_core.proofs.AfterLemmas.{handed}
 use Rattle.paraid_shift.specs.Serving.{RestsInShift}
 use Rattle.paraid_shift.proofs.ServingLemmas.{chain, chain_held, lowered, unsynced_still}
-use Rattle.paraid_rebuild.proofs.ReplacingLemmas.{all_there, alone_failed, back_well, marked_alone, marked_back, serving_again, two_marked}
+use Rattle.paraid_rebuild.proofs.ReplacingLemmas.{all_there, alone_away, alone_failed, back_well, marked_alone, marked_back, serving_again, two_marked}
 use Rattle.std.specs.Prelude.{◌<◌}
 use Rattle.paraid_base.specs.declared.state.Out.TheVariants.{Fresh}
 use Rattle.paraid_moves.specs.MoveMetas.{meta_with_out}
@@ -231,6 +231,16 @@ returns-then-is_gone-clause-failed g c is =
     let alone = (λ (d : ℕ) (is : named_out new.meta.out ≡ Some d). sym (c.in_ok-commit.ensures.alone c.args.disk d named is)) in
     subst (λ (z : _). HasRisen (g.R.Rack.slot (store_rack z) c.args.disk).faults (g.R.Rack.slot (store_rack new.store) c.args.disk).faults) marks.store
     (alone_failed (g.R.Rack.slot (store_rack b.store)) (g.R.Rack.slot (store_rack new.store)) b.meta new.meta c.args.disk (ap gone_out out) c.in_ok-commit.ensures.marks alone (c.is_gone.ensures.gone c.if-is_gone.true))
+
+pub returns-then-is_gone-clause-away : goal.returns-then-is_gone-clause-away
+returns-then-is_gone-clause-away g c is =
+    let b = c.rejoin.new.self in
+    let new = c.commit.new.self in
+    let marks = c.rejoin.ensures in
+    let out : b.meta.out ≡ No = ap (λ (m : Meta). m.out) marks.meta in
+    let named : named_of b.store ≡ Some c.args.disk = ap named_of marks.store ∙ c.requires.named in
+    let alone = (λ (d : ℕ) (is : named_out new.meta.out ≡ Some d). sym (c.in_ok-commit.ensures.alone c.args.disk d named is)) in
+    alone_away (g.R.Rack.slot (store_rack b.store)) (g.R.Rack.slot (store_rack new.store)) b.meta new.meta c.args.disk (ap gone_out out) c.in_ok-commit.ensures.marks alone (c.is_gone.ensures.gone c.if-is_gone.true)
 
 pub returns-clause-back : goal.returns-clause-back
 returns-clause-back g c is =

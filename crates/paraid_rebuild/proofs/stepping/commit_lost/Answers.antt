@@ -1,5 +1,5 @@
-use Rattle.std.specs.Prelude.{ℕ, ◌+◌, Option, Some}
-use Rattle.std.proofs.Common.{◌≡◌, ◌∙◌, sym, ap, subst, inl}
+use Rattle.std.specs.Prelude.{◌+◌, Some}
+use Rattle.std.proofs.Common.{◌≡◌, ◌∙◌, sym, ap, subst}
 use Rattle.paraid_base.specs.States.{gone_out}
 use Rattle.paraid_core.proofs.KindLemmas.{gone_named}
 use Rattle.paraid_image.specs.Out.{named_out, or_else}
@@ -7,11 +7,10 @@ use Rattle.paraid_record.specs.declared.meta.Meta.{Meta}
 use Rattle.paraid_txn.specs.Losses.{OnlyLosesSlots}
 use Rattle.paraid_txn.specs.Stores.{named_of, store_rack}
 use Rattle.paraid_core.specs.Cores.{CoreStandsFor, IsCoreHeldSinceCommit, core_down}
-use Rattle.paraid_core.specs.Steps.{IsNamedOrAbsent}
 use Rattle.paraid_core.proofs.AfterLemmas.{handed}
 use Rattle.paraid_shift.specs.Serving.{RestsInShift}
 use Rattle.paraid_shift.proofs.ServingLemmas.{chain, chain_held, lowered, marked_named, unsynced_still}
-use Rattle.paraid_rebuild.proofs.ReplacingLemmas.{gone_settled, gone_stays, serving_then, two_marked}
+use Rattle.paraid_rebuild.proofs.ReplacingLemmas.{away_marked, gone_settled, gone_stays, out_down, serving_then, two_marked}
 use Rattle.std.specs.Prelude.{◌<◌}
 use Rattle.paraid_base.specs.declared.state.Out.TheVariants.{Gone}
 use Rattle.paraid_rack.specs.Told.{Ran}
@@ -30,8 +29,7 @@ returns-in_err-commit-clause-moments g c h lo =
     let marks = c.mark_out.ensures in
     let setup : b.meta.setup ≡ a.meta.setup = ap (λ (m : Meta). m.setup) marks.meta in
     let out : named_out b.meta.out ≡ Some c.args.disk = ap (λ (m : Meta). named_out m.out) marks.meta in
-    let named : named_of b.store ≡ Some c.args.disk = ap named_of marks.store ∙ c.requires.named in
-    let away : IsNamedOrAbsent g.R.Rack.slot b = (λ x is. inl (named ∙ sym out ∙ is)) in
+    let away = away_marked g.R.Rack.slot a b c.args.disk marks.store (ap named_out c.requires.out) out c.requires.absent in
     chain_held g.R.Rack.slot_count g.R.Rack.told a b (ap (λ (z : _). g.R.Rack.slot_count (store_rack z)) marks.store) setup (ap named_of marks.store)
     (CoreStandsFor g.R.Rack.slot_count a h lo) (CoreStandsFor g.R.Rack.slot_count b h lo) h lo _ (marks.stands h lo) (c.commit.ensures.moments_since away h lo)
 
@@ -43,7 +41,6 @@ returns-in_err-commit-clause-spared g c =
     let marks = c.mark_out.ensures in
     let setup : b.meta.setup ≡ a.meta.setup = ap (λ (m : Meta). m.setup) marks.meta in
     let out : named_out b.meta.out ≡ Some c.args.disk = ap (λ (m : Meta). named_out m.out) marks.meta in
-    let named : named_of b.store ≡ Some c.args.disk = ap named_of marks.store ∙ c.requires.named in
     subst (λ (z : _). OnlyLosesSlots (g.R.Rack.slot (store_rack z)) (g.R.Rack.slot (store_rack new.store))) marks.store c.commit.ensures.spared
 
 pub returns-in_err-commit-clause-two : goal.returns-in_err-commit-clause-two
@@ -54,8 +51,7 @@ returns-in_err-commit-clause-two g c =
     let marks = c.mark_out.ensures in
     let setup : b.meta.setup ≡ a.meta.setup = ap (λ (m : Meta). m.setup) marks.meta in
     let out : named_out b.meta.out ≡ Some c.args.disk = ap (λ (m : Meta). named_out m.out) marks.meta in
-    let named : named_of b.store ≡ Some c.args.disk = ap named_of marks.store ∙ c.requires.named in
-    let down : core_down b ≡ core_down a = ap (λ (o : Option ℕ). or_else o (named_out b.meta.out)) named ∙ sym (ap (λ (o : Option ℕ). or_else o (named_out a.meta.out)) c.requires.named) in
+    let down : core_down b ≡ core_down a = ap (λ (z : _). or_else (named_of z) (named_out b.meta.out)) marks.store ∙ ap (or_else (named_of a.store)) (out ∙ sym (ap named_out c.requires.out)) in
     handed _ c.from_residual.result _ c.from_residual.ensures.1
     (two_marked g.R.Rack.slot a b new _ marks.store down c.in_err-commit.ensures.two)
 
@@ -67,8 +63,7 @@ returns-clause-moments g c h lo =
     let marks = c.mark_out.ensures in
     let setup : b.meta.setup ≡ a.meta.setup = ap (λ (m : Meta). m.setup) marks.meta in
     let out : named_out b.meta.out ≡ Some c.args.disk = ap (λ (m : Meta). named_out m.out) marks.meta in
-    let named : named_of b.store ≡ Some c.args.disk = ap named_of marks.store ∙ c.requires.named in
-    let away : IsNamedOrAbsent g.R.Rack.slot b = (λ x is. inl (named ∙ sym out ∙ is)) in
+    let away = away_marked g.R.Rack.slot a b c.args.disk marks.store (ap named_out c.requires.out) out c.requires.absent in
     chain_held g.R.Rack.slot_count g.R.Rack.told a b (ap (λ (z : _). g.R.Rack.slot_count (store_rack z)) marks.store) setup (ap named_of marks.store)
     (CoreStandsFor g.R.Rack.slot_count a h lo) (CoreStandsFor g.R.Rack.slot_count b h lo) h lo _ (marks.stands h lo) (c.commit.ensures.moments_since away h lo)
 
@@ -80,7 +75,6 @@ returns-clause-spared g c =
     let marks = c.mark_out.ensures in
     let setup : b.meta.setup ≡ a.meta.setup = ap (λ (m : Meta). m.setup) marks.meta in
     let out : named_out b.meta.out ≡ Some c.args.disk = ap (λ (m : Meta). named_out m.out) marks.meta in
-    let named : named_of b.store ≡ Some c.args.disk = ap named_of marks.store ∙ c.requires.named in
     subst (λ (z : _). OnlyLosesSlots (g.R.Rack.slot (store_rack z)) (g.R.Rack.slot (store_rack new.store))) marks.store c.commit.ensures.spared
 
 pub returns-clause-serving : goal.returns-clause-serving
@@ -91,7 +85,6 @@ returns-clause-serving g c =
     let marks = c.mark_out.ensures in
     let setup : b.meta.setup ≡ a.meta.setup = ap (λ (m : Meta). m.setup) marks.meta in
     let out : named_out b.meta.out ≡ Some c.args.disk = ap (λ (m : Meta). named_out m.out) marks.meta in
-    let named : named_of b.store ≡ Some c.args.disk = ap named_of marks.store ∙ c.requires.named in
     let done = c.in_ok-commit.ensures in
     serving_then g.R.Rack.slot_count g.R.Rack.slot a new c.requires.serving done.ready (done.serves (marks.serves c.requires.serving.serves))
     (done.unsynced (unsynced_still g.R.Rack.slot_count g.R.Rack.slot a b c.requires.serving setup (λ d is. ap (λ (m : Meta). gone_out m.out) marks.meta ∙ sym (ap named_out c.requires.out) ∙ gone_named a.meta.out d is) marks.store marks.copied)) (done.draft ∙ marks.draft) (done.copied ∙ marks.copied) (done.setup ∙ setup)
@@ -106,7 +99,6 @@ returns-clause-named g c =
     let marks = c.mark_out.ensures in
     let setup : b.meta.setup ≡ a.meta.setup = ap (λ (m : Meta). m.setup) marks.meta in
     let out : named_out b.meta.out ≡ Some c.args.disk = ap (λ (m : Meta). named_out m.out) marks.meta in
-    let named : named_of b.store ≡ Some c.args.disk = ap named_of marks.store ∙ c.requires.named in
     c.in_ok-commit.ensures.named ∙ out
 
 pub returns-clause-rests : goal.returns-clause-rests
@@ -117,8 +109,7 @@ returns-clause-rests g c h lo =
     let marks = c.mark_out.ensures in
     let setup : b.meta.setup ≡ a.meta.setup = ap (λ (m : Meta). m.setup) marks.meta in
     let out : named_out b.meta.out ≡ Some c.args.disk = ap (λ (m : Meta). named_out m.out) marks.meta in
-    let named : named_of b.store ≡ Some c.args.disk = ap named_of marks.store ∙ c.requires.named in
-    let away : IsNamedOrAbsent g.R.Rack.slot b = (λ x is. inl (named ∙ sym out ∙ is)) in
+    let away = away_marked g.R.Rack.slot a b c.args.disk marks.store (ap named_out c.requires.out) out c.requires.absent in
     chain g.R.Rack.slot_count g.R.Rack.told a b (ap (λ (z : _). g.R.Rack.slot_count (store_rack z)) marks.store) setup (ap named_of marks.store)
     (CoreStandsFor g.R.Rack.slot_count a h lo) (CoreStandsFor g.R.Rack.slot_count b h lo) (RestsInShift g.R.Rack.slot_count new h lo) h lo _ (marks.stands h lo) (lowered g.R.Rack.slot_count b new (IsCoreHeldSinceCommit g.R.Rack.slot_count b h lo) h lo _ _ (c.in_ok-commit.ensures.filled_since away h lo))
 
@@ -130,7 +121,6 @@ returns-clause-gone g c =
     let marks = c.mark_out.ensures in
     let setup : b.meta.setup ≡ a.meta.setup = ap (λ (m : Meta). m.setup) marks.meta in
     let out : named_out b.meta.out ≡ Some c.args.disk = ap (λ (m : Meta). named_out m.out) marks.meta in
-    let named : named_of b.store ≡ Some c.args.disk = ap named_of marks.store ∙ c.requires.named in
     gone_stays (record a.meta { epoch = a.meta.epoch + 1 }) (record b.meta { epoch = b.meta.epoch + 1 }) new.meta c.args.disk (ap (λ (m : Meta). record m { epoch = m.epoch + 1 }) marks.meta) c.in_ok-commit.ensures.meta
 
 pub returns-clause-event : goal.returns-clause-event
@@ -141,8 +131,7 @@ returns-clause-event g c samples served energy h lo =
     let marks = c.mark_out.ensures in
     let same : b.meta ≡ a.meta = marks.meta ∙ gone_settled a.meta c.args.disk c.requires.serving.ready.in_range c.requires.out in
     let gone : b.meta.out ≡ Gone c.args.disk = ap (λ (m : Meta). m.out) same ∙ c.requires.out in
-    let named : named_of b.store ≡ Some c.args.disk = ap named_of marks.store ∙ c.requires.named in
-    let away : IsNamedOrAbsent g.R.Rack.slot b = (λ x is. inl (named ∙ sym (ap named_out gone) ∙ is)) in
+    let away = away_marked g.R.Rack.slot a b c.args.disk marks.store (ap named_out c.requires.out) (ap named_out gone) c.requires.absent in
     let k = service_of g.R.Rack.slot_count a samples served energy in
     let j = service_of g.R.Rack.slot_count b samples served energy in
     let k_then = service_of g.R.Rack.slot_count new samples served energy in
@@ -166,9 +155,9 @@ returns-in_err-commit-clause-loses g c =
     let marks = c.mark_out.ensures in
     let same : b.meta ≡ a.meta = marks.meta ∙ gone_settled a.meta c.args.disk c.requires.serving.ready.in_range c.requires.out in
     let gone : b.meta.out ≡ Gone c.args.disk = ap (λ (m : Meta). m.out) same ∙ c.requires.out in
-    let named : named_of b.store ≡ Some c.args.disk = ap named_of marks.store ∙ c.requires.named in
-    let away : IsNamedOrAbsent g.R.Rack.slot b = (λ x is. inl (named ∙ sym (ap named_out gone) ∙ is)) in
-    let down : core_down b ≡ named_out b.meta.out = ap (λ (o : Option ℕ). or_else o (named_out b.meta.out)) named ∙ sym (ap named_out gone) in
+    let away = away_marked g.R.Rack.slot a b c.args.disk marks.store (ap named_out c.requires.out) (ap named_out gone) c.requires.absent in
+    let down : core_down b ≡ named_out b.meta.out = ap (λ (z : _). or_else (named_of z) (named_out b.meta.out)) marks.store ∙ ap (or_else (named_of a.store)) (ap (λ (m : Meta). named_out m.out) same)
+    ∙ out_down (named_of a.store) (named_out a.meta.out) c.args.disk c.requires.serving.ready.one (ap named_out c.requires.out) ∙ sym (ap named_out gone) in
     handed (LosesSteps g.R.Rack.slot_count g.R.Rack.told a new 1) c.from_residual.result _ c.from_residual.ensures.1
     (λ samples served energy h lo.
     let k = service_of g.R.Rack.slot_count a samples served energy in

@@ -23,6 +23,11 @@ returns-then-moved-clause-absent g c x is =
     let out = ap (λ (m : Meta). named_out m.out) (c.in_ok-moved.ensures.moved (ap Ok c.if-moved.true)) in
     inl (c.in_ok-moved.ensures.named ∙ sym out ∙ is)
 
+pub commit_lost-requires-clause-absent : goal.commit_lost-requires-clause-absent
+commit_lost-requires-clause-absent g c x is =
+    let out = ap (λ (m : Meta). named_out m.out) (c.in_ok-moved.ensures.gone (ap Ok c.if-moved.false)) in
+    inl (c.in_ok-moved.ensures.named ∙ sym out ∙ is)
+
 pub returns-then-moved-clause-rests : goal.returns-then-moved-clause-rests
 returns-then-moved-clause-rests g c =
     c.in_ok-moved.ensures.rests (ap Ok c.if-moved.true)

@@ -1,4 +1,4 @@
-use Rattle.std.specs.Prelude.{◌≡◌, ℕ, Option, Some, None}
+use Rattle.std.specs.Prelude.{◌≡◌, ℕ, ◌≤◌, Option, Some, None}
 use Rattle.std.proofs.Common.{ap, arith, inl, inr, refl, subst, sym, ◌∙◌}
 use Rattle.paraid_rack.specs.declared.call.Power.{Power}
 use Rattle.paraid_rack.specs.Disks.{is_present}
@@ -10,6 +10,7 @@ use Rattle.paraid_txn.proofs.MeansLemmas.{absent_power}
 use Rattle.paraid_recover.proofs.ShownLemmas.{shown}
 use Rattle.paraid_image.specs.Sides.{LogState}
 use Rattle.paraid_txn.specs.Resume.{log_state}
+use Rattle.paraid_dirty.specs.Table.{is_dirty}
 use Rattle.paraid_txn.specs.Losses.{AreGoneSince, AreTwoDownBeside, IsOutOfCommit}
 use Rattle.paraid_txn.specs.Stores.{store_out, store_rack}
 use Rattle.paraid_recover.specs.HeldMoments.{Recovers, RecoversHeld}
@@ -19,6 +20,7 @@ use Rattle.paraid_recover.proofs.EndsLemmas.{ends_resumed}
 use Rattle.paraid_recover.proofs.FitLemmas.{fit_stays, two_named, two_sooner}
 use Rattle.paraid_recover.proofs.GoneLemmas.{gone_beside, gone_sooner, none_comes, out_named_twice}
 use Rattle.paraid_recover.proofs.KeepsDirtyLemmas.{keeps_dirty}
+use Rattle.paraid_recover.proofs.MapServedLemmas.{loss_setup, map_served, map_sooner}
 use Rattle.paraid_recover.proofs.MarkMomentLemmas.{mark_later}
 use Rattle.paraid_recover.proofs.MountCallsLemmas.{mount_then, resume_calls}
 use Rattle.paraid_recover.specs.StandingMetas.{StandsThroughMount}
@@ -100,7 +102,7 @@ returns-in-Ok-raise-clause-ends g c =
       (it.6.0, it.6.1, mark_later c.args.standing.now.meta it.6.0 old (g.R.Rack.told (store_rack c.in-Ok.store)) (g.R.Rack.told (store_rack c.raise.new.store)) c.in-Ok.ensures.calls it.6.2),
       λ slots. it.7 slots x s old refl (resumed g at slots),
       λ slots.
-          shown slots x s it.0 c.raise.new.table (store_out g.R.Rack.slot c.in-Ok.store) old (g.R.Rack.told (store_rack c.in-Ok.store)) (g.R.Rack.told (store_rack c.raise.new.store)) (resumed g at slots)
+          shown slots x s it.0 c.raise.new.table (store_out g.R.Rack.slot c.in-Ok.store) (g.R.Rack.slot (store_rack c.raise.new.store)) old (g.R.Rack.told (store_rack c.in-Ok.store)) (g.R.Rack.told (store_rack c.raise.new.store)) (resumed g at slots)
           (it.7 slots x s old refl (resumed g at slots)) it.3 (c.raise.ensures.rows ∙ c.requires.rows) c.in-Ok-raise.ensures.map (out_is g at) (stays g at it.0 it.4 it.3),
       it.8,
       λ slots.
@@ -204,3 +206,32 @@ returns-in-Err-raise-clause-two g c =
       subst (λ (r : _). AreTwoDownBeside out a (g.R.Rack.slot r) two) (sym c.close.ensures) (two_sooner k (named_out m.out) a b d two c.in-Ok.ensures.each c.in-Ok.ensures.powers.no_fall c.raise.ensures.later c.in-Err-raise.ensures.two),
       subst (λ (r : _). AreGoneSince out a (g.R.Rack.slot r) two) (sym c.close.ensures) (gone_sooner k (named_out m.out) a b d (none_comes a b c.in-Ok.ensures.powers) c.raise.ensures.absent two c.in-Err-raise.ensures.gone),
     )
+
+-- no count falls
+pub returns-in-Ok-raise-clause-later : goal.returns-in-Ok-raise-clause-later
+returns-in-Ok-raise-clause-later g c d = let a = c.in-Ok.ensures.powers.no_fall d in let b = c.raise.ensures.later d in omega arith
+
+pub returns-in-Err-raise-clause-refused_later : goal.returns-in-Err-raise-clause-refused_later
+returns-in-Err-raise-clause-refused_later g c d =
+    let a = c.in-Ok.ensures.powers.no_fall d in
+    let b = subst (λ (r : _). (g.R.Rack.slot (store_rack c.in-Ok.store) d).faults ≤ (g.R.Rack.slot r d).faults) (sym c.close.ensures) (c.raise.ensures.later d) in
+    omega arith
+
+-- the table has the bits of the map
+pub returns-in-Ok-raise-clause-map : goal.returns-in-Ok-raise-clause-map
+returns-in-Ok-raise-clause-map g c =
+    let meta = c.args.standing.now.meta in
+    let it = c.in-Ok-raise.ensures.ends in
+    let m = c.in-Ok-raise.meta in
+    let table = is_dirty c.raise.new.table in
+    let a = g.R.Rack.slot c.args.rack in
+    let b = g.R.Rack.slot (store_rack c.in-Ok.store) in
+    let e = g.R.Rack.slot (store_rack c.raise.new.store) in
+    let told = g.R.Rack.told (store_rack c.raise.new.store) in
+    let out_is : store_out g.R.Rack.slot c.in-Ok.store ≡ or_else (named_out meta.out) (first_absent (λ d. (b d).power) meta.setup.geometry.disks) =
+    ap (λ (o : Option ℕ). or_else o (first_absent (λ d. (b d).power) c.in-Ok.store.disks)) c.in-Ok.ensures.named
+    ∙ ap (λ (n : ℕ). or_else (named_out meta.out) (first_absent (λ d. (b d).power) n)) c.in-Ok.ensures.disks in
+    map_sooner a b e m table told c.in-Ok.ensures.powers
+    (map_served _ _ _ _ _ b e meta m (store_out g.R.Rack.slot c.in-Ok.store) table (g.R.Rack.told (store_rack c.in-Ok.store)) told c.in-Ok-raise.ensures.servable
+    (ap (λ (x : Meta). x.setup) it.2 ∙ loss_setup it.0 it.1 ∙ it.3) c.in-Ok-raise.ensures.map (g.met.R.Rack.agrees (store_rack c.raise.new.store)) out_is c.raise.ensures.absent
+    (λ d name. c.in-Ok-raise.ensures.servable.stays d (it.9.named_by ∙ it.4 d name)) c.in-Ok-raise.ensures.out c.raise.ensures.failed)

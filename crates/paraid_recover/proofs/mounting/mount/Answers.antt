@@ -1,5 +1,5 @@
 use Rattle.std.specs.Prelude.{ℕ}
-use Rattle.std.proofs.Common.{subst, sym}
+use Rattle.std.proofs.Common.{arith, subst, sym}
 use Rattle.paraid_mount.specs.Order.{IsNotRefused}
 use Rattle.paraid_txn.specs.Resume.{log_state}
 use Rattle.paraid_txn.specs.Stores.{store_rack}
@@ -7,6 +7,7 @@ use Rattle.paraid_dirty.specs.Table.{is_dirty}
 use Rattle.paraid_recover.specs.Mount.{HasSettled}
 use Rattle.paraid_recover.specs.Mount.IsCauseOfRefusal.{examined, two_down}
 use Rattle.paraid_recover.proofs.ExaminedLemmas.{fit_examined}
+use Rattle.paraid_recover.proofs.MapServedLemmas.{map_sooner}
 use Rattle.paraid_recover.proofs.MountCallsLemmas.{reads_then}
 use Rattle.paraid_recover.proofs.mounting.mount.Given.{Over}
 use Rattle.paraid_recover.proofs.mounting.mount.Goals as goal
@@ -66,6 +67,9 @@ returns-in-Ok-bring_up-clause-served g c =
       read = g.R.Rack.slot c.examine.new.rack;
       agrees = g.met.R.Rack.agrees c.examine.new.rack;
       examined = c.in-Ok-examine.ensures.ok;
+      later = λ d. (let a = c.examine.ensures.powers.no_fall d in let b = c.in-Ok-bring_up.ensures.later d in omega arith);
+      map = map_sooner (g.R.Rack.slot c.args.rack) (g.R.Rack.slot c.examine.new.rack) (g.R.Rack.slot (store_rack c.in-Ok-bring_up.mounted.store)) c.in-Ok-bring_up.mounted.meta (is_dirty c.in-Ok-bring_up.mounted.dirty)
+          (g.R.Rack.told (store_rack c.in-Ok-bring_up.mounted.store)) c.examine.ensures.powers c.in-Ok-bring_up.ensures.map;
     }
 
 pub returns-clause-refused : goal.returns-clause-refused
@@ -84,3 +88,6 @@ returns-clause-refused g c =
       metas = c.in-Err-bring_up.ensures.refused_metas;
     })
     (g.met.R.Rack.agrees c.examine.new.rack) c.in-Ok-examine.ensures.ok two.1 two.2 two.3
+
+pub returns-clause-refused_later : goal.returns-clause-refused_later
+returns-clause-refused_later g c d = let a = c.examine.ensures.powers.no_fall d in let b = c.in-Err-bring_up.ensures.refused_later d in omega arith

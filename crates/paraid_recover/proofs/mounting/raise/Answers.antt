@@ -16,6 +16,7 @@ use Rattle.paraid_recover.specs.Mounted.{IsServable, with_loss}
 use Rattle.paraid_dirty.specs.Table.{is_dirty}
 use Rattle.paraid_recover.specs.Powers.{IsPowerCall}
 use Rattle.paraid_recover.proofs.FarLemmas.{far_ran, map_on, turn_far}
+use Rattle.paraid_recover.proofs.MapServedLemmas.{named_or_absent}
 use Rattle.paraid_recover.proofs.MarkMomentLemmas.{mark_by_slots, mark_sooner}
 use Rattle.paraid_recover.proofs.GoneLemmas.{gone_beside, gone_sooner, none_comes, out_marked, stays_absent}
 use Rattle.paraid_recover.proofs.MountCallsLemmas.{mount_then, power_calls}
@@ -120,8 +121,20 @@ returns-clause-map g c =
     let told_0 = g.R.Rack.told (store_rack c.args.store.now) in
     let told_1 = g.R.Rack.told (store_rack c.settle.new.store) in
     let told_2 = g.R.Rack.told (store_rack c.power_disks.new.store) in
-    map_on c.args.meta.now.setup.geometry (store_out g.R.Rack.slot c.args.store.now) (is_dirty c.settle.new.table) told_0 told_1 told_2
+    let b = g.R.Rack.slot (store_rack c.settle.new.store) in
+    let d = g.R.Rack.slot (store_rack c.power_disks.new.store) in
+    map_on c.args.meta.now.setup.geometry (store_out g.R.Rack.slot c.args.store.now) b d (is_dirty c.settle.new.table) told_0 told_1 told_2
+    (stays_absent b d 0 (λ x. (c.power_disks.ensures.turned x).there))
     (far_ran (IsPowerCall c.in-Ok.standing) told_1 told_2 (turn_far c.in-Ok.standing) c.power_disks.ensures.calls) c.in-Ok.ensures.map
+
+-- a disk that is out at the end was named out, or is absent
+pub returns-clause-out : goal.returns-clause-out
+returns-clause-out g c d name =
+    let given = c.in-Ok.ensures.given in
+    let b = g.R.Rack.slot (store_rack c.settle.new.store) in
+    let e = g.R.Rack.slot (store_rack c.power_disks.new.store) in
+    named_or_absent c.args.meta.now c.in-Ok.standing given.0 b e given.1 c.in-Ok.ensures.fit.in_range (λ x is. (given.2 x is).0) (λ x. (c.power_disks.ensures.turned x).there) d
+    (ap (λ (x : Meta). named_out x.out) (sym c.with_loss.ensures) ∙ name)
 
 -- the calls are those of a mount
 allowed : (g : Over) (c : After-power_disks g) → OnlyMountCalls c.args.meta.now (g.R.Rack.told (store_rack c.args.store.now)) (g.R.Rack.told (store_rack c.power_disks.new.store))

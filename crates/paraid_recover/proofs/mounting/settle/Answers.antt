@@ -222,10 +222,13 @@ returns-in-Ok-clause-map g c =
     let n_0 = c.args.store.now.disks in
     let n_1 = c.read_map.new.store.disks in
     let n_2 = c.sync_all.new.self.disks in
-    map_on geometry out dirty told_0 told_2 told_3 (far_ran (IsInLog n_2) told_2 told_3 (log_far n_2) c.mark_out.ensures.calls)
-    (map_on geometry out dirty told_0 told_1 told_2 (far_ran (IsReadOrSync n_1) told_1 told_2 (quiet_far n_1) (quiet_syncs n_1 _ told_1 told_2 c.sync_all.ensures.calls))
-    (map_read geometry out c.in_default.field-0 dirty told_0 told_1 (far_ran (IsReadOrSync n_0) told_0 told_1 (quiet_far n_0) (quiet_reads n_0 told_0 told_1 c.in_default.ensures.read.calls))
-    (λ e is. (c.in_default.ensures.alone e is).1) c.in_default.ensures.shows))
+    let slot_1 = g.R.Rack.slot (store_rack c.read_map.new.store) in
+    let slot_2 = g.R.Rack.slot (store_rack c.sync_all.new.self) in
+    let slot_3 = g.R.Rack.slot (store_rack c.mark_out.new.store) in
+    map_on geometry out slot_2 slot_3 dirty told_0 told_2 told_3 (stays_absent slot_2 slot_3 0 (none_comes slot_2 slot_3 c.mark_out.ensures.powers)) (far_ran (IsInLog n_2) told_2 told_3 (log_far n_2) c.mark_out.ensures.calls)
+    (map_on geometry out slot_1 slot_2 dirty told_0 told_1 told_2 (stays_absent slot_1 slot_2 0 (none_comes slot_1 slot_2 c.sync_all.ensures.powers)) (far_ran (IsReadOrSync n_1) told_1 told_2 (quiet_far n_1) (quiet_syncs n_1 _ told_1 told_2 c.sync_all.ensures.calls))
+    (map_read geometry out c.in_default.field-0 slot_1 dirty told_0 told_1 (far_ran (IsReadOrSync n_0) told_0 told_1 (quiet_far n_0) (quiet_reads n_0 told_0 told_1 c.in_default.ensures.read.calls))
+    (λ e is. (c.in_default.ensures.alone e is).1) (λ e is. (c.in_default.ensures.read.left.failed e is).absent) c.in_default.ensures.shows))
 
 -- the reads of the map, and the syncs after them, are calls of a mount
 map_allowed : (g : Over) (c : After-read_map g) → OnlyMountCalls c.args.meta.now (g.R.Rack.told (store_rack c.args.store.now)) (g.R.Rack.told (store_rack c.read_map.new.store))

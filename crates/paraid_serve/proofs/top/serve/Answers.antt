@@ -1,5 +1,6 @@
 use Rattle.paraid_base.proofs.ToldLemmas.{GrowsByBytes-then}
-use Rattle.paraid_serve.proofs.HaltLemmas.{names_two}
+use Rattle.paraid_serve.proofs.GrowsLemmas.{grows_none}
+use Rattle.paraid_serve.proofs.HaltLemmas.{names_two, tells_wear}
 use Rattle.paraid_serve.proofs.TopLemmas.{done_run, halted_run, source_run, too_long_run, sink_run, no_mount_run}
 use Rattle.paraid_serve.proofs.top.serve.Goals as goal
 
@@ -33,3 +34,13 @@ returns-in-Err-Halt-clause-two g c five =
     names_two _ _ c.in-Err-Halt.halt _ _ _ _ _ (rw c.in-Err-Halt.field-0-is at c.in-Err-Halt.ensures.failed)
     (GrowsByBytes-then _ _ _ _ _ (rw (c.as_slice.ensures.value, c.mount_text.ensures) at c.in-Ok.ensures.grows) session.grows)
     (rw (c.as_slice-in-Err-Halt.ensures.value, c.reply.ensures.value, c.halt_status.ensures) at c.last-in-Err-Halt.ensures.ends) five
+
+pub returns-in-Err-Halt-clause-worn : goal.returns-in-Err-Halt-clause-worn
+returns-in-Err-Halt-clause-worn g c twelve =
+    let session = rw c.in-Err-Halt.field-0-is at c.in-Err-Halt.ensures.session in
+    tells_wear c.in-Err-Halt.halt _ _ _ _ _ (rw c.in-Err-Halt.field-0-is at c.in-Err-Halt.ensures.worn)
+    (GrowsByBytes-then _ _ _ _ _ (rw (c.as_slice.ensures.value, c.mount_text.ensures) at c.in-Ok.ensures.grows) session.grows)
+    (rw (c.as_slice-in-Err-Halt.ensures.value, c.reply.ensures.value, c.halt_status.ensures) at c.last-in-Err-Halt.ensures.ends) twelve
+
+pub returns-in_default-clause-told : goal.returns-in_default-clause-told
+returns-in_default-clause-told g c = grows_none _

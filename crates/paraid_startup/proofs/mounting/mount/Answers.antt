@@ -30,3 +30,6 @@ returns-in-Err-clause-refused_grows g c = refused_extends _ _ _ _ _ _ c.in-Err.e
 
 pub returns-in_default-clause-refused_grows : goal.returns-in_default-clause-refused_grows
 returns-in_default-clause-refused_grows g c = ran_extends _ _ _ (no_calls (g.R.Rack.told c.args.rack)).calls
+
+pub returns-in-Ok-mount-clause-later : goal.returns-in-Ok-mount-clause-later
+returns-in-Ok-mount-clause-later g c = c.in-Ok-mount.ensures.served.later

@@ -1,6 +1,7 @@
 use Rattle.paraid_txn.specs.Stores.{store_rack}
 use Rattle.paraid_session.proofs.FaultLemmas.{same_counts}
 use Rattle.paraid_controller.proofs.LossLemmas.{asked_lost}
+use Rattle.paraid_array.proofs.ToldLemmas.{extends_none}
 use Rattle.paraid_controller.proofs.array.Array.answer.Goals as goal
 
 pub returns-in-State-clause-later : goal.returns-in-State-clause-later
@@ -35,3 +36,12 @@ returns-in-Fail-clause-two g c = asked_lost _ c.args.asked _ c.args.pairs.now _ 
 
 pub returns-in-Replace-clause-two : goal.returns-in-Replace-clause-two
 returns-in-Replace-clause-two g c = asked_lost _ c.args.asked _ c.args.pairs.now _ _ _ c.in-Replace.is c.replace.ensures.two
+
+pub returns-in-State-clause-told : goal.returns-in-State-clause-told
+returns-in-State-clause-told g c = extends_none _
+
+pub returns-in-Energy-clause-told : goal.returns-in-Energy-clause-told
+returns-in-Energy-clause-told g c = extends_none _
+
+pub returns-in-Bad-clause-told : goal.returns-in-Bad-clause-told
+returns-in-Bad-clause-told g c = extends_none _

@@ -1,6 +1,7 @@
-use Rattle.std.proofs.Common.{◌≡◌, ◌^◌, ◌<◌, refl, subst}
+use Rattle.std.proofs.Common.{◌^◌, ◌<◌, subst}
+use Rattle.std.proofs.lemmas.Result.{IfErr-weaker, on_ok_weaker}
 use Rattle.paraid_base.specs.declared.event.Answer.TheVariants.{Halted}
-use Rattle.paraid_base.specs.declared.event.Event.TheVariants.{Bad, Flush}
+use Rattle.paraid_base.specs.declared.event.Event.TheVariants.{Flush}
 use Rattle.paraid_record.specs.declared.meta.Meta.{Meta}
 use Rattle.paraid_controller.proofs.CheckLemmas.{flushed_all}
 use Rattle.paraid_controller.proofs.StandLemmas.{none_ended, over_slots}
@@ -11,16 +12,16 @@ check_there-requires g c =
     let fit = subst (λ (m : Meta). (m.epoch < 2 ^ 62) × (m.writes < 2 ^ 62)) c.meta.ensures c.in_default.ensures.fit in
     record { going = none_ended c.args.self.now.ended c.requires.going; epoch = fit.0; writes = fit.1 }
 
-pub returns-in-Ok-clause-turn : goal.returns-in-Ok-clause-turn
-returns-in-Ok-clause-turn g c p at =
+pub returns-clause-turn : goal.returns-clause-turn
+returns-clause-turn g c =
     let a = c.args.self.now in
     let going = none_ended a.ended c.requires.going in
-    flushed_all g.R.Rack.slot_count g.R.Rack.told a going c.check_there.new.self (a.serving going).same_slots c.in-Ok.ensures.turn p at
+    on_ok_weaker c.check_there.result (λ turn p at. flushed_all g.R.Rack.slot_count g.R.Rack.told a going c.check_there.new.self (a.serving going).same_slots turn p at) c.check_there.ensures.turn
 
-pub returns-in-Err-clause-ended : goal.returns-in-Err-clause-ended
-returns-in-Err-clause-ended g c p at =
+pub returns-clause-ended : goal.returns-clause-ended
+returns-clause-ended g c =
     let a = c.args.self.now in
-    over_slots g.R.Rack.slot_count g.R.Rack.told a c.check_there.new.self Flush (Halted c.in-Err.halt) (a.serving (none_ended a.ended c.requires.going)).same_slots c.in-Err.ensures.ended p at
+    IfErr-weaker c.check_there.result _ _ (λ halt turn p at. over_slots g.R.Rack.slot_count g.R.Rack.told a c.check_there.new.self Flush (Halted halt) (a.serving (none_ended a.ended c.requires.going)).same_slots turn p at) c.check_there.ensures.ended
 
 pub returns-in-Some-clause-two : goal.returns-in-Some-clause-two
 returns-in-Some-clause-two g c = c.wear_out-halt.ensures.two Flush

@@ -10,9 +10,11 @@ use Rattle.paraid_scrub.specs.Cores.{core_view}
 use Rattle.paraid_controller.proofs.CheckLemmas.{at_point, count_lost, count_on, counts_by, failed_one}
 use Rattle.paraid_controller.proofs.CoreLemmas.{serving_then}
 use Rattle.paraid_controller.proofs.StandLemmas.{end_by, told_before}
-use Rattle.paraid_controller.proofs.LossLemmas.{going_lost, two_lost}
+use Rattle.paraid_controller.proofs.LossLemmas.{going_lost, going_wear, two_lost}
 use Rattle.paraid_image.specs.Out.{named_out}
-use Rattle.paraid_txn.specs.Stores.{named_of}
+use Rattle.paraid_txn.specs.Stores.{named_of, store_rack}
+use Rattle.paraid_session.proofs.FaultLemmas.{no_fall_counts}
+use Rattle.paraid_array.proofs.ToldLemmas.{extends_core}
 use Rattle.paraid_controller.proofs.array.Array.check_kept.Goals as goal
 
 pub invariant_of-self : goal.invariant_of-self
@@ -23,6 +25,7 @@ invariant_of-self g c =
     record {
       serving = λ e. serving_then g.R.Rack.slot_count g.R.Rack.slot a.core c.check.new.core (lengths_of a.windows) a.setup a.slots false (a.serving e) done.marks done.setup done.slots done.ready done.serves
           (done.draft ∙ (a.serving e).serving.draft) all.copied done.unsynced done.named;
+      worn = going_wear c.check.new.core.meta c.args.self.now.ended c.requires.going;
     }
 
 pub returns-in-Ok-clause-turn : goal.returns-in-Ok-clause-turn
@@ -42,10 +45,10 @@ returns-in-Err-clause-ended g c =
     c.in-Err.two refl (ap (λ (m : Meta). Some (end_by (HaltTwo c.in-Err.two) m.gear)) c.meta.ensures) all.moments c.in-Err.ensures.tells
 
 pub returns-in-Ok-clause-told : goal.returns-in-Ok-clause-told
-returns-in-Ok-clause-told g c some = told_before (g.R.Rack.told c.args.self.now.core.store.rack) (g.R.Rack.told c.check.new.core.store.rack) _ c.check.ensures.calls some
+returns-in-Ok-clause-told g c = extends_core g.R.Rack.told c.args.self.now.core c.check.new.core _ c.check.ensures.calls
 
 pub returns-in-Err-clause-told : goal.returns-in-Err-clause-told
-returns-in-Err-clause-told g c some = told_before (g.R.Rack.told c.args.self.now.core.store.rack) (g.R.Rack.told c.check.new.core.store.rack) _ c.check.ensures.calls some
+returns-in-Err-clause-told g c = extends_core g.R.Rack.told c.args.self.now.core c.check.new.core _ c.check.ensures.calls
 
 pub returns-in-Ok-clause-two : goal.returns-in-Ok-clause-two
 returns-in-Ok-clause-two g c = going_lost _ _ _ _ c.args.self.now.ended c.requires.going
@@ -64,3 +67,9 @@ pub returns-in-Ok-clause-counts : goal.returns-in-Ok-clause-counts
 returns-in-Ok-clause-counts g c nothing t tells some bits =
     let it = c.in-Ok.ensures.counts t tells some bits in
     counts_by (core_view c.args.self.now.core (now t)) (g.R.Rack.slot (core_rack c.args.self.now.core)) (g.R.Rack.slot (core_rack c.check.new.core)) c.in-Ok.checked.report c.in-Ok.checked.whole it.0 it.1 it.2 (λ part. failed_one g.R.Rack.slot c.args.self.now.core c.check.new.core (c.in-Ok.ensures.ended part))
+
+pub returns-in-Ok-clause-later : goal.returns-in-Ok-clause-later
+returns-in-Ok-clause-later g c = no_fall_counts (g.R.Rack.slot (store_rack c.args.self.now.core.store)) (g.R.Rack.slot (store_rack c.check.new.core.store)) c.check.ensures.spared.no_fall
+
+pub returns-in-Err-clause-later : goal.returns-in-Err-clause-later
+returns-in-Err-clause-later g c = no_fall_counts (g.R.Rack.slot (store_rack c.args.self.now.core.store)) (g.R.Rack.slot (store_rack c.check.new.core.store)) c.check.ensures.spared.no_fall

@@ -6,10 +6,11 @@ use Rattle.paraid_shift.proofs.ServingLemmas.{copies_kept}
 use Rattle.paraid_controller.proofs.CoreLemmas.{serving_then, tells_by_down}
 use Rattle.paraid_controller.proofs.FlushLemmas.{flush_lost, flush_on}
 use Rattle.paraid_controller.proofs.StandLemmas.{end_by}
-use Rattle.paraid_controller.proofs.LossLemmas.{going_lost, two_lost}
+use Rattle.paraid_controller.proofs.LossLemmas.{going_lost, going_wear, two_lost}
 use Rattle.paraid_image.specs.Out.{named_out}
 use Rattle.paraid_txn.specs.Stores.{named_of, store_rack}
 use Rattle.paraid_session.proofs.FaultLemmas.{no_fall_counts}
+use Rattle.paraid_array.proofs.ToldLemmas.{extends_core}
 use Rattle.paraid_controller.proofs.array.Array.commit_all.Goals as goal
 
 pub invariant_of-self : goal.invariant_of-self
@@ -20,6 +21,7 @@ invariant_of-self g c =
     record {
       serving = λ e. serving_then g.R.Rack.slot_count g.R.Rack.slot a.core c.commit.new.self (lengths_of a.windows) a.setup a.slots true (a.serving e) done.marks done.setup c.commit.ensures.slots done.ready (done.serves (a.serving e).serving.serves)
           (all.draft ∙ (a.serving e).serving.draft) all.copied done.unsynced done.named;
+      worn = going_wear c.commit.new.self.meta c.args.self.now.ended c.requires.going;
     }
 
 pub returns-in-Ok-clause-turn : goal.returns-in-Ok-clause-turn
@@ -52,3 +54,9 @@ returns-in-Ok-clause-later g c = no_fall_counts (g.R.Rack.slot (store_rack c.arg
 
 pub returns-in-Err-clause-later : goal.returns-in-Err-clause-later
 returns-in-Err-clause-later g c = no_fall_counts (g.R.Rack.slot (store_rack c.args.self.now.core.store)) (g.R.Rack.slot (store_rack c.commit.new.self.store)) c.commit.ensures.spared.no_fall
+
+pub returns-in-Ok-clause-told : goal.returns-in-Ok-clause-told
+returns-in-Ok-clause-told g c = extends_core g.R.Rack.told c.args.self.now.core c.commit.new.self _ c.commit.ensures.calls
+
+pub returns-in-Err-clause-told : goal.returns-in-Err-clause-told
+returns-in-Err-clause-told g c = extends_core g.R.Rack.told c.args.self.now.core c.commit.new.self _ c.commit.ensures.calls

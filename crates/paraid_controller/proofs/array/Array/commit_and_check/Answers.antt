@@ -8,9 +8,11 @@ use Rattle.paraid_controller.proofs.CheckLemmas.{at_point}
 use Rattle.paraid_controller.proofs.CoreLemmas.{serving_then}
 use Rattle.paraid_controller.proofs.FlushLemmas.{flush_lost, flush_on}
 use Rattle.paraid_controller.proofs.StandLemmas.{end_by, told_before}
-use Rattle.paraid_controller.proofs.LossLemmas.{going_lost, two_lost}
+use Rattle.paraid_controller.proofs.LossLemmas.{going_lost, going_wear, two_lost}
 use Rattle.paraid_image.specs.Out.{named_out}
-use Rattle.paraid_txn.specs.Stores.{named_of}
+use Rattle.paraid_txn.specs.Stores.{named_of, store_rack}
+use Rattle.paraid_session.proofs.FaultLemmas.{no_fall_counts}
+use Rattle.paraid_array.proofs.ToldLemmas.{extends_core}
 use Rattle.paraid_controller.proofs.array.Array.commit_and_check.Goals as goal
 
 pub invariant_of-self : goal.invariant_of-self
@@ -21,6 +23,7 @@ invariant_of-self g c =
     record {
       serving = λ e. serving_then g.R.Rack.slot_count g.R.Rack.slot a.core c.commit_and_count.new.core (lengths_of a.windows) a.setup a.slots true (a.serving e) done.marks done.setup done.slots done.ready done.serves
           done.draft all.copied done.unsynced done.named;
+      worn = going_wear c.commit_and_count.new.core.meta c.args.self.now.ended c.requires.going;
     }
 
 pub returns-in-Ok-clause-turn : goal.returns-in-Ok-clause-turn
@@ -40,10 +43,10 @@ returns-in-Err-clause-ended g c =
     c.in-Err.two refl (ap (λ (m : Meta). Some (end_by (HaltTwo c.in-Err.two) m.gear)) c.meta.ensures) all.moments c.in-Err.ensures.tells
 
 pub returns-in-Ok-clause-told : goal.returns-in-Ok-clause-told
-returns-in-Ok-clause-told g c some = told_before (g.R.Rack.told c.args.self.now.core.store.rack) (g.R.Rack.told c.commit_and_count.new.core.store.rack) _ c.commit_and_count.ensures.calls some
+returns-in-Ok-clause-told g c = extends_core g.R.Rack.told c.args.self.now.core c.commit_and_count.new.core _ c.commit_and_count.ensures.calls
 
 pub returns-in-Err-clause-told : goal.returns-in-Err-clause-told
-returns-in-Err-clause-told g c some = told_before (g.R.Rack.told c.args.self.now.core.store.rack) (g.R.Rack.told c.commit_and_count.new.core.store.rack) _ c.commit_and_count.ensures.calls some
+returns-in-Err-clause-told g c = extends_core g.R.Rack.told c.args.self.now.core c.commit_and_count.new.core _ c.commit_and_count.ensures.calls
 
 pub returns-in-Ok-clause-two : goal.returns-in-Ok-clause-two
 returns-in-Ok-clause-two g c = going_lost _ _ _ _ c.args.self.now.ended c.requires.going
@@ -57,3 +60,9 @@ pub returns-in-Ok-clause-sound : goal.returns-in-Ok-clause-sound
 returns-in-Ok-clause-sound g c some p at =
     at_point g.R.Rack.slot_count g.R.Rack.told c.args.self.now c.requires.going (c.in-Ok.report ≡ no_faults) (λ h lo t tells stands. c.in-Ok.ensures.sound h lo t tells stands some)
     (told_before (g.R.Rack.told c.args.self.now.core.store.rack) (g.R.Rack.told c.commit_and_count.new.core.store.rack) _ c.commit_and_count.ensures.calls some) p at
+
+pub returns-in-Ok-clause-later : goal.returns-in-Ok-clause-later
+returns-in-Ok-clause-later g c = no_fall_counts (g.R.Rack.slot (store_rack c.args.self.now.core.store)) (g.R.Rack.slot (store_rack c.commit_and_count.new.core.store)) c.commit_and_count.ensures.no_fall
+
+pub returns-in-Err-clause-later : goal.returns-in-Err-clause-later
+returns-in-Err-clause-later g c = no_fall_counts (g.R.Rack.slot (store_rack c.args.self.now.core.store)) (g.R.Rack.slot (store_rack c.commit_and_count.new.core.store)) c.commit_and_count.ensures.no_fall

@@ -9,14 +9,14 @@ use Rattle.paraid_machine.specs.Energy.{energy_after}
 use Rattle.paraid_serve.specs.Form.{is_answer_to}
 use Rattle.paraid_session.specs.Turn.{halt_told}
 use Rattle.paraid_trace.specs.Replies.{HasFewDisks}
-use Rattle.paraid_controller.specs.Arrays.{halt_of_end}
+use Rattle.paraid_controller.specs.Lasting.{halt_of_end}
 use Rattle.paraid_controller.proofs.AnswerLemmas.{asked_few}
 use Rattle.paraid_controller.proofs.AskedLemmas.{MayTellDown, down_going, down_kind, down_tells}
 use Rattle.paraid_controller.proofs.CoreLemmas.{known_of, serving_of}
 use Rattle.paraid_controller.proofs.EnergyLemmas.{asked_used}
 use Rattle.paraid_controller.proofs.StandLemmas.{end_by}
 use Rattle.paraid_controller.proofs.TurnLemmas.{core_halts, core_on}
-use Rattle.paraid_controller.proofs.LossLemmas.{going_lost, two_lost}
+use Rattle.paraid_controller.proofs.LossLemmas.{going_lost, going_wear, two_lost}
 use Rattle.paraid_image.specs.Out.{named_out}
 use Rattle.paraid_txn.specs.Stores.{named_of, store_rack}
 use Rattle.paraid_session.proofs.FaultLemmas.{no_fall_counts}
@@ -29,6 +29,7 @@ invariant_of-self g c =
     record {
       serving = λ e. let q = a.serving e in serving_of g.R.Rack.slot_count g.R.Rack.slot c.down.new.core (lengths_of a.windows) a.setup a.slots
           done.serving (done.known (known_of g.R.Rack.slot_count g.R.Rack.slot a.core (lengths_of a.windows) a.setup a.slots q)) q.windows (done.leaves.setup ∙ q.same_setup) (done.leaves.slots ∙ q.same_slots);
+      worn = going_wear c.down.new.core.meta c.args.self.now.ended c.requires.going;
     }
 
 pub returns-in-Ok-clause-turn : goal.returns-in-Ok-clause-turn

@@ -5,6 +5,7 @@ use Rattle.paraid_controller.proofs.LossLemmas.{going_lost}
 use Rattle.paraid_controller.proofs.StandLemmas.{none_ended}
 use Rattle.paraid_txn.specs.Stores.{store_rack}
 use Rattle.paraid_session.proofs.FaultLemmas.{same_counts}
+use Rattle.paraid_array.proofs.ToldLemmas.{extends_none}
 use Rattle.paraid_controller.proofs.array.Array.fail.Goals as goal
 
 pub returns-then-disk-disks-clause-turn : goal.returns-then-disk-disks-clause-turn
@@ -20,3 +21,6 @@ returns-then-disk-disks-clause-later g c = same_counts (g.R.Rack.slot (store_rac
 
 pub returns-in-Some-clause-two : goal.returns-in-Some-clause-two
 returns-in-Some-clause-two g c = c.wear_out.ensures.two _
+
+pub returns-then-disk-disks-clause-told : goal.returns-then-disk-disks-clause-told
+returns-then-disk-disks-clause-told g c = extends_none _

@@ -6,6 +6,7 @@ use Rattle.paraid_controller.proofs.StandLemmas.{none_ended}
 use Rattle.paraid_controller.proofs.LossLemmas.{going_lost}
 use Rattle.paraid_txn.specs.Stores.{store_rack}
 use Rattle.paraid_session.proofs.FaultLemmas.{same_counts}
+use Rattle.paraid_array.proofs.ToldLemmas.{extends_none}
 use Rattle.paraid_controller.proofs.array.Array.flush.Goals as goal
 
 pub returns-then-is_kept-clause-turn : goal.returns-then-is_kept-clause-turn
@@ -23,3 +24,6 @@ returns-then-is_kept-clause-later g c = same_counts (g.R.Rack.slot (store_rack c
 
 pub returns-in-Some-clause-two : goal.returns-in-Some-clause-two
 returns-in-Some-clause-two g c = c.wear_out-halt.ensures.two FlushEvent
+
+pub returns-then-is_kept-clause-told : goal.returns-then-is_kept-clause-told
+returns-then-is_kept-clause-told g c = extends_none _

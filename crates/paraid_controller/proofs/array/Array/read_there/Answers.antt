@@ -6,11 +6,12 @@ use Rattle.paraid_core.specs.Cleaning.{read_commits_first}
 use Rattle.paraid_shift.proofs.ServingLemmas.{copies_kept}
 use Rattle.paraid_controller.proofs.CoreLemmas.{serving_then}
 use Rattle.paraid_controller.proofs.RequestLemmas.{read_lost, read_on}
-use Rattle.paraid_controller.proofs.StandLemmas.{end_by, told_before}
-use Rattle.paraid_controller.proofs.LossLemmas.{going_lost, two_lost}
+use Rattle.paraid_controller.proofs.StandLemmas.{end_by}
+use Rattle.paraid_controller.proofs.LossLemmas.{going_lost, going_wear, two_lost}
 use Rattle.paraid_image.specs.Out.{named_out}
 use Rattle.paraid_txn.specs.Stores.{named_of, store_rack}
 use Rattle.paraid_session.proofs.FaultLemmas.{no_fall_counts}
+use Rattle.paraid_array.proofs.ToldLemmas.{extends_core}
 use Rattle.paraid_controller.proofs.array.Array.read_there.Goals as goal
 
 pub invariant_of-self : goal.invariant_of-self
@@ -20,6 +21,7 @@ invariant_of-self g c =
     record {
       serving = λ e. serving_then g.R.Rack.slot_count g.R.Rack.slot a.core c.read.new.self (lengths_of a.windows) a.setup a.slots (read_commits_first c.args.self.now.core.meta c.args.self.now.core.dirty c.args.self.now.core.batch c.args.block) (a.serving e) done.marks done.setup c.read.ensures.slots done.ready done.serves
           done.draft done.copied done.unsynced done.names;
+      worn = going_wear c.read.new.self.meta c.args.self.now.ended c.requires.going;
     }
 
 pub returns-in-Ok-clause-turn : goal.returns-in-Ok-clause-turn
@@ -39,10 +41,10 @@ returns-in-Err-clause-turn g c =
     c.in-Err.two refl (ap (λ (m : Meta). Some (end_by (HaltTwo c.in-Err.two) m.gear)) c.meta.ensures) all.moments c.in-Err.ensures.tells c.args.block c.requires.block
 
 pub returns-in-Ok-clause-told : goal.returns-in-Ok-clause-told
-returns-in-Ok-clause-told g c some = told_before (g.R.Rack.told c.args.self.now.core.store.rack) (g.R.Rack.told c.read.new.self.store.rack) _ c.read.ensures.calls some
+returns-in-Ok-clause-told g c = extends_core g.R.Rack.told c.args.self.now.core c.read.new.self _ c.read.ensures.calls
 
 pub returns-in-Err-clause-told : goal.returns-in-Err-clause-told
-returns-in-Err-clause-told g c some = told_before (g.R.Rack.told c.args.self.now.core.store.rack) (g.R.Rack.told c.read.new.self.store.rack) _ c.read.ensures.calls some
+returns-in-Err-clause-told g c = extends_core g.R.Rack.told c.args.self.now.core c.read.new.self _ c.read.ensures.calls
 
 pub returns-in-Ok-clause-two : goal.returns-in-Ok-clause-two
 returns-in-Ok-clause-two g c = going_lost _ _ _ _ c.args.self.now.ended c.requires.going

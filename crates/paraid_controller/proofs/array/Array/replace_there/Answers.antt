@@ -9,13 +9,13 @@ use Rattle.paraid_machine.specs.Energy.{energy_of}
 use Rattle.paraid_serve.specs.Form.{is_answer_to}
 use Rattle.paraid_session.specs.Turn.{halt_told}
 use Rattle.paraid_trace.specs.Replies.{HasFewDisks}
-use Rattle.paraid_controller.specs.Arrays.{halt_of_end}
+use Rattle.paraid_controller.specs.Lasting.{halt_of_end}
 use Rattle.paraid_controller.proofs.AnswerLemmas.{replace_few, replace_going, replace_kind, replace_uses}
 use Rattle.paraid_controller.proofs.CoreLemmas.{known_of, serving_of}
 use Rattle.paraid_controller.proofs.EnergyLemmas.{uses_none}
 use Rattle.paraid_controller.proofs.StandLemmas.{end_by}
 use Rattle.paraid_controller.proofs.TurnLemmas.{core_halts, core_on}
-use Rattle.paraid_controller.proofs.LossLemmas.{going_lost, two_lost}
+use Rattle.paraid_controller.proofs.LossLemmas.{going_lost, going_wear, two_lost}
 use Rattle.paraid_image.specs.Out.{named_out}
 use Rattle.paraid_txn.specs.Stores.{named_of}
 use Rattle.paraid_controller.proofs.array.Array.replace_there.Goals as goal
@@ -32,6 +32,7 @@ invariant_of-self g c =
     record {
       serving = λ e. let q = a.serving e in serving_of g.R.Rack.slot_count g.R.Rack.slot c.replace.new.core (lengths_of a.windows) a.setup a.slots
           done.serving done.known q.windows (done.setup ∙ q.same_setup) (done.slots ∙ q.same_slots);
+      worn = going_wear c.replace.new.core.meta c.args.self.now.ended c.requires.going;
     }
 
 pub returns-in-Ok-clause-turn : goal.returns-in-Ok-clause-turn

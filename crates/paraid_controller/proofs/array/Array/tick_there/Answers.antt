@@ -18,8 +18,9 @@ use Rattle.paraid_controller.proofs.CountedLemmas.{known_counted, serving_counte
 use Rattle.paraid_controller.proofs.EnergyLemmas.{tick_uses}
 use Rattle.paraid_controller.proofs.StandLemmas.{end_by}
 use Rattle.paraid_controller.proofs.TickLemmas.{tick_halts, ticks_on}
-use Rattle.paraid_controller.proofs.LossLemmas.{going_lost, two_lost}
+use Rattle.paraid_controller.proofs.LossLemmas.{going_lost, going_wear, two_lost}
 use Rattle.paraid_session.proofs.FaultLemmas.{no_fall_counts}
+use Rattle.paraid_array.proofs.ToldLemmas.{extends_store}
 use Rattle.paraid_controller.proofs.array.Array.tick_there.Goals as goal
 
 -- what a tick tells
@@ -56,6 +57,7 @@ invariant_of-self g c =
       serving = λ e. let q = a.serving e in serving_of g.R.Rack.slot_count g.R.Rack.slot c.advance.new.core (lengths_of c.push.new.self) a.setup a.slots
           done.serving done.known (c.push.ensures.lengths ∙ q.windows) (done.leaves.setup ∙ ap (λ (m : Meta). m.setup) t.meta ∙ q.same_setup)
           (done.leaves.slots ∙ ap (λ (s : Store _ _). g.R.Rack.slot_count s.rack) t.store ∙ q.same_slots);
+      worn = going_wear c.advance.new.core.meta c.args.self.now.ended c.requires.going;
     }
 
 pub returns-in-Ok-clause-turn : goal.returns-in-Ok-clause-turn
@@ -102,3 +104,9 @@ pub returns-in-Err-clause-later : goal.returns-in-Err-clause-later
 returns-in-Err-clause-later g c =
     let new = g.R.Rack.slot (store_rack c.advance.new.core.store) in
     no_fall_counts (g.R.Rack.slot (store_rack c.args.self.now.core.store)) new (subst (λ (s : Store _ _). (d : ℕ) → (g.R.Rack.slot (store_rack s) d).faults ≤ (new d).faults) c.count_tick.ensures.store c.advance.ensures.no_fall)
+
+pub returns-in-Ok-clause-told : goal.returns-in-Ok-clause-told
+returns-in-Ok-clause-told g c = extends_store g.R.Rack.told c.args.self.now.core c.count_tick.new.self c.advance.new.core c.count_tick.ensures.store c.advance.ensures.told
+
+pub returns-in-Err-clause-told : goal.returns-in-Err-clause-told
+returns-in-Err-clause-told g c = extends_store g.R.Rack.told c.args.self.now.core c.count_tick.new.self c.advance.new.core c.count_tick.ensures.store c.advance.ensures.told

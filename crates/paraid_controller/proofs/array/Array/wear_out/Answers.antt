@@ -5,6 +5,7 @@ use Rattle.paraid_controller.proofs.LossLemmas.{worn_lost}
 use Rattle.paraid_controller.proofs.StandLemmas.{end_by, worn_on}
 use Rattle.paraid_txn.specs.Stores.{store_rack}
 use Rattle.paraid_session.proofs.FaultLemmas.{same_counts}
+use Rattle.paraid_array.proofs.ToldLemmas.{extends_none}
 use Rattle.paraid_controller.proofs.array.Array.wear_out.Goals as goal
 
 pub returns-clause-turn : goal.returns-clause-turn
@@ -17,3 +18,6 @@ returns-clause-two g c event = worn_lost _ event _ _ c.args.count
 
 pub returns-clause-later : goal.returns-clause-later
 returns-clause-later g c = same_counts (g.R.Rack.slot (store_rack c.args.self.now.core.store))
+
+pub returns-clause-told : goal.returns-clause-told
+returns-clause-told g c = extends_none _

@@ -8,6 +8,7 @@ use Rattle.paraid_controller.proofs.LossLemmas.{going_lost}
 use Rattle.paraid_controller.proofs.StandLemmas.{none_ended}
 use Rattle.paraid_txn.specs.Stores.{store_rack}
 use Rattle.paraid_session.proofs.FaultLemmas.{same_counts}
+use Rattle.paraid_array.proofs.ToldLemmas.{extends_none}
 use Rattle.paraid_controller.proofs.array.Array.write.Goals as goal
 
 pub returns-in-Some-missing-clause-turn : goal.returns-in-Some-missing-clause-turn
@@ -27,3 +28,6 @@ returns-in-Some-missing-clause-later g c = same_counts (g.R.Rack.slot (store_rac
 
 pub returns-in-Some-clause-two : goal.returns-in-Some-clause-two
 returns-in-Some-clause-two g c = c.wear_out.ensures.two _
+
+pub returns-in-Some-missing-clause-told : goal.returns-in-Some-missing-clause-told
+returns-in-Some-missing-clause-told g c = extends_none _

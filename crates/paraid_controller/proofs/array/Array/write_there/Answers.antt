@@ -7,10 +7,11 @@ use Rattle.paraid_shift.proofs.ServingLemmas.{copies_kept}
 use Rattle.paraid_controller.proofs.CoreLemmas.{serving_then}
 use Rattle.paraid_controller.proofs.RequestLemmas.{write_lost, write_on}
 use Rattle.paraid_controller.proofs.StandLemmas.{end_by}
-use Rattle.paraid_controller.proofs.LossLemmas.{going_lost, two_lost}
+use Rattle.paraid_controller.proofs.LossLemmas.{going_lost, going_wear, two_lost}
 use Rattle.paraid_image.specs.Out.{named_out}
 use Rattle.paraid_txn.specs.Stores.{named_of, store_rack}
 use Rattle.paraid_session.proofs.FaultLemmas.{no_fall_counts}
+use Rattle.paraid_array.proofs.ToldLemmas.{extends_core}
 use Rattle.paraid_controller.proofs.array.Array.write_there.Goals as goal
 
 pub invariant_of-self : goal.invariant_of-self
@@ -20,6 +21,7 @@ invariant_of-self g c =
     record {
       serving = λ e. serving_then g.R.Rack.slot_count g.R.Rack.slot a.core c.write_many.new.self (lengths_of a.windows) a.setup a.slots (commits_first c.args.self.now.core.batch (10 * c.args.pairs.now.count)) (a.serving e) done.marks done.setup c.write_many.ensures.slots done.ready done.serves
           done.draft done.copied done.unsynced done.names;
+      worn = going_wear c.write_many.new.self.meta c.args.self.now.ended c.requires.going;
     }
 
 pub returns-in-Ok-clause-turn : goal.returns-in-Ok-clause-turn
@@ -51,3 +53,9 @@ returns-in-Ok-clause-later g c = no_fall_counts (g.R.Rack.slot (store_rack c.arg
 
 pub returns-in-Err-clause-later : goal.returns-in-Err-clause-later
 returns-in-Err-clause-later g c = no_fall_counts (g.R.Rack.slot (store_rack c.args.self.now.core.store)) (g.R.Rack.slot (store_rack c.write_many.new.self.store)) c.write_many.ensures.spared.no_fall
+
+pub returns-in-Ok-clause-told : goal.returns-in-Ok-clause-told
+returns-in-Ok-clause-told g c = extends_core g.R.Rack.told c.args.self.now.core c.write_many.new.self _ c.write_many.ensures.calls
+
+pub returns-in-Err-clause-told : goal.returns-in-Err-clause-told
+returns-in-Err-clause-told g c = extends_core g.R.Rack.told c.args.self.now.core c.write_many.new.self _ c.write_many.ensures.calls

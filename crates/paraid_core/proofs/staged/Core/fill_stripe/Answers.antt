@@ -20,7 +20,6 @@ use Rattle.paraid_image.specs.Out.{named_out}
 use Rattle.paraid_image.specs.Lost.{TellsLosses}
 use Rattle.paraid_core.proofs.OrderLemmas.{lose_tells}
 use Rattle.paraid_core.proofs.staged.Core.fill_stripe.Goals as goal
-use Rattle.paraid_core.proofs.staged.Core.fill_stripe.Goals.{After-from_residual, In_ok-done}
 
 pub returns-in_err-done-clause-spared : goal.returns-in_err-done-clause-spared
 returns-in_err-done-clause-spared g c =

@@ -26,7 +26,7 @@ use Rattle.paraid_core.proofs.AfterLemmas.{handed}
 use Rattle.paraid_core.proofs.staged.Core.park.Given.{Over}
 use Rattle.paraid_core.proofs.TurnLemmas.{only_turns}
 use Rattle.paraid_core.proofs.staged.Core.park.Goals as goal
-use Rattle.paraid_core.proofs.staged.Core.park.Goals.{In_default, In_ok-lose}
+use Rattle.paraid_core.proofs.staged.Core.park.Goals.{In_ok-lose}
 
 pub returns-in_default-clause-done : goal.returns-in_default-clause-done
 returns-in_default-clause-done g c is h lo =

@@ -29,7 +29,7 @@ use Rattle.paraid_core.proofs.staged.Core.spin_up.Given.{Over}
 use Rattle.paraid_core.proofs.TurnLemmas.{only_turns}
 use Rattle.paraid_core.proofs.UnsyncedLemmas.{gone_still}
 use Rattle.paraid_core.proofs.staged.Core.spin_up.Goals as goal
-use Rattle.paraid_core.proofs.staged.Core.spin_up.Goals.{In_default, In_ok-lose}
+use Rattle.paraid_core.proofs.staged.Core.spin_up.Goals.{In_ok-lose}
 
 pub returns-in_default-clause-done : goal.returns-in_default-clause-done
 returns-in_default-clause-done g c is h lo =

@@ -22,7 +22,7 @@ use Rattle.paraid_image.specs.Lost.{TellsLosses}
 use Rattle.paraid_core.proofs.AfterLemmas.{handed}
 use Rattle.paraid_core.proofs.staged.Core.write_member.Given.{Over}
 use Rattle.paraid_core.proofs.staged.Core.write_member.Goals as goal
-use Rattle.paraid_core.proofs.staged.Core.write_member.Goals.{In_default, In_ok-lose}
+use Rattle.paraid_core.proofs.staged.Core.write_member.Goals.{In_ok-lose}
 
 pub returns-in_default-clause-leaves : goal.returns-in_default-clause-leaves
 returns-in_default-clause-leaves g c =

@@ -19,7 +19,6 @@ use Rattle.paraid_rack.specs.Told.{Ran}
 use Rattle.paraid_image.specs.Out.{named_out}
 use Rattle.paraid_image.specs.Lost.{TellsLosses}
 use Rattle.paraid_core.proofs.staged.Core.write_members.Goals as goal
-use Rattle.paraid_core.proofs.staged.Core.write_members.Goals.{After-write_member, In_ok-done}
 
 pub loop-disk-init : goal.loop-disk-init
 loop-disk-init g c = record {
