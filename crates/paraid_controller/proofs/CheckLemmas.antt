@@ -21,9 +21,8 @@ use Rattle.paraid_core.specs.Lost.{CoreLosesDisk, CoreMarksLost}
 use Rattle.paraid_core.specs.declared.staged.Core.{Core}
 use Rattle.paraid_base.specs.Told.{HasRisen}
 use Rattle.paraid_image.specs.Spot.{View}
-use Rattle.paraid_scrub.specs.Counts.{AreCounts, all_members}
+use Rattle.paraid_scrub.specs.Counts.{AreCounts, CountsByView, all_members}
 use Rattle.paraid_scrub.specs.declared.kind.CheckReport.{CheckReport}
-use Rattle.paraid_controller.specs.Checked.{CountsByView}
 use Rattle.paraid_core.proofs.CommitLemmas.{both_of}
 use Rattle.paraid_core.proofs.KindLemmas.{calls_milder, data_transfer}
 use Rattle.paraid_core.proofs.WriteLemmas.{all_kept}

@@ -24,13 +24,13 @@ use Rattle.paraid_core.specs.Lost.{CoreMarksLost, CoreTellsLosses, MakesReads, M
 use Rattle.paraid_core.specs.Units.{IsRebuilding}
 use Rattle.paraid_core.proofs.OrderLemmas.{down_is_named}
 use Rattle.paraid_scrub.specs.Cores.{HasMapBits, core_view}
-use Rattle.paraid_scrub.specs.Counts.{AreCounts, CountBelow, IsOff, no_faults, part, total}
+use Rattle.paraid_scrub.specs.Counts.{AreCounts, CountBelow, CountsByView, IsOff, no_faults, part, total}
 use Rattle.paraid_scrub.specs.Counts.CountBelow.{none as none_counted}
 use Rattle.paraid_scrub.specs.declared.kind.CheckReport.{CheckReport}
 use Rattle.paraid_scrub.specs.declared.kind.Kind.TheVariants.{Row, Stripe, Fill, Unit as RebuiltUnit, Mirror}
 use Rattle.paraid_session.proofs.FaultLemmas.{rose_later}
 use Rattle.paraid_view.specs.Reads.{AreArrayReads}
-use Rattle.paraid_controller.specs.Checked.{CountsByView, CountsCommitted}
+use Rattle.paraid_controller.specs.Checked.{CountsCommitted}
 
 -- a disk that is being rebuilt after a call was so before it, and spins
 module _ (old new : ℕ → Slot) (m z : Meta) (marks : MarksLost old new m z) where

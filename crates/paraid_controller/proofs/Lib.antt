@@ -1,3 +1,4 @@
+pub mod ServedLemmas
 pub mod StandLemmas
 pub mod QuietLemmas
 pub mod CoreLemmas

@@ -1,5 +1,5 @@
 -- What contracts see of an array, and where it stands in a session.
-use Rattle.std.specs.Prelude.{◌≡◌, ℕ, ◌<◌, List, Option, Some, None}
+use Rattle.std.specs.Prelude.{◌≡◌, ℕ, ◌<◌, Bool, List, [], Option, Some, None}
 use Rattle.paraid_base.specs.declared.event.Answer.{Answer}
 use Rattle.paraid_base.specs.declared.event.Event.{Event}
 use Rattle.paraid_base.specs.declared.fault.Halt.{Halt}
@@ -10,6 +10,7 @@ use Rattle.paraid_gear.specs.ThreeWindows.{HoldLastSamples, sample_of}
 use Rattle.paraid_rack.specs.Slots.{Slot}
 use Rattle.paraid_rack.specs.Told.{Ran}
 use Rattle.paraid_rack.specs.Trail.{Trail}
+use Rattle.paraid_record.specs.declared.meta.Meta.{Meta}
 use Rattle.paraid_record.specs.declared.meta.Setup.{Setup}
 use Rattle.paraid_core.specs.declared.staged.Core.{Core}
 use Rattle.paraid_core.specs.Cores.{core_rack}
@@ -40,6 +41,18 @@ setup_of_array array = array.setup
 -- what is always told of the slots of its rack
 abbrev pub slot_of_array : {R : Type 0} {g : _} → (R → ℕ → Slot) → Array R g → ℕ → Slot
 slot_of_array slot array = slot (core_rack array.core)
+
+-- the meta under which it serves
+abbrev pub meta_of_array : {R : Type 0} {g : _} → Array R g → Meta
+meta_of_array array = array.core.meta
+
+-- its dirty cells
+abbrev pub dirty_of_array : {R : Type 0} {g : _} → Array R g → ℕ → ℕ → Bool
+dirty_of_array array = is_dirty array.core.dirty
+
+-- nothing is staged
+abbrev pub HasNothingStaged : {R : Type 0} {g : _} → Array R g → Type 0
+HasNothingStaged array = array.core.batch ≡ []
 
 -- the disk that is out
 abbrev pub down_of_array : {R : Type 0} {g : _} → Array R g → Option ℕ

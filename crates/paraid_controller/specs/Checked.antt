@@ -1,22 +1,14 @@
 -- What a check of an array counts, where its rack tells its record.
-use Rattle.std.specs.Prelude.{◌≡◌, ℕ, ◌⊎◌, [], Option, Some, IsSome}
-use Rattle.paraid_base.specs.Told.{HasRisen}
+use Rattle.std.specs.Prelude.{◌≡◌, ℕ, [], Option, Some, IsSome}
 use Rattle.paraid_rack.specs.Slots.{Slot}
 use Rattle.paraid_rack.specs.Trail.{Trail, now}
-use Rattle.paraid_image.specs.Spot.{View}
 use Rattle.paraid_core.specs.declared.staged.Core.{Core}
 use Rattle.paraid_core.specs.Calls.{MakesTransferCalls}
 use Rattle.paraid_core.specs.Cores.{core_rack}
 use Rattle.paraid_core.specs.Lost.{CoreMarksLost, MakesReads}
 use Rattle.paraid_scrub.specs.Cores.{HasMapBits, core_view}
-use Rattle.paraid_scrub.specs.Counts.{AreCounts, all_members}
+use Rattle.paraid_scrub.specs.Counts.{CountsByView}
 use Rattle.paraid_scrub.specs.declared.kind.CheckReport.{CheckReport}
-
--- These are the counts of a first part of all that is looked at by this view: of all of it, unless a disk has failed.
-pub record CountsByView (v : View) (old new : ℕ → Slot) (report : CheckReport) : Type 0 where
-  pub seen : ℕ
-  pub counts : AreCounts v seen report
-  pub all : (seen ≡ all_members v) ⊎ ((d : ℕ) × HasRisen (old d).faults (new d).faults)
 
 -- From a core with nothing staged, whose table has the bits of the map on its disks, the counts are those of its disks.
 abbrev pub CountsDisks : {R : Type 0} {g : _} → (R → ℕ → Slot) → (R → Option Trail) → Core R g → Core R g → CheckReport → Type 0

@@ -1,13 +1,12 @@
 //! A mount that gives an array in service.
-ghost use Rattle.std.specs.Prelude.{◌≡◌, ℕ, ◌≤◌, ◌⊎◌, None, Some, IfErr, IfOk};
-ghost use Rattle.paraid_rack.specs.Trail.{Trail, moments, now};
+ghost use Rattle.std.specs.Prelude.{◌≡◌, ℕ, ◌≤◌, None, Some, IfErr, IfOk};
+ghost use Rattle.paraid_rack.specs.Trail.{Trail, moments};
 ghost use Rattle.paraid_recover.specs.HeldMoments.{Extends};
 ghost use Rattle.paraid_recover.specs.Mount.{IsCauseOfRefusal};
-ghost use Rattle.paraid_scrub.specs.Cores.{HasMapBits, core_view};
+ghost use Rattle.paraid_service.specs.Begun.{IsMountedCore};
 ghost use Rattle.paraid_session.specs.Mount.{IsMountedFromEach, IsRefusedFromEach};
 ghost use Rattle.paraid_startup.specs.Refusals.{refusal_by_fault};
-ghost use Rattle.paraid_txn.specs.Losses.{IsLostNow};
-ghost use Rattle.paraid_controller.specs.Arrays.{ArrayStandsAt, core_of_array, halt_of_array, setup_of_array, slot_of_array, slots_of_array, told_of_array};
+ghost use Rattle.paraid_controller.specs.Arrays.{ArrayStandsAt, HasNothingStaged, core_of_array, halt_of_array, meta_of_array, setup_of_array, slot_of_array, slots_of_array, told_of_array};
 
 use crate::Array;
 use paraid_rack::Rack;
@@ -23,11 +22,11 @@ pub fn mount_array<R: Rack>(alloc: Global, rack: R) -> Result<Array<R>, MountRef
         ≤ (slot_of_array R.slot array d).faults) }
     ensures refused_later { IfErr result (λ refused. (d : ℕ) → (R.slot rack d).faults
         ≤ (R.slot refused.rack d).faults) }
-    // Held or not, its table has the bits of the map; or log disk 0 was lost in the mount, and it may
-    // have those of its map instead.
-    ensures bits { IfOk result (λ array. ((t : Trail) → told_of_array R.told array ≡ Some t
-        → HasMapBits (core_of_array array) (core_view (core_of_array array) (now t)))
-        ⊎ IsLostNow (R.slot rack) (slot_of_array R.slot array) 0) }
+    ensures nothing { IfOk result HasNothingStaged }
+    ensures setup { IfOk result (λ array. setup_of_array array ≡ (meta_of_array array).setup) }
+    // Held or not, it serves what stood on the disks.
+    ensures served { IfOk result (λ array. IsMountedCore R.slot R.told (R.slot_count rack)
+        (R.slot rack) (R.told rack) (core_of_array array)) }
     ensures grows { IfOk result (λ array. Extends (R.told rack) (told_of_array R.told array)) }
     // From each rack that held a history it stands at the first point of a session.
     ensures mounted { IfOk result (λ array. (began : ℕ)

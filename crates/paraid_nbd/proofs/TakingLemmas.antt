@@ -8,6 +8,9 @@ use Rattle.paraid_nbd.specs.declared.ending.NbdEnd.{NbdEnd}
 use Rattle.paraid_nbd.specs.declared.ending.NbdEnd.TheVariants.{Done, Aborted, Closed, Protocol, TooLong, Source, Sink, NoMemory}
 use Rattle.paraid_nbd.specs.Taking.{Takes, Lacks, IsCut}
 
+pub later_then : (a b c : ℕ) → a ≤ b → b ≤ c → a ≤ c
+later_then a b c l k = omega arith
+
 pub Takes-none : (o : Option (List ℕ)) (n : ℕ) → Takes o o n n []
 Takes-none o n = record { given = Gives-none o; count = omega arith }
 

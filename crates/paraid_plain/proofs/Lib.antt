@@ -7,3 +7,4 @@ pub mod TestLemmas
 pub mod BatchLemmas
 pub mod OutLemmas
 pub mod SoundLemmas
+pub mod PadLemmas

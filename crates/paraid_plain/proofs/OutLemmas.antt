@@ -3,6 +3,8 @@ use Rattle.std.specs.Prelude.{◌≡◌, ◌≢◌, ℕ, Bool, true, false, Opti
 use Rattle.std.proofs.Common.{sym, ◌∙◌, arith}
 use Rattle.std.proofs.lemmas.Bool.{false≢true}
 use Rattle.std.proofs.lemmas.Bool.Decides.{nat_tests}
+use Rattle.paraid_base.specs.declared.state.Out.{Out}
+use Rattle.paraid_base.specs.declared.state.Out.TheVariants.{No, Gone, Fresh}
 use Rattle.paraid_image.specs.Out.{is_out}
 
 is_out-itself : (o : Option ℕ) (d : ℕ) → o ≡ Some d → is_out o d ≡ true
@@ -12,3 +14,10 @@ is_out-itself (Some x) d e = let same : x ≡ d = cc in grind (arith, nat_tests)
 -- a disk that tests as not out is not
 pub not_out : (o : Option ℕ) (d : ℕ) (test : Bool) → test ≡ is_out o d → test ≡ false → o ≢ Some d
 not_out o d test told is e = false≢true (sym is ∙ told ∙ is_out-itself o d e)
+
+-- an out disk that is not being rebuilt is not
+pub no_fresh : (out : Out) (d rebuilt : ℕ) → out ≡ No → out ≡ Fresh d rebuilt → ⊥
+no_fresh out d rebuilt none fresh = cc
+
+pub gone_fresh : (out : Out) (gone d rebuilt : ℕ) → out ≡ Gone gone → out ≡ Fresh d rebuilt → ⊥
+gone_fresh out gone d rebuilt is fresh = cc

@@ -1,6 +1,6 @@
 -- What a test says of a fact that is more than what it tests.
-use Rattle.std.specs.Prelude.{◌≡◌, ◌↔◌, Bool, true, false, IsTrue}
-use Rattle.std.proofs.Common.{refl, sym, ◌∙◌}
+use Rattle.std.specs.Prelude.{◌≡◌, ◌↔◌, ◌+◌, ◌<◌, ◌≤◌, ℕ, Bool, true, false, IsTrue}
+use Rattle.std.proofs.Common.{below_more, refl, sym, ◌∙◌}
 use Rattle.std.proofs.lemmas.Bool.{false≢true}
 
 -- a part fails, so the whole is not so
@@ -17,3 +17,7 @@ accepted A a = (λ _. a, λ _. refl)
 -- the test is of the same fact in other words
 pub reworded : {P : Type 0} (A : Type 0) (test : Bool) → IsTrue test ↔ P → (P → A) → (A → P) → IsTrue test ↔ A
 reworded A test told to from = (λ t. to (told.0 t), λ a. told.1 (from a))
+
+-- one more from a number on
+pub more_between : (P : ℕ → Type 0) (a n : ℕ) → ((d : ℕ) → a ≤ d → d < n → P d) → P n → (d : ℕ) → a ≤ d → d < n + 1 → P d
+more_between P a n each one d low high = below_more (λ (e : ℕ). a ≤ e → P e) n (λ e below from. each e from below) (λ _. one) d high low

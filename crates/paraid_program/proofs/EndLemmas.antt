@@ -31,7 +31,7 @@ refused_not fault before after line status end zero = refused_so fault status en
 pub taken_all : (slots : ℕ) (old new first now : ℕ → Slot) (before after final : Option Trail) (left_before left written_before written before_lines after_lines : Option (List ℕ)) (status : ℕ)
     → MountsAndThen slots old new before after written_before written status (ServesLines slots first now final left_before left before_lines after_lines status) → status ≡ 0 → AtEnd left
 taken_all slots old new first now before after final left_before left written_before written before_lines after_lines status (refused fault back end) zero = absurd (refused_not fault written_before written _ status end zero)
-taken_all slots old new first now before after final left_before left written_before written before_lines after_lines status (mounted setup began middle begins served) zero = (served.headline.all (inl zero)).1
+taken_all slots old new first now before after final left_before left written_before written before_lines after_lines status (mounted array began middle stood begins served) zero = (served.headline.all (inl zero)).1
 
 pub not_read : (status : ℕ) → IsStatusOfGen status → status ≡ 3 → ⊥
 not_read status (inl z) three = omega (arith, z, three)

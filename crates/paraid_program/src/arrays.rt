@@ -1,4 +1,5 @@
 //! The arrays with gears that the program makes of a rack.
+ghost use Rattle.paraid_controller.specs.Arrays.{HasNothingStaged, dirty_of_array, meta_of_array, slot_of_array};
 ghost use Rattle.paraid_formatter.specs.Outcome.{Formats};
 
 use paraid_base::Halt;
@@ -8,7 +9,7 @@ use paraid_io::{Sink, Source};
 use paraid_rack::Rack;
 use paraid_recover::MountRefused;
 use paraid_scrub::CheckReport;
-use paraid_top::outside::{Checks, Ended, Outside};
+use paraid_top::outside::{Ended, Outside};
 use std::alloc::Global;
 
 /// What mounts an array with gears, by this allocator. After a mount it takes no memory.
@@ -26,11 +27,23 @@ impl Arrays {
 impl<R: Rack> Outside<R, Array<R>> for Arrays {
     ghost formats = { λ arrays. Formats };
 
+    ghost served = { λ array. record {
+      meta = meta_of_array array;
+      dirty = dirty_of_array array;
+      slot = slot_of_array R.slot array;
+    } };
+
+    ghost nothing = { HasNothingStaged };
+
     fn mount(&self, rack: R) -> Result<Array<R>, MountRefused<R>> {
         match mount_array(self.alloc, rack) {
             Ok(array) => Ok(array),
             Err(refused) => Err(refused),
         }
+    }
+
+    fn check(&self, array: &mut Array<R>) -> Result<CheckReport, Halt> {
+        array.check()
     }
 
     fn unmount(&self, array: Array<R>) -> R {
@@ -47,11 +60,5 @@ impl<R: Rack> Outside<R, Array<R>> for Arrays {
         let mut rack = rack;
         let status = format_array(self.alloc, force, source, sink, &mut rack);
         Ended { status, rack }
-    }
-}
-
-impl<R: Rack> Checks<Array<R>> for Arrays {
-    fn check(&self, array: &mut Array<R>) -> Result<CheckReport, Halt> {
-        array.check()
     }
 }

@@ -1,9 +1,11 @@
 -- What a check counts of an image.
-use Rattle.std.specs.Prelude.{◌≡◌, ◌≢◌, ℕ, ◌+◌, ◌-◌, ◌<◌, ◌≤◌, min, nat_le, Bool, true, false, if◌then◌else◌, Option, Some, None}
+use Rattle.std.specs.Prelude.{◌≡◌, ◌≢◌, ℕ, ◌+◌, ◌-◌, ◌<◌, ◌≤◌, ◌⊎◌, min, nat_le, Bool, true, false, if◌then◌else◌, Option, Some, None}
 use Rattle.paraid_base.specs.Regions.{hard_place_of, map_count}
 use Rattle.paraid_base.specs.Soft.{soft_disk, soft_stripe, stripe_count}
 use Rattle.paraid_base.specs.Sums.{xor_upto}
+use Rattle.paraid_base.specs.Told.{HasRisen}
 use Rattle.paraid_base.specs.Xor.{zero_block}
+use Rattle.paraid_rack.specs.Slots.{Slot}
 use Rattle.paraid_record.specs.declared.meta.Meta.{Meta}
 use Rattle.paraid_base.specs.States.{rebuilt_count}
 use Rattle.paraid_record.specs.Codes.{phase_to}
@@ -88,6 +90,12 @@ pub record AreCounts (v : View) (seen : ℕ) (report : CheckReport) : Type 0 whe
 -- the number of all of them
 abbrev pub all_members : View → ℕ
 all_members v = total v.meta v.out Row + total v.meta v.out Stripe + total v.meta v.out Fill + total v.meta v.out RebuiltUnit + total v.meta v.out Mirror
+
+-- These are the counts of a first part of all that is looked at by this view: of all of it, unless a disk has failed.
+pub record CountsByView (v : View) (old new : ℕ → Slot) (report : CheckReport) : Type 0 where
+  pub seen : ℕ
+  pub counts : AreCounts v seen report
+  pub all : (seen ≡ all_members v) ⊎ ((d : ℕ) × HasRisen (old d).faults (new d).faults)
 
 -- nothing is false
 abbrev pub no_faults : CheckReport

@@ -1,22 +1,10 @@
--- The calls of an array as events.
-use Rattle.std.specs.Prelude.{◌≡◌, ℕ, ◌<◌, false, Option, Some, None, Result, Ok, Err}
-use Rattle.paraid_base.specs.declared.event.Answer.{Answer}
-use Rattle.paraid_base.specs.declared.event.Answer.TheVariants.{Ticked, Halted}
-use Rattle.paraid_base.specs.declared.fault.Halt.{Halt}
-use Rattle.paraid_base.specs.declared.state.GearReport.{GearReport}
+-- What an array owes its caller over any rack.
+use Rattle.std.specs.Prelude.{◌≡◌, ℕ, ◌<◌, false, Option, Some}
 use Rattle.paraid_rack.specs.Disks.{is_present}
 use Rattle.paraid_rack.specs.Slots.{Slot}
 use Rattle.paraid_rack.specs.Told.{Ran}
 use Rattle.paraid_rack.specs.Trail.{Trail}
 use Rattle.paraid_record.specs.declared.meta.Setup.{Setup}
-
-abbrev pub answer_to_tick : Result GearReport Halt → Answer
-answer_to_tick (Ok report) = Ticked report
-answer_to_tick (Err halt) = Halted halt
-
-abbrev pub tick_halt_of : Result GearReport Halt → Option Halt
-tick_halt_of (Ok report) = None
-tick_halt_of (Err halt) = Some halt
 
 -- at most one of the array's disks is absent
 abbrev pub IsNotDouble : Setup → (ℕ → Slot) → Type 0

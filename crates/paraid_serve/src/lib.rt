@@ -2,9 +2,7 @@
 #![tactic(auto)]
 
 pub mod answer;
-pub mod calls;
 pub mod run;
-pub mod server;
 mod serves;
 mod stop;
 pub mod top;

@@ -10,7 +10,7 @@ use Rattle.paraid_dirty.specs.Table.{is_dirty}
 use Rattle.paraid_rack.specs.declared.call.Power.{Power}
 use Rattle.paraid_rack.specs.Disks.{Disks, IsPresent, is_present}
 use Rattle.paraid_rack.specs.Slots.{Agrees, Slot}
-use Rattle.paraid_rack.specs.Trail.{Trail, now}
+use Rattle.paraid_rack.specs.Trail.{Trail, moments, now}
 use Rattle.paraid_record.specs.declared.meta.Meta.{Meta}
 use Rattle.paraid_record.specs.declared.meta.Setup.{Setup}
 use Rattle.paraid_image.specs.Content.{view_by}
@@ -23,7 +23,6 @@ use Rattle.paraid_image.specs.Standing.{contents}
 use Rattle.paraid_core.specs.declared.staged.Core.{Core}
 use Rattle.paraid_core.specs.Begin.{IsPoweredBy}
 use Rattle.paraid_core.specs.CoreInvariant.{AreCopiesSynced, HoldsBetweenCalls, is_copied}
-use Rattle.paraid_recover.specs.Map.{HasMapAtEnd}
 use Rattle.paraid_recover.specs.Mount.{HasMounted}
 use Rattle.paraid_recover.specs.Mounted.{IsServable, IsStandingWithLoss, with_loss}
 use Rattle.paraid_recover.specs.RecoveryMark.{to_mark, to_mark_by}
@@ -38,7 +37,7 @@ use Rattle.paraid_event.specs.First.{BeginsService}
 use Rattle.paraid_event.specs.Service.{Service}
 use Rattle.paraid_event.specs.Stands.{StandsAt}
 use Rattle.paraid_event.proofs.FirstLemmas.{first_stands}
-use Rattle.paraid_service.specs.Begun.{StandsAtFirst}
+use Rattle.paraid_service.specs.Begun.{IsMountedCore, StandsAtFirst}
 use Rattle.paraid_service.proofs.SettledLemmas.{content_at_rest, settled_keeps}
 
 loss_setup : (m : Meta) (o : Option ℕ) → (with_loss m o).setup ≡ m.setup
@@ -216,12 +215,31 @@ module _ {R : Type 0} {g : _} (count : R → ℕ) (slot : R → ℕ → Slot) (t
       subst (λ (z : Store R g). IsStandingWithLoss (slot (store_rack z)) (named_of z) standing core.meta) (sym store_is)
       (subst (λ (n : Meta). IsStandingWithLoss (slot (store_rack store)) (named_of store) standing n) (sym meta_is) it)
 
-  pub begun_map : (old : ℕ → Slot) → HasMapAtEnd old (slot (store_rack store)) m (is_dirty table) (told (store_rack store))
-      → HasMapAtEnd old (slot (store_rack core.store)) core.meta (is_dirty core.dirty) (told (store_rack core.store))
-  begun_map old it =
-      subst (λ (z : Store R g). HasMapAtEnd old (slot (store_rack z)) core.meta (is_dirty core.dirty) (told (store_rack z))) (sym store_is)
-      (subst (λ (n : Meta). HasMapAtEnd old (slot (store_rack store)) n (is_dirty core.dirty) (told (store_rack store))) (sym meta_is)
-      (subst (λ (rows : List (List Bool)). HasMapAtEnd old (slot (store_rack store)) m (is_dirty rows) (told (store_rack store))) (sym table_is) it))
+  -- what was mounted is what the core serves
+  module _ (slots : ℕ) (old : ℕ → Slot) (before : Option Trail) where
+    abbrev Mounted : Store R g → Meta → List (List Bool) → Type 0
+    Mounted z n rows = (it : HasMounted slots old (slot (store_rack z)) (named_of z) n (is_dirty rows) before (told (store_rack z)))
+        × ((began : ℕ) → ((t : Trail) → before ≡ Some t → began ≡ moments t)
+        → IsMountedFromEach slots n.setup began (told (store_rack z)) (IsFirstPoint it.settled.standing (is_dirty rows) (told (store_rack z))))
+
+    moved : Mounted store m table → Mounted core.store core.meta core.dirty
+    moved it =
+        subst (λ (z : Store R g). Mounted z core.meta core.dirty) (sym store_is)
+        (subst (λ (n : Meta). Mounted store n core.dirty) (sym meta_is) (subst (λ (rows : List (List Bool)). Mounted store m rows) (sym table_is) it))
+
+    pub begun_mounted : count (store_rack store) ≡ slots → Servable store m table
+        → (it : HasMounted slots old (slot (store_rack store)) (named_of store) m (is_dirty table) before (told (store_rack store)))
+        → ((began : ℕ) → ((t : Trail) → before ≡ Some t → began ≡ moments t)
+        → IsMountedFromEach slots m.setup began (told (store_rack store)) (IsFirstPoint it.settled.standing (is_dirty table) (told (store_rack store))))
+        → IsMountedCore slot told slots old before core
+    begun_mounted same fit it session =
+        let both = moved (it, session) in
+        record {
+          servable = subst (λ (k : ℕ). IsServable k (slot (store_rack core.store)) (epoch_of core.store) (disks_of core.store) (named_of core.store) core.meta (length core.dirty))
+              (ap (λ (z : Store R g). count (store_rack z)) store_is ∙ same) (begun_servable fit);
+          mounted = both.0;
+          session = both.1;
+        }
 
   module _ (slots began : ℕ) (batch_is : core.batch ≡ []) where
     abbrev Stands : Store R g → Meta → List (List Bool) → Batch → Type 0

@@ -6,15 +6,13 @@ ghost use Rattle.paraid_core.specs.Cores.{CanCoreServe, IsCoreReady, batch_of, c
 ghost use Rattle.paraid_core.specs.Steps.{IsNamedOrAbsent};
 ghost use Rattle.paraid_core.specs.Units.{IsRebuilding};
 ghost use Rattle.paraid_gear.specs.ThreeWindows.{HoldLastSamples, lengths_of};
-ghost use Rattle.paraid_dirty.specs.Table.{is_dirty};
 ghost use Rattle.paraid_rack.specs.declared.call.Power.TheVariants.{Spinning};
 ghost use Rattle.paraid_rack.specs.Trail.{Trail, moments};
 ghost use Rattle.paraid_record.specs.Range.{IsInRange};
 ghost use Rattle.paraid_recover.specs.HeldMoments.{Extends};
-ghost use Rattle.paraid_recover.specs.Map.{HasMapAtEnd};
 ghost use Rattle.paraid_recover.specs.Mount.{IsCauseOfRefusal};
 ghost use Rattle.paraid_recover.specs.Mounted.{AreAllSynced};
-ghost use Rattle.paraid_service.specs.Begun.{StandsBegun};
+ghost use Rattle.paraid_service.specs.Begun.{IsMountedCore, StandsBegun};
 ghost use Rattle.paraid_session.specs.Mount.{IsMountedFromEach, IsRefusedFromEach};
 ghost use Rattle.paraid_shift.specs.Serving.{AreAllLarge, IsCoreServing};
 ghost use Rattle.paraid_startup.specs.Refusals.{refusal_by_fault};
@@ -121,9 +119,9 @@ pub fn mount_core<R: Rack>(alloc: Global, rack: R) -> Result<Begun<R>, MountRefu
         ≤ (R.slot (core_rack it.core) d).faults) }
     ensures refused_later { IfErr result (λ refused. (d : ℕ) → (R.slot rack d).faults
         ≤ (R.slot refused.rack d).faults) }
-    // held or not, its table has the bits of the map
-    ensures map { IfOk result (λ it. HasMapAtEnd (R.slot rack) (R.slot (core_rack it.core))
-        (meta_of it.core) (is_dirty (core_table it.core)) (R.told (core_rack it.core))) }
+    // held or not, it serves what stood on the disks
+    ensures mounted { IfOk result (λ it. IsMountedCore R.slot R.told (R.slot_count rack)
+        (R.slot rack) (R.told rack) it.core) }
     ensures grows { IfOk result (λ it. Extends (R.told rack) (R.told (core_rack it.core))) }
     // from each rack that held a history, the array stands at the first point of a session
     ensures stands { IfOk result (λ it. (began : ℕ)

@@ -25,7 +25,7 @@ use Rattle.paraid_serve.proofs.HaltLemmas.{names_two, tells_wear}
 use Rattle.paraid_serve.proofs.StretchLemmas.{stretch_more, stretch_none}
 use Rattle.paraid_state.specs.MountFaults.{mount_fault_status}
 use Rattle.paraid_top.specs.Counts.{check_line, check_status}
-use Rattle.paraid_top.specs.Ends.{ChecksArray, ChecksFromPoint, IsCheckedStatus, IsEndOver, IsStatusOfCheck, TellsCounts}
+use Rattle.paraid_top.specs.Ends.{ChecksArray, ChecksFromPoint, CountsArray, IsCheckedStatus, IsEndOver, IsStatusOfCheck, ServedArray, TellsCounts}
 use Rattle.paraid_top.specs.Ends.TellsCounts.{counted, halted}
 use Rattle.paraid_top.proofs.EndLemmas.{IsRefusedStatus, refused_status}
 
@@ -40,15 +40,15 @@ module _ (slots : ℕ) (setup : Setup) (start final : Option Trail) (stood : Poi
         left = stretch_leaves slots setup start final p (Flush ∷ []) more.all mark (here more.all.from more.all.was);
       }
 
-module _ (slots : ℕ) (setup : Setup) (began : ℕ) (start final : Option Trail) (stood stood_then : Point → Type 0) (before after : Option (List ℕ)) (status : ℕ) (was : IsSome final → IsSome start) (mounted : IsMountedFromEach slots setup began start stood) where
+module _ (slots : ℕ) (setup : Setup) (began : ℕ) (start final : Option Trail) (stood stood_then : Point → Type 0) (before after : Option (List ℕ)) (status : ℕ) (Q : CheckReport → Type 0) (was : IsSome final → IsSome start) (mounted : IsMountedFromEach slots setup began start stood) where
   pub tells_counts : (report : CheckReport) → EndsWithLine before after (check_line report) (check_status report) status
-      → ((p : Point) → stood p → Ran start final (GoesOn slots setup p Flush (Flushed (length p.history)) stood_then)) → (IsSome final → (p : Point) → stood p → report ≡ no_faults)
-      → TellsCounts slots setup began start final before after status
-  tells_counts report end goes sound = counted report end (λ is. IsMountedFromEach-follows slots setup began start stood _
+      → ((p : Point) → stood p → Ran start final (GoesOn slots setup p Flush (Flushed (length p.history)) stood_then)) → (IsSome final → (p : Point) → stood p → report ≡ no_faults) → Q report
+      → TellsCounts slots setup began start final before after status Q
+  tells_counts report end goes sound counts = counted report end counts (λ is. IsMountedFromEach-follows slots setup began start stood _
       (λ p mark here at. (sound is p at, checks_from slots setup start final stood_then (Flushed (length p.history)) p mark here (was is) is (goes p at))) mounted)
 
   pub tells_halt : (halt : Halt) → EndsWithLine before after (halt_line halt) (status_of_halt halt) status
-      → ((p : Point) → stood p → Ran start final (GoesOn slots setup p Flush (Halted halt) stood_then)) → TellsCounts slots setup began start final before after status
+      → ((p : Point) → stood p → Ran start final (GoesOn slots setup p Flush (Halted halt) stood_then)) → TellsCounts slots setup began start final before after status Q
   tells_halt halt end goes = halted halt end (λ is. IsMountedFromEach-follows slots setup began start stood _
       (λ p mark here at. checks_from slots setup start final stood_then (Halted halt) p mark here (was is) is (goes p at)) mounted)
 
@@ -123,11 +123,14 @@ pub check_is_refused : (fault : MountFault) (before after : Option (List ℕ)) (
 check_is_refused fault before after line status end = check_refused status (refused_status fault before after line status end)
 
 -- over the rack that is handed back
-pub checks_over : (slots slots_now : ℕ) (setup : Setup) (old now slot : ℕ → Slot) (began : ℕ) (middle final after : Option Trail) (w x : Option (List ℕ)) (status : ℕ) → slots_now ≡ slots → after ≡ final → slot ≡ now
-    → IsEndOver setup old slot w x status → (status ≡ 13 → IsNotDouble setup now)
-    → TellsCounts slots_now setup began middle final w x status → ChecksArray slots old slot after w x status setup began middle
-checks_over slots slots_now setup old now slot began middle final after w x status e f same end found told = record {
-  told = subst (λ (k : ℕ). TellsCounts k setup began middle after w x status) e (subst (λ (t : Option Trail). TellsCounts slots_now setup began middle t w x status) (sym f) told);
-  end = end;
-  found = λ is. subst (IsNotDouble setup) (sym same) (found is);
+pub checks_over : (slots slots_now : ℕ) (setup : Setup) (array : ServedArray) (old now slot : ℕ → Slot) (began : ℕ) (middle final after : Option Trail) (w x : Option (List ℕ)) (status : ℕ) → slots_now ≡ slots → setup ≡ array.meta.setup
+    → after ≡ final → slot ≡ now → IsEndOver setup old slot w x status → (status ≡ 13 → IsNotDouble setup now)
+    → TellsCounts slots_now setup began middle final w x status (CountsArray array now middle final) → ChecksArray slots old slot after w x status array began middle
+checks_over slots slots_now setup array old now slot began middle final after w x status e tied f same end found told = record {
+  told = subst (λ (z : Setup). TellsCounts slots z began middle after w x status (CountsArray array slot middle after)) tied
+      (subst (λ (k : ℕ). TellsCounts k setup began middle after w x status (CountsArray array slot middle after)) e
+      (subst (λ (t : Option Trail). TellsCounts slots_now setup began middle t w x status (CountsArray array slot middle t)) (sym f)
+      (subst (λ (z : ℕ → Slot). TellsCounts slots_now setup began middle final w x status (CountsArray array z middle final)) (sym same) told)));
+  end = subst (λ (z : Setup). IsEndOver z old slot w x status) tied end;
+  found = λ is. subst (λ (z : Setup). IsNotDouble z slot) tied (subst (IsNotDouble setup) (sym same) (found is));
 }

@@ -43,14 +43,14 @@ use Rattle.paraid_startup.specs.Refusals.{refusal_by_fault}
 use Rattle.paraid_startup.proofs.MountedLemmas.{refused_extends}
 use Rattle.paraid_startup.proofs.ToldLemmas.{began_calls, began_disks, same_trail}
 use Rattle.paraid_state.specs.MountFaults.{mount_fault_status}
-use Rattle.paraid_state.specs.Showing.{BeganAt, ShowOutcome, Shows}
+use Rattle.paraid_state.specs.Showing.{BeganAt, IsServedBy, ShowOutcome, Shows}
 use Rattle.paraid_state.specs.Showing.ShowOutcome.{refused as not_shown, shown}
 use Rattle.paraid_top.specs.Complete.{Completes, HeldHistory, Hinders, HindersRun, IsCheckWhole, IsGenWhole, IsRunWhole, IsStatusWhole, TellsLast, down_after_calls}
 use Rattle.paraid_top.specs.Complete.Completes.{hindered, no_memory, whole}
 use Rattle.paraid_top.specs.Complete.Hinders.{double, sink, two, two_in_mount, worn, worn_before}
 use Rattle.paraid_top.specs.Complete.HindersRun.{other, source, too_long}
 use Rattle.paraid_top.specs.Counts.{check_line, check_status}
-use Rattle.paraid_top.specs.Ends.{BeginsAt, ChecksArray, ChecksFromPoint, IsEndOver, MountsAndThen, ServesGenerated, ServesLines, TellsCounts}
+use Rattle.paraid_top.specs.Ends.{BeginsAt, ChecksArray, ChecksFromPoint, IsEndOver, MountsAndThen, ServedArray, ServesGenerated, ServesLines, TellsCounts}
 use Rattle.paraid_top.specs.Ends.MountsAndThen.{mounted, refused}
 use Rattle.paraid_top.specs.Ends.TellsCounts.{counted as told_counts, halted as told_halt}
 
@@ -124,11 +124,11 @@ module _ {slots : ℕ} {before after : Option Trail} (h : HeldHistory slots befo
         (from_entry (λ s x said hist lo down calls. IsMountRefused slots s x said hist lo down calls (refusal_by_fault fault)) after h.last g.calls (moments h.first) h.at_last split refl
         (each (moments h.first) (λ t is. ap moments (same_trail before h.first t h.at_first is))))
 
-    module _ (setup : Setup) (began : ℕ) (middle : Option Trail) (begins : BeginsAt before middle after began) (over : IsEndOver setup old new wb w status) where
+    module _ (array : ServedArray) (began : ℕ) (middle : Option Trail) (stood : IsServedBy slots old array.slot before middle array.meta array.dirty) (begins : BeginsAt before middle after began) (over : IsEndOver array.meta.setup old new wb w status) where
       -- A mount that is served: two disks were down as it ended, or a session began.
-      from_point : (P : Point → Type 0) → IsMountedFromEach slots setup began middle P
+      from_point : (P : Point → Type 0) → IsMountedFromEach slots array.meta.setup began middle P
           → ((base : ℕ → ℕ) (t : Trail) (cs : List Call) (p : Point) → middle ≡ Some t → t ≡ extend h.first cs → IsBegun slots (now h.first) h.said h.history h.low h.down base cs p
-          → h.said.meta.setup ≡ setup → P p → Comes) → Comes
+          → h.said.meta.setup ≡ array.meta.setup → P p → Comes) → Comes
       from_point P each go =
           let later = begins.grows h.last h.at_last in
           let t = later.from in
@@ -136,16 +136,17 @@ module _ {slots : ℕ} {before after : Option Trail} (h : HeldHistory slots befo
           let from : b.0 ≡ h.first = same_trail before b.0 h.first b.2 h.at_first in
           let split : t ≡ extend h.first b.1 = b.3 ∙ ap (λ (u : Trail). extend u b.1) from in
           let all : h.last ≡ extend h.first (b.1 ++ later.calls) = later.is ∙ ap (λ (u : Trail). extend u later.calls) split ∙ extend-extend h.first b.1 later.calls in
-          let m = from_entry (λ s x said hist lo down calls. IsMounted slots s x said hist lo down calls (λ p. (said.meta.setup ≡ setup) × P p)) middle t b.1 began later.was split (b.4 ∙ ap moments from) each in
+          let m = from_entry (λ s x said hist lo down calls. IsMounted slots s x said hist lo down calls (λ p. (said.meta.setup ≡ array.meta.setup) × P p)) middle t b.1 began later.was split (b.4 ∙ ap moments from) each in
           elim m.ends [
-            | inl both ↦ hindered (hinder (double b.1 later.calls all (sym (down_is (start_watch (now h.first) h.down m.mounting.base) b.1) ∙ both) setup over))
+            | inl both ↦ hindered (hinder (double b.1 later.calls all (sym (down_is (start_watch (now h.first) h.down m.mounting.base) b.1) ∙ both) array
+                (subst (λ (o : Option Trail). IsServedBy slots old array.slot before o array.meta array.dirty) (later.was ∙ ap Some split) stood) over))
             | inr begun ↦ go m.mounting.base t b.1 begun.0 later.was split begun.1 begun.2.0 begun.2.1
           ]
 
       module _ (base : ℕ → ℕ) (t : Trail) (cs : List Call) (p : Point) (here : middle ≡ Some t) (split : t ≡ extend h.first cs) (starts : IsBegun slots (now h.first) h.said h.history h.low h.down base cs p)
-          (same : h.said.meta.setup ≡ setup) where
+          (same : h.said.meta.setup ≡ array.meta.setup) where
         -- the calls of the command, where a session of these turns followed
-        session_calls : (events : List Event) (halt : Halt) (e : EndsStretch slots setup middle after p events (Halted halt)) (m : MeetsHalt slots h.said.meta.setup p e.all.turns halt)
+        session_calls : (events : List Event) (halt : Halt) (e : EndsStretch slots array.meta.setup middle after p events (Halted halt)) (m : MeetsHalt slots h.said.meta.setup p e.all.turns halt)
             → h.last ≡ extend h.first (cs ++ (turn_calls m.before ++ (m.turn.calls ++ turn_calls m.rest)))
         session_calls events halt e m =
             same_trail after h.last e.all.to h.at_last e.all.is
@@ -162,9 +163,9 @@ module _ {slots : ℕ} {before after : Option Trail} (h : HeldHistory slots befo
             (record { base = base; mount = cs; begun = p; begins = starts; turns = m.before; from = m.from; went = m.went; turn = m.turn; to = m.to; here = l; rest = turn_calls m.rest; calls = calls })))
 
         -- A session that ends in a halt.
-        halted_comes : (events : List Event) (halt : Halt) → EndsStretch slots setup middle after p events (Halted halt) → status ≡ status_of_halt halt → Comes
+        halted_comes : (events : List Event) (halt : Halt) → EndsStretch slots array.meta.setup middle after p events (Halted halt) → status ≡ status_of_halt halt → Comes
         halted_comes events halt e is =
-            let m = subst (λ (u : Setup). MeetsHalt slots u p e.all.turns halt) (sym same) (ends_at_cause slots setup middle after p events halt e starts.going) in
+            let m = subst (λ (u : Setup). MeetsHalt slots u p e.all.turns halt) (sym same) (ends_at_cause slots array.meta.setup middle after p events halt e starts.going) in
             at_cause e.all.turns halt m (session_calls events halt e m) is m.cause
 
 module _ {slots : ℕ} {before after : Option Trail} (h : HeldHistory slots before after) (old new : ℕ → Slot) (counted count : ℕ) (wb w : Option (List ℕ)) (status : ℕ) (sunk : status ≡ 4 → HasRisen counted count) where
@@ -173,19 +174,20 @@ module _ {slots : ℕ} {before after : Option Trail} (h : HeldHistory slots befo
     abbrev RunComes : Type 0
     RunComes = Completes (IsRunWhole l wb w) (HasOnlyRead before after) (HindersRun h old new heard_faults faults counted count lb l wb w status) status
 
-    module _ (setup : Setup) (began : ℕ) (middle : Option Trail) (begins : BeginsAt before middle after began) (served : ServesLines slots old new after lb l wb w status setup began middle) where
-      run_text : (base : ℕ → ℕ) (t : Trail) (cs : List Call) (p : Point) → middle ≡ Some t → t ≡ extend h.first cs → IsBegun slots (now h.first) h.said h.history h.low h.down base cs p → h.said.meta.setup ≡ setup
-          → (code : ℕ) (text : List ℕ) → OutputText slots setup middle after p served.headline.bytes code text → status ≡ code → GrowsByBytes wb w text → RunComes
+    module _ (array : ServedArray) (began : ℕ) (middle : Option Trail) (stood : IsServedBy slots old array.slot before middle array.meta array.dirty) (begins : BeginsAt before middle after began)
+        (served : ServesLines slots old new after lb l wb w status array began middle) where
+      run_text : (base : ℕ → ℕ) (t : Trail) (cs : List Call) (p : Point) → middle ≡ Some t → t ≡ extend h.first cs → IsBegun slots (now h.first) h.said h.history h.low h.down base cs p → h.said.meta.setup ≡ array.meta.setup
+          → (code : ℕ) (text : List ℕ) → OutputText slots array.meta.setup middle after p served.headline.bytes code text → status ≡ code → GrowsByBytes wb w text → RunComes
       run_text base t cs p here split starts same code text (text_done writes e) is grows =
           whole is ((served.headline.all (inl is)).1, writes, record { text = begins_with p ++ replies e.before; grows = grows })
       run_text base t cs p here split starts same code text (text_halted halt e) is grows =
-          halted_comes h old new counted count wb w status (IsRunWhole l wb w) (HindersRun h old new heard_faults faults counted count lb l wb w status) other sunk setup began middle begins served.end
+          halted_comes h old new counted count wb w status (IsRunWhole l wb w) (HindersRun h old new heard_faults faults counted count lb l wb w status) other sunk array began middle stood begins served.end
           base t cs p here split starts same (events_in (lines_of served.headline.bytes) ++ Flush ∷ []) halt e is
       run_text base t cs p here split starts same code text (text_source c) is grows = hindered (source is (heard is))
       run_text base t cs p here split starts same code text (text_long ten c) is grows = hindered (too_long is served.headline.bytes served.headline.given ten)
 
-      run_wrote : (base : ℕ → ℕ) (t : Trail) (cs : List Call) (p : Point) → middle ≡ Some t → t ≡ extend h.first cs → IsBegun slots (now h.first) h.said h.history h.low h.down base cs p → h.said.meta.setup ≡ setup
-          → WritesOutput slots setup middle after p served.headline.bytes status served.headline.text → RunComes
+      run_wrote : (base : ℕ → ℕ) (t : Trail) (cs : List Call) (p : Point) → middle ≡ Some t → t ≡ extend h.first cs → IsBegun slots (now h.first) h.said h.history h.low h.down base cs p → h.said.meta.setup ≡ array.meta.setup
+          → WritesOutput slots array.meta.setup middle after p served.headline.bytes status served.headline.text → RunComes
       run_wrote base t cs p here split starts same (wrote_whole out) = run_text base t cs p here split starts same status served.headline.text out refl served.headline.grows
       run_wrote base t cs p here split starts same (wrote_last four code full rest out front) = hindered (other (sink four (sunk four)))
       run_wrote base t cs p here split starts same (wrote_answers four lines more rest lines_are c front) = hindered (other (sink four (sunk four)))
@@ -193,27 +195,28 @@ module _ {slots : ℕ} {before after : Option Trail} (h : HeldHistory slots befo
     pub run_comes : MountsAndThen slots old new before after wb w status (ServesLines slots old new after lb l wb w status) → RunComes
     run_comes (refused fault back end) =
         refused_comes h old new counted count wb w status (IsRunWhole l wb w) (HindersRun h old new heard_faults faults counted count lb l wb w status) other sunk fault back.cause back.refused end.count _ end.whole
-    run_comes (mounted setup began middle begins served) =
-        from_point h old new counted count wb w status (IsRunWhole l wb w) (HindersRun h old new heard_faults faults counted count lb l wb w status) other sunk setup began middle begins served.end
-        (FollowsFromPoint slots setup middle after served.headline.bytes status served.headline.text) (served.headline.said (some_is after h.last h.at_last))
-        (λ base t cs p here split starts same f. run_wrote setup began middle begins served base t cs p here split starts same f.wrote)
+    run_comes (mounted array began middle stood begins served) =
+        from_point h old new counted count wb w status (IsRunWhole l wb w) (HindersRun h old new heard_faults faults counted count lb l wb w status) other sunk array began middle stood begins served.end
+        (FollowsFromPoint slots array.meta.setup middle after served.headline.bytes status served.headline.text) (served.headline.said (some_is after h.last h.at_last))
+        (λ base t cs p here split starts same f. run_wrote array began middle stood begins served base t cs p here split starts same f.wrote)
 
   -- Generated lines.
   module _ (number lines : ℕ) where
     abbrev GenComes : Type 0
     GenComes = Completes (IsGenWhole wb w) (HasOnlyRead before after) (Hinders h old new counted count wb w status) status
 
-    module _ (setup : Setup) (began : ℕ) (middle : Option Trail) (begins : BeginsAt before middle after began) (served : ServesGenerated slots old new after wb w number lines status setup began middle) where
-      gen_text : (base : ℕ → ℕ) (t : Trail) (cs : List Call) (p : Point) → middle ≡ Some t → t ≡ extend h.first cs → IsBegun slots (now h.first) h.said h.history h.low h.down base cs p → h.said.meta.setup ≡ setup
-          → (code : ℕ) (text : List ℕ) → GenOutput slots setup middle after p number lines code text → status ≡ code → GrowsByBytes wb w text → GenComes
+    module _ (array : ServedArray) (began : ℕ) (middle : Option Trail) (stood : IsServedBy slots old array.slot before middle array.meta array.dirty) (begins : BeginsAt before middle after began)
+        (served : ServesGenerated slots old new after wb w number lines status array began middle) where
+      gen_text : (base : ℕ → ℕ) (t : Trail) (cs : List Call) (p : Point) → middle ≡ Some t → t ≡ extend h.first cs → IsBegun slots (now h.first) h.said h.history h.low h.down base cs p → h.said.meta.setup ≡ array.meta.setup
+          → (code : ℕ) (text : List ℕ) → GenOutput slots array.meta.setup middle after p number lines code text → status ≡ code → GrowsByBytes wb w text → GenComes
       gen_text base t cs p here split starts same code text (gen_done writes e) is grows = whole is (writes, record { text = first_lines p lines e.lines.turns e.lines.end; grows = grows })
       gen_text base t cs p here split starts same code text (gen_halted halt e) is grows =
-          halted_comes h old new counted count wb w status (IsGenWhole wb w) (Hinders h old new counted count wb w status) (λ z. z) sunk setup began middle begins served.end
-          base t cs p here split starts same (generated_events number (block_count setup) lines ++ Flush ∷ []) halt
+          halted_comes h old new counted count wb w status (IsGenWhole wb w) (Hinders h old new counted count wb w status) (λ z. z) sunk array began middle stood begins served.end
+          base t cs p here split starts same (generated_events number (block_count array.meta.setup) lines ++ Flush ∷ []) halt
           (record { all = e.all; before = e.lines.turns; last = turn_with Flush (Halted halt) e.calls; split = e.turns; answered = refl }) is
 
-      gen_wrote : (base : ℕ → ℕ) (t : Trail) (cs : List Call) (p : Point) → middle ≡ Some t → t ≡ extend h.first cs → IsBegun slots (now h.first) h.said h.history h.low h.down base cs p → h.said.meta.setup ≡ setup
-          → GenWrote slots setup middle after p number lines status served.headline.text → GenComes
+      gen_wrote : (base : ℕ → ℕ) (t : Trail) (cs : List Call) (p : Point) → middle ≡ Some t → t ≡ extend h.first cs → IsBegun slots (now h.first) h.said h.history h.low h.down base cs p → h.said.meta.setup ≡ array.meta.setup
+          → GenWrote slots array.meta.setup middle after p number lines status served.headline.text → GenComes
       gen_wrote base t cs p here split starts same (gen_whole out) = gen_text base t cs p here split starts same status served.headline.text out refl served.headline.grows
       gen_wrote base t cs p here split starts same (gen_last four code full rest out front) = hindered (sink four (sunk four))
       gen_wrote base t cs p here split starts same (gen_before four c rest front) = hindered (sink four (sunk four))
@@ -222,43 +225,43 @@ module _ {slots : ℕ} {before after : Option Trail} (h : HeldHistory slots befo
     pub gen_comes : MountsAndThen slots old new before after wb w status (ServesGenerated slots old new after wb w number lines status) → GenComes
     gen_comes (refused fault back end) =
         refused_comes h old new counted count wb w status (IsGenWhole wb w) (Hinders h old new counted count wb w status) (λ z. z) sunk fault back.cause back.refused end.count _ end.whole
-    gen_comes (mounted setup began middle begins served) =
-        from_point h old new counted count wb w status (IsGenWhole wb w) (Hinders h old new counted count wb w status) (λ z. z) sunk setup began middle begins served.end
-        (GenFollows slots setup middle after number lines status served.headline.text) (served.headline.said (some_is after h.last h.at_last))
-        (λ base t cs p here split starts same f. gen_wrote setup began middle begins served base t cs p here split starts same f.wrote)
+    gen_comes (mounted array began middle stood begins served) =
+        from_point h old new counted count wb w status (IsGenWhole wb w) (Hinders h old new counted count wb w status) (λ z. z) sunk array began middle stood begins served.end
+        (GenFollows slots array.meta.setup middle after number lines status served.headline.text) (served.headline.said (some_is after h.last h.at_last))
+        (λ base t cs p here split starts same f. gen_wrote array began middle stood begins served base t cs p here split starts same f.wrote)
 
   -- A check.
   abbrev CheckComes : Type 0
   CheckComes = Completes (IsCheckWhole wb w) (HasOnlyRead before after) (Hinders h old new counted count wb w status) status
 
-  module _ (setup : Setup) (began : ℕ) (middle : Option Trail) (begins : BeginsAt before middle after began) (over : IsEndOver setup old new wb w status) where
-    check_from : (P : Point → Type 0) → IsMountedFromEach slots setup began middle P
+  module _ (array : ServedArray) (began : ℕ) (middle : Option Trail) (stood : IsServedBy slots old array.slot before middle array.meta array.dirty) (begins : BeginsAt before middle after began) (over : IsEndOver array.meta.setup old new wb w status) where
+    check_from : (P : Point → Type 0) → IsMountedFromEach slots array.meta.setup began middle P
         → ((base : ℕ → ℕ) (t : Trail) (cs : List Call) (p : Point) → middle ≡ Some t → t ≡ extend h.first cs → IsBegun slots (now h.first) h.said h.history h.low h.down base cs p
-        → h.said.meta.setup ≡ setup → P p → CheckComes) → CheckComes
-    check_from = from_point h old new counted count wb w status (IsCheckWhole wb w) (Hinders h old new counted count wb w status) (λ z. z) sunk setup began middle begins over
+        → h.said.meta.setup ≡ array.meta.setup → P p → CheckComes) → CheckComes
+    check_from = from_point h old new counted count wb w status (IsCheckWhole wb w) (Hinders h old new counted count wb w status) (λ z. z) sunk array began middle stood begins over
 
     counted_by : (report : CheckReport) (e : EndsWithLine wb w (check_line report) (check_status report) status) → (status ≡ 4) ⊎ ((e.count ≡ length (check_line report)) × (status ≡ check_status report))
-        → IsMountedFromEach slots setup began middle (λ p. (report ≡ no_faults) × ChecksFromPoint slots setup middle after (Flushed (length p.history)) p) → CheckComes
+        → IsMountedFromEach slots array.meta.setup began middle (λ p. (report ≡ no_faults) × ChecksFromPoint slots array.meta.setup middle after (Flushed (length p.history)) p) → CheckComes
     counted_by report e (inl four) each = hindered (sink four (sunk four))
-    counted_by report e (inr all) each = check_from (λ p. (report ≡ no_faults) × ChecksFromPoint slots setup middle after (Flushed (length p.history)) p) each
+    counted_by report e (inr all) each = check_from (λ p. (report ≡ no_faults) × ChecksFromPoint slots array.meta.setup middle after (Flushed (length p.history)) p) each
         (λ base t cs p here split starts same f. whole (all.1 ∙ ap check_status f.0)
         (subst (λ (r : CheckReport). TellsLast wb w (check_line r)) f.0 (told_whole wb w (check_line report) (check_status report) status e all.0)))
 
     halted_so : (halt : Halt) (e : EndsWithLine wb w (halt_line halt) (status_of_halt halt) status) → (status ≡ 4) ⊎ ((e.count ≡ length (halt_line halt)) × (status ≡ status_of_halt halt))
-        → IsMountedFromEach slots setup began middle (ChecksFromPoint slots setup middle after (Halted halt)) → CheckComes
+        → IsMountedFromEach slots array.meta.setup began middle (ChecksFromPoint slots array.meta.setup middle after (Halted halt)) → CheckComes
     halted_so halt e (inl four) each = hindered (sink four (sunk four))
-    halted_so halt e (inr all) each = check_from (ChecksFromPoint slots setup middle after (Halted halt)) each
-        (λ base t cs p here split starts same f. halted_comes h old new counted count wb w status (IsCheckWhole wb w) (Hinders h old new counted count wb w status) (λ z. z) sunk setup began middle begins over
+    halted_so halt e (inr all) each = check_from (ChecksFromPoint slots array.meta.setup middle after (Halted halt)) each
+        (λ base t cs p here split starts same f. halted_comes h old new counted count wb w status (IsCheckWhole wb w) (Hinders h old new counted count wb w status) (λ z. z) sunk array began middle stood begins over
         base t cs p here split starts same (Flush ∷ []) halt f.flush all.1)
 
-    check_told : TellsCounts slots setup began middle after wb w status → CheckComes
-    check_told (told_counts report e each) = counted_by report e e.whole (each (some_is after h.last h.at_last))
+    check_told : {Q : CheckReport → Type 0} → TellsCounts slots array.meta.setup began middle after wb w status Q → CheckComes
+    check_told (told_counts report e counts each) = counted_by report e e.whole (each (some_is after h.last h.at_last))
     check_told (told_halt halt e each) = halted_so halt e e.whole (each (some_is after h.last h.at_last))
 
   pub check_comes : MountsAndThen slots old new before after wb w status (ChecksArray slots old new after wb w status) → CheckComes
   check_comes (refused fault back end) =
       refused_comes h old new counted count wb w status (IsCheckWhole wb w) (Hinders h old new counted count wb w status) (λ z. z) sunk fault back.cause back.refused end.count _ end.whole
-  check_comes (mounted setup began middle begins checked) = check_told setup began middle begins checked.end checked.told
+  check_comes (mounted array began middle stood begins checked) = check_told array began middle stood begins checked.end checked.told
 
   -- The state.
   abbrev StatusComes : Type 0

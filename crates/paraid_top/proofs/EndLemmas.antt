@@ -21,7 +21,7 @@ use Rattle.paraid_words.specs.Words.{AskFor}
 use Rattle.paraid_recover.specs.HeldMoments.{Extends}
 use Rattle.paraid_state.specs.MountFaults.{mount_fault_status}
 use Rattle.paraid_state.specs.Showing.{BeganAt}
-use Rattle.paraid_top.specs.Ends.{BeginsAt, IsEndOver, IsStatusOfGen, IsStatusOfRun, ServesGenerated, ServesLines, TellsState}
+use Rattle.paraid_top.specs.Ends.{BeginsAt, IsEndOver, IsStatusOfGen, IsStatusOfRun, ServedArray, ServesGenerated, ServesLines, TellsState}
 
 -- the moment at which a record ends, or the first one where none is told
 abbrev pub end_moment : Option Trail → ℕ
@@ -46,17 +46,20 @@ end_over setup old first now slot w x status same later present two worn = recor
   worn = worn;
 }
 
-module _ (slots slots_now : ℕ) (setup : Setup) (old slot : ℕ → Slot) (began : ℕ) (middle final after : Option Trail) (w x : Option (List ℕ)) (status : ℕ) (e : slots_now ≡ slots) (f : after ≡ final) (end : IsEndOver setup old slot w x status) where
-  pub headline_over : (l m : Option (List ℕ)) → Headline slots_now setup began middle final l m w x status → ServesLines slots old slot after l m w x status setup began middle
+module _ (slots slots_now : ℕ) (setup : Setup) (array : ServedArray) (old slot : ℕ → Slot) (began : ℕ) (middle final after : Option Trail) (w x : Option (List ℕ)) (status : ℕ) (e : slots_now ≡ slots) (same : setup ≡ array.meta.setup) (f : after ≡ final)
+    (end : IsEndOver setup old slot w x status) where
+  pub headline_over : (l m : Option (List ℕ)) → Headline slots_now setup began middle final l m w x status → ServesLines slots old slot after l m w x status array began middle
   headline_over l m h = record {
-    headline = subst (λ (k : ℕ). Headline k setup began middle after l m w x status) e (subst (λ (t : Option Trail). Headline slots_now setup began middle t l m w x status) (sym f) h);
-    end = end;
+    headline = subst (λ (z : Setup). Headline slots z began middle after l m w x status) same
+        (subst (λ (k : ℕ). Headline k setup began middle after l m w x status) e (subst (λ (t : Option Trail). Headline slots_now setup began middle t l m w x status) (sym f) h));
+    end = subst (λ (z : Setup). IsEndOver z old slot w x status) same end;
   }
 
-  pub generated_over : (number count : ℕ) → GenHeadline slots_now setup began middle final w x number count status → ServesGenerated slots old slot after w x number count status setup began middle
+  pub generated_over : (number count : ℕ) → GenHeadline slots_now setup began middle final w x number count status → ServesGenerated slots old slot after w x number count status array began middle
   generated_over number count h = record {
-    headline = subst (λ (k : ℕ). GenHeadline k setup began middle after w x number count status) e (subst (λ (t : Option Trail). GenHeadline slots_now setup began middle t w x number count status) (sym f) h);
-    end = end;
+    headline = subst (λ (z : Setup). GenHeadline slots z began middle after w x number count status) same
+        (subst (λ (k : ℕ). GenHeadline k setup began middle after w x number count status) e (subst (λ (t : Option Trail). GenHeadline slots_now setup began middle t w x number count status) (sym f) h));
+    end = subst (λ (z : Setup). IsEndOver z old slot w x status) same end;
   }
 
 -- the statuses of a run are those of a session, and those of a mount that is refused
@@ -115,11 +118,12 @@ run_is_refused fault before after line status end = run_refused status (refused_
 pub generate_is_refused : (fault : MountFault) (before after : Option (List ℕ)) (line : List ℕ) (status : ℕ) → EndsWithLine before after line (mount_fault_status fault) status → IsStatusOfGen status
 generate_is_refused fault before after line status end = generate_refused status (refused_status fault before after line status end)
 
-pub state_over : (slots slots_now : ℕ) (setup : Setup) (began : ℕ) (middle : Option Trail) (w x : Option (List ℕ)) (status : ℕ) (stands : Point → Type 0) → slots_now ≡ slots
-    → IsMountedFromEach slots_now setup began middle stands → ((p : Point) → stands p → EndsWithLine w x (state_lines setup p) 0 status) → TellsState slots w x status setup began middle
-state_over slots slots_now setup began middle w x status stands e m told =
-    subst (λ (k : ℕ). TellsState k w x status setup began middle) e
-    (IsMountedFromEach-follows slots_now setup began middle stands (λ p. EndsWithLine w x (state_lines setup p) 0 status) (λ p mark here at_p. told p at_p) m)
+pub state_over : (slots slots_now : ℕ) (setup : Setup) (array : ServedArray) (began : ℕ) (middle : Option Trail) (w x : Option (List ℕ)) (status : ℕ) (stands : Point → Type 0) → slots_now ≡ slots → setup ≡ array.meta.setup
+    → IsMountedFromEach slots_now setup began middle stands → ((p : Point) → stands p → EndsWithLine w x (state_lines setup p) 0 status) → TellsState slots w x status array began middle
+state_over slots slots_now setup array began middle w x status stands e same m told =
+    subst (λ (k : ℕ). TellsState k w x status array began middle) e
+    (subst (λ (z : Setup). IsMountedFromEach slots_now z began middle (λ p. EndsWithLine w x (state_lines z p) 0 status)) same
+    (IsMountedFromEach-follows slots_now setup began middle stands (λ p. EndsWithLine w x (state_lines setup p) 0 status) (λ p mark here at_p. told p at_p) m))
 
 same_command : (o : Option Command) (a b : Command) → o ≡ Some a → o ≡ Some b → a ≡ b
 same_command o a b e f = some_same a b (sym e ∙ f)

@@ -11,15 +11,15 @@ use Rattle.paraid_rack.specs.declared.call.Call.{Call}
 use Rattle.paraid_rack.specs.Slots.{Slot}
 use Rattle.paraid_rack.specs.Trail.{Trail, extend, now}
 use Rattle.paraid_record.specs.declared.meta.Meta.{Meta}
-use Rattle.paraid_record.specs.declared.meta.Setup.{Setup}
 use Rattle.paraid_scrub.specs.Counts.{no_faults}
 use Rattle.paraid_serve.specs.Stretch.{Turn, TurnsLead, turn_calls}
 use Rattle.paraid_session.specs.Mount.{IsBegun, IsWornOut}
 use Rattle.paraid_session.specs.Turn.{IsWorn, LosesSecondDisk, Point}
 use Rattle.paraid_session.specs.Watch.{Down, down_after, down_from_out, several}
+use Rattle.paraid_state.specs.Showing.{IsServedBy}
 use Rattle.paraid_state.specs.States.{status_lines}
 use Rattle.paraid_top.specs.Counts.{check_line}
-use Rattle.paraid_top.specs.Ends.{IsEndOver}
+use Rattle.paraid_top.specs.Ends.{IsEndOver, ServedArray}
 
 -- the disks that are down after these calls: each is so from a failed call on it on
 abbrev pub down_after_calls : Down → List Call → Down
@@ -74,7 +74,8 @@ pub data Hinders {slots : ℕ} {before after : Option Trail} (h : HeldHistory sl
   -- A second disk failed in the mount while one was down, and the array was served all the same. As in the headline nothing is
   -- said of the session then; it ended as it may over every rack.
   double : (mount rest : List Call) → h.last ≡ extend h.first (mount ++ rest) → down_after_calls (down_from_out h.down) mount ≡ several
-      → (setup : Setup) → IsEndOver setup old new written_before written status → Hinders h old new counted count written_before written status
+      → (array : ServedArray) → IsServedBy slots old array.slot before (Some (extend h.first mount)) array.meta array.dirty → IsEndOver array.meta.setup old new written_before written status
+      → Hinders h old new counted count written_before written status
 
 -- what hinders a run: as the others, or by its source
 pub data HindersRun {slots : ℕ} {before after : Option Trail} (h : HeldHistory slots before after) (old new : ℕ → Slot) (heard_faults faults counted count : ℕ) (left_before left written_before written : Option (List ℕ)) (status : ℕ) : Type 0 where

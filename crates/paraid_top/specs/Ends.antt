@@ -5,10 +5,13 @@ use Rattle.paraid_base.specs.declared.event.Answer.TheVariants.{Flushed, Halted}
 use Rattle.paraid_base.specs.declared.event.Event.TheVariants.{Flush}
 use Rattle.paraid_base.specs.declared.fault.Halt.{Halt}
 use Rattle.paraid_rack.specs.Slots.{Slot}
-use Rattle.paraid_rack.specs.Trail.{Trail, extend, moments}
+use Rattle.paraid_rack.specs.Trail.{Trail, extend, moments, now}
 use Rattle.paraid_rack.specs.declared.call.Call.{Call}
+use Rattle.paraid_record.specs.declared.meta.Meta.{Meta}
 use Rattle.paraid_record.specs.declared.meta.Setup.{Setup}
-use Rattle.paraid_scrub.specs.Counts.{no_faults}
+use Rattle.paraid_image.specs.Content.{view_by}
+use Rattle.paraid_image.specs.Standing.{contents}
+use Rattle.paraid_scrub.specs.Counts.{CountsByView, no_faults}
 use Rattle.paraid_scrub.specs.declared.kind.CheckReport.{CheckReport}
 use Rattle.paraid_session.specs.Mount.{IsMountedFromEach, IsRefusedFromEach}
 use Rattle.paraid_console.specs.Ending.{EndsWithLine, halt_line, status_of_halt}
@@ -23,9 +26,10 @@ use Rattle.paraid_commands.specs.Generating.{GenHeadline}
 use Rattle.paraid_commands.specs.Telling.{state_lines}
 use Rattle.paraid_mount.specs.declared.fault.MountFault.{MountFault}
 use Rattle.paraid_recover.specs.HeldMoments.{Extends}
+use Rattle.paraid_recover.specs.Map.{HasBitsOf}
 use Rattle.paraid_recover.specs.Mount.{IsCauseOfRefusal}
 use Rattle.paraid_startup.specs.Refusals.{refusal_by_fault}
-use Rattle.paraid_state.specs.Showing.{BeganAt}
+use Rattle.paraid_state.specs.Showing.{BeganAt, IsServedBy}
 use Rattle.paraid_state.specs.MountFaults.{mount_fault_line, mount_fault_status}
 use Rattle.paraid_top.specs.Counts.{check_line, check_status}
 
@@ -42,11 +46,18 @@ pub record HandsBack (slots : ℕ) (old new : ℕ → Slot) (before after : Opti
   pub grows : Extends before after
   pub refused : (began : ℕ) → BeganAt before began → IsRefusedFromEach slots began after (refusal_by_fault fault)
 
--- A rack was not mounted, and the fault was told; or it was, and then this holds.
-pub data MountsAndThen (slots : ℕ) (old new : ℕ → Slot) (before after : Option Trail) (written_before written : Option (List ℕ)) (status : ℕ) (P : Setup → ℕ → Option Trail → Type 0) : Type 0 where
+-- An array in service: its meta, its dirty cells, and the slots of its rack.
+pub record ServedArray : Type 0 where
+  pub meta : Meta
+  pub dirty : ℕ → ℕ → Bool
+  pub slot : ℕ → Slot
+
+-- A rack was not mounted, and the fault was told; or it was, and this array is what stood on its disks, and then this holds of it.
+pub data MountsAndThen (slots : ℕ) (old new : ℕ → Slot) (before after : Option Trail) (written_before written : Option (List ℕ)) (status : ℕ) (P : ServedArray → ℕ → Option Trail → Type 0) : Type 0 where
   refused : (fault : MountFault) → HandsBack slots old new before after fault → EndsWithLine written_before written (mount_fault_line fault) (mount_fault_status fault) status
       → MountsAndThen slots old new before after written_before written status P
-  mounted : (setup : Setup) (began : ℕ) (middle : Option Trail) → BeginsAt before middle after began → P setup began middle → MountsAndThen slots old new before after written_before written status P
+  mounted : (array : ServedArray) (began : ℕ) (middle : Option Trail) → IsServedBy slots old array.slot before middle array.meta array.dirty → BeginsAt before middle after began → P array began middle
+      → MountsAndThen slots old new before after written_before written status P
 
 -- the statuses of a run
 abbrev pub IsStatusOfRun : ℕ → Type 0
@@ -73,18 +84,19 @@ pub record IsEndOver (setup : Setup) (old new : ℕ → Slot) (written_before wr
   pub worn : status ≡ 12 → TellsWear written_before written
 
 -- A run served a mounted array: its headline, and what is known of its end over every rack.
-pub record ServesLines (slots : ℕ) (old new : ℕ → Slot) (after : Option Trail) (left_before left written_before written : Option (List ℕ)) (status : ℕ) (setup : Setup) (began : ℕ) (middle : Option Trail) : Type 0 where
-  pub headline : Headline slots setup began middle after left_before left written_before written status
-  pub end : IsEndOver setup old new written_before written status
+pub record ServesLines (slots : ℕ) (old new : ℕ → Slot) (after : Option Trail) (left_before left written_before written : Option (List ℕ)) (status : ℕ) (array : ServedArray) (began : ℕ) (middle : Option Trail) : Type 0 where
+  pub headline : Headline slots array.meta.setup began middle after left_before left written_before written status
+  pub end : IsEndOver array.meta.setup old new written_before written status
 
 -- The same of generated lines.
-pub record ServesGenerated (slots : ℕ) (old new : ℕ → Slot) (after : Option Trail) (written_before written : Option (List ℕ)) (number lines status : ℕ) (setup : Setup) (began : ℕ) (middle : Option Trail) : Type 0 where
-  pub headline : GenHeadline slots setup began middle after written_before written number lines status
-  pub end : IsEndOver setup old new written_before written status
+pub record ServesGenerated (slots : ℕ) (old new : ℕ → Slot) (after : Option Trail) (written_before written : Option (List ℕ)) (number lines status : ℕ) (array : ServedArray) (began : ℕ) (middle : Option Trail) : Type 0 where
+  pub headline : GenHeadline slots array.meta.setup began middle after written_before written number lines status
+  pub end : IsEndOver array.meta.setup old new written_before written status
 
 -- the state of the first point of a session was told
-abbrev pub TellsState : ℕ → Option (List ℕ) → Option (List ℕ) → ℕ → Setup → ℕ → Option Trail → Type 0
-TellsState slots written_before written status setup began middle = IsMountedFromEach slots setup began middle (λ p. EndsWithLine written_before written (state_lines setup p) 0 status)
+abbrev pub TellsState : ℕ → Option (List ℕ) → Option (List ℕ) → ℕ → ServedArray → ℕ → Option Trail → Type 0
+TellsState slots written_before written status array began middle =
+    IsMountedFromEach slots array.meta.setup began middle (λ p. EndsWithLine written_before written (state_lines array.meta.setup p) 0 status)
 
 -- From this first point of a session a check is one flush, which is answered so. It leaves a rack that held all its writes,
 -- unless two disks are down.
@@ -92,21 +104,27 @@ pub record ChecksFromPoint (slots : ℕ) (setup : Setup) (start final : Option T
   pub flush : EndsStretch slots setup start final p (Flush ∷ []) answer
   pub left : IsLeftByStretch slots flush.all
 
--- A check told its counts, or the halt that ended it. On a rack that held a history nothing was counted, and its calls are
--- those of one flush.
-pub data TellsCounts (slots : ℕ) (setup : Setup) (began : ℕ) (start final : Option Trail) (written_before written : Option (List ℕ)) (status : ℕ) : Type 0 where
-  counted : (report : CheckReport) → EndsWithLine written_before written (check_line report) (check_status report) status
+-- Held or not, these are the counts of what the disks of this array hold, if its dirty cells are those of their map: of all of
+-- it, unless a disk has failed since.
+abbrev pub CountsArray : ServedArray → (ℕ → Slot) → Option Trail → Option Trail → CheckReport → Type 0
+CountsArray array new start final report = (t : Trail) → start ≡ Some t → IsSome final → HasBitsOf array.meta array.dirty (now t)
+    → CountsByView (view_by array.meta (now t).power (contents (now t) [])) array.slot new report
+
+-- A check told its counts, of which this holds, or the halt that ended it. On a rack that held a history nothing was counted,
+-- and its calls are those of one flush.
+pub data TellsCounts (slots : ℕ) (setup : Setup) (began : ℕ) (start final : Option Trail) (written_before written : Option (List ℕ)) (status : ℕ) (Q : CheckReport → Type 0) : Type 0 where
+  counted : (report : CheckReport) → EndsWithLine written_before written (check_line report) (check_status report) status → Q report
       → (IsSome final → IsMountedFromEach slots setup began start (λ p. (report ≡ no_faults) × ChecksFromPoint slots setup start final (Flushed (length p.history)) p))
-      → TellsCounts slots setup began start final written_before written status
+      → TellsCounts slots setup began start final written_before written status Q
   halted : (halt : Halt) → EndsWithLine written_before written (halt_line halt) (status_of_halt halt) status
       → (IsSome final → IsMountedFromEach slots setup began start (ChecksFromPoint slots setup start final (Halted halt)))
-      → TellsCounts slots setup began start final written_before written status
+      → TellsCounts slots setup began start final written_before written status Q
 
 -- A check of a mounted array: what it told, and what is known of its end over every rack.
-pub record ChecksArray (slots : ℕ) (old new : ℕ → Slot) (after : Option Trail) (written_before written : Option (List ℕ)) (status : ℕ) (setup : Setup) (began : ℕ) (middle : Option Trail) : Type 0 where
-  pub told : TellsCounts slots setup began middle after written_before written status
-  pub end : IsEndOver setup old new written_before written status
-  pub found : status ≡ 13 → IsNotDouble setup new
+pub record ChecksArray (slots : ℕ) (old new : ℕ → Slot) (after : Option Trail) (written_before written : Option (List ℕ)) (status : ℕ) (array : ServedArray) (began : ℕ) (middle : Option Trail) : Type 0 where
+  pub told : TellsCounts slots array.meta.setup began middle after written_before written status (CountsArray array new middle after)
+  pub end : IsEndOver array.meta.setup old new written_before written status
+  pub found : status ≡ 13 → IsNotDouble array.meta.setup new
 
 -- What the program does on a command.
 abbrev pub DoesCommand : ℕ → (ℕ → Slot) → (ℕ → Slot) → Option Trail → Option Trail → Option (List ℕ) → Option (List ℕ) → Option (List ℕ) → Option (List ℕ) → ℕ → (Bool → Type 0) → Command → Type 0

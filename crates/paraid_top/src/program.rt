@@ -8,9 +8,9 @@ ghost use Rattle.paraid_state.specs.MountFaults.{mount_fault_line, mount_fault_s
 ghost use Rattle.paraid_serve.specs.Calls.{IsNotDouble};
 ghost use Rattle.paraid_serve.specs.Lost.{NamesTwoLost, TellsWear};
 ghost use Rattle.paraid_session.specs.Mount.{IsMountedFromEach};
-ghost use Rattle.paraid_top.specs.Ends.{ChecksArray, DoesCommand, IsCheckedStatus, IsStatusOfCheck, IsStatusOfGen, IsStatusOfRun, MountsAndThen, ServesGenerated, ServesLines, TellsCounts, TellsState};
+ghost use Rattle.paraid_top.specs.Ends.{ChecksArray, CountsArray, DoesCommand, IsCheckedStatus, IsStatusOfCheck, IsStatusOfGen, IsStatusOfRun, MountsAndThen, ServesGenerated, ServesLines, TellsCounts, TellsState};
 
-use crate::outside::{Checks, Ended, Outside};
+use crate::outside::{Ended, Outside};
 use crate::text::{check_status, check_text};
 use paraid_base::Answer;
 use paraid_commands::generate::serve_generated_mounted;
@@ -128,12 +128,18 @@ pub fn state<K: Sink, R: Rack, A: Serves, O: Outside<R, A>>(
 }
 
 // Checks an array that was just mounted, by a mount that began at some moment: it tells the counts, or the halt that ended them.
-fn tell_counts<K: Sink, A: Serves, O: Checks<A>>(outside: &O, sink: &mut K, array: &mut A) -> u8
+fn tell_counts<K: Sink, R: Rack, A: Serves, O: Outside<R, A>>(
+    outside: &O,
+    sink: &mut K,
+    array: &mut A,
+) -> u8
     requires going { A.halted array.old ≡ None }
+    requires nothing { O.nothing array.old }
     ensures counts { (began : ℕ) → IsMountedFromEach (A.slots array.old) (A.setup array.old) began
         (A.told array.old) (A.stands array.old)
         → TellsCounts (A.slots array.old) (A.setup array.old) began (A.told array.old)
-        (A.told array.new) (K.written sink.old) (K.written sink.new) result }
+        (A.told array.new) (K.written sink.old) (K.written sink.new) result
+        (CountsArray (O.served array.old) (A.slot array.new) (A.told array.old) (A.told array.new)) }
     ensures told { Extends (A.told array.old) (A.told array.new) }
     ensures status { IsCheckedStatus result }
     ensures present { result ≡ 0 → IsNotDouble (A.setup array.old) (A.slot array.new) }
@@ -157,7 +163,7 @@ fn tell_counts<K: Sink, A: Serves, O: Checks<A>>(outside: &O, sink: &mut K, arra
 }
 
 /// Mounts and counts what is false.
-pub fn check<K: Sink, R: Rack, A: Serves, O: Outside<R, A> + Checks<A>>(
+pub fn check<K: Sink, R: Rack, A: Serves, O: Outside<R, A>>(
     outside: &O,
     sink: &mut K,
     rack: R,
@@ -171,7 +177,7 @@ pub fn check<K: Sink, R: Rack, A: Serves, O: Outside<R, A> + Checks<A>>(
 {
     match outside.mount(rack) {
         Ok(mut array) => {
-            let status = tell_counts(outside, sink, &mut array);
+            let status = tell_counts::<K, R, A, O>(outside, sink, &mut array);
             Ended {
                 status,
                 rack: outside.unmount(array),
@@ -185,7 +191,7 @@ pub fn check<K: Sink, R: Rack, A: Serves, O: Outside<R, A> + Checks<A>>(
 }
 
 /// The program. On words that ask for nothing it tells which there are, and does nothing else.
-pub fn paraid<S: Source, K: Sink, R: Rack, A: Serves, O: Outside<R, A> + Checks<A>>(
+pub fn paraid<S: Source, K: Sink, R: Rack, A: Serves, O: Outside<R, A>>(
     outside: &O,
     words: &Vec<String>,
     source: &mut S,

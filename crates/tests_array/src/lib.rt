@@ -8,4 +8,4 @@ mod lost;
 #[cfg(test)]
 mod played;
 #[cfg(test)]
-mod requests;
+mod steps;

@@ -6,7 +6,6 @@ use paraid_memrack::{MemRack, Pick, Planned};
 use paraid_program::{Ended, paraid};
 use paraid_rack::Rack;
 use std::alloc::Global;
-use std::test::Fail;
 
 // The lines of the configuration that each array here has; the others are given with it.
 const LINES: &str = "disks = 5\nrows = 5\ngears = [4, 5]\nrate = 1\nup = 80\ndown = 60\n\
@@ -32,29 +31,44 @@ pub struct Outcome {
     pub rack: MemRack,
 }
 
-// What the program does with this word over this input. The second call of the source fails, where the input is
-// to be all that is heard.
-fn ran(alloc: Global, word: &str, input: &[u8], cut: bool, rack: MemRack) -> Result<Outcome, Fail> {
-    let mut bytes = Vec::new(alloc);
-    bytes.extend_from_slice(input)?;
-    let fails = vec![in alloc; if cut { 1 } else { MOST }]?;
-    let mut source = MemSource::new(bytes, fails);
-    let mut sink = MemSink::new(alloc, 4096, Vec::new(alloc))?;
-    let words = vec![in alloc; String::from_str(alloc, word)?]?;
-    let Ended { status, rack } = paraid(alloc, &words, &mut source, &mut sink, rack);
-    let mut text = Vec::new(alloc);
-    text.extend_from_slice(sink.bytes())?;
-    Ok(Outcome { status, text, rack })
+impl Outcome {
+    /// Whether it ended well, and this text is all that it wrote.
+    pub fn tells(&self, text: &str) -> bool {
+        self.status == 0 && self.text.as_slice() == text.as_bytes()
+    }
+}
+
+/// A list of this one word.
+pub fn list_of(alloc: Global, word: &str) -> Option<Vec<String>> {
+    let word = String::from_str(alloc, word).ok()?;
+    vec![in alloc; word].ok()
+}
+
+/// A source of this input whose call of this number fails.
+pub fn source_of(alloc: Global, input: &[u8], fails: u32) -> Option<MemSource> {
+    let bytes = input.to_vec(alloc).ok()?;
+    let fails = vec![in alloc; fails].ok()?;
+    Some(MemSource::new(bytes, fails))
+}
+
+// What the program does with this word over this input, where the source's call of this number fails.
+fn ran(alloc: Global, word: &str, input: &[u8], fails: u32, rack: MemRack) -> Option<Outcome> {
+    let list = list_of(alloc, word)?;
+    let mut source = source_of(alloc, input, fails)?;
+    let mut sink = MemSink::new(alloc, 4096, Vec::new(alloc)).ok()?;
+    let Ended { status, rack } = paraid(alloc, &list, &mut source, &mut sink, rack);
+    let text = sink.bytes().to_vec(alloc).ok()?;
+    Some(Outcome { status, text, rack })
 }
 
 /// A run over this input to its end.
-pub fn run(alloc: Global, input: &[u8], rack: MemRack) -> Result<Outcome, Fail> {
-    ran(alloc, "run", input, false, rack)
+pub fn run(alloc: Global, input: &str, rack: MemRack) -> Option<Outcome> {
+    ran(alloc, "run", input.as_bytes(), MOST, rack)
 }
 
 /// A run that is cut off after this input, with no flush at its end: the source fails there.
-pub fn cut_off(alloc: Global, input: &[u8], rack: MemRack) -> Result<Outcome, Fail> {
-    ran(alloc, "run", input, true, rack)
+pub fn cut_off(alloc: Global, input: &str, rack: MemRack) -> Option<Outcome> {
+    ran(alloc, "run", input.as_bytes(), 1, rack)
 }
 
 /// What a stop before this call leaves, or the end where there are fewer, with this disk lost besides. These calls
@@ -66,32 +80,37 @@ pub fn left(
     pick: Pick,
     lost: Option<DiskNo>,
     plan: &[Planned],
-) -> Result<MemRack, Fail> {
-    let mut fails = Vec::new(alloc);
-    for &planned in plan {
-        fails.push(planned)?;
-    }
-    let mut rack = rack.stopped(alloc, moment.min(rack.calls()), pick, MOST, fails)?;
+) -> Option<MemRack> {
+    let fails = plan.to_vec(alloc).ok()?;
+    let moment = moment.min(rack.calls());
+    let mut left = rack.stopped(alloc, moment, pick, MOST, fails).ok()?;
     if let Some(disk) = lost {
-        if disk < rack.slots() {
-            rack.lose(disk);
+        if disk < left.slots() {
+            left.lose(disk);
         }
     }
-    Ok(rack)
+    Some(left)
 }
 
 /// The disks as they are, before any call. These calls fail.
-pub fn restarted(alloc: Global, rack: &MemRack, plan: &[Planned]) -> Result<MemRack, Fail> {
+pub fn restarted(alloc: Global, rack: &MemRack, plan: &[Planned]) -> Option<MemRack> {
     left(alloc, rack, MOST, Pick::New, None, plan)
 }
 
+// An array with these lines, as its format left it.
+fn formatted(alloc: Global, lines: &str) -> Option<MemRack> {
+    let text = format!(in alloc; "{LINES}{lines}").ok()?;
+    let bare = MemRack::new(alloc, 5, 200, MOST, Vec::new(alloc)).ok()?;
+    let made = ran(alloc, "format", text.as_bytes(), MOST, bare)?;
+    Some(made.rack)
+}
+
 /// A new array with these lines, after a run over each of these inputs.
-pub fn array(alloc: Global, lines: &str, before: &[&str]) -> Result<MemRack, Fail> {
-    let text = format!(in alloc; "{LINES}{lines}")?;
-    let bare = MemRack::new(alloc, 5, 200, MOST, Vec::new(alloc))?;
-    let mut rack = ran(alloc, "format", text.as_bytes(), false, bare)?.rack;
+pub fn array(alloc: Global, lines: &str, before: &[&str]) -> Option<MemRack> {
+    let mut rack = restarted(alloc, &formatted(alloc, lines)?, &[])?;
     for input in before {
-        rack = run(alloc, input.as_bytes(), restarted(alloc, &rack, &[])?)?.rack;
+        let run = run(alloc, input, rack)?;
+        rack = restarted(alloc, &run.rack, &[])?;
     }
-    restarted(alloc, &rack, &[])
+    Some(rack)
 }

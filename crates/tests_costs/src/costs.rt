@@ -6,13 +6,12 @@
 //! sync, and its gate is closed by a write and a sync. So it makes 5 L + (L + 1) t writes and 4 L + s syncs: with both
 //! log disks 10 + 3 t and 8 + s, with one 5 + 2 t and 4 + s.
 
-use crate::arrays::{ACCESS, LOADED, WHOLE, array, cut_off, left, restarted};
+use crate::arrays::{ACCESS, LOADED, Outcome, WHOLE, array, cut_off, left, restarted};
 use paraid_base::DiskNo;
 use paraid_memrack::{MemRack, Pick, Planned};
 use paraid_rack::Call;
 use std::alloc::Global;
 use std::process::Abort;
-use std::test::Fail;
 
 // How many calls are reads, writes, syncs, parks, spin-ups and attaches.
 type Cost = [u32; 6];
@@ -56,13 +55,18 @@ fn calls_from(rack: &MemRack, first: u32) -> Cost {
     cost
 }
 
-// How many calls the mount and these lines make on this array.
-fn calls_of(alloc: Global, start: &MemRack, plan: &[Planned], lines: &str) -> Result<u32, Fail> {
-    let run = cut_off(alloc, lines.as_bytes(), restarted(alloc, start, plan)?)?;
-    Ok(run.rack.calls())
+// A run that is cut off after these lines. These calls fail.
+fn run_of(alloc: Global, start: &MemRack, plan: &[Planned], lines: &str) -> Option<Outcome> {
+    cut_off(alloc, lines, restarted(alloc, start, plan)?)
 }
 
-// What an event after these lines costs, and whether it is answered so. These calls fail.
+// Whether a run that was cut off has ended with this answer.
+fn is_answered(alloc: Global, run: &Outcome, answer: &str) -> Option<bool> {
+    let end = format!(in alloc; "\n{answer}\nsource\n").ok()?;
+    Some(run.text.ends_with(end.as_bytes()))
+}
+
+// What an event after these lines costs, where it is answered so. These calls fail.
 fn cost_of(
     alloc: Global,
     start: &MemRack,
@@ -70,25 +74,25 @@ fn cost_of(
     lines: &str,
     event: &str,
     answer: &str,
-) -> Result<(bool, Cost), Fail> {
-    let first = calls_of(alloc, start, plan, lines)?;
-    let input = format!(in alloc; "{lines}{event}\n")?;
-    let run = cut_off(alloc, input.as_bytes(), restarted(alloc, start, plan)?)?;
-    let end = format!(in alloc; "\n{answer}\nsource\n")?;
-    let answered = run.text.ends_with(end.as_bytes());
-    Ok((answered, calls_from(&run.rack, first)))
+) -> Option<Cost> {
+    let before = run_of(alloc, start, plan, lines)?;
+    let input = format!(in alloc; "{lines}{event}\n").ok()?;
+    let run = run_of(alloc, start, plan, input.as_str())?;
+    if !is_answered(alloc, &run, answer)? {
+        return None;
+    }
+    Some(calls_from(&run.rack, before.rack.calls()))
 }
 
-fn check(rt: &(impl Abort + AllocGlobal), table: &[Cases]) -> Result<(), Fail> {
+fn check(rt: &(impl Abort + AllocGlobal), table: &[Cases]) {
     let alloc = rt.alloc();
     for group in table {
-        let start = array(alloc, group.lines, &[group.before])?;
+        let start = array(alloc, group.lines, &[group.before]).expect(rt, "there is memory");
         for &(prefix, event, answer, cost) in group.cases {
-            let found = cost_of(alloc, &start, &[], prefix, event, answer)?;
-            assert!(rt; found == (true, cost), "{prefix} {event}");
+            let found = cost_of(alloc, &start, &[], prefix, event, answer);
+            assert!(rt; found == Some(cost), "{prefix} {event}");
         }
     }
-    Ok(())
 }
 
 // In the top gear each block and each parity lies in its own place.
@@ -142,7 +146,7 @@ const TOP: [Cases; 1] = [Cases {
 }];
 
 #[test]
-fn an_event_in_the_top_gear_costs_no_more_than_it_is_to_do(rt: HostRuntime) -> Result<(), Fail> {
+fn an_event_in_the_top_gear_costs_no_more_than_it_is_to_do(rt: HostRuntime) {
     check(&rt, &TOP)
 }
 
@@ -178,7 +182,7 @@ const LOW: [Cases; 2] = [
 ];
 
 #[test]
-fn an_event_in_a_low_gear_costs_no_more_than_it_is_to_do(rt: HostRuntime) -> Result<(), Fail> {
+fn an_event_in_a_low_gear_costs_no_more_than_it_is_to_do(rt: HostRuntime) {
     check(&rt, &LOW)
 }
 
@@ -229,7 +233,7 @@ const DEGRADED: [Cases; 3] = [
 ];
 
 #[test]
-fn an_event_with_a_disk_out_costs_no_more_than_it_is_to_do(rt: HostRuntime) -> Result<(), Fail> {
+fn an_event_with_a_disk_out_costs_no_more_than_it_is_to_do(rt: HostRuntime) {
     check(&rt, &DEGRADED)
 }
 
@@ -322,7 +326,7 @@ const SHIFTS: [Cases; 6] = [
 ];
 
 #[test]
-fn a_shift_and_its_ticks_cost_no_more_than_they_are_to_do(rt: HostRuntime) -> Result<(), Fail> {
+fn a_shift_and_its_ticks_cost_no_more_than_they_are_to_do(rt: HostRuntime) {
     check(&rt, &SHIFTS)
 }
 
@@ -339,7 +343,7 @@ const FAILURES: [Cases; 1] = [Cases {
 }];
 
 #[test]
-fn a_failure_costs_one_commit(rt: HostRuntime) -> Result<(), Fail> {
+fn a_failure_costs_one_commit(rt: HostRuntime) {
     check(&rt, &FAILURES)
 }
 
@@ -428,7 +432,7 @@ const REPAIRS: [Cases; 5] = [
 ];
 
 #[test]
-fn a_repair_costs_no_more_than_it_is_to_do(rt: HostRuntime) -> Result<(), Fail> {
+fn a_repair_costs_no_more_than_it_is_to_do(rt: HostRuntime) {
     check(&rt, &REPAIRS)
 }
 
@@ -453,7 +457,7 @@ const AFTERWARDS: [Cases; 2] = [
 ];
 
 #[test]
-fn a_flush_commits_nothing_twice(rt: HostRuntime) -> Result<(), Fail> {
+fn a_flush_commits_nothing_twice(rt: HostRuntime) {
     check(&rt, &AFTERWARDS)
 }
 
@@ -567,24 +571,26 @@ const LOSSES: [Loss; 13] = [
 ];
 
 #[test]
-fn a_loss_costs_no_more_than_it_is_to_do(rt: HostRuntime) -> Result<(), Fail> {
+fn a_loss_costs_no_more_than_it_is_to_do(rt: HostRuntime) {
     let alloc = rt.alloc();
-    let start = array(alloc, WHOLE, &[])?;
-    for (disk, nth, prefix, event, answer, cost) in LOSSES {
+    let start = array(alloc, WHOLE, &[]).expect(&rt, "there is memory");
+    for &(disk, nth, prefix, event, answer, cost) in LOSSES.iter() {
         let plan = [Planned::OnDisk { disk, nth }];
-        let found = cost_of(alloc, &start, &plan, prefix, event, answer)?;
-        assert!(rt; found == (true, cost), "{prefix} {event}");
+        let found = cost_of(alloc, &start, &plan, prefix, event, answer);
+        assert!(rt; found == Some(cost), "{prefix} {event}");
     }
-    Ok(())
 }
 
-// What a run costs that only mounts, on what a stop before this call of a run over these lines leaves.
-fn mount_of(alloc: Global, before: &str, lines: &str, moment: u32) -> Result<Cost, Fail> {
-    let start = array(alloc, WHOLE, &[before])?;
-    let run = cut_off(alloc, lines.as_bytes(), start)?;
-    let stopped = left(alloc, &run.rack, moment, Pick::New, None, &[])?;
-    let mounted = cut_off(alloc, b"", stopped)?;
-    Ok(calls_from(&mounted.rack, 0))
+// What a stop before this call of a run over these lines leaves.
+fn stopped_in(alloc: Global, before: &str, lines: &str, moment: u32) -> Option<MemRack> {
+    let run = cut_off(alloc, lines, array(alloc, WHOLE, &[before])?)?;
+    left(alloc, &run.rack, moment, Pick::New, None, &[])
+}
+
+// What a run costs there that only mounts.
+fn mount_of(alloc: Global, before: &str, lines: &str, moment: u32) -> Option<Cost> {
+    let mounted = cut_off(alloc, "", stopped_in(alloc, before, lines, moment)?)?;
+    Some(calls_from(&mounted.rack, 0))
 }
 
 // The run before, the lines of a run, the call before which it is stopped, and what a mount of what that leaves costs.
@@ -605,10 +611,9 @@ const MOUNTS: [(&str, &str, u32, Cost); 5] = [
 ];
 
 #[test]
-fn a_mount_costs_no_more_than_it_is_to_do(rt: HostRuntime) -> Result<(), Fail> {
-    for (before, lines, moment, cost) in MOUNTS {
-        let found = mount_of(rt.alloc(), before, lines, moment)?;
-        assert!(rt; found == cost, "{before} {lines} {moment}");
+fn a_mount_costs_no_more_than_it_is_to_do(rt: HostRuntime) {
+    for &(before, lines, moment, cost) in MOUNTS.iter() {
+        let found = mount_of(rt.alloc(), before, lines, moment);
+        assert!(rt; found == Some(cost), "{before} {lines} {moment}");
     }
-    Ok(())
 }

@@ -1,15 +1,14 @@
 //! An answer to a flush is written no sooner than the disks keep the writes that it counts.
 ghost use Rattle.paraid_memrack.specs.Rules.{rack_slot_count, slots_of, told_of};
 
-use crate::arrays::{MOST, Outcome, WHOLE, array, left, run};
+use crate::arrays::{MOST, Outcome, WHOLE, array, left, list_of, run, source_of};
 use paraid_base::{Block, DiskNo, Failed, Place};
-use paraid_io::{MemSource, Sink};
+use paraid_io::Sink;
 use paraid_memrack::{MemRack, Pick};
 use paraid_program::{Ended, paraid};
 use paraid_rack::{Power, Rack};
 use std::alloc::Global;
 use std::cell::Cell;
-use std::test::Fail;
 
 /// A rack in memory whose calls are counted where a sink sees the count.
 #[derive(Drop)]
@@ -136,8 +135,10 @@ fn time_of_line(sink: &TimedSink, line: u8) -> u32 {
     MOST
 }
 
+const TWO_FLUSHES: &str = "w 3 11\nf\nw 3 22\nf\n";
+
 // The disks after a run over these lines, and when the answers to its two flushes began to be written.
-fn timed(alloc: Global, lines: &[u8]) -> Result<(u8, MemRack, [u32; 2]), Fail> {
+fn timed(alloc: Global, lines: &str) -> Option<(u8, MemRack, [u32; 2])> {
     let calls = Cell::new(0);
     let rack = CountedRack {
         rack: array(alloc, WHOLE, &[])?,
@@ -149,13 +150,11 @@ fn timed(alloc: Global, lines: &[u8]) -> Result<(u8, MemRack, [u32; 2]), Fail> {
         length: 0,
         calls: &calls,
     };
-    let mut bytes = Vec::new(alloc);
-    bytes.extend_from_slice(lines)?;
-    let mut source = MemSource::new(bytes, Vec::new(alloc));
-    let words = vec![in alloc; String::from_str(alloc, "run")?]?;
+    let mut source = source_of(alloc, lines.as_bytes(), MOST)?;
+    let words = list_of(alloc, "run")?;
     let Ended { status, rack } = paraid(alloc, &words, &mut source, &mut sink, rack);
     let times = [time_of_line(&sink, 2), time_of_line(&sink, 4)];
-    Ok((status, rack.rack, times))
+    Some((status, rack.rack, times))
 }
 
 // What is told of block 3 after what a stop at this moment leaves.
@@ -165,35 +164,37 @@ fn told_after(
     moment: u32,
     pick: Pick,
     lost: Option<DiskNo>,
-) -> Result<Outcome, Fail> {
-    run(alloc, b"r 3\n", left(alloc, rack, moment, pick, lost, &[])?)
+) -> Option<Outcome> {
+    run(alloc, "r 3\n", left(alloc, rack, moment, pick, lost, &[])?)
 }
 
 const PICKS: [Pick; 4] = [Pick::Old, Pick::New, Pick::Filled(165), Pick::Mixed];
 
 const LOST: [Option<DiskNo>; 6] = [None, Some(0), Some(1), Some(2), Some(3), Some(4)];
 
+// When the text of each flush began to be written, and what is told after what a stop there leaves.
+const FLUSHES: [(u32, &str); 2] = [
+    (39, "mounted 1 gear 5\n3=11\nend 1\n"),
+    (67, "mounted 2 gear 5\n3=22\nend 2\n"),
+];
+
 #[test]
-fn a_flush_is_answered_when_its_writes_are_kept(rt: HostRuntime) -> Result<(), Fail> {
+fn a_flush_is_answered_when_its_writes_are_kept(rt: HostRuntime) {
     let alloc = rt.alloc();
-    let (status, rack, times) = timed(alloc, b"w 3 11\nf\nw 3 22\nf\n")?;
+    let (status, rack, times) = timed(alloc, TWO_FLUSHES).expect(&rt, "there is memory");
     assert!(rt; status == 0);
     // The mount's 11 calls, and twice two reads and a commit of 26.
     assert!(rt; times == [39, 67]);
-    let wants = [
-        "mounted 1 gear 5\n3=11\nend 1\n",
-        "mounted 2 gear 5\n3=22\nend 2\n",
-    ];
-    for at in 0..2usize {
+    for &(moment, want) in FLUSHES.iter() {
         for pick in PICKS {
             for lost in LOST {
-                let told = told_after(alloc, &rack, times[at], pick, lost)?;
+                let told = told_after(alloc, &rack, moment, pick, lost);
+                let told = told.expect(&rt, "there is memory");
                 assert!(rt;
-                    told.text.as_slice() == wants[at].as_bytes(),
-                    "{at} {pick:?} {lost:?}"
+                    told.text.as_slice() == want.as_bytes(),
+                    "{moment} {pick:?} {lost:?}"
                 );
             }
         }
     }
-    Ok(())
 }

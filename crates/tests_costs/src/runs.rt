@@ -1,12 +1,10 @@
 //! Which calls worked traces make on a disk, and what stops at chosen calls leave.
 
-use crate::arrays::{Outcome, WHOLE, array, left, restarted, run};
+use crate::arrays::{Outcome, WHOLE, array, left, run};
 use paraid_base::{DiskNo, Place};
 use paraid_memrack::{MemRack, Pick};
 use paraid_rack::{Call, Power, Rack};
 use std::alloc::Global;
-use std::process::Abort;
-use std::test::Fail;
 
 // A call that is told of by its letter, its disk, and its place where it has one.
 type Noted = (char, DiskNo, Place);
@@ -34,15 +32,15 @@ fn told(call: &Call) -> Noted {
 }
 
 // The calls on this disk, or the writes past the log.
-fn calls_on(alloc: Global, rack: &MemRack, disk: Option<DiskNo>) -> Result<Vec<Noted>, Fail> {
+fn calls_on(alloc: Global, rack: &MemRack, disk: Option<DiskNo>) -> Option<Vec<Noted>> {
     let mut calls = Vec::new(alloc);
     for at in 0..rack.calls() {
         let call = rack.call(at);
         if is_told(call, disk) {
-            calls.push(told(call))?;
+            calls.push(told(call)).ok()?;
         }
     }
-    Ok(calls)
+    Some(calls)
 }
 
 // Runs before, the lines of a run, what is looked for among its calls, and those, in their order.
@@ -115,15 +113,20 @@ const CALLS: [Traced; 5] = [
     ),
 ];
 
+// What a run over these lines makes of a new array, after runs over others.
+fn after(alloc: Global, before: &[&str], lines: &str) -> Option<MemRack> {
+    let run = run(alloc, lines, array(alloc, WHOLE, before)?)?;
+    Some(run.rack)
+}
+
 #[test]
-fn a_disk_gets_the_calls_that_were_worked(rt: HostRuntime) -> Result<(), Fail> {
+fn a_disk_gets_the_calls_that_were_worked(rt: HostRuntime) {
     let alloc = rt.alloc();
-    for (before, lines, disk, want) in CALLS {
-        let rack = run(alloc, lines.as_bytes(), array(alloc, WHOLE, before)?)?.rack;
-        let found = calls_on(alloc, &rack, disk)?;
+    for &(before, lines, disk, want) in CALLS.iter() {
+        let rack = after(alloc, before, lines).expect(&rt, "there is memory");
+        let found = calls_on(alloc, &rack, disk).expect(&rt, "there is memory");
         assert!(rt; found.as_slice() == want, "{lines}");
     }
-    Ok(())
 }
 
 // The number of the call that writes an open gate on this disk for the time of this number.
@@ -158,10 +161,15 @@ const ONE: &str = "mounted 1 gear 5\n3=11\nend 1\n";
 const BOTH: &str = "mounted 2 gear 5\n3=22\nend 2\n";
 
 // Two flushed writes of block 3, stopped between the write and the sync of the second one's first gate.
-fn torn(alloc: Global, pick: Pick, lost: Option<DiskNo>) -> Result<MemRack, Fail> {
-    let run = run(alloc, b"w 3 11\nf\nw 3 22\nf\n", array(alloc, WHOLE, &[])?)?;
-    let gate = opening(&run.rack, 0, 1);
-    left(alloc, &run.rack, gate.saturating_add(1), pick, lost, &[])
+fn torn(alloc: Global, pick: Pick, lost: Option<DiskNo>) -> Option<MemRack> {
+    let rack = after(alloc, &[], "w 3 11\nf\nw 3 22\nf\n")?;
+    let gate = opening(&rack, 0, 1);
+    left(alloc, &rack, gate.saturating_add(1), pick, lost, &[])
+}
+
+// What the next run tells of block 3.
+fn told_of_torn(alloc: Global, pick: Pick, lost: Option<DiskNo>) -> Option<Outcome> {
+    run(alloc, "r 3\n", torn(alloc, pick, lost)?)
 }
 
 // What is loose, the disk that is lost, and what is told.
@@ -175,14 +183,11 @@ const GATES: [(Pick, Option<DiskNo>, &str); 6] = [
 ];
 
 #[test]
-fn a_gate_that_was_not_synced_lets_the_write_stand_or_not(rt: HostRuntime) -> Result<(), Fail> {
-    let alloc = rt.alloc();
-    for (pick, lost, want) in GATES {
-        let Outcome { status, text, .. } = run(alloc, b"r 3\n", torn(alloc, pick, lost)?)?;
-        assert!(rt; text.as_slice() == want.as_bytes(), "{pick:?} {lost:?}");
-        assert!(rt; status == 0);
+fn a_gate_that_was_not_synced_lets_the_write_stand_or_not(rt: HostRuntime) {
+    for &(pick, lost, want) in GATES.iter() {
+        let told = told_of_torn(rt.alloc(), pick, lost).expect(&rt, "there is memory");
+        assert!(rt; told.tells(want), "{pick:?} {lost:?}");
     }
-    Ok(())
 }
 
 // What is told once disk 0 is lost, by the stop in the mount: before the write of the gate on disk 1, between that and
@@ -194,29 +199,35 @@ fn told_beside(moment: u32, gate: u32, pick: Pick) -> &'static str {
     BOTH
 }
 
+// A mount of two flushed writes whose second one's first gate was not synced.
+fn mounted(alloc: Global) -> Option<MemRack> {
+    let run = run(alloc, "", torn(alloc, Pick::New, None)?)?;
+    Some(run.rack)
+}
+
 // Stops a mount of these disks at this moment, loses disk 0, and tells what the next run tells of block 3.
-fn mounted_beside(alloc: Global, rack: &MemRack, moment: u32, pick: Pick) -> Result<Outcome, Fail> {
+fn told_after(alloc: Global, rack: &MemRack, moment: u32, pick: Pick) -> Option<Outcome> {
     run(
         alloc,
-        b"r 3\n",
+        "r 3\n",
         left(alloc, rack, moment, pick, Some(0), &[])?,
     )
 }
 
 #[test]
-fn a_mount_brings_an_open_batch_to_the_other_log_disk(rt: HostRuntime) -> Result<(), Fail> {
+fn a_mount_brings_an_open_batch_to_the_other_log_disk(rt: HostRuntime) {
     let alloc = rt.alloc();
-    let rack = run(alloc, b"", torn(alloc, Pick::New, None)?)?.rack;
+    let rack = mounted(alloc).expect(&rt, "there is memory");
     let gate = opening(&rack, 1, 0);
     for moment in 0..=rack.calls() {
         for pick in [Pick::Old, Pick::New, Pick::Filled(165), Pick::Mixed] {
-            let Outcome { status, text, .. } = mounted_beside(alloc, &rack, moment, pick)?;
-            let want = told_beside(moment, gate, pick);
-            assert!(rt; text.as_slice() == want.as_bytes(), "{moment} {pick:?}");
-            assert!(rt; status == 0);
+            let told = told_after(alloc, &rack, moment, pick).expect(&rt, "there is memory");
+            assert!(rt;
+                told.tells(told_beside(moment, gate, pick)),
+                "{moment} {pick:?}"
+            );
         }
     }
-    Ok(())
 }
 
 // How the disks are powered.
@@ -230,15 +241,22 @@ fn powers(rack: &MemRack) -> [Power; 5] {
     powers
 }
 
+const POWERS: [Power; 5] = [
+    Power::Spinning,
+    Power::Spinning,
+    Power::Spinning,
+    Power::Spinning,
+    Power::Parked,
+];
+
+// Runs over these lines come one after the other.
+const PARKED: [&str; 3] = [SHIFTED, "t\ne\n", "fail 4\nreplace 4\nt\nt\nt\nt\nt\n"];
+
 #[test]
-fn a_disk_is_parked_by_a_shift_and_after_its_rebuild(rt: HostRuntime) -> Result<(), Fail> {
-    let alloc = rt.alloc();
-    let mut want = [Power::Spinning; 5];
-    want[4] = Power::Parked;
-    let mut rack = array(alloc, WHOLE, &[])?;
-    for lines in [SHIFTED, "t\ne\n", "fail 4\nreplace 4\nt\nt\nt\nt\nt\n"] {
-        rack = run(alloc, lines.as_bytes(), restarted(alloc, &rack, &[])?)?.rack;
-        assert!(rt; powers(&rack) == want, "{lines}");
+fn a_disk_is_parked_by_a_shift_and_after_its_rebuild(rt: HostRuntime) {
+    for count in 0..PARKED.len() {
+        let rack = after(rt.alloc(), &PARKED[..count], PARKED[count]);
+        let rack = rack.expect(&rt, "there is memory");
+        assert!(rt; powers(&rack) == POWERS, "{count}");
     }
-    Ok(())
 }

@@ -6,7 +6,6 @@ use paraid_base::DiskNo;
 use paraid_memrack::{MemRack, Pick, Planned};
 use std::alloc::Global;
 use std::process::Abort;
-use std::test::Fail;
 
 // The pairs of a write, each a block and its byte in text.
 type Entry = &'static [(u32, &'static str)];
@@ -45,31 +44,42 @@ fn held(writes: &[Entry], block: u32) -> &'static str {
     byte
 }
 
+// Adds a line to a text.
+fn add(text: &mut Vec<u8>, line: &str) -> Option<()> {
+    text.extend_from_slice(line.as_bytes()).ok()?;
+    Some(())
+}
+
 // What a run tells of all blocks after these writes, in this gear.
-fn told(alloc: Global, writes: &[Entry], gear: u8) -> Result<Vec<u8>, Fail> {
+fn told(alloc: Global, writes: &[Entry], gear: u8) -> Option<Vec<u8>> {
     let count = writes.len();
-    let first = format!(in alloc; "mounted {count} gear {gear}\n")?;
     let mut text = Vec::new(alloc);
-    text.extend_from_slice(first.as_bytes())?;
+    add(
+        &mut text,
+        format!(in alloc; "mounted {count} gear {gear}\n")
+            .ok()?
+            .as_str(),
+    )?;
     for block in 0..20u32 {
         let byte = held(writes, block);
-        let line = format!(in alloc; "{block}={byte}\n")?;
-        text.extend_from_slice(line.as_bytes())?;
+        add(
+            &mut text,
+            format!(in alloc; "{block}={byte}\n").ok()?.as_str(),
+        )?;
     }
-    let last = format!(in alloc; "end {count}\n")?;
-    text.extend_from_slice(last.as_bytes())?;
-    Ok(text)
+    add(&mut text, format!(in alloc; "end {count}\n").ok()?.as_str())?;
+    Some(text)
 }
 
 // Each text that a run may tell, where at least so many of the writes are kept.
-fn texts(alloc: Global, writes: &'static [Entry], kept: usize) -> Result<Vec<Vec<u8>>, Fail> {
+fn texts(alloc: Global, writes: &'static [Entry], kept: usize) -> Option<Vec<Vec<u8>>> {
     let mut texts = Vec::new(alloc);
     for count in kept.min(writes.len())..=writes.len() {
         for gear in [4, 5] {
-            texts.push(told(alloc, &writes[..count], gear)?)?;
+            texts.push(told(alloc, &writes[..count], gear)?).ok()?;
         }
     }
-    Ok(texts)
+    Some(texts)
 }
 
 fn is_among(texts: &Vec<Vec<u8>>, text: &[u8]) -> bool {
@@ -89,69 +99,77 @@ fn may_be_lost(out: Option<DiskNo>, lost: Option<DiskNo>) -> bool {
     out.is_none() || lost.is_none() || lost == out
 }
 
-// Whether a run over these disks, without this one, ends well and tells one of these texts.
+// What a run over these disks, without this one, tells of all blocks.
+fn read_after(alloc: Global, image: &MemRack, lost: Option<DiskNo>) -> Option<Outcome> {
+    run(alloc, READS, left(alloc, image, 0, Pick::New, lost, &[])?)
+}
+
+// Whether it ends well and tells one of these texts.
 fn tells_one_of(
     alloc: Global,
     image: &MemRack,
     lost: Option<DiskNo>,
     texts: &Vec<Vec<u8>>,
-) -> Result<bool, Fail> {
-    let start = left(alloc, image, 0, Pick::New, lost, &[])?;
-    let Outcome { status, text, .. } = run(alloc, READS.as_bytes(), start)?;
-    Ok(status == 0 && is_among(texts, &text))
+) -> Option<bool> {
+    let told = read_after(alloc, image, lost)?;
+    Some(told.status == 0 && is_among(texts, &told.text))
 }
 
-// Mounts what a stop before this call leaves, and tells the first of which another text than these is told.
-fn wrong_at(
+// The first disk that may be lost, or none, without which another text than these is told.
+fn wrong_without(
     alloc: Global,
+    image: &MemRack,
+    out: Option<DiskNo>,
+    texts: &Vec<Vec<u8>>,
+) -> Option<Option<DiskNo>> {
+    for lost in LOST {
+        if may_be_lost(out, lost) && tells_one_of(alloc, image, lost, texts) != Some(true) {
+            return Some(lost);
+        }
+    }
+    None
+}
+
+// Mounts what a stop before this call leaves.
+fn stop_at(
+    rt: &(impl Abort + AllocGlobal),
     rack: &MemRack,
     moment: u32,
     picks: &[Pick],
     out: Option<DiskNo>,
     texts: &Vec<Vec<u8>>,
-) -> Result<Option<(Pick, Option<DiskNo>)>, Fail> {
+) {
     for &pick in picks {
-        let image = left(alloc, rack, moment, pick, None, &[])?;
-        for lost in LOST {
-            if may_be_lost(out, lost) {
-                let told = tells_one_of(alloc, &image, lost, texts)?;
-                if !told {
-                    return Ok(Some((pick, lost)));
-                }
-            }
-        }
+        let image = left(rt.alloc(), rack, moment, pick, None, &[]);
+        let image = image.expect(rt, "there is memory");
+        let wrong = wrong_without(rt.alloc(), &image, out, texts);
+        assert!(rt;
+            wrong.is_none(),
+            "before call {moment}, {pick:?}: {wrong:?}"
+        );
     }
-    Ok(None)
 }
 
-// How many calls a mount of these disks makes.
-fn mount_of(alloc: Global, rack: &MemRack) -> Result<u32, Fail> {
-    let run = run(alloc, b"", restarted(alloc, rack, &[])?)?;
-    Ok(run.rack.calls())
+// The run, and how many calls its mount makes.
+fn whole_run(alloc: Global, row: &Stopped) -> Option<(Outcome, u32)> {
+    let start = array(alloc, WHOLE, row.before)?;
+    let mounted = run(alloc, "", restarted(alloc, &start, &[])?)?;
+    let whole = run(alloc, row.lines, restarted(alloc, &start, row.fails)?)?;
+    Some((whole, mounted.rack.calls()))
 }
 
 // Stops this run before each of its calls, and once it has ended.
-fn stop(rt: &(impl Abort + AllocGlobal), row: &Stopped, picks: &[Pick]) -> Result<(), Fail> {
+fn stop(rt: &(impl Abort + AllocGlobal), row: &Stopped, picks: &[Pick]) {
     let alloc = rt.alloc();
-    let start = array(alloc, WHOLE, row.before)?;
-    let mount = mount_of(alloc, &start)?;
-    let whole = run(
-        alloc,
-        row.lines.as_bytes(),
-        restarted(alloc, &start, row.fails)?,
-    )?;
+    let (whole, mount) = whole_run(alloc, row).expect(rt, "there is memory");
     assert!(rt; whole.status == 0);
-    let within = texts(alloc, row.writes, row.kept)?;
+    let within = texts(alloc, row.writes, row.kept).expect(rt, "there is memory");
     for moment in 0..whole.rack.calls() {
         let out = if moment > mount { row.out } else { None };
-        let wrong = wrong_at(alloc, &whole.rack, moment, picks, out, &within)?;
-        assert!(rt; wrong.is_none(), "before call {moment}: {wrong:?}");
+        stop_at(rt, &whole.rack, moment, picks, out, &within);
     }
-    let ended = texts(alloc, row.writes, row.writes.len())?;
-    let calls = whole.rack.calls();
-    let wrong = wrong_at(alloc, &whole.rack, calls, picks, row.out, &ended)?;
-    assert!(rt; wrong.is_none(), "at the end: {wrong:?}");
-    Ok(())
+    let ended = texts(alloc, row.writes, row.writes.len()).expect(rt, "there is memory");
+    stop_at(rt, &whole.rack, whole.rack.calls(), picks, row.out, &ended);
 }
 
 const SHIFTED: &str = "down\nt\nt\n";
@@ -166,22 +184,22 @@ const SHIFT_DOWN: Stopped = Stopped {
 };
 
 #[test]
-fn a_shift_down_is_stopped_with_nothing_of_it_kept(rt: HostRuntime) -> Result<(), Fail> {
+fn a_shift_down_is_stopped_with_nothing_of_it_kept(rt: HostRuntime) {
     stop(&rt, &SHIFT_DOWN, &[Pick::Old])
 }
 
 #[test]
-fn a_shift_down_is_stopped_with_all_of_it_kept(rt: HostRuntime) -> Result<(), Fail> {
+fn a_shift_down_is_stopped_with_all_of_it_kept(rt: HostRuntime) {
     stop(&rt, &SHIFT_DOWN, &[Pick::New])
 }
 
 #[test]
-fn a_shift_down_is_stopped_with_a_byte_in_its_place(rt: HostRuntime) -> Result<(), Fail> {
+fn a_shift_down_is_stopped_with_a_byte_in_its_place(rt: HostRuntime) {
     stop(&rt, &SHIFT_DOWN, &[Pick::Filled(165)])
 }
 
 #[test]
-fn a_shift_down_is_stopped_with_half_of_it_kept(rt: HostRuntime) -> Result<(), Fail> {
+fn a_shift_down_is_stopped_with_half_of_it_kept(rt: HostRuntime) {
     stop(&rt, &SHIFT_DOWN, &[Pick::Mixed])
 }
 
@@ -195,12 +213,12 @@ const WRITE_TO_COPY: Stopped = Stopped {
 };
 
 #[test]
-fn a_write_to_a_copy_is_stopped_between_blocks(rt: HostRuntime) -> Result<(), Fail> {
+fn a_write_to_a_copy_is_stopped_between_blocks(rt: HostRuntime) {
     stop(&rt, &WRITE_TO_COPY, &WHOLE_BLOCKS)
 }
 
 #[test]
-fn a_write_to_a_copy_is_stopped_within_a_block(rt: HostRuntime) -> Result<(), Fail> {
+fn a_write_to_a_copy_is_stopped_within_a_block(rt: HostRuntime) {
     stop(&rt, &WRITE_TO_COPY, &TORN_BLOCKS)
 }
 
@@ -214,12 +232,12 @@ const FAILURE_IN_LOW_GEAR: Stopped = Stopped {
 };
 
 #[test]
-fn a_failure_in_a_low_gear_is_stopped_between_blocks(rt: HostRuntime) -> Result<(), Fail> {
+fn a_failure_in_a_low_gear_is_stopped_between_blocks(rt: HostRuntime) {
     stop(&rt, &FAILURE_IN_LOW_GEAR, &WHOLE_BLOCKS)
 }
 
 #[test]
-fn a_failure_in_a_low_gear_is_stopped_within_a_block(rt: HostRuntime) -> Result<(), Fail> {
+fn a_failure_in_a_low_gear_is_stopped_within_a_block(rt: HostRuntime) {
     stop(&rt, &FAILURE_IN_LOW_GEAR, &TORN_BLOCKS)
 }
 
@@ -233,12 +251,12 @@ const REFUSALS: Stopped = Stopped {
 };
 
 #[test]
-fn a_failure_and_its_refusals_are_stopped_between_blocks(rt: HostRuntime) -> Result<(), Fail> {
+fn a_failure_and_its_refusals_are_stopped_between_blocks(rt: HostRuntime) {
     stop(&rt, &REFUSALS, &WHOLE_BLOCKS)
 }
 
 #[test]
-fn a_failure_and_its_refusals_are_stopped_within_a_block(rt: HostRuntime) -> Result<(), Fail> {
+fn a_failure_and_its_refusals_are_stopped_within_a_block(rt: HostRuntime) {
     stop(&rt, &REFUSALS, &TORN_BLOCKS)
 }
 
@@ -252,12 +270,12 @@ const FRESH_DISK: Stopped = Stopped {
 };
 
 #[test]
-fn a_fresh_disk_that_fails_is_stopped_between_blocks(rt: HostRuntime) -> Result<(), Fail> {
+fn a_fresh_disk_that_fails_is_stopped_between_blocks(rt: HostRuntime) {
     stop(&rt, &FRESH_DISK, &WHOLE_BLOCKS)
 }
 
 #[test]
-fn a_fresh_disk_that_fails_is_stopped_within_a_block(rt: HostRuntime) -> Result<(), Fail> {
+fn a_fresh_disk_that_fails_is_stopped_within_a_block(rt: HostRuntime) {
     stop(&rt, &FRESH_DISK, &TORN_BLOCKS)
 }
 
@@ -271,11 +289,11 @@ const THREE_BLOCKS: Stopped = Stopped {
 };
 
 #[test]
-fn a_write_of_three_blocks_is_stopped_between_blocks(rt: HostRuntime) -> Result<(), Fail> {
+fn a_write_of_three_blocks_is_stopped_between_blocks(rt: HostRuntime) {
     stop(&rt, &THREE_BLOCKS, &WHOLE_BLOCKS)
 }
 
 #[test]
-fn a_write_of_three_blocks_is_stopped_within_a_block(rt: HostRuntime) -> Result<(), Fail> {
+fn a_write_of_three_blocks_is_stopped_within_a_block(rt: HostRuntime) {
     stop(&rt, &THREE_BLOCKS, &TORN_BLOCKS)
 }

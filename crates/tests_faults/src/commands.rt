@@ -2,7 +2,6 @@
 
 use crate::programs::{NEVER, new_array, outcome};
 use std::alloc::Global;
-use std::test::Fail;
 
 const GENERATED: &str = "mounted 0 gear 5\nlines 6 reads 4 writes 1 flushes 0 ticks 1 shifts 0\n\
     sum 0 gear 5 energy 45000\nend 1\n";
@@ -22,17 +21,15 @@ const WORDS: [(&[&str], u8, &str); 6] = [
 ];
 
 // The status for these words on a new array, and whether what is written begins so.
-fn answered(alloc: Global, words: &[&str], start: &str) -> Result<(u8, bool), Fail> {
+fn answered(alloc: Global, words: &[&str], start: &str) -> Option<(u8, bool)> {
     let (status, text, _rack) = outcome(alloc, words, b"", NEVER, NEVER, new_array(alloc)?)?;
-    Ok((status, text.starts_with(start.as_bytes())))
+    Some((status, text.starts_with(start.as_bytes())))
 }
 
 #[test]
-fn options_have_one_spelling_in_either_order(rt: HostRuntime) -> Result<(), Fail> {
-    for (words, code, start) in WORDS {
-        let (status, starts) = answered(rt.alloc(), words, start)?;
-        assert!(rt; status == code, "{start}");
-        assert!(rt; starts, "{words:?}");
+fn options_have_one_spelling_in_either_order(rt: HostRuntime) {
+    for &(words, code, start) in WORDS.iter() {
+        let found = answered(rt.alloc(), words, start);
+        assert!(rt; found == Some((code, true)), "{words:?}");
     }
-    Ok(())
 }

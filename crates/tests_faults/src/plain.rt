@@ -2,9 +2,8 @@
 
 use crate::checks::is_sound;
 use crate::plain_rack::PlainRack;
-use crate::programs::{Left, NEVER, outcome};
+use crate::programs::{NEVER, outcome, tells};
 use std::alloc::Global;
-use std::test::Fail;
 
 const LARGE: &str = "disks = 8\nrows = 4096\ngears = [3, 5, 8]\nmode = \"access\"\nrate = 64\n\
     service = 100\nup = 80\ndown = 60\nwindows = [2, 8]\nration = 1000\nspinning_mj = 9000\n\
@@ -17,26 +16,23 @@ const SUMMARY: &str = "mounted 0 gear 8\n\
     sum 14832291 gear 3 energy 54512400\nend 7046\n";
 
 // A new array of eight disks with three gears, 17,516 blocks each.
-fn large_array(alloc: Global) -> Result<PlainRack, Fail> {
-    let bare = PlainRack::new(alloc, 8, 17_516)?;
+fn large_array(alloc: Global) -> Option<PlainRack> {
+    let bare = PlainRack::new(alloc, 8, 17_516).ok()?;
     let (_status, _text, rack) = outcome(alloc, &["format"], LARGE.as_bytes(), NEVER, NEVER, bare)?;
-    Ok(rack)
+    Some(rack)
 }
 
-// What a new array does with the first lines of a number.
-fn generated(alloc: Global) -> Result<Left<PlainRack>, Fail> {
+// Whether a new array tells the summary of the first lines of a number, and whether a check then counts nothing.
+fn generated(alloc: Global) -> Option<(bool, bool)> {
     let words = ["gen", "--number", "7", "--lines", "20000"];
-    outcome(alloc, &words, b"", NEVER, NEVER, large_array(alloc)?)
+    let left = outcome(alloc, &words, b"", NEVER, NEVER, large_array(alloc)?)?;
+    let told = tells(&left, 0, SUMMARY.as_bytes());
+    Some((told, is_sound(alloc, left.2)?))
 }
 
 #[test]
-fn generated_lines_are_served_alike_in_each_run(rt: HostRuntime) -> Result<(), Fail> {
-    let alloc = rt.alloc();
-    for _ in 0..2u8 {
-        let (status, text, rack) = generated(alloc)?;
-        assert!(rt; text.as_slice() == SUMMARY.as_bytes());
-        assert!(rt; status == 0);
-        assert!(rt; is_sound(alloc, rack)?);
+fn generated_lines_are_served_alike_in_each_run(rt: HostRuntime) {
+    for run in 0..2u8 {
+        assert!(rt; generated(rt.alloc()) == Some((true, true)), "run {run}");
     }
-    Ok(())
 }

@@ -1,9 +1,8 @@
 //! A trace with writes, both shifts, and the failure and the rebuild of a log disk.
 
-use crate::programs::{NEVER, outcome};
+use crate::programs::{Left, NEVER, outcome};
 use paraid_memrack::MemRack;
 use std::alloc::Global;
-use std::test::Fail;
 
 /// What is so between two lines of the trace.
 #[derive(Clone, Copy, Debug)]
@@ -106,26 +105,30 @@ pub const SCRIPT: [(&str, &str, State); LINES] = [
 /// The answer to `replace 0` is this many lines after the start.
 pub const REPLACED: usize = 12;
 
+// Adds a line to a text.
+fn add(text: &mut Vec<u8>, line: &str) -> Option<()> {
+    text.extend_from_slice(line.as_bytes()).ok()?;
+    text.push(b'\n').ok()
+}
+
 /// The first lines of the trace.
-pub fn lines(alloc: Global, count: usize) -> Result<Vec<u8>, Fail> {
+pub fn lines(alloc: Global, count: usize) -> Option<Vec<u8>> {
     let mut text = Vec::new(alloc);
     for (line, _answer, _state) in SCRIPT.iter().take(count) {
-        text.extend_from_slice(line.as_bytes())?;
-        text.push(b'\n')?;
+        add(&mut text, line)?;
     }
-    Ok(text)
+    Some(text)
 }
 
 /// What a run of the whole trace writes where nothing fails.
-pub fn answers(alloc: Global) -> Result<Vec<u8>, Fail> {
+pub fn answers(alloc: Global) -> Option<Vec<u8>> {
     let mut text = Vec::new(alloc);
-    text.extend_from_slice(b"mounted 0 gear 5\n")?;
+    add(&mut text, "mounted 0 gear 5")?;
     for (_line, answer, _state) in SCRIPT.iter() {
-        text.extend_from_slice(answer.as_bytes())?;
-        text.push(b'\n')?;
+        add(&mut text, answer)?;
     }
-    text.extend_from_slice(b"end 3\n")?;
-    Ok(text)
+    add(&mut text, "end 3")?;
+    Some(text)
 }
 
 /// What is so after the first lines.
@@ -137,6 +140,6 @@ pub fn state_after(count: usize) -> State {
 }
 
 /// What a run of the whole trace does on this array.
-pub fn played(alloc: Global, rack: MemRack) -> Result<(u8, Vec<u8>, MemRack), Fail> {
+pub fn played(alloc: Global, rack: MemRack) -> Option<Left<MemRack>> {
     outcome(alloc, &["run"], &lines(alloc, LINES)?, NEVER, NEVER, rack)
 }

@@ -7,7 +7,6 @@ use Pick::{Filled, Mixed, New, Old};
 use paraid_base::DiskNo;
 use paraid_memrack::{MemRack, Pick};
 use std::alloc::Global;
-use std::test::Fail;
 
 // What a stop at this moment leaves of loose blocks.
 fn pick_at(moment: u32) -> Pick {
@@ -21,19 +20,19 @@ fn pick_at(moment: u32) -> Pick {
 
 // How many calls were made once the first lines were answered. The source fails after them, so
 // nothing more is done.
-fn calls_of(alloc: Global, array: &MemRack, count: usize) -> Result<u32, Fail> {
+fn calls_of(alloc: Global, array: &MemRack, count: usize) -> Option<u32> {
     let rack = stopped(alloc, array, NEVER, New, None)?;
     let (_status, _text, left) = outcome(alloc, &["run"], &lines(alloc, count)?, 1, NEVER, rack)?;
-    Ok(left.calls())
+    Some(left.calls())
 }
 
 // The same for each number of lines.
-fn marks_of(alloc: Global, array: &MemRack) -> Result<Vec<u32>, Fail> {
+fn marks_of(alloc: Global, array: &MemRack) -> Option<Vec<u32>> {
     let mut marks = Vec::new(alloc);
     for count in 0..LINES + 1 {
-        marks.push(calls_of(alloc, array, count)?)?;
+        marks.push(calls_of(alloc, array, count)?).ok()?;
     }
-    Ok(marks)
+    Some(marks)
 }
 
 // How many lines were answered at this moment.
@@ -57,28 +56,33 @@ fn blocks_after(writes: u64) -> &'static str {
     }
 }
 
-// Whether a run tells so many writes, one of these gears, and the blocks after these writes.
-fn tells(alloc: Global, text: &[u8], writes: u64, gears: [u8; 2]) -> Result<bool, Fail> {
+// What a run tells of so many writes in this gear.
+fn text_of(alloc: Global, writes: u64, gear: u8) -> Option<String> {
     let blocks = blocks_after(writes);
-    for gear in gears {
-        let want = format!(in alloc; "mounted {writes} gear {gear}\n{blocks}\nend {writes}\n")?;
-        if text == want.as_bytes() {
-            return Ok(true);
-        }
-    }
-    Ok(false)
+    format!(in alloc; "mounted {writes} gear {gear}\n{blocks}\nend {writes}\n").ok()
 }
 
-// Whether the next run holds a first part of the writes that has all that were flushed, and a check
-// finds nothing.
-fn holds(alloc: Global, rack: MemRack, from: State, gear: u8) -> Result<bool, Fail> {
-    let (status, text, rack) = ran(alloc, "r 7\nr 0\n", rack)?;
+// Whether a run tells so many writes, one of these gears, and the blocks after these writes.
+fn tells_writes(alloc: Global, text: &[u8], writes: u64, gears: [u8; 2]) -> Option<bool> {
+    let first = text_of(alloc, writes, gears[0])?;
+    let second = text_of(alloc, writes, gears[1])?;
+    Some(text == first.as_bytes() || text == second.as_bytes())
+}
+
+// Whether a run tells a first part of the writes that has all that were flushed, in this gear or the next one.
+fn tells_part(alloc: Global, text: &[u8], from: State, gear: u8) -> Option<bool> {
     for writes in from.flushed..from.written.saturating_add(1) {
-        if status == 0 && tells(alloc, &text, writes, [from.gear, gear])? {
-            return is_sound(alloc, rack);
+        if tells_writes(alloc, text, writes, [from.gear, gear])? {
+            return Some(true);
         }
     }
-    Ok(false)
+    Some(false)
+}
+
+// Whether the next run holds such a part, and a check finds nothing.
+fn holds(alloc: Global, rack: MemRack, from: State, gear: u8) -> Option<bool> {
+    let (status, text, rack) = ran(alloc, "r 7\nr 0\n", rack)?;
+    Some(status == 0 && tells_part(alloc, &text, from, gear)? && is_sound(alloc, rack)?)
 }
 
 // The disk that is lost in a stop at this moment, while none is down.
@@ -91,65 +95,79 @@ fn lost_at(moment: u32) -> Option<DiskNo> {
     }
 }
 
-#[test]
-fn a_stop_keeps_all_that_was_flushed(rt: HostRuntime) -> Result<(), Fail> {
-    let alloc = rt.alloc();
-    let array = new_array(alloc)?;
-    let marks = marks_of(alloc, &array)?;
-    let (_status, _text, whole) = played(alloc, array)?;
-    for moment in 0..whole.calls().saturating_add(1) {
-        let count = answered(&marks, moment);
-        let (from, next) = (state_after(count), state_after(count.saturating_add(1)));
-        let lost = if from.down || next.down {
-            None
-        } else {
-            lost_at(moment)
-        };
-        let pick = pick_at(moment);
-        let rack = stopped(alloc, &whole, moment, pick, lost)?;
-        assert!(rt;
-            holds(alloc, rack, from, next.gear)?,
-            "moment {moment}, {pick:?}, {lost:?}"
-        );
+// The same at a stop between these states.
+fn lost_between(from: State, next: State, moment: u32) -> Option<DiskNo> {
+    if from.down || next.down {
+        None
+    } else {
+        lost_at(moment)
     }
-    Ok(())
+}
+
+// Whether a stop of this run at this moment keeps all that was flushed. Lines were answered at these calls.
+fn keeps_at(alloc: Global, whole: &MemRack, marks: &[u32], moment: u32) -> Option<bool> {
+    let count = answered(marks, moment);
+    let (from, next) = (state_after(count), state_after(count.saturating_add(1)));
+    let lost = lost_between(from, next, moment);
+    let rack = stopped(alloc, whole, moment, pick_at(moment), lost)?;
+    holds(alloc, rack, from, next.gear)
+}
+
+// The disks after the whole trace.
+fn whole_of(alloc: Global, array: &MemRack) -> Option<MemRack> {
+    let (_status, _text, whole) = played(alloc, stopped(alloc, array, NEVER, New, None)?)?;
+    Some(whole)
+}
+
+#[test]
+fn a_stop_keeps_all_that_was_flushed(rt: HostRuntime) {
+    let array = new_array(rt.alloc()).expect(&rt, "there is memory");
+    let marks = marks_of(rt.alloc(), &array).expect(&rt, "there is memory");
+    let whole = whole_of(rt.alloc(), &array).expect(&rt, "there is memory");
+    for moment in 0..whole.calls().saturating_add(1) {
+        let keeps = keeps_at(rt.alloc(), &whole, &marks, moment);
+        assert!(rt; keeps == Some(true), "moment {moment}");
+    }
 }
 
 // What a mount makes of this image, without any line.
-fn mounted(alloc: Global, rack: MemRack) -> Result<MemRack, Fail> {
+fn mounted(alloc: Global, rack: MemRack) -> Option<MemRack> {
     let (_status, _text, left) = outcome(alloc, &["status"], b"", NEVER, NEVER, rack)?;
-    Ok(left)
+    Some(left)
 }
 
-// Whether a stop at any moment of a mount keeps all writes, with the disk that is rebuilt and
-// without it.
-fn keeps_in_mount(alloc: Global, image: MemRack, from: State) -> Result<bool, Fail> {
+// Whether a stop of a mount at this moment keeps all writes, with the disk that is rebuilt and without it.
+fn keeps_both(alloc: Global, left: &MemRack, moment: u32, from: State) -> Option<bool> {
+    let pick = pick_at(moment);
+    let with = stopped(alloc, left, moment, pick, None)?;
+    if !holds(alloc, with, from, from.gear)? {
+        return Some(false);
+    }
+    let without = stopped(alloc, left, moment, pick, Some(0))?;
+    holds(alloc, without, from, from.gear)
+}
+
+// Whether that is so at every moment of the mount of what a stop of this run leaves.
+fn keeps_in_mount(alloc: Global, whole: &MemRack, moment: u32, from: State) -> Option<bool> {
+    let image = stopped(alloc, whole, moment, pick_at(moment), None)?;
     let left = mounted(alloc, image)?;
-    for moment in 0..left.calls().saturating_add(1) {
-        let pick = pick_at(moment);
-        for lost in [None, Some(0)] {
-            let rack = stopped(alloc, &left, moment, pick, lost)?;
-            if !holds(alloc, rack, from, from.gear)? {
-                return Ok(false);
-            }
+    for again in 0..left.calls().saturating_add(1) {
+        if !keeps_both(alloc, &left, again, from)? {
+            return Some(false);
         }
     }
-    Ok(true)
+    Some(true)
 }
 
 #[test]
-fn a_stop_in_the_mount_after_a_stop_keeps_all(rt: HostRuntime) -> Result<(), Fail> {
-    let alloc = rt.alloc();
-    let array = new_array(alloc)?;
+fn a_stop_in_the_mount_after_a_stop_keeps_all(rt: HostRuntime) {
+    let array = new_array(rt.alloc()).expect(&rt, "there is memory");
     // Each moment of the first tick of the rebuild.
-    let first = calls_of(alloc, &array, REPLACED)?;
-    let last = calls_of(alloc, &array, REPLACED + 1)?;
-    let (_status, _text, whole) = played(alloc, array)?;
+    let first = calls_of(rt.alloc(), &array, REPLACED).expect(&rt, "there is memory");
+    let last = calls_of(rt.alloc(), &array, REPLACED + 1).expect(&rt, "there is memory");
+    let whole = whole_of(rt.alloc(), &array).expect(&rt, "there is memory");
     for moment in first..last {
-        let pick = pick_at(moment);
-        let image = stopped(alloc, &whole, moment, pick, None)?;
-        let sound = keeps_in_mount(alloc, image, state_after(REPLACED))?;
-        assert!(rt; sound, "moment {moment}, {pick:?}");
+        let keeps = keeps_in_mount(rt.alloc(), &whole, moment, state_after(REPLACED));
+        assert!(rt; keeps == Some(true), "moment {moment}");
     }
-    Ok(())
 }

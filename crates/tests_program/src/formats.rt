@@ -1,11 +1,8 @@
-//! The program with `format` over a source, a sink and a rack in memory.
+//! The program with `format`, and with `status` on a new array, over a source, a sink and disks in memory.
 
-use paraid_io::{MemSink, MemSource};
+use crate::programs::{Left, NEVER, bare_rack, outcome, restarted, told};
 use paraid_memrack::{MemRack, Planned};
-use paraid_program::{Ended, paraid};
 use std::alloc::Global;
-use std::process::Abort;
-use std::test::Fail;
 
 // A configuration of five disks and five rows.
 const LINES: [&str; 13] = [
@@ -27,9 +24,6 @@ const LINES: [&str; 13] = [
 /// No line of the configuration.
 pub const NONE: usize = 13;
 
-/// The number of a call that none here has.
-pub const NEVER: u32 = 1000;
-
 // The text in place of this line.
 fn text_at(texts: &[(usize, &'static str)], at: usize) -> Option<&'static str> {
     for &(line, text) in texts {
@@ -41,68 +35,42 @@ fn text_at(texts: &[(usize, &'static str)], at: usize) -> Option<&'static str> {
 }
 
 /// The configuration with these texts in place of its lines of these numbers, or after all of them.
-pub fn configured(alloc: Global, texts: &[(usize, &'static str)]) -> Result<Vec<u8>, Fail> {
+pub fn configured(alloc: Global, texts: &[(usize, &'static str)]) -> Option<Vec<u8>> {
     let mut bytes = Vec::new(alloc);
     for at in 0..LINES.len() {
         let kept = text_at(texts, at).unwrap_or(LINES[at]);
-        bytes.extend_from_slice(kept.as_bytes())?;
-        bytes.push(b'\n')?;
+        bytes.extend_from_slice(kept.as_bytes()).ok()?;
+        bytes.push(b'\n').ok()?;
     }
-    if let Some(text) = text_at(texts, NONE) {
-        bytes.extend_from_slice(text.as_bytes())?;
-    }
-    Ok(bytes)
+    let last = text_at(texts, NONE).unwrap_or("");
+    bytes.extend_from_slice(last.as_bytes()).ok()?;
+    Some(bytes)
 }
 
-/// The configuration with this text in place of a line, or after all of them.
-pub fn configuration(alloc: Global, line: usize, text: &'static str) -> Result<Vec<u8>, Fail> {
-    configured(alloc, &[(line, text)])
+/// What `format` with this configuration does, where no call of the source or of the sink fails.
+pub fn formatted(alloc: Global, bytes: &[u8], rack: MemRack) -> Option<Left> {
+    outcome(alloc, &["format"], bytes, NEVER, NEVER, rack)
 }
 
-/// A rack without disks, on which this call fails.
-pub fn bare_rack(rt: &(impl Abort + AllocGlobal), slots: u8, fails: Planned) -> MemRack {
-    let alloc = rt.alloc();
-    assert!(rt; slots <= 8);
-    let plan = vec![in alloc; fails].expect(rt, "there is memory");
-    MemRack::new(alloc, slots, 200, NEVER, plan).expect(rt, "there is memory")
-}
-
-/// What the program does with `format`, where `force` is set with `--force`. These calls of the
-/// source and of the sink fail.
-pub fn formatted(
-    alloc: Global,
-    force: bool,
-    bytes: Vec<u8>,
-    source_fails: u32,
-    sink_fails: u32,
-    rack: MemRack,
-) -> Result<(u8, Vec<u8>, MemRack), Fail> {
-    let mut source = MemSource::new(bytes, vec![in alloc; source_fails]?);
-    let mut sink = MemSink::new(alloc, 4096, vec![in alloc; sink_fails]?)?;
-    let mut words = vec![in alloc; String::from_str(alloc, "format")?]?;
-    if force {
-        words.push(String::from_str(alloc, "--force")?)?;
-    }
-    let Ended { status, rack } = paraid(alloc, &words, &mut source, &mut sink, rack);
-    let mut text = Vec::new(alloc);
-    text.extend_from_slice(sink.bytes())?;
-    Ok((status, text, rack))
+/// A new array by the configuration with these texts in place of its lines, before any call. These
+/// calls fail.
+pub fn array(alloc: Global, texts: &[(usize, &'static str)], plan: &[Planned]) -> Option<MemRack> {
+    let bytes = configured(alloc, texts)?;
+    let rack = bare_rack(alloc, 5, Planned::AtCall(NEVER))?;
+    let left = formatted(alloc, bytes.as_slice(), rack)?;
+    restarted(alloc, &left.rack, plan)
 }
 
 // What is told of this configuration on a rack of five slots without disks.
-fn told_of(rt: &(impl Abort + AllocGlobal), bytes: Vec<u8>) -> Result<(u8, Vec<u8>), Fail> {
-    let rack = bare_rack(rt, 5, Planned::AtCall(NEVER));
-    let (status, text, _rack) = formatted(rt.alloc(), false, bytes, NEVER, NEVER, rack)?;
-    Ok((status, text))
+fn told_of(alloc: Global, bytes: &[u8]) -> Option<Left> {
+    let rack = bare_rack(alloc, 5, Planned::AtCall(NEVER))?;
+    formatted(alloc, bytes, rack)
 }
 
-// The configuration with empty lines up to this length.
-fn long_configuration(alloc: Global, length: usize) -> Result<Vec<u8>, Fail> {
-    let mut bytes = configuration(alloc, NONE, "")?;
-    for _ in bytes.len()..length {
-        bytes.push(b'\n')?;
-    }
-    Ok(bytes)
+// The same with this text in place of a line, or after all of them.
+fn told_with(alloc: Global, line: usize, text: &'static str) -> Option<Left> {
+    let bytes = configured(alloc, &[(line, text)])?;
+    told_of(alloc, bytes.as_slice())
 }
 
 // A line of the configuration, the text in its place, and what is told.
@@ -134,47 +102,55 @@ const CONFIGURATIONS: [(usize, &str, u8, &str); 18] = [
 ];
 
 #[test]
-fn a_configuration_is_refused_by_its_first_fault(rt: HostRuntime) -> Result<(), Fail> {
-    for (line, text, code, want) in CONFIGURATIONS {
-        let (status, told) = told_of(&rt, configuration(rt.alloc(), line, text)?)?;
-        assert!(rt; told.as_slice() == want.as_bytes(), "at {text}");
-        assert!(rt; status == code, "{want}");
+fn a_configuration_is_refused_by_its_first_fault(rt: HostRuntime) {
+    for &(line, text, code, want) in CONFIGURATIONS.iter() {
+        let left = told_with(rt.alloc(), line, text).expect(&rt, "there is memory");
+        assert!(rt; left.tells(code, want), "at {text}");
     }
-    Ok(())
+}
+
+// The same with empty lines after the configuration, up to this length.
+fn told_at_length(alloc: Global, length: usize) -> Option<Left> {
+    let mut bytes = configured(alloc, &[])?;
+    for _ in bytes.len()..length {
+        bytes.push(b'\n').ok()?;
+    }
+    told_of(alloc, bytes.as_slice())
 }
 
 #[test]
-fn a_configuration_may_have_65536_bytes(rt: HostRuntime) -> Result<(), Fail> {
+fn a_configuration_may_have_65536_bytes(rt: HostRuntime) {
     for (length, code, want) in [(65536, 0, "formatted 20\n"), (65537, 8, "config long\n")] {
-        let (status, told) = told_of(&rt, long_configuration(rt.alloc(), length)?)?;
-        assert!(rt; told.as_slice() == want.as_bytes(), "{want}");
-        assert!(rt; status == code, "{want}");
+        let left = told_at_length(rt.alloc(), length).expect(&rt, "there is memory");
+        assert!(rt; left.tells(code, want), "{want}");
     }
-    Ok(())
 }
 
-// Formats on one rack, one after the other: whether with `--force`, a text after the configuration,
-// and what is told. The configuration is looked at before the disks.
-const FORMATS: [(bool, &str, u8, &str); 5] = [
-    (false, "", 0, "formatted 20\n"),
-    (false, "", 9, "already 1\n"),
-    (false, "x = 1", 8, "config unknown 13\n"),
-    (true, "", 0, "formatted 20\n"),
-    (false, "", 9, "already 1\n"),
+// Formats on one rack, one after the other: the words, a text after the configuration, and what is
+// told. The configuration is looked at before the disks.
+const FORMATS: [(&[&str], &str, u8, &str); 5] = [
+    (&["format"], "", 0, "formatted 20\n"),
+    (&["format"], "", 9, "already 1\n"),
+    (&["format"], "x = 1", 8, "config unknown 13\n"),
+    (&["format", "--force"], "", 0, "formatted 20\n"),
+    (&["format"], "", 9, "already 1\n"),
 ];
 
+// What these words do on a rack, with this text after the configuration.
+fn told_after(alloc: Global, words: &[&str], text: &'static str, rack: MemRack) -> Option<Left> {
+    let bytes = configured(alloc, &[(NONE, text)])?;
+    outcome(alloc, words, bytes.as_slice(), NEVER, NEVER, rack)
+}
+
 #[test]
-fn an_array_is_made_once(rt: HostRuntime) -> Result<(), Fail> {
-    let alloc = rt.alloc();
-    let mut rack = bare_rack(&rt, 5, Planned::AtCall(NEVER));
-    for (force, text, code, want) in FORMATS {
-        let bytes = configuration(alloc, NONE, text)?;
-        let (status, told, left) = formatted(alloc, force, bytes, NEVER, NEVER, rack)?;
-        rack = left;
-        assert!(rt; told.as_slice() == want.as_bytes(), "{want}");
-        assert!(rt; status == code, "{want}");
+fn an_array_is_made_once(rt: HostRuntime) {
+    let bare = bare_rack(rt.alloc(), 5, Planned::AtCall(NEVER));
+    let mut rack = bare.expect(&rt, "there is memory");
+    for &(words, text, code, want) in FORMATS.iter() {
+        let left = told_after(rt.alloc(), words, text, rack).expect(&rt, "there is memory");
+        assert!(rt; left.tells(code, want), "{want}");
+        rack = left.rack;
     }
-    Ok(())
 }
 
 // The number of slots, the calls of the source, of the sink and of the rack that fail, and what is
@@ -197,28 +173,20 @@ const FAULTS: [(u8, u32, u32, Planned, u8, &str); 7] = [
     (5, NEVER, NEVER, Planned::AtCall(7), 11, "disk 1\n"),
 ];
 
-#[test]
-fn a_fault_ends_a_format_with_its_status(rt: HostRuntime) -> Result<(), Fail> {
-    let alloc = rt.alloc();
-    for (slots, source, sink, fails, code, want) in FAULTS {
-        let bytes = configuration(alloc, NONE, "")?;
-        let rack = bare_rack(&rt, slots, fails);
-        let (status, told, _rack) = formatted(alloc, false, bytes, source, sink, rack)?;
-        assert!(rt; told.as_slice() == want.as_bytes(), "{want}");
-        assert!(rt; status == code, "{want}");
-    }
-    Ok(())
+// What a format does on so many slots, where these calls fail.
+fn told_where(alloc: Global, slots: u8, source: u32, sink: u32, fails: Planned) -> Option<Left> {
+    let bytes = configured(alloc, &[])?;
+    let rack = bare_rack(alloc, slots, fails)?;
+    outcome(alloc, &["format"], bytes.as_slice(), source, sink, rack)
 }
 
-/// What the program does with `status`.
-pub fn shown(alloc: Global, rack: MemRack) -> Result<(u8, Vec<u8>, MemRack), Fail> {
-    let mut source = MemSource::new(Vec::new(alloc), Vec::new(alloc));
-    let mut sink = MemSink::new(alloc, 4096, Vec::new(alloc))?;
-    let words = vec![in alloc; String::from_str(alloc, "status")?]?;
-    let Ended { status, rack } = paraid(alloc, &words, &mut source, &mut sink, rack);
-    let mut text = Vec::new(alloc);
-    text.extend_from_slice(sink.bytes())?;
-    Ok((status, text, rack))
+#[test]
+fn a_fault_ends_a_format_with_its_status(rt: HostRuntime) {
+    for &(slots, source, sink, fails, code, want) in FAULTS.iter() {
+        let left = told_where(rt.alloc(), slots, source, sink, fails);
+        let left = left.expect(&rt, "there is memory");
+        assert!(rt; left.tells(code, want), "{want}");
+    }
 }
 
 // The slots of a rack, whether an array was made there, and what its state is told as.
@@ -233,19 +201,19 @@ const STATES: [(u8, bool, u8, &str); 3] = [
     (1, false, 6, "notformatted\n"),
 ];
 
-#[test]
-fn a_new_array_is_mounted_and_shown(rt: HostRuntime) -> Result<(), Fail> {
-    let alloc = rt.alloc();
-    for (slots, made, code, want) in STATES {
-        let mut rack = bare_rack(&rt, slots, Planned::AtCall(NEVER));
-        if made {
-            let bytes = configuration(alloc, NONE, "")?;
-            let (_status, _told, left) = formatted(alloc, false, bytes, NEVER, NEVER, rack)?;
-            rack = left;
-        }
-        let (status, told, _rack) = shown(alloc, rack)?;
-        assert!(rt; told.as_slice() == want.as_bytes(), "{want}");
-        assert!(rt; status == code, "{want}");
+// What is told of a rack of so many slots, on which an array was made or not.
+fn shown_with(alloc: Global, slots: u8, made: bool) -> Option<Left> {
+    let mut rack = bare_rack(alloc, slots, Planned::AtCall(NEVER))?;
+    if made {
+        rack = formatted(alloc, configured(alloc, &[])?.as_slice(), rack)?.rack;
     }
-    Ok(())
+    told(alloc, &["status"], "", rack)
+}
+
+#[test]
+fn a_new_array_is_mounted_and_shown(rt: HostRuntime) {
+    for &(slots, made, code, want) in STATES.iter() {
+        let left = shown_with(rt.alloc(), slots, made).expect(&rt, "there is memory");
+        assert!(rt; left.tells(code, want), "{want}");
+    }
 }

@@ -9,6 +9,8 @@ mod flushes;
 #[cfg(test)]
 mod formats;
 #[cfg(test)]
+mod programs;
+#[cfg(test)]
 mod rows;
 #[cfg(test)]
 mod runs;

@@ -1,8 +1,8 @@
 //! Worked traces of an array with gears: shifts, copies, rebuilds, decisions and rations.
 
-use crate::formats::{NEVER, NONE};
-use crate::runs::{array, outcome};
-use std::test::Fail;
+use crate::formats::{NONE, array};
+use crate::programs::{Left, told};
+use std::alloc::Global;
 
 // A trace, and what is written for it.
 type Run = (&'static str, &'static str);
@@ -184,35 +184,27 @@ const ROWS: [Row; 14] = [
 ];
 
 #[test]
-fn traces_are_answered_as_they_were_worked(rt: HostRuntime) -> Result<(), Fail> {
-    for (texts, runs) in ROWS {
-        let mut rack = array(&rt, texts, &[])?;
+fn traces_are_answered_as_they_were_worked(rt: HostRuntime) {
+    for &(texts, runs) in ROWS.iter() {
+        let mut rack = array(rt.alloc(), texts, &[]).expect(&rt, "there is memory");
         for &(input, want) in runs {
-            let (status, text, left) = outcome(
-                rt.alloc(),
-                &["run"],
-                input.as_bytes(),
-                NEVER,
-                NEVER,
-                rack,
-            )?;
-            rack = left;
-            assert!(rt; text.as_slice() == want.as_bytes(), "{input}");
-            assert!(rt; status == 0);
+            let left = told(rt.alloc(), &["run"], input, rack).expect(&rt, "there is memory");
+            assert!(rt; left.tells(0, want), "{input}");
+            rack = left.rack;
         }
     }
-    Ok(())
+}
+
+// What six generated lines do on a new array. The lines are r 0, r 0, r 2, r 14, t, w 4 0005.
+fn generated(alloc: Global) -> Option<Left> {
+    let words = ["gen", "--number", "0", "--lines", "6"];
+    told(alloc, &words, "", array(alloc, &[], &[])?)
 }
 
 #[test]
-fn generated_lines_are_answered_and_counted(rt: HostRuntime) -> Result<(), Fail> {
-    // The lines are r 0, r 0, r 2, r 14, t, w 4 0005.
-    let rack = array(&rt, &[], &[])?;
-    let words = ["gen", "--number", "0", "--lines", "6"];
-    let (status, text, _rack) = outcome(rt.alloc(), &words, b"", NEVER, NEVER, rack)?;
+fn generated_lines_are_answered_and_counted(rt: HostRuntime) {
+    let left = generated(rt.alloc()).expect(&rt, "there is memory");
     let want = "mounted 0 gear 5\nlines 6 reads 4 writes 1 flushes 0 ticks 1 shifts 0\n\
                 sum 0 gear 5 energy 45000\nend 1\n";
-    assert!(rt; text.as_slice() == want.as_bytes());
-    assert!(rt; status == 0);
-    Ok(())
+    assert!(rt; left.tells(0, want));
 }

@@ -1,300 +1,233 @@
 //! Runs of the program over a source, a sink and disks in memory that were made an array of.
 
-use crate::formats::{NEVER, bare_rack, configured, formatted};
-use paraid_io::{MemSink, MemSource};
-use paraid_memrack::{MemRack, Pick, Planned};
-use paraid_program::{Ended, paraid};
+use crate::formats::array;
+use crate::programs::{Left, NEVER, bare_rack, outcome, told};
+use Planned::{AtCall, OnDisk};
+use paraid_memrack::Planned;
 use std::alloc::Global;
-use std::process::Abort;
-use std::test::Fail;
 
 const DISKS: u8 = 5;
 
-// The one call of the source and of the sink and the two calls of the rack that fail.
-#[derive(Clone, Copy)]
-struct Faults {
-    source: u32,
-    sink: u32,
-    first: Planned,
-    second: Planned,
-}
-
-// No call fails.
-const NONE: Faults = Faults {
-    source: NEVER,
-    sink: NEVER,
-    first: Planned::AtCall(NEVER),
-    second: Planned::AtCall(NEVER),
-};
-
-/// A new array by the configuration with these texts in place of its lines, before any call. These
-/// calls fail.
-pub fn array(
-    rt: &(impl Abort + AllocGlobal),
-    texts: &[(usize, &'static str)],
-    plan: &[Planned],
-) -> Result<MemRack, Fail> {
-    let alloc = rt.alloc();
-    let bare = bare_rack(rt, DISKS, Planned::AtCall(NEVER));
-    let bytes = configured(alloc, texts)?;
-    let (_status, _text, rack) = formatted(alloc, false, bytes, NEVER, NEVER, bare)?;
-    let mut fails = Vec::new(alloc);
-    for &planned in plan {
-        fails.push(planned)?;
-    }
-    let left = rack.stopped(alloc, rack.calls(), Pick::New, NEVER, fails)?;
-    Ok(left)
-}
-
-/// The status of the program with these words over this input and these disks, and what it wrote.
-/// These calls of the source and of the sink fail.
-pub fn outcome(
-    alloc: Global,
-    words: &[&str],
-    input: &[u8],
-    source_fails: u32,
-    sink_fails: u32,
-    rack: MemRack,
-) -> Result<(u8, Vec<u8>, MemRack), Fail> {
-    let mut bytes = Vec::new(alloc);
-    bytes.extend_from_slice(input)?;
-    let mut source = MemSource::new(bytes, vec![in alloc; source_fails]?);
-    let mut sink = MemSink::new(alloc, 4096, vec![in alloc; sink_fails]?)?;
-    let mut list = Vec::new(alloc);
-    for word in words {
-        list.push(String::from_str(alloc, word)?)?;
-    }
-    let Ended { status, rack } = paraid(alloc, &list, &mut source, &mut sink, rack);
-    let mut text = Vec::new(alloc);
-    text.extend_from_slice(sink.bytes())?;
-    Ok((status, text, rack))
-}
-
-// What `run` does over a new array with these faults.
-fn ran(
-    rt: &(impl Abort + AllocGlobal),
-    input: &[u8],
-    faults: Faults,
-) -> Result<(u8, Vec<u8>), Fail> {
-    let rack = array(rt, &[], &[faults.first, faults.second])?;
-    let (status, text, _rack) = outcome(
-        rt.alloc(),
+// What `run` does over a new array where no call fails.
+fn ran(alloc: Global, input: &[u8]) -> Option<Left> {
+    outcome(
+        alloc,
         &["run"],
         input,
-        faults.source,
-        faults.sink,
-        rack,
-    )?;
-    Ok((status, text))
+        NEVER,
+        NEVER,
+        array(alloc, &[], &[])?,
+    )
 }
 
+// The lines of a run, and what is told once it is mounted.
+const LINES: [(&[u8], &str); 11] = [
+    (
+        b"w 3 11\nw 3 22\nf\nr 3\nr 40\n",
+        "mounted 0 gear 5\nwrote 1\nwrote 2\nflushed 2\n3=22\nnoblock 40\nend 2\n",
+    ),
+    // The shortest period of the bytes is told, in lower case.
+    (
+        b"w 19 a1b2\nr 19\n",
+        "mounted 0 gear 5\nwrote 1\n19=a1b2\nend 1\n",
+    ),
+    (
+        b"w 19 A1B2A1B2\nr 19\n",
+        "mounted 0 gear 5\nwrote 1\n19=a1b2\nend 1\n",
+    ),
+    (
+        b"r 20\nw 20 00\nr 19\n",
+        "mounted 0 gear 5\nnoblock 20\nnoblock 20\n19=00\nend 0\n",
+    ),
+    (b"", "mounted 0 gear 5\nend 0\n"),
+    (b"r 0", "mounted 0 gear 5\n0=00\nend 0\n"),
+    (
+        b"w 3 11 7 22\nr 3\nr 7\nw 3 33 3 44\nr 3\n",
+        "mounted 0 gear 5\nwrote 1\n3=11\n7=22\nwrote 2\n3=44\nend 2\n",
+    ),
+    (
+        b"w 0 01 20 02\nr 0\n",
+        "mounted 0 gear 5\nnoblock 20\n0=00\nend 0\n",
+    ),
+    (
+        b"w 0 01 1 02 2 03 3 04 4 05 5 06 6 07 7 08 8 09\n",
+        "mounted 0 gear 5\nbad\nend 0\n",
+    ),
+    (
+        b"w 19 0Aff\nr 19\nr 18\nw 20 11\nr 4294967295\n",
+        "mounted 0 gear 5\nwrote 1\n19=0aff\n18=00\nnoblock 20\nnoblock 4294967295\nend 1\n",
+    ),
+    (
+        b"r\0 0\n\xff\xfe\n r 0\nr  0\nr 0 \nR 0\n",
+        "mounted 0 gear 5\nbad\nbad\nbad\nbad\nbad\nbad\nend 0\n",
+    ),
+];
+
 #[test]
-fn every_line_is_answered(rt: HostRuntime) -> Result<(), Fail> {
-    let alloc = rt.alloc();
+fn every_line_is_answered(rt: HostRuntime) {
+    for &(input, want) in LINES.iter() {
+        let left = ran(rt.alloc(), input).expect(&rt, "there is memory");
+        assert!(rt; left.tells(0, want), "{want}");
+    }
+}
+
+// What is told of a line of 2,000 bytes, an empty one, one that is no read, and a rest that is no line.
+fn ran_long(alloc: Global) -> Option<Left> {
     let mut long = Vec::new(alloc);
     for _ in 0..2000 {
-        long.push(b'r')?;
+        long.push(b'r').ok()?;
     }
-    long.extend_from_slice(b"\n\nr 01\nw 3 1")?;
-    let rows = [
-        (
-            "w 3 11\nw 3 22\nf\nr 3\nr 40\n".as_bytes(),
-            "wrote 1\nwrote 2\nflushed 2\n3=22\nnoblock 40\nend 2\n",
-        ),
-        // The shortest period of the bytes is told, in lower case.
-        ("w 19 a1b2\nr 19\n".as_bytes(), "wrote 1\n19=a1b2\nend 1\n"),
-        (
-            "w 19 A1B2A1B2\nr 19\n".as_bytes(),
-            "wrote 1\n19=a1b2\nend 1\n",
-        ),
-        (
-            "r 20\nw 20 00\nr 19\n".as_bytes(),
-            "noblock 20\nnoblock 20\n19=00\nend 0\n",
-        ),
-        ("".as_bytes(), "end 0\n"),
-        ("r 0".as_bytes(), "0=00\nend 0\n"),
-        (
-            "w 3 11 7 22\nr 3\nr 7\nw 3 33 3 44\nr 3\n".as_bytes(),
-            "wrote 1\n3=11\n7=22\nwrote 2\n3=44\nend 2\n",
-        ),
-        (
-            "w 0 01 20 02\nr 0\n".as_bytes(),
-            "noblock 20\n0=00\nend 0\n",
-        ),
-        (
-            "w 0 01 1 02 2 03 3 04 4 05 5 06 6 07 7 08 8 09\n".as_bytes(),
-            "bad\nend 0\n",
-        ),
-        (
-            "w 19 0Aff\nr 19\nr 18\nw 20 11\nr 4294967295\n".as_bytes(),
-            "wrote 1\n19=0aff\n18=00\nnoblock 20\nnoblock 4294967295\nend 1\n",
-        ),
-        (
-            b"r\0 0\n\xff\xfe\n r 0\nr  0\nr 0 \nR 0\n",
-            "bad\nbad\nbad\nbad\nbad\nbad\nend 0\n",
-        ),
-        (long.as_slice(), "bad\nbad\nbad\nbad\nend 0\n"),
-    ];
-    for (input, answers) in rows {
-        let (status, text) = ran(&rt, input, NONE)?;
-        let want = format!(in alloc; "mounted 0 gear 5\n{answers}")?;
-        assert!(rt; text.as_slice() == want.as_bytes(), "{want}");
-        assert!(rt; status == 0);
-    }
-    Ok(())
+    long.extend_from_slice(b"\n\nr 01\nw 3 1").ok()?;
+    ran(alloc, long.as_slice())
 }
 
 #[test]
-fn other_words_tell_which_there_are(rt: HostRuntime) -> Result<(), Fail> {
-    let alloc = rt.alloc();
-    let lists: [&[&str]; 5] = [
-        &["runs"],
-        &["run", "x"],
-        &["check", "x"],
-        &["gen"],
-        &["--help"],
-    ];
-    for words in lists {
-        let rack = bare_rack(&rt, DISKS, Planned::AtCall(NEVER));
-        let (status, text, left) = outcome(alloc, words, b"f\n", NEVER, NEVER, rack)?;
-        let want =
-            "usage: paraid format [--force] | run | status | check | gen --number N --lines L\n";
-        assert!(rt; text.as_slice() == want.as_bytes(), "{want}");
-        assert!(rt; status == 2);
-        assert!(rt; left.calls() == 0);
-    }
-    Ok(())
+fn a_long_line_is_answered_as_no_event(rt: HostRuntime) {
+    let left = ran_long(rt.alloc()).expect(&rt, "there is memory");
+    assert!(rt; left.tells(0, "mounted 0 gear 5\nbad\nbad\nbad\nbad\nend 0\n"));
+}
+
+// Words that ask for no command.
+const OTHERS: [&[&str]; 5] = [
+    &["runs"],
+    &["run", "x"],
+    &["check", "x"],
+    &["gen"],
+    &["--help"],
+];
+
+const USAGE: &str =
+    "usage: paraid format [--force] | run | status | check | gen --number N --lines L\n";
+
+// What these words do over this input on disks that are no array.
+fn told_bare(alloc: Global, words: &[&str], input: &str) -> Option<Left> {
+    told(alloc, words, input, bare_rack(alloc, DISKS, AtCall(NEVER))?)
 }
 
 #[test]
-fn a_lost_disk_changes_no_answer(rt: HostRuntime) -> Result<(), Fail> {
+fn other_words_tell_which_there_are(rt: HostRuntime) {
+    for &words in OTHERS.iter() {
+        let left = told_bare(rt.alloc(), words, "f\n").expect(&rt, "there is memory");
+        assert!(rt; left.tells(2, USAGE), "{words:?}");
+        assert!(rt; left.rack.calls() == 0, "{words:?}");
+    }
+}
+
+// Words that ask for an array.
+const ASKING: [&[&str]; 3] = [&["run"], &["check"], &["gen", "--number=0", "--lines=6"]];
+
+#[test]
+fn no_array_is_served(rt: HostRuntime) {
+    for &words in ASKING.iter() {
+        let left = told_bare(rt.alloc(), words, "r 0\n").expect(&rt, "there is memory");
+        assert!(rt; left.tells(6, "notformatted\n"), "{words:?}");
+    }
+}
+
+// What `run` does over a new array where these calls of the disks fail.
+fn ran_failing(alloc: Global, input: &str, plan: &[Planned]) -> Option<Left> {
+    told(alloc, &["run"], input, array(alloc, &[], plan)?)
+}
+
+#[test]
+fn a_lost_disk_changes_no_answer(rt: HostRuntime) {
     // In the mount, in the writes and in the flush. From some call on none of these is made.
+    let input = "w 3 11\nw 7 22\nf\nr 3\nr 7\n";
+    let want = "mounted 0 gear 5\nwrote 1\nwrote 2\nflushed 2\n3=11\n7=22\nend 2\n";
     for disk in 0..DISKS {
         for nth in 0..28u32 {
-            let mut faults = NONE;
-            faults.first = Planned::OnDisk { disk, nth };
-            let (status, text) = ran(&rt, b"w 3 11\nw 7 22\nf\nr 3\nr 7\n", faults)?;
-            let want = "mounted 0 gear 5\nwrote 1\nwrote 2\nflushed 2\n3=11\n7=22\nend 2\n";
-            assert!(rt;
-                text.as_slice() == want.as_bytes(),
-                "disk {disk}, call {nth}"
-            );
-            assert!(rt; status == 0);
+            let left = ran_failing(rt.alloc(), input, &[OnDisk { disk, nth }]);
+            let left = left.expect(&rt, "there is memory");
+            assert!(rt; left.tells(0, want), "disk {disk}, call {nth}");
         }
     }
-    Ok(())
 }
 
-// A source whose call of this number fails.
-fn source(call: u32) -> Faults {
-    let mut faults = NONE;
-    faults.source = call;
-    faults
-}
+// The lines of a run, the calls of the source and of the sink that fail, the status, and what is told.
+const UNHEARD: [(&str, u32, u32, u8, &str); 5] = [
+    ("r 0\n", 0, NEVER, 3, "mounted 0 gear 5\nsource\n"),
+    // A rest without a newline is not answered.
+    (
+        "f\nr 0",
+        1,
+        NEVER,
+        3,
+        "mounted 0 gear 5\nflushed 0\nsource\n",
+    ),
+    ("r 0\n", NEVER, 0, 4, ""),
+    ("w 1 aa\nr 1\n", NEVER, 2, 4, "mounted 0 gear 5\nwrote 1\n"),
+    ("f\n", NEVER, 2, 4, "mounted 0 gear 5\nflushed 0\n"),
+];
 
-// A sink whose call of this number fails.
-fn sink(call: u32) -> Faults {
-    let mut faults = NONE;
-    faults.sink = call;
-    faults
-}
-
-// Two disks whose calls of these numbers fail, after the sync of the mount.
-fn disks(first: u8, second: u8, nth: u32) -> Faults {
-    let mut faults = NONE;
-    faults.first = Planned::OnDisk {
-        disk: first,
-        nth: 1,
-    };
-    faults.second = Planned::OnDisk { disk: second, nth };
-    faults
-}
-
-// One disk whose call of this number fails.
-fn disk(disk: u8, nth: u32) -> Faults {
-    let mut faults = NONE;
-    faults.first = Planned::OnDisk { disk, nth };
-    faults
+// What `run` does over a new array where these calls of the source and of the sink fail.
+fn ran_unheard(alloc: Global, input: &str, source: u32, sink: u32) -> Option<Left> {
+    let rack = array(alloc, &[], &[])?;
+    outcome(alloc, &["run"], input.as_bytes(), source, sink, rack)
 }
 
 #[test]
-fn a_fault_ends_the_run_with_its_status(rt: HostRuntime) -> Result<(), Fail> {
-    let rows = [
-        ("r 0\n", source(0), 3, "mounted 0 gear 5\nsource\n"),
-        // A rest without a newline is not answered.
-        (
-            "f\nr 0",
-            source(1),
-            3,
-            "mounted 0 gear 5\nflushed 0\nsource\n",
-        ),
-        ("r 0\n", sink(0), 4, ""),
-        ("w 1 aa\nr 1\n", sink(2), 4, "mounted 0 gear 5\nwrote 1\n"),
-        ("f\n", sink(2), 4, "mounted 0 gear 5\nflushed 0\n"),
-        (
-            "w 2 11\nr 2\n",
-            disks(2, 3, 1),
-            5,
-            "mounted 0 gear 5\ntwo 2 3\ntwo 2 3\ntwo 2 3\n",
-        ),
-        // After a halt only a line that is no event has an answer of its own.
-        (
-            "r 2\ns\nr 99\nx\nf\n",
-            disks(2, 3, 1),
-            5,
-            "mounted 0 gear 5\ntwo 2 3\ntwo 2 3\ntwo 2 3\nbad\ntwo 2 3\ntwo 2 3\n",
-        ),
-        // The flush at the end halts.
-        (
-            "r 2\nw 3 11\n",
-            disks(2, 3, 3),
-            5,
-            "mounted 0 gear 5\n2=00\nwrote 1\ntwo 2 3\n",
-        ),
-        // The first disk was taken out.
-        (
-            "fail 2\nr 2\nf\nxyz\n",
-            disk(3, 1),
-            5,
-            "mounted 0 gear 5\nfailed 2\ntwo 2 3\ntwo 2 3\nbad\ntwo 2 3\n",
-        ),
-        (
-            "fail 2\nw 3 11\n",
-            disk(3, 2),
-            5,
-            "mounted 0 gear 5\nfailed 2\nwrote 1\ntwo 2 3\n",
-        ),
-        // The fresh disk fails at its first write, or does not come.
-        (
-            "fail 2\nreplace 2\nt\nr 2\n",
-            disk(2, 2),
-            0,
-            "mounted 0 gear 5\nfailed 2\nreplaced 2\ntick 5 moved 0 gone 2\n2=00\nend 0\n",
-        ),
-        (
-            "fail 2\nreplace 2\n",
-            disk(2, 1),
-            0,
-            "mounted 0 gear 5\nfailed 2\nnofresh 2\nend 0\n",
-        ),
-    ];
-    for (input, faults, code, want) in rows {
-        let (status, text) = ran(&rt, input.as_bytes(), faults)?;
-        assert!(rt; text.as_slice() == want.as_bytes(), "{input}");
-        assert!(rt; status == code, "{want}");
+fn a_fault_of_the_source_or_the_sink_ends_the_run_with_its_status(rt: HostRuntime) {
+    for &(input, source, sink, code, want) in UNHEARD.iter() {
+        let left = ran_unheard(rt.alloc(), input, source, sink).expect(&rt, "there is memory");
+        assert!(rt; left.tells(code, want), "{input} {source} {sink}");
     }
-    Ok(())
 }
 
+// The lines of a run, the calls of the disks that fail (the first of each disk is the sync of the mount), the status,
+// and what is told.
+const LOSSES: [(&str, &[Planned], u8, &str); 7] = [
+    (
+        "w 2 11\nr 2\n",
+        &[OnDisk { disk: 2, nth: 1 }, OnDisk { disk: 3, nth: 1 }],
+        5,
+        "mounted 0 gear 5\ntwo 2 3\ntwo 2 3\ntwo 2 3\n",
+    ),
+    // After a halt only a line that is no event has an answer of its own.
+    (
+        "r 2\ns\nr 99\nx\nf\n",
+        &[OnDisk { disk: 2, nth: 1 }, OnDisk { disk: 3, nth: 1 }],
+        5,
+        "mounted 0 gear 5\ntwo 2 3\ntwo 2 3\ntwo 2 3\nbad\ntwo 2 3\ntwo 2 3\n",
+    ),
+    // The flush at the end halts.
+    (
+        "r 2\nw 3 11\n",
+        &[OnDisk { disk: 2, nth: 1 }, OnDisk { disk: 3, nth: 3 }],
+        5,
+        "mounted 0 gear 5\n2=00\nwrote 1\ntwo 2 3\n",
+    ),
+    // The first disk was taken out.
+    (
+        "fail 2\nr 2\nf\nxyz\n",
+        &[OnDisk { disk: 3, nth: 1 }],
+        5,
+        "mounted 0 gear 5\nfailed 2\ntwo 2 3\ntwo 2 3\nbad\ntwo 2 3\n",
+    ),
+    (
+        "fail 2\nw 3 11\n",
+        &[OnDisk { disk: 3, nth: 2 }],
+        5,
+        "mounted 0 gear 5\nfailed 2\nwrote 1\ntwo 2 3\n",
+    ),
+    // The fresh disk fails at its first write, or does not come.
+    (
+        "fail 2\nreplace 2\nt\nr 2\n",
+        &[OnDisk { disk: 2, nth: 2 }],
+        0,
+        "mounted 0 gear 5\nfailed 2\nreplaced 2\ntick 5 moved 0 gone 2\n2=00\nend 0\n",
+    ),
+    (
+        "fail 2\nreplace 2\n",
+        &[OnDisk { disk: 2, nth: 1 }],
+        0,
+        "mounted 0 gear 5\nfailed 2\nnofresh 2\nend 0\n",
+    ),
+];
+
 #[test]
-fn no_array_is_served(rt: HostRuntime) -> Result<(), Fail> {
-    let alloc = rt.alloc();
-    let lists: [&[&str]; 3] = [&["run"], &["check"], &["gen", "--number=0", "--lines=6"]];
-    for words in lists {
-        let rack = bare_rack(&rt, DISKS, Planned::AtCall(NEVER));
-        let (status, text, _rack) = outcome(alloc, words, b"r 0\n", NEVER, NEVER, rack)?;
-        assert!(rt; text.as_slice() == "notformatted\n".as_bytes());
-        assert!(rt; status == 6);
+fn a_loss_of_disks_ends_the_run_with_its_status(rt: HostRuntime) {
+    for &(input, plan, code, want) in LOSSES.iter() {
+        let left = ran_failing(rt.alloc(), input, plan).expect(&rt, "there is memory");
+        assert!(rt; left.tells(code, want), "{input}");
     }
-    Ok(())
 }

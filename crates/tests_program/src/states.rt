@@ -1,14 +1,12 @@
 //! The program with `status` on arrays whose disks were changed since they were made.
 
-use crate::formats::{NEVER, NONE, bare_rack, configuration, formatted, shown};
-use crate::runs::outcome;
+use crate::formats::{self, configured, formatted};
+use crate::programs::{Left, left_at, restarted, told};
 use Change::{Filled, Fresh, Lost, MetaByte, Parked};
 use paraid_base::{Block, DiskNo, Place};
-use paraid_memrack::{MemRack, Pick, Planned};
+use paraid_memrack::{MemRack, Pick};
 use paraid_rack::{Call, Power, Rack};
 use std::alloc::Global;
-use std::process::Abort;
-use std::test::Fail;
 
 /// A change of the disks.
 #[derive(Clone, Copy, Debug)]
@@ -21,21 +19,6 @@ enum Change {
     Filled(DiskNo, u8),
     /// A byte of the metas of both log disks.
     MetaByte(usize, u8),
-}
-
-// The disks as they are, before any call.
-fn restarted(alloc: Global, rack: &MemRack) -> Result<MemRack, Fail> {
-    let left = rack.stopped(alloc, rack.calls(), Pick::New, NEVER, Vec::new(alloc))?;
-    Ok(left)
-}
-
-// The disks without this one, before any call.
-fn without(alloc: Global, rack: &MemRack, disk: DiskNo) -> Result<MemRack, Fail> {
-    let mut left = rack.stopped(alloc, rack.calls(), Pick::New, NEVER, Vec::new(alloc))?;
-    if disk < left.slots() {
-        left.lose(disk);
-    }
-    Ok(left)
 }
 
 fn park(rack: &mut MemRack, disk: DiskNo) {
@@ -90,20 +73,26 @@ fn change_disk(rack: &mut MemRack, change: Change) {
     }
 }
 
+// The disks without this one, before any call.
+fn without(alloc: Global, rack: &MemRack, disk: DiskNo) -> Option<MemRack> {
+    left_at(alloc, rack, rack.calls(), Pick::New, Some(disk), &[])
+}
+
 // A new array of five disks with these changes, before any call.
-fn array(rt: &(impl Abort + AllocGlobal), changes: &[Change]) -> Result<MemRack, Fail> {
-    let alloc = rt.alloc();
-    let bytes = configuration(alloc, NONE, "")?;
-    let bare = bare_rack(rt, 5, Planned::AtCall(NEVER));
-    let (_status, _text, mut rack) = formatted(alloc, false, bytes, NEVER, NEVER, bare)?;
+fn array(alloc: Global, changes: &[Change]) -> Option<MemRack> {
+    let mut rack = formats::array(alloc, &[], &[])?;
     for &change in changes {
+        change_disk(&mut rack, change);
         if let Lost(disk) = change {
             rack = without(alloc, &rack, disk)?;
-        } else {
-            change_disk(&mut rack, change);
         }
     }
-    restarted(alloc, &rack)
+    restarted(alloc, &rack, &[])
+}
+
+// What these words do over this input on such an array.
+fn told_with(alloc: Global, word: &str, input: &str, changes: &[Change]) -> Option<Left> {
+    told(alloc, &[word], input, array(alloc, changes)?)
 }
 
 const WHOLE: &str = "mounted 0 gear 5\nstate 5 steady dirty 0 fill 0 out none spins 0 0 0 0 0\n";
@@ -156,30 +145,25 @@ fn are_reads(rack: &MemRack) -> bool {
 }
 
 #[test]
-fn a_changed_array_is_shown_or_refused(rt: HostRuntime) -> Result<(), Fail> {
-    for (changes, code, want) in STATES {
-        let rack = array(&rt, changes)?;
-        let (status, told, left) = shown(rt.alloc(), rack)?;
-        assert!(rt; told.as_slice() == want.as_bytes(), "{changes:?}");
-        assert!(rt; status == code, "{want}");
+fn a_changed_array_is_shown_or_refused(rt: HostRuntime) {
+    for &(changes, code, want) in STATES.iter() {
+        let left = told_with(rt.alloc(), "status", "", changes).expect(&rt, "there is memory");
+        assert!(rt; left.tells(code, want), "{changes:?}");
         // A refusal leaves all disks as they were.
-        assert!(rt; code == 0 || are_reads(&left));
+        assert!(rt; code == 0 || are_reads(&left.rack), "{changes:?}");
     }
-    Ok(())
 }
 
 #[test]
-fn a_refused_array_is_not_run(rt: HostRuntime) -> Result<(), Fail> {
-    for (changes, code, want) in STATES {
+fn a_refused_array_is_not_run(rt: HostRuntime) {
+    for &(changes, code, want) in STATES.iter() {
         if code != 0 {
-            let rack = array(&rt, changes)?;
-            let (status, told, left) = outcome(rt.alloc(), &["run"], b"r 0\n", NEVER, NEVER, rack)?;
-            assert!(rt; told.as_slice() == want.as_bytes(), "{changes:?}");
-            assert!(rt; status == code, "{want}");
-            assert!(rt; are_reads(&left));
+            let left = told_with(rt.alloc(), "run", "r 0\n", changes);
+            let left = left.expect(&rt, "there is memory");
+            assert!(rt; left.tells(code, want), "{changes:?}");
+            assert!(rt; are_reads(&left.rack), "{changes:?}");
         }
     }
-    Ok(())
 }
 
 // In gear 4, with disk 4 parked: a run of it, and one without disk 1, which has the copy of block 7.
@@ -193,39 +177,37 @@ const LOW: [(&str, &str); 2] = [
 ];
 
 #[test]
-fn an_array_of_zeros_is_served_in_a_low_gear(rt: HostRuntime) -> Result<(), Fail> {
-    let alloc = rt.alloc();
-    let mut rack = array(&rt, &[MetaByte(68, 4), Parked(4)])?;
-    for (input, want) in LOW {
-        let (status, told, left) = outcome(alloc, &["run"], input.as_bytes(), NEVER, NEVER, rack)?;
-        rack = without(alloc, &left, 1)?;
-        assert!(rt; told.as_slice() == want.as_bytes(), "{want}");
-        assert!(rt; status == 0);
+fn an_array_of_zeros_is_served_in_a_low_gear(rt: HostRuntime) {
+    let start = array(rt.alloc(), &[MetaByte(68, 4), Parked(4)]);
+    let mut rack = start.expect(&rt, "there is memory");
+    for &(input, want) in LOW.iter() {
+        let left = told(rt.alloc(), &["run"], input, rack).expect(&rt, "there is memory");
+        assert!(rt; left.tells(0, want), "{want}");
+        rack = without(rt.alloc(), &left.rack, 1).expect(&rt, "there is memory");
     }
-    Ok(())
+}
+
+// Whether this byte of the metas of both log disks is this one.
+fn have_byte(rack: &MemRack, at: usize, byte: u8) -> bool {
+    meta_byte(rack, 0, at) == Some(byte) && meta_byte(rack, 1, at) == Some(byte)
+}
+
+// What a format does on these disks.
+fn told_again(alloc: Global, rack: MemRack) -> Option<Left> {
+    formatted(alloc, configured(alloc, &[])?.as_slice(), rack)
 }
 
 #[test]
-fn a_lost_disk_is_marked_once(rt: HostRuntime) -> Result<(), Fail> {
-    let alloc = rt.alloc();
-    let mut rack = array(&rt, &[Lost(2)])?;
+fn a_lost_disk_is_marked_once(rt: HostRuntime) {
+    let mut rack = array(rt.alloc(), &[Lost(2)]).expect(&rt, "there is memory");
     for _ in 0..2u8 {
-        let (status, told, left) = shown(alloc, rack)?;
-        rack = left;
-        assert!(rt; told.as_slice() == TWO_GONE.as_bytes());
-        assert!(rt; status == 0);
-        for disk in 0..2 {
-            assert!(rt;
-                meta_byte(&rack, disk, 51) == Some(2),
-                "the epoch on {disk}"
-            );
-        }
+        let left = told(rt.alloc(), &["status"], "", rack).expect(&rt, "there is memory");
+        assert!(rt; left.tells(0, TWO_GONE));
+        assert!(rt; have_byte(&left.rack, 51, 2), "the epoch");
+        rack = left.rack;
     }
-    let bytes = configuration(alloc, NONE, "")?;
-    let (status, told, _rack) = formatted(alloc, false, bytes, NEVER, NEVER, rack)?;
-    assert!(rt; told.as_slice() == "already 2\n".as_bytes());
-    assert!(rt; status == 9);
-    Ok(())
+    let left = told_again(rt.alloc(), rack).expect(&rt, "there is memory");
+    assert!(rt; left.tells(9, "already 2\n"));
 }
 
 /// What a stop may leave of what is loose.
@@ -234,30 +216,29 @@ pub const PICKS: [Pick; 4] = [Pick::Old, Pick::New, Pick::Filled(165), Pick::Mix
 // Version 1 has no burst and no period.
 const VERSION_ONE: [Change; 3] = [MetaByte(9, 1), MetaByte(113, 0), MetaByte(117, 0)];
 
+// What is told after what a stop at this moment leaves.
+fn shown_after(alloc: Global, rack: &MemRack, moment: u32, pick: Pick) -> Option<Left> {
+    let rack = left_at(alloc, rack, moment, pick, None, &[])?;
+    told(alloc, &["status"], "", rack)
+}
+
+// The version, the epoch, the burst, which is the ration, and the period.
+const VERSION_TWO: [(usize, u8); 4] = [(9, 2), (51, 2), (113, 100), (117, 1)];
+
 #[test]
-fn an_array_of_version_one_is_brought_to_version_two(rt: HostRuntime) -> Result<(), Fail> {
-    let alloc = rt.alloc();
-    let (status, told, rack) = shown(alloc, array(&rt, &VERSION_ONE)?)?;
-    assert!(rt; told.as_slice() == WHOLE.as_bytes());
-    assert!(rt; status == 0);
-    // The version, the epoch, the burst, which is the ration, and the period.
-    for (at, byte) in [(9, 2), (51, 2), (113, 100), (117, 1)] {
-        for disk in 0..2 {
-            assert!(rt; meta_byte(&rack, disk, at) == Some(byte), "{at} on {disk}");
-        }
+fn an_array_of_version_one_is_brought_to_version_two(rt: HostRuntime) {
+    let whole = told_with(rt.alloc(), "status", "", &VERSION_ONE).expect(&rt, "there is memory");
+    assert!(rt; whole.tells(0, WHOLE));
+    for (at, byte) in VERSION_TWO {
+        assert!(rt; have_byte(&whole.rack, at, byte), "{at}");
     }
     // Eleven reads and syncs, and a commit of nine calls on each log disk.
-    assert!(rt; rack.calls() == 29);
+    assert!(rt; whole.rack.calls() == 29);
     for moment in 0..30 {
         for pick in PICKS {
-            let left = rack.stopped(alloc, moment, pick, NEVER, Vec::new(alloc))?;
-            let (status, told, _rack) = shown(alloc, left)?;
-            assert!(rt;
-                told.as_slice() == WHOLE.as_bytes(),
-                "at {moment}, {pick:?}"
-            );
-            assert!(rt; status == 0);
+            let left = shown_after(rt.alloc(), &whole.rack, moment, pick);
+            let left = left.expect(&rt, "there is memory");
+            assert!(rt; left.tells(0, WHOLE), "at {moment}, {pick:?}");
         }
     }
-    Ok(())
 }

@@ -1,4 +1,4 @@
-use Rattle.std.proofs.Common.{◌++◌, [], ◌∷◌, List, ℕ, arith, sym, ◌∙◌, subst}
+use Rattle.std.proofs.Common.{◌++◌, [], ◌∷◌, List, ℕ, sym, ◌∙◌, subst}
 use Rattle.std.proofs.lemmas.List.{flat_map_more}
 use Rattle.std.proofs.lemmas.Result.{err_from_is_err_and}
 use Rattle.paraid_base.specs.Told.{GrowsByBytes}
@@ -7,7 +7,7 @@ use Rattle.paraid_nbd.specs.Options.{option_bytes, option_reply}
 use Rattle.paraid_nbd.specs.Handshake.{greeting}
 use Rattle.paraid_nbd.specs.Handshake.EndsEarly.{Unflagged, AmongOptions}
 use Rattle.paraid_nbd.specs.Taking.{Takes}
-use Rattle.paraid_nbd.proofs.TakingLemmas.{Takes-then}
+use Rattle.paraid_nbd.proofs.TakingLemmas.{Takes-then, later_then}
 use Rattle.paraid_nbd.proofs.OptionLemmas.{each_more}
 use Rattle.paraid_nbd.proofs.options.negotiate.Goals as goal
 
@@ -57,6 +57,18 @@ loop-preserved g c =
           grows = subst (λ (x : List ℕ). GrowsByBytes (g.K.Sink.written c.args.sink.now) (g.K.Sink.written c.option.new.sink) x) (flat_map_more (option_reply c.args.size z) greeting i.greeted.1 a.parts) (GrowsByBytes-then _ _ _ _ _ G.grows a.grows);
         },
       );
-      later = omega (arith, i.later, e.later);
-      later_sink = omega (arith, i.later_sink, e.later_sink);
+      later = later_then _ _ _ i.later e.later;
+      later_sink = later_then _ _ _ i.later_sink e.later_sink;
     }
+
+pub returns-in_err-option-clause-later : goal.returns-in_err-option-clause-later
+returns-in_err-option-clause-later g c = later_then _ _ _ c.loop.invariant.later c.in_err-option.ensures.later
+
+pub returns-in_err-option-clause-later_sink : goal.returns-in_err-option-clause-later_sink
+returns-in_err-option-clause-later_sink g c = later_then _ _ _ c.loop.invariant.later_sink c.in_err-option.ensures.later_sink
+
+pub returns-then-branch-clause-later : goal.returns-then-branch-clause-later
+returns-then-branch-clause-later g c = later_then _ _ _ c.loop.invariant.later c.in_ok-option.ensures.later
+
+pub returns-then-branch-clause-later_sink : goal.returns-then-branch-clause-later_sink
+returns-then-branch-clause-later_sink g c = later_then _ _ _ c.loop.invariant.later_sink c.in_ok-option.ensures.later_sink

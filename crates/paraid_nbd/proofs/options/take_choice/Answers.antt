@@ -1,10 +1,29 @@
-use Rattle.std.proofs.Common.{◌≡◌, length, arith, refl, sym, ◌∙◌}
+use Rattle.std.proofs.Common.{◌≡◌, ◌≤◌, ℕ, length, take, refl, sym, subst, ◌∙◌}
 use Rattle.std.proofs.lemmas.Bool.{false≢true}
-use Rattle.std.proofs.lemmas.Grind.{common_steps}
+use Rattle.std.proofs.lemmas.List.{length-replicate, length-take-le}
+use Rattle.std.specs.Prelude.{replicate}
 use Rattle.paraid_nbd.specs.Handshake.StopsChoice.{NoChoice}
 use Rattle.paraid_nbd.proofs.options.take_choice.Goals as goal
 
+cut_length : (n : ℕ) → n ≤ 8192 → length {A = ℕ} (take n (replicate 8192 0)) ≡ n
+cut_length n few = length-take-le {A = ℕ} n (replicate 8192 0) (subst (λ (m : ℕ). n ≤ m) (sym (length-replicate {A = ℕ} 8192 0)) few)
+
 pub returns-then-not-is_choice-clause-stops : goal.returns-then-not-is_choice-clause-stops
 returns-then-not-is_choice-clause-stops g c =
-    let whole : length c.fill.new.into ≡ c.args.count = grind (arith, common_steps, c.fill.auto.into) in
-    NoChoice c.fill.new.into (omega arith, omega arith) whole (λ h. false≢true (sym c.if-not-is_choice.true ∙ c.is_choice.ensures.1 h)) c.in_ok-fill.ensures.takes refl
+    let whole : length c.fill.new.into ≡ c.args.count = c.fill.auto.into ∙ cut_length c.args.count c.if-length-gt-MAX_CHOICE.false in
+    NoChoice c.fill.new.into (c.if-length-lt6.false, c.if-length-gt-MAX_CHOICE.false) whole (λ h. false≢true (sym c.if-not-is_choice.true ∙ c.is_choice.ensures.1 h)) c.in_ok-fill.ensures.takes refl
+
+pub returns-in_err-fill-clause-later : goal.returns-in_err-fill-clause-later
+returns-in_err-fill-clause-later g c = c.in_err-fill.ensures.later
+
+pub returns-then-not-is_choice-clause-later : goal.returns-then-not-is_choice-clause-later
+returns-then-not-is_choice-clause-later g c = c.in_ok-fill.ensures.later
+
+pub returns-clause-later : goal.returns-clause-later
+returns-clause-later g c = c.in_ok-fill.ensures.later
+
+pub slice_bounds-content-end : goal.slice_bounds-content-end
+slice_bounds-content-end g c = c.if-length-gt-MAX_CHOICE.false
+
+pub slice_bounds-content-end-2 : goal.slice_bounds-content-end-2
+slice_bounds-content-end-2 g c = sym (cut_length c.args.count c.if-length-gt-MAX_CHOICE.false)

@@ -20,3 +20,12 @@ returns-clause-flags g c =
       are = record { whole = whole; known = omega (arith, flags, c.if-flags-gt3.false); zeros = rw flags refl };
       takes = c.in_ok-fill.ensures.takes;
     }
+
+pub returns-in_err-fill-clause-later : goal.returns-in_err-fill-clause-later
+returns-in_err-fill-clause-later g c = c.in_err-fill.ensures.later
+
+pub returns-then-flags-gt3-clause-later : goal.returns-then-flags-gt3-clause-later
+returns-then-flags-gt3-clause-later g c = c.in_ok-fill.ensures.later
+
+pub returns-clause-later : goal.returns-clause-later
+returns-clause-later g c = c.in_ok-fill.ensures.later

@@ -5,6 +5,7 @@ use Rattle.paraid_nbd.specs.Numbers.{number_bytes}
 use Rattle.paraid_nbd.specs.Performing.{answer_content}
 use Rattle.paraid_nbd.specs.Requests.{error_of, reply_head}
 use Rattle.paraid_nbd.proofs.ServiceLemmas.{unsent_then}
+use Rattle.paraid_nbd.proofs.TakingLemmas.{later_then}
 use Rattle.paraid_nbd.proofs.serve.reply.Goals as goal
 
 pub returns-in_err-send_bytes-in-Read-Done-clause-unsent : goal.returns-in_err-send_bytes-in-Read-Done-clause-unsent
@@ -23,3 +24,12 @@ returns-in_err-send_bytes-in-Read-Done-clause-unsent g c =
     rw (p.1, p.2) (subst (λ (x : List ℕ). IsUnsent (g.K.Sink.written c.args.sink.now) (g.K.Sink.written c.send_bytes.new.sink) x (g.K.Sink.faults c.args.sink.now) (g.K.Sink.faults c.send_bytes.new.sink) (c.in_err-send_bytes-in-Read-Done).field-0.0)
     (ap (λ (x : List ℕ). x ++ content) head ∙ ap (λ (x : List ℕ). reply_head r c.args.outcome ++ x) (sym alone))
     (unsent_then c.in_ok-send.ensures.sends c.in_ok-send.ensures.later_sink (c.in_err-send_bytes-in-Read-Done).ensures.unsent))
+
+pub returns-in_err-send-clause-later_sink : goal.returns-in_err-send-clause-later_sink
+returns-in_err-send-clause-later_sink g c = c.in_err-send.ensures.later_sink
+
+pub returns-in_err-send_bytes-in-Read-Done-clause-later_sink : goal.returns-in_err-send_bytes-in-Read-Done-clause-later_sink
+returns-in_err-send_bytes-in-Read-Done-clause-later_sink g c = later_then _ _ _ c.in_ok-send.ensures.later_sink c.in_err-send_bytes-in-Read-Done.ensures.later_sink
+
+pub returns-in_ok-send_bytes-in-Read-Done-clause-later_sink : goal.returns-in_ok-send_bytes-in-Read-Done-clause-later_sink
+returns-in_ok-send_bytes-in-Read-Done-clause-later_sink g c = later_then _ _ _ c.in_ok-send.ensures.later_sink c.in_ok-send_bytes-in-Read-Done.ensures.later_sink

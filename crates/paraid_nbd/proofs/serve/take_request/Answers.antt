@@ -4,7 +4,7 @@ use Rattle.paraid_nbd.specs.declared.request.Request.{Request}
 use Rattle.paraid_nbd.specs.Numbers.{number}
 use Rattle.paraid_nbd.specs.Requests.IsPartRequest.{InMagic, InHead}
 use Rattle.paraid_nbd.specs.Service.StopsRequest.{CutRequest, WrongRequest, LastRequest}
-use Rattle.paraid_nbd.proofs.TakingLemmas.{Takes-then, IsCut-sooner}
+use Rattle.paraid_nbd.proofs.TakingLemmas.{Takes-then, IsCut-sooner, later_then}
 use Rattle.paraid_nbd.proofs.serve.take_request.Goals as goal
 
 pub returns-in_err-fill-clause-stops : goal.returns-in_err-fill-clause-stops
@@ -54,3 +54,15 @@ returns-clause-takes g c =
       stays = c.in_default.not-Disconnect;
       takes = Takes-then c.in_ok-fill.ensures.takes c.in_ok-fill-2.ensures.takes;
     }
+
+pub returns-in_err-fill-clause-later : goal.returns-in_err-fill-clause-later
+returns-in_err-fill-clause-later g c = c.in_err-fill.ensures.later
+
+pub returns-then-read_u32-ne-REQUEST-clause-later : goal.returns-then-read_u32-ne-REQUEST-clause-later
+returns-then-read_u32-ne-REQUEST-clause-later g c = c.in_ok-fill.ensures.later
+
+pub returns-in_err-fill-2-clause-later : goal.returns-in_err-fill-2-clause-later
+returns-in_err-fill-2-clause-later g c = later_then _ _ _ c.in_ok-fill.ensures.later c.in_err-fill-2.ensures.later
+
+pub returns-in-Disconnect-clause-later : goal.returns-in-Disconnect-clause-later
+returns-in-Disconnect-clause-later g c = later_then _ _ _ c.in_ok-fill.ensures.later c.in_ok-fill-2.ensures.later

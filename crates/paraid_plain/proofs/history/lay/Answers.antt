@@ -1,6 +1,7 @@
-use Rattle.std.proofs.Common.{◌≡◌, ◌≢◌, ◌<◌, ◌∙◌, ◌+◌, ◌∷◌, [], ℕ, ap, sym, arith, length, take, get_or, List}
+use Rattle.std.proofs.Common.{◌≡◌, ◌≢◌, ◌<◌, ◌≤◌, ◌∙◌, ◌+◌, ◌*◌, ◌∷◌, [], ℕ, Fits, ap, sym, subst, arith, length, take, get_or, w64, List}
+use Rattle.std.proofs.lemmas.Nat.{mul-le}
 use Rattle.std.specs.Prelude.{◌==◌, if◌then◌else◌}
-use Rattle.std.proofs.lemmas.Bool.Decides.{nat_tests}
+use Rattle.std.proofs.lemmas.Bool.{cond-false, cond-true, eq-eqb, ne_eqb}
 use Rattle.paraid_base.specs.declared.block.Block.{Block}
 use Rattle.paraid_base.specs.History.{last_of}
 use Rattle.paraid_base.specs.Pairs.{numbered_blocks}
@@ -16,19 +17,37 @@ module _ (b : ℕ) (start now : Block) (blocks : List ℕ) (bytes : List Block) 
       ∙ ap (λ (y : Block). if get_or blocks i 0 == b then get_or bytes i x else y) (sym is)
 
   named : get_or blocks i 0 ≡ b → get_or bytes i x ≡ last_of b start (take (i + 1) (numbered_blocks blocks bytes))
-  named same = rw step grind (arith, nat_tests)
+  named same = sym (step ∙ cond-true (get_or blocks i 0 == b) (get_or bytes i x) now (eq-eqb _ _ same))
 
   other : get_or blocks i 0 ≢ b → now ≡ last_of b start (take (i + 1) (numbered_blocks blocks bytes))
-  other differs = rw step grind (arith, nat_tests)
+  other differs = sym (step ∙ cond-false (get_or blocks i 0 == b) (get_or bytes i x) now (ne_eqb _ _ differs))
+
+within : (i n m : ℕ) → i < n → n ≤ m → i < m
+within i n m l few = omega arith
+
+fits_at : (i n size : ℕ) → i < n → n ≤ 8 → size ≤ 512 → Fits w64 (i * size)
+fits_at i n size l few low = let below : i ≤ 8 = omega arith in let small = mul-le i size 8 512 below low in omega (arith, small)
+
+pub offset_bounds-write-at : goal.offset_bounds-write-at
+offset_bounds-write-at c = fits_at c.loop-at.at c.args.write.now.count 4 c.loop-at-test.true c.args.write.now.few (omega arith)
+
+pub bounds-write-at : goal.bounds-write-at
+bounds-write-at c = within c.loop-at.at c.args.write.now.count 8 c.loop-at-test.true c.args.write.now.few
+
+pub offset_bounds-write-at-then-write-at : goal.offset_bounds-write-at-then-write-at
+offset_bounds-write-at-then-write-at c = fits_at c.loop-at.at c.args.write.now.count 512 c.loop-at-test.true c.args.write.now.few (omega arith)
+
+pub listed : goal.listed
+listed c = subst (λ (n : ℕ). c.loop-at.at < n) (sym c.args.write.now.bytes_whole) (within c.loop-at.at c.args.write.now.count 8 c.loop-at-test.true c.args.write.now.few)
+
+pub bounds-write-at-then-write-at : goal.bounds-write-at-then-write-at
+bounds-write-at-then-write-at c = within c.loop-at.at c.args.write.now.count 8 c.loop-at-test.true c.args.write.now.few
 
 pub loop-at-preserved : goal.loop-at-preserved
 loop-at-preserved c =
     let w = c.args.write.now in
     let i = c.loop-at.at in
-    let few = w.few in
-    let long = w.blocks_whole in
-    let test = c.loop-at-test.true in
-    let l : i < length w.blocks = omega (arith, few, long, test) in
+    let l : i < length w.blocks = subst (λ (n : ℕ). i < n) (sym w.blocks_whole) (within i w.count 8 c.loop-at-test.true w.few) in
     let e = w.blocks_whole ∙ sym w.bytes_whole in
     elim c.if-write-at.branch [
       | then-write-at v ↦

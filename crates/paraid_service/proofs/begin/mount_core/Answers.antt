@@ -9,7 +9,7 @@ use Rattle.paraid_recover.specs.Mount.IsCauseOfRefusal.{no_memory}
 use Rattle.paraid_recover.specs.Mounted.{IsServable, IsStandingWithLoss}
 use Rattle.paraid_startup.proofs.MountedLemmas.{no_calls, refused_from_each}
 use Rattle.paraid_txn.specs.Stores.{disks_of, epoch_of, named_of, store_rack}
-use Rattle.paraid_service.proofs.BeginLemmas.{begins_large, begins_synced, begun_map, begun_servable, begun_stands, begun_under, fresh_known, out_known, powered_by, stands_from_each}
+use Rattle.paraid_service.proofs.BeginLemmas.{begins_large, begins_synced, begun_mounted, begun_servable, begun_stands, begun_under, fresh_known, out_known, powered_by, stands_from_each}
 use Rattle.paraid_service.proofs.begin.mount_core.Given.{Over}
 use Rattle.paraid_service.proofs.begin.mount_core.Goals as goal
 use Rattle.paraid_service.proofs.begin.mount_core.Goals.{After-begin}
@@ -94,8 +94,9 @@ pub returns-in-Ok-mount-clause-later : goal.returns-in-Ok-mount-clause-later
 returns-in-Ok-mount-clause-later g c d =
     subst (λ (z : _). (g.R.Rack.slot c.args.rack d).faults ≤ (g.R.Rack.slot (store_rack z) d).faults) (sym c.begin.ensures.store) (c.in-Ok-mount.ensures.later d)
 
-pub returns-in-Ok-mount-clause-map : goal.returns-in-Ok-mount-clause-map
-returns-in-Ok-mount-clause-map g c =
+pub returns-in-Ok-mount-clause-mounted : goal.returns-in-Ok-mount-clause-mounted
+returns-in-Ok-mount-clause-mounted g c =
     let it = c.in-Ok-mount.mounted in
-    begun_map g.R.Rack.slot_count g.R.Rack.slot g.R.Rack.told c.begin.result.core it.store it.meta it.dirty c.begin.ensures.store c.begin.ensures.meta c.begin.ensures.table
-    (g.R.Rack.slot c.args.rack) c.in-Ok-mount.ensures.mounted.0.map
+    let done = c.in-Ok-mount.ensures in
+    begun_mounted g.R.Rack.slot_count g.R.Rack.slot g.R.Rack.told c.begin.result.core it.store it.meta it.dirty c.begin.ensures.store c.begin.ensures.meta c.begin.ensures.table
+    (g.R.Rack.slot_count c.args.rack) (g.R.Rack.slot c.args.rack) (g.R.Rack.told c.args.rack) done.slots done.servable done.mounted.0 (λ began. done.mounted.1 (g.R.Rack.slot_count c.args.rack) began)

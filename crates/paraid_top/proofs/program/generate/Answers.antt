@@ -10,8 +10,8 @@ returns-in-Ok-clause-run g c =
     let e = c.in-Ok.ensures in
     let done = c.serve_generated_mounted-status.ensures in
     let before = g.R.Rack.told c.args.rack in
-    mounted (g.A.Serves.setup c.in-Ok.array) (end_moment before) (g.A.Serves.told c.in-Ok.array) (begins_at_end before (g.A.Serves.told c.in-Ok.array) _ _ e.grows c.unmount.ensures.told c.serve_generated_mounted-status.ensures.told)
-    (generated_over _ _ _ _ _ _ _ _ _ _ _ _ e.slots c.unmount.ensures.told
+    mounted (g.O.Outside.served c.in-Ok.array) (end_moment before) (g.A.Serves.told c.in-Ok.array) e.served (begins_at_end before (g.A.Serves.told c.in-Ok.array) _ _ e.grows c.unmount.ensures.told c.serve_generated_mounted-status.ensures.told)
+    (generated_over _ _ _ _ _ _ _ _ _ _ _ _ _ e.slots e.setup c.unmount.ensures.told
     (end_over (g.A.Serves.setup c.in-Ok.array) (g.R.Rack.slot c.args.rack) (g.A.Serves.slot c.in-Ok.array) _ _ _ _ _ c.unmount.ensures.slot e.later done.present done.two done.worn)
     _ _ (done.headline (end_moment before) (e.mounted (end_moment before) (began_at_end before))))
 

@@ -10,5 +10,5 @@ pub returns-in-Ok-clause-run : goal.returns-in-Ok-clause-run
 returns-in-Ok-clause-run g c =
     let e = c.in-Ok.ensures in
     let before = g.R.Rack.told c.args.rack in
-    mounted (g.A.Serves.setup c.in-Ok.array) (end_moment before) (g.A.Serves.told c.in-Ok.array) (begins_at_end before (g.A.Serves.told c.in-Ok.array) _ _ e.grows c.unmount.ensures.told (grows_none _))
-    (state_over _ _ (g.A.Serves.setup c.in-Ok.array) _ _ _ _ _ _ e.slots (e.mounted (end_moment before) (began_at_end before)) c.tell_state-status.ensures.lines)
+    mounted (g.O.Outside.served c.in-Ok.array) (end_moment before) (g.A.Serves.told c.in-Ok.array) e.served (begins_at_end before (g.A.Serves.told c.in-Ok.array) _ _ e.grows c.unmount.ensures.told (grows_none _))
+    (state_over _ _ (g.A.Serves.setup c.in-Ok.array) (g.O.Outside.served c.in-Ok.array) _ _ _ _ _ _ e.slots e.setup (e.mounted (end_moment before) (began_at_end before)) c.tell_state-status.ensures.lines)

@@ -2,18 +2,19 @@ use Rattle.std.proofs.Common.{inl, inr, subst}
 use Rattle.paraid_record.specs.declared.meta.Setup.{Setup}
 use Rattle.paraid_serve.specs.Calls.{IsNotDouble}
 use Rattle.paraid_serve.proofs.GrowsLemmas.{told_then}
+use Rattle.paraid_top.specs.Ends.{CountsArray}
 use Rattle.paraid_top.proofs.CheckLemmas.{counted_status, counts_no_halt, halt_names_two, halt_not_whole, halt_tells_wear, halted_status, tells_counts, tells_halt}
 use Rattle.paraid_top.proofs.program.tell_counts.Goals as goal
 
 pub returns-in-Ok-clause-counts : goal.returns-in-Ok-clause-counts
 returns-in-Ok-clause-counts g c began mounted =
     let done = c.check.ensures in
-    tells_counts _ _ _ _ _ _ _ _ _ _ (told_then _ _ done.told) mounted c.in-Ok.report (rw (c.as_slice.ensures.value, c.check_text.ensures, c.check_status.ensures) at c.last.ensures.ends) c.in-Ok.ensures.turn c.in-Ok.ensures.sound
+    tells_counts _ _ _ _ _ _ _ _ _ _ (CountsArray (g.O.Outside.served c.args.array.now) (g.A.Serves.slot c.check.new.array) (g.A.Serves.told c.args.array.now) (g.A.Serves.told c.check.new.array)) (told_then _ _ done.told) mounted c.in-Ok.report (rw (c.as_slice.ensures.value, c.check_text.ensures, c.check_status.ensures) at c.last.ensures.ends) c.in-Ok.ensures.turn c.in-Ok.ensures.sound (c.in-Ok.ensures.counts c.requires.nothing)
 
 pub returns-in-Err-clause-counts : goal.returns-in-Err-clause-counts
 returns-in-Err-clause-counts g c began mounted =
     let done = c.check.ensures in
-    tells_halt _ _ _ _ _ _ _ _ _ _ (told_then _ _ done.told) mounted c.in-Err.halt (rw (c.as_slice-in-Err.ensures.value, c.reply.ensures.value, c.halt_status.ensures) at c.last-in-Err.ensures.ends) c.in-Err.ensures.ended
+    tells_halt _ _ _ _ _ _ _ _ _ _ (CountsArray (g.O.Outside.served c.args.array.now) (g.A.Serves.slot c.check.new.array) (g.A.Serves.told c.args.array.now) (g.A.Serves.told c.check.new.array)) (told_then _ _ done.told) mounted c.in-Err.halt (rw (c.as_slice-in-Err.ensures.value, c.reply.ensures.value, c.halt_status.ensures) at c.last-in-Err.ensures.ends) c.in-Err.ensures.ended
 
 pub returns-in-Ok-clause-status : goal.returns-in-Ok-clause-status
 returns-in-Ok-clause-status g c = counted_status c.in-Ok.report _ _ _ _ (rw c.check_status.ensures at c.last.ensures.ends)

@@ -4,3 +4,8 @@ use Rattle.paraid_program.proofs.arrays.ArraysOutsideArray.mount.Goals as goal
 
 pub returns-in-Ok-clause-later : goal.returns-in-Ok-clause-later
 returns-in-Ok-clause-later g c = no_fall_counts (g.R.Rack.slot c.args.rack) (slot_of_array g.R.Rack.slot c.in-Ok.array) c.in-Ok.ensures.later
+
+pub returns-in-Ok-clause-served : goal.returns-in-Ok-clause-served
+returns-in-Ok-clause-served g c =
+    let it = c.in-Ok.ensures.served in
+    record { epoch = _; disks = _; named = _; rows = _; servable = it.servable; mounted = it.mounted; session = it.session }

@@ -1,10 +1,10 @@
-use Rattle.std.proofs.Common.{◌≡◌, ℕ, ◌≤◌, ◌∙◌, sym, ap, subst}
+use Rattle.std.proofs.Common.{◌≡◌, ℕ, ◌<◌, ◌≤◌, ◌^◌, ◌∙◌, sym, ap, subst}
 use Rattle.std.specs.Prelude.{true}
 use Rattle.std.proofs.lemmas.Bool.{false≢true}
 use Rattle.paraid_base.specs.History.{after_all}
 use Rattle.paraid_volume.specs.Device.{halt_in}
 use Rattle.paraid_volume.specs.TableBlocks.{in_table}
-use Rattle.paraid_volume.specs.Tables.{IsVolumeTable}
+use Rattle.paraid_volume.specs.Tables.{IsVolumeTable, extent_count, extent_size}
 use Rattle.paraid_volume.proofs.ExtentLemmas.{back, same_table}
 use Rattle.paraid_volume.proofs.StateLemmas.{lived_adopted}
 use Rattle.paraid_volume.proofs.DeviceLemmas.{holds_stands}
@@ -24,6 +24,20 @@ returns-then-not-is_table-clause-refused g c =
           let is : c.is_table.result ≡ true = c.is_table.ensures.1 (subst (λ (n : ℕ). IsVolumeTable n (in_table c.read_table.new.table)) (sym count) here) in
           absurd (false≢true (sym c.if-not-is_table.true ∙ is)),
     )
+
+pub invariant_of-result : goal.invariant_of-result
+invariant_of-result g c =
+    let size = c.read_table.ensures.went.size in
+    let number = c.blocks-count.ensures in
+    let same = number ∙ sym size in
+    record {
+      large = subst (λ (n : ℕ). 7 ≤ n) same c.if-count-lt7.false;
+      fits = subst (λ (n : ℕ). n < 2 ^ 32) same c.blocks-count.type_inv;
+      sized = c.extent_size.ensures.value ∙ ap extent_size same;
+      counted = c.extent_count.ensures.value ∙ ap extent_count same;
+      valid = subst (λ (n : ℕ). IsVolumeTable n (in_table c.read_table.new.table)) same (c.is_table.ensures.0 c.if-not-is_table.false);
+      halted = c.read_table.ensures.halt ∙ ap halt_in c.in_default.is;
+    }
 
 pub returns-clause-lived : goal.returns-clause-lived
 returns-clause-lived g c = λ from h stands tells.

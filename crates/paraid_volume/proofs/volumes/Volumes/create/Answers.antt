@@ -1,4 +1,4 @@
-use Rattle.std.proofs.Common.{ℕ, ◌<◌, ◌≤◌, ◌∙◌, ◌++◌, ◌∷◌, [], length, take, refl, sym, ap, subst, arith}
+use Rattle.std.proofs.Common.{◌≡◌, ◌≢◌, ℕ, ◌+◌, ◌<◌, ◌≤◌, ◌^◌, ◌∙◌, ◌++◌, ◌∷◌, [], length, take, refl, sym, ap, subst, arith}
 use Rattle.std.proofs.lemmas.List.{take_all}
 use Rattle.paraid_base.specs.History.{History, after_all}
 use Rattle.paraid_volume.specs.Device.{InExtent}
@@ -17,13 +17,23 @@ use Rattle.paraid_volume.proofs.OneCallLemmas.{lived_create, lived_refused}
 use Rattle.paraid_volume.proofs.RefusalLemmas.{create_refused, free_is, least_unnamed, unused}
 use Rattle.paraid_volume.proofs.volumes.Volumes.create.Goals as goal
 
+positive : (n : ℕ) → n ≢ 0 → 1 ≤ n
+positive n not = omega (arith, not)
+
+not_below : (n k : ℕ) → 6 + n ≤ k → k < 6 → ⊥
+not_below n k low l = omega (arith, low, l)
+
+itself : (n : ℕ) → n ≤ n
+itself n = omega arith
+
+few_of : (e n m : ℕ) → e < n → n ≡ m → m ≤ 2048 → e < 2048
+few_of e n m below is few = omega (arith, below, is, few)
+
 pub invariant_of-self : goal.invariant_of-self
 invariant_of-self g c =
     let v = c.args.self.now in
     let count = g.B.Blocks.block_count (device_of v) in
     let size = c.make.ensures.went.size in
-    let large = v.large in
-    let fits = v.fits in
     let id = c.in-Some-free_id.id in
     let least = c.in-Some-free_id.ensures.some in
     let old = in_table v.table in
@@ -33,13 +43,26 @@ invariant_of-self g c =
     let room = c.if-free-extents.false in
     let free = c.free-free.ensures in
     record {
-      large = omega (arith, size, large);
-      fits = omega (arith, size, fits);
+      large = subst (λ (n : ℕ). 7 ≤ n) (sym size) v.large;
+      fits = subst (λ (n : ℕ). n < 2 ^ 32) (sym size) v.fits;
       sized = v.sized ∙ ap extent_size (sym size);
       counted = v.counted ∙ ap extent_count (sym size);
       valid = subst (λ (n : ℕ). IsVolumeTable n next) (sym size)
-          (with_table count id c.args.extents c.args.name.now old next v.large v.valid least.low least.high least.free (omega (arith, none)) (omega (arith, room, free)) c.in_default-find.ensures.none with);
+          (with_table count id c.args.extents c.args.name.now old next v.large v.valid least.low least.high least.free (positive _ none) (subst (λ (n : ℕ). c.args.extents ≤ n) free room) c.in_default-find.ensures.none with);
       halted = c.in-Ok.ensures.halt ∙ sym c.in_default.is;
+    }
+
+pub invariant_of-self-in-Err : goal.invariant_of-self-in-Err
+invariant_of-self-in-Err g c =
+    let v = c.args.self.now in
+    let size = c.make.ensures.went.size in
+    record {
+      large = subst (λ (n : ℕ). 7 ≤ n) (sym size) v.large;
+      fits = subst (λ (n : ℕ). n < 2 ^ 32) (sym size) v.fits;
+      sized = v.sized ∙ ap extent_size (sym size);
+      counted = v.counted ∙ ap extent_count (sym size);
+      valid = subst (λ (n : ℕ). IsVolumeTable n (in_table v.table)) (sym size) v.valid;
+      halted = c.in-Err.ensures.halt;
     }
 
 pub returns-in-Ok-clause-makes : goal.returns-in-Ok-clause-makes
@@ -55,13 +78,13 @@ returns-in-Ok-clause-makes g c = λ from h s stands shows tells.
     let with : IsWith c.in-Some-free_id.id c.args.name.now c.args.extents (extent_count count) old next =
     subst (λ (m : ℕ). IsWith id c.args.name.now c.args.extents m old next) v.counted c.with-next.ensures in
     let none = c.if-extents-eq0.false in
-    let some : 1 ≤ c.args.extents = omega (arith, none) in
+    let some : 1 ≤ c.args.extents = positive _ none in
     let made = c.in-Ok.ensures.makes from h stands.0 tells in
     let mid = h ++ made.more in
     let new = (h ++ made.more) ++ made.entry ∷ [] in
-    let low = λ (k : ℕ) (l : k < 6) (inside : InExtent (owner_in next) id v.size v.extents k). let lowest = inside.of.1.0 in let no : ⊥ = omega (arith, l, lowest) in no in
+    let low = λ (k : ℕ) (l : k < 6) (inside : InExtent (owner_in next) id v.size v.extents k). not_below _ k inside.of.1.0 l in
     let all = λ (b : ℕ) (out : InExtent (owner_in next) id v.size v.extents b → ⊥).
-    ap (λ (x : History). after_all (h ++ x) b) (sym (take_all (length made.more) made.more (omega arith))) ∙ made.rest (length made.more) b out in
+    ap (λ (x : History). after_all (h ++ x) b) (sym (take_all (length made.more) made.more (itself (length made.more)))) ∙ made.rest (length made.more) b out in
     let same_mid : IsSameTable old (after_all mid) = λ k l. stands.1 k l ∙ sym (all k (low k l)) in
     let same : IsSameTable next (after_all new) = laid_table mid made.entry old next made.laid same_mid in
     let moved = with_moved id n (extent_count count) text old next (after_all h) (after_all new) stands.1 same with in
@@ -69,17 +92,17 @@ returns-in-Ok-clause-makes g c = λ from h s stands shows tells.
     let counted = v.counted in
     let into = λ (b : ℕ) (inside : InExtent (owner_in next) id v.size v.extents b).
     inside_moved (owner_in next) (owner_in (after_all new)) id v.size (extent_size count) v.extents (extent_count count) b v.sized v.counted
-    (λ e l. same_owner next (after_all new) same e (omega (arith, l, few, counted))) inside in
+    (λ e l. same_owner next (after_all new) same e (few_of e _ _ l counted few)) inside in
     let from = λ (b : ℕ) (inside : InExtent (owner_in (after_all new)) id (extent_size count) (extent_count count) b).
     inside_moved (owner_in (after_all new)) (owner_in next) id (extent_size count) v.size (extent_count count) v.extents b (sym v.sized) (sym v.counted)
-    (λ e l. sym (same_owner next (after_all new) same e (omega (arith, l, few)))) inside in
+    (λ e l. sym (same_owner next (after_all new) same e (few_of e _ _ l refl few))) inside in
     let free = λ (live : _). least.free (same_live (after_all h) old (back old (after_all h) stands.1) id live) in
     let fresh = λ (i : ℕ) (live : _) (named : _).
     c.in_default-find.ensures.none i (same_live (after_all h) old (back old (after_all h) stands.1) i live) (λ k l. named k l ∙ sym (same_name old (after_all h) stands.1 i k)) in
     let refused = c.if-free-extents.false in
     let number = c.free-free.ensures in
     let owned_same = same_owned old (after_all h) stands.1 0 (extent_count count) few in
-    let room : c.args.extents ≤ extents_owned (owner_in (after_all h)) 0 (extent_count count) = omega (arith, refused, number, owned_same) in
+    let room : c.args.extents ≤ extents_owned (owner_in (after_all h)) 0 (extent_count count) = subst (λ (n : ℕ). c.args.extents ≤ n) (number ∙ owned_same) refused in
     record {
       more = made.more;
       entry = made.entry;
@@ -99,12 +122,12 @@ returns-in-Ok-clause-lived g c = λ from start log lived tells.
     let refused = c.if-free-extents.false in
     let number = c.free-free.ensures in
     lived_create _ _ _ start log lived (letter_of c.args.name.now) c.args.extents c.in-Some-free_id.id (record { field = c.args.name.now.field; some = c.args.name.now.some })
-    (omega (arith, none))
+    (positive _ none)
     (λ h s stands shows.
     let free = free_is _ (in_table v.table) (after_all h) s stands.1 shows v.large in (
       unused _ (in_table v.table) (after_all h) s stands.1 shows c.args.name.now c.in_default-find.ensures.none,
       least_unnamed _ (in_table v.table) (after_all h) s stands.1 shows c.in-Some-free_id.id c.in-Some-free_id.ensures.some,
-      omega (arith, refused, number, free),
+      subst (λ (n : ℕ). c.args.extents ≤ n) (number ∙ sym free) refused,
     ))
     (λ h s stands shows. returns-in-Ok-clause-makes g c from h s stands shows tells)
 
@@ -124,7 +147,7 @@ pub returns-in_default-free_id-clause-lived_refused : goal.returns-in_default-fr
 returns-in_default-free_id-clause-lived_refused g c = λ none from start log lived tells.
     lived_refused _ _ _ start log lived (create (letter_of c.args.name.now) c.args.extents) Names (λ h stands. stands)
     (λ h s stands shows. create_refused _ (in_table c.args.self.now.table) (after_all h) s stands.1 shows c.args.self.now.large None refl c.args.name.now c.args.extents Names
-    (c.in_default-find.ensures.none, (let some = c.if-extents-eq0.false in omega (arith, some)), c.in_default-free_id.ensures.none))
+    (c.in_default-find.ensures.none, positive _ c.if-extents-eq0.false, c.in_default-free_id.ensures.none))
 
 pub returns-then-free-extents-clause-lived_refused : goal.returns-then-free-extents-clause-lived_refused
 returns-then-free-extents-clause-lived_refused g c = λ none from start log lived tells.

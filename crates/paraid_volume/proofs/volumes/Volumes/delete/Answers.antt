@@ -1,4 +1,4 @@
-use Rattle.std.proofs.Common.{ℕ, ◌∙◌, ◌++◌, ◌∷◌, [], sym, ap, subst, arith}
+use Rattle.std.proofs.Common.{ℕ, ◌<◌, ◌≤◌, ◌^◌, ◌∙◌, ◌++◌, ◌∷◌, [], sym, ap, subst}
 use Rattle.paraid_base.specs.History.{after_all}
 use Rattle.paraid_base.specs.Pairs.{pairs_of}
 use Rattle.paraid_volume.specs.Laid.{IsWithout}
@@ -21,18 +21,32 @@ invariant_of-self-in-Ok g c =
     let v = c.args.self.now in
     let count = g.B.Blocks.block_count (device_of v) in
     let size = c.write_table.ensures.went.size in
-    let large = v.large in
-    let fits = v.fits in
     let live = c.is_live.ensures.0 c.if-not-is_live.false in
     let without = subst (λ (n : ℕ). IsWithout c.args.id n (in_table v.table) (in_table c.without-next.result)) v.counted c.without-next.ensures in
     record {
-      large = omega (arith, size, large);
-      fits = omega (arith, size, fits);
+      large = subst (λ (n : ℕ). 7 ≤ n) (sym size) v.large;
+      fits = subst (λ (n : ℕ). n < 2 ^ 32) (sym size) v.fits;
       sized = v.sized ∙ ap extent_size (sym size);
       counted = v.counted ∙ ap extent_count (sym size);
       valid = subst (λ (n : ℕ). IsVolumeTable n (in_table c.without-next.result)) (sym size) (without_table count c.args.id (in_table v.table) (in_table c.without-next.result) v.large v.valid live without);
       halted = c.in-Ok.ensures.halt ∙ sym c.in_default.is;
     }
+
+pub invariant_of-self-in-Err : goal.invariant_of-self-in-Err
+invariant_of-self-in-Err g c =
+    let v = c.args.self.now in
+    let size = c.write_table.ensures.went.size in
+    record {
+      large = subst (λ (n : ℕ). 7 ≤ n) (sym size) v.large;
+      fits = subst (λ (n : ℕ). n < 2 ^ 32) (sym size) v.fits;
+      sized = v.sized ∙ ap extent_size (sym size);
+      counted = v.counted ∙ ap extent_count (sym size);
+      valid = subst (λ (n : ℕ). IsVolumeTable n (in_table v.table)) (sym size) v.valid;
+      halted = c.in-Err.ensures.halt;
+    }
+
+pub write_table-requires-clause-below : goal.write_table-requires-clause-below
+write_table-requires-clause-below g c = c.changes.ensures.below
 
 pub returns-in-Ok-clause-adds : goal.returns-in-Ok-clause-adds
 returns-in-Ok-clause-adds g c = λ from h s stands shows tells.

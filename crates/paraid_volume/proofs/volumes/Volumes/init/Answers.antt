@@ -1,4 +1,4 @@
-use Rattle.std.proofs.Common.{◌≡◌, ℕ, ◌≤◌, ◌∙◌, ◌++◌, ◌∷◌, [], refl, sym, ap, subst, arith}
+use Rattle.std.proofs.Common.{◌≡◌, ℕ, ◌<◌, ◌≤◌, ◌^◌, ◌∙◌, ◌++◌, ◌∷◌, [], refl, sym, ap, subst, arith}
 use Rattle.std.specs.Prelude.{true}
 use Rattle.paraid_base.specs.History.{after_all}
 use Rattle.paraid_base.specs.Pairs.{pairs_of}
@@ -26,6 +26,20 @@ returns-then-is_table-clause-refused g c =
           same_table (in_table c.read_table.new.table) (after_all h) (read.read h stands tells) (g.B.Blocks.block_count c.args.blocks) large
           (subst (λ (n : ℕ). IsVolumeTable n (in_table c.read_table.new.table)) count (c.is_table.ensures.0 c.if-is_table.true)),
     )
+
+pub invariant_of-result : goal.invariant_of-result
+invariant_of-result g c =
+    let size = c.write_table.ensures.went.size ∙ c.read_table.ensures.went.size in
+    let number = c.blocks-count.ensures in
+    let same = number ∙ sym size in
+    record {
+      large = subst (λ (n : ℕ). 7 ≤ n) same c.if-count-lt7.false;
+      fits = subst (λ (n : ℕ). n < 2 ^ 32) same c.blocks-count.type_inv;
+      sized = c.extent_size.ensures.value ∙ ap extent_size same;
+      counted = c.extent_count.ensures.value ∙ ap extent_count same;
+      valid = subst (λ (n : ℕ). IsVolumeTable n (in_table c.empty-table.result)) same c.empty-table.ensures.table;
+      halted = c.write_table.ensures.halt ∙ ap halt_in c.in_default-write_table.is;
+    }
 
 pub write_table-requires-clause-below : goal.write_table-requires-clause-below
 write_table-requires-clause-below g c = (c.whole.ensures (in_table c.empty-table.result)).below

@@ -1,6 +1,9 @@
+use Rattle.std.proofs.Common.{◌≡◌, ◌<◌, ◌≤◌, ◌^◌, None, ap, subst}
+use Rattle.paraid_volume.specs.TableBlocks.{in_table}
+use Rattle.paraid_volume.specs.Tables.{IsVolumeTable, extent_count, extent_size}
 use Rattle.paraid_base.specs.declared.event.Event.TheVariants.{Read}
 use Rattle.paraid_base.specs.declared.event.Answer.TheVariants.{Value}
-use Rattle.std.proofs.Common.{◌∙◌, sym}
+use Rattle.std.proofs.Common.{◌∙◌, sym, ℕ}
 use Rattle.paraid_base.specs.History.{after_all}
 use Rattle.std.proofs.Common.{rules}
 use Rattle.std.specs.Prelude.{IfErr}
@@ -14,6 +17,19 @@ use Rattle.std.proofs.Common.{refl}
 use Rattle.paraid_volume.proofs.OneCallLemmas.{lived_read, lived_refused}
 use Rattle.paraid_volume.proofs.RefusalLemmas.{block_of, place_served, read_refused}
 use Rattle.paraid_volume.proofs.volumes.Volumes.read.Goals as goal
+
+pub invariant_of-self-in-Err-Halt : goal.invariant_of-self-in-Err-Halt
+invariant_of-self-in-Err-Halt g c =
+    let v = c.args.self.now in
+    let size = c.read.ensures.size in
+    record {
+      large = subst (λ (n : ℕ). 7 ≤ n) (sym size) v.large;
+      fits = subst (λ (n : ℕ). n < 2 ^ 32) (sym size) v.fits;
+      sized = v.sized ∙ ap extent_size (sym size);
+      counted = v.counted ∙ ap extent_count (sym size);
+      valid = subst (λ (n : ℕ). IsVolumeTable n (in_table v.table)) (sym size) v.valid;
+      halted = rw c.in-Err-Halt.field-0-is at c.in-Err-Halt.ensures.halt;
+    }
 
 pub returns-in-Ok-clause-value : goal.returns-in-Ok-clause-value
 returns-in-Ok-clause-value g c = λ h s stands shows tells.
@@ -37,9 +53,10 @@ returns-in-Ok-clause-stands g c = λ none from h stands tells.
 pub returns-in-Ok-clause-lived : goal.returns-in-Ok-clause-lived
 returns-in-Ok-clause-lived g c = λ from start log lived tells.
     let v = c.args.self.now in
+    let none : v.halt ≡ None = sym {a = None} c.in_ok-place.ensures.halt in
     lived_read _ _ _ start log lived c.args.id c.args.block c.read.new.into
     (λ h s stands shows. block_of _ (volume_table v) (after_all h) s stands.1 shows v.large c.args.id c.args.block (returns-in-Ok-clause-served g c))
-    (λ h stands. returns-in-Ok-clause-stands g c (sym c.in_ok-place.ensures.halt) from h stands tells)
+    (λ h stands. returns-in-Ok-clause-stands g c none from h stands tells)
     (λ h s stands shows. returns-in-Ok-clause-value g c h s (holds_stands g.B.Blocks.stands g.B.Blocks.kept from (device_of c.args.self.now) h stands.0, stands.1) shows tells)
 
 pub returns-in_err-place-clause-lived_refused : goal.returns-in_err-place-clause-lived_refused

@@ -1,3 +1,6 @@
+use Rattle.std.proofs.Common.{◌<◌, ◌≤◌, ◌^◌, ap, subst, sym}
+use Rattle.paraid_volume.specs.TableBlocks.{in_table}
+use Rattle.paraid_volume.specs.Tables.{IsVolumeTable, extent_count, extent_size}
 use Rattle.paraid_base.specs.Pairs.{single_pair}
 use Rattle.std.proofs.Common.{◌∙◌, ◌≢◌, ℕ, ◌++◌, ◌∷◌, []}
 use Rattle.paraid_base.specs.History.{after_all}
@@ -15,6 +18,19 @@ use Rattle.paraid_base.proofs.PairsLemmas.{pairs_of-one}
 use Rattle.paraid_volume.proofs.OneCallLemmas.{lived_write, lived_refused}
 use Rattle.paraid_volume.proofs.RefusalLemmas.{block_of, place_served, write_refused}
 use Rattle.paraid_volume.proofs.volumes.Volumes.write.Goals as goal
+
+pub invariant_of-self-in-Err-Halt : goal.invariant_of-self-in-Err-Halt
+invariant_of-self-in-Err-Halt g c =
+    let v = c.args.self.now in
+    let size = c.write.ensures.size in
+    record {
+      large = subst (λ (n : ℕ). 7 ≤ n) (sym size) v.large;
+      fits = subst (λ (n : ℕ). n < 2 ^ 32) (sym size) v.fits;
+      sized = v.sized ∙ ap extent_size (sym size);
+      counted = v.counted ∙ ap extent_count (sym size);
+      valid = subst (λ (n : ℕ). IsVolumeTable n (in_table v.table)) (sym size) v.valid;
+      halted = rw c.in-Err-Halt.field-0-is at c.in-Err-Halt.ensures.halt;
+    }
 
 pub returns-in-Ok-clause-adds : goal.returns-in-Ok-clause-adds
 returns-in-Ok-clause-adds g c = λ from h s stands shows tells.

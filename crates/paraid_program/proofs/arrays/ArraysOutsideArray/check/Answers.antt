@@ -1,0 +1,6 @@
+use Rattle.std.proofs.lemmas.Result.{IfOk-weaker}
+use Rattle.paraid_controller.proofs.ServedLemmas.{counts_served}
+use Rattle.paraid_program.proofs.arrays.ArraysOutsideArray.check.Goals as goal
+
+pub returns-clause-counts : goal.returns-clause-counts
+returns-clause-counts g c = IfOk-weaker c.check.result _ _ (λ report counts nothing t tells is bits. counts_served g.R.Rack.slot g.R.Rack.told c.args.array.now c.check.new.self report counts nothing t tells is bits) c.check.ensures.counts
