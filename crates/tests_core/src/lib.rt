@@ -1,4 +1,5 @@
-//! Tests of an array between two commits, on a rack in memory: what its calls read and stage.
+//! Tests of an array between two commits, and of its events, on a rack in memory: what its calls read
+//! and stage, and what is answered.
 #![tactic(auto)]
 
 #[cfg(test)]
@@ -7,6 +8,8 @@ mod arrays;
 mod cells;
 #[cfg(test)]
 mod fills;
+#[cfg(test)]
+mod gears;
 #[cfg(test)]
 mod reads;
 #[cfg(test)]

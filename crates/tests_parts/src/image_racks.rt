@@ -7,10 +7,9 @@ use paraid_imgrack::ImageRack;
 use paraid_rack::{Power, Rack};
 use std::fs::{self, File, Files, OpenOptions};
 use std::process::Abort;
-use std::test::Fail;
 
 /// A call of the rack, or what befalls the files of its disk.
-#[derive(Clone, Copy, Debug)]
+#[derive(Clone, Copy)]
 enum Deed {
     Call(Step),
     /// Nothing is done.
@@ -172,12 +171,28 @@ const FILES: [Row; 11] = [
     (0, NoImage, true, ABSENT, ""),
 ];
 
-/// The names of the image, of the sidecar, and of a sidecar that is being written.
-fn names(disk: DiskNo) -> (&'static str, &'static str, &'static str) {
+fn image(disk: DiskNo) -> &'static str {
     match disk {
-        0 => ("disk-0.img", "disk-0.power", "disk-0.power.next"),
-        1 => ("disk-1.img", "disk-1.power", "disk-1.power.next"),
-        _ => ("disk-2.img", "disk-2.power", "disk-2.power.next"),
+        0 => "disk-0.img",
+        1 => "disk-1.img",
+        _ => "disk-2.img",
+    }
+}
+
+fn sidecar(disk: DiskNo) -> &'static str {
+    match disk {
+        0 => "disk-0.power",
+        1 => "disk-1.power",
+        _ => "disk-2.power",
+    }
+}
+
+/// The name of a sidecar that is being written.
+fn next(disk: DiskNo) -> &'static str {
+    match disk {
+        0 => "disk-0.power.next",
+        1 => "disk-1.power.next",
+        _ => "disk-2.power.next",
     }
 }
 
@@ -190,62 +205,57 @@ fn cut<H: Files<File = File>>(host: &H, name: &str, length: u64) -> bool {
 
 /// Does the deed, and says whether it is done.
 fn act<H: Files<File = File>, R: Rack>(host: &H, rack: &mut R, disk: DiskNo, deed: Deed) -> bool {
-    let (image, sidecar, next) = names(disk);
     match deed {
         Call(step) => make(rack, disk, step) == DONE,
         Look => true,
-        Block => fs::create_dir(host, next).is_ok(),
-        Free => fs::remove_dir(host, next).is_ok(),
-        Cut(length) => cut(host, image, length),
-        Text(text) => fs::write(host, sidecar, text).is_ok(),
-        NoSidecar => fs::remove_file(host, sidecar).is_ok(),
-        NoImage => fs::remove_file(host, image).is_ok(),
+        Block => fs::create_dir(host, next(disk)).is_ok(),
+        Free => fs::remove_dir(host, next(disk)).is_ok(),
+        Cut(length) => cut(host, image(disk), length),
+        Text(text) => fs::write(host, sidecar(disk), text).is_ok(),
+        NoSidecar => fs::remove_file(host, sidecar(disk)).is_ok(),
+        NoImage => fs::remove_file(host, image(disk)).is_ok(),
     }
 }
 
-/// The disk is told, and its sidecar is, as the row says.
-fn look<H: Files + AllocGlobal + Abort, R: Rack>(host: &H, rack: &R, row: &Row) {
-    let (disk, _, _, want, sidecar) = *row;
-    assert!(host; told(rack, disk) == Some(want), "at {row:?}");
-    match fs::read_to_string(host, names(disk).1) {
-        Ok(text) => assert!(host; text.as_str() == sidecar, "at {row:?}"),
-        Err(_) => assert!(host; "" == sidecar, "at {row:?}"),
+/// Whether the sidecar of the disk has this text, where none is as an empty one.
+fn has_sidecar<H: Files + AllocGlobal>(host: &H, disk: DiskNo, text: &str) -> bool {
+    match fs::read_to_string(host, sidecar(disk)) {
+        Ok(found) => found.as_str() == text,
+        Err(_) => text == "",
     }
+}
+
+fn loaded<H: Files<File = File> + AllocGlobal + Abort>(host: &H) -> ImageRack<&H> {
+    ImageRack::load(host, host.alloc(), 3).expect(host, "there is memory")
 }
 
 /// Does the deeds on one rack, or each on a rack that is loaded for it.
-fn walk<H: Files<File = File> + AllocGlobal + Abort>(
-    host: &H,
-    rows: &[Row],
-    anew: bool,
-) -> Result<(), Fail> {
-    let mut rack = ImageRack::load(host, host.alloc(), 3)?;
-    for row in rows {
-        assert!(host; act(host, &mut rack, row.0, row.1) == row.2, "at {row:?}");
+fn walk<H: Files<File = File> + AllocGlobal + Abort>(host: &H, rows: &[Row], anew: bool) {
+    let mut rack = loaded(host);
+    for (at, &(disk, deed, done, want, text)) in rows.iter().enumerate() {
+        assert!(host; act(host, &mut rack, disk, deed) == done, "row {at}");
         if anew {
-            rack = ImageRack::load(host, host.alloc(), 3)?;
+            rack = loaded(host);
         }
-        look(host, &rack, row);
+        assert!(host; told(&rack, disk) == Some(want), "row {at}");
+        assert!(host; has_sidecar(host, disk, text), "row {at}");
     }
-    Ok(())
 }
 
 /// Removes what a run leaves.
 fn clean<H: Files>(host: &H) {
     for disk in 0..3 {
-        let (image, sidecar, next) = names(disk);
-        let _ = fs::remove_file(host, image);
-        let _ = fs::remove_file(host, sidecar);
-        let _ = fs::remove_dir(host, next);
+        let _ = fs::remove_file(host, image(disk));
+        let _ = fs::remove_file(host, sidecar(disk));
+        let _ = fs::remove_dir(host, next(disk));
     }
 }
 
 #[test]
-fn a_folder_keeps_its_disks(rt: HostRuntime) -> Result<(), Fail> {
+fn a_folder_keeps_its_disks(rt: HostRuntime) {
     clean(&rt);
-    walk(&rt, &CALLS, false)?;
-    walk(&rt, &LATER, false)?;
-    walk(&rt, &FILES, true)?;
+    walk(&rt, &CALLS, false);
+    walk(&rt, &LATER, false);
+    walk(&rt, &FILES, true);
     clean(&rt);
-    Ok(())
 }

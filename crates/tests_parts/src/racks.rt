@@ -6,7 +6,7 @@ use paraid_base::{Block, DiskNo, Failed, Place};
 use paraid_rack::{Power, Rack};
 
 /// A call on a disk.
-#[derive(Clone, Copy, Debug)]
+#[derive(Clone, Copy)]
 pub enum Step {
     Attach(u32),
     /// Writes a block of this byte.
@@ -62,8 +62,7 @@ fn read<R: Rack>(rack: &mut R, disk: DiskNo, place: Place, byte: u8) -> u8 {
     let mut block = Block::zero();
     if spins(rack, disk) && place < rack.size(disk) {
         match rack.read(disk, place, &mut block) {
-            Ok(()) if is_filled(&block, byte) => DONE,
-            Ok(()) => OTHER,
+            Ok(()) => compared(&block, byte),
             Err(Failed) => FAILED,
         }
     } else {
@@ -71,8 +70,12 @@ fn read<R: Rack>(rack: &mut R, disk: DiskNo, place: Place, byte: u8) -> u8 {
     }
 }
 
-fn is_filled(block: &Block, byte: u8) -> bool {
-    block.as_slice().iter().all(|other| *other == byte)
+fn compared(block: &Block, byte: u8) -> u8 {
+    if block.as_slice() == [byte; 512].as_slice() {
+        DONE
+    } else {
+        OTHER
+    }
 }
 
 fn sync<R: Rack>(rack: &mut R, disk: DiskNo) -> u8 {

@@ -258,104 +258,95 @@ fn answer(at: usize) -> Answer
     }
 }
 
+// The answers as lines.
+const ANSWERS: [&str; 18] = [
+    "noblock 20\n",
+    "wrote 18446744073709551615\n",
+    "flushed 2\n",
+    "shift 5 4\n",
+    "top\n",
+    "lowest\n",
+    "shifting 5\n",
+    "failed 2\n",
+    "replaced 0\n",
+    "nodisk 300\n",
+    "out 2\n",
+    "notout 3\n",
+    "nofresh 2\n",
+    "ration 4\n",
+    "energy 126900\n",
+    "two 2 3\n",
+    "worn 4611686018427387904\n",
+    "bad\n",
+];
+
 #[test]
 fn an_answer_is_told_as_a_line(rt: HostRuntime) {
-    let lines = [
-        "noblock 20\n",
-        "wrote 18446744073709551615\n",
-        "flushed 2\n",
-        "shift 5 4\n",
-        "top\n",
-        "lowest\n",
-        "shifting 5\n",
-        "failed 2\n",
-        "replaced 0\n",
-        "nodisk 300\n",
-        "out 2\n",
-        "notout 3\n",
-        "nofresh 2\n",
-        "ration 4\n",
-        "energy 126900\n",
-        "two 2 3\n",
-        "worn 4611686018427387904\n",
-        "bad\n",
-    ];
     let mut text = Text::new();
-    for at in 0..18 {
+    for (at, line) in ANSWERS.iter().enumerate() {
         reply(&answer(at), &mut text);
-        assert!(rt; text.as_slice() == lines[at].as_bytes(), "{}", lines[at]);
+        assert!(rt; text.as_slice() == line.as_bytes(), "{line}");
     }
 }
 
-fn tick_event(at: usize) -> TickEvent {
-    match at {
-        0 => TickEvent::Waiting,
-        1 => TickEvent::Moving,
-        2 => TickEvent::Flipped,
-        3 => TickEvent::Begun { to: 4 },
-        4 => TickEvent::Rebuilt { disk: 0 },
-        5 => TickEvent::Gone { disk: 2 },
-        6 => TickEvent::Lost { disk: 3 },
-        7 => TickEvent::Ration { disk: 4 },
-        _ => TickEvent::Steady,
-    }
-}
+// What comes of a tick, and its line.
+const TICKS: [(TickEvent, &str); 9] = [
+    (TickEvent::Waiting, "tick 5 moved 1 waiting\n"),
+    (TickEvent::Moving, "tick 5 moved 1 moving\n"),
+    (TickEvent::Flipped, "tick 5 moved 1 flipped\n"),
+    (TickEvent::Begun { to: 4 }, "tick 5 moved 1 begun 4\n"),
+    (TickEvent::Rebuilt { disk: 0 }, "tick 5 moved 1 rebuilt 0\n"),
+    (TickEvent::Gone { disk: 2 }, "tick 5 moved 1 gone 2\n"),
+    (TickEvent::Lost { disk: 3 }, "tick 5 moved 1 lost 3\n"),
+    (TickEvent::Ration { disk: 4 }, "tick 5 moved 1 ration 4\n"),
+    (TickEvent::Steady, "tick 5 moved 1 steady\n"),
+];
 
 #[test]
 fn a_tick_is_told_by_its_event(rt: HostRuntime) {
-    let lines = [
-        "tick 5 moved 1 waiting\n",
-        "tick 5 moved 1 moving\n",
-        "tick 5 moved 1 flipped\n",
-        "tick 5 moved 1 begun 4\n",
-        "tick 5 moved 1 rebuilt 0\n",
-        "tick 5 moved 1 gone 2\n",
-        "tick 5 moved 1 lost 3\n",
-        "tick 5 moved 1 ration 4\n",
-        "tick 5 moved 1 steady\n",
-    ];
     let mut text = Text::new();
-    for at in 0..9 {
+    for &(event, line) in &TICKS {
         let report = GearReport {
             gear: 5,
             moved: 1,
-            event: tick_event(at),
+            event,
         };
         reply(&Answer::Ticked(report), &mut text);
-        assert!(rt; text.as_slice() == lines[at].as_bytes(), "{}", lines[at]);
+        assert!(rt; text.as_slice() == line.as_bytes(), "{line}");
     }
 }
 
+// A phase, the disk that is out, and the line of the state.
+const STATES: [(Phase, Out, &str); 4] = [
+    (
+        Phase::Steady,
+        Out::No,
+        "state 4 steady dirty 1 fill 0 out none spins 0 0 0 0 9\n",
+    ),
+    (
+        Phase::Steady,
+        Out::Gone { disk: 1 },
+        "state 4 steady dirty 1 fill 0 out 1 gone spins 0 0 0 0 9\n",
+    ),
+    (
+        Phase::Up { to: 5 },
+        Out::No,
+        "state 4 up 5 dirty 1 fill 0 out none spins 0 0 0 0 9\n",
+    ),
+    (
+        Phase::Down { to: 3 },
+        Out::Fresh {
+            disk: 0,
+            rebuilt: 7,
+        },
+        "state 4 down 3 dirty 1 fill 0 out 0 rebuilt 7 spins 0 0 0 0 9\n",
+    ),
+];
+
 #[test]
 fn a_state_is_told_with_its_spins(rt: HostRuntime) {
-    let fresh = Out::Fresh {
-        disk: 0,
-        rebuilt: 7,
-    };
-    let cases = [
-        (
-            Phase::Steady,
-            Out::No,
-            "state 4 steady dirty 1 fill 0 out none spins 0 0 0 0 9\n",
-        ),
-        (
-            Phase::Steady,
-            Out::Gone { disk: 1 },
-            "state 4 steady dirty 1 fill 0 out 1 gone spins 0 0 0 0 9\n",
-        ),
-        (
-            Phase::Up { to: 5 },
-            Out::No,
-            "state 4 up 5 dirty 1 fill 0 out none spins 0 0 0 0 9\n",
-        ),
-        (
-            Phase::Down { to: 3 },
-            fresh,
-            "state 4 down 3 dirty 1 fill 0 out 0 rebuilt 7 spins 0 0 0 0 9\n",
-        ),
-    ];
     let mut text = Text::new();
-    for (phase, out, line) in cases {
+    for &(phase, out, line) in &STATES {
         let status = Status {
             writes: 2,
             ticks: 3,

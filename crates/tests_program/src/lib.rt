@@ -5,6 +5,10 @@
 #[cfg(test)]
 mod checks;
 #[cfg(test)]
+mod costs;
+#[cfg(test)]
+mod faults;
+#[cfg(test)]
 mod flushes;
 #[cfg(test)]
 mod formats;

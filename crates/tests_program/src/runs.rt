@@ -5,6 +5,7 @@ use crate::programs::{Left, NEVER, bare_rack, outcome, told};
 use Planned::{AtCall, OnDisk};
 use paraid_memrack::Planned;
 use std::alloc::Global;
+use std::process::Abort;
 
 const DISKS: u8 = 5;
 
@@ -99,29 +100,30 @@ const OTHERS: [&[&str]; 5] = [
 const USAGE: &str =
     "usage: paraid format [--force] | run | status | check | gen --number N --lines L\n";
 
-// What these words do over this input on disks that are no array.
-fn told_bare(alloc: Global, words: &[&str], input: &str) -> Option<Left> {
-    told(alloc, words, input, bare_rack(alloc, DISKS, AtCall(NEVER))?)
+// What these words do over a read on disks that are no array.
+fn told_bare(alloc: Global, words: &[&str]) -> Option<Left> {
+    let rack = bare_rack(alloc, DISKS, AtCall(NEVER))?;
+    told(alloc, words, "r 0\n", rack)
 }
 
-#[test]
-fn other_words_tell_which_there_are(rt: HostRuntime) {
-    for &words in OTHERS.iter() {
-        let left = told_bare(rt.alloc(), words, "f\n").expect(&rt, "there is memory");
-        assert!(rt; left.tells(2, USAGE), "{words:?}");
+// All these words are refused so, and no disk is asked for anything.
+fn check_bare(rt: &(impl Abort + AllocGlobal), lists: &[&[&str]], status: u8, text: &str) {
+    for &words in lists {
+        let left = told_bare(rt.alloc(), words).expect(rt, "there is memory");
+        assert!(rt; left.tells(status, text), "{words:?}");
         assert!(rt; left.rack.calls() == 0, "{words:?}");
     }
 }
 
-// Words that ask for an array.
-const ASKING: [&[&str]; 3] = [&["run"], &["check"], &["gen", "--number=0", "--lines=6"]];
+#[test]
+fn other_words_tell_which_there_are(rt: HostRuntime) {
+    check_bare(&rt, &OTHERS, 2, USAGE);
+}
 
 #[test]
 fn no_array_is_served(rt: HostRuntime) {
-    for &words in ASKING.iter() {
-        let left = told_bare(rt.alloc(), words, "r 0\n").expect(&rt, "there is memory");
-        assert!(rt; left.tells(6, "notformatted\n"), "{words:?}");
-    }
+    let lists: [&[&str]; 3] = [&["run"], &["check"], &["gen", "--number=0", "--lines=6"]];
+    check_bare(&rt, &lists, 6, "notformatted\n");
 }
 
 // What `run` does over a new array where these calls of the disks fail.

@@ -7,6 +7,7 @@ use paraid_base::{Block, DiskNo, Place};
 use paraid_memrack::{MemRack, Pick};
 use paraid_rack::{Call, Power, Rack};
 use std::alloc::Global;
+use std::process::Abort;
 
 /// A change of the disks.
 #[derive(Clone, Copy, Debug)]
@@ -144,24 +145,25 @@ fn are_reads(rack: &MemRack) -> bool {
     true
 }
 
-#[test]
-fn a_changed_array_is_shown_or_refused(rt: HostRuntime) {
-    for &(changes, code, want) in STATES.iter() {
-        let left = told_with(rt.alloc(), "status", "", changes).expect(&rt, "there is memory");
-        assert!(rt; left.tells(code, want), "{changes:?}");
-        // A refusal leaves all disks as they were.
-        assert!(rt; code == 0 || are_reads(&left.rack), "{changes:?}");
-    }
+// What this word does over a read on an array with these changes is this, and a refusal leaves all disks as they were.
+fn check_changed(
+    rt: &(impl Abort + AllocGlobal),
+    word: &str,
+    changes: &[Change],
+    status: u8,
+    text: &str,
+) {
+    let left = told_with(rt.alloc(), word, "r 0\n", changes).expect(rt, "there is memory");
+    assert!(rt; left.tells(status, text), "{word} {changes:?}");
+    assert!(rt; status == 0 || are_reads(&left.rack), "{word} {changes:?}");
 }
 
 #[test]
-fn a_refused_array_is_not_run(rt: HostRuntime) {
-    for &(changes, code, want) in STATES.iter() {
-        if code != 0 {
-            let left = told_with(rt.alloc(), "run", "r 0\n", changes);
-            let left = left.expect(&rt, "there is memory");
-            assert!(rt; left.tells(code, want), "{changes:?}");
-            assert!(rt; are_reads(&left.rack), "{changes:?}");
+fn a_changed_array_is_shown_or_refused_and_then_not_run(rt: HostRuntime) {
+    for &(changes, status, text) in STATES.iter() {
+        check_changed(&rt, "status", changes, status, text);
+        if status != 0 {
+            check_changed(&rt, "run", changes, status, text);
         }
     }
 }

@@ -114,16 +114,16 @@ fn made(alloc: Global, worn: usize) -> Option<Volumes<Kept>> {
 #[test]
 fn volumes_are_made_used_and_removed(rt: HostRuntime) {
     let mut volumes = made(rt.alloc(), 1000).expect(&rt, "no table yet");
-    for (deed, want) in CALLS {
-        assert!(rt; done(&mut volumes, deed) == want);
+    for (row, &(deed, want)) in CALLS.iter().enumerate() {
+        assert!(rt; done(&mut volumes, deed) == want, "row {row}");
     }
 }
 
 #[test]
 fn a_halt_in_a_call_leaves_the_table_and_stays(rt: HostRuntime) {
     let mut volumes = made(rt.alloc(), 3).expect(&rt, "no table yet");
-    for (deed, want) in HALTED {
-        assert!(rt; done(&mut volumes, deed) == want);
+    for (row, &(deed, want)) in HALTED.iter().enumerate() {
+        assert!(rt; done(&mut volumes, deed) == want, "row {row}");
     }
 }
 

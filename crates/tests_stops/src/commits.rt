@@ -1,7 +1,7 @@
 //! Commits to a rack in memory: what each stop leaves, and how many calls they make.
 
 use crate::images::{META, block_with, filled_with};
-use paraid_base::{Block, DiskNo, Pairs, Two};
+use paraid_base::{Block, DiskNo, Pairs, Place, Two};
 use paraid_memrack::{MemRack, Pick, Planned};
 use paraid_plain::{Image, content, is_sound, standing_of};
 use paraid_rack::{Call, Power, Rack};
@@ -153,12 +153,30 @@ pub fn epoch_left(image: &Image, lost: Option<DiskNo>) -> Option<u64> {
     }
 }
 
-/// One block of 255s, without the parity of its row.
-pub fn one_target(alloc: Global) -> Option<Batch> {
-    let mut batch = Batch::new(alloc).ok()?;
-    batch.add(2, 101, &filled_with(255)).ok()?;
-    Some(batch)
+/// A disk, a place, and what a block is filled with.
+pub type Filling = (DiskNo, Place, u8);
+
+fn add_all(batch: &mut Batch, fillings: &[Filling]) -> bool {
+    for &(disk, place, byte) in fillings {
+        if batch.add(disk, place, &filled_with(byte)).is_err() {
+            return false;
+        }
+    }
+    true
 }
+
+/// A batch of these targets.
+pub fn batch_of(alloc: Global, fillings: &[Filling]) -> Option<Batch> {
+    let mut batch = Batch::new(alloc).ok()?;
+    if add_all(&mut batch, fillings) {
+        Some(batch)
+    } else {
+        None
+    }
+}
+
+/// One block of 255s, without the parity of its row.
+pub const ONE_TARGET: [Filling; 1] = [(2, 101, 255)];
 
 pub const LOSSES: [Option<DiskNo>; 6] = [None, Some(0), Some(1), Some(2), Some(3), Some(4)];
 
@@ -185,49 +203,48 @@ fn goes_on_without(alloc: Global, batch: &Batch, disk: DiskNo, nth: u32) -> Opti
     Some(is_told && epoch_left(&image, Some(disk)) == Some(2))
 }
 
+// What the commit answers where a call of disk 1 and one of disk 2 fail, and how many calls are made.
+fn second_loss(alloc: Global, batch: &Batch) -> Option<(Result<Option<DiskNo>, Two>, u32)> {
+    let first = Planned::OnDisk { disk: 1, nth: 3 };
+    let second = Planned::OnDisk { disk: 2, nth: 0 };
+    let plan = vec![in alloc; first, second].ok()?;
+    let (rack, answer) = committed(alloc, SMALL, batch, 0, plan)?;
+    Some((answer, rack.calls()))
+}
+
 #[test]
 fn a_commit_goes_on_without_a_disk_that_fails(rt: HostRuntime) {
     let alloc = rt.alloc();
-    let batch = one_target(alloc).expect(&rt, "memory");
+    let batch = batch_of(alloc, &ONE_TARGET).expect(&rt, "memory");
     for disk in 0..3 {
         for nth in 0..calls_on(disk) {
-            assert!(rt; goes_on_without(alloc, &batch, disk, nth) == Some(true));
+            let found = goes_on_without(alloc, &batch, disk, nth);
+            assert!(rt; found == Some(true), "disk {disk}, call {nth}");
         }
     }
-    // a second loss is named with the first
-    let plan = vec![in alloc;
-        Planned::OnDisk { disk: 1, nth: 3 },
-        Planned::OnDisk { disk: 2, nth: 0 },
-    ]
-    .expect(&rt, "memory");
-    let (rack, answer) = committed(alloc, SMALL, &batch, 0, plan).expect(&rt, "a formatted array");
-    assert!(rt;
-        answer
-            == Err(Two {
-                first: 1,
-                second: 2
-            })
-    );
-    // four on each log disk, the gate of disk 0 with its sync, and the write that failed
-    assert!(rt; rack.calls() == 11);
+    // A second loss is named with the first. The calls are four on each log disk, the gate of disk 0
+    // with its sync, and the write that failed.
+    let two = Two {
+        first: 1,
+        second: 2,
+    };
+    assert!(rt; second_loss(alloc, &batch) == Some((Err(two), 11)));
 }
 
-// So many targets on disks 4, 3, 2, 1 and 0, from the last place down.
-fn many_targets(alloc: Global, count: u32) -> Option<Batch> {
-    let mut batch = Batch::new(alloc).ok()?;
+// Adds so many targets on disks 4, 3, 2, 1 and 0, from the last place down.
+fn add_many(batch: &mut Batch, count: u32) -> bool {
     for at in 0..count {
         let disk = (4 - at % 5) as DiskNo;
-        batch
-            .add(disk, 140u32.saturating_sub(at / 5), &filled_with(1))
-            .ok()?;
+        let place = 140u32.saturating_sub(at / 5);
+        if batch.add(disk, place, &filled_with(1)).is_err() {
+            return false;
+        }
     }
-    Some(batch)
+    true
 }
 
-// The writes and the syncs of a commit of so many targets.
-fn cost_of(alloc: Global, count: u32) -> Option<(u32, u32)> {
-    let batch = many_targets(alloc, count)?;
-    let (rack, answer) = committed(alloc, LARGE, &batch, 0, Vec::new(alloc))?;
+// How many writes and syncs the rack has made, where it has made no other call.
+fn writes_and_syncs(rack: &MemRack) -> Option<(u32, u32)> {
     let mut writes = 0u32;
     let mut syncs = 0u32;
     for at in 0..rack.calls() {
@@ -237,55 +254,84 @@ fn cost_of(alloc: Global, count: u32) -> Option<(u32, u32)> {
             _ => return None,
         }
     }
+    Some((writes, syncs))
+}
+
+// The writes and the syncs of a commit of so many targets.
+fn cost_of(alloc: Global, count: u32) -> Option<(u32, u32)> {
+    let mut batch = Batch::new(alloc).ok()?;
+    if !add_many(&mut batch, count) {
+        return None;
+    }
+    let (rack, answer) = committed(alloc, LARGE, &batch, 0, Vec::new(alloc))?;
     if answer == Ok(None) {
-        Some((writes, syncs))
+        writes_and_syncs(&rack)
     } else {
         None
     }
 }
 
+// Targets, and the writes and syncs of their commit: the targets are on 0, 1, 5 and 5 disks.
+const COSTS: [(u32, u32, u32); 4] = [(0, 10, 8), (1, 13, 9), (10, 40, 13), (96, 298, 13)];
+
 #[test]
 fn a_commit_costs_three_writes_a_target_and_ten_more(rt: HostRuntime) {
-    let alloc = rt.alloc();
-    // targets, disks with targets, writes, syncs
-    for (targets, disks, writes, syncs) in [
-        (0, 0, 10, 8),
-        (1, 1, 13, 9),
-        (10, 5, 40, 13),
-        (96, 5, 298, 13),
-    ] {
-        let _ = println!(rt; "{targets} targets on {disks} disks: {writes} writes, {syncs} syncs");
-        assert!(rt; cost_of(alloc, targets) == Some((writes, syncs)));
+    for &(targets, writes, syncs) in &COSTS {
+        let found = cost_of(rt.alloc(), targets);
+        assert!(rt; found == Some((writes, syncs)), "{targets} targets");
     }
 }
 
 /// The write of block 7, which is the cell of row 1 and disk 4, with the parity of its row.
-pub fn one_write(alloc: Global) -> Option<Batch> {
-    let mut batch = Batch::new(alloc).ok()?;
-    batch.add(4, 102, &filled_with(0x77)).ok()?;
-    batch.add(3, 102, &filled_with(0x77)).ok()?;
-    Some(batch)
+pub const ONE_WRITE: [Filling; 2] = [(4, 102, 0x77), (3, 102, 0x77)];
+
+/// The array after the commit of that write, of 26 calls, and what it answered.
+pub fn written(alloc: Global) -> Option<(MemRack, Result<Option<DiskNo>, Two>)> {
+    committed(
+        alloc,
+        SMALL,
+        &batch_of(alloc, &ONE_WRITE)?,
+        1,
+        Vec::new(alloc),
+    )
 }
 
-// How many images that stops at a moment leave hold no write, and how many hold the write; None
-// where one of them holds neither, or where a mount would let another log disk stand.
-fn sound_at(alloc: Global, rack: &MemRack, moment: u32) -> Option<(u32, u32)> {
+// How many writes a stop leaves; None where the image does not hold so many, or where a mount would
+// let another log disk stand.
+fn writes_left(
+    alloc: Global,
+    rack: &MemRack,
+    moment: u32,
+    pick: Pick,
+    lost: Option<DiskNo>,
+) -> Option<u64> {
     let history = [Pairs::one(7, &filled_with(0x77))];
-    let mut counts = (0u32, 0u32);
+    let mut left = left_at(alloc, rack, moment, pick, lost)?;
+    let image = image_of(alloc, &left)?;
+    let says = standing_of(&image)?;
+    let writes = says.meta.writes;
+    if is_sound(&image, &history, writes) && chosen(alloc, &mut left) == Some(says.disk) {
+        Some(writes)
+    } else {
+        None
+    }
+}
+
+/// Counts a stop that leaves no write, or the write.
+pub fn counted(counts: (u32, u32), writes: u64) -> Option<(u32, u32)> {
+    match writes {
+        0 => Some((counts.0.saturating_add(1), counts.1)),
+        1 => Some((counts.0, counts.1.saturating_add(1))),
+        _ => None,
+    }
+}
+
+// How many images that stops at a moment leave hold no write, and how many hold the write.
+fn sound_at(alloc: Global, rack: &MemRack, moment: u32) -> Option<(u32, u32)> {
+    let mut counts = (0, 0);
     for pick in PICKS {
         for lost in LOSSES {
-            let mut left = left_at(alloc, rack, moment, pick, lost)?;
-            let image = image_of(alloc, &left)?;
-            let says = standing_of(&image)?;
-            let writes = says.meta.writes;
-            if !is_sound(&image, &history, writes) || chosen(alloc, &mut left) != Some(says.disk) {
-                return None;
-            }
-            match writes {
-                0 => counts.0 = u32::saturating_add(counts.0, 1),
-                1 => counts.1 = u32::saturating_add(counts.1, 1),
-                _ => return None,
-            }
+            counts = counted(counts, writes_left(alloc, rack, moment, pick, lost)?)?;
         }
     }
     Some(counts)
@@ -309,16 +355,11 @@ pub fn expected_at(moment: u32) -> (u32, u32) {
 
 #[test]
 fn every_stop_in_the_commit_of_a_write_is_sound(rt: HostRuntime) {
-    let alloc = rt.alloc();
-    let batch = one_write(alloc).expect(&rt, "memory");
-    let (rack, answer) = committed(alloc, SMALL, &batch, 1, Vec::new(alloc)).expect(
-        &rt,
-        "a formatted array",
-    );
+    let (rack, answer) = written(rt.alloc()).expect(&rt, "a formatted array");
     assert!(rt; answer == Ok(None));
     assert!(rt; rack.calls() == 26);
     for moment in 0..27 {
-        let found = sound_at(alloc, &rack, moment);
+        let found = sound_at(rt.alloc(), &rack, moment);
         assert!(rt; found == Some(expected_at(moment)), "at {moment}");
     }
 }

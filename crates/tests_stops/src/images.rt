@@ -9,6 +9,7 @@ use paraid_plain::{
     standing_of, value_of,
 };
 use paraid_rack::Power;
+use std::alloc::Global;
 use std::process::Abort;
 
 /// The bytes of the meta before its zeros, by hand from the layout of the block.
@@ -147,13 +148,18 @@ fn apply(image: &mut Image, change: Change) {
     }
 }
 
-/// The array as it is formatted, with these changes.
-pub fn array(rt: &(impl Abort + AllocGlobal), base: &[Change], changes: &[Change]) -> Image {
-    let mut image = Image::new(rt.alloc());
+// Five disks of zeros.
+fn blank(alloc: Global) -> Option<Image> {
+    let mut image = Image::new(alloc);
     for _disk in 0..5 {
-        let added = image.add(rt.alloc(), Power::Spinning, 108);
-        added.ok().expect(rt, "there is memory");
+        image.add(alloc, Power::Spinning, 108).ok()?;
     }
+    Some(image)
+}
+
+/// The array as it is formatted, with these changes.
+pub fn array(alloc: Global, base: &[Change], changes: &[Change]) -> Option<Image> {
+    let mut image = blank(alloc)?;
     put(&mut image, 0, 1, &block_with(&META));
     put(&mut image, 1, 1, &block_with(&META));
     for change in base {
@@ -162,24 +168,24 @@ pub fn array(rt: &(impl Abort + AllocGlobal), base: &[Change], changes: &[Change
     for change in changes {
         apply(&mut image, *change);
     }
-    image
+    Some(image)
 }
 
 /// Changes of an array, a number of writes, and whether the array with them holds so many.
 type Row = (&'static [Change], u64, bool);
 
-/// Whether the array with the changes of a row, after those of the base, holds so many writes of
-/// the history as the row says.
-fn check(
-    rt: &(impl Abort + AllocGlobal),
-    base: &[Change],
-    history: &[Pairs],
-    rows: &[(&[Change], u64, bool)],
-) {
-    for (at, &(changes, writes, want)) in rows.iter().enumerate() {
-        let image = array(rt, base, changes);
-        let found = is_sound(&image, history, writes);
-        assert!(rt; found == want, "row {at}");
+// Whether the array with the changes of a row, after those of the base, holds so many writes of
+// the history as the row says.
+fn is_met(alloc: Global, base: &[Change], history: &[Pairs], row: &Row) -> bool {
+    match array(alloc, base, row.0) {
+        Some(image) => is_sound(&image, history, row.1) == row.2,
+        None => false,
+    }
+}
+
+fn check(rt: &(impl Abort + AllocGlobal), base: &[Change], history: &[Pairs], rows: &[Row]) {
+    for (at, row) in rows.iter().enumerate() {
+        assert!(rt; is_met(rt.alloc(), base, history, row), "row {at}");
     }
 }
 
@@ -316,16 +322,23 @@ const AFTER_WRITE: [Row; 28] = [
     (&[Short(4)], 1, false),
 ];
 
+/// Another history, which ends with the same bytes.
+fn two_writes() -> [Pairs; 2] {
+    [
+        Pairs::one(7, &filled_with(0x78)),
+        Pairs::one(7, &filled_with(0x77)),
+    ]
+}
+
+const BY_ANOTHER_HISTORY: [Row; 2] = [(&[], 1, false), (&[], 2, false)];
+
+const WITH_NO_WRITE: [Row; 1] = [(&[], 0, true)];
+
 #[test]
 fn a_write_in_a_low_gear_is_held_by_its_copy(rt: HostRuntime) {
     check(&rt, &WRITTEN, &one_write(), &AFTER_WRITE);
-    // Another history, which ends with the same bytes.
-    let other = [
-        Pairs::one(7, &filled_with(0x78)),
-        Pairs::one(7, &filled_with(0x77)),
-    ];
-    check(&rt, &WRITTEN, &other, &[(&[], 1, false), (&[], 2, false)]);
-    check(&rt, &DOWN, &[], &[(&[], 0, true)]);
+    check(&rt, &WRITTEN, &two_writes(), &BY_ANOTHER_HISTORY);
+    check(&rt, &DOWN, &[], &WITH_NO_WRITE);
 }
 
 /// Changes in the commit of the write, when the gate of disk 0 is open.
@@ -476,11 +489,8 @@ fn standing(image: &Image) -> Option<(DiskNo, bool, u64, u8, Option<DiskNo>)> {
 /// By what stands: the last byte of the place of a target, and whether two cells of row 1 are dirty.
 fn laid(image: &Image) -> Option<(u8, [bool; 2])> {
     let says = standing_of(image)?;
-    let byte = content(image, &says, 3, 102).bytes[511];
-    Some((
-        byte,
-        [is_dirty(image, &says, 1, 4), is_dirty(image, &says, 1, 3)],
-    ))
+    let dirty = [is_dirty(image, &says, 1, 4), is_dirty(image, &says, 1, 3)];
+    Some((content(image, &says, 3, 102).bytes[511], dirty))
 }
 
 /// Whether a log disk says an open gate, its epoch, and by it the first bytes of the cell of row 1
@@ -502,7 +512,7 @@ fn said_by(image: &Image, disk: DiskNo) -> Option<(bool, u64, Option<u8>, Option
 
 #[test]
 fn what_stands_is_read_and_valued(rt: HostRuntime) {
-    let image = array(&rt, &OPENED, &[]);
+    let image = array(rt.alloc(), &OPENED, &[]).expect(&rt, "there is memory");
     assert!(rt; standing(&image) == Some((0, true, 1, 5, None)));
     assert!(rt; laid(&image) == Some((0x77, [true, false])));
     // disk 0 stands, and its gate is open over the epoch that it brings
@@ -510,22 +520,45 @@ fn what_stands_is_read_and_valued(rt: HostRuntime) {
     assert!(rt; said_by(&image, 1) == Some((false, 5, Some(0), Some(0))));
 }
 
-#[test]
-fn a_blank_side_and_an_absent_one_do_not_stand(rt: HostRuntime) {
-    let blank = array(&rt, &[Fill(0, 1, 0), Powered(1, Power::Absent)], &[]);
-    assert!(rt; matches!(side_of(&blank, 0), Side::Blank));
-    assert!(rt; matches!(side_of(&blank, 1), Side::Absent));
-    assert!(rt; standing_of(&blank).is_none());
+/// A blank log disk and an absent one.
+const UNREADABLE: [Change; 2] = [Fill(0, 1, 0), Powered(1, Power::Absent)];
+
+/// Whether a log disk is blank, and whether it is absent.
+fn lacks(image: &Image, disk: DiskNo) -> (bool, bool) {
+    if disk > 1 {
+        return (false, false);
+    }
+    match side_of(image, disk) {
+        Side::Blank => (true, false),
+        Side::Absent => (false, true),
+        _ => (false, false),
+    }
 }
 
 #[test]
-fn the_last_write_of_a_block_that_counts_is_its_value(rt: HostRuntime) {
-    let history = [
+fn a_blank_side_and_an_absent_one_do_not_stand(rt: HostRuntime) {
+    let image = array(rt.alloc(), &UNREADABLE, &[]).expect(&rt, "there is memory");
+    assert!(rt; lacks(&image, 0) == (true, false));
+    assert!(rt; lacks(&image, 1) == (false, true));
+    assert!(rt; standing_of(&image).is_none());
+}
+
+/// Writes of blocks 3, 4 and 3 again.
+fn three_writes() -> [Pairs; 3] {
+    [
         Pairs::one(3, &filled_with(1)),
         Pairs::one(4, &filled_with(2)),
         Pairs::one(3, &filled_with(3)),
-    ];
-    for (writes, byte) in [(0, 0), (1, 1), (2, 1), (3, 3), (9, 3)] {
+    ]
+}
+
+/// A number of writes, and what block 3 is filled with after so many.
+const BYTES_AFTER: [(u64, u8); 5] = [(0, 0), (1, 1), (2, 1), (3, 3), (9, 3)];
+
+#[test]
+fn the_last_write_of_a_block_that_counts_is_its_value(rt: HostRuntime) {
+    let history = three_writes();
+    for &(writes, byte) in &BYTES_AFTER {
         let found = block_after(&history, writes, 3).bytes[7];
         assert!(rt; found == byte, "after {writes}");
     }

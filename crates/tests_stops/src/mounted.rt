@@ -2,33 +2,27 @@
 
 use crate::images::Change::{MetaByte, Powered};
 use crate::images::{Change, GEAR, array};
-use crate::mounts::rack_with;
+use crate::mounts::{plan_of, rack_with};
 use Power::{Absent, Parked, Spinning};
 use paraid_base::{DiskNo, Two};
-use paraid_memrack::Planned;
 use paraid_mount::MountFault;
 use paraid_rack::{Power, Rack};
 use paraid_recover::mount;
 use paraid_txn::Batch;
-use std::process::Abort;
+use std::alloc::Global;
 
 /// The epoch and the gear of an array that was mounted, the disk that is out, how disk 4 is powered,
 /// and how many calls were made.
 type Outcome = (u64, u8, Option<DiskNo>, Power, u32);
 
 fn mounted(
-    rt: &(impl Abort + AllocGlobal),
+    alloc: Global,
     changes: &[Change],
     failing: &[(DiskNo, u32)],
 ) -> Option<Result<Outcome, MountFault>> {
-    let alloc = rt.alloc();
-    let image = array(rt, &[], changes);
-    let mut plan = Vec::new(alloc);
-    for &(disk, nth) in failing {
-        plan.push(Planned::OnDisk { disk, nth }).ok()?;
-    }
+    let image = array(alloc, &[], changes)?;
+    let rack = rack_with(alloc, &image, plan_of(alloc, failing)?)?;
     let batch = Batch::new(alloc).ok()?;
-    let rack = rack_with(alloc, &image, plan)?;
     match mount(alloc, batch, rack) {
         Ok(it) => {
             let meta = it.meta;
@@ -36,13 +30,8 @@ fn mounted(
             if rack.slots() < 5 {
                 return None;
             }
-            Some(Ok((
-                meta.epoch,
-                meta.gear,
-                meta.out.named(),
-                rack.power(4),
-                rack.calls(),
-            )))
+            let out = meta.out.named();
+            Some(Ok((meta.epoch, meta.gear, out, rack.power(4), rack.calls())))
         }
         Err(refused) => Some(Err(refused.fault)),
     }
@@ -87,7 +76,7 @@ const ROWS: [Row; 7] = [
 #[test]
 fn a_mount_marks_what_is_gone_and_parks_what_need_not_spin(rt: HostRuntime) {
     for (at, &(changes, failing, want)) in ROWS.iter().enumerate() {
-        let made = mounted(&rt, changes, failing);
+        let made = mounted(rt.alloc(), changes, failing);
         assert!(rt; made == Some(want), "row {at}");
     }
 }

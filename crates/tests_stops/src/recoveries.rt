@@ -1,8 +1,8 @@
 //! Whole mounts after stops: in the commit of a write, and in a mount.
 
 use crate::commits::{
-    LOSSES, PICKS, SMALL, committed, epoch_left, expected_at, image_of, left_at, meta_block,
-    one_target, one_write,
+    Filling, LOSSES, ONE_TARGET, PICKS, SMALL, batch_of, committed, counted, epoch_left,
+    expected_at, image_of, left_at, meta_block, written,
 };
 use crate::images::filled_with;
 use crate::versions::served;
@@ -11,7 +11,7 @@ use paraid_memrack::{MemRack, Pick};
 use paraid_plain::{Image, is_sound, standing_of};
 use paraid_rack::Rack;
 use paraid_record::{Meta, read_meta};
-use paraid_txn::{Batch, Store};
+use paraid_txn::Store;
 use std::alloc::Global;
 
 // Whether the gates of both log disks are closed, or their disks absent.
@@ -40,19 +40,28 @@ fn kept_as_held(alloc: Global, left: MemRack, history: &[Pairs]) -> Option<u64> 
     if writes == held { Some(writes) } else { None }
 }
 
+// How many writes a mount after a stop says, where the disks held as many.
+fn kept_at(
+    alloc: Global,
+    rack: &MemRack,
+    history: &[Pairs],
+    moment: u32,
+    pick: Pick,
+    lost: Option<DiskNo>,
+) -> Option<u64> {
+    let left = left_at(alloc, rack, moment, pick, lost)?;
+    kept_as_held(alloc, left, history)
+}
+
 // How many of the images that stops at a moment leave hold no write after a mount, and how many
 // hold the write.
 fn counts_at(alloc: Global, rack: &MemRack, moment: u32) -> Option<(u32, u32)> {
     let history = [Pairs::one(7, &filled_with(0x77))];
-    let mut counts = (0u32, 0u32);
+    let mut counts = (0, 0);
     for pick in PICKS {
         for lost in LOSSES {
-            let left = left_at(alloc, rack, moment, pick, lost)?;
-            match kept_as_held(alloc, left, &history)? {
-                0 => counts.0 = u32::saturating_add(counts.0, 1),
-                1 => counts.1 = u32::saturating_add(counts.1, 1),
-                _ => return None,
-            }
+            let writes = kept_at(alloc, rack, &history, moment, pick, lost)?;
+            counts = counted(counts, writes)?;
         }
     }
     Some(counts)
@@ -60,30 +69,22 @@ fn counts_at(alloc: Global, rack: &MemRack, moment: u32) -> Option<(u32, u32)> {
 
 #[test]
 fn a_mount_after_every_stop_in_a_commit_keeps_its_writes(rt: HostRuntime) {
-    let alloc = rt.alloc();
-    let batch = one_write(alloc).expect(&rt, "memory");
-    let (rack, _) = committed(alloc, SMALL, &batch, 1, Vec::new(alloc)).expect(
-        &rt,
-        "a formatted array",
-    );
+    let (rack, _) = written(rt.alloc()).expect(&rt, "a formatted array");
     for moment in 0..27 {
-        let found = counts_at(alloc, &rack, moment);
+        let found = counts_at(rt.alloc(), &rack, moment);
         assert!(rt; found == Some(expected_at(moment)), "at {moment}");
     }
 }
 
-// The write of block 3, which is the cell of row 0 and disk 3, with the parity of its row.
-fn block_write(alloc: Global, byte: u8) -> Option<Batch> {
-    let mut batch = Batch::new(alloc).ok()?;
-    batch.add(3, 101, &filled_with(byte)).ok()?;
-    batch.add(4, 101, &filled_with(byte)).ok()?;
-    Some(batch)
-}
+// Two writes of block 3, which is the cell of row 0 and disk 3, with the parity of its row.
+const FIRST: [Filling; 2] = [(3, 101, 0x11), (4, 101, 0x11)];
 
-// The array after the commits of two writes of block 3, of 26 calls each.
+const SECOND: [Filling; 2] = [(3, 101, 0x22), (4, 101, 0x22)];
+
+// The array after the commits of both, of 26 calls each.
 fn written_twice(alloc: Global) -> Option<MemRack> {
-    let first = block_write(alloc, 0x11)?;
-    let second = block_write(alloc, 0x22)?;
+    let first = batch_of(alloc, &FIRST)?;
+    let second = batch_of(alloc, &SECOND)?;
     let (rack, _) = committed(alloc, SMALL, &first, 1, Vec::new(alloc))?;
     let formatted_meta = read_meta(&meta_block(5))?;
     let meta = Meta {
@@ -127,14 +128,13 @@ const LOOSE: u32 = 37;
 
 #[test]
 fn a_mount_keeps_the_write_whose_gate_is_open(rt: HostRuntime) {
-    let alloc = rt.alloc();
-    let rack = written_twice(alloc).expect(&rt, "two commits");
+    let rack = written_twice(rt.alloc()).expect(&rt, "two commits");
     assert!(rt; rack.calls() == 52);
-    for (pick, is_lost, writes) in OPENED {
+    let history = both_writes();
+    for (row, &(pick, is_lost, writes)) in OPENED.iter().enumerate() {
         let lost = if is_lost { Some(0) } else { None };
-        let left = left_at(alloc, &rack, LOOSE, pick, lost).expect(&rt, "a stop");
-        let found = kept_as_held(alloc, left, &both_writes());
-        assert!(rt; found == Some(writes), "{pick:?}, {lost:?} lost");
+        let found = kept_at(rt.alloc(), &rack, &history, LOOSE, pick, lost);
+        assert!(rt; found == Some(writes), "row {row}");
     }
 }
 
@@ -161,47 +161,61 @@ fn recovered(alloc: Global) -> Option<MemRack> {
     Some(rack)
 }
 
+// Whether a mount after each stop at this moment keeps the writes that are expected.
+fn are_kept(alloc: Global, rack: &MemRack, moment: u32) -> bool {
+    let history = both_writes();
+    for pick in PICKS {
+        for lost in LOSSES {
+            let found = kept_at(alloc, rack, &history, moment, pick, lost);
+            if found != Some(expected_after(moment, pick, lost)) {
+                return false;
+            }
+        }
+    }
+    true
+}
+
 #[test]
 fn a_mount_that_was_stopped_in_a_mount_keeps_the_writes(rt: HostRuntime) {
-    let alloc = rt.alloc();
-    let rack = recovered(alloc).expect(&rt, "it is mounted");
+    let rack = recovered(rt.alloc()).expect(&rt, "it is mounted");
     // the end of the commit takes 27, and then a block of the map is read and five disks are synced
     assert!(rt; rack.calls() == 33);
     for moment in 0..34 {
-        for pick in PICKS {
-            for lost in LOSSES {
-                let left = left_at(alloc, &rack, moment, pick, lost).expect(&rt, "a stop");
-                let found = kept_as_held(alloc, left, &both_writes());
-                let want = Some(expected_after(moment, pick, lost));
-                assert!(rt; found == want, "at {moment}, {pick:?}, {lost:?} lost");
-            }
-        }
+        assert!(rt; are_kept(rt.alloc(), &rack, moment), "at {moment}");
     }
 }
 
 // The array after a mount that ends the commit of one target, which was stopped after the sync of
 // the open gate of disk 0.
 fn target_laid(alloc: Global) -> Option<MemRack> {
-    let (rack, _) = committed(alloc, SMALL, &one_target(alloc)?, 0, Vec::new(alloc))?;
+    let (rack, _) = committed(
+        alloc,
+        SMALL,
+        &batch_of(alloc, &ONE_TARGET)?,
+        0,
+        Vec::new(alloc),
+    )?;
     let opened = left_at(alloc, &rack, 10, Pick::New, None)?;
     let (_said, rack) = served(alloc, opened)?;
     Some(rack)
 }
 
+// The epoch that a stop leaves.
+fn epoch_at(alloc: Global, rack: &MemRack, moment: u32, pick: Pick) -> Option<u64> {
+    let left = left_at(alloc, rack, moment, pick, None)?;
+    let image = image_of(alloc, &left)?;
+    epoch_left(&image, None)
+}
+
 #[test]
 fn a_stop_in_the_mount_that_lays_a_target_loses_nothing(rt: HostRuntime) {
-    let alloc = rt.alloc();
-    let rack = target_laid(alloc).expect(&rt, "it is mounted");
+    let rack = target_laid(rt.alloc()).expect(&rt, "it is mounted");
     // with one target the end of the commit takes 23, and then there is one read and five syncs
     assert!(rt; rack.calls() == 29);
     for moment in 0..30 {
-        for pick in PICKS {
-            let left = left_at(alloc, &rack, moment, pick, None).expect(&rt, "a stop");
-            let image = image_of(alloc, &left).expect(&rt, "there is memory");
-            assert!(rt;
-                epoch_left(&image, None) == Some(2),
-                "at {moment}, {pick:?}"
-            );
+        for (row, &pick) in PICKS.iter().enumerate() {
+            let epoch = epoch_at(rt.alloc(), &rack, moment, pick);
+            assert!(rt; epoch == Some(2), "at {moment}, pick {row}");
         }
     }
 }

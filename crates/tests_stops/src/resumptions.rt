@@ -1,6 +1,6 @@
 //! Commits that were stopped are ended: what then stands, and what a stop in that leaves.
 
-use crate::commits::{PICKS, SMALL, committed, image_of, left_at, one_write};
+use crate::commits::{PICKS, image_of, left_at, written};
 use crate::images::filled_with;
 use paraid_base::{DiskNo, Pairs};
 use paraid_memrack::{MemRack, Pick};
@@ -46,6 +46,18 @@ fn is_ended(
     Some(is_kept && !stands.opened && holds(&image, writes))
 }
 
+// Whether an image that a stop leaves holds so many writes.
+fn holds_after(
+    alloc: Global,
+    rack: &MemRack,
+    moment: u32,
+    pick: Pick,
+    writes: u64,
+) -> Option<bool> {
+    let left = left_at(alloc, rack, moment, pick, None)?;
+    Some(holds(&image_of(alloc, &left)?, writes))
+}
+
 // How many calls the end of the commit after this stop makes, where each image that a stop in it
 // leaves holds the same writes.
 fn kept_in(alloc: Global, rack: &MemRack, moment: u32) -> Option<u32> {
@@ -53,8 +65,7 @@ fn kept_in(alloc: Global, rack: &MemRack, moment: u32) -> Option<u32> {
     let (after, writes) = resumed(alloc, left)?;
     for at in 0..=after.calls() {
         for pick in PICKS {
-            let stopped = left_at(alloc, &after, at, pick, None)?;
-            if !holds(&image_of(alloc, &stopped)?, writes) {
+            if holds_after(alloc, &after, at, pick, writes) != Some(true) {
                 return None;
             }
         }
@@ -64,46 +75,46 @@ fn kept_in(alloc: Global, rack: &MemRack, moment: u32) -> Option<u32> {
 
 const LOST: [Option<DiskNo>; 4] = [None, Some(0), Some(1), Some(4)];
 
-#[test]
-fn a_commit_is_ended_after_every_stop(rt: HostRuntime) {
-    let alloc = rt.alloc();
-    let batch = one_write(alloc).expect(&rt, "memory");
-    let (rack, _) = committed(alloc, SMALL, &batch, 1, Vec::new(alloc)).expect(
-        &rt,
-        "a formatted array",
-    );
-    for moment in 0..=rack.calls() {
-        for pick in PICKS {
-            for lost in LOST {
-                let ended = is_ended(alloc, &rack, moment, pick, lost);
-                assert!(rt; ended == Some(true), "at {moment}, {pick:?}, {lost:?} lost");
+// Whether the commit is ended after each stop at this moment.
+fn are_ended(alloc: Global, rack: &MemRack, moment: u32) -> bool {
+    for pick in PICKS {
+        for lost in LOST {
+            if is_ended(alloc, rack, moment, pick, lost) != Some(true) {
+                return false;
             }
         }
     }
+    true
 }
 
 #[test]
+fn a_commit_is_ended_after_every_stop(rt: HostRuntime) {
+    let (rack, _) = written(rt.alloc()).expect(&rt, "a formatted array");
+    for moment in 0..=rack.calls() {
+        assert!(rt; are_ended(rt.alloc(), &rack, moment), "at {moment}");
+    }
+}
+
+// A moment, and how many calls the end of the commit then makes. A closed log disk is read by two
+// calls, an open one by five here.
+const ENDS: [(u32, u32); 6] = [
+    // both are closed, and the gate of the other one is read again
+    (10, 5),
+    // disk 0 is open: the log of disk 1 is written and opened, and then as below
+    (12, 27),
+    // both are open: a gate is read, two targets are laid, and two metas and two gates written
+    (14, 23),
+    (18, 23),
+    (22, 23),
+    // disk 0 is closed: the meta and the gate of disk 1 are written
+    (24, 12),
+];
+
+#[test]
 fn a_stop_in_the_end_of_a_commit_keeps_its_writes(rt: HostRuntime) {
-    let alloc = rt.alloc();
-    let batch = one_write(alloc).expect(&rt, "memory");
-    let (rack, _) = committed(alloc, SMALL, &batch, 1, Vec::new(alloc)).expect(
-        &rt,
-        "a formatted array",
-    );
-    // A closed log disk is read by two calls, an open one by five here.
-    for (moment, calls) in [
-        // both are closed, and the gate of the other one is read again
-        (10, 5),
-        // disk 0 is open: the log of disk 1 is written and opened, and then as below
-        (12, 27),
-        // both are open: a gate is read, two targets are laid, and two metas and two gates written
-        (14, 23),
-        (18, 23),
-        (22, 23),
-        // disk 0 is closed: the meta and the gate of disk 1 are written
-        (24, 12),
-    ] {
-        let made = kept_in(alloc, &rack, moment);
+    let (rack, _) = written(rt.alloc()).expect(&rt, "a formatted array");
+    for &(moment, calls) in &ENDS {
+        let made = kept_in(rt.alloc(), &rack, moment);
         assert!(rt; made == Some(calls), "at {moment}");
     }
 }

@@ -12,7 +12,6 @@ use paraid_record::{Meta, read_meta};
 use paraid_recover::mount;
 use paraid_txn::Batch;
 use std::alloc::Global;
-use std::process::Abort;
 
 /// The version, the epoch and the number of writes of a meta, and the disk that is out.
 pub type Said = (u8, u64, u64, Option<DiskNo>);
@@ -43,9 +42,8 @@ fn stored(rack: &mut MemRack, disk: DiskNo) -> Option<Said> {
 /// a second one take.
 type Outcome = (Said, [Option<Said>; 2], u32, u32);
 
-fn mounted_twice(rt: &(impl Abort + AllocGlobal), changes: &[Change]) -> Option<Outcome> {
-    let alloc = rt.alloc();
-    let image = array(rt, &VERSION_ONE, changes);
+fn mounted_twice(alloc: Global, changes: &[Change]) -> Option<Outcome> {
+    let image = array(alloc, &VERSION_ONE, changes)?;
     let rack = rack_with(alloc, &image, Vec::new(alloc))?;
     let (first, mut rack) = served(alloc, rack)?;
     let calls = rack.calls();
@@ -103,48 +101,52 @@ fn a_mount_brings_version_one_to_version_two(rt: HostRuntime) {
         let meta = (2, 2, 0, out);
         let zero = if both { Some(meta) } else { None };
         let want = Some((meta, [zero, Some(meta)], first, second));
-        assert!(rt; mounted_twice(&rt, changes) == want, "row {at}");
+        assert!(rt; mounted_twice(rt.alloc(), changes) == want, "row {at}");
     }
 }
 
-/// What a mount gives after a stop in the mount of the array with version 1, where this disk, or
-/// none, is lost.
+/// The array with version 1, after a mount.
+fn brought(alloc: Global) -> Option<MemRack> {
+    let image = array(alloc, &VERSION_ONE, &[])?;
+    let rack = rack_with(alloc, &image, Vec::new(alloc))?;
+    let (_said, rack) = served(alloc, rack)?;
+    Some(rack)
+}
+
+/// What a mount gives after a stop in that mount, where this disk, or none, is lost.
 fn again(
-    rt: &(impl Abort + AllocGlobal),
+    alloc: Global,
     rack: &MemRack,
     moment: u32,
     pick: Pick,
     lost: Option<DiskNo>,
 ) -> Option<Said> {
-    let stopped = left_at(rt.alloc(), rack, moment, pick, lost)?;
-    let (said, _rack) = served(rt.alloc(), stopped)?;
+    let stopped = left_at(alloc, rack, moment, pick, lost)?;
+    let (said, _rack) = served(alloc, stopped)?;
     Some(said)
+}
+
+/// Whether the array is mounted after this stop with version 2 and no write, where each disk in turn
+/// is lost.
+fn are_brought(alloc: Global, rack: &MemRack, moment: u32, pick: Pick) -> Option<bool> {
+    for disk in 0..5 {
+        let (version, _epoch, writes, out) = again(alloc, rack, moment, pick, Some(disk))?;
+        if (version, writes, out) != (2, 0, Some(disk)) {
+            return Some(false);
+        }
+    }
+    Some(true)
 }
 
 #[test]
 fn a_mount_that_brings_the_version_can_be_stopped(rt: HostRuntime) {
-    let alloc = rt.alloc();
-    let image = array(&rt, &VERSION_ONE, &[]);
-    let rack = rack_with(alloc, &image, Vec::new(alloc)).expect(&rt, "there is memory");
-    let (_said, rack) = served(alloc, rack).expect(&rt, "it is mounted");
+    let rack = brought(rt.alloc()).expect(&rt, "it is mounted");
     for moment in 0..30 {
-        for pick in PICKS {
-            let whole = again(&rt, &rack, moment, pick, None);
-            assert!(rt; whole == Some((2, 2, 0, None)), "{moment}, {pick:?}");
-            for disk in 0..5 {
-                let (version, _epoch, writes, out) = again(
-                    &rt,
-                    &rack,
-                    moment,
-                    pick,
-                    Some(disk),
-                ).expect(&rt, "it is mounted without a disk");
-                let found = (version, writes, out);
-                assert!(rt;
-                    found == (2, 0, Some(disk)),
-                    "{moment}, {pick:?}, {disk} is lost"
-                );
-            }
+        for (row, &pick) in PICKS.iter().enumerate() {
+            let whole = again(rt.alloc(), &rack, moment, pick, None);
+            assert!(rt; whole == Some((2, 2, 0, None)), "at {moment}, pick {row}");
+            let brought = are_brought(rt.alloc(), &rack, moment, pick);
+            assert!(rt; brought == Some(true), "at {moment}, pick {row}");
         }
     }
 }
