@@ -3,15 +3,15 @@ ghost use Rattle.std.specs.Prelude.{◌≡◌, ◌≢◌, ℕ, Some, None};
 use crate::{BlockNo, DiskNo};
 
 /// A call of the outside did not succeed. Its object's count of faults has risen.
-#[derive(Clone, Copy, Debug, PartialEq, Eq)]
+#[derive(Clone, Copy, PartialEq, Eq)]
 pub struct Failed;
 
 /// There is no memory for it. This is the one answer that no contract ties to a cause.
-#[derive(Clone, Copy, Debug, PartialEq, Eq)]
+#[derive(Clone, Copy, PartialEq, Eq)]
 pub struct NoMemory;
 
 /// Two disks are down: `first` was out before, and `second` failed after it.
-#[derive(Clone, Copy, Debug, PartialEq, Eq)]
+#[derive(Clone, Copy, PartialEq, Eq)]
 pub struct Two {
     pub first: DiskNo,
     pub second: DiskNo,
@@ -37,7 +37,7 @@ impl Two {
 }
 
 /// Why an array serves no more. Every later call gives the same halt.
-#[derive(Clone, Copy, Debug, PartialEq, Eq)]
+#[derive(Clone, Copy, PartialEq, Eq)]
 pub enum Halt {
     /// Two disks are down, one more than a row can lose.
     Two(Two),
@@ -46,7 +46,7 @@ pub enum Halt {
 }
 
 /// Why a block was not read or written.
-#[derive(Clone, Copy, Debug, PartialEq, Eq)]
+#[derive(Clone, Copy, PartialEq, Eq)]
 pub enum BlockFault {
     /// The array has no such block.
     NoBlock { block: BlockNo },

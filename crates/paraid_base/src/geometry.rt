@@ -23,7 +23,7 @@ pub struct Geometry {
 }
 
 /// Why there is no such geometry. They are tested in this order.
-#[derive(Clone, Copy, Debug, PartialEq, Eq)]
+#[derive(Clone, Copy, PartialEq, Eq)]
 pub enum GeoFault {
     /// The number of disks is not 3 to 8.
     Disks { value: u8 },

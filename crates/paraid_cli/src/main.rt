@@ -3,9 +3,9 @@
 
 mod stdio;
 
-use paraid_console::status;
 use paraid_imgrack::ImageRack;
 use paraid_program::{Ended, paraid};
+use paraid_serve::status;
 use std::process::ExitCode;
 use std::{env, io};
 use stdio::{StdSink, StdSource};

@@ -16,7 +16,7 @@ use Rattle.paraid_base.specs.declared.state.Status.{Status}
 use Rattle.paraid_machine.specs.Machine.{state_status as told_status}
 use Rattle.paraid_trace.specs.Replies.{reply_of}
 use Rattle.paraid_session.specs.Mount.{IsMountedFromEach}
-use Rattle.paraid_console.specs.Ending.{EndsWithLine, end_line, halt_line, mount_line, status_of_halt}
+use Rattle.paraid_serve.specs.Ending.{EndsWithLine, end_line, halt_line, mount_line, status_of_halt}
 use Rattle.paraid_serve.specs.Output.{begins_with}
 use Rattle.paraid_session.specs.Turn.{GoesOn, Point}
 use Rattle.paraid_serve.proofs.ExitLemmas.{stretch_leaves}

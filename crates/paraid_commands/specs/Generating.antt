@@ -13,7 +13,7 @@ use Rattle.paraid_record.specs.declared.meta.Setup.{Setup}
 use Rattle.paraid_machine.specs.Machine.{block_count}
 use Rattle.paraid_trace.specs.Generated.{generated_event}
 use Rattle.paraid_session.specs.Mount.{IsMountedFromEach}
-use Rattle.paraid_console.specs.Ending.{end_line, halt_line, status_of_halt}
+use Rattle.paraid_serve.specs.Ending.{end_line, halt_line, status_of_halt}
 use Rattle.paraid_serve.specs.Output.{IsLeftByStretch, begins_with}
 use Rattle.paraid_serve.specs.Stretch.{Stretch, Turn, turn_with}
 use Rattle.paraid_session.specs.Turn.{Point}

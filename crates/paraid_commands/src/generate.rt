@@ -11,11 +11,10 @@ ghost use Rattle.paraid_commands.specs.CountedLines.{CountsLines};
 use crate::lines::summary_text;
 use crate::tally::Tally;
 use paraid_base::{Answer, Halt};
-use paraid_console::ending::{end_text, halt_status, last, mount_text};
-use paraid_console::status;
 use paraid_io::{Sink, write_all};
-use paraid_serve::Serves;
 use paraid_serve::answer::{answer_event, finish};
+use paraid_serve::ending::{end_text, halt_status, last, mount_text};
+use paraid_serve::{Serves, status};
 use paraid_trace::{Text, generate, reply};
 
 /// Answers the first lines of the trace of a number, and counts them.

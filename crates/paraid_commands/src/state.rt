@@ -1,34 +1,55 @@
-ghost use Rattle.std.specs.Prelude.{◌≡◌, ◌≤◌, None};
+//! The state of an array, as its meta and its dirty table have it.
+ghost use Rattle.std.specs.Prelude.{◌≡◌, ◌≤◌, length};
 ghost use Rattle.paraid_base.specs.Told.{HasRisen};
-ghost use Rattle.paraid_console.specs.Ending.{EndsWithLine};
-ghost use Rattle.paraid_session.specs.Turn.{Point};
-ghost use Rattle.paraid_commands.specs.Telling.{state_lines};
+ghost use Rattle.paraid_dirty.specs.Table.{is_dirty};
+ghost use Rattle.paraid_serve.specs.Ending.{EndsWithLine};
+ghost use Rattle.paraid_record.specs.Range.{IsInRange};
+ghost use Rattle.paraid_commands.specs.States.{shown_status, status_lines};
 
-use paraid_base::Answer;
-use paraid_console::ending::{last, mount_text};
-use paraid_console::status;
-use paraid_io::{Sink, write_all};
-use paraid_serve::Serves;
+use paraid_base::{Answer, Status};
+use paraid_dirty::DirtyTable;
+use paraid_io::Sink;
+use paraid_record::Meta;
+use paraid_serve::ending::{last, mount_text};
+use paraid_serve::status;
 use paraid_trace::{Text, reply};
 
-/// Tells the state of an array that is mounted, and gives the status. It makes no device call.
-pub fn tell_state<K: Sink, A: Serves>(sink: &mut K, array: &A) -> u8
-    requires going { A.halted array.now ≡ None }
-    ensures lines { (p : Point) → A.stands array.now p
-        → EndsWithLine (K.written sink.old) (K.written sink.new) (state_lines (A.setup array.now) p) 0 result }
+/// The state that a meta and its dirty table tell.
+pub fn status_of(meta: &Meta, table: &DirtyTable) -> Status
+    requires range { IsInRange meta.now }
+    requires rows { length table.now ≡ meta.now.setup.geometry.rows }
+    ensures { result ≡ shown_status meta.now (is_dirty table.now) }
+{
+    Status {
+        writes: meta.writes,
+        ticks: meta.ticks,
+        gear: meta.gear,
+        phase: meta.phase,
+        dirty: table.count(meta.gear, meta.setup.geometry.disks()),
+        fill: meta.fill,
+        out: meta.out,
+        spins: meta.spins,
+        halt: None,
+    }
+}
+
+/// Tells the state of an array that was mounted, and gives the status.
+pub fn tell_state<K: Sink>(sink: &mut K, meta: &Meta, table: &DirtyTable) -> u8
+    requires range { IsInRange meta.now }
+    requires rows { length table.now ≡ meta.now.setup.geometry.rows }
+    ensures tells { EndsWithLine (K.written sink.old) (K.written sink.new)
+        (status_lines meta.now (is_dirty table.now)) 0 result }
     ensures sink { result ≡ 4 → HasRisen (K.faults sink.old) (K.faults sink.new) }
     ensures later { K.faults sink.old ≤ K.faults sink.new }
 {
-    let mut text = Text::new();
-    mount_text(&mut text, array.writes(), array.gear());
-    let Ok(()) = write_all(sink, text.as_slice()) else {
-        return status::SINK;
-    };
     let state = Answer::State {
-        status: array.status(),
-        disks: array.disks(),
+        status: status_of(meta, table),
+        disks: meta.setup.geometry.disks(),
     };
+    let mut line = Text::new();
+    reply(&state, &mut line);
     let mut text = Text::new();
-    reply(&state, &mut text);
+    mount_text(&mut text, meta.writes, meta.gear);
+    text.push(line.as_slice());
     last(sink, text.as_slice(), status::DONE)
 }

@@ -53,6 +53,10 @@ true_from_not : (b : Bool) → not b ≡ false → b ≡ true
 true_from_not true h = refl
 true_from_not false h = cc
 
+known_is : (name : List ℕ) → is_known name ≡ is_member bytes_eq (map key_name all_keys) name
+unfolding is_known
+known_is name = refl
+
 -- no more than the known names stand before the first that is not known
 pub position-few : (names : List (List ℕ)) (at : ℕ) → IsDistinct bytes_eq names → position (λ name. not (is_known name)) names ≡ Some at → at ≤ 15
 position-few names at distinct e =
@@ -62,7 +66,7 @@ position-few names at distinct e =
     let few = length-le_from_is_member nat_list_eq_equiv (take at names) (map key_name all_keys) (IsDistinct-take names at within distinct)
     (λ q m. known_among (map key_name all_keys) (take at names) q (λ k below.
     let k_below : k < at = omega (arith, size) in
-    rw (get_or-take at names k [] k_below) (true_from_not _ (first.2 k k_below))) m) in
+    rw (get_or-take at names k [] k_below) (sym (known_is _) ∙ true_from_not _ (first.2 k k_below))) m) in
     omega (arith, size, few)
 
 prefix_len-map : {X Y : Type 0} (q : Y → Bool) (f : X → Y) (xs : List X) → prefix_len (λ x. q (f x)) xs ≡ prefix_len q (map f xs)

@@ -1,4 +1,5 @@
 mod FaultLemmas
 mod KeyLemmas
 mod ListLemmas
+mod PartLemmas
 mod SayLemmas

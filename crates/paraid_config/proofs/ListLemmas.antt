@@ -1,11 +1,15 @@
 -- How far a list of a document was read, and what the rest of it adds
-use Rattle.std.proofs.Common.{◌≡◌, ℕ, ◌<◌, ◌≤◌, ◌+◌, ℤ, pos, List, [], ◌∷◌, ◌++◌, All, length, get_or, take, drop, map, Option, Some, None, option_map, refl, sym, ap, ◌∙◌}
+use Rattle.std.proofs.Common.{◌≡◌, ℕ, ◌<◌, ◌≤◌, ◌+◌, ℤ, pos, List, [], ◌∷◌, ◌++◌, All, length, get_or, take, drop, map, Option, Some, None, option_map, refl, sym, ap, ◌∙◌, append_assoc}
 use Rattle.std.proofs.Common.{w64, SFits, to_z, of_z}
 use Rattle.std.proofs.lemmas.Int.{to_z-of_z}
 use Rattle.std.proofs.lemmas.List.{drop_more, take_more, map-append}
 use Rattle.paraid_config.specs.declared.fault.ConfigFault.{ConfigFault}
+use Rattle.paraid_config.specs.declared.fault.ConfigFault.TheVariants.{Kind}
 use Rattle.std.proofs.lemmas.List.Elements.{All-push}
-use Rattle.toml.specs.Data.{string, integer, float, boolean, datetime, array, table, Items, no_items, item, Members}
+use Rattle.toml.specs.Data.{Data, string, integer, float, boolean, datetime, array, table, Items, no_items, item, Members, as_integer}
+use Rattle.toml.specs.declared.value.Value.{Value}
+use Rattle.toml.specs.View.{view, items_view}
+use Rattle.toml.proofs.Views.{items_view-drop}
 use Rattle.paraid_config.specs.declared.key.Key.{Key}
 use Rattle.paraid_config.specs.Keys.{high_of}
 use Rattle.paraid_config.specs.Values.{integers_of, integer_items, range_fault, member_fault, members_fault, list_fault, value_at, IsListAt, IsFaultOf}
@@ -19,6 +23,54 @@ pub record AreRead (k : Key) (members : List ℤ) (numbers : List ℕ) (i : ℕ)
 -- the items before a place are these integers, and the rest is still to be read
 pub record AreIntegers (all rest : Items) (members : List ℤ) : Type 0 where
   pub holds : integers_of all ≡ option_map (λ zs. members ++ zs) (integers_of rest)
+
+pub AreIntegers-none : (all : Items) (members : List ℤ) → members ≡ [] → AreIntegers all all members
+AreIntegers-none all members e = rw e (record { holds = same (integers_of all) })
+  where
+    same : (o : Option (List ℤ)) → o ≡ option_map (λ zs. [] ++ zs) o
+    same None = refl
+    same (Some zs) = refl
+
+integers_of-one : (d : Data) (ds : Items) (z : ℤ) → as_integer d ≡ Some z → integers_of (item d ds) ≡ option_map (λ zs. z ∷ zs) (integers_of ds)
+integers_of-one (integer y) ds z e = let same : y ≡ z = cc in rw same refl
+integers_of-one (string s) ds z e = cc
+integers_of-one (float x) ds z e = cc
+integers_of-one (boolean b) ds z e = cc
+integers_of-one (datetime dt) ds z e = cc
+integers_of-one (array es) ds z e = cc
+integers_of-one (table ms) ds z e = cc
+
+integers_of-other : (d : Data) (ds : Items) → as_integer d ≡ None → integers_of (item d ds) ≡ None
+integers_of-other (integer y) ds e = cc
+integers_of-other (string s) ds e = refl
+integers_of-other (float x) ds e = refl
+integers_of-other (boolean b) ds e = refl
+integers_of-other (datetime dt) ds e = refl
+integers_of-other (array es) ds e = refl
+integers_of-other (table ms) ds e = refl
+
+one_more : (members : List ℤ) (z : ℤ) (o : Option (List ℤ)) → option_map (λ zs. members ++ zs) (option_map (λ zs. z ∷ zs) o) ≡ option_map (λ zs. (members ++ z ∷ []) ++ zs) o
+one_more members z None = refl
+one_more members z (Some zs) = ap (λ (l : List ℤ). Some l) (sym (append_assoc members (z ∷ []) zs))
+
+module _ (all : Items) (vs : List Value) (i : ℕ) (x : Value) (members : List ℤ) (inside : i < length vs) (is : x ≡ get_or vs i x)
+    (before : AreIntegers all (items_view (drop i vs)) members) where
+  next_item : items_view (drop i vs) ≡ item (view x) (items_view (drop (i + 1) vs))
+  next_item = items_view-drop vs i x inside ∙ ap (λ (v : Value). item (view v) (items_view (drop (i + 1) vs))) (sym is)
+
+  pub AreIntegers-more : (z : ℤ) → as_integer (view x) ≡ Some z → AreIntegers all (items_view (drop (i + 1) vs)) (members ++ z ∷ [])
+  AreIntegers-more z e = record {
+    holds = before.holds
+        ∙ ap (option_map (λ zs. members ++ zs)) (ap integers_of next_item ∙ integers_of-one (view x) (items_view (drop (i + 1) vs)) z e)
+        ∙ one_more members z (integers_of (items_view (drop (i + 1) vs)));
+  }
+
+  -- a member of another kind
+  pub members_fault-kind : (k : Key) (few many : ℕ) → as_integer (view x) ≡ None → IsFaultOf (members_fault k few many (integers_of all)) (Kind k)
+  members_fault-kind k few many e =
+      let none : integers_of all ≡ None = before.holds
+      ∙ ap (option_map (λ zs. members ++ zs)) (ap integers_of next_item ∙ integers_of-other (view x) (items_view (drop (i + 1) vs)) e) in
+      rw none refl
 
 -- a list that begins with an integer
 pub integers_of-integer : (z : ℤ) (ds : Items) (zs : List ℤ) → ((ys : List ℤ) → integers_of ds ≡ Some ys → ds ≡ integer_items ys)

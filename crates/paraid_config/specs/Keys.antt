@@ -63,5 +63,5 @@ high_of ParkedMj = 1048576
 high_of SpinupMj = 1048576
 
 -- whether a name is that of a key
-abbrev pub is_known : List ℕ → Bool
+unfoldable pub is_known : List ℕ → Bool
 is_known name = list_any (λ key. bytes_eq name (key_name key)) all_keys

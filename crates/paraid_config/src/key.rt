@@ -2,7 +2,7 @@ ghost use Rattle.std.specs.Prelude.{◌≡◌};
 ghost use Rattle.paraid_config.specs.Keys.{key_name, low_of, high_of, is_known as is_known_name};
 
 /// A key of a configuration. The values of the keys are tested in this order.
-#[derive(Clone, Copy, Debug, PartialEq, Eq)]
+#[derive(Clone, Copy, PartialEq, Eq)]
 pub enum Key {
     Disks,
     Rows,
@@ -86,6 +86,7 @@ impl Key {
 }
 
 /// Whether a name is that of a key.
+#[tactic(auto, unfolding(crate::specs::Keys::is_known))]
 pub(crate) fn is_known(name: &str) -> bool
     ensures { result ≡ is_known_name name.now }
 {

@@ -15,3 +15,5 @@ pub mod AskedLemmas
 pub mod CountedLemmas
 pub mod CheckLemmas
 pub mod CountLemmas
+pub mod SettledLemmas
+pub mod BeginLemmas

@@ -9,7 +9,7 @@ use Rattle.paraid_session.specs.Turn.{Point}
 use Rattle.paraid_session.proofs.MountLemmas.{IsMountedFromEach-follows}
 use Rattle.paraid_event.specs.Service.{service_of}
 use Rattle.paraid_event.specs.Stands.{StandsAt}
-use Rattle.paraid_service.specs.Begun.{StandsBegun}
+use Rattle.paraid_controller.specs.Begun.{StandsBegun}
 use Rattle.paraid_controller.specs.declared.array.Array.{Array}
 use Rattle.paraid_controller.specs.Arrays.{ArrayStandsAt, told_of_array}
 

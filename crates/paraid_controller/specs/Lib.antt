@@ -4,3 +4,4 @@ pub mod Arrays
 pub mod Used
 pub mod Laws
 pub mod Checked
+pub mod Begun

@@ -2,6 +2,7 @@
 #![tactic(auto)]
 
 mod array;
+mod begin;
 mod checking;
 mod counting;
 mod disks;

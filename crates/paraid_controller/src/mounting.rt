@@ -3,15 +3,15 @@ ghost use Rattle.std.specs.Prelude.{◌≡◌, ℕ, ◌≤◌, None, Some, IfErr
 ghost use Rattle.paraid_rack.specs.Trail.{Trail, moments};
 ghost use Rattle.paraid_recover.specs.HeldMoments.{Extends};
 ghost use Rattle.paraid_recover.specs.Mount.{IsCauseOfRefusal};
-ghost use Rattle.paraid_service.specs.Begun.{IsMountedCore};
+ghost use Rattle.paraid_controller.specs.Begun.{IsMountedCore};
 ghost use Rattle.paraid_session.specs.Mount.{IsMountedFromEach, IsRefusedFromEach};
 ghost use Rattle.paraid_startup.specs.Refusals.{refusal_by_fault};
 ghost use Rattle.paraid_controller.specs.Arrays.{ArrayStandsAt, HasNothingStaged, core_of_array, halt_of_array, meta_of_array, setup_of_array, slot_of_array, slots_of_array, told_of_array};
 
 use crate::Array;
+use crate::begin::{Begun, mount_core};
 use paraid_rack::Rack;
 use paraid_recover::MountRefused;
-use paraid_service::{Begun, mount_core};
 use std::alloc::Global;
 
 /// Mounts an array. All memory that it ever needs is taken here, before the first write.

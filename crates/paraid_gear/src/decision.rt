@@ -1,5 +1,5 @@
 /// What the samples ask for.
-#[derive(Clone, Copy, Debug, PartialEq, Eq)]
+#[derive(Clone, Copy, PartialEq, Eq)]
 pub enum Decision {
     /// To stay in this gear.
     Stay,

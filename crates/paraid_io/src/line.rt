@@ -1,5 +1,5 @@
 /// What a reader of lines gives.
-#[derive(Clone, Copy, Debug, PartialEq, Eq)]
+#[derive(Clone, Copy, PartialEq, Eq)]
 pub enum Line {
     /// A line of so many bytes, at most 1,100, which the reader holds. Its newline is not counted.
     Whole { length: usize },
@@ -10,7 +10,7 @@ pub enum Line {
 }
 
 /// Why there is no further line though the input has not ended.
-#[derive(Clone, Copy, Debug, PartialEq, Eq)]
+#[derive(Clone, Copy, PartialEq, Eq)]
 pub enum LineFault {
     /// A call of the source failed.
     Source,

@@ -13,11 +13,11 @@ use Rattle.paraid_rack.specs.Slots.{Slot}
 use Rattle.paraid_rack.specs.Trail.{Trail, now}
 use Rattle.paraid_record.specs.declared.meta.Meta.{Meta}
 use Rattle.paraid_record.specs.Range.{IsInRange, IsOutInRange}
-use Rattle.paraid_sides.specs.declared.both.Sides.{Sides}
-use Rattle.paraid_sides.specs.declared.hearing.Heard.{Heard}
-use Rattle.paraid_sides.specs.declared.hearing.Heard.TheVariants.{Blank, Bad, Formed}
-use Rattle.paraid_sides.specs.HeardSides.{AreBothLost, IsHeardAt, IsOneLost, gone_pair, side_by}
-use Rattle.paraid_sides.specs.HeardSides.IsOneLost.{none, one}
+use Rattle.paraid_mount.specs.declared.both.Sides.{Sides}
+use Rattle.paraid_mount.specs.declared.hearing.Heard.{Heard}
+use Rattle.paraid_mount.specs.declared.hearing.Heard.TheVariants.{Blank, Bad, Formed}
+use Rattle.paraid_mount.specs.HeardSides.{AreBothLost, IsHeardAt, IsOneLost, gone_pair, side_by}
+use Rattle.paraid_mount.specs.HeardSides.IsOneLost.{none, one}
 use Rattle.paraid_image.specs.Out.{IsDouble, IsMissing, is_out, named_out}
 use Rattle.paraid_image.specs.Sides.{Batch, LogState, Side}
 use Rattle.paraid_image.specs.Sides.Side.{formed}

@@ -7,10 +7,10 @@ use Rattle.paraid_rack.specs.Slots.{Slot}
 use Rattle.paraid_rack.specs.Trail.{Trail, now}
 use Rattle.paraid_record.specs.declared.meta.Meta.{Meta}
 use Rattle.paraid_record.specs.Range.{IsInRange}
-use Rattle.paraid_sides.specs.declared.both.Sides.{Sides}
-use Rattle.paraid_sides.specs.declared.hearing.Heard.{Heard}
-use Rattle.paraid_sides.specs.declared.hearing.Heard.TheVariants.{Blank, Bad, Formed}
-use Rattle.paraid_sides.specs.HeardSides.{IsHeardAt, IsInForm, side_by}
+use Rattle.paraid_mount.specs.declared.both.Sides.{Sides}
+use Rattle.paraid_mount.specs.declared.hearing.Heard.{Heard}
+use Rattle.paraid_mount.specs.declared.hearing.Heard.TheVariants.{Blank, Bad, Formed}
+use Rattle.paraid_mount.specs.HeardSides.{IsHeardAt, IsInForm, side_by}
 use Rattle.paraid_image.specs.Out.{is_out}
 use Rattle.paraid_image.specs.Sides.{Batch, IsSide, LogState, Says, Side}
 use Rattle.paraid_image.specs.Sides.Side.{absent, blank, bad, formed}

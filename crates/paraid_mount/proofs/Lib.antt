@@ -1,3 +1,8 @@
+pub mod UnchangedLemmas
+pub mod HeardLemmas
+pub mod BodyLemmas
+pub mod BothLemmas
+pub mod FailedLemmas
 pub mod WearLemmas
 mod AlikeLemmas
 mod CauseLemmas

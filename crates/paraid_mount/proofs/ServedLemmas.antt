@@ -16,9 +16,9 @@ use Rattle.paraid_record.specs.declared.meta.Meta.{Meta}
 use Rattle.paraid_record.specs.declared.targets.Target.{Target}
 use Rattle.paraid_record.specs.Range.{IsInRange}
 use Rattle.paraid_record.specs.Targets.{AreTargets, IsTargetInRange, no_target}
-use Rattle.paraid_sides.specs.declared.hearing.Heard.{Heard}
-use Rattle.paraid_sides.specs.declared.hearing.Heard.TheVariants.{Blank, Bad, Formed}
-use Rattle.paraid_sides.specs.HeardSides.{IsHeardBy, IsInForm, side_by}
+use Rattle.paraid_mount.specs.declared.hearing.Heard.{Heard}
+use Rattle.paraid_mount.specs.declared.hearing.Heard.TheVariants.{Blank, Bad, Formed}
+use Rattle.paraid_mount.specs.HeardSides.{IsHeardBy, IsInForm, side_by}
 use Rattle.paraid_image.specs.Out.{is_out, named_out}
 use Rattle.paraid_image.specs.Sides.{Batch, LogState, targets}
 use Rattle.paraid_image.specs.Sides.Side.{formed}

@@ -1,8 +1,8 @@
 -- The least log disk at fault.
 use Rattle.std.specs.Prelude.{◌≡◌, ◌≢◌, ℕ, ◌<◌, Bool, Option, Some}
 use Rattle.std.proofs.Common.{sym, ◌∙◌}
-use Rattle.paraid_sides.specs.declared.both.Sides.{Sides}
-use Rattle.paraid_sides.specs.Faults.{IsFaulty, side_at}
+use Rattle.paraid_mount.specs.declared.both.Sides.{Sides}
+use Rattle.paraid_mount.specs.Faults.{IsFaulty, side_at}
 use Rattle.paraid_mount.specs.Said.{IsFaultless, IsLeastAtFault, standing_out}
 
 pub least_at_fault : (sides : Sides) (gate : Bool) (out : Option ℕ) (x : ℕ) → out ≡ standing_out sides

@@ -31,10 +31,10 @@ use Rattle.paraid_image.proofs.CallLemmas.{decide_some}
 use Rattle.paraid_image.proofs.OutLemmas.{out_present, says_in_range}
 use Rattle.paraid_image.proofs.SidesLemmas.{Says-same, blank_says_nothing}
 use Rattle.paraid_image.proofs.StandingLemmas.{Stands-same}
-use Rattle.paraid_sides.specs.declared.hearing.Heard.{Heard}
-use Rattle.paraid_sides.specs.declared.hearing.Heard.TheVariants.{Blank, Bad, Formed}
-use Rattle.paraid_sides.specs.Faults.{IsFaulty, IsSilent, side_at}
-use Rattle.paraid_sides.specs.HeardSides.{AreBothLost, IsHeardAt, side_by}
+use Rattle.paraid_mount.specs.declared.hearing.Heard.{Heard}
+use Rattle.paraid_mount.specs.declared.hearing.Heard.TheVariants.{Blank, Bad, Formed}
+use Rattle.paraid_mount.specs.Faults.{IsFaulty, IsSilent, side_at}
+use Rattle.paraid_mount.specs.HeardSides.{AreBothLost, IsHeardAt, side_by}
 use Rattle.paraid_txn.specs.Batches.{names_disk}
 use Rattle.paraid_mount.specs.declared.fault.MountFault.{MountFault}
 use Rattle.paraid_mount.specs.declared.fault.MountFault.TheVariants.{NotFormatted, BadLog, BadMeta, Size, Power, Two as BothMissing, Worn, NoMemory}

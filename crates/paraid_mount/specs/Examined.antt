@@ -4,8 +4,8 @@ use Rattle.std.proofs.Common.{zero, suc}
 use Rattle.paraid_base.specs.declared.fault.Two.{Two}
 use Rattle.paraid_rack.specs.Slots.{Slot, AreSameSlots}
 use Rattle.paraid_rack.specs.Trail.{Trail, now}
-use Rattle.paraid_sides.specs.declared.both.Sides.{Sides}
-use Rattle.paraid_sides.specs.HeardSides.{AreBothLost, IsHeardAt, IsHeardBy, IsInForm, IsOneLost, side_by}
+use Rattle.paraid_mount.specs.declared.both.Sides.{Sides}
+use Rattle.paraid_mount.specs.HeardSides.{AreBothLost, IsHeardAt, IsHeardBy, IsInForm, IsOneLost, side_by}
 use Rattle.paraid_image.specs.Out.{named_out}
 use Rattle.paraid_image.specs.Sides.{Batch, LogState, Side}
 use Rattle.paraid_image.specs.Sides.Side.{formed}

@@ -1,3 +1,5 @@
+pub mod HeardSides
+pub mod Faults
 pub mod Refusals
 pub mod Order
 pub mod Said

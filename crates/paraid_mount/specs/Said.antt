@@ -2,11 +2,11 @@
 use Rattle.std.specs.Prelude.{◌≢◌, ℕ, ◌<◌, Bool, true, false, [], Option, Some, None}
 use Rattle.paraid_image.specs.Out.{named_out}
 use Rattle.paraid_image.specs.Standing.{standing}
-use Rattle.paraid_sides.specs.declared.both.Sides.{Sides}
-use Rattle.paraid_sides.specs.declared.hearing.Heard.{Heard}
-use Rattle.paraid_sides.specs.declared.hearing.Heard.TheVariants.{Blank, Bad, Formed}
-use Rattle.paraid_sides.specs.Faults.{IsFaulty, IsSilent, side_at}
-use Rattle.paraid_sides.specs.HeardSides.{side_by}
+use Rattle.paraid_mount.specs.declared.both.Sides.{Sides}
+use Rattle.paraid_mount.specs.declared.hearing.Heard.{Heard}
+use Rattle.paraid_mount.specs.declared.hearing.Heard.TheVariants.{Blank, Bad, Formed}
+use Rattle.paraid_mount.specs.Faults.{IsFaulty, IsSilent, side_at}
+use Rattle.paraid_mount.specs.HeardSides.{side_by}
 use Rattle.paraid_mount.specs.declared.fault.MountFault.{MountFault}
 use Rattle.paraid_mount.specs.declared.fault.MountFault.TheVariants.{NotFormatted, BadLog, BadMeta, Size, Power, Two as BothMissing, Worn, NoMemory}
 

@@ -10,7 +10,7 @@ ghost use Rattle.paraid_image.specs.Standing.{Stands};
 ghost use Rattle.paraid_mount.specs.Examined.{AreReadable, IsExamined, IsRefused, IsRefusedAsHeard, IsRefusedBySlots, IsServedAsHeard, is_log_parked as is_log_parked_of, logs_of};
 ghost use Rattle.paraid_mount.specs.declared.fault.MountFault.TheVariants.{Worn};
 ghost use Rattle.paraid_mount.specs.Refusals.{meta_wear};
-ghost use Rattle.paraid_sides.specs.HeardSides.{AtMost, IsInForm, IsReadLosing, IsReadOnly, ReadsLogs};
+ghost use Rattle.paraid_mount.specs.HeardSides.{AtMost, IsInForm, IsReadLosing, IsReadOnly, ReadsLogs};
 ghost use Rattle.paraid_txn.specs.Losses.{AreFailedOrWell, OnlyLosesSlots};
 ghost use Rattle.paraid_txn.specs.Resume.{CanResume, log_state as said_by};
 ghost use Rattle.paraid_txn.specs.Uses.{EachCall};
@@ -18,9 +18,9 @@ ghost use Rattle.paraid_txn.specs.Uses.{EachCall};
 use crate::fault::MountFault;
 use crate::refusal::refusal_by;
 use crate::standing::{Standing, stand};
+use crate::{Sides, hear_both};
 use paraid_base::DiskNo;
 use paraid_rack::{Power, Rack};
-use paraid_sides::{Sides, hear_both};
 use paraid_txn::Batch;
 
 // Whether there is a log disk in the slot that is parked.

@@ -3,8 +3,8 @@ ghost use Rattle.std.specs.Prelude.{◌≡◌, ◌<◌, ◌≤◌, ℕ, MatchOpt
 ghost use Rattle.paraid_mount.specs.Said.{AreSidesFormed, IsRefusedBySides, out_by, said_out as said_out_of, standing_out as standing_out_of};
 
 use crate::fault::MountFault;
+use crate::{Heard, Sides, choose, first_faulty, is_unformatted};
 use paraid_base::DiskNo;
-use paraid_sides::{Heard, Sides, choose, first_faulty, is_unformatted};
 
 // The disk that the meta of a side names out.
 fn said_out(side: Option<Heard>) -> Option<DiskNo>

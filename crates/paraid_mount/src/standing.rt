@@ -4,16 +4,16 @@ ghost use Rattle.paraid_image.specs.Sides.{Batch as BatchValue};
 ghost use Rattle.paraid_mount.specs.Examined.{AreAtOdds, IsAgreed, IsRefusedByLogs, IsStanding, batch_at, logs_of};
 ghost use Rattle.paraid_mount.specs.Said.{AreSidesFormed};
 ghost use Rattle.paraid_record.specs.declared.meta.Meta.{Meta as MetaType};
-ghost use Rattle.paraid_sides.specs.declared.hearing.Heard.TheVariants.{Formed};
-ghost use Rattle.paraid_sides.specs.HeardSides.{IsInForm};
+ghost use Rattle.paraid_mount.specs.declared.hearing.Heard.TheVariants.{Formed};
+ghost use Rattle.paraid_mount.specs.HeardSides.{IsInForm};
 ghost use Rattle.paraid_txn.specs.Resume.{log_state as said_by};
 
 use crate::alike::{is_same_batch, is_same_meta};
 use crate::fault::MountFault;
 use crate::sides::{refusal_by_sides, standing_out};
+use crate::{Heard, Sides, choose};
 use paraid_base::DiskNo;
 use paraid_record::Meta;
-use paraid_sides::{Heard, Sides, choose};
 use paraid_txn::Batch;
 use std::mem::swap;
 

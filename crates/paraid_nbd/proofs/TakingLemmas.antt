@@ -54,3 +54,6 @@ pub length-put_mid : (a k : ℕ) (xs ys : List ℕ) → length ys ≡ k → a + 
 length-put_mid a k xs ys many within =
     let e : length (take a xs) ≡ a = length-take-le a xs (omega arith) in
     omega (arith, many, e, length-append (take a xs) (ys ++ drop k (drop a xs)), length-append ys (drop k (drop a xs)), length-drop k (drop a xs), length-drop a xs)
+
+pub Lacks-of : {a b : Option (List ℕ)} {i j f h : ℕ} {e : NbdEnd} (m n : ℕ) → m ≡ n → Lacks a b i j m f h e → Lacks a b i j n f h e
+Lacks-of m n is l = record { got = l.got; takes = l.takes; few = omega (arith, is, l.few); cause = l.cause }

@@ -1,5 +1,5 @@
 /// How a service ended.
-#[derive(Clone, Copy, Debug, PartialEq, Eq)]
+#[derive(Clone, Copy, PartialEq, Eq)]
 pub enum NbdEnd {
     /// The client disconnected.
     Done,

@@ -36,7 +36,7 @@ const UNSUPPORTED: u32 = 0x8000_0001;
 const MAX_CHOICE: usize = 8192;
 
 /// What an option asks for.
-#[derive(Clone, Copy, Debug, PartialEq, Eq)]
+#[derive(Clone, Copy, PartialEq, Eq)]
 pub enum OptionKind {
     /// Serve this export, in the old way.
     Export,
@@ -117,7 +117,6 @@ fn greet<K: Sink>(sink: &mut K) -> Result<(), NbdEnd>
 }
 
 // Takes the client's flags, and says whether it wants no zeros.
-#[tactic(auto, unfolding(crate::specs::Numbers::number))]
 fn take_flags<S: Source>(source: &mut S, input: &mut Input) -> Result<bool, NbdEnd>
     ensures flags { IfOk result (λ no_zeros. TakesFlags (S.left source.old) (S.left source.new)
         input.old.taken input.new.taken no_zeros) }
@@ -201,7 +200,6 @@ fn is_choosing(kind: OptionKind) -> bool
 }
 
 // Takes the content of an option that names an export. Its length stands at this place.
-#[tactic(auto, unfolding(crate::specs::Numbers::number))]
 fn take_choice<S: Source>(
     source: &mut S,
     input: &mut Input,

@@ -22,3 +22,4 @@ pub mod FilledCopyLemmas
 pub mod WrittenBitsLemmas
 pub mod RowBitsLemmas
 pub mod GrowthLemmas
+pub mod RoomLemmas

@@ -14,7 +14,7 @@ use paraid_base::{Block, DiskNo, Place, Row};
 use paraid_record::Meta;
 
 /// A disk was lost while the plan was made, and what is staged in it is to be dropped.
-#[derive(Clone, Copy, Debug)]
+#[derive(Clone, Copy)]
 pub struct Lost;
 
 /// A plan of at most 80 targets, over blocks that are read with all that is staged laid over.

@@ -1,21 +1,21 @@
 -- From what a format has done to how it comes out.
 use Rattle.std.proofs.Common.{◌≡◌, ℕ, ◌⊎◌, Bool, List, length, Option, inl, inr}
 use Rattle.paraid_base.specs.Told.{HasRisen}
-use Rattle.paraid_console.specs.Ending.{EndsWithLine}
-use Rattle.paraid_formatter.specs.Outcome.{FormatOutcome, Formats}
-use Rattle.paraid_formatter.specs.Outcome.FormatOutcome.{already as for_claim, config as for_config, disk as for_disk, done as made, no_memory as for_memory, source as for_source}
+use Rattle.paraid_serve.specs.Ending.{EndsWithLine}
+use Rattle.paraid_commands.specs.Outcome.{FormatOutcome, Formats}
+use Rattle.paraid_commands.specs.Outcome.FormatOutcome.{already as for_claim, config as for_config, disk as for_disk, done as made, no_memory as for_memory, source as for_source}
 use Rattle.paraid_rack.specs.Slots.{Slot}
 use Rattle.paraid_rack.specs.Trail.{Trail}
-use Rattle.paraid_top.specs.Complete.Completes.{hindered, no_memory, whole}
-use Rattle.paraid_top.proofs.CompleteLemmas.{told_whole}
-use Rattle.paraid_program.specs.Complete.{CompletesTask}
+use Rattle.paraid_commands.specs.Complete.Completes.{hindered, no_memory, whole}
+use Rattle.paraid_commands.proofs.CompleteLemmas.{told_whole}
+use Rattle.paraid_program.specs.Complete.{CompletesCommand}
 use Rattle.paraid_program.specs.Complete.HindersFormat.{claimed, config, disk, few, sink, source}
-use Rattle.paraid_program.specs.declared.words.Task.TheVariants.{Format}
+use Rattle.paraid_commands.specs.declared.command.Command.TheVariants.{Format}
 
 module _ (slots : ℕ) (old new : ℕ → Slot) (before after : Option Trail) (lb l : Option (List ℕ)) (faults_before faults counted count : ℕ) (wb w : Option (List ℕ)) (status : ℕ)
     (heard : status ≡ 3 → HasRisen faults_before faults) (sunk : status ≡ 4 → HasRisen counted count) where
   abbrev FormatComes : Bool → Type 0
-  FormatComes force = CompletesTask slots old new before after lb l faults_before faults counted count wb w status (Format force)
+  FormatComes force = CompletesCommand slots old new before after lb l faults_before faults counted count wb w status (Format force)
 
   format_by : (force : Bool) (code : ℕ) (line : List ℕ) → FormatOutcome force slots old new before after lb l faults_before faults code line → (e : EndsWithLine wb w line code status)
       → (status ≡ 4) ⊎ ((e.count ≡ length line) × (status ≡ code)) → FormatComes force

@@ -1,14 +1,14 @@
 -- How a run ends well, and which status a mount that is refused does not have.
 use Rattle.std.proofs.Common.{◌≡◌, ℕ, ◌⊎◌, List, length, Option, inl, inr, arith}
 use Rattle.paraid_base.specs.Told.{AtEnd}
-use Rattle.paraid_console.specs.Ending.{EndsWithLine}
+use Rattle.paraid_serve.specs.Ending.{EndsWithLine}
 use Rattle.paraid_mount.specs.declared.fault.MountFault.{MountFault}
 use Rattle.paraid_mount.specs.declared.fault.MountFault.TheVariants.{NotFormatted, BadLog, BadMeta, Size, Power, Two as TwoDown, Worn, NoMemory}
 use Rattle.paraid_rack.specs.Slots.{Slot}
 use Rattle.paraid_rack.specs.Trail.{Trail}
-use Rattle.paraid_state.specs.MountFaults.{mount_fault_status}
-use Rattle.paraid_top.specs.Ends.{IsStatusOfCheck, IsStatusOfGen, MountsAndThen, ServesLines}
-use Rattle.paraid_top.specs.Ends.MountsAndThen.{mounted, refused}
+use Rattle.paraid_commands.specs.MountFaults.{mount_fault_status}
+use Rattle.paraid_commands.specs.Ends.{IsStatusOfCheck, IsStatusOfGen, MountsAndThen, ServesLines}
+use Rattle.paraid_commands.specs.Ends.MountsAndThen.{mounted, refused}
 
 not_done : (fault : MountFault) (status : ℕ) → status ≡ mount_fault_status fault → status ≡ 0 → ⊥
 not_done NotFormatted status is zero = omega (arith, is, zero)

@@ -4,19 +4,19 @@ use Rattle.paraid_base.specs.Told.{HasRisen}
 use Rattle.paraid_config.specs.declared.fault.ConfigFault.{ConfigFault}
 use Rattle.paraid_config.specs.declared.fault.ConfigFault.TheVariants.{NoMemory}
 use Rattle.paraid_format.specs.Found.{IsGreatest}
-use Rattle.paraid_formatter.specs.Lines.{formatted_line}
-use Rattle.paraid_formatter.specs.Outcome.{IsArrayMade, IsUntouched}
-use Rattle.paraid_formatter.specs.Reading.{IsConfigured, IsUnread}
-use Rattle.paraid_formatter.specs.declared.refusal.Refusal.TheVariants.{Config}
+use Rattle.paraid_commands.specs.Lines.{formatted_line}
+use Rattle.paraid_commands.specs.Outcome.{IsArrayMade, IsUntouched}
+use Rattle.paraid_commands.specs.Reading.{IsConfigured, IsUnread}
+use Rattle.paraid_commands.specs.declared.refusal.Refusal.TheVariants.{Config}
 use Rattle.paraid_rack.specs.Calls.{AreReads}
 use Rattle.paraid_rack.specs.Slots.{Slot}
 use Rattle.paraid_rack.specs.Told.{Ran}
 use Rattle.paraid_rack.specs.Trail.{Trail}
 use Rattle.paraid_record.specs.declared.meta.Setup.{Setup}
 use Rattle.paraid_recover.specs.Mount.{HasOnlyRead}
-use Rattle.paraid_top.specs.Complete.{Completes, HeldHistory, Hinders, HindersRun, IsCheckWhole, IsGenWhole, IsRunWhole, IsStatusWhole, TellsLast}
-use Rattle.paraid_program.specs.declared.words.Task.{Task}
-use Rattle.paraid_program.specs.declared.words.Task.TheVariants.{Format, Run, Status, Check, Gen}
+use Rattle.paraid_commands.specs.Complete.{Completes, HeldHistory, Hinders, HindersRun, IsCheckWhole, IsGenWhole, IsRunWhole, IsStatusWhole, TellsLast}
+use Rattle.paraid_commands.specs.declared.command.Command.{Command}
+use Rattle.paraid_commands.specs.declared.command.Command.TheVariants.{Format, Run, Status, Check, Gen}
 
 -- The array that the source describes was made, and its line was told.
 pub record IsFormatWhole (force : Bool) (slots : ℕ) (old new : ℕ → Slot) (before after : Option Trail) (left_before left written_before written : Option (List ℕ)) : Type 0 where
@@ -45,19 +45,19 @@ pub data HindersFormat (force : Bool) (slots : ℕ) (old new : ℕ → Slot) (be
       → HindersFormat force slots old new before after left_before left faults_before faults counted count status
 
 -- How a task comes out. A format does so whatever the rack held, and the others where it told its calls and held a history.
-abbrev pub CompletesTask : ℕ → (ℕ → Slot) → (ℕ → Slot) → Option Trail → Option Trail → Option (List ℕ) → Option (List ℕ) → ℕ → ℕ → ℕ → ℕ → Option (List ℕ) → Option (List ℕ) → ℕ → Task → Type 0
-CompletesTask slots old new before after left_before left faults_before faults counted count written_before written status (Format force) =
+abbrev pub CompletesCommand : ℕ → (ℕ → Slot) → (ℕ → Slot) → Option Trail → Option Trail → Option (List ℕ) → Option (List ℕ) → ℕ → ℕ → ℕ → ℕ → Option (List ℕ) → Option (List ℕ) → ℕ → Command → Type 0
+CompletesCommand slots old new before after left_before left faults_before faults counted count written_before written status (Format force) =
     Completes (IsFormatWhole force slots old new before after left_before left written_before written) (IsUntouched old new before after)
     (HindersFormat force slots old new before after left_before left faults_before faults counted count status) status
-CompletesTask slots old new before after left_before left faults_before faults counted count written_before written status Run =
+CompletesCommand slots old new before after left_before left faults_before faults counted count written_before written status Run =
     (h : HeldHistory slots before after) → Completes (IsRunWhole left written_before written) (HasOnlyRead before after)
     (HindersRun h old new faults_before faults counted count left_before left written_before written status) status
-CompletesTask slots old new before after left_before left faults_before faults counted count written_before written status Status =
+CompletesCommand slots old new before after left_before left faults_before faults counted count written_before written status Status =
     (h : HeldHistory slots before after) → Completes (IsStatusWhole written_before written) (HasOnlyRead before after)
     (Hinders h old new counted count written_before written status) status
-CompletesTask slots old new before after left_before left faults_before faults counted count written_before written status Check =
+CompletesCommand slots old new before after left_before left faults_before faults counted count written_before written status Check =
     (h : HeldHistory slots before after) → Completes (IsCheckWhole written_before written) (HasOnlyRead before after)
     (Hinders h old new counted count written_before written status) status
-CompletesTask slots old new before after left_before left faults_before faults counted count written_before written status (Gen number lines) =
+CompletesCommand slots old new before after left_before left faults_before faults counted count written_before written status (Gen number lines) =
     (h : HeldHistory slots before after) → Completes (IsGenWhole written_before written) (HasOnlyRead before after)
     (Hinders h old new counted count written_before written status) status

@@ -1,15 +1,12 @@
 //! The arrays with gears that the program makes of a rack.
 ghost use Rattle.paraid_controller.specs.Arrays.{HasNothingStaged, dirty_of_array, meta_of_array, slot_of_array};
-ghost use Rattle.paraid_formatter.specs.Outcome.{Formats};
 
 use paraid_base::Halt;
+use paraid_commands::outside::Outside;
 use paraid_controller::{Array, mount_array};
-use paraid_formatter::format_array;
-use paraid_io::{Sink, Source};
 use paraid_rack::Rack;
 use paraid_recover::MountRefused;
 use paraid_scrub::CheckReport;
-use paraid_top::outside::{Ended, Outside};
 use std::alloc::Global;
 
 /// What mounts an array with gears, by this allocator. After a mount it takes no memory.
@@ -25,8 +22,6 @@ impl Arrays {
 }
 
 impl<R: Rack> Outside<R, Array<R>> for Arrays {
-    ghost formats = { λ arrays. Formats };
-
     ghost served = { λ array. record {
       meta = meta_of_array array;
       dirty = dirty_of_array array;
@@ -48,17 +43,5 @@ impl<R: Rack> Outside<R, Array<R>> for Arrays {
 
     fn unmount(&self, array: Array<R>) -> R {
         array.close()
-    }
-
-    fn format<S: Source, K: Sink>(
-        &self,
-        force: bool,
-        source: &mut S,
-        sink: &mut K,
-        rack: R,
-    ) -> Ended<R> {
-        let mut rack = rack;
-        let status = format_array(self.alloc, force, source, sink, &mut rack);
-        Ended { status, rack }
     }
 }

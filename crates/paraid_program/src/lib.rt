@@ -7,9 +7,7 @@
 
 mod arrays;
 mod top;
-mod words;
 
 pub use arrays::Arrays;
-pub use paraid_top::outside::Ended;
+pub use paraid_commands::outside::Ended;
 pub use top::paraid;
-pub use words::{Task, read_task};

@@ -1,26 +1,21 @@
 ghost use Rattle.std.specs.Prelude.{◌≡◌, ◌≤◌, map, string_bytes};
 ghost use Rattle.paraid_base.specs.Told.{AtEnd, HasRisen};
-ghost use Rattle.paraid_console.specs.Ending.{EndsWithLine};
-ghost use Rattle.paraid_formatter.specs.Outcome.{Formats, IsFormatStatus};
-ghost use Rattle.paraid_state.specs.Showing.{IsShowStatus, Shows};
-ghost use Rattle.paraid_top.specs.Ends.{ChecksArray, IsStatusOfCheck, IsStatusOfGen, IsStatusOfRun, MountsAndThen, ServesGenerated, ServesLines};
-ghost use Rattle.paraid_words.specs.Words.{AskFor};
-ghost use Rattle.paraid_program.specs.Complete.{CompletesTask};
-ghost use Rattle.paraid_program.specs.Ends.{DoesTask, usage};
-ghost use Rattle.paraid_program.specs.declared.words.Task.{Task as TaskType};
-ghost use Rattle.paraid_program.specs.Tasks.{TakesSource, task_command};
+ghost use Rattle.paraid_serve.specs.Ending.{EndsWithLine};
+ghost use Rattle.paraid_commands.specs.Outcome.{Formats, IsFormatStatus};
+ghost use Rattle.paraid_commands.specs.Ends.{ChecksArray, IsStatusOfCheck, IsStatusOfGen, IsStatusOfRun, MountsAndThen, ServesGenerated, ServesLines};
+ghost use Rattle.paraid_commands.specs.Words.{AskFor, usage_line};
+ghost use Rattle.paraid_program.specs.Complete.{CompletesCommand};
+ghost use Rattle.paraid_program.specs.Ends.{DoesCommand, TakesSource};
+ghost use Rattle.paraid_commands.specs.declared.command.Command.{Command as CommandType};
 
 use crate::arrays::Arrays;
-use crate::words::{Task, read_task};
-use paraid_console::ending::last;
-use paraid_console::status;
+use paraid_commands::outside::Ended;
+use paraid_commands::{Command, format_array, mounted, read_words, show_state};
 use paraid_controller::Array;
-use paraid_formatter::format_array;
 use paraid_io::{Sink, Source};
 use paraid_rack::Rack;
-use paraid_state::{Shown, show_state};
-use paraid_top::outside::Ended;
-use paraid_top::program;
+use paraid_serve::ending::last;
+use paraid_serve::status;
 use std::alloc::Global;
 
 // Makes an array of the disks of the rack.
@@ -62,7 +57,7 @@ fn run<S: Source, K: Sink, R: Rack>(
     ensures sink { result.status ≡ 4 → HasRisen (K.faults sink.old) (K.faults sink.new) }
 {
     let arrays = Arrays::new(alloc);
-    program::run::<S, K, R, Array<R>, Arrays>(&arrays, source, sink, rack)
+    mounted::run::<S, K, R, Array<R>, Arrays>(&arrays, source, sink, rack)
 }
 
 // Mounts one, and answers generated lines.
@@ -82,18 +77,7 @@ fn generate<K: Sink, R: Rack>(
     ensures sink { result.status ≡ 4 → HasRisen (K.faults sink.old) (K.faults sink.new) }
 {
     let arrays = Arrays::new(alloc);
-    program::generate::<K, R, Array<R>, Arrays>(&arrays, sink, rack, number, lines)
-}
-
-// Mounts one, and tells its state.
-fn state<K: Sink, R: Rack>(alloc: Global, sink: &mut K, rack: R) -> Ended<R>
-    ensures shows { Shows (R.slot_count rack) (R.slot rack) (R.slot result.rack) (R.told rack)
-        (R.told result.rack) (K.written sink.old) (K.written sink.new) result.status }
-    ensures status { IsShowStatus result.status }
-    ensures sink { result.status ≡ 4 → HasRisen (K.faults sink.old) (K.faults sink.new) }
-{
-    let Shown { status, rack } = show_state(alloc, sink, rack);
-    Ended { status, rack }
+    mounted::generate::<K, R, Array<R>, Arrays>(&arrays, sink, rack, number, lines)
 }
 
 // Mounts one, and counts what is false.
@@ -106,7 +90,7 @@ fn check<K: Sink, R: Rack>(alloc: Global, sink: &mut K, rack: R) -> Ended<R>
     ensures sink { result.status ≡ 4 → HasRisen (K.faults sink.old) (K.faults sink.new) }
 {
     let arrays = Arrays::new(alloc);
-    program::check::<K, R, Array<R>, Arrays>(&arrays, sink, rack)
+    mounted::check::<K, R, Array<R>, Arrays>(&arrays, sink, rack)
 }
 
 /// The program: it takes the words of the command line, and does what they ask for.
@@ -134,39 +118,39 @@ pub fn paraid<S: Source, K: Sink, R: Rack>(
     sink: &mut K,
     rack: R,
 ) -> Ended<R>
-    ensures does { (t : TaskType) → AskFor (task_command t) (map string_bytes words.now.items)
-        → DoesTask (R.slot_count rack) (R.slot rack) (R.slot result.rack) (R.told rack)
+    ensures does { (c : CommandType) → AskFor c (map string_bytes words.now.items)
+        → DoesCommand (R.slot_count rack) (R.slot rack) (R.slot result.rack) (R.told rack)
         (R.told result.rack) (S.left source.old) (S.left source.new) (S.faults source.old)
-        (S.faults source.new) (K.written sink.old) (K.written sink.new) result.status t }
-    ensures complete { (t : TaskType) → AskFor (task_command t) (map string_bytes words.now.items)
-        → CompletesTask (R.slot_count rack) (R.slot rack) (R.slot result.rack) (R.told rack)
+        (S.faults source.new) (K.written sink.old) (K.written sink.new) result.status c }
+    ensures complete { (c : CommandType) → AskFor c (map string_bytes words.now.items)
+        → CompletesCommand (R.slot_count rack) (R.slot rack) (R.slot result.rack) (R.told rack)
         (R.told result.rack) (S.left source.old) (S.left source.new) (S.faults source.old)
         (S.faults source.new) (K.faults sink.old) (K.faults sink.new) (K.written sink.old)
-        (K.written sink.new) result.status t }
-    ensures end { (t : TaskType) → TakesSource t
-        → AskFor (task_command t) (map string_bytes words.now.items)
+        (K.written sink.new) result.status c }
+    ensures end { (c : CommandType) → TakesSource c
+        → AskFor c (map string_bytes words.now.items)
         → result.status ≡ 0 → AtEnd (S.left source.new) }
-    ensures unread { (t : TaskType) → (TakesSource t → ⊥)
-        → AskFor (task_command t) (map string_bytes words.now.items) → source.new ≡ source.old }
+    ensures unread { (c : CommandType) → (TakesSource c → ⊥)
+        → AskFor c (map string_bytes words.now.items) → source.new ≡ source.old }
 
-    ensures words { ((t : TaskType) → AskFor (task_command t)
+    ensures words { ((c : CommandType) → AskFor c
         (map string_bytes words.now.items) → ⊥)
-        → EndsWithLine (K.written sink.old) (K.written sink.new) usage 2 result.status }
-    ensures untouched { ((t : TaskType) → AskFor (task_command t)
+        → EndsWithLine (K.written sink.old) (K.written sink.new) usage_line 2 result.status }
+    ensures untouched { ((c : CommandType) → AskFor c
         (map string_bytes words.now.items) → ⊥)
         → (result.rack ≡ rack) × (source.new ≡ source.old) }
-    ensures usage { result.status ≡ 2 → (t : TaskType)
-        → AskFor (task_command t) (map string_bytes words.now.items) → ⊥ }
+    ensures usage { result.status ≡ 2 → (c : CommandType)
+        → AskFor c (map string_bytes words.now.items) → ⊥ }
 
     ensures source { result.status ≡ 3 → HasRisen (S.faults source.old) (S.faults source.new) }
     ensures sink { result.status ≡ 4 → HasRisen (K.faults sink.old) (K.faults sink.new) }
 {
-    match read_task(words) {
-        Some(Task::Format { force }) => format(alloc, force, source, sink, rack),
-        Some(Task::Run) => run(alloc, source, sink, rack),
-        Some(Task::Status) => state(alloc, sink, rack),
-        Some(Task::Check) => check(alloc, sink, rack),
-        Some(Task::Gen { number, lines }) => generate(alloc, sink, rack, number, lines),
+    match read_words(words) {
+        Some(Command::Format { force }) => format(alloc, force, source, sink, rack),
+        Some(Command::Run) => run(alloc, source, sink, rack),
+        Some(Command::Status) => show_state(alloc, sink, rack),
+        Some(Command::Check) => check(alloc, sink, rack),
+        Some(Command::Gen { number, lines }) => generate(alloc, sink, rack, number, lines),
         None => Ended {
             status: last(
                 sink,

@@ -5,7 +5,7 @@ ghost use Rattle.paraid_rack.specs.Disks.{is_parked as stands_still, is_present 
 use paraid_base::{Block, DiskNo, Place};
 
 /// How a slot's disk is powered.
-#[derive(Clone, Copy, Debug, PartialEq, Eq)]
+#[derive(Clone, Copy, PartialEq, Eq)]
 pub enum Power {
     /// It can be read and written.
     Spinning,

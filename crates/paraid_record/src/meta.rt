@@ -1,7 +1,7 @@
 use paraid_base::{Geometry, Out, Phase};
 
 /// What a read may do during a shift up.
-#[derive(Clone, Copy, Debug, PartialEq, Eq)]
+#[derive(Clone, Copy, PartialEq, Eq)]
 pub enum Mode {
     /// A read changes nothing.
     Whole,

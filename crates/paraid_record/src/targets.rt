@@ -11,7 +11,7 @@ use crate::reader::Reader;
 use paraid_base::{Block, DiskNo, Geometry, Place};
 
 /// A block of a disk that a batch writes.
-#[derive(Clone, Copy, Debug, PartialEq, Eq)]
+#[derive(Clone, Copy, PartialEq, Eq)]
 pub struct Target {
     pub disk: DiskNo,
     pub place: Place,

@@ -11,7 +11,7 @@ use Rattle.paraid_image.specs.Standing.{Stands}
 use Rattle.paraid_mount.specs.declared.fault.MountFault.{MountFault}
 use Rattle.paraid_mount.specs.declared.fault.MountFault.TheVariants.{NoMemory, Two as BothMissing}
 use Rattle.paraid_mount.specs.Examined.{IsExamined, IsRefused}
-use Rattle.paraid_sides.specs.HeardSides.{IsReadLosing, IsReadOnly, ReadsLogs}
+use Rattle.paraid_mount.specs.HeardSides.{IsReadLosing, IsReadOnly, ReadsLogs}
 use Rattle.paraid_txn.specs.Losses.{AreGoneSince, IsOutOfCommit, AreTwoDownBeside}
 use Rattle.paraid_txn.specs.Uses.{EachCall}
 use Rattle.paraid_recover.specs.EndOfMount.{IsMarkAtEnd, IsMarkAtMoment, KeepsDirty}

@@ -5,7 +5,7 @@ ghost use Rattle.paraid_base.specs.declared.fault.Two.{Two as TwoType};
 ghost use Rattle.paraid_base.specs.Told.{HasRisen};
 ghost use Rattle.paraid_mount.specs.Examined.{IsExamined};
 ghost use Rattle.paraid_rack.specs.Slots.{Slot};
-ghost use Rattle.paraid_sides.specs.HeardSides.{IsReadOnly};
+ghost use Rattle.paraid_mount.specs.HeardSides.{IsReadOnly};
 ghost use Rattle.paraid_mount.specs.declared.fault.MountFault.TheVariants.{Two as BothMissing};
 ghost use Rattle.paraid_txn.specs.Resume.{CanResume, log_state};
 ghost use Rattle.paraid_rack.specs.declared.call.Power.TheVariants.{Absent};

@@ -6,7 +6,7 @@ ghost use Rattle.paraid_schedule.specs.Plan.{Claim};
 use std::marker::Model;
 
 /// Why there is no plan. They are tested in this order, but that want of memory comes last.
-#[derive(Clone, Copy, Debug, PartialEq, Eq)]
+#[derive(Clone, Copy, PartialEq, Eq)]
 pub enum PlanFault {
     /// There is no memory for it.
     NoMemory,

@@ -6,7 +6,7 @@ use Rattle.paraid_base.specs.declared.fault.Halt.{Halt}
 use Rattle.paraid_base.specs.declared.fault.Halt.TheVariants.{Two as HaltTwo, Worn}
 use Rattle.paraid_base.specs.Told.{GrowsByBytes}
 use Rattle.paraid_base.proofs.ToldLemmas.{GrowsByBytes-then}
-use Rattle.paraid_console.specs.Ending.{EndsWithLine, halt_line, status_of_halt}
+use Rattle.paraid_serve.specs.Ending.{EndsWithLine, halt_line, status_of_halt}
 use Rattle.paraid_rack.specs.Slots.{Slot}
 use Rattle.paraid_session.specs.Faults.{HaveNotFallen}
 use Rattle.paraid_session.proofs.FaultLemmas.{counts_then, rose_later, same_counts}

@@ -1,3 +1,4 @@
+pub mod HearLemmas
 pub mod StretchLemmas
 pub mod GrowsLemmas
 pub mod HaltLemmas

@@ -17,7 +17,7 @@ use Rattle.paraid_rack.specs.Trail.{Trail}
 use Rattle.paraid_record.specs.declared.meta.Setup.{Setup}
 use Rattle.paraid_trace.specs.LineEvents.{event_of}
 use Rattle.paraid_trace.specs.Replies.{reply_of}
-use Rattle.paraid_console.specs.Heard.{HearsLine, IsNextLine}
+use Rattle.paraid_serve.specs.Heard.{HearsLine, IsNextLine}
 use Rattle.paraid_serve.specs.Form.{HasAnswers, is_answer_to}
 use Rattle.paraid_serve.specs.Session.{ServesSession}
 use Rattle.paraid_serve.proofs.FormLemmas.{answers_push, no_answers}

@@ -9,7 +9,7 @@ use Rattle.paraid_rack.specs.Trail.{Trail}
 use Rattle.paraid_record.specs.declared.meta.Setup.{Setup}
 use Rattle.paraid_serve.specs.declared.stop.Stop.{Stop}
 use Rattle.paraid_serve.specs.declared.stop.Stop.TheVariants.{Source, TooLong, Sink, Halt as Halts}
-use Rattle.paraid_console.specs.Ending.{EndsWithLine, end_line, halt_line, mount_line, status_of_halt}
+use Rattle.paraid_serve.specs.Ending.{EndsWithLine, end_line, halt_line, mount_line, status_of_halt}
 use Rattle.paraid_serve.specs.Output.{OutputForm, HasForm, IsWholeStatus, OutputText, ProgramRun, WritesOutput, begins_with}
 use Rattle.paraid_serve.specs.Output.OutputText.{done, halted, source, too_long}
 use Rattle.paraid_serve.specs.Output.WritesOutput.{answers, last_line, whole}

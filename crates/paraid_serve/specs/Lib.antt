@@ -1,3 +1,5 @@
+pub mod Heard
+pub mod Ending
 pub mod Calls
 pub mod Stretch
 pub mod Form

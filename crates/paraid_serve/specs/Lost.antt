@@ -6,7 +6,7 @@ use Rattle.paraid_base.specs.declared.fault.Halt.{Halt}
 use Rattle.paraid_base.specs.declared.fault.Halt.TheVariants.{Two as HaltTwo, Worn}
 use Rattle.paraid_base.specs.declared.fault.Two.{Two}
 use Rattle.paraid_base.specs.Told.{GrowsByBytes, HasRisen}
-use Rattle.paraid_console.specs.Ending.{halt_line}
+use Rattle.paraid_serve.specs.Ending.{halt_line}
 use Rattle.paraid_rack.specs.Slots.{Slot}
 use Rattle.paraid_session.specs.Faults.{HaveNotFallen}
 

@@ -5,7 +5,7 @@ use Rattle.paraid_base.specs.declared.event.Event.TheVariants.{Flush}
 use Rattle.paraid_base.specs.declared.fault.Halt.{Halt}
 use Rattle.paraid_base.specs.declared.fault.Halt.TheVariants.{Two as HaltTwo}
 use Rattle.paraid_base.specs.Told.{AtEnd, Gives, GrowsByBytes}
-use Rattle.paraid_console.specs.Ending.{end_line, halt_line, mount_line, status_of_halt}
+use Rattle.paraid_serve.specs.Ending.{end_line, halt_line, mount_line, status_of_halt}
 use Rattle.paraid_io.specs.Lines.{lines_of, whole_lines}
 use Rattle.paraid_rack.specs.Trail.{Trail, now}
 use Rattle.paraid_record.specs.declared.meta.Setup.{Setup}

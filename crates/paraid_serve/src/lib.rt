@@ -2,8 +2,11 @@
 #![tactic(auto)]
 
 pub mod answer;
+pub mod ending;
+pub mod hear;
 pub mod run;
 mod serves;
+pub mod status;
 mod stop;
 pub mod top;
 

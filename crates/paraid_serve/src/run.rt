@@ -5,9 +5,9 @@ ghost use Rattle.paraid_serve.specs.Session.{IsStopByWear, IsStopOfFailed, Serve
 
 use crate::Serves;
 use crate::answer::{answer, finish};
+use crate::hear::hear;
 use crate::stop::Stop;
 use paraid_base::{Block, Pairs};
-use paraid_console::hear::hear;
 use paraid_io::{LineFault, LineReader, Sink, Source, write_all};
 use paraid_trace::{Text, reply};
 

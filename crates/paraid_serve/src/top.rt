@@ -5,12 +5,11 @@ ghost use Rattle.paraid_serve.specs.Calls.{Grows, IsNotDouble};
 ghost use Rattle.paraid_serve.specs.Lost.{NamesTwoLost, TellsWear};
 ghost use Rattle.paraid_serve.specs.Output.{Headline, IsServedStatus, ProgramRun};
 
-use crate::Serves;
+use crate::ending::{end_text, halt_status, last, mount_text};
 use crate::run::session;
 use crate::stop::Stop;
+use crate::{Serves, status};
 use paraid_base::Answer;
-use paraid_console::ending::{end_text, halt_status, last, mount_text};
-use paraid_console::status;
 use paraid_io::{Sink, Source, write_all};
 use paraid_trace::{Text, reply};
 

@@ -33,7 +33,7 @@ use Rattle.paraid_recover.specs.Mounted.{IsServable, with_loss}
 use Rattle.paraid_session.specs.Mount.{IsMountRefused, IsMounted, IsMountedFromEach, IsRefusedFromEach, Refusal, start_watch}
 use Rattle.paraid_session.specs.Mount.Refusal.{no_memory as for_memory}
 use Rattle.paraid_session.specs.Watch.{IsServing, Watch, watch_all}
-use Rattle.paraid_sides.specs.HeardSides.{AmongOne, AmongTwo, ReadsLogs}
+use Rattle.paraid_mount.specs.HeardSides.{AmongOne, AmongTwo, ReadsLogs}
 use Rattle.paraid_startup.specs.First.{IsFirstPoint, first_point}
 use Rattle.paraid_startup.specs.Parts.{AreMountCalls, EndsServed}
 use Rattle.paraid_startup.specs.Refusals.{refusal_by_fault}

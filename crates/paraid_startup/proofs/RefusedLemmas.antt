@@ -30,9 +30,9 @@ use Rattle.paraid_mount.proofs.WearLemmas.{refused_for_wear}
 use Rattle.paraid_session.specs.Mount.{IsBase, IsCauseOutsideDisks, Refusal, lacking, no_memory, start_watch, worn}
 use Rattle.paraid_session.specs.Watch.{Down, IsServing, Watch, watch_all}
 use Rattle.paraid_session.proofs.LayerLemmas.{IsIn}
-use Rattle.paraid_sides.specs.declared.hearing.Heard.{Heard}
-use Rattle.paraid_sides.specs.HeardSides.{IsHeardAt, IsHeardBy, IsOneLost, ReadsLogs}
-use Rattle.paraid_sides.specs.HeardSides.IsOneLost.{none, one}
+use Rattle.paraid_mount.specs.declared.hearing.Heard.{Heard}
+use Rattle.paraid_mount.specs.HeardSides.{IsHeardAt, IsHeardBy, IsOneLost, ReadsLogs}
+use Rattle.paraid_mount.specs.HeardSides.IsOneLost.{none, one}
 use Rattle.paraid_startup.specs.Parts.{EndsRefused}
 use Rattle.paraid_startup.specs.Refusals.{refusal_by_fault}
 use Rattle.paraid_startup.proofs.DownLemmas.{absent_weak, in_absent, in_stays, several_in, weak_in}

@@ -1,7 +1,7 @@
 use paraid_base::{BlockNo, Halt};
 
 /// Why a call on volumes was refused. They are tested in this order.
-#[derive(Clone, Copy, Debug, PartialEq, Eq)]
+#[derive(Clone, Copy, PartialEq, Eq)]
 pub enum VolFault {
     /// A call of the device gave this halt.
     Halt(Halt),

@@ -118,7 +118,7 @@ fn a_read_in_access_mode_brings_a_dirty_cell_back(rt: HostRuntime) {
         let cost = cost_of(alloc, mode, out, Vec::new(alloc), block, twice);
         assert!(rt;
             cost == Some((reads, staged)),
-            "{mode:?} {out:?} block {block}: {cost:?}"
+            "{out:?} block {block} twice {twice}: {cost:?}"
         );
     }
     // the copy's disk fails: the failed read, and the three others of the stripe

@@ -141,7 +141,7 @@ fn a_write_reads_what_changes_its_parities_and_stages_what_it_changes(rt: HostRu
         let cost = cost_of(alloc, gear, out, Vec::new(alloc), &pairs);
         assert!(rt;
             cost == Some((reads, staged, left)),
-            "gear {gear}: {blocks:?} {cost:?}"
+            "gear {gear}: {blocks:?}"
         );
     }
 }
@@ -241,7 +241,7 @@ fn a_write_is_planned_once_more_without_a_disk_that_fails(rt: HostRuntime) {
         let cost = cost_of(alloc, gear, None, plan, &pairs);
         assert!(rt;
             cost == Some((reads, staged, left)),
-            "disk {disk}: {blocks:?} {cost:?}"
+            "disk {disk}: {blocks:?}"
         );
     }
 }
@@ -273,7 +273,7 @@ fn a_second_loss_in_a_write_is_named_and_leaves_nothing_staged(rt: HostRuntime) 
     for (first, second) in [(0, 1), (0, 2), (0, 3)] {
         let answer = second_loss(rt.alloc(), first, second);
         let two = Two { first, second };
-        assert!(rt; answer == Some((two, 0, 0)), "{first} {second}: {answer:?}");
+        assert!(rt; answer == Some((two, 0, 0)), "{first} {second}");
     }
 }
 

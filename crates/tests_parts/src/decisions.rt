@@ -88,54 +88,76 @@ const ALLOWED: [((u16, u16, u32, u64), u16); 10] = [
     ((65535, 65534, 1, u64::MAX), 65535),
 ];
 
+/// Whether disks with these spin-ups may be parked as a row says.
+fn is_parking(allowed: u16, lo: u8, hi: u8, want: Result<(), u8>) -> bool {
+    let spins = [9, 0, 1, 2, 3, 2, 0, 9];
+    lo <= hi && hi <= 8 && may_park(&spins, allowed, lo, hi) == want
+}
+
+/// A burst, one more for each period of ticks, and no more than the ration.
+fn allowed_at(ration: u16, burst: u16, period: u32, ticks: u64) -> u16 {
+    allowance(ration, burst, period.max(1), ticks)
+}
+
 #[test]
 fn spin_ups_are_allowed_by_age(rt: HostRuntime) {
-    let spins = [9, 0, 1, 2, 3, 2, 0, 9];
-    for &(allowed, lo, hi, want) in &PARKING {
-        let found = may_park(&spins, allowed, lo, hi);
-        assert!(rt; found == want, "{allowed} at {lo} to {hi}");
+    for (row, &(allowed, lo, hi, want)) in PARKING.iter().enumerate() {
+        assert!(rt; is_parking(allowed, lo, hi, want), "row {row}");
     }
-    // A burst, one more for each period of ticks, and no more than the ration.
-    for &((ration, burst, period, ticks), want) in &ALLOWED {
-        let period: u32 = period;
-        let found = allowance(ration, burst, period.max(1), ticks);
-        assert!(rt; found == want, "{ration} {burst} {period} at {ticks}");
+    for (row, &((ration, burst, period, ticks), want)) in ALLOWED.iter().enumerate() {
+        let found = allowed_at(ration, burst, period, ticks);
+        assert!(rt; found == want, "row {row}");
     }
 }
 
 // Cells of the greatest table, from the first to the last.
 const CELLS: [(u32, u8); 6] = [(0, 2), (0, 7), (63, 0), (64, 7), (65535, 3), (65535, 7)];
 
-/// The greatest table with these cells dirty.
-fn table_of(alloc: Global, cells: &[(u32, u8)]) -> Option<DirtyTable> {
-    let mut table = DirtyTable::new(alloc, 65536).ok()?;
+/// Makes these cells dirty.
+fn set_all(table: &mut DirtyTable, cells: &[(u32, u8)]) {
     for &(row, disk) in cells {
         if row < table.rows() && disk < 8 {
             table.set(row, disk);
         }
     }
+}
+
+/// Makes them clean.
+fn clear_all(table: &mut DirtyTable, cells: &[(u32, u8)]) {
+    for &(row, disk) in cells {
+        if row < table.rows() && disk < 8 {
+            table.clear(row, disk);
+        }
+    }
+}
+
+/// The greatest table with the cells dirty.
+fn table_of(alloc: Global) -> Option<DirtyTable> {
+    let Ok(mut table) = DirtyTable::new(alloc, 65536) else {
+        return None;
+    };
+    set_all(&mut table, &CELLS);
     Some(table)
 }
 
 /// The next dirty cell of a disk from `lo` to `hi - 1`, from this cell on.
-fn next_of(table: &DirtyTable, from: (u32, u8), lo: u8, hi: u8) -> Option<(u32, u8)> {
-    if from.1 <= 8 && lo <= hi && hi <= 8 {
-        table.next_from(from.0, from.1, lo, hi)
-    } else {
-        None
+fn next_of(table: &DirtyTable, row: u32, disk: u8, lo: u8, hi: u8) -> Option<(u32, u8)> {
+    if disk > 8 || lo > hi || hi > 8 {
+        return None;
     }
+    table.next_from(row, disk, lo, hi)
 }
 
 #[test]
 fn dirty_cells_are_found_in_order(rt: HostRuntime) {
-    let table = table_of(rt.alloc(), &CELLS).expect(&rt, "there is memory");
+    let table = table_of(rt.alloc()).expect(&rt, "there is memory");
     let mut from = (0, 0);
     for &(row, disk) in &CELLS {
-        assert!(rt; next_of(&table, from, 0, 8) == Some((row, disk)));
+        assert!(rt; next_of(&table, from.0, from.1, 0, 8) == Some((row, disk)));
         from = (row, disk.wrapping_add(1));
     }
-    assert!(rt; next_of(&table, from, 0, 8) == None);
-    assert!(rt; next_of(&table, (64, 0), 3, 7) == Some((65535, 3)));
+    assert!(rt; next_of(&table, from.0, from.1, 0, 8) == None);
+    assert!(rt; next_of(&table, 64, 0, 3, 7) == Some((65535, 3)));
 }
 
 fn is_dirty(table: &DirtyTable, row: u32, disk: u8) -> Option<bool> {
@@ -148,16 +170,12 @@ fn is_dirty(table: &DirtyTable, row: u32, disk: u8) -> Option<bool> {
 
 #[test]
 fn dirty_cells_are_counted_and_cleaned(rt: HostRuntime) {
-    let mut table = table_of(rt.alloc(), &CELLS).expect(&rt, "there is memory");
+    let mut table = table_of(rt.alloc()).expect(&rt, "there is memory");
     let counts = (table.count(0, 8), table.count(7, 8), table.count(4, 7));
     assert!(rt; (counts, table.next(7, 8)) == ((6, 3, 0), Some((0, 7))));
     let last = (is_dirty(&table, 65535, 7), is_dirty(&table, 65535, 6));
     assert!(rt; last == (Some(true), Some(false)));
-    for &(row, disk) in &CELLS {
-        if row < table.rows() && disk < 8 {
-            table.clear(row, disk);
-        }
-    }
+    clear_all(&mut table, &CELLS);
     assert!(rt; (table.next(0, 8), table.count(0, 8)) == (None, 0));
 }
 

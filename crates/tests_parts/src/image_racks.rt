@@ -5,7 +5,7 @@ use Step::{Attach, Park, Read, SpinUp, Sync, Write};
 use paraid_base::DiskNo;
 use paraid_imgrack::ImageRack;
 use paraid_rack::{Power, Rack};
-use std::fs::{self, File, Files, OpenOptions};
+use std::fs::{self, File, Files};
 use std::process::Abort;
 
 /// A call of the rack, or what befalls the files of its disk.
@@ -19,7 +19,7 @@ enum Deed {
     /// A new sidecar can be made again.
     Free,
     /// The image is cut to this many bytes.
-    Cut(u64),
+    Cut(usize),
     /// The sidecar gets this text.
     Text(&'static str),
     NoSidecar,
@@ -196,15 +196,19 @@ fn next(disk: DiskNo) -> &'static str {
     }
 }
 
-fn cut<H: Files<File = File>>(host: &H, name: &str, length: u64) -> bool {
-    match OpenOptions::new().write(true).open(host, name) {
-        Ok(file) => file.set_len(length).is_ok(),
-        Err(_) => false,
+/// Whether a file was as long, and is cut.
+fn cut<H: Files + AllocGlobal>(host: &H, name: &str, length: usize) -> bool {
+    let Ok(bytes) = fs::read(host, name) else {
+        return false;
+    };
+    match bytes.get(..length) {
+        Some(first) => fs::write(host, name, first).is_ok(),
+        None => false,
     }
 }
 
 /// Does the deed, and says whether it is done.
-fn act<H: Files<File = File>, R: Rack>(host: &H, rack: &mut R, disk: DiskNo, deed: Deed) -> bool {
+fn act<H: Files + AllocGlobal, R: Rack>(host: &H, rack: &mut R, disk: DiskNo, deed: Deed) -> bool {
     match deed {
         Call(step) => make(rack, disk, step) == DONE,
         Look => true,
@@ -219,26 +223,32 @@ fn act<H: Files<File = File>, R: Rack>(host: &H, rack: &mut R, disk: DiskNo, dee
 
 /// Whether the sidecar of the disk has this text, where none is as an empty one.
 fn has_sidecar<H: Files + AllocGlobal>(host: &H, disk: DiskNo, text: &str) -> bool {
-    match fs::read_to_string(host, sidecar(disk)) {
-        Ok(found) => found.as_str() == text,
+    match fs::read(host, sidecar(disk)) {
+        Ok(found) => found.as_slice() == text.as_bytes(),
         Err(_) => text == "",
     }
 }
 
 fn loaded<H: Files<File = File> + AllocGlobal + Abort>(host: &H) -> ImageRack<&H> {
-    ImageRack::load(host, host.alloc(), 3).expect(host, "there is memory")
+    ImageRack::load(host, host.alloc(), 3)
+        .ok()
+        .expect(host, "there is memory")
+}
+
+/// Whether a row says what its deed has left, and whether it was done.
+fn is_met<H: Files + AllocGlobal, R: Rack>(host: &H, rack: &R, row: &Row, done: bool) -> bool {
+    done == row.2 && told(rack, row.0) == Some(row.3) && has_sidecar(host, row.0, row.4)
 }
 
 /// Does the deeds on one rack, or each on a rack that is loaded for it.
 fn walk<H: Files<File = File> + AllocGlobal + Abort>(host: &H, rows: &[Row], anew: bool) {
     let mut rack = loaded(host);
-    for (at, &(disk, deed, done, want, text)) in rows.iter().enumerate() {
-        assert!(host; act(host, &mut rack, disk, deed) == done, "row {at}");
+    for (at, row) in rows.iter().enumerate() {
+        let done = act(host, &mut rack, row.0, row.1);
         if anew {
             rack = loaded(host);
         }
-        assert!(host; told(&rack, disk) == Some(want), "row {at}");
-        assert!(host; has_sidecar(host, disk, text), "row {at}");
+        assert!(host; is_met(host, &rack, row, done), "row {at}");
     }
 }
 

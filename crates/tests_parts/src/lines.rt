@@ -43,7 +43,7 @@ enum Want {
 }
 
 fn is_part(line: &[u8], input: &[u8], from: usize, to: usize) -> bool {
-    from <= to && to <= input.len() && line == &input[from..to]
+    input.get(from..to) == Some(line)
 }
 
 fn is_answer<S: Source>(reader: &mut LineReader, source: &mut S, input: &[u8], want: Want) -> bool {
@@ -79,12 +79,8 @@ fn add(bytes: &mut Vec<u8>, byte: u8, count: usize) -> bool {
     if byte != b'*' {
         return bytes.push(byte).is_ok();
     }
-    for _ in 0..count {
-        if bytes.push(b'x').is_err() {
-            return false;
-        }
-    }
-    true
+    let length = bytes.len().saturating_add(count);
+    bytes.resize(length, b'x').is_ok()
 }
 
 fn fill(bytes: &mut Vec<u8>, text: &[u8], count: usize) -> bool {
@@ -94,6 +90,10 @@ fn fill(bytes: &mut Vec<u8>, text: &[u8], count: usize) -> bool {
         }
     }
     true
+}
+
+fn copied(alloc: Global, bytes: &[u8]) -> Option<Vec<u8>> {
+    Vec::from_slice(alloc, bytes).ok()
 }
 
 // The text with so many times `x` in the place of each star.
@@ -128,19 +128,33 @@ const INPUTS: [(&[u8], usize, &[Want]); 10] = [
     ),
 ];
 
+// Whether a new reader answers so.
+fn is_read<S: Source>(source: &mut S, input: &[u8], wants: &[Want]) -> bool {
+    are_answers(&mut LineReader::new(), source, input, wants)
+}
+
+fn is_read_failing(alloc: Global, input: &[u8], wants: &[Want]) -> Option<bool> {
+    let mut source = MemSource::new(copied(alloc, input)?, Vec::new(alloc));
+    Some(is_read(&mut source, input, wants))
+}
+
+fn is_read_surely(alloc: Global, input: &[u8], wants: &[Want]) -> Option<bool> {
+    let mut source = SureSource::new(copied(alloc, input)?);
+    Some(is_read(&mut source, input, wants))
+}
+
+fn is_read_slowly(alloc: Global, input: &[u8], wants: &[Want]) -> Option<bool> {
+    let bytes = copied(alloc, input)?;
+    Some(is_read(&mut Dribble { bytes, at: 0 }, input, wants))
+}
+
 // Whether a reader answers so, by a source that can fail, by one that cannot, and byte by byte.
 fn is_cut(alloc: Global, text: &[u8], count: usize, wants: &[Want]) -> Option<[bool; 3]> {
     let input = bytes_of(alloc, text, count)?;
-    let mut failing = MemSource::new(bytes_of(alloc, text, count)?, Vec::new(alloc));
-    let mut sure = SureSource::new(bytes_of(alloc, text, count)?);
-    let mut slow = Dribble {
-        bytes: bytes_of(alloc, text, count)?,
-        at: 0,
-    };
     Some([
-        are_answers(&mut LineReader::new(), &mut failing, &input, wants),
-        are_answers(&mut LineReader::new(), &mut sure, &input, wants),
-        are_answers(&mut LineReader::new(), &mut slow, &input, wants),
+        is_read_failing(alloc, &input, wants)?,
+        is_read_surely(alloc, &input, wants)?,
+        is_read_slowly(alloc, &input, wants)?,
     ])
 }
 
@@ -157,10 +171,15 @@ fn told_twice(fault: LineFault) -> [Want; 3] {
     [Cut(0, 1), Fault(fault), Fault(fault)]
 }
 
+// The numbers of calls.
+fn calls(alloc: Global, numbers: &[u32]) -> Option<Vec<u32>> {
+    Vec::from_slice(alloc, numbers).ok()
+}
+
 // Whether a reader that may take four bytes more takes one line, and then tells that it is full.
 fn is_told_full(alloc: Global) -> Option<bool> {
     let input = b"f\nr 0\n";
-    let mut source = SureSource::new(bytes_of(alloc, input, 0)?);
+    let mut source = SureSource::new(copied(alloc, input)?);
     let mut reader = LineReader::with_taken(MAX_TAKEN - 4);
     let wants = told_twice(LineFault::TooLong {
         bytes: 1099511627776,
@@ -171,10 +190,10 @@ fn is_told_full(alloc: Global) -> Option<bool> {
 // Whether a reader tells each time that the second call of its source failed.
 fn is_told_failed(alloc: Global) -> Option<bool> {
     let input = b"a\nb";
-    let fails = vec![in alloc; 1].ok()?;
-    let mut source = MemSource::new(bytes_of(alloc, input, 0)?, fails);
+    let bytes = copied(alloc, input)?;
+    let mut source = MemSource::new(bytes, calls(alloc, &[1])?);
     let wants = told_twice(LineFault::Source);
-    Some(are_answers(&mut LineReader::new(), &mut source, input, &wants))
+    Some(is_read(&mut source, input, &wants))
 }
 
 #[test]
@@ -185,8 +204,7 @@ fn a_fault_is_answered_again(rt: HostRuntime) {
 
 // A sink of five bytes whose first and third calls fail.
 fn failing_sink(alloc: Global) -> Option<MemSink> {
-    let fails = vec![in alloc; 0, 2].ok()?;
-    MemSink::new(alloc, 5, fails).ok()
+    MemSink::new(alloc, 5, calls(alloc, &[0, 2])?).ok()
 }
 
 // What is written, whether that is done, and what the sink then holds.

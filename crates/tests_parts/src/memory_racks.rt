@@ -22,6 +22,10 @@ const WALK: [(DiskNo, Step); 11] = [
     (1, Read(3, 0)),
 ];
 
+fn plan_of(alloc: Global, first: Planned, second: Planned) -> Option<Vec<Planned>> {
+    Vec::from_slice(alloc, &[first, second]).ok()
+}
+
 fn rack_of(
     alloc: Global,
     slots: u8,
@@ -32,8 +36,7 @@ fn rack_of(
     if slots > 8 {
         return None;
     }
-    let plan = vec![in alloc; first, second].ok()?;
-    MemRack::new(alloc, slots, 4, calls, plan).ok()
+    MemRack::new(alloc, slots, 4, calls, plan_of(alloc, first, second)?).ok()
 }
 
 /// Makes up to eleven calls, and tells how each went.
@@ -155,26 +158,24 @@ fn an_attach_may_be_too_large(rt: HostRuntime) {
 
 /// The rack after a stop, with room for nine calls and no plan; none where there is no such moment.
 fn stop(alloc: Global, rack: &MemRack, moment: u32, pick: Pick) -> Option<MemRack> {
-    if moment <= rack.calls() {
-        rack.stopped(alloc, moment, pick, 9, Vec::new(alloc)).ok()
-    } else {
-        None
+    if moment > rack.calls() {
+        return None;
     }
+    rack.stopped(alloc, moment, pick, 9, Vec::new(alloc)).ok()
 }
 
 /// The same, with one disk lost before any call.
 fn stop_and_lose(alloc: Global, rack: &MemRack, moment: u32, disk: DiskNo) -> Option<MemRack> {
-    if moment <= rack.calls() {
-        let mut stopped = rack
-            .stopped(alloc, moment, Pick::New, 9, Vec::new(alloc))
-            .ok()?;
-        if disk < stopped.slots() {
-            stopped.lose(disk);
-        }
-        Some(stopped)
-    } else {
-        None
+    if moment > rack.calls() {
+        return None;
     }
+    let mut stopped = rack
+        .stopped(alloc, moment, Pick::New, 9, Vec::new(alloc))
+        .ok()?;
+    if disk < stopped.slots() {
+        stopped.lose(disk);
+    }
+    Some(stopped)
 }
 
 /// How the first slots are powered, as letters.
@@ -228,10 +229,14 @@ const WRITES: [(DiskNo, Step); 7] = [
     (0, Write(1, 13)),
 ];
 
+/// What two blocks of a disk hold.
+fn two_blocks(rack: &MemRack, disk: DiskNo, first: Place, second: Place) -> ([u8; 4], [u8; 4]) {
+    (ends(rack, disk, first), ends(rack, disk, second))
+}
+
 /// What block 1 of disk 0 holds after a stop, and block 0, which was never written.
 fn left(alloc: Global, rack: &MemRack, moment: u32, pick: Pick) -> Option<([u8; 4], [u8; 4])> {
-    let stopped = stop(alloc, rack, moment, pick)?;
-    Some((ends(&stopped, 0, 1), ends(&stopped, 0, 0)))
+    Some(two_blocks(&stop(alloc, rack, moment, pick)?, 0, 1, 0))
 }
 
 #[test]
@@ -276,12 +281,9 @@ const POWERED: [(DiskNo, Step); 7] = [
 ];
 
 /// The powers after a stop, and blocks 2 and 3 of disk 1, which has three blocks.
-fn powered(alloc: Global, rack: &MemRack, moment: u32) -> Option<([u8; 4], [[u8; 4]; 2])> {
+fn powered(alloc: Global, rack: &MemRack, moment: u32) -> Option<([u8; 4], ([u8; 4], [u8; 4]))> {
     let stopped = stop(alloc, rack, moment, Pick::New)?;
-    Some((
-        powers(&stopped),
-        [ends(&stopped, 1, 2), ends(&stopped, 1, 3)],
-    ))
+    Some((powers(&stopped), two_blocks(&stopped, 1, 2, 3)))
 }
 
 #[test]
@@ -293,7 +295,7 @@ fn a_stop_keeps_powers(rt: HostRuntime) {
     // Block 2 of disk 1 is loose before call 5, a sync that fails and takes the disk away.
     for &(moment, want, block) in &POWERS {
         let found = powered(alloc, &rack, moment);
-        assert!(rt; found == Some((*want, [block, [238; 4]])), "at {moment}");
+        assert!(rt; found == Some((*want, (block, [238; 4]))), "at {moment}");
     }
 }
 

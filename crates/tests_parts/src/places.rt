@@ -30,9 +30,12 @@ const SIZES: [(Shape, u32, [(u8, u32); 3], u32); 3] = [
     ),
 ];
 
+fn sizes_of(g: &Geometry) -> (u32, u32) {
+    (g.blocks(), g.size())
+}
+
 fn sizes(shape: Shape) -> Option<(u32, u32)> {
-    let g = made(shape)?;
-    Some((g.blocks(), g.size()))
+    Some(sizes_of(&made(shape)?))
 }
 
 fn stripes(shape: Shape, gear: u8) -> Option<u32> {
@@ -69,16 +72,15 @@ const ROWS: [(Shape, Row, (DiskNo, Place, Place)); 6] = [
     (LARGEST, 65535, (0, 65763, 227)),
 ];
 
-fn row_at(shape: Shape, row: Row) -> Option<(DiskNo, Place, Place)> {
-    let g = made(shape)?;
+fn row_in(g: &Geometry, row: Row) -> Option<(DiskNo, Place, Place)> {
     if row >= g.rows() {
         return None;
     }
-    Some((
-        parity_disk(&g, row),
-        hard_place(&g, row),
-        map_place(&g, row),
-    ))
+    Some((parity_disk(g, row), hard_place(g, row), map_place(g, row)))
+}
+
+fn row_at(shape: Shape, row: Row) -> Option<(DiskNo, Place, Place)> {
+    row_in(&made(shape)?, row)
 }
 
 #[test]
@@ -143,12 +145,18 @@ const STRIPES: [(Shape, u8, u32, (DiskNo, Place)); 8] = [
     (LARGEST, 7, 10922, (4, 403275)),
 ];
 
-fn stripe_at(shape: Shape, gear: u8, stripe: u32) -> Option<(DiskNo, Place)> {
-    let g = made(shape)?;
-    if gear >= g.disks() || !g.is_gear(gear) || stripe >= g.stripes(gear) {
+fn stripe_in(g: &Geometry, gear: u8, stripe: u32) -> Option<(DiskNo, Place)> {
+    if gear >= g.disks() || !g.is_gear(gear) {
         return None;
     }
-    Some((soft_parity(&g, gear, stripe), soft_place(&g, gear, stripe)))
+    if stripe >= g.stripes(gear) {
+        return None;
+    }
+    Some((soft_parity(g, gear, stripe), soft_place(g, gear, stripe)))
+}
+
+fn stripe_at(shape: Shape, gear: u8, stripe: u32) -> Option<(DiskNo, Place)> {
+    stripe_in(&made(shape)?, gear, stripe)
 }
 
 #[test]
@@ -176,13 +184,18 @@ const COPIES: [(Shape, u8, (u32, u8), Option<(Row, DiskNo)>, DiskNo); 9] = [
     (LARGEST, 7, (10922, 4), None, 0),
 ];
 
-fn cell_in(shape: Shape, gear: u8, index: (u32, u8)) -> Option<(Row, DiskNo)> {
-    let g = made(shape)?;
-    let (stripe, i) = index;
-    if gear >= g.disks() || !g.is_gear(gear) || stripe >= g.stripes(gear) || i >= gear - 1 {
+fn cell_of(g: &Geometry, gear: u8, stripe: u32, i: u8) -> Option<(Row, DiskNo)> {
+    if gear >= g.disks() || !g.is_gear(gear) {
         return None;
     }
-    cell_at(&g, gear, stripe, i)
+    if stripe >= g.stripes(gear) || i >= gear - 1 {
+        return None;
+    }
+    cell_at(g, gear, stripe, i)
+}
+
+fn cell_in(shape: Shape, gear: u8, index: (u32, u8)) -> Option<(Row, DiskNo)> {
+    cell_of(&made(shape)?, gear, index.0, index.1)
 }
 
 fn copy_of(shape: Shape, gear: u8, cell: (Row, DiskNo)) -> Option<(u32, DiskNo)> {

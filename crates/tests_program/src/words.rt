@@ -2,7 +2,7 @@
 
 use crate::programs::list_of;
 use Command::{Check, Format, Gen, Run, Status};
-use paraid_words::{Command, read_words};
+use paraid_commands::{Command, read_words};
 
 const SEVEN: Option<Command> = Some(Gen {
     number: 7,

@@ -5,7 +5,7 @@ use paraid_memrack::MemRack;
 use std::alloc::Global;
 
 /// What is so between two lines of the trace.
-#[derive(Clone, Copy, Debug)]
+#[derive(Clone, Copy)]
 pub struct State {
     /// How many writes were accepted.
     pub written: u64,

@@ -1,3 +1,4 @@
+use Rattle.std.specs.Prelude.{ℕ, Option}
 use Rattle.std.proofs.Common.{◌≡◌, ◌+◌, ◌∙◌, ap, arith, length, refl, subst, sym, true}
 use Rattle.paraid_record.specs.declared.meta.Setup.{Setup}
 use Rattle.paraid_image.specs.Lost.{TellsLosses}
@@ -13,7 +14,7 @@ use Rattle.paraid_core.proofs.CleanLemmas.{after_first}
 use Rattle.paraid_core.proofs.KindLemmas.{calls_then, transfer_after}
 use Rattle.paraid_core.proofs.LostMarkLemmas.{marks_then}
 use Rattle.paraid_core.proofs.OldNewLemmas.{whole_then_reads}
-use Rattle.paraid_core.proofs.OrderLemmas.{core_tells_then, transfer_bears}
+use Rattle.paraid_core.proofs.OrderLemmas.{core_tells_then, down_is_named, transfer_bears}
 use Rattle.paraid_core.proofs.UnsyncedLemmas.{gone_lost}
 use Rattle.paraid_controller.proofs.CheckLemmas.{counts_by, failed_one}
 use Rattle.paraid_controller.proofs.CountLemmas.{counts_all, counts_none, was_down}
@@ -133,3 +134,9 @@ returns-clause-counts g c =
     counts_all g.R.Rack.slot g.R.Rack.told c.args.core.now kept done.nothing c.commit.ensures.table done.marks c.commit.ensures.calls new checked.report c.commit.ensures.spared.no_fall c.check.ensures.reads
     (λ t tells some bits. let it = c.in_ok-checked.ensures.counts t tells some bits in
     counts_by (core_view kept (now t)) (g.R.Rack.slot (core_rack kept)) (g.R.Rack.slot (core_rack new)) checked.report checked.whole it.0 it.1 it.2 (λ part. failed_one g.R.Rack.slot kept new (c.in_ok-checked.ensures.ended part)))
+
+pub returns-in_err-commit-clause-tells : goal.returns-in_err-commit-clause-tells
+returns-in_err-commit-clause-tells g c =
+    let old = c.args.core.now in
+    handed (λ two. Ran (g.R.Rack.told (store_rack old.store)) (g.R.Rack.told (store_rack c.commit.new.self.store)) (λ s cs. TellsLosses (named_out old.meta.out) two cs)) c.from_residual.result _ c.from_residual.ensures.1
+    (subst (λ (o : Option ℕ). Ran (g.R.Rack.told (store_rack old.store)) (g.R.Rack.told (store_rack c.commit.new.self.store)) (λ s cs. TellsLosses o c.in_err-commit.field-0.0 cs)) (down_is_named (named_of old.store) (named_out old.meta.out) c.requires.serves.stays) c.in_err-commit.ensures.tells)

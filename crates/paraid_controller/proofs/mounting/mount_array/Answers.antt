@@ -1,7 +1,7 @@
 use Rattle.std.proofs.Common.{ℕ, ◌≤◌, ap, refl, sym, ◌∙◌, subst}
 use Rattle.paraid_core.specs.Cores.{core_rack}
 use Rattle.paraid_gear.specs.ThreeWindows.{lengths_of}
-use Rattle.paraid_service.specs.Begun.{IsMountedCore}
+use Rattle.paraid_controller.specs.Begun.{IsMountedCore}
 use Rattle.paraid_session.specs.Mount.{IsMountedFromEach}
 use Rattle.paraid_controller.specs.Arrays.{ArrayStandsAt, told_of_array}
 use Rattle.paraid_controller.proofs.CoreLemmas.{serving_of}

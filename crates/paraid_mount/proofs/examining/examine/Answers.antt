@@ -1,8 +1,8 @@
 use Rattle.std.specs.Prelude.{ℕ, IfErr}
 use Rattle.std.proofs.Common.{refl, subst}
 use Rattle.std.proofs.lemmas.Result.{IfErr-weaker, IfOk-weaker}
-use Rattle.paraid_sides.proofs.BothLemmas.{one_of_two}
-use Rattle.paraid_sides.proofs.FailedLemmas.{most_none}
+use Rattle.paraid_mount.proofs.BothLemmas.{one_of_two}
+use Rattle.paraid_mount.proofs.FailedLemmas.{most_none}
 use Rattle.paraid_mount.specs.declared.fault.MountFault.TheVariants.{Worn}
 use Rattle.paraid_mount.specs.Examined.{AreHeard, IsRefused, IsRefusedAsHeard, Logs, logs_of}
 use Rattle.paraid_mount.specs.Examined.IsRefused.{as_heard, by_loss, by_slots}

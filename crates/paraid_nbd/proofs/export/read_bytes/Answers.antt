@@ -1,3 +1,4 @@
+use Rattle.std.proofs.lemmas.Result.{err_from_is_err_and}
 use Rattle.std.proofs.Common.{◌≡◌, ◌≤◌, ◌+◌, ◌-◌, ◌++◌, ℕ, List, length, take, drop, arith, refl, sym, ap, ◌∙◌, subst, OnErr, Result, Ok, Err, length-drop}
 use borrow.Rule.Slice.PartMut.{put_mid}
 use Rattle.std.proofs.lemmas.List.{length-take-le, take_all}
@@ -61,3 +62,29 @@ returns-clause-read g c = λ tells s events is kept.
     subst (λ (x : List ℕ). HasBytes (b.stands c.loop-done.blocks) (b.halted c.loop-done.blocks) (b.kept c.loop-done.blocks) s events c.args.offset x)
     (take_all c.loop-done.done c.loop-done.into (omega (arith, c.loop-done-test.false)))
     (c.loop-done.invariant.read tells s events is kept)
+
+pub returns-in_err-read_block-clause-size : goal.returns-in_err-read_block-clause-size
+returns-in_err-read_block-clause-size g c = c.in_err-read_block.ensures.size ∙ c.loop-done.invariant.size
+
+pub returns-in_err-read_block-clause-told : goal.returns-in_err-read_block-clause-told
+returns-in_err-read_block-clause-told g c = λ t. c.loop-done.invariant.told (c.in_err-read_block.ensures.told t)
+
+pub returns-in_err-read_block-clause-read : goal.returns-in_err-read_block-clause-read
+returns-in_err-read_block-clause-read g c =
+    let p = err_from_is_err_and c.from_residual.result c.from_residual.ensures.1 in
+    rw p.1 tt
+
+pub returns-in_err-read_block-clause-some : goal.returns-in_err-read_block-clause-some
+returns-in_err-read_block-clause-some g c = on_err c.from_residual.result (omega (arith, c.loop-done-test.true, c.loop-done.auto.into))
+
+pub returns-clause-size : goal.returns-clause-size
+returns-clause-size g c = c.loop-done.invariant.size
+
+pub returns-clause-told : goal.returns-clause-told
+returns-clause-told g c = c.loop-done.invariant.told
+
+pub returns-clause-stops : goal.returns-clause-stops
+returns-clause-stops g c = tt
+
+pub returns-clause-some : goal.returns-clause-some
+returns-clause-some g c = tt

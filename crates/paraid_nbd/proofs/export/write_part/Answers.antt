@@ -1,5 +1,5 @@
+use Rattle.std.proofs.lemmas.Result.{err_from_is_err_and, on_ok_weaker, on_err_weaker}
 use Rattle.std.proofs.Common.{ℕ, ◌+◌, ◌<◌, ◌≤◌, ◌++◌, ◌∙◌, subst, sym}
-use Rattle.std.proofs.lemmas.Result.{on_ok_weaker, on_err_weaker}
 use Rattle.paraid_nbd.proofs.DeviceLemmas.{halts_later}
 use Rattle.paraid_nbd.proofs.WriteLemmas.{part_written}
 use Rattle.paraid_nbd.proofs.export.write_part.Goals as goal
@@ -31,3 +31,8 @@ returns-clause-size g c = c.write_block.ensures.size ∙ c.read_rest.ensures.siz
 
 pub returns-clause-told : goal.returns-clause-told
 returns-clause-told g c tells = c.read_rest.ensures.told (c.write_block.ensures.told tells)
+
+pub returns-in_err-read_rest-clause-written : goal.returns-in_err-read_rest-clause-written
+returns-in_err-read_rest-clause-written g c =
+    let p = err_from_is_err_and c.from_residual.result c.from_residual.ensures.1 in
+    rw p.1 tt

@@ -1,13 +1,13 @@
-use Rattle.std.proofs.Common.{◌++◌, [], ◌∷◌, List, ℕ, sym, ◌∙◌, subst}
+use Rattle.paraid_nbd.proofs.TakingLemmas.{Takes-none, Takes-then, later_then}
+use Rattle.paraid_nbd.specs.Handshake.EndsEarly.{Ungreeted, Unflagged, AmongOptions}
+use Rattle.std.proofs.Common.{arith, ◌++◌, [], ◌∷◌, List, ℕ, sym, ◌∙◌, subst}
 use Rattle.std.proofs.lemmas.List.{flat_map_more}
 use Rattle.std.proofs.lemmas.Result.{err_from_is_err_and}
 use Rattle.paraid_base.specs.Told.{GrowsByBytes}
 use Rattle.paraid_base.proofs.ToldLemmas.{GrowsByBytes-then}
 use Rattle.paraid_nbd.specs.Options.{option_bytes, option_reply}
 use Rattle.paraid_nbd.specs.Handshake.{greeting}
-use Rattle.paraid_nbd.specs.Handshake.EndsEarly.{Unflagged, AmongOptions}
 use Rattle.paraid_nbd.specs.Taking.{Takes}
-use Rattle.paraid_nbd.proofs.TakingLemmas.{Takes-then, later_then}
 use Rattle.paraid_nbd.proofs.OptionLemmas.{each_more}
 use Rattle.paraid_nbd.proofs.options.negotiate.Goals as goal
 
@@ -72,3 +72,38 @@ returns-then-branch-clause-later g c = later_then _ _ _ c.loop.invariant.later c
 
 pub returns-then-branch-clause-later_sink : goal.returns-then-branch-clause-later_sink
 returns-then-branch-clause-later_sink g c = later_then _ _ _ c.loop.invariant.later_sink c.in_ok-option.ensures.later_sink
+
+pub returns-in_err-greet-clause-begins : goal.returns-in_err-greet-clause-begins
+returns-in_err-greet-clause-begins g c =
+    let p = err_from_is_err_and c.from_residual.result c.from_residual.ensures.1 in
+    rw p.1 tt
+
+pub returns-in_err-greet-clause-ends : goal.returns-in_err-greet-clause-ends
+returns-in_err-greet-clause-ends g c =
+    let p = err_from_is_err_and c.from_residual.result c.from_residual.ensures.1 in
+    rw (p.1, p.2) (Ungreeted (Takes-none _ _) c.in_err-greet.ensures.unsent)
+
+pub returns-in_err-greet-clause-later : goal.returns-in_err-greet-clause-later
+returns-in_err-greet-clause-later g c = omega arith
+
+pub returns-in_err-greet-clause-later_sink : goal.returns-in_err-greet-clause-later_sink
+returns-in_err-greet-clause-later_sink g c = c.in_err-greet.ensures.later_sink
+
+pub returns-in_err-no_zeros-clause-begins : goal.returns-in_err-no_zeros-clause-begins
+returns-in_err-no_zeros-clause-begins g c =
+    let p = err_from_is_err_and c.from_residual-in_err-no_zeros.result c.from_residual-in_err-no_zeros.ensures.1 in
+    rw p.1 tt
+
+pub returns-in_err-no_zeros-clause-later : goal.returns-in_err-no_zeros-clause-later
+returns-in_err-no_zeros-clause-later g c = c.in_err-no_zeros.ensures.later
+
+pub returns-in_err-no_zeros-clause-later_sink : goal.returns-in_err-no_zeros-clause-later_sink
+returns-in_err-no_zeros-clause-later_sink g c = c.in_ok-greet.ensures.later_sink
+
+pub returns-in_err-option-clause-begins : goal.returns-in_err-option-clause-begins
+returns-in_err-option-clause-begins g c =
+    let p = err_from_is_err_and c.from_residual-in_err-option.result c.from_residual-in_err-option.ensures.1 in
+    rw p.1 tt
+
+pub returns-then-branch-clause-ends : goal.returns-then-branch-clause-ends
+returns-then-branch-clause-ends g c = tt

@@ -1,4 +1,4 @@
-use Rattle.std.proofs.Common.{◌≡◌, List, ℕ, subst, sym, ◌∙◌, ap, refl}
+use Rattle.std.proofs.Common.{arith, ◌≡◌, List, ℕ, subst, sym, ◌∙◌, ap, refl}
 use Rattle.std.proofs.lemmas.Result.{err_from_is_err_and}
 use Rattle.paraid_base.specs.Told.{GrowsByBytes}
 use Rattle.paraid_base.proofs.ToldLemmas.{GrowsByBytes-none}
@@ -26,3 +26,25 @@ returns-in-Abort-clause-ends g c =
     let said : c.put_option_reply.new.packet ≡ option_reply c.args.size c.args.no_zeros t.parts =
     c.put_option_reply.ensures.value ∙ ap (λ (x : List ℕ). x) (rw (c.new-packet.ensures, c.kind_of-kind.ensures, t.number_is) refl) in
     Leaves t.parts t.is (ap option_kind t.number_is ∙ sym c.kind_of-kind.ensures ∙ c.in-Abort.is) t.takes (subst (λ (x : List ℕ). GrowsByBytes (g.K.Sink.written c.args.sink.now) (g.K.Sink.written c.send.new.sink) x) said c.in_ok-send.ensures.sends) refl
+
+pub returns-in_err-number-clause-answers : goal.returns-in_err-number-clause-answers
+returns-in_err-number-clause-answers g c =
+    let p = err_from_is_err_and c.from_residual.result c.from_residual.ensures.1 in
+    rw p.1 tt
+
+pub returns-in_err-number-clause-later : goal.returns-in_err-number-clause-later
+returns-in_err-number-clause-later g c = c.in_err-number.ensures.later
+
+pub returns-in_err-number-clause-later_sink : goal.returns-in_err-number-clause-later_sink
+returns-in_err-number-clause-later_sink g c = omega arith
+
+pub returns-in_err-send-clause-answers : goal.returns-in_err-send-clause-answers
+returns-in_err-send-clause-answers g c =
+    let p = err_from_is_err_and c.from_residual-in_err-send.result c.from_residual-in_err-send.ensures.1 in
+    rw p.1 tt
+
+pub returns-in_err-send-clause-later : goal.returns-in_err-send-clause-later
+returns-in_err-send-clause-later g c = c.in_ok-number.ensures.later
+
+pub returns-in_err-send-clause-later_sink : goal.returns-in_err-send-clause-later_sink
+returns-in_err-send-clause-later_sink g c = c.in_err-send.ensures.later_sink

@@ -6,7 +6,7 @@ use Rattle.paraid_nbd.specs.Options.{chooses, option_kind, option_number, option
 use Rattle.paraid_nbd.specs.Options.IsPartOption.{InMagic, InHead}
 use Rattle.paraid_nbd.specs.Options.IsWrongOption.{WrongMagic}
 use Rattle.paraid_nbd.specs.Handshake.StopsOption.{CutOption, WrongOption}
-use Rattle.paraid_nbd.proofs.TakingLemmas.{Takes-then, IsCut-sooner}
+use Rattle.paraid_nbd.proofs.TakingLemmas.{Takes-then, IsCut-sooner, later_then}
 use Rattle.paraid_nbd.proofs.OptionLemmas.{choice_stops, option_chosen, option_skipped, skip_stops}
 use Rattle.paraid_nbd.proofs.options.take_option.Goals as goal
 
@@ -81,3 +81,50 @@ returns-clause-takes g c =
     let both = Takes-then c.in_ok-fill.ensures.takes c.in_ok-fill-2.ensures.takes in
     let t = c.in_ok-skip.ensures.takes in
     option_skipped c.fill.new.into head t.0 both (whole, magic) size ch count (sym c.read_u32-number.ensures) t.1 t.2
+
+pub returns-in_err-fill-clause-takes : goal.returns-in_err-fill-clause-takes
+returns-in_err-fill-clause-takes g c =
+    let p = err_from_is_err_and c.from_residual.result c.from_residual.ensures.1 in
+    rw p.1 tt
+
+pub returns-in_err-fill-clause-later : goal.returns-in_err-fill-clause-later
+returns-in_err-fill-clause-later g c = c.in_err-fill.ensures.later
+
+pub returns-then-read_u64-ne-HAVE_OPTION-clause-takes : goal.returns-then-read_u64-ne-HAVE_OPTION-clause-takes
+returns-then-read_u64-ne-HAVE_OPTION-clause-takes g c = tt
+
+pub returns-then-read_u64-ne-HAVE_OPTION-clause-later : goal.returns-then-read_u64-ne-HAVE_OPTION-clause-later
+returns-then-read_u64-ne-HAVE_OPTION-clause-later g c = c.in_ok-fill.ensures.later
+
+pub returns-in_err-fill-2-clause-takes : goal.returns-in_err-fill-2-clause-takes
+returns-in_err-fill-2-clause-takes g c =
+    let p = err_from_is_err_and c.from_residual-in_err-fill-2.result c.from_residual-in_err-fill-2.ensures.1 in
+    rw p.1 tt
+
+pub returns-in_err-fill-2-clause-later : goal.returns-in_err-fill-2-clause-later
+returns-in_err-fill-2-clause-later g c = later_then _ _ _ c.in_ok-fill.ensures.later c.in_err-fill-2.ensures.later
+
+pub returns-in_err-take_choice-clause-takes : goal.returns-in_err-take_choice-clause-takes
+returns-in_err-take_choice-clause-takes g c =
+    let p = err_from_is_err_and c.from_residual-in_err-take_choice.result c.from_residual-in_err-take_choice.ensures.1 in
+    rw p.1 tt
+
+pub returns-in_err-take_choice-clause-later : goal.returns-in_err-take_choice-clause-later
+returns-in_err-take_choice-clause-later g c = later_then _ _ _ (later_then _ _ _ c.in_ok-fill.ensures.later c.in_ok-fill-2.ensures.later) c.in_err-take_choice.ensures.later
+
+pub returns-then-is_choosing-clause-stops : goal.returns-then-is_choosing-clause-stops
+returns-then-is_choosing-clause-stops g c = tt
+
+pub returns-in_err-skip-clause-takes : goal.returns-in_err-skip-clause-takes
+returns-in_err-skip-clause-takes g c =
+    let p = err_from_is_err_and c.from_residual-in_err-skip.result c.from_residual-in_err-skip.ensures.1 in
+    rw p.1 tt
+
+pub returns-in_err-skip-clause-later : goal.returns-in_err-skip-clause-later
+returns-in_err-skip-clause-later g c = later_then _ _ _ (later_then _ _ _ c.in_ok-fill.ensures.later c.in_ok-fill-2.ensures.later) c.in_err-skip.ensures.later
+
+pub returns-clause-stops : goal.returns-clause-stops
+returns-clause-stops g c = tt
+
+pub returns-clause-later : goal.returns-clause-later
+returns-clause-later g c = later_then _ _ _ (later_then _ _ _ c.in_ok-fill.ensures.later c.in_ok-fill-2.ensures.later) c.in_ok-skip.ensures.later

@@ -33,3 +33,16 @@ returns-in_err-send_bytes-in-Read-Done-clause-later_sink g c = later_then _ _ _ 
 
 pub returns-in_ok-send_bytes-in-Read-Done-clause-later_sink : goal.returns-in_ok-send_bytes-in-Read-Done-clause-later_sink
 returns-in_ok-send_bytes-in-Read-Done-clause-later_sink g c = later_then _ _ _ c.in_ok-send.ensures.later_sink c.in_ok-send_bytes-in-Read-Done.ensures.later_sink
+
+pub returns-in_err-send-clause-sends : goal.returns-in_err-send-clause-sends
+returns-in_err-send-clause-sends g c =
+    let p = err_from_is_err_and c.from_residual.result c.from_residual.ensures.1 in
+    rw p.1 tt
+
+pub returns-in_err-send_bytes-in-Read-Done-clause-sends : goal.returns-in_err-send_bytes-in-Read-Done-clause-sends
+returns-in_err-send_bytes-in-Read-Done-clause-sends g c =
+    let p = err_from_is_err_and c.from_residual-in_err-send_bytes-in-Read-Done.result c.from_residual-in_err-send_bytes-in-Read-Done.ensures.1 in
+    rw p.1 tt
+
+pub returns-in_ok-send_bytes-in-Read-Done-clause-unsent : goal.returns-in_ok-send_bytes-in-Read-Done-clause-unsent
+returns-in_ok-send_bytes-in-Read-Done-clause-unsent g c = tt

@@ -1,4 +1,5 @@
-use Rattle.std.proofs.Common.{refl, sym, ◌∙◌, subst}
+use Rattle.paraid_nbd.proofs.TakingLemmas.{later_then}
+use Rattle.std.proofs.Common.{arith, refl, sym, ◌∙◌, subst}
 use Rattle.std.proofs.lemmas.Result.{err_from_is_err_and, on_ok_weaker, MatchResult-weaker}
 use Rattle.paraid_base.proofs.ToldLemmas.{GrowsByBytes-none}
 use Rattle.paraid_nbd.specs.declared.request.Request.{Request}
@@ -56,3 +57,49 @@ returns-clause-ends g c =
       kept_is = x.kept_is;
       unsent = f;
     }))
+
+pub returns-in_err-request-clause-serves : goal.returns-in_err-request-clause-serves
+returns-in_err-request-clause-serves g c =
+    let p = err_from_is_err_and c.from_residual.result c.from_residual.ensures.1 in
+    rw p.1 tt
+
+pub returns-in_err-request-clause-size : goal.returns-in_err-request-clause-size
+returns-in_err-request-clause-size g c = refl
+
+pub returns-in_err-request-clause-told : goal.returns-in_err-request-clause-told
+returns-in_err-request-clause-told g c = λ t. t
+
+pub returns-in_err-request-clause-later : goal.returns-in_err-request-clause-later
+returns-in_err-request-clause-later g c = c.in_err-request.ensures.later
+
+pub returns-in_err-request-clause-later_sink : goal.returns-in_err-request-clause-later_sink
+returns-in_err-request-clause-later_sink g c = omega arith
+
+pub returns-in_err-content-clause-serves : goal.returns-in_err-content-clause-serves
+returns-in_err-content-clause-serves g c =
+    let p = err_from_is_err_and c.from_residual-in_err-content.result c.from_residual-in_err-content.ensures.1 in
+    rw p.1 tt
+
+pub returns-in_err-content-clause-size : goal.returns-in_err-content-clause-size
+returns-in_err-content-clause-size g c = refl
+
+pub returns-in_err-content-clause-told : goal.returns-in_err-content-clause-told
+returns-in_err-content-clause-told g c = λ t. t
+
+pub returns-in_err-content-clause-later : goal.returns-in_err-content-clause-later
+returns-in_err-content-clause-later g c = later_then _ _ _ c.in_ok-request.ensures.later c.in_err-content.ensures.later
+
+pub returns-in_err-content-clause-later_sink : goal.returns-in_err-content-clause-later_sink
+returns-in_err-content-clause-later_sink g c = omega arith
+
+pub returns-clause-size : goal.returns-clause-size
+returns-clause-size g c = c.perform-outcome.ensures.size
+
+pub returns-clause-told : goal.returns-clause-told
+returns-clause-told g c = c.perform-outcome.ensures.told
+
+pub returns-clause-later : goal.returns-clause-later
+returns-clause-later g c = later_then _ _ _ c.in_ok-request.ensures.later c.in_ok-content.ensures.later
+
+pub returns-clause-later_sink : goal.returns-clause-later_sink
+returns-clause-later_sink g c = c.reply.ensures.later_sink

@@ -66,3 +66,25 @@ returns-in_err-fill-2-clause-later g c = later_then _ _ _ c.in_ok-fill.ensures.l
 
 pub returns-in-Disconnect-clause-later : goal.returns-in-Disconnect-clause-later
 returns-in-Disconnect-clause-later g c = later_then _ _ _ c.in_ok-fill.ensures.later c.in_ok-fill-2.ensures.later
+
+pub returns-in_err-fill-clause-takes : goal.returns-in_err-fill-clause-takes
+returns-in_err-fill-clause-takes g c =
+    let p = err_from_is_err_and c.from_residual.result c.from_residual.ensures.1 in
+    rw p.1 tt
+
+pub returns-then-read_u32-ne-REQUEST-clause-takes : goal.returns-then-read_u32-ne-REQUEST-clause-takes
+returns-then-read_u32-ne-REQUEST-clause-takes g c = tt
+
+pub returns-in_err-fill-2-clause-takes : goal.returns-in_err-fill-2-clause-takes
+returns-in_err-fill-2-clause-takes g c =
+    let p = err_from_is_err_and c.from_residual-in_err-fill-2.result c.from_residual-in_err-fill-2.ensures.1 in
+    rw p.1 tt
+
+pub returns-in-Disconnect-clause-takes : goal.returns-in-Disconnect-clause-takes
+returns-in-Disconnect-clause-takes g c = tt
+
+pub returns-clause-stops : goal.returns-clause-stops
+returns-clause-stops g c = tt
+
+pub returns-clause-later : goal.returns-clause-later
+returns-clause-later g c = later_then _ _ _ c.in_ok-fill.ensures.later c.in_ok-fill-2.ensures.later

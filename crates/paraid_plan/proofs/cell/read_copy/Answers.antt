@@ -1,5 +1,8 @@
-use Rattle.std.proofs.Common.{◌≡◌, ◌<◌, ◌∙◌, ℕ, None, Some, sym, subst}
+use Rattle.std.proofs.Common.{◌≡◌, ◌<◌, ◌≤◌, ◌∙◌, ℕ, None, Some, arith, sym, subst}
+use Rattle.paraid_base.specs.Regions.{IsGear}
+use Rattle.paraid_record.specs.Codes.{phase_to}
 use Rattle.paraid_plan.proofs.FilledCopyLemmas.{copy_alone, copy_powered, filled_low}
+use Rattle.paraid_plan.proofs.RoomLemmas.{copy_read, filled_gear, filled_parked}
 use Rattle.paraid_plan.proofs.cell.read_copy.Goals as goal
 
 pub stored-requires-clause-powered : goal.stored-requires-clause-powered
@@ -15,3 +18,78 @@ stored-requires-clause-not_out g c is =
     let m = c.args.m.now in
     let low = filled_low m c.args.r c.args.d (sym c.requires.filled ∙ c.if-not-filled.false) in
     let z : None ≡ Some c.soft_parity-parity.result = sym (copy_alone m _ c.requires.in_range low) ∙ is in cc
+
+pub soft_of-s-requires-clause-gear : goal.soft_of-s-requires-clause-gear
+soft_of-s-requires-clause-gear g c =
+    let m = c.args.m.now in
+    let low = filled_low m c.args.r c.args.d (sym c.requires.filled ∙ c.if-not-filled.false) in
+    subst (IsGear m.setup.geometry) (sym c.to-to.ensures) (filled_gear m _ c.requires.in_range low)
+
+pub soft_of-s-requires-clause-parked : goal.soft_of-s-requires-clause-parked
+soft_of-s-requires-clause-parked g c =
+    let m = c.args.m.now in
+    let at = filled_parked m c.args.r c.args.d (sym c.requires.filled ∙ c.if-not-filled.false) in
+    subst (λ (z : ℕ). z ≤ c.args.d) (sym c.to-to.ensures) at
+
+pub soft_place-requires-clause-gear : goal.soft_place-requires-clause-gear
+soft_place-requires-clause-gear g c =
+    let m = c.args.m.now in
+    let low = filled_low m c.args.r c.args.d (sym c.requires.filled ∙ c.if-not-filled.false) in
+    subst (IsGear m.setup.geometry) (sym c.to-to.ensures) (filled_gear m _ c.requires.in_range low)
+
+pub soft_place-requires-clause-region : goal.soft_place-requires-clause-region
+soft_place-requires-clause-region g c =
+    let m = c.args.m.now in
+    let at = filled_parked m c.args.r c.args.d (sym c.requires.filled ∙ c.if-not-filled.false) in
+    let to = c.to-to.ensures in
+    let disk = c.requires.disk in
+    omega (arith, at, to, disk)
+
+pub soft_parity-parity-requires-clause-gear : goal.soft_parity-parity-requires-clause-gear
+soft_parity-parity-requires-clause-gear g c =
+    let m = c.args.m.now in
+    let low = filled_low m c.args.r c.args.d (sym c.requires.filled ∙ c.if-not-filled.false) in
+    subst (IsGear m.setup.geometry) (sym c.to-to.ensures) (filled_gear m _ c.requires.in_range low)
+
+pub soft_parity-parity-requires-clause-region : goal.soft_parity-parity-requires-clause-region
+soft_parity-parity-requires-clause-region g c =
+    let m = c.args.m.now in
+    let at = filled_parked m c.args.r c.args.d (sym c.requires.filled ∙ c.if-not-filled.false) in
+    let to = c.to-to.ensures in
+    let disk = c.requires.disk in
+    omega (arith, at, to, disk)
+
+pub stored-requires-clause-disk : goal.stored-requires-clause-disk
+stored-requires-clause-disk g c =
+    let m = c.args.m.now in
+    let at = filled_parked m c.args.r c.args.d (sym c.requires.filled ∙ c.if-not-filled.false) in
+    let to = c.to-to.ensures in
+    let disk = c.requires.disk in
+    let below = c.soft_parity-parity.ensures.below in
+    omega (arith, at, to, disk, below)
+
+pub stored-requires-clause-place : goal.stored-requires-clause-place
+stored-requires-clause-place g c =
+    c.soft_place.ensures.in_size
+
+pub stored-requires-clause-past_log : goal.stored-requires-clause-past_log
+stored-requires-clause-past_log g c =
+    let after = c.soft_place.ensures.after_hard in omega (arith, after)
+
+pub returns-then-not-filled-clause-leads : goal.returns-then-not-filled-clause-leads
+returns-then-not-filled-clause-leads g c =
+    g.met.P.Plan.stays c.args.plan.now
+
+pub returns-in_err-stored-clause-leads : goal.returns-in_err-stored-clause-leads
+returns-in_err-stored-clause-leads g c =
+    c.stored.ensures.leads
+
+pub returns-clause-leads : goal.returns-clause-leads
+returns-clause-leads g c =
+    c.stored.ensures.leads
+
+pub returns-clause-ok : goal.returns-clause-ok
+returns-clause-ok g c tells filled =
+    copy_read (g.P.Plan.desk c.args.plan.now).block c.args.m.now.setup.geometry (phase_to c.args.m.now.phase) c.args.r c.args.d c.to-to.result c.soft_of-s.result.0 c.soft_parity-parity.result c.soft_place.result
+    c.stored.new.into c.xor_into.new.to c.xor_into-2.new.to c.args.old.now c.args.new.now
+    c.to-to.ensures c.soft_of-s.ensures.stripe c.soft_parity-parity.ensures.value c.soft_place.ensures.value (c.in_ok-stored.ensures.ok tells) c.xor_into.ensures c.xor_into-2.ensures

@@ -1,13 +1,46 @@
 use Rattle.std.proofs.Common.{arith}
 use Rattle.paraid_plan.proofs.cell.read_parity.Goals as goal
-use Rattle.paraid_base.proofs.RegionsLemmas.{stripe_count_small}
+use Rattle.paraid_plan.proofs.RoomLemmas.{parity_read, unit_small}
+use Rattle.paraid_plan.specs.Desk.{sees}
 
 pub overflow_add-m : goal.overflow_add-m
 overflow_add-m g c =
-    let shape = c.args.m.now.setup.geometry in
-    let low = shape.gears_low c.args.m.now.gear c.requires.in_range.gear in
-    let high = shape.gears_high c.args.m.now.gear c.requires.in_range.gear in
-    let few = stripe_count_small shape.disks shape.rows c.args.m.now.gear low high shape.disks_high shape.rows_high in
-    let rows = shape.rows_high in
-    let within = c.soft_of-s.ensures.stripe_in in
-    omega arith
+    let small = unit_small c.args.m.now.setup.geometry c.args.m.now.gear c.soft_of-s.result.0 c.requires.in_range.gear c.soft_of-s.ensures.stripe_in in
+    omega (arith, small)
+
+pub soft_of-s-requires-clause-gear : goal.soft_of-s-requires-clause-gear
+soft_of-s-requires-clause-gear g c =
+    c.requires.in_range.gear
+
+pub soft_parity-parity-requires-clause-gear : goal.soft_parity-parity-requires-clause-gear
+soft_parity-parity-requires-clause-gear g c =
+    c.requires.in_range.gear
+
+pub soft_parity-parity-requires-clause-region : goal.soft_parity-parity-requires-clause-region
+soft_parity-parity-requires-clause-region g c =
+    let parked = c.requires.parked in let low = c.requires.disk in omega (arith, parked, low)
+
+pub stripe-requires-clause-stripe : goal.stripe-requires-clause-stripe
+stripe-requires-clause-stripe g c =
+    c.soft_of-s.ensures.stripe_in
+
+pub stripe-requires-clause-disk : goal.stripe-requires-clause-disk
+stripe-requires-clause-disk g c =
+    c.soft_parity-parity.ensures.below
+
+pub returns-then-not-is_written-clause-leads : goal.returns-then-not-is_written-clause-leads
+returns-then-not-is_written-clause-leads g c =
+    g.met.P.Plan.stays c.args.plan.now
+
+pub returns-in_err-stripe-clause-leads : goal.returns-in_err-stripe-clause-leads
+returns-in_err-stripe-clause-leads g c =
+    c.stripe.ensures.leads
+
+pub returns-clause-leads : goal.returns-clause-leads
+returns-clause-leads g c =
+    c.stripe.ensures.leads
+
+pub returns-clause-ok : goal.returns-clause-ok
+returns-clause-ok g c tells written =
+    parity_read (sees c.args.m.now (g.P.Plan.desk c.args.plan.now)) _ c.soft_of-s.result.0 c.soft_parity-parity.result c.stripe.new.into c.xor_into.new.to c.xor_into-2.new.to c.args.old.now c.args.new.now
+    c.soft_of-s.ensures.stripe c.soft_parity-parity.ensures.value (c.in_ok-stripe.ensures.ok tells) c.xor_into.ensures c.xor_into-2.ensures

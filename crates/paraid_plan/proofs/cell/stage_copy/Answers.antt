@@ -1,3 +1,7 @@
+use Rattle.std.proofs.Common.{◌∙◌, ℕ, ◌≤◌, arith, subst, sym}
+use Rattle.paraid_base.specs.Regions.{IsGear}
+use Rattle.paraid_plan.proofs.FilledCopyLemmas.{filled_low}
+use Rattle.paraid_plan.proofs.RoomLemmas.{filled_gear, filled_parked}
 use Rattle.paraid_plan.proofs.cell.stage_copy.Goals as goal
 use Rattle.paraid_plan.proofs.DeskLemmas.{copy_both, copy_none}
 
@@ -9,3 +13,64 @@ returns-clause-desk g c =
     copy_both c.args.m.now _ _ _ c.args.filled c.args.r c.args.d _ _ _ _ _ c.args.new.now c.args.parity_block.now c.if-not-filled.false
     c.to-to.ensures c.soft_of-s.ensures.stripe c.soft_of-s.ensures.disk c.soft_place-place.ensures.value c.soft_parity-parity.ensures.value
     c.stage_if.ensures.desk c.stage_if-2.ensures.desk
+
+pub soft_of-s-requires-clause-gear : goal.soft_of-s-requires-clause-gear
+soft_of-s-requires-clause-gear g c =
+    let m = c.args.m.now in
+    let low = filled_low m c.args.r c.args.d (sym c.requires.filled ∙ c.if-not-filled.false) in
+    subst (IsGear m.setup.geometry) (sym c.to-to.ensures) (filled_gear m _ c.requires.in_range low)
+
+pub soft_of-s-requires-clause-parked : goal.soft_of-s-requires-clause-parked
+soft_of-s-requires-clause-parked g c =
+    let m = c.args.m.now in
+    let at = filled_parked m c.args.r c.args.d (sym c.requires.filled ∙ c.if-not-filled.false) in
+    subst (λ (z : ℕ). z ≤ c.args.d) (sym c.to-to.ensures) at
+
+pub soft_place-place-requires-clause-gear : goal.soft_place-place-requires-clause-gear
+soft_place-place-requires-clause-gear g c =
+    let m = c.args.m.now in
+    let low = filled_low m c.args.r c.args.d (sym c.requires.filled ∙ c.if-not-filled.false) in
+    subst (IsGear m.setup.geometry) (sym c.to-to.ensures) (filled_gear m _ c.requires.in_range low)
+
+pub soft_place-place-requires-clause-region : goal.soft_place-place-requires-clause-region
+soft_place-place-requires-clause-region g c =
+    let m = c.args.m.now in
+    let at = filled_parked m c.args.r c.args.d (sym c.requires.filled ∙ c.if-not-filled.false) in
+    let to = c.to-to.ensures in
+    let disk = c.requires.disk in
+    omega (arith, at, to, disk)
+
+pub soft_parity-parity-requires-clause-gear : goal.soft_parity-parity-requires-clause-gear
+soft_parity-parity-requires-clause-gear g c =
+    let m = c.args.m.now in
+    let low = filled_low m c.args.r c.args.d (sym c.requires.filled ∙ c.if-not-filled.false) in
+    subst (IsGear m.setup.geometry) (sym c.to-to.ensures) (filled_gear m _ c.requires.in_range low)
+
+pub soft_parity-parity-requires-clause-region : goal.soft_parity-parity-requires-clause-region
+soft_parity-parity-requires-clause-region g c =
+    let m = c.args.m.now in
+    let at = filled_parked m c.args.r c.args.d (sym c.requires.filled ∙ c.if-not-filled.false) in
+    let to = c.to-to.ensures in
+    let disk = c.requires.disk in
+    omega (arith, at, to, disk)
+
+pub stage_if-requires : goal.stage_if-requires
+stage_if-requires g c = let room = c.requires.room in omega (arith, room)
+
+pub stage_if-requires-2 : goal.stage_if-requires-2
+stage_if-requires-2 g c = let room = c.requires.room in let one = c.stage_if.ensures.room in omega (arith, room, one)
+
+pub returns-then-not-filled-clause-leads : goal.returns-then-not-filled-clause-leads
+returns-then-not-filled-clause-leads g c = g.met.P.Plan.stays c.args.plan.now
+
+pub returns-clause-room : goal.returns-clause-room
+returns-clause-room g c = let one = c.stage_if.ensures.room in let two = c.stage_if-2.ensures.room in omega (arith, one, two)
+
+pub returns-clause-changes : goal.returns-clause-changes
+returns-clause-changes g c = c.stage_if-2.ensures.changes ∙ c.stage_if.ensures.changes
+
+pub returns-clause-goes_on : goal.returns-clause-goes_on
+returns-clause-goes_on g c n serves = c.stage_if-2.ensures.goes_on n (c.stage_if.ensures.goes_on n serves)
+
+pub returns-clause-leads : goal.returns-clause-leads
+returns-clause-leads g c = g.met.P.Plan.then _ _ _ c.stage_if.ensures.leads c.stage_if-2.ensures.leads

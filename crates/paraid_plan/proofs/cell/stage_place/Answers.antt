@@ -1,5 +1,7 @@
+use Rattle.std.proofs.Common.{◌∙◌, ◌<◌, arith}
 use Rattle.paraid_plan.proofs.cell.stage_place.Goals as goal
 use Rattle.paraid_plan.proofs.DeskLemmas.{place_hard, place_soft}
+use Rattle.paraid_plan.proofs.RoomLemmas.{unit_small}
 
 pub returns-then-hard-clause-desk : goal.returns-then-hard-clause-desk
 returns-then-hard-clause-desk g c =
@@ -10,3 +12,55 @@ returns-clause-desk g c =
     place_soft c.args.m.now _ _ _ c.args.hard _ _ c.args.r c.args.d _ _ _ _ c.args.new.now c.args.parity_block.now c.if-hard.false
     c.soft_of-s.ensures.stripe c.soft_of-s.ensures.disk c.soft_place-place.ensures.value c.soft_parity-parity.ensures.value
     c.is_written-2.ensures c.is_written-3.ensures c.stage_if-2.ensures.desk c.stage_if-3.ensures.desk
+
+pub stage_if-requires : goal.stage_if-requires
+stage_if-requires g c = let room = c.requires.room in omega (arith, room)
+
+pub returns-then-hard-clause-room : goal.returns-then-hard-clause-room
+returns-then-hard-clause-room g c = let one = c.stage_if.ensures.room in omega (arith, one)
+
+pub soft_of-s-requires-clause-gear : goal.soft_of-s-requires-clause-gear
+soft_of-s-requires-clause-gear g c = c.requires.in_range.gear
+
+pub soft_of-s-requires-clause-parked : goal.soft_of-s-requires-clause-parked
+soft_of-s-requires-clause-parked g c = c.requires.parked c.if-hard.false
+
+pub soft_place-place-requires-clause-gear : goal.soft_place-place-requires-clause-gear
+soft_place-place-requires-clause-gear g c = c.requires.in_range.gear
+
+pub soft_place-place-requires-clause-region : goal.soft_place-place-requires-clause-region
+soft_place-place-requires-clause-region g c = let parked = c.requires.parked c.if-hard.false in let low = c.requires.disk in omega (arith, parked, low)
+
+pub soft_parity-parity-requires-clause-gear : goal.soft_parity-parity-requires-clause-gear
+soft_parity-parity-requires-clause-gear g c = c.requires.in_range.gear
+
+pub soft_parity-parity-requires-clause-region : goal.soft_parity-parity-requires-clause-region
+soft_parity-parity-requires-clause-region g c = let parked = c.requires.parked c.if-hard.false in let low = c.requires.disk in omega (arith, parked, low)
+
+pub overflow_add-g : goal.overflow_add-g
+overflow_add-g g c =
+    let small = unit_small c.args.m.now.setup.geometry c.args.m.now.gear c.soft_of-s.result.0 c.requires.in_range.gear c.soft_of-s.ensures.stripe_in in
+    omega (arith, small)
+
+pub stage_if-requires-2 : goal.stage_if-requires-2
+stage_if-requires-2 g c = let room = c.requires.room in omega (arith, room)
+
+pub overflow_add-g-2 : goal.overflow_add-g-2
+overflow_add-g-2 g c =
+    let small = unit_small c.args.m.now.setup.geometry c.args.m.now.gear c.soft_of-s.result.0 c.requires.in_range.gear c.soft_of-s.ensures.stripe_in in
+    omega (arith, small)
+
+pub stage_if-requires-3 : goal.stage_if-requires-3
+stage_if-requires-3 g c = let room = c.requires.room in let one = c.stage_if-2.ensures.room in omega (arith, room, one)
+
+pub returns-clause-room : goal.returns-clause-room
+returns-clause-room g c = let one = c.stage_if-2.ensures.room in let two = c.stage_if-3.ensures.room in omega (arith, one, two)
+
+pub returns-clause-changes : goal.returns-clause-changes
+returns-clause-changes g c = c.stage_if-3.ensures.changes ∙ c.stage_if-2.ensures.changes
+
+pub returns-clause-goes_on : goal.returns-clause-goes_on
+returns-clause-goes_on g c n serves = c.stage_if-3.ensures.goes_on n (c.stage_if-2.ensures.goes_on n serves)
+
+pub returns-clause-leads : goal.returns-clause-leads
+returns-clause-leads g c = g.met.P.Plan.then _ _ _ c.stage_if-2.ensures.leads c.stage_if-3.ensures.leads

@@ -1,4 +1,4 @@
-use Rattle.std.proofs.Common.{◌∙◌, sym}
+use Rattle.std.proofs.Common.{ℕ, ◌+◌, ◌∙◌, ap, arith, sym}
 use Rattle.paraid_plan.proofs.cell.write_cell.Goals as goal
 use Rattle.paraid_plan.proofs.DeskLemmas.{cell_desk_is, cell_room, parked_of}
 use Rattle.paraid_plan.proofs.WrittenBitsLemmas.{cell_bits}
@@ -30,3 +30,66 @@ pub returns-clause-bits : goal.returns-clause-bits
 returns-clause-bits g c =
     cell_bits c.args.m.now (g.P.Plan.desk c.args.plan.now) (g.P.Plan.desk c.read_place.new.plan) (g.P.Plan.desk c.read_copy.new.plan) (g.P.Plan.desk c.stage_place.new.plan) (g.P.Plan.desk c.stage_copy.new.plan) (g.P.Plan.desk c.set_dirty.new.self) c.args.r c.args.d c.goes_hard-hard.result _ _
     c.in_ok-read_place.ensures.bits c.in_ok-read_copy.ensures.bits c.stage_place.ensures.desk c.stage_copy.ensures.desk c.goes_hard-hard.ensures c.set_dirty.ensures.desk
+
+pub read_copy-requires-clause-serves : goal.read_copy-requires-clause-serves
+read_copy-requires-clause-serves g c =
+    c.in_ok-read_place.ensures.goes_on
+
+pub read_copy-requires-clause-filled : goal.read_copy-requires-clause-filled
+read_copy-requires-clause-filled g c =
+    c.is_filled-filled.ensures
+
+pub stage_copy-requires-clause-filled : goal.stage_copy-requires-clause-filled
+stage_copy-requires-clause-filled g c =
+    c.is_filled-filled.ensures
+
+pub stage_place-requires-clause-room : goal.stage_place-requires-clause-room
+stage_place-requires-clause-room g c =
+    let a = c.in_ok-read_place.ensures.staged in
+    let b = c.in_ok-read_copy.ensures.staged in
+    let room = c.requires.room in
+    omega (arith, a, b, room)
+
+pub stage_copy-requires-clause-room : goal.stage_copy-requires-clause-room
+stage_copy-requires-clause-room g c =
+    let a = c.in_ok-read_place.ensures.staged in
+    let b = c.in_ok-read_copy.ensures.staged in
+    let room = c.requires.room in
+    let d = c.stage_place.ensures.room in
+    omega (arith, a, b, d, room)
+
+pub set_dirty-requires-clause-serves : goal.set_dirty-requires-clause-serves
+set_dirty-requires-clause-serves g c =
+    c.stage_copy.ensures.goes_on c.args.m.now (c.stage_place.ensures.goes_on c.args.m.now c.in_ok-read_copy.ensures.goes_on)
+
+pub set_dirty-requires-clause-few : goal.set_dirty-requires-clause-few
+set_dirty-requires-clause-few g c =
+    let a = c.in_ok-read_place.ensures.changes in
+    let b = c.in_ok-read_copy.ensures.changes in
+    let d = c.stage_place.ensures.changes in
+    let e = c.stage_copy.ensures.changes in
+    let few = c.requires.few in
+    omega (arith, a, b, d, e, few)
+
+pub returns-in_err-read_place-clause-leads : goal.returns-in_err-read_place-clause-leads
+returns-in_err-read_place-clause-leads g c =
+    c.read_place.ensures.leads
+
+pub returns-in_err-read_copy-clause-leads : goal.returns-in_err-read_copy-clause-leads
+returns-in_err-read_copy-clause-leads g c =
+    g.met.P.Plan.then _ _ _ c.read_place.ensures.leads c.read_copy.ensures.leads
+
+pub returns-clause-changes : goal.returns-clause-changes
+returns-clause-changes g c =
+    c.set_dirty.ensures.changes
+    ∙ ap (λ (z : ℕ). z + 1) (c.stage_copy.ensures.changes ∙ c.stage_place.ensures.changes ∙ c.in_ok-read_copy.ensures.changes ∙ c.in_ok-read_place.ensures.changes)
+
+pub returns-clause-goes_on : goal.returns-clause-goes_on
+returns-clause-goes_on g c =
+    c.set_dirty.ensures.goes_on
+
+pub returns-clause-leads : goal.returns-clause-leads
+returns-clause-leads g c =
+    let then = g.met.P.Plan.then in
+    then _ _ _ c.read_place.ensures.leads (then _ _ _ c.read_copy.ensures.leads
+    (then _ _ _ c.stage_place.ensures.leads (then _ _ _ c.stage_copy.ensures.leads c.set_dirty.ensures.leads)))

@@ -15,3 +15,9 @@ returns-clause-sum g c tells needed =
     c.add_part.ensures (value (sees c.args.m.now (g.P.Plan.desk c.args.plan.now)) c.args.r)
     (λ is. c.in_ok-read_if.ensures.ok tells
     (c.is_wanted-wanted.ensures ∙ wanted_part c.args.needed c.is_part-part.result c.is_changed-changed.result c.needs_old-depends.result needed (c.is_part-part.ensures ∙ is)))
+
+pub returns-in_err-read_if-clause-leads : goal.returns-in_err-read_if-clause-leads
+returns-in_err-read_if-clause-leads g c = c.read_if.ensures.leads
+
+pub returns-clause-leads : goal.returns-clause-leads
+returns-clause-leads g c = c.read_if.ensures.leads

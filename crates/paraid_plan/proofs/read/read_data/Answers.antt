@@ -21,3 +21,12 @@ returns-clause-sum g c tells needed sum =
     let n = c.args.m.now.setup.geometry.disks in
     others_read (parity_part n (pairs_of c.args.pairs.now) c.args.r (value (sees c.args.m.now (g.P.Plan.desk c.args.plan.now)) c.args.r) c.args.anew) (parity_disk n c.args.r) c.args.d _ _ _
     (λ is. c.if-d-p.false (is ∙ sym c.parity_disk-p.ensures.value)) sum refl (c.in_ok-read_cell.ensures.sum tells needed)
+
+pub returns-then-d-p-clause-leads : goal.returns-then-d-p-clause-leads
+returns-then-d-p-clause-leads g c = g.met.P.Plan.stays c.args.plan.now
+
+pub returns-in_err-read_cell-clause-leads : goal.returns-in_err-read_cell-clause-leads
+returns-in_err-read_cell-clause-leads g c = c.read_cell.ensures.leads
+
+pub returns-clause-leads : goal.returns-clause-leads
+returns-clause-leads g c = c.read_cell.ensures.leads

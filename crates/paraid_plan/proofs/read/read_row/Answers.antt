@@ -9,3 +9,9 @@ pub returns-clause-fixed : goal.returns-clause-fixed
 returns-clause-fixed g c tells needed sums =
     c.in_ok-read_cells.ensures.sum tells (c.needs_new-needed.ensures ∙ needed)
     ∙ parity_made c.args.m.now.setup.geometry.disks (pairs_of c.args.pairs.now) c.args.r (value (sees c.args.m.now (g.P.Plan.desk c.args.plan.now)) c.args.r) c.is_made_anew-anew.result sums
+
+pub returns-in_err-read_cells-clause-leads : goal.returns-in_err-read_cells-clause-leads
+returns-in_err-read_cells-clause-leads g c = c.read_cells.ensures.leads
+
+pub returns-clause-leads : goal.returns-clause-leads
+returns-clause-leads g c = c.read_cells.ensures.leads

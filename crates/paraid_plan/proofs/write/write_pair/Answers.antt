@@ -118,3 +118,12 @@ returns-clause-some g c tells out =
     let more = cell_grows m (g.P.Plan.desk c.args.plan.now) (g.P.Plan.desk c.write_cell.new.plan) c.args.r d _ _ (c.in_ok-write_cell.ensures.desk tells)
     (only_out (named_out m.out) (parity_disk n c.args.r) d out (λ is. c.home-q.ensures.not_parity (is ∙ ap (parity_disk n) (sym c.if-q-r.false)))) in
     omega (arith, one, more)
+
+pub returns-then-q-r-clause-leads : goal.returns-then-q-r-clause-leads
+returns-then-q-r-clause-leads g c = g.met.P.Plan.stays c.args.plan.now
+
+pub returns-in_err-write_cell-clause-leads : goal.returns-in_err-write_cell-clause-leads
+returns-in_err-write_cell-clause-leads g c = c.write_cell.ensures.leads
+
+pub returns-clause-leads : goal.returns-clause-leads
+returns-clause-leads g c = c.write_cell.ensures.leads

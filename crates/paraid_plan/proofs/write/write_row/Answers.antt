@@ -101,3 +101,36 @@ returns-clause-grows g c tells =
     row_grows c.args.m.now (g.P.Plan.desk c.args.plan.now) (g.P.Plan.desk c.read_row.new.plan) (g.P.Plan.desk c.write_pairs.new.plan) (g.P.Plan.desk c.write_cell.new.plan) (g.P.Plan.desk c.stage_map.new.plan)
     c.args.r c.parity_disk-p.result _ _ _ _ _ c.in_ok-read_row.ensures.staged (c.in_ok-write_pairs.ensures.adds t2) (λ out. c.in_ok-write_pairs.ensures.some t2 (out ∙ ap Some p)) c.requires.some
     (c.in_ok-write_cell.ensures.desk t3) c.stage_map.ensures.map
+
+pub bits_of-was-requires-clause-serves : goal.bits_of-was-requires-clause-serves
+bits_of-was-requires-clause-serves g c =
+    c.in_ok-read_row.ensures.goes_on
+
+pub write_pairs-requires-clause-serves : goal.write_pairs-requires-clause-serves
+write_pairs-requires-clause-serves g c =
+    c.in_ok-read_row.ensures.goes_on
+
+pub write_cell-requires-clause-serves : goal.write_cell-requires-clause-serves
+write_cell-requires-clause-serves g c =
+    c.in_ok-write_pairs.ensures.goes_on
+
+pub has_changed-staged-requires-clause-serves : goal.has_changed-staged-requires-clause-serves
+has_changed-staged-requires-clause-serves g c =
+    c.in_ok-write_cell.ensures.goes_on
+
+pub returns-clause-goes_on : goal.returns-clause-goes_on
+returns-clause-goes_on g c =
+    c.stage_map.ensures.goes_on c.args.m.now c.in_ok-write_cell.ensures.goes_on
+
+pub returns-in_err-read_row-clause-leads : goal.returns-in_err-read_row-clause-leads
+returns-in_err-read_row-clause-leads g c =
+    c.read_row.ensures.leads
+
+pub returns-in_err-write_pairs-clause-leads : goal.returns-in_err-write_pairs-clause-leads
+returns-in_err-write_pairs-clause-leads g c =
+    g.met.P.Plan.then _ _ _ c.read_row.ensures.leads c.write_pairs.ensures.leads
+
+pub returns-in_err-write_cell-clause-leads : goal.returns-in_err-write_cell-clause-leads
+returns-in_err-write_cell-clause-leads g c =
+    let then = g.met.P.Plan.then in
+    then _ _ _ c.read_row.ensures.leads (then _ _ _ c.write_pairs.ensures.leads c.write_cell.ensures.leads)

@@ -95,3 +95,12 @@ returns-then-is_row_before-clause-grows g c tells some =
     let p = c.args.pairs.now in
     let none = old_row_none n p c.args.at (ap (names_row n (pairs_before p c.args.at)) (sym c.home-r.ensures.row) ∙ sym c.is_row_before.ensures ∙ c.if-is_row_before.true) in
     omega (arith, none, some)
+
+pub returns-then-is_row_before-clause-leads : goal.returns-then-is_row_before-clause-leads
+returns-then-is_row_before-clause-leads g c = g.met.P.Plan.stays c.args.plan.now
+
+pub returns-in_err-write_row-clause-leads : goal.returns-in_err-write_row-clause-leads
+returns-in_err-write_row-clause-leads g c = c.write_row.ensures.leads
+
+pub returns-clause-leads : goal.returns-clause-leads
+returns-clause-leads g c = c.write_row.ensures.leads

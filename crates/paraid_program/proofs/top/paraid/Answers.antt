@@ -1,121 +1,121 @@
 use Rattle.std.proofs.Common.{◌≡◌, ap, ◌∙◌, Some}
-use Rattle.paraid_program.specs.declared.words.Task.TheVariants.{Format, Run, Status, Check, Gen}
-use Rattle.paraid_top.proofs.CompleteLemmas.{check_comes, gen_comes, run_comes, status_comes}
+use Rattle.paraid_commands.specs.declared.command.Command.TheVariants.{Format, Run, Status, Check, Gen}
+use Rattle.paraid_commands.proofs.CompleteLemmas.{check_comes, gen_comes, run_comes, status_comes}
 use Rattle.paraid_program.proofs.CompleteLemmas.{format_comes}
 use Rattle.paraid_program.proofs.EndLemmas.{check_not_read, not_read}
 use Rattle.paraid_program.proofs.WordLemmas.{asks, does_it, nothing_asked}
-use Rattle.paraid_program.specs.Tasks.{TakesSource}
-use Rattle.paraid_program.specs.declared.words.Task.{Task}
+use Rattle.paraid_program.specs.Ends.{TakesSource}
+use Rattle.paraid_commands.specs.declared.command.Command.{Command}
 use Rattle.paraid_program.proofs.top.paraid.Given.{Over}
 use Rattle.paraid_program.proofs.top.paraid.Goals as goal
 use Rattle.paraid_program.proofs.top.paraid.Goals.{In-Some-Check, In-Some-Format, In-Some-Gen, In-Some-Run, In-Some-Status}
 
-format_is : (g : Over) (c : In-Some-Format g) → c.read_task.result ≡ Some (Format c.in-Some-Format.force)
+format_is : (g : Over) (c : In-Some-Format g) → c.read_words.result ≡ Some (Format c.in-Some-Format.force)
 format_is g c = c.in-Some-Format.is ∙ ap Some c.in-Some-Format.field-0-is
 
-run_is : (g : Over) (c : In-Some-Run g) → c.read_task.result ≡ Some Run
+run_is : (g : Over) (c : In-Some-Run g) → c.read_words.result ≡ Some Run
 run_is g c = c.in-Some-Run.is ∙ ap Some c.in-Some-Run.field-0-is
 
-status_is : (g : Over) (c : In-Some-Status g) → c.read_task.result ≡ Some Status
+status_is : (g : Over) (c : In-Some-Status g) → c.read_words.result ≡ Some Status
 status_is g c = c.in-Some-Status.is ∙ ap Some c.in-Some-Status.field-0-is
 
-check_is : (g : Over) (c : In-Some-Check g) → c.read_task.result ≡ Some Check
+check_is : (g : Over) (c : In-Some-Check g) → c.read_words.result ≡ Some Check
 check_is g c = c.in-Some-Check.is ∙ ap Some c.in-Some-Check.field-0-is
 
-gen_is : (g : Over) (c : In-Some-Gen g) → c.read_task.result ≡ Some (Gen c.in-Some-Gen.number c.in-Some-Gen.lines)
+gen_is : (g : Over) (c : In-Some-Gen g) → c.read_words.result ≡ Some (Gen c.in-Some-Gen.number c.in-Some-Gen.lines)
 gen_is g c = c.in-Some-Gen.is ∙ ap Some c.in-Some-Gen.field-0-is
 
 pub returns-in-Some-Format-clause-does : goal.returns-in-Some-Format-clause-does
-returns-in-Some-Format-clause-does g c = does_it _ _ c.read_task.ensures.exact _ (Format c.in-Some-Format.force) (format_is g (goal.at.returns-in-Some-Format-clause-does g c).In-Some-Format) c.format.ensures.formats
+returns-in-Some-Format-clause-does g c = does_it _ _ c.read_words.ensures.exact _ (Format c.in-Some-Format.force) (format_is g (goal.at.returns-in-Some-Format-clause-does g c).In-Some-Format) c.format.ensures.formats
 
 pub returns-in-Some-Run-clause-does : goal.returns-in-Some-Run-clause-does
-returns-in-Some-Run-clause-does g c = does_it _ _ c.read_task.ensures.exact _ Run (run_is g (goal.at.returns-in-Some-Run-clause-does g c).In-Some-Run) (c.run.ensures.run, c.run.ensures.status)
+returns-in-Some-Run-clause-does g c = does_it _ _ c.read_words.ensures.exact _ Run (run_is g (goal.at.returns-in-Some-Run-clause-does g c).In-Some-Run) (c.run.ensures.run, c.run.ensures.status)
 
 pub returns-in-Some-Status-clause-does : goal.returns-in-Some-Status-clause-does
-returns-in-Some-Status-clause-does g c = does_it _ _ c.read_task.ensures.exact _ Status (status_is g (goal.at.returns-in-Some-Status-clause-does g c).In-Some-Status) c.state.ensures.shows
+returns-in-Some-Status-clause-does g c = does_it _ _ c.read_words.ensures.exact _ Status (status_is g (goal.at.returns-in-Some-Status-clause-does g c).In-Some-Status) c.show_state.ensures.shows
 
 pub returns-in-Some-Gen-clause-does : goal.returns-in-Some-Gen-clause-does
-returns-in-Some-Gen-clause-does g c = does_it _ _ c.read_task.ensures.exact _ (Gen c.in-Some-Gen.number c.in-Some-Gen.lines) (gen_is g (goal.at.returns-in-Some-Gen-clause-does g c).In-Some-Gen) (c.generate.ensures.run, c.generate.ensures.status)
+returns-in-Some-Gen-clause-does g c = does_it _ _ c.read_words.ensures.exact _ (Gen c.in-Some-Gen.number c.in-Some-Gen.lines) (gen_is g (goal.at.returns-in-Some-Gen-clause-does g c).In-Some-Gen) (c.generate.ensures.run, c.generate.ensures.status)
 
 pub returns-in-None-clause-does : goal.returns-in-None-clause-does
-returns-in-None-clause-does g c t asked = absurd (nothing_asked _ _ c.read_task.ensures.exact c.in-None.is t asked)
+returns-in-None-clause-does g c t asked = absurd (nothing_asked _ _ c.read_words.ensures.exact c.in-None.is t asked)
 
 pub generate-requires : goal.generate-requires
-generate-requires g c = record { few = (asks _ _ c.read_task.ensures.exact (Gen c.in-Some-Gen.number c.in-Some-Gen.lines) (gen_is g (goal.at.generate-requires g c).In-Some-Gen)).lines_to }
+generate-requires g c = record { few = (asks _ _ c.read_words.ensures.exact (Gen c.in-Some-Gen.number c.in-Some-Gen.lines) (gen_is g (goal.at.generate-requires g c).In-Some-Gen)).lines_to }
 
 pub returns-in-Some-Format-clause-unread : goal.returns-in-Some-Format-clause-unread
-returns-in-Some-Format-clause-unread g c t not asked = absurd (not (does_it _ _ c.read_task.ensures.exact TakesSource (Format c.in-Some-Format.force) (format_is g (goal.at.returns-in-Some-Format-clause-unread g c).In-Some-Format) tt t asked))
+returns-in-Some-Format-clause-unread g c t not asked = absurd (not (does_it _ _ c.read_words.ensures.exact TakesSource (Format c.in-Some-Format.force) (format_is g (goal.at.returns-in-Some-Format-clause-unread g c).In-Some-Format) tt t asked))
 
 pub returns-in-Some-Run-clause-unread : goal.returns-in-Some-Run-clause-unread
-returns-in-Some-Run-clause-unread g c t not asked = absurd (not (does_it _ _ c.read_task.ensures.exact TakesSource Run (run_is g (goal.at.returns-in-Some-Run-clause-unread g c).In-Some-Run) tt t asked))
+returns-in-Some-Run-clause-unread g c t not asked = absurd (not (does_it _ _ c.read_words.ensures.exact TakesSource Run (run_is g (goal.at.returns-in-Some-Run-clause-unread g c).In-Some-Run) tt t asked))
 
 pub returns-in-Some-Status-clause-end : goal.returns-in-Some-Status-clause-end
-returns-in-Some-Status-clause-end g c t takes asked zero = absurd (does_it _ _ c.read_task.ensures.exact (λ (u : Task). TakesSource u → ⊥) Status (status_is g (goal.at.returns-in-Some-Status-clause-end g c).In-Some-Status) (λ x. x) t asked takes)
+returns-in-Some-Status-clause-end g c t takes asked zero = absurd (does_it _ _ c.read_words.ensures.exact (λ (u : Command). TakesSource u → ⊥) Status (status_is g (goal.at.returns-in-Some-Status-clause-end g c).In-Some-Status) (λ x. x) t asked takes)
 
 pub returns-in-Some-Gen-clause-end : goal.returns-in-Some-Gen-clause-end
-returns-in-Some-Gen-clause-end g c t takes asked zero = absurd (does_it _ _ c.read_task.ensures.exact (λ (u : Task). TakesSource u → ⊥) (Gen c.in-Some-Gen.number c.in-Some-Gen.lines) (gen_is g (goal.at.returns-in-Some-Gen-clause-end g c).In-Some-Gen) (λ x. x) t asked takes)
+returns-in-Some-Gen-clause-end g c t takes asked zero = absurd (does_it _ _ c.read_words.ensures.exact (λ (u : Command). TakesSource u → ⊥) (Gen c.in-Some-Gen.number c.in-Some-Gen.lines) (gen_is g (goal.at.returns-in-Some-Gen-clause-end g c).In-Some-Gen) (λ x. x) t asked takes)
 
 pub returns-in-Some-Format-clause-words : goal.returns-in-Some-Format-clause-words
-returns-in-Some-Format-clause-words g c none = absurd (none (Format c.in-Some-Format.force) (asks _ _ c.read_task.ensures.exact (Format c.in-Some-Format.force) (format_is g (goal.at.returns-in-Some-Format-clause-words g c).In-Some-Format)))
+returns-in-Some-Format-clause-words g c none = absurd (none (Format c.in-Some-Format.force) (asks _ _ c.read_words.ensures.exact (Format c.in-Some-Format.force) (format_is g (goal.at.returns-in-Some-Format-clause-words g c).In-Some-Format)))
 
 pub returns-in-Some-Run-clause-words : goal.returns-in-Some-Run-clause-words
-returns-in-Some-Run-clause-words g c none = absurd (none Run (asks _ _ c.read_task.ensures.exact Run (run_is g (goal.at.returns-in-Some-Run-clause-words g c).In-Some-Run)))
+returns-in-Some-Run-clause-words g c none = absurd (none Run (asks _ _ c.read_words.ensures.exact Run (run_is g (goal.at.returns-in-Some-Run-clause-words g c).In-Some-Run)))
 
 pub returns-in-Some-Status-clause-words : goal.returns-in-Some-Status-clause-words
-returns-in-Some-Status-clause-words g c none = absurd (none Status (asks _ _ c.read_task.ensures.exact Status (status_is g (goal.at.returns-in-Some-Status-clause-words g c).In-Some-Status)))
+returns-in-Some-Status-clause-words g c none = absurd (none Status (asks _ _ c.read_words.ensures.exact Status (status_is g (goal.at.returns-in-Some-Status-clause-words g c).In-Some-Status)))
 
 pub returns-in-Some-Gen-clause-words : goal.returns-in-Some-Gen-clause-words
-returns-in-Some-Gen-clause-words g c none = absurd (none (Gen c.in-Some-Gen.number c.in-Some-Gen.lines) (asks _ _ c.read_task.ensures.exact (Gen c.in-Some-Gen.number c.in-Some-Gen.lines) (gen_is g (goal.at.returns-in-Some-Gen-clause-words g c).In-Some-Gen)))
+returns-in-Some-Gen-clause-words g c none = absurd (none (Gen c.in-Some-Gen.number c.in-Some-Gen.lines) (asks _ _ c.read_words.ensures.exact (Gen c.in-Some-Gen.number c.in-Some-Gen.lines) (gen_is g (goal.at.returns-in-Some-Gen-clause-words g c).In-Some-Gen)))
 
 pub returns-in-Some-Format-clause-untouched : goal.returns-in-Some-Format-clause-untouched
-returns-in-Some-Format-clause-untouched g c none = absurd (none (Format c.in-Some-Format.force) (asks _ _ c.read_task.ensures.exact (Format c.in-Some-Format.force) (format_is g (goal.at.returns-in-Some-Format-clause-untouched g c).In-Some-Format)))
+returns-in-Some-Format-clause-untouched g c none = absurd (none (Format c.in-Some-Format.force) (asks _ _ c.read_words.ensures.exact (Format c.in-Some-Format.force) (format_is g (goal.at.returns-in-Some-Format-clause-untouched g c).In-Some-Format)))
 
 pub returns-in-Some-Run-clause-untouched : goal.returns-in-Some-Run-clause-untouched
-returns-in-Some-Run-clause-untouched g c none = absurd (none Run (asks _ _ c.read_task.ensures.exact Run (run_is g (goal.at.returns-in-Some-Run-clause-untouched g c).In-Some-Run)))
+returns-in-Some-Run-clause-untouched g c none = absurd (none Run (asks _ _ c.read_words.ensures.exact Run (run_is g (goal.at.returns-in-Some-Run-clause-untouched g c).In-Some-Run)))
 
 pub returns-in-Some-Status-clause-untouched : goal.returns-in-Some-Status-clause-untouched
-returns-in-Some-Status-clause-untouched g c none = absurd (none Status (asks _ _ c.read_task.ensures.exact Status (status_is g (goal.at.returns-in-Some-Status-clause-untouched g c).In-Some-Status)))
+returns-in-Some-Status-clause-untouched g c none = absurd (none Status (asks _ _ c.read_words.ensures.exact Status (status_is g (goal.at.returns-in-Some-Status-clause-untouched g c).In-Some-Status)))
 
 pub returns-in-Some-Gen-clause-untouched : goal.returns-in-Some-Gen-clause-untouched
-returns-in-Some-Gen-clause-untouched g c none = absurd (none (Gen c.in-Some-Gen.number c.in-Some-Gen.lines) (asks _ _ c.read_task.ensures.exact (Gen c.in-Some-Gen.number c.in-Some-Gen.lines) (gen_is g (goal.at.returns-in-Some-Gen-clause-untouched g c).In-Some-Gen)))
+returns-in-Some-Gen-clause-untouched g c none = absurd (none (Gen c.in-Some-Gen.number c.in-Some-Gen.lines) (asks _ _ c.read_words.ensures.exact (Gen c.in-Some-Gen.number c.in-Some-Gen.lines) (gen_is g (goal.at.returns-in-Some-Gen-clause-untouched g c).In-Some-Gen)))
 
 pub returns-in-Some-Gen-clause-source : goal.returns-in-Some-Gen-clause-source
 returns-in-Some-Gen-clause-source g c three = absurd (not_read _ c.generate.ensures.status three)
 
 pub returns-in-Some-Check-clause-does : goal.returns-in-Some-Check-clause-does
-returns-in-Some-Check-clause-does g c = does_it _ _ c.read_task.ensures.exact _ Check (check_is g (goal.at.returns-in-Some-Check-clause-does g c).In-Some-Check) (c.check.ensures.run, c.check.ensures.status)
+returns-in-Some-Check-clause-does g c = does_it _ _ c.read_words.ensures.exact _ Check (check_is g (goal.at.returns-in-Some-Check-clause-does g c).In-Some-Check) (c.check.ensures.run, c.check.ensures.status)
 
 pub returns-in-Some-Check-clause-end : goal.returns-in-Some-Check-clause-end
-returns-in-Some-Check-clause-end g c t takes asked zero = absurd (does_it _ _ c.read_task.ensures.exact (λ (u : Task). TakesSource u → ⊥) Check (check_is g (goal.at.returns-in-Some-Check-clause-end g c).In-Some-Check) (λ x. x) t asked takes)
+returns-in-Some-Check-clause-end g c t takes asked zero = absurd (does_it _ _ c.read_words.ensures.exact (λ (u : Command). TakesSource u → ⊥) Check (check_is g (goal.at.returns-in-Some-Check-clause-end g c).In-Some-Check) (λ x. x) t asked takes)
 
 pub returns-in-Some-Check-clause-words : goal.returns-in-Some-Check-clause-words
-returns-in-Some-Check-clause-words g c none = absurd (none Check (asks _ _ c.read_task.ensures.exact Check (check_is g (goal.at.returns-in-Some-Check-clause-words g c).In-Some-Check)))
+returns-in-Some-Check-clause-words g c none = absurd (none Check (asks _ _ c.read_words.ensures.exact Check (check_is g (goal.at.returns-in-Some-Check-clause-words g c).In-Some-Check)))
 
 pub returns-in-Some-Check-clause-untouched : goal.returns-in-Some-Check-clause-untouched
-returns-in-Some-Check-clause-untouched g c none = absurd (none Check (asks _ _ c.read_task.ensures.exact Check (check_is g (goal.at.returns-in-Some-Check-clause-untouched g c).In-Some-Check)))
+returns-in-Some-Check-clause-untouched g c none = absurd (none Check (asks _ _ c.read_words.ensures.exact Check (check_is g (goal.at.returns-in-Some-Check-clause-untouched g c).In-Some-Check)))
 
 pub returns-in-Some-Check-clause-source : goal.returns-in-Some-Check-clause-source
 returns-in-Some-Check-clause-source g c three = absurd (check_not_read _ c.check.ensures.status three)
 
 pub returns-in-Some-Format-clause-complete : goal.returns-in-Some-Format-clause-complete
-returns-in-Some-Format-clause-complete g c = does_it _ _ c.read_task.ensures.exact _ (Format c.in-Some-Format.force) (format_is g (goal.at.returns-in-Some-Format-clause-complete g c).In-Some-Format)
+returns-in-Some-Format-clause-complete g c = does_it _ _ c.read_words.ensures.exact _ (Format c.in-Some-Format.force) (format_is g (goal.at.returns-in-Some-Format-clause-complete g c).In-Some-Format)
     (format_comes _ _ _ _ _ _ _ _ _ _ _ _ _ _ c.format.ensures.source c.format.ensures.sink c.in-Some-Format.force c.format.ensures.formats)
 
 pub returns-in-Some-Run-clause-complete : goal.returns-in-Some-Run-clause-complete
-returns-in-Some-Run-clause-complete g c = does_it _ _ c.read_task.ensures.exact _ Run (run_is g (goal.at.returns-in-Some-Run-clause-complete g c).In-Some-Run)
+returns-in-Some-Run-clause-complete g c = does_it _ _ c.read_words.ensures.exact _ Run (run_is g (goal.at.returns-in-Some-Run-clause-complete g c).In-Some-Run)
     (λ h. run_comes h _ _ _ _ _ _ _ c.run.ensures.sink _ _ _ _ c.run.ensures.source c.run.ensures.run)
 
 pub returns-in-Some-Status-clause-complete : goal.returns-in-Some-Status-clause-complete
-returns-in-Some-Status-clause-complete g c = does_it _ _ c.read_task.ensures.exact _ Status (status_is g (goal.at.returns-in-Some-Status-clause-complete g c).In-Some-Status)
-    (λ h. status_comes h _ _ _ _ _ _ _ c.state.ensures.sink c.state.ensures.shows)
+returns-in-Some-Status-clause-complete g c = does_it _ _ c.read_words.ensures.exact _ Status (status_is g (goal.at.returns-in-Some-Status-clause-complete g c).In-Some-Status)
+    (λ h. status_comes h _ _ _ _ _ _ _ c.show_state.ensures.sink c.show_state.ensures.shows)
 
 pub returns-in-Some-Check-clause-complete : goal.returns-in-Some-Check-clause-complete
-returns-in-Some-Check-clause-complete g c = does_it _ _ c.read_task.ensures.exact _ Check (check_is g (goal.at.returns-in-Some-Check-clause-complete g c).In-Some-Check)
+returns-in-Some-Check-clause-complete g c = does_it _ _ c.read_words.ensures.exact _ Check (check_is g (goal.at.returns-in-Some-Check-clause-complete g c).In-Some-Check)
     (λ h. check_comes h _ _ _ _ _ _ _ c.check.ensures.sink c.check.ensures.run)
 
 pub returns-in-Some-Gen-clause-complete : goal.returns-in-Some-Gen-clause-complete
-returns-in-Some-Gen-clause-complete g c = does_it _ _ c.read_task.ensures.exact _ (Gen c.in-Some-Gen.number c.in-Some-Gen.lines) (gen_is g (goal.at.returns-in-Some-Gen-clause-complete g c).In-Some-Gen)
+returns-in-Some-Gen-clause-complete g c = does_it _ _ c.read_words.ensures.exact _ (Gen c.in-Some-Gen.number c.in-Some-Gen.lines) (gen_is g (goal.at.returns-in-Some-Gen-clause-complete g c).In-Some-Gen)
     (λ h. gen_comes h _ _ _ _ _ _ _ c.generate.ensures.sink _ _ c.generate.ensures.run)
 
 pub returns-in-None-clause-complete : goal.returns-in-None-clause-complete
-returns-in-None-clause-complete g c t asked = absurd (nothing_asked _ _ c.read_task.ensures.exact c.in-None.is t asked)
+returns-in-None-clause-complete g c t asked = absurd (nothing_asked _ _ c.read_words.ensures.exact c.in-None.is t asked)

@@ -1,5 +1,6 @@
 use Rattle.std.proofs.Common.{sym, ◌∙◌}
 use Rattle.std.proofs.lemmas.Bool.{false≢true}
+use Rattle.paraid_core.proofs.AfterLemmas.{handed}
 use Rattle.paraid_scrub.proofs.LookedLemmas.{keeps_chain}
 use Rattle.paraid_scrub.proofs.PartLemmas.{counts_1, counts_2, counts_3, counts_4, counts_5, told_by, was_not_whole, was_whole}
 use Rattle.paraid_scrub.specs.declared.ending.Ending.TheVariants.{Lost}
@@ -74,3 +75,23 @@ returns-clause-ended g c not = g.met.C.Stored.then_lost _ _ _ Lost (c.in_ok-rows
 
 pub returns-clause-kept : goal.returns-clause-kept
 returns-clause-kept g c whole = keeps_chain g.met.C.Stored.then g.met.C.Stored.told (c.in_ok-rows.ensures.kept (was_whole _ c.if-not-rows.false)) (keeps_chain g.met.C.Stored.then g.met.C.Stored.told (c.in_ok-stripes.ensures.kept (was_whole _ c.if-not-stripes.false)) (keeps_chain g.met.C.Stored.then g.met.C.Stored.told (c.in_ok-fill.ensures.kept (was_whole _ c.if-not-fill.false)) (keeps_chain g.met.C.Stored.then g.met.C.Stored.told (c.in_ok-units.ensures.kept (was_whole _ c.if-not-units.false)) (c.in_ok-mirrors.ensures.kept (sym c.so_far-2.ensures.whole ∙ whole)))))
+
+pub returns-in_err-stripes-clause-two : goal.returns-in_err-stripes-clause-two
+returns-in_err-stripes-clause-two g c =
+    handed _ c.from_residual-in_err-stripes.result _ c.from_residual-in_err-stripes.ensures.1
+    (g.met.C.Stored.then_lost _ _ _ _ (c.in_ok-rows.ensures.kept (was_whole _ c.if-not-rows.false)).goes c.in_err-stripes.ensures.two)
+
+pub returns-in_err-fill-clause-two : goal.returns-in_err-fill-clause-two
+returns-in_err-fill-clause-two g c =
+    handed _ c.from_residual-in_err-fill.result _ c.from_residual-in_err-fill.ensures.1
+    (g.met.C.Stored.then_lost _ _ _ _ (c.in_ok-rows.ensures.kept (was_whole _ c.if-not-rows.false)).goes (g.met.C.Stored.then_lost _ _ _ _ (c.in_ok-stripes.ensures.kept (was_whole _ c.if-not-stripes.false)).goes c.in_err-fill.ensures.two))
+
+pub returns-in_err-units-clause-two : goal.returns-in_err-units-clause-two
+returns-in_err-units-clause-two g c =
+    handed _ c.from_residual-in_err-units.result _ c.from_residual-in_err-units.ensures.1
+    (g.met.C.Stored.then_lost _ _ _ _ (c.in_ok-rows.ensures.kept (was_whole _ c.if-not-rows.false)).goes (g.met.C.Stored.then_lost _ _ _ _ (c.in_ok-stripes.ensures.kept (was_whole _ c.if-not-stripes.false)).goes (g.met.C.Stored.then_lost _ _ _ _ (c.in_ok-fill.ensures.kept (was_whole _ c.if-not-fill.false)).goes c.in_err-units.ensures.two)))
+
+pub returns-in_err-mirrors-clause-two : goal.returns-in_err-mirrors-clause-two
+returns-in_err-mirrors-clause-two g c =
+    handed _ c.from_residual-in_err-mirrors.result _ c.from_residual-in_err-mirrors.ensures.1
+    (g.met.C.Stored.then_lost _ _ _ _ (c.in_ok-rows.ensures.kept (was_whole _ c.if-not-rows.false)).goes (g.met.C.Stored.then_lost _ _ _ _ (c.in_ok-stripes.ensures.kept (was_whole _ c.if-not-stripes.false)).goes (g.met.C.Stored.then_lost _ _ _ _ (c.in_ok-fill.ensures.kept (was_whole _ c.if-not-fill.false)).goes (g.met.C.Stored.then_lost _ _ _ _ (c.in_ok-units.ensures.kept (was_whole _ c.if-not-units.false)).goes c.in_err-mirrors.ensures.two))))

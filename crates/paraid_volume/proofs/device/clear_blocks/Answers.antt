@@ -1,3 +1,4 @@
+use Rattle.std.proofs.lemmas.Result.{err_from_is_err_and}
 use Rattle.std.proofs.Common.{◌≡◌, ℕ, ◌+◌, ◌++◌, arith, inl, inr, subst}
 use Rattle.std.proofs.lemmas.Bool.{cases_lt}
 use Rattle.paraid_volume.specs.Device.{DeviceHolds, SinceHistory, Between, Clears}
@@ -58,3 +59,13 @@ returns-in_err-clear_block-clause-grown g c = KeepsMore-then _ _ _ _ _ _ c.clear
 
 pub returns-clause-grown : goal.returns-clause-grown
 returns-clause-grown g c = c.loop-at.invariant.grown
+
+pub returns-in_err-clear_block-clause-halt : goal.returns-in_err-clear_block-clause-halt
+returns-in_err-clear_block-clause-halt g c =
+    let p = err_from_is_err_and c.from_residual.result c.from_residual.ensures.1 in
+    rw (p.1, p.2) c.in_err-clear_block.ensures.halt
+
+pub returns-in_err-clear_block-clause-clears : goal.returns-in_err-clear_block-clause-clears
+returns-in_err-clear_block-clause-clears g c =
+    let p = err_from_is_err_and c.from_residual.result c.from_residual.ensures.1 in
+    rw p.1 tt

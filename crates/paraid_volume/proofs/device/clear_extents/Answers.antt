@@ -1,3 +1,4 @@
+use Rattle.std.proofs.lemmas.Result.{err_from_is_err_and}
 use Rattle.std.proofs.Common.{◌≡◌, ℕ, ◌-◌, ◌++◌, arith, subst}
 use Rattle.std.proofs.lemmas.Nat.{mul-add-lt}
 use Rattle.paraid_volume.specs.Device.{DeviceHolds, SinceHistory, Clears, InExtent}
@@ -59,3 +60,13 @@ returns-in_err-clear_extent-clause-grown g c = KeepsMore-then _ _ _ _ _ _ c.clea
 
 pub returns-clause-grown : goal.returns-clause-grown
 returns-clause-grown g c = c.loop-extent.invariant.grown
+
+pub returns-in_err-clear_extent-clause-halt : goal.returns-in_err-clear_extent-clause-halt
+returns-in_err-clear_extent-clause-halt g c =
+    let p = err_from_is_err_and c.from_residual.result c.from_residual.ensures.1 in
+    rw (p.1, p.2) c.in_err-clear_extent.ensures.halt
+
+pub returns-in_err-clear_extent-clause-clears : goal.returns-in_err-clear_extent-clause-clears
+returns-in_err-clear_extent-clause-clears g c =
+    let p = err_from_is_err_and c.from_residual.result c.from_residual.ensures.1 in
+    rw p.1 tt

@@ -1,3 +1,4 @@
+use Rattle.std.proofs.lemmas.Result.{err_from_is_err_and}
 use Rattle.std.proofs.Common.{None, ◌≡◌, ℕ, ◌∙◌, arith}
 use Rattle.paraid_base.specs.History.{after_all}
 use Rattle.paraid_volume.specs.TableBlocks.{in_table}
@@ -52,3 +53,18 @@ returns-in_err-read_block-clause-grown g c = KeepsMore-then _ _ _ _ _ _ c.read_b
 
 pub returns-clause-grown : goal.returns-clause-grown
 returns-clause-grown g c = c.loop-at.invariant.grown
+
+pub returns-in_err-read_block-clause-halt : goal.returns-in_err-read_block-clause-halt
+returns-in_err-read_block-clause-halt g c =
+    let p = err_from_is_err_and c.from_residual.result c.from_residual.ensures.1 in
+    rw (p.1, p.2) c.in_err-read_block.ensures.halt
+
+pub returns-in_err-read_block-clause-keeps : goal.returns-in_err-read_block-clause-keeps
+returns-in_err-read_block-clause-keeps g c =
+    let p = err_from_is_err_and c.from_residual.result c.from_residual.ensures.1 in
+    rw p.1 tt
+
+pub returns-in_err-read_block-clause-read : goal.returns-in_err-read_block-clause-read
+returns-in_err-read_block-clause-read g c =
+    let p = err_from_is_err_and c.from_residual.result c.from_residual.ensures.1 in
+    rw p.1 tt

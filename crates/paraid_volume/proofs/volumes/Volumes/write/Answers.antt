@@ -1,4 +1,4 @@
-use Rattle.std.proofs.Common.{◌<◌, ◌≤◌, ◌^◌, ap, subst, sym}
+use Rattle.std.proofs.Common.{◌<◌, ◌≤◌, ◌^◌, ap, subst, sym, refl}
 use Rattle.paraid_volume.specs.TableBlocks.{in_table}
 use Rattle.paraid_volume.specs.Tables.{IsVolumeTable, extent_count, extent_size}
 use Rattle.paraid_base.specs.Pairs.{single_pair}
@@ -7,13 +7,13 @@ use Rattle.paraid_base.specs.History.{after_all}
 use Rattle.paraid_base.proofs.HistoryLemmas.{after_all-written, after_all-other}
 use Rattle.std.proofs.Common.{rules}
 use Rattle.std.specs.Prelude.{IfErr}
-use Rattle.std.proofs.lemmas.Result.{IfErr-weaker}
+use Rattle.std.proofs.lemmas.Result.{IfErr-weaker, err_from_is_err_and}
 use Rattle.paraid_volume.specs.Faults.{IsPlaceFault}
 use Rattle.paraid_volume.specs.Lives.{write}
 use Rattle.paraid_volume.specs.Values.{device_of, halted_of, volume_table}
 use Rattle.paraid_volume.proofs.ExtentLemmas.{same_place}
 use Rattle.paraid_volume.proofs.ShowsLemmas.{same, shows_written}
-use Rattle.paraid_volume.proofs.DeviceLemmas.{KeepsMore-one, holds_write}
+use Rattle.paraid_volume.proofs.DeviceLemmas.{KeepsMore-one, holds_write, DeviceGoesOn-none, KeepsMore-none}
 use Rattle.paraid_base.proofs.PairsLemmas.{pairs_of-one}
 use Rattle.paraid_volume.proofs.OneCallLemmas.{lived_write, lived_refused}
 use Rattle.paraid_volume.proofs.RefusalLemmas.{block_of, place_served, write_refused}
@@ -76,3 +76,47 @@ returns-in_err-place-clause-lived_refused g c =
     IfErr-weaker c.from_residual.result _ _
     (λ fault is none from start log lived tells. lived_refused _ _ _ start log lived (write c.args.id c.args.block c.args.bytes.now) fault (λ h stands. stands)
     (λ h s stands shows. write_refused count (volume_table v) (after_all h) s stands.1 shows v.large (halted_of v) none c.args.id c.args.block c.args.bytes.now fault is)) due
+
+pub returns-in_err-place-clause-fault : goal.returns-in_err-place-clause-fault
+returns-in_err-place-clause-fault g c =
+    let p = err_from_is_err_and c.from_residual.result c.from_residual.ensures.1 in
+    rw (p.1, p.2) c.in_err-place.ensures.fault
+
+pub returns-in_err-place-clause-served : goal.returns-in_err-place-clause-served
+returns-in_err-place-clause-served g c =
+    let p = err_from_is_err_and c.from_residual.result c.from_residual.ensures.1 in
+    rw p.1 tt
+
+pub returns-in_err-place-clause-halt : goal.returns-in_err-place-clause-halt
+returns-in_err-place-clause-halt g c =
+    let p = err_from_is_err_and c.from_residual.result c.from_residual.ensures.1 in
+    rw (p.1, p.2) (sym c.in_err-place.ensures.halt)
+
+pub returns-in_err-place-clause-went : goal.returns-in_err-place-clause-went
+returns-in_err-place-clause-went g c = DeviceGoesOn-none _ _ _ _ _
+
+pub returns-in_err-place-clause-grown : goal.returns-in_err-place-clause-grown
+returns-in_err-place-clause-grown g c = KeepsMore-none _ _ _ _
+
+pub returns-in_err-place-clause-table : goal.returns-in_err-place-clause-table
+returns-in_err-place-clause-table g c = refl
+
+pub returns-in_err-place-clause-adds : goal.returns-in_err-place-clause-adds
+returns-in_err-place-clause-adds g c =
+    let p = err_from_is_err_and c.from_residual.result c.from_residual.ensures.1 in
+    rw p.1 tt
+
+pub returns-in_err-place-clause-stands : goal.returns-in_err-place-clause-stands
+returns-in_err-place-clause-stands g c =
+    let p = err_from_is_err_and c.from_residual.result c.from_residual.ensures.1 in
+    rw p.1 (λ none from h stands tells. stands)
+
+pub returns-in_err-place-clause-event : goal.returns-in_err-place-clause-event
+returns-in_err-place-clause-event g c =
+    let p = err_from_is_err_and c.from_residual.result c.from_residual.ensures.1 in
+    rw p.1 tt
+
+pub returns-in_err-place-clause-lived : goal.returns-in_err-place-clause-lived
+returns-in_err-place-clause-lived g c =
+    let p = err_from_is_err_and c.from_residual.result c.from_residual.ensures.1 in
+    rw p.1 tt

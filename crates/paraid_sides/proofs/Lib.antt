@@ -1,5 +1,0 @@
-pub mod UnchangedLemmas
-pub mod HeardLemmas
-pub mod BodyLemmas
-pub mod BothLemmas
-pub mod FailedLemmas

@@ -1,2 +1,0 @@
-pub mod HeardSides
-pub mod Faults

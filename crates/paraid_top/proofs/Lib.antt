@@ -1,4 +1,0 @@
-pub mod EndLemmas
-pub mod TellLemmas
-pub mod CheckLemmas
-pub mod CompleteLemmas
