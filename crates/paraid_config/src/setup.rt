@@ -4,7 +4,7 @@ ghost use Rattle.std.specs.Prelude.{◌≡◌, ◌≤◌, None, IfOk, IfErr, OnO
 ghost use Rattle.toml.specs.View.{table_view};
 ghost use Rattle.paraid_record.specs.Range.{IsSetupInRange};
 ghost use Rattle.paraid_config.specs.Config.{document_fault, IsDocumentFault, IsSetupOf};
-ghost use Rattle.paraid_config.specs.Parts.{shape_faults, pace_faults, wear_faults, energy_faults, IsFirst, IsShapeOf, IsPaceOf, IsWearOf, AreEnergiesOf};
+ghost use Rattle.paraid_config.specs.Parts.{shape_faults, pace_faults, wear_faults, energy_faults, IsFirstFault, IsShapeOf, IsPaceOf, IsWearOf, AreEnergiesOf};
 
 use crate::list::{gears, windows};
 use crate::number::{burst, mode, number, period};
@@ -52,7 +52,7 @@ struct Energies {
 
 fn shape_of(alloc: Global, table: &Table) -> Result<Shape, ConfigFault>
     ensures ok { IfOk result (IsShapeOf (table_view table.now)) }
-    ensures err { IfErr result (IsFirst (shape_faults (table_view table.now))) }
+    ensures err { IfErr result (IsFirstFault (shape_faults (table_view table.now))) }
 {
     let disks = number(table, Key::Disks)? as u8;
     let rows = number(table, Key::Rows)?;
@@ -62,7 +62,7 @@ fn shape_of(alloc: Global, table: &Table) -> Result<Shape, ConfigFault>
 
 fn pace_of(table: &Table) -> Result<Pace, ConfigFault>
     ensures ok { IfOk result (IsPaceOf (table_view table.now)) }
-    ensures err { IfErr result (IsFirst (pace_faults (table_view table.now))) }
+    ensures err { IfErr result (IsFirstFault (pace_faults (table_view table.now))) }
 {
     let mode = mode(table)?;
     let rate = number(table, Key::Rate)?;
@@ -80,7 +80,7 @@ fn pace_of(table: &Table) -> Result<Pace, ConfigFault>
 
 fn wear_of(alloc: Global, table: &Table) -> Result<Wear, ConfigFault>
     ensures ok { IfOk result (IsWearOf (table_view table.now)) }
-    ensures err { IfErr result (IsFirst (wear_faults (table_view table.now))) }
+    ensures err { IfErr result (IsFirstFault (wear_faults (table_view table.now))) }
 {
     let windows = windows(alloc, table)?;
     let ration = number(table, Key::Ration)? as u16;
@@ -96,7 +96,7 @@ fn wear_of(alloc: Global, table: &Table) -> Result<Wear, ConfigFault>
 
 fn energies_of(table: &Table) -> Result<Energies, ConfigFault>
     ensures ok { IfOk result (AreEnergiesOf (table_view table.now)) }
-    ensures err { IfErr result (IsFirst (energy_faults (table_view table.now))) }
+    ensures err { IfErr result (IsFirstFault (energy_faults (table_view table.now))) }
 {
     let spinning_mj = number(table, Key::SpinningMj)?;
     let parked_mj = number(table, Key::ParkedMj)?;

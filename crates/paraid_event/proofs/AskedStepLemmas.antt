@@ -28,6 +28,7 @@ use Rattle.paraid_session.specs.Turn.IsSecondLossEnergy.{begun, own}
 use Rattle.paraid_session.specs.Watch.{Watch, first_lost}
 use Rattle.paraid_session.proofs.LayerLemmas.{first_fails}
 use Rattle.paraid_session.specs.Resting.{watch_at}
+use Rattle.paraid_event.proofs.ApartLemmas.{down_not_bad, no_one, up_not_bad}
 use Rattle.paraid_event.specs.Moving.{GoesToState}
 use Rattle.paraid_event.specs.Service.{IsStateOf, Service}
 use Rattle.paraid_event.specs.Stands.{StandsAt}
@@ -96,11 +97,11 @@ module _ (told : Option Trail) (k : Service) (setup : Setup) (p : Point) (at : S
 
         none_lost : k2.meta.out ≡ No → (o : Option ℕ) → first_lost cs ≡ o → first_lost cs ≡ None
         none_lost whole None is = is
-        none_lost whole (Some e) is = let z : None ≡ Some e = sym (ap named_out whole) ∙ goes.leaves.failed e (first_fails cs e is) in cc
+        none_lost whole (Some e) is = absurd (no_one (sym (ap named_out whole) ∙ goes.leaves.failed e (first_fails cs e is)))
 
         lost_named : (d : ℕ) → named_out k2.meta.out ≡ Some d → first_lost cs ≡ Some d
         lost_named d named = elim (goes.leaves.newly d named) [
-          | inl was ↦ let z : None ≡ Some d = sym (ap named_out (sym at.state.out ∙ no_out)) ∙ was in cc
+          | inl was ↦ absurd (no_one (sym (ap named_out (sym at.state.out ∙ no_out)) ∙ was))
           | inr first ↦ first
         ]
 
@@ -141,13 +142,13 @@ module _ (told : Option Trail) (k : Service) (setup : Setup) (p : Point) (at : S
   -- A shift up that is asked for begins,
   pub up_asked : next_higher setup.geometry p.state.gear ≡ Some to → (k2 : Service) → AreCopiesSynced k2.meta.setup.geometry.disks k2.copied → GoesToState k2 (begun_up to p.state) → k2.energy ≡ min (k.energy + spin_up_energy setup p.state.gear to) 18446744073709551615
       → (most : ℕ) → most ≤ 2 ^ 20 → (told_then : Option Trail) → Ran told told_then (StepsInEvent k k2 p.history p.low most) → Ran told told_then (GoesOn k.slots setup p AskUp (Shift p.state.gear to) (StandsAt told_then k2 setup))
-  up_asked some k2 synced goes_to energy most few told_then = begun_told AskUp (begun_up to p.state) (λ e. let z : AskUp ≡ Bad = e in cc) refl (up_step some) k2 synced goes_to
+  up_asked some k2 synced goes_to energy most few told_then = begun_told AskUp (begun_up to p.state) (λ e. up_not_bad e) refl (up_step some) k2 synced goes_to
       (capped_sum p.energy k.energy (spin_up_energy setup p.state.gear to) k2.energy at.energy energy) (under_cap k2.energy (k.energy + spin_up_energy setup p.state.gear to) energy) refl most few told_then refl
 
   -- and so does a shift down.
   pub down_asked : next_lower setup.geometry p.state.gear ≡ Some to → to < p.state.gear → first_worn setup p.state to ≡ None → (k2 : Service) → AreCopiesSynced k2.meta.setup.geometry.disks k2.copied → GoesToState k2 (begun_down to p.state) → k2.energy ≡ k.energy
       → (most : ℕ) → most ≤ 2 ^ 20 → (told_then : Option Trail) → Ran told told_then (StepsInEvent k k2 p.history p.low most) → Ran told told_then (GoesOn k.slots setup p AskDown (Shift p.state.gear to) (StandsAt told_then k2 setup))
-  down_asked some lower unworn k2 synced goes_to energy most few told_then = begun_told AskDown (begun_down to p.state) (λ e. let z : AskDown ≡ Bad = e in cc) refl (down_step some unworn) k2 synced goes_to
+  down_asked some lower unworn k2 synced goes_to energy most few told_then = begun_told AskDown (begun_down to p.state) (λ e. down_not_bad e) refl (down_step some unworn) k2 synced goes_to
       (capped_own p.energy k.energy (spin_up_energy setup p.state.gear to) k2.energy at.energy at.fits (no_spin_ups setup.spinup_mj to p.state.gear lower) energy) (let f = at.fits in omega (arith, f, energy)) refl most few told_then refl
 
   own_up : (energy : ℕ) → energy ≡ k.energy → IsSecondLossEnergy setup p AskUp energy
@@ -163,11 +164,11 @@ module _ (told : Option Trail) (k : Service) (setup : Setup) (p : Point) (at : S
   -- A second disk is lost in either.
   pub up_asked_lost : next_higher setup.geometry p.state.gear ≡ Some to → (two : Two) (energy : ℕ) → (energy ≡ k.energy) ⊎ (energy ≡ min (k.energy + spin_up_energy setup p.state.gear to) 18446744073709551615) → (most : ℕ) → most ≤ 2 ^ 20 → (told_then : Option Trail)
       → Ran told told_then (LosesInSteps k p.history p.low most two) → Ran told told_then (GoesOn k.slots setup p AskUp (Halted (HaltTwo two)) (IsHaltedWith p (HaltTwo two) energy))
-  up_asked_lost some two energy which most few told_then = asked_lost AskUp two energy (λ e. let z : AskUp ≡ Bad = e in cc) refl refl (elim which [ inl same ↦ own_up energy same | inr after ↦ begun_energy_up some energy after ]) (up_busy told k setup p at to steady no_out some) most few told_then
+  up_asked_lost some two energy which most few told_then = asked_lost AskUp two energy (λ e. up_not_bad e) refl refl (elim which [ inl same ↦ own_up energy same | inr after ↦ begun_energy_up some energy after ]) (up_busy told k setup p at to steady no_out some) most few told_then
 
   pub down_asked_lost : next_lower setup.geometry p.state.gear ≡ Some to → first_worn setup p.state to ≡ None → (two : Two) (most : ℕ) → most ≤ 2 ^ 20 → (told_then : Option Trail)
       → Ran told told_then (LosesInSteps k p.history p.low most two) → Ran told told_then (GoesOn k.slots setup p AskDown (Halted (HaltTwo two)) (IsHaltedWith p (HaltTwo two) k.energy))
-  down_asked_lost some unworn two most few told_then = asked_lost AskDown two k.energy (λ e. let z : AskDown ≡ Bad = e in cc) refl refl (own_down k.energy refl) (down_busy told k setup p at to steady no_out some unworn) most few told_then
+  down_asked_lost some unworn two most few told_then = asked_lost AskDown two k.energy (λ e. down_not_bad e) refl refl (own_down k.energy refl) (down_busy told k setup p at to steady no_out some unworn) most few told_then
 
   -- A disk that is lost with what was staged stands in the way.
   module _ (event : Event) (not_bad : event ≢ Bad) (bounds : bounds_of setup p event ≡ bounds_at setup p p.state) (e : ℕ) (starts : watch_of p event (IsOut e) ≡ w0) (none_written : accepted_write event (IsOut e) ≡ [])
@@ -181,7 +182,7 @@ module _ (told : Option Trail) (k : Service) (setup : Setup) (p : Point) (at : S
       where
         failed : first_lost cs ≡ Some e
         failed = elim (goes.leaves.newly e named) [
-          | inl was ↦ let z : None ≡ Some e = sym (ap named_out (sym at.state.out ∙ no_out)) ∙ was in cc
+          | inl was ↦ absurd (no_one (sym (ap named_out (sym at.state.out ∙ no_out)) ∙ was))
           | inr first ↦ first
         ]
 

@@ -30,6 +30,7 @@ use Rattle.paraid_session.specs.Watch.{Bounds, Down, Each, HoldsWhileServing, Is
 use Rattle.paraid_startup.proofs.DownLemmas.{in_absent, in_stays}
 use Rattle.paraid_startup.proofs.SpinsLemmas.{same_used}
 use Rattle.paraid_txn.specs.Uses.{EachCall}
+use Rattle.paraid_event.proofs.ApartLemmas.{no_one}
 use Rattle.paraid_event.specs.Marks.{ArePoweredByGear}
 use Rattle.paraid_event.specs.Service.{Service}
 use Rattle.paraid_event.specs.Stands.{IsMidway, ServiceStandsFor}
@@ -200,11 +201,11 @@ module _ (k : Service) (h : History) (lo : ℕ) (base : Meta) (w : Watch) (at : 
   none_awaited e is = by w.awaited refl is
     where
       inner : (x : ℕ) (t : Bool) → (d == x) ≡ t → d ≡ x → (if t then None else Some x) ≡ Some e → ⊥
-      inner x true t same z = let y : None ≡ Some e = z in cc
+      inner x true t same z = absurd (no_one z)
       inner x false t same z = false≢true (sym t ∙ equal_self d x same)
 
       by : (o : Option ℕ) → w.awaited ≡ o → awaited_after o c ≡ Some e → ⊥
-      by None o z = let y : None ≡ Some e = z in cc
+      by None o z = absurd (no_one z)
       by (Some x) o z =
           let waits : gone_out k.meta.out ≡ Some x = at.stands.awaited x o in
           let one : Some d ≡ Some x = ap gone_out (sym gone) ∙ waits in

@@ -5,7 +5,7 @@ use Rattle.std.proofs.lemmas.Bool.{false≢true}
 use Rattle.std.proofs.lemmas.List.{append-nil}
 use Rattle.paraid_base.specs.declared.event.Answer.{Answer}
 use Rattle.paraid_base.specs.declared.event.Answer.TheVariants.{Halted, Shift}
-use Rattle.paraid_base.specs.declared.event.Event.TheVariants.{Down as AskDown, Up as AskUp, Bad}
+use Rattle.paraid_base.specs.declared.event.Event.TheVariants.{Down as AskDown, Up as AskUp}
 use Rattle.paraid_base.specs.declared.fault.Halt.TheVariants.{Two as HaltTwo}
 use Rattle.paraid_base.specs.declared.fault.Two.{Two}
 use Rattle.paraid_base.specs.declared.state.Out.{Out}
@@ -40,6 +40,7 @@ use Rattle.paraid_session.proofs.LayerLemmas.{first_fails}
 use Rattle.paraid_session.specs.Resting.{watch_at}
 use Rattle.paraid_startup.proofs.BaseLemmas.{each_append}
 use Rattle.paraid_startup.proofs.DownLemmas.{watched_disks}
+use Rattle.paraid_event.proofs.ApartLemmas.{down_not_bad, no_one, up_not_bad}
 use Rattle.paraid_event.specs.Begins.{BeginsDown, MarksShiftDown}
 use Rattle.paraid_event.specs.Lost.{IsHaltedFrom, TellsTwo}
 use Rattle.paraid_event.specs.Marks.{ArePoweredByGear, IsMarkedBy, ShowsMeta}
@@ -65,7 +66,7 @@ first_append (c ∷ cs) ds none = by (is_done c) none (λ rest. first_append cs 
 
 only_more : (o : Option ℕ) (down : DownDisks) → IsOnly None down → IsOnly o down
 only_more o nobody is = tt
-only_more o (only d) is = let z : None ≡ Some d = is in cc
+only_more o (only d) is = absurd (no_one is)
 only_more o several is = is
 
 -- no spin-up is pending in a shift down, or in none
@@ -109,7 +110,7 @@ module _ (told : Option Trail) (k k1 k2 : Service) (setup : Setup) (p : Point) (
     v1 = watch_all cs w0
 
     no_named1 : (e : ℕ) → named_out k1.meta.out ≡ Some e → ⊥
-    no_named1 e named = let z : None ≡ Some e = sym (ap named_out shift.whole) ∙ named in cc
+    no_named1 e named = absurd (no_one (sym (ap named_out shift.whole) ∙ named))
 
     only1 : IsOnly None v1.down
     only1 = part_only k p.history p.low p.meta w0 mid0 cs part k1 p.history lo1 ends None only0 (λ e named. absurd (no_named1 e named))
@@ -325,7 +326,7 @@ module _ (told : Option Trail) (k k1 k2 : Service) (setup : Setup) (p : Point) (
         begun_turn : point_wear p < 2 ^ 62 → (told_then : Option Trail) → ((t : Trail) → told_then ≡ Some t → now t ≡ v3.disks) → GoesOn k.slots setup p AskDown (Shift p.state.gear to) (StandsAt told_then k3 setup) p.disks (cs ++ ds)
         begun_turn fit told_then tells = let there = begun_stands told_then tells in (
           begun_point,
-          answered at.going (λ e. let z : AskDown ≡ Bad = e in cc) (record {
+          answered at.going (λ e. down_not_bad e) (record {
             fit = λ asked. fit;
             machine = subst (λ (o : Option ℕ). IsEventStep setup p.history p.energy p.state AskDown o (Shift p.state.gear to) s3) (sym (first_append cs ds none_lost)) begun_step;
             moments = each_append (HoldsWhileServing k.slots p.history p.low b) (IsAllowed setup None) w0 cs ds each1 (each2 ds part2);
@@ -395,10 +396,10 @@ module _ (told : Option Trail) (k : Service) (setup : Setup) (p : Point) (at : S
 
   module _ (told_then : Option Trail) (two : Two) (fit : point_wear p < 2 ^ 62) (ran : Ran told told_then (λ s cs. LosesInEvent k p.history p.low s cs × TellsTwo k two s cs)) where
     pub down_loses : next_lower setup.geometry p.state.gear ≡ Some to → first_worn setup p.state to ≡ None → Ran told told_then (GoesOn k.slots setup p AskDown (Halted (HaltTwo two)) (IsHaltedFrom p (HaltTwo two)))
-    down_loses some unworn = loses_told told told_then k setup p at two AskDown refl refl refl (λ e. let z : AskDown ≡ Bad = e in cc) (down_busy some unworn) fit ran
+    down_loses some unworn = loses_told told told_then k setup p at two AskDown refl refl refl (λ e. down_not_bad e) (down_busy some unworn) fit ran
 
     pub up_loses : next_higher setup.geometry p.state.gear ≡ Some to → Ran told told_then (GoesOn k.slots setup p AskUp (Halted (HaltTwo two)) (IsHaltedFrom p (HaltTwo two)))
-    up_loses some = loses_told told told_then k setup p at two AskUp refl refl refl (λ e. let z : AskUp ≡ Bad = e in cc) (up_busy some) fit ran
+    up_loses some = loses_told told told_then k setup p at two AskUp refl refl refl (λ e. up_not_bad e) (up_busy some) fit ran
 
 module _ (told : Option Trail) (k k1 k2 : Service) (setup : Setup) (p : Point) (at : StandsAt told k setup p) (to : ℕ) (shift : MarksShiftDown k k1 k2 to) (some : next_lower setup.geometry p.state.gear ≡ Some to)
     (steady : p.state.phase ≡ Steady) (no_out : p.state.out ≡ No) (unworn : first_worn setup p.state to ≡ None) (lo1 : ℕ) (le1 : p.low ≤ lo1) (two : Two) (fit : point_wear p < 2 ^ 62) where
@@ -428,7 +429,7 @@ module _ (told : Option Trail) (k k1 k2 : Service) (setup : Setup) (p : Point) (
   }
     where
       no_name : (d : ℕ) → named_out k2.meta.out ≡ Some d → ⊥
-      no_name d named = let z : None ≡ Some d = sym (ap (λ (s : Service). named_out s.meta.out) shift.mark ∙ ap named_out shift.whole) ∙ named in cc
+      no_name d named = absurd (no_one (sym (ap (λ (s : Service). named_out s.meta.out) shift.mark ∙ ap named_out shift.whole) ∙ named))
 
       first_of : (named_out k2.meta.out ≡ Some two.first) ⊎ ((named_out k2.meta.out ≡ None) × (first_lost ds ≡ Some two.first)) → first_lost ds ≡ Some two.first
       first_of (inl named) = absurd (no_name two.first named)
@@ -456,7 +457,7 @@ module _ (told : Option Trail) (k k1 k2 : Service) (setup : Setup) (p : Point) (
         is = r2.is ∙ ap (λ (u : Trail). extend u r2.calls) r1.is ∙ extend-extend r1.from r1.calls r2.calls;
         holds = (
           record p { disks = run p.disks (r1.calls ++ r2.calls); halt = Some (HaltTwo two) },
-          second_loss two at.going (λ e. let z : AskDown ≡ Bad = e in cc) refl (loses_marked r1.calls part1 ends1 keeps r2.calls part2 holds2.1),
+          second_loss two at.going (λ e. down_not_bad e) refl (loses_marked r1.calls part1 ends1 keeps r2.calls part2 holds2.1),
           refl,
         );
       }

@@ -25,6 +25,7 @@ use Rattle.paraid_startup.proofs.DownLemmas.{watched_disks}
 use Rattle.paraid_txn.specs.Commit.{IsOldOrNew}
 use Rattle.paraid_startup.proofs.SpinsLemmas.{same_used}
 use Rattle.paraid_txn.specs.Uses.{EachCall}
+use Rattle.paraid_event.proofs.ApartLemmas.{no_one}
 use Rattle.paraid_event.specs.Marks.{IsMarkedBy}
 use Rattle.paraid_event.specs.Parts.{BringsMeta, committed_meta}
 use Rattle.paraid_event.specs.Parts.BringsMeta.{commit, nothing}
@@ -53,7 +54,7 @@ only_from (Some d) = refl
 -- so it is that one
 pub only_is : (o : Option ℕ) (down : Down) → IsOnly o down → ((d : ℕ) → o ≡ Some d → IsIn down d) → down ≡ down_from_out o
 only_is None nobody is has = refl
-only_is None (only d) is has = let z : None ≡ Some d = is in cc
+only_is None (only d) is has = absurd (no_one is)
 only_is None several is has = absurd is
 only_is (Some d) nobody is has = absurd (has d refl)
 only_is (Some d) (only e) is has = let z : Some d ≡ Some e = is in ap only (let same : e ≡ d = cc in same)

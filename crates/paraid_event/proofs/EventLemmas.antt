@@ -32,6 +32,7 @@ use Rattle.paraid_session.specs.Turn.{GoesOn, Point, awaited_by, bounds_at, boun
 use Rattle.paraid_session.specs.Turn.IsTurn.{answered}
 use Rattle.paraid_session.specs.Watch.{Bounds, HoldsWhileServing, IsServing, Watch, down_from_out, first_lost}
 use Rattle.paraid_session.specs.Resting.{watch_at}
+use Rattle.paraid_event.proofs.ApartLemmas.{energy_not_bad, flush_not_bad, read_not_bad, state_not_bad, write_not_bad}
 use Rattle.paraid_event.specs.Counts.{CountsFlushed, CountsServed, with_counts_of}
 use Rattle.paraid_event.specs.Parts.{AreEventCalls, EndsEvent, ServesEvent}
 use Rattle.paraid_event.specs.Service.{IsStateOf, Service}
@@ -173,7 +174,7 @@ module _ (told told_then : Option Trail) (k k_then : Service) (setup : Setup) (p
         → GoesOn k.slots setup p (Read block) (Value block bytes) (StandsAt told_then k_then setup) p.disks cs
     read_turn cs part ends tells =
         turn told k setup p at cs part k_then h_then lo_then ends (Read block) (Value block bytes) told_then (with_one_served (block_read setup block (state_after p.state (first_lost cs))))
-        refl refl (λ a. refl) (λ e. let z : Read block ≡ Bad = e in cc) fit (read_step cs part ends)
+        refl refl (λ a. refl) (λ e. read_not_bad e) fit (read_step cs part ends)
         (served_state k k_then (block_read setup block) counts (read_beside setup block) _ (state_then told k setup p at cs part k_then h_then lo_then ends))
         (same_history ∙ sym (append-nil p.history)) low refl (λ f. absurd (false≢true f)) tells counts.slots counts.copies_synced (capped k_then.energy p.energy k.energy at.energy counts.energy at.fits)
 
@@ -192,7 +193,7 @@ module _ (told told_then : Option Trail) (k k_then : Service) (setup : Setup) (p
         → GoesOn k.slots setup p (Write pairs) (Wrote (length p.history + 1)) (StandsAt told_then k_then setup) p.disks cs
     write_turn cs part ends tells =
         turn told k setup p at cs part k_then h_then lo_then ends (Write pairs) (Wrote (length p.history + 1)) told_then (with_one_served (all_written setup.geometry.disks (blocks_named (pairs_of pairs)) (state_after p.state (first_lost cs))))
-        refl refl (λ a. refl) (λ e. let z : Write pairs ≡ Bad = e in cc) fit (write_step cs part ends)
+        refl refl (λ a. refl) (λ e. write_not_bad e) fit (write_step cs part ends)
         (served_state k k_then (all_written setup.geometry.disks (blocks_named (pairs_of pairs))) counts (all_beside setup.geometry.disks (blocks_named (pairs_of pairs))) _ (state_then told k setup p at cs part k_then h_then lo_then ends))
         longer low refl (λ f. absurd (false≢true f)) tells counts.slots counts.copies_synced (capped k_then.energy p.energy k.energy at.energy counts.energy at.fits)
 
@@ -217,7 +218,7 @@ module _ (told told_then : Option Trail) (k k_then : Service) (setup : Setup) (p
         → GoesOn k.slots setup p Flush (Flushed (length p.history)) (StandsAt told_then k_then setup) p.disks cs
     flush_turn cs part ends tells =
         turn told k setup p at cs part k_then h_then lo_then ends Flush (Flushed (length p.history)) told_then (state_after p.state (first_lost cs))
-        refl refl (λ a. refl) (λ e. let z : Flush ≡ Bad = e in cc) fit (flush_step cs part ends)
+        refl refl (λ a. refl) (λ e. flush_not_bad e) fit (flush_step cs part ends)
         (flushed_state k k_then counts _ (state_then told k setup p at cs part k_then h_then lo_then ends))
         (same_history ∙ sym (append-nil p.history)) (flush_low p.low (length p.history) lo_then short low) refl
         (λ f. dirty_shown told k setup p at cs part k_then h_then lo_then ends (Flushed (length p.history)) Flush (state_after p.state (first_lost cs)) (flushed_state k k_then counts _ (state_then told k setup p at cs part k_then h_then lo_then ends)) counts.nothing_staged)
@@ -270,7 +271,7 @@ module _ (told : Option Trail) (k : Service) (setup : Setup) (p : Point) (at : S
   no_call event answer goes = Ran-none (GoesOn k.slots setup p event answer (StandsAt told k setup)) (λ s. goes) told
 
   pub state_turn : Ran told told (GoesOn k.slots setup p AskState (IsState (state_status setup (length p.history) p.state) setup.geometry.disks) (StandsAt told k setup))
-  state_turn = no_call AskState _ (asked_turn AskState _ refl refl (λ a. refl) (λ e. let z : AskState ≡ Bad = e in cc) (λ asked. absurd (false≢true asked)) state_step refl refl refl refl)
+  state_turn = no_call AskState _ (asked_turn AskState _ refl refl (λ a. refl) (λ e. state_not_bad e) (λ asked. absurd (false≢true asked)) state_step refl refl refl refl)
 
   pub energy_turn : Ran told told (GoesOn k.slots setup p AskEnergy (EnergyUsed p.energy) (StandsAt told k setup))
-  energy_turn = no_call AskEnergy _ (asked_turn AskEnergy _ refl refl (λ a. refl) (λ e. let z : AskEnergy ≡ Bad = e in cc) (λ asked. absurd (false≢true asked)) energy_step refl refl refl refl)
+  energy_turn = no_call AskEnergy _ (asked_turn AskEnergy _ refl refl (λ a. refl) (λ e. energy_not_bad e) (λ asked. absurd (false≢true asked)) energy_step refl refl refl refl)

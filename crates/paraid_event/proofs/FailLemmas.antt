@@ -6,9 +6,9 @@ use Rattle.std.proofs.lemmas.Bool.Decides.{nat_tests}
 use Rattle.std.proofs.lemmas.List.{append-nil}
 use Rattle.paraid_base.specs.declared.event.Answer.{Answer}
 use Rattle.paraid_base.specs.declared.event.Answer.TheVariants.{Failed}
-use Rattle.paraid_base.specs.declared.event.Event.TheVariants.{Fail, Bad}
+use Rattle.paraid_base.specs.declared.event.Event.TheVariants.{Fail}
 use Rattle.paraid_base.specs.declared.state.Out.{Out}
-use Rattle.paraid_base.specs.declared.state.Out.TheVariants.{No, Gone, Fresh}
+use Rattle.paraid_base.specs.declared.state.Out.TheVariants.{No, Gone}
 use Rattle.paraid_base.specs.declared.state.Phase.{Phase}
 use Rattle.paraid_base.specs.declared.state.Phase.TheVariants.{Steady, Down as PhaseDown, Up}
 use Rattle.paraid_base.specs.History.{History}
@@ -37,6 +37,7 @@ use Rattle.paraid_session.specs.Watch.{Bounds, Down, Each, HoldsWhileServing, Is
 use Rattle.paraid_session.proofs.LayerLemmas.{IsIn, first_fails}
 use Rattle.paraid_startup.proofs.BaseLemmas.{each_append}
 use Rattle.paraid_startup.proofs.DownLemmas.{in_stays, watched_disks}
+use Rattle.paraid_event.proofs.ApartLemmas.{fail_not_bad, gone_not_fresh, no_one}
 use Rattle.paraid_event.specs.Fails.{TakesOut}
 use Rattle.paraid_event.specs.Marks.{ArePoweredByGear, IsMarkedBy, ShowsMeta}
 use Rattle.paraid_event.specs.Parts.{AreEventCalls, EndsEvent, ServesEvent, committed_meta}
@@ -113,7 +114,7 @@ taken_midway k j h lo base v d at is alone low down keeps = subst (λ (z : Servi
   };
   named = λ e e_low gone. ap (λ (x : ℕ). Some x) (sym (alone e (at.named e e_low gone)));
   low = λ e named. let z : Some d ≡ Some e = named in let same_disk : d ≡ e = cc in subst (λ (x : ℕ). x < k.meta.setup.geometry.disks) same_disk low;
-  fresh = λ e u named. let z : Gone d ≡ Fresh e u = named in cc;
+  fresh = λ e u named. absurd (gone_not_fresh named);
 })
 
 one_or_same : (o : Option ℕ) (d e : ℕ) → (o ≡ Some e → e ≡ d) → o ≡ Some e → Some d ≡ Some e
@@ -133,7 +134,7 @@ module _ (told : Option Trail) (k k1 k2 k3 : Service) (setup : Setup) (p : Point
   b = bounds_at setup p p.state
 
   none_named : (e : ℕ) → named_out k.meta.out ≡ Some e → ⊥
-  none_named e named = let z : None ≡ Some e = sym (ap named_out (sym at.state.out ∙ no_out)) ∙ named in cc
+  none_named e named = absurd (no_one (sym (ap named_out (sym at.state.out ∙ no_out)) ∙ named))
 
   mid0 : IsMidway k p.history p.low p.meta w0
   mid0 = record {
@@ -191,7 +192,7 @@ module _ (told : Option Trail) (k k1 k2 k3 : Service) (setup : Setup) (p : Point
       powered2 : ArePoweredByGear v1.disks.power k2.meta
       powered2 = subst (ArePoweredByGear v1.disks.power) (sym meta2) (record {
         by_gear = λ e low not. powered1.by_gear e low (λ named. not (ap (λ (x : ℕ). Some x) (sym (takes.alone e named)))) ∙ sym (taken_gear k1.meta d e);
-        fresh = λ e u is. let z : Gone d ≡ Fresh e u = is in cc;
+        fresh = λ e u is. absurd (gone_not_fresh is);
       })
 
       named2 : named_out k2.meta.out ≡ Some d
@@ -372,7 +373,7 @@ module _ (told : Option Trail) (k k1 k2 k3 : Service) (setup : Setup) (p : Point
         pub failed_turn : point_wear p < 2 ^ 62 → (told_then : Option Trail) → ((t : Trail) → told_then ≡ Some t → now t ≡ v3.disks) → GoesOn k.slots setup p (Fail d) (Failed d) (StandsAt told_then k3 setup) p.disks (cs ++ ds)
         failed_turn fit told_then tells = let there = failed_stands told_then tells in (
           failed_point,
-          answered at.going (λ e. let z : Fail d ≡ Bad = e in cc) (record {
+          answered at.going (λ e. fail_not_bad e) (record {
             fit = λ asked. fit;
             machine = failed_step;
             moments = subst (λ (z : Watch). Each (HoldsWhileServing k.slots p.history p.low b) (IsAllowed setup None) z (cs ++ ds)) (sym starts)

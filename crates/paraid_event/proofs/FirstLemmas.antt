@@ -26,6 +26,7 @@ use Rattle.paraid_session.proofs.LayerLemmas.{IsIn}
 use Rattle.paraid_startup.specs.First.{first_point}
 use Rattle.paraid_startup.proofs.FirstLemmas.{loss_shown}
 use Rattle.paraid_startup.proofs.RestLemmas.{rest_only}
+use Rattle.paraid_event.proofs.ApartLemmas.{gone_not_fresh, no_one, none_not_fresh}
 use Rattle.paraid_event.specs.First.{BeginsService}
 use Rattle.paraid_event.specs.Marks.{ArePoweredByGear, ShowsMeta}
 use Rattle.paraid_event.specs.Service.{IsStateOf, Service}
@@ -37,7 +38,7 @@ unfolding state_by
 state_out s m = refl
 
 down_of : (o : Option ℕ) (d : ℕ) → o ≡ Some d → IsIn (down_from_out o) d
-down_of None d is = let z : None ≡ Some d = is in cc
+down_of None d is = absurd (no_one is)
 down_of (Some e) d is = let z : Some e ≡ Some d = is in let same : e ≡ d = cc in sym same
 
 rising_beside : (phase : Phase) → rising_to (phase_beside true phase) ≡ rising_to phase
@@ -85,16 +86,16 @@ loss_fill m None range = fill_settled (has_out m.out) m.fill range.shift.still
 loss_fill m (Some d) range = refl
 
 no_fresh : (slot : Option ℕ) (e rebuilt : ℕ) → gone_of slot ≡ Fresh e rebuilt → ⊥
-no_fresh None e rebuilt is = let z : No ≡ Fresh e rebuilt = is in cc
-no_fresh (Some d) e rebuilt is = let z : Gone d ≡ Fresh e rebuilt = is in cc
+no_fresh None e rebuilt is = absurd (none_not_fresh is)
+no_fresh (Some d) e rebuilt is = absurd (gone_not_fresh is)
 
 fresh_if : (d u e rebuilt : ℕ) (there : Bool) → (if there then Fresh d u else Gone d) ≡ Fresh e rebuilt → (there ≡ true) × (d ≡ e)
 fresh_if d u e rebuilt true is = (refl, (let z : Fresh d u ≡ Fresh e rebuilt = is in cc))
-fresh_if d u e rebuilt false is = absurd (let z : Gone d ≡ Fresh e rebuilt = is in cc)
+fresh_if d u e rebuilt false is = absurd (gone_not_fresh is)
 
 fresh_out : (o : Out) (power : ℕ → Power) (slot : Option ℕ) (e rebuilt : ℕ) → out_after o power slot ≡ Fresh e rebuilt → is_present (power e) ≡ true
 fresh_out No power slot e rebuilt is = absurd (no_fresh slot e rebuilt is)
-fresh_out (Gone d) power slot e rebuilt is = absurd (let z : Gone d ≡ Fresh e rebuilt = is in cc)
+fresh_out (Gone d) power slot e rebuilt is = absurd (gone_not_fresh is)
 fresh_out (Fresh d u) power slot e rebuilt is = let it = fresh_if d u e rebuilt (is_present (power d)) is in subst (λ (x : ℕ). is_present (power x) ≡ true) it.1 it.0
 
 module _ (told : Option Trail) (s : Disks) (standing : Meta) (h : History) (spun : ℕ → ℕ) (k : Service) (begins : BeginsService s standing h spun k) (tells : (t : Trail) → told ≡ Some t → now t ≡ s) where

@@ -23,6 +23,7 @@ use Rattle.paraid_core.proofs.CommitLemmas.{both_of}
 use Rattle.paraid_txn.specs.Commit.{IsOldOrNew}
 use Rattle.paraid_txn.specs.Uses.{EachCall}
 use Rattle.paraid_recover.specs.Powers.{IsPowerCall}
+use Rattle.paraid_event.proofs.ApartLemmas.{gone_not_fresh, no_one, none_not_fresh}
 use Rattle.paraid_event.specs.Marks.{ArePoweredByGear, IsMarkedBy, ShowsMeta}
 use Rattle.paraid_event.specs.Parts.{committed_meta}
 use Rattle.paraid_event.specs.Parts.BringsMeta.{commit, nothing}
@@ -35,14 +36,14 @@ use Rattle.paraid_event.proofs.ShownLemmas.{shown_rests}
 
 -- a disk that is being rebuilt by what the disks show is there
 fresh_shown : (power : ℕ → Power) (lost : Option ℕ) (o : Out) (d u : ℕ) → out_after o power lost ≡ Fresh d u → is_present (power d) ≡ true
-fresh_shown power None No d u is = let z : No ≡ Fresh d u = is in cc
-fresh_shown power (Some e) No d u is = let z : Gone e ≡ Fresh d u = is in cc
-fresh_shown power lost (Gone e) d u is = let z : Gone e ≡ Fresh d u = is in cc
+fresh_shown power None No d u is = absurd (none_not_fresh is)
+fresh_shown power (Some e) No d u is = absurd (gone_not_fresh is)
+fresh_shown power lost (Gone e) d u is = absurd (gone_not_fresh is)
 fresh_shown power lost (Fresh e v) d u is = by (is_present (power e)) refl is
   where
     by : (t : Bool) → is_present (power e) ≡ t → (if t then Fresh e v else Gone e) ≡ Fresh d u → is_present (power d) ≡ true
     by true there same = let z : Fresh e v ≡ Fresh d u = same in subst (λ (x : ℕ). is_present (power x) ≡ true) (let equal : e ≡ d = cc in equal) there
-    by false gone same = let z : Gone e ≡ Fresh d u = same in cc
+    by false gone same = absurd (gone_not_fresh same)
 
 module _ (told told_then : Option Trail) (k k_then : Service) (h : History) (lo lo_then : ℕ) (out : Option ℕ) (is_out : (d : ℕ) → out ≡ Some d → (k.named ≡ Some d) ⊎ (named_out k.meta.out ≡ Some d)) (slot slot_then : ℕ → Slot)
     (agrees : (t : Trail) → told ≡ Some t → Agrees (now t) slot) (agrees_then : (t : Trail) → told_then ≡ Some t → Agrees (now t) slot_then) (marks : MarksLost slot slot_then k.meta k_then.meta)
@@ -69,9 +70,9 @@ module _ (told told_then : Option Trail) (k k_then : Service) (h : History) (lo 
       by : (o : Option ℕ) → marks.lost ≡ o → is_present ((now t).power d) ≡ true
       by None none =
           let there = fresh d u (sym (out_by None none) ∙ is) in
-          let same_power = (marks.others d (λ e. let z : None ≡ Some d = sym none ∙ e in cc)).power in
+          let same_power = (marks.others d (λ e. absurd (no_one (sym none ∙ e)))).power in
           ap is_present ((agrees_then t tells).power d ∙ same_power ∙ sym ((agrees from was).power d)) ∙ there
-      by (Some x) some = let z : Gone x ≡ Fresh d u = sym (out_by (Some x) some) ∙ is in cc
+      by (Some x) some = absurd (gone_not_fresh (sym (out_by (Some x) some) ∙ is))
 
   -- The meta is marked by the disks that are told.
   marked_end : (t from : Trail) (cs : List Call) → told_then ≡ Some t → told ≡ Some from → now t ≡ run (now from) cs → IsFreshThere (now from) → IsMarkedBy (run (now from) cs).power k.meta k_then.meta
@@ -146,7 +147,7 @@ module _ (told told_then : Option Trail) (k k_then : Service) (h : History) (lo 
       where
         by : (o : Option ℕ) → marks.lost ≡ o → ⊥
         by None none = not_fresh d u (sym (out_by None none) ∙ is)
-        by (Some x) some = let z : Gone x ≡ Fresh d u = sym (out_by (Some x) some) ∙ is in cc
+        by (Some x) some = absurd (gone_not_fresh (sym (out_by (Some x) some) ∙ is))
 
     powered_end : (t from : Trail) (cs : List Call) → told_then ≡ Some t → told ≡ Some from → now t ≡ run (now from) cs → ((d : ℕ) → d < n → (named_out k.meta.out ≡ Some d → ⊥) → (now from).power d ≡ power_by_gear powers.gear powers.phase d)
         → ArePoweredByGear (run (now from) cs).power k_then.meta

@@ -25,6 +25,7 @@ use Rattle.paraid_session.specs.Turn.{GoesOn, Point, bounds_at, bounds_of, point
 use Rattle.paraid_session.specs.Watch.{first_lost}
 use Rattle.paraid_session.proofs.LayerLemmas.{absent_failed, fails_first}
 use Rattle.paraid_session.specs.Resting.{watch_at}
+use Rattle.paraid_event.proofs.ApartLemmas.{no_one}
 use Rattle.paraid_event.specs.Counts.{CountsFlushed, with_counts_of}
 use Rattle.paraid_event.specs.Parts.{AreEventCalls, EndsEvent, ServesEvent}
 use Rattle.paraid_event.specs.Service.{IsStateOf, Service}
@@ -59,7 +60,7 @@ apart_test a b l = grind (arith, nat_tests)
 module _ (told told_then : Option Trail) (k k_then : Service) (setup : Setup) (p : Point) (at : StandsAt told k setup p) (e lo_then : ℕ) (fit : point_wear p < 2 ^ 62) (no_out : p.state.out ≡ No) (named : named_out k_then.meta.out ≡ Some e) (counts : CountsFlushed k k_then)
     (low : p.low ≤ lo_then) where
   none_named : (d : ℕ) → named_out k.meta.out ≡ Some d → ⊥
-  none_named d was = let z : None ≡ Some d = sym (ap named_out (sym at.state.out ∙ no_out)) ∙ was in cc
+  none_named d was = absurd (no_one (sym (ap named_out (sym at.state.out ∙ no_out)) ∙ was))
 
   module _ (cs : List Call) (part : AreEventCalls k p.history p.low p.meta p.disks cs) (ends : EndsEvent k k_then p.history lo_then p.disks cs) where
     -- the disk that is out now failed first

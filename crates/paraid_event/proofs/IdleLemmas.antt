@@ -33,6 +33,7 @@ use Rattle.paraid_session.specs.Turn.IsTurn.{again, answered, bad}
 use Rattle.paraid_session.specs.Watch.{HoldsWhileServing, IsServing, down_from_out}
 use Rattle.paraid_session.specs.Resting.{watch_at}
 use Rattle.paraid_startup.proofs.RestLemmas.{rest_only}
+use Rattle.paraid_event.proofs.ApartLemmas.{tick_not_bad}
 use Rattle.paraid_event.specs.Service.{IsStateOf, Service}
 use Rattle.paraid_event.specs.Stands.{ServiceStandsFor, StandsAt, StandsIn}
 use Rattle.paraid_event.specs.Ticks.{CountsTick, ticked}
@@ -140,7 +141,7 @@ module _ (told : Option Trail) (k k_then : Service) (setup : Setup) (p : Point) 
     idle_turn : IsEventStep setup p.history p.energy p.state Tick None answer s_then → GoesOn k.slots setup p Tick answer (StandsAt told j setup) p.disks []
     idle_turn machine = (
       q,
-      answered at.going (λ e. let z : Tick ≡ Bad = e in cc) (record {
+      answered at.going (λ e. tick_not_bad e) (record {
         fit = λ asked. fit;
         machine = machine;
         moments = kept;

@@ -1,3 +1,4 @@
+pub mod ApartLemmas
 pub mod MarksLemmas
 pub mod PointLemmas
 pub mod LogsLemmas

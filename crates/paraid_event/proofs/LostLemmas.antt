@@ -28,6 +28,7 @@ use Rattle.paraid_session.specs.Turn.IsSecondLossGear.{same}
 use Rattle.paraid_session.specs.Turn.IsTurn.{two as second_loss}
 use Rattle.paraid_session.specs.Watch.{Bounds, Each, HoldsWhileServing, IsAllowed, Watch}
 use Rattle.paraid_session.specs.Resting.{watch_at}
+use Rattle.paraid_event.proofs.ApartLemmas.{flush_not_bad, read_not_bad, write_not_bad}
 use Rattle.paraid_event.specs.Lost.{IsHaltedFrom, TellsTwo}
 use Rattle.paraid_event.specs.Parts.{AreEventCalls, LosesInEvent}
 use Rattle.paraid_event.specs.Service.{Service}
@@ -112,10 +113,10 @@ module _ (told told_then : Option Trail) (k : Service) (setup : Setup) (p : Poin
   Loses = Ran told told_then (λ s cs. LosesInEvent k p.history p.low s cs × TellsTwo k two s cs)
 
   pub read_loses : (block : ℕ) → block < block_count setup → point_wear p < 2 ^ 62 → Loses → Ran told told_then (GoesOn k.slots setup p (Read block) (Halted (HaltTwo two)) (IsHaltedFrom p (HaltTwo two)))
-  read_loses block there fit ran = loses_told (Read block) refl refl refl (λ e. let z : Read block ≡ Bad = e in cc) (read_busy block there) fit ran
+  read_loses block there fit ran = loses_told (Read block) refl refl refl (λ e. read_not_bad e) (read_busy block there) fit ran
 
   pub write_loses : (pairs : Pairs) → All (λ (pair : ℕ × Block). pair.0 < block_count setup) (pairs_of pairs) → point_wear p < 2 ^ 62 → Loses → Ran told told_then (GoesOn k.slots setup p (Write pairs) (Halted (HaltTwo two)) (IsHaltedFrom p (HaltTwo two)))
-  write_loses pairs there fit ran = loses_told (Write pairs) refl refl refl (λ e. let z : Write pairs ≡ Bad = e in cc) (write_busy pairs there) fit ran
+  write_loses pairs there fit ran = loses_told (Write pairs) refl refl refl (λ e. write_not_bad e) (write_busy pairs there) fit ran
 
   pub flush_loses : point_wear p < 2 ^ 62 → Loses → Ran told told_then (GoesOn k.slots setup p Flush (Halted (HaltTwo two)) (IsHaltedFrom p (HaltTwo two)))
-  flush_loses fit ran = loses_told Flush refl refl refl (λ e. let z : Flush ≡ Bad = e in cc) flush_busy fit ran
+  flush_loses fit ran = loses_told Flush refl refl refl (λ e. flush_not_bad e) flush_busy fit ran

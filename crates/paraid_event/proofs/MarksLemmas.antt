@@ -18,6 +18,7 @@ use Rattle.paraid_image.specs.Shown.{IsShown}
 use Rattle.paraid_image.specs.Spins.{first_used}
 use Rattle.paraid_image.proofs.OutLemmas.{first_absent_finds, first_absent_is}
 use Rattle.paraid_core.specs.CoreInvariant.{meta_with_lost}
+use Rattle.paraid_event.proofs.ApartLemmas.{gone_not_fresh, no_one, none_not_fresh}
 use Rattle.paraid_event.specs.Marks.{ArePoweredByGear, IsMarkedBy, ShowsMeta}
 use Rattle.paraid_event.specs.Service.{IsStateOf, Service}
 
@@ -42,7 +43,7 @@ named_state power m = named_after m.out power (first_absent power m.setup.geomet
 pub gone_is_named : (o : Out) (d : ℕ) → gone_out o ≡ Some d → named_out o ≡ Some d
 gone_is_named No d is = is
 gone_is_named (Gone e) d is = is
-gone_is_named (Fresh e rebuilt) d is = let z : None ≡ Some d = is in cc
+gone_is_named (Fresh e rebuilt) d is = absurd (no_one is)
 
 some_is : {A : Type 0} (a b : A) → Some a ≡ Some b → a ≡ b
 some_is {A} a b e = cc
@@ -88,11 +89,11 @@ powers_of k s power powered of d p low is = split k.meta.out refl (sym (rw (of.g
     by_gear not e = powered.by_gear d low not ∙ some_is (power_by_gear k.meta.gear k.meta.phase d) p e
 
     split : (o : Out) → k.meta.out ≡ o → power_beside o d (power_by_gear k.meta.gear k.meta.phase d) ≡ Some p → power d ≡ p
-    split No out e = by_gear (λ named. let z : None ≡ Some d = sym (ap named_out out) ∙ named in cc) e
+    split No out e = by_gear (λ named. absurd (no_one (sym (ap named_out out) ∙ named))) e
     split (Gone x) out e = either (d == x) refl e
       where
         either : (b : Bool) → (d == x) ≡ b → (if b then None else Some (power_by_gear k.meta.gear k.meta.phase d)) ≡ Some p → power d ≡ p
-        either true same f = absurd (let z : None ≡ Some p = f in cc)
+        either true same f = absurd (no_one f)
         either false apart f = by_gear (λ named. other_if d x apart (some_is x d (sym (ap named_out out) ∙ named))) f
     split (Fresh x rebuilt) out e = either (d == x) refl e
       where
@@ -108,7 +109,7 @@ out_named power m No is named fresh = ap (λ (z : Out). out_after z power (first
   where
     by : (slot : Option ℕ) → first_absent power m.setup.geometry.disks ≡ slot → gone_of (first_absent power m.setup.geometry.disks) ≡ No
     by None e = ap gone_of e
-    by (Some x) e = let f = first_absent_is power m.setup.geometry.disks x e in let z : None ≡ Some x = sym (ap named_out is) ∙ named x f.0 f.1 in cc
+    by (Some x) e = let f = first_absent_is power m.setup.geometry.disks x e in absurd (no_one (sym (ap named_out is) ∙ named x f.0 f.1))
 out_named power m (Gone d) is named fresh = ap (λ (z : Out). out_after z power (first_absent power m.setup.geometry.disks)) is ∙ sym is
 out_named power m (Fresh d rebuilt) is named fresh = ap (λ (z : Out). out_after z power (first_absent power m.setup.geometry.disks)) is ∙ ap (λ (b : Bool). if b then Fresh d rebuilt else Gone d) (fresh d rebuilt is) ∙ sym is
 
@@ -220,7 +221,7 @@ module _ (power : ℕ → Power) (m new : Meta) (marks : IsMarkedBy power m new)
       where
         by : (slot : Option ℕ) → first_absent power nb ≡ slot → gone_of (first_absent power nb) ≡ No
         by None e = ap gone_of e
-        by (Some x) e = let f = first_absent_is power nb x e in let z : None ≡ Some x = sym (ap named_out is) ∙ marks.named x (below x f.0) f.1 in cc
+        by (Some x) e = let f = first_absent_is power nb x e in absurd (no_one (sym (ap named_out is) ∙ marks.named x (below x f.0) f.1))
     from_no no_out (Gone x) is = split _
         (λ none.
         let was : gone_of (first_absent p nb) ≡ Gone x = ap (λ (z : Out). out_after z p (first_absent p nb)) (sym no_out) ∙ shows.out ∙ sym (kept_out none) ∙ is in
@@ -235,11 +236,11 @@ module _ (power : ℕ → Power) (m new : Meta) (marks : IsMarkedBy power m new)
         gone_some (Some d) x e = let z : Gone d ≡ Gone x = e in cc
     from_no no_out (Fresh x rebuilt) is = split _
         (λ none. absurd (never (first_absent p nb) (ap (λ (z : Out). out_after z p (first_absent p nb)) (sym no_out) ∙ shows.out ∙ sym (kept_out none) ∙ is)))
-        (λ y some. let z : Gone y ≡ Fresh x rebuilt = sym (lost_out y some) ∙ is in cc)
+        (λ y some. absurd (gone_not_fresh (sym (lost_out y some) ∙ is)))
       where
         never : (slot : Option ℕ) → gone_of slot ≡ Fresh x rebuilt → ⊥
-        never None e = let z : No ≡ Fresh x rebuilt = e in cc
-        never (Some d) e = let z : Gone d ≡ Fresh x rebuilt = e in cc
+        never None e = absurd (none_not_fresh e)
+        never (Some d) e = absurd (gone_not_fresh e)
 
     from_gone : (e : ℕ) → m.out ≡ Gone e → Gone e ≡ new.out
     from_gone e is = split _ (λ none. sym is ∙ sym (kept_out none)) (λ y some. ap Gone (marks.alone y e some (ap named_out is)) ∙ sym (lost_out y some))
@@ -274,7 +275,7 @@ module _ (power : ℕ → Power) (m new : Meta) (marks : IsMarkedBy power m new)
     by_gear = λ d low not.
         let low_was = subst (λ (z : Setup). d < z.geometry.disks) marked_setup low in
         keeps d (there d (is_present (power d)) refl low_was not) ∙ powered.by_gear d low_was (λ named. not (still_named d named)) ∙ sym (marked_gear d);
-    fresh = λ d u is. keeps d (marks.fresh d u is) ∙ split _ (λ none. powered.fresh d u (sym (kept_out none) ∙ is)) (λ y some. let z : Gone y ≡ Fresh d u = sym (lost_out y some) ∙ is in cc);
+    fresh = λ d u is. keeps d (marks.fresh d u is) ∙ split _ (λ none. powered.fresh d u (sym (kept_out none) ∙ is)) (λ y some. absurd (gone_not_fresh (sym (lost_out y some) ∙ is)));
   }
     where
       there : (d : ℕ) (b : Bool) → is_present (power d) ≡ b → d < m.setup.geometry.disks → named_out new.out ≢ Some d → is_present (power d) ≡ true

@@ -19,6 +19,7 @@ use Rattle.paraid_record.specs.declared.meta.Setup.{Setup}
 use Rattle.paraid_image.specs.Power.{power_by_gear}
 use Rattle.paraid_core.specs.CoreInvariant.{IsHeldWithOneMissing, meta_with_lost}
 use Rattle.paraid_session.specs.Watch.{IsServing, Watch, watch_all}
+use Rattle.paraid_event.proofs.ApartLemmas.{gone_not_fresh, no_one, none_not_fresh}
 use Rattle.paraid_event.specs.Marks.{ArePoweredByGear, IsMarkedBy, ShowsMeta}
 use Rattle.paraid_event.specs.Powering.{AreDisksPowered, EndsPowered}
 use Rattle.paraid_event.specs.Service.{Service}
@@ -67,7 +68,7 @@ module _ (k : Service) (h : History) (lo d : ℕ) (base : Meta) (w : Watch) (at 
 
   module _ (none_out : k.meta.out ≡ No) where
     none_named : (e : ℕ) → named_out k.meta.out ≡ Some e → ⊥
-    none_named e is = let z : None ≡ Some e = sym (ap named_out none_out) ∙ is in cc
+    none_named e is = absurd (no_one (sym (ap named_out none_out) ∙ is))
 
     there : (e : ℕ) → e < n → IsPresent w.disks e
     there e low = by (is_present (w.disks.power e)) refl
@@ -77,7 +78,7 @@ module _ (k : Service) (h : History) (lo d : ℕ) (base : Meta) (w : Watch) (at 
         by false gone = absurd (none_named e (at.midway.named e low gone))
 
     none_awaited : (e : ℕ) → w.awaited ≡ Some e → ⊥
-    none_awaited e is = let z : None ≡ Some e = sym (ap gone_out none_out) ∙ at.midway.stands.awaited e is in cc
+    none_awaited e is = absurd (no_one (sym (ap gone_out none_out) ∙ at.midway.stands.awaited e is))
 
     -- where the gear needs the disk the event ends so
     pub ended_spinning : (d < k.meta.gear) ⊎ (d < rising_to k.meta.phase) → IsEnded k k h lo d base w
@@ -92,7 +93,7 @@ module _ (k : Service) (h : History) (lo d : ℕ) (base : Meta) (w : Watch) (at 
           | inl is_d ↦ subst (λ (x : ℕ). w.disks.power x ≡ power_by_gear k.meta.gear k.meta.phase x) (sym is_d) (at.spins (there d at.low) ∙ sym (spinning_by_gear k.meta d under))
           | inr apart ↦ at.powers e low apart
         ];
-        fresh = λ e u is. let z : No ≡ Fresh e u = sym none_out ∙ is in cc;
+        fresh = λ e u is. absurd (none_not_fresh (sym none_out ∙ is));
       };
     }
 
@@ -136,7 +137,7 @@ module _ (k : Service) (h : History) (lo d : ℕ) (base : Meta) (w : Watch) (at 
           power_here = with_at_same w.disks.power d (power_after done Parked) d refl
 
           lost_some : (t : Bool) (x : ℕ) → lost_by d t ≡ Some x → (x ≡ d) × (is_present (power_after t Parked) ≡ false)
-          lost_some true x is = let z : None ≡ Some x = is in cc
+          lost_some true x is = absurd (no_one is)
           lost_some false x is = ((let z : Some d ≡ Some x = is in let same : d ≡ x = cc in sym same), refl)
 
           present_by : (t : Bool) → is_present (power_after t Parked) ≡ false → named_out (meta_with_lost (lost_by d t) k.meta).out ≡ Some d
@@ -160,8 +161,8 @@ module _ (k : Service) (h : History) (lo d : ℕ) (base : Meta) (w : Watch) (at 
           }
             where
               not_fresh : (t : Bool) (e u : ℕ) → (meta_with_lost (lost_by d t) k.meta).out ≡ Fresh e u → ⊥
-              not_fresh true e u is = let z : No ≡ Fresh e u = sym none_out ∙ is in cc
-              not_fresh false e u is = let z : Gone d ≡ Fresh e u = is in cc
+              not_fresh true e u is = absurd (none_not_fresh (sym none_out ∙ is))
+              not_fresh false e u is = absurd (gone_not_fresh is)
 
           gear_now : (e : ℕ) → power_by_gear k_then.meta.gear k_then.meta.phase e ≡ power_by_gear k.meta.gear k.meta.phase e
           gear_now e = marked_gear s.power k.meta k_then.meta marks e
@@ -188,8 +189,8 @@ module _ (k : Service) (h : History) (lo d : ℕ) (base : Meta) (w : Watch) (at 
           }
             where
               never : (t : Bool) (e u : ℕ) → (meta_with_lost (lost_by d t) k.meta).out ≡ Fresh e u → ⊥
-              never true e u is = let z : No ≡ Fresh e u = sym none_out ∙ is in cc
-              never false e u is = let z : Gone d ≡ Fresh e u = is in cc
+              never true e u is = absurd (none_not_fresh (sym none_out ∙ is))
+              never false e u is = absurd (gone_not_fresh is)
 
           one_out : (t : Bool) (e : ℕ) → named_out (meta_with_lost (lost_by d t) k.meta).out ≡ Some e → Some d ≡ Some e
           one_out true e is = absurd (none_named e is)
@@ -221,6 +222,6 @@ module _ (k : Service) (h : History) (lo d : ℕ) (base : Meta) (w : Watch) (at 
     shown = at.shown;
     powered = record {
       by_gear = λ e low not. at.powers e low (λ is_d. not (ap named_out gone ∙ ap (λ (x : ℕ). Some x) (sym is_d)));
-      fresh = λ e u is. let z : Gone d ≡ Fresh e u = sym gone ∙ is in cc;
+      fresh = λ e u is. absurd (gone_not_fresh (sym gone ∙ is));
     };
   }

@@ -20,6 +20,7 @@ use Rattle.paraid_startup.specs.Recorded.{StaysWithinAt}
 use Rattle.paraid_startup.proofs.CallsLemmas.{each_map as each_call_map}
 use Rattle.paraid_startup.proofs.DownLemmas.{watched_disks}
 use Rattle.paraid_txn.specs.Uses.{EachCall}
+use Rattle.paraid_event.proofs.ApartLemmas.{no_one}
 use Rattle.paraid_event.specs.Marks.{ArePoweredByGear, IsMarkedBy, ShowsMeta}
 use Rattle.paraid_event.specs.Parts.{AreEventCalls, BringsMeta, EndsEvent, committed_meta}
 use Rattle.paraid_event.specs.Parts.BringsMeta.{commit, nothing}
@@ -196,7 +197,7 @@ module _ (k : Service) (h : History) (lo : ℕ) (base : Meta) (w : Watch) (at : 
       }
 
       was_out : (d : ℕ) (o : Out) → k.meta.out ≡ o → named_out o ≡ Some d → ((u : ℕ) → o ≡ Fresh d u → ⊥) → k.meta.out ≡ Gone d
-      was_out d No is named fresh = let z : None ≡ Some d = named in cc
+      was_out d No is named fresh = absurd (no_one named)
       was_out d (Gone e) is named fresh = is ∙ ap Gone (let z : Some e ≡ Some d = named in let same_disk : e ≡ d = cc in same_disk)
       was_out d (Fresh e u) is named fresh = let z : Some e ≡ Some d = named in let same_disk : e ≡ d = cc in absurd (fresh u (ap (λ (x : ℕ). Fresh x u) same_disk))
 
@@ -213,7 +214,7 @@ module _ (k : Service) (h : History) (lo : ℕ) (base : Meta) (w : Watch) (at : 
                 let same_marks = gone_already x is in
                 let now_marks = lost_marks x some in
                 of_none (now_marks.0 ∙ sym is) (now_marks.1 ∙ same_marks.0) (now_marks.2 ∙ sym same_marks.1)
-            | inr failed ↦ let it = fails_first cs x failed in let z : None ≡ Some it.0 = sym first ∙ it.1 in cc
+            | inr failed ↦ let it = fails_first cs x failed in absurd (no_one (sym first ∙ it.1))
           ]
 
       with_some : (d : ℕ) → first_lost cs ≡ Some d → (l : Option ℕ) → part_marks.lost ≡ l → IsStateOf with_counts (after_loss s d)

@@ -42,6 +42,7 @@ use Rattle.paraid_startup.proofs.CallsLemmas.{each_map as each_call_map}
 use Rattle.paraid_startup.proofs.DownLemmas.{in_absent, in_stays, watched_disks}
 use Rattle.paraid_startup.proofs.SpinsLemmas.{each_recorded, one_recorded, serving_by}
 use Rattle.paraid_txn.specs.Uses.{EachCall}
+use Rattle.paraid_event.proofs.ApartLemmas.{no_one}
 use Rattle.paraid_event.specs.Marks.{ArePoweredByGear, IsMarkedBy, ShowsMeta}
 use Rattle.paraid_event.specs.Powering.{AreDisksPowered, EndsPowered}
 use Rattle.paraid_event.specs.Service.{IsStateOf, Service}
@@ -54,9 +55,9 @@ use Rattle.paraid_event.proofs.TurnLemmas.{moved, state_after}
 
 -- a disk that is gone by the last commit is so by what the disks show
 still_out : (o : Out) (d : ℕ) → gone_out o ≡ Some d → (power : ℕ → Power) (slot : Option ℕ) → gone_out (out_after o power slot) ≡ Some d
-still_out No d is power slot = let z : None ≡ Some d = is in cc
+still_out No d is power slot = absurd (no_one is)
 still_out (Gone e) d is power slot = is
-still_out (Fresh e u) d is power slot = let z : None ≡ Some d = is in cc
+still_out (Fresh e u) d is power slot = absurd (no_one is)
 
 each_last : (P : Watch → Type 0) (A : Watch → Call → Type 0) (w : Watch) (cs : List Call) → Each P A w cs → P (watch_all cs w)
 each_last P A w [] each = each
@@ -68,7 +69,7 @@ through_map P Q f s (c ∷ cs) p = (f s p.0, through_map P Q f (step c s) cs p.1
 
 -- the disk that is down, and where one more that fails leaves one, it is that one
 alone_of : (down : Down) → IsServing down → (o : Option ℕ) × ((d : ℕ) → IsIn down d → o ≡ Some d) × ((e x : ℕ) → IsServing (with_down e down) → o ≡ Some x → x ≡ e)
-alone_of nobody serving = (None, (λ d is. absurd is), (λ e x one is. let z : None ≡ Some x = is in cc))
+alone_of nobody serving = (None, (λ d is. absurd is), (λ e x one is. absurd (no_one is)))
 alone_of (only f) serving = (Some f, (λ d is. ap (λ (y : ℕ). Some y) (sym is)), (λ e x one is. let z : Some f ≡ Some x = is in let same : f ≡ x = cc in sym (by e (e == f) refl one ∙ same)))
   where
     equal : (a b : ℕ) → (a == b) ≡ true → a ≡ b
@@ -193,7 +194,7 @@ Raises e [] = ⊥
 Raises e (c ∷ cs) = ((done : Bool) × (c ≡ SpinUp e done)) ⊎ Raises e cs
 
 none_after : (o : Option ℕ) (c : Call) → ((d : ℕ) → o ≡ Some d → ⊥) → (d : ℕ) → awaited_after o c ≡ Some d → ⊥
-none_after None c none d is = let z : None ≡ Some d = is in cc
+none_after None c none d is = absurd (no_one is)
 none_after (Some x) c none d is = none x refl
 
 module _ (k : Service) (h : History) (lo : ℕ) (base : Meta) (w : Watch) (at : IsMidway k h lo base w) (shows : ShowsMeta w.disks.power base k.meta) (none_awaited : (d : ℕ) → w.awaited ≡ Some d → ⊥)
@@ -469,7 +470,7 @@ module _ (k : Service) (h : History) (lo : ℕ) (base : Meta) (w : Watch) (at : 
       }
 
       was_out : (d : ℕ) (o : Out) → k.meta.out ≡ o → named_out o ≡ Some d → ((u : ℕ) → o ≡ Fresh d u → ⊥) → k.meta.out ≡ Gone d
-      was_out d No is named fresh = let z : None ≡ Some d = named in cc
+      was_out d No is named fresh = absurd (no_one named)
       was_out d (Gone e) is named fresh = is ∙ ap Gone (let z : Some e ≡ Some d = named in let same_disk : e ≡ d = cc in same_disk)
       was_out d (Fresh e u) is named fresh = let z : Some e ≡ Some d = named in let same_disk : e ≡ d = cc in absurd (fresh u (ap (λ (x : ℕ). Fresh x u) same_disk))
 
@@ -486,7 +487,7 @@ module _ (k : Service) (h : History) (lo : ℕ) (base : Meta) (w : Watch) (at : 
                 let same_marks = gone_already x is in
                 let now_marks = lost_marks x some in
                 of_none (now_marks.0 ∙ sym is) (now_marks.1 ∙ same_marks.0) (now_marks.2 ∙ sym same_marks.1)
-            | inr failed ↦ let it = fails_first cs x failed in let z : None ≡ Some it.0 = sym first ∙ it.1 in cc
+            | inr failed ↦ let it = fails_first cs x failed in absurd (no_one (sym first ∙ it.1))
           ]
 
       with_some : (d : ℕ) → first_lost cs ≡ Some d → (l : Option ℕ) → power_marks.lost ≡ l → IsStateOf with_counts (after_loss s d)

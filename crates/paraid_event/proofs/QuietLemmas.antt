@@ -25,12 +25,13 @@ use Rattle.paraid_machine.specs.Machine.{IsEventStep, block_count, blocks_named,
 use Rattle.paraid_machine.specs.Moves.{first_worn}
 use Rattle.paraid_session.specs.Turn.{GoesOn, Point, may_halt, point_wear, with_halt}
 use Rattle.paraid_session.specs.Turn.IsTurn.{worn}
+use Rattle.paraid_event.proofs.ApartLemmas.{down_not_bad, fail_not_bad, no_one, read_not_bad, replace_not_bad, up_not_bad, write_not_bad}
 use Rattle.paraid_event.specs.Service.{Service}
 use Rattle.paraid_event.specs.Stands.{StandsAt}
 use Rattle.paraid_event.proofs.EventLemmas.{asked_turn, no_call}
 
 shift_named : (o : Out) (d : ℕ) → named_out o ≡ Some d → shift_refusal Steady o ≡ Some (IsOut d)
-shift_named No d is = let z : None ≡ Some d = is in cc
+shift_named No d is = absurd (no_one is)
 shift_named (Gone e) d is = ap (λ (x : ℕ). Some (IsOut x)) (let z : Some e ≡ Some d = is in let same : e ≡ d = cc in same)
 shift_named (Fresh e u) d is = ap (λ (x : ℕ). Some (IsOut x)) (let z : Some e ≡ Some d = is in let same : e ≡ d = cc in same)
 
@@ -53,7 +54,7 @@ module _ (told : Option Trail) (k : Service) (setup : Setup) (p : Point) (at : S
   pub read_missing : (block : ℕ) → block_count setup ≤ block → Stays (Read block) (NoBlock block)
   unfolding outcomes
   read_missing block past = no_call told k setup p at (Read block) (NoBlock block)
-      (asked_turn told k setup p at (Read block) (NoBlock block) refl refl (λ a. refl) (λ e. let z : Read block ≡ Bad = e in cc) (λ asked. fit) step refl refl refl refl)
+      (asked_turn told k setup p at (Read block) (NoBlock block) refl refl (λ a. refl) (λ e. read_not_bad e) (λ asked. fit) step refl refl refl refl)
     where
       missing : first_missing (block_count setup) (block ∷ []) ≡ Some block
       missing = rw (past_test block (block_count setup) past) refl
@@ -64,7 +65,7 @@ module _ (told : Option Trail) (k : Service) (setup : Setup) (p : Point) (at : S
   pub write_missing : (pairs : Pairs) (block : ℕ) → first_missing (block_count setup) (blocks_named (pairs_of pairs)) ≡ Some block → Stays (Write pairs) (NoBlock block)
   unfolding outcomes
   write_missing pairs block missing = no_call told k setup p at (Write pairs) (NoBlock block)
-      (asked_turn told k setup p at (Write pairs) (NoBlock block) refl refl (λ a. refl) (λ e. let z : Write pairs ≡ Bad = e in cc) (λ asked. fit) step refl refl refl refl)
+      (asked_turn told k setup p at (Write pairs) (NoBlock block) refl refl (λ a. refl) (λ e. write_not_bad e) (λ asked. fit) step refl refl refl refl)
     where
       step : IsEventStep setup p.history p.energy p.state (Write pairs) None (NoBlock block) p.state
       step = record { among = rw missing (0, omega arith, refl) }
@@ -72,14 +73,14 @@ module _ (told : Option Trail) (k : Service) (setup : Setup) (p : Point) (at : S
   -- shifts that are refused
   pub up_top : next_higher setup.geometry p.state.gear ≡ None → Stays AskUp Top
   unfolding outcomes
-  up_top none = no_call told k setup p at AskUp Top (asked_turn told k setup p at AskUp Top refl refl (λ a. refl) (λ e. let z : AskUp ≡ Bad = e in cc) (λ asked. fit) step refl refl refl refl)
+  up_top none = no_call told k setup p at AskUp Top (asked_turn told k setup p at AskUp Top refl refl (λ a. refl) (λ e. up_not_bad e) (λ asked. fit) step refl refl refl refl)
     where
       step : IsEventStep setup p.history p.energy p.state AskUp None Top p.state
       step = record { among = rw none (0, omega arith, refl) }
 
   pub down_lowest : next_lower setup.geometry p.state.gear ≡ None → Stays AskDown Lowest
   unfolding outcomes
-  down_lowest none = no_call told k setup p at AskDown Lowest (asked_turn told k setup p at AskDown Lowest refl refl (λ a. refl) (λ e. let z : AskDown ≡ Bad = e in cc) (λ asked. fit) step refl refl refl refl)
+  down_lowest none = no_call told k setup p at AskDown Lowest (asked_turn told k setup p at AskDown Lowest refl refl (λ a. refl) (λ e. down_not_bad e) (λ asked. fit) step refl refl refl refl)
     where
       step : IsEventStep setup p.history p.energy p.state AskDown None Lowest p.state
       step = record { among = rw none (0, omega arith, refl) }
@@ -87,7 +88,7 @@ module _ (told : Option Trail) (k : Service) (setup : Setup) (p : Point) (at : S
   pub up_shifting : (to : ℕ) → next_higher setup.geometry p.state.gear ≡ Some to → p.state.phase ≢ Steady → Stays AskUp (Shifting (phase_to p.state.phase))
   unfolding outcomes
   up_shifting to some not = no_call told k setup p at AskUp (Shifting (phase_to p.state.phase))
-      (asked_turn told k setup p at AskUp (Shifting (phase_to p.state.phase)) refl refl (λ a. refl) (λ e. let z : AskUp ≡ Bad = e in cc) (λ asked. fit) step refl refl refl refl)
+      (asked_turn told k setup p at AskUp (Shifting (phase_to p.state.phase)) refl refl (λ a. refl) (λ e. up_not_bad e) (λ asked. fit) step refl refl refl refl)
     where
       step : IsEventStep setup p.history p.energy p.state AskUp None (Shifting (phase_to p.state.phase)) p.state
       step = record { among = rw (some, shifting_to p.state.phase p.state.out not) (0, omega arith, refl) }
@@ -95,7 +96,7 @@ module _ (told : Option Trail) (k : Service) (setup : Setup) (p : Point) (at : S
   pub down_shifting : (to : ℕ) → next_lower setup.geometry p.state.gear ≡ Some to → p.state.phase ≢ Steady → Stays AskDown (Shifting (phase_to p.state.phase))
   unfolding outcomes
   down_shifting to some not = no_call told k setup p at AskDown (Shifting (phase_to p.state.phase))
-      (asked_turn told k setup p at AskDown (Shifting (phase_to p.state.phase)) refl refl (λ a. refl) (λ e. let z : AskDown ≡ Bad = e in cc) (λ asked. fit) step refl refl refl refl)
+      (asked_turn told k setup p at AskDown (Shifting (phase_to p.state.phase)) refl refl (λ a. refl) (λ e. down_not_bad e) (λ asked. fit) step refl refl refl refl)
     where
       step : IsEventStep setup p.history p.energy p.state AskDown None (Shifting (phase_to p.state.phase)) p.state
       step = record { among = rw (some, shifting_to p.state.phase p.state.out not) (0, omega arith, refl) }
@@ -103,7 +104,7 @@ module _ (told : Option Trail) (k : Service) (setup : Setup) (p : Point) (at : S
   pub up_out : (to d : ℕ) → next_higher setup.geometry p.state.gear ≡ Some to → p.state.phase ≡ Steady → named_out p.state.out ≡ Some d → Stays AskUp (IsOut d)
   unfolding outcomes
   up_out to d some steady out = no_call told k setup p at AskUp (IsOut d)
-      (asked_turn told k setup p at AskUp (IsOut d) refl refl (λ a. refl) (λ e. let z : AskUp ≡ Bad = e in cc) (λ asked. fit) step refl refl refl refl)
+      (asked_turn told k setup p at AskUp (IsOut d) refl refl (λ a. refl) (λ e. up_not_bad e) (λ asked. fit) step refl refl refl refl)
     where
       step : IsEventStep setup p.history p.energy p.state AskUp None (IsOut d) p.state
       step = record { among = rw (some, ap (λ (x : Phase). shift_refusal x p.state.out) steady ∙ shift_named p.state.out d out) (0, omega arith, refl) }
@@ -111,7 +112,7 @@ module _ (told : Option Trail) (k : Service) (setup : Setup) (p : Point) (at : S
   pub down_out : (to d : ℕ) → next_lower setup.geometry p.state.gear ≡ Some to → p.state.phase ≡ Steady → named_out p.state.out ≡ Some d → Stays AskDown (IsOut d)
   unfolding outcomes
   down_out to d some steady out = no_call told k setup p at AskDown (IsOut d)
-      (asked_turn told k setup p at AskDown (IsOut d) refl refl (λ a. refl) (λ e. let z : AskDown ≡ Bad = e in cc) (λ asked. fit) step refl refl refl refl)
+      (asked_turn told k setup p at AskDown (IsOut d) refl refl (λ a. refl) (λ e. down_not_bad e) (λ asked. fit) step refl refl refl refl)
     where
       step : IsEventStep setup p.history p.energy p.state AskDown None (IsOut d) p.state
       step = record { among = rw (some, ap (λ (x : Phase). shift_refusal x p.state.out) steady ∙ shift_named p.state.out d out) (0, omega arith, refl) }
@@ -119,7 +120,7 @@ module _ (told : Option Trail) (k : Service) (setup : Setup) (p : Point) (at : S
   pub down_ration : (to d : ℕ) → next_lower setup.geometry p.state.gear ≡ Some to → p.state.phase ≡ Steady → p.state.out ≡ No → first_worn setup p.state to ≡ Some d → Stays AskDown (RationUsed d)
   unfolding outcomes
   down_ration to d some steady no_out used = no_call told k setup p at AskDown (RationUsed d)
-      (asked_turn told k setup p at AskDown (RationUsed d) refl refl (λ a. refl) (λ e. let z : AskDown ≡ Bad = e in cc) (λ asked. fit) step refl refl refl refl)
+      (asked_turn told k setup p at AskDown (RationUsed d) refl refl (λ a. refl) (λ e. down_not_bad e) (λ asked. fit) step refl refl refl refl)
     where
       free : shift_refusal p.state.phase p.state.out ≡ None
       free = ap (λ (x : Phase). shift_refusal x p.state.out) steady ∙ ap (λ (o : Out). shift_refusal Steady o) no_out
@@ -131,7 +132,7 @@ module _ (told : Option Trail) (k : Service) (setup : Setup) (p : Point) (at : S
   pub fail_no_disk : (d : ℕ) → setup.geometry.disks ≤ d → Stays (Fail d) (NoDisk d)
   unfolding outcomes
   fail_no_disk d past = no_call told k setup p at (Fail d) (NoDisk d)
-      (asked_turn told k setup p at (Fail d) (NoDisk d) refl refl (λ a. refl) (λ e. let z : Fail d ≡ Bad = e in cc) (λ asked. fit) step refl refl refl refl)
+      (asked_turn told k setup p at (Fail d) (NoDisk d) refl refl (λ a. refl) (λ e. fail_not_bad e) (λ asked. fit) step refl refl refl refl)
     where
       step : IsEventStep setup p.history p.energy p.state (Fail d) None (NoDisk d) p.state
       step = record { among = rw (past_test d setup.geometry.disks past) (0, omega arith, refl) }
@@ -139,13 +140,13 @@ module _ (told : Option Trail) (k : Service) (setup : Setup) (p : Point) (at : S
   pub replace_no_disk : (d : ℕ) → setup.geometry.disks ≤ d → Stays (Replace d) (NoDisk d)
   unfolding outcomes
   replace_no_disk d past = no_call told k setup p at (Replace d) (NoDisk d)
-      (asked_turn told k setup p at (Replace d) (NoDisk d) refl refl (λ a. refl) (λ e. let z : Replace d ≡ Bad = e in cc) (λ asked. fit) step refl refl refl refl)
+      (asked_turn told k setup p at (Replace d) (NoDisk d) refl refl (λ a. refl) (λ e. replace_not_bad e) (λ asked. fit) step refl refl refl refl)
     where
       step : IsEventStep setup p.history p.energy p.state (Replace d) None (NoDisk d) p.state
       step = record { among = rw (past_test d setup.geometry.disks past) (0, omega arith, refl) }
 
   out_taken : (o : Out) (d e : ℕ) → named_out o ≡ Some e → Contains (take_out None p.state d o) (IsOut e, p.state)
-  out_taken No d e is = let z : None ≡ Some e = is in cc
+  out_taken No d e is = absurd (no_one is)
   out_taken (Gone x) d e is = let z : Some x ≡ Some e = is in let same : x ≡ e = cc in subst (λ (y : ℕ). Contains {X = Answer × PowerState} ((IsOut x, p.state) ∷ []) (IsOut y, p.state)) same (0, omega arith, refl)
   out_taken (Fresh x u) d e is = let z : Some x ≡ Some e = is in let same : x ≡ e = cc in subst (λ (y : ℕ). Contains {X = Answer × PowerState} ((IsOut x, p.state) ∷ []) (IsOut y, p.state)) same (0, omega arith, refl)
 

@@ -4,7 +4,7 @@ use Rattle.std.specs.Prelude.{◌==◌, Contains}
 use Rattle.std.proofs.lemmas.Bool.{false≢true}
 use Rattle.std.proofs.lemmas.List.{append-nil}
 use Rattle.paraid_base.specs.declared.event.Answer.{Answer}
-use Rattle.paraid_base.specs.declared.event.Event.TheVariants.{Tick, Bad}
+use Rattle.paraid_base.specs.declared.event.Event.TheVariants.{Tick}
 use Rattle.paraid_base.specs.declared.state.Out.{Out}
 use Rattle.paraid_base.specs.declared.state.Out.TheVariants.{No, Fresh}
 use Rattle.paraid_base.specs.declared.state.TickEvent.TheVariants.{Moving, Rebuilt}
@@ -24,6 +24,7 @@ use Rattle.paraid_session.specs.Watch.{Bounds, Each, HoldsWhileServing, IsAllowe
 use Rattle.paraid_session.proofs.LayerLemmas.{first_fails}
 use Rattle.paraid_session.specs.Resting.{watch_at}
 use Rattle.paraid_startup.proofs.DownLemmas.{watched_disks}
+use Rattle.paraid_event.proofs.ApartLemmas.{no_one, tick_not_bad}
 use Rattle.paraid_event.specs.RebuildEnds.{MarksRejoined}
 use Rattle.paraid_event.specs.RebuildTicks.{CountsRebuild}
 use Rattle.paraid_event.specs.Service.{IsStateOf, Service}
@@ -106,15 +107,15 @@ module _ (told : Option Trail) (k k1 : Service) (setup : Setup) (p : Point) (at 
       where
         by : (o : Option ℕ) → first_lost cs ≡ o → first_lost cs ≡ None
         by None none = none
-        by (Some e) some = let z : None ≡ Some e = sym (ap named_out none_out) ∙ failed2 e (first_fails cs e some) in cc
+        by (Some e) some = absurd (no_one (sym (ap named_out none_out) ∙ failed2 e (first_fails cs e some)))
 
     -- no disk is down
     down2 : StandsIn k2 p.history p.low base (record { disks = v.disks; down = down_from_out (named_out s2.out); spun = v.spun; awaited = v.awaited })
     down2 = record {
       keeps = mid2.stands.keeps;
       is_base = mid2.stands.is_base;
-      absent_down = λ e low gone. let z : None ≡ Some e = sym (ap named_out none_out) ∙ mid2.named e low gone in cc;
-      named_down = λ e named. let z : None ≡ Some e = sym (ap named_out none_out) ∙ named in cc;
+      absent_down = λ e low gone. absurd (no_one (sym (ap named_out none_out) ∙ mid2.named e low gone));
+      named_down = λ e named. absurd (no_one (sym (ap named_out none_out) ∙ named));
       stays = mid2.stands.stays;
       recorded = mid2.stands.recorded;
       recorded_next = mid2.stands.recorded_next;
@@ -172,7 +173,7 @@ module _ (told : Option Trail) (k k1 : Service) (setup : Setup) (p : Point) (at 
     pub ended_turn : (told_then : Option Trail) → ((t : Trail) → told_then ≡ Some t → now t ≡ v.disks) → GoesOn k.slots setup p Tick answer (StandsAt told_then k2 setup) p.disks cs
     ended_turn told_then tells = let there = after told_then tells in (
       q,
-      answered at.going (λ e. let z : Tick ≡ Bad = e in cc) (record {
+      answered at.going (λ e. tick_not_bad e) (record {
         fit = λ asked. fit;
         machine = machine;
         moments = held;

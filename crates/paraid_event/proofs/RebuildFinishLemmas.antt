@@ -28,6 +28,7 @@ use Rattle.paraid_session.specs.Turn.{GoesOn, Point, point_wear}
 use Rattle.paraid_session.specs.Watch.{Bounds, HoldsWhileServing, Watch, attach_count, awaited_after, watch, watch_all}
 use Rattle.paraid_session.specs.Resting.{watch_at}
 use Rattle.paraid_startup.proofs.DownLemmas.{watched_disks}
+use Rattle.paraid_event.proofs.ApartLemmas.{no_one}
 use Rattle.paraid_event.specs.Marks.{ShowsMeta}
 use Rattle.paraid_event.specs.Parts.{LosesInEvent, ServesEvent}
 use Rattle.paraid_event.specs.RebuildEnds.{CommitsRejoined, CopiesRest, FinishesRebuild, IsParkCall, LosesFinishing, MarksRejoined, ParksBack, ParksInEvent, RejoinsDisk}
@@ -289,7 +290,7 @@ pub one_call_loses_one : (mid told_then : Option Trail) (d : ℕ) (two : Two) �
 one_call_loses_one mid told_then d two calls loses = by told_then refl
   where
     first_is : (done : Bool) → first_lost (Park d done ∷ []) ≡ Some two.first → d ≡ two.first
-    first_is true is = let z : None ≡ Some two.first = is in cc
+    first_is true is = absurd (no_one is)
     first_is false is = let z : Some d ≡ Some two.first = is in cc
 
     second_is : (done : Bool) → fails_on two.second (Park d done ∷ []) ≡ true → d ≡ two.second
@@ -302,7 +303,7 @@ one_call_loses_one mid told_then d two calls loses = by told_then refl
     never done cs is tells =
         let second = second_is done (subst (λ (es : List Call). fails_on two.second es ≡ true) is tells.second) in
         elim tells.first [
-          | inl was ↦ let z : None ≡ Some two.first = was in cc
+          | inl was ↦ absurd (no_one was)
           | inr first ↦ tells.apart (sym (first_is done (subst (λ (es : List Call). first_lost es ≡ Some two.first) is first.1)) ∙ second)
         ]
 

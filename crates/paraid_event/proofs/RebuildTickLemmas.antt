@@ -6,7 +6,7 @@ use Rattle.std.proofs.lemmas.Bool.Decides.{nat_tests}
 use Rattle.std.proofs.lemmas.List.{append-nil}
 use Rattle.paraid_base.specs.declared.event.Answer.{Answer}
 use Rattle.paraid_base.specs.declared.event.Answer.TheVariants.{Halted}
-use Rattle.paraid_base.specs.declared.event.Event.TheVariants.{Tick, Bad}
+use Rattle.paraid_base.specs.declared.event.Event.TheVariants.{Tick}
 use Rattle.paraid_base.specs.declared.fault.Halt.TheVariants.{Two as HaltTwo}
 use Rattle.paraid_base.specs.declared.fault.Two.{Two}
 use Rattle.paraid_base.specs.declared.state.Out.{Out}
@@ -42,6 +42,7 @@ use Rattle.paraid_session.specs.Watch.{Bounds, Down, Each, HoldsWhileServing, Is
 use Rattle.paraid_session.proofs.LayerLemmas.{absent_failed, fails_first, first_fails}
 use Rattle.paraid_session.specs.Resting.{watch_at}
 use Rattle.paraid_startup.proofs.DownLemmas.{watched_disks}
+use Rattle.paraid_event.proofs.ApartLemmas.{tick_not_bad}
 use Rattle.paraid_event.specs.Lost.{TellsTwo}
 use Rattle.paraid_event.specs.RebuildTicks.{CountsRebuild, MarksGoneAgain, MarksRebuilt}
 use Rattle.paraid_event.specs.Service.{IsStateOf, Service}
@@ -216,7 +217,7 @@ module _ (told : Option Trail) (k k1 : Service) (setup : Setup) (p : Point) (at 
         is = r.is;
         holds = (
           halted_point two r.calls,
-          second_loss two at.going (λ e. let z : Tick ≡ Bad = e in cc) refl (tick_lost two r.calls holds.0 (subst (λ (s : Disks). TellsTwo k1 two s r.calls) from holds.1)),
+          second_loss two at.going (λ e. tick_not_bad e) refl (tick_lost two r.calls holds.0 (subst (λ (s : Disks). TellsTwo k1 two s r.calls) from holds.1)),
           refl,
         );
       }
@@ -310,7 +311,7 @@ module _ (told : Option Trail) (k k1 : Service) (setup : Setup) (p : Point) (at 
     tick_turn : (told_then : Option Trail) → ((t : Trail) → told_then ≡ Some t → now t ≡ v.disks) → GoesOn k.slots setup p Tick answer (StandsAt told_then k2 setup) p.disks cs
     tick_turn told_then tells = let there = after told_then tells in (
       q,
-      answered at.going (λ e. let z : Tick ≡ Bad = e in cc) (record {
+      answered at.going (λ e. tick_not_bad e) (record {
         fit = λ asked. fit;
         machine = machine;
         moments = moments cs goes.calls;

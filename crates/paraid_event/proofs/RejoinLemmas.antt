@@ -29,6 +29,7 @@ use Rattle.paraid_startup.proofs.SpinsLemmas.{same_used}
 use Rattle.paraid_txn.specs.Commit.{IsOldOrNew}
 use Rattle.paraid_rack.specs.Told.{Through}
 use Rattle.paraid_txn.specs.Uses.{EachCall}
+use Rattle.paraid_event.proofs.ApartLemmas.{no_one, none_not_fresh}
 use Rattle.paraid_event.specs.Marks.{IsMarkedBy, ShowsMeta}
 use Rattle.paraid_event.specs.Parts.{AreEventCalls, BringsMeta, EndsEvent, committed_meta}
 use Rattle.paraid_event.specs.Parts.BringsMeta.{commit, nothing}
@@ -126,11 +127,11 @@ module _ (copied : Service) (d u : ℕ) (h : History) (lo : ℕ) (base : Meta) (
   there = at.midway.fresh d u is_fresh
 
   next_down : (e : ℕ) → named_out next.out ≡ Some e → IsIn w.down e
-  next_down e is = let z : None ≡ Some e = is in cc
+  next_down e is = absurd (no_one is)
 
   -- the spin-ups of each disk are recorded, also of the one that is back
   next_recorded : (e : ℕ) → e < n → IsRecordedBy next w e
-  next_recorded e below here not = stands.recorded_next e below here (λ gone. let z : None ≡ Some e = sym none_gone ∙ gone in cc)
+  next_recorded e below here not = stands.recorded_next e below here (λ gone. absurd (no_one (sym none_gone ∙ gone)))
 
   next_epoch : next.epoch ≤ base.epoch + 1
   next_epoch = let e = stands.keeps.epoch in let z = ap (λ (m : Meta). m.epoch) stands.is_base in omega (arith, e, z)
@@ -157,7 +158,7 @@ module _ (copied : Service) (d u : ℕ) (h : History) (lo : ℕ) (base : Meta) (
     outs : (e : ℕ) → part.out ≡ Some e → (e < n) × IsIn w.down e
     outs e is = elim (part.is_out e is) [
       | inl was ↦ let is_named = stands.stays e was in (at.midway.low e is_named, stands.named_down e is_named)
-      | inr now_named ↦ let z : None ≡ Some e = now_named in cc
+      | inr now_named ↦ absurd (no_one now_named)
     ]
 
     within : (b : Bounds) → copied.meta.setup ≡ b.setup → copied.meta.ticks ≤ b.ticks → base.epoch + 1 ≤ b.epoch → BringsMeta j keeps.base w.disks cs → Each (StaysWithinAt b w.spun w.disks) (λ (v : Watch) (c : Call). Unit {0}) w cs
@@ -231,7 +232,7 @@ module _ (copied : Service) (d u : ℕ) (h : History) (lo : ℕ) (base : Meta) (
       after_spun e is here =
           let power = follows.power e here in
           let count = follows.spun e in
-          let was : w.spun e ≤ first_used j.meta w.disks.power e = next_recorded e is (ap is_present (sym power) ∙ here) (λ gone. let z : None ≡ Some e = gone in cc) in
+          let was : w.spun e ≤ first_used j.meta w.disks.power e = next_recorded e is (ap is_present (sym power) ∙ here) (λ gone. absurd (no_one gone)) in
           let used = same_used j.meta v.disks.power w.disks.power e power in
           omega (arith, count, was, used)
 
@@ -242,7 +243,7 @@ module _ (copied : Service) (d u : ℕ) (h : History) (lo : ℕ) (base : Meta) (
           is_base = refl;
           absent_down = λ e is gone. follows.absent e (below e is) gone;
           named_down = λ e is. subst (IsIn v.down) (sym (alone e is)) (follows.down d (stands.named_down d named));
-          stays = λ e said. let z : None ≡ Some e = ap (λ (m : Meta). named_out m.out) (sym base_is) ∙ moved_keeps.0.named_by ∙ said in cc;
+          stays = λ e said. absurd (no_one (ap (λ (m : Meta). named_out m.out) (sym base_is) ∙ moved_keeps.0.named_by ∙ said));
           recorded = λ e is here not.
               let was = after_spun e (below e is) here in
               let used : first_used moved_keeps.0.base v.disks.power e ≡ first_used j.meta v.disks.power e = ap (λ (m : Meta). first_used m v.disks.power e) base_is in
@@ -251,7 +252,7 @@ module _ (copied : Service) (d u : ℕ) (h : History) (lo : ℕ) (base : Meta) (
               let was = after_spun e (below e is) here in
               let used = marked_used v.disks.power j.meta back.meta marks v.disks.power e in
               omega (arith, was, used);
-          awaited = λ e is. let z : None ≡ Some e = sym none_gone ∙ stands.awaited e (sym follows.awaited ∙ is) in cc;
+          awaited = λ e is. absurd (no_one (sym none_gone ∙ stands.awaited e (sym follows.awaited ∙ is)));
           ticks =
               let e : moved_keeps.0.base.ticks ≡ copied.meta.ticks = ap (λ (m : Meta). m.ticks) base_is in
               let f : back.meta.ticks ≡ copied.meta.ticks = same_ticks v.disks.power j.meta back.meta marks in
@@ -265,7 +266,7 @@ module _ (copied : Service) (d u : ℕ) (h : History) (lo : ℕ) (base : Meta) (
       next_shown : ShowsMeta w.disks.power next j.meta
       next_shown = record {
         gear = refl;
-        out = out_named w.disks.power next No refl (λ e is gone. absurd (none_absent e is gone)) (λ e r is. let z : No ≡ Fresh e r = is in cc);
+        out = out_named w.disks.power next No refl (λ e is gone. absurd (none_absent e is gone)) (λ e r is. absurd (none_not_fresh is));
         phase = beside_none copied.meta.phase;
         fill = refl;
         spins = refl;

@@ -6,7 +6,7 @@ use Rattle.std.proofs.lemmas.Bool.Decides.{nat_tests}
 use Rattle.std.proofs.lemmas.List.{append-nil}
 use Rattle.paraid_base.specs.declared.event.Answer.{Answer}
 use Rattle.paraid_base.specs.declared.event.Answer.TheVariants.{NoDisk, NoFresh, NotOut, Replaced}
-use Rattle.paraid_base.specs.declared.event.Event.TheVariants.{Replace, Bad}
+use Rattle.paraid_base.specs.declared.event.Event.TheVariants.{Replace}
 use Rattle.paraid_base.specs.declared.fault.Halt.TheVariants.{Two as HaltTwo}
 use Rattle.paraid_base.specs.declared.fault.Two.{Two}
 use Rattle.paraid_base.specs.declared.state.Out.{Out}
@@ -48,6 +48,7 @@ use Rattle.paraid_session.proofs.LayerLemmas.{absent_failed, fails_first, first_
 use Rattle.paraid_session.specs.Resting.{watch_at}
 use Rattle.paraid_startup.proofs.BaseLemmas.{each_append}
 use Rattle.paraid_startup.proofs.DownLemmas.{watched_disks}
+use Rattle.paraid_event.proofs.ApartLemmas.{gone_not_fresh, no_one, replace_not_bad}
 use Rattle.paraid_event.specs.Lost.{TellsTwo}
 use Rattle.paraid_event.specs.Marks.{ArePoweredByGear, IsMarkedBy, ShowsMeta}
 use Rattle.paraid_event.specs.Parts.{AreEventCalls, EndsEvent, committed_meta}
@@ -70,7 +71,7 @@ rising_beside (PhaseDown to) = refl
 rising_beside (Up to) = refl
 
 has_named : (o : Out) (d : ℕ) → named_out o ≡ Some d → has_out o ≡ true
-has_named No d is = let z : None ≡ Some d = is in cc
+has_named No d is = absurd (no_one is)
 has_named (Gone e) d is = refl
 has_named (Fresh e u) d is = refl
 
@@ -142,7 +143,7 @@ replaced_midway k j h lo base v d spins at named others is keeps = subst (λ (z 
   };
   named = λ e low gone. sym named ∙ at.named e low gone;
   low = λ e e_named. at.low e (named ∙ e_named);
-  fresh = λ e u e_fresh. let z : Gone d ≡ Fresh e u = e_fresh in cc;
+  fresh = λ e u e_fresh. absurd (gone_not_fresh e_fresh);
 })
   where
     keeps_then : ServiceStandsFor (record k { meta = record (meta_after_loss k.meta d) { spins = spins } }) h lo v.disks
@@ -153,10 +154,10 @@ committed_shift : (base m : Meta) (d : ℕ) → base.out ≡ Gone d → m.out �
 committed_shift base m d gone m_gone gear phase fill = record {
   gear = gear;
   rises = ap rising_to phase;
-  fresh = λ e u is. let z : Gone d ≡ Fresh e u = sym gone ∙ is in cc;
+  fresh = λ e u is. absurd (gone_not_fresh (sym gone ∙ is));
   phase = λ is. phase;
   fill = λ is. fill;
-  rebuilt = λ e u is. let z : Gone d ≡ Fresh e u = sym m_gone ∙ is in cc;
+  rebuilt = λ e u is. absurd (gone_not_fresh (sym m_gone ∙ is));
 }
 
 module _ (told : Option Trail) (k : Service) (setup : Setup) (p : Point) (at : StandsAt told k setup p) (d : ℕ) (below : d < setup.geometry.disks) (is_out : named_out p.state.out ≡ Some d) (fit : point_wear p < 2 ^ 62) where
@@ -240,7 +241,7 @@ module _ (told : Option Trail) (k : Service) (setup : Setup) (p : Point) (at : S
     among = by fresh_came p.state.out is_out
       where
         by : (t : Bool) (o : Out) → named_out o ≡ Some d → Contains {X = Answer × PowerState} (put_in (loss_of d t) p.state d o) (answer_of d t, state_of p.state d t)
-        by t No is = let z : None ≡ Some d = is in cc
+        by t No is = absurd (no_one is)
         by true (Gone e) is = let same_disk : (d == e) ≡ true = equal_test d e (let z : Some e ≡ Some d = is in cc) in rw same_disk (0, omega arith, refl)
         by false (Gone e) is =
             let same_disk : (d == e) ≡ true = equal_test d e (let z : Some e ≡ Some d = is in cc) in
@@ -313,7 +314,7 @@ module _ (told : Option Trail) (k : Service) (setup : Setup) (p : Point) (at : S
     replaced_turn : (told_then : Option Trail) → ((t : Trail) → told_then ≡ Some t → now t ≡ vf.disks) → GoesOn k.slots setup p (Replace d) answer (StandsAt told_then kf setup) p.disks all
     replaced_turn told_then tells = let there = after told_then tells in (
       q,
-      answered at.going (λ e. let z : Replace d ≡ Bad = e in cc) (record {
+      answered at.going (λ e. replace_not_bad e) (record {
         fit = λ asked. fit;
         machine = machine;
         moments = subst (λ (z : Watch). Held z all) (sym watched) each;
@@ -341,7 +342,7 @@ module _ (told : Option Trail) (k : Service) (setup : Setup) (p : Point) (at : S
       by p.state.out is_out low
     where
       by : (o : Out) → named_out o ≡ Some d → Contains (put_in None p.state d o) (answer, new) → makes_no_call answer ≡ false
-      by No named found = let z : None ≡ Some d = named in cc
+      by No named found = absurd (no_one named)
       by (Gone e) named found =
           let same_disk : (d == e) ≡ true = equal_test d e (let z : Some e ≡ Some d = named in cc) in
           let one = subst (λ (t : Bool). Contains (if t then refresh None p.state d else quietly None (NotOut d) p.state) (answer, new)) same_disk found in
@@ -406,7 +407,7 @@ module _ (told : Option Trail) (k : Service) (setup : Setup) (p : Point) (at : S
     powered1 : ArePoweredByGear p.disks.power k1.meta
     powered1 = subst (ArePoweredByGear p.disks.power) (sym meta1) (record {
       by_gear = λ e low not. at.powered.by_gear e low (λ e_named. not (sym named0 ∙ e_named)) ∙ sym (replaced_gear k.meta d e);
-      fresh = λ e u is. let z : Gone d ≡ Fresh e u = is in cc;
+      fresh = λ e u is. absurd (gone_not_fresh is);
     })
 
     state1 : IsStateOf k1 (without_fresh_disk p.state d)
@@ -435,7 +436,7 @@ module _ (told : Option Trail) (k : Service) (setup : Setup) (p : Point) (at : S
         first_is : two.first ≡ d
         first_is = elim tells.first [
           | inl was ↦ let z : Some two.first ≡ Some d = sym was ∙ ap named_out out1 in cc
-          | inr none ↦ let z : None ≡ Some d = sym none.0 ∙ ap named_out out1 in cc
+          | inr none ↦ absurd (no_one (sym none.0 ∙ ap named_out out1))
         ]
 
     -- and the mark is committed
@@ -569,11 +570,11 @@ module _ (told : Option Trail) (k : Service) (setup : Setup) (p : Point) (at : S
 
         failed_mid : IsMidway k2 p.history p.low ends.keeps.base f2
         failed_mid = attach_stands k2 p.history p.low ends.keeps.base v1 mid2 d out2 base_out commits.nothing_staged shift2 only1 false k2 (Gone d) same_again refl
-            (λ e u is. let z : Gone d ≡ Fresh e u = is in cc) keeps
+            (λ e u is. absurd (gone_not_fresh is)) keeps
 
         failed_powered : ArePoweredByGear f2.disks.power k2.meta
         failed_powered = attach_powered k2 p.history p.low ends.keeps.base v1 mid2 d out2 base_out commits.nothing_staged shift2 only1 false k2 (Gone d) same_again refl
-            (λ e u is. let z : Gone d ≡ Fresh e u = is in cc) (λ e u is. let z : Gone d ≡ Fresh e u = is in cc) powered2
+            (λ e u is. absurd (gone_not_fresh is)) (λ e u is. absurd (gone_not_fresh is)) powered2
 
         failed_shown : ShowsMeta f2.disks.power ends.keeps.base k2.meta
         failed_shown = record {

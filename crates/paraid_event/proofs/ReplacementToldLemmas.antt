@@ -1,10 +1,9 @@
 -- What is told of the calls in which a disk is replaced.
 use Rattle.std.proofs.Common.{◌≡◌, ℕ, ◌^◌, ◌<◌, Bool, true, false, List, [], ◌∷◌, ◌++◌, length, Option, Some, refl, sym, ap, ◌∙◌, subst}
 use Rattle.paraid_base.specs.declared.event.Answer.TheVariants.{Halted, NoFresh}
-use Rattle.paraid_base.specs.declared.event.Event.TheVariants.{Replace, Bad}
+use Rattle.paraid_base.specs.declared.event.Event.TheVariants.{Replace}
 use Rattle.paraid_base.specs.declared.fault.Halt.TheVariants.{Two as HaltTwo}
 use Rattle.paraid_base.specs.declared.fault.Two.{Two}
-use Rattle.paraid_base.specs.declared.state.Out.TheVariants.{Gone, Fresh}
 use Rattle.paraid_base.specs.Regions.{disk_size}
 use Rattle.paraid_base.specs.States.{named_out}
 use Rattle.paraid_rack.specs.declared.call.Call.{Call}
@@ -20,6 +19,7 @@ use Rattle.paraid_session.specs.Turn.{GoesOn, LosesSecondDisk, Point, point_wear
 use Rattle.paraid_session.specs.Turn.IsTurn.{two as second_loss}
 use Rattle.paraid_session.specs.Watch.{Watch, only, watch, watch_all}
 use Rattle.paraid_startup.proofs.DownLemmas.{watched_disks}
+use Rattle.paraid_event.proofs.ApartLemmas.{gone_not_fresh, replace_not_bad}
 use Rattle.paraid_event.specs.Lost.{IsHaltedFrom, TellsTwo}
 use Rattle.paraid_event.specs.Parts.{AreEventCalls, LosesInEvent, ServesEvent}
 use Rattle.paraid_event.specs.Replacements.{AttachesInEvent, BringsFresh, CommitsReplaced, LosesReplaced, ReplacesDisk, with_fresh}
@@ -86,7 +86,7 @@ module _ (told : Option Trail) (k : Service) (setup : Setup) (p : Point) (at : S
       let holds1 = subst (λ (s : Disks). ServesEvent k1 k2 p.history p.low p.history (length p.history) s r1.calls) from r1.holds keeps1 in
       let part1 = subst (λ (m : Meta). AreEventCalls k1 p.history p.low m p.disks r1.calls) (marked_base k1 keeps1) holds1.0 in
       let was = gone_out2 told k setup p at d below is_out fit k1 gone.marks keeps1 r1.calls part1 k2 holds1.1 gone.ends in
-      absurd (let z : Gone d ≡ Fresh d 0 = sym was ∙ ap (λ (y : Service). y.meta.out) (sym equal) ∙ out in cc)
+      absurd (absurd (gone_not_fresh (sym was ∙ ap (λ (y : Service). y.meta.out) (sym equal) ∙ out)))
   brings_told false k_then told_then mid k1 k2 gone (failed equal attach) out t tells =
       let r2 = attach t tells in
       let r1 = gone.ran r2.from r2.was in
@@ -121,7 +121,7 @@ module _ (told : Option Trail) (k : Service) (setup : Setup) (p : Point) (at : S
       → GoesOn k.slots setup p (Replace d) (Halted (HaltTwo two)) (IsHaltedFrom p (HaltTwo two)) p.disks all
   halts two all loses = (
     record p { disks = run p.disks all; halt = Some (HaltTwo two) },
-    second_loss two at.going (λ e. let z : Replace d ≡ Bad = e in cc) refl loses,
+    second_loss two at.going (λ e. replace_not_bad e) refl loses,
     refl,
   )
 

@@ -16,6 +16,7 @@ use Rattle.paraid_image.specs.Sides.{Batch}
 use Rattle.paraid_core.specs.CellCopies.{KeepsCellCopies}
 use Rattle.paraid_core.specs.CoreInvariant.{HoldsBetweenCalls}
 use Rattle.paraid_core.specs.Fills.{IsShiftCommitted}
+use Rattle.paraid_event.proofs.ApartLemmas.{gone_not_fresh, none_not_fresh}
 use Rattle.paraid_event.specs.Marks.{ShowsMeta}
 use Rattle.paraid_event.specs.Powering.{ServiceRests}
 use Rattle.paraid_event.specs.Service.{Service}
@@ -33,8 +34,8 @@ beside_none (Down to) = refl
 beside_none (Up to) = refl
 
 named_after : (power : ℕ → Power) (lost : Option ℕ) (o : Out) (d units : ℕ) → o ≡ Fresh d units → named_out (out_after o power lost) ≡ Some d
-named_after power lost No d units is = let z : No ≡ Fresh d units = is in cc
-named_after power lost (Gone e) d units is = let z : Gone e ≡ Fresh d units = is in cc
+named_after power lost No d units is = absurd (none_not_fresh is)
+named_after power lost (Gone e) d units is = absurd (gone_not_fresh is)
 named_after power lost (Fresh e u) d units is = by (is_present (power e)) (let z : Fresh e u ≡ Fresh d units = is in let same : e ≡ d = cc in same)
   where
     by : (t : Bool) → e ≡ d → named_out (if t then Fresh e u else Gone e) ≡ Some d
@@ -42,14 +43,14 @@ named_after power lost (Fresh e u) d units is = by (is_present (power e)) (let z
     by false same = ap (λ (x : ℕ). Some x) same
 
 fresh_before : (power : ℕ → Power) (lost : Option ℕ) (o : Out) (d units : ℕ) → out_after o power lost ≡ Fresh d units → o ≡ Fresh d units
-fresh_before power None No d units is = let z : No ≡ Fresh d units = is in cc
-fresh_before power (Some e) No d units is = let z : Gone e ≡ Fresh d units = is in cc
-fresh_before power lost (Gone e) d units is = let z : Gone e ≡ Fresh d units = is in cc
+fresh_before power None No d units is = absurd (none_not_fresh is)
+fresh_before power (Some e) No d units is = absurd (gone_not_fresh is)
+fresh_before power lost (Gone e) d units is = absurd (gone_not_fresh is)
 fresh_before power lost (Fresh e u) d units is = by (is_present (power e)) is
   where
     by : (t : Bool) → (if t then Fresh e u else Gone e) ≡ Fresh d units → Fresh e u ≡ Fresh d units
     by true same = same
-    by false same = let z : Gone e ≡ Fresh d units = same in cc
+    by false same = absurd (gone_not_fresh same)
 
 -- The gear is that of the last commit, and while no disk is out the shift is.
 pub shown_shift : (power : ℕ → Power) (base m : Meta) → ShowsMeta power base m → IsShiftCommitted base m

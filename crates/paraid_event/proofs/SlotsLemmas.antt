@@ -1,6 +1,6 @@
 -- From what a core says of the slots to what the disks that are told show.
 use Rattle.std.proofs.Common.{◌≡◌, ℕ, ◌<◌, true, false, List, Option, Some, None, refl, sym, ap, ◌∙◌}
-use Rattle.paraid_base.specs.declared.state.Out.TheVariants.{Gone, Fresh}
+use Rattle.paraid_base.specs.declared.state.Out.TheVariants.{Fresh}
 use Rattle.paraid_base.specs.States.{named_out}
 use Rattle.paraid_rack.specs.declared.call.Call.{Call}
 use Rattle.paraid_rack.specs.Disks.{Disks, is_present}
@@ -12,6 +12,7 @@ use Rattle.paraid_record.specs.declared.meta.Setup.{Setup}
 use Rattle.paraid_core.specs.CoreInvariant.{meta_with_lost}
 use Rattle.paraid_core.specs.Lost.{MarksLost}
 use Rattle.paraid_session.specs.Turn.{Point}
+use Rattle.paraid_event.proofs.ApartLemmas.{gone_not_fresh, no_one}
 use Rattle.paraid_event.specs.Marks.{IsMarkedBy}
 use Rattle.paraid_event.specs.Service.{Service}
 use Rattle.paraid_event.specs.Stands.{StandsAt}
@@ -30,9 +31,9 @@ module _ (told told_then : Option Trail) (k : Service) (m_then : Meta) (setup : 
       by None none =
           let r = ran t tells in
           let was = fresh_there told k setup p at d u (sym (out_by None none) ∙ is) in
-          let same_power = (marks.others d (λ e. let z : None ≡ Some d = sym none ∙ e in cc)).power in
+          let same_power = (marks.others d (λ e. absurd (no_one (sym none ∙ e)))).power in
           ap is_present ((agrees_then t tells).power d ∙ same_power ∙ sym ((agrees r.from r.was).power d) ∙ ap (λ (s : Disks). s.power d) (at.disks r.from r.was)) ∙ was
-      by (Some x) some = let z : Gone x ≡ Fresh d u = sym (out_by (Some x) some) ∙ is in cc
+      by (Some x) some = absurd (gone_not_fresh (sym (out_by (Some x) some) ∙ is))
 
   -- The meta is marked by the disks that are told.
   pub marked_by_slots : (t : Trail) → told_then ≡ Some t → IsMarkedBy (now t).power k.meta m_then

@@ -9,6 +9,7 @@ use Rattle.paraid_image.specs.Power.{PowerState}
 use Rattle.paraid_core.specs.CoreInvariant.{meta_with_lost}
 use Rattle.paraid_machine.specs.Moves.{after_flip, after_loss, after_units, begun_down, begun_up, with_spin_ups}
 use Rattle.paraid_moves.specs.MoveMetas.{meta_after_begin, meta_flipped_to}
+use Rattle.paraid_event.proofs.ApartLemmas.{no_one}
 use Rattle.paraid_event.specs.Moving.{EndsShift, GoesToState, MovesUnits, StartsShiftUp}
 use Rattle.paraid_event.specs.Service.{IsStateOf, Service}
 
@@ -63,7 +64,7 @@ module _ (k k_then : Service) (s : PowerState) (of : IsStateOf k s) (whole : k.m
       none_by none (Some d) same = let z : Gone d ≡ No = sym (out_then (Some d) same) ∙ none in cc
 
       some_by : (d : ℕ) → named_out k_then.meta.out ≡ Some d → (o : Option ℕ) → lost ≡ o → IsStateOf k_then (after_loss s d)
-      some_by d named None same = let z : None ≡ Some d = ap named_out (sym whole ∙ sym (out_then None same)) ∙ named in cc
+      some_by d named None same = absurd (no_one (ap named_out (sym whole ∙ sym (out_then None same)) ∙ named))
       some_by d named (Some e) same = let z : Some e ≡ Some d = ap named_out (sym (out_then (Some e) same)) ∙ named in subst (λ (x : ℕ). IsStateOf k_then (after_loss s x)) (let equal : e ≡ d = cc in equal) (state_lost e same)
 
 -- a shift that has ended by its mark

@@ -18,6 +18,7 @@ use Rattle.paraid_session.proofs.LayerLemmas.{IsIn, absent_failed, fails_first, 
 use Rattle.paraid_startup.proofs.BaseLemmas.{each_append}
 use Rattle.paraid_startup.proofs.DownLemmas.{watched_disks}
 use Rattle.paraid_txn.specs.Uses.{EachCall}
+use Rattle.paraid_event.proofs.ApartLemmas.{no_one}
 use Rattle.paraid_event.specs.Lost.{TellsTwo}
 use Rattle.paraid_event.specs.Marks.{ArePoweredByGear, IsMarkedBy, ShowsMeta}
 use Rattle.paraid_event.specs.Parts.{AreEventCalls, EndsEvent, LosesInEvent, committed_meta}
@@ -33,7 +34,7 @@ use Rattle.paraid_event.proofs.PartLemmas.{part_attaches, part_awaited, part_bas
 
 -- the first call that failed of some calls is that of those and others
 pub first_before : (cs ds : List Call) (e : ℕ) → first_lost cs ≡ Some e → first_lost (cs ++ ds) ≡ Some e
-first_before [] ds e is = let z : None ≡ Some e = is in cc
+first_before [] ds e is = absurd (no_one is)
 first_before (c ∷ cs) ds e is = by (is_done c) is (λ z. first_before cs ds e z)
   where
     by : (t : Bool) → (if t then first_lost cs else Some (disk_of c)) ≡ Some e → (first_lost cs ≡ Some e → first_lost (cs ++ ds) ≡ Some e) → (if t then first_lost (cs ++ ds) else Some (disk_of c)) ≡ Some e
@@ -102,11 +103,11 @@ module _ (k j : Service) (h : History) (lo most more : ℕ) (Mid : Meta → Watc
 
       none_before : (o : Option ℕ) → named_out k.meta.out ≡ o → named_out j.meta.out ≡ None → named_out k.meta.out ≡ None
       none_before None is none = is
-      none_before (Some e) is none = let z : None ≡ Some e = sym none ∙ first.leaves.still e is in cc
+      none_before (Some e) is none = absurd (no_one (sym none ∙ first.leaves.still e is))
 
       none_lost : (o : Option ℕ) → first_lost cs ≡ o → named_out j.meta.out ≡ None → first_lost cs ≡ None
       none_lost None is none = is
-      none_lost (Some e) is none = let z : None ≡ Some e = sym none ∙ first.leaves.failed e (first_fails cs e is) in cc
+      none_lost (Some e) is none = absurd (no_one (sym none ∙ first.leaves.failed e (first_fails cs e is)))
 
   pub both_lose : (two : Two) → AreStepCalls j h lo more first.base_then (watch_all cs w) ds → TellsTwo j two (watch_all cs w).disks ds → AreStepCalls k h lo (most + more) base w (cs ++ ds) × TellsTwo k two w.disks (cs ++ ds)
   both_lose two calls tells = (both_calls calls, first_named two tells)

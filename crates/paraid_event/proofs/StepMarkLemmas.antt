@@ -17,6 +17,7 @@ use Rattle.paraid_session.specs.Watch.{IsServing, Watch, awaited_after, first_lo
 use Rattle.paraid_session.proofs.LayerLemmas.{absent_failed, fails_first, first_fails}
 use Rattle.paraid_startup.proofs.DownLemmas.{watched_disks}
 use Rattle.paraid_txn.specs.Uses.{EachCall}
+use Rattle.paraid_event.proofs.ApartLemmas.{no_one}
 use Rattle.paraid_event.specs.Lost.{TellsTwo}
 use Rattle.paraid_event.specs.Marks.{ArePoweredByGear, IsMarkedBy, ShowsMeta}
 use Rattle.paraid_event.specs.Parts.{AreEventCalls, EndsEvent, LosesInEvent, committed_meta}
@@ -34,7 +35,7 @@ use Rattle.paraid_event.proofs.StepLemmas.{both_go, both_lose, data_steps, one_c
 
 -- the disk that is being rebuilt by a meta with a mark was so before it
 pub fresh_of : (o : Out) (d : ℕ) → named_out o ≡ Some d → gone_out o ≡ None → (u : ℕ) × (o ≡ Fresh d u)
-fresh_of No d named gone = let z : None ≡ Some d = named in cc
+fresh_of No d named gone = absurd (no_one named)
 fresh_of (Gone e) d named gone = let z : Some e ≡ None = gone in cc
 fresh_of (Fresh e u) d named gone = let z : Some e ≡ Some d = named in (u, ap (λ (x : ℕ). Fresh x u) (let same : e ≡ d = cc in same))
 
@@ -372,7 +373,7 @@ module _ (k j : Service) (powers : Meta) (h : History) (lo most : ℕ) (s : Disk
   module _ (opened : Service) (lo_then : ℕ) (le : lo ≤ lo_then) (slots : opened.slots ≡ j.slots) (more : opened.meta.epoch ≡ j.meta.epoch + 1) (whole : j.meta.out ≡ No) (has : (d : ℕ) → j.meta.gear ≤ d → d < rising_to j.meta.phase → 1 ≤ slice_index j.meta.spins d)
       (serves : ServesMarked j opened h lo lo_then (run s cs) ds) where
     none_waits : (base : Meta) (v : Watch) → AwaitsCommit j powers h lo base v → (d : ℕ) → v.awaited ≡ Some d → ⊥
-    none_waits base v waits d is = let z : None ≡ Some d = sym (ap gone_out whole) ∙ waits.midway.stands.awaited d is in cc
+    none_waits base v waits d is = absurd (no_one (sym (ap gone_out whole) ∙ waits.midway.stands.awaited d is))
 
     has_base : (base : Meta) → base ≡ committed_meta j → (d : ℕ) → base.gear ≤ d → d < rising_to base.phase → 1 ≤ slice_index base.spins d
     has_base base is = subst (λ (m : Meta). (d : ℕ) → m.gear ≤ d → d < rising_to m.phase → 1 ≤ slice_index m.spins d) (sym is) (λ d from low. has d from low)
@@ -412,7 +413,7 @@ module _ (k j : Service) (powers : Meta) (h : History) (lo most : ℕ) (s : Disk
 -- Disks are powered where no mark awaits a commit.
 module _ (k : Service) (none_gone : gone_out k.meta.out ≡ None) (has : (d : ℕ) → k.meta.gear ≤ d → d < rising_to k.meta.phase → 1 ≤ slice_index k.meta.spins d) (h : History) (lo : ℕ) (base : Meta) (w : Watch) (at : IsUnderway k h lo base w) where
   no_waits : (d : ℕ) → w.awaited ≡ Some d → ⊥
-  no_waits d is = let z : None ≡ Some d = sym none_gone ∙ at.midway.stands.awaited d is in cc
+  no_waits d is = absurd (no_one (sym none_gone ∙ at.midway.stands.awaited d is))
 
   has_base_shown : (d : ℕ) → base.gear ≤ d → d < rising_to base.phase → 1 ≤ slice_index base.spins d
   has_base_shown d from low =

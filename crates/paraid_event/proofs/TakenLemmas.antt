@@ -6,7 +6,7 @@ use Rattle.std.proofs.lemmas.Bool.Decides.{nat_tests}
 use Rattle.std.proofs.lemmas.List.{append-nil}
 use Rattle.paraid_base.specs.declared.event.Answer.{Answer}
 use Rattle.paraid_base.specs.declared.event.Answer.TheVariants.{Failed, Halted, NoDisk}
-use Rattle.paraid_base.specs.declared.event.Event.TheVariants.{Bad, Fail}
+use Rattle.paraid_base.specs.declared.event.Event.TheVariants.{Fail}
 use Rattle.paraid_base.specs.declared.fault.Halt.TheVariants.{Two as HaltTwo}
 use Rattle.paraid_base.specs.declared.fault.Two.{Two}
 use Rattle.paraid_base.specs.declared.state.Out.{Out}
@@ -37,6 +37,7 @@ use Rattle.paraid_session.specs.Watch.{Bounds, Down, Each, HoldsWhileServing, Is
 use Rattle.paraid_session.proofs.LayerLemmas.{absent_failed, each_map, first_fails}
 use Rattle.paraid_startup.proofs.BaseLemmas.{each_append}
 use Rattle.paraid_startup.proofs.DownLemmas.{in_stays, watched_disks}
+use Rattle.paraid_event.proofs.ApartLemmas.{fail_not_bad, no_one}
 use Rattle.paraid_event.specs.Lost.{IsHaltedFrom, TellsTwo}
 use Rattle.paraid_event.specs.Marked.{MarksTakenOut}
 use Rattle.paraid_event.specs.Parts.{AreEventCalls, EndsEvent, LosesInEvent, ServesEvent, committed_meta}
@@ -62,7 +63,7 @@ before_append (c ∷ cs) ds none = by (is_done c) none (λ z. before_append cs d
     by false z f = let y : Some (disk_of c) ≡ None = z in cc
 
 first_append : (cs ds : List Call) (e : ℕ) → first_lost cs ≡ Some e → first_lost (cs ++ ds) ≡ Some e
-first_append [] ds e is = let z : None ≡ Some e = is in cc
+first_append [] ds e is = absurd (no_one is)
 first_append (c ∷ cs) ds e is = by (is_done c) is (λ z. first_append cs ds e z)
   where
     by : (t : Bool) → (if t then first_lost cs else Some (disk_of c)) ≡ Some e → (first_lost cs ≡ Some e → first_lost (cs ++ ds) ≡ Some e) → (if t then first_lost (cs ++ ds) else Some (disk_of c)) ≡ Some e
@@ -133,7 +134,7 @@ module _ (told : Option Trail) (k : Service) (setup : Setup) (p : Point) (at : S
   all = length p.history
 
   none_named : (e : ℕ) → named_out k.meta.out ≡ Some e → ⊥
-  none_named e named = let z : None ≡ Some e = sym (ap named_out (sym at.state.out ∙ no_out)) ∙ named in cc
+  none_named e named = absurd (no_one (sym (ap named_out (sym at.state.out ∙ no_out)) ∙ named))
 
   mid0 : IsMidway k p.history p.low p.meta w0
   mid0 = record {
@@ -222,7 +223,7 @@ module _ (told : Option Trail) (k : Service) (setup : Setup) (p : Point) (at : S
         is = r.is;
         holds = (
           record p { disks = run p.disks r.calls; halt = Some (HaltTwo two) },
-          second_loss two at.going (λ e. let z : Fail d ≡ Bad = e in cc) refl (staged_turn r.calls part holds.1),
+          second_loss two at.going (λ e. fail_not_bad e) refl (staged_turn r.calls part holds.1),
           refl,
         );
       }
@@ -260,7 +261,7 @@ module _ (told : Option Trail) (k : Service) (setup : Setup) (p : Point) (at : S
           first_is : two.first ≡ d
           first_is = elim tells.first [
             | inl was ↦ let z : Some two.first ≡ Some d = sym was ∙ named2 in let same_disk : two.first ≡ d = cc in same_disk
-            | inr none ↦ let z : None ≡ Some d = sym none.0 ∙ named2 in cc
+            | inr none ↦ absurd (no_one (sym none.0 ∙ named2))
           ]
 
           each2 : Held v1 ds
@@ -344,7 +345,7 @@ module _ (told : Option Trail) (k : Service) (setup : Setup) (p : Point) (at : S
           is = r2.is ∙ ap (λ (u : Trail). extend u r2.calls) r1.is ∙ extend-extend r1.from r1.calls r2.calls;
           holds = (
             record p { disks = run p.disks (r1.calls ++ r2.calls); halt = Some (HaltTwo two) },
-            second_loss two at.going (λ e. let z : Fail d ≡ Bad = e in cc) refl (marked_turn r1.calls part1 ends1 keeps r2.calls part2 holds2.1),
+            second_loss two at.going (λ e. fail_not_bad e) refl (marked_turn r1.calls part1 ends1 keeps r2.calls part2 holds2.1),
             refl,
           );
         }

@@ -5,7 +5,7 @@ use Rattle.std.proofs.lemmas.Bool.{false≢true}
 use Rattle.std.proofs.lemmas.List.{append-nil}
 use Rattle.paraid_base.specs.declared.event.Answer.{Answer}
 use Rattle.paraid_base.specs.declared.event.Answer.TheVariants.{Halted}
-use Rattle.paraid_base.specs.declared.event.Event.TheVariants.{Bad, Tick}
+use Rattle.paraid_base.specs.declared.event.Event.TheVariants.{Tick}
 use Rattle.paraid_base.specs.declared.fault.Halt.TheVariants.{Two as HaltTwo}
 use Rattle.paraid_base.specs.declared.fault.Two.{Two}
 use Rattle.paraid_base.specs.declared.state.Out.{Out}
@@ -40,6 +40,7 @@ use Rattle.paraid_session.specs.Turn.IsTurn.{answered, two as second_loss}
 use Rattle.paraid_session.specs.Watch.{Bounds, Down as DownDisks, Each, HoldsWhileServing, IsAllowed, IsServing, Watch, down_from_out, first_lost, nobody, only, several, watch_all}
 use Rattle.paraid_session.specs.Resting.{watch_at}
 use Rattle.paraid_startup.proofs.DownLemmas.{watched_disks}
+use Rattle.paraid_event.proofs.ApartLemmas.{no_one, tick_not_bad}
 use Rattle.paraid_event.specs.Lost.{TellsTwo}
 use Rattle.paraid_event.specs.Marks.{ArePoweredByGear, ShowsMeta}
 use Rattle.paraid_event.specs.Parts.{AreEventCalls, EndsEvent, LosesInEvent, ServesEvent, committed_meta}
@@ -56,7 +57,7 @@ use Rattle.paraid_event.proofs.TurnLemmas.{absent_named, fresh_there, out_low, s
 
 only_more : (o : Option ℕ) (down : DownDisks) → IsOnly None down → IsOnly o down
 only_more o nobody is = tt
-only_more o (only d) is = let z : None ≡ Some d = is in cc
+only_more o (only d) is = absurd (no_one is)
 only_more o several is = is
 
 begun_used : (m : Meta) (to : ℕ) (p : ℕ → Power) (d : ℕ) → rising_to m.phase ≡ 0 → first_used (meta_after_begin m (Down to) m.spins) p d ≡ first_used m p d
@@ -192,7 +193,7 @@ module _ (told : Option Trail) (k k1 k2 : Service) (setup : Setup) (p : Point) (
         ap makes_no_call (sym (one_outcome (report (begun_down to s1) 0 (Begun to)) other new free))
 
     no_name2 : (e : ℕ) → named_out k2.meta.out ≡ Some e → ⊥
-    no_name2 e named = let z : None ≡ Some e = sym (ap (λ (m : Meta). named_out m.out) meta2 ∙ ap named_out out1) ∙ named in cc
+    no_name2 e named = absurd (no_one (sym (ap (λ (m : Meta). named_out m.out) meta2 ∙ ap named_out out1) ∙ named))
 
     abbrev halted_point : Two → List Call → Point
     halted_point two ds = record p { disks = run p.disks ds; energy = k1.energy; halt = Some (HaltTwo two) }
@@ -306,7 +307,7 @@ module _ (told : Option Trail) (k k1 k2 : Service) (setup : Setup) (p : Point) (
       begun_turn : (told_then : Option Trail) → ((t : Trail) → told_then ≡ Some t → now t ≡ v.disks) → GoesOn k.slots setup p Tick answer (StandsAt told_then k3 setup) p.disks ds
       begun_turn told_then tells = let there = begun_stands told_then tells in (
         begun_point,
-        answered at.going (λ e. let z : Tick ≡ Bad = e in cc) (record {
+        answered at.going (λ e. tick_not_bad e) (record {
           fit = λ asked. fit;
           machine = begun_step;
           moments = each2 ds part;
@@ -358,5 +359,5 @@ module _ (told : Option Trail) (k k1 k2 : Service) (setup : Setup) (p : Point) (
         was = r.was;
         calls = r.calls;
         is = r.is;
-        holds = (halted_point keeps two r.calls, second_loss two at.going (λ e. let z : Tick ≡ Bad = e in cc) refl (tick_lost keeps two r.calls part holds.1), refl);
+        holds = (halted_point keeps two r.calls, second_loss two at.going (λ e. tick_not_bad e) refl (tick_lost keeps two r.calls part holds.1), refl);
       }

@@ -3,7 +3,7 @@ use Rattle.std.proofs.Common.{zero, suc, ◌≡◌, ℕ, ◌+◌, ◌^◌, ◌<�
 use Rattle.std.specs.Prelude.{◌==◌, Contains, slice_index_or}
 use Rattle.paraid_base.specs.declared.event.Answer.{Answer}
 use Rattle.paraid_base.specs.declared.event.Answer.TheVariants.{Halted, Ticked}
-use Rattle.paraid_base.specs.declared.event.Event.TheVariants.{Bad, Tick}
+use Rattle.paraid_base.specs.declared.event.Event.TheVariants.{Tick}
 use Rattle.paraid_base.specs.declared.fault.Halt.TheVariants.{Two as HaltTwo}
 use Rattle.paraid_base.specs.declared.fault.Two.{Two}
 use Rattle.paraid_base.specs.declared.state.Out.{Out}
@@ -32,6 +32,7 @@ use Rattle.paraid_session.specs.Turn.IsSecondLossEnergy.{begun, own}
 use Rattle.paraid_session.specs.Watch.{Watch, first_lost}
 use Rattle.paraid_session.proofs.LayerLemmas.{first_fails}
 use Rattle.paraid_session.specs.Resting.{watch_at}
+use Rattle.paraid_event.proofs.ApartLemmas.{no_one, tick_not_bad}
 use Rattle.paraid_event.specs.Moving.{EndsShift, GoesToState, MovesUnits, StartsShiftUp}
 use Rattle.paraid_event.specs.Service.{IsStateOf, Service}
 use Rattle.paraid_event.specs.Stands.{StandsAt}
@@ -138,7 +139,7 @@ module _ (told : Option Trail) (k k1 : Service) (setup : Setup) (p : Point) (at 
 
     pub tick_answered : makes_no_call answer ≡ false → (cs : List Call) → GoesInSteps k1 k2 p.history p.low most (IsUnderway k2 p.history p.low) p.meta w0 cs → ((t : Trail) → told_then ≡ Some t → now t ≡ run p.disks cs)
         → IsEventStep setup p.history p.energy p.state Tick (first_lost cs) answer new → GoesOn k.slots setup p Tick answer (StandsAt told_then k2 setup) p.disks cs
-    tick_answered busy cs goes tells machine = steps_turn told_then k k1 setup p Tick s1 at.going (λ e. let z : Tick ≡ Bad = e in cc) fit refl ticks1 setup1 slots1 most few cs k2 goes answer new refl tells machine state synced
+    tick_answered busy cs goes tells machine = steps_turn told_then k k1 setup p Tick s1 at.going (λ e. tick_not_bad e) fit refl ticks1 setup1 slots1 most few cs k2 goes answer new refl tells machine state synced
         (capped_sum p.energy k.energy (tick_energy setup p.state) (begun_energy setup p.state.gear event) k1.energy k2.energy at.energy energy1 energy)
         (under_cap k2.energy (k1.energy + begun_energy setup p.state.gear event) energy) busy (λ a. refl) refl refl refl
 
@@ -160,7 +161,7 @@ module _ (told : Option Trail) (k k1 : Service) (setup : Setup) (p : Point) (at 
       → (most : ℕ) → most ≤ 2 ^ 20 → (told_then : Option Trail) → Ran told told_then (LosesInSteps k1 p.history p.low most two) → Ran told told_then (GoesOn k.slots setup p Tick (Halted (HaltTwo two)) (IsHaltedWith p (HaltTwo two) energy))
   tick_lost two energy is busy most few told_then = tick_parts told_then (LosesInSteps k1 p.history p.low most two) (GoesOn k.slots setup p Tick (Halted (HaltTwo two)) (IsHaltedWith p (HaltTwo two) energy))
       (λ cs loses tells. let x = loses p.meta w0 refl tick_underway in
-      steps_lost told_then k k1 setup p Tick s1 at.going (λ e. let z : Tick ≡ Bad = e in cc) fit refl ticks1 setup1 slots1 most few cs two energy refl (sym tick_state.out) x.0 x.1 busy is)
+      steps_lost told_then k k1 setup p Tick s1 at.going (λ e. tick_not_bad e) fit refl ticks1 setup1 slots1 most few cs two energy refl (sym tick_state.out) x.0 x.1 busy is)
 
   -- no disk fails where none is out then, and one that is out then is the first that failed
   module _ (k2 : Service) (most : ℕ) (cs : List Call) (goes : GoesInSteps k1 k2 p.history p.low most (IsUnderway k2 p.history p.low) p.meta w0 cs) (no_out : p.state.out ≡ No) where
@@ -169,11 +170,11 @@ module _ (told : Option Trail) (k k1 : Service) (setup : Setup) (p : Point) (at 
       where
         by : (o : Option ℕ) → first_lost cs ≡ o → first_lost cs ≡ None
         by None is = is
-        by (Some e) is = let z : None ≡ Some e = sym (ap named_out whole) ∙ goes.leaves.failed e (first_fails cs e is) in cc
+        by (Some e) is = absurd (no_one (sym (ap named_out whole) ∙ goes.leaves.failed e (first_fails cs e is)))
 
     pub lost_named : (d : ℕ) → named_out k2.meta.out ≡ Some d → first_lost cs ≡ Some d
     lost_named d named = elim (goes.leaves.newly d named) [
-      | inl was ↦ let z : None ≡ Some d = sym (ap named_out (sym tick_state.out ∙ no_out)) ∙ was in cc
+      | inl was ↦ absurd (no_one (sym (ap named_out (sym tick_state.out ∙ no_out)) ∙ was))
       | inr first ↦ first
     ]
 

@@ -6,7 +6,7 @@ use Rattle.std.proofs.lemmas.Bool.Decides.{nat_tests}
 use Rattle.std.proofs.lemmas.List.{append-nil}
 use Rattle.paraid_base.specs.declared.event.Answer.{Answer}
 use Rattle.paraid_base.specs.declared.event.Answer.TheVariants.{Halted, Shift}
-use Rattle.paraid_base.specs.declared.event.Event.TheVariants.{Up as AskUp, Bad}
+use Rattle.paraid_base.specs.declared.event.Event.TheVariants.{Up as AskUp}
 use Rattle.paraid_base.specs.declared.fault.Halt.TheVariants.{Two as HaltTwo}
 use Rattle.paraid_base.specs.declared.fault.Two.{Two}
 use Rattle.paraid_base.specs.declared.state.Out.{Out}
@@ -41,6 +41,7 @@ use Rattle.paraid_session.proofs.LayerLemmas.{absent_failed, fails_first, first_
 use Rattle.paraid_session.specs.Resting.{watch_at}
 use Rattle.paraid_startup.proofs.BaseLemmas.{each_append}
 use Rattle.paraid_startup.proofs.DownLemmas.{watched_disks}
+use Rattle.paraid_event.proofs.ApartLemmas.{no_one, up_not_bad}
 use Rattle.paraid_event.specs.Marks.{ArePoweredByGear, IsMarkedBy, ShowsMeta}
 use Rattle.paraid_event.specs.Parts.{AreEventCalls, EndsEvent, LosesInEvent, ServesEvent, committed_meta}
 use Rattle.paraid_event.specs.Powering.{AreDisksPowered, EndsPowered, PowersInEvent}
@@ -59,7 +60,7 @@ use Rattle.paraid_event.proofs.TurnLemmas.{absent_named, fresh_there, out_low, s
 
 -- the first call that failed of some calls is that of those and others
 first_before : (cs ds : List Call) (e : ℕ) → first_lost cs ≡ Some e → first_lost (cs ++ ds) ≡ Some e
-first_before [] ds e is = let z : None ≡ Some e = is in cc
+first_before [] ds e is = absurd (no_one is)
 first_before (c ∷ cs) ds e is = by (is_done c) is (λ z. first_before cs ds e z)
   where
     by : (t : Bool) → (if t then first_lost cs else Some (disk_of c)) ≡ Some e → (first_lost cs ≡ Some e → first_lost (cs ++ ds) ≡ Some e) → (if t then first_lost (cs ++ ds) else Some (disk_of c)) ≡ Some e
@@ -68,7 +69,7 @@ first_before (c ∷ cs) ds e is = by (is_done c) is (λ z. first_before cs ds e 
 
 only_more : (o : Option ℕ) (down : DownDisks) → IsOnly None down → IsOnly o down
 only_more o nobody is = tt
-only_more o (only d) is = let z : None ≡ Some d = is in cc
+only_more o (only d) is = absurd (no_one is)
 only_more o several is = is
 
 -- a shift up that begins has one more spin-up recorded of each disk of which one is to be made
@@ -138,7 +139,7 @@ module _ (told : Option Trail) (k k1 k2 : Service) (setup : Setup) (p : Point) (
   ticks_fit = let e = at.state.ticks in omega (arith, e)
 
   none_awaited : (d : ℕ) → p.awaited ≡ Some d → ⊥
-  none_awaited d is = let z : None ≡ Some d = sym (ap gone_out out0) ∙ at.stands.awaited d is in cc
+  none_awaited d is = absurd (no_one (sym (ap gone_out out0) ∙ at.stands.awaited d is))
 
   raise_busy : (answer : Answer) (new : PowerState) → IsUnhurt setup p AskUp answer new → makes_no_call answer ≡ false
   unfolding outcomes
@@ -169,7 +170,7 @@ module _ (told : Option Trail) (k k1 k2 : Service) (setup : Setup) (p : Point) (
     v1 = watch_all cs w0
 
     no_named1 : (e : ℕ) → named_out k1.meta.out ≡ Some e → ⊥
-    no_named1 e named = let z : None ≡ Some e = sym (ap named_out up.whole) ∙ named in cc
+    no_named1 e named = absurd (no_one (sym (ap named_out up.whole) ∙ named))
 
     only1 : IsOnly None v1.down
     only1 = part_only k p.history p.low p.meta w0 mid0 cs part k1 p.history lo1 ends None only0 (λ e named. absurd (no_named1 e named))
@@ -302,7 +303,7 @@ module _ (told : Option Trail) (k k1 k2 : Service) (setup : Setup) (p : Point) (
         -- where a second disk is lost in that commit
         module _ (two : Two) (tells : TellsTwo k2 two v1.disks ds) where
           no_name2 : (e : ℕ) → named_out k2.meta.out ≡ Some e → ⊥
-          no_name2 e named = let z : None ≡ Some e = sym (ap (λ (m : Meta). named_out m.out) meta2 ∙ ap named_out up.whole) ∙ named in cc
+          no_name2 e named = absurd (no_one (sym (ap (λ (m : Meta). named_out m.out) meta2 ∙ ap named_out up.whole) ∙ named))
 
           opened_lost : LosesSecondDisk k.slots setup p AskUp two (cs ++ ds) (record p { disks = run p.disks (cs ++ ds); halt = Some (HaltTwo two) })
           opened_lost = begins_lost two (cs ++ ds) (first_append cs ds none_lost ∙ elim tells.first [ inl named ↦ absurd (no_name2 two.first named) | inr none ↦ none.1 ]) (fails_later cs ds two.second tells.second) tells.apart
@@ -403,9 +404,9 @@ module _ (told : Option Trail) (k k1 k2 : Service) (setup : Setup) (p : Point) (
               -- the first was lost in the commit
               lost_opening : (d : ℕ) → named_out k3.meta.out ≡ Some d → first_lost ds ≡ Some d
               lost_opening d named = elim (newly_named v3.disks.power k2.meta k3.meta marks3 d named) [
-                | inl was ↦ let z : None ≡ Some d = sym (ap (λ (m : Meta). named_out m.out) meta2 ∙ ap named_out up.whole) ∙ was in cc
+                | inl was ↦ absurd (no_one (sym (ap (λ (m : Meta). named_out m.out) meta2 ∙ ap named_out up.whole) ∙ was))
                 | inr gone ↦ elim (absent_failed v1.disks ds d (subst (λ (s : Disks). is_present (s.power d) ≡ false) (watched_disks v1 ds) gone.1)) [
-                  | inl before ↦ let z : None ≡ Some d = sym (ap (λ (m : Meta). named_out m.out) meta2 ∙ ap named_out up.whole) ∙ mid2.named d gone.0 before in cc
+                  | inl before ↦ absurd (no_one (sym (ap (λ (m : Meta). named_out m.out) meta2 ∙ ap named_out up.whole) ∙ mid2.named d gone.0 before))
                   | inr failed ↦
                       let x = fails_first ds d failed in
                       let also = part_failed k2 p.history p.low ends.keeps.base v1 mid2 ds part2 k3 p.history lo3 ends2 x.0 (first_fails ds x.0 x.1) in
@@ -419,7 +420,7 @@ module _ (told : Option Trail) (k k1 k2 : Service) (setup : Setup) (p : Point) (
                 where
                   by : (o : Option ℕ) → first_lost ds ≡ o → first_lost ds ≡ None
                   by None is = is
-                  by (Some d) is = let z : None ≡ Some d = sym none ∙ part_failed k2 p.history p.low ends.keeps.base v1 mid2 ds part2 k3 p.history lo3 ends2 d (first_fails ds d is) in cc
+                  by (Some d) is = absurd (no_one (sym none ∙ part_failed k2 p.history p.low ends.keeps.base v1 mid2 ds part2 k3 p.history lo3 ends2 d (first_fails ds d is)))
 
               first_of : first_lost (ds ++ es) ≡ Some two.first
               first_of = elim tells.first [
@@ -553,7 +554,7 @@ module _ (told : Option Trail) (k k1 k2 : Service) (setup : Setup) (p : Point) (
               raised_turn : (told_then : Option Trail) → ((t : Trail) → told_then ≡ Some t → now t ≡ v4.disks) → GoesOn k.slots setup p AskUp (Shift p.state.gear to) (StandsAt told_then k4 setup) p.disks all
               raised_turn told_then tells = let there = raised_stands told_then tells in (
                 raised_point,
-                answered at.going (λ e. let z : AskUp ≡ Bad = e in cc) (record {
+                answered at.going (λ e. up_not_bad e) (record {
                   fit = λ asked. fit;
                   machine = subst (λ (o : Option ℕ). IsEventStep setup p.history p.energy p.state AskUp o (Shift p.state.gear to) s4) (sym (first_append cs (ds ++ es) none_lost)) raised_step;
                   moments = each_all;
@@ -627,7 +628,7 @@ module _ (told : Option Trail) (k k1 k2 : Service) (setup : Setup) (p : Point) (
         is = r2.is ∙ ap (λ (u : Trail). extend u r2.calls) r1.is ∙ extend-extend r1.from r1.calls r2.calls;
         holds = (
           record p { disks = run p.disks (r1.calls ++ r2.calls); halt = Some (HaltTwo two) },
-          second_loss two at.going (λ e. let z : AskUp ≡ Bad = e in cc) refl (opened_lost r1.calls part1 ends1 keeps r2.calls part2 two holds2.1),
+          second_loss two at.going (λ e. up_not_bad e) refl (opened_lost r1.calls part1 ends1 keeps r2.calls part2 two holds2.1),
           refl,
         );
       }
@@ -660,7 +661,7 @@ module _ (told : Option Trail) (k k1 k2 : Service) (setup : Setup) (p : Point) (
         is = r3.is ∙ ap (λ (u : Trail). extend u r3.calls) r2.is ∙ extend-extend r2.from r2.calls r3.calls ∙ ap (λ (u : Trail). extend u (r2.calls ++ r3.calls)) r1.is ∙ extend-extend r1.from r1.calls (r2.calls ++ r3.calls);
         holds = (
           record p { disks = run p.disks (r1.calls ++ (r2.calls ++ r3.calls)); halt = Some (HaltTwo two) },
-          second_loss two at.going (λ e. let z : AskUp ≡ Bad = e in cc) refl (raised_lost r1.calls part1 ends1 keeps r2.calls part2 k3 lo3 le3 opens ends2 r3.calls (holds3.0 m3.stands.keeps) two holds3.1),
+          second_loss two at.going (λ e. up_not_bad e) refl (raised_lost r1.calls part1 ends1 keeps r2.calls part2 k3 lo3 le3 opens ends2 r3.calls (holds3.0 m3.stands.keeps) two holds3.1),
           refl,
         );
       }

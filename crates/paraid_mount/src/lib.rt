@@ -1,6 +1,8 @@
-//! What refuses a mount: each test on what the log disks said and on the slots of the rack.
+//! The first half of a mount: reads both log disks whole, chooses the one that stands, and tests what
+//! refuses a mount, on what the log disks said and on the slots of the rack.
 //!
-//! No test makes a call that changes the rack. Each answers exactly where its cause is there.
+//! No call changes what a disk holds: all of them are reads in the logs. Each test answers exactly where
+//! its cause is there.
 #![tactic(auto)]
 
 mod alike;

@@ -3,7 +3,7 @@ use Rattle.std.proofs.Common.{◌≡◌, ◌≢◌, ℕ, ◌+◌, ◌<◌, ◌�
 use Rattle.std.proofs.Math.Seq.{take-append-add}
 use Rattle.std.proofs.lemmas.Bool.Decides.{nat_tests}
 use Rattle.std.proofs.lemmas.Bool.{false≢true, cases_eq}
-use Rattle.std.proofs.lemmas.List.{append-nil, flat_map_more, nil_from_length}
+use Rattle.std.proofs.lemmas.List.{append-nil, flat_map_more, nil_from_length, take-append-le}
 use Rattle.std.specs.List.{AllByRecursion}
 use Rattle.paraid_base.specs.declared.event.Answer.TheVariants.{Halted as HaltedAnswer, Flushed}
 use Rattle.paraid_base.specs.declared.event.Event.TheVariants.{Flush as FlushEvent}
@@ -22,7 +22,8 @@ use Rattle.paraid_nbd.specs.Export.{IsDeviceState, HasBytes, HasWritten, HaltsHe
 use Rattle.paraid_nbd.specs.Export.RequestStep.{Refused, Reads, Writes, Flushes, Empties, Halts}
 use Rattle.paraid_nbd.specs.Export.RequestSteps.{None_yet, One_more}
 use Rattle.paraid_nbd.specs.Performing.{Performs, said_with, answer_content}
-use Rattle.paraid_nbd.specs.Requests.{RequestParts, IsRequest, request_bytes, reply_head, outcome_of, command_outcome, content_length}
+use Rattle.paraid_nbd.specs.Numbers.{number_bytes}
+use Rattle.paraid_nbd.specs.Requests.{RequestParts, IsRequest, error_of, request_bytes, reply_head, outcome_of, command_outcome, content_length}
 use Rattle.paraid_nbd.specs.Requests.IsPartRequest.{InContent}
 use Rattle.paraid_nbd.specs.Service.{Serves, ServesAll, StopsRequest, TakesHead, Transmits, Service}
 use Rattle.paraid_nbd.specs.Service.Service.{Early, Late}
@@ -77,7 +78,7 @@ read_fits size r is done = fits_read size r.offset r.length r.flags r.command is
 pub write_fits : (size : ℕ) (r : Request) → r.command ≡ Write → outcome_of size r ≡ Done → (r.offset + r.length ≤ size) × (r.length ≤ 33554432)
 write_fits size r is done = fits_write size r.offset r.length r.flags r.command is done
 
-nothing_after : (c : Command) (outcome : Outcome) (found : List ℕ) → outcome ≢ Done → answer_content c outcome found ≡ []
+pub nothing_after : (c : Command) (outcome : Outcome) (found : List ℕ) → outcome ≢ Done → answer_content c outcome found ≡ []
 nothing_after Read Done found other = absurd (other refl)
 nothing_after Read Halted found other = refl
 nothing_after Read Invalid found other = refl
@@ -87,14 +88,14 @@ nothing_after Disconnect outcome found other = refl
 nothing_after Flush outcome found other = refl
 nothing_after Unknown outcome found other = refl
 
-nothing_unless_read : (c : Command) (outcome : Outcome) (found : List ℕ) → c ≢ Read → answer_content c outcome found ≡ []
+pub nothing_unless_read : (c : Command) (outcome : Outcome) (found : List ℕ) → c ≢ Read → answer_content c outcome found ≡ []
 nothing_unless_read Read outcome found other = absurd (other refl)
 nothing_unless_read Write outcome found other = refl
 nothing_unless_read Disconnect outcome found other = refl
 nothing_unless_read Flush outcome found other = refl
 nothing_unless_read Unknown outcome found other = refl
 
-said_alone : (r : Request) (outcome : Outcome) (found : List ℕ) → answer_content r.command outcome found ≡ [] → said_with r outcome found ≡ reply_head r outcome
+pub said_alone : (r : Request) (outcome : Outcome) (found : List ℕ) → answer_content r.command outcome found ≡ [] → said_with r outcome found ≡ reply_head r outcome
 said_alone r outcome found e = ap (λ (x : List ℕ). reply_head r outcome ++ x) e ∙ append-nil (reply_head r outcome)
 
 module _ {stands : History → Type 0} {now : Option Halt} {kept : Answers → Type 0} {events : Answers} where
@@ -238,6 +239,26 @@ serves_more size stands halted kept tells {was} {mid} {now} {before} {left} {aft
 pub not_done : (size : ℕ) (r : Request) → (r.command ≡ Disconnect) ⊎ (r.command ≡ Unknown) → r.command ≢ Disconnect → outcome_of size r ≡ Done → ⊥
 not_done size r (inl last) stays done = stays last
 not_done size r (inr other) stays done = unknown_invalid size r.offset r.length r.flags r.command other done
+
+-- a first part of some bytes is one of those with more after them
+pub unsent_first : {a b : Option (List ℕ)} {p : List ℕ} (q : List ℕ) {f z : ℕ} {e : NbdEnd} → IsUnsent a b p f z e → IsUnsent a b (p ++ q) f z e
+unsent_first {a} {b} {p} q {f} {z} {e} u = record {
+  sent = u.sent;
+  within = omega (arith, length-append p q, u.within);
+  grows = subst (λ (x : List ℕ). GrowsByBytes a b x) (sym (take-append-le u.sent p q u.within)) u.grows;
+  cause = u.cause;
+  is = u.is;
+}
+
+-- the parts of the head of a reply, put one after the other
+pub reply_made : (r : Request) (outcome : Outcome) (n : ℕ) (a b d x : List ℕ) → a ≡ [] → b ≡ a ++ number_bytes 4 0x67446698 → n ≡ error_of outcome → d ≡ b ++ number_bytes 4 n
+    → x ≡ d ++ number_bytes 8 r.cookie → x ≡ reply_head r outcome
+reply_made r outcome n a b d x empty first is second third =
+    let one : List ℕ = number_bytes 4 0x67446698 in
+    let two : List ℕ = number_bytes 4 (error_of outcome) in
+    let three : List ℕ = number_bytes 8 r.cookie in
+    third ∙ ap (λ (z : List ℕ). z ++ three) (second ∙ ap (λ (z : List ℕ). z ++ number_bytes 4 n) (first ∙ ap (λ (z : List ℕ). z ++ one) empty) ∙ ap (λ (z : ℕ). one ++ number_bytes 4 z) is)
+    ∙ append_assoc one two three
 
 pub unsent_then : {a b c : Option (List ℕ)} {p q : List ℕ} {f g z : ℕ} {e : NbdEnd} → GrowsByBytes a b p → f ≤ g → IsUnsent b c q g z e → IsUnsent a c (p ++ q) f z e
 unsent_then {a} {b} {c} {p} {q} {f} {g} {z} {e} grows later u = record {

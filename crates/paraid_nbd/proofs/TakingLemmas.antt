@@ -1,7 +1,8 @@
 -- How what is taken adds up over calls
-use Rattle.std.proofs.Common.{◌≡◌, ℕ, ◌+◌, ◌-◌, ◌≤◌, List, [], ◌++◌, Option, length, take, drop, arith, ◌∙◌, ap, length-append, subst}
+use Rattle.std.proofs.Common.{◌≡◌, ℕ, ◌+◌, ◌-◌, ◌≤◌, List, [], ◌++◌, Option, length, take, drop, arith, sym, ◌∙◌, ap, length-append, subst}
 use Rattle.std.proofs.Math.Seq.{take-append-add}
-use Rattle.std.proofs.lemmas.List.{length-take-le, take-append-le, length-drop}
+use Rattle.std.proofs.lemmas.List.{length-replicate, length-take-le, take-append-le, length-drop}
+use Rattle.std.specs.Prelude.{replicate}
 use borrow.Rule.Slice.PartMut.{put_mid}
 use Rattle.paraid_base.proofs.ToldLemmas.{Gives-none, Gives-then, HasRisen-sooner}
 use Rattle.paraid_nbd.specs.declared.ending.NbdEnd.{NbdEnd}
@@ -10,6 +11,13 @@ use Rattle.paraid_nbd.specs.Taking.{Takes, Lacks, IsCut}
 
 pub later_then : (a b c : ℕ) → a ≤ b → b ≤ c → a ≤ c
 later_then a b c l k = omega arith
+
+pub later_none : (a : ℕ) → a ≤ a
+later_none a = omega arith
+
+-- so many of the zeros of a buffer are as many
+pub cut_length : (n most : ℕ) → n ≤ most → length {A = ℕ} (take n (replicate most 0)) ≡ n
+cut_length n most few = length-take-le {A = ℕ} n (replicate most 0) (subst (λ (m : ℕ). n ≤ m) (sym (length-replicate {A = ℕ} most 0)) few)
 
 pub Takes-none : (o : Option (List ℕ)) (n : ℕ) → Takes o o n n []
 Takes-none o n = record { given = Gives-none o; count = omega arith }

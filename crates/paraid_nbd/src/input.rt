@@ -97,7 +97,6 @@ impl Input {
     {
         let mut bytes = [0; PIECE as usize];
         let piece = &mut bytes[..count as usize];
-        self.fill(source, piece)?;
-        Ok(())
+        self.fill(source, piece)
     }
 }

@@ -261,10 +261,7 @@ fn reply<K: Sink>(
     packet.put_u64(request.cookie);
     send(sink, &packet)?;
     match (request.command, outcome) {
-        (Command::Read, Outcome::Done) => {
-            send_bytes(sink, content)?;
-            Ok(())
-        }
+        (Command::Read, Outcome::Done) => send_bytes(sink, content),
         _ => Ok(()),
     }
 }

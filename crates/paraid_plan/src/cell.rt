@@ -109,8 +109,7 @@ pub(crate) fn read_if<P: Plan>(
     if !needed {
         return Ok(());
     }
-    plan.value(m, r, d, into)?;
-    Ok(())
+    plan.value(m, r, d, into)
 }
 
 // Reads the parity of the stripe of a cell's copy, and changes it with the cell.
@@ -184,8 +183,7 @@ fn read_place<P: Plan>(
     if hard {
         return Ok(());
     }
-    read_parity(plan, m, r, d, old, new, into)?;
-    Ok(())
+    read_parity(plan, m, r, d, old, new, into)
 }
 
 // The same in the region that is being filled, where the stripe is filled already.

@@ -146,8 +146,7 @@ fn read_data<P: Plan>(
     if d == p {
         return Ok(());
     }
-    read_cell(plan, m, pairs, needed, anew, r, d, old, sum)?;
-    Ok(())
+    read_cell(plan, m, pairs, needed, anew, r, d, old, sum)
 }
 
 // Reads the old values of the data cells of a row, and then that of its parity, as far as they are
@@ -220,6 +219,5 @@ pub(crate) fn read_row<P: Plan>(
 {
     let needed = needs_new(plan, m, r, p);
     let anew = is_made_anew(plan, m, pairs, r);
-    read_cells(plan, m, pairs, needed, anew, r, old, fixed)?;
-    Ok(())
+    read_cells(plan, m, pairs, needed, anew, r, old, fixed)
 }

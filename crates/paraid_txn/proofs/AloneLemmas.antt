@@ -17,6 +17,12 @@ not_there Absent is = refl
 not_there Parked is = absurd (false≢true (sym is))
 not_there Spinning is = absurd (false≢true (sym is))
 
+same_some : {d e : ℕ} → Some d ≡ Some e → d ≡ e
+same_some e = cc
+
+some_not_none : {d : ℕ} → Some d ≡ None → ⊥
+some_not_none e = cc
+
 module _ (power : ℕ → Power) (n : ℕ) (before after : Option ℕ) where
   -- the disk that is down as a commit begins is out
   pub first_is_out : (e : ℕ) → or_else (first_absent power n) (or_else before after) ≡ Some e → IsOutOfCommit power n before after e
@@ -24,7 +30,7 @@ module _ (power : ℕ → Power) (n : ℕ) (before after : Option ℕ) where
     where
       split : (f b : Option ℕ) → first_absent power n ≡ f → before ≡ b → or_else f (or_else b after) ≡ Some e → IsOutOfCommit power n before after e
       split (Some d) b is was found =
-          let same : d ≡ e = cc in
+          let same = same_some found in
           let gone = first_absent_is power n d is in
           subst (λ (k : ℕ). IsOutOfCommit power n before after k) same (is_absent gone.0 (not_there (power d) gone.1))
       split None (Some d) is was found = was_named (was ∙ found)
@@ -54,19 +60,18 @@ module _ (power : ℕ → Power) (n : ℕ) (before after : Option ℕ) where
   out_found : (e : ℕ) → IsOutOfCommit power n before after e → or_else (first_absent power n) (or_else before after) ≢ None
   out_found e (is_absent low gone) none =
       let f = first_absent_finds power n e low (ap is_present gone) in
-      let z : Some f.0 ≡ None = ap (λ (o : Option ℕ). or_else o (or_else before after)) (sym f.1) ∙ none in
-      cc
+      some_not_none (ap (λ (o : Option ℕ). or_else o (or_else before after)) (sym f.1) ∙ none)
   out_found e (was_named is) none = split (first_absent power n) (ap (λ (b : Option ℕ). or_else (first_absent power n) (or_else b after)) (sym is) ∙ none)
     where
       split : (f : Option ℕ) → or_else f (Some e) ≡ None → ⊥
-      split (Some x) z = cc
-      split None z = cc
+      split (Some x) z = some_not_none z
+      split None z = some_not_none z
   out_found e (is_named is) none = split (first_absent power n) before (ap (λ (a : Option ℕ). or_else (first_absent power n) (or_else before a)) (sym is) ∙ none)
     where
       split : (f b : Option ℕ) → or_else f (or_else b (Some e)) ≡ None → ⊥
-      split (Some x) b z = cc
-      split None (Some x) z = cc
-      split None None z = cc
+      split (Some x) b z = some_not_none z
+      split None (Some x) z = some_not_none z
+      split None None z = some_not_none z
 
   -- so it is the one that is out, if one is
   pub first_only : (only : Option ℕ) → IsOnlyOut (IsOutOfCommit power n before after) only → or_else (first_absent power n) (or_else before after) ≡ only
@@ -85,7 +90,7 @@ lost_down None now None agrees down remains = split now refl
   where
     split : (o : Option ℕ) → now ≡ o → now ≡ None
     split None is = is
-    split (Some x) is = absurd (elim (down x is) [ inl was ↦ (let z : None ≡ Some x = was in cc) | inr lost ↦ (let z : None ≡ Some x = lost in cc) ])
+    split (Some x) is = absurd (elim (down x is) [ inl was ↦ some_not_none (sym was) | inr lost ↦ some_not_none (sym lost) ])
 lost_down (Some x) now None agrees down remains = remains x refl
 
 -- why two disks are down, by all that were out

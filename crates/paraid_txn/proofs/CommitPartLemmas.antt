@@ -1,6 +1,6 @@
 -- What one call leaves, and one part of a commit after another.
-use Rattle.std.proofs.Common.{◌≡◌, ℕ, ◌<◌, ◌≤◌, Bool, true, false, List, [], ◌∷◌, ◌++◌, Option, Some, Result, Ok, Err, refl, sym, ◌∙◌, ap, subst, inl, inr, arith}
-use Rattle.std.specs.Prelude.{◌≢◌, ◌⊎◌, All, IsErrAnd}
+use Rattle.std.proofs.Common.{◌≡◌, ℕ, ◌<◌, ◌≤◌, Bool, true, false, List, [], ◌∷◌, ◌++◌, Option, Some, None, Result, Ok, Err, refl, sym, ◌∙◌, ap, subst, inl, inr, arith}
+use Rattle.std.specs.Prelude.{◌≢◌, ◌⊎◌, All, IfOk, IsErrAnd, OnOk}
 use Rattle.std.proofs.lemmas.Bool.{cases_Bool, cases_eq, true≢false}
 use Rattle.paraid_base.specs.declared.block.Block.{Block}
 use Rattle.paraid_base.specs.declared.fault.Two.{Two}
@@ -26,7 +26,8 @@ use Rattle.paraid_image.specs.Sides.{Batch, targets}
 use Rattle.paraid_txn.specs.declared.losses.Losses.{Losses}
 use Rattle.paraid_txn.specs.Commit.{gone_out}
 use Rattle.paraid_txn.specs.CommitPart.{CommitPart}
-use Rattle.paraid_txn.specs.Losses.{AreGoneSince, IsGoneSince, StaySynced, AreFailedOrWell, FollowsAnswer, AreTwoDown, IsWell, AreCommitCalls}
+use Rattle.paraid_txn.specs.Losses.{AreGoneSince, IsGoneSince, MayDo, StaySynced, StaySyncedBut, AreFailedOrWell, FollowsAnswer, AreTwoDown, IsWell, AreCommitCalls}
+use Rattle.paraid_txn.specs.Losses.MayDo.{absent, skipped}
 use Rattle.paraid_txn.specs.Ready.{IsLogReady}
 use Rattle.paraid_txn.specs.Batches.{names_disk}
 use Rattle.paraid_txn.specs.Uses.{EachCall, IsUnskippedLog, IsOn, IsThisCall, Uses, UsesLog, UsesTarget}
@@ -325,6 +326,42 @@ module _ {R A : Type 0} {g : Ghosts R} {a b : Losses} {r s : R} {result : Result
   -- what can be logged before a part can be logged after it
   pub CommitPart_log : {uses : Call → Type 0} {skip : Option ℕ} → CommitPart g uses a b r s result → IsLogReady skip (g.slot r) → IsLogReady skip (g.slot s)
   CommitPart_log part ready = log_stays_ready part.lasts ready
+
+-- where a `?` hands on the error nothing is owed at Ok
+pub raised_ok : {U E : Type 0} (Q : E → Type 0) (P : Type 0) (result : Result U E) → IsErrAnd result Q → OnOk result P
+raised_ok Q P (Ok it) is = absurd is
+raised_ok Q P (Err e) is = tt
+
+-- nor of what it would answer there
+pub raised_if_ok : {U E : Type 0} (Q : E → Type 0) (P : U → Type 0) (result : Result U E) → IsErrAnd result Q → IfOk result P
+raised_if_ok Q P (Ok it) is = absurd is
+raised_if_ok Q P (Err e) is = tt
+
+-- and it does not answer Ok
+pub raised_not_ok : {U E : Type 0} (Q : E → Type 0) {it : U} {P : Type 0} (result : Result U E) → IsErrAnd result Q → result ≡ Ok it → P
+raised_not_ok Q (Ok it) is e = absurd is
+raised_not_ok Q (Err other) is e = cc
+
+-- a disk that gets no call is skipped or absent
+pub passed_does : {told : Option Trail} {slot : ℕ → Slot} (skip : Option ℕ) (disk : ℕ) (call : Bool → Call) → (skip ≢ Some disk → (slot disk).power ≡ Absent) → MayDo told told slot skip disk call
+passed_does None disk call gone = absent (gone (λ e. cc)) refl
+passed_does (Some x) disk call gone = elim (cases_eq x disk) [
+  | inl here ↦ skipped (ap Some here) refl
+  | inr not ↦ absent (gone (λ e. not (cc))) refl
+]
+
+-- what one call leaves unsynced
+pub one_stays_synced : (may : ℕ → Type 0) {old new : ℕ → Slot} {disk : ℕ} {leaves : Slot} {dirt : Bool} (ok : Bool) → ChangesOneSlot old new disk leaves dirt ok
+    → (leaves.unsynced ≡ true → ((old disk).unsynced ≡ true) ⊎ may disk) → StaySyncedBut may old new
+one_stays_synced may {old} {new} {disk} ok changes left d there unsynced = elim (cases_eq d disk) [
+  | inl here ↦
+      let there_then = subst (λ (k : ℕ). is_present (new k).power ≡ true) here there in
+      subst (λ (k : ℕ). ((old k).unsynced ≡ true) ⊎ may k) (sym here) (elim (cases_Bool ok) [
+        | inl done ↦ left (sym (ap (λ (s : Slot). s.unsynced) (changes.done done)) ∙ subst (λ (k : ℕ). (new k).unsynced ≡ true) here unsynced)
+        | inr failed ↦ absurd (true≢false (sym there_then ∙ ap is_present (changes.absent failed)))
+      ])
+  | inr not ↦ inl (sym (ap (λ (s : Slot). s.unsynced) (changes.others d not)) ∙ unsynced)
+]
 
 -- a part whose answer is known
 pub CommitPart_by : {R A : Type 0} {g : Ghosts R} {uses : Call → Type 0} {a b : Losses} {r s : R} {result other : Result A Two} → result ≡ other

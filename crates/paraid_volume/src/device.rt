@@ -123,8 +123,7 @@ fn clear_extent<B: Blocks>(
         return Ok(());
     }
     let start = 6 + extent * size;
-    clear_blocks(device, start, start + size)?;
-    Ok(())
+    clear_blocks(device, start, start + size)
 }
 
 /// Writes zeros to the extents of an owner.
@@ -178,6 +177,5 @@ pub(crate) fn make<B: Blocks>(
         (in_table next.now)) }
 {
     clear_extents(device, next, id, size, extents)?;
-    write_table(device, &old.changes(next))?;
-    Ok(())
+    write_table(device, &old.changes(next))
 }

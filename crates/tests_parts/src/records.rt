@@ -72,74 +72,88 @@ fn is_written_again(block: &Block) -> Option<bool> {
     Some(again.as_slice() == block.as_slice())
 }
 
-// Changes of the block of a new array's meta, and whether it is one still.
-const CHANGED: [(&[(usize, u8)], bool); 55] = [
-    (&[(0, 0x51)], false),
-    (&[(9, 0)], false),
-    (&[(9, 1)], false),
-    (&[(9, 1), (113, 0)], false),
-    (&[(9, 1), (117, 0)], false),
-    (&[(9, 3)], false),
-    (&[(10, 9)], false),
-    (&[(11, 1)], false),
-    (&[(12, 2)], false),
-    (&[(14, 5)], false),
-    (&[(27, 0)], false),
-    (&[(27, 2)], true),
-    (&[(33, 101)], false),
-    (&[(34, 2)], false),
-    (&[(34, 1)], true),
-    (&[(35, 2)], false),
-    (&[(41, 1)], false),
-    (&[(51, 0)], false),
-    (&[(59, 7)], true),
-    (&[(68, 4)], true),
-    (&[(68, 3)], false),
-    (&[(69, 1)], false),
-    (&[(70, 4)], false),
-    (&[(71, 5)], false),
-    (&[(71, 4)], true),
-    (&[(72, 1)], false),
-    (&[(79, 1)], false),
-    (&[(83, 1)], false),
-    (&[(85, 100)], true),
-    (&[(85, 101)], false),
-    (&[(95, 1)], false),
-    (&[(112, 1)], false),
-    (&[(113, 0)], false),
-    (&[(113, 101)], false),
-    (&[(114, 255)], true),
-    (&[(117, 0)], false),
-    (&[(118, 1)], false),
-    (&[(511, 1)], false),
-    // With a burst of one, each tick allows one spin-up more.
-    (&[(113, 1), (85, 1)], true),
-    (&[(113, 1), (85, 2)], false),
-    (&[(113, 1), (67, 1), (85, 2)], true),
-    (&[(113, 1), (117, 2), (67, 1), (85, 2)], false),
-    (&[(113, 1), (117, 4), (85, 2), (67, 3)], false),
-    (&[(113, 1), (117, 4), (85, 2), (67, 4)], true),
-    (&[(113, 1), (68, 4)], true),
-    (&[(113, 1), (68, 4), (93, 1)], false),
-    (&[(113, 1), (117, 4), (68, 4), (93, 1), (67, 4)], true),
-    // A parked disk has spins left.
-    (&[(68, 4), (93, 99)], true),
-    (&[(68, 4), (93, 100)], false),
-    // A shift down fills two stripes, with no disk out.
-    (&[(69, 1), (70, 4), (79, 2)], true),
-    (&[(69, 1), (70, 4), (79, 3)], false),
-    (&[(69, 1), (70, 4), (79, 0), (71, 2)], false),
-    // A rebuild of disk 1 has five rows and a block of the map.
-    (&[(71, 1), (72, 1), (83, 6)], true),
-    (&[(71, 1), (72, 1), (83, 7)], false),
-    (&[(71, 1), (83, 6)], false),
+// Bytes of the block of a new array's meta, each changed alone, and whether it is a meta still.
+const CHANGED: [(usize, u8, bool); 36] = [
+    (0, 0x51, false),
+    (9, 0, false),
+    (9, 1, false),
+    (9, 3, false),
+    (10, 9, false),
+    (11, 1, false),
+    (12, 2, false),
+    (14, 5, false),
+    (27, 0, false),
+    (27, 2, true),
+    (33, 101, false),
+    (34, 2, false),
+    (34, 1, true),
+    (35, 2, false),
+    (41, 1, false),
+    (51, 0, false),
+    (59, 7, true),
+    (68, 4, true),
+    (68, 3, false),
+    (69, 1, false),
+    (70, 4, false),
+    (71, 5, false),
+    (71, 4, true),
+    (72, 1, false),
+    (79, 1, false),
+    (83, 1, false),
+    (85, 100, true),
+    (85, 101, false),
+    (95, 1, false),
+    (112, 1, false),
+    (113, 0, false),
+    (113, 101, false),
+    (114, 255, true),
+    (117, 0, false),
+    (118, 1, false),
+    (511, 1, false),
 ];
+
+// No byte of a block.
+const NO: (usize, u8) = (512, 0);
+
+// The same of several bytes that are changed together.
+const CHANGED_TOGETHER: [([(usize, u8); 5], bool); 19] = [
+    ([(9, 1), (113, 0), NO, NO, NO], false),
+    ([(9, 1), (117, 0), NO, NO, NO], false),
+    // With a burst of one, each tick allows one spin-up more.
+    ([(113, 1), (85, 1), NO, NO, NO], true),
+    ([(113, 1), (85, 2), NO, NO, NO], false),
+    ([(113, 1), (67, 1), (85, 2), NO, NO], true),
+    ([(113, 1), (117, 2), (67, 1), (85, 2), NO], false),
+    ([(113, 1), (117, 4), (85, 2), (67, 3), NO], false),
+    ([(113, 1), (117, 4), (85, 2), (67, 4), NO], true),
+    ([(113, 1), (68, 4), NO, NO, NO], true),
+    ([(113, 1), (68, 4), (93, 1), NO, NO], false),
+    ([(113, 1), (117, 4), (68, 4), (93, 1), (67, 4)], true),
+    // A parked disk has spins left.
+    ([(68, 4), (93, 99), NO, NO, NO], true),
+    ([(68, 4), (93, 100), NO, NO, NO], false),
+    // A shift down fills two stripes, with no disk out.
+    ([(69, 1), (70, 4), (79, 2), NO, NO], true),
+    ([(69, 1), (70, 4), (79, 3), NO, NO], false),
+    ([(69, 1), (70, 4), (79, 0), (71, 2), NO], false),
+    // A rebuild of disk 1 has five rows and a block of the map.
+    ([(71, 1), (72, 1), (83, 6), NO, NO], true),
+    ([(71, 1), (72, 1), (83, 7), NO, NO], false),
+    ([(71, 1), (83, 6), NO, NO, NO], false),
+];
+
+/// Whether the block with these bytes changed is a meta.
+fn is_meta_with(changes: &[(usize, u8)]) -> bool {
+    read_meta(&fresh_with(changes)).is_some()
+}
 
 #[test]
 fn a_meta_is_read_from_its_one_spelling(rt: HostRuntime) {
-    for (row, &(changes, accepted)) in CHANGED.iter().enumerate() {
-        let found = read_meta(&fresh_with(changes)).is_some();
-        assert!(rt; found == accepted, "row {row}");
+    for &(at, byte, accepted) in &CHANGED {
+        assert!(rt; is_meta_with(&[(at, byte)]) == accepted, "{byte} at {at}");
+    }
+    for (row, (changes, accepted)) in CHANGED_TOGETHER.iter().enumerate() {
+        assert!(rt; is_meta_with(changes) == *accepted, "row {row}");
     }
 }
 

@@ -8,13 +8,13 @@ use std::alloc::Global;
 // A call on volumes.
 #[derive(Clone, Copy)]
 enum Deed {
-    // A volume of this name and so many extents.
-    Create(&'static str, u32),
+    // A volume whose name is this letter, and so many extents.
+    Create(u8, u32),
     // A block of this byte, repeated.
     Write(u8, u32, u8),
     Read(u8, u32),
     Delete(u8),
-    Find(&'static str),
+    Find(u8),
     Size(u8),
     Free,
     Flush,
@@ -22,8 +22,8 @@ enum Deed {
 
 use Deed::{Create, Delete, Find, Flush, Free, Read, Size, Write};
 
-fn created(volumes: &mut Volumes<Kept>, text: &str, extents: u32) -> Result<u32, VolFault> {
-    match Name::new(text.as_bytes()) {
+fn created(volumes: &mut Volumes<Kept>, letter: u8, extents: u32) -> Result<u32, VolFault> {
+    match Name::new(&[letter]) {
         Some(name) => Ok(u32::from(volumes.create(&name, extents)?)),
         None => Ok(999),
     }
@@ -42,8 +42,8 @@ fn byte_of(volumes: &mut Volumes<Kept>, id: u8, block: u32) -> Result<u32, VolFa
 }
 
 // The id of this name, and 0 where there is none.
-fn id_of(volumes: &Volumes<Kept>, text: &str) -> u32 {
-    match Name::new(text.as_bytes()) {
+fn id_of(volumes: &Volumes<Kept>, letter: u8) -> u32 {
+    match Name::new(&[letter]) {
         Some(name) => u32::from(volumes.find(&name).unwrap_or(0)),
         None => 999,
     }
@@ -52,7 +52,7 @@ fn id_of(volumes: &Volumes<Kept>, text: &str) -> u32 {
 // What the call answers as a number, 0 where it answers none.
 fn done(volumes: &mut Volumes<Kept>, deed: Deed) -> Result<u32, VolFault> {
     match deed {
-        Create(text, extents) => created(volumes, text, extents),
+        Create(letter, extents) => created(volumes, letter, extents),
         Write(id, block, byte) => {
             volumes.write(id, block, &Block::from_array([byte; 512]))?;
             Ok(0)
@@ -62,7 +62,7 @@ fn done(volumes: &mut Volumes<Kept>, deed: Deed) -> Result<u32, VolFault> {
             volumes.delete(id)?;
             Ok(0)
         }
-        Find(text) => Ok(id_of(volumes, text)),
+        Find(letter) => Ok(id_of(volumes, letter)),
         Size(id) => Ok(volumes.size(id)),
         Free => Ok(volumes.free()),
         Flush => Ok(volumes.flush()?.min(999) as u32),
@@ -72,26 +72,26 @@ fn done(volumes: &mut Volumes<Kept>, deed: Deed) -> Result<u32, VolFault> {
 // Calls on a new table of twenty blocks, and what each answers.
 const CALLS: [(Deed, Result<u32, VolFault>); 22] = [
     (Free, Ok(14)),
-    (Create("a", 3), Ok(1)),
+    (Create(b'a', 3), Ok(1)),
     (Write(1, 0, 17), Ok(0)),
-    (Create("b", 11), Ok(2)),
-    (Create("c", 1), Err(VolFault::Space { free: 0 })),
+    (Create(b'b', 11), Ok(2)),
+    (Create(b'c', 1), Err(VolFault::Space { free: 0 })),
     (Read(1, 0), Ok(17)),
     (Read(2, 0), Ok(0)),
     (Delete(1), Ok(0)),
-    (Create("c", 3), Ok(1)),
+    (Create(b'c', 3), Ok(1)),
     // the bytes of the volume that was removed are gone
     (Read(1, 0), Ok(0)),
-    (Find("a"), Ok(0)),
-    (Find("b"), Ok(2)),
-    (Find("c"), Ok(1)),
+    (Find(b'a'), Ok(0)),
+    (Find(b'b'), Ok(2)),
+    (Find(b'c'), Ok(1)),
     (Size(1), Ok(3)),
     (Size(2), Ok(11)),
     (Size(3), Ok(0)),
-    (Create("c", 1), Err(VolFault::Exists { id: 1 })),
+    (Create(b'c', 1), Err(VolFault::Exists { id: 1 })),
     (Read(2, 11), Err(VolFault::NoBlock { block: 11 })),
     (Read(3, 0), Err(VolFault::NoVolume { id: 3 })),
-    (Create("a", 0), Err(VolFault::NoExtents)),
+    (Create(b'a', 0), Err(VolFault::NoExtents)),
     (Free, Ok(0)),
     (Read(2, 10), Ok(0)),
 ];
@@ -100,10 +100,10 @@ const WORN: VolFault = VolFault::Halt(Halt::Worn { count: 3 });
 
 // The same on a device that is worn after three writes.
 const HALTED: [(Deed, Result<u32, VolFault>); 5] = [
-    (Create("a", 3), Err(WORN)),
-    (Find("a"), Ok(0)),
+    (Create(b'a', 3), Err(WORN)),
+    (Find(b'a'), Ok(0)),
     (Free, Ok(14)),
-    (Create("a", 0), Err(WORN)),
+    (Create(b'a', 0), Err(WORN)),
     (Flush, Err(WORN)),
 ];
 
@@ -155,7 +155,7 @@ fn a_device_is_refused_by_its_table_or_its_size(rt: HostRuntime) {
 // 17 zeros and 18 the table for `b`.
 fn written(alloc: Global) -> Option<Kept> {
     let mut volumes = made(alloc, 1000)?;
-    for deed in [Create("a", 3), Write(1, 0, 17), Create("b", 11)] {
+    for deed in [Create(b'a', 3), Write(1, 0, 17), Create(b'b', 11)] {
         done(&mut volumes, deed).ok()?;
     }
     Some(volumes.finish())
@@ -166,7 +166,7 @@ fn written(alloc: Global) -> Option<Kept> {
 fn left(mut device: Kept, seen: usize) -> Option<(Kept, [u32; 4])> {
     device.seen = seen;
     let mut volumes = Volumes::adopt(device).ok()?;
-    let ids = (id_of(&volumes, "a"), id_of(&volumes, "b"));
+    let ids = (id_of(&volumes, b'a'), id_of(&volumes, b'b'));
     let free = volumes.free();
     let byte = done(&mut volumes, Read(1, 0)).unwrap_or(0);
     Some((volumes.finish(), [ids.0, ids.1, free, byte]))

@@ -74,6 +74,10 @@ pub enum Change {
 
 use Change::{Byte, Fewer, Fill, Log, MetaByte, Nothing, Powered, Short};
 
+/// Fills a row of a table up. A row that held a slice would be steps of its own in the proof of what
+/// walks the table.
+pub const NO: Change = Nothing;
+
 /// A block of these bytes and then zeros.
 pub fn block_with(bytes: &[u8]) -> Block {
     let mut block = Block::zero();
@@ -172,12 +176,12 @@ pub fn array(alloc: Global, base: &[Change], changes: &[Change]) -> Option<Image
 }
 
 /// Changes of an array, a number of writes, and whether the array with them holds so many.
-type Row = (&'static [Change], u64, bool);
+type Row = ([Change; 3], u64, bool);
 
 // Whether the array with the changes of a row, after those of the base, holds so many writes of
 // the history as the row says.
 fn is_met(alloc: Global, base: &[Change], history: &[Pairs], row: &Row) -> bool {
-    match array(alloc, base, row.0) {
+    match array(alloc, base, &row.0) {
         Some(image) => is_sound(&image, history, row.1) == row.2,
         None => false,
     }
@@ -239,43 +243,43 @@ fn one_write() -> [Pairs; 1] {
 
 /// Changes of the formatted array.
 const FORMATTED: [Row; 27] = [
-    (&[], 0, true),
-    (&[], 1, false),
+    ([NO; 3], 0, true),
+    ([NO; 3], 1, false),
     // A data byte and a parity byte; both together are another value.
-    (&[Byte(0, 101, 9, 1)], 0, false),
-    (&[Byte(4, 101, 9, 1)], 0, false),
-    (&[Byte(0, 101, 9, 1), Byte(4, 101, 9, 1)], 0, false),
+    ([Byte(0, 101, 9, 1), NO, NO], 0, false),
+    ([Byte(4, 101, 9, 1), NO, NO], 0, false),
+    ([Byte(0, 101, 9, 1), Byte(4, 101, 9, 1), NO], 0, false),
     // In the highest gear no stripe is looked at.
-    (&[Byte(2, 106, 0, 1)], 0, true),
+    ([Byte(2, 106, 0, 1), NO, NO], 0, true),
     // A gate opened over zeros, and a meta in its place.
-    (&[Byte(0, 0, 0, 1)], 0, false),
-    (&[Byte(1, 0, 0, 1)], 0, false),
-    (&[Byte(1, 0, 511, 1)], 0, true),
+    ([Byte(0, 0, 0, 1), NO, NO], 0, false),
+    ([Byte(1, 0, 0, 1), NO, NO], 0, false),
+    ([Byte(1, 0, 511, 1), NO, NO], 0, true),
     // The metas differ, are unreadable, or say another number of writes.
-    (&[Byte(1, 1, TICKS, 1)], 0, false),
-    (&[Byte(0, 1, 0, 0)], 0, false),
-    (&[MetaByte(0, 0)], 0, false),
-    (&[MetaByte(WRITES, 1)], 0, false),
-    (&[MetaByte(WRITES, 1)], 1, true),
+    ([Byte(1, 1, TICKS, 1), NO, NO], 0, false),
+    ([Byte(0, 1, 0, 0), NO, NO], 0, false),
+    ([MetaByte(0, 0), NO, NO], 0, false),
+    ([MetaByte(WRITES, 1), NO, NO], 0, false),
+    ([MetaByte(WRITES, 1), NO, NO], 1, true),
     // One disk can be lost.
-    (&[Powered(0, Power::Absent)], 0, true),
-    (&[Powered(2, Power::Absent)], 0, true),
+    ([Powered(0, Power::Absent), NO, NO], 0, true),
+    ([Powered(2, Power::Absent), NO, NO], 0, true),
     (
-        &[Powered(2, Power::Absent), Powered(0, Power::Absent)],
+        [Powered(2, Power::Absent), Powered(0, Power::Absent), NO],
         0,
         false,
     ),
-    (&[Powered(2, Power::Absent), MetaByte(OUT, 2)], 0, true),
-    (&[Powered(2, Power::Absent), MetaByte(OUT, 3)], 0, false),
-    (&[Powered(2, Power::Parked)], 0, false),
-    (&[Powered(1, Power::Parked)], 0, false),
-    (&[Powered(1, Power::Parked), MetaByte(OUT, 1)], 0, false),
-    (&[Short(3)], 0, false),
-    (&[Short(3), MetaByte(OUT, 3)], 0, true),
-    (&[Fewer], 0, false),
+    ([Powered(2, Power::Absent), MetaByte(OUT, 2), NO], 0, true),
+    ([Powered(2, Power::Absent), MetaByte(OUT, 3), NO], 0, false),
+    ([Powered(2, Power::Parked), NO, NO], 0, false),
+    ([Powered(1, Power::Parked), NO, NO], 0, false),
+    ([Powered(1, Power::Parked), MetaByte(OUT, 1), NO], 0, false),
+    ([Short(3), NO, NO], 0, false),
+    ([Short(3), MetaByte(OUT, 3), NO], 0, true),
+    ([Fewer, NO, NO], 0, false),
     // The standing disk is named out.
-    (&[MetaByte(OUT, 0)], 0, false),
-    (&[MetaByte(OUT, 1)], 0, true),
+    ([MetaByte(OUT, 0), NO, NO], 0, false),
+    ([MetaByte(OUT, 1), NO, NO], 0, true),
 ];
 
 #[test]
@@ -285,41 +289,41 @@ fn a_formatted_array_holds_no_write(rt: HostRuntime) {
 
 /// Changes of the array with its write, the writes that are asked for, and whether they are held.
 const AFTER_WRITE: [Row; 28] = [
-    (&[], 1, true),
+    ([NO; 3], 1, true),
     // A data byte, the hard parity, the copy, its parity, and a pad.
-    (&[Byte(0, 102, 0, 1)], 1, false),
-    (&[Byte(3, 102, 0, 0)], 1, false),
-    (&[Byte(1, 106, 0, 0)], 1, false),
-    (&[Byte(3, 106, 0, 0)], 1, false),
-    (&[Byte(3, 107, 0, 1)], 1, false),
+    ([Byte(0, 102, 0, 1), NO, NO], 1, false),
+    ([Byte(3, 102, 0, 0), NO, NO], 1, false),
+    ([Byte(1, 106, 0, 0), NO, NO], 1, false),
+    ([Byte(3, 106, 0, 0), NO, NO], 1, false),
+    ([Byte(3, 107, 0, 1), NO, NO], 1, false),
     // The row's data and parity together are another value of block 4.
-    (&[Byte(0, 102, 0, 1), Byte(3, 102, 0, 0x76)], 1, false),
+    ([Byte(0, 102, 0, 1), Byte(3, 102, 0, 0x76), NO], 1, false),
     // A map bit on one mirror, and on both: then the stale hard place would count.
-    (&[Byte(1, 100, 1, 0)], 1, false),
-    (&[Byte(0, 100, 1, 0), Byte(1, 100, 1, 0)], 1, false),
+    ([Byte(1, 100, 1, 0), NO, NO], 1, false),
+    ([Byte(0, 100, 1, 0), Byte(1, 100, 1, 0), NO], 1, false),
     // Bits of a disk below the gear, past the last disk and past the last row.
-    (&[Byte(0, 100, 1, 17), Byte(1, 100, 1, 17)], 1, false),
-    (&[Byte(0, 100, 1, 48), Byte(1, 100, 1, 48)], 1, false),
-    (&[Byte(0, 100, 5, 16), Byte(1, 100, 5, 16)], 1, false),
+    ([Byte(0, 100, 1, 17), Byte(1, 100, 1, 17), NO], 1, false),
+    ([Byte(0, 100, 1, 48), Byte(1, 100, 1, 48), NO], 1, false),
+    ([Byte(0, 100, 5, 16), Byte(1, 100, 5, 16), NO], 1, false),
     // A further dirty cell, whose hard place no longer counts.
-    (&[Byte(0, 100, 0, 16), Byte(1, 100, 0, 16)], 1, true),
-    (&[Byte(4, 101, 0, 1)], 1, false),
-    (&[Byte(4, 102, 0, 1)], 1, true),
+    ([Byte(0, 100, 0, 16), Byte(1, 100, 0, 16), NO], 1, true),
+    ([Byte(4, 101, 0, 1), NO, NO], 1, false),
+    ([Byte(4, 102, 0, 1), NO, NO], 1, true),
     // Gates open over the batch that was laid in place.
-    (&[Byte(0, 0, 0, 1)], 1, true),
-    (&[Byte(0, 0, 0, 1), Byte(1, 0, 0, 1)], 1, true),
-    (&[Byte(0, 0, 0, 1), Byte(1, 1, TICKS, 3)], 1, false),
+    ([Byte(0, 0, 0, 1), NO, NO], 1, true),
+    ([Byte(0, 0, 0, 1), Byte(1, 0, 0, 1), NO], 1, true),
+    ([Byte(0, 0, 0, 1), Byte(1, 1, TICKS, 3), NO], 1, false),
     // Lost disks: of the copy, of the parity, of a log disk, of the parked disk.
-    (&[Powered(1, Power::Absent)], 1, true),
-    (&[Powered(3, Power::Absent)], 1, true),
-    (&[Powered(0, Power::Absent)], 1, true),
-    (&[Powered(2, Power::Absent)], 1, true),
-    (&[Powered(4, Power::Absent)], 1, true),
-    (&[MetaByte(OUT, 2)], 1, true),
-    (&[MetaByte(OUT, 2), Powered(4, Power::Absent)], 1, false),
-    (&[Powered(4, Power::Spinning)], 1, true),
-    (&[Powered(3, Power::Parked)], 1, false),
-    (&[Short(4)], 1, false),
+    ([Powered(1, Power::Absent), NO, NO], 1, true),
+    ([Powered(3, Power::Absent), NO, NO], 1, true),
+    ([Powered(0, Power::Absent), NO, NO], 1, true),
+    ([Powered(2, Power::Absent), NO, NO], 1, true),
+    ([Powered(4, Power::Absent), NO, NO], 1, true),
+    ([MetaByte(OUT, 2), NO, NO], 1, true),
+    ([MetaByte(OUT, 2), Powered(4, Power::Absent), NO], 1, false),
+    ([Powered(4, Power::Spinning), NO, NO], 1, true),
+    ([Powered(3, Power::Parked), NO, NO], 1, false),
+    ([Short(4), NO, NO], 1, false),
 ];
 
 /// Another history, which ends with the same bytes.
@@ -330,9 +334,9 @@ fn two_writes() -> [Pairs; 2] {
     ]
 }
 
-const BY_ANOTHER_HISTORY: [Row; 2] = [(&[], 1, false), (&[], 2, false)];
+const BY_ANOTHER_HISTORY: [Row; 2] = [([NO; 3], 1, false), ([NO; 3], 2, false)];
 
-const WITH_NO_WRITE: [Row; 1] = [(&[], 0, true)];
+const WITH_NO_WRITE: [Row; 1] = [([NO; 3], 0, true)];
 
 #[test]
 fn a_write_in_a_low_gear_is_held_by_its_copy(rt: HostRuntime) {
@@ -343,22 +347,22 @@ fn a_write_in_a_low_gear_is_held_by_its_copy(rt: HostRuntime) {
 
 /// Changes in the commit of the write, when the gate of disk 0 is open.
 const AT_THE_COMMIT: [Row; 12] = [
-    (&[], 1, true),
+    ([NO; 3], 1, true),
     // Not yet open, and open on both log disks.
-    (&[Byte(0, 0, 0, 0)], 0, true),
-    (&[Byte(0, 0, 0, 0)], 1, false),
-    (&[Byte(1, 0, 0, 9)], 1, true),
+    ([Byte(0, 0, 0, 0), NO, NO], 0, true),
+    ([Byte(0, 0, 0, 0), NO, NO], 1, false),
+    ([Byte(1, 0, 0, 9), NO, NO], 1, true),
     // The batches differ in a block, in a target and in the meta.
-    (&[Byte(1, 0, 0, 1), Byte(1, 5, 511, 0)], 1, false),
-    (&[Byte(1, 0, 0, 1), Byte(1, 3, 6, 107)], 1, false),
-    (&[Byte(1, 0, 0, 1), Byte(1, 2, TICKS, 3)], 1, false),
+    ([Byte(1, 0, 0, 1), Byte(1, 5, 511, 0), NO], 1, false),
+    ([Byte(1, 0, 0, 1), Byte(1, 3, 6, 107), NO], 1, false),
+    ([Byte(1, 0, 0, 1), Byte(1, 2, TICKS, 3), NO], 1, false),
     // The batch that stands has another block, or its list is none.
-    (&[Byte(0, 4, 0, 0)], 1, false),
-    (&[Byte(0, 3, 1, 4)], 1, false),
+    ([Byte(0, 4, 0, 0), NO, NO], 1, false),
+    ([Byte(0, 3, 1, 4), NO, NO], 1, false),
     // The other log disk is two commits behind, or has another setup.
-    (&[Byte(1, 1, EPOCH, 4)], 1, false),
-    (&[Byte(1, 1, 27, 2)], 1, false),
-    (&[Byte(1, 1, TICKS, 1)], 1, true),
+    ([Byte(1, 1, EPOCH, 4), NO, NO], 1, false),
+    ([Byte(1, 1, 27, 2), NO, NO], 1, false),
+    ([Byte(1, 1, TICKS, 1), NO, NO], 1, true),
 ];
 
 /// The same with one more target, on disk 4 at a place that may hold any bytes.
@@ -376,9 +380,9 @@ const MORE: [Change; 9] = [
 
 /// Changes of it.
 const ONE_TARGET_MORE: [Row; 3] = [
-    (&[Powered(4, Power::Parked)], 1, false),
-    (&[Powered(4, Power::Spinning)], 1, true),
-    (&[Powered(4, Power::Absent)], 1, true),
+    ([Powered(4, Power::Parked), NO, NO], 1, false),
+    ([Powered(4, Power::Spinning), NO, NO], 1, true),
+    ([Powered(4, Power::Absent), NO, NO], 1, true),
 ];
 
 #[test]
@@ -389,14 +393,14 @@ fn an_open_gate_stands_for_its_batch(rt: HostRuntime) {
 
 /// Changes in a shift down.
 const IN_A_SHIFT_DOWN: [Row; 6] = [
-    (&[], 0, true),
+    ([NO; 3], 0, true),
     // A copy, the parity and a pad of a filled stripe, and a stripe above the mark.
-    (&[Byte(0, 106, 0, 1), Byte(3, 106, 0, 1)], 0, false),
-    (&[Byte(3, 106, 0, 1)], 0, false),
-    (&[Byte(3, 107, 0, 1), Byte(2, 107, 0, 1)], 0, true),
-    (&[MetaByte(FILL, 2)], 0, true),
+    ([Byte(0, 106, 0, 1), Byte(3, 106, 0, 1), NO], 0, false),
+    ([Byte(3, 106, 0, 1), NO, NO], 0, false),
+    ([Byte(3, 107, 0, 1), Byte(2, 107, 0, 1), NO], 0, true),
+    ([MetaByte(FILL, 2), NO, NO], 0, true),
     (
-        &[MetaByte(FILL, 2), Byte(3, 107, 0, 1), Byte(2, 107, 0, 1)],
+        [MetaByte(FILL, 2), Byte(3, 107, 0, 1), Byte(2, 107, 0, 1)],
         0,
         false,
     ),
@@ -404,36 +408,36 @@ const IN_A_SHIFT_DOWN: [Row; 6] = [
 
 /// Changes in a shift up.
 const IN_A_SHIFT_UP: [Row; 4] = [
-    (&[], 0, true),
+    ([NO; 3], 0, true),
     // A disk that is still parked has its spin-up recorded.
-    (&[Powered(4, Power::Parked)], 0, false),
+    ([Powered(4, Power::Parked), NO, NO], 0, false),
     (
-        &[Powered(4, Power::Parked), MetaByte(SPINS_OF_4, 1)],
+        [Powered(4, Power::Parked), MetaByte(SPINS_OF_4, 1), NO],
         0,
         true,
     ),
     // A cell that is clean lives in its hard place in a shift up.
-    (&[Byte(4, 101, 0, 1), Byte(0, 101, 0, 1)], 0, false),
+    ([Byte(4, 101, 0, 1), Byte(0, 101, 0, 1), NO], 0, false),
 ];
 
 /// Changes in a rebuild of disk 1.
 const IN_A_REBUILD: [Row; 9] = [
-    (&[], 0, true),
+    ([NO; 3], 0, true),
     // A rebuilt row, one that is not, the map, and the gate of a fresh log disk.
-    (&[Byte(1, 101, 0, 1)], 0, false),
-    (&[Byte(1, 102, 0, 1)], 0, true),
-    (&[Byte(1, 100, 400, 1)], 0, true),
-    (&[Byte(1, 100, 400, 1), MetaByte(REBUILT, 6)], 0, false),
-    (&[Byte(1, 0, 0, 1)], 0, false),
-    (&[Short(1)], 0, false),
-    (&[MetaByte(OUT, 2), Powered(2, Power::Parked)], 0, false),
-    (&[Powered(1, Power::Absent)], 0, true),
+    ([Byte(1, 101, 0, 1), NO, NO], 0, false),
+    ([Byte(1, 102, 0, 1), NO, NO], 0, true),
+    ([Byte(1, 100, 400, 1), NO, NO], 0, true),
+    ([Byte(1, 100, 400, 1), MetaByte(REBUILT, 6), NO], 0, false),
+    ([Byte(1, 0, 0, 1), NO, NO], 0, false),
+    ([Short(1), NO, NO], 0, false),
+    ([MetaByte(OUT, 2), Powered(2, Power::Parked), NO], 0, false),
+    ([Powered(1, Power::Absent), NO, NO], 0, true),
 ];
 
 /// A stripe of a fresh disk below the gear, before and after it is rebuilt.
 const IN_A_REBUILD_BELOW: [Row; 2] = [
-    (&[MetaByte(OUT, 2), Byte(2, 106, 0, 1)], 0, false),
-    (&[MetaByte(OUT, 2), Byte(2, 107, 0, 1)], 0, true),
+    ([MetaByte(OUT, 2), Byte(2, 106, 0, 1), NO], 0, false),
+    ([MetaByte(OUT, 2), Byte(2, 107, 0, 1), NO], 0, true),
 ];
 
 /// The array in a shift down, in a shift up, and in two rebuilds.

@@ -1,7 +1,7 @@
 //! What a mount makes of racks that hold images made by hand, and how many calls it takes.
 
 use crate::images::Change::{MetaByte, Powered};
-use crate::images::{Change, GEAR, array};
+use crate::images::{Change, GEAR, NO, array};
 use crate::mounts::{plan_of, rack_with};
 use Power::{Absent, Parked, Spinning};
 use paraid_base::{DiskNo, Two};
@@ -37,35 +37,26 @@ fn mounted(
     }
 }
 
-/// Changes of the array, the calls that fail, and what a mount makes of it.
-type Row = (
-    &'static [Change],
-    &'static [(DiskNo, u32)],
-    Result<Outcome, MountFault>,
-);
+/// No call: there is no such disk.
+const NEVER: (DiskNo, u32) = (9, 0);
+
+/// A change of the array, a call that fails, and what a mount makes of it.
+type Row = (Change, (DiskNo, u32), Result<Outcome, MountFault>);
 
 /// Both log disks are read, the gate of the other one again, a block of the map and five syncs. A
 /// mark on one log disk takes 9 calls, and on both 18.
 const ROWS: [Row; 7] = [
-    (&[], &[], Ok((1, 5, None, Spinning, 11))),
-    (&[MetaByte(GEAR, 4)], &[], Ok((1, 4, None, Parked, 12))),
-    (
-        &[Powered(0, Absent)],
-        &[],
-        Ok((2, 5, Some(0), Spinning, 16)),
-    ),
-    (
-        &[Powered(3, Absent)],
-        &[],
-        Ok((2, 5, Some(3), Spinning, 28)),
-    ),
+    (NO, NEVER, Ok((1, 5, None, Spinning, 11))),
+    (MetaByte(GEAR, 4), NEVER, Ok((1, 4, None, Parked, 12))),
+    (Powered(0, Absent), NEVER, Ok((2, 5, Some(0), Spinning, 16))),
+    (Powered(3, Absent), NEVER, Ok((2, 5, Some(3), Spinning, 28))),
     // the map is read from the other log disk
-    (&[], &[(0, 2)], Ok((2, 5, Some(0), Spinning, 20))),
+    (NO, (0, 2), Ok((2, 5, Some(0), Spinning, 20))),
     // the sync of a disk fails
-    (&[], &[(4, 0)], Ok((2, 5, Some(4), Absent, 29))),
+    (NO, (4, 0), Ok((2, 5, Some(4), Absent, 29))),
     (
-        &[Powered(3, Absent)],
-        &[(4, 0)],
+        Powered(3, Absent),
+        (4, 0),
         Err(MountFault::Two(Two {
             first: 3,
             second: 4,
@@ -75,8 +66,8 @@ const ROWS: [Row; 7] = [
 
 #[test]
 fn a_mount_marks_what_is_gone_and_parks_what_need_not_spin(rt: HostRuntime) {
-    for (at, &(changes, failing, want)) in ROWS.iter().enumerate() {
-        let made = mounted(rt.alloc(), changes, failing);
+    for (at, &(change, failing, want)) in ROWS.iter().enumerate() {
+        let made = mounted(rt.alloc(), &[change], &[failing]);
         assert!(rt; made == Some(want), "row {at}");
     }
 }

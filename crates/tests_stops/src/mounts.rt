@@ -570,14 +570,40 @@ fn check(rt: &(impl Abort + AllocGlobal), rows: &[Row]) {
     }
 }
 
+// Each table stands in a function of its own: its rows are many steps, which cost more to prove beside
+// those of the others.
+fn check_served(rt: &(impl Abort + AllocGlobal)) {
+    check(rt, &SERVED);
+}
+
+fn check_before_a_read(rt: &(impl Abort + AllocGlobal)) {
+    check(rt, &BEFORE_A_READ);
+}
+
+fn check_in_the_reads(rt: &(impl Abort + AllocGlobal)) {
+    check(rt, &IN_THE_READS);
+}
+
+fn check_by_the_logs(rt: &(impl Abort + AllocGlobal)) {
+    check(rt, &BY_THE_LOGS);
+}
+
+fn check_by_sizes_and_powers(rt: &(impl Abort + AllocGlobal)) {
+    check(rt, &BY_SIZES_AND_POWERS);
+}
+
+fn check_by_losses_and_wear(rt: &(impl Abort + AllocGlobal)) {
+    check(rt, &BY_LOSSES_AND_WEAR);
+}
+
 #[test]
 fn a_mount_is_refused_by_the_first_cause_that_is_there(rt: HostRuntime) {
-    check(&rt, &SERVED);
-    check(&rt, &BEFORE_A_READ);
-    check(&rt, &IN_THE_READS);
-    check(&rt, &BY_THE_LOGS);
-    check(&rt, &BY_SIZES_AND_POWERS);
-    check(&rt, &BY_LOSSES_AND_WEAR);
+    check_served(&rt);
+    check_before_a_read(&rt);
+    check_in_the_reads(&rt);
+    check_by_the_logs(&rt);
+    check_by_sizes_and_powers(&rt);
+    check_by_losses_and_wear(&rt);
 }
 
 // How many reads a mount makes of the array with these changes, before it writes.

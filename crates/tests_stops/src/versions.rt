@@ -2,7 +2,7 @@
 
 use crate::commits::{PICKS, left_at};
 use crate::images::Change::{MetaByte, Powered};
-use crate::images::{Change, FRESH, GEAR, OUT, VERSION_ONE, array};
+use crate::images::{Change, FRESH, GEAR, NO, OUT, VERSION_ONE, array};
 use crate::mounts::rack_with;
 use Power::{Absent, Spinning};
 use paraid_base::{Block, DiskNo};
@@ -58,20 +58,20 @@ fn mounted_twice(alloc: Global, changes: &[Change]) -> Option<Outcome> {
 
 /// Changes of the array, the disk that is out after a mount, whether disk 0 has a meta then, and how
 /// many calls this mount and a second one take.
-type Row = (&'static [Change], Option<DiskNo>, bool, u32, u32);
+type Row = ([Change; 3], Option<DiskNo>, bool, u32, u32);
 
 /// Both log disks are read, the gate of the other one again, a block of the map, and each disk that
 /// spins and is not gone is synced: 11 calls with all five. The commit takes 9 calls on a log disk
 /// that is not out. A second mount makes none.
 const ROWS: [Row; 8] = [
-    (&[], None, true, 29, 11),
+    ([NO; 3], None, true, 29, 11),
     // disk 4 is parked, too
-    (&[MetaByte(GEAR, 4)], None, true, 30, 10),
+    ([MetaByte(GEAR, 4), NO, NO], None, true, 30, 10),
     // the mark of a disk brings the version
-    (&[Powered(0, Absent)], Some(0), false, 16, 7),
-    (&[Powered(3, Absent)], Some(3), true, 28, 10),
+    ([Powered(0, Absent), NO, NO], Some(0), false, 16, 7),
+    ([Powered(3, Absent), NO, NO], Some(3), true, 28, 10),
     (
-        &[MetaByte(OUT, 4), MetaByte(FRESH, 1), Powered(4, Absent)],
+        [MetaByte(OUT, 4), MetaByte(FRESH, 1), Powered(4, Absent)],
         Some(4),
         true,
         28,
@@ -79,15 +79,15 @@ const ROWS: [Row; 8] = [
     ),
     // a disk is named out already
     (
-        &[MetaByte(OUT, 0), Powered(0, Absent)],
+        [MetaByte(OUT, 0), Powered(0, Absent), NO],
         Some(0),
         false,
         16,
         7,
     ),
-    (&[MetaByte(OUT, 3)], Some(3), true, 28, 10),
+    ([MetaByte(OUT, 3), NO, NO], Some(3), true, 28, 10),
     (
-        &[MetaByte(OUT, 4), MetaByte(FRESH, 1)],
+        [MetaByte(OUT, 4), MetaByte(FRESH, 1), NO],
         Some(4),
         true,
         29,
@@ -101,7 +101,7 @@ fn a_mount_brings_version_one_to_version_two(rt: HostRuntime) {
         let meta = (2, 2, 0, out);
         let zero = if both { Some(meta) } else { None };
         let want = Some((meta, [zero, Some(meta)], first, second));
-        assert!(rt; mounted_twice(rt.alloc(), changes) == want, "row {at}");
+        assert!(rt; mounted_twice(rt.alloc(), &changes) == want, "row {at}");
     }
 }
 

@@ -79,7 +79,7 @@ const FAILED: State = State {
 pub const LINES: usize = 20;
 
 /// Each line of the trace, its answer, and what is then so.
-pub const SCRIPT: [(&str, &str, State); LINES] = [
+const SCRIPT: [(&str, &str, State); LINES] = [
     ("w 7 77", "wrote 1", ONE_WRITTEN),
     ("f", "flushed 1", ONE_FLUSHED),
     ("down", "shift 5 4", ONE_FLUSHED),
@@ -102,6 +102,11 @@ pub const SCRIPT: [(&str, &str, State); LINES] = [
     ("r 0", "0=01", SHIFTED_UP),
 ];
 
+// A table with references is many steps, which are proved once here for all that read it.
+fn script() -> &'static [(&'static str, &'static str, State)] {
+    &SCRIPT
+}
+
 /// The answer to `replace 0` is this many lines after the start.
 pub const REPLACED: usize = 12;
 
@@ -114,7 +119,7 @@ fn add(text: &mut Vec<u8>, line: &str) -> Option<()> {
 /// The first lines of the trace.
 pub fn lines(alloc: Global, count: usize) -> Option<Vec<u8>> {
     let mut text = Vec::new(alloc);
-    for (line, _answer, _state) in SCRIPT.iter().take(count) {
+    for (line, _answer, _state) in script().iter().take(count) {
         add(&mut text, line)?;
     }
     Some(text)
@@ -124,7 +129,7 @@ pub fn lines(alloc: Global, count: usize) -> Option<Vec<u8>> {
 pub fn answers(alloc: Global) -> Option<Vec<u8>> {
     let mut text = Vec::new(alloc);
     add(&mut text, "mounted 0 gear 5")?;
-    for (_line, answer, _state) in SCRIPT.iter() {
+    for (_line, answer, _state) in script() {
         add(&mut text, answer)?;
     }
     add(&mut text, "end 3")?;
@@ -133,7 +138,7 @@ pub fn answers(alloc: Global) -> Option<Vec<u8>> {
 
 /// What is so after the first lines.
 pub fn state_after(count: usize) -> State {
-    match SCRIPT.get(count.saturating_sub(1)) {
+    match script().get(count.saturating_sub(1)) {
         Some(&(_line, _answer, state)) if count > 0 => state,
         _ => NEW,
     }

@@ -1,4 +1,5 @@
 use Rattle.std.proofs.Common.{◌≡◌, ◌+◌, ◌<◌, sym, ap, subst, refl, arith, Ok, []}
+use Rattle.std.proofs.lemmas.Result.{err_from_is_err_and}
 use Rattle.paraid_base.specs.declared.state.Out.TheVariants.{No}
 use Rattle.paraid_base.specs.declared.state.Phase.TheVariants.{Down, Steady}
 use Rattle.paraid_record.specs.declared.meta.Meta.{Meta}
@@ -9,9 +10,10 @@ use Rattle.paraid_array.specs.declared.fault.ShiftFault.{ShiftFault}
 use Rattle.paraid_array.specs.declared.asked.Asked.TheVariants.{Refused}
 use Rattle.paraid_array.proofs.AskedLemmas.{core_loses_then, down_begun, down_halts, down_lost, down_stays, down_stopped, known_marked}
 use Rattle.paraid_array.proofs.RefusalLemmas.{down_may_not, down_refused_same}
+use Rattle.paraid_txn.specs.Stores.{store_rack}
 use Rattle.paraid_core.proofs.AfterLemmas.{handed}
-use Rattle.paraid_shift.proofs.ServingLemmas.{leaves_array_then, none_away, two_array}
-use Rattle.paraid_array.proofs.ToldLemmas.{extends_core, extends_cores}
+use Rattle.paraid_shift.proofs.ServingLemmas.{leaves_array_none, leaves_array_then, none_away, two_array}
+use Rattle.paraid_array.proofs.ToldLemmas.{extends_core, extends_cores, extends_none}
 use Rattle.paraid_array.proofs.asked.down.Goals as goal
 
 pub returns-in_err-begin_down-in-Ok-clause-two : goal.returns-in_err-begin_down-in-Ok-clause-two
@@ -117,3 +119,97 @@ returns-in_ok-begin_down-in-Ok-clause-told g c = extends_cores g.R.Rack.told c.a
 
 pub returns-in-Err-gear_below-clause-told : goal.returns-in-Err-gear_below-clause-told
 returns-in-Err-gear_below-clause-told g c = extends_core g.R.Rack.told c.args.core.now c.commit_staged.new.core _ (c.in_ok-commit_staged.ensures.steps (none_away g.R.Rack.slot c.args.core.now (subst (λ (z : Meta). z.out ≡ No) c.meta.ensures c.in_default.ensures.whole)) [] 0 [] 0 0)
+
+pub returns-in-Err-clause-serving : goal.returns-in-Err-clause-serving
+returns-in-Err-clause-serving g c = c.requires.serving
+
+pub returns-in-Err-clause-leaves : goal.returns-in-Err-clause-leaves
+returns-in-Err-clause-leaves g c = leaves_array_none g.R.Rack.slot_count g.R.Rack.slot c.args.core.now
+
+pub returns-in-Err-clause-known : goal.returns-in-Err-clause-known
+returns-in-Err-clause-known g c before = before
+
+pub returns-in-Err-clause-out : goal.returns-in-Err-clause-out
+returns-in-Err-clause-out g c not = refl
+
+pub returns-in-Err-clause-told : goal.returns-in-Err-clause-told
+returns-in-Err-clause-told g c = extends_none (g.R.Rack.told (store_rack c.args.core.now.store))
+
+pub returns-in_err-commit_staged-clause-serving : goal.returns-in_err-commit_staged-clause-serving
+returns-in_err-commit_staged-clause-serving g c =
+    let p = err_from_is_err_and c.from_residual.result c.from_residual.ensures.1 in rw p.1 tt
+
+pub returns-in_err-commit_staged-clause-leaves : goal.returns-in_err-commit_staged-clause-leaves
+returns-in_err-commit_staged-clause-leaves g c =
+    let p = err_from_is_err_and c.from_residual.result c.from_residual.ensures.1 in rw p.1 tt
+
+pub returns-in_err-commit_staged-clause-begins : goal.returns-in_err-commit_staged-clause-begins
+returns-in_err-commit_staged-clause-begins g c =
+    let p = err_from_is_err_and c.from_residual.result c.from_residual.ensures.1 in rw p.1 tt
+
+pub returns-in_err-commit_staged-clause-epoch : goal.returns-in_err-commit_staged-clause-epoch
+returns-in_err-commit_staged-clause-epoch g c =
+    let p = err_from_is_err_and c.from_residual.result c.from_residual.ensures.1 in rw p.1 tt
+
+pub returns-in_err-commit_staged-clause-turn : goal.returns-in_err-commit_staged-clause-turn
+returns-in_err-commit_staged-clause-turn g c =
+    let p = err_from_is_err_and c.from_residual.result c.from_residual.ensures.1 in rw p.1 tt
+
+pub returns-in_err-commit_staged-clause-refused : goal.returns-in_err-commit_staged-clause-refused
+returns-in_err-commit_staged-clause-refused g c fault s of why =
+    let is = subst (λ (z : Meta). IsShiftStateOf z s) (sym c.meta.ensures) of in
+    absurd (down_may_not c.meta.result.now.setup s c.in_default.field-0 fault (c.in_default.ensures.may s is) (subst (λ (z : Meta). IsDownRefused z.setup s fault) (sym c.meta.ensures) why))
+
+pub returns-in_err-commit_staged-clause-out : goal.returns-in_err-commit_staged-clause-out
+returns-in_err-commit_staged-clause-out g c not = absurd (not (subst (λ (z : Meta). z.out ≡ No) c.meta.ensures c.in_default.ensures.whole))
+
+pub returns-in_err-begin_down-in-Ok-clause-serving : goal.returns-in_err-begin_down-in-Ok-clause-serving
+returns-in_err-begin_down-in-Ok-clause-serving g c =
+    let p = err_from_is_err_and c.from_residual-in_err-begin_down-in-Ok.result c.from_residual-in_err-begin_down-in-Ok.ensures.1 in rw p.1 tt
+
+pub returns-in_err-begin_down-in-Ok-clause-leaves : goal.returns-in_err-begin_down-in-Ok-clause-leaves
+returns-in_err-begin_down-in-Ok-clause-leaves g c =
+    let p = err_from_is_err_and c.from_residual-in_err-begin_down-in-Ok.result c.from_residual-in_err-begin_down-in-Ok.ensures.1 in rw p.1 tt
+
+pub returns-in_err-begin_down-in-Ok-clause-begins : goal.returns-in_err-begin_down-in-Ok-clause-begins
+returns-in_err-begin_down-in-Ok-clause-begins g c =
+    let p = err_from_is_err_and c.from_residual-in_err-begin_down-in-Ok.result c.from_residual-in_err-begin_down-in-Ok.ensures.1 in rw p.1 tt
+
+pub returns-in_err-begin_down-in-Ok-clause-epoch : goal.returns-in_err-begin_down-in-Ok-clause-epoch
+returns-in_err-begin_down-in-Ok-clause-epoch g c =
+    let p = err_from_is_err_and c.from_residual-in_err-begin_down-in-Ok.result c.from_residual-in_err-begin_down-in-Ok.ensures.1 in rw p.1 tt
+
+pub returns-in_err-begin_down-in-Ok-clause-turn : goal.returns-in_err-begin_down-in-Ok-clause-turn
+returns-in_err-begin_down-in-Ok-clause-turn g c =
+    let p = err_from_is_err_and c.from_residual-in_err-begin_down-in-Ok.result c.from_residual-in_err-begin_down-in-Ok.ensures.1 in rw p.1 tt
+
+pub returns-in_err-begin_down-in-Ok-clause-out : goal.returns-in_err-begin_down-in-Ok-clause-out
+returns-in_err-begin_down-in-Ok-clause-out g c not = absurd (not (subst (λ (z : Meta). z.out ≡ No) c.meta.ensures c.in_default.ensures.whole))
+
+pub returns-in_ok-begin_down-in-Ok-clause-refused : goal.returns-in_ok-begin_down-in-Ok-clause-refused
+returns-in_ok-begin_down-in-Ok-clause-refused g c fault s of why =
+    let is = subst (λ (z : Meta). IsShiftStateOf z s) (sym c.meta.ensures) of in
+    absurd (down_may_not c.meta.result.now.setup s c.in_default.field-0 fault (c.in_default.ensures.may s is) (subst (λ (z : Meta). IsDownRefused z.setup s fault) (sym c.meta.ensures) why))
+
+pub returns-in_ok-begin_down-in-Ok-clause-out : goal.returns-in_ok-begin_down-in-Ok-clause-out
+returns-in_ok-begin_down-in-Ok-clause-out g c not = absurd (not (subst (λ (z : Meta). z.out ≡ No) c.meta.ensures c.in_default.ensures.whole))
+
+pub returns-in-Err-gear_below-clause-refused : goal.returns-in-Err-gear_below-clause-refused
+returns-in-Err-gear_below-clause-refused g c fault s of why =
+    let is = subst (λ (z : Meta). IsShiftStateOf z s) (sym c.meta.ensures) of in
+    absurd (down_may_not c.meta.result.now.setup s c.in_default.field-0 fault (c.in_default.ensures.may s is) (subst (λ (z : Meta). IsDownRefused z.setup s fault) (sym c.meta.ensures) why))
+
+pub returns-in-Err-gear_below-clause-out : goal.returns-in-Err-gear_below-clause-out
+returns-in-Err-gear_below-clause-out g c not = absurd (not (subst (λ (z : Meta). z.out ≡ No) c.meta.ensures c.in_default.ensures.whole))
+
+pub returns-in_err-commit_staged-clause-two : goal.returns-in_err-commit_staged-clause-two
+returns-in_err-commit_staged-clause-two g c = handed _ c.from_residual.result _ c.from_residual.ensures.1 c.in_err-commit_staged.ensures.two
+
+pub returns-in_ok-begin_down-in-Ok-clause-serving : goal.returns-in_ok-begin_down-in-Ok-clause-serving
+returns-in_ok-begin_down-in-Ok-clause-serving g c = c.in_ok-begin_down-in-Ok.ensures.serving
+
+pub returns-in-Err-gear_below-clause-serving : goal.returns-in-Err-gear_below-clause-serving
+returns-in-Err-gear_below-clause-serving g c = c.in_ok-commit_staged.ensures.serving
+
+pub returns-in-Err-gear_below-clause-leaves : goal.returns-in-Err-gear_below-clause-leaves
+returns-in-Err-gear_below-clause-leaves g c = c.in_ok-commit_staged.ensures.leaves

@@ -6,6 +6,10 @@ use Rattle.paraid_txn.specs.Stores.{store_rack}
 use Rattle.paraid_view.specs.Reads.{seen_by}
 use Rattle.paraid_view.proofs.ReadLemmas.{off_same}
 use Rattle.paraid_view.proofs.ValueLemmas.{ok_map}
+use Rattle.std.proofs.Common.{◌≡◌, ◌≢◌, Some, subst}
+use Rattle.std.proofs.lemmas.Result.{IfErr-weaker}
+use Rattle.paraid_view.specs.Reads.{CanRead}
+use Rattle.paraid_core.proofs.ReadyLemmas.{some_is}
 use Rattle.paraid_core.proofs.plan.read_stripe.Goals as goal
 
 pub returns-then-is_at-clause-value : goal.returns-then-is_at-clause-value
@@ -33,3 +37,33 @@ returns-then-is_at-clause-off g c = off_same c.args.out _ _ _ (c.is_at.ensures.0
 
 pub returns-clause-off : goal.returns-clause-off
 returns-clause-off g c = c.read_laid.ensures.off c.args.out (λ e. false≢true (sym c.if-is_at.false ∙ c.is_at.ensures.1 e))
+
+pub returns-then-is_at-clause-read : goal.returns-then-is_at-clause-read
+returns-then-is_at-clause-read g c = c.read_rest.ensures.read
+
+pub returns-then-is_at-clause-below : goal.returns-then-is_at-clause-below
+returns-then-is_at-clause-below g c = c.read_rest.ensures.below
+
+pub returns-clause-read : goal.returns-clause-read
+returns-clause-read g c = c.read_laid.ensures.read
+
+pub returns-clause-below : goal.returns-clause-below
+returns-clause-below g c = c.read_laid.ensures.below
+
+pub returns-then-is_at-clause-failed : goal.returns-then-is_at-clause-failed
+returns-then-is_at-clause-failed g c = IfErr-weaker c.read_rest.result (λ d. d ≢ c.args.e) (λ d. c.args.out ≢ Some d) (λ d not is. not (some_is d c.args.e (sym is ∙ c.is_at.ensures.0 c.if-is_at.true))) c.read_rest.ensures.failed
+
+pub returns-clause-failed : goal.returns-clause-failed
+returns-clause-failed g c = IfErr-weaker c.read_laid.result (λ d. d ≡ c.args.e) (λ d. c.args.out ≢ Some d) (λ d is at. false≢true (sym c.if-is_at.false ∙ c.is_at.ensures.1 (at ∙ ap Some is))) c.read_laid.ensures.failed
+
+pub read_rest-requires-clause-in_range : goal.read_rest-requires-clause-in_range
+read_rest-requires-clause-in_range g c = c.requires.in_range
+
+pub read_rest-requires-clause-stripe : goal.read_rest-requires-clause-stripe
+read_rest-requires-clause-stripe g c = c.requires.stripe
+
+pub read_rest-requires-clause-array : goal.read_rest-requires-clause-array
+read_rest-requires-clause-array g c = c.requires.array
+
+pub read_rest-requires-clause-ready : goal.read_rest-requires-clause-ready
+read_rest-requires-clause-ready g c = subst (CanRead (g.R.Rack.slot_count (store_rack c.args.store.now)) (g.R.Rack.slot (store_rack c.args.store.now)) c.args.meta.now) (c.is_at.ensures.0 c.if-is_at.true) c.requires.ready

@@ -1,7 +1,7 @@
 use Rattle.paraid_nbd.proofs.TakingLemmas.{Takes-none, Takes-then, later_then}
 use Rattle.paraid_nbd.specs.Handshake.EndsEarly.{Ungreeted, Unflagged, AmongOptions}
 use Rattle.std.proofs.Common.{arith, ◌++◌, [], ◌∷◌, List, ℕ, sym, ◌∙◌, subst}
-use Rattle.std.proofs.lemmas.List.{flat_map_more}
+use Rattle.std.proofs.lemmas.List.{append-nil, flat_map_more}
 use Rattle.std.proofs.lemmas.Result.{err_from_is_err_and}
 use Rattle.paraid_base.specs.Told.{GrowsByBytes}
 use Rattle.paraid_base.proofs.ToldLemmas.{GrowsByBytes-then}
@@ -107,3 +107,21 @@ returns-in_err-option-clause-begins g c =
 
 pub returns-then-branch-clause-ends : goal.returns-then-branch-clause-ends
 returns-then-branch-clause-ends g c = tt
+
+pub loop-init : goal.loop-init
+loop-init g c =
+    let f = c.in_ok-no_zeros.ensures.flags in
+    record {
+      greeted = (
+        f.flags,
+        [],
+        record {
+          are = f.are;
+          each = tt;
+          takes = subst (λ (x : List ℕ). Takes (g.S.Source.left c.args.source.now) (g.S.Source.left c.take_flags.new.source) c.args.input.now.taken c.take_flags.new.input.taken x) (sym (append-nil f.flags)) f.takes;
+          grows = subst (λ (x : List ℕ). GrowsByBytes (g.K.Sink.written c.args.sink.now) (g.K.Sink.written c.greet.new.sink) x) (sym (append-nil greeting)) c.in_ok-greet.ensures.greets;
+        },
+      );
+      later = c.in_ok-no_zeros.ensures.later;
+      later_sink = c.in_ok-greet.ensures.later_sink;
+    }

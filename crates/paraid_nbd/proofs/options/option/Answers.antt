@@ -48,3 +48,12 @@ returns-in_err-send-clause-later g c = c.in_ok-number.ensures.later
 
 pub returns-in_err-send-clause-later_sink : goal.returns-in_err-send-clause-later_sink
 returns-in_err-send-clause-later_sink g c = c.in_err-send.ensures.later_sink
+
+pub returns-in-Abort-clause-answers : goal.returns-in-Abort-clause-answers
+returns-in-Abort-clause-answers g c = tt
+
+pub returns-in-Abort-clause-later : goal.returns-in-Abort-clause-later
+returns-in-Abort-clause-later g c = c.in_ok-number.ensures.later
+
+pub returns-in-Abort-clause-later_sink : goal.returns-in-Abort-clause-later_sink
+returns-in-Abort-clause-later_sink g c = c.in_ok-send.ensures.later_sink

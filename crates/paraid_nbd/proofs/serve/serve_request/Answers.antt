@@ -103,3 +103,15 @@ returns-clause-later g c = later_then _ _ _ c.in_ok-request.ensures.later c.in_o
 
 pub returns-clause-later_sink : goal.returns-clause-later_sink
 returns-clause-later_sink g c = c.reply.ensures.later_sink
+
+pub perform-outcome-requires-clause-size : goal.perform-outcome-requires-clause-size
+perform-outcome-requires-clause-size g c = c.requires.size
+
+pub perform-outcome-requires-clause-few : goal.perform-outcome-requires-clause-few
+perform-outcome-requires-clause-few g c = c.requires.few
+
+pub perform-outcome-requires-clause-outcome : goal.perform-outcome-requires-clause-outcome
+perform-outcome-requires-clause-outcome g c = c.outcome-outcome.ensures
+
+pub perform-outcome-requires-clause-stays : goal.perform-outcome-requires-clause-stays
+perform-outcome-requires-clause-stays g c = c.in_ok-request.ensures.takes.stays

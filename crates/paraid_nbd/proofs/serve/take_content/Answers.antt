@@ -1,5 +1,43 @@
+use Rattle.std.proofs.Common.{◌≡◌, ◌≢◌, ℕ, [], arith, refl, sym}
 use Rattle.std.proofs.lemmas.Result.{err_from_is_err_and}
+use Rattle.paraid_nbd.specs.declared.request.Command.{Command}
+use Rattle.paraid_nbd.specs.declared.request.Command.TheVariants.{Read, Write, Disconnect, Flush, Unknown}
+use Rattle.paraid_nbd.specs.declared.request.Outcome.{Outcome}
+use Rattle.paraid_nbd.specs.declared.request.Outcome.TheVariants.{Done, Halted, Invalid, NoSpace}
+use Rattle.paraid_nbd.specs.Performing.{part_length}
+use Rattle.paraid_nbd.specs.Requests.{content_length}
+use Rattle.paraid_nbd.proofs.TakingLemmas.{Lacks-of, Takes-none, later_none}
 use Rattle.paraid_nbd.proofs.serve.take_content.Goals as goal
+
+-- a request that is not done is about nothing of the buffer
+part_undone : (k : Command) (o : Outcome) (n : ℕ) → o ≢ Done → part_length k o n ≡ 0
+part_undone Read Done n other = absurd (other refl)
+part_undone Read Halted n other = refl
+part_undone Read Invalid n other = refl
+part_undone Read NoSpace n other = refl
+part_undone Write Done n other = absurd (other refl)
+part_undone Write Halted n other = refl
+part_undone Write Invalid n other = refl
+part_undone Write NoSpace n other = refl
+part_undone Disconnect o n other = refl
+part_undone Flush o n other = refl
+part_undone Unknown o n other = refl
+
+-- neither is one that is no read and no write
+part_other : (k : Command) (o : Outcome) (n : ℕ) → k ≢ Read → k ≢ Write → part_length k o n ≡ 0
+part_other Read o n no_read no_write = absurd (no_read refl)
+part_other Write o n no_read no_write = absurd (no_write refl)
+part_other Disconnect o n no_read no_write = refl
+part_other Flush o n no_read no_write = refl
+part_other Unknown o n no_read no_write = refl
+
+-- nothing follows a request that is no write
+content_other : (k : Command) (n : ℕ) → k ≢ Write → content_length k n ≡ 0
+content_other Read n no_write = refl
+content_other Write n no_write = absurd (no_write refl)
+content_other Disconnect n no_write = refl
+content_other Flush n no_write = refl
+content_other Unknown n no_write = refl
 
 pub returns-in_err-fill-in-Write-Done-clause-takes : goal.returns-in_err-fill-in-Write-Done-clause-takes
 returns-in_err-fill-in-Write-Done-clause-takes g c =
@@ -14,3 +52,52 @@ returns-in_ok-fill-in-Write-Done-clause-lacks g c = tt
 
 pub returns-in_ok-fill-in-Write-Done-clause-later : goal.returns-in_ok-fill-in-Write-Done-clause-later
 returns-in_ok-fill-in-Write-Done-clause-later g c = c.in_ok-fill-in-Write-Done.ensures.later
+
+pub returns-in-Read-Done-clause-lacks : goal.returns-in-Read-Done-clause-lacks
+returns-in-Read-Done-clause-lacks g c = tt
+
+pub returns-in-Read-Done-clause-later : goal.returns-in-Read-Done-clause-later
+returns-in-Read-Done-clause-later g c = later_none _
+
+pub returns-in_default : goal.returns-in_default
+returns-in_default g c =
+    let r = c.args.request.now in
+    record {
+      takes = record {
+        content = [];
+        whole = sym (content_other r.command r.length c.in_default.not-Write-0);
+        takes = Takes-none _ _;
+        part = sym (part_undone r.command c.args.outcome r.length c.in_default.not-Done-1);
+        within = omega arith;
+        held = λ w d. absurd (c.in_default.not-Done-1 d);
+      };
+      lacks = tt;
+      later = later_none _;
+    }
+
+pub returns-in_default-2 : goal.returns-in_default-2
+returns-in_default-2 g c =
+    let r = c.args.request.now in
+    record {
+      takes = record {
+        content = [];
+        whole = sym (content_other r.command r.length c.in_default.not-Write-0);
+        takes = Takes-none _ _;
+        part = sym (part_other r.command c.args.outcome r.length c.in_default.not-Read-0 c.in_default.not-Write-0);
+        within = omega arith;
+        held = λ w d. absurd (c.in_default.not-Write-0 w);
+      };
+      lacks = tt;
+      later = later_none _;
+    }
+
+pub returns-in_err-skip-in-Write-default : goal.returns-in_err-skip-in-Write-default
+returns-in_err-skip-in-Write-default g c =
+    let p = err_from_is_err_and c.from_residual-in_err-skip-in-Write-default.result c.from_residual-in_err-skip-in-Write-default.ensures.1 in
+    let r = c.args.request.now in
+    let whole : r.length ≡ content_length r.command r.length = rw c.in-Write-default.is-0 refl in
+    record {
+      takes = rw p.1 tt;
+      lacks = rw (p.1, p.2) (Lacks-of _ _ whole c.in_err-skip-in-Write-default.ensures.lacks);
+      later = c.in_err-skip-in-Write-default.ensures.later;
+    }

@@ -1,4 +1,4 @@
-use Rattle.std.proofs.Common.{◌∙◌, ◌<◌, arith}
+use Rattle.std.proofs.Common.{◌∙◌, arith}
 use Rattle.paraid_plan.proofs.cell.stage_place.Goals as goal
 use Rattle.paraid_plan.proofs.DeskLemmas.{place_hard, place_soft}
 use Rattle.paraid_plan.proofs.RoomLemmas.{unit_small}
@@ -64,3 +64,18 @@ returns-clause-goes_on g c n serves = c.stage_if-3.ensures.goes_on n (c.stage_if
 
 pub returns-clause-leads : goal.returns-clause-leads
 returns-clause-leads g c = g.met.P.Plan.then _ _ _ c.stage_if-2.ensures.leads c.stage_if-3.ensures.leads
+
+pub returns-then-hard-clause-changes : goal.returns-then-hard-clause-changes
+returns-then-hard-clause-changes g c = c.stage_if.ensures.changes
+
+pub returns-then-hard-clause-goes_on : goal.returns-then-hard-clause-goes_on
+returns-then-hard-clause-goes_on g c = c.stage_if.ensures.goes_on
+
+pub returns-then-hard-clause-leads : goal.returns-then-hard-clause-leads
+returns-then-hard-clause-leads g c = c.stage_if.ensures.leads
+
+pub soft_of-s-requires-clause-disk_in : goal.soft_of-s-requires-clause-disk_in
+soft_of-s-requires-clause-disk_in g c = c.requires.disk
+
+pub soft_of-s-requires-clause-row_in : goal.soft_of-s-requires-clause-row_in
+soft_of-s-requires-clause-row_in g c = c.requires.row

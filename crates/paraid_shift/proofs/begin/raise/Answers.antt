@@ -2,15 +2,19 @@ use Rattle.paraid_rack.specs.Disks.{is_present}
 use Rattle.paraid_recover.specs.Powers.{IsPowerCall}
 use Rattle.paraid_core.proofs.KindLemmas.{calls_none, one_is_each}
 use Rattle.paraid_shift.proofs.PowersLemmas.{powered_lost, powered_none, powered_same, spin_is}
-use Rattle.std.proofs.Common.{◌≡◌, ◌≢◌, ◌∙◌, ℕ, Some, Ok, ap, arith, inl, inr, sym}
+use Rattle.std.proofs.Common.{◌≡◌, ◌≢◌, ◌∙◌, ℕ, Some, Ok, ap, arith, inl, inr, subst, sym}
 use Rattle.std.proofs.lemmas.Bool.{cases_Bool, cases_eq}
 use Rattle.paraid_image.specs.Out.{named_out}
 use Rattle.paraid_rack.specs.declared.call.Power.TheVariants.{Spinning}
 use Rattle.paraid_rack.specs.Slots.{Slot}
+use Rattle.paraid_rack.specs.Told.{CrashTriple, Ran}
+use Rattle.paraid_record.specs.declared.meta.Meta.{Meta}
 use Rattle.paraid_txn.specs.Stores.{store_rack}
+use Rattle.paraid_core.specs.Cores.{IsCoreHeldSinceCommit}
+use Rattle.paraid_core.specs.Fills.{Filled}
 use Rattle.paraid_core.proofs.StepLemmas.{marked_from_setup, runs_end, runs_none}
 use Rattle.paraid_shift.specs.Serving.{RestsInShift}
-use Rattle.paraid_shift.proofs.ServingLemmas.{copies_kept, large_then, marked_named, still_then}
+use Rattle.paraid_shift.proofs.ServingLemmas.{copies_kept, large_then, leaves_array_none, leaves_turned, marked_named, marked_none, same_none, still_then}
 use Rattle.paraid_shift.proofs.begin.raise.Given.{Over}
 use Rattle.paraid_core.proofs.AfterLemmas.{handed}
 use Rattle.paraid_shift.proofs.LossLemmas.{core_bears_none, spun_bears}
@@ -105,3 +109,50 @@ returns-clause-bears g c =
       | inr failed ↦ ap is_present (done.failed (ap Ok failed)).absent ∙ sym failed
     ])
     done.meta (λ ok. done.same (ap Ok ok)) (λ failed. done.gone (ap Ok failed)) c.spin_up.ensures.calls
+
+pub returns-then-not-is_down-clause-rising : goal.returns-then-not-is_down-clause-rising
+returns-then-not-is_down-clause-rising g c =
+    let q = c.requires.rising in
+    record {
+      ready = q.ready;
+      still = q.still;
+      up = λ d low not. elim (cases_eq d c.args.disk) [
+        | inl is ↦
+            ap (λ (e : ℕ). (g.R.Rack.slot (store_rack c.args.core.now.store) e).power) is ∙ c.is_down.ensures.up c.if-not-is_down.true (λ k. not (k ∙ ap Some (sym is)))
+        | inr apart ↦ q.up d (omega (arith, low, apart)) not
+      ];
+      draft = q.draft;
+      copies_synced = q.copies_synced;
+      unsynced = q.unsynced;
+      large = q.large;
+      nothing = q.nothing;
+    }
+
+pub returns-then-not-is_down-clause-leaves : goal.returns-then-not-is_down-clause-leaves
+returns-then-not-is_down-clause-leaves g c = leaves_array_none g.R.Rack.slot_count g.R.Rack.slot c.args.core.now
+
+pub returns-then-not-is_down-clause-meta : goal.returns-then-not-is_down-clause-meta
+returns-then-not-is_down-clause-meta g c = marked_none c.args.core.now.meta
+
+pub returns-then-not-is_down-clause-store : goal.returns-then-not-is_down-clause-store
+returns-then-not-is_down-clause-store g c = same_none c.args.core.now.store
+
+pub returns-then-not-is_down-clause-up : goal.returns-then-not-is_down-clause-up
+returns-then-not-is_down-clause-up g c not = c.is_down.ensures.up c.if-not-is_down.true not
+
+pub returns-clause-leaves : goal.returns-clause-leaves
+returns-clause-leaves g c =
+    let done = c.in_ok-spin_up.ensures in
+    leaves_turned g.R.Rack.slot_count g.R.Rack.slot c.args.core.now c.spin_up.new.self c.spin_up.ensures.slots c.spin_up.ensures.store done.meta c.spin_up.ensures.turned done.risen
+
+pub returns-clause-rests : goal.returns-clause-rests
+returns-clause-rests g c h lo =
+    let a = c.args.core.now in
+    let new = c.spin_up.new.self in
+    let done = c.in_ok-spin_up.ensures in
+    elim (cases_Bool c.in_ok-spin_up.field-0) [
+      | inl ok ↦
+          subst (λ (n : ℕ). Ran (g.R.Rack.told (store_rack a.store)) (g.R.Rack.told (store_rack new.store)) (CrashTriple (IsCoreHeldSinceCommit g.R.Rack.slot_count a h lo) (RestsInShift g.R.Rack.slot_count a h lo) (Filled g.R.Rack.slot_count new h lo n)))
+          (sym (ap (λ (m : Meta). m.fill) (done.same (ap Ok ok)))) (done.done (ap Ok ok) h lo)
+      | inr failed ↦ done.lost_filled (ap Ok failed) h lo
+    ]

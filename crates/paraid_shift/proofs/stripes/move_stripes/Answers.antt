@@ -1,13 +1,15 @@
 use Rattle.paraid_shift.proofs.StepsLemmas.{stripes_wait}
-use Rattle.std.specs.Prelude.{ℕ}
-use Rattle.std.proofs.Common.{◌<◌, ◌∙◌, sym, ap, subst, Ok}
+use Rattle.std.specs.Prelude.{ℕ, ◌⊎◌, false, Some}
+use Rattle.std.proofs.Common.{◌≡◌, ◌<◌, ◌∙◌, sym, ap, subst, Ok}
 use Rattle.paraid_base.specs.History.{History}
 use Rattle.paraid_base.specs.States.{has_out}
+use Rattle.paraid_rack.specs.Disks.{is_present}
 use Rattle.paraid_rack.specs.Told.{CrashTriple, Ran}
 use Rattle.paraid_record.specs.declared.meta.Meta.{Meta}
 use Rattle.paraid_record.specs.declared.meta.Setup.{Setup}
+use Rattle.paraid_image.specs.Out.{named_out}
 use Rattle.paraid_txn.specs.Losses.{OnlyLosesSlots}
-use Rattle.paraid_txn.specs.Stores.{store_rack}
+use Rattle.paraid_txn.specs.Stores.{IsSameStore, named_of, store_rack}
 use Rattle.paraid_view.proofs.TwoLemmas.{spared_then}
 use Rattle.paraid_core.specs.declared.staged.Core.{Core}
 use Rattle.paraid_core.specs.Cores.{IsCoreHeldSinceCommit, CoreStandsFor}
@@ -206,3 +208,35 @@ returns-in_err-settle-clause-loses g c =
     handed (CoreLosesInSteps g.R.Rack.slot_count g.R.Rack.told a new 1) c.from_residual-in_err-settle.result _ c.from_residual-in_err-settle.ensures.1
     (copies_lose g.R.Rack.slot_count g.R.Rack.told a new _ c.requires.nothing (returns-in_err-settle-clause-calls g c) (returns-in_err-settle-clause-moments g c)
     (copies_tell_then g.R.Rack.slot_count g.R.Rack.slot g.R.Rack.told g.met.R.Rack.agrees a b new _ c.requires.serving.ready c.in_ok-done.ensures.marks c.fill_stripes.ensures.calls c.in_err-settle.ensures.tells))
+
+pub returns-then-not-done-clause-absent : goal.returns-then-not-done-clause-absent
+returns-then-not-done-clause-absent g c = (left g c.before).absent
+
+pub returns-then-not-done-clause-nothing : goal.returns-then-not-done-clause-nothing
+returns-then-not-done-clause-nothing g c = (left g c.before).batch ∙ c.requires.nothing
+
+pub returns-then-not-done-clause-store : goal.returns-then-not-done-clause-store
+returns-then-not-done-clause-store g c = (left g c.before).same
+
+pub returns-then-not-done-clause-table : goal.returns-then-not-done-clause-table
+returns-then-not-done-clause-table g c = (left g c.before).table
+
+pub returns-then-is_any-clause-absent : goal.returns-then-is_any-clause-absent
+returns-then-is_any-clause-absent g c = (left g c.before.before.before.before).absent
+
+pub returns-then-is_any-clause-nothing : goal.returns-then-is_any-clause-nothing
+returns-then-is_any-clause-nothing g c = (left g c.before.before.before.before).batch ∙ c.requires.nothing
+
+pub returns-then-is_any-clause-store : goal.returns-then-is_any-clause-store
+returns-then-is_any-clause-store g c = (left g c.before.before.before.before).same
+
+pub returns-then-is_any-clause-table : goal.returns-then-is_any-clause-table
+returns-then-is_any-clause-table g c = (left g c.before.before.before.before).table
+
+pub returns-clause-absent : goal.returns-clause-absent
+returns-clause-absent g c before e is =
+    let marks = c.mark_filled.ensures in
+    subst (λ (z : _). (named_of z ≡ Some e) ⊎ (is_present (g.R.Rack.slot (store_rack z) e).power ≡ false)) (sym marks.store) ((left g c.before.before.before.before.before.before).absent before e (sym (ap (λ (m : Meta). named_out m.out) marks.meta) ∙ is))
+
+pub returns-clause-store : goal.returns-clause-store
+returns-clause-store g c = subst (λ (z : _). IsSameStore c.args.core.now.store z) (sym c.mark_filled.ensures.store) (left g c.before.before.before.before.before.before).same

@@ -1,6 +1,6 @@
 use Rattle.std.proofs.Common.{arith}
 use Rattle.paraid_txn.proofs.ReadyLemmas.{log_can, log_stays_ready}
-use Rattle.paraid_txn.proofs.CommitPartLemmas.{CommitPart_raised, CommitPart_then, logs_sync, logs_write}
+use Rattle.paraid_txn.proofs.CommitPartLemmas.{CommitPart_raised, CommitPart_then, logs_sync, logs_write, raised_ok}
 use Rattle.paraid_txn.proofs.DownLemmas.{StaySynced-synced}
 use Rattle.paraid_txn.proofs.PutSyncedLemmas.{put_gives_up, put_then_sync}
 use Rattle.paraid_txn.proofs.calls.put_synced.Goals as goal
@@ -36,3 +36,9 @@ returns-in_err-sync_slot-clause-part g c =
 pub returns-clause-part : goal.returns-clause-part
 returns-clause-part g c =
     CommitPart_then (logs_write c.args.place c.requires.log_disk c.requires.in_log c.in_ok-put.ensures.part) (logs_sync c.requires.log_disk c.in_ok-sync_slot.ensures.part)
+
+pub returns-in_err-put-clause-still_synced : goal.returns-in_err-put-clause-still_synced
+returns-in_err-put-clause-still_synced g c = raised_ok _ _ c.from_residual.result c.from_residual.ensures.1
+
+pub returns-in_err-sync_slot-clause-still_synced : goal.returns-in_err-sync_slot-clause-still_synced
+returns-in_err-sync_slot-clause-still_synced g c = raised_ok _ _ c.from_residual-in_err-sync_slot.result c.from_residual-in_err-sync_slot.ensures.1

@@ -61,9 +61,9 @@ next g c j good is same =
     let t = c.target-target.result in
     let long : length j.batch ≡ length c.args.batch.now = ap length same in
     let lt : n < length j.batch = omega arith in
-    let held : get_or (batch_blocks c.args.batch.now) n zero_block ≡ c.block.result.now = cc in
+    let held : get_or (batch_blocks c.args.batch.now) n zero_block ≡ c.block.result.now = sym c.block.ensures in
     let block : target_block j n ≡ c.block.result.now = ap (λ (batch : Batch). get_or (batch_blocks batch) n zero_block) same ∙ held in
-    let there : target_at c.args.batch.now n ≡ t = cc in
+    let there : target_at c.args.batch.now n ≡ t = sym c.target-target.ensures in
     let target : target_at j.batch n ≡ t = ap (λ (batch : Batch). target_at batch n) same ∙ there in
     andthen (c.loop-at.invariant.ran j good is same)
     (lay_ran j good (g.met.R.Rack.agrees c.loop-at.rack) is n t lt target (past_log g c) block c.put.ensures.does)

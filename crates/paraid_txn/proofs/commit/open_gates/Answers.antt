@@ -1,7 +1,8 @@
 use Rattle.std.proofs.Common.{ap, arith}
 use Rattle.paraid_image.specs.Standing.{other_log}
+use Rattle.paraid_txn.proofs.DownLemmas.{StaySyncedBut-both}
 use Rattle.paraid_txn.proofs.StagesLemmas.{open_end}
-use Rattle.paraid_txn.proofs.CommitPartLemmas.{CommitPart_log, CommitPart_raised, CommitPart_then}
+use Rattle.paraid_txn.proofs.CommitPartLemmas.{CommitPart_log, CommitPart_raised, CommitPart_then, raised_ok}
 use Rattle.paraid_txn.proofs.CrashSpecificationLemmas.{crash_raised, crash_then, crash_upto}
 use Rattle.paraid_txn.proofs.PutSyncedLemmas.{open_crash}
 use Rattle.paraid_txn.proofs.commit.open_gates.Goals as goal
@@ -36,3 +37,13 @@ returns-clause-part g c =
 pub put_synced-requires-2-clause-log : goal.put_synced-requires-2-clause-log
 put_synced-requires-2-clause-log g c =
     CommitPart_log c.in_ok-put_synced.ensures.part c.requires.log
+
+pub returns-in_err-put_synced-clause-still_synced : goal.returns-in_err-put_synced-clause-still_synced
+returns-in_err-put_synced-clause-still_synced g c = raised_ok _ _ c.from_residual.result c.from_residual.ensures.1
+
+pub returns-in_err-put_synced-2-clause-still_synced : goal.returns-in_err-put_synced-2-clause-still_synced
+returns-in_err-put_synced-2-clause-still_synced g c = raised_ok _ _ c.from_residual-in_err-put_synced-2.result c.from_residual-in_err-put_synced-2.ensures.1
+
+pub returns-clause-still_synced : goal.returns-clause-still_synced
+returns-clause-still_synced g c =
+    StaySyncedBut-both (λ d. ⊥) _ _ _ _ _ _ c.put_synced.ensures.part.lasts c.put_synced-2.ensures.part.lasts c.in_ok-put_synced.ensures.still_synced c.in_ok-put_synced-2.ensures.still_synced

@@ -1,6 +1,6 @@
 use Rattle.std.specs.Prelude.{◌≡◌, ℕ, ◌+◌, ◌<◌, get_or, length}
 use Rattle.paraid_base.specs.Xor.{zero_block}
-use Rattle.std.proofs.Common.{inl, ap, subst, ◌∙◌, refl, arith}
+use Rattle.std.proofs.Common.{inl, ap, subst, sym, ◌∙◌, refl, arith}
 use Rattle.paraid_rack.specs.Told.{Ran, CrashTriple}
 use Rattle.paraid_image.specs.Sides.{Batch}
 use Rattle.paraid_txn.specs.CommitStages.{IsSpelled, Job, LogIn, HoldsEarly, target_block, job_named}
@@ -22,7 +22,7 @@ next g c j good is same =
     let n = c.loop-at.at in
     let long : length j.batch ≡ length c.args.batch.now = ap length same in
     let lt : n < length j.batch = omega arith in
-    let held : get_or (batch_blocks c.args.batch.now) n zero_block ≡ c.block.result.now = cc in
+    let held : get_or (batch_blocks c.args.batch.now) n zero_block ≡ c.block.result.now = sym c.block.ensures in
     let block : target_block j n ≡ c.block.result.now = ap (λ (batch : Batch). get_or (batch_blocks batch) n zero_block) same ∙ held in
     andthen (c.loop-at.invariant.ran j good is same)
     (log_block_ran j good (g.met.R.Rack.agrees c.loop-at.rack) is c.args.disk n lt (omega arith) block c.put.ensures.does)

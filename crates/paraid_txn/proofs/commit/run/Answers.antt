@@ -1,15 +1,16 @@
-use Rattle.std.proofs.Common.{arith, refl, sym}
+use Rattle.std.proofs.Common.{arith, refl, sym, ◌∙◌}
 use Rattle.paraid_image.proofs.NeutralLemmas.{length-targets}
 use Rattle.paraid_rack.specs.Disks.{Disks}
 use Rattle.paraid_rack.specs.Told.{Ran, CrashTriple}
 use Rattle.paraid_txn.specs.CommitStages.{IsSpelled, LayIn, LogStage, MarkStage, HoldsWhole, job}
+use Rattle.paraid_txn.proofs.DownLemmas.{AreCommitCalls-then, StaySyncedBut-both}
 use Rattle.paraid_txn.proofs.StageCallsLemmas.{andthen, milder}
 use Rattle.paraid_txn.proofs.WholeLemmas.{earlier_whole, later_whole}
-use Rattle.paraid_txn.proofs.CommitPartLemmas.{CommitPart_logs, CommitPart_raised, CommitPart_targets, CommitPart_then}
+use Rattle.paraid_txn.proofs.CommitPartLemmas.{CommitPart_logs, CommitPart_raised, CommitPart_targets, CommitPart_then, raised_ok}
 use Rattle.paraid_txn.proofs.CrashSpecificationLemmas.{crash_after, crash_milder, crash_raised, crash_then}
 use Rattle.paraid_txn.proofs.commit.run.Given.{Over}
 use Rattle.paraid_txn.proofs.commit.run.Goals.{In_ok-open_gates, In_ok-lay_all}
-use Rattle.paraid_txn.proofs.ReadyLemmas.{log_stays_ready}
+use Rattle.paraid_txn.proofs.ReadyLemmas.{log_stays_ready, targets_stay_ready}
 use Rattle.paraid_txn.proofs.commit.run.Goals as goal
 
 pub write_logs-requires-clause-few : goal.write_logs-requires-clause-few
@@ -92,3 +93,26 @@ returns-in_err-finish-clause-part g c =
 pub returns-clause-part : goal.returns-clause-part
 returns-clause-part g c =
     CommitPart_then (CommitPart_then (CommitPart_then (CommitPart_logs c.args.meta.now c.args.batch.now c.named-named.ensures c.in_ok-write_logs.ensures.part) (CommitPart_logs c.args.meta.now c.args.batch.now c.named-named.ensures c.in_ok-open_gates.ensures.part)) (CommitPart_targets c.args.meta.now c.args.batch.now c.gone.ensures (λ k t lt. (c.requires.in_range.each k t lt).disk) c.in_ok-lay_all.ensures.part)) (CommitPart_logs c.args.meta.now c.args.batch.now c.named-named.ensures c.in_ok-finish.ensures.part)
+
+pub returns-in_err-write_logs-clause-still_synced : goal.returns-in_err-write_logs-clause-still_synced
+returns-in_err-write_logs-clause-still_synced g c = raised_ok _ _ c.from_residual.result c.from_residual.ensures.1
+
+pub returns-in_err-open_gates-clause-still_synced : goal.returns-in_err-open_gates-clause-still_synced
+returns-in_err-open_gates-clause-still_synced g c = raised_ok _ _ c.from_residual-in_err-open_gates.result c.from_residual-in_err-open_gates.ensures.1
+
+pub returns-in_err-lay_all-clause-still_synced : goal.returns-in_err-lay_all-clause-still_synced
+returns-in_err-lay_all-clause-still_synced g c = raised_ok _ _ c.from_residual-in_err-lay_all.result c.from_residual-in_err-lay_all.ensures.1
+
+pub returns-in_err-finish-clause-still_synced : goal.returns-in_err-finish-clause-still_synced
+returns-in_err-finish-clause-still_synced g c = raised_ok _ _ c.from_residual-in_err-finish.result c.from_residual-in_err-finish.ensures.1
+
+pub returns-clause-still_synced : goal.returns-clause-still_synced
+returns-clause-still_synced g c =
+    let to_open_gates = AreCommitCalls-then _ _ _ _ _ _ c.write_logs.ensures.part.lasts c.open_gates.ensures.part.lasts in
+    let to_lay_all = AreCommitCalls-then _ _ _ _ _ _ to_open_gates c.lay_all.ensures.part.lasts in
+    StaySyncedBut-both (λ d. ⊥) _ _ _ _ _ _ to_lay_all c.finish.ensures.part.lasts (StaySyncedBut-both (λ d. ⊥) _ _ _ _ _ _ to_open_gates c.lay_all.ensures.part.lasts (StaySyncedBut-both (λ d. ⊥) _ _ _ _ _ _ c.write_logs.ensures.part.lasts c.open_gates.ensures.part.lasts c.in_ok-write_logs.ensures.still_synced c.in_ok-open_gates.ensures.still_synced) c.in_ok-lay_all.ensures.still_synced) c.in_ok-finish.ensures.still_synced
+
+pub lay_all-requires-clause-ready : goal.lay_all-requires-clause-ready
+lay_all-requires-clause-ready g c =
+    rw c.gone.ensures (targets_stay_ready _ _ _ _ (AreCommitCalls-then _ _ _ _ _ _ c.write_logs.ensures.part.lasts c.open_gates.ensures.part.lasts)
+    (c.open_gates.ensures.slots ∙ c.write_logs.ensures.slots) c.requires.ready)

@@ -5,7 +5,7 @@ use Rattle.paraid_txn.specs.CommitStages.{IsSpelled, Job, LogStage, LogIn, LogMe
 use Rattle.paraid_txn.proofs.DownLemmas.{CanWrite-later, CanWrite-lower, StaySynced-synced, StaySyncedBut-both, AreCommitCalls-then}
 use Rattle.paraid_txn.proofs.StageCallsLemmas.{andthen, ends, log_in_whole, log_list_ran, log_meta_ran, log_meta_whole, log_sync_ran, log_whole}
 use Rattle.paraid_txn.proofs.ReadyLemmas.{log_can, log_stays_ready}
-use Rattle.paraid_txn.proofs.CommitPartLemmas.{CommitPart_raised, CommitPart_then, logs_sync, logs_write}
+use Rattle.paraid_txn.proofs.CommitPartLemmas.{CommitPart_raised, CommitPart_then, logs_sync, logs_write, raised_ok}
 use Rattle.paraid_txn.proofs.CrashSpecificationLemmas.{crash_after, crash_failed, crash_raised, crash_ran, crash_then}
 use Rattle.paraid_txn.proofs.commit.write_log.Given.{Over}
 use Rattle.paraid_txn.proofs.commit.write_log.Goals as goal
@@ -103,3 +103,15 @@ returns-in_err-sync_slot-clause-part g c =
 pub returns-clause-part : goal.returns-clause-part
 returns-clause-part g c =
     CommitPart_then (CommitPart_then (CommitPart_then (logs_write 2 c.requires.log_disk (omega arith) c.in_ok-put.ensures.part) (logs_write 3 c.requires.log_disk (omega arith) c.in_ok-put-2.ensures.part)) c.in_ok-put_blocks.ensures.part) (logs_sync c.requires.log_disk c.in_ok-sync_slot.ensures.part)
+
+pub returns-in_err-put-clause-still_synced : goal.returns-in_err-put-clause-still_synced
+returns-in_err-put-clause-still_synced g c = raised_ok _ _ c.from_residual.result c.from_residual.ensures.1
+
+pub returns-in_err-put-2-clause-still_synced : goal.returns-in_err-put-2-clause-still_synced
+returns-in_err-put-2-clause-still_synced g c = raised_ok _ _ c.from_residual-in_err-put-2.result c.from_residual-in_err-put-2.ensures.1
+
+pub returns-in_err-put_blocks-clause-still_synced : goal.returns-in_err-put_blocks-clause-still_synced
+returns-in_err-put_blocks-clause-still_synced g c = raised_ok _ _ c.from_residual-in_err-put_blocks.result c.from_residual-in_err-put_blocks.ensures.1
+
+pub returns-in_err-sync_slot-clause-still_synced : goal.returns-in_err-sync_slot-clause-still_synced
+returns-in_err-sync_slot-clause-still_synced g c = raised_ok _ _ c.from_residual-in_err-sync_slot.result c.from_residual-in_err-sync_slot.ensures.1

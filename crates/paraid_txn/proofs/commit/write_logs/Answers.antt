@@ -1,5 +1,6 @@
+use Rattle.paraid_txn.proofs.DownLemmas.{StaySyncedBut-both}
 use Rattle.paraid_txn.proofs.StagesLemmas.{log_end}
-use Rattle.paraid_txn.proofs.CommitPartLemmas.{CommitPart_log, CommitPart_raised, CommitPart_then}
+use Rattle.paraid_txn.proofs.CommitPartLemmas.{CommitPart_log, CommitPart_raised, CommitPart_then, raised_ok}
 use Rattle.paraid_txn.proofs.CrashSpecificationLemmas.{crash_raised, crash_then, crash_upto}
 use Rattle.paraid_txn.proofs.commit.write_logs.Goals as goal
 
@@ -34,3 +35,13 @@ returns-clause-part g c =
 pub write_log-requires-2-clause-log : goal.write_log-requires-2-clause-log
 write_log-requires-2-clause-log g c =
     CommitPart_log c.in_ok-write_log.ensures.part c.requires.log
+
+pub returns-in_err-write_log-clause-still_synced : goal.returns-in_err-write_log-clause-still_synced
+returns-in_err-write_log-clause-still_synced g c = raised_ok _ _ c.from_residual.result c.from_residual.ensures.1
+
+pub returns-in_err-write_log-2-clause-still_synced : goal.returns-in_err-write_log-2-clause-still_synced
+returns-in_err-write_log-2-clause-still_synced g c = raised_ok _ _ c.from_residual-in_err-write_log-2.result c.from_residual-in_err-write_log-2.ensures.1
+
+pub returns-clause-still_synced : goal.returns-clause-still_synced
+returns-clause-still_synced g c =
+    StaySyncedBut-both (λ d. ⊥) _ _ _ _ _ _ c.write_log.ensures.part.lasts c.write_log-2.ensures.part.lasts c.in_ok-write_log.ensures.still_synced c.in_ok-write_log-2.ensures.still_synced

@@ -9,10 +9,11 @@ use Rattle.paraid_txn.specs.Resume.{LeadsResume, HoldsThroughResume, AreDisksSam
 use Rattle.paraid_image.specs.Sides.{is_open}
 use Rattle.paraid_txn.specs.CommitStages.{IsLiveLog, IsSpelled, Job, job_named}
 use Rattle.paraid_image.specs.Standing.{other_log}
+use Rattle.paraid_txn.proofs.DownLemmas.{AreCommitCalls-then, StaySyncedBut-both}
 use Rattle.paraid_txn.proofs.ReadyLemmas.{log_stays_ready}
 use Rattle.paraid_txn.proofs.StageCallsLemmas.{andthen, ends, from, milder}
 use Rattle.paraid_txn.proofs.ResumeStagesLemmas.{absent_by, good_beside, log_open, never, open_lay, read_start, resuming_early, resuming_same, same_lay, same_log, same_read, take_ran, upto_told}
-use Rattle.paraid_txn.proofs.CommitPartLemmas.{CommitPart_answer, CommitPart_beside, CommitPart_by, CommitPart_raised, CommitPart_then, logs_read}
+use Rattle.paraid_txn.proofs.CommitPartLemmas.{CommitPart_answer, CommitPart_beside, CommitPart_by, CommitPart_raised, CommitPart_then, logs_read, raised_ok}
 use Rattle.paraid_txn.proofs.CrashSpecificationLemmas.{crash_after, crash_failed, crash_from, crash_milder, crash_never, crash_then, crash_upto}
 use Rattle.paraid_txn.proofs.PutSyncedLemmas.{open_crash}
 use Rattle.paraid_txn.proofs.resume.catch_up.Given.{Over}
@@ -25,7 +26,7 @@ taken g c j good leads = take_ran c.take.ensures.does (resuming_same j good c.ar
 
 -- the gate was read
 on : (g : Over) (c : After-opens g) → c.take.result ≡ Ok true
-on g c = cc
+on g c = c.in_ok-read.was ∙ ap Ok c.if-not-read.false
 
 -- the block that was read is the one at the start
 found : (g : Over) (c : After-take g) (j : Job) → c.take.result ≡ Ok true → (t : Trail) → g.R.Rack.told c.args.rack.now ≡ Some t → AreDisksSame j (now t)
@@ -41,7 +42,7 @@ pub returns-then-not-read-clause-crash : goal.returns-then-not-read-clause-crash
 returns-then-not-read-clause-crash g c j good is batch list same leads =
     let at = goal.at.returns-then-not-read-clause-crash g c in
     let y = other_log c.args.side in
-    let off : c.take.result ≡ Ok false = cc in
+    let off = c.in_ok-read.was ∙ ap Ok c.if-not-read.true in
     record {
       moments = ends (resuming_same j good c.args.side leads) (taken g at.After-take j good leads);
       done = upto_told (λ s t from to a b. same_lay j good c.args.side leads (now t) b (λ l there here.
@@ -52,8 +53,8 @@ returns-then-not-read-clause-crash g c j good is batch list same leads =
 pub returns-then-opens-clause-crash : goal.returns-then-opens-clause-crash
 returns-then-opens-clause-crash g c j good is batch list same leads =
     let at = goal.at.returns-then-opens-clause-crash g c in
-    let on : c.take.result ≡ Ok true = cc in
-    let opened : is_open c.take.new.into ≡ true = cc in
+    let on = on g at.After-opens in
+    let opened = sym c.if-opens.ensures in
     record {
       moments = ends (resuming_same j good c.args.side leads) (taken g at.After-take j good leads);
       done = upto_told (λ s t from to a b. same_lay j good c.args.side leads (now t) b (λ l there here. elim (leads.other l there) [
@@ -78,7 +79,7 @@ returns-in_err-write_log-clause-crash g c j good is batch list same leads =
     let at = goal.at.returns-in_err-write_log-clause-crash g c in
     let x = c.args.side in
     let on = on g at.After-opens in
-    let shut : is_open c.take.new.into ≡ false = cc in
+    let shut = sym c.if-opens.ensures in
     let l = live g at.After-take j is on in
     let log = (c.in_err-write_log.ensures.crash (job_on_other_log j x) (good_beside j good x leads) refl batch list same).moments in
     crash_failed _ _ c.from_residual-in_err-write_log.ensures.1
@@ -95,7 +96,7 @@ returns-in_err-put_synced-clause-crash g c j good is batch list same leads =
     let at = goal.at.returns-in_err-put_synced-clause-crash g c in
     let x = c.args.side in
     let on = on g at.After-opens in
-    let shut : is_open c.take.new.into ≡ false = cc in
+    let shut = sym c.if-opens.ensures in
     let l = live g at.After-take j is on in
     let spelled = good_beside j good x leads in
     let log = (c.in_ok-write_log.ensures.crash (job_on_other_log j x) spelled refl batch list same).done in
@@ -114,7 +115,7 @@ returns-clause-crash g c j good is batch list same leads =
     let at = goal.at.returns-clause-crash g c in
     let x = c.args.side in
     let on = on g at.After-opens in
-    let shut : is_open c.take.new.into ≡ false = cc in
+    let shut = sym c.if-opens.ensures in
     let l = live g at.After-take j is on in
     let spelled = good_beside j good x leads in
     let both = crash_then (c.in_ok-write_log.ensures.crash (job_on_other_log j x) spelled refl batch list same)
@@ -147,12 +148,12 @@ returns-in_err-read-clause-part g c =
 pub returns-then-not-read-clause-part : goal.returns-then-not-read-clause-part
 returns-then-not-read-clause-part g c =
     let at = goal.at.returns-then-not-read-clause-part g c in
-    CommitPart_answer tt (heard g at.After-take false (cc))
+    CommitPart_answer tt (heard g at.After-take false (c.in_ok-read.was ∙ ap Ok c.if-not-read.true))
 
 pub returns-then-opens-clause-part : goal.returns-then-opens-clause-part
 returns-then-opens-clause-part g c =
     let at = goal.at.returns-then-opens-clause-part g c in
-    CommitPart_answer tt (heard g at.After-take true (cc))
+    CommitPart_answer tt (heard g at.After-take true (c.in_ok-read.was ∙ ap Ok c.if-not-read.false))
 
 pub returns-in_err-write_log-clause-part : goal.returns-in_err-write_log-clause-part
 returns-in_err-write_log-clause-part g c =
@@ -188,3 +189,25 @@ put_synced-requires-clause-log g c =
     let on = on g at.After-opens in
     log_stays_ready c.write_log.ensures.part.lasts
     (record { can = λ x low not. (log_stays_ready c.take.ensures.part.lasts c.requires.log).can x low (beside_log g at.After-take on x (low, not)).1 })
+
+pub returns-in_err-read-clause-still_synced : goal.returns-in_err-read-clause-still_synced
+returns-in_err-read-clause-still_synced g c = raised_ok _ _ c.from_residual.result c.from_residual.ensures.1
+
+pub returns-then-not-read-clause-still_synced : goal.returns-then-not-read-clause-still_synced
+returns-then-not-read-clause-still_synced g c = c.take.ensures.still_synced
+
+pub returns-then-opens-clause-still_synced : goal.returns-then-opens-clause-still_synced
+returns-then-opens-clause-still_synced g c = c.take.ensures.still_synced
+
+pub returns-in_err-write_log-clause-still_synced : goal.returns-in_err-write_log-clause-still_synced
+returns-in_err-write_log-clause-still_synced g c = raised_ok _ _ c.from_residual-in_err-write_log.result c.from_residual-in_err-write_log.ensures.1
+
+pub returns-in_err-put_synced-clause-still_synced : goal.returns-in_err-put_synced-clause-still_synced
+returns-in_err-put_synced-clause-still_synced g c = raised_ok _ _ c.from_residual-in_err-put_synced.result c.from_residual-in_err-put_synced.ensures.1
+
+pub returns-clause-still_synced : goal.returns-clause-still_synced
+returns-clause-still_synced g c =
+    let written = AreCommitCalls-then _ _ _ _ _ _ c.take.ensures.part.lasts c.write_log.ensures.part.lasts in
+    StaySyncedBut-both (λ d. ⊥) _ _ _ _ _ _ written c.put_synced.ensures.part.lasts
+    (StaySyncedBut-both (λ d. ⊥) _ _ _ _ _ _ c.take.ensures.part.lasts c.write_log.ensures.part.lasts c.take.ensures.still_synced c.in_ok-write_log.ensures.still_synced)
+    c.in_ok-put_synced.ensures.still_synced

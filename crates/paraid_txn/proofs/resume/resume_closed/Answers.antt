@@ -9,10 +9,11 @@ use Rattle.paraid_txn.specs.Resume.{AreDisksSame, HoldsThroughShut}
 use Rattle.paraid_image.specs.Sides.{is_open}
 use Rattle.paraid_txn.specs.CommitStages.{Job, job_named}
 use Rattle.paraid_image.specs.Standing.{other_log}
+use Rattle.paraid_txn.proofs.DownLemmas.{StaySyncedBut-both}
 use Rattle.paraid_txn.proofs.StageCallsLemmas.{andthen, ends}
 use Rattle.paraid_txn.proofs.ReadyLemmas.{log_stays_ready}
 use Rattle.paraid_txn.proofs.ResumeStagesLemmas.{absent_by, filled, good_filled, never, read_start, same_read, shutting_same, take_ran, upto_told}
-use Rattle.paraid_txn.proofs.CommitPartLemmas.{CommitPart_answer, CommitPart_by, CommitPart_raised, CommitPart_then, logs_read}
+use Rattle.paraid_txn.proofs.CommitPartLemmas.{CommitPart_answer, CommitPart_by, CommitPart_raised, CommitPart_then, logs_read, raised_ok}
 use Rattle.paraid_txn.proofs.CrashSpecificationLemmas.{crash_after, crash_failed, crash_never, crash_upto}
 use Rattle.paraid_txn.proofs.resume.resume_closed.Given.{Over}
 use Rattle.paraid_txn.proofs.resume.resume_closed.Goals as goal
@@ -40,7 +41,7 @@ pub returns-then-not-read-clause-crash : goal.returns-then-not-read-clause-crash
 returns-then-not-read-clause-crash g c j good is same =
     let at = goal.at.returns-then-not-read-clause-crash g c in
     let y = other_log c.args.side in
-    let off : c.take.result ≡ Ok false = cc in
+    let off = c.in_ok-read.was ∙ ap Ok c.if-not-read.true in
     record {
       moments = ends (shutting_same j (other_log c.args.side)) (taken g at.After-take j);
       done = upto_told (λ s t from to a b. inl (record {
@@ -53,8 +54,8 @@ pub returns-then-not-opens-clause-crash : goal.returns-then-not-opens-clause-cra
 returns-then-not-opens-clause-crash g c j good is same =
     let at = goal.at.returns-then-not-opens-clause-crash g c in
     let y = other_log c.args.side in
-    let on : c.take.result ≡ Ok true = cc in
-    let shut : is_open c.take.new.into ≡ false = cc in
+    let on = c.in_ok-read.was ∙ ap Ok c.if-not-read.false in
+    let shut = sym c.opens.ensures ∙ c.if-not-opens.true in
     record {
       moments = ends (shutting_same j (other_log c.args.side)) (taken g at.After-take j);
       done = upto_told (λ s t from to a b. inl (record {
@@ -65,7 +66,7 @@ returns-then-not-opens-clause-crash g c j good is same =
 
 -- the gate was read
 on : (g : Over) (c : After-opens g) → c.take.result ≡ Ok true
-on g c = cc
+on g c = c.in_ok-read.was ∙ ap Ok c.if-not-read.false
 
 -- the gate was not closed at the start
 not_shut : (g : Over) (c : After-take g) (j : Job) → c.take.result ≡ Ok true → is_open c.take.new.into ≡ true → is_open (j.start.block (other_log c.args.side) 0) ≡ false
@@ -77,7 +78,7 @@ pub returns-in_err-shut-clause-crash : goal.returns-in_err-shut-clause-crash
 returns-in_err-shut-clause-crash g c j good is same =
     let at = goal.at.returns-in_err-shut-clause-crash g c in
     let on = on g at.After-opens in
-    let opened : is_open c.take.new.into ≡ true = cc in
+    let opened = sym c.opens.ensures ∙ c.if-not-opens.false in
     let not : job_named j ≢ Some (other_log c.args.side) = λ e. live g at.After-take on (sym is ∙ e) in
     crash_failed _ _ c.from_residual-in_err-shut.ensures.1
     (elim (cases_Bool (is_open (j.start.block (other_log c.args.side) 0))) [
@@ -89,8 +90,8 @@ returns-in_err-shut-clause-crash g c j good is same =
 pub returns-clause-crash : goal.returns-clause-crash
 returns-clause-crash g c j good is same =
     let at = goal.at.returns-clause-crash g c in
-    let on : c.take.result ≡ Ok true = cc in
-    let opened : is_open c.take.new.into ≡ true = cc in
+    let on = c.in_ok-read.was ∙ ap Ok c.if-not-read.false in
+    let opened = sym c.opens.ensures ∙ c.if-not-opens.false in
     let not : job_named j ≢ Some (other_log c.args.side) = λ e. live g at.After-take on (sym is ∙ e) in
     elim (cases_Bool (is_open (j.start.block (other_log c.args.side) 0))) [
       | inl open_then ↦ crash_upto (λ s a. inr a) (crash_after (taken g at.After-take j) (c.in_ok-shut.ensures.crash j good is same not open_then))
@@ -110,12 +111,12 @@ returns-in_err-read-clause-part g c =
 pub returns-then-not-read-clause-part : goal.returns-then-not-read-clause-part
 returns-then-not-read-clause-part g c =
     let at = goal.at.returns-then-not-read-clause-part g c in
-    CommitPart_answer tt (heard g at.After-take false (cc))
+    CommitPart_answer tt (heard g at.After-take false (c.in_ok-read.was ∙ ap Ok c.if-not-read.true))
 
 pub returns-then-not-opens-clause-part : goal.returns-then-not-opens-clause-part
 returns-then-not-opens-clause-part g c =
     let at = goal.at.returns-then-not-opens-clause-part g c in
-    CommitPart_answer tt (heard g at.After-take true (cc))
+    CommitPart_answer tt (heard g at.After-take true (c.in_ok-read.was ∙ ap Ok c.if-not-read.false))
 
 pub returns-in_err-shut-clause-part : goal.returns-in_err-shut-clause-part
 returns-in_err-shut-clause-part g c =
@@ -132,3 +133,18 @@ returns-clause-part g c =
 pub shut-requires-clause-log : goal.shut-requires-clause-log
 shut-requires-clause-log g c =
     log_stays_ready c.take.ensures.part.lasts c.requires.log
+
+pub returns-in_err-read-clause-still_synced : goal.returns-in_err-read-clause-still_synced
+returns-in_err-read-clause-still_synced g c = raised_ok _ _ c.from_residual.result c.from_residual.ensures.1
+
+pub returns-in_err-shut-clause-still_synced : goal.returns-in_err-shut-clause-still_synced
+returns-in_err-shut-clause-still_synced g c = raised_ok _ _ c.from_residual-in_err-shut.result c.from_residual-in_err-shut.ensures.1
+
+pub returns-then-not-read-clause-still_synced : goal.returns-then-not-read-clause-still_synced
+returns-then-not-read-clause-still_synced g c = c.take.ensures.still_synced
+
+pub returns-then-not-opens-clause-still_synced : goal.returns-then-not-opens-clause-still_synced
+returns-then-not-opens-clause-still_synced g c = c.take.ensures.still_synced
+
+pub returns-clause-still_synced : goal.returns-clause-still_synced
+returns-clause-still_synced g c = StaySyncedBut-both (λ d. ⊥) _ _ _ _ _ _ c.take.ensures.part.lasts c.shut.ensures.part.lasts c.take.ensures.still_synced c.in_ok-shut.ensures.still_synced

@@ -1,8 +1,9 @@
 use Rattle.std.proofs.Common.{arith, sym, ◌∙◌}
 use Rattle.paraid_image.proofs.NeutralLemmas.{length-targets}
-use Rattle.paraid_txn.proofs.ReadyLemmas.{log_stays_ready}
+use Rattle.paraid_txn.proofs.DownLemmas.{AreCommitCalls-then, StaySyncedBut-both}
+use Rattle.paraid_txn.proofs.ReadyLemmas.{log_stays_ready, targets_stay_ready}
 use Rattle.paraid_txn.proofs.ResumeStagesLemmas.{resuming_late}
-use Rattle.paraid_txn.proofs.CommitPartLemmas.{CommitPart_logs, CommitPart_raised, CommitPart_targets, CommitPart_then}
+use Rattle.paraid_txn.proofs.CommitPartLemmas.{CommitPart_logs, CommitPart_raised, CommitPart_targets, CommitPart_then, raised_ok}
 use Rattle.paraid_txn.proofs.CrashSpecificationLemmas.{crash_milder, crash_raised, crash_then}
 use Rattle.paraid_txn.proofs.resume.resume_open.Goals as goal
 
@@ -61,3 +62,21 @@ returns-clause-part g c =
 pub finish-requires-clause-log : goal.finish-requires-clause-log
 finish-requires-clause-log g c =
     log_stays_ready c.lay_all.ensures.part.lasts (log_stays_ready c.catch_up.ensures.part.lasts (rw c.named-named.ensures c.requires.log))
+
+pub returns-in_err-catch_up-clause-still_synced : goal.returns-in_err-catch_up-clause-still_synced
+returns-in_err-catch_up-clause-still_synced g c = raised_ok _ _ c.from_residual.result c.from_residual.ensures.1
+
+pub returns-in_err-lay_all-clause-still_synced : goal.returns-in_err-lay_all-clause-still_synced
+returns-in_err-lay_all-clause-still_synced g c = raised_ok _ _ c.from_residual-in_err-lay_all.result c.from_residual-in_err-lay_all.ensures.1
+
+pub returns-in_err-finish-clause-still_synced : goal.returns-in_err-finish-clause-still_synced
+returns-in_err-finish-clause-still_synced g c = raised_ok _ _ c.from_residual-in_err-finish.result c.from_residual-in_err-finish.ensures.1
+
+pub returns-clause-still_synced : goal.returns-clause-still_synced
+returns-clause-still_synced g c =
+    let to_lay_all = AreCommitCalls-then _ _ _ _ _ _ c.catch_up.ensures.part.lasts c.lay_all.ensures.part.lasts in
+    StaySyncedBut-both (λ d. ⊥) _ _ _ _ _ _ to_lay_all c.finish.ensures.part.lasts (StaySyncedBut-both (λ d. ⊥) _ _ _ _ _ _ c.catch_up.ensures.part.lasts c.lay_all.ensures.part.lasts c.in_ok-catch_up.ensures.still_synced c.in_ok-lay_all.ensures.still_synced) c.in_ok-finish.ensures.still_synced
+
+pub lay_all-requires-clause-ready : goal.lay_all-requires-clause-ready
+lay_all-requires-clause-ready g c =
+    rw c.gone.ensures (targets_stay_ready _ _ _ _ c.catch_up.ensures.part.lasts c.catch_up.ensures.slots c.requires.ready)

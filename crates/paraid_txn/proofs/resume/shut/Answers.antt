@@ -1,4 +1,5 @@
-use Rattle.paraid_txn.proofs.CommitPartLemmas.{CommitPart_log, CommitPart_raised, CommitPart_then}
+use Rattle.paraid_txn.proofs.DownLemmas.{StaySyncedBut-both}
+use Rattle.paraid_txn.proofs.CommitPartLemmas.{CommitPart_log, CommitPart_raised, CommitPart_then, raised_ok}
 use Rattle.paraid_txn.proofs.CrashSpecificationLemmas.{crash_raised, crash_then}
 use Rattle.paraid_txn.proofs.PutSyncedLemmas.{shut_gate_crash, shut_meta_crash}
 use Rattle.paraid_txn.proofs.resume.shut.Goals as goal
@@ -30,3 +31,13 @@ returns-in_err-put_synced-2-clause-part g c =
 
 pub returns-clause-part : goal.returns-clause-part
 returns-clause-part g c = CommitPart_then c.in_ok-put_synced.ensures.part c.in_ok-put_synced-2.ensures.part
+
+pub returns-in_err-put_synced-clause-still_synced : goal.returns-in_err-put_synced-clause-still_synced
+returns-in_err-put_synced-clause-still_synced g c = raised_ok _ _ c.from_residual.result c.from_residual.ensures.1
+
+pub returns-in_err-put_synced-2-clause-still_synced : goal.returns-in_err-put_synced-2-clause-still_synced
+returns-in_err-put_synced-2-clause-still_synced g c = raised_ok _ _ c.from_residual-in_err-put_synced-2.result c.from_residual-in_err-put_synced-2.ensures.1
+
+pub returns-clause-still_synced : goal.returns-clause-still_synced
+returns-clause-still_synced g c =
+    StaySyncedBut-both (λ d. ⊥) _ _ _ _ _ _ c.put_synced.ensures.part.lasts c.put_synced-2.ensures.part.lasts c.in_ok-put_synced.ensures.still_synced c.in_ok-put_synced-2.ensures.still_synced

@@ -1,9 +1,10 @@
-use Rattle.std.proofs.Common.{◌≡◌, ◌∙◌, ◌⊎◌, Some, inl, inr}
+use Rattle.std.proofs.Common.{◌≡◌, ◌∙◌, ◌⊎◌, Some, inl, inr, ℕ, ◌<◌, ◌≢◌, Option, subst, sym, ap}
 use Rattle.paraid_base.proofs.SumsLemmas.{two_read, two_skip}
 use Rattle.paraid_image.specs.Value.{near}
-use Rattle.paraid_txn.specs.Stores.{store_rack}
-use Rattle.paraid_view.specs.Reads.{seen_by}
-use Rattle.paraid_view.proofs.ReadLemmas.{off_none}
+use Rattle.paraid_txn.specs.Stores.{store_rack, disks_of}
+use Rattle.paraid_view.proofs.ValueLemmas.{err_again, ok_never, same_disk}
+use Rattle.paraid_view.specs.Reads.{seen_by, HaveRead}
+use Rattle.paraid_view.proofs.ReadLemmas.{off_none, lost_again, read_none}
 use Rattle.paraid_view.proofs.cell.add_near.Goals as goal
 use Rattle.paraid_view.proofs.cell.add_near.Goals.{then-d-out-via-then-d-out, then-d-out-via-else-d-out+then-d-skipped}
 
@@ -26,3 +27,37 @@ returns-in_err-read_near-clause-off g c = c.read_near.ensures.off
 
 pub returns-clause-off : goal.returns-clause-off
 returns-clause-off g c = c.read_near.ensures.off
+
+pub returns-then-d-out-clause-read : goal.returns-then-d-out-clause-read
+returns-then-d-out-clause-read g c = read_none g.R.Rack.slot_count g.R.Rack.slot g.R.Rack.told (disks_of c.args.store.now) c.args.store.now
+
+pub returns-then-d-out-clause-below : goal.returns-then-d-out-clause-below
+returns-then-d-out-clause-below g c = tt
+
+pub returns-clause-below : goal.returns-clause-below
+returns-clause-below g c = tt
+
+pub returns-then-d-out-clause-failed : goal.returns-then-d-out-clause-failed
+returns-then-d-out-clause-failed g c = tt
+
+pub returns-clause-failed : goal.returns-clause-failed
+returns-clause-failed g c = tt
+
+pub returns-clause-read : goal.returns-clause-read
+returns-clause-read g c = c.in_ok-read_near.ensures.read
+
+pub returns-in_err-read_near-clause-read : goal.returns-in_err-read_near-clause-read
+returns-in_err-read_near-clause-read g c =
+    subst (λ (lost : Option ℕ). HaveRead g.R.Rack.slot_count g.R.Rack.slot g.R.Rack.told (disks_of c.args.store.now) lost c.args.store.now c.read_near.new.store) (sym (lost_again _ _ c.from_residual.ensures.1)) c.in_err-read_near.ensures.read
+
+pub returns-in_err-read_near-clause-below : goal.returns-in_err-read_near-clause-below
+returns-in_err-read_near-clause-below g c = err_again (λ e. e < disks_of c.args.store.now) _ _ c.from_residual.ensures.1 c.in_err-read_near.ensures.below
+
+pub returns-in_err-read_near-clause-failed : goal.returns-in_err-read_near-clause-failed
+returns-in_err-read_near-clause-failed g c = err_again (λ e. c.args.out ≢ e) _ _ c.from_residual.ensures.1 (λ is. c.in_err-read_near.ensures.failed (ap Some is))
+
+pub returns-in_err-read_near-clause-value : goal.returns-in_err-read_near-clause-value
+returns-in_err-read_near-clause-value g c = ok_never _ _ c.from_residual.result c.from_residual.ensures.1
+
+pub read_near-requires-clause-near : goal.read_near-requires-clause-near
+read_near-requires-clause-near g c = λ f hard is. c.if-d-out.false (sym (same_disk is))

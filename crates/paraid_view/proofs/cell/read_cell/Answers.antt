@@ -1,8 +1,13 @@
-use Rattle.std.proofs.Common.{◌++◌, ◌≡◌, ℕ, ◌∙◌, Some, None, refl, sym, ap, inl}
+use Rattle.std.proofs.Common.{◌++◌, ◌≡◌, ℕ, ◌∙◌, Some, None, refl, sym, ap, inl, ◌<◌, ◌≤◌, Option, subst}
 use Rattle.paraid_dirty.specs.Table.{is_dirty}
 use Rattle.paraid_image.specs.Out.{out_disk}
 use Rattle.paraid_txn.specs.Stores.{disks_of, store_rack}
 use Rattle.paraid_image.proofs.ViewLemmas.{value_same}
+use Rattle.paraid_rack.specs.Slots.{Slot}
+use Rattle.paraid_base.specs.Regions.{disk_size}
+use Rattle.paraid_image.specs.Value.{value}
+use Rattle.paraid_view.proofs.ValueLemmas.{no_disk, same_disk}
+use Rattle.paraid_view.specs.Reads.{CanRead, seen_by}
 use Rattle.paraid_view.proofs.ReadLemmas.{off_nobody, off_same, shows_after}
 use Rattle.paraid_view.proofs.TwoLemmas.{read_beside, two_beside, two_lost}
 use Rattle.paraid_view.proofs.cell.read_cell.Goals as goal
@@ -47,3 +52,66 @@ returns-in_default-clause-off g c = off_same _ _ _ _ (sym c.out_of-out.ensures) 
 
 pub returns-in-Some-clause-off : goal.returns-in-Some-clause-off
 returns-in-Some-clause-off g c = off_same _ _ _ _ (sym c.out_of-out.ensures) c.read_value.ensures.off
+
+pub returns-in-Some-clause-read : goal.returns-in-Some-clause-read
+returns-in-Some-clause-read g c = tt
+
+pub returns-in-Some-clause-below : goal.returns-in-Some-clause-below
+returns-in-Some-clause-below g c = tt
+
+pub returns-in-Some-clause-one : goal.returns-in-Some-clause-one
+returns-in-Some-clause-one g c = tt
+
+pub returns-in-Some-clause-value : goal.returns-in-Some-clause-value
+returns-in-Some-clause-value g c = tt
+
+pub returns-in-Err-read_value-clause-read : goal.returns-in-Err-read_value-clause-read
+returns-in-Err-read_value-clause-read g c = tt
+
+pub returns-in-Err-read_value-clause-below : goal.returns-in-Err-read_value-clause-below
+returns-in-Err-read_value-clause-below g c = tt
+
+pub returns-in-Err-read_value-clause-one : goal.returns-in-Err-read_value-clause-one
+returns-in-Err-read_value-clause-one g c = tt
+
+pub returns-in-Err-read_value-clause-value : goal.returns-in-Err-read_value-clause-value
+returns-in-Err-read_value-clause-value g c = tt
+
+pub returns-in_default-clause-two : goal.returns-in_default-clause-two
+returns-in_default-clause-two g c = tt
+
+pub returns-in-Ok-clause-two : goal.returns-in-Ok-clause-two
+returns-in-Ok-clause-two g c = tt
+
+pub returns-in_default-clause-read : goal.returns-in_default-clause-read
+returns-in_default-clause-read g c = c.in_default.ensures.read
+
+pub returns-in_default-clause-below : goal.returns-in_default-clause-below
+returns-in_default-clause-below g c = λ e is. absurd (no_disk is)
+
+pub returns-in_default-clause-one : goal.returns-in_default-clause-one
+returns-in_default-clause-one g c = λ e is. absurd (no_disk is)
+
+pub returns-in_default-clause-value : goal.returns-in_default-clause-value
+returns-in_default-clause-value g c f shows some rows stripes =
+    subst (λ (o : Option ℕ). c.read_value.new.into ≡ value (seen_by c.args.meta.now c.args.dirty.now o f) c.args.r c.args.d) c.out_of-out.ensures (c.in_default.ensures.value f shows some)
+
+pub returns-in-Ok-clause-below : goal.returns-in-Ok-clause-below
+returns-in-Ok-clause-below g c = λ e is. subst (λ (k : ℕ). k < disks_of c.args.store.now) (same_disk is) c.in-Err.ensures.below
+
+pub returns-in-Ok-clause-one : goal.returns-in-Ok-clause-one
+returns-in-Ok-clause-one g c = λ e is. sym c.out_of-out.ensures ∙ c.in_default-out.is
+
+pub read_value-requires-clause-ready : goal.read_value-requires-clause-ready
+read_value-requires-clause-ready g c = subst (λ (o : Option ℕ). CanRead (g.R.Rack.slot_count (store_rack c.args.store.now)) (g.R.Rack.slot (store_rack c.args.store.now)) c.args.meta.now o) (sym c.out_of-out.ensures) c.requires.ready
+
+pub read_value-requires-2-clause-ready : goal.read_value-requires-2-clause-ready
+read_value-requires-2-clause-ready g c =
+    let none : out_disk (λ e. (g.R.Rack.slot (store_rack c.args.store.now) e).power) c.args.meta.now ≡ None = sym c.out_of-out.ensures ∙ c.in_default-out.is in
+    let left = c.in-Err.ensures.read.left in
+    let ready = c.requires.ready in
+    record {
+      enough = subst (λ (n : ℕ). c.args.meta.now.setup.geometry.disks ≤ n) (sym c.in-Err.ensures.read.slots) ready.enough;
+      spins = λ d on not. ap (λ (s : Slot). s.power) (left.others d not) ∙ ready.spins d on (λ is. no_disk (sym none ∙ is));
+      large = λ d on not. subst (λ (s : Slot). disk_size c.args.meta.now.setup.geometry ≤ s.size) (sym (left.others d not)) (ready.large d on (λ is. no_disk (sym none ∙ is)));
+    }

@@ -53,3 +53,30 @@ returns-then-is_hard-clause-off g c =
 
 pub returns-clause-off : goal.returns-clause-off
 returns-clause-off g c = c.read_soft.ensures.off
+
+pub returns-then-is_hard-clause-read : goal.returns-then-is_hard-clause-read
+returns-then-is_hard-clause-read g c = c.read_laid.ensures.read
+
+pub returns-then-is_hard-clause-below : goal.returns-then-is_hard-clause-below
+returns-then-is_hard-clause-below g c = c.read_laid.ensures.below
+
+pub returns-clause-read : goal.returns-clause-read
+returns-clause-read g c = c.read_soft.ensures.read
+
+pub returns-clause-below : goal.returns-clause-below
+returns-clause-below g c = c.read_soft.ensures.below
+
+pub returns-clause-failed : goal.returns-clause-failed
+returns-clause-failed g c = c.read_soft.ensures.failed
+
+pub read_laid-requires-clause-exists : goal.read_laid-requires-clause-exists
+read_laid-requires-clause-exists g c = let enough = c.requires.ready.enough in let low = c.requires.disk in omega (arith, enough, low)
+
+pub read_laid-requires-clause-below : goal.read_laid-requires-clause-below
+read_laid-requires-clause-below g c = let array = c.requires.array in let low = c.requires.disk in omega (arith, array, low)
+
+pub read_laid-requires-clause-past_log : goal.read_laid-requires-clause-past_log
+read_laid-requires-clause-past_log g c = let after = c.hard_place.ensures.after_map in omega (arith, after)
+
+pub read_soft-requires-clause-parked : goal.read_soft-requires-clause-parked
+read_soft-requires-clause-parked g c = c.is_hard.ensures.parked c.if-is_hard.false

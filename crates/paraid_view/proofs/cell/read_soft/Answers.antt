@@ -1,12 +1,12 @@
-use Rattle.std.proofs.Common.{◌≡◌, ◌≢◌, ℕ, ◌≤◌, ◌∙◌, Some, sym, ap, arith, inl}
+use Rattle.std.proofs.Common.{◌≡◌, ◌≢◌, ℕ, ◌≤◌, ◌∙◌, Some, sym, ap, arith, inl, subst, Option}
 use Rattle.std.proofs.lemmas.Bool.{false≢true}
 use Rattle.paraid_base.specs.Regions.{disk_size, soft_place_of}
 use Rattle.paraid_base.specs.Soft.{soft_disk, soft_stripe}
 use Rattle.paraid_txn.specs.Stores.{store_rack}
 use Rattle.paraid_image.specs.Value.{stripe_rest}
-use Rattle.paraid_view.specs.Reads.{seen_by}
+use Rattle.paraid_view.specs.Reads.{CanRead, seen_by}
 use Rattle.paraid_view.proofs.ReadLemmas.{off_same}
-use Rattle.paraid_view.proofs.ValueLemmas.{ok_map, soft_out, soft_there}
+use Rattle.paraid_view.proofs.ValueLemmas.{ok_map, soft_out, soft_there, err_map, same_disk}
 use Rattle.paraid_view.proofs.cell.read_soft.Goals as goal
 
 pub returns-then-is_at-clause-value : goal.returns-then-is_at-clause-value
@@ -46,3 +46,44 @@ returns-then-is_at-clause-off g c = off_same c.args.out _ _ _ (c.is_at.ensures.0
 
 pub returns-clause-off : goal.returns-clause-off
 returns-clause-off g c = c.read_laid.ensures.off c.args.out (λ e. false≢true (sym c.if-is_at.false ∙ c.is_at.ensures.1 e))
+
+pub returns-then-is_at-clause-read : goal.returns-then-is_at-clause-read
+returns-then-is_at-clause-read g c = c.read_rest.ensures.read
+
+pub returns-then-is_at-clause-below : goal.returns-then-is_at-clause-below
+returns-then-is_at-clause-below g c = c.read_rest.ensures.below
+
+pub returns-clause-read : goal.returns-clause-read
+returns-clause-read g c = c.read_laid.ensures.read
+
+pub returns-clause-below : goal.returns-clause-below
+returns-clause-below g c = c.read_laid.ensures.below
+
+pub returns-then-is_at-clause-failed : goal.returns-then-is_at-clause-failed
+returns-then-is_at-clause-failed g c =
+    err_map {Q = λ e. c.args.out ≢ Some e} c.read_rest.result (λ e not is. not (same_disk (sym is ∙ c.is_at.ensures.0 c.if-is_at.true))) c.read_rest.ensures.failed
+
+pub returns-clause-failed : goal.returns-clause-failed
+returns-clause-failed g c =
+    err_map {Q = λ e. c.args.out ≢ Some e} c.read_laid.result (λ e is out. false≢true (sym c.if-is_at.false ∙ c.is_at.ensures.1 (out ∙ ap Some is))) c.read_laid.ensures.failed
+
+pub read_rest-requires-clause-ready : goal.read_rest-requires-clause-ready
+read_rest-requires-clause-ready g c =
+    subst (λ (o : Option ℕ). CanRead (g.R.Rack.slot_count (store_rack c.args.store.now)) (g.R.Rack.slot (store_rack c.args.store.now)) c.args.meta.now o) (c.is_at.ensures.0 c.if-is_at.true) c.requires.ready
+
+pub read_rest-requires-clause-stripe : goal.read_rest-requires-clause-stripe
+read_rest-requires-clause-stripe g c = c.soft_of-stripe.ensures.stripe_in
+
+pub read_rest-requires-clause-region : goal.read_rest-requires-clause-region
+read_rest-requires-clause-region g c = let parked = c.requires.parked in let low = c.requires.disk in omega (arith, parked, low)
+
+pub read_laid-requires-clause-exists : goal.read_laid-requires-clause-exists
+read_laid-requires-clause-exists g c =
+    let enough = c.requires.ready.enough in let parked = c.requires.parked in let low = c.requires.disk in let there = c.soft_of-stripe.ensures.below in omega (arith, enough, parked, low, there)
+
+pub read_laid-requires-clause-below : goal.read_laid-requires-clause-below
+read_laid-requires-clause-below g c =
+    let array = c.requires.array in let parked = c.requires.parked in let low = c.requires.disk in let there = c.soft_of-stripe.ensures.below in omega (arith, array, parked, low, there)
+
+pub read_laid-requires-clause-past_log : goal.read_laid-requires-clause-past_log
+read_laid-requires-clause-past_log g c = let after = c.soft_place.ensures.after_hard in omega (arith, after)

@@ -1,11 +1,12 @@
-use Rattle.std.proofs.Common.{◌≡◌, ◌≢◌, ℕ, ◌∙◌, Some, true, sym, ap, Option}
+use Rattle.std.proofs.Common.{◌≡◌, ◌≢◌, ℕ, ◌∙◌, Some, true, sym, ap, Option, subst}
 use Rattle.std.proofs.lemmas.Bool.{false≢true}
 use Rattle.paraid_image.specs.Spot.{is_hard}
 use Rattle.paraid_image.specs.Standing.{Contents}
 use Rattle.paraid_image.specs.Value.{far}
-use Rattle.paraid_view.specs.Reads.{seen_by}
+use Rattle.paraid_txn.specs.Stores.{store_rack}
+use Rattle.paraid_view.specs.Reads.{CanRead, seen_by}
 use Rattle.paraid_view.proofs.ReadLemmas.{off_same}
-use Rattle.paraid_view.proofs.ValueLemmas.{far_is, ok_map, value_far, value_near}
+use Rattle.paraid_view.proofs.ValueLemmas.{far_is, ok_map, value_far, value_near, err_map, same_disk}
 use Rattle.paraid_view.proofs.cell.read_value.Goals.{else-is_at-via-then-is_at+else-is_hard, else-is_at-via-else-is_at}
 use Rattle.paraid_view.proofs.cell.read_value.Goals as goal
 
@@ -33,3 +34,26 @@ returns-then-is_hard-clause-off g c = off_same c.args.out _ _ _ (c.is_at.ensures
 
 pub returns-clause-off : goal.returns-clause-off
 returns-clause-off g c = c.read_near.ensures.off
+
+pub returns-then-is_hard-clause-read : goal.returns-then-is_hard-clause-read
+returns-then-is_hard-clause-read g c = c.read_others.ensures.read
+
+pub returns-then-is_hard-clause-below : goal.returns-then-is_hard-clause-below
+returns-then-is_hard-clause-below g c = c.read_others.ensures.below
+
+pub returns-clause-read : goal.returns-clause-read
+returns-clause-read g c = c.read_near.ensures.read
+
+pub returns-clause-below : goal.returns-clause-below
+returns-clause-below g c = c.read_near.ensures.below
+
+pub returns-clause-failed : goal.returns-clause-failed
+returns-clause-failed g c = c.read_near.ensures.failed
+
+pub returns-then-is_hard-clause-failed : goal.returns-then-is_hard-clause-failed
+returns-then-is_hard-clause-failed g c =
+    err_map {Q = λ e. c.args.out ≢ Some e} c.read_others.result (λ e not is. not (same_disk (sym (c.is_at.ensures.0 c.if-is_at.true) ∙ is))) c.read_others.ensures.failed
+
+pub read_others-requires-clause-ready : goal.read_others-requires-clause-ready
+read_others-requires-clause-ready g c =
+    subst (λ (o : Option ℕ). CanRead (g.R.Rack.slot_count (store_rack c.args.store.now)) (g.R.Rack.slot (store_rack c.args.store.now)) c.args.meta.now o) (c.is_at.ensures.0 c.if-is_at.true) c.requires.ready

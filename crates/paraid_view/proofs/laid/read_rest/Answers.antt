@@ -1,7 +1,9 @@
-use Rattle.std.proofs.Common.{◌++◌, ◌≡◌, ℕ, ◌+◌, ◌∙◌, None, Some, sym, subst}
+use Rattle.std.proofs.Common.{◌++◌, ◌≡◌, ℕ, ◌+◌, ◌∙◌, None, Some, sym, subst, ◌<◌, ◌≢◌, ap, arith, inl}
 use Rattle.paraid_base.proofs.SumsLemmas.{others_none}
 use Rattle.paraid_base.specs.Sums.{without, xor_upto}
 use Rattle.paraid_txn.specs.Stores.{disks_of, store_rack}
+use Rattle.paraid_rack.specs.Slots.{Slot}
+use Rattle.paraid_view.proofs.ValueLemmas.{err_again, no_disk, ok_never, same_disk}
 use Rattle.paraid_view.proofs.ReadLemmas.{off_none, off_then, read_failed, read_none, read_then, shows_after, told_before}
 use Rattle.paraid_view.proofs.laid.read_rest.Goals as goal
 
@@ -38,3 +40,37 @@ returns-in_err-add_block-clause-off g c = off_then (Some c.args.skipped) _ _ _ c
 
 pub returns-clause-off : goal.returns-clause-off
 returns-clause-off g c = c.loop-disk.invariant.off
+
+pub add_block-requires-clause-spinning : goal.add_block-requires-clause-spinning
+add_block-requires-clause-spinning g c = λ apart.
+    let low : c.loop-disk.disk < c.args.meta.now.gear = omega arith in
+    ap (λ (s : Slot). s.power) (c.loop-disk.invariant.read.left.others c.loop-disk.disk no_disk) ∙ c.requires.ready.spins c.loop-disk.disk (inl low) (λ is. apart (sym (same_disk is)))
+
+pub add_block-requires-clause-within : goal.add_block-requires-clause-within
+add_block-requires-clause-within g c = λ apart.
+    let low : c.loop-disk.disk < c.args.meta.now.gear = omega arith in
+    let same = ap (λ (s : Slot). s.size) (c.loop-disk.invariant.read.left.others c.loop-disk.disk no_disk) in
+    let large = c.requires.ready.large c.loop-disk.disk (inl low) (λ is. apart (sym (same_disk is))) in
+    let within = c.soft_place-place.ensures.in_size in omega (arith, same, large, within)
+
+pub add_block-requires-clause-past_log : goal.add_block-requires-clause-past_log
+add_block-requires-clause-past_log g c = let after = c.soft_place-place.ensures.after_hard in omega (arith, after)
+
+pub returns-clause-read : goal.returns-clause-read
+returns-clause-read g c = c.loop-disk.invariant.read
+
+pub returns-clause-below : goal.returns-clause-below
+returns-clause-below g c = tt
+
+pub returns-clause-failed : goal.returns-clause-failed
+returns-clause-failed g c = tt
+
+pub returns-in_err-add_block-clause-below : goal.returns-in_err-add_block-clause-below
+returns-in_err-add_block-clause-below g c =
+    err_again (λ e. e < disks_of c.args.store.now) _ _ c.from_residual.ensures.1 (subst (λ (n : ℕ). c.in_err-add_block.field-0.0 < n) c.loop-disk.invariant.read.same.disks c.in_err-add_block.ensures.below)
+
+pub returns-in_err-add_block-clause-failed : goal.returns-in_err-add_block-clause-failed
+returns-in_err-add_block-clause-failed g c = err_again (λ e. e ≢ c.args.skipped) _ _ c.from_residual.ensures.1 c.in_err-add_block.ensures.failed.1
+
+pub returns-in_err-add_block-clause-value : goal.returns-in_err-add_block-clause-value
+returns-in_err-add_block-clause-value g c = ok_never _ _ c.from_residual.result c.from_residual.ensures.1

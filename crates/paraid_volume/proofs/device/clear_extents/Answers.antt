@@ -70,3 +70,12 @@ pub returns-in_err-clear_extent-clause-clears : goal.returns-in_err-clear_extent
 returns-in_err-clear_extent-clause-clears g c =
     let p = err_from_is_err_and c.from_residual.result c.from_residual.ensures.1 in
     rw p.1 tt
+
+pub clear_extent-requires-clause-none : goal.clear_extent-requires-clause-none
+clear_extent-requires-clause-none g c = c.loop-extent.invariant.none
+
+pub clear_extent-requires-clause-size : goal.clear_extent-requires-clause-size
+clear_extent-requires-clause-size g c = c.requires.size
+
+pub clear_extent-requires-clause-few : goal.clear_extent-requires-clause-few
+clear_extent-requires-clause-few g c = let below = c.loop-extent-test.true in let few = c.requires.few in omega (arith, below, few)

@@ -8,6 +8,7 @@ use Rattle.paraid_core.specs.Plans.{base_of}
 use Rattle.paraid_core.proofs.PlanLemmas.{base_same, desk_same, shows_desk}
 use Rattle.paraid_image.specs.Out.{named_out}
 use Rattle.paraid_core.proofs.LeadsLemmas.{leads_read}
+use Rattle.std.proofs.Common.{refl}
 use Rattle.paraid_core.proofs.plan.CorePlan.stored.Goals as goal
 
 pub returns-in_default-clause-ok : goal.returns-in_default-clause-ok
@@ -37,3 +38,33 @@ returns-clause-leads g c =
     let not_out : named_out old.meta.out ≢ Some c.args.disk = (λ is. c.requires.not_out (serves.out ∙ is)) in
     leads_read g.R.Rack.slot_count g.R.Rack.slot g.R.Rack.told old serves.whole c.read_laid.new.store (Some c.in-Err.failed) c.in-Err.ensures.read (c.read_laid.ensures.off (named_out old.meta.out) not_out)
     (λ e is. let y : c.in-Err.failed ≡ e = cc in (subst (λ (z : ℕ). z < disks_of old.store) y c.in-Err.ensures.below, λ k. not_out (k ∙ ap Some (sym y ∙ c.in-Err.ensures.failed)))) (Some c.in-Err.failed) refl
+
+pub returns-clause-ok : goal.returns-clause-ok
+returns-clause-ok g c = tt
+
+pub returns-clause-same : goal.returns-clause-same
+returns-clause-same g c = tt
+
+pub returns-clause-bits : goal.returns-clause-bits
+returns-clause-bits g c = tt
+
+pub returns-clause-staged : goal.returns-clause-staged
+returns-clause-staged g c = tt
+
+pub returns-clause-changes : goal.returns-clause-changes
+returns-clause-changes g c = tt
+
+pub returns-clause-goes_on : goal.returns-clause-goes_on
+returns-clause-goes_on g c = tt
+
+pub returns-in_default-clause-bits : goal.returns-in_default-clause-bits
+returns-in_default-clause-bits g c = refl
+
+pub returns-in_default-clause-staged : goal.returns-in_default-clause-staged
+returns-in_default-clause-staged g c = refl
+
+pub returns-in_default-clause-changes : goal.returns-in_default-clause-changes
+returns-in_default-clause-changes g c = refl
+
+pub returns-in_default-clause-fails : goal.returns-in_default-clause-fails
+returns-in_default-clause-fails g c = tt

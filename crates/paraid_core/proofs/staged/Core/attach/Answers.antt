@@ -1,6 +1,6 @@
 use Rattle.std.proofs.Common.{◌∙◌, sym, ap, refl, arith}
 use Rattle.std.specs.Prelude.{is_ok}
-use Rattle.std.proofs.lemmas.Bool.{false≢true}
+use Rattle.std.proofs.lemmas.Bool.{false≢true, true≢false}
 use Rattle.paraid_txn.specs.Stores.{store_rack}
 use Rattle.paraid_core.proofs.AttachLemmas.{attach_stands}
 use Rattle.paraid_core.proofs.staged.Core.attach.Goals as goal
@@ -20,3 +20,60 @@ returns-clause-stands g c h lo =
     let size = c.size-size.ensures in
     attach_stands g.R.Rack.slot_count g.R.Rack.slot g.R.Rack.told old q.ready _ c.args.disk _ _ c.attach.ensures.told (g.met.R.Rack.agrees (store_rack old.store)) q.gone (omega arith) q.nothing
     _ _ _ _ c.attach.ensures.slots c.attach.ensures.same.named (λ is. refl) (λ is. absurd (false≢true (sym is ∙ ap is_ok c.in-Ok.is))) refl h lo
+
+pub returns-in_default-clause-attached : goal.returns-in_default-clause-attached
+returns-in_default-clause-attached g c is = absurd (false≢true is)
+
+pub returns-in_default-clause-fresh : goal.returns-in_default-clause-fresh
+returns-in_default-clause-fresh g c is = absurd (false≢true is)
+
+pub returns-in_default-clause-table : goal.returns-in_default-clause-table
+returns-in_default-clause-table g c = refl
+
+pub returns-in_default-clause-batch : goal.returns-in_default-clause-batch
+returns-in_default-clause-batch g c = refl
+
+pub returns-in_default-clause-copied : goal.returns-in_default-clause-copied
+returns-in_default-clause-copied g c = refl
+
+pub returns-in_default-clause-draft : goal.returns-in_default-clause-draft
+returns-in_default-clause-draft g c = refl
+
+pub returns-in_default-clause-same : goal.returns-in_default-clause-same
+returns-in_default-clause-same g c is = refl
+
+pub returns-clause-lost : goal.returns-clause-lost
+returns-clause-lost g c is = absurd (true≢false is)
+
+pub returns-clause-same : goal.returns-clause-same
+returns-clause-same g c is = absurd (true≢false is)
+
+pub returns-clause-table : goal.returns-clause-table
+returns-clause-table g c = refl
+
+pub returns-clause-batch : goal.returns-clause-batch
+returns-clause-batch g c = refl
+
+pub returns-clause-copied : goal.returns-clause-copied
+returns-clause-copied g c = refl
+
+pub returns-clause-draft : goal.returns-clause-draft
+returns-clause-draft g c = refl
+
+pub returns-in_default-clause-slots : goal.returns-in_default-clause-slots
+returns-in_default-clause-slots g c = c.attach.ensures.slots
+
+pub returns-in_default-clause-store : goal.returns-in_default-clause-store
+returns-in_default-clause-store g c = c.attach.ensures.same
+
+pub returns-in_default-clause-others : goal.returns-in_default-clause-others
+returns-in_default-clause-others g c = c.attach.ensures.slot.others
+
+pub returns-clause-slots : goal.returns-clause-slots
+returns-clause-slots g c = c.attach.ensures.slots
+
+pub returns-clause-store : goal.returns-clause-store
+returns-clause-store g c = c.attach.ensures.same
+
+pub returns-clause-others : goal.returns-clause-others
+returns-clause-others g c = c.attach.ensures.slot.others

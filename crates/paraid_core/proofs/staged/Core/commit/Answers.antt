@@ -25,6 +25,7 @@ use Rattle.paraid_rack.specs.Told.{Ran}
 use Rattle.paraid_image.specs.Lost.{TellsLosses}
 use Rattle.paraid_core.proofs.staged.Core.commit.Given.{Over}
 use Rattle.paraid_core.proofs.staged.Core.commit.Goals as goal
+use Rattle.paraid_core.proofs.ErrLemmas.{none_done}
 use Rattle.paraid_core.proofs.staged.Core.commit.Goals.{In_ok-lose}
 
 pub returns-clause-moments : goal.returns-clause-moments
@@ -255,3 +256,141 @@ pub returns-in_err-lose-clause-tells : goal.returns-in_err-lose-clause-tells
 returns-in_err-lose-clause-tells g c =
     let both = c.in_err-lose.ensures.two in
     absurd (both.2 ((c.in_ok-lost.ensures.alone _ both.0).alone _ (is_named both.1)))
+
+pub returns-in_err-lost-clause-ready : goal.returns-in_err-lost-clause-ready
+returns-in_err-lost-clause-ready g c = none_done _ c.from_residual.result _ c.from_residual.ensures.1
+
+pub returns-in_err-lose-clause-ready : goal.returns-in_err-lose-clause-ready
+returns-in_err-lose-clause-ready g c = none_done _ c.from_residual-in_err-lose.result _ c.from_residual-in_err-lose.ensures.1
+
+pub returns-in_err-lost-clause-serves : goal.returns-in_err-lost-clause-serves
+returns-in_err-lost-clause-serves g c = none_done _ c.from_residual.result _ c.from_residual.ensures.1
+
+pub returns-in_err-lose-clause-serves : goal.returns-in_err-lose-clause-serves
+returns-in_err-lose-clause-serves g c = none_done _ c.from_residual-in_err-lose.result _ c.from_residual-in_err-lose.ensures.1
+
+pub returns-in_err-lost-clause-serves_again : goal.returns-in_err-lost-clause-serves_again
+returns-in_err-lost-clause-serves_again g c = none_done _ c.from_residual.result _ c.from_residual.ensures.1
+
+pub returns-in_err-lose-clause-serves_again : goal.returns-in_err-lose-clause-serves_again
+returns-in_err-lose-clause-serves_again g c = none_done _ c.from_residual-in_err-lose.result _ c.from_residual-in_err-lose.ensures.1
+
+pub returns-in_err-lost-clause-setup : goal.returns-in_err-lost-clause-setup
+returns-in_err-lost-clause-setup g c = none_done _ c.from_residual.result _ c.from_residual.ensures.1
+
+pub returns-in_err-lose-clause-setup : goal.returns-in_err-lose-clause-setup
+returns-in_err-lose-clause-setup g c = none_done _ c.from_residual-in_err-lose.result _ c.from_residual-in_err-lose.ensures.1
+
+pub returns-in_err-lost-clause-writes : goal.returns-in_err-lost-clause-writes
+returns-in_err-lost-clause-writes g c = none_done _ c.from_residual.result _ c.from_residual.ensures.1
+
+pub returns-in_err-lose-clause-writes : goal.returns-in_err-lose-clause-writes
+returns-in_err-lose-clause-writes g c = none_done _ c.from_residual-in_err-lose.result _ c.from_residual-in_err-lose.ensures.1
+
+pub returns-in_err-lost-clause-meta : goal.returns-in_err-lost-clause-meta
+returns-in_err-lost-clause-meta g c = none_done _ c.from_residual.result _ c.from_residual.ensures.1
+
+pub returns-in_err-lose-clause-meta : goal.returns-in_err-lose-clause-meta
+returns-in_err-lose-clause-meta g c = none_done _ c.from_residual-in_err-lose.result _ c.from_residual-in_err-lose.ensures.1
+
+pub returns-in_err-lost-clause-still_synced : goal.returns-in_err-lost-clause-still_synced
+returns-in_err-lost-clause-still_synced g c = none_done _ c.from_residual.result _ c.from_residual.ensures.1
+
+pub returns-in_err-lose-clause-still_synced : goal.returns-in_err-lose-clause-still_synced
+returns-in_err-lose-clause-still_synced g c = none_done _ c.from_residual-in_err-lose.result _ c.from_residual-in_err-lose.ensures.1
+
+pub returns-in_err-lost-clause-unsynced : goal.returns-in_err-lost-clause-unsynced
+returns-in_err-lost-clause-unsynced g c = none_done _ c.from_residual.result _ c.from_residual.ensures.1
+
+pub returns-in_err-lose-clause-unsynced : goal.returns-in_err-lose-clause-unsynced
+returns-in_err-lose-clause-unsynced g c = none_done _ c.from_residual-in_err-lose.result _ c.from_residual-in_err-lose.ensures.1
+
+pub returns-in_err-lost-clause-rest : goal.returns-in_err-lost-clause-rest
+returns-in_err-lost-clause-rest g c = none_done _ c.from_residual.result _ c.from_residual.ensures.1
+
+pub returns-in_err-lose-clause-rest : goal.returns-in_err-lose-clause-rest
+returns-in_err-lose-clause-rest g c = none_done _ c.from_residual-in_err-lose.result _ c.from_residual-in_err-lose.ensures.1
+
+pub returns-in_err-lost-clause-marks : goal.returns-in_err-lost-clause-marks
+returns-in_err-lost-clause-marks g c = none_done _ c.from_residual.result _ c.from_residual.ensures.1
+
+pub returns-in_err-lose-clause-marks : goal.returns-in_err-lose-clause-marks
+returns-in_err-lose-clause-marks g c = none_done _ c.from_residual-in_err-lose.result _ c.from_residual-in_err-lose.ensures.1
+
+pub returns-in_err-lost-clause-epoch : goal.returns-in_err-lost-clause-epoch
+returns-in_err-lost-clause-epoch g c = none_done _ c.from_residual.result _ c.from_residual.ensures.1
+
+pub returns-in_err-lose-clause-epoch : goal.returns-in_err-lose-clause-epoch
+returns-in_err-lose-clause-epoch g c = none_done _ c.from_residual-in_err-lose.result _ c.from_residual-in_err-lose.ensures.1
+
+pub returns-in_err-lost-clause-cleans_less : goal.returns-in_err-lost-clause-cleans_less
+returns-in_err-lost-clause-cleans_less g c = none_done _ c.from_residual.result _ c.from_residual.ensures.1
+
+pub returns-in_err-lose-clause-cleans_less : goal.returns-in_err-lose-clause-cleans_less
+returns-in_err-lose-clause-cleans_less g c = none_done _ c.from_residual-in_err-lose.result _ c.from_residual-in_err-lose.ensures.1
+
+pub returns-in_err-lost-clause-nothing : goal.returns-in_err-lost-clause-nothing
+returns-in_err-lost-clause-nothing g c = none_done _ c.from_residual.result _ c.from_residual.ensures.1
+
+pub returns-in_err-lose-clause-nothing : goal.returns-in_err-lose-clause-nothing
+returns-in_err-lose-clause-nothing g c = none_done _ c.from_residual-in_err-lose.result _ c.from_residual-in_err-lose.ensures.1
+
+pub returns-in_err-lost-clause-named : goal.returns-in_err-lost-clause-named
+returns-in_err-lost-clause-named g c = none_done _ c.from_residual.result _ c.from_residual.ensures.1
+
+pub returns-in_err-lose-clause-named : goal.returns-in_err-lose-clause-named
+returns-in_err-lose-clause-named g c = none_done _ c.from_residual-in_err-lose.result _ c.from_residual-in_err-lose.ensures.1
+
+pub returns-in_err-lost-clause-alone : goal.returns-in_err-lost-clause-alone
+returns-in_err-lost-clause-alone g c = none_done _ c.from_residual.result _ c.from_residual.ensures.1
+
+pub returns-in_err-lose-clause-alone : goal.returns-in_err-lose-clause-alone
+returns-in_err-lose-clause-alone g c = none_done _ c.from_residual-in_err-lose.result _ c.from_residual-in_err-lose.ensures.1
+
+pub returns-in_err-lost-clause-down : goal.returns-in_err-lost-clause-down
+returns-in_err-lost-clause-down g c = none_done _ c.from_residual.result _ c.from_residual.ensures.1
+
+pub returns-in_err-lose-clause-down : goal.returns-in_err-lose-clause-down
+returns-in_err-lose-clause-down g c = none_done _ c.from_residual-in_err-lose.result _ c.from_residual-in_err-lose.ensures.1
+
+pub returns-in_err-lost-clause-stands : goal.returns-in_err-lost-clause-stands
+returns-in_err-lost-clause-stands g c = none_done _ c.from_residual.result _ c.from_residual.ensures.1
+
+pub returns-in_err-lose-clause-stands : goal.returns-in_err-lose-clause-stands
+returns-in_err-lose-clause-stands g c = none_done _ c.from_residual-in_err-lose.result _ c.from_residual-in_err-lose.ensures.1
+
+pub returns-in_err-lost-clause-filled : goal.returns-in_err-lost-clause-filled
+returns-in_err-lost-clause-filled g c = none_done _ c.from_residual.result _ c.from_residual.ensures.1
+
+pub returns-in_err-lose-clause-filled : goal.returns-in_err-lose-clause-filled
+returns-in_err-lose-clause-filled g c = none_done _ c.from_residual-in_err-lose.result _ c.from_residual-in_err-lose.ensures.1
+
+pub returns-in_err-lost-clause-since : goal.returns-in_err-lost-clause-since
+returns-in_err-lost-clause-since g c = none_done _ c.from_residual.result _ c.from_residual.ensures.1
+
+pub returns-in_err-lose-clause-since : goal.returns-in_err-lose-clause-since
+returns-in_err-lose-clause-since g c = none_done _ c.from_residual-in_err-lose.result _ c.from_residual-in_err-lose.ensures.1
+
+pub returns-in_err-lost-clause-filled_since : goal.returns-in_err-lost-clause-filled_since
+returns-in_err-lost-clause-filled_since g c = none_done _ c.from_residual.result _ c.from_residual.ensures.1
+
+pub returns-in_err-lose-clause-filled_since : goal.returns-in_err-lose-clause-filled_since
+returns-in_err-lose-clause-filled_since g c = none_done _ c.from_residual-in_err-lose.result _ c.from_residual-in_err-lose.ensures.1
+
+pub returns-in_err-lost-clause-committed : goal.returns-in_err-lost-clause-committed
+returns-in_err-lost-clause-committed g c = none_done _ c.from_residual.result _ c.from_residual.ensures.1
+
+pub returns-in_err-lose-clause-committed : goal.returns-in_err-lose-clause-committed
+returns-in_err-lose-clause-committed g c = none_done _ c.from_residual-in_err-lose.result _ c.from_residual-in_err-lose.ensures.1
+
+pub returns-in_err-lost-clause-absent : goal.returns-in_err-lost-clause-absent
+returns-in_err-lost-clause-absent g c = none_done _ c.from_residual.result _ c.from_residual.ensures.1
+
+pub returns-in_err-lose-clause-absent : goal.returns-in_err-lose-clause-absent
+returns-in_err-lose-clause-absent g c = none_done _ c.from_residual-in_err-lose.result _ c.from_residual-in_err-lose.ensures.1
+
+pub returns-clause-two : goal.returns-clause-two
+returns-clause-two g c = tt
+
+pub returns-clause-tells : goal.returns-clause-tells
+returns-clause-tells g c = tt

@@ -6,7 +6,7 @@ use Rattle.paraid_core.specs.declared.staged.Core.{Core}
 use Rattle.paraid_core.specs.Cores.{CoreStandsFor}
 use Rattle.paraid_core.specs.Units.{CopyingUnit, UnitsRebuilt}
 use Rattle.paraid_core.proofs.FillLemmas.{gathered_leaves}
-use Rattle.paraid_core.proofs.StepLemmas.{held_runs_then, leaves_then, runs_then}
+use Rattle.paraid_core.proofs.StepLemmas.{held_runs_then, leaves_then, runs_then, two_then}
 use Rattle.paraid_core.proofs.UnitWriteLemmas.{unit_gathered, unit_reads_held}
 use Rattle.paraid_core.proofs.KindLemmas.{calls_then, calls_whole}
 use Rattle.paraid_txn.specs.Commit.{gone_out}
@@ -18,6 +18,7 @@ use Rattle.paraid_image.specs.Out.{named_out}
 use Rattle.paraid_image.specs.Lost.{TellsLosses}
 use Rattle.paraid_core.proofs.AfterLemmas.{handed}
 use Rattle.paraid_image.proofs.LostLemmas.{ran_beside}
+use Rattle.paraid_core.proofs.ErrLemmas.{err_not_ok, none_done, none_done_as}
 use Rattle.paraid_core.proofs.staged.Core.copy_unit.Goals as goal
 
 pub write_unit-requires-clause-ready : goal.write_unit-requires-clause-ready
@@ -119,3 +120,84 @@ returns-in_err-done-clause-tells g c =
 
 pub returns-clause-tells : goal.returns-clause-tells
 returns-clause-tells g c = ran_beside (named_out c.args.self.now.meta.out) _ _ _ (ap named_out c.requires.fresh) (λ is. c.in-Err.ensures.failed (sym is)) c.in-Err.ensures.read.first
+
+pub returns-in_err-done-clause-leaves : goal.returns-in_err-done-clause-leaves
+returns-in_err-done-clause-leaves g c = none_done _ c.from_residual.result _ c.from_residual.ensures.1
+
+pub returns-in_err-done-clause-marks : goal.returns-in_err-done-clause-marks
+returns-in_err-done-clause-marks g c = none_done _ c.from_residual.result _ c.from_residual.ensures.1
+
+pub returns-in_err-done-clause-same : goal.returns-in_err-done-clause-same
+returns-in_err-done-clause-same g c is = none_done_as _ c.from_residual.result _ _ c.from_residual.ensures.1 is
+
+pub returns-in_err-done-clause-spins : goal.returns-in_err-done-clause-spins
+returns-in_err-done-clause-spins g c is = none_done_as _ c.from_residual.result _ _ c.from_residual.ensures.1 is
+
+pub returns-in_err-done-clause-copied : goal.returns-in_err-done-clause-copied
+returns-in_err-done-clause-copied g c is = none_done_as _ c.from_residual.result _ _ c.from_residual.ensures.1 is
+
+pub returns-in_err-done-clause-gone : goal.returns-in_err-done-clause-gone
+returns-in_err-done-clause-gone g c is = none_done_as _ c.from_residual.result _ _ c.from_residual.ensures.1 is
+
+pub returns-in_err-done-clause-failed : goal.returns-in_err-done-clause-failed
+returns-in_err-done-clause-failed g c is = none_done_as _ c.from_residual.result _ _ c.from_residual.ensures.1 is
+
+pub returns-in_err-done-clause-lost : goal.returns-in_err-done-clause-lost
+returns-in_err-done-clause-lost g c is = none_done_as _ c.from_residual.result _ _ c.from_residual.ensures.1 is
+
+pub returns-in_default-clause-same : goal.returns-in_default-clause-same
+returns-in_default-clause-same g c is = c.in_ok-done.ensures.same is
+
+pub returns-in_default-clause-spins : goal.returns-in_default-clause-spins
+returns-in_default-clause-spins g c is = c.in_ok-done.ensures.spins is
+
+pub returns-in_default-clause-two : goal.returns-in_default-clause-two
+returns-in_default-clause-two g c = tt
+
+pub returns-in_default-clause-tells : goal.returns-in_default-clause-tells
+returns-in_default-clause-tells g c = tt
+
+pub returns-clause-leaves : goal.returns-clause-leaves
+returns-clause-leaves g c = tt
+
+pub returns-clause-marks : goal.returns-clause-marks
+returns-clause-marks g c = tt
+
+pub returns-clause-same : goal.returns-clause-same
+returns-clause-same g c is = err_not_ok _ _ _ is
+
+pub returns-clause-spins : goal.returns-clause-spins
+returns-clause-spins g c is = err_not_ok _ _ _ is
+
+pub returns-clause-copied : goal.returns-clause-copied
+returns-clause-copied g c is = err_not_ok _ _ _ is
+
+pub returns-clause-gone : goal.returns-clause-gone
+returns-clause-gone g c is = err_not_ok _ _ _ is
+
+pub returns-clause-failed : goal.returns-clause-failed
+returns-clause-failed g c is = err_not_ok _ _ _ is
+
+pub returns-clause-lost : goal.returns-clause-lost
+returns-clause-lost g c is = err_not_ok _ _ _ is
+
+pub returns-clause-spared : goal.returns-clause-spared
+returns-clause-spared g c = left_spared _ _ _ c.in-Err.ensures.read.left
+
+pub write_unit-requires-clause-fresh : goal.write_unit-requires-clause-fresh
+write_unit-requires-clause-fresh g c = c.requires.fresh
+
+pub write_unit-requires-clause-unit : goal.write_unit-requires-clause-unit
+write_unit-requires-clause-unit g c = c.requires.unit
+
+pub write_unit-requires-clause-from : goal.write_unit-requires-clause-from
+write_unit-requires-clause-from g c = c.requires.from
+
+pub write_unit-requires-clause-nothing : goal.write_unit-requires-clause-nothing
+write_unit-requires-clause-nothing g c = c.requires.nothing
+
+pub returns-in_err-done-clause-two : goal.returns-in_err-done-clause-two
+returns-in_err-done-clause-two g c =
+    handed _ c.from_residual.result _ c.from_residual.ensures.1
+    (two_then g.R.Rack.slot_count g.R.Rack.slot g.R.Rack.told c.args.self.now (record c.args.self.now { store = c.read_unit.new.store })
+    (gathered_leaves g.R.Rack.slot_count g.R.Rack.slot g.R.Rack.told c.args.self.now c.requires.ready c.read_unit.new.store c.in_default.ensures.read c.requires.serves.stays) c.write_unit.new.self c.write_unit.ensures.spared _ c.in_err-done.ensures.two)

@@ -19,6 +19,7 @@ use Rattle.paraid_rack.specs.Told.{Ran}
 use Rattle.paraid_image.specs.Out.{named_out}
 use Rattle.paraid_image.specs.Lost.{TellsLosses}
 use Rattle.paraid_core.proofs.OrderLemmas.{lose_tells}
+use Rattle.paraid_core.proofs.ErrLemmas.{done_not_dropped, none_done, none_done_as}
 use Rattle.paraid_core.proofs.staged.Core.fill_stripe.Goals as goal
 
 pub returns-in_err-done-clause-spared : goal.returns-in_err-done-clause-spared
@@ -149,3 +150,69 @@ pub returns-in_err-lose-clause-tells : goal.returns-in_err-lose-clause-tells
 returns-in_err-lose-clause-tells g c =
     handed (λ two. Ran (g.R.Rack.told (store_rack c.args.self.now.store)) (g.R.Rack.told (store_rack c.gather.new.store)) (λ s cs. TellsLosses (named_out c.args.self.now.meta.out) two cs)) c.from_residual-in_err-lose.result _ c.from_residual-in_err-lose.ensures.1
     (lose_tells (named_out c.args.self.now.meta.out) (Some c.in-Err.disk) _ _ _ c.in_err-lose.ensures.two c.in-Err.ensures.read.first)
+
+pub returns-in_err-done-clause-leaves : goal.returns-in_err-done-clause-leaves
+returns-in_err-done-clause-leaves g c = none_done _ c.from_residual.result _ c.from_residual.ensures.1
+
+pub returns-in_err-done-clause-marks : goal.returns-in_err-done-clause-marks
+returns-in_err-done-clause-marks g c = none_done _ c.from_residual.result _ c.from_residual.ensures.1
+
+pub returns-in_err-done-clause-same : goal.returns-in_err-done-clause-same
+returns-in_err-done-clause-same g c is = none_done_as _ c.from_residual.result _ _ c.from_residual.ensures.1 is
+
+pub returns-in_err-done-clause-filled : goal.returns-in_err-done-clause-filled
+returns-in_err-done-clause-filled g c is = none_done_as _ c.from_residual.result _ _ c.from_residual.ensures.1 is
+
+pub returns-in_err-done-clause-failed : goal.returns-in_err-done-clause-failed
+returns-in_err-done-clause-failed g c is = none_done_as _ c.from_residual.result _ _ c.from_residual.ensures.1 is
+
+pub returns-in_err-done-clause-lost : goal.returns-in_err-done-clause-lost
+returns-in_err-done-clause-lost g c is = none_done_as _ c.from_residual.result _ _ c.from_residual.ensures.1 is
+
+pub returns-in_default-clause-same : goal.returns-in_default-clause-same
+returns-in_default-clause-same g c is = c.in_ok-done.ensures.same is
+
+pub returns-in_default-clause-two : goal.returns-in_default-clause-two
+returns-in_default-clause-two g c = tt
+
+pub returns-in_default-clause-tells : goal.returns-in_default-clause-tells
+returns-in_default-clause-tells g c = tt
+
+pub returns-in_err-lose-clause-leaves : goal.returns-in_err-lose-clause-leaves
+returns-in_err-lose-clause-leaves g c = none_done _ c.from_residual-in_err-lose.result _ c.from_residual-in_err-lose.ensures.1
+
+pub returns-in_err-lose-clause-marks : goal.returns-in_err-lose-clause-marks
+returns-in_err-lose-clause-marks g c = none_done _ c.from_residual-in_err-lose.result _ c.from_residual-in_err-lose.ensures.1
+
+pub returns-in_err-lose-clause-same : goal.returns-in_err-lose-clause-same
+returns-in_err-lose-clause-same g c is = none_done_as _ c.from_residual-in_err-lose.result _ _ c.from_residual-in_err-lose.ensures.1 is
+
+pub returns-in_err-lose-clause-filled : goal.returns-in_err-lose-clause-filled
+returns-in_err-lose-clause-filled g c is = none_done_as _ c.from_residual-in_err-lose.result _ _ c.from_residual-in_err-lose.ensures.1 is
+
+pub returns-in_err-lose-clause-failed : goal.returns-in_err-lose-clause-failed
+returns-in_err-lose-clause-failed g c is = none_done_as _ c.from_residual-in_err-lose.result _ _ c.from_residual-in_err-lose.ensures.1 is
+
+pub returns-in_err-lose-clause-lost : goal.returns-in_err-lose-clause-lost
+returns-in_err-lose-clause-lost g c is = none_done_as _ c.from_residual-in_err-lose.result _ _ c.from_residual-in_err-lose.ensures.1 is
+
+pub returns-in_err-lose-clause-spared : goal.returns-in_err-lose-clause-spared
+returns-in_err-lose-clause-spared g c = left_spared _ _ _ c.in-Err.ensures.read.left
+
+pub returns-in_err-lose-clause-moments : goal.returns-in_err-lose-clause-moments
+returns-in_err-lose-clause-moments g c h lo = gather_held g.R.Rack.slot_count g.R.Rack.slot g.R.Rack.told c.args.self.now c.requires.ready _ c.in-Err.ensures.read.calls c.args.s h lo
+
+pub returns-clause-same : goal.returns-clause-same
+returns-clause-same g c is = done_not_dropped _ _ is refl
+
+pub returns-clause-filled : goal.returns-clause-filled
+returns-clause-filled g c is = done_not_dropped _ _ is refl
+
+pub returns-clause-spared : goal.returns-clause-spared
+returns-clause-spared g c = left_spared _ _ _ c.in-Err.ensures.read.left
+
+pub returns-clause-two : goal.returns-clause-two
+returns-clause-two g c = tt
+
+pub returns-clause-tells : goal.returns-clause-tells
+returns-clause-tells g c = tt

@@ -26,6 +26,7 @@ use Rattle.paraid_core.proofs.AfterLemmas.{handed}
 use Rattle.paraid_core.proofs.staged.Core.park.Given.{Over}
 use Rattle.paraid_core.proofs.TurnLemmas.{only_turns}
 use Rattle.paraid_core.proofs.staged.Core.park.Goals as goal
+use Rattle.paraid_core.proofs.ErrLemmas.{done_not_dropped, none_done, none_done_as, two_lost}
 use Rattle.paraid_core.proofs.staged.Core.park.Goals.{In_ok-lose}
 
 pub returns-in_default-clause-done : goal.returns-in_default-clause-done
@@ -172,3 +173,83 @@ pub returns-in_err-lose-clause-tells : goal.returns-in_err-lose-clause-tells
 returns-in_err-lose-clause-tells g c =
     handed (λ two. Ran (g.R.Rack.told (store_rack c.args.self.now.store)) (g.R.Rack.told (store_rack c.park.new.self)) (λ s cs. TellsLosses (named_out c.args.self.now.meta.out) two cs)) c.from_residual.result _ c.from_residual.ensures.1
     (call_tells (named_out c.args.self.now.meta.out) _ (Park c.args.disk (is_ok c.park.result)) _ _ c.park.ensures.told (ap is_ok c.in-Err.is) c.in_err-lose.ensures.two)
+
+pub returns-in_default-clause-same : goal.returns-in_default-clause-same
+returns-in_default-clause-same g c is = refl
+
+pub returns-in_default-clause-two : goal.returns-in_default-clause-two
+returns-in_default-clause-two g c = tt
+
+pub returns-in_default-clause-tells : goal.returns-in_default-clause-tells
+returns-in_default-clause-tells g c = tt
+
+pub returns-in_default-clause-gone : goal.returns-in_default-clause-gone
+returns-in_default-clause-gone g c is = done_not_dropped _ _ refl is
+
+pub returns-in_default-clause-failed : goal.returns-in_default-clause-failed
+returns-in_default-clause-failed g c is = done_not_dropped _ _ refl is
+
+pub returns-in_default-clause-lost : goal.returns-in_default-clause-lost
+returns-in_default-clause-lost g c is = done_not_dropped _ _ refl is
+
+pub returns-in_default-clause-lost_filled : goal.returns-in_default-clause-lost_filled
+returns-in_default-clause-lost_filled g c is = done_not_dropped _ _ refl is
+
+pub returns-in_err-lose-clause-meta : goal.returns-in_err-lose-clause-meta
+returns-in_err-lose-clause-meta g c = none_done _ c.from_residual.result _ c.from_residual.ensures.1
+
+pub returns-in_err-lose-clause-ready : goal.returns-in_err-lose-clause-ready
+returns-in_err-lose-clause-ready g c = none_done _ c.from_residual.result _ c.from_residual.ensures.1
+
+pub returns-in_err-lose-clause-serves : goal.returns-in_err-lose-clause-serves
+returns-in_err-lose-clause-serves g c = none_done _ c.from_residual.result _ c.from_residual.ensures.1
+
+pub returns-in_err-lose-clause-unsynced : goal.returns-in_err-lose-clause-unsynced
+returns-in_err-lose-clause-unsynced g c = none_done _ c.from_residual.result _ c.from_residual.ensures.1
+
+pub returns-in_err-lose-clause-risen : goal.returns-in_err-lose-clause-risen
+returns-in_err-lose-clause-risen g c = none_done _ c.from_residual.result _ c.from_residual.ensures.1
+
+pub returns-in_err-lose-clause-absent : goal.returns-in_err-lose-clause-absent
+returns-in_err-lose-clause-absent g c = none_done _ c.from_residual.result _ c.from_residual.ensures.1
+
+pub returns-in_err-lose-clause-same : goal.returns-in_err-lose-clause-same
+returns-in_err-lose-clause-same g c is = none_done_as _ c.from_residual.result _ _ c.from_residual.ensures.1 is
+
+pub returns-in_err-lose-clause-gone : goal.returns-in_err-lose-clause-gone
+returns-in_err-lose-clause-gone g c is = none_done_as _ c.from_residual.result _ _ c.from_residual.ensures.1 is
+
+pub returns-in_err-lose-clause-failed : goal.returns-in_err-lose-clause-failed
+returns-in_err-lose-clause-failed g c is = none_done_as _ c.from_residual.result _ _ c.from_residual.ensures.1 is
+
+pub returns-in_err-lose-clause-done : goal.returns-in_err-lose-clause-done
+returns-in_err-lose-clause-done g c is = none_done_as _ c.from_residual.result _ _ c.from_residual.ensures.1 is
+
+pub returns-in_err-lose-clause-lost : goal.returns-in_err-lose-clause-lost
+returns-in_err-lose-clause-lost g c is = none_done_as _ c.from_residual.result _ _ c.from_residual.ensures.1 is
+
+pub returns-in_err-lose-clause-lost_filled : goal.returns-in_err-lose-clause-lost_filled
+returns-in_err-lose-clause-lost_filled g c is = none_done_as _ c.from_residual.result _ _ c.from_residual.ensures.1 is
+
+pub returns-in_err-lose-clause-parked : goal.returns-in_err-lose-clause-parked
+returns-in_err-lose-clause-parked g c is = none_done_as _ c.from_residual.result _ _ c.from_residual.ensures.1 is
+
+pub returns-in_err-lose-clause-two : goal.returns-in_err-lose-clause-two
+returns-in_err-lose-clause-two g c =
+    let old = c.args.self.now in
+    handed _ c.from_residual.result _ c.from_residual.ensures.1 (two_lost (named_of old.store) (named_out old.meta.out) _ _ c.args.disk _ c.requires.still (c.park.ensures.slot.risen (ap is_ok c.in-Err.is)) c.in_err-lose.ensures.two)
+
+pub returns-clause-same : goal.returns-clause-same
+returns-clause-same g c is = done_not_dropped _ _ is refl
+
+pub returns-clause-done : goal.returns-clause-done
+returns-clause-done g c is = done_not_dropped _ _ is refl
+
+pub returns-clause-parked : goal.returns-clause-parked
+returns-clause-parked g c is = done_not_dropped _ _ is refl
+
+pub returns-clause-two : goal.returns-clause-two
+returns-clause-two g c = tt
+
+pub returns-clause-tells : goal.returns-clause-tells
+returns-clause-tells g c = tt

@@ -34,6 +34,7 @@ use Rattle.paraid_image.specs.Lost.{TellsLosses}
 use Rattle.paraid_core.proofs.staged.Core.read.Given.{Over}
 use Rattle.paraid_core.proofs.UnsyncedLemmas.{gone_lost, unsynced_kept, unsynced_same}
 use Rattle.paraid_core.proofs.staged.Core.read.Goals as goal
+use Rattle.paraid_core.proofs.ErrLemmas.{none_done}
 use Rattle.paraid_core.proofs.staged.Core.read.Goals.{After-clean_in_room}
 
 pub returns-in_err-read_only-clause-spared : goal.returns-in_err-read_only-clause-spared
@@ -254,3 +255,165 @@ returns-clause-unsynced g c was =
     let read = c.in_ok-read_only.ensures in
     unsynced_same slot next c.clean_in_room.new.self c.clean_in_room.ensures.store c.clean_in_room.ensures.meta c.clean_in_room.ensures.copied
     (unsynced_kept slot mid next read.setup (gone_lost _ _ mid.meta next.meta read.marks) c.read_only.ensures.spared c.read_only.ensures.copied c.read_only.ensures.still_synced (c.in_ok-make_room.ensures.unsynced was))
+
+pub returns-in_err-make_room-clause-ready : goal.returns-in_err-make_room-clause-ready
+returns-in_err-make_room-clause-ready g c = none_done _ c.from_residual.result _ c.from_residual.ensures.1
+
+pub returns-in_err-make_room-clause-serves : goal.returns-in_err-make_room-clause-serves
+returns-in_err-make_room-clause-serves g c = none_done _ c.from_residual.result _ c.from_residual.ensures.1
+
+pub returns-in_err-make_room-clause-setup : goal.returns-in_err-make_room-clause-setup
+returns-in_err-make_room-clause-setup g c = none_done _ c.from_residual.result _ c.from_residual.ensures.1
+
+pub returns-in_err-make_room-clause-writes : goal.returns-in_err-make_room-clause-writes
+returns-in_err-make_room-clause-writes g c = none_done _ c.from_residual.result _ c.from_residual.ensures.1
+
+pub returns-in_err-make_room-clause-epoch : goal.returns-in_err-make_room-clause-epoch
+returns-in_err-make_room-clause-epoch g c = none_done _ c.from_residual.result _ c.from_residual.ensures.1
+
+pub returns-in_err-make_room-clause-cleaned : goal.returns-in_err-make_room-clause-cleaned
+returns-in_err-make_room-clause-cleaned g c = none_done _ c.from_residual.result _ c.from_residual.ensures.1
+
+pub returns-in_err-make_room-clause-bits : goal.returns-in_err-make_room-clause-bits
+returns-in_err-make_room-clause-bits g c = none_done _ c.from_residual.result _ c.from_residual.ensures.1
+
+pub returns-in_err-make_room-clause-nothing : goal.returns-in_err-make_room-clause-nothing
+returns-in_err-make_room-clause-nothing g c = none_done _ c.from_residual.result _ c.from_residual.ensures.1
+
+pub returns-in_err-make_room-clause-still_synced : goal.returns-in_err-make_room-clause-still_synced
+returns-in_err-make_room-clause-still_synced g c = none_done _ c.from_residual.result _ c.from_residual.ensures.1
+
+pub returns-in_err-make_room-clause-unsynced : goal.returns-in_err-make_room-clause-unsynced
+returns-in_err-make_room-clause-unsynced g c = none_done _ c.from_residual.result _ c.from_residual.ensures.1
+
+pub returns-in_err-make_room-clause-rest : goal.returns-in_err-make_room-clause-rest
+returns-in_err-make_room-clause-rest g c = none_done _ c.from_residual.result _ c.from_residual.ensures.1
+
+pub returns-in_err-make_room-clause-names : goal.returns-in_err-make_room-clause-names
+returns-in_err-make_room-clause-names g c = none_done _ c.from_residual.result _ c.from_residual.ensures.1
+
+pub returns-in_err-make_room-clause-marks : goal.returns-in_err-make_room-clause-marks
+returns-in_err-make_room-clause-marks g c = none_done _ c.from_residual.result _ c.from_residual.ensures.1
+
+pub returns-in_err-make_room-clause-down : goal.returns-in_err-make_room-clause-down
+returns-in_err-make_room-clause-down g c = none_done _ c.from_residual.result _ c.from_residual.ensures.1
+
+pub returns-in_err-make_room-clause-stands : goal.returns-in_err-make_room-clause-stands
+returns-in_err-make_room-clause-stands g c = none_done _ c.from_residual.result _ c.from_residual.ensures.1
+
+pub returns-in_err-make_room-clause-value : goal.returns-in_err-make_room-clause-value
+returns-in_err-make_room-clause-value g c = none_done _ c.from_residual.result _ c.from_residual.ensures.1
+
+pub returns-in_err-make_room-clause-copied : goal.returns-in_err-make_room-clause-copied
+returns-in_err-make_room-clause-copied g c = c.make_room.ensures.copied
+
+pub returns-in_err-make_room-clause-slots : goal.returns-in_err-make_room-clause-slots
+returns-in_err-make_room-clause-slots g c = c.make_room.ensures.slots
+
+pub returns-in_err-make_room-clause-spared : goal.returns-in_err-make_room-clause-spared
+returns-in_err-make_room-clause-spared g c = c.make_room.ensures.spared
+
+pub returns-in_err-make_room-clause-calls : goal.returns-in_err-make_room-clause-calls
+returns-in_err-make_room-clause-calls g c = c.make_room.ensures.calls
+
+pub returns-in_err-make_room-clause-moments : goal.returns-in_err-make_room-clause-moments
+returns-in_err-make_room-clause-moments g c = c.make_room.ensures.moments
+
+pub returns-in_err-make_room-clause-two : goal.returns-in_err-make_room-clause-two
+returns-in_err-make_room-clause-two g c = handed _ c.from_residual.result _ c.from_residual.ensures.1 c.in_err-make_room.ensures.two
+
+pub returns-in_err-make_room-clause-tells : goal.returns-in_err-make_room-clause-tells
+returns-in_err-make_room-clause-tells g c = handed _ c.from_residual.result _ c.from_residual.ensures.1 c.in_err-make_room.ensures.tells
+
+pub returns-in_err-make_room-clause-draft : goal.returns-in_err-make_room-clause-draft
+returns-in_err-make_room-clause-draft g c = c.make_room.ensures.draft ∙ c.requires.no_draft
+
+pub returns-in_err-read_only-clause-ready : goal.returns-in_err-read_only-clause-ready
+returns-in_err-read_only-clause-ready g c = none_done _ c.from_residual-in_err-read_only.result _ c.from_residual-in_err-read_only.ensures.1
+
+pub returns-in_err-read_only-clause-serves : goal.returns-in_err-read_only-clause-serves
+returns-in_err-read_only-clause-serves g c = none_done _ c.from_residual-in_err-read_only.result _ c.from_residual-in_err-read_only.ensures.1
+
+pub returns-in_err-read_only-clause-setup : goal.returns-in_err-read_only-clause-setup
+returns-in_err-read_only-clause-setup g c = none_done _ c.from_residual-in_err-read_only.result _ c.from_residual-in_err-read_only.ensures.1
+
+pub returns-in_err-read_only-clause-writes : goal.returns-in_err-read_only-clause-writes
+returns-in_err-read_only-clause-writes g c = none_done _ c.from_residual-in_err-read_only.result _ c.from_residual-in_err-read_only.ensures.1
+
+pub returns-in_err-read_only-clause-epoch : goal.returns-in_err-read_only-clause-epoch
+returns-in_err-read_only-clause-epoch g c = none_done _ c.from_residual-in_err-read_only.result _ c.from_residual-in_err-read_only.ensures.1
+
+pub returns-in_err-read_only-clause-cleaned : goal.returns-in_err-read_only-clause-cleaned
+returns-in_err-read_only-clause-cleaned g c = none_done _ c.from_residual-in_err-read_only.result _ c.from_residual-in_err-read_only.ensures.1
+
+pub returns-in_err-read_only-clause-bits : goal.returns-in_err-read_only-clause-bits
+returns-in_err-read_only-clause-bits g c = none_done _ c.from_residual-in_err-read_only.result _ c.from_residual-in_err-read_only.ensures.1
+
+pub returns-in_err-read_only-clause-nothing : goal.returns-in_err-read_only-clause-nothing
+returns-in_err-read_only-clause-nothing g c = none_done _ c.from_residual-in_err-read_only.result _ c.from_residual-in_err-read_only.ensures.1
+
+pub returns-in_err-read_only-clause-still_synced : goal.returns-in_err-read_only-clause-still_synced
+returns-in_err-read_only-clause-still_synced g c = none_done _ c.from_residual-in_err-read_only.result _ c.from_residual-in_err-read_only.ensures.1
+
+pub returns-in_err-read_only-clause-unsynced : goal.returns-in_err-read_only-clause-unsynced
+returns-in_err-read_only-clause-unsynced g c = none_done _ c.from_residual-in_err-read_only.result _ c.from_residual-in_err-read_only.ensures.1
+
+pub returns-in_err-read_only-clause-rest : goal.returns-in_err-read_only-clause-rest
+returns-in_err-read_only-clause-rest g c = none_done _ c.from_residual-in_err-read_only.result _ c.from_residual-in_err-read_only.ensures.1
+
+pub returns-in_err-read_only-clause-names : goal.returns-in_err-read_only-clause-names
+returns-in_err-read_only-clause-names g c = none_done _ c.from_residual-in_err-read_only.result _ c.from_residual-in_err-read_only.ensures.1
+
+pub returns-in_err-read_only-clause-marks : goal.returns-in_err-read_only-clause-marks
+returns-in_err-read_only-clause-marks g c = none_done _ c.from_residual-in_err-read_only.result _ c.from_residual-in_err-read_only.ensures.1
+
+pub returns-in_err-read_only-clause-down : goal.returns-in_err-read_only-clause-down
+returns-in_err-read_only-clause-down g c = none_done _ c.from_residual-in_err-read_only.result _ c.from_residual-in_err-read_only.ensures.1
+
+pub returns-in_err-read_only-clause-stands : goal.returns-in_err-read_only-clause-stands
+returns-in_err-read_only-clause-stands g c = none_done _ c.from_residual-in_err-read_only.result _ c.from_residual-in_err-read_only.ensures.1
+
+pub returns-in_err-read_only-clause-value : goal.returns-in_err-read_only-clause-value
+returns-in_err-read_only-clause-value g c = none_done _ c.from_residual-in_err-read_only.result _ c.from_residual-in_err-read_only.ensures.1
+
+pub returns-in_err-read_only-clause-draft : goal.returns-in_err-read_only-clause-draft
+returns-in_err-read_only-clause-draft g c = c.read_only.ensures.draft ∙ c.make_room.ensures.draft ∙ c.requires.no_draft
+
+pub returns-in_err-read_only-clause-copied : goal.returns-in_err-read_only-clause-copied
+returns-in_err-read_only-clause-copied g c = c.read_only.ensures.copied ∙ c.make_room.ensures.copied
+
+pub returns-in_err-read_only-clause-slots : goal.returns-in_err-read_only-clause-slots
+returns-in_err-read_only-clause-slots g c = c.read_only.ensures.slots ∙ c.make_room.ensures.slots
+
+pub returns-clause-ready : goal.returns-clause-ready
+returns-clause-ready g c = c.clean_in_room.ensures.ready
+
+pub returns-clause-serves : goal.returns-clause-serves
+returns-clause-serves g c = c.clean_in_room.ensures.serves
+
+pub returns-clause-draft : goal.returns-clause-draft
+returns-clause-draft g c = c.clean_in_room.ensures.draft
+
+pub returns-clause-copied : goal.returns-clause-copied
+returns-clause-copied g c = c.clean_in_room.ensures.copied ∙ c.read_only.ensures.copied ∙ c.make_room.ensures.copied
+
+pub returns-clause-slots : goal.returns-clause-slots
+returns-clause-slots g c = ap (λ (z : g.row.R.Denot). g.R.Rack.slot_count z) (rack_is g c) ∙ c.read_only.ensures.slots ∙ c.make_room.ensures.slots
+
+pub returns-clause-setup : goal.returns-clause-setup
+returns-clause-setup g c = ap (λ (z : Meta). z.setup) c.clean_in_room.ensures.meta ∙ setup_is g c
+
+pub returns-clause-writes : goal.returns-clause-writes
+returns-clause-writes g c = ap (λ (z : Meta). z.writes) c.clean_in_room.ensures.meta ∙ c.in_ok-read_only.ensures.writes ∙ c.in_ok-make_room.ensures.writes
+
+pub returns-clause-epoch : goal.returns-clause-epoch
+returns-clause-epoch g c =
+    let old = c.args.self.now in
+    ap (λ (z : Meta). z.epoch) c.clean_in_room.ensures.meta ∙ c.in_ok-read_only.ensures.epoch ∙ c.in_ok-make_room.ensures.epoch
+    ∙ ap (λ (b : Bool). old.meta.epoch + (if b then 1 else 0)) (first_is g c)
+
+pub returns-clause-two : goal.returns-clause-two
+returns-clause-two g c = tt
+
+pub returns-clause-tells : goal.returns-clause-tells
+returns-clause-tells g c = tt

@@ -25,6 +25,7 @@ use Rattle.paraid_rack.specs.Told.{Ran}
 use Rattle.paraid_image.specs.Lost.{TellsLosses}
 use Rattle.paraid_core.proofs.staged.Core.read_value.Given.{Over}
 use Rattle.paraid_core.proofs.staged.Core.read_value.Goals as goal
+use Rattle.paraid_core.proofs.ErrLemmas.{none_done}
 use Rattle.paraid_core.proofs.staged.Core.read_value.Goals.{In_ok-lose}
 
 pub returns-clause-moments : goal.returns-clause-moments
@@ -193,3 +194,75 @@ pub returns-in_err-lose-clause-tells : goal.returns-in_err-lose-clause-tells
 returns-in_err-lose-clause-tells g c =
     handed (λ two. Ran (g.R.Rack.told (store_rack c.args.self.now.store)) (g.R.Rack.told (store_rack c.read_cell.new.store)) (λ s cs. TellsLosses (named_out c.args.self.now.meta.out) two cs)) c.from_residual-in_err-lose.result _ c.from_residual-in_err-lose.ensures.1
     (lose_tells (named_out c.args.self.now.meta.out) c.in_ok-lost.lost _ _ _ c.in_err-lose.ensures.two c.in_ok-lost.ensures.read.first)
+
+pub returns-in_err-lost-clause-ready : goal.returns-in_err-lost-clause-ready
+returns-in_err-lost-clause-ready g c = none_done _ c.from_residual.result _ c.from_residual.ensures.1
+
+pub returns-in_err-lost-clause-serves : goal.returns-in_err-lost-clause-serves
+returns-in_err-lost-clause-serves g c = none_done _ c.from_residual.result _ c.from_residual.ensures.1
+
+pub returns-in_err-lost-clause-cleans_less : goal.returns-in_err-lost-clause-cleans_less
+returns-in_err-lost-clause-cleans_less g c = none_done _ c.from_residual.result _ c.from_residual.ensures.1
+
+pub returns-in_err-lost-clause-setup : goal.returns-in_err-lost-clause-setup
+returns-in_err-lost-clause-setup g c = none_done _ c.from_residual.result _ c.from_residual.ensures.1
+
+pub returns-in_err-lost-clause-writes : goal.returns-in_err-lost-clause-writes
+returns-in_err-lost-clause-writes g c = none_done _ c.from_residual.result _ c.from_residual.ensures.1
+
+pub returns-in_err-lost-clause-epoch : goal.returns-in_err-lost-clause-epoch
+returns-in_err-lost-clause-epoch g c = none_done _ c.from_residual.result _ c.from_residual.ensures.1
+
+pub returns-in_err-lost-clause-down : goal.returns-in_err-lost-clause-down
+returns-in_err-lost-clause-down g c = none_done _ c.from_residual.result _ c.from_residual.ensures.1
+
+pub returns-in_err-lost-clause-marks : goal.returns-in_err-lost-clause-marks
+returns-in_err-lost-clause-marks g c = none_done _ c.from_residual.result _ c.from_residual.ensures.1
+
+pub returns-in_err-lost-clause-stands : goal.returns-in_err-lost-clause-stands
+returns-in_err-lost-clause-stands g c = none_done _ c.from_residual.result _ c.from_residual.ensures.1
+
+pub returns-in_err-lost-clause-since : goal.returns-in_err-lost-clause-since
+returns-in_err-lost-clause-since g c = none_done _ c.from_residual.result _ c.from_residual.ensures.1
+
+pub returns-in_err-lost-clause-value : goal.returns-in_err-lost-clause-value
+returns-in_err-lost-clause-value g c = none_done _ c.from_residual.result _ c.from_residual.ensures.1
+
+pub returns-in_err-lose-clause-ready : goal.returns-in_err-lose-clause-ready
+returns-in_err-lose-clause-ready g c = none_done _ c.from_residual-in_err-lose.result _ c.from_residual-in_err-lose.ensures.1
+
+pub returns-in_err-lose-clause-serves : goal.returns-in_err-lose-clause-serves
+returns-in_err-lose-clause-serves g c = none_done _ c.from_residual-in_err-lose.result _ c.from_residual-in_err-lose.ensures.1
+
+pub returns-in_err-lose-clause-cleans_less : goal.returns-in_err-lose-clause-cleans_less
+returns-in_err-lose-clause-cleans_less g c = none_done _ c.from_residual-in_err-lose.result _ c.from_residual-in_err-lose.ensures.1
+
+pub returns-in_err-lose-clause-setup : goal.returns-in_err-lose-clause-setup
+returns-in_err-lose-clause-setup g c = none_done _ c.from_residual-in_err-lose.result _ c.from_residual-in_err-lose.ensures.1
+
+pub returns-in_err-lose-clause-writes : goal.returns-in_err-lose-clause-writes
+returns-in_err-lose-clause-writes g c = none_done _ c.from_residual-in_err-lose.result _ c.from_residual-in_err-lose.ensures.1
+
+pub returns-in_err-lose-clause-epoch : goal.returns-in_err-lose-clause-epoch
+returns-in_err-lose-clause-epoch g c = none_done _ c.from_residual-in_err-lose.result _ c.from_residual-in_err-lose.ensures.1
+
+pub returns-in_err-lose-clause-down : goal.returns-in_err-lose-clause-down
+returns-in_err-lose-clause-down g c = none_done _ c.from_residual-in_err-lose.result _ c.from_residual-in_err-lose.ensures.1
+
+pub returns-in_err-lose-clause-marks : goal.returns-in_err-lose-clause-marks
+returns-in_err-lose-clause-marks g c = none_done _ c.from_residual-in_err-lose.result _ c.from_residual-in_err-lose.ensures.1
+
+pub returns-in_err-lose-clause-stands : goal.returns-in_err-lose-clause-stands
+returns-in_err-lose-clause-stands g c = none_done _ c.from_residual-in_err-lose.result _ c.from_residual-in_err-lose.ensures.1
+
+pub returns-in_err-lose-clause-since : goal.returns-in_err-lose-clause-since
+returns-in_err-lose-clause-since g c = none_done _ c.from_residual-in_err-lose.result _ c.from_residual-in_err-lose.ensures.1
+
+pub returns-in_err-lose-clause-value : goal.returns-in_err-lose-clause-value
+returns-in_err-lose-clause-value g c = none_done _ c.from_residual-in_err-lose.result _ c.from_residual-in_err-lose.ensures.1
+
+pub returns-clause-two : goal.returns-clause-two
+returns-clause-two g c = tt
+
+pub returns-clause-tells : goal.returns-clause-tells
+returns-clause-tells g c = tt

@@ -13,6 +13,7 @@ use Rattle.paraid_rack.specs.Told.{Ran}
 use Rattle.paraid_image.specs.Out.{named_out}
 use Rattle.paraid_image.specs.Lost.{TellsLosses}
 use Rattle.paraid_core.proofs.AfterLemmas.{handed}
+use Rattle.paraid_core.proofs.ErrLemmas.{none_done}
 use Rattle.paraid_core.proofs.staged.Core.settle.Goals as goal
 
 pub loop-disk-init : goal.loop-disk-init
@@ -81,3 +82,33 @@ returns-in_err-settle_one-clause-tells g c =
     handed (λ two. Ran (g.R.Rack.told (store_rack c.args.self.now.store)) (g.R.Rack.told (store_rack c.settle_one.new.self.store)) (λ s cs. TellsLosses (named_out c.args.self.now.meta.out) two cs)) c.from_residual.result _ c.from_residual.ensures.1
     (core_tells_then g.R.Rack.slot g.R.Rack.told g.met.R.Rack.agrees old mid c.requires.ready.absent marks c.settle_one.new.self _
     (sync_bears g.R.Rack.slot g.R.Rack.told g.met.R.Rack.agrees old mid c.requires.ready.absent marks c.loop-disk.invariant.calls) c.in_err-settle_one.ensures.tells)
+
+pub returns-in_err-settle_one-clause-leaves : goal.returns-in_err-settle_one-clause-leaves
+returns-in_err-settle_one-clause-leaves g c = none_done _ c.from_residual.result _ c.from_residual.ensures.1
+
+pub returns-in_err-settle_one-clause-synced : goal.returns-in_err-settle_one-clause-synced
+returns-in_err-settle_one-clause-synced g c = none_done _ c.from_residual.result _ c.from_residual.ensures.1
+
+pub returns-in_err-settle_one-clause-copies_synced : goal.returns-in_err-settle_one-clause-copies_synced
+returns-in_err-settle_one-clause-copies_synced g c = none_done _ c.from_residual.result _ c.from_residual.ensures.1
+
+pub returns-in_err-settle_one-clause-marks : goal.returns-in_err-settle_one-clause-marks
+returns-in_err-settle_one-clause-marks g c = none_done _ c.from_residual.result _ c.from_residual.ensures.1
+
+pub returns-in_err-settle_one-clause-stands : goal.returns-in_err-settle_one-clause-stands
+returns-in_err-settle_one-clause-stands g c = none_done _ c.from_residual.result _ c.from_residual.ensures.1
+
+pub returns-in_err-settle_one-clause-filled : goal.returns-in_err-settle_one-clause-filled
+returns-in_err-settle_one-clause-filled g c = none_done _ c.from_residual.result _ c.from_residual.ensures.1
+
+pub returns-in_err-settle_one-clause-cells : goal.returns-in_err-settle_one-clause-cells
+returns-in_err-settle_one-clause-cells g c = none_done _ c.from_residual.result _ c.from_residual.ensures.1
+
+pub returns-in_err-settle_one-clause-rebuilt : goal.returns-in_err-settle_one-clause-rebuilt
+returns-in_err-settle_one-clause-rebuilt g c = none_done _ c.from_residual.result _ c.from_residual.ensures.1
+
+pub returns-clause-two : goal.returns-clause-two
+returns-clause-two g c = tt
+
+pub returns-clause-tells : goal.returns-clause-tells
+returns-clause-tells g c = tt

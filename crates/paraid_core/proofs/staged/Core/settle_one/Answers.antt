@@ -9,6 +9,8 @@ use Rattle.paraid_core.proofs.UnsyncedLemmas.{marks_idle}
 use Rattle.paraid_core.proofs.KindLemmas.{calls_none, one_is_each}
 use Rattle.paraid_rack.specs.declared.call.Call.TheVariants.{Sync}
 use Rattle.paraid_core.proofs.LostMarkLemmas.{marks_none}
+use Rattle.paraid_core.proofs.AfterLemmas.{handed}
+use Rattle.paraid_core.proofs.ErrLemmas.{none_done}
 use Rattle.paraid_core.proofs.staged.Core.settle_one.Goals as goal
 
 pub returns-then-not-is_spinning-clause-leaves : goal.returns-then-not-is_spinning-clause-leaves
@@ -85,3 +87,90 @@ returns-then-not-is_spinning-clause-marks g c = marks_none c.args.self.now.meta 
 
 pub returns-clause-marks : goal.returns-clause-marks
 returns-clause-marks g c = c.in_ok-sync_disk.ensures.marks
+
+pub returns-then-not-self-disk-clause-two : goal.returns-then-not-self-disk-clause-two
+returns-then-not-self-disk-clause-two g c = tt
+
+pub returns-then-not-self-disk-clause-tells : goal.returns-then-not-self-disk-clause-tells
+returns-then-not-self-disk-clause-tells g c = tt
+
+pub returns-then-not-is_spinning-clause-two : goal.returns-then-not-is_spinning-clause-two
+returns-then-not-is_spinning-clause-two g c = tt
+
+pub returns-then-not-is_spinning-clause-tells : goal.returns-then-not-is_spinning-clause-tells
+returns-then-not-is_spinning-clause-tells g c = tt
+
+pub returns-clause-two : goal.returns-clause-two
+returns-clause-two g c = tt
+
+pub returns-clause-tells : goal.returns-clause-tells
+returns-clause-tells g c = tt
+
+pub returns-in_err-sync_disk-clause-leaves : goal.returns-in_err-sync_disk-clause-leaves
+returns-in_err-sync_disk-clause-leaves g c = none_done _ c.from_residual.result _ c.from_residual.ensures.1
+
+pub returns-in_err-sync_disk-clause-synced : goal.returns-in_err-sync_disk-clause-synced
+returns-in_err-sync_disk-clause-synced g c = none_done _ c.from_residual.result _ c.from_residual.ensures.1
+
+pub returns-in_err-sync_disk-clause-cleared : goal.returns-in_err-sync_disk-clause-cleared
+returns-in_err-sync_disk-clause-cleared g c = none_done _ c.from_residual.result _ c.from_residual.ensures.1
+
+pub returns-in_err-sync_disk-clause-marks : goal.returns-in_err-sync_disk-clause-marks
+returns-in_err-sync_disk-clause-marks g c = none_done _ c.from_residual.result _ c.from_residual.ensures.1
+
+pub returns-in_err-sync_disk-clause-stands : goal.returns-in_err-sync_disk-clause-stands
+returns-in_err-sync_disk-clause-stands g c = none_done _ c.from_residual.result _ c.from_residual.ensures.1
+
+pub returns-in_err-sync_disk-clause-filled : goal.returns-in_err-sync_disk-clause-filled
+returns-in_err-sync_disk-clause-filled g c = none_done _ c.from_residual.result _ c.from_residual.ensures.1
+
+pub returns-in_err-sync_disk-clause-cells : goal.returns-in_err-sync_disk-clause-cells
+returns-in_err-sync_disk-clause-cells g c = none_done _ c.from_residual.result _ c.from_residual.ensures.1
+
+pub returns-in_err-sync_disk-clause-rebuilt : goal.returns-in_err-sync_disk-clause-rebuilt
+returns-in_err-sync_disk-clause-rebuilt g c = none_done _ c.from_residual.result _ c.from_residual.ensures.1
+
+pub returns-in_err-sync_disk-clause-spared : goal.returns-in_err-sync_disk-clause-spared
+returns-in_err-sync_disk-clause-spared g c = c.sync_disk.ensures.spared
+
+pub returns-in_err-sync_disk-clause-still_synced : goal.returns-in_err-sync_disk-clause-still_synced
+returns-in_err-sync_disk-clause-still_synced g c = c.sync_disk.ensures.still_synced
+
+pub returns-in_err-sync_disk-clause-moments : goal.returns-in_err-sync_disk-clause-moments
+returns-in_err-sync_disk-clause-moments g c = c.sync_disk.ensures.moments
+
+pub returns-in_err-sync_disk-clause-two : goal.returns-in_err-sync_disk-clause-two
+returns-in_err-sync_disk-clause-two g c = handed _ c.from_residual.result _ c.from_residual.ensures.1 c.in_err-sync_disk.ensures.two
+
+pub returns-in_err-sync_disk-clause-tells : goal.returns-in_err-sync_disk-clause-tells
+returns-in_err-sync_disk-clause-tells g c = handed _ c.from_residual.result _ c.from_residual.ensures.1 c.in_err-sync_disk.ensures.tells
+
+pub returns-clause-leaves : goal.returns-clause-leaves
+returns-clause-leaves g c = c.in_ok-sync_disk.ensures.leaves
+
+pub returns-clause-stands : goal.returns-clause-stands
+returns-clause-stands g c = c.in_ok-sync_disk.ensures.stands
+
+pub returns-clause-filled : goal.returns-clause-filled
+returns-clause-filled g c = c.in_ok-sync_disk.ensures.filled
+
+pub returns-clause-cells : goal.returns-clause-cells
+returns-clause-cells g c = c.in_ok-sync_disk.ensures.cells
+
+pub returns-clause-rebuilt : goal.returns-clause-rebuilt
+returns-clause-rebuilt g c = c.in_ok-sync_disk.ensures.rebuilt
+
+pub returns-clause-spared : goal.returns-clause-spared
+returns-clause-spared g c = c.sync_disk.ensures.spared
+
+pub returns-clause-still_synced : goal.returns-clause-still_synced
+returns-clause-still_synced g c = c.sync_disk.ensures.still_synced
+
+pub returns-clause-moments : goal.returns-clause-moments
+returns-clause-moments g c = c.sync_disk.ensures.moments
+
+pub returns-clause-cleared : goal.returns-clause-cleared
+returns-clause-cleared g c = c.sync_disk.ensures.cleared
+
+pub returns-clause-synced : goal.returns-clause-synced
+returns-clause-synced g c is = c.in_ok-sync_disk.ensures.synced

@@ -29,6 +29,7 @@ use Rattle.paraid_core.proofs.staged.Core.spin_up.Given.{Over}
 use Rattle.paraid_core.proofs.TurnLemmas.{only_turns}
 use Rattle.paraid_core.proofs.UnsyncedLemmas.{gone_still}
 use Rattle.paraid_core.proofs.staged.Core.spin_up.Goals as goal
+use Rattle.paraid_core.proofs.ErrLemmas.{done_not_dropped, none_done, none_done_as, two_lost}
 use Rattle.paraid_core.proofs.staged.Core.spin_up.Goals.{In_ok-lose}
 
 pub returns-in_default-clause-done : goal.returns-in_default-clause-done
@@ -191,3 +192,89 @@ returns-clause-unsynced g c was d low stays here wet =
           (λ is. stays (ap (λ (n : Meta). gone_out n.out) (meta_is g c) ∙ gone_still m (Some c.args.disk) (λ e x k named. alone g c x named ∙ some_is c.args.disk e k) d is))
           (ap (λ (s : Slot). is_present s.power) (sym (slot.others d apart)) ∙ here) (ap (λ (s : Slot). s.unsynced) (sym (slot.others d apart)) ∙ wet)
     ]
+
+pub returns-in_default-clause-same : goal.returns-in_default-clause-same
+returns-in_default-clause-same g c is = refl
+
+pub returns-in_default-clause-two : goal.returns-in_default-clause-two
+returns-in_default-clause-two g c = tt
+
+pub returns-in_default-clause-tells : goal.returns-in_default-clause-tells
+returns-in_default-clause-tells g c = tt
+
+pub returns-in_default-clause-gone : goal.returns-in_default-clause-gone
+returns-in_default-clause-gone g c is = done_not_dropped _ _ refl is
+
+pub returns-in_default-clause-failed : goal.returns-in_default-clause-failed
+returns-in_default-clause-failed g c is = done_not_dropped _ _ refl is
+
+pub returns-in_default-clause-lost : goal.returns-in_default-clause-lost
+returns-in_default-clause-lost g c is = done_not_dropped _ _ refl is
+
+pub returns-in_default-clause-lost_filled : goal.returns-in_default-clause-lost_filled
+returns-in_default-clause-lost_filled g c is = done_not_dropped _ _ refl is
+
+pub returns-in_err-lose-clause-meta : goal.returns-in_err-lose-clause-meta
+returns-in_err-lose-clause-meta g c = none_done _ c.from_residual.result _ c.from_residual.ensures.1
+
+pub returns-in_err-lose-clause-ready : goal.returns-in_err-lose-clause-ready
+returns-in_err-lose-clause-ready g c = none_done _ c.from_residual.result _ c.from_residual.ensures.1
+
+pub returns-in_err-lose-clause-serves : goal.returns-in_err-lose-clause-serves
+returns-in_err-lose-clause-serves g c = none_done _ c.from_residual.result _ c.from_residual.ensures.1
+
+pub returns-in_err-lose-clause-unsynced : goal.returns-in_err-lose-clause-unsynced
+returns-in_err-lose-clause-unsynced g c = none_done _ c.from_residual.result _ c.from_residual.ensures.1
+
+pub returns-in_err-lose-clause-risen : goal.returns-in_err-lose-clause-risen
+returns-in_err-lose-clause-risen g c = none_done _ c.from_residual.result _ c.from_residual.ensures.1
+
+pub returns-in_err-lose-clause-absent : goal.returns-in_err-lose-clause-absent
+returns-in_err-lose-clause-absent g c = none_done _ c.from_residual.result _ c.from_residual.ensures.1
+
+pub returns-in_err-lose-clause-same : goal.returns-in_err-lose-clause-same
+returns-in_err-lose-clause-same g c is = none_done_as _ c.from_residual.result _ _ c.from_residual.ensures.1 is
+
+pub returns-in_err-lose-clause-gone : goal.returns-in_err-lose-clause-gone
+returns-in_err-lose-clause-gone g c is = none_done_as _ c.from_residual.result _ _ c.from_residual.ensures.1 is
+
+pub returns-in_err-lose-clause-failed : goal.returns-in_err-lose-clause-failed
+returns-in_err-lose-clause-failed g c is = none_done_as _ c.from_residual.result _ _ c.from_residual.ensures.1 is
+
+pub returns-in_err-lose-clause-done : goal.returns-in_err-lose-clause-done
+returns-in_err-lose-clause-done g c is = none_done_as _ c.from_residual.result _ _ c.from_residual.ensures.1 is
+
+pub returns-in_err-lose-clause-lost : goal.returns-in_err-lose-clause-lost
+returns-in_err-lose-clause-lost g c is = none_done_as _ c.from_residual.result _ _ c.from_residual.ensures.1 is
+
+pub returns-in_err-lose-clause-lost_filled : goal.returns-in_err-lose-clause-lost_filled
+returns-in_err-lose-clause-lost_filled g c is = none_done_as _ c.from_residual.result _ _ c.from_residual.ensures.1 is
+
+pub returns-in_err-lose-clause-spins : goal.returns-in_err-lose-clause-spins
+returns-in_err-lose-clause-spins g c is = none_done_as _ c.from_residual.result _ _ c.from_residual.ensures.1 is
+
+pub returns-in_err-lose-clause-size : goal.returns-in_err-lose-clause-size
+returns-in_err-lose-clause-size g c is = none_done_as _ c.from_residual.result _ _ c.from_residual.ensures.1 is
+
+pub returns-in_err-lose-clause-two : goal.returns-in_err-lose-clause-two
+returns-in_err-lose-clause-two g c =
+    let old = c.args.self.now in
+    handed _ c.from_residual.result _ c.from_residual.ensures.1 (two_lost (named_of old.store) (named_out old.meta.out) _ _ c.args.disk _ c.requires.still (c.spin_up.ensures.slot.risen (ap is_ok c.in-Err.is)) c.in_err-lose.ensures.two)
+
+pub returns-clause-same : goal.returns-clause-same
+returns-clause-same g c is = done_not_dropped _ _ is refl
+
+pub returns-clause-done : goal.returns-clause-done
+returns-clause-done g c is = done_not_dropped _ _ is refl
+
+pub returns-clause-spins : goal.returns-clause-spins
+returns-clause-spins g c is = done_not_dropped _ _ is refl
+
+pub returns-clause-size : goal.returns-clause-size
+returns-clause-size g c is = done_not_dropped _ _ is refl
+
+pub returns-clause-two : goal.returns-clause-two
+returns-clause-two g c = tt
+
+pub returns-clause-tells : goal.returns-clause-tells
+returns-clause-tells g c = tt

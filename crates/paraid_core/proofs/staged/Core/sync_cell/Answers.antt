@@ -17,6 +17,7 @@ use Rattle.paraid_rack.specs.Told.{Ran}
 use Rattle.paraid_image.specs.Out.{named_out}
 use Rattle.paraid_image.specs.Lost.{TellsLosses}
 use Rattle.paraid_core.proofs.OrderLemmas.{lose_tells}
+use Rattle.paraid_core.proofs.ErrLemmas.{done_not_dropped, none_done, none_done_as}
 use Rattle.paraid_core.proofs.staged.Core.sync_cell.Goals as goal
 
 pub returns-in_err-done-clause-spared : goal.returns-in_err-done-clause-spared
@@ -150,3 +151,60 @@ pub returns-in_err-lose-clause-tells : goal.returns-in_err-lose-clause-tells
 returns-in_err-lose-clause-tells g c =
     handed (λ two. Ran (g.R.Rack.told (store_rack c.args.self.now.store)) (g.R.Rack.told (store_rack c.read_value.new.store)) (λ s cs. TellsLosses (named_out c.args.self.now.meta.out) two cs)) c.from_residual-in_err-lose.result _ c.from_residual-in_err-lose.ensures.1
     (lose_tells (named_out c.args.self.now.meta.out) (Some c.in-Err.lost) _ _ _ c.in_err-lose.ensures.two c.in-Err.ensures.read.first)
+
+pub returns-in_err-done-clause-leaves : goal.returns-in_err-done-clause-leaves
+returns-in_err-done-clause-leaves g c = none_done _ c.from_residual.result _ c.from_residual.ensures.1
+
+pub returns-in_err-done-clause-marks : goal.returns-in_err-done-clause-marks
+returns-in_err-done-clause-marks g c = none_done _ c.from_residual.result _ c.from_residual.ensures.1
+
+pub returns-in_err-done-clause-same : goal.returns-in_err-done-clause-same
+returns-in_err-done-clause-same g c is = none_done_as _ c.from_residual.result _ _ c.from_residual.ensures.1 is
+
+pub returns-in_err-done-clause-copied : goal.returns-in_err-done-clause-copied
+returns-in_err-done-clause-copied g c is = none_done_as _ c.from_residual.result _ _ c.from_residual.ensures.1 is
+
+pub returns-in_err-done-clause-failed : goal.returns-in_err-done-clause-failed
+returns-in_err-done-clause-failed g c is = none_done_as _ c.from_residual.result _ _ c.from_residual.ensures.1 is
+
+pub returns-in_err-done-clause-lost : goal.returns-in_err-done-clause-lost
+returns-in_err-done-clause-lost g c is = none_done_as _ c.from_residual.result _ _ c.from_residual.ensures.1 is
+
+pub returns-in_default-clause-same : goal.returns-in_default-clause-same
+returns-in_default-clause-same g c is = c.in_ok-done.ensures.same is
+
+pub returns-in_default-clause-two : goal.returns-in_default-clause-two
+returns-in_default-clause-two g c = tt
+
+pub returns-in_default-clause-tells : goal.returns-in_default-clause-tells
+returns-in_default-clause-tells g c = tt
+
+pub returns-in_err-lose-clause-leaves : goal.returns-in_err-lose-clause-leaves
+returns-in_err-lose-clause-leaves g c = none_done _ c.from_residual-in_err-lose.result _ c.from_residual-in_err-lose.ensures.1
+
+pub returns-in_err-lose-clause-marks : goal.returns-in_err-lose-clause-marks
+returns-in_err-lose-clause-marks g c = none_done _ c.from_residual-in_err-lose.result _ c.from_residual-in_err-lose.ensures.1
+
+pub returns-in_err-lose-clause-same : goal.returns-in_err-lose-clause-same
+returns-in_err-lose-clause-same g c is = none_done_as _ c.from_residual-in_err-lose.result _ _ c.from_residual-in_err-lose.ensures.1 is
+
+pub returns-in_err-lose-clause-copied : goal.returns-in_err-lose-clause-copied
+returns-in_err-lose-clause-copied g c is = none_done_as _ c.from_residual-in_err-lose.result _ _ c.from_residual-in_err-lose.ensures.1 is
+
+pub returns-in_err-lose-clause-failed : goal.returns-in_err-lose-clause-failed
+returns-in_err-lose-clause-failed g c is = none_done_as _ c.from_residual-in_err-lose.result _ _ c.from_residual-in_err-lose.ensures.1 is
+
+pub returns-in_err-lose-clause-lost : goal.returns-in_err-lose-clause-lost
+returns-in_err-lose-clause-lost g c is = none_done_as _ c.from_residual-in_err-lose.result _ _ c.from_residual-in_err-lose.ensures.1 is
+
+pub returns-clause-same : goal.returns-clause-same
+returns-clause-same g c is = done_not_dropped _ _ is refl
+
+pub returns-clause-copied : goal.returns-clause-copied
+returns-clause-copied g c is = done_not_dropped _ _ is refl
+
+pub returns-clause-two : goal.returns-clause-two
+returns-clause-two g c = tt
+
+pub returns-clause-tells : goal.returns-clause-tells
+returns-clause-tells g c = tt

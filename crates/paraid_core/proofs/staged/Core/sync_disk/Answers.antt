@@ -25,6 +25,7 @@ use Rattle.paraid_image.specs.Lost.{TellsLosses}
 use Rattle.paraid_core.proofs.AfterLemmas.{handed}
 use Rattle.paraid_core.proofs.staged.Core.sync_disk.Given.{Over}
 use Rattle.paraid_core.proofs.staged.Core.sync_disk.Goals as goal
+use Rattle.paraid_core.proofs.ErrLemmas.{none_done, two_lost}
 use Rattle.paraid_core.proofs.staged.Core.sync_disk.Goals.{In_default, In_ok-lose}
 
 -- it was done
@@ -141,3 +142,50 @@ pub returns-in_err-lose-clause-tells : goal.returns-in_err-lose-clause-tells
 returns-in_err-lose-clause-tells g c =
     handed (λ two. Ran (g.R.Rack.told (store_rack c.args.self.now.store)) (g.R.Rack.told (store_rack c.sync-answer.new.self)) (λ s cs. TellsLosses (named_out c.args.self.now.meta.out) two cs)) c.from_residual.result _ c.from_residual.ensures.1
     (call_tells (named_out c.args.self.now.meta.out) _ (Sync c.args.disk (is_ok c.sync-answer.result)) _ _ c.sync-answer.ensures.told (ap is_ok c.in-Err.is) c.in_err-lose.ensures.two)
+
+pub returns-in_default-clause-spared : goal.returns-in_default-clause-spared
+returns-in_default-clause-spared g c = call_spared 8 _ _ _ _ _ _ c.sync-answer.ensures.slot refl refl refl
+
+pub returns-in_default-clause-two : goal.returns-in_default-clause-two
+returns-in_default-clause-two g c = tt
+
+pub returns-in_default-clause-tells : goal.returns-in_default-clause-tells
+returns-in_default-clause-tells g c = tt
+
+pub returns-in_err-lose-clause-leaves : goal.returns-in_err-lose-clause-leaves
+returns-in_err-lose-clause-leaves g c = none_done _ c.from_residual.result _ c.from_residual.ensures.1
+
+pub returns-in_err-lose-clause-marks : goal.returns-in_err-lose-clause-marks
+returns-in_err-lose-clause-marks g c = none_done _ c.from_residual.result _ c.from_residual.ensures.1
+
+pub returns-in_err-lose-clause-synced : goal.returns-in_err-lose-clause-synced
+returns-in_err-lose-clause-synced g c = none_done _ c.from_residual.result _ c.from_residual.ensures.1
+
+pub returns-in_err-lose-clause-stands : goal.returns-in_err-lose-clause-stands
+returns-in_err-lose-clause-stands g c = none_done _ c.from_residual.result _ c.from_residual.ensures.1
+
+pub returns-in_err-lose-clause-filled : goal.returns-in_err-lose-clause-filled
+returns-in_err-lose-clause-filled g c = none_done _ c.from_residual.result _ c.from_residual.ensures.1
+
+pub returns-in_err-lose-clause-cells : goal.returns-in_err-lose-clause-cells
+returns-in_err-lose-clause-cells g c = none_done _ c.from_residual.result _ c.from_residual.ensures.1
+
+pub returns-in_err-lose-clause-rebuilt : goal.returns-in_err-lose-clause-rebuilt
+returns-in_err-lose-clause-rebuilt g c = none_done _ c.from_residual.result _ c.from_residual.ensures.1
+
+pub returns-in_err-lose-clause-spared : goal.returns-in_err-lose-clause-spared
+returns-in_err-lose-clause-spared g c = call_spared 8 _ _ _ _ _ _ c.sync-answer.ensures.slot refl refl refl
+
+pub returns-in_err-lose-clause-two : goal.returns-in_err-lose-clause-two
+returns-in_err-lose-clause-two g c =
+    let old = c.args.self.now in
+    handed _ c.from_residual.result _ c.from_residual.ensures.1 (two_lost (named_of old.store) (named_out old.meta.out) _ _ c.args.disk _ c.requires.still (c.sync-answer.ensures.slot.risen (ap is_ok c.in-Err.is)) c.in_err-lose.ensures.two)
+
+pub returns-clause-spared : goal.returns-clause-spared
+returns-clause-spared g c = call_spared 8 _ _ _ _ _ _ c.sync-answer.ensures.slot refl refl refl
+
+pub returns-clause-two : goal.returns-clause-two
+returns-clause-two g c = tt
+
+pub returns-clause-tells : goal.returns-clause-tells
+returns-clause-tells g c = tt

@@ -26,6 +26,9 @@ use Rattle.paraid_image.specs.Lost.{TellsLosses}
 use Rattle.paraid_core.proofs.AfterLemmas.{handed}
 use Rattle.paraid_core.proofs.staged.Core.try_write.Given.{Over}
 use Rattle.paraid_core.proofs.staged.Core.try_write.Goals as goal
+use Rattle.std.proofs.lemmas.Bool.{true≢false}
+use Rattle.paraid_view.proofs.TwoLemmas.{left_spared, left_synced}
+use Rattle.paraid_core.proofs.ErrLemmas.{none_done, none_done_if}
 use Rattle.paraid_core.proofs.staged.Core.try_write.Goals.{After-clear-2, In_ok-lose}
 
 pub returns-in_err-lose-clause-moments : goal.returns-in_err-lose-clause-moments
@@ -214,3 +217,117 @@ returns-in_err-lose-clause-tells g c =
     let both = c.in_err-lose.ensures.two in
     handed (λ two. Ran (g.R.Rack.told (store_rack c.args.self.now.store)) (g.R.Rack.told (store_rack c.draft_writes.new.self.store)) (λ s cs. TellsLosses (named_out c.args.self.now.meta.out) two cs)) c.from_residual.result _ c.from_residual.ensures.1
     (lose_tells (named_out c.args.self.now.meta.out) c.draft_writes.new.self.failed _ _ _ (both.0, sym (ap (λ (z : Meta). named_out z.out) led.meta) ∙ both.1, both.2) (led.first refl))
+
+pub returns-in_err-lose-clause-spared : goal.returns-in_err-lose-clause-spared
+returns-in_err-lose-clause-spared g c = left_spared _ _ _ (c.draft_writes.ensures.leads.left refl)
+
+pub returns-in_err-lose-clause-still_synced : goal.returns-in_err-lose-clause-still_synced
+returns-in_err-lose-clause-still_synced g c = left_synced _ _ _ (c.draft_writes.ensures.leads.left refl)
+
+pub returns-in_err-lose-clause-slots : goal.returns-in_err-lose-clause-slots
+returns-in_err-lose-clause-slots g c = c.draft_writes.ensures.leads.slots
+
+pub returns-in_err-lose-clause-named : goal.returns-in_err-lose-clause-named
+returns-in_err-lose-clause-named g c = c.draft_writes.ensures.leads.same.named
+
+pub returns-in_err-lose-clause-copied : goal.returns-in_err-lose-clause-copied
+returns-in_err-lose-clause-copied g c = c.draft_writes.ensures.leads.copied
+
+pub returns-then-is_err-clause-spared : goal.returns-then-is_err-clause-spared
+returns-then-is_err-clause-spared g c = left_spared _ _ _ (c.draft_writes.ensures.leads.left refl)
+
+pub returns-then-is_err-clause-still_synced : goal.returns-then-is_err-clause-still_synced
+returns-then-is_err-clause-still_synced g c = left_synced _ _ _ (c.draft_writes.ensures.leads.left refl)
+
+pub returns-then-is_err-clause-slots : goal.returns-then-is_err-clause-slots
+returns-then-is_err-clause-slots g c = c.draft_writes.ensures.leads.slots
+
+pub returns-then-is_err-clause-named : goal.returns-then-is_err-clause-named
+returns-then-is_err-clause-named g c = c.draft_writes.ensures.leads.same.named
+
+pub returns-then-is_err-clause-copied : goal.returns-then-is_err-clause-copied
+returns-then-is_err-clause-copied g c = c.draft_writes.ensures.leads.copied
+
+pub returns-clause-spared : goal.returns-clause-spared
+returns-clause-spared g c = left_spared _ _ _ (c.draft_writes.ensures.leads.left refl)
+
+pub returns-clause-still_synced : goal.returns-clause-still_synced
+returns-clause-still_synced g c = left_synced _ _ _ (c.draft_writes.ensures.leads.left refl)
+
+pub returns-clause-slots : goal.returns-clause-slots
+returns-clause-slots g c = c.draft_writes.ensures.leads.slots
+
+pub returns-clause-named : goal.returns-clause-named
+returns-clause-named g c = c.draft_writes.ensures.leads.same.named
+
+pub returns-clause-copied : goal.returns-clause-copied
+returns-clause-copied g c = c.draft_writes.ensures.leads.copied
+
+pub returns-then-is_err-clause-two : goal.returns-then-is_err-clause-two
+returns-then-is_err-clause-two g c = tt
+
+pub returns-then-is_err-clause-tells : goal.returns-then-is_err-clause-tells
+returns-then-is_err-clause-tells g c = tt
+
+pub returns-clause-two : goal.returns-clause-two
+returns-clause-two g c = tt
+
+pub returns-clause-tells : goal.returns-clause-tells
+returns-clause-tells g c = tt
+
+pub returns-in_err-lose-clause-ready : goal.returns-in_err-lose-clause-ready
+returns-in_err-lose-clause-ready g c = none_done _ c.from_residual.result _ c.from_residual.ensures.1
+
+pub returns-in_err-lose-clause-serves : goal.returns-in_err-lose-clause-serves
+returns-in_err-lose-clause-serves g c = none_done _ c.from_residual.result _ c.from_residual.ensures.1
+
+pub returns-in_err-lose-clause-marks : goal.returns-in_err-lose-clause-marks
+returns-in_err-lose-clause-marks g c = none_done _ c.from_residual.result _ c.from_residual.ensures.1
+
+pub returns-in_err-lose-clause-epoch : goal.returns-in_err-lose-clause-epoch
+returns-in_err-lose-clause-epoch g c = none_done _ c.from_residual.result _ c.from_residual.ensures.1
+
+pub returns-in_err-lose-clause-setup : goal.returns-in_err-lose-clause-setup
+returns-in_err-lose-clause-setup g c = none_done _ c.from_residual.result _ c.from_residual.ensures.1
+
+pub returns-in_err-lose-clause-down : goal.returns-in_err-lose-clause-down
+returns-in_err-lose-clause-down g c = none_done _ c.from_residual.result _ c.from_residual.ensures.1
+
+pub returns-in_err-lose-clause-room : goal.returns-in_err-lose-clause-room
+returns-in_err-lose-clause-room g c = none_done_if _ c.from_residual.result _ c.from_residual.ensures.1
+
+pub returns-in_err-lose-clause-dropped : goal.returns-in_err-lose-clause-dropped
+returns-in_err-lose-clause-dropped g c = none_done_if _ c.from_residual.result _ c.from_residual.ensures.1
+
+pub returns-in_err-lose-clause-bits : goal.returns-in_err-lose-clause-bits
+returns-in_err-lose-clause-bits g c = none_done_if _ c.from_residual.result _ c.from_residual.ensures.1
+
+pub returns-in_err-lose-clause-writes : goal.returns-in_err-lose-clause-writes
+returns-in_err-lose-clause-writes g c = none_done_if _ c.from_residual.result _ c.from_residual.ensures.1
+
+pub returns-in_err-lose-clause-lost : goal.returns-in_err-lose-clause-lost
+returns-in_err-lose-clause-lost g c = none_done_if _ c.from_residual.result _ c.from_residual.ensures.1
+
+pub returns-in_err-lose-clause-stands : goal.returns-in_err-lose-clause-stands
+returns-in_err-lose-clause-stands g c = none_done_if _ c.from_residual.result _ c.from_residual.ensures.1
+
+pub returns-in_err-lose-clause-since : goal.returns-in_err-lose-clause-since
+returns-in_err-lose-clause-since g c = none_done_if _ c.from_residual.result _ c.from_residual.ensures.1
+
+pub returns-then-is_err-clause-dropped : goal.returns-then-is_err-clause-dropped
+returns-then-is_err-clause-dropped g c is = c.draft_writes.ensures.leads.batch
+
+pub returns-clause-dropped : goal.returns-clause-dropped
+returns-clause-dropped g c is = absurd (true≢false is)
+
+pub returns-clause-lost : goal.returns-clause-lost
+returns-clause-lost g c is = absurd (true≢false is)
+
+pub returns-clause-setup : goal.returns-clause-setup
+returns-clause-setup g c = ap (λ (z : Meta). z.setup) c.draft_writes.ensures.leads.meta
+
+pub returns-clause-epoch : goal.returns-clause-epoch
+returns-clause-epoch g c = ap (λ (z : Meta). z.epoch) c.draft_writes.ensures.leads.meta
+
+pub returns-clause-writes : goal.returns-clause-writes
+returns-clause-writes g c = ap (λ (z : Meta). z.writes + 1) c.draft_writes.ensures.leads.meta

@@ -27,6 +27,7 @@ use Rattle.paraid_image.specs.Lost.{TellsLosses}
 use Rattle.paraid_core.proofs.AfterLemmas.{handed}
 use Rattle.paraid_core.proofs.staged.Core.write_cell.Given.{Over}
 use Rattle.paraid_core.proofs.staged.Core.write_cell.Goals as goal
+use Rattle.paraid_core.proofs.ErrLemmas.{done_not_dropped, none_done, none_done_as}
 use Rattle.paraid_core.proofs.staged.Core.write_cell.Goals.{In_ok-lose}
 
 pub returns-in_default-clause-leaves : goal.returns-in_default-clause-leaves
@@ -139,3 +140,54 @@ pub returns-in_err-lose-clause-tells : goal.returns-in_err-lose-clause-tells
 returns-in_err-lose-clause-tells g c =
     handed (λ two. Ran (g.R.Rack.told (store_rack c.args.self.now.store)) (g.R.Rack.told (store_rack c.write_free-answer.new.self)) (λ s cs. TellsLosses (named_out c.args.self.now.meta.out) two cs)) c.from_residual.result _ c.from_residual.ensures.1
     (call_tells (named_out c.args.self.now.meta.out) _ (Write c.args.disk c.hard_place-place.result c.args.block.now (is_ok c.write_free-answer.result)) _ _ c.write_free-answer.ensures.told (ap is_ok c.in-Err.is) c.in_err-lose.ensures.two)
+
+pub returns-in_default-clause-same : goal.returns-in_default-clause-same
+returns-in_default-clause-same g c is = refl
+
+pub returns-in_default-clause-two : goal.returns-in_default-clause-two
+returns-in_default-clause-two g c = tt
+
+pub returns-in_default-clause-tells : goal.returns-in_default-clause-tells
+returns-in_default-clause-tells g c = tt
+
+pub returns-in_default-clause-gone : goal.returns-in_default-clause-gone
+returns-in_default-clause-gone g c is = done_not_dropped _ _ refl is
+
+pub returns-in_default-clause-failed : goal.returns-in_default-clause-failed
+returns-in_default-clause-failed g c is = done_not_dropped _ _ refl is
+
+pub returns-in_default-clause-lost : goal.returns-in_default-clause-lost
+returns-in_default-clause-lost g c is = done_not_dropped _ _ refl is
+
+pub returns-in_err-lose-clause-leaves : goal.returns-in_err-lose-clause-leaves
+returns-in_err-lose-clause-leaves g c = none_done _ c.from_residual.result _ c.from_residual.ensures.1
+
+pub returns-in_err-lose-clause-marks : goal.returns-in_err-lose-clause-marks
+returns-in_err-lose-clause-marks g c = none_done _ c.from_residual.result _ c.from_residual.ensures.1
+
+pub returns-in_err-lose-clause-same : goal.returns-in_err-lose-clause-same
+returns-in_err-lose-clause-same g c is = none_done_as _ c.from_residual.result _ _ c.from_residual.ensures.1 is
+
+pub returns-in_err-lose-clause-copied : goal.returns-in_err-lose-clause-copied
+returns-in_err-lose-clause-copied g c is = none_done_as _ c.from_residual.result _ _ c.from_residual.ensures.1 is
+
+pub returns-in_err-lose-clause-gone : goal.returns-in_err-lose-clause-gone
+returns-in_err-lose-clause-gone g c is = none_done_as _ c.from_residual.result _ _ c.from_residual.ensures.1 is
+
+pub returns-in_err-lose-clause-failed : goal.returns-in_err-lose-clause-failed
+returns-in_err-lose-clause-failed g c is = none_done_as _ c.from_residual.result _ _ c.from_residual.ensures.1 is
+
+pub returns-in_err-lose-clause-lost : goal.returns-in_err-lose-clause-lost
+returns-in_err-lose-clause-lost g c is = none_done_as _ c.from_residual.result _ _ c.from_residual.ensures.1 is
+
+pub returns-clause-same : goal.returns-clause-same
+returns-clause-same g c is = done_not_dropped _ _ is refl
+
+pub returns-clause-copied : goal.returns-clause-copied
+returns-clause-copied g c is = done_not_dropped _ _ is refl
+
+pub returns-clause-two : goal.returns-clause-two
+returns-clause-two g c = tt
+
+pub returns-clause-tells : goal.returns-clause-tells
+returns-clause-tells g c = tt

@@ -7,7 +7,7 @@ use Rattle.paraid_record.specs.declared.meta.Setup.{Setup}
 use Rattle.paraid_txn.specs.Stores.{named_of}
 use Rattle.paraid_core.specs.Cores.{IsCoreHeldSinceCommit, CoreStandsFor, batch_of, core_down, core_rack}
 use Rattle.paraid_core.specs.Room.{commits_first}
-use Rattle.paraid_core.proofs.ChainLemmas.{after_raised, ended, two_after}
+use Rattle.paraid_core.proofs.ChainLemmas.{after_raised, down_both, ended, two_after}
 use Rattle.paraid_core.proofs.KindLemmas.{calls_then, transfer_after, data_after, idle_calls, idle_then}
 use Rattle.paraid_core.proofs.LostMarkLemmas.{marks_then}
 use Rattle.paraid_core.proofs.OldNewLemmas.{whole_then_reads}
@@ -19,6 +19,12 @@ use Rattle.paraid_core.proofs.OrderLemmas.{core_tells_then, transfer_bears}
 use Rattle.paraid_rack.specs.Told.{Ran}
 use Rattle.paraid_txn.specs.Stores.{store_rack}
 use Rattle.paraid_image.specs.Lost.{TellsLosses}
+use Rattle.std.proofs.Common.{subst, ◌-◌, ◌<◌, ◌^◌}
+use Rattle.std.specs.Prelude.{All}
+use Rattle.paraid_base.specs.declared.block.Block.{Block as BlockType}
+use Rattle.paraid_view.proofs.TwoLemmas.{spared_then}
+use Rattle.paraid_core.proofs.StepLemmas.{dry_both}
+use Rattle.paraid_core.proofs.ErrLemmas.{none_done}
 use Rattle.paraid_core.proofs.staged.Core.write_many.Goals as goal
 
 pub returns-in_err-write_whole-clause-moments : goal.returns-in_err-write_whole-clause-moments
@@ -131,3 +137,183 @@ returns-in_err-write_whole-clause-tells g c =
     handed (λ two. Ran (g.R.Rack.told (store_rack c.args.self.now.store)) (g.R.Rack.told (store_rack c.write_whole.new.self.store)) (λ s cs. TellsLosses (named_out c.args.self.now.meta.out) two cs)) c.from_residual-in_err-write_whole.result _ c.from_residual-in_err-write_whole.ensures.1
     (core_tells_then g.R.Rack.slot g.R.Rack.told g.met.R.Rack.agrees old mid c.requires.ready.absent marks c.write_whole.new.self _
     (transfer_bears g.R.Rack.slot g.R.Rack.told g.met.R.Rack.agrees old mid c.requires.ready.absent marks c.make_room.ensures.calls) c.in_err-write_whole.ensures.tells)
+
+pub returns-in_err-make_room-clause-copied : goal.returns-in_err-make_room-clause-copied
+returns-in_err-make_room-clause-copied g c = c.make_room.ensures.copied
+
+pub returns-in_err-make_room-clause-slots : goal.returns-in_err-make_room-clause-slots
+returns-in_err-make_room-clause-slots g c = c.make_room.ensures.slots
+
+pub returns-in_err-make_room-clause-spared : goal.returns-in_err-make_room-clause-spared
+returns-in_err-make_room-clause-spared g c = c.make_room.ensures.spared
+
+pub returns-in_err-make_room-clause-calls : goal.returns-in_err-make_room-clause-calls
+returns-in_err-make_room-clause-calls g c = c.make_room.ensures.calls
+
+pub returns-in_err-make_room-clause-moments : goal.returns-in_err-make_room-clause-moments
+returns-in_err-make_room-clause-moments g c = c.make_room.ensures.moments
+
+pub returns-in_err-make_room-clause-draft : goal.returns-in_err-make_room-clause-draft
+returns-in_err-make_room-clause-draft g c = none_done _ c.from_residual.result _ c.from_residual.ensures.1
+
+pub returns-in_err-make_room-clause-ready : goal.returns-in_err-make_room-clause-ready
+returns-in_err-make_room-clause-ready g c = none_done _ c.from_residual.result _ c.from_residual.ensures.1
+
+pub returns-in_err-make_room-clause-serves : goal.returns-in_err-make_room-clause-serves
+returns-in_err-make_room-clause-serves g c = none_done _ c.from_residual.result _ c.from_residual.ensures.1
+
+pub returns-in_err-make_room-clause-staged : goal.returns-in_err-make_room-clause-staged
+returns-in_err-make_room-clause-staged g c = none_done _ c.from_residual.result _ c.from_residual.ensures.1
+
+pub returns-in_err-make_room-clause-bits : goal.returns-in_err-make_room-clause-bits
+returns-in_err-make_room-clause-bits g c = none_done _ c.from_residual.result _ c.from_residual.ensures.1
+
+pub returns-in_err-make_room-clause-setup : goal.returns-in_err-make_room-clause-setup
+returns-in_err-make_room-clause-setup g c = none_done _ c.from_residual.result _ c.from_residual.ensures.1
+
+pub returns-in_err-make_room-clause-writes : goal.returns-in_err-make_room-clause-writes
+returns-in_err-make_room-clause-writes g c = none_done _ c.from_residual.result _ c.from_residual.ensures.1
+
+pub returns-in_err-make_room-clause-epoch : goal.returns-in_err-make_room-clause-epoch
+returns-in_err-make_room-clause-epoch g c = none_done _ c.from_residual.result _ c.from_residual.ensures.1
+
+pub returns-in_err-make_room-clause-still_synced : goal.returns-in_err-make_room-clause-still_synced
+returns-in_err-make_room-clause-still_synced g c = none_done _ c.from_residual.result _ c.from_residual.ensures.1
+
+pub returns-in_err-make_room-clause-unsynced : goal.returns-in_err-make_room-clause-unsynced
+returns-in_err-make_room-clause-unsynced g c = none_done _ c.from_residual.result _ c.from_residual.ensures.1
+
+pub returns-in_err-make_room-clause-rest : goal.returns-in_err-make_room-clause-rest
+returns-in_err-make_room-clause-rest g c = none_done _ c.from_residual.result _ c.from_residual.ensures.1
+
+pub returns-in_err-make_room-clause-names : goal.returns-in_err-make_room-clause-names
+returns-in_err-make_room-clause-names g c = none_done _ c.from_residual.result _ c.from_residual.ensures.1
+
+pub returns-in_err-make_room-clause-marks : goal.returns-in_err-make_room-clause-marks
+returns-in_err-make_room-clause-marks g c = none_done _ c.from_residual.result _ c.from_residual.ensures.1
+
+pub returns-in_err-make_room-clause-down : goal.returns-in_err-make_room-clause-down
+returns-in_err-make_room-clause-down g c = none_done _ c.from_residual.result _ c.from_residual.ensures.1
+
+pub returns-in_err-make_room-clause-stands : goal.returns-in_err-make_room-clause-stands
+returns-in_err-make_room-clause-stands g c = none_done _ c.from_residual.result _ c.from_residual.ensures.1
+
+pub returns-in_err-make_room-clause-two : goal.returns-in_err-make_room-clause-two
+returns-in_err-make_room-clause-two g c = handed (AreTwoDown (core_down c.args.self.now) (g.R.Rack.slot (core_rack c.args.self.now)) (g.R.Rack.slot (core_rack c.make_room.new.self))) c.from_residual.result _ c.from_residual.ensures.1 c.in_err-make_room.ensures.two
+
+pub returns-in_err-make_room-clause-tells : goal.returns-in_err-make_room-clause-tells
+returns-in_err-make_room-clause-tells g c = handed (λ two. Ran (g.R.Rack.told (store_rack c.args.self.now.store)) (g.R.Rack.told (store_rack c.make_room.new.self.store)) (λ s cs. TellsLosses (named_out c.args.self.now.meta.out) two cs)) c.from_residual.result _ c.from_residual.ensures.1 c.in_err-make_room.ensures.tells
+
+pub returns-in_err-write_whole-clause-copied : goal.returns-in_err-write_whole-clause-copied
+returns-in_err-write_whole-clause-copied g c = c.write_whole.ensures.copied ∙ c.make_room.ensures.copied
+
+pub returns-in_err-write_whole-clause-slots : goal.returns-in_err-write_whole-clause-slots
+returns-in_err-write_whole-clause-slots g c = c.write_whole.ensures.slots ∙ c.make_room.ensures.slots
+
+pub returns-in_err-write_whole-clause-spared : goal.returns-in_err-write_whole-clause-spared
+returns-in_err-write_whole-clause-spared g c = spared_then _ _ _ c.make_room.ensures.spared c.write_whole.ensures.spared
+
+pub returns-clause-copied : goal.returns-clause-copied
+returns-clause-copied g c = c.write_whole.ensures.copied ∙ c.make_room.ensures.copied
+
+pub returns-clause-slots : goal.returns-clause-slots
+returns-clause-slots g c = c.write_whole.ensures.slots ∙ c.make_room.ensures.slots
+
+pub returns-clause-spared : goal.returns-clause-spared
+returns-clause-spared g c = spared_then _ _ _ c.make_room.ensures.spared c.write_whole.ensures.spared
+
+pub returns-in_err-write_whole-clause-draft : goal.returns-in_err-write_whole-clause-draft
+returns-in_err-write_whole-clause-draft g c = none_done _ c.from_residual-in_err-write_whole.result _ c.from_residual-in_err-write_whole.ensures.1
+
+pub returns-in_err-write_whole-clause-ready : goal.returns-in_err-write_whole-clause-ready
+returns-in_err-write_whole-clause-ready g c = none_done _ c.from_residual-in_err-write_whole.result _ c.from_residual-in_err-write_whole.ensures.1
+
+pub returns-in_err-write_whole-clause-serves : goal.returns-in_err-write_whole-clause-serves
+returns-in_err-write_whole-clause-serves g c = none_done _ c.from_residual-in_err-write_whole.result _ c.from_residual-in_err-write_whole.ensures.1
+
+pub returns-in_err-write_whole-clause-staged : goal.returns-in_err-write_whole-clause-staged
+returns-in_err-write_whole-clause-staged g c = none_done _ c.from_residual-in_err-write_whole.result _ c.from_residual-in_err-write_whole.ensures.1
+
+pub returns-in_err-write_whole-clause-bits : goal.returns-in_err-write_whole-clause-bits
+returns-in_err-write_whole-clause-bits g c = none_done _ c.from_residual-in_err-write_whole.result _ c.from_residual-in_err-write_whole.ensures.1
+
+pub returns-in_err-write_whole-clause-setup : goal.returns-in_err-write_whole-clause-setup
+returns-in_err-write_whole-clause-setup g c = none_done _ c.from_residual-in_err-write_whole.result _ c.from_residual-in_err-write_whole.ensures.1
+
+pub returns-in_err-write_whole-clause-writes : goal.returns-in_err-write_whole-clause-writes
+returns-in_err-write_whole-clause-writes g c = none_done _ c.from_residual-in_err-write_whole.result _ c.from_residual-in_err-write_whole.ensures.1
+
+pub returns-in_err-write_whole-clause-epoch : goal.returns-in_err-write_whole-clause-epoch
+returns-in_err-write_whole-clause-epoch g c = none_done _ c.from_residual-in_err-write_whole.result _ c.from_residual-in_err-write_whole.ensures.1
+
+pub returns-in_err-write_whole-clause-still_synced : goal.returns-in_err-write_whole-clause-still_synced
+returns-in_err-write_whole-clause-still_synced g c = none_done _ c.from_residual-in_err-write_whole.result _ c.from_residual-in_err-write_whole.ensures.1
+
+pub returns-in_err-write_whole-clause-unsynced : goal.returns-in_err-write_whole-clause-unsynced
+returns-in_err-write_whole-clause-unsynced g c = none_done _ c.from_residual-in_err-write_whole.result _ c.from_residual-in_err-write_whole.ensures.1
+
+pub returns-in_err-write_whole-clause-rest : goal.returns-in_err-write_whole-clause-rest
+returns-in_err-write_whole-clause-rest g c = none_done _ c.from_residual-in_err-write_whole.result _ c.from_residual-in_err-write_whole.ensures.1
+
+pub returns-in_err-write_whole-clause-names : goal.returns-in_err-write_whole-clause-names
+returns-in_err-write_whole-clause-names g c = none_done _ c.from_residual-in_err-write_whole.result _ c.from_residual-in_err-write_whole.ensures.1
+
+pub returns-in_err-write_whole-clause-marks : goal.returns-in_err-write_whole-clause-marks
+returns-in_err-write_whole-clause-marks g c = none_done _ c.from_residual-in_err-write_whole.result _ c.from_residual-in_err-write_whole.ensures.1
+
+pub returns-in_err-write_whole-clause-down : goal.returns-in_err-write_whole-clause-down
+returns-in_err-write_whole-clause-down g c = none_done _ c.from_residual-in_err-write_whole.result _ c.from_residual-in_err-write_whole.ensures.1
+
+pub returns-in_err-write_whole-clause-stands : goal.returns-in_err-write_whole-clause-stands
+returns-in_err-write_whole-clause-stands g c = none_done _ c.from_residual-in_err-write_whole.result _ c.from_residual-in_err-write_whole.ensures.1
+
+pub returns-clause-draft : goal.returns-clause-draft
+returns-clause-draft g c = c.write_whole.ensures.draft
+
+pub returns-clause-ready : goal.returns-clause-ready
+returns-clause-ready g c = c.in_ok-write_whole.ensures.ready
+
+pub returns-clause-serves : goal.returns-clause-serves
+returns-clause-serves g c = c.in_ok-write_whole.ensures.serves
+
+pub returns-clause-setup : goal.returns-clause-setup
+returns-clause-setup g c = c.in_ok-write_whole.ensures.setup ∙ c.in_ok-make_room.ensures.setup
+
+pub returns-clause-epoch : goal.returns-clause-epoch
+returns-clause-epoch g c = c.in_ok-write_whole.ensures.epoch ∙ c.in_ok-make_room.ensures.epoch
+
+pub returns-clause-writes : goal.returns-clause-writes
+returns-clause-writes g c = c.in_ok-write_whole.ensures.writes ∙ ap (λ (n : ℕ). n + 1) c.in_ok-make_room.ensures.writes
+
+pub returns-clause-staged : goal.returns-clause-staged
+returns-clause-staged g c = let first = c.in_ok-make_room.ensures.staged in let second = c.in_ok-write_whole.ensures.staged in omega (arith, first, second)
+
+pub returns-clause-still_synced : goal.returns-clause-still_synced
+returns-clause-still_synced g c = dry_both (g.R.Rack.slot (core_rack c.args.self.now)) (g.R.Rack.slot (core_rack c.make_room.new.self)) (g.R.Rack.slot (core_rack c.write_whole.new.self)) c.in_ok-make_room.ensures.still_synced c.write_whole.ensures.still_synced c.write_whole.ensures.spared
+
+pub returns-clause-unsynced : goal.returns-clause-unsynced
+returns-clause-unsynced g c was = c.in_ok-write_whole.ensures.unsynced (c.in_ok-make_room.ensures.unsynced was)
+
+pub returns-clause-two : goal.returns-clause-two
+returns-clause-two g c = tt
+
+pub returns-clause-tells : goal.returns-clause-tells
+returns-clause-tells g c = tt
+
+pub returns-clause-down : goal.returns-clause-down
+returns-clause-down g c = down_both _ _ _ _ _ _ c.in_ok-make_room.ensures.down c.make_room.ensures.spared c.in_ok-write_whole.ensures.down c.write_whole.ensures.spared
+
+pub write_whole-requires-clause-ready : goal.write_whole-requires-clause-ready
+write_whole-requires-clause-ready g c = c.in_ok-make_room.ensures.ready
+
+pub write_whole-requires-clause-serves : goal.write_whole-requires-clause-serves
+write_whole-requires-clause-serves g c = c.in_ok-make_room.ensures.serves
+
+pub write_whole-requires-clause-room : goal.write_whole-requires-clause-room
+write_whole-requires-clause-room g c = c.in_ok-make_room.ensures.room
+
+pub write_whole-requires-clause-blocks : goal.write_whole-requires-clause-blocks
+write_whole-requires-clause-blocks g c = subst (λ (z : Setup). All (λ (pair : ℕ × BlockType). pair.0 < z.geometry.rows * (z.geometry.disks - 1)) (pairs_of c.args.pairs.now)) (sym c.in_ok-make_room.ensures.setup) c.requires.blocks
+
+pub write_whole-requires-clause-fits : goal.write_whole-requires-clause-fits
+write_whole-requires-clause-fits g c = subst (λ (n : ℕ). n + 1 < 2 ^ 64) (sym c.in_ok-make_room.ensures.writes) c.requires.fits

@@ -18,6 +18,7 @@ use Rattle.paraid_core.proofs.OrderLemmas.{core_tells_then, data_bears}
 use Rattle.paraid_rack.specs.Told.{Ran}
 use Rattle.paraid_image.specs.Out.{named_out}
 use Rattle.paraid_image.specs.Lost.{TellsLosses}
+use Rattle.paraid_core.proofs.ErrLemmas.{done_not_dropped, none_done, none_done_as}
 use Rattle.paraid_core.proofs.staged.Core.write_members.Goals as goal
 
 pub loop-disk-init : goal.loop-disk-init
@@ -128,3 +129,45 @@ returns-in_err-done-clause-tells g c =
     handed (λ two. Ran (g.R.Rack.told (store_rack c.args.self.now.store)) (g.R.Rack.told (store_rack c.write_member.new.self.store)) (λ s cs. TellsLosses (named_out c.args.self.now.meta.out) two cs)) c.from_residual.result _ c.from_residual.ensures.1
     (core_tells_then g.R.Rack.slot g.R.Rack.told g.met.R.Rack.agrees old mid c.requires.ready.absent marks c.write_member.new.self _
     (data_bears g.R.Rack.slot g.R.Rack.told g.met.R.Rack.agrees old mid c.requires.ready.absent marks c.loop-disk.invariant.calls) c.in_err-done.ensures.tells)
+
+pub returns-in_err-done-clause-leaves : goal.returns-in_err-done-clause-leaves
+returns-in_err-done-clause-leaves g c = none_done _ c.from_residual.result _ c.from_residual.ensures.1
+
+pub returns-in_err-done-clause-marks : goal.returns-in_err-done-clause-marks
+returns-in_err-done-clause-marks g c = none_done _ c.from_residual.result _ c.from_residual.ensures.1
+
+pub returns-in_err-done-clause-same : goal.returns-in_err-done-clause-same
+returns-in_err-done-clause-same g c is = none_done_as _ c.from_residual.result _ _ c.from_residual.ensures.1 is
+
+pub returns-in_err-done-clause-filled : goal.returns-in_err-done-clause-filled
+returns-in_err-done-clause-filled g c is = none_done_as _ c.from_residual.result _ _ c.from_residual.ensures.1 is
+
+pub returns-in_err-done-clause-failed : goal.returns-in_err-done-clause-failed
+returns-in_err-done-clause-failed g c is = none_done_as _ c.from_residual.result _ _ c.from_residual.ensures.1 is
+
+pub returns-in_err-done-clause-lost : goal.returns-in_err-done-clause-lost
+returns-in_err-done-clause-lost g c is = none_done_as _ c.from_residual.result _ _ c.from_residual.ensures.1 is
+
+pub returns-then-not-done-clause-same : goal.returns-then-not-done-clause-same
+returns-then-not-done-clause-same g c is = done_not_dropped _ _ is refl
+
+pub returns-then-not-done-clause-filled : goal.returns-then-not-done-clause-filled
+returns-then-not-done-clause-filled g c is = done_not_dropped _ _ is refl
+
+pub returns-then-not-done-clause-two : goal.returns-then-not-done-clause-two
+returns-then-not-done-clause-two g c = tt
+
+pub returns-then-not-done-clause-tells : goal.returns-then-not-done-clause-tells
+returns-then-not-done-clause-tells g c = tt
+
+pub returns-clause-failed : goal.returns-clause-failed
+returns-clause-failed g c is = done_not_dropped _ _ refl is
+
+pub returns-clause-lost : goal.returns-clause-lost
+returns-clause-lost g c is = done_not_dropped _ _ refl is
+
+pub returns-clause-two : goal.returns-clause-two
+returns-clause-two g c = tt
+
+pub returns-clause-tells : goal.returns-clause-tells
+returns-clause-tells g c = tt

@@ -3,6 +3,7 @@ use Rattle.std.proofs.Common.{arith, ◌≡◌, ℕ, ◌∙◌, ◌<◌, Some, N
 use Rattle.std.specs.Prelude.{Option, is_ok}
 use Rattle.paraid_base.specs.Told.{HasRisen}
 use Rattle.paraid_image.specs.Out.{named_out}
+use Rattle.paraid_rack.specs.Slots.{Slot}
 use Rattle.paraid_rack.specs.declared.call.Call.TheVariants.{Write}
 use Rattle.paraid_rack.specs.Disks.{is_present, step}
 use Rattle.paraid_record.specs.declared.meta.Meta.{Meta}
@@ -27,6 +28,7 @@ use Rattle.paraid_image.specs.Lost.{TellsLosses}
 use Rattle.paraid_core.proofs.AfterLemmas.{handed}
 use Rattle.paraid_core.proofs.staged.Core.write_unit.Given.{Over}
 use Rattle.paraid_core.proofs.staged.Core.write_unit.Goals as goal
+use Rattle.paraid_core.proofs.ErrLemmas.{done_not_dropped, none_done, none_done_as, two_lost}
 use Rattle.paraid_core.proofs.staged.Core.write_unit.Goals.{In_ok-lose}
 
 pub returns-in_default-clause-leaves : goal.returns-in_default-clause-leaves
@@ -141,3 +143,85 @@ pub returns-in_err-lose-clause-tells : goal.returns-in_err-lose-clause-tells
 returns-in_err-lose-clause-tells g c =
     handed (λ two. Ran (g.R.Rack.told (store_rack c.args.self.now.store)) (g.R.Rack.told (store_rack c.write_free-answer.new.self)) (λ s cs. TellsLosses (named_out c.args.self.now.meta.out) two cs)) c.from_residual.result _ c.from_residual.ensures.1
     (call_tells (named_out c.args.self.now.meta.out) _ (Write c.args.disk c.place_of_unit-place.result c.args.block.now (is_ok c.write_free-answer.result)) _ _ c.write_free-answer.ensures.told (ap is_ok c.in-Err.is) c.in_err-lose.ensures.two)
+
+pub returns-in_default-clause-same : goal.returns-in_default-clause-same
+returns-in_default-clause-same g c is = refl
+
+pub returns-in_default-clause-spins : goal.returns-in_default-clause-spins
+returns-in_default-clause-spins g c is = ap (λ (s : Slot). s.power) (c.write_free-answer.ensures.slot.done (ap is_ok c.in_default.is)) ∙ c.requires.spins
+
+pub returns-in_default-clause-spared : goal.returns-in_default-clause-spared
+returns-in_default-clause-spared g c = call_spared 8 _ _ _ _ _ _ c.write_free-answer.ensures.slot refl refl refl
+
+pub returns-in_default-clause-two : goal.returns-in_default-clause-two
+returns-in_default-clause-two g c = tt
+
+pub returns-in_default-clause-tells : goal.returns-in_default-clause-tells
+returns-in_default-clause-tells g c = tt
+
+pub returns-in_default-clause-gone : goal.returns-in_default-clause-gone
+returns-in_default-clause-gone g c is = done_not_dropped _ _ refl is
+
+pub returns-in_default-clause-failed : goal.returns-in_default-clause-failed
+returns-in_default-clause-failed g c is = done_not_dropped _ _ refl is
+
+pub returns-in_default-clause-lost : goal.returns-in_default-clause-lost
+returns-in_default-clause-lost g c is = done_not_dropped _ _ refl is
+
+pub returns-in_err-lose-clause-leaves : goal.returns-in_err-lose-clause-leaves
+returns-in_err-lose-clause-leaves g c = none_done _ c.from_residual.result _ c.from_residual.ensures.1
+
+pub returns-in_err-lose-clause-marks : goal.returns-in_err-lose-clause-marks
+returns-in_err-lose-clause-marks g c = none_done _ c.from_residual.result _ c.from_residual.ensures.1
+
+pub returns-in_err-lose-clause-same : goal.returns-in_err-lose-clause-same
+returns-in_err-lose-clause-same g c is = none_done_as _ c.from_residual.result _ _ c.from_residual.ensures.1 is
+
+pub returns-in_err-lose-clause-spins : goal.returns-in_err-lose-clause-spins
+returns-in_err-lose-clause-spins g c is = none_done_as _ c.from_residual.result _ _ c.from_residual.ensures.1 is
+
+pub returns-in_err-lose-clause-copied : goal.returns-in_err-lose-clause-copied
+returns-in_err-lose-clause-copied g c is = none_done_as _ c.from_residual.result _ _ c.from_residual.ensures.1 is
+
+pub returns-in_err-lose-clause-gone : goal.returns-in_err-lose-clause-gone
+returns-in_err-lose-clause-gone g c is = none_done_as _ c.from_residual.result _ _ c.from_residual.ensures.1 is
+
+pub returns-in_err-lose-clause-failed : goal.returns-in_err-lose-clause-failed
+returns-in_err-lose-clause-failed g c is = none_done_as _ c.from_residual.result _ _ c.from_residual.ensures.1 is
+
+pub returns-in_err-lose-clause-lost : goal.returns-in_err-lose-clause-lost
+returns-in_err-lose-clause-lost g c is = none_done_as _ c.from_residual.result _ _ c.from_residual.ensures.1 is
+
+pub returns-in_err-lose-clause-spared : goal.returns-in_err-lose-clause-spared
+returns-in_err-lose-clause-spared g c = call_spared 8 _ _ _ _ _ _ c.write_free-answer.ensures.slot refl refl refl
+
+pub returns-in_err-lose-clause-moments : goal.returns-in_err-lose-clause-moments
+returns-in_err-lose-clause-moments g c h lo =
+    let q = c.requires in
+    unit_held g.R.Rack.slot_count g.R.Rack.slot g.R.Rack.told c.args.self.now q.ready (g.met.R.Rack.agrees (store_rack c.args.self.now.store)) q.nothing c.args.number c.args.disk c.args.unit q.fresh q.unit
+    _ c.args.block.now c.place_of_unit-place.result c.place_of_unit-place.ensures.value c.place_of_unit-place.ensures.past_log _
+    c.write_free-answer.ensures.told q.from _ (record { here = c.mark.ensures.here; others = c.mark.ensures.others }) h lo
+
+pub returns-clause-same : goal.returns-clause-same
+returns-clause-same g c is = done_not_dropped _ _ is refl
+
+pub returns-clause-spins : goal.returns-clause-spins
+returns-clause-spins g c is = done_not_dropped _ _ is refl
+
+pub returns-clause-copied : goal.returns-clause-copied
+returns-clause-copied g c is = done_not_dropped _ _ is refl
+
+pub returns-clause-spared : goal.returns-clause-spared
+returns-clause-spared g c = call_spared 8 _ _ _ _ _ _ c.write_free-answer.ensures.slot refl refl refl
+
+pub returns-clause-two : goal.returns-clause-two
+returns-clause-two g c = tt
+
+pub returns-clause-tells : goal.returns-clause-tells
+returns-clause-tells g c = tt
+
+pub returns-in_err-lose-clause-two : goal.returns-in_err-lose-clause-two
+returns-in_err-lose-clause-two g c =
+    let old = c.args.self.now in
+    handed _ c.from_residual.result _ c.from_residual.ensures.1
+    (two_lost (named_of old.store) (named_out old.meta.out) _ _ c.args.disk _ c.requires.still (c.write_free-answer.ensures.slot.risen (ap is_ok c.in-Err.is)) c.in_err-lose.ensures.two)

@@ -12,7 +12,8 @@ use Rattle.paraid_txn.specs.Stores.{named_of}
 use Rattle.paraid_core.specs.declared.staged.Core.{Core}
 use Rattle.paraid_core.specs.Cores.{IsCoreHeldSinceCommit, CoreStandsFor, core_down, core_rack}
 use Rattle.paraid_core.proofs.AfterLemmas.{handed}
-use Rattle.paraid_core.proofs.ChainLemmas.{after_same, done_then, ended, two_after}
+use Rattle.paraid_core.proofs.ChainLemmas.{after_same, done_then, down_both, ended, two_after}
+use Rattle.paraid_core.proofs.ErrLemmas.{none_done}
 use Rattle.paraid_core.proofs.KindLemmas.{calls_then, data_after, none_gone, reads_then}
 use Rattle.paraid_core.proofs.LostMarkLemmas.{marks_then}
 use Rattle.paraid_core.proofs.OrderLemmas.{core_tells_then, data_bears}
@@ -22,6 +23,11 @@ use Rattle.paraid_image.specs.Lost.{TellsLosses}
 use Rattle.paraid_core.proofs.UnsyncedLemmas.{gone_lost, unsynced_kept}
 use Rattle.paraid_core.proofs.staged.Core.write_whole.Given.{Over}
 use Rattle.paraid_core.proofs.staged.Core.write_whole.Goals as goal
+use Rattle.std.proofs.Common.{length, ◌+◌, ◌-◌, ◌*◌, ◌<◌, ◌≤◌, sym, arith}
+use Rattle.std.specs.Prelude.{All}
+use Rattle.paraid_base.specs.declared.block.Block.{Block as BlockType}
+use Rattle.paraid_view.proofs.TwoLemmas.{spared_then}
+use Rattle.paraid_core.proofs.StepLemmas.{dry_both}
 use Rattle.paraid_core.proofs.staged.Core.write_whole.Goals.{In_ok-try_write}
 
 pub returns-then-done-clause-stands : goal.returns-then-done-clause-stands
@@ -150,3 +156,240 @@ returns-then-done-clause-unsynced g c =
     let new = c.try_write.new.self in
     let done = c.in_ok-done.ensures in
     unsynced_kept g.R.Rack.slot old new done.setup (gone_lost _ _ old.meta new.meta done.marks) c.try_write.ensures.spared c.try_write.ensures.copied c.try_write.ensures.still_synced
+
+pub returns-in_err-done-clause-draft : goal.returns-in_err-done-clause-draft
+returns-in_err-done-clause-draft g c = c.try_write.ensures.draft
+
+pub returns-in_err-done-clause-copied : goal.returns-in_err-done-clause-copied
+returns-in_err-done-clause-copied g c = c.try_write.ensures.copied
+
+pub returns-in_err-done-clause-slots : goal.returns-in_err-done-clause-slots
+returns-in_err-done-clause-slots g c = c.try_write.ensures.slots
+
+pub returns-in_err-done-clause-spared : goal.returns-in_err-done-clause-spared
+returns-in_err-done-clause-spared g c = c.try_write.ensures.spared
+
+pub returns-in_err-done-clause-still_synced : goal.returns-in_err-done-clause-still_synced
+returns-in_err-done-clause-still_synced g c = c.try_write.ensures.still_synced
+
+pub returns-in_err-done-clause-ready : goal.returns-in_err-done-clause-ready
+returns-in_err-done-clause-ready g c = none_done _ c.from_residual.result _ c.from_residual.ensures.1
+
+pub returns-in_err-done-clause-serves : goal.returns-in_err-done-clause-serves
+returns-in_err-done-clause-serves g c = none_done _ c.from_residual.result _ c.from_residual.ensures.1
+
+pub returns-in_err-done-clause-staged : goal.returns-in_err-done-clause-staged
+returns-in_err-done-clause-staged g c = none_done _ c.from_residual.result _ c.from_residual.ensures.1
+
+pub returns-in_err-done-clause-bits : goal.returns-in_err-done-clause-bits
+returns-in_err-done-clause-bits g c = none_done _ c.from_residual.result _ c.from_residual.ensures.1
+
+pub returns-in_err-done-clause-setup : goal.returns-in_err-done-clause-setup
+returns-in_err-done-clause-setup g c = none_done _ c.from_residual.result _ c.from_residual.ensures.1
+
+pub returns-in_err-done-clause-writes : goal.returns-in_err-done-clause-writes
+returns-in_err-done-clause-writes g c = none_done _ c.from_residual.result _ c.from_residual.ensures.1
+
+pub returns-in_err-done-clause-epoch : goal.returns-in_err-done-clause-epoch
+returns-in_err-done-clause-epoch g c = none_done _ c.from_residual.result _ c.from_residual.ensures.1
+
+pub returns-in_err-done-clause-unsynced : goal.returns-in_err-done-clause-unsynced
+returns-in_err-done-clause-unsynced g c = none_done _ c.from_residual.result _ c.from_residual.ensures.1
+
+pub returns-in_err-done-clause-marks : goal.returns-in_err-done-clause-marks
+returns-in_err-done-clause-marks g c = none_done _ c.from_residual.result _ c.from_residual.ensures.1
+
+pub returns-in_err-done-clause-named : goal.returns-in_err-done-clause-named
+returns-in_err-done-clause-named g c = none_done _ c.from_residual.result _ c.from_residual.ensures.1
+
+pub returns-in_err-done-clause-down : goal.returns-in_err-done-clause-down
+returns-in_err-done-clause-down g c = none_done _ c.from_residual.result _ c.from_residual.ensures.1
+
+pub returns-in_err-done-clause-stands : goal.returns-in_err-done-clause-stands
+returns-in_err-done-clause-stands g c = none_done _ c.from_residual.result _ c.from_residual.ensures.1
+
+pub returns-in_err-done-clause-two : goal.returns-in_err-done-clause-two
+returns-in_err-done-clause-two g c = handed (AreTwoDown (core_down c.args.self.now) (g.R.Rack.slot (core_rack c.args.self.now)) (g.R.Rack.slot (core_rack c.try_write.new.self))) c.from_residual.result _ c.from_residual.ensures.1 c.in_err-done.ensures.two
+
+pub returns-in_err-done-clause-tells : goal.returns-in_err-done-clause-tells
+returns-in_err-done-clause-tells g c = handed (λ two. Ran (g.R.Rack.told (store_rack c.args.self.now.store)) (g.R.Rack.told (store_rack c.try_write.new.self.store)) (λ s cs. TellsLosses (named_out c.args.self.now.meta.out) two cs)) c.from_residual.result _ c.from_residual.ensures.1 c.in_err-done.ensures.tells
+
+pub returns-in_err-done-clause-moments : goal.returns-in_err-done-clause-moments
+returns-in_err-done-clause-moments g c = c.try_write.ensures.moments_since
+
+pub returns-then-done-clause-draft : goal.returns-then-done-clause-draft
+returns-then-done-clause-draft g c = c.try_write.ensures.draft
+
+pub returns-then-done-clause-copied : goal.returns-then-done-clause-copied
+returns-then-done-clause-copied g c = c.try_write.ensures.copied
+
+pub returns-then-done-clause-slots : goal.returns-then-done-clause-slots
+returns-then-done-clause-slots g c = c.try_write.ensures.slots
+
+pub returns-then-done-clause-spared : goal.returns-then-done-clause-spared
+returns-then-done-clause-spared g c = c.try_write.ensures.spared
+
+pub returns-then-done-clause-still_synced : goal.returns-then-done-clause-still_synced
+returns-then-done-clause-still_synced g c = c.try_write.ensures.still_synced
+
+pub returns-then-done-clause-ready : goal.returns-then-done-clause-ready
+returns-then-done-clause-ready g c = c.in_ok-done.ensures.ready
+
+pub returns-then-done-clause-serves : goal.returns-then-done-clause-serves
+returns-then-done-clause-serves g c = c.in_ok-done.ensures.serves
+
+pub returns-then-done-clause-setup : goal.returns-then-done-clause-setup
+returns-then-done-clause-setup g c = c.in_ok-done.ensures.setup
+
+pub returns-then-done-clause-epoch : goal.returns-then-done-clause-epoch
+returns-then-done-clause-epoch g c = c.in_ok-done.ensures.epoch
+
+pub returns-then-done-clause-down : goal.returns-then-done-clause-down
+returns-then-done-clause-down g c = c.in_ok-done.ensures.down
+
+pub returns-then-done-clause-two : goal.returns-then-done-clause-two
+returns-then-done-clause-two g c = tt
+
+pub returns-then-done-clause-tells : goal.returns-then-done-clause-tells
+returns-then-done-clause-tells g c = tt
+
+pub returns-then-done-clause-staged : goal.returns-then-done-clause-staged
+returns-then-done-clause-staged g c = subst (λ (b : Bool). length c.try_write.new.self.batch ≤ length c.args.self.now.batch + (if b then 10 * c.args.pairs.now.count else 0)) c.if-done.true c.in_ok-done.ensures.room
+
+pub returns-then-done-clause-writes : goal.returns-then-done-clause-writes
+returns-then-done-clause-writes g c = c.in_ok-done.ensures.writes ∙ ap (λ (b : Bool). c.args.self.now.meta.writes + (if b then 1 else 0)) c.if-done.true
+
+pub returns-then-done-clause-moments : goal.returns-then-done-clause-moments
+returns-then-done-clause-moments g c = c.try_write.ensures.moments_since
+
+pub returns-in_err-try_write-clause-draft : goal.returns-in_err-try_write-clause-draft
+returns-in_err-try_write-clause-draft g c = c.try_write-2.ensures.draft
+
+pub returns-in_err-try_write-clause-copied : goal.returns-in_err-try_write-clause-copied
+returns-in_err-try_write-clause-copied g c = c.try_write-2.ensures.copied ∙ c.try_write.ensures.copied
+
+pub returns-in_err-try_write-clause-slots : goal.returns-in_err-try_write-clause-slots
+returns-in_err-try_write-clause-slots g c = c.try_write-2.ensures.slots ∙ c.try_write.ensures.slots
+
+pub returns-in_err-try_write-clause-spared : goal.returns-in_err-try_write-clause-spared
+returns-in_err-try_write-clause-spared g c = spared_then _ _ _ c.try_write.ensures.spared c.try_write-2.ensures.spared
+
+pub returns-clause-draft : goal.returns-clause-draft
+returns-clause-draft g c = c.try_write-2.ensures.draft
+
+pub returns-clause-copied : goal.returns-clause-copied
+returns-clause-copied g c = c.try_write-2.ensures.copied ∙ c.try_write.ensures.copied
+
+pub returns-clause-slots : goal.returns-clause-slots
+returns-clause-slots g c = c.try_write-2.ensures.slots ∙ c.try_write.ensures.slots
+
+pub returns-clause-spared : goal.returns-clause-spared
+returns-clause-spared g c = spared_then _ _ _ c.try_write.ensures.spared c.try_write-2.ensures.spared
+
+pub returns-in_err-try_write-clause-ready : goal.returns-in_err-try_write-clause-ready
+returns-in_err-try_write-clause-ready g c = none_done _ c.from_residual-in_err-try_write.result _ c.from_residual-in_err-try_write.ensures.1
+
+pub returns-in_err-try_write-clause-serves : goal.returns-in_err-try_write-clause-serves
+returns-in_err-try_write-clause-serves g c = none_done _ c.from_residual-in_err-try_write.result _ c.from_residual-in_err-try_write.ensures.1
+
+pub returns-in_err-try_write-clause-staged : goal.returns-in_err-try_write-clause-staged
+returns-in_err-try_write-clause-staged g c = none_done _ c.from_residual-in_err-try_write.result _ c.from_residual-in_err-try_write.ensures.1
+
+pub returns-in_err-try_write-clause-bits : goal.returns-in_err-try_write-clause-bits
+returns-in_err-try_write-clause-bits g c = none_done _ c.from_residual-in_err-try_write.result _ c.from_residual-in_err-try_write.ensures.1
+
+pub returns-in_err-try_write-clause-setup : goal.returns-in_err-try_write-clause-setup
+returns-in_err-try_write-clause-setup g c = none_done _ c.from_residual-in_err-try_write.result _ c.from_residual-in_err-try_write.ensures.1
+
+pub returns-in_err-try_write-clause-writes : goal.returns-in_err-try_write-clause-writes
+returns-in_err-try_write-clause-writes g c = none_done _ c.from_residual-in_err-try_write.result _ c.from_residual-in_err-try_write.ensures.1
+
+pub returns-in_err-try_write-clause-epoch : goal.returns-in_err-try_write-clause-epoch
+returns-in_err-try_write-clause-epoch g c = none_done _ c.from_residual-in_err-try_write.result _ c.from_residual-in_err-try_write.ensures.1
+
+pub returns-in_err-try_write-clause-unsynced : goal.returns-in_err-try_write-clause-unsynced
+returns-in_err-try_write-clause-unsynced g c = none_done _ c.from_residual-in_err-try_write.result _ c.from_residual-in_err-try_write.ensures.1
+
+pub returns-in_err-try_write-clause-marks : goal.returns-in_err-try_write-clause-marks
+returns-in_err-try_write-clause-marks g c = none_done _ c.from_residual-in_err-try_write.result _ c.from_residual-in_err-try_write.ensures.1
+
+pub returns-in_err-try_write-clause-named : goal.returns-in_err-try_write-clause-named
+returns-in_err-try_write-clause-named g c = none_done _ c.from_residual-in_err-try_write.result _ c.from_residual-in_err-try_write.ensures.1
+
+pub returns-in_err-try_write-clause-down : goal.returns-in_err-try_write-clause-down
+returns-in_err-try_write-clause-down g c = none_done _ c.from_residual-in_err-try_write.result _ c.from_residual-in_err-try_write.ensures.1
+
+pub returns-in_err-try_write-clause-stands : goal.returns-in_err-try_write-clause-stands
+returns-in_err-try_write-clause-stands g c = none_done _ c.from_residual-in_err-try_write.result _ c.from_residual-in_err-try_write.ensures.1
+
+pub returns-clause-ready : goal.returns-clause-ready
+returns-clause-ready g c = c.in_ok-try_write.ensures.ready
+
+pub returns-clause-serves : goal.returns-clause-serves
+returns-clause-serves g c = c.in_ok-try_write.ensures.serves
+
+pub returns-clause-setup : goal.returns-clause-setup
+returns-clause-setup g c = c.in_ok-try_write.ensures.setup ∙ c.in_ok-done.ensures.setup
+
+pub returns-clause-epoch : goal.returns-clause-epoch
+returns-clause-epoch g c = c.in_ok-try_write.ensures.epoch ∙ c.in_ok-done.ensures.epoch
+
+pub returns-clause-two : goal.returns-clause-two
+returns-clause-two g c = tt
+
+pub returns-clause-tells : goal.returns-clause-tells
+returns-clause-tells g c = tt
+
+pub returns-clause-down : goal.returns-clause-down
+returns-clause-down g c = down_both _ _ _ _ _ _ c.in_ok-done.ensures.down c.try_write.ensures.spared c.in_ok-try_write.ensures.down c.try_write-2.ensures.spared
+
+pub returns-clause-staged : goal.returns-clause-staged
+returns-clause-staged g c =
+    let old = c.args.self.now in
+    let mid = c.try_write.new.self in
+    let new = c.try_write-2.new.self in
+    subst (λ (n : ℕ). length new.batch ≤ n + 10 * c.args.pairs.now.count) (ap length (c.in_ok-done.ensures.dropped c.if-done.false))
+    (subst (λ (b : Bool). length new.batch ≤ length mid.batch + (if b then 10 * c.args.pairs.now.count else 0)) (again g c) c.in_ok-try_write.ensures.room)
+
+pub returns-clause-writes : goal.returns-clause-writes
+returns-clause-writes g c =
+    let old = c.args.self.now in
+    let mid = c.try_write.new.self in
+    let first : mid.meta.writes ≡ old.meta.writes + 0 = c.in_ok-done.ensures.writes ∙ ap (λ (b : Bool). old.meta.writes + (if b then 1 else 0)) c.if-done.false in
+    let second = c.in_ok-try_write.ensures.writes ∙ ap (λ (b : Bool). mid.meta.writes + (if b then 1 else 0)) (again g c) in
+    omega (arith, first, second)
+
+pub try_write-requires-2-clause-ready : goal.try_write-requires-2-clause-ready
+try_write-requires-2-clause-ready g c = c.in_ok-done.ensures.ready
+
+pub try_write-requires-2-clause-serves : goal.try_write-requires-2-clause-serves
+try_write-requires-2-clause-serves g c = c.in_ok-done.ensures.serves
+
+pub try_write-requires-2-clause-blocks : goal.try_write-requires-2-clause-blocks
+try_write-requires-2-clause-blocks g c = subst (λ (z : Setup). All (λ (pair : ℕ × BlockType). pair.0 < z.geometry.rows * (z.geometry.disks - 1)) (pairs_of c.args.pairs.now)) (sym c.in_ok-done.ensures.setup) c.requires.blocks
+
+pub try_write-requires-2-clause-room : goal.try_write-requires-2-clause-room
+try_write-requires-2-clause-room g c = subst (λ (n : ℕ). n + 10 * c.args.pairs.now.count ≤ 96) (ap length (sym (c.in_ok-done.ensures.dropped c.if-done.false))) c.requires.room
+
+pub try_write-requires-2-clause-fits : goal.try_write-requires-2-clause-fits
+try_write-requires-2-clause-fits g c =
+    let old = c.args.self.now in
+    let first : c.try_write.new.self.meta.writes ≡ old.meta.writes + 0 = c.in_ok-done.ensures.writes ∙ ap (λ (b : Bool). old.meta.writes + (if b then 1 else 0)) c.if-done.false in
+    let fits = c.requires.fits in
+    omega (arith, first, fits)
+
+pub returns-in_err-try_write-clause-still_synced : goal.returns-in_err-try_write-clause-still_synced
+returns-in_err-try_write-clause-still_synced g c = dry_both (g.R.Rack.slot (core_rack c.args.self.now)) (g.R.Rack.slot (core_rack c.try_write.new.self)) (g.R.Rack.slot (core_rack c.try_write-2.new.self)) c.try_write.ensures.still_synced c.try_write-2.ensures.still_synced c.try_write-2.ensures.spared
+
+pub returns-clause-still_synced : goal.returns-clause-still_synced
+returns-clause-still_synced g c = dry_both (g.R.Rack.slot (core_rack c.args.self.now)) (g.R.Rack.slot (core_rack c.try_write.new.self)) (g.R.Rack.slot (core_rack c.try_write-2.new.self)) c.try_write.ensures.still_synced c.try_write-2.ensures.still_synced c.try_write-2.ensures.spared
+
+pub returns-clause-unsynced : goal.returns-clause-unsynced
+returns-clause-unsynced g c was =
+    let old = c.args.self.now in
+    let mid = c.try_write.new.self in
+    let new = c.try_write-2.new.self in
+    let first = c.in_ok-done.ensures in
+    let second = c.in_ok-try_write.ensures in
+    unsynced_kept g.R.Rack.slot mid new second.setup (gone_lost _ _ mid.meta new.meta second.marks) c.try_write-2.ensures.spared c.try_write-2.ensures.copied c.try_write-2.ensures.still_synced
+    (unsynced_kept g.R.Rack.slot old mid first.setup (gone_lost _ _ old.meta mid.meta first.marks) c.try_write.ensures.spared c.try_write.ensures.copied c.try_write.ensures.still_synced was)

@@ -1,16 +1,13 @@
-use Rattle.std.proofs.lemmas.Result.{err_from_is_err_and}
+use Rattle.std.proofs.Common.{◌∙◌}
+use Rattle.std.proofs.lemmas.Result.{IfErr-weaker, on_ok_weaker}
+use Rattle.paraid_nbd.proofs.TakingLemmas.{Lacks-of, cut_length}
 use Rattle.paraid_nbd.proofs.input.Input.skip_piece.Goals as goal
 
-pub returns-in_err-fill-clause-takes : goal.returns-in_err-fill-clause-takes
-returns-in_err-fill-clause-takes g c =
-    let p = err_from_is_err_and c.from_residual.result c.from_residual.ensures.1 in
-    rw p.1 tt
-
-pub returns-in_err-fill-clause-later : goal.returns-in_err-fill-clause-later
-returns-in_err-fill-clause-later g c = c.in_err-fill.ensures.later
+pub returns-clause-takes : goal.returns-clause-takes
+returns-clause-takes g c = on_ok_weaker c.fill.result (λ t. (c.fill.new.into, c.fill.auto.into ∙ cut_length c.args.count 4096 c.requires, t)) c.fill.ensures.takes
 
 pub returns-clause-lacks : goal.returns-clause-lacks
-returns-clause-lacks g c = tt
+returns-clause-lacks g c = IfErr-weaker c.fill.result _ _ (λ e l. Lacks-of _ c.args.count (cut_length c.args.count 4096 c.requires) l) c.fill.ensures.lacks
 
 pub returns-clause-later : goal.returns-clause-later
-returns-clause-later g c = c.in_ok-fill.ensures.later
+returns-clause-later g c = c.fill.ensures.later

@@ -11,6 +11,7 @@ use Rattle.paraid_rack.specs.Disks.{Disks}
 use Rattle.paraid_rack.specs.Told.{Ran}
 use Rattle.paraid_txn.specs.CommitStages.{IsSpelled, job}
 use Rattle.paraid_txn.proofs.AloneLemmas.{alone_out, first_only, gone_beside, lost_down, two_beside}
+use Rattle.paraid_txn.proofs.CommitPartLemmas.{raised_if_ok, raised_ok}
 use Rattle.paraid_txn.proofs.DownLemmas.{AreCommitCalls-absent, AreCommitCalls-risen}
 use Rattle.paraid_txn.proofs.StoreLemmas.{commits, next_in_range, start_ready, whole_or_absent}
 use Rattle.paraid_txn.proofs.store.Store.commit.Given.{Over}
@@ -73,6 +74,13 @@ raised : {A : Type 0} (P : Two → Type 0) (result : Result A Two) (two : Two) �
 raised P (Ok it) two is it' = tt
 raised P (Err other) two is it = subst P (sym is) it
 
+-- no disk is not one
+no_disk : {d : ℕ} → None ≡ Some d → ⊥
+no_disk e = cc
+
+same_disk : {d e : ℕ} → Some d ≡ Some e → d ≡ e
+same_disk e = cc
+
 pub returns-in_err-run-clause-powers : goal.returns-in_err-run-clause-powers
 returns-in_err-run-clause-powers g c =
     record { power = c.run.ensures.part.lasts.power; size = c.run.ensures.part.lasts.size; no_fall = c.run.ensures.part.lasts.no_fall }
@@ -121,12 +129,12 @@ returns-in_err-run-clause-gone g c =
 
 pub returns-in-Some-clause-gone : goal.returns-in-Some-clause-gone
 returns-in-Some-clause-gone g c =
-    let both = c.find_second.ensures.two c.in-Some.two (cc) in
+    let both = c.find_second.ensures.two c.in-Some.two c.in-Some.is in
     record {
       first = inl (is_named (sym c.named-named.ensures ∙ both.0));
       second = record {
         there = elim (c.run.ensures.part.on c.in-Some.two.second both.1) [
-          | inl none ↦ (let never : None ≡ Some c.in-Some.two.second = none in cc)
+          | inl none ↦ absurd (no_disk none)
           | inr on ↦ on.1
         ];
         absent = AreCommitCalls-absent _ _ _ _ _ c.run.ensures.part.lasts refl both.1;
@@ -135,7 +143,7 @@ returns-in-Some-clause-gone g c =
 
 pub returns-in-Some-clause-two : goal.returns-in-Some-clause-two
 returns-in-Some-clause-two g c =
-    let both = c.find_second.ensures.two c.in-Some.two (cc) in
+    let both = c.find_second.ensures.two c.in-Some.two c.in-Some.is in
     record {
       first = inl (is_named (sym c.named-named.ensures ∙ both.0));
       apart = both.2;
@@ -153,12 +161,12 @@ returns-clause-alone g c d is =
     let at = goal.at.returns-clause-alone g c in
     let after = c.run.new.losses in
     elim (c.run.ensures.part.on d is) [
-      | inl none ↦ (let never : None ≡ Some d = none in cc)
+      | inl none ↦ absurd (no_disk none)
       | inr on ↦ record {
         below = subst (λ (k : ℕ). k < c.args.self.now.disks) on.0.2 (subst (λ (n : ℕ). disk_of on.0.0 < n) c.requires.array on.0.1.0);
         alone = alone_out _ _ _ _ d on.1
-            (λ e down. let both : Some e ≡ Some d = sym (c.run.ensures.part.lasts.remains e (down_is g at.After-run ∙ down)) ∙ after.agrees d is in cc)
-            (λ e named. c.find_second.ensures.none (cc) d e is (c.named-named.ensures ∙ named));
+            (λ e down. same_disk (sym (c.run.ensures.part.lasts.remains e (down_is g at.After-run ∙ down)) ∙ after.agrees d is))
+            (λ e named. c.find_second.ensures.none c.in_default.is d e is (c.named-named.ensures ∙ named));
       }
     ]
 
@@ -178,11 +186,11 @@ returns-in_err-run-clause-order g c =
 pub returns-in-Some-clause-order : goal.returns-in-Some-clause-order
 returns-in-Some-clause-order g c only is =
     let at = goal.at.returns-in-Some-clause-order g c in
-    let both = c.find_second.ensures.two c.in-Some.two (cc) in
+    let both = c.find_second.ensures.two c.in-Some.two c.in-Some.is in
     let down = only_down g at.After-run only is ∙ is.one c.in-Some.two.first (is_named (sym c.named-named.ensures ∙ both.0)) in
     let still = c.run.ensures.part.lasts.remains c.in-Some.two.first down in
     let lost = c.run.new.losses.agrees c.in-Some.two.second both.1 in
-    absurd (both.2 (let same : Some c.in-Some.two.first ≡ Some c.in-Some.two.second = sym still ∙ lost in cc))
+    absurd (both.2 (same_disk (sym still ∙ lost)))
 
 pub returns-clause-bears : goal.returns-clause-bears
 returns-clause-bears g c only is =
@@ -191,3 +199,72 @@ returns-clause-bears g c only is =
     let down = lost_down c.out_first.result after.down after.lost after.agrees c.run.ensures.part.lasts.down c.run.ensures.part.lasts.remains in
     subst (λ (o : Option ℕ). Ran (g.R.Rack.told c.args.self.now.rack) (g.R.Rack.told c.run.new.rack) (λ start calls. BearsLoss o (or_else after.lost o) calls)) (only_down g at.After-run only is)
     (subst (λ (o : Option ℕ). Ran (g.R.Rack.told c.args.self.now.rack) (g.R.Rack.told c.run.new.rack) (λ start calls. BearsLoss c.out_first.result o calls)) down c.in_ok-run.ensures.part.order)
+
+pub returns-in_err-run-clause-synced : goal.returns-in_err-run-clause-synced
+returns-in_err-run-clause-synced g c = raised_ok _ _ c.from_residual.result c.from_residual.ensures.1
+
+pub returns-in_err-run-clause-epoch : goal.returns-in_err-run-clause-epoch
+returns-in_err-run-clause-epoch g c = raised_ok _ _ c.from_residual.result c.from_residual.ensures.1
+
+pub returns-in_err-run-clause-named : goal.returns-in_err-run-clause-named
+returns-in_err-run-clause-named g c = raised_ok _ _ c.from_residual.result c.from_residual.ensures.1
+
+pub returns-in_err-run-clause-committed : goal.returns-in_err-run-clause-committed
+returns-in_err-run-clause-committed g c = raised_ok _ _ c.from_residual.result c.from_residual.ensures.1
+
+pub returns-in_err-run-clause-lost : goal.returns-in_err-run-clause-lost
+returns-in_err-run-clause-lost g c = raised_if_ok _ _ c.from_residual.result c.from_residual.ensures.1
+
+pub returns-in_err-run-clause-alone : goal.returns-in_err-run-clause-alone
+returns-in_err-run-clause-alone g c = raised_if_ok _ _ c.from_residual.result c.from_residual.ensures.1
+
+pub returns-in_err-run-clause-well : goal.returns-in_err-run-clause-well
+returns-in_err-run-clause-well g c = raised_if_ok _ _ c.from_residual.result c.from_residual.ensures.1
+
+pub returns-in_err-run-clause-bears : goal.returns-in_err-run-clause-bears
+returns-in_err-run-clause-bears g c = raised_if_ok _ _ c.from_residual.result c.from_residual.ensures.1
+
+pub returns-in-Some-clause-synced : goal.returns-in-Some-clause-synced
+returns-in-Some-clause-synced g c = tt
+
+pub returns-in-Some-clause-epoch : goal.returns-in-Some-clause-epoch
+returns-in-Some-clause-epoch g c = tt
+
+pub returns-in-Some-clause-named : goal.returns-in-Some-clause-named
+returns-in-Some-clause-named g c = tt
+
+pub returns-in-Some-clause-committed : goal.returns-in-Some-clause-committed
+returns-in-Some-clause-committed g c = tt
+
+pub returns-in-Some-clause-lost : goal.returns-in-Some-clause-lost
+returns-in-Some-clause-lost g c = tt
+
+pub returns-in-Some-clause-alone : goal.returns-in-Some-clause-alone
+returns-in-Some-clause-alone g c = tt
+
+pub returns-in-Some-clause-well : goal.returns-in-Some-clause-well
+returns-in-Some-clause-well g c = tt
+
+pub returns-in-Some-clause-bears : goal.returns-in-Some-clause-bears
+returns-in-Some-clause-bears g c = tt
+
+pub returns-in-Some-clause-ended : goal.returns-in-Some-clause-ended
+returns-in-Some-clause-ended g c = (refl, refl)
+
+pub returns-clause-two : goal.returns-clause-two
+returns-clause-two g c = tt
+
+pub returns-clause-gone : goal.returns-clause-gone
+returns-clause-gone g c = tt
+
+pub returns-clause-order : goal.returns-clause-order
+returns-clause-order g c = tt
+
+pub returns-clause-ended : goal.returns-clause-ended
+returns-clause-ended g c = tt
+
+pub returns-clause-synced : goal.returns-clause-synced
+returns-clause-synced g c = c.in_ok-run.ensures.still_synced
+
+pub returns-clause-named : goal.returns-clause-named
+returns-clause-named g c = c.named-named.ensures

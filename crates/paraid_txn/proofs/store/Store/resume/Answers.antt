@@ -58,3 +58,21 @@ returns-clause-one g c =
     let at = goal.at.returns-clause-one g c in
     let part = c.in_default.ensures.part in
     rw (← (c.adopt-store.ensures.rack)) (one_stays c.args.meta.now.setup.geometry.disks (named_out c.args.meta.now.out) (named_out c.args.meta.now.out) _ _ _ _ (λ e is. is) (down_by g at.After-end_commit-ended) part.lasts part.well)
+
+pub returns-in-Err-clause-refused : goal.returns-in-Err-clause-refused
+returns-in-Err-clause-refused g c = rw (← (c.adopt-store.ensures.rack), c.close.ensures) c.end_commit-ended.ensures.moments
+
+pub returns-clause-any_moment : goal.returns-clause-any_moment
+returns-clause-any_moment g c = rw (← (c.adopt-store.ensures.rack)) c.end_commit-ended.ensures.moments
+
+pub returns-clause-synced : goal.returns-clause-synced
+returns-clause-synced g c = rw (← (c.adopt-store.ensures.rack)) c.in_default.ensures.still_synced
+
+pub returns-clause-ended : goal.returns-clause-ended
+returns-clause-ended g c = rw (← (c.adopt-store.ensures.rack)) c.in_default.ensures.done
+
+pub returns-clause-laid : goal.returns-clause-laid
+returns-clause-laid g c = rw (← (c.adopt-store.ensures.rack)) c.in_default.ensures.laid
+
+pub returns-clause-slots : goal.returns-clause-slots
+returns-clause-slots g c = rw (← (c.adopt-store.ensures.rack)) c.end_commit-ended.ensures.slots

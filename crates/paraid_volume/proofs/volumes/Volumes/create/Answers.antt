@@ -1,4 +1,6 @@
-use Rattle.std.proofs.Common.{◌≡◌, ◌≢◌, ℕ, ◌+◌, ◌<◌, ◌≤◌, ◌^◌, ◌∙◌, ◌++◌, ◌∷◌, [], length, take, refl, sym, ap, subst, arith}
+use Rattle.paraid_base.specs.declared.fault.Halt.{Halt}
+use Rattle.paraid_volume.proofs.DeviceLemmas.{DeviceGoesOn-none, KeepsMore-none}
+use Rattle.std.proofs.Common.{◌≡◌, ◌≢◌, ℕ, ◌+◌, ◌<◌, ◌≤◌, ◌^◌, ◌∙◌, ◌++◌, ◌∷◌, [], length, take, refl, sym, ap, subst, arith, Option, Some}
 use Rattle.std.proofs.lemmas.List.{take_all}
 use Rattle.paraid_base.specs.History.{History, after_all}
 use Rattle.paraid_volume.specs.Device.{InExtent}
@@ -7,7 +9,7 @@ use Rattle.paraid_volume.specs.TableBlocks.{in_table}
 use Rattle.paraid_volume.specs.Tables.{IsSameTable, IsVolumeTable, extent_count, extent_size, extents_owned, owner_in}
 use Rattle.paraid_volume.specs.Values.{device_of}
 use Rattle.paraid_volume.proofs.CreateLemmas.{inside_moved, shows_new, shows_still, with_moved, with_table}
-use Rattle.paraid_volume.proofs.ExtentLemmas.{back, extents_few, same_live, same_name, same_owned, same_owner}
+use Rattle.paraid_volume.proofs.ExtentLemmas.{back, extents_few, same_live, same_name, same_owned, same_owner, extent_some}
 use Rattle.paraid_volume.proofs.LaidLemmas.{laid_rest, laid_table}
 use Rattle.paraid_volume.specs.NameValues.{letter_of}
 use Rattle.std.proofs.Common.{None}
@@ -28,6 +30,10 @@ itself n = omega arith
 
 few_of : (e n m : ℕ) → e < n → n ≡ m → m ≤ 2048 → e < 2048
 few_of e n m below is few = omega (arith, below, is, few)
+
+-- a halt is no want of one
+halts : (h : Halt) → ◌≡◌ {A = Option Halt} (Some h) None → ⊥
+halts h e = cc
 
 pub invariant_of-self : goal.invariant_of-self
 invariant_of-self g c =
@@ -154,3 +160,279 @@ returns-then-free-extents-clause-lived_refused g c = λ none from start log live
     lived_refused _ _ _ start log lived (create (letter_of c.args.name.now) c.args.extents) (Space c.free-free.result) (λ h stands. stands)
     (λ h s stands shows. create_refused _ (in_table c.args.self.now.table) (after_all h) s stands.1 shows c.args.self.now.large None refl c.args.name.now c.args.extents (Space c.free-free.result)
     (c.in_default-find.ensures.none, (c.in-Some-free_id.id, c.in-Some-free_id.ensures.some), c.free-free.ensures, c.if-free-extents.true))
+
+pub returns-in-Some-clause-fresh : goal.returns-in-Some-clause-fresh
+returns-in-Some-clause-fresh g c = tt
+
+pub returns-in-Some-clause-some : goal.returns-in-Some-clause-some
+returns-in-Some-clause-some g c = tt
+
+pub returns-in-Some-clause-room : goal.returns-in-Some-clause-room
+returns-in-Some-clause-room g c = tt
+
+pub returns-in-Some-clause-id : goal.returns-in-Some-clause-id
+returns-in-Some-clause-id g c = tt
+
+pub returns-in-Some-clause-makes : goal.returns-in-Some-clause-makes
+returns-in-Some-clause-makes g c = tt
+
+pub returns-in-Some-clause-lived : goal.returns-in-Some-clause-lived
+returns-in-Some-clause-lived g c = tt
+
+pub returns-in-Some-find-clause-fresh : goal.returns-in-Some-find-clause-fresh
+returns-in-Some-find-clause-fresh g c = tt
+
+pub returns-in-Some-find-clause-some : goal.returns-in-Some-find-clause-some
+returns-in-Some-find-clause-some g c = tt
+
+pub returns-in-Some-find-clause-room : goal.returns-in-Some-find-clause-room
+returns-in-Some-find-clause-room g c = tt
+
+pub returns-in-Some-find-clause-id : goal.returns-in-Some-find-clause-id
+returns-in-Some-find-clause-id g c = tt
+
+pub returns-in-Some-find-clause-makes : goal.returns-in-Some-find-clause-makes
+returns-in-Some-find-clause-makes g c = tt
+
+pub returns-in-Some-find-clause-lived : goal.returns-in-Some-find-clause-lived
+returns-in-Some-find-clause-lived g c = tt
+
+pub returns-then-extents-eq0-clause-fresh : goal.returns-then-extents-eq0-clause-fresh
+returns-then-extents-eq0-clause-fresh g c = tt
+
+pub returns-then-extents-eq0-clause-some : goal.returns-then-extents-eq0-clause-some
+returns-then-extents-eq0-clause-some g c = tt
+
+pub returns-then-extents-eq0-clause-room : goal.returns-then-extents-eq0-clause-room
+returns-then-extents-eq0-clause-room g c = tt
+
+pub returns-then-extents-eq0-clause-id : goal.returns-then-extents-eq0-clause-id
+returns-then-extents-eq0-clause-id g c = tt
+
+pub returns-then-extents-eq0-clause-makes : goal.returns-then-extents-eq0-clause-makes
+returns-then-extents-eq0-clause-makes g c = tt
+
+pub returns-then-extents-eq0-clause-lived : goal.returns-then-extents-eq0-clause-lived
+returns-then-extents-eq0-clause-lived g c = tt
+
+pub returns-in_default-free_id-clause-fresh : goal.returns-in_default-free_id-clause-fresh
+returns-in_default-free_id-clause-fresh g c = tt
+
+pub returns-in_default-free_id-clause-some : goal.returns-in_default-free_id-clause-some
+returns-in_default-free_id-clause-some g c = tt
+
+pub returns-in_default-free_id-clause-room : goal.returns-in_default-free_id-clause-room
+returns-in_default-free_id-clause-room g c = tt
+
+pub returns-in_default-free_id-clause-id : goal.returns-in_default-free_id-clause-id
+returns-in_default-free_id-clause-id g c = tt
+
+pub returns-in_default-free_id-clause-makes : goal.returns-in_default-free_id-clause-makes
+returns-in_default-free_id-clause-makes g c = tt
+
+pub returns-in_default-free_id-clause-lived : goal.returns-in_default-free_id-clause-lived
+returns-in_default-free_id-clause-lived g c = tt
+
+pub returns-then-free-extents-clause-fresh : goal.returns-then-free-extents-clause-fresh
+returns-then-free-extents-clause-fresh g c = tt
+
+pub returns-then-free-extents-clause-some : goal.returns-then-free-extents-clause-some
+returns-then-free-extents-clause-some g c = tt
+
+pub returns-then-free-extents-clause-room : goal.returns-then-free-extents-clause-room
+returns-then-free-extents-clause-room g c = tt
+
+pub returns-then-free-extents-clause-id : goal.returns-then-free-extents-clause-id
+returns-then-free-extents-clause-id g c = tt
+
+pub returns-then-free-extents-clause-makes : goal.returns-then-free-extents-clause-makes
+returns-then-free-extents-clause-makes g c = tt
+
+pub returns-then-free-extents-clause-lived : goal.returns-then-free-extents-clause-lived
+returns-then-free-extents-clause-lived g c = tt
+
+pub returns-in-Err-clause-fresh : goal.returns-in-Err-clause-fresh
+returns-in-Err-clause-fresh g c = tt
+
+pub returns-in-Err-clause-some : goal.returns-in-Err-clause-some
+returns-in-Err-clause-some g c = tt
+
+pub returns-in-Err-clause-room : goal.returns-in-Err-clause-room
+returns-in-Err-clause-room g c = tt
+
+pub returns-in-Err-clause-id : goal.returns-in-Err-clause-id
+returns-in-Err-clause-id g c = tt
+
+pub returns-in-Err-clause-makes : goal.returns-in-Err-clause-makes
+returns-in-Err-clause-makes g c = tt
+
+pub returns-in-Err-clause-lived : goal.returns-in-Err-clause-lived
+returns-in-Err-clause-lived g c = tt
+
+pub returns-in-Some-clause-went : goal.returns-in-Some-clause-went
+returns-in-Some-clause-went g c = DeviceGoesOn-none _ _ _ _ _
+
+pub returns-in-Some-clause-grown : goal.returns-in-Some-clause-grown
+returns-in-Some-clause-grown g c = KeepsMore-none _ _ _ _
+
+pub returns-in-Some-clause-refused : goal.returns-in-Some-clause-refused
+returns-in-Some-clause-refused g c = refl
+
+pub returns-in-Some-clause-stands : goal.returns-in-Some-clause-stands
+returns-in-Some-clause-stands g c = λ none from h stands tells. stands
+
+pub returns-in-Some-find-clause-went : goal.returns-in-Some-find-clause-went
+returns-in-Some-find-clause-went g c = DeviceGoesOn-none _ _ _ _ _
+
+pub returns-in-Some-find-clause-grown : goal.returns-in-Some-find-clause-grown
+returns-in-Some-find-clause-grown g c = KeepsMore-none _ _ _ _
+
+pub returns-in-Some-find-clause-refused : goal.returns-in-Some-find-clause-refused
+returns-in-Some-find-clause-refused g c = refl
+
+pub returns-in-Some-find-clause-stands : goal.returns-in-Some-find-clause-stands
+returns-in-Some-find-clause-stands g c = λ none from h stands tells. stands
+
+pub returns-then-extents-eq0-clause-went : goal.returns-then-extents-eq0-clause-went
+returns-then-extents-eq0-clause-went g c = DeviceGoesOn-none _ _ _ _ _
+
+pub returns-then-extents-eq0-clause-grown : goal.returns-then-extents-eq0-clause-grown
+returns-then-extents-eq0-clause-grown g c = KeepsMore-none _ _ _ _
+
+pub returns-then-extents-eq0-clause-refused : goal.returns-then-extents-eq0-clause-refused
+returns-then-extents-eq0-clause-refused g c = refl
+
+pub returns-then-extents-eq0-clause-stands : goal.returns-then-extents-eq0-clause-stands
+returns-then-extents-eq0-clause-stands g c = λ none from h stands tells. stands
+
+pub returns-in_default-free_id-clause-went : goal.returns-in_default-free_id-clause-went
+returns-in_default-free_id-clause-went g c = DeviceGoesOn-none _ _ _ _ _
+
+pub returns-in_default-free_id-clause-grown : goal.returns-in_default-free_id-clause-grown
+returns-in_default-free_id-clause-grown g c = KeepsMore-none _ _ _ _
+
+pub returns-in_default-free_id-clause-refused : goal.returns-in_default-free_id-clause-refused
+returns-in_default-free_id-clause-refused g c = refl
+
+pub returns-in_default-free_id-clause-stands : goal.returns-in_default-free_id-clause-stands
+returns-in_default-free_id-clause-stands g c = λ none from h stands tells. stands
+
+pub returns-then-free-extents-clause-went : goal.returns-then-free-extents-clause-went
+returns-then-free-extents-clause-went g c = DeviceGoesOn-none _ _ _ _ _
+
+pub returns-then-free-extents-clause-grown : goal.returns-then-free-extents-clause-grown
+returns-then-free-extents-clause-grown g c = KeepsMore-none _ _ _ _
+
+pub returns-then-free-extents-clause-refused : goal.returns-then-free-extents-clause-refused
+returns-then-free-extents-clause-refused g c = refl
+
+pub returns-then-free-extents-clause-stands : goal.returns-then-free-extents-clause-stands
+returns-then-free-extents-clause-stands g c = λ none from h stands tells. stands
+
+pub returns-in-Some-find-clause-halt : goal.returns-in-Some-find-clause-halt
+returns-in-Some-find-clause-halt g c = c.in_default.is
+
+pub returns-then-extents-eq0-clause-halt : goal.returns-then-extents-eq0-clause-halt
+returns-then-extents-eq0-clause-halt g c = c.in_default.is
+
+pub returns-in_default-free_id-clause-halt : goal.returns-in_default-free_id-clause-halt
+returns-in_default-free_id-clause-halt g c = c.in_default.is
+
+pub returns-then-free-extents-clause-halt : goal.returns-then-free-extents-clause-halt
+returns-then-free-extents-clause-halt g c = c.in_default.is
+
+pub returns-in-Ok-clause-halt : goal.returns-in-Ok-clause-halt
+returns-in-Ok-clause-halt g c = c.in_default.is
+
+pub returns-in-Some-clause-halt : goal.returns-in-Some-clause-halt
+returns-in-Some-clause-halt g c = c.in-Some.is
+
+pub returns-in-Some-clause-fault : goal.returns-in-Some-clause-fault
+returns-in-Some-clause-fault g c = c.in-Some.is
+
+pub returns-in-Some-find-clause-fault : goal.returns-in-Some-find-clause-fault
+returns-in-Some-find-clause-fault g c = c.in-Some-find.ensures.some
+
+pub returns-then-extents-eq0-clause-fault : goal.returns-then-extents-eq0-clause-fault
+returns-then-extents-eq0-clause-fault g c = (c.in_default-find.ensures.none, c.if-extents-eq0.true)
+
+pub returns-in_default-free_id-clause-fault : goal.returns-in_default-free_id-clause-fault
+returns-in_default-free_id-clause-fault g c = (c.in_default-find.ensures.none, positive _ c.if-extents-eq0.false, c.in_default-free_id.ensures.none)
+
+pub returns-then-free-extents-clause-fault : goal.returns-then-free-extents-clause-fault
+returns-then-free-extents-clause-fault g c = (c.in_default-find.ensures.none, (c.in-Some-free_id.id, c.in-Some-free_id.ensures.some), c.free-free.ensures, c.if-free-extents.true)
+
+pub returns-in-Ok-clause-fault : goal.returns-in-Ok-clause-fault
+returns-in-Ok-clause-fault g c = tt
+
+pub returns-in-Ok-clause-refused : goal.returns-in-Ok-clause-refused
+returns-in-Ok-clause-refused g c = tt
+
+pub returns-in-Ok-clause-stands : goal.returns-in-Ok-clause-stands
+returns-in-Ok-clause-stands g c = tt
+
+pub returns-in-Ok-clause-lived_refused : goal.returns-in-Ok-clause-lived_refused
+returns-in-Ok-clause-lived_refused g c = tt
+
+pub returns-in-Ok-clause-fresh : goal.returns-in-Ok-clause-fresh
+returns-in-Ok-clause-fresh g c = c.in_default-find.ensures.none
+
+pub returns-in-Ok-clause-some : goal.returns-in-Ok-clause-some
+returns-in-Ok-clause-some g c = positive _ c.if-extents-eq0.false
+
+pub returns-in-Ok-clause-room : goal.returns-in-Ok-clause-room
+returns-in-Ok-clause-room g c = subst (λ (n : ℕ). c.args.extents ≤ n) c.free-free.ensures c.if-free-extents.false
+
+pub returns-in-Ok-clause-id : goal.returns-in-Ok-clause-id
+returns-in-Ok-clause-id g c = c.in-Some-free_id.ensures.some
+
+pub returns-in-Ok-clause-went : goal.returns-in-Ok-clause-went
+returns-in-Ok-clause-went g c = c.make.ensures.went
+
+pub returns-in-Ok-clause-grown : goal.returns-in-Ok-clause-grown
+returns-in-Ok-clause-grown g c = c.make.ensures.grown
+
+pub returns-in-Err-clause-went : goal.returns-in-Err-clause-went
+returns-in-Err-clause-went g c = c.make.ensures.went
+
+pub returns-in-Err-clause-grown : goal.returns-in-Err-clause-grown
+returns-in-Err-clause-grown g c = c.make.ensures.grown
+
+pub returns-in-Err-clause-refused : goal.returns-in-Err-clause-refused
+returns-in-Err-clause-refused g c = refl
+
+pub returns-in-Err-clause-halt : goal.returns-in-Err-clause-halt
+returns-in-Err-clause-halt g c = refl
+
+pub returns-in-Err-clause-fault : goal.returns-in-Err-clause-fault
+returns-in-Err-clause-fault g c = refl
+
+pub returns-in-Err-clause-stands : goal.returns-in-Err-clause-stands
+returns-in-Err-clause-stands g c = λ none. absurd (halts _ none)
+
+pub returns-in-Err-clause-lived_refused : goal.returns-in-Err-clause-lived_refused
+returns-in-Err-clause-lived_refused g c = λ none. absurd (halts _ none)
+
+pub returns-in-Some-clause-lived_refused : goal.returns-in-Some-clause-lived_refused
+returns-in-Some-clause-lived_refused g c = λ none. absurd (halts _ (sym c.in-Some.is ∙ none))
+
+pub with-next-requires-clause-id : goal.with-next-requires-clause-id
+with-next-requires-clause-id g c = (c.in-Some-free_id.ensures.some.low, c.in-Some-free_id.ensures.some.high)
+
+pub with-next-requires-clause-few : goal.with-next-requires-clause-few
+with-next-requires-clause-few g c = subst (λ (n : ℕ). n ≤ 2048) (sym c.args.self.now.counted) (extents_few _ c.args.self.now.large)
+
+pub make-requires-clause-none : goal.make-requires-clause-none
+make-requires-clause-none g c = c.args.self.now.halted ∙ c.in_default.is
+
+pub make-requires-clause-large : goal.make-requires-clause-large
+make-requires-clause-large g c = c.args.self.now.large
+
+pub make-requires-clause-size : goal.make-requires-clause-size
+make-requires-clause-size g c = subst (λ (n : ℕ). 1 ≤ n) (sym c.args.self.now.sized) (extent_some _ c.args.self.now.large)
+
+pub make-requires-clause-few : goal.make-requires-clause-few
+make-requires-clause-few g c = subst (λ (n : ℕ). n ≤ 2048) (sym c.args.self.now.counted) (extents_few _ c.args.self.now.large)
+
+pub make-requires-clause-small : goal.make-requires-clause-small
+make-requires-clause-small g c = c.args.self.now.fits

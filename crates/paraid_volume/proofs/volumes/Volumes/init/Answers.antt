@@ -11,7 +11,7 @@ use Rattle.paraid_volume.proofs.ChangeLemmas.{shows_nothing}
 use Rattle.paraid_volume.proofs.LaidLemmas.{laid_table}
 use Rattle.paraid_volume.proofs.StateLemmas.{lived_begun}
 use Rattle.std.proofs.lemmas.Bool.{false≢true}
-use Rattle.paraid_volume.proofs.DeviceLemmas.{KeepsMore-then, KeepsMore-weaker, read_either, write_either}
+use Rattle.paraid_volume.proofs.DeviceLemmas.{DeviceGoesOn-none, DeviceGoesOn-then, KeepsMore-none, KeepsMore-then, KeepsMore-weaker, read_either, write_either}
 use Rattle.paraid_volume.proofs.volumes.Volumes.init.Goals as goal
 
 pub returns-then-is_table-clause-refused : goal.returns-then-is_table-clause-refused
@@ -86,3 +86,129 @@ returns-clause-taken g c = λ h stands tells table.
     let here = same_table (after_all h) (in_table c.read_table.new.table) (back _ _ same) (g.B.Blocks.block_count c.args.blocks) large table in
     let is : c.is_table.result ≡ true = c.is_table.ensures.1 (subst (λ (n : ℕ). IsVolumeTable n (in_table c.read_table.new.table)) (sym count) here) in
     absurd (false≢true (sym c.if-is_table.false ∙ is))
+
+pub returns-then-count-lt7-clause-taken : goal.returns-then-count-lt7-clause-taken
+returns-then-count-lt7-clause-taken g c = tt
+
+pub returns-then-count-lt7-clause-went : goal.returns-then-count-lt7-clause-went
+returns-then-count-lt7-clause-went g c = tt
+
+pub returns-then-count-lt7-clause-grown : goal.returns-then-count-lt7-clause-grown
+returns-then-count-lt7-clause-grown g c = tt
+
+pub returns-then-count-lt7-clause-ok : goal.returns-then-count-lt7-clause-ok
+returns-then-count-lt7-clause-ok g c = tt
+
+pub returns-then-count-lt7-clause-stands : goal.returns-then-count-lt7-clause-stands
+returns-then-count-lt7-clause-stands g c = tt
+
+pub returns-then-count-lt7-clause-lived : goal.returns-then-count-lt7-clause-lived
+returns-then-count-lt7-clause-lived g c = tt
+
+pub returns-in-Err-clause-taken : goal.returns-in-Err-clause-taken
+returns-in-Err-clause-taken g c = tt
+
+pub returns-in-Err-clause-went : goal.returns-in-Err-clause-went
+returns-in-Err-clause-went g c = tt
+
+pub returns-in-Err-clause-grown : goal.returns-in-Err-clause-grown
+returns-in-Err-clause-grown g c = tt
+
+pub returns-in-Err-clause-ok : goal.returns-in-Err-clause-ok
+returns-in-Err-clause-ok g c = tt
+
+pub returns-in-Err-clause-stands : goal.returns-in-Err-clause-stands
+returns-in-Err-clause-stands g c = tt
+
+pub returns-in-Err-clause-lived : goal.returns-in-Err-clause-lived
+returns-in-Err-clause-lived g c = tt
+
+pub returns-then-is_table-clause-taken : goal.returns-then-is_table-clause-taken
+returns-then-is_table-clause-taken g c = tt
+
+pub returns-then-is_table-clause-went : goal.returns-then-is_table-clause-went
+returns-then-is_table-clause-went g c = tt
+
+pub returns-then-is_table-clause-grown : goal.returns-then-is_table-clause-grown
+returns-then-is_table-clause-grown g c = tt
+
+pub returns-then-is_table-clause-ok : goal.returns-then-is_table-clause-ok
+returns-then-is_table-clause-ok g c = tt
+
+pub returns-then-is_table-clause-stands : goal.returns-then-is_table-clause-stands
+returns-then-is_table-clause-stands g c = tt
+
+pub returns-then-is_table-clause-lived : goal.returns-then-is_table-clause-lived
+returns-then-is_table-clause-lived g c = tt
+
+pub returns-in-Err-write_table-clause-taken : goal.returns-in-Err-write_table-clause-taken
+returns-in-Err-write_table-clause-taken g c = tt
+
+pub returns-in-Err-write_table-clause-went : goal.returns-in-Err-write_table-clause-went
+returns-in-Err-write_table-clause-went g c = tt
+
+pub returns-in-Err-write_table-clause-grown : goal.returns-in-Err-write_table-clause-grown
+returns-in-Err-write_table-clause-grown g c = tt
+
+pub returns-in-Err-write_table-clause-ok : goal.returns-in-Err-write_table-clause-ok
+returns-in-Err-write_table-clause-ok g c = tt
+
+pub returns-in-Err-write_table-clause-stands : goal.returns-in-Err-write_table-clause-stands
+returns-in-Err-write_table-clause-stands g c = tt
+
+pub returns-in-Err-write_table-clause-lived : goal.returns-in-Err-write_table-clause-lived
+returns-in-Err-write_table-clause-lived g c = tt
+
+pub returns-then-count-lt7-clause-refused : goal.returns-then-count-lt7-clause-refused
+returns-then-count-lt7-clause-refused g c = (c.blocks-count.ensures, subst (λ (n : ℕ). n < 7) c.blocks-count.ensures c.if-count-lt7.true)
+
+pub returns-then-count-lt7-clause-went_refused : goal.returns-then-count-lt7-clause-went_refused
+returns-then-count-lt7-clause-went_refused g c = DeviceGoesOn-none _ _ _ _ _
+
+pub returns-then-count-lt7-clause-grown_refused : goal.returns-then-count-lt7-clause-grown_refused
+returns-then-count-lt7-clause-grown_refused g c = KeepsMore-none _ _ _ _
+
+pub returns-in-Err-clause-refused : goal.returns-in-Err-clause-refused
+returns-in-Err-clause-refused g c = (subst (λ (n : ℕ). 7 ≤ n) c.blocks-count.ensures c.if-count-lt7.false, c.read_table.ensures.halt ∙ ap halt_in c.in-Err.is)
+
+pub returns-in-Err-clause-went_refused : goal.returns-in-Err-clause-went_refused
+returns-in-Err-clause-went_refused g c = c.read_table.ensures.went
+
+pub returns-then-is_table-clause-went_refused : goal.returns-then-is_table-clause-went_refused
+returns-then-is_table-clause-went_refused g c = c.read_table.ensures.went
+
+pub returns-in-Err-write_table-clause-refused : goal.returns-in-Err-write_table-clause-refused
+returns-in-Err-write_table-clause-refused g c = (subst (λ (n : ℕ). 7 ≤ n) c.blocks-count.ensures c.if-count-lt7.false, c.write_table.ensures.halt ∙ ap halt_in c.in-Err-write_table.is)
+
+pub returns-in-Err-write_table-clause-went_refused : goal.returns-in-Err-write_table-clause-went_refused
+returns-in-Err-write_table-clause-went_refused g c = DeviceGoesOn-then _ _ _ _ _ _ _ c.read_table.ensures.went c.write_table.ensures.went
+
+pub returns-clause-went : goal.returns-clause-went
+returns-clause-went g c = DeviceGoesOn-then _ _ _ _ _ _ _ c.read_table.ensures.went c.write_table.ensures.went
+
+pub returns-clause-refused : goal.returns-clause-refused
+returns-clause-refused g c = tt
+
+pub returns-clause-went_refused : goal.returns-clause-went_refused
+returns-clause-went_refused g c = tt
+
+pub returns-clause-grown_refused : goal.returns-clause-grown_refused
+returns-clause-grown_refused g c = tt
+
+pub returns-clause-ok : goal.returns-clause-ok
+returns-clause-ok g c = refl
+
+pub read_table-requires : goal.read_table-requires
+read_table-requires g c = subst (λ (n : ℕ). 7 ≤ n) c.blocks-count.ensures c.if-count-lt7.false
+
+pub is_table-requires : goal.is_table-requires
+is_table-requires g c = c.if-count-lt7.false
+
+pub extent_size-requires : goal.extent_size-requires
+extent_size-requires g c = c.if-count-lt7.false
+
+pub extent_count-requires : goal.extent_count-requires
+extent_count-requires g c = c.if-count-lt7.false
+
+pub write_table-requires-clause-size : goal.write_table-requires-clause-size
+write_table-requires-clause-size g c = subst (λ (n : ℕ). 7 ≤ n) (c.blocks-count.ensures ∙ sym c.read_table.ensures.went.size) c.if-count-lt7.false

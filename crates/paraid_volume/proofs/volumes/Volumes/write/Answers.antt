@@ -1,11 +1,11 @@
-use Rattle.std.proofs.Common.{◌<◌, ◌≤◌, ◌^◌, ap, subst, sym, refl}
+use Rattle.paraid_base.specs.declared.fault.Halt.{Halt}
+use Rattle.std.proofs.Common.{◌<◌, ◌≤◌, ◌^◌, ap, subst, sym, refl, ◌≡◌, Option, Some, None}
 use Rattle.paraid_volume.specs.TableBlocks.{in_table}
 use Rattle.paraid_volume.specs.Tables.{IsVolumeTable, extent_count, extent_size}
 use Rattle.paraid_base.specs.Pairs.{single_pair}
 use Rattle.std.proofs.Common.{◌∙◌, ◌≢◌, ℕ, ◌++◌, ◌∷◌, []}
 use Rattle.paraid_base.specs.History.{after_all}
 use Rattle.paraid_base.proofs.HistoryLemmas.{after_all-written, after_all-other}
-use Rattle.std.proofs.Common.{rules}
 use Rattle.std.specs.Prelude.{IfErr}
 use Rattle.std.proofs.lemmas.Result.{IfErr-weaker, err_from_is_err_and}
 use Rattle.paraid_volume.specs.Faults.{IsPlaceFault}
@@ -18,6 +18,10 @@ use Rattle.paraid_base.proofs.PairsLemmas.{pairs_of-one}
 use Rattle.paraid_volume.proofs.OneCallLemmas.{lived_write, lived_refused}
 use Rattle.paraid_volume.proofs.RefusalLemmas.{block_of, place_served, write_refused}
 use Rattle.paraid_volume.proofs.volumes.Volumes.write.Goals as goal
+
+-- a halt is no want of one
+halts : (h : Halt) → ◌≡◌ {A = Option Halt} (Some h) None → ⊥
+halts h e = cc
 
 pub invariant_of-self-in-Err-Halt : goal.invariant_of-self-in-Err-Halt
 invariant_of-self-in-Err-Halt g c =
@@ -72,7 +76,8 @@ pub returns-in_err-place-clause-lived_refused : goal.returns-in_err-place-clause
 returns-in_err-place-clause-lived_refused g c =
     let v = c.args.self.now in
     let count = g.B.Blocks.block_count (device_of v) in
-    let due : IfErr c.from_residual.result (IsPlaceFault count (volume_table v) (halted_of v) c.args.id c.args.block) = search rules in
+    let p = err_from_is_err_and c.from_residual.result c.from_residual.ensures.1 in
+    let due : IfErr c.from_residual.result (IsPlaceFault count (volume_table v) (halted_of v) c.args.id c.args.block) = rw (p.1, p.2) c.in_err-place.ensures.fault in
     IfErr-weaker c.from_residual.result _ _
     (λ fault is none from start log lived tells. lived_refused _ _ _ start log lived (write c.args.id c.args.block c.args.bytes.now) fault (λ h stands. stands)
     (λ h s stands shows. write_refused count (volume_table v) (after_all h) s stands.1 shows v.large (halted_of v) none c.args.id c.args.block c.args.bytes.now fault is)) due
@@ -120,3 +125,45 @@ pub returns-in_err-place-clause-lived : goal.returns-in_err-place-clause-lived
 returns-in_err-place-clause-lived g c =
     let p = err_from_is_err_and c.from_residual.result c.from_residual.ensures.1 in
     rw p.1 tt
+
+pub returns-in-Ok-clause-fault : goal.returns-in-Ok-clause-fault
+returns-in-Ok-clause-fault g c = tt
+
+pub returns-in-Ok-clause-halt : goal.returns-in-Ok-clause-halt
+returns-in-Ok-clause-halt g c = sym c.in_ok-place.ensures.halt
+
+pub returns-in-Ok-clause-table : goal.returns-in-Ok-clause-table
+returns-in-Ok-clause-table g c = refl
+
+pub returns-in-Ok-clause-stands : goal.returns-in-Ok-clause-stands
+returns-in-Ok-clause-stands g c = tt
+
+pub returns-in-Ok-clause-lived_refused : goal.returns-in-Ok-clause-lived_refused
+returns-in-Ok-clause-lived_refused g c = tt
+
+pub returns-in-Err-Halt-clause-fault : goal.returns-in-Err-Halt-clause-fault
+returns-in-Err-Halt-clause-fault g c = refl
+
+pub returns-in-Err-Halt-clause-served : goal.returns-in-Err-Halt-clause-served
+returns-in-Err-Halt-clause-served g c = tt
+
+pub returns-in-Err-Halt-clause-halt : goal.returns-in-Err-Halt-clause-halt
+returns-in-Err-Halt-clause-halt g c = refl
+
+pub returns-in-Err-Halt-clause-table : goal.returns-in-Err-Halt-clause-table
+returns-in-Err-Halt-clause-table g c = refl
+
+pub returns-in-Err-Halt-clause-adds : goal.returns-in-Err-Halt-clause-adds
+returns-in-Err-Halt-clause-adds g c = tt
+
+pub returns-in-Err-Halt-clause-stands : goal.returns-in-Err-Halt-clause-stands
+returns-in-Err-Halt-clause-stands g c = λ none. absurd (halts _ none)
+
+pub returns-in-Err-Halt-clause-event : goal.returns-in-Err-Halt-clause-event
+returns-in-Err-Halt-clause-event g c = tt
+
+pub returns-in-Err-Halt-clause-lived : goal.returns-in-Err-Halt-clause-lived
+returns-in-Err-Halt-clause-lived g c = tt
+
+pub returns-in-Err-Halt-clause-lived_refused : goal.returns-in-Err-Halt-clause-lived_refused
+returns-in-Err-Halt-clause-lived_refused g c = λ none. absurd (halts _ none)
