@@ -1,14 +1,12 @@
 //! Hands the program the standard streams and the image files of the current folder.
 #![tactic(auto)]
 
-mod stdio;
-
 use paraid_imgrack::ImageRack;
+use paraid_io::{StdSink, StdSource};
 use paraid_program::{Ended, paraid};
 use paraid_serve::status;
 use std::process::ExitCode;
 use std::{env, io};
-use stdio::{StdSink, StdSource};
 
 /// The number of image files at most.
 const SLOTS: u8 = 8;

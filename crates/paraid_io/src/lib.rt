@@ -12,9 +12,11 @@ mod reader;
 mod scan;
 mod sink;
 mod source;
+mod stdio;
 
 pub use line::{Line, LineFault};
 pub use memory::{MemSink, MemSource, SureSource};
 pub use reader::{LineReader, MAX_LINE, MAX_TAKEN};
 pub use sink::{Sink, write_all};
 pub use source::Source;
+pub use stdio::{StdSink, StdSource};

@@ -1,7 +1,7 @@
 ghost use Rattle.std.specs.Prelude.{None};
 
+use crate::{Sink, Source};
 use paraid_base::Failed;
-use paraid_io::{Sink, Source};
 use std::io::{Read, Write};
 
 /// A source over a reader. It tells nothing of content. A failed read is counted.
@@ -12,6 +12,7 @@ pub struct StdSource<R> {
 }
 
 impl<R: Read + Drop> StdSource<R> {
+    /// A source that has not failed yet.
     pub fn new(reader: R) -> Self {
         StdSource { reader, faults: 0 }
     }
@@ -40,6 +41,7 @@ pub struct StdSink<W> {
 }
 
 impl<W: Write + Drop> StdSink<W> {
+    /// A sink that has not failed yet.
     pub fn new(writer: W) -> Self {
         StdSink { writer, faults: 0 }
     }
