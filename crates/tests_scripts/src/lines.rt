@@ -1,0 +1,91 @@
+//! Texts of the script, and of the configuration.
+
+use std::alloc::Global;
+
+// The configuration as it is by default: five disks and five rows.
+const DEFAULT: &str =
+    "disks = 5\nrows = 5\ngears = [4, 5]\nmode = \"whole\"\nrate = 1\nservice = 100\n\
+    up = 80\ndown = 60\nwindows = [1000]\nration = 100\nspinning_mj = 9000\nparked_mj = 900\n\
+    spinup_mj = 60000\n";
+
+/// The first word, and what follows it.
+pub fn first_word(text: &str) -> (&str, &str) {
+    text.split_once(' ').unwrap_or((text, ""))
+}
+
+/// The first word as a number, the largest where it is none, and what follows it.
+pub fn first_number(text: &str) -> (u32, &str) {
+    let (word, rest) = first_word(text);
+    (word.parse::<u32>().unwrap_or(u32::MAX), rest)
+}
+
+/// The first word as a small number, the largest where it is none, and what follows it.
+pub fn first_byte(text: &str) -> (u8, &str) {
+    let (word, rest) = first_word(text);
+    (word.parse::<u8>().unwrap_or(u8::MAX), rest)
+}
+
+/// Adds a line to a text.
+pub fn add_line(text: &mut String, line: &str) -> Option<()> {
+    text.push_str(line).ok()?;
+    text.push('\n').ok()
+}
+
+/// Adds a word to a text, with a space between it and another.
+pub fn add_word(text: &mut String, word: &str) -> Option<()> {
+    if !text.as_str().is_empty() {
+        text.push(' ').ok()?;
+    }
+    text.push_str(word).ok()
+}
+
+/// The lines of a trace.
+pub fn trace_of(alloc: Global, text: &str) -> Option<String> {
+    let mut trace = String::new(alloc);
+    if text.is_empty() {
+        return Some(trace);
+    }
+    for line in text.split("; ") {
+        add_line(&mut trace, line)?;
+    }
+    Some(trace)
+}
+
+fn key_of(line: &str) -> &str {
+    match line.split_once(" = ") {
+        Some((key, _value)) => key,
+        None => line,
+    }
+}
+
+// A configuration in which this line stands for that of this key.
+fn with_line(alloc: Global, text: &str, key: &str, line: &str) -> Option<String> {
+    let mut changed = String::new(alloc);
+    let mut is_new = true;
+    for old in text.lines() {
+        if key_of(old) == key_of(key) {
+            is_new = false;
+            add_line(&mut changed, line)?;
+        } else {
+            add_line(&mut changed, old)?;
+        }
+    }
+    if is_new {
+        add_line(&mut changed, line)?;
+    }
+    Some(changed)
+}
+
+/// A configuration after the change that these words name.
+pub fn configured(alloc: Global, text: &str, word: &str, rest: &str) -> Option<String> {
+    match word {
+        "config" => String::from_str(alloc, DEFAULT).ok(),
+        "set" => with_line(alloc, text, rest, rest),
+        "unset" => with_line(alloc, text, rest, ""),
+        _ => {
+            let mut longer = String::from_str(alloc, text).ok()?;
+            add_line(&mut longer, rest)?;
+            Some(longer)
+        }
+    }
+}
