@@ -1,24 +1,26 @@
-//! Tests of the program, as tables of inputs and faults with the text and the status of each run.
-//! What a clause says of all inputs is not tried again.
+//! Tests of the program that a script cannot say: faults at each call, stops at each moment, raw bytes,
+//! and racks and sinks of their own. The scripts are those of `tests_scripts`.
 #![tactic(auto)]
 
 #[cfg(test)]
+mod bytes;
+#[cfg(test)]
 mod checks;
 #[cfg(test)]
-mod costs;
+mod failures;
 #[cfg(test)]
-mod faults;
+mod order;
 #[cfg(test)]
-mod flushes;
+mod plain;
 #[cfg(test)]
-mod formats;
+mod plain_rack;
 #[cfg(test)]
 mod programs;
 #[cfg(test)]
-mod rows;
+mod script;
 #[cfg(test)]
-mod runs;
+mod stops;
 #[cfg(test)]
-mod states;
+mod streams;
 #[cfg(test)]
 mod words;

@@ -76,12 +76,22 @@ fn with_line(alloc: Global, text: &str, key: &str, line: &str) -> Option<String>
     Some(changed)
 }
 
+// A configuration of so many bytes, by empty lines at its end.
+fn padded(alloc: Global, text: &str, length: u32) -> Option<String> {
+    let mut longer = String::from_str(alloc, text).ok()?;
+    for _ in text.len()..length as usize {
+        longer.push('\n').ok()?;
+    }
+    Some(longer)
+}
+
 /// A configuration after the change that these words name.
 pub fn configured(alloc: Global, text: &str, word: &str, rest: &str) -> Option<String> {
     match word {
         "config" => String::from_str(alloc, DEFAULT).ok(),
         "set" => with_line(alloc, text, rest, rest),
         "unset" => with_line(alloc, text, rest, ""),
+        "pad" => padded(alloc, text, first_number(rest).0),
         _ => {
             let mut longer = String::from_str(alloc, text).ok()?;
             add_line(&mut longer, rest)?;

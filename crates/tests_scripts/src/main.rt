@@ -5,6 +5,7 @@
 
 mod changes;
 mod lines;
+mod moments;
 mod runs;
 mod stage;
 mod tallies;

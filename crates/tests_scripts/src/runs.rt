@@ -1,6 +1,7 @@
 //! Runs of the program over a source, a sink and disks in memory.
 
 use crate::lines::trace_of;
+use paraid_base::DiskNo;
 use paraid_io::{MemSink, MemSource};
 use paraid_memrack::{MemRack, Pick, Planned};
 use paraid_program::{Ended, paraid};
@@ -25,6 +26,16 @@ impl Faults {
             source: NEVER,
             sink: NEVER,
         }
+    }
+
+    /// One call of a disk fails.
+    pub fn on_disk(alloc: Global, disk: DiskNo, nth: u32) -> Option<Faults> {
+        let disks = vec![in alloc; Planned::OnDisk { disk, nth }].ok()?;
+        Some(Faults {
+            disks,
+            source: NEVER,
+            sink: NEVER,
+        })
     }
 }
 
@@ -107,20 +118,26 @@ fn left_of(
     })
 }
 
-// What the program does with these words over this input and these disks. This call of the source fails.
-fn ran_to(
+// What the program does with these words over this input and these disks. These calls of the source and of the sink
+// fail.
+fn ran_on(
     alloc: Global,
     words: &str,
     input: &str,
     source: u32,
-    faults: &Faults,
-    disks: &MemRack,
+    sink: u32,
+    disks: MemRack,
 ) -> Option<Left> {
     let list = list_of(alloc, words)?;
     let mut source = source_of(alloc, input, source)?;
-    let mut sink = sink_of(alloc, faults.sink)?;
-    let disks = restarted(alloc, disks, &faults.disks)?;
+    let mut sink = sink_of(alloc, sink)?;
     left_of(alloc, &list, &mut source, &mut sink, disks)
+}
+
+/// A run over the lines of this text to their end, in which no call fails.
+pub fn played(alloc: Global, text: &str, disks: MemRack) -> Option<Left> {
+    let trace = trace_of(alloc, text)?;
+    ran_on(alloc, "run", trace.as_str(), NEVER, NEVER, disks)
 }
 
 /// What the program does with these words over this input and these disks, which stay as they are.
@@ -131,7 +148,8 @@ pub fn ran(
     faults: &Faults,
     disks: &MemRack,
 ) -> Option<Left> {
-    ran_to(alloc, words, input, faults.source, faults, disks)
+    let disks = restarted(alloc, disks, &faults.disks)?;
+    ran_on(alloc, words, input, faults.source, faults.sink, disks)
 }
 
 /// A run over the lines of this text to their end.
@@ -150,5 +168,6 @@ pub fn unended(alloc: Global, text: &str, faults: &Faults, disks: &MemRack) -> O
 /// A run that is cut off after these lines, with no flush at its end: the source fails there.
 pub fn cut_off(alloc: Global, text: &str, faults: &Faults, disks: &MemRack) -> Option<Left> {
     let trace = trace_of(alloc, text)?;
-    ran_to(alloc, "run", trace.as_str(), 1, faults, disks)
+    let disks = restarted(alloc, disks, &faults.disks)?;
+    ran_on(alloc, "run", trace.as_str(), 1, faults.sink, disks)
 }

@@ -2,9 +2,11 @@
 
 use crate::changes::{byte_at, changed, without};
 use crate::lines::{configured, first_byte, first_number, first_word};
+use crate::moments::{Sights, stops};
 use crate::runs::{Faults, Left, bare, cut_off, ran, restarted, stopped, unended, whole};
 use crate::tallies::{calls_on, changes_in, counted, places_on, priced, priced_mount};
 use paraid_memrack::{MemRack, Pick, Planned};
+use paraid_rack::Rack;
 use std::alloc::Global;
 
 /// What stands between two lines of the script.
@@ -84,7 +86,7 @@ impl Stage {
         let (word, rest) = first_word(line);
         match word {
             "" | "#" => {}
-            "config" | "set" | "unset" | "add" => self.configure(alloc, word, rest)?,
+            "config" | "set" | "unset" | "add" | "pad" => self.configure(alloc, word, rest)?,
             "bare" | "array" | "lose" => self.make(alloc, word, rest)?,
             "park" | "fresh" | "fill" | "byte" => self.change(alloc, word, rest)?,
             "fail" | "failcall" | "source" | "sink" => self.plan(word, rest)?,
@@ -138,18 +140,33 @@ impl Stage {
         told
     }
 
-    fn left_by(&self, alloc: Global, word: &str, rest: &str) -> Option<Left> {
+    fn left_by(&self, alloc: Global, word: &str, rest: &str, faults: &Faults) -> Option<Left> {
         match word {
-            "run" => whole(alloc, rest, &self.faults, &self.disks),
-            "part" => unended(alloc, rest, &self.faults, &self.disks),
+            "run" => whole(alloc, rest, faults, &self.disks),
+            "part" => unended(alloc, rest, faults, &self.disks),
             _ => ran(
                 alloc,
                 rest,
                 self.configuration.as_str(),
-                &self.faults,
+                faults,
                 &self.disks,
             ),
         }
+    }
+
+    // What a command that runs the program tells as each of so many calls of each disk fails.
+    fn each(&self, alloc: Global, rest: &str) -> Option<String> {
+        let (count, rest) = first_number(rest);
+        let (word, rest) = first_word(rest);
+        let mut sights = Sights::new(alloc);
+        for nth in 0..count {
+            for disk in 0..self.disks.slots() {
+                let faults = Faults::on_disk(alloc, disk, nth)?;
+                let left = self.left_by(alloc, word, rest, &faults)?;
+                sights.note_run(alloc, &left, nth)?;
+            }
+        }
+        sights.told(alloc)
     }
 
     fn run(&mut self, alloc: Global, word: &str, rest: &str) -> Option<String> {
@@ -157,7 +174,7 @@ impl Stage {
             status,
             text,
             disks,
-        } = self.left_by(alloc, word, rest)?;
+        } = self.left_by(alloc, word, rest, &self.faults)?;
         self.disks = disks;
         with_status(alloc, text, status)
     }
@@ -182,6 +199,11 @@ impl Stage {
                 places_on(alloc, &left.disks)
             }
             "made" => counted(alloc, &self.disks, 0),
+            "stops" => {
+                let (out, lines) = first_byte(rest);
+                stops(alloc, lines, out, &self.faults, &self.disks)
+            }
+            "each" => self.each(alloc, rest),
             "look" => byte_at(alloc, &self.disks, rest),
             _ => None,
         }

@@ -1,8 +1,8 @@
 //! Each device call of a run fails in turn.
 
-use crate::faults::checks::is_sound;
-use crate::faults::programs::{NEVER, disk_at, failing, new_array, ran, tells};
-use crate::faults::script::{answers, played};
+use crate::checks::is_sound;
+use crate::programs::{NEVER, disk_at, failing, new_array, ran, tells};
+use crate::script::{answers, played};
 use paraid_base::DiskNo;
 use paraid_memrack::MemRack;
 use std::alloc::Global;

@@ -1,6 +1,6 @@
 //! A source and a sink that fail at each of their first calls.
 
-use crate::faults::programs::{Left, NEVER, new_array, outcome, tells};
+use crate::programs::{Left, NEVER, new_array, outcome, tells};
 use paraid_memrack::MemRack;
 use std::alloc::Global;
 

@@ -1,7 +1,7 @@
 //! An answer to a flush is written no sooner than the disks keep the writes that it counts.
 ghost use Rattle.paraid_memrack.specs.Rules.{rack_slot_count, slots_of, told_of};
 
-use crate::costs::arrays::{MOST, Outcome, WHOLE, array, left, list_of, run, source_of};
+use crate::programs::{Left, NEVER, list_of, new_array, ran, source_of, stopped, tells};
 use paraid_base::{Block, DiskNo, Failed, Place};
 use paraid_io::Sink;
 use paraid_memrack::{MemRack, Pick};
@@ -130,17 +130,17 @@ const TWO_FLUSHES: &str = "w 3 11\nf\nw 3 22\nf\n";
 fn timed(alloc: Global, lines: &str) -> Option<(u8, MemRack, [u32; 2])> {
     let calls = Cell::new(0);
     let rack = CountedRack {
-        rack: array(alloc, WHOLE, &[])?,
+        rack: new_array(alloc)?,
         calls: &calls,
     };
     let mut sink = TimedSink {
-        times: [MOST; 8],
+        times: [NEVER; 8],
         ended: 0,
         begins: true,
         calls: &calls,
     };
-    let mut source = source_of(alloc, lines.as_bytes(), MOST)?;
-    let words = list_of(alloc, "run")?;
+    let mut source = source_of(alloc, lines.as_bytes(), NEVER)?;
+    let words = list_of(alloc, &["run"])?;
     let Ended { status, rack } = paraid(alloc, &words, &mut source, &mut sink, rack);
     Some((status, rack.rack, [sink.times[2], sink.times[4]]))
 }
@@ -152,8 +152,8 @@ fn told_after(
     moment: u32,
     pick: Pick,
     lost: Option<DiskNo>,
-) -> Option<Outcome> {
-    run(alloc, "r 3\n", left(alloc, rack, moment, pick, lost, &[])?)
+) -> Option<Left<MemRack>> {
+    ran(alloc, "r 3\n", stopped(alloc, rack, moment, pick, lost)?)
 }
 
 const PICKS: [Pick; 4] = [Pick::Old, Pick::New, Pick::Filled(165), Pick::Mixed];
@@ -179,7 +179,7 @@ fn a_flush_is_answered_when_its_writes_are_kept(rt: HostRuntime) {
                 let told = told_after(alloc, &rack, moment, pick, lost);
                 let told = told.expect(&rt, "there is memory");
                 assert!(rt;
-                    told.text.as_slice() == want.as_bytes(),
+                    tells(&told, 0, want.as_bytes()),
                     "{moment} {pick:?} {lost:?}"
                 );
             }

@@ -1,8 +1,8 @@
 //! A stop at each moment of a run, and of the mount after it.
 
-use crate::faults::checks::is_sound;
-use crate::faults::programs::{NEVER, new_array, outcome, ran, stopped};
-use crate::faults::script::{LINES, REPLACED, State, lines, played, state_after};
+use crate::checks::is_sound;
+use crate::programs::{NEVER, new_array, outcome, ran, stopped};
+use crate::script::{LINES, REPLACED, State, lines, played, state_after};
 use Pick::{Filled, Mixed, New, Old};
 use paraid_base::DiskNo;
 use paraid_memrack::{MemRack, Pick};

@@ -1,8 +1,8 @@
 //! A long run on disks that tell nothing.
 
-use crate::faults::checks::is_sound;
-use crate::faults::plain_rack::PlainRack;
-use crate::faults::programs::{NEVER, outcome, tells};
+use crate::checks::is_sound;
+use crate::plain_rack::PlainRack;
+use crate::programs::{NEVER, outcome, tells};
 use std::alloc::Global;
 
 const LARGE: &str = "disks = 8\nrows = 4096\ngears = [3, 5, 8]\nmode = \"access\"\nrate = 64\n\

@@ -1,6 +1,6 @@
 //! A trace with writes, both shifts, and the failure and the rebuild of a log disk.
 
-use crate::faults::programs::{Left, NEVER, outcome};
+use crate::programs::{Left, NEVER, outcome};
 use paraid_memrack::MemRack;
 use std::alloc::Global;
 

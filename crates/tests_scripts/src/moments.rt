@@ -1,0 +1,147 @@
+//! Runs that are stopped before each of their calls, and runs in which each call of a disk fails: all that is told then.
+
+use crate::changes::without;
+use crate::lines::add_word;
+use crate::runs::{Faults, Left, played, stopped, whole};
+use paraid_base::DiskNo;
+use paraid_memrack::{MemRack, Pick};
+use paraid_rack::Rack;
+use std::alloc::Global;
+
+/// A text, and the first and the last moment at which it was told.
+#[derive(Drop)]
+struct Sight {
+    text: String,
+    first: u32,
+    last: u32,
+}
+
+/// The texts that were told, in the order in which they first were.
+#[derive(Drop)]
+pub struct Sights {
+    list: Vec<Sight>,
+}
+
+impl Sights {
+    pub fn new(alloc: Global) -> Sights {
+        Sights {
+            list: Vec::new(alloc),
+        }
+    }
+
+    fn note(&mut self, text: String, moment: u32) -> Option<()> {
+        for at in 0..self.list.len() {
+            if self.list[at].text == text {
+                self.list[at].last = moment;
+                return Some(());
+            }
+        }
+        let sight = Sight {
+            text,
+            first: moment,
+            last: moment,
+        };
+        self.list.push(sight).ok()
+    }
+
+    /// Notes what a run has told, in one line without the blocks of zeros, and its status where that is not 0.
+    pub fn note_run(&mut self, alloc: Global, left: &Left, moment: u32) -> Option<()> {
+        let mut text = String::new(alloc);
+        for line in left.text.as_str().lines() {
+            if !line.ends_with("=00") {
+                add_word(&mut text, line)?;
+            }
+        }
+        add_status(alloc, &mut text, left.status)?;
+        self.note(text, moment)
+    }
+
+    /// A line of each text, with its moments.
+    pub fn told(&self, alloc: Global) -> Option<String> {
+        let mut told = String::new(alloc);
+        for sight in self.list.iter() {
+            add_sight(alloc, &mut told, sight)?;
+        }
+        Some(told)
+    }
+}
+
+fn add_status(alloc: Global, text: &mut String, status: u8) -> Option<()> {
+    if status == 0 {
+        return Some(());
+    }
+    let word = format!(in alloc; "status {status}").ok()?;
+    add_word(text, word.as_str())
+}
+
+fn add_sight(alloc: Global, told: &mut String, sight: &Sight) -> Option<()> {
+    let (first, last) = (sight.first, sight.last);
+    let moments = format!(in alloc; "{first}-{last}: ").ok()?;
+    told.push_str(moments.as_str()).ok()?;
+    told.push_str(sight.text.as_str()).ok()?;
+    told.push('\n').ok()
+}
+
+// Each of the 20 blocks.
+const READS: &str =
+    "r 0; r 1; r 2; r 3; r 4; r 5; r 6; r 7; r 8; r 9; r 10; r 11; r 12; r 13; r 14; r 15; r 16; r 17; r 18; r 19";
+
+// Notes what a run over these disks tells.
+fn see(alloc: Global, disks: MemRack, moment: u32, sights: &mut Sights) -> Option<()> {
+    let left = played(alloc, READS, disks)?;
+    sights.note_run(alloc, &left, moment)
+}
+
+/// No disk.
+const NO_DISK: DiskNo = 255;
+
+// Notes that with each disk lost that may be: the one that is out, or any where none is.
+fn see_losses(
+    alloc: Global,
+    disks: &MemRack,
+    out: DiskNo,
+    moment: u32,
+    sights: &mut Sights,
+) -> Option<()> {
+    for disk in 0..disks.slots() {
+        if out == NO_DISK || out == disk {
+            see(alloc, without(alloc, disks, disk)?, moment, sights)?;
+        }
+    }
+    Some(())
+}
+
+// Notes that for each way to fill what is loose at this moment, with a disk lost and with none.
+fn see_picks(
+    alloc: Global,
+    disks: &MemRack,
+    out: DiskNo,
+    moment: u32,
+    sights: &mut Sights,
+) -> Option<()> {
+    for pick in [Pick::Old, Pick::New, Pick::Filled(165), Pick::Mixed] {
+        let left = stopped(alloc, disks, moment, pick, &[])?;
+        see_losses(alloc, &left, out, moment, sights)?;
+        see(alloc, left, moment, sights)?;
+    }
+    Some(())
+}
+
+/// What a run over all blocks tells after a stop at each moment of a run over these lines. Past the mount this disk
+/// is out, if it is one.
+pub fn stops(
+    alloc: Global,
+    lines: &str,
+    out: DiskNo,
+    faults: &Faults,
+    disks: &MemRack,
+) -> Option<String> {
+    let mount = whole(alloc, "", faults, disks)?.disks.calls();
+    let left = whole(alloc, lines, faults, disks)?;
+    let mut sights = Sights::new(alloc);
+    for moment in 0..=left.disks.calls() {
+        let out = if moment > mount { out } else { NO_DISK };
+        see_picks(alloc, &left.disks, out, moment, &mut sights)?;
+    }
+    sights.told(alloc)
+}
