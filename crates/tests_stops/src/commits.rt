@@ -32,8 +32,8 @@ pub fn meta_block(rows: u8) -> Block {
     block
 }
 
-// A disk in a slot, with the meta at place 1 if it is a log disk.
-fn add_disk(rack: &mut MemRack, shape: Shape, disk: DiskNo) -> bool {
+// A disk in a slot, with this meta at place 1 if it is a log disk.
+fn add_disk(rack: &mut MemRack, shape: Shape, meta: &Block, disk: DiskNo) -> bool {
     if disk >= rack.slots() || rack.attach(disk, shape.size).is_err() {
         return false;
     }
@@ -43,14 +43,14 @@ fn add_disk(rack: &mut MemRack, shape: Shape, disk: DiskNo) -> bool {
     if rack.power(disk) != Power::Spinning || rack.size(disk) <= 1 {
         return false;
     }
-    rack.write(disk, 1, &meta_block(shape.rows)).is_ok()
+    rack.write(disk, 1, meta).is_ok()
 }
 
-// The formatted array as a start, whose calls fail as the plan says.
-fn formatted(alloc: Global, shape: Shape, plan: Vec<Planned>) -> Option<MemRack> {
+/// An array of zeros with this meta as a start, whose calls fail as the plan says.
+pub fn formatted(alloc: Global, shape: Shape, meta: &Block, plan: Vec<Planned>) -> Option<MemRack> {
     let mut rack = MemRack::new(alloc, 5, shape.size, 100, Vec::new(alloc)).ok()?;
     for disk in 0..5 {
-        if !add_disk(&mut rack, shape, disk) {
+        if !add_disk(&mut rack, shape, meta, disk) {
             return None;
         }
     }
@@ -66,12 +66,13 @@ pub fn committed(
     writes: u64,
     plan: Vec<Planned>,
 ) -> Option<(MemRack, Result<Option<DiskNo>, Two>)> {
-    let formatted_meta = read_meta(&meta_block(shape.rows))?;
+    let block = meta_block(shape.rows);
+    let formatted_meta = read_meta(&block)?;
     let meta = Meta {
         writes,
         ..formatted_meta
     };
-    let rack = formatted(alloc, shape, plan)?;
+    let rack = formatted(alloc, shape, &block, plan)?;
     if meta.setup.geometry.disks > rack.slots() {
         return None;
     }

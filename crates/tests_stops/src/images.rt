@@ -25,23 +25,21 @@ pub const META: [u8; 118] = [
 ];
 
 // Where fields of the meta stand; of a longer one the last byte.
-const VERSION: usize = 9;
-
-pub const EPOCH: usize = 51;
+const EPOCH: usize = 51;
 
 const WRITES: usize = 59;
 
-pub const TICKS: usize = 67;
+const TICKS: usize = 67;
 
-pub const GEAR: usize = 68;
+const GEAR: usize = 68;
 
 const PHASE: usize = 69;
 
 const TO: usize = 70;
 
-pub const OUT: usize = 71;
+const OUT: usize = 71;
 
-pub const FRESH: usize = 72;
+const FRESH: usize = 72;
 
 const FILL: usize = 79;
 
@@ -49,13 +47,9 @@ const REBUILT: usize = 83;
 
 const SPINS_OF_4: usize = 93;
 
-const BURST: usize = 113;
-
-const PERIOD: usize = 117;
-
 /// A change of an image.
 #[derive(Clone, Copy)]
-pub enum Change {
+enum Change {
     Nothing,
     /// A byte of a block.
     Byte(DiskNo, Place, usize, u8),
@@ -76,7 +70,7 @@ use Change::{Byte, Fewer, Fill, Log, MetaByte, Nothing, Powered, Short};
 
 /// Fills a row of a table up. A row that held a slice would be steps of its own in the proof of what
 /// walks the table.
-pub const NO: Change = Nothing;
+const NO: Change = Nothing;
 
 /// A block of these bytes and then zeros.
 pub fn block_with(bytes: &[u8]) -> Block {
@@ -162,7 +156,7 @@ fn blank(alloc: Global) -> Option<Image> {
 }
 
 /// The array as it is formatted, with these changes.
-pub fn array(alloc: Global, base: &[Change], changes: &[Change]) -> Option<Image> {
+fn array(alloc: Global, base: &[Change], changes: &[Change]) -> Option<Image> {
     let mut image = blank(alloc)?;
     put(&mut image, 0, 1, &block_with(&META));
     put(&mut image, 1, 1, &block_with(&META));
@@ -192,14 +186,6 @@ fn check(rt: &(impl Abort + AllocGlobal), base: &[Change], history: &[Pairs], ro
         assert!(rt; is_met(rt.alloc(), base, history, row), "row {at}");
     }
 }
-
-/// The array with metas of version 1, which have zeros where those of version 2 have the burst and
-/// the period.
-pub const VERSION_ONE: [Change; 3] = [
-    MetaByte(VERSION, 1),
-    MetaByte(BURST, 0),
-    MetaByte(PERIOD, 0),
-];
 
 /// The array after a shift down to gear 4.
 const DOWN: [Change; 4] = [

@@ -9,12 +9,6 @@ mod commits;
 #[cfg(test)]
 mod images;
 #[cfg(test)]
-mod mounted;
-#[cfg(test)]
-mod mounts;
-#[cfg(test)]
-mod new_arrays;
-#[cfg(test)]
 mod recoveries;
 #[cfg(test)]
 mod resumptions;

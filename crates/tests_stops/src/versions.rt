@@ -1,14 +1,9 @@
 //! A mount of an array whose metas have version 1 brings them to version 2.
 
-use crate::commits::{PICKS, left_at};
-use crate::images::Change::{MetaByte, Powered};
-use crate::images::{Change, FRESH, GEAR, NO, OUT, VERSION_ONE, array};
-use crate::mounts::rack_with;
-use Power::{Absent, Spinning};
+use crate::commits::{PICKS, SMALL, formatted, left_at, meta_block};
 use paraid_base::{Block, DiskNo};
 use paraid_memrack::{MemRack, Pick};
-use paraid_rack::{Power, Rack};
-use paraid_record::{Meta, read_meta};
+use paraid_record::Meta;
 use paraid_recover::mount;
 use paraid_txn::Batch;
 use std::alloc::Global;
@@ -27,88 +22,19 @@ pub fn served(alloc: Global, rack: MemRack) -> Option<(Said, MemRack)> {
     Some((said(&it.meta), it.store.close()))
 }
 
-/// What the meta of a log disk says, where that disk spins.
-fn stored(rack: &mut MemRack, disk: DiskNo) -> Option<Said> {
-    if disk >= rack.slots() || rack.power(disk) != Spinning || rack.size(disk) < 2 {
-        return None;
-    }
-    let mut block = Block::zero();
-    rack.read(disk, 1, &mut block).ok()?;
-    let meta = read_meta(&block)?;
-    Some(said(&meta))
-}
-
-/// What the first mount gives, what the metas of the log disks say then, and how many calls it and
-/// a second one take.
-type Outcome = (Said, [Option<Said>; 2], u32, u32);
-
-fn mounted_twice(alloc: Global, changes: &[Change]) -> Option<Outcome> {
-    let image = array(alloc, &VERSION_ONE, changes)?;
-    let rack = rack_with(alloc, &image, Vec::new(alloc))?;
-    let (first, mut rack) = served(alloc, rack)?;
-    let calls = rack.calls();
-    let metas = [stored(&mut rack, 0), stored(&mut rack, 1)];
-    let before = rack.calls();
-    let (second, rack) = served(alloc, rack)?;
-    if second != first || rack.calls() < before {
-        return None;
-    }
-    Some((first, metas, calls, rack.calls() - before))
-}
-
-/// Changes of the array, the disk that is out after a mount, whether disk 0 has a meta then, and how
-/// many calls this mount and a second one take.
-type Row = ([Change; 3], Option<DiskNo>, bool, u32, u32);
-
-/// Both log disks are read, the gate of the other one again, a block of the map, and each disk that
-/// spins and is not gone is synced: 11 calls with all five. The commit takes 9 calls on a log disk
-/// that is not out. A second mount makes none.
-const ROWS: [Row; 8] = [
-    ([NO; 3], None, true, 29, 11),
-    // disk 4 is parked, too
-    ([MetaByte(GEAR, 4), NO, NO], None, true, 30, 10),
-    // the mark of a disk brings the version
-    ([Powered(0, Absent), NO, NO], Some(0), false, 16, 7),
-    ([Powered(3, Absent), NO, NO], Some(3), true, 28, 10),
-    (
-        [MetaByte(OUT, 4), MetaByte(FRESH, 1), Powered(4, Absent)],
-        Some(4),
-        true,
-        28,
-        10,
-    ),
-    // a disk is named out already
-    (
-        [MetaByte(OUT, 0), Powered(0, Absent), NO],
-        Some(0),
-        false,
-        16,
-        7,
-    ),
-    ([MetaByte(OUT, 3), NO, NO], Some(3), true, 28, 10),
-    (
-        [MetaByte(OUT, 4), MetaByte(FRESH, 1), NO],
-        Some(4),
-        true,
-        29,
-        11,
-    ),
-];
-
-#[test]
-fn a_mount_brings_version_one_to_version_two(rt: HostRuntime) {
-    for (at, &(changes, out, both, first, second)) in ROWS.iter().enumerate() {
-        let meta = (2, 2, 0, out);
-        let zero = if both { Some(meta) } else { None };
-        let want = Some((meta, [zero, Some(meta)], first, second));
-        assert!(rt; mounted_twice(rt.alloc(), &changes) == want, "row {at}");
-    }
+// The meta of a formatted array in version 1, which has zeros where version 2 has the burst and the
+// period.
+fn meta_of_version_one() -> Block {
+    let mut block = meta_block(5);
+    block.set(9, 1);
+    block.set(113, 0);
+    block.set(117, 0);
+    block
 }
 
 /// The array with version 1, after a mount.
 fn brought(alloc: Global) -> Option<MemRack> {
-    let image = array(alloc, &VERSION_ONE, &[])?;
-    let rack = rack_with(alloc, &image, Vec::new(alloc))?;
+    let rack = formatted(alloc, SMALL, &meta_of_version_one(), Vec::new(alloc))?;
     let (_said, rack) = served(alloc, rack)?;
     Some(rack)
 }
