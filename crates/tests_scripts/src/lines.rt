@@ -21,8 +21,8 @@ pub fn first_number(text: &str) -> (u32, &str) {
 
 /// The first word as a small number, the largest where it is none, and what follows it.
 pub fn first_byte(text: &str) -> (u8, &str) {
-    let (word, rest) = first_word(text);
-    (word.parse::<u8>().unwrap_or(u8::MAX), rest)
+    let (number, rest) = first_number(text);
+    (u8::try_from(number).unwrap_or(u8::MAX), rest)
 }
 
 /// Adds a line to a text.
@@ -47,6 +47,19 @@ pub fn trace_of(alloc: Global, text: &str) -> Option<String> {
     }
     for line in text.split("; ") {
         add_line(&mut trace, line)?;
+    }
+    Some(trace)
+}
+
+/// The lines of a trace but the last.
+pub fn trace_before(alloc: Global, text: &str) -> Option<String> {
+    let mut trace = String::new(alloc);
+    let mut last = None;
+    for line in text.split("; ") {
+        if let Some(before) = last {
+            add_line(&mut trace, before)?;
+        }
+        last = Some(line);
     }
     Some(trace)
 }

@@ -1,6 +1,6 @@
 //! Runs of the program over a source, a sink and disks in memory.
 
-use crate::lines::trace_of;
+use crate::lines::{trace_before, trace_of};
 use paraid_base::DiskNo;
 use paraid_io::{MemSink, MemSource};
 use paraid_memrack::{MemRack, Pick, Planned};
@@ -95,8 +95,8 @@ fn sink_of(alloc: Global, fails: u32) -> Option<MemSink> {
 }
 
 fn written(alloc: Global, sink: &MemSink) -> Option<String> {
-    let bytes = sink.bytes().to_vec(alloc).ok()?;
-    String::from_utf8(bytes).ok()
+    let text = str::from_utf8(sink.bytes()).ok()?;
+    String::from_str(alloc, text).ok()
 }
 
 fn left_of(
@@ -160,14 +160,23 @@ pub fn whole(alloc: Global, text: &str, faults: &Faults, disks: &MemRack) -> Opt
 
 /// The same, with no newline at the end.
 pub fn unended(alloc: Global, text: &str, faults: &Faults, disks: &MemRack) -> Option<Left> {
-    let trace = trace_of(alloc, text)?;
-    let part = trace.as_str().strip_suffix("\n")?;
-    ran(alloc, "run", part, faults, disks)
+    let mut trace = trace_of(alloc, text)?;
+    let _newline = trace.pop();
+    ran(alloc, "run", trace.as_str(), faults, disks)
 }
 
-/// A run that is cut off after these lines, with no flush at its end: the source fails there.
-pub fn cut_off(alloc: Global, text: &str, faults: &Faults, disks: &MemRack) -> Option<Left> {
-    let trace = trace_of(alloc, text)?;
+// A run that is cut off after this trace, with no flush at its end: the source fails there.
+fn cut(alloc: Global, trace: &String, faults: &Faults, disks: &MemRack) -> Option<Left> {
     let disks = restarted(alloc, disks, &faults.disks)?;
     ran_on(alloc, "run", trace.as_str(), 1, faults.sink, disks)
+}
+
+/// A run that is cut off after the lines of this text.
+pub fn cut_off(alloc: Global, text: &str, faults: &Faults, disks: &MemRack) -> Option<Left> {
+    cut(alloc, &trace_of(alloc, text)?, faults, disks)
+}
+
+/// A run that is cut off before the last of them.
+pub fn cut_before(alloc: Global, text: &str, faults: &Faults, disks: &MemRack) -> Option<Left> {
+    cut(alloc, &trace_before(alloc, text)?, faults, disks)
 }

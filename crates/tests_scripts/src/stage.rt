@@ -3,7 +3,7 @@
 use crate::changes::{byte_at, changed, without};
 use crate::lines::{configured, first_byte, first_number, first_word};
 use crate::moments::{Sights, stops};
-use crate::runs::{Faults, Left, bare, cut_off, ran, restarted, stopped, unended, whole};
+use crate::runs::{Faults, Left, bare, cut_before, cut_off, ran, restarted, stopped, unended, whole};
 use crate::tallies::{calls_on, changes_in, counted, places_on, priced, priced_mount};
 use paraid_memrack::{MemRack, Pick, Planned};
 use paraid_rack::Rack;
@@ -47,11 +47,7 @@ fn array(alloc: Global, configuration: &str, slots: u8) -> Option<MemRack> {
 
 // What an event costs, which is the last of these lines.
 fn cost(alloc: Global, lines: &str, faults: &Faults, disks: &MemRack) -> Option<String> {
-    let before = match lines.rsplit_once("; ") {
-        Some((before, _event)) => before,
-        None => "",
-    };
-    let first = cut_off(alloc, before, faults, disks)?.disks.calls();
+    let first = cut_before(alloc, lines, faults, disks)?.disks.calls();
     priced(alloc, &cut_off(alloc, lines, faults, disks)?, first)
 }
 

@@ -68,13 +68,15 @@ fn or_word(mut text: String, word: &str) -> Option<String> {
     Some(text)
 }
 
-// The last answer of a run that was cut off.
+// The last answer of a run that was cut off: its last line tells of the source.
 fn last_answer(text: &str) -> Option<&str> {
-    let answers = text.strip_suffix("\nsource\n")?;
-    match answers.rsplit_once('\n') {
-        Some((_others, answer)) => Some(answer),
-        None => Some(answers),
+    let mut answer = "";
+    let mut last = "";
+    for line in text.lines() {
+        answer = last;
+        last = line;
     }
+    if last == "source" { Some(answer) } else { None }
 }
 
 fn with_answer(alloc: Global, answer: &str, disks: &MemRack, first: u32) -> Option<String> {
