@@ -3,9 +3,7 @@
 #![tactic(auto)]
 
 #[cfg(test)]
-mod configurations;
-#[cfg(test)]
-mod decisions;
+mod dirty;
 #[cfg(test)]
 mod image_racks;
 #[cfg(test)]
@@ -13,13 +11,7 @@ mod lines;
 #[cfg(test)]
 mod memory_racks;
 #[cfg(test)]
-mod places;
-#[cfg(test)]
 mod racks;
-#[cfg(test)]
-mod records;
-#[cfg(test)]
-mod setups;
 #[cfg(test)]
 mod sums;
 #[cfg(test)]
