@@ -1,7 +1,10 @@
-//! Tests of the lower crates, as tables of values from outside: worked by hand from the formats and
-//! the formulas, or taken from another program. What a clause says of all inputs is not tried again.
+//! Tests of the lower crates, and of those that stand beside the array, as tables of values from
+//! outside: worked by hand from the formats and the formulas, or taken from another program. What a
+//! clause says of all inputs is not tried again.
 #![tactic(auto)]
 
+#[cfg(test)]
+mod device;
 #[cfg(test)]
 mod dirty;
 #[cfg(test)]
@@ -11,8 +14,16 @@ mod lines;
 #[cfg(test)]
 mod memory_racks;
 #[cfg(test)]
+mod nbd;
+#[cfg(test)]
+mod plans;
+#[cfg(test)]
 mod racks;
+#[cfg(test)]
+mod spares;
 #[cfg(test)]
 mod sums;
 #[cfg(test)]
 mod traces;
+#[cfg(test)]
+mod volumes;

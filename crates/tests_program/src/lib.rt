@@ -1,13 +1,20 @@
-//! Tests of the program that a script cannot say: faults at each call, stops at each moment, raw bytes,
-//! and racks and sinks of their own. The scripts are those of `tests_scripts`.
+//! Tests of the program, of a commit and of a mount that a script cannot say: faults at each call,
+//! stops at each moment, images made by hand, raw bytes, and racks and sinks of their own. The scripts
+//! are those of `tests_scripts`.
 #![tactic(auto)]
 
+#[cfg(test)]
+mod batches;
 #[cfg(test)]
 mod bytes;
 #[cfg(test)]
 mod checks;
 #[cfg(test)]
+mod commits;
+#[cfg(test)]
 mod failures;
+#[cfg(test)]
+mod images;
 #[cfg(test)]
 mod order;
 #[cfg(test)]
@@ -17,10 +24,16 @@ mod plain_rack;
 #[cfg(test)]
 mod programs;
 #[cfg(test)]
+mod recoveries;
+#[cfg(test)]
+mod resumptions;
+#[cfg(test)]
 mod script;
 #[cfg(test)]
 mod stops;
 #[cfg(test)]
 mod streams;
+#[cfg(test)]
+mod versions;
 #[cfg(test)]
 mod words;
