@@ -3,7 +3,9 @@
 use crate::changes::{byte_at, changed, without};
 use crate::lines::{configured, first_byte, first_number, first_word};
 use crate::moments::{Sights, stops};
-use crate::runs::{Faults, Left, bare, cut_before, cut_off, ran, restarted, stopped, unended, whole};
+use crate::runs::{
+    Faults, Left, bare, cut_before, cut_off, ran, restarted, stopped, unended, whole,
+};
 use crate::tallies::{calls_on, changes_in, counted, places_on, priced, priced_mount};
 use paraid_memrack::{MemRack, Pick, Planned};
 use paraid_rack::Rack;

@@ -70,13 +70,16 @@ fn or_word(mut text: String, word: &str) -> Option<String> {
 
 // The last answer of a run that was cut off: its last line tells of the source.
 fn last_answer(text: &str) -> Option<&str> {
-    let mut answer = "";
-    let mut last = "";
+    let mut answer = None;
+    let mut last = None;
     for line in text.lines() {
         answer = last;
-        last = line;
+        last = Some(line);
     }
-    if last == "source" { Some(answer) } else { None }
+    match last {
+        Some("source") => answer,
+        _ => None,
+    }
 }
 
 fn with_answer(alloc: Global, answer: &str, disks: &MemRack, first: u32) -> Option<String> {
