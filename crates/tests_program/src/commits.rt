@@ -10,23 +10,23 @@ use paraid_record::{Meta, read_meta};
 use paraid_txn::{Batch, Store};
 use std::alloc::Global;
 
-/// An array of five disks: how many rows it has, and how many blocks a disk needs for them.
+// An array of five disks: how many rows it has, and how many blocks a disk needs for them.
 #[derive(Clone, Copy)]
-pub struct Shape {
+struct Shape {
     rows: u8,
     size: u32,
 }
 
-pub const SMALL: Shape = Shape { rows: 5, size: 108 };
+const SMALL: Shape = Shape { rows: 5, size: 108 };
 
-/// 100 places of the log, one of the map, 40 rows, and a region of a third of them.
+// 100 places of the log, one of the map, 40 rows, and a region of a third of them.
 const LARGE: Shape = Shape {
     rows: 40,
     size: 155,
 };
 
-/// The meta of a formatted array of so many rows.
-pub fn meta_block(rows: u8) -> Block {
+// The meta of a formatted array of so many rows.
+fn meta_block(rows: u8) -> Block {
     let mut block = block_with(&META);
     block.set(23, rows);
     block
@@ -46,8 +46,8 @@ fn add_disk(rack: &mut MemRack, shape: Shape, meta: &Block, disk: DiskNo) -> boo
     rack.write(disk, 1, meta).is_ok()
 }
 
-/// An array of zeros with this meta as a start, whose calls fail as the plan says.
-pub fn formatted(alloc: Global, shape: Shape, meta: &Block, plan: Vec<Planned>) -> Option<MemRack> {
+// An array of zeros with this meta as a start, whose calls fail as the plan says.
+fn formatted(alloc: Global, shape: Shape, meta: &Block, plan: Vec<Planned>) -> Option<MemRack> {
     let mut rack = MemRack::new(alloc, 5, shape.size, 100, Vec::new(alloc)).ok()?;
     for disk in 0..5 {
         if !add_disk(&mut rack, shape, meta, disk) {
@@ -58,8 +58,8 @@ pub fn formatted(alloc: Global, shape: Shape, meta: &Block, plan: Vec<Planned>) 
         .ok()
 }
 
-/// The array after one commit of this batch, under a meta of so many writes, and what it answered.
-pub fn committed(
+// The array after one commit of this batch, under a meta of so many writes, and what it answered.
+fn committed(
     alloc: Global,
     shape: Shape,
     batch: &Batch,
@@ -95,8 +95,8 @@ fn copy_disk(rack: &MemRack, disk: DiskNo, image: &mut Image) {
     }
 }
 
-/// What the disks of a rack hold now.
-pub fn image_of(alloc: Global, rack: &MemRack) -> Option<Image> {
+// What the disks of a rack hold now.
+fn image_of(alloc: Global, rack: &MemRack) -> Option<Image> {
     let mut image = Image::new(alloc);
     for disk in 0..rack.slots() {
         image.add(alloc, rack.power(disk), rack.size(disk)).ok()?;
@@ -105,8 +105,8 @@ pub fn image_of(alloc: Global, rack: &MemRack) -> Option<Image> {
     Some(image)
 }
 
-/// The rack that a stop leaves, with a disk lost or none.
-pub fn left_at(
+// The rack that a stop leaves, with a disk lost or none.
+fn left_at(
     alloc: Global,
     rack: &MemRack,
     moment: u32,
@@ -136,9 +136,9 @@ fn chosen(alloc: Global, rack: &mut MemRack) -> Option<DiskNo> {
     choose(sides.first, sides.second)
 }
 
-/// The epoch that stands, where the target holds the old block or the new one by it. With the
-/// target's disk lost only the epoch counts.
-pub fn epoch_left(image: &Image, lost: Option<DiskNo>) -> Option<u64> {
+// The epoch that stands, where the target holds the old block or the new one by it. With the
+// target's disk lost only the epoch counts.
+fn epoch_left(image: &Image, lost: Option<DiskNo>) -> Option<u64> {
     let says = standing_of(image)?;
     let block = content(image, &says, 2, 101);
     let want = match says.meta.epoch {
@@ -154,8 +154,8 @@ pub fn epoch_left(image: &Image, lost: Option<DiskNo>) -> Option<u64> {
     }
 }
 
-/// A disk, a place, and what a block is filled with.
-pub type Filling = (DiskNo, Place, u8);
+// A disk, a place, and what a block is filled with.
+type Filling = (DiskNo, Place, u8);
 
 fn add_all(batch: &mut Batch, fillings: &[Filling]) -> bool {
     for &(disk, place, byte) in fillings {
@@ -166,8 +166,8 @@ fn add_all(batch: &mut Batch, fillings: &[Filling]) -> bool {
     true
 }
 
-/// A batch of these targets.
-pub fn batch_of(alloc: Global, fillings: &[Filling]) -> Option<Batch> {
+// A batch of these targets.
+fn batch_of(alloc: Global, fillings: &[Filling]) -> Option<Batch> {
     let mut batch = Batch::new(alloc).ok()?;
     if add_all(&mut batch, fillings) {
         Some(batch)
@@ -176,12 +176,12 @@ pub fn batch_of(alloc: Global, fillings: &[Filling]) -> Option<Batch> {
     }
 }
 
-/// One block of 255s, without the parity of its row.
-pub const ONE_TARGET: [Filling; 1] = [(2, 101, 255)];
+// One block of 255s, without the parity of its row.
+const ONE_TARGET: [Filling; 1] = [(2, 101, 255)];
 
-pub const LOSSES: [Option<DiskNo>; 6] = [None, Some(0), Some(1), Some(2), Some(3), Some(4)];
+const LOSSES: [Option<DiskNo>; 6] = [None, Some(0), Some(1), Some(2), Some(3), Some(4)];
 
-pub const PICKS: [Pick; 4] = [Pick::Old, Pick::New, Pick::Filled(165), Pick::Mixed];
+const PICKS: [Pick; 4] = [Pick::Old, Pick::New, Pick::Filled(165), Pick::Mixed];
 
 // How many calls the commit of one target makes on a disk: ten on a log disk, and a write and a
 // sync on that of the target.
@@ -283,11 +283,11 @@ fn a_commit_costs_three_writes_a_target_and_ten_more(rt: HostRuntime) {
     }
 }
 
-/// The write of block 7, which is the cell of row 1 and disk 4, with the parity of its row.
-pub const ONE_WRITE: [Filling; 2] = [(4, 102, 0x77), (3, 102, 0x77)];
+// The write of block 7, which is the cell of row 1 and disk 4, with the parity of its row.
+const ONE_WRITE: [Filling; 2] = [(4, 102, 0x77), (3, 102, 0x77)];
 
-/// The array after the commit of that write, of 26 calls, and what it answered.
-pub fn written(alloc: Global) -> Option<(MemRack, Result<Option<DiskNo>, Two>)> {
+// The array after the commit of that write, of 26 calls, and what it answered.
+fn written(alloc: Global) -> Option<(MemRack, Result<Option<DiskNo>, Two>)> {
     committed(
         alloc,
         SMALL,
@@ -318,8 +318,8 @@ fn writes_left(
     }
 }
 
-/// Counts a stop that leaves no write, or the write.
-pub fn counted(counts: (u32, u32), writes: u64) -> Option<(u32, u32)> {
+// Counts a stop that leaves no write, or the write.
+fn counted(counts: (u32, u32), writes: u64) -> Option<(u32, u32)> {
     match writes {
         0 => Some((counts.0.saturating_add(1), counts.1)),
         1 => Some((counts.0, counts.1.saturating_add(1))),
@@ -338,9 +338,9 @@ fn sound_at(alloc: Global, rack: &MemRack, moment: u32) -> Option<(u32, u32)> {
     Some(counts)
 }
 
-/// How many images hold no write and the write after so many calls of its commit: four blocks and a
-/// sync on each log disk; then each gate with its sync; and the rest.
-pub fn expected_at(moment: u32) -> (u32, u32) {
+// How many images hold no write and the write after so many calls of its commit: four blocks and a
+// sync on each log disk; then each gate with its sync; and the rest.
+fn expected_at(moment: u32) -> (u32, u32) {
     match moment {
         // no gate was written
         0..=10 => (24, 0),

@@ -1,10 +1,8 @@
-//! Tests of the program, of a commit and of a mount that a script cannot say: faults at each call,
-//! stops at each moment, images made by hand, raw bytes, and racks and sinks of their own. The scripts
-//! are those of `tests_scripts`.
+//! Tests of the program and of a commit that a script cannot say: faults at each call, stops at each
+//! moment, images made by hand, raw bytes, and racks and sinks of their own. The scripts are those of
+//! `tests_scripts`.
 #![tactic(auto)]
 
-#[cfg(test)]
-mod batches;
 #[cfg(test)]
 mod bytes;
 #[cfg(test)]
@@ -24,16 +22,10 @@ mod plain_rack;
 #[cfg(test)]
 mod programs;
 #[cfg(test)]
-mod recoveries;
-#[cfg(test)]
-mod resumptions;
-#[cfg(test)]
 mod script;
 #[cfg(test)]
 mod stops;
 #[cfg(test)]
 mod streams;
-#[cfg(test)]
-mod versions;
 #[cfg(test)]
 mod words;
