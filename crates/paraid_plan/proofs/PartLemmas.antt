@@ -1,7 +1,7 @@
 -- The parts that the cells of a row bring to its new parity, by either rule.
-use Rattle.std.specs.Prelude.{◌≡◌, ◌≢◌, ℕ, ◌+◌, ◌==◌, ◌<◌, ◌≤◌, ◌&&◌, ◌||◌, Bool, true, false, not, List, [], ◌∷◌, ◌++◌, get_or, if◌then◌else◌}
-use Rattle.std.proofs.Common.{refl, sym, ◌∙◌, ap, arith, inl, inr, zero, suc}
-use Rattle.std.proofs.lemmas.Bool.{cases_Bool, cases_eq}
+use Rattle.std.specs.Prelude.{◌≡◌, ◌≢◌, ℕ, ◌+◌, ◌==◌, ◌<◌, ◌≤◌, ◌&&◌, ◌||◌, Bool, true, false, not, List, Option, [], ◌∷◌, ◌++◌, get_or, if◌then◌else◌}
+use Rattle.std.proofs.Common.{refl, sym, ◌∙◌, ap, subst, arith, inl, inr, zero, suc}
+use Rattle.std.proofs.lemmas.Bool.{cases_Bool, cases_eq, true≢false}
 use Rattle.std.proofs.lemmas.Bool.Decides.{nat_tests}
 use Rattle.paraid_base.specs.declared.block.Block.{Block}
 use Rattle.paraid_base.specs.declared.pairs.Pairs.{Pairs}
@@ -14,7 +14,7 @@ use Rattle.paraid_base.proofs.HistoryLemmas.{last_of-append}
 use Rattle.paraid_base.proofs.SumsLemmas.{whole_from_others, without_other, without_same, xor_upto_same}
 use Rattle.paraid_base.proofs.XorLemmas.{xor_assoc, xor_self, xor_turn, xor_zero, xor_zero_right}
 use Rattle.paraid_plan.specs.Desk.{Desk, cell_desk, sees}
-use Rattle.paraid_plan.specs.RowWrites.{AreOldRead, TurnsRow, given_row, is_changed, is_given, names_block, new_parity, pairs_before, parity_part}
+use Rattle.paraid_plan.specs.RowWrites.{AreOldRead, IsKept, TurnsRow, given_row, is_changed, is_given, names_block, new_parity, pairs_before, parity_part}
 use Rattle.paraid_plan.specs.WriteTargets.{needs_old}
 use Rattle.paraid_plan.proofs.DeskLemmas.{needs_old_after}
 use Rattle.paraid_plan.proofs.PairLemmas.{before_more, before_none, changed_data, changed_parity, given_data, given_parity, named_any, names_none}
@@ -128,6 +128,14 @@ part_added n ws r row anew changed d value sum mid sum_then is_changed is_value 
     by true h = h refl
     by false h = refl
 
+-- the same where the old value is no part
+pub part_left : (n : ℕ) (ws : Entry) (r : ℕ) (row : ℕ → Block) (anew changed : Bool) (d : ℕ) (sum sum_then : Block) → changed ≡ is_changed n ws r d
+    → (if anew then not changed else changed) ≡ false → sum_then ≡ xor sum (if is_given n ws r d then last_of (cell_block n r d) zero_block ws else zero_block)
+    → sum_then ≡ xor sum (parity_part n ws r row anew d)
+part_left n ws r row anew changed d sum sum_then is_changed none is_then =
+    part_added n ws r row anew changed d zero_block sum sum sum_then is_changed (λ is. absurd (true≢false (sym is ∙ none)))
+    (sym (xor_zero_right sum) ∙ ap (λ (z : Bool). xor sum (if z then zero_block else zero_block)) (sym none)) is_then
+
 -- one pair, whose cell is in the row
 
 one_here : (n b r d : ℕ) (x : Block) (row : ℕ → Block) (e : ℕ) → d ≢ parity_disk n r → cell_block n r d ≡ b → e ≡ d → given_row n ((b, x) ∷ []) r row e ≡ x
@@ -162,15 +170,15 @@ elsewhere_turns m s b r x row away =
     let low = m.setup.geometry.disks_low in
     turns_same m r s s row row (given_row m.setup.geometry.disks ((b, x) ∷ []) r row) (λ e le. one_elsewhere m.setup.geometry.disks b r x row e (omega arith) le away) (turns_none m r s row)
 
-pub elsewhere_old : (m : Meta) (s : Desk) (ws : Entry) (b r : ℕ) (x : Block) (olds : List Block) (row : ℕ → Block) → home_row m.setup.geometry.disks b ≢ r
+pub elsewhere_old : (m : Meta) (s : Desk) (ws : Entry) (b r : ℕ) (x : Block) (olds : List (Option Block)) (row : ℕ → Block) → home_row m.setup.geometry.disks b ≢ r
     → AreOldRead m s ws r olds row → AreOldRead m s ws r olds (given_row m.setup.geometry.disks ((b, x) ∷ []) r row)
 elsewhere_old m s ws b r x olds row away was = record {
-  read = λ e le changed h. let low = m.setup.geometry.disks_low in was.read e le changed h ∙ sym (one_elsewhere m.setup.geometry.disks b r x row e (omega arith) le away);
+  read = λ e le changed h. let low = m.setup.geometry.disks_low in subst (IsKept olds e) (sym (one_elsewhere m.setup.geometry.disks b r x row e (omega arith) le away)) (was.read e le changed h);
 }
 
-module _ (m : Meta) (s t : Desk) (ws : Entry) (b r d : ℕ) (x old : Block) (olds : List Block) (row : ℕ → Block)
+module _ (m : Meta) (s t : Desk) (ws : Entry) (b r d : ℕ) (x old : Block) (olds : List (Option Block)) (row : ℕ → Block)
     (in_range : IsInRange m) (lr : r < m.setup.geometry.rows) (ld : d < m.setup.geometry.disks) (apart : d ≢ parity_disk m.setup.geometry.disks r) (is : cell_block m.setup.geometry.disks r d ≡ b)
-    (is_old : old ≡ get_or olds d zero_block) (e : t ≡ cell_desk m s r d old x) (was : AreOldRead m s ws r olds row) where
+    (is_old : (z : Block) → IsKept olds d z → old ≡ z) (e : t ≡ cell_desk m s r d old x) (was : AreOldRead m s ws r olds row) where
   abbrev n : ℕ
   n = m.setup.geometry.disks
 
@@ -188,17 +196,18 @@ module _ (m : Meta) (s t : Desk) (ws : Entry) (b r d : ℕ) (x old : Block) (old
         | inl j ↦ one_here n b r d x row k apart is j ∙ sym (with_at_same row d x k j)
         | inr j ↦ one_other n b r d x row k two ld lk apart is j ∙ sym (with_at_other row d x k j)
       ])
-      (turns_cell m s r d old x x row in_range lr ld (λ h. is_old ∙ was.read d ld changed h) (λ _. refl) t e)
+      (turns_cell m s r d old x x row in_range lr ld (λ h. is_old (row d) (was.read d ld changed h)) (λ _. refl) t e)
 
-  pub pair_old : (olds_then : List Block) → get_or olds_then d zero_block ≡ x → ((k : ℕ) → k ≢ d → get_or olds_then k zero_block ≡ get_or olds k zero_block)
+  pub pair_old : (olds_then : List (Option Block)) → (needs_old (sees m t) r d ≡ true → IsKept olds_then d x) → ((k : ℕ) (z : Block) → k ≢ d → IsKept olds k z → IsKept olds_then k z)
       → AreOldRead m t ws r olds_then (given_row m.setup.geometry.disks ((b, x) ∷ []) r row)
   pair_old olds_then here others = record {
     read = λ k lk changed h. elim (cases_eq k d) [
-      | inl j ↦ ap (λ (z : ℕ). get_or olds_then z zero_block) j ∙ here ∙ sym (one_here n b r d x row k apart is j)
+      | inl j ↦
+          subst (IsKept olds_then k) (sym (one_here n b r d x row k apart is j))
+          (subst (λ (z : ℕ). IsKept olds_then z x) (sym j) (here (ap (λ (z : ℕ). needs_old (sees m t) r z) (sym j) ∙ h)))
       | inr j ↦
-          others k j
-          ∙ was.read k lk changed (sym (needs_old_after m s r d k old x (λ z. j (sym z))) ∙ ap (λ (z : Desk). needs_old (sees m z) r k) (sym e) ∙ h)
-          ∙ sym (one_other n b r d x row k two ld lk apart is j)
+          subst (IsKept olds_then k) (sym (one_other n b r d x row k two ld lk apart is j))
+          (others k (row k) j (was.read k lk changed (sym (needs_old_after m s r d k old x (λ z. j (sym z))) ∙ ap (λ (z : Desk). needs_old (sees m z) r k) (sym e) ∙ h)))
     ];
   }
 
@@ -220,6 +229,15 @@ wanted_old false b c d hc hd = rw (hc, hd) refl
 
 pub wanted_part : (a b c d : Bool) → a ≡ true → b ≡ true → ((a && b) || (c && d)) ≡ true
 wanted_part a b c d ha hb = rw (ha, hb) refl
+
+pub both_so : (a b : Bool) → a ≡ true → b ≡ true → (a && b) ≡ true
+both_so a b ha hb = rw (ha, hb) refl
+
+-- what is not wanted is no part
+pub part_not : (a b c d : Bool) → a ≡ true → ((a && b) || (c && d)) ≡ false → b ≡ false
+part_not true true c d ha h = absurd (true≢false h)
+part_not true false c d ha h = refl
+part_not false b c d ha h = absurd (true≢false (sym ha))
 
 -- the last part is that of the parity
 pub whole_part : (f : ℕ → Block) (p q n d : ℕ) (sum sum_then x : Block) → q ≡ p → p < n → d ≡ n → sum ≡ xor_upto (without f p) d → x ≡ f q → sum_then ≡ xor sum x → sum_then ≡ xor_upto f n

@@ -14,7 +14,7 @@ use Rattle.paraid_base.proofs.CellsLemmas.{cell_block-home, home_disk_below, hom
 use Rattle.paraid_base.proofs.SumsLemmas.{others_same, whole_from_others, xor_upto_same}
 use Rattle.paraid_base.proofs.XorLemmas.{xor_self}
 use Rattle.paraid_plan.specs.Desk.{Desk, IsKeptDesk, StagesMap, cell_desk, desk_with_bit, sees, with_targets}
-use Rattle.paraid_plan.specs.RowWrites.{AddsTargets, AreOldRead, StagesBlocks, TurnsRow, given_row, is_changed, new_parity, with_row}
+use Rattle.paraid_plan.specs.RowWrites.{AddsTargets, AreOldRead, IsKept, StagesBlocks, TurnsRow, given_row, is_changed, new_parity, with_row}
 use Rattle.paraid_plan.specs.WriteTargets.{cell_targets, goes_hard, is_filled, is_written, map_targets, needs_new, needs_old, overlaid_blocks}
 use Rattle.paraid_plan.specs.StoredCells.{AreBits, IsUnitKept, StoresCells}
 use Rattle.paraid_plan.proofs.CellLemmas.{bits_changed, cell_stored, goes_parked}
@@ -190,9 +190,9 @@ pub cell_bit_off : (m : Meta) (s t : Desk) (r d e : ℕ) (old new : Block) → t
 unfolding cell_desk desk_with_bit with_targets
 cell_bit_off m s t r d e old new is apart = ap (λ (z : Desk). z.dirty r e) is ∙ changed_off s.dirty r d (not (goes_hard (sees m s) r d)) r e (λ _ j. apart j)
 
-pub old_same : (m : Meta) (s : Desk) (ws : Entry) (r : ℕ) (olds : List Block) (y z : ℕ → Block) → ((e : ℕ) → e < m.setup.geometry.disks → z e ≡ y e)
+pub old_same : (m : Meta) (s : Desk) (ws : Entry) (r : ℕ) (olds : List (Option Block)) (y z : ℕ → Block) → ((e : ℕ) → e < m.setup.geometry.disks → z e ≡ y e)
     → AreOldRead m s ws r olds y → AreOldRead m s ws r olds z
-old_same m s ws r olds y z same was = record { read = λ e le changed h. was.read e le changed h ∙ sym (same e le) }
+old_same m s ws r olds y z same was = record { read = λ e le changed h. subst (IsKept olds e) (sym (same e le)) (was.read e le changed h) }
 
 -- what is needed of a cell depends on its own dirty bit alone
 hard_by : (m : Meta) (s t : Desk) (r d : ℕ) → t.dirty r d ≡ s.dirty r d → goes_hard (sees m t) r d ≡ goes_hard (sees m s) r d
@@ -352,7 +352,10 @@ module _ (m : Meta) (s t u : Desk) (r : ℕ) (ws : Entry) (staged : Bool) (in_ra
   }
 
 -- the same, over what the calls of the write of a row said
-pub row_from_calls : (m : Meta) (s s1 s2 s3 s4 : Desk) (r p : ℕ) (ws : Entry) (olds olds_then : List Block) (fixed : Block) (was : List Bool) (staged : Bool)
+same_disk : (a b : ℕ) → a ≡ b → (a == b) ≡ true
+same_disk a b e = grind (arith, nat_tests)
+
+pub row_from_calls : (m : Meta) (s s1 s2 s3 s4 : Desk) (r p : ℕ) (ws : Entry) (olds olds_then : List (Option Block)) (old fixed : Block) (was : List Bool) (staged : Bool)
     → IsInRange m → r < m.setup.geometry.rows → p ≡ parity_disk m.setup.geometry.disks r → s1 ≡ s
     → AreOldRead m s ws r olds (value (sees m s) r)
     → (needs_new (sees m s) r p ≡ true → xor_upto (value (sees m s) r) m.setup.geometry.disks ≡ zero_block → fixed ≡ new_parity m.setup.geometry.disks ws r (value (sees m s) r))
@@ -361,27 +364,27 @@ pub row_from_calls : (m : Meta) (s s1 s2 s3 s4 : Desk) (r p : ℕ) (ws : Entry) 
     → ((row : ℕ → Block) → AreOldRead m s1 ws r olds row → TurnsRow m r s1 s2 row (given_row m.setup.geometry.disks ws r row))
     → ((row : ℕ → Block) → AreOldRead m s1 ws r olds row → AreOldRead m s2 ws r olds_then (given_row m.setup.geometry.disks ws r row))
     → s2.dirty r (parity_disk m.setup.geometry.disks r) ≡ s1.dirty r (parity_disk m.setup.geometry.disks r)
-    → s3 ≡ cell_desk m s2 r p (get_or olds_then p zero_block) fixed
+    → ((z : Block) → IsKept olds_then p z → old ≡ z) → s3 ≡ cell_desk m s2 r p old fixed
     → (staged ≡ false → (e : ℕ) → e < m.setup.geometry.disks → s3.dirty r e ≡ get_or was e false)
     → StagesMap m s3 s4 (r / 512) staged
     → StagesBlocks m s s4 (λ c x. if home_row m.setup.geometry.disks c == r then last_of c x ws else x)
 unfolding is_changed
-row_from_calls m s s1 s2 s3 s4 r p ws olds olds_then fixed was staged in_range lr ep e1 read is_fixed was_bits adds turns later parity_bit e3 same map =
+row_from_calls m s s1 s2 s3 s4 r p ws olds olds_then old fixed was staged in_range lr ep e1 read is_fixed was_bits adds turns later parity_bit is_old e3 same map =
     let n : ℕ = m.setup.geometry.disks in
     let low = m.setup.geometry.disks_low in
     let row : ℕ → Block = value (sees m s) r in
     let lp : p < n = rw ep (parity_disk_below n r (omega arith)) in
-    let here : (p == parity_disk n r) ≡ true = grind (arith, nat_tests) in
+    let here : (p == parity_disk n r) ≡ true = same_disk p (parity_disk n r) ep in
     let changed : is_changed n ws r p ≡ true = rw here refl in
     let first : AddsTargets m s s2 = subst (λ (z : Desk). AddsTargets m z s2) e1 adds in
     let read1 : AreOldRead m s1 ws r olds row = subst (λ (z : Desk). AreOldRead m z ws r olds row) (sym e1) read in
     let turned : TurnsRow m r s s2 row (given_row n ws r row) = subst (λ (z : Desk). TurnsRow m r z s2 row (given_row n ws r row)) e1 (turns row read1) in
     let bit : s2.dirty r p ≡ s.dirty r p = subst (λ (z : ℕ). s2.dirty r z ≡ s1.dirty r z) (sym ep) parity_bit ∙ ap (λ (z : Desk). z.dirty r p) e1 in
     row_staged m s s3 s4 r ws staged in_range lr
-    (adds_then m s s2 s3 first (adds_cell m s2 s3 r p (get_or olds_then p zero_block) fixed in_range lr lp e3))
+    (adds_then m s s2 s3 first (adds_cell m s2 s3 r p old fixed in_range lr lp e3))
     (λ zero. subst (λ (z : ℕ). TurnsRow m r s s3 row (with_at (given_row n ws r row) z (new_parity n ws r row))) ep
     (turns_then m r s s2 s3 row (given_row n ws r row) _ turned
-    (turns_cell m s2 r p (get_or olds_then p zero_block) fixed (new_parity n ws r row) (given_row n ws r row) in_range lr lp
-    (λ h. (later row read1).read p lp changed h) (λ h. is_fixed (sym (needs_new_by m s s2 r p bit) ∙ h) zero) s3 e3)))
+    (turns_cell m s2 r p old fixed (new_parity n ws r row) (given_row n ws r row) in_range lr lp
+    (λ h. is_old (given_row n ws r row p) ((later row read1).read p lp changed h)) (λ h. is_fixed (sym (needs_new_by m s s2 r p bit) ∙ h) zero) s3 e3)))
     (λ h e le. same h e le ∙ was_bits e le ∙ ap (λ (z : Desk). z.dirty r e) e1)
     map

@@ -69,9 +69,13 @@ parity_part n ws r row anew d =
     xor (if (if anew then not (is_changed n ws r d) else is_changed n ws r d) then row d else zero_block)
     (if is_given n ws r d then last_of (cell_block n r d) zero_block ws else zero_block)
 
--- the old value of each cell that changes, where what is staged of it depends on that
-pub record AreOldRead (m : Meta) (s : Desk) (ws : Entry) (r : ℕ) (olds : List Block) (row : ℕ → Block) : Type 0 where
-  pub read : (e : ℕ) → e < m.setup.geometry.disks → is_changed m.setup.geometry.disks ws r e ≡ true → needs_old (sees m s) r e ≡ true → get_or olds e zero_block ≡ row e
+-- what is kept for disk `d` is block `b`
+abbrev pub IsKept : List (Option Block) → ℕ → Block → Type 0
+IsKept kept d b = get_or kept d None ≡ Some b
+
+-- the old value of each cell that changes is kept, where what is staged of it depends on that
+pub record AreOldRead (m : Meta) (s : Desk) (ws : Entry) (r : ℕ) (olds : List (Option Block)) (row : ℕ → Block) : Type 0 where
+  pub read : (e : ℕ) → e < m.setup.geometry.disks → is_changed m.setup.geometry.disks ws r e ≡ true → needs_old (sees m s) r e ≡ true → IsKept olds e (row e)
 
 -- More is staged, and laid over what is seen; each of its targets can be committed.
 pub record AddsTargets (m : Meta) (before after : Desk) : Type 0 where

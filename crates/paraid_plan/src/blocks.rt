@@ -1,6 +1,8 @@
-//! One of eight blocks.
-ghost use Rattle.std.specs.Prelude.{◌≡◌, ◌≢◌, ℕ, ◌<◌, get_or};
+//! One of eight blocks, and the blocks that are kept for some of eight disks.
+ghost use Rattle.std.specs.Prelude.{◌≡◌, ◌≢◌, ℕ, ◌<◌, true, get_or};
+ghost use Rattle.paraid_base.specs.declared.block.Block.{Block as BlockType};
 ghost use Rattle.paraid_base.specs.Xor.{zero_block};
+ghost use Rattle.paraid_plan.specs.RowWrites.{IsKept};
 
 use paraid_base::{Block, DiskNo};
 
@@ -12,11 +14,29 @@ pub(crate) fn block_of(blocks: &[Block; 8], at: usize) -> &Block
     &blocks[at]
 }
 
-/// Changes one of the blocks.
-pub(crate) fn put(blocks: &mut [Block; 8], at: DiskNo, block: &Block)
+/// No block is kept yet, which costs no block of zeros.
+pub(crate) fn none_kept() -> [Option<Block>; 8] {
+    [None, None, None, None, None, None, None, None]
+}
+
+/// The block that is kept for a disk, or else another one.
+pub(crate) fn kept_or<'a>(kept: &'a [Option<Block>; 8], at: DiskNo, other: &'a Block) -> &'a Block
     requires { at < 8 }
-    ensures here { get_or blocks.new at zero_block ≡ block.now }
-    ensures others { (x : ℕ) → x ≢ at → get_or blocks.new x zero_block ≡ get_or blocks.old x zero_block }
+    ensures { (b : BlockType) → IsKept kept.now at b → result.now ≡ b }
 {
-    blocks[at as usize].copy_from(block);
+    let Some(block) = &kept[at as usize] else {
+        return other;
+    };
+    block
+}
+
+/// Keeps a block, where it is needed.
+pub(crate) fn keep_if(needed: bool, kept: &mut [Option<Block>; 8], at: DiskNo, block: &Block)
+    requires { at < 8 }
+    ensures here { needed ≡ true → IsKept kept.new at block.now }
+    ensures others { (x : ℕ) (b : BlockType) → x ≢ at → IsKept kept.old x b → IsKept kept.new x b }
+{
+    if needed {
+        kept[at as usize] = Some(block.copy());
+    }
 }

@@ -82,36 +82,6 @@ pub(crate) fn needs_old<P: Plan>(plan: &P, m: &Meta, r: Row, d: DiskNo) -> bool
     has_parity(m, r, d) || is_filled(m, r, d)
 }
 
-/// Reads the value of a cell where it is needed.
-pub(crate) fn read_if<P: Plan>(
-    plan: &mut P,
-    m: &Meta,
-    needed: bool,
-    r: Row,
-    d: DiskNo,
-    into: &mut Block,
-) -> Result<(), Lost>
-    requires serves { P.serves plan.old m.now }
-    requires in_range { IsInRange m.now }
-    requires row { r < m.now.setup.geometry.rows }
-    requires disk { d < m.now.setup.geometry.disks }
-    ensures ok { OnOk result (P.tells plan.new → needed ≡ true
-        → into.new ≡ value_of (sees m.now (P.desk plan.old)) r d) }
-    ensures same { OnOk result (P.tells plan.new → P.desk plan.new ≡ P.desk plan.old) }
-    ensures bits { OnOk result ((P.desk plan.new).dirty ≡ (P.desk plan.old).dirty) }
-    ensures staged { OnOk result
-        (length (P.desk plan.new).staged ≡ length (P.desk plan.old).staged) }
-    ensures changes { OnOk result (P.changes plan.new ≡ P.changes plan.old) }
-    ensures goes_on { OnOk result (P.serves plan.new m.now) }
-    ensures fails { IfErr result (λ lost. P.fails plan.new) }
-    ensures leads { P.leads plan.old plan.new }
-{
-    if !needed {
-        return Ok(());
-    }
-    plan.value(m, r, d, into)
-}
-
 // Reads the parity of the stripe of a cell's copy, and changes it with the cell.
 fn read_parity<P: Plan>(
     plan: &mut P,
@@ -344,6 +314,11 @@ pub fn write_cell<P: Plan>(
 {
     let hard = goes_hard(plan, m, r, d);
     let filled = is_filled(m, r, d);
+    if hard && !filled {
+        stage_place(plan, m, true, r, d, new, new);
+        plan.set_dirty(m, r, d, false);
+        return Ok(());
+    }
     let mut place_parity = Block::zero();
     read_place(plan, m, hard, r, d, old, new, &mut place_parity)?;
     let mut copy_parity = Block::zero();

@@ -1,18 +1,19 @@
 //! What the write of a row reads: the old values on which the soft parities depend, and what makes
 //! the row's new parity.
-ghost use Rattle.std.specs.Prelude.{◌≡◌, ◌≢◌, ℕ, ◌+◌, ◌<◌, true, length, get_or, OnOk, IfErr, not, ◌&&◌, ◌||◌, if◌then◌else◌};
+ghost use Rattle.std.specs.Prelude.{◌≡◌, ◌≢◌, ℕ, ◌+◌, ◌<◌, true, length, OnOk, IfErr, not, ◌&&◌, ◌||◌, if◌then◌else◌};
+ghost use Rattle.paraid_base.specs.declared.block.Block.{Block as BlockType};
 ghost use Rattle.paraid_base.specs.Cells.{parity_disk as parity_disk_of};
 ghost use Rattle.paraid_base.specs.Pairs.{pairs_of};
 ghost use Rattle.paraid_base.specs.Sums.{without, xor_upto};
 ghost use Rattle.paraid_base.specs.Xor.{xor, zero_block};
 ghost use Rattle.paraid_plan.specs.Desk.{Desk, sees};
-ghost use Rattle.paraid_plan.specs.RowWrites.{AreOldRead, is_changed as changed_in, new_parity, parity_part};
+ghost use Rattle.paraid_plan.specs.RowWrites.{AreOldRead, IsKept, is_changed as changed_in, new_parity, parity_part};
 ghost use Rattle.paraid_plan.specs.WriteTargets.{needs_new as needs_new_in, needs_old as needs_old_in};
 ghost use Rattle.paraid_record.specs.Range.{IsInRange};
 ghost use Rattle.paraid_image.specs.Value.{value as value_of};
 
-use crate::blocks::put;
-use crate::cell::{needs_new, needs_old, read_if};
+use crate::blocks::keep_if;
+use crate::cell::{needs_new, needs_old};
 use crate::desk::{Lost, Plan};
 use crate::given::{add_given, is_changed};
 use crate::rule::is_made_anew;
@@ -33,6 +34,13 @@ fn is_wanted(needed: bool, part: bool, changed: bool, depends: bool) -> bool
     ensures { result ≡ ((needed && part) || (changed && depends)) }
 {
     (needed && part) || (changed && depends)
+}
+
+// Whether two things are so.
+fn both(first: bool, second: bool) -> bool
+    ensures { result ≡ (first && second) }
+{
+    first && second
 }
 
 // Adds a block to a sum, or nothing.
@@ -75,7 +83,7 @@ fn read_cell<P: Plan>(
     anew: bool,
     r: Row,
     d: DiskNo,
-    old: &mut [Block; 8],
+    old: &mut [Option<Block>; 8],
     sum: &mut Block,
 ) -> Result<(), Lost>
     requires serves { P.serves plan.old m.now }
@@ -84,8 +92,8 @@ fn read_cell<P: Plan>(
     requires disk { d < m.now.setup.geometry.disks }
     ensures here { OnOk result (P.tells plan.new → changed_in m.now.setup.geometry.disks (pairs_of pairs.now) r d ≡ true
         → needs_old_in (sees m.now (P.desk plan.old)) r d ≡ true
-        → get_or old.new d zero_block ≡ value_of (sees m.now (P.desk plan.old)) r d) }
-    ensures others { (x : ℕ) → x ≢ d → get_or old.new x zero_block ≡ get_or old.old x zero_block }
+        → IsKept old.new d (value_of (sees m.now (P.desk plan.old)) r d)) }
+    ensures others { (x : ℕ) (b : BlockType) → x ≢ d → IsKept old.old x b → IsKept old.new x b }
     ensures sum { OnOk result (P.tells plan.new → needed ≡ true → sum.new ≡ xor sum.old
         (parity_part m.now.setup.geometry.disks (pairs_of pairs.now) r (value_of (sees m.now (P.desk plan.old)) r) anew d)) }
     ensures same { OnOk result (P.tells plan.new → P.desk plan.new ≡ P.desk plan.old) }
@@ -101,9 +109,13 @@ fn read_cell<P: Plan>(
     let depends = needs_old(plan, m, r, d);
     let part = is_part(anew, changed);
     let wanted = is_wanted(needed, part, changed, depends);
+    if !wanted {
+        add_given(&m.setup.geometry, pairs, r, d, sum);
+        return Ok(());
+    }
     let mut value = Block::zero();
-    read_if(plan, m, wanted, r, d, &mut value)?;
-    put(old, d, &value);
+    plan.value(m, r, d, &mut value)?;
+    keep_if(both(changed, depends), old, d, &value);
     add_part(m, pairs, anew, changed, r, d, &value, sum);
     Ok(())
 }
@@ -117,7 +129,7 @@ fn read_data<P: Plan>(
     anew: bool,
     r: Row,
     d: DiskNo,
-    old: &mut [Block; 8],
+    old: &mut [Option<Block>; 8],
     sum: &mut Block,
 ) -> Result<(), Lost>
     requires serves { P.serves plan.old m.now }
@@ -127,8 +139,8 @@ fn read_data<P: Plan>(
     ensures here { OnOk result (P.tells plan.new → d ≢ parity_disk_of m.now.setup.geometry.disks r
         → changed_in m.now.setup.geometry.disks (pairs_of pairs.now) r d ≡ true
         → needs_old_in (sees m.now (P.desk plan.old)) r d ≡ true
-        → get_or old.new d zero_block ≡ value_of (sees m.now (P.desk plan.old)) r d) }
-    ensures others { (x : ℕ) → x ≢ d → get_or old.new x zero_block ≡ get_or old.old x zero_block }
+        → IsKept old.new d (value_of (sees m.now (P.desk plan.old)) r d)) }
+    ensures others { (x : ℕ) (b : BlockType) → x ≢ d → IsKept old.old x b → IsKept old.new x b }
     ensures sum { OnOk result (P.tells plan.new → needed ≡ true →
         let n = m.now.setup.geometry.disks in
         let part = parity_part n (pairs_of pairs.now) r (value_of (sees m.now (P.desk plan.old)) r) anew in
@@ -158,7 +170,7 @@ fn read_cells<P: Plan>(
     needed: bool,
     anew: bool,
     r: Row,
-    old: &mut [Block; 8],
+    old: &mut [Option<Block>; 8],
     sum: &mut Block,
 ) -> Result<(), Lost>
     requires serves { P.serves plan.old m.now }
@@ -195,7 +207,7 @@ pub(crate) fn read_row<P: Plan>(
     pairs: &Pairs,
     r: Row,
     p: DiskNo,
-    old: &mut [Block; 8],
+    old: &mut [Option<Block>; 8],
     fixed: &mut Block,
 ) -> Result<(), Lost>
     requires serves { P.serves plan.old m.now }

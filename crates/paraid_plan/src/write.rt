@@ -14,8 +14,8 @@ ghost use Rattle.paraid_image.specs.Out.{named_out as named_out_of};
 ghost use Rattle.paraid_record.specs.Range.{IsInRange};
 ghost use Rattle.paraid_record.specs.declared.meta.Meta.{Meta as MetaType};
 
-use crate::blocks::{block_of, put};
-use crate::cell::{stage_if, write_cell};
+use crate::blocks::{block_of, keep_if, kept_or, none_kept};
+use crate::cell::{needs_old, stage_if, write_cell};
 use crate::desk::{Lost, Plan};
 use crate::given::is_row_before;
 use crate::marks::is_written;
@@ -98,7 +98,7 @@ fn write_pair<P: Plan>(
     pairs: &Pairs,
     at: usize,
     r: Row,
-    old: &mut [Block; 8],
+    old: &mut [Option<Block>; 8],
 ) -> Result<(), Lost>
     requires serves { P.serves plan.old m.now }
     requires in_range { IsInRange m.now }
@@ -139,8 +139,9 @@ fn write_pair<P: Plan>(
         return Ok(());
     }
     let bytes = block_of(&pairs.bytes, at);
-    write_cell(plan, m, r, d, block_of(old, d as usize), bytes)?;
-    put(old, d, bytes);
+    write_cell(plan, m, r, d, kept_or(old, d, bytes), bytes)?;
+    let depends = needs_old(plan, m, r, d);
+    keep_if(depends, old, d, bytes);
     Ok(())
 }
 
@@ -150,7 +151,7 @@ fn write_pairs<P: Plan>(
     m: &Meta,
     pairs: &Pairs,
     r: Row,
-    old: &mut [Block; 8],
+    old: &mut [Option<Block>; 8],
 ) -> Result<(), Lost>
     requires serves { P.serves plan.old m.now }
     requires in_range { IsInRange m.now }
@@ -188,20 +189,6 @@ fn write_pairs<P: Plan>(
     Ok(())
 }
 
-// Eight blocks of zeros.
-fn eight_zeros() -> [Block; 8] {
-    [
-        Block::zero(),
-        Block::zero(),
-        Block::zero(),
-        Block::zero(),
-        Block::zero(),
-        Block::zero(),
-        Block::zero(),
-        Block::zero(),
-    ]
-}
-
 // Writes the cells that the pairs name in a row, its parity once, and the changed dirty bits.
 fn write_row<P: Plan>(plan: &mut P, m: &Meta, pairs: &Pairs, r: Row) -> Result<(), Lost>
     requires serves { P.serves plan.old m.now }
@@ -226,12 +213,12 @@ fn write_row<P: Plan>(plan: &mut P, m: &Meta, pairs: &Pairs, r: Row) -> Result<(
     ensures leads { P.leads plan.old plan.new }
 {
     let p = parity_disk(&m.setup.geometry, r);
-    let mut old = eight_zeros();
+    let mut old = none_kept();
     let mut fixed = Block::zero();
     read_row(plan, m, pairs, r, p, &mut old, &mut fixed)?;
     let was = bits_of(plan, m, r);
     write_pairs(plan, m, pairs, r, &mut old)?;
-    write_cell(plan, m, r, p, block_of(&old, p as usize), &fixed)?;
+    write_cell(plan, m, r, p, kept_or(&old, p, &fixed), &fixed)?;
     let staged = has_changed(plan, m, r, &was);
     stage_map(plan, m, r, staged);
     Ok(())

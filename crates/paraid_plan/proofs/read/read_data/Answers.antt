@@ -39,7 +39,7 @@ pub returns-then-d-p-clause-fails : goal.returns-then-d-p-clause-fails
 returns-then-d-p-clause-fails g c = tt
 
 pub returns-then-d-p-clause-others : goal.returns-then-d-p-clause-others
-returns-then-d-p-clause-others g c = λ x off. refl
+returns-then-d-p-clause-others g c = λ x b off kept. kept
 
 pub returns-clause-here : goal.returns-clause-here
 returns-clause-here g c =

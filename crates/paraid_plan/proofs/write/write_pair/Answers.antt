@@ -1,9 +1,10 @@
 use Rattle.std.specs.Prelude.{◌==◌, ◌&&◌, Bool}
-use Rattle.std.proofs.Common.{◌∙◌, ℕ, ap, refl, sym, arith, get_or}
+use Rattle.std.proofs.Common.{◌∙◌, ℕ, ap, refl, subst, sym, arith, get_or}
 use Rattle.paraid_base.specs.declared.block.Block.{Block}
 use Rattle.paraid_base.specs.Cells.{cell_block, parity_disk}
 use Rattle.paraid_base.specs.Xor.{zero_block}
 use Rattle.paraid_plan.specs.Desk.{cell_desk}
+use Rattle.paraid_plan.specs.RowWrites.{IsKept}
 use Rattle.paraid_image.specs.Out.{named_out}
 use Rattle.paraid_plan.proofs.GrowthLemmas.{cell_grows}
 use Rattle.paraid_plan.proofs.OutsLemmas.{only_out}
@@ -54,10 +55,10 @@ returns-clause-turns g c tells ws row named was =
     let n = m.setup.geometry.disks in
     let s = g.P.Plan.desk c.args.plan.now in
     let d = c.home-q.result.1 in
-    pair_turns m s (g.P.Plan.desk c.write_cell.new.plan) ws (get_or c.args.pairs.now.blocks c.args.at 0) c.args.r d (get_or c.args.pairs.now.bytes c.args.at zero_block) c.block_of.result.now c.args.old.now row
+    pair_turns m s (g.P.Plan.desk c.write_cell.new.plan) ws (get_or c.args.pairs.now.blocks c.args.at 0) c.args.r d (get_or c.args.pairs.now.bytes c.args.at zero_block) c.kept_or.result.now c.args.old.now row
     c.requires.in_range c.requires.row c.home-q.ensures.disk_in (λ is. c.home-q.ensures.not_parity (is ∙ ap (parity_disk n) (sym c.if-q-r.false)))
-    (ap (λ (z : ℕ). cell_block n z d) (sym c.if-q-r.false) ∙ c.home-q.ensures.back) c.block_of.ensures
-    (c.in_ok-write_cell.ensures.desk tells ∙ ap (λ (z : Block). cell_desk m s c.args.r d c.block_of.result.now z) c.block_of-bytes.ensures) was named
+    (ap (λ (z : ℕ). cell_block n z d) (sym c.if-q-r.false) ∙ c.home-q.ensures.back) c.kept_or.ensures
+    (c.in_ok-write_cell.ensures.desk tells ∙ ap (λ (z : Block). cell_desk m s c.args.r d c.kept_or.result.now z) c.block_of-bytes.ensures) was named
 
 pub returns-clause-old : goal.returns-clause-old
 returns-clause-old g c tells ws row was =
@@ -65,11 +66,11 @@ returns-clause-old g c tells ws row was =
     let n = m.setup.geometry.disks in
     let s = g.P.Plan.desk c.args.plan.now in
     let d = c.home-q.result.1 in
-    pair_old m s (g.P.Plan.desk c.write_cell.new.plan) ws (get_or c.args.pairs.now.blocks c.args.at 0) c.args.r d (get_or c.args.pairs.now.bytes c.args.at zero_block) c.block_of.result.now c.args.old.now row
+    pair_old m s (g.P.Plan.desk c.write_cell.new.plan) ws (get_or c.args.pairs.now.blocks c.args.at 0) c.args.r d (get_or c.args.pairs.now.bytes c.args.at zero_block) c.kept_or.result.now c.args.old.now row
     c.requires.in_range c.requires.row c.home-q.ensures.disk_in (λ is. c.home-q.ensures.not_parity (is ∙ ap (parity_disk n) (sym c.if-q-r.false)))
-    (ap (λ (z : ℕ). cell_block n z d) (sym c.if-q-r.false) ∙ c.home-q.ensures.back) c.block_of.ensures
-    (c.in_ok-write_cell.ensures.desk tells ∙ ap (λ (z : Block). cell_desk m s c.args.r d c.block_of.result.now z) c.block_of-bytes.ensures) was
-    c.put.new.blocks (c.put.ensures.here ∙ c.block_of-bytes.ensures) c.put.ensures.others
+    (ap (λ (z : ℕ). cell_block n z d) (sym c.if-q-r.false) ∙ c.home-q.ensures.back) c.kept_or.ensures
+    (c.in_ok-write_cell.ensures.desk tells ∙ ap (λ (z : Block). cell_desk m s c.args.r d c.kept_or.result.now z) c.block_of-bytes.ensures) was
+    c.keep_if.new.kept (λ h. subst (IsKept c.keep_if.new.kept d) c.block_of-bytes.ensures (c.keep_if.ensures.here (c.needs_old-depends.ensures ∙ h))) c.keep_if.ensures.others
 
 pub returns-clause-parity : goal.returns-clause-parity
 returns-clause-parity g c tells =

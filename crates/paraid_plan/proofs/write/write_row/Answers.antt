@@ -1,8 +1,6 @@
 use Rattle.std.specs.Prelude.{◌==◌, ◌&&◌, ◌≡◌, ℕ, Bool, Some}
 use Rattle.std.proofs.Common.{◌∙◌, ap, refl, subst, arith}
-use Rattle.paraid_base.specs.declared.block.Block.{Block}
 use Rattle.paraid_base.specs.Pairs.{pairs_of}
-use Rattle.paraid_plan.specs.Desk.{cell_desk}
 use Rattle.paraid_plan.specs.RowBits.{TurnsBits, names_cell}
 use Rattle.paraid_plan.proofs.GrowthLemmas.{row_grows}
 use Rattle.paraid_plan.proofs.RowBitsLemmas.{bits_cell, bits_then, row_turns}
@@ -48,10 +46,10 @@ returns-clause-write g c tells =
     let t2 = law c.write_pairs.new.plan c.write_cell.new.plan c.in_ok-write_cell.ensures.leads t3 in
     let t1 = law c.read_row.new.plan c.write_pairs.new.plan c.in_ok-write_pairs.ensures.leads t2 in
     row_from_calls c.args.m.now (g.P.Plan.desk c.args.plan.now) (g.P.Plan.desk c.read_row.new.plan) (g.P.Plan.desk c.write_pairs.new.plan) (g.P.Plan.desk c.write_cell.new.plan) (g.P.Plan.desk c.stage_map.new.plan)
-    c.args.r c.parity_disk-p.result (pairs_of c.args.pairs.now) c.read_row.new.old c.write_pairs.new.old c.read_row.new.fixed c.bits_of-was.result c.has_changed-staged.result
+    c.args.r c.parity_disk-p.result (pairs_of c.args.pairs.now) c.read_row.new.old c.write_pairs.new.old c.kept_or.result.now c.read_row.new.fixed c.bits_of-was.result c.has_changed-staged.result
     c.requires.in_range c.requires.row c.parity_disk-p.ensures.value (c.in_ok-read_row.ensures.same t1) (c.in_ok-read_row.ensures.old t1) (c.in_ok-read_row.ensures.fixed t1)
     c.bits_of-was.ensures (c.in_ok-write_pairs.ensures.adds t2) (c.in_ok-write_pairs.ensures.turns t2) (c.in_ok-write_pairs.ensures.old t2) (c.in_ok-write_pairs.ensures.parity t2)
-    (c.in_ok-write_cell.ensures.desk t3 ∙ ap (λ (z : Block). cell_desk c.args.m.now (g.P.Plan.desk c.write_pairs.new.plan) c.args.r c.parity_disk-p.result z c.read_row.new.fixed) c.block_of.ensures)
+    c.kept_or.ensures (c.in_ok-write_cell.ensures.desk t3)
     c.has_changed-staged.ensures c.stage_map.ensures.map
 
 pub returns-clause-few : goal.returns-clause-few
