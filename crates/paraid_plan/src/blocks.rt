@@ -14,7 +14,7 @@ pub(crate) fn block_of(blocks: &[Block; 8], at: usize) -> &Block
     &blocks[at]
 }
 
-/// No block is kept yet, which costs no block of zeros.
+/// No block is kept yet.
 pub(crate) fn none_kept() -> [Option<Block>; 8] {
     [None, None, None, None, None, None, None, None]
 }
