@@ -14,7 +14,7 @@ use Rattle.paraid_base.proofs.HistoryLemmas.{last_of-append}
 use Rattle.paraid_base.proofs.SumsLemmas.{whole_from_others, without_other, without_same, xor_upto_same}
 use Rattle.paraid_base.proofs.XorLemmas.{xor_assoc, xor_self, xor_turn, xor_zero, xor_zero_right}
 use Rattle.paraid_plan.specs.Desk.{Desk, cell_desk, sees}
-use Rattle.paraid_plan.specs.RowWrites.{AreOldRead, IsKept, TurnsRow, given_row, is_changed, is_given, names_block, new_parity, pairs_before, parity_part}
+use Rattle.paraid_plan.specs.RowWrites.{AreOldRead, IsOldOf, TurnsRow, given_row, is_changed, is_given, names_block, new_parity, pairs_before, parity_part}
 use Rattle.paraid_plan.specs.WriteTargets.{needs_old}
 use Rattle.paraid_plan.proofs.DeskLemmas.{needs_old_after}
 use Rattle.paraid_plan.proofs.PairLemmas.{before_more, before_none, changed_data, changed_parity, given_data, given_parity, named_any, names_none}
@@ -173,12 +173,12 @@ elsewhere_turns m s b r x row away =
 pub elsewhere_old : (m : Meta) (s : Desk) (ws : Entry) (b r : ℕ) (x : Block) (olds : List (Option Block)) (row : ℕ → Block) → home_row m.setup.geometry.disks b ≢ r
     → AreOldRead m s ws r olds row → AreOldRead m s ws r olds (given_row m.setup.geometry.disks ((b, x) ∷ []) r row)
 elsewhere_old m s ws b r x olds row away was = record {
-  read = λ e le changed h. let low = m.setup.geometry.disks_low in subst (IsKept olds e) (sym (one_elsewhere m.setup.geometry.disks b r x row e (omega arith) le away)) (was.read e le changed h);
+  read = λ e le changed h. let low = m.setup.geometry.disks_low in subst (IsOldOf olds e) (sym (one_elsewhere m.setup.geometry.disks b r x row e (omega arith) le away)) (was.read e le changed h);
 }
 
 module _ (m : Meta) (s t : Desk) (ws : Entry) (b r d : ℕ) (x old : Block) (olds : List (Option Block)) (row : ℕ → Block)
     (in_range : IsInRange m) (lr : r < m.setup.geometry.rows) (ld : d < m.setup.geometry.disks) (apart : d ≢ parity_disk m.setup.geometry.disks r) (is : cell_block m.setup.geometry.disks r d ≡ b)
-    (is_old : (z : Block) → IsKept olds d z → old ≡ z) (e : t ≡ cell_desk m s r d old x) (was : AreOldRead m s ws r olds row) where
+    (is_old : (z : Block) → IsOldOf olds d z → old ≡ z) (e : t ≡ cell_desk m s r d old x) (was : AreOldRead m s ws r olds row) where
   abbrev n : ℕ
   n = m.setup.geometry.disks
 
@@ -198,15 +198,15 @@ module _ (m : Meta) (s t : Desk) (ws : Entry) (b r d : ℕ) (x old : Block) (old
       ])
       (turns_cell m s r d old x x row in_range lr ld (λ h. is_old (row d) (was.read d ld changed h)) (λ _. refl) t e)
 
-  pub pair_old : (olds_then : List (Option Block)) → (needs_old (sees m t) r d ≡ true → IsKept olds_then d x) → ((k : ℕ) (z : Block) → k ≢ d → IsKept olds k z → IsKept olds_then k z)
+  pub pair_old : (olds_then : List (Option Block)) → (needs_old (sees m t) r d ≡ true → IsOldOf olds_then d x) → ((k : ℕ) (z : Block) → k ≢ d → IsOldOf olds k z → IsOldOf olds_then k z)
       → AreOldRead m t ws r olds_then (given_row m.setup.geometry.disks ((b, x) ∷ []) r row)
   pair_old olds_then here others = record {
     read = λ k lk changed h. elim (cases_eq k d) [
       | inl j ↦
-          subst (IsKept olds_then k) (sym (one_here n b r d x row k apart is j))
-          (subst (λ (z : ℕ). IsKept olds_then z x) (sym j) (here (ap (λ (z : ℕ). needs_old (sees m t) r z) (sym j) ∙ h)))
+          subst (IsOldOf olds_then k) (sym (one_here n b r d x row k apart is j))
+          (subst (λ (z : ℕ). IsOldOf olds_then z x) (sym j) (here (ap (λ (z : ℕ). needs_old (sees m t) r z) (sym j) ∙ h)))
       | inr j ↦
-          subst (IsKept olds_then k) (sym (one_other n b r d x row k two ld lk apart is j))
+          subst (IsOldOf olds_then k) (sym (one_other n b r d x row k two ld lk apart is j))
           (others k (row k) j (was.read k lk changed (sym (needs_old_after m s r d k old x (λ z. j (sym z))) ∙ ap (λ (z : Desk). needs_old (sees m z) r k) (sym e) ∙ h)))
     ];
   }

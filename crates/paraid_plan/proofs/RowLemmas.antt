@@ -14,7 +14,7 @@ use Rattle.paraid_base.proofs.CellsLemmas.{cell_block-home, home_disk_below, hom
 use Rattle.paraid_base.proofs.SumsLemmas.{others_same, whole_from_others, xor_upto_same}
 use Rattle.paraid_base.proofs.XorLemmas.{xor_self}
 use Rattle.paraid_plan.specs.Desk.{Desk, IsKeptDesk, StagesMap, cell_desk, desk_with_bit, sees, with_targets}
-use Rattle.paraid_plan.specs.RowWrites.{AddsTargets, AreOldRead, IsKept, StagesBlocks, TurnsRow, given_row, is_changed, new_parity, with_row}
+use Rattle.paraid_plan.specs.RowWrites.{AddsTargets, AreOldRead, IsOldOf, StagesBlocks, TurnsRow, given_row, is_changed, new_parity, with_row}
 use Rattle.paraid_plan.specs.WriteTargets.{cell_targets, goes_hard, is_filled, is_written, map_targets, needs_new, needs_old, overlaid_blocks}
 use Rattle.paraid_plan.specs.StoredCells.{AreBits, IsUnitKept, StoresCells}
 use Rattle.paraid_plan.proofs.CellLemmas.{bits_changed, cell_stored, goes_parked}
@@ -192,7 +192,7 @@ cell_bit_off m s t r d e old new is apart = ap (λ (z : Desk). z.dirty r e) is �
 
 pub old_same : (m : Meta) (s : Desk) (ws : Entry) (r : ℕ) (olds : List (Option Block)) (y z : ℕ → Block) → ((e : ℕ) → e < m.setup.geometry.disks → z e ≡ y e)
     → AreOldRead m s ws r olds y → AreOldRead m s ws r olds z
-old_same m s ws r olds y z same was = record { read = λ e le changed h. subst (IsKept olds e) (sym (same e le)) (was.read e le changed h) }
+old_same m s ws r olds y z same was = record { read = λ e le changed h. subst (IsOldOf olds e) (sym (same e le)) (was.read e le changed h) }
 
 -- what is needed of a cell depends on its own dirty bit alone
 hard_by : (m : Meta) (s t : Desk) (r d : ℕ) → t.dirty r d ≡ s.dirty r d → goes_hard (sees m t) r d ≡ goes_hard (sees m s) r d
@@ -364,7 +364,7 @@ pub row_from_calls : (m : Meta) (s s1 s2 s3 s4 : Desk) (r p : ℕ) (ws : Entry) 
     → ((row : ℕ → Block) → AreOldRead m s1 ws r olds row → TurnsRow m r s1 s2 row (given_row m.setup.geometry.disks ws r row))
     → ((row : ℕ → Block) → AreOldRead m s1 ws r olds row → AreOldRead m s2 ws r olds_then (given_row m.setup.geometry.disks ws r row))
     → s2.dirty r (parity_disk m.setup.geometry.disks r) ≡ s1.dirty r (parity_disk m.setup.geometry.disks r)
-    → ((z : Block) → IsKept olds_then p z → old ≡ z) → s3 ≡ cell_desk m s2 r p old fixed
+    → ((z : Block) → IsOldOf olds_then p z → old ≡ z) → s3 ≡ cell_desk m s2 r p old fixed
     → (staged ≡ false → (e : ℕ) → e < m.setup.geometry.disks → s3.dirty r e ≡ get_or was e false)
     → StagesMap m s3 s4 (r / 512) staged
     → StagesBlocks m s s4 (λ c x. if home_row m.setup.geometry.disks c == r then last_of c x ws else x)

@@ -70,12 +70,12 @@ parity_part n ws r row anew d =
     (if is_given n ws r d then last_of (cell_block n r d) zero_block ws else zero_block)
 
 -- what is kept for disk `d` is block `b`
-abbrev pub IsKept : List (Option Block) → ℕ → Block → Type 0
-IsKept kept d b = get_or kept d None ≡ Some b
+abbrev pub IsOldOf : List (Option Block) → ℕ → Block → Type 0
+IsOldOf kept d b = get_or kept d None ≡ Some b
 
 -- the old value of each cell that changes is kept, where what is staged of it depends on that
 pub record AreOldRead (m : Meta) (s : Desk) (ws : Entry) (r : ℕ) (olds : List (Option Block)) (row : ℕ → Block) : Type 0 where
-  pub read : (e : ℕ) → e < m.setup.geometry.disks → is_changed m.setup.geometry.disks ws r e ≡ true → needs_old (sees m s) r e ≡ true → IsKept olds e (row e)
+  pub read : (e : ℕ) → e < m.setup.geometry.disks → is_changed m.setup.geometry.disks ws r e ≡ true → needs_old (sees m s) r e ≡ true → IsOldOf olds e (row e)
 
 -- More is staged, and laid over what is seen; each of its targets can be committed.
 pub record AddsTargets (m : Meta) (before after : Desk) : Type 0 where

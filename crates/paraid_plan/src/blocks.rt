@@ -2,7 +2,7 @@
 ghost use Rattle.std.specs.Prelude.{◌≡◌, ◌≢◌, ℕ, ◌<◌, true, get_or};
 ghost use Rattle.paraid_base.specs.declared.block.Block.{Block as BlockType};
 ghost use Rattle.paraid_base.specs.Xor.{zero_block};
-ghost use Rattle.paraid_plan.specs.RowWrites.{IsKept};
+ghost use Rattle.paraid_plan.specs.RowWrites.{IsOldOf};
 
 use paraid_base::{Block, DiskNo};
 
@@ -22,7 +22,7 @@ pub(crate) fn none_kept() -> [Option<Block>; 8] {
 /// The block that is kept for a disk, or else another one.
 pub(crate) fn kept_or<'a>(kept: &'a [Option<Block>; 8], at: DiskNo, other: &'a Block) -> &'a Block
     requires { at < 8 }
-    ensures { (b : BlockType) → IsKept kept.now at b → result.now ≡ b }
+    ensures { (b : BlockType) → IsOldOf kept.now at b → result.now ≡ b }
 {
     let Some(block) = &kept[at as usize] else {
         return other;
@@ -33,8 +33,8 @@ pub(crate) fn kept_or<'a>(kept: &'a [Option<Block>; 8], at: DiskNo, other: &'a B
 /// Keeps a block, where it is needed.
 pub(crate) fn keep_if(needed: bool, kept: &mut [Option<Block>; 8], at: DiskNo, block: &Block)
     requires { at < 8 }
-    ensures here { needed ≡ true → IsKept kept.new at block.now }
-    ensures others { (x : ℕ) (b : BlockType) → x ≢ at → IsKept kept.old x b → IsKept kept.new x b }
+    ensures here { needed ≡ true → IsOldOf kept.new at block.now }
+    ensures others { (x : ℕ) (b : BlockType) → x ≢ at → IsOldOf kept.old x b → IsOldOf kept.new x b }
 {
     if needed {
         kept[at as usize] = Some(block.copy());

@@ -7,7 +7,7 @@ ghost use Rattle.paraid_base.specs.Pairs.{pairs_of};
 ghost use Rattle.paraid_base.specs.Sums.{without, xor_upto};
 ghost use Rattle.paraid_base.specs.Xor.{xor, zero_block};
 ghost use Rattle.paraid_plan.specs.Desk.{Desk, sees};
-ghost use Rattle.paraid_plan.specs.RowWrites.{AreOldRead, IsKept, is_changed as changed_in, new_parity, parity_part};
+ghost use Rattle.paraid_plan.specs.RowWrites.{AreOldRead, IsOldOf, is_changed as changed_in, new_parity, parity_part};
 ghost use Rattle.paraid_plan.specs.WriteTargets.{needs_new as needs_new_in, needs_old as needs_old_in};
 ghost use Rattle.paraid_record.specs.Range.{IsInRange};
 ghost use Rattle.paraid_image.specs.Value.{value as value_of};
@@ -92,8 +92,8 @@ fn read_cell<P: Plan>(
     requires disk { d < m.now.setup.geometry.disks }
     ensures here { OnOk result (P.tells plan.new → changed_in m.now.setup.geometry.disks (pairs_of pairs.now) r d ≡ true
         → needs_old_in (sees m.now (P.desk plan.old)) r d ≡ true
-        → IsKept old.new d (value_of (sees m.now (P.desk plan.old)) r d)) }
-    ensures others { (x : ℕ) (b : BlockType) → x ≢ d → IsKept old.old x b → IsKept old.new x b }
+        → IsOldOf old.new d (value_of (sees m.now (P.desk plan.old)) r d)) }
+    ensures others { (x : ℕ) (b : BlockType) → x ≢ d → IsOldOf old.old x b → IsOldOf old.new x b }
     ensures sum { OnOk result (P.tells plan.new → needed ≡ true → sum.new ≡ xor sum.old
         (parity_part m.now.setup.geometry.disks (pairs_of pairs.now) r (value_of (sees m.now (P.desk plan.old)) r) anew d)) }
     ensures same { OnOk result (P.tells plan.new → P.desk plan.new ≡ P.desk plan.old) }
@@ -139,8 +139,8 @@ fn read_data<P: Plan>(
     ensures here { OnOk result (P.tells plan.new → d ≢ parity_disk_of m.now.setup.geometry.disks r
         → changed_in m.now.setup.geometry.disks (pairs_of pairs.now) r d ≡ true
         → needs_old_in (sees m.now (P.desk plan.old)) r d ≡ true
-        → IsKept old.new d (value_of (sees m.now (P.desk plan.old)) r d)) }
-    ensures others { (x : ℕ) (b : BlockType) → x ≢ d → IsKept old.old x b → IsKept old.new x b }
+        → IsOldOf old.new d (value_of (sees m.now (P.desk plan.old)) r d)) }
+    ensures others { (x : ℕ) (b : BlockType) → x ≢ d → IsOldOf old.old x b → IsOldOf old.new x b }
     ensures sum { OnOk result (P.tells plan.new → needed ≡ true →
         let n = m.now.setup.geometry.disks in
         let part = parity_part n (pairs_of pairs.now) r (value_of (sees m.now (P.desk plan.old)) r) anew in

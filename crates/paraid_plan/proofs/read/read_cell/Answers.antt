@@ -2,7 +2,7 @@ use Rattle.std.proofs.Common.{◌∙◌, refl, subst, sym}
 use Rattle.std.proofs.lemmas.Bool.{true≢false}
 use Rattle.paraid_base.specs.Pairs.{pairs_of}
 use Rattle.paraid_plan.specs.Desk.{sees}
-use Rattle.paraid_plan.specs.RowWrites.{IsKept}
+use Rattle.paraid_plan.specs.RowWrites.{IsOldOf}
 use Rattle.paraid_image.specs.Value.{value}
 use Rattle.paraid_plan.proofs.PartLemmas.{both_so, part_left, part_not, wanted_old}
 use Rattle.paraid_plan.proofs.read.read_cell.Goals as goal
@@ -27,7 +27,7 @@ returns-then-not-wanted-clause-others g c = λ x b off kept. kept
 
 pub returns-clause-here : goal.returns-clause-here
 returns-clause-here g c tells changed old =
-    subst (IsKept c.keep_if.new.kept c.args.d) (c.in_ok-value.ensures.ok tells)
+    subst (IsOldOf c.keep_if.new.kept c.args.d) (c.in_ok-value.ensures.ok tells)
     (c.keep_if.ensures.here (c.both.ensures ∙ both_so c.is_changed-changed.result c.needs_old-depends.result (c.is_changed-changed.ensures ∙ changed) (c.needs_old-depends.ensures ∙ old)))
 
 pub returns-clause-sum : goal.returns-clause-sum

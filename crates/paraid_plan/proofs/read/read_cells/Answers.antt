@@ -6,7 +6,7 @@ use Rattle.paraid_base.specs.Sums.{without, xor_upto}
 use Rattle.paraid_base.proofs.CellsLemmas.{parity_disk_below}
 use Rattle.paraid_base.proofs.SumsLemmas.{others_none}
 use Rattle.paraid_plan.specs.Desk.{Desk, sees}
-use Rattle.paraid_plan.specs.RowWrites.{IsKept, is_changed, parity_part}
+use Rattle.paraid_plan.specs.RowWrites.{IsOldOf, is_changed, parity_part}
 use Rattle.paraid_plan.specs.WriteTargets.{needs_old}
 use Rattle.paraid_image.specs.Value.{value}
 use Rattle.paraid_plan.proofs.PartLemmas.{whole_part}
@@ -39,10 +39,10 @@ loop-d-preserved g c =
           → c.read_data.new.sum ≡ xor_upto (without (parity_part n ws c.args.r (value (sees m z) c.args.r) c.args.anew) p) (c.loop-d.d + 1))
           (before.same (law tells)) (call.sum tells needed) (before.sum (law tells) needed);
       olds = λ tells. below_more (λ e. e ≢ p → is_changed n ws c.args.r e ≡ true → needs_old (sees m (g.P.Plan.desk c.args.plan.now)) c.args.r e ≡ true
-          → IsKept c.read_data.new.old e (value (sees m (g.P.Plan.desk c.args.plan.now)) c.args.r e)) c.loop-d.d
+          → IsOldOf c.read_data.new.old e (value (sees m (g.P.Plan.desk c.args.plan.now)) c.args.r e)) c.loop-d.d
           (λ e l apart changed old. call.others e _ (λ is. absurd (omega (arith, l, is))) (before.olds (law tells) e l apart changed old))
           (λ apart changed old.
-          subst (λ (z : Desk). needs_old (sees m z) c.args.r c.loop-d.d ≡ true → IsKept c.read_data.new.old c.loop-d.d (value (sees m z) c.args.r c.loop-d.d))
+          subst (λ (z : Desk). needs_old (sees m z) c.args.r c.loop-d.d ≡ true → IsOldOf c.read_data.new.old c.loop-d.d (value (sees m z) c.args.r c.loop-d.d))
           (before.same (law tells)) (λ k. call.here tells apart changed k) old);
       same = λ tells. call.same tells ∙ before.same (law tells);
       bits = call.bits ∙ before.bits;
@@ -66,8 +66,8 @@ returns-clause-old g c tells =
     record {
       read = λ e le changed old. elim (cases_eq e c.parity_disk-p.result) [
         | inl is ↦
-            subst (λ (z : ℕ). IsKept c.read_cell.new.old z (value (sees m (g.P.Plan.desk c.args.plan.now)) c.args.r z)) (sym is)
-            (subst (λ (z : Desk). needs_old (sees m z) c.args.r c.parity_disk-p.result ≡ true → IsKept c.read_cell.new.old c.parity_disk-p.result (value (sees m z) c.args.r c.parity_disk-p.result))
+            subst (λ (z : ℕ). IsOldOf c.read_cell.new.old z (value (sees m (g.P.Plan.desk c.args.plan.now)) c.args.r z)) (sym is)
+            (subst (λ (z : Desk). needs_old (sees m z) c.args.r c.parity_disk-p.result ≡ true → IsOldOf c.read_cell.new.old c.parity_disk-p.result (value (sees m z) c.args.r c.parity_disk-p.result))
             (before.same t) (λ k. call.here tells (subst (λ (z : ℕ). is_changed n ws c.args.r z ≡ true) is changed) k) (subst (λ (z : ℕ). needs_old (sees m (g.P.Plan.desk c.args.plan.now)) c.args.r z ≡ true) is old))
         | inr off ↦ call.others e _ off (before.olds t e (omega (arith, le, past, until)) (λ is. off (is ∙ sym c.parity_disk-p.ensures.value)) changed old)
       ];

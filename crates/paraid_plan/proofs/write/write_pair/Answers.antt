@@ -4,7 +4,7 @@ use Rattle.paraid_base.specs.declared.block.Block.{Block}
 use Rattle.paraid_base.specs.Cells.{cell_block, parity_disk}
 use Rattle.paraid_base.specs.Xor.{zero_block}
 use Rattle.paraid_plan.specs.Desk.{cell_desk}
-use Rattle.paraid_plan.specs.RowWrites.{IsKept}
+use Rattle.paraid_plan.specs.RowWrites.{IsOldOf}
 use Rattle.paraid_image.specs.Out.{named_out}
 use Rattle.paraid_plan.proofs.GrowthLemmas.{cell_grows}
 use Rattle.paraid_plan.proofs.OutsLemmas.{only_out}
@@ -70,7 +70,7 @@ returns-clause-old g c tells ws row was =
     c.requires.in_range c.requires.row c.home-q.ensures.disk_in (λ is. c.home-q.ensures.not_parity (is ∙ ap (parity_disk n) (sym c.if-q-r.false)))
     (ap (λ (z : ℕ). cell_block n z d) (sym c.if-q-r.false) ∙ c.home-q.ensures.back) c.kept_or.ensures
     (c.in_ok-write_cell.ensures.desk tells ∙ ap (λ (z : Block). cell_desk m s c.args.r d c.kept_or.result.now z) c.block_of-bytes.ensures) was
-    c.keep_if.new.kept (λ h. subst (IsKept c.keep_if.new.kept d) c.block_of-bytes.ensures (c.keep_if.ensures.here (c.needs_old-depends.ensures ∙ h))) c.keep_if.ensures.others
+    c.keep_if.new.kept (λ h. subst (IsOldOf c.keep_if.new.kept d) c.block_of-bytes.ensures (c.keep_if.ensures.here (c.needs_old-depends.ensures ∙ h))) c.keep_if.ensures.others
 
 pub returns-clause-parity : goal.returns-clause-parity
 returns-clause-parity g c tells =
