@@ -21,6 +21,8 @@ pub(crate) struct Image {
     pub(crate) size: u32,
     pub(crate) unsynced: bool,
     faults: u64,
+    // What a read is given, before it is a block.
+    buffer: [u8; BLOCK_SIZE],
     pub ghost empty: { power ≡ Absent → size ≡ 0 },
     pub ghost still: { power ≡ Parked → unsynced ≡ false },
 }
@@ -52,6 +54,7 @@ impl Image {
                 size,
                 unsynced: power == Power::Spinning,
                 faults: 0,
+                buffer: [0; BLOCK_SIZE],
             }),
             Err(_) => Ok(Image::absent(names)),
         }
@@ -68,6 +71,7 @@ impl Image {
             size: 0,
             unsynced: false,
             faults: 0,
+            buffer: [0; BLOCK_SIZE],
         }
     }
 
@@ -80,7 +84,7 @@ impl Image {
         ensures { Becomes (image_slot self.old) (image_slot self.new) (image_slot self.old)
             (image_slot self.old).unsynced (is_ok result) }
     {
-        match read_block(&self.file, place, into) {
+        match read_block(&self.file, place, &mut self.buffer, into) {
             Ok(()) => Ok(()),
             Err(_) => Err(self.fail(files)),
         }
@@ -224,13 +228,19 @@ fn make_image<F: Files<File = File>>(files: &F, names: &Names, size: u32) -> io:
     Ok(file)
 }
 
-fn read_block(file: &Option<File>, place: Place, into: &mut Block) -> io::Result<()> {
+// The bytes come by way of a buffer, since a block that is borrowed for them would be no block on
+// the way.
+fn read_block(
+    file: &Option<File>,
+    place: Place,
+    buffer: &mut [u8; BLOCK_SIZE],
+    into: &mut Block,
+) -> io::Result<()> {
     let Some(file) = file else {
         return Err(not_open());
     };
-    let mut bytes = [0; BLOCK_SIZE];
-    file.read_exact_at(&mut bytes, offset(place))?;
-    *into = Block::from_array(bytes);
+    file.read_exact_at(buffer, offset(place))?;
+    *into = Block::from_array(*buffer);
     Ok(())
 }
 
