@@ -1,7 +1,8 @@
 -- What the parts of a write stage, put together.
-use Rattle.std.specs.Prelude.{◌≡◌, ◌≢◌, ℕ, ◌+◌, ◌≤◌, ◌&&◌, ◌||◌, nat_lt, Bool, true, false, not, [], ◌++◌, length, if◌then◌else◌}
-use Rattle.std.proofs.Common.{refl, sym, ◌∙◌, ap, arith}
-use Rattle.std.proofs.lemmas.Bool.{true≢false}
+use Rattle.std.specs.Prelude.{◌≡◌, ◌≢◌, ℕ, ◌+◌, ◌<◌, ◌≤◌, ◌&&◌, ◌||◌, nat_le, nat_lt, Bool, true, false, not, List, [], ◌++◌, length, Option, if◌then◌else◌}
+use Rattle.std.proofs.Common.{refl, sym, ◌∙◌, ap, arith, inl, inr}
+use Rattle.std.proofs.lemmas.Bool.{cases_Bool, true≢false}
+use Rattle.std.proofs.lemmas.Bool.Decides.{nat_tests}
 use Rattle.std.proofs.lemmas.List.{append_assoc, append-nil, length-append}
 use Rattle.paraid_base.specs.declared.block.Block.{Block}
 use Rattle.paraid_base.specs.Regions.{hard_place_of, soft_place_of}
@@ -9,6 +10,7 @@ use Rattle.paraid_base.specs.Soft.{soft_disk, soft_parity_disk, soft_stripe}
 use Rattle.paraid_base.specs.Xor.{xor}
 use Rattle.paraid_base.proofs.XorLemmas.{xor_assoc}
 use Rattle.paraid_plan.specs.Desk.{Desk, StagesMap, cell_desk, copy_targets, place_targets, sees, desk_with_bit, with_targets}
+use Rattle.paraid_plan.specs.RowWrites.{HasRoom, has_soft}
 use Rattle.paraid_plan.specs.WriteTargets.{cell_targets, fill_targets, goes_hard, hard_targets, is_filled, is_written, needs_new, needs_old, overlaid_blocks, map_targets, soft_count, soft_targets, stripe_block_now, target_if}
 use Rattle.paraid_dirty.specs.Table.{ShowsBits}
 use Rattle.paraid_plan.proofs.CellLemmas.{goes_parked}
@@ -196,6 +198,26 @@ unfolding needs_new
 targets_without_new v r d old new h =
     ap (λ (z : Batch). z ++ fill_targets v r d old new) (hard_none (goes_hard v r d) _ v r d old new (first_of_or _ (is_filled v.meta r d) h) refl)
     ∙ fill_none v r d old new (second_of_or _ (is_filled v.meta r d) h)
+
+-- an old value is needed only where there is room for it
+not_both : (a : Bool) → (a && false) ≡ false
+not_both true = refl
+not_both false = refl
+
+pub soft_needed : (m : Meta) (s : Desk) (r d : ℕ) → d < m.setup.geometry.disks → has_soft m ≡ false → needs_old (sees m s) r d ≡ false
+unfolding has_soft needs_old goes_hard is_hard
+soft_needed m s r d l h =
+    let top : nat_lt m.gear m.setup.geometry.disks ≡ false = first_of_or _ (nat_lt 0 m.fill) h in
+    let still : nat_lt 0 m.fill ≡ false = second_of_or _ (nat_lt 0 m.fill) h in
+    let low : nat_lt d m.gear ≡ true = grind (arith, nat_tests) in
+    let none : nat_lt (soft_stripe m.setup.geometry.disks (phase_to m.phase) r d) m.fill ≡ false = grind (arith, nat_tests) in
+    rw (low, none) (not_both (nat_le (phase_to m.phase) d))
+
+pub old_fits : (m : Meta) (s : Desk) (r d : ℕ) (olds : List (Option Block)) → d < m.setup.geometry.disks → HasRoom m olds → needs_old (sees m s) r d ≡ true → d < length olds
+old_fits m s r d olds l room h = elim (cases_Bool (has_soft m)) [
+  | inl soft ↦ (let high = m.setup.geometry.disks_high in let long = room soft in omega (arith, high, l, long))
+  | inr none ↦ absurd (true≢false (sym h ∙ soft_needed m s r d l none))
+]
 
 -- the write of another cell of the row leaves what is needed of this one
 hard_after : (m : Meta) (s : Desk) (r d p : ℕ) (old new : Block) → d ≢ p → goes_hard (sees m (cell_desk m s r d old new)) r p ≡ goes_hard (sees m s) r p

@@ -6,13 +6,14 @@ use Rattle.std.proofs.lemmas.Bool.{cases_Bool, cases_eq, true≢false}
 use Rattle.std.proofs.lemmas.Bool.Decides.{nat_tests}
 use Rattle.paraid_base.specs.declared.block.Block.{Block}
 use Rattle.paraid_base.specs.declared.pairs.Pairs.{Pairs}
-use Rattle.paraid_base.specs.Cells.{cell_block, home_row, parity_disk}
+use Rattle.paraid_base.specs.Cells.{cell_block, home_disk, home_row, parity_disk}
 use Rattle.paraid_base.specs.History.{Entry, last_of}
 use Rattle.paraid_base.specs.Pairs.{numbered_blocks, pairs_of}
 use Rattle.paraid_base.specs.Xor.{zero_block}
+use Rattle.paraid_base.proofs.CellsLemmas.{home_disk-block_of, home_row-block_of}
 use Rattle.paraid_base.proofs.HistoryLemmas.{last_of-append}
 use Rattle.paraid_base.proofs.PairsLemmas.{get_or-zipped, length-pairs_of, take-zipped}
-use Rattle.paraid_plan.specs.RowWrites.{IsGivenBy, IsLastPair, count_in_row, count_of_new_row, is_changed, is_given, names_block, names_row, one_in_row, pairs_before, row_change}
+use Rattle.paraid_plan.specs.RowWrites.{AreGivenBy, IsGivenBy, IsLastPair, count_in_row, count_of_new_row, is_changed, is_given, names_block, names_row, one_in_row, pairs_before, row_change}
 use Rattle.paraid_plan.proofs.DeskLemmas.{first_of_or, second_of_or}
 
 -- Bools
@@ -323,3 +324,74 @@ pub new_row_change : (n : ℕ) (p : Pairs) (at : ℕ) → names_row n (pairs_bef
     → row_change n p at c x ≡ (if home_row n c == home_row n (get_or p.blocks at 0) then last_of c x (pairs_of p) else x)
 unfolding row_change
 new_row_change n p at h c x = rw h refl
+
+-- the last pairs that give a row's cells new bytes
+
+given_last : (bytes : List Block) (n : ℕ) (ws : Entry) (r d : ℕ) (found : Option ℕ) → d ≢ parity_disk n r → IsGivenBy bytes n ws r d found → IsLastPair bytes (cell_block n r d) ws found
+given_last bytes n ws r d None apart was = sym (given_data n ws r d apart) ∙ was
+given_last bytes n ws r d (Some at) apart was = (was.0, sym (given_data n ws r d apart) ∙ was.1, was.2)
+
+parity_given : (bytes : List Block) (n : ℕ) (ws more : Entry) (r d : ℕ) (found : Option ℕ) → d ≡ parity_disk n r → IsGivenBy bytes n ws r d found → IsGivenBy bytes n more r d found
+parity_given bytes n ws more r d None is was = given_parity n more r d is
+parity_given bytes n ws more r d (Some at) is was = absurd (true≢false (sym was.1 ∙ given_parity n ws r d is))
+
+given_other : (bytes : List Block) (n : ℕ) (ws : Entry) (r d c : ℕ) (y : Block) (found : Option ℕ) → (d ≢ parity_disk n r → c ≢ cell_block n r d) → IsGivenBy bytes n ws r d found
+    → IsGivenBy bytes n (ws ++ (c, y) ∷ []) r d found
+given_other bytes n ws r d c y found off was = elim (cases_eq d (parity_disk n r)) [
+  | inl is ↦ parity_given bytes n ws (ws ++ (c, y) ∷ []) r d found is was
+  | inr apart ↦ given_by bytes n (ws ++ (c, y) ∷ []) r d (cell_block n r d) found apart refl (later_other bytes (cell_block n r d) ws c y found (off apart) (given_last bytes n ws r d found apart was))
+]
+
+pub gives_none : (p : Pairs) (n r : ℕ) (given : List (Option ℕ)) → ((d : ℕ) → d < n → get_or given d None ≡ None) → AreGivenBy p.bytes n (pairs_before p 0) r given
+gives_none p n r given none d ld =
+    subst (λ (z : Option ℕ). IsGivenBy p.bytes n (pairs_before p 0) r d z) (sym (none d ld)) (elim (cases_eq d (parity_disk n r)) [
+      | inl is ↦ given_parity n (pairs_before p 0) r d is
+      | inr apart ↦ given_data n (pairs_before p 0) r d apart ∙ last_none p.bytes (cell_block n r d) p
+    ])
+
+-- one pair more, whose block lies in another row
+pub gives_away : (p : Pairs) (n at r q : ℕ) (given : List (Option ℕ)) → 2 ≤ n → at < p.count → q ≡ home_row n (get_or p.blocks at 0) → q ≢ r
+    → AreGivenBy p.bytes n (pairs_before p at) r given → AreGivenBy p.bytes n (pairs_before p (at + 1)) r given
+gives_away p n at r q given two l home away was d ld =
+    subst (λ (z : Entry). IsGivenBy p.bytes n z r d (get_or given d None)) (sym (before_more p at l))
+    (given_other p.bytes n (pairs_before p at) r d (get_or p.blocks at 0) (get_or p.bytes at zero_block) (get_or given d None)
+    (λ apart is. away (home ∙ ap (home_row n) is ∙ home_row-block_of n r d two ld apart)) (was d ld))
+
+-- one pair more, whose block lies in this row
+pub gives_here : (p : Pairs) (n at r e : ℕ) (given given_then : List (Option ℕ)) → 2 ≤ n → at < p.count → e < n → e ≢ parity_disk n r → cell_block n r e ≡ get_or p.blocks at 0
+    → get_or given_then e None ≡ Some at → ((x : ℕ) → x ≢ e → get_or given_then x None ≡ get_or given x None)
+    → AreGivenBy p.bytes n (pairs_before p at) r given → AreGivenBy p.bytes n (pairs_before p (at + 1)) r given_then
+gives_here p n at r e given given_then two l le apart is here others was d ld =
+    let b : ℕ = get_or p.blocks at 0 in
+    let y : Block = get_or p.bytes at zero_block in
+    let few = p.few in
+    subst (λ (z : Entry). IsGivenBy p.bytes n z r d (get_or given_then d None)) (sym (before_more p at l)) (elim (cases_eq d e) [
+      | inl same ↦
+          subst (λ (z : Option ℕ). IsGivenBy p.bytes n (pairs_before p at ++ (b, y) ∷ []) r d z) (sym (ap (λ (z : ℕ). get_or given_then z None) same ∙ here))
+          (given_by p.bytes n (pairs_before p at ++ (b, y) ∷ []) r d b (Some at) (λ i. apart (sym same ∙ i)) (sym is ∙ ap (cell_block n r) (sym same))
+          (later_named p.bytes b (pairs_before p at) at b y (omega (arith, few, l)) refl refl))
+      | inr off ↦
+          subst (λ (z : Option ℕ). IsGivenBy p.bytes n (pairs_before p at ++ (b, y) ∷ []) r d z) (sym (others d off))
+          (given_other p.bytes n (pairs_before p at) r d b y (get_or given d None)
+          (λ apart_d i. off (sym (home_disk-block_of n r d two ld apart_d) ∙ ap (home_disk n) (sym i ∙ sym is) ∙ home_disk-block_of n r e two le apart)) (was d ld))
+    ])
+
+-- what is known of one cell of them
+
+few_by : (bytes : List Block) (n : ℕ) (ws : Entry) (r d at : ℕ) (found : Option ℕ) → found ≡ Some at → IsGivenBy bytes n ws r d found → at < 8
+few_by bytes n ws r d at found is was = (subst (λ (z : Option ℕ). IsGivenBy bytes n ws r d z) is was).0
+
+pub gives_few : (bytes : List Block) (n : ℕ) (ws : Entry) (r d at : ℕ) (given : List (Option ℕ)) → d < n → AreGivenBy bytes n ws r given → get_or given d None ≡ Some at → at < 8
+gives_few bytes n ws r d at given ld was is = few_by bytes n ws r d at (get_or given d None) is (was d ld)
+
+pub gives_this : (bytes : List Block) (n : ℕ) (ws : Entry) (r d at : ℕ) (given : List (Option ℕ)) → d < n → AreGivenBy bytes n ws r given → get_or given d None ≡ Some at
+    → IsGivenBy bytes n ws r d (Some at)
+gives_this bytes n ws r d at given ld was is = subst (λ (z : Option ℕ). IsGivenBy bytes n ws r d z) is (was d ld)
+
+not_by : (bytes : List Block) (n : ℕ) (ws : Entry) (r d : ℕ) (found : Option ℕ) → ((at : ℕ) → found ≡ Some at → ⊥) → IsGivenBy bytes n ws r d found → is_given n ws r d ≡ false
+not_by bytes n ws r d None none was = was
+not_by bytes n ws r d (Some at) none was = absurd (none at refl)
+
+pub gives_not : (bytes : List Block) (n : ℕ) (ws : Entry) (r d : ℕ) (given : List (Option ℕ)) → d < n → AreGivenBy bytes n ws r given → ((at : ℕ) → get_or given d None ≡ Some at → ⊥)
+    → is_given n ws r d ≡ false
+gives_not bytes n ws r d given ld was none = not_by bytes n ws r d (get_or given d None) none (was d ld)

@@ -233,6 +233,10 @@ wanted_part a b c d ha hb = rw (ha, hb) refl
 pub both_so : (a b : Bool) → a ≡ true → b ≡ true → (a && b) ≡ true
 both_so a b ha hb = rw (ha, hb) refl
 
+pub both_second : (a b : Bool) → (a && b) ≡ true → b ≡ true
+both_second true b h = h
+both_second false b h = absurd (true≢false (sym h))
+
 -- what is not wanted is no part
 pub part_not : (a b c d : Bool) → a ≡ true → ((a && b) || (c && d)) ≡ false → b ≡ false
 part_not true true c d ha h = absurd (true≢false h)

@@ -1,5 +1,5 @@
 -- What the write of several blocks makes of each row that it touches.
-use Rattle.std.specs.Prelude.{◌≡◌, ℕ, ◌+◌, ◌-◌, ◌*◌, ◌<◌, ◌==◌, ◌&&◌, ◌||◌, Bool, true, false, not, List, [], ◌∷◌, ◌++◌, get_or, take, Option, Some, None, if◌then◌else◌}
+use Rattle.std.specs.Prelude.{◌≡◌, ℕ, ◌+◌, ◌-◌, ◌*◌, ◌<◌, ◌==◌, ◌&&◌, ◌||◌, nat_lt, Bool, true, false, not, List, [], ◌∷◌, ◌++◌, length, get_or, take, Option, Some, None, if◌then◌else◌}
 use Rattle.paraid_base.specs.declared.block.Block.{Block}
 use Rattle.paraid_base.specs.declared.pairs.Pairs.{Pairs}
 use Rattle.paraid_base.specs.Cells.{cell_block, home_row, parity_disk}
@@ -50,6 +50,10 @@ abbrev pub IsGivenBy : List Block → ℕ → Entry → ℕ → ℕ → Option �
 IsGivenBy bytes n ws r d None = is_given n ws r d ≡ false
 IsGivenBy bytes n ws r d (Some at) = (at < 8) × (is_given n ws r d ≡ true) × ((x : Block) → last_of (cell_block n r d) x ws ≡ get_or bytes at zero_block)
 
+-- for each cell of the row the last pair that gives it new bytes
+abbrev pub AreGivenBy : List Block → ℕ → Entry → ℕ → List (Option ℕ) → Type 0
+AreGivenBy bytes n ws r given = (d : ℕ) → d < n → IsGivenBy bytes n ws r d (get_or given d None)
+
 -- whether the write changes the cell: it is given new bytes, or it is the row's parity
 unfoldable pub is_changed : ℕ → Entry → ℕ → ℕ → Bool
 is_changed n ws r d = d == parity_disk n r || is_given n ws r d
@@ -72,6 +76,15 @@ parity_part n ws r row anew d =
 -- what is kept for disk `d` is block `b`
 abbrev pub IsOldOf : List (Option Block) → ℕ → Block → Type 0
 IsOldOf kept d b = get_or kept d None ≡ Some b
+
+-- whether what is staged of some cell can depend on its old value: the array is not in its top gear, or a shift fills
+-- the region of another one
+unfoldable pub has_soft : Meta → Bool
+has_soft m = nat_lt m.gear m.setup.geometry.disks || nat_lt 0 m.fill
+
+-- there is room for the old value of each cell, if one can be needed
+abbrev pub HasRoom : Meta → List (Option Block) → Type 0
+HasRoom m olds = has_soft m ≡ true → length olds ≡ 8
 
 -- the old value of each cell that changes is kept, where what is staged of it depends on that
 pub record AreOldRead (m : Meta) (s : Desk) (ws : Entry) (r : ℕ) (olds : List (Option Block)) (row : ℕ → Block) : Type 0 where

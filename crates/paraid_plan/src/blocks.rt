@@ -1,5 +1,5 @@
 //! One of eight blocks, and the blocks that are kept for some of eight disks.
-ghost use Rattle.std.specs.Prelude.{◌≡◌, ◌≢◌, ℕ, ◌<◌, true, get_or};
+ghost use Rattle.std.specs.Prelude.{◌≡◌, ◌≢◌, ℕ, ◌<◌, true, length, get_or};
 ghost use Rattle.paraid_base.specs.declared.block.Block.{Block as BlockType};
 ghost use Rattle.paraid_base.specs.Xor.{zero_block};
 ghost use Rattle.paraid_plan.specs.RowWrites.{IsOldOf};
@@ -15,24 +15,30 @@ pub(crate) fn block_of(blocks: &[Block; 8], at: usize) -> &Block
 }
 
 /// No block is kept yet.
-pub(crate) fn none_kept() -> [Option<Block>; 8] {
+pub(crate) fn none_kept() -> [Option<Block>; 8]
+    ensures { length result ≡ 8 }
+{
     [None, None, None, None, None, None, None, None]
 }
 
 /// The block that is kept for a disk, or else another one.
-pub(crate) fn kept_or<'a>(kept: &'a [Option<Block>; 8], at: DiskNo, other: &'a Block) -> &'a Block
-    requires { at < 8 }
+pub(crate) fn kept_or<'a>(kept: &'a [Option<Block>], at: DiskNo, other: &'a Block) -> &'a Block
     ensures { (b : BlockType) → IsOldOf kept.now at b → result.now ≡ b }
 {
-    let Some(block) = &kept[at as usize] else {
+    let at = at as usize;
+    if kept.len() <= at {
+        return other;
+    }
+    let Some(block) = &kept[at] else {
         return other;
     };
     block
 }
 
 /// Keeps a block, where it is needed.
-pub(crate) fn keep_if(needed: bool, kept: &mut [Option<Block>; 8], at: DiskNo, block: &Block)
-    requires { at < 8 }
+pub(crate) fn keep_if(needed: bool, kept: &mut [Option<Block>], at: DiskNo, block: &Block)
+    requires { needed ≡ true → at < length kept.old }
+    ensures length { length kept.new ≡ length kept.old }
     ensures here { needed ≡ true → IsOldOf kept.new at block.now }
     ensures others { (x : ℕ) (b : BlockType) → x ≢ at → IsOldOf kept.old x b → IsOldOf kept.new x b }
 {

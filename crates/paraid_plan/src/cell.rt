@@ -4,6 +4,7 @@ ghost use Rattle.paraid_base.specs.Soft.{soft_disk, soft_parity_disk, soft_strip
 ghost use Rattle.paraid_base.specs.Regions.{soft_place_of};
 ghost use Rattle.paraid_base.specs.Xor.{xor};
 ghost use Rattle.paraid_plan.specs.Desk.{Desk, with_targets, desk_with_bit, sees, place_targets, copy_targets, cell_desk};
+ghost use Rattle.paraid_plan.specs.RowWrites.{has_soft as has_soft_in};
 ghost use Rattle.paraid_plan.specs.WriteTargets.{stripe_block_now, target_if, goes_hard as goes_hard_in, is_written as written_in, is_filled as filled_in, needs_new as needs_new_in, needs_old as needs_old_in};
 ghost use Rattle.paraid_plan.specs.WrittenBits.{bits_after_cell};
 ghost use Rattle.paraid_record.specs.Codes.{phase_to as phase_to_of};
@@ -67,9 +68,18 @@ fn has_parity(m: &Meta, r: Row, d: DiskNo) -> bool
     is_written(m.out, parity, m.setup.geometry.rows + s)
 }
 
-/// Whether what a write of this cell stages depends on its old value.
+/// Whether what a write stages of some cell can depend on its old value.
+#[tactic(auto, unfolding(crate::specs::RowWrites::has_soft))]
+pub(crate) fn has_soft(m: &Meta) -> bool
+    ensures { result ≡ has_soft_in m.now }
+{
+    m.gear < m.setup.geometry.disks || m.fill != 0
+}
+
+// Whether what a write of this cell stages depends on its old value.
+#[inline(never)]
 #[tactic(auto, unfolding(crate::specs::WriteTargets::needs_old))]
-pub(crate) fn needs_old<P: Plan>(plan: &P, m: &Meta, r: Row, d: DiskNo) -> bool
+fn depends_on_old<P: Plan>(plan: &P, m: &Meta, r: Row, d: DiskNo) -> bool
     requires serves { P.serves plan.now m.now }
     requires in_range { IsInRange m.now }
     requires row { r < m.now.setup.geometry.rows }
@@ -80,6 +90,20 @@ pub(crate) fn needs_old<P: Plan>(plan: &P, m: &Meta, r: Row, d: DiskNo) -> bool
         return is_filled(m, r, d);
     }
     has_parity(m, r, d) || is_filled(m, r, d)
+}
+
+/// The same, by the meta alone where no cell has a soft copy.
+pub(crate) fn needs_old<P: Plan>(plan: &P, m: &Meta, r: Row, d: DiskNo) -> bool
+    requires serves { P.serves plan.now m.now }
+    requires in_range { IsInRange m.now }
+    requires row { r < m.now.setup.geometry.rows }
+    requires disk { d < m.now.setup.geometry.disks }
+    ensures { result ≡ needs_old_in (sees m.now (P.desk plan.now)) r d }
+{
+    if !has_soft(m) {
+        return false;
+    }
+    depends_on_old(plan, m, r, d)
 }
 
 // Reads the parity of the stripe of a cell's copy, and changes it with the cell.

@@ -1,77 +1,77 @@
 //! Which cells of a row the pairs of a write give new bytes.
-ghost use Rattle.std.specs.Prelude.{◌≡◌, ℕ, ◌<◌, ◌+◌, ◌-◌, ◌*◌, ◌||◌, All, if◌then◌else◌};
+ghost use Rattle.std.specs.Prelude.{◌≡◌, ◌≢◌, ℕ, ◌<◌, ◌+◌, ◌-◌, ◌*◌, ◌||◌, List, Some, None, get_or, All, if◌then◌else◌};
 ghost use Rattle.paraid_base.specs.declared.block.Block.{Block as BlockType};
 ghost use Rattle.paraid_base.specs.Cells.{cell_block, parity_disk as parity_disk_of};
-ghost use Rattle.paraid_base.specs.History.{last_of};
+ghost use Rattle.paraid_base.specs.History.{Entry, last_of};
 ghost use Rattle.paraid_base.specs.Pairs.{pairs_of};
 ghost use Rattle.paraid_base.specs.Xor.{xor, zero_block};
-ghost use Rattle.paraid_plan.specs.RowWrites.{IsGivenBy, IsLastPair, is_changed as changed_in, is_given, names_row, pairs_before};
+ghost use Rattle.paraid_plan.specs.RowWrites.{AreGivenBy, is_changed as changed_in, is_given, names_row, pairs_before};
 
 use crate::blocks::block_of;
-use paraid_base::{Block, BlockNo, DiskNo, Geometry, Pairs, Row};
-use paraid_layout::{block_at, home, parity_disk};
+use paraid_base::{Block, DiskNo, Geometry, Pairs, Row};
+use paraid_layout::home;
 use paraid_parity::xor_into;
 
-// The pair at this place where it names the block, or else the one that was found before it.
-fn later_pair(pairs: &Pairs, at: usize, block: BlockNo, found: Option<usize>) -> Option<usize>
+// Gives a cell its new bytes from one pair.
+fn set_given(given: &mut [Option<usize>; 8], d: DiskNo, at: usize)
+    requires { d < 8 }
+    ensures here { get_or given.new d None ≡ Some at }
+    ensures others { (x : ℕ) → x ≢ d → get_or given.new x None ≡ get_or given.old x None }
+{
+    given[d as usize] = Some(at);
+}
+
+// Takes one pair more, where its block lies in the row.
+fn give(g: &Geometry, pairs: &Pairs, at: usize, r: Row, given: &mut [Option<usize>; 8])
     requires at { at < pairs.now.count }
-    requires found { IsLastPair pairs.now.bytes block (pairs_before pairs.now at) found }
-    ensures { IsLastPair pairs.now.bytes block (pairs_before pairs.now (at + 1)) result }
+    requires block { get_or pairs.now.blocks at 0 < g.now.rows * (g.now.disks - 1) }
+    requires before { AreGivenBy pairs.now.bytes g.now.disks (pairs_before pairs.now at) r given.old }
+    ensures { AreGivenBy pairs.now.bytes g.now.disks (pairs_before pairs.now (at + 1)) r given.new }
 {
-    if pairs.blocks[at] == block {
-        return Some(at);
+    let (q, d) = home(g, pairs.blocks[at]);
+    if q != r {
+        return;
     }
-    found
+    set_given(given, d, at);
 }
 
-// The last pair that names a block.
-fn last_pair(pairs: &Pairs, block: BlockNo) -> Option<usize>
-    ensures { IsLastPair pairs.now.bytes block (pairs_of pairs.now) result }
+/// The last pair that gives each cell of a row new bytes; none gives any to the row's parity.
+pub(crate) fn given_cells(g: &Geometry, pairs: &Pairs, r: Row) -> [Option<usize>; 8]
+    requires blocks { All (λ (pair : ℕ × BlockType). pair.0 < g.now.rows * (g.now.disks - 1)) (pairs_of pairs.now) }
+    ensures { AreGivenBy pairs.now.bytes g.now.disks (pairs_of pairs.now) r result }
 {
-    let mut found = None;
+    let mut given = [None; 8];
     for at in 0..pairs.count as usize {
-        found = later_pair(pairs, at, block, found);
+        give(g, pairs, at, r, &mut given);
     }
-    found
-}
-
-// The last pair that names the block of a cell; none names a row's parity.
-fn given_at(g: &Geometry, pairs: &Pairs, r: Row, d: DiskNo) -> Option<usize>
-    requires row { r < g.now.rows }
-    requires disk { d < g.now.disks }
-    ensures { IsGivenBy pairs.now.bytes g.now.disks (pairs_of pairs.now) r d result }
-{
-    let Some(block) = block_at(g, r, d) else {
-        return None;
-    };
-    last_pair(pairs, block)
+    given
 }
 
 /// Whether the write changes a cell of a row that it writes to: the parity, or a cell that it gives
 /// new bytes.
-pub(crate) fn is_changed(g: &Geometry, pairs: &Pairs, r: Row, d: DiskNo) -> bool
-    requires row { r < g.now.rows }
-    requires disk { d < g.now.disks }
-    ensures { result ≡ changed_in g.now.disks (pairs_of pairs.now) r d }
+pub(crate) fn is_changed(given: &[Option<usize>; 8], p: DiskNo, d: DiskNo) -> bool
+    requires { d < 8 }
+    ensures { (bytes : List BlockType) (n : ℕ) (ws : Entry) (r : ℕ) → d < n → p ≡ parity_disk_of n r
+        → AreGivenBy bytes n ws r given.now → result ≡ changed_in n ws r d }
 {
-    let p = parity_disk(g, r);
     if d == p {
         return true;
     }
-    let Some(_at) = given_at(g, pairs, r, d) else {
+    let Some(_at) = given[d as usize] else {
         return false;
     };
     true
 }
 
 /// Adds the new bytes of a cell to a sum, where it is given any.
-pub(crate) fn add_given(g: &Geometry, pairs: &Pairs, r: Row, d: DiskNo, sum: &mut Block)
-    requires row { r < g.now.rows }
-    requires disk { d < g.now.disks }
-    ensures { sum.new ≡ xor sum.old (if is_given g.now.disks (pairs_of pairs.now) r d
-        then last_of (cell_block g.now.disks r d) zero_block (pairs_of pairs.now) else zero_block) }
+pub(crate) fn add_given(pairs: &Pairs, given: &[Option<usize>; 8], d: DiskNo, sum: &mut Block)
+    requires disk { d < 8 }
+    requires few { (at : ℕ) → get_or given.now d None ≡ Some at → at < 8 }
+    ensures { (n r : ℕ) → d < n → AreGivenBy pairs.now.bytes n (pairs_of pairs.now) r given.now
+        → sum.new ≡ xor sum.old (if is_given n (pairs_of pairs.now) r d
+        then last_of (cell_block n r d) zero_block (pairs_of pairs.now) else zero_block) }
 {
-    let Some(at) = given_at(g, pairs, r, d) else {
+    let Some(at) = given[d as usize] else {
         return;
     };
     xor_into(sum, block_of(&pairs.bytes, at));

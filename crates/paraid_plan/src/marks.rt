@@ -28,8 +28,11 @@ pub fn is_filled(m: &Meta, r: Row, d: DiskNo) -> bool
     requires disk { d < m.now.setup.geometry.disks }
     ensures { result ≡ filled_in m.now r d }
 {
+    if m.fill == 0 {
+        return false;
+    }
     let to = m.phase.to();
-    if m.fill == 0 || d < to {
+    if d < to {
         return false;
     }
     let (s, _copy) = soft_of(&m.setup.geometry, to, r, d);

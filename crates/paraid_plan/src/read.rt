@@ -1,13 +1,13 @@
 //! What the write of a row reads: the old values on which the soft parities depend, and what makes
 //! the row's new parity.
-ghost use Rattle.std.specs.Prelude.{◌≡◌, ◌≢◌, ℕ, ◌+◌, ◌<◌, true, length, OnOk, IfErr, not, ◌&&◌, ◌||◌, if◌then◌else◌};
+ghost use Rattle.std.specs.Prelude.{◌≡◌, ◌≢◌, ℕ, ◌+◌, ◌<◌, true, length, get_or, Some, None, OnOk, IfErr, not, ◌&&◌, ◌||◌, if◌then◌else◌};
 ghost use Rattle.paraid_base.specs.declared.block.Block.{Block as BlockType};
 ghost use Rattle.paraid_base.specs.Cells.{parity_disk as parity_disk_of};
 ghost use Rattle.paraid_base.specs.Pairs.{pairs_of};
 ghost use Rattle.paraid_base.specs.Sums.{without, xor_upto};
 ghost use Rattle.paraid_base.specs.Xor.{xor, zero_block};
 ghost use Rattle.paraid_plan.specs.Desk.{Desk, sees};
-ghost use Rattle.paraid_plan.specs.RowWrites.{AreOldRead, IsOldOf, is_changed as changed_in, new_parity, parity_part};
+ghost use Rattle.paraid_plan.specs.RowWrites.{AreGivenBy, AreOldRead, HasRoom, IsOldOf, is_changed as changed_in, new_parity, parity_part};
 ghost use Rattle.paraid_plan.specs.WriteTargets.{needs_new as needs_new_in, needs_old as needs_old_in};
 ghost use Rattle.paraid_record.specs.Range.{IsInRange};
 ghost use Rattle.paraid_image.specs.Value.{value as value_of};
@@ -18,7 +18,6 @@ use crate::desk::{Lost, Plan};
 use crate::given::{add_given, is_changed};
 use crate::rule::is_made_anew;
 use paraid_base::{Block, DiskNo, Pairs, Row};
-use paraid_layout::parity_disk;
 use paraid_parity::xor_into;
 use paraid_record::Meta;
 
@@ -54,48 +53,55 @@ fn add_if(added: bool, block: &Block, sum: &mut Block)
 
 // Adds to a sum what a cell brings to the new parity.
 fn add_part(
-    m: &Meta,
     pairs: &Pairs,
+    given: &[Option<usize>; 8],
     anew: bool,
     changed: bool,
-    r: Row,
     d: DiskNo,
     value: &Block,
     sum: &mut Block,
 )
-    requires row { r < m.now.setup.geometry.rows }
-    requires disk { d < m.now.setup.geometry.disks }
-    requires changed { changed ≡ changed_in m.now.setup.geometry.disks (pairs_of pairs.now) r d }
-    ensures { (row : ℕ → Block) → ((if anew then not changed else changed) ≡ true → value.now ≡ row d)
-        → sum.new ≡ xor sum.old (parity_part m.now.setup.geometry.disks (pairs_of pairs.now) r row anew d) }
+    requires disk { d < 8 }
+    requires few { (at : ℕ) → get_or given.now d None ≡ Some at → at < 8 }
+    ensures { (n r : ℕ) (row : ℕ → Block) → d < n → AreGivenBy pairs.now.bytes n (pairs_of pairs.now) r given.now
+        → changed ≡ changed_in n (pairs_of pairs.now) r d
+        → ((if anew then not changed else changed) ≡ true → value.now ≡ row d)
+        → sum.new ≡ xor sum.old (parity_part n (pairs_of pairs.now) r row anew d) }
 {
     add_if(is_part(anew, changed), value, sum);
-    add_given(&m.setup.geometry, pairs, r, d, sum);
+    add_given(pairs, given, d, sum);
 }
 
 // Reads the old value of a cell, where what is staged of it or the new parity depends on it, and adds
-// to the parity what the cell brings to it.
+// to the parity what the cell brings to it. What is read goes into a block that many cells can share.
 fn read_cell<P: Plan>(
     plan: &mut P,
     m: &Meta,
     pairs: &Pairs,
+    given: &[Option<usize>; 8],
     needed: bool,
     anew: bool,
     r: Row,
+    p: DiskNo,
     d: DiskNo,
-    old: &mut [Option<Block>; 8],
+    old: &mut [Option<Block>],
+    into: &mut Block,
     sum: &mut Block,
 ) -> Result<(), Lost>
     requires serves { P.serves plan.old m.now }
     requires in_range { IsInRange m.now }
     requires row { r < m.now.setup.geometry.rows }
     requires disk { d < m.now.setup.geometry.disks }
+    requires parity { p ≡ parity_disk_of m.now.setup.geometry.disks r }
+    requires given { AreGivenBy pairs.now.bytes m.now.setup.geometry.disks (pairs_of pairs.now) r given.now }
+    requires kept { HasRoom m.now old.old }
     ensures here { OnOk result (P.tells plan.new → changed_in m.now.setup.geometry.disks (pairs_of pairs.now) r d ≡ true
         → needs_old_in (sees m.now (P.desk plan.old)) r d ≡ true
         → IsOldOf old.new d (value_of (sees m.now (P.desk plan.old)) r d)) }
     ensures others { (x : ℕ) (b : BlockType) → x ≢ d → IsOldOf old.old x b → IsOldOf old.new x b }
     ensures sum { OnOk result (P.tells plan.new → needed ≡ true → sum.new ≡ xor sum.old
         (parity_part m.now.setup.geometry.disks (pairs_of pairs.now) r (value_of (sees m.now (P.desk plan.old)) r) anew d)) }
+    ensures kept { OnOk result (length old.new ≡ length old.old) }
     ensures same { OnOk result (P.tells plan.new → P.desk plan.new ≡ P.desk plan.old) }
     ensures bits { OnOk result ((P.desk plan.new).dirty ≡ (P.desk plan.old).dirty) }
     ensures staged { OnOk result
@@ -105,18 +111,17 @@ fn read_cell<P: Plan>(
     ensures fails { IfErr result (λ lost. P.fails plan.new) }
     ensures leads { P.leads plan.old plan.new }
 {
-    let changed = is_changed(&m.setup.geometry, pairs, r, d);
+    let changed = is_changed(given, p, d);
     let depends = needs_old(plan, m, r, d);
     let part = is_part(anew, changed);
     let wanted = is_wanted(needed, part, changed, depends);
     if !wanted {
-        add_given(&m.setup.geometry, pairs, r, d, sum);
+        add_given(pairs, given, d, sum);
         return Ok(());
     }
-    let mut value = Block::zero();
-    plan.value(m, r, d, &mut value)?;
-    keep_if(both(changed, depends), old, d, &value);
-    add_part(m, pairs, anew, changed, r, d, &value, sum);
+    plan.value(m, r, d, into)?;
+    keep_if(both(changed, depends), old, d, into);
+    add_part(pairs, given, anew, changed, d, into, sum);
     Ok(())
 }
 
@@ -125,17 +130,23 @@ fn read_data<P: Plan>(
     plan: &mut P,
     m: &Meta,
     pairs: &Pairs,
+    given: &[Option<usize>; 8],
     needed: bool,
     anew: bool,
     r: Row,
+    p: DiskNo,
     d: DiskNo,
-    old: &mut [Option<Block>; 8],
+    old: &mut [Option<Block>],
+    into: &mut Block,
     sum: &mut Block,
 ) -> Result<(), Lost>
     requires serves { P.serves plan.old m.now }
     requires in_range { IsInRange m.now }
     requires row { r < m.now.setup.geometry.rows }
     requires disk { d < m.now.setup.geometry.disks }
+    requires parity { p ≡ parity_disk_of m.now.setup.geometry.disks r }
+    requires given { AreGivenBy pairs.now.bytes m.now.setup.geometry.disks (pairs_of pairs.now) r given.now }
+    requires kept { HasRoom m.now old.old }
     ensures here { OnOk result (P.tells plan.new → d ≢ parity_disk_of m.now.setup.geometry.disks r
         → changed_in m.now.setup.geometry.disks (pairs_of pairs.now) r d ≡ true
         → needs_old_in (sees m.now (P.desk plan.old)) r d ≡ true
@@ -145,6 +156,7 @@ fn read_data<P: Plan>(
         let n = m.now.setup.geometry.disks in
         let part = parity_part n (pairs_of pairs.now) r (value_of (sees m.now (P.desk plan.old)) r) anew in
         sum.old ≡ xor_upto (without part (parity_disk_of n r)) d → sum.new ≡ xor_upto (without part (parity_disk_of n r)) (d + 1)) }
+    ensures kept { OnOk result (length old.new ≡ length old.old) }
     ensures same { OnOk result (P.tells plan.new → P.desk plan.new ≡ P.desk plan.old) }
     ensures bits { OnOk result ((P.desk plan.new).dirty ≡ (P.desk plan.old).dirty) }
     ensures staged { OnOk result
@@ -154,11 +166,10 @@ fn read_data<P: Plan>(
     ensures fails { IfErr result (λ lost. P.fails plan.new) }
     ensures leads { P.leads plan.old plan.new }
 {
-    let p = parity_disk(&m.setup.geometry, r);
     if d == p {
         return Ok(());
     }
-    read_cell(plan, m, pairs, needed, anew, r, d, old, sum)
+    read_cell(plan, m, pairs, given, needed, anew, r, p, d, old, into, sum)
 }
 
 // Reads the old values of the data cells of a row, and then that of its parity, as far as they are
@@ -167,20 +178,28 @@ fn read_cells<P: Plan>(
     plan: &mut P,
     m: &Meta,
     pairs: &Pairs,
+    given: &[Option<usize>; 8],
     needed: bool,
     anew: bool,
     r: Row,
-    old: &mut [Option<Block>; 8],
+    p: DiskNo,
+    old: &mut [Option<Block>],
     sum: &mut Block,
 ) -> Result<(), Lost>
     requires serves { P.serves plan.old m.now }
     requires in_range { IsInRange m.now }
     requires row { r < m.now.setup.geometry.rows }
+    requires parity_disk { p < m.now.setup.geometry.disks }
+    requires empty { sum.old ≡ zero_block }
+    requires parity { p ≡ parity_disk_of m.now.setup.geometry.disks r }
+    requires given { AreGivenBy pairs.now.bytes m.now.setup.geometry.disks (pairs_of pairs.now) r given.now }
+    requires kept { HasRoom m.now old.old }
     ensures old { OnOk result (P.tells plan.new
         → AreOldRead m.now (P.desk plan.old) (pairs_of pairs.now) r old.new (value_of (sees m.now (P.desk plan.old)) r)) }
     ensures sum { OnOk result (P.tells plan.new → needed ≡ true →
         let n = m.now.setup.geometry.disks in
         sum.new ≡ xor_upto (parity_part n (pairs_of pairs.now) r (value_of (sees m.now (P.desk plan.old)) r) anew) n) }
+    ensures kept { OnOk result (length old.new ≡ length old.old) }
     ensures same { OnOk result (P.tells plan.new → P.desk plan.new ≡ P.desk plan.old) }
     ensures bits { OnOk result ((P.desk plan.new).dirty ≡ (P.desk plan.old).dirty) }
     ensures staged { OnOk result
@@ -190,12 +209,15 @@ fn read_cells<P: Plan>(
     ensures fails { IfErr result (λ lost. P.fails plan.new) }
     ensures leads { P.leads plan.old plan.new }
 {
-    *sum = Block::zero();
+    let mut value = Block::zero();
     for d in 0..m.setup.geometry.disks {
-        read_data(plan, m, pairs, needed, anew, r, d, old, sum)?;
+        read_data(
+            plan, m, pairs, given, needed, anew, r, p, d, old, &mut value, sum,
+        )?;
     }
-    let p = parity_disk(&m.setup.geometry, r);
-    read_cell(plan, m, pairs, needed, anew, r, p, old, sum)?;
+    read_cell(
+        plan, m, pairs, given, needed, anew, r, p, p, old, &mut value, sum,
+    )?;
     Ok(())
 }
 
@@ -205,21 +227,27 @@ pub(crate) fn read_row<P: Plan>(
     plan: &mut P,
     m: &Meta,
     pairs: &Pairs,
+    given: &[Option<usize>; 8],
     r: Row,
     p: DiskNo,
-    old: &mut [Option<Block>; 8],
+    old: &mut [Option<Block>],
     fixed: &mut Block,
 ) -> Result<(), Lost>
     requires serves { P.serves plan.old m.now }
     requires in_range { IsInRange m.now }
     requires row { r < m.now.setup.geometry.rows }
     requires parity_disk { p < m.now.setup.geometry.disks }
+    requires empty { fixed.old ≡ zero_block }
+    requires parity { p ≡ parity_disk_of m.now.setup.geometry.disks r }
+    requires given { AreGivenBy pairs.now.bytes m.now.setup.geometry.disks (pairs_of pairs.now) r given.now }
+    requires kept { HasRoom m.now old.old }
     ensures old { OnOk result (P.tells plan.new
         → AreOldRead m.now (P.desk plan.old) (pairs_of pairs.now) r old.new (value_of (sees m.now (P.desk plan.old)) r)) }
     ensures fixed { OnOk result (P.tells plan.new
         → needs_new_in (sees m.now (P.desk plan.old)) r p ≡ true
         → xor_upto (value_of (sees m.now (P.desk plan.old)) r) m.now.setup.geometry.disks ≡ zero_block
         → fixed.new ≡ new_parity m.now.setup.geometry.disks (pairs_of pairs.now) r (value_of (sees m.now (P.desk plan.old)) r)) }
+    ensures kept { OnOk result (length old.new ≡ length old.old) }
     ensures same { OnOk result (P.tells plan.new → P.desk plan.new ≡ P.desk plan.old) }
     ensures bits { OnOk result ((P.desk plan.new).dirty ≡ (P.desk plan.old).dirty) }
     ensures staged { OnOk result
@@ -230,6 +258,6 @@ pub(crate) fn read_row<P: Plan>(
     ensures leads { P.leads plan.old plan.new }
 {
     let needed = needs_new(plan, m, r, p);
-    let anew = is_made_anew(plan, m, pairs, r);
-    read_cells(plan, m, pairs, needed, anew, r, old, fixed)
+    let anew = is_made_anew(plan, m, given, r, p);
+    read_cells(plan, m, pairs, given, needed, anew, r, p, old, fixed)
 }

@@ -6,7 +6,7 @@ ghost use Rattle.paraid_record.specs.Range.{IsInRange};
 use crate::cell::{is_hard, needs_old};
 use crate::desk::Plan;
 use crate::given::is_changed;
-use paraid_base::{DiskNo, Pairs, Place, Row};
+use paraid_base::{DiskNo, Place, Row};
 use paraid_layout::{hard_place, soft_of, soft_place};
 use paraid_record::Meta;
 
@@ -33,21 +33,43 @@ fn reads_of<P: Plan>(plan: &P, m: &Meta, r: Row, d: DiskNo) -> u8
     reads_at(plan, m, copy, soft_place(g, m.gear, s), m.gear - 1)
 }
 
-/// Whether the new parity of a row is made of the values of its cells that do not change, and not of
-/// the old values of those that do: where that reads less.
-pub(crate) fn is_made_anew<P: Plan>(plan: &P, m: &Meta, pairs: &Pairs, r: Row) -> bool
+// How many blocks of the disks are read for the old values of the cells that change, where only the
+// new parity depends on them.
+fn reads_of_old<P: Plan>(plan: &P, m: &Meta, given: &[Option<usize>; 8], r: Row, p: DiskNo) -> u8
     requires serves { P.serves plan.now m.now }
     requires in_range { IsInRange m.now }
     requires row { r < m.now.setup.geometry.rows }
 {
     let mut old = 0u8;
+    for d in 0..m.setup.geometry.disks {
+        if is_changed(given, p, d) && !needs_old(plan, m, r, d) {
+            old = old.saturating_add(reads_of(plan, m, r, d));
+        }
+    }
+    old
+}
+
+/// Whether the new parity of a row is made of the values of its cells that do not change, and not of
+/// the old values of those that do: where that reads less.
+pub(crate) fn is_made_anew<P: Plan>(
+    plan: &P,
+    m: &Meta,
+    given: &[Option<usize>; 8],
+    r: Row,
+    p: DiskNo,
+) -> bool
+    requires serves { P.serves plan.now m.now }
+    requires in_range { IsInRange m.now }
+    requires row { r < m.now.setup.geometry.rows }
+{
+    let old = reads_of_old(plan, m, given, r, p);
     let mut rest = 0u8;
     for d in 0..m.setup.geometry.disks {
-        let reads = reads_of(plan, m, r, d);
-        if !is_changed(&m.setup.geometry, pairs, r, d) {
-            rest = rest.saturating_add(reads);
-        } else if !needs_old(plan, m, r, d) {
-            old = old.saturating_add(reads);
+        if old <= rest {
+            return false;
+        }
+        if !is_changed(given, p, d) {
+            rest = rest.saturating_add(reads_of(plan, m, r, d));
         }
     }
     rest < old

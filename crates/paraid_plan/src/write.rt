@@ -7,7 +7,7 @@ ghost use Rattle.paraid_base.specs.History.{Entry, last_of};
 ghost use Rattle.paraid_base.specs.Pairs.{pairs_of};
 ghost use Rattle.paraid_base.specs.Xor.{zero_block};
 ghost use Rattle.paraid_plan.specs.Desk.{Desk, StagesMap};
-ghost use Rattle.paraid_plan.specs.RowWrites.{AddsTargets, AreOldRead, StageAll, StagesBlocks, TurnsRow, count_in_row, count_of_new_row, given_row, names_block, one_in_row, row_change};
+ghost use Rattle.paraid_plan.specs.RowWrites.{AddsTargets, AreOldRead, HasRoom, StageAll, StagesBlocks, TurnsRow, count_in_row, count_of_new_row, given_row, names_block, one_in_row, row_change};
 ghost use Rattle.paraid_plan.specs.RowBits.{TurnsBits, names_cell, turns_cell_of, turns_in_new_row};
 ghost use Rattle.paraid_plan.specs.WrittenBits.{bits_after_writes};
 ghost use Rattle.paraid_image.specs.Out.{named_out as named_out_of};
@@ -15,9 +15,9 @@ ghost use Rattle.paraid_record.specs.Range.{IsInRange};
 ghost use Rattle.paraid_record.specs.declared.meta.Meta.{Meta as MetaType};
 
 use crate::blocks::{block_of, keep_if, kept_or, none_kept};
-use crate::cell::{needs_old, stage_if, write_cell};
+use crate::cell::{has_soft, needs_old, stage_if, write_cell};
 use crate::desk::{Lost, Plan};
-use crate::given::is_row_before;
+use crate::given::{given_cells, is_row_before};
 use crate::marks::is_written;
 use crate::read::read_row;
 use paraid_base::{Block, DiskNo, Pairs, Row};
@@ -98,12 +98,13 @@ fn write_pair<P: Plan>(
     pairs: &Pairs,
     at: usize,
     r: Row,
-    old: &mut [Option<Block>; 8],
+    old: &mut [Option<Block>],
 ) -> Result<(), Lost>
     requires serves { P.serves plan.old m.now }
     requires in_range { IsInRange m.now }
     requires row { r < m.now.setup.geometry.rows }
     requires at { at < pairs.now.count }
+    requires kept { HasRoom m.now old.old }
     requires block { get_or pairs.now.blocks at 0 < m.now.setup.geometry.rows * (m.now.setup.geometry.disks - 1) }
     requires room { length (P.desk plan.old).staged
         + 4 * one_in_row m.now.setup.geometry.disks (get_or pairs.now.blocks at 0) r ≤ 80 }
@@ -118,6 +119,7 @@ fn write_pair<P: Plan>(
     ensures old { OnOk result (P.tells plan.new → (ws : Entry) (row : ℕ → BlockType)
         → AreOldRead m.now (P.desk plan.old) ws r old.old row → AreOldRead m.now (P.desk plan.new) ws r old.new
         (given_row m.now.setup.geometry.disks ((get_or pairs.now.blocks at 0, get_or pairs.now.bytes at zero_block) ∷ []) r row)) }
+    ensures kept { OnOk result (length old.new ≡ length old.old) }
     ensures parity { OnOk result (P.tells plan.new → (P.desk plan.new).dirty r (parity_disk_of m.now.setup.geometry.disks r)
         ≡ (P.desk plan.old).dirty r (parity_disk_of m.now.setup.geometry.disks r)) }
     ensures bits { OnOk result (TurnsBits m.now (P.desk plan.old).dirty (P.desk plan.new).dirty
@@ -151,11 +153,12 @@ fn write_pairs<P: Plan>(
     m: &Meta,
     pairs: &Pairs,
     r: Row,
-    old: &mut [Option<Block>; 8],
+    old: &mut [Option<Block>],
 ) -> Result<(), Lost>
     requires serves { P.serves plan.old m.now }
     requires in_range { IsInRange m.now }
     requires row { r < m.now.setup.geometry.rows }
+    requires kept { HasRoom m.now old.old }
     requires blocks { All (λ (pair : ℕ × BlockType). pair.0 < m.now.setup.geometry.rows * (m.now.setup.geometry.disks - 1)) (pairs_of pairs.now) }
     requires room { length (P.desk plan.old).staged
         + 4 * count_in_row m.now.setup.geometry.disks (pairs_of pairs.now) r ≤ 80 }
@@ -167,6 +170,7 @@ fn write_pairs<P: Plan>(
     ensures old { OnOk result (P.tells plan.new → (row : ℕ → BlockType)
         → AreOldRead m.now (P.desk plan.old) (pairs_of pairs.now) r old.old row
         → AreOldRead m.now (P.desk plan.new) (pairs_of pairs.now) r old.new (given_row m.now.setup.geometry.disks (pairs_of pairs.now) r row)) }
+    ensures kept { OnOk result (length old.new ≡ length old.old) }
     ensures parity { OnOk result (P.tells plan.new → (P.desk plan.new).dirty r (parity_disk_of m.now.setup.geometry.disks r)
         ≡ (P.desk plan.old).dirty r (parity_disk_of m.now.setup.geometry.disks r)) }
     ensures bits { OnOk result (TurnsBits m.now (P.desk plan.old).dirty (P.desk plan.new).dirty
@@ -189,7 +193,50 @@ fn write_pairs<P: Plan>(
     Ok(())
 }
 
-// Writes the cells that the pairs name in a row, its parity once, and the changed dirty bits.
+// Writes the cells that the pairs name in a row, its parity once, and the changed dirty bits, with
+// room for the old values on which more than the parity depends.
+fn write_row_in<P: Plan>(
+    plan: &mut P,
+    m: &Meta,
+    pairs: &Pairs,
+    r: Row,
+    old: &mut [Option<Block>],
+) -> Result<(), Lost>
+    requires serves { P.serves plan.old m.now }
+    requires in_range { IsInRange m.now }
+    requires row { r < m.now.setup.geometry.rows }
+    requires blocks { All (λ (pair : ℕ × BlockType). pair.0 < m.now.setup.geometry.rows * (m.now.setup.geometry.disks - 1)) (pairs_of pairs.now) }
+    requires kept { HasRoom m.now old.old }
+    requires some { 1 ≤ count_in_row m.now.setup.geometry.disks (pairs_of pairs.now) r }
+    requires room { length (P.desk plan.old).staged
+        + 10 * count_in_row m.now.setup.geometry.disks (pairs_of pairs.now) r ≤ 80 }
+    requires bits { P.changes plan.old + 2 * count_in_row m.now.setup.geometry.disks (pairs_of pairs.now) r ≤ 16 }
+    ensures write { OnOk result (P.tells plan.new → StagesBlocks m.now (P.desk plan.old) (P.desk plan.new)
+        (λ c x. if home_row m.now.setup.geometry.disks c == r then last_of c x (pairs_of pairs.now) else x)) }
+    ensures bits { OnOk result (TurnsBits m.now (P.desk plan.old).dirty (P.desk plan.new).dirty
+        (λ q e. q == r && turns_cell_of m.now.setup.geometry.disks (pairs_of pairs.now) r e)) }
+    ensures few { OnOk result (length (P.desk plan.new).staged
+        ≤ length (P.desk plan.old).staged + 10 * count_in_row m.now.setup.geometry.disks (pairs_of pairs.now) r) }
+    ensures grows { OnOk result (P.tells plan.new → length (P.desk plan.old).staged + 1 ≤ length (P.desk plan.new).staged) }
+    ensures changes { OnOk result (P.changes plan.new
+        ≤ P.changes plan.old + 2 * count_in_row m.now.setup.geometry.disks (pairs_of pairs.now) r) }
+    ensures goes_on { OnOk result (P.serves plan.new m.now) }
+    ensures fails { IfErr result (λ lost. P.fails plan.new) }
+    ensures leads { P.leads plan.old plan.new }
+{
+    let p = parity_disk(&m.setup.geometry, r);
+    let mut fixed = Block::zero();
+    let given = given_cells(&m.setup.geometry, pairs, r);
+    read_row(plan, m, pairs, &given, r, p, old, &mut fixed)?;
+    let was = bits_of(plan, m, r);
+    write_pairs(plan, m, pairs, r, old)?;
+    write_cell(plan, m, r, p, kept_or(old, p, &fixed), &fixed)?;
+    let staged = has_changed(plan, m, r, &was);
+    stage_map(plan, m, r, staged);
+    Ok(())
+}
+
+// The same, with that room only where it can be needed, for it is large.
 fn write_row<P: Plan>(plan: &mut P, m: &Meta, pairs: &Pairs, r: Row) -> Result<(), Lost>
     requires serves { P.serves plan.old m.now }
     requires in_range { IsInRange m.now }
@@ -212,16 +259,10 @@ fn write_row<P: Plan>(plan: &mut P, m: &Meta, pairs: &Pairs, r: Row) -> Result<(
     ensures fails { IfErr result (λ lost. P.fails plan.new) }
     ensures leads { P.leads plan.old plan.new }
 {
-    let p = parity_disk(&m.setup.geometry, r);
-    let mut old = none_kept();
-    let mut fixed = Block::zero();
-    read_row(plan, m, pairs, r, p, &mut old, &mut fixed)?;
-    let was = bits_of(plan, m, r);
-    write_pairs(plan, m, pairs, r, &mut old)?;
-    write_cell(plan, m, r, p, kept_or(&old, p, &fixed), &fixed)?;
-    let staged = has_changed(plan, m, r, &was);
-    stage_map(plan, m, r, staged);
-    Ok(())
+    if has_soft(m) {
+        return write_row_in(plan, m, pairs, r, &mut none_kept());
+    }
+    write_row_in(plan, m, pairs, r, &mut [])
 }
 
 // Writes the row of one pair, unless a pair before it lies in the same row.

@@ -1,7 +1,6 @@
 use Rattle.std.proofs.Common.{◌∙◌, sym}
 use Rattle.paraid_plan.proofs.cell.needs_old.Goals as goal
-use Rattle.paraid_plan.proofs.DeskLemmas.{parked_of}
-use Rattle.paraid_plan.specs.Desk.{sees}
+use Rattle.paraid_plan.proofs.DeskLemmas.{soft_needed}
 
-pub has_parity-requires-clause-parked : goal.has_parity-requires-clause-parked
-has_parity-requires-clause-parked g c = parked_of (sees c.args.m.now (g.P.Plan.desk c.args.plan.now)) c.args.r c.args.d (sym c.goes_hard.ensures ∙ c.if-goes_hard.false)
+pub returns-then-not-has_soft : goal.returns-then-not-has_soft
+returns-then-not-has_soft g c = sym (soft_needed c.args.m.now (g.P.Plan.desk c.args.plan.now) c.args.r c.args.d c.requires.disk (sym c.has_soft.ensures ∙ c.if-not-has_soft.true))

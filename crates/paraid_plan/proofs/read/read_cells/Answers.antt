@@ -14,12 +14,13 @@ use Rattle.paraid_plan.proofs.read.read_cells.Goals as goal
 
 pub loop-d-init : goal.loop-d-init
 loop-d-init g c = record {
-  sum = λ tells needed. c.zero.ensures ∙ others_none _ _;
+  sum = λ tells needed. c.requires.empty ∙ others_none _ _;
   olds = λ tells e l apart changed old. absurd (omega (arith, l));
   same = λ tells. refl;
   bits = refl;
   staged = refl;
   changes = refl;
+  kept = refl;
   goes_on = c.requires.serves;
   leads = g.met.P.Plan.stays c.args.plan.now;
 }
@@ -48,6 +49,7 @@ loop-d-preserved g c =
       bits = call.bits ∙ before.bits;
       staged = call.staged ∙ before.staged;
       changes = call.changes ∙ before.changes;
+      kept = call.kept ∙ before.kept;
       goes_on = call.goes_on;
       leads = g.met.P.Plan.then _ _ _ before.leads call.leads;
     }
@@ -60,16 +62,16 @@ returns-clause-old g c tells =
     let before = c.loop-d.invariant in
     let call = c.in_ok-read_cell.ensures in
     let t = g.met.P.Plan.told c.loop-d.plan c.read_cell.new.plan call.leads tells in
-    let p = c.parity_disk-p.result in
+    let p = c.args.p in
     let past = c.loop-d-test.false in
     let until = c.loop-d.auto.d-end in
     record {
-      read = λ e le changed old. elim (cases_eq e c.parity_disk-p.result) [
+      read = λ e le changed old. elim (cases_eq e c.args.p) [
         | inl is ↦
             subst (λ (z : ℕ). IsOldOf c.read_cell.new.old z (value (sees m (g.P.Plan.desk c.args.plan.now)) c.args.r z)) (sym is)
-            (subst (λ (z : Desk). needs_old (sees m z) c.args.r c.parity_disk-p.result ≡ true → IsOldOf c.read_cell.new.old c.parity_disk-p.result (value (sees m z) c.args.r c.parity_disk-p.result))
+            (subst (λ (z : Desk). needs_old (sees m z) c.args.r c.args.p ≡ true → IsOldOf c.read_cell.new.old c.args.p (value (sees m z) c.args.r c.args.p))
             (before.same t) (λ k. call.here tells (subst (λ (z : ℕ). is_changed n ws c.args.r z ≡ true) is changed) k) (subst (λ (z : ℕ). needs_old (sees m (g.P.Plan.desk c.args.plan.now)) c.args.r z ≡ true) is old))
-        | inr off ↦ call.others e _ off (before.olds t e (omega (arith, le, past, until)) (λ is. off (is ∙ sym c.parity_disk-p.ensures.value)) changed old)
+        | inr off ↦ call.others e _ off (before.olds t e (omega (arith, le, past, until)) (λ is. off (is ∙ sym c.requires.parity)) changed old)
       ];
     }
 
@@ -85,9 +87,9 @@ returns-clause-sum g c tells needed =
     let past = c.loop-d-test.false in
     let until = c.loop-d.auto.d-end in
     let same : c.loop-d.d ≡ n = omega (arith, past, until) in
-    whole_part (parity_part n ws c.args.r (value (sees m (g.P.Plan.desk c.args.plan.now)) c.args.r) c.args.anew) (parity_disk n c.args.r) c.parity_disk-p.result n c.loop-d.d _ _ _
-    c.parity_disk-p.ensures.value (parity_disk_below n c.args.r (omega (arith, low))) same (before.sum t needed)
-    (ap (λ (z : Desk). parity_part n ws c.args.r (value (sees m z) c.args.r) c.args.anew c.parity_disk-p.result) (before.same t)) (call.sum tells needed)
+    whole_part (parity_part n ws c.args.r (value (sees m (g.P.Plan.desk c.args.plan.now)) c.args.r) c.args.anew) (parity_disk n c.args.r) c.args.p n c.loop-d.d _ _ _
+    c.requires.parity (parity_disk_below n c.args.r (omega (arith, low))) same (before.sum t needed)
+    (ap (λ (z : Desk). parity_part n ws c.args.r (value (sees m z) c.args.r) c.args.anew c.args.p) (before.same t)) (call.sum tells needed)
 
 pub returns-clause-same : goal.returns-clause-same
 returns-clause-same g c tells =

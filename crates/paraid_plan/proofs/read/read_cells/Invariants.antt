@@ -20,6 +20,7 @@ invariant-loop-d g l = record {
   bits : (g.P.Plan.desk l.plan).dirty ≡ (g.P.Plan.desk l.fn.plan).dirty;
   staged : length (g.P.Plan.desk l.plan).staged ≡ length (g.P.Plan.desk l.fn.plan).staged;
   changes : g.P.Plan.changes l.plan ≡ g.P.Plan.changes l.fn.plan;
+  kept : length l.old ≡ length l.fn.old;
   goes_on : g.P.Plan.serves l.plan l.fn.m;
   leads : g.P.Plan.leads l.fn.plan l.plan;
 }

@@ -9,13 +9,13 @@ use Rattle.paraid_image.specs.Value.{value}
 use Rattle.paraid_plan.proofs.read.read_data.Goals as goal
 
 pub returns-then-d-p-clause-here : goal.returns-then-d-p-clause-here
-returns-then-d-p-clause-here g c tells apart changed old = absurd (apart (c.if-d-p.true ∙ c.parity_disk-p.ensures.value))
+returns-then-d-p-clause-here g c tells apart changed old = absurd (apart (c.if-d-p.true ∙ c.requires.parity))
 
 pub returns-then-d-p-clause-sum : goal.returns-then-d-p-clause-sum
 returns-then-d-p-clause-sum g c tells needed sum =
     let n = c.args.m.now.setup.geometry.disks in
     sum ∙ others_skip (parity_part n (pairs_of c.args.pairs.now) c.args.r (value (sees c.args.m.now (g.P.Plan.desk c.args.plan.now)) c.args.r) c.args.anew) (parity_disk n c.args.r) c.args.d
-    (c.if-d-p.true ∙ c.parity_disk-p.ensures.value)
+    (c.if-d-p.true ∙ c.requires.parity)
 
 pub returns-then-d-p-clause-leads : goal.returns-then-d-p-clause-leads
 returns-then-d-p-clause-leads g c = g.met.P.Plan.stays c.args.plan.now
@@ -50,7 +50,7 @@ returns-clause-sum g c =
     let n = c.args.m.now.setup.geometry.disks in
     on_ok_weaker c.read_cell.result (λ f tells needed sum.
     others_read (parity_part n (pairs_of c.args.pairs.now) c.args.r (value (sees c.args.m.now (g.P.Plan.desk c.args.plan.now)) c.args.r) c.args.anew) (parity_disk n c.args.r) c.args.d _ _ _
-    (λ is. c.if-d-p.false (is ∙ sym c.parity_disk-p.ensures.value)) sum refl (f tells needed)) c.read_cell.ensures.sum
+    (λ is. c.if-d-p.false (is ∙ sym c.requires.parity)) sum refl (f tells needed)) c.read_cell.ensures.sum
 
 pub returns-clause-others : goal.returns-clause-others
 returns-clause-others g c = c.read_cell.ensures.others
@@ -75,9 +75,6 @@ returns-clause-fails g c = c.read_cell.ensures.fails
 
 pub returns-clause-leads : goal.returns-clause-leads
 returns-clause-leads g c = c.read_cell.ensures.leads
-
-pub parity_disk-p-requires : goal.parity_disk-p-requires
-parity_disk-p-requires g c = c.requires.row
 
 pub read_cell-requires-clause-serves : goal.read_cell-requires-clause-serves
 read_cell-requires-clause-serves g c = c.requires.serves

@@ -6,6 +6,7 @@ use Rattle.paraid_base.specs.Xor.{zero_block}
 use Rattle.paraid_plan.specs.Desk.{cell_desk}
 use Rattle.paraid_plan.specs.RowWrites.{IsOldOf}
 use Rattle.paraid_image.specs.Out.{named_out}
+use Rattle.paraid_plan.proofs.DeskLemmas.{old_fits}
 use Rattle.paraid_plan.proofs.GrowthLemmas.{cell_grows}
 use Rattle.paraid_plan.proofs.OutsLemmas.{only_out}
 use Rattle.paraid_plan.proofs.PairLemmas.{one_away_is, one_here_is}
@@ -43,6 +44,10 @@ write_cell-requires-clause-few g c =
     let one = one_here_is c.args.m.now.setup.geometry.disks (get_or c.args.pairs.now.blocks c.args.at 0) c.args.r c.home-q.result.0 c.home-q.ensures.row c.if-q-r.false in
     let bits = c.requires.bits in
     omega (arith, one, bits)
+
+pub keep_if-requires : goal.keep_if-requires
+keep_if-requires g c h =
+    old_fits c.args.m.now (g.P.Plan.desk c.write_cell.new.plan) c.args.r c.home-q.result.1 c.args.old.now c.home-q.ensures.disk_in c.requires.kept (sym c.needs_old-depends.ensures ∙ h)
 
 pub returns-clause-adds : goal.returns-clause-adds
 returns-clause-adds g c tells =

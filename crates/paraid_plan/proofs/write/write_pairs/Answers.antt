@@ -28,6 +28,7 @@ loop-at-init g c =
       few = omega (arith, none);
       some = λ tells out. omega (arith, none);
       changes = omega (arith, none);
+      kept = refl;
       goes_on = c.requires.serves;
       leads = g.met.P.Plan.stays c.args.plan.now;
     }
@@ -87,6 +88,7 @@ loop-at-preserved g c =
       few = omega (arith, more, few, room);
       some = λ tells out. (let first = before.some (law tells) out in let next = call.some tells out in omega (arith, more, first, next));
       changes = omega (arith, more, turned, one);
+      kept = call.kept ∙ before.kept;
       goes_on = call.goes_on;
       leads = g.met.P.Plan.then _ _ _ before.leads call.leads;
     }

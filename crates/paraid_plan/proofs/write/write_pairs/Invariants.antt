@@ -22,6 +22,7 @@ invariant-loop-at g l = record {
   some : g.P.Plan.tells l.plan → named_out l.fn.m.out ≡ Some (parity_disk l.fn.m.setup.geometry.disks l.fn.r)
       → length (g.P.Plan.desk l.fn.plan).staged + count_in_row l.fn.m.setup.geometry.disks (pairs_before l.fn.pairs l.at) l.fn.r ≤ length (g.P.Plan.desk l.plan).staged;
   changes : g.P.Plan.changes l.plan ≡ g.P.Plan.changes l.fn.plan + count_in_row l.fn.m.setup.geometry.disks (pairs_before l.fn.pairs l.at) l.fn.r;
+  kept : length l.old ≡ length l.fn.old;
   goes_on : g.P.Plan.serves l.plan l.fn.m;
   leads : g.P.Plan.leads l.fn.plan l.plan;
 }

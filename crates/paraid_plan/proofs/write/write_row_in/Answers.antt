@@ -6,7 +6,7 @@ use Rattle.paraid_plan.proofs.GrowthLemmas.{row_grows}
 use Rattle.paraid_plan.proofs.RowBitsLemmas.{bits_cell, bits_then, row_turns}
 use Rattle.paraid_plan.proofs.WrittenBitsLemmas.{map_bits}
 use Rattle.paraid_plan.proofs.RowLemmas.{row_from_calls}
-use Rattle.paraid_plan.proofs.write.write_row.Goals as goal
+use Rattle.paraid_plan.proofs.write.write_row_in.Goals as goal
 
 pub write_pairs-requires-clause-room : goal.write_pairs-requires-clause-room
 write_pairs-requires-clause-room g c = let a = c.in_ok-read_row.ensures.staged in let room = c.requires.room in omega (arith, a, room)
