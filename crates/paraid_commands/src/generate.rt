@@ -10,12 +10,12 @@ ghost use Rattle.paraid_commands.specs.CountedLines.{CountsLines};
 
 use crate::lines::summary_text;
 use crate::tally::Tally;
-use paraid_base::{Answer, Halt};
+use paraid_base::Halt;
 use paraid_io::{Sink, write_all};
 use paraid_serve::answer::{answer_event, finish};
 use paraid_serve::ending::{end_text, halt_status, last, mount_text};
 use paraid_serve::{Serves, status};
-use paraid_trace::{Text, generate, reply};
+use paraid_trace::{Brief, Text, generate, reply};
 
 /// Answers the first lines of the trace of a number, and counts them.
 pub fn answer_lines<A: Serves>(
@@ -86,7 +86,7 @@ pub fn serve_generated<K: Sink, A: Serves>(
             last(sink, text.as_slice(), status::DONE)
         }
         Err(halt) => {
-            reply(&Answer::Halted(halt), &mut text);
+            reply(&Brief::Halted(halt), &mut text);
             last(sink, text.as_slice(), halt_status(halt))
         }
     }

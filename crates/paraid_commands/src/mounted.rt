@@ -11,14 +11,13 @@ use crate::fault::tell_refusal;
 use crate::generate::serve_generated_mounted;
 use crate::outside::{Ended, Outside};
 use crate::report::{check_status, check_text};
-use paraid_base::Answer;
 use paraid_io::{Sink, Source};
 use paraid_rack::Rack;
 use paraid_recover::MountRefused;
 use paraid_serve::Serves;
 use paraid_serve::ending::{halt_status, last};
 use paraid_serve::top::serve_mounted;
-use paraid_trace::{Text, reply};
+use paraid_trace::{Brief, Text, reply};
 
 /// Mounts and answers each line of the source.
 pub fn run<S: Source, K: Sink, R: Rack, A: Serves, O: Outside<R, A>>(
@@ -111,7 +110,7 @@ fn tell_counts<K: Sink, R: Rack, A: Serves, O: Outside<R, A>>(
             last(sink, text.as_slice(), check_status(&report))
         }
         Err(halt) => {
-            reply(&Answer::Halted(halt), &mut text);
+            reply(&Brief::Halted(halt), &mut text);
             last(sink, text.as_slice(), halt_status(halt))
         }
     }

@@ -6,13 +6,13 @@ ghost use Rattle.paraid_serve.specs.Ending.{EndsWithLine};
 ghost use Rattle.paraid_record.specs.Range.{IsInRange};
 ghost use Rattle.paraid_commands.specs.States.{shown_status, status_lines};
 
-use paraid_base::{Answer, Status};
+use paraid_base::Status;
 use paraid_dirty::DirtyTable;
 use paraid_io::Sink;
 use paraid_record::Meta;
 use paraid_serve::ending::{last, mount_text};
 use paraid_serve::status;
-use paraid_trace::{Text, reply};
+use paraid_trace::{Text, reply_state};
 
 /// The state that a meta and its dirty table tell.
 pub fn status_of(meta: &Meta, table: &DirtyTable) -> Status
@@ -42,12 +42,12 @@ pub fn tell_state<K: Sink>(sink: &mut K, meta: &Meta, table: &DirtyTable) -> u8
     ensures sink { result ≡ 4 → HasRisen (K.faults sink.old) (K.faults sink.new) }
     ensures later { K.faults sink.old ≤ K.faults sink.new }
 {
-    let state = Answer::State {
-        status: status_of(meta, table),
-        disks: meta.setup.geometry.disks(),
-    };
     let mut line = Text::new();
-    reply(&state, &mut line);
+    reply_state(
+        &status_of(meta, table),
+        meta.setup.geometry.disks(),
+        &mut line,
+    );
     let mut text = Text::new();
     mount_text(&mut text, meta.writes, meta.gear);
     text.push(line.as_slice());

@@ -9,35 +9,37 @@ ghost use Rattle.paraid_serve.specs.Form.{is_answer_to};
 ghost use Rattle.paraid_serve.specs.Lost.{HaltsByTwoLost};
 ghost use Rattle.paraid_session.specs.Faults.{HaveNotFallen};
 ghost use Rattle.paraid_session.specs.Turn.{halt_told};
+ghost use Rattle.paraid_trace.specs.Answered.{answer_of};
 ghost use Rattle.paraid_trace.specs.Replies.{HasFewDisks};
 
 use crate::Array;
 use crate::ended::Ended;
 use crate::refusing::worn;
 use paraid_array::{FailFault, ReplaceFault, replace, take_out};
-use paraid_base::{Answer, DiskNo, Halt};
+use paraid_base::{DiskNo, Halt};
 use paraid_rack::Rack;
+use paraid_trace::Brief;
 
 // What is told of a disk that was taken out, or why it was not.
-fn fail_told(disk: DiskNo, refusal: Option<FailFault>) -> Answer
-    ensures { result ≡ fail_answer disk refusal }
+fn fail_told(disk: DiskNo, refusal: Option<FailFault>) -> Brief
+    ensures { answer_of result ≡ fail_answer disk refusal }
 {
     match refusal {
-        None => Answer::Failed { disk },
-        Some(FailFault::NoDisk { disk }) => Answer::NoDisk { disk: disk as u32 },
-        Some(FailFault::Out { disk }) => Answer::Out { disk },
+        None => Brief::Failed { disk },
+        Some(FailFault::NoDisk { disk }) => Brief::NoDisk { disk: disk as u32 },
+        Some(FailFault::Out { disk }) => Brief::Out { disk },
     }
 }
 
 // What is told of a disk that was replaced, or why it was not.
-fn replace_told(disk: DiskNo, refusal: Option<ReplaceFault>) -> Answer
-    ensures { result ≡ replace_answer disk refusal }
+fn replace_told(disk: DiskNo, refusal: Option<ReplaceFault>) -> Brief
+    ensures { answer_of result ≡ replace_answer disk refusal }
 {
     match refusal {
-        None => Answer::Replaced { disk },
-        Some(ReplaceFault::NoDisk { disk }) => Answer::NoDisk { disk: disk as u32 },
-        Some(ReplaceFault::NotOut { disk }) => Answer::NotOut { disk },
-        Some(ReplaceFault::NoFresh { disk }) => Answer::NoFresh { disk },
+        None => Brief::Replaced { disk },
+        Some(ReplaceFault::NoDisk { disk }) => Brief::NoDisk { disk: disk as u32 },
+        Some(ReplaceFault::NotOut { disk }) => Brief::NotOut { disk },
+        Some(ReplaceFault::NoFresh { disk }) => Brief::NoFresh { disk },
     }
 }
 
@@ -45,20 +47,20 @@ impl<R: Rack> Array<R> {
     ghost use Rattle.paraid_controller.specs.Arrays.{GoesOnByEvent, core_of_array, down_of_array, end_of_array, halt_of_array, setup_of_array, slot_of_array, slots_of_array, told_of_array};
 
     // Takes out a disk of the array.
-    fn fail_there(&mut self, disk: DiskNo) -> Answer
+    fn fail_there(&mut self, disk: DiskNo) -> Brief
         requires going { end_of_array self.old ≡ None }
         requires epoch { (meta_of (core_of_array self.old)).epoch < 2 ^ 62 }
         requires writes { (meta_of (core_of_array self.old)).writes < 2 ^ 62 }
-        ensures turn { GoesOnByEvent R.slot_count R.told self.old self.new (FailEvent disk) result }
+        ensures turn { GoesOnByEvent R.slot_count R.told self.old self.new (FailEvent disk) (answer_of result) }
         ensures told { Extends (told_of_array R.told self.old) (told_of_array R.told self.new) }
         ensures slots { slots_of_array self.new ≡ slots_of_array self.old }
         ensures setup { setup_of_array self.new ≡ setup_of_array self.old }
-        ensures halt { halt_of_array self.new ≡ halt_told result }
+        ensures halt { halt_of_array self.new ≡ halt_told (answer_of result) }
         ensures two { HaltsByTwoLost (down_of_array self.old) (FailEvent disk)
             (slot_of_array R.slot self.old) (slot_of_array R.slot self.new) (halt_of_array self.new) }
         ensures later { HaveNotFallen (slot_of_array R.slot self.old) (slot_of_array R.slot self.new) }
-        ensures kind { is_answer_to (FailEvent disk) result ≡ true }
-        ensures few { HasFewDisks result }
+        ensures kind { is_answer_to (FailEvent disk) (answer_of result) ≡ true }
+        ensures few { HasFewDisks (answer_of result) }
     {
         let gear = self.core.meta().gear;
         match take_out(&mut self.core, disk) {
@@ -66,26 +68,26 @@ impl<R: Rack> Array<R> {
             Err(two) => {
                 let halt = Halt::Two(two);
                 self.ended = Some(Ended { halt, gear });
-                Answer::Halted(halt)
+                Brief::Halted(halt)
             }
         }
     }
 
     // Replaces a disk of the array.
-    fn replace_there(&mut self, disk: DiskNo) -> Answer
+    fn replace_there(&mut self, disk: DiskNo) -> Brief
         requires going { end_of_array self.old ≡ None }
         requires epoch { (meta_of (core_of_array self.old)).epoch < 2 ^ 62 }
         requires writes { (meta_of (core_of_array self.old)).writes < 2 ^ 62 }
-        ensures turn { GoesOnByEvent R.slot_count R.told self.old self.new (ReplaceEvent disk) result }
+        ensures turn { GoesOnByEvent R.slot_count R.told self.old self.new (ReplaceEvent disk) (answer_of result) }
         ensures told { Extends (told_of_array R.told self.old) (told_of_array R.told self.new) }
         ensures slots { slots_of_array self.new ≡ slots_of_array self.old }
         ensures setup { setup_of_array self.new ≡ setup_of_array self.old }
-        ensures halt { halt_of_array self.new ≡ halt_told result }
+        ensures halt { halt_of_array self.new ≡ halt_told (answer_of result) }
         ensures two { HaltsByTwoLost (down_of_array self.old) (ReplaceEvent disk)
             (slot_of_array R.slot self.old) (slot_of_array R.slot self.new) (halt_of_array self.new) }
         ensures later { HaveNotFallen (slot_of_array R.slot self.old) (slot_of_array R.slot self.new) }
-        ensures kind { is_answer_to (ReplaceEvent disk) result ≡ true }
-        ensures few { HasFewDisks result }
+        ensures kind { is_answer_to (ReplaceEvent disk) (answer_of result) ≡ true }
+        ensures few { HasFewDisks (answer_of result) }
     {
         let gear = self.core.meta().gear;
         match replace(&mut self.core, disk) {
@@ -93,53 +95,53 @@ impl<R: Rack> Array<R> {
             Err(two) => {
                 let halt = Halt::Two(two);
                 self.ended = Some(Ended { halt, gear });
-                Answer::Halted(halt)
+                Brief::Halted(halt)
             }
         }
     }
 
     /// Answers that a disk is to be taken out.
-    pub fn fail(&mut self, disk: u32) -> Answer
+    pub fn fail(&mut self, disk: u32) -> Brief
         requires going { halt_of_array self.old ≡ None }
-        ensures turn { GoesOnByEvent R.slot_count R.told self.old self.new (FailEvent disk) result }
+        ensures turn { GoesOnByEvent R.slot_count R.told self.old self.new (FailEvent disk) (answer_of result) }
         ensures told { Extends (told_of_array R.told self.old) (told_of_array R.told self.new) }
         ensures slots { slots_of_array self.new ≡ slots_of_array self.old }
         ensures setup { setup_of_array self.new ≡ setup_of_array self.old }
-        ensures halt { halt_of_array self.new ≡ halt_told result }
+        ensures halt { halt_of_array self.new ≡ halt_told (answer_of result) }
         ensures two { HaltsByTwoLost (down_of_array self.old) (FailEvent disk)
             (slot_of_array R.slot self.old) (slot_of_array R.slot self.new) (halt_of_array self.new) }
         ensures later { HaveNotFallen (slot_of_array R.slot self.old) (slot_of_array R.slot self.new) }
-        ensures kind { is_answer_to (FailEvent disk) result ≡ true }
-        ensures few { HasFewDisks result }
+        ensures kind { is_answer_to (FailEvent disk) (answer_of result) ≡ true }
+        ensures few { HasFewDisks (answer_of result) }
     {
         if let Some(count) = worn(self.core.meta()) {
-            return Answer::Halted(self.wear_out(count));
+            return Brief::Halted(self.wear_out(count));
         }
         if disk >= self.disks() as u32 {
-            return Answer::NoDisk { disk };
+            return Brief::NoDisk { disk };
         }
         self.fail_there(disk as u8)
     }
 
     /// Answers that a disk is to be replaced.
-    pub fn replace(&mut self, disk: u32) -> Answer
+    pub fn replace(&mut self, disk: u32) -> Brief
         requires going { halt_of_array self.old ≡ None }
-        ensures turn { GoesOnByEvent R.slot_count R.told self.old self.new (ReplaceEvent disk) result }
+        ensures turn { GoesOnByEvent R.slot_count R.told self.old self.new (ReplaceEvent disk) (answer_of result) }
         ensures told { Extends (told_of_array R.told self.old) (told_of_array R.told self.new) }
         ensures slots { slots_of_array self.new ≡ slots_of_array self.old }
         ensures setup { setup_of_array self.new ≡ setup_of_array self.old }
-        ensures halt { halt_of_array self.new ≡ halt_told result }
+        ensures halt { halt_of_array self.new ≡ halt_told (answer_of result) }
         ensures two { HaltsByTwoLost (down_of_array self.old) (ReplaceEvent disk)
             (slot_of_array R.slot self.old) (slot_of_array R.slot self.new) (halt_of_array self.new) }
         ensures later { HaveNotFallen (slot_of_array R.slot self.old) (slot_of_array R.slot self.new) }
-        ensures kind { is_answer_to (ReplaceEvent disk) result ≡ true }
-        ensures few { HasFewDisks result }
+        ensures kind { is_answer_to (ReplaceEvent disk) (answer_of result) ≡ true }
+        ensures few { HasFewDisks (answer_of result) }
     {
         if let Some(count) = worn(self.core.meta()) {
-            return Answer::Halted(self.wear_out(count));
+            return Brief::Halted(self.wear_out(count));
         }
         if disk >= self.disks() as u32 {
-            return Answer::NoDisk { disk };
+            return Brief::NoDisk { disk };
         }
         self.replace_there(disk as u8)
     }

@@ -11,14 +11,16 @@ ghost use Rattle.paraid_serve.specs.Form.{is_answer_to};
 ghost use Rattle.paraid_serve.specs.Lost.{HaltsByTwoLost};
 ghost use Rattle.paraid_session.specs.Faults.{HaveNotFallen};
 ghost use Rattle.paraid_session.specs.Turn.{Point, halt_told, may_halt};
+ghost use Rattle.paraid_trace.specs.Answered.{answer_of, answer_with};
 ghost use Rattle.paraid_trace.specs.Replies.{HasFewDisks};
 ghost use Rattle.paraid_core.specs.Cores.{meta_of};
 
 use crate::Array;
 use crate::ended::Ended;
-use paraid_base::{Answer, Halt, Status};
+use paraid_base::{Halt, Status};
 use paraid_rack::Rack;
 use paraid_record::Meta;
+use paraid_trace::{Answered, Beside, Brief};
 
 /// An array that has made so many commits or writes takes no more.
 const WORN: u64 = 1 << 62;
@@ -98,28 +100,28 @@ impl<R: Rack> Array<R> {
     }
 
     /// Tells the state.
-    pub(crate) fn tell_state(&self) -> Answer
+    pub(crate) fn tell_state(&self, beside: &mut Beside) -> Answered
         requires going { halt_of_array self.now ≡ None }
-        ensures turn { GoesOnByEvent R.slot_count R.told self.now self.now AskState result }
-        ensures halt { halt_told result ≡ None }
-        ensures kind { is_answer_to AskState result ≡ true }
-        ensures few { HasFewDisks result }
+        ensures turn { GoesOnByEvent R.slot_count R.told self.now self.now AskState (answer_with result beside.new) }
+        ensures halt { halt_told (answer_with result beside.new) ≡ None }
+        ensures kind { is_answer_to AskState (answer_with result beside.new) ≡ true }
+        ensures few { HasFewDisks (answer_with result beside.new) }
     {
-        Answer::State {
-            status: self.status(),
+        beside.status = self.status();
+        Answered::State {
             disks: self.disks(),
         }
     }
 
     /// Tells the energy since the mount.
-    pub(crate) fn tell_energy(&self) -> Answer
+    pub(crate) fn tell_energy(&self) -> Brief
         requires going { halt_of_array self.now ≡ None }
-        ensures turn { GoesOnByEvent R.slot_count R.told self.now self.now AskEnergy result }
-        ensures halt { halt_told result ≡ None }
-        ensures kind { is_answer_to AskEnergy result ≡ true }
-        ensures few { HasFewDisks result }
+        ensures turn { GoesOnByEvent R.slot_count R.told self.now self.now AskEnergy (answer_of result) }
+        ensures halt { halt_told (answer_of result) ≡ None }
+        ensures kind { is_answer_to AskEnergy (answer_of result) ≡ true }
+        ensures few { HasFewDisks (answer_of result) }
     {
-        Answer::Energy { total: self.energy }
+        Brief::Energy { total: self.energy }
     }
 
     // Ends the service of an array that takes no more.

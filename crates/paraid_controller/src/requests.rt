@@ -11,13 +11,15 @@ ghost use Rattle.paraid_serve.specs.Form.{is_answer_to};
 ghost use Rattle.paraid_serve.specs.Lost.{HaltsByTwoLost};
 ghost use Rattle.paraid_session.specs.Faults.{HaveNotFallen};
 ghost use Rattle.paraid_session.specs.Turn.{halt_told};
+ghost use Rattle.paraid_trace.specs.Answered.{answer_of, answer_with};
 ghost use Rattle.paraid_trace.specs.Replies.{HasFewDisks};
 
 use crate::Array;
 use crate::ended::Ended;
 use crate::refusing::worn;
-use paraid_base::{Answer, Block, BlockNo, Halt, Pairs};
+use paraid_base::{BlockNo, Halt, Pairs};
 use paraid_rack::Rack;
+use paraid_trace::{Answered, Beside, Brief};
 
 /// The greatest sample. More requests are not counted.
 const MOST: u32 = 1048576;
@@ -33,111 +35,110 @@ impl<R: Rack> Array<R> {
     ghost use Rattle.paraid_controller.specs.Arrays.{GoesOnByEvent, core_of_array, down_of_array, end_of_array, halt_of_array, setup_of_array, slot_of_array, slots_of_array, told_of_array};
 
     // Reads a block that there is.
-    fn read_there(&mut self, block: BlockNo) -> Answer
+    fn read_there(&mut self, block: BlockNo, beside: &mut Beside) -> Answered
         requires going { end_of_array self.old ≡ None }
         requires epoch { (meta_of (core_of_array self.old)).epoch < 2 ^ 62 }
         requires writes { (meta_of (core_of_array self.old)).writes < 2 ^ 62 }
         requires block { block < block_count (setup_of_array self.old) }
-        ensures turn { GoesOnByEvent R.slot_count R.told self.old self.new (ReadEvent block) result }
+        ensures turn { GoesOnByEvent R.slot_count R.told self.old self.new (ReadEvent block) (answer_with result beside.new) }
         ensures told { Extends (told_of_array R.told self.old) (told_of_array R.told self.new) }
         ensures slots { slots_of_array self.new ≡ slots_of_array self.old }
         ensures setup { setup_of_array self.new ≡ setup_of_array self.old }
-        ensures halt { halt_of_array self.new ≡ halt_told result }
+        ensures halt { halt_of_array self.new ≡ halt_told (answer_with result beside.new) }
         ensures two { HaltsByTwoLost (down_of_array self.old) (ReadEvent block)
             (slot_of_array R.slot self.old) (slot_of_array R.slot self.new) (halt_of_array self.new) }
         ensures later { HaveNotFallen (slot_of_array R.slot self.old) (slot_of_array R.slot self.new) }
-        ensures kind { is_answer_to (ReadEvent block) result ≡ true }
-        ensures few { HasFewDisks result }
+        ensures kind { is_answer_to (ReadEvent block) (answer_with result beside.new) ≡ true }
+        ensures few { HasFewDisks (answer_with result beside.new) }
     {
         let gear = self.core.meta().gear;
-        let mut bytes = Block::zero();
-        match self.core.read(block, &mut bytes) {
+        match self.core.read(block, &mut beside.bytes) {
             Ok(()) => {
                 self.served = one_more(self.served);
-                Answer::Value { block, bytes }
+                Answered::Value { block }
             }
             Err(two) => {
                 let halt = Halt::Two(two);
                 self.ended = Some(Ended { halt, gear });
-                Answer::Halted(halt)
+                Answered::Brief(Brief::Halted(halt))
             }
         }
     }
 
     // Writes blocks that there are.
-    fn write_there(&mut self, pairs: &Pairs) -> Answer
+    fn write_there(&mut self, pairs: &Pairs) -> Brief
         requires going { end_of_array self.old ≡ None }
         requires epoch { (meta_of (core_of_array self.old)).epoch < 2 ^ 62 }
         requires writes { (meta_of (core_of_array self.old)).writes < 2 ^ 62 }
         requires blocks { All (λ (pair : ℕ × BlockType). pair.0 < block_count (setup_of_array self.old)) (pairs_of pairs.now) }
-        ensures turn { GoesOnByEvent R.slot_count R.told self.old self.new (WriteEvent pairs.now) result }
+        ensures turn { GoesOnByEvent R.slot_count R.told self.old self.new (WriteEvent pairs.now) (answer_of result) }
         ensures told { Extends (told_of_array R.told self.old) (told_of_array R.told self.new) }
         ensures slots { slots_of_array self.new ≡ slots_of_array self.old }
         ensures setup { setup_of_array self.new ≡ setup_of_array self.old }
-        ensures halt { halt_of_array self.new ≡ halt_told result }
+        ensures halt { halt_of_array self.new ≡ halt_told (answer_of result) }
         ensures two { HaltsByTwoLost (down_of_array self.old) (WriteEvent pairs.now)
             (slot_of_array R.slot self.old) (slot_of_array R.slot self.new) (halt_of_array self.new) }
         ensures later { HaveNotFallen (slot_of_array R.slot self.old) (slot_of_array R.slot self.new) }
-        ensures kind { is_answer_to (WriteEvent pairs.now) result ≡ true }
-        ensures few { HasFewDisks result }
+        ensures kind { is_answer_to (WriteEvent pairs.now) (answer_of result) ≡ true }
+        ensures few { HasFewDisks (answer_of result) }
     {
         let gear = self.core.meta().gear;
         let writes = self.core.meta().writes;
         match self.core.write_many(pairs) {
             Ok(()) => {
                 self.served = one_more(self.served);
-                Answer::Wrote { number: writes + 1 }
+                Brief::Wrote { number: writes + 1 }
             }
             Err(two) => {
                 let halt = Halt::Two(two);
                 self.ended = Some(Ended { halt, gear });
-                Answer::Halted(halt)
+                Brief::Halted(halt)
             }
         }
     }
 
-    /// Answers a read.
-    pub fn read(&mut self, block: BlockNo) -> Answer
+    /// Answers a read, whose bytes stand beside the answer.
+    pub fn read(&mut self, block: BlockNo, beside: &mut Beside) -> Answered
         requires going { halt_of_array self.old ≡ None }
-        ensures turn { GoesOnByEvent R.slot_count R.told self.old self.new (ReadEvent block) result }
+        ensures turn { GoesOnByEvent R.slot_count R.told self.old self.new (ReadEvent block) (answer_with result beside.new) }
         ensures told { Extends (told_of_array R.told self.old) (told_of_array R.told self.new) }
         ensures slots { slots_of_array self.new ≡ slots_of_array self.old }
         ensures setup { setup_of_array self.new ≡ setup_of_array self.old }
-        ensures halt { halt_of_array self.new ≡ halt_told result }
+        ensures halt { halt_of_array self.new ≡ halt_told (answer_with result beside.new) }
         ensures two { HaltsByTwoLost (down_of_array self.old) (ReadEvent block)
             (slot_of_array R.slot self.old) (slot_of_array R.slot self.new) (halt_of_array self.new) }
         ensures later { HaveNotFallen (slot_of_array R.slot self.old) (slot_of_array R.slot self.new) }
-        ensures kind { is_answer_to (ReadEvent block) result ≡ true }
-        ensures few { HasFewDisks result }
+        ensures kind { is_answer_to (ReadEvent block) (answer_with result beside.new) ≡ true }
+        ensures few { HasFewDisks (answer_with result beside.new) }
     {
         if let Some(count) = worn(self.core.meta()) {
-            return Answer::Halted(self.wear_out(count));
+            return Answered::Brief(Brief::Halted(self.wear_out(count)));
         }
         if block >= self.blocks() {
-            return Answer::NoBlock { block };
+            return Answered::Brief(Brief::NoBlock { block });
         }
-        self.read_there(block)
+        self.read_there(block, beside)
     }
 
     /// Answers a write.
-    pub fn write(&mut self, pairs: &Pairs) -> Answer
+    pub fn write(&mut self, pairs: &Pairs) -> Brief
         requires going { halt_of_array self.old ≡ None }
-        ensures turn { GoesOnByEvent R.slot_count R.told self.old self.new (WriteEvent pairs.now) result }
+        ensures turn { GoesOnByEvent R.slot_count R.told self.old self.new (WriteEvent pairs.now) (answer_of result) }
         ensures told { Extends (told_of_array R.told self.old) (told_of_array R.told self.new) }
         ensures slots { slots_of_array self.new ≡ slots_of_array self.old }
         ensures setup { setup_of_array self.new ≡ setup_of_array self.old }
-        ensures halt { halt_of_array self.new ≡ halt_told result }
+        ensures halt { halt_of_array self.new ≡ halt_told (answer_of result) }
         ensures two { HaltsByTwoLost (down_of_array self.old) (WriteEvent pairs.now)
             (slot_of_array R.slot self.old) (slot_of_array R.slot self.new) (halt_of_array self.new) }
         ensures later { HaveNotFallen (slot_of_array R.slot self.old) (slot_of_array R.slot self.new) }
-        ensures kind { is_answer_to (WriteEvent pairs.now) result ≡ true }
-        ensures few { HasFewDisks result }
+        ensures kind { is_answer_to (WriteEvent pairs.now) (answer_of result) ≡ true }
+        ensures few { HasFewDisks (answer_of result) }
     {
         if let Some(count) = worn(self.core.meta()) {
-            return Answer::Halted(self.wear_out(count));
+            return Brief::Halted(self.wear_out(count));
         }
         if let Some(block) = pairs.missing(self.blocks()) {
-            return Answer::NoBlock { block };
+            return Brief::NoBlock { block };
         }
         self.write_there(pairs)
     }

@@ -6,35 +6,36 @@ ghost use Rattle.paraid_serve.specs.Form.{is_answer_to};
 ghost use Rattle.paraid_serve.specs.Lost.{HaltsByTwoLost};
 ghost use Rattle.paraid_session.specs.Faults.{HaveNotFallen};
 ghost use Rattle.paraid_session.specs.Turn.{halt_told};
+ghost use Rattle.paraid_trace.specs.Answered.{answer_of, answer_with};
 ghost use Rattle.paraid_trace.specs.Asked.{event_with};
 ghost use Rattle.paraid_trace.specs.Replies.{HasFewDisks};
 
 use crate::Array;
-use paraid_base::{Answer, Halt, Pairs, Status};
+use paraid_base::{Halt, Pairs, Status};
 use paraid_rack::Rack;
 use paraid_serve::Serves;
-use paraid_trace::Asked;
+use paraid_trace::{Answered, Asked, Beside, Brief};
 
 impl<R: Rack> Array<R> {
     ghost use Rattle.paraid_controller.specs.Arrays.{GoesOnByEvent, down_of_array, halt_of_array, setup_of_array, slot_of_array, slots_of_array, told_of_array};
 
     // The answer to a flush.
-    fn flush_told(&mut self) -> Answer
+    fn flush_told(&mut self) -> Brief
         requires going { halt_of_array self.old ≡ None }
-        ensures turn { GoesOnByEvent R.slot_count R.told self.old self.new FlushEvent result }
+        ensures turn { GoesOnByEvent R.slot_count R.told self.old self.new FlushEvent (answer_of result) }
         ensures told { Extends (told_of_array R.told self.old) (told_of_array R.told self.new) }
         ensures slots { slots_of_array self.new ≡ slots_of_array self.old }
         ensures setup { setup_of_array self.new ≡ setup_of_array self.old }
-        ensures halt { halt_of_array self.new ≡ halt_told result }
+        ensures halt { halt_of_array self.new ≡ halt_told (answer_of result) }
         ensures two { HaltsByTwoLost (down_of_array self.old) FlushEvent
             (slot_of_array R.slot self.old) (slot_of_array R.slot self.new) (halt_of_array self.new) }
         ensures later { HaveNotFallen (slot_of_array R.slot self.old) (slot_of_array R.slot self.new) }
-        ensures kind { is_answer_to FlushEvent result ≡ true }
-        ensures few { HasFewDisks result }
+        ensures kind { is_answer_to FlushEvent (answer_of result) ≡ true }
+        ensures few { HasFewDisks (answer_of result) }
     {
         match self.flush() {
-            Ok(writes) => Answer::Flushed { writes },
-            Err(halt) => Answer::Halted(halt),
+            Ok(writes) => Brief::Flushed { writes },
+            Err(halt) => Brief::Halted(halt),
         }
     }
 
@@ -54,33 +55,33 @@ impl<R: Rack> Array<R> {
         }
     }
 
-    /// Answers what is asked for, with the pairs of a write.
-    pub fn answer(&mut self, asked: Asked, pairs: &Pairs) -> Answer
+    /// Answers what is asked for, with the pairs of a write. What stands beside the answer becomes `beside`.
+    pub fn answer(&mut self, asked: Asked, pairs: &Pairs, beside: &mut Beside) -> Answered
         requires going { halt_of_array self.old ≡ None }
         requires event { event_with asked pairs.now ≢ BadEvent }
-        ensures turn { GoesOnByEvent R.slot_count R.told self.old self.new (event_with asked pairs.now) result }
+        ensures turn { GoesOnByEvent R.slot_count R.told self.old self.new (event_with asked pairs.now) (answer_with result beside.new) }
         ensures told { Extends (told_of_array R.told self.old) (told_of_array R.told self.new) }
         ensures slots { slots_of_array self.new ≡ slots_of_array self.old }
         ensures setup { setup_of_array self.new ≡ setup_of_array self.old }
-        ensures halt { halt_of_array self.new ≡ halt_told result }
+        ensures halt { halt_of_array self.new ≡ halt_told (answer_with result beside.new) }
         ensures two { HaltsByTwoLost (down_of_array self.old) (event_with asked pairs.now)
             (slot_of_array R.slot self.old) (slot_of_array R.slot self.new) (halt_of_array self.new) }
         ensures later { HaveNotFallen (slot_of_array R.slot self.old) (slot_of_array R.slot self.new) }
-        ensures kind { is_answer_to (event_with asked pairs.now) result ≡ true }
-        ensures few { HasFewDisks result }
+        ensures kind { is_answer_to (event_with asked pairs.now) (answer_with result beside.new) ≡ true }
+        ensures few { HasFewDisks (answer_with result beside.new) }
     {
         match asked {
-            Asked::Read { block } => self.read(block),
-            Asked::Write => self.write(pairs),
-            Asked::Flush => self.flush_told(),
-            Asked::Tick => self.tick(),
-            Asked::Up => self.up(),
-            Asked::Down => self.down(),
-            Asked::Fail { disk } => self.fail(disk),
-            Asked::Replace { disk } => self.replace(disk),
-            Asked::State => self.tell_state(),
-            Asked::Energy => self.tell_energy(),
-            Asked::Bad => Answer::Bad,
+            Asked::Read { block } => self.read(block, beside),
+            Asked::Write => Answered::Brief(self.write(pairs)),
+            Asked::Flush => Answered::Brief(self.flush_told()),
+            Asked::Tick => Answered::Brief(self.tick()),
+            Asked::Up => Answered::Brief(self.up()),
+            Asked::Down => Answered::Brief(self.down()),
+            Asked::Fail { disk } => Answered::Brief(self.fail(disk)),
+            Asked::Replace { disk } => Answered::Brief(self.replace(disk)),
+            Asked::State => self.tell_state(beside),
+            Asked::Energy => Answered::Brief(self.tell_energy()),
+            Asked::Bad => Answered::Brief(Brief::Bad),
         }
     }
 }
@@ -112,8 +113,8 @@ impl<R: Rack> Serves for Array<R> {
 
     ghost agrees = { λ array p at. halt_at R.slot_count R.told array p at };
 
-    fn serve(&mut self, asked: Asked, pairs: &Pairs) -> Answer {
-        self.answer(asked, pairs)
+    fn serve(&mut self, asked: Asked, pairs: &Pairs, beside: &mut Beside) -> Answered {
+        self.answer(asked, pairs, beside)
     }
 
     fn flush(&mut self) -> Result<u64, Halt> {

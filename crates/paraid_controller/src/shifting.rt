@@ -9,6 +9,7 @@ ghost use Rattle.paraid_serve.specs.Form.{is_answer_to};
 ghost use Rattle.paraid_serve.specs.Lost.{HaltsByTwoLost};
 ghost use Rattle.paraid_session.specs.Faults.{HaveNotFallen};
 ghost use Rattle.paraid_session.specs.Turn.{halt_told};
+ghost use Rattle.paraid_trace.specs.Answered.{answer_of};
 ghost use Rattle.paraid_trace.specs.Replies.{HasFewDisks};
 
 use crate::Array;
@@ -16,21 +17,22 @@ use crate::ended::Ended;
 use crate::energy::spin_up_energy;
 use crate::refusing::worn;
 use paraid_array::{Asked, ShiftFault, down, up};
-use paraid_base::{Answer, Halt};
+use paraid_base::Halt;
 use paraid_rack::Rack;
 use paraid_record::Setup;
+use paraid_trace::Brief;
 
 // What is told of a shift that was asked for.
-fn asked_told(gear: u8, asked: Asked) -> Answer
-    ensures { result ≡ asked_answer gear asked }
+fn asked_told(gear: u8, asked: Asked) -> Brief
+    ensures { answer_of result ≡ asked_answer gear asked }
 {
     match asked {
-        Asked::Begun { to } => Answer::Shift { gear, to },
-        Asked::Refused(ShiftFault::Top) => Answer::Top,
-        Asked::Refused(ShiftFault::Lowest) => Answer::Lowest,
-        Asked::Refused(ShiftFault::Shifting { to }) => Answer::Shifting { to },
-        Asked::Refused(ShiftFault::Out { disk }) => Answer::Out { disk },
-        Asked::Refused(ShiftFault::Ration { disk }) => Answer::Ration { disk },
+        Asked::Begun { to } => Brief::Shift { gear, to },
+        Asked::Refused(ShiftFault::Top) => Brief::Top,
+        Asked::Refused(ShiftFault::Lowest) => Brief::Lowest,
+        Asked::Refused(ShiftFault::Shifting { to }) => Brief::Shifting { to },
+        Asked::Refused(ShiftFault::Out { disk }) => Brief::Out { disk },
+        Asked::Refused(ShiftFault::Ration { disk }) => Brief::Ration { disk },
     }
 }
 
@@ -48,20 +50,20 @@ impl<R: Rack> Array<R> {
     ghost use Rattle.paraid_controller.specs.Arrays.{GoesOnByEvent, core_of_array, down_of_array, end_of_array, halt_of_array, setup_of_array, slot_of_array, slots_of_array, told_of_array};
 
     // Asks for a shift up.
-    fn up_there(&mut self) -> Answer
+    fn up_there(&mut self) -> Brief
         requires going { end_of_array self.old ≡ None }
         requires epoch { (meta_of (core_of_array self.old)).epoch < 2 ^ 62 }
         requires writes { (meta_of (core_of_array self.old)).writes < 2 ^ 62 }
-        ensures turn { GoesOnByEvent R.slot_count R.told self.old self.new UpEvent result }
+        ensures turn { GoesOnByEvent R.slot_count R.told self.old self.new UpEvent (answer_of result) }
         ensures told { Extends (told_of_array R.told self.old) (told_of_array R.told self.new) }
         ensures slots { slots_of_array self.new ≡ slots_of_array self.old }
         ensures setup { setup_of_array self.new ≡ setup_of_array self.old }
-        ensures halt { halt_of_array self.new ≡ halt_told result }
+        ensures halt { halt_of_array self.new ≡ halt_told (answer_of result) }
         ensures two { HaltsByTwoLost (down_of_array self.old) UpEvent
             (slot_of_array R.slot self.old) (slot_of_array R.slot self.new) (halt_of_array self.new) }
         ensures later { HaveNotFallen (slot_of_array R.slot self.old) (slot_of_array R.slot self.new) }
-        ensures kind { is_answer_to UpEvent result ≡ true }
-        ensures few { HasFewDisks result }
+        ensures kind { is_answer_to UpEvent (answer_of result) ≡ true }
+        ensures few { HasFewDisks (answer_of result) }
     {
         let gear = self.core.meta().gear;
         match up(&mut self.core) {
@@ -73,26 +75,26 @@ impl<R: Rack> Array<R> {
             Err(two) => {
                 let halt = Halt::Two(two);
                 self.ended = Some(Ended { halt, gear });
-                Answer::Halted(halt)
+                Brief::Halted(halt)
             }
         }
     }
 
     // Asks for a shift down.
-    fn down_there(&mut self) -> Answer
+    fn down_there(&mut self) -> Brief
         requires going { end_of_array self.old ≡ None }
         requires epoch { (meta_of (core_of_array self.old)).epoch < 2 ^ 62 }
         requires writes { (meta_of (core_of_array self.old)).writes < 2 ^ 62 }
-        ensures turn { GoesOnByEvent R.slot_count R.told self.old self.new DownEvent result }
+        ensures turn { GoesOnByEvent R.slot_count R.told self.old self.new DownEvent (answer_of result) }
         ensures told { Extends (told_of_array R.told self.old) (told_of_array R.told self.new) }
         ensures slots { slots_of_array self.new ≡ slots_of_array self.old }
         ensures setup { setup_of_array self.new ≡ setup_of_array self.old }
-        ensures halt { halt_of_array self.new ≡ halt_told result }
+        ensures halt { halt_of_array self.new ≡ halt_told (answer_of result) }
         ensures two { HaltsByTwoLost (down_of_array self.old) DownEvent
             (slot_of_array R.slot self.old) (slot_of_array R.slot self.new) (halt_of_array self.new) }
         ensures later { HaveNotFallen (slot_of_array R.slot self.old) (slot_of_array R.slot self.new) }
-        ensures kind { is_answer_to DownEvent result ≡ true }
-        ensures few { HasFewDisks result }
+        ensures kind { is_answer_to DownEvent (answer_of result) ≡ true }
+        ensures few { HasFewDisks (answer_of result) }
     {
         let gear = self.core.meta().gear;
         match down(&mut self.core) {
@@ -104,47 +106,47 @@ impl<R: Rack> Array<R> {
             Err(two) => {
                 let halt = Halt::Two(two);
                 self.ended = Some(Ended { halt, gear });
-                Answer::Halted(halt)
+                Brief::Halted(halt)
             }
         }
     }
 
     /// Answers that a shift up is asked for.
-    pub fn up(&mut self) -> Answer
+    pub fn up(&mut self) -> Brief
         requires going { halt_of_array self.old ≡ None }
-        ensures turn { GoesOnByEvent R.slot_count R.told self.old self.new UpEvent result }
+        ensures turn { GoesOnByEvent R.slot_count R.told self.old self.new UpEvent (answer_of result) }
         ensures told { Extends (told_of_array R.told self.old) (told_of_array R.told self.new) }
         ensures slots { slots_of_array self.new ≡ slots_of_array self.old }
         ensures setup { setup_of_array self.new ≡ setup_of_array self.old }
-        ensures halt { halt_of_array self.new ≡ halt_told result }
+        ensures halt { halt_of_array self.new ≡ halt_told (answer_of result) }
         ensures two { HaltsByTwoLost (down_of_array self.old) UpEvent
             (slot_of_array R.slot self.old) (slot_of_array R.slot self.new) (halt_of_array self.new) }
         ensures later { HaveNotFallen (slot_of_array R.slot self.old) (slot_of_array R.slot self.new) }
-        ensures kind { is_answer_to UpEvent result ≡ true }
-        ensures few { HasFewDisks result }
+        ensures kind { is_answer_to UpEvent (answer_of result) ≡ true }
+        ensures few { HasFewDisks (answer_of result) }
     {
         if let Some(count) = worn(self.core.meta()) {
-            return Answer::Halted(self.wear_out(count));
+            return Brief::Halted(self.wear_out(count));
         }
         self.up_there()
     }
 
     /// Answers that a shift down is asked for.
-    pub fn down(&mut self) -> Answer
+    pub fn down(&mut self) -> Brief
         requires going { halt_of_array self.old ≡ None }
-        ensures turn { GoesOnByEvent R.slot_count R.told self.old self.new DownEvent result }
+        ensures turn { GoesOnByEvent R.slot_count R.told self.old self.new DownEvent (answer_of result) }
         ensures told { Extends (told_of_array R.told self.old) (told_of_array R.told self.new) }
         ensures slots { slots_of_array self.new ≡ slots_of_array self.old }
         ensures setup { setup_of_array self.new ≡ setup_of_array self.old }
-        ensures halt { halt_of_array self.new ≡ halt_told result }
+        ensures halt { halt_of_array self.new ≡ halt_told (answer_of result) }
         ensures two { HaltsByTwoLost (down_of_array self.old) DownEvent
             (slot_of_array R.slot self.old) (slot_of_array R.slot self.new) (halt_of_array self.new) }
         ensures later { HaveNotFallen (slot_of_array R.slot self.old) (slot_of_array R.slot self.new) }
-        ensures kind { is_answer_to DownEvent result ≡ true }
-        ensures few { HasFewDisks result }
+        ensures kind { is_answer_to DownEvent (answer_of result) ≡ true }
+        ensures few { HasFewDisks (answer_of result) }
     {
         if let Some(count) = worn(self.core.meta()) {
-            return Answer::Halted(self.wear_out(count));
+            return Brief::Halted(self.wear_out(count));
         }
         self.down_there()
     }

@@ -4,7 +4,9 @@ ghost use Rattle.paraid_base.specs.declared.event.Event.TheVariants.{Flush as Fl
 ghost use Rattle.paraid_base.specs.declared.pairs.Pairs.{Pairs as PairsType};
 ghost use Rattle.paraid_rack.specs.Slots.{Slot};
 ghost use Rattle.paraid_rack.specs.Told.{Ran};
+ghost use Rattle.paraid_trace.specs.Answered.{answer_of, answer_with};
 ghost use Rattle.paraid_trace.specs.Asked.{event_with};
+ghost use Rattle.paraid_trace.specs.declared.answered.Beside.{Beside as BesideType};
 ghost use Rattle.paraid_trace.specs.Replies.{HasFewDisks};
 ghost use Rattle.paraid_serve.specs.Calls.{Grows};
 ghost use Rattle.paraid_serve.specs.Form.{is_answer_to};
@@ -12,16 +14,27 @@ ghost use Rattle.paraid_serve.specs.Lost.{HasServedSince, HaltsByWear};
 ghost use Rattle.paraid_session.specs.Turn.{GoesOn, Point, halt_told};
 
 use crate::Serves;
-use paraid_base::{Answer, Block, Event, Halt, Pairs};
-use paraid_trace::Asked;
+use paraid_base::{Answer, Event, Halt, Pairs};
+use paraid_trace::{Answered, Asked, Beside, Brief};
+
+// The halt that a brief answer tells.
+fn halt_in_brief(brief: &Brief) -> Option<Halt>
+    ensures { result ≡ halt_told (answer_of brief.now) }
+{
+    match brief {
+        Brief::Halted(halt) => Some(*halt),
+        _ => None,
+    }
+}
 
 // The halt that an answer tells.
-fn halt_in(answer: &Answer) -> Option<Halt>
-    ensures { result ≡ halt_told answer.now }
+fn halt_in(answered: &Answered) -> Option<Halt>
+    ensures { (beside : BesideType) → result ≡ halt_told (answer_with answered.now beside) }
 {
-    match answer {
-        Answer::Halted(halt) => Some(*halt),
-        _ => None,
+    match answered {
+        Answered::Value { .. } => None,
+        Answered::State { .. } => None,
+        Answered::Brief(brief) => halt_in_brief(brief),
     }
 }
 
@@ -45,36 +58,38 @@ fn asked_by(event: &Event) -> Asked
     }
 }
 
-/// The answer to what a line asks for, with the pairs of a write. `halt` is the array's. After a
-/// halt only a line that is no event is answered otherwise than by the halt, and no call is made.
+/// The answer to what a line asks for, with the pairs of a write. `beside` becomes what stands
+/// beside the answer. `halt` is the array's. After a halt only a line that is no event is answered
+/// otherwise than by the halt, and no call is made.
 pub fn answer<A: Serves>(
     array: &mut A,
     halt: &mut Option<Halt>,
     asked: Asked,
     pairs: &Pairs,
-) -> Answer
+    beside: &mut Beside,
+) -> Answered
     requires halt { halt.old ≡ A.halted array.old }
     ensures turn { (p : Point) → A.stands array.old p → Ran (A.told array.old) (A.told array.new)
-        (GoesOn (A.slots array.old) (A.setup array.old) p (event_with asked pairs.now) result
-        (A.stands array.new)) }
+        (GoesOn (A.slots array.old) (A.setup array.old) p (event_with asked pairs.now)
+        (answer_with result beside.new) (A.stands array.new)) }
     ensures told { Grows (A.told array.old) (A.told array.new) }
     ensures slots { A.slots array.new ≡ A.slots array.old }
     ensures setup { A.setup array.new ≡ A.setup array.old }
     ensures halt { halt.new ≡ A.halted array.new }
     ensures since { (start : ℕ → Slot) → HasServedSince start (A.slot array.old) (A.halted array.old)
         → HasServedSince start (A.slot array.new) (A.halted array.new) }
-    ensures kind { is_answer_to (event_with asked pairs.now) result ≡ true }
-    ensures few { HasFewDisks result }
+    ensures kind { is_answer_to (event_with asked pairs.now) (answer_with result beside.new) ≡ true }
+    ensures few { HasFewDisks (answer_with result beside.new) }
 {
     if let Asked::Bad = asked {
-        return Answer::Bad;
+        return Answered::Brief(Brief::Bad);
     }
     if let Some(halt) = *halt {
-        return Answer::Halted(halt);
+        return Answered::Brief(Brief::Halted(halt));
     }
-    let answer = array.serve(asked, pairs);
-    *halt = halt_in(&answer);
-    answer
+    let answered = array.serve(asked, pairs, beside);
+    *halt = halt_in(&answered);
+    answered
 }
 
 /// The answer to an event as one value.
@@ -91,11 +106,14 @@ pub fn answer_event<A: Serves>(array: &mut A, halt: &mut Option<Halt>, event: &E
     ensures kind { is_answer_to event.now result ≡ true }
     ensures few { HasFewDisks result }
 {
+    let mut beside = Beside::new();
     if let Event::Write { pairs } = event {
-        return answer(array, halt, Asked::Write, pairs);
+        let written = answer(array, halt, Asked::Write, pairs, &mut beside);
+        return written.answer(beside);
     }
-    let none = Pairs::one(0, &Block::zero());
-    answer(array, halt, asked_by(event), &none)
+    let none = Pairs::one(0, &beside.bytes);
+    let answered = answer(array, halt, asked_by(event), &none, &mut beside);
+    answered.answer(beside)
 }
 
 /// Keeps all writes that were accepted, or gives the array's halt.

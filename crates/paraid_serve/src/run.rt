@@ -7,9 +7,9 @@ use crate::Serves;
 use crate::answer::{answer, finish};
 use crate::hear::hear;
 use crate::stop::Stop;
-use paraid_base::{Block, Pairs};
+use paraid_base::Pairs;
 use paraid_io::{LineFault, LineReader, Sink, Source, write_all};
-use paraid_trace::{Text, reply};
+use paraid_trace::{Beside, Text, reply_with};
 
 /// Answers each line, and flushes at the end. It gives the number of writes.
 pub fn session<S: Source, K: Sink, A: Serves>(
@@ -34,7 +34,8 @@ pub fn session<S: Source, K: Sink, A: Serves>(
 {
     let mut reader = LineReader::new();
     let mut text = Text::new();
-    let mut pairs = Pairs::one(0, &Block::zero());
+    let mut beside = Beside::new();
+    let mut pairs = Pairs::one(0, &beside.bytes);
     let mut halt = None;
     'lines: loop {
         let asked = match hear(&mut reader, source, &mut pairs) {
@@ -43,8 +44,8 @@ pub fn session<S: Source, K: Sink, A: Serves>(
             Err(LineFault::Source) => return Err(Stop::Source),
             Err(LineFault::TooLong { .. }) => return Err(Stop::TooLong),
         };
-        let answered = answer(array, &mut halt, asked, &pairs);
-        reply(&answered, &mut text);
+        let answered = answer(array, &mut halt, asked, &pairs, &mut beside);
+        reply_with(&answered, &beside, &mut text);
         let Ok(()) = write_all(sink, text.as_slice()) else {
             return Err(Stop::Sink);
         };

@@ -8,6 +8,7 @@ ghost use Rattle.paraid_rack.specs.Slots.{Slot};
 ghost use Rattle.paraid_rack.specs.Told.{Ran};
 ghost use Rattle.paraid_rack.specs.Trail.{Trail};
 ghost use Rattle.paraid_record.specs.declared.meta.Setup.{Setup};
+ghost use Rattle.paraid_trace.specs.Answered.{answer_with};
 ghost use Rattle.paraid_trace.specs.Asked.{event_with};
 ghost use Rattle.paraid_trace.specs.Replies.{HasFewDisks};
 ghost use Rattle.paraid_serve.specs.Calls.{Grows, IsAbsentOut, IsNotDouble};
@@ -16,8 +17,8 @@ ghost use Rattle.paraid_serve.specs.Lost.{HaltsByTwoLost, HaltsByWear};
 ghost use Rattle.paraid_session.specs.Faults.{HaveNotFallen};
 ghost use Rattle.paraid_session.specs.Turn.{GoesOn, Point, halt_told};
 
-use paraid_base::{Answer, Halt, Pairs, Status};
-use paraid_trace::Asked;
+use paraid_base::{Halt, Pairs, Status};
+use paraid_trace::{Answered, Asked, Beside};
 
 /// An array that answers events, one after the other.
 pub trait Serves {
@@ -42,22 +43,23 @@ pub trait Serves {
     /// It stands at this point of a session.
     ghost stands: { Self → Point → Type 0 };
 
-    /// Answers what is asked for, with the pairs of a write. After a halt nothing is asked for.
-    fn serve(&mut self, asked: Asked, pairs: &Pairs) -> Answer
+    /// Answers what is asked for, with the pairs of a write, and makes `beside` what stands
+    /// beside the answer. After a halt nothing is asked for.
+    fn serve(&mut self, asked: Asked, pairs: &Pairs, beside: &mut Beside) -> Answered
         requires going { halted self.old ≡ None }
         requires event { event_with asked pairs.now ≢ BadEvent }
         ensures turn { (p : Point) → stands self.old p → Ran (told self.old) (told self.new)
-            (GoesOn (slots self.old) (setup self.old) p (event_with asked pairs.now) result
-            (stands self.new)) }
+            (GoesOn (slots self.old) (setup self.old) p (event_with asked pairs.now)
+            (answer_with result beside.new) (stands self.new)) }
         ensures told { Grows (told self.old) (told self.new) }
         ensures slots { slots self.new ≡ slots self.old }
         ensures setup { setup self.new ≡ setup self.old }
-        ensures halt { halted self.new ≡ halt_told result }
+        ensures halt { halted self.new ≡ halt_told (answer_with result beside.new) }
         ensures two { HaltsByTwoLost (down self.old) (event_with asked pairs.now) (slot self.old) (slot self.new)
             (halted self.new) }
         ensures later { HaveNotFallen (slot self.old) (slot self.new) }
-        ensures kind { is_answer_to (event_with asked pairs.now) result ≡ true }
-        ensures few { HasFewDisks result };
+        ensures kind { is_answer_to (event_with asked pairs.now) (answer_with result beside.new) ≡ true }
+        ensures few { HasFewDisks (answer_with result beside.new) };
 
     /// Keeps all writes that were accepted.
     fn flush(&mut self) -> Result<u64, Halt>

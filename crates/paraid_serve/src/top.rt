@@ -9,9 +9,8 @@ use crate::ending::{end_text, halt_status, last, mount_text};
 use crate::run::session;
 use crate::stop::Stop;
 use crate::{Serves, status};
-use paraid_base::Answer;
 use paraid_io::{Sink, Source, write_all};
-use paraid_trace::{Text, reply};
+use paraid_trace::{Brief, Text, reply};
 
 /// Serves the trace with a mounted array, and gives the status.
 pub fn serve<S: Source, K: Sink, A: Serves>(source: &mut S, sink: &mut K, array: &mut A) -> u8
@@ -43,7 +42,7 @@ pub fn serve<S: Source, K: Sink, A: Serves>(source: &mut S, sink: &mut K, array:
         Err(Stop::TooLong) => last(sink, b"toolong\n", status::TOO_LONG),
         Err(Stop::Sink) => status::SINK,
         Err(Stop::Halt(halt)) => {
-            reply(&Answer::Halted(halt), &mut text);
+            reply(&Brief::Halted(halt), &mut text);
             last(sink, text.as_slice(), halt_status(halt))
         }
     }

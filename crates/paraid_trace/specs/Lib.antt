@@ -1,6 +1,7 @@
 pub mod Repeats
 pub mod Grammar
 pub mod LineEvents
+pub mod Answered
 pub mod Asked
 pub mod BlockTexts
 pub mod StateTexts

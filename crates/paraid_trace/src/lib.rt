@@ -5,6 +5,7 @@
 //! exactly for its lines. `reply` writes a line from a table of answers. Nothing here takes memory.
 #![tactic(auto)]
 
+mod answered;
 mod asked;
 mod generator;
 mod hexes;
@@ -13,8 +14,9 @@ mod periods;
 mod replies;
 mod text;
 
+pub use answered::{Answered, Beside, Brief};
 pub use asked::Asked;
 pub use generator::generate;
 pub use line::{number, parse_line, read_line};
-pub use replies::reply;
+pub use replies::{reply, reply_state, reply_with};
 pub use text::{MAX_TEXT, Text};

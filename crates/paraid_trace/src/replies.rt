@@ -1,53 +1,90 @@
 ghost use Rattle.std.specs.Prelude.{◌≡◌, ◌+◌, ◌*◌, ◌≤◌, [], ◌++◌, length, take, codes, decimal};
+ghost use Rattle.paraid_base.specs.declared.event.Answer.TheVariants.{State};
+ghost use Rattle.paraid_trace.specs.Answered.{answer_of, answer_with};
 ghost use Rattle.paraid_trace.specs.BlockTexts.{block_text};
 ghost use Rattle.paraid_trace.specs.Replies.{HasFewDisks, answer_text, halt_text, reply_of};
 ghost use Rattle.paraid_trace.specs.StateTexts.{out_text, phase_text, spins_text, state_text};
 ghost use Rattle.paraid_trace.specs.TickTexts.{tick_text, tick_word as word_of};
 
-use crate::Text;
-use paraid_base::{Answer, Block, GearReport, Halt, Out, Phase, Status, TickEvent};
+use crate::{Answered, Beside, Brief, Text};
+use paraid_base::{Block, GearReport, Halt, Out, Phase, Status, TickEvent};
 
-/// Makes the text the line that tells an answer, with its newline. A state is of at most 8 disks.
+/// Makes the text the line that tells a brief answer, with its newline.
 #[tactic(auto, unfolding(crate::specs::Replies::reply_of))]
-pub fn reply(answer: &Answer, into: &mut Text)
-    requires disks { HasFewDisks answer.now }
-    ensures value { into.new ≡ reply_of answer.now }
+pub fn reply(brief: &Brief, into: &mut Text)
+    ensures value { into.new ≡ reply_of (answer_of brief.now) }
     ensures length { length into.new ≤ 1101 }
 {
     into.clear();
-    tell(answer, into);
+    tell(brief, into);
+    into.push(b"\n");
+}
+
+/// The same for the state of an array of at most 8 disks.
+#[tactic(auto, unfolding(crate::specs::Replies::reply_of, crate::specs::Replies::answer_text))]
+pub fn reply_state(status: &Status, disks: u8, into: &mut Text)
+    requires disks { disks ≤ 8 }
+    ensures value { into.new ≡ reply_of (State status.now disks) }
+    ensures length { length into.new ≤ 1101 }
+{
+    into.clear();
+    tell_state(status, disks, into);
+    into.push(b"\n");
+}
+
+/// The same for an answer with what stands beside it. A state is of at most 8 disks.
+#[tactic(auto, unfolding(crate::specs::Replies::reply_of))]
+pub fn reply_with(answered: &Answered, beside: &Beside, into: &mut Text)
+    requires disks { HasFewDisks (answer_with answered.now beside.now) }
+    ensures value { into.new ≡ reply_of (answer_with answered.now beside.now) }
+    ensures length { length into.new ≤ 1101 }
+{
+    into.clear();
+    tell_with(answered, beside, into);
     into.push(b"\n");
 }
 
 // The text of an answer, at the end of an empty text.
 #[tactic(auto, unfolding(crate::specs::Replies::answer_text))]
-fn tell(answer: &Answer, into: &mut Text)
+fn tell_with(answered: &Answered, beside: &Beside, into: &mut Text)
     requires empty { into.old ≡ [] }
-    requires disks { HasFewDisks answer.now }
-    ensures value { into.new ≡ answer_text answer.now }
+    requires disks { HasFewDisks (answer_with answered.now beside.now) }
+    ensures value { into.new ≡ answer_text (answer_with answered.now beside.now) }
     ensures length { length into.new ≤ 1100 }
 {
-    match answer {
-        Answer::Value { block, bytes } => tell_value(*block, bytes, into),
-        Answer::NoBlock { block } => tell_number(b"noblock ", u64::from(*block), into),
-        Answer::Wrote { number } => tell_number(b"wrote ", *number, into),
-        Answer::Flushed { writes } => tell_number(b"flushed ", *writes, into),
-        Answer::Ticked(report) => tell_tick(report, into),
-        Answer::Shift { gear, to } => tell_shift(*gear, *to, into),
-        Answer::Top => into.push(b"top"),
-        Answer::Lowest => into.push(b"lowest"),
-        Answer::Shifting { to } => tell_number(b"shifting ", u64::from(*to), into),
-        Answer::Failed { disk } => tell_number(b"failed ", u64::from(*disk), into),
-        Answer::Replaced { disk } => tell_number(b"replaced ", u64::from(*disk), into),
-        Answer::NoDisk { disk } => tell_number(b"nodisk ", u64::from(*disk), into),
-        Answer::Out { disk } => tell_number(b"out ", u64::from(*disk), into),
-        Answer::NotOut { disk } => tell_number(b"notout ", u64::from(*disk), into),
-        Answer::NoFresh { disk } => tell_number(b"nofresh ", u64::from(*disk), into),
-        Answer::Ration { disk } => tell_number(b"ration ", u64::from(*disk), into),
-        Answer::State { status, disks } => tell_state(status, *disks, into),
-        Answer::Energy { total } => tell_number(b"energy ", *total, into),
-        Answer::Bad => into.push(b"bad"),
-        Answer::Halted(halt) => tell_halt(halt, into),
+    match answered {
+        Answered::Value { block } => tell_value(*block, &beside.bytes, into),
+        Answered::State { disks } => tell_state(&beside.status, *disks, into),
+        Answered::Brief(brief) => tell(brief, into),
+    }
+}
+
+// The text of a brief answer, at the end of an empty text.
+#[tactic(auto, unfolding(crate::specs::Replies::answer_text))]
+fn tell(brief: &Brief, into: &mut Text)
+    requires empty { into.old ≡ [] }
+    ensures value { into.new ≡ answer_text (answer_of brief.now) }
+    ensures length { length into.new ≤ 1100 }
+{
+    match brief {
+        Brief::NoBlock { block } => tell_number(b"noblock ", u64::from(*block), into),
+        Brief::Wrote { number } => tell_number(b"wrote ", *number, into),
+        Brief::Flushed { writes } => tell_number(b"flushed ", *writes, into),
+        Brief::Ticked(report) => tell_tick(report, into),
+        Brief::Shift { gear, to } => tell_shift(*gear, *to, into),
+        Brief::Top => into.push(b"top"),
+        Brief::Lowest => into.push(b"lowest"),
+        Brief::Shifting { to } => tell_number(b"shifting ", u64::from(*to), into),
+        Brief::Failed { disk } => tell_number(b"failed ", u64::from(*disk), into),
+        Brief::Replaced { disk } => tell_number(b"replaced ", u64::from(*disk), into),
+        Brief::NoDisk { disk } => tell_number(b"nodisk ", u64::from(*disk), into),
+        Brief::Out { disk } => tell_number(b"out ", u64::from(*disk), into),
+        Brief::NotOut { disk } => tell_number(b"notout ", u64::from(*disk), into),
+        Brief::NoFresh { disk } => tell_number(b"nofresh ", u64::from(*disk), into),
+        Brief::Ration { disk } => tell_number(b"ration ", u64::from(*disk), into),
+        Brief::Energy { total } => tell_number(b"energy ", *total, into),
+        Brief::Bad => into.push(b"bad"),
+        Brief::Halted(halt) => tell_halt(halt, into),
     }
 }
 

@@ -35,4 +35,4 @@ returns-in-Some g c =
     }
 
 pub returns-clause-since : goal.returns-clause-since
-returns-clause-since g c start s = served_more start _ _ _ _ _ _ c.serve-answer.ensures.two c.serve-answer.ensures.later s
+returns-clause-since g c start s = served_more start _ _ _ _ _ _ c.serve-answered.ensures.two c.serve-answered.ensures.later s

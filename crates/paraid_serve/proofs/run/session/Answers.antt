@@ -1,4 +1,5 @@
 use Rattle.std.proofs.Common.{sym, ◌∙◌, arith, refl}
+use Rattle.paraid_trace.specs.Answered.{answer_with}
 use Rattle.paraid_serve.proofs.GrowsLemmas.{grows_none, grows_then, told_then}
 use Rattle.paraid_serve.proofs.HaltLemmas.{no_event_yet}
 use Rattle.paraid_serve.proofs.Sofar.{sofar_start, sofar_more, ends_well, ends_halted, ends_at_source, ends_too_long, ends_at_sink}
@@ -23,7 +24,7 @@ lines-preserved g c =
     let k = c.in-Ok.ensures in
     let h = rw c.in-Ok-Some.field-0-is at c.in-Ok-Some.ensures.heard in
     record {
-      sofar = sofar_more i.sofar h c.in-Ok-Some.ensures.goes_on c.answer-answered.result e.kind _ _ _ _ _ i.slots i.setup (told_then _ _ e.told) e.turn (rw (c.as_slice.ensures.value, c.reply.ensures.value) at k.grows);
+      sofar = sofar_more i.sofar h c.in-Ok-Some.ensures.goes_on (answer_with c.answer-answered.result c.answer-answered.new.beside) e.kind _ _ _ _ _ i.slots i.setup (told_then _ _ e.told) e.turn (rw (c.as_slice.ensures.value, c.reply_with.ensures.value) at k.grows);
       told = grows_then _ _ _ i.told e.told;
       slots = e.slots ∙ i.slots;
       setup = e.setup ∙ i.setup;
@@ -45,7 +46,7 @@ returns-in_default-clause-session g c =
     let e = c.answer-answered.ensures in
     let p = c.in_default.ensures.part in
     let h = rw c.in-Ok-Some.field-0-is at c.in-Ok-Some.ensures.heard in
-    ends_at_sink i.sofar h c.answer-answered.result e.kind _ _ _ _ _ i.slots i.setup (told_then _ _ e.told) e.turn p.0 (rw (c.as_slice.ensures.value, c.reply.ensures.value) at p.2)
+    ends_at_sink i.sofar h (answer_with c.answer-answered.result c.answer-answered.new.beside) e.kind _ _ _ _ _ i.slots i.setup (told_then _ _ e.told) e.turn p.0 (rw (c.as_slice.ensures.value, c.reply_with.ensures.value) at p.2)
 
 pub returns-in-Ok-finish-clause-session : goal.returns-in-Ok-finish-clause-session
 returns-in-Ok-finish-clause-session g c =

@@ -10,6 +10,7 @@ use Rattle.paraid_machine.specs.Energy.{energy_of}
 use Rattle.paraid_serve.specs.Form.{is_answer_to}
 use Rattle.paraid_session.specs.Turn.{halt_told}
 use Rattle.paraid_trace.specs.Replies.{HasFewDisks}
+use Rattle.paraid_trace.specs.Answered.{answer_of}
 use Rattle.paraid_controller.specs.Lasting.{halt_of_end}
 use Rattle.paraid_controller.proofs.AnswerLemmas.{fail_few, fail_going, fail_kind, fail_uses}
 use Rattle.paraid_controller.proofs.CoreLemmas.{known_of, serving_of}
@@ -44,10 +45,10 @@ returns-in-Ok-clause-turn g c =
     let d = c.args.disk in
     let r = c.in-Ok.refusal in
     let told = c.fail_told.ensures in
-    core_on g.R.Rack.slot_count g.R.Rack.told a _ c.requires.going c.requires.epoch c.requires.writes (Fail d) c.fail_told.result
+    core_on g.R.Rack.slot_count g.R.Rack.told a _ c.requires.going c.requires.epoch c.requires.writes (Fail d) (answer_of c.fail_told.result)
     (subst (λ (z : Answer). CoreGoesOn g.R.Rack.slot_count g.R.Rack.told a.core c.take_out.new.core (Fail d) z) (sym told) c.in-Ok.ensures.turn)
     (ap halt_told told ∙ fail_going d a.core.meta c.take_out.new.core.meta r c.in-Ok.ensures.refused) (λ e. let z : Fail d ≡ Bad = e in cc) c.requires.going refl refl refl
-    (λ s fits. uses_none a.setup a.energy s c.fail_told.result (ap (energy_of a.setup s) told ∙ fail_uses a.setup s d r) fits)
+    (λ s fits. uses_none a.setup a.energy s (answer_of c.fail_told.result) (ap (energy_of a.setup s) told ∙ fail_uses a.setup s d r) fits)
 
 pub returns-in-Err-clause-turn : goal.returns-in-Err-clause-turn
 returns-in-Err-clause-turn g c =

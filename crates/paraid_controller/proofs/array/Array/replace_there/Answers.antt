@@ -9,6 +9,7 @@ use Rattle.paraid_machine.specs.Energy.{energy_of}
 use Rattle.paraid_serve.specs.Form.{is_answer_to}
 use Rattle.paraid_session.specs.Turn.{halt_told}
 use Rattle.paraid_trace.specs.Replies.{HasFewDisks}
+use Rattle.paraid_trace.specs.Answered.{answer_of}
 use Rattle.paraid_controller.specs.Lasting.{halt_of_end}
 use Rattle.paraid_controller.proofs.AnswerLemmas.{replace_few, replace_going, replace_kind, replace_uses}
 use Rattle.paraid_controller.proofs.CoreLemmas.{known_of, serving_of}
@@ -41,10 +42,10 @@ returns-in-Ok-clause-turn g c =
     let d = c.args.disk in
     let r = c.in-Ok.refusal in
     let told = c.replace_told.ensures in
-    core_on g.R.Rack.slot_count g.R.Rack.told a _ c.requires.going c.requires.epoch c.requires.writes (Replace d) c.replace_told.result
+    core_on g.R.Rack.slot_count g.R.Rack.told a _ c.requires.going c.requires.epoch c.requires.writes (Replace d) (answer_of c.replace_told.result)
     (subst (λ (z : Answer). CoreGoesOn g.R.Rack.slot_count g.R.Rack.told a.core c.replace.new.core (Replace d) z) (sym told) c.in-Ok.ensures.turn)
     (ap halt_told told ∙ replace_going d a.core.meta r c.in-Ok.ensures.refused) (λ e. let z : Replace d ≡ Bad = e in cc) c.requires.going refl refl refl
-    (λ s fits. uses_none a.setup a.energy s c.replace_told.result (ap (energy_of a.setup s) told ∙ replace_uses a.setup s d r) fits)
+    (λ s fits. uses_none a.setup a.energy s (answer_of c.replace_told.result) (ap (energy_of a.setup s) told ∙ replace_uses a.setup s d r) fits)
 
 pub returns-in-Err-clause-turn : goal.returns-in-Err-clause-turn
 returns-in-Err-clause-turn g c =

@@ -9,6 +9,7 @@ use Rattle.paraid_machine.specs.Energy.{energy_after}
 use Rattle.paraid_serve.specs.Form.{is_answer_to}
 use Rattle.paraid_session.specs.Turn.{halt_told}
 use Rattle.paraid_trace.specs.Replies.{HasFewDisks}
+use Rattle.paraid_trace.specs.Answered.{answer_of}
 use Rattle.paraid_controller.specs.Lasting.{halt_of_end}
 use Rattle.paraid_controller.proofs.AnswerLemmas.{asked_few}
 use Rattle.paraid_controller.proofs.AskedLemmas.{MayTellUp, up_going, up_kind, up_tells}
@@ -40,7 +41,7 @@ returns-in-Ok-clause-turn g c =
     let gear : n ≡ a.core.meta.gear = ap (λ (m : Meta). m.gear) c.meta.ensures in
     let told = c.asked_told.ensures in
     let may : MayTellUp x = up_tells a.core.meta c.up.new.core.meta x (λ f s of why. (c.in-Ok.ensures.refused f s of why).0) c.in-Ok.ensures.begins in
-    core_on g.R.Rack.slot_count g.R.Rack.told a _ c.requires.going c.requires.epoch c.requires.writes Up c.asked_told.result
+    core_on g.R.Rack.slot_count g.R.Rack.told a _ c.requires.going c.requires.epoch c.requires.writes Up (answer_of c.asked_told.result)
     (subst (λ (z : Answer). CoreGoesOn g.R.Rack.slot_count g.R.Rack.told a.core c.up.new.core Up z) (sym told)
     (subst (λ (y : ℕ). CoreGoesOn g.R.Rack.slot_count g.R.Rack.told a.core c.up.new.core Up (asked_answer y x)) (sym gear) c.in-Ok.ensures.turn))
     (ap halt_told told ∙ up_going n x may) (λ e. let z : Up ≡ Bad = e in cc) c.requires.going refl refl refl

@@ -1,6 +1,7 @@
 use Rattle.std.proofs.Common.{ℕ, subst}
 use Rattle.paraid_rack.specs.Told.{Ran}
 use Rattle.paraid_session.specs.Turn.{GoesOn}
+use Rattle.paraid_trace.specs.Answered.{answer_with}
 use Rattle.paraid_trace.specs.Asked.{event_with}
 use Rattle.paraid_controller.specs.Arrays.{ArrayStandsAt, told_of_array}
 use Rattle.paraid_controller.specs.Laws.{going_end}
@@ -10,5 +11,5 @@ pub returns-clause-turn : goal.returns-clause-turn
 returns-clause-turn g c p at =
     let a = c.args.self.now in
     let b = c.answer.new.self in
-    subst (λ (n : ℕ). Ran (told_of_array g.R.Rack.told a) (told_of_array g.R.Rack.told b) (GoesOn n a.setup p (event_with c.args.asked c.args.pairs.now) c.answer.result (ArrayStandsAt g.R.Rack.slot_count g.R.Rack.told b)))
+    subst (λ (n : ℕ). Ran (told_of_array g.R.Rack.told a) (told_of_array g.R.Rack.told b) (GoesOn n a.setup p (event_with c.args.asked c.args.pairs.now) (answer_with c.answer.result c.answer.new.beside) (ArrayStandsAt g.R.Rack.slot_count g.R.Rack.told b)))
     ((a.serving (going_end a.ended c.requires.going)).same_slots) (c.answer.ensures.turn p at)
