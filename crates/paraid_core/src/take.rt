@@ -1,5 +1,6 @@
 //! What a plan has drafted is added to the batch.
 ghost use Rattle.std.specs.Prelude.{◌≡◌, ℕ, ◌+◌, ◌<◌, ◌≤◌, ◌∷◌, [], length, IsTrue};
+ghost use Rattle.paraid_base.specs.Regions.{disk_size};
 ghost use Rattle.paraid_core.specs.Taken.{AreApart, IsTakenIn};
 ghost use Rattle.paraid_plan.specs.Placed.{IsPlaced};
 ghost use Rattle.paraid_record.specs.Targets.{IsTargetInRange};
@@ -10,33 +11,36 @@ use paraid_txn::Batch;
 use paraid_view::Draft;
 
 // Whether a target is past the log, on a disk of the array, and on disk 0 or 1 where it is of the map.
-fn is_in_range(g: &Geometry, target: Target) -> bool
+fn is_in_range(g: &Geometry, size: u32, target: Target) -> bool
+    requires size { size ≡ disk_size g.now }
     ensures is { IsTrue result → IsTargetInRange g.now target }
     ensures of { IsTargetInRange g.now target → IsTrue result }
 {
     target.disk < g.disks
         && target.place >= 100
-        && target.place < g.size()
+        && target.place < size
         && (target.disk < 2 || target.place >= 100 + g.map_blocks())
 }
 
 // Whether a commit can take a target.
-fn is_placed(m: &Meta, target: Target) -> bool
+fn is_placed(m: &Meta, size: u32, target: Target) -> bool
+    requires size { size ≡ disk_size m.now.setup.geometry }
     ensures is { IsTrue result → IsPlaced m.now target }
     ensures of { IsPlaced m.now target → IsTrue result }
 {
-    is_in_range(&m.setup.geometry, target)
+    is_in_range(&m.setup.geometry, size, target)
         && (target.disk < m.gear || target.disk < m.phase.rising_to())
         && m.out.gone() != Some(target.disk)
 }
 
 // Adds a block, unless a commit could not take its target.
-fn take_one(batch: &mut Batch, m: &Meta, target: Target, block: &Block)
+fn take_one(batch: &mut Batch, m: &Meta, size: u32, target: Target, block: &Block)
+    requires size { size ≡ disk_size m.now.setup.geometry }
     requires room { length batch.old < 96 }
     requires apart { AreApart batch.old }
     ensures { IsTakenIn m.now batch.old ((target, block.now) ∷ []) batch.new }
 {
-    if !is_placed(m, target) {
+    if !is_placed(m, size, target) {
         return;
     }
     let _added = batch.add(target.disk, target.place, block);
@@ -49,7 +53,8 @@ pub(crate) fn take(batch: &mut Batch, m: &Meta, draft: &Draft)
     requires apart { AreApart batch.old }
     ensures { IsTakenIn m.now batch.old draft.now batch.new }
 {
+    let size = m.setup.geometry.size();
     for at in 0..draft.count() as usize {
-        take_one(batch, m, draft.target(at), draft.block(at));
+        take_one(batch, m, size, draft.target(at), draft.block(at));
     }
 }

@@ -394,3 +394,9 @@ returns-clause-two g c = tt
 
 pub returns-clause-tells : goal.returns-clause-tells
 returns-clause-tells g c = tt
+
+-- no other disk was out
+pub returns-in_err-lose-clause-two : goal.returns-in_err-lose-clause-two
+returns-in_err-lose-clause-two g c =
+    let both = c.in_err-lose.ensures.two in
+    absurd (both.2 ((c.in_ok-lost.ensures.alone _ both.0).alone _ (is_named both.1)))

@@ -1,6 +1,6 @@
 use Rattle.paraid_base.specs.Told.{HasRisen}
 use Rattle.paraid_rack.specs.Slots.{Slot}
-use Rattle.paraid_txn.specs.Stores.{store_rack}
+use Rattle.paraid_txn.specs.Stores.{named_of, store_rack}
 use Rattle.paraid_view.proofs.TwoLemmas.{left_spared, spared_then}
 use Rattle.paraid_core.specs.declared.staged.Core.{Core}
 use Rattle.paraid_core.specs.Cores.{CoreStandsFor}
@@ -10,13 +10,13 @@ use Rattle.paraid_core.proofs.StepLemmas.{held_runs_then, leaves_then, runs_then
 use Rattle.paraid_core.proofs.UnitWriteLemmas.{unit_gathered, unit_reads_held}
 use Rattle.paraid_core.proofs.KindLemmas.{calls_then, calls_whole}
 use Rattle.paraid_txn.specs.Commit.{gone_out}
-use Rattle.std.proofs.Common.{None, Some, ap, refl, subst, sym, ◌≡◌}
+use Rattle.std.proofs.Common.{inl, None, Some, ap, refl, subst, sym, ◌≡◌}
 use Rattle.paraid_core.proofs.LostMarkLemmas.{marks_read, marks_then}
 use Rattle.paraid_core.proofs.OrderLemmas.{tells_unhurt}
 use Rattle.paraid_rack.specs.Told.{Ran}
 use Rattle.paraid_image.specs.Out.{named_out}
 use Rattle.paraid_image.specs.Lost.{TellsLosses}
-use Rattle.paraid_core.proofs.AfterLemmas.{handed}
+use Rattle.paraid_core.proofs.AfterLemmas.{down_named, handed}
 use Rattle.paraid_image.proofs.LostLemmas.{ran_beside}
 use Rattle.paraid_core.proofs.ErrLemmas.{err_not_ok, none_done, none_done_as}
 use Rattle.paraid_core.proofs.staged.Core.copy_unit.Goals as goal
@@ -201,3 +201,13 @@ returns-in_err-done-clause-two g c =
     handed _ c.from_residual.result _ c.from_residual.ensures.1
     (two_then g.R.Rack.slot_count g.R.Rack.slot g.R.Rack.told c.args.self.now (record c.args.self.now { store = c.read_unit.new.store })
     (gathered_leaves g.R.Rack.slot_count g.R.Rack.slot g.R.Rack.told c.args.self.now c.requires.ready c.read_unit.new.store c.in_default.ensures.read c.requires.serves.stays) c.write_unit.new.self c.write_unit.ensures.spared _ c.in_err-done.ensures.two)
+
+-- the disk that is rebuilt was out, and another one has failed
+pub returns-clause-two : goal.returns-clause-two
+returns-clause-two g c =
+    let old = c.args.self.now in
+    record {
+      first = inl (down_named (named_of old.store) old.meta c.requires.ready.one c.args.disk (ap named_out c.requires.fresh));
+      apart = λ is. c.in-Err.ensures.failed (sym is);
+      second = (c.in-Err.ensures.read.left.failed _ refl).risen;
+    }

@@ -1,7 +1,7 @@
 use Rattle.std.specs.Prelude.{ℕ, ◌+◌, ◌<◌, None}
 use Rattle.std.proofs.Common.{◌∙◌, sym, ap, subst, ◌≡◌, Some, refl}
 use Rattle.paraid_moves.specs.MoveMetas.{copied_block}
-use Rattle.paraid_txn.specs.Stores.{store_rack}
+use Rattle.paraid_txn.specs.Stores.{named_of, store_rack}
 use Rattle.paraid_view.specs.Reads.{seen_by}
 use Rattle.paraid_view.proofs.TwoLemmas.{left_spared, spared_then}
 use Rattle.paraid_core.specs.declared.staged.Core.{Core}
@@ -19,7 +19,7 @@ use Rattle.paraid_rack.specs.Told.{Ran}
 use Rattle.paraid_image.specs.Out.{named_out}
 use Rattle.paraid_image.specs.Lost.{TellsLosses}
 use Rattle.paraid_core.proofs.OrderLemmas.{lose_tells}
-use Rattle.paraid_core.proofs.ErrLemmas.{done_not_dropped, none_done, none_done_as}
+use Rattle.paraid_core.proofs.ErrLemmas.{done_not_dropped, none_done, none_done_as, two_lost}
 use Rattle.paraid_core.proofs.staged.Core.fill_stripe.Goals as goal
 
 pub returns-in_err-done-clause-spared : goal.returns-in_err-done-clause-spared
@@ -216,3 +216,9 @@ returns-clause-two g c = tt
 
 pub returns-clause-tells : goal.returns-clause-tells
 returns-clause-tells g c = tt
+
+pub returns-in_err-lose-clause-two : goal.returns-in_err-lose-clause-two
+returns-in_err-lose-clause-two g c =
+    let old = c.args.self.now in
+    handed _ c.from_residual-in_err-lose.result _ c.from_residual-in_err-lose.ensures.1
+    (two_lost (named_of old.store) (named_out old.meta.out) _ _ c.in-Err.disk _ c.requires.serves.stays (c.in-Err.ensures.read.left.failed _ refl).risen c.in_err-lose.ensures.two)

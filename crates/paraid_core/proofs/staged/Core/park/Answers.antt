@@ -1,4 +1,4 @@
-use Rattle.std.proofs.Common.{◌≡◌, ℕ, ◌∙◌, ◌<◌, Some, sym, ap, subst, refl, false, inr}
+use Rattle.std.proofs.Common.{◌≡◌, ℕ, ◌∙◌, ◌<◌, None, Some, sym, ap, subst, refl, false, inl, inr}
 use Rattle.std.specs.Prelude.{Option, is_ok}
 use Rattle.paraid_image.specs.Out.{named_out}
 use Rattle.paraid_base.specs.Told.{HasRisen}
@@ -25,6 +25,8 @@ use Rattle.paraid_image.specs.Lost.{TellsLosses}
 use Rattle.paraid_core.proofs.AfterLemmas.{handed}
 use Rattle.paraid_core.proofs.staged.Core.park.Given.{Over}
 use Rattle.paraid_core.proofs.TurnLemmas.{only_turns}
+use Rattle.std.proofs.lemmas.Bool.{cases_eq, false≢true}
+use Rattle.paraid_core.proofs.UnsyncedLemmas.{gone_marked}
 use Rattle.paraid_core.proofs.staged.Core.park.Goals as goal
 use Rattle.paraid_core.proofs.ErrLemmas.{done_not_dropped, none_done, none_done_as, two_lost}
 use Rattle.paraid_core.proofs.staged.Core.park.Goals.{In_ok-lose}
@@ -253,3 +255,29 @@ returns-clause-two g c = tt
 
 pub returns-clause-tells : goal.returns-clause-tells
 returns-clause-tells g c = tt
+
+pub returns-in_default-clause-meta : goal.returns-in_default-clause-meta
+returns-in_default-clause-meta g c = record { lost = None; is = refl; alone = λ d x is. let z : None ≡ Some d = is in cc }
+
+pub returns-in_default-clause-risen : goal.returns-in_default-clause-risen
+returns-in_default-clause-risen g c d is = inl is
+
+-- this disk was not out
+pub returns-in_default-clause-absent : goal.returns-in_default-clause-absent
+returns-in_default-clause-absent g c was d is = elim (was d is) [
+  | inl named ↦ inl (c.park.ensures.same.named ∙ named)
+  | inr gone ↦ inr (ap (λ (s : Slot). is_present s.power) (c.park.ensures.slot.others d (λ here. c.requires.not_out (is ∙ ap Some here))) ∙ gone)
+]
+
+pub returns-in_default-clause-unsynced : goal.returns-in_default-clause-unsynced
+returns-in_default-clause-unsynced g c was d low stays here wet = elim (cases_eq d c.args.disk) [
+  | inl is ↦ absurd (false≢true (sym (ap (λ (e : ℕ). (g.R.Rack.slot (store_rack c.park.new.self) e).unsynced) is ∙ ap (λ (s : Slot). s.unsynced) (c.park.ensures.slot.done (ap is_ok c.in_default.is)) ∙ c.requires.synced) ∙ wet))
+  | inr apart ↦ was d low stays (ap (λ (s : Slot). is_present s.power) (sym (c.park.ensures.slot.others d apart)) ∙ here) (ap (λ (s : Slot). s.unsynced) (sym (c.park.ensures.slot.others d apart)) ∙ wet)
+]
+
+pub returns-clause-unsynced : goal.returns-clause-unsynced
+returns-clause-unsynced g c was d low stays here wet = elim (cases_eq d c.args.disk) [
+  | inl is ↦ absurd (false≢true (sym (ap (λ (e : ℕ). is_present (g.R.Rack.slot (store_rack c.park.new.self) e).power) is ∙ ap is_present (c.park.ensures.slot.absent (failed g c))) ∙ here))
+  | inr apart ↦ was d (subst (λ (z : Meta). d < z.setup.geometry.disks) (meta_is g c) low) (λ gone. stays (gone_marked c.args.self.now.meta c.lose.new.meta (returns-clause-meta g c) d gone))
+  (ap (λ (s : Slot). is_present s.power) (sym (c.park.ensures.slot.others d apart)) ∙ here) (ap (λ (s : Slot). s.unsynced) (sym (c.park.ensures.slot.others d apart)) ∙ wet)
+]

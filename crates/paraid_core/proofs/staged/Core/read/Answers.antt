@@ -417,3 +417,39 @@ returns-clause-two g c = tt
 
 pub returns-clause-tells : goal.returns-clause-tells
 returns-clause-tells g c = tt
+
+pub make_room-requires-clause-ready : goal.make_room-requires-clause-ready
+make_room-requires-clause-ready g c = c.requires.ready
+
+pub make_room-requires-clause-serves : goal.make_room-requires-clause-serves
+make_room-requires-clause-serves g c = c.requires.serves
+
+pub make_room-requires-clause-copies_synced : goal.make_room-requires-clause-copies_synced
+make_room-requires-clause-copies_synced g c = c.requires.synced
+
+pub read_only-requires-clause-ready : goal.read_only-requires-clause-ready
+read_only-requires-clause-ready g c = c.in_ok-make_room.ensures.ready
+
+pub read_only-requires-clause-serves : goal.read_only-requires-clause-serves
+read_only-requires-clause-serves g c = c.in_ok-make_room.ensures.serves
+
+pub read_only-requires-clause-no_draft : goal.read_only-requires-clause-no_draft
+read_only-requires-clause-no_draft g c = c.make_room.ensures.draft ∙ c.requires.no_draft
+
+pub read_only-requires-clause-block : goal.read_only-requires-clause-block
+read_only-requires-clause-block g c = subst (λ (z : Setup). c.args.block < z.geometry.rows * (z.geometry.disks - 1)) (sym c.in_ok-make_room.ensures.setup) c.requires.block
+
+pub clean_in_room-requires-clause-ready : goal.clean_in_room-requires-clause-ready
+clean_in_room-requires-clause-ready g c = c.in_ok-read_only.ensures.ready
+
+pub clean_in_room-requires-clause-serves : goal.clean_in_room-requires-clause-serves
+clean_in_room-requires-clause-serves g c = c.in_ok-read_only.ensures.serves
+
+pub clean_in_room-requires-clause-no_draft : goal.clean_in_room-requires-clause-no_draft
+clean_in_room-requires-clause-no_draft g c = c.read_only.ensures.draft ∙ c.make_room.ensures.draft ∙ c.requires.no_draft
+
+pub clean_in_room-requires-clause-row : goal.clean_in_room-requires-clause-row
+clean_in_room-requires-clause-row g c = subst (λ (z : Setup). c.home-r.result.0 < z.geometry.rows) (sym (c.in_ok-read_only.ensures.setup ∙ c.in_ok-make_room.ensures.setup)) c.home-r.ensures.row_in
+
+pub clean_in_room-requires-clause-disk : goal.clean_in_room-requires-clause-disk
+clean_in_room-requires-clause-disk g c = subst (λ (z : Setup). c.home-r.result.1 < z.geometry.disks) (sym (c.in_ok-read_only.ensures.setup ∙ c.in_ok-make_room.ensures.setup)) c.home-r.ensures.disk_in

@@ -1,4 +1,4 @@
-use Rattle.std.proofs.Common.{◌++◌, ◌≡◌, ℕ, ◌∙◌, Some, None, sym, ap, subst, Option, ◌<◌}
+use Rattle.std.proofs.Common.{inl, ◌++◌, ◌≡◌, ℕ, ◌∙◌, Some, None, sym, ap, subst, Option, ◌<◌}
 use Rattle.paraid_rack.specs.Trail.{now}
 use Rattle.paraid_txn.specs.Stores.{disks_of, named_of, store_rack}
 use Rattle.paraid_core.proofs.ReadsLemmas.{cell_value, knows_named, reads_moments, reads_stand, rows_zero, shows_contents, stripes_zero}
@@ -9,7 +9,7 @@ use Rattle.paraid_image.specs.Sides.{Batch}
 use Rattle.paraid_image.specs.Standing.{contents}
 use Rattle.paraid_view.specs.Reads.{ShowsContents}
 use Rattle.paraid_image.specs.Out.{named_out, or_else, out_disk}
-use Rattle.paraid_view.proofs.TwoLemmas.{left_spared}
+use Rattle.paraid_view.proofs.TwoLemmas.{left_spared, left_synced}
 use Rattle.paraid_core.specs.CoreInvariant.{CanServe, lost_in, meta_with_lost}
 use Rattle.paraid_core.proofs.AfterLemmas.{down_named, handed, lost_in_is, lost_in_low, marked_setup, marked_writes, named_is_out, out_is_named, ready_after, ready_moved, serve_after, two_by}
 use Rattle.std.specs.Prelude.{false}
@@ -266,3 +266,26 @@ returns-clause-two g c = tt
 
 pub returns-clause-tells : goal.returns-clause-tells
 returns-clause-tells g c = tt
+
+pub returns-in_err-lose-clause-two : goal.returns-in_err-lose-clause-two
+returns-in_err-lose-clause-two g c =
+    let old = c.args.self.now in
+    let both = c.in_err-lose.ensures.two in
+    handed (AreTwoDown (or_else (named_of old.store) (named_out old.meta.out)) (g.R.Rack.slot (store_rack old.store)) (g.R.Rack.slot (store_rack c.read_cell.new.store))) c.from_residual-in_err-lose.result _ c.from_residual-in_err-lose.ensures.1
+    (record { first = inl (down_named (named_of old.store) old.meta c.requires.ready.one _ both.1); apart = both.2; second = (c.in_ok-lost.ensures.read.left.failed _ both.0).risen })
+
+pub returns-in_err-lose-clause-moments : goal.returns-in_err-lose-clause-moments
+returns-in_err-lose-clause-moments g c h lo =
+    let old = c.args.self.now in
+    reads_moments (g.R.Rack.slot_count (store_rack old.store)) (named_of old.store) old.meta old.dirty old.batch old.copied h lo (or_else (named_of old.store) (named_out old.meta.out)) (knows_named (named_of old.store) (named_out old.meta.out)) (disks_of old.store) _ _ (sym c.requires.ready.array_is) c.in_ok-lost.ensures.read.calls
+
+pub returns-in_err-lose-clause-moments_since : goal.returns-in_err-lose-clause-moments_since
+returns-in_err-lose-clause-moments_since g c h lo =
+    let old = c.args.self.now in
+    reads_moments (g.R.Rack.slot_count (store_rack old.store)) (named_of old.store) old.meta old.dirty old.batch old.copied h lo (named_of old.store) (λ d is. is) (disks_of old.store) _ _ (sym c.requires.ready.array_is) c.in_ok-lost.ensures.read.calls
+
+pub returns-in_err-lose-clause-spared : goal.returns-in_err-lose-clause-spared
+returns-in_err-lose-clause-spared g c = left_spared _ _ _ c.in_ok-lost.ensures.read.left
+
+pub returns-in_err-lose-clause-still_synced : goal.returns-in_err-lose-clause-still_synced
+returns-in_err-lose-clause-still_synced g c = left_synced _ _ _ c.in_ok-lost.ensures.read.left

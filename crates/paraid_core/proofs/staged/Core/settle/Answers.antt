@@ -2,10 +2,11 @@ use Rattle.std.specs.Prelude.{true, false}
 use Rattle.std.proofs.Common.{◌≡◌, ◌∙◌, arith, below_more, refl, inl}
 use Rattle.paraid_txn.specs.Losses.{IsSyncedAt}
 use Rattle.paraid_txn.specs.Stores.{store_rack}
+use Rattle.paraid_view.proofs.TwoLemmas.{spared_then}
 use Rattle.paraid_core.specs.CoreInvariant.{is_copied}
 use Rattle.paraid_core.proofs.SettleCellLemmas.{copied_none, copied_then}
 use Rattle.paraid_core.proofs.SettleUnitLemmas.{units_none, units_then}
-use Rattle.paraid_core.proofs.StepLemmas.{dry_both, filled_none, filled_then, still_synced, held_then, leaves_none, leaves_then, stands_none, stands_then, stands_held}
+use Rattle.paraid_core.proofs.StepLemmas.{dry_both, filled_none, filled_then, still_synced, held_then, leaves_none, leaves_then, stands_none, stands_then, stands_held, two_then}
 use Rattle.paraid_core.proofs.KindLemmas.{calls_none, calls_then, copy_syncs_still}
 use Rattle.paraid_core.proofs.LostMarkLemmas.{marks_none, marks_then}
 use Rattle.paraid_core.proofs.OrderLemmas.{core_tells_then, sync_bears}
@@ -83,6 +84,17 @@ returns-in_err-settle_one-clause-tells g c =
     (core_tells_then g.R.Rack.slot g.R.Rack.told g.met.R.Rack.agrees old mid c.requires.ready.absent marks c.settle_one.new.self _
     (sync_bears g.R.Rack.slot g.R.Rack.told g.met.R.Rack.agrees old mid c.requires.ready.absent marks c.loop-disk.invariant.calls) c.in_err-settle_one.ensures.tells)
 
+pub returns-in_err-settle_one-clause-two : goal.returns-in_err-settle_one-clause-two
+returns-in_err-settle_one-clause-two g c =
+    handed _ c.from_residual.result _ c.from_residual.ensures.1
+    (two_then g.R.Rack.slot_count g.R.Rack.slot g.R.Rack.told c.args.self.now c.loop-disk.self c.loop-disk.invariant.leaves c.settle_one.new.self c.settle_one.ensures.spared _ c.in_err-settle_one.ensures.two)
+
+pub returns-in_err-settle_one-clause-spared : goal.returns-in_err-settle_one-clause-spared
+returns-in_err-settle_one-clause-spared g c = spared_then _ _ _ c.loop-disk.invariant.leaves.spared c.settle_one.ensures.spared
+
+pub returns-in_err-settle_one-clause-still_synced : goal.returns-in_err-settle_one-clause-still_synced
+returns-in_err-settle_one-clause-still_synced g c = dry_both (g.R.Rack.slot (store_rack c.args.self.now.store)) (g.R.Rack.slot (store_rack c.loop-disk.self.store)) (g.R.Rack.slot (store_rack c.settle_one.new.self.store)) c.loop-disk.invariant.still_synced c.settle_one.ensures.still_synced c.settle_one.ensures.spared
+
 pub returns-in_err-settle_one-clause-leaves : goal.returns-in_err-settle_one-clause-leaves
 returns-in_err-settle_one-clause-leaves g c = none_done _ c.from_residual.result _ c.from_residual.ensures.1
 
@@ -112,3 +124,9 @@ returns-clause-two g c = tt
 
 pub returns-clause-tells : goal.returns-clause-tells
 returns-clause-tells g c = tt
+
+pub settle_one-requires-clause-ready : goal.settle_one-requires-clause-ready
+settle_one-requires-clause-ready g c = c.loop-disk.invariant.leaves.ready
+
+pub settle_one-requires-clause-still : goal.settle_one-requires-clause-still
+settle_one-requires-clause-still g c = c.loop-disk.invariant.leaves.still

@@ -1,10 +1,10 @@
-use Rattle.std.proofs.Common.{◌≢◌, ◌∙◌, refl, sym}
+use Rattle.std.proofs.Common.{◌≢◌, ◌∙◌, refl, sym, inl}
 use Rattle.paraid_rack.specs.declared.call.Power.TheVariants.{Spinning}
 use Rattle.paraid_txn.specs.Stores.{store_rack}
 use Rattle.paraid_core.proofs.SettleCellLemmas.{copied_marked, copied_none}
 use Rattle.paraid_core.proofs.SettleUnitLemmas.{units_idle, units_none}
 use Rattle.paraid_core.proofs.SettleLemmas.{cleared_at, filled_marked, idle_unmarked}
-use Rattle.paraid_core.proofs.StepLemmas.{filled_none, held_none, leaves_unmarked, stands_marked, stands_none}
+use Rattle.paraid_core.proofs.StepLemmas.{filled_none, held_none, leaves_none, leaves_unmarked, stands_marked, stands_none}
 use Rattle.paraid_core.proofs.UnsyncedLemmas.{marks_idle}
 use Rattle.paraid_core.proofs.KindLemmas.{calls_none, one_is_each}
 use Rattle.paraid_rack.specs.declared.call.Call.TheVariants.{Sync}
@@ -174,3 +174,21 @@ returns-clause-cleared g c = c.sync_disk.ensures.cleared
 
 pub returns-clause-synced : goal.returns-clause-synced
 returns-clause-synced g c is = c.in_ok-sync_disk.ensures.synced
+
+pub returns-then-not-self-disk-clause-leaves : goal.returns-then-not-self-disk-clause-leaves
+returns-then-not-self-disk-clause-leaves g c = leaves_none g.R.Rack.slot_count g.R.Rack.slot g.R.Rack.told c.args.self.now c.requires.ready c.requires.still
+
+pub returns-then-not-self-disk-clause-spared : goal.returns-then-not-self-disk-clause-spared
+returns-then-not-self-disk-clause-spared g c = (leaves_none g.R.Rack.slot_count g.R.Rack.slot g.R.Rack.told c.args.self.now c.requires.ready c.requires.still).spared
+
+pub returns-then-not-self-disk-clause-still_synced : goal.returns-then-not-self-disk-clause-still_synced
+returns-then-not-self-disk-clause-still_synced g c d here wet = inl wet
+
+pub returns-then-not-is_spinning-clause-spared : goal.returns-then-not-is_spinning-clause-spared
+returns-then-not-is_spinning-clause-spared g c = (leaves_none g.R.Rack.slot_count g.R.Rack.slot g.R.Rack.told c.args.self.now c.requires.ready c.requires.still).spared
+
+pub returns-then-not-is_spinning-clause-still_synced : goal.returns-then-not-is_spinning-clause-still_synced
+returns-then-not-is_spinning-clause-still_synced g c d here wet = inl wet
+
+pub returns-then-not-is_spinning-clause-cleared : goal.returns-then-not-is_spinning-clause-cleared
+returns-then-not-is_spinning-clause-cleared g c = cleared_at _ _

@@ -1,4 +1,4 @@
-use Rattle.std.proofs.Common.{◌≡◌, ℕ, ◌∙◌, ◌<◌, Some, sym, ap, subst, refl, false, inl, inr}
+use Rattle.std.proofs.Common.{◌≡◌, ℕ, ◌∙◌, ◌<◌, None, Some, sym, ap, subst, refl, false, inl, inr}
 use Rattle.std.proofs.lemmas.Bool.{cases_eq, false≢true}
 use Rattle.paraid_base.specs.States.{gone_out}
 use Rattle.std.specs.Prelude.{Option, is_ok}
@@ -278,3 +278,30 @@ returns-clause-two g c = tt
 
 pub returns-clause-tells : goal.returns-clause-tells
 returns-clause-tells g c = tt
+
+pub returns-in_default-clause-meta : goal.returns-in_default-clause-meta
+returns-in_default-clause-meta g c = record { lost = None; is = refl; alone = λ d x is. let z : None ≡ Some d = is in cc }
+
+pub returns-in_default-clause-risen : goal.returns-in_default-clause-risen
+returns-in_default-clause-risen g c d is = inl is
+
+pub returns-in_default-clause-spins : goal.returns-in_default-clause-spins
+returns-in_default-clause-spins g c is = ap (λ (s : Slot). s.power) (c.spin_up.ensures.slot.done (ap is_ok c.in_default.is))
+
+pub returns-in_default-clause-size : goal.returns-in_default-clause-size
+returns-in_default-clause-size g c is = ap (λ (s : Slot). s.size) (c.spin_up.ensures.slot.done (ap is_ok c.in_default.is))
+
+-- this disk was not out
+pub returns-in_default-clause-absent : goal.returns-in_default-clause-absent
+returns-in_default-clause-absent g c was d is = elim (was d is) [
+  | inl named ↦ inl (c.spin_up.ensures.same.named ∙ named)
+  | inr gone ↦ inr (ap (λ (s : Slot). is_present s.power) (c.spin_up.ensures.slot.others d (λ here. c.requires.not_out (is ∙ ap Some here))) ∙ gone)
+]
+
+-- it was parked, and so it was synced
+pub returns-in_default-clause-unsynced : goal.returns-in_default-clause-unsynced
+returns-in_default-clause-unsynced g c was d low stays here wet = elim (cases_eq d c.args.disk) [
+  | inl is ↦ absurd (false≢true (sym (ap (λ (e : ℕ). (g.R.Rack.slot (store_rack c.spin_up.new.self) e).unsynced) is ∙ ap (λ (s : Slot). s.unsynced) (c.spin_up.ensures.slot.done (ap is_ok c.in_default.is))
+  ∙ (g.met.R.Rack.slots_hold (store_rack c.args.self.now.store)).parked c.args.disk c.requires.parked) ∙ wet))
+  | inr apart ↦ was d low stays (ap (λ (s : Slot). is_present s.power) (sym (c.spin_up.ensures.slot.others d apart)) ∙ here) (ap (λ (s : Slot). s.unsynced) (sym (c.spin_up.ensures.slot.others d apart)) ∙ wet)
+]

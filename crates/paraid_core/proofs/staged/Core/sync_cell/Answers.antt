@@ -1,4 +1,4 @@
-use Rattle.paraid_txn.specs.Stores.{store_rack}
+use Rattle.paraid_txn.specs.Stores.{named_of, store_rack}
 use Rattle.paraid_view.proofs.TwoLemmas.{left_spared, spared_then}
 use Rattle.paraid_core.specs.declared.staged.Core.{Core}
 use Rattle.paraid_core.specs.Cores.{CoreStandsFor}
@@ -17,7 +17,7 @@ use Rattle.paraid_rack.specs.Told.{Ran}
 use Rattle.paraid_image.specs.Out.{named_out}
 use Rattle.paraid_image.specs.Lost.{TellsLosses}
 use Rattle.paraid_core.proofs.OrderLemmas.{lose_tells}
-use Rattle.paraid_core.proofs.ErrLemmas.{done_not_dropped, none_done, none_done_as}
+use Rattle.paraid_core.proofs.ErrLemmas.{done_not_dropped, none_done, none_done_as, two_lost}
 use Rattle.paraid_core.proofs.staged.Core.sync_cell.Goals as goal
 
 pub returns-in_err-done-clause-spared : goal.returns-in_err-done-clause-spared
@@ -208,3 +208,18 @@ returns-clause-two g c = tt
 
 pub returns-clause-tells : goal.returns-clause-tells
 returns-clause-tells g c = tt
+
+pub returns-in_err-lose-clause-two : goal.returns-in_err-lose-clause-two
+returns-in_err-lose-clause-two g c =
+    let old = c.args.self.now in
+    handed _ c.from_residual-in_err-lose.result _ c.from_residual-in_err-lose.ensures.1
+    (two_lost (named_of old.store) (named_out old.meta.out) _ _ c.in-Err.lost _ c.requires.serves.stays (c.in-Err.ensures.read.left.failed _ refl).risen c.in_err-lose.ensures.two)
+
+pub returns-in_err-lose-clause-moments : goal.returns-in_err-lose-clause-moments
+returns-in_err-lose-clause-moments g c h lo cells = cell_reads_held g.R.Rack.slot_count g.R.Rack.slot g.R.Rack.told c.args.self.now c.requires.ready _ c.in-Err.ensures.read.calls h lo cells
+
+pub returns-in_err-lose-clause-spared : goal.returns-in_err-lose-clause-spared
+returns-in_err-lose-clause-spared g c = left_spared _ _ _ c.in-Err.ensures.read.left
+
+pub returns-clause-spared : goal.returns-clause-spared
+returns-clause-spared g c = left_spared _ _ _ c.in-Err.ensures.read.left

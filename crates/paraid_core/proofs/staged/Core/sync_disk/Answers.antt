@@ -189,3 +189,12 @@ returns-clause-two g c = tt
 
 pub returns-clause-tells : goal.returns-clause-tells
 returns-clause-tells g c = tt
+
+pub returns-clause-cleared : goal.returns-clause-cleared
+returns-clause-cleared g c = cleared_at _ _
+
+pub returns-in_default-clause-cleared : goal.returns-in_default-clause-cleared
+returns-in_default-clause-cleared g c = cleared_at _ _
+
+pub returns-in_err-lose-clause-cleared : goal.returns-in_err-lose-clause-cleared
+returns-in_err-lose-clause-cleared g c = cleared_at _ _

@@ -16,7 +16,7 @@ use Rattle.paraid_core.proofs.BitsLemmas.{bits_counted}
 use Rattle.paraid_plan.specs.WrittenBits.{bits_after_writes}
 use Rattle.paraid_core.proofs.ChainLemmas.{down_lost, down_same}
 use Rattle.paraid_core.proofs.FailLemmas.{is_err_then, lost_one}
-use Rattle.paraid_core.proofs.TryLemmas.{dropped_ready, dropped_serves, dropped_stands, kept_ready, kept_serves, kept_stands, ended_held, not_err, since_held, try_moments}
+use Rattle.paraid_core.proofs.TryLemmas.{dropped_ready, dropped_serves, dropped_stands, kept_ready, kept_serves, kept_stands, ended_held, not_err, since_held, try_moments, try_two}
 use Rattle.paraid_core.proofs.KindLemmas.{calls_off, gone_named, reads_of}
 use Rattle.paraid_core.proofs.LostMarkLemmas.{marks_none, marks_read}
 use Rattle.paraid_view.specs.Reads.{AreLeft}
@@ -331,3 +331,8 @@ returns-clause-epoch g c = ap (λ (z : Meta). z.epoch) c.draft_writes.ensures.le
 
 pub returns-clause-writes : goal.returns-clause-writes
 returns-clause-writes g c = ap (λ (z : Meta). z.writes + 1) c.draft_writes.ensures.leads.meta
+
+pub returns-in_err-lose-clause-two : goal.returns-in_err-lose-clause-two
+returns-in_err-lose-clause-two g c =
+    handed _ c.from_residual.result _ c.from_residual.ensures.1
+    (try_two g.R.Rack.slot_count g.R.Rack.slot g.R.Rack.told c.args.self.now c.draft_writes.new.self c.draft_writes.ensures.leads c.requires.ready _ c.in_err-lose.ensures.two)

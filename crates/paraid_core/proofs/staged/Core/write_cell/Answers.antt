@@ -27,7 +27,7 @@ use Rattle.paraid_image.specs.Lost.{TellsLosses}
 use Rattle.paraid_core.proofs.AfterLemmas.{handed}
 use Rattle.paraid_core.proofs.staged.Core.write_cell.Given.{Over}
 use Rattle.paraid_core.proofs.staged.Core.write_cell.Goals as goal
-use Rattle.paraid_core.proofs.ErrLemmas.{done_not_dropped, none_done, none_done_as}
+use Rattle.paraid_core.proofs.ErrLemmas.{done_not_dropped, none_done, none_done_as, two_lost}
 use Rattle.paraid_core.proofs.staged.Core.write_cell.Goals.{In_ok-lose}
 
 pub returns-in_default-clause-leaves : goal.returns-in_default-clause-leaves
@@ -191,3 +191,21 @@ returns-clause-two g c = tt
 
 pub returns-clause-tells : goal.returns-clause-tells
 returns-clause-tells g c = tt
+
+pub returns-in_err-lose-clause-two : goal.returns-in_err-lose-clause-two
+returns-in_err-lose-clause-two g c =
+    let old = c.args.self.now in
+    handed _ c.from_residual.result _ c.from_residual.ensures.1
+    (two_lost (named_of old.store) (named_out old.meta.out) _ _ c.args.disk _ c.requires.serves.stays (c.write_free-answer.ensures.slot.risen (ap is_ok c.in-Err.is)) c.in_err-lose.ensures.two)
+
+pub returns-in_err-lose-clause-spared : goal.returns-in_err-lose-clause-spared
+returns-in_err-lose-clause-spared g c = call_spared 8 _ _ _ _ _ _ c.write_free-answer.ensures.slot refl refl refl
+
+pub returns-in_default-clause-spared : goal.returns-in_default-clause-spared
+returns-in_default-clause-spared g c = call_spared 8 _ _ _ _ _ _ c.write_free-answer.ensures.slot refl refl refl
+
+pub returns-in_err-lose-clause-moments : goal.returns-in_err-lose-clause-moments
+returns-in_err-lose-clause-moments g c h lo cells =
+    let q = c.requires in
+    cell_held g.R.Rack.slot_count g.R.Rack.slot g.R.Rack.told c.args.self.now q.ready q.whole (g.met.R.Rack.agrees (store_rack c.args.self.now.store)) q.nothing c.args.r c.args.disk _ c.args.block.now c.hard_place-place.result c.hard_place-place.ensures.value _
+    c.write_free-answer.ensures.told q.serves.stays q.row (disk_in c.args.self.now.meta c.args.disk q.ready.in_range q.rises) q.past_gear q.dirty _ (record { here = c.mark.ensures.here; others = c.mark.ensures.others }) h lo cells

@@ -317,3 +317,15 @@ write_whole-requires-clause-blocks g c = subst (λ (z : Setup). All (λ (pair : 
 
 pub write_whole-requires-clause-fits : goal.write_whole-requires-clause-fits
 write_whole-requires-clause-fits g c = subst (λ (n : ℕ). n + 1 < 2 ^ 64) (sym c.in_ok-make_room.ensures.writes) c.requires.fits
+
+pub make_room-requires-clause-ready : goal.make_room-requires-clause-ready
+make_room-requires-clause-ready g c = c.requires.ready
+
+pub make_room-requires-clause-serves : goal.make_room-requires-clause-serves
+make_room-requires-clause-serves g c = c.requires.serves
+
+pub make_room-requires-clause-epoch : goal.make_room-requires-clause-epoch
+make_room-requires-clause-epoch g c = c.requires.epoch
+
+pub make_room-requires-clause-copies_synced : goal.make_room-requires-clause-copies_synced
+make_room-requires-clause-copies_synced g c = c.requires.copies_synced

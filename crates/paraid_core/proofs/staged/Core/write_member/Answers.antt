@@ -22,7 +22,7 @@ use Rattle.paraid_image.specs.Lost.{TellsLosses}
 use Rattle.paraid_core.proofs.AfterLemmas.{handed}
 use Rattle.paraid_core.proofs.staged.Core.write_member.Given.{Over}
 use Rattle.paraid_core.proofs.staged.Core.write_member.Goals as goal
-use Rattle.paraid_core.proofs.ErrLemmas.{done_not_dropped, none_done, none_done_as}
+use Rattle.paraid_core.proofs.ErrLemmas.{done_not_dropped, none_done, none_done_as, two_lost}
 use Rattle.paraid_core.proofs.staged.Core.write_member.Goals.{In_ok-lose}
 
 pub returns-in_default-clause-leaves : goal.returns-in_default-clause-leaves
@@ -185,3 +185,15 @@ returns-clause-two g c = tt
 
 pub returns-clause-tells : goal.returns-clause-tells
 returns-clause-tells g c = tt
+
+pub returns-in_err-lose-clause-two : goal.returns-in_err-lose-clause-two
+returns-in_err-lose-clause-two g c =
+    let old = c.args.self.now in
+    handed _ c.from_residual.result _ c.from_residual.ensures.1
+    (two_lost (named_of old.store) (named_out old.meta.out) _ _ c.args.disk _ c.requires.still (c.write_free-answer.ensures.slot.risen (ap is_ok c.in-Err.is)) c.in_err-lose.ensures.two)
+
+pub returns-in_err-lose-clause-moments : goal.returns-in_err-lose-clause-moments
+returns-in_err-lose-clause-moments g c h lo =
+    let q = c.requires in
+    member_held g.R.Rack.slot_count g.R.Rack.slot g.R.Rack.told c.args.self.now _ c.args.s c.args.disk c.args.place c.args.block.now _ c.write_free-answer.ensures.told (g.met.R.Rack.agrees (store_rack c.args.self.now.store))
+    q.ready.absent q.ready.in_range q.whole q.shifts q.from q.stripe q.disk _ (record { here = c.mark.ensures.here; others = c.mark.ensures.others }) q.place h lo

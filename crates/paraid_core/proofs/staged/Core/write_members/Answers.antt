@@ -1,6 +1,7 @@
 use Rattle.std.specs.Prelude.{ℕ, ◌+◌}
 use Rattle.std.proofs.Common.{◌≡◌, ◌<◌, ◌∙◌, sym, ap, subst, refl, arith, Ok}
 use Rattle.paraid_base.specs.States.{phase_to}
+use Rattle.paraid_base.specs.Soft.{stripe_count}
 use Rattle.paraid_record.specs.declared.meta.Meta.{Meta}
 use Rattle.paraid_image.specs.Mark.{meta_after_loss}
 use Rattle.paraid_rack.proofs.TrailsLemmas.{weaker}
@@ -171,3 +172,28 @@ returns-clause-two g c = tt
 
 pub returns-clause-tells : goal.returns-clause-tells
 returns-clause-tells g c = tt
+
+pub returns-clause-leaves : goal.returns-clause-leaves
+returns-clause-leaves g c = c.loop-disk.invariant.leaves
+
+pub returns-clause-same : goal.returns-clause-same
+returns-clause-same g c is = c.loop-disk.invariant.meta
+
+pub returns-clause-spared : goal.returns-clause-spared
+returns-clause-spared g c = c.loop-disk.invariant.leaves.spared
+
+pub write_member-requires-clause-ready : goal.write_member-requires-clause-ready
+write_member-requires-clause-ready g c = c.loop-disk.invariant.leaves.ready
+
+pub write_member-requires-clause-still : goal.write_member-requires-clause-still
+write_member-requires-clause-still g c = c.loop-disk.invariant.leaves.still
+
+pub write_member-requires-clause-shifts : goal.write_member-requires-clause-shifts
+write_member-requires-clause-shifts g c = subst (λ (z : Meta). 0 < phase_to z.phase) (sym c.loop-disk.invariant.meta) c.requires.shifts
+
+pub write_member-requires-clause-region : goal.write_member-requires-clause-region
+write_member-requires-clause-region g c = subst (λ (z : Meta). phase_to z.phase < z.setup.geometry.disks) (sym c.loop-disk.invariant.meta) c.requires.region
+
+pub write_member-requires-clause-stripe : goal.write_member-requires-clause-stripe
+write_member-requires-clause-stripe g c =
+    subst (λ (z : Meta). c.args.s < stripe_count z.setup.geometry.disks z.setup.geometry.rows (phase_to z.phase)) (sym c.loop-disk.invariant.meta) c.requires.stripe

@@ -393,3 +393,18 @@ returns-clause-unsynced g c was =
     let second = c.in_ok-try_write.ensures in
     unsynced_kept g.R.Rack.slot mid new second.setup (gone_lost _ _ mid.meta new.meta second.marks) c.try_write-2.ensures.spared c.try_write-2.ensures.copied c.try_write-2.ensures.still_synced
     (unsynced_kept g.R.Rack.slot old mid first.setup (gone_lost _ _ old.meta mid.meta first.marks) c.try_write.ensures.spared c.try_write.ensures.copied c.try_write.ensures.still_synced was)
+
+pub try_write-requires-clause-ready : goal.try_write-requires-clause-ready
+try_write-requires-clause-ready g c = c.requires.ready
+
+pub try_write-requires-clause-serves : goal.try_write-requires-clause-serves
+try_write-requires-clause-serves g c = c.requires.serves
+
+pub try_write-requires-clause-blocks : goal.try_write-requires-clause-blocks
+try_write-requires-clause-blocks g c = c.requires.blocks
+
+pub try_write-requires-clause-room : goal.try_write-requires-clause-room
+try_write-requires-clause-room g c = c.requires.room
+
+pub try_write-requires-clause-fits : goal.try_write-requires-clause-fits
+try_write-requires-clause-fits g c = c.requires.fits
