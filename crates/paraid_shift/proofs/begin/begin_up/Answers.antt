@@ -1,4 +1,6 @@
-use Rattle.std.specs.Prelude.{ℕ}
+use Rattle.std.proofs.Common.{ℕ, ◌≤◌}
+use Rattle.paraid_core.proofs.AfterLemmas.{handed}
+use Rattle.paraid_shift.proofs.ServingLemmas.{leaves_array_then, two_array}
 use Rattle.std.proofs.Common.{◌≡◌, ◌∙◌, refl, ap, arith, sym, inl, inr}
 use Rattle.paraid_base.specs.declared.state.Phase.{Phase}
 use Rattle.paraid_base.specs.declared.state.Phase.TheVariants.{Steady, Up}
@@ -13,7 +15,6 @@ use Rattle.paraid_shift.proofs.StepsLemmas.{core_steps_none}
 use Rattle.paraid_core.specs.Cores.{CoreStandsFor}
 use Rattle.paraid_shift.specs.Serving.{RestsInShift}
 use Rattle.paraid_shift.proofs.ServingLemmas.{chain, chain_held, marked_gear, marked_then}
-use Rattle.paraid_core.proofs.AfterLemmas.{handed}
 use Rattle.paraid_shift.proofs.LossLemmas.{powers_are_lost, rise_lost, up_lost}
 use Rattle.paraid_shift.proofs.begin.begin_up.Goals as goal
 
@@ -86,3 +87,21 @@ returns-in_err-bring_up-clause-loses g c =
     handed _ c.from_residual-in_err-bring_up.result _ c.from_residual-in_err-bring_up.ensures.1
     (rise_lost g.R.Rack.slot_count g.R.Rack.slot g.R.Rack.told a b n c.args.to _ c.requires.whole one.opens one.leaves.slots one.epoch
     (powers_are_lost g.R.Rack.slot_count g.R.Rack.slot g.R.Rack.told b n _ one.nothing c.bring_up.ensures.calls c.bring_up.ensures.moments c.in_err-bring_up.ensures.tells))
+
+later : (a b c : ℕ) → a ≤ b → b ≤ c → a ≤ c
+later a b c first second = omega arith
+
+pub returns-in_err-bring_up-clause-no_fall : goal.returns-in_err-bring_up-clause-no_fall
+returns-in_err-bring_up-clause-no_fall g c d = later _ _ _ (c.commit_up.ensures.spared.no_fall d) (c.bring_up.ensures.no_fall d)
+
+pub returns-clause-no_fall : goal.returns-clause-no_fall
+returns-clause-no_fall g c d = later _ _ _ (c.commit_up.ensures.spared.no_fall d) (c.bring_up.ensures.no_fall d)
+
+pub returns-clause-leaves : goal.returns-clause-leaves
+returns-clause-leaves g c =
+    leaves_array_then g.R.Rack.slot_count g.R.Rack.slot c.args.core.now c.commit_up.new.core c.bring_up.new.core c.in_ok-commit_up.ensures.leaves c.in_ok-bring_up.ensures.leaves
+
+pub returns-in_err-bring_up-clause-two : goal.returns-in_err-bring_up-clause-two
+returns-in_err-bring_up-clause-two g c =
+    handed _ c.from_residual-in_err-bring_up.result _ c.from_residual-in_err-bring_up.ensures.1
+    (two_array g.R.Rack.slot_count g.R.Rack.slot c.args.core.now c.commit_up.new.core c.bring_up.new.core c.in_ok-commit_up.ensures.leaves c.bring_up.ensures.no_fall _ c.in_err-bring_up.ensures.two)

@@ -1,3 +1,4 @@
+use Rattle.paraid_shift.proofs.ServingLemmas.{array_marked, leaves_array_then, two_array, turns_lost}
 use Rattle.std.specs.Prelude.{◌+◌, Option}
 use Rattle.std.proofs.Common.{◌≡◌, subst}
 use Rattle.paraid_rack.specs.Told.{Ran}
@@ -96,3 +97,29 @@ returns-in_err-commit-clause-loses g c =
           (commit_is_lost g.R.Rack.slot_count g.R.Rack.slot g.R.Rack.told b new _ c.commit.ensures.calls c.commit.ensures.whole (c.commit.ensures.moments_since away)
           (λ d is. ap (λ (m : Meta). named_out m.out) marks.meta ∙ c.requires.serving.serves.stays d (sym (ap named_of marks.store) ∙ is)) c.in_err-commit.ensures.tells);
     })
+
+pub returns-clause-leaves : goal.returns-clause-leaves
+returns-clause-leaves g c =
+    let a = c.args.core.now in
+    let b = c.begin_up.new.self in
+    let marks = c.begin_up.ensures in
+    let done = c.in_ok-commit.ensures in
+    leaves_array_then g.R.Rack.slot_count g.R.Rack.slot a b c.commit.new.self
+    (array_marked g.R.Rack.slot_count g.R.Rack.slot a b marks.store (ap (λ (m : Meta). m.setup) marks.meta) (ap (λ (m : Meta). m.out) marks.meta) (ap (λ (m : Meta). m.writes) marks.meta))
+    record { slots = c.commit.ensures.slots; setup = done.setup; writes = done.writes; turned = turns_lost _ _ c.commit.ensures.spared; down = done.down }
+
+pub returns-in_err-commit-clause-two : goal.returns-in_err-commit-clause-two
+returns-in_err-commit-clause-two g c =
+    let a = c.args.core.now in
+    let b = c.begin_up.new.self in
+    let marks = c.begin_up.ensures in
+    handed _ c.from_residual.result _ c.from_residual.ensures.1
+    (two_array g.R.Rack.slot_count g.R.Rack.slot a b c.commit.new.self
+    (array_marked g.R.Rack.slot_count g.R.Rack.slot a b marks.store (ap (λ (m : Meta). m.setup) marks.meta) (ap (λ (m : Meta). m.out) marks.meta) (ap (λ (m : Meta). m.writes) marks.meta))
+    c.commit.ensures.spared.no_fall _ c.in_err-commit.ensures.two)
+
+pub returns-in_err-commit-clause-spared : goal.returns-in_err-commit-clause-spared
+returns-in_err-commit-clause-spared g c = rw (← c.begin_up.ensures.store) c.commit.ensures.spared
+
+pub returns-clause-spared : goal.returns-clause-spared
+returns-clause-spared g c = rw (← c.begin_up.ensures.store) c.commit.ensures.spared

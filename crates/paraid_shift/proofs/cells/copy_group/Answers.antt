@@ -1,3 +1,8 @@
+use Rattle.paraid_core.proofs.StepLemmas.{unmarked}
+use Rattle.paraid_view.proofs.TwoLemmas.{spared_then}
+use Rattle.paraid_txn.specs.Stores.{store_rack}
+use Rattle.paraid_shift.proofs.MovingLemmas.{group_same}
+use Rattle.paraid_shift.specs.Units.{IsGroupOf}
 use Rattle.std.proofs.Common.{◌≡◌, ◌<◌, ◌∙◌, sym, subst}
 use Rattle.paraid_base.specs.declared.state.Out.TheVariants.{No}
 use Rattle.paraid_record.specs.declared.meta.Setup.{Setup}
@@ -127,3 +132,18 @@ returns-in_err-settle-clause-tells g c =
     let new = c.settle.new.self in
     handed (CoreTellsLosses g.R.Rack.told (named_out a.meta.out) a new) c.from_residual-in_err-settle.result _ c.from_residual-in_err-settle.ensures.1
     (copies_tell_then g.R.Rack.slot_count g.R.Rack.slot g.R.Rack.told g.met.R.Rack.agrees a c.copy_cells.new.core new _ c.requires.serving.ready c.in_ok-copied.ensures.marks c.copy_cells.ensures.calls c.in_err-settle.ensures.tells)
+
+pub returns-in_err-settle-clause-spared : goal.returns-in_err-settle-clause-spared
+returns-in_err-settle-clause-spared g c = spared_then (g.R.Rack.slot (store_rack c.args.core.now.store)) (g.R.Rack.slot (store_rack c.copy_cells.new.core.store)) (g.R.Rack.slot (store_rack c.settle.new.self.store)) c.copy_cells.ensures.spared c.settle.ensures.spared
+
+pub returns-clause-spared : goal.returns-clause-spared
+returns-clause-spared g c = (left g c.before).spared
+
+pub returns-clause-group : goal.returns-clause-group
+returns-clause-group g c =
+    let a = c.args.core.now in
+    let d = c.settle.new.self in
+    let still : d.meta.out ≡ No = sym c.out.ensures ∙ c.in-No.is in
+    let kept = left g c.before in
+    some_more _ (λ (it : Group). IsGroupOf a.meta a.dirty c.args.most it.count it.row it.disk) (λ (it : Group). IsGroupOf d.meta d.dirty c.args.most it.count it.row it.disk)
+    (λ it was. group_same a.meta d.meta a.dirty d.dirty c.args.most it.count it.row it.disk (unmarked a.meta d.meta kept.meta still) kept.table was) c.in_ok-copied.ensures.group

@@ -58,3 +58,26 @@ returns-in_err-copied-clause-loses g c =
     let new = c.copy_group.new.core in
     handed (CoreLosesInSteps g.R.Rack.slot_count g.R.Rack.told a new 1) c.from_residual.result _ c.from_residual.ensures.1
     (copies_lose g.R.Rack.slot_count g.R.Rack.told a new _ c.requires.nothing c.copy_group.ensures.calls c.copy_group.ensures.moments c.in_err-copied.ensures.tells)
+
+pub returns-clause-leaves : goal.returns-clause-leaves
+returns-clause-leaves g c =
+    let l = array_left g.R.Rack.slot_count g.R.Rack.slot c.args.core.now c.copy_group.new.core c.in_ok-copied.ensures.leaves in
+    rw (c.mark_cells.ensures.store, c.mark_cells.ensures.meta) record { slots = l.slots; setup = l.setup; writes = l.writes; turned = l.turned; down = l.down }
+
+pub returns-clause-absent : goal.returns-clause-absent
+returns-clause-absent g c was = rw (c.mark_cells.ensures.store, c.mark_cells.ensures.meta) (c.in_ok-copied.ensures.leaves.absent was)
+
+pub returns-clause-meta : goal.returns-clause-meta
+returns-clause-meta g c = rw c.mark_cells.ensures.meta c.in_ok-copied.ensures.leaves.meta
+
+pub returns-clause-spared : goal.returns-clause-spared
+returns-clause-spared g c = rw c.mark_cells.ensures.store c.copy_group.ensures.spared
+
+pub returns-clause-calls : goal.returns-clause-calls
+returns-clause-calls g c = rw c.mark_cells.ensures.store c.copy_group.ensures.calls
+
+pub returns-clause-marks : goal.returns-clause-marks
+returns-clause-marks g c = rw (c.mark_cells.ensures.store, c.mark_cells.ensures.meta) c.in_ok-copied.ensures.marks
+
+pub returns-clause-moments : goal.returns-clause-moments
+returns-clause-moments g c = rw c.mark_cells.ensures.store c.copy_group.ensures.moments

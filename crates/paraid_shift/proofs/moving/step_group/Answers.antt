@@ -1,3 +1,9 @@
+use Rattle.std.proofs.Common.{◌<◌}
+use Rattle.std.proofs.Common.{ℕ, ◌≤◌}
+use Rattle.std.proofs.Common.{◌+◌, ◌∙◌, ap, ◌≡◌}
+use Rattle.paraid_record.specs.declared.meta.Meta.{Meta}
+use Rattle.paraid_core.specs.Steps.{IsMarkedFrom}
+use Rattle.paraid_core.proofs.ChainLemmas.{marked_epoch}
 use Rattle.paraid_txn.specs.Stores.{store_rack}
 use Rattle.paraid_shift.proofs.StepsLemmas.{copies_are_steps, core_steps_then, core_steps_within}
 use Rattle.paraid_shift.proofs.ServingLemmas.{none_away}
@@ -64,3 +70,51 @@ returns-in_err-commit-clause-loses g c =
     (copies_are_steps g.R.Rack.slot_count g.R.Rack.slot g.R.Rack.told a b (g.met.R.Rack.agrees (store_rack a.store)) (g.met.R.Rack.agrees (store_rack b.store)) moved.leaves.slots moved.leaves.setup moved.serving.ready moved.marks
     c.requires.nothing c.move_group.ensures.calls moved.stands)
     (c.in_err-commit.ensures.loses (none_away g.R.Rack.slot b whole)))
+
+later : (a b c : ℕ) → a ≤ b → b ≤ c → a ≤ c
+later a b c first second = omega arith
+
+same_epoch : (a b : Meta) → IsMarkedFrom a b → b.epoch ≤ a.epoch + 1
+same_epoch a b marked = let same = ap (λ (m : Meta). m.epoch) marked.is ∙ marked_epoch marked.lost a in omega arith
+
+pub returns-in_err-commit-clause-no_fall : goal.returns-in_err-commit-clause-no_fall
+returns-in_err-commit-clause-no_fall g c d = later _ _ _ (c.move_group.ensures.spared.no_fall d) (c.commit.ensures.spared.no_fall d)
+
+pub returns-clause-no_fall : goal.returns-clause-no_fall
+returns-clause-no_fall g c d = later _ _ _ (c.move_group.ensures.spared.no_fall d) (c.commit.ensures.spared.no_fall d)
+
+pub returns-then-count-eq0-clause-epoch : goal.returns-then-count-eq0-clause-epoch
+returns-then-count-eq0-clause-epoch g c = same_epoch _ _ c.in_ok-count.ensures.meta
+
+pub returns-then-has_ended-clause-epoch : goal.returns-then-has_ended-clause-epoch
+returns-then-has_ended-clause-epoch g c = same_epoch _ _ c.in_ok-count.ensures.meta
+
+pub returns-clause-all : goal.returns-clause-all
+returns-clause-all g c none = absurd (c.if-count-eq0.false none)
+
+pub returns-then-has_ended-clause-all : goal.returns-then-has_ended-clause-all
+returns-then-has_ended-clause-all g c none = absurd (c.if-count-eq0.false none)
+
+pub returns-clause-ended : goal.returns-clause-ended
+returns-clause-ended g c some = absurd (some c.in_ok-commit.ensures.nothing)
+
+next_epoch : (a b new : Meta) → IsMarkedFrom a b → new.epoch ≡ b.epoch + 1 → new.epoch ≤ a.epoch + 1
+next_epoch a b new marked next = let same = ap (λ (m : Meta). m.epoch) marked.is ∙ marked_epoch marked.lost a in omega arith
+
+still_low : (a b : Meta) (top : ℕ) → IsMarkedFrom a b → a.epoch < top → b.epoch < top
+still_low a b top marked low = let same = ap (λ (m : Meta). m.epoch) marked.is ∙ marked_epoch marked.lost a in omega arith
+
+pub returns-clause-epoch : goal.returns-clause-epoch
+returns-clause-epoch g c = next_epoch c.args.core.now.meta c.move_group.new.core.meta c.commit.new.core.meta c.in_ok-count.ensures.meta c.in_ok-commit.ensures.epoch
+
+pub commit-requires-clause-epoch : goal.commit-requires-clause-epoch
+commit-requires-clause-epoch g c = still_low c.args.core.now.meta c.move_group.new.core.meta _ c.in_ok-count.ensures.meta c.requires.epoch
+
+pub returns-then-count-eq0-clause-all : goal.returns-then-count-eq0-clause-all
+returns-then-count-eq0-clause-all g c none = c.in_ok-count.ensures.all c.if-count-eq0.true
+
+pub returns-then-count-eq0-clause-ended : goal.returns-then-count-eq0-clause-ended
+returns-then-count-eq0-clause-ended g c some = absurd (some (c.in_ok-count.ensures.idle c.if-count-eq0.true))
+
+pub returns-then-has_ended-clause-ended : goal.returns-then-has_ended-clause-ended
+returns-then-has_ended-clause-ended g c some = c.has_ended.ensures.done c.if-has_ended.true

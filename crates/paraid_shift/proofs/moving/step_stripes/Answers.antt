@@ -1,3 +1,7 @@
+use Rattle.std.specs.Prelude.{◌^◌}
+use Rattle.std.proofs.Common.{◌+◌, ◌<◌, sym, subst}
+use Rattle.paraid_core.proofs.ChainLemmas.{marked_epoch}
+use Rattle.std.proofs.Common.{ℕ, ◌≤◌}
 use Rattle.paraid_txn.specs.Stores.{store_rack}
 use Rattle.paraid_shift.proofs.StepsLemmas.{copies_are_steps, core_steps_none, core_steps_within, core_waits_within, marks_committed}
 use Rattle.paraid_shift.proofs.ServingLemmas.{none_away}
@@ -113,3 +117,65 @@ returns-in_err-commit-clause-loses g c =
     let whole : b.meta.out ≡ No = ap (λ (m : Meta). m.out) (done.filled (ap Ok c.if-not-done.false)) ∙ c.requires.whole in
     handed (CoreLosesInSteps g.R.Rack.slot_count g.R.Rack.told a c.commit.new.core 1) c.from_residual-in_err-commit.result _ c.from_residual-in_err-commit.ensures.1
     (marks_lose g.R.Rack.slot_count g.R.Rack.told a b c.commit.new.core b.meta 0 _ (done.waits (ap Ok c.if-not-done.false)) (c.in_err-commit.ensures.loses_marked (none_away g.R.Rack.slot b whole)))
+
+later : (a b c : ℕ) → a ≤ b → b ≤ c → a ≤ c
+later a b c first second = omega arith
+
+pub returns-in_err-commit-clause-no_fall : goal.returns-in_err-commit-clause-no_fall
+returns-in_err-commit-clause-no_fall g c d = later _ _ _ (c.move_stripes.ensures.spared.no_fall d) (c.commit.ensures.spared.no_fall d)
+
+pub returns-clause-no_fall : goal.returns-clause-no_fall
+returns-clause-no_fall g c d = later _ _ _ (c.move_stripes.ensures.spared.no_fall d) (c.commit.ensures.spared.no_fall d)
+
+lower_than : (m n : Meta) (end : ℕ) → m ≡ n → m.fill < end → n.fill < end
+lower_than m n end same low = subst (λ (z : Meta). z.fill < end) same low
+
+below_then : (a b : ℕ) → a < b → a ≤ b
+below_then a b low = omega arith
+
+few_of : (m n : Meta) (end most : ℕ) → m ≡ n → end ≤ n.fill + most → end - m.fill ≤ most
+few_of m n end most same few = let fill = ap (λ (z : Meta). z.fill) same in omega arith
+
+same_epoch : (a b : ℕ) → b ≡ a → b ≤ a + 1
+same_epoch a b same = omega arith
+
+next_epoch : (a b new : ℕ) → b ≡ a → new ≡ b + 1 → new ≤ a + 1
+next_epoch a b new same next = omega arith
+
+pub move_stripes-requires-clause-shifts : goal.move_stripes-requires-clause-shifts
+move_stripes-requires-clause-shifts g c = c.next_end-end.ensures.shifts (lower_than _ _ _ c.meta.ensures c.if-end-from.false)
+
+pub move_stripes-requires-clause-region : goal.move_stripes-requires-clause-region
+move_stripes-requires-clause-region g c = c.next_end-end.ensures.region (lower_than _ _ _ c.meta.ensures c.if-end-from.false)
+
+pub move_stripes-requires-clause-stripe : goal.move_stripes-requires-clause-stripe
+move_stripes-requires-clause-stripe g c = c.next_end-end.ensures.stripe (lower_than _ _ _ c.meta.ensures c.if-end-from.false)
+
+pub overflow_sub-result : goal.overflow_sub-result
+overflow_sub-result g c = below_then _ _ c.if-end-from.false
+
+pub overflow_sub-result-2 : goal.overflow_sub-result-2
+overflow_sub-result-2 g c = below_then _ _ c.if-end-from.false
+
+pub returns-then-has_ended-clause-few : goal.returns-then-has_ended-clause-few
+returns-then-has_ended-clause-few g c = few_of _ _ _ _ c.meta.ensures c.next_end-end.ensures.few
+
+pub returns-clause-few : goal.returns-clause-few
+returns-clause-few g c = few_of _ _ _ _ c.meta.ensures c.next_end-end.ensures.few
+
+pub returns-then-not-done-clause-epoch : goal.returns-then-not-done-clause-epoch
+returns-then-not-done-clause-epoch g c =
+    let marked = c.in_ok-done.ensures.lost (ap Ok c.if-not-done.true) in
+    same_epoch c.args.core.now.meta.epoch c.move_stripes.new.core.meta.epoch (ap (λ (m : Meta). m.epoch) marked.is ∙ marked_epoch marked.lost c.args.core.now.meta)
+
+pub returns-then-has_ended-clause-epoch : goal.returns-then-has_ended-clause-epoch
+returns-then-has_ended-clause-epoch g c = same_epoch c.args.core.now.meta.epoch c.move_stripes.new.core.meta.epoch (ap (λ (m : Meta). m.epoch) (c.in_ok-done.ensures.filled (ap Ok c.if-not-done.false)))
+
+pub returns-clause-epoch : goal.returns-clause-epoch
+returns-clause-epoch g c =
+    next_epoch c.args.core.now.meta.epoch c.move_stripes.new.core.meta.epoch c.commit.new.core.meta.epoch (ap (λ (m : Meta). m.epoch) (c.in_ok-done.ensures.filled (ap Ok c.if-not-done.false))) c.in_ok-commit.ensures.epoch
+
+pub commit-requires-clause-epoch : goal.commit-requires-clause-epoch
+commit-requires-clause-epoch g c =
+    let same : c.move_stripes.new.core.meta.epoch ≡ c.args.core.now.meta.epoch = ap (λ (m : Meta). m.epoch) (c.in_ok-done.ensures.filled (ap Ok c.if-not-done.false)) in
+    subst (λ (e : ℕ). e < 2 ^ 63) (sym same) c.requires.epoch
