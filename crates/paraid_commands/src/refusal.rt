@@ -2,7 +2,7 @@ use paraid_config::ConfigFault;
 use paraid_format::FormatFault;
 
 /// Why no array was made.
-#[derive(Clone, Copy, PartialEq, Eq)]
+#[derive(Clone, Copy)]
 pub enum Refusal {
     /// The source has failed.
     Source,

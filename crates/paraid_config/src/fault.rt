@@ -3,7 +3,7 @@ use paraid_base::GeoFault;
 
 /// Why a configuration is refused. The causes are tested in this order, `Missing`, `Kind` and
 /// `Range` key by key, in the order of the keys.
-#[derive(Clone, Copy, PartialEq, Eq)]
+#[derive(Clone, Copy)]
 pub enum ConfigFault {
     /// The text has more than 65,536 bytes.
     Long,

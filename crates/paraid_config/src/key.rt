@@ -2,7 +2,7 @@ ghost use Rattle.std.specs.Prelude.{◌≡◌};
 ghost use Rattle.paraid_config.specs.Keys.{key_name, low_of, high_of, is_known as is_known_name};
 
 /// A key of a configuration. The values of the keys are tested in this order.
-#[derive(Clone, Copy, PartialEq, Eq)]
+#[derive(Clone, Copy)]
 pub enum Key {
     Disks,
     Rows,

@@ -1,5 +1,5 @@
 /// What the samples ask for.
-#[derive(Clone, Copy, PartialEq, Eq)]
+#[derive(Clone, Copy)]
 pub enum Decision {
     /// To stay in this gear.
     Stay,

@@ -4,7 +4,7 @@ ghost use Rattle.paraid_memrack.specs.CallPlan.{names_call};
 use paraid_base::DiskNo;
 
 /// A call that is to fail. Only calls that are listed are counted, from 0.
-#[derive(Clone, Copy, PartialEq, Eq)]
+#[derive(Clone, Copy)]
 pub enum Planned {
     /// The call of this number.
     AtCall(u32),

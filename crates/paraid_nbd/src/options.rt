@@ -36,7 +36,7 @@ const UNSUPPORTED: u32 = 0x8000_0001;
 const MAX_CHOICE: usize = 8192;
 
 /// What an option asks for.
-#[derive(Clone, Copy, PartialEq, Eq)]
+#[derive(Clone, Copy)]
 pub enum OptionKind {
     /// Serve this export, in the old way.
     Export,

@@ -15,7 +15,7 @@ pub(crate) const REPLY: u32 = 0x6744_6698;
 pub(crate) const MAX_LENGTH: u32 = 33_554_432;
 
 /// What a request asks for.
-#[derive(Clone, Copy, PartialEq, Eq)]
+#[derive(Clone, Copy)]
 pub enum Command {
     Read,
     Write,
@@ -26,7 +26,7 @@ pub enum Command {
 }
 
 /// How a request is answered.
-#[derive(Clone, Copy, PartialEq, Eq)]
+#[derive(Clone, Copy)]
 pub enum Outcome {
     /// It was done.
     Done,
@@ -39,7 +39,7 @@ pub enum Outcome {
 }
 
 /// What stands between the number before a request and the bytes to write.
-#[derive(Clone, Copy, PartialEq, Eq)]
+#[derive(Clone, Copy)]
 pub struct Request {
     pub flags: u16,
     pub command: Command,

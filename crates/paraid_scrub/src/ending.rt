@@ -1,7 +1,7 @@
 use paraid_base::Two;
 
 /// What ends a count before its end.
-#[derive(Clone, Copy, PartialEq, Eq)]
+#[derive(Clone, Copy)]
 pub enum Ending {
     /// A disk was lost, the first one down.
     Lost,

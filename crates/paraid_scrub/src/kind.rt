@@ -9,7 +9,7 @@ pub enum Kind {
 }
 
 /// How many of each kind are false.
-#[derive(Clone, Copy, PartialEq, Eq)]
+#[derive(Clone, Copy)]
 pub struct CheckReport {
     pub rows: u32,
     pub stripes: u32,

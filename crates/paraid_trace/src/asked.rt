@@ -2,7 +2,7 @@ use paraid_base::BlockNo;
 
 /// What a line asks for. The pairs of a write stand beside it, where they stay, since they take
 /// four kilobytes.
-#[derive(Clone, Copy, PartialEq, Eq)]
+#[derive(Clone, Copy)]
 pub enum Asked {
     Read { block: BlockNo },
     Write,
