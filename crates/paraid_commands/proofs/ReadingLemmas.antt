@@ -10,6 +10,14 @@ use Rattle.paraid_commands.specs.Reading.{IsMisread}
 pub too_long : (bytes piece : List ℕ) (count : ℕ) → count ≤ length piece → 65536 - length bytes < count → 65536 < length (bytes ++ take count piece)
 too_long bytes piece count within many = rw (length-append bytes (take count piece), length-take count piece) (omega arith)
 
+-- a piece after these bytes is not more than that
+pub still_short : (bytes piece : List ℕ) (count : ℕ) → length bytes ≤ 65536 → count ≤ 65536 - length bytes → length (bytes ++ take count piece) ≤ 65536
+still_short bytes piece count short few = rw (length-append bytes (take count piece), length-take count piece) (omega arith)
+
+-- after it there is less room
+pub less_room : (bytes piece : List ℕ) (count : ℕ) → count ≤ length piece → 0 < count → count ≤ 65536 - length bytes → 65536 - length (bytes ++ take count piece) < 65536 - length bytes
+less_room bytes piece count within some few = rw (length-append bytes (take count piece), length-take count piece) (omega arith)
+
 -- all bytes are refused
 pub IsMisread-refused : (bytes : List ℕ) (after : Option (List ℕ)) (fault : ConfigFault) → AtEnd after → IsConfigRefusal bytes fault → IsMisread bytes after fault
 IsMisread-refused bytes after Long end is = is

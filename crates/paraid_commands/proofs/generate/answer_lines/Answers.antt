@@ -1,9 +1,9 @@
-use Rattle.std.proofs.Common.{◌≡◌, ◌+◌, arith, ap, ◌∙◌, refl}
+use Rattle.std.proofs.Common.{◌≡◌, ◌+◌, ◌≤◌, arith, ap, ◌∙◌, refl}
 use Rattle.paraid_serve.proofs.GrowsLemmas.{grows_none, grows_then, told_then}
 use Rattle.paraid_commands.specs.declared.tally.Tally.{Tally}
 use Rattle.paraid_commands.specs.Tally.{tally_with_answer, tally_with_event}
 use Rattle.paraid_commands.proofs.GenLemmas.{counted_more, counted_none}
-use Rattle.paraid_commands.proofs.TallyLemmas.{fits_answer, fits_event, fits_none}
+use Rattle.paraid_commands.proofs.TallyLemmas.{fits_answer, fits_event, fits_none, fits_room}
 use Rattle.paraid_commands.proofs.generate.answer_lines.Goals as goal
 
 pub events-init : goal.events-init
@@ -38,3 +38,35 @@ pub returns-clause-counted : goal.returns-clause-counted
 returns-clause-counted g c = λ t p s.
     let e : c.events.i ≡ c.args.lines = omega (arith, c.events-test.false, c.events.auto.i-end) in
     rw e at (c.events.invariant.counted t p s)
+
+pub generate-event-requires : goal.generate-event-requires
+generate-event-requires g c = record { some = c.blocks-blocks.ensures.some }
+
+pub count_event-requires : goal.count_event-requires
+count_event-requires g c =
+    let few : c.events.i ≤ 1000000 = omega (arith, c.events-test.true, c.requires.few) in
+    record { room = fits_room c.events.tally c.events.i c.events.i c.events.invariant.fits few few }
+
+pub answer_event-answered-requires : goal.answer_event-answered-requires
+answer_event-answered-requires g c = record { halt = c.events.invariant.halt }
+
+pub count_answer-requires : goal.count_answer-requires
+count_answer-requires g c =
+    let more : c.events.i + 1 ≤ 1000000 = omega (arith, c.events-test.true, c.requires.few) in
+    let few : c.events.i ≤ 1000000 = omega (arith, more) in
+    record { room = rw c.count_event.ensures (fits_room _ (c.events.i + 1) c.events.i (fits_event c.events.tally c.generate-event.result c.events.i c.events.i c.events.invariant.fits) more few) }
+
+pub returns-clause-told : goal.returns-clause-told
+returns-clause-told g c = c.events.invariant.told
+
+pub returns-clause-slots : goal.returns-clause-slots
+returns-clause-slots g c = c.events.invariant.slots
+
+pub returns-clause-setup : goal.returns-clause-setup
+returns-clause-setup g c = c.events.invariant.setup
+
+pub returns-clause-halt : goal.returns-clause-halt
+returns-clause-halt g c = c.events.invariant.halt
+
+pub returns-clause-since : goal.returns-clause-since
+returns-clause-since g c = c.events.invariant.since

@@ -1,10 +1,11 @@
-use Rattle.std.proofs.Common.{◌≡◌, subst, ℕ, length}
+use Rattle.std.proofs.Common.{◌≡◌, inl, inr, subst, ℕ, length}
 use Rattle.paraid_dirty.specs.Table.{is_dirty}
 use Rattle.paraid_commands.specs.MountFaults.{mount_fault_line, mount_fault_status}
 use Rattle.paraid_commands.specs.Showing.ShowOutcome.{refused, shown}
 use Rattle.paraid_commands.specs.States.{status_lines}
 use Rattle.paraid_recover.specs.Mounted.{IsServable}
 use Rattle.paraid_txn.specs.Stores.{disks_of, epoch_of, named_of, store_rack}
+use Rattle.paraid_commands.proofs.ShowLemmas.{refused_status}
 use Rattle.paraid_commands.proofs.status.show_state.Goals as goal
 
 pub returns-clause-shows : goal.returns-clause-shows
@@ -35,3 +36,15 @@ returns-in-Ok-clause-shows g c =
       });
       ends = c.tell_state-status.ensures.tells;
     })
+
+pub returns-in-Ok-clause-status : goal.returns-in-Ok-clause-status
+returns-in-Ok-clause-status g c = elim c.tell_state-status.ensures.tells.whole [ inl failed ↦ inr (inl failed) | inr told ↦ inl told.1 ]
+
+pub returns-in-Ok-clause-sink : goal.returns-in-Ok-clause-sink
+returns-in-Ok-clause-sink g c = c.tell_state-status.ensures.sink
+
+pub returns-clause-status : goal.returns-clause-status
+returns-clause-status g c = elim c.tell_refusal.ensures.tells.whole [ inl failed ↦ inr (inl failed) | inr told ↦ refused_status c.in-Err.field-0.fault _ told.1 ]
+
+pub returns-clause-sink : goal.returns-clause-sink
+returns-clause-sink g c = c.tell_refusal.ensures.sink

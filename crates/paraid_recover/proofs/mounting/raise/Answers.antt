@@ -1,12 +1,19 @@
-use Rattle.std.specs.Prelude.{◌≡◌, ℕ, length, Option, None}
-use Rattle.std.proofs.Common.{ap, inl, inr, refl, subst, sym, ◌∙◌}
+use Rattle.std.specs.Prelude.{◌≡◌, ℕ, ◌≤◌, ◌⊎◌, Bool, true, false, length, Option, None}
+use Rattle.std.proofs.Common.{ap, arith, inl, inr, refl, subst, sym, ◌∙◌}
+use Rattle.paraid_base.specs.Told.{HasRisen}
+use Rattle.paraid_base.proofs.ToldLemmas.{HasRisen-later, HasRisen-sooner}
+use Rattle.paraid_rack.specs.declared.call.Power.TheVariants.{Absent}
+use Rattle.paraid_rack.specs.Disks.{is_present}
+use Rattle.paraid_rack.specs.Slots.{Slot}
+use Rattle.paraid_txn.proofs.MeansLemmas.{absent_power}
+use Rattle.paraid_recover.proofs.FitLemmas.{gone_named}
 use Rattle.paraid_rack.specs.Told.{Ran}
 use Rattle.paraid_rack.specs.Trail.{Trail, now}
 use Rattle.paraid_record.specs.declared.meta.Meta.{Meta}
 use Rattle.paraid_record.specs.declared.meta.Setup.{Setup}
 use Rattle.paraid_image.specs.Out.{named_out}
 use Rattle.paraid_image.specs.Sides.{LogState}
-use Rattle.paraid_txn.specs.Losses.{AreGoneSince, IsOutOfCommit, AreTwoDownBeside}
+use Rattle.paraid_txn.specs.Losses.{AreGoneSince, IsOutOfCommit, IsWell, AreTwoDownBeside}
 use Rattle.paraid_txn.specs.Uses.{EachCall}
 use Rattle.paraid_txn.specs.Stores.{store_out, store_rack}
 use Rattle.paraid_recover.specs.HeldMoments.{EndsHeld, IsOutAtEnd, Recovers, RecoversHeld}
@@ -14,7 +21,7 @@ use Rattle.paraid_recover.specs.MountCalls.{OnlyMountCalls}
 use Rattle.paraid_recover.specs.RecoveryMark.{to_mark, with_mark}
 use Rattle.paraid_recover.specs.Mounted.{IsServable, with_loss}
 use Rattle.paraid_dirty.specs.Table.{is_dirty}
-use Rattle.paraid_recover.specs.Powers.{IsPowerCall}
+use Rattle.paraid_recover.specs.Powers.{IsPowerCall, IsPowerChanged}
 use Rattle.paraid_recover.proofs.FarLemmas.{far_ran, map_on, turn_far}
 use Rattle.paraid_recover.proofs.MapServedLemmas.{named_or_absent}
 use Rattle.paraid_recover.proofs.MarkMomentLemmas.{mark_by_slots, mark_sooner}
@@ -208,3 +215,89 @@ returns-in-Err-power_disks-clause-gone g c =
     (gone_beside (IsOutOfCommit power k (named_out marked_is.out) None) (IsOutOfCommit power k (named_out m.out) None) b d two (out_marked m given.0 power given.2)
     (subst (λ (x : ℕ). AreGoneSince (IsOutOfCommit power x (named_out marked_is.out) None) b d two) (ap (λ (s : Setup). s.geometry.disks) (disks_marked m given.0))
     (subst (λ (x : Meta). AreGoneSince (IsOutOfCommit power x.setup.geometry.disks (named_out x.out) None) b d two) given.1 c.in-Err-power_disks.ensures.gone)))
+
+-- the slots once the disks are powered
+later : (g : Over) (c : After-power_disks g) (d : ℕ) → (g.R.Rack.slot (store_rack c.args.store.now) d).faults ≤ (g.R.Rack.slot (store_rack c.power_disks.new.store) d).faults
+later g c d = let first = c.settle.ensures.powers.no_fall d in let second = (c.power_disks.ensures.turned d).later in omega arith
+
+absent : (g : Over) (c : After-power_disks g) (d : ℕ) → (g.R.Rack.slot (store_rack c.args.store.now) d).power ≡ Absent → (g.R.Rack.slot (store_rack c.power_disks.new.store) d).power ≡ Absent
+absent g c d gone =
+    let a = g.R.Rack.slot (store_rack c.args.store.now) in
+    let b = g.R.Rack.slot (store_rack c.settle.new.store) in
+    stays_absent b (g.R.Rack.slot (store_rack c.power_disks.new.store)) d (λ e. (c.power_disks.ensures.turned e).there) (stays_absent a b d (none_comes a b c.settle.ensures.powers) gone)
+
+pub returns-in-Err-clause-later : goal.returns-in-Err-clause-later
+returns-in-Err-clause-later g c = c.settle.ensures.powers.no_fall
+
+pub returns-in-Err-power_disks-clause-later : goal.returns-in-Err-power_disks-clause-later
+returns-in-Err-power_disks-clause-later g c = later g (goal.at.returns-in-Err-power_disks-clause-later g c).After-power_disks
+
+pub returns-clause-later : goal.returns-clause-later
+returns-clause-later g c = later g (goal.at.returns-clause-later g c).After-power_disks
+
+pub returns-in-Err-clause-absent : goal.returns-in-Err-clause-absent
+returns-in-Err-clause-absent g c d gone =
+    let a = g.R.Rack.slot (store_rack c.args.store.now) in
+    let b = g.R.Rack.slot (store_rack c.settle.new.store) in
+    stays_absent a b d (none_comes a b c.settle.ensures.powers) gone
+
+pub returns-in-Err-power_disks-clause-absent : goal.returns-in-Err-power_disks-clause-absent
+returns-in-Err-power_disks-clause-absent g c = absent g (goal.at.returns-in-Err-power_disks-clause-absent g c).After-power_disks
+
+pub returns-clause-absent : goal.returns-clause-absent
+returns-clause-absent g c = absent g (goal.at.returns-clause-absent g c).After-power_disks
+
+pub returns-in-Err-clause-two : goal.returns-in-Err-clause-two
+returns-in-Err-clause-two g c = c.in-Err.ensures.two
+
+pub returns-in-Err-clause-gone : goal.returns-in-Err-clause-gone
+returns-in-Err-clause-gone g c = c.in-Err.ensures.gone
+
+pub returns-in-Err-clause-allowed : goal.returns-in-Err-clause-allowed
+returns-in-Err-clause-allowed g c = c.settle.ensures.allowed
+
+pub returns-in-Err-clause-holds : goal.returns-in-Err-clause-holds
+returns-in-Err-clause-holds g c = c.settle.ensures.holds
+
+pub returns-in-Err-clause-metas : goal.returns-in-Err-clause-metas
+returns-in-Err-clause-metas g c = c.settle.ensures.metas
+
+pub settle-requires : goal.settle-requires
+settle-requires g c = c.requires
+
+pub with_loss-requires : goal.with_loss-requires
+with_loss-requires g c =
+    let at = c.in_default.ensures in record {
+      named = at.same.named ∙ sym c.in-Ok.ensures.named;
+      in_range = c.in-Ok.ensures.fit.in_range;
+      exists = (let fits = c.in-Ok.ensures.fit.enough in let same = at.slots in omega arith);
+      disks = at.same.disks ∙ c.settle.ensures.disks ∙ c.requires.disks ∙ sym (ap (λ (x : Meta). x.setup.geometry.disks) c.in-Ok.ensures.given.1 ∙ ap (λ (s : Setup). s.geometry.disks) (disks_marked c.args.meta.now c.in-Ok.ensures.given.0));
+    }
+
+pub power_disks-requires : goal.power_disks-requires
+power_disks-requires g c =
+    let m = c.in-Ok.standing in
+    let fit = c.in-Ok.ensures.fit in record {
+      exists = fit.enough;
+      disks = c.settle.ensures.disks ∙ c.requires.disks ∙ sym (ap (λ (x : Meta). x.setup.geometry.disks) c.in-Ok.ensures.given.1 ∙ ap (λ (s : Setup). s.geometry.disks) (disks_marked c.args.meta.now c.in-Ok.ensures.given.0));
+      named = sym c.in-Ok.ensures.named;
+      awake = fit.awake;
+      synced = λ d low not. c.in-Ok.ensures.synced d low (λ gone. not (gone_named m.out d gone));
+    }
+
+-- a disk that is absent then was so before, or has failed since
+failed : (a b c : Slot) (m : Meta) (d : ℕ) → HasRisen a.faults b.faults ⊎ IsWell a b → a.faults ≤ b.faults → IsPowerChanged m d b c → c.power ≡ Absent → (a.power ≡ Absent) ⊎ HasRisen a.faults c.faults
+failed a b c m d each before turned gone = split (is_present b.power) refl
+  where
+    split : (x : Bool) → is_present b.power ≡ x → (a.power ≡ Absent) ⊎ HasRisen a.faults c.faults
+    split true here = inr (HasRisen-sooner a.faults b.faults c.faults before (turned.risen here (ap is_present gone)))
+    split false off = elim each [ inl risen ↦ inr (HasRisen-later a.faults b.faults c.faults risen turned.later) | inr well ↦ inl (sym well.power ∙ absent_power b.power off) ]
+
+pub returns-in-Err-clause-failed : goal.returns-in-Err-clause-failed
+returns-in-Err-clause-failed g c d gone = elim (c.settle.ensures.each d) [ inl risen ↦ inr risen | inr well ↦ inl (sym well.power ∙ gone) ]
+
+pub returns-in-Err-power_disks-clause-failed : goal.returns-in-Err-power_disks-clause-failed
+returns-in-Err-power_disks-clause-failed g c d gone = failed _ (g.R.Rack.slot (store_rack c.settle.new.store) d) _ c.in-Ok.standing d (c.settle.ensures.each d) (c.settle.ensures.powers.no_fall d) (c.power_disks.ensures.turned d) gone
+
+pub returns-clause-failed : goal.returns-clause-failed
+returns-clause-failed g c d gone = failed _ (g.R.Rack.slot (store_rack c.settle.new.store) d) _ c.in-Ok.standing d (c.settle.ensures.each d) (c.settle.ensures.powers.no_fall d) (c.power_disks.ensures.turned d) gone

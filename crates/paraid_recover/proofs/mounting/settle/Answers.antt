@@ -377,3 +377,58 @@ returns-in-Err-mark_out-clause-gone g c =
     (out_unmarked power (n g at) (named_out m.out) mark (λ d is. let it = marks power m d c.requires.fit.in_range is in (it.0, it.1)))
     (subst (λ (o : Option ℕ). AreGoneSince (IsOutOfCommit power (n g at) o mark) b (slot_3 g at) two) (named_is g at)
     (subst (λ (k : ℕ). AreGoneSince (IsOutOfCommit power k c.sync_all.new.self.named mark) b (slot_3 g at) two) (disks_is g at) c.in-Err-mark_out.ensures.gone)))
+
+-- the slots once a disk was marked
+all_each : (g : Over) (c : After-mark_out g) → AreFailedOrWell (g.R.Rack.slot (store_rack c.args.store.now)) (g.R.Rack.slot (store_rack c.mark_out.new.store))
+all_each g c = each_then _ _ _ (both_each g c) c.mark_out.ensures.each (both_spared g c).no_fall c.mark_out.ensures.powers.no_fall
+
+pub returns-in-Ok-clause-each : goal.returns-in-Ok-clause-each
+returns-in-Ok-clause-each g c = all_each g (goal.at.returns-in-Ok-clause-each g c).After-mark_out
+
+pub returns-in-Err-mark_out-clause-each : goal.returns-in-Err-mark_out-clause-each
+returns-in-Err-mark_out-clause-each g c = all_each g (goal.at.returns-in-Err-mark_out-clause-each g c).After-mark_out
+
+pub returns-in-Ok-clause-powers : goal.returns-in-Ok-clause-powers
+returns-in-Ok-clause-powers g c = spared_both _ _ _ (both_spared g (goal.at.returns-in-Ok-clause-powers g c).After-mark_out) c.mark_out.ensures.powers
+
+pub returns-in-Ok-clause-epoch : goal.returns-in-Ok-clause-epoch
+returns-in-Ok-clause-epoch g c = c.in-Ok.ensures.epoch
+
+pub returns-in-Ok-clause-named : goal.returns-in-Ok-clause-named
+returns-in-Ok-clause-named g c = c.in-Ok.ensures.named
+
+pub returns-in-Ok-clause-slots : goal.returns-in-Ok-clause-slots
+returns-in-Ok-clause-slots g c = c.mark_out.ensures.slots ∙ c.sync_all.ensures.slots ∙ c.in_default.ensures.read.slots
+
+pub returns-in-Err-mark_out-clause-slots : goal.returns-in-Err-mark_out-clause-slots
+returns-in-Err-mark_out-clause-slots g c = c.mark_out.ensures.slots ∙ c.sync_all.ensures.slots ∙ c.in_default.ensures.read.slots
+
+pub returns-in-Err-sync_all-clause-slots : goal.returns-in-Err-sync_all-clause-slots
+returns-in-Err-sync_all-clause-slots g c = c.sync_all.ensures.slots ∙ c.in_default.ensures.read.slots
+
+pub returns-in-Ok-clause-disks : goal.returns-in-Ok-clause-disks
+returns-in-Ok-clause-disks g c = c.mark_out.ensures.disks ∙ c.sync_all.ensures.same.disks ∙ c.in_default.ensures.read.same.disks
+
+pub returns-in-Err-mark_out-clause-disks : goal.returns-in-Err-mark_out-clause-disks
+returns-in-Err-mark_out-clause-disks g c = c.mark_out.ensures.disks ∙ c.sync_all.ensures.same.disks ∙ c.in_default.ensures.read.same.disks
+
+pub returns-in-Err-sync_all-clause-disks : goal.returns-in-Err-sync_all-clause-disks
+returns-in-Err-sync_all-clause-disks g c = c.sync_all.ensures.same.disks ∙ c.in_default.ensures.read.same.disks
+
+pub returns-in-Err-clause-slots : goal.returns-in-Err-clause-slots
+returns-in-Err-clause-slots g c = c.in-Err.ensures.two.slots
+
+pub returns-in-Err-clause-disks : goal.returns-in-Err-clause-disks
+returns-in-Err-clause-disks g c = c.in-Err.ensures.two.same.disks
+
+pub returns-in-Err-clause-powers : goal.returns-in-Err-clause-powers
+returns-in-Err-clause-powers g c = c.in-Err.ensures.two.spared
+
+pub mark_out-requires-clause-disks : goal.mark_out-requires-clause-disks
+mark_out-requires-clause-disks g c = c.sync_all.ensures.same.disks ∙ c.in_default.ensures.read.same.disks ∙ c.requires.disks
+
+pub mark_out-requires-clause-named : goal.mark_out-requires-clause-named
+mark_out-requires-clause-named g c = c.sync_all.ensures.same.named ∙ c.in_default.ensures.read.same.named ∙ c.requires.named
+
+pub mark_out-requires-clause-epoch : goal.mark_out-requires-clause-epoch
+mark_out-requires-clause-epoch g c = c.sync_all.ensures.same.epoch ∙ c.in_default.ensures.read.same.epoch ∙ c.requires.epoch

@@ -163,3 +163,70 @@ returns-in_err-mark-clause-metas g c = metas g (goal.at.returns-in_err-mark-clau
 
 pub returns-clause-metas : goal.returns-clause-metas
 returns-clause-metas g c = metas g (goal.at.returns-clause-metas g c).After-mark
+
+-- a meta of version 1 was renewed
+pub renew-requires : goal.renew-requires
+renew-requires g c = c.requires
+
+pub returns-in-Ok-clause-slots : goal.returns-in-Ok-clause-slots
+returns-in-Ok-clause-slots g c = c.renew.ensures.slots
+
+pub returns-in-Ok-clause-disks : goal.returns-in-Ok-clause-disks
+returns-in-Ok-clause-disks g c = c.renew.ensures.disks
+
+pub returns-in-Ok-clause-powers : goal.returns-in-Ok-clause-powers
+returns-in-Ok-clause-powers g c = c.renew.ensures.powers
+
+pub returns-in-Ok-clause-each : goal.returns-in-Ok-clause-each
+returns-in-Ok-clause-each g c = c.renew.ensures.each
+
+pub returns-in-Ok-clause-calls : goal.returns-in-Ok-clause-calls
+returns-in-Ok-clause-calls g c = c.renew.ensures.calls
+
+pub returns-in-Ok-clause-allowed : goal.returns-in-Ok-clause-allowed
+returns-in-Ok-clause-allowed g c = c.renew.ensures.allowed
+
+pub returns-in-Ok-clause-holds : goal.returns-in-Ok-clause-holds
+returns-in-Ok-clause-holds g c = c.renew.ensures.holds
+
+pub returns-in-Ok-clause-metas : goal.returns-in-Ok-clause-metas
+returns-in-Ok-clause-metas g c = c.renew.ensures.metas
+
+pub returns-in-Err-clause-slots : goal.returns-in-Err-clause-slots
+returns-in-Err-clause-slots g c = c.renew.ensures.slots
+
+pub returns-in-Err-clause-disks : goal.returns-in-Err-clause-disks
+returns-in-Err-clause-disks g c = c.renew.ensures.disks
+
+pub returns-in-Err-clause-powers : goal.returns-in-Err-clause-powers
+returns-in-Err-clause-powers g c = c.renew.ensures.powers
+
+pub returns-in-Err-clause-each : goal.returns-in-Err-clause-each
+returns-in-Err-clause-each g c = c.renew.ensures.each
+
+pub returns-in-Err-clause-calls : goal.returns-in-Err-clause-calls
+returns-in-Err-clause-calls g c = c.renew.ensures.calls
+
+pub returns-in-Err-clause-allowed : goal.returns-in-Err-clause-allowed
+returns-in-Err-clause-allowed g c = c.renew.ensures.allowed
+
+pub returns-in-Err-clause-holds : goal.returns-in-Err-clause-holds
+returns-in-Err-clause-holds g c = c.renew.ensures.holds
+
+pub returns-in-Err-clause-metas : goal.returns-in-Err-clause-metas
+returns-in-Err-clause-metas g c = c.renew.ensures.metas
+
+pub returns-in-Ok-clause-epoch : goal.returns-in-Ok-clause-epoch
+returns-in-Ok-clause-epoch g c = c.in-Ok.ensures.epoch
+
+pub returns-in-Ok-clause-named : goal.returns-in-Ok-clause-named
+returns-in-Ok-clause-named g c = c.in-Ok.ensures.named
+
+pub returns-in-Ok-clause-synced : goal.returns-in-Ok-clause-synced
+returns-in-Ok-clause-synced g c = c.in-Ok.ensures.synced
+
+pub returns-in-Ok-clause-one : goal.returns-in-Ok-clause-one
+returns-in-Ok-clause-one g c = c.in-Ok.ensures.one
+
+pub returns-in-Ok-clause-ends : goal.returns-in-Ok-clause-ends
+returns-in-Ok-clause-ends g c = c.in-Ok.ensures.ends
