@@ -41,16 +41,25 @@ fn next_of(table: &DirtyTable, row: u32, disk: u8, lo: u8, hi: u8) -> Option<(u3
     table.next_from(row, disk, lo, hi)
 }
 
-#[test]
-fn dirty_cells_are_found_in_order(rt: HostRuntime) {
-    let table = table_of(rt.alloc()).expect(&rt, "there is memory");
+/// Whether each cell is found from the one before on, and none after the last; and one of some disks.
+fn are_found(table: &DirtyTable) -> bool {
     let mut from = (0, 0);
     for &(row, disk) in &CELLS {
-        assert!(rt; next_of(&table, from.0, from.1, 0, 8) == Some((row, disk)));
+        if next_of(table, from.0, from.1, 0, 8) != Some((row, disk)) {
+            return false;
+        }
         from = (row, disk.wrapping_add(1));
     }
-    assert!(rt; next_of(&table, from.0, from.1, 0, 8) == None);
-    assert!(rt; next_of(&table, 64, 0, 3, 7) == Some((65535, 3)));
+    next_of(table, from.0, from.1, 0, 8) == None && next_of(table, 64, 0, 3, 7) == Some((65535, 3))
+}
+
+fn all_found(alloc: Global) -> Option<bool> {
+    Some(are_found(&table_of(alloc)?))
+}
+
+#[test]
+fn dirty_cells_are_found_in_order(rt: HostRuntime) {
+    assert!(rt; all_found(rt.alloc()) == Some(true));
 }
 
 fn is_dirty(table: &DirtyTable, row: u32, disk: u8) -> Option<bool> {
@@ -61,13 +70,30 @@ fn is_dirty(table: &DirtyTable, row: u32, disk: u8) -> Option<bool> {
     }
 }
 
+fn are_counted(table: &DirtyTable) -> bool {
+    let are_right = table.count(0, 8) == 6 && table.count(7, 8) == 3 && table.count(4, 7) == 0;
+    are_right && table.next(7, 8) == Some((0, 7))
+}
+
+fn is_last(table: &DirtyTable) -> bool {
+    is_dirty(table, 65535, 7) == Some(true) && is_dirty(table, 65535, 6) == Some(false)
+}
+
+fn are_cleaned(table: &mut DirtyTable) -> bool {
+    clear_all(table, &CELLS);
+    table.next(0, 8) == None && table.count(0, 8) == 0
+}
+
+fn all_counted(alloc: Global) -> Option<[bool; 3]> {
+    let mut table = table_of(alloc)?;
+    Some([
+        are_counted(&table),
+        is_last(&table),
+        are_cleaned(&mut table),
+    ])
+}
+
 #[test]
 fn dirty_cells_are_counted_and_cleaned(rt: HostRuntime) {
-    let mut table = table_of(rt.alloc()).expect(&rt, "there is memory");
-    let counts = (table.count(0, 8), table.count(7, 8), table.count(4, 7));
-    assert!(rt; (counts, table.next(7, 8)) == ((6, 3, 0), Some((0, 7))));
-    let last = (is_dirty(&table, 65535, 7), is_dirty(&table, 65535, 6));
-    assert!(rt; last == (Some(true), Some(false)));
-    clear_all(&mut table, &CELLS);
-    assert!(rt; (table.next(0, 8), table.count(0, 8)) == (None, 0));
+    assert!(rt; all_counted(rt.alloc()) == Some([true; 3]));
 }

@@ -151,7 +151,7 @@ const LATER: [Row; 5] = [
     (2, Look, true, (Power::Spinning, 2, true), SPINNING),
 ];
 
-/// What a rack that is loaded after the step finds.
+/// What a rack that is loaded after the deed finds.
 const FILES: [Row; 11] = [
     (0, Cut(1300), true, (Power::Spinning, 2, true), SPINNING),
     (0, Text(BARE), true, (Power::Spinning, 2, true), BARE),
@@ -235,15 +235,30 @@ fn is_met<H: Files + AllocGlobal, R: Rack>(host: &H, rack: &R, row: &Row, done: 
     done == row.2 && told(rack, row.0) == Some(row.3) && has_sidecar(host, row.0, text(row.4))
 }
 
-/// Does the deeds on one rack, or each on a rack that is loaded for it.
-fn walk<H: Files<File = File> + AllocGlobal + Abort>(host: &H, rows: &[Row], anew: bool) {
+/// Does the deed of a row, and says whether it has left what the row says.
+fn is_done<H: Files + AllocGlobal, R: Rack>(host: &H, rack: &mut R, row: &Row) -> bool {
+    let done = act(host, rack, row.0, row.1);
+    is_met(host, rack, row, done)
+}
+
+/// Does the deeds on one rack.
+fn walk<H: Files<File = File> + AllocGlobal + Abort>(host: &H, rows: &[Row]) {
     let mut rack = loaded(host);
-    for (at, row) in rows.iter().enumerate() {
-        let done = act(host, &mut rack, row.0, row.1);
-        if anew {
-            rack = loaded(host);
-        }
-        assert!(host; is_met(host, &rack, row, done), "row {at}");
+    for at in 0..rows.len() {
+        assert!(host; is_done(host, &mut rack, &rows[at]), "row {at}");
+    }
+}
+
+/// Does the deed of a row, and says whether a rack that is loaded after it finds what the row says.
+fn is_found<H: Files<File = File> + AllocGlobal + Abort>(host: &H, row: &Row) -> bool {
+    let done = act(host, &mut loaded(host), row.0, row.1);
+    is_met(host, &loaded(host), row, done)
+}
+
+/// Does the deeds, each before a rack is loaded.
+fn walk_anew<H: Files<File = File> + AllocGlobal + Abort>(host: &H, rows: &[Row]) {
+    for at in 0..rows.len() {
+        assert!(host; is_found(host, &rows[at]), "row {at}");
     }
 }
 
@@ -259,8 +274,8 @@ fn clean<H: Files>(host: &H) {
 #[test]
 fn a_folder_keeps_its_disks(rt: HostRuntime) {
     clean(&rt);
-    walk(&rt, &CALLS, false);
-    walk(&rt, &LATER, false);
-    walk(&rt, &FILES, true);
+    walk(&rt, &CALLS);
+    walk(&rt, &LATER);
+    walk_anew(&rt, &FILES);
     clean(&rt);
 }

@@ -37,14 +37,26 @@ fn spun() -> [u64; 4] {
     [pool.slot(0), pool.slot(3), pool.slot(4), pool.slot(7)]
 }
 
+// Whether one is due after a tick alone, and how many are left then.
+fn used_after_a_tick(pool: &mut Pool) -> (bool, u8) {
+    let is_due = due_after_a_tick(pool) == [None, Some(2), None];
+    (is_due, used(pool))
+}
+
+#[test]
+fn a_spare_is_used_at_once(rt: HostRuntime) {
+    assert!(rt; used_at_once() == (None, Some(2), 0, None));
+}
+
+// A wait of one tick begins anew after a spare that could not be attached.
 #[test]
 fn a_spare_is_used_at_the_tick_that_is_due(rt: HostRuntime) {
-    assert!(rt; used_at_once() == (None, Some(2), 0, None));
-    // A wait of one tick begins anew after a spare that could not be attached.
     let mut pool = Pool::new(2, 1);
-    assert!(rt; due_after_a_tick(&mut pool) == [None, Some(2), None]);
-    assert!(rt; used(&mut pool) == 1);
-    assert!(rt; due_after_a_tick(&mut pool) == [None, Some(2), None]);
-    assert!(rt; used(&mut pool) == 0);
+    assert!(rt; used_after_a_tick(&mut pool) == (true, 1));
+    assert!(rt; used_after_a_tick(&mut pool) == (true, 0));
+}
+
+#[test]
+fn spin_ups_are_counted(rt: HostRuntime) {
     assert!(rt; spun() == [0, 1, 2, 0]);
 }

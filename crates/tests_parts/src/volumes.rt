@@ -111,20 +111,33 @@ fn made(alloc: Global, worn: usize) -> Option<Volumes<Kept>> {
     Volumes::init(Kept::new(alloc, 20, worn)).ok()
 }
 
+// How many of these calls are answered so before one that is not.
+fn answered(volumes: &mut Volumes<Kept>, rows: &[(Deed, Result<u32, VolFault>)]) -> usize {
+    for at in 0..rows.len() {
+        if done(volumes, rows[at].0) != rows[at].1 {
+            return at;
+        }
+    }
+    rows.len()
+}
+
+// The same on a new table, where the device is worn after so many writes.
+fn answered_anew(
+    alloc: Global,
+    worn: usize,
+    rows: &[(Deed, Result<u32, VolFault>)],
+) -> Option<usize> {
+    Some(answered(&mut made(alloc, worn)?, rows))
+}
+
 #[test]
 fn volumes_are_made_used_and_removed(rt: HostRuntime) {
-    let mut volumes = made(rt.alloc(), 1000).expect(&rt, "no table yet");
-    for (row, &(deed, want)) in CALLS.iter().enumerate() {
-        assert!(rt; done(&mut volumes, deed) == want, "row {row}");
-    }
+    assert!(rt; answered_anew(rt.alloc(), 1000, &CALLS) == Some(22));
 }
 
 #[test]
 fn a_halt_in_a_call_leaves_the_table_and_stays(rt: HostRuntime) {
-    let mut volumes = made(rt.alloc(), 3).expect(&rt, "no table yet");
-    for (row, &(deed, want)) in HALTED.iter().enumerate() {
-        assert!(rt; done(&mut volumes, deed) == want, "row {row}");
-    }
+    assert!(rt; answered_anew(rt.alloc(), 3, &HALTED) == Some(5));
 }
 
 // What a device is refused by for a new table, or for one that is there.
@@ -140,14 +153,18 @@ fn refused(device: Kept, new: bool) -> Option<VolFault> {
     }
 }
 
+// By what a device is refused for a new table that has one.
+fn refused_again(alloc: Global) -> Option<VolFault> {
+    refused(made(alloc, 1000)?.finish(), true)
+}
+
 #[test]
 fn a_device_is_refused_by_its_table_or_its_size(rt: HostRuntime) {
     let alloc = rt.alloc();
-    let volumes = made(alloc, 1000).expect(&rt, "no table yet");
-    assert!(rt; refused(volumes.finish(), true) == Some(VolFault::Already));
+    assert!(rt; refused_again(alloc) == Some(VolFault::Already));
     let few = refused(Kept::new(alloc, 2, 1000), true);
-    let none = refused(Kept::new(alloc, 20, 1000), false);
     assert!(rt; few == Some(VolFault::Small { blocks: 2 }));
+    let none = refused(Kept::new(alloc, 20, 1000), false);
     assert!(rt; none == Some(VolFault::NotVolumes));
 }
 
@@ -181,12 +198,20 @@ fn expected(seen: usize) -> [u32; 4] {
     }
 }
 
-#[test]
-fn a_stop_at_each_write_of_a_new_volume_leaves_the_volumes_before_it_or_with_it(rt: HostRuntime) {
-    let mut device = written(rt.alloc()).expect(&rt, "there is memory");
+// The first number of writes, from 1 to 18, that leaves something else, or 19.
+fn first_other(alloc: Global) -> Option<usize> {
+    let mut device = written(alloc)?;
     for seen in 1..19 {
-        let (again, found) = left(device, seen).expect(&rt, "a stop leaves a table");
-        assert!(rt; found == expected(seen));
+        let (again, found) = left(device, seen)?;
+        if found != expected(seen) {
+            return Some(seen);
+        }
         device = again;
     }
+    Some(19)
+}
+
+#[test]
+fn a_stop_at_each_write_of_a_new_volume_leaves_the_volumes_before_it_or_with_it(rt: HostRuntime) {
+    assert!(rt; first_other(rt.alloc()) == Some(19));
 }

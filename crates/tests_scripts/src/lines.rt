@@ -25,6 +25,25 @@ pub fn first_byte(text: &str) -> (u8, &str) {
     (u8::try_from(number).unwrap_or(u8::MAX), rest)
 }
 
+/// Whether it is one of these words.
+pub fn is_any(word: &str, words: &str) -> bool {
+    for other in words.split_whitespace() {
+        if other == word {
+            return true;
+        }
+    }
+    false
+}
+
+/// Bytes by their numbers.
+pub fn bytes_of(alloc: Global, text: &str) -> Option<Vec<u8>> {
+    let mut bytes = Vec::new(alloc);
+    for word in text.split_whitespace() {
+        bytes.push(first_byte(word).0).ok()?;
+    }
+    Some(bytes)
+}
+
 /// Adds a line to a text.
 pub fn add_line(text: &mut String, line: &str) -> Option<()> {
     text.push_str(line).ok()?;

@@ -1,8 +1,8 @@
 //! Runs that are stopped before each of their calls, and runs in which each call of a disk fails: all that is told then.
 
 use crate::changes::without;
-use crate::lines::add_word;
-use crate::runs::{Faults, Left, played, stopped, whole};
+use crate::lines::{add_line, add_word};
+use crate::runs::{Faults, Left, checked, played, stopped, whole};
 use paraid_base::DiskNo;
 use paraid_memrack::{MemRack, Pick};
 use paraid_rack::Rack;
@@ -86,10 +86,82 @@ fn add_sight(alloc: Global, told: &mut String, sight: &Sight) -> Option<()> {
 const READS: &str =
     "r 0; r 1; r 2; r 3; r 4; r 5; r 6; r 7; r 8; r 9; r 10; r 11; r 12; r 13; r 14; r 15; r 16; r 17; r 18; r 19";
 
-// Notes what a run over these disks tells.
+// What `check` tells where nothing is false.
+const SOUND: &str = "check rows 0 stripes 0 fill 0 units 0 mirrors 0\n";
+
+// What a run has told, and then a check of what it leaves where that finds something.
+fn with_check(alloc: Global, left: Left) -> Option<Left> {
+    let Left {
+        status,
+        mut text,
+        disks,
+    } = left;
+    let found = checked(alloc, disks)?;
+    if found.text.as_str() != SOUND {
+        text.push_str(found.text.as_str()).ok()?;
+    }
+    Some(Left {
+        status,
+        text,
+        disks: found.disks,
+    })
+}
+
+// Notes what a run over these disks tells, and a check after it that finds something.
 fn see(alloc: Global, disks: MemRack, moment: u32, sights: &mut Sights) -> Option<()> {
-    let left = played(alloc, READS, disks)?;
+    let left = with_check(alloc, played(alloc, READS, disks)?)?;
     sights.note_run(alloc, &left, moment)
+}
+
+// Adds the lines that tell a block.
+fn add_blocks(text: &mut String, told: &str) -> Option<()> {
+    for line in told.lines() {
+        if line.split_once('=').is_some() {
+            add_line(text, line)?;
+        }
+    }
+    Some(())
+}
+
+fn last_line(told: &str) -> Option<&str> {
+    let mut last = None;
+    for line in told.lines() {
+        last = Some(line);
+    }
+    last
+}
+
+// Adds the lines that tell a block, and the last one.
+fn add_end(text: &mut String, told: &str) -> Option<()> {
+    add_blocks(text, told)?;
+    add_line(text, last_line(told)?)
+}
+
+// Adds those of a run over all blocks, with a check after it.
+fn add_next(alloc: Global, text: &mut String, disks: &MemRack) -> Option<()> {
+    let next = whole(alloc, READS, &Faults::none(alloc), disks)?;
+    add_end(text, with_check(alloc, next)?.text.as_str())
+}
+
+fn end_of(alloc: Global, left: &Left) -> Option<String> {
+    let mut text = String::new(alloc);
+    add_end(&mut text, left.text.as_str())?;
+    if left.status == 0 {
+        add_next(alloc, &mut text, &left.disks)?;
+    }
+    Some(text)
+}
+
+/// A run over these lines of which the blocks and the last line are told, and then those of a run over all blocks, with
+/// a check after it.
+pub fn ended(alloc: Global, lines: &str, faults: &Faults, disks: &MemRack) -> Option<Left> {
+    let left = whole(alloc, lines, faults, disks)?;
+    let text = end_of(alloc, &left)?;
+    Some(Left {
+        status: left.status,
+        text,
+        disks: left.disks,
+    })
 }
 
 /// No disk.
@@ -142,6 +214,52 @@ pub fn stops(
     for moment in 0..=left.disks.calls() {
         let out = if moment > mount { out } else { NO_DISK };
         see_picks(alloc, &left.disks, out, moment, &mut sights)?;
+    }
+    sights.told(alloc)
+}
+
+// What a stop at this moment leaves of what is loose.
+fn pick_at(moment: u32) -> Pick {
+    match moment % 4 {
+        0 => Pick::Old,
+        1 => Pick::New,
+        2 => Pick::Filled(165),
+        _ => Pick::Mixed,
+    }
+}
+
+// Notes that for a stop at each moment of a mount of these disks, with this disk and without it.
+fn see_mount(
+    alloc: Global,
+    disks: &MemRack,
+    out: DiskNo,
+    moment: u32,
+    sights: &mut Sights,
+) -> Option<()> {
+    let mounted = whole(alloc, "", &Faults::none(alloc), disks)?.disks;
+    for again in 0..=mounted.calls() {
+        let left = stopped(alloc, &mounted, again, pick_at(again), &[])?;
+        see(alloc, without(alloc, &left, out)?, moment, sights)?;
+        see(alloc, left, moment, sights)?;
+    }
+    Some(())
+}
+
+/// What a run over all blocks tells after a stop at each moment of each mount of what a stop at each moment past the
+/// mount of a run over these lines leaves. This disk is out.
+pub fn stops_twice(
+    alloc: Global,
+    lines: &str,
+    out: DiskNo,
+    faults: &Faults,
+    disks: &MemRack,
+) -> Option<String> {
+    let mount = whole(alloc, "", faults, disks)?.disks.calls();
+    let left = whole(alloc, lines, faults, disks)?;
+    let mut sights = Sights::new(alloc);
+    for moment in mount..=left.disks.calls() {
+        let image = stopped(alloc, &left.disks, moment, pick_at(moment), &[])?;
+        see_mount(alloc, &image, out, moment, &mut sights)?;
     }
     sights.told(alloc)
 }

@@ -82,8 +82,8 @@ fn list_of(alloc: Global, words: &str) -> Option<Vec<String>> {
 }
 
 // A source of this input whose call of this number fails.
-fn source_of(alloc: Global, input: &str, fails: u32) -> Option<MemSource> {
-    let bytes = input.as_bytes().to_vec(alloc).ok()?;
+fn source_of(alloc: Global, input: &[u8], fails: u32) -> Option<MemSource> {
+    let bytes = input.to_vec(alloc).ok()?;
     let fails = vec![in alloc; fails].ok()?;
     Some(MemSource::new(bytes, fails))
 }
@@ -123,7 +123,7 @@ fn left_of(
 fn ran_on(
     alloc: Global,
     words: &str,
-    input: &str,
+    input: &[u8],
     source: u32,
     sink: u32,
     disks: MemRack,
@@ -137,14 +137,14 @@ fn ran_on(
 /// A run over the lines of this text to their end, in which no call fails.
 pub fn played(alloc: Global, text: &str, disks: MemRack) -> Option<Left> {
     let trace = trace_of(alloc, text)?;
-    ran_on(alloc, "run", trace.as_str(), NEVER, NEVER, disks)
+    ran_on(alloc, "run", trace.as_bytes(), NEVER, NEVER, disks)
 }
 
 /// What the program does with these words over this input and these disks, which stay as they are.
 pub fn ran(
     alloc: Global,
     words: &str,
-    input: &str,
+    input: &[u8],
     faults: &Faults,
     disks: &MemRack,
 ) -> Option<Left> {
@@ -152,23 +152,51 @@ pub fn ran(
     ran_on(alloc, words, input, faults.source, faults.sink, disks)
 }
 
+/// A check of these disks, in which no call fails.
+pub fn checked(alloc: Global, disks: MemRack) -> Option<Left> {
+    ran_on(alloc, "check", b"", NEVER, NEVER, disks)
+}
+
+/// What these words and then a check tell, on a new array of eight disks of up to 17516 blocks, none of whose calls is
+/// listed, with the greater status.
+pub fn unlisted(alloc: Global, words: &str, configuration: &str) -> Option<Left> {
+    let bare = MemRack::new(alloc, 8, 17_516, 0, Vec::new(alloc)).ok()?;
+    let made = ran_on(
+        alloc,
+        "format",
+        configuration.as_bytes(),
+        NEVER,
+        NEVER,
+        bare,
+    )?;
+    let left = ran_on(alloc, words, b"", NEVER, NEVER, made.disks)?;
+    let mut text = left.text;
+    let found = checked(alloc, left.disks)?;
+    text.push_str(found.text.as_str()).ok()?;
+    Some(Left {
+        status: left.status.max(found.status),
+        text,
+        disks: found.disks,
+    })
+}
+
 /// A run over the lines of this text to their end.
 pub fn whole(alloc: Global, text: &str, faults: &Faults, disks: &MemRack) -> Option<Left> {
     let trace = trace_of(alloc, text)?;
-    ran(alloc, "run", trace.as_str(), faults, disks)
+    ran(alloc, "run", trace.as_bytes(), faults, disks)
 }
 
 /// The same, with no newline at the end.
 pub fn unended(alloc: Global, text: &str, faults: &Faults, disks: &MemRack) -> Option<Left> {
     let mut trace = trace_of(alloc, text)?;
     let _newline = trace.pop();
-    ran(alloc, "run", trace.as_str(), faults, disks)
+    ran(alloc, "run", trace.as_bytes(), faults, disks)
 }
 
 // A run that is cut off after this trace, with no flush at its end: the source fails there.
 fn cut(alloc: Global, trace: &String, faults: &Faults, disks: &MemRack) -> Option<Left> {
     let disks = restarted(alloc, disks, &faults.disks)?;
-    ran_on(alloc, "run", trace.as_str(), 1, faults.sink, disks)
+    ran_on(alloc, "run", trace.as_bytes(), 1, faults.sink, disks)
 }
 
 /// A run that is cut off after the lines of this text.

@@ -1,10 +1,10 @@
 //! The disks, the configuration and the faults to come, and what each line of the script makes of them.
 
 use crate::changes::{byte_at, changed, without};
-use crate::lines::{configured, first_byte, first_number, first_word};
-use crate::moments::{Sights, stops};
+use crate::lines::{bytes_of, configured, first_byte, first_number, first_word, is_any};
+use crate::moments::{Sights, ended, stops, stops_twice};
 use crate::runs::{
-    Faults, Left, bare, cut_before, cut_off, ran, restarted, stopped, unended, whole,
+    Faults, Left, bare, cut_before, cut_off, ran, restarted, stopped, unended, unlisted, whole,
 };
 use crate::tallies::{calls_on, changes_in, counted, places_on, priced, priced_mount};
 use paraid_memrack::{MemRack, Pick, Planned};
@@ -18,6 +18,32 @@ pub struct Stage {
     disks: MemRack,
     /// Those of the next command that runs the program.
     faults: Faults,
+}
+
+/// What kind of command a line is.
+enum Kind {
+    Remark,
+    Configure,
+    Make,
+    Change,
+    Plan,
+    Run,
+}
+
+fn kind_of(word: &str) -> Kind {
+    if word.is_empty() || word == "#" {
+        Kind::Remark
+    } else if is_any(word, "config set unset add pad") {
+        Kind::Configure
+    } else if is_any(word, "bare array lose") {
+        Kind::Make
+    } else if is_any(word, "park fresh fill byte") {
+        Kind::Change
+    } else if is_any(word, "fail failcall source sink") {
+        Kind::Plan
+    } else {
+        Kind::Run
+    }
 }
 
 // The number of slots that is asked for.
@@ -40,7 +66,8 @@ fn with_status(alloc: Global, mut text: String, status: u8) -> Option<String> {
 // A new array, before any call.
 fn array(alloc: Global, configuration: &str, slots: u8) -> Option<MemRack> {
     let disks = bare(alloc, slots)?;
-    let left = ran(alloc, "format", configuration, &Faults::none(alloc), &disks)?;
+    let input = configuration.as_bytes();
+    let left = ran(alloc, "format", input, &Faults::none(alloc), &disks)?;
     if left.status != 0 {
         return None;
     }
@@ -66,6 +93,53 @@ fn calls(alloc: Global, text: &str, faults: &Faults, disks: &MemRack) -> Option<
     calls_on(alloc, &whole(alloc, lines, faults, disks)?.disks, disk)
 }
 
+// The first line and the calls of a mount.
+fn mount(alloc: Global, faults: &Faults, disks: &MemRack) -> Option<String> {
+    priced_mount(alloc, &whole(alloc, "", faults, disks)?)
+}
+
+// The writes past the log in a run.
+fn changes(alloc: Global, lines: &str, faults: &Faults, disks: &MemRack) -> Option<String> {
+    changes_in(alloc, &whole(alloc, lines, faults, disks)?.disks)
+}
+
+// The places past the log that a run leaves.
+fn places(alloc: Global, lines: &str, faults: &Faults, disks: &MemRack) -> Option<String> {
+    places_on(alloc, &whole(alloc, lines, faults, disks)?.disks)
+}
+
+// What is told after stops. The number of a disk comes first.
+fn told_stops(
+    alloc: Global,
+    word: &str,
+    text: &str,
+    faults: &Faults,
+    disks: &MemRack,
+) -> Option<String> {
+    let (out, lines) = first_byte(text);
+    if word == "stops" {
+        return stops(alloc, lines, out, faults, disks);
+    }
+    stops_twice(alloc, lines, out, faults, disks)
+}
+
+// What these words tell, and a check after them.
+fn long(alloc: Global, words: &str, configuration: &str) -> Option<String> {
+    let left = unlisted(alloc, words, configuration)?;
+    with_status(alloc, left.text, left.status)
+}
+
+// This call of the source or of the sink fails.
+fn on_stream(alloc: Global, word: &str, nth: u32) -> Faults {
+    let mut faults = Faults::none(alloc);
+    if word == "source" {
+        faults.source = nth;
+    } else {
+        faults.sink = nth;
+    }
+    faults
+}
+
 impl Stage {
     /// Five slots without disks.
     pub fn new(alloc: Global) -> Option<Stage> {
@@ -82,13 +156,13 @@ impl Stage {
     /// Plays a line, and gives what it tells. `None` is of a line that is no command, or was not done.
     pub fn play(&mut self, alloc: Global, line: &str) -> Option<String> {
         let (word, rest) = first_word(line);
-        match word {
-            "" | "#" => {}
-            "config" | "set" | "unset" | "add" | "pad" => self.configure(alloc, word, rest)?,
-            "bare" | "array" | "lose" => self.make(alloc, word, rest)?,
-            "park" | "fresh" | "fill" | "byte" => self.change(alloc, word, rest)?,
-            "fail" | "failcall" | "source" | "sink" => self.plan(word, rest)?,
-            _ => return self.play_run(alloc, word, rest),
+        match kind_of(word) {
+            Kind::Remark => {}
+            Kind::Configure => self.configure(alloc, word, rest)?,
+            Kind::Make => self.make(alloc, word, rest)?,
+            Kind::Change => self.change(alloc, word, rest)?,
+            Kind::Plan => self.plan(word, rest)?,
+            Kind::Run => return self.play_run(alloc, word, rest),
         }
         Some(String::new(alloc))
     }
@@ -129,39 +203,68 @@ impl Stage {
 
     // Plays a command that runs the program.
     fn play_run(&mut self, alloc: Global, word: &str, rest: &str) -> Option<String> {
-        let told = match word {
-            "run" | "part" | "paraid" => self.run(alloc, word, rest),
-            "stop" => self.stop(alloc, rest),
-            _ => self.tell(alloc, word, rest),
+        let told = if is_any(word, "run part bytes ends paraid") {
+            self.run(alloc, word, rest)
+        } else if word == "stop" {
+            self.stop(alloc, rest)
+        } else {
+            self.tell(alloc, word, rest)
         };
         self.faults = Faults::none(alloc);
         told
     }
 
     fn left_by(&self, alloc: Global, word: &str, rest: &str, faults: &Faults) -> Option<Left> {
+        let input = self.configuration.as_bytes();
         match word {
             "run" => whole(alloc, rest, faults, &self.disks),
             "part" => unended(alloc, rest, faults, &self.disks),
-            _ => ran(
-                alloc,
-                rest,
-                self.configuration.as_str(),
-                faults,
-                &self.disks,
-            ),
+            "ends" => ended(alloc, rest, faults, &self.disks),
+            "bytes" => self.left_by_bytes(alloc, rest, faults),
+            _ => ran(alloc, rest, input, faults, &self.disks),
         }
     }
 
-    // What a command that runs the program tells as each of so many calls of each disk fails.
+    fn left_by_bytes(&self, alloc: Global, rest: &str, faults: &Faults) -> Option<Left> {
+        let bytes = bytes_of(alloc, rest)?;
+        ran(alloc, "run", bytes.as_slice(), faults, &self.disks)
+    }
+
+    // Notes what a command that runs the program tells where these calls fail.
+    fn see(
+        &self,
+        alloc: Global,
+        command: &str,
+        faults: &Faults,
+        nth: u32,
+        sights: &mut Sights,
+    ) -> Option<()> {
+        let (word, rest) = first_word(command);
+        let left = self.left_by(alloc, word, rest, faults)?;
+        sights.note_run(alloc, &left, nth)
+    }
+
+    // Notes that where the call of this number of each disk fails.
+    fn see_disks(&self, alloc: Global, command: &str, nth: u32, sights: &mut Sights) -> Option<()> {
+        for disk in 0..self.disks.slots() {
+            let faults = Faults::on_disk(alloc, disk, nth)?;
+            self.see(alloc, command, &faults, nth, sights)?;
+        }
+        Some(())
+    }
+
+    // What a command that runs the program tells as each of so many calls fails: of each disk, or of the source or the
+    // sink where the command comes after that word.
     fn each(&self, alloc: Global, rest: &str) -> Option<String> {
         let (count, rest) = first_number(rest);
-        let (word, rest) = first_word(rest);
+        let (word, command) = first_word(rest);
         let mut sights = Sights::new(alloc);
         for nth in 0..count {
-            for disk in 0..self.disks.slots() {
-                let faults = Faults::on_disk(alloc, disk, nth)?;
-                let left = self.left_by(alloc, word, rest, &faults)?;
-                sights.note_run(alloc, &left, nth)?;
+            if is_any(word, "source sink") {
+                let faults = on_stream(alloc, word, nth);
+                self.see(alloc, command, &faults, nth, &mut sights)?;
+            } else {
+                self.see_disks(alloc, rest, nth, &mut sights)?;
             }
         }
         sights.told(alloc)
@@ -184,25 +287,18 @@ impl Stage {
 
     // What a command tells that leaves the disks as they are.
     fn tell(&self, alloc: Global, word: &str, rest: &str) -> Option<String> {
+        let (faults, disks) = (&self.faults, &self.disks);
         match word {
-            "cost" => cost(alloc, rest, &self.faults, &self.disks),
-            "mount" => priced_mount(alloc, &whole(alloc, "", &self.faults, &self.disks)?),
-            "calls" => calls(alloc, rest, &self.faults, &self.disks),
-            "changes" => {
-                let left = whole(alloc, rest, &self.faults, &self.disks)?;
-                changes_in(alloc, &left.disks)
-            }
-            "places" => {
-                let left = whole(alloc, rest, &self.faults, &self.disks)?;
-                places_on(alloc, &left.disks)
-            }
-            "made" => counted(alloc, &self.disks, 0),
-            "stops" => {
-                let (out, lines) = first_byte(rest);
-                stops(alloc, lines, out, &self.faults, &self.disks)
-            }
+            "cost" => cost(alloc, rest, faults, disks),
+            "mount" => mount(alloc, faults, disks),
+            "calls" => calls(alloc, rest, faults, disks),
+            "changes" => changes(alloc, rest, faults, disks),
+            "places" => places(alloc, rest, faults, disks),
+            "made" => counted(alloc, disks, 0),
+            "stops" | "again" => told_stops(alloc, word, rest, faults, disks),
             "each" => self.each(alloc, rest),
-            "look" => byte_at(alloc, &self.disks, rest),
+            "long" => long(alloc, rest, self.configuration.as_str()),
+            "look" => byte_at(alloc, disks, rest),
             _ => None,
         }
     }

@@ -32,56 +32,80 @@ fn meta_block(rows: u8) -> Block {
     block
 }
 
+// The meta of such an array after so many writes.
+fn meta_after(block: &Block, writes: u64) -> Option<Meta> {
+    let meta = read_meta(block)?;
+    Some(Meta { writes, ..meta })
+}
+
+// Writes a meta to a disk.
+fn put_meta(rack: &mut MemRack, meta: &Block, disk: DiskNo) -> bool {
+    let may_write = disk < rack.slots()
+        && rack.power(disk) == Power::Spinning
+        && rack.size(disk) > 1;
+    may_write && rack.write(disk, 1, meta).is_ok()
+}
+
 // A disk in a slot, with this meta at place 1 if it is a log disk.
-fn add_disk(rack: &mut MemRack, shape: Shape, meta: &Block, disk: DiskNo) -> bool {
-    if disk >= rack.slots() || rack.attach(disk, shape.size).is_err() {
+fn add_disk(rack: &mut MemRack, size: u32, meta: &Block, disk: DiskNo) -> bool {
+    if disk >= rack.slots() || rack.attach(disk, size).is_err() {
         return false;
     }
-    if disk >= 2 {
-        return true;
+    disk >= 2 || put_meta(rack, meta, disk)
+}
+
+fn add_disks(rack: &mut MemRack, size: u32, meta: &Block) -> bool {
+    for disk in 0..5 {
+        if !add_disk(rack, size, meta, disk) {
+            return false;
+        }
     }
-    if rack.power(disk) != Power::Spinning || rack.size(disk) <= 1 {
-        return false;
-    }
-    rack.write(disk, 1, meta).is_ok()
+    true
 }
 
 // An array of zeros with this meta as a start, whose calls fail as the plan says.
-fn formatted(alloc: Global, shape: Shape, meta: &Block, plan: Vec<Planned>) -> Option<MemRack> {
-    let mut rack = MemRack::new(alloc, 5, shape.size, 100, Vec::new(alloc)).ok()?;
-    for disk in 0..5 {
-        if !add_disk(&mut rack, shape, meta, disk) {
-            return None;
-        }
+fn formatted(alloc: Global, size: u32, meta: &Block, plan: &[Planned]) -> Option<MemRack> {
+    let mut rack = MemRack::new(alloc, 5, size, 100, Vec::new(alloc)).ok()?;
+    if add_disks(&mut rack, size, meta) {
+        return started(alloc, &rack, plan);
     }
+    None
+}
+
+// These disks before any call, whose calls fail as the plan says.
+fn started(alloc: Global, rack: &MemRack, plan: &[Planned]) -> Option<MemRack> {
+    let plan = plan.to_vec(alloc).ok()?;
     rack.stopped(alloc, rack.calls(), Pick::New, 1000, plan)
         .ok()
 }
 
-// The array after one commit of this batch, under a meta of so many writes, and what it answered.
+/// An array after a commit, and what that answered.
+type Committed = (MemRack, Result<Option<DiskNo>, Two>);
+
+// The disks after one commit of this batch under this meta.
+fn commit(rack: MemRack, batch: &Batch, meta: &Meta) -> Option<Committed> {
+    if meta.setup.geometry.disks > rack.slots() {
+        return None;
+    }
+    let mut store = Store::adopt(rack, meta);
+    if !store.can_commit(batch, meta) || store.epoch() != 1 {
+        return None;
+    }
+    let answer = store.commit(batch, meta);
+    Some((store.close(), answer))
+}
+
+// The array after one commit of this batch, under a meta of so many writes.
 fn committed(
     alloc: Global,
     shape: Shape,
     batch: &Batch,
     writes: u64,
-    plan: Vec<Planned>,
-) -> Option<(MemRack, Result<Option<DiskNo>, Two>)> {
+    plan: &[Planned],
+) -> Option<Committed> {
     let block = meta_block(shape.rows);
-    let formatted_meta = read_meta(&block)?;
-    let meta = Meta {
-        writes,
-        ..formatted_meta
-    };
-    let rack = formatted(alloc, shape, &block, plan)?;
-    if meta.setup.geometry.disks > rack.slots() {
-        return None;
-    }
-    let mut store = Store::adopt(rack, &meta);
-    if !store.can_commit(batch, &meta) || store.epoch() != 1 {
-        return None;
-    }
-    let answer = store.commit(batch, &meta);
-    Some((store.close(), answer))
+    let meta = meta_after(&block, writes)?;
+    commit(formatted(alloc, shape.size, &block, plan)?, batch, &meta)
 }
 
 fn copy_disk(rack: &MemRack, disk: DiskNo, image: &mut Image) {
@@ -105,22 +129,21 @@ fn image_of(alloc: Global, rack: &MemRack) -> Option<Image> {
     Some(image)
 }
 
+/// No disk of these five.
+const NO_DISK: DiskNo = 5;
+
 // The rack that a stop leaves, with a disk lost or none.
 fn left_at(
     alloc: Global,
     rack: &MemRack,
     moment: u32,
     pick: Pick,
-    lost: Option<DiskNo>,
+    lost: DiskNo,
 ) -> Option<MemRack> {
-    if moment > rack.calls() {
-        return None;
-    }
+    let moment = moment.min(rack.calls());
     let mut left = rack.stopped(alloc, moment, pick, 40, Vec::new(alloc)).ok()?;
-    if let Some(disk) = lost {
-        if disk < left.slots() {
-            left.lose(disk);
-        }
+    if lost < left.slots() {
+        left.lose(lost);
     }
     Some(left)
 }
@@ -138,7 +161,7 @@ fn chosen(alloc: Global, rack: &mut MemRack) -> Option<DiskNo> {
 
 // The epoch that stands, where the target holds the old block or the new one by it. With the
 // target's disk lost only the epoch counts.
-fn epoch_left(image: &Image, lost: Option<DiskNo>) -> Option<u64> {
+fn epoch_left(image: &Image, lost: DiskNo) -> Option<u64> {
     let says = standing_of(image)?;
     let block = content(image, &says, 2, 101);
     let want = match says.meta.epoch {
@@ -146,7 +169,7 @@ fn epoch_left(image: &Image, lost: Option<DiskNo>) -> Option<u64> {
         2 => 255,
         _ => return None,
     };
-    let is_right = lost == Some(2) || block.as_slice() == filled_with(want).as_slice();
+    let is_right = lost == 2 || block.as_slice() == filled_with(want).as_slice();
     if is_right {
         Some(says.meta.epoch)
     } else {
@@ -179,10 +202,6 @@ fn batch_of(alloc: Global, fillings: &[Filling]) -> Option<Batch> {
 // One block of 255s, without the parity of its row.
 const ONE_TARGET: [Filling; 1] = [(2, 101, 255)];
 
-const LOSSES: [Option<DiskNo>; 6] = [None, Some(0), Some(1), Some(2), Some(3), Some(4)];
-
-const PICKS: [Pick; 4] = [Pick::Old, Pick::New, Pick::Filled(165), Pick::Mixed];
-
 // How many calls the commit of one target makes on a disk: ten on a log disk, and a write and a
 // sync on that of the target.
 fn calls_on(disk: DiskNo) -> u32 {
@@ -196,40 +215,57 @@ fn calls_on(disk: DiskNo) -> u32 {
 // Whether the commit goes on without a disk whose call fails: it is answered, it gets no call
 // after that one, the others get the same calls, and the new contents stand.
 fn goes_on_without(alloc: Global, batch: &Batch, disk: DiskNo, nth: u32) -> Option<bool> {
-    let plan = vec![in alloc; Planned::OnDisk { disk, nth }].ok()?;
-    let (rack, answer) = committed(alloc, SMALL, batch, 0, plan)?;
+    let plan = [Planned::OnDisk { disk, nth }];
+    let (rack, answer) = committed(alloc, SMALL, batch, 0, &plan)?;
     let image = image_of(alloc, &rack)?;
     let left_out = calls_on(disk).saturating_sub(nth.saturating_add(1));
     let is_told = answer == Ok(Some(disk)) && rack.calls().saturating_add(left_out) == 22;
-    Some(is_told && epoch_left(&image, Some(disk)) == Some(2))
+    Some(is_told && epoch_left(&image, disk) == Some(2))
+}
+
+// Whether that is so of each call on a disk.
+fn goes_on(alloc: Global, batch: &Batch, disk: DiskNo) -> bool {
+    for nth in 0..calls_on(disk) {
+        if goes_on_without(alloc, batch, disk, nth) != Some(true) {
+            return false;
+        }
+    }
+    true
+}
+
+// The first of the two log disks and that of the target of which that is not so, or 3.
+fn go_on(alloc: Global) -> Option<u8> {
+    let batch = batch_of(alloc, &ONE_TARGET)?;
+    for disk in 0..3 {
+        if !goes_on(alloc, &batch, disk) {
+            return Some(disk);
+        }
+    }
+    Some(3)
 }
 
 // What the commit answers where a call of disk 1 and one of disk 2 fail, and how many calls are made.
-fn second_loss(alloc: Global, batch: &Batch) -> Option<(Result<Option<DiskNo>, Two>, u32)> {
+fn second_loss(alloc: Global) -> Option<(Result<Option<DiskNo>, Two>, u32)> {
     let first = Planned::OnDisk { disk: 1, nth: 3 };
     let second = Planned::OnDisk { disk: 2, nth: 0 };
-    let plan = vec![in alloc; first, second].ok()?;
-    let (rack, answer) = committed(alloc, SMALL, batch, 0, plan)?;
+    let batch = batch_of(alloc, &ONE_TARGET)?;
+    let (rack, answer) = committed(alloc, SMALL, &batch, 0, &[first, second])?;
     Some((answer, rack.calls()))
 }
 
 #[test]
 fn a_commit_goes_on_without_a_disk_that_fails(rt: HostRuntime) {
-    let alloc = rt.alloc();
-    let batch = batch_of(alloc, &ONE_TARGET).expect(&rt, "memory");
-    for disk in 0..3 {
-        for nth in 0..calls_on(disk) {
-            let found = goes_on_without(alloc, &batch, disk, nth);
-            assert!(rt; found == Some(true), "disk {disk}, call {nth}");
-        }
-    }
-    // A second loss is named with the first. The calls are four on each log disk, the gate of disk 0
-    // with its sync, and the write that failed.
+    assert!(rt; go_on(rt.alloc()) == Some(3));
+}
+
+// The calls are four on each log disk, the gate of disk 0 with its sync, and the write that failed.
+#[test]
+fn a_second_loss_is_named_with_the_first(rt: HostRuntime) {
     let two = Two {
         first: 1,
         second: 2,
     };
-    assert!(rt; second_loss(alloc, &batch) == Some((Err(two), 11)));
+    assert!(rt; second_loss(rt.alloc()) == Some((Err(two), 11)));
 }
 
 // Adds so many targets on disks 4, 3, 2, 1 and 0, from the last place down.
@@ -258,18 +294,23 @@ fn writes_and_syncs(rack: &MemRack) -> Option<(u32, u32)> {
     Some((writes, syncs))
 }
 
-// The writes and the syncs of a commit of so many targets.
-fn cost_of(alloc: Global, count: u32) -> Option<(u32, u32)> {
+// A batch of so many targets.
+fn many(alloc: Global, count: u32) -> Option<Batch> {
     let mut batch = Batch::new(alloc).ok()?;
-    if !add_many(&mut batch, count) {
-        return None;
-    }
-    let (rack, answer) = committed(alloc, LARGE, &batch, 0, Vec::new(alloc))?;
-    if answer == Ok(None) {
-        writes_and_syncs(&rack)
+    if add_many(&mut batch, count) {
+        Some(batch)
     } else {
         None
     }
+}
+
+// The writes and the syncs of a commit of so many targets.
+fn cost_of(alloc: Global, count: u32) -> Option<(u32, u32)> {
+    let (rack, answer) = committed(alloc, LARGE, &many(alloc, count)?, 0, &[])?;
+    if answer == Ok(None) {
+        return writes_and_syncs(&rack);
+    }
+    None
 }
 
 // Targets, and the writes and syncs of their commit: the targets are on 0, 1, 5 and 5 disks.
@@ -286,36 +327,35 @@ fn a_commit_costs_three_writes_a_target_and_ten_more(rt: HostRuntime) {
 // The write of block 7, which is the cell of row 1 and disk 4, with the parity of its row.
 const ONE_WRITE: [Filling; 2] = [(4, 102, 0x77), (3, 102, 0x77)];
 
-// The array after the commit of that write, of 26 calls, and what it answered.
-fn written(alloc: Global) -> Option<(MemRack, Result<Option<DiskNo>, Two>)> {
-    committed(
-        alloc,
-        SMALL,
-        &batch_of(alloc, &ONE_WRITE)?,
-        1,
-        Vec::new(alloc),
-    )
+// The array after the commit of that write.
+fn written(alloc: Global) -> Option<Committed> {
+    committed(alloc, SMALL, &batch_of(alloc, &ONE_WRITE)?, 1, &[])
 }
 
-// How many writes a stop leaves; None where the image does not hold so many, or where a mount would
-// let another log disk stand.
+// How many writes an image holds by the log disk that a mount would let stand; None where it does not hold so many, or
+// where another log disk stands.
+fn writes_held(image: &Image, chosen: DiskNo) -> Option<u64> {
+    let history = [Pairs::one(7, &filled_with(0x77))];
+    let says = standing_of(image)?;
+    let writes = says.meta.writes;
+    if says.disk == chosen && is_sound(image, &history, writes) {
+        Some(writes)
+    } else {
+        None
+    }
+}
+
+// How many writes a stop leaves.
 fn writes_left(
     alloc: Global,
     rack: &MemRack,
     moment: u32,
     pick: Pick,
-    lost: Option<DiskNo>,
+    lost: DiskNo,
 ) -> Option<u64> {
-    let history = [Pairs::one(7, &filled_with(0x77))];
     let mut left = left_at(alloc, rack, moment, pick, lost)?;
-    let image = image_of(alloc, &left)?;
-    let says = standing_of(&image)?;
-    let writes = says.meta.writes;
-    if is_sound(&image, &history, writes) && chosen(alloc, &mut left) == Some(says.disk) {
-        Some(writes)
-    } else {
-        None
-    }
+    let disk = chosen(alloc, &mut left)?;
+    writes_held(&image_of(alloc, &left)?, disk)
 }
 
 // Counts a stop that leaves no write, or the write.
@@ -327,13 +367,26 @@ fn counted(counts: (u32, u32), writes: u64) -> Option<(u32, u32)> {
     }
 }
 
+// Counts the images that a stop leaves with each disk lost, and with none.
+fn count_losses(
+    alloc: Global,
+    rack: &MemRack,
+    moment: u32,
+    pick: Pick,
+    counts: (u32, u32),
+) -> Option<(u32, u32)> {
+    let mut counts = counts;
+    for lost in 0..NO_DISK + 1 {
+        counts = counted(counts, writes_left(alloc, rack, moment, pick, lost)?)?;
+    }
+    Some(counts)
+}
+
 // How many images that stops at a moment leave hold no write, and how many hold the write.
 fn sound_at(alloc: Global, rack: &MemRack, moment: u32) -> Option<(u32, u32)> {
     let mut counts = (0, 0);
-    for pick in PICKS {
-        for lost in LOSSES {
-            counts = counted(counts, writes_left(alloc, rack, moment, pick, lost)?)?;
-        }
+    for pick in [Pick::Old, Pick::New, Pick::Filled(165), Pick::Mixed] {
+        counts = count_losses(alloc, rack, moment, pick, counts)?;
     }
     Some(counts)
 }
@@ -354,13 +407,23 @@ fn expected_at(moment: u32) -> (u32, u32) {
     }
 }
 
+// The first moment at which they are not so many, or 27.
+fn first_other(alloc: Global, rack: &MemRack) -> u32 {
+    for moment in 0..27 {
+        if sound_at(alloc, rack, moment) != Some(expected_at(moment)) {
+            return moment;
+        }
+    }
+    27
+}
+
+// Whether the commit was answered as one without a loss, how many calls it made, and that moment.
+fn stopped_writes(alloc: Global) -> Option<(bool, u32, u32)> {
+    let (rack, answer) = written(alloc)?;
+    Some((answer == Ok(None), rack.calls(), first_other(alloc, &rack)))
+}
+
 #[test]
 fn every_stop_in_the_commit_of_a_write_is_sound(rt: HostRuntime) {
-    let (rack, answer) = written(rt.alloc()).expect(&rt, "a formatted array");
-    assert!(rt; answer == Ok(None));
-    assert!(rt; rack.calls() == 26);
-    for moment in 0..27 {
-        let found = sound_at(rt.alloc(), &rack, moment);
-        assert!(rt; found == Some(expected_at(moment)), "at {moment}");
-    }
+    assert!(rt; stopped_writes(rt.alloc()) == Some((true, 26, 27)));
 }

@@ -500,14 +500,21 @@ fn said_by(image: &Image, disk: DiskNo) -> Option<(bool, u64, Option<u8>, Option
     ))
 }
 
+/// Whether disk 0 stands, and its gate is open over the epoch that it brings.
+fn is_read(image: &Image) -> bool {
+    standing(image) == Some((0, true, 1, 5, None))
+        && laid(image) == Some((0x77, [true, false]))
+        && said_by(image, 0) == Some((true, 6, Some(0x77), Some(0x77)))
+        && said_by(image, 1) == Some((false, 5, Some(0), Some(0)))
+}
+
+fn is_opened(alloc: Global) -> Option<bool> {
+    Some(is_read(&array(alloc, &OPENED, &[])?))
+}
+
 #[test]
 fn what_stands_is_read_and_valued(rt: HostRuntime) {
-    let image = array(rt.alloc(), &OPENED, &[]).expect(&rt, "there is memory");
-    assert!(rt; standing(&image) == Some((0, true, 1, 5, None)));
-    assert!(rt; laid(&image) == Some((0x77, [true, false])));
-    // disk 0 stands, and its gate is open over the epoch that it brings
-    assert!(rt; said_by(&image, 0) == Some((true, 6, Some(0x77), Some(0x77))));
-    assert!(rt; said_by(&image, 1) == Some((false, 5, Some(0), Some(0))));
+    assert!(rt; is_opened(rt.alloc()) == Some(true));
 }
 
 /// A blank log disk and an absent one.
@@ -525,12 +532,20 @@ fn lacks(image: &Image, disk: DiskNo) -> (bool, bool) {
     }
 }
 
+/// Whether disk 0 is blank and disk 1 absent, and none of them stands.
+fn is_unreadable(image: &Image) -> bool {
+    lacks(image, 0) == (true, false)
+        && lacks(image, 1) == (false, true)
+        && standing_of(image).is_none()
+}
+
+fn unreadable(alloc: Global) -> Option<bool> {
+    Some(is_unreadable(&array(alloc, &UNREADABLE, &[])?))
+}
+
 #[test]
 fn a_blank_side_and_an_absent_one_do_not_stand(rt: HostRuntime) {
-    let image = array(rt.alloc(), &UNREADABLE, &[]).expect(&rt, "there is memory");
-    assert!(rt; lacks(&image, 0) == (true, false));
-    assert!(rt; lacks(&image, 1) == (false, true));
-    assert!(rt; standing_of(&image).is_none());
+    assert!(rt; unreadable(rt.alloc()) == Some(true));
 }
 
 /// Writes of blocks 3, 4 and 3 again.
