@@ -25,8 +25,8 @@ pub struct Full {
 
 #[derive(Drop)]
 struct Staged {
-    target: Target,
     block: Block,
+    target: Target,
 }
 
 /// Up to 96 blocks, each with its target: the disk and the place where it belongs.

@@ -18,8 +18,8 @@ pub const MOST: usize = 80;
 
 #[derive(Drop)]
 struct Drafted {
-    target: Target,
     block: Block,
+    target: Target,
 }
 
 /// Up to 80 blocks in the order in which they were drafted, each with its target.
