@@ -56,23 +56,22 @@ impl Pairs {
         }
     }
 
-    /// Becomes one pair.
-    pub fn set_one(&mut self, block: BlockNo, bytes: &Block)
-        ensures value { self.new ≡ one_pair block bytes.now }
-        ensures pairs { pairs_of self.new ≡ (block, bytes.now) ∷ [] }
+    /// Becomes one pair, of this block and of the bytes that its first pair has.
+    pub fn keep_first(&mut self, block: BlockNo)
+        ensures pairs { pairs_of self.new ≡ (block, get_or self.old.bytes 0 zero_block) ∷ [] }
         ensures count { self.new.count ≡ 1 }
     {
         while self.count > 1 {
             self.drop_last();
         }
         self.blocks[0] = block;
-        put(&mut self.bytes, 0, bytes);
     }
 
     // Takes the last pair away.
     fn drop_last(&mut self)
         requires { 1 < self.old.count }
-        ensures { self.new.count + 1 ≡ self.old.count }
+        ensures count { self.new.count + 1 ≡ self.old.count }
+        ensures first { get_or self.new.bytes 0 zero_block ≡ get_or self.old.bytes 0 zero_block }
     {
         let last = self.count as usize - 1;
         self.blocks[last] = 0;

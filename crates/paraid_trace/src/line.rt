@@ -1,4 +1,4 @@
-ghost use Rattle.std.specs.Prelude.{◌≡◌, ◌≢◌, ◌<◌, ◌≤◌, ◌^◌, ◌==◌, length, IfSome};
+ghost use Rattle.std.specs.Prelude.{◌≡◌, ◌≢◌, ℕ, ◌<◌, ◌≤◌, ◌^◌, ◌==◌, length, get_or, IfSome};
 ghost use Rattle.std.specs.Option.{SomeIff};
 ghost use Rattle.std.specs.Char.{digit_value};
 ghost use Rattle.std.specs.Str.Parse.{IsNumeral, digits_value};
@@ -6,6 +6,7 @@ ghost use Rattle.std.specs.List.{position, position_or_len};
 ghost use Rattle.paraid_base.specs.declared.event.Event.{Event as EventType};
 ghost use Rattle.paraid_base.specs.declared.event.Event.TheVariants.{Bad};
 ghost use Rattle.paraid_base.specs.declared.pairs.Pairs.{Pairs as PairsType};
+ghost use Rattle.paraid_base.specs.Xor.{zero_block};
 ghost use Rattle.paraid_trace.specs.Grammar.{IsLineOf};
 ghost use Rattle.paraid_trace.specs.LineEvents.{entry_of, event_at, event_of, fail_of, group_of, is_space, named_event as event_of_name, number_of, read_of, replace_event as event_of_replace, replace_of, word_event as event_of_word, write_of};
 ghost use Rattle.paraid_trace.specs.Asked.{event_with, group_in};
@@ -160,16 +161,16 @@ fn replace(disk: Option<u32>) -> Asked
 fn write(text: &[u8], pairs: &mut Pairs) -> Asked
     ensures { event_with result pairs.new ≡ write_of (entry_of 8 text.now) }
 {
-    let mut bytes = Block::zero();
-    let Some((block, end)) = group(text, &mut bytes) else {
+    let Some((block, end)) = first_group(text, &mut pairs.bytes) else {
         return Asked::Bad;
     };
-    pairs.set_one(block, &bytes);
+    pairs.keep_first(block);
     let mut end = end;
     while end < text.len() {
         if pairs.is_full() {
             return Asked::Bad;
         }
+        let mut bytes = Block::zero();
         let Some((block, length)) = group(&text[end + 1..], &mut bytes) else {
             return Asked::Bad;
         };
@@ -177,6 +178,16 @@ fn write(text: &[u8], pairs: &mut Pairs) -> Asked
         end += 1 + length;
     }
     Asked::Write
+}
+
+// The same, with its bytes kept as the first of these.
+fn first_group(text: &[u8], bytes: &mut [Block; 8]) -> Option<(BlockNo, usize)>
+    ensures group { group_of text.now ≡ group_in result (get_or bytes.new 0 zero_block) }
+    ensures within { IfSome result (λ found. found.1 ≤ length text.now) }
+    ensures whole { length bytes.new ≡ length bytes.old }
+    ensures rest { (k : ℕ) → 1 ≤ k → get_or bytes.new k zero_block ≡ get_or bytes.old k zero_block }
+{
+    group(text, &mut bytes[0])
 }
 
 // Reads the first group of a text: its block, its bytes, and the place behind it.

@@ -9,7 +9,7 @@ returns-in_default c = sym (ap write_of (first_none c.args.text.now c.in_default
 
 pub loop-end-init : goal.loop-end-init
 loop-end-init c = record {
-  midway = midway_first c.args.text.now _ c.set_one.new.self c.in-Some.ensures.group c.set_one.ensures.pairs c.set_one.ensures.count;
+  midway = midway_first c.args.text.now _ c.keep_first.new.self c.in-Some.ensures.group c.keep_first.ensures.pairs c.keep_first.ensures.count;
   within = c.in-Some.ensures.within;
 }
 
