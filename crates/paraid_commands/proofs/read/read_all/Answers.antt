@@ -1,5 +1,5 @@
-use Rattle.std.proofs.Common.{◌<◌, ◌≤◌, ◌-◌, ◌++◌, [], length, take, arith}
-use Rattle.paraid_base.proofs.ToldLemmas.{Gives-none, Gives-then, HasRisen-sooner}
+use Rattle.std.proofs.Common.{◌<◌, ◌≤◌, ◌-◌, ◌++◌, length, take, arith}
+use Rattle.paraid_base.proofs.ToldLemmas.{Gives-none, Gives-then}
 use Rattle.paraid_commands.proofs.ReadingLemmas.{less_room, still_short, too_long}
 use Rattle.paraid_commands.proofs.read.read_all.Goals as goal
 
@@ -34,11 +34,6 @@ loop-count-smaller g c =
     let within : c.in-Ok.count ≤ length c.read_some.new.into = omega (arith, c.in-Ok.ensures.within, c.read_some.auto.into) in
     let few : c.in-Ok.count ≤ 65536 - length c.loop-count.bytes.items = omega (arith, c.if-count-len.false, c.len.ensures, c.loop-count.bytes.ok.0) in
     rw c.in-Ok-extend_from_slice.ensures.items (less_room c.loop-count.bytes.items c.read_some.new.into c.in-Ok.count within (omega (arith, c.if-count-eq0.false)) few)
-
-pub returns-in_default-clause-unread : goal.returns-in_default-clause-unread
-returns-in_default-clause-unread g c =
-    let e = c.in_default.ensures in
-    record { bytes = c.loop-count.bytes.items ++ []; given = Gives-then _ _ _ _ _ c.loop-count.invariant.given e.keeps; cause = HasRisen-sooner _ _ _ c.loop-count.invariant.later e.cause }
 
 pub returns-in_default-extend_from_slice-clause-unread : goal.returns-in_default-extend_from_slice-clause-unread
 returns-in_default-extend_from_slice-clause-unread g c =
