@@ -110,7 +110,7 @@ pub returns-clause-unsynced : goal.returns-clause-unsynced
 returns-clause-unsynced g c was d low stays here wet = elim (cases_eq d c.args.disk) [
   | inl is ↦ absurd (false≢true (sym (ap (λ (e : ℕ). (g.R.Rack.slot (store_rack c.attach.new.self) e).unsynced) is ∙ ap (λ (s : Slot). s.unsynced) (c.attach.ensures.slot.done (ap is_ok c.in-Ok.is))) ∙ wet))
   | inr apart ↦ was d low (λ gone. apart (sym (some_is c.args.disk d (sym (ap gone_out c.requires.gone) ∙ gone))))
-  (ap (λ (s : Slot). is_present s.power) (sym (c.attach.ensures.slot.others d apart)) ∙ here) (ap (λ (s : Slot). s.unsynced) (sym (c.attach.ensures.slot.others d apart)) ∙ wet)
+      (ap (λ (s : Slot). is_present s.power) (sym (c.attach.ensures.slot.others d apart)) ∙ here) (ap (λ (s : Slot). s.unsynced) (sym (c.attach.ensures.slot.others d apart)) ∙ wet)
 ]
 
 pub returns-in_default-clause-unsynced : goal.returns-in_default-clause-unsynced

@@ -279,5 +279,5 @@ pub returns-clause-unsynced : goal.returns-clause-unsynced
 returns-clause-unsynced g c was d low stays here wet = elim (cases_eq d c.args.disk) [
   | inl is ↦ absurd (false≢true (sym (ap (λ (e : ℕ). is_present (g.R.Rack.slot (store_rack c.park.new.self) e).power) is ∙ ap is_present (c.park.ensures.slot.absent (failed g c))) ∙ here))
   | inr apart ↦ was d (subst (λ (z : Meta). d < z.setup.geometry.disks) (meta_is g c) low) (λ gone. stays (gone_marked c.args.self.now.meta c.lose.new.meta (returns-clause-meta g c) d gone))
-  (ap (λ (s : Slot). is_present s.power) (sym (c.park.ensures.slot.others d apart)) ∙ here) (ap (λ (s : Slot). s.unsynced) (sym (c.park.ensures.slot.others d apart)) ∙ wet)
+      (ap (λ (s : Slot). is_present s.power) (sym (c.park.ensures.slot.others d apart)) ∙ here) (ap (λ (s : Slot). s.unsynced) (sym (c.park.ensures.slot.others d apart)) ∙ wet)
 ]

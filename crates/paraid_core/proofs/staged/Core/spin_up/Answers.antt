@@ -302,6 +302,6 @@ returns-in_default-clause-absent g c was d is = elim (was d is) [
 pub returns-in_default-clause-unsynced : goal.returns-in_default-clause-unsynced
 returns-in_default-clause-unsynced g c was d low stays here wet = elim (cases_eq d c.args.disk) [
   | inl is ↦ absurd (false≢true (sym (ap (λ (e : ℕ). (g.R.Rack.slot (store_rack c.spin_up.new.self) e).unsynced) is ∙ ap (λ (s : Slot). s.unsynced) (c.spin_up.ensures.slot.done (ap is_ok c.in_default.is))
-  ∙ (g.met.R.Rack.slots_hold (store_rack c.args.self.now.store)).parked c.args.disk c.requires.parked) ∙ wet))
+      ∙ (g.met.R.Rack.slots_hold (store_rack c.args.self.now.store)).parked c.args.disk c.requires.parked) ∙ wet))
   | inr apart ↦ was d low stays (ap (λ (s : Slot). is_present s.power) (sym (c.spin_up.ensures.slot.others d apart)) ∙ here) (ap (λ (s : Slot). s.unsynced) (sym (c.spin_up.ensures.slot.others d apart)) ∙ wet)
 ]
