@@ -7,7 +7,7 @@ use Rattle.paraid_base.specs.declared.event.Event.TheVariants.{Flush}
 use Rattle.paraid_base.specs.declared.fault.Halt.{Halt}
 use Rattle.paraid_base.specs.declared.fault.Halt.TheVariants.{Two as HaltTwo, Worn}
 use Rattle.paraid_base.proofs.ToldLemmas.{GrowsByBytes-none}
-use Rattle.paraid_mount.specs.declared.fault.MountFault.{MountFault}
+use Rattle.paraid_recover.specs.declared.fault.MountFault.{MountFault}
 use Rattle.paraid_rack.specs.Slots.{Slot}
 use Rattle.paraid_rack.specs.Told.{Ran}
 use Rattle.paraid_rack.specs.Trail.{Trail, now}

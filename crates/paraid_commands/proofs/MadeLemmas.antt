@@ -1,9 +1,9 @@
 -- From what a format leaves of the disks to the empty array.
 use Rattle.std.proofs.Common.{ℕ, Option, Some, None, ◌≡◌, ◌≤◌, ◌<◌, ◌∙◌, false, inl, inr, sym, ap, arith}
 use Rattle.std.proofs.lemmas.Bool.{cases_Bool, cases_lt, false≢true}
-use Rattle.paraid_format.specs.Attached.{BecomesFormatted, fresh_slot}
-use Rattle.paraid_format.specs.First.{first_meta}
-use Rattle.paraid_format.specs.Between.{RanBetween}
+use Rattle.paraid_recover.specs.Attached.{BecomesFormatted, fresh_slot}
+use Rattle.paraid_recover.specs.First.{first_meta}
+use Rattle.paraid_recover.specs.Between.{RanBetween}
 use Rattle.paraid_image.proofs.FormattedLemmas.{IsHeld-formatted}
 use Rattle.paraid_image.specs.Formatted.{IsFormatted}
 use Rattle.paraid_rack.specs.declared.call.Power.TheVariants.{Spinning, Absent}

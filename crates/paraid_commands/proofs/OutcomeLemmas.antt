@@ -1,7 +1,7 @@
 -- From why no array was made to what the command ends with.
 use Rattle.std.proofs.Common.{◌≡◌, ◌≢◌, ℕ, Bool, List, Option, arith, inl, inr, refl}
 use Rattle.paraid_config.specs.declared.fault.ConfigFault.TheVariants.{Long, NotToml, Unknown, Missing, Kind, Range, Geometry, NoMemory}
-use Rattle.paraid_format.specs.declared.fault.FormatFault.TheVariants.{AlreadyFormatted, Disk}
+use Rattle.paraid_recover.specs.declared.format_fault.FormatFault.TheVariants.{AlreadyFormatted, Disk}
 use Rattle.paraid_rack.specs.Slots.{Slot}
 use Rattle.paraid_rack.specs.Trail.{Trail}
 use Rattle.paraid_commands.specs.Lines.{refusal_line, refusal_status}

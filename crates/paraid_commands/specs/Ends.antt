@@ -21,7 +21,7 @@ use Rattle.paraid_serve.specs.Output.{Headline, IsLeftByStretch}
 use Rattle.paraid_serve.specs.Stretch.{EndsStretch}
 use Rattle.paraid_session.specs.Turn.{Point}
 use Rattle.paraid_commands.specs.Generating.{GenHeadline}
-use Rattle.paraid_mount.specs.declared.fault.MountFault.{MountFault}
+use Rattle.paraid_recover.specs.declared.fault.MountFault.{MountFault}
 use Rattle.paraid_recover.specs.HeldMoments.{Extends}
 use Rattle.paraid_recover.specs.Map.{HasBitsOf}
 use Rattle.paraid_recover.specs.Mount.{IsCauseOfRefusal}

@@ -6,7 +6,7 @@ use Rattle.paraid_base.specs.declared.geometry.GeoFault.TheVariants.{Disks, Rows
 use Rattle.paraid_config.specs.declared.fault.ConfigFault.{ConfigFault}
 use Rattle.paraid_config.specs.declared.fault.ConfigFault.TheVariants.{Long, NotToml, Unknown, Missing, Kind, Range, Geometry, NoMemory}
 use Rattle.paraid_config.specs.Keys.{key_name}
-use Rattle.paraid_format.specs.declared.fault.FormatFault.TheVariants.{AlreadyFormatted, Disk}
+use Rattle.paraid_recover.specs.declared.format_fault.FormatFault.TheVariants.{AlreadyFormatted, Disk}
 use Rattle.paraid_record.specs.declared.meta.Setup.{Setup}
 use Rattle.paraid_commands.specs.declared.refusal.Refusal.{Refusal}
 use Rattle.paraid_commands.specs.declared.refusal.Refusal.TheVariants.{Source, Config, Format}

@@ -1,7 +1,7 @@
 -- Why an array was not mounted: the last line, and its status.
 use Rattle.std.specs.Prelude.{ℕ, List, ◌++◌, codes, decimal}
-use Rattle.paraid_mount.specs.declared.fault.MountFault.{MountFault}
-use Rattle.paraid_mount.specs.declared.fault.MountFault.TheVariants.{NotFormatted, BadLog, BadMeta, Size, Power, Two as TwoDown, Worn, NoMemory}
+use Rattle.paraid_recover.specs.declared.fault.MountFault.{MountFault}
+use Rattle.paraid_recover.specs.declared.fault.MountFault.TheVariants.{NotFormatted, BadLog, BadMeta, Size, Power, Two as TwoDown, Worn, NoMemory}
 
 abbrev pub mount_fault_line : MountFault → List ℕ
 mount_fault_line NotFormatted = codes "notformatted\n"

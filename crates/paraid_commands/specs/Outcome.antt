@@ -4,14 +4,14 @@ use Rattle.paraid_base.specs.Regions.{disk_size}
 use Rattle.paraid_config.specs.declared.fault.ConfigFault.{ConfigFault}
 use Rattle.paraid_config.specs.declared.fault.ConfigFault.TheVariants.{NoMemory}
 use Rattle.paraid_serve.specs.Ending.{EndsWithLine}
-use Rattle.paraid_format.specs.Attached.{fresh_slot}
-use Rattle.paraid_format.specs.Calls.{AreFormatCalls}
-use Rattle.paraid_format.specs.First.{first_meta}
-use Rattle.paraid_format.specs.Found.{IsUnclaimed}
-use Rattle.paraid_format.specs.Between.{RanBetween}
-use Rattle.paraid_format.specs.Refusals.{IsFormatRefusal}
-use Rattle.paraid_format.specs.declared.fault.FormatFault.{FormatFault}
-use Rattle.paraid_format.specs.declared.fault.FormatFault.TheVariants.{AlreadyFormatted, Disk}
+use Rattle.paraid_recover.specs.Attached.{fresh_slot}
+use Rattle.paraid_recover.specs.Calls.{AreFormatCalls}
+use Rattle.paraid_recover.specs.First.{first_meta}
+use Rattle.paraid_recover.specs.Found.{IsUnclaimed}
+use Rattle.paraid_recover.specs.Between.{RanBetween}
+use Rattle.paraid_recover.specs.FormatRefusals.{IsFormatRefusal}
+use Rattle.paraid_recover.specs.declared.format_fault.FormatFault.{FormatFault}
+use Rattle.paraid_recover.specs.declared.format_fault.FormatFault.TheVariants.{AlreadyFormatted, Disk}
 use Rattle.paraid_image.specs.RunStart.{IsRunStart}
 use Rattle.paraid_image.specs.Formatted.{IsFormatted}
 use Rattle.paraid_rack.specs.Disks.{Disks}

@@ -1,7 +1,7 @@
 -- How `status` comes out, by its status.
 use Rattle.std.specs.Prelude.{◌≡◌, ℕ, ◌⊎◌, Bool, List, Option, Some}
 use Rattle.paraid_serve.specs.Ending.{EndsWithLine}
-use Rattle.paraid_mount.specs.declared.fault.MountFault.{MountFault}
+use Rattle.paraid_recover.specs.declared.fault.MountFault.{MountFault}
 use Rattle.paraid_rack.specs.Slots.{Slot}
 use Rattle.paraid_rack.specs.Trail.{Trail, moments}
 use Rattle.paraid_record.specs.declared.meta.Meta.{Meta}

@@ -6,7 +6,7 @@ ghost use Rattle.paraid_commands.specs.MountFaults.{mount_fault_line, mount_faul
 
 use paraid_base::Two;
 use paraid_io::Sink;
-use paraid_mount::MountFault;
+use paraid_recover::MountFault;
 use paraid_serve::ending::{last, size_text};
 use paraid_serve::status;
 use paraid_trace::Text;

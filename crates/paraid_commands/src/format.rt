@@ -7,7 +7,7 @@ ghost use Rattle.paraid_commands.specs.Reading.{IsConfigured};
 use crate::Refusal;
 use crate::format_text::{formatted_text, refusal_status, refusal_text};
 use crate::read::read_setup;
-use paraid_format::format;
+use paraid_recover::format;
 use paraid_io::{Sink, Source};
 use paraid_rack::Rack;
 use paraid_record::Setup;

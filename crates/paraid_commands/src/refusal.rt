@@ -1,5 +1,5 @@
 use paraid_config::ConfigFault;
-use paraid_format::FormatFault;
+use paraid_recover::FormatFault;
 
 /// Why no array was made.
 #[derive(Clone, Copy)]

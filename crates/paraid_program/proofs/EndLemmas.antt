@@ -2,8 +2,8 @@
 use Rattle.std.proofs.Common.{◌≡◌, ℕ, ◌⊎◌, List, length, Option, inl, inr, arith}
 use Rattle.paraid_base.specs.Told.{AtEnd}
 use Rattle.paraid_serve.specs.Ending.{EndsWithLine}
-use Rattle.paraid_mount.specs.declared.fault.MountFault.{MountFault}
-use Rattle.paraid_mount.specs.declared.fault.MountFault.TheVariants.{NotFormatted, BadLog, BadMeta, Size, Power, Two as TwoDown, Worn, NoMemory}
+use Rattle.paraid_recover.specs.declared.fault.MountFault.{MountFault}
+use Rattle.paraid_recover.specs.declared.fault.MountFault.TheVariants.{NotFormatted, BadLog, BadMeta, Size, Power, Two as TwoDown, Worn, NoMemory}
 use Rattle.paraid_rack.specs.Slots.{Slot}
 use Rattle.paraid_rack.specs.Trail.{Trail}
 use Rattle.paraid_commands.specs.MountFaults.{mount_fault_status}

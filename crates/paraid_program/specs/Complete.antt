@@ -3,7 +3,7 @@ use Rattle.std.specs.Prelude.{◌≡◌, ◌≢◌, ℕ, ◌<◌, Bool, false, L
 use Rattle.paraid_base.specs.Told.{HasRisen}
 use Rattle.paraid_config.specs.declared.fault.ConfigFault.{ConfigFault}
 use Rattle.paraid_config.specs.declared.fault.ConfigFault.TheVariants.{NoMemory}
-use Rattle.paraid_format.specs.Found.{IsGreatest}
+use Rattle.paraid_recover.specs.Found.{IsGreatest}
 use Rattle.paraid_commands.specs.Lines.{formatted_line}
 use Rattle.paraid_commands.specs.Outcome.{IsArrayMade, IsUntouched}
 use Rattle.paraid_commands.specs.Reading.{IsConfigured, IsUnread}

@@ -18,7 +18,7 @@ use Rattle.paraid_image.specs.Standing.{Stands}
 use Rattle.paraid_image.proofs.AlikeLemmas.{held_alike, sound_alike, weak_alike}
 use Rattle.paraid_image.proofs.FailedCallLemmas.{IsHeld-lost}
 use Rattle.paraid_image.proofs.StandingLemmas.{Stands-same}
-use Rattle.paraid_mount.specs.HeardSides.{AmongOne}
+use Rattle.paraid_recover.specs.HeardSides.{AmongOne}
 use Rattle.paraid_txn.specs.Resume.{IsBroken}
 use Rattle.paraid_txn.proofs.MeansLemmas.{absent_power}
 

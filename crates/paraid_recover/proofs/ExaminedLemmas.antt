@@ -15,9 +15,9 @@ use Rattle.paraid_record.specs.declared.meta.Meta.{Meta}
 use Rattle.paraid_record.specs.Range.{IsInRange, IsOutInRange}
 use Rattle.paraid_image.specs.Out.{IsDouble, IsMissing, named_out}
 use Rattle.paraid_image.specs.Sides.{Batch}
-use Rattle.paraid_mount.specs.Examined.{AreLogsAwake}
-use Rattle.paraid_mount.specs.Order.{IsNotRefused}
-use Rattle.paraid_mount.specs.Refusals.{is_asleep, is_small, must_spin}
+use Rattle.paraid_recover.specs.Examined.{AreLogsAwake}
+use Rattle.paraid_recover.specs.Order.{IsNotRefused}
+use Rattle.paraid_recover.specs.Refusals.{is_asleep, is_small, must_spin}
 use Rattle.paraid_txn.specs.Losses.{IsOneOut, IsOutOfCommit, OnlyLosesSlots}
 use Rattle.paraid_txn.specs.Losses.IsOutOfCommit.{is_absent, was_named, is_named}
 use Rattle.paraid_recover.specs.Mounted.{IsFit}

@@ -1,3 +1,22 @@
+pub mod ReadsLemmas
+pub mod FoundLemmas
+pub mod AttachLemmas
+pub mod LogLemmas
+pub mod FormatLemmas
+pub mod UnchangedLemmas
+pub mod HeardLemmas
+pub mod BodyLemmas
+pub mod BothLemmas
+pub mod FailedLemmas
+pub mod WearLemmas
+mod AlikeLemmas
+mod CauseLemmas
+mod ExactLemmas
+pub mod ExaminedLogLemmas
+mod LackingLemmas
+mod ServedLemmas
+mod SidesLemmas
+mod SizesLemmas
 pub mod StillLemmas
 pub mod FallbackLemmas
 pub mod ResumeMetasLemmas

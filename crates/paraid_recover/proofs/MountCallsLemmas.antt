@@ -16,7 +16,7 @@ use Rattle.paraid_image.specs.Calls.{disk_of, is_attach}
 use Rattle.paraid_image.specs.Mark.{marked_gone}
 use Rattle.paraid_image.specs.Out.{or_else}
 use Rattle.paraid_image.specs.Sides.{Batch}
-use Rattle.paraid_mount.specs.HeardSides.{ReadsLogs}
+use Rattle.paraid_recover.specs.HeardSides.{ReadsLogs}
 use Rattle.paraid_txn.specs.Uses.{EachCall, Uses, UsesLog, UsesSync, UsesTarget}
 use Rattle.paraid_txn.proofs.CommitPartLemmas.{EachCall-milder, ran_milder}
 use Rattle.paraid_recover.specs.Map.{ReadsMap, ReadsMapOf}

@@ -1,3 +1,15 @@
+pub mod Between
+pub mod Found
+pub mod Calls
+pub mod Attached
+pub mod First
+pub mod FormatRefusals
+pub mod HeardSides
+pub mod Faults
+pub mod Refusals
+pub mod Order
+pub mod Said
+pub mod Examined
 pub mod HeldMoments
 pub mod Quiet
 pub mod Map

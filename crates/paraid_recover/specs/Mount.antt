@@ -8,10 +8,10 @@ use Rattle.paraid_record.specs.declared.meta.Meta.{Meta}
 use Rattle.paraid_image.specs.Out.{named_out}
 use Rattle.paraid_image.specs.Sides.{LogState}
 use Rattle.paraid_image.specs.Standing.{Stands}
-use Rattle.paraid_mount.specs.declared.fault.MountFault.{MountFault}
-use Rattle.paraid_mount.specs.declared.fault.MountFault.TheVariants.{NoMemory, Two as BothMissing}
-use Rattle.paraid_mount.specs.Examined.{IsExamined, IsRefused}
-use Rattle.paraid_mount.specs.HeardSides.{IsReadLosing, IsReadOnly, ReadsLogs}
+use Rattle.paraid_recover.specs.declared.fault.MountFault.{MountFault}
+use Rattle.paraid_recover.specs.declared.fault.MountFault.TheVariants.{NoMemory, Two as BothMissing}
+use Rattle.paraid_recover.specs.Examined.{IsExamined, IsRefused}
+use Rattle.paraid_recover.specs.HeardSides.{IsReadLosing, IsReadOnly, ReadsLogs}
 use Rattle.paraid_txn.specs.Losses.{AreGoneSince, IsOutOfCommit, AreTwoDownBeside}
 use Rattle.paraid_txn.specs.Uses.{EachCall}
 use Rattle.paraid_recover.specs.EndOfMount.{IsMarkAtEnd, IsMarkAtMoment, KeepsDirty}

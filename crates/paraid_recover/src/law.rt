@@ -4,7 +4,7 @@ ghost use Rattle.paraid_base.specs.History.{History};
 ghost use Rattle.paraid_rack.specs.declared.call.Call.TheVariants.{Park};
 ghost use Rattle.paraid_rack.specs.declared.call.Power.TheVariants.{Spinning};
 ghost use Rattle.paraid_rack.specs.Disks.{Disks, IsImage, is_present, step};
-ghost use Rattle.paraid_mount.specs.HeardSides.{AmongOne};
+ghost use Rattle.paraid_recover.specs.HeardSides.{AmongOne};
 ghost use Rattle.paraid_txn.specs.Resume.{IsBroken};
 ghost use Rattle.paraid_image.specs.Standing.{Stands};
 ghost use Rattle.paraid_record.specs.declared.meta.Meta.{Meta as MetaType};

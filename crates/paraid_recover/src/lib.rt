@@ -1,23 +1,68 @@
-//! The mount: from the disks that a rack brings to an array that can be served.
+//! Makes an array of the disks of a rack, and mounts it: from the disks that a rack brings to an array
+//! that can be served.
 //!
-//! `mount` ends a commit that a stop broke off, reads the dirty map, syncs all disks, marks one that
-//! is absent and powers the others by the gear. Each moment of it holds what was held, whichever one
-//! disk fails; the laws say so of each step.
+//! `format` leaves the disks of an array that holds no write. `examine` reads both log disks whole,
+//! chooses the one that stands and tests what refuses a mount. `mount` then ends a commit that a stop
+//! broke off, reads the dirty map, syncs all disks, marks one that is absent and powers the others by
+//! the gear. Each moment of a mount holds what was held, whichever one disk fails; the laws say so of
+//! each step.
 #![tactic(auto)]
 
+mod alike;
+mod attach;
+mod both;
+mod choosing;
+mod examining;
+mod fault;
+mod faults;
+mod format_fault;
+mod found;
+mod hearing;
+mod lacking;
 mod law;
+mod law_of_reads;
+mod law_of_refusals;
+mod log;
+mod making;
 mod map;
 mod marking;
 mod mounting;
+mod power;
 mod powers;
+mod reads;
 mod recovery;
+mod refusal;
+mod sides;
+mod sizes;
+mod standing;
+mod wear;
 
+pub use both::{Sides, hear_both, hear_if_there};
+pub use choosing::choose;
+pub use examining::{examine, refusal_by_slots};
+pub use fault::MountFault;
+pub use faults::{first_faulty, is_unformatted};
+pub use format_fault::FormatFault;
+pub use hearing::{Heard, hear};
+pub use lacking::two_missing;
 pub use law::{
     a_disk_can_be_parked_at_rest, a_recovery_leaves_what_is_held,
     reads_leave_what_can_be_recovered, turns_leave_what_is_held,
 };
+pub use law_of_reads::{reads_leave_the_images, reads_leave_what_is_held};
+pub use law_of_refusals::{
+    a_mount_is_refused_by_one_cause, a_mount_is_refused_or_goes_on,
+    what_is_held_is_refused_for_wear,
+};
+pub use making::{first_meta, format};
 pub use map::read_map;
 pub use marking::{mark, marked};
 pub use mounting::{MountRefused, Mounted, mount};
+pub use power::first_asleep;
 pub use powers::power_disks;
 pub use recovery::mark_out;
+pub use refusal::refusal_by;
+pub use sides::refusal_by_sides;
+pub use sizes::first_small;
+pub use standing::Standing;
+pub use wear::worn_count;

@@ -3,10 +3,10 @@ ghost use Rattle.std.specs.Prelude.{◌≡◌, ◌≢◌, ℕ, ◌+◌, ◌^◌,
 ghost use Rattle.paraid_dirty.specs.Table.{is_dirty};
 ghost use Rattle.paraid_base.specs.declared.fault.Two.{Two as TwoType};
 ghost use Rattle.paraid_base.specs.Told.{HasRisen};
-ghost use Rattle.paraid_mount.specs.Examined.{IsExamined};
+ghost use Rattle.paraid_recover.specs.Examined.{IsExamined};
 ghost use Rattle.paraid_rack.specs.Slots.{Slot};
-ghost use Rattle.paraid_mount.specs.HeardSides.{IsReadOnly};
-ghost use Rattle.paraid_mount.specs.declared.fault.MountFault.TheVariants.{Two as BothMissing};
+ghost use Rattle.paraid_recover.specs.HeardSides.{IsReadOnly};
+ghost use Rattle.paraid_recover.specs.declared.fault.MountFault.TheVariants.{Two as BothMissing};
 ghost use Rattle.paraid_txn.specs.Resume.{CanResume, log_state};
 ghost use Rattle.paraid_rack.specs.declared.call.Power.TheVariants.{Absent};
 ghost use Rattle.paraid_rack.specs.Disks.{is_present};
@@ -30,13 +30,15 @@ ghost use Rattle.paraid_recover.specs.Mounted.{AreAllSynced, IsFit, IsServable, 
 ghost use Rattle.paraid_txn.specs.Losses.{AreFailedOrWell, AreGoneSince, IsOutOfCommit, OnlyLosesSlots, AreTwoDownBeside};
 ghost use Rattle.paraid_txn.specs.Stores.{disks_of, epoch_of, named_of as named_by, store_out, store_rack};
 
+use crate::examining::examine;
+use crate::fault::MountFault;
 use crate::map::read_map;
 use crate::marking::marked;
 use crate::powers::power_disks;
 use crate::recovery::{mark_out, unmarked};
+use crate::standing::Standing;
 use paraid_base::Two;
 use paraid_dirty::DirtyTable;
-use paraid_mount::{MountFault, Standing, examine};
 use paraid_rack::Rack;
 use paraid_record::Meta;
 use paraid_txn::{Batch, Store};

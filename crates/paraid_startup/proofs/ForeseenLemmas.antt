@@ -24,7 +24,7 @@ use Rattle.paraid_recover.specs.StandingMetas.StandsForeseen.{marked, same, with
 use Rattle.paraid_session.specs.Mount.{IsBase, mount_bounds, start_watch}
 use Rattle.paraid_session.specs.Watch.{IsServing, Watch, watch_all}
 use Rattle.paraid_session.proofs.LayerLemmas.{IsIn}
-use Rattle.paraid_mount.specs.HeardSides.{ReadsLogs}
+use Rattle.paraid_recover.specs.HeardSides.{ReadsLogs}
 use Rattle.paraid_startup.specs.Recorded.{IsWithinBoundsAt}
 use Rattle.paraid_startup.proofs.DownLemmas.{in_absent, in_stays, several_in, stood_log, weak_in}
 use Rattle.paraid_startup.proofs.BasedLemmas.{next_marked}

@@ -21,9 +21,9 @@ use Rattle.paraid_image.specs.RunStart.{IsRunStart}
 use Rattle.paraid_image.specs.Sides.{LogState}
 use Rattle.paraid_image.specs.Spins.{first_used}
 use Rattle.paraid_image.specs.Standing.{Stands, contents}
-use Rattle.paraid_mount.specs.declared.fault.MountFault.{MountFault}
-use Rattle.paraid_mount.specs.declared.fault.MountFault.TheVariants.{Two as BothMissing}
-use Rattle.paraid_mount.specs.Examined.{IsExamined, IsRefused}
+use Rattle.paraid_recover.specs.declared.fault.MountFault.{MountFault}
+use Rattle.paraid_recover.specs.declared.fault.MountFault.TheVariants.{Two as BothMissing}
+use Rattle.paraid_recover.specs.Examined.{IsExamined, IsRefused}
 use Rattle.paraid_recover.proofs.DirtyKeptLemmas.{shown_dirty}
 use Rattle.paraid_recover.specs.HeldMoments.{Extends, IsAbsentSince}
 use Rattle.paraid_recover.specs.Mount.{HasMounted, HasOnlyRead, HasRecovered, IsCauseOfRefusal}
@@ -33,7 +33,7 @@ use Rattle.paraid_recover.specs.Mounted.{IsServable, with_loss}
 use Rattle.paraid_session.specs.Mount.{IsMountRefused, IsMounted, IsMountedFromEach, IsRefusedFromEach, Refusal, start_watch}
 use Rattle.paraid_session.specs.Mount.Refusal.{no_memory as for_memory}
 use Rattle.paraid_session.specs.Watch.{IsServing, Watch, watch_all}
-use Rattle.paraid_mount.specs.HeardSides.{AmongOne, AmongTwo, ReadsLogs}
+use Rattle.paraid_recover.specs.HeardSides.{AmongOne, AmongTwo, ReadsLogs}
 use Rattle.paraid_startup.specs.First.{IsFirstPoint, first_point}
 use Rattle.paraid_startup.specs.Parts.{AreMountCalls, EndsServed}
 use Rattle.paraid_startup.specs.Refusals.{refusal_by_fault}

@@ -21,7 +21,7 @@ use Rattle.paraid_recover.proofs.MountCallsLemmas.{reads_mount}
 use Rattle.paraid_session.specs.Mount.{IsBase, mount_bounds, start_watch}
 use Rattle.paraid_session.specs.Watch.{Each, IsServing, Watch, watch, watch_all}
 use Rattle.paraid_session.proofs.RunStartLemmas.{synced_alike}
-use Rattle.paraid_mount.specs.HeardSides.{ReadsLogs}
+use Rattle.paraid_recover.specs.HeardSides.{ReadsLogs}
 use Rattle.paraid_startup.specs.Calls.{IsSpinUpRecorded, MakesMountCall}
 use Rattle.paraid_startup.specs.Held.{HoldsAfter}
 use Rattle.paraid_startup.specs.Parts.{AreMountCalls}

@@ -20,7 +20,7 @@ use Rattle.paraid_image.proofs.OutLemmas.{out_missing, says_in_range}
 use Rattle.paraid_image.proofs.StandingLemmas.{Stands-same}
 use Rattle.paraid_recover.proofs.DirtyKeptLemmas.{map_by, shown_dirty}
 use Rattle.paraid_recover.proofs.MapEndLemmas.{bit_same, map_disk_in, missing_out, there_by}
-use Rattle.paraid_mount.specs.HeardSides.{ReadsLogs}
+use Rattle.paraid_recover.specs.HeardSides.{ReadsLogs}
 use Rattle.paraid_startup.proofs.BaseLemmas.{sound_now}
 use Rattle.paraid_startup.proofs.SetupLemmas.{IsKept, kept_by_reads}
 use Rattle.paraid_txn.specs.Uses.{EachCall}

@@ -33,7 +33,7 @@ use Rattle.paraid_session.specs.Mount.{IsBase, mount_bounds, start_watch}
 use Rattle.paraid_session.specs.Watch.{IsServing, Watch, watch_all}
 use Rattle.paraid_session.proofs.LayerLemmas.{IsIn}
 use Rattle.paraid_session.proofs.RunStartLemmas.{synced_alike}
-use Rattle.paraid_mount.specs.HeardSides.{ReadsLogs}
+use Rattle.paraid_recover.specs.HeardSides.{ReadsLogs}
 use Rattle.paraid_startup.specs.Recorded.{IsWithinBoundsAt}
 use Rattle.paraid_startup.proofs.CallsLemmas.{each_map}
 use Rattle.paraid_startup.proofs.DownLemmas.{absent_weak, in_absent, in_later, in_stays, stood_log, weak_in}

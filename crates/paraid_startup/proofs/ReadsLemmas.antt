@@ -23,7 +23,7 @@ use Rattle.paraid_image.proofs.CallLemmas.{IsHeld-fewer, read_images}
 use Rattle.paraid_image.proofs.FailedCallLemmas.{IsHeld-lost, failed_is_loss}
 use Rattle.paraid_recover.specs.HeldMoments.{IsAbsentSince}
 use Rattle.paraid_session.proofs.RunStartLemmas.{synced_alike}
-use Rattle.paraid_mount.specs.HeardSides.{ReadsLogs}
+use Rattle.paraid_recover.specs.HeardSides.{ReadsLogs}
 use Rattle.paraid_startup.specs.Held.{HoldsAfter, IsAbsentUpTo}
 use Rattle.paraid_startup.proofs.DownLemmas.{stood_log, weak_down}
 use Rattle.paraid_txn.specs.Resume.{IsBroken}

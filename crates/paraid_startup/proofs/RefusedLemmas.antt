@@ -18,21 +18,21 @@ use Rattle.paraid_image.specs.Rest.{AreSynced}
 use Rattle.paraid_image.specs.RunStart.{IsRunStart}
 use Rattle.paraid_image.specs.Sides.{Batch, LogState}
 use Rattle.paraid_image.specs.Standing.{Stands}
-use Rattle.paraid_mount.specs.declared.fault.MountFault.{MountFault}
-use Rattle.paraid_mount.specs.declared.fault.MountFault.TheVariants.{NotFormatted, BadLog, BadMeta, Size, Power as Asleep, Two as BothMissing, Worn, NoMemory}
-use Rattle.paraid_mount.specs.Examined.{IsExamined, IsRefused, IsRefusedByLogs, IsRefusedBySlots, Logs}
-use Rattle.paraid_mount.specs.Examined.IsRefused.{by_slots, by_loss, as_heard}
-use Rattle.paraid_mount.specs.Examined.IsRefusedAsHeard.{by_logs, by_meta}
-use Rattle.paraid_mount.specs.Examined.IsRefusedByLogs.{by_sides, by_itself, at_odds}
-use Rattle.paraid_mount.specs.Examined.IsRefusedBySlots.{asleep, few}
-use Rattle.paraid_mount.proofs.ExaminedLemmas.{worn_stands}
-use Rattle.paraid_mount.proofs.WearLemmas.{refused_for_wear}
+use Rattle.paraid_recover.specs.declared.fault.MountFault.{MountFault}
+use Rattle.paraid_recover.specs.declared.fault.MountFault.TheVariants.{NotFormatted, BadLog, BadMeta, Size, Power as Asleep, Two as BothMissing, Worn, NoMemory}
+use Rattle.paraid_recover.specs.Examined.{IsExamined, IsRefused, IsRefusedByLogs, IsRefusedBySlots, Logs}
+use Rattle.paraid_recover.specs.Examined.IsRefused.{by_slots, by_loss, as_heard}
+use Rattle.paraid_recover.specs.Examined.IsRefusedAsHeard.{by_logs, by_meta}
+use Rattle.paraid_recover.specs.Examined.IsRefusedByLogs.{by_sides, by_itself, at_odds}
+use Rattle.paraid_recover.specs.Examined.IsRefusedBySlots.{asleep, few}
+use Rattle.paraid_recover.proofs.ExaminedLogLemmas.{worn_stands}
+use Rattle.paraid_recover.proofs.WearLemmas.{refused_for_wear}
 use Rattle.paraid_session.specs.Mount.{IsBase, IsCauseOutsideDisks, Refusal, lacking, no_memory, start_watch, worn}
 use Rattle.paraid_session.specs.Watch.{Down, IsServing, Watch, watch_all}
 use Rattle.paraid_session.proofs.LayerLemmas.{IsIn}
-use Rattle.paraid_mount.specs.declared.hearing.Heard.{Heard}
-use Rattle.paraid_mount.specs.HeardSides.{IsHeardAt, IsHeardBy, IsOneLost, ReadsLogs}
-use Rattle.paraid_mount.specs.HeardSides.IsOneLost.{none, one}
+use Rattle.paraid_recover.specs.declared.hearing.Heard.{Heard}
+use Rattle.paraid_recover.specs.HeardSides.{IsHeardAt, IsHeardBy, IsOneLost, ReadsLogs}
+use Rattle.paraid_recover.specs.HeardSides.IsOneLost.{none, one}
 use Rattle.paraid_startup.specs.Parts.{EndsRefused}
 use Rattle.paraid_startup.specs.Refusals.{refusal_by_fault}
 use Rattle.paraid_startup.proofs.DownLemmas.{absent_weak, in_absent, in_stays, several_in, weak_in}

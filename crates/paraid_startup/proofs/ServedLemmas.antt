@@ -30,7 +30,7 @@ use Rattle.paraid_recover.specs.RecoveryMark.{renewed_by, to_mark, with_mark}
 use Rattle.paraid_session.specs.Mount.{BeginsSession, start_watch}
 use Rattle.paraid_session.specs.Watch.{IsServing, Watch, fails_on, first_lost, watch_all}
 use Rattle.paraid_session.proofs.LayerLemmas.{absent_failed, first_fails, only_lost}
-use Rattle.paraid_mount.specs.HeardSides.{AmongOne, ReadsLogs}
+use Rattle.paraid_recover.specs.HeardSides.{AmongOne, ReadsLogs}
 use Rattle.paraid_startup.specs.Parts.{EndsServed}
 use Rattle.paraid_startup.proofs.BeginsLemmas.{begins_losing, begins_quietly, begins_without, presence_kept, presence_lost, stays_absent}
 use Rattle.paraid_startup.proofs.DownLemmas.{several_in}

@@ -23,7 +23,7 @@ use Rattle.paraid_image.proofs.StandingLemmas.{Stands-same}
 use Rattle.paraid_session.specs.Mount.{start_watch}
 use Rattle.paraid_session.specs.Watch.{IsServing, watch_all}
 use Rattle.paraid_session.proofs.LayerLemmas.{IsIn}
-use Rattle.paraid_mount.specs.HeardSides.{ReadsLogs}
+use Rattle.paraid_recover.specs.HeardSides.{ReadsLogs}
 use Rattle.paraid_startup.proofs.DownLemmas.{in_absent, in_stays, several_in, stood_log, weak_in}
 use Rattle.paraid_txn.specs.Uses.{EachCall}
 

@@ -20,7 +20,7 @@ use Rattle.paraid_session.specs.Mount.{start_watch}
 use Rattle.paraid_session.specs.Watch.{IsServing, Watch, watch, watch_all}
 use Rattle.paraid_session.proofs.LayerLemmas.{IsIn}
 use Rattle.paraid_session.proofs.RunStartLemmas.{synced_alike}
-use Rattle.paraid_mount.specs.HeardSides.{ReadsLogs}
+use Rattle.paraid_recover.specs.HeardSides.{ReadsLogs}
 use Rattle.paraid_startup.specs.Held.{IsAbsentUpTo}
 use Rattle.paraid_startup.proofs.DownLemmas.{absent_weak, in_absent, in_later, in_stays, stood_log, weak_down, weak_in}
 use Rattle.paraid_startup.proofs.ReadsLemmas.{disks_from, reads_held, reads_synced, run_append, take_past}

@@ -23,7 +23,7 @@ use Rattle.paraid_recover.specs.StandingMetas.{IsPoweredFrom, StandsForeseen}
 use Rattle.paraid_recover.proofs.RecoverLemmas.{disks_before, disks_last}
 use Rattle.paraid_session.specs.Mount.{IsBase, mount_bounds, start_watch}
 use Rattle.paraid_session.specs.Watch.{Each, watch_all}
-use Rattle.paraid_mount.specs.HeardSides.{ReadsLogs}
+use Rattle.paraid_recover.specs.HeardSides.{ReadsLogs}
 use Rattle.paraid_startup.specs.Calls.{IsSpinUpRecorded}
 use Rattle.paraid_startup.specs.Parts.{AreMountCalls}
 use Rattle.paraid_startup.specs.Recorded.{StaysWithin}

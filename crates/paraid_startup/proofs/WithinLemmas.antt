@@ -30,7 +30,7 @@ use Rattle.paraid_recover.proofs.TurnsLemmas.{rests_through}
 use Rattle.paraid_session.specs.Mount.{IsBase, mount_bounds, start_watch}
 use Rattle.paraid_session.specs.Watch.{Bounds, Down, Each, IsServing, Watch, nobody, only, several, watch, watch_all}
 use Rattle.paraid_session.proofs.LayerLemmas.{IsIn, each_at}
-use Rattle.paraid_mount.specs.HeardSides.{ReadsLogs}
+use Rattle.paraid_recover.specs.HeardSides.{ReadsLogs}
 use Rattle.paraid_startup.specs.Calls.{IsSpinUpRecorded}
 use Rattle.paraid_startup.specs.Recorded.{AreSpinUpsRecorded, HasRecord, IsStill, OnlyStands, StaysWithin, StaysWithinAt}
 use Rattle.paraid_startup.proofs.BaseLemmas.{each_append}

@@ -25,7 +25,7 @@ ghost use Rattle.paraid_session.specs.Mount.{BeginsSession, IsAllowedInMount, Is
 ghost use Rattle.paraid_session.specs.Turn.{IsMark};
 ghost use Rattle.paraid_session.specs.Watch.{Bounds, Each, IsHeldWhileServing, IsServing, Watch, fails_on, first_lost, watch_all};
 ghost use Rattle.paraid_session.proofs.LayerLemmas.{IsIn};
-ghost use Rattle.paraid_mount.specs.HeardSides.{ReadsLogs};
+ghost use Rattle.paraid_recover.specs.HeardSides.{ReadsLogs};
 ghost use Rattle.paraid_recover.specs.MountCalls.{IsMountCall};
 ghost use Rattle.paraid_startup.specs.Calls.{IsSpinUpRecorded, MakesMountCall};
 ghost use Rattle.paraid_startup.specs.First.{first_point};

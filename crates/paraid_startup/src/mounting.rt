@@ -10,9 +10,8 @@ ghost use Rattle.paraid_startup.specs.First.{IsFirstPoint};
 ghost use Rattle.paraid_startup.specs.Refusals.{refusal_by_fault};
 ghost use Rattle.paraid_txn.specs.Stores.{disks_of, epoch_of, named_of as named_by, store_rack};
 
-use paraid_mount::MountFault;
 use paraid_rack::Rack;
-use paraid_recover::{MountRefused, Mounted};
+use paraid_recover::{MountFault, MountRefused, Mounted};
 use paraid_txn::Batch;
 use std::alloc::Global;
 

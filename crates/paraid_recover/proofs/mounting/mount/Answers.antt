@@ -1,6 +1,6 @@
 use Rattle.std.specs.Prelude.{ℕ}
 use Rattle.std.proofs.Common.{arith, subst, sym}
-use Rattle.paraid_mount.specs.Order.{IsNotRefused}
+use Rattle.paraid_recover.specs.Order.{IsNotRefused}
 use Rattle.paraid_txn.specs.Resume.{log_state}
 use Rattle.paraid_txn.specs.Stores.{store_rack}
 use Rattle.paraid_dirty.specs.Table.{is_dirty}

@@ -1,5 +1,5 @@
 use Rattle.std.proofs.Common.{refl}
-use Rattle.paraid_mount.specs.declared.fault.MountFault.TheVariants.{NoMemory}
+use Rattle.paraid_recover.specs.declared.fault.MountFault.TheVariants.{NoMemory}
 use Rattle.paraid_recover.specs.Mount.IsCauseOfRefusal.{no_memory}
 use Rattle.paraid_txn.specs.Stores.{named_of, store_rack}
 use Rattle.paraid_startup.proofs.MountedLemmas.{mounted_extends, mounted_from_each, no_calls, ran_extends, refused_extends, refused_from_each}

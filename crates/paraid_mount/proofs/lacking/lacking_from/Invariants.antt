@@ -1,6 +1,0 @@
-use Rattle.std.proofs.Common.{◌≡◌, ℕ, ◌<◌, ◌≤◌, false}
-use Rattle.paraid_mount.specs.Refusals.{is_lacking}
-use Rattle.paraid_mount.proofs.lacking.lacking_from.Given as goal
-
-abbrev pub invariant-loop-disk : goal.invariant-loop-disk
-invariant-loop-disk g l = (e : ℕ) → l.fn.from ≤ e → e < l.disk → is_lacking (g.R.Rack.slot l.fn.rack) l.fn.meta e ≡ false

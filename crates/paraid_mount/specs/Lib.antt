@@ -1,6 +1,0 @@
-pub mod HeardSides
-pub mod Faults
-pub mod Refusals
-pub mod Order
-pub mod Said
-pub mod Examined

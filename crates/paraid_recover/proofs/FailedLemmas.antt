@@ -1,0 +1,175 @@
+-- What reads of log disks leave of the slots, and which calls they are.
+use Rattle.std.specs.Prelude.{◌≡◌, ◌≢◌, ◌⊎◌, ℕ, ◌≤◌, ◌<◌, Bool, true, List, [], ◌∷◌, ◌++◌, ◌+◌, Option, Some, None, Result, Ok, Err, OnOk, IfErr, is_ok}
+use Rattle.std.proofs.Common.{refl, sym, ◌∙◌, ap, subst, arith, inl, inr}
+use Rattle.std.proofs.lemmas.Bool.{cases_eq, true≢false}
+use Rattle.std.proofs.lemmas.List.{length-append}
+use Rattle.paraid_base.specs.declared.fault.Failed.{Failed}
+use Rattle.paraid_base.specs.declared.fault.Two.{Two}
+use Rattle.paraid_base.specs.Told.{HasRisen}
+use Rattle.paraid_base.proofs.ToldLemmas.{HasRisen-later, HasRisen-sooner}
+use Rattle.paraid_rack.specs.declared.call.Call.{Call}
+use Rattle.paraid_rack.specs.declared.call.Call.TheVariants.{Read, Write, Sync, Park, SpinUp, Attach}
+use Rattle.paraid_rack.specs.declared.call.Power.TheVariants.{Absent, Spinning}
+use Rattle.paraid_rack.specs.Disks.{Disks, is_present, step}
+use Rattle.paraid_rack.specs.Slots.{Slot, ChangesOneSlot, AreSameSlots}
+use Rattle.paraid_rack.specs.Told.{GrowsByCall, Ran}
+use Rattle.paraid_rack.specs.Trail.{Trail, extend, now, run}
+use Rattle.paraid_rack.proofs.TrailsLemmas.{Ran-call, Ran-none, Ran-then, extend-extend}
+use Rattle.paraid_txn.specs.Losses.{AreFailedOrWell, OnlyLosesSlots, AreTwoDownBeside, IsWell}
+use Rattle.paraid_txn.specs.Uses.{EachCall, IsThisCall, UsesLog}
+use Rattle.paraid_txn.proofs.CommitPartLemmas.{EachCall-milder, ran_milder}
+use Rattle.paraid_recover.specs.HeardSides.{AtMost, IsFailed, ReadsLog, ReadsLogs, gone_pair}
+
+-- a failure after reads that were done
+pub failed_after : {s t u : ℕ → Slot} {d : ℕ} → AreSameSlots s t → IsFailed t u d → IsFailed s u d
+failed_after {s} {t} {u} {d} same f = record {
+  risen = subst (λ (x : Slot). HasRisen x.faults (u d).faults) (same d) f.risen;
+  later = subst (λ (x : Slot). x.faults ≤ (u d).faults) (same d) f.later;
+  gone = f.gone;
+}
+
+-- and before reads of other disks
+pub failed_before : {s t u : ℕ → Slot} {d : ℕ} → u d ≡ t d → IsFailed s t d → IsFailed s u d
+failed_before {s} {t} {u} {d} same f = record {
+  risen = subst (λ (x : Slot). HasRisen (s d).faults x.faults) (sym same) f.risen;
+  later = subst (λ (x : Slot). (s d).faults ≤ x.faults) (sym same) f.later;
+  gone = ap (λ (x : Slot). x.power) same ∙ f.gone;
+}
+
+pub read_failed : {old new : ℕ → Slot} {disk : ℕ} {leaves : Slot} {dirt : Bool} (result : Result (Unit {0}) Failed) → ChangesOneSlot old new disk leaves dirt (is_ok result)
+    → IfErr result (λ failed. IsFailed old new disk)
+read_failed (Ok it) touched = tt
+read_failed (Err e) touched = record { risen = touched.risen refl; later = touched.later refl; gone = touched.absent refl }
+
+-- Calls
+
+calls_append : (u : Call → Type 0) (s : Disks) (cs ds : List Call) → EachCall u s cs → EachCall u (run s cs) ds → EachCall u s (cs ++ ds)
+calls_append u s [] ds first second = second
+calls_append u s (c ∷ cs) ds first second = (first.0, first.1, calls_append u (step c s) cs ds first.2 second)
+
+pub calls_then : (u : Call → Type 0) {old mid new : Option Trail} → Ran old mid (EachCall u) → Ran mid new (EachCall u) → Ran old new (EachCall u)
+calls_then u {old} {mid} {new} first second = Ran-then (EachCall u) (calls_append u) old mid new first second
+
+pub read_calls : {old new : Option Trail} {d p : ℕ} {done : Bool} → ((s : Trail) → old ≡ Some s → (now s).power d ≡ Spinning) → GrowsByCall old new (Read d p done)
+    → Ran old new (EachCall (IsThisCall None d (λ done. Read d p done)))
+read_calls {old} {new} {d} {p} {done} spins grows =
+    Ran-call (EachCall (IsThisCall None d (λ done. Read d p done))) old new (Read d p done) grows (λ s is. (spins s is, (none_is_not d, done, refl), tt))
+  where
+    none_is_not : (e : ℕ) → None ≢ Some e
+    none_is_not e = λ is. cc
+
+pub log_calls : {old new : Option Trail} {x p : ℕ} → p < 100 → Ran old new (EachCall (IsThisCall None x (λ done. Read x p done))) → Ran old new (EachCall (ReadsLog x))
+log_calls {old} {new} {x} {p} low ran =
+    ran_milder (EachCall (IsThisCall None x (λ done. Read x p done))) (EachCall (ReadsLog x))
+    (EachCall-milder (IsThisCall None x (λ done. Read x p done)) (ReadsLog x) (λ c is. subst (ReadsLog x) (sym is.2) (refl, low))) ran
+
+pub uses_calls : {old new : Option Trail} {x : ℕ} → x < 2 → Ran old new (EachCall (ReadsLog x)) → Ran old new (EachCall (UsesLog None))
+uses_calls {old} {new} {x} low ran = ran_milder (EachCall (ReadsLog x)) (EachCall (UsesLog None)) (EachCall-milder (ReadsLog x) (UsesLog None) uses) ran
+  where
+    uses : (c : Call) → ReadsLog x c → UsesLog None c
+    uses (Read d p done) is = ((subst (λ (k : ℕ). k < 2) (sym is.0) low, λ e. cc), is.1)
+    uses (Write d p b done) is = absurd is
+    uses (Sync d done) is = absurd is
+    uses (Park d done) is = absurd is
+    uses (SpinUp d done) is = absurd is
+    uses (Attach d size done) is = absurd is
+
+pub logs_calls : {old new : Option Trail} {x : ℕ} → x < 2 → Ran old new (EachCall (ReadsLog x)) → Ran old new (EachCall ReadsLogs)
+logs_calls {old} {new} {x} low ran = ran_milder (EachCall (ReadsLog x)) (EachCall ReadsLogs) (EachCall-milder (ReadsLog x) ReadsLogs are) ran
+  where
+    are : (c : Call) → ReadsLog x c → ReadsLogs c
+    are (Read d p done) is = (subst (λ (k : ℕ). k < 2) (sym is.0) low, is.1)
+    are (Write d p b done) is = absurd is
+    are (Sync d done) is = absurd is
+    are (Park d done) is = absurd is
+    are (SpinUp d done) is = absurd is
+    are (Attach d size done) is = absurd is
+
+-- How many
+
+pub most_none : (n : ℕ) (told : Option Trail) → Ran told told (AtMost n)
+most_none n told = Ran-none (AtMost n) (λ s. omega arith) told
+
+pub most_read : {old new : Option Trail} {c : Call} → GrowsByCall old new c → Ran old new (AtMost 1)
+most_read {old} {new} {c} grows = Ran-call (AtMost 1) old new c grows (λ s is. omega arith)
+
+pub most_then : {old mid new : Option Trail} (n m k : ℕ) → n + m ≤ k → Ran old mid (AtMost n) → Ran mid new (AtMost m) → Ran old new (AtMost k)
+most_then n m k fits first second t tells =
+    let later = second t tells in
+    let before = first later.from later.was in
+    record {
+      from = before.from;
+      was = before.was;
+      calls = before.calls ++ later.calls;
+      is = later.is ∙ ap (λ (r : Trail). extend r later.calls) before.is ∙ extend-extend before.from before.calls later.calls;
+      holds = (let size = length-append before.calls later.calls in let a = before.holds in let b = later.holds in omega arith);
+    }
+
+pub most_fits : {old new : Option Trail} (n k : ℕ) → n ≤ k → Ran old new (AtMost n) → Ran old new (AtMost k)
+most_fits n k fits = ran_milder (AtMost n) (AtMost k) (λ s cs few. omega arith)
+
+-- Slots
+
+well : (old new : ℕ → Slot) (d : ℕ) → new d ≡ old d → IsWell (old d) (new d)
+well old new d same = subst (λ (s : Slot). IsWell (old d) s) (sym same) (record { faults = refl; power = refl; size = refl })
+
+module _ {A : Type 0} (old new : ℕ → Slot) (disk : ℕ) where
+  pub heard_each : (result : Result A Failed) → OnOk result (AreSameSlots old new) → ((d : ℕ) → d ≢ disk → new d ≡ old d) → IfErr result (λ failed. IsFailed old new disk)
+      → AreFailedOrWell old new
+  heard_each (Ok it) same others failed d = inr (well old new d (same d))
+  heard_each (Err e) same others failed d = elim (cases_eq d disk) [
+    | inl is ↦ inl (subst (λ (k : ℕ). HasRisen (old k).faults (new k).faults) (sym is) failed.risen)
+    | inr not ↦ inr (well old new d (others d not))
+  ]
+
+  pub heard_spared : (result : Result A Failed) → OnOk result (AreSameSlots old new) → ((d : ℕ) → d ≢ disk → new d ≡ old d) → IfErr result (λ failed. IsFailed old new disk)
+      → OnlyLosesSlots old new
+  heard_spared (Ok it) same others failed = record {
+    power = λ d there. (well old new d (same d)).power;
+    size = λ d there. (well old new d (same d)).size;
+    no_fall = λ d. (let kept = (well old new d (same d)).faults in omega arith);
+  }
+  heard_spared (Err e) same others failed =
+      let gone : (d : ℕ) → is_present (new d).power ≡ true → d ≢ disk = λ d there is.
+      true≢false (sym there ∙ ap is_present (ap (λ (k : ℕ). (new k).power) is ∙ failed.gone)) in
+      record {
+        power = λ d there. (well old new d (others d (gone d there))).power;
+        size = λ d there. (well old new d (others d (gone d there))).size;
+        no_fall = λ d. elim (cases_eq d disk) [
+          | inl is ↦ subst (λ (k : ℕ). (old k).faults ≤ (new k).faults) (sym is) failed.later
+          | inr not ↦ let kept = (well old new d (others d not)).faults in omega arith
+        ];
+      }
+
+pub spared_then : {s t u : ℕ → Slot} → OnlyLosesSlots s t → OnlyLosesSlots t u → OnlyLosesSlots s u
+spared_then {s} {t} {u} first second = record {
+  power = λ d there. second.power d there ∙ first.power d (ap is_present (sym (second.power d there)) ∙ there);
+  size = λ d there. second.size d there ∙ first.size d (ap is_present (sym (second.power d there)) ∙ there);
+  no_fall = λ d. (let before = first.no_fall d in let after = second.no_fall d in omega arith);
+}
+
+pub each_then : {s t u : ℕ → Slot} → OnlyLosesSlots s t → OnlyLosesSlots t u → AreFailedOrWell s t → AreFailedOrWell t u → AreFailedOrWell s u
+each_then {s} {t} {u} before after first second d = elim (second d) [
+  | inl risen ↦ inl (HasRisen-sooner (s d).faults (t d).faults (u d).faults (before.no_fall d) risen)
+  | inr well ↦ elim (first d) [
+    | inl risen ↦ inl (HasRisen-later (s d).faults (t d).faults (u d).faults risen (after.no_fall d))
+    | inr was ↦ inr (record { faults = well.faults ∙ was.faults; power = well.power ∙ was.power; size = well.size ∙ was.size })
+  ]
+]
+
+-- Why both are gone
+
+-- log disk 1 was absent, and log disk 0 has failed
+pub first_gone : (old new : ℕ → Slot) (two : Two) → two ≡ gone_pair (old 1).power → (old 1).power ≡ Absent → HasRisen (old 0).faults (new 0).faults
+    → AreTwoDownBeside (λ e. (old e).power ≡ Absent) old new two
+first_gone old new two is gone risen =
+    subst (λ (t : Two). AreTwoDownBeside (λ e. (old e).power ≡ Absent) old new t) (sym (is ∙ ap gone_pair gone))
+    (record { first = inl gone; apart = λ e. omega arith; second = risen })
+
+-- log disk 1 has failed, and log disk 0 was absent or has failed
+pub second_gone : (old new : ℕ → Slot) (two : Two) → two ≡ gone_pair (old 1).power → (old 1).power ≡ Spinning
+    → ((old 0).power ≡ Absent) ⊎ HasRisen (old 0).faults (new 0).faults → HasRisen (old 1).faults (new 1).faults
+    → AreTwoDownBeside (λ e. (old e).power ≡ Absent) old new two
+second_gone old new two is spins first risen =
+    subst (λ (t : Two). AreTwoDownBeside (λ e. (old e).power ≡ Absent) old new t) (sym (is ∙ ap gone_pair spins))
+    (record { first = first; apart = λ e. omega arith; second = risen })

@@ -1,0 +1,89 @@
+-- The disks of a new array.
+use Rattle.paraid_rack.specs.Calls.{AreReads}
+use Rattle.std.specs.Prelude.{◌≡◌, ◌≢◌, ℕ, ◌≤◌, ◌<◌, true, false, Bool, [], Option}
+use Rattle.std.proofs.Common.{zero, suc, refl, sym, ◌∙◌, ap, arith, inl, inr}
+use Rattle.std.proofs.lemmas.Bool.{cases_eq, cases_lt}
+use Rattle.paraid_base.specs.declared.block.Block.{Block}
+use Rattle.paraid_base.specs.Regions.{disk_size}
+use Rattle.paraid_base.specs.Xor.{zero_block}
+use Rattle.paraid_rack.specs.Disks.{Disks}
+use Rattle.paraid_record.specs.declared.meta.Setup.{Setup}
+use Rattle.paraid_record.specs.Meta.{meta_bytes}
+use Rattle.paraid_record.specs.Range.{IsInRange}
+use Rattle.paraid_image.specs.Sides.{is_open}
+use Rattle.paraid_recover.specs.Attached.{AreFreshDisks, BecomesFormatted, IsMetaWritten}
+use Rattle.paraid_recover.specs.Calls.{AreAttaches, AreFormatCalls, AreMetaCalls, AreMakingCalls}
+use Rattle.paraid_recover.specs.First.{first_meta}
+use Rattle.paraid_rack.specs.Told.{Ran}
+use Rattle.paraid_rack.specs.Trail.{Trail}
+use Rattle.std.proofs.lemmas.List.{append-nil}
+use Rattle.paraid_recover.proofs.AttachLemmas.{ran_then, ran_weaker}
+
+closed_zeros : is_open zero_block ≡ false
+unfolding is_open zero_block
+closed_zeros = refl
+
+module _ (slots : ℕ) (setup : Setup) (b : Block) (is : b.bytes ≡ meta_bytes (first_meta setup)) (range : IsInRange (first_meta setup)) (enough : setup.geometry.disks ≤ slots)
+    (start first second end : Disks) (attached : AreFreshDisks setup.geometry.disks (disk_size setup.geometry) start first) (one : IsMetaWritten 0 b first second) (two : IsMetaWritten 1 b second end) where
+  abbrev n : ℕ
+  n = setup.geometry.disks
+
+  block_at : (d p : ℕ) → p ≢ 1 → end.block d p ≡ first.block d p
+  block_at d p apart = two.block d p (λ at. apart) ∙ one.block d p (λ at. apart)
+
+  meta_at : (x : ℕ) → x < 2 → end.block x 1 ≡ b
+  meta_at zero low = two.block 0 1 (λ at. absurd (omega arith)) ∙ one.here
+  meta_at (suc zero) low = two.here
+  meta_at (suc (suc x)) low = absurd (omega arith)
+
+  loose_at : ((d p : ℕ) → n ≤ d → start.loose d p ≡ false) → (d p : ℕ) → end.loose d p ≡ false
+  loose_at synced d p = elim (cases_eq d 1) [
+    | inl at ↦ ap (λ (x : ℕ). end.loose x p) at ∙ two.synced p
+    | inr apart ↦ two.loose d p apart ∙ elim (cases_eq d 0) [
+      | inl at ↦ ap (λ (x : ℕ). second.loose x p) at ∙ one.synced p
+      | inr far ↦ one.loose d p far ∙ elim (cases_lt d n) [
+        | inl low ↦ attached.synced d p low
+        | inr high ↦ attached.others d p high ∙ synced d p high
+      ]
+    ]
+  ]
+
+  pub formatted : BecomesFormatted slots (first_meta setup) start end
+  formatted synced = record {
+    in_range = range;
+    writes = refl;
+    gear = refl;
+    phase = refl;
+    out = refl;
+    enough = enough;
+    spinning = λ d low. two.power d ∙ one.power d ∙ attached.power d low;
+    large = λ d low. (let s = two.size d ∙ one.size d ∙ attached.size_is d low in omega (arith, s));
+    closed = λ x low. ap is_open (block_at x 0 (λ at. absurd (omega arith)) ∙ attached.zeros x 0 (let few = setup.geometry.disks_low in omega arith)) ∙ closed_zeros;
+    meta = λ x low. ap (λ (c : Block). c.bytes) (meta_at x low) ∙ is;
+    zeros = λ d p low high far. block_at d p (λ at. absurd (omega arith)) ∙ attached.zeros d p low;
+    synced = loose_at synced;
+  }
+
+-- the calls of the parts
+module _ (count size : ℕ) {old new : Option Trail} where
+  pub only_attaches : Ran old new (λ start calls. AreAttaches size 0 count calls) → Ran old new (λ start calls. AreMakingCalls count size calls)
+  only_attaches = ran_weaker (λ start calls. AreAttaches size 0 count calls) (λ start calls. AreMakingCalls count size calls)
+      (λ s cs are. record { attaches = cs; writes = []; is = sym (append-nil cs); first = are; second = tt }) old new
+
+pub attaches_and_logs : (count size : ℕ) {old mid new : Option Trail} → Ran old mid (λ start calls. AreAttaches size 0 count calls)
+    → Ran mid new (λ start calls. AreMetaCalls calls) → Ran old new (λ start calls. AreMakingCalls count size calls)
+attaches_and_logs count size {old} {mid} {new} =
+    ran_then (λ start calls. AreAttaches size 0 count calls) (λ start calls. AreMetaCalls calls) (λ start calls. AreMakingCalls count size calls)
+    (λ s cs ds are logs. record { attaches = cs; writes = ds; is = refl; first = are; second = logs }) old mid new
+
+pub only_reads : (force : Bool) (count size : ℕ) {old new : Option Trail} → Ran old new (λ start calls. AreReads calls × (force ≡ true → calls ≡ []))
+    → Ran old new (λ start calls. AreFormatCalls force count size calls)
+only_reads force count size {old} {new} =
+    ran_weaker (λ start calls. AreReads calls × (force ≡ true → calls ≡ [])) (λ start calls. AreFormatCalls force count size calls)
+    (λ s cs are. record { reads = cs; rest = []; is = sym (append-nil cs); are_reads = are.0; forced = are.1; makes = inl refl }) old new
+
+pub reads_and_rest : (force : Bool) (count size : ℕ) {old mid new : Option Trail} → Ran old mid (λ start calls. AreReads calls × (force ≡ true → calls ≡ []))
+    → Ran mid new (λ start calls. AreMakingCalls count size calls) → Ran old new (λ start calls. AreFormatCalls force count size calls)
+reads_and_rest force count size {old} {mid} {new} =
+    ran_then (λ start calls. AreReads calls × (force ≡ true → calls ≡ [])) (λ start calls. AreMakingCalls count size calls) (λ start calls. AreFormatCalls force count size calls)
+    (λ s cs ds are makes. record { reads = cs; rest = ds; is = refl; are_reads = are.0; forced = are.1; makes = inr makes }) old mid new

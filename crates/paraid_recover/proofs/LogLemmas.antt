@@ -1,0 +1,54 @@
+-- A meta on a log disk.
+use Rattle.std.specs.Prelude.{◌≡◌, ℕ, ◌<◌, true, Bool, List, [], ◌∷◌, ◌++◌, Option}
+use Rattle.std.proofs.Common.{refl, sym, ◌∙◌, ap, subst, inl, inr}
+use Rattle.std.proofs.lemmas.Bool.{cases_eq}
+use Rattle.paraid_base.specs.declared.block.Block.{Block}
+use Rattle.paraid_rack.specs.declared.call.Call.{Call}
+use Rattle.paraid_rack.specs.declared.call.Call.TheVariants.{Sync, Write}
+use Rattle.paraid_rack.specs.Disks.{Disks, step, with_at}
+use Rattle.paraid_rack.specs.Told.{GrowsByCall, Ran}
+use Rattle.paraid_rack.specs.Trail.{Trail}
+use Rattle.paraid_rack.proofs.AtomsLemmas.{with_at_other, with_at_same, write_block_other, write_block_same}
+use Rattle.paraid_rack.proofs.TrailsLemmas.{Ran-call, Ran-then}
+use Rattle.paraid_recover.specs.Attached.{IsMetaWritten}
+use Rattle.paraid_recover.specs.Calls.{AreMetaCalls}
+use Rattle.paraid_recover.specs.Between.{RanBetween}
+use Rattle.paraid_recover.proofs.AttachLemmas.{led_call, led_none}
+
+with_same : {A : Type 0} (f : ℕ → A) (d x : ℕ) → with_at f d (f d) x ≡ f x
+with_same f d x = elim (cases_eq x d) [
+  | inl is ↦ with_at_same f d (f d) x is ∙ ap f (sym is)
+  | inr apart ↦ with_at_other f d (f d) x apart
+]
+
+-- a write of place 1, and a sync
+written : (x : ℕ) (b : Block) (s : Disks) → IsMetaWritten x b s (step (Sync x true) (step (Write x 1 b true) s))
+unfolding step
+written x b s = record {
+  power = λ d. with_same (with_at s.power x (s.power x)) x d ∙ with_same s.power x d;
+  size = λ d. with_same (with_at s.size x (s.size x)) x d ∙ with_same s.size x d;
+  here = write_block_same s x 1 b true;
+  block = λ d p apart. write_block_other s x 1 b true d p apart;
+  synced = λ p. ap (λ (f : ℕ → Bool). f p) (with_at_same _ x _ x refl);
+  loose = λ d p apart. ap (λ (f : ℕ → Bool). f p) (with_at_other _ x _ d apart) ∙ ap (λ (f : ℕ → Bool). f p) (with_at_other _ x _ d apart);
+}
+
+pub logged : (x : ℕ) (b : Block) (old mid new : Option Trail) → GrowsByCall old mid (Write x 1 b true) → GrowsByCall mid new (Sync x true) → RanBetween old new (IsMetaWritten x b)
+logged x b old mid new first second =
+    led_call (λ start s. s ≡ step (Write x 1 b true) start) (IsMetaWritten x b) (Sync x true)
+    (λ start s is. subst (λ (u : Disks). IsMetaWritten x b start (step (Sync x true) u)) (sym is) (written x b start)) old mid new
+    (led_call (λ start s. s ≡ start) (λ start s. s ≡ step (Write x 1 b true) start) (Write x 1 b true) (λ start s is. ap (step (Write x 1 b true)) is) old old mid
+    (led_none (λ start s. s ≡ start) (λ s. refl) old) first) second
+
+AreMetaCalls-append : (cs ds : List Call) → AreMetaCalls cs → AreMetaCalls ds → AreMetaCalls (cs ++ ds)
+AreMetaCalls-append [] ds first second = second
+AreMetaCalls-append (c ∷ cs) ds first second = (first.0, AreMetaCalls-append cs ds first.1 second)
+
+pub logging_then : {old mid new : Option Trail} → Ran old mid (λ start calls. AreMetaCalls calls) → Ran mid new (λ start calls. AreMetaCalls calls) → Ran old new (λ start calls. AreMetaCalls calls)
+logging_then {old} {mid} {new} first second = Ran-then (λ s cs. AreMetaCalls cs) (λ s cs ds a b. AreMetaCalls-append cs ds a b) old mid new first second
+
+pub logging_write : {old new : Option Trail} {x : ℕ} {b : Block} {done : Bool} → x < 2 → GrowsByCall old new (Write x 1 b done) → Ran old new (λ start calls. AreMetaCalls calls)
+logging_write {old} {new} {x} {b} {done} low grows = Ran-call (λ s cs. AreMetaCalls cs) old new (Write x 1 b done) grows (λ s is. ((low, refl), tt))
+
+pub logging_sync : {old new : Option Trail} {x : ℕ} {done : Bool} → x < 2 → GrowsByCall old new (Sync x done) → Ran old new (λ start calls. AreMetaCalls calls)
+logging_sync {old} {new} {x} {done} low grows = Ran-call (λ s cs. AreMetaCalls cs) old new (Sync x done) grows (λ s is. (low, tt))

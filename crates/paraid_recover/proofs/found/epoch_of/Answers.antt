@@ -1,0 +1,33 @@
+use Rattle.std.proofs.Common.{refl, sym, ◌∙◌, ap, subst, ◌≡◌, arith, Option}
+use Rattle.paraid_rack.specs.declared.call.Power.TheVariants.{Spinning}
+use Rattle.paraid_rack.specs.Slots.{Slot}
+use Rattle.paraid_rack.specs.Trail.{now}
+use Rattle.paraid_record.specs.declared.meta.Meta.{Meta}
+use Rattle.paraid_recover.specs.Found.{IsMetaOf}
+use Rattle.paraid_recover.proofs.FoundLemmas.{there_below}
+use Rattle.paraid_recover.proofs.found.epoch_of.Goals as goal
+
+pub returns-then-lacks_log-clause-heard : goal.returns-then-lacks_log-clause-heard
+returns-then-lacks_log-clause-heard g c t tells = λ m f.
+    let a = g.met.R.Rack.agrees _ t tells in
+    let spins : (g.R.Rack.slot c.args.rack.now c.args.disk).power ≡ Spinning = sym (a.power c.args.disk) ∙ f.spinning in
+    c.lacks_log.ensures.yes c.if-lacks_log.true spins (let s = a.size c.args.disk in let l = f.large in omega arith)
+    (there_below (g.R.Rack.slot_count c.args.rack.now) (g.R.Rack.slot c.args.rack.now) (g.met.R.Rack.slots_hold c.args.rack.now) c.args.disk spins)
+
+pub returns-in_default-clause-heard : goal.returns-in_default-clause-heard
+returns-in_default-clause-heard g c t tells = λ m f. subst (λ (o : Option Meta). IsMetaOf (now t) c.args.disk o) c.in_default.is (c.in_ok-meta.ensures.heard t tells) m f.formed
+
+pub returns-clause-heard : goal.returns-clause-heard
+returns-clause-heard g c t tells =
+    let a = g.met.R.Rack.agrees _ t tells in
+    let no = c.lacks_log.ensures.no c.if-lacks_log.false in
+    let same = c.in_ok-meta.ensures.same c.args.disk in (
+      c.in-Some.meta,
+      record {
+        log_disk = c.requires.log_disk;
+        spinning = a.power c.args.disk ∙ ap (λ (s : Slot). s.power) same ∙ no.1;
+        large = (let s = a.size c.args.disk ∙ ap (λ (s : Slot). s.size) same in let l = no.2 in omega arith);
+        formed = subst (λ (o : Option Meta). IsMetaOf (now t) c.args.disk o) c.in-Some.is (c.in_ok-meta.ensures.heard t tells);
+      },
+      refl,
+    )

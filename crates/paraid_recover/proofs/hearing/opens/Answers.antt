@@ -1,0 +1,7 @@
+use Rattle.std.proofs.Common.{refl}
+use Rattle.paraid_image.specs.Sides.{is_open}
+use Rattle.paraid_recover.proofs.hearing.opens.Goals as goal
+
+pub returns : goal.returns
+unfolding is_open
+returns c = rw c.as_slice.ensures.value refl

@@ -1,0 +1,54 @@
+use Rattle.std.proofs.Common.{◌∙◌, ap, subst, ◌≡◌, ℕ}
+use Rattle.paraid_base.specs.Regions.{disk_size}
+use Rattle.paraid_rack.specs.Disks.{Disks}
+use Rattle.paraid_rack.specs.Told.{Ran}
+use Rattle.paraid_record.specs.Meta.{meta_bytes}
+use Rattle.paraid_record.specs.Range.{IsInRange}
+use Rattle.paraid_recover.specs.Attached.{AreFreshDisks, BecomesFormatted, IsMetaWritten}
+use Rattle.paraid_recover.specs.Calls.{AreAttaches}
+use Rattle.paraid_recover.specs.First.{first_meta}
+use Rattle.paraid_recover.specs.Between.{RanBetween}
+use Rattle.paraid_recover.proofs.AttachLemmas.{led_then}
+use Rattle.paraid_recover.proofs.FormatLemmas.{attaches_and_logs, formatted, only_attaches}
+use Rattle.paraid_recover.proofs.LogLemmas.{logging_then}
+use Rattle.paraid_recover.proofs.making.make.Given.{Over}
+use Rattle.paraid_recover.proofs.making.make.Goals as goal
+use Rattle.paraid_recover.proofs.making.make.Goals.{After-attach_all, In_ok-attach_all}
+
+-- what was attached, by the numbers of the setup
+attaches : (g : Over) (c : After-attach_all g)
+    → Ran (g.R.Rack.told c.args.rack.now) (g.R.Rack.told c.attach_all.new.rack) (λ start calls. AreAttaches (disk_size c.args.setup.now.geometry) 0 c.args.setup.now.geometry.disks calls)
+attaches g c =
+    subst (λ (n : ℕ). Ran (g.R.Rack.told c.args.rack.now) (g.R.Rack.told c.attach_all.new.rack) (λ start calls. AreAttaches (disk_size c.args.setup.now.geometry) 0 n calls)) c.disks.ensures
+    (subst (λ (z : ℕ). Ran (g.R.Rack.told c.args.rack.now) (g.R.Rack.told c.attach_all.new.rack) (λ start calls. AreAttaches z 0 c.disks.result calls)) c.size.ensures c.attach_all.ensures.calls)
+
+attached : (g : Over) (c : In_ok-attach_all g)
+    → RanBetween (g.R.Rack.told c.args.rack.now) (g.R.Rack.told c.attach_all.new.rack) (AreFreshDisks c.args.setup.now.geometry.disks (disk_size c.args.setup.now.geometry))
+attached g c =
+    subst (λ (n : ℕ). RanBetween (g.R.Rack.told c.args.rack.now) (g.R.Rack.told c.attach_all.new.rack) (AreFreshDisks n (disk_size c.args.setup.now.geometry))) c.disks.ensures
+    (subst (λ (z : ℕ). RanBetween (g.R.Rack.told c.args.rack.now) (g.R.Rack.told c.attach_all.new.rack) (AreFreshDisks c.disks.result z)) c.size.ensures c.in_ok-attach_all.ensures.attached)
+
+pub returns-in_err-attach_all-clause-calls : goal.returns-in_err-attach_all-clause-calls
+returns-in_err-attach_all-clause-calls g c = only_attaches _ _ (attaches g (goal.at.returns-in_err-attach_all-clause-calls g c).After-attach_all)
+
+pub returns-in_default-clause-calls : goal.returns-in_default-clause-calls
+returns-in_default-clause-calls g c = attaches_and_logs _ _ (attaches g (goal.at.returns-in_default-clause-calls g c).After-attach_all) c.write_log.ensures.calls
+
+pub returns-in_default-write_log-clause-calls : goal.returns-in_default-write_log-clause-calls
+returns-in_default-write_log-clause-calls g c =
+    attaches_and_logs _ _ (attaches g (goal.at.returns-in_default-write_log-clause-calls g c).After-attach_all) (logging_then c.write_log.ensures.calls c.write_log-2.ensures.calls)
+
+pub returns-clause-calls : goal.returns-clause-calls
+returns-clause-calls g c = attaches_and_logs _ _ (attaches g (goal.at.returns-clause-calls g c).After-attach_all) (logging_then c.write_log.ensures.calls c.write_log-2.ensures.calls)
+
+pub returns-clause-formatted : goal.returns-clause-formatted
+returns-clause-formatted g c =
+    let setup = c.args.setup.now in
+    let b = c.write_meta.new.into in
+    let is : b.bytes ≡ meta_bytes (first_meta setup) = c.write_meta.ensures ∙ ap meta_bytes c.first_meta.ensures.value in
+    let range : IsInRange (first_meta setup) = subst IsInRange c.first_meta.ensures.value c.first_meta.ensures.range in
+    led_then (AreFreshDisks setup.geometry.disks (disk_size setup.geometry)) (λ (a e : Disks). (m : Disks) × IsMetaWritten 0 b a m × IsMetaWritten 1 b m e)
+    (BecomesFormatted (g.R.Rack.slot_count c.args.rack.now) (first_meta setup))
+    (λ start first end a logs. formatted (g.R.Rack.slot_count c.args.rack.now) setup b is range c.requires.room start first logs.0 end a logs.1 logs.2)
+    _ _ _ (attached g (goal.at.returns-clause-formatted g c).In_ok-attach_all)
+    (led_then (IsMetaWritten 0 b) (IsMetaWritten 1 b) (λ (a e : Disks). (m : Disks) × IsMetaWritten 0 b a m × IsMetaWritten 1 b m e) (λ a m e one two. (m, one, two)) _ _ _ c.in-Ok.ensures.logged c.in-Ok-write_log.ensures.logged)

@@ -1,0 +1,183 @@
+//! What the log disks say of an array that is there already.
+ghost use Rattle.paraid_rack.specs.Slots.{AreSameSlots};
+ghost use Rattle.std.specs.Prelude.{◌≡◌, ◌≢◌, ◌<◌, ◌≤◌, ℕ, true, false, Some, OnOk, IfErr, IfOk};
+ghost use Rattle.paraid_rack.specs.declared.call.Power.TheVariants.{Spinning};
+ghost use Rattle.paraid_rack.specs.Trail.{Trail, now};
+ghost use Rattle.paraid_base.specs.Told.{HasRisen};
+ghost use Rattle.paraid_image.specs.Sides.{is_open, stored_block};
+ghost use Rattle.paraid_recover.specs.Calls.{OnlyReadsAndKeeps, OnlyReads};
+ghost use Rattle.paraid_recover.specs.Found.{IsEpochOf, IsGreatestOf, IsMetaOf, greater_of};
+
+use paraid_base::{Block, DiskNo, Failed, Place};
+use paraid_rack::{Power, Rack};
+use paraid_record::{Meta, read_meta, read_targets};
+
+// Whether a gate is open.
+fn opens(gate: &Block) -> bool
+    ensures { result ≡ is_open gate.now }
+{
+    gate.as_slice()[0] != 0
+}
+
+// Reads a block; a place past the size of the disk counts as zeros.
+fn read_place<R: Rack>(
+    rack: &mut R,
+    disk: DiskNo,
+    place: Place,
+    into: &mut Block,
+) -> Result<(), Failed>
+    requires exists { disk < R.slot_count rack.old }
+    requires spinning { (R.slot rack.old disk).power ≡ Spinning }
+    ensures slots { R.slot_count rack.new ≡ R.slot_count rack.old }
+    ensures same { OnOk result (AreSameSlots (R.slot rack.old) (R.slot rack.new)) }
+    ensures others { (d : ℕ) → d ≢ disk → R.slot rack.new d ≡ R.slot rack.old d }
+    ensures reads { OnlyReads (R.told rack.old) (R.told rack.new) }
+    ensures quiet { OnOk result (OnlyReadsAndKeeps (R.told rack.old) (R.told rack.new)) }
+    ensures risen { IfErr result (λ failed. HasRisen (R.slot rack.old disk).faults
+        (R.slot rack.new disk).faults) }
+    ensures block { OnOk result ((t : Trail) → R.told rack.new ≡ Some t
+        → into.new ≡ stored_block (now t) disk place) }
+{
+    if place >= rack.size(disk) {
+        *into = Block::zero();
+        return Ok(());
+    }
+    rack.read(disk, place, into)
+}
+
+// The meta that a log disk says by a closed gate.
+fn hear_closed<R: Rack>(rack: &mut R, disk: DiskNo) -> Result<Option<Meta>, Failed>
+    requires exists { disk < R.slot_count rack.old }
+    requires spinning { (R.slot rack.old disk).power ≡ Spinning }
+    requires shut { (t : Trail) → R.told rack.old ≡ Some t → is_open (stored_block (now t) disk 0) ≡ false }
+    ensures slots { R.slot_count rack.new ≡ R.slot_count rack.old }
+    ensures same { OnOk result (AreSameSlots (R.slot rack.old) (R.slot rack.new)) }
+    ensures others { (d : ℕ) → d ≢ disk → R.slot rack.new d ≡ R.slot rack.old d }
+    ensures reads { OnlyReads (R.told rack.old) (R.told rack.new) }
+    ensures quiet { OnOk result (OnlyReadsAndKeeps (R.told rack.old) (R.told rack.new)) }
+    ensures risen { IfErr result (λ failed. HasRisen (R.slot rack.old disk).faults
+        (R.slot rack.new disk).faults) }
+    ensures heard { IfOk result (λ meta. (t : Trail) → R.told rack.new ≡ Some t
+        → IsMetaOf (now t) disk meta) }
+{
+    let mut block = Block::zero();
+    read_place(rack, disk, 1, &mut block)?;
+    Ok(read_meta(&block))
+}
+
+// The meta that a log disk says by an open gate.
+fn hear_open<R: Rack>(rack: &mut R, disk: DiskNo) -> Result<Option<Meta>, Failed>
+    requires exists { disk < R.slot_count rack.old }
+    requires spinning { (R.slot rack.old disk).power ≡ Spinning }
+    requires opened { (t : Trail) → R.told rack.old ≡ Some t → is_open (stored_block (now t) disk 0) ≡ true }
+    ensures slots { R.slot_count rack.new ≡ R.slot_count rack.old }
+    ensures same { OnOk result (AreSameSlots (R.slot rack.old) (R.slot rack.new)) }
+    ensures others { (d : ℕ) → d ≢ disk → R.slot rack.new d ≡ R.slot rack.old d }
+    ensures reads { OnlyReads (R.told rack.old) (R.told rack.new) }
+    ensures quiet { OnOk result (OnlyReadsAndKeeps (R.told rack.old) (R.told rack.new)) }
+    ensures risen { IfErr result (λ failed. HasRisen (R.slot rack.old disk).faults
+        (R.slot rack.new disk).faults) }
+    ensures heard { IfOk result (λ meta. (t : Trail) → R.told rack.new ≡ Some t
+        → IsMetaOf (now t) disk meta) }
+{
+    let mut block = Block::zero();
+    let mut list = Block::zero();
+    read_place(rack, disk, 2, &mut block)?;
+    read_place(rack, disk, 3, &mut list)?;
+    let Some(meta) = read_meta(&block) else {
+        return Ok(None);
+    };
+    let Some(_targets) = read_targets(&list, &meta.setup.geometry) else {
+        return Ok(None);
+    };
+    Ok(Some(meta))
+}
+
+// The meta that a log disk says, if it is well formed.
+fn hear<R: Rack>(rack: &mut R, disk: DiskNo) -> Result<Option<Meta>, Failed>
+    requires exists { disk < R.slot_count rack.old }
+    requires spinning { (R.slot rack.old disk).power ≡ Spinning }
+    ensures slots { R.slot_count rack.new ≡ R.slot_count rack.old }
+    ensures same { OnOk result (AreSameSlots (R.slot rack.old) (R.slot rack.new)) }
+    ensures others { (d : ℕ) → d ≢ disk → R.slot rack.new d ≡ R.slot rack.old d }
+    ensures reads { OnlyReads (R.told rack.old) (R.told rack.new) }
+    ensures quiet { OnOk result (OnlyReadsAndKeeps (R.told rack.old) (R.told rack.new)) }
+    ensures risen { IfErr result (λ failed. HasRisen (R.slot rack.old disk).faults
+        (R.slot rack.new disk).faults) }
+    ensures heard { IfOk result (λ meta. (t : Trail) → R.told rack.new ≡ Some t
+        → IsMetaOf (now t) disk meta) }
+{
+    let mut gate = Block::zero();
+    read_place(rack, disk, 0, &mut gate)?;
+    if opens(&gate) {
+        let meta = hear_open(rack, disk)?;
+        return Ok(meta);
+    }
+    let meta = hear_closed(rack, disk)?;
+    Ok(meta)
+}
+
+// Whether a disk does not spin, or has no room for the head of a log.
+fn lacks_log<R: Rack>(rack: &R, disk: DiskNo) -> bool
+    ensures yes { result ≡ true → (R.slot rack.now disk).power ≡ Spinning
+        → 4 ≤ (R.slot rack.now disk).size → disk < R.slot_count rack.now → ⊥ }
+    ensures no { result ≡ false → (disk < R.slot_count rack.now)
+        × ((R.slot rack.now disk).power ≡ Spinning) × (4 ≤ (R.slot rack.now disk).size) }
+{
+    disk >= rack.slots() || rack.power(disk) != Power::Spinning || rack.size(disk) < 4
+}
+
+// The epoch that a log disk says, if it belongs to an array.
+fn epoch_of<R: Rack>(rack: &mut R, disk: DiskNo) -> Result<Option<u64>, Failed>
+    requires log_disk { disk < 2 }
+    ensures slots { R.slot_count rack.new ≡ R.slot_count rack.old }
+    ensures same { OnOk result (AreSameSlots (R.slot rack.old) (R.slot rack.new)) }
+    ensures others { (d : ℕ) → d ≢ disk → R.slot rack.new d ≡ R.slot rack.old d }
+    ensures reads { OnlyReads (R.told rack.old) (R.told rack.new) }
+    ensures quiet { OnOk result (OnlyReadsAndKeeps (R.told rack.old) (R.told rack.new)) }
+    ensures risen { IfErr result (λ failed. HasRisen (R.slot rack.old disk).faults
+        (R.slot rack.new disk).faults) }
+    ensures heard { IfOk result (λ epoch. (t : Trail) → R.told rack.new ≡ Some t
+        → IsEpochOf (now t) disk epoch) }
+{
+    if lacks_log(rack, disk) {
+        return Ok(None);
+    }
+    let Some(meta) = hear(rack, disk)? else {
+        return Ok(None);
+    };
+    Ok(Some(meta.epoch))
+}
+
+// The greater of two.
+fn greater(first: Option<u64>, second: Option<u64>) -> Option<u64>
+    ensures { result ≡ greater_of first second }
+{
+    match (first, second) {
+        (None, second) => second,
+        (first, None) => first,
+        (Some(a), Some(b)) => Some(a.max(b)),
+    }
+}
+
+/// The greatest epoch that a log disk says, if one belongs to an array. A disk that failed is
+/// named.
+pub fn greatest_epoch<R: Rack>(rack: &mut R) -> Result<Option<u64>, DiskNo>
+    ensures slots { R.slot_count rack.new ≡ R.slot_count rack.old }
+    ensures same { OnOk result (AreSameSlots (R.slot rack.old) (R.slot rack.new)) }
+    ensures others { (d : ℕ) → 2 ≤ d → R.slot rack.new d ≡ R.slot rack.old d }
+    ensures reads { OnlyReads (R.told rack.old) (R.told rack.new) }
+    ensures quiet { OnOk result (OnlyReadsAndKeeps (R.told rack.old) (R.told rack.new)) }
+    ensures heard { IfOk result (λ epoch. (t : Trail) → R.told rack.new ≡ Some t
+        → IsGreatestOf (now t) epoch) }
+    ensures risen { IfErr result (λ d. HasRisen (R.slot rack.old d).faults
+        (R.slot rack.new d).faults) }
+{
+    let Ok(first) = epoch_of(rack, 0) else {
+        return Err(0);
+    };
+    let Ok(second) = epoch_of(rack, 1) else {
+        return Err(1);
+    };
+    Ok(greater(first, second))
+}

@@ -1,0 +1,183 @@
+//! What one log disk says: its gate, its meta, and the batch that is on its way.
+ghost use Rattle.paraid_rack.specs.Slots.{AreSameSlots};
+ghost use Rattle.std.specs.Prelude.{◌≡◌, ◌≢◌, ℕ, ◌<◌, ◌≤◌, true, false, [], length, Some, OnOk, IfErr, IfOk, AllPairs, get_or};
+ghost use Rattle.paraid_base.specs.Xor.{zero_block};
+ghost use Rattle.paraid_rack.specs.declared.call.Power.TheVariants.{Absent, Spinning};
+ghost use Rattle.paraid_rack.specs.Trail.{Trail, now};
+ghost use Rattle.paraid_record.specs.Targets.{AreTargets, no_target, targets_of};
+ghost use Rattle.paraid_rack.specs.Told.{Ran};
+ghost use Rattle.paraid_recover.specs.HeardSides.{AtMost, IsFailed, IsHeard, IsInForm, IsLosing, IsUnchanged, ReadsLog};
+ghost use Rattle.paraid_txn.specs.Uses.{EachCall};
+ghost use Rattle.paraid_image.specs.Sides.{AreBlocksLogged, is_open, stored_block, targets};
+
+use crate::reads::read_place;
+use paraid_base::{Block, DiskNo, Failed};
+use paraid_rack::Rack;
+use paraid_record::{Meta, Target, Targets, read_meta, read_targets};
+use paraid_txn::Batch;
+
+/// What a log disk says, with its batch beside it.
+#[derive(Clone, Copy)]
+pub enum Heard {
+    /// A closed gate over zeros.
+    Blank,
+    /// It is not well formed.
+    Bad { gate_open: bool },
+    Formed { gate_open: bool, meta: Meta },
+}
+
+// Whether a gate is open.
+fn opens(gate: &Block) -> bool
+    ensures { result ≡ is_open gate.now }
+{
+    gate.as_slice()[0] != 0
+}
+
+// Whether a block is zeros.
+fn is_zero(block: &Block) -> bool
+    ensures yes { result ≡ true → block.now.bytes ≡ zero_block.bytes }
+    ensures no { result ≡ false → block.now.bytes ≢ zero_block.bytes }
+{
+    block.as_slice() == Block::zero().as_slice()
+}
+
+// Under a closed gate.
+fn hear_closed<R: Rack>(rack: &mut R, disk: DiskNo) -> Result<Heard, Failed>
+    requires exists { disk < R.slot_count rack.old }
+    requires spinning { (R.slot rack.old disk).power ≡ Spinning }
+    requires shut { (t : Trail) → R.told rack.old ≡ Some t → is_open (stored_block (now t) disk 0) ≡ false }
+    ensures slots { R.slot_count rack.new ≡ R.slot_count rack.old }
+    ensures same { OnOk result (AreSameSlots (R.slot rack.old) (R.slot rack.new)) }
+    ensures others { (d : ℕ) → d ≢ disk → R.slot rack.new d ≡ R.slot rack.old d }
+    ensures unchanged { OnOk result (IsUnchanged (R.told rack.old) (R.told rack.new)) }
+    ensures heard { IfOk result (λ heard. (t : Trail) → R.told rack.new ≡ Some t
+        → IsHeard (now t) disk heard []) }
+    ensures form { IfOk result (λ heard. IsInForm (Some heard) []) }
+    ensures lost { IfErr result (λ failed. IsLosing disk (R.told rack.old) (R.told rack.new)) }
+    ensures absent { IfErr result (λ failed. (R.slot rack.new disk).power ≡ Absent) }
+    ensures failed { IfErr result (λ failed. IsFailed (R.slot rack.old) (R.slot rack.new) disk) }
+    ensures calls { Ran (R.told rack.old) (R.told rack.new) (EachCall (ReadsLog disk)) }
+    ensures few { Ran (R.told rack.old) (R.told rack.new) (AtMost 1) }
+{
+    let mut block = Block::zero();
+    read_place(rack, disk, 1, &mut block)?;
+    if let Some(meta) = read_meta(&block) {
+        return Ok(Heard::Formed {
+            gate_open: false,
+            meta,
+        });
+    }
+    if is_zero(&block) {
+        return Ok(Heard::Blank);
+    }
+    Ok(Heard::Bad { gate_open: false })
+}
+
+// The target that stands there in the order.
+fn target_at(places: &Targets, at: u8) -> Target
+    requires low { at < places.now.count }
+    requires few { places.now.count ≤ 96 }
+    ensures value { result ≡ get_or (targets_of places.now) at no_target }
+    ensures list { places.now.count ≤ length places.now.list }
+{
+    places.list[at as usize]
+}
+
+// The blocks of the targets.
+fn hear_body<R: Rack>(
+    rack: &mut R,
+    disk: DiskNo,
+    places: &Targets,
+    batch: &mut Batch,
+) -> Result<(), Failed>
+    requires exists { disk < R.slot_count rack.old }
+    requires spinning { (R.slot rack.old disk).power ≡ Spinning }
+    requires empty { batch.old ≡ [] }
+    requires few { places.now.count ≤ 96 }
+    requires distinct { AllPairs (λ a b. a ≢ b) (targets_of places.now) }
+    ensures slots { R.slot_count rack.new ≡ R.slot_count rack.old }
+    ensures same { OnOk result (AreSameSlots (R.slot rack.old) (R.slot rack.new)) }
+    ensures others { (d : ℕ) → d ≢ disk → R.slot rack.new d ≡ R.slot rack.old d }
+    ensures unchanged { OnOk result (IsUnchanged (R.told rack.old) (R.told rack.new)) }
+    ensures named { OnOk result (targets batch.new ≡ targets_of places.now) }
+    ensures logged { OnOk result ((t : Trail) → R.told rack.new ≡ Some t
+        → AreBlocksLogged (stored_block (now t) disk) 4 batch.new) }
+    ensures lost { IfErr result (λ failed. IsLosing disk (R.told rack.old) (R.told rack.new)) }
+    ensures absent { IfErr result (λ failed. (R.slot rack.new disk).power ≡ Absent) }
+    ensures failed { IfErr result (λ failed. IsFailed (R.slot rack.old) (R.slot rack.new) disk) }
+    ensures calls { Ran (R.told rack.old) (R.told rack.new) (EachCall (ReadsLog disk)) }
+    ensures few { Ran (R.told rack.old) (R.told rack.new) (AtMost 96) }
+{
+    let mut block = Block::zero();
+    for at in 0..places.count {
+        read_place(rack, disk, 4 + u32::from(at), &mut block)?;
+        let target = target_at(places, at);
+        if let Err(_full) = batch.add(target.disk, target.place, &block) {
+            return Err(Failed); // never, as there is room
+        }
+    }
+    Ok(())
+}
+
+// Under an open gate.
+fn hear_open<R: Rack>(rack: &mut R, disk: DiskNo, batch: &mut Batch) -> Result<Heard, Failed>
+    requires exists { disk < R.slot_count rack.old }
+    requires spinning { (R.slot rack.old disk).power ≡ Spinning }
+    requires empty { batch.old ≡ [] }
+    requires opened { (t : Trail) → R.told rack.old ≡ Some t → is_open (stored_block (now t) disk 0) ≡ true }
+    ensures slots { R.slot_count rack.new ≡ R.slot_count rack.old }
+    ensures same { OnOk result (AreSameSlots (R.slot rack.old) (R.slot rack.new)) }
+    ensures others { (d : ℕ) → d ≢ disk → R.slot rack.new d ≡ R.slot rack.old d }
+    ensures unchanged { OnOk result (IsUnchanged (R.told rack.old) (R.told rack.new)) }
+    ensures heard { IfOk result (λ heard. (t : Trail) → R.told rack.new ≡ Some t
+        → IsHeard (now t) disk heard batch.new) }
+    ensures form { IfOk result (λ heard. IsInForm (Some heard) batch.new) }
+    ensures lost { IfErr result (λ failed. IsLosing disk (R.told rack.old) (R.told rack.new)) }
+    ensures absent { IfErr result (λ failed. (R.slot rack.new disk).power ≡ Absent) }
+    ensures failed { IfErr result (λ failed. IsFailed (R.slot rack.old) (R.slot rack.new) disk) }
+    ensures calls { Ran (R.told rack.old) (R.told rack.new) (EachCall (ReadsLog disk)) }
+    ensures few { Ran (R.told rack.old) (R.told rack.new) (AtMost 98) }
+{
+    let mut block = Block::zero();
+    let mut list = Block::zero();
+    read_place(rack, disk, 2, &mut block)?;
+    read_place(rack, disk, 3, &mut list)?;
+    let Some(meta) = read_meta(&block) else {
+        return Ok(Heard::Bad { gate_open: true });
+    };
+    let Some(targets) = read_targets(&list, &meta.setup.geometry) else {
+        return Ok(Heard::Bad { gate_open: true });
+    };
+    hear_body(rack, disk, &targets, batch)?;
+    Ok(Heard::Formed {
+        gate_open: true,
+        meta,
+    })
+}
+
+/// Reads what a log disk says, its batch into an empty one. After a failure the batch holds
+/// anything.
+pub fn hear<R: Rack>(rack: &mut R, disk: DiskNo, batch: &mut Batch) -> Result<Heard, Failed>
+    requires exists { disk < R.slot_count rack.old }
+    requires spinning { (R.slot rack.old disk).power ≡ Spinning }
+    requires empty { batch.old ≡ [] }
+    ensures slots { R.slot_count rack.new ≡ R.slot_count rack.old }
+    ensures same { OnOk result (AreSameSlots (R.slot rack.old) (R.slot rack.new)) }
+    ensures others { (d : ℕ) → d ≢ disk → R.slot rack.new d ≡ R.slot rack.old d }
+    ensures unchanged { OnOk result (IsUnchanged (R.told rack.old) (R.told rack.new)) }
+    ensures heard { IfOk result (λ heard. (t : Trail) → R.told rack.new ≡ Some t
+        → IsHeard (now t) disk heard batch.new) }
+    ensures form { IfOk result (λ heard. IsInForm (Some heard) batch.new) }
+    ensures lost { IfErr result (λ failed. IsLosing disk (R.told rack.old) (R.told rack.new)) }
+    ensures absent { IfErr result (λ failed. (R.slot rack.new disk).power ≡ Absent) }
+    ensures failed { IfErr result (λ failed. IsFailed (R.slot rack.old) (R.slot rack.new) disk) }
+    ensures calls { Ran (R.told rack.old) (R.told rack.new) (EachCall (ReadsLog disk)) }
+    ensures few { Ran (R.told rack.old) (R.told rack.new) (AtMost 99) }
+{
+    let mut gate = Block::zero();
+    read_place(rack, disk, 0, &mut gate)?;
+    if opens(&gate) {
+        return hear_open(rack, disk, batch);
+    }
+    hear_closed(rack, disk)
+}
