@@ -1,14 +1,18 @@
-//! Tests of the lower crates, and of those that stand beside the array, as tables of values from
-//! outside: worked by hand from the formats and the formulas, or taken from another program. What a
-//! clause says of all inputs is not tried again.
+//! Tests of the lower crates, of the definitions of an image and of a commit, and of the crates that
+//! stand beside the array, as tables of values from outside: worked by hand from the formats and the
+//! formulas, or taken from another program. What a clause says of all inputs is not tried again.
 #![tactic(auto)]
 
+#[cfg(test)]
+mod commits;
 #[cfg(test)]
 mod device;
 #[cfg(test)]
 mod dirty;
 #[cfg(test)]
 mod image_racks;
+#[cfg(test)]
+mod images;
 #[cfg(test)]
 mod lines;
 #[cfg(test)]

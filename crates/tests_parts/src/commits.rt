@@ -3,10 +3,10 @@
 use crate::images::{META, block_with, filled_with};
 use paraid_base::{Block, DiskNo, Pairs, Place, Two};
 use paraid_memrack::{MemRack, Pick, Planned};
-use paraid_recover::{choose, hear_both};
 use paraid_plain::{Image, content, is_sound, standing_of};
 use paraid_rack::{Call, Power, Rack};
 use paraid_record::{Meta, read_meta};
+use paraid_recover::{choose, hear_both};
 use paraid_txn::{Batch, Store};
 use std::alloc::Global;
 
