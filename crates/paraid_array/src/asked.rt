@@ -21,7 +21,7 @@ use paraid_rack::Rack;
 use paraid_shift::{begin_down, begin_up, commit_staged};
 
 /// What came of a shift that was asked for.
-#[derive(Clone, Copy, PartialEq, Eq)]
+#[derive(Clone, Copy)]
 pub enum Asked {
     /// It has begun.
     Begun { to: u8 },

@@ -1,7 +1,7 @@
 use paraid_base::DiskNo;
 
 /// Why a shift does not begin.
-#[derive(Clone, Copy, PartialEq, Eq)]
+#[derive(Clone, Copy)]
 pub enum ShiftFault {
     /// There is no higher gear.
     Top,
@@ -16,7 +16,7 @@ pub enum ShiftFault {
 }
 
 /// Why a disk is not taken out.
-#[derive(Clone, Copy, PartialEq, Eq)]
+#[derive(Clone, Copy)]
 pub enum FailFault {
     /// The array has no such disk.
     NoDisk { disk: DiskNo },
@@ -25,7 +25,7 @@ pub enum FailFault {
 }
 
 /// Why a disk is not replaced.
-#[derive(Clone, Copy, PartialEq, Eq)]
+#[derive(Clone, Copy)]
 pub enum ReplaceFault {
     /// The array has no such disk.
     NoDisk { disk: DiskNo },

@@ -3,11 +3,11 @@ ghost use Rattle.std.specs.Prelude.{◌≡◌, ◌≢◌, ℕ, Some, None};
 use crate::{BlockNo, DiskNo};
 
 /// A call of the outside did not succeed. Its object's count of faults has risen.
-#[derive(Clone, Copy, PartialEq, Eq)]
+#[derive(Clone, Copy)]
 pub struct Failed;
 
 /// There is no memory for it. This is the one answer that no contract ties to a cause.
-#[derive(Clone, Copy, PartialEq, Eq)]
+#[derive(Clone, Copy)]
 pub struct NoMemory;
 
 /// Two disks are down: `first` was out before, and `second` failed after it.
@@ -46,7 +46,7 @@ pub enum Halt {
 }
 
 /// Why a block was not read or written.
-#[derive(Clone, Copy, PartialEq, Eq)]
+#[derive(Clone, Copy)]
 pub enum BlockFault {
     /// The array has no such block.
     NoBlock { block: BlockNo },

@@ -23,7 +23,7 @@ pub struct Geometry {
 }
 
 /// Why there is no such geometry. They are tested in this order.
-#[derive(Clone, Copy, PartialEq, Eq)]
+#[derive(Clone, Copy)]
 pub enum GeoFault {
     /// The number of disks is not 3 to 8.
     Disks { value: u8 },

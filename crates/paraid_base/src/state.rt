@@ -4,7 +4,7 @@ ghost use Rattle.paraid_base.specs.States.{gone_out, has_out, is_down as falls, 
 use crate::{DiskNo, Halt};
 
 /// Whether a shift between two gears is under way.
-#[derive(Clone, Copy, PartialEq, Eq)]
+#[derive(Clone, Copy)]
 pub enum Phase {
     /// No shift is under way.
     Steady,
@@ -147,7 +147,7 @@ impl Out {
 }
 
 /// What a tick did.
-#[derive(Clone, Copy, PartialEq, Eq)]
+#[derive(Clone, Copy)]
 pub enum TickEvent {
     /// Nothing was to be done.
     Steady,
@@ -170,7 +170,7 @@ pub enum TickEvent {
 }
 
 /// The answer to a tick: the gear after it, the units moved in it, and what it did.
-#[derive(Clone, Copy, PartialEq, Eq)]
+#[derive(Clone, Copy)]
 pub struct GearReport {
     pub gear: u8,
     pub moved: u32,
@@ -178,7 +178,7 @@ pub struct GearReport {
 }
 
 /// The state of an array as it is told.
-#[derive(Clone, Copy, PartialEq, Eq)]
+#[derive(Clone, Copy)]
 pub struct Status {
     /// The number of writes that were accepted.
     pub writes: u64,

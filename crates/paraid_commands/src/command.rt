@@ -1,5 +1,5 @@
 /// What the program is asked to do.
-#[derive(Clone, Copy, PartialEq, Eq)]
+#[derive(Clone, Copy)]
 pub enum Command {
     /// Makes a new array, where `force` is set also over an old one.
     Format { force: bool },
@@ -14,7 +14,7 @@ pub enum Command {
 }
 
 /// An option of `gen` and its value.
-#[derive(Clone, Copy, PartialEq, Eq)]
+#[derive(Clone, Copy)]
 pub enum Choice {
     Number { number: u32 },
     Lines { lines: u32 },

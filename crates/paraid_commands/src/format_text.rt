@@ -8,8 +8,8 @@ use crate::Refusal;
 use itoa::Buffer;
 use paraid_base::GeoFault;
 use paraid_config::{ConfigFault, Key};
-use paraid_recover::FormatFault;
 use paraid_record::Setup;
+use paraid_recover::FormatFault;
 use paraid_serve::status;
 use paraid_trace::Text;
 

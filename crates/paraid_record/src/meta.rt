@@ -1,7 +1,7 @@
 use paraid_base::{Geometry, Out, Phase};
 
 /// What a read may do during a shift up.
-#[derive(Clone, Copy, PartialEq, Eq)]
+#[derive(Clone, Copy)]
 pub enum Mode {
     /// A read changes nothing.
     Whole,

@@ -1,7 +1,7 @@
 use paraid_base::{DiskNo, Two};
 
 /// Why an array is not mounted.
-#[derive(Clone, Copy, PartialEq, Eq)]
+#[derive(Clone, Copy)]
 pub enum MountFault {
     /// No log disk belongs to an array.
     NotFormatted,

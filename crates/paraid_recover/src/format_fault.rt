@@ -1,7 +1,7 @@
 use paraid_base::DiskNo;
 
 /// Why no array was made.
-#[derive(Clone, Copy, PartialEq, Eq)]
+#[derive(Clone, Copy)]
 pub enum FormatFault {
     /// A log disk belongs to an array; `epoch` is the greatest that one says.
     AlreadyFormatted { epoch: u64 },

@@ -1,7 +1,7 @@
 use paraid_base::Halt;
 
 /// Why a session ended before its last line.
-#[derive(Clone, Copy, PartialEq, Eq)]
+#[derive(Clone, Copy)]
 pub enum Stop {
     /// The source has failed.
     Source,

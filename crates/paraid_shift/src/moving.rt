@@ -19,7 +19,7 @@ use paraid_core::Core;
 use paraid_rack::Rack;
 
 /// What a step of a shift moved: so many units, of which so many are left, and the disk that was lost in it.
-#[derive(Clone, Copy, PartialEq, Eq)]
+#[derive(Clone, Copy)]
 pub struct Moved {
     pub units: u32,
     pub left: u32,

@@ -18,7 +18,7 @@ use std::marker::Model;
 pub const MOST: usize = 96;
 
 /// A batch holds its 96 targets, and this one is new.
-#[derive(Clone, Copy, PartialEq, Eq)]
+#[derive(Clone, Copy)]
 pub struct Full {
     pub count: u8,
 }

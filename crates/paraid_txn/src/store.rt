@@ -13,7 +13,7 @@ use paraid_rack::{Power, Rack};
 use paraid_record::Meta;
 
 /// Why a call on one disk was not done: that disk is lost.
-#[derive(Clone, Copy, PartialEq, Eq)]
+#[derive(Clone, Copy)]
 pub enum Lost {
     /// No other disk is out.
     One { disk: DiskNo },

@@ -12,7 +12,7 @@ use paraid_layout::{hard_place, soft_of, soft_place};
 use paraid_record::Meta;
 
 /// Where the value of a cell lives.
-#[derive(Clone, Copy, PartialEq, Eq)]
+#[derive(Clone, Copy)]
 pub enum Spot {
     /// On its hard place.
     Hard {
