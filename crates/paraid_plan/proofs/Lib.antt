@@ -23,3 +23,4 @@ pub mod WrittenBitsLemmas
 pub mod RowBitsLemmas
 pub mod GrowthLemmas
 pub mod RoomLemmas
+pub mod LeavesLemmas

@@ -7,3 +7,4 @@ pub mod RowWrites
 pub mod LossMark
 pub mod WrittenBits
 pub mod RowBits
+pub mod Leaves

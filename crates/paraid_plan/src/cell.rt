@@ -4,6 +4,7 @@ ghost use Rattle.paraid_base.specs.Soft.{soft_disk, soft_parity_disk, soft_strip
 ghost use Rattle.paraid_base.specs.Regions.{soft_place_of};
 ghost use Rattle.paraid_base.specs.Xor.{xor};
 ghost use Rattle.paraid_plan.specs.Desk.{Desk, with_targets, desk_with_bit, sees, place_targets, copy_targets, cell_desk};
+ghost use Rattle.paraid_plan.specs.Leaves.{Leaves, StaysAsWas};
 ghost use Rattle.paraid_plan.specs.RowWrites.{has_soft as has_soft_in};
 ghost use Rattle.paraid_plan.specs.WriteTargets.{stripe_block_now, target_if, goes_hard as goes_hard_in, is_written as written_in, is_filled as filled_in, needs_new as needs_new_in, needs_old as needs_old_in};
 ghost use Rattle.paraid_plan.specs.WrittenBits.{bits_after_cell};
@@ -125,14 +126,7 @@ fn read_parity<P: Plan>(
         let s = soft_stripe m.now.setup.geometry.disks m.now.gear r d in
         written_in m.now.out (soft_parity_disk m.now.gear s) (m.now.setup.geometry.rows + s) ≡ true
         → into.new ≡ xor (xor (stripe_block_now (sees m.now (P.desk plan.old)) s (soft_parity_disk m.now.gear s)) old.now) new.now) }
-    ensures same { OnOk result (P.tells plan.new → P.desk plan.new ≡ P.desk plan.old) }
-    ensures bits { OnOk result ((P.desk plan.new).dirty ≡ (P.desk plan.old).dirty) }
-    ensures staged { OnOk result
-        (length (P.desk plan.new).staged ≡ length (P.desk plan.old).staged) }
-    ensures changes { OnOk result (P.changes plan.new ≡ P.changes plan.old) }
-    ensures goes_on { OnOk result (P.serves plan.new m.now) }
-    ensures fails { IfErr result (λ lost. P.fails plan.new) }
-    ensures leads { P.leads plan.old plan.new }
+    ensures reads { Leaves P.Plan (StaysAsWas P.Plan m.now plan.old plan.new) plan.old plan.new result }
 {
     let (s, _copy) = soft_of(&m.setup.geometry, m.gear, r, d);
     let parity = soft_parity(&m.setup.geometry, m.gear, s);
@@ -165,14 +159,7 @@ fn read_place<P: Plan>(
         let s = soft_stripe m.now.setup.geometry.disks m.now.gear r d in hard ≡ false
         → written_in m.now.out (soft_parity_disk m.now.gear s) (m.now.setup.geometry.rows + s) ≡ true
         → into.new ≡ xor (xor (stripe_block_now (sees m.now (P.desk plan.old)) s (soft_parity_disk m.now.gear s)) old.now) new.now) }
-    ensures same { OnOk result (P.tells plan.new → P.desk plan.new ≡ P.desk plan.old) }
-    ensures bits { OnOk result ((P.desk plan.new).dirty ≡ (P.desk plan.old).dirty) }
-    ensures staged { OnOk result
-        (length (P.desk plan.new).staged ≡ length (P.desk plan.old).staged) }
-    ensures changes { OnOk result (P.changes plan.new ≡ P.changes plan.old) }
-    ensures goes_on { OnOk result (P.serves plan.new m.now) }
-    ensures fails { IfErr result (λ lost. P.fails plan.new) }
-    ensures leads { P.leads plan.old plan.new }
+    ensures reads { Leaves P.Plan (StaysAsWas P.Plan m.now plan.old plan.new) plan.old plan.new result }
 {
     if hard {
         return Ok(());
@@ -200,14 +187,7 @@ fn read_copy<P: Plan>(
         let to = phase_to_of m.now.phase in
         let s = soft_stripe m.now.setup.geometry.disks to r d in filled ≡ true
         → into.new ≡ xor (xor ((P.desk plan.old).block (soft_parity_disk to s) (soft_place_of m.now.setup.geometry to s)) old.now) new.now) }
-    ensures same { OnOk result (P.tells plan.new → P.desk plan.new ≡ P.desk plan.old) }
-    ensures bits { OnOk result ((P.desk plan.new).dirty ≡ (P.desk plan.old).dirty) }
-    ensures staged { OnOk result
-        (length (P.desk plan.new).staged ≡ length (P.desk plan.old).staged) }
-    ensures changes { OnOk result (P.changes plan.new ≡ P.changes plan.old) }
-    ensures goes_on { OnOk result (P.serves plan.new m.now) }
-    ensures fails { IfErr result (λ lost. P.fails plan.new) }
-    ensures leads { P.leads plan.old plan.new }
+    ensures reads { Leaves P.Plan (StaysAsWas P.Plan m.now plan.old plan.new) plan.old plan.new result }
 {
     if !filled {
         return Ok(());

@@ -1,12 +1,13 @@
 //! What the write of a row reads: the old values on which the soft parities depend, and what makes
 //! the row's new parity.
-ghost use Rattle.std.specs.Prelude.{◌≡◌, ◌≢◌, ℕ, ◌+◌, ◌<◌, true, length, get_or, Some, None, OnOk, IfErr, not, ◌&&◌, ◌||◌, if◌then◌else◌};
+ghost use Rattle.std.specs.Prelude.{◌≡◌, ◌≢◌, ℕ, ◌+◌, ◌<◌, true, length, get_or, Some, None, OnOk, not, ◌&&◌, ◌||◌, if◌then◌else◌};
 ghost use Rattle.paraid_base.specs.declared.block.Block.{Block as BlockType};
 ghost use Rattle.paraid_base.specs.Cells.{parity_disk as parity_disk_of};
 ghost use Rattle.paraid_base.specs.Pairs.{pairs_of};
 ghost use Rattle.paraid_base.specs.Sums.{without, xor_upto};
 ghost use Rattle.paraid_base.specs.Xor.{xor, zero_block};
 ghost use Rattle.paraid_plan.specs.Desk.{Desk, sees};
+ghost use Rattle.paraid_plan.specs.Leaves.{Leaves, StaysAsWas};
 ghost use Rattle.paraid_plan.specs.RowWrites.{AreGivenBy, AreOldRead, HasRoom, IsOldOf, is_changed as changed_in, new_parity, parity_part};
 ghost use Rattle.paraid_plan.specs.WriteTargets.{needs_new as needs_new_in, needs_old as needs_old_in};
 ghost use Rattle.paraid_record.specs.Range.{IsInRange};
@@ -102,14 +103,7 @@ fn read_cell<P: Plan>(
     ensures sum { OnOk result (P.tells plan.new → needed ≡ true → sum.new ≡ xor sum.old
         (parity_part m.now.setup.geometry.disks (pairs_of pairs.now) r (value_of (sees m.now (P.desk plan.old)) r) anew d)) }
     ensures kept { OnOk result (length old.new ≡ length old.old) }
-    ensures same { OnOk result (P.tells plan.new → P.desk plan.new ≡ P.desk plan.old) }
-    ensures bits { OnOk result ((P.desk plan.new).dirty ≡ (P.desk plan.old).dirty) }
-    ensures staged { OnOk result
-        (length (P.desk plan.new).staged ≡ length (P.desk plan.old).staged) }
-    ensures changes { OnOk result (P.changes plan.new ≡ P.changes plan.old) }
-    ensures goes_on { OnOk result (P.serves plan.new m.now) }
-    ensures fails { IfErr result (λ lost. P.fails plan.new) }
-    ensures leads { P.leads plan.old plan.new }
+    ensures reads { Leaves P.Plan (StaysAsWas P.Plan m.now plan.old plan.new) plan.old plan.new result }
 {
     let changed = is_changed(given, p, d);
     let depends = needs_old(plan, m, r, d);
@@ -157,14 +151,7 @@ fn read_data<P: Plan>(
         let part = parity_part n (pairs_of pairs.now) r (value_of (sees m.now (P.desk plan.old)) r) anew in
         sum.old ≡ xor_upto (without part (parity_disk_of n r)) d → sum.new ≡ xor_upto (without part (parity_disk_of n r)) (d + 1)) }
     ensures kept { OnOk result (length old.new ≡ length old.old) }
-    ensures same { OnOk result (P.tells plan.new → P.desk plan.new ≡ P.desk plan.old) }
-    ensures bits { OnOk result ((P.desk plan.new).dirty ≡ (P.desk plan.old).dirty) }
-    ensures staged { OnOk result
-        (length (P.desk plan.new).staged ≡ length (P.desk plan.old).staged) }
-    ensures changes { OnOk result (P.changes plan.new ≡ P.changes plan.old) }
-    ensures goes_on { OnOk result (P.serves plan.new m.now) }
-    ensures fails { IfErr result (λ lost. P.fails plan.new) }
-    ensures leads { P.leads plan.old plan.new }
+    ensures reads { Leaves P.Plan (StaysAsWas P.Plan m.now plan.old plan.new) plan.old plan.new result }
 {
     if d == p {
         return Ok(());
@@ -200,14 +187,7 @@ fn read_cells<P: Plan>(
         let n = m.now.setup.geometry.disks in
         sum.new ≡ xor_upto (parity_part n (pairs_of pairs.now) r (value_of (sees m.now (P.desk plan.old)) r) anew) n) }
     ensures kept { OnOk result (length old.new ≡ length old.old) }
-    ensures same { OnOk result (P.tells plan.new → P.desk plan.new ≡ P.desk plan.old) }
-    ensures bits { OnOk result ((P.desk plan.new).dirty ≡ (P.desk plan.old).dirty) }
-    ensures staged { OnOk result
-        (length (P.desk plan.new).staged ≡ length (P.desk plan.old).staged) }
-    ensures changes { OnOk result (P.changes plan.new ≡ P.changes plan.old) }
-    ensures goes_on { OnOk result (P.serves plan.new m.now) }
-    ensures fails { IfErr result (λ lost. P.fails plan.new) }
-    ensures leads { P.leads plan.old plan.new }
+    ensures reads { Leaves P.Plan (StaysAsWas P.Plan m.now plan.old plan.new) plan.old plan.new result }
 {
     let mut value = Block::zero();
     for d in 0..m.setup.geometry.disks {
@@ -217,8 +197,7 @@ fn read_cells<P: Plan>(
     }
     read_cell(
         plan, m, pairs, given, needed, anew, r, p, p, old, &mut value, sum,
-    )?;
-    Ok(())
+    )
 }
 
 /// Makes the new parity of a row, by whichever rule reads less, and reads the old values of the cells
@@ -248,14 +227,7 @@ pub(crate) fn read_row<P: Plan>(
         → xor_upto (value_of (sees m.now (P.desk plan.old)) r) m.now.setup.geometry.disks ≡ zero_block
         → fixed.new ≡ new_parity m.now.setup.geometry.disks (pairs_of pairs.now) r (value_of (sees m.now (P.desk plan.old)) r)) }
     ensures kept { OnOk result (length old.new ≡ length old.old) }
-    ensures same { OnOk result (P.tells plan.new → P.desk plan.new ≡ P.desk plan.old) }
-    ensures bits { OnOk result ((P.desk plan.new).dirty ≡ (P.desk plan.old).dirty) }
-    ensures staged { OnOk result
-        (length (P.desk plan.new).staged ≡ length (P.desk plan.old).staged) }
-    ensures changes { OnOk result (P.changes plan.new ≡ P.changes plan.old) }
-    ensures goes_on { OnOk result (P.serves plan.new m.now) }
-    ensures fails { IfErr result (λ lost. P.fails plan.new) }
-    ensures leads { P.leads plan.old plan.new }
+    ensures reads { Leaves P.Plan (StaysAsWas P.Plan m.now plan.old plan.new) plan.old plan.new result }
 {
     let needed = needs_new(plan, m, r, p);
     let anew = is_made_anew(plan, m, given, r, p);

@@ -1,16 +1,16 @@
 //! The write of up to eight blocks, in any gear and phase and whichever disk is out: row by row, each
 //! with one new parity, and at most ten targets for each block.
-ghost use Rattle.std.specs.Prelude.{◌≡◌, ◌≢◌, ℕ, ◌+◌, ◌-◌, ◌*◌, ◌/◌, ◌<◌, ◌≤◌, ◌==◌, ◌&&◌, ◌∷◌, [], true, false, length, get_or, Some, All, OnOk, IfErr, if◌then◌else◌};
+ghost use Rattle.std.specs.Prelude.{◌≡◌, ◌≢◌, ℕ, ◌+◌, ◌-◌, ◌*◌, ◌/◌, ◌<◌, ◌≤◌, ◌==◌, ◌&&◌, ◌∷◌, [], true, false, length, get_or, All, OnOk, IfErr, if◌then◌else◌};
 ghost use Rattle.paraid_base.specs.declared.block.Block.{Block as BlockType};
-ghost use Rattle.paraid_base.specs.Cells.{home_row, parity_disk as parity_disk_of};
-ghost use Rattle.paraid_base.specs.History.{Entry, last_of};
+ghost use Rattle.paraid_base.specs.Cells.{home_row};
+ghost use Rattle.paraid_base.specs.History.{last_of};
 ghost use Rattle.paraid_base.specs.Pairs.{pairs_of};
 ghost use Rattle.paraid_base.specs.Xor.{zero_block};
 ghost use Rattle.paraid_plan.specs.Desk.{Desk, StagesMap};
-ghost use Rattle.paraid_plan.specs.RowWrites.{AddsTargets, AreOldRead, HasRoom, StageAll, StagesBlocks, TurnsRow, count_in_row, count_of_new_row, given_row, names_block, one_in_row, row_change};
-ghost use Rattle.paraid_plan.specs.RowBits.{TurnsBits, names_cell, turns_cell_of, turns_in_new_row};
+ghost use Rattle.paraid_plan.specs.Leaves.{Leaves, WritesCells, WritesRow};
+ghost use Rattle.paraid_plan.specs.RowWrites.{HasRoom, StageAll, count_in_row, count_of_new_row, one_in_row, row_change};
+ghost use Rattle.paraid_plan.specs.RowBits.{turns_cell_of, turns_in_new_row};
 ghost use Rattle.paraid_plan.specs.WrittenBits.{bits_after_writes};
-ghost use Rattle.paraid_image.specs.Out.{named_out as named_out_of};
 ghost use Rattle.paraid_record.specs.Range.{IsInRange};
 ghost use Rattle.paraid_record.specs.declared.meta.Meta.{Meta as MetaType};
 
@@ -110,31 +110,8 @@ fn write_pair<P: Plan>(
         + 4 * one_in_row m.now.setup.geometry.disks (get_or pairs.now.blocks at 0) r ≤ 80 }
     requires bits { P.changes plan.old
         + one_in_row m.now.setup.geometry.disks (get_or pairs.now.blocks at 0) r ≤ 16 }
-    ensures adds { OnOk result (P.tells plan.new → AddsTargets m.now (P.desk plan.old) (P.desk plan.new)) }
-    ensures turns { OnOk result (P.tells plan.new → (ws : Entry) (row : ℕ → BlockType)
-        → names_block ws (get_or pairs.now.blocks at 0) ≡ true
-        → AreOldRead m.now (P.desk plan.old) ws r old.old row
-        → TurnsRow m.now r (P.desk plan.old) (P.desk plan.new) row
-        (given_row m.now.setup.geometry.disks ((get_or pairs.now.blocks at 0, get_or pairs.now.bytes at zero_block) ∷ []) r row)) }
-    ensures old { OnOk result (P.tells plan.new → (ws : Entry) (row : ℕ → BlockType)
-        → AreOldRead m.now (P.desk plan.old) ws r old.old row → AreOldRead m.now (P.desk plan.new) ws r old.new
-        (given_row m.now.setup.geometry.disks ((get_or pairs.now.blocks at 0, get_or pairs.now.bytes at zero_block) ∷ []) r row)) }
-    ensures kept { OnOk result (length old.new ≡ length old.old) }
-    ensures parity { OnOk result (P.tells plan.new → (P.desk plan.new).dirty r (parity_disk_of m.now.setup.geometry.disks r)
-        ≡ (P.desk plan.old).dirty r (parity_disk_of m.now.setup.geometry.disks r)) }
-    ensures bits { OnOk result (TurnsBits m.now (P.desk plan.old).dirty (P.desk plan.new).dirty
-        (λ q e. q == r && names_cell m.now.setup.geometry.disks ((get_or pairs.now.blocks at 0, get_or pairs.now.bytes at zero_block) ∷ []) r e)) }
-    ensures room { OnOk result (length (P.desk plan.new).staged ≤ length (P.desk plan.old).staged
-        + 4 * one_in_row m.now.setup.geometry.disks (get_or pairs.now.blocks at 0) r) }
-    ensures some { OnOk result (P.tells plan.new
-        → named_out_of m.now.out ≡ Some (parity_disk_of m.now.setup.geometry.disks r)
-        → length (P.desk plan.old).staged + one_in_row m.now.setup.geometry.disks (get_or pairs.now.blocks at 0) r
-        ≤ length (P.desk plan.new).staged) }
-    ensures changes { OnOk result (P.changes plan.new ≡ P.changes plan.old
-        + one_in_row m.now.setup.geometry.disks (get_or pairs.now.blocks at 0) r) }
-    ensures goes_on { OnOk result (P.serves plan.new m.now) }
-    ensures fails { IfErr result (λ lost. P.fails plan.new) }
-    ensures leads { P.leads plan.old plan.new }
+    ensures { Leaves P.Plan (WritesCells P.Plan m.now (pairs_of pairs.now) ((get_or pairs.now.blocks at 0, get_or pairs.now.bytes at zero_block) ∷ []) r
+        (one_in_row m.now.setup.geometry.disks (get_or pairs.now.blocks at 0) r) old.old old.new plan.old plan.new) plan.old plan.new result }
 {
     let (q, d) = home(&m.setup.geometry, pairs.blocks[at]);
     if q != r {
@@ -163,29 +140,8 @@ fn write_pairs<P: Plan>(
     requires room { length (P.desk plan.old).staged
         + 4 * count_in_row m.now.setup.geometry.disks (pairs_of pairs.now) r ≤ 80 }
     requires bits { P.changes plan.old + count_in_row m.now.setup.geometry.disks (pairs_of pairs.now) r ≤ 16 }
-    ensures adds { OnOk result (P.tells plan.new → AddsTargets m.now (P.desk plan.old) (P.desk plan.new)) }
-    ensures turns { OnOk result (P.tells plan.new → (row : ℕ → BlockType)
-        → AreOldRead m.now (P.desk plan.old) (pairs_of pairs.now) r old.old row
-        → TurnsRow m.now r (P.desk plan.old) (P.desk plan.new) row (given_row m.now.setup.geometry.disks (pairs_of pairs.now) r row)) }
-    ensures old { OnOk result (P.tells plan.new → (row : ℕ → BlockType)
-        → AreOldRead m.now (P.desk plan.old) (pairs_of pairs.now) r old.old row
-        → AreOldRead m.now (P.desk plan.new) (pairs_of pairs.now) r old.new (given_row m.now.setup.geometry.disks (pairs_of pairs.now) r row)) }
-    ensures kept { OnOk result (length old.new ≡ length old.old) }
-    ensures parity { OnOk result (P.tells plan.new → (P.desk plan.new).dirty r (parity_disk_of m.now.setup.geometry.disks r)
-        ≡ (P.desk plan.old).dirty r (parity_disk_of m.now.setup.geometry.disks r)) }
-    ensures bits { OnOk result (TurnsBits m.now (P.desk plan.old).dirty (P.desk plan.new).dirty
-        (λ q e. q == r && names_cell m.now.setup.geometry.disks (pairs_of pairs.now) r e)) }
-    ensures room { OnOk result (length (P.desk plan.new).staged
-        ≤ length (P.desk plan.old).staged + 4 * count_in_row m.now.setup.geometry.disks (pairs_of pairs.now) r) }
-    ensures some { OnOk result (P.tells plan.new
-        → named_out_of m.now.out ≡ Some (parity_disk_of m.now.setup.geometry.disks r)
-        → length (P.desk plan.old).staged + count_in_row m.now.setup.geometry.disks (pairs_of pairs.now) r
-        ≤ length (P.desk plan.new).staged) }
-    ensures changes { OnOk result (P.changes plan.new
-        ≡ P.changes plan.old + count_in_row m.now.setup.geometry.disks (pairs_of pairs.now) r) }
-    ensures goes_on { OnOk result (P.serves plan.new m.now) }
-    ensures fails { IfErr result (λ lost. P.fails plan.new) }
-    ensures leads { P.leads plan.old plan.new }
+    ensures { Leaves P.Plan (WritesCells P.Plan m.now (pairs_of pairs.now) (pairs_of pairs.now) r
+        (count_in_row m.now.setup.geometry.disks (pairs_of pairs.now) r) old.old old.new plan.old plan.new) plan.old plan.new result }
 {
     for at in 0..pairs.count as usize {
         write_pair(plan, m, pairs, at, r, old)?;
@@ -211,18 +167,10 @@ fn write_row_in<P: Plan>(
     requires room { length (P.desk plan.old).staged
         + 10 * count_in_row m.now.setup.geometry.disks (pairs_of pairs.now) r ≤ 80 }
     requires bits { P.changes plan.old + 2 * count_in_row m.now.setup.geometry.disks (pairs_of pairs.now) r ≤ 16 }
-    ensures write { OnOk result (P.tells plan.new → StagesBlocks m.now (P.desk plan.old) (P.desk plan.new)
-        (λ c x. if home_row m.now.setup.geometry.disks c == r then last_of c x (pairs_of pairs.now) else x)) }
-    ensures bits { OnOk result (TurnsBits m.now (P.desk plan.old).dirty (P.desk plan.new).dirty
-        (λ q e. q == r && turns_cell_of m.now.setup.geometry.disks (pairs_of pairs.now) r e)) }
-    ensures few { OnOk result (length (P.desk plan.new).staged
-        ≤ length (P.desk plan.old).staged + 10 * count_in_row m.now.setup.geometry.disks (pairs_of pairs.now) r) }
-    ensures grows { OnOk result (P.tells plan.new → length (P.desk plan.old).staged + 1 ≤ length (P.desk plan.new).staged) }
-    ensures changes { OnOk result (P.changes plan.new
-        ≤ P.changes plan.old + 2 * count_in_row m.now.setup.geometry.disks (pairs_of pairs.now) r) }
-    ensures goes_on { OnOk result (P.serves plan.new m.now) }
-    ensures fails { IfErr result (λ lost. P.fails plan.new) }
-    ensures leads { P.leads plan.old plan.new }
+    ensures { Leaves P.Plan (WritesRow P.Plan m.now (count_in_row m.now.setup.geometry.disks (pairs_of pairs.now) r)
+        (λ c x. if home_row m.now.setup.geometry.disks c == r then last_of c x (pairs_of pairs.now) else x)
+        (λ q e. q == r && turns_cell_of m.now.setup.geometry.disks (pairs_of pairs.now) r e)
+        plan.old plan.new) plan.old plan.new result }
 {
     let p = parity_disk(&m.setup.geometry, r);
     let mut fixed = Block::zero();
@@ -246,18 +194,10 @@ fn write_row<P: Plan>(plan: &mut P, m: &Meta, pairs: &Pairs, r: Row) -> Result<(
     requires room { length (P.desk plan.old).staged
         + 10 * count_in_row m.now.setup.geometry.disks (pairs_of pairs.now) r ≤ 80 }
     requires bits { P.changes plan.old + 2 * count_in_row m.now.setup.geometry.disks (pairs_of pairs.now) r ≤ 16 }
-    ensures write { OnOk result (P.tells plan.new → StagesBlocks m.now (P.desk plan.old) (P.desk plan.new)
-        (λ c x. if home_row m.now.setup.geometry.disks c == r then last_of c x (pairs_of pairs.now) else x)) }
-    ensures bits { OnOk result (TurnsBits m.now (P.desk plan.old).dirty (P.desk plan.new).dirty
-        (λ q e. q == r && turns_cell_of m.now.setup.geometry.disks (pairs_of pairs.now) r e)) }
-    ensures few { OnOk result (length (P.desk plan.new).staged
-        ≤ length (P.desk plan.old).staged + 10 * count_in_row m.now.setup.geometry.disks (pairs_of pairs.now) r) }
-    ensures grows { OnOk result (P.tells plan.new → length (P.desk plan.old).staged + 1 ≤ length (P.desk plan.new).staged) }
-    ensures changes { OnOk result (P.changes plan.new
-        ≤ P.changes plan.old + 2 * count_in_row m.now.setup.geometry.disks (pairs_of pairs.now) r) }
-    ensures goes_on { OnOk result (P.serves plan.new m.now) }
-    ensures fails { IfErr result (λ lost. P.fails plan.new) }
-    ensures leads { P.leads plan.old plan.new }
+    ensures { Leaves P.Plan (WritesRow P.Plan m.now (count_in_row m.now.setup.geometry.disks (pairs_of pairs.now) r)
+        (λ c x. if home_row m.now.setup.geometry.disks c == r then last_of c x (pairs_of pairs.now) else x)
+        (λ q e. q == r && turns_cell_of m.now.setup.geometry.disks (pairs_of pairs.now) r e)
+        plan.old plan.new) plan.old plan.new result }
 {
     if has_soft(m) {
         return write_row_in(plan, m, pairs, r, &mut none_kept());
@@ -273,26 +213,15 @@ fn write_row_of<P: Plan>(plan: &mut P, m: &Meta, pairs: &Pairs, at: usize) -> Re
     requires blocks { All (λ (pair : ℕ × BlockType). pair.0 < m.now.setup.geometry.rows * (m.now.setup.geometry.disks - 1)) (pairs_of pairs.now) }
     requires room { length (P.desk plan.old).staged + 10 * count_of_new_row m.now.setup.geometry.disks pairs.now at ≤ 80 }
     requires bits { P.changes plan.old + 2 * count_of_new_row m.now.setup.geometry.disks pairs.now at ≤ 16 }
-    ensures write { OnOk result (P.tells plan.new → StagesBlocks m.now (P.desk plan.old) (P.desk plan.new)
-        (row_change m.now.setup.geometry.disks pairs.now at)) }
-    ensures bits { OnOk result (TurnsBits m.now (P.desk plan.old).dirty (P.desk plan.new).dirty
-        (turns_in_new_row m.now.setup.geometry.disks pairs.now at)) }
-    ensures few { OnOk result (length (P.desk plan.new).staged
-        ≤ length (P.desk plan.old).staged + 10 * count_of_new_row m.now.setup.geometry.disks pairs.now at) }
-    ensures grows { OnOk result (P.tells plan.new → 1 ≤ count_of_new_row m.now.setup.geometry.disks pairs.now at
-        → length (P.desk plan.old).staged + 1 ≤ length (P.desk plan.new).staged) }
-    ensures changes { OnOk result (P.changes plan.new
-        ≤ P.changes plan.old + 2 * count_of_new_row m.now.setup.geometry.disks pairs.now at) }
-    ensures goes_on { OnOk result (P.serves plan.new m.now) }
-    ensures fails { IfErr result (λ lost. P.fails plan.new) }
-    ensures leads { P.leads plan.old plan.new }
+    ensures { Leaves P.Plan (WritesRow P.Plan m.now (count_of_new_row m.now.setup.geometry.disks pairs.now at)
+        (row_change m.now.setup.geometry.disks pairs.now at) (turns_in_new_row m.now.setup.geometry.disks pairs.now at)
+        plan.old plan.new) plan.old plan.new result }
 {
     let (r, _d) = home(&m.setup.geometry, pairs.blocks[at]);
     if is_row_before(&m.setup.geometry, pairs, at, r) {
         return Ok(());
     }
-    write_row(plan, m, pairs, r)?;
-    Ok(())
+    write_row(plan, m, pairs, r)
 }
 
 /// Writes the blocks of these pairs in one plan, row by row: at most ten targets for each pair, and at

@@ -26,12 +26,12 @@ use Rattle.paraid_image.specs.Sides.{Batch, targets}
 use Rattle.paraid_txn.specs.declared.losses.Losses.{Losses}
 use Rattle.paraid_txn.specs.Commit.{gone_out}
 use Rattle.paraid_txn.specs.CommitPart.{CommitPart}
-use Rattle.paraid_txn.specs.Losses.{AreGoneSince, IsGoneSince, MayDo, StaySynced, StaySyncedBut, AreFailedOrWell, FollowsAnswer, AreTwoDown, IsWell, AreCommitCalls}
+use Rattle.paraid_txn.specs.Losses.{AreGoneSince, IsGoneSince, MayDo, StaySyncedBut, AreFailedOrWell, FollowsAnswer, AreTwoDown, IsWell, AreCommitCalls}
 use Rattle.paraid_txn.specs.Losses.MayDo.{absent, skipped}
 use Rattle.paraid_txn.specs.Ready.{IsLogReady}
 use Rattle.paraid_txn.specs.Batches.{names_disk}
 use Rattle.paraid_txn.specs.Uses.{EachCall, IsUnskippedLog, IsOn, IsThisCall, Uses, UsesLog, UsesTarget}
-use Rattle.paraid_txn.proofs.DownLemmas.{StaySyncedBut-both, AreOthersWell-none, AreOthersWell-then, AreTwoDown-later, AreCommitCalls-gone, AreCommitCalls-none, AreCommitCalls-present, AreCommitCalls-then}
+use Rattle.paraid_txn.proofs.DownLemmas.{AreOthersWell-none, AreOthersWell-then, AreTwoDown-later, AreCommitCalls-gone, AreCommitCalls-none, AreCommitCalls-present, AreCommitCalls-then}
 use Rattle.paraid_txn.proofs.ReadyLemmas.{log_stays_ready}
 use Rattle.paraid_txn.proofs.BatchesLemmas.{names_disk-named}
 use Rattle.paraid_txn.proofs.TargetsLemmas.{names_disk-below}
@@ -367,9 +367,3 @@ one_stays_synced may {old} {new} {disk} ok changes left d there unsynced = elim 
 pub CommitPart_by : {R A : Type 0} {g : Ghosts R} {uses : Call → Type 0} {a b : Losses} {r s : R} {result other : Result A Two} → result ≡ other
     → CommitPart g uses a b r s result → CommitPart g uses a b r s other
 CommitPart_by {g = g} {uses = uses} {a = a} {b = b} {r = r} {s = s} is part = subst (λ o. CommitPart g uses a b r s o) is part
-
--- no disk is left unsynced by two parts that each leave none so
-pub still_synced_then : {R A B : Type 0} {g : Ghosts R} {uses : Call → Type 0} {a b c : Losses} {r s t : R} {first : Result A Two} {second : Result B Two}
-    → CommitPart g uses a b r s first → CommitPart g uses b c s t second → StaySynced (g.slot r) (g.slot s) → StaySynced (g.slot s) (g.slot t) → StaySynced (g.slot r) (g.slot t)
-still_synced_then {g = g} {a = a} {b = b} {c = c} {r = r} {s = s} {t = t} first second one two =
-    StaySyncedBut-both (λ d. ⊥) a b c (g.slot r) (g.slot s) (g.slot t) first.lasts second.lasts one two

@@ -1,5 +1,5 @@
 -- One part of a commit after another, by what is kept in them whatever stops them.
-use Rattle.std.proofs.Common.{Option, Result, Ok, Err}
+use Rattle.std.proofs.Common.{Option, Result, Ok, Err, refl}
 use Rattle.std.specs.Prelude.{◌≡◌, IsErrAnd, OnOk}
 use Rattle.paraid_rack.specs.Disks.{Disks}
 use Rattle.paraid_rack.specs.Told.{Ran, CrashTriple}
@@ -17,6 +17,15 @@ on_ok (Err e) x = tt
 pub on_ok_then : {T E X Y : Type 0} (result : Result T E) → (X → Y) → OnOk result X → OnOk result Y
 on_ok_then (Ok it) is x = is x
 on_ok_then (Err e) is x = tt
+
+-- what follows where it ends well
+pub on_ok_as : {T E Y : Type 0} (result : Result T E) → ((it : T) → result ≡ Ok it → Y) → OnOk result Y
+on_ok_as (Ok it) is = is it refl
+on_ok_as (Err e) is = tt
+
+pub ok_at : {T E X : Type 0} {it : T} (result : Result T E) → result ≡ Ok it → OnOk result X → X
+ok_at (Ok other) is x = x
+ok_at {it = it} (Err e) is x = let z : Err e ≡ Ok it = is in cc
 
 -- a part that comes to its end whatever it answers
 pub crash_ran : {T E : Type 0} {P A B : Disks → Type 0} {old new : Option Trail} {result : Result T E} → ((s : Disks) → B s → P s) → Ran old new (CrashTriple P A B)

@@ -6,6 +6,7 @@ pub mod RanLemmas
 pub mod StoreLemmas
 pub mod DownLemmas
 pub mod CommitPartLemmas
+pub mod SyncedPartLemmas
 pub mod CrashSpecificationLemmas
 pub mod PutSyncedLemmas
 pub mod AloneLemmas

@@ -7,7 +7,7 @@ use Rattle.paraid_rack.specs.Disks.{is_present}
 use Rattle.paraid_rack.specs.Told.{Ran}
 use Rattle.paraid_image.specs.Lost.{AnswersLosses}
 use Rattle.paraid_txn.specs.declared.losses.Losses.{Losses}
-use Rattle.paraid_txn.specs.Losses.{AreGoneSince, AreOthersWell, AreTwoDown, AreCommitCalls}
+use Rattle.paraid_txn.specs.Losses.{AreGoneSince, AreOthersWell, AreTwoDown, AreCommitCalls, StaySynced}
 use Rattle.paraid_txn.specs.Uses.{EachCall, IsOn}
 
 -- A part whose calls are of one kind. Where it ends well no disk has failed but the one that is
@@ -20,3 +20,9 @@ pub record CommitPart {R A : Type 0} (g : Ghosts R) (uses : Call → Type 0) (fr
   pub on : (d : ℕ) → to.lost ≡ Some d → (from.lost ≡ Some d) ⊎ (IsOn uses d × (is_present (g.slot old d).power ≡ true))
   pub calls : Ran (g.told old) (g.told new) (EachCall uses)
   pub order : Ran (g.told old) (g.told new) (λ s cs. AnswersLosses from.down to.down result cs)
+
+-- A part at whose end no disk is left unsynced that was not so before. The rack keeps its slots.
+pub record SyncedPart {R A : Type 0} (g : Ghosts R) (uses : Call → Type 0) (from to : Losses) (old new : R) (result : Result A Two) : Type 0 where
+  pub slots : g.slot_count new ≡ g.slot_count old
+  pub part : CommitPart g uses from to old new result
+  pub still_synced : OnOk result (StaySynced (g.slot old) (g.slot new))

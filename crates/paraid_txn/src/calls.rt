@@ -1,12 +1,12 @@
 //! The calls that a commit makes of the rack: a disk that is skipped or absent gets none, the
 //! first loss is borne, and the second is too many.
-ghost use Rattle.std.specs.Prelude.{◌≡◌, ◌≢◌, ◌<◌, true, false, Some, Ok, OnOk, is_ok};
+ghost use Rattle.std.specs.Prelude.{◌≡◌, ◌≢◌, ◌<◌, true, false, Some, Ok, is_ok};
 ghost use Rattle.paraid_rack.specs.Trail.{Trail, now};
 ghost use Rattle.paraid_rack.specs.declared.call.Call.TheVariants.{Read, Sync, Write};
 ghost use Rattle.paraid_rack.specs.declared.call.Power.TheVariants.{Absent};
 ghost use Rattle.paraid_rack.specs.Disks.{is_present};
-ghost use Rattle.paraid_txn.specs.CommitPart.{CommitPart};
-ghost use Rattle.paraid_txn.specs.Losses.{StaySynced, StaySyncedBut, CanWrite, FollowsAnswer, IsSyncedAt, MayDo};
+ghost use Rattle.paraid_txn.specs.CommitPart.{CommitPart, SyncedPart};
+ghost use Rattle.paraid_txn.specs.Losses.{StaySyncedBut, CanWrite, FollowsAnswer, IsSyncedAt, MayDo};
 ghost use Rattle.paraid_txn.specs.PutSynced.{MayPutSynced};
 ghost use Rattle.paraid_txn.specs.Ready.{IsLogReady};
 ghost use Rattle.paraid_txn.specs.Uses.{IsThisCall, UsesLog};
@@ -65,8 +65,7 @@ pub fn put<R: Rack>(
         return Ok(());
     }
     let answer = rack.write(disk, place, block);
-    follow(losses, disk, answer)?;
-    Ok(())
+    follow(losses, disk, answer)
 }
 
 /// Makes the disk keep all that was written, unless it is skipped or absent.
@@ -90,8 +89,7 @@ pub fn sync_slot<R: Rack>(
         return Ok(());
     }
     let answer = rack.sync(disk);
-    follow(losses, disk, answer)?;
-    Ok(())
+    follow(losses, disk, answer)
 }
 
 /// Writes a block in the log of a log disk and makes the disk keep it, unless it is skipped or
@@ -108,15 +106,12 @@ pub fn put_synced<R: Rack>(
     requires log_disk { disk < 2 }
     requires in_log { place < 100 }
     requires log { IsLogReady skip (R.slot rack.old) }
-    ensures slots { R.slot_count rack.new ≡ R.slot_count rack.old }
     ensures does { MayPutSynced R.Rack skip disk place block.now rack.old rack.new result }
-    ensures part { CommitPart R.Rack (UsesLog skip) losses.old losses.new rack.old rack.new
+    ensures leaves { SyncedPart R.Rack (UsesLog skip) losses.old losses.new rack.old rack.new
         result }
-    ensures still_synced { OnOk result (StaySynced (R.slot rack.old) (R.slot rack.new)) }
 {
     put(rack, losses, skip, disk, place, block)?;
-    sync_slot(rack, losses, skip, disk)?; // before the next step
-    Ok(())
+    sync_slot(rack, losses, skip, disk) // before the next step
 }
 
 /// Reads a block, unless the disk is skipped or absent. It answers whether it was read.

@@ -28,7 +28,7 @@ ghost use Rattle.paraid_base.specs.declared.fault.Two.{Two as TwoType};
 ghost use Rattle.paraid_record.specs.declared.targets.Target.{Target as TargetType};
 ghost use Rattle.paraid_rack.specs.Disks.{Disks};
 ghost use Rattle.paraid_rack.specs.Told.{Ran};
-ghost use Rattle.paraid_txn.specs.CommitPart.{CommitPart};
+ghost use Rattle.paraid_txn.specs.CommitPart.{CommitPart, SyncedPart};
 ghost use Rattle.paraid_txn.specs.CrashSpecification.{CrashSpecification};
 ghost use Rattle.paraid_txn.specs.Losses.{AreGoneSince, StaySynced, StaySyncedBut, AreFailedOrWell, IsAlone, IsOnlyOut, IsSyncedAt, IsLostNow, IsOutOfCommit, OnlyLosesSlots, AreTwoDownBeside, IsWell};
 ghost use Rattle.paraid_txn.specs.Uses.{EachCall, Uses, UsesLog, UsesTarget};
@@ -111,10 +111,8 @@ pub fn write_log<R: Rack>(
     requires log_disk { disk < 2 }
     requires log { IsLogReady skip (R.slot rack.old) }
     requires few { length batch.now ≤ 96 }
-    ensures slots { R.slot_count rack.new ≡ R.slot_count rack.old }
-    ensures part { CommitPart R.Rack (UsesLog skip) losses.old losses.new rack.old rack.new
+    ensures leaves { SyncedPart R.Rack (UsesLog skip) losses.old losses.new rack.old rack.new
         result }
-    ensures still_synced { OnOk result (StaySynced (R.slot rack.old) (R.slot rack.new)) }
     ensures crash { (j : Job) → IsSpelled j → job_named j ≡ skip → j.batch ≡ batch.now
         → j.list ≡ list.now → j.spelled ≡ meta.now
         → CrashSpecification (HoldsEarly j) (LogStage j disk) (LogStage j (disk + 1))
@@ -123,8 +121,7 @@ pub fn write_log<R: Rack>(
     put(rack, losses, skip, disk, 2, meta)?;
     put(rack, losses, skip, disk, 3, list)?;
     put_blocks(rack, losses, skip, disk, batch)?;
-    sync_slot(rack, losses, skip, disk)?; // before its gate opens
-    Ok(())
+    sync_slot(rack, losses, skip, disk) // before its gate opens
 }
 
 // Step 3: the targets in place.
@@ -185,8 +182,7 @@ fn sync_target_slot<R: Rack>(
     if !batch.has_disk(disk) {
         return Ok(());
     }
-    sync_slot(rack, losses, skip, disk)?;
-    Ok(())
+    sync_slot(rack, losses, skip, disk)
 }
 
 // Step 3: each disk that has targets is synced, in ascending order.
@@ -229,18 +225,15 @@ fn write_logs<R: Rack>(
     requires exists { 2 ≤ R.slot_count rack.old }
     requires log { IsLogReady skip (R.slot rack.old) }
     requires few { length batch.now ≤ 96 }
-    ensures slots { R.slot_count rack.new ≡ R.slot_count rack.old }
-    ensures part { CommitPart R.Rack (UsesLog skip) losses.old losses.new rack.old rack.new
+    ensures leaves { SyncedPart R.Rack (UsesLog skip) losses.old losses.new rack.old rack.new
         result }
-    ensures still_synced { OnOk result (StaySynced (R.slot rack.old) (R.slot rack.new)) }
     ensures crash { (j : Job) → IsSpelled j → job_named j ≡ skip → j.batch ≡ batch.now
         → j.list ≡ list.now → j.spelled ≡ meta.now
         → CrashSpecification (HoldsEarly j) (LogStage j 0) (OpenStage j 0)
         (R.told rack.old) (R.told rack.new) result }
 {
     write_log(rack, losses, skip, 0, batch, list, meta)?;
-    write_log(rack, losses, skip, 1, batch, list, meta)?;
-    Ok(())
+    write_log(rack, losses, skip, 1, batch, list, meta)
 }
 
 // Step 2 on both log disks, on one of them first.
@@ -253,18 +246,15 @@ fn open_gates<R: Rack>(
     requires exists { 2 ≤ R.slot_count rack.old }
     requires log_disk { first < 2 }
     requires log { IsLogReady skip (R.slot rack.old) }
-    ensures slots { R.slot_count rack.new ≡ R.slot_count rack.old }
-    ensures part { CommitPart R.Rack (UsesLog skip) losses.old losses.new rack.old rack.new
+    ensures leaves { SyncedPart R.Rack (UsesLog skip) losses.old losses.new rack.old rack.new
         result }
-    ensures still_synced { OnOk result (StaySynced (R.slot rack.old) (R.slot rack.new)) }
     ensures crash { (j : Job) → IsSpelled j → job_named j ≡ skip → j.first ≡ first
         → CrashSpecification (HoldsEarly j) (OpenStage j 0) (LayIn j 0)
         (R.told rack.old) (R.told rack.new) result }
 {
     let opened = gate(true);
     put_synced(rack, losses, skip, first, 0, &opened)?;
-    put_synced(rack, losses, skip, 1 - first, 0, &opened)?; // before a target is touched
-    Ok(())
+    put_synced(rack, losses, skip, 1 - first, 0, &opened) // before a target is touched
 }
 
 // Step 3.
@@ -281,17 +271,14 @@ pub fn lay_all<R: Rack>(
     requires past_log { All (λ (t : TargetType). 100 ≤ t.place) (targets batch.now) }
     requires below { All (λ (t : TargetType). t.disk < disks) (targets batch.now) }
     requires few { length batch.now ≤ 96 }
-    ensures slots { R.slot_count rack.new ≡ R.slot_count rack.old }
-    ensures part { CommitPart R.Rack (UsesTarget skip batch.now) losses.old losses.new rack.old rack.new
+    ensures leaves { SyncedPart R.Rack (UsesTarget skip batch.now) losses.old losses.new rack.old rack.new
         result }
-    ensures still_synced { OnOk result (StaySynced (R.slot rack.old) (R.slot rack.new)) }
     ensures crash { (j : Job) → IsSpelled j → job_gone j ≡ skip → j.batch ≡ batch.now
         → CrashSpecification (HoldsLate j) (LayIn j 0) (MarkStage j 0)
         (R.told rack.old) (R.told rack.new) result }
 {
     lay(rack, losses, skip, batch)?;
-    sync_target_slots(rack, losses, skip, batch, disks)?;
-    Ok(())
+    sync_target_slots(rack, losses, skip, batch, disks)
 }
 
 // Steps 4 and 5 on both log disks.
@@ -303,10 +290,8 @@ pub fn finish<R: Rack>(
 ) -> Result<(), Two>
     requires exists { 2 ≤ R.slot_count rack.old }
     requires log { IsLogReady skip (R.slot rack.old) }
-    ensures slots { R.slot_count rack.new ≡ R.slot_count rack.old }
-    ensures part { CommitPart R.Rack (UsesLog skip) losses.old losses.new rack.old rack.new
+    ensures leaves { SyncedPart R.Rack (UsesLog skip) losses.old losses.new rack.old rack.new
         result }
-    ensures still_synced { OnOk result (StaySynced (R.slot rack.old) (R.slot rack.new)) }
     ensures crash { (j : Job) → IsSpelled j → job_named j ≡ skip → j.spelled ≡ meta.now
         → CrashSpecification (HoldsLate j) (MarkStage j 0) (CloseStage j 2)
         (R.told rack.old) (R.told rack.new) result }
@@ -315,8 +300,7 @@ pub fn finish<R: Rack>(
     put_synced(rack, losses, skip, 1, 1, meta)?; // before a gate closes
     let closed = gate(false);
     put_synced(rack, losses, skip, 0, 0, &closed)?;
-    put_synced(rack, losses, skip, 1, 0, &closed)?;
-    Ok(())
+    put_synced(rack, losses, skip, 1, 0, &closed)
 }
 
 // The five steps.
@@ -335,10 +319,8 @@ fn run<R: Rack>(
     requires ready { AreTargetsReady (gone_of meta.now.out) (R.slot_count rack.old)
         (R.slot rack.old) (targets batch.now) }
     requires in_range { AreTargets meta.now.setup.geometry (targets batch.now) }
-    ensures slots { R.slot_count rack.new ≡ R.slot_count rack.old }
-    ensures part { CommitPart R.Rack (Uses meta.now batch.now) losses.old losses.new rack.old rack.new
+    ensures leaves { SyncedPart R.Rack (Uses meta.now batch.now) losses.old losses.new rack.old rack.new
         result }
-    ensures still_synced { OnOk result (StaySynced (R.slot rack.old) (R.slot rack.new)) }
     ensures crash { (start : Disks)
         → IsSpelled (job start meta.now batch.now spelled.now list.now first)
         → CrashSpecification (HoldsWhole (job start meta.now batch.now spelled.now list.now first))
@@ -356,8 +338,7 @@ fn run<R: Rack>(
         batch,
         meta.setup.geometry.disks,
     )?;
-    finish(rack, losses, named, spelled)?;
-    Ok(())
+    finish(rack, losses, named, spelled)
 }
 
 // The log disk whose gate opens first: one that comes in again, by who was named out and who is.

@@ -13,7 +13,7 @@ ghost use Rattle.std.specs.Prelude.{◌≡◌, ◌≢◌, ◌-◌, ◌<◌, ◌�
 ghost use Rattle.paraid_rack.specs.Told.{Ran};
 ghost use Rattle.paraid_record.specs.Targets.{AreTargets};
 ghost use Rattle.paraid_txn.specs.Commit.{gone_out as gone_of};
-ghost use Rattle.paraid_txn.specs.CommitPart.{CommitPart};
+ghost use Rattle.paraid_txn.specs.CommitPart.{SyncedPart};
 ghost use Rattle.paraid_txn.specs.CrashSpecification.{CrashSpecification};
 ghost use Rattle.paraid_txn.specs.Losses.{AreGoneSince, StaySynced, AreFailedOrWell, IsOneOut, IsOutOfCommit, OnlyLosesSlots, AreTwoDownBeside};
 ghost use Rattle.paraid_txn.specs.Uses.{EachCall, Uses, UsesLog};
@@ -54,10 +54,8 @@ fn catch_up<R: Rack>(
     requires log_disk { side < 2 }
     requires log { IsLogReady skip (R.slot rack.old) }
     requires few { length batch.now ≤ 96 }
-    ensures slots { R.slot_count rack.new ≡ R.slot_count rack.old }
-    ensures part { CommitPart R.Rack (UsesLog skip) losses.old losses.new rack.old rack.new
+    ensures leaves { SyncedPart R.Rack (UsesLog skip) losses.old losses.new rack.old rack.new
         result }
-    ensures still_synced { OnOk result (StaySynced (R.slot rack.old) (R.slot rack.new)) }
     ensures crash { (j : Job) → IsSpelled j → job_named j ≡ skip → j.batch ≡ batch.now
         → j.list ≡ list.now → j.spelled ≡ meta.now → LeadsResume j side
         → CrashSpecification (HoldsThroughResume j side) (AreDisksSame j) (LayIn j 0)
@@ -74,8 +72,7 @@ fn catch_up<R: Rack>(
     }
     write_log(rack, losses, Some(side), other, batch, list, meta)?;
     let opened = gate(true);
-    put_synced(rack, losses, Some(side), other, 0, &opened)?;
-    Ok(())
+    put_synced(rack, losses, Some(side), other, 0, &opened)
 }
 
 // The log disk that stands is open: the commit is ended.
@@ -94,10 +91,8 @@ fn resume_open<R: Rack>(
     requires ready { AreTargetsReady (gone_of meta.now.out) (R.slot_count rack.old)
         (R.slot rack.old) (targets batch.now) }
     requires in_range { AreTargets meta.now.setup.geometry (targets batch.now) }
-    ensures slots { R.slot_count rack.new ≡ R.slot_count rack.old }
-    ensures part { CommitPart R.Rack (Uses meta.now batch.now) losses.old losses.new rack.old rack.new
+    ensures leaves { SyncedPart R.Rack (Uses meta.now batch.now) losses.old losses.new rack.old rack.new
         result }
-    ensures still_synced { OnOk result (StaySynced (R.slot rack.old) (R.slot rack.new)) }
     ensures crash { (j : Job) → IsSpelled j → job_named j ≡ named_of meta.now.out
         → job_gone j ≡ gone_of meta.now.out → j.batch ≡ batch.now → j.list ≡ list.now
         → j.spelled ≡ spelled.now → LeadsResume j side
@@ -113,8 +108,7 @@ fn resume_open<R: Rack>(
         batch,
         meta.setup.geometry.disks,
     )?;
-    finish(rack, losses, named, spelled)?;
-    Ok(())
+    finish(rack, losses, named, spelled)
 }
 
 // The meta is written to a log disk whose gate is open, and the gate is closed.
@@ -128,10 +122,8 @@ fn shut<R: Rack>(
     requires exists { disk < R.slot_count rack.old }
     requires log_disk { disk < 2 }
     requires log { IsLogReady skip (R.slot rack.old) }
-    ensures slots { R.slot_count rack.new ≡ R.slot_count rack.old }
-    ensures part { CommitPart R.Rack (UsesLog skip) losses.old losses.new rack.old rack.new
+    ensures leaves { SyncedPart R.Rack (UsesLog skip) losses.old losses.new rack.old rack.new
         result }
-    ensures still_synced { OnOk result (StaySynced (R.slot rack.old) (R.slot rack.new)) }
     ensures crash { (j : Job) → IsSpelled j → job_named j ≡ skip → j.spelled ≡ meta.now
         → job_named j ≢ Some disk → is_open (j.start.block disk 0) ≡ true
         → CrashSpecification (HoldsThroughShut j disk) (AreDisksSame j) (ShutSynced j disk)
@@ -139,8 +131,7 @@ fn shut<R: Rack>(
 {
     put_synced(rack, losses, skip, disk, 1, meta)?; // before its gate closes
     let closed = gate(false);
-    put_synced(rack, losses, skip, disk, 0, &closed)?;
-    Ok(())
+    put_synced(rack, losses, skip, disk, 0, &closed)
 }
 
 // The log disk that stands is closed: the other one is closed too, if it is live and open.
@@ -154,10 +145,8 @@ fn resume_closed<R: Rack>(
     requires exists { 2 ≤ R.slot_count rack.old }
     requires log_disk { side < 2 }
     requires log { IsLogReady skip (R.slot rack.old) }
-    ensures slots { R.slot_count rack.new ≡ R.slot_count rack.old }
-    ensures part { CommitPart R.Rack (UsesLog skip) losses.old losses.new rack.old rack.new
+    ensures leaves { SyncedPart R.Rack (UsesLog skip) losses.old losses.new rack.old rack.new
         result }
-    ensures still_synced { OnOk result (StaySynced (R.slot rack.old) (R.slot rack.new)) }
     ensures crash { (j : Job) → IsSpelled j → job_named j ≡ skip → j.spelled ≡ meta.now
         → CrashSpecification (HoldsThroughShut j (other_log side)) (AreDisksSame j) (ShutEnd j (other_log side))
         (R.told rack.old) (R.told rack.new) result }
@@ -171,8 +160,7 @@ fn resume_closed<R: Rack>(
     if !opens(&found) {
         return Ok(());
     }
-    shut(rack, losses, skip, other, meta)?;
-    Ok(())
+    shut(rack, losses, skip, other, meta)
 }
 
 // Either.
@@ -186,10 +174,8 @@ fn end_commit<R: Rack>(
 ) -> Result<(), Two>
     requires { CanResume (R.slot_count rack.old) (R.slot rack.old) side gate_open batch.now
         meta.now }
-    ensures slots { R.slot_count rack.new ≡ R.slot_count rack.old }
-    ensures part { CommitPart R.Rack (Uses meta.now batch.now) losses.old losses.new rack.old
+    ensures leaves { SyncedPart R.Rack (Uses meta.now batch.now) losses.old losses.new rack.old
         rack.new result }
-    ensures still_synced { OnOk result (StaySynced (R.slot rack.old) (R.slot rack.new)) }
     ensures moments { StandsWhileResumed (R.told rack.old) (R.told rack.new) side
         (log_state gate_open meta.now batch.now) }
     ensures done { OnOk result (EndsAsCommitted (R.told rack.old) (R.told rack.new) side
@@ -200,11 +186,9 @@ fn end_commit<R: Rack>(
     let list = spell_targets(batch);
     let spelled = spell_meta(meta);
     if gate_open {
-        resume_open(rack, losses, side, meta, batch, &list, &spelled)?;
-        return Ok(());
+        return resume_open(rack, losses, side, meta, batch, &list, &spelled);
     }
-    resume_closed(rack, losses, meta.out.named(), side, &spelled)?;
-    Ok(())
+    resume_closed(rack, losses, meta.out.named(), side, &spelled)
 }
 
 /// Two disks are down, so that an interrupted commit was not ended.

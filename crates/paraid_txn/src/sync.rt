@@ -32,8 +32,7 @@ fn sync_one<R: Rack>(
     if rack.power(disk) != Power::Spinning {
         return Ok(());
     }
-    sync_slot(rack, losses, skip, disk)?;
-    Ok(())
+    sync_slot(rack, losses, skip, disk)
 }
 
 // Each of the first disks, in ascending order.
@@ -90,7 +89,6 @@ impl<R: Rack> Store<R> {
             down: out_first(absent, self.named, None),
             lost: None,
         };
-        sync_each(&mut self.rack, &mut losses, skip, self.disks)?;
-        Ok(())
+        sync_each(&mut self.rack, &mut losses, skip, self.disks)
     }
 }

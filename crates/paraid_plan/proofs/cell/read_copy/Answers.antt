@@ -1,4 +1,5 @@
-use Rattle.std.proofs.Common.{◌≡◌, ◌<◌, ◌≤◌, ◌∙◌, ℕ, None, Some, arith, sym, subst}
+use Rattle.paraid_plan.proofs.LeavesLemmas.{failed, stays_none}
+use Rattle.std.proofs.Common.{◌≡◌, ◌<◌, ◌≤◌, ◌∙◌, ℕ, None, Some, arith, sym, subst, rules}
 use Rattle.paraid_base.specs.Regions.{IsGear}
 use Rattle.paraid_record.specs.Codes.{phase_to}
 use Rattle.paraid_plan.proofs.FilledCopyLemmas.{copy_alone, copy_powered, filled_low}
@@ -76,20 +77,27 @@ pub stored-requires-clause-past_log : goal.stored-requires-clause-past_log
 stored-requires-clause-past_log g c =
     let after = c.soft_place.ensures.after_hard in omega (arith, after)
 
-pub returns-then-not-filled-clause-leads : goal.returns-then-not-filled-clause-leads
-returns-then-not-filled-clause-leads g c =
-    g.met.P.Plan.stays c.args.plan.now
+pub returns-then-not-filled : goal.returns-then-not-filled
+returns-then-not-filled g c = record {
+  ok = search rules;
+  reads = record { ok = stays_none g.P.Plan c.args.m.now c.args.plan.now c.requires.serves; fails = tt; leads = g.met.P.Plan.stays c.args.plan.now };
+}
 
-pub returns-in_err-stored-clause-leads : goal.returns-in_err-stored-clause-leads
-returns-in_err-stored-clause-leads g c =
-    c.stored.ensures.leads
+pub returns-in_err-stored : goal.returns-in_err-stored
+returns-in_err-stored g c = record {
+  ok = search rules;
+  reads = failed g.P.Plan _ _ _ _ c.from_residual.ensures.1 c.in_err-stored.ensures.fails c.stored.ensures.leads;
+}
 
-pub returns-clause-leads : goal.returns-clause-leads
-returns-clause-leads g c =
-    c.stored.ensures.leads
-
-pub returns-clause-ok : goal.returns-clause-ok
-returns-clause-ok g c tells filled =
-    copy_read (g.P.Plan.desk c.args.plan.now).block c.args.m.now.setup.geometry (phase_to c.args.m.now.phase) c.args.r c.args.d c.to-to.result c.soft_of-s.result.0 c.soft_parity-parity.result c.soft_place.result
-    c.stored.new.into c.xor_into.new.to c.xor_into-2.new.to c.args.old.now c.args.new.now
-    c.to-to.ensures c.soft_of-s.ensures.stripe c.soft_parity-parity.ensures.value c.soft_place.ensures.value (c.in_ok-stored.ensures.ok tells) c.xor_into.ensures c.xor_into-2.ensures
+pub returns : goal.returns
+returns g c = record {
+  ok = λ tells filled.
+      copy_read (g.P.Plan.desk c.args.plan.now).block c.args.m.now.setup.geometry (phase_to c.args.m.now.phase) c.args.r c.args.d c.to-to.result c.soft_of-s.result.0 c.soft_parity-parity.result c.soft_place.result
+      c.stored.new.into c.xor_into.new.to c.xor_into-2.new.to c.args.old.now c.args.new.now
+      c.to-to.ensures c.soft_of-s.ensures.stripe c.soft_parity-parity.ensures.value c.soft_place.ensures.value (c.in_ok-stored.ensures.ok tells) c.xor_into.ensures c.xor_into-2.ensures;
+  reads = record {
+    ok = record { same = c.in_ok-stored.ensures.same; bits = c.in_ok-stored.ensures.bits; staged = c.in_ok-stored.ensures.staged; changes = c.in_ok-stored.ensures.changes; goes_on = c.in_ok-stored.ensures.goes_on };
+    fails = tt;
+    leads = c.in_ok-stored.ensures.leads;
+  };
+}

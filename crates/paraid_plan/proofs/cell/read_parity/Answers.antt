@@ -1,4 +1,5 @@
-use Rattle.std.proofs.Common.{arith}
+use Rattle.paraid_plan.proofs.LeavesLemmas.{failed, stays_none}
+use Rattle.std.proofs.Common.{arith, rules}
 use Rattle.paraid_plan.proofs.cell.read_parity.Goals as goal
 use Rattle.paraid_plan.proofs.RoomLemmas.{parity_read, unit_small}
 use Rattle.paraid_plan.specs.Desk.{sees}
@@ -28,19 +29,26 @@ pub stripe-requires-clause-disk : goal.stripe-requires-clause-disk
 stripe-requires-clause-disk g c =
     c.soft_parity-parity.ensures.below
 
-pub returns-then-not-is_written-clause-leads : goal.returns-then-not-is_written-clause-leads
-returns-then-not-is_written-clause-leads g c =
-    g.met.P.Plan.stays c.args.plan.now
+pub returns-then-not-is_written : goal.returns-then-not-is_written
+returns-then-not-is_written g c = record {
+  ok = search rules;
+  reads = record { ok = stays_none g.P.Plan c.args.m.now c.args.plan.now c.requires.serves; fails = tt; leads = g.met.P.Plan.stays c.args.plan.now };
+}
 
-pub returns-in_err-stripe-clause-leads : goal.returns-in_err-stripe-clause-leads
-returns-in_err-stripe-clause-leads g c =
-    c.stripe.ensures.leads
+pub returns-in_err-stripe : goal.returns-in_err-stripe
+returns-in_err-stripe g c = record {
+  ok = search rules;
+  reads = failed g.P.Plan _ _ _ _ c.from_residual.ensures.1 c.in_err-stripe.ensures.fails c.stripe.ensures.leads;
+}
 
-pub returns-clause-leads : goal.returns-clause-leads
-returns-clause-leads g c =
-    c.stripe.ensures.leads
-
-pub returns-clause-ok : goal.returns-clause-ok
-returns-clause-ok g c tells written =
-    parity_read (sees c.args.m.now (g.P.Plan.desk c.args.plan.now)) _ c.soft_of-s.result.0 c.soft_parity-parity.result c.stripe.new.into c.xor_into.new.to c.xor_into-2.new.to c.args.old.now c.args.new.now
-    c.soft_of-s.ensures.stripe c.soft_parity-parity.ensures.value (c.in_ok-stripe.ensures.ok tells) c.xor_into.ensures c.xor_into-2.ensures
+pub returns : goal.returns
+returns g c = record {
+  ok = λ tells written.
+      parity_read (sees c.args.m.now (g.P.Plan.desk c.args.plan.now)) _ c.soft_of-s.result.0 c.soft_parity-parity.result c.stripe.new.into c.xor_into.new.to c.xor_into-2.new.to c.args.old.now c.args.new.now
+      c.soft_of-s.ensures.stripe c.soft_parity-parity.ensures.value (c.in_ok-stripe.ensures.ok tells) c.xor_into.ensures c.xor_into-2.ensures;
+  reads = record {
+    ok = record { same = c.in_ok-stripe.ensures.same; bits = c.in_ok-stripe.ensures.bits; staged = c.in_ok-stripe.ensures.staged; changes = c.in_ok-stripe.ensures.changes; goes_on = c.in_ok-stripe.ensures.goes_on };
+    fails = tt;
+    leads = c.in_ok-stripe.ensures.leads;
+  };
+}

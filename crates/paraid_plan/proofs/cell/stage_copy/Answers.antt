@@ -1,18 +1,9 @@
-use Rattle.std.proofs.Common.{◌∙◌, ℕ, ◌≤◌, arith, subst, sym}
+use Rattle.std.proofs.Common.{◌∙◌, ℕ, ◌≤◌, arith, subst, sym, rules}
 use Rattle.paraid_base.specs.Regions.{IsGear}
 use Rattle.paraid_plan.proofs.FilledCopyLemmas.{filled_low}
 use Rattle.paraid_plan.proofs.RoomLemmas.{filled_gear, filled_parked}
 use Rattle.paraid_plan.proofs.cell.stage_copy.Goals as goal
 use Rattle.paraid_plan.proofs.DeskLemmas.{copy_both, copy_none}
-
-pub returns-then-not-filled-clause-desk : goal.returns-then-not-filled-clause-desk
-returns-then-not-filled-clause-desk g c = copy_none c.args.m.now _ c.args.filled c.args.r c.args.d c.args.new.now c.args.parity_block.now c.if-not-filled.true
-
-pub returns-clause-desk : goal.returns-clause-desk
-returns-clause-desk g c =
-    copy_both c.args.m.now _ _ _ c.args.filled c.args.r c.args.d _ _ _ _ _ c.args.new.now c.args.parity_block.now c.if-not-filled.false
-    c.to-to.ensures c.soft_of-s.ensures.stripe c.soft_of-s.ensures.disk c.soft_place-place.ensures.value c.soft_parity-parity.ensures.value
-    c.stage_if.ensures.desk c.stage_if-2.ensures.desk
 
 pub soft_of-s-requires-clause-gear : goal.soft_of-s-requires-clause-gear
 soft_of-s-requires-clause-gear g c =
@@ -60,17 +51,23 @@ stage_if-requires g c = let room = c.requires.room in omega (arith, room)
 pub stage_if-requires-2 : goal.stage_if-requires-2
 stage_if-requires-2 g c = let room = c.requires.room in let one = c.stage_if.ensures.room in omega (arith, room, one)
 
-pub returns-then-not-filled-clause-leads : goal.returns-then-not-filled-clause-leads
-returns-then-not-filled-clause-leads g c = g.met.P.Plan.stays c.args.plan.now
+pub returns-then-not-filled : goal.returns-then-not-filled
+returns-then-not-filled g c = record {
+  desk = copy_none c.args.m.now _ c.args.filled c.args.r c.args.d c.args.new.now c.args.parity_block.now c.if-not-filled.true;
+  room = search rules;
+  changes = search rules;
+  goes_on = search rules;
+  leads = g.met.P.Plan.stays c.args.plan.now;
+}
 
-pub returns-clause-room : goal.returns-clause-room
-returns-clause-room g c = let one = c.stage_if.ensures.room in let two = c.stage_if-2.ensures.room in omega (arith, one, two)
-
-pub returns-clause-changes : goal.returns-clause-changes
-returns-clause-changes g c = c.stage_if-2.ensures.changes ∙ c.stage_if.ensures.changes
-
-pub returns-clause-goes_on : goal.returns-clause-goes_on
-returns-clause-goes_on g c n serves = c.stage_if-2.ensures.goes_on n (c.stage_if.ensures.goes_on n serves)
-
-pub returns-clause-leads : goal.returns-clause-leads
-returns-clause-leads g c = g.met.P.Plan.then _ _ _ c.stage_if.ensures.leads c.stage_if-2.ensures.leads
+pub returns : goal.returns
+returns g c = record {
+  desk =
+      copy_both c.args.m.now _ _ _ c.args.filled c.args.r c.args.d _ _ _ _ _ c.args.new.now c.args.parity_block.now c.if-not-filled.false
+      c.to-to.ensures c.soft_of-s.ensures.stripe c.soft_of-s.ensures.disk c.soft_place-place.ensures.value c.soft_parity-parity.ensures.value
+      c.stage_if.ensures.desk c.stage_if-2.ensures.desk;
+  room = let one = c.stage_if.ensures.room in let two = c.stage_if-2.ensures.room in omega (arith, one, two);
+  changes = c.stage_if-2.ensures.changes ∙ c.stage_if.ensures.changes;
+  goes_on = λ n serves. c.stage_if-2.ensures.goes_on n (c.stage_if.ensures.goes_on n serves);
+  leads = g.met.P.Plan.then _ _ _ c.stage_if.ensures.leads c.stage_if-2.ensures.leads;
+}

@@ -3,21 +3,8 @@ use Rattle.paraid_plan.proofs.cell.stage_place.Goals as goal
 use Rattle.paraid_plan.proofs.DeskLemmas.{place_hard, place_soft}
 use Rattle.paraid_plan.proofs.RoomLemmas.{unit_small}
 
-pub returns-then-hard-clause-desk : goal.returns-then-hard-clause-desk
-returns-then-hard-clause-desk g c =
-    place_hard c.args.m.now _ _ c.args.hard _ c.args.r c.args.d _ c.args.new.now c.args.parity_block.now c.if-hard.true c.is_written.ensures c.hard_place.ensures.value c.stage_if.ensures.desk
-
-pub returns-clause-desk : goal.returns-clause-desk
-returns-clause-desk g c =
-    place_soft c.args.m.now _ _ _ c.args.hard _ _ c.args.r c.args.d _ _ _ _ c.args.new.now c.args.parity_block.now c.if-hard.false
-    c.soft_of-s.ensures.stripe c.soft_of-s.ensures.disk c.soft_place-place.ensures.value c.soft_parity-parity.ensures.value
-    c.is_written-2.ensures c.is_written-3.ensures c.stage_if-2.ensures.desk c.stage_if-3.ensures.desk
-
 pub stage_if-requires : goal.stage_if-requires
 stage_if-requires g c = let room = c.requires.room in omega (arith, room)
-
-pub returns-then-hard-clause-room : goal.returns-then-hard-clause-room
-returns-then-hard-clause-room g c = let one = c.stage_if.ensures.room in omega (arith, one)
 
 pub soft_of-s-requires-clause-gear : goal.soft_of-s-requires-clause-gear
 soft_of-s-requires-clause-gear g c = c.requires.in_range.gear
@@ -53,26 +40,26 @@ overflow_add-g-2 g c =
 pub stage_if-requires-3 : goal.stage_if-requires-3
 stage_if-requires-3 g c = let room = c.requires.room in let one = c.stage_if-2.ensures.room in omega (arith, room, one)
 
-pub returns-clause-room : goal.returns-clause-room
-returns-clause-room g c = let one = c.stage_if-2.ensures.room in let two = c.stage_if-3.ensures.room in omega (arith, one, two)
+pub returns : goal.returns
+returns g c = record {
+  desk =
+      place_soft c.args.m.now _ _ _ c.args.hard _ _ c.args.r c.args.d _ _ _ _ c.args.new.now c.args.parity_block.now c.if-hard.false
+      c.soft_of-s.ensures.stripe c.soft_of-s.ensures.disk c.soft_place-place.ensures.value c.soft_parity-parity.ensures.value
+      c.is_written-2.ensures c.is_written-3.ensures c.stage_if-2.ensures.desk c.stage_if-3.ensures.desk;
+  room = let one = c.stage_if-2.ensures.room in let two = c.stage_if-3.ensures.room in omega (arith, one, two);
+  changes = c.stage_if-3.ensures.changes ∙ c.stage_if-2.ensures.changes;
+  goes_on = λ n serves. c.stage_if-3.ensures.goes_on n (c.stage_if-2.ensures.goes_on n serves);
+  leads = g.met.P.Plan.then _ _ _ c.stage_if-2.ensures.leads c.stage_if-3.ensures.leads;
+}
 
-pub returns-clause-changes : goal.returns-clause-changes
-returns-clause-changes g c = c.stage_if-3.ensures.changes ∙ c.stage_if-2.ensures.changes
-
-pub returns-clause-goes_on : goal.returns-clause-goes_on
-returns-clause-goes_on g c n serves = c.stage_if-3.ensures.goes_on n (c.stage_if-2.ensures.goes_on n serves)
-
-pub returns-clause-leads : goal.returns-clause-leads
-returns-clause-leads g c = g.met.P.Plan.then _ _ _ c.stage_if-2.ensures.leads c.stage_if-3.ensures.leads
-
-pub returns-then-hard-clause-changes : goal.returns-then-hard-clause-changes
-returns-then-hard-clause-changes g c = c.stage_if.ensures.changes
-
-pub returns-then-hard-clause-goes_on : goal.returns-then-hard-clause-goes_on
-returns-then-hard-clause-goes_on g c = c.stage_if.ensures.goes_on
-
-pub returns-then-hard-clause-leads : goal.returns-then-hard-clause-leads
-returns-then-hard-clause-leads g c = c.stage_if.ensures.leads
+pub returns-then-hard : goal.returns-then-hard
+returns-then-hard g c = record {
+  desk = place_hard c.args.m.now _ _ c.args.hard _ c.args.r c.args.d _ c.args.new.now c.args.parity_block.now c.if-hard.true c.is_written.ensures c.hard_place.ensures.value c.stage_if.ensures.desk;
+  room = let one = c.stage_if.ensures.room in omega (arith, one);
+  changes = c.stage_if.ensures.changes;
+  goes_on = c.stage_if.ensures.goes_on;
+  leads = c.stage_if.ensures.leads;
+}
 
 pub soft_of-s-requires-clause-disk_in : goal.soft_of-s-requires-clause-disk_in
 soft_of-s-requires-clause-disk_in g c = c.requires.disk

@@ -1,3 +1,4 @@
+use Rattle.paraid_plan.proofs.LeavesLemmas.{failed, not_ok, stays_none}
 use Rattle.std.proofs.Common.{◌∙◌, refl, subst, sym}
 use Rattle.std.proofs.lemmas.Bool.{true≢false}
 use Rattle.paraid_base.specs.Pairs.{pairs_of}
@@ -9,43 +10,33 @@ use Rattle.paraid_plan.proofs.PairLemmas.{gives_few}
 use Rattle.paraid_plan.proofs.PartLemmas.{both_second, both_so, part_left, part_not, wanted_old}
 use Rattle.paraid_plan.proofs.read.read_cell.Goals as goal
 
-pub returns-then-not-wanted-clause-here : goal.returns-then-not-wanted-clause-here
-returns-then-not-wanted-clause-here g c tells changed old =
-    absurd (true≢false (sym (c.is_wanted-wanted.ensures ∙ wanted_old c.args.needed c.is_part-part.result c.is_changed-changed.result c.needs_old-depends.result ((c.is_changed-changed.ensures c.args.pairs.now.bytes c.args.m.now.setup.geometry.disks (pairs_of c.args.pairs.now) c.args.r c.requires.disk c.requires.parity c.requires.given) ∙ changed) (c.needs_old-depends.ensures ∙ old)) ∙ c.if-not-wanted.true))
+pub returns-then-not-wanted : goal.returns-then-not-wanted
+returns-then-not-wanted g c =
+    record {
+      here = λ tells changed old. absurd (true≢false (sym (c.is_wanted-wanted.ensures ∙ wanted_old c.args.needed c.is_part-part.result c.is_changed-changed.result c.needs_old-depends.result ((c.is_changed-changed.ensures c.args.pairs.now.bytes c.args.m.now.setup.geometry.disks (pairs_of c.args.pairs.now) c.args.r c.requires.disk c.requires.parity c.requires.given) ∙ changed) (c.needs_old-depends.ensures ∙ old)) ∙ c.if-not-wanted.true));
+      others = λ x b off kept. kept;
+      sum = (λ tells needed. part_left c.args.m.now.setup.geometry.disks (pairs_of c.args.pairs.now) c.args.r (value (sees c.args.m.now (g.P.Plan.desk c.args.plan.now)) c.args.r) c.args.anew c.is_changed-changed.result c.args.d _ _ (c.is_changed-changed.ensures c.args.pairs.now.bytes c.args.m.now.setup.geometry.disks (pairs_of c.args.pairs.now) c.args.r c.requires.disk c.requires.parity c.requires.given)
+          (sym c.is_part-part.ensures ∙ part_not c.args.needed c.is_part-part.result c.is_changed-changed.result c.needs_old-depends.result needed (sym c.is_wanted-wanted.ensures ∙ c.if-not-wanted.true)) (c.add_given.ensures c.args.m.now.setup.geometry.disks c.args.r c.requires.disk c.requires.given));
+      kept = refl;
+      reads = record { ok = stays_none g.P.Plan c.args.m.now c.args.plan.now c.requires.serves; fails = tt; leads = g.met.P.Plan.stays c.args.plan.now };
+    }
 
-pub returns-then-not-wanted-clause-sum : goal.returns-then-not-wanted-clause-sum
-returns-then-not-wanted-clause-sum g c tells needed =
-    part_left c.args.m.now.setup.geometry.disks (pairs_of c.args.pairs.now) c.args.r (value (sees c.args.m.now (g.P.Plan.desk c.args.plan.now)) c.args.r) c.args.anew c.is_changed-changed.result c.args.d _ _ (c.is_changed-changed.ensures c.args.pairs.now.bytes c.args.m.now.setup.geometry.disks (pairs_of c.args.pairs.now) c.args.r c.requires.disk c.requires.parity c.requires.given)
-    (sym c.is_part-part.ensures ∙ part_not c.args.needed c.is_part-part.result c.is_changed-changed.result c.needs_old-depends.result needed (sym c.is_wanted-wanted.ensures ∙ c.if-not-wanted.true)) (c.add_given.ensures c.args.m.now.setup.geometry.disks c.args.r c.requires.disk c.requires.given)
-
-pub returns-then-not-wanted-clause-leads : goal.returns-then-not-wanted-clause-leads
-returns-then-not-wanted-clause-leads g c = g.met.P.Plan.stays c.args.plan.now
-
-pub returns-then-not-wanted-clause-same : goal.returns-then-not-wanted-clause-same
-returns-then-not-wanted-clause-same g c = λ tells. refl
-
-pub returns-then-not-wanted-clause-others : goal.returns-then-not-wanted-clause-others
-returns-then-not-wanted-clause-others g c = λ x b off kept. kept
-
-pub returns-clause-here : goal.returns-clause-here
-returns-clause-here g c tells changed old =
-    subst (IsOldOf c.keep_if.new.kept c.args.d) (c.in_ok-value.ensures.ok tells)
-    (c.keep_if.ensures.here (c.both.ensures ∙ both_so c.is_changed-changed.result c.needs_old-depends.result ((c.is_changed-changed.ensures c.args.pairs.now.bytes c.args.m.now.setup.geometry.disks (pairs_of c.args.pairs.now) c.args.r c.requires.disk c.requires.parity c.requires.given) ∙ changed) (c.needs_old-depends.ensures ∙ old)))
-
-pub returns-clause-sum : goal.returns-clause-sum
-returns-clause-sum g c tells needed =
-    c.add_part.ensures c.args.m.now.setup.geometry.disks c.args.r (value (sees c.args.m.now (g.P.Plan.desk c.args.plan.now)) c.args.r) c.requires.disk c.requires.given
-    (c.is_changed-changed.ensures c.args.pairs.now.bytes c.args.m.now.setup.geometry.disks (pairs_of c.args.pairs.now) c.args.r c.requires.disk c.requires.parity c.requires.given)
-    (λ is. c.in_ok-value.ensures.ok tells)
-
-pub returns-clause-others : goal.returns-clause-others
-returns-clause-others g c = c.keep_if.ensures.others
-
-pub returns-in_err-value-clause-leads : goal.returns-in_err-value-clause-leads
-returns-in_err-value-clause-leads g c = c.value.ensures.leads
-
-pub returns-clause-leads : goal.returns-clause-leads
-returns-clause-leads g c = c.value.ensures.leads
+pub returns : goal.returns
+returns g c =
+    record {
+      here = (λ tells changed old. subst (IsOldOf c.keep_if.new.kept c.args.d) (c.in_ok-value.ensures.ok tells)
+          (c.keep_if.ensures.here (c.both.ensures ∙ both_so c.is_changed-changed.result c.needs_old-depends.result ((c.is_changed-changed.ensures c.args.pairs.now.bytes c.args.m.now.setup.geometry.disks (pairs_of c.args.pairs.now) c.args.r c.requires.disk c.requires.parity c.requires.given) ∙ changed) (c.needs_old-depends.ensures ∙ old))));
+      others = c.keep_if.ensures.others;
+      sum = (λ tells needed. c.add_part.ensures c.args.m.now.setup.geometry.disks c.args.r (value (sees c.args.m.now (g.P.Plan.desk c.args.plan.now)) c.args.r) c.requires.disk c.requires.given
+          (c.is_changed-changed.ensures c.args.pairs.now.bytes c.args.m.now.setup.geometry.disks (pairs_of c.args.pairs.now) c.args.r c.requires.disk c.requires.parity c.requires.given)
+          (λ is. c.in_ok-value.ensures.ok tells));
+      kept = c.keep_if.ensures.length;
+      reads = (record {
+        ok = record { same = c.in_ok-value.ensures.same; bits = c.in_ok-value.ensures.bits; staged = c.in_ok-value.ensures.staged; changes = c.in_ok-value.ensures.changes; goes_on = c.in_ok-value.ensures.goes_on };
+        fails = tt;
+        leads = c.in_ok-value.ensures.leads;
+      });
+    }
 
 pub keep_if-requires : goal.keep_if-requires
 keep_if-requires g c h =
@@ -59,3 +50,31 @@ add_given-requires-clause-few g c at is =
 pub add_part-requires-clause-few : goal.add_part-requires-clause-few
 add_part-requires-clause-few g c at is =
     gives_few c.args.pairs.now.bytes c.args.m.now.setup.geometry.disks (pairs_of c.args.pairs.now) c.args.r c.args.d at c.args.given.now c.requires.disk c.requires.given is
+
+pub returns-in_err-value : goal.returns-in_err-value
+returns-in_err-value g c =
+    record {
+      here = not_ok _ _ c.from_residual.result c.from_residual.ensures.1;
+      others = λ x b off kept. kept;
+      sum = not_ok _ _ c.from_residual.result c.from_residual.ensures.1;
+      kept = not_ok _ _ c.from_residual.result c.from_residual.ensures.1;
+      reads = failed g.P.Plan _ _ _ _ c.from_residual.ensures.1 c.in_err-value.ensures.fails c.value.ensures.leads;
+    }
+
+pub needs_old-depends-requires : goal.needs_old-depends-requires
+needs_old-depends-requires g c =
+    record {
+      serves = c.requires.serves;
+      in_range = c.requires.in_range;
+      row = c.requires.row;
+      disk = c.requires.disk;
+    }
+
+pub value-requires : goal.value-requires
+value-requires g c =
+    record {
+      serves = c.requires.serves;
+      in_range = c.requires.in_range;
+      row = c.requires.row;
+      disk = c.requires.disk;
+    }

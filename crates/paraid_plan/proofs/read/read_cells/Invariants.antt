@@ -3,6 +3,7 @@ use Rattle.paraid_base.specs.Cells.{parity_disk}
 use Rattle.paraid_base.specs.Pairs.{pairs_of}
 use Rattle.paraid_base.specs.Sums.{without, xor_upto}
 use Rattle.paraid_plan.specs.Desk.{sees}
+use Rattle.paraid_plan.specs.Leaves.{StaysAsWas}
 use Rattle.paraid_plan.specs.RowWrites.{IsOldOf, is_changed, parity_part}
 use Rattle.paraid_plan.specs.WriteTargets.{needs_old}
 use Rattle.paraid_image.specs.Value.{value}
@@ -16,11 +17,7 @@ invariant-loop-d g l = record {
   olds : g.P.Plan.tells l.plan → (e : ℕ) → e < l.d → e ≢ parity_disk l.fn.m.setup.geometry.disks l.fn.r
       → is_changed l.fn.m.setup.geometry.disks (pairs_of l.fn.pairs) l.fn.r e ≡ true → needs_old (sees l.fn.m (g.P.Plan.desk l.fn.plan)) l.fn.r e ≡ true
       → IsOldOf l.old e (value (sees l.fn.m (g.P.Plan.desk l.fn.plan)) l.fn.r e);
-  same : g.P.Plan.tells l.plan → g.P.Plan.desk l.plan ≡ g.P.Plan.desk l.fn.plan;
-  bits : (g.P.Plan.desk l.plan).dirty ≡ (g.P.Plan.desk l.fn.plan).dirty;
-  staged : length (g.P.Plan.desk l.plan).staged ≡ length (g.P.Plan.desk l.fn.plan).staged;
-  changes : g.P.Plan.changes l.plan ≡ g.P.Plan.changes l.fn.plan;
   kept : length l.old ≡ length l.fn.old;
-  goes_on : g.P.Plan.serves l.plan l.fn.m;
+  stays : StaysAsWas g.P.Plan l.fn.m l.fn.plan l.plan;
   leads : g.P.Plan.leads l.fn.plan l.plan;
 }

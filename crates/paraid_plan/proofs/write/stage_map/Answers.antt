@@ -1,23 +1,10 @@
-use Rattle.std.proofs.Common.{◌∙◌, ap, arith}
+use Rattle.std.proofs.Common.{◌∙◌, ap, arith, rules}
 use Rattle.paraid_plan.proofs.write.stage_map.Goals as goal
 use Rattle.std.specs.Prelude.{ℕ, ◌+◌, ◌/◌}
 use Rattle.paraid_plan.specs.WriteTargets.{is_written}
 use Rattle.paraid_plan.proofs.DeskLemmas.{map_both, map_none}
 use Rattle.paraid_plan.proofs.RoomLemmas.{map_small, region_small, room_same}
 use Rattle.paraid_base.specs.Xor.{zero_block}
-
-pub returns-then-not-staged-clause-map : goal.returns-then-not-staged-clause-map
-returns-then-not-staged-clause-map g c = map_none c.args.m.now (g.P.Plan.desk c.args.plan.now) _ c.args.staged zero_block c.if-not-staged.true
-
-pub returns-clause-map : goal.returns-clause-map
-returns-clause-map g c =
-    let m = c.args.m.now in
-    let j : ℕ = c.args.r / 512 in
-    map_both m (g.P.Plan.desk c.args.plan.now) (g.P.Plan.desk c.map_block.new.self) (g.P.Plan.desk c.stage_if.new.plan) (g.P.Plan.desk c.stage_if-2.new.plan)
-    j c.args.staged c.is_written.result c.is_written-2.result c.map_block.new.into c.if-not-staged.false c.map_block.ensures.shows c.map_block.ensures.same
-    (c.is_written.ensures ∙ ap (λ (z : ℕ). is_written m.out 0 (m.setup.geometry.rows + z + j)) c.stripes.ensures)
-    (c.is_written-2.ensures ∙ ap (λ (z : ℕ). is_written m.out 1 (m.setup.geometry.rows + z + j)) c.stripes.ensures)
-    c.stage_if.ensures.desk c.stage_if-2.ensures.desk
 
 pub stripes-requires : goal.stripes-requires
 stripes-requires g c =
@@ -61,25 +48,33 @@ stage_if-requires-2 g c =
     let one = c.stage_if.ensures.room in
     omega (arith, same, room, one)
 
-pub returns-clause-room : goal.returns-clause-room
-returns-clause-room g c =
-    let same = room_same (g.P.Plan.desk c.args.plan.now) (g.P.Plan.desk c.map_block.new.self) c.map_block.ensures.same in
-    let one = c.stage_if.ensures.room in
-    let two = c.stage_if-2.ensures.room in
-    omega (arith, same, one, two)
+pub returns-then-not-staged : goal.returns-then-not-staged
+returns-then-not-staged g c = record {
+  map = map_none c.args.m.now (g.P.Plan.desk c.args.plan.now) _ c.args.staged zero_block c.if-not-staged.true;
+  room = search rules;
+  changes = search rules;
+  goes_on = search rules;
+  leads = g.met.P.Plan.stays c.args.plan.now;
+}
 
-pub returns-then-not-staged-clause-leads : goal.returns-then-not-staged-clause-leads
-returns-then-not-staged-clause-leads g c =
-    g.met.P.Plan.stays c.args.plan.now
-
-pub returns-clause-changes : goal.returns-clause-changes
-returns-clause-changes g c =
-    c.stage_if-2.ensures.changes ∙ c.stage_if.ensures.changes ∙ c.map_block.ensures.changes
-
-pub returns-clause-goes_on : goal.returns-clause-goes_on
-returns-clause-goes_on g c n serves = c.stage_if-2.ensures.goes_on n (c.stage_if.ensures.goes_on n (c.map_block.ensures.goes_on n serves))
-
-pub returns-clause-leads : goal.returns-clause-leads
-returns-clause-leads g c =
-    let then = g.met.P.Plan.then in
-    then _ _ _ c.map_block.ensures.leads (then _ _ _ c.stage_if.ensures.leads c.stage_if-2.ensures.leads)
+pub returns : goal.returns
+returns g c = record {
+  map =
+      let m = c.args.m.now in
+      let j : ℕ = c.args.r / 512 in
+      map_both m (g.P.Plan.desk c.args.plan.now) (g.P.Plan.desk c.map_block.new.self) (g.P.Plan.desk c.stage_if.new.plan) (g.P.Plan.desk c.stage_if-2.new.plan)
+      j c.args.staged c.is_written.result c.is_written-2.result c.map_block.new.into c.if-not-staged.false c.map_block.ensures.shows c.map_block.ensures.same
+      (c.is_written.ensures ∙ ap (λ (z : ℕ). is_written m.out 0 (m.setup.geometry.rows + z + j)) c.stripes.ensures)
+      (c.is_written-2.ensures ∙ ap (λ (z : ℕ). is_written m.out 1 (m.setup.geometry.rows + z + j)) c.stripes.ensures)
+      c.stage_if.ensures.desk c.stage_if-2.ensures.desk;
+  room =
+      let same = room_same (g.P.Plan.desk c.args.plan.now) (g.P.Plan.desk c.map_block.new.self) c.map_block.ensures.same in
+      let one = c.stage_if.ensures.room in
+      let two = c.stage_if-2.ensures.room in
+      omega (arith, same, one, two);
+  changes = c.stage_if-2.ensures.changes ∙ c.stage_if.ensures.changes ∙ c.map_block.ensures.changes;
+  goes_on = λ n serves. c.stage_if-2.ensures.goes_on n (c.stage_if.ensures.goes_on n (c.map_block.ensures.goes_on n serves));
+  leads =
+      let then = g.met.P.Plan.then in
+      then _ _ _ c.map_block.ensures.leads (then _ _ _ c.stage_if.ensures.leads c.stage_if-2.ensures.leads);
+}

@@ -1,5 +1,5 @@
 use Rattle.std.specs.Prelude.{◌&&◌}
-use Rattle.std.proofs.Common.{◌≡◌, ◌∙◌, ◌+◌, ℕ, ap, refl, sym, subst, arith}
+use Rattle.std.proofs.Common.{◌≡◌, ◌∙◌, ◌+◌, ℕ, ap, refl, sym, subst, arith, rules}
 use Rattle.paraid_base.specs.History.{Entry, last_of}
 use Rattle.paraid_base.specs.Pairs.{pairs_of}
 use Rattle.paraid_base.proofs.PairsLemmas.{length-pairs_of}
@@ -58,7 +58,8 @@ loop-at-preserved g c =
     let at = c.loop-at.at in
     let test = c.loop-at-test.true in
     let before = c.loop-at.invariant in
-    let call = c.in_ok-write_row_of.ensures in
+    let call = c.in_ok-write_row_of.ensures.ok in
+    let leads = c.write_row_of.ensures.leads in
     let next = counted_next n p at test in
     let few = before.few in
     let more = call.few in
@@ -69,57 +70,64 @@ loop-at-preserved g c =
           stages_same m (g.P.Plan.desk c.args.plan.now) (g.P.Plan.desk c.write_row_of.new.plan) (λ i x. row_change n p at i (rows_change n (pairs_before p at) (pairs_of p) i x))
           (rows_change n (pairs_before p (at + 1)) (pairs_of p)) (λ i x. change_next n p at i x test)
           (stages_then m (g.P.Plan.desk c.args.plan.now) (g.P.Plan.desk c.loop-at.plan) (g.P.Plan.desk c.write_row_of.new.plan) (rows_change n (pairs_before p at) (pairs_of p)) (row_change n p at)
-          (before.writes (g.met.P.Plan.told c.loop-at.plan c.write_row_of.new.plan call.leads tells)) (call.write tells));
+          (before.writes (g.met.P.Plan.told c.loop-at.plan c.write_row_of.new.plan leads tells)) (call.write tells));
       bits = bits_then m (g.P.Plan.desk c.args.plan.now).dirty (g.P.Plan.desk c.loop-at.plan).dirty (g.P.Plan.desk c.write_row_of.new.plan).dirty
           (λ q e. names_row n (pairs_before p at) q && turns_cell_of n (pairs_of p) q e) (turns_in_new_row n p at) _ (λ q e. rows_turn_next n p at q e test) before.bits call.bits;
       few = omega (arith, next, few, more);
       grows = λ tells some.
-          let was = g.met.P.Plan.told c.loop-at.plan c.write_row_of.new.plan call.leads tells in
+          let was = g.met.P.Plan.told c.loop-at.plan c.write_row_of.new.plan leads tells in
           pair_grows n p at m (g.P.Plan.desk c.args.plan.now) (g.P.Plan.desk c.loop-at.plan) (g.P.Plan.desk c.write_row_of.new.plan) (before.writes was).adds (call.write tells).adds (before.grows was) (call.grows tells);
       changes = omega (arith, next, turned, bit);
       goes_on = call.goes_on;
-      leads = g.met.P.Plan.then _ _ _ before.leads call.leads;
+      leads = g.met.P.Plan.then _ _ _ before.leads leads;
     }
 
-pub returns-clause-writes : goal.returns-clause-writes
-returns-clause-writes g c tells =
-    let m = c.args.m.now in
-    let n = m.setup.geometry.disks in
-    let p = c.args.pairs.now in
-    let past = c.loop-at-test.false in
-    let until = c.loop-at.auto.at-end in
-    let same : c.loop-at.at ≡ p.count = omega (arith, past, until) in
-    stages_same m (g.P.Plan.desk c.args.plan.now) (g.P.Plan.desk c.loop-at.plan) (rows_change n (pairs_before p c.loop-at.at) (pairs_of p)) (λ i x. last_of i x (pairs_of p))
-    (λ i x. change_all n p i x ∙ ap (λ (z : ℕ). rows_change n (pairs_before p z) (pairs_of p) i x) (sym same)) (c.loop-at.invariant.writes tells)
+pub returns-in_err-write_row_of : goal.returns-in_err-write_row_of
+returns-in_err-write_row_of g c = record {
+  writes = search rules;
+  bits = search rules;
+  few = search rules;
+  grows = search rules;
+  goes_on = search rules;
+  fails = search rules;
+  leads = g.met.P.Plan.then _ _ _ c.loop-at.invariant.leads c.write_row_of.ensures.leads;
+}
 
-pub returns-clause-few : goal.returns-clause-few
-returns-clause-few g c =
-    let p = c.args.pairs.now in
-    let most = counted_few c.args.m.now.setup.geometry.disks (pairs_before p c.loop-at.at) (pairs_of p) in
-    let long = length-pairs_of p in
-    let few = c.loop-at.invariant.few in
-    omega (arith, most, long, few)
-
-pub returns-in_err-write_row_of-clause-leads : goal.returns-in_err-write_row_of-clause-leads
-returns-in_err-write_row_of-clause-leads g c = g.met.P.Plan.then _ _ _ c.loop-at.invariant.leads c.write_row_of.ensures.leads
-
-pub returns-clause-bits : goal.returns-clause-bits
-returns-clause-bits g c =
-    let m = c.args.m.now in
-    let n = m.setup.geometry.disks in
-    let p = c.args.pairs.now in
-    let past = c.loop-at-test.false in
-    let until = c.loop-at.auto.at-end in
-    let same : c.loop-at.at ≡ p.count = omega (arith, past, until) in
-    let all : TurnsBits m (g.P.Plan.desk c.args.plan.now).dirty (g.P.Plan.desk c.loop-at.plan).dirty (λ q e. names_row n (pairs_of p) q && turns_cell_of n (pairs_of p) q e) =
-    subst (λ (z : Entry). TurnsBits m (g.P.Plan.desk c.args.plan.now).dirty (g.P.Plan.desk c.loop-at.plan).dirty (λ q e. names_row n z q && turns_cell_of n (pairs_of p) q e))
-    (ap (pairs_before p) same ∙ before_all p) c.loop-at.invariant.bits in
-    λ t. λ q e. (all q e ∙ sym (writes_turn m (pairs_of p) (g.P.Plan.desk c.args.plan.now).dirty q e)) t
-
-pub returns-clause-grows : goal.returns-clause-grows
-returns-clause-grows g c tells =
-    let past = c.loop-at-test.false in
-    let until = c.loop-at.auto.at-end in
-    let p = c.args.pairs.now in
-    let some = p.some in
-    c.loop-at.invariant.grows tells (omega (arith, past, until, some))
+pub returns : goal.returns
+returns g c = record {
+  writes = λ tells.
+      let m = c.args.m.now in
+      let n = m.setup.geometry.disks in
+      let p = c.args.pairs.now in
+      let past = c.loop-at-test.false in
+      let until = c.loop-at.auto.at-end in
+      let same : c.loop-at.at ≡ p.count = omega (arith, past, until) in
+      stages_same m (g.P.Plan.desk c.args.plan.now) (g.P.Plan.desk c.loop-at.plan) (rows_change n (pairs_before p c.loop-at.at) (pairs_of p)) (λ i x. last_of i x (pairs_of p))
+      (λ i x. change_all n p i x ∙ ap (λ (z : ℕ). rows_change n (pairs_before p z) (pairs_of p) i x) (sym same)) (c.loop-at.invariant.writes tells);
+  bits =
+      let m = c.args.m.now in
+      let n = m.setup.geometry.disks in
+      let p = c.args.pairs.now in
+      let past = c.loop-at-test.false in
+      let until = c.loop-at.auto.at-end in
+      let same : c.loop-at.at ≡ p.count = omega (arith, past, until) in
+      let all : TurnsBits m (g.P.Plan.desk c.args.plan.now).dirty (g.P.Plan.desk c.loop-at.plan).dirty (λ q e. names_row n (pairs_of p) q && turns_cell_of n (pairs_of p) q e) =
+      subst (λ (z : Entry). TurnsBits m (g.P.Plan.desk c.args.plan.now).dirty (g.P.Plan.desk c.loop-at.plan).dirty (λ q e. names_row n z q && turns_cell_of n (pairs_of p) q e))
+      (ap (pairs_before p) same ∙ before_all p) c.loop-at.invariant.bits in
+      λ t. λ q e. (all q e ∙ sym (writes_turn m (pairs_of p) (g.P.Plan.desk c.args.plan.now).dirty q e)) t;
+  few =
+      let p = c.args.pairs.now in
+      let most = counted_few c.args.m.now.setup.geometry.disks (pairs_before p c.loop-at.at) (pairs_of p) in
+      let long = length-pairs_of p in
+      let few = c.loop-at.invariant.few in
+      omega (arith, most, long, few);
+  grows = λ tells.
+      let past = c.loop-at-test.false in
+      let until = c.loop-at.auto.at-end in
+      let p = c.args.pairs.now in
+      let some = p.some in
+      c.loop-at.invariant.grows tells (omega (arith, past, until, some));
+  goes_on = search rules;
+  fails = search rules;
+  leads = search rules;
+}

@@ -3,132 +3,144 @@ use Rattle.std.proofs.Common.{◌∙◌, ap, refl, subst, arith}
 use Rattle.paraid_base.specs.Pairs.{pairs_of}
 use Rattle.paraid_plan.specs.RowBits.{TurnsBits, names_cell}
 use Rattle.paraid_plan.proofs.GrowthLemmas.{row_grows}
+use Rattle.paraid_plan.proofs.LeavesLemmas.{failed}
 use Rattle.paraid_plan.proofs.RowBitsLemmas.{bits_cell, bits_then, row_turns}
 use Rattle.paraid_plan.proofs.WrittenBitsLemmas.{map_bits}
 use Rattle.paraid_plan.proofs.RowLemmas.{row_from_calls}
 use Rattle.paraid_plan.proofs.write.write_row_in.Goals as goal
 
-pub write_pairs-requires-clause-room : goal.write_pairs-requires-clause-room
-write_pairs-requires-clause-room g c = let a = c.in_ok-read_row.ensures.staged in let room = c.requires.room in omega (arith, a, room)
+pub write_pairs-requires : goal.write_pairs-requires
+write_pairs-requires g c =
+    record {
+      serves = c.in_ok-read_row.ensures.reads.ok.goes_on;
+      in_range = c.requires.in_range;
+      row = c.requires.row;
+      kept = λ soft. c.in_ok-read_row.ensures.kept ∙ c.requires.kept soft;
+      blocks = c.requires.blocks;
+      room = (let a = c.in_ok-read_row.ensures.reads.ok.staged in let room = c.requires.room in omega (arith, a, room));
+      bits = (let a = c.in_ok-read_row.ensures.reads.ok.changes in let bits = c.requires.bits in omega (arith, a, bits));
+    }
 
-pub write_pairs-requires-clause-bits : goal.write_pairs-requires-clause-bits
-write_pairs-requires-clause-bits g c = let a = c.in_ok-read_row.ensures.changes in let bits = c.requires.bits in omega (arith, a, bits)
+pub write_cell-requires : goal.write_cell-requires
+write_cell-requires g c =
+    record {
+      serves = c.in_ok-write_pairs.ensures.ok.goes_on;
+      in_range = c.requires.in_range;
+      row = c.requires.row;
+      disk = c.parity_disk-p.ensures.disk_in;
+      room = (let a = c.in_ok-read_row.ensures.reads.ok.staged in
+          let b = c.in_ok-write_pairs.ensures.ok.room in
+          let room = c.requires.room in
+          let some = c.requires.some in
+          omega (arith, a, b, room, some));
+      few = (let a = c.in_ok-read_row.ensures.reads.ok.changes in
+          let b = c.in_ok-write_pairs.ensures.ok.changes in
+          let bits = c.requires.bits in
+          let some = c.requires.some in
+          omega (arith, a, b, bits, some));
+    }
 
-pub write_cell-requires-clause-room : goal.write_cell-requires-clause-room
-write_cell-requires-clause-room g c =
-    let a = c.in_ok-read_row.ensures.staged in
-    let b = c.in_ok-write_pairs.ensures.room in
-    let room = c.requires.room in
-    let some = c.requires.some in
-    omega (arith, a, b, room, some)
+pub stage_map-requires : goal.stage_map-requires
+stage_map-requires g c =
+    record {
+      in_range = c.requires.in_range;
+      row = c.requires.row;
+      room = (let a = c.in_ok-read_row.ensures.reads.ok.staged in
+          let b = c.in_ok-write_pairs.ensures.ok.room in
+          let d = c.in_ok-write_cell.ensures.room in
+          let room = c.requires.room in
+          let some = c.requires.some in
+          omega (arith, a, b, d, room, some));
+    }
 
-pub write_cell-requires-clause-few : goal.write_cell-requires-clause-few
-write_cell-requires-clause-few g c =
-    let a = c.in_ok-read_row.ensures.changes in
-    let b = c.in_ok-write_pairs.ensures.changes in
-    let bits = c.requires.bits in
-    let some = c.requires.some in
-    omega (arith, a, b, bits, some)
+pub bits_of-was-requires : goal.bits_of-was-requires
+bits_of-was-requires g c =
+    record {
+      serves = c.in_ok-read_row.ensures.reads.ok.goes_on;
+      row = c.requires.row;
+    }
 
-pub stage_map-requires-clause-room : goal.stage_map-requires-clause-room
-stage_map-requires-clause-room g c =
-    let a = c.in_ok-read_row.ensures.staged in
-    let b = c.in_ok-write_pairs.ensures.room in
-    let d = c.in_ok-write_cell.ensures.room in
-    let room = c.requires.room in
-    let some = c.requires.some in
-    omega (arith, a, b, d, room, some)
+pub has_changed-staged-requires : goal.has_changed-staged-requires
+has_changed-staged-requires g c =
+    record {
+      serves = c.in_ok-write_cell.ensures.goes_on;
+      row = c.requires.row;
+    }
 
-pub returns-clause-write : goal.returns-clause-write
-returns-clause-write g c tells =
-    let law = g.met.P.Plan.told in
-    let t3 = law c.write_cell.new.plan c.stage_map.new.plan c.stage_map.ensures.leads tells in
-    let t2 = law c.write_pairs.new.plan c.write_cell.new.plan c.in_ok-write_cell.ensures.leads t3 in
-    let t1 = law c.read_row.new.plan c.write_pairs.new.plan c.in_ok-write_pairs.ensures.leads t2 in
-    row_from_calls c.args.m.now (g.P.Plan.desk c.args.plan.now) (g.P.Plan.desk c.read_row.new.plan) (g.P.Plan.desk c.write_pairs.new.plan) (g.P.Plan.desk c.write_cell.new.plan) (g.P.Plan.desk c.stage_map.new.plan)
-    c.args.r c.parity_disk-p.result (pairs_of c.args.pairs.now) c.read_row.new.old c.write_pairs.new.old c.kept_or.result.now c.read_row.new.fixed c.bits_of-was.result c.has_changed-staged.result
-    c.requires.in_range c.requires.row c.parity_disk-p.ensures.value (c.in_ok-read_row.ensures.same t1) (c.in_ok-read_row.ensures.old t1) (c.in_ok-read_row.ensures.fixed t1)
-    c.bits_of-was.ensures (c.in_ok-write_pairs.ensures.adds t2) (c.in_ok-write_pairs.ensures.turns t2) (c.in_ok-write_pairs.ensures.old t2) (c.in_ok-write_pairs.ensures.parity t2)
-    c.kept_or.ensures (c.in_ok-write_cell.ensures.desk t3)
-    c.has_changed-staged.ensures c.stage_map.ensures.map
+pub returns-in_err-read_row : goal.returns-in_err-read_row
+returns-in_err-read_row g c = failed g.P.Plan _ _ _ _ c.from_residual.ensures.1 c.in_err-read_row.ensures.reads.fails c.read_row.ensures.reads.leads
 
-pub returns-clause-few : goal.returns-clause-few
-returns-clause-few g c =
-    let a = c.in_ok-read_row.ensures.staged in
-    let b = c.in_ok-write_pairs.ensures.room in
-    let d = c.in_ok-write_cell.ensures.room in
-    let f = c.stage_map.ensures.room in
-    let some = c.requires.some in
-    omega (arith, a, b, d, f, some)
+pub returns-in_err-write_pairs : goal.returns-in_err-write_pairs
+returns-in_err-write_pairs g c =
+    failed g.P.Plan _ _ _ _ c.from_residual-in_err-write_pairs.ensures.1 c.in_err-write_pairs.ensures.fails
+    (g.met.P.Plan.then _ _ _ c.read_row.ensures.reads.leads c.write_pairs.ensures.leads)
 
-pub returns-clause-changes : goal.returns-clause-changes
-returns-clause-changes g c =
-    let a = c.in_ok-read_row.ensures.changes in
-    let b = c.in_ok-write_pairs.ensures.changes in
-    let d = c.in_ok-write_cell.ensures.changes in
-    let f = c.stage_map.ensures.changes in
-    let some = c.requires.some in
-    omega (arith, a, b, d, f, some)
-
-pub returns-clause-leads : goal.returns-clause-leads
-returns-clause-leads g c =
+pub returns-in_err-write_cell : goal.returns-in_err-write_cell
+returns-in_err-write_cell g c =
     let then = g.met.P.Plan.then in
-    then _ _ _ c.in_ok-read_row.ensures.leads
-    (then _ _ _ c.in_ok-write_pairs.ensures.leads (then _ _ _ c.in_ok-write_cell.ensures.leads c.stage_map.ensures.leads))
+    failed g.P.Plan _ _ _ _ c.from_residual-in_err-write_cell.ensures.1 c.in_err-write_cell.ensures.fails
+    (then _ _ _ c.read_row.ensures.reads.leads (then _ _ _ c.write_pairs.ensures.leads c.write_cell.ensures.leads))
 
-pub returns-clause-bits : goal.returns-clause-bits
-returns-clause-bits g c =
+pub returns : goal.returns
+returns g c =
     let m = c.args.m.now in
     let n = m.setup.geometry.disks in
     let ws = pairs_of c.args.pairs.now in
-    let s = (g.P.Plan.desk c.args.plan.now).dirty in
-    let mid = (g.P.Plan.desk c.write_pairs.new.plan).dirty in
-    let last = (g.P.Plan.desk c.stage_map.new.plan).dirty in
-    bits_then m s mid last (λ q e. q == c.args.r && names_cell n ws c.args.r e) (λ q e. q == c.args.r && e == c.parity_disk-p.result) _
-    (λ q e. row_turns n ws c.args.r c.parity_disk-p.result q e c.parity_disk-p.ensures.value)
-    (subst (λ (z : ℕ → ℕ → Bool). TurnsBits m z mid (λ q e. q == c.args.r && names_cell n ws c.args.r e)) c.in_ok-read_row.ensures.bits c.in_ok-write_pairs.ensures.bits)
-    (bits_cell m c.args.r c.parity_disk-p.result mid last _
-    (map_bits m (g.P.Plan.desk c.write_cell.new.plan) (g.P.Plan.desk c.stage_map.new.plan) _ c.has_changed-staged.result c.stage_map.ensures.map ∙ c.in_ok-write_cell.ensures.bits) (λ q e. refl))
-
-pub returns-clause-grows : goal.returns-clause-grows
-returns-clause-grows g c tells =
-    let law = g.met.P.Plan.told in
-    let t3 = law c.write_cell.new.plan c.stage_map.new.plan c.stage_map.ensures.leads tells in
-    let t2 = law c.write_pairs.new.plan c.write_cell.new.plan c.in_ok-write_cell.ensures.leads t3 in
     let p : c.parity_disk-p.result ≡ _ = c.parity_disk-p.ensures.value in
-    row_grows c.args.m.now (g.P.Plan.desk c.args.plan.now) (g.P.Plan.desk c.read_row.new.plan) (g.P.Plan.desk c.write_pairs.new.plan) (g.P.Plan.desk c.write_cell.new.plan) (g.P.Plan.desk c.stage_map.new.plan)
-    c.args.r c.parity_disk-p.result _ _ _ _ _ c.in_ok-read_row.ensures.staged (c.in_ok-write_pairs.ensures.adds t2) (λ out. c.in_ok-write_pairs.ensures.some t2 (out ∙ ap Some p)) c.requires.some
-    (c.in_ok-write_cell.ensures.desk t3) c.stage_map.ensures.map
-
-pub bits_of-was-requires-clause-serves : goal.bits_of-was-requires-clause-serves
-bits_of-was-requires-clause-serves g c =
-    c.in_ok-read_row.ensures.goes_on
-
-pub write_pairs-requires-clause-serves : goal.write_pairs-requires-clause-serves
-write_pairs-requires-clause-serves g c =
-    c.in_ok-read_row.ensures.goes_on
-
-pub write_cell-requires-clause-serves : goal.write_cell-requires-clause-serves
-write_cell-requires-clause-serves g c =
-    c.in_ok-write_pairs.ensures.goes_on
-
-pub has_changed-staged-requires-clause-serves : goal.has_changed-staged-requires-clause-serves
-has_changed-staged-requires-clause-serves g c =
-    c.in_ok-write_cell.ensures.goes_on
-
-pub returns-clause-goes_on : goal.returns-clause-goes_on
-returns-clause-goes_on g c =
-    c.stage_map.ensures.goes_on c.args.m.now c.in_ok-write_cell.ensures.goes_on
-
-pub returns-in_err-read_row-clause-leads : goal.returns-in_err-read_row-clause-leads
-returns-in_err-read_row-clause-leads g c =
-    c.read_row.ensures.leads
-
-pub returns-in_err-write_pairs-clause-leads : goal.returns-in_err-write_pairs-clause-leads
-returns-in_err-write_pairs-clause-leads g c =
-    g.met.P.Plan.then _ _ _ c.read_row.ensures.leads c.write_pairs.ensures.leads
-
-pub returns-in_err-write_cell-clause-leads : goal.returns-in_err-write_cell-clause-leads
-returns-in_err-write_cell-clause-leads g c =
+    let s = g.P.Plan.desk c.args.plan.now in
+    let read = g.P.Plan.desk c.read_row.new.plan in
+    let mid = g.P.Plan.desk c.write_pairs.new.plan in
+    let cell = g.P.Plan.desk c.write_cell.new.plan in
+    let last = g.P.Plan.desk c.stage_map.new.plan in
+    let law = g.met.P.Plan.told in
     let then = g.met.P.Plan.then in
-    then _ _ _ c.read_row.ensures.leads (then _ _ _ c.write_pairs.ensures.leads c.write_cell.ensures.leads)
+    let t3 = law c.write_cell.new.plan c.stage_map.new.plan c.stage_map.ensures.leads in
+    let t2 = law c.write_pairs.new.plan c.write_cell.new.plan c.in_ok-write_cell.ensures.leads in
+    let t1 = law c.read_row.new.plan c.write_pairs.new.plan c.in_ok-write_pairs.ensures.leads in
+    let staged1 = c.in_ok-read_row.ensures.reads.ok.staged in
+    let staged2 = c.in_ok-write_pairs.ensures.ok.room in
+    let staged3 = c.in_ok-write_cell.ensures.room in
+    let staged4 = c.stage_map.ensures.room in
+    let set1 = c.in_ok-read_row.ensures.reads.ok.changes in
+    let set2 = c.in_ok-write_pairs.ensures.ok.changes in
+    let set3 = c.in_ok-write_cell.ensures.changes in
+    let set4 = c.stage_map.ensures.changes in
+    let some = c.requires.some in
+    record {
+      ok = record {
+        write = λ tells.
+            row_from_calls m s read mid cell last
+            c.args.r c.parity_disk-p.result ws c.read_row.new.old c.write_pairs.new.old c.kept_or.result.now c.read_row.new.fixed c.bits_of-was.result c.has_changed-staged.result
+            c.requires.in_range c.requires.row p (c.in_ok-read_row.ensures.reads.ok.same (t1 (t2 (t3 tells)))) (c.in_ok-read_row.ensures.old (t1 (t2 (t3 tells)))) (c.in_ok-read_row.ensures.fixed (t1 (t2 (t3 tells))))
+            c.bits_of-was.ensures (c.in_ok-write_pairs.ensures.ok.adds (t2 (t3 tells))) (c.in_ok-write_pairs.ensures.ok.turns (t2 (t3 tells))) (c.in_ok-write_pairs.ensures.ok.reads (t2 (t3 tells))) (c.in_ok-write_pairs.ensures.ok.parity (t2 (t3 tells)))
+            c.kept_or.ensures (c.in_ok-write_cell.ensures.desk (t3 tells))
+            c.has_changed-staged.ensures c.stage_map.ensures.map;
+        bits = bits_then m s.dirty mid.dirty last.dirty (λ q e. q == c.args.r && names_cell n ws c.args.r e) (λ q e. q == c.args.r && e == c.parity_disk-p.result) _
+            (λ q e. row_turns n ws c.args.r c.parity_disk-p.result q e p)
+            (subst (λ (z : ℕ → ℕ → Bool). TurnsBits m z mid.dirty (λ q e. q == c.args.r && names_cell n ws c.args.r e)) c.in_ok-read_row.ensures.reads.ok.bits c.in_ok-write_pairs.ensures.ok.bits)
+            (bits_cell m c.args.r c.parity_disk-p.result mid.dirty last.dirty _
+            (map_bits m cell last _ c.has_changed-staged.result c.stage_map.ensures.map ∙ c.in_ok-write_cell.ensures.bits) (λ q e. refl));
+        few = omega (arith, staged1, staged2, staged3, staged4, some);
+        grows = λ tells some.
+            row_grows m s read mid cell last
+            c.args.r c.parity_disk-p.result _ _ _ _ _ staged1 (c.in_ok-write_pairs.ensures.ok.adds (t2 (t3 tells))) (λ out. c.in_ok-write_pairs.ensures.ok.some (t2 (t3 tells)) (out ∙ ap Some p)) some
+            (c.in_ok-write_cell.ensures.desk (t3 tells)) c.stage_map.ensures.map;
+        changes = omega (arith, set1, set2, set3, set4, some);
+        goes_on = c.stage_map.ensures.goes_on m c.in_ok-write_cell.ensures.goes_on;
+      };
+      fails = tt;
+      leads = then _ _ _ c.read_row.ensures.reads.leads (then _ _ _ c.write_pairs.ensures.leads (then _ _ _ c.write_cell.ensures.leads c.stage_map.ensures.leads));
+    }
+
+pub read_row-requires : goal.read_row-requires
+read_row-requires g c =
+    record {
+      serves = c.requires.serves;
+      in_range = c.requires.in_range;
+      row = c.requires.row;
+      parity_disk = c.parity_disk-p.ensures.disk_in;
+      empty = c.zero-fixed.ensures;
+      parity = c.parity_disk-p.ensures.value;
+      given = c.given_cells-given.ensures;
+      kept = c.requires.kept;
+    }

@@ -1,5 +1,5 @@
 use Rattle.std.specs.Prelude.{◌≡◌, ◌≢◌, ℕ, ◌+◌, ◌<◌, ◌≤◌, true, get_or, length, Some}
-use Rattle.std.proofs.Common.{inl, ap, arith, refl, subst, sym, ◌∙◌}
+use Rattle.std.proofs.Common.{inl, ap, arith, refl, subst, sym, ◌∙◌, rules}
 use Rattle.paraid_base.specs.Xor.{zero_block}
 use Rattle.paraid_rack.specs.Told.{Ran, CrashTriple}
 use Rattle.paraid_record.specs.Targets.{no_target}
@@ -86,25 +86,26 @@ loop-at-preserved g c = record {
   ran = next g (goal.at.loop-at-preserved g c).After-put;
 }
 
-pub returns-in_err-put-clause-still_synced : goal.returns-in_err-put-clause-still_synced
-returns-in_err-put-clause-still_synced g c = wet g (goal.at.returns-in_err-put-clause-still_synced g c).After-put
+pub returns-in_err-put : goal.returns-in_err-put
+returns-in_err-put g c = record {
+  slots = search rules;
+  part =
+      CommitPart_raised _ c.from_residual.ensures.1
+      (CommitPart_then c.loop-at.invariant.part (writes_target c.args.batch.now _ (named g (goal.at.returns-in_err-put g c).After-put) c.in_err-put.ensures.part));
+  still_synced = wet g (goal.at.returns-in_err-put g c).After-put;
+  crash = λ j good is same.
+      crash_failed _ _ c.from_residual.ensures.1
+      (ends (lay_whole j good (c.loop-at.at + 1)) (next g (goal.at.returns-in_err-put g c).After-put j good is same));
+}
 
-pub returns-in_err-put-clause-crash : goal.returns-in_err-put-clause-crash
-returns-in_err-put-clause-crash g c j good is same =
-    crash_failed _ _ c.from_residual.ensures.1
-    (ends (lay_whole j good (c.loop-at.at + 1)) (next g (goal.at.returns-in_err-put-clause-crash g c).After-put j good is same))
-
-pub returns-clause-crash : goal.returns-clause-crash
-returns-clause-crash g c j good is same =
-    let all : c.loop-at.at ≡ length c.args.batch.now = omega arith in
-    crash_ran (lay_whole j good (length c.args.batch.now))
-    (subst (λ (n : ℕ). Ran (g.R.Rack.told c.args.rack.now) (g.R.Rack.told c.loop-at.rack) (CrashTriple (HoldsLate j) (LayIn j 0) (LayIn j n)))
-    all (c.loop-at.invariant.ran j good is same))
-
-pub returns-in_err-put-clause-part : goal.returns-in_err-put-clause-part
-returns-in_err-put-clause-part g c =
-    CommitPart_raised _ c.from_residual.ensures.1
-    (CommitPart_then c.loop-at.invariant.part (writes_target c.args.batch.now _ (named g (goal.at.returns-in_err-put-clause-part g c).After-put) c.in_err-put.ensures.part))
-
-pub returns-clause-part : goal.returns-clause-part
-returns-clause-part g c = CommitPart_answer tt c.loop-at.invariant.part
+pub returns : goal.returns
+returns g c = record {
+  slots = search rules;
+  part = CommitPart_answer tt c.loop-at.invariant.part;
+  still_synced = search rules;
+  crash = λ j good is same.
+      let all : c.loop-at.at ≡ length c.args.batch.now = omega arith in
+      crash_ran (lay_whole j good (length c.args.batch.now))
+      (subst (λ (n : ℕ). Ran (g.R.Rack.told c.args.rack.now) (g.R.Rack.told c.loop-at.rack) (CrashTriple (HoldsLate j) (LayIn j 0) (LayIn j n)))
+      all (c.loop-at.invariant.ran j good is same));
+}

@@ -1,6 +1,6 @@
 use Rattle.std.specs.Prelude.{◌≡◌, ℕ, ◌+◌, ◌<◌, get_or, length}
 use Rattle.paraid_base.specs.Xor.{zero_block}
-use Rattle.std.proofs.Common.{inl, ap, subst, sym, ◌∙◌, refl, arith}
+use Rattle.std.proofs.Common.{inl, ap, subst, sym, ◌∙◌, refl, arith, rules}
 use Rattle.paraid_rack.specs.Told.{Ran, CrashTriple}
 use Rattle.paraid_image.specs.Sides.{Batch}
 use Rattle.paraid_txn.specs.CommitStages.{IsSpelled, Job, LogIn, HoldsEarly, target_block, job_named}
@@ -45,25 +45,29 @@ loop-at-preserved g c = record {
   ran = next g (goal.at.loop-at-preserved g c).After-put;
 }
 
-pub returns-in_err-put-clause-crash : goal.returns-in_err-put-clause-crash
-returns-in_err-put-clause-crash g c j good is same =
-    crash_failed _ _ c.from_residual.ensures.1
-    (ends (log_in_whole j good c.args.disk (c.loop-at.at + 1)) (next g (goal.at.returns-in_err-put-clause-crash g c).After-put j good is same))
-
-pub returns-clause-crash : goal.returns-clause-crash
-returns-clause-crash g c j good is same =
-    let all : c.loop-at.at ≡ length c.args.batch.now = omega arith in
-    crash_ran (log_in_whole j good c.args.disk (length c.args.batch.now))
-    (subst (λ (n : ℕ). Ran (g.R.Rack.told c.args.rack.now) (g.R.Rack.told c.loop-at.rack) (CrashTriple (HoldsEarly j) (LogIn j c.args.disk 0) (LogIn j c.args.disk n)))
-    all (c.loop-at.invariant.ran j good is same))
-
 pub put-requires-clause-can : goal.put-requires-clause-can
 put-requires-clause-can g c not = log_can (4 + c.from.result) c.loop-at.invariant.log c.requires.log_disk (omega arith) not
 
-pub returns-in_err-put-clause-part : goal.returns-in_err-put-clause-part
-returns-in_err-put-clause-part g c =
-    CommitPart_raised _ c.from_residual.ensures.1
-    (CommitPart_then c.loop-at.invariant.part (logs_write (4 + c.from.result) c.requires.log_disk (omega arith) c.in_err-put.ensures.part))
+pub returns-in_err-put : goal.returns-in_err-put
+returns-in_err-put g c = record {
+  slots = search rules;
+  part =
+      CommitPart_raised _ c.from_residual.ensures.1
+      (CommitPart_then c.loop-at.invariant.part (logs_write (4 + c.from.result) c.requires.log_disk (omega arith) c.in_err-put.ensures.part));
+  still_synced = search rules;
+  crash = λ j good is same.
+      crash_failed _ _ c.from_residual.ensures.1
+      (ends (log_in_whole j good c.args.disk (c.loop-at.at + 1)) (next g (goal.at.returns-in_err-put g c).After-put j good is same));
+}
 
-pub returns-clause-part : goal.returns-clause-part
-returns-clause-part g c = CommitPart_answer tt c.loop-at.invariant.part
+pub returns : goal.returns
+returns g c = record {
+  slots = search rules;
+  part = CommitPart_answer tt c.loop-at.invariant.part;
+  still_synced = search rules;
+  crash = λ j good is same.
+      let all : c.loop-at.at ≡ length c.args.batch.now = omega arith in
+      crash_ran (log_in_whole j good c.args.disk (length c.args.batch.now))
+      (subst (λ (n : ℕ). Ran (g.R.Rack.told c.args.rack.now) (g.R.Rack.told c.loop-at.rack) (CrashTriple (HoldsEarly j) (LogIn j c.args.disk 0) (LogIn j c.args.disk n)))
+      all (c.loop-at.invariant.ran j good is same));
+}

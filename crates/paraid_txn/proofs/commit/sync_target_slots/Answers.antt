@@ -1,5 +1,5 @@
 use Rattle.std.specs.Prelude.{◌≡◌, ◌≢◌, ℕ, ◌<◌, ◌≤◌, true, false, Some}
-use Rattle.std.proofs.Common.{inl, arith, below_more, refl, ◌∙◌}
+use Rattle.std.proofs.Common.{inl, arith, below_more, refl, ◌∙◌, rules}
 use Rattle.paraid_txn.specs.Losses.{IsSyncedAt}
 use Rattle.paraid_image.specs.Neutral.{names_place}
 use Rattle.paraid_txn.specs.Batches.{names_disk}
@@ -34,24 +34,27 @@ loop-disk-preserved g c = record {
   ran = λ j good is same. andthen (c.loop-disk.invariant.ran j good is same) (c.in_ok-sync_target_slot.ensures.crash j good is same).done;
 }
 
-pub returns-in_err-sync_target_slot-clause-crash : goal.returns-in_err-sync_target_slot-clause-crash
-returns-in_err-sync_target_slot-clause-crash g c j good is same =
-    crash_raised _ c.from_residual.ensures.1
-    (crash_after (c.loop-disk.invariant.ran j good is same) (c.in_err-sync_target_slot.ensures.crash j good is same))
+pub returns-in_err-sync_target_slot : goal.returns-in_err-sync_target_slot
+returns-in_err-sync_target_slot g c = record {
+  slots = search rules;
+  part = CommitPart_raised _ c.from_residual.ensures.1 (CommitPart_then c.loop-disk.invariant.part c.in_err-sync_target_slot.ensures.part);
+  still_synced = search rules;
+  synced = search rules;
+  crash = λ j good is same.
+      crash_raised _ c.from_residual.ensures.1
+      (crash_after (c.loop-disk.invariant.ran j good is same) (c.in_err-sync_target_slot.ensures.crash j good is same));
+}
 
-pub returns-clause-synced : goal.returns-clause-synced
-returns-clause-synced g c d on not =
-    let below : d < c.args.disks = names_disk-below c.args.batch.now c.args.disks d c.requires.below on in
-    c.loop-disk.invariant.synced d (omega arith) on not
-
-pub returns-clause-crash : goal.returns-clause-crash
-returns-clause-crash g c j good is same =
-    let above : (d p : ℕ) → c.loop-disk.disk ≤ d → names_place j.batch d p ≡ false = λ d p le.
-    rw same (names_place-no_disk c.args.batch.now d p (names_disk-above c.args.batch.now c.args.disks d c.requires.below (omega arith))) in
-    crash_upto (λ s a. sync_in_end j good c.loop-disk.disk s above a) (crash_ran (sync_in_whole j good c.loop-disk.disk) (c.loop-disk.invariant.ran j good is same))
-
-pub returns-in_err-sync_target_slot-clause-part : goal.returns-in_err-sync_target_slot-clause-part
-returns-in_err-sync_target_slot-clause-part g c = CommitPart_raised _ c.from_residual.ensures.1 (CommitPart_then c.loop-disk.invariant.part c.in_err-sync_target_slot.ensures.part)
-
-pub returns-clause-part : goal.returns-clause-part
-returns-clause-part g c = CommitPart_answer tt c.loop-disk.invariant.part
+pub returns : goal.returns
+returns g c = record {
+  slots = search rules;
+  part = CommitPart_answer tt c.loop-disk.invariant.part;
+  still_synced = search rules;
+  synced = λ d on not.
+      let below : d < c.args.disks = names_disk-below c.args.batch.now c.args.disks d c.requires.below on in
+      c.loop-disk.invariant.synced d (omega arith) on not;
+  crash = λ j good is same.
+      let above : (d p : ℕ) → c.loop-disk.disk ≤ d → names_place j.batch d p ≡ false = λ d p le.
+      rw same (names_place-no_disk c.args.batch.now d p (names_disk-above c.args.batch.now c.args.disks d c.requires.below (omega arith))) in
+      crash_upto (λ s a. sync_in_end j good c.loop-disk.disk s above a) (crash_ran (sync_in_whole j good c.loop-disk.disk) (c.loop-disk.invariant.ran j good is same));
+}

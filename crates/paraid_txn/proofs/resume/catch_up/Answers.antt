@@ -1,19 +1,19 @@
+use Rattle.paraid_txn.proofs.SyncedPartLemmas.{SyncedPart_answer, SyncedPart_as, SyncedPart_failed, SyncedPart_raised, SyncedPart_then}
 use Rattle.std.specs.Prelude.{◌≡◌, ◌≢◌, ℕ, Bool, Some, true, false, Ok}
 use Rattle.std.proofs.Common.{arith, ap, sym, refl, ◌∙◌, inl, inr}
 use Rattle.std.proofs.lemmas.Bool.{cases_Bool, cases_eq, false≢true}
 use Rattle.paraid_rack.specs.Told.{Ran, CrashTriple}
 use Rattle.paraid_rack.specs.Trail.{Trail, now}
-use Rattle.paraid_txn.specs.CommitPart.{CommitPart}
+use Rattle.paraid_txn.specs.CommitPart.{SyncedPart}
 use Rattle.paraid_txn.specs.Uses.{IsUnskippedLog, UsesLog}
 use Rattle.paraid_txn.specs.Resume.{LeadsResume, HoldsThroughResume, AreDisksSame, job_on_other_log}
 use Rattle.paraid_image.specs.Sides.{is_open}
 use Rattle.paraid_txn.specs.CommitStages.{IsLiveLog, IsSpelled, Job, job_named}
 use Rattle.paraid_image.specs.Standing.{other_log}
-use Rattle.paraid_txn.proofs.DownLemmas.{AreCommitCalls-then, StaySyncedBut-both}
 use Rattle.paraid_txn.proofs.ReadyLemmas.{log_stays_ready}
 use Rattle.paraid_txn.proofs.StageCallsLemmas.{andthen, ends, from, milder}
 use Rattle.paraid_txn.proofs.ResumeStagesLemmas.{absent_by, good_beside, log_open, never, open_lay, read_start, resuming_early, resuming_same, same_lay, same_log, same_read, take_ran, upto_told}
-use Rattle.paraid_txn.proofs.CommitPartLemmas.{CommitPart_answer, CommitPart_beside, CommitPart_by, CommitPart_raised, CommitPart_then, logs_read, raised_ok}
+use Rattle.paraid_txn.proofs.CommitPartLemmas.{CommitPart_beside, CommitPart_by, logs_read}
 use Rattle.paraid_txn.proofs.CrashSpecificationLemmas.{crash_after, crash_failed, crash_from, crash_milder, crash_never, crash_then, crash_upto}
 use Rattle.paraid_txn.proofs.PutSyncedLemmas.{open_crash}
 use Rattle.paraid_txn.proofs.resume.catch_up.Given.{Over}
@@ -33,36 +33,6 @@ found : (g : Over) (c : After-take g) (j : Job) → c.take.result ≡ Ok true �
     → c.take.new.into ≡ j.start.block (other_log c.args.side) 0
 found g c j is t tells same = read_start j (other_log c.args.side) (g.met.R.Rack.agrees c.args.rack.now) (c.take.ensures.present is) (c.take.ensures.bytes is) t tells same
 
-pub returns-in_err-read-clause-crash : goal.returns-in_err-read-clause-crash
-returns-in_err-read-clause-crash g c j good is batch list same leads =
-    let at = goal.at.returns-in_err-read-clause-crash g c in
-    crash_failed _ _ c.from_residual.ensures.1 (ends (resuming_same j good c.args.side leads) (taken g at.After-take j good leads))
-
-pub returns-then-not-read-clause-crash : goal.returns-then-not-read-clause-crash
-returns-then-not-read-clause-crash g c j good is batch list same leads =
-    let at = goal.at.returns-then-not-read-clause-crash g c in
-    let y = other_log c.args.side in
-    let off = c.in_ok-read.was ∙ ap Ok c.if-not-read.true in
-    record {
-      moments = ends (resuming_same j good c.args.side leads) (taken g at.After-take j good leads);
-      done = upto_told (λ s t from to a b. same_lay j good c.args.side leads (now t) b (λ l there here.
-          absurd (absent_by y (g.met.R.Rack.agrees c.take.new.rack t to) (c.take.ensures.passed off (λ e. l.1 (is ∙ e))) here)))
-          (taken g at.After-take j good leads);
-    }
-
-pub returns-then-opens-clause-crash : goal.returns-then-opens-clause-crash
-returns-then-opens-clause-crash g c j good is batch list same leads =
-    let at = goal.at.returns-then-opens-clause-crash g c in
-    let on = on g at.After-opens in
-    let opened = sym c.if-opens.ensures in
-    record {
-      moments = ends (resuming_same j good c.args.side leads) (taken g at.After-take j good leads);
-      done = upto_told (λ s t from to a b. same_lay j good c.args.side leads (now t) b (λ l there here. elim (leads.other l there) [
-        | inl shut_then ↦ absurd (false≢true (sym shut_then ∙ ap is_open (sym (found g at.After-take j on s from a)) ∙ opened))
-        | inr says ↦ says
-      ])) (taken g at.After-take j good leads);
-    }
-
 -- the other log disk is live
 live : (g : Over) (c : After-take g) (j : Job) → job_named j ≡ c.args.skip → c.take.result ≡ Ok true → IsLiveLog j (other_log c.args.side)
 live g c j is on = (let low = c.requires.log_disk in omega arith, λ e. c.take.ensures.read on (sym is ∙ e))
@@ -74,64 +44,14 @@ not_open : (g : Over) (c : After-take g) (j : Job) → IsSpelled j → LeadsResu
 not_open g c j good leads on shut open_then =
     upto_told (λ s t from to a b. false≢true (sym shut ∙ ap is_open (found g c j on s from a) ∙ open_then)) (taken g c j good leads)
 
-pub returns-in_err-write_log-clause-crash : goal.returns-in_err-write_log-clause-crash
-returns-in_err-write_log-clause-crash g c j good is batch list same leads =
-    let at = goal.at.returns-in_err-write_log-clause-crash g c in
-    let x = c.args.side in
-    let on = on g at.After-opens in
-    let shut = sym c.if-opens.ensures in
-    let l = live g at.After-take j is on in
-    let log = (c.in_err-write_log.ensures.crash (job_on_other_log j x) (good_beside j good x leads) refl batch list same).moments in
-    crash_failed _ _ c.from_residual-in_err-write_log.ensures.1
-    (elim (cases_Bool (is_open (j.start.block (other_log x) 0))) [
-      | inl open_then ↦ andthen (not_open g at.After-take j good leads on shut open_then) (never log)
-      | inr shut_then ↦
-          let early = resuming_early j good x leads l (λ there. shut_then) in
-          andthen (taken g at.After-take j good leads)
-          (ends early (from (same_log j good x leads l (λ there. shut_then)) (milder early log)))
-    ])
-
-pub returns-in_err-put_synced-clause-crash : goal.returns-in_err-put_synced-clause-crash
-returns-in_err-put_synced-clause-crash g c j good is batch list same leads =
-    let at = goal.at.returns-in_err-put_synced-clause-crash g c in
-    let x = c.args.side in
-    let on = on g at.After-opens in
-    let shut = sym c.if-opens.ensures in
-    let l = live g at.After-take j is on in
-    let spelled = good_beside j good x leads in
-    let log = (c.in_ok-write_log.ensures.crash (job_on_other_log j x) spelled refl batch list same).done in
-    let opens = (open_crash g.met.R.Rack.agrees (job_on_other_log j x) refl spelled 0 (omega arith) refl c.gate-opened.ensures c.in_err-put_synced.ensures.does).moments in
-    crash_failed _ _ c.from_residual-in_err-put_synced.ensures.1
-    (elim (cases_Bool (is_open (j.start.block (other_log x) 0))) [
-      | inl open_then ↦ andthen (not_open g at.After-take j good leads on shut open_then) (never (andthen log (from (log_open j good x leads) opens)))
-      | inr shut_then ↦
-          let early = resuming_early j good x leads l (λ there. shut_then) in
-          andthen (taken g at.After-take j good leads)
-          (ends early (from (same_log j good x leads l (λ there. shut_then)) (milder early (andthen log (from (log_open j good x leads) opens)))))
-    ])
-
-pub returns-clause-crash : goal.returns-clause-crash
-returns-clause-crash g c j good is batch list same leads =
-    let at = goal.at.returns-clause-crash g c in
-    let x = c.args.side in
-    let on = on g at.After-opens in
-    let shut = sym c.if-opens.ensures in
-    let l = live g at.After-take j is on in
-    let spelled = good_beside j good x leads in
-    let both = crash_then (c.in_ok-write_log.ensures.crash (job_on_other_log j x) spelled refl batch list same)
-    (crash_from (log_open j good x leads) (open_crash g.met.R.Rack.agrees (job_on_other_log j x) refl spelled 0 (omega arith) refl c.gate-opened.ensures c.in_ok-put_synced.ensures.does)) in
-    elim (cases_Bool (is_open (j.start.block (other_log x) 0))) [
-      | inl open_then ↦ crash_after (not_open g at.After-take j good leads on shut open_then) (crash_never both)
-      | inr shut_then ↦
-          crash_after (taken g at.After-take j good leads)
-          (crash_upto (open_lay j good x leads l (λ there. shut_then))
-          (crash_from (same_log j good x leads l (λ there. shut_then)) (crash_milder (resuming_early j good x leads l (λ there. shut_then)) both)))
-    ]
-
 -- what was read, in the log of the other one
 heard : (g : Over) (c : After-take g) (read : Bool) → c.take.result ≡ Ok read
-    → CommitPart g.R.Rack (UsesLog c.args.skip) c.args.losses.now c.take.new.losses c.args.rack.now c.take.new.rack (Ok read)
-heard g c read is = logs_read 0 (let low = c.requires.log_disk in omega arith) (omega arith) (CommitPart_by is c.take.ensures.part)
+    → SyncedPart g.R.Rack (UsesLog c.args.skip) c.args.losses.now c.take.new.losses c.args.rack.now c.take.new.rack (Ok read)
+heard g c read is = record {
+  slots = c.take.ensures.slots;
+  part = logs_read 0 (let low = c.requires.log_disk in omega arith) (omega arith) (CommitPart_by is c.take.ensures.part);
+  still_synced = c.take.ensures.still_synced;
+}
 
 -- the other one is not skipped
 beside_log : (g : Over) (c : After-take g) → c.take.result ≡ Ok true → (d : ℕ) → IsUnskippedLog (Some c.args.side) d → IsUnskippedLog c.args.skip d
@@ -141,41 +61,97 @@ beside_log g c on d is =
     let same : other_log c.args.side ≡ d = (let apart : c.args.side ≢ d = (λ e. is.1 (ap Some e)) in elim (cases_eq c.args.side d) [ inl e ↦ absurd (apart e) | inr not ↦ omega arith ]) in
     (low, λ e. c.take.ensures.read on (e ∙ ap Some (sym same)))
 
-pub returns-in_err-read-clause-part : goal.returns-in_err-read-clause-part
-returns-in_err-read-clause-part g c =
-    CommitPart_raised _ c.from_residual.ensures.1 (logs_read 0 (let low = c.requires.log_disk in omega arith) (omega arith) c.in_err-read.ensures.part)
+pub returns-in_err-read : goal.returns-in_err-read
+returns-in_err-read g c = record {
+  leaves = SyncedPart_failed _ c.from_residual.ensures.1 c.take.ensures.slots (logs_read 0 (let low = c.requires.log_disk in omega arith) (omega arith) c.in_err-read.ensures.part);
+  crash = λ j good is batch list same leads.
+      let at = goal.at.returns-in_err-read g c in
+      crash_failed _ _ c.from_residual.ensures.1 (ends (resuming_same j good c.args.side leads) (taken g at.After-take j good leads));
+}
 
-pub returns-then-not-read-clause-part : goal.returns-then-not-read-clause-part
-returns-then-not-read-clause-part g c =
-    let at = goal.at.returns-then-not-read-clause-part g c in
-    CommitPart_answer tt (heard g at.After-take false (c.in_ok-read.was ∙ ap Ok c.if-not-read.true))
+pub returns-then-not-read : goal.returns-then-not-read
+returns-then-not-read g c = record {
+  leaves =
+      let at = goal.at.returns-then-not-read g c in
+      SyncedPart_answer tt (heard g at.After-take false (c.in_ok-read.was ∙ ap Ok c.if-not-read.true));
+  crash = λ j good is batch list same leads.
+      let at = goal.at.returns-then-not-read g c in
+      let y = other_log c.args.side in
+      let off = c.in_ok-read.was ∙ ap Ok c.if-not-read.true in
+      record {
+        moments = ends (resuming_same j good c.args.side leads) (taken g at.After-take j good leads);
+        done = upto_told (λ s t from to a b. same_lay j good c.args.side leads (now t) b (λ l there here.
+            absurd (absent_by y (g.met.R.Rack.agrees c.take.new.rack t to) (c.take.ensures.passed off (λ e. l.1 (is ∙ e))) here)))
+            (taken g at.After-take j good leads);
+      };
+}
 
-pub returns-then-opens-clause-part : goal.returns-then-opens-clause-part
-returns-then-opens-clause-part g c =
-    let at = goal.at.returns-then-opens-clause-part g c in
-    CommitPart_answer tt (heard g at.After-take true (c.in_ok-read.was ∙ ap Ok c.if-not-read.false))
+pub returns-then-opens : goal.returns-then-opens
+returns-then-opens g c = record {
+  leaves =
+      let at = goal.at.returns-then-opens g c in
+      SyncedPart_answer tt (heard g at.After-take true (c.in_ok-read.was ∙ ap Ok c.if-not-read.false));
+  crash = λ j good is batch list same leads.
+      let at = goal.at.returns-then-opens g c in
+      let on = on g at.After-opens in
+      let opened = sym c.if-opens.ensures in
+      record {
+        moments = ends (resuming_same j good c.args.side leads) (taken g at.After-take j good leads);
+        done = upto_told (λ s t from to a b. same_lay j good c.args.side leads (now t) b (λ l there here. elim (leads.other l there) [
+          | inl shut_then ↦ absurd (false≢true (sym shut_then ∙ ap is_open (sym (found g at.After-take j on s from a)) ∙ opened))
+          | inr says ↦ says
+        ])) (taken g at.After-take j good leads);
+      };
+}
 
-pub returns-in_err-write_log-clause-part : goal.returns-in_err-write_log-clause-part
-returns-in_err-write_log-clause-part g c =
-    let at = goal.at.returns-in_err-write_log-clause-part g c in
-    let on = on g at.After-opens in
-    CommitPart_raised _ c.from_residual-in_err-write_log.ensures.1
-    (CommitPart_then (heard g at.After-take true on) (CommitPart_beside (beside_log g at.After-take on) c.in_err-write_log.ensures.part))
+pub returns-in_err-write_log : goal.returns-in_err-write_log
+returns-in_err-write_log g c = record {
+  leaves =
+      let at = goal.at.returns-in_err-write_log g c in
+      let on = on g at.After-opens in
+      SyncedPart_raised _ c.from_residual-in_err-write_log.ensures.1
+      (SyncedPart_then (heard g at.After-take true on) (SyncedPart_as (CommitPart_beside (beside_log g at.After-take on)) c.in_err-write_log.ensures.leaves));
+  crash = λ j good is batch list same leads.
+      let at = goal.at.returns-in_err-write_log g c in
+      let x = c.args.side in
+      let on = on g at.After-opens in
+      let shut = sym c.if-opens.ensures in
+      let l = live g at.After-take j is on in
+      let log = (c.in_err-write_log.ensures.crash (job_on_other_log j x) (good_beside j good x leads) refl batch list same).moments in
+      crash_failed _ _ c.from_residual-in_err-write_log.ensures.1
+      (elim (cases_Bool (is_open (j.start.block (other_log x) 0))) [
+        | inl open_then ↦ andthen (not_open g at.After-take j good leads on shut open_then) (never log)
+        | inr shut_then ↦
+            let early = resuming_early j good x leads l (λ there. shut_then) in
+            andthen (taken g at.After-take j good leads)
+            (ends early (from (same_log j good x leads l (λ there. shut_then)) (milder early log)))
+      ]);
+}
 
-pub returns-in_err-put_synced-clause-part : goal.returns-in_err-put_synced-clause-part
-returns-in_err-put_synced-clause-part g c =
-    let at = goal.at.returns-in_err-put_synced-clause-part g c in
-    let on = on g at.After-opens in
-    let beside = beside_log g at.After-take on in
-    CommitPart_raised _ c.from_residual-in_err-put_synced.ensures.1
-    (CommitPart_then (heard g at.After-take true on) (CommitPart_beside beside (CommitPart_then c.in_ok-write_log.ensures.part c.in_err-put_synced.ensures.part)))
-
-pub returns-clause-part : goal.returns-clause-part
-returns-clause-part g c =
-    let at = goal.at.returns-clause-part g c in
-    let on = on g at.After-opens in
-    let beside = beside_log g at.After-take on in
-    CommitPart_then (heard g at.After-take true on) (CommitPart_beside beside (CommitPart_then c.in_ok-write_log.ensures.part c.in_ok-put_synced.ensures.part))
+pub returns : goal.returns
+returns g c = record {
+  leaves =
+      let at = goal.at.returns g c in
+      let on = on g at.After-opens in
+      let beside = beside_log g at.After-take on in
+      SyncedPart_then (heard g at.After-take true on) (SyncedPart_as (CommitPart_beside beside) (SyncedPart_then c.in_ok-write_log.ensures.leaves c.put_synced.ensures.leaves));
+  crash = λ j good is batch list same leads.
+      let at = goal.at.returns g c in
+      let x = c.args.side in
+      let on = on g at.After-opens in
+      let shut = sym c.if-opens.ensures in
+      let l = live g at.After-take j is on in
+      let spelled = good_beside j good x leads in
+      let both = crash_then (c.in_ok-write_log.ensures.crash (job_on_other_log j x) spelled refl batch list same)
+      (crash_from (log_open j good x leads) (open_crash g.met.R.Rack.agrees (job_on_other_log j x) refl spelled 0 (omega arith) refl c.gate-opened.ensures c.put_synced.ensures.does)) in
+      elim (cases_Bool (is_open (j.start.block (other_log x) 0))) [
+        | inl open_then ↦ crash_after (not_open g at.After-take j good leads on shut open_then) (crash_never both)
+        | inr shut_then ↦
+            crash_after (taken g at.After-take j good leads)
+            (crash_upto (open_lay j good x leads l (λ there. shut_then))
+            (crash_from (same_log j good x leads l (λ there. shut_then)) (crash_milder (resuming_early j good x leads l (λ there. shut_then)) both)))
+      ];
+}
 
 pub write_log-requires-clause-log : goal.write_log-requires-clause-log
 write_log-requires-clause-log g c =
@@ -187,27 +163,5 @@ pub put_synced-requires-clause-log : goal.put_synced-requires-clause-log
 put_synced-requires-clause-log g c =
     let at = goal.at.put_synced-requires-clause-log g c in
     let on = on g at.After-opens in
-    log_stays_ready c.write_log.ensures.part.lasts
+    log_stays_ready c.write_log.ensures.leaves.part.lasts
     (record { can = λ x low not. (log_stays_ready c.take.ensures.part.lasts c.requires.log).can x low (beside_log g at.After-take on x (low, not)).1 })
-
-pub returns-in_err-read-clause-still_synced : goal.returns-in_err-read-clause-still_synced
-returns-in_err-read-clause-still_synced g c = raised_ok _ _ c.from_residual.result c.from_residual.ensures.1
-
-pub returns-then-not-read-clause-still_synced : goal.returns-then-not-read-clause-still_synced
-returns-then-not-read-clause-still_synced g c = c.take.ensures.still_synced
-
-pub returns-then-opens-clause-still_synced : goal.returns-then-opens-clause-still_synced
-returns-then-opens-clause-still_synced g c = c.take.ensures.still_synced
-
-pub returns-in_err-write_log-clause-still_synced : goal.returns-in_err-write_log-clause-still_synced
-returns-in_err-write_log-clause-still_synced g c = raised_ok _ _ c.from_residual-in_err-write_log.result c.from_residual-in_err-write_log.ensures.1
-
-pub returns-in_err-put_synced-clause-still_synced : goal.returns-in_err-put_synced-clause-still_synced
-returns-in_err-put_synced-clause-still_synced g c = raised_ok _ _ c.from_residual-in_err-put_synced.result c.from_residual-in_err-put_synced.ensures.1
-
-pub returns-clause-still_synced : goal.returns-clause-still_synced
-returns-clause-still_synced g c =
-    let written = AreCommitCalls-then _ _ _ _ _ _ c.take.ensures.part.lasts c.write_log.ensures.part.lasts in
-    StaySyncedBut-both (λ d. ⊥) _ _ _ _ _ _ written c.put_synced.ensures.part.lasts
-    (StaySyncedBut-both (λ d. ⊥) _ _ _ _ _ _ c.take.ensures.part.lasts c.write_log.ensures.part.lasts c.take.ensures.still_synced c.in_ok-write_log.ensures.still_synced)
-    c.in_ok-put_synced.ensures.still_synced

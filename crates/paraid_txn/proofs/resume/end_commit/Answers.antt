@@ -1,3 +1,4 @@
+use Rattle.paraid_txn.proofs.SyncedPartLemmas.{SyncedPart_as}
 use Rattle.std.specs.Prelude.{◌≡◌, Bool, Some}
 use Rattle.std.proofs.Common.{refl, sym, subst}
 use Rattle.paraid_rack.specs.Disks.{Disks}
@@ -6,7 +7,8 @@ use Rattle.paraid_txn.specs.Resume.{StandsWhileResumed, EndsAsCommitted, EndsLai
 use Rattle.paraid_txn.specs.CommitStages.{IsSpelled, job}
 use Rattle.paraid_txn.proofs.ResumePromiseLemmas.{closed_lays, closed_resumes, closed_settles, open_lays, open_resumes, open_settles}
 use Rattle.paraid_txn.proofs.StoreLemmas.{IsStartReady, start_ready}
-use Rattle.paraid_txn.proofs.CommitPartLemmas.{CommitPart_answer, CommitPart_logs, CommitPart_raised}
+use Rattle.paraid_txn.proofs.CommitPartLemmas.{CommitPart_logs}
+use Rattle.paraid_txn.proofs.CrashSpecificationLemmas.{ok_at, on_ok_as}
 use Rattle.paraid_txn.proofs.resume.end_commit.Given.{Over}
 use Rattle.paraid_txn.proofs.resume.end_commit.Goals as goal
 use Rattle.paraid_txn.proofs.resume.end_commit.Goals.{After-spell_meta-spelled}
@@ -23,75 +25,46 @@ good g c start = record {
 ready : (g : Over) (c : After-spell_meta-spelled g) (s : Trail) → g.R.Rack.told c.args.rack.now ≡ Some s → IsStartReady c.args.meta.now c.args.batch.now (now s)
 ready g c s is = start_ready _ _ _ _ _ (g.met.R.Rack.agrees _ s is) c.requires.log c.requires.ready
 
-pub returns-in_err-resume_open-clause-moments : goal.returns-in_err-resume_open-clause-moments
-returns-in_err-resume_open-clause-moments g c =
-    let at = goal.at.returns-in_err-resume_open-clause-moments g c in
-    subst (λ (o : Bool). StandsWhileResumed (g.R.Rack.told c.args.rack.now) (g.R.Rack.told c.resume_open.new.rack) c.args.side (log_state o c.args.meta.now c.args.batch.now)) (sym c.if-gate_open.true)
-    (open_resumes _ _ _ _ _ (good g at.After-spell_meta-spelled) c.requires.log_disk c.requires.in_array _ _ (ready g at.After-spell_meta-spelled)
-    (λ start leads. (c.resume_open.ensures.crash _ (good g at.After-spell_meta-spelled start) refl refl refl refl refl leads).moments))
+pub returns-then-gate_open : goal.returns-then-gate_open
+returns-then-gate_open g c = record {
+  leaves = c.resume_open.ensures.leaves;
+  moments =
+      let at = goal.at.returns-then-gate_open g c in
+      subst (λ (o : Bool). StandsWhileResumed (g.R.Rack.told c.args.rack.now) (g.R.Rack.told c.resume_open.new.rack) c.args.side (log_state o c.args.meta.now c.args.batch.now)) (sym c.if-gate_open.true)
+      (open_resumes _ _ _ _ _ (good g at.After-spell_meta-spelled) c.requires.log_disk c.requires.in_array _ _ (ready g at.After-spell_meta-spelled)
+      (λ start leads. (c.resume_open.ensures.crash _ (good g at.After-spell_meta-spelled start) refl refl refl refl refl leads).moments));
+  done =
+      let at = goal.at.returns-then-gate_open g c in
+      on_ok_as c.resume_open.result (λ unit ended.
+      subst (λ (o : Bool). EndsAsCommitted (g.R.Rack.told c.args.rack.now) (g.R.Rack.told c.resume_open.new.rack) c.args.side (log_state o c.args.meta.now c.args.batch.now)) (sym c.if-gate_open.true)
+      (open_settles _ _ _ _ _ (good g at.After-spell_meta-spelled) c.requires.log_disk c.requires.in_array _ _ (ready g at.After-spell_meta-spelled)
+      (λ start leads. ok_at _ ended (c.resume_open.ensures.crash _ (good g at.After-spell_meta-spelled start) refl refl refl refl refl leads).done)));
+  laid =
+      let at = goal.at.returns-then-gate_open g c in
+      on_ok_as c.resume_open.result (λ unit ended.
+      subst (λ (o : Bool). EndsLaid (g.R.Rack.told c.args.rack.now) (g.R.Rack.told c.resume_open.new.rack) c.args.side (log_state o c.args.meta.now c.args.batch.now)) (sym c.if-gate_open.true)
+      (open_lays _ _ _ _ _ (good g at.After-spell_meta-spelled) c.requires.log_disk c.requires.in_array _ _ (ready g at.After-spell_meta-spelled)
+      (λ start leads. ok_at _ ended (c.resume_open.ensures.crash _ (good g at.After-spell_meta-spelled start) refl refl refl refl refl leads).done)));
+}
 
-pub returns-then-gate_open-clause-moments : goal.returns-then-gate_open-clause-moments
-returns-then-gate_open-clause-moments g c =
-    let at = goal.at.returns-then-gate_open-clause-moments g c in
-    subst (λ (o : Bool). StandsWhileResumed (g.R.Rack.told c.args.rack.now) (g.R.Rack.told c.resume_open.new.rack) c.args.side (log_state o c.args.meta.now c.args.batch.now)) (sym c.if-gate_open.true)
-    (open_resumes _ _ _ _ _ (good g at.After-spell_meta-spelled) c.requires.log_disk c.requires.in_array _ _ (ready g at.After-spell_meta-spelled)
-    (λ start leads. (c.resume_open.ensures.crash _ (good g at.After-spell_meta-spelled start) refl refl refl refl refl leads).moments))
-
-pub returns-then-gate_open-clause-done : goal.returns-then-gate_open-clause-done
-returns-then-gate_open-clause-done g c =
-    let at = goal.at.returns-then-gate_open-clause-done g c in
-    subst (λ (o : Bool). EndsAsCommitted (g.R.Rack.told c.args.rack.now) (g.R.Rack.told c.resume_open.new.rack) c.args.side (log_state o c.args.meta.now c.args.batch.now)) (sym c.if-gate_open.true)
-    (open_settles _ _ _ _ _ (good g at.After-spell_meta-spelled) c.requires.log_disk c.requires.in_array _ _ (ready g at.After-spell_meta-spelled)
-    (λ start leads. (c.in_ok-resume_open.ensures.crash _ (good g at.After-spell_meta-spelled start) refl refl refl refl refl leads).done))
-
-pub returns-then-gate_open-clause-laid : goal.returns-then-gate_open-clause-laid
-returns-then-gate_open-clause-laid g c =
-    let at = goal.at.returns-then-gate_open-clause-laid g c in
-    subst (λ (o : Bool). EndsLaid (g.R.Rack.told c.args.rack.now) (g.R.Rack.told c.resume_open.new.rack) c.args.side (log_state o c.args.meta.now c.args.batch.now)) (sym c.if-gate_open.true)
-    (open_lays _ _ _ _ _ (good g at.After-spell_meta-spelled) c.requires.log_disk c.requires.in_array _ _ (ready g at.After-spell_meta-spelled)
-    (λ start leads. (c.in_ok-resume_open.ensures.crash _ (good g at.After-spell_meta-spelled start) refl refl refl refl refl leads).done))
-
-pub returns-in_err-resume_closed-clause-moments : goal.returns-in_err-resume_closed-clause-moments
-returns-in_err-resume_closed-clause-moments g c =
-    let at = goal.at.returns-in_err-resume_closed-clause-moments g c in
-    subst (λ (o : Bool). StandsWhileResumed (g.R.Rack.told c.args.rack.now) (g.R.Rack.told c.resume_closed.new.rack) c.args.side (log_state o c.args.meta.now c.args.batch.now)) (sym c.if-gate_open.false)
-    (closed_resumes _ _ _ _ _ (good g at.After-spell_meta-spelled) c.requires.log_disk c.requires.in_array _ _ (ready g at.After-spell_meta-spelled) (c.requires.empty c.if-gate_open.false)
-    (λ start. (c.resume_closed.ensures.crash _ (good g at.After-spell_meta-spelled start) (sym c.named.ensures) refl).moments))
-
-pub returns-clause-moments : goal.returns-clause-moments
-returns-clause-moments g c =
-    let at = goal.at.returns-clause-moments g c in
-    subst (λ (o : Bool). StandsWhileResumed (g.R.Rack.told c.args.rack.now) (g.R.Rack.told c.resume_closed.new.rack) c.args.side (log_state o c.args.meta.now c.args.batch.now)) (sym c.if-gate_open.false)
-    (closed_resumes _ _ _ _ _ (good g at.After-spell_meta-spelled) c.requires.log_disk c.requires.in_array _ _ (ready g at.After-spell_meta-spelled) (c.requires.empty c.if-gate_open.false)
-    (λ start. (c.resume_closed.ensures.crash _ (good g at.After-spell_meta-spelled start) (sym c.named.ensures) refl).moments))
-
-pub returns-clause-done : goal.returns-clause-done
-returns-clause-done g c =
-    let at = goal.at.returns-clause-done g c in
-    subst (λ (o : Bool). EndsAsCommitted (g.R.Rack.told c.args.rack.now) (g.R.Rack.told c.resume_closed.new.rack) c.args.side (log_state o c.args.meta.now c.args.batch.now)) (sym c.if-gate_open.false)
-    (closed_settles _ _ _ _ _ (good g at.After-spell_meta-spelled) c.requires.log_disk c.requires.in_array _ _ (ready g at.After-spell_meta-spelled) (c.requires.empty c.if-gate_open.false)
-    (λ start. (c.in_ok-resume_closed.ensures.crash _ (good g at.After-spell_meta-spelled start) (sym c.named.ensures) refl).done))
-
-pub returns-clause-laid : goal.returns-clause-laid
-returns-clause-laid g c =
-    let at = goal.at.returns-clause-laid g c in
-    subst (λ (o : Bool). EndsLaid (g.R.Rack.told c.args.rack.now) (g.R.Rack.told c.resume_closed.new.rack) c.args.side (log_state o c.args.meta.now c.args.batch.now)) (sym c.if-gate_open.false)
-    (closed_lays _ _ _ _ _ (good g at.After-spell_meta-spelled) c.requires.log_disk c.requires.in_array _ _ (ready g at.After-spell_meta-spelled) (c.requires.empty c.if-gate_open.false)
-    (λ start. (c.in_ok-resume_closed.ensures.crash _ (good g at.After-spell_meta-spelled start) (sym c.named.ensures) refl).done))
-
-pub returns-in_err-resume_open-clause-part : goal.returns-in_err-resume_open-clause-part
-returns-in_err-resume_open-clause-part g c =
-    CommitPart_raised _ c.from_residual.ensures.1 c.in_err-resume_open.ensures.part
-
-pub returns-then-gate_open-clause-part : goal.returns-then-gate_open-clause-part
-returns-then-gate_open-clause-part g c =
-    CommitPart_answer tt c.in_ok-resume_open.ensures.part
-
-pub returns-in_err-resume_closed-clause-part : goal.returns-in_err-resume_closed-clause-part
-returns-in_err-resume_closed-clause-part g c =
-    CommitPart_raised _ c.from_residual-in_err-resume_closed.ensures.1
-    (CommitPart_logs c.args.meta.now c.args.batch.now c.named.ensures c.in_err-resume_closed.ensures.part)
-
-pub returns-clause-part : goal.returns-clause-part
-returns-clause-part g c =
-    CommitPart_logs c.args.meta.now c.args.batch.now c.named.ensures c.in_ok-resume_closed.ensures.part
+pub returns : goal.returns
+returns g c = record {
+  leaves = SyncedPart_as (CommitPart_logs c.args.meta.now c.args.batch.now c.named.ensures) c.resume_closed.ensures.leaves;
+  moments =
+      let at = goal.at.returns g c in
+      subst (λ (o : Bool). StandsWhileResumed (g.R.Rack.told c.args.rack.now) (g.R.Rack.told c.resume_closed.new.rack) c.args.side (log_state o c.args.meta.now c.args.batch.now)) (sym c.if-gate_open.false)
+      (closed_resumes _ _ _ _ _ (good g at.After-spell_meta-spelled) c.requires.log_disk c.requires.in_array _ _ (ready g at.After-spell_meta-spelled) (c.requires.empty c.if-gate_open.false)
+      (λ start. (c.resume_closed.ensures.crash _ (good g at.After-spell_meta-spelled start) (sym c.named.ensures) refl).moments));
+  done =
+      let at = goal.at.returns g c in
+      on_ok_as c.resume_closed.result (λ unit ended.
+      subst (λ (o : Bool). EndsAsCommitted (g.R.Rack.told c.args.rack.now) (g.R.Rack.told c.resume_closed.new.rack) c.args.side (log_state o c.args.meta.now c.args.batch.now)) (sym c.if-gate_open.false)
+      (closed_settles _ _ _ _ _ (good g at.After-spell_meta-spelled) c.requires.log_disk c.requires.in_array _ _ (ready g at.After-spell_meta-spelled) (c.requires.empty c.if-gate_open.false)
+      (λ start. ok_at _ ended (c.resume_closed.ensures.crash _ (good g at.After-spell_meta-spelled start) (sym c.named.ensures) refl).done)));
+  laid =
+      let at = goal.at.returns g c in
+      on_ok_as c.resume_closed.result (λ unit ended.
+      subst (λ (o : Bool). EndsLaid (g.R.Rack.told c.args.rack.now) (g.R.Rack.told c.resume_closed.new.rack) c.args.side (log_state o c.args.meta.now c.args.batch.now)) (sym c.if-gate_open.false)
+      (closed_lays _ _ _ _ _ (good g at.After-spell_meta-spelled) c.requires.log_disk c.requires.in_array _ _ (ready g at.After-spell_meta-spelled) (c.requires.empty c.if-gate_open.false)
+      (λ start. ok_at _ ended (c.resume_closed.ensures.crash _ (good g at.After-spell_meta-spelled start) (sym c.named.ensures) refl).done)));
+}

@@ -1,5 +1,5 @@
 use Rattle.std.specs.Prelude.{◌≢◌, Some}
-use Rattle.std.proofs.Common.{inl, arith, below_more, refl, ◌∙◌}
+use Rattle.std.proofs.Common.{inl, arith, below_more, refl, ◌∙◌, rules}
 use Rattle.paraid_txn.specs.Losses.{IsSyncedAt}
 use Rattle.paraid_txn.proofs.DownLemmas.{StaySyncedBut-both, IsSyncedAt-later}
 use Rattle.paraid_txn.proofs.CommitPartLemmas.{CommitPart_answer, CommitPart_none, CommitPart_raised, CommitPart_then}
@@ -27,16 +27,20 @@ loop-disk-preserved g c = record {
       c.sync_one.ensures.synced;
 }
 
-pub returns-in_err-sync_one-clause-part : goal.returns-in_err-sync_one-clause-part
-returns-in_err-sync_one-clause-part g c = CommitPart_raised _ c.from_residual.ensures.1 (CommitPart_then c.loop-disk.invariant.part c.in_err-sync_one.ensures.part)
+pub returns-in_err-sync_one : goal.returns-in_err-sync_one
+returns-in_err-sync_one g c = record {
+  slots = search rules;
+  part = CommitPart_raised _ c.from_residual.ensures.1 (CommitPart_then c.loop-disk.invariant.part c.in_err-sync_one.ensures.part);
+  still_synced =
+      StaySyncedBut-both _ _ _ _ (g.R.Rack.slot c.args.rack.now) (g.R.Rack.slot c.loop-disk.rack) (g.R.Rack.slot c.sync_one.new.rack)
+      c.loop-disk.invariant.part.lasts c.sync_one.ensures.part.lasts c.loop-disk.invariant.still_synced c.sync_one.ensures.still_synced;
+  synced = search rules;
+}
 
-pub returns-in_err-sync_one-clause-still_synced : goal.returns-in_err-sync_one-clause-still_synced
-returns-in_err-sync_one-clause-still_synced g c =
-    StaySyncedBut-both _ _ _ _ (g.R.Rack.slot c.args.rack.now) (g.R.Rack.slot c.loop-disk.rack) (g.R.Rack.slot c.sync_one.new.rack)
-    c.loop-disk.invariant.part.lasts c.sync_one.ensures.part.lasts c.loop-disk.invariant.still_synced c.sync_one.ensures.still_synced
-
-pub returns-clause-part : goal.returns-clause-part
-returns-clause-part g c = CommitPart_answer tt c.loop-disk.invariant.part
-
-pub returns-clause-synced : goal.returns-clause-synced
-returns-clause-synced g c d low not = c.loop-disk.invariant.synced d (omega arith) not
+pub returns : goal.returns
+returns g c = record {
+  slots = search rules;
+  part = CommitPart_answer tt c.loop-disk.invariant.part;
+  still_synced = search rules;
+  synced = λ d low not. c.loop-disk.invariant.synced d (omega arith) not;
+}
