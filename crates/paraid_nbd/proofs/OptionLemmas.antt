@@ -1,9 +1,9 @@
 -- An option from its parts
-use Rattle.std.proofs.Common.{◌≡◌, ℕ, ◌+◌, ◌≤◌, List, [], ◌∷◌, ◌++◌, Option, true, false, length, arith, refl, sym, ◌∙◌, append_assoc, subst}
+use Rattle.std.proofs.Common.{◌≡◌, ℕ, ◌+◌, ◌<◌, ◌≤◌, List, [], ◌∷◌, ◌++◌, Option, true, false, length, arith, refl, sym, ◌∙◌, append_assoc, length-append, subst}
 use Rattle.std.proofs.lemmas.List.{append-nil}
 use Rattle.std.proofs.lemmas.Bool.{false≢true}
 use Rattle.paraid_nbd.specs.declared.ending.NbdEnd.{NbdEnd}
-use Rattle.paraid_nbd.specs.Options.{OptionParts, IsOptionMagic, chooses, option_kind, option_number, option_length}
+use Rattle.paraid_nbd.specs.Options.{OptionParts, IsOption, IsOptionMagic, option_bytes, chooses, option_kind, option_number, option_length}
 use Rattle.paraid_nbd.specs.Options.IsPartOption.{InContent}
 use Rattle.paraid_nbd.specs.Options.IsWrongOption.{WrongRange, WrongChoice}
 use Rattle.std.specs.List.{AllByRecursion}
@@ -53,6 +53,10 @@ pub skip_stops : {a c d : Option (List ℕ)} {i k l n f g z : ℕ} {e : NbdEnd} 
     → chooses (option_kind (option_number h)) ≡ false → n ≡ option_length h → f ≤ g → Lacks c d k l n g z e → StopsOption a d i l f z e
 skip_stops {a} {c} {d} {i} {k} {l} {n} {f} {g} {z} {e} m h t magic whole other is later lacks =
     CutOption (m ++ (h ++ lacks.got)) (Takes-last m h lacks.got t lacks.takes) (InContent m h lacks.got refl magic whole (λ b. absurd (false≢true (sym other ∙ b))) (omega (arith, lacks.few, is))) (IsCut-sooner e d l f g z later lacks.cause)
+
+-- an option has some bytes
+pub option_some : (p : OptionParts) → IsOption p → 0 < length (option_bytes p)
+option_some p is = omega (arith, is.magic.0, length-append p.magic (p.head ++ p.content))
 
 pub each_more : (ps : List OptionParts) (p : OptionParts) → AllByRecursion IsOther ps → IsOther p → AllByRecursion IsOther (ps ++ p ∷ [])
 each_more [] p each is = (is, tt)

@@ -201,6 +201,10 @@ request_taken {r = r} content t many = record {
   content = many ∙ ap (λ (y : Request). content_length y.command y.length) t.is;
 }
 
+-- a request has some bytes
+pub request_some : (p : RequestParts) → IsRequest p → 0 < length (request_bytes p)
+request_some p is = omega (arith, is.magic.0, length-append p.magic (p.head ++ p.content))
+
 each_request : (ps : List RequestParts) (p : RequestParts) → AllByRecursion IsRequest ps → IsRequest p → AllByRecursion IsRequest (ps ++ p ∷ [])
 each_request [] p each is = (is, tt)
 each_request (q ∷ ps) p each is = (each.0, each_request ps p each.1 is)

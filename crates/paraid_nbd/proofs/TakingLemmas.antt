@@ -1,5 +1,5 @@
 -- How what is taken adds up over calls
-use Rattle.std.proofs.Common.{◌≡◌, ℕ, ◌+◌, ◌-◌, ◌≤◌, List, [], ◌++◌, Option, length, take, drop, arith, sym, ◌∙◌, ap, length-append, subst}
+use Rattle.std.proofs.Common.{◌≡◌, ℕ, ◌+◌, ◌-◌, ◌^◌, ◌<◌, ◌≤◌, List, [], ◌++◌, Option, length, take, drop, arith, sym, ◌∙◌, ap, length-append, subst}
 use Rattle.std.proofs.Math.Seq.{take-append-add}
 use Rattle.std.proofs.lemmas.List.{length-replicate, length-take-le, take-append-le, length-drop}
 use Rattle.std.specs.Prelude.{replicate}
@@ -27,6 +27,10 @@ Takes-then {a} {b} {c} {i} {j} {k} {p} {q} t u = record {
   given = Gives-then a b c p q t.given u.given;
   count = omega (arith, t.count, u.count, length-append p q);
 }
+
+-- what may still be taken falls
+pub room_falls : {a b : Option (List ℕ)} {i j : ℕ} {p : List ℕ} → Takes a b i j p → 0 < length p → j ≤ 2 ^ 40 → 2 ^ 40 - j < 2 ^ 40 - i
+room_falls t some limit = omega (arith, t.count, some, limit)
 
 pub IsCut-sooner : (e : NbdEnd) (after : Option (List ℕ)) (taken f g h : ℕ) → f ≤ g → IsCut e after taken g h → IsCut e after taken f h
 IsCut-sooner Closed after taken f g h l x = x

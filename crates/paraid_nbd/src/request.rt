@@ -62,7 +62,6 @@ fn command_of(number: u16) -> Command
 
 impl Request {
     /// The request in these 24 bytes.
-    #[tactic(auto, unfolding(crate::specs::Requests::request_in, crate::specs::Numbers::number))]
     pub(crate) fn from_bytes(bytes: &[u8]) -> Self
         requires { length bytes.now ≡ 24 }
         ensures { result ≡ request_in bytes.now }

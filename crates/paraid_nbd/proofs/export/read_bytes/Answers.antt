@@ -20,13 +20,20 @@ on_err : {T E P : Type 0} (r : Result T E) → P → OnErr r P
 on_err (Ok x) p = tt
 on_err (Err e) p = p
 
-pub returns-in_err-read_block-clause-stops : goal.returns-in_err-read_block-clause-stops
-returns-in_err-read_block-clause-stops g c =
+pub returns-in_err-read_block : goal.returns-in_err-read_block
+returns-in_err-read_block g c =
+    let p = err_from_is_err_and c.from_residual.result c.from_residual.ensures.1 in
     let i = c.loop-done.invariant in
     let e = c.in_err-read_block.ensures in
-    on_err c.from_residual.result (λ tells s events is kept.
-    let r = i.read (e.told tells) s events is kept in
-    halts_later r.new r.reads (λ none. r.quiet (r.serves none)) (e.stops tells s (events ++ r.new) r.now r.kept_is))
+    record {
+      size = c.in_err-read_block.ensures.size ∙ c.loop-done.invariant.size;
+      told = λ t. c.loop-done.invariant.told (c.in_err-read_block.ensures.told t);
+      read = rw p.1 tt;
+      stops = on_err c.from_residual.result (λ tells s events is kept.
+          let r = i.read (e.told tells) s events is kept in
+          halts_later r.new r.reads (λ none. r.quiet (r.serves none)) (e.stops tells s (events ++ r.new) r.now r.kept_is));
+      some = on_err c.from_residual.result (omega (arith, c.loop-done-test.true, c.loop-done.auto.into));
+    }
 
 pub loop-done-preserved : goal.loop-done-preserved
 loop-done-preserved g c =
@@ -56,35 +63,15 @@ loop-done-preserved g c =
           rw all (bytes_more part.block part.start part.length c.read_block.new.into r (omega (arith, place.block, place.start, front)) inside (omega (arith, place.length, place.start, c.loop-done-test.true)) (e.read tells s (events ++ r.new) r.now r.kept_is));
     }
 
-pub returns-clause-read : goal.returns-clause-read
-returns-clause-read g c = λ tells s events is kept.
-    let b = g.B.Blocks in
-    subst (λ (x : List ℕ). HasBytes (b.stands c.loop-done.blocks) (b.halted c.loop-done.blocks) (b.kept c.loop-done.blocks) s events c.args.offset x)
-    (take_all c.loop-done.done c.loop-done.into (omega (arith, c.loop-done-test.false)))
-    (c.loop-done.invariant.read tells s events is kept)
-
-pub returns-in_err-read_block-clause-size : goal.returns-in_err-read_block-clause-size
-returns-in_err-read_block-clause-size g c = c.in_err-read_block.ensures.size ∙ c.loop-done.invariant.size
-
-pub returns-in_err-read_block-clause-told : goal.returns-in_err-read_block-clause-told
-returns-in_err-read_block-clause-told g c = λ t. c.loop-done.invariant.told (c.in_err-read_block.ensures.told t)
-
-pub returns-in_err-read_block-clause-read : goal.returns-in_err-read_block-clause-read
-returns-in_err-read_block-clause-read g c =
-    let p = err_from_is_err_and c.from_residual.result c.from_residual.ensures.1 in
-    rw p.1 tt
-
-pub returns-in_err-read_block-clause-some : goal.returns-in_err-read_block-clause-some
-returns-in_err-read_block-clause-some g c = on_err c.from_residual.result (omega (arith, c.loop-done-test.true, c.loop-done.auto.into))
-
-pub returns-clause-size : goal.returns-clause-size
-returns-clause-size g c = c.loop-done.invariant.size
-
-pub returns-clause-told : goal.returns-clause-told
-returns-clause-told g c = c.loop-done.invariant.told
-
-pub returns-clause-stops : goal.returns-clause-stops
-returns-clause-stops g c = tt
-
-pub returns-clause-some : goal.returns-clause-some
-returns-clause-some g c = tt
+pub returns : goal.returns
+returns g c = record {
+  size = c.loop-done.invariant.size;
+  told = c.loop-done.invariant.told;
+  read = λ tells s events is kept.
+      let b = g.B.Blocks in
+      subst (λ (x : List ℕ). HasBytes (b.stands c.loop-done.blocks) (b.halted c.loop-done.blocks) (b.kept c.loop-done.blocks) s events c.args.offset x)
+      (take_all c.loop-done.done c.loop-done.into (omega (arith, c.loop-done-test.false)))
+      (c.loop-done.invariant.read tells s events is kept);
+  stops = tt;
+  some = tt;
+}

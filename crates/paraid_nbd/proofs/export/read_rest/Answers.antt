@@ -1,6 +1,12 @@
+use Rattle.std.proofs.Common.{rules}
 use Rattle.std.proofs.lemmas.Result.{on_ok_weaker}
 use Rattle.paraid_nbd.proofs.DeviceLemmas.{rest_read}
 use Rattle.paraid_nbd.proofs.export.read_rest.Goals as goal
 
-pub returns-clause-read : goal.returns-clause-read
-returns-clause-read g c = on_ok_weaker c.read_block.result (λ f tells s events is kept. rest_read c.args.part.length (f tells s events is kept)) c.read_block.ensures.read
+pub returns : goal.returns
+returns g c = record {
+  size = search rules;
+  told = search rules;
+  read = on_ok_weaker c.read_block.result (λ f tells s events is kept. rest_read c.args.part.length (f tells s events is kept)) c.read_block.ensures.read;
+  stops = search rules;
+}

@@ -1,6 +1,7 @@
 use Rattle.std.proofs.Common.{◌≡◌, ◌≤◌, ◌+◌, ◌-◌, ◌%◌, ◌++◌, ◌<◌, ◌⊎◌, inl, inr, ℕ, List, Result, Ok, Err, OnErr, length, take, drop, min, arith, refl, ap, ◌∙◌, subst}
 use Rattle.std.proofs.lemmas.Bool.{cases_lt}
 use Rattle.std.proofs.lemmas.List.{take_all}
+use Rattle.std.proofs.lemmas.Result.{err_from_is_err_and}
 use Rattle.paraid_nbd.specs.Export.{HasWritten}
 use Rattle.paraid_nbd.proofs.WriteLemmas.{written_none, written_more, stops_after}
 use Rattle.paraid_nbd.proofs.export.write_bytes.Goals as goal
@@ -18,13 +19,18 @@ on_err : {T E P : Type 0} (r : Result T E) → P → OnErr r P
 on_err (Ok x) p = tt
 on_err (Err e) p = p
 
-pub returns-in_err-write_part-clause-stops : goal.returns-in_err-write_part-clause-stops
-returns-in_err-write_part-clause-stops g c =
+pub returns-in_err-write_part : goal.returns-in_err-write_part
+returns-in_err-write_part g c =
     let i = c.loop-done.invariant in
     let e = c.in_err-write_part.ensures in
-    on_err c.from_residual.result (λ tells s events is kept.
-    let r = i.written (e.told tells) s events is kept in
-    stops_after c.loop-done.done c.args.from.now r i.within (e.stops tells r.t (events ++ r.new) r.now r.kept_is))
+    record {
+      size = c.in_err-write_part.ensures.size ∙ c.loop-done.invariant.size;
+      told = λ t. c.loop-done.invariant.told (c.in_err-write_part.ensures.told t);
+      written = rw (err_from_is_err_and c.from_residual.result c.from_residual.ensures.1).1 tt;
+      stops = on_err c.from_residual.result (λ tells s events is kept.
+          let r = i.written (e.told tells) s events is kept in
+          stops_after c.loop-done.done c.args.from.now r i.within (e.stops tells r.t (events ++ r.new) r.now r.kept_is));
+    }
 
 start_side : (offset done size start : ℕ) → start ≡ (offset + done) % 512 → done < size → (done ≡ 0) ⊎ (((offset + done) % 512 ≡ 0) ⊎ (done ≡ size)) → (done ≡ 0) ⊎ (start ≡ 0)
 start_side offset done size start is lt (inl first) = inl first
@@ -58,9 +64,14 @@ loop-done-preserved g c =
           (start_side c.args.offset done (length c.args.from.now) part.start place.start c.loop-done-test.true i.whole) piece (e.written tells r.t (events ++ r.new) r.now r.kept_is);
     }
 
-pub returns-clause-written : goal.returns-clause-written
-returns-clause-written g c = λ tells s events is kept.
-    let b = g.B.Blocks in
-    subst (λ (x : List ℕ). HasWritten (b.stands c.loop-done.blocks) (b.halted c.loop-done.blocks) (b.kept c.loop-done.blocks) s events c.args.offset x)
-    (take_all c.loop-done.done c.args.from.now (omega (arith, c.loop-done-test.false)))
-    (c.loop-done.invariant.written tells s events is kept)
+pub returns : goal.returns
+returns g c = record {
+  size = c.loop-done.invariant.size;
+  told = c.loop-done.invariant.told;
+  written = λ tells s events is kept.
+      let b = g.B.Blocks in
+      subst (λ (x : List ℕ). HasWritten (b.stands c.loop-done.blocks) (b.halted c.loop-done.blocks) (b.kept c.loop-done.blocks) s events c.args.offset x)
+      (take_all c.loop-done.done c.args.from.now (omega (arith, c.loop-done-test.false)))
+      (c.loop-done.invariant.written tells s events is kept);
+  stops = tt;
+}

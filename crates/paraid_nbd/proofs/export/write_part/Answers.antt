@@ -1,38 +1,36 @@
 use Rattle.std.proofs.lemmas.Result.{err_from_is_err_and, on_ok_weaker, on_err_weaker}
-use Rattle.std.proofs.Common.{ℕ, ◌+◌, ◌<◌, ◌≤◌, ◌++◌, ◌∙◌, subst, sym}
+use Rattle.std.proofs.Common.{ℕ, ◌+◌, ◌<◌, ◌≤◌, ◌++◌, ◌∙◌, subst, sym, rules}
 use Rattle.paraid_nbd.proofs.DeviceLemmas.{halts_later}
 use Rattle.paraid_nbd.proofs.WriteLemmas.{part_written}
 use Rattle.paraid_nbd.proofs.export.write_part.Goals as goal
 
-pub returns-clause-written : goal.returns-clause-written
-returns-clause-written g c = on_ok_weaker c.write_block.result (λ f tells s events is kept.
-    let r = c.in_ok-read_rest.ensures.read (c.write_block.ensures.told tells) s events is kept in
-    part_written c.args.part.start c.args.bytes.now c.replaced-new.result r c.requires.length c.requires.within c.replaced-new.ensures.inside c.replaced-new.ensures.outside (f tells s (events ++ r.new) r.now r.kept_is)) c.write_block.ensures.written
+pub returns : goal.returns
+returns g c = record {
+  size = c.write_block.ensures.size ∙ c.read_rest.ensures.size;
+  told = λ tells. c.read_rest.ensures.told (c.write_block.ensures.told tells);
+  written = on_ok_weaker c.write_block.result (λ f tells s events is kept.
+      let r = c.in_ok-read_rest.ensures.read (c.write_block.ensures.told tells) s events is kept in
+      part_written c.args.part.start c.args.bytes.now c.replaced-new.result r c.requires.length c.requires.within c.replaced-new.ensures.inside c.replaced-new.ensures.outside (f tells s (events ++ r.new) r.now r.kept_is)) c.write_block.ensures.written;
+  stops = on_err_weaker c.write_block.result (λ f tells s events is kept.
+      let r = c.in_ok-read_rest.ensures.read (c.write_block.ensures.told tells) s events is kept in
+      halts_later r.new r.reads r.quiet (f tells s (events ++ r.new) r.now r.kept_is)) c.write_block.ensures.stops;
+}
 
-pub returns-clause-stops : goal.returns-clause-stops
-returns-clause-stops g c = on_err_weaker c.write_block.result (λ f tells s events is kept.
-    let r = c.in_ok-read_rest.ensures.read (c.write_block.ensures.told tells) s events is kept in
-    halts_later r.new r.reads r.quiet (f tells s (events ++ r.new) r.now r.kept_is)) c.write_block.ensures.stops
-
-pub read_rest-requires-clause-within : goal.read_rest-requires-clause-within
-read_rest-requires-clause-within g c = subst (λ (n : ℕ). c.args.part.start + n ≤ 512) c.requires.length c.requires.within
+pub read_rest-requires : goal.read_rest-requires
+read_rest-requires g c = record {
+  block = c.requires.block;
+  within = subst (λ (n : ℕ). c.args.part.start + n ≤ 512) c.requires.length c.requires.within;
+}
 
 pub write_block-requires : goal.write_block-requires
 write_block-requires g c = subst (λ (n : ℕ). c.args.part.block < n) (sym c.read_rest.ensures.size) c.requires.block
 
-pub returns-in_err-read_rest-clause-size : goal.returns-in_err-read_rest-clause-size
-returns-in_err-read_rest-clause-size g c = c.read_rest.ensures.size
-
-pub returns-in_err-read_rest-clause-told : goal.returns-in_err-read_rest-clause-told
-returns-in_err-read_rest-clause-told g c = c.read_rest.ensures.told
-
-pub returns-clause-size : goal.returns-clause-size
-returns-clause-size g c = c.write_block.ensures.size ∙ c.read_rest.ensures.size
-
-pub returns-clause-told : goal.returns-clause-told
-returns-clause-told g c tells = c.read_rest.ensures.told (c.write_block.ensures.told tells)
-
-pub returns-in_err-read_rest-clause-written : goal.returns-in_err-read_rest-clause-written
-returns-in_err-read_rest-clause-written g c =
-    let p = err_from_is_err_and c.from_residual.result c.from_residual.ensures.1 in
-    rw p.1 tt
+pub returns-in_err-read_rest : goal.returns-in_err-read_rest
+returns-in_err-read_rest g c = record {
+  size = c.read_rest.ensures.size;
+  told = c.read_rest.ensures.told;
+  written =
+      let p = err_from_is_err_and c.from_residual.result c.from_residual.ensures.1 in
+      rw p.1 tt;
+  stops = search rules;
+}

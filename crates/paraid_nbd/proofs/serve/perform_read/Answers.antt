@@ -2,8 +2,16 @@ use Rattle.std.proofs.Common.{◌∙◌}
 use Rattle.paraid_nbd.proofs.ServiceLemmas.{read_performs, halts_performs}
 use Rattle.paraid_nbd.proofs.serve.perform_read.Goals as goal
 
-pub returns-in-Ok-clause-performs : goal.returns-in-Ok-clause-performs
-returns-in-Ok-clause-performs g c = λ tells s events is kept. read_performs _ c.args.request.now c.args.content.now c.read_bytes.new.into c.requires.command c.requires.done (c.read_bytes.auto.into ∙ c.requires.room) (c.in-Ok.ensures.read tells s events is kept)
+pub returns-in-Ok : goal.returns-in-Ok
+returns-in-Ok g c = record {
+  performs = λ tells s events is kept. read_performs _ c.args.request.now c.args.content.now c.read_bytes.new.into c.requires.command c.requires.done (c.read_bytes.auto.into ∙ c.requires.room) (c.in-Ok.ensures.read tells s events is kept);
+  size = c.in-Ok.ensures.size;
+  told = c.in-Ok.ensures.told;
+}
 
-pub returns-in-Err-clause-performs : goal.returns-in-Err-clause-performs
-returns-in-Err-clause-performs g c = λ tells s events is kept. halts_performs _ s c.args.request.now c.args.content.now c.read_bytes.new.into c.requires.done (c.in-Err.ensures.stops tells s events is kept)
+pub returns-in-Err : goal.returns-in-Err
+returns-in-Err g c = record {
+  performs = λ tells s events is kept. halts_performs _ s c.args.request.now c.args.content.now c.read_bytes.new.into c.requires.done (c.in-Err.ensures.stops tells s events is kept);
+  size = c.in-Err.ensures.size;
+  told = c.in-Err.ensures.told;
+}

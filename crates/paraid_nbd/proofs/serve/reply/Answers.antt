@@ -9,45 +9,34 @@ use Rattle.paraid_nbd.proofs.ServiceLemmas.{nothing_after, nothing_unless_read, 
 use Rattle.paraid_nbd.proofs.TakingLemmas.{later_then}
 use Rattle.paraid_nbd.proofs.serve.reply.Goals as goal
 
-pub returns-in_err-send-clause-sends : goal.returns-in_err-send-clause-sends
-returns-in_err-send-clause-sends g c =
-    let p = err_from_is_err_and c.from_residual.result c.from_residual.ensures.1 in
-    rw p.1 tt
-
-pub returns-in_err-send-clause-unsent : goal.returns-in_err-send-clause-unsent
-returns-in_err-send-clause-unsent g c =
+pub returns-in_err-send : goal.returns-in_err-send
+returns-in_err-send g c =
     let p = err_from_is_err_and c.from_residual.result c.from_residual.ensures.1 in
     let r = c.args.request.now in
     let rest : List ℕ = answer_content r.command c.args.outcome c.args.content.now in
     let head : c.put_u64.new.self ≡ reply_head r c.args.outcome = reply_made r c.args.outcome _ _ _ _ _ c.new-packet.ensures c.put_u32.ensures.value c.error_number.ensures c.put_u32-2.ensures.value c.put_u64.ensures.value in
-    rw (p.1, p.2) (subst (λ (x : List ℕ). IsUnsent (g.K.Sink.written c.args.sink.now) (g.K.Sink.written c.send.new.sink) (x ++ rest) (g.K.Sink.faults c.args.sink.now) (g.K.Sink.faults c.send.new.sink) c.in_err-send.field-0.0) head
-    (unsent_first rest c.in_err-send.ensures.unsent))
+    record {
+      sends = rw p.1 tt;
+      unsent = rw (p.1, p.2) (subst (λ (x : List ℕ). IsUnsent (g.K.Sink.written c.args.sink.now) (g.K.Sink.written c.send.new.sink) (x ++ rest) (g.K.Sink.faults c.args.sink.now) (g.K.Sink.faults c.send.new.sink) c.in_err-send.field-0.0) head
+          (unsent_first rest c.in_err-send.ensures.unsent));
+      later_sink = c.in_err-send.ensures.later_sink;
+    }
 
-pub returns-in_err-send-clause-later_sink : goal.returns-in_err-send-clause-later_sink
-returns-in_err-send-clause-later_sink g c = c.in_err-send.ensures.later_sink
-
-pub returns-in-Read-Done-clause-sends : goal.returns-in-Read-Done-clause-sends
-returns-in-Read-Done-clause-sends g c =
+pub returns-in-Read-Done : goal.returns-in-Read-Done
+returns-in-Read-Done g c =
     let r = c.args.request.now in
     let content : List ℕ = c.args.content.now in
     let head : c.put_u64.new.self ≡ reply_head r c.args.outcome = reply_made r c.args.outcome _ _ _ _ _ c.new-packet.ensures c.put_u32.ensures.value c.error_number.ensures c.put_u32-2.ensures.value c.put_u64.ensures.value in
     let alone : answer_content r.command c.args.outcome content ≡ content = rw (c.in-Read-Done.is-0, c.in-Read-Done.is-1) refl in
-    on_ok_weaker c.send_bytes.result (λ f. subst (λ (x : List ℕ). GrowsByBytes (g.K.Sink.written c.args.sink.now) (g.K.Sink.written c.send_bytes.new.sink) x)
-    (ap (λ (x : List ℕ). x ++ content) head ∙ ap (λ (x : List ℕ). reply_head r c.args.outcome ++ x) (sym alone))
-    (GrowsByBytes-then _ _ _ _ _ c.in_ok-send.ensures.sends f)) c.send_bytes.ensures.sends
-
-pub returns-in-Read-Done-clause-unsent : goal.returns-in-Read-Done-clause-unsent
-returns-in-Read-Done-clause-unsent g c =
-    let r = c.args.request.now in
-    let content : List ℕ = c.args.content.now in
-    let head : c.put_u64.new.self ≡ reply_head r c.args.outcome = reply_made r c.args.outcome _ _ _ _ _ c.new-packet.ensures c.put_u32.ensures.value c.error_number.ensures c.put_u32-2.ensures.value c.put_u64.ensures.value in
-    let alone : answer_content r.command c.args.outcome content ≡ content = rw (c.in-Read-Done.is-0, c.in-Read-Done.is-1) refl in
-    IfErr-weaker c.send_bytes.result _ _ (λ e f. subst (λ (x : List ℕ). IsUnsent (g.K.Sink.written c.args.sink.now) (g.K.Sink.written c.send_bytes.new.sink) x (g.K.Sink.faults c.args.sink.now) (g.K.Sink.faults c.send_bytes.new.sink) e)
-    (ap (λ (x : List ℕ). x ++ content) head ∙ ap (λ (x : List ℕ). reply_head r c.args.outcome ++ x) (sym alone))
-    (unsent_then c.in_ok-send.ensures.sends c.in_ok-send.ensures.later_sink f)) c.send_bytes.ensures.unsent
-
-pub returns-in-Read-Done-clause-later_sink : goal.returns-in-Read-Done-clause-later_sink
-returns-in-Read-Done-clause-later_sink g c = later_then _ _ _ c.in_ok-send.ensures.later_sink c.send_bytes.ensures.later_sink
+    record {
+      sends = on_ok_weaker c.send_bytes.result (λ f. subst (λ (x : List ℕ). GrowsByBytes (g.K.Sink.written c.args.sink.now) (g.K.Sink.written c.send_bytes.new.sink) x)
+          (ap (λ (x : List ℕ). x ++ content) head ∙ ap (λ (x : List ℕ). reply_head r c.args.outcome ++ x) (sym alone))
+          (GrowsByBytes-then _ _ _ _ _ c.in_ok-send.ensures.sends f)) c.send_bytes.ensures.sends;
+      unsent = IfErr-weaker c.send_bytes.result _ _ (λ e f. subst (λ (x : List ℕ). IsUnsent (g.K.Sink.written c.args.sink.now) (g.K.Sink.written c.send_bytes.new.sink) x (g.K.Sink.faults c.args.sink.now) (g.K.Sink.faults c.send_bytes.new.sink) e)
+          (ap (λ (x : List ℕ). x ++ content) head ∙ ap (λ (x : List ℕ). reply_head r c.args.outcome ++ x) (sym alone))
+          (unsent_then c.in_ok-send.ensures.sends c.in_ok-send.ensures.later_sink f)) c.send_bytes.ensures.unsent;
+      later_sink = later_then _ _ _ c.in_ok-send.ensures.later_sink c.send_bytes.ensures.later_sink;
+    }
 
 pub returns-in_default : goal.returns-in_default
 returns-in_default g c =

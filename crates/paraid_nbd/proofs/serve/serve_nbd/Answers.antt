@@ -1,14 +1,38 @@
-use Rattle.std.proofs.Common.{◌*◌, ℕ, ap, ◌∙◌}
+use Rattle.std.proofs.Common.{◌*◌, ℕ, ap, refl, ◌∙◌}
+use Rattle.paraid_base.proofs.ToldLemmas.{GrowsByBytes-none}
+use Rattle.paraid_nbd.specs.Service.Service.{NoRoom}
+use Rattle.paraid_nbd.proofs.TakingLemmas.{Takes-none, later_none, later_then}
 use Rattle.paraid_nbd.proofs.ServiceLemmas.{early, late}
 use Rattle.paraid_nbd.proofs.serve.serve_nbd.Goals as goal
 
-pub returns-in-Err-clause-service : goal.returns-in-Err-clause-service
-returns-in-Err-clause-service g c =
+pub returns-in-Err : goal.returns-in-Err
+returns-in-Err g c =
     let b = g.B.Blocks in
-    early b.stands b.halted b.kept b.tells (ap (λ (x : ℕ). 512 * x) (c.from-size.ensures ∙ c.blocks-2.ensures)) c.new-input.ensures c.in-Err.ensures.ends
+    record {
+      service = early b.stands b.halted b.kept b.tells (ap (λ (x : ℕ). 512 * x) (c.from-size.ensures ∙ c.blocks-2.ensures)) c.new-input.ensures c.in-Err.ensures.ends;
+      size = refl;
+      told = λ t. t;
+      later = c.in-Err.ensures.later;
+      later_sink = c.in-Err.ensures.later_sink;
+    }
 
-pub returns-clause-service : goal.returns-clause-service
-returns-clause-service g c =
+pub returns : goal.returns
+returns g c =
     let b = g.B.Blocks in
     let e = c.in_default-negotiate.ensures in
-    late b.stands b.halted b.kept b.tells (ap (λ (x : ℕ). 512 * x) (c.from-size.ensures ∙ c.blocks-2.ensures)) c.new-input.ensures e.begins e.later e.later_sink c.transmit.ensures.transmits
+    record {
+      service = late b.stands b.halted b.kept b.tells (ap (λ (x : ℕ). 512 * x) (c.from-size.ensures ∙ c.blocks-2.ensures)) c.new-input.ensures e.begins e.later e.later_sink c.transmit.ensures.transmits;
+      size = c.transmit.ensures.size;
+      told = c.transmit.ensures.told;
+      later = later_then _ _ _ e.later c.transmit.ensures.later;
+      later_sink = later_then _ _ _ e.later_sink c.transmit.ensures.later_sink;
+    }
+
+pub returns-in_default : goal.returns-in_default
+returns-in_default g c = record {
+  service = NoRoom refl refl (Takes-none _ _) (GrowsByBytes-none _);
+  size = refl;
+  told = λ t. t;
+  later = later_none _;
+  later_sink = later_none _;
+}

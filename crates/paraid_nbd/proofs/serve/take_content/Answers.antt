@@ -1,11 +1,16 @@
-use Rattle.std.proofs.Common.{◌≡◌, ◌≢◌, ℕ, [], arith, refl, sym}
+use Rattle.std.proofs.Common.{◌≡◌, ◌≢◌, ◌+◌, ◌≤◌, ◌∙◌, ℕ, List, [], ◌++◌, Option, length, arith, refl, rules, sym, length-append}
+use Rattle.std.specs.Prelude.{min}
+use Rattle.std.proofs.lemmas.List.{length-take-le, take-append-le, take_all}
 use Rattle.std.proofs.lemmas.Result.{err_from_is_err_and}
 use Rattle.paraid_nbd.specs.declared.request.Command.{Command}
 use Rattle.paraid_nbd.specs.declared.request.Command.TheVariants.{Read, Write, Disconnect, Flush, Unknown}
 use Rattle.paraid_nbd.specs.declared.request.Outcome.{Outcome}
 use Rattle.paraid_nbd.specs.declared.request.Outcome.TheVariants.{Done, Halted, Invalid, NoSpace}
-use Rattle.paraid_nbd.specs.Performing.{part_length}
+use Rattle.paraid_nbd.specs.Performing.{TakesContent, part_length}
 use Rattle.paraid_nbd.specs.Requests.{content_length}
+use Rattle.paraid_nbd.specs.declared.request.Request.{Request}
+use Rattle.paraid_nbd.specs.Taking.{Takes}
+use Rattle.paraid_nbd.proofs.ServiceLemmas.{read_fits, write_fits}
 use Rattle.paraid_nbd.proofs.TakingLemmas.{Lacks-of, Takes-none, later_none}
 use Rattle.paraid_nbd.proofs.serve.take_content.Goals as goal
 
@@ -39,25 +44,19 @@ content_other Disconnect n no_write = refl
 content_other Flush n no_write = refl
 content_other Unknown n no_write = refl
 
-pub returns-in_err-fill-in-Write-Done-clause-takes : goal.returns-in_err-fill-in-Write-Done-clause-takes
-returns-in_err-fill-in-Write-Done-clause-takes g c =
-    let p = err_from_is_err_and c.from_residual.result c.from_residual.ensures.1 in
-    rw p.1 tt
+fits_buffer : (size n : ℕ) (r : Request) → n ≡ min size 33554432 → (r.offset + r.length ≤ size) × (r.length ≤ 33554432) → r.length ≤ n
+fits_buffer size n r room fits = omega (arith, room, fits.0, fits.1)
 
-pub returns-in_err-fill-in-Write-Done-clause-later : goal.returns-in_err-fill-in-Write-Done-clause-later
-returns-in_err-fill-in-Write-Done-clause-later g c = c.in_err-fill-in-Write-Done.ensures.later
-
-pub returns-in_ok-fill-in-Write-Done-clause-lacks : goal.returns-in_ok-fill-in-Write-Done-clause-lacks
-returns-in_ok-fill-in-Write-Done-clause-lacks g c = tt
-
-pub returns-in_ok-fill-in-Write-Done-clause-later : goal.returns-in_ok-fill-in-Write-Done-clause-later
-returns-in_ok-fill-in-Write-Done-clause-later g c = c.in_ok-fill-in-Write-Done.ensures.later
-
-pub returns-in-Read-Done-clause-lacks : goal.returns-in-Read-Done-clause-lacks
-returns-in-Read-Done-clause-lacks g c = tt
-
-pub returns-in-Read-Done-clause-later : goal.returns-in-Read-Done-clause-later
-returns-in-Read-Done-clause-later g c = later_none _
+written_content : {a b : Option (List ℕ)} {i j : ℕ} (r : Request) (o : Outcome) (got rest : List ℕ) → r.command ≡ Write → o ≡ Done → length got ≡ r.length → Takes a b i j got
+    → TakesContent a b i j r o r.length (got ++ rest)
+written_content r o got rest write done many takes = record {
+  content = got;
+  whole = many ∙ rw write refl;
+  takes = takes;
+  part = rw (write, done) refl;
+  within = omega (arith, many, length-append got rest);
+  held = λ w d. take-append-le r.length got rest (omega (arith, many)) ∙ take_all r.length got (omega (arith, many));
+}
 
 pub returns-in_default : goal.returns-in_default
 returns-in_default g c =
@@ -100,4 +99,69 @@ returns-in_err-skip-in-Write-default g c =
       takes = rw p.1 tt;
       lacks = rw (p.1, p.2) (Lacks-of _ _ whole c.in_err-skip-in-Write-default.ensures.lacks);
       later = c.in_err-skip-in-Write-default.ensures.later;
+    }
+
+pub slice_bounds-fill-end-in-Write-Done : goal.slice_bounds-fill-end-in-Write-Done
+slice_bounds-fill-end-in-Write-Done g c =
+    let r = c.args.request.now in
+    let fits = write_fits c.args.size r c.in-Write-Done.is-0 (sym c.requires.outcome ∙ c.in-Write-Done.is-1) in
+    sym (length-take-le _ _ (fits_buffer c.args.size _ r c.requires.room fits))
+
+pub returns-in_err-fill-in-Write-Done : goal.returns-in_err-fill-in-Write-Done
+returns-in_err-fill-in-Write-Done g c =
+    let p = err_from_is_err_and c.from_residual.result c.from_residual.ensures.1 in
+    let r = c.args.request.now in
+    let fits = write_fits c.args.size r c.in-Write-Done.is-0 (sym c.requires.outcome ∙ c.in-Write-Done.is-1) in
+    let many = length-take-le _ _ (fits_buffer c.args.size _ r c.requires.room fits) in
+    let whole : r.length ≡ content_length r.command r.length = rw c.in-Write-Done.is-0 refl in
+    record {
+      takes = rw p.1 tt;
+      lacks = rw (p.1, p.2) (Lacks-of _ _ (many ∙ whole) c.in_err-fill-in-Write-Done.ensures.lacks);
+      later = c.in_err-fill-in-Write-Done.ensures.later;
+    }
+
+pub returns-in_ok-fill-in-Write-Done : goal.returns-in_ok-fill-in-Write-Done
+returns-in_ok-fill-in-Write-Done g c =
+    let r = c.args.request.now in
+    let fits = write_fits c.args.size r c.in-Write-Done.is-0 (sym c.requires.outcome ∙ c.in-Write-Done.is-1) in
+    let many = length-take-le _ _ (fits_buffer c.args.size _ r c.requires.room fits) in
+    record {
+      takes = written_content r c.args.outcome c.fill.new.into _ c.in-Write-Done.is-0 c.in-Write-Done.is-1 (c.fill.auto.into ∙ many) c.in_ok-fill-in-Write-Done.ensures.takes;
+      lacks = tt;
+      later = c.in_ok-fill-in-Write-Done.ensures.later;
+    }
+
+pub returns-in_ok-skip-in-Write-default : goal.returns-in_ok-skip-in-Write-default
+returns-in_ok-skip-in-Write-default g c =
+    let r = c.args.request.now in
+    let other : c.args.outcome ≢ Done = search rules in
+    let t = c.in_ok-skip-in-Write-default.ensures.takes in
+    record {
+      takes = record {
+        content = t.0;
+        whole = t.1 ∙ rw c.in-Write-default.is-0 refl;
+        takes = t.2;
+        part = sym (part_undone r.command c.args.outcome r.length other);
+        within = omega arith;
+        held = λ w d. absurd (other d);
+      };
+      lacks = tt;
+      later = c.in_ok-skip-in-Write-default.ensures.later;
+    }
+
+pub returns-in-Read-Done : goal.returns-in-Read-Done
+returns-in-Read-Done g c =
+    let r = c.args.request.now in
+    let fits = read_fits c.args.size r c.in-Read-Done.is-0 (sym c.requires.outcome ∙ c.in-Read-Done.is-1) in
+    record {
+      takes = record {
+        content = [];
+        whole = rw c.in-Read-Done.is-0 refl;
+        takes = Takes-none _ _;
+        part = rw (c.in-Read-Done.is-0, c.in-Read-Done.is-1) refl;
+        within = fits_buffer c.args.size _ r c.requires.room fits;
+        held = λ w d. cc (c.in-Read-Done.is-0, w);
+      };
+      lacks = tt;
+      later = later_none _;
     }

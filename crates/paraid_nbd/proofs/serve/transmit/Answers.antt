@@ -1,6 +1,6 @@
 use Rattle.std.proofs.Common.{◌++◌, ◌∷◌, [], arith, refl, ◌∙◌}
-use Rattle.paraid_nbd.proofs.TakingLemmas.{later_then}
-use Rattle.paraid_nbd.proofs.ServiceLemmas.{serves_none, serves_more}
+use Rattle.paraid_nbd.proofs.TakingLemmas.{later_then, room_falls}
+use Rattle.paraid_nbd.proofs.ServiceLemmas.{request_some, serves_none, serves_more}
 use Rattle.paraid_nbd.proofs.serve.transmit.Goals as goal
 
 pub loop-end-init : goal.loop-end-init
@@ -30,32 +30,31 @@ loop-end-preserved g c =
       later_sink = omega (arith, i.later_sink, e.later_sink);
     }
 
-pub returns-in-Err-clause-size : goal.returns-in-Err-clause-size
-returns-in-Err-clause-size g c = c.serve_request.ensures.size ∙ c.loop-end.invariant.size
-
-pub returns-in-Err-clause-told : goal.returns-in-Err-clause-told
-returns-in-Err-clause-told g c = λ t. c.loop-end.invariant.told (c.serve_request.ensures.told t)
-
-pub returns-in-Err-clause-later : goal.returns-in-Err-clause-later
-returns-in-Err-clause-later g c = later_then _ _ _ c.loop-end.invariant.later c.serve_request.ensures.later
-
-pub returns-in-Err-clause-later_sink : goal.returns-in-Err-clause-later_sink
-returns-in-Err-clause-later_sink g c = later_then _ _ _ c.loop-end.invariant.later_sink c.serve_request.ensures.later_sink
-
-pub returns-in-Err-clause-transmits : goal.returns-in-Err-clause-transmits
-returns-in-Err-clause-transmits g c =
+pub returns-in-Err : goal.returns-in-Err
+returns-in-Err g c =
     let i = c.loop-end.invariant in
     record {
-      device = c.loop-end.blocks;
-      left = g.S.Source.left c.loop-end.source;
-      at = c.loop-end.input.taken;
-      said = g.K.Sink.written c.loop-end.sink;
-      low = g.S.Source.faults c.loop-end.source;
-      sink_low = g.K.Sink.faults c.loop-end.sink;
-      requests = i.served.0;
-      serves = i.served.1;
-      later = i.later;
-      later_sink = i.later_sink;
-      told = c.serve_request.ensures.told;
-      ends = c.in-Err.ensures.ends;
+      transmits = record {
+        device = c.loop-end.blocks;
+        left = g.S.Source.left c.loop-end.source;
+        at = c.loop-end.input.taken;
+        said = g.K.Sink.written c.loop-end.sink;
+        low = g.S.Source.faults c.loop-end.source;
+        sink_low = g.K.Sink.faults c.loop-end.sink;
+        requests = i.served.0;
+        serves = i.served.1;
+        later = i.later;
+        later_sink = i.later_sink;
+        told = c.serve_request.ensures.told;
+        ends = c.in-Err.ensures.ends;
+      };
+      size = c.serve_request.ensures.size ∙ c.loop-end.invariant.size;
+      told = λ t. c.loop-end.invariant.told (c.serve_request.ensures.told t);
+      later = later_then _ _ _ c.loop-end.invariant.later c.serve_request.ensures.later;
+      later_sink = later_then _ _ _ c.loop-end.invariant.later_sink c.serve_request.ensures.later_sink;
     }
+
+pub loop-end-smaller : goal.loop-end-smaller
+loop-end-smaller g c =
+    let s = c.in_default.ensures.serves in
+    room_falls s.takes (request_some s.parts s.is) c.serve_request.new.input.limit

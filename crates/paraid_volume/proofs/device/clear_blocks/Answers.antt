@@ -18,9 +18,6 @@ pub clear_block-requires : goal.clear_block-requires
 clear_block-requires g c =
     let size = c.loop-at.invariant.went.size in let end = c.requires.end in let test = c.loop-at-test.true in omega (arith, size, end, test)
 
-pub returns-in_err-clear_block-clause-went : goal.returns-in_err-clear_block-clause-went
-returns-in_err-clear_block-clause-went g c = DeviceGoesOn-then _ _ _ _ _ _ _ c.loop-at.invariant.went c.clear_block.ensures.went
-
 pub loop-at-preserved : goal.loop-at-preserved
 loop-at-preserved g c =
     let inv = c.loop-at.invariant in
@@ -40,32 +37,27 @@ loop-at-preserved g c =
           (λ b is. let low = is.0 in (omega (arith, low, order), is.1));
     }
 
-pub returns-clause-went : goal.returns-clause-went
-returns-clause-went g c = c.loop-at.invariant.went
+pub returns : goal.returns
+returns g c = record {
+  went = c.loop-at.invariant.went;
+  grown = c.loop-at.invariant.grown;
+  halt = let past = c.loop-at-test.false in let order = c.requires.order in c.loop-at.invariant.none (omega (arith, past, order));
+  clears =
+      let past = c.loop-at-test.false in
+      let order = c.requires.order in
+      let until = c.loop-at.auto.at-end (omega (arith, order)) in
+      let same : c.loop-at.at ≡ c.args.end = omega (arith, past, until) in
+      subst (λ (n : ℕ). (from : SinceHistory) → Clears (DeviceHolds g.B.Blocks.stands g.B.Blocks.kept from) g.B.Blocks.tells c.args.device.now c.loop-at.device (Between c.args.start n)) same c.loop-at.invariant.clears;
+}
 
-pub returns-clause-halt : goal.returns-clause-halt
-returns-clause-halt g c = let past = c.loop-at-test.false in let order = c.requires.order in c.loop-at.invariant.none (omega (arith, past, order))
-
-pub returns-clause-clears : goal.returns-clause-clears
-returns-clause-clears g c =
-    let past = c.loop-at-test.false in
-    let order = c.requires.order in
-    let until = c.loop-at.auto.at-end (omega (arith, order)) in
-    let same : c.loop-at.at ≡ c.args.end = omega (arith, past, until) in
-    subst (λ (n : ℕ). (from : SinceHistory) → Clears (DeviceHolds g.B.Blocks.stands g.B.Blocks.kept from) g.B.Blocks.tells c.args.device.now c.loop-at.device (Between c.args.start n)) same c.loop-at.invariant.clears
-
-pub returns-in_err-clear_block-clause-grown : goal.returns-in_err-clear_block-clause-grown
-returns-in_err-clear_block-clause-grown g c = KeepsMore-then _ _ _ _ _ _ c.clear_block.ensures.went.told c.loop-at.invariant.grown c.clear_block.ensures.grown
-
-pub returns-clause-grown : goal.returns-clause-grown
-returns-clause-grown g c = c.loop-at.invariant.grown
-
-pub returns-in_err-clear_block-clause-halt : goal.returns-in_err-clear_block-clause-halt
-returns-in_err-clear_block-clause-halt g c =
-    let p = err_from_is_err_and c.from_residual.result c.from_residual.ensures.1 in
-    rw (p.1, p.2) c.in_err-clear_block.ensures.halt
-
-pub returns-in_err-clear_block-clause-clears : goal.returns-in_err-clear_block-clause-clears
-returns-in_err-clear_block-clause-clears g c =
-    let p = err_from_is_err_and c.from_residual.result c.from_residual.ensures.1 in
-    rw p.1 tt
+pub returns-in_err-clear_block : goal.returns-in_err-clear_block
+returns-in_err-clear_block g c = record {
+  went = DeviceGoesOn-then _ _ _ _ _ _ _ c.loop-at.invariant.went c.clear_block.ensures.went;
+  grown = KeepsMore-then _ _ _ _ _ _ c.clear_block.ensures.went.told c.loop-at.invariant.grown c.clear_block.ensures.grown;
+  halt =
+      let p = err_from_is_err_and c.from_residual.result c.from_residual.ensures.1 in
+      rw (p.1, p.2) c.in_err-clear_block.ensures.halt;
+  clears =
+      let p = err_from_is_err_and c.from_residual.result c.from_residual.ensures.1 in
+      rw p.1 tt;
+}

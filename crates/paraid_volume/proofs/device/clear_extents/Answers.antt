@@ -27,9 +27,6 @@ clear_extent-requires-clause-fits g c =
 pub clear_extent-requires-clause-small : goal.clear_extent-requires-clause-small
 clear_extent-requires-clause-small g c = let same = c.loop-extent.invariant.went.size in let small = c.requires.small in omega (arith, same, small)
 
-pub returns-in_err-clear_extent-clause-went : goal.returns-in_err-clear_extent-clause-went
-returns-in_err-clear_extent-clause-went g c = DeviceGoesOn-then _ _ _ _ _ _ _ c.loop-extent.invariant.went c.clear_extent.ensures.went
-
 pub loop-extent-preserved : goal.loop-extent-preserved
 loop-extent-preserved g c =
     let inv = c.loop-extent.invariant in
@@ -42,34 +39,29 @@ loop-extent-preserved g c =
           cleared_more _ _ h (owner_in (in_table c.args.table.now)) c.args.id c.args.size c.loop-extent.extent first (c.in_ok-clear_extent.ensures.clears from (h ++ first.more) first.stands tells);
     }
 
-pub returns-clause-went : goal.returns-clause-went
-returns-clause-went g c = c.loop-extent.invariant.went
+pub returns : goal.returns
+returns g c = record {
+  went = c.loop-extent.invariant.went;
+  grown = c.loop-extent.invariant.grown;
+  halt = c.loop-extent.invariant.none;
+  clears =
+      let past = c.loop-extent-test.false in
+      let until = c.loop-extent.auto.extent-end in
+      let same : c.loop-extent.extent ≡ c.args.extents = omega (arith, past, until) in
+      subst (λ (n : ℕ). (from : SinceHistory) → Clears (DeviceHolds g.B.Blocks.stands g.B.Blocks.kept from) g.B.Blocks.tells c.args.device.now c.loop-extent.device (InExtent (owner_in (in_table c.args.table.now)) c.args.id c.args.size n)) same c.loop-extent.invariant.clears;
+}
 
-pub returns-clause-halt : goal.returns-clause-halt
-returns-clause-halt g c = c.loop-extent.invariant.none
-
-pub returns-clause-clears : goal.returns-clause-clears
-returns-clause-clears g c =
-    let past = c.loop-extent-test.false in
-    let until = c.loop-extent.auto.extent-end in
-    let same : c.loop-extent.extent ≡ c.args.extents = omega (arith, past, until) in
-    subst (λ (n : ℕ). (from : SinceHistory) → Clears (DeviceHolds g.B.Blocks.stands g.B.Blocks.kept from) g.B.Blocks.tells c.args.device.now c.loop-extent.device (InExtent (owner_in (in_table c.args.table.now)) c.args.id c.args.size n)) same c.loop-extent.invariant.clears
-
-pub returns-in_err-clear_extent-clause-grown : goal.returns-in_err-clear_extent-clause-grown
-returns-in_err-clear_extent-clause-grown g c = KeepsMore-then _ _ _ _ _ _ c.clear_extent.ensures.went.told c.loop-extent.invariant.grown c.clear_extent.ensures.grown
-
-pub returns-clause-grown : goal.returns-clause-grown
-returns-clause-grown g c = c.loop-extent.invariant.grown
-
-pub returns-in_err-clear_extent-clause-halt : goal.returns-in_err-clear_extent-clause-halt
-returns-in_err-clear_extent-clause-halt g c =
-    let p = err_from_is_err_and c.from_residual.result c.from_residual.ensures.1 in
-    rw (p.1, p.2) c.in_err-clear_extent.ensures.halt
-
-pub returns-in_err-clear_extent-clause-clears : goal.returns-in_err-clear_extent-clause-clears
-returns-in_err-clear_extent-clause-clears g c =
-    let p = err_from_is_err_and c.from_residual.result c.from_residual.ensures.1 in
-    rw p.1 tt
+pub returns-in_err-clear_extent : goal.returns-in_err-clear_extent
+returns-in_err-clear_extent g c = record {
+  went = DeviceGoesOn-then _ _ _ _ _ _ _ c.loop-extent.invariant.went c.clear_extent.ensures.went;
+  grown = KeepsMore-then _ _ _ _ _ _ c.clear_extent.ensures.went.told c.loop-extent.invariant.grown c.clear_extent.ensures.grown;
+  halt =
+      let p = err_from_is_err_and c.from_residual.result c.from_residual.ensures.1 in
+      rw (p.1, p.2) c.in_err-clear_extent.ensures.halt;
+  clears =
+      let p = err_from_is_err_and c.from_residual.result c.from_residual.ensures.1 in
+      rw p.1 tt;
+}
 
 pub clear_extent-requires-clause-none : goal.clear_extent-requires-clause-none
 clear_extent-requires-clause-none g c = c.loop-extent.invariant.none

@@ -1,4 +1,4 @@
-use Rattle.std.proofs.Common.{◌≡◌, ◌∙◌, ap, subst, Err, Result, ℕ}
+use Rattle.std.proofs.Common.{◌≡◌, ◌∙◌, ap, subst, Err, Result, ℕ, rules}
 use Rattle.paraid_base.specs.declared.fault.BlockFault.{BlockFault}
 use Rattle.paraid_base.specs.BlockAnswers.{RefusesMany}
 use Rattle.paraid_base.specs.Pairs.{pairs_of}
@@ -16,12 +16,19 @@ unreachable-requires g c =
     not_missing count entry c.in-Err-NoBlock.field-0-0 c.requires.size c.requires.below
     (subst (λ (r : Result ℕ BlockFault). RefusesMany count entry r) is c.write_many.ensures.missing)
 
-pub returns-in-Ok-clause-grown : goal.returns-in-Ok-clause-grown
-returns-in-Ok-clause-grown g c = KeepsMore-one _ _ _ _ _ _ _ c.write_many.ensures.events tt
+pub returns-in-Err-Halt : goal.returns-in-Err-Halt
+returns-in-Err-Halt g c = record {
+  went = search rules;
+  grown = KeepsMore-one _ _ _ _ _ _ _ c.write_many.ensures.events tt;
+  halt = search rules;
+  adds = search rules;
+}
 
-pub returns-in-Err-Halt-clause-grown : goal.returns-in-Err-Halt-clause-grown
-returns-in-Err-Halt-clause-grown g c = KeepsMore-one _ _ _ _ _ _ _ c.write_many.ensures.events tt
-
-pub returns-in-Ok-clause-adds : goal.returns-in-Ok-clause-adds
-returns-in-Ok-clause-adds g c = λ from h stands tells.
-    holds_write g.B.Blocks.stands g.B.Blocks.kept from c.args.device.now c.write_many.new.self h c.args.pairs.now (pairs_of c.args.pairs.now) c.in-Ok.field-0 (λ s. (c.in-Ok.ensures.history h s tells).1) (λ events k. c.in-Ok.ensures.events events k tells) refl stands
+pub returns-in-Ok : goal.returns-in-Ok
+returns-in-Ok g c = record {
+  went = search rules;
+  grown = KeepsMore-one _ _ _ _ _ _ _ c.write_many.ensures.events tt;
+  halt = search rules;
+  adds = λ from h stands tells.
+      holds_write g.B.Blocks.stands g.B.Blocks.kept from c.args.device.now c.write_many.new.self h c.args.pairs.now (pairs_of c.args.pairs.now) c.in-Ok.field-0 (λ s. (c.in-Ok.ensures.history h s tells).1) (λ events k. c.in-Ok.ensures.events events k tells) refl stands;
+}

@@ -1,4 +1,4 @@
-use Rattle.std.proofs.Common.{◌≡◌, ◌+◌, ◌<◌, ◌^◌, refl, sym, false, ap, ◌∙◌, subst, arith}
+use Rattle.std.proofs.Common.{◌≡◌, ◌+◌, ◌<◌, ◌^◌, refl, sym, false, ap, ◌∙◌, subst, arith, rules}
 use Rattle.paraid_io.specs.Lines.{NoNewline}
 use Rattle.paraid_io.specs.Reading.{Reading}
 use Rattle.paraid_base.proofs.ToldLemmas.{Gives-none}
@@ -61,15 +61,17 @@ loop-length-preserved g c =
       later = omega (arith, c.loop-length.invariant.later, e.later);
     }
 
-pub returns-in_default-fill-clause-step : goal.returns-in_default-fill-clause-step
-returns-in_default-fill-clause-step g c =
-    let h = held_back g (goal.at.returns-in_default-fill-clause-step g c).After-room in
-    let k = c.fail-in_default-fill.ensures.kept in
-    let e = c.in_default-fill.ensures.keeps in
-    rw c.fail-in_default-fill.ensures.result (step_fault h.0 _ c.fail-in_default-fill.new.self e.0 h.1 (ap (λ x. x.rest) k ∙ e.1) (ap (λ x. x.taken) k ∙ e.2) (ap (λ x. x.ended) k ∙ e.3) (unended g (goal.at.returns-in_default-fill-clause-step g c).After-room) (ap (λ x. x.fault) k))
-
-pub returns-in_default-fill-clause-quiet : goal.returns-in_default-fill-clause-quiet
-returns-in_default-fill-clause-quiet g c =
-    let h = held_back g (goal.at.returns-in_default-fill-clause-quiet g c).After-room in
-    let u = unended g (goal.at.returns-in_default-fill-clause-quiet g c).After-room in
-    λ n. absurd (needs_a_call h.0 u h.1 (omega (arith, h.0.limit, c.if-room-eq0.false, c.room.ensures)) n)
+pub returns-in_default-fill : goal.returns-in_default-fill
+returns-in_default-fill g c = record {
+  step =
+      let h = held_back g (goal.at.returns-in_default-fill g c).After-room in
+      let k = c.fail-in_default-fill.ensures.kept in
+      let e = c.in_default-fill.ensures.keeps in
+      rw c.fail-in_default-fill.ensures.result (step_fault h.0 _ c.fail-in_default-fill.new.self e.0 h.1 (ap (λ x. x.rest) k ∙ e.1) (ap (λ x. x.taken) k ∙ e.2) (ap (λ x. x.ended) k ∙ e.3) (unended g (goal.at.returns-in_default-fill g c).After-room) (ap (λ x. x.fault) k));
+  cause = search rules;
+  quiet =
+      let h = held_back g (goal.at.returns-in_default-fill g c).After-room in
+      let u = unended g (goal.at.returns-in_default-fill g c).After-room in
+      λ n. absurd (needs_a_call h.0 u h.1 (omega (arith, h.0.limit, c.if-room-eq0.false, c.room.ensures)) n);
+  later = search rules;
+}

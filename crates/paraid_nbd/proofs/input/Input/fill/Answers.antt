@@ -1,16 +1,21 @@
-use Rattle.std.proofs.Common.{◌≡◌, ◌≤◌, ◌-◌, length, take, arith, length-take, length-drop}
+use Rattle.std.proofs.Common.{◌≡◌, ◌≤◌, ◌-◌, length, take, arith, length-take, length-drop, ℕ, List, subst}
 use borrow.Rule.Slice.PartMut.{mid_of}
-use Rattle.std.proofs.lemmas.List.{length-take-le}
+use Rattle.std.proofs.lemmas.List.{length-take-le, take_all}
 use Rattle.std.proofs.lemmas.Result.{err_from_is_err_and}
-use Rattle.paraid_nbd.proofs.TakingLemmas.{Takes-then, Lacks-then, filled_more, length-filled}
+use Rattle.paraid_nbd.specs.Taking.{Takes}
+use Rattle.paraid_nbd.proofs.TakingLemmas.{Takes-then, Lacks-then, later_then, filled_more, length-filled}
 use Rattle.paraid_nbd.proofs.input.Input.fill.Goals as goal
 
-pub returns-in_err-n-clause-lacks : goal.returns-in_err-n-clause-lacks
-returns-in_err-n-clause-lacks g c =
+pub returns-in_err-n : goal.returns-in_err-n
+returns-in_err-n g c =
     let p = err_from_is_err_and c.from_residual.result c.from_residual.ensures.1 in
     let i = c.loop-done.invariant in
     let many : length (take c.loop-done.done c.loop-done.into) ≡ c.loop-done.done = length-take-le _ _ i.within in
-    rw (p.1, p.2) (Lacks-then i.takes c.in_err-n.ensures.lacks (omega (arith, c.loop-done-test.true)) i.later)
+    record {
+      takes = rw p.1 tt;
+      lacks = rw (p.1, p.2) (Lacks-then i.takes c.in_err-n.ensures.lacks (omega (arith, c.loop-done-test.true)) i.later);
+      later = later_then _ _ _ i.later c.in_err-n.ensures.later;
+    }
 
 pub loop-done-preserved : goal.loop-done-preserved
 loop-done-preserved g c =
@@ -24,4 +29,13 @@ loop-done-preserved g c =
       within = rw (length-filled c.loop-done.done c.loop-done.into part many i.within) (omega (arith, i.within));
       takes = rw (filled_more c.loop-done.done (length c.loop-done.into - c.loop-done.done) c.in_ok-n.n c.loop-done.into part i.within (omega arith)) all;
       later = omega (arith, i.later, e.later);
+    }
+
+pub returns : goal.returns
+returns g c =
+    let i = c.loop-done.invariant in
+    record {
+      takes = subst (λ (x : List ℕ). Takes (g.S.Source.left c.args.source.now) (g.S.Source.left c.loop-done.source) c.args.self.now.taken c.loop-done.self.taken x) (take_all _ _ c.loop-done-test.false) i.takes;
+      lacks = tt;
+      later = i.later;
     }

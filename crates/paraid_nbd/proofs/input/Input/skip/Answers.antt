@@ -1,13 +1,17 @@
 use Rattle.std.proofs.Common.{◌++◌, arith, length-append}
 use Rattle.std.proofs.lemmas.Result.{err_from_is_err_and}
-use Rattle.paraid_nbd.proofs.TakingLemmas.{Takes-then, Lacks-then}
+use Rattle.paraid_nbd.proofs.TakingLemmas.{Takes-then, Lacks-then, later_then}
 use Rattle.paraid_nbd.proofs.input.Input.skip.Goals as goal
 
-pub returns-in_err-skip_piece-clause-lacks : goal.returns-in_err-skip_piece-clause-lacks
-returns-in_err-skip_piece-clause-lacks g c =
+pub returns-in_err-skip_piece : goal.returns-in_err-skip_piece
+returns-in_err-skip_piece g c =
     let p = err_from_is_err_and c.from_residual.result c.from_residual.ensures.1 in
     let i = c.loop-done.invariant in
-    rw (p.1, p.2) (Lacks-then i.takes.2 c.in_err-skip_piece.ensures.lacks (omega (arith, i.takes.1, c.min-n.ensures, c.loop-done-test.true)) i.later)
+    record {
+      takes = rw p.1 tt;
+      lacks = rw (p.1, p.2) (Lacks-then i.takes.2 c.in_err-skip_piece.ensures.lacks (omega (arith, i.takes.1, c.min-n.ensures, c.loop-done-test.true)) i.later);
+      later = later_then _ _ _ i.later c.in_err-skip_piece.ensures.later;
+    }
 
 pub loop-done-preserved : goal.loop-done-preserved
 loop-done-preserved g c =
@@ -18,3 +22,8 @@ loop-done-preserved g c =
       takes = (i.takes.0 ++ e.takes.0, omega (arith, length-append i.takes.0 e.takes.0, i.takes.1, e.takes.1), Takes-then i.takes.2 e.takes.2);
       later = omega (arith, i.later, e.later);
     }
+
+pub returns : goal.returns
+returns g c =
+    let i = c.loop-done.invariant in
+    record { takes = (i.takes.0, omega (arith, i.takes.1, i.within, c.loop-done-test.false), i.takes.2); lacks = tt; later = i.later }

@@ -1,6 +1,7 @@
 use Rattle.paraid_base.specs.declared.fault.Halt.{Halt}
 use Rattle.paraid_volume.proofs.DeviceLemmas.{DeviceGoesOn-none, KeepsMore-none}
-use Rattle.std.proofs.Common.{◌≡◌, ◌≢◌, ℕ, ◌+◌, ◌<◌, ◌≤◌, ◌^◌, ◌∙◌, ◌++◌, ◌∷◌, [], length, take, refl, sym, ap, subst, arith, Option, Some}
+use Rattle.std.proofs.Common.{◌≡◌, ◌≢◌, ℕ, ◌+◌, ◌<◌, ◌≤◌, ◌^◌, ◌∙◌, ◌++◌, ◌∷◌, [], length, take, ◌*◌, ◌-◌, refl, sym, ap, subst, arith, Option, Some}
+use Rattle.std.proofs.Math.Nat.{mul-div-le}
 use Rattle.std.proofs.lemmas.List.{take_all}
 use Rattle.paraid_base.specs.History.{History, after_all}
 use Rattle.paraid_volume.specs.Device.{InExtent}
@@ -30,6 +31,11 @@ itself n = omega arith
 
 few_of : (e n m : ℕ) → e < n → n ≡ m → m ≤ 2048 → e < 2048
 few_of e n m below is few = omega (arith, below, is, few)
+
+all_fit : (count size extents : ℕ) → 7 ≤ count → size ≡ extent_size count → extents ≡ extent_count count → 6 + size * extents ≤ count
+all_fit count size extents large sized counted =
+    subst (λ (x : ℕ). 6 + x * extents ≤ count) (sym sized)
+    (subst (λ (n : ℕ). 6 + extent_size count * n ≤ count) (sym counted) (let all = mul-div-le (count - 6) (extent_size count) in omega (arith, all, large)))
 
 -- a halt is no want of one
 halts : (h : Halt) → ◌≡◌ {A = Option Halt} (Some h) None → ⊥
@@ -137,230 +143,122 @@ returns-in-Ok-clause-lived g c = λ from start log lived tells.
     ))
     (λ h s stands shows. returns-in-Ok-clause-makes g c from h s stands shows tells)
 
-pub returns-in-Some-find-clause-lived_refused : goal.returns-in-Some-find-clause-lived_refused
-returns-in-Some-find-clause-lived_refused g c = λ none from start log lived tells.
-    lived_refused _ _ _ start log lived (create (letter_of c.args.name.now) c.args.extents) (Exists c.in-Some-find.id) (λ h stands. stands)
-    (λ h s stands shows. create_refused _ (in_table c.args.self.now.table) (after_all h) s stands.1 shows c.args.self.now.large None refl c.args.name.now c.args.extents (Exists c.in-Some-find.id)
-    c.in-Some-find.ensures.some)
+pub returns-in-Some-find : goal.returns-in-Some-find
+returns-in-Some-find g c = record {
+  fault = c.in-Some-find.ensures.some;
+  fresh = tt;
+  some = tt;
+  room = tt;
+  halt = c.in_default.is;
+  went = DeviceGoesOn-none _ _ _ _ _;
+  grown = KeepsMore-none _ _ _ _;
+  refused = refl;
+  id = tt;
+  makes = tt;
+  stands = λ none from h stands tells. stands;
+  lived = tt;
+  lived_refused = λ none from start log lived tells.
+      lived_refused _ _ _ start log lived (create (letter_of c.args.name.now) c.args.extents) (Exists c.in-Some-find.id) (λ h stands. stands)
+      (λ h s stands shows. create_refused _ (in_table c.args.self.now.table) (after_all h) s stands.1 shows c.args.self.now.large None refl c.args.name.now c.args.extents (Exists c.in-Some-find.id)
+      c.in-Some-find.ensures.some);
+}
 
-pub returns-then-extents-eq0-clause-lived_refused : goal.returns-then-extents-eq0-clause-lived_refused
-returns-then-extents-eq0-clause-lived_refused g c = λ none from start log lived tells.
-    lived_refused _ _ _ start log lived (create (letter_of c.args.name.now) c.args.extents) NoExtents (λ h stands. stands)
-    (λ h s stands shows. create_refused _ (in_table c.args.self.now.table) (after_all h) s stands.1 shows c.args.self.now.large None refl c.args.name.now c.args.extents NoExtents
-    (c.in_default-find.ensures.none, c.if-extents-eq0.true))
+pub returns-then-extents-eq0 : goal.returns-then-extents-eq0
+returns-then-extents-eq0 g c = record {
+  fault = (c.in_default-find.ensures.none, c.if-extents-eq0.true);
+  fresh = tt;
+  some = tt;
+  room = tt;
+  halt = c.in_default.is;
+  went = DeviceGoesOn-none _ _ _ _ _;
+  grown = KeepsMore-none _ _ _ _;
+  refused = refl;
+  id = tt;
+  makes = tt;
+  stands = λ none from h stands tells. stands;
+  lived = tt;
+  lived_refused = λ none from start log lived tells.
+      lived_refused _ _ _ start log lived (create (letter_of c.args.name.now) c.args.extents) NoExtents (λ h stands. stands)
+      (λ h s stands shows. create_refused _ (in_table c.args.self.now.table) (after_all h) s stands.1 shows c.args.self.now.large None refl c.args.name.now c.args.extents NoExtents
+      (c.in_default-find.ensures.none, c.if-extents-eq0.true));
+}
 
-pub returns-in_default-free_id-clause-lived_refused : goal.returns-in_default-free_id-clause-lived_refused
-returns-in_default-free_id-clause-lived_refused g c = λ none from start log lived tells.
-    lived_refused _ _ _ start log lived (create (letter_of c.args.name.now) c.args.extents) Names (λ h stands. stands)
-    (λ h s stands shows. create_refused _ (in_table c.args.self.now.table) (after_all h) s stands.1 shows c.args.self.now.large None refl c.args.name.now c.args.extents Names
-    (c.in_default-find.ensures.none, positive _ c.if-extents-eq0.false, c.in_default-free_id.ensures.none))
+pub returns-in_default-free_id : goal.returns-in_default-free_id
+returns-in_default-free_id g c = record {
+  fault = (c.in_default-find.ensures.none, positive _ c.if-extents-eq0.false, c.in_default-free_id.ensures.none);
+  fresh = tt;
+  some = tt;
+  room = tt;
+  halt = c.in_default.is;
+  went = DeviceGoesOn-none _ _ _ _ _;
+  grown = KeepsMore-none _ _ _ _;
+  refused = refl;
+  id = tt;
+  makes = tt;
+  stands = λ none from h stands tells. stands;
+  lived = tt;
+  lived_refused = λ none from start log lived tells.
+      lived_refused _ _ _ start log lived (create (letter_of c.args.name.now) c.args.extents) Names (λ h stands. stands)
+      (λ h s stands shows. create_refused _ (in_table c.args.self.now.table) (after_all h) s stands.1 shows c.args.self.now.large None refl c.args.name.now c.args.extents Names
+      (c.in_default-find.ensures.none, positive _ c.if-extents-eq0.false, c.in_default-free_id.ensures.none));
+}
 
-pub returns-then-free-extents-clause-lived_refused : goal.returns-then-free-extents-clause-lived_refused
-returns-then-free-extents-clause-lived_refused g c = λ none from start log lived tells.
-    lived_refused _ _ _ start log lived (create (letter_of c.args.name.now) c.args.extents) (Space c.free-free.result) (λ h stands. stands)
-    (λ h s stands shows. create_refused _ (in_table c.args.self.now.table) (after_all h) s stands.1 shows c.args.self.now.large None refl c.args.name.now c.args.extents (Space c.free-free.result)
-    (c.in_default-find.ensures.none, (c.in-Some-free_id.id, c.in-Some-free_id.ensures.some), c.free-free.ensures, c.if-free-extents.true))
+pub returns-then-free-extents : goal.returns-then-free-extents
+returns-then-free-extents g c = record {
+  fault = (c.in_default-find.ensures.none, (c.in-Some-free_id.id, c.in-Some-free_id.ensures.some), c.free-free.ensures, c.if-free-extents.true);
+  fresh = tt;
+  some = tt;
+  room = tt;
+  halt = c.in_default.is;
+  went = DeviceGoesOn-none _ _ _ _ _;
+  grown = KeepsMore-none _ _ _ _;
+  refused = refl;
+  id = tt;
+  makes = tt;
+  stands = λ none from h stands tells. stands;
+  lived = tt;
+  lived_refused = λ none from start log lived tells.
+      lived_refused _ _ _ start log lived (create (letter_of c.args.name.now) c.args.extents) (Space c.free-free.result) (λ h stands. stands)
+      (λ h s stands shows. create_refused _ (in_table c.args.self.now.table) (after_all h) s stands.1 shows c.args.self.now.large None refl c.args.name.now c.args.extents (Space c.free-free.result)
+      (c.in_default-find.ensures.none, (c.in-Some-free_id.id, c.in-Some-free_id.ensures.some), c.free-free.ensures, c.if-free-extents.true));
+}
 
-pub returns-in-Some-clause-fresh : goal.returns-in-Some-clause-fresh
-returns-in-Some-clause-fresh g c = tt
+pub returns-in-Some : goal.returns-in-Some
+returns-in-Some g c = record {
+  fault = c.in-Some.is;
+  fresh = tt;
+  some = tt;
+  room = tt;
+  halt = c.in-Some.is;
+  went = DeviceGoesOn-none _ _ _ _ _;
+  grown = KeepsMore-none _ _ _ _;
+  refused = refl;
+  id = tt;
+  makes = tt;
+  stands = λ none from h stands tells. stands;
+  lived = tt;
+  lived_refused = λ none. absurd (halts _ (sym c.in-Some.is ∙ none));
+}
 
-pub returns-in-Some-clause-some : goal.returns-in-Some-clause-some
-returns-in-Some-clause-some g c = tt
-
-pub returns-in-Some-clause-room : goal.returns-in-Some-clause-room
-returns-in-Some-clause-room g c = tt
-
-pub returns-in-Some-clause-id : goal.returns-in-Some-clause-id
-returns-in-Some-clause-id g c = tt
-
-pub returns-in-Some-clause-makes : goal.returns-in-Some-clause-makes
-returns-in-Some-clause-makes g c = tt
-
-pub returns-in-Some-clause-lived : goal.returns-in-Some-clause-lived
-returns-in-Some-clause-lived g c = tt
-
-pub returns-in-Some-find-clause-fresh : goal.returns-in-Some-find-clause-fresh
-returns-in-Some-find-clause-fresh g c = tt
-
-pub returns-in-Some-find-clause-some : goal.returns-in-Some-find-clause-some
-returns-in-Some-find-clause-some g c = tt
-
-pub returns-in-Some-find-clause-room : goal.returns-in-Some-find-clause-room
-returns-in-Some-find-clause-room g c = tt
-
-pub returns-in-Some-find-clause-id : goal.returns-in-Some-find-clause-id
-returns-in-Some-find-clause-id g c = tt
-
-pub returns-in-Some-find-clause-makes : goal.returns-in-Some-find-clause-makes
-returns-in-Some-find-clause-makes g c = tt
-
-pub returns-in-Some-find-clause-lived : goal.returns-in-Some-find-clause-lived
-returns-in-Some-find-clause-lived g c = tt
-
-pub returns-then-extents-eq0-clause-fresh : goal.returns-then-extents-eq0-clause-fresh
-returns-then-extents-eq0-clause-fresh g c = tt
-
-pub returns-then-extents-eq0-clause-some : goal.returns-then-extents-eq0-clause-some
-returns-then-extents-eq0-clause-some g c = tt
-
-pub returns-then-extents-eq0-clause-room : goal.returns-then-extents-eq0-clause-room
-returns-then-extents-eq0-clause-room g c = tt
-
-pub returns-then-extents-eq0-clause-id : goal.returns-then-extents-eq0-clause-id
-returns-then-extents-eq0-clause-id g c = tt
-
-pub returns-then-extents-eq0-clause-makes : goal.returns-then-extents-eq0-clause-makes
-returns-then-extents-eq0-clause-makes g c = tt
-
-pub returns-then-extents-eq0-clause-lived : goal.returns-then-extents-eq0-clause-lived
-returns-then-extents-eq0-clause-lived g c = tt
-
-pub returns-in_default-free_id-clause-fresh : goal.returns-in_default-free_id-clause-fresh
-returns-in_default-free_id-clause-fresh g c = tt
-
-pub returns-in_default-free_id-clause-some : goal.returns-in_default-free_id-clause-some
-returns-in_default-free_id-clause-some g c = tt
-
-pub returns-in_default-free_id-clause-room : goal.returns-in_default-free_id-clause-room
-returns-in_default-free_id-clause-room g c = tt
-
-pub returns-in_default-free_id-clause-id : goal.returns-in_default-free_id-clause-id
-returns-in_default-free_id-clause-id g c = tt
-
-pub returns-in_default-free_id-clause-makes : goal.returns-in_default-free_id-clause-makes
-returns-in_default-free_id-clause-makes g c = tt
-
-pub returns-in_default-free_id-clause-lived : goal.returns-in_default-free_id-clause-lived
-returns-in_default-free_id-clause-lived g c = tt
-
-pub returns-then-free-extents-clause-fresh : goal.returns-then-free-extents-clause-fresh
-returns-then-free-extents-clause-fresh g c = tt
-
-pub returns-then-free-extents-clause-some : goal.returns-then-free-extents-clause-some
-returns-then-free-extents-clause-some g c = tt
-
-pub returns-then-free-extents-clause-room : goal.returns-then-free-extents-clause-room
-returns-then-free-extents-clause-room g c = tt
-
-pub returns-then-free-extents-clause-id : goal.returns-then-free-extents-clause-id
-returns-then-free-extents-clause-id g c = tt
-
-pub returns-then-free-extents-clause-makes : goal.returns-then-free-extents-clause-makes
-returns-then-free-extents-clause-makes g c = tt
-
-pub returns-then-free-extents-clause-lived : goal.returns-then-free-extents-clause-lived
-returns-then-free-extents-clause-lived g c = tt
-
-pub returns-in-Err-clause-fresh : goal.returns-in-Err-clause-fresh
-returns-in-Err-clause-fresh g c = tt
-
-pub returns-in-Err-clause-some : goal.returns-in-Err-clause-some
-returns-in-Err-clause-some g c = tt
-
-pub returns-in-Err-clause-room : goal.returns-in-Err-clause-room
-returns-in-Err-clause-room g c = tt
-
-pub returns-in-Err-clause-id : goal.returns-in-Err-clause-id
-returns-in-Err-clause-id g c = tt
-
-pub returns-in-Err-clause-makes : goal.returns-in-Err-clause-makes
-returns-in-Err-clause-makes g c = tt
-
-pub returns-in-Err-clause-lived : goal.returns-in-Err-clause-lived
-returns-in-Err-clause-lived g c = tt
-
-pub returns-in-Some-clause-went : goal.returns-in-Some-clause-went
-returns-in-Some-clause-went g c = DeviceGoesOn-none _ _ _ _ _
-
-pub returns-in-Some-clause-grown : goal.returns-in-Some-clause-grown
-returns-in-Some-clause-grown g c = KeepsMore-none _ _ _ _
-
-pub returns-in-Some-clause-refused : goal.returns-in-Some-clause-refused
-returns-in-Some-clause-refused g c = refl
-
-pub returns-in-Some-clause-stands : goal.returns-in-Some-clause-stands
-returns-in-Some-clause-stands g c = λ none from h stands tells. stands
-
-pub returns-in-Some-find-clause-went : goal.returns-in-Some-find-clause-went
-returns-in-Some-find-clause-went g c = DeviceGoesOn-none _ _ _ _ _
-
-pub returns-in-Some-find-clause-grown : goal.returns-in-Some-find-clause-grown
-returns-in-Some-find-clause-grown g c = KeepsMore-none _ _ _ _
-
-pub returns-in-Some-find-clause-refused : goal.returns-in-Some-find-clause-refused
-returns-in-Some-find-clause-refused g c = refl
-
-pub returns-in-Some-find-clause-stands : goal.returns-in-Some-find-clause-stands
-returns-in-Some-find-clause-stands g c = λ none from h stands tells. stands
-
-pub returns-then-extents-eq0-clause-went : goal.returns-then-extents-eq0-clause-went
-returns-then-extents-eq0-clause-went g c = DeviceGoesOn-none _ _ _ _ _
-
-pub returns-then-extents-eq0-clause-grown : goal.returns-then-extents-eq0-clause-grown
-returns-then-extents-eq0-clause-grown g c = KeepsMore-none _ _ _ _
-
-pub returns-then-extents-eq0-clause-refused : goal.returns-then-extents-eq0-clause-refused
-returns-then-extents-eq0-clause-refused g c = refl
-
-pub returns-then-extents-eq0-clause-stands : goal.returns-then-extents-eq0-clause-stands
-returns-then-extents-eq0-clause-stands g c = λ none from h stands tells. stands
-
-pub returns-in_default-free_id-clause-went : goal.returns-in_default-free_id-clause-went
-returns-in_default-free_id-clause-went g c = DeviceGoesOn-none _ _ _ _ _
-
-pub returns-in_default-free_id-clause-grown : goal.returns-in_default-free_id-clause-grown
-returns-in_default-free_id-clause-grown g c = KeepsMore-none _ _ _ _
-
-pub returns-in_default-free_id-clause-refused : goal.returns-in_default-free_id-clause-refused
-returns-in_default-free_id-clause-refused g c = refl
-
-pub returns-in_default-free_id-clause-stands : goal.returns-in_default-free_id-clause-stands
-returns-in_default-free_id-clause-stands g c = λ none from h stands tells. stands
-
-pub returns-then-free-extents-clause-went : goal.returns-then-free-extents-clause-went
-returns-then-free-extents-clause-went g c = DeviceGoesOn-none _ _ _ _ _
-
-pub returns-then-free-extents-clause-grown : goal.returns-then-free-extents-clause-grown
-returns-then-free-extents-clause-grown g c = KeepsMore-none _ _ _ _
-
-pub returns-then-free-extents-clause-refused : goal.returns-then-free-extents-clause-refused
-returns-then-free-extents-clause-refused g c = refl
-
-pub returns-then-free-extents-clause-stands : goal.returns-then-free-extents-clause-stands
-returns-then-free-extents-clause-stands g c = λ none from h stands tells. stands
-
-pub returns-in-Some-find-clause-halt : goal.returns-in-Some-find-clause-halt
-returns-in-Some-find-clause-halt g c = c.in_default.is
-
-pub returns-then-extents-eq0-clause-halt : goal.returns-then-extents-eq0-clause-halt
-returns-then-extents-eq0-clause-halt g c = c.in_default.is
-
-pub returns-in_default-free_id-clause-halt : goal.returns-in_default-free_id-clause-halt
-returns-in_default-free_id-clause-halt g c = c.in_default.is
-
-pub returns-then-free-extents-clause-halt : goal.returns-then-free-extents-clause-halt
-returns-then-free-extents-clause-halt g c = c.in_default.is
+pub returns-in-Err : goal.returns-in-Err
+returns-in-Err g c = record {
+  fault = refl;
+  fresh = tt;
+  some = tt;
+  room = tt;
+  halt = refl;
+  went = c.make.ensures.went;
+  grown = c.make.ensures.grown;
+  refused = refl;
+  id = tt;
+  makes = tt;
+  stands = λ none. absurd (halts _ none);
+  lived = tt;
+  lived_refused = λ none. absurd (halts _ none);
+}
 
 pub returns-in-Ok-clause-halt : goal.returns-in-Ok-clause-halt
 returns-in-Ok-clause-halt g c = c.in_default.is
-
-pub returns-in-Some-clause-halt : goal.returns-in-Some-clause-halt
-returns-in-Some-clause-halt g c = c.in-Some.is
-
-pub returns-in-Some-clause-fault : goal.returns-in-Some-clause-fault
-returns-in-Some-clause-fault g c = c.in-Some.is
-
-pub returns-in-Some-find-clause-fault : goal.returns-in-Some-find-clause-fault
-returns-in-Some-find-clause-fault g c = c.in-Some-find.ensures.some
-
-pub returns-then-extents-eq0-clause-fault : goal.returns-then-extents-eq0-clause-fault
-returns-then-extents-eq0-clause-fault g c = (c.in_default-find.ensures.none, c.if-extents-eq0.true)
-
-pub returns-in_default-free_id-clause-fault : goal.returns-in_default-free_id-clause-fault
-returns-in_default-free_id-clause-fault g c = (c.in_default-find.ensures.none, positive _ c.if-extents-eq0.false, c.in_default-free_id.ensures.none)
-
-pub returns-then-free-extents-clause-fault : goal.returns-then-free-extents-clause-fault
-returns-then-free-extents-clause-fault g c = (c.in_default-find.ensures.none, (c.in-Some-free_id.id, c.in-Some-free_id.ensures.some), c.free-free.ensures, c.if-free-extents.true)
 
 pub returns-in-Ok-clause-fault : goal.returns-in-Ok-clause-fault
 returns-in-Ok-clause-fault g c = tt
@@ -392,47 +290,19 @@ returns-in-Ok-clause-went g c = c.make.ensures.went
 pub returns-in-Ok-clause-grown : goal.returns-in-Ok-clause-grown
 returns-in-Ok-clause-grown g c = c.make.ensures.grown
 
-pub returns-in-Err-clause-went : goal.returns-in-Err-clause-went
-returns-in-Err-clause-went g c = c.make.ensures.went
+pub with-next-requires : goal.with-next-requires
+with-next-requires g c = record {
+  id = (c.in-Some-free_id.ensures.some.low, c.in-Some-free_id.ensures.some.high);
+  few = subst (λ (n : ℕ). n ≤ 2048) (sym c.args.self.now.counted) (extents_few _ c.args.self.now.large);
+}
 
-pub returns-in-Err-clause-grown : goal.returns-in-Err-clause-grown
-returns-in-Err-clause-grown g c = c.make.ensures.grown
-
-pub returns-in-Err-clause-refused : goal.returns-in-Err-clause-refused
-returns-in-Err-clause-refused g c = refl
-
-pub returns-in-Err-clause-halt : goal.returns-in-Err-clause-halt
-returns-in-Err-clause-halt g c = refl
-
-pub returns-in-Err-clause-fault : goal.returns-in-Err-clause-fault
-returns-in-Err-clause-fault g c = refl
-
-pub returns-in-Err-clause-stands : goal.returns-in-Err-clause-stands
-returns-in-Err-clause-stands g c = λ none. absurd (halts _ none)
-
-pub returns-in-Err-clause-lived_refused : goal.returns-in-Err-clause-lived_refused
-returns-in-Err-clause-lived_refused g c = λ none. absurd (halts _ none)
-
-pub returns-in-Some-clause-lived_refused : goal.returns-in-Some-clause-lived_refused
-returns-in-Some-clause-lived_refused g c = λ none. absurd (halts _ (sym c.in-Some.is ∙ none))
-
-pub with-next-requires-clause-id : goal.with-next-requires-clause-id
-with-next-requires-clause-id g c = (c.in-Some-free_id.ensures.some.low, c.in-Some-free_id.ensures.some.high)
-
-pub with-next-requires-clause-few : goal.with-next-requires-clause-few
-with-next-requires-clause-few g c = subst (λ (n : ℕ). n ≤ 2048) (sym c.args.self.now.counted) (extents_few _ c.args.self.now.large)
-
-pub make-requires-clause-none : goal.make-requires-clause-none
-make-requires-clause-none g c = c.args.self.now.halted ∙ c.in_default.is
-
-pub make-requires-clause-large : goal.make-requires-clause-large
-make-requires-clause-large g c = c.args.self.now.large
-
-pub make-requires-clause-size : goal.make-requires-clause-size
-make-requires-clause-size g c = subst (λ (n : ℕ). 1 ≤ n) (sym c.args.self.now.sized) (extent_some _ c.args.self.now.large)
-
-pub make-requires-clause-few : goal.make-requires-clause-few
-make-requires-clause-few g c = subst (λ (n : ℕ). n ≤ 2048) (sym c.args.self.now.counted) (extents_few _ c.args.self.now.large)
-
-pub make-requires-clause-small : goal.make-requires-clause-small
-make-requires-clause-small g c = c.args.self.now.fits
+pub make-requires : goal.make-requires
+make-requires g c = record {
+  none = c.args.self.now.halted ∙ c.in_default.is;
+  large = c.args.self.now.large;
+  size = subst (λ (n : ℕ). 1 ≤ n) (sym c.args.self.now.sized) (extent_some _ c.args.self.now.large);
+  few = subst (λ (n : ℕ). n ≤ 2048) (sym c.args.self.now.counted) (extents_few _ c.args.self.now.large);
+  fits = all_fit _ _ _ c.args.self.now.large c.args.self.now.sized c.args.self.now.counted;
+  small = c.args.self.now.fits;
+  head = sym c.with-next.ensures.head;
+}

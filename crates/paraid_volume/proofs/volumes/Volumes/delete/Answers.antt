@@ -51,8 +51,11 @@ invariant_of-self-in-Err g c =
       halted = c.in-Err.ensures.halt;
     }
 
-pub write_table-requires-clause-below : goal.write_table-requires-clause-below
-write_table-requires-clause-below g c = c.changes.ensures.below
+pub write_table-requires : goal.write_table-requires
+write_table-requires g c = record {
+  below = c.changes.ensures.below;
+  size = c.args.self.now.large;
+}
 
 pub returns-in-Ok-clause-adds : goal.returns-in-Ok-clause-adds
 returns-in-Ok-clause-adds g c = λ from h s stands shows tells.
@@ -80,77 +83,53 @@ returns-in-Ok-clause-lived g c = λ from start log lived tells.
     (λ h s stands shows. live_named _ (in_table c.args.self.now.table) (after_all h) s stands.1 shows c.args.id live)
     (λ h s stands shows. returns-in-Ok-clause-adds g c from h s stands shows tells)
 
-pub returns-then-not-is_live-clause-lived_refused : goal.returns-then-not-is_live-clause-lived_refused
-returns-then-not-is_live-clause-lived_refused g c = λ none from start log lived tells.
-    lived_refused _ _ _ start log lived (delete c.args.id) (NoVolume c.args.id) (λ h stands. stands)
-    (λ h s stands shows. delete_refused _ (in_table c.args.self.now.table) (after_all h) s stands.1 shows None refl c.args.id (NoVolume c.args.id)
-    (refl, λ live. false≢true (sym c.if-not-is_live.true ∙ c.is_live.ensures.1 live)))
+pub returns-then-not-is_live : goal.returns-then-not-is_live
+returns-then-not-is_live g c = record {
+  fault = (refl, λ live. false≢true (sym c.if-not-is_live.true ∙ c.is_live.ensures.1 live));
+  served = tt;
+  halt = c.in_default.is;
+  went = DeviceGoesOn-none _ _ _ _ _;
+  grown = KeepsMore-none _ _ _ _;
+  refused = refl;
+  adds = tt;
+  stands = λ none from h stands tells. stands;
+  lived = tt;
+  lived_refused = λ none from start log lived tells.
+      lived_refused _ _ _ start log lived (delete c.args.id) (NoVolume c.args.id) (λ h stands. stands)
+      (λ h s stands shows. delete_refused _ (in_table c.args.self.now.table) (after_all h) s stands.1 shows None refl c.args.id (NoVolume c.args.id)
+      (refl, λ live. false≢true (sym c.if-not-is_live.true ∙ c.is_live.ensures.1 live)));
+}
 
-pub returns-in-Some-clause-served : goal.returns-in-Some-clause-served
-returns-in-Some-clause-served g c = tt
+pub returns-in-Some : goal.returns-in-Some
+returns-in-Some g c = record {
+  fault = c.in-Some.is;
+  served = tt;
+  halt = c.in-Some.is;
+  went = DeviceGoesOn-none _ _ _ _ _;
+  grown = KeepsMore-none _ _ _ _;
+  refused = refl;
+  adds = tt;
+  stands = λ none from h stands tells. stands;
+  lived = tt;
+  lived_refused = λ none. absurd (halts _ (sym c.in-Some.is ∙ none));
+}
 
-pub returns-in-Some-clause-adds : goal.returns-in-Some-clause-adds
-returns-in-Some-clause-adds g c = tt
-
-pub returns-in-Some-clause-lived : goal.returns-in-Some-clause-lived
-returns-in-Some-clause-lived g c = tt
-
-pub returns-then-not-is_live-clause-served : goal.returns-then-not-is_live-clause-served
-returns-then-not-is_live-clause-served g c = tt
-
-pub returns-then-not-is_live-clause-adds : goal.returns-then-not-is_live-clause-adds
-returns-then-not-is_live-clause-adds g c = tt
-
-pub returns-then-not-is_live-clause-lived : goal.returns-then-not-is_live-clause-lived
-returns-then-not-is_live-clause-lived g c = tt
-
-pub returns-in-Err-clause-served : goal.returns-in-Err-clause-served
-returns-in-Err-clause-served g c = tt
-
-pub returns-in-Err-clause-adds : goal.returns-in-Err-clause-adds
-returns-in-Err-clause-adds g c = tt
-
-pub returns-in-Err-clause-lived : goal.returns-in-Err-clause-lived
-returns-in-Err-clause-lived g c = tt
-
-pub returns-in-Some-clause-went : goal.returns-in-Some-clause-went
-returns-in-Some-clause-went g c = DeviceGoesOn-none _ _ _ _ _
-
-pub returns-in-Some-clause-grown : goal.returns-in-Some-clause-grown
-returns-in-Some-clause-grown g c = KeepsMore-none _ _ _ _
-
-pub returns-in-Some-clause-refused : goal.returns-in-Some-clause-refused
-returns-in-Some-clause-refused g c = refl
-
-pub returns-in-Some-clause-stands : goal.returns-in-Some-clause-stands
-returns-in-Some-clause-stands g c = λ none from h stands tells. stands
-
-pub returns-then-not-is_live-clause-went : goal.returns-then-not-is_live-clause-went
-returns-then-not-is_live-clause-went g c = DeviceGoesOn-none _ _ _ _ _
-
-pub returns-then-not-is_live-clause-grown : goal.returns-then-not-is_live-clause-grown
-returns-then-not-is_live-clause-grown g c = KeepsMore-none _ _ _ _
-
-pub returns-then-not-is_live-clause-refused : goal.returns-then-not-is_live-clause-refused
-returns-then-not-is_live-clause-refused g c = refl
-
-pub returns-then-not-is_live-clause-stands : goal.returns-then-not-is_live-clause-stands
-returns-then-not-is_live-clause-stands g c = λ none from h stands tells. stands
-
-pub returns-then-not-is_live-clause-halt : goal.returns-then-not-is_live-clause-halt
-returns-then-not-is_live-clause-halt g c = c.in_default.is
+pub returns-in-Err : goal.returns-in-Err
+returns-in-Err g c = record {
+  fault = refl;
+  served = tt;
+  halt = refl;
+  went = c.write_table.ensures.went;
+  grown = c.write_table.ensures.grown;
+  refused = refl;
+  adds = tt;
+  stands = λ none. absurd (halts _ none);
+  lived = tt;
+  lived_refused = λ none. absurd (halts _ none);
+}
 
 pub returns-in-Ok-clause-halt : goal.returns-in-Ok-clause-halt
 returns-in-Ok-clause-halt g c = c.in_default.is
-
-pub returns-in-Some-clause-halt : goal.returns-in-Some-clause-halt
-returns-in-Some-clause-halt g c = c.in-Some.is
-
-pub returns-in-Some-clause-fault : goal.returns-in-Some-clause-fault
-returns-in-Some-clause-fault g c = c.in-Some.is
-
-pub returns-then-not-is_live-clause-fault : goal.returns-then-not-is_live-clause-fault
-returns-then-not-is_live-clause-fault g c = (refl, λ live. false≢true (sym c.if-not-is_live.true ∙ c.is_live.ensures.1 live))
 
 pub returns-in-Ok-clause-fault : goal.returns-in-Ok-clause-fault
 returns-in-Ok-clause-fault g c = tt
@@ -173,32 +152,10 @@ returns-in-Ok-clause-went g c = c.write_table.ensures.went
 pub returns-in-Ok-clause-grown : goal.returns-in-Ok-clause-grown
 returns-in-Ok-clause-grown g c = c.write_table.ensures.grown
 
-pub returns-in-Err-clause-went : goal.returns-in-Err-clause-went
-returns-in-Err-clause-went g c = c.write_table.ensures.went
-
-pub returns-in-Err-clause-grown : goal.returns-in-Err-clause-grown
-returns-in-Err-clause-grown g c = c.write_table.ensures.grown
-
-pub returns-in-Err-clause-refused : goal.returns-in-Err-clause-refused
-returns-in-Err-clause-refused g c = refl
-
-pub returns-in-Err-clause-halt : goal.returns-in-Err-clause-halt
-returns-in-Err-clause-halt g c = refl
-
-pub returns-in-Err-clause-fault : goal.returns-in-Err-clause-fault
-returns-in-Err-clause-fault g c = refl
-
-pub returns-in-Err-clause-stands : goal.returns-in-Err-clause-stands
-returns-in-Err-clause-stands g c = λ none. absurd (halts _ none)
-
-pub returns-in-Err-clause-lived_refused : goal.returns-in-Err-clause-lived_refused
-returns-in-Err-clause-lived_refused g c = λ none. absurd (halts _ none)
-
-pub returns-in-Some-clause-lived_refused : goal.returns-in-Some-clause-lived_refused
-returns-in-Some-clause-lived_refused g c = λ none. absurd (halts _ (sym c.in-Some.is ∙ none))
-
-pub without-next-requires-clause-few : goal.without-next-requires-clause-few
-without-next-requires-clause-few g c = subst (λ (n : ℕ). n ≤ 2048) (sym c.args.self.now.counted) (extents_few _ c.args.self.now.large)
-
-pub write_table-requires-clause-size : goal.write_table-requires-clause-size
-write_table-requires-clause-size g c = c.args.self.now.large
+pub without-next-requires : goal.without-next-requires
+without-next-requires g c =
+    let live = c.is_live.ensures.0 c.if-not-is_live.false in
+    record {
+      id = (live.low, live.high);
+      few = subst (λ (n : ℕ). n ≤ 2048) (sym c.args.self.now.counted) (extents_few _ c.args.self.now.large);
+    }

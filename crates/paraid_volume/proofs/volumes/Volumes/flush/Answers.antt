@@ -21,32 +21,29 @@ returns-in-Ok-clause-lived g c = λ from start log lived tells. lived_flush _ _ 
 pub returns-in-Ok-clause-grown : goal.returns-in-Ok-clause-grown
 returns-in-Ok-clause-grown g c = KeepsMore-one _ _ _ _ _ _ _ c.flush.ensures.events tt
 
-pub returns-in-Err-clause-grown : goal.returns-in-Err-clause-grown
-returns-in-Err-clause-grown g c = KeepsMore-one _ _ _ _ _ _ _ c.flush.ensures.events tt
+pub returns-in-Err : goal.returns-in-Err
+returns-in-Err g c = record {
+  fault = refl;
+  halt = refl;
+  went = record { size = c.flush.ensures.size; later = c.flush.ensures.later; cause = c.flush.ensures.cause; again = c.flush.ensures.again; told = c.flush.ensures.told };
+  grown = KeepsMore-one _ _ _ _ _ _ _ c.flush.ensures.events tt;
+  table = refl;
+  stands = tt;
+  event = tt;
+  lived = tt;
+}
 
-pub returns-in-Some-clause-fault : goal.returns-in-Some-clause-fault
-returns-in-Some-clause-fault g c = c.in-Some.is
-
-pub returns-in-Some-clause-halt : goal.returns-in-Some-clause-halt
-returns-in-Some-clause-halt g c = c.in-Some.is
-
-pub returns-in-Some-clause-went : goal.returns-in-Some-clause-went
-returns-in-Some-clause-went g c = DeviceGoesOn-none _ _ _ _ _
-
-pub returns-in-Some-clause-grown : goal.returns-in-Some-clause-grown
-returns-in-Some-clause-grown g c = KeepsMore-none _ _ _ _
-
-pub returns-in-Some-clause-table : goal.returns-in-Some-clause-table
-returns-in-Some-clause-table g c = refl
-
-pub returns-in-Some-clause-stands : goal.returns-in-Some-clause-stands
-returns-in-Some-clause-stands g c = tt
-
-pub returns-in-Some-clause-event : goal.returns-in-Some-clause-event
-returns-in-Some-clause-event g c = tt
-
-pub returns-in-Some-clause-lived : goal.returns-in-Some-clause-lived
-returns-in-Some-clause-lived g c = tt
+pub returns-in-Some : goal.returns-in-Some
+returns-in-Some g c = record {
+  fault = c.in-Some.is;
+  halt = c.in-Some.is;
+  went = DeviceGoesOn-none _ _ _ _ _;
+  grown = KeepsMore-none _ _ _ _;
+  table = refl;
+  stands = tt;
+  event = tt;
+  lived = tt;
+}
 
 pub returns-in-Ok-clause-fault : goal.returns-in-Ok-clause-fault
 returns-in-Ok-clause-fault g c = tt
@@ -56,21 +53,3 @@ returns-in-Ok-clause-halt g c = c.in_default.is
 
 pub returns-in-Ok-clause-table : goal.returns-in-Ok-clause-table
 returns-in-Ok-clause-table g c = refl
-
-pub returns-in-Err-clause-fault : goal.returns-in-Err-clause-fault
-returns-in-Err-clause-fault g c = refl
-
-pub returns-in-Err-clause-halt : goal.returns-in-Err-clause-halt
-returns-in-Err-clause-halt g c = refl
-
-pub returns-in-Err-clause-table : goal.returns-in-Err-clause-table
-returns-in-Err-clause-table g c = refl
-
-pub returns-in-Err-clause-stands : goal.returns-in-Err-clause-stands
-returns-in-Err-clause-stands g c = tt
-
-pub returns-in-Err-clause-event : goal.returns-in-Err-clause-event
-returns-in-Err-clause-event g c = tt
-
-pub returns-in-Err-clause-lived : goal.returns-in-Err-clause-lived
-returns-in-Err-clause-lived g c = tt

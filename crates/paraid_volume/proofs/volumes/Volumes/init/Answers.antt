@@ -14,18 +14,27 @@ use Rattle.std.proofs.lemmas.Bool.{false≢true}
 use Rattle.paraid_volume.proofs.DeviceLemmas.{DeviceGoesOn-none, DeviceGoesOn-then, KeepsMore-none, KeepsMore-then, KeepsMore-weaker, read_either, write_either}
 use Rattle.paraid_volume.proofs.volumes.Volumes.init.Goals as goal
 
-pub returns-then-is_table-clause-refused : goal.returns-then-is_table-clause-refused
-returns-then-is_table-clause-refused g c =
-    let count = c.blocks-count.ensures in
-    let past = c.if-count-lt7.false in
-    let large : 7 ≤ g.B.Blocks.block_count c.args.blocks = subst (λ (n : ℕ). 7 ≤ n) count past in
-    let read = c.in_default.ensures in (
-      large,
-      c.read_table.ensures.halt ∙ ap halt_in c.in_default.is,
-      λ h stands tells.
-          same_table (in_table c.read_table.new.table) (after_all h) (read.read h stands tells) (g.B.Blocks.block_count c.args.blocks) large
-          (subst (λ (n : ℕ). IsVolumeTable n (in_table c.read_table.new.table)) count (c.is_table.ensures.0 c.if-is_table.true)),
-    )
+pub returns-then-is_table : goal.returns-then-is_table
+returns-then-is_table g c = record {
+  refused = let count = c.blocks-count.ensures in
+      let past = c.if-count-lt7.false in
+      let large : 7 ≤ g.B.Blocks.block_count c.args.blocks = subst (λ (n : ℕ). 7 ≤ n) count past in
+      let read = c.in_default.ensures in (
+        large,
+        c.read_table.ensures.halt ∙ ap halt_in c.in_default.is,
+        λ h stands tells.
+            same_table (in_table c.read_table.new.table) (after_all h) (read.read h stands tells) (g.B.Blocks.block_count c.args.blocks) large
+            (subst (λ (n : ℕ). IsVolumeTable n (in_table c.read_table.new.table)) count (c.is_table.ensures.0 c.if-is_table.true)),
+      );
+  taken = tt;
+  went = tt;
+  went_refused = c.read_table.ensures.went;
+  grown = tt;
+  grown_refused = KeepsMore-weaker _ _ _ _ _ _ read_either c.read_table.ensures.grown;
+  ok = tt;
+  stands = tt;
+  lived = tt;
+}
 
 pub invariant_of-result : goal.invariant_of-result
 invariant_of-result g c =
@@ -41,8 +50,11 @@ invariant_of-result g c =
       halted = c.write_table.ensures.halt ∙ ap halt_in c.in_default-write_table.is;
     }
 
-pub write_table-requires-clause-below : goal.write_table-requires-clause-below
-write_table-requires-clause-below g c = (c.whole.ensures (in_table c.empty-table.result)).below
+pub write_table-requires : goal.write_table-requires
+write_table-requires g c = record {
+  below = (c.whole.ensures (in_table c.empty-table.result)).below;
+  size = subst (λ (n : ℕ). 7 ≤ n) (c.blocks-count.ensures ∙ sym c.read_table.ensures.went.size) c.if-count-lt7.false;
+}
 
 pub returns-clause-stands : goal.returns-clause-stands
 returns-clause-stands g c = λ from h stands tells.
@@ -65,14 +77,31 @@ returns-clause-stands g c = λ from h stands tells.
 pub returns-clause-lived : goal.returns-clause-lived
 returns-clause-lived g c = λ from h stands tells. lived_begun _ _ h (returns-clause-stands g c from h stands tells)
 
-pub returns-in-Err-clause-grown_refused : goal.returns-in-Err-clause-grown_refused
-returns-in-Err-clause-grown_refused g c = KeepsMore-weaker _ _ _ _ _ _ read_either c.read_table.ensures.grown
+pub returns-in-Err : goal.returns-in-Err
+returns-in-Err g c = record {
+  refused = (subst (λ (n : ℕ). 7 ≤ n) c.blocks-count.ensures c.if-count-lt7.false, c.read_table.ensures.halt ∙ ap halt_in c.in-Err.is);
+  taken = tt;
+  went = tt;
+  went_refused = c.read_table.ensures.went;
+  grown = tt;
+  grown_refused = KeepsMore-weaker _ _ _ _ _ _ read_either c.read_table.ensures.grown;
+  ok = tt;
+  stands = tt;
+  lived = tt;
+}
 
-pub returns-then-is_table-clause-grown_refused : goal.returns-then-is_table-clause-grown_refused
-returns-then-is_table-clause-grown_refused g c = KeepsMore-weaker _ _ _ _ _ _ read_either c.read_table.ensures.grown
-
-pub returns-in-Err-write_table-clause-grown_refused : goal.returns-in-Err-write_table-clause-grown_refused
-returns-in-Err-write_table-clause-grown_refused g c = KeepsMore-then _ _ _ _ _ _ c.write_table.ensures.went.told (KeepsMore-weaker _ _ _ _ _ _ read_either c.read_table.ensures.grown) (KeepsMore-weaker _ _ _ _ _ _ write_either c.write_table.ensures.grown)
+pub returns-in-Err-write_table : goal.returns-in-Err-write_table
+returns-in-Err-write_table g c = record {
+  refused = (subst (λ (n : ℕ). 7 ≤ n) c.blocks-count.ensures c.if-count-lt7.false, c.write_table.ensures.halt ∙ ap halt_in c.in-Err-write_table.is);
+  taken = tt;
+  went = tt;
+  went_refused = DeviceGoesOn-then _ _ _ _ _ _ _ c.read_table.ensures.went c.write_table.ensures.went;
+  grown = tt;
+  grown_refused = KeepsMore-then _ _ _ _ _ _ c.write_table.ensures.went.told (KeepsMore-weaker _ _ _ _ _ _ read_either c.read_table.ensures.grown) (KeepsMore-weaker _ _ _ _ _ _ write_either c.write_table.ensures.grown);
+  ok = tt;
+  stands = tt;
+  lived = tt;
+}
 
 pub returns-clause-grown : goal.returns-clause-grown
 returns-clause-grown g c = KeepsMore-then _ _ _ _ _ _ c.write_table.ensures.went.told (KeepsMore-weaker _ _ _ _ _ _ read_either c.read_table.ensures.grown) (KeepsMore-weaker _ _ _ _ _ _ write_either c.write_table.ensures.grown)
@@ -87,101 +116,18 @@ returns-clause-taken g c = λ h stands tells table.
     let is : c.is_table.result ≡ true = c.is_table.ensures.1 (subst (λ (n : ℕ). IsVolumeTable n (in_table c.read_table.new.table)) (sym count) here) in
     absurd (false≢true (sym c.if-is_table.false ∙ is))
 
-pub returns-then-count-lt7-clause-taken : goal.returns-then-count-lt7-clause-taken
-returns-then-count-lt7-clause-taken g c = tt
-
-pub returns-then-count-lt7-clause-went : goal.returns-then-count-lt7-clause-went
-returns-then-count-lt7-clause-went g c = tt
-
-pub returns-then-count-lt7-clause-grown : goal.returns-then-count-lt7-clause-grown
-returns-then-count-lt7-clause-grown g c = tt
-
-pub returns-then-count-lt7-clause-ok : goal.returns-then-count-lt7-clause-ok
-returns-then-count-lt7-clause-ok g c = tt
-
-pub returns-then-count-lt7-clause-stands : goal.returns-then-count-lt7-clause-stands
-returns-then-count-lt7-clause-stands g c = tt
-
-pub returns-then-count-lt7-clause-lived : goal.returns-then-count-lt7-clause-lived
-returns-then-count-lt7-clause-lived g c = tt
-
-pub returns-in-Err-clause-taken : goal.returns-in-Err-clause-taken
-returns-in-Err-clause-taken g c = tt
-
-pub returns-in-Err-clause-went : goal.returns-in-Err-clause-went
-returns-in-Err-clause-went g c = tt
-
-pub returns-in-Err-clause-grown : goal.returns-in-Err-clause-grown
-returns-in-Err-clause-grown g c = tt
-
-pub returns-in-Err-clause-ok : goal.returns-in-Err-clause-ok
-returns-in-Err-clause-ok g c = tt
-
-pub returns-in-Err-clause-stands : goal.returns-in-Err-clause-stands
-returns-in-Err-clause-stands g c = tt
-
-pub returns-in-Err-clause-lived : goal.returns-in-Err-clause-lived
-returns-in-Err-clause-lived g c = tt
-
-pub returns-then-is_table-clause-taken : goal.returns-then-is_table-clause-taken
-returns-then-is_table-clause-taken g c = tt
-
-pub returns-then-is_table-clause-went : goal.returns-then-is_table-clause-went
-returns-then-is_table-clause-went g c = tt
-
-pub returns-then-is_table-clause-grown : goal.returns-then-is_table-clause-grown
-returns-then-is_table-clause-grown g c = tt
-
-pub returns-then-is_table-clause-ok : goal.returns-then-is_table-clause-ok
-returns-then-is_table-clause-ok g c = tt
-
-pub returns-then-is_table-clause-stands : goal.returns-then-is_table-clause-stands
-returns-then-is_table-clause-stands g c = tt
-
-pub returns-then-is_table-clause-lived : goal.returns-then-is_table-clause-lived
-returns-then-is_table-clause-lived g c = tt
-
-pub returns-in-Err-write_table-clause-taken : goal.returns-in-Err-write_table-clause-taken
-returns-in-Err-write_table-clause-taken g c = tt
-
-pub returns-in-Err-write_table-clause-went : goal.returns-in-Err-write_table-clause-went
-returns-in-Err-write_table-clause-went g c = tt
-
-pub returns-in-Err-write_table-clause-grown : goal.returns-in-Err-write_table-clause-grown
-returns-in-Err-write_table-clause-grown g c = tt
-
-pub returns-in-Err-write_table-clause-ok : goal.returns-in-Err-write_table-clause-ok
-returns-in-Err-write_table-clause-ok g c = tt
-
-pub returns-in-Err-write_table-clause-stands : goal.returns-in-Err-write_table-clause-stands
-returns-in-Err-write_table-clause-stands g c = tt
-
-pub returns-in-Err-write_table-clause-lived : goal.returns-in-Err-write_table-clause-lived
-returns-in-Err-write_table-clause-lived g c = tt
-
-pub returns-then-count-lt7-clause-refused : goal.returns-then-count-lt7-clause-refused
-returns-then-count-lt7-clause-refused g c = (c.blocks-count.ensures, subst (λ (n : ℕ). n < 7) c.blocks-count.ensures c.if-count-lt7.true)
-
-pub returns-then-count-lt7-clause-went_refused : goal.returns-then-count-lt7-clause-went_refused
-returns-then-count-lt7-clause-went_refused g c = DeviceGoesOn-none _ _ _ _ _
-
-pub returns-then-count-lt7-clause-grown_refused : goal.returns-then-count-lt7-clause-grown_refused
-returns-then-count-lt7-clause-grown_refused g c = KeepsMore-none _ _ _ _
-
-pub returns-in-Err-clause-refused : goal.returns-in-Err-clause-refused
-returns-in-Err-clause-refused g c = (subst (λ (n : ℕ). 7 ≤ n) c.blocks-count.ensures c.if-count-lt7.false, c.read_table.ensures.halt ∙ ap halt_in c.in-Err.is)
-
-pub returns-in-Err-clause-went_refused : goal.returns-in-Err-clause-went_refused
-returns-in-Err-clause-went_refused g c = c.read_table.ensures.went
-
-pub returns-then-is_table-clause-went_refused : goal.returns-then-is_table-clause-went_refused
-returns-then-is_table-clause-went_refused g c = c.read_table.ensures.went
-
-pub returns-in-Err-write_table-clause-refused : goal.returns-in-Err-write_table-clause-refused
-returns-in-Err-write_table-clause-refused g c = (subst (λ (n : ℕ). 7 ≤ n) c.blocks-count.ensures c.if-count-lt7.false, c.write_table.ensures.halt ∙ ap halt_in c.in-Err-write_table.is)
-
-pub returns-in-Err-write_table-clause-went_refused : goal.returns-in-Err-write_table-clause-went_refused
-returns-in-Err-write_table-clause-went_refused g c = DeviceGoesOn-then _ _ _ _ _ _ _ c.read_table.ensures.went c.write_table.ensures.went
+pub returns-then-count-lt7 : goal.returns-then-count-lt7
+returns-then-count-lt7 g c = record {
+  refused = (c.blocks-count.ensures, subst (λ (n : ℕ). n < 7) c.blocks-count.ensures c.if-count-lt7.true);
+  taken = tt;
+  went = tt;
+  went_refused = DeviceGoesOn-none _ _ _ _ _;
+  grown = tt;
+  grown_refused = KeepsMore-none _ _ _ _;
+  ok = tt;
+  stands = tt;
+  lived = tt;
+}
 
 pub returns-clause-went : goal.returns-clause-went
 returns-clause-went g c = DeviceGoesOn-then _ _ _ _ _ _ _ c.read_table.ensures.went c.write_table.ensures.went
@@ -209,6 +155,3 @@ extent_size-requires g c = c.if-count-lt7.false
 
 pub extent_count-requires : goal.extent_count-requires
 extent_count-requires g c = c.if-count-lt7.false
-
-pub write_table-requires-clause-size : goal.write_table-requires-clause-size
-write_table-requires-clause-size g c = subst (λ (n : ℕ). 7 ≤ n) (c.blocks-count.ensures ∙ sym c.read_table.ensures.went.size) c.if-count-lt7.false

@@ -1,4 +1,4 @@
-use Rattle.std.proofs.Common.{◌≡◌, ℕ, ◌<◌, ◌≤◌, ◌+◌, ◌*◌, ◌^◌, ◌%◌, ◌/◌, Fits, w32, refl, sym, ap, arith, subst}
+use Rattle.std.proofs.Common.{◌≡◌, ℕ, ◌<◌, ◌≤◌, ◌+◌, ◌*◌, ◌^◌, ◌%◌, ◌/◌, Fits, w32, refl, sym, ap, arith, subst, rules}
 use Rattle.std.proofs.Math.Nat.{mul-div-le}
 use Rattle.std.proofs.lemmas.Nat.{mul-le}
 use Rattle.paraid_base.specs.declared.block.Block.{Block}
@@ -51,21 +51,28 @@ nonzero_rem-result g c = let v = c.args.self.now in subst (λ (n : ℕ). 0 < n) 
 pub extent-requires : goal.extent-requires
 extent-requires g c = let v = c.args.self.now in subst (λ (n : ℕ). n ≤ 2048) (sym v.counted) (extents_few _ v.large)
 
-pub returns-in-Some-extent-clause-ok : goal.returns-in-Some-extent-clause-ok
-returns-in-Some-extent-clause-ok g c =
-    let v = c.args.self.now in
-    let found = c.in-Some-extent.ensures.some in
-    placed _ _ _ c.in-Some-extent.extent c.args.block v.large v.fits v.sized v.counted found.0 (in_table v.table) c.args.id (c.is_live.ensures.0 c.if-not-is_live.false) found.1
+pub returns-in-Some-extent : goal.returns-in-Some-extent
+returns-in-Some-extent g c = record {
+  fault = search rules;
+  halt = search rules;
+  ok =
+      let v = c.args.self.now in
+      let found = c.in-Some-extent.ensures.some in
+      placed _ _ _ c.in-Some-extent.extent c.args.block v.large v.fits v.sized v.counted found.0 (in_table v.table) c.args.id (c.is_live.ensures.0 c.if-not-is_live.false) found.1;
+  below =
+      let v = c.args.self.now in
+      within _ _ _ c.in-Some-extent.extent c.args.block v.large v.fits v.sized v.counted c.in-Some-extent.ensures.some.0;
+}
 
-pub returns-in-Some-extent-clause-below : goal.returns-in-Some-extent-clause-below
-returns-in-Some-extent-clause-below g c =
-    let v = c.args.self.now in
-    within _ _ _ c.in-Some-extent.extent c.args.block v.large v.fits v.sized v.counted c.in-Some-extent.ensures.some.0
-
-pub returns-in-None-clause-fault : goal.returns-in-None-clause-fault
-returns-in-None-clause-fault g c =
-    let v = c.args.self.now in
-    (refl, c.is_live.ensures.0 c.if-not-is_live.false, past_end _ _ _ c.args.block c.args.id (owner_in (in_table v.table)) v.sized v.counted c.in-None.ensures.none)
+pub returns-in-None : goal.returns-in-None
+returns-in-None g c = record {
+  fault =
+      let v = c.args.self.now in
+      (refl, c.is_live.ensures.0 c.if-not-is_live.false, past_end _ _ _ c.args.block c.args.id (owner_in (in_table v.table)) v.sized v.counted c.in-None.ensures.none);
+  halt = search rules;
+  ok = search rules;
+  below = search rules;
+}
 
 pub overflow_mul-result : goal.overflow_mul-result
 overflow_mul-result g c =

@@ -1,5 +1,5 @@
 use Rattle.paraid_base.specs.declared.fault.Halt.{Halt}
-use Rattle.std.proofs.Common.{◌≡◌, ◌<◌, ◌≤◌, ◌^◌, None, ap, subst, Option, Some}
+use Rattle.std.proofs.Common.{arith, ◌≡◌, ◌<◌, ◌≤◌, ◌^◌, None, ap, subst, Option, Some}
 use Rattle.paraid_volume.specs.TableBlocks.{in_table}
 use Rattle.paraid_volume.specs.Tables.{IsVolumeTable, extent_count, extent_size}
 use Rattle.paraid_base.specs.declared.event.Event.TheVariants.{Read}
@@ -21,6 +21,9 @@ use Rattle.paraid_volume.proofs.volumes.Volumes.read.Goals as goal
 -- a halt is no want of one
 halts : (h : Halt) → ◌≡◌ {A = Option Halt} (Some h) None → ⊥
 halts h e = cc
+
+below_not : (n k : ℕ) → n < k → k ≤ n → ⊥
+below_not n k below not = omega (arith, below, not)
 
 pub invariant_of-self-in-Err-Halt : goal.invariant_of-self-in-Err-Halt
 invariant_of-self-in-Err-Halt g c =
@@ -47,8 +50,20 @@ returns-in-Ok-clause-served g c = place_served _ _ _ _ _ c.args.self.now.large c
 pub returns-in-Ok-clause-grown : goal.returns-in-Ok-clause-grown
 returns-in-Ok-clause-grown g c = KeepsMore-one _ _ _ _ _ _ _ c.read.ensures.events tt
 
-pub returns-in-Err-Halt-clause-grown : goal.returns-in-Err-Halt-clause-grown
-returns-in-Err-Halt-clause-grown g c = KeepsMore-one _ _ _ _ _ _ _ c.read.ensures.events tt
+pub returns-in-Err-Halt : goal.returns-in-Err-Halt
+returns-in-Err-Halt g c = record {
+  fault = refl;
+  served = tt;
+  halt = refl;
+  went = record { size = c.read.ensures.size; later = c.read.ensures.later; cause = c.read.ensures.cause; again = c.read.ensures.again; told = c.read.ensures.told };
+  grown = KeepsMore-one _ _ _ _ _ _ _ c.read.ensures.events tt;
+  table = refl;
+  stands = λ none. absurd (halts _ none);
+  value = tt;
+  event = tt;
+  lived = tt;
+  lived_refused = λ none. absurd (halts _ none);
+}
 
 pub returns-in-Ok-clause-stands : goal.returns-in-Ok-clause-stands
 returns-in-Ok-clause-stands g c = λ none from h stands tells.
@@ -63,57 +78,32 @@ returns-in-Ok-clause-lived g c = λ from start log lived tells.
     (λ h stands. returns-in-Ok-clause-stands g c none from h stands tells)
     (λ h s stands shows. returns-in-Ok-clause-value g c h s (holds_stands g.B.Blocks.stands g.B.Blocks.kept from (device_of c.args.self.now) h stands.0, stands.1) shows tells)
 
-pub returns-in_err-place-clause-lived_refused : goal.returns-in_err-place-clause-lived_refused
-returns-in_err-place-clause-lived_refused g c =
-    let v = c.args.self.now in
-    let count = g.B.Blocks.block_count (device_of v) in
-    let p = err_from_is_err_and c.from_residual.result c.from_residual.ensures.1 in
-    let due : IfErr c.from_residual.result (IsPlaceFault count (volume_table v) (halted_of v) c.args.id c.args.block) = rw (p.1, p.2) c.in_err-place.ensures.fault in
-    IfErr-weaker c.from_residual.result _ _
-    (λ fault is none from start log lived tells. lived_refused _ _ _ start log lived (read c.args.id c.args.block) fault (λ h stands. stands)
-    (λ h s stands shows. read_refused count (volume_table v) (after_all h) s stands.1 shows v.large (halted_of v) none c.args.id c.args.block fault is)) due
-
-pub returns-in_err-place-clause-fault : goal.returns-in_err-place-clause-fault
-returns-in_err-place-clause-fault g c =
-    let p = err_from_is_err_and c.from_residual.result c.from_residual.ensures.1 in
-    rw (p.1, p.2) c.in_err-place.ensures.fault
-
-pub returns-in_err-place-clause-served : goal.returns-in_err-place-clause-served
-returns-in_err-place-clause-served g c =
-    let p = err_from_is_err_and c.from_residual.result c.from_residual.ensures.1 in
-    rw p.1 tt
-
-pub returns-in_err-place-clause-halt : goal.returns-in_err-place-clause-halt
-returns-in_err-place-clause-halt g c =
-    let p = err_from_is_err_and c.from_residual.result c.from_residual.ensures.1 in
-    rw (p.1, p.2) (sym c.in_err-place.ensures.halt)
-
-pub returns-in_err-place-clause-went : goal.returns-in_err-place-clause-went
-returns-in_err-place-clause-went g c = DeviceGoesOn-none _ _ _ _ _
-
-pub returns-in_err-place-clause-grown : goal.returns-in_err-place-clause-grown
-returns-in_err-place-clause-grown g c = KeepsMore-none _ _ _ _
-
-pub returns-in_err-place-clause-table : goal.returns-in_err-place-clause-table
-returns-in_err-place-clause-table g c = refl
-
-pub returns-in_err-place-clause-stands : goal.returns-in_err-place-clause-stands
-returns-in_err-place-clause-stands g c = λ none from h stands tells. stands
-
-pub returns-in_err-place-clause-value : goal.returns-in_err-place-clause-value
-returns-in_err-place-clause-value g c =
-    let p = err_from_is_err_and c.from_residual.result c.from_residual.ensures.1 in
-    rw p.1 tt
-
-pub returns-in_err-place-clause-event : goal.returns-in_err-place-clause-event
-returns-in_err-place-clause-event g c =
-    let p = err_from_is_err_and c.from_residual.result c.from_residual.ensures.1 in
-    rw p.1 tt
-
-pub returns-in_err-place-clause-lived : goal.returns-in_err-place-clause-lived
-returns-in_err-place-clause-lived g c =
-    let p = err_from_is_err_and c.from_residual.result c.from_residual.ensures.1 in
-    rw p.1 tt
+pub returns-in_err-place : goal.returns-in_err-place
+returns-in_err-place g c = record {
+  fault = let p = err_from_is_err_and c.from_residual.result c.from_residual.ensures.1 in
+      rw (p.1, p.2) c.in_err-place.ensures.fault;
+  served = let p = err_from_is_err_and c.from_residual.result c.from_residual.ensures.1 in
+      rw p.1 tt;
+  halt = let p = err_from_is_err_and c.from_residual.result c.from_residual.ensures.1 in
+      rw (p.1, p.2) (sym c.in_err-place.ensures.halt);
+  went = DeviceGoesOn-none _ _ _ _ _;
+  grown = KeepsMore-none _ _ _ _;
+  table = refl;
+  stands = λ none from h stands tells. stands;
+  value = let p = err_from_is_err_and c.from_residual.result c.from_residual.ensures.1 in
+      rw p.1 tt;
+  event = let p = err_from_is_err_and c.from_residual.result c.from_residual.ensures.1 in
+      rw p.1 tt;
+  lived = let p = err_from_is_err_and c.from_residual.result c.from_residual.ensures.1 in
+      rw p.1 tt;
+  lived_refused = let v = c.args.self.now in
+      let count = g.B.Blocks.block_count (device_of v) in
+      let p = err_from_is_err_and c.from_residual.result c.from_residual.ensures.1 in
+      let due : IfErr c.from_residual.result (IsPlaceFault count (volume_table v) (halted_of v) c.args.id c.args.block) = rw (p.1, p.2) c.in_err-place.ensures.fault in
+      IfErr-weaker c.from_residual.result _ _
+      (λ fault is none from start log lived tells. lived_refused _ _ _ start log lived (read c.args.id c.args.block) fault (λ h stands. stands)
+      (λ h s stands shows. read_refused count (volume_table v) (after_all h) s stands.1 shows v.large (halted_of v) none c.args.id c.args.block fault is)) due;
+}
 
 pub returns-in-Ok-clause-fault : goal.returns-in-Ok-clause-fault
 returns-in-Ok-clause-fault g c = tt
@@ -127,29 +117,27 @@ returns-in-Ok-clause-table g c = refl
 pub returns-in-Ok-clause-lived_refused : goal.returns-in-Ok-clause-lived_refused
 returns-in-Ok-clause-lived_refused g c = tt
 
-pub returns-in-Err-Halt-clause-fault : goal.returns-in-Err-Halt-clause-fault
-returns-in-Err-Halt-clause-fault g c = refl
+pub invariant_of-self : goal.invariant_of-self
+invariant_of-self g c =
+    let v = c.args.self.now in
+    let size = c.read.ensures.size in
+    record {
+      large = subst (λ (n : ℕ). 7 ≤ n) (sym size) v.large;
+      fits = subst (λ (n : ℕ). n < 2 ^ 32) (sym size) v.fits;
+      sized = v.sized ∙ ap extent_size (sym size);
+      counted = v.counted ∙ ap extent_count (sym size);
+      valid = subst (λ (n : ℕ). IsVolumeTable n (in_table v.table)) (sym size) v.valid;
+      halted = c.in-Ok.ensures.halt ∙ c.in_ok-place.ensures.halt;
+    }
 
-pub returns-in-Err-Halt-clause-served : goal.returns-in-Err-Halt-clause-served
-returns-in-Err-Halt-clause-served g c = tt
+pub returns-in-Ok-clause-went : goal.returns-in-Ok-clause-went
+returns-in-Ok-clause-went g c = record { size = c.read.ensures.size; later = c.read.ensures.later; cause = c.read.ensures.cause; again = c.read.ensures.again; told = c.read.ensures.told }
 
-pub returns-in-Err-Halt-clause-halt : goal.returns-in-Err-Halt-clause-halt
-returns-in-Err-Halt-clause-halt g c = refl
+pub returns-in-Ok-clause-event : goal.returns-in-Ok-clause-event
+returns-in-Ok-clause-event g c = λ events kept tells. record { place = c.in_ok-place.place; is = c.in_ok-place.ensures.ok; kept = c.in-Ok.ensures.events events kept tells }
 
-pub returns-in-Err-Halt-clause-table : goal.returns-in-Err-Halt-clause-table
-returns-in-Err-Halt-clause-table g c = refl
+pub unreachable-requires : goal.unreachable-requires
+unreachable-requires g c = let m = rw c.in-Err-NoBlock.field-0-is at c.in-Err-NoBlock.ensures.missing in below_not _ _ c.in_ok-place.ensures.below m.1
 
-pub returns-in-Err-Halt-clause-value : goal.returns-in-Err-Halt-clause-value
-returns-in-Err-Halt-clause-value g c = tt
-
-pub returns-in-Err-Halt-clause-event : goal.returns-in-Err-Halt-clause-event
-returns-in-Err-Halt-clause-event g c = tt
-
-pub returns-in-Err-Halt-clause-lived : goal.returns-in-Err-Halt-clause-lived
-returns-in-Err-Halt-clause-lived g c = tt
-
-pub returns-in-Err-Halt-clause-stands : goal.returns-in-Err-Halt-clause-stands
-returns-in-Err-Halt-clause-stands g c = λ none. absurd (halts _ none)
-
-pub returns-in-Err-Halt-clause-lived_refused : goal.returns-in-Err-Halt-clause-lived_refused
-returns-in-Err-Halt-clause-lived_refused g c = λ none. absurd (halts _ none)
+pub unreachable-unreachable : goal.unreachable-unreachable
+unreachable-unreachable g c = let m = rw c.in-Err-NoBlock.field-0-is at c.in-Err-NoBlock.ensures.missing in below_not _ _ c.in_ok-place.ensures.below m.1

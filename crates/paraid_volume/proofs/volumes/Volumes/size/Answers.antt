@@ -1,4 +1,4 @@
-use Rattle.std.proofs.Common.{ℕ, ◌<◌, ◌≤◌, ◌*◌, ◌-◌, ◌^◌, ◌∙◌, Fits, w32, ap, arith, subst, sym}
+use Rattle.std.proofs.Common.{ℕ, ◌<◌, ◌≤◌, ◌*◌, ◌-◌, ◌^◌, ◌∙◌, Fits, w32, ap, arith, subst, sym, rules}
 use Rattle.std.proofs.Math.Nat.{mul-div-le}
 use Rattle.std.proofs.lemmas.Nat.{mul-le}
 use Rattle.paraid_volume.specs.TableBlocks.{in_table}
@@ -20,8 +20,11 @@ overflow_mul-result g c =
     let v = c.args.self.now in
     subst (λ (x : ℕ). Fits w32 (x * c.owned.result)) (sym v.sized) (cut_fits _ c.owned.result v.fits (subst (λ (n : ℕ). c.owned.result ≤ n) v.counted c.owned.ensures.few))
 
-pub returns-clause-live : goal.returns-clause-live
-returns-clause-live g c live =
-    let v = c.args.self.now in
-    let owned = c.owned.ensures.value ∙ ap (extents_owned (owner_in (in_table v.table)) c.args.id) v.counted in
-    ap (λ (x : ℕ). x * c.owned.result) v.sized ∙ ap (λ (n : ℕ). extent_size (g.B.Blocks.block_count v.blocks) * n) owned
+pub returns : goal.returns
+returns g c = record {
+  live = λ live.
+      let v = c.args.self.now in
+      let owned = c.owned.ensures.value ∙ ap (extents_owned (owner_in (in_table v.table)) c.args.id) v.counted in
+      ap (λ (x : ℕ). x * c.owned.result) v.sized ∙ ap (λ (n : ℕ). extent_size (g.B.Blocks.block_count v.blocks) * n) owned;
+  free = search rules;
+}

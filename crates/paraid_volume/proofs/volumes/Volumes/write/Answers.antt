@@ -1,5 +1,5 @@
 use Rattle.paraid_base.specs.declared.fault.Halt.{Halt}
-use Rattle.std.proofs.Common.{◌<◌, ◌≤◌, ◌^◌, ap, subst, sym, refl, ◌≡◌, Option, Some, None}
+use Rattle.std.proofs.Common.{arith, ◌<◌, ◌≤◌, ◌^◌, ap, subst, sym, refl, ◌≡◌, Option, Some, None}
 use Rattle.paraid_volume.specs.TableBlocks.{in_table}
 use Rattle.paraid_volume.specs.Tables.{IsVolumeTable, extent_count, extent_size}
 use Rattle.paraid_base.specs.Pairs.{single_pair}
@@ -22,6 +22,9 @@ use Rattle.paraid_volume.proofs.volumes.Volumes.write.Goals as goal
 -- a halt is no want of one
 halts : (h : Halt) → ◌≡◌ {A = Option Halt} (Some h) None → ⊥
 halts h e = cc
+
+below_not : (n k : ℕ) → n < k → k ≤ n → ⊥
+below_not n k below not = omega (arith, below, not)
 
 pub invariant_of-self-in-Err-Halt : goal.invariant_of-self-in-Err-Halt
 invariant_of-self-in-Err-Halt g c =
@@ -62,8 +65,20 @@ returns-in-Ok-clause-served g c = place_served _ _ _ _ _ c.args.self.now.large c
 pub returns-in-Ok-clause-grown : goal.returns-in-Ok-clause-grown
 returns-in-Ok-clause-grown g c = KeepsMore-one _ _ _ _ _ _ _ c.write.ensures.events tt
 
-pub returns-in-Err-Halt-clause-grown : goal.returns-in-Err-Halt-clause-grown
-returns-in-Err-Halt-clause-grown g c = KeepsMore-one _ _ _ _ _ _ _ c.write.ensures.events tt
+pub returns-in-Err-Halt : goal.returns-in-Err-Halt
+returns-in-Err-Halt g c = record {
+  fault = refl;
+  served = tt;
+  halt = refl;
+  went = record { size = c.write.ensures.size; later = c.write.ensures.later; cause = c.write.ensures.cause; again = c.write.ensures.again; told = c.write.ensures.told };
+  grown = KeepsMore-one _ _ _ _ _ _ _ c.write.ensures.events tt;
+  table = refl;
+  adds = tt;
+  stands = λ none. absurd (halts _ none);
+  event = tt;
+  lived = tt;
+  lived_refused = λ none. absurd (halts _ none);
+}
 
 pub returns-in-Ok-clause-lived : goal.returns-in-Ok-clause-lived
 returns-in-Ok-clause-lived g c = λ from start log lived tells.
@@ -72,59 +87,33 @@ returns-in-Ok-clause-lived g c = λ from start log lived tells.
     (λ h s stands shows. block_of _ (volume_table v) (after_all h) s stands.1 shows v.large c.args.id c.args.block (returns-in-Ok-clause-served g c))
     (λ h s stands shows. returns-in-Ok-clause-adds g c from h s stands shows tells)
 
-pub returns-in_err-place-clause-lived_refused : goal.returns-in_err-place-clause-lived_refused
-returns-in_err-place-clause-lived_refused g c =
-    let v = c.args.self.now in
-    let count = g.B.Blocks.block_count (device_of v) in
-    let p = err_from_is_err_and c.from_residual.result c.from_residual.ensures.1 in
-    let due : IfErr c.from_residual.result (IsPlaceFault count (volume_table v) (halted_of v) c.args.id c.args.block) = rw (p.1, p.2) c.in_err-place.ensures.fault in
-    IfErr-weaker c.from_residual.result _ _
-    (λ fault is none from start log lived tells. lived_refused _ _ _ start log lived (write c.args.id c.args.block c.args.bytes.now) fault (λ h stands. stands)
-    (λ h s stands shows. write_refused count (volume_table v) (after_all h) s stands.1 shows v.large (halted_of v) none c.args.id c.args.block c.args.bytes.now fault is)) due
-
-pub returns-in_err-place-clause-fault : goal.returns-in_err-place-clause-fault
-returns-in_err-place-clause-fault g c =
-    let p = err_from_is_err_and c.from_residual.result c.from_residual.ensures.1 in
-    rw (p.1, p.2) c.in_err-place.ensures.fault
-
-pub returns-in_err-place-clause-served : goal.returns-in_err-place-clause-served
-returns-in_err-place-clause-served g c =
-    let p = err_from_is_err_and c.from_residual.result c.from_residual.ensures.1 in
-    rw p.1 tt
-
-pub returns-in_err-place-clause-halt : goal.returns-in_err-place-clause-halt
-returns-in_err-place-clause-halt g c =
-    let p = err_from_is_err_and c.from_residual.result c.from_residual.ensures.1 in
-    rw (p.1, p.2) (sym c.in_err-place.ensures.halt)
-
-pub returns-in_err-place-clause-went : goal.returns-in_err-place-clause-went
-returns-in_err-place-clause-went g c = DeviceGoesOn-none _ _ _ _ _
-
-pub returns-in_err-place-clause-grown : goal.returns-in_err-place-clause-grown
-returns-in_err-place-clause-grown g c = KeepsMore-none _ _ _ _
-
-pub returns-in_err-place-clause-table : goal.returns-in_err-place-clause-table
-returns-in_err-place-clause-table g c = refl
-
-pub returns-in_err-place-clause-adds : goal.returns-in_err-place-clause-adds
-returns-in_err-place-clause-adds g c =
-    let p = err_from_is_err_and c.from_residual.result c.from_residual.ensures.1 in
-    rw p.1 tt
-
-pub returns-in_err-place-clause-stands : goal.returns-in_err-place-clause-stands
-returns-in_err-place-clause-stands g c =
-    let p = err_from_is_err_and c.from_residual.result c.from_residual.ensures.1 in
-    rw p.1 (λ none from h stands tells. stands)
-
-pub returns-in_err-place-clause-event : goal.returns-in_err-place-clause-event
-returns-in_err-place-clause-event g c =
-    let p = err_from_is_err_and c.from_residual.result c.from_residual.ensures.1 in
-    rw p.1 tt
-
-pub returns-in_err-place-clause-lived : goal.returns-in_err-place-clause-lived
-returns-in_err-place-clause-lived g c =
-    let p = err_from_is_err_and c.from_residual.result c.from_residual.ensures.1 in
-    rw p.1 tt
+pub returns-in_err-place : goal.returns-in_err-place
+returns-in_err-place g c = record {
+  fault = let p = err_from_is_err_and c.from_residual.result c.from_residual.ensures.1 in
+      rw (p.1, p.2) c.in_err-place.ensures.fault;
+  served = let p = err_from_is_err_and c.from_residual.result c.from_residual.ensures.1 in
+      rw p.1 tt;
+  halt = let p = err_from_is_err_and c.from_residual.result c.from_residual.ensures.1 in
+      rw (p.1, p.2) (sym c.in_err-place.ensures.halt);
+  went = DeviceGoesOn-none _ _ _ _ _;
+  grown = KeepsMore-none _ _ _ _;
+  table = refl;
+  adds = let p = err_from_is_err_and c.from_residual.result c.from_residual.ensures.1 in
+      rw p.1 tt;
+  stands = let p = err_from_is_err_and c.from_residual.result c.from_residual.ensures.1 in
+      rw p.1 (λ none from h stands tells. stands);
+  event = let p = err_from_is_err_and c.from_residual.result c.from_residual.ensures.1 in
+      rw p.1 tt;
+  lived = let p = err_from_is_err_and c.from_residual.result c.from_residual.ensures.1 in
+      rw p.1 tt;
+  lived_refused = let v = c.args.self.now in
+      let count = g.B.Blocks.block_count (device_of v) in
+      let p = err_from_is_err_and c.from_residual.result c.from_residual.ensures.1 in
+      let due : IfErr c.from_residual.result (IsPlaceFault count (volume_table v) (halted_of v) c.args.id c.args.block) = rw (p.1, p.2) c.in_err-place.ensures.fault in
+      IfErr-weaker c.from_residual.result _ _
+      (λ fault is none from start log lived tells. lived_refused _ _ _ start log lived (write c.args.id c.args.block c.args.bytes.now) fault (λ h stands. stands)
+      (λ h s stands shows. write_refused count (volume_table v) (after_all h) s stands.1 shows v.large (halted_of v) none c.args.id c.args.block c.args.bytes.now fault is)) due;
+}
 
 pub returns-in-Ok-clause-fault : goal.returns-in-Ok-clause-fault
 returns-in-Ok-clause-fault g c = tt
@@ -141,29 +130,27 @@ returns-in-Ok-clause-stands g c = tt
 pub returns-in-Ok-clause-lived_refused : goal.returns-in-Ok-clause-lived_refused
 returns-in-Ok-clause-lived_refused g c = tt
 
-pub returns-in-Err-Halt-clause-fault : goal.returns-in-Err-Halt-clause-fault
-returns-in-Err-Halt-clause-fault g c = refl
+pub invariant_of-self : goal.invariant_of-self
+invariant_of-self g c =
+    let v = c.args.self.now in
+    let size = c.write.ensures.size in
+    record {
+      large = subst (λ (n : ℕ). 7 ≤ n) (sym size) v.large;
+      fits = subst (λ (n : ℕ). n < 2 ^ 32) (sym size) v.fits;
+      sized = v.sized ∙ ap extent_size (sym size);
+      counted = v.counted ∙ ap extent_count (sym size);
+      valid = subst (λ (n : ℕ). IsVolumeTable n (in_table v.table)) (sym size) v.valid;
+      halted = c.in-Ok.ensures.halt ∙ c.in_ok-place.ensures.halt;
+    }
 
-pub returns-in-Err-Halt-clause-served : goal.returns-in-Err-Halt-clause-served
-returns-in-Err-Halt-clause-served g c = tt
+pub returns-in-Ok-clause-went : goal.returns-in-Ok-clause-went
+returns-in-Ok-clause-went g c = record { size = c.write.ensures.size; later = c.write.ensures.later; cause = c.write.ensures.cause; again = c.write.ensures.again; told = c.write.ensures.told }
 
-pub returns-in-Err-Halt-clause-halt : goal.returns-in-Err-Halt-clause-halt
-returns-in-Err-Halt-clause-halt g c = refl
+pub returns-in-Ok-clause-event : goal.returns-in-Ok-clause-event
+returns-in-Ok-clause-event g c = λ events kept tells. record { place = c.in_ok-place.place; is = c.in_ok-place.ensures.ok; number = c.in-Ok.field-0; kept = c.in-Ok.ensures.events events kept tells }
 
-pub returns-in-Err-Halt-clause-table : goal.returns-in-Err-Halt-clause-table
-returns-in-Err-Halt-clause-table g c = refl
+pub unreachable-requires : goal.unreachable-requires
+unreachable-requires g c = let m = rw c.in-Err-NoBlock.field-0-is at c.in-Err-NoBlock.ensures.missing in below_not _ _ c.in_ok-place.ensures.below m.1
 
-pub returns-in-Err-Halt-clause-adds : goal.returns-in-Err-Halt-clause-adds
-returns-in-Err-Halt-clause-adds g c = tt
-
-pub returns-in-Err-Halt-clause-stands : goal.returns-in-Err-Halt-clause-stands
-returns-in-Err-Halt-clause-stands g c = λ none. absurd (halts _ none)
-
-pub returns-in-Err-Halt-clause-event : goal.returns-in-Err-Halt-clause-event
-returns-in-Err-Halt-clause-event g c = tt
-
-pub returns-in-Err-Halt-clause-lived : goal.returns-in-Err-Halt-clause-lived
-returns-in-Err-Halt-clause-lived g c = tt
-
-pub returns-in-Err-Halt-clause-lived_refused : goal.returns-in-Err-Halt-clause-lived_refused
-returns-in-Err-Halt-clause-lived_refused g c = λ none. absurd (halts _ none)
+pub unreachable-unreachable : goal.unreachable-unreachable
+unreachable-unreachable g c = let m = rw c.in-Err-NoBlock.field-0-is at c.in-Err-NoBlock.ensures.missing in below_not _ _ c.in_ok-place.ensures.below m.1
