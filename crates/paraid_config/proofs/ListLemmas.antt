@@ -1,8 +1,8 @@
 -- How far a list of a document was read, and what the rest of it adds
-use Rattle.std.proofs.Common.{◌≡◌, ℕ, ◌<◌, ◌≤◌, ◌+◌, ℤ, pos, List, [], ◌∷◌, ◌++◌, All, length, get_or, take, drop, map, Option, Some, None, option_map, refl, sym, ap, ◌∙◌, append_assoc}
-use Rattle.std.proofs.Common.{w64, SFits, to_z, of_z}
+use Rattle.std.proofs.Common.{◌≡◌, ℕ, ◌<◌, ◌≤◌, ◌+◌, ◌-◌, ℤ, pos, List, [], ◌∷◌, ◌++◌, All, length, get_or, take, drop, map, Option, Some, None, option_map, refl, sym, ap, ◌∙◌, append_assoc, arith, replicate}
+use Rattle.std.proofs.Common.{w8, w16, w64, Fits, SFits, to_z, of_z}
 use Rattle.std.proofs.lemmas.Int.{to_z-of_z}
-use Rattle.std.proofs.lemmas.List.{drop_more, take_more, map-append}
+use Rattle.std.proofs.lemmas.List.{append-nil, drop_all, drop_more, take_all, take_more, map-append}
 use Rattle.paraid_config.specs.declared.fault.ConfigFault.{ConfigFault}
 use Rattle.paraid_config.specs.declared.fault.ConfigFault.TheVariants.{Kind}
 use Rattle.std.proofs.lemmas.List.Elements.{All-push}
@@ -11,8 +11,16 @@ use Rattle.toml.specs.declared.value.Value.{Value}
 use Rattle.toml.specs.View.{view, items_view}
 use Rattle.toml.proofs.Views.{items_view-drop}
 use Rattle.paraid_config.specs.declared.key.Key.{Key}
+use Rattle.paraid_config.specs.declared.key.Key.TheVariants.{Windows}
+use Rattle.paraid_config.specs.Config.{AreWindowsOf}
 use Rattle.paraid_config.specs.Keys.{high_of}
 use Rattle.paraid_config.specs.Values.{integers_of, integer_items, range_fault, member_fault, members_fault, list_fault, value_at, IsListAt, IsFaultOf}
+
+pub fits_byte : (n : ℕ) → n ≤ 255 → Fits w8 n
+fits_byte n h = omega arith
+
+pub fits_half : (n high : ℕ) → n ≤ high → high < 65536 → Fits w16 n
+fits_half n high h b = omega arith
 
 -- the members before place `i` are these numbers, and none of them is out of range
 pub record AreRead (k : Key) (members : List ℤ) (numbers : List ℕ) (i : ℕ) : Type 0 where
@@ -113,6 +121,18 @@ AreRead_wide k members numbers i n r h fits e high g =
     let value : get_or members i (pos 0) ≡ pos n = sym same ∙ e in
     AreRead-more k members numbers i n r h value high (ap (range_fault k) (sym e) ∙ g)
 
+-- all of the items are read
+pub AreIntegers-end : (vs : List Value) (i : ℕ) (members : List ℤ) → AreIntegers (items_view vs) (items_view (drop i vs)) members → length vs ≤ i
+    → integers_of (items_view vs) ≡ Some members
+AreIntegers-end vs i members r h = r.holds ∙ rw (drop_all i vs h, append-nil) refl
+
+-- all of the members are read
+pub AreRead_all : (k : Key) (members : List ℤ) (numbers : List ℕ) (i : ℕ) → AreRead k members numbers i → length members ≤ i → members ≡ map pos numbers
+AreRead_all k members numbers i r h = sym (r.same ∙ take_all i members h)
+
+pub AreRead-accepted : (k : Key) (members : List ℤ) (numbers : List ℕ) (i : ℕ) → AreRead k members numbers i → length members ≤ i → member_fault k members ≡ None
+AreRead-accepted k members numbers i r h = r.fault ∙ rw (drop_all i members h) refl
+
 -- the list at a key, read whole
 pub IsListAt-read : (document : Members) (k : Key) (ds : Items) (zs : List ℤ) (ns : List ℕ) → value_at document k ≡ Some (array ds) → integers_of ds ≡ Some zs
     → zs ≡ map pos ns → IsListAt document k ns
@@ -121,3 +141,15 @@ IsListAt-read document k ds zs ns at read same = rw (at, integer_items-integers_
 pub list_fault-members : (document : Members) (k : Key) (few many : ℕ) (ds : Items) (f : ConfigFault) → value_at document k ≡ Some (array ds)
     → IsFaultOf (members_fault k few many (integers_of ds)) f → IsFaultOf (list_fault document k few many) f
 list_fault-members document k few many ds f at h = rw at h
+
+-- the windows that are used, and 0 for each of the others
+used_windows : (used : List ℕ) → 1 ≤ length used → length used ≤ 3 → get_or used 0 0 ∷ get_or used 1 0 ∷ get_or used 2 0 ∷ [] ≡ used ++ replicate (3 - length used) 0
+used_windows [] low high = absurd (omega arith)
+used_windows (a ∷ []) low high = refl
+used_windows (a ∷ b ∷ []) low high = refl
+used_windows (a ∷ b ∷ d ∷ []) low high = refl
+used_windows (a ∷ b ∷ d ∷ e ∷ more) low high = absurd (omega arith)
+
+pub AreWindowsOf-used : (document : Members) (used : List ℕ) → IsListAt document Windows used → 1 ≤ length used → length used ≤ 3
+    → AreWindowsOf document (get_or used 0 0 ∷ get_or used 1 0 ∷ get_or used 2 0 ∷ [])
+AreWindowsOf-used document used at low high = record { used = used; used_at = at; rest = used_windows used low high }

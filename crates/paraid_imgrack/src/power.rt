@@ -104,7 +104,11 @@ fn read_power<F: Files<File = File>>(files: &F, name: &str) -> io::Result<Power>
     if !fs::metadata(files, name)?.is_file() {
         return Ok(Power::Absent);
     }
-    let file = fs::open(files, name)?;
+    power_in(&fs::open(files, name)?)
+}
+
+/// The power that an open sidecar tells.
+fn power_in(file: &File) -> io::Result<Power> {
     let length = file.metadata()?.len();
     if length > LONGEST as u64 {
         return Ok(Power::Absent);

@@ -38,10 +38,7 @@ impl<F: Files<File = File> + Drop> ImageRack<F> {
             return Err(NoMemory);
         };
         for disk in 0..slots {
-            let image = Image::load(&files, alloc, disk)?;
-            let Ok(()) = images.push(image) else {
-                return Err(NoMemory);
-            };
+            images.push_reserved(Image::load(&files, alloc, disk)?);
         }
         Ok(ImageRack { files, images })
     }

@@ -1,7 +1,7 @@
 -- What a rack in memory is after a call.
-use Rattle.std.proofs.Common.{◌≡◌, ◌≢◌, inl, inr, ℕ, ◌<◌, ◌≤◌, Bool, true, false, not, List, [], length, map, get_or, replicate, Option, Some, refl, sym, ◌∙◌, ap, subst, arith}
+use Rattle.std.proofs.Common.{◌≡◌, ◌≢◌, inl, inr, ℕ, ◌<◌, ◌≤◌, ◌^◌, Bool, true, false, not, List, [], length, map, get_or, replicate, Option, Some, refl, sym, ◌∙◌, ap, subst, arith}
 use Rattle.std.proofs.lemmas.Bool.{cases_lt, false≢true}
-use Rattle.std.proofs.lemmas.List.{get_or_read, get_or-replicate, get_or_past, length-replicate}
+use Rattle.std.proofs.lemmas.List.{get_or_read, get_or-replicate, get_or_past, length-map, length-replicate}
 use Rattle.paraid_base.specs.declared.block.Block.{Block}
 use Rattle.paraid_base.specs.Xor.{zero_block}
 use Rattle.paraid_rack.specs.declared.call.Power.{Power}
@@ -95,3 +95,18 @@ was_planned r p is good = ap not (sym good ∙ is)
 
 pub same_beginning : (v w : Beginning) → v.power ≡ w.power → v.blocks ≡ w.blocks → v ≡ w
 same_beginning v w p b = λ i. record { power = p i; blocks = b i }
+
+-- slots that are all absent
+pub small_absent : (slots : List MemSlot) → ((d : ℕ) → full_slot_at slots d ≡ no_slot) → (d : ℕ) → (told_slot_at slots d).size < 2 ^ 32
+small_absent slots absent d = subst (λ (v : FullSlot). length v.blocks < 2 ^ 32) (sym (absent d)) (omega arith)
+
+pub sound_absent : (slots : List MemSlot) → ((d : ℕ) → full_slot_at slots d ≡ no_slot) → length slots ≤ 8 → AreSlots (length slots) (told_slot_at slots)
+sound_absent slots absent few = record {
+  few = few;
+  missing = λ d past. ap (λ (v : FullSlot). v.power) (absent d);
+  absent = λ d _. ap (λ (v : FullSlot). length v.blocks) (absent d);
+  parked = λ d _. ap (λ (v : FullSlot). v.unsynced) (absent d);
+}
+
+pub length_absent : (start : List Start) (n : ℕ) (x : Beginning) → map beginning_of start ≡ replicate n x → length start ≡ n
+length_absent start n x same = sym (length-map start beginning_of) ∙ ap length same ∙ length-replicate n x

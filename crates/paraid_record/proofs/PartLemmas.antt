@@ -1,6 +1,6 @@
 -- The fields of each part of a meta before the rest of the block, and equal metas
-use Rattle.std.specs.Prelude.{◌≡◌, ℕ, ◌+◌, ◌-◌, ◌≤◌, ◌<◌, Bool, true, false, if◌then◌else◌, List, [], ◌++◌, length, replicate, refl, nat_lt, slice_index, Option, Some, None, IfNone}
-use Rattle.std.proofs.Common.{arith, inl, inr, zero, suc}
+use Rattle.std.specs.Prelude.{◌≡◌, ℕ, ◌+◌, ◌-◌, ◌≤◌, ◌<◌, Bool, true, false, if◌then◌else◌, List, [], ◌∷◌, ◌++◌, length, replicate, refl, nat_lt, slice_index, Option, Some, None, IfNone}
+use Rattle.std.proofs.Common.{arith, inl, inr, zero, suc, sym, ◌∙◌}
 use Rattle.std.proofs.lemmas.List.{append_assoc, append-nil, length-append, length-replicate, get_or_past}
 use Rattle.std.proofs.lemmas.List.Sums.{count_by-le-length}
 use Rattle.std.proofs.lemmas.Bool.{cases_lt}
@@ -20,8 +20,23 @@ use Rattle.paraid_base.specs.declared.geometry.Geometry.{Geometry}
 use Rattle.paraid_record.specs.declared.meta.Setup.{Setup}
 use Rattle.paraid_record.specs.declared.meta.Meta.{Meta}
 use Rattle.paraid_record.specs.Codes.{mode_code, phase_code, phase_to, out_code, fresh_code, rebuilt_count, gear_list, window_count, burst_code, period_code}
-use Rattle.paraid_record.specs.Spelling.{big_endian, zero_filled, shorts}
+use Rattle.paraid_record.specs.Spelling.{big_endian, joined_parts, zero_filled, shorts}
 use Rattle.paraid_record.specs.Meta.{clock_bytes, count_bytes, energy_bytes, geometry_bytes, growth_bytes, heading_bytes, meta_bytes, policy_bytes, state_bytes}
+
+pub same_some : {A : Type 0} (found : Option A) (a b : A) → found ≡ Some a → found ≡ Some b → a ≡ b
+same_some found a b x y = cc
+
+pub not_some : {A : Type 0} (found : Option A) (a : A) → found ≡ Some a → found ≡ None → ⊥
+not_some found a x y = cc
+
+-- parts written one after the other behind a text
+abbrev pub pushed : List ℕ → List (List ℕ) → List ℕ
+pushed text [] = text
+pushed text (part ∷ parts) = pushed (text ++ part) parts
+
+pub pushed-parts : (text : List ℕ) (parts : List (List ℕ)) → pushed text parts ≡ text ++ joined_parts parts
+pushed-parts text [] = sym (append-nil text)
+pushed-parts text (part ∷ parts) = pushed-parts (text ++ part) parts ∙ append_assoc text part (joined_parts parts)
 
 pub length-filled : (size : ℕ) (xs : List ℕ) → length xs ≤ size → length (zero_filled size xs) ≡ size
 unfolding zero_filled

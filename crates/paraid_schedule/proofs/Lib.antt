@@ -6,3 +6,5 @@ pub mod CertificateLemmas
 pub mod EnergyLemmas
 pub mod SolvedLemmas
 pub mod WalkLemmas
+pub mod TestLemmas
+pub mod LoadLemmas

@@ -53,8 +53,8 @@ fn is_schedule(setup: &Setup, demand: &[u32], ups: u16, gears: &[u8]) -> bool
 fn is_served(setup: &Setup, demanded: u32, gear: u8) -> bool
     ensures { IsTrue result ↔ GearServes setup.now demanded gear }
 {
-    let load = 100 * demanded as u64;
-    gear == setup.geometry.disks || load < setup.up as u64 * setup.service as u64 * gear as u64
+    gear == setup.geometry.disks
+        || 100 * (demanded as u64) < setup.up as u64 * setup.service as u64 * gear as u64
 }
 
 /// Whether each gear serves the demand of its period.

@@ -8,7 +8,8 @@ use Rattle.paraid_base.specs.declared.pairs.Pairs.{Pairs}
 use Rattle.paraid_base.specs.History.{Entry}
 use Rattle.paraid_base.specs.Pairs.{pairs_of}
 use Rattle.paraid_base.proofs.PairsLemmas.{pairs_with-pairs_of}
-use Rattle.paraid_trace.specs.LineEvents.{Group, entry_from, entry_of, group_of, onto, rest_at, write_of}
+use Rattle.std.specs.List.{position, position_or_len}
+use Rattle.paraid_trace.specs.LineEvents.{Group, block_from_digits, entry_from, entry_of, group_of, is_space, number_of, onto, rest_at, write_of}
 
 -- pairs before those that are still to be read
 abbrev pub put_on : Entry → Option Entry → Option Entry
@@ -94,3 +95,10 @@ room_left n few other = elim (cases_lt n 8) [
 -- what a slice to the end holds
 pub to_end : (n : ℕ) (text : List ℕ) → take (length text - n) (drop n text) ≡ drop n text
 to_end n text = let long = length-drop n text in take_all (length text - n) (drop n text) (omega (arith, long))
+
+-- a number, a space and digits up to the next space are the first group
+pub group_found : (text : List ℕ) (at n long : ℕ) (bytes : Block) → position is_space text ≡ Some at → number_of (take at text) ≡ Some n
+    → long ≡ position_or_len is_space (drop (at + 1) text) → block_from_digits (take long (drop (at + 1) text)) ≡ Some bytes
+    → group_of text ≡ Some (record { block = n; bytes = bytes; end = at + 1 + long })
+unfolding group_of
+group_found text at n long bytes is number ends read = rw (is, number, ← ends, read) refl

@@ -3,23 +3,41 @@ use paraid_base::{Answer, Block, BlockNo, DiskNo, GearReport, Halt, Out, Phase, 
 /// An answer that takes few bytes.
 #[derive(Clone, Copy)]
 pub enum Brief {
+    /// The array has no such block.
     NoBlock { block: BlockNo },
+    /// The number of the write that was accepted, from 1.
     Wrote { number: u64 },
+    /// The number of writes that a stop no longer takes away.
     Flushed { writes: u64 },
+    /// What a tick did.
     Ticked(GearReport),
+    /// A shift from `gear` to `to` began.
     Shift { gear: u8, to: u8 },
+    /// There is no higher gear.
     Top,
+    /// There is no lower gear.
     Lowest,
+    /// A shift to `to` is under way.
     Shifting { to: u8 },
+    /// This disk was taken out.
     Failed { disk: DiskNo },
+    /// This disk was replaced.
     Replaced { disk: DiskNo },
+    /// The array has no such disk.
     NoDisk { disk: u32 },
+    /// This disk is out.
     Out { disk: DiskNo },
+    /// This disk is not out.
     NotOut { disk: DiskNo },
+    /// No fresh disk could be had in this slot.
     NoFresh { disk: DiskNo },
+    /// This disk has used its ration of spin-ups.
     Ration { disk: DiskNo },
+    /// The energy since the mount, in millijoules.
     Energy { total: u64 },
+    /// The line is no event.
     Bad,
+    /// The array has halted.
     Halted(Halt),
 }
 

@@ -180,7 +180,7 @@ fn write(text: &[u8], pairs: &mut Pairs) -> Asked
     Asked::Write
 }
 
-// The same, with its bytes kept as the first of these.
+// Reads the first group of a text as `group` does, and keeps its bytes as the first of `bytes`.
 fn first_group(text: &[u8], bytes: &mut [Block; 8]) -> Option<(BlockNo, usize)>
     ensures group { group_of text.now ≡ group_in result (get_or bytes.new 0 zero_block) }
     ensures within { IfSome result (λ found. found.1 ≤ length text.now) }
@@ -190,7 +190,8 @@ fn first_group(text: &[u8], bytes: &mut [Block; 8]) -> Option<(BlockNo, usize)>
     group(text, &mut bytes[0])
 }
 
-// Reads the first group of a text: its block, its bytes, and the place behind it.
+// Reads the first group of a text: its block and the place behind it. Its bytes are kept in
+// `bytes`.
 #[tactic(auto, unfolding(crate::specs::LineEvents::group_of))]
 fn group(text: &[u8], bytes: &mut Block) -> Option<(BlockNo, usize)>
     ensures group { group_of text.now ≡ group_in result bytes.new }

@@ -1,4 +1,4 @@
-use Rattle.std.proofs.Common.{List, [], ◌∷◌, ◌++◌, refl, ◌∙◌, ap, arith}
+use Rattle.std.proofs.Common.{◌≡◌, ℕ, List, [], ◌∷◌, ◌++◌, replicate, refl, ◌∙◌, ap, arith}
 use Rattle.paraid_rack.specs.Trail.{Beginning}
 use Rattle.paraid_memrack.specs.Tells.{beginning_of, no_beginning}
 use Rattle.paraid_memrack.proofs.PushLemmas.{length_pushed, map_pushed}
@@ -16,3 +16,8 @@ loop-i-preserved c = (
   map_pushed beginning_of _ _ _ no_beginning c.push_reserved.ensures.items (same_beginning _ _ refl c.new.ensures.items)
       ∙ ap (λ (l : List Beginning). l ++ no_beginning ∷ []) c.loop-i.invariant.2 ∙ one_more c.loop-i._i no_beginning,
 )
+
+pub returns : goal.returns
+returns c =
+    let all : c.loop-i._i ≡ c.args.count = omega arith in
+    c.loop-i.invariant.2 ∙ ap (λ (n : ℕ). replicate n no_beginning) all

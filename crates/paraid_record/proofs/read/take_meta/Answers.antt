@@ -5,21 +5,21 @@ use Rattle.paraid_record.specs.declared.meta.Setup.{Setup}
 use Rattle.paraid_record.specs.Codes.{burst_code, period_code}
 use Rattle.paraid_record.specs.Range.{IsVersionInRange}
 use Rattle.paraid_record.specs.Spelling.{big_endian}
-use Rattle.paraid_record.proofs.PartLemmas.{burst_small, energy-parts, figure_small, growth-parts, period_small}
+use Rattle.paraid_record.proofs.PartLemmas.{burst_small, energy-parts, figure_small, growth-parts, period_small, same_some}
 use Rattle.paraid_record.proofs.read.take_meta.Goals as goal
 
 pub returns : goal.returns
 returns c = λ m rest range e.
     let heading = c.take_heading.ensures.reads m.version _ range.version.known e in
-    let version : c.in_ok-version.version ≡ m.version = let was = c.in_ok-version.was in let is = heading.0 in cc in
+    let version : c.in_ok-version.version ≡ m.version = same_some _ _ _ c.in_ok-version.was heading.0 in
     let geometry = c.take_geometry.ensures.reads m.setup.geometry _ heading.1 in
-    let same : m.setup.geometry ≡ c.in_ok-geometry.geometry = let was = c.in_ok-geometry.was in let is = geometry.0 in cc in
+    let same : m.setup.geometry ≡ c.in_ok-geometry.geometry = same_some _ _ _ geometry.0 c.in_ok-geometry.was in
     let policy = c.take_policy.ensures.reads m.setup _ range.setup same geometry.1 in
     let setup : c.in_ok-setup.setup ≡ record m.setup { burst = 0; period = 0; spinning_mj = 0; parked_mj = 0; spinup_mj = 0 } =
-    let was = c.in_ok-setup.was in let is = policy.0 in cc in
+    same_some _ _ _ c.in_ok-setup.was policy.0 in
     let state = c.take_state.ensures.reads m _ range policy.1 in
     let meta : c.in_ok-meta.meta ≡ record m { setup = c.in_ok-setup.setup; version = c.in_ok-version.version } =
-    let was = c.in_ok-meta.was in let is = state.0 in cc in
+    same_some _ _ _ c.in_ok-meta.was state.0 in
     let spinning = c.take_u32-meta.ensures.reads m.setup.spinning_mj _ (figure_small _ range.setup.spinning) (state.1 ∙ energy-parts m.setup _) in
     let parked = c.take_u32-meta-2.ensures.reads m.setup.parked_mj _ (figure_small _ range.setup.parked) spinning.1 in
     let spinup = c.take_u32-meta-3.ensures.reads m.setup.spinup_mj _ (figure_small _ range.setup.spinup) parked.1 in

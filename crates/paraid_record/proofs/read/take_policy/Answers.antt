@@ -1,7 +1,7 @@
 use Rattle.std.specs.Prelude.{◌≡◌, Some}
 use Rattle.std.proofs.Common.{arith, sym, ◌∙◌}
 use Rattle.paraid_record.specs.Codes.{mode_code, window_count}
-use Rattle.paraid_record.proofs.PartLemmas.{policy-parts, windows_small, window_count_small, mode_code_small}
+use Rattle.paraid_record.proofs.PartLemmas.{policy-parts, windows_small, window_count_small, mode_code_small, same_some, not_some}
 use Rattle.paraid_record.proofs.read.take_policy.Goals as goal
 
 pub returns-in_err-mode_of-clause-reads : goal.returns-in_err-mode_of-clause-reads
@@ -12,8 +12,7 @@ returns-in_err-mode_of-clause-reads c = λ s rest range same e.
     let down = c.take_u8-down.ensures.reads s.down _ (omega (arith, range.down)) up.1 in
     let mode = c.take_u8-mode.ensures.reads (mode_code s.mode) _ (mode_code_small s.mode) down.1 in
     let known = c.mode_of.ensures s.mode mode.0 in
-    let was = c.in_err-mode_of.was in
-    absurd (cc)
+    absurd (not_some _ s.mode known c.in_err-mode_of.was)
 
 pub returns-clause-reads : goal.returns-clause-reads
 returns-clause-reads c = λ s rest range same e.
@@ -26,7 +25,7 @@ returns-clause-reads c = λ s rest range same e.
     let windows = c.take_shorts.ensures.reads s.windows _ range.windows.three (windows_small s.windows range.windows) count.1 in
     let ration = c.take_u16-ration.ensures.reads s.ration rest (omega (arith, range.ration)) windows.1 in
     let known = c.mode_of.ensures s.mode mode.0 in
-    let found : c.in_ok-mode_of.field-0 ≡ s.mode = let was = c.in_ok-mode_of.was in cc in (
+    let found : c.in_ok-mode_of.field-0 ≡ s.mode = same_some _ _ _ c.in_ok-mode_of.was known in (
       λ i. Some (record {
         geometry = sym same i;
         mode = found i;

@@ -1,5 +1,6 @@
 use Rattle.std.specs.Prelude.{◌≡◌, ◌≢◌, ◌<◌, ◌^◌, List, Option, IsSomeAnd}
 use Rattle.std.proofs.Common.{arith, ap, sym, subst, ◌∙◌}
+use Rattle.std.proofs.lemmas.Bool.{false≢true}
 use Rattle.paraid_base.specs.Regions.{disk_size}
 use Rattle.paraid_record.specs.declared.targets.Target.{Target}
 use Rattle.paraid_record.specs.declared.targets.Targets.{Targets}
@@ -33,12 +34,9 @@ returns-else-are_in_range-clause-value c = λ ts range e.
     let holds = c.are_in_range.ensures.1 (subst Q (sym same) range) in
     elim c.else-are_in_range.branch [
       | else-are_in_range-via-then-are_in_range+else-is_spelling w ↦
-          let spelled = w.is_spelling.ensures.1 (e ∙ ap targets_bytes (sym same)) in
-          let told = w.if-is_spelling.false in
-          absurd (cc)
+          absurd (false≢true (sym w.if-is_spelling.false ∙ w.is_spelling.ensures.1 (e ∙ ap targets_bytes (sym same))))
       | else-are_in_range-via-else-are_in_range w ↦
-          let told = w.if-are_in_range.false in
-          absurd (cc)
+          absurd (false≢true (sym w.if-are_in_range.false ∙ holds))
     ]
 
 pub returns-in_err-targets-clause-none : goal.returns-in_err-targets-clause-none

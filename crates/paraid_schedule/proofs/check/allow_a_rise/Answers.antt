@@ -3,6 +3,7 @@ use Rattle.paraid_schedule.proofs.RowLemmas.{row_start-end}
 use Rattle.paraid_schedule.specs.Cost.{period_cost, step_cost}
 use Rattle.paraid_schedule.proofs.GearStepLemmas.{next_higher-is}
 use Rattle.paraid_schedule.proofs.OnwardLemmas.{allow_rise}
+use Rattle.paraid_schedule.proofs.TestLemmas.{costs_low, costs_fit}
 use Rattle.paraid_schedule.proofs.check.allow_a_rise.Goals as goal
 
 pub are_within-requires-clause-at : goal.are_within-requires-clause-at
@@ -22,3 +23,9 @@ returns-in-Some c =
     ap (λ n. n + c.step_of.result) c.period_of.ensures.value ∙ ap (λ n. period_cost c.args.setup.now c.args.a + n) c.step_of.ensures.value in
     let same = allow_rise c.args.setup.now c.args.ups c.args.bounds.now c.args.t c.args.a c.in-Some.b (c.row-at.result + 1) c.row-next.result (c.period_of.result + c.step_of.result) up_step place c.row-next.ensures.value price in
     (λ is. same.0 (c.are_within.ensures.0 is), λ all. c.are_within.ensures.1 (same.1 all))
+
+pub overflow_add-cost : goal.overflow_add-cost
+overflow_add-cost c = costs_fit c.period_of.result c.step_of.result c.period_of.ensures.small c.step_of.ensures.small
+
+pub are_within-requires-clause-cost : goal.are_within-requires-clause-cost
+are_within-requires-clause-cost c = costs_low c.period_of.result c.step_of.result c.period_of.ensures.small c.step_of.ensures.small

@@ -1,9 +1,13 @@
-use Rattle.std.proofs.Common.{◌≡◌, length, slice_index, arith}
-use Rattle.std.proofs.lemmas.Bool.{eqb-true}
+use Rattle.std.proofs.Common.{◌≡◌, ◌↔◌, ℕ, IsTrue, List, length, slice_index, eqb, arith, ap, sym, subst, ◌∙◌}
+use Rattle.std.proofs.lemmas.Bool.{eqb-true, eq-eqb}
 use Rattle.paraid_schedule.specs.Schedule.{IsSchedule}
-use Rattle.paraid_schedule.specs.Bounds.{AreRight}
+use Rattle.paraid_record.specs.declared.meta.Setup.{Setup}
+use Rattle.paraid_schedule.specs.Bounds.{bound, AreRight}
+use Rattle.paraid_schedule.specs.Cost.{schedule_cost}
+use Rattle.paraid_schedule.specs.Plan.{Claim, IsCertified}
 use Rattle.paraid_schedule.proofs.CertificateLemmas.{gear_at, start_bounds_cost}
 use Rattle.paraid_schedule.proofs.RowLemmas.{bound_count-more}
+use Rattle.paraid_schedule.proofs.TestLemmas.{refused}
 use Rattle.paraid_schedule.proofs.check.check_plan.Goals as goal
 
 pub cost_of-requires-clause-gears : goal.cost_of-requires-clause-gears
@@ -35,3 +39,48 @@ returns-then-cost_of-cost-clause-least c = λ is gears schedule.
     let same : c.start_of.result ≡ c.cost-then-cost_of-cost.result = eqb-true c.start_of.result c.cost-then-cost_of-cost.result is in
     let least = start_bounds_cost s c.args.demand.now c.args.ups gears schedule c.bounds-bounds.result.now c.requires.demand right in
     omega arith
+
+pub returns-then-not-is_schedule-clause-exact : goal.returns-then-not-is_schedule-clause-exact
+returns-then-not-is_schedule-clause-exact c =
+    refused _ c.is_schedule.result c.is_schedule.ensures c.if-not-is_schedule.true
+    (λ certified. subst (λ (gears : List ℕ). IsSchedule c.args.setup.now c.args.demand.now c.args.ups gears) (sym c.gears-gears.ensures) certified.schedule)
+
+pub returns-then-not-are_right-clause-exact : goal.returns-then-not-are_right-clause-exact
+returns-then-not-are_right-clause-exact c =
+    refused _ c.are_right.result c.are_right.ensures c.if-not-are_right.true
+    (λ certified. subst (λ (bounds : List ℕ). AreRight c.args.setup.now c.args.demand.now c.args.ups bounds) (sym c.bounds-bounds.ensures) certified.bounds)
+
+-- what the two tests of the cost say of a claim
+module _ (s : Setup) (demand : List ℕ) (ups : ℕ) (claim : Claim) (gears : List ℕ) (counted told : ℕ) (same_gears : gears ≡ claim.gears) (cost : counted ≡ schedule_cost s gears) (told_is : told ≡ claim.cost) where
+  other_cost : (counted ≡ told → ⊥) → IsTrue (eqb counted told) ↔ IsCertified s demand ups claim
+  other_cost not = (
+    λ is. absurd (not (eqb-true counted told is)),
+    λ certified. absurd (not (cost ∙ ap (schedule_cost s) same_gears ∙ sym certified.cost ∙ sym told_is)),
+  )
+
+  module _ (bounds : List ℕ) (start again : ℕ) (same_bounds : bounds ≡ claim.bounds) (at : start ≡ bound s.geometry ups bounds 0 s.geometry.disks ups) (again_is : again ≡ claim.cost) where
+    begins : start ≡ bound s.geometry ups claim.bounds 0 s.geometry.disks ups
+    begins = at ∙ ap (λ (b : List ℕ). bound s.geometry ups b 0 s.geometry.disks ups) same_bounds
+
+    by_start : IsSchedule s demand ups gears → AreRight s demand ups bounds → counted ≡ told → IsTrue (eqb start again) ↔ IsCertified s demand ups claim
+    by_start schedule right equal = (
+      λ is. record {
+        schedule = subst (λ (g : List ℕ). IsSchedule s demand ups g) same_gears schedule;
+        cost = sym told_is ∙ sym equal ∙ cost ∙ ap (schedule_cost s) same_gears;
+        bounds = subst (λ (b : List ℕ). AreRight s demand ups b) same_bounds right;
+        start = sym again_is ∙ sym (eqb-true start again is) ∙ begins;
+      },
+      λ certified. eq-eqb start again (begins ∙ sym certified.start ∙ sym again_is),
+    )
+
+pub returns-else-cost_of-cost-clause-exact : goal.returns-else-cost_of-cost-clause-exact
+returns-else-cost_of-cost-clause-exact c =
+    other_cost c.args.setup.now c.args.demand.now c.args.ups c.args.plan.now c.gears-gears.result.now c.cost_of.result c.cost.result
+    c.gears-gears.ensures c.cost_of.ensures c.cost.ensures c.if-cost_of-cost.false
+
+pub returns-then-cost_of-cost-clause-exact : goal.returns-then-cost_of-cost-clause-exact
+returns-then-cost_of-cost-clause-exact c =
+    by_start c.args.setup.now c.args.demand.now c.args.ups c.args.plan.now c.gears-gears.result.now c.cost_of.result c.cost.result
+    c.gears-gears.ensures c.cost_of.ensures c.cost.ensures c.bounds-bounds.result.now c.start_of.result c.cost-then-cost_of-cost.result
+    c.bounds-bounds.ensures c.start_of.ensures c.cost-then-cost_of-cost.ensures
+    (c.is_schedule.ensures.0 c.if-not-is_schedule.false) (c.are_right.ensures.0 c.if-not-are_right.false) c.if-cost_of-cost.true

@@ -1,15 +1,18 @@
-use Rattle.std.proofs.Common.{arith}
+use Rattle.std.proofs.Common.{arith, ◌∙◌}
 use Rattle.paraid_imgrack.proofs.ImagesLemmas.{AreLoaded-none, AreLoaded-push}
 use Rattle.paraid_imgrack.proofs.rack.ImageRack.load.Goals as goal
 
 pub loop-disk-init : goal.loop-disk-init
-loop-disk-init g c = AreLoaded-none _ c.in-Ok.ensures.items
+loop-disk-init g c = (c.in-Ok.ensures.exact, AreLoaded-none _ c.in-Ok.ensures.items)
 
 pub loop-disk-preserved : goal.loop-disk-preserved
-loop-disk-preserved g c = rw c.in-Ok-push.ensures.items (AreLoaded-push c.loop-disk.images.items c.in_ok-image.image c.loop-disk.disk c.loop-disk.invariant c.in_ok-image.ensures)
+loop-disk-preserved g c = (
+  c.push_reserved.ensures.capacity ∙ c.loop-disk.invariant.0,
+  rw c.push_reserved.ensures.items (AreLoaded-push c.loop-disk.images.items c.in_ok-load.field-0 c.loop-disk.disk c.loop-disk.invariant.1 c.in_ok-load.ensures),
+)
 
 pub invariant_of-result : goal.invariant_of-result
-invariant_of-result g c = record { few = omega (arith, c.loop-disk.invariant.number, c.requires) }
+invariant_of-result g c = record { few = omega (arith, c.loop-disk.invariant.1.number, c.requires) }
 
 pub returns-clause-loaded : goal.returns-clause-loaded
-returns-clause-loaded g c d below = c.loop-disk.invariant.loaded d (omega (arith, below, c.loop-disk-test.false))
+returns-clause-loaded g c d below = c.loop-disk.invariant.1.loaded d (omega (arith, below, c.loop-disk-test.false))

@@ -1,7 +1,7 @@
-use Rattle.std.proofs.Common.{◌≡◌, ◌<◌, length, map, ◌∙◌, ap, arith}
+use Rattle.std.proofs.Common.{◌≡◌, ℕ, ◌<◌, length, map, ◌∙◌, ap, subst, arith}
 use Rattle.std.proofs.lemmas.List.{length-map}
 use Rattle.paraid_rack.specs.Trail.{Trail, disks}
-use Rattle.paraid_memrack.specs.Past.{past_of, past_start}
+use Rattle.paraid_memrack.specs.Past.{past_of, past_start, AllPastAt}
 use Rattle.paraid_memrack.specs.Stop.{kept_at}
 use Rattle.paraid_memrack.specs.Tells.{beginning_of}
 use Rattle.paraid_memrack.proofs.ReplayLemmas.{all_past_start, all_past_more}
@@ -24,3 +24,13 @@ loop-m-preserved c =
       c.follow.ensures.length ∙ c.loop-m.invariant.0,
       all_past_more t m c.index.result.now c.loop-m.slots.items c.follow.new.slots.items within c.index.ensures (c.in_ok-follow.ensures.slots (disks t m) (kept_at t m)) c.loop-m.invariant.1,
     )
+
+pub returns-clause-length : goal.returns-clause-length
+returns-clause-length c = c.loop-m.invariant.0
+
+pub returns-clause-slots : goal.returns-clause-slots
+returns-clause-slots c =
+    let log = c.args.self.now in
+    let t : Trail = record { start = map beginning_of log.start.items; calls = log.calls.items } in
+    let all : c.loop-m.m ≡ c.args.moment = omega arith in
+    subst (λ (m : ℕ). AllPastAt t m c.loop-m.slots.items) all c.loop-m.invariant.1
