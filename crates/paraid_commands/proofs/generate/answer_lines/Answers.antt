@@ -34,11 +34,6 @@ events-preserved g c =
       fits = rw new (fits_answer (tally_with_event c.events.tally c.generate-event.result) c.answer_event-answered.result (c.events.i + 1) c.events.i (fits_event c.events.tally c.generate-event.result c.events.i c.events.i i.fits));
     }
 
-pub returns-clause-counted : goal.returns-clause-counted
-returns-clause-counted g c = λ t p s.
-    let e : c.events.i ≡ c.args.lines = omega (arith, c.events-test.false, c.events.auto.i-end) in
-    rw e at (c.events.invariant.counted t p s)
-
 pub generate-event-requires : goal.generate-event-requires
 generate-event-requires g c = record { some = c.blocks-blocks.ensures.some }
 
@@ -56,17 +51,14 @@ count_answer-requires g c =
     let few : c.events.i ≤ 1000000 = omega (arith, more) in
     record { room = rw c.count_event.ensures (fits_room _ (c.events.i + 1) c.events.i (fits_event c.events.tally c.generate-event.result c.events.i c.events.i c.events.invariant.fits) more few) }
 
-pub returns-clause-told : goal.returns-clause-told
-returns-clause-told g c = c.events.invariant.told
-
-pub returns-clause-slots : goal.returns-clause-slots
-returns-clause-slots g c = c.events.invariant.slots
-
-pub returns-clause-setup : goal.returns-clause-setup
-returns-clause-setup g c = c.events.invariant.setup
-
-pub returns-clause-halt : goal.returns-clause-halt
-returns-clause-halt g c = c.events.invariant.halt
-
-pub returns-clause-since : goal.returns-clause-since
-returns-clause-since g c = c.events.invariant.since
+pub returns : goal.returns
+returns g c = record {
+  counted = λ t p s.
+      let e : c.events.i ≡ c.args.lines = omega (arith, c.events-test.false, c.events.auto.i-end) in
+      rw e at (c.events.invariant.counted t p s);
+  told = c.events.invariant.told;
+  slots = c.events.invariant.slots;
+  setup = c.events.invariant.setup;
+  halt = c.events.invariant.halt;
+  since = c.events.invariant.since;
+}

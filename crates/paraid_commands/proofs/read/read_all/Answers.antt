@@ -1,19 +1,25 @@
-use Rattle.std.proofs.Common.{◌<◌, ◌≤◌, ◌-◌, ◌++◌, length, take, arith}
+use Rattle.std.proofs.Common.{◌<◌, ◌≤◌, ◌-◌, ◌++◌, length, take, arith, rules}
 use Rattle.paraid_base.proofs.ToldLemmas.{Gives-none, Gives-then}
 use Rattle.paraid_commands.proofs.ReadingLemmas.{less_room, still_short, too_long}
 use Rattle.paraid_commands.proofs.read.read_all.Goals as goal
 
-pub returns-then-count-len-clause-unread : goal.returns-then-count-len-clause-unread
-returns-then-count-len-clause-unread g c =
-    let i = c.loop-count.invariant in
-    let e = c.in-Ok.ensures in
-    let within : c.in-Ok.count ≤ length c.read_some.new.into = omega (arith, e.within, c.read_some.auto.into) in
-    let many : 65536 - length c.loop-count.bytes.items < c.in-Ok.count = omega (arith, c.if-count-len.true, c.len.ensures, c.loop-count.bytes.ok.0) in
-    record {
-      bytes = c.loop-count.bytes.items ++ take c.in-Ok.count c.read_some.new.into;
-      given = Gives-then _ _ _ _ _ i.given e.gives;
-      cause = too_long c.loop-count.bytes.items c.read_some.new.into c.in-Ok.count within many;
-    }
+pub returns-then-count-len : goal.returns-then-count-len
+returns-then-count-len g c = record {
+  all = search rules;
+  end = search rules;
+  short = search rules;
+  unread =
+      let i = c.loop-count.invariant in
+      let e = c.in-Ok.ensures in
+      let within : c.in-Ok.count ≤ length c.read_some.new.into = omega (arith, e.within, c.read_some.auto.into) in
+      let many : 65536 - length c.loop-count.bytes.items < c.in-Ok.count = omega (arith, c.if-count-len.true, c.len.ensures, c.loop-count.bytes.ok.0) in
+      record {
+        bytes = c.loop-count.bytes.items ++ take c.in-Ok.count c.read_some.new.into;
+        given = Gives-then _ _ _ _ _ i.given e.gives;
+        cause = too_long c.loop-count.bytes.items c.read_some.new.into c.in-Ok.count within many;
+      };
+  later = search rules;
+}
 
 pub loop-count-init : goal.loop-count-init
 loop-count-init g c = rw c.new-bytes.ensures.items (record { given = Gives-none _; short = omega arith; later = omega arith })
@@ -35,12 +41,18 @@ loop-count-smaller g c =
     let few : c.in-Ok.count ≤ 65536 - length c.loop-count.bytes.items = omega (arith, c.if-count-len.false, c.len.ensures, c.loop-count.bytes.ok.0) in
     rw c.in-Ok-extend_from_slice.ensures.items (less_room c.loop-count.bytes.items c.read_some.new.into c.in-Ok.count within (omega (arith, c.if-count-eq0.false)) few)
 
-pub returns-in_default-extend_from_slice-clause-unread : goal.returns-in_default-extend_from_slice-clause-unread
-returns-in_default-extend_from_slice-clause-unread g c =
-    let i = c.loop-count.invariant in
-    let few : c.in-Ok.count ≤ 65536 - length c.loop-count.bytes.items = omega (arith, c.if-count-len.false, c.len.ensures, c.loop-count.bytes.ok.0) in
-    record {
-      bytes = c.loop-count.bytes.items ++ take c.in-Ok.count c.read_some.new.into;
-      given = Gives-then _ _ _ _ _ i.given c.in-Ok.ensures.gives;
-      cause = still_short c.loop-count.bytes.items c.read_some.new.into c.in-Ok.count i.short few;
-    }
+pub returns-in_default-extend_from_slice : goal.returns-in_default-extend_from_slice
+returns-in_default-extend_from_slice g c = record {
+  all = search rules;
+  end = search rules;
+  short = search rules;
+  unread =
+      let i = c.loop-count.invariant in
+      let few : c.in-Ok.count ≤ 65536 - length c.loop-count.bytes.items = omega (arith, c.if-count-len.false, c.len.ensures, c.loop-count.bytes.ok.0) in
+      record {
+        bytes = c.loop-count.bytes.items ++ take c.in-Ok.count c.read_some.new.into;
+        given = Gives-then _ _ _ _ _ i.given c.in-Ok.ensures.gives;
+        cause = still_short c.loop-count.bytes.items c.read_some.new.into c.in-Ok.count i.short few;
+      };
+  later = search rules;
+}

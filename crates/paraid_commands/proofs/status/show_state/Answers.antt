@@ -8,43 +8,39 @@ use Rattle.paraid_txn.specs.Stores.{disks_of, epoch_of, named_of, store_rack}
 use Rattle.paraid_commands.proofs.ShowLemmas.{refused_status}
 use Rattle.paraid_commands.proofs.status.show_state.Goals as goal
 
-pub returns-clause-shows : goal.returns-clause-shows
-returns-clause-shows g c = record {
-  code = mount_fault_status c.in-Err.field-0.fault;
-  lines = mount_fault_line c.in-Err.field-0.fault;
-  outcome = refused c.in-Err.field-0.fault c.in-Err.ensures.cause (λ began at. c.in-Err.ensures.refused began at);
-  ends = c.tell_refusal.ensures.tells;
+pub returns-in-Ok : goal.returns-in-Ok
+returns-in-Ok g c = record {
+  shows =
+      let e = c.in-Ok.ensures in
+      let it = c.in-Ok.field-0 in
+      let slot = g.R.Rack.slot (store_rack it.store) in
+      let rack : c.close.result ≡ store_rack it.store = c.close.ensures in
+      rw rack (record {
+        code = 0;
+        lines = status_lines it.meta (is_dirty it.dirty);
+        outcome = shown it.meta (is_dirty it.dirty) (record {
+          epoch = epoch_of it.store;
+          disks = disks_of it.store;
+          named = named_of it.store;
+          rows = length it.dirty;
+          servable = subst (λ (n : ℕ). IsServable n slot (epoch_of it.store) (disks_of it.store) (named_of it.store) it.meta (length it.dirty)) e.slots e.servable;
+          mounted = e.mounted.0;
+          session = λ began at. e.mounted.1 _ began at;
+        });
+        ends = c.tell_state-status.ensures.tells;
+      });
+  status = elim c.tell_state-status.ensures.tells.whole [ inl failed ↦ inr (inl failed) | inr told ↦ inl told.1 ];
+  sink = c.tell_state-status.ensures.sink;
 }
 
-pub returns-in-Ok-clause-shows : goal.returns-in-Ok-clause-shows
-returns-in-Ok-clause-shows g c =
-    let e = c.in-Ok.ensures in
-    let it = c.in-Ok.field-0 in
-    let slot = g.R.Rack.slot (store_rack it.store) in
-    let rack : c.close.result ≡ store_rack it.store = c.close.ensures in
-    rw rack (record {
-      code = 0;
-      lines = status_lines it.meta (is_dirty it.dirty);
-      outcome = shown it.meta (is_dirty it.dirty) (record {
-        epoch = epoch_of it.store;
-        disks = disks_of it.store;
-        named = named_of it.store;
-        rows = length it.dirty;
-        servable = subst (λ (n : ℕ). IsServable n slot (epoch_of it.store) (disks_of it.store) (named_of it.store) it.meta (length it.dirty)) e.slots e.servable;
-        mounted = e.mounted.0;
-        session = λ began at. e.mounted.1 _ began at;
-      });
-      ends = c.tell_state-status.ensures.tells;
-    })
-
-pub returns-in-Ok-clause-status : goal.returns-in-Ok-clause-status
-returns-in-Ok-clause-status g c = elim c.tell_state-status.ensures.tells.whole [ inl failed ↦ inr (inl failed) | inr told ↦ inl told.1 ]
-
-pub returns-in-Ok-clause-sink : goal.returns-in-Ok-clause-sink
-returns-in-Ok-clause-sink g c = c.tell_state-status.ensures.sink
-
-pub returns-clause-status : goal.returns-clause-status
-returns-clause-status g c = elim c.tell_refusal.ensures.tells.whole [ inl failed ↦ inr (inl failed) | inr told ↦ refused_status c.in-Err.field-0.fault _ told.1 ]
-
-pub returns-clause-sink : goal.returns-clause-sink
-returns-clause-sink g c = c.tell_refusal.ensures.sink
+pub returns : goal.returns
+returns g c = record {
+  shows = record {
+    code = mount_fault_status c.in-Err.field-0.fault;
+    lines = mount_fault_line c.in-Err.field-0.fault;
+    outcome = refused c.in-Err.field-0.fault c.in-Err.ensures.cause (λ began at. c.in-Err.ensures.refused began at);
+    ends = c.tell_refusal.ensures.tells;
+  };
+  status = elim c.tell_refusal.ensures.tells.whole [ inl failed ↦ inr (inl failed) | inr told ↦ refused_status c.in-Err.field-0.fault _ told.1 ];
+  sink = c.tell_refusal.ensures.sink;
+}

@@ -1,4 +1,4 @@
-use Rattle.std.proofs.Common.{◌++◌, ◌≡◌, ◌≢◌, ◌∙◌, None, sym, ap, arith, inl, inr, below_more}
+use Rattle.std.proofs.Common.{◌++◌, ◌≡◌, ◌≢◌, ◌∙◌, None, sym, ap, arith, inl, inr, below_more, rules}
 use Rattle.std.proofs.lemmas.Bool.{cases_eq}
 use Rattle.paraid_base.proofs.SumsLemmas.{others_none}
 use Rattle.paraid_base.specs.Soft.{soft_parity_disk}
@@ -19,11 +19,15 @@ loop-disk-init g c = record {
   values = λ f shows some e l. absurd (omega arith);
 }
 
-pub returns-in_err-gather_one-clause-read : goal.returns-in_err-gather_one-clause-read
-returns-in_err-gather_one-clause-read g c =
-    let before = c.loop-disk.invariant in
-    read_failed g.R.Rack.slot_count g.R.Rack.slot g.R.Rack.told (disks_of c.args.store.now) (disks_of c.loop-disk.store) _ _ c.args.store.now c.loop-disk.store c.gather_one.new.store before.read.same.disks
-    c.from_residual.ensures.1 before.read c.in_err-gather_one.ensures.read
+pub returns-in_err-gather_one : goal.returns-in_err-gather_one
+returns-in_err-gather_one g c = record {
+  read =
+      let before = c.loop-disk.invariant in
+      read_failed g.R.Rack.slot_count g.R.Rack.slot g.R.Rack.told (disks_of c.args.store.now) (disks_of c.loop-disk.store) _ _ c.args.store.now c.loop-disk.store c.gather_one.new.store before.read.same.disks
+      c.from_residual.ensures.1 before.read c.in_err-gather_one.ensures.read;
+  below = search rules;
+  value = search rules;
+}
 
 pub loop-disk-preserved : goal.loop-disk-preserved
 loop-disk-preserved g c =
@@ -38,14 +42,18 @@ loop-disk-preserved g c =
           (λ apart. call.here f (shows_after (disks_of c.args.store.now) _ _ (c.args.batch.now ++ c.args.draft.now) f before.read.calls shows) some apart);
     }
 
-pub returns-clause-value : goal.returns-clause-value
-returns-clause-value g c f shows some e l =
-    let v : View = seen_by c.args.meta.now c.args.dirty.now None f in
-    let all : c.loop-disk.disk ≡ c.args.to = omega arith in
-    elim (cases_eq e (soft_parity_disk c.args.to c.args.s)) [
-      | inl is ↦
-          ap (member c.put.new.blocks) (is ∙ sym c.soft_parity.ensures.value) ∙ c.put.ensures.here ∙ c.loop-disk.invariant.sums f shows some
-          ∙ ap (xor_upto (without (copies v c.args.to c.args.s) (soft_parity_disk c.args.to c.args.s))) all ∙ sym (stripe_parity v c.args.to c.args.s e is)
-      | inr apart ↦
-          c.put.ensures.others e (λ is. apart (is ∙ c.soft_parity.ensures.value)) ∙ c.loop-disk.invariant.values f shows some e (omega arith) apart ∙ sym (stripe_copy v c.args.to c.args.s e apart)
-    ]
+pub returns : goal.returns
+returns g c = record {
+  read = search rules;
+  below = search rules;
+  value = λ f shows some e l.
+      let v : View = seen_by c.args.meta.now c.args.dirty.now None f in
+      let all : c.loop-disk.disk ≡ c.args.to = omega arith in
+      elim (cases_eq e (soft_parity_disk c.args.to c.args.s)) [
+        | inl is ↦
+            ap (member c.put.new.blocks) (is ∙ sym c.soft_parity.ensures.value) ∙ c.put.ensures.here ∙ c.loop-disk.invariant.sums f shows some
+            ∙ ap (xor_upto (without (copies v c.args.to c.args.s) (soft_parity_disk c.args.to c.args.s))) all ∙ sym (stripe_parity v c.args.to c.args.s e is)
+        | inr apart ↦
+            c.put.ensures.others e (λ is. apart (is ∙ c.soft_parity.ensures.value)) ∙ c.loop-disk.invariant.values f shows some e (omega arith) apart ∙ sym (stripe_copy v c.args.to c.args.s e apart)
+      ];
+}

@@ -1,17 +1,25 @@
-use Rattle.std.proofs.Common.{◌∙◌, sym, ap, None}
+use Rattle.std.proofs.Common.{◌∙◌, sym, ap, None, rules}
 use Rattle.paraid_base.specs.Skips.{place_among}
 use Rattle.paraid_view.specs.Reads.{seen_by}
 use Rattle.paraid_view.proofs.ValueLemmas.{ok_map}
 use Rattle.paraid_core.proofs.GatherLemmas.{copies_cell, copies_pad}
 use Rattle.paraid_core.proofs.gather.read_copy.Goals as goal
 
-pub returns-in_default-clause-value : goal.returns-in_default-clause-value
-returns-in_default-clause-value g c f shows some =
-    c.zero.ensures ∙ sym (copies_pad (seen_by c.args.meta.now c.args.dirty.now None f) c.args.to c.args.s c.args.disk c.index_among-index.result
-    (c.index_among-index.ensures.value ∙ ap (λ p. place_among p c.args.disk) c.soft_parity.ensures.value) c.in_default.ensures.value)
+pub returns-in_default : goal.returns-in_default
+returns-in_default g c = record {
+  read = search rules;
+  below = search rules;
+  value = λ f shows some.
+      c.zero.ensures ∙ sym (copies_pad (seen_by c.args.meta.now c.args.dirty.now None f) c.args.to c.args.s c.args.disk c.index_among-index.result
+      (c.index_among-index.ensures.value ∙ ap (λ p. place_among p c.args.disk) c.soft_parity.ensures.value) c.in_default.ensures.value);
+}
 
-pub returns-clause-value : goal.returns-clause-value
-returns-clause-value g c =
-    let cell = c.in-Some.ensures.value in
-    ok_map c.read_value.result (λ value f shows some. value f shows some ∙ copies_cell (seen_by c.args.meta.now c.args.dirty.now None f) c.args.to c.args.s c.args.disk c.index_among-index.result _ _
-    (c.index_among-index.ensures.value ∙ ap (λ p. place_among p c.args.disk) c.soft_parity.ensures.value) cell.0 cell.1 cell.2) c.read_value.ensures.value
+pub returns : goal.returns
+returns g c = record {
+  read = search rules;
+  below = search rules;
+  value =
+      let cell = c.in-Some.ensures.value in
+      ok_map c.read_value.result (λ value f shows some. value f shows some ∙ copies_cell (seen_by c.args.meta.now c.args.dirty.now None f) c.args.to c.args.s c.args.disk c.index_among-index.result _ _
+      (c.index_among-index.ensures.value ∙ ap (λ p. place_among p c.args.disk) c.soft_parity.ensures.value) cell.0 cell.1 cell.2) c.read_value.ensures.value;
+}

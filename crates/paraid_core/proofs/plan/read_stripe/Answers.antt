@@ -12,11 +12,6 @@ use Rattle.paraid_view.specs.Reads.{CanRead}
 use Rattle.paraid_core.proofs.ReadyLemmas.{some_is}
 use Rattle.paraid_core.proofs.plan.read_stripe.Goals as goal
 
-pub returns-then-is_at-clause-value : goal.returns-then-is_at-clause-value
-returns-then-is_at-clause-value g c =
-    ok_map c.read_rest.result (λ value. λ f table shows some.
-    value f shows some ∙ sym (stripe_gone (seen_by c.args.meta.now table c.args.out f) c.args.s c.args.e (c.is_at.ensures.0 c.if-is_at.true))) c.read_rest.ensures.value
-
 pub read_laid-requires-clause-spinning : goal.read_laid-requires-clause-spinning
 read_laid-requires-clause-spinning g c = c.requires.ready.spins c.args.e (inl c.requires.disk) (λ e. false≢true (sym c.if-is_at.false ∙ c.is_at.ensures.1 e))
 
@@ -26,35 +21,28 @@ read_laid-requires-clause-within g c =
     c.requires.ready.large c.args.e (inl c.requires.disk) (λ e. false≢true (sym c.if-is_at.false ∙ c.is_at.ensures.1 e)) in
     let k = c.soft_place-place.ensures.in_size in omega arith
 
-pub returns-clause-value : goal.returns-clause-value
-returns-clause-value g c =
-    ok_map c.read_laid.result (λ value. λ f table shows some.
-    value f shows some ∙ ap (f c.args.e) c.soft_place-place.ensures.value
-    ∙ sym (stripe_there (seen_by c.args.meta.now table c.args.out f) c.args.s c.args.e (λ e. false≢true (sym c.if-is_at.false ∙ c.is_at.ensures.1 e)))) c.read_laid.ensures.value
+pub returns-then-is_at : goal.returns-then-is_at
+returns-then-is_at g c = record {
+  read = c.read_rest.ensures.read;
+  below = c.read_rest.ensures.below;
+  failed = IfErr-weaker c.read_rest.result (λ d. d ≢ c.args.e) (λ d. c.args.out ≢ Some d) (λ d not is. not (some_is d c.args.e (sym is ∙ c.is_at.ensures.0 c.if-is_at.true))) c.read_rest.ensures.failed;
+  off = off_same c.args.out _ _ _ (c.is_at.ensures.0 c.if-is_at.true) c.read_rest.ensures.off;
+  value =
+      ok_map c.read_rest.result (λ value. λ f table shows some.
+      value f shows some ∙ sym (stripe_gone (seen_by c.args.meta.now table c.args.out f) c.args.s c.args.e (c.is_at.ensures.0 c.if-is_at.true))) c.read_rest.ensures.value;
+}
 
-pub returns-then-is_at-clause-off : goal.returns-then-is_at-clause-off
-returns-then-is_at-clause-off g c = off_same c.args.out _ _ _ (c.is_at.ensures.0 c.if-is_at.true) c.read_rest.ensures.off
-
-pub returns-clause-off : goal.returns-clause-off
-returns-clause-off g c = c.read_laid.ensures.off c.args.out (λ e. false≢true (sym c.if-is_at.false ∙ c.is_at.ensures.1 e))
-
-pub returns-then-is_at-clause-read : goal.returns-then-is_at-clause-read
-returns-then-is_at-clause-read g c = c.read_rest.ensures.read
-
-pub returns-then-is_at-clause-below : goal.returns-then-is_at-clause-below
-returns-then-is_at-clause-below g c = c.read_rest.ensures.below
-
-pub returns-clause-read : goal.returns-clause-read
-returns-clause-read g c = c.read_laid.ensures.read
-
-pub returns-clause-below : goal.returns-clause-below
-returns-clause-below g c = c.read_laid.ensures.below
-
-pub returns-then-is_at-clause-failed : goal.returns-then-is_at-clause-failed
-returns-then-is_at-clause-failed g c = IfErr-weaker c.read_rest.result (λ d. d ≢ c.args.e) (λ d. c.args.out ≢ Some d) (λ d not is. not (some_is d c.args.e (sym is ∙ c.is_at.ensures.0 c.if-is_at.true))) c.read_rest.ensures.failed
-
-pub returns-clause-failed : goal.returns-clause-failed
-returns-clause-failed g c = IfErr-weaker c.read_laid.result (λ d. d ≡ c.args.e) (λ d. c.args.out ≢ Some d) (λ d is at. false≢true (sym c.if-is_at.false ∙ c.is_at.ensures.1 (at ∙ ap Some is))) c.read_laid.ensures.failed
+pub returns : goal.returns
+returns g c = record {
+  read = c.read_laid.ensures.read;
+  below = c.read_laid.ensures.below;
+  failed = IfErr-weaker c.read_laid.result (λ d. d ≡ c.args.e) (λ d. c.args.out ≢ Some d) (λ d is at. false≢true (sym c.if-is_at.false ∙ c.is_at.ensures.1 (at ∙ ap Some is))) c.read_laid.ensures.failed;
+  off = c.read_laid.ensures.off c.args.out (λ e. false≢true (sym c.if-is_at.false ∙ c.is_at.ensures.1 e));
+  value =
+      ok_map c.read_laid.result (λ value. λ f table shows some.
+      value f shows some ∙ ap (f c.args.e) c.soft_place-place.ensures.value
+      ∙ sym (stripe_there (seen_by c.args.meta.now table c.args.out f) c.args.s c.args.e (λ e. false≢true (sym c.if-is_at.false ∙ c.is_at.ensures.1 e)))) c.read_laid.ensures.value;
+}
 
 pub read_rest-requires-clause-in_range : goal.read_rest-requires-clause-in_range
 read_rest-requires-clause-in_range g c = c.requires.in_range

@@ -68,47 +68,35 @@ read_laid-requires-clause-within g c =
 pub read_laid-requires-clause-past_log : goal.read_laid-requires-clause-past_log
 read_laid-requires-clause-past_log g c = omega arith
 
-pub returns-in-Row-clause-read : goal.returns-in-Row-clause-read
-returns-in-Row-clause-read g c = c.read_value.ensures.read
+pub returns-in-Row : goal.returns-in-Row
+returns-in-Row g c = record {
+  read = c.read_value.ensures.read;
+  below = c.read_value.ensures.below;
+  failed = IfErr-weaker c.read_value.result (λ e. Some c.args.disk ≢ Some e) (λ e. e ≢ c.args.disk) (λ e not is. not (ap Some (sym is))) c.read_value.ensures.failed;
+  value =
+      subst (λ (u : RebuildUnit). OnOk c.read_value.result ((f : Contents) → ShowsContents (g.R.Rack.told (store_rack c.args.store.now)) (c.args.batch.now ++ c.args.draft.now) f
+      → IsSome (g.R.Rack.told (store_rack c.read_value.new.store)) → c.read_value.new.into ≡ rebuilt_block (seen_by c.args.meta.now c.args.dirty.now (Some c.args.disk) f) c.args.disk u))
+      (sym c.in-Row.is) c.read_value.ensures.value;
+}
 
-pub returns-in-Row-clause-below : goal.returns-in-Row-clause-below
-returns-in-Row-clause-below g c = c.read_value.ensures.below
+pub returns-in-Stripe : goal.returns-in-Stripe
+returns-in-Stripe g c = record {
+  read = c.read_rest.ensures.read;
+  below = c.read_rest.ensures.below;
+  failed = c.read_rest.ensures.failed;
+  value =
+      subst (λ (u : RebuildUnit). OnOk c.read_rest.result ((f : Contents) → ShowsContents (g.R.Rack.told (store_rack c.args.store.now)) (c.args.batch.now ++ c.args.draft.now) f
+      → IsSome (g.R.Rack.told (store_rack c.read_rest.new.store)) → c.read_rest.new.into ≡ rebuilt_block (seen_by c.args.meta.now c.args.dirty.now (Some c.args.disk) f) c.args.disk u))
+      (sym c.in-Stripe.is) c.read_rest.ensures.value;
+}
 
-pub returns-in-Row-clause-value : goal.returns-in-Row-clause-value
-returns-in-Row-clause-value g c =
-    subst (λ (u : RebuildUnit). OnOk c.read_value.result ((f : Contents) → ShowsContents (g.R.Rack.told (store_rack c.args.store.now)) (c.args.batch.now ++ c.args.draft.now) f
-    → IsSome (g.R.Rack.told (store_rack c.read_value.new.store)) → c.read_value.new.into ≡ rebuilt_block (seen_by c.args.meta.now c.args.dirty.now (Some c.args.disk) f) c.args.disk u))
-    (sym c.in-Row.is) c.read_value.ensures.value
-
-pub returns-in-Stripe-clause-read : goal.returns-in-Stripe-clause-read
-returns-in-Stripe-clause-read g c = c.read_rest.ensures.read
-
-pub returns-in-Stripe-clause-below : goal.returns-in-Stripe-clause-below
-returns-in-Stripe-clause-below g c = c.read_rest.ensures.below
-
-pub returns-in-Stripe-clause-value : goal.returns-in-Stripe-clause-value
-returns-in-Stripe-clause-value g c =
-    subst (λ (u : RebuildUnit). OnOk c.read_rest.result ((f : Contents) → ShowsContents (g.R.Rack.told (store_rack c.args.store.now)) (c.args.batch.now ++ c.args.draft.now) f
-    → IsSome (g.R.Rack.told (store_rack c.read_rest.new.store)) → c.read_rest.new.into ≡ rebuilt_block (seen_by c.args.meta.now c.args.dirty.now (Some c.args.disk) f) c.args.disk u))
-    (sym c.in-Stripe.is) c.read_rest.ensures.value
-
-pub returns-in-MapBlock-clause-read : goal.returns-in-MapBlock-clause-read
-returns-in-MapBlock-clause-read g c = c.read_laid.ensures.read
-
-pub returns-in-MapBlock-clause-below : goal.returns-in-MapBlock-clause-below
-returns-in-MapBlock-clause-below g c = c.read_laid.ensures.below
-
-pub returns-in-MapBlock-clause-value : goal.returns-in-MapBlock-clause-value
-returns-in-MapBlock-clause-value g c =
-    subst (λ (u : RebuildUnit). OnOk c.read_laid.result ((f : Contents) → ShowsContents (g.R.Rack.told (store_rack c.args.store.now)) (c.args.batch.now ++ c.args.draft.now) f
-    → IsSome (g.R.Rack.told (store_rack c.read_laid.new.store)) → c.read_laid.new.into ≡ rebuilt_block (seen_by c.args.meta.now c.args.dirty.now (Some c.args.disk) f) c.args.disk u))
-    (sym c.in-MapBlock.is) c.read_laid.ensures.value
-
-pub returns-in-Row-clause-failed : goal.returns-in-Row-clause-failed
-returns-in-Row-clause-failed g c = IfErr-weaker c.read_value.result (λ e. Some c.args.disk ≢ Some e) (λ e. e ≢ c.args.disk) (λ e not is. not (ap Some (sym is))) c.read_value.ensures.failed
-
-pub returns-in-Stripe-clause-failed : goal.returns-in-Stripe-clause-failed
-returns-in-Stripe-clause-failed g c = c.read_rest.ensures.failed
-
-pub returns-in-MapBlock-clause-failed : goal.returns-in-MapBlock-clause-failed
-returns-in-MapBlock-clause-failed g c = IfErr-weaker c.read_laid.result (λ e. e ≡ 1 - c.args.disk) (λ e. e ≢ c.args.disk) (λ e other is. omega (arith, other, is)) c.read_laid.ensures.failed
+pub returns-in-MapBlock : goal.returns-in-MapBlock
+returns-in-MapBlock g c = record {
+  read = c.read_laid.ensures.read;
+  below = c.read_laid.ensures.below;
+  failed = IfErr-weaker c.read_laid.result (λ e. e ≡ 1 - c.args.disk) (λ e. e ≢ c.args.disk) (λ e other is. omega (arith, other, is)) c.read_laid.ensures.failed;
+  value =
+      subst (λ (u : RebuildUnit). OnOk c.read_laid.result ((f : Contents) → ShowsContents (g.R.Rack.told (store_rack c.args.store.now)) (c.args.batch.now ++ c.args.draft.now) f
+      → IsSome (g.R.Rack.told (store_rack c.read_laid.new.store)) → c.read_laid.new.into ≡ rebuilt_block (seen_by c.args.meta.now c.args.dirty.now (Some c.args.disk) f) c.args.disk u))
+      (sym c.in-MapBlock.is) c.read_laid.ensures.value;
+}

@@ -1,4 +1,4 @@
-use Rattle.std.proofs.Common.{refl, sym, ◌∙◌, ap, subst, arith, ◌+◌, ℕ, inl, inr}
+use Rattle.std.proofs.Common.{refl, sym, ◌∙◌, ap, subst, arith, ◌+◌, ℕ, inl, inr, rules}
 use Rattle.std.proofs.lemmas.Bool.{cases_eq}
 use Rattle.paraid_base.specs.Told.{HasRisen}
 use Rattle.paraid_rack.specs.Slots.{Slot}
@@ -36,35 +36,26 @@ loop-disk-preserved g c = record {
   calls = more_attaches c.args.size c.loop-disk.disk (c.loop-disk.disk + 1) _ _ _ _ (omega arith) c.loop-disk.invariant.calls c.in-Ok.ensures.told;
 }
 
-pub returns-in_default-clause-slots : goal.returns-in_default-clause-slots
-returns-in_default-clause-slots g c = c.attach.ensures.slots ∙ c.loop-disk.invariant.slots
+pub returns-in_default : goal.returns-in_default
+returns-in_default g c = record {
+  slots = c.attach.ensures.slots ∙ c.loop-disk.invariant.slots;
+  fresh = search rules;
+  others = λ d high.
+      let low = c.loop-disk-test.true in
+      c.attach.ensures.slot.others d (λ is. absurd (omega arith)) ∙ c.loop-disk.invariant.others d (omega arith);
+  attached = search rules;
+  calls = more_attaches c.args.size c.loop-disk.disk c.args.count _ _ _ _ c.loop-disk-test.true c.loop-disk.invariant.calls c.in_default.ensures.told;
+  risen =
+      subst (λ (s : Slot). HasRisen s.faults (g.R.Rack.slot c.attach.new.self c.loop-disk.disk).faults) (c.loop-disk.invariant.others c.loop-disk.disk (omega arith))
+      (c.in_default.ensures.slot.risen refl);
+}
 
-pub returns-in_default-clause-others : goal.returns-in_default-clause-others
-returns-in_default-clause-others g c d high =
-    let low = c.loop-disk-test.true in
-    c.attach.ensures.slot.others d (λ is. absurd (omega arith)) ∙ c.loop-disk.invariant.others d (omega arith)
-
-pub returns-in_default-clause-calls : goal.returns-in_default-clause-calls
-returns-in_default-clause-calls g c = more_attaches c.args.size c.loop-disk.disk c.args.count _ _ _ _ c.loop-disk-test.true c.loop-disk.invariant.calls c.in_default.ensures.told
-
-pub returns-in_default-clause-risen : goal.returns-in_default-clause-risen
-returns-in_default-clause-risen g c =
-    subst (λ (s : Slot). HasRisen s.faults (g.R.Rack.slot c.attach.new.self c.loop-disk.disk).faults) (c.loop-disk.invariant.others c.loop-disk.disk (omega arith))
-    (c.in_default.ensures.slot.risen refl)
-
-pub returns-clause-slots : goal.returns-clause-slots
-returns-clause-slots g c = c.loop-disk.invariant.slots
-
-pub returns-clause-fresh : goal.returns-clause-fresh
-returns-clause-fresh g c d low = c.loop-disk.invariant.fresh d (omega arith)
-
-pub returns-clause-others : goal.returns-clause-others
-returns-clause-others g c d high = c.loop-disk.invariant.others d (omega arith)
-
-pub returns-clause-attached : goal.returns-clause-attached
-returns-clause-attached g c =
-    subst (λ (n : ℕ). RanBetween (g.R.Rack.told c.args.rack.now) (g.R.Rack.told c.loop-disk.rack) (AreFreshDisks n c.args.size)) (omega arith) c.loop-disk.invariant.attached
-
-pub returns-clause-calls : goal.returns-clause-calls
-returns-clause-calls g c =
-    subst (λ (n : ℕ). Ran (g.R.Rack.told c.args.rack.now) (g.R.Rack.told c.loop-disk.rack) (λ start calls. AreAttaches c.args.size 0 n calls)) (omega arith) c.loop-disk.invariant.calls
+pub returns : goal.returns
+returns g c = record {
+  slots = c.loop-disk.invariant.slots;
+  fresh = λ d low. c.loop-disk.invariant.fresh d (omega arith);
+  others = λ d high. c.loop-disk.invariant.others d (omega arith);
+  attached = subst (λ (n : ℕ). RanBetween (g.R.Rack.told c.args.rack.now) (g.R.Rack.told c.loop-disk.rack) (AreFreshDisks n c.args.size)) (omega arith) c.loop-disk.invariant.attached;
+  calls = subst (λ (n : ℕ). Ran (g.R.Rack.told c.args.rack.now) (g.R.Rack.told c.loop-disk.rack) (λ start calls. AreAttaches c.args.size 0 n calls)) (omega arith) c.loop-disk.invariant.calls;
+  risen = search rules;
+}

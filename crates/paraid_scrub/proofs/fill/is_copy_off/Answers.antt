@@ -1,4 +1,4 @@
-use Rattle.std.proofs.Common.{◌≡◌, ◌≢◌, ◌∙◌, IsTrue, ap, sym}
+use Rattle.std.proofs.Common.{◌≡◌, ◌≢◌, ◌∙◌, IsTrue, ap, sym, rules}
 use Rattle.std.specs.Prelude.{◌↔◌}
 use Rattle.paraid_base.specs.Skips.{place_among, skip}
 use Rattle.paraid_base.specs.Soft.{soft_disk, soft_parity_disk}
@@ -9,26 +9,35 @@ use Rattle.paraid_scrub.proofs.FillLemmas.{copy_off, none_off, pad_right, parity
 use Rattle.paraid_scrub.proofs.LookedLemmas.{keeps_none, keeps_so}
 use Rattle.paraid_scrub.proofs.fill.is_copy_off.Goals as goal
 
-pub returns-then-disk-parity-clause-shown : goal.returns-then-disk-parity-clause-shown
-returns-then-disk-parity-clause-shown g c =
-    keeps_none c.args.core.now (g.met.C.Stored.stays c.args.core.now c.requires.usable) c.requires.usable
-    (λ v s stored. none_off (parity_right v (g.C.Stored.meta c.args.core.now) (g.met.C.Stored.agrees c.args.core.now v s).0 c.args.gear c.args.at c.args.disk (c.if-disk-parity.true ∙ c.soft_parity-parity.ensures.value)))
+pub returns-then-disk-parity : goal.returns-then-disk-parity
+returns-then-disk-parity g c = record {
+  shown =
+      keeps_none c.args.core.now (g.met.C.Stored.stays c.args.core.now c.requires.usable) c.requires.usable
+      (λ v s stored. none_off (parity_right v (g.C.Stored.meta c.args.core.now) (g.met.C.Stored.agrees c.args.core.now v s).0 c.args.gear c.args.at c.args.disk (c.if-disk-parity.true ∙ c.soft_parity-parity.ensures.value)));
+  lost = search rules;
+}
 
-pub returns-in_default-clause-shown : goal.returns-in_default-clause-shown
-returns-in_default-clause-shown g c =
-    let apart : c.args.disk ≢ soft_parity_disk c.args.gear c.args.at = (λ is. c.if-disk-parity.false (is ∙ sym c.soft_parity-parity.ensures.value)) in
-    keeps_none c.args.core.now (g.met.C.Stored.stays c.args.core.now c.requires.usable) c.requires.usable
-    (λ v s stored. none_off (pad_right v c.meta.result ((g.met.C.Stored.agrees c.args.core.now v s).0 ∙ sym c.meta.ensures.value) c.args.gear c.args.at c.args.disk apart c.index_among.result
-    (c.index_among.ensures.value ∙ ap (λ z. place_among z c.args.disk) c.soft_parity-parity.ensures.value) c.in_default.ensures.value))
+pub returns-in_default : goal.returns-in_default
+returns-in_default g c = record {
+  shown =
+      let apart : c.args.disk ≢ soft_parity_disk c.args.gear c.args.at = (λ is. c.if-disk-parity.false (is ∙ sym c.soft_parity-parity.ensures.value)) in
+      keeps_none c.args.core.now (g.met.C.Stored.stays c.args.core.now c.requires.usable) c.requires.usable
+      (λ v s stored. none_off (pad_right v c.meta.result ((g.met.C.Stored.agrees c.args.core.now v s).0 ∙ sym c.meta.ensures.value) c.args.gear c.args.at c.args.disk apart c.index_among.result
+      (c.index_among.ensures.value ∙ ap (λ z. place_among z c.args.disk) c.soft_parity-parity.ensures.value) c.in_default.ensures.value));
+  lost = search rules;
+}
 
-pub returns-clause-shown : goal.returns-clause-shown
-returns-clause-shown g c =
-    let m = c.meta.result in
-    let apart : c.args.disk ≢ soft_parity_disk c.args.gear c.args.at = (λ is. c.if-disk-parity.false (is ∙ sym c.soft_parity-parity.ensures.value)) in
-    let index = c.index_among.ensures.value ∙ ap (λ z. place_among z c.args.disk) c.soft_parity-parity.ensures.value in
-    let back = c.in-Some.ensures.back in
-    let on : soft_disk m.setup.geometry.disks c.args.gear c.in-Some.row c.in-Some.home ≡ c.args.disk = back.2 ∙ ap (skip (soft_parity_disk c.args.gear c.args.at)) index ∙ skip-place_among (soft_parity_disk c.args.gear c.args.at) c.args.disk apart in
-    keeps_so (λ v. c.args.stored.now ≡ stripe (g.C.Stored.meta c.args.core.now).setup.geometry v.block c.args.gear c.args.at c.args.disk → (IsTrue c.differs.result ↔ (IsCopyRight v c.args.gear c.args.at c.args.disk → ⊥))) c.in_ok-read_value.ensures.shown
-    (λ v s is stored.
-    copy_off v m ((g.met.C.Stored.agrees c.args.core.now v s).0 ∙ sym c.meta.ensures.value) c.args.gear c.args.at c.args.disk c.in-Some.row c.in-Some.home c.in-Some.ensures.row_in c.in-Some.ensures.parked c.in-Some.ensures.disk_in back.0 on
-    c.args.stored.now c.read_value.new.into is (stored ∙ ap (λ z. stripe z.setup.geometry v.block c.args.gear c.args.at c.args.disk) (sym c.meta.ensures.value)) c.differs.result c.differs.ensures)
+pub returns : goal.returns
+returns g c = record {
+  shown =
+      let m = c.meta.result in
+      let apart : c.args.disk ≢ soft_parity_disk c.args.gear c.args.at = (λ is. c.if-disk-parity.false (is ∙ sym c.soft_parity-parity.ensures.value)) in
+      let index = c.index_among.ensures.value ∙ ap (λ z. place_among z c.args.disk) c.soft_parity-parity.ensures.value in
+      let back = c.in-Some.ensures.back in
+      let on : soft_disk m.setup.geometry.disks c.args.gear c.in-Some.row c.in-Some.home ≡ c.args.disk = back.2 ∙ ap (skip (soft_parity_disk c.args.gear c.args.at)) index ∙ skip-place_among (soft_parity_disk c.args.gear c.args.at) c.args.disk apart in
+      keeps_so (λ v. c.args.stored.now ≡ stripe (g.C.Stored.meta c.args.core.now).setup.geometry v.block c.args.gear c.args.at c.args.disk → (IsTrue c.differs.result ↔ (IsCopyRight v c.args.gear c.args.at c.args.disk → ⊥))) c.in_ok-read_value.ensures.shown
+      (λ v s is stored.
+      copy_off v m ((g.met.C.Stored.agrees c.args.core.now v s).0 ∙ sym c.meta.ensures.value) c.args.gear c.args.at c.args.disk c.in-Some.row c.in-Some.home c.in-Some.ensures.row_in c.in-Some.ensures.parked c.in-Some.ensures.disk_in back.0 on
+      c.args.stored.now c.read_value.new.into is (stored ∙ ap (λ z. stripe z.setup.geometry v.block c.args.gear c.args.at c.args.disk) (sym c.meta.ensures.value)) c.differs.result c.differs.ensures);
+  lost = search rules;
+}

@@ -1,4 +1,4 @@
-use Rattle.std.proofs.Common.{◌≡◌, ◌<◌, ◌+◌, ◌∙◌, ℕ, IsTrue, sym, ap, subst, arith}
+use Rattle.std.proofs.Common.{◌≡◌, ◌<◌, ◌+◌, ◌∙◌, ℕ, IsTrue, sym, ap, subst, arith, rules}
 use Rattle.std.specs.Prelude.{◌↔◌}
 use Rattle.paraid_base.specs.Regions.{IsGear}
 use Rattle.paraid_base.specs.Soft.{stripe_count}
@@ -49,14 +49,17 @@ loop-disk-preserved g c =
           ));
     }
 
-pub returns-clause-shown : goal.returns-clause-shown
-returns-clause-shown g c =
-    let m = g.C.Stored.meta c.args.core.now in
-    keeps_so (λ v. IsTrue c.either.result ↔ (IsFillRight v c.args.gear c.args.at → ⊥)) c.loop-disk.invariant.kept
-    (λ v s is.
-    let e = (g.met.C.Stored.agrees c.args.core.now v s).0 in
-    let all : c.loop-disk.disk ≡ c.args.gear = omega arith in
-    let sum = is.0 ∙ ap (xor_upto (stripe m.setup.geometry v.block c.args.gear c.args.at)) all ∙ ap (λ (z : Meta). xor_upto (stripe z.setup.geometry v.block c.args.gear c.args.at) c.args.gear) (sym e) in
-    let cells = subst (λ (n : ℕ). IsTrue c.loop-disk.off ↔ (((x : ℕ) → x < n → IsCopyRight v c.args.gear c.args.at x) → ⊥)) all is.1 in
-    either_off {P = (x : ℕ) → x < c.args.gear → IsCopyRight v c.args.gear c.args.at x} {Q = IsStripeZero v c.args.gear c.args.at} {R = IsFillRight v c.args.gear c.args.at} c.loop-disk.off _ c.either.result cells
-    (is_not_zero c.is_zero.result c.loop-disk.sum _ c.is_zero.ensures sum) c.either.ensures (fill_parts v c.args.gear c.args.at) (fill_whole v c.args.gear c.args.at (m.setup.geometry.gears_low c.args.gear c.requires.gear)))
+pub returns : goal.returns
+returns g c = record {
+  shown =
+      let m = g.C.Stored.meta c.args.core.now in
+      keeps_so (λ v. IsTrue c.either.result ↔ (IsFillRight v c.args.gear c.args.at → ⊥)) c.loop-disk.invariant.kept
+      (λ v s is.
+      let e = (g.met.C.Stored.agrees c.args.core.now v s).0 in
+      let all : c.loop-disk.disk ≡ c.args.gear = omega arith in
+      let sum = is.0 ∙ ap (xor_upto (stripe m.setup.geometry v.block c.args.gear c.args.at)) all ∙ ap (λ (z : Meta). xor_upto (stripe z.setup.geometry v.block c.args.gear c.args.at) c.args.gear) (sym e) in
+      let cells = subst (λ (n : ℕ). IsTrue c.loop-disk.off ↔ (((x : ℕ) → x < n → IsCopyRight v c.args.gear c.args.at x) → ⊥)) all is.1 in
+      either_off {P = (x : ℕ) → x < c.args.gear → IsCopyRight v c.args.gear c.args.at x} {Q = IsStripeZero v c.args.gear c.args.at} {R = IsFillRight v c.args.gear c.args.at} c.loop-disk.off _ c.either.result cells
+      (is_not_zero c.is_zero.result c.loop-disk.sum _ c.is_zero.ensures sum) c.either.ensures (fill_parts v c.args.gear c.args.at) (fill_whole v c.args.gear c.args.at (m.setup.geometry.gears_low c.args.gear c.requires.gear)));
+  lost = search rules;
+}

@@ -1,4 +1,4 @@
-use Rattle.std.proofs.Common.{◌≡◌, ◌<◌, ◌∙◌, IsTrue, sym, ap, subst, arith}
+use Rattle.std.proofs.Common.{◌≡◌, ◌<◌, ◌∙◌, IsTrue, sym, ap, subst, arith, rules}
 use Rattle.std.specs.Prelude.{◌↔◌}
 use Rattle.paraid_base.specs.Regions.{IsGear, soft_place_of}
 use Rattle.paraid_base.specs.Soft.{stripe_count}
@@ -25,11 +25,14 @@ pub is_copy_off-requires-clause-at : goal.is_copy_off-requires-clause-at
 is_copy_off-requires-clause-at g c =
     subst (λ (z : Meta). c.args.at < stripe_count z.setup.geometry.disks z.setup.geometry.rows c.args.gear) (sym c.in_ok-read_stored.ensures.shown.same) c.requires.at
 
-pub returns-clause-shown : goal.returns-clause-shown
-returns-clause-shown g c =
-    let m = g.C.Stored.meta c.args.core.now in
-    let read = c.in_ok-read_stored.ensures.shown in
-    keeps_then (λ v. (c.xor_into.new.to ≡ xor c.args.sum.now (stripe m.setup.geometry v.block c.args.gear c.args.at c.args.disk)) × (IsTrue c.in_ok-off.off ↔ (IsCopyRight v c.args.gear c.args.at c.args.disk → ⊥))) g.met.C.Stored.then g.met.C.Stored.told read c.in_ok-off.ensures.shown
-    (λ v s is off.
-    let stored = is ∙ ap (v.block c.args.disk) (c.soft_place-place.ensures.value ∙ ap (λ (z : Meta). soft_place_of z.setup.geometry c.args.gear c.args.at) c.meta.ensures.value) in
-    (c.xor_into.ensures ∙ ap (xor c.args.sum.now) stored, off (stored ∙ ap (λ (z : Meta). stripe z.setup.geometry v.block c.args.gear c.args.at c.args.disk) (sym read.same))))
+pub returns : goal.returns
+returns g c = record {
+  shown =
+      let m = g.C.Stored.meta c.args.core.now in
+      let read = c.in_ok-read_stored.ensures.shown in
+      keeps_then (λ v. (c.xor_into.new.to ≡ xor c.args.sum.now (stripe m.setup.geometry v.block c.args.gear c.args.at c.args.disk)) × (IsTrue c.in_ok-off.off ↔ (IsCopyRight v c.args.gear c.args.at c.args.disk → ⊥))) g.met.C.Stored.then g.met.C.Stored.told read c.in_ok-off.ensures.shown
+      (λ v s is off.
+      let stored = is ∙ ap (v.block c.args.disk) (c.soft_place-place.ensures.value ∙ ap (λ (z : Meta). soft_place_of z.setup.geometry c.args.gear c.args.at) c.meta.ensures.value) in
+      (c.xor_into.ensures ∙ ap (xor c.args.sum.now) stored, off (stored ∙ ap (λ (z : Meta). stripe z.setup.geometry v.block c.args.gear c.args.at c.args.disk) (sym read.same))));
+  lost = search rules;
+}

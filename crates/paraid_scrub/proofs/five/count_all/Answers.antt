@@ -1,4 +1,4 @@
-use Rattle.std.proofs.Common.{sym, ◌∙◌}
+use Rattle.std.proofs.Common.{sym, ◌∙◌, rules}
 use Rattle.std.proofs.lemmas.Bool.{false≢true}
 use Rattle.paraid_core.proofs.AfterLemmas.{handed}
 use Rattle.paraid_scrub.proofs.LookedLemmas.{keeps_chain}
@@ -6,92 +6,106 @@ use Rattle.paraid_scrub.proofs.PartLemmas.{counts_1, counts_2, counts_3, counts_
 use Rattle.paraid_scrub.specs.declared.ending.Ending.TheVariants.{Lost}
 use Rattle.paraid_scrub.proofs.five.count_all.Goals as goal
 
-pub returns-then-not-rows-clause-counts : goal.returns-then-not-rows-clause-counts
-returns-then-not-rows-clause-counts g c v s0 t1 =
-    counts_1 v c.in_ok-rows.rows.found c.in_ok-rows.rows.whole (c.in_ok-rows.ensures.counts v s0 t1) c.so_far.result.report c.so_far.ensures.rows c.so_far.ensures.stripes c.so_far.ensures.fill c.so_far.ensures.units c.so_far.ensures.mirrors c.so_far.result.whole (λ l. false≢true (sym c.so_far.ensures.whole ∙ l))
+pub returns-then-not-rows : goal.returns-then-not-rows
+returns-then-not-rows g c = record {
+  kept = λ whole. absurd (false≢true (sym c.so_far.ensures.whole ∙ whole));
+  ended = λ not. c.in_ok-rows.ensures.ended (was_not_whole _ c.if-not-rows.true);
+  two = search rules;
+  counts = λ v s0 t1. counts_1 v c.in_ok-rows.rows.found c.in_ok-rows.rows.whole (c.in_ok-rows.ensures.counts v s0 t1) c.so_far.result.report c.so_far.ensures.rows c.so_far.ensures.stripes c.so_far.ensures.fill c.so_far.ensures.units c.so_far.ensures.mirrors c.so_far.result.whole (λ l. false≢true (sym c.so_far.ensures.whole ∙ l));
+}
 
-pub returns-then-not-rows-clause-ended : goal.returns-then-not-rows-clause-ended
-returns-then-not-rows-clause-ended g c not = c.in_ok-rows.ensures.ended (was_not_whole _ c.if-not-rows.true)
+pub returns-then-not-stripes : goal.returns-then-not-stripes
+returns-then-not-stripes g c = record {
+  kept = λ whole. absurd (false≢true (sym c.so_far-then-not-stripes.ensures.whole ∙ whole));
+  ended = λ not. g.met.C.Stored.then_lost _ _ _ Lost (c.in_ok-rows.ensures.kept (was_whole _ c.if-not-rows.false)).goes (c.in_ok-stripes.ensures.ended (was_not_whole _ c.if-not-stripes.true));
+  two = search rules;
+  counts = λ v s0 t2.
+      let t1 = g.met.C.Stored.told_lost _ _ Lost (c.in_ok-stripes.ensures.ended (was_not_whole _ c.if-not-stripes.true)) t2 in
+      let s1 = ((c.in_ok-rows.ensures.kept (was_whole _ c.if-not-rows.false)).shown v s0 t1).0 in
+      counts_2 v c.in_ok-rows.rows.found c.in_ok-stripes.stripes.found c.in_ok-rows.rows.whole (c.in_ok-rows.ensures.counts v s0 t1) (was_whole _ c.if-not-rows.false) c.in_ok-stripes.stripes.whole (c.in_ok-stripes.ensures.counts v s1 t2) c.so_far-then-not-stripes.result.report c.so_far-then-not-stripes.ensures.rows c.so_far-then-not-stripes.ensures.stripes c.so_far-then-not-stripes.ensures.fill c.so_far-then-not-stripes.ensures.units c.so_far-then-not-stripes.ensures.mirrors c.so_far-then-not-stripes.result.whole (λ l. false≢true (sym c.so_far-then-not-stripes.ensures.whole ∙ l));
+}
 
-pub returns-then-not-rows-clause-kept : goal.returns-then-not-rows-clause-kept
-returns-then-not-rows-clause-kept g c whole = absurd (false≢true (sym c.so_far.ensures.whole ∙ whole))
+pub returns-then-not-fill : goal.returns-then-not-fill
+returns-then-not-fill g c = record {
+  kept = λ whole. absurd (false≢true (sym c.so_far-then-not-fill.ensures.whole ∙ whole));
+  ended = λ not. g.met.C.Stored.then_lost _ _ _ Lost (c.in_ok-rows.ensures.kept (was_whole _ c.if-not-rows.false)).goes (g.met.C.Stored.then_lost _ _ _ Lost (c.in_ok-stripes.ensures.kept (was_whole _ c.if-not-stripes.false)).goes (c.in_ok-fill.ensures.ended (was_not_whole _ c.if-not-fill.true)));
+  two = search rules;
+  counts = λ v s0 t3.
+      let t2 = g.met.C.Stored.told_lost _ _ Lost (c.in_ok-fill.ensures.ended (was_not_whole _ c.if-not-fill.true)) t3 in
+      let t1 = g.met.C.Stored.told _ _ (c.in_ok-stripes.ensures.kept (was_whole _ c.if-not-stripes.false)).goes t2 in
+      let s1 = ((c.in_ok-rows.ensures.kept (was_whole _ c.if-not-rows.false)).shown v s0 t1).0 in
+      let s2 = ((c.in_ok-stripes.ensures.kept (was_whole _ c.if-not-stripes.false)).shown v s1 t2).0 in
+      counts_3 v c.in_ok-rows.rows.found c.in_ok-stripes.stripes.found c.in_ok-fill.fill.found c.in_ok-rows.rows.whole (c.in_ok-rows.ensures.counts v s0 t1) (was_whole _ c.if-not-rows.false) c.in_ok-stripes.stripes.whole (c.in_ok-stripes.ensures.counts v s1 t2) (was_whole _ c.if-not-stripes.false) c.in_ok-fill.fill.whole (c.in_ok-fill.ensures.counts v s2 t3) c.so_far-then-not-fill.result.report c.so_far-then-not-fill.ensures.rows c.so_far-then-not-fill.ensures.stripes c.so_far-then-not-fill.ensures.fill c.so_far-then-not-fill.ensures.units c.so_far-then-not-fill.ensures.mirrors c.so_far-then-not-fill.result.whole (λ l. false≢true (sym c.so_far-then-not-fill.ensures.whole ∙ l));
+}
 
-pub returns-then-not-stripes-clause-counts : goal.returns-then-not-stripes-clause-counts
-returns-then-not-stripes-clause-counts g c v s0 t2 =
-    let t1 = g.met.C.Stored.told_lost _ _ Lost (c.in_ok-stripes.ensures.ended (was_not_whole _ c.if-not-stripes.true)) t2 in
-    let s1 = ((c.in_ok-rows.ensures.kept (was_whole _ c.if-not-rows.false)).shown v s0 t1).0 in
-    counts_2 v c.in_ok-rows.rows.found c.in_ok-stripes.stripes.found c.in_ok-rows.rows.whole (c.in_ok-rows.ensures.counts v s0 t1) (was_whole _ c.if-not-rows.false) c.in_ok-stripes.stripes.whole (c.in_ok-stripes.ensures.counts v s1 t2) c.so_far-then-not-stripes.result.report c.so_far-then-not-stripes.ensures.rows c.so_far-then-not-stripes.ensures.stripes c.so_far-then-not-stripes.ensures.fill c.so_far-then-not-stripes.ensures.units c.so_far-then-not-stripes.ensures.mirrors c.so_far-then-not-stripes.result.whole (λ l. false≢true (sym c.so_far-then-not-stripes.ensures.whole ∙ l))
+pub returns-then-not-units : goal.returns-then-not-units
+returns-then-not-units g c = record {
+  kept = λ whole. absurd (false≢true (sym c.so_far-then-not-units.ensures.whole ∙ whole));
+  ended = λ not. g.met.C.Stored.then_lost _ _ _ Lost (c.in_ok-rows.ensures.kept (was_whole _ c.if-not-rows.false)).goes (g.met.C.Stored.then_lost _ _ _ Lost (c.in_ok-stripes.ensures.kept (was_whole _ c.if-not-stripes.false)).goes (g.met.C.Stored.then_lost _ _ _ Lost (c.in_ok-fill.ensures.kept (was_whole _ c.if-not-fill.false)).goes (c.in_ok-units.ensures.ended (was_not_whole _ c.if-not-units.true))));
+  two = search rules;
+  counts = λ v s0 t4.
+      let t3 = g.met.C.Stored.told_lost _ _ Lost (c.in_ok-units.ensures.ended (was_not_whole _ c.if-not-units.true)) t4 in
+      let t2 = g.met.C.Stored.told _ _ (c.in_ok-fill.ensures.kept (was_whole _ c.if-not-fill.false)).goes t3 in
+      let t1 = g.met.C.Stored.told _ _ (c.in_ok-stripes.ensures.kept (was_whole _ c.if-not-stripes.false)).goes t2 in
+      let s1 = ((c.in_ok-rows.ensures.kept (was_whole _ c.if-not-rows.false)).shown v s0 t1).0 in
+      let s2 = ((c.in_ok-stripes.ensures.kept (was_whole _ c.if-not-stripes.false)).shown v s1 t2).0 in
+      let s3 = ((c.in_ok-fill.ensures.kept (was_whole _ c.if-not-fill.false)).shown v s2 t3).0 in
+      counts_4 v c.in_ok-rows.rows.found c.in_ok-stripes.stripes.found c.in_ok-fill.fill.found c.in_ok-units.units.found c.in_ok-rows.rows.whole (c.in_ok-rows.ensures.counts v s0 t1) (was_whole _ c.if-not-rows.false) c.in_ok-stripes.stripes.whole (c.in_ok-stripes.ensures.counts v s1 t2) (was_whole _ c.if-not-stripes.false) c.in_ok-fill.fill.whole (c.in_ok-fill.ensures.counts v s2 t3) (was_whole _ c.if-not-fill.false) c.in_ok-units.units.whole (c.in_ok-units.ensures.counts v s3 t4) c.so_far-then-not-units.result.report c.so_far-then-not-units.ensures.rows c.so_far-then-not-units.ensures.stripes c.so_far-then-not-units.ensures.fill c.so_far-then-not-units.ensures.units c.so_far-then-not-units.ensures.mirrors c.so_far-then-not-units.result.whole (λ l. false≢true (sym c.so_far-then-not-units.ensures.whole ∙ l));
+}
 
-pub returns-then-not-stripes-clause-ended : goal.returns-then-not-stripes-clause-ended
-returns-then-not-stripes-clause-ended g c not = g.met.C.Stored.then_lost _ _ _ Lost (c.in_ok-rows.ensures.kept (was_whole _ c.if-not-rows.false)).goes (c.in_ok-stripes.ensures.ended (was_not_whole _ c.if-not-stripes.true))
+pub returns : goal.returns
+returns g c = record {
+  kept = λ whole. keeps_chain g.met.C.Stored.then g.met.C.Stored.told (c.in_ok-rows.ensures.kept (was_whole _ c.if-not-rows.false)) (keeps_chain g.met.C.Stored.then g.met.C.Stored.told (c.in_ok-stripes.ensures.kept (was_whole _ c.if-not-stripes.false)) (keeps_chain g.met.C.Stored.then g.met.C.Stored.told (c.in_ok-fill.ensures.kept (was_whole _ c.if-not-fill.false)) (keeps_chain g.met.C.Stored.then g.met.C.Stored.told (c.in_ok-units.ensures.kept (was_whole _ c.if-not-units.false)) (c.in_ok-mirrors.ensures.kept (sym c.so_far-2.ensures.whole ∙ whole)))));
+  ended = λ not. g.met.C.Stored.then_lost _ _ _ Lost (c.in_ok-rows.ensures.kept (was_whole _ c.if-not-rows.false)).goes (g.met.C.Stored.then_lost _ _ _ Lost (c.in_ok-stripes.ensures.kept (was_whole _ c.if-not-stripes.false)).goes (g.met.C.Stored.then_lost _ _ _ Lost (c.in_ok-fill.ensures.kept (was_whole _ c.if-not-fill.false)).goes (g.met.C.Stored.then_lost _ _ _ Lost (c.in_ok-units.ensures.kept (was_whole _ c.if-not-units.false)).goes (c.in_ok-mirrors.ensures.ended (sym c.so_far-2.ensures.whole ∙ not)))));
+  two = search rules;
+  counts = λ v s0 t5.
+      let t4 = told_by c.in_ok-mirrors.mirrors.whole (λ w. g.met.C.Stored.told _ _ (c.in_ok-mirrors.ensures.kept w).goes t5) (λ n. g.met.C.Stored.told_lost _ _ Lost (c.in_ok-mirrors.ensures.ended n) t5) in
+      let t3 = g.met.C.Stored.told _ _ (c.in_ok-units.ensures.kept (was_whole _ c.if-not-units.false)).goes t4 in
+      let t2 = g.met.C.Stored.told _ _ (c.in_ok-fill.ensures.kept (was_whole _ c.if-not-fill.false)).goes t3 in
+      let t1 = g.met.C.Stored.told _ _ (c.in_ok-stripes.ensures.kept (was_whole _ c.if-not-stripes.false)).goes t2 in
+      let s1 = ((c.in_ok-rows.ensures.kept (was_whole _ c.if-not-rows.false)).shown v s0 t1).0 in
+      let s2 = ((c.in_ok-stripes.ensures.kept (was_whole _ c.if-not-stripes.false)).shown v s1 t2).0 in
+      let s3 = ((c.in_ok-fill.ensures.kept (was_whole _ c.if-not-fill.false)).shown v s2 t3).0 in
+      let s4 = ((c.in_ok-units.ensures.kept (was_whole _ c.if-not-units.false)).shown v s3 t4).0 in
+      counts_5 v c.in_ok-rows.rows.found c.in_ok-stripes.stripes.found c.in_ok-fill.fill.found c.in_ok-units.units.found c.in_ok-mirrors.mirrors.found c.in_ok-rows.rows.whole (c.in_ok-rows.ensures.counts v s0 t1) (was_whole _ c.if-not-rows.false) c.in_ok-stripes.stripes.whole (c.in_ok-stripes.ensures.counts v s1 t2) (was_whole _ c.if-not-stripes.false) c.in_ok-fill.fill.whole (c.in_ok-fill.ensures.counts v s2 t3) (was_whole _ c.if-not-fill.false) c.in_ok-units.units.whole (c.in_ok-units.ensures.counts v s3 t4) (was_whole _ c.if-not-units.false) c.in_ok-mirrors.mirrors.whole (c.in_ok-mirrors.ensures.counts v s4 t5) c.so_far-2.result.report c.so_far-2.ensures.rows c.so_far-2.ensures.stripes c.so_far-2.ensures.fill c.so_far-2.ensures.units c.so_far-2.ensures.mirrors c.so_far-2.result.whole (λ l. sym c.so_far-2.ensures.whole ∙ l);
+}
 
-pub returns-then-not-stripes-clause-kept : goal.returns-then-not-stripes-clause-kept
-returns-then-not-stripes-clause-kept g c whole = absurd (false≢true (sym c.so_far-then-not-stripes.ensures.whole ∙ whole))
+pub returns-in_err-stripes : goal.returns-in_err-stripes
+returns-in_err-stripes g c = record {
+  kept = search rules;
+  ended = search rules;
+  two =
+      handed _ c.from_residual-in_err-stripes.result _ c.from_residual-in_err-stripes.ensures.1
+      (g.met.C.Stored.then_lost _ _ _ _ (c.in_ok-rows.ensures.kept (was_whole _ c.if-not-rows.false)).goes c.in_err-stripes.ensures.two);
+  counts = search rules;
+}
 
-pub returns-then-not-fill-clause-counts : goal.returns-then-not-fill-clause-counts
-returns-then-not-fill-clause-counts g c v s0 t3 =
-    let t2 = g.met.C.Stored.told_lost _ _ Lost (c.in_ok-fill.ensures.ended (was_not_whole _ c.if-not-fill.true)) t3 in
-    let t1 = g.met.C.Stored.told _ _ (c.in_ok-stripes.ensures.kept (was_whole _ c.if-not-stripes.false)).goes t2 in
-    let s1 = ((c.in_ok-rows.ensures.kept (was_whole _ c.if-not-rows.false)).shown v s0 t1).0 in
-    let s2 = ((c.in_ok-stripes.ensures.kept (was_whole _ c.if-not-stripes.false)).shown v s1 t2).0 in
-    counts_3 v c.in_ok-rows.rows.found c.in_ok-stripes.stripes.found c.in_ok-fill.fill.found c.in_ok-rows.rows.whole (c.in_ok-rows.ensures.counts v s0 t1) (was_whole _ c.if-not-rows.false) c.in_ok-stripes.stripes.whole (c.in_ok-stripes.ensures.counts v s1 t2) (was_whole _ c.if-not-stripes.false) c.in_ok-fill.fill.whole (c.in_ok-fill.ensures.counts v s2 t3) c.so_far-then-not-fill.result.report c.so_far-then-not-fill.ensures.rows c.so_far-then-not-fill.ensures.stripes c.so_far-then-not-fill.ensures.fill c.so_far-then-not-fill.ensures.units c.so_far-then-not-fill.ensures.mirrors c.so_far-then-not-fill.result.whole (λ l. false≢true (sym c.so_far-then-not-fill.ensures.whole ∙ l))
+pub returns-in_err-fill : goal.returns-in_err-fill
+returns-in_err-fill g c = record {
+  kept = search rules;
+  ended = search rules;
+  two =
+      handed _ c.from_residual-in_err-fill.result _ c.from_residual-in_err-fill.ensures.1
+      (g.met.C.Stored.then_lost _ _ _ _ (c.in_ok-rows.ensures.kept (was_whole _ c.if-not-rows.false)).goes (g.met.C.Stored.then_lost _ _ _ _ (c.in_ok-stripes.ensures.kept (was_whole _ c.if-not-stripes.false)).goes c.in_err-fill.ensures.two));
+  counts = search rules;
+}
 
-pub returns-then-not-fill-clause-ended : goal.returns-then-not-fill-clause-ended
-returns-then-not-fill-clause-ended g c not = g.met.C.Stored.then_lost _ _ _ Lost (c.in_ok-rows.ensures.kept (was_whole _ c.if-not-rows.false)).goes (g.met.C.Stored.then_lost _ _ _ Lost (c.in_ok-stripes.ensures.kept (was_whole _ c.if-not-stripes.false)).goes (c.in_ok-fill.ensures.ended (was_not_whole _ c.if-not-fill.true)))
+pub returns-in_err-units : goal.returns-in_err-units
+returns-in_err-units g c = record {
+  kept = search rules;
+  ended = search rules;
+  two =
+      handed _ c.from_residual-in_err-units.result _ c.from_residual-in_err-units.ensures.1
+      (g.met.C.Stored.then_lost _ _ _ _ (c.in_ok-rows.ensures.kept (was_whole _ c.if-not-rows.false)).goes (g.met.C.Stored.then_lost _ _ _ _ (c.in_ok-stripes.ensures.kept (was_whole _ c.if-not-stripes.false)).goes (g.met.C.Stored.then_lost _ _ _ _ (c.in_ok-fill.ensures.kept (was_whole _ c.if-not-fill.false)).goes c.in_err-units.ensures.two)));
+  counts = search rules;
+}
 
-pub returns-then-not-fill-clause-kept : goal.returns-then-not-fill-clause-kept
-returns-then-not-fill-clause-kept g c whole = absurd (false≢true (sym c.so_far-then-not-fill.ensures.whole ∙ whole))
-
-pub returns-then-not-units-clause-counts : goal.returns-then-not-units-clause-counts
-returns-then-not-units-clause-counts g c v s0 t4 =
-    let t3 = g.met.C.Stored.told_lost _ _ Lost (c.in_ok-units.ensures.ended (was_not_whole _ c.if-not-units.true)) t4 in
-    let t2 = g.met.C.Stored.told _ _ (c.in_ok-fill.ensures.kept (was_whole _ c.if-not-fill.false)).goes t3 in
-    let t1 = g.met.C.Stored.told _ _ (c.in_ok-stripes.ensures.kept (was_whole _ c.if-not-stripes.false)).goes t2 in
-    let s1 = ((c.in_ok-rows.ensures.kept (was_whole _ c.if-not-rows.false)).shown v s0 t1).0 in
-    let s2 = ((c.in_ok-stripes.ensures.kept (was_whole _ c.if-not-stripes.false)).shown v s1 t2).0 in
-    let s3 = ((c.in_ok-fill.ensures.kept (was_whole _ c.if-not-fill.false)).shown v s2 t3).0 in
-    counts_4 v c.in_ok-rows.rows.found c.in_ok-stripes.stripes.found c.in_ok-fill.fill.found c.in_ok-units.units.found c.in_ok-rows.rows.whole (c.in_ok-rows.ensures.counts v s0 t1) (was_whole _ c.if-not-rows.false) c.in_ok-stripes.stripes.whole (c.in_ok-stripes.ensures.counts v s1 t2) (was_whole _ c.if-not-stripes.false) c.in_ok-fill.fill.whole (c.in_ok-fill.ensures.counts v s2 t3) (was_whole _ c.if-not-fill.false) c.in_ok-units.units.whole (c.in_ok-units.ensures.counts v s3 t4) c.so_far-then-not-units.result.report c.so_far-then-not-units.ensures.rows c.so_far-then-not-units.ensures.stripes c.so_far-then-not-units.ensures.fill c.so_far-then-not-units.ensures.units c.so_far-then-not-units.ensures.mirrors c.so_far-then-not-units.result.whole (λ l. false≢true (sym c.so_far-then-not-units.ensures.whole ∙ l))
-
-pub returns-then-not-units-clause-ended : goal.returns-then-not-units-clause-ended
-returns-then-not-units-clause-ended g c not = g.met.C.Stored.then_lost _ _ _ Lost (c.in_ok-rows.ensures.kept (was_whole _ c.if-not-rows.false)).goes (g.met.C.Stored.then_lost _ _ _ Lost (c.in_ok-stripes.ensures.kept (was_whole _ c.if-not-stripes.false)).goes (g.met.C.Stored.then_lost _ _ _ Lost (c.in_ok-fill.ensures.kept (was_whole _ c.if-not-fill.false)).goes (c.in_ok-units.ensures.ended (was_not_whole _ c.if-not-units.true))))
-
-pub returns-then-not-units-clause-kept : goal.returns-then-not-units-clause-kept
-returns-then-not-units-clause-kept g c whole = absurd (false≢true (sym c.so_far-then-not-units.ensures.whole ∙ whole))
-
-pub returns-clause-counts : goal.returns-clause-counts
-returns-clause-counts g c v s0 t5 =
-    let t4 = told_by c.in_ok-mirrors.mirrors.whole (λ w. g.met.C.Stored.told _ _ (c.in_ok-mirrors.ensures.kept w).goes t5) (λ n. g.met.C.Stored.told_lost _ _ Lost (c.in_ok-mirrors.ensures.ended n) t5) in
-    let t3 = g.met.C.Stored.told _ _ (c.in_ok-units.ensures.kept (was_whole _ c.if-not-units.false)).goes t4 in
-    let t2 = g.met.C.Stored.told _ _ (c.in_ok-fill.ensures.kept (was_whole _ c.if-not-fill.false)).goes t3 in
-    let t1 = g.met.C.Stored.told _ _ (c.in_ok-stripes.ensures.kept (was_whole _ c.if-not-stripes.false)).goes t2 in
-    let s1 = ((c.in_ok-rows.ensures.kept (was_whole _ c.if-not-rows.false)).shown v s0 t1).0 in
-    let s2 = ((c.in_ok-stripes.ensures.kept (was_whole _ c.if-not-stripes.false)).shown v s1 t2).0 in
-    let s3 = ((c.in_ok-fill.ensures.kept (was_whole _ c.if-not-fill.false)).shown v s2 t3).0 in
-    let s4 = ((c.in_ok-units.ensures.kept (was_whole _ c.if-not-units.false)).shown v s3 t4).0 in
-    counts_5 v c.in_ok-rows.rows.found c.in_ok-stripes.stripes.found c.in_ok-fill.fill.found c.in_ok-units.units.found c.in_ok-mirrors.mirrors.found c.in_ok-rows.rows.whole (c.in_ok-rows.ensures.counts v s0 t1) (was_whole _ c.if-not-rows.false) c.in_ok-stripes.stripes.whole (c.in_ok-stripes.ensures.counts v s1 t2) (was_whole _ c.if-not-stripes.false) c.in_ok-fill.fill.whole (c.in_ok-fill.ensures.counts v s2 t3) (was_whole _ c.if-not-fill.false) c.in_ok-units.units.whole (c.in_ok-units.ensures.counts v s3 t4) (was_whole _ c.if-not-units.false) c.in_ok-mirrors.mirrors.whole (c.in_ok-mirrors.ensures.counts v s4 t5) c.so_far-2.result.report c.so_far-2.ensures.rows c.so_far-2.ensures.stripes c.so_far-2.ensures.fill c.so_far-2.ensures.units c.so_far-2.ensures.mirrors c.so_far-2.result.whole (λ l. sym c.so_far-2.ensures.whole ∙ l)
-
-pub returns-clause-ended : goal.returns-clause-ended
-returns-clause-ended g c not = g.met.C.Stored.then_lost _ _ _ Lost (c.in_ok-rows.ensures.kept (was_whole _ c.if-not-rows.false)).goes (g.met.C.Stored.then_lost _ _ _ Lost (c.in_ok-stripes.ensures.kept (was_whole _ c.if-not-stripes.false)).goes (g.met.C.Stored.then_lost _ _ _ Lost (c.in_ok-fill.ensures.kept (was_whole _ c.if-not-fill.false)).goes (g.met.C.Stored.then_lost _ _ _ Lost (c.in_ok-units.ensures.kept (was_whole _ c.if-not-units.false)).goes (c.in_ok-mirrors.ensures.ended (sym c.so_far-2.ensures.whole ∙ not)))))
-
-pub returns-clause-kept : goal.returns-clause-kept
-returns-clause-kept g c whole = keeps_chain g.met.C.Stored.then g.met.C.Stored.told (c.in_ok-rows.ensures.kept (was_whole _ c.if-not-rows.false)) (keeps_chain g.met.C.Stored.then g.met.C.Stored.told (c.in_ok-stripes.ensures.kept (was_whole _ c.if-not-stripes.false)) (keeps_chain g.met.C.Stored.then g.met.C.Stored.told (c.in_ok-fill.ensures.kept (was_whole _ c.if-not-fill.false)) (keeps_chain g.met.C.Stored.then g.met.C.Stored.told (c.in_ok-units.ensures.kept (was_whole _ c.if-not-units.false)) (c.in_ok-mirrors.ensures.kept (sym c.so_far-2.ensures.whole ∙ whole)))))
-
-pub returns-in_err-stripes-clause-two : goal.returns-in_err-stripes-clause-two
-returns-in_err-stripes-clause-two g c =
-    handed _ c.from_residual-in_err-stripes.result _ c.from_residual-in_err-stripes.ensures.1
-    (g.met.C.Stored.then_lost _ _ _ _ (c.in_ok-rows.ensures.kept (was_whole _ c.if-not-rows.false)).goes c.in_err-stripes.ensures.two)
-
-pub returns-in_err-fill-clause-two : goal.returns-in_err-fill-clause-two
-returns-in_err-fill-clause-two g c =
-    handed _ c.from_residual-in_err-fill.result _ c.from_residual-in_err-fill.ensures.1
-    (g.met.C.Stored.then_lost _ _ _ _ (c.in_ok-rows.ensures.kept (was_whole _ c.if-not-rows.false)).goes (g.met.C.Stored.then_lost _ _ _ _ (c.in_ok-stripes.ensures.kept (was_whole _ c.if-not-stripes.false)).goes c.in_err-fill.ensures.two))
-
-pub returns-in_err-units-clause-two : goal.returns-in_err-units-clause-two
-returns-in_err-units-clause-two g c =
-    handed _ c.from_residual-in_err-units.result _ c.from_residual-in_err-units.ensures.1
-    (g.met.C.Stored.then_lost _ _ _ _ (c.in_ok-rows.ensures.kept (was_whole _ c.if-not-rows.false)).goes (g.met.C.Stored.then_lost _ _ _ _ (c.in_ok-stripes.ensures.kept (was_whole _ c.if-not-stripes.false)).goes (g.met.C.Stored.then_lost _ _ _ _ (c.in_ok-fill.ensures.kept (was_whole _ c.if-not-fill.false)).goes c.in_err-units.ensures.two)))
-
-pub returns-in_err-mirrors-clause-two : goal.returns-in_err-mirrors-clause-two
-returns-in_err-mirrors-clause-two g c =
-    handed _ c.from_residual-in_err-mirrors.result _ c.from_residual-in_err-mirrors.ensures.1
-    (g.met.C.Stored.then_lost _ _ _ _ (c.in_ok-rows.ensures.kept (was_whole _ c.if-not-rows.false)).goes (g.met.C.Stored.then_lost _ _ _ _ (c.in_ok-stripes.ensures.kept (was_whole _ c.if-not-stripes.false)).goes (g.met.C.Stored.then_lost _ _ _ _ (c.in_ok-fill.ensures.kept (was_whole _ c.if-not-fill.false)).goes (g.met.C.Stored.then_lost _ _ _ _ (c.in_ok-units.ensures.kept (was_whole _ c.if-not-units.false)).goes c.in_err-mirrors.ensures.two))))
+pub returns-in_err-mirrors : goal.returns-in_err-mirrors
+returns-in_err-mirrors g c = record {
+  kept = search rules;
+  ended = search rules;
+  two =
+      handed _ c.from_residual-in_err-mirrors.result _ c.from_residual-in_err-mirrors.ensures.1
+      (g.met.C.Stored.then_lost _ _ _ _ (c.in_ok-rows.ensures.kept (was_whole _ c.if-not-rows.false)).goes (g.met.C.Stored.then_lost _ _ _ _ (c.in_ok-stripes.ensures.kept (was_whole _ c.if-not-stripes.false)).goes (g.met.C.Stored.then_lost _ _ _ _ (c.in_ok-fill.ensures.kept (was_whole _ c.if-not-fill.false)).goes (g.met.C.Stored.then_lost _ _ _ _ (c.in_ok-units.ensures.kept (was_whole _ c.if-not-units.false)).goes c.in_err-mirrors.ensures.two))));
+  counts = search rules;
+}

@@ -1,4 +1,4 @@
-use Rattle.std.proofs.Common.{◌≡◌, ◌<◌, ◌+◌, ◌∙◌, sym, ap, subst, arith}
+use Rattle.std.proofs.Common.{◌≡◌, ◌<◌, ◌+◌, ◌∙◌, sym, ap, subst, arith, rules}
 use Rattle.paraid_base.specs.Sums.{xor_upto}
 use Rattle.paraid_base.specs.Xor.{xor}
 use Rattle.paraid_record.specs.declared.meta.Meta.{Meta}
@@ -28,9 +28,12 @@ loop-disk-preserved g c = record {
       (λ v s sum is. sum_more (value v c.args.row) c.loop-disk.disk _ _ sum (c.xor_into.ensures ∙ ap (xor c.loop-disk.into) is));
 }
 
-pub returns-clause-shown : goal.returns-clause-shown
-returns-clause-shown g c =
-    let m = g.C.Stored.meta c.args.core.now in
-    let all : c.loop-disk.disk ≡ m.setup.geometry.disks = (let e = c.disks-disks.ensures in let k : c.loop-disk.disk ≡ c.disks-disks.result = omega arith in k ∙ e ∙ ap (λ (z : Meta). z.setup.geometry.disks) c.meta.ensures.value) in
-    keeps_so (λ v. c.loop-disk.into ≡ xor_upto (value v c.args.row) m.setup.geometry.disks) c.loop-disk.invariant.kept
-    (λ v s is. is ∙ ap (xor_upto (value v c.args.row)) all)
+pub returns : goal.returns
+returns g c = record {
+  shown =
+      let m = g.C.Stored.meta c.args.core.now in
+      let all : c.loop-disk.disk ≡ m.setup.geometry.disks = (let e = c.disks-disks.ensures in let k : c.loop-disk.disk ≡ c.disks-disks.result = omega arith in k ∙ e ∙ ap (λ (z : Meta). z.setup.geometry.disks) c.meta.ensures.value) in
+      keeps_so (λ v. c.loop-disk.into ≡ xor_upto (value v c.args.row) m.setup.geometry.disks) c.loop-disk.invariant.kept
+      (λ v s is. is ∙ ap (xor_upto (value v c.args.row)) all);
+  lost = search rules;
+}

@@ -1,4 +1,4 @@
-use Rattle.std.proofs.Common.{◌≡◌, ◌<◌, ◌+◌, ◌∙◌, arith, sym, ap, subst}
+use Rattle.std.proofs.Common.{◌≡◌, ◌<◌, ◌+◌, ◌∙◌, arith, sym, ap, subst, rules}
 use Rattle.std.specs.Prelude.{ℕ, Option}
 use Rattle.paraid_record.specs.declared.meta.Meta.{Meta}
 use Rattle.paraid_image.specs.Out.{named_out}
@@ -31,15 +31,17 @@ loop-at-preserved g c =
       few = let few = i.few in let small = add_small c.one_if-found.result c.in-Ok.off c.one_if-found.ensures in omega (arith, few, small);
     }
 
-pub returns-clause-kept : goal.returns-clause-kept
-returns-clause-kept g c whole = keeps_shows c.loop-at.invariant.kept
-
-pub returns-clause-counts : goal.returns-clause-counts
-returns-clause-counts g c v s tells =
-    let a = g.met.C.Stored.agrees c.args.core.now v s in
-    let all : c.loop-at.at ≡ c.members-size.result = omega arith in
-    let size = c.members-size.ensures ∙ ap (λ (z : Meta). total z (named_out z.out) c.args.kind) (c.meta.ensures.value ∙ sym a.0) ∙ ap (λ (o : Option ℕ). total v.meta o c.args.kind) (ap (λ (z : Meta). named_out z.out) a.0 ∙ sym a.1) in
-    part_whole v c.args.kind c.loop-at.at c.loop-at.found (total v.meta v.out c.args.kind) (all ∙ size) (c.loop-at.invariant.kept.shown v s tells).1
+pub returns : goal.returns
+returns g c = record {
+  kept = λ whole. keeps_shows c.loop-at.invariant.kept;
+  ended = search rules;
+  two = search rules;
+  counts = λ v s tells.
+      let a = g.met.C.Stored.agrees c.args.core.now v s in
+      let all : c.loop-at.at ≡ c.members-size.result = omega arith in
+      let size = c.members-size.ensures ∙ ap (λ (z : Meta). total z (named_out z.out) c.args.kind) (c.meta.ensures.value ∙ sym a.0) ∙ ap (λ (o : Option ℕ). total v.meta o c.args.kind) (ap (λ (z : Meta). named_out z.out) a.0 ∙ sym a.1) in
+      part_whole v c.args.kind c.loop-at.at c.loop-at.found (total v.meta v.out c.args.kind) (all ∙ size) (c.loop-at.invariant.kept.shown v s tells).1;
+}
 
 pub overflow_add-found : goal.overflow_add-found
 overflow_add-found g c =
@@ -48,14 +50,15 @@ overflow_add-found g c =
     let more = c.loop-at-test.true in
     omega (arith, few, small, more)
 
-pub returns-in-Err-Lost-clause-ended : goal.returns-in-Err-Lost-clause-ended
-returns-in-Err-Lost-clause-ended g c not =
-    g.met.C.Stored.then_lost _ _ _ Lost c.loop-at.invariant.kept.goes (subst (g.C.Stored.loses c.loop-at.core c.is_off.new.core) c.in-Err-Lost.field-0-is c.in-Err-Lost.ensures.lost)
-
-pub returns-in-Err-Lost-clause-counts : goal.returns-in-Err-Lost-clause-counts
-returns-in-Err-Lost-clause-counts g c v s tells =
-    let a = g.met.C.Stored.agrees c.args.core.now v s in
-    let size : c.members-size.result ≡ total v.meta v.out c.args.kind = c.members-size.ensures ∙ ap (λ (z : Meta). total z (named_out z.out) c.args.kind) (c.meta.ensures.value ∙ sym a.0) ∙ ap (λ (o : Option ℕ). total v.meta o c.args.kind) (ap (λ (z : Meta). named_out z.out) a.0 ∙ sym a.1) in
-    let more = c.loop-at-test.true in
-    let before = g.met.C.Stored.told_lost _ _ _ c.in-Err-Lost.ensures.lost tells in
-    part_first v c.args.kind c.loop-at.at c.loop-at.found (total v.meta v.out c.args.kind) (omega (arith, size, more)) (c.loop-at.invariant.kept.shown v s before).1
+pub returns-in-Err-Lost : goal.returns-in-Err-Lost
+returns-in-Err-Lost g c = record {
+  kept = search rules;
+  ended = λ not. g.met.C.Stored.then_lost _ _ _ Lost c.loop-at.invariant.kept.goes (subst (g.C.Stored.loses c.loop-at.core c.is_off.new.core) c.in-Err-Lost.field-0-is c.in-Err-Lost.ensures.lost);
+  two = search rules;
+  counts = λ v s tells.
+      let a = g.met.C.Stored.agrees c.args.core.now v s in
+      let size : c.members-size.result ≡ total v.meta v.out c.args.kind = c.members-size.ensures ∙ ap (λ (z : Meta). total z (named_out z.out) c.args.kind) (c.meta.ensures.value ∙ sym a.0) ∙ ap (λ (o : Option ℕ). total v.meta o c.args.kind) (ap (λ (z : Meta). named_out z.out) a.0 ∙ sym a.1) in
+      let more = c.loop-at-test.true in
+      let before = g.met.C.Stored.told_lost _ _ _ c.in-Err-Lost.ensures.lost tells in
+      part_first v c.args.kind c.loop-at.at c.loop-at.found (total v.meta v.out c.args.kind) (omega (arith, size, more)) (c.loop-at.invariant.kept.shown v s before).1;
+}

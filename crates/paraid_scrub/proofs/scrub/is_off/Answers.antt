@@ -1,4 +1,4 @@
-use Rattle.std.proofs.Common.{◌≢◌, ◌<◌, ◌∙◌, IsTrue, sym, ap, subst, arith}
+use Rattle.std.proofs.Common.{◌≢◌, ◌<◌, ◌∙◌, IsTrue, sym, ap, subst, arith, rules}
 use Rattle.std.specs.Prelude.{◌↔◌, ℕ}
 use Rattle.paraid_base.specs.Regions.{IsGear, map_count}
 use Rattle.paraid_base.specs.Soft.{stripe_count}
@@ -20,14 +20,17 @@ is_row_off-requires-clause-row g c =
     let m = g.C.Stored.meta c.args.core.now in
     (whole_none (named_out m.out) m.setup.geometry.rows c.args.at (subst (λ (k : Kind). c.args.at < total m (named_out m.out) k) c.in-Row.is c.requires.at)).1
 
-pub returns-in_ok-off-in-Row-clause-shown : goal.returns-in_ok-off-in-Row-clause-shown
-returns-in_ok-off-in-Row-clause-shown g c =
-    let off = c.in_ok-off-in-Row.off in
-    keeps_so (λ v. IsTrue off ↔ IsOff v c.args.kind c.args.at) c.in_ok-off-in-Row.ensures.shown
-    (λ v s is.
-    let e = (g.met.C.Stored.agrees c.args.core.now v s).0 in
-    subst (λ (k : Kind). IsTrue off ↔ IsOff v k c.args.at) (sym c.in-Row.is)
-    (subst (λ (z : Meta). IsTrue off ↔ (xor_upto (value v c.args.at) z.setup.geometry.disks ≢ zero_block)) (sym e) is))
+pub returns-in_ok-off-in-Row : goal.returns-in_ok-off-in-Row
+returns-in_ok-off-in-Row g c = record {
+  shown =
+      let off = c.in_ok-off-in-Row.off in
+      keeps_so (λ v. IsTrue off ↔ IsOff v c.args.kind c.args.at) c.in_ok-off-in-Row.ensures.shown
+      (λ v s is.
+      let e = (g.met.C.Stored.agrees c.args.core.now v s).0 in
+      subst (λ (k : Kind). IsTrue off ↔ IsOff v k c.args.at) (sym c.in-Row.is)
+      (subst (λ (z : Meta). IsTrue off ↔ (xor_upto (value v c.args.at) z.setup.geometry.disks ≢ zero_block)) (sym e) is));
+  lost = search rules;
+}
 
 pub is_stripe_off-requires-clause-gear : goal.is_stripe_off-requires-clause-gear
 is_stripe_off-requires-clause-gear g c = subst (λ (z : Meta). IsGear z.setup.geometry c.meta-meta.result.gear) c.meta-meta.ensures.value c.meta-meta.ensures.in_range.gear
@@ -51,16 +54,19 @@ is_stripe_off-requires-clause-readable g c d low =
     let part = whole_below (named_out m.out) m.gear (stripe_count m.setup.geometry.disks m.setup.geometry.rows m.gear) c.args.at (subst (λ (k : Kind). c.args.at < total m (named_out m.out) k) c.in-Stripe.is c.requires.at) in
     gear_readable m m.gear (omega arith) part.0 d (subst (λ (z : Meta). d < z.gear) c.meta-meta.ensures.value low)
 
-pub returns-in_ok-off-in-Stripe-clause-shown : goal.returns-in_ok-off-in-Stripe-clause-shown
-returns-in_ok-off-in-Stripe-clause-shown g c =
-    let m = g.C.Stored.meta c.args.core.now in
-    let off = c.in_ok-off-in-Stripe.off in
-    keeps_so (λ v. IsTrue off ↔ IsOff v c.args.kind c.args.at) c.in_ok-off-in-Stripe.ensures.shown
-    (λ v s is.
-    let e = (g.met.C.Stored.agrees c.args.core.now v s).0 in
-    subst (λ (k : Kind). IsTrue off ↔ IsOff v k c.args.at) (sym c.in-Stripe.is)
-    (subst (λ (z : Meta). IsTrue off ↔ (xor_upto (stripe z.setup.geometry v.block z.gear c.args.at) z.gear ≢ zero_block)) (sym e)
-    (subst (λ (z : Meta). IsTrue off ↔ (xor_upto (stripe m.setup.geometry v.block z.gear c.args.at) z.gear ≢ zero_block)) c.meta-meta.ensures.value is)))
+pub returns-in_ok-off-in-Stripe : goal.returns-in_ok-off-in-Stripe
+returns-in_ok-off-in-Stripe g c = record {
+  shown =
+      let m = g.C.Stored.meta c.args.core.now in
+      let off = c.in_ok-off-in-Stripe.off in
+      keeps_so (λ v. IsTrue off ↔ IsOff v c.args.kind c.args.at) c.in_ok-off-in-Stripe.ensures.shown
+      (λ v s is.
+      let e = (g.met.C.Stored.agrees c.args.core.now v s).0 in
+      subst (λ (k : Kind). IsTrue off ↔ IsOff v k c.args.at) (sym c.in-Stripe.is)
+      (subst (λ (z : Meta). IsTrue off ↔ (xor_upto (stripe z.setup.geometry v.block z.gear c.args.at) z.gear ≢ zero_block)) (sym e)
+      (subst (λ (z : Meta). IsTrue off ↔ (xor_upto (stripe m.setup.geometry v.block z.gear c.args.at) z.gear ≢ zero_block)) c.meta-meta.ensures.value is)));
+  lost = search rules;
+}
 
 pub is_fill_off-requires-clause-gear : goal.is_fill_off-requires-clause-gear
 is_fill_off-requires-clause-gear g c =
@@ -91,26 +97,32 @@ is_fill_off-requires-clause-readable g c d low =
     let none = (whole_none (named_out m.out) m.fill c.args.at (subst (λ (k : Kind). c.args.at < total m (named_out m.out) k) c.in-Fill.is c.requires.at)).0 in
     shift_readable m (subst IsInRange c.meta-meta.ensures.value c.meta-meta.ensures.in_range) none d (subst (λ (n : ℕ). d < n) to low)
 
-pub returns-in_ok-off-in-Fill-clause-shown : goal.returns-in_ok-off-in-Fill-clause-shown
-returns-in_ok-off-in-Fill-clause-shown g c =
-    let off = c.in_ok-off-in-Fill.off in
-    let to = c.to.ensures ∙ ap (λ (z : Meta). phase_to z.phase) c.meta-meta.ensures.value in
-    keeps_so (λ v. IsTrue off ↔ IsOff v c.args.kind c.args.at) c.in_ok-off-in-Fill.ensures.shown
-    (λ v s is.
-    let e = (g.met.C.Stored.agrees c.args.core.now v s).0 in
-    subst (λ (k : Kind). IsTrue off ↔ IsOff v k c.args.at) (sym c.in-Fill.is)
-    (subst (λ (n : ℕ). IsTrue off ↔ (IsFillRight v n c.args.at → ⊥)) (to ∙ ap (λ (z : Meta). phase_to z.phase) (sym e)) is))
+pub returns-in_ok-off-in-Fill : goal.returns-in_ok-off-in-Fill
+returns-in_ok-off-in-Fill g c = record {
+  shown =
+      let off = c.in_ok-off-in-Fill.off in
+      let to = c.to.ensures ∙ ap (λ (z : Meta). phase_to z.phase) c.meta-meta.ensures.value in
+      keeps_so (λ v. IsTrue off ↔ IsOff v c.args.kind c.args.at) c.in_ok-off-in-Fill.ensures.shown
+      (λ v s is.
+      let e = (g.met.C.Stored.agrees c.args.core.now v s).0 in
+      subst (λ (k : Kind). IsTrue off ↔ IsOff v k c.args.at) (sym c.in-Fill.is)
+      (subst (λ (n : ℕ). IsTrue off ↔ (IsFillRight v n c.args.at → ⊥)) (to ∙ ap (λ (z : Meta). phase_to z.phase) (sym e)) is));
+  lost = search rules;
+}
 
 pub is_rebuilt_off-requires-clause-at : goal.is_rebuilt_off-requires-clause-at
 is_rebuilt_off-requires-clause-at g c =
     let m = g.C.Stored.meta c.args.core.now in
     subst (λ (k : Kind). c.args.at < total m (named_out m.out) k) c.in-Unit.is c.requires.at
 
-pub returns-in_ok-off-in-Unit-clause-shown : goal.returns-in_ok-off-in-Unit-clause-shown
-returns-in_ok-off-in-Unit-clause-shown g c =
-    let off = c.in_ok-off-in-Unit.off in
-    keeps_so (λ v. IsTrue off ↔ IsOff v c.args.kind c.args.at) c.in_ok-off-in-Unit.ensures.shown
-    (λ v s is. subst (λ (k : Kind). IsTrue off ↔ IsOff v k c.args.at) (sym c.in-Unit.is) is)
+pub returns-in_ok-off-in-Unit : goal.returns-in_ok-off-in-Unit
+returns-in_ok-off-in-Unit g c = record {
+  shown =
+      let off = c.in_ok-off-in-Unit.off in
+      keeps_so (λ v. IsTrue off ↔ IsOff v c.args.kind c.args.at) c.in_ok-off-in-Unit.ensures.shown
+      (λ v s is. subst (λ (k : Kind). IsTrue off ↔ IsOff v k c.args.at) (sym c.in-Unit.is) is);
+  lost = search rules;
+}
 
 pub is_map_off-requires-clause-readable : goal.is_map_off-requires-clause-readable
 is_map_off-requires-clause-readable g c =
@@ -133,8 +145,11 @@ is_map_off-requires-clause-at g c =
     let m = g.C.Stored.meta c.args.core.now in
     (whole_below (named_out m.out) 2 (map_count m.setup.geometry) c.args.at (subst (λ (k : Kind). c.args.at < total m (named_out m.out) k) c.in-Mirror.is c.requires.at)).1
 
-pub returns-in_ok-off-in-Mirror-clause-shown : goal.returns-in_ok-off-in-Mirror-clause-shown
-returns-in_ok-off-in-Mirror-clause-shown g c =
-    let off = c.in_ok-off-in-Mirror.off in
-    keeps_so (λ v. IsTrue off ↔ IsOff v c.args.kind c.args.at) c.in_ok-off-in-Mirror.ensures.shown
-    (λ v s is. subst (λ (k : Kind). IsTrue off ↔ IsOff v k c.args.at) (sym c.in-Mirror.is) is)
+pub returns-in_ok-off-in-Mirror : goal.returns-in_ok-off-in-Mirror
+returns-in_ok-off-in-Mirror g c = record {
+  shown =
+      let off = c.in_ok-off-in-Mirror.off in
+      keeps_so (λ v. IsTrue off ↔ IsOff v c.args.kind c.args.at) c.in_ok-off-in-Mirror.ensures.shown
+      (λ v s is. subst (λ (k : Kind). IsTrue off ↔ IsOff v k c.args.at) (sym c.in-Mirror.is) is);
+  lost = search rules;
+}

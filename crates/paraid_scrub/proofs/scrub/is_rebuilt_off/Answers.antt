@@ -1,4 +1,4 @@
-use Rattle.std.proofs.Common.{◌≡◌, ◌∙◌, IsTrue, Some, refl, sym, ap, subst}
+use Rattle.std.proofs.Common.{◌≡◌, ◌∙◌, IsTrue, Some, refl, sym, ap, subst, rules}
 use Rattle.std.specs.Prelude.{◌↔◌, ℕ}
 use Rattle.paraid_base.specs.declared.state.Out.TheVariants.{No, Fresh}
 use Rattle.paraid_base.specs.States.{rebuilt_count}
@@ -17,23 +17,32 @@ is_unit_off-requires-clause-fresh g c =
     let is = ap (λ (z : Meta). z.out) (sym c.meta.ensures.value) ∙ c.in-Fresh.is in
     is ∙ ap (Fresh c.in-Fresh.disk) (sym (ap rebuilt_count is))
 
-pub returns-in_ok-off-in-Fresh-clause-shown : goal.returns-in_ok-off-in-Fresh-clause-shown
-returns-in_ok-off-in-Fresh-clause-shown g c =
-    let m = g.C.Stored.meta c.args.core.now in
-    let is = ap (λ (z : Meta). z.out) (sym c.meta.ensures.value) ∙ c.in-Fresh.is in
-    keeps_so (λ v. IsTrue c.in_ok-off-in-Fresh.off ↔ IsOff v Unit c.args.at) c.in_ok-off-in-Fresh.ensures.shown
-    (λ v s fact.
-    let out : v.out ≡ Some c.in-Fresh.disk = (g.met.C.Stored.agrees c.args.core.now v s).1 ∙ ap named_out is in
-    off_as {P = IsUnitRight v c.in-Fresh.disk c.args.at} {Q = (d : ℕ) → v.out ≡ Some d → IsUnitRight v d c.args.at} c.in_ok-off-in-Fresh.off
-    (λ p d here. let z : Some c.in-Fresh.disk ≡ Some d = sym out ∙ here in let e : c.in-Fresh.disk ≡ d = cc in subst (λ (x : ℕ). IsUnitRight v x c.args.at) e p)
-    (λ q. q c.in-Fresh.disk out) fact)
+pub returns-in_ok-off-in-Fresh : goal.returns-in_ok-off-in-Fresh
+returns-in_ok-off-in-Fresh g c = record {
+  shown =
+      let m = g.C.Stored.meta c.args.core.now in
+      let is = ap (λ (z : Meta). z.out) (sym c.meta.ensures.value) ∙ c.in-Fresh.is in
+      keeps_so (λ v. IsTrue c.in_ok-off-in-Fresh.off ↔ IsOff v Unit c.args.at) c.in_ok-off-in-Fresh.ensures.shown
+      (λ v s fact.
+      let out : v.out ≡ Some c.in-Fresh.disk = (g.met.C.Stored.agrees c.args.core.now v s).1 ∙ ap named_out is in
+      off_as {P = IsUnitRight v c.in-Fresh.disk c.args.at} {Q = (d : ℕ) → v.out ≡ Some d → IsUnitRight v d c.args.at} c.in_ok-off-in-Fresh.off
+      (λ p d here. let z : Some c.in-Fresh.disk ≡ Some d = sym out ∙ here in let e : c.in-Fresh.disk ≡ d = cc in subst (λ (x : ℕ). IsUnitRight v x c.args.at) e p)
+      (λ q. q c.in-Fresh.disk out) fact);
+  lost = search rules;
+}
 
-pub returns-in-No-clause-shown : goal.returns-in-No-clause-shown
-returns-in-No-clause-shown g c =
-    keeps_none c.args.core.now (g.met.C.Stored.stays c.args.core.now c.requires.usable) c.requires.usable
-    (λ v s. absurd (unit_none (g.C.Stored.meta c.args.core.now).out No c.args.at (ap (λ (z : Meta). z.out) (sym c.meta.ensures.value) ∙ c.in-No.is) refl c.requires.at))
+pub returns-in-No : goal.returns-in-No
+returns-in-No g c = record {
+  shown =
+      keeps_none c.args.core.now (g.met.C.Stored.stays c.args.core.now c.requires.usable) c.requires.usable
+      (λ v s. absurd (unit_none (g.C.Stored.meta c.args.core.now).out No c.args.at (ap (λ (z : Meta). z.out) (sym c.meta.ensures.value) ∙ c.in-No.is) refl c.requires.at));
+  lost = search rules;
+}
 
-pub returns-in-Gone-clause-shown : goal.returns-in-Gone-clause-shown
-returns-in-Gone-clause-shown g c =
-    keeps_none c.args.core.now (g.met.C.Stored.stays c.args.core.now c.requires.usable) c.requires.usable
-    (λ v s. absurd (unit_none (g.C.Stored.meta c.args.core.now).out _ c.args.at (ap (λ (z : Meta). z.out) (sym c.meta.ensures.value) ∙ c.in-Gone.is) refl c.requires.at))
+pub returns-in-Gone : goal.returns-in-Gone
+returns-in-Gone g c = record {
+  shown =
+      keeps_none c.args.core.now (g.met.C.Stored.stays c.args.core.now c.requires.usable) c.requires.usable
+      (λ v s. absurd (unit_none (g.C.Stored.meta c.args.core.now).out _ c.args.at (ap (λ (z : Meta). z.out) (sym c.meta.ensures.value) ∙ c.in-Gone.is) refl c.requires.at));
+  lost = search rules;
+}

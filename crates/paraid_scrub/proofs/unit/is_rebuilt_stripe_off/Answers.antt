@@ -1,4 +1,4 @@
-use Rattle.std.proofs.Common.{◌≢◌, ◌<◌, IsTrue, sym, subst}
+use Rattle.std.proofs.Common.{◌≢◌, ◌<◌, IsTrue, sym, subst, rules}
 use Rattle.std.specs.Prelude.{◌↔◌}
 use Rattle.paraid_base.specs.Regions.{IsGear}
 use Rattle.paraid_base.specs.Soft.{stripe_count}
@@ -28,9 +28,12 @@ is_stripe_off-requires-clause-region g c =
 pub is_stripe_off-requires-clause-readable : goal.is_stripe_off-requires-clause-readable
 is_stripe_off-requires-clause-readable g c d l = c.requires.readable d (subst (λ (z : Meta). d < z.gear) c.meta-gear.ensures.value l)
 
-pub returns-clause-shown : goal.returns-clause-shown
-returns-clause-shown g c =
-    let m = g.C.Stored.meta c.args.core.now in
-    keeps_so (λ v. IsTrue c.in_ok-off.off ↔ (stripe m.setup.geometry v.block m.gear c.args.at c.args.disk ≢ stripe_rest m.setup.geometry v.block m.gear c.args.at c.args.disk)) c.in_ok-off.ensures.shown
-    (λ v s is. stripe_unit_off (stripe m.setup.geometry v.block m.gear c.args.at) c.args.disk m.gear c.requires.below c.in_ok-off.off
-    (subst (λ (z : Meta). IsTrue c.in_ok-off.off ↔ (xor_upto (stripe m.setup.geometry v.block z.gear c.args.at) z.gear ≢ zero_block)) c.meta-gear.ensures.value is))
+pub returns : goal.returns
+returns g c = record {
+  shown =
+      let m = g.C.Stored.meta c.args.core.now in
+      keeps_so (λ v. IsTrue c.in_ok-off.off ↔ (stripe m.setup.geometry v.block m.gear c.args.at c.args.disk ≢ stripe_rest m.setup.geometry v.block m.gear c.args.at c.args.disk)) c.in_ok-off.ensures.shown
+      (λ v s is. stripe_unit_off (stripe m.setup.geometry v.block m.gear c.args.at) c.args.disk m.gear c.requires.below c.in_ok-off.off
+      (subst (λ (z : Meta). IsTrue c.in_ok-off.off ↔ (xor_upto (stripe m.setup.geometry v.block z.gear c.args.at) z.gear ≢ zero_block)) c.meta-gear.ensures.value is));
+  lost = search rules;
+}

@@ -1,4 +1,4 @@
-use Rattle.std.proofs.Common.{◌≡◌, ◌<◌, ◌≤◌, ◌-◌, ◌∙◌, IsTrue, sym, ap, subst, arith}
+use Rattle.std.proofs.Common.{◌≡◌, ◌<◌, ◌≤◌, ◌-◌, ◌∙◌, IsTrue, sym, ap, subst, arith, rules}
 use Rattle.std.specs.Prelude.{◌↔◌}
 use Rattle.paraid_base.specs.Regions.{map_count}
 use Rattle.paraid_base.specs.States.{rebuilt_count}
@@ -20,12 +20,15 @@ is_rebuilt_row_off-requires-clause-disk g c = (fresh_range (g.C.Stored.meta c.ar
 pub is_rebuilt_row_off-requires-clause-readable : goal.is_rebuilt_row_off-requires-clause-readable
 is_rebuilt_row_off-requires-clause-readable g c = fresh (rebuilt_count (g.C.Stored.meta c.args.core.now).out) c.requires.fresh
 
-pub returns-then-at-rows-clause-shown : goal.returns-then-at-rows-clause-shown
-returns-then-at-rows-clause-shown g c =
-    let m = g.C.Stored.meta c.args.core.now in
-    let low : c.args.at < m.setup.geometry.rows = subst (λ (z : Meta). c.args.at < z.setup.geometry.rows) c.meta-meta.ensures.value (subst (λ n. c.args.at < n) c.rows-rows.ensures c.if-at-rows.true) in
-    keeps_so (λ v. IsTrue c.in_ok-row_off.row_off ↔ (IsUnitRight v c.args.disk c.args.at → ⊥)) c.in_ok-row_off.ensures.shown
-    (λ v s is. row_unit v m (g.met.C.Stored.agrees c.args.core.now v s).0 c.args.disk c.args.at low c.in_ok-row_off.row_off is)
+pub returns-then-at-rows : goal.returns-then-at-rows
+returns-then-at-rows g c = record {
+  shown =
+      let m = g.C.Stored.meta c.args.core.now in
+      let low : c.args.at < m.setup.geometry.rows = subst (λ (z : Meta). c.args.at < z.setup.geometry.rows) c.meta-meta.ensures.value (subst (λ n. c.args.at < n) c.rows-rows.ensures c.if-at-rows.true) in
+      keeps_so (λ v. IsTrue c.in_ok-row_off.row_off ↔ (IsUnitRight v c.args.disk c.args.at → ⊥)) c.in_ok-row_off.ensures.shown
+      (λ v s is. row_unit v m (g.met.C.Stored.agrees c.args.core.now v s).0 c.args.disk c.args.at low c.in_ok-row_off.row_off is);
+  lost = search rules;
+}
 
 pub is_rebuilt_stripe_off-requires-clause-below : goal.is_rebuilt_stripe_off-requires-clause-below
 is_rebuilt_stripe_off-requires-clause-below g c =
@@ -43,14 +46,17 @@ is_rebuilt_stripe_off-requires-clause-at g c =
 pub is_rebuilt_stripe_off-requires-clause-readable : goal.is_rebuilt_stripe_off-requires-clause-readable
 is_rebuilt_stripe_off-requires-clause-readable g c d l = beside_fresh (g.C.Stored.meta c.args.core.now) c.args.disk d c.requires.fresh l
 
-pub returns-then-past-stripes-clause-shown : goal.returns-then-past-stripes-clause-shown
-returns-then-past-stripes-clause-shown g c =
-    let m = g.C.Stored.meta c.args.core.now in
-    let rows : c.rows-rows.result ≡ m.setup.geometry.rows = c.rows-rows.ensures ∙ ap (λ (z : Meta). z.setup.geometry.rows) c.meta-meta.ensures.value in
-    let back = c.stripes_of-stripes.ensures ∙ ap (λ (z : Meta). stripes_back z c.args.disk) c.meta-meta.ensures.value in
-    let few : c.args.at - c.rows-rows.result < stripes_back m c.args.disk = subst (λ n. c.args.at - c.rows-rows.result < n) back c.if-past-stripes.true in
-    keeps_so (λ v. IsTrue c.in_ok-stripe_off.stripe_off ↔ (IsUnitRight v c.args.disk c.args.at → ⊥)) c.in_ok-stripe_off.ensures.shown
-    (λ v s is. stripe_unit v m (g.met.C.Stored.agrees c.args.core.now v s).0 c.args.disk c.args.at (c.args.at - c.rows-rows.result) (omega (arith, rows)) (ap (λ n. c.args.at - n) rows) few c.in_ok-stripe_off.stripe_off is)
+pub returns-then-past-stripes : goal.returns-then-past-stripes
+returns-then-past-stripes g c = record {
+  shown =
+      let m = g.C.Stored.meta c.args.core.now in
+      let rows : c.rows-rows.result ≡ m.setup.geometry.rows = c.rows-rows.ensures ∙ ap (λ (z : Meta). z.setup.geometry.rows) c.meta-meta.ensures.value in
+      let back = c.stripes_of-stripes.ensures ∙ ap (λ (z : Meta). stripes_back z c.args.disk) c.meta-meta.ensures.value in
+      let few : c.args.at - c.rows-rows.result < stripes_back m c.args.disk = subst (λ n. c.args.at - c.rows-rows.result < n) back c.if-past-stripes.true in
+      keeps_so (λ v. IsTrue c.in_ok-stripe_off.stripe_off ↔ (IsUnitRight v c.args.disk c.args.at → ⊥)) c.in_ok-stripe_off.ensures.shown
+      (λ v s is. stripe_unit v m (g.met.C.Stored.agrees c.args.core.now v s).0 c.args.disk c.args.at (c.args.at - c.rows-rows.result) (omega (arith, rows)) (ap (λ n. c.args.at - n) rows) few c.in_ok-stripe_off.stripe_off is);
+  lost = search rules;
+}
 
 pub is_map_off-requires-clause-disk : goal.is_map_off-requires-clause-disk
 is_map_off-requires-clause-disk g c =
@@ -77,13 +83,16 @@ is_map_off-requires-clause-at g c =
     let low = (map_units m c.args.disk c.args.at (subst IsInRange c.meta-meta.ensures.value c.meta-meta.ensures.in_range) c.requires.fresh c.requires.at (omega (arith, rows)) (omega (arith, rows, back))).1 in
     subst (λ n. n < map_count m.setup.geometry) (ap (λ n. c.args.at - n - stripes_back m c.args.disk) (sym rows) ∙ ap (λ n. c.args.at - c.rows-rows.result - n) (sym back)) low
 
-pub returns-clause-shown : goal.returns-clause-shown
-returns-clause-shown g c =
-    let m = g.C.Stored.meta c.args.core.now in
-    let rows : c.rows-rows.result ≡ m.setup.geometry.rows = c.rows-rows.ensures ∙ ap (λ (z : Meta). z.setup.geometry.rows) c.meta-meta.ensures.value in
-    let back = c.stripes_of-stripes.ensures ∙ ap (λ (z : Meta). stripes_back z c.args.disk) c.meta-meta.ensures.value in
-    let parts = map_units m c.args.disk c.args.at (subst IsInRange c.meta-meta.ensures.value c.meta-meta.ensures.in_range) c.requires.fresh c.requires.at (omega (arith, rows)) (omega (arith, rows, back)) in
-    let here = ap (λ n. c.args.at - n - stripes_back m c.args.disk) (sym rows) ∙ ap (λ n. c.args.at - c.rows-rows.result - n) (sym back) in
-    keeps_so (λ v. IsTrue c.in_ok-map_off.map_off ↔ (IsUnitRight v c.args.disk c.args.at → ⊥)) c.in_ok-map_off.ensures.shown
-    (λ v s is. map_unit v m (g.met.C.Stored.agrees c.args.core.now v s).0 c.args.disk c.args.at (c.args.at - c.rows-rows.result - c.stripes_of-stripes.result) (omega (arith, rows)) (omega (arith, rows, back)) (sym here) parts.0
-    (subst (λ n. n < map_count m.setup.geometry) here parts.1) c.in_ok-map_off.map_off is)
+pub returns : goal.returns
+returns g c = record {
+  shown =
+      let m = g.C.Stored.meta c.args.core.now in
+      let rows : c.rows-rows.result ≡ m.setup.geometry.rows = c.rows-rows.ensures ∙ ap (λ (z : Meta). z.setup.geometry.rows) c.meta-meta.ensures.value in
+      let back = c.stripes_of-stripes.ensures ∙ ap (λ (z : Meta). stripes_back z c.args.disk) c.meta-meta.ensures.value in
+      let parts = map_units m c.args.disk c.args.at (subst IsInRange c.meta-meta.ensures.value c.meta-meta.ensures.in_range) c.requires.fresh c.requires.at (omega (arith, rows)) (omega (arith, rows, back)) in
+      let here = ap (λ n. c.args.at - n - stripes_back m c.args.disk) (sym rows) ∙ ap (λ n. c.args.at - c.rows-rows.result - n) (sym back) in
+      keeps_so (λ v. IsTrue c.in_ok-map_off.map_off ↔ (IsUnitRight v c.args.disk c.args.at → ⊥)) c.in_ok-map_off.ensures.shown
+      (λ v s is. map_unit v m (g.met.C.Stored.agrees c.args.core.now v s).0 c.args.disk c.args.at (c.args.at - c.rows-rows.result - c.stripes_of-stripes.result) (omega (arith, rows)) (omega (arith, rows, back)) (sym here) parts.0
+      (subst (λ n. n < map_count m.setup.geometry) here parts.1) c.in_ok-map_off.map_off is);
+  lost = search rules;
+}

@@ -1,4 +1,4 @@
-use Rattle.std.proofs.Common.{◌≡◌, ◌∙◌, ap, arith}
+use Rattle.std.proofs.Common.{◌≡◌, ◌∙◌, ap, arith, rules}
 use Rattle.paraid_base.specs.Regions.{soft_place_of}
 use Rattle.paraid_base.specs.Sums.{without}
 use Rattle.paraid_base.specs.Xor.{xor}
@@ -8,18 +8,24 @@ use Rattle.paraid_scrub.proofs.CellLemmas.{added_none, added_one}
 use Rattle.paraid_scrub.proofs.LookedLemmas.{keeps_none, keeps_so}
 use Rattle.paraid_scrub.proofs.value.add_member.Goals as goal
 
-pub returns-then-disk-skipped-clause-shown : goal.returns-then-disk-skipped-clause-shown
-returns-then-disk-skipped-clause-shown g c =
-    let m = g.C.Stored.meta c.args.core.now in
-    keeps_none c.args.core.now (g.met.C.Stored.stays c.args.core.now c.requires.usable) c.requires.usable
-    (λ v s. added_none (stripe m.setup.geometry v.block c.args.gear c.args.at) c.args.skipped c.args.disk c.args.sum.now c.if-disk-skipped.true)
+pub returns-then-disk-skipped : goal.returns-then-disk-skipped
+returns-then-disk-skipped g c = record {
+  shown =
+      let m = g.C.Stored.meta c.args.core.now in
+      keeps_none c.args.core.now (g.met.C.Stored.stays c.args.core.now c.requires.usable) c.requires.usable
+      (λ v s. added_none (stripe m.setup.geometry v.block c.args.gear c.args.at) c.args.skipped c.args.disk c.args.sum.now c.if-disk-skipped.true);
+  lost = search rules;
+}
 
-pub returns-clause-shown : goal.returns-clause-shown
-returns-clause-shown g c =
-    let m = g.C.Stored.meta c.args.core.now in
-    keeps_so (λ v. c.xor_into.new.to ≡ xor c.args.sum.now (without (stripe m.setup.geometry v.block c.args.gear c.args.at) c.args.skipped c.args.disk)) c.in_ok-read_stored.ensures.shown
-    (λ v s is. added_one (stripe m.setup.geometry v.block c.args.gear c.args.at) c.args.skipped c.args.disk c.args.sum.now _ _ c.if-disk-skipped.false
-    (is ∙ ap (v.block c.args.disk) (c.soft_place-place.ensures.value ∙ ap (λ (z : Meta). soft_place_of z.setup.geometry c.args.gear c.args.at) c.meta.ensures.value)) c.xor_into.ensures)
+pub returns : goal.returns
+returns g c = record {
+  shown =
+      let m = g.C.Stored.meta c.args.core.now in
+      keeps_so (λ v. c.xor_into.new.to ≡ xor c.args.sum.now (without (stripe m.setup.geometry v.block c.args.gear c.args.at) c.args.skipped c.args.disk)) c.in_ok-read_stored.ensures.shown
+      (λ v s is. added_one (stripe m.setup.geometry v.block c.args.gear c.args.at) c.args.skipped c.args.disk c.args.sum.now _ _ c.if-disk-skipped.false
+      (is ∙ ap (v.block c.args.disk) (c.soft_place-place.ensures.value ∙ ap (λ (z : Meta). soft_place_of z.setup.geometry c.args.gear c.args.at) c.meta.ensures.value)) c.xor_into.ensures);
+  lost = search rules;
+}
 
 pub read_stored-requires-clause-readable : goal.read_stored-requires-clause-readable
 read_stored-requires-clause-readable g c = c.requires.readable c.if-disk-skipped.false

@@ -1,4 +1,4 @@
-use Rattle.std.proofs.Common.{◌≡◌, ◌<◌, ◌+◌, ◌∙◌, sym, ap, subst, arith}
+use Rattle.std.proofs.Common.{◌≡◌, ◌<◌, ◌+◌, ◌∙◌, sym, ap, subst, arith, rules}
 use Rattle.paraid_base.specs.Sums.{without, xor_upto}
 use Rattle.paraid_record.specs.declared.meta.Meta.{Meta}
 use Rattle.paraid_image.specs.Out.{named_out}
@@ -32,9 +32,12 @@ loop-disk-preserved g c = record {
       (λ v s sum is. sum_more (without (near v c.args.row) c.args.out) c.loop-disk.disk _ _ sum is);
 }
 
-pub returns-clause-shown : goal.returns-clause-shown
-returns-clause-shown g c =
-    let m = g.C.Stored.meta c.args.core.now in
-    let all : c.loop-disk.disk ≡ m.setup.geometry.disks = (let e = c.disks-disks.ensures in let k : c.loop-disk.disk ≡ c.disks-disks.result = omega arith in k ∙ e ∙ ap (λ (z : Meta). z.setup.geometry.disks) c.meta.ensures.value) in
-    keeps_so (λ v. c.loop-disk.into ≡ far v c.args.row c.args.out) c.loop-disk.invariant.kept
-    (λ v s is. far_read v m (g.met.C.Stored.agrees c.args.core.now v s).0 c.args.row c.args.out _ (is ∙ ap (xor_upto (without (near v c.args.row) c.args.out)) all))
+pub returns : goal.returns
+returns g c = record {
+  shown =
+      let m = g.C.Stored.meta c.args.core.now in
+      let all : c.loop-disk.disk ≡ m.setup.geometry.disks = (let e = c.disks-disks.ensures in let k : c.loop-disk.disk ≡ c.disks-disks.result = omega arith in k ∙ e ∙ ap (λ (z : Meta). z.setup.geometry.disks) c.meta.ensures.value) in
+      keeps_so (λ v. c.loop-disk.into ≡ far v c.args.row c.args.out) c.loop-disk.invariant.kept
+      (λ v s is. far_read v m (g.met.C.Stored.agrees c.args.core.now v s).0 c.args.row c.args.out _ (is ∙ ap (xor_upto (without (near v c.args.row) c.args.out)) all));
+  lost = search rules;
+}

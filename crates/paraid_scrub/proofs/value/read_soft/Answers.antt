@@ -1,4 +1,4 @@
-use Rattle.std.proofs.Common.{◌≡◌, ◌∙◌, sym, ap, subst, arith, inl}
+use Rattle.std.proofs.Common.{◌≡◌, ◌∙◌, sym, ap, subst, arith, inl, rules}
 use Rattle.paraid_base.specs.Sums.{without, xor_upto}
 use Rattle.paraid_record.specs.declared.meta.Meta.{Meta}
 use Rattle.paraid_image.specs.Out.{named_out}
@@ -14,15 +14,18 @@ sum_stripe-requires-clause-readable g c d l ne =
     let lost = out_here (named_out c.meta-meta.result.out) c.soft_of-stripe.result.1 (sym c.names.ensures ∙ c.if-names.true) in
     subst (λ (z : Meta). IsReadable z d) c.meta-meta.ensures.value (powered (inl l) (not_out (named_out c.meta-meta.result.out) c.soft_of-stripe.result.1 d lost ne))
 
-pub returns-then-names-clause-shown : goal.returns-then-names-clause-shown
-returns-then-names-clause-shown g c =
-    let m = c.meta-meta.result in
-    keeps_so (λ v. c.sum_stripe.new.into ≡ soft_value v c.args.row c.args.disk) c.in_ok-sum_stripe.ensures.shown
-    (λ v s is.
-    let a = g.met.C.Stored.agrees c.args.core.now v s in
-    soft_rest v m (a.0 ∙ sym c.meta-meta.ensures.value) (a.1 ∙ ap (λ (z : Meta). named_out z.out) (sym c.meta-meta.ensures.value)) c.args.row c.args.disk c.soft_of-stripe.result.0 c.soft_of-stripe.result.1 _
-    c.soft_of-stripe.ensures.stripe c.soft_of-stripe.ensures.disk (sym c.names.ensures ∙ c.if-names.true)
-    (is ∙ ap (λ (z : Meta). xor_upto (without (stripe z.setup.geometry v.block m.gear c.soft_of-stripe.result.0) c.soft_of-stripe.result.1) m.gear) (sym c.meta-meta.ensures.value)))
+pub returns-then-names : goal.returns-then-names
+returns-then-names g c = record {
+  shown =
+      let m = c.meta-meta.result in
+      keeps_so (λ v. c.sum_stripe.new.into ≡ soft_value v c.args.row c.args.disk) c.in_ok-sum_stripe.ensures.shown
+      (λ v s is.
+      let a = g.met.C.Stored.agrees c.args.core.now v s in
+      soft_rest v m (a.0 ∙ sym c.meta-meta.ensures.value) (a.1 ∙ ap (λ (z : Meta). named_out z.out) (sym c.meta-meta.ensures.value)) c.args.row c.args.disk c.soft_of-stripe.result.0 c.soft_of-stripe.result.1 _
+      c.soft_of-stripe.ensures.stripe c.soft_of-stripe.ensures.disk (sym c.names.ensures ∙ c.if-names.true)
+      (is ∙ ap (λ (z : Meta). xor_upto (without (stripe z.setup.geometry v.block m.gear c.soft_of-stripe.result.0) c.soft_of-stripe.result.1) m.gear) (sym c.meta-meta.ensures.value)));
+  lost = search rules;
+}
 
 pub read_stored-requires-clause-readable : goal.read_stored-requires-clause-readable
 read_stored-requires-clause-readable g c =
@@ -32,11 +35,14 @@ read_stored-requires-clause-readable g c =
 pub read_stored-requires-clause-past_log : goal.read_stored-requires-clause-past_log
 read_stored-requires-clause-past_log g c = let k = c.soft_place-place.ensures.after_hard in omega (arith, k)
 
-pub returns-clause-shown : goal.returns-clause-shown
-returns-clause-shown g c =
-    let m = c.meta-meta.result in
-    keeps_so (λ v. c.read_stored.new.into ≡ soft_value v c.args.row c.args.disk) c.in_ok-read_stored.ensures.shown
-    (λ v s is.
-    let a = g.met.C.Stored.agrees c.args.core.now v s in
-    soft_stored v m (a.0 ∙ sym c.meta-meta.ensures.value) (a.1 ∙ ap (λ (z : Meta). named_out z.out) (sym c.meta-meta.ensures.value)) c.args.row c.args.disk c.soft_of-stripe.result.0 c.soft_of-stripe.result.1 c.soft_place-place.result _
-    c.soft_of-stripe.ensures.stripe c.soft_of-stripe.ensures.disk (sym c.names.ensures ∙ c.if-names.false) c.soft_place-place.ensures.value is)
+pub returns : goal.returns
+returns g c = record {
+  shown =
+      let m = c.meta-meta.result in
+      keeps_so (λ v. c.read_stored.new.into ≡ soft_value v c.args.row c.args.disk) c.in_ok-read_stored.ensures.shown
+      (λ v s is.
+      let a = g.met.C.Stored.agrees c.args.core.now v s in
+      soft_stored v m (a.0 ∙ sym c.meta-meta.ensures.value) (a.1 ∙ ap (λ (z : Meta). named_out z.out) (sym c.meta-meta.ensures.value)) c.args.row c.args.disk c.soft_of-stripe.result.0 c.soft_of-stripe.result.1 c.soft_place-place.result _
+      c.soft_of-stripe.ensures.stripe c.soft_of-stripe.ensures.disk (sym c.names.ensures ∙ c.if-names.false) c.soft_place-place.ensures.value is);
+  lost = search rules;
+}

@@ -1,4 +1,4 @@
-use Rattle.std.proofs.Common.{◌≡◌, ◌<◌, ◌+◌, ◌∙◌, sym, ap, subst, arith}
+use Rattle.std.proofs.Common.{◌≡◌, ◌<◌, ◌+◌, ◌∙◌, sym, ap, subst, arith, rules}
 use Rattle.paraid_base.specs.Regions.{IsGear}
 use Rattle.paraid_base.specs.Soft.{stripe_count}
 use Rattle.paraid_base.specs.Sums.{without, xor_upto}
@@ -42,8 +42,11 @@ loop-disk-preserved g c =
           (is ∙ ap (λ (z : Meta). xor c.loop-disk.into (without (stripe z.setup.geometry v.block c.args.gear c.args.at) c.args.skipped c.loop-disk.disk)) was.same));
     }
 
-pub returns-clause-shown : goal.returns-clause-shown
-returns-clause-shown g c =
-    let m = g.C.Stored.meta c.args.core.now in
-    keeps_so (λ v. c.loop-disk.into ≡ xor_upto (without (stripe m.setup.geometry v.block c.args.gear c.args.at) c.args.skipped) c.args.gear) c.loop-disk.invariant.kept
-    (λ v s is. is ∙ ap (xor_upto (without (stripe m.setup.geometry v.block c.args.gear c.args.at) c.args.skipped)) (omega arith))
+pub returns : goal.returns
+returns g c = record {
+  shown =
+      let m = g.C.Stored.meta c.args.core.now in
+      keeps_so (λ v. c.loop-disk.into ≡ xor_upto (without (stripe m.setup.geometry v.block c.args.gear c.args.at) c.args.skipped) c.args.gear) c.loop-disk.invariant.kept
+      (λ v s is. is ∙ ap (xor_upto (without (stripe m.setup.geometry v.block c.args.gear c.args.at) c.args.skipped)) (omega arith));
+  lost = search rules;
+}

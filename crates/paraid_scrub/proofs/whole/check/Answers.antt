@@ -1,4 +1,4 @@
-use Rattle.std.proofs.Common.{◌∙◌, ap}
+use Rattle.std.proofs.Common.{◌∙◌, ap, rules}
 use Rattle.paraid_record.specs.declared.meta.Meta.{Meta}
 use Rattle.paraid_txn.specs.Losses.{AreTwoDown}
 use Rattle.paraid_txn.specs.Stores.{store_rack}
@@ -107,31 +107,34 @@ returns-clause-ended g c not = (c.in_ok-checked.ensures.ended not).loses
 pub returns-clause-same : goal.returns-clause-same
 returns-clause-same g c whole = (c.in_ok-checked.ensures.kept whole).same
 
-pub returns-in_err-checked-clause-copied : goal.returns-in_err-checked-clause-copied
-returns-in_err-checked-clause-copied g c = c.in_err-checked.ensures.two.copied
-
-pub returns-in_err-checked-clause-spared : goal.returns-in_err-checked-clause-spared
-returns-in_err-checked-clause-spared g c = c.in_err-checked.ensures.two.spared
-
-pub returns-in_err-checked-clause-still_synced : goal.returns-in_err-checked-clause-still_synced
-returns-in_err-checked-clause-still_synced g c = c.in_err-checked.ensures.two.synced
-
-pub returns-in_err-checked-clause-calls : goal.returns-in_err-checked-clause-calls
-returns-in_err-checked-clause-calls g c = c.in_err-checked.ensures.two.calls
-
-pub returns-in_err-checked-clause-reads : goal.returns-in_err-checked-clause-reads
-returns-in_err-checked-clause-reads g c = c.in_err-checked.ensures.two.reads
-
-pub returns-in_err-checked-clause-moments_since : goal.returns-in_err-checked-clause-moments_since
-returns-in_err-checked-clause-moments_since g c = c.in_err-checked.ensures.two.held
-
-pub returns-in_err-checked-clause-moments : goal.returns-in_err-checked-clause-moments
-returns-in_err-checked-clause-moments g c h lo = held_beside g.R.Rack.slot_count g.R.Rack.slot g.R.Rack.told c.args.core.now c.count_all.new.core (CoreStandsFor g.R.Rack.slot_count c.args.core.now h lo) h lo (c.in_err-checked.ensures.two.held h lo)
-
-pub returns-in_err-checked-clause-two : goal.returns-in_err-checked-clause-two
-returns-in_err-checked-clause-two g c =
-    handed (AreTwoDown (core_down c.args.core.now) (g.R.Rack.slot (store_rack c.args.core.now.store)) (g.R.Rack.slot (store_rack c.count_all.new.core.store))) c.from_residual.result _ c.from_residual.ensures.1 c.in_err-checked.ensures.two.down
-
-pub returns-in_err-checked-clause-tells : goal.returns-in_err-checked-clause-tells
-returns-in_err-checked-clause-tells g c =
-    handed (CoreTellsLosses g.R.Rack.told (named_out c.args.core.now.meta.out) c.args.core.now c.count_all.new.core) c.from_residual.result _ c.from_residual.ensures.1 c.in_err-checked.ensures.two.tells
+pub returns-in_err-checked : goal.returns-in_err-checked
+returns-in_err-checked g c = record {
+  draft = search rules;
+  slots = search rules;
+  batch = search rules;
+  table = search rules;
+  named = search rules;
+  copied = c.in_err-checked.ensures.two.copied;
+  ready = search rules;
+  serves = search rules;
+  setup = search rules;
+  writes = search rules;
+  epoch = search rules;
+  down = search rules;
+  spared = c.in_err-checked.ensures.two.spared;
+  still_synced = c.in_err-checked.ensures.two.synced;
+  two = handed (AreTwoDown (core_down c.args.core.now) (g.R.Rack.slot (store_rack c.args.core.now.store)) (g.R.Rack.slot (store_rack c.count_all.new.core.store))) c.from_residual.result _ c.from_residual.ensures.1 c.in_err-checked.ensures.two.down;
+  tells = handed (CoreTellsLosses g.R.Rack.told (named_out c.args.core.now.meta.out) c.args.core.now c.count_all.new.core) c.from_residual.result _ c.from_residual.ensures.1 c.in_err-checked.ensures.two.tells;
+  calls = c.in_err-checked.ensures.two.calls;
+  reads = c.in_err-checked.ensures.two.reads;
+  marks = search rules;
+  unsynced = search rules;
+  moments = λ h lo. held_beside g.R.Rack.slot_count g.R.Rack.slot g.R.Rack.told c.args.core.now c.count_all.new.core (CoreStandsFor g.R.Rack.slot_count c.args.core.now h lo) h lo (c.in_err-checked.ensures.two.held h lo);
+  stands = search rules;
+  moments_since = c.in_err-checked.ensures.two.held;
+  since = search rules;
+  counts = search rules;
+  zeros = search rules;
+  ended = search rules;
+  same = search rules;
+}

@@ -15,18 +15,8 @@ returns-then-d-out-clause-value g c f shows some sum =
     which : (c.args.d ≡ c.args.out) ⊎ (c.args.d ≡ c.args.skipped)
     which = elim c.then-d-out.branch [ then-d-out-via-then-d-out w ↦ inl w.if-d-out.true | then-d-out-via-else-d-out+then-d-skipped w ↦ inr w.if-d-skipped.true ]
 
-pub returns-clause-value : goal.returns-clause-value
-returns-clause-value g c f shows some sum =
-    two_read (near (seen_by c.args.meta.now c.args.dirty.now (Some c.args.out) f) c.args.r) c.args.out c.args.skipped c.args.d _ _ _ c.if-d-out.false c.if-d-skipped.false sum (c.in_ok-read_near.ensures.value f shows some) c.xor_into.ensures
-
 pub returns-then-d-out-clause-off : goal.returns-then-d-out-clause-off
 returns-then-d-out-clause-off g c = off_none (Some c.args.out) (g.R.Rack.told (store_rack c.args.store.now))
-
-pub returns-in_err-read_near-clause-off : goal.returns-in_err-read_near-clause-off
-returns-in_err-read_near-clause-off g c = c.read_near.ensures.off
-
-pub returns-clause-off : goal.returns-clause-off
-returns-clause-off g c = c.read_near.ensures.off
 
 pub returns-then-d-out-clause-read : goal.returns-then-d-out-clause-read
 returns-then-d-out-clause-read g c = read_none g.R.Rack.slot_count g.R.Rack.slot g.R.Rack.told (disks_of c.args.store.now) c.args.store.now
@@ -34,30 +24,26 @@ returns-then-d-out-clause-read g c = read_none g.R.Rack.slot_count g.R.Rack.slot
 pub returns-then-d-out-clause-below : goal.returns-then-d-out-clause-below
 returns-then-d-out-clause-below g c = tt
 
-pub returns-clause-below : goal.returns-clause-below
-returns-clause-below g c = tt
-
 pub returns-then-d-out-clause-failed : goal.returns-then-d-out-clause-failed
 returns-then-d-out-clause-failed g c = tt
 
-pub returns-clause-failed : goal.returns-clause-failed
-returns-clause-failed g c = tt
+pub returns : goal.returns
+returns g c = record {
+  read = c.in_ok-read_near.ensures.read;
+  below = tt;
+  failed = tt;
+  off = c.read_near.ensures.off;
+  value = λ f shows some sum. two_read (near (seen_by c.args.meta.now c.args.dirty.now (Some c.args.out) f) c.args.r) c.args.out c.args.skipped c.args.d _ _ _ c.if-d-out.false c.if-d-skipped.false sum (c.in_ok-read_near.ensures.value f shows some) c.xor_into.ensures;
+}
 
-pub returns-clause-read : goal.returns-clause-read
-returns-clause-read g c = c.in_ok-read_near.ensures.read
-
-pub returns-in_err-read_near-clause-read : goal.returns-in_err-read_near-clause-read
-returns-in_err-read_near-clause-read g c =
-    subst (λ (lost : Option ℕ). HaveRead g.R.Rack.slot_count g.R.Rack.slot g.R.Rack.told (disks_of c.args.store.now) lost c.args.store.now c.read_near.new.store) (sym (lost_again _ _ c.from_residual.ensures.1)) c.in_err-read_near.ensures.read
-
-pub returns-in_err-read_near-clause-below : goal.returns-in_err-read_near-clause-below
-returns-in_err-read_near-clause-below g c = err_again (λ e. e < disks_of c.args.store.now) _ _ c.from_residual.ensures.1 c.in_err-read_near.ensures.below
-
-pub returns-in_err-read_near-clause-failed : goal.returns-in_err-read_near-clause-failed
-returns-in_err-read_near-clause-failed g c = err_again (λ e. c.args.out ≢ e) _ _ c.from_residual.ensures.1 (λ is. c.in_err-read_near.ensures.failed (ap Some is))
-
-pub returns-in_err-read_near-clause-value : goal.returns-in_err-read_near-clause-value
-returns-in_err-read_near-clause-value g c = ok_never _ _ c.from_residual.result c.from_residual.ensures.1
+pub returns-in_err-read_near : goal.returns-in_err-read_near
+returns-in_err-read_near g c = record {
+  read = subst (λ (lost : Option ℕ). HaveRead g.R.Rack.slot_count g.R.Rack.slot g.R.Rack.told (disks_of c.args.store.now) lost c.args.store.now c.read_near.new.store) (sym (lost_again _ _ c.from_residual.ensures.1)) c.in_err-read_near.ensures.read;
+  below = err_again (λ e. e < disks_of c.args.store.now) _ _ c.from_residual.ensures.1 c.in_err-read_near.ensures.below;
+  failed = err_again (λ e. c.args.out ≢ e) _ _ c.from_residual.ensures.1 (λ is. c.in_err-read_near.ensures.failed (ap Some is));
+  off = c.read_near.ensures.off;
+  value = ok_never _ _ c.from_residual.result c.from_residual.ensures.1;
+}
 
 pub read_near-requires-clause-near : goal.read_near-requires-clause-near
 read_near-requires-clause-near g c = λ f hard is. c.if-d-out.false (sym (same_disk is))

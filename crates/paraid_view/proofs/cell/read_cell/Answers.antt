@@ -26,11 +26,6 @@ returns-in-Ok-clause-value g c f shows some rows stripes =
     ∙ value_same m (is_dirty c.args.dirty.now) (is_dirty c.args.dirty.now) (out_disk (λ e. (g.R.Rack.slot (store_rack c.args.store.now) e).power) m) f f lost (inl none) (λ x q apart. refl) (λ r e l. refl) c.requires.in_range
     c.args.r c.args.d c.requires.row c.requires.disk rows stripes
 
-pub returns-in-Some-clause-two : goal.returns-in-Some-clause-two
-returns-in-Some-clause-two g c =
-    two_beside g.R.Rack.slot_count g.R.Rack.slot g.R.Rack.told (disks_of c.args.store.now) c.in-Some.first c.in-Err.lost _ c.args.store.now c.read_value.new.store
-    (sym c.out_of-out.ensures ∙ c.in-Some.is) (λ same. c.in-Err.ensures.failed (c.in-Some.is ∙ ap Some same)) c.in-Err.ensures.read
-
 pub returns-in-Err-read_value-clause-two : goal.returns-in-Err-read_value-clause-two
 returns-in-Err-read_value-clause-two g c =
     let none : out_disk (λ e. (g.R.Rack.slot (store_rack c.args.store.now) e).power) c.args.meta.now ≡ None = sym c.out_of-out.ensures ∙ c.in_default-out.is in
@@ -47,23 +42,17 @@ returns-in-Err-read_value-clause-off g c =
     let none : out_disk (λ e. (g.R.Rack.slot (store_rack c.args.store.now) e).power) c.args.meta.now ≡ None = sym c.out_of-out.ensures ∙ c.in_default-out.is in
     off_nobody _ _ _ _ none (returns-in-Err-read_value-clause-two g c).calls
 
-pub returns-in_default-clause-off : goal.returns-in_default-clause-off
-returns-in_default-clause-off g c = off_same _ _ _ _ (sym c.out_of-out.ensures) c.read_value.ensures.off
-
-pub returns-in-Some-clause-off : goal.returns-in-Some-clause-off
-returns-in-Some-clause-off g c = off_same _ _ _ _ (sym c.out_of-out.ensures) c.read_value.ensures.off
-
-pub returns-in-Some-clause-read : goal.returns-in-Some-clause-read
-returns-in-Some-clause-read g c = tt
-
-pub returns-in-Some-clause-below : goal.returns-in-Some-clause-below
-returns-in-Some-clause-below g c = tt
-
-pub returns-in-Some-clause-one : goal.returns-in-Some-clause-one
-returns-in-Some-clause-one g c = tt
-
-pub returns-in-Some-clause-value : goal.returns-in-Some-clause-value
-returns-in-Some-clause-value g c = tt
+pub returns-in-Some : goal.returns-in-Some
+returns-in-Some g c = record {
+  read = tt;
+  below = tt;
+  off = off_same _ _ _ _ (sym c.out_of-out.ensures) c.read_value.ensures.off;
+  one = tt;
+  value = tt;
+  two =
+      two_beside g.R.Rack.slot_count g.R.Rack.slot g.R.Rack.told (disks_of c.args.store.now) c.in-Some.first c.in-Err.lost _ c.args.store.now c.read_value.new.store
+      (sym c.out_of-out.ensures ∙ c.in-Some.is) (λ same. c.in-Err.ensures.failed (c.in-Some.is ∙ ap Some same)) c.in-Err.ensures.read;
+}
 
 pub returns-in-Err-read_value-clause-read : goal.returns-in-Err-read_value-clause-read
 returns-in-Err-read_value-clause-read g c = tt
@@ -77,24 +66,18 @@ returns-in-Err-read_value-clause-one g c = tt
 pub returns-in-Err-read_value-clause-value : goal.returns-in-Err-read_value-clause-value
 returns-in-Err-read_value-clause-value g c = tt
 
-pub returns-in_default-clause-two : goal.returns-in_default-clause-two
-returns-in_default-clause-two g c = tt
-
 pub returns-in-Ok-clause-two : goal.returns-in-Ok-clause-two
 returns-in-Ok-clause-two g c = tt
 
-pub returns-in_default-clause-read : goal.returns-in_default-clause-read
-returns-in_default-clause-read g c = c.in_default.ensures.read
-
-pub returns-in_default-clause-below : goal.returns-in_default-clause-below
-returns-in_default-clause-below g c = λ e is. absurd (no_disk is)
-
-pub returns-in_default-clause-one : goal.returns-in_default-clause-one
-returns-in_default-clause-one g c = λ e is. absurd (no_disk is)
-
-pub returns-in_default-clause-value : goal.returns-in_default-clause-value
-returns-in_default-clause-value g c f shows some rows stripes =
-    subst (λ (o : Option ℕ). c.read_value.new.into ≡ value (seen_by c.args.meta.now c.args.dirty.now o f) c.args.r c.args.d) c.out_of-out.ensures (c.in_default.ensures.value f shows some)
+pub returns-in_default : goal.returns-in_default
+returns-in_default g c = record {
+  read = c.in_default.ensures.read;
+  below = λ e is. absurd (no_disk is);
+  off = off_same _ _ _ _ (sym c.out_of-out.ensures) c.read_value.ensures.off;
+  one = λ e is. absurd (no_disk is);
+  value = λ f shows some rows stripes. subst (λ (o : Option ℕ). c.read_value.new.into ≡ value (seen_by c.args.meta.now c.args.dirty.now o f) c.args.r c.args.d) c.out_of-out.ensures (c.in_default.ensures.value f shows some);
+  two = tt;
+}
 
 pub returns-in-Ok-clause-below : goal.returns-in-Ok-clause-below
 returns-in-Ok-clause-below g c = λ e is. subst (λ (k : ℕ). k < disks_of c.args.store.now) (same_disk is) c.in-Err.ensures.below

@@ -25,49 +25,37 @@ read_laid-requires-clause-within g c =
     c.requires.ready.large c.args.d (hard_powered (seen_by m c.args.dirty.now c.args.out blank) c.args.r c.args.d hard) (c.requires.near blank hard) in
     let k = c.hard_place.ensures.before_regions in omega arith
 
-pub returns-then-is_hard-clause-failed : goal.returns-then-is_hard-clause-failed
-returns-then-is_hard-clause-failed g c =
-    let m = c.args.meta.now in
-    let hard : is_hard (seen_by m c.args.dirty.now c.args.out blank) c.args.r c.args.d ≡ true = sym (c.is_hard.ensures.value c.args.out blank) ∙ c.if-is_hard.true in
-    err_map {Q = λ e. c.args.out ≢ Some e} c.read_laid.result (λ e is. λ out. c.requires.near blank hard (out ∙ ap Some is)) c.read_laid.ensures.failed
+pub returns-then-is_hard : goal.returns-then-is_hard
+returns-then-is_hard g c = record {
+  read = c.read_laid.ensures.read;
+  below = c.read_laid.ensures.below;
+  failed =
+      let m = c.args.meta.now in
+      let hard : is_hard (seen_by m c.args.dirty.now c.args.out blank) c.args.r c.args.d ≡ true = sym (c.is_hard.ensures.value c.args.out blank) ∙ c.if-is_hard.true in
+      err_map {Q = λ e. c.args.out ≢ Some e} c.read_laid.result (λ e is. λ out. c.requires.near blank hard (out ∙ ap Some is)) c.read_laid.ensures.failed;
+  off =
+      let m = c.args.meta.now in
+      let hard : is_hard (seen_by m c.args.dirty.now c.args.out blank) c.args.r c.args.d ≡ true = sym (c.is_hard.ensures.value c.args.out blank) ∙ c.if-is_hard.true in
+      c.read_laid.ensures.off c.args.out (c.requires.near blank hard);
+  value =
+      ok_map c.read_laid.result (λ value. λ f shows some.
+      let m = c.args.meta.now in
+      value f shows some ∙ ap (f c.args.d) c.hard_place.ensures.value
+      ∙ sym (near_hard (seen_by m c.args.dirty.now c.args.out f) c.args.r c.args.d (sym (c.is_hard.ensures.value c.args.out f) ∙ c.if-is_hard.true))) c.read_laid.ensures.value;
+}
 
-pub returns-then-is_hard-clause-value : goal.returns-then-is_hard-clause-value
-returns-then-is_hard-clause-value g c =
-    ok_map c.read_laid.result (λ value. λ f shows some.
-    let m = c.args.meta.now in
-    value f shows some ∙ ap (f c.args.d) c.hard_place.ensures.value
-    ∙ sym (near_hard (seen_by m c.args.dirty.now c.args.out f) c.args.r c.args.d (sym (c.is_hard.ensures.value c.args.out f) ∙ c.if-is_hard.true))) c.read_laid.ensures.value
-
-pub returns-clause-value : goal.returns-clause-value
-returns-clause-value g c =
-    ok_map c.read_soft.result (λ value. λ f shows some.
-    let m = c.args.meta.now in
-    value f c.args.dirty.now shows some
-    ∙ sym (near_soft (seen_by m c.args.dirty.now c.args.out f) c.args.r c.args.d (sym (c.is_hard.ensures.value c.args.out f) ∙ c.if-is_hard.false))) c.read_soft.ensures.value
-
-pub returns-then-is_hard-clause-off : goal.returns-then-is_hard-clause-off
-returns-then-is_hard-clause-off g c =
-    let m = c.args.meta.now in
-    let hard : is_hard (seen_by m c.args.dirty.now c.args.out blank) c.args.r c.args.d ≡ true = sym (c.is_hard.ensures.value c.args.out blank) ∙ c.if-is_hard.true in
-    c.read_laid.ensures.off c.args.out (c.requires.near blank hard)
-
-pub returns-clause-off : goal.returns-clause-off
-returns-clause-off g c = c.read_soft.ensures.off
-
-pub returns-then-is_hard-clause-read : goal.returns-then-is_hard-clause-read
-returns-then-is_hard-clause-read g c = c.read_laid.ensures.read
-
-pub returns-then-is_hard-clause-below : goal.returns-then-is_hard-clause-below
-returns-then-is_hard-clause-below g c = c.read_laid.ensures.below
-
-pub returns-clause-read : goal.returns-clause-read
-returns-clause-read g c = c.read_soft.ensures.read
-
-pub returns-clause-below : goal.returns-clause-below
-returns-clause-below g c = c.read_soft.ensures.below
-
-pub returns-clause-failed : goal.returns-clause-failed
-returns-clause-failed g c = c.read_soft.ensures.failed
+pub returns : goal.returns
+returns g c = record {
+  read = c.read_soft.ensures.read;
+  below = c.read_soft.ensures.below;
+  failed = c.read_soft.ensures.failed;
+  off = c.read_soft.ensures.off;
+  value =
+      ok_map c.read_soft.result (λ value. λ f shows some.
+      let m = c.args.meta.now in
+      value f c.args.dirty.now shows some
+      ∙ sym (near_soft (seen_by m c.args.dirty.now c.args.out f) c.args.r c.args.d (sym (c.is_hard.ensures.value c.args.out f) ∙ c.if-is_hard.false))) c.read_soft.ensures.value;
+}
 
 pub read_laid-requires-clause-exists : goal.read_laid-requires-clause-exists
 read_laid-requires-clause-exists g c = let enough = c.requires.ready.enough in let low = c.requires.disk in omega (arith, enough, low)

@@ -1,4 +1,4 @@
-use Rattle.std.proofs.Common.{◌++◌, ◌≡◌, ◌∙◌, None, Some, ap, arith}
+use Rattle.std.proofs.Common.{◌++◌, ◌≡◌, ◌∙◌, None, Some, ap, arith, rules}
 use Rattle.paraid_base.proofs.SumsLemmas.{others_none}
 use Rattle.paraid_base.specs.Sums.{without, xor_upto}
 use Rattle.paraid_image.specs.Spot.{View}
@@ -15,12 +15,6 @@ loop-d-init g c = record {
   value = λ f shows some. c.zero.ensures ∙ others_none _ _;
 }
 
-pub returns-in_err-add_near-clause-read : goal.returns-in_err-add_near-clause-read
-returns-in_err-add_near-clause-read g c =
-    let before = c.loop-d.invariant in
-    read_failed g.R.Rack.slot_count g.R.Rack.slot g.R.Rack.told (disks_of c.args.store.now) (disks_of c.loop-d.store) _ _ c.args.store.now c.loop-d.store c.add_near.new.store before.read.same.disks
-    c.from_residual.ensures.1 before.read c.in_err-add_near.ensures.read
-
 pub loop-d-preserved : goal.loop-d-preserved
 loop-d-preserved g c =
     let before = c.loop-d.invariant in
@@ -32,14 +26,26 @@ loop-d-preserved g c =
           call.value f (shows_after (disks_of c.args.store.now) _ _ (c.args.batch.now ++ c.args.draft.now) f before.read.calls shows) some (before.value f shows (told_before _ _ _ call.read.calls some));
     }
 
-pub returns-clause-value : goal.returns-clause-value
-returns-clause-value g c f shows some =
-    let v : View = seen_by c.args.meta.now c.args.dirty.now (Some c.args.out) f in
-    let all : c.loop-d.d ≡ c.args.meta.now.setup.geometry.disks = omega arith in
-    c.loop-d.invariant.value f shows some ∙ ap (xor_upto (without (without (near v c.args.r) c.args.out) c.args.skipped)) all
+pub returns-in_err-add_near : goal.returns-in_err-add_near
+returns-in_err-add_near g c = record {
+  read =
+      let before = c.loop-d.invariant in
+      read_failed g.R.Rack.slot_count g.R.Rack.slot g.R.Rack.told (disks_of c.args.store.now) (disks_of c.loop-d.store) _ _ c.args.store.now c.loop-d.store c.add_near.new.store before.read.same.disks
+      c.from_residual.ensures.1 before.read c.in_err-add_near.ensures.read;
+  below = search rules;
+  failed = search rules;
+  off = off_then (Some c.args.out) _ _ _ c.loop-d.invariant.off c.add_near.ensures.off;
+  value = search rules;
+}
 
-pub returns-in_err-add_near-clause-off : goal.returns-in_err-add_near-clause-off
-returns-in_err-add_near-clause-off g c = off_then (Some c.args.out) _ _ _ c.loop-d.invariant.off c.add_near.ensures.off
-
-pub returns-clause-off : goal.returns-clause-off
-returns-clause-off g c = c.loop-d.invariant.off
+pub returns : goal.returns
+returns g c = record {
+  read = search rules;
+  below = search rules;
+  failed = search rules;
+  off = c.loop-d.invariant.off;
+  value = λ f shows some.
+      let v : View = seen_by c.args.meta.now c.args.dirty.now (Some c.args.out) f in
+      let all : c.loop-d.d ≡ c.args.meta.now.setup.geometry.disks = omega arith in
+      c.loop-d.invariant.value f shows some ∙ ap (xor_upto (without (without (near v c.args.r) c.args.out) c.args.skipped)) all;
+}

@@ -9,17 +9,6 @@ use Rattle.paraid_view.proofs.ReadLemmas.{off_same}
 use Rattle.paraid_view.proofs.ValueLemmas.{ok_map, soft_out, soft_there, err_map, same_disk}
 use Rattle.paraid_view.proofs.cell.read_soft.Goals as goal
 
-pub returns-then-is_at-clause-value : goal.returns-then-is_at-clause-value
-returns-then-is_at-clause-value g c =
-    ok_map c.read_rest.result (λ value. λ f table shows some.
-    let m = c.args.meta.now in
-    let cell = c.soft_of-stripe.ensures in
-    let out : c.args.out ≡ Some (soft_disk m.setup.geometry.disks m.gear c.args.r c.args.d) = c.is_at.ensures.0 c.if-is_at.true ∙ ap Some cell.disk in
-    value f shows some
-    ∙ ap (λ (s : ℕ). stripe_rest m.setup.geometry f m.gear s c.soft_of-stripe.result.1) cell.stripe
-    ∙ ap (λ (e : ℕ). stripe_rest m.setup.geometry f m.gear (soft_stripe m.setup.geometry.disks m.gear c.args.r c.args.d) e) cell.disk
-    ∙ sym (soft_out (seen_by m table c.args.out f) c.args.r c.args.d out)) c.read_rest.ensures.value
-
 pub read_laid-requires-clause-spinning : goal.read_laid-requires-clause-spinning
 read_laid-requires-clause-spinning g c =
     c.requires.ready.spins c.soft_of-stripe.result.1 (inl c.soft_of-stripe.ensures.below) (λ e. false≢true (sym c.if-is_at.false ∙ c.is_at.ensures.1 e))
@@ -30,42 +19,39 @@ read_laid-requires-clause-within g c =
     c.requires.ready.large c.soft_of-stripe.result.1 (inl c.soft_of-stripe.ensures.below) (λ e. false≢true (sym c.if-is_at.false ∙ c.is_at.ensures.1 e)) in
     let k = c.soft_place.ensures.in_size in omega arith
 
-pub returns-clause-value : goal.returns-clause-value
-returns-clause-value g c =
-    ok_map c.read_laid.result (λ value. λ f table shows some.
-    let m = c.args.meta.now in
-    let cell = c.soft_of-stripe.ensures in
-    let not : c.args.out ≢ Some (soft_disk m.setup.geometry.disks m.gear c.args.r c.args.d) = (λ e. false≢true (sym c.if-is_at.false ∙ c.is_at.ensures.1 (e ∙ ap Some (sym cell.disk)))) in
-    value f shows some
-    ∙ ap (f c.soft_of-stripe.result.1) (c.soft_place.ensures.value ∙ ap (soft_place_of m.setup.geometry m.gear) cell.stripe)
-    ∙ ap (λ (e : ℕ). f e (soft_place_of m.setup.geometry m.gear (soft_stripe m.setup.geometry.disks m.gear c.args.r c.args.d))) cell.disk
-    ∙ sym (soft_there (seen_by m table c.args.out f) c.args.r c.args.d not)) c.read_laid.ensures.value
+pub returns-then-is_at : goal.returns-then-is_at
+returns-then-is_at g c = record {
+  read = c.read_rest.ensures.read;
+  below = c.read_rest.ensures.below;
+  failed = err_map {Q = λ e. c.args.out ≢ Some e} c.read_rest.result (λ e not is. not (same_disk (sym is ∙ c.is_at.ensures.0 c.if-is_at.true))) c.read_rest.ensures.failed;
+  off = off_same c.args.out _ _ _ (c.is_at.ensures.0 c.if-is_at.true) c.read_rest.ensures.off;
+  value =
+      ok_map c.read_rest.result (λ value. λ f table shows some.
+      let m = c.args.meta.now in
+      let cell = c.soft_of-stripe.ensures in
+      let out : c.args.out ≡ Some (soft_disk m.setup.geometry.disks m.gear c.args.r c.args.d) = c.is_at.ensures.0 c.if-is_at.true ∙ ap Some cell.disk in
+      value f shows some
+      ∙ ap (λ (s : ℕ). stripe_rest m.setup.geometry f m.gear s c.soft_of-stripe.result.1) cell.stripe
+      ∙ ap (λ (e : ℕ). stripe_rest m.setup.geometry f m.gear (soft_stripe m.setup.geometry.disks m.gear c.args.r c.args.d) e) cell.disk
+      ∙ sym (soft_out (seen_by m table c.args.out f) c.args.r c.args.d out)) c.read_rest.ensures.value;
+}
 
-pub returns-then-is_at-clause-off : goal.returns-then-is_at-clause-off
-returns-then-is_at-clause-off g c = off_same c.args.out _ _ _ (c.is_at.ensures.0 c.if-is_at.true) c.read_rest.ensures.off
-
-pub returns-clause-off : goal.returns-clause-off
-returns-clause-off g c = c.read_laid.ensures.off c.args.out (λ e. false≢true (sym c.if-is_at.false ∙ c.is_at.ensures.1 e))
-
-pub returns-then-is_at-clause-read : goal.returns-then-is_at-clause-read
-returns-then-is_at-clause-read g c = c.read_rest.ensures.read
-
-pub returns-then-is_at-clause-below : goal.returns-then-is_at-clause-below
-returns-then-is_at-clause-below g c = c.read_rest.ensures.below
-
-pub returns-clause-read : goal.returns-clause-read
-returns-clause-read g c = c.read_laid.ensures.read
-
-pub returns-clause-below : goal.returns-clause-below
-returns-clause-below g c = c.read_laid.ensures.below
-
-pub returns-then-is_at-clause-failed : goal.returns-then-is_at-clause-failed
-returns-then-is_at-clause-failed g c =
-    err_map {Q = λ e. c.args.out ≢ Some e} c.read_rest.result (λ e not is. not (same_disk (sym is ∙ c.is_at.ensures.0 c.if-is_at.true))) c.read_rest.ensures.failed
-
-pub returns-clause-failed : goal.returns-clause-failed
-returns-clause-failed g c =
-    err_map {Q = λ e. c.args.out ≢ Some e} c.read_laid.result (λ e is out. false≢true (sym c.if-is_at.false ∙ c.is_at.ensures.1 (out ∙ ap Some is))) c.read_laid.ensures.failed
+pub returns : goal.returns
+returns g c = record {
+  read = c.read_laid.ensures.read;
+  below = c.read_laid.ensures.below;
+  failed = err_map {Q = λ e. c.args.out ≢ Some e} c.read_laid.result (λ e is out. false≢true (sym c.if-is_at.false ∙ c.is_at.ensures.1 (out ∙ ap Some is))) c.read_laid.ensures.failed;
+  off = c.read_laid.ensures.off c.args.out (λ e. false≢true (sym c.if-is_at.false ∙ c.is_at.ensures.1 e));
+  value =
+      ok_map c.read_laid.result (λ value. λ f table shows some.
+      let m = c.args.meta.now in
+      let cell = c.soft_of-stripe.ensures in
+      let not : c.args.out ≢ Some (soft_disk m.setup.geometry.disks m.gear c.args.r c.args.d) = (λ e. false≢true (sym c.if-is_at.false ∙ c.is_at.ensures.1 (e ∙ ap Some (sym cell.disk)))) in
+      value f shows some
+      ∙ ap (f c.soft_of-stripe.result.1) (c.soft_place.ensures.value ∙ ap (soft_place_of m.setup.geometry m.gear) cell.stripe)
+      ∙ ap (λ (e : ℕ). f e (soft_place_of m.setup.geometry m.gear (soft_stripe m.setup.geometry.disks m.gear c.args.r c.args.d))) cell.disk
+      ∙ sym (soft_there (seen_by m table c.args.out f) c.args.r c.args.d not)) c.read_laid.ensures.value;
+}
 
 pub read_rest-requires-clause-ready : goal.read_rest-requires-clause-ready
 read_rest-requires-clause-ready g c =

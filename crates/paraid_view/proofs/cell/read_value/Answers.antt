@@ -10,14 +10,6 @@ use Rattle.paraid_view.proofs.ValueLemmas.{far_is, ok_map, value_far, value_near
 use Rattle.paraid_view.proofs.cell.read_value.Goals.{else-is_at-via-then-is_at+else-is_hard, else-is_at-via-else-is_at}
 use Rattle.paraid_view.proofs.cell.read_value.Goals as goal
 
-pub returns-then-is_hard-clause-value : goal.returns-then-is_hard-clause-value
-returns-then-is_hard-clause-value g c =
-    ok_map c.read_others.result (λ value. λ f shows some.
-    let m = c.args.meta.now in
-    let out : c.args.out ≡ Some c.args.d = c.is_at.ensures.0 c.if-is_at.true in
-    value f shows some ∙ far_is (seen_by m c.args.dirty.now (Some c.args.d) f) c.args.r c.args.d ∙ ap (λ (o : Option ℕ). far (seen_by m c.args.dirty.now o f) c.args.r c.args.d) (sym out)
-    ∙ sym (value_far (seen_by m c.args.dirty.now c.args.out f) c.args.r c.args.d (sym (c.is_hard.ensures.value c.args.out f) ∙ c.if-is_hard.true) out)) c.read_others.ensures.value
-
 pub returns-clause-value : goal.returns-clause-value
 returns-clause-value g c =
     ok_map c.read_near.result (λ value. λ f shows some.
@@ -29,17 +21,8 @@ returns-clause-value g c =
       | else-is_at-via-else-is_at w ↦ false≢true (sym w.if-is_at.false ∙ c.is_at.ensures.1 out)
     ]
 
-pub returns-then-is_hard-clause-off : goal.returns-then-is_hard-clause-off
-returns-then-is_hard-clause-off g c = off_same c.args.out _ _ _ (c.is_at.ensures.0 c.if-is_at.true) c.read_others.ensures.off
-
 pub returns-clause-off : goal.returns-clause-off
 returns-clause-off g c = c.read_near.ensures.off
-
-pub returns-then-is_hard-clause-read : goal.returns-then-is_hard-clause-read
-returns-then-is_hard-clause-read g c = c.read_others.ensures.read
-
-pub returns-then-is_hard-clause-below : goal.returns-then-is_hard-clause-below
-returns-then-is_hard-clause-below g c = c.read_others.ensures.below
 
 pub returns-clause-read : goal.returns-clause-read
 returns-clause-read g c = c.read_near.ensures.read
@@ -50,9 +33,19 @@ returns-clause-below g c = c.read_near.ensures.below
 pub returns-clause-failed : goal.returns-clause-failed
 returns-clause-failed g c = c.read_near.ensures.failed
 
-pub returns-then-is_hard-clause-failed : goal.returns-then-is_hard-clause-failed
-returns-then-is_hard-clause-failed g c =
-    err_map {Q = λ e. c.args.out ≢ Some e} c.read_others.result (λ e not is. not (same_disk (sym (c.is_at.ensures.0 c.if-is_at.true) ∙ is))) c.read_others.ensures.failed
+pub returns-then-is_hard : goal.returns-then-is_hard
+returns-then-is_hard g c = record {
+  read = c.read_others.ensures.read;
+  below = c.read_others.ensures.below;
+  failed = err_map {Q = λ e. c.args.out ≢ Some e} c.read_others.result (λ e not is. not (same_disk (sym (c.is_at.ensures.0 c.if-is_at.true) ∙ is))) c.read_others.ensures.failed;
+  off = off_same c.args.out _ _ _ (c.is_at.ensures.0 c.if-is_at.true) c.read_others.ensures.off;
+  value =
+      ok_map c.read_others.result (λ value. λ f shows some.
+      let m = c.args.meta.now in
+      let out : c.args.out ≡ Some c.args.d = c.is_at.ensures.0 c.if-is_at.true in
+      value f shows some ∙ far_is (seen_by m c.args.dirty.now (Some c.args.d) f) c.args.r c.args.d ∙ ap (λ (o : Option ℕ). far (seen_by m c.args.dirty.now o f) c.args.r c.args.d) (sym out)
+      ∙ sym (value_far (seen_by m c.args.dirty.now c.args.out f) c.args.r c.args.d (sym (c.is_hard.ensures.value c.args.out f) ∙ c.if-is_hard.true) out)) c.read_others.ensures.value;
+}
 
 pub read_others-requires-clause-ready : goal.read_others-requires-clause-ready
 read_others-requires-clause-ready g c =

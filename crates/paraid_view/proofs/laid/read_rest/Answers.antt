@@ -1,4 +1,4 @@
-use Rattle.std.proofs.Common.{◌++◌, ◌≡◌, ℕ, ◌+◌, ◌∙◌, None, Some, sym, subst, ◌<◌, ◌≢◌, ap, arith, inl}
+use Rattle.std.proofs.Common.{◌++◌, ◌≡◌, ℕ, ◌+◌, ◌∙◌, None, Some, sym, subst, ◌<◌, ◌≢◌, ap, arith, inl, rules}
 use Rattle.paraid_base.proofs.SumsLemmas.{others_none}
 use Rattle.paraid_base.specs.Sums.{without, xor_upto}
 use Rattle.paraid_txn.specs.Stores.{disks_of, store_rack}
@@ -13,12 +13,6 @@ loop-disk-init g c = record {
   off = off_none (Some c.args.skipped) (g.R.Rack.told (store_rack c.args.store.now));
   value = λ f shows some. c.zero.ensures ∙ others_none _ _;
 }
-
-pub returns-in_err-add_block-clause-read : goal.returns-in_err-add_block-clause-read
-returns-in_err-add_block-clause-read g c =
-    let before = c.loop-disk.invariant in
-    read_failed g.R.Rack.slot_count g.R.Rack.slot g.R.Rack.told (disks_of c.args.store.now) (disks_of c.loop-disk.store) _ _ c.args.store.now c.loop-disk.store c.add_block.new.store before.read.same.disks
-    c.from_residual.ensures.1 before.read c.in_err-add_block.ensures.read
 
 pub loop-disk-preserved : goal.loop-disk-preserved
 loop-disk-preserved g c =
@@ -35,12 +29,6 @@ loop-disk-preserved g c =
           (before.value f shows (told_before _ _ _ call.read.calls some))));
     }
 
-pub returns-in_err-add_block-clause-off : goal.returns-in_err-add_block-clause-off
-returns-in_err-add_block-clause-off g c = off_then (Some c.args.skipped) _ _ _ c.loop-disk.invariant.off c.add_block.ensures.off
-
-pub returns-clause-off : goal.returns-clause-off
-returns-clause-off g c = c.loop-disk.invariant.off
-
 pub add_block-requires-clause-spinning : goal.add_block-requires-clause-spinning
 add_block-requires-clause-spinning g c = λ apart.
     let low : c.loop-disk.disk < c.args.meta.now.gear = omega arith in
@@ -56,21 +44,23 @@ add_block-requires-clause-within g c = λ apart.
 pub add_block-requires-clause-past_log : goal.add_block-requires-clause-past_log
 add_block-requires-clause-past_log g c = let after = c.soft_place-place.ensures.after_hard in omega (arith, after)
 
-pub returns-clause-read : goal.returns-clause-read
-returns-clause-read g c = c.loop-disk.invariant.read
+pub returns : goal.returns
+returns g c = record {
+  read = c.loop-disk.invariant.read;
+  below = tt;
+  failed = tt;
+  off = c.loop-disk.invariant.off;
+  value = search rules;
+}
 
-pub returns-clause-below : goal.returns-clause-below
-returns-clause-below g c = tt
-
-pub returns-clause-failed : goal.returns-clause-failed
-returns-clause-failed g c = tt
-
-pub returns-in_err-add_block-clause-below : goal.returns-in_err-add_block-clause-below
-returns-in_err-add_block-clause-below g c =
-    err_again (λ e. e < disks_of c.args.store.now) _ _ c.from_residual.ensures.1 (subst (λ (n : ℕ). c.in_err-add_block.field-0.0 < n) c.loop-disk.invariant.read.same.disks c.in_err-add_block.ensures.below)
-
-pub returns-in_err-add_block-clause-failed : goal.returns-in_err-add_block-clause-failed
-returns-in_err-add_block-clause-failed g c = err_again (λ e. e ≢ c.args.skipped) _ _ c.from_residual.ensures.1 c.in_err-add_block.ensures.failed.1
-
-pub returns-in_err-add_block-clause-value : goal.returns-in_err-add_block-clause-value
-returns-in_err-add_block-clause-value g c = ok_never _ _ c.from_residual.result c.from_residual.ensures.1
+pub returns-in_err-add_block : goal.returns-in_err-add_block
+returns-in_err-add_block g c = record {
+  read =
+      let before = c.loop-disk.invariant in
+      read_failed g.R.Rack.slot_count g.R.Rack.slot g.R.Rack.told (disks_of c.args.store.now) (disks_of c.loop-disk.store) _ _ c.args.store.now c.loop-disk.store c.add_block.new.store before.read.same.disks
+      c.from_residual.ensures.1 before.read c.in_err-add_block.ensures.read;
+  below = err_again (λ e. e < disks_of c.args.store.now) _ _ c.from_residual.ensures.1 (subst (λ (n : ℕ). c.in_err-add_block.field-0.0 < n) c.loop-disk.invariant.read.same.disks c.in_err-add_block.ensures.below);
+  failed = err_again (λ e. e ≢ c.args.skipped) _ _ c.from_residual.ensures.1 c.in_err-add_block.ensures.failed.1;
+  off = off_then (Some c.args.skipped) _ _ _ c.loop-disk.invariant.off c.add_block.ensures.off;
+  value = ok_never _ _ c.from_residual.result c.from_residual.ensures.1;
+}

@@ -1,6 +1,5 @@
-use Rattle.std.proofs.Common.{◌≡◌, ◌∙◌, sym, ap}
+use Rattle.std.proofs.Common.{◌∙◌, sym, ap}
 use Rattle.paraid_base.specs.Regions.{soft_place_of}
-use Rattle.paraid_image.specs.Spot.{is_hard}
 use Rattle.paraid_view.specs.Reads.{seen_by}
 use Rattle.paraid_view.proofs.ValueLemmas.{hard_says, not_hard, not_soft, same_spot, soft_says, spot_hard, spot_soft}
 use Rattle.paraid_view.proofs.spot.place_of.Goals as goal

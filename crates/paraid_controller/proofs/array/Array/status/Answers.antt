@@ -7,14 +7,14 @@ use Rattle.paraid_image.specs.Out.{named_out}
 use Rattle.paraid_record.specs.declared.meta.Meta.{Meta}
 use Rattle.paraid_controller.proofs.array.Array.status.Goals as goal
 
-pub returns-clause-point : goal.returns-clause-point
-returns-clause-point g c p at =
-    let a = c.args.self.now in
-    let serving = a.serving (none_ended a.ended c.requires.going) in
-    let m = c.meta-meta.result.now in
-    status_is g.R.Rack.slot_count g.R.Rack.told a c.requires.going p at m c.meta-meta.ensures c.count.result c.disks.result
-    (subst (λ (z : List (List Bool)). c.count.result ≡ dirty_count (is_dirty z) (length z) m.gear c.disks.result) c.dirty.ensures c.count.ensures)
-    (serving.serving.ready.rows_are ∙ ap (λ (z : Setup). z.geometry.rows) serving.same_setup) c.disks.ensures
-
-pub returns-clause-down : goal.returns-clause-down
-returns-clause-down g c = ap (λ (m : Meta). named_out m.out) c.meta-meta.ensures
+pub returns : goal.returns
+returns g c = record {
+  point = λ p at.
+      let a = c.args.self.now in
+      let serving = a.serving (none_ended a.ended c.requires.going) in
+      let m = c.meta-meta.result.now in
+      status_is g.R.Rack.slot_count g.R.Rack.told a c.requires.going p at m c.meta-meta.ensures c.count.result c.disks.result
+      (subst (λ (z : List (List Bool)). c.count.result ≡ dirty_count (is_dirty z) (length z) m.gear c.disks.result) c.dirty.ensures c.count.ensures)
+      (serving.serving.ready.rows_are ∙ ap (λ (z : Setup). z.geometry.rows) serving.same_setup) c.disks.ensures;
+  down = ap (λ (m : Meta). named_out m.out) c.meta-meta.ensures;
+}

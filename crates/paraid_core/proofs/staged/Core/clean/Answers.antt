@@ -1,4 +1,4 @@
-use Rattle.std.proofs.Common.{◌≡◌, ℕ, ◌∙◌, false, refl, sym, ap, subst}
+use Rattle.std.proofs.Common.{◌≡◌, ℕ, ◌∙◌, false, refl, sym, ap, subst, rules}
 use Rattle.paraid_dirty.specs.Table.{is_dirty}
 use Rattle.paraid_plan.proofs.LayLemmas.{changed_at}
 use Rattle.paraid_image.specs.Content.{view_by}
@@ -15,26 +15,31 @@ use Rattle.paraid_core.proofs.AcceptLemmas.{taken_ready}
 use Rattle.paraid_core.proofs.CleanLemmas.{cleaned_keeps, drafted, sync_drafted}
 use Rattle.paraid_core.proofs.staged.Core.clean.Goals as goal
 
-pub returns-clause-ready : goal.returns-clause-ready
-returns-clause-ready g c =
-    let old = c.args.self.now in
-    subst (λ (z : ℕ). AreSlotsReady (g.R.Rack.slot_count (store_rack old.store)) (g.R.Rack.slot (store_rack old.store)) (epoch_of old.store) (disks_of old.store) (named_of old.store) old.meta z c.take.new.batch) (sym c.clear.ensures.rows)
-    (taken_ready _ _ _ _ _ old.meta _ old.batch c.requires.ready c.requires.serves c.take.new.batch _ c.take.ensures)
-
-pub returns-clause-stands : goal.returns-clause-stands
-returns-clause-stands g c h lo t tells is k =
-    let old = c.args.self.now in
-    let m = old.meta in
-    let map = c.map_block.new.into in
-    let v : View = view_by m (now t).power (contents (now t) old.batch) in
-    let draft_is : c.push-3.new.self ≡ sync_targets v c.args.r c.args.d map =
-    drafted c.clear-2.new.self c.push.new.self c.push-2.new.self c.push-3.new.self c.args.r c.args.d c.hard_place.result c.args.value.now map m.setup.geometry
-    c.clear-2.ensures c.hard_place.ensures.value c.push.ensures c.push-2.ensures c.push-3.ensures
-    ∙ sync_drafted v c.args.r c.args.d c.args.value.now map c.requires.whole is in
-    cleaned_keeps (g.R.Rack.slot_count (store_rack old.store)) (named_of old.store) m old.dirty c.clear.new.self old.batch c.take.new.batch c.push-3.new.self old.copied h lo (now t) c.requires.ready.in_range
-    (λ d l gone. c.requires.ready.absent d l (ap is_present (sym ((g.met.R.Rack.agrees (store_rack old.store) t tells).power d)) ∙ gone)) k c.args.r c.args.d c.requires.row c.requires.disk c.requires.rises c.requires.whole map
-    c.clear.ensures.cells c.map_block.ensures draft_is
-    (c.take.ensures.laid_same (subst (ArePlaced m) (sym {b = sync_targets v c.args.r c.args.d map} draft_is) (sync_placed v c.args.r c.args.d map c.requires.ready.in_range c.requires.row c.requires.disk c.requires.rises c.requires.whole))) c.take.ensures.grows
-
-pub returns-clause-cleaned : goal.returns-clause-cleaned
-returns-clause-cleaned g c = c.clear.ensures.cells c.args.r c.args.d ∙ changed_at (is_dirty c.args.self.now.dirty) c.args.r c.args.d false c.args.r c.args.d refl refl
+pub returns : goal.returns
+returns g c = record {
+  store = search rules;
+  meta = search rules;
+  copied = search rules;
+  draft = search rules;
+  staged = search rules;
+  cleaned = c.clear.ensures.cells c.args.r c.args.d ∙ changed_at (is_dirty c.args.self.now.dirty) c.args.r c.args.d false c.args.r c.args.d refl refl;
+  bits = search rules;
+  ready =
+      let old = c.args.self.now in
+      subst (λ (z : ℕ). AreSlotsReady (g.R.Rack.slot_count (store_rack old.store)) (g.R.Rack.slot (store_rack old.store)) (epoch_of old.store) (disks_of old.store) (named_of old.store) old.meta z c.take.new.batch) (sym c.clear.ensures.rows)
+      (taken_ready _ _ _ _ _ old.meta _ old.batch c.requires.ready c.requires.serves c.take.new.batch _ c.take.ensures);
+  serves = search rules;
+  stands = λ h lo t tells is k.
+      let old = c.args.self.now in
+      let m = old.meta in
+      let map = c.map_block.new.into in
+      let v : View = view_by m (now t).power (contents (now t) old.batch) in
+      let draft_is : c.push-3.new.self ≡ sync_targets v c.args.r c.args.d map =
+      drafted c.clear-2.new.self c.push.new.self c.push-2.new.self c.push-3.new.self c.args.r c.args.d c.hard_place.result c.args.value.now map m.setup.geometry
+      c.clear-2.ensures c.hard_place.ensures.value c.push.ensures c.push-2.ensures c.push-3.ensures
+      ∙ sync_drafted v c.args.r c.args.d c.args.value.now map c.requires.whole is in
+      cleaned_keeps (g.R.Rack.slot_count (store_rack old.store)) (named_of old.store) m old.dirty c.clear.new.self old.batch c.take.new.batch c.push-3.new.self old.copied h lo (now t) c.requires.ready.in_range
+      (λ d l gone. c.requires.ready.absent d l (ap is_present (sym ((g.met.R.Rack.agrees (store_rack old.store) t tells).power d)) ∙ gone)) k c.args.r c.args.d c.requires.row c.requires.disk c.requires.rises c.requires.whole map
+      c.clear.ensures.cells c.map_block.ensures draft_is
+      (c.take.ensures.laid_same (subst (ArePlaced m) (sym {b = sync_targets v c.args.r c.args.d map} draft_is) (sync_placed v c.args.r c.args.d map c.requires.ready.in_range c.requires.row c.requires.disk c.requires.rises c.requires.whole))) c.take.ensures.grows;
+}

@@ -25,164 +25,56 @@ pub write_unit-requires-clause-ready : goal.write_unit-requires-clause-ready
 write_unit-requires-clause-ready g c =
     (gathered_leaves g.R.Rack.slot_count g.R.Rack.slot g.R.Rack.told c.args.self.now c.requires.ready c.read_unit.new.store c.in_default.ensures.read c.requires.serves.stays).ready
 
-pub returns-in_err-done-clause-spared : goal.returns-in_err-done-clause-spared
-returns-in_err-done-clause-spared g c =
-    spared_then (g.R.Rack.slot (store_rack c.args.self.now.store)) (g.R.Rack.slot (store_rack c.read_unit.new.store)) (g.R.Rack.slot (store_rack c.write_unit.new.self.store)) (left_spared _ _ _ c.in_default.ensures.read.left) c.write_unit.ensures.spared
-
-pub returns-in_err-done-clause-moments : goal.returns-in_err-done-clause-moments
-returns-in_err-done-clause-moments g c h lo =
-    let old = c.args.self.now in
-    let mid : Core g.row.R.Denot g.R.Rack = record old { store = c.read_unit.new.store } in
-    let q = c.requires in
-    held_runs_then g.R.Rack.slot_count g.R.Rack.slot g.R.Rack.told old mid (gathered_leaves g.R.Rack.slot_count g.R.Rack.slot g.R.Rack.told old q.ready c.read_unit.new.store c.in_default.ensures.read q.serves.stays) c.write_unit.new.self
-    (UnitsRebuilt g.R.Rack.slot_count old h lo c.args.number) (CopyingUnit g.R.Rack.slot_count mid h lo c.args.number c.args.disk c.args.unit c.read_unit.new.into) h lo
-    (unit_gathered g.R.Rack.slot_count g.R.Rack.slot g.R.Rack.told old q.ready (g.met.R.Rack.agrees (store_rack old.store)) q.nothing c.args.number c.args.disk c.args.unit q.fresh q.unit c.read_unit.new.store c.read_unit.new.into c.in_default.ensures.read q.no_draft
-    (g.met.R.Rack.agrees (store_rack c.read_unit.new.store)) (g.met.R.Rack.slots_hold (store_rack c.read_unit.new.store)).absent c.in_default.ensures.value h lo)
-    (c.write_unit.ensures.moments h lo)
-
-pub returns-in_default-clause-leaves : goal.returns-in_default-clause-leaves
-returns-in_default-clause-leaves g c =
-    leaves_then g.R.Rack.slot_count g.R.Rack.slot g.R.Rack.told c.args.self.now (record c.args.self.now { store = c.read_unit.new.store })
-    (gathered_leaves g.R.Rack.slot_count g.R.Rack.slot g.R.Rack.told c.args.self.now c.requires.ready c.read_unit.new.store c.in_default.ensures.read c.requires.serves.stays) c.write_unit.new.self c.in_ok-done.ensures.leaves
-
-pub returns-in_default-clause-spared : goal.returns-in_default-clause-spared
-returns-in_default-clause-spared g c =
-    spared_then (g.R.Rack.slot (store_rack c.args.self.now.store)) (g.R.Rack.slot (store_rack c.read_unit.new.store)) (g.R.Rack.slot (store_rack c.write_unit.new.self.store)) (left_spared _ _ _ c.in_default.ensures.read.left) c.write_unit.ensures.spared
-
-pub returns-in_default-clause-copied : goal.returns-in_default-clause-copied
-returns-in_default-clause-copied g c is h lo =
-    let old = c.args.self.now in
-    let mid : Core g.row.R.Denot g.R.Rack = record old { store = c.read_unit.new.store } in
-    let q = c.requires in
-    runs_then g.R.Rack.slot_count g.R.Rack.slot g.R.Rack.told old mid (gathered_leaves g.R.Rack.slot_count g.R.Rack.slot g.R.Rack.told old q.ready c.read_unit.new.store c.in_default.ensures.read q.serves.stays) c.write_unit.new.self
-    (UnitsRebuilt g.R.Rack.slot_count old h lo c.args.number) (CopyingUnit g.R.Rack.slot_count mid h lo c.args.number c.args.disk c.args.unit c.read_unit.new.into) _ h lo
-    (unit_gathered g.R.Rack.slot_count g.R.Rack.slot g.R.Rack.told old q.ready (g.met.R.Rack.agrees (store_rack old.store)) q.nothing c.args.number c.args.disk c.args.unit q.fresh q.unit c.read_unit.new.store c.read_unit.new.into c.in_default.ensures.read q.no_draft
-    (g.met.R.Rack.agrees (store_rack c.read_unit.new.store)) (g.met.R.Rack.slots_hold (store_rack c.read_unit.new.store)).absent c.in_default.ensures.value h lo)
-    (c.in_ok-done.ensures.copied is h lo)
-
-pub returns-in_default-clause-lost : goal.returns-in_default-clause-lost
-returns-in_default-clause-lost g c is h lo =
-    let old = c.args.self.now in
-    let mid : Core g.row.R.Denot g.R.Rack = record old { store = c.read_unit.new.store } in
-    let q = c.requires in
-    runs_then g.R.Rack.slot_count g.R.Rack.slot g.R.Rack.told old mid (gathered_leaves g.R.Rack.slot_count g.R.Rack.slot g.R.Rack.told old q.ready c.read_unit.new.store c.in_default.ensures.read q.serves.stays) c.write_unit.new.self
-    (UnitsRebuilt g.R.Rack.slot_count old h lo c.args.number) (CopyingUnit g.R.Rack.slot_count mid h lo c.args.number c.args.disk c.args.unit c.read_unit.new.into) (CoreStandsFor g.R.Rack.slot_count c.write_unit.new.self h lo) h lo
-    (unit_gathered g.R.Rack.slot_count g.R.Rack.slot g.R.Rack.told old q.ready (g.met.R.Rack.agrees (store_rack old.store)) q.nothing c.args.number c.args.disk c.args.unit q.fresh q.unit c.read_unit.new.store c.read_unit.new.into c.in_default.ensures.read q.no_draft
-    (g.met.R.Rack.agrees (store_rack c.read_unit.new.store)) (g.met.R.Rack.slots_hold (store_rack c.read_unit.new.store)).absent c.in_default.ensures.value h lo)
-    (c.in_ok-done.ensures.lost is h lo)
-
-pub returns-in_default-clause-moments : goal.returns-in_default-clause-moments
-returns-in_default-clause-moments g c h lo =
-    let old = c.args.self.now in
-    let mid : Core g.row.R.Denot g.R.Rack = record old { store = c.read_unit.new.store } in
-    let q = c.requires in
-    held_runs_then g.R.Rack.slot_count g.R.Rack.slot g.R.Rack.told old mid (gathered_leaves g.R.Rack.slot_count g.R.Rack.slot g.R.Rack.told old q.ready c.read_unit.new.store c.in_default.ensures.read q.serves.stays) c.write_unit.new.self
-    (UnitsRebuilt g.R.Rack.slot_count old h lo c.args.number) (CopyingUnit g.R.Rack.slot_count mid h lo c.args.number c.args.disk c.args.unit c.read_unit.new.into) h lo
-    (unit_gathered g.R.Rack.slot_count g.R.Rack.slot g.R.Rack.told old q.ready (g.met.R.Rack.agrees (store_rack old.store)) q.nothing c.args.number c.args.disk c.args.unit q.fresh q.unit c.read_unit.new.store c.read_unit.new.into c.in_default.ensures.read q.no_draft
-    (g.met.R.Rack.agrees (store_rack c.read_unit.new.store)) (g.met.R.Rack.slots_hold (store_rack c.read_unit.new.store)).absent c.in_default.ensures.value h lo)
-    (c.write_unit.ensures.moments h lo)
-
-pub returns-clause-moments : goal.returns-clause-moments
-returns-clause-moments g c h lo = unit_reads_held g.R.Rack.slot_count g.R.Rack.slot g.R.Rack.told c.args.self.now c.requires.ready _ c.in-Err.ensures.read.calls c.args.number h lo
-
-pub returns-in_err-done-clause-calls : goal.returns-in_err-done-clause-calls
-returns-in_err-done-clause-calls g c =
-    calls_then _ _ (g.R.Rack.told (store_rack c.read_unit.new.store)) _ (calls_whole _ _ _ (sym c.requires.ready.array_is) (ap gone_out c.requires.fresh) _ _ c.in_default.ensures.read.calls) c.write_unit.ensures.calls
-
-pub returns-in_default-clause-calls : goal.returns-in_default-clause-calls
-returns-in_default-clause-calls g c =
-    calls_then _ _ (g.R.Rack.told (store_rack c.read_unit.new.store)) _ (calls_whole _ _ _ (sym c.requires.ready.array_is) (ap gone_out c.requires.fresh) _ _ c.in_default.ensures.read.calls) c.write_unit.ensures.calls
-
-pub returns-clause-calls : goal.returns-clause-calls
-returns-clause-calls g c = calls_whole _ _ _ (sym c.requires.ready.array_is) (ap gone_out c.requires.fresh) _ _ c.in-Err.ensures.read.calls
-
-pub returns-in_default-clause-marks : goal.returns-in_default-clause-marks
-returns-in_default-clause-marks g c =
-    let m = c.args.self.now.meta in
-    let left = c.in_default.ensures.read.left in
-    marks_then _ (g.R.Rack.slot (store_rack c.read_unit.new.store)) _ m m _ (marks_read m m None _ _ m.epoch m.writes left refl (λ d is. let z : None ≡ Some d = is in cc) (λ d x is. let z : None ≡ Some d = is in cc)) c.in_ok-done.ensures.marks (left_spared _ _ _ left) c.write_unit.ensures.spared
-
-pub returns-in_default-clause-gone : goal.returns-in_default-clause-gone
-returns-in_default-clause-gone g c is = c.in_ok-done.ensures.gone is
-
-pub returns-in_default-clause-failed : goal.returns-in_default-clause-failed
-returns-in_default-clause-failed g c is =
-    let now = c.in_ok-done.ensures.failed is in
-    record {
-      risen = subst (λ (z : Slot). HasRisen z.faults (g.R.Rack.slot (store_rack c.write_unit.new.self.store) c.args.disk).faults) (c.in_default.ensures.read.left.others c.args.disk (λ k. cc)) now.risen;
-      absent = now.absent;
-    }
-
-pub returns-in_err-done-clause-tells : goal.returns-in_err-done-clause-tells
-returns-in_err-done-clause-tells g c =
-    handed (λ two. Ran (g.R.Rack.told (store_rack c.args.self.now.store)) (g.R.Rack.told (store_rack c.write_unit.new.self.store)) (λ s cs. TellsLosses (named_out c.args.self.now.meta.out) two cs)) c.from_residual.result _ c.from_residual.ensures.1
-    (tells_unhurt (named_out c.args.self.now.meta.out) _ _ (g.R.Rack.told (store_rack c.read_unit.new.store)) _ c.in_default.ensures.read.first c.in_err-done.ensures.tells)
-
-pub returns-clause-tells : goal.returns-clause-tells
-returns-clause-tells g c = ran_beside (named_out c.args.self.now.meta.out) _ _ _ (ap named_out c.requires.fresh) (λ is. c.in-Err.ensures.failed (sym is)) c.in-Err.ensures.read.first
-
-pub returns-in_err-done-clause-leaves : goal.returns-in_err-done-clause-leaves
-returns-in_err-done-clause-leaves g c = none_done _ c.from_residual.result _ c.from_residual.ensures.1
-
-pub returns-in_err-done-clause-marks : goal.returns-in_err-done-clause-marks
-returns-in_err-done-clause-marks g c = none_done _ c.from_residual.result _ c.from_residual.ensures.1
-
-pub returns-in_err-done-clause-same : goal.returns-in_err-done-clause-same
-returns-in_err-done-clause-same g c is = none_done_as _ c.from_residual.result _ _ c.from_residual.ensures.1 is
-
-pub returns-in_err-done-clause-spins : goal.returns-in_err-done-clause-spins
-returns-in_err-done-clause-spins g c is = none_done_as _ c.from_residual.result _ _ c.from_residual.ensures.1 is
-
-pub returns-in_err-done-clause-copied : goal.returns-in_err-done-clause-copied
-returns-in_err-done-clause-copied g c is = none_done_as _ c.from_residual.result _ _ c.from_residual.ensures.1 is
-
-pub returns-in_err-done-clause-gone : goal.returns-in_err-done-clause-gone
-returns-in_err-done-clause-gone g c is = none_done_as _ c.from_residual.result _ _ c.from_residual.ensures.1 is
-
-pub returns-in_err-done-clause-failed : goal.returns-in_err-done-clause-failed
-returns-in_err-done-clause-failed g c is = none_done_as _ c.from_residual.result _ _ c.from_residual.ensures.1 is
-
-pub returns-in_err-done-clause-lost : goal.returns-in_err-done-clause-lost
-returns-in_err-done-clause-lost g c is = none_done_as _ c.from_residual.result _ _ c.from_residual.ensures.1 is
-
-pub returns-in_default-clause-same : goal.returns-in_default-clause-same
-returns-in_default-clause-same g c is = c.in_ok-done.ensures.same is
-
-pub returns-in_default-clause-spins : goal.returns-in_default-clause-spins
-returns-in_default-clause-spins g c is = c.in_ok-done.ensures.spins is
-
-pub returns-in_default-clause-two : goal.returns-in_default-clause-two
-returns-in_default-clause-two g c = tt
-
-pub returns-in_default-clause-tells : goal.returns-in_default-clause-tells
-returns-in_default-clause-tells g c = tt
-
-pub returns-clause-leaves : goal.returns-clause-leaves
-returns-clause-leaves g c = tt
-
-pub returns-clause-marks : goal.returns-clause-marks
-returns-clause-marks g c = tt
-
-pub returns-clause-same : goal.returns-clause-same
-returns-clause-same g c is = err_not_ok _ _ _ is
-
-pub returns-clause-spins : goal.returns-clause-spins
-returns-clause-spins g c is = err_not_ok _ _ _ is
-
-pub returns-clause-copied : goal.returns-clause-copied
-returns-clause-copied g c is = err_not_ok _ _ _ is
-
-pub returns-clause-gone : goal.returns-clause-gone
-returns-clause-gone g c is = err_not_ok _ _ _ is
-
-pub returns-clause-failed : goal.returns-clause-failed
-returns-clause-failed g c is = err_not_ok _ _ _ is
-
-pub returns-clause-lost : goal.returns-clause-lost
-returns-clause-lost g c is = err_not_ok _ _ _ is
-
-pub returns-clause-spared : goal.returns-clause-spared
-returns-clause-spared g c = left_spared _ _ _ c.in-Err.ensures.read.left
+pub returns-in_default : goal.returns-in_default
+returns-in_default g c = record {
+  leaves =
+      leaves_then g.R.Rack.slot_count g.R.Rack.slot g.R.Rack.told c.args.self.now (record c.args.self.now { store = c.read_unit.new.store })
+      (gathered_leaves g.R.Rack.slot_count g.R.Rack.slot g.R.Rack.told c.args.self.now c.requires.ready c.read_unit.new.store c.in_default.ensures.read c.requires.serves.stays) c.write_unit.new.self c.in_ok-done.ensures.leaves;
+  same = λ is. c.in_ok-done.ensures.same is;
+  spins = λ is. c.in_ok-done.ensures.spins is;
+  spared = spared_then (g.R.Rack.slot (store_rack c.args.self.now.store)) (g.R.Rack.slot (store_rack c.read_unit.new.store)) (g.R.Rack.slot (store_rack c.write_unit.new.self.store)) (left_spared _ _ _ c.in_default.ensures.read.left) c.write_unit.ensures.spared;
+  two = tt;
+  tells = tt;
+  calls = calls_then _ _ (g.R.Rack.told (store_rack c.read_unit.new.store)) _ (calls_whole _ _ _ (sym c.requires.ready.array_is) (ap gone_out c.requires.fresh) _ _ c.in_default.ensures.read.calls) c.write_unit.ensures.calls;
+  marks =
+      let m = c.args.self.now.meta in
+      let left = c.in_default.ensures.read.left in
+      marks_then _ (g.R.Rack.slot (store_rack c.read_unit.new.store)) _ m m _ (marks_read m m None _ _ m.epoch m.writes left refl (λ d is. let z : None ≡ Some d = is in cc) (λ d x is. let z : None ≡ Some d = is in cc)) c.in_ok-done.ensures.marks (left_spared _ _ _ left) c.write_unit.ensures.spared;
+  copied = λ is h lo.
+      let old = c.args.self.now in
+      let mid : Core g.row.R.Denot g.R.Rack = record old { store = c.read_unit.new.store } in
+      let q = c.requires in
+      runs_then g.R.Rack.slot_count g.R.Rack.slot g.R.Rack.told old mid (gathered_leaves g.R.Rack.slot_count g.R.Rack.slot g.R.Rack.told old q.ready c.read_unit.new.store c.in_default.ensures.read q.serves.stays) c.write_unit.new.self
+      (UnitsRebuilt g.R.Rack.slot_count old h lo c.args.number) (CopyingUnit g.R.Rack.slot_count mid h lo c.args.number c.args.disk c.args.unit c.read_unit.new.into) _ h lo
+      (unit_gathered g.R.Rack.slot_count g.R.Rack.slot g.R.Rack.told old q.ready (g.met.R.Rack.agrees (store_rack old.store)) q.nothing c.args.number c.args.disk c.args.unit q.fresh q.unit c.read_unit.new.store c.read_unit.new.into c.in_default.ensures.read q.no_draft
+      (g.met.R.Rack.agrees (store_rack c.read_unit.new.store)) (g.met.R.Rack.slots_hold (store_rack c.read_unit.new.store)).absent c.in_default.ensures.value h lo)
+      (c.in_ok-done.ensures.copied is h lo);
+  gone = λ is. c.in_ok-done.ensures.gone is;
+  failed = λ is.
+      let now = c.in_ok-done.ensures.failed is in
+      record {
+        risen = subst (λ (z : Slot). HasRisen z.faults (g.R.Rack.slot (store_rack c.write_unit.new.self.store) c.args.disk).faults) (c.in_default.ensures.read.left.others c.args.disk (λ k. cc)) now.risen;
+        absent = now.absent;
+      };
+  lost = λ is h lo.
+      let old = c.args.self.now in
+      let mid : Core g.row.R.Denot g.R.Rack = record old { store = c.read_unit.new.store } in
+      let q = c.requires in
+      runs_then g.R.Rack.slot_count g.R.Rack.slot g.R.Rack.told old mid (gathered_leaves g.R.Rack.slot_count g.R.Rack.slot g.R.Rack.told old q.ready c.read_unit.new.store c.in_default.ensures.read q.serves.stays) c.write_unit.new.self
+      (UnitsRebuilt g.R.Rack.slot_count old h lo c.args.number) (CopyingUnit g.R.Rack.slot_count mid h lo c.args.number c.args.disk c.args.unit c.read_unit.new.into) (CoreStandsFor g.R.Rack.slot_count c.write_unit.new.self h lo) h lo
+      (unit_gathered g.R.Rack.slot_count g.R.Rack.slot g.R.Rack.told old q.ready (g.met.R.Rack.agrees (store_rack old.store)) q.nothing c.args.number c.args.disk c.args.unit q.fresh q.unit c.read_unit.new.store c.read_unit.new.into c.in_default.ensures.read q.no_draft
+      (g.met.R.Rack.agrees (store_rack c.read_unit.new.store)) (g.met.R.Rack.slots_hold (store_rack c.read_unit.new.store)).absent c.in_default.ensures.value h lo)
+      (c.in_ok-done.ensures.lost is h lo);
+  moments = λ h lo.
+      let old = c.args.self.now in
+      let mid : Core g.row.R.Denot g.R.Rack = record old { store = c.read_unit.new.store } in
+      let q = c.requires in
+      held_runs_then g.R.Rack.slot_count g.R.Rack.slot g.R.Rack.told old mid (gathered_leaves g.R.Rack.slot_count g.R.Rack.slot g.R.Rack.told old q.ready c.read_unit.new.store c.in_default.ensures.read q.serves.stays) c.write_unit.new.self
+      (UnitsRebuilt g.R.Rack.slot_count old h lo c.args.number) (CopyingUnit g.R.Rack.slot_count mid h lo c.args.number c.args.disk c.args.unit c.read_unit.new.into) h lo
+      (unit_gathered g.R.Rack.slot_count g.R.Rack.slot g.R.Rack.told old q.ready (g.met.R.Rack.agrees (store_rack old.store)) q.nothing c.args.number c.args.disk c.args.unit q.fresh q.unit c.read_unit.new.store c.read_unit.new.into c.in_default.ensures.read q.no_draft
+      (g.met.R.Rack.agrees (store_rack c.read_unit.new.store)) (g.met.R.Rack.slots_hold (store_rack c.read_unit.new.store)).absent c.in_default.ensures.value h lo)
+      (c.write_unit.ensures.moments h lo);
+}
 
 pub write_unit-requires-clause-fresh : goal.write_unit-requires-clause-fresh
 write_unit-requires-clause-fresh g c = c.requires.fresh
@@ -196,18 +88,56 @@ write_unit-requires-clause-from g c = c.requires.from
 pub write_unit-requires-clause-nothing : goal.write_unit-requires-clause-nothing
 write_unit-requires-clause-nothing g c = c.requires.nothing
 
-pub returns-in_err-done-clause-two : goal.returns-in_err-done-clause-two
-returns-in_err-done-clause-two g c =
-    handed _ c.from_residual.result _ c.from_residual.ensures.1
-    (two_then g.R.Rack.slot_count g.R.Rack.slot g.R.Rack.told c.args.self.now (record c.args.self.now { store = c.read_unit.new.store })
-    (gathered_leaves g.R.Rack.slot_count g.R.Rack.slot g.R.Rack.told c.args.self.now c.requires.ready c.read_unit.new.store c.in_default.ensures.read c.requires.serves.stays) c.write_unit.new.self c.write_unit.ensures.spared _ c.in_err-done.ensures.two)
+pub returns-in_err-done : goal.returns-in_err-done
+returns-in_err-done g c = record {
+  leaves = none_done _ c.from_residual.result _ c.from_residual.ensures.1;
+  same = λ is. none_done_as _ c.from_residual.result _ _ c.from_residual.ensures.1 is;
+  spins = λ is. none_done_as _ c.from_residual.result _ _ c.from_residual.ensures.1 is;
+  spared = spared_then (g.R.Rack.slot (store_rack c.args.self.now.store)) (g.R.Rack.slot (store_rack c.read_unit.new.store)) (g.R.Rack.slot (store_rack c.write_unit.new.self.store)) (left_spared _ _ _ c.in_default.ensures.read.left) c.write_unit.ensures.spared;
+  two =
+      handed _ c.from_residual.result _ c.from_residual.ensures.1
+      (two_then g.R.Rack.slot_count g.R.Rack.slot g.R.Rack.told c.args.self.now (record c.args.self.now { store = c.read_unit.new.store })
+      (gathered_leaves g.R.Rack.slot_count g.R.Rack.slot g.R.Rack.told c.args.self.now c.requires.ready c.read_unit.new.store c.in_default.ensures.read c.requires.serves.stays) c.write_unit.new.self c.write_unit.ensures.spared _ c.in_err-done.ensures.two);
+  tells =
+      handed (λ two. Ran (g.R.Rack.told (store_rack c.args.self.now.store)) (g.R.Rack.told (store_rack c.write_unit.new.self.store)) (λ s cs. TellsLosses (named_out c.args.self.now.meta.out) two cs)) c.from_residual.result _ c.from_residual.ensures.1
+      (tells_unhurt (named_out c.args.self.now.meta.out) _ _ (g.R.Rack.told (store_rack c.read_unit.new.store)) _ c.in_default.ensures.read.first c.in_err-done.ensures.tells);
+  calls = calls_then _ _ (g.R.Rack.told (store_rack c.read_unit.new.store)) _ (calls_whole _ _ _ (sym c.requires.ready.array_is) (ap gone_out c.requires.fresh) _ _ c.in_default.ensures.read.calls) c.write_unit.ensures.calls;
+  marks = none_done _ c.from_residual.result _ c.from_residual.ensures.1;
+  copied = λ is. none_done_as _ c.from_residual.result _ _ c.from_residual.ensures.1 is;
+  gone = λ is. none_done_as _ c.from_residual.result _ _ c.from_residual.ensures.1 is;
+  failed = λ is. none_done_as _ c.from_residual.result _ _ c.from_residual.ensures.1 is;
+  lost = λ is. none_done_as _ c.from_residual.result _ _ c.from_residual.ensures.1 is;
+  moments = λ h lo.
+      let old = c.args.self.now in
+      let mid : Core g.row.R.Denot g.R.Rack = record old { store = c.read_unit.new.store } in
+      let q = c.requires in
+      held_runs_then g.R.Rack.slot_count g.R.Rack.slot g.R.Rack.told old mid (gathered_leaves g.R.Rack.slot_count g.R.Rack.slot g.R.Rack.told old q.ready c.read_unit.new.store c.in_default.ensures.read q.serves.stays) c.write_unit.new.self
+      (UnitsRebuilt g.R.Rack.slot_count old h lo c.args.number) (CopyingUnit g.R.Rack.slot_count mid h lo c.args.number c.args.disk c.args.unit c.read_unit.new.into) h lo
+      (unit_gathered g.R.Rack.slot_count g.R.Rack.slot g.R.Rack.told old q.ready (g.met.R.Rack.agrees (store_rack old.store)) q.nothing c.args.number c.args.disk c.args.unit q.fresh q.unit c.read_unit.new.store c.read_unit.new.into c.in_default.ensures.read q.no_draft
+      (g.met.R.Rack.agrees (store_rack c.read_unit.new.store)) (g.met.R.Rack.slots_hold (store_rack c.read_unit.new.store)).absent c.in_default.ensures.value h lo)
+      (c.write_unit.ensures.moments h lo);
+}
 
--- the disk that is rebuilt was out, and another one has failed
-pub returns-clause-two : goal.returns-clause-two
-returns-clause-two g c =
-    let old = c.args.self.now in
-    record {
-      first = inl (down_named (named_of old.store) old.meta c.requires.ready.one c.args.disk (ap named_out c.requires.fresh));
-      apart = λ is. c.in-Err.ensures.failed (sym is);
-      second = (c.in-Err.ensures.read.left.failed _ refl).risen;
-    }
+pub returns : goal.returns
+returns g c = record {
+  leaves = tt;
+  same = λ is. err_not_ok _ _ _ is;
+  spins = λ is. err_not_ok _ _ _ is;
+  spared = left_spared _ _ _ c.in-Err.ensures.read.left;
+  -- the disk that is rebuilt was out, and another one has failed
+  two =
+      let old = c.args.self.now in
+      record {
+        first = inl (down_named (named_of old.store) old.meta c.requires.ready.one c.args.disk (ap named_out c.requires.fresh));
+        apart = λ is. c.in-Err.ensures.failed (sym is);
+        second = (c.in-Err.ensures.read.left.failed _ refl).risen;
+      };
+  tells = ran_beside (named_out c.args.self.now.meta.out) _ _ _ (ap named_out c.requires.fresh) (λ is. c.in-Err.ensures.failed (sym is)) c.in-Err.ensures.read.first;
+  calls = calls_whole _ _ _ (sym c.requires.ready.array_is) (ap gone_out c.requires.fresh) _ _ c.in-Err.ensures.read.calls;
+  marks = tt;
+  copied = λ is. err_not_ok _ _ _ is;
+  gone = λ is. err_not_ok _ _ _ is;
+  failed = λ is. err_not_ok _ _ _ is;
+  lost = λ is. err_not_ok _ _ _ is;
+  moments = λ h lo. unit_reads_held g.R.Rack.slot_count g.R.Rack.slot g.R.Rack.told c.args.self.now c.requires.ready _ c.in-Err.ensures.read.calls c.args.number h lo;
+}

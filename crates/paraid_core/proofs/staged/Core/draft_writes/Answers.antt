@@ -1,4 +1,4 @@
-use Rattle.std.proofs.Common.{◌≡◌, ◌+◌, ◌≤◌, length, None, subst, OnOk, IsSome}
+use Rattle.std.proofs.Common.{◌≡◌, ◌+◌, ◌≤◌, length, None, subst, OnOk, IsSome, rules}
 use Rattle.paraid_base.specs.Pairs.{pairs_of}
 use Rattle.paraid_plan.specs.RowWrites.{StageAll}
 use Rattle.paraid_core.specs.Cores.{core_rack}
@@ -11,19 +11,17 @@ module _ (g : Over) (c : After-write_blocks g) where
   begun : record (record (record c.args.self.now { draft = c.clear.new.self }) { changes = c.clear-2.new.self }) { failed = None } ≡ without_draft c.args.self.now
   begun = λ i. record c.args.self.now { draft = c.clear.ensures i; changes = c.clear-2.ensures i; failed = None }
 
-pub returns-clause-leads : goal.returns-clause-leads
-returns-clause-leads g c =
-    subst (λ (z : _). LeadsTo g.R.Rack.slot_count g.R.Rack.slot g.R.Rack.told z c.write_blocks.new.plan) (begun g c) c.write_blocks.ensures.leads
-
-pub returns-clause-writes : goal.returns-clause-writes
-returns-clause-writes g c =
-    subst (λ (z : _). OnOk c.write_blocks.result (IsSome (g.R.Rack.told (core_rack c.write_blocks.new.plan)) → StageAll c.args.self.now.meta (desk_of g.R.Rack.told z) (desk_of g.R.Rack.told c.write_blocks.new.plan) (pairs_of c.args.pairs.now)))
-    (begun g c) c.write_blocks.ensures.writes
-
-pub returns-clause-bits : goal.returns-clause-bits
-returns-clause-bits g c = c.write_blocks.ensures.bits
-
-pub returns-clause-some : goal.returns-clause-some
-returns-clause-some g c =
-    subst (λ (z : _). OnOk c.write_blocks.result (IsSome (g.R.Rack.told (core_rack c.write_blocks.new.plan)) → length (desk_of g.R.Rack.told z).staged + 1 ≤ length c.write_blocks.new.plan.draft))
-    (begun g c) c.write_blocks.ensures.grows
+pub returns : goal.returns
+returns g c = record {
+  leads = subst (λ (z : _). LeadsTo g.R.Rack.slot_count g.R.Rack.slot g.R.Rack.told z c.write_blocks.new.plan) (begun g c) c.write_blocks.ensures.leads;
+  whole = search rules;
+  few = search rules;
+  fails = search rules;
+  writes =
+      subst (λ (z : _). OnOk c.write_blocks.result (IsSome (g.R.Rack.told (core_rack c.write_blocks.new.plan)) → StageAll c.args.self.now.meta (desk_of g.R.Rack.told z) (desk_of g.R.Rack.told c.write_blocks.new.plan) (pairs_of c.args.pairs.now)))
+      (begun g c) c.write_blocks.ensures.writes;
+  some =
+      subst (λ (z : _). OnOk c.write_blocks.result (IsSome (g.R.Rack.told (core_rack c.write_blocks.new.plan)) → length (desk_of g.R.Rack.told z).staged + 1 ≤ length c.write_blocks.new.plan.draft))
+      (begun g c) c.write_blocks.ensures.grows;
+  bits = c.write_blocks.ensures.bits;
+}

@@ -1,5 +1,5 @@
 use Rattle.std.specs.Prelude.{ℕ, ◌/◌}
-use Rattle.std.proofs.Common.{◌≡◌, ◌∙◌, sym, ap, subst, arith}
+use Rattle.std.proofs.Common.{◌≡◌, ◌∙◌, sym, ap, subst, arith, rules}
 use Rattle.paraid_image.specs.Content.{view_by}
 use Rattle.paraid_image.specs.Spot.{View}
 use Rattle.paraid_image.specs.Standing.{contents}
@@ -19,25 +19,32 @@ use Rattle.paraid_core.proofs.CopyCellLemmas.{disk_in}
 use Rattle.paraid_core.proofs.MarkCellLemmas.{cells_marked, map_drafted}
 use Rattle.paraid_core.proofs.staged.Core.mark_cleaned.Goals as goal
 
-pub returns-clause-ready : goal.returns-clause-ready
-returns-clause-ready g c =
-    let old = c.args.self.now in
-    subst (λ (z : ℕ). AreSlotsReady (g.R.Rack.slot_count (store_rack old.store)) (g.R.Rack.slot (store_rack old.store)) (epoch_of old.store) (disks_of old.store) (named_of old.store) old.meta z c.take.new.batch) (sym c.clear.ensures.rows)
-    (taken_ready _ _ _ _ _ old.meta _ old.batch c.requires.ready c.requires.serves c.take.new.batch _ c.take.ensures)
-
-pub returns-clause-marked : goal.returns-clause-marked
-returns-clause-marked g c h lo cells here =
-    let old = c.args.self.now in
-    let q = c.requires in
-    let m = old.meta in
-    let slots : ℕ = g.R.Rack.slot_count (store_rack old.store) in
-    let map = c.map_block.new.into in
-    let draft_is : c.push-2.new.self ≡ map_targets m (c.args.r / 512) map = map_drafted m c.clear-2.new.self c.push.new.self c.push-2.new.self c.args.r map q.whole c.clear-2.ensures c.push.ensures c.push-2.ensures in
-    stays (IsCoreHeldSinceCommit g.R.Rack.slot_count old h lo) (CellsCopied g.R.Rack.slot_count old h lo cells) (KeepsCellCopies slots (named_of old.store) m c.clear.new.self c.take.new.batch old.copied h lo cells) (g.R.Rack.told (store_rack old.store))
-    (λ s k. keeps_held slots (named_of old.store) m c.clear.new.self c.take.new.batch old.copied h lo s k.keeps)
-    (λ t tells k.
-    let v : View = view_by m (now t).power (contents (now t) old.batch) in
-    cells_marked slots (named_of old.store) m old.dirty c.clear.new.self old.batch c.take.new.batch c.push-2.new.self old.copied h lo cells (now t) q.ready.in_range q.whole
-    (λ d l gone. q.ready.absent d l (ap is_present (sym ((g.met.R.Rack.agrees (store_rack old.store) t tells).power d)) ∙ gone)) k c.args.r c.args.d q.row (disk_in m c.args.d q.ready.in_range q.rises) q.rises q.dirty here map
-    c.clear.ensures.cells c.map_block.ensures draft_is
-    (c.take.ensures.laid_same (subst (ArePlaced m) (sym {b = map_targets m (c.args.r / 512) map} draft_is) (map_placed v q.ready.in_range (c.args.r / 512) map (omega arith)))) c.take.ensures.grows)
+pub returns : goal.returns
+returns g c = record {
+  store = search rules;
+  meta = search rules;
+  copied = search rules;
+  draft = search rules;
+  staged = search rules;
+  table = search rules;
+  ready =
+      let old = c.args.self.now in
+      subst (λ (z : ℕ). AreSlotsReady (g.R.Rack.slot_count (store_rack old.store)) (g.R.Rack.slot (store_rack old.store)) (epoch_of old.store) (disks_of old.store) (named_of old.store) old.meta z c.take.new.batch) (sym c.clear.ensures.rows)
+      (taken_ready _ _ _ _ _ old.meta _ old.batch c.requires.ready c.requires.serves c.take.new.batch _ c.take.ensures);
+  serves = search rules;
+  marked = λ h lo cells here.
+      let old = c.args.self.now in
+      let q = c.requires in
+      let m = old.meta in
+      let slots : ℕ = g.R.Rack.slot_count (store_rack old.store) in
+      let map = c.map_block.new.into in
+      let draft_is : c.push-2.new.self ≡ map_targets m (c.args.r / 512) map = map_drafted m c.clear-2.new.self c.push.new.self c.push-2.new.self c.args.r map q.whole c.clear-2.ensures c.push.ensures c.push-2.ensures in
+      stays (IsCoreHeldSinceCommit g.R.Rack.slot_count old h lo) (CellsCopied g.R.Rack.slot_count old h lo cells) (KeepsCellCopies slots (named_of old.store) m c.clear.new.self c.take.new.batch old.copied h lo cells) (g.R.Rack.told (store_rack old.store))
+      (λ s k. keeps_held slots (named_of old.store) m c.clear.new.self c.take.new.batch old.copied h lo s k.keeps)
+      (λ t tells k.
+      let v : View = view_by m (now t).power (contents (now t) old.batch) in
+      cells_marked slots (named_of old.store) m old.dirty c.clear.new.self old.batch c.take.new.batch c.push-2.new.self old.copied h lo cells (now t) q.ready.in_range q.whole
+      (λ d l gone. q.ready.absent d l (ap is_present (sym ((g.met.R.Rack.agrees (store_rack old.store) t tells).power d)) ∙ gone)) k c.args.r c.args.d q.row (disk_in m c.args.d q.ready.in_range q.rises) q.rises q.dirty here map
+      c.clear.ensures.cells c.map_block.ensures draft_is
+      (c.take.ensures.laid_same (subst (ArePlaced m) (sym {b = map_targets m (c.args.r / 512) map} draft_is) (map_placed v q.ready.in_range (c.args.r / 512) map (omega arith)))) c.take.ensures.grows);
+}

@@ -1,4 +1,4 @@
-use Rattle.std.proofs.Common.{◌≡◌, ℕ, ◌∙◌, ◌<◌, None, Some, sym, ap, subst, refl, false, inl, inr}
+use Rattle.std.proofs.Common.{◌≡◌, ℕ, ◌∙◌, ◌<◌, None, Some, sym, ap, subst, refl, false, inl, inr, rules}
 use Rattle.std.specs.Prelude.{Option, is_ok}
 use Rattle.paraid_image.specs.Out.{named_out}
 use Rattle.paraid_base.specs.Told.{HasRisen}
@@ -30,35 +30,6 @@ use Rattle.paraid_core.proofs.UnsyncedLemmas.{gone_marked}
 use Rattle.paraid_core.proofs.staged.Core.park.Goals as goal
 use Rattle.paraid_core.proofs.ErrLemmas.{done_not_dropped, none_done, none_done_as, two_lost}
 use Rattle.paraid_core.proofs.staged.Core.park.Goals.{In_ok-lose}
-
-pub returns-in_default-clause-done : goal.returns-in_default-clause-done
-returns-in_default-clause-done g c is h lo =
-    let q = c.requires in
-    park_done g.R.Rack.slot_count g.R.Rack.slot g.R.Rack.told c.args.self.now _ c.args.disk _ c.park.ensures.told (g.met.R.Rack.agrees (store_rack c.args.self.now.store)) q.spinning q.disk q.past_logs q.past_gear q.past_rise q.not_out
-    (ap is_ok c.in_default.is) _ _ c.park.ensures.slots c.park.ensures.same.named h lo
-
-pub returns-in_default-clause-moments : goal.returns-in_default-clause-moments
-returns-in_default-clause-moments g c h lo =
-    let q = c.requires in
-    park_held g.R.Rack.slot_count g.R.Rack.slot g.R.Rack.told c.args.self.now _ c.args.disk _ c.park.ensures.told (g.met.R.Rack.agrees (store_rack c.args.self.now.store)) q.spinning q.disk q.past_logs q.past_gear q.past_rise q.not_out h lo
-
-pub returns-in_err-lose-clause-moments : goal.returns-in_err-lose-clause-moments
-returns-in_err-lose-clause-moments g c h lo =
-    let q = c.requires in
-    park_held g.R.Rack.slot_count g.R.Rack.slot g.R.Rack.told c.args.self.now _ c.args.disk _ c.park.ensures.told (g.met.R.Rack.agrees (store_rack c.args.self.now.store)) q.spinning q.disk q.past_logs q.past_gear q.past_rise q.not_out h lo
-
-pub returns-in_default-clause-ready : goal.returns-in_default-clause-ready
-returns-in_default-clause-ready g c =
-    let q = c.requires in
-    ready_moved _ _ _ _ _ _ _ _ _ c.args.self.now.meta _ _ _ c.park.ensures.slots c.park.ensures.same.epoch c.park.ensures.same.disks c.park.ensures.same.named refl
-    (parked_ready _ (g.R.Rack.slot (store_rack c.args.self.now.store)) _ _ _ _ _ _ _ c.args.disk c.park.ensures.slot.others q.past_gear q.past_rise q.not_out
-    (ap (λ (s : Slot). s.power) (c.park.ensures.slot.done (ap is_ok c.in_default.is))) q.nothing q.ready)
-
-pub returns-in_default-clause-serves : goal.returns-in_default-clause-serves
-returns-in_default-clause-serves g c serves =
-    let q = c.requires in
-    subst (λ (z : Option ℕ). CanServe (g.R.Rack.slot (store_rack c.park.new.self)) z c.args.self.now.meta) (sym c.park.ensures.same.named)
-    (parked_serves (g.R.Rack.slot_count (store_rack c.args.self.now.store)) (g.R.Rack.slot (store_rack c.args.self.now.store)) _ 0 0 _ _ 0 c.args.self.now.batch c.args.disk c.park.ensures.slot.others q.past_gear q.past_rise q.not_out serves)
 
 -- it failed, and no other disk is out
 module _ (g : Over) (c : In_ok-lose g) where
@@ -128,16 +99,6 @@ returns-clause-lost_filled g c is =
     (λ h lo s agrees kf. subst (λ (z : Meta). KeepsFilled (g.R.Rack.slot_count (store_rack old.store)) (named_of old.store) z old.dirty old.copied h lo z.fill (step (Park c.args.disk (is_ok c.park.result)) s)) (sym (meta_is g c))
     (filled_failed _ _ old.meta _ _ h lo s (Park c.args.disk (is_ok c.park.result)) ready.in_range c.requires.disk (failed g c) (λ x l gone. ready.absent x l (ap is_present (sym (agrees.power x)) ∙ gone)) (alone g c) c.requires.still kf))
 
-pub returns-in_default-clause-turned : goal.returns-in_default-clause-turned
-returns-in_default-clause-turned g c =
-    let old = c.args.self.now in
-    only_turns (g.R.Rack.slot (store_rack old.store)) _ c.args.disk _ _ _ c.park.ensures.slot (ap is_present c.requires.spinning) refl refl
-
-pub returns-in_err-lose-clause-turned : goal.returns-in_err-lose-clause-turned
-returns-in_err-lose-clause-turned g c =
-    let old = c.args.self.now in
-    only_turns (g.R.Rack.slot (store_rack old.store)) _ c.args.disk _ _ _ c.park.ensures.slot (ap is_present c.requires.spinning) refl refl
-
 pub returns-clause-turned : goal.returns-clause-turned
 returns-clause-turned g c =
     let old = c.args.self.now in
@@ -156,90 +117,49 @@ returns-clause-absent g c was d is =
 pub returns-clause-gone : goal.returns-clause-gone
 returns-clause-gone g c is = ap (λ (z : Meta). z.out) (meta_is g c)
 
-pub returns-in_default-clause-calls : goal.returns-in_default-clause-calls
-returns-in_default-clause-calls g c =
-    one_call _ _ _ (is_ok c.park.result) c.park.ensures.told (λ t tells. may_park (now t) (g.R.Rack.slot (store_rack c.args.self.now.store)) c.args.disk (g.met.R.Rack.agrees (store_rack c.args.self.now.store) t tells) c.requires.spinning c.requires.synced)
-
 pub returns-clause-calls : goal.returns-clause-calls
 returns-clause-calls g c =
-    one_call _ _ _ (is_ok c.park.result) c.park.ensures.told (λ t tells. may_park (now t) (g.R.Rack.slot (store_rack c.args.self.now.store)) c.args.disk (g.met.R.Rack.agrees (store_rack c.args.self.now.store) t tells) c.requires.spinning c.requires.synced)
-
-pub returns-in_err-lose-clause-calls : goal.returns-in_err-lose-clause-calls
-returns-in_err-lose-clause-calls g c =
     one_call _ _ _ (is_ok c.park.result) c.park.ensures.told (λ t tells. may_park (now t) (g.R.Rack.slot (store_rack c.args.self.now.store)) c.args.disk (g.met.R.Rack.agrees (store_rack c.args.self.now.store) t tells) c.requires.spinning c.requires.synced)
 
 pub returns-clause-failed : goal.returns-clause-failed
 returns-clause-failed g c is = record { risen = c.park.ensures.slot.risen (failed g c); absent = c.park.ensures.slot.absent (failed g c) }
 
-pub returns-in_err-lose-clause-tells : goal.returns-in_err-lose-clause-tells
-returns-in_err-lose-clause-tells g c =
-    handed (λ two. Ran (g.R.Rack.told (store_rack c.args.self.now.store)) (g.R.Rack.told (store_rack c.park.new.self)) (λ s cs. TellsLosses (named_out c.args.self.now.meta.out) two cs)) c.from_residual.result _ c.from_residual.ensures.1
-    (call_tells (named_out c.args.self.now.meta.out) _ (Park c.args.disk (is_ok c.park.result)) _ _ c.park.ensures.told (ap is_ok c.in-Err.is) c.in_err-lose.ensures.two)
-
-pub returns-in_default-clause-same : goal.returns-in_default-clause-same
-returns-in_default-clause-same g c is = refl
-
-pub returns-in_default-clause-two : goal.returns-in_default-clause-two
-returns-in_default-clause-two g c = tt
-
-pub returns-in_default-clause-tells : goal.returns-in_default-clause-tells
-returns-in_default-clause-tells g c = tt
-
-pub returns-in_default-clause-gone : goal.returns-in_default-clause-gone
-returns-in_default-clause-gone g c is = done_not_dropped _ _ refl is
-
-pub returns-in_default-clause-failed : goal.returns-in_default-clause-failed
-returns-in_default-clause-failed g c is = done_not_dropped _ _ refl is
-
-pub returns-in_default-clause-lost : goal.returns-in_default-clause-lost
-returns-in_default-clause-lost g c is = done_not_dropped _ _ refl is
-
-pub returns-in_default-clause-lost_filled : goal.returns-in_default-clause-lost_filled
-returns-in_default-clause-lost_filled g c is = done_not_dropped _ _ refl is
-
-pub returns-in_err-lose-clause-meta : goal.returns-in_err-lose-clause-meta
-returns-in_err-lose-clause-meta g c = none_done _ c.from_residual.result _ c.from_residual.ensures.1
-
-pub returns-in_err-lose-clause-ready : goal.returns-in_err-lose-clause-ready
-returns-in_err-lose-clause-ready g c = none_done _ c.from_residual.result _ c.from_residual.ensures.1
-
-pub returns-in_err-lose-clause-serves : goal.returns-in_err-lose-clause-serves
-returns-in_err-lose-clause-serves g c = none_done _ c.from_residual.result _ c.from_residual.ensures.1
-
-pub returns-in_err-lose-clause-unsynced : goal.returns-in_err-lose-clause-unsynced
-returns-in_err-lose-clause-unsynced g c = none_done _ c.from_residual.result _ c.from_residual.ensures.1
-
-pub returns-in_err-lose-clause-risen : goal.returns-in_err-lose-clause-risen
-returns-in_err-lose-clause-risen g c = none_done _ c.from_residual.result _ c.from_residual.ensures.1
-
-pub returns-in_err-lose-clause-absent : goal.returns-in_err-lose-clause-absent
-returns-in_err-lose-clause-absent g c = none_done _ c.from_residual.result _ c.from_residual.ensures.1
-
-pub returns-in_err-lose-clause-same : goal.returns-in_err-lose-clause-same
-returns-in_err-lose-clause-same g c is = none_done_as _ c.from_residual.result _ _ c.from_residual.ensures.1 is
-
-pub returns-in_err-lose-clause-gone : goal.returns-in_err-lose-clause-gone
-returns-in_err-lose-clause-gone g c is = none_done_as _ c.from_residual.result _ _ c.from_residual.ensures.1 is
-
-pub returns-in_err-lose-clause-failed : goal.returns-in_err-lose-clause-failed
-returns-in_err-lose-clause-failed g c is = none_done_as _ c.from_residual.result _ _ c.from_residual.ensures.1 is
-
-pub returns-in_err-lose-clause-done : goal.returns-in_err-lose-clause-done
-returns-in_err-lose-clause-done g c is = none_done_as _ c.from_residual.result _ _ c.from_residual.ensures.1 is
-
-pub returns-in_err-lose-clause-lost : goal.returns-in_err-lose-clause-lost
-returns-in_err-lose-clause-lost g c is = none_done_as _ c.from_residual.result _ _ c.from_residual.ensures.1 is
-
-pub returns-in_err-lose-clause-lost_filled : goal.returns-in_err-lose-clause-lost_filled
-returns-in_err-lose-clause-lost_filled g c is = none_done_as _ c.from_residual.result _ _ c.from_residual.ensures.1 is
-
-pub returns-in_err-lose-clause-parked : goal.returns-in_err-lose-clause-parked
-returns-in_err-lose-clause-parked g c is = none_done_as _ c.from_residual.result _ _ c.from_residual.ensures.1 is
-
-pub returns-in_err-lose-clause-two : goal.returns-in_err-lose-clause-two
-returns-in_err-lose-clause-two g c =
-    let old = c.args.self.now in
-    handed _ c.from_residual.result _ c.from_residual.ensures.1 (two_lost (named_of old.store) (named_out old.meta.out) _ _ c.args.disk _ c.requires.still (c.park.ensures.slot.risen (ap is_ok c.in-Err.is)) c.in_err-lose.ensures.two)
+pub returns-in_err-lose : goal.returns-in_err-lose
+returns-in_err-lose g c = record {
+  slots = search rules;
+  others = search rules;
+  parked = λ is. none_done_as _ c.from_residual.result _ _ c.from_residual.ensures.1 is;
+  meta = none_done _ c.from_residual.result _ c.from_residual.ensures.1;
+  same = λ is. none_done_as _ c.from_residual.result _ _ c.from_residual.ensures.1 is;
+  ready = none_done _ c.from_residual.result _ c.from_residual.ensures.1;
+  serves = none_done _ c.from_residual.result _ c.from_residual.ensures.1;
+  store = search rules;
+  table = search rules;
+  batch = search rules;
+  copied = search rules;
+  draft = search rules;
+  unsynced = none_done _ c.from_residual.result _ c.from_residual.ensures.1;
+  turned =
+      let old = c.args.self.now in
+      only_turns (g.R.Rack.slot (store_rack old.store)) _ c.args.disk _ _ _ c.park.ensures.slot (ap is_present c.requires.spinning) refl refl;
+  risen = none_done _ c.from_residual.result _ c.from_residual.ensures.1;
+  gone = λ is. none_done_as _ c.from_residual.result _ _ c.from_residual.ensures.1 is;
+  failed = λ is. none_done_as _ c.from_residual.result _ _ c.from_residual.ensures.1 is;
+  absent = none_done _ c.from_residual.result _ c.from_residual.ensures.1;
+  two =
+      let old = c.args.self.now in
+      handed _ c.from_residual.result _ c.from_residual.ensures.1 (two_lost (named_of old.store) (named_out old.meta.out) _ _ c.args.disk _ c.requires.still (c.park.ensures.slot.risen (ap is_ok c.in-Err.is)) c.in_err-lose.ensures.two);
+  tells =
+      handed (λ two. Ran (g.R.Rack.told (store_rack c.args.self.now.store)) (g.R.Rack.told (store_rack c.park.new.self)) (λ s cs. TellsLosses (named_out c.args.self.now.meta.out) two cs)) c.from_residual.result _ c.from_residual.ensures.1
+      (call_tells (named_out c.args.self.now.meta.out) _ (Park c.args.disk (is_ok c.park.result)) _ _ c.park.ensures.told (ap is_ok c.in-Err.is) c.in_err-lose.ensures.two);
+  calls = one_call _ _ _ (is_ok c.park.result) c.park.ensures.told (λ t tells. may_park (now t) (g.R.Rack.slot (store_rack c.args.self.now.store)) c.args.disk (g.met.R.Rack.agrees (store_rack c.args.self.now.store) t tells) c.requires.spinning c.requires.synced);
+  done = λ is. none_done_as _ c.from_residual.result _ _ c.from_residual.ensures.1 is;
+  lost = λ is. none_done_as _ c.from_residual.result _ _ c.from_residual.ensures.1 is;
+  lost_filled = λ is. none_done_as _ c.from_residual.result _ _ c.from_residual.ensures.1 is;
+  moments = λ h lo.
+      let q = c.requires in
+      park_held g.R.Rack.slot_count g.R.Rack.slot g.R.Rack.told c.args.self.now _ c.args.disk _ c.park.ensures.told (g.met.R.Rack.agrees (store_rack c.args.self.now.store)) q.spinning q.disk q.past_logs q.past_gear q.past_rise q.not_out h lo;
+}
 
 pub returns-clause-same : goal.returns-clause-same
 returns-clause-same g c is = done_not_dropped _ _ is refl
@@ -256,24 +176,55 @@ returns-clause-two g c = tt
 pub returns-clause-tells : goal.returns-clause-tells
 returns-clause-tells g c = tt
 
-pub returns-in_default-clause-meta : goal.returns-in_default-clause-meta
-returns-in_default-clause-meta g c = record { lost = None; is = refl; alone = λ d x is. let z : None ≡ Some d = is in cc }
-
-pub returns-in_default-clause-risen : goal.returns-in_default-clause-risen
-returns-in_default-clause-risen g c d is = inl is
-
--- this disk was not out
-pub returns-in_default-clause-absent : goal.returns-in_default-clause-absent
-returns-in_default-clause-absent g c was d is = elim (was d is) [
-  | inl named ↦ inl (c.park.ensures.same.named ∙ named)
-  | inr gone ↦ inr (ap (λ (s : Slot). is_present s.power) (c.park.ensures.slot.others d (λ here. c.requires.not_out (is ∙ ap Some here))) ∙ gone)
-]
-
-pub returns-in_default-clause-unsynced : goal.returns-in_default-clause-unsynced
-returns-in_default-clause-unsynced g c was d low stays here wet = elim (cases_eq d c.args.disk) [
-  | inl is ↦ absurd (false≢true (sym (ap (λ (e : ℕ). (g.R.Rack.slot (store_rack c.park.new.self) e).unsynced) is ∙ ap (λ (s : Slot). s.unsynced) (c.park.ensures.slot.done (ap is_ok c.in_default.is)) ∙ c.requires.synced) ∙ wet))
-  | inr apart ↦ was d low stays (ap (λ (s : Slot). is_present s.power) (sym (c.park.ensures.slot.others d apart)) ∙ here) (ap (λ (s : Slot). s.unsynced) (sym (c.park.ensures.slot.others d apart)) ∙ wet)
-]
+pub returns-in_default : goal.returns-in_default
+returns-in_default g c = record {
+  slots = search rules;
+  others = search rules;
+  parked = search rules;
+  meta = record { lost = None; is = refl; alone = λ d x is. let z : None ≡ Some d = is in cc };
+  same = λ is. refl;
+  ready =
+      let q = c.requires in
+      ready_moved _ _ _ _ _ _ _ _ _ c.args.self.now.meta _ _ _ c.park.ensures.slots c.park.ensures.same.epoch c.park.ensures.same.disks c.park.ensures.same.named refl
+      (parked_ready _ (g.R.Rack.slot (store_rack c.args.self.now.store)) _ _ _ _ _ _ _ c.args.disk c.park.ensures.slot.others q.past_gear q.past_rise q.not_out
+      (ap (λ (s : Slot). s.power) (c.park.ensures.slot.done (ap is_ok c.in_default.is))) q.nothing q.ready);
+  serves = λ serves.
+      let q = c.requires in
+      subst (λ (z : Option ℕ). CanServe (g.R.Rack.slot (store_rack c.park.new.self)) z c.args.self.now.meta) (sym c.park.ensures.same.named)
+      (parked_serves (g.R.Rack.slot_count (store_rack c.args.self.now.store)) (g.R.Rack.slot (store_rack c.args.self.now.store)) _ 0 0 _ _ 0 c.args.self.now.batch c.args.disk c.park.ensures.slot.others q.past_gear q.past_rise q.not_out serves);
+  store = search rules;
+  table = search rules;
+  batch = search rules;
+  copied = search rules;
+  draft = search rules;
+  unsynced = λ was d low stays here wet. elim (cases_eq d c.args.disk) [
+    | inl is ↦ absurd (false≢true (sym (ap (λ (e : ℕ). (g.R.Rack.slot (store_rack c.park.new.self) e).unsynced) is ∙ ap (λ (s : Slot). s.unsynced) (c.park.ensures.slot.done (ap is_ok c.in_default.is)) ∙ c.requires.synced) ∙ wet))
+    | inr apart ↦ was d low stays (ap (λ (s : Slot). is_present s.power) (sym (c.park.ensures.slot.others d apart)) ∙ here) (ap (λ (s : Slot). s.unsynced) (sym (c.park.ensures.slot.others d apart)) ∙ wet)
+  ];
+  turned =
+      let old = c.args.self.now in
+      only_turns (g.R.Rack.slot (store_rack old.store)) _ c.args.disk _ _ _ c.park.ensures.slot (ap is_present c.requires.spinning) refl refl;
+  risen = λ d is. inl is;
+  gone = λ is. done_not_dropped _ _ refl is;
+  failed = λ is. done_not_dropped _ _ refl is;
+  -- this disk was not out
+  absent = λ was d is. elim (was d is) [
+    | inl named ↦ inl (c.park.ensures.same.named ∙ named)
+    | inr gone ↦ inr (ap (λ (s : Slot). is_present s.power) (c.park.ensures.slot.others d (λ here. c.requires.not_out (is ∙ ap Some here))) ∙ gone)
+  ];
+  two = tt;
+  tells = tt;
+  calls = one_call _ _ _ (is_ok c.park.result) c.park.ensures.told (λ t tells. may_park (now t) (g.R.Rack.slot (store_rack c.args.self.now.store)) c.args.disk (g.met.R.Rack.agrees (store_rack c.args.self.now.store) t tells) c.requires.spinning c.requires.synced);
+  done = λ is h lo.
+      let q = c.requires in
+      park_done g.R.Rack.slot_count g.R.Rack.slot g.R.Rack.told c.args.self.now _ c.args.disk _ c.park.ensures.told (g.met.R.Rack.agrees (store_rack c.args.self.now.store)) q.spinning q.disk q.past_logs q.past_gear q.past_rise q.not_out
+      (ap is_ok c.in_default.is) _ _ c.park.ensures.slots c.park.ensures.same.named h lo;
+  lost = λ is. done_not_dropped _ _ refl is;
+  lost_filled = λ is. done_not_dropped _ _ refl is;
+  moments = λ h lo.
+      let q = c.requires in
+      park_held g.R.Rack.slot_count g.R.Rack.slot g.R.Rack.told c.args.self.now _ c.args.disk _ c.park.ensures.told (g.met.R.Rack.agrees (store_rack c.args.self.now.store)) q.spinning q.disk q.past_logs q.past_gear q.past_rise q.not_out h lo;
+}
 
 pub returns-clause-unsynced : goal.returns-clause-unsynced
 returns-clause-unsynced g c was d low stays here wet = elim (cases_eq d c.args.disk) [

@@ -37,27 +37,6 @@ use Rattle.paraid_core.proofs.staged.Core.read.Goals as goal
 use Rattle.paraid_core.proofs.ErrLemmas.{none_done}
 use Rattle.paraid_core.proofs.staged.Core.read.Goals.{After-clean_in_room}
 
-pub returns-in_err-read_only-clause-spared : goal.returns-in_err-read_only-clause-spared
-returns-in_err-read_only-clause-spared g c = spared_then _ _ _ c.in_ok-make_room.ensures.spared c.in_err-read_only.ensures.spared
-
-pub returns-in_err-read_only-clause-two : goal.returns-in_err-read_only-clause-two
-returns-in_err-read_only-clause-two g c =
-    let old = c.args.self.now in
-    handed (AreTwoDown (core_down old) (g.R.Rack.slot (core_rack old)) (g.R.Rack.slot (core_rack c.read_only.new.self))) c.from_residual-in_err-read_only.result _ c.from_residual-in_err-read_only.ensures.1
-    (two_after (core_down old) (core_down c.make_room.new.self) _ _ _ _ c.in_ok-make_room.ensures.down c.in_ok-make_room.ensures.spared c.in_err-read_only.ensures.spared c.in_err-read_only.ensures.two)
-
-pub returns-in_err-read_only-clause-moments : goal.returns-in_err-read_only-clause-moments
-returns-in_err-read_only-clause-moments g c h lo =
-    let old = c.args.self.now in
-    let mid = c.make_room.new.self in
-    let first : Bool = commits_first (batch_of old) c.cleaning-room.result in
-    let low : ℕ = if first then length h else lo in
-    ended _ _ (IsCoreHeldSinceCommit g.R.Rack.slot_count mid h low) _ _
-    (after_raised (g.R.Rack.slot_count (core_rack old)) _ old.meta.setup.geometry.disks _ (core_down old) (named_of mid.store) (named_of old.store) old.meta old.dirty old.batch old.copied first h lo _
-    (IsCoreHeldSinceCommit g.R.Rack.slot_count mid h low) _ _ _
-    c.in_ok-make_room.ensures.slots (ap (λ (z : Setup). z.geometry.disks) c.in_ok-make_room.ensures.setup) c.in_ok-make_room.ensures.named
-    (c.in_ok-make_room.ensures.stands h lo) (c.in_err-read_only.ensures.moments_since h low))
-
 module _ (g : Over) (c : After-clean_in_room g) where
   rack_is : core_rack c.clean_in_room.new.self ≡ core_rack c.read_only.new.self
   rack_is = ap (λ (z : Store g.row.R.Denot g.R.Rack). store_rack z) c.clean_in_room.ensures.store
@@ -164,33 +143,11 @@ returns-clause-nothing g c is =
     let last = c.clean_in_room.ensures.nothing (omega arith) in
     (last.0 ∙ c.in_ok-read_only.ensures.batch ∙ first.0, last.1 ∙ c.in_ok-read_only.ensures.table ∙ first.1)
 
-pub returns-in_err-read_only-clause-calls : goal.returns-in_err-read_only-clause-calls
-returns-in_err-read_only-clause-calls g c =
-    calls_then _ _ (g.R.Rack.told (core_rack c.make_room.new.self)) _ c.make_room.ensures.calls
-    (transfer_after c.args.self.now.meta c.make_room.new.self.meta c.in_ok-make_room.ensures.setup c.in_ok-make_room.ensures.gone _ _ c.read_only.ensures.calls)
-
 pub returns-clause-calls : goal.returns-clause-calls
 returns-clause-calls g c =
     subst (λ (z : g.row.R.Denot). Ran (g.R.Rack.told (core_rack c.args.self.now)) (g.R.Rack.told z) (EachCall (IsTransferCall c.args.self.now.meta.setup.geometry.disks (gone_out c.args.self.now.meta.out)))) (sym (rack_is g c))
     (calls_then _ _ (g.R.Rack.told (core_rack c.make_room.new.self)) _ c.make_room.ensures.calls
     (transfer_after c.args.self.now.meta c.make_room.new.self.meta c.in_ok-make_room.ensures.setup c.in_ok-make_room.ensures.gone _ _ c.read_only.ensures.calls))
-
-pub returns-in_err-make_room-clause-kept : goal.returns-in_err-make_room-clause-kept
-returns-in_err-make_room-clause-kept g c is = idle_calls _ _ _ (c.make_room.ensures.idle (first_by c.args.self.now.meta c.args.self.now.dirty c.args.self.now.batch c.args.block c.home-r.result.0 c.home-r.result.1 c.cleaning-room.result c.cleaning-room.ensures.value c.home-r.ensures.row c.home-r.ensures.disk ∙ is))
-
-pub returns-in_err-make_room-clause-whole : goal.returns-in_err-make_room-clause-whole
-returns-in_err-make_room-clause-whole g c is = c.make_room.ensures.whole (first_by c.args.self.now.meta c.args.self.now.dirty c.args.self.now.batch c.args.block c.home-r.result.0 c.home-r.result.1 c.cleaning-room.result c.cleaning-room.ensures.value c.home-r.ensures.row c.home-r.ensures.disk ∙ is)
-
-pub returns-in_err-read_only-clause-kept : goal.returns-in_err-read_only-clause-kept
-returns-in_err-read_only-clause-kept g c is =
-    idle_then _ _ (g.R.Rack.told (core_rack c.make_room.new.self)) _ (c.make_room.ensures.idle (first_by c.args.self.now.meta c.args.self.now.dirty c.args.self.now.batch c.args.block c.home-r.result.0 c.home-r.result.1 c.cleaning-room.result c.cleaning-room.ensures.value c.home-r.ensures.row c.home-r.ensures.disk ∙ is))
-    (data_after c.args.self.now.meta c.make_room.new.self.meta c.in_ok-make_room.ensures.setup c.in_ok-make_room.ensures.gone _ _ c.read_only.ensures.calls)
-
-pub returns-in_err-read_only-clause-whole : goal.returns-in_err-read_only-clause-whole
-returns-in_err-read_only-clause-whole g c is h lo =
-    let old = c.args.self.now in
-    whole_then_reads (CoreStandsFor g.R.Rack.slot_count old h lo) (λ s k. k.base) (record old.meta { epoch = old.meta.epoch + 1 }) old.batch c.make_room.new.self.meta.setup.geometry.disks (λ s k. k.next.setup)
-    (ap (λ (z : Setup). z.geometry.disks) c.in_ok-make_room.ensures.setup) _ _ _ (c.make_room.ensures.whole (first_by c.args.self.now.meta c.args.self.now.dirty c.args.self.now.batch c.args.block c.home-r.result.0 c.home-r.result.1 c.cleaning-room.result c.cleaning-room.ensures.value c.home-r.ensures.row c.home-r.ensures.disk ∙ is) h lo) c.read_only.ensures.reads
 
 pub returns-clause-kept : goal.returns-clause-kept
 returns-clause-kept g c is =
@@ -238,15 +195,6 @@ returns-clause-bits g c =
     cell_of c.clean_in_room.new.self.meta c.read_only.new.self.dirty c.args.self.now.dirty c.clean_in_room.new.self.dirty c.home-r.result.0 _ c.home-r.result.1 _
     (c.in_ok-read_only.ensures.table ∙ c.in_ok-make_room.ensures.table) c.home-r.ensures.row c.home-r.ensures.disk c.clean_in_room.ensures.bits
 
-pub returns-in_err-read_only-clause-tells : goal.returns-in_err-read_only-clause-tells
-returns-in_err-read_only-clause-tells g c =
-    let old = c.args.self.now in
-    let mid = c.make_room.new.self in
-    let marks = c.in_ok-make_room.ensures.marks in
-    handed (λ two. Ran (g.R.Rack.told (store_rack c.args.self.now.store)) (g.R.Rack.told (store_rack c.read_only.new.self.store)) (λ s cs. TellsLosses (named_out c.args.self.now.meta.out) two cs)) c.from_residual-in_err-read_only.result _ c.from_residual-in_err-read_only.ensures.1
-    (core_tells_then g.R.Rack.slot g.R.Rack.told g.met.R.Rack.agrees old mid c.requires.ready.absent marks c.read_only.new.self _
-    (transfer_bears g.R.Rack.slot g.R.Rack.told g.met.R.Rack.agrees old mid c.requires.ready.absent marks c.make_room.ensures.calls) c.in_err-read_only.ensures.tells)
-
 pub returns-clause-unsynced : goal.returns-clause-unsynced
 returns-clause-unsynced g c was =
     let slot = g.R.Rack.slot in
@@ -256,134 +204,90 @@ returns-clause-unsynced g c was =
     unsynced_same slot next c.clean_in_room.new.self c.clean_in_room.ensures.store c.clean_in_room.ensures.meta c.clean_in_room.ensures.copied
     (unsynced_kept slot mid next read.setup (gone_lost _ _ mid.meta next.meta read.marks) c.read_only.ensures.spared c.read_only.ensures.copied c.read_only.ensures.still_synced (c.in_ok-make_room.ensures.unsynced was))
 
-pub returns-in_err-make_room-clause-ready : goal.returns-in_err-make_room-clause-ready
-returns-in_err-make_room-clause-ready g c = none_done _ c.from_residual.result _ c.from_residual.ensures.1
+pub returns-in_err-make_room : goal.returns-in_err-make_room
+returns-in_err-make_room g c = record {
+  draft = c.make_room.ensures.draft ∙ c.requires.no_draft;
+  copied = c.make_room.ensures.copied;
+  slots = c.make_room.ensures.slots;
+  ready = none_done _ c.from_residual.result _ c.from_residual.ensures.1;
+  serves = none_done _ c.from_residual.result _ c.from_residual.ensures.1;
+  setup = none_done _ c.from_residual.result _ c.from_residual.ensures.1;
+  writes = none_done _ c.from_residual.result _ c.from_residual.ensures.1;
+  epoch = none_done _ c.from_residual.result _ c.from_residual.ensures.1;
+  cleaned = none_done _ c.from_residual.result _ c.from_residual.ensures.1;
+  bits = none_done _ c.from_residual.result _ c.from_residual.ensures.1;
+  nothing = none_done _ c.from_residual.result _ c.from_residual.ensures.1;
+  spared = c.make_room.ensures.spared;
+  still_synced = none_done _ c.from_residual.result _ c.from_residual.ensures.1;
+  unsynced = none_done _ c.from_residual.result _ c.from_residual.ensures.1;
+  two = handed _ c.from_residual.result _ c.from_residual.ensures.1 c.in_err-make_room.ensures.two;
+  tells = handed _ c.from_residual.result _ c.from_residual.ensures.1 c.in_err-make_room.ensures.tells;
+  calls = c.make_room.ensures.calls;
+  kept = λ is. idle_calls _ _ _ (c.make_room.ensures.idle (first_by c.args.self.now.meta c.args.self.now.dirty c.args.self.now.batch c.args.block c.home-r.result.0 c.home-r.result.1 c.cleaning-room.result c.cleaning-room.ensures.value c.home-r.ensures.row c.home-r.ensures.disk ∙ is));
+  whole = λ is. c.make_room.ensures.whole (first_by c.args.self.now.meta c.args.self.now.dirty c.args.self.now.batch c.args.block c.home-r.result.0 c.home-r.result.1 c.cleaning-room.result c.cleaning-room.ensures.value c.home-r.ensures.row c.home-r.ensures.disk ∙ is);
+  rest = none_done _ c.from_residual.result _ c.from_residual.ensures.1;
+  names = none_done _ c.from_residual.result _ c.from_residual.ensures.1;
+  marks = none_done _ c.from_residual.result _ c.from_residual.ensures.1;
+  down = none_done _ c.from_residual.result _ c.from_residual.ensures.1;
+  moments = c.make_room.ensures.moments;
+  stands = none_done _ c.from_residual.result _ c.from_residual.ensures.1;
+  value = none_done _ c.from_residual.result _ c.from_residual.ensures.1;
+}
 
-pub returns-in_err-make_room-clause-serves : goal.returns-in_err-make_room-clause-serves
-returns-in_err-make_room-clause-serves g c = none_done _ c.from_residual.result _ c.from_residual.ensures.1
-
-pub returns-in_err-make_room-clause-setup : goal.returns-in_err-make_room-clause-setup
-returns-in_err-make_room-clause-setup g c = none_done _ c.from_residual.result _ c.from_residual.ensures.1
-
-pub returns-in_err-make_room-clause-writes : goal.returns-in_err-make_room-clause-writes
-returns-in_err-make_room-clause-writes g c = none_done _ c.from_residual.result _ c.from_residual.ensures.1
-
-pub returns-in_err-make_room-clause-epoch : goal.returns-in_err-make_room-clause-epoch
-returns-in_err-make_room-clause-epoch g c = none_done _ c.from_residual.result _ c.from_residual.ensures.1
-
-pub returns-in_err-make_room-clause-cleaned : goal.returns-in_err-make_room-clause-cleaned
-returns-in_err-make_room-clause-cleaned g c = none_done _ c.from_residual.result _ c.from_residual.ensures.1
-
-pub returns-in_err-make_room-clause-bits : goal.returns-in_err-make_room-clause-bits
-returns-in_err-make_room-clause-bits g c = none_done _ c.from_residual.result _ c.from_residual.ensures.1
-
-pub returns-in_err-make_room-clause-nothing : goal.returns-in_err-make_room-clause-nothing
-returns-in_err-make_room-clause-nothing g c = none_done _ c.from_residual.result _ c.from_residual.ensures.1
-
-pub returns-in_err-make_room-clause-still_synced : goal.returns-in_err-make_room-clause-still_synced
-returns-in_err-make_room-clause-still_synced g c = none_done _ c.from_residual.result _ c.from_residual.ensures.1
-
-pub returns-in_err-make_room-clause-unsynced : goal.returns-in_err-make_room-clause-unsynced
-returns-in_err-make_room-clause-unsynced g c = none_done _ c.from_residual.result _ c.from_residual.ensures.1
-
-pub returns-in_err-make_room-clause-rest : goal.returns-in_err-make_room-clause-rest
-returns-in_err-make_room-clause-rest g c = none_done _ c.from_residual.result _ c.from_residual.ensures.1
-
-pub returns-in_err-make_room-clause-names : goal.returns-in_err-make_room-clause-names
-returns-in_err-make_room-clause-names g c = none_done _ c.from_residual.result _ c.from_residual.ensures.1
-
-pub returns-in_err-make_room-clause-marks : goal.returns-in_err-make_room-clause-marks
-returns-in_err-make_room-clause-marks g c = none_done _ c.from_residual.result _ c.from_residual.ensures.1
-
-pub returns-in_err-make_room-clause-down : goal.returns-in_err-make_room-clause-down
-returns-in_err-make_room-clause-down g c = none_done _ c.from_residual.result _ c.from_residual.ensures.1
-
-pub returns-in_err-make_room-clause-stands : goal.returns-in_err-make_room-clause-stands
-returns-in_err-make_room-clause-stands g c = none_done _ c.from_residual.result _ c.from_residual.ensures.1
-
-pub returns-in_err-make_room-clause-value : goal.returns-in_err-make_room-clause-value
-returns-in_err-make_room-clause-value g c = none_done _ c.from_residual.result _ c.from_residual.ensures.1
-
-pub returns-in_err-make_room-clause-copied : goal.returns-in_err-make_room-clause-copied
-returns-in_err-make_room-clause-copied g c = c.make_room.ensures.copied
-
-pub returns-in_err-make_room-clause-slots : goal.returns-in_err-make_room-clause-slots
-returns-in_err-make_room-clause-slots g c = c.make_room.ensures.slots
-
-pub returns-in_err-make_room-clause-spared : goal.returns-in_err-make_room-clause-spared
-returns-in_err-make_room-clause-spared g c = c.make_room.ensures.spared
-
-pub returns-in_err-make_room-clause-calls : goal.returns-in_err-make_room-clause-calls
-returns-in_err-make_room-clause-calls g c = c.make_room.ensures.calls
-
-pub returns-in_err-make_room-clause-moments : goal.returns-in_err-make_room-clause-moments
-returns-in_err-make_room-clause-moments g c = c.make_room.ensures.moments
-
-pub returns-in_err-make_room-clause-two : goal.returns-in_err-make_room-clause-two
-returns-in_err-make_room-clause-two g c = handed _ c.from_residual.result _ c.from_residual.ensures.1 c.in_err-make_room.ensures.two
-
-pub returns-in_err-make_room-clause-tells : goal.returns-in_err-make_room-clause-tells
-returns-in_err-make_room-clause-tells g c = handed _ c.from_residual.result _ c.from_residual.ensures.1 c.in_err-make_room.ensures.tells
-
-pub returns-in_err-make_room-clause-draft : goal.returns-in_err-make_room-clause-draft
-returns-in_err-make_room-clause-draft g c = c.make_room.ensures.draft ∙ c.requires.no_draft
-
-pub returns-in_err-read_only-clause-ready : goal.returns-in_err-read_only-clause-ready
-returns-in_err-read_only-clause-ready g c = none_done _ c.from_residual-in_err-read_only.result _ c.from_residual-in_err-read_only.ensures.1
-
-pub returns-in_err-read_only-clause-serves : goal.returns-in_err-read_only-clause-serves
-returns-in_err-read_only-clause-serves g c = none_done _ c.from_residual-in_err-read_only.result _ c.from_residual-in_err-read_only.ensures.1
-
-pub returns-in_err-read_only-clause-setup : goal.returns-in_err-read_only-clause-setup
-returns-in_err-read_only-clause-setup g c = none_done _ c.from_residual-in_err-read_only.result _ c.from_residual-in_err-read_only.ensures.1
-
-pub returns-in_err-read_only-clause-writes : goal.returns-in_err-read_only-clause-writes
-returns-in_err-read_only-clause-writes g c = none_done _ c.from_residual-in_err-read_only.result _ c.from_residual-in_err-read_only.ensures.1
-
-pub returns-in_err-read_only-clause-epoch : goal.returns-in_err-read_only-clause-epoch
-returns-in_err-read_only-clause-epoch g c = none_done _ c.from_residual-in_err-read_only.result _ c.from_residual-in_err-read_only.ensures.1
-
-pub returns-in_err-read_only-clause-cleaned : goal.returns-in_err-read_only-clause-cleaned
-returns-in_err-read_only-clause-cleaned g c = none_done _ c.from_residual-in_err-read_only.result _ c.from_residual-in_err-read_only.ensures.1
-
-pub returns-in_err-read_only-clause-bits : goal.returns-in_err-read_only-clause-bits
-returns-in_err-read_only-clause-bits g c = none_done _ c.from_residual-in_err-read_only.result _ c.from_residual-in_err-read_only.ensures.1
-
-pub returns-in_err-read_only-clause-nothing : goal.returns-in_err-read_only-clause-nothing
-returns-in_err-read_only-clause-nothing g c = none_done _ c.from_residual-in_err-read_only.result _ c.from_residual-in_err-read_only.ensures.1
-
-pub returns-in_err-read_only-clause-still_synced : goal.returns-in_err-read_only-clause-still_synced
-returns-in_err-read_only-clause-still_synced g c = none_done _ c.from_residual-in_err-read_only.result _ c.from_residual-in_err-read_only.ensures.1
-
-pub returns-in_err-read_only-clause-unsynced : goal.returns-in_err-read_only-clause-unsynced
-returns-in_err-read_only-clause-unsynced g c = none_done _ c.from_residual-in_err-read_only.result _ c.from_residual-in_err-read_only.ensures.1
-
-pub returns-in_err-read_only-clause-rest : goal.returns-in_err-read_only-clause-rest
-returns-in_err-read_only-clause-rest g c = none_done _ c.from_residual-in_err-read_only.result _ c.from_residual-in_err-read_only.ensures.1
-
-pub returns-in_err-read_only-clause-names : goal.returns-in_err-read_only-clause-names
-returns-in_err-read_only-clause-names g c = none_done _ c.from_residual-in_err-read_only.result _ c.from_residual-in_err-read_only.ensures.1
-
-pub returns-in_err-read_only-clause-marks : goal.returns-in_err-read_only-clause-marks
-returns-in_err-read_only-clause-marks g c = none_done _ c.from_residual-in_err-read_only.result _ c.from_residual-in_err-read_only.ensures.1
-
-pub returns-in_err-read_only-clause-down : goal.returns-in_err-read_only-clause-down
-returns-in_err-read_only-clause-down g c = none_done _ c.from_residual-in_err-read_only.result _ c.from_residual-in_err-read_only.ensures.1
-
-pub returns-in_err-read_only-clause-stands : goal.returns-in_err-read_only-clause-stands
-returns-in_err-read_only-clause-stands g c = none_done _ c.from_residual-in_err-read_only.result _ c.from_residual-in_err-read_only.ensures.1
-
-pub returns-in_err-read_only-clause-value : goal.returns-in_err-read_only-clause-value
-returns-in_err-read_only-clause-value g c = none_done _ c.from_residual-in_err-read_only.result _ c.from_residual-in_err-read_only.ensures.1
-
-pub returns-in_err-read_only-clause-draft : goal.returns-in_err-read_only-clause-draft
-returns-in_err-read_only-clause-draft g c = c.read_only.ensures.draft ∙ c.make_room.ensures.draft ∙ c.requires.no_draft
-
-pub returns-in_err-read_only-clause-copied : goal.returns-in_err-read_only-clause-copied
-returns-in_err-read_only-clause-copied g c = c.read_only.ensures.copied ∙ c.make_room.ensures.copied
-
-pub returns-in_err-read_only-clause-slots : goal.returns-in_err-read_only-clause-slots
-returns-in_err-read_only-clause-slots g c = c.read_only.ensures.slots ∙ c.make_room.ensures.slots
+pub returns-in_err-read_only : goal.returns-in_err-read_only
+returns-in_err-read_only g c = record {
+  draft = c.read_only.ensures.draft ∙ c.make_room.ensures.draft ∙ c.requires.no_draft;
+  copied = c.read_only.ensures.copied ∙ c.make_room.ensures.copied;
+  slots = c.read_only.ensures.slots ∙ c.make_room.ensures.slots;
+  ready = none_done _ c.from_residual-in_err-read_only.result _ c.from_residual-in_err-read_only.ensures.1;
+  serves = none_done _ c.from_residual-in_err-read_only.result _ c.from_residual-in_err-read_only.ensures.1;
+  setup = none_done _ c.from_residual-in_err-read_only.result _ c.from_residual-in_err-read_only.ensures.1;
+  writes = none_done _ c.from_residual-in_err-read_only.result _ c.from_residual-in_err-read_only.ensures.1;
+  epoch = none_done _ c.from_residual-in_err-read_only.result _ c.from_residual-in_err-read_only.ensures.1;
+  cleaned = none_done _ c.from_residual-in_err-read_only.result _ c.from_residual-in_err-read_only.ensures.1;
+  bits = none_done _ c.from_residual-in_err-read_only.result _ c.from_residual-in_err-read_only.ensures.1;
+  nothing = none_done _ c.from_residual-in_err-read_only.result _ c.from_residual-in_err-read_only.ensures.1;
+  spared = spared_then _ _ _ c.in_ok-make_room.ensures.spared c.in_err-read_only.ensures.spared;
+  still_synced = none_done _ c.from_residual-in_err-read_only.result _ c.from_residual-in_err-read_only.ensures.1;
+  unsynced = none_done _ c.from_residual-in_err-read_only.result _ c.from_residual-in_err-read_only.ensures.1;
+  two =
+      let old = c.args.self.now in
+      handed (AreTwoDown (core_down old) (g.R.Rack.slot (core_rack old)) (g.R.Rack.slot (core_rack c.read_only.new.self))) c.from_residual-in_err-read_only.result _ c.from_residual-in_err-read_only.ensures.1
+      (two_after (core_down old) (core_down c.make_room.new.self) _ _ _ _ c.in_ok-make_room.ensures.down c.in_ok-make_room.ensures.spared c.in_err-read_only.ensures.spared c.in_err-read_only.ensures.two);
+  tells =
+      let old = c.args.self.now in
+      let mid = c.make_room.new.self in
+      let marks = c.in_ok-make_room.ensures.marks in
+      handed (λ two. Ran (g.R.Rack.told (store_rack c.args.self.now.store)) (g.R.Rack.told (store_rack c.read_only.new.self.store)) (λ s cs. TellsLosses (named_out c.args.self.now.meta.out) two cs)) c.from_residual-in_err-read_only.result _ c.from_residual-in_err-read_only.ensures.1
+      (core_tells_then g.R.Rack.slot g.R.Rack.told g.met.R.Rack.agrees old mid c.requires.ready.absent marks c.read_only.new.self _
+      (transfer_bears g.R.Rack.slot g.R.Rack.told g.met.R.Rack.agrees old mid c.requires.ready.absent marks c.make_room.ensures.calls) c.in_err-read_only.ensures.tells);
+  calls =
+      calls_then _ _ (g.R.Rack.told (core_rack c.make_room.new.self)) _ c.make_room.ensures.calls
+      (transfer_after c.args.self.now.meta c.make_room.new.self.meta c.in_ok-make_room.ensures.setup c.in_ok-make_room.ensures.gone _ _ c.read_only.ensures.calls);
+  kept = λ is.
+      idle_then _ _ (g.R.Rack.told (core_rack c.make_room.new.self)) _ (c.make_room.ensures.idle (first_by c.args.self.now.meta c.args.self.now.dirty c.args.self.now.batch c.args.block c.home-r.result.0 c.home-r.result.1 c.cleaning-room.result c.cleaning-room.ensures.value c.home-r.ensures.row c.home-r.ensures.disk ∙ is))
+      (data_after c.args.self.now.meta c.make_room.new.self.meta c.in_ok-make_room.ensures.setup c.in_ok-make_room.ensures.gone _ _ c.read_only.ensures.calls);
+  whole = λ is h lo.
+      let old = c.args.self.now in
+      whole_then_reads (CoreStandsFor g.R.Rack.slot_count old h lo) (λ s k. k.base) (record old.meta { epoch = old.meta.epoch + 1 }) old.batch c.make_room.new.self.meta.setup.geometry.disks (λ s k. k.next.setup)
+      (ap (λ (z : Setup). z.geometry.disks) c.in_ok-make_room.ensures.setup) _ _ _ (c.make_room.ensures.whole (first_by c.args.self.now.meta c.args.self.now.dirty c.args.self.now.batch c.args.block c.home-r.result.0 c.home-r.result.1 c.cleaning-room.result c.cleaning-room.ensures.value c.home-r.ensures.row c.home-r.ensures.disk ∙ is) h lo) c.read_only.ensures.reads;
+  rest = none_done _ c.from_residual-in_err-read_only.result _ c.from_residual-in_err-read_only.ensures.1;
+  names = none_done _ c.from_residual-in_err-read_only.result _ c.from_residual-in_err-read_only.ensures.1;
+  marks = none_done _ c.from_residual-in_err-read_only.result _ c.from_residual-in_err-read_only.ensures.1;
+  down = none_done _ c.from_residual-in_err-read_only.result _ c.from_residual-in_err-read_only.ensures.1;
+  moments = λ h lo.
+      let old = c.args.self.now in
+      let mid = c.make_room.new.self in
+      let first : Bool = commits_first (batch_of old) c.cleaning-room.result in
+      let low : ℕ = if first then length h else lo in
+      ended _ _ (IsCoreHeldSinceCommit g.R.Rack.slot_count mid h low) _ _
+      (after_raised (g.R.Rack.slot_count (core_rack old)) _ old.meta.setup.geometry.disks _ (core_down old) (named_of mid.store) (named_of old.store) old.meta old.dirty old.batch old.copied first h lo _
+      (IsCoreHeldSinceCommit g.R.Rack.slot_count mid h low) _ _ _
+      c.in_ok-make_room.ensures.slots (ap (λ (z : Setup). z.geometry.disks) c.in_ok-make_room.ensures.setup) c.in_ok-make_room.ensures.named
+      (c.in_ok-make_room.ensures.stands h lo) (c.in_err-read_only.ensures.moments_since h low));
+  stands = none_done _ c.from_residual-in_err-read_only.result _ c.from_residual-in_err-read_only.ensures.1;
+  value = none_done _ c.from_residual-in_err-read_only.result _ c.from_residual-in_err-read_only.ensures.1;
+}
 
 pub returns-clause-ready : goal.returns-clause-ready
 returns-clause-ready g c = c.clean_in_room.ensures.ready

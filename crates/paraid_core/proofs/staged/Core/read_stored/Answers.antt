@@ -1,5 +1,5 @@
 use Rattle.paraid_image.specs.Mark.{meta_after_loss}
-use Rattle.std.proofs.Common.{◌≡◌, ℕ, ◌∙◌, ◌<◌, Some, None, sym, ap, subst, refl, false, true}
+use Rattle.std.proofs.Common.{◌≡◌, ℕ, ◌∙◌, ◌<◌, Some, None, sym, ap, subst, refl, false, true, rules}
 use Rattle.std.specs.Prelude.{Option, is_ok}
 use Rattle.paraid_base.specs.Told.{HasRisen}
 use Rattle.paraid_image.specs.Out.{named_out}
@@ -31,27 +31,6 @@ module _ (g : Over) (c : In_default g) where
   done : is_ok c.read.result ≡ true
   done = ap is_ok c.in_default.is
 
-pub returns-in_default-clause-leaves : goal.returns-in_default-clause-leaves
-returns-in_default-clause-leaves g c =
-    call_leaves g.R.Rack.slot_count g.R.Rack.slot c.args.self.now _ c.requires.ready c.requires.still c.read.ensures.slots c.read.ensures.same refl refl refl
-    None (λ d is. cc) (done_only _ _ _ _ _ _ _ c.read.ensures.slot refl refl (done g c)) (λ d x is. cc) refl
-    (call_spared 8 _ _ _ _ _ _ c.read.ensures.slot refl refl refl) (λ d is. cc) (marks_read _ _ _ _ _ _ c.read.ensures.slot _ refl)
-
-pub returns-in_default-clause-moments : goal.returns-in_default-clause-moments
-returns-in_default-clause-moments g c =
-    call_held g.R.Rack.slot_count g.R.Rack.slot g.R.Rack.told c.args.self.now _ _ c.read.ensures.told c.requires.disk
-    (λ is h lo s k. keeps_held _ _ _ _ _ c.args.self.now.copied h lo _ (keeps_read _ _ _ _ _ _ h lo s _ _ _ is k))
-
-pub returns-in_default-clause-stands : goal.returns-in_default-clause-stands
-returns-in_default-clause-stands g c =
-    call_stands g.R.Rack.slot_count g.R.Rack.slot g.R.Rack.told c.args.self.now _ _ c.read.ensures.told (g.met.R.Rack.agrees (store_rack c.args.self.now.store)) _ _ _ _ _ _ c.read.ensures.slots c.read.ensures.same.named refl
-    (λ h lo s agrees k. keeps_read _ _ _ _ _ _ h lo s _ _ _ (done g c) k)
-
-pub returns-in_err-lose-clause-moments : goal.returns-in_err-lose-clause-moments
-returns-in_err-lose-clause-moments g c =
-    call_held g.R.Rack.slot_count g.R.Rack.slot g.R.Rack.told c.args.self.now _ _ c.read.ensures.told c.requires.disk
-    (λ is h lo s k. keeps_held _ _ _ _ _ c.args.self.now.copied h lo _ (keeps_read _ _ _ _ _ _ h lo s _ _ _ is k))
-
 -- it failed, and no other disk is out
 module _ (g : Over) (c : In_ok-lose g) where
   abbrev old : Core g.row.R.Denot g.R.Rack
@@ -69,124 +48,82 @@ module _ (g : Over) (c : In_ok-lose g) where
   alone : (x : ℕ) → named_out old.meta.out ≡ Some x → x ≡ c.args.disk
   alone x is = c.in_ok-lose.ensures.alone c.args.disk x refl is c.requires.disk
 
-pub returns-clause-leaves : goal.returns-clause-leaves
-returns-clause-leaves g c =
-    call_leaves g.R.Rack.slot_count g.R.Rack.slot c.args.self.now _ c.requires.ready c.requires.still c.read.ensures.slots c.read.ensures.same refl refl refl
-    (Some c.args.disk) (λ d is. subst (λ (e : ℕ). e < c.args.self.now.meta.setup.geometry.disks) (some_is c.args.disk d is) c.requires.disk)
-    (failed_only _ _ _ _ _ _ _ c.read.ensures.slot refl refl (failed g c)) (λ d x is k. alone g c x k ∙ some_is c.args.disk d is) (meta_is g c)
-    (call_spared 8 _ _ _ _ _ _ c.read.ensures.slot refl refl refl)
-    (λ d is. subst (λ (e : ℕ). HasRisen (g.R.Rack.slot (store_rack c.args.self.now.store) e).faults (g.R.Rack.slot (store_rack c.read.new.self) e).faults) (some_is c.args.disk d is) (c.read.ensures.slot.risen (failed g c))) (marks_read _ _ _ _ _ _ c.read.ensures.slot _ refl)
+pub returns-in_default : goal.returns-in_default
+returns-in_default g c = record {
+  leaves =
+      call_leaves g.R.Rack.slot_count g.R.Rack.slot c.args.self.now _ c.requires.ready c.requires.still c.read.ensures.slots c.read.ensures.same refl refl refl
+      None (λ d is. cc) (done_only _ _ _ _ _ _ _ c.read.ensures.slot refl refl (done g c)) (λ d x is. cc) refl
+      (call_spared 8 _ _ _ _ _ _ c.read.ensures.slot refl refl refl) (λ d is. cc) (marks_read _ _ _ _ _ _ c.read.ensures.slot _ refl);
+  same = λ is. refl;
+  copied = refl;
+  spared = call_spared 8 _ _ _ _ _ _ c.read.ensures.slot refl refl refl;
+  still_synced = search rules;
+  two = tt;
+  tells = tt;
+  calls = one_call _ _ _ (is_ok c.read.result) c.read.ensures.told (λ t tells. (g.met.R.Rack.agrees (store_rack c.args.self.now.store) t tells).power c.args.disk ∙ c.requires.spins);
+  marks = marks_done c.args.self.now.meta _ _ c.args.disk _ _ _ c.read.ensures.slot (record { faults = refl; power = refl; size = refl }) (ap is_ok c.in_default.is);
+  gone = λ is. done_not_dropped _ _ refl is;
+  failed = λ is. done_not_dropped _ _ refl is;
+  value = search rules;
+  moments =
+      call_held g.R.Rack.slot_count g.R.Rack.slot g.R.Rack.told c.args.self.now _ _ c.read.ensures.told c.requires.disk
+      (λ is h lo s k. keeps_held _ _ _ _ _ c.args.self.now.copied h lo _ (keeps_read _ _ _ _ _ _ h lo s _ _ _ is k));
+  stands =
+      call_stands g.R.Rack.slot_count g.R.Rack.slot g.R.Rack.told c.args.self.now _ _ c.read.ensures.told (g.met.R.Rack.agrees (store_rack c.args.self.now.store)) _ _ _ _ _ _ c.read.ensures.slots c.read.ensures.same.named refl
+      (λ h lo s agrees k. keeps_read _ _ _ _ _ _ h lo s _ _ _ (done g c) k);
+}
 
-pub returns-clause-moments : goal.returns-clause-moments
-returns-clause-moments g c =
-    call_held g.R.Rack.slot_count g.R.Rack.slot g.R.Rack.told c.args.self.now _ _ c.read.ensures.told c.requires.disk
-    (λ is h lo s k. keeps_held _ _ _ _ _ c.args.self.now.copied h lo _ (keeps_read _ _ _ _ _ _ h lo s _ _ _ is k))
+pub returns-in_err-lose : goal.returns-in_err-lose
+returns-in_err-lose g c = record {
+  leaves = none_done _ c.from_residual.result _ c.from_residual.ensures.1;
+  same = λ is. none_done_as _ c.from_residual.result _ _ c.from_residual.ensures.1 is;
+  copied = refl;
+  spared = call_spared 8 _ _ _ _ _ _ c.read.ensures.slot refl refl refl;
+  still_synced = search rules;
+  two =
+      let old = c.args.self.now in
+      handed _ c.from_residual.result _ c.from_residual.ensures.1
+      (two_lost (named_of old.store) (named_out old.meta.out) _ _ c.args.disk _ c.requires.still (c.read.ensures.slot.risen (ap is_ok c.in-Err.is)) c.in_err-lose.ensures.two);
+  tells =
+      handed (λ two. Ran (g.R.Rack.told (store_rack c.args.self.now.store)) (g.R.Rack.told (store_rack c.read.new.self)) (λ s cs. TellsLosses (named_out c.args.self.now.meta.out) two cs)) c.from_residual.result _ c.from_residual.ensures.1
+      (call_tells (named_out c.args.self.now.meta.out) _ (Read c.args.disk c.args.place (is_ok c.read.result)) _ _ c.read.ensures.told (ap is_ok c.in-Err.is) c.in_err-lose.ensures.two);
+  calls = one_call _ _ _ (is_ok c.read.result) c.read.ensures.told (λ t tells. (g.met.R.Rack.agrees (store_rack c.args.self.now.store) t tells).power c.args.disk ∙ c.requires.spins);
+  marks = none_done _ c.from_residual.result _ c.from_residual.ensures.1;
+  gone = λ is. none_done_as _ c.from_residual.result _ _ c.from_residual.ensures.1 is;
+  failed = λ is. none_done_as _ c.from_residual.result _ _ c.from_residual.ensures.1 is;
+  value = λ is. none_done_as _ c.from_residual.result _ _ c.from_residual.ensures.1 is;
+  moments =
+      call_held g.R.Rack.slot_count g.R.Rack.slot g.R.Rack.told c.args.self.now _ _ c.read.ensures.told c.requires.disk
+      (λ is h lo s k. keeps_held _ _ _ _ _ c.args.self.now.copied h lo _ (keeps_read _ _ _ _ _ _ h lo s _ _ _ is k));
+  stands = none_done _ c.from_residual.result _ c.from_residual.ensures.1;
+}
 
-pub returns-clause-stands : goal.returns-clause-stands
-returns-clause-stands g c =
-    let ready = c.requires.ready in
-    call_stands g.R.Rack.slot_count g.R.Rack.slot g.R.Rack.told c.args.self.now _ _ c.read.ensures.told (g.met.R.Rack.agrees (store_rack c.args.self.now.store)) _ _ _ _ _ _ c.read.ensures.slots c.read.ensures.same.named
-    (ap (λ (z : Meta). z.setup) (meta_is g c))
-    (λ h lo s agrees k. subst (λ (z : Meta). HoldsBetweenCalls (g.R.Rack.slot_count (store_rack c.args.self.now.store)) (named_of c.args.self.now.store) z c.args.self.now.dirty c.args.self.now.batch c.args.self.now.copied h lo (step (Read c.args.disk c.args.place (is_ok c.read.result)) s)) (sym (meta_is g c))
-    (keeps_failed _ _ c.args.self.now.meta _ _ _ h lo s (Read c.args.disk c.args.place (is_ok c.read.result)) ready.in_range c.requires.disk (failed g c) (λ x l gone. ready.absent x l (ap is_present (sym (agrees.power x)) ∙ gone)) (alone g c) c.requires.still k))
-
-pub returns-in_default-clause-calls : goal.returns-in_default-clause-calls
-returns-in_default-clause-calls g c =
-    one_call _ _ _ (is_ok c.read.result) c.read.ensures.told (λ t tells. (g.met.R.Rack.agrees (store_rack c.args.self.now.store) t tells).power c.args.disk ∙ c.requires.spins)
-
-pub returns-clause-calls : goal.returns-clause-calls
-returns-clause-calls g c =
-    one_call _ _ _ (is_ok c.read.result) c.read.ensures.told (λ t tells. (g.met.R.Rack.agrees (store_rack c.args.self.now.store) t tells).power c.args.disk ∙ c.requires.spins)
-
-pub returns-in_err-lose-clause-calls : goal.returns-in_err-lose-clause-calls
-returns-in_err-lose-clause-calls g c =
-    one_call _ _ _ (is_ok c.read.result) c.read.ensures.told (λ t tells. (g.met.R.Rack.agrees (store_rack c.args.self.now.store) t tells).power c.args.disk ∙ c.requires.spins)
-
-pub returns-in_default-clause-marks : goal.returns-in_default-clause-marks
-returns-in_default-clause-marks g c = marks_done c.args.self.now.meta _ _ c.args.disk _ _ _ c.read.ensures.slot (record { faults = refl; power = refl; size = refl }) (ap is_ok c.in_default.is)
-
-pub returns-clause-marks : goal.returns-clause-marks
-returns-clause-marks g c = marks_failed c.args.self.now.meta c.lose.new.meta _ _ c.args.disk _ _ _ c.read.ensures.slot (failed g c) (meta_is g c) c.requires.disk (λ x k. c.in_ok-lose.ensures.alone c.args.disk x refl k c.requires.disk)
-
-pub returns-clause-gone : goal.returns-clause-gone
-returns-clause-gone g c is = meta_is g c
-
-pub returns-clause-failed : goal.returns-clause-failed
-returns-clause-failed g c is = record { risen = c.read.ensures.slot.risen (failed g c); absent = c.read.ensures.slot.absent (failed g c) }
-
-pub returns-in_err-lose-clause-tells : goal.returns-in_err-lose-clause-tells
-returns-in_err-lose-clause-tells g c =
-    handed (λ two. Ran (g.R.Rack.told (store_rack c.args.self.now.store)) (g.R.Rack.told (store_rack c.read.new.self)) (λ s cs. TellsLosses (named_out c.args.self.now.meta.out) two cs)) c.from_residual.result _ c.from_residual.ensures.1
-    (call_tells (named_out c.args.self.now.meta.out) _ (Read c.args.disk c.args.place (is_ok c.read.result)) _ _ c.read.ensures.told (ap is_ok c.in-Err.is) c.in_err-lose.ensures.two)
-
-pub returns-in_default-clause-same : goal.returns-in_default-clause-same
-returns-in_default-clause-same g c is = refl
-
-pub returns-in_default-clause-copied : goal.returns-in_default-clause-copied
-returns-in_default-clause-copied g c = refl
-
-pub returns-in_default-clause-spared : goal.returns-in_default-clause-spared
-returns-in_default-clause-spared g c = call_spared 8 _ _ _ _ _ _ c.read.ensures.slot refl refl refl
-
-pub returns-in_default-clause-two : goal.returns-in_default-clause-two
-returns-in_default-clause-two g c = tt
-
-pub returns-in_default-clause-tells : goal.returns-in_default-clause-tells
-returns-in_default-clause-tells g c = tt
-
-pub returns-in_default-clause-gone : goal.returns-in_default-clause-gone
-returns-in_default-clause-gone g c is = done_not_dropped _ _ refl is
-
-pub returns-in_default-clause-failed : goal.returns-in_default-clause-failed
-returns-in_default-clause-failed g c is = done_not_dropped _ _ refl is
-
-pub returns-in_err-lose-clause-leaves : goal.returns-in_err-lose-clause-leaves
-returns-in_err-lose-clause-leaves g c = none_done _ c.from_residual.result _ c.from_residual.ensures.1
-
-pub returns-in_err-lose-clause-marks : goal.returns-in_err-lose-clause-marks
-returns-in_err-lose-clause-marks g c = none_done _ c.from_residual.result _ c.from_residual.ensures.1
-
-pub returns-in_err-lose-clause-stands : goal.returns-in_err-lose-clause-stands
-returns-in_err-lose-clause-stands g c = none_done _ c.from_residual.result _ c.from_residual.ensures.1
-
-pub returns-in_err-lose-clause-same : goal.returns-in_err-lose-clause-same
-returns-in_err-lose-clause-same g c is = none_done_as _ c.from_residual.result _ _ c.from_residual.ensures.1 is
-
-pub returns-in_err-lose-clause-gone : goal.returns-in_err-lose-clause-gone
-returns-in_err-lose-clause-gone g c is = none_done_as _ c.from_residual.result _ _ c.from_residual.ensures.1 is
-
-pub returns-in_err-lose-clause-failed : goal.returns-in_err-lose-clause-failed
-returns-in_err-lose-clause-failed g c is = none_done_as _ c.from_residual.result _ _ c.from_residual.ensures.1 is
-
-pub returns-in_err-lose-clause-value : goal.returns-in_err-lose-clause-value
-returns-in_err-lose-clause-value g c is = none_done_as _ c.from_residual.result _ _ c.from_residual.ensures.1 is
-
-pub returns-in_err-lose-clause-copied : goal.returns-in_err-lose-clause-copied
-returns-in_err-lose-clause-copied g c = refl
-
-pub returns-in_err-lose-clause-spared : goal.returns-in_err-lose-clause-spared
-returns-in_err-lose-clause-spared g c = call_spared 8 _ _ _ _ _ _ c.read.ensures.slot refl refl refl
-
-pub returns-in_err-lose-clause-two : goal.returns-in_err-lose-clause-two
-returns-in_err-lose-clause-two g c =
-    let old = c.args.self.now in
-    handed _ c.from_residual.result _ c.from_residual.ensures.1
-    (two_lost (named_of old.store) (named_out old.meta.out) _ _ c.args.disk _ c.requires.still (c.read.ensures.slot.risen (ap is_ok c.in-Err.is)) c.in_err-lose.ensures.two)
-
-pub returns-clause-same : goal.returns-clause-same
-returns-clause-same g c is = done_not_dropped _ _ is refl
-
-pub returns-clause-value : goal.returns-clause-value
-returns-clause-value g c is = done_not_dropped _ _ is refl
-
-pub returns-clause-copied : goal.returns-clause-copied
-returns-clause-copied g c = refl
-
-pub returns-clause-spared : goal.returns-clause-spared
-returns-clause-spared g c = call_spared 8 _ _ _ _ _ _ c.read.ensures.slot refl refl refl
-
-pub returns-clause-two : goal.returns-clause-two
-returns-clause-two g c = tt
-
-pub returns-clause-tells : goal.returns-clause-tells
-returns-clause-tells g c = tt
+pub returns : goal.returns
+returns g c = record {
+  leaves =
+      call_leaves g.R.Rack.slot_count g.R.Rack.slot c.args.self.now _ c.requires.ready c.requires.still c.read.ensures.slots c.read.ensures.same refl refl refl
+      (Some c.args.disk) (λ d is. subst (λ (e : ℕ). e < c.args.self.now.meta.setup.geometry.disks) (some_is c.args.disk d is) c.requires.disk)
+      (failed_only _ _ _ _ _ _ _ c.read.ensures.slot refl refl (failed g c)) (λ d x is k. alone g c x k ∙ some_is c.args.disk d is) (meta_is g c)
+      (call_spared 8 _ _ _ _ _ _ c.read.ensures.slot refl refl refl)
+      (λ d is. subst (λ (e : ℕ). HasRisen (g.R.Rack.slot (store_rack c.args.self.now.store) e).faults (g.R.Rack.slot (store_rack c.read.new.self) e).faults) (some_is c.args.disk d is) (c.read.ensures.slot.risen (failed g c))) (marks_read _ _ _ _ _ _ c.read.ensures.slot _ refl);
+  same = λ is. done_not_dropped _ _ is refl;
+  copied = refl;
+  spared = call_spared 8 _ _ _ _ _ _ c.read.ensures.slot refl refl refl;
+  still_synced = search rules;
+  two = tt;
+  tells = tt;
+  calls = one_call _ _ _ (is_ok c.read.result) c.read.ensures.told (λ t tells. (g.met.R.Rack.agrees (store_rack c.args.self.now.store) t tells).power c.args.disk ∙ c.requires.spins);
+  marks = marks_failed c.args.self.now.meta c.lose.new.meta _ _ c.args.disk _ _ _ c.read.ensures.slot (failed g c) (meta_is g c) c.requires.disk (λ x k. c.in_ok-lose.ensures.alone c.args.disk x refl k c.requires.disk);
+  gone = λ is. meta_is g c;
+  failed = λ is. record { risen = c.read.ensures.slot.risen (failed g c); absent = c.read.ensures.slot.absent (failed g c) };
+  value = λ is. done_not_dropped _ _ is refl;
+  moments =
+      call_held g.R.Rack.slot_count g.R.Rack.slot g.R.Rack.told c.args.self.now _ _ c.read.ensures.told c.requires.disk
+      (λ is h lo s k. keeps_held _ _ _ _ _ c.args.self.now.copied h lo _ (keeps_read _ _ _ _ _ _ h lo s _ _ _ is k));
+  stands =
+      let ready = c.requires.ready in
+      call_stands g.R.Rack.slot_count g.R.Rack.slot g.R.Rack.told c.args.self.now _ _ c.read.ensures.told (g.met.R.Rack.agrees (store_rack c.args.self.now.store)) _ _ _ _ _ _ c.read.ensures.slots c.read.ensures.same.named
+      (ap (λ (z : Meta). z.setup) (meta_is g c))
+      (λ h lo s agrees k. subst (λ (z : Meta). HoldsBetweenCalls (g.R.Rack.slot_count (store_rack c.args.self.now.store)) (named_of c.args.self.now.store) z c.args.self.now.dirty c.args.self.now.batch c.args.self.now.copied h lo (step (Read c.args.disk c.args.place (is_ok c.read.result)) s)) (sym (meta_is g c))
+      (keeps_failed _ _ c.args.self.now.meta _ _ _ h lo s (Read c.args.disk c.args.place (is_ok c.read.result)) ready.in_range c.requires.disk (failed g c) (λ x l gone. ready.absent x l (ap is_present (sym (agrees.power x)) ∙ gone)) (alone g c) c.requires.still k));
+}

@@ -1,4 +1,4 @@
-use Rattle.std.proofs.Common.{inl, ◌++◌, ◌≡◌, ℕ, ◌∙◌, Some, None, sym, ap, subst, Option, ◌<◌}
+use Rattle.std.proofs.Common.{inl, ◌++◌, ◌≡◌, ℕ, ◌∙◌, Some, None, sym, ap, subst, Option, ◌<◌, rules}
 use Rattle.paraid_rack.specs.Trail.{now}
 use Rattle.paraid_txn.specs.Stores.{disks_of, named_of, store_rack}
 use Rattle.paraid_core.proofs.ReadsLemmas.{cell_value, knows_named, reads_moments, reads_stand, rows_zero, shows_contents, stripes_zero}
@@ -28,46 +28,6 @@ use Rattle.paraid_core.proofs.staged.Core.read_value.Goals as goal
 use Rattle.paraid_core.proofs.ErrLemmas.{none_done}
 use Rattle.paraid_core.proofs.staged.Core.read_value.Goals.{In_ok-lose}
 
-pub returns-clause-moments : goal.returns-clause-moments
-returns-clause-moments g c h lo =
-    let old = c.args.self.now in
-    reads_moments (g.R.Rack.slot_count (store_rack old.store)) (named_of old.store) old.meta old.dirty old.batch old.copied h lo (or_else (named_of old.store) (named_out old.meta.out)) (knows_named (named_of old.store) (named_out old.meta.out)) (disks_of old.store) _ _ (sym c.requires.ready.array_is) c.in_ok-lost.ensures.read.calls
-
-pub returns-clause-stands : goal.returns-clause-stands
-returns-clause-stands g c h lo =
-    let old = c.args.self.now in
-    let read = c.in_ok-lost.ensures in
-    reads_stand (g.R.Rack.slot_count (store_rack old.store)) (named_of old.store) old.meta old.dirty old.batch old.copied h lo (or_else (named_of old.store) (named_out old.meta.out)) (knows_named (named_of old.store) (named_out old.meta.out)) (disks_of old.store) _ _ (g.R.Rack.slot (store_rack old.store)) (g.R.Rack.slot (store_rack c.read_cell.new.store))
-    c.in_ok-lost.lost c.requires.ready.in_range (sym c.requires.ready.array_is) (g.met.R.Rack.agrees (store_rack old.store)) (g.met.R.Rack.agrees (store_rack c.read_cell.new.store)) read.read.left
-    (g.met.R.Rack.slots_hold (store_rack c.read_cell.new.store)).absent (λ d is. subst (λ (z : ℕ). d < z) (sym c.requires.ready.array_is) (read.below d is)) (λ d is. read.one d is) c.requires.serves.stays
-    _ _ _ read.read.slots read.read.same.named c.in_ok-lose.ensures.marked read.read.calls
-
-pub returns-clause-value : goal.returns-clause-value
-returns-clause-value g c h lo t tells keeps some =
-    let old = c.args.self.now in
-    let slots : ℕ = g.R.Rack.slot_count (store_rack old.store) in
-    let agrees = g.met.R.Rack.agrees (store_rack old.store) t tells in
-    let powers : (λ (x : ℕ). (g.R.Rack.slot (store_rack old.store) x).power) ≡ (now t).power = (λ i. λ x. sym (agrees.power x) i) in
-    let p = λ (x : ℕ). (g.R.Rack.slot (store_rack old.store) x).power in
-    cell_value slots (named_of old.store) old.meta old.dirty old.batch old.copied h lo (now t) keeps p powers c.args.r c.args.d _ c.requires.row
-    (c.in_ok-lost.ensures.value (contents (now t) old.batch)
-    (subst (λ (z : Batch). ShowsContents (g.R.Rack.told (store_rack old.store)) z (contents (now t) old.batch)) (sym (ap (λ (z : Batch). old.batch ++ z) c.requires.no_draft ∙ append-nil old.batch)) (shows_contents _ old.batch t tells)) some
-    (rows_zero slots (named_of old.store) old.meta old.dirty old.batch old.copied h lo (now t) keeps p powers) (stripes_zero slots (named_of old.store) old.meta old.dirty old.batch old.copied h lo (now t) keeps p powers))
-
-pub returns-in_err-lost-clause-moments : goal.returns-in_err-lost-clause-moments
-returns-in_err-lost-clause-moments g c h lo =
-    let old = c.args.self.now in
-    reads_moments (g.R.Rack.slot_count (store_rack old.store)) (named_of old.store) old.meta old.dirty old.batch old.copied h lo (or_else (named_of old.store) (named_out old.meta.out)) (knows_named (named_of old.store) (named_out old.meta.out)) (disks_of old.store) _ _ (sym c.requires.ready.array_is) c.in_err-lost.ensures.two.calls
-
-pub returns-in_err-lost-clause-two : goal.returns-in_err-lost-clause-two
-returns-in_err-lost-clause-two g c =
-    let old = c.args.self.now in
-    let slot = g.R.Rack.slot (store_rack old.store) in
-    let ready = c.requires.ready in
-    handed (AreTwoDown (or_else (named_of old.store) (named_out old.meta.out)) slot (g.R.Rack.slot (store_rack c.read_cell.new.store))) c.from_residual.result _ c.from_residual.ensures.1
-    (two_by (out_disk (λ x. (slot x).power) old.meta) (or_else (named_of old.store) (named_out old.meta.out)) slot (g.R.Rack.slot (store_rack c.read_cell.new.store)) _
-    (λ x is. down_named (named_of old.store) old.meta ready.one x (out_is_named (λ x. (slot x).power) old.meta ready.absent x is)) c.in_err-lost.ensures.two.down)
-
 -- what was lost is the one disk that is out
 module _ (g : Over) (c : In_ok-lose g) where
   abbrev m : Meta
@@ -88,204 +48,160 @@ module _ (g : Over) (c : In_ok-lose g) where
   only = subst (λ (o : Option ℕ). IsLostOnly m.setup.geometry.disks o (g.R.Rack.slot (store_rack c.args.self.now.store)) (g.R.Rack.slot (store_rack c.read_cell.new.store))) (sym same)
       (left_lost_only m.setup.geometry.disks c.in_ok-lost.lost _ _ c.in_ok-lost.ensures.read.left)
 
-pub returns-clause-ready : goal.returns-clause-ready
-returns-clause-ready g c =
-    let old = c.args.self.now in
-    let read = c.in_ok-lost.ensures.read in
-    ready_moved _ _ _ _ _ _ _ _ _ (meta_with_lost (lost_in old.meta c.in_ok-lost.lost) old.meta) _ _ _ read.slots read.same.epoch read.same.disks read.same.named c.in_ok-lose.ensures.marked
-    (ready_after _ _ _ _ _ _ old.meta _ _ c.requires.ready c.in_ok-lost.lost (only g c) (none_out g c) (λ d x is was. none_out g c d x is (c.requires.serves.stays x was)) (λ d is. lost_in_low old.meta c.in_ok-lost.lost d is))
+pub returns-in_err-lost : goal.returns-in_err-lost
+returns-in_err-lost g c = record {
+  draft = search rules;
+  copied = search rules;
+  slots = search rules;
+  ready = none_done _ c.from_residual.result _ c.from_residual.ensures.1;
+  serves = none_done _ c.from_residual.result _ c.from_residual.ensures.1;
+  batch = search rules;
+  table = search rules;
+  cleans_less = none_done _ c.from_residual.result _ c.from_residual.ensures.1;
+  setup = none_done _ c.from_residual.result _ c.from_residual.ensures.1;
+  writes = none_done _ c.from_residual.result _ c.from_residual.ensures.1;
+  epoch = none_done _ c.from_residual.result _ c.from_residual.ensures.1;
+  down = none_done _ c.from_residual.result _ c.from_residual.ensures.1;
+  spared = search rules;
+  still_synced = search rules;
+  two =
+      let old = c.args.self.now in
+      let slot = g.R.Rack.slot (store_rack old.store) in
+      let ready = c.requires.ready in
+      handed (AreTwoDown (or_else (named_of old.store) (named_out old.meta.out)) slot (g.R.Rack.slot (store_rack c.read_cell.new.store))) c.from_residual.result _ c.from_residual.ensures.1
+      (two_by (out_disk (λ x. (slot x).power) old.meta) (or_else (named_of old.store) (named_out old.meta.out)) slot (g.R.Rack.slot (store_rack c.read_cell.new.store)) _
+      (λ x is. down_named (named_of old.store) old.meta ready.one x (out_is_named (λ x. (slot x).power) old.meta ready.absent x is)) c.in_err-lost.ensures.two.down);
+  tells =
+      handed (λ two. Ran (g.R.Rack.told (store_rack c.args.self.now.store)) (g.R.Rack.told (store_rack c.read_cell.new.store)) (λ s cs. TellsLosses (named_out c.args.self.now.meta.out) two cs)) c.from_residual.result _ c.from_residual.ensures.1
+      (out_tells (λ x. (g.R.Rack.slot (store_rack c.args.self.now.store) x).power) c.args.self.now.meta c.requires.ready.absent _ _ _ c.in_err-lost.ensures.two.tells);
+  calls =
+      let old = c.args.self.now in
+      calls_off _ _ _ _ (sym c.requires.ready.array_is) (λ d is. out_named (λ x. (g.R.Rack.slot (store_rack old.store) x).power) old.meta d (gone_named old.meta.out d is)) _ _ c.in_err-lost.ensures.two.calls c.read_cell.ensures.off;
+  reads = reads_of _ _ (sym c.requires.ready.array_is) _ _ c.in_err-lost.ensures.two.calls;
+  marks = none_done _ c.from_residual.result _ c.from_residual.ensures.1;
+  named = c.in_err-lost.ensures.two.same.named;
+  moments = λ h lo.
+      let old = c.args.self.now in
+      reads_moments (g.R.Rack.slot_count (store_rack old.store)) (named_of old.store) old.meta old.dirty old.batch old.copied h lo (or_else (named_of old.store) (named_out old.meta.out)) (knows_named (named_of old.store) (named_out old.meta.out)) (disks_of old.store) _ _ (sym c.requires.ready.array_is) c.in_err-lost.ensures.two.calls;
+  stands = none_done _ c.from_residual.result _ c.from_residual.ensures.1;
+  moments_since = λ h lo.
+      let old = c.args.self.now in
+      reads_moments (g.R.Rack.slot_count (store_rack old.store)) (named_of old.store) old.meta old.dirty old.batch old.copied h lo (named_of old.store) (λ d is. is) (disks_of old.store) _ _ (sym c.requires.ready.array_is) c.in_err-lost.ensures.two.calls;
+  since = none_done _ c.from_residual.result _ c.from_residual.ensures.1;
+  value = none_done _ c.from_residual.result _ c.from_residual.ensures.1;
+}
 
-pub returns-clause-serves : goal.returns-clause-serves
-returns-clause-serves g c =
-    let old = c.args.self.now in
-    let read = c.in_ok-lost.ensures.read in
-    subst (λ (z : Option ℕ). CanServe (g.R.Rack.slot (store_rack c.read_cell.new.store)) z c.lose.new.meta) (sym read.same.named)
-    (subst (λ (z : Meta). CanServe (g.R.Rack.slot (store_rack c.read_cell.new.store)) (named_of old.store) z) (sym c.in_ok-lose.ensures.marked)
-    (serve_after _ _ _ _ _ _ old.meta _ _ c.requires.ready c.in_ok-lost.lost (only g c) (none_out g c) (λ d x is was. none_out g c d x is (c.requires.serves.stays x was)) (λ d is. lost_in_low old.meta c.in_ok-lost.lost d is)
-    c.requires.serves))
+pub returns : goal.returns
+returns g c = record {
+  draft = search rules;
+  copied = search rules;
+  slots = search rules;
+  ready =
+      let old = c.args.self.now in
+      let read = c.in_ok-lost.ensures.read in
+      ready_moved _ _ _ _ _ _ _ _ _ (meta_with_lost (lost_in old.meta c.in_ok-lost.lost) old.meta) _ _ _ read.slots read.same.epoch read.same.disks read.same.named c.in_ok-lose.ensures.marked
+      (ready_after _ _ _ _ _ _ old.meta _ _ c.requires.ready c.in_ok-lost.lost (only g c) (none_out g c) (λ d x is was. none_out g c d x is (c.requires.serves.stays x was)) (λ d is. lost_in_low old.meta c.in_ok-lost.lost d is));
+  serves =
+      let old = c.args.self.now in
+      let read = c.in_ok-lost.ensures.read in
+      subst (λ (z : Option ℕ). CanServe (g.R.Rack.slot (store_rack c.read_cell.new.store)) z c.lose.new.meta) (sym read.same.named)
+      (subst (λ (z : Meta). CanServe (g.R.Rack.slot (store_rack c.read_cell.new.store)) (named_of old.store) z) (sym c.in_ok-lose.ensures.marked)
+      (serve_after _ _ _ _ _ _ old.meta _ _ c.requires.ready c.in_ok-lost.lost (only g c) (none_out g c) (λ d x is was. none_out g c d x is (c.requires.serves.stays x was)) (λ d is. lost_in_low old.meta c.in_ok-lost.lost d is)
+      c.requires.serves));
+  batch = search rules;
+  table = search rules;
+  cleans_less = λ r d is.
+      let old = c.args.self.now in
+      subst (λ (z : Meta). is_cleaned z old.dirty r d ≡ false) (sym c.in_ok-lose.ensures.marked) (cleans_marked (lost_in old.meta c.in_ok-lost.lost) old.meta old.meta.epoch old.dirty r d is);
+  setup = ap (λ (z : Meta). z.setup) c.in_ok-lose.ensures.marked ∙ marked_setup (lost_in c.args.self.now.meta c.in_ok-lost.lost) c.args.self.now.meta;
+  writes = ap (λ (z : Meta). z.writes) c.in_ok-lose.ensures.marked ∙ marked_writes (lost_in c.args.self.now.meta c.in_ok-lost.lost) c.args.self.now.meta;
+  epoch = ap (λ (z : Meta). z.epoch) c.in_ok-lose.ensures.marked ∙ marked_epoch (lost_in c.args.self.now.meta c.in_ok-lost.lost) c.args.self.now.meta;
+  down =
+      let old = c.args.self.now in
+      let read = c.in_ok-lost.ensures.read in
+      down_read (named_of old.store) old.meta c.in_ok-lost.lost c.lose.new.meta (named_of c.read_cell.new.store) _ _ c.requires.ready.one
+      (ap (λ (z : Meta). named_out z.out) c.in_ok-lose.ensures.marked) read.left.failed read.same.named;
+  spared = left_spared c.in_ok-lost.lost _ _ c.in_ok-lost.ensures.read.left;
+  still_synced = search rules;
+  two = tt;
+  tells = tt;
+  calls =
+      let old = c.args.self.now in
+      calls_off _ _ _ _ (sym c.requires.ready.array_is) (λ d is. out_named (λ x. (g.R.Rack.slot (store_rack old.store) x).power) old.meta d (gone_named old.meta.out d is)) _ _ c.in_ok-lost.ensures.read.calls c.read_cell.ensures.off;
+  reads = reads_of _ _ (sym c.requires.ready.array_is) _ _ c.in_ok-lost.ensures.read.calls;
+  marks =
+      let m = c.args.self.now.meta in
+      marks_read m c.lose.new.meta c.in_ok-lost.lost _ _ m.epoch m.writes c.in_ok-lost.ensures.read.left c.in_ok-lose.ensures.marked (low g c) (λ d x is k. c.in_ok-lose.ensures.alone d x is k (low g c d is));
+  named = c.in_ok-lost.ensures.read.same.named;
+  moments = λ h lo.
+      let old = c.args.self.now in
+      reads_moments (g.R.Rack.slot_count (store_rack old.store)) (named_of old.store) old.meta old.dirty old.batch old.copied h lo (or_else (named_of old.store) (named_out old.meta.out)) (knows_named (named_of old.store) (named_out old.meta.out)) (disks_of old.store) _ _ (sym c.requires.ready.array_is) c.in_ok-lost.ensures.read.calls;
+  stands = λ h lo.
+      let old = c.args.self.now in
+      let read = c.in_ok-lost.ensures in
+      reads_stand (g.R.Rack.slot_count (store_rack old.store)) (named_of old.store) old.meta old.dirty old.batch old.copied h lo (or_else (named_of old.store) (named_out old.meta.out)) (knows_named (named_of old.store) (named_out old.meta.out)) (disks_of old.store) _ _ (g.R.Rack.slot (store_rack old.store)) (g.R.Rack.slot (store_rack c.read_cell.new.store))
+      c.in_ok-lost.lost c.requires.ready.in_range (sym c.requires.ready.array_is) (g.met.R.Rack.agrees (store_rack old.store)) (g.met.R.Rack.agrees (store_rack c.read_cell.new.store)) read.read.left
+      (g.met.R.Rack.slots_hold (store_rack c.read_cell.new.store)).absent (λ d is. subst (λ (z : ℕ). d < z) (sym c.requires.ready.array_is) (read.below d is)) (λ d is. read.one d is) c.requires.serves.stays
+      _ _ _ read.read.slots read.read.same.named c.in_ok-lose.ensures.marked read.read.calls;
+  moments_since = λ h lo.
+      let old = c.args.self.now in
+      reads_moments (g.R.Rack.slot_count (store_rack old.store)) (named_of old.store) old.meta old.dirty old.batch old.copied h lo (named_of old.store) (λ d is. is) (disks_of old.store) _ _ (sym c.requires.ready.array_is) c.in_ok-lost.ensures.read.calls;
+  since = λ h lo.
+      let old = c.args.self.now in
+      let read = c.in_ok-lost.ensures in
+      reads_stand (g.R.Rack.slot_count (store_rack old.store)) (named_of old.store) old.meta old.dirty old.batch old.copied h lo (named_of old.store) (λ d is. is) (disks_of old.store) _ _ (g.R.Rack.slot (store_rack old.store)) (g.R.Rack.slot (store_rack c.read_cell.new.store))
+      c.in_ok-lost.lost c.requires.ready.in_range (sym c.requires.ready.array_is) (g.met.R.Rack.agrees (store_rack old.store)) (g.met.R.Rack.agrees (store_rack c.read_cell.new.store)) read.read.left
+      (g.met.R.Rack.slots_hold (store_rack c.read_cell.new.store)).absent (λ d is. subst (λ (z : ℕ). d < z) (sym c.requires.ready.array_is) (read.below d is)) (λ d is. read.one d is) c.requires.serves.stays
+      _ _ _ read.read.slots read.read.same.named c.in_ok-lose.ensures.marked read.read.calls;
+  value = λ h lo t tells keeps some.
+      let old = c.args.self.now in
+      let slots : ℕ = g.R.Rack.slot_count (store_rack old.store) in
+      let agrees = g.met.R.Rack.agrees (store_rack old.store) t tells in
+      let powers : (λ (x : ℕ). (g.R.Rack.slot (store_rack old.store) x).power) ≡ (now t).power = (λ i. λ x. sym (agrees.power x) i) in
+      let p = λ (x : ℕ). (g.R.Rack.slot (store_rack old.store) x).power in
+      cell_value slots (named_of old.store) old.meta old.dirty old.batch old.copied h lo (now t) keeps p powers c.args.r c.args.d _ c.requires.row
+      (c.in_ok-lost.ensures.value (contents (now t) old.batch)
+      (subst (λ (z : Batch). ShowsContents (g.R.Rack.told (store_rack old.store)) z (contents (now t) old.batch)) (sym (ap (λ (z : Batch). old.batch ++ z) c.requires.no_draft ∙ append-nil old.batch)) (shows_contents _ old.batch t tells)) some
+      (rows_zero slots (named_of old.store) old.meta old.dirty old.batch old.copied h lo (now t) keeps p powers) (stripes_zero slots (named_of old.store) old.meta old.dirty old.batch old.copied h lo (now t) keeps p powers));
+}
 
-pub returns-clause-spared : goal.returns-clause-spared
-returns-clause-spared g c = left_spared c.in_ok-lost.lost _ _ c.in_ok-lost.ensures.read.left
-
-pub returns-clause-moments_since : goal.returns-clause-moments_since
-returns-clause-moments_since g c h lo =
-    let old = c.args.self.now in
-    reads_moments (g.R.Rack.slot_count (store_rack old.store)) (named_of old.store) old.meta old.dirty old.batch old.copied h lo (named_of old.store) (λ d is. is) (disks_of old.store) _ _ (sym c.requires.ready.array_is) c.in_ok-lost.ensures.read.calls
-
-pub returns-in_err-lost-clause-moments_since : goal.returns-in_err-lost-clause-moments_since
-returns-in_err-lost-clause-moments_since g c h lo =
-    let old = c.args.self.now in
-    reads_moments (g.R.Rack.slot_count (store_rack old.store)) (named_of old.store) old.meta old.dirty old.batch old.copied h lo (named_of old.store) (λ d is. is) (disks_of old.store) _ _ (sym c.requires.ready.array_is) c.in_err-lost.ensures.two.calls
-
-pub returns-clause-since : goal.returns-clause-since
-returns-clause-since g c h lo =
-    let old = c.args.self.now in
-    let read = c.in_ok-lost.ensures in
-    reads_stand (g.R.Rack.slot_count (store_rack old.store)) (named_of old.store) old.meta old.dirty old.batch old.copied h lo (named_of old.store) (λ d is. is) (disks_of old.store) _ _ (g.R.Rack.slot (store_rack old.store)) (g.R.Rack.slot (store_rack c.read_cell.new.store))
-    c.in_ok-lost.lost c.requires.ready.in_range (sym c.requires.ready.array_is) (g.met.R.Rack.agrees (store_rack old.store)) (g.met.R.Rack.agrees (store_rack c.read_cell.new.store)) read.read.left
-    (g.met.R.Rack.slots_hold (store_rack c.read_cell.new.store)).absent (λ d is. subst (λ (z : ℕ). d < z) (sym c.requires.ready.array_is) (read.below d is)) (λ d is. read.one d is) c.requires.serves.stays
-    _ _ _ read.read.slots read.read.same.named c.in_ok-lose.ensures.marked read.read.calls
-
-pub returns-clause-setup : goal.returns-clause-setup
-returns-clause-setup g c = ap (λ (z : Meta). z.setup) c.in_ok-lose.ensures.marked ∙ marked_setup (lost_in c.args.self.now.meta c.in_ok-lost.lost) c.args.self.now.meta
-
-pub returns-clause-writes : goal.returns-clause-writes
-returns-clause-writes g c = ap (λ (z : Meta). z.writes) c.in_ok-lose.ensures.marked ∙ marked_writes (lost_in c.args.self.now.meta c.in_ok-lost.lost) c.args.self.now.meta
-
-pub returns-clause-epoch : goal.returns-clause-epoch
-returns-clause-epoch g c = ap (λ (z : Meta). z.epoch) c.in_ok-lose.ensures.marked ∙ marked_epoch (lost_in c.args.self.now.meta c.in_ok-lost.lost) c.args.self.now.meta
-
-pub returns-clause-down : goal.returns-clause-down
-returns-clause-down g c =
-    let old = c.args.self.now in
-    let read = c.in_ok-lost.ensures.read in
-    down_read (named_of old.store) old.meta c.in_ok-lost.lost c.lose.new.meta (named_of c.read_cell.new.store) _ _ c.requires.ready.one
-    (ap (λ (z : Meta). named_out z.out) c.in_ok-lose.ensures.marked) read.left.failed read.same.named
-
-pub returns-clause-cleans_less : goal.returns-clause-cleans_less
-returns-clause-cleans_less g c r d is =
-    let old = c.args.self.now in
-    subst (λ (z : Meta). is_cleaned z old.dirty r d ≡ false) (sym c.in_ok-lose.ensures.marked) (cleans_marked (lost_in old.meta c.in_ok-lost.lost) old.meta old.meta.epoch old.dirty r d is)
-
-pub returns-clause-calls : goal.returns-clause-calls
-returns-clause-calls g c =
-    let old = c.args.self.now in
-    calls_off _ _ _ _ (sym c.requires.ready.array_is) (λ d is. out_named (λ x. (g.R.Rack.slot (store_rack old.store) x).power) old.meta d (gone_named old.meta.out d is)) _ _ c.in_ok-lost.ensures.read.calls c.read_cell.ensures.off
-
-pub returns-in_err-lost-clause-calls : goal.returns-in_err-lost-clause-calls
-returns-in_err-lost-clause-calls g c =
-    let old = c.args.self.now in
-    calls_off _ _ _ _ (sym c.requires.ready.array_is) (λ d is. out_named (λ x. (g.R.Rack.slot (store_rack old.store) x).power) old.meta d (gone_named old.meta.out d is)) _ _ c.in_err-lost.ensures.two.calls c.read_cell.ensures.off
-
-pub returns-in_err-lose-clause-calls : goal.returns-in_err-lose-clause-calls
-returns-in_err-lose-clause-calls g c =
-    let old = c.args.self.now in
-    calls_off _ _ _ _ (sym c.requires.ready.array_is) (λ d is. out_named (λ x. (g.R.Rack.slot (store_rack old.store) x).power) old.meta d (gone_named old.meta.out d is)) _ _ c.in_ok-lost.ensures.read.calls c.read_cell.ensures.off
-
-pub returns-clause-reads : goal.returns-clause-reads
-returns-clause-reads g c = reads_of _ _ (sym c.requires.ready.array_is) _ _ c.in_ok-lost.ensures.read.calls
-
-pub returns-in_err-lost-clause-reads : goal.returns-in_err-lost-clause-reads
-returns-in_err-lost-clause-reads g c = reads_of _ _ (sym c.requires.ready.array_is) _ _ c.in_err-lost.ensures.two.calls
-
-pub returns-in_err-lose-clause-reads : goal.returns-in_err-lose-clause-reads
-returns-in_err-lose-clause-reads g c = reads_of _ _ (sym c.requires.ready.array_is) _ _ c.in_ok-lost.ensures.read.calls
-
-pub returns-clause-marks : goal.returns-clause-marks
-returns-clause-marks g c =
-    let m = c.args.self.now.meta in
-    marks_read m c.lose.new.meta c.in_ok-lost.lost _ _ m.epoch m.writes c.in_ok-lost.ensures.read.left c.in_ok-lose.ensures.marked (low g c) (λ d x is k. c.in_ok-lose.ensures.alone d x is k (low g c d is))
-
-pub returns-clause-named : goal.returns-clause-named
-returns-clause-named g c = c.in_ok-lost.ensures.read.same.named
-
-pub returns-in_err-lost-clause-named : goal.returns-in_err-lost-clause-named
-returns-in_err-lost-clause-named g c = c.in_err-lost.ensures.two.same.named
-
-pub returns-in_err-lose-clause-named : goal.returns-in_err-lose-clause-named
-returns-in_err-lose-clause-named g c = c.in_ok-lost.ensures.read.same.named
-
-pub returns-in_err-lost-clause-tells : goal.returns-in_err-lost-clause-tells
-returns-in_err-lost-clause-tells g c =
-    handed (λ two. Ran (g.R.Rack.told (store_rack c.args.self.now.store)) (g.R.Rack.told (store_rack c.read_cell.new.store)) (λ s cs. TellsLosses (named_out c.args.self.now.meta.out) two cs)) c.from_residual.result _ c.from_residual.ensures.1
-    (out_tells (λ x. (g.R.Rack.slot (store_rack c.args.self.now.store) x).power) c.args.self.now.meta c.requires.ready.absent _ _ _ c.in_err-lost.ensures.two.tells)
-
-pub returns-in_err-lose-clause-tells : goal.returns-in_err-lose-clause-tells
-returns-in_err-lose-clause-tells g c =
-    handed (λ two. Ran (g.R.Rack.told (store_rack c.args.self.now.store)) (g.R.Rack.told (store_rack c.read_cell.new.store)) (λ s cs. TellsLosses (named_out c.args.self.now.meta.out) two cs)) c.from_residual-in_err-lose.result _ c.from_residual-in_err-lose.ensures.1
-    (lose_tells (named_out c.args.self.now.meta.out) c.in_ok-lost.lost _ _ _ c.in_err-lose.ensures.two c.in_ok-lost.ensures.read.first)
-
-pub returns-in_err-lost-clause-ready : goal.returns-in_err-lost-clause-ready
-returns-in_err-lost-clause-ready g c = none_done _ c.from_residual.result _ c.from_residual.ensures.1
-
-pub returns-in_err-lost-clause-serves : goal.returns-in_err-lost-clause-serves
-returns-in_err-lost-clause-serves g c = none_done _ c.from_residual.result _ c.from_residual.ensures.1
-
-pub returns-in_err-lost-clause-cleans_less : goal.returns-in_err-lost-clause-cleans_less
-returns-in_err-lost-clause-cleans_less g c = none_done _ c.from_residual.result _ c.from_residual.ensures.1
-
-pub returns-in_err-lost-clause-setup : goal.returns-in_err-lost-clause-setup
-returns-in_err-lost-clause-setup g c = none_done _ c.from_residual.result _ c.from_residual.ensures.1
-
-pub returns-in_err-lost-clause-writes : goal.returns-in_err-lost-clause-writes
-returns-in_err-lost-clause-writes g c = none_done _ c.from_residual.result _ c.from_residual.ensures.1
-
-pub returns-in_err-lost-clause-epoch : goal.returns-in_err-lost-clause-epoch
-returns-in_err-lost-clause-epoch g c = none_done _ c.from_residual.result _ c.from_residual.ensures.1
-
-pub returns-in_err-lost-clause-down : goal.returns-in_err-lost-clause-down
-returns-in_err-lost-clause-down g c = none_done _ c.from_residual.result _ c.from_residual.ensures.1
-
-pub returns-in_err-lost-clause-marks : goal.returns-in_err-lost-clause-marks
-returns-in_err-lost-clause-marks g c = none_done _ c.from_residual.result _ c.from_residual.ensures.1
-
-pub returns-in_err-lost-clause-stands : goal.returns-in_err-lost-clause-stands
-returns-in_err-lost-clause-stands g c = none_done _ c.from_residual.result _ c.from_residual.ensures.1
-
-pub returns-in_err-lost-clause-since : goal.returns-in_err-lost-clause-since
-returns-in_err-lost-clause-since g c = none_done _ c.from_residual.result _ c.from_residual.ensures.1
-
-pub returns-in_err-lost-clause-value : goal.returns-in_err-lost-clause-value
-returns-in_err-lost-clause-value g c = none_done _ c.from_residual.result _ c.from_residual.ensures.1
-
-pub returns-in_err-lose-clause-ready : goal.returns-in_err-lose-clause-ready
-returns-in_err-lose-clause-ready g c = none_done _ c.from_residual-in_err-lose.result _ c.from_residual-in_err-lose.ensures.1
-
-pub returns-in_err-lose-clause-serves : goal.returns-in_err-lose-clause-serves
-returns-in_err-lose-clause-serves g c = none_done _ c.from_residual-in_err-lose.result _ c.from_residual-in_err-lose.ensures.1
-
-pub returns-in_err-lose-clause-cleans_less : goal.returns-in_err-lose-clause-cleans_less
-returns-in_err-lose-clause-cleans_less g c = none_done _ c.from_residual-in_err-lose.result _ c.from_residual-in_err-lose.ensures.1
-
-pub returns-in_err-lose-clause-setup : goal.returns-in_err-lose-clause-setup
-returns-in_err-lose-clause-setup g c = none_done _ c.from_residual-in_err-lose.result _ c.from_residual-in_err-lose.ensures.1
-
-pub returns-in_err-lose-clause-writes : goal.returns-in_err-lose-clause-writes
-returns-in_err-lose-clause-writes g c = none_done _ c.from_residual-in_err-lose.result _ c.from_residual-in_err-lose.ensures.1
-
-pub returns-in_err-lose-clause-epoch : goal.returns-in_err-lose-clause-epoch
-returns-in_err-lose-clause-epoch g c = none_done _ c.from_residual-in_err-lose.result _ c.from_residual-in_err-lose.ensures.1
-
-pub returns-in_err-lose-clause-down : goal.returns-in_err-lose-clause-down
-returns-in_err-lose-clause-down g c = none_done _ c.from_residual-in_err-lose.result _ c.from_residual-in_err-lose.ensures.1
-
-pub returns-in_err-lose-clause-marks : goal.returns-in_err-lose-clause-marks
-returns-in_err-lose-clause-marks g c = none_done _ c.from_residual-in_err-lose.result _ c.from_residual-in_err-lose.ensures.1
-
-pub returns-in_err-lose-clause-stands : goal.returns-in_err-lose-clause-stands
-returns-in_err-lose-clause-stands g c = none_done _ c.from_residual-in_err-lose.result _ c.from_residual-in_err-lose.ensures.1
-
-pub returns-in_err-lose-clause-since : goal.returns-in_err-lose-clause-since
-returns-in_err-lose-clause-since g c = none_done _ c.from_residual-in_err-lose.result _ c.from_residual-in_err-lose.ensures.1
-
-pub returns-in_err-lose-clause-value : goal.returns-in_err-lose-clause-value
-returns-in_err-lose-clause-value g c = none_done _ c.from_residual-in_err-lose.result _ c.from_residual-in_err-lose.ensures.1
-
-pub returns-clause-two : goal.returns-clause-two
-returns-clause-two g c = tt
-
-pub returns-clause-tells : goal.returns-clause-tells
-returns-clause-tells g c = tt
-
-pub returns-in_err-lose-clause-two : goal.returns-in_err-lose-clause-two
-returns-in_err-lose-clause-two g c =
-    let old = c.args.self.now in
-    let both = c.in_err-lose.ensures.two in
-    handed (AreTwoDown (or_else (named_of old.store) (named_out old.meta.out)) (g.R.Rack.slot (store_rack old.store)) (g.R.Rack.slot (store_rack c.read_cell.new.store))) c.from_residual-in_err-lose.result _ c.from_residual-in_err-lose.ensures.1
-    (record { first = inl (down_named (named_of old.store) old.meta c.requires.ready.one _ both.1); apart = both.2; second = (c.in_ok-lost.ensures.read.left.failed _ both.0).risen })
-
-pub returns-in_err-lose-clause-moments : goal.returns-in_err-lose-clause-moments
-returns-in_err-lose-clause-moments g c h lo =
-    let old = c.args.self.now in
-    reads_moments (g.R.Rack.slot_count (store_rack old.store)) (named_of old.store) old.meta old.dirty old.batch old.copied h lo (or_else (named_of old.store) (named_out old.meta.out)) (knows_named (named_of old.store) (named_out old.meta.out)) (disks_of old.store) _ _ (sym c.requires.ready.array_is) c.in_ok-lost.ensures.read.calls
-
-pub returns-in_err-lose-clause-moments_since : goal.returns-in_err-lose-clause-moments_since
-returns-in_err-lose-clause-moments_since g c h lo =
-    let old = c.args.self.now in
-    reads_moments (g.R.Rack.slot_count (store_rack old.store)) (named_of old.store) old.meta old.dirty old.batch old.copied h lo (named_of old.store) (λ d is. is) (disks_of old.store) _ _ (sym c.requires.ready.array_is) c.in_ok-lost.ensures.read.calls
-
-pub returns-in_err-lose-clause-spared : goal.returns-in_err-lose-clause-spared
-returns-in_err-lose-clause-spared g c = left_spared _ _ _ c.in_ok-lost.ensures.read.left
-
-pub returns-in_err-lose-clause-still_synced : goal.returns-in_err-lose-clause-still_synced
-returns-in_err-lose-clause-still_synced g c = left_synced _ _ _ c.in_ok-lost.ensures.read.left
+pub returns-in_err-lose : goal.returns-in_err-lose
+returns-in_err-lose g c = record {
+  draft = search rules;
+  copied = search rules;
+  slots = search rules;
+  ready = none_done _ c.from_residual-in_err-lose.result _ c.from_residual-in_err-lose.ensures.1;
+  serves = none_done _ c.from_residual-in_err-lose.result _ c.from_residual-in_err-lose.ensures.1;
+  batch = search rules;
+  table = search rules;
+  cleans_less = none_done _ c.from_residual-in_err-lose.result _ c.from_residual-in_err-lose.ensures.1;
+  setup = none_done _ c.from_residual-in_err-lose.result _ c.from_residual-in_err-lose.ensures.1;
+  writes = none_done _ c.from_residual-in_err-lose.result _ c.from_residual-in_err-lose.ensures.1;
+  epoch = none_done _ c.from_residual-in_err-lose.result _ c.from_residual-in_err-lose.ensures.1;
+  down = none_done _ c.from_residual-in_err-lose.result _ c.from_residual-in_err-lose.ensures.1;
+  spared = left_spared _ _ _ c.in_ok-lost.ensures.read.left;
+  still_synced = left_synced _ _ _ c.in_ok-lost.ensures.read.left;
+  two =
+      let old = c.args.self.now in
+      let both = c.in_err-lose.ensures.two in
+      handed (AreTwoDown (or_else (named_of old.store) (named_out old.meta.out)) (g.R.Rack.slot (store_rack old.store)) (g.R.Rack.slot (store_rack c.read_cell.new.store))) c.from_residual-in_err-lose.result _ c.from_residual-in_err-lose.ensures.1
+      (record { first = inl (down_named (named_of old.store) old.meta c.requires.ready.one _ both.1); apart = both.2; second = (c.in_ok-lost.ensures.read.left.failed _ both.0).risen });
+  tells =
+      handed (λ two. Ran (g.R.Rack.told (store_rack c.args.self.now.store)) (g.R.Rack.told (store_rack c.read_cell.new.store)) (λ s cs. TellsLosses (named_out c.args.self.now.meta.out) two cs)) c.from_residual-in_err-lose.result _ c.from_residual-in_err-lose.ensures.1
+      (lose_tells (named_out c.args.self.now.meta.out) c.in_ok-lost.lost _ _ _ c.in_err-lose.ensures.two c.in_ok-lost.ensures.read.first);
+  calls =
+      let old = c.args.self.now in
+      calls_off _ _ _ _ (sym c.requires.ready.array_is) (λ d is. out_named (λ x. (g.R.Rack.slot (store_rack old.store) x).power) old.meta d (gone_named old.meta.out d is)) _ _ c.in_ok-lost.ensures.read.calls c.read_cell.ensures.off;
+  reads = reads_of _ _ (sym c.requires.ready.array_is) _ _ c.in_ok-lost.ensures.read.calls;
+  marks = none_done _ c.from_residual-in_err-lose.result _ c.from_residual-in_err-lose.ensures.1;
+  named = c.in_ok-lost.ensures.read.same.named;
+  moments = λ h lo.
+      let old = c.args.self.now in
+      reads_moments (g.R.Rack.slot_count (store_rack old.store)) (named_of old.store) old.meta old.dirty old.batch old.copied h lo (or_else (named_of old.store) (named_out old.meta.out)) (knows_named (named_of old.store) (named_out old.meta.out)) (disks_of old.store) _ _ (sym c.requires.ready.array_is) c.in_ok-lost.ensures.read.calls;
+  stands = none_done _ c.from_residual-in_err-lose.result _ c.from_residual-in_err-lose.ensures.1;
+  moments_since = λ h lo.
+      let old = c.args.self.now in
+      reads_moments (g.R.Rack.slot_count (store_rack old.store)) (named_of old.store) old.meta old.dirty old.batch old.copied h lo (named_of old.store) (λ d is. is) (disks_of old.store) _ _ (sym c.requires.ready.array_is) c.in_ok-lost.ensures.read.calls;
+  since = none_done _ c.from_residual-in_err-lose.result _ c.from_residual-in_err-lose.ensures.1;
+  value = none_done _ c.from_residual-in_err-lose.result _ c.from_residual-in_err-lose.ensures.1;
+}

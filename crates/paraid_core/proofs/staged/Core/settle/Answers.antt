@@ -1,5 +1,5 @@
 use Rattle.std.specs.Prelude.{true, false}
-use Rattle.std.proofs.Common.{◌≡◌, ◌∙◌, arith, below_more, refl, inl}
+use Rattle.std.proofs.Common.{◌≡◌, ◌∙◌, arith, below_more, refl, inl, rules}
 use Rattle.paraid_txn.specs.Losses.{IsSyncedAt}
 use Rattle.paraid_txn.specs.Stores.{store_rack}
 use Rattle.paraid_view.proofs.TwoLemmas.{spared_then}
@@ -53,77 +53,56 @@ loop-disk-preserved g c =
       rebuilt = units_then g.R.Rack.slot_count g.R.Rack.slot g.R.Rack.told c.args.self.now c.loop-disk.self c.settle_one.new.self was.leaves one.leaves was.rebuilt one.rebuilt;
     }
 
-pub returns-in_err-settle_one-clause-moments : goal.returns-in_err-settle_one-clause-moments
-returns-in_err-settle_one-clause-moments g c =
-    let was = c.loop-disk.invariant in
-    held_then g.R.Rack.slot_count g.R.Rack.slot g.R.Rack.told c.args.self.now c.loop-disk.self was.leaves c.settle_one.new.self was.stands c.settle_one.ensures.moments
+pub returns-in_err-settle_one : goal.returns-in_err-settle_one
+returns-in_err-settle_one g c = record {
+  leaves = none_done _ c.from_residual.result _ c.from_residual.ensures.1;
+  spared = spared_then _ _ _ c.loop-disk.invariant.leaves.spared c.settle_one.ensures.spared;
+  still_synced = dry_both (g.R.Rack.slot (store_rack c.args.self.now.store)) (g.R.Rack.slot (store_rack c.loop-disk.self.store)) (g.R.Rack.slot (store_rack c.settle_one.new.self.store)) c.loop-disk.invariant.still_synced c.settle_one.ensures.still_synced c.settle_one.ensures.spared;
+  synced = none_done _ c.from_residual.result _ c.from_residual.ensures.1;
+  copies_synced = none_done _ c.from_residual.result _ c.from_residual.ensures.1;
+  two =
+      handed _ c.from_residual.result _ c.from_residual.ensures.1
+      (two_then g.R.Rack.slot_count g.R.Rack.slot g.R.Rack.told c.args.self.now c.loop-disk.self c.loop-disk.invariant.leaves c.settle_one.new.self c.settle_one.ensures.spared _ c.in_err-settle_one.ensures.two);
+  tells =
+      let old = c.args.self.now in
+      let mid = c.loop-disk.self in
+      let marks = c.loop-disk.invariant.marks in
+      handed (λ two. Ran (g.R.Rack.told (store_rack c.args.self.now.store)) (g.R.Rack.told (store_rack c.settle_one.new.self.store)) (λ s cs. TellsLosses (named_out c.args.self.now.meta.out) two cs)) c.from_residual.result _ c.from_residual.ensures.1
+      (core_tells_then g.R.Rack.slot g.R.Rack.told g.met.R.Rack.agrees old mid c.requires.ready.absent marks c.settle_one.new.self _
+      (sync_bears g.R.Rack.slot g.R.Rack.told g.met.R.Rack.agrees old mid c.requires.ready.absent marks c.loop-disk.invariant.calls) c.in_err-settle_one.ensures.tells);
+  calls =
+      let was = c.loop-disk.invariant in
+      calls_then _ _ _ _ was.calls
+      (copy_syncs_still _ _ was.leaves.meta c.loop-disk.disk _ _ was.copies_synced was.others _ _ c.settle_one.ensures.calls);
+  marks = none_done _ c.from_residual.result _ c.from_residual.ensures.1;
+  moments =
+      let was = c.loop-disk.invariant in
+      held_then g.R.Rack.slot_count g.R.Rack.slot g.R.Rack.told c.args.self.now c.loop-disk.self was.leaves c.settle_one.new.self was.stands c.settle_one.ensures.moments;
+  stands = none_done _ c.from_residual.result _ c.from_residual.ensures.1;
+  filled = none_done _ c.from_residual.result _ c.from_residual.ensures.1;
+  cells = none_done _ c.from_residual.result _ c.from_residual.ensures.1;
+  rebuilt = none_done _ c.from_residual.result _ c.from_residual.ensures.1;
+}
 
-pub returns-clause-moments : goal.returns-clause-moments
-returns-clause-moments g c =
-    let was = c.loop-disk.invariant in
-    stands_held g.R.Rack.slot_count g.R.Rack.slot g.R.Rack.told c.args.self.now c.loop-disk.self was.leaves was.stands
-
-pub returns-in_err-settle_one-clause-calls : goal.returns-in_err-settle_one-clause-calls
-returns-in_err-settle_one-clause-calls g c =
-    let was = c.loop-disk.invariant in
-    calls_then _ _ _ _ was.calls
-    (copy_syncs_still _ _ was.leaves.meta c.loop-disk.disk _ _ was.copies_synced was.others _ _ c.settle_one.ensures.calls)
-
-pub returns-clause-calls : goal.returns-clause-calls
-returns-clause-calls g c = c.loop-disk.invariant.calls
-
-pub returns-clause-marks : goal.returns-clause-marks
-returns-clause-marks g c = c.loop-disk.invariant.marks
-
-pub returns-in_err-settle_one-clause-tells : goal.returns-in_err-settle_one-clause-tells
-returns-in_err-settle_one-clause-tells g c =
-    let old = c.args.self.now in
-    let mid = c.loop-disk.self in
-    let marks = c.loop-disk.invariant.marks in
-    handed (λ two. Ran (g.R.Rack.told (store_rack c.args.self.now.store)) (g.R.Rack.told (store_rack c.settle_one.new.self.store)) (λ s cs. TellsLosses (named_out c.args.self.now.meta.out) two cs)) c.from_residual.result _ c.from_residual.ensures.1
-    (core_tells_then g.R.Rack.slot g.R.Rack.told g.met.R.Rack.agrees old mid c.requires.ready.absent marks c.settle_one.new.self _
-    (sync_bears g.R.Rack.slot g.R.Rack.told g.met.R.Rack.agrees old mid c.requires.ready.absent marks c.loop-disk.invariant.calls) c.in_err-settle_one.ensures.tells)
-
-pub returns-in_err-settle_one-clause-two : goal.returns-in_err-settle_one-clause-two
-returns-in_err-settle_one-clause-two g c =
-    handed _ c.from_residual.result _ c.from_residual.ensures.1
-    (two_then g.R.Rack.slot_count g.R.Rack.slot g.R.Rack.told c.args.self.now c.loop-disk.self c.loop-disk.invariant.leaves c.settle_one.new.self c.settle_one.ensures.spared _ c.in_err-settle_one.ensures.two)
-
-pub returns-in_err-settle_one-clause-spared : goal.returns-in_err-settle_one-clause-spared
-returns-in_err-settle_one-clause-spared g c = spared_then _ _ _ c.loop-disk.invariant.leaves.spared c.settle_one.ensures.spared
-
-pub returns-in_err-settle_one-clause-still_synced : goal.returns-in_err-settle_one-clause-still_synced
-returns-in_err-settle_one-clause-still_synced g c = dry_both (g.R.Rack.slot (store_rack c.args.self.now.store)) (g.R.Rack.slot (store_rack c.loop-disk.self.store)) (g.R.Rack.slot (store_rack c.settle_one.new.self.store)) c.loop-disk.invariant.still_synced c.settle_one.ensures.still_synced c.settle_one.ensures.spared
-
-pub returns-in_err-settle_one-clause-leaves : goal.returns-in_err-settle_one-clause-leaves
-returns-in_err-settle_one-clause-leaves g c = none_done _ c.from_residual.result _ c.from_residual.ensures.1
-
-pub returns-in_err-settle_one-clause-synced : goal.returns-in_err-settle_one-clause-synced
-returns-in_err-settle_one-clause-synced g c = none_done _ c.from_residual.result _ c.from_residual.ensures.1
-
-pub returns-in_err-settle_one-clause-copies_synced : goal.returns-in_err-settle_one-clause-copies_synced
-returns-in_err-settle_one-clause-copies_synced g c = none_done _ c.from_residual.result _ c.from_residual.ensures.1
-
-pub returns-in_err-settle_one-clause-marks : goal.returns-in_err-settle_one-clause-marks
-returns-in_err-settle_one-clause-marks g c = none_done _ c.from_residual.result _ c.from_residual.ensures.1
-
-pub returns-in_err-settle_one-clause-stands : goal.returns-in_err-settle_one-clause-stands
-returns-in_err-settle_one-clause-stands g c = none_done _ c.from_residual.result _ c.from_residual.ensures.1
-
-pub returns-in_err-settle_one-clause-filled : goal.returns-in_err-settle_one-clause-filled
-returns-in_err-settle_one-clause-filled g c = none_done _ c.from_residual.result _ c.from_residual.ensures.1
-
-pub returns-in_err-settle_one-clause-cells : goal.returns-in_err-settle_one-clause-cells
-returns-in_err-settle_one-clause-cells g c = none_done _ c.from_residual.result _ c.from_residual.ensures.1
-
-pub returns-in_err-settle_one-clause-rebuilt : goal.returns-in_err-settle_one-clause-rebuilt
-returns-in_err-settle_one-clause-rebuilt g c = none_done _ c.from_residual.result _ c.from_residual.ensures.1
-
-pub returns-clause-two : goal.returns-clause-two
-returns-clause-two g c = tt
-
-pub returns-clause-tells : goal.returns-clause-tells
-returns-clause-tells g c = tt
+pub returns : goal.returns
+returns g c = record {
+  leaves = search rules;
+  spared = search rules;
+  still_synced = search rules;
+  synced = search rules;
+  copies_synced = search rules;
+  two = tt;
+  tells = tt;
+  calls = c.loop-disk.invariant.calls;
+  marks = c.loop-disk.invariant.marks;
+  moments =
+      let was = c.loop-disk.invariant in
+      stands_held g.R.Rack.slot_count g.R.Rack.slot g.R.Rack.told c.args.self.now c.loop-disk.self was.leaves was.stands;
+  stands = search rules;
+  filled = search rules;
+  cells = search rules;
+  rebuilt = search rules;
+}
 
 pub settle_one-requires-clause-ready : goal.settle_one-requires-clause-ready
 settle_one-requires-clause-ready g c = c.loop-disk.invariant.leaves.ready

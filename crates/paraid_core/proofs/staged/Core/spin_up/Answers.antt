@@ -1,4 +1,4 @@
-use Rattle.std.proofs.Common.{◌≡◌, ℕ, ◌∙◌, ◌<◌, None, Some, sym, ap, subst, refl, false, inl, inr}
+use Rattle.std.proofs.Common.{◌≡◌, ℕ, ◌∙◌, ◌<◌, None, Some, sym, ap, subst, refl, false, inl, inr, rules}
 use Rattle.std.proofs.lemmas.Bool.{cases_eq, false≢true}
 use Rattle.paraid_base.specs.States.{gone_out}
 use Rattle.std.specs.Prelude.{Option, is_ok}
@@ -32,29 +32,6 @@ use Rattle.paraid_core.proofs.staged.Core.spin_up.Goals as goal
 use Rattle.paraid_core.proofs.ErrLemmas.{done_not_dropped, none_done, none_done_as, two_lost}
 use Rattle.paraid_core.proofs.staged.Core.spin_up.Goals.{In_ok-lose}
 
-pub returns-in_default-clause-done : goal.returns-in_default-clause-done
-returns-in_default-clause-done g c is h lo =
-    let q = c.requires in
-    spin_done g.R.Rack.slot_count g.R.Rack.slot g.R.Rack.told c.args.self.now _ c.args.disk _ c.spin_up.ensures.told (g.met.R.Rack.agrees (store_rack c.args.self.now.store)) q.parked q.disk
-    (ap is_ok c.in_default.is) _ _ c.spin_up.ensures.slots c.spin_up.ensures.same.named h lo
-
-pub returns-in_default-clause-moments : goal.returns-in_default-clause-moments
-returns-in_default-clause-moments g c h lo =
-    let q = c.requires in
-    spin_held g.R.Rack.slot_count g.R.Rack.slot g.R.Rack.told c.args.self.now _ c.args.disk _ c.spin_up.ensures.told (g.met.R.Rack.agrees (store_rack c.args.self.now.store)) q.parked q.disk h lo
-
-pub returns-in_err-lose-clause-moments : goal.returns-in_err-lose-clause-moments
-returns-in_err-lose-clause-moments g c h lo =
-    let q = c.requires in
-    spin_held g.R.Rack.slot_count g.R.Rack.slot g.R.Rack.told c.args.self.now _ c.args.disk _ c.spin_up.ensures.told (g.met.R.Rack.agrees (store_rack c.args.self.now.store)) q.parked q.disk h lo
-
-pub returns-in_default-clause-ready : goal.returns-in_default-clause-ready
-returns-in_default-clause-ready g c =
-    let q = c.requires in
-    ready_moved _ _ _ _ _ _ _ _ _ c.args.self.now.meta _ _ _ c.spin_up.ensures.slots c.spin_up.ensures.same.epoch c.spin_up.ensures.same.disks c.spin_up.ensures.same.named refl
-    (spun_ready _ (g.R.Rack.slot (store_rack c.args.self.now.store)) _ _ _ _ _ _ _ c.args.disk c.spin_up.ensures.slot.others q.past_gear q.not_out
-    (ap (λ (s : Slot). s.power) (c.spin_up.ensures.slot.done (ap is_ok c.in_default.is))) q.nothing q.ready)
-
 -- it failed, and no other disk is out
 module _ (g : Over) (c : In_ok-lose g) where
   abbrev old : Core g.row.R.Denot g.R.Rack
@@ -85,223 +62,162 @@ module _ (g : Over) (c : In_ok-lose g) where
   low_in : (d : ℕ) → lost_in old.meta (Some c.args.disk) ≡ Some d → d < old.meta.setup.geometry.disks
   low_in d is = subst (λ (e : ℕ). e < old.meta.setup.geometry.disks) (some_is c.args.disk d (sym is_lost ∙ is)) c.requires.disk
 
-pub returns-clause-meta : goal.returns-clause-meta
-returns-clause-meta g c = record { lost = Some c.args.disk; is = meta_is g c; alone = λ d x is k. alone g c x k ∙ some_is c.args.disk d is }
+pub returns-in_err-lose : goal.returns-in_err-lose
+returns-in_err-lose g c = record {
+  slots = search rules;
+  others = search rules;
+  spins = λ is. none_done_as _ c.from_residual.result _ _ c.from_residual.ensures.1 is;
+  size = λ is. none_done_as _ c.from_residual.result _ _ c.from_residual.ensures.1 is;
+  meta = none_done _ c.from_residual.result _ c.from_residual.ensures.1;
+  same = λ is. none_done_as _ c.from_residual.result _ _ c.from_residual.ensures.1 is;
+  ready = none_done _ c.from_residual.result _ c.from_residual.ensures.1;
+  serves = none_done _ c.from_residual.result _ c.from_residual.ensures.1;
+  store = search rules;
+  table = search rules;
+  batch = search rules;
+  copied = search rules;
+  draft = search rules;
+  unsynced = none_done _ c.from_residual.result _ c.from_residual.ensures.1;
+  turned =
+      let old = c.args.self.now in
+      only_turns (g.R.Rack.slot (store_rack old.store)) _ c.args.disk _ _ _ c.spin_up.ensures.slot (ap is_present c.requires.parked) refl refl;
+  risen = none_done _ c.from_residual.result _ c.from_residual.ensures.1;
+  gone = λ is. none_done_as _ c.from_residual.result _ _ c.from_residual.ensures.1 is;
+  failed = λ is. none_done_as _ c.from_residual.result _ _ c.from_residual.ensures.1 is;
+  absent = none_done _ c.from_residual.result _ c.from_residual.ensures.1;
+  two =
+      let old = c.args.self.now in
+      handed _ c.from_residual.result _ c.from_residual.ensures.1 (two_lost (named_of old.store) (named_out old.meta.out) _ _ c.args.disk _ c.requires.still (c.spin_up.ensures.slot.risen (ap is_ok c.in-Err.is)) c.in_err-lose.ensures.two);
+  tells =
+      handed (λ two. Ran (g.R.Rack.told (store_rack c.args.self.now.store)) (g.R.Rack.told (store_rack c.spin_up.new.self)) (λ s cs. TellsLosses (named_out c.args.self.now.meta.out) two cs)) c.from_residual.result _ c.from_residual.ensures.1
+      (call_tells (named_out c.args.self.now.meta.out) _ (SpinUp c.args.disk (is_ok c.spin_up.result)) _ _ c.spin_up.ensures.told (ap is_ok c.in-Err.is) c.in_err-lose.ensures.two);
+  calls = one_call _ _ _ (is_ok c.spin_up.result) c.spin_up.ensures.told (λ t tells. (g.met.R.Rack.agrees (store_rack c.args.self.now.store) t tells).power c.args.disk ∙ c.requires.parked);
+  done = λ is. none_done_as _ c.from_residual.result _ _ c.from_residual.ensures.1 is;
+  lost = λ is. none_done_as _ c.from_residual.result _ _ c.from_residual.ensures.1 is;
+  lost_filled = λ is. none_done_as _ c.from_residual.result _ _ c.from_residual.ensures.1 is;
+  moments = λ h lo.
+      let q = c.requires in
+      spin_held g.R.Rack.slot_count g.R.Rack.slot g.R.Rack.told c.args.self.now _ c.args.disk _ c.spin_up.ensures.told (g.met.R.Rack.agrees (store_rack c.args.self.now.store)) q.parked q.disk h lo;
+}
 
-pub returns-clause-ready : goal.returns-clause-ready
-returns-clause-ready g c =
-    let spin = c.spin_up.ensures in
-    ready_moved _ _ _ _ _ _ _ _ _ (meta_with_lost (lost_in c.args.self.now.meta (Some c.args.disk)) c.args.self.now.meta) _ _ _ spin.slots spin.same.epoch spin.same.disks spin.same.named c.in_ok-lose.ensures.marked
-    (ready_after _ _ _ _ _ _ c.args.self.now.meta _ _ c.requires.ready (Some c.args.disk) (only g c) (alone_in g c) (λ d x is k. alone_in g c d x is (c.requires.still x k)) (low_in g c))
+pub returns : goal.returns
+returns g c = record {
+  slots = search rules;
+  others = search rules;
+  spins = λ is. done_not_dropped _ _ is refl;
+  size = λ is. done_not_dropped _ _ is refl;
+  meta = record { lost = Some c.args.disk; is = meta_is g c; alone = λ d x is k. alone g c x k ∙ some_is c.args.disk d is };
+  same = λ is. done_not_dropped _ _ is refl;
+  ready =
+      let spin = c.spin_up.ensures in
+      ready_moved _ _ _ _ _ _ _ _ _ (meta_with_lost (lost_in c.args.self.now.meta (Some c.args.disk)) c.args.self.now.meta) _ _ _ spin.slots spin.same.epoch spin.same.disks spin.same.named c.in_ok-lose.ensures.marked
+      (ready_after _ _ _ _ _ _ c.args.self.now.meta _ _ c.requires.ready (Some c.args.disk) (only g c) (alone_in g c) (λ d x is k. alone_in g c d x is (c.requires.still x k)) (low_in g c));
+  serves = λ up.
+      let old = c.args.self.now in
+      subst (λ (z : Option ℕ). CanServe (g.R.Rack.slot (store_rack c.spin_up.new.self)) z c.lose.new.meta) (sym c.spin_up.ensures.same.named)
+      (subst (λ (z : Meta). CanServe (g.R.Rack.slot (store_rack c.spin_up.new.self)) (named_of old.store) z) (sym (meta_is g c))
+      (lost_serves (g.R.Rack.slot (store_rack old.store)) (g.R.Rack.slot (store_rack c.spin_up.new.self)) (named_of old.store) old.meta c.args.disk up c.spin_up.ensures.slot.others
+      (λ x is. c.in_ok-lose.ensures.alone c.args.disk x refl is c.requires.disk) c.requires.still));
+  store = search rules;
+  table = search rules;
+  batch = search rules;
+  copied = search rules;
+  draft = search rules;
+  unsynced = λ was d low stays here wet.
+      let m = c.args.self.now.meta in
+      let slot = c.spin_up.ensures.slot in
+      elim (cases_eq d c.args.disk) [
+        | inl is ↦ absurd (false≢true (sym (ap is_present (ap (λ (e : ℕ). (g.R.Rack.slot (store_rack c.spin_up.new.self) e).power) is ∙ slot.absent (failed g c))) ∙ here))
+        | inr apart ↦
+            was d (subst (λ (n : Meta). d < n.setup.geometry.disks) (meta_is g c) low)
+            (λ is. stays (ap (λ (n : Meta). gone_out n.out) (meta_is g c) ∙ gone_still m (Some c.args.disk) (λ e x k named. alone g c x named ∙ some_is c.args.disk e k) d is))
+            (ap (λ (s : Slot). is_present s.power) (sym (slot.others d apart)) ∙ here) (ap (λ (s : Slot). s.unsynced) (sym (slot.others d apart)) ∙ wet)
+      ];
+  turned =
+      let old = c.args.self.now in
+      only_turns (g.R.Rack.slot (store_rack old.store)) _ c.args.disk _ _ _ c.spin_up.ensures.slot (ap is_present c.requires.parked) refl refl;
+  risen = λ d is.
+      let same : c.args.disk ≡ d = some_is c.args.disk d (ap (λ (z : Meta). named_out z.out) (sym (meta_is g c)) ∙ is) in
+      inr (subst (λ (e : ℕ). HasRisen (g.R.Rack.slot (store_rack c.args.self.now.store) e).faults (g.R.Rack.slot (store_rack c.spin_up.new.self) e).faults) same (c.spin_up.ensures.slot.risen (failed g c)));
+  gone = λ is. ap (λ (z : Meta). z.out) (meta_is g c);
+  failed = λ is. record { risen = c.spin_up.ensures.slot.risen (failed g c); absent = c.spin_up.ensures.slot.absent (failed g c) };
+  absent = λ was d is.
+      let same : c.args.disk ≡ d = some_is c.args.disk d (ap (λ (z : Meta). named_out z.out) (sym (meta_is g c)) ∙ is) in
+      inr (ap is_present (ap (λ (e : ℕ). (g.R.Rack.slot (store_rack c.spin_up.new.self) e).power) (sym same) ∙ c.spin_up.ensures.slot.absent (failed g c)));
+  two = tt;
+  tells = tt;
+  calls = one_call _ _ _ (is_ok c.spin_up.result) c.spin_up.ensures.told (λ t tells. (g.met.R.Rack.agrees (store_rack c.args.self.now.store) t tells).power c.args.disk ∙ c.requires.parked);
+  done = λ is. done_not_dropped _ _ is refl;
+  lost = λ is.
+      let ready = c.requires.ready in
+      let old = c.args.self.now in
+      call_stands g.R.Rack.slot_count g.R.Rack.slot g.R.Rack.told old _ _ c.spin_up.ensures.told (g.met.R.Rack.agrees (store_rack old.store)) _ _ _ _ _ _ c.spin_up.ensures.slots c.spin_up.ensures.same.named
+      (ap (λ (z : Meta). z.setup) (meta_is g c))
+      (λ h lo s agrees k. subst (λ (z : Meta). HoldsBetweenCalls (g.R.Rack.slot_count (store_rack old.store)) (named_of old.store) z old.dirty old.batch old.copied h lo (step (SpinUp c.args.disk (is_ok c.spin_up.result)) s)) (sym (meta_is g c))
+      (keeps_failed _ _ old.meta _ _ _ h lo s (SpinUp c.args.disk (is_ok c.spin_up.result)) ready.in_range c.requires.disk (failed g c) (λ x l gone. ready.absent x l (ap is_present (sym (agrees.power x)) ∙ gone)) (alone g c) c.requires.still k));
+  lost_filled = λ is.
+      let ready = c.requires.ready in
+      let old = c.args.self.now in
+      call_filled g.R.Rack.slot_count g.R.Rack.slot g.R.Rack.told old _ _ c.spin_up.ensures.told (g.met.R.Rack.agrees (store_rack old.store)) _ _ _ c.spin_up.ensures.slots c.spin_up.ensures.same.named
+      (ap (λ (z : Meta). z.setup) (meta_is g c))
+      (λ h lo s agrees kf. subst (λ (z : Meta). KeepsFilled (g.R.Rack.slot_count (store_rack old.store)) (named_of old.store) z old.dirty old.copied h lo z.fill (step (SpinUp c.args.disk (is_ok c.spin_up.result)) s)) (sym (meta_is g c))
+      (filled_failed _ _ old.meta _ _ h lo s (SpinUp c.args.disk (is_ok c.spin_up.result)) ready.in_range c.requires.disk (failed g c) (λ x l gone. ready.absent x l (ap is_present (sym (agrees.power x)) ∙ gone)) (alone g c) c.requires.still kf));
+  moments = λ h lo.
+      let q = c.requires in
+      spin_held g.R.Rack.slot_count g.R.Rack.slot g.R.Rack.told c.args.self.now _ c.args.disk _ c.spin_up.ensures.told (g.met.R.Rack.agrees (store_rack c.args.self.now.store)) q.parked q.disk h lo;
+}
 
-pub returns-clause-lost : goal.returns-clause-lost
-returns-clause-lost g c is =
-    let ready = c.requires.ready in
-    let old = c.args.self.now in
-    call_stands g.R.Rack.slot_count g.R.Rack.slot g.R.Rack.told old _ _ c.spin_up.ensures.told (g.met.R.Rack.agrees (store_rack old.store)) _ _ _ _ _ _ c.spin_up.ensures.slots c.spin_up.ensures.same.named
-    (ap (λ (z : Meta). z.setup) (meta_is g c))
-    (λ h lo s agrees k. subst (λ (z : Meta). HoldsBetweenCalls (g.R.Rack.slot_count (store_rack old.store)) (named_of old.store) z old.dirty old.batch old.copied h lo (step (SpinUp c.args.disk (is_ok c.spin_up.result)) s)) (sym (meta_is g c))
-    (keeps_failed _ _ old.meta _ _ _ h lo s (SpinUp c.args.disk (is_ok c.spin_up.result)) ready.in_range c.requires.disk (failed g c) (λ x l gone. ready.absent x l (ap is_present (sym (agrees.power x)) ∙ gone)) (alone g c) c.requires.still k))
-
-pub returns-clause-moments : goal.returns-clause-moments
-returns-clause-moments g c h lo =
-    let q = c.requires in
-    spin_held g.R.Rack.slot_count g.R.Rack.slot g.R.Rack.told c.args.self.now _ c.args.disk _ c.spin_up.ensures.told (g.met.R.Rack.agrees (store_rack c.args.self.now.store)) q.parked q.disk h lo
-
-pub returns-clause-lost_filled : goal.returns-clause-lost_filled
-returns-clause-lost_filled g c is =
-    let ready = c.requires.ready in
-    let old = c.args.self.now in
-    call_filled g.R.Rack.slot_count g.R.Rack.slot g.R.Rack.told old _ _ c.spin_up.ensures.told (g.met.R.Rack.agrees (store_rack old.store)) _ _ _ c.spin_up.ensures.slots c.spin_up.ensures.same.named
-    (ap (λ (z : Meta). z.setup) (meta_is g c))
-    (λ h lo s agrees kf. subst (λ (z : Meta). KeepsFilled (g.R.Rack.slot_count (store_rack old.store)) (named_of old.store) z old.dirty old.copied h lo z.fill (step (SpinUp c.args.disk (is_ok c.spin_up.result)) s)) (sym (meta_is g c))
-    (filled_failed _ _ old.meta _ _ h lo s (SpinUp c.args.disk (is_ok c.spin_up.result)) ready.in_range c.requires.disk (failed g c) (λ x l gone. ready.absent x l (ap is_present (sym (agrees.power x)) ∙ gone)) (alone g c) c.requires.still kf))
-
-pub returns-in_default-clause-turned : goal.returns-in_default-clause-turned
-returns-in_default-clause-turned g c =
-    let old = c.args.self.now in
-    only_turns (g.R.Rack.slot (store_rack old.store)) _ c.args.disk _ _ _ c.spin_up.ensures.slot (ap is_present c.requires.parked) refl refl
-
-pub returns-in_err-lose-clause-turned : goal.returns-in_err-lose-clause-turned
-returns-in_err-lose-clause-turned g c =
-    let old = c.args.self.now in
-    only_turns (g.R.Rack.slot (store_rack old.store)) _ c.args.disk _ _ _ c.spin_up.ensures.slot (ap is_present c.requires.parked) refl refl
-
-pub returns-clause-turned : goal.returns-clause-turned
-returns-clause-turned g c =
-    let old = c.args.self.now in
-    only_turns (g.R.Rack.slot (store_rack old.store)) _ c.args.disk _ _ _ c.spin_up.ensures.slot (ap is_present c.requires.parked) refl refl
-
-pub returns-clause-risen : goal.returns-clause-risen
-returns-clause-risen g c d is =
-    let same : c.args.disk ≡ d = some_is c.args.disk d (ap (λ (z : Meta). named_out z.out) (sym (meta_is g c)) ∙ is) in
-    inr (subst (λ (e : ℕ). HasRisen (g.R.Rack.slot (store_rack c.args.self.now.store) e).faults (g.R.Rack.slot (store_rack c.spin_up.new.self) e).faults) same (c.spin_up.ensures.slot.risen (failed g c)))
-
-pub returns-clause-absent : goal.returns-clause-absent
-returns-clause-absent g c was d is =
-    let same : c.args.disk ≡ d = some_is c.args.disk d (ap (λ (z : Meta). named_out z.out) (sym (meta_is g c)) ∙ is) in
-    inr (ap is_present (ap (λ (e : ℕ). (g.R.Rack.slot (store_rack c.spin_up.new.self) e).power) (sym same) ∙ c.spin_up.ensures.slot.absent (failed g c)))
-
-pub returns-clause-gone : goal.returns-clause-gone
-returns-clause-gone g c is = ap (λ (z : Meta). z.out) (meta_is g c)
-
-pub returns-in_default-clause-calls : goal.returns-in_default-clause-calls
-returns-in_default-clause-calls g c =
-    one_call _ _ _ (is_ok c.spin_up.result) c.spin_up.ensures.told (λ t tells. (g.met.R.Rack.agrees (store_rack c.args.self.now.store) t tells).power c.args.disk ∙ c.requires.parked)
-
-pub returns-clause-calls : goal.returns-clause-calls
-returns-clause-calls g c =
-    one_call _ _ _ (is_ok c.spin_up.result) c.spin_up.ensures.told (λ t tells. (g.met.R.Rack.agrees (store_rack c.args.self.now.store) t tells).power c.args.disk ∙ c.requires.parked)
-
-pub returns-in_err-lose-clause-calls : goal.returns-in_err-lose-clause-calls
-returns-in_err-lose-clause-calls g c =
-    one_call _ _ _ (is_ok c.spin_up.result) c.spin_up.ensures.told (λ t tells. (g.met.R.Rack.agrees (store_rack c.args.self.now.store) t tells).power c.args.disk ∙ c.requires.parked)
-
-pub returns-in_default-clause-serves : goal.returns-in_default-clause-serves
-returns-in_default-clause-serves g c up =
-    let old = c.args.self.now in
-    let done = c.spin_up.ensures.slot.done (ap is_ok c.in_default.is) in
-    subst (λ (z : Option ℕ). CanServe (g.R.Rack.slot (store_rack c.spin_up.new.self)) z old.meta) (sym c.spin_up.ensures.same.named)
-    (up_serves (g.R.Rack.slot (store_rack old.store)) (g.R.Rack.slot (store_rack c.spin_up.new.self)) (named_of old.store) old.meta c.args.disk up c.spin_up.ensures.slot.others
-    (ap (λ (s : Slot). s.power) done) (ap (λ (s : Slot). s.size) done) c.requires.still)
-
-pub returns-clause-serves : goal.returns-clause-serves
-returns-clause-serves g c up =
-    let old = c.args.self.now in
-    subst (λ (z : Option ℕ). CanServe (g.R.Rack.slot (store_rack c.spin_up.new.self)) z c.lose.new.meta) (sym c.spin_up.ensures.same.named)
-    (subst (λ (z : Meta). CanServe (g.R.Rack.slot (store_rack c.spin_up.new.self)) (named_of old.store) z) (sym (meta_is g c))
-    (lost_serves (g.R.Rack.slot (store_rack old.store)) (g.R.Rack.slot (store_rack c.spin_up.new.self)) (named_of old.store) old.meta c.args.disk up c.spin_up.ensures.slot.others
-    (λ x is. c.in_ok-lose.ensures.alone c.args.disk x refl is c.requires.disk) c.requires.still))
-
-pub returns-clause-failed : goal.returns-clause-failed
-returns-clause-failed g c is = record { risen = c.spin_up.ensures.slot.risen (failed g c); absent = c.spin_up.ensures.slot.absent (failed g c) }
-
-pub returns-in_err-lose-clause-tells : goal.returns-in_err-lose-clause-tells
-returns-in_err-lose-clause-tells g c =
-    handed (λ two. Ran (g.R.Rack.told (store_rack c.args.self.now.store)) (g.R.Rack.told (store_rack c.spin_up.new.self)) (λ s cs. TellsLosses (named_out c.args.self.now.meta.out) two cs)) c.from_residual.result _ c.from_residual.ensures.1
-    (call_tells (named_out c.args.self.now.meta.out) _ (SpinUp c.args.disk (is_ok c.spin_up.result)) _ _ c.spin_up.ensures.told (ap is_ok c.in-Err.is) c.in_err-lose.ensures.two)
-
-pub returns-clause-unsynced : goal.returns-clause-unsynced
-returns-clause-unsynced g c was d low stays here wet =
-    let m = c.args.self.now.meta in
-    let slot = c.spin_up.ensures.slot in
-    elim (cases_eq d c.args.disk) [
-      | inl is ↦ absurd (false≢true (sym (ap is_present (ap (λ (e : ℕ). (g.R.Rack.slot (store_rack c.spin_up.new.self) e).power) is ∙ slot.absent (failed g c))) ∙ here))
-      | inr apart ↦
-          was d (subst (λ (n : Meta). d < n.setup.geometry.disks) (meta_is g c) low)
-          (λ is. stays (ap (λ (n : Meta). gone_out n.out) (meta_is g c) ∙ gone_still m (Some c.args.disk) (λ e x k named. alone g c x named ∙ some_is c.args.disk e k) d is))
-          (ap (λ (s : Slot). is_present s.power) (sym (slot.others d apart)) ∙ here) (ap (λ (s : Slot). s.unsynced) (sym (slot.others d apart)) ∙ wet)
-    ]
-
-pub returns-in_default-clause-same : goal.returns-in_default-clause-same
-returns-in_default-clause-same g c is = refl
-
-pub returns-in_default-clause-two : goal.returns-in_default-clause-two
-returns-in_default-clause-two g c = tt
-
-pub returns-in_default-clause-tells : goal.returns-in_default-clause-tells
-returns-in_default-clause-tells g c = tt
-
-pub returns-in_default-clause-gone : goal.returns-in_default-clause-gone
-returns-in_default-clause-gone g c is = done_not_dropped _ _ refl is
-
-pub returns-in_default-clause-failed : goal.returns-in_default-clause-failed
-returns-in_default-clause-failed g c is = done_not_dropped _ _ refl is
-
-pub returns-in_default-clause-lost : goal.returns-in_default-clause-lost
-returns-in_default-clause-lost g c is = done_not_dropped _ _ refl is
-
-pub returns-in_default-clause-lost_filled : goal.returns-in_default-clause-lost_filled
-returns-in_default-clause-lost_filled g c is = done_not_dropped _ _ refl is
-
-pub returns-in_err-lose-clause-meta : goal.returns-in_err-lose-clause-meta
-returns-in_err-lose-clause-meta g c = none_done _ c.from_residual.result _ c.from_residual.ensures.1
-
-pub returns-in_err-lose-clause-ready : goal.returns-in_err-lose-clause-ready
-returns-in_err-lose-clause-ready g c = none_done _ c.from_residual.result _ c.from_residual.ensures.1
-
-pub returns-in_err-lose-clause-serves : goal.returns-in_err-lose-clause-serves
-returns-in_err-lose-clause-serves g c = none_done _ c.from_residual.result _ c.from_residual.ensures.1
-
-pub returns-in_err-lose-clause-unsynced : goal.returns-in_err-lose-clause-unsynced
-returns-in_err-lose-clause-unsynced g c = none_done _ c.from_residual.result _ c.from_residual.ensures.1
-
-pub returns-in_err-lose-clause-risen : goal.returns-in_err-lose-clause-risen
-returns-in_err-lose-clause-risen g c = none_done _ c.from_residual.result _ c.from_residual.ensures.1
-
-pub returns-in_err-lose-clause-absent : goal.returns-in_err-lose-clause-absent
-returns-in_err-lose-clause-absent g c = none_done _ c.from_residual.result _ c.from_residual.ensures.1
-
-pub returns-in_err-lose-clause-same : goal.returns-in_err-lose-clause-same
-returns-in_err-lose-clause-same g c is = none_done_as _ c.from_residual.result _ _ c.from_residual.ensures.1 is
-
-pub returns-in_err-lose-clause-gone : goal.returns-in_err-lose-clause-gone
-returns-in_err-lose-clause-gone g c is = none_done_as _ c.from_residual.result _ _ c.from_residual.ensures.1 is
-
-pub returns-in_err-lose-clause-failed : goal.returns-in_err-lose-clause-failed
-returns-in_err-lose-clause-failed g c is = none_done_as _ c.from_residual.result _ _ c.from_residual.ensures.1 is
-
-pub returns-in_err-lose-clause-done : goal.returns-in_err-lose-clause-done
-returns-in_err-lose-clause-done g c is = none_done_as _ c.from_residual.result _ _ c.from_residual.ensures.1 is
-
-pub returns-in_err-lose-clause-lost : goal.returns-in_err-lose-clause-lost
-returns-in_err-lose-clause-lost g c is = none_done_as _ c.from_residual.result _ _ c.from_residual.ensures.1 is
-
-pub returns-in_err-lose-clause-lost_filled : goal.returns-in_err-lose-clause-lost_filled
-returns-in_err-lose-clause-lost_filled g c is = none_done_as _ c.from_residual.result _ _ c.from_residual.ensures.1 is
-
-pub returns-in_err-lose-clause-spins : goal.returns-in_err-lose-clause-spins
-returns-in_err-lose-clause-spins g c is = none_done_as _ c.from_residual.result _ _ c.from_residual.ensures.1 is
-
-pub returns-in_err-lose-clause-size : goal.returns-in_err-lose-clause-size
-returns-in_err-lose-clause-size g c is = none_done_as _ c.from_residual.result _ _ c.from_residual.ensures.1 is
-
-pub returns-in_err-lose-clause-two : goal.returns-in_err-lose-clause-two
-returns-in_err-lose-clause-two g c =
-    let old = c.args.self.now in
-    handed _ c.from_residual.result _ c.from_residual.ensures.1 (two_lost (named_of old.store) (named_out old.meta.out) _ _ c.args.disk _ c.requires.still (c.spin_up.ensures.slot.risen (ap is_ok c.in-Err.is)) c.in_err-lose.ensures.two)
-
-pub returns-clause-same : goal.returns-clause-same
-returns-clause-same g c is = done_not_dropped _ _ is refl
-
-pub returns-clause-done : goal.returns-clause-done
-returns-clause-done g c is = done_not_dropped _ _ is refl
-
-pub returns-clause-spins : goal.returns-clause-spins
-returns-clause-spins g c is = done_not_dropped _ _ is refl
-
-pub returns-clause-size : goal.returns-clause-size
-returns-clause-size g c is = done_not_dropped _ _ is refl
-
-pub returns-clause-two : goal.returns-clause-two
-returns-clause-two g c = tt
-
-pub returns-clause-tells : goal.returns-clause-tells
-returns-clause-tells g c = tt
-
-pub returns-in_default-clause-meta : goal.returns-in_default-clause-meta
-returns-in_default-clause-meta g c = record { lost = None; is = refl; alone = λ d x is. let z : None ≡ Some d = is in cc }
-
-pub returns-in_default-clause-risen : goal.returns-in_default-clause-risen
-returns-in_default-clause-risen g c d is = inl is
-
-pub returns-in_default-clause-spins : goal.returns-in_default-clause-spins
-returns-in_default-clause-spins g c is = ap (λ (s : Slot). s.power) (c.spin_up.ensures.slot.done (ap is_ok c.in_default.is))
-
-pub returns-in_default-clause-size : goal.returns-in_default-clause-size
-returns-in_default-clause-size g c is = ap (λ (s : Slot). s.size) (c.spin_up.ensures.slot.done (ap is_ok c.in_default.is))
-
--- this disk was not out
-pub returns-in_default-clause-absent : goal.returns-in_default-clause-absent
-returns-in_default-clause-absent g c was d is = elim (was d is) [
-  | inl named ↦ inl (c.spin_up.ensures.same.named ∙ named)
-  | inr gone ↦ inr (ap (λ (s : Slot). is_present s.power) (c.spin_up.ensures.slot.others d (λ here. c.requires.not_out (is ∙ ap Some here))) ∙ gone)
-]
-
--- it was parked, and so it was synced
-pub returns-in_default-clause-unsynced : goal.returns-in_default-clause-unsynced
-returns-in_default-clause-unsynced g c was d low stays here wet = elim (cases_eq d c.args.disk) [
-  | inl is ↦ absurd (false≢true (sym (ap (λ (e : ℕ). (g.R.Rack.slot (store_rack c.spin_up.new.self) e).unsynced) is ∙ ap (λ (s : Slot). s.unsynced) (c.spin_up.ensures.slot.done (ap is_ok c.in_default.is))
-      ∙ (g.met.R.Rack.slots_hold (store_rack c.args.self.now.store)).parked c.args.disk c.requires.parked) ∙ wet))
-  | inr apart ↦ was d low stays (ap (λ (s : Slot). is_present s.power) (sym (c.spin_up.ensures.slot.others d apart)) ∙ here) (ap (λ (s : Slot). s.unsynced) (sym (c.spin_up.ensures.slot.others d apart)) ∙ wet)
-]
+pub returns-in_default : goal.returns-in_default
+returns-in_default g c = record {
+  slots = search rules;
+  others = search rules;
+  spins = λ is. ap (λ (s : Slot). s.power) (c.spin_up.ensures.slot.done (ap is_ok c.in_default.is));
+  size = λ is. ap (λ (s : Slot). s.size) (c.spin_up.ensures.slot.done (ap is_ok c.in_default.is));
+  meta = record { lost = None; is = refl; alone = λ d x is. let z : None ≡ Some d = is in cc };
+  same = λ is. refl;
+  ready =
+      let q = c.requires in
+      ready_moved _ _ _ _ _ _ _ _ _ c.args.self.now.meta _ _ _ c.spin_up.ensures.slots c.spin_up.ensures.same.epoch c.spin_up.ensures.same.disks c.spin_up.ensures.same.named refl
+      (spun_ready _ (g.R.Rack.slot (store_rack c.args.self.now.store)) _ _ _ _ _ _ _ c.args.disk c.spin_up.ensures.slot.others q.past_gear q.not_out
+      (ap (λ (s : Slot). s.power) (c.spin_up.ensures.slot.done (ap is_ok c.in_default.is))) q.nothing q.ready);
+  serves = λ up.
+      let old = c.args.self.now in
+      let done = c.spin_up.ensures.slot.done (ap is_ok c.in_default.is) in
+      subst (λ (z : Option ℕ). CanServe (g.R.Rack.slot (store_rack c.spin_up.new.self)) z old.meta) (sym c.spin_up.ensures.same.named)
+      (up_serves (g.R.Rack.slot (store_rack old.store)) (g.R.Rack.slot (store_rack c.spin_up.new.self)) (named_of old.store) old.meta c.args.disk up c.spin_up.ensures.slot.others
+      (ap (λ (s : Slot). s.power) done) (ap (λ (s : Slot). s.size) done) c.requires.still);
+  store = search rules;
+  table = search rules;
+  batch = search rules;
+  copied = search rules;
+  draft = search rules;
+  -- it was parked, and so it was synced
+  unsynced = λ was d low stays here wet. elim (cases_eq d c.args.disk) [
+    | inl is ↦ absurd (false≢true (sym (ap (λ (e : ℕ). (g.R.Rack.slot (store_rack c.spin_up.new.self) e).unsynced) is ∙ ap (λ (s : Slot). s.unsynced) (c.spin_up.ensures.slot.done (ap is_ok c.in_default.is))
+        ∙ (g.met.R.Rack.slots_hold (store_rack c.args.self.now.store)).parked c.args.disk c.requires.parked) ∙ wet))
+    | inr apart ↦ was d low stays (ap (λ (s : Slot). is_present s.power) (sym (c.spin_up.ensures.slot.others d apart)) ∙ here) (ap (λ (s : Slot). s.unsynced) (sym (c.spin_up.ensures.slot.others d apart)) ∙ wet)
+  ];
+  turned =
+      let old = c.args.self.now in
+      only_turns (g.R.Rack.slot (store_rack old.store)) _ c.args.disk _ _ _ c.spin_up.ensures.slot (ap is_present c.requires.parked) refl refl;
+  risen = λ d is. inl is;
+  gone = λ is. done_not_dropped _ _ refl is;
+  failed = λ is. done_not_dropped _ _ refl is;
+  -- this disk was not out
+  absent = λ was d is. elim (was d is) [
+    | inl named ↦ inl (c.spin_up.ensures.same.named ∙ named)
+    | inr gone ↦ inr (ap (λ (s : Slot). is_present s.power) (c.spin_up.ensures.slot.others d (λ here. c.requires.not_out (is ∙ ap Some here))) ∙ gone)
+  ];
+  two = tt;
+  tells = tt;
+  calls = one_call _ _ _ (is_ok c.spin_up.result) c.spin_up.ensures.told (λ t tells. (g.met.R.Rack.agrees (store_rack c.args.self.now.store) t tells).power c.args.disk ∙ c.requires.parked);
+  done = λ is h lo.
+      let q = c.requires in
+      spin_done g.R.Rack.slot_count g.R.Rack.slot g.R.Rack.told c.args.self.now _ c.args.disk _ c.spin_up.ensures.told (g.met.R.Rack.agrees (store_rack c.args.self.now.store)) q.parked q.disk
+      (ap is_ok c.in_default.is) _ _ c.spin_up.ensures.slots c.spin_up.ensures.same.named h lo;
+  lost = λ is. done_not_dropped _ _ refl is;
+  lost_filled = λ is. done_not_dropped _ _ refl is;
+  moments = λ h lo.
+      let q = c.requires in
+      spin_held g.R.Rack.slot_count g.R.Rack.slot g.R.Rack.told c.args.self.now _ c.args.disk _ c.spin_up.ensures.told (g.met.R.Rack.agrees (store_rack c.args.self.now.store)) q.parked q.disk h lo;
+}

@@ -20,206 +20,132 @@ use Rattle.paraid_core.proofs.OrderLemmas.{lose_tells}
 use Rattle.paraid_core.proofs.ErrLemmas.{done_not_dropped, none_done, none_done_as, two_lost}
 use Rattle.paraid_core.proofs.staged.Core.sync_cell.Goals as goal
 
-pub returns-in_err-done-clause-spared : goal.returns-in_err-done-clause-spared
-returns-in_err-done-clause-spared g c =
-    spared_then (g.R.Rack.slot (store_rack c.args.self.now.store)) (g.R.Rack.slot (store_rack c.read_value.new.store)) (g.R.Rack.slot (store_rack c.write_cell.new.self.store)) (left_spared _ _ _ c.in_default.ensures.read.left) c.write_cell.ensures.spared
-
-pub returns-in_err-done-clause-two : goal.returns-in_err-done-clause-two
-returns-in_err-done-clause-two g c =
-    handed _ c.from_residual.result _ c.from_residual.ensures.1
-    (two_then g.R.Rack.slot_count g.R.Rack.slot g.R.Rack.told c.args.self.now (record c.args.self.now { store = c.read_value.new.store })
-    (gathered_leaves g.R.Rack.slot_count g.R.Rack.slot g.R.Rack.told c.args.self.now c.requires.ready c.read_value.new.store c.in_default.ensures.read c.requires.serves.stays) c.write_cell.new.self c.write_cell.ensures.spared _ c.in_err-done.ensures.two)
-
-pub returns-in_err-done-clause-moments : goal.returns-in_err-done-clause-moments
-returns-in_err-done-clause-moments g c h lo cells =
-    let old = c.args.self.now in
-    let mid : Core g.row.R.Denot g.R.Rack = record old { store = c.read_value.new.store } in
-    let q = c.requires in
-    held_runs_then g.R.Rack.slot_count g.R.Rack.slot g.R.Rack.told old mid (gathered_leaves g.R.Rack.slot_count g.R.Rack.slot g.R.Rack.told old q.ready c.read_value.new.store c.in_default.ensures.read q.serves.stays) c.write_cell.new.self
-    (CellsCopied g.R.Rack.slot_count old h lo cells) (CopyingCell g.R.Rack.slot_count mid h lo cells c.args.r c.args.disk c.read_value.new.into) h lo
-    (cell_gathered g.R.Rack.slot_count g.R.Rack.slot g.R.Rack.told old q.ready q.whole (g.met.R.Rack.agrees (store_rack old.store)) q.nothing c.args.r c.args.disk c.read_value.new.store c.read_value.new.into c.in_default.ensures.read q.no_draft
-    (g.met.R.Rack.agrees (store_rack c.read_value.new.store)) (g.met.R.Rack.slots_hold (store_rack c.read_value.new.store)).absent q.row c.in_default.ensures.value h lo cells)
-    (c.write_cell.ensures.moments h lo cells)
-
-pub returns-in_default-clause-leaves : goal.returns-in_default-clause-leaves
-returns-in_default-clause-leaves g c =
-    leaves_then g.R.Rack.slot_count g.R.Rack.slot g.R.Rack.told c.args.self.now (record c.args.self.now { store = c.read_value.new.store })
-    (gathered_leaves g.R.Rack.slot_count g.R.Rack.slot g.R.Rack.told c.args.self.now c.requires.ready c.read_value.new.store c.in_default.ensures.read c.requires.serves.stays) c.write_cell.new.self c.in_ok-done.ensures.leaves
-
-pub returns-in_default-clause-spared : goal.returns-in_default-clause-spared
-returns-in_default-clause-spared g c =
-    spared_then (g.R.Rack.slot (store_rack c.args.self.now.store)) (g.R.Rack.slot (store_rack c.read_value.new.store)) (g.R.Rack.slot (store_rack c.write_cell.new.self.store)) (left_spared _ _ _ c.in_default.ensures.read.left) c.write_cell.ensures.spared
-
-pub returns-in_default-clause-copied : goal.returns-in_default-clause-copied
-returns-in_default-clause-copied g c is h lo cells =
-    let old = c.args.self.now in
-    let mid : Core g.row.R.Denot g.R.Rack = record old { store = c.read_value.new.store } in
-    let q = c.requires in
-    runs_then g.R.Rack.slot_count g.R.Rack.slot g.R.Rack.told old mid (gathered_leaves g.R.Rack.slot_count g.R.Rack.slot g.R.Rack.told old q.ready c.read_value.new.store c.in_default.ensures.read q.serves.stays) c.write_cell.new.self
-    (CellsCopied g.R.Rack.slot_count old h lo cells) (CopyingCell g.R.Rack.slot_count mid h lo cells c.args.r c.args.disk c.read_value.new.into)
-    (CellsCopied g.R.Rack.slot_count c.write_cell.new.self h lo (copied_with cells c.args.r c.args.disk)) h lo
-    (cell_gathered g.R.Rack.slot_count g.R.Rack.slot g.R.Rack.told old q.ready q.whole (g.met.R.Rack.agrees (store_rack old.store)) q.nothing c.args.r c.args.disk c.read_value.new.store c.read_value.new.into c.in_default.ensures.read q.no_draft
-    (g.met.R.Rack.agrees (store_rack c.read_value.new.store)) (g.met.R.Rack.slots_hold (store_rack c.read_value.new.store)).absent q.row c.in_default.ensures.value h lo cells)
-    (c.in_ok-done.ensures.copied is h lo cells)
-
-pub returns-in_default-clause-lost : goal.returns-in_default-clause-lost
-returns-in_default-clause-lost g c is h lo cells =
-    let old = c.args.self.now in
-    let mid : Core g.row.R.Denot g.R.Rack = record old { store = c.read_value.new.store } in
-    let q = c.requires in
-    runs_then g.R.Rack.slot_count g.R.Rack.slot g.R.Rack.told old mid (gathered_leaves g.R.Rack.slot_count g.R.Rack.slot g.R.Rack.told old q.ready c.read_value.new.store c.in_default.ensures.read q.serves.stays) c.write_cell.new.self
-    (CellsCopied g.R.Rack.slot_count old h lo cells) (CopyingCell g.R.Rack.slot_count mid h lo cells c.args.r c.args.disk c.read_value.new.into)
-    (CoreStandsFor g.R.Rack.slot_count c.write_cell.new.self h lo) h lo
-    (cell_gathered g.R.Rack.slot_count g.R.Rack.slot g.R.Rack.told old q.ready q.whole (g.met.R.Rack.agrees (store_rack old.store)) q.nothing c.args.r c.args.disk c.read_value.new.store c.read_value.new.into c.in_default.ensures.read q.no_draft
-    (g.met.R.Rack.agrees (store_rack c.read_value.new.store)) (g.met.R.Rack.slots_hold (store_rack c.read_value.new.store)).absent q.row c.in_default.ensures.value h lo cells)
-    (c.in_ok-done.ensures.lost is h lo cells)
-
-pub returns-in_default-clause-moments : goal.returns-in_default-clause-moments
-returns-in_default-clause-moments g c h lo cells =
-    let old = c.args.self.now in
-    let mid : Core g.row.R.Denot g.R.Rack = record old { store = c.read_value.new.store } in
-    let q = c.requires in
-    held_runs_then g.R.Rack.slot_count g.R.Rack.slot g.R.Rack.told old mid (gathered_leaves g.R.Rack.slot_count g.R.Rack.slot g.R.Rack.told old q.ready c.read_value.new.store c.in_default.ensures.read q.serves.stays) c.write_cell.new.self
-    (CellsCopied g.R.Rack.slot_count old h lo cells) (CopyingCell g.R.Rack.slot_count mid h lo cells c.args.r c.args.disk c.read_value.new.into) h lo
-    (cell_gathered g.R.Rack.slot_count g.R.Rack.slot g.R.Rack.told old q.ready q.whole (g.met.R.Rack.agrees (store_rack old.store)) q.nothing c.args.r c.args.disk c.read_value.new.store c.read_value.new.into c.in_default.ensures.read q.no_draft
-    (g.met.R.Rack.agrees (store_rack c.read_value.new.store)) (g.met.R.Rack.slots_hold (store_rack c.read_value.new.store)).absent q.row c.in_default.ensures.value h lo cells)
-    (c.write_cell.ensures.moments h lo cells)
-
-pub returns-clause-leaves : goal.returns-clause-leaves
-returns-clause-leaves g c =
-    gather_lost_leaves g.R.Rack.slot_count g.R.Rack.slot g.R.Rack.told c.args.self.now c.requires.ready c.read_value.new.store c.in-Err.lost c.in-Err.ensures.read c.in-Err.ensures.below c.requires.whole c.requires.serves.stays c.lose.new.meta
-    c.in_ok-lose.ensures.marked
-
-pub returns-clause-lost : goal.returns-clause-lost
-returns-clause-lost g c is h lo cells =
-    let old = c.args.self.now in
-    let q = c.requires in
-    cell_lost g.R.Rack.slot_count g.R.Rack.slot g.R.Rack.told old q.ready q.whole (g.met.R.Rack.agrees (store_rack old.store)) c.read_value.new.store c.in-Err.lost c.in-Err.ensures.read c.in-Err.ensures.below q.serves.stays c.lose.new.meta c.in_ok-lose.ensures.marked
-    (g.met.R.Rack.agrees (store_rack c.read_value.new.store)) (g.met.R.Rack.slots_hold (store_rack c.read_value.new.store)).absent h lo cells
-
-pub returns-clause-moments : goal.returns-clause-moments
-returns-clause-moments g c h lo cells = cell_reads_held g.R.Rack.slot_count g.R.Rack.slot g.R.Rack.told c.args.self.now c.requires.ready _ c.in-Err.ensures.read.calls h lo cells
-
-pub returns-in_err-done-clause-calls : goal.returns-in_err-done-clause-calls
-returns-in_err-done-clause-calls g c =
-    let old = c.args.self.now in
-    calls_then _ _ (g.R.Rack.told (store_rack c.read_value.new.store)) _ (calls_whole _ _ _ (sym c.requires.ready.array_is) (ap gone_out c.requires.whole) _ _ c.in_default.ensures.read.calls) c.write_cell.ensures.calls
-
-pub returns-in_default-clause-calls : goal.returns-in_default-clause-calls
-returns-in_default-clause-calls g c =
-    let old = c.args.self.now in
-    calls_then _ _ (g.R.Rack.told (store_rack c.read_value.new.store)) _ (calls_whole _ _ _ (sym c.requires.ready.array_is) (ap gone_out c.requires.whole) _ _ c.in_default.ensures.read.calls) c.write_cell.ensures.calls
-
-pub returns-clause-calls : goal.returns-clause-calls
-returns-clause-calls g c = calls_whole _ _ _ (sym c.requires.ready.array_is) (ap gone_out c.requires.whole) _ _ c.in-Err.ensures.read.calls
-
-pub returns-in_err-lose-clause-calls : goal.returns-in_err-lose-clause-calls
-returns-in_err-lose-clause-calls g c = calls_whole _ _ _ (sym c.requires.ready.array_is) (ap gone_out c.requires.whole) _ _ c.in-Err.ensures.read.calls
-
-pub returns-in_default-clause-marks : goal.returns-in_default-clause-marks
-returns-in_default-clause-marks g c =
-    let m = c.args.self.now.meta in
-    let left = c.in_default.ensures.read.left in
-    marks_then _ (g.R.Rack.slot (store_rack c.read_value.new.store)) _ m m _ (marks_read m m None _ _ m.epoch m.writes left refl (λ d is. let z : None ≡ Some d = is in cc) (λ d x is. let z : None ≡ Some d = is in cc)) c.in_ok-done.ensures.marks (left_spared _ _ _ left) c.write_cell.ensures.spared
-
-pub returns-clause-marks : goal.returns-clause-marks
-returns-clause-marks g c =
-    let m = c.args.self.now.meta in
-    let low : (d : ℕ) → Some c.in-Err.lost ≡ Some d → d < m.setup.geometry.disks =
-    (λ d is. subst (λ (z : ℕ). z < m.setup.geometry.disks) (some_is c.in-Err.lost d is) (subst (λ (z : ℕ). c.in-Err.lost < z) (sym c.requires.ready.array_is) c.in-Err.ensures.below)) in
-    marks_read m c.lose.new.meta (Some c.in-Err.lost) _ _ m.epoch m.writes c.in-Err.ensures.read.left c.in_ok-lose.ensures.marked low (λ d x is k. c.in_ok-lose.ensures.alone d x is k (low d is))
-
-pub returns-in_default-clause-failed : goal.returns-in_default-clause-failed
-returns-in_default-clause-failed g c is = record {
-  disk = c.args.disk;
-  low = disk_in c.args.self.now.meta c.args.disk c.requires.ready.in_range c.requires.rises;
-  failed = lost_after _ (g.R.Rack.slot (store_rack c.read_value.new.store)) _ c.args.disk (left_spared _ _ _ c.in_default.ensures.read.left) (c.in_ok-done.ensures.failed is);
-  gone = c.in_ok-done.ensures.gone is;
+pub returns-in_err-done : goal.returns-in_err-done
+returns-in_err-done g c = record {
+  leaves = none_done _ c.from_residual.result _ c.from_residual.ensures.1;
+  same = λ is. none_done_as _ c.from_residual.result _ _ c.from_residual.ensures.1 is;
+  spared = spared_then (g.R.Rack.slot (store_rack c.args.self.now.store)) (g.R.Rack.slot (store_rack c.read_value.new.store)) (g.R.Rack.slot (store_rack c.write_cell.new.self.store)) (left_spared _ _ _ c.in_default.ensures.read.left) c.write_cell.ensures.spared;
+  two =
+      handed _ c.from_residual.result _ c.from_residual.ensures.1
+      (two_then g.R.Rack.slot_count g.R.Rack.slot g.R.Rack.told c.args.self.now (record c.args.self.now { store = c.read_value.new.store })
+      (gathered_leaves g.R.Rack.slot_count g.R.Rack.slot g.R.Rack.told c.args.self.now c.requires.ready c.read_value.new.store c.in_default.ensures.read c.requires.serves.stays) c.write_cell.new.self c.write_cell.ensures.spared _ c.in_err-done.ensures.two);
+  tells =
+      handed (λ two. Ran (g.R.Rack.told (store_rack c.args.self.now.store)) (g.R.Rack.told (store_rack c.write_cell.new.self.store)) (λ s cs. TellsLosses (named_out c.args.self.now.meta.out) two cs)) c.from_residual.result _ c.from_residual.ensures.1
+      (tells_unhurt (named_out c.args.self.now.meta.out) _ _ (g.R.Rack.told (store_rack c.read_value.new.store)) _ c.in_default.ensures.read.first c.in_err-done.ensures.tells);
+  calls =
+      let old = c.args.self.now in
+      calls_then _ _ (g.R.Rack.told (store_rack c.read_value.new.store)) _ (calls_whole _ _ _ (sym c.requires.ready.array_is) (ap gone_out c.requires.whole) _ _ c.in_default.ensures.read.calls) c.write_cell.ensures.calls;
+  marks = none_done _ c.from_residual.result _ c.from_residual.ensures.1;
+  copied = λ is. none_done_as _ c.from_residual.result _ _ c.from_residual.ensures.1 is;
+  failed = λ is. none_done_as _ c.from_residual.result _ _ c.from_residual.ensures.1 is;
+  lost = λ is. none_done_as _ c.from_residual.result _ _ c.from_residual.ensures.1 is;
+  moments = λ h lo cells.
+      let old = c.args.self.now in
+      let mid : Core g.row.R.Denot g.R.Rack = record old { store = c.read_value.new.store } in
+      let q = c.requires in
+      held_runs_then g.R.Rack.slot_count g.R.Rack.slot g.R.Rack.told old mid (gathered_leaves g.R.Rack.slot_count g.R.Rack.slot g.R.Rack.told old q.ready c.read_value.new.store c.in_default.ensures.read q.serves.stays) c.write_cell.new.self
+      (CellsCopied g.R.Rack.slot_count old h lo cells) (CopyingCell g.R.Rack.slot_count mid h lo cells c.args.r c.args.disk c.read_value.new.into) h lo
+      (cell_gathered g.R.Rack.slot_count g.R.Rack.slot g.R.Rack.told old q.ready q.whole (g.met.R.Rack.agrees (store_rack old.store)) q.nothing c.args.r c.args.disk c.read_value.new.store c.read_value.new.into c.in_default.ensures.read q.no_draft
+      (g.met.R.Rack.agrees (store_rack c.read_value.new.store)) (g.met.R.Rack.slots_hold (store_rack c.read_value.new.store)).absent q.row c.in_default.ensures.value h lo cells)
+      (c.write_cell.ensures.moments h lo cells);
 }
 
-pub returns-clause-failed : goal.returns-clause-failed
-returns-clause-failed g c is =
-    loses_read c.args.self.now.meta c.lose.new.meta c.in-Err.lost _ _ c.in-Err.ensures.read.left c.in_ok-lose.ensures.marked
-    (subst (λ (z : ℕ). c.in-Err.lost < z) (sym c.requires.ready.array_is) c.in-Err.ensures.below)
+pub returns-in_default : goal.returns-in_default
+returns-in_default g c = record {
+  leaves =
+      leaves_then g.R.Rack.slot_count g.R.Rack.slot g.R.Rack.told c.args.self.now (record c.args.self.now { store = c.read_value.new.store })
+      (gathered_leaves g.R.Rack.slot_count g.R.Rack.slot g.R.Rack.told c.args.self.now c.requires.ready c.read_value.new.store c.in_default.ensures.read c.requires.serves.stays) c.write_cell.new.self c.in_ok-done.ensures.leaves;
+  same = λ is. c.in_ok-done.ensures.same is;
+  spared = spared_then (g.R.Rack.slot (store_rack c.args.self.now.store)) (g.R.Rack.slot (store_rack c.read_value.new.store)) (g.R.Rack.slot (store_rack c.write_cell.new.self.store)) (left_spared _ _ _ c.in_default.ensures.read.left) c.write_cell.ensures.spared;
+  two = tt;
+  tells = tt;
+  calls =
+      let old = c.args.self.now in
+      calls_then _ _ (g.R.Rack.told (store_rack c.read_value.new.store)) _ (calls_whole _ _ _ (sym c.requires.ready.array_is) (ap gone_out c.requires.whole) _ _ c.in_default.ensures.read.calls) c.write_cell.ensures.calls;
+  marks =
+      let m = c.args.self.now.meta in
+      let left = c.in_default.ensures.read.left in
+      marks_then _ (g.R.Rack.slot (store_rack c.read_value.new.store)) _ m m _ (marks_read m m None _ _ m.epoch m.writes left refl (λ d is. let z : None ≡ Some d = is in cc) (λ d x is. let z : None ≡ Some d = is in cc)) c.in_ok-done.ensures.marks (left_spared _ _ _ left) c.write_cell.ensures.spared;
+  copied = λ is h lo cells.
+      let old = c.args.self.now in
+      let mid : Core g.row.R.Denot g.R.Rack = record old { store = c.read_value.new.store } in
+      let q = c.requires in
+      runs_then g.R.Rack.slot_count g.R.Rack.slot g.R.Rack.told old mid (gathered_leaves g.R.Rack.slot_count g.R.Rack.slot g.R.Rack.told old q.ready c.read_value.new.store c.in_default.ensures.read q.serves.stays) c.write_cell.new.self
+      (CellsCopied g.R.Rack.slot_count old h lo cells) (CopyingCell g.R.Rack.slot_count mid h lo cells c.args.r c.args.disk c.read_value.new.into)
+      (CellsCopied g.R.Rack.slot_count c.write_cell.new.self h lo (copied_with cells c.args.r c.args.disk)) h lo
+      (cell_gathered g.R.Rack.slot_count g.R.Rack.slot g.R.Rack.told old q.ready q.whole (g.met.R.Rack.agrees (store_rack old.store)) q.nothing c.args.r c.args.disk c.read_value.new.store c.read_value.new.into c.in_default.ensures.read q.no_draft
+      (g.met.R.Rack.agrees (store_rack c.read_value.new.store)) (g.met.R.Rack.slots_hold (store_rack c.read_value.new.store)).absent q.row c.in_default.ensures.value h lo cells)
+      (c.in_ok-done.ensures.copied is h lo cells);
+  failed = λ is. record {
+    disk = c.args.disk;
+    low = disk_in c.args.self.now.meta c.args.disk c.requires.ready.in_range c.requires.rises;
+    failed = lost_after _ (g.R.Rack.slot (store_rack c.read_value.new.store)) _ c.args.disk (left_spared _ _ _ c.in_default.ensures.read.left) (c.in_ok-done.ensures.failed is);
+    gone = c.in_ok-done.ensures.gone is;
+  };
+  lost = λ is h lo cells.
+      let old = c.args.self.now in
+      let mid : Core g.row.R.Denot g.R.Rack = record old { store = c.read_value.new.store } in
+      let q = c.requires in
+      runs_then g.R.Rack.slot_count g.R.Rack.slot g.R.Rack.told old mid (gathered_leaves g.R.Rack.slot_count g.R.Rack.slot g.R.Rack.told old q.ready c.read_value.new.store c.in_default.ensures.read q.serves.stays) c.write_cell.new.self
+      (CellsCopied g.R.Rack.slot_count old h lo cells) (CopyingCell g.R.Rack.slot_count mid h lo cells c.args.r c.args.disk c.read_value.new.into)
+      (CoreStandsFor g.R.Rack.slot_count c.write_cell.new.self h lo) h lo
+      (cell_gathered g.R.Rack.slot_count g.R.Rack.slot g.R.Rack.told old q.ready q.whole (g.met.R.Rack.agrees (store_rack old.store)) q.nothing c.args.r c.args.disk c.read_value.new.store c.read_value.new.into c.in_default.ensures.read q.no_draft
+      (g.met.R.Rack.agrees (store_rack c.read_value.new.store)) (g.met.R.Rack.slots_hold (store_rack c.read_value.new.store)).absent q.row c.in_default.ensures.value h lo cells)
+      (c.in_ok-done.ensures.lost is h lo cells);
+  moments = λ h lo cells.
+      let old = c.args.self.now in
+      let mid : Core g.row.R.Denot g.R.Rack = record old { store = c.read_value.new.store } in
+      let q = c.requires in
+      held_runs_then g.R.Rack.slot_count g.R.Rack.slot g.R.Rack.told old mid (gathered_leaves g.R.Rack.slot_count g.R.Rack.slot g.R.Rack.told old q.ready c.read_value.new.store c.in_default.ensures.read q.serves.stays) c.write_cell.new.self
+      (CellsCopied g.R.Rack.slot_count old h lo cells) (CopyingCell g.R.Rack.slot_count mid h lo cells c.args.r c.args.disk c.read_value.new.into) h lo
+      (cell_gathered g.R.Rack.slot_count g.R.Rack.slot g.R.Rack.told old q.ready q.whole (g.met.R.Rack.agrees (store_rack old.store)) q.nothing c.args.r c.args.disk c.read_value.new.store c.read_value.new.into c.in_default.ensures.read q.no_draft
+      (g.met.R.Rack.agrees (store_rack c.read_value.new.store)) (g.met.R.Rack.slots_hold (store_rack c.read_value.new.store)).absent q.row c.in_default.ensures.value h lo cells)
+      (c.write_cell.ensures.moments h lo cells);
+}
 
-pub returns-in_err-done-clause-tells : goal.returns-in_err-done-clause-tells
-returns-in_err-done-clause-tells g c =
-    handed (λ two. Ran (g.R.Rack.told (store_rack c.args.self.now.store)) (g.R.Rack.told (store_rack c.write_cell.new.self.store)) (λ s cs. TellsLosses (named_out c.args.self.now.meta.out) two cs)) c.from_residual.result _ c.from_residual.ensures.1
-    (tells_unhurt (named_out c.args.self.now.meta.out) _ _ (g.R.Rack.told (store_rack c.read_value.new.store)) _ c.in_default.ensures.read.first c.in_err-done.ensures.tells)
+pub returns-in_err-lose : goal.returns-in_err-lose
+returns-in_err-lose g c = record {
+  leaves = none_done _ c.from_residual-in_err-lose.result _ c.from_residual-in_err-lose.ensures.1;
+  same = λ is. none_done_as _ c.from_residual-in_err-lose.result _ _ c.from_residual-in_err-lose.ensures.1 is;
+  spared = left_spared _ _ _ c.in-Err.ensures.read.left;
+  two =
+      let old = c.args.self.now in
+      handed _ c.from_residual-in_err-lose.result _ c.from_residual-in_err-lose.ensures.1
+      (two_lost (named_of old.store) (named_out old.meta.out) _ _ c.in-Err.lost _ c.requires.serves.stays (c.in-Err.ensures.read.left.failed _ refl).risen c.in_err-lose.ensures.two);
+  tells =
+      handed (λ two. Ran (g.R.Rack.told (store_rack c.args.self.now.store)) (g.R.Rack.told (store_rack c.read_value.new.store)) (λ s cs. TellsLosses (named_out c.args.self.now.meta.out) two cs)) c.from_residual-in_err-lose.result _ c.from_residual-in_err-lose.ensures.1
+      (lose_tells (named_out c.args.self.now.meta.out) (Some c.in-Err.lost) _ _ _ c.in_err-lose.ensures.two c.in-Err.ensures.read.first);
+  calls = calls_whole _ _ _ (sym c.requires.ready.array_is) (ap gone_out c.requires.whole) _ _ c.in-Err.ensures.read.calls;
+  marks = none_done _ c.from_residual-in_err-lose.result _ c.from_residual-in_err-lose.ensures.1;
+  copied = λ is. none_done_as _ c.from_residual-in_err-lose.result _ _ c.from_residual-in_err-lose.ensures.1 is;
+  failed = λ is. none_done_as _ c.from_residual-in_err-lose.result _ _ c.from_residual-in_err-lose.ensures.1 is;
+  lost = λ is. none_done_as _ c.from_residual-in_err-lose.result _ _ c.from_residual-in_err-lose.ensures.1 is;
+  moments = λ h lo cells. cell_reads_held g.R.Rack.slot_count g.R.Rack.slot g.R.Rack.told c.args.self.now c.requires.ready _ c.in-Err.ensures.read.calls h lo cells;
+}
 
-pub returns-in_err-lose-clause-tells : goal.returns-in_err-lose-clause-tells
-returns-in_err-lose-clause-tells g c =
-    handed (λ two. Ran (g.R.Rack.told (store_rack c.args.self.now.store)) (g.R.Rack.told (store_rack c.read_value.new.store)) (λ s cs. TellsLosses (named_out c.args.self.now.meta.out) two cs)) c.from_residual-in_err-lose.result _ c.from_residual-in_err-lose.ensures.1
-    (lose_tells (named_out c.args.self.now.meta.out) (Some c.in-Err.lost) _ _ _ c.in_err-lose.ensures.two c.in-Err.ensures.read.first)
-
-pub returns-in_err-done-clause-leaves : goal.returns-in_err-done-clause-leaves
-returns-in_err-done-clause-leaves g c = none_done _ c.from_residual.result _ c.from_residual.ensures.1
-
-pub returns-in_err-done-clause-marks : goal.returns-in_err-done-clause-marks
-returns-in_err-done-clause-marks g c = none_done _ c.from_residual.result _ c.from_residual.ensures.1
-
-pub returns-in_err-done-clause-same : goal.returns-in_err-done-clause-same
-returns-in_err-done-clause-same g c is = none_done_as _ c.from_residual.result _ _ c.from_residual.ensures.1 is
-
-pub returns-in_err-done-clause-copied : goal.returns-in_err-done-clause-copied
-returns-in_err-done-clause-copied g c is = none_done_as _ c.from_residual.result _ _ c.from_residual.ensures.1 is
-
-pub returns-in_err-done-clause-failed : goal.returns-in_err-done-clause-failed
-returns-in_err-done-clause-failed g c is = none_done_as _ c.from_residual.result _ _ c.from_residual.ensures.1 is
-
-pub returns-in_err-done-clause-lost : goal.returns-in_err-done-clause-lost
-returns-in_err-done-clause-lost g c is = none_done_as _ c.from_residual.result _ _ c.from_residual.ensures.1 is
-
-pub returns-in_default-clause-same : goal.returns-in_default-clause-same
-returns-in_default-clause-same g c is = c.in_ok-done.ensures.same is
-
-pub returns-in_default-clause-two : goal.returns-in_default-clause-two
-returns-in_default-clause-two g c = tt
-
-pub returns-in_default-clause-tells : goal.returns-in_default-clause-tells
-returns-in_default-clause-tells g c = tt
-
-pub returns-in_err-lose-clause-leaves : goal.returns-in_err-lose-clause-leaves
-returns-in_err-lose-clause-leaves g c = none_done _ c.from_residual-in_err-lose.result _ c.from_residual-in_err-lose.ensures.1
-
-pub returns-in_err-lose-clause-marks : goal.returns-in_err-lose-clause-marks
-returns-in_err-lose-clause-marks g c = none_done _ c.from_residual-in_err-lose.result _ c.from_residual-in_err-lose.ensures.1
-
-pub returns-in_err-lose-clause-same : goal.returns-in_err-lose-clause-same
-returns-in_err-lose-clause-same g c is = none_done_as _ c.from_residual-in_err-lose.result _ _ c.from_residual-in_err-lose.ensures.1 is
-
-pub returns-in_err-lose-clause-copied : goal.returns-in_err-lose-clause-copied
-returns-in_err-lose-clause-copied g c is = none_done_as _ c.from_residual-in_err-lose.result _ _ c.from_residual-in_err-lose.ensures.1 is
-
-pub returns-in_err-lose-clause-failed : goal.returns-in_err-lose-clause-failed
-returns-in_err-lose-clause-failed g c is = none_done_as _ c.from_residual-in_err-lose.result _ _ c.from_residual-in_err-lose.ensures.1 is
-
-pub returns-in_err-lose-clause-lost : goal.returns-in_err-lose-clause-lost
-returns-in_err-lose-clause-lost g c is = none_done_as _ c.from_residual-in_err-lose.result _ _ c.from_residual-in_err-lose.ensures.1 is
-
-pub returns-clause-same : goal.returns-clause-same
-returns-clause-same g c is = done_not_dropped _ _ is refl
-
-pub returns-clause-copied : goal.returns-clause-copied
-returns-clause-copied g c is = done_not_dropped _ _ is refl
-
-pub returns-clause-two : goal.returns-clause-two
-returns-clause-two g c = tt
-
-pub returns-clause-tells : goal.returns-clause-tells
-returns-clause-tells g c = tt
-
-pub returns-in_err-lose-clause-two : goal.returns-in_err-lose-clause-two
-returns-in_err-lose-clause-two g c =
-    let old = c.args.self.now in
-    handed _ c.from_residual-in_err-lose.result _ c.from_residual-in_err-lose.ensures.1
-    (two_lost (named_of old.store) (named_out old.meta.out) _ _ c.in-Err.lost _ c.requires.serves.stays (c.in-Err.ensures.read.left.failed _ refl).risen c.in_err-lose.ensures.two)
-
-pub returns-in_err-lose-clause-moments : goal.returns-in_err-lose-clause-moments
-returns-in_err-lose-clause-moments g c h lo cells = cell_reads_held g.R.Rack.slot_count g.R.Rack.slot g.R.Rack.told c.args.self.now c.requires.ready _ c.in-Err.ensures.read.calls h lo cells
-
-pub returns-in_err-lose-clause-spared : goal.returns-in_err-lose-clause-spared
-returns-in_err-lose-clause-spared g c = left_spared _ _ _ c.in-Err.ensures.read.left
-
-pub returns-clause-spared : goal.returns-clause-spared
-returns-clause-spared g c = left_spared _ _ _ c.in-Err.ensures.read.left
+pub returns : goal.returns
+returns g c = record {
+  leaves =
+      gather_lost_leaves g.R.Rack.slot_count g.R.Rack.slot g.R.Rack.told c.args.self.now c.requires.ready c.read_value.new.store c.in-Err.lost c.in-Err.ensures.read c.in-Err.ensures.below c.requires.whole c.requires.serves.stays c.lose.new.meta
+      c.in_ok-lose.ensures.marked;
+  same = λ is. done_not_dropped _ _ is refl;
+  spared = left_spared _ _ _ c.in-Err.ensures.read.left;
+  two = tt;
+  tells = tt;
+  calls = calls_whole _ _ _ (sym c.requires.ready.array_is) (ap gone_out c.requires.whole) _ _ c.in-Err.ensures.read.calls;
+  marks =
+      let m = c.args.self.now.meta in
+      let low : (d : ℕ) → Some c.in-Err.lost ≡ Some d → d < m.setup.geometry.disks =
+      (λ d is. subst (λ (z : ℕ). z < m.setup.geometry.disks) (some_is c.in-Err.lost d is) (subst (λ (z : ℕ). c.in-Err.lost < z) (sym c.requires.ready.array_is) c.in-Err.ensures.below)) in
+      marks_read m c.lose.new.meta (Some c.in-Err.lost) _ _ m.epoch m.writes c.in-Err.ensures.read.left c.in_ok-lose.ensures.marked low (λ d x is k. c.in_ok-lose.ensures.alone d x is k (low d is));
+  copied = λ is. done_not_dropped _ _ is refl;
+  failed = λ is.
+      loses_read c.args.self.now.meta c.lose.new.meta c.in-Err.lost _ _ c.in-Err.ensures.read.left c.in_ok-lose.ensures.marked
+      (subst (λ (z : ℕ). c.in-Err.lost < z) (sym c.requires.ready.array_is) c.in-Err.ensures.below);
+  lost = λ is h lo cells.
+      let old = c.args.self.now in
+      let q = c.requires in
+      cell_lost g.R.Rack.slot_count g.R.Rack.slot g.R.Rack.told old q.ready q.whole (g.met.R.Rack.agrees (store_rack old.store)) c.read_value.new.store c.in-Err.lost c.in-Err.ensures.read c.in-Err.ensures.below q.serves.stays c.lose.new.meta c.in_ok-lose.ensures.marked
+      (g.met.R.Rack.agrees (store_rack c.read_value.new.store)) (g.met.R.Rack.slots_hold (store_rack c.read_value.new.store)).absent h lo cells;
+  moments = λ h lo cells. cell_reads_held g.R.Rack.slot_count g.R.Rack.slot g.R.Rack.told c.args.self.now c.requires.ready _ c.in-Err.ensures.read.calls h lo cells;
+}

@@ -1,6 +1,6 @@
 use Rattle.paraid_base.specs.declared.state.Out.TheVariants.{Fresh, Gone, No}
 use Rattle.paraid_image.specs.Mark.{meta_after_loss}
-use Rattle.std.proofs.Common.{◌≡◌, ℕ, ◌∙◌, ◌<◌, Some, None, sym, ap, subst, refl, false, true}
+use Rattle.std.proofs.Common.{◌≡◌, ℕ, ◌∙◌, ◌<◌, Some, None, sym, ap, subst, refl, false, true, rules}
 use Rattle.std.specs.Prelude.{Option, is_ok, slice_set}
 use Rattle.paraid_base.specs.Told.{HasRisen}
 use Rattle.paraid_image.specs.Out.{named_out}
@@ -33,27 +33,6 @@ module _ (g : Over) (c : In_default g) where
   done : is_ok c.sync-answer.result ≡ true
   done = ap is_ok c.in_default.is
 
-pub returns-in_default-clause-leaves : goal.returns-in_default-clause-leaves
-returns-in_default-clause-leaves g c =
-    call_leaves g.R.Rack.slot_count g.R.Rack.slot c.args.self.now _ c.requires.ready c.requires.still c.sync-answer.ensures.slots c.sync-answer.ensures.same refl refl refl
-    None (λ d is. cc) (done_only _ _ _ _ _ _ _ c.sync-answer.ensures.slot refl refl (done g c)) (λ d x is. cc) refl
-    (call_spared 8 _ _ _ _ _ _ c.sync-answer.ensures.slot refl refl refl) (λ d is. cc) (marks_cleared _ _ _ _ _ _ c.sync-answer.ensures.slot _ _ refl (cleared_at _ _))
-
-pub returns-in_default-clause-moments : goal.returns-in_default-clause-moments
-returns-in_default-clause-moments g c =
-    call_held g.R.Rack.slot_count g.R.Rack.slot g.R.Rack.told c.args.self.now _ _ c.sync-answer.ensures.told c.requires.disk
-    (λ is h lo s k. keeps_held _ _ _ _ _ (slice_set c.args.self.now.copied c.args.disk false) h lo _ (keeps_synced _ _ _ _ _ _ _ h lo s _ (cleared_at _ _) k _ is))
-
-pub returns-in_default-clause-stands : goal.returns-in_default-clause-stands
-returns-in_default-clause-stands g c =
-    call_stands g.R.Rack.slot_count g.R.Rack.slot g.R.Rack.told c.args.self.now _ _ c.sync-answer.ensures.told (g.met.R.Rack.agrees (store_rack c.args.self.now.store)) _ _ _ _ _ _ c.sync-answer.ensures.slots c.sync-answer.ensures.same.named refl
-    (λ h lo s agrees k. keeps_synced _ _ _ _ _ _ _ h lo s _ (cleared_at _ _) k _ (done g c))
-
-pub returns-in_err-lose-clause-moments : goal.returns-in_err-lose-clause-moments
-returns-in_err-lose-clause-moments g c =
-    call_held g.R.Rack.slot_count g.R.Rack.slot g.R.Rack.told c.args.self.now _ _ c.sync-answer.ensures.told c.requires.disk
-    (λ is h lo s k. keeps_held _ _ _ _ _ (slice_set c.args.self.now.copied c.args.disk false) h lo _ (keeps_synced _ _ _ _ _ _ _ h lo s _ (cleared_at _ _) k _ is))
-
 -- it failed, and no other disk is out
 module _ (g : Over) (c : In_ok-lose g) where
   abbrev old : Core g.row.R.Denot g.R.Rack
@@ -71,130 +50,91 @@ module _ (g : Over) (c : In_ok-lose g) where
   alone : (x : ℕ) → named_out old.meta.out ≡ Some x → x ≡ c.args.disk
   alone x is = c.in_ok-lose.ensures.alone c.args.disk x refl is c.requires.disk
 
-pub returns-clause-leaves : goal.returns-clause-leaves
-returns-clause-leaves g c =
-    call_leaves g.R.Rack.slot_count g.R.Rack.slot c.args.self.now _ c.requires.ready c.requires.still c.sync-answer.ensures.slots c.sync-answer.ensures.same refl refl refl
-    (Some c.args.disk) (λ d is. subst (λ (e : ℕ). e < c.args.self.now.meta.setup.geometry.disks) (some_is c.args.disk d is) c.requires.disk)
-    (failed_only _ _ _ _ _ _ _ c.sync-answer.ensures.slot refl refl (failed g c)) (λ d x is k. alone g c x k ∙ some_is c.args.disk d is) (meta_is g c)
-    (call_spared 8 _ _ _ _ _ _ c.sync-answer.ensures.slot refl refl refl)
-    (λ d is. subst (λ (e : ℕ). HasRisen (g.R.Rack.slot (store_rack c.args.self.now.store) e).faults (g.R.Rack.slot (store_rack c.sync-answer.new.self) e).faults) (some_is c.args.disk d is) (c.sync-answer.ensures.slot.risen (failed g c))) (marks_cleared _ _ _ _ _ _ c.sync-answer.ensures.slot _ _ refl (cleared_at _ _))
+pub returns : goal.returns
+returns g c = record {
+  leaves =
+      call_leaves g.R.Rack.slot_count g.R.Rack.slot c.args.self.now _ c.requires.ready c.requires.still c.sync-answer.ensures.slots c.sync-answer.ensures.same refl refl refl
+      (Some c.args.disk) (λ d is. subst (λ (e : ℕ). e < c.args.self.now.meta.setup.geometry.disks) (some_is c.args.disk d is) c.requires.disk)
+      (failed_only _ _ _ _ _ _ _ c.sync-answer.ensures.slot refl refl (failed g c)) (λ d x is k. alone g c x k ∙ some_is c.args.disk d is) (meta_is g c)
+      (call_spared 8 _ _ _ _ _ _ c.sync-answer.ensures.slot refl refl refl)
+      (λ d is. subst (λ (e : ℕ). HasRisen (g.R.Rack.slot (store_rack c.args.self.now.store) e).faults (g.R.Rack.slot (store_rack c.sync-answer.new.self) e).faults) (some_is c.args.disk d is) (c.sync-answer.ensures.slot.risen (failed g c))) (marks_cleared _ _ _ _ _ _ c.sync-answer.ensures.slot _ _ refl (cleared_at _ _));
+  spared = call_spared 8 _ _ _ _ _ _ c.sync-answer.ensures.slot refl refl refl;
+  still_synced = search rules;
+  synced = search rules;
+  cleared = cleared_at _ _;
+  two = tt;
+  tells = tt;
+  calls = one_call _ _ _ (is_ok c.sync-answer.result) c.sync-answer.ensures.told (λ t tells. (g.met.R.Rack.agrees (store_rack c.args.self.now.store) t tells).power c.args.disk ∙ c.requires.spins);
+  marks = marks_failed c.args.self.now.meta c.lose.new.meta _ _ c.args.disk _ _ _ c.sync-answer.ensures.slot (failed g c) (meta_is g c) c.requires.disk (λ x k. c.in_ok-lose.ensures.alone c.args.disk x refl k c.requires.disk);
+  moments =
+      call_held g.R.Rack.slot_count g.R.Rack.slot g.R.Rack.told c.args.self.now _ _ c.sync-answer.ensures.told c.requires.disk
+      (λ is h lo s k. keeps_held _ _ _ _ _ (slice_set c.args.self.now.copied c.args.disk false) h lo _ (keeps_synced _ _ _ _ _ _ _ h lo s _ (cleared_at _ _) k _ is));
+  stands =
+      let ready = c.requires.ready in
+      call_stands g.R.Rack.slot_count g.R.Rack.slot g.R.Rack.told c.args.self.now _ _ c.sync-answer.ensures.told (g.met.R.Rack.agrees (store_rack c.args.self.now.store)) _ _ _ _ _ _ c.sync-answer.ensures.slots c.sync-answer.ensures.same.named
+      (ap (λ (z : Meta). z.setup) (meta_is g c))
+      (λ h lo s agrees k. subst (λ (z : Meta). HoldsBetweenCalls (g.R.Rack.slot_count (store_rack c.args.self.now.store)) (named_of c.args.self.now.store) z c.args.self.now.dirty c.args.self.now.batch (slice_set c.args.self.now.copied c.args.disk false) h lo (step (Sync c.args.disk (is_ok c.sync-answer.result)) s)) (sym (meta_is g c))
+      (keeps_unsynced _ _ _ _ _ _ _ h lo s _ (cleared_at _ _) k _ (failed g c) ready.in_range c.requires.disk (λ x l gone. ready.absent x l (ap is_present (sym (agrees.power x)) ∙ gone)) (alone g c) c.requires.still));
+  -- that disk is out
+  filled = λ whole. let z : Gone c.args.disk ≡ No = ap (λ (m : Meta). m.out) (sym (meta_is g c)) ∙ whole in absurd cc;
+  cells = λ whole. let z : Gone c.args.disk ≡ No = ap (λ (m : Meta). m.out) (sym (meta_is g c)) ∙ whole in absurd cc;
+  rebuilt = λ d units fresh. let z : Gone c.args.disk ≡ Fresh d units = ap (λ (m : Meta). m.out) (sym (meta_is g c)) ∙ fresh in absurd cc;
+}
 
-pub returns-clause-moments : goal.returns-clause-moments
-returns-clause-moments g c =
-    call_held g.R.Rack.slot_count g.R.Rack.slot g.R.Rack.told c.args.self.now _ _ c.sync-answer.ensures.told c.requires.disk
-    (λ is h lo s k. keeps_held _ _ _ _ _ (slice_set c.args.self.now.copied c.args.disk false) h lo _ (keeps_synced _ _ _ _ _ _ _ h lo s _ (cleared_at _ _) k _ is))
+pub returns-in_default : goal.returns-in_default
+returns-in_default g c = record {
+  leaves =
+      call_leaves g.R.Rack.slot_count g.R.Rack.slot c.args.self.now _ c.requires.ready c.requires.still c.sync-answer.ensures.slots c.sync-answer.ensures.same refl refl refl
+      None (λ d is. cc) (done_only _ _ _ _ _ _ _ c.sync-answer.ensures.slot refl refl (done g c)) (λ d x is. cc) refl
+      (call_spared 8 _ _ _ _ _ _ c.sync-answer.ensures.slot refl refl refl) (λ d is. cc) (marks_cleared _ _ _ _ _ _ c.sync-answer.ensures.slot _ _ refl (cleared_at _ _));
+  spared = call_spared 8 _ _ _ _ _ _ c.sync-answer.ensures.slot refl refl refl;
+  still_synced = search rules;
+  synced = search rules;
+  cleared = cleared_at _ _;
+  two = tt;
+  tells = tt;
+  calls = one_call _ _ _ (is_ok c.sync-answer.result) c.sync-answer.ensures.told (λ t tells. (g.met.R.Rack.agrees (store_rack c.args.self.now.store) t tells).power c.args.disk ∙ c.requires.spins);
+  marks = marks_done c.args.self.now.meta _ _ c.args.disk _ _ _ c.sync-answer.ensures.slot (record { faults = refl; power = refl; size = refl }) (ap is_ok c.in_default.is);
+  moments =
+      call_held g.R.Rack.slot_count g.R.Rack.slot g.R.Rack.told c.args.self.now _ _ c.sync-answer.ensures.told c.requires.disk
+      (λ is h lo s k. keeps_held _ _ _ _ _ (slice_set c.args.self.now.copied c.args.disk false) h lo _ (keeps_synced _ _ _ _ _ _ _ h lo s _ (cleared_at _ _) k _ is));
+  stands =
+      call_stands g.R.Rack.slot_count g.R.Rack.slot g.R.Rack.told c.args.self.now _ _ c.sync-answer.ensures.told (g.met.R.Rack.agrees (store_rack c.args.self.now.store)) _ _ _ _ _ _ c.sync-answer.ensures.slots c.sync-answer.ensures.same.named refl
+      (λ h lo s agrees k. keeps_synced _ _ _ _ _ _ _ h lo s _ (cleared_at _ _) k _ (done g c));
+  filled = λ whole. (
+    refl,
+    λ h lo end. sync_filled g.R.Rack.slot_count g.R.Rack.told c.args.self.now _ _ c.args.disk _ c.sync-answer.ensures.told (cleared_at _ _) (done g c) _ _ c.sync-answer.ensures.slots c.sync-answer.ensures.same.named h lo end,
+  );
+  cells = λ whole. (
+    refl,
+    λ h lo cells. sync_copied g.R.Rack.slot_count g.R.Rack.told c.args.self.now _ _ c.args.disk _ c.sync-answer.ensures.told (cleared_at _ _) (done g c) _ _ c.sync-answer.ensures.slots c.sync-answer.ensures.same.named h lo cells,
+  );
+  rebuilt = λ d units fresh. (
+    refl,
+    λ h lo end. sync_units g.R.Rack.slot_count g.R.Rack.told c.args.self.now _ _ c.args.disk _ c.sync-answer.ensures.told (cleared_at _ _) (done g c) _ _ c.sync-answer.ensures.slots c.sync-answer.ensures.same.named h lo end,
+  );
+}
 
-pub returns-clause-stands : goal.returns-clause-stands
-returns-clause-stands g c =
-    let ready = c.requires.ready in
-    call_stands g.R.Rack.slot_count g.R.Rack.slot g.R.Rack.told c.args.self.now _ _ c.sync-answer.ensures.told (g.met.R.Rack.agrees (store_rack c.args.self.now.store)) _ _ _ _ _ _ c.sync-answer.ensures.slots c.sync-answer.ensures.same.named
-    (ap (λ (z : Meta). z.setup) (meta_is g c))
-    (λ h lo s agrees k. subst (λ (z : Meta). HoldsBetweenCalls (g.R.Rack.slot_count (store_rack c.args.self.now.store)) (named_of c.args.self.now.store) z c.args.self.now.dirty c.args.self.now.batch (slice_set c.args.self.now.copied c.args.disk false) h lo (step (Sync c.args.disk (is_ok c.sync-answer.result)) s)) (sym (meta_is g c))
-    (keeps_unsynced _ _ _ _ _ _ _ h lo s _ (cleared_at _ _) k _ (failed g c) ready.in_range c.requires.disk (λ x l gone. ready.absent x l (ap is_present (sym (agrees.power x)) ∙ gone)) (alone g c) c.requires.still))
-
-pub returns-in_default-clause-filled : goal.returns-in_default-clause-filled
-returns-in_default-clause-filled g c whole = (
-  refl,
-  λ h lo end. sync_filled g.R.Rack.slot_count g.R.Rack.told c.args.self.now _ _ c.args.disk _ c.sync-answer.ensures.told (cleared_at _ _) (done g c) _ _ c.sync-answer.ensures.slots c.sync-answer.ensures.same.named h lo end,
-)
-
--- that disk is out
-pub returns-clause-filled : goal.returns-clause-filled
-returns-clause-filled g c whole = let z : Gone c.args.disk ≡ No = ap (λ (m : Meta). m.out) (sym (meta_is g c)) ∙ whole in absurd cc
-
-pub returns-in_default-clause-cells : goal.returns-in_default-clause-cells
-returns-in_default-clause-cells g c whole = (
-  refl,
-  λ h lo cells. sync_copied g.R.Rack.slot_count g.R.Rack.told c.args.self.now _ _ c.args.disk _ c.sync-answer.ensures.told (cleared_at _ _) (done g c) _ _ c.sync-answer.ensures.slots c.sync-answer.ensures.same.named h lo cells,
-)
-
-pub returns-clause-cells : goal.returns-clause-cells
-returns-clause-cells g c whole = let z : Gone c.args.disk ≡ No = ap (λ (m : Meta). m.out) (sym (meta_is g c)) ∙ whole in absurd cc
-
-pub returns-in_default-clause-rebuilt : goal.returns-in_default-clause-rebuilt
-returns-in_default-clause-rebuilt g c d units fresh = (
-  refl,
-  λ h lo end. sync_units g.R.Rack.slot_count g.R.Rack.told c.args.self.now _ _ c.args.disk _ c.sync-answer.ensures.told (cleared_at _ _) (done g c) _ _ c.sync-answer.ensures.slots c.sync-answer.ensures.same.named h lo end,
-)
-
-pub returns-clause-rebuilt : goal.returns-clause-rebuilt
-returns-clause-rebuilt g c d units fresh = let z : Gone c.args.disk ≡ Fresh d units = ap (λ (m : Meta). m.out) (sym (meta_is g c)) ∙ fresh in absurd cc
-
-pub returns-in_default-clause-calls : goal.returns-in_default-clause-calls
-returns-in_default-clause-calls g c =
-    one_call _ _ _ (is_ok c.sync-answer.result) c.sync-answer.ensures.told (λ t tells. (g.met.R.Rack.agrees (store_rack c.args.self.now.store) t tells).power c.args.disk ∙ c.requires.spins)
-
-pub returns-clause-calls : goal.returns-clause-calls
-returns-clause-calls g c =
-    one_call _ _ _ (is_ok c.sync-answer.result) c.sync-answer.ensures.told (λ t tells. (g.met.R.Rack.agrees (store_rack c.args.self.now.store) t tells).power c.args.disk ∙ c.requires.spins)
-
-pub returns-in_err-lose-clause-calls : goal.returns-in_err-lose-clause-calls
-returns-in_err-lose-clause-calls g c =
-    one_call _ _ _ (is_ok c.sync-answer.result) c.sync-answer.ensures.told (λ t tells. (g.met.R.Rack.agrees (store_rack c.args.self.now.store) t tells).power c.args.disk ∙ c.requires.spins)
-
-pub returns-in_default-clause-marks : goal.returns-in_default-clause-marks
-returns-in_default-clause-marks g c = marks_done c.args.self.now.meta _ _ c.args.disk _ _ _ c.sync-answer.ensures.slot (record { faults = refl; power = refl; size = refl }) (ap is_ok c.in_default.is)
-
-pub returns-clause-marks : goal.returns-clause-marks
-returns-clause-marks g c = marks_failed c.args.self.now.meta c.lose.new.meta _ _ c.args.disk _ _ _ c.sync-answer.ensures.slot (failed g c) (meta_is g c) c.requires.disk (λ x k. c.in_ok-lose.ensures.alone c.args.disk x refl k c.requires.disk)
-
-pub returns-in_err-lose-clause-tells : goal.returns-in_err-lose-clause-tells
-returns-in_err-lose-clause-tells g c =
-    handed (λ two. Ran (g.R.Rack.told (store_rack c.args.self.now.store)) (g.R.Rack.told (store_rack c.sync-answer.new.self)) (λ s cs. TellsLosses (named_out c.args.self.now.meta.out) two cs)) c.from_residual.result _ c.from_residual.ensures.1
-    (call_tells (named_out c.args.self.now.meta.out) _ (Sync c.args.disk (is_ok c.sync-answer.result)) _ _ c.sync-answer.ensures.told (ap is_ok c.in-Err.is) c.in_err-lose.ensures.two)
-
-pub returns-in_default-clause-spared : goal.returns-in_default-clause-spared
-returns-in_default-clause-spared g c = call_spared 8 _ _ _ _ _ _ c.sync-answer.ensures.slot refl refl refl
-
-pub returns-in_default-clause-two : goal.returns-in_default-clause-two
-returns-in_default-clause-two g c = tt
-
-pub returns-in_default-clause-tells : goal.returns-in_default-clause-tells
-returns-in_default-clause-tells g c = tt
-
-pub returns-in_err-lose-clause-leaves : goal.returns-in_err-lose-clause-leaves
-returns-in_err-lose-clause-leaves g c = none_done _ c.from_residual.result _ c.from_residual.ensures.1
-
-pub returns-in_err-lose-clause-marks : goal.returns-in_err-lose-clause-marks
-returns-in_err-lose-clause-marks g c = none_done _ c.from_residual.result _ c.from_residual.ensures.1
-
-pub returns-in_err-lose-clause-synced : goal.returns-in_err-lose-clause-synced
-returns-in_err-lose-clause-synced g c = none_done _ c.from_residual.result _ c.from_residual.ensures.1
-
-pub returns-in_err-lose-clause-stands : goal.returns-in_err-lose-clause-stands
-returns-in_err-lose-clause-stands g c = none_done _ c.from_residual.result _ c.from_residual.ensures.1
-
-pub returns-in_err-lose-clause-filled : goal.returns-in_err-lose-clause-filled
-returns-in_err-lose-clause-filled g c = none_done _ c.from_residual.result _ c.from_residual.ensures.1
-
-pub returns-in_err-lose-clause-cells : goal.returns-in_err-lose-clause-cells
-returns-in_err-lose-clause-cells g c = none_done _ c.from_residual.result _ c.from_residual.ensures.1
-
-pub returns-in_err-lose-clause-rebuilt : goal.returns-in_err-lose-clause-rebuilt
-returns-in_err-lose-clause-rebuilt g c = none_done _ c.from_residual.result _ c.from_residual.ensures.1
-
-pub returns-in_err-lose-clause-spared : goal.returns-in_err-lose-clause-spared
-returns-in_err-lose-clause-spared g c = call_spared 8 _ _ _ _ _ _ c.sync-answer.ensures.slot refl refl refl
-
-pub returns-in_err-lose-clause-two : goal.returns-in_err-lose-clause-two
-returns-in_err-lose-clause-two g c =
-    let old = c.args.self.now in
-    handed _ c.from_residual.result _ c.from_residual.ensures.1 (two_lost (named_of old.store) (named_out old.meta.out) _ _ c.args.disk _ c.requires.still (c.sync-answer.ensures.slot.risen (ap is_ok c.in-Err.is)) c.in_err-lose.ensures.two)
-
-pub returns-clause-spared : goal.returns-clause-spared
-returns-clause-spared g c = call_spared 8 _ _ _ _ _ _ c.sync-answer.ensures.slot refl refl refl
-
-pub returns-clause-two : goal.returns-clause-two
-returns-clause-two g c = tt
-
-pub returns-clause-tells : goal.returns-clause-tells
-returns-clause-tells g c = tt
-
-pub returns-clause-cleared : goal.returns-clause-cleared
-returns-clause-cleared g c = cleared_at _ _
-
-pub returns-in_default-clause-cleared : goal.returns-in_default-clause-cleared
-returns-in_default-clause-cleared g c = cleared_at _ _
-
-pub returns-in_err-lose-clause-cleared : goal.returns-in_err-lose-clause-cleared
-returns-in_err-lose-clause-cleared g c = cleared_at _ _
+pub returns-in_err-lose : goal.returns-in_err-lose
+returns-in_err-lose g c = record {
+  leaves = none_done _ c.from_residual.result _ c.from_residual.ensures.1;
+  spared = call_spared 8 _ _ _ _ _ _ c.sync-answer.ensures.slot refl refl refl;
+  still_synced = search rules;
+  synced = none_done _ c.from_residual.result _ c.from_residual.ensures.1;
+  cleared = cleared_at _ _;
+  two =
+      let old = c.args.self.now in
+      handed _ c.from_residual.result _ c.from_residual.ensures.1 (two_lost (named_of old.store) (named_out old.meta.out) _ _ c.args.disk _ c.requires.still (c.sync-answer.ensures.slot.risen (ap is_ok c.in-Err.is)) c.in_err-lose.ensures.two);
+  tells =
+      handed (λ two. Ran (g.R.Rack.told (store_rack c.args.self.now.store)) (g.R.Rack.told (store_rack c.sync-answer.new.self)) (λ s cs. TellsLosses (named_out c.args.self.now.meta.out) two cs)) c.from_residual.result _ c.from_residual.ensures.1
+      (call_tells (named_out c.args.self.now.meta.out) _ (Sync c.args.disk (is_ok c.sync-answer.result)) _ _ c.sync-answer.ensures.told (ap is_ok c.in-Err.is) c.in_err-lose.ensures.two);
+  calls = one_call _ _ _ (is_ok c.sync-answer.result) c.sync-answer.ensures.told (λ t tells. (g.met.R.Rack.agrees (store_rack c.args.self.now.store) t tells).power c.args.disk ∙ c.requires.spins);
+  marks = none_done _ c.from_residual.result _ c.from_residual.ensures.1;
+  moments =
+      call_held g.R.Rack.slot_count g.R.Rack.slot g.R.Rack.told c.args.self.now _ _ c.sync-answer.ensures.told c.requires.disk
+      (λ is h lo s k. keeps_held _ _ _ _ _ (slice_set c.args.self.now.copied c.args.disk false) h lo _ (keeps_synced _ _ _ _ _ _ _ h lo s _ (cleared_at _ _) k _ is));
+  stands = none_done _ c.from_residual.result _ c.from_residual.ensures.1;
+  filled = none_done _ c.from_residual.result _ c.from_residual.ensures.1;
+  cells = none_done _ c.from_residual.result _ c.from_residual.ensures.1;
+  rebuilt = none_done _ c.from_residual.result _ c.from_residual.ensures.1;
+}

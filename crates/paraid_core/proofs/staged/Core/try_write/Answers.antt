@@ -1,4 +1,4 @@
-use Rattle.std.proofs.Common.{◌≡◌, ℕ, Option, ◌+◌, ◌∙◌, ◌<◌, Some, None, sym, ap, subst, refl, length}
+use Rattle.std.proofs.Common.{◌≡◌, ℕ, Option, ◌+◌, ◌∙◌, ◌<◌, Some, None, sym, ap, subst, refl, length, rules}
 use Rattle.paraid_base.specs.Pairs.{pairs_of}
 use Rattle.paraid_dirty.specs.Table.{is_dirty}
 use Rattle.paraid_image.specs.Out.{named_out, or_else}
@@ -30,10 +30,6 @@ use Rattle.std.proofs.lemmas.Bool.{true≢false}
 use Rattle.paraid_view.proofs.TwoLemmas.{left_spared, left_synced}
 use Rattle.paraid_core.proofs.ErrLemmas.{none_done, none_done_if}
 use Rattle.paraid_core.proofs.staged.Core.try_write.Goals.{After-clear-2, In_ok-lose}
-
-pub returns-in_err-lose-clause-moments : goal.returns-in_err-lose-clause-moments
-returns-in_err-lose-clause-moments g c h lo =
-    ended_held _ _ _ (named_out c.args.self.now.meta.out) h lo _ _ _ (try_moments g.R.Rack.slot_count g.R.Rack.slot g.R.Rack.told c.args.self.now c.draft_writes.new.self c.draft_writes.ensures.leads c.requires.ready h lo)
 
 pub returns-then-is_err-clause-moments : goal.returns-then-is_err-clause-moments
 returns-then-is_err-clause-moments g c h lo =
@@ -153,19 +149,11 @@ returns-clause-down g c =
     let led = c.draft_writes.ensures.leads in
     down_same _ _ _ _ (ap (λ (z : Option ℕ). or_else z (named_out c.draft_writes.new.self.meta.out)) led.same.named ∙ ap (λ (z : Meta). or_else (named_of c.args.self.now.store) (named_out z.out)) led.meta)
 
-pub returns-in_err-lose-clause-moments_since : goal.returns-in_err-lose-clause-moments_since
-returns-in_err-lose-clause-moments_since g c h lo = try_moments g.R.Rack.slot_count g.R.Rack.slot g.R.Rack.told c.args.self.now c.draft_writes.new.self c.draft_writes.ensures.leads c.requires.ready h lo
-
 pub returns-then-is_err-clause-moments_since : goal.returns-then-is_err-clause-moments_since
 returns-then-is_err-clause-moments_since g c h lo = try_moments g.R.Rack.slot_count g.R.Rack.slot g.R.Rack.told c.args.self.now c.draft_writes.new.self c.draft_writes.ensures.leads c.requires.ready h lo
 
 pub returns-clause-moments_since : goal.returns-clause-moments_since
 returns-clause-moments_since g c h lo = try_moments g.R.Rack.slot_count g.R.Rack.slot g.R.Rack.told c.args.self.now c.draft_writes.new.self c.draft_writes.ensures.leads c.requires.ready h lo
-
-pub returns-in_err-lose-clause-calls : goal.returns-in_err-lose-clause-calls
-returns-in_err-lose-clause-calls g c =
-    let led = c.draft_writes.ensures.leads in
-    calls_off _ _ _ _ (sym c.requires.ready.array_is) (gone_named c.args.self.now.meta.out) _ _ led.calls led.off
 
 pub returns-then-is_err-clause-calls : goal.returns-then-is_err-clause-calls
 returns-then-is_err-clause-calls g c =
@@ -176,9 +164,6 @@ pub returns-clause-calls : goal.returns-clause-calls
 returns-clause-calls g c =
     let led = c.draft_writes.ensures.leads in
     calls_off _ _ _ _ (sym c.requires.ready.array_is) (gone_named c.args.self.now.meta.out) _ _ led.calls led.off
-
-pub returns-in_err-lose-clause-reads : goal.returns-in_err-lose-clause-reads
-returns-in_err-lose-clause-reads g c = reads_of _ _ (sym c.requires.ready.array_is) _ _ c.draft_writes.ensures.leads.calls
 
 pub returns-then-is_err-clause-reads : goal.returns-then-is_err-clause-reads
 returns-then-is_err-clause-reads g c = reads_of _ _ (sym c.requires.ready.array_is) _ _ c.draft_writes.ensures.leads.calls
@@ -210,28 +195,6 @@ returns-clause-bits g c =
     not_err c.draft_writes.result _ (sym c.is_err.ensures.value ∙ c.if-is_err.false) c.draft_writes.ensures.bits
     ∙ sym (bits_counted c.args.self.now.meta (pairs_of c.args.pairs.now) (c.args.self.now.meta.writes + 1) (is_dirty c.args.self.now.dirty))
     ∙ ap (λ (z : Meta). bits_after_writes (record z { writes = z.writes + 1 }) (pairs_of c.args.pairs.now) (is_dirty c.args.self.now.dirty)) (sym c.draft_writes.ensures.leads.meta)
-
-pub returns-in_err-lose-clause-tells : goal.returns-in_err-lose-clause-tells
-returns-in_err-lose-clause-tells g c =
-    let led = c.draft_writes.ensures.leads in
-    let both = c.in_err-lose.ensures.two in
-    handed (λ two. Ran (g.R.Rack.told (store_rack c.args.self.now.store)) (g.R.Rack.told (store_rack c.draft_writes.new.self.store)) (λ s cs. TellsLosses (named_out c.args.self.now.meta.out) two cs)) c.from_residual.result _ c.from_residual.ensures.1
-    (lose_tells (named_out c.args.self.now.meta.out) c.draft_writes.new.self.failed _ _ _ (both.0, sym (ap (λ (z : Meta). named_out z.out) led.meta) ∙ both.1, both.2) (led.first refl))
-
-pub returns-in_err-lose-clause-spared : goal.returns-in_err-lose-clause-spared
-returns-in_err-lose-clause-spared g c = left_spared _ _ _ (c.draft_writes.ensures.leads.left refl)
-
-pub returns-in_err-lose-clause-still_synced : goal.returns-in_err-lose-clause-still_synced
-returns-in_err-lose-clause-still_synced g c = left_synced _ _ _ (c.draft_writes.ensures.leads.left refl)
-
-pub returns-in_err-lose-clause-slots : goal.returns-in_err-lose-clause-slots
-returns-in_err-lose-clause-slots g c = c.draft_writes.ensures.leads.slots
-
-pub returns-in_err-lose-clause-named : goal.returns-in_err-lose-clause-named
-returns-in_err-lose-clause-named g c = c.draft_writes.ensures.leads.same.named
-
-pub returns-in_err-lose-clause-copied : goal.returns-in_err-lose-clause-copied
-returns-in_err-lose-clause-copied g c = c.draft_writes.ensures.leads.copied
 
 pub returns-then-is_err-clause-spared : goal.returns-then-is_err-clause-spared
 returns-then-is_err-clause-spared g c = left_spared _ _ _ (c.draft_writes.ensures.leads.left refl)
@@ -275,45 +238,6 @@ returns-clause-two g c = tt
 pub returns-clause-tells : goal.returns-clause-tells
 returns-clause-tells g c = tt
 
-pub returns-in_err-lose-clause-ready : goal.returns-in_err-lose-clause-ready
-returns-in_err-lose-clause-ready g c = none_done _ c.from_residual.result _ c.from_residual.ensures.1
-
-pub returns-in_err-lose-clause-serves : goal.returns-in_err-lose-clause-serves
-returns-in_err-lose-clause-serves g c = none_done _ c.from_residual.result _ c.from_residual.ensures.1
-
-pub returns-in_err-lose-clause-marks : goal.returns-in_err-lose-clause-marks
-returns-in_err-lose-clause-marks g c = none_done _ c.from_residual.result _ c.from_residual.ensures.1
-
-pub returns-in_err-lose-clause-epoch : goal.returns-in_err-lose-clause-epoch
-returns-in_err-lose-clause-epoch g c = none_done _ c.from_residual.result _ c.from_residual.ensures.1
-
-pub returns-in_err-lose-clause-setup : goal.returns-in_err-lose-clause-setup
-returns-in_err-lose-clause-setup g c = none_done _ c.from_residual.result _ c.from_residual.ensures.1
-
-pub returns-in_err-lose-clause-down : goal.returns-in_err-lose-clause-down
-returns-in_err-lose-clause-down g c = none_done _ c.from_residual.result _ c.from_residual.ensures.1
-
-pub returns-in_err-lose-clause-room : goal.returns-in_err-lose-clause-room
-returns-in_err-lose-clause-room g c = none_done_if _ c.from_residual.result _ c.from_residual.ensures.1
-
-pub returns-in_err-lose-clause-dropped : goal.returns-in_err-lose-clause-dropped
-returns-in_err-lose-clause-dropped g c = none_done_if _ c.from_residual.result _ c.from_residual.ensures.1
-
-pub returns-in_err-lose-clause-bits : goal.returns-in_err-lose-clause-bits
-returns-in_err-lose-clause-bits g c = none_done_if _ c.from_residual.result _ c.from_residual.ensures.1
-
-pub returns-in_err-lose-clause-writes : goal.returns-in_err-lose-clause-writes
-returns-in_err-lose-clause-writes g c = none_done_if _ c.from_residual.result _ c.from_residual.ensures.1
-
-pub returns-in_err-lose-clause-lost : goal.returns-in_err-lose-clause-lost
-returns-in_err-lose-clause-lost g c = none_done_if _ c.from_residual.result _ c.from_residual.ensures.1
-
-pub returns-in_err-lose-clause-stands : goal.returns-in_err-lose-clause-stands
-returns-in_err-lose-clause-stands g c = none_done_if _ c.from_residual.result _ c.from_residual.ensures.1
-
-pub returns-in_err-lose-clause-since : goal.returns-in_err-lose-clause-since
-returns-in_err-lose-clause-since g c = none_done_if _ c.from_residual.result _ c.from_residual.ensures.1
-
 pub returns-then-is_err-clause-dropped : goal.returns-then-is_err-clause-dropped
 returns-then-is_err-clause-dropped g c is = c.draft_writes.ensures.leads.batch
 
@@ -332,7 +256,39 @@ returns-clause-epoch g c = ap (λ (z : Meta). z.epoch) c.draft_writes.ensures.le
 pub returns-clause-writes : goal.returns-clause-writes
 returns-clause-writes g c = ap (λ (z : Meta). z.writes + 1) c.draft_writes.ensures.leads.meta
 
-pub returns-in_err-lose-clause-two : goal.returns-in_err-lose-clause-two
-returns-in_err-lose-clause-two g c =
-    handed _ c.from_residual.result _ c.from_residual.ensures.1
-    (try_two g.R.Rack.slot_count g.R.Rack.slot g.R.Rack.told c.args.self.now c.draft_writes.new.self c.draft_writes.ensures.leads c.requires.ready _ c.in_err-lose.ensures.two)
+pub returns-in_err-lose : goal.returns-in_err-lose
+returns-in_err-lose g c = record {
+  draft = search rules;
+  copied = c.draft_writes.ensures.leads.copied;
+  slots = c.draft_writes.ensures.leads.slots;
+  ready = none_done _ c.from_residual.result _ c.from_residual.ensures.1;
+  serves = none_done _ c.from_residual.result _ c.from_residual.ensures.1;
+  spared = left_spared _ _ _ (c.draft_writes.ensures.leads.left refl);
+  still_synced = left_synced _ _ _ (c.draft_writes.ensures.leads.left refl);
+  two =
+      handed _ c.from_residual.result _ c.from_residual.ensures.1
+      (try_two g.R.Rack.slot_count g.R.Rack.slot g.R.Rack.told c.args.self.now c.draft_writes.new.self c.draft_writes.ensures.leads c.requires.ready _ c.in_err-lose.ensures.two);
+  tells =
+      let led = c.draft_writes.ensures.leads in
+      let both = c.in_err-lose.ensures.two in
+      handed (λ two. Ran (g.R.Rack.told (store_rack c.args.self.now.store)) (g.R.Rack.told (store_rack c.draft_writes.new.self.store)) (λ s cs. TellsLosses (named_out c.args.self.now.meta.out) two cs)) c.from_residual.result _ c.from_residual.ensures.1
+      (lose_tells (named_out c.args.self.now.meta.out) c.draft_writes.new.self.failed _ _ _ (both.0, sym (ap (λ (z : Meta). named_out z.out) led.meta) ∙ both.1, both.2) (led.first refl));
+  calls =
+      let led = c.draft_writes.ensures.leads in
+      calls_off _ _ _ _ (sym c.requires.ready.array_is) (gone_named c.args.self.now.meta.out) _ _ led.calls led.off;
+  reads = reads_of _ _ (sym c.requires.ready.array_is) _ _ c.draft_writes.ensures.leads.calls;
+  marks = none_done _ c.from_residual.result _ c.from_residual.ensures.1;
+  room = none_done_if _ c.from_residual.result _ c.from_residual.ensures.1;
+  dropped = none_done_if _ c.from_residual.result _ c.from_residual.ensures.1;
+  bits = none_done_if _ c.from_residual.result _ c.from_residual.ensures.1;
+  writes = none_done_if _ c.from_residual.result _ c.from_residual.ensures.1;
+  epoch = none_done _ c.from_residual.result _ c.from_residual.ensures.1;
+  setup = none_done _ c.from_residual.result _ c.from_residual.ensures.1;
+  named = c.draft_writes.ensures.leads.same.named;
+  down = none_done _ c.from_residual.result _ c.from_residual.ensures.1;
+  lost = none_done_if _ c.from_residual.result _ c.from_residual.ensures.1;
+  moments = λ h lo. ended_held _ _ _ (named_out c.args.self.now.meta.out) h lo _ _ _ (try_moments g.R.Rack.slot_count g.R.Rack.slot g.R.Rack.told c.args.self.now c.draft_writes.new.self c.draft_writes.ensures.leads c.requires.ready h lo);
+  stands = none_done_if _ c.from_residual.result _ c.from_residual.ensures.1;
+  moments_since = λ h lo. try_moments g.R.Rack.slot_count g.R.Rack.slot g.R.Rack.told c.args.self.now c.draft_writes.new.self c.draft_writes.ensures.leads c.requires.ready h lo;
+  since = none_done_if _ c.from_residual.result _ c.from_residual.ensures.1;
+}

@@ -30,29 +30,6 @@ use Rattle.paraid_core.proofs.staged.Core.write_cell.Goals as goal
 use Rattle.paraid_core.proofs.ErrLemmas.{done_not_dropped, none_done, none_done_as, two_lost}
 use Rattle.paraid_core.proofs.staged.Core.write_cell.Goals.{In_ok-lose}
 
-pub returns-in_default-clause-leaves : goal.returns-in_default-clause-leaves
-returns-in_default-clause-leaves g c =
-    call_leaves g.R.Rack.slot_count g.R.Rack.slot c.args.self.now _ c.requires.ready c.requires.serves.stays c.write_free-answer.ensures.slots c.write_free-answer.ensures.same refl refl refl
-    None (λ d is. cc) (done_only _ _ _ _ _ _ _ c.write_free-answer.ensures.slot refl refl (ap is_ok c.in_default.is)) (λ d x is. cc) refl
-    (call_spared 8 _ _ _ _ _ _ c.write_free-answer.ensures.slot refl refl refl) (λ d is. cc) (marks_written _ _ _ _ _ _ c.write_free-answer.ensures.slot _ _ (record { here = c.mark.ensures.here; others = c.mark.ensures.others }))
-
-pub returns-in_default-clause-copied : goal.returns-in_default-clause-copied
-returns-in_default-clause-copied g c is h lo cells =
-    let q = c.requires in
-    let m = c.args.self.now.meta in
-    let in_all : named_out m.out ≢ Some c.args.disk = (λ named. let z : None ≡ Some c.args.disk = ap named_out (sym q.whole) ∙ named in cc) in
-    let large = q.serves.large c.args.disk q.rises in_all in
-    let fits = hard_place_below m.setup.geometry c.args.r q.row in
-    cell_copied g.R.Rack.slot_count g.R.Rack.slot g.R.Rack.told c.args.self.now q.ready q.whole (g.met.R.Rack.agrees (store_rack c.args.self.now.store)) q.nothing c.args.r c.args.disk _ c.args.block.now c.hard_place-place.result c.hard_place-place.ensures.value _
-    c.write_free-answer.ensures.told q.serves.stays q.row (disk_in m c.args.disk q.ready.in_range q.rises) q.past_gear q.dirty _ (record { here = c.mark.ensures.here; others = c.mark.ensures.others }) h lo cells
-    _ _ c.write_free-answer.ensures.slots c.write_free-answer.ensures.same.named (ap is_ok c.in_default.is) (q.serves.spins c.args.disk q.rises in_all) (omega arith)
-
-pub returns-in_default-clause-moments : goal.returns-in_default-clause-moments
-returns-in_default-clause-moments g c h lo cells =
-    let q = c.requires in
-    cell_held g.R.Rack.slot_count g.R.Rack.slot g.R.Rack.told c.args.self.now q.ready q.whole (g.met.R.Rack.agrees (store_rack c.args.self.now.store)) q.nothing c.args.r c.args.disk _ c.args.block.now c.hard_place-place.result c.hard_place-place.ensures.value _
-    c.write_free-answer.ensures.told q.serves.stays q.row (disk_in c.args.self.now.meta c.args.disk q.ready.in_range q.rises) q.past_gear q.dirty _ (record { here = c.mark.ensures.here; others = c.mark.ensures.others }) h lo cells
-
 -- it failed, and no other disk is out
 module _ (g : Over) (c : In_ok-lose g) where
   abbrev old : Core g.row.R.Denot g.R.Rack
@@ -70,142 +47,105 @@ module _ (g : Over) (c : In_ok-lose g) where
   alone : (x : ℕ) → named_out old.meta.out ≡ Some x → x ≡ c.args.disk
   alone x is = c.in_ok-lose.ensures.alone c.args.disk x refl is (disk_in c.args.self.now.meta c.args.disk c.requires.ready.in_range c.requires.rises)
 
-pub returns-clause-leaves : goal.returns-clause-leaves
-returns-clause-leaves g c =
-    call_leaves g.R.Rack.slot_count g.R.Rack.slot c.args.self.now _ c.requires.ready c.requires.serves.stays c.write_free-answer.ensures.slots c.write_free-answer.ensures.same refl refl refl
-    (Some c.args.disk) (λ d is. subst (λ (e : ℕ). e < c.args.self.now.meta.setup.geometry.disks) (some_is c.args.disk d is) (disk_in c.args.self.now.meta c.args.disk c.requires.ready.in_range c.requires.rises))
-    (failed_only _ _ _ _ _ _ _ c.write_free-answer.ensures.slot refl refl (failed g c)) (λ d x is k. alone g c x k ∙ some_is c.args.disk d is) (meta_is g c)
-    (call_spared 8 _ _ _ _ _ _ c.write_free-answer.ensures.slot refl refl refl)
-    (λ d is. subst (λ (e : ℕ). HasRisen (g.R.Rack.slot (store_rack c.args.self.now.store) e).faults (g.R.Rack.slot (store_rack c.write_free-answer.new.self) e).faults) (some_is c.args.disk d is) (c.write_free-answer.ensures.slot.risen (failed g c))) (marks_written _ _ _ _ _ _ c.write_free-answer.ensures.slot _ _ (record { here = c.mark.ensures.here; others = c.mark.ensures.others }))
+pub returns : goal.returns
+returns g c = record {
+  leaves =
+      call_leaves g.R.Rack.slot_count g.R.Rack.slot c.args.self.now _ c.requires.ready c.requires.serves.stays c.write_free-answer.ensures.slots c.write_free-answer.ensures.same refl refl refl
+      (Some c.args.disk) (λ d is. subst (λ (e : ℕ). e < c.args.self.now.meta.setup.geometry.disks) (some_is c.args.disk d is) (disk_in c.args.self.now.meta c.args.disk c.requires.ready.in_range c.requires.rises))
+      (failed_only _ _ _ _ _ _ _ c.write_free-answer.ensures.slot refl refl (failed g c)) (λ d x is k. alone g c x k ∙ some_is c.args.disk d is) (meta_is g c)
+      (call_spared 8 _ _ _ _ _ _ c.write_free-answer.ensures.slot refl refl refl)
+      (λ d is. subst (λ (e : ℕ). HasRisen (g.R.Rack.slot (store_rack c.args.self.now.store) e).faults (g.R.Rack.slot (store_rack c.write_free-answer.new.self) e).faults) (some_is c.args.disk d is) (c.write_free-answer.ensures.slot.risen (failed g c))) (marks_written _ _ _ _ _ _ c.write_free-answer.ensures.slot _ _ (record { here = c.mark.ensures.here; others = c.mark.ensures.others }));
+  same = λ is. done_not_dropped _ _ is refl;
+  spared = call_spared 8 _ _ _ _ _ _ c.write_free-answer.ensures.slot refl refl refl;
+  two = tt;
+  tells = tt;
+  calls =
+      let q = c.requires in
+      let m = c.args.self.now.meta in
+      let in_all : named_out m.out ≢ Some c.args.disk = (λ named. let z : None ≡ Some c.args.disk = ap named_out (sym q.whole) ∙ named in cc) in
+      let far = c.hard_place-place.ensures.after_map in
+      written_calls _ _ c.args.disk c.hard_place-place.result c.args.block.now (is_ok c.write_free-answer.result) _ _ c.write_free-answer.ensures.told (disk_in m c.args.disk q.ready.in_range q.rises)
+      (λ gone. in_all (gone_named m.out c.args.disk gone)) (omega (arith, far)) (λ t tells. (g.met.R.Rack.agrees (store_rack c.args.self.now.store) t tells).power c.args.disk ∙ q.serves.spins c.args.disk q.rises in_all);
+  marks = marks_failed c.args.self.now.meta c.lose.new.meta _ _ c.args.disk _ _ _ c.write_free-answer.ensures.slot (failed g c) (meta_is g c) (disk_in c.args.self.now.meta c.args.disk c.requires.ready.in_range c.requires.rises) (λ x k. c.in_ok-lose.ensures.alone c.args.disk x refl k (disk_in c.args.self.now.meta c.args.disk c.requires.ready.in_range c.requires.rises));
+  copied = λ is. done_not_dropped _ _ is refl;
+  gone = λ is. meta_is g c;
+  failed = λ is. record { risen = c.write_free-answer.ensures.slot.risen (failed g c); absent = c.write_free-answer.ensures.slot.absent (failed g c) };
+  lost = λ is h lo cells.
+      let old = c.args.self.now in
+      let ready = c.requires.ready in
+      weaker (IsCoreHeldSinceCommit g.R.Rack.slot_count old h lo) (CoreStandsFor g.R.Rack.slot_count old h lo) (CopyingCell g.R.Rack.slot_count old h lo cells c.args.r c.args.disk c.args.block.now) _ _ _ _ (λ s k. k.before.keeps) (λ s k. k)
+      (call_stands g.R.Rack.slot_count g.R.Rack.slot g.R.Rack.told old _ _ c.write_free-answer.ensures.told (g.met.R.Rack.agrees (store_rack old.store)) _ _ _ _ _ _ c.write_free-answer.ensures.slots c.write_free-answer.ensures.same.named
+      (ap (λ (z : Meta). z.setup) (meta_is g c))
+      (λ h lo s agrees k. subst (λ (z : Meta). HoldsBetweenCalls (g.R.Rack.slot_count (store_rack old.store)) (named_of old.store) z old.dirty old.batch (c.mark.new.copied) h lo (step (Write c.args.disk c.hard_place-place.result c.args.block.now (is_ok c.write_free-answer.result)) s)) (sym (meta_is g c))
+      (keeps_unwritten _ _ _ _ _ _ _ h lo s _ _ _ (record { here = c.mark.ensures.here; others = c.mark.ensures.others }) _ (failed g c) ready.in_range (disk_in old.meta c.args.disk ready.in_range c.requires.rises) (λ x l gone. ready.absent x l (ap is_present (sym (agrees.power x)) ∙ gone)) (alone g c) c.requires.serves.stays k)) h lo);
+  moments = λ h lo cells.
+      let q = c.requires in
+      cell_held g.R.Rack.slot_count g.R.Rack.slot g.R.Rack.told c.args.self.now q.ready q.whole (g.met.R.Rack.agrees (store_rack c.args.self.now.store)) q.nothing c.args.r c.args.disk _ c.args.block.now c.hard_place-place.result c.hard_place-place.ensures.value _
+      c.write_free-answer.ensures.told q.serves.stays q.row (disk_in c.args.self.now.meta c.args.disk q.ready.in_range q.rises) q.past_gear q.dirty _ (record { here = c.mark.ensures.here; others = c.mark.ensures.others }) h lo cells;
+}
 
-pub returns-clause-spared : goal.returns-clause-spared
-returns-clause-spared g c = call_spared 8 _ _ _ _ _ _ c.write_free-answer.ensures.slot refl refl refl
+pub returns-in_default : goal.returns-in_default
+returns-in_default g c = record {
+  leaves =
+      call_leaves g.R.Rack.slot_count g.R.Rack.slot c.args.self.now _ c.requires.ready c.requires.serves.stays c.write_free-answer.ensures.slots c.write_free-answer.ensures.same refl refl refl
+      None (λ d is. cc) (done_only _ _ _ _ _ _ _ c.write_free-answer.ensures.slot refl refl (ap is_ok c.in_default.is)) (λ d x is. cc) refl
+      (call_spared 8 _ _ _ _ _ _ c.write_free-answer.ensures.slot refl refl refl) (λ d is. cc) (marks_written _ _ _ _ _ _ c.write_free-answer.ensures.slot _ _ (record { here = c.mark.ensures.here; others = c.mark.ensures.others }));
+  same = λ is. refl;
+  spared = call_spared 8 _ _ _ _ _ _ c.write_free-answer.ensures.slot refl refl refl;
+  two = tt;
+  tells = tt;
+  calls =
+      let q = c.requires in
+      let m = c.args.self.now.meta in
+      let in_all : named_out m.out ≢ Some c.args.disk = (λ named. let z : None ≡ Some c.args.disk = ap named_out (sym q.whole) ∙ named in cc) in
+      let far = c.hard_place-place.ensures.after_map in
+      written_calls _ _ c.args.disk c.hard_place-place.result c.args.block.now (is_ok c.write_free-answer.result) _ _ c.write_free-answer.ensures.told (disk_in m c.args.disk q.ready.in_range q.rises)
+      (λ gone. in_all (gone_named m.out c.args.disk gone)) (omega (arith, far)) (λ t tells. (g.met.R.Rack.agrees (store_rack c.args.self.now.store) t tells).power c.args.disk ∙ q.serves.spins c.args.disk q.rises in_all);
+  marks = marks_done c.args.self.now.meta _ _ c.args.disk _ _ _ c.write_free-answer.ensures.slot (record { faults = refl; power = refl; size = refl }) (ap is_ok c.in_default.is);
+  copied = λ is h lo cells.
+      let q = c.requires in
+      let m = c.args.self.now.meta in
+      let in_all : named_out m.out ≢ Some c.args.disk = (λ named. let z : None ≡ Some c.args.disk = ap named_out (sym q.whole) ∙ named in cc) in
+      let large = q.serves.large c.args.disk q.rises in_all in
+      let fits = hard_place_below m.setup.geometry c.args.r q.row in
+      cell_copied g.R.Rack.slot_count g.R.Rack.slot g.R.Rack.told c.args.self.now q.ready q.whole (g.met.R.Rack.agrees (store_rack c.args.self.now.store)) q.nothing c.args.r c.args.disk _ c.args.block.now c.hard_place-place.result c.hard_place-place.ensures.value _
+      c.write_free-answer.ensures.told q.serves.stays q.row (disk_in m c.args.disk q.ready.in_range q.rises) q.past_gear q.dirty _ (record { here = c.mark.ensures.here; others = c.mark.ensures.others }) h lo cells
+      _ _ c.write_free-answer.ensures.slots c.write_free-answer.ensures.same.named (ap is_ok c.in_default.is) (q.serves.spins c.args.disk q.rises in_all) (omega arith);
+  gone = λ is. done_not_dropped _ _ refl is;
+  failed = λ is. done_not_dropped _ _ refl is;
+  lost = λ is. done_not_dropped _ _ refl is;
+  moments = λ h lo cells.
+      let q = c.requires in
+      cell_held g.R.Rack.slot_count g.R.Rack.slot g.R.Rack.told c.args.self.now q.ready q.whole (g.met.R.Rack.agrees (store_rack c.args.self.now.store)) q.nothing c.args.r c.args.disk _ c.args.block.now c.hard_place-place.result c.hard_place-place.ensures.value _
+      c.write_free-answer.ensures.told q.serves.stays q.row (disk_in c.args.self.now.meta c.args.disk q.ready.in_range q.rises) q.past_gear q.dirty _ (record { here = c.mark.ensures.here; others = c.mark.ensures.others }) h lo cells;
+}
 
-pub returns-clause-lost : goal.returns-clause-lost
-returns-clause-lost g c is h lo cells =
-    let old = c.args.self.now in
-    let ready = c.requires.ready in
-    weaker (IsCoreHeldSinceCommit g.R.Rack.slot_count old h lo) (CoreStandsFor g.R.Rack.slot_count old h lo) (CopyingCell g.R.Rack.slot_count old h lo cells c.args.r c.args.disk c.args.block.now) _ _ _ _ (λ s k. k.before.keeps) (λ s k. k)
-    (call_stands g.R.Rack.slot_count g.R.Rack.slot g.R.Rack.told old _ _ c.write_free-answer.ensures.told (g.met.R.Rack.agrees (store_rack old.store)) _ _ _ _ _ _ c.write_free-answer.ensures.slots c.write_free-answer.ensures.same.named
-    (ap (λ (z : Meta). z.setup) (meta_is g c))
-    (λ h lo s agrees k. subst (λ (z : Meta). HoldsBetweenCalls (g.R.Rack.slot_count (store_rack old.store)) (named_of old.store) z old.dirty old.batch (c.mark.new.copied) h lo (step (Write c.args.disk c.hard_place-place.result c.args.block.now (is_ok c.write_free-answer.result)) s)) (sym (meta_is g c))
-    (keeps_unwritten _ _ _ _ _ _ _ h lo s _ _ _ (record { here = c.mark.ensures.here; others = c.mark.ensures.others }) _ (failed g c) ready.in_range (disk_in old.meta c.args.disk ready.in_range c.requires.rises) (λ x l gone. ready.absent x l (ap is_present (sym (agrees.power x)) ∙ gone)) (alone g c) c.requires.serves.stays k)) h lo)
-
-pub returns-clause-moments : goal.returns-clause-moments
-returns-clause-moments g c h lo cells =
-    let q = c.requires in
-    cell_held g.R.Rack.slot_count g.R.Rack.slot g.R.Rack.told c.args.self.now q.ready q.whole (g.met.R.Rack.agrees (store_rack c.args.self.now.store)) q.nothing c.args.r c.args.disk _ c.args.block.now c.hard_place-place.result c.hard_place-place.ensures.value _
-    c.write_free-answer.ensures.told q.serves.stays q.row (disk_in c.args.self.now.meta c.args.disk q.ready.in_range q.rises) q.past_gear q.dirty _ (record { here = c.mark.ensures.here; others = c.mark.ensures.others }) h lo cells
-
-pub returns-in_default-clause-calls : goal.returns-in_default-clause-calls
-returns-in_default-clause-calls g c =
-    let q = c.requires in
-    let m = c.args.self.now.meta in
-    let in_all : named_out m.out ≢ Some c.args.disk = (λ named. let z : None ≡ Some c.args.disk = ap named_out (sym q.whole) ∙ named in cc) in
-    let far = c.hard_place-place.ensures.after_map in
-    written_calls _ _ c.args.disk c.hard_place-place.result c.args.block.now (is_ok c.write_free-answer.result) _ _ c.write_free-answer.ensures.told (disk_in m c.args.disk q.ready.in_range q.rises)
-    (λ gone. in_all (gone_named m.out c.args.disk gone)) (omega (arith, far)) (λ t tells. (g.met.R.Rack.agrees (store_rack c.args.self.now.store) t tells).power c.args.disk ∙ q.serves.spins c.args.disk q.rises in_all)
-
-pub returns-clause-calls : goal.returns-clause-calls
-returns-clause-calls g c =
-    let q = c.requires in
-    let m = c.args.self.now.meta in
-    let in_all : named_out m.out ≢ Some c.args.disk = (λ named. let z : None ≡ Some c.args.disk = ap named_out (sym q.whole) ∙ named in cc) in
-    let far = c.hard_place-place.ensures.after_map in
-    written_calls _ _ c.args.disk c.hard_place-place.result c.args.block.now (is_ok c.write_free-answer.result) _ _ c.write_free-answer.ensures.told (disk_in m c.args.disk q.ready.in_range q.rises)
-    (λ gone. in_all (gone_named m.out c.args.disk gone)) (omega (arith, far)) (λ t tells. (g.met.R.Rack.agrees (store_rack c.args.self.now.store) t tells).power c.args.disk ∙ q.serves.spins c.args.disk q.rises in_all)
-
-pub returns-in_err-lose-clause-calls : goal.returns-in_err-lose-clause-calls
-returns-in_err-lose-clause-calls g c =
-    let q = c.requires in
-    let m = c.args.self.now.meta in
-    let in_all : named_out m.out ≢ Some c.args.disk = (λ named. let z : None ≡ Some c.args.disk = ap named_out (sym q.whole) ∙ named in cc) in
-    let far = c.hard_place-place.ensures.after_map in
-    written_calls _ _ c.args.disk c.hard_place-place.result c.args.block.now (is_ok c.write_free-answer.result) _ _ c.write_free-answer.ensures.told (disk_in m c.args.disk q.ready.in_range q.rises)
-    (λ gone. in_all (gone_named m.out c.args.disk gone)) (omega (arith, far)) (λ t tells. (g.met.R.Rack.agrees (store_rack c.args.self.now.store) t tells).power c.args.disk ∙ q.serves.spins c.args.disk q.rises in_all)
-
-pub returns-in_default-clause-marks : goal.returns-in_default-clause-marks
-returns-in_default-clause-marks g c = marks_done c.args.self.now.meta _ _ c.args.disk _ _ _ c.write_free-answer.ensures.slot (record { faults = refl; power = refl; size = refl }) (ap is_ok c.in_default.is)
-
-pub returns-clause-marks : goal.returns-clause-marks
-returns-clause-marks g c = marks_failed c.args.self.now.meta c.lose.new.meta _ _ c.args.disk _ _ _ c.write_free-answer.ensures.slot (failed g c) (meta_is g c) (disk_in c.args.self.now.meta c.args.disk c.requires.ready.in_range c.requires.rises) (λ x k. c.in_ok-lose.ensures.alone c.args.disk x refl k (disk_in c.args.self.now.meta c.args.disk c.requires.ready.in_range c.requires.rises))
-
-pub returns-clause-gone : goal.returns-clause-gone
-returns-clause-gone g c is = meta_is g c
-
-pub returns-clause-failed : goal.returns-clause-failed
-returns-clause-failed g c is = record { risen = c.write_free-answer.ensures.slot.risen (failed g c); absent = c.write_free-answer.ensures.slot.absent (failed g c) }
-
-pub returns-in_err-lose-clause-tells : goal.returns-in_err-lose-clause-tells
-returns-in_err-lose-clause-tells g c =
-    handed (λ two. Ran (g.R.Rack.told (store_rack c.args.self.now.store)) (g.R.Rack.told (store_rack c.write_free-answer.new.self)) (λ s cs. TellsLosses (named_out c.args.self.now.meta.out) two cs)) c.from_residual.result _ c.from_residual.ensures.1
-    (call_tells (named_out c.args.self.now.meta.out) _ (Write c.args.disk c.hard_place-place.result c.args.block.now (is_ok c.write_free-answer.result)) _ _ c.write_free-answer.ensures.told (ap is_ok c.in-Err.is) c.in_err-lose.ensures.two)
-
-pub returns-in_default-clause-same : goal.returns-in_default-clause-same
-returns-in_default-clause-same g c is = refl
-
-pub returns-in_default-clause-two : goal.returns-in_default-clause-two
-returns-in_default-clause-two g c = tt
-
-pub returns-in_default-clause-tells : goal.returns-in_default-clause-tells
-returns-in_default-clause-tells g c = tt
-
-pub returns-in_default-clause-gone : goal.returns-in_default-clause-gone
-returns-in_default-clause-gone g c is = done_not_dropped _ _ refl is
-
-pub returns-in_default-clause-failed : goal.returns-in_default-clause-failed
-returns-in_default-clause-failed g c is = done_not_dropped _ _ refl is
-
-pub returns-in_default-clause-lost : goal.returns-in_default-clause-lost
-returns-in_default-clause-lost g c is = done_not_dropped _ _ refl is
-
-pub returns-in_err-lose-clause-leaves : goal.returns-in_err-lose-clause-leaves
-returns-in_err-lose-clause-leaves g c = none_done _ c.from_residual.result _ c.from_residual.ensures.1
-
-pub returns-in_err-lose-clause-marks : goal.returns-in_err-lose-clause-marks
-returns-in_err-lose-clause-marks g c = none_done _ c.from_residual.result _ c.from_residual.ensures.1
-
-pub returns-in_err-lose-clause-same : goal.returns-in_err-lose-clause-same
-returns-in_err-lose-clause-same g c is = none_done_as _ c.from_residual.result _ _ c.from_residual.ensures.1 is
-
-pub returns-in_err-lose-clause-copied : goal.returns-in_err-lose-clause-copied
-returns-in_err-lose-clause-copied g c is = none_done_as _ c.from_residual.result _ _ c.from_residual.ensures.1 is
-
-pub returns-in_err-lose-clause-gone : goal.returns-in_err-lose-clause-gone
-returns-in_err-lose-clause-gone g c is = none_done_as _ c.from_residual.result _ _ c.from_residual.ensures.1 is
-
-pub returns-in_err-lose-clause-failed : goal.returns-in_err-lose-clause-failed
-returns-in_err-lose-clause-failed g c is = none_done_as _ c.from_residual.result _ _ c.from_residual.ensures.1 is
-
-pub returns-in_err-lose-clause-lost : goal.returns-in_err-lose-clause-lost
-returns-in_err-lose-clause-lost g c is = none_done_as _ c.from_residual.result _ _ c.from_residual.ensures.1 is
-
-pub returns-clause-same : goal.returns-clause-same
-returns-clause-same g c is = done_not_dropped _ _ is refl
-
-pub returns-clause-copied : goal.returns-clause-copied
-returns-clause-copied g c is = done_not_dropped _ _ is refl
-
-pub returns-clause-two : goal.returns-clause-two
-returns-clause-two g c = tt
-
-pub returns-clause-tells : goal.returns-clause-tells
-returns-clause-tells g c = tt
-
-pub returns-in_err-lose-clause-two : goal.returns-in_err-lose-clause-two
-returns-in_err-lose-clause-two g c =
-    let old = c.args.self.now in
-    handed _ c.from_residual.result _ c.from_residual.ensures.1
-    (two_lost (named_of old.store) (named_out old.meta.out) _ _ c.args.disk _ c.requires.serves.stays (c.write_free-answer.ensures.slot.risen (ap is_ok c.in-Err.is)) c.in_err-lose.ensures.two)
-
-pub returns-in_err-lose-clause-spared : goal.returns-in_err-lose-clause-spared
-returns-in_err-lose-clause-spared g c = call_spared 8 _ _ _ _ _ _ c.write_free-answer.ensures.slot refl refl refl
-
-pub returns-in_default-clause-spared : goal.returns-in_default-clause-spared
-returns-in_default-clause-spared g c = call_spared 8 _ _ _ _ _ _ c.write_free-answer.ensures.slot refl refl refl
-
-pub returns-in_err-lose-clause-moments : goal.returns-in_err-lose-clause-moments
-returns-in_err-lose-clause-moments g c h lo cells =
-    let q = c.requires in
-    cell_held g.R.Rack.slot_count g.R.Rack.slot g.R.Rack.told c.args.self.now q.ready q.whole (g.met.R.Rack.agrees (store_rack c.args.self.now.store)) q.nothing c.args.r c.args.disk _ c.args.block.now c.hard_place-place.result c.hard_place-place.ensures.value _
-    c.write_free-answer.ensures.told q.serves.stays q.row (disk_in c.args.self.now.meta c.args.disk q.ready.in_range q.rises) q.past_gear q.dirty _ (record { here = c.mark.ensures.here; others = c.mark.ensures.others }) h lo cells
+pub returns-in_err-lose : goal.returns-in_err-lose
+returns-in_err-lose g c = record {
+  leaves = none_done _ c.from_residual.result _ c.from_residual.ensures.1;
+  same = λ is. none_done_as _ c.from_residual.result _ _ c.from_residual.ensures.1 is;
+  spared = call_spared 8 _ _ _ _ _ _ c.write_free-answer.ensures.slot refl refl refl;
+  two =
+      let old = c.args.self.now in
+      handed _ c.from_residual.result _ c.from_residual.ensures.1
+      (two_lost (named_of old.store) (named_out old.meta.out) _ _ c.args.disk _ c.requires.serves.stays (c.write_free-answer.ensures.slot.risen (ap is_ok c.in-Err.is)) c.in_err-lose.ensures.two);
+  tells =
+      handed (λ two. Ran (g.R.Rack.told (store_rack c.args.self.now.store)) (g.R.Rack.told (store_rack c.write_free-answer.new.self)) (λ s cs. TellsLosses (named_out c.args.self.now.meta.out) two cs)) c.from_residual.result _ c.from_residual.ensures.1
+      (call_tells (named_out c.args.self.now.meta.out) _ (Write c.args.disk c.hard_place-place.result c.args.block.now (is_ok c.write_free-answer.result)) _ _ c.write_free-answer.ensures.told (ap is_ok c.in-Err.is) c.in_err-lose.ensures.two);
+  calls =
+      let q = c.requires in
+      let m = c.args.self.now.meta in
+      let in_all : named_out m.out ≢ Some c.args.disk = (λ named. let z : None ≡ Some c.args.disk = ap named_out (sym q.whole) ∙ named in cc) in
+      let far = c.hard_place-place.ensures.after_map in
+      written_calls _ _ c.args.disk c.hard_place-place.result c.args.block.now (is_ok c.write_free-answer.result) _ _ c.write_free-answer.ensures.told (disk_in m c.args.disk q.ready.in_range q.rises)
+      (λ gone. in_all (gone_named m.out c.args.disk gone)) (omega (arith, far)) (λ t tells. (g.met.R.Rack.agrees (store_rack c.args.self.now.store) t tells).power c.args.disk ∙ q.serves.spins c.args.disk q.rises in_all);
+  marks = none_done _ c.from_residual.result _ c.from_residual.ensures.1;
+  copied = λ is. none_done_as _ c.from_residual.result _ _ c.from_residual.ensures.1 is;
+  gone = λ is. none_done_as _ c.from_residual.result _ _ c.from_residual.ensures.1 is;
+  failed = λ is. none_done_as _ c.from_residual.result _ _ c.from_residual.ensures.1 is;
+  lost = λ is. none_done_as _ c.from_residual.result _ _ c.from_residual.ensures.1 is;
+  moments = λ h lo cells.
+      let q = c.requires in
+      cell_held g.R.Rack.slot_count g.R.Rack.slot g.R.Rack.told c.args.self.now q.ready q.whole (g.met.R.Rack.agrees (store_rack c.args.self.now.store)) q.nothing c.args.r c.args.disk _ c.args.block.now c.hard_place-place.result c.hard_place-place.ensures.value _
+      c.write_free-answer.ensures.told q.serves.stays q.row (disk_in c.args.self.now.meta c.args.disk q.ready.in_range q.rises) q.past_gear q.dirty _ (record { here = c.mark.ensures.here; others = c.mark.ensures.others }) h lo cells;
+}

@@ -27,18 +27,6 @@ use Rattle.paraid_core.proofs.StepLemmas.{dry_both}
 use Rattle.paraid_core.proofs.ErrLemmas.{none_done}
 use Rattle.paraid_core.proofs.staged.Core.write_many.Goals as goal
 
-pub returns-in_err-write_whole-clause-moments : goal.returns-in_err-write_whole-clause-moments
-returns-in_err-write_whole-clause-moments g c h lo =
-    let old = c.args.self.now in
-    let mid = c.make_room.new.self in
-    let first : Bool = commits_first (batch_of old) (10 * c.args.pairs.now.count) in
-    let low : ℕ = if first then length h else lo in
-    ended _ _ (IsCoreHeldSinceCommit g.R.Rack.slot_count mid h low) _ _
-    (after_raised (g.R.Rack.slot_count (core_rack old)) _ old.meta.setup.geometry.disks _ (core_down old) (named_of mid.store) (named_of old.store) old.meta old.dirty old.batch old.copied first h lo _
-    (IsCoreHeldSinceCommit g.R.Rack.slot_count mid h low) _ _ _
-    c.in_ok-make_room.ensures.slots (ap (λ (z : Setup). z.geometry.disks) c.in_ok-make_room.ensures.setup) c.in_ok-make_room.ensures.named
-    (c.in_ok-make_room.ensures.stands h lo) (c.in_err-write_whole.ensures.moments h low))
-
 pub returns-clause-moments : goal.returns-clause-moments
 returns-clause-moments g c h lo =
     let old = c.args.self.now in
@@ -63,37 +51,15 @@ returns-clause-stands g c h lo =
     c.in_ok-make_room.ensures.slots (ap (λ (z : Setup). z.geometry.disks) c.in_ok-make_room.ensures.setup) c.in_ok-make_room.ensures.named
     (c.in_ok-make_room.ensures.stands h lo) (c.in_ok-write_whole.ensures.stands h low)
 
-pub returns-in_err-write_whole-clause-calls : goal.returns-in_err-write_whole-clause-calls
-returns-in_err-write_whole-clause-calls g c =
-    calls_then _ _ _ _ c.make_room.ensures.calls
-    (transfer_after c.args.self.now.meta c.make_room.new.self.meta c.in_ok-make_room.ensures.setup c.in_ok-make_room.ensures.gone _ _ c.write_whole.ensures.calls)
-
 pub returns-clause-calls : goal.returns-clause-calls
 returns-clause-calls g c =
     calls_then _ _ _ _ c.make_room.ensures.calls
     (transfer_after c.args.self.now.meta c.make_room.new.self.meta c.in_ok-make_room.ensures.setup c.in_ok-make_room.ensures.gone _ _ c.write_whole.ensures.calls)
 
-pub returns-in_err-make_room-clause-kept : goal.returns-in_err-make_room-clause-kept
-returns-in_err-make_room-clause-kept g c is = idle_calls _ _ _ (c.make_room.ensures.idle is)
-
-pub returns-in_err-make_room-clause-whole : goal.returns-in_err-make_room-clause-whole
-returns-in_err-make_room-clause-whole g c is = c.make_room.ensures.whole is
-
-pub returns-in_err-write_whole-clause-kept : goal.returns-in_err-write_whole-clause-kept
-returns-in_err-write_whole-clause-kept g c is =
-    idle_then _ _ (g.R.Rack.told (core_rack c.make_room.new.self)) _ (c.make_room.ensures.idle is)
-    (data_after c.args.self.now.meta c.make_room.new.self.meta c.in_ok-make_room.ensures.setup c.in_ok-make_room.ensures.gone _ _ c.write_whole.ensures.calls)
-
 pub returns-clause-kept : goal.returns-clause-kept
 returns-clause-kept g c is =
     idle_then _ _ (g.R.Rack.told (core_rack c.make_room.new.self)) _ (c.make_room.ensures.idle is)
     (data_after c.args.self.now.meta c.make_room.new.self.meta c.in_ok-make_room.ensures.setup c.in_ok-make_room.ensures.gone _ _ c.write_whole.ensures.calls)
-
-pub returns-in_err-write_whole-clause-whole : goal.returns-in_err-write_whole-clause-whole
-returns-in_err-write_whole-clause-whole g c is h lo =
-    let old = c.args.self.now in
-    whole_then_reads (CoreStandsFor g.R.Rack.slot_count old h lo) (λ s k. k.base) (record old.meta { epoch = old.meta.epoch + 1 }) old.batch c.make_room.new.self.meta.setup.geometry.disks (λ s k. k.next.setup)
-    (ap (λ (z : Setup). z.geometry.disks) c.in_ok-make_room.ensures.setup) _ _ _ (c.make_room.ensures.whole is h lo) c.write_whole.ensures.reads
 
 pub returns-clause-whole : goal.returns-clause-whole
 returns-clause-whole g c is h lo =
@@ -103,12 +69,6 @@ returns-clause-whole g c is h lo =
 
 pub returns-clause-marks : goal.returns-clause-marks
 returns-clause-marks g c = marks_then _ _ _ _ _ _ c.in_ok-make_room.ensures.marks c.in_ok-write_whole.ensures.marks c.make_room.ensures.spared c.write_whole.ensures.spared
-
-pub returns-in_err-write_whole-clause-two : goal.returns-in_err-write_whole-clause-two
-returns-in_err-write_whole-clause-two g c =
-    let old = c.args.self.now in
-    handed (AreTwoDown (core_down old) (g.R.Rack.slot (core_rack old)) (g.R.Rack.slot (core_rack c.write_whole.new.self))) c.from_residual-in_err-write_whole.result _ c.from_residual-in_err-write_whole.ensures.1
-    (two_after (core_down old) (core_down c.make_room.new.self) _ _ _ _ c.in_ok-make_room.ensures.down c.in_ok-make_room.ensures.spared c.in_err-write_whole.ensures.spared c.in_err-write_whole.ensures.two)
 
 pub returns-clause-names : goal.returns-clause-names
 returns-clause-names g c = c.in_ok-write_whole.ensures.named ∙ c.in_ok-make_room.ensures.names
@@ -129,89 +89,33 @@ pub returns-clause-bits : goal.returns-clause-bits
 returns-clause-bits g c =
     c.in_ok-write_whole.ensures.bits ∙ ap (λ (z : List (List Bool)). bits_after_writes c.write_whole.new.self.meta (pairs_of c.args.pairs.now) (is_dirty z)) c.in_ok-make_room.ensures.table
 
-pub returns-in_err-write_whole-clause-tells : goal.returns-in_err-write_whole-clause-tells
-returns-in_err-write_whole-clause-tells g c =
-    let old = c.args.self.now in
-    let mid = c.make_room.new.self in
-    let marks = c.in_ok-make_room.ensures.marks in
-    handed (λ two. Ran (g.R.Rack.told (store_rack c.args.self.now.store)) (g.R.Rack.told (store_rack c.write_whole.new.self.store)) (λ s cs. TellsLosses (named_out c.args.self.now.meta.out) two cs)) c.from_residual-in_err-write_whole.result _ c.from_residual-in_err-write_whole.ensures.1
-    (core_tells_then g.R.Rack.slot g.R.Rack.told g.met.R.Rack.agrees old mid c.requires.ready.absent marks c.write_whole.new.self _
-    (transfer_bears g.R.Rack.slot g.R.Rack.told g.met.R.Rack.agrees old mid c.requires.ready.absent marks c.make_room.ensures.calls) c.in_err-write_whole.ensures.tells)
-
-pub returns-in_err-make_room-clause-copied : goal.returns-in_err-make_room-clause-copied
-returns-in_err-make_room-clause-copied g c = c.make_room.ensures.copied
-
-pub returns-in_err-make_room-clause-slots : goal.returns-in_err-make_room-clause-slots
-returns-in_err-make_room-clause-slots g c = c.make_room.ensures.slots
-
-pub returns-in_err-make_room-clause-spared : goal.returns-in_err-make_room-clause-spared
-returns-in_err-make_room-clause-spared g c = c.make_room.ensures.spared
-
-pub returns-in_err-make_room-clause-calls : goal.returns-in_err-make_room-clause-calls
-returns-in_err-make_room-clause-calls g c = c.make_room.ensures.calls
-
-pub returns-in_err-make_room-clause-moments : goal.returns-in_err-make_room-clause-moments
-returns-in_err-make_room-clause-moments g c = c.make_room.ensures.moments
-
-pub returns-in_err-make_room-clause-draft : goal.returns-in_err-make_room-clause-draft
-returns-in_err-make_room-clause-draft g c = none_done _ c.from_residual.result _ c.from_residual.ensures.1
-
-pub returns-in_err-make_room-clause-ready : goal.returns-in_err-make_room-clause-ready
-returns-in_err-make_room-clause-ready g c = none_done _ c.from_residual.result _ c.from_residual.ensures.1
-
-pub returns-in_err-make_room-clause-serves : goal.returns-in_err-make_room-clause-serves
-returns-in_err-make_room-clause-serves g c = none_done _ c.from_residual.result _ c.from_residual.ensures.1
-
-pub returns-in_err-make_room-clause-staged : goal.returns-in_err-make_room-clause-staged
-returns-in_err-make_room-clause-staged g c = none_done _ c.from_residual.result _ c.from_residual.ensures.1
-
-pub returns-in_err-make_room-clause-bits : goal.returns-in_err-make_room-clause-bits
-returns-in_err-make_room-clause-bits g c = none_done _ c.from_residual.result _ c.from_residual.ensures.1
-
-pub returns-in_err-make_room-clause-setup : goal.returns-in_err-make_room-clause-setup
-returns-in_err-make_room-clause-setup g c = none_done _ c.from_residual.result _ c.from_residual.ensures.1
-
-pub returns-in_err-make_room-clause-writes : goal.returns-in_err-make_room-clause-writes
-returns-in_err-make_room-clause-writes g c = none_done _ c.from_residual.result _ c.from_residual.ensures.1
-
-pub returns-in_err-make_room-clause-epoch : goal.returns-in_err-make_room-clause-epoch
-returns-in_err-make_room-clause-epoch g c = none_done _ c.from_residual.result _ c.from_residual.ensures.1
-
-pub returns-in_err-make_room-clause-still_synced : goal.returns-in_err-make_room-clause-still_synced
-returns-in_err-make_room-clause-still_synced g c = none_done _ c.from_residual.result _ c.from_residual.ensures.1
-
-pub returns-in_err-make_room-clause-unsynced : goal.returns-in_err-make_room-clause-unsynced
-returns-in_err-make_room-clause-unsynced g c = none_done _ c.from_residual.result _ c.from_residual.ensures.1
-
-pub returns-in_err-make_room-clause-rest : goal.returns-in_err-make_room-clause-rest
-returns-in_err-make_room-clause-rest g c = none_done _ c.from_residual.result _ c.from_residual.ensures.1
-
-pub returns-in_err-make_room-clause-names : goal.returns-in_err-make_room-clause-names
-returns-in_err-make_room-clause-names g c = none_done _ c.from_residual.result _ c.from_residual.ensures.1
-
-pub returns-in_err-make_room-clause-marks : goal.returns-in_err-make_room-clause-marks
-returns-in_err-make_room-clause-marks g c = none_done _ c.from_residual.result _ c.from_residual.ensures.1
-
-pub returns-in_err-make_room-clause-down : goal.returns-in_err-make_room-clause-down
-returns-in_err-make_room-clause-down g c = none_done _ c.from_residual.result _ c.from_residual.ensures.1
-
-pub returns-in_err-make_room-clause-stands : goal.returns-in_err-make_room-clause-stands
-returns-in_err-make_room-clause-stands g c = none_done _ c.from_residual.result _ c.from_residual.ensures.1
-
-pub returns-in_err-make_room-clause-two : goal.returns-in_err-make_room-clause-two
-returns-in_err-make_room-clause-two g c = handed (AreTwoDown (core_down c.args.self.now) (g.R.Rack.slot (core_rack c.args.self.now)) (g.R.Rack.slot (core_rack c.make_room.new.self))) c.from_residual.result _ c.from_residual.ensures.1 c.in_err-make_room.ensures.two
-
-pub returns-in_err-make_room-clause-tells : goal.returns-in_err-make_room-clause-tells
-returns-in_err-make_room-clause-tells g c = handed (λ two. Ran (g.R.Rack.told (store_rack c.args.self.now.store)) (g.R.Rack.told (store_rack c.make_room.new.self.store)) (λ s cs. TellsLosses (named_out c.args.self.now.meta.out) two cs)) c.from_residual.result _ c.from_residual.ensures.1 c.in_err-make_room.ensures.tells
-
-pub returns-in_err-write_whole-clause-copied : goal.returns-in_err-write_whole-clause-copied
-returns-in_err-write_whole-clause-copied g c = c.write_whole.ensures.copied ∙ c.make_room.ensures.copied
-
-pub returns-in_err-write_whole-clause-slots : goal.returns-in_err-write_whole-clause-slots
-returns-in_err-write_whole-clause-slots g c = c.write_whole.ensures.slots ∙ c.make_room.ensures.slots
-
-pub returns-in_err-write_whole-clause-spared : goal.returns-in_err-write_whole-clause-spared
-returns-in_err-write_whole-clause-spared g c = spared_then _ _ _ c.make_room.ensures.spared c.write_whole.ensures.spared
+pub returns-in_err-make_room : goal.returns-in_err-make_room
+returns-in_err-make_room g c = record {
+  draft = none_done _ c.from_residual.result _ c.from_residual.ensures.1;
+  copied = c.make_room.ensures.copied;
+  slots = c.make_room.ensures.slots;
+  ready = none_done _ c.from_residual.result _ c.from_residual.ensures.1;
+  serves = none_done _ c.from_residual.result _ c.from_residual.ensures.1;
+  staged = none_done _ c.from_residual.result _ c.from_residual.ensures.1;
+  bits = none_done _ c.from_residual.result _ c.from_residual.ensures.1;
+  setup = none_done _ c.from_residual.result _ c.from_residual.ensures.1;
+  writes = none_done _ c.from_residual.result _ c.from_residual.ensures.1;
+  epoch = none_done _ c.from_residual.result _ c.from_residual.ensures.1;
+  spared = c.make_room.ensures.spared;
+  still_synced = none_done _ c.from_residual.result _ c.from_residual.ensures.1;
+  unsynced = none_done _ c.from_residual.result _ c.from_residual.ensures.1;
+  two = handed (AreTwoDown (core_down c.args.self.now) (g.R.Rack.slot (core_rack c.args.self.now)) (g.R.Rack.slot (core_rack c.make_room.new.self))) c.from_residual.result _ c.from_residual.ensures.1 c.in_err-make_room.ensures.two;
+  tells = handed (λ two. Ran (g.R.Rack.told (store_rack c.args.self.now.store)) (g.R.Rack.told (store_rack c.make_room.new.self.store)) (λ s cs. TellsLosses (named_out c.args.self.now.meta.out) two cs)) c.from_residual.result _ c.from_residual.ensures.1 c.in_err-make_room.ensures.tells;
+  calls = c.make_room.ensures.calls;
+  kept = λ is. idle_calls _ _ _ (c.make_room.ensures.idle is);
+  whole = λ is. c.make_room.ensures.whole is;
+  rest = none_done _ c.from_residual.result _ c.from_residual.ensures.1;
+  names = none_done _ c.from_residual.result _ c.from_residual.ensures.1;
+  marks = none_done _ c.from_residual.result _ c.from_residual.ensures.1;
+  down = none_done _ c.from_residual.result _ c.from_residual.ensures.1;
+  moments = c.make_room.ensures.moments;
+  stands = none_done _ c.from_residual.result _ c.from_residual.ensures.1;
+}
 
 pub returns-clause-copied : goal.returns-clause-copied
 returns-clause-copied g c = c.write_whole.ensures.copied ∙ c.make_room.ensures.copied
@@ -222,50 +126,58 @@ returns-clause-slots g c = c.write_whole.ensures.slots ∙ c.make_room.ensures.s
 pub returns-clause-spared : goal.returns-clause-spared
 returns-clause-spared g c = spared_then _ _ _ c.make_room.ensures.spared c.write_whole.ensures.spared
 
-pub returns-in_err-write_whole-clause-draft : goal.returns-in_err-write_whole-clause-draft
-returns-in_err-write_whole-clause-draft g c = none_done _ c.from_residual-in_err-write_whole.result _ c.from_residual-in_err-write_whole.ensures.1
-
-pub returns-in_err-write_whole-clause-ready : goal.returns-in_err-write_whole-clause-ready
-returns-in_err-write_whole-clause-ready g c = none_done _ c.from_residual-in_err-write_whole.result _ c.from_residual-in_err-write_whole.ensures.1
-
-pub returns-in_err-write_whole-clause-serves : goal.returns-in_err-write_whole-clause-serves
-returns-in_err-write_whole-clause-serves g c = none_done _ c.from_residual-in_err-write_whole.result _ c.from_residual-in_err-write_whole.ensures.1
-
-pub returns-in_err-write_whole-clause-staged : goal.returns-in_err-write_whole-clause-staged
-returns-in_err-write_whole-clause-staged g c = none_done _ c.from_residual-in_err-write_whole.result _ c.from_residual-in_err-write_whole.ensures.1
-
-pub returns-in_err-write_whole-clause-bits : goal.returns-in_err-write_whole-clause-bits
-returns-in_err-write_whole-clause-bits g c = none_done _ c.from_residual-in_err-write_whole.result _ c.from_residual-in_err-write_whole.ensures.1
-
-pub returns-in_err-write_whole-clause-setup : goal.returns-in_err-write_whole-clause-setup
-returns-in_err-write_whole-clause-setup g c = none_done _ c.from_residual-in_err-write_whole.result _ c.from_residual-in_err-write_whole.ensures.1
-
-pub returns-in_err-write_whole-clause-writes : goal.returns-in_err-write_whole-clause-writes
-returns-in_err-write_whole-clause-writes g c = none_done _ c.from_residual-in_err-write_whole.result _ c.from_residual-in_err-write_whole.ensures.1
-
-pub returns-in_err-write_whole-clause-epoch : goal.returns-in_err-write_whole-clause-epoch
-returns-in_err-write_whole-clause-epoch g c = none_done _ c.from_residual-in_err-write_whole.result _ c.from_residual-in_err-write_whole.ensures.1
-
-pub returns-in_err-write_whole-clause-still_synced : goal.returns-in_err-write_whole-clause-still_synced
-returns-in_err-write_whole-clause-still_synced g c = none_done _ c.from_residual-in_err-write_whole.result _ c.from_residual-in_err-write_whole.ensures.1
-
-pub returns-in_err-write_whole-clause-unsynced : goal.returns-in_err-write_whole-clause-unsynced
-returns-in_err-write_whole-clause-unsynced g c = none_done _ c.from_residual-in_err-write_whole.result _ c.from_residual-in_err-write_whole.ensures.1
-
-pub returns-in_err-write_whole-clause-rest : goal.returns-in_err-write_whole-clause-rest
-returns-in_err-write_whole-clause-rest g c = none_done _ c.from_residual-in_err-write_whole.result _ c.from_residual-in_err-write_whole.ensures.1
-
-pub returns-in_err-write_whole-clause-names : goal.returns-in_err-write_whole-clause-names
-returns-in_err-write_whole-clause-names g c = none_done _ c.from_residual-in_err-write_whole.result _ c.from_residual-in_err-write_whole.ensures.1
-
-pub returns-in_err-write_whole-clause-marks : goal.returns-in_err-write_whole-clause-marks
-returns-in_err-write_whole-clause-marks g c = none_done _ c.from_residual-in_err-write_whole.result _ c.from_residual-in_err-write_whole.ensures.1
-
-pub returns-in_err-write_whole-clause-down : goal.returns-in_err-write_whole-clause-down
-returns-in_err-write_whole-clause-down g c = none_done _ c.from_residual-in_err-write_whole.result _ c.from_residual-in_err-write_whole.ensures.1
-
-pub returns-in_err-write_whole-clause-stands : goal.returns-in_err-write_whole-clause-stands
-returns-in_err-write_whole-clause-stands g c = none_done _ c.from_residual-in_err-write_whole.result _ c.from_residual-in_err-write_whole.ensures.1
+pub returns-in_err-write_whole : goal.returns-in_err-write_whole
+returns-in_err-write_whole g c = record {
+  draft = none_done _ c.from_residual-in_err-write_whole.result _ c.from_residual-in_err-write_whole.ensures.1;
+  copied = c.write_whole.ensures.copied ∙ c.make_room.ensures.copied;
+  slots = c.write_whole.ensures.slots ∙ c.make_room.ensures.slots;
+  ready = none_done _ c.from_residual-in_err-write_whole.result _ c.from_residual-in_err-write_whole.ensures.1;
+  serves = none_done _ c.from_residual-in_err-write_whole.result _ c.from_residual-in_err-write_whole.ensures.1;
+  staged = none_done _ c.from_residual-in_err-write_whole.result _ c.from_residual-in_err-write_whole.ensures.1;
+  bits = none_done _ c.from_residual-in_err-write_whole.result _ c.from_residual-in_err-write_whole.ensures.1;
+  setup = none_done _ c.from_residual-in_err-write_whole.result _ c.from_residual-in_err-write_whole.ensures.1;
+  writes = none_done _ c.from_residual-in_err-write_whole.result _ c.from_residual-in_err-write_whole.ensures.1;
+  epoch = none_done _ c.from_residual-in_err-write_whole.result _ c.from_residual-in_err-write_whole.ensures.1;
+  spared = spared_then _ _ _ c.make_room.ensures.spared c.write_whole.ensures.spared;
+  still_synced = none_done _ c.from_residual-in_err-write_whole.result _ c.from_residual-in_err-write_whole.ensures.1;
+  unsynced = none_done _ c.from_residual-in_err-write_whole.result _ c.from_residual-in_err-write_whole.ensures.1;
+  two =
+      let old = c.args.self.now in
+      handed (AreTwoDown (core_down old) (g.R.Rack.slot (core_rack old)) (g.R.Rack.slot (core_rack c.write_whole.new.self))) c.from_residual-in_err-write_whole.result _ c.from_residual-in_err-write_whole.ensures.1
+      (two_after (core_down old) (core_down c.make_room.new.self) _ _ _ _ c.in_ok-make_room.ensures.down c.in_ok-make_room.ensures.spared c.in_err-write_whole.ensures.spared c.in_err-write_whole.ensures.two);
+  tells =
+      let old = c.args.self.now in
+      let mid = c.make_room.new.self in
+      let marks = c.in_ok-make_room.ensures.marks in
+      handed (λ two. Ran (g.R.Rack.told (store_rack c.args.self.now.store)) (g.R.Rack.told (store_rack c.write_whole.new.self.store)) (λ s cs. TellsLosses (named_out c.args.self.now.meta.out) two cs)) c.from_residual-in_err-write_whole.result _ c.from_residual-in_err-write_whole.ensures.1
+      (core_tells_then g.R.Rack.slot g.R.Rack.told g.met.R.Rack.agrees old mid c.requires.ready.absent marks c.write_whole.new.self _
+      (transfer_bears g.R.Rack.slot g.R.Rack.told g.met.R.Rack.agrees old mid c.requires.ready.absent marks c.make_room.ensures.calls) c.in_err-write_whole.ensures.tells);
+  calls =
+      calls_then _ _ _ _ c.make_room.ensures.calls
+      (transfer_after c.args.self.now.meta c.make_room.new.self.meta c.in_ok-make_room.ensures.setup c.in_ok-make_room.ensures.gone _ _ c.write_whole.ensures.calls);
+  kept = λ is.
+      idle_then _ _ (g.R.Rack.told (core_rack c.make_room.new.self)) _ (c.make_room.ensures.idle is)
+      (data_after c.args.self.now.meta c.make_room.new.self.meta c.in_ok-make_room.ensures.setup c.in_ok-make_room.ensures.gone _ _ c.write_whole.ensures.calls);
+  whole = λ is h lo.
+      let old = c.args.self.now in
+      whole_then_reads (CoreStandsFor g.R.Rack.slot_count old h lo) (λ s k. k.base) (record old.meta { epoch = old.meta.epoch + 1 }) old.batch c.make_room.new.self.meta.setup.geometry.disks (λ s k. k.next.setup)
+      (ap (λ (z : Setup). z.geometry.disks) c.in_ok-make_room.ensures.setup) _ _ _ (c.make_room.ensures.whole is h lo) c.write_whole.ensures.reads;
+  rest = none_done _ c.from_residual-in_err-write_whole.result _ c.from_residual-in_err-write_whole.ensures.1;
+  names = none_done _ c.from_residual-in_err-write_whole.result _ c.from_residual-in_err-write_whole.ensures.1;
+  marks = none_done _ c.from_residual-in_err-write_whole.result _ c.from_residual-in_err-write_whole.ensures.1;
+  down = none_done _ c.from_residual-in_err-write_whole.result _ c.from_residual-in_err-write_whole.ensures.1;
+  moments = λ h lo.
+      let old = c.args.self.now in
+      let mid = c.make_room.new.self in
+      let first : Bool = commits_first (batch_of old) (10 * c.args.pairs.now.count) in
+      let low : ℕ = if first then length h else lo in
+      ended _ _ (IsCoreHeldSinceCommit g.R.Rack.slot_count mid h low) _ _
+      (after_raised (g.R.Rack.slot_count (core_rack old)) _ old.meta.setup.geometry.disks _ (core_down old) (named_of mid.store) (named_of old.store) old.meta old.dirty old.batch old.copied first h lo _
+      (IsCoreHeldSinceCommit g.R.Rack.slot_count mid h low) _ _ _
+      c.in_ok-make_room.ensures.slots (ap (λ (z : Setup). z.geometry.disks) c.in_ok-make_room.ensures.setup) c.in_ok-make_room.ensures.named
+      (c.in_ok-make_room.ensures.stands h lo) (c.in_err-write_whole.ensures.moments h low));
+  stands = none_done _ c.from_residual-in_err-write_whole.result _ c.from_residual-in_err-write_whole.ensures.1;
+}
 
 pub returns-clause-draft : goal.returns-clause-draft
 returns-clause-draft g c = c.write_whole.ensures.draft

@@ -30,13 +30,6 @@ use Rattle.paraid_view.proofs.TwoLemmas.{spared_then}
 use Rattle.paraid_core.proofs.StepLemmas.{dry_both}
 use Rattle.paraid_core.proofs.staged.Core.write_whole.Goals.{In_ok-try_write}
 
-pub returns-then-done-clause-stands : goal.returns-then-done-clause-stands
-returns-then-done-clause-stands g c h lo =
-    let old = c.args.self.now in
-    let new = c.try_write.new.self in
-    subst (λ (b : Bool). Ran (g.R.Rack.told (core_rack old)) (g.R.Rack.told (core_rack new)) (CrashTriple (IsCoreHeldSinceCommit g.R.Rack.slot_count old h lo) (CoreStandsFor g.R.Rack.slot_count old h lo)
-    (CoreStandsFor g.R.Rack.slot_count new (if b then h ++ pairs_of c.args.pairs.now ∷ [] else h) lo))) c.if-done.true (c.in_ok-done.ensures.since h lo)
-
 -- the plan was dropped, and made once more
 module _ (g : Over) (old mid new : Core g.row.R.Denot g.R.Rack) (entry : Entry) (done : Bool) (dropped : done ≡ false) (h : History) (lo : ℕ)
     (since : Ran (g.R.Rack.told (core_rack old)) (g.R.Rack.told (core_rack mid)) (CrashTriple (IsCoreHeldSinceCommit g.R.Rack.slot_count old h lo) (CoreStandsFor g.R.Rack.slot_count old h lo)
@@ -49,315 +42,74 @@ module _ (g : Over) (old mid new : Core g.row.R.Denot g.R.Rack) (entry : Entry) 
       (subst (λ (b : Bool). Ran (g.R.Rack.told (core_rack old)) (g.R.Rack.told (core_rack mid)) (CrashTriple (IsCoreHeldSinceCommit g.R.Rack.slot_count old h lo) (CoreStandsFor g.R.Rack.slot_count old h lo)
       (CoreStandsFor g.R.Rack.slot_count mid (if b then h ++ entry ∷ [] else h) lo))) dropped since) later
 
-pub returns-in_err-try_write-clause-moments : goal.returns-in_err-try_write-clause-moments
-returns-in_err-try_write-clause-moments g c h lo =
-    let done = c.in_ok-done.ensures in
-    ended _ _ (IsCoreHeldSinceCommit g.R.Rack.slot_count c.try_write.new.self h lo) _ _
-    (both g c.args.self.now c.try_write.new.self c.try_write-2.new.self (pairs_of c.args.pairs.now) c.in_ok-done.done c.if-done.false h lo (done.since h lo) done.slots done.setup done.named
-    (IsCoreHeldSinceCommit g.R.Rack.slot_count c.try_write.new.self h lo) (c.in_err-try_write.ensures.moments_since h lo))
-
-pub returns-clause-moments : goal.returns-clause-moments
-returns-clause-moments g c h lo =
-    let done = c.in_ok-done.ensures in
-    ended _ _ (IsCoreHeldSinceCommit g.R.Rack.slot_count c.try_write.new.self h lo) _ _
-    (both g c.args.self.now c.try_write.new.self c.try_write-2.new.self (pairs_of c.args.pairs.now) c.in_ok-done.done c.if-done.false h lo (done.since h lo) done.slots done.setup done.named
-    (IsCoreHeldSinceCommit g.R.Rack.slot_count c.try_write.new.self h lo) (c.in_ok-try_write.ensures.moments_since h lo))
-
-pub returns-in_err-try_write-clause-two : goal.returns-in_err-try_write-clause-two
-returns-in_err-try_write-clause-two g c =
-    let old = c.args.self.now in
-    let mid = c.try_write.new.self in
-    let new = c.try_write-2.new.self in
-    handed (AreTwoDown (core_down old) (g.R.Rack.slot (core_rack old)) (g.R.Rack.slot (core_rack new))) c.from_residual-in_err-try_write.result _ c.from_residual-in_err-try_write.ensures.1
-    (two_after (core_down old) (core_down mid) _ _ _ _ c.in_ok-done.ensures.down c.in_ok-done.ensures.spared c.in_err-try_write.ensures.spared c.in_err-try_write.ensures.two)
-
 -- the second try is not without success
 again : (g : Over) (c : In_ok-try_write g) → c.in_ok-try_write.field-0 ≡ true
 again g c =
     done_then (core_down c.args.self.now) (core_down c.try_write.new.self) (core_down c.try_write-2.new.self) _ _ _ _ c.in_ok-try_write.field-0
     (c.in_ok-done.ensures.lost c.if-done.false) c.in_ok-try_write.ensures.lost
 
-pub returns-clause-stands : goal.returns-clause-stands
-returns-clause-stands g c h lo =
-    let mid = c.try_write.new.self in
-    let new = c.try_write-2.new.self in
-    let done = c.in_ok-done.ensures in
-    both g c.args.self.now mid new (pairs_of c.args.pairs.now) c.in_ok-done.done c.if-done.false h lo (done.since h lo) done.slots done.setup done.named _
-    (subst (λ (b : Bool). Ran (g.R.Rack.told (core_rack mid)) (g.R.Rack.told (core_rack new)) (CrashTriple (IsCoreHeldSinceCommit g.R.Rack.slot_count mid h lo) (CoreStandsFor g.R.Rack.slot_count mid h lo)
-    (CoreStandsFor g.R.Rack.slot_count new (if b then h ++ pairs_of c.args.pairs.now ∷ [] else h) lo))) (again g c) (c.in_ok-try_write.ensures.since h lo))
-
-pub returns-in_err-done-clause-calls : goal.returns-in_err-done-clause-calls
-returns-in_err-done-clause-calls g c = c.try_write.ensures.calls
-
-pub returns-then-done-clause-calls : goal.returns-then-done-clause-calls
-returns-then-done-clause-calls g c = c.try_write.ensures.calls
-
-pub returns-in_err-try_write-clause-calls : goal.returns-in_err-try_write-clause-calls
-returns-in_err-try_write-clause-calls g c =
-    calls_then _ _ _ _ c.try_write.ensures.calls
-    (data_after c.args.self.now.meta c.try_write.new.self.meta c.in_ok-done.ensures.setup (λ d is. absurd (none_gone (named_of c.args.self.now.store) c.args.self.now.meta.out d (c.in_ok-done.ensures.lost c.if-done.false).none is)) _ _ c.try_write-2.ensures.calls)
-
-pub returns-clause-calls : goal.returns-clause-calls
-returns-clause-calls g c =
-    calls_then _ _ _ _ c.try_write.ensures.calls
-    (data_after c.args.self.now.meta c.try_write.new.self.meta c.in_ok-done.ensures.setup (λ d is. absurd (none_gone (named_of c.args.self.now.store) c.args.self.now.meta.out d (c.in_ok-done.ensures.lost c.if-done.false).none is)) _ _ c.try_write-2.ensures.calls)
-
-pub returns-in_err-done-clause-reads : goal.returns-in_err-done-clause-reads
-returns-in_err-done-clause-reads g c = c.try_write.ensures.reads
-
-pub returns-then-done-clause-reads : goal.returns-then-done-clause-reads
-returns-then-done-clause-reads g c = c.try_write.ensures.reads
-
-pub returns-in_err-try_write-clause-reads : goal.returns-in_err-try_write-clause-reads
-returns-in_err-try_write-clause-reads g c = reads_then _ _ (ap (λ (z : Setup). z.geometry.disks) c.in_ok-done.ensures.setup) _ _ _ c.try_write.ensures.reads c.try_write-2.ensures.reads
-
-pub returns-clause-reads : goal.returns-clause-reads
-returns-clause-reads g c = reads_then _ _ (ap (λ (z : Setup). z.geometry.disks) c.in_ok-done.ensures.setup) _ _ _ c.try_write.ensures.reads c.try_write-2.ensures.reads
-
-pub returns-then-done-clause-marks : goal.returns-then-done-clause-marks
-returns-then-done-clause-marks g c = c.in_ok-done.ensures.marks
-
-pub returns-clause-marks : goal.returns-clause-marks
-returns-clause-marks g c = marks_then _ _ _ _ _ _ c.in_ok-done.ensures.marks c.in_ok-try_write.ensures.marks c.try_write.ensures.spared c.try_write-2.ensures.spared
-
-pub returns-then-done-clause-named : goal.returns-then-done-clause-named
-returns-then-done-clause-named g c = c.try_write.ensures.named
-
-pub returns-clause-named : goal.returns-clause-named
-returns-clause-named g c = c.try_write-2.ensures.named ∙ c.try_write.ensures.named
-
-pub returns-then-done-clause-bits : goal.returns-then-done-clause-bits
-returns-then-done-clause-bits g c =
-    let old = c.args.self.now in
-    let new = c.try_write.new.self in
-    c.in_ok-done.ensures.bits ∙ ap (λ (b : Bool). if b then bits_after_writes new.meta (pairs_of c.args.pairs.now) (is_dirty old.dirty) else is_dirty old.dirty) c.if-done.true
-
-pub returns-clause-bits : goal.returns-clause-bits
-returns-clause-bits g c =
-    let old = c.args.self.now in
-    let mid = c.try_write.new.self in
-    let new = c.try_write-2.new.self in
-    c.in_ok-try_write.ensures.bits ∙ ap (λ (b : Bool). if b then bits_after_writes new.meta (pairs_of c.args.pairs.now) (is_dirty mid.dirty) else is_dirty mid.dirty) (again g c)
-    ∙ ap (bits_after_writes new.meta (pairs_of c.args.pairs.now))
-    (c.in_ok-done.ensures.bits ∙ ap (λ (b : Bool). if b then bits_after_writes mid.meta (pairs_of c.args.pairs.now) (is_dirty old.dirty) else is_dirty old.dirty) c.if-done.false)
-
-pub returns-in_err-try_write-clause-tells : goal.returns-in_err-try_write-clause-tells
-returns-in_err-try_write-clause-tells g c =
-    let old = c.args.self.now in
-    let mid = c.try_write.new.self in
-    let marks = c.in_ok-done.ensures.marks in
-    handed (λ two. Ran (g.R.Rack.told (store_rack c.args.self.now.store)) (g.R.Rack.told (store_rack c.try_write-2.new.self.store)) (λ s cs. TellsLosses (named_out c.args.self.now.meta.out) two cs)) c.from_residual-in_err-try_write.result _ c.from_residual-in_err-try_write.ensures.1
-    (core_tells_then g.R.Rack.slot g.R.Rack.told g.met.R.Rack.agrees old mid c.requires.ready.absent marks c.try_write-2.new.self _
-    (data_bears g.R.Rack.slot g.R.Rack.told g.met.R.Rack.agrees old mid c.requires.ready.absent marks c.try_write.ensures.calls) c.in_err-try_write.ensures.tells)
-
-pub returns-then-done-clause-unsynced : goal.returns-then-done-clause-unsynced
-returns-then-done-clause-unsynced g c =
-    let old = c.args.self.now in
-    let new = c.try_write.new.self in
-    let done = c.in_ok-done.ensures in
-    unsynced_kept g.R.Rack.slot old new done.setup (gone_lost _ _ old.meta new.meta done.marks) c.try_write.ensures.spared c.try_write.ensures.copied c.try_write.ensures.still_synced
-
-pub returns-in_err-done-clause-draft : goal.returns-in_err-done-clause-draft
-returns-in_err-done-clause-draft g c = c.try_write.ensures.draft
-
-pub returns-in_err-done-clause-copied : goal.returns-in_err-done-clause-copied
-returns-in_err-done-clause-copied g c = c.try_write.ensures.copied
-
-pub returns-in_err-done-clause-slots : goal.returns-in_err-done-clause-slots
-returns-in_err-done-clause-slots g c = c.try_write.ensures.slots
-
-pub returns-in_err-done-clause-spared : goal.returns-in_err-done-clause-spared
-returns-in_err-done-clause-spared g c = c.try_write.ensures.spared
-
-pub returns-in_err-done-clause-still_synced : goal.returns-in_err-done-clause-still_synced
-returns-in_err-done-clause-still_synced g c = c.try_write.ensures.still_synced
-
-pub returns-in_err-done-clause-ready : goal.returns-in_err-done-clause-ready
-returns-in_err-done-clause-ready g c = none_done _ c.from_residual.result _ c.from_residual.ensures.1
-
-pub returns-in_err-done-clause-serves : goal.returns-in_err-done-clause-serves
-returns-in_err-done-clause-serves g c = none_done _ c.from_residual.result _ c.from_residual.ensures.1
-
-pub returns-in_err-done-clause-staged : goal.returns-in_err-done-clause-staged
-returns-in_err-done-clause-staged g c = none_done _ c.from_residual.result _ c.from_residual.ensures.1
-
-pub returns-in_err-done-clause-bits : goal.returns-in_err-done-clause-bits
-returns-in_err-done-clause-bits g c = none_done _ c.from_residual.result _ c.from_residual.ensures.1
-
-pub returns-in_err-done-clause-setup : goal.returns-in_err-done-clause-setup
-returns-in_err-done-clause-setup g c = none_done _ c.from_residual.result _ c.from_residual.ensures.1
-
-pub returns-in_err-done-clause-writes : goal.returns-in_err-done-clause-writes
-returns-in_err-done-clause-writes g c = none_done _ c.from_residual.result _ c.from_residual.ensures.1
-
-pub returns-in_err-done-clause-epoch : goal.returns-in_err-done-clause-epoch
-returns-in_err-done-clause-epoch g c = none_done _ c.from_residual.result _ c.from_residual.ensures.1
-
-pub returns-in_err-done-clause-unsynced : goal.returns-in_err-done-clause-unsynced
-returns-in_err-done-clause-unsynced g c = none_done _ c.from_residual.result _ c.from_residual.ensures.1
-
-pub returns-in_err-done-clause-marks : goal.returns-in_err-done-clause-marks
-returns-in_err-done-clause-marks g c = none_done _ c.from_residual.result _ c.from_residual.ensures.1
-
-pub returns-in_err-done-clause-named : goal.returns-in_err-done-clause-named
-returns-in_err-done-clause-named g c = none_done _ c.from_residual.result _ c.from_residual.ensures.1
-
-pub returns-in_err-done-clause-down : goal.returns-in_err-done-clause-down
-returns-in_err-done-clause-down g c = none_done _ c.from_residual.result _ c.from_residual.ensures.1
-
-pub returns-in_err-done-clause-stands : goal.returns-in_err-done-clause-stands
-returns-in_err-done-clause-stands g c = none_done _ c.from_residual.result _ c.from_residual.ensures.1
-
-pub returns-in_err-done-clause-two : goal.returns-in_err-done-clause-two
-returns-in_err-done-clause-two g c = handed (AreTwoDown (core_down c.args.self.now) (g.R.Rack.slot (core_rack c.args.self.now)) (g.R.Rack.slot (core_rack c.try_write.new.self))) c.from_residual.result _ c.from_residual.ensures.1 c.in_err-done.ensures.two
-
-pub returns-in_err-done-clause-tells : goal.returns-in_err-done-clause-tells
-returns-in_err-done-clause-tells g c = handed (λ two. Ran (g.R.Rack.told (store_rack c.args.self.now.store)) (g.R.Rack.told (store_rack c.try_write.new.self.store)) (λ s cs. TellsLosses (named_out c.args.self.now.meta.out) two cs)) c.from_residual.result _ c.from_residual.ensures.1 c.in_err-done.ensures.tells
-
-pub returns-in_err-done-clause-moments : goal.returns-in_err-done-clause-moments
-returns-in_err-done-clause-moments g c = c.try_write.ensures.moments_since
-
-pub returns-then-done-clause-draft : goal.returns-then-done-clause-draft
-returns-then-done-clause-draft g c = c.try_write.ensures.draft
-
-pub returns-then-done-clause-copied : goal.returns-then-done-clause-copied
-returns-then-done-clause-copied g c = c.try_write.ensures.copied
-
-pub returns-then-done-clause-slots : goal.returns-then-done-clause-slots
-returns-then-done-clause-slots g c = c.try_write.ensures.slots
-
-pub returns-then-done-clause-spared : goal.returns-then-done-clause-spared
-returns-then-done-clause-spared g c = c.try_write.ensures.spared
-
-pub returns-then-done-clause-still_synced : goal.returns-then-done-clause-still_synced
-returns-then-done-clause-still_synced g c = c.try_write.ensures.still_synced
-
-pub returns-then-done-clause-ready : goal.returns-then-done-clause-ready
-returns-then-done-clause-ready g c = c.in_ok-done.ensures.ready
-
-pub returns-then-done-clause-serves : goal.returns-then-done-clause-serves
-returns-then-done-clause-serves g c = c.in_ok-done.ensures.serves
-
-pub returns-then-done-clause-setup : goal.returns-then-done-clause-setup
-returns-then-done-clause-setup g c = c.in_ok-done.ensures.setup
-
-pub returns-then-done-clause-epoch : goal.returns-then-done-clause-epoch
-returns-then-done-clause-epoch g c = c.in_ok-done.ensures.epoch
-
-pub returns-then-done-clause-down : goal.returns-then-done-clause-down
-returns-then-done-clause-down g c = c.in_ok-done.ensures.down
-
-pub returns-then-done-clause-two : goal.returns-then-done-clause-two
-returns-then-done-clause-two g c = tt
-
-pub returns-then-done-clause-tells : goal.returns-then-done-clause-tells
-returns-then-done-clause-tells g c = tt
-
-pub returns-then-done-clause-staged : goal.returns-then-done-clause-staged
-returns-then-done-clause-staged g c = subst (λ (b : Bool). length c.try_write.new.self.batch ≤ length c.args.self.now.batch + (if b then 10 * c.args.pairs.now.count else 0)) c.if-done.true c.in_ok-done.ensures.room
-
-pub returns-then-done-clause-writes : goal.returns-then-done-clause-writes
-returns-then-done-clause-writes g c = c.in_ok-done.ensures.writes ∙ ap (λ (b : Bool). c.args.self.now.meta.writes + (if b then 1 else 0)) c.if-done.true
-
-pub returns-then-done-clause-moments : goal.returns-then-done-clause-moments
-returns-then-done-clause-moments g c = c.try_write.ensures.moments_since
-
-pub returns-in_err-try_write-clause-draft : goal.returns-in_err-try_write-clause-draft
-returns-in_err-try_write-clause-draft g c = c.try_write-2.ensures.draft
-
-pub returns-in_err-try_write-clause-copied : goal.returns-in_err-try_write-clause-copied
-returns-in_err-try_write-clause-copied g c = c.try_write-2.ensures.copied ∙ c.try_write.ensures.copied
-
-pub returns-in_err-try_write-clause-slots : goal.returns-in_err-try_write-clause-slots
-returns-in_err-try_write-clause-slots g c = c.try_write-2.ensures.slots ∙ c.try_write.ensures.slots
-
-pub returns-in_err-try_write-clause-spared : goal.returns-in_err-try_write-clause-spared
-returns-in_err-try_write-clause-spared g c = spared_then _ _ _ c.try_write.ensures.spared c.try_write-2.ensures.spared
-
-pub returns-clause-draft : goal.returns-clause-draft
-returns-clause-draft g c = c.try_write-2.ensures.draft
-
-pub returns-clause-copied : goal.returns-clause-copied
-returns-clause-copied g c = c.try_write-2.ensures.copied ∙ c.try_write.ensures.copied
-
-pub returns-clause-slots : goal.returns-clause-slots
-returns-clause-slots g c = c.try_write-2.ensures.slots ∙ c.try_write.ensures.slots
-
-pub returns-clause-spared : goal.returns-clause-spared
-returns-clause-spared g c = spared_then _ _ _ c.try_write.ensures.spared c.try_write-2.ensures.spared
-
-pub returns-in_err-try_write-clause-ready : goal.returns-in_err-try_write-clause-ready
-returns-in_err-try_write-clause-ready g c = none_done _ c.from_residual-in_err-try_write.result _ c.from_residual-in_err-try_write.ensures.1
-
-pub returns-in_err-try_write-clause-serves : goal.returns-in_err-try_write-clause-serves
-returns-in_err-try_write-clause-serves g c = none_done _ c.from_residual-in_err-try_write.result _ c.from_residual-in_err-try_write.ensures.1
-
-pub returns-in_err-try_write-clause-staged : goal.returns-in_err-try_write-clause-staged
-returns-in_err-try_write-clause-staged g c = none_done _ c.from_residual-in_err-try_write.result _ c.from_residual-in_err-try_write.ensures.1
-
-pub returns-in_err-try_write-clause-bits : goal.returns-in_err-try_write-clause-bits
-returns-in_err-try_write-clause-bits g c = none_done _ c.from_residual-in_err-try_write.result _ c.from_residual-in_err-try_write.ensures.1
-
-pub returns-in_err-try_write-clause-setup : goal.returns-in_err-try_write-clause-setup
-returns-in_err-try_write-clause-setup g c = none_done _ c.from_residual-in_err-try_write.result _ c.from_residual-in_err-try_write.ensures.1
-
-pub returns-in_err-try_write-clause-writes : goal.returns-in_err-try_write-clause-writes
-returns-in_err-try_write-clause-writes g c = none_done _ c.from_residual-in_err-try_write.result _ c.from_residual-in_err-try_write.ensures.1
-
-pub returns-in_err-try_write-clause-epoch : goal.returns-in_err-try_write-clause-epoch
-returns-in_err-try_write-clause-epoch g c = none_done _ c.from_residual-in_err-try_write.result _ c.from_residual-in_err-try_write.ensures.1
-
-pub returns-in_err-try_write-clause-unsynced : goal.returns-in_err-try_write-clause-unsynced
-returns-in_err-try_write-clause-unsynced g c = none_done _ c.from_residual-in_err-try_write.result _ c.from_residual-in_err-try_write.ensures.1
-
-pub returns-in_err-try_write-clause-marks : goal.returns-in_err-try_write-clause-marks
-returns-in_err-try_write-clause-marks g c = none_done _ c.from_residual-in_err-try_write.result _ c.from_residual-in_err-try_write.ensures.1
-
-pub returns-in_err-try_write-clause-named : goal.returns-in_err-try_write-clause-named
-returns-in_err-try_write-clause-named g c = none_done _ c.from_residual-in_err-try_write.result _ c.from_residual-in_err-try_write.ensures.1
-
-pub returns-in_err-try_write-clause-down : goal.returns-in_err-try_write-clause-down
-returns-in_err-try_write-clause-down g c = none_done _ c.from_residual-in_err-try_write.result _ c.from_residual-in_err-try_write.ensures.1
-
-pub returns-in_err-try_write-clause-stands : goal.returns-in_err-try_write-clause-stands
-returns-in_err-try_write-clause-stands g c = none_done _ c.from_residual-in_err-try_write.result _ c.from_residual-in_err-try_write.ensures.1
-
-pub returns-clause-ready : goal.returns-clause-ready
-returns-clause-ready g c = c.in_ok-try_write.ensures.ready
-
-pub returns-clause-serves : goal.returns-clause-serves
-returns-clause-serves g c = c.in_ok-try_write.ensures.serves
-
-pub returns-clause-setup : goal.returns-clause-setup
-returns-clause-setup g c = c.in_ok-try_write.ensures.setup ∙ c.in_ok-done.ensures.setup
-
-pub returns-clause-epoch : goal.returns-clause-epoch
-returns-clause-epoch g c = c.in_ok-try_write.ensures.epoch ∙ c.in_ok-done.ensures.epoch
-
-pub returns-clause-two : goal.returns-clause-two
-returns-clause-two g c = tt
-
-pub returns-clause-tells : goal.returns-clause-tells
-returns-clause-tells g c = tt
-
-pub returns-clause-down : goal.returns-clause-down
-returns-clause-down g c = down_both _ _ _ _ _ _ c.in_ok-done.ensures.down c.try_write.ensures.spared c.in_ok-try_write.ensures.down c.try_write-2.ensures.spared
-
-pub returns-clause-staged : goal.returns-clause-staged
-returns-clause-staged g c =
-    let old = c.args.self.now in
-    let mid = c.try_write.new.self in
-    let new = c.try_write-2.new.self in
-    subst (λ (n : ℕ). length new.batch ≤ n + 10 * c.args.pairs.now.count) (ap length (c.in_ok-done.ensures.dropped c.if-done.false))
-    (subst (λ (b : Bool). length new.batch ≤ length mid.batch + (if b then 10 * c.args.pairs.now.count else 0)) (again g c) c.in_ok-try_write.ensures.room)
-
-pub returns-clause-writes : goal.returns-clause-writes
-returns-clause-writes g c =
-    let old = c.args.self.now in
-    let mid = c.try_write.new.self in
-    let first : mid.meta.writes ≡ old.meta.writes + 0 = c.in_ok-done.ensures.writes ∙ ap (λ (b : Bool). old.meta.writes + (if b then 1 else 0)) c.if-done.false in
-    let second = c.in_ok-try_write.ensures.writes ∙ ap (λ (b : Bool). mid.meta.writes + (if b then 1 else 0)) (again g c) in
-    omega (arith, first, second)
+pub returns-in_err-done : goal.returns-in_err-done
+returns-in_err-done g c = record {
+  draft = c.try_write.ensures.draft;
+  copied = c.try_write.ensures.copied;
+  slots = c.try_write.ensures.slots;
+  ready = none_done _ c.from_residual.result _ c.from_residual.ensures.1;
+  serves = none_done _ c.from_residual.result _ c.from_residual.ensures.1;
+  staged = none_done _ c.from_residual.result _ c.from_residual.ensures.1;
+  bits = none_done _ c.from_residual.result _ c.from_residual.ensures.1;
+  setup = none_done _ c.from_residual.result _ c.from_residual.ensures.1;
+  writes = none_done _ c.from_residual.result _ c.from_residual.ensures.1;
+  epoch = none_done _ c.from_residual.result _ c.from_residual.ensures.1;
+  spared = c.try_write.ensures.spared;
+  still_synced = c.try_write.ensures.still_synced;
+  unsynced = none_done _ c.from_residual.result _ c.from_residual.ensures.1;
+  two = handed (AreTwoDown (core_down c.args.self.now) (g.R.Rack.slot (core_rack c.args.self.now)) (g.R.Rack.slot (core_rack c.try_write.new.self))) c.from_residual.result _ c.from_residual.ensures.1 c.in_err-done.ensures.two;
+  tells = handed (λ two. Ran (g.R.Rack.told (store_rack c.args.self.now.store)) (g.R.Rack.told (store_rack c.try_write.new.self.store)) (λ s cs. TellsLosses (named_out c.args.self.now.meta.out) two cs)) c.from_residual.result _ c.from_residual.ensures.1 c.in_err-done.ensures.tells;
+  calls = c.try_write.ensures.calls;
+  reads = c.try_write.ensures.reads;
+  marks = none_done _ c.from_residual.result _ c.from_residual.ensures.1;
+  named = none_done _ c.from_residual.result _ c.from_residual.ensures.1;
+  down = none_done _ c.from_residual.result _ c.from_residual.ensures.1;
+  moments = c.try_write.ensures.moments_since;
+  stands = none_done _ c.from_residual.result _ c.from_residual.ensures.1;
+}
+
+pub returns-then-done : goal.returns-then-done
+returns-then-done g c = record {
+  draft = c.try_write.ensures.draft;
+  copied = c.try_write.ensures.copied;
+  slots = c.try_write.ensures.slots;
+  ready = c.in_ok-done.ensures.ready;
+  serves = c.in_ok-done.ensures.serves;
+  staged = subst (λ (b : Bool). length c.try_write.new.self.batch ≤ length c.args.self.now.batch + (if b then 10 * c.args.pairs.now.count else 0)) c.if-done.true c.in_ok-done.ensures.room;
+  bits =
+      let old = c.args.self.now in
+      let new = c.try_write.new.self in
+      c.in_ok-done.ensures.bits ∙ ap (λ (b : Bool). if b then bits_after_writes new.meta (pairs_of c.args.pairs.now) (is_dirty old.dirty) else is_dirty old.dirty) c.if-done.true;
+  setup = c.in_ok-done.ensures.setup;
+  writes = c.in_ok-done.ensures.writes ∙ ap (λ (b : Bool). c.args.self.now.meta.writes + (if b then 1 else 0)) c.if-done.true;
+  epoch = c.in_ok-done.ensures.epoch;
+  spared = c.try_write.ensures.spared;
+  still_synced = c.try_write.ensures.still_synced;
+  unsynced =
+      let old = c.args.self.now in
+      let new = c.try_write.new.self in
+      let done = c.in_ok-done.ensures in
+      unsynced_kept g.R.Rack.slot old new done.setup (gone_lost _ _ old.meta new.meta done.marks) c.try_write.ensures.spared c.try_write.ensures.copied c.try_write.ensures.still_synced;
+  two = tt;
+  tells = tt;
+  calls = c.try_write.ensures.calls;
+  reads = c.try_write.ensures.reads;
+  marks = c.in_ok-done.ensures.marks;
+  named = c.try_write.ensures.named;
+  down = c.in_ok-done.ensures.down;
+  moments = c.try_write.ensures.moments_since;
+  stands = λ h lo.
+      let old = c.args.self.now in
+      let new = c.try_write.new.self in
+      subst (λ (b : Bool). Ran (g.R.Rack.told (core_rack old)) (g.R.Rack.told (core_rack new)) (CrashTriple (IsCoreHeldSinceCommit g.R.Rack.slot_count old h lo) (CoreStandsFor g.R.Rack.slot_count old h lo)
+      (CoreStandsFor g.R.Rack.slot_count new (if b then h ++ pairs_of c.args.pairs.now ∷ [] else h) lo))) c.if-done.true (c.in_ok-done.ensures.since h lo);
+}
 
 pub try_write-requires-2-clause-ready : goal.try_write-requires-2-clause-ready
 try_write-requires-2-clause-ready g c = c.in_ok-done.ensures.ready
@@ -378,21 +130,109 @@ try_write-requires-2-clause-fits g c =
     let fits = c.requires.fits in
     omega (arith, first, fits)
 
-pub returns-in_err-try_write-clause-still_synced : goal.returns-in_err-try_write-clause-still_synced
-returns-in_err-try_write-clause-still_synced g c = dry_both (g.R.Rack.slot (core_rack c.args.self.now)) (g.R.Rack.slot (core_rack c.try_write.new.self)) (g.R.Rack.slot (core_rack c.try_write-2.new.self)) c.try_write.ensures.still_synced c.try_write-2.ensures.still_synced c.try_write-2.ensures.spared
+pub returns-in_err-try_write : goal.returns-in_err-try_write
+returns-in_err-try_write g c = record {
+  draft = c.try_write-2.ensures.draft;
+  copied = c.try_write-2.ensures.copied ∙ c.try_write.ensures.copied;
+  slots = c.try_write-2.ensures.slots ∙ c.try_write.ensures.slots;
+  ready = none_done _ c.from_residual-in_err-try_write.result _ c.from_residual-in_err-try_write.ensures.1;
+  serves = none_done _ c.from_residual-in_err-try_write.result _ c.from_residual-in_err-try_write.ensures.1;
+  staged = none_done _ c.from_residual-in_err-try_write.result _ c.from_residual-in_err-try_write.ensures.1;
+  bits = none_done _ c.from_residual-in_err-try_write.result _ c.from_residual-in_err-try_write.ensures.1;
+  setup = none_done _ c.from_residual-in_err-try_write.result _ c.from_residual-in_err-try_write.ensures.1;
+  writes = none_done _ c.from_residual-in_err-try_write.result _ c.from_residual-in_err-try_write.ensures.1;
+  epoch = none_done _ c.from_residual-in_err-try_write.result _ c.from_residual-in_err-try_write.ensures.1;
+  spared = spared_then _ _ _ c.try_write.ensures.spared c.try_write-2.ensures.spared;
+  still_synced = dry_both (g.R.Rack.slot (core_rack c.args.self.now)) (g.R.Rack.slot (core_rack c.try_write.new.self)) (g.R.Rack.slot (core_rack c.try_write-2.new.self)) c.try_write.ensures.still_synced c.try_write-2.ensures.still_synced c.try_write-2.ensures.spared;
+  unsynced = none_done _ c.from_residual-in_err-try_write.result _ c.from_residual-in_err-try_write.ensures.1;
+  two =
+      let old = c.args.self.now in
+      let mid = c.try_write.new.self in
+      let new = c.try_write-2.new.self in
+      handed (AreTwoDown (core_down old) (g.R.Rack.slot (core_rack old)) (g.R.Rack.slot (core_rack new))) c.from_residual-in_err-try_write.result _ c.from_residual-in_err-try_write.ensures.1
+      (two_after (core_down old) (core_down mid) _ _ _ _ c.in_ok-done.ensures.down c.in_ok-done.ensures.spared c.in_err-try_write.ensures.spared c.in_err-try_write.ensures.two);
+  tells =
+      let old = c.args.self.now in
+      let mid = c.try_write.new.self in
+      let marks = c.in_ok-done.ensures.marks in
+      handed (λ two. Ran (g.R.Rack.told (store_rack c.args.self.now.store)) (g.R.Rack.told (store_rack c.try_write-2.new.self.store)) (λ s cs. TellsLosses (named_out c.args.self.now.meta.out) two cs)) c.from_residual-in_err-try_write.result _ c.from_residual-in_err-try_write.ensures.1
+      (core_tells_then g.R.Rack.slot g.R.Rack.told g.met.R.Rack.agrees old mid c.requires.ready.absent marks c.try_write-2.new.self _
+      (data_bears g.R.Rack.slot g.R.Rack.told g.met.R.Rack.agrees old mid c.requires.ready.absent marks c.try_write.ensures.calls) c.in_err-try_write.ensures.tells);
+  calls =
+      calls_then _ _ _ _ c.try_write.ensures.calls
+      (data_after c.args.self.now.meta c.try_write.new.self.meta c.in_ok-done.ensures.setup (λ d is. absurd (none_gone (named_of c.args.self.now.store) c.args.self.now.meta.out d (c.in_ok-done.ensures.lost c.if-done.false).none is)) _ _ c.try_write-2.ensures.calls);
+  reads = reads_then _ _ (ap (λ (z : Setup). z.geometry.disks) c.in_ok-done.ensures.setup) _ _ _ c.try_write.ensures.reads c.try_write-2.ensures.reads;
+  marks = none_done _ c.from_residual-in_err-try_write.result _ c.from_residual-in_err-try_write.ensures.1;
+  named = none_done _ c.from_residual-in_err-try_write.result _ c.from_residual-in_err-try_write.ensures.1;
+  down = none_done _ c.from_residual-in_err-try_write.result _ c.from_residual-in_err-try_write.ensures.1;
+  moments = λ h lo.
+      let done = c.in_ok-done.ensures in
+      ended _ _ (IsCoreHeldSinceCommit g.R.Rack.slot_count c.try_write.new.self h lo) _ _
+      (both g c.args.self.now c.try_write.new.self c.try_write-2.new.self (pairs_of c.args.pairs.now) c.in_ok-done.done c.if-done.false h lo (done.since h lo) done.slots done.setup done.named
+      (IsCoreHeldSinceCommit g.R.Rack.slot_count c.try_write.new.self h lo) (c.in_err-try_write.ensures.moments_since h lo));
+  stands = none_done _ c.from_residual-in_err-try_write.result _ c.from_residual-in_err-try_write.ensures.1;
+}
 
-pub returns-clause-still_synced : goal.returns-clause-still_synced
-returns-clause-still_synced g c = dry_both (g.R.Rack.slot (core_rack c.args.self.now)) (g.R.Rack.slot (core_rack c.try_write.new.self)) (g.R.Rack.slot (core_rack c.try_write-2.new.self)) c.try_write.ensures.still_synced c.try_write-2.ensures.still_synced c.try_write-2.ensures.spared
-
-pub returns-clause-unsynced : goal.returns-clause-unsynced
-returns-clause-unsynced g c was =
-    let old = c.args.self.now in
-    let mid = c.try_write.new.self in
-    let new = c.try_write-2.new.self in
-    let first = c.in_ok-done.ensures in
-    let second = c.in_ok-try_write.ensures in
-    unsynced_kept g.R.Rack.slot mid new second.setup (gone_lost _ _ mid.meta new.meta second.marks) c.try_write-2.ensures.spared c.try_write-2.ensures.copied c.try_write-2.ensures.still_synced
-    (unsynced_kept g.R.Rack.slot old mid first.setup (gone_lost _ _ old.meta mid.meta first.marks) c.try_write.ensures.spared c.try_write.ensures.copied c.try_write.ensures.still_synced was)
+pub returns : goal.returns
+returns g c = record {
+  draft = c.try_write-2.ensures.draft;
+  copied = c.try_write-2.ensures.copied ∙ c.try_write.ensures.copied;
+  slots = c.try_write-2.ensures.slots ∙ c.try_write.ensures.slots;
+  ready = c.in_ok-try_write.ensures.ready;
+  serves = c.in_ok-try_write.ensures.serves;
+  staged =
+      let old = c.args.self.now in
+      let mid = c.try_write.new.self in
+      let new = c.try_write-2.new.self in
+      subst (λ (n : ℕ). length new.batch ≤ n + 10 * c.args.pairs.now.count) (ap length (c.in_ok-done.ensures.dropped c.if-done.false))
+      (subst (λ (b : Bool). length new.batch ≤ length mid.batch + (if b then 10 * c.args.pairs.now.count else 0)) (again g c) c.in_ok-try_write.ensures.room);
+  bits =
+      let old = c.args.self.now in
+      let mid = c.try_write.new.self in
+      let new = c.try_write-2.new.self in
+      c.in_ok-try_write.ensures.bits ∙ ap (λ (b : Bool). if b then bits_after_writes new.meta (pairs_of c.args.pairs.now) (is_dirty mid.dirty) else is_dirty mid.dirty) (again g c)
+      ∙ ap (bits_after_writes new.meta (pairs_of c.args.pairs.now))
+      (c.in_ok-done.ensures.bits ∙ ap (λ (b : Bool). if b then bits_after_writes mid.meta (pairs_of c.args.pairs.now) (is_dirty old.dirty) else is_dirty old.dirty) c.if-done.false);
+  setup = c.in_ok-try_write.ensures.setup ∙ c.in_ok-done.ensures.setup;
+  writes =
+      let old = c.args.self.now in
+      let mid = c.try_write.new.self in
+      let first : mid.meta.writes ≡ old.meta.writes + 0 = c.in_ok-done.ensures.writes ∙ ap (λ (b : Bool). old.meta.writes + (if b then 1 else 0)) c.if-done.false in
+      let second = c.in_ok-try_write.ensures.writes ∙ ap (λ (b : Bool). mid.meta.writes + (if b then 1 else 0)) (again g c) in
+      omega (arith, first, second);
+  epoch = c.in_ok-try_write.ensures.epoch ∙ c.in_ok-done.ensures.epoch;
+  spared = spared_then _ _ _ c.try_write.ensures.spared c.try_write-2.ensures.spared;
+  still_synced = dry_both (g.R.Rack.slot (core_rack c.args.self.now)) (g.R.Rack.slot (core_rack c.try_write.new.self)) (g.R.Rack.slot (core_rack c.try_write-2.new.self)) c.try_write.ensures.still_synced c.try_write-2.ensures.still_synced c.try_write-2.ensures.spared;
+  unsynced = λ was.
+      let old = c.args.self.now in
+      let mid = c.try_write.new.self in
+      let new = c.try_write-2.new.self in
+      let first = c.in_ok-done.ensures in
+      let second = c.in_ok-try_write.ensures in
+      unsynced_kept g.R.Rack.slot mid new second.setup (gone_lost _ _ mid.meta new.meta second.marks) c.try_write-2.ensures.spared c.try_write-2.ensures.copied c.try_write-2.ensures.still_synced
+      (unsynced_kept g.R.Rack.slot old mid first.setup (gone_lost _ _ old.meta mid.meta first.marks) c.try_write.ensures.spared c.try_write.ensures.copied c.try_write.ensures.still_synced was);
+  two = tt;
+  tells = tt;
+  calls =
+      calls_then _ _ _ _ c.try_write.ensures.calls
+      (data_after c.args.self.now.meta c.try_write.new.self.meta c.in_ok-done.ensures.setup (λ d is. absurd (none_gone (named_of c.args.self.now.store) c.args.self.now.meta.out d (c.in_ok-done.ensures.lost c.if-done.false).none is)) _ _ c.try_write-2.ensures.calls);
+  reads = reads_then _ _ (ap (λ (z : Setup). z.geometry.disks) c.in_ok-done.ensures.setup) _ _ _ c.try_write.ensures.reads c.try_write-2.ensures.reads;
+  marks = marks_then _ _ _ _ _ _ c.in_ok-done.ensures.marks c.in_ok-try_write.ensures.marks c.try_write.ensures.spared c.try_write-2.ensures.spared;
+  named = c.try_write-2.ensures.named ∙ c.try_write.ensures.named;
+  down = down_both _ _ _ _ _ _ c.in_ok-done.ensures.down c.try_write.ensures.spared c.in_ok-try_write.ensures.down c.try_write-2.ensures.spared;
+  moments = λ h lo.
+      let done = c.in_ok-done.ensures in
+      ended _ _ (IsCoreHeldSinceCommit g.R.Rack.slot_count c.try_write.new.self h lo) _ _
+      (both g c.args.self.now c.try_write.new.self c.try_write-2.new.self (pairs_of c.args.pairs.now) c.in_ok-done.done c.if-done.false h lo (done.since h lo) done.slots done.setup done.named
+      (IsCoreHeldSinceCommit g.R.Rack.slot_count c.try_write.new.self h lo) (c.in_ok-try_write.ensures.moments_since h lo));
+  stands = λ h lo.
+      let mid = c.try_write.new.self in
+      let new = c.try_write-2.new.self in
+      let done = c.in_ok-done.ensures in
+      both g c.args.self.now mid new (pairs_of c.args.pairs.now) c.in_ok-done.done c.if-done.false h lo (done.since h lo) done.slots done.setup done.named _
+      (subst (λ (b : Bool). Ran (g.R.Rack.told (core_rack mid)) (g.R.Rack.told (core_rack new)) (CrashTriple (IsCoreHeldSinceCommit g.R.Rack.slot_count mid h lo) (CoreStandsFor g.R.Rack.slot_count mid h lo)
+      (CoreStandsFor g.R.Rack.slot_count new (if b then h ++ pairs_of c.args.pairs.now ∷ [] else h) lo))) (again g c) (c.in_ok-try_write.ensures.since h lo));
+}
 
 pub try_write-requires-clause-ready : goal.try_write-requires-clause-ready
 try_write-requires-clause-ready g c = c.requires.ready
