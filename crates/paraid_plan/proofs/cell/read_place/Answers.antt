@@ -4,20 +4,14 @@ use Rattle.std.proofs.Common.{◌∙◌, sym}
 use Rattle.std.proofs.lemmas.Bool.{false≢true}
 use Rattle.paraid_plan.proofs.cell.read_place.Goals as goal
 
-pub read_parity-requires-clause-serves : goal.read_parity-requires-clause-serves
-read_parity-requires-clause-serves g c = c.requires.serves
-
-pub read_parity-requires-clause-in_range : goal.read_parity-requires-clause-in_range
-read_parity-requires-clause-in_range g c = c.requires.in_range
-
-pub read_parity-requires-clause-row : goal.read_parity-requires-clause-row
-read_parity-requires-clause-row g c = c.requires.row
-
-pub read_parity-requires-clause-disk : goal.read_parity-requires-clause-disk
-read_parity-requires-clause-disk g c = c.requires.disk
-
-pub read_parity-requires-clause-parked : goal.read_parity-requires-clause-parked
-read_parity-requires-clause-parked g c = c.requires.parked c.if-hard.false
+pub read_parity-requires : goal.read_parity-requires
+read_parity-requires g c = record {
+  serves = c.requires.serves;
+  in_range = c.requires.in_range;
+  row = c.requires.row;
+  disk = c.requires.disk;
+  parked = c.requires.parked c.if-hard.false;
+}
 
 pub returns-then-hard : goal.returns-then-hard
 returns-then-hard g c = record {

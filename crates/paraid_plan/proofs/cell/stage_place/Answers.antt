@@ -6,12 +6,6 @@ use Rattle.paraid_plan.proofs.RoomLemmas.{unit_small}
 pub stage_if-requires : goal.stage_if-requires
 stage_if-requires g c = let room = c.requires.room in omega (arith, room)
 
-pub soft_of-s-requires-clause-gear : goal.soft_of-s-requires-clause-gear
-soft_of-s-requires-clause-gear g c = c.requires.in_range.gear
-
-pub soft_of-s-requires-clause-parked : goal.soft_of-s-requires-clause-parked
-soft_of-s-requires-clause-parked g c = c.requires.parked c.if-hard.false
-
 pub soft_place-place-requires-clause-gear : goal.soft_place-place-requires-clause-gear
 soft_place-place-requires-clause-gear g c = c.requires.in_range.gear
 
@@ -61,8 +55,10 @@ returns-then-hard g c = record {
   leads = c.stage_if.ensures.leads;
 }
 
-pub soft_of-s-requires-clause-disk_in : goal.soft_of-s-requires-clause-disk_in
-soft_of-s-requires-clause-disk_in g c = c.requires.disk
-
-pub soft_of-s-requires-clause-row_in : goal.soft_of-s-requires-clause-row_in
-soft_of-s-requires-clause-row_in g c = c.requires.row
+pub soft_of-s-requires : goal.soft_of-s-requires
+soft_of-s-requires g c = record {
+  gear = c.requires.in_range.gear;
+  parked = c.requires.parked c.if-hard.false;
+  disk_in = c.requires.disk;
+  row_in = c.requires.row;
+}

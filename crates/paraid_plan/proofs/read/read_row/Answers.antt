@@ -6,26 +6,20 @@ use Rattle.paraid_image.specs.Value.{value}
 use Rattle.paraid_plan.proofs.PartLemmas.{parity_made}
 use Rattle.paraid_plan.proofs.read.read_row.Goals as goal
 
-pub needs_new-needed-requires-clause-serves : goal.needs_new-needed-requires-clause-serves
-needs_new-needed-requires-clause-serves g c = c.requires.serves
+pub needs_new-needed-requires : goal.needs_new-needed-requires
+needs_new-needed-requires g c = record {
+  serves = c.requires.serves;
+  in_range = c.requires.in_range;
+  row = c.requires.row;
+  disk = c.requires.parity_disk;
+}
 
-pub needs_new-needed-requires-clause-in_range : goal.needs_new-needed-requires-clause-in_range
-needs_new-needed-requires-clause-in_range g c = c.requires.in_range
-
-pub needs_new-needed-requires-clause-row : goal.needs_new-needed-requires-clause-row
-needs_new-needed-requires-clause-row g c = c.requires.row
-
-pub needs_new-needed-requires-clause-disk : goal.needs_new-needed-requires-clause-disk
-needs_new-needed-requires-clause-disk g c = c.requires.parity_disk
-
-pub is_made_anew-anew-requires-clause-serves : goal.is_made_anew-anew-requires-clause-serves
-is_made_anew-anew-requires-clause-serves g c = c.requires.serves
-
-pub is_made_anew-anew-requires-clause-in_range : goal.is_made_anew-anew-requires-clause-in_range
-is_made_anew-anew-requires-clause-in_range g c = c.requires.in_range
-
-pub is_made_anew-anew-requires-clause-row : goal.is_made_anew-anew-requires-clause-row
-is_made_anew-anew-requires-clause-row g c = c.requires.row
+pub is_made_anew-anew-requires : goal.is_made_anew-anew-requires
+is_made_anew-anew-requires g c = record {
+  serves = c.requires.serves;
+  in_range = c.requires.in_range;
+  row = c.requires.row;
+}
 
 pub read_cells-requires-clause-serves : goal.read_cells-requires-clause-serves
 read_cells-requires-clause-serves g c = c.requires.serves

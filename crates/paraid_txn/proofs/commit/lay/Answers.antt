@@ -47,11 +47,11 @@ wet g c =
     (rw (is.0, c.target-target.ensures) on, is.1) in
     StaySyncedBut-both may _ _ _ _ (g.R.Rack.slot c.loop-at.rack) _ c.loop-at.invariant.part.lasts c.put.ensures.part.lasts c.loop-at.invariant.still_synced (StaySyncedBut-weaker may _ (g.R.Rack.slot c.loop-at.rack) (g.R.Rack.slot c.put.new.rack) this c.put.ensures.still_synced)
 
-pub put-requires-clause-exists : goal.put-requires-clause-exists
-put-requires-clause-exists g c = (ready g c).0
-
-pub put-requires-clause-can : goal.put-requires-clause-can
-put-requires-clause-can g c not = (ready g c).1 not
+pub put-requires : goal.put-requires
+put-requires g c = record {
+  exists = (ready g c).0;
+  can = λ not. (ready g c).1 not;
+}
 
 -- one more target
 next : (g : Over) (c : After-put g) (j : Job) → IsSpelled j → job_gone j ≡ c.args.skip → j.batch ≡ c.args.batch.now
