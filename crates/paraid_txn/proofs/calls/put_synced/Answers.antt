@@ -1,4 +1,4 @@
-use Rattle.std.proofs.Common.{◌∙◌}
+use Rattle.std.proofs.Common.{◌∙◌, subst, ℕ, ◌<◌, sym}
 use Rattle.paraid_txn.proofs.SyncedPartLemmas.{SyncedPart_failed}
 use Rattle.std.proofs.Common.{arith}
 use Rattle.paraid_txn.proofs.ReadyLemmas.{log_can, log_stays_ready}
@@ -8,11 +8,17 @@ use Rattle.paraid_txn.proofs.DownLemmas.{StaySynced-synced}
 use Rattle.paraid_txn.proofs.PutSyncedLemmas.{put_gives_up, put_then_sync}
 use Rattle.paraid_txn.proofs.calls.put_synced.Goals as goal
 
-pub put-requires-clause-can : goal.put-requires-clause-can
-put-requires-clause-can g c not = log_can c.args.place c.requires.log c.requires.log_disk c.requires.in_log not
+pub put-requires : goal.put-requires
+put-requires g c = record {
+  exists = c.requires.exists;
+  can = λ not. log_can c.args.place c.requires.log c.requires.log_disk c.requires.in_log not;
+}
 
-pub sync_slot-requires-clause-can : goal.sync_slot-requires-clause-can
-sync_slot-requires-clause-can g c not = log_can 0 (log_stays_ready c.put.ensures.part.lasts c.requires.log) c.requires.log_disk (omega arith) not
+pub sync_slot-requires : goal.sync_slot-requires
+sync_slot-requires g c = record {
+  exists = subst (λ (n : ℕ). c.args.disk < n) (sym c.put.ensures.slots) c.requires.exists;
+  can = λ not. log_can 0 (log_stays_ready c.put.ensures.part.lasts c.requires.log) c.requires.log_disk (omega arith) not;
+}
 
 pub returns-in_err-put : goal.returns-in_err-put
 returns-in_err-put g c = record {

@@ -1,4 +1,4 @@
-use Rattle.std.proofs.Common.{◌∙◌}
+use Rattle.std.proofs.Common.{◌∙◌, subst, ℕ, ◌≤◌, sym}
 use Rattle.paraid_txn.proofs.SyncedPartLemmas.{SyncedPart_failed}
 use Rattle.std.specs.Prelude.{◌≡◌, ◌≢◌, length, true, Some}
 use Rattle.std.proofs.Common.{ap, inr}
@@ -10,8 +10,12 @@ use Rattle.paraid_txn.proofs.CommitPartLemmas.{CommitPart_then}
 use Rattle.paraid_txn.proofs.CrashSpecificationLemmas.{crash_from, crash_raised, crash_then, on_ok_then}
 use Rattle.paraid_txn.proofs.commit.lay_all.Goals as goal
 
-pub sync_target_slots-requires-clause-ready : goal.sync_target_slots-requires-clause-ready
-sync_target_slots-requires-clause-ready g c = targets_stay_ready _ _ _ _ c.lay.ensures.part.lasts c.lay.ensures.slots c.requires.ready
+pub sync_target_slots-requires : goal.sync_target_slots-requires
+sync_target_slots-requires g c = record {
+  exists = subst (λ (n : ℕ). c.args.disks ≤ n) (sym c.lay.ensures.slots) c.requires.exists;
+  ready = targets_stay_ready _ _ _ _ c.lay.ensures.part.lasts c.lay.ensures.slots c.requires.ready;
+  below = c.requires.below;
+}
 
 pub returns-in_err-lay : goal.returns-in_err-lay
 returns-in_err-lay g c = record {
@@ -29,4 +33,11 @@ returns g c = record {
         c.lay.ensures.still_synced c.sync_target_slots.ensures.still_synced (λ d is. inr (synced d is.0 is.1))) c.sync_target_slots.ensures.synced;
   };
   crash = λ j good is same. crash_then (c.in_ok-lay.ensures.crash j good is same) (crash_from (lay_end j good (length c.args.batch.now) (ap length same)) (c.sync_target_slots.ensures.crash j good is same));
+}
+
+pub lay-requires : goal.lay-requires
+lay-requires g c = record {
+  ready = c.requires.ready;
+  past_log = c.requires.past_log;
+  few = c.requires.few;
 }

@@ -22,6 +22,19 @@ returns g c = record {
       (crash_then (open_crash g.met.R.Rack.agrees j is good 0 (omega arith) at c.gate-opened.ensures c.in_ok-put_synced.ensures.does) (open_crash g.met.R.Rack.agrees j is good 1 (omega arith) (ap other_log at) c.gate-opened.ensures c.put_synced-2.ensures.does));
 }
 
-pub put_synced-requires-2-clause-log : goal.put_synced-requires-2-clause-log
-put_synced-requires-2-clause-log g c =
-    SyncedPart_log c.in_ok-put_synced.ensures.leaves c.requires.log
+pub put_synced-requires-2 : goal.put_synced-requires-2
+put_synced-requires-2 g c = record {
+  exists = let exists = c.requires.exists in let s0 = c.put_synced.ensures.leaves.slots in omega (arith, exists, s0);
+  log_disk = omega arith;
+  in_log = omega arith;
+  log =
+      SyncedPart_log c.in_ok-put_synced.ensures.leaves c.requires.log;
+}
+
+pub put_synced-requires : goal.put_synced-requires
+put_synced-requires g c = record {
+  exists = let exists = c.requires.exists in let low = c.requires.log_disk in omega (arith, exists, low);
+  log_disk = c.requires.log_disk;
+  in_log = omega arith;
+  log = c.requires.log;
+}

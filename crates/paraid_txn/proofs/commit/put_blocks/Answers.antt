@@ -45,8 +45,11 @@ loop-at-preserved g c = record {
   ran = next g (goal.at.loop-at-preserved g c).After-put;
 }
 
-pub put-requires-clause-can : goal.put-requires-clause-can
-put-requires-clause-can g c not = log_can (4 + c.from.result) c.loop-at.invariant.log c.requires.log_disk (omega arith) not
+pub put-requires : goal.put-requires
+put-requires g c = record {
+  exists = subst (λ (n : ℕ). c.args.disk < n) (sym c.loop-at.invariant.slots) c.requires.exists;
+  can = λ not. log_can (4 + c.from.result) c.loop-at.invariant.log c.requires.log_disk (omega arith) not;
+}
 
 pub returns-in_err-put : goal.returns-in_err-put
 returns-in_err-put g c = record {

@@ -14,8 +14,11 @@ use Rattle.paraid_txn.proofs.commit.sync_target_slot.Given.{Over}
 use Rattle.paraid_txn.proofs.commit.sync_target_slot.Goals as goal
 use Rattle.paraid_txn.proofs.commit.sync_target_slot.Goals.{After-sync_slot}
 
-pub sync_slot-requires-clause-can : goal.sync_slot-requires-clause-can
-sync_slot-requires-clause-can g c not = disk_can c.args.batch.now c.args.disk c.requires.ready (sym c.has_disk.ensures ∙ c.if-not-has_disk.false) not
+pub sync_slot-requires : goal.sync_slot-requires
+sync_slot-requires g c = record {
+  exists = c.requires.exists;
+  can = λ not. disk_can c.args.batch.now c.args.disk c.requires.ready (sym c.has_disk.ensures ∙ c.if-not-has_disk.false) not;
+}
 
 synced : (g : Over) (c : After-sync_slot g) (j : Job) → IsSpelled j → job_gone j ≡ c.args.skip
     → Ran (g.R.Rack.told c.args.rack.now) (g.R.Rack.told c.sync_slot.new.rack) (CrashTriple (HoldsLate j) (SyncIn j c.args.disk) (SyncIn j (c.args.disk + 1)))

@@ -1,5 +1,5 @@
 use Rattle.std.specs.Prelude.{◌≡◌, ◌≢◌, ℕ, ◌+◌, length, Some}
-use Rattle.std.proofs.Common.{◌∙◌, ap, arith}
+use Rattle.std.proofs.Common.{◌∙◌, ap, arith, subst, ◌<◌, sym}
 use Rattle.paraid_txn.proofs.SyncedPartLemmas.{SyncedPart_failed}
 use Rattle.paraid_rack.specs.Told.{Ran, CrashTriple}
 use Rattle.paraid_txn.specs.CommitStages.{IsSpelled, Job, LogStage, LogIn, LogMeta, HoldsEarly, job_named}
@@ -12,15 +12,26 @@ use Rattle.paraid_txn.proofs.commit.write_log.Given.{Over}
 use Rattle.paraid_txn.proofs.commit.write_log.Goals as goal
 use Rattle.paraid_txn.proofs.commit.write_log.Goals.{After-put, After-put-2, After-sync_slot}
 
-pub put-requires-2-clause-can : goal.put-requires-2-clause-can
-put-requires-2-clause-can g c not =
-    CanWrite-lower _ _ 3 99 (omega arith) (CanWrite-later _ _ _ _ _ 99 c.put.ensures.part.lasts (c.requires.log.can c.args.disk c.requires.log_disk not))
+pub put-requires-2 : goal.put-requires-2
+put-requires-2 g c = record {
+  exists = subst (λ (n : ℕ). c.args.disk < n) (sym c.put.ensures.slots) c.requires.exists;
+  can = λ not.
+      CanWrite-lower _ _ 3 99 (omega arith) (CanWrite-later _ _ _ _ _ 99 c.put.ensures.part.lasts (c.requires.log.can c.args.disk c.requires.log_disk not));
+}
 
-pub sync_slot-requires-clause-can : goal.sync_slot-requires-clause-can
-sync_slot-requires-clause-can g c not = log_can 0 (log_stays_ready c.put_blocks.ensures.part.lasts (log_stays_ready c.put-2.ensures.part.lasts (log_stays_ready c.put.ensures.part.lasts c.requires.log))) c.requires.log_disk (omega arith) not
+pub sync_slot-requires : goal.sync_slot-requires
+sync_slot-requires g c = record {
+  exists = subst (λ (n : ℕ). c.args.disk < n) (sym (c.put_blocks.ensures.slots ∙ c.put-2.ensures.slots ∙ c.put.ensures.slots)) c.requires.exists;
+  can = λ not. log_can 0 (log_stays_ready c.put_blocks.ensures.part.lasts (log_stays_ready c.put-2.ensures.part.lasts (log_stays_ready c.put.ensures.part.lasts c.requires.log))) c.requires.log_disk (omega arith) not;
+}
 
-pub put_blocks-requires-clause-log : goal.put_blocks-requires-clause-log
-put_blocks-requires-clause-log g c = log_stays_ready c.put-2.ensures.part.lasts (log_stays_ready c.put.ensures.part.lasts c.requires.log)
+pub put_blocks-requires : goal.put_blocks-requires
+put_blocks-requires g c = record {
+  exists = subst (λ (n : ℕ). c.args.disk < n) (sym (c.put-2.ensures.slots ∙ c.put.ensures.slots)) c.requires.exists;
+  log_disk = c.requires.log_disk;
+  log = log_stays_ready c.put-2.ensures.part.lasts (log_stays_ready c.put.ensures.part.lasts c.requires.log);
+  few = c.requires.few;
+}
 
 -- with the meta of the batch written
 first : (g : Over) (c : After-put g) (j : Job) → IsSpelled j → job_named j ≡ c.args.skip → j.spelled ≡ c.args.meta.now
@@ -90,4 +101,10 @@ returns g c = record {
       let at = goal.at.returns g c in
       crash_after (first g at.After-put j good is spelled) (crash_after (second g at.After-put-2 j good is list)
       (crash_then (c.in_ok-put_blocks.ensures.crash j good is same) (crash_ran (log_whole j good (c.args.disk + 1)) (last g at.After-sync_slot j good is same))));
+}
+
+pub put-requires : goal.put-requires
+put-requires g c = record {
+  exists = c.requires.exists;
+  can = λ not. log_can 2 c.requires.log c.requires.log_disk (omega arith) not;
 }

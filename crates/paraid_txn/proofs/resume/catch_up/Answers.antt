@@ -10,7 +10,7 @@ use Rattle.paraid_txn.specs.Resume.{LeadsResume, HoldsThroughResume, AreDisksSam
 use Rattle.paraid_image.specs.Sides.{is_open}
 use Rattle.paraid_txn.specs.CommitStages.{IsLiveLog, IsSpelled, Job, job_named}
 use Rattle.paraid_image.specs.Standing.{other_log}
-use Rattle.paraid_txn.proofs.ReadyLemmas.{log_stays_ready}
+use Rattle.paraid_txn.proofs.ReadyLemmas.{log_stays_ready, log_can}
 use Rattle.paraid_txn.proofs.StageCallsLemmas.{andthen, ends, from, milder}
 use Rattle.paraid_txn.proofs.ResumeStagesLemmas.{absent_by, good_beside, log_open, never, open_lay, read_start, resuming_early, resuming_same, same_lay, same_log, same_read, take_ran, upto_told}
 use Rattle.paraid_txn.proofs.CommitPartLemmas.{CommitPart_beside, CommitPart_by, logs_read}
@@ -153,15 +153,31 @@ returns g c = record {
       ];
 }
 
-pub write_log-requires-clause-log : goal.write_log-requires-clause-log
-write_log-requires-clause-log g c =
-    let at = goal.at.write_log-requires-clause-log g c in
-    let on = on g at.After-opens in
-    record { can = λ x low not. (log_stays_ready c.take.ensures.part.lasts c.requires.log).can x low (beside_log g at.After-take on x (low, not)).1 }
+pub write_log-requires : goal.write_log-requires
+write_log-requires g c = record {
+  exists = let exists = c.requires.exists in let s0 = c.take.ensures.slots in omega (arith, exists, s0);
+  log_disk = omega arith;
+  log =
+      let at = goal.at.write_log-requires g c in
+      let on = on g at.After-opens in
+      record { can = λ x low not. (log_stays_ready c.take.ensures.part.lasts c.requires.log).can x low (beside_log g at.After-take on x (low, not)).1 };
+  few = c.requires.few;
+}
 
-pub put_synced-requires-clause-log : goal.put_synced-requires-clause-log
-put_synced-requires-clause-log g c =
-    let at = goal.at.put_synced-requires-clause-log g c in
-    let on = on g at.After-opens in
-    log_stays_ready c.write_log.ensures.leaves.part.lasts
-    (record { can = λ x low not. (log_stays_ready c.take.ensures.part.lasts c.requires.log).can x low (beside_log g at.After-take on x (low, not)).1 })
+pub put_synced-requires : goal.put_synced-requires
+put_synced-requires g c = record {
+  exists = let exists = c.requires.exists in let s0 = c.take.ensures.slots in let s1 = c.write_log.ensures.leaves.slots in omega (arith, exists, s0, s1);
+  log_disk = omega arith;
+  in_log = omega arith;
+  log =
+      let at = goal.at.put_synced-requires g c in
+      let on = on g at.After-opens in
+      log_stays_ready c.write_log.ensures.leaves.part.lasts
+      (record { can = λ x low not. (log_stays_ready c.take.ensures.part.lasts c.requires.log).can x low (beside_log g at.After-take on x (low, not)).1 });
+}
+
+pub take-requires : goal.take-requires
+take-requires g c = record {
+  exists = let exists = c.requires.exists in omega (arith, exists);
+  can = λ not. log_can 0 c.requires.log (omega arith) (omega arith) not;
+}

@@ -11,7 +11,7 @@ use Rattle.paraid_image.specs.Sides.{is_open}
 use Rattle.paraid_txn.specs.CommitStages.{Job, job_named}
 use Rattle.paraid_image.specs.Standing.{other_log}
 use Rattle.paraid_txn.proofs.StageCallsLemmas.{ends}
-use Rattle.paraid_txn.proofs.ReadyLemmas.{log_stays_ready}
+use Rattle.paraid_txn.proofs.ReadyLemmas.{log_stays_ready, log_can}
 use Rattle.paraid_txn.proofs.ResumeStagesLemmas.{absent_by, filled, good_filled, read_start, same_read, shutting_same, take_ran, upto_told}
 use Rattle.paraid_txn.proofs.CommitPartLemmas.{CommitPart_by, logs_read}
 use Rattle.paraid_txn.proofs.CrashSpecificationLemmas.{crash_after, crash_failed, crash_never, crash_upto}
@@ -114,6 +114,16 @@ returns g c = record {
       ];
 }
 
-pub shut-requires-clause-log : goal.shut-requires-clause-log
-shut-requires-clause-log g c =
-    log_stays_ready c.take.ensures.part.lasts c.requires.log
+pub shut-requires : goal.shut-requires
+shut-requires g c = record {
+  exists = let exists = c.requires.exists in let s0 = c.take.ensures.slots in omega (arith, exists, s0);
+  log_disk = omega arith;
+  log =
+      log_stays_ready c.take.ensures.part.lasts c.requires.log;
+}
+
+pub take-requires : goal.take-requires
+take-requires g c = record {
+  exists = let exists = c.requires.exists in omega (arith, exists);
+  can = λ not. log_can 0 c.requires.log (omega arith) (omega arith) not;
+}
