@@ -6,76 +6,76 @@ use Rattle.paraid_plan.proofs.FilledCopyLemmas.{copy_alone, copy_powered, filled
 use Rattle.paraid_plan.proofs.RoomLemmas.{copy_read, filled_gear, filled_parked}
 use Rattle.paraid_plan.proofs.cell.read_copy.Goals as goal
 
-pub stored-requires-clause-powered : goal.stored-requires-clause-powered
-stored-requires-clause-powered g c =
-    let m = c.args.m.now in
-    let low = filled_low m c.args.r c.args.d (sym c.requires.filled ∙ c.if-not-filled.false) in
-    let parity = c.soft_parity-parity.ensures.below in
-    let to = c.to-to.ensures in
-    copy_powered m _ c.soft_parity-parity.result c.requires.in_range low (subst (λ (z : ℕ). c.soft_parity-parity.result < z) to parity)
+pub soft_of-s-requires : goal.soft_of-s-requires
+soft_of-s-requires g c = record {
+  gear =
+      let m = c.args.m.now in
+      let low = filled_low m c.args.r c.args.d (sym c.requires.filled ∙ c.if-not-filled.false) in
+      subst (IsGear m.setup.geometry) (sym c.to-to.ensures) (filled_gear m _ c.requires.in_range low);
+  parked =
+      let m = c.args.m.now in
+      let at = filled_parked m c.args.r c.args.d (sym c.requires.filled ∙ c.if-not-filled.false) in
+      subst (λ (z : ℕ). z ≤ c.args.d) (sym c.to-to.ensures) at;
+  disk_in = c.requires.disk;
+  row_in = c.requires.row;
+}
 
-pub stored-requires-clause-not_out : goal.stored-requires-clause-not_out
-stored-requires-clause-not_out g c is =
-    let m = c.args.m.now in
-    let low = filled_low m c.args.r c.args.d (sym c.requires.filled ∙ c.if-not-filled.false) in
-    let z : None ≡ Some c.soft_parity-parity.result = sym (copy_alone m _ c.requires.in_range low) ∙ is in cc
+pub soft_place-requires : goal.soft_place-requires
+soft_place-requires g c = record {
+  gear =
+      let m = c.args.m.now in
+      let low = filled_low m c.args.r c.args.d (sym c.requires.filled ∙ c.if-not-filled.false) in
+      subst (IsGear m.setup.geometry) (sym c.to-to.ensures) (filled_gear m _ c.requires.in_range low);
+  region =
+      let m = c.args.m.now in
+      let at = filled_parked m c.args.r c.args.d (sym c.requires.filled ∙ c.if-not-filled.false) in
+      let to = c.to-to.ensures in
+      let disk = c.requires.disk in
+      omega (arith, at, to, disk);
+  stripe_in = c.soft_of-s.ensures.stripe_in;
+}
 
-pub soft_of-s-requires-clause-gear : goal.soft_of-s-requires-clause-gear
-soft_of-s-requires-clause-gear g c =
-    let m = c.args.m.now in
-    let low = filled_low m c.args.r c.args.d (sym c.requires.filled ∙ c.if-not-filled.false) in
-    subst (IsGear m.setup.geometry) (sym c.to-to.ensures) (filled_gear m _ c.requires.in_range low)
+pub soft_parity-parity-requires : goal.soft_parity-parity-requires
+soft_parity-parity-requires g c = record {
+  gear =
+      let m = c.args.m.now in
+      let low = filled_low m c.args.r c.args.d (sym c.requires.filled ∙ c.if-not-filled.false) in
+      subst (IsGear m.setup.geometry) (sym c.to-to.ensures) (filled_gear m _ c.requires.in_range low);
+  region =
+      let m = c.args.m.now in
+      let at = filled_parked m c.args.r c.args.d (sym c.requires.filled ∙ c.if-not-filled.false) in
+      let to = c.to-to.ensures in
+      let disk = c.requires.disk in
+      omega (arith, at, to, disk);
+  stripe_in = c.soft_of-s.ensures.stripe_in;
+}
 
-pub soft_of-s-requires-clause-parked : goal.soft_of-s-requires-clause-parked
-soft_of-s-requires-clause-parked g c =
-    let m = c.args.m.now in
-    let at = filled_parked m c.args.r c.args.d (sym c.requires.filled ∙ c.if-not-filled.false) in
-    subst (λ (z : ℕ). z ≤ c.args.d) (sym c.to-to.ensures) at
-
-pub soft_place-requires-clause-gear : goal.soft_place-requires-clause-gear
-soft_place-requires-clause-gear g c =
-    let m = c.args.m.now in
-    let low = filled_low m c.args.r c.args.d (sym c.requires.filled ∙ c.if-not-filled.false) in
-    subst (IsGear m.setup.geometry) (sym c.to-to.ensures) (filled_gear m _ c.requires.in_range low)
-
-pub soft_place-requires-clause-region : goal.soft_place-requires-clause-region
-soft_place-requires-clause-region g c =
-    let m = c.args.m.now in
-    let at = filled_parked m c.args.r c.args.d (sym c.requires.filled ∙ c.if-not-filled.false) in
-    let to = c.to-to.ensures in
-    let disk = c.requires.disk in
-    omega (arith, at, to, disk)
-
-pub soft_parity-parity-requires-clause-gear : goal.soft_parity-parity-requires-clause-gear
-soft_parity-parity-requires-clause-gear g c =
-    let m = c.args.m.now in
-    let low = filled_low m c.args.r c.args.d (sym c.requires.filled ∙ c.if-not-filled.false) in
-    subst (IsGear m.setup.geometry) (sym c.to-to.ensures) (filled_gear m _ c.requires.in_range low)
-
-pub soft_parity-parity-requires-clause-region : goal.soft_parity-parity-requires-clause-region
-soft_parity-parity-requires-clause-region g c =
-    let m = c.args.m.now in
-    let at = filled_parked m c.args.r c.args.d (sym c.requires.filled ∙ c.if-not-filled.false) in
-    let to = c.to-to.ensures in
-    let disk = c.requires.disk in
-    omega (arith, at, to, disk)
-
-pub stored-requires-clause-disk : goal.stored-requires-clause-disk
-stored-requires-clause-disk g c =
-    let m = c.args.m.now in
-    let at = filled_parked m c.args.r c.args.d (sym c.requires.filled ∙ c.if-not-filled.false) in
-    let to = c.to-to.ensures in
-    let disk = c.requires.disk in
-    let below = c.soft_parity-parity.ensures.below in
-    omega (arith, at, to, disk, below)
-
-pub stored-requires-clause-place : goal.stored-requires-clause-place
-stored-requires-clause-place g c =
-    c.soft_place.ensures.in_size
-
-pub stored-requires-clause-past_log : goal.stored-requires-clause-past_log
-stored-requires-clause-past_log g c =
-    let after = c.soft_place.ensures.after_hard in omega (arith, after)
+pub stored-requires : goal.stored-requires
+stored-requires g c = record {
+  serves = c.requires.serves;
+  in_range = c.requires.in_range;
+  disk =
+      let m = c.args.m.now in
+      let at = filled_parked m c.args.r c.args.d (sym c.requires.filled ∙ c.if-not-filled.false) in
+      let to = c.to-to.ensures in
+      let disk = c.requires.disk in
+      let below = c.soft_parity-parity.ensures.below in
+      omega (arith, at, to, disk, below);
+  place =
+      c.soft_place.ensures.in_size;
+  powered =
+      let m = c.args.m.now in
+      let low = filled_low m c.args.r c.args.d (sym c.requires.filled ∙ c.if-not-filled.false) in
+      let parity = c.soft_parity-parity.ensures.below in
+      let to = c.to-to.ensures in
+      copy_powered m _ c.soft_parity-parity.result c.requires.in_range low (subst (λ (z : ℕ). c.soft_parity-parity.result < z) to parity);
+  not_out = λ is.
+      let m = c.args.m.now in
+      let low = filled_low m c.args.r c.args.d (sym c.requires.filled ∙ c.if-not-filled.false) in
+      let z : None ≡ Some c.soft_parity-parity.result = sym (copy_alone m _ c.requires.in_range low) ∙ is in cc;
+  past_log =
+      let after = c.soft_place.ensures.after_hard in omega (arith, after);
+}
 
 pub returns-then-not-filled : goal.returns-then-not-filled
 returns-then-not-filled g c = record {

@@ -9,25 +9,33 @@ overflow_add-m g c =
     let small = unit_small c.args.m.now.setup.geometry c.args.m.now.gear c.soft_of-s.result.0 c.requires.in_range.gear c.soft_of-s.ensures.stripe_in in
     omega (arith, small)
 
-pub soft_of-s-requires-clause-gear : goal.soft_of-s-requires-clause-gear
-soft_of-s-requires-clause-gear g c =
-    c.requires.in_range.gear
+pub soft_of-s-requires : goal.soft_of-s-requires
+soft_of-s-requires g c = record {
+  gear =
+      c.requires.in_range.gear;
+  parked = c.requires.parked;
+  disk_in = c.requires.disk;
+  row_in = c.requires.row;
+}
 
-pub soft_parity-parity-requires-clause-gear : goal.soft_parity-parity-requires-clause-gear
-soft_parity-parity-requires-clause-gear g c =
-    c.requires.in_range.gear
+pub soft_parity-parity-requires : goal.soft_parity-parity-requires
+soft_parity-parity-requires g c = record {
+  gear =
+      c.requires.in_range.gear;
+  region =
+      let parked = c.requires.parked in let low = c.requires.disk in omega (arith, parked, low);
+  stripe_in = c.soft_of-s.ensures.stripe_in;
+}
 
-pub soft_parity-parity-requires-clause-region : goal.soft_parity-parity-requires-clause-region
-soft_parity-parity-requires-clause-region g c =
-    let parked = c.requires.parked in let low = c.requires.disk in omega (arith, parked, low)
-
-pub stripe-requires-clause-stripe : goal.stripe-requires-clause-stripe
-stripe-requires-clause-stripe g c =
-    c.soft_of-s.ensures.stripe_in
-
-pub stripe-requires-clause-disk : goal.stripe-requires-clause-disk
-stripe-requires-clause-disk g c =
-    c.soft_parity-parity.ensures.below
+pub stripe-requires : goal.stripe-requires
+stripe-requires g c = record {
+  serves = c.requires.serves;
+  in_range = c.requires.in_range;
+  stripe =
+      c.soft_of-s.ensures.stripe_in;
+  disk =
+      c.soft_parity-parity.ensures.below;
+}
 
 pub returns-then-not-is_written : goal.returns-then-not-is_written
 returns-then-not-is_written g c = record {

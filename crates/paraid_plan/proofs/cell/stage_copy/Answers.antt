@@ -5,45 +5,49 @@ use Rattle.paraid_plan.proofs.RoomLemmas.{filled_gear, filled_parked}
 use Rattle.paraid_plan.proofs.cell.stage_copy.Goals as goal
 use Rattle.paraid_plan.proofs.DeskLemmas.{copy_both, copy_none}
 
-pub soft_of-s-requires-clause-gear : goal.soft_of-s-requires-clause-gear
-soft_of-s-requires-clause-gear g c =
-    let m = c.args.m.now in
-    let low = filled_low m c.args.r c.args.d (sym c.requires.filled ∙ c.if-not-filled.false) in
-    subst (IsGear m.setup.geometry) (sym c.to-to.ensures) (filled_gear m _ c.requires.in_range low)
+pub soft_of-s-requires : goal.soft_of-s-requires
+soft_of-s-requires g c = record {
+  gear =
+      let m = c.args.m.now in
+      let low = filled_low m c.args.r c.args.d (sym c.requires.filled ∙ c.if-not-filled.false) in
+      subst (IsGear m.setup.geometry) (sym c.to-to.ensures) (filled_gear m _ c.requires.in_range low);
+  parked =
+      let m = c.args.m.now in
+      let at = filled_parked m c.args.r c.args.d (sym c.requires.filled ∙ c.if-not-filled.false) in
+      subst (λ (z : ℕ). z ≤ c.args.d) (sym c.to-to.ensures) at;
+  disk_in = c.requires.disk;
+  row_in = c.requires.row;
+}
 
-pub soft_of-s-requires-clause-parked : goal.soft_of-s-requires-clause-parked
-soft_of-s-requires-clause-parked g c =
-    let m = c.args.m.now in
-    let at = filled_parked m c.args.r c.args.d (sym c.requires.filled ∙ c.if-not-filled.false) in
-    subst (λ (z : ℕ). z ≤ c.args.d) (sym c.to-to.ensures) at
+pub soft_place-place-requires : goal.soft_place-place-requires
+soft_place-place-requires g c = record {
+  gear =
+      let m = c.args.m.now in
+      let low = filled_low m c.args.r c.args.d (sym c.requires.filled ∙ c.if-not-filled.false) in
+      subst (IsGear m.setup.geometry) (sym c.to-to.ensures) (filled_gear m _ c.requires.in_range low);
+  region =
+      let m = c.args.m.now in
+      let at = filled_parked m c.args.r c.args.d (sym c.requires.filled ∙ c.if-not-filled.false) in
+      let to = c.to-to.ensures in
+      let disk = c.requires.disk in
+      omega (arith, at, to, disk);
+  stripe_in = c.soft_of-s.ensures.stripe_in;
+}
 
-pub soft_place-place-requires-clause-gear : goal.soft_place-place-requires-clause-gear
-soft_place-place-requires-clause-gear g c =
-    let m = c.args.m.now in
-    let low = filled_low m c.args.r c.args.d (sym c.requires.filled ∙ c.if-not-filled.false) in
-    subst (IsGear m.setup.geometry) (sym c.to-to.ensures) (filled_gear m _ c.requires.in_range low)
-
-pub soft_place-place-requires-clause-region : goal.soft_place-place-requires-clause-region
-soft_place-place-requires-clause-region g c =
-    let m = c.args.m.now in
-    let at = filled_parked m c.args.r c.args.d (sym c.requires.filled ∙ c.if-not-filled.false) in
-    let to = c.to-to.ensures in
-    let disk = c.requires.disk in
-    omega (arith, at, to, disk)
-
-pub soft_parity-parity-requires-clause-gear : goal.soft_parity-parity-requires-clause-gear
-soft_parity-parity-requires-clause-gear g c =
-    let m = c.args.m.now in
-    let low = filled_low m c.args.r c.args.d (sym c.requires.filled ∙ c.if-not-filled.false) in
-    subst (IsGear m.setup.geometry) (sym c.to-to.ensures) (filled_gear m _ c.requires.in_range low)
-
-pub soft_parity-parity-requires-clause-region : goal.soft_parity-parity-requires-clause-region
-soft_parity-parity-requires-clause-region g c =
-    let m = c.args.m.now in
-    let at = filled_parked m c.args.r c.args.d (sym c.requires.filled ∙ c.if-not-filled.false) in
-    let to = c.to-to.ensures in
-    let disk = c.requires.disk in
-    omega (arith, at, to, disk)
+pub soft_parity-parity-requires : goal.soft_parity-parity-requires
+soft_parity-parity-requires g c = record {
+  gear =
+      let m = c.args.m.now in
+      let low = filled_low m c.args.r c.args.d (sym c.requires.filled ∙ c.if-not-filled.false) in
+      subst (IsGear m.setup.geometry) (sym c.to-to.ensures) (filled_gear m _ c.requires.in_range low);
+  region =
+      let m = c.args.m.now in
+      let at = filled_parked m c.args.r c.args.d (sym c.requires.filled ∙ c.if-not-filled.false) in
+      let to = c.to-to.ensures in
+      let disk = c.requires.disk in
+      omega (arith, at, to, disk);
+  stripe_in = c.soft_of-s.ensures.stripe_in;
+}
 
 pub stage_if-requires : goal.stage_if-requires
 stage_if-requires g c = let room = c.requires.room in omega (arith, room)

@@ -6,17 +6,19 @@ use Rattle.paraid_plan.proofs.RoomLemmas.{unit_small}
 pub stage_if-requires : goal.stage_if-requires
 stage_if-requires g c = let room = c.requires.room in omega (arith, room)
 
-pub soft_place-place-requires-clause-gear : goal.soft_place-place-requires-clause-gear
-soft_place-place-requires-clause-gear g c = c.requires.in_range.gear
+pub soft_place-place-requires : goal.soft_place-place-requires
+soft_place-place-requires g c = record {
+  gear = c.requires.in_range.gear;
+  region = let parked = c.requires.parked c.if-hard.false in let low = c.requires.disk in omega (arith, parked, low);
+  stripe_in = c.soft_of-s.ensures.stripe_in;
+}
 
-pub soft_place-place-requires-clause-region : goal.soft_place-place-requires-clause-region
-soft_place-place-requires-clause-region g c = let parked = c.requires.parked c.if-hard.false in let low = c.requires.disk in omega (arith, parked, low)
-
-pub soft_parity-parity-requires-clause-gear : goal.soft_parity-parity-requires-clause-gear
-soft_parity-parity-requires-clause-gear g c = c.requires.in_range.gear
-
-pub soft_parity-parity-requires-clause-region : goal.soft_parity-parity-requires-clause-region
-soft_parity-parity-requires-clause-region g c = let parked = c.requires.parked c.if-hard.false in let low = c.requires.disk in omega (arith, parked, low)
+pub soft_parity-parity-requires : goal.soft_parity-parity-requires
+soft_parity-parity-requires g c = record {
+  gear = c.requires.in_range.gear;
+  region = let parked = c.requires.parked c.if-hard.false in let low = c.requires.disk in omega (arith, parked, low);
+  stripe_in = c.soft_of-s.ensures.stripe_in;
+}
 
 pub overflow_add-g : goal.overflow_add-g
 overflow_add-g g c =

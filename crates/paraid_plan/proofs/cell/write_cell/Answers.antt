@@ -149,3 +149,26 @@ returns-in_err-read_copy g c =
       fails = at_err c.from_residual-in_err-read_copy.result c.in_err-read_copy.ensures.reads.fails;
       leads = g.met.P.Plan.then _ _ _ c.read_place.ensures.reads.leads c.read_copy.ensures.reads.leads;
     }
+
+pub goes_hard-hard-requires : goal.goes_hard-hard-requires
+goes_hard-hard-requires g c = record {
+  serves = c.requires.serves;
+  row = c.requires.row;
+  disk = c.requires.disk;
+}
+
+pub is_filled-filled-requires : goal.is_filled-filled-requires
+is_filled-filled-requires g c = record {
+  in_range = c.requires.in_range;
+  row = c.requires.row;
+  disk = c.requires.disk;
+}
+
+pub stage_place-requires : goal.stage_place-requires
+stage_place-requires g c = record {
+  in_range = c.requires.in_range;
+  row = c.requires.row;
+  disk = c.requires.disk;
+  parked = λ h. absurd (true≢false h);
+  room = let room = c.requires.room in omega (arith, room);
+}

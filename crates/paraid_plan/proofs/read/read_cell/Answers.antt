@@ -1,5 +1,5 @@
 use Rattle.paraid_plan.proofs.LeavesLemmas.{failed, not_ok, stays_none}
-use Rattle.std.proofs.Common.{◌∙◌, refl, subst, sym}
+use Rattle.std.proofs.Common.{◌∙◌, refl, subst, sym, arith}
 use Rattle.std.proofs.lemmas.Bool.{true≢false}
 use Rattle.paraid_base.specs.Pairs.{pairs_of}
 use Rattle.paraid_plan.specs.Desk.{sees}
@@ -43,13 +43,19 @@ keep_if-requires g c h =
     old_fits c.args.m.now (g.P.Plan.desk c.args.plan.now) c.args.r c.args.d c.args.old.now c.requires.disk c.requires.kept
     (sym c.needs_old-depends.ensures ∙ both_second c.is_changed-changed.result c.needs_old-depends.result (sym c.both.ensures ∙ h))
 
-pub add_given-requires-clause-few : goal.add_given-requires-clause-few
-add_given-requires-clause-few g c at is =
-    gives_few c.args.pairs.now.bytes c.args.m.now.setup.geometry.disks (pairs_of c.args.pairs.now) c.args.r c.args.d at c.args.given.now c.requires.disk c.requires.given is
+pub add_given-requires : goal.add_given-requires
+add_given-requires g c = record {
+  disk = let high = c.args.m.now.setup.geometry.disks_high in let low = c.requires.disk in omega (arith, high, low);
+  few = λ at is.
+      gives_few c.args.pairs.now.bytes c.args.m.now.setup.geometry.disks (pairs_of c.args.pairs.now) c.args.r c.args.d at c.args.given.now c.requires.disk c.requires.given is;
+}
 
-pub add_part-requires-clause-few : goal.add_part-requires-clause-few
-add_part-requires-clause-few g c at is =
-    gives_few c.args.pairs.now.bytes c.args.m.now.setup.geometry.disks (pairs_of c.args.pairs.now) c.args.r c.args.d at c.args.given.now c.requires.disk c.requires.given is
+pub add_part-requires : goal.add_part-requires
+add_part-requires g c = record {
+  disk = let high = c.args.m.now.setup.geometry.disks_high in let low = c.requires.disk in omega (arith, high, low);
+  few = λ at is.
+      gives_few c.args.pairs.now.bytes c.args.m.now.setup.geometry.disks (pairs_of c.args.pairs.now) c.args.r c.args.d at c.args.given.now c.requires.disk c.requires.given is;
+}
 
 pub returns-in_err-value : goal.returns-in_err-value
 returns-in_err-value g c =

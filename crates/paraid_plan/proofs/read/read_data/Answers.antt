@@ -9,17 +9,16 @@ use Rattle.paraid_plan.specs.RowWrites.{parity_part}
 use Rattle.paraid_image.specs.Value.{value}
 use Rattle.paraid_plan.proofs.read.read_data.Goals as goal
 
-pub read_cell-requires-clause-serves : goal.read_cell-requires-clause-serves
-read_cell-requires-clause-serves g c = c.requires.serves
-
-pub read_cell-requires-clause-in_range : goal.read_cell-requires-clause-in_range
-read_cell-requires-clause-in_range g c = c.requires.in_range
-
-pub read_cell-requires-clause-row : goal.read_cell-requires-clause-row
-read_cell-requires-clause-row g c = c.requires.row
-
-pub read_cell-requires-clause-disk : goal.read_cell-requires-clause-disk
-read_cell-requires-clause-disk g c = c.requires.disk
+pub read_cell-requires : goal.read_cell-requires
+read_cell-requires g c = record {
+  serves = c.requires.serves;
+  in_range = c.requires.in_range;
+  row = c.requires.row;
+  disk = c.requires.disk;
+  parity = c.requires.parity;
+  given = c.requires.given;
+  kept = c.requires.kept;
+}
 
 pub returns-then-d-p : goal.returns-then-d-p
 returns-then-d-p g c = record {

@@ -21,14 +21,17 @@ is_made_anew-anew-requires g c = record {
   row = c.requires.row;
 }
 
-pub read_cells-requires-clause-serves : goal.read_cells-requires-clause-serves
-read_cells-requires-clause-serves g c = c.requires.serves
-
-pub read_cells-requires-clause-in_range : goal.read_cells-requires-clause-in_range
-read_cells-requires-clause-in_range g c = c.requires.in_range
-
-pub read_cells-requires-clause-row : goal.read_cells-requires-clause-row
-read_cells-requires-clause-row g c = c.requires.row
+pub read_cells-requires : goal.read_cells-requires
+read_cells-requires g c = record {
+  serves = c.requires.serves;
+  in_range = c.requires.in_range;
+  row = c.requires.row;
+  parity_disk = c.requires.parity_disk;
+  empty = c.requires.empty;
+  parity = c.requires.parity;
+  given = c.requires.given;
+  kept = c.requires.kept;
+}
 
 pub returns : goal.returns
 returns g c = record {

@@ -1,11 +1,12 @@
 use Rattle.std.specs.Prelude.{◌&&◌}
-use Rattle.std.proofs.Common.{◌≡◌, ◌∙◌, ◌+◌, ℕ, ap, refl, sym, subst, arith, rules}
+use Rattle.std.proofs.Common.{◌≡◌, ◌∙◌, ◌+◌, ℕ, ap, refl, sym, subst, arith}
 use Rattle.paraid_base.specs.History.{Entry, last_of}
 use Rattle.paraid_base.specs.Pairs.{pairs_of}
 use Rattle.paraid_base.proofs.PairsLemmas.{length-pairs_of}
 use Rattle.paraid_plan.specs.RowBits.{TurnsBits, turns_cell_of, turns_in_new_row}
 use Rattle.paraid_plan.specs.RowWrites.{names_row, pairs_before, row_change}
 use Rattle.paraid_plan.proofs.GrowthLemmas.{pair_grows}
+use Rattle.paraid_plan.proofs.LeavesLemmas.{at_err, not_ok}
 use Rattle.paraid_plan.proofs.PairLemmas.{before_all, before_none, change_all, change_next, change_none, counted_few, counted_next, rows_change}
 use Rattle.paraid_plan.proofs.RowBitsLemmas.{bits_none, bits_then, rows_turn_next, rows_turn_none, writes_turn}
 use Rattle.paraid_plan.proofs.RowLemmas.{stages_none, stages_same, stages_then}
@@ -28,27 +29,31 @@ loop-at-init g c =
       leads = g.met.P.Plan.stays c.args.plan.now;
     }
 
-pub write_row_of-requires-clause-room : goal.write_row_of-requires-clause-room
-write_row_of-requires-clause-room g c =
-    let n = c.args.m.now.setup.geometry.disks in
-    let p = c.args.pairs.now in
-    let next = counted_next n p c.loop-at.at c.loop-at-test.true in
-    let most = counted_few n (pairs_before p (c.loop-at.at + 1)) (pairs_of p) in
-    let long = length-pairs_of p in
-    let few = c.loop-at.invariant.few in
-    let room = c.requires.room in
-    omega (arith, next, most, long, few, room)
-
-pub write_row_of-requires-clause-bits : goal.write_row_of-requires-clause-bits
-write_row_of-requires-clause-bits g c =
-    let n = c.args.m.now.setup.geometry.disks in
-    let p = c.args.pairs.now in
-    let next = counted_next n p c.loop-at.at c.loop-at-test.true in
-    let most = counted_few n (pairs_before p (c.loop-at.at + 1)) (pairs_of p) in
-    let long = length-pairs_of p in
-    let few = c.loop-at.invariant.changes in
-    let bits = c.requires.bits in
-    omega (arith, next, most, long, few, bits)
+pub write_row_of-requires : goal.write_row_of-requires
+write_row_of-requires g c = record {
+  serves = c.loop-at.invariant.goes_on;
+  in_range = c.requires.in_range;
+  at = c.loop-at-test.true;
+  blocks = c.requires.blocks;
+  room =
+      let n = c.args.m.now.setup.geometry.disks in
+      let p = c.args.pairs.now in
+      let next = counted_next n p c.loop-at.at c.loop-at-test.true in
+      let most = counted_few n (pairs_before p (c.loop-at.at + 1)) (pairs_of p) in
+      let long = length-pairs_of p in
+      let few = c.loop-at.invariant.few in
+      let room = c.requires.room in
+      omega (arith, next, most, long, few, room);
+  bits =
+      let n = c.args.m.now.setup.geometry.disks in
+      let p = c.args.pairs.now in
+      let next = counted_next n p c.loop-at.at c.loop-at-test.true in
+      let most = counted_few n (pairs_before p (c.loop-at.at + 1)) (pairs_of p) in
+      let long = length-pairs_of p in
+      let few = c.loop-at.invariant.changes in
+      let bits = c.requires.bits in
+      omega (arith, next, most, long, few, bits);
+}
 
 pub loop-at-preserved : goal.loop-at-preserved
 loop-at-preserved g c =
@@ -84,12 +89,12 @@ loop-at-preserved g c =
 
 pub returns-in_err-write_row_of : goal.returns-in_err-write_row_of
 returns-in_err-write_row_of g c = record {
-  writes = search rules;
-  bits = search rules;
-  few = search rules;
-  grows = search rules;
-  goes_on = search rules;
-  fails = search rules;
+  writes = not_ok _ _ c.from_residual.result c.from_residual.ensures.1;
+  bits = not_ok _ _ c.from_residual.result c.from_residual.ensures.1;
+  few = not_ok _ _ c.from_residual.result c.from_residual.ensures.1;
+  grows = not_ok _ _ c.from_residual.result c.from_residual.ensures.1;
+  goes_on = not_ok _ _ c.from_residual.result c.from_residual.ensures.1;
+  fails = at_err c.from_residual.result c.in_err-write_row_of.ensures.fails;
   leads = g.met.P.Plan.then _ _ _ c.loop-at.invariant.leads c.write_row_of.ensures.leads;
 }
 
@@ -127,7 +132,7 @@ returns g c = record {
       let p = c.args.pairs.now in
       let some = p.some in
       c.loop-at.invariant.grows tells (omega (arith, past, until, some));
-  goes_on = search rules;
-  fails = search rules;
-  leads = search rules;
+  goes_on = c.loop-at.invariant.goes_on;
+  fails = tt;
+  leads = c.loop-at.invariant.leads;
 }
