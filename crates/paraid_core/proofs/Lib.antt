@@ -18,7 +18,7 @@ pub mod ChainLemmas
 pub mod FailLemmas
 pub mod CleanLemmas
 mod BitsLemmas
-mod ErrLemmas
+pub mod ErrLemmas
 pub mod UnsyncedLemmas
 pub mod CallLemmas
 pub mod SettleLemmas

@@ -10,7 +10,7 @@ use Rattle.paraid_rack.specs.declared.call.Power.TheVariants.{Absent, Parked, Sp
 use Rattle.paraid_rack.specs.Disks.{is_present}
 use Rattle.paraid_rack.specs.Slots.{AreSlots, ChangesOneSlot, Slot}
 use Rattle.paraid_record.specs.declared.meta.Meta.{Meta}
-use Rattle.paraid_txn.specs.Losses.{OnlyLosesSlots, StaySynced}
+use Rattle.paraid_txn.specs.Losses.{IsSyncedAt, OnlyLosesSlots, StaySynced}
 use Rattle.paraid_txn.specs.Stores.{store_rack}
 use Rattle.paraid_core.specs.declared.staged.Core.{Core}
 use Rattle.paraid_core.specs.CoreInvariant.{is_copied, meta_with_lost}
@@ -58,6 +58,22 @@ module _ (old new : ℕ → Slot) (disk : ℕ) (leaves : Slot) (dirt done : Bool
 
   before : (d : ℕ) → d ≢ disk → (new d).unsynced ≡ true → (old d).unsynced ≡ true
   before d apart wet = ap (λ (s : Slot). s.unsynced) (sym (touched.others d apart)) ∙ wet
+
+  -- nothing becomes unsynced but what the call leaves so
+  pub one_dry : (leaves.unsynced ≡ true → (old disk).unsynced ≡ true) → StaySynced old new
+  one_dry keep d here wet = elim (cases_eq d disk) [
+    | inr apart ↦ inl (before d apart wet)
+    | inl is ↦ elim (cases_Bool done) [
+      | inr failed ↦ absurd (not_here failed d is here)
+      | inl did ↦ inl (ap (λ (e : ℕ). (old e).unsynced) is ∙ keep (sym (ap (λ (s : Slot). s.unsynced) (touched.done did)) ∙ ap (λ (e : ℕ). (new e).unsynced) (sym is) ∙ wet))
+    ]
+  ]
+
+  pub one_synced : leaves.unsynced ≡ false → IsSyncedAt new disk
+  one_synced dry here = elim (cases_Bool done) [
+    | inr failed ↦ absurd (not_here failed disk refl here)
+    | inl did ↦ ap (λ (s : Slot). s.unsynced) (touched.done did) ∙ dry
+  ]
 
   pub marks_written : (copied copied_then : List Bool) → IsMarkedAt copied copied_then disk → IsMarkedOrBefore old new copied copied_then
   marks_written copied copied_then marked d here wet = elim (cases_eq d disk) [

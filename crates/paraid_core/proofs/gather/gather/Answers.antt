@@ -1,4 +1,7 @@
-use Rattle.std.proofs.Common.{◌++◌, ◌≡◌, ◌≢◌, ◌∙◌, None, sym, ap, arith, inl, inr, below_more, rules}
+use Rattle.paraid_core.proofs.AfterLemmas.{handed}
+use Rattle.paraid_core.proofs.ErrLemmas.{none_done}
+use Rattle.paraid_core.proofs.LeadsLemmas.{read_can}
+use Rattle.std.proofs.Common.{◌++◌, ◌≡◌, ◌≢◌, ◌∙◌, None, sym, ap, arith, inl, inr, below_more, rules, ◌<◌}
 use Rattle.std.proofs.lemmas.Bool.{cases_eq}
 use Rattle.paraid_base.proofs.SumsLemmas.{others_none}
 use Rattle.paraid_base.specs.Soft.{soft_parity_disk}
@@ -25,8 +28,8 @@ returns-in_err-gather_one g c = record {
       let before = c.loop-disk.invariant in
       read_failed g.R.Rack.slot_count g.R.Rack.slot g.R.Rack.told (disks_of c.args.store.now) (disks_of c.loop-disk.store) _ _ c.args.store.now c.loop-disk.store c.gather_one.new.store before.read.same.disks
       c.from_residual.ensures.1 before.read c.in_err-gather_one.ensures.read;
-  below = search rules;
-  value = search rules;
+  below = handed (λ e. e < disks_of c.args.store.now) c.from_residual.result _ c.from_residual.ensures.1 (let low = c.in_err-gather_one.ensures.below in let same = c.loop-disk.invariant.read.same.disks in omega (arith, low, same));
+  value = none_done _ c.from_residual.result _ c.from_residual.ensures.1;
 }
 
 pub loop-disk-preserved : goal.loop-disk-preserved
@@ -44,8 +47,8 @@ loop-disk-preserved g c =
 
 pub returns : goal.returns
 returns g c = record {
-  read = search rules;
-  below = search rules;
+  read = c.loop-disk.invariant.read;
+  below = tt;
   value = λ f shows some e l.
       let v : View = seen_by c.args.meta.now c.args.dirty.now None f in
       let all : c.loop-disk.disk ≡ c.args.to = omega arith in
@@ -56,4 +59,23 @@ returns g c = record {
         | inr apart ↦
             c.put.ensures.others e (λ is. apart (is ∙ c.soft_parity.ensures.value)) ∙ c.loop-disk.invariant.values f shows some e (omega arith) apart ∙ sym (stripe_copy v c.args.to c.args.s e apart)
       ];
+}
+
+pub gather_one-requires : goal.gather_one-requires
+gather_one-requires g c = record {
+  in_range = c.requires.in_range;
+  gear = c.requires.gear;
+  region = c.requires.region;
+  stripe = c.requires.stripe;
+  disk = c.loop-disk-test.true;
+  rows = c.requires.rows;
+  array = c.requires.array ∙ sym c.loop-disk.invariant.read.same.disks;
+  ready = read_can g.R.Rack.slot_count g.R.Rack.slot g.R.Rack.told c.args.store.now c.loop-disk.store c.args.meta.now None (disks_of c.args.store.now) c.loop-disk.invariant.read c.requires.ready;
+}
+
+pub soft_parity-requires : goal.soft_parity-requires
+soft_parity-requires g c = record {
+  gear = c.requires.gear;
+  region = c.requires.region;
+  stripe_in = c.requires.stripe;
 }

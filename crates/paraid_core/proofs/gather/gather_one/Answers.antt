@@ -1,3 +1,5 @@
+use Rattle.paraid_txn.specs.Stores.{disks_of}
+use Rattle.paraid_view.proofs.ReadLemmas.{read_none}
 use Rattle.std.proofs.Common.{◌∙◌, None, sym, rules}
 use Rattle.paraid_base.proofs.SumsLemmas.{others_read, others_skip}
 use Rattle.paraid_base.specs.Soft.{soft_parity_disk}
@@ -10,7 +12,7 @@ use Rattle.paraid_core.proofs.gather.gather_one.Goals as goal
 
 pub returns-then-disk-parity : goal.returns-then-disk-parity
 returns-then-disk-parity g c = record {
-  read = search rules;
+  read = read_none g.R.Rack.slot_count g.R.Rack.slot g.R.Rack.told (disks_of c.args.store.now) c.args.store.now;
   below = tt;
   others = λ x apart. refl;
   here = λ f shows some apart. absurd (apart (c.if-disk-parity.true ∙ c.soft_parity-parity.ensures.value));
@@ -33,4 +35,24 @@ returns g c = record {
   others = λ x apart. c.put.ensures.others x apart;
   here = λ f shows some apart. c.put.ensures.here ∙ c.in_ok-read_copy.ensures.value f shows some;
   sums = λ f shows some sum. others_read (copies (seen_by c.args.meta.now c.args.dirty.now None f) c.args.to c.args.s) (soft_parity_disk c.args.to c.args.s) c.args.disk _ _ _ (λ is. c.if-disk-parity.false (is ∙ sym c.soft_parity-parity.ensures.value)) sum (c.in_ok-read_copy.ensures.value f shows some) c.xor_into.ensures;
+}
+
+pub soft_parity-parity-requires : goal.soft_parity-parity-requires
+soft_parity-parity-requires g c = record {
+  gear = c.requires.gear;
+  region = c.requires.region;
+  stripe_in = c.requires.stripe;
+}
+
+pub read_copy-requires : goal.read_copy-requires
+read_copy-requires g c = record {
+  in_range = c.requires.in_range;
+  gear = c.requires.gear;
+  region = c.requires.region;
+  stripe = c.requires.stripe;
+  disk = c.requires.disk;
+  apart = λ is. c.if-disk-parity.false (is ∙ sym c.soft_parity-parity.ensures.value);
+  rows = c.requires.rows;
+  array = c.requires.array;
+  ready = c.requires.ready;
 }

@@ -12,14 +12,17 @@ use Rattle.paraid_view.specs.Reads.{CanRead}
 use Rattle.paraid_core.proofs.ReadyLemmas.{some_is}
 use Rattle.paraid_core.proofs.plan.read_stripe.Goals as goal
 
-pub read_laid-requires-clause-spinning : goal.read_laid-requires-clause-spinning
-read_laid-requires-clause-spinning g c = c.requires.ready.spins c.args.e (inl c.requires.disk) (λ e. false≢true (sym c.if-is_at.false ∙ c.is_at.ensures.1 e))
-
-pub read_laid-requires-clause-within : goal.read_laid-requires-clause-within
-read_laid-requires-clause-within g c =
-    let large : disk_size c.args.meta.now.setup.geometry ≤ (g.R.Rack.slot (store_rack c.args.store.now) c.args.e).size =
-    c.requires.ready.large c.args.e (inl c.requires.disk) (λ e. false≢true (sym c.if-is_at.false ∙ c.is_at.ensures.1 e)) in
-    let k = c.soft_place-place.ensures.in_size in omega arith
+pub read_laid-requires : goal.read_laid-requires
+read_laid-requires g c = record {
+  exists = let enough = c.requires.ready.enough in let high = c.args.meta.now.setup.geometry.gears_high c.args.meta.now.gear c.requires.in_range.gear in let low = c.requires.disk in omega (arith, enough, high, low);
+  below = let array = c.requires.array in let high = c.args.meta.now.setup.geometry.gears_high c.args.meta.now.gear c.requires.in_range.gear in let low = c.requires.disk in omega (arith, array, high, low);
+  spinning = c.requires.ready.spins c.args.e (inl c.requires.disk) (λ e. false≢true (sym c.if-is_at.false ∙ c.is_at.ensures.1 e));
+  within =
+      let large : disk_size c.args.meta.now.setup.geometry ≤ (g.R.Rack.slot (store_rack c.args.store.now) c.args.e).size =
+      c.requires.ready.large c.args.e (inl c.requires.disk) (λ e. false≢true (sym c.if-is_at.false ∙ c.is_at.ensures.1 e)) in
+      let k = c.soft_place-place.ensures.in_size in omega arith;
+  past_log = let after = c.soft_place-place.ensures.after_hard in omega (arith, after);
+}
 
 pub returns-then-is_at : goal.returns-then-is_at
 returns-then-is_at g c = record {

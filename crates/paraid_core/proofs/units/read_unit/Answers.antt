@@ -9,23 +9,15 @@ use Rattle.paraid_core.specs.Units.{IsUnitNumber, rebuilt_block}
 use Rattle.paraid_core.proofs.ReadyLemmas.{some_is}
 use Rattle.paraid_core.proofs.units.read_unit.Goals as goal
 
-pub read_value-requires-clause-in_range : goal.read_value-requires-clause-in_range
-read_value-requires-clause-in_range g c = c.requires.in_range
-
-pub read_value-requires-clause-disk : goal.read_value-requires-clause-disk
-read_value-requires-clause-disk g c = c.requires.disk
-
-pub read_value-requires-clause-rows : goal.read_value-requires-clause-rows
-read_value-requires-clause-rows g c = c.requires.rows
-
-pub read_value-requires-clause-array : goal.read_value-requires-clause-array
-read_value-requires-clause-array g c = c.requires.array
-
-pub read_value-requires-clause-ready : goal.read_value-requires-clause-ready
-read_value-requires-clause-ready g c = c.requires.ready
-
-pub read_value-requires-clause-row : goal.read_value-requires-clause-row
-read_value-requires-clause-row g c = (subst (IsUnitNumber c.args.meta.now c.args.disk c.args.number) c.in-Row.is c.requires.unit).0
+pub read_value-requires : goal.read_value-requires
+read_value-requires g c = record {
+  in_range = c.requires.in_range;
+  row = (subst (IsUnitNumber c.args.meta.now c.args.disk c.args.number) c.in-Row.is c.requires.unit).0;
+  disk = c.requires.disk;
+  rows = c.requires.rows;
+  array = c.requires.array;
+  ready = c.requires.ready;
+}
 
 pub read_rest-requires-clause-in_range : goal.read_rest-requires-clause-in_range
 read_rest-requires-clause-in_range g c = c.requires.in_range
@@ -45,28 +37,22 @@ overflow_sub-disk g c = let low = (subst (IsUnitNumber c.args.meta.now c.args.di
 pub overflow_add-block : goal.overflow_add-block
 overflow_add-block g c = let low = (subst (IsUnitNumber c.args.meta.now c.args.disk c.args.number) c.in-MapBlock.is c.requires.unit).1.0 in let high = c.args.meta.now.setup.geometry.rows_high in omega (arith, low, high)
 
-pub read_laid-requires-clause-exists : goal.read_laid-requires-clause-exists
-read_laid-requires-clause-exists g c = let enough = c.requires.ready.enough in let three = c.args.meta.now.setup.geometry.disks_low in omega (arith, enough, three)
-
-pub read_laid-requires-clause-below : goal.read_laid-requires-clause-below
-read_laid-requires-clause-below g c = let array = c.requires.array in let three = c.args.meta.now.setup.geometry.disks_low in omega (arith, array, three)
-
-pub read_laid-requires-clause-spinning : goal.read_laid-requires-clause-spinning
-read_laid-requires-clause-spinning g c =
-    let m = c.args.meta.now in
-    let three = m.setup.geometry.gears_low m.gear c.requires.in_range.gear in
-    c.requires.ready.spins (1 - c.args.disk) (inl (omega (arith, three))) (λ is. let same = some_is c.args.disk (1 - c.args.disk) is in omega (arith, same))
-
-pub read_laid-requires-clause-within : goal.read_laid-requires-clause-within
-read_laid-requires-clause-within g c =
-    let m = c.args.meta.now in
-    let three = m.setup.geometry.gears_low m.gear c.requires.in_range.gear in
-    let large = c.requires.ready.large (1 - c.args.disk) (inl (omega (arith, three))) (λ is. let same = some_is c.args.disk (1 - c.args.disk) is in omega (arith, same)) in
-    let low = (subst (IsUnitNumber c.args.meta.now c.args.disk c.args.number) c.in-MapBlock.is c.requires.unit).1.0 in
-    omega (arith, large, low)
-
-pub read_laid-requires-clause-past_log : goal.read_laid-requires-clause-past_log
-read_laid-requires-clause-past_log g c = omega arith
+pub read_laid-requires : goal.read_laid-requires
+read_laid-requires g c = record {
+  exists = let enough = c.requires.ready.enough in let three = c.args.meta.now.setup.geometry.disks_low in omega (arith, enough, three);
+  below = let array = c.requires.array in let three = c.args.meta.now.setup.geometry.disks_low in omega (arith, array, three);
+  spinning =
+      let m = c.args.meta.now in
+      let three = m.setup.geometry.gears_low m.gear c.requires.in_range.gear in
+      c.requires.ready.spins (1 - c.args.disk) (inl (omega (arith, three))) (λ is. let same = some_is c.args.disk (1 - c.args.disk) is in omega (arith, same));
+  within =
+      let m = c.args.meta.now in
+      let three = m.setup.geometry.gears_low m.gear c.requires.in_range.gear in
+      let large = c.requires.ready.large (1 - c.args.disk) (inl (omega (arith, three))) (λ is. let same = some_is c.args.disk (1 - c.args.disk) is in omega (arith, same)) in
+      let low = (subst (IsUnitNumber c.args.meta.now c.args.disk c.args.number) c.in-MapBlock.is c.requires.unit).1.0 in
+      omega (arith, large, low);
+  past_log = omega arith;
+}
 
 pub returns-in-Row : goal.returns-in-Row
 returns-in-Row g c = record {

@@ -1,18 +1,18 @@
-use Rattle.std.proofs.Common.{arith, rules}
+use Rattle.std.proofs.Common.{arith, rules, refl}
 use Rattle.paraid_txn.specs.Stores.{store_rack}
 use Rattle.paraid_core.proofs.MarkLemmas.{begin_up_stands, spin_fits}
 use Rattle.paraid_core.proofs.staged.Core.begin_up.Goals as goal
 
 pub returns : goal.returns
 returns g c = record {
-  meta = search rules;
+  meta = refl;
   raised = search rules;
   others = search rules;
-  store = search rules;
-  table = search rules;
-  batch = search rules;
-  copied = search rules;
-  draft = search rules;
+  store = refl;
+  table = refl;
+  batch = refl;
+  copied = refl;
+  draft = refl;
   ready = search rules;
   stands = λ h lo.
       let q = c.requires in

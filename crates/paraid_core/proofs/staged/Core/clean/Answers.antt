@@ -17,18 +17,18 @@ use Rattle.paraid_core.proofs.staged.Core.clean.Goals as goal
 
 pub returns : goal.returns
 returns g c = record {
-  store = search rules;
-  meta = search rules;
-  copied = search rules;
+  store = refl;
+  meta = refl;
+  copied = refl;
   draft = search rules;
   staged = search rules;
   cleaned = c.clear.ensures.cells c.args.r c.args.d ∙ changed_at (is_dirty c.args.self.now.dirty) c.args.r c.args.d false c.args.r c.args.d refl refl;
-  bits = search rules;
+  bits = c.clear.ensures.cells;
   ready =
       let old = c.args.self.now in
       subst (λ (z : ℕ). AreSlotsReady (g.R.Rack.slot_count (store_rack old.store)) (g.R.Rack.slot (store_rack old.store)) (epoch_of old.store) (disks_of old.store) (named_of old.store) old.meta z c.take.new.batch) (sym c.clear.ensures.rows)
       (taken_ready _ _ _ _ _ old.meta _ old.batch c.requires.ready c.requires.serves c.take.new.batch _ c.take.ensures);
-  serves = search rules;
+  serves = c.requires.serves;
   stands = λ h lo t tells is k.
       let old = c.args.self.now in
       let m = old.meta in

@@ -1,17 +1,19 @@
-use Rattle.std.proofs.Common.{refl, rules}
-use Rattle.paraid_core.proofs.BitsLemmas.{cell_kept}
+use Rattle.paraid_record.specs.declared.meta.Meta.{Meta}
+use Rattle.paraid_core.specs.Cleaning.{CleansCell}
+use Rattle.std.proofs.Common.{◌∙◌, arith, refl, rules, sym, subst}
+use Rattle.paraid_core.proofs.BitsLemmas.{cell_cleaned, cell_kept}
 use Rattle.paraid_core.proofs.staged.Core.clean_in_room.Goals as goal
 
 pub returns-then-room-lt3 : goal.returns-then-room-lt3
 returns-then-room-lt3 g c = record {
   cleaned = c.requires.kept c.if-room-lt3.true;
   bits = cell_kept _ _ _ _ _ (c.requires.kept c.if-room-lt3.true) refl;
-  nothing = search rules;
-  store = search rules;
-  meta = search rules;
-  copied = search rules;
+  nothing = λ few. (refl, refl);
+  store = refl;
+  meta = refl;
+  copied = refl;
   draft = c.requires.no_draft;
-  staged = search rules;
+  staged = omega arith;
   ready = c.requires.ready;
   serves = c.requires.serves;
   stands = λ h lo t tells value k. k;
@@ -19,14 +21,14 @@ returns-then-room-lt3 g c = record {
 
 pub returns-then-not-cleans : goal.returns-then-not-cleans
 returns-then-not-cleans g c = record {
-  cleaned = search rules;
-  bits = search rules;
-  nothing = search rules;
-  store = search rules;
-  meta = search rules;
-  copied = search rules;
+  cleaned = sym c.cleans.ensures ∙ c.if-not-cleans.true;
+  bits = cell_kept _ _ _ _ _ (sym c.cleans.ensures ∙ c.if-not-cleans.true) refl;
+  nothing = λ few. (refl, refl);
+  store = refl;
+  meta = refl;
+  copied = refl;
   draft = c.requires.no_draft;
-  staged = search rules;
+  staged = omega arith;
   ready = c.requires.ready;
   serves = c.requires.serves;
   stands = λ h lo t tells value k. k;
@@ -35,7 +37,10 @@ returns-then-not-cleans g c = record {
 pub returns : goal.returns
 returns g c = record {
   cleaned = search rules;
-  bits = search rules;
+  bits =
+      let old = c.args.self.now in
+      let new = c.clean.new.self in
+      subst (λ (z : Meta). CleansCell z old.dirty new.dirty c.args.r c.args.d) (sym c.clean.ensures.meta) (cell_cleaned old.meta old.dirty new.dirty c.args.r c.args.d (sym c.cleans.ensures ∙ c.if-not-cleans.false) c.clean.ensures.bits);
   nothing = search rules;
   store = c.clean.ensures.store;
   meta = c.clean.ensures.meta;

@@ -1,4 +1,4 @@
-use Rattle.std.proofs.Common.{ap, rules}
+use Rattle.std.proofs.Common.{ap, rules, refl}
 use Rattle.paraid_image.specs.Out.{named_out}
 use Rattle.paraid_image.proofs.OutLemmas.{named_below}
 use Rattle.paraid_txn.specs.Stores.{store_rack}
@@ -10,11 +10,11 @@ returns g c = record {
   meta = search rules;
   cleared = search rules;
   others = search rules;
-  store = search rules;
-  table = search rules;
-  batch = search rules;
-  copied = search rules;
-  draft = search rules;
+  store = refl;
+  table = refl;
+  batch = refl;
+  copied = refl;
+  draft = refl;
   ready =
       let q = c.requires in
       let m = c.args.self.now.meta in

@@ -10,45 +10,86 @@ use Rattle.paraid_txn.specs.Losses.{AreTwoDown}
 use Rattle.paraid_txn.specs.Losses.IsOutOfCommit.{was_named}
 use Rattle.paraid_image.specs.Out.{named_out, or_else}
 use Rattle.paraid_image.specs.Sides.{Batch}
-use Rattle.paraid_core.specs.CoreInvariant.{CanServe, AreSlotsReady, lost_in, meta_with_lost}
+use Rattle.paraid_core.specs.CoreInvariant.{CanServe, AreSlotsReady, HoldsBetweenCalls, lost_in, meta_with_lost}
+use Rattle.paraid_base.specs.History.{History}
+use Rattle.paraid_core.specs.Cores.{CoreStandsFor, IsCoreHeld}
+use Rattle.paraid_core.specs.Fills.{KeepsFilled}
+use Rattle.paraid_core.specs.Steps.{IsMarkedFrom}
+use Rattle.paraid_core.proofs.UnsyncedLemmas.{gone_marked, unsynced_kept}
 use Rattle.paraid_core.proofs.AfterLemmas.{commit_lost_only, handed, lost_in_low, lost_in_was, ready_after, ready_moved, marked_setup, marked_writes, ready_next, serve_after, two_down, lost_in_is}
 use Rattle.paraid_core.specs.Cleaning.{is_cleaned}
 use Rattle.paraid_core.proofs.CleanLemmas.{cleans_marked}
-use Rattle.paraid_core.proofs.ChainLemmas.{down_marked, marked_out}
+use Rattle.paraid_core.proofs.ChainLemmas.{down_marked, marked_epoch, marked_out}
 use Rattle.paraid_core.proofs.ReadyLemmas.{IsLostOnly, some_is}
 use Rattle.paraid_core.proofs.SinceLemmas.{core_since, core_since_end}
 use Rattle.paraid_core.proofs.KindLemmas.{calls_milder, uses_transfer}
 use Rattle.paraid_core.proofs.LostMarkLemmas.{marks_commit}
 use Rattle.paraid_txn.specs.Losses.IsOutOfCommit.{is_named}
 use Rattle.paraid_core.proofs.OrderLemmas.{commit_only}
-use Rattle.paraid_rack.specs.Told.{Ran}
+use Rattle.paraid_rack.specs.Told.{Ran, CrashTriple}
 use Rattle.paraid_image.specs.Lost.{TellsLosses}
 use Rattle.paraid_core.proofs.staged.Core.commit.Given.{Over}
 use Rattle.paraid_core.proofs.staged.Core.commit.Goals as goal
 use Rattle.paraid_core.proofs.ErrLemmas.{none_done}
 use Rattle.paraid_core.proofs.staged.Core.commit.Goals.{In_ok-lose}
 
-pub returns-clause-moments : goal.returns-clause-moments
-returns-clause-moments g c h lo =
-    let old = c.args.self.now in
-    commit_moments (g.R.Rack.slot_count (store_rack old.store)) (named_of old.store) old.meta old.dirty old.batch old.copied c.requires.copies_synced h lo (epoch_of old.store) c.requires.ready.epoch_is c.requires.ready.in_range c.requires.ready.one _ _ c.commit.ensures.any_moment
+pub returns-in_err-lost : goal.returns-in_err-lost
+returns-in_err-lost g c = record {
+  draft = refl;
+  table = refl;
+  copied = refl;
+  slots = c.commit.ensures.slots;
+  ready = none_done _ c.from_residual.result _ c.from_residual.ensures.1;
+  serves = none_done _ c.from_residual.result _ c.from_residual.ensures.1;
+  serves_again = none_done _ c.from_residual.result _ c.from_residual.ensures.1;
+  setup = none_done _ c.from_residual.result _ c.from_residual.ensures.1;
+  writes = none_done _ c.from_residual.result _ c.from_residual.ensures.1;
+  meta = none_done _ c.from_residual.result _ c.from_residual.ensures.1;
+  spared = c.commit.ensures.powers;
+  still_synced = none_done _ c.from_residual.result _ c.from_residual.ensures.1;
+  unsynced = none_done _ c.from_residual.result _ c.from_residual.ensures.1;
+  two =
+      let old = c.args.self.now in
+      let slot = g.R.Rack.slot (store_rack old.store) in
+      handed (AreTwoDown (or_else (named_of old.store) (named_out old.meta.out)) slot (g.R.Rack.slot (store_rack c.commit.new.self))) c.from_residual.result _ c.from_residual.ensures.1
+      (two_down (named_of old.store) (λ x. (slot x).power) (disks_of old.store) old.meta c.requires.ready.array_is c.requires.ready.absent c.requires.ready.one slot (g.R.Rack.slot (store_rack c.commit.new.self)) _ c.in_err-lost.ensures.two);
+  tells =
+      let old = c.args.self.now in
+      let ready = c.requires.ready in
+      handed (λ two. Ran (g.R.Rack.told (store_rack c.args.self.now.store)) (g.R.Rack.told (store_rack c.commit.new.self)) (λ s cs. TellsLosses (or_else (named_of c.args.self.now.store) (named_out c.args.self.now.meta.out)) two cs)) c.from_residual.result _ c.from_residual.ensures.1
+      (c.in_err-lost.ensures.order (or_else (named_of old.store) (named_out old.meta.out)) (commit_only (named_of old.store) (λ e. (g.R.Rack.slot (store_rack old.store) e).power) (disks_of old.store) old.meta ready.array_is ready.absent ready.one));
+  calls = calls_milder _ _ (uses_transfer c.args.self.now.meta c.args.self.now.batch) _ _ c.commit.ensures.calls;
+  whole = λ h lo.
+      let old = c.args.self.now in
+      commit_whole (g.R.Rack.slot_count (store_rack old.store)) (named_of old.store) old.meta old.dirty old.batch old.copied c.requires.copies_synced h lo (epoch_of old.store) c.requires.ready.epoch_is c.requires.ready.in_range c.requires.ready.one _ _ c.commit.ensures.any_moment;
+  rest = none_done _ c.from_residual.result _ c.from_residual.ensures.1;
+  marks = none_done _ c.from_residual.result _ c.from_residual.ensures.1;
+  epoch = none_done _ c.from_residual.result _ c.from_residual.ensures.1;
+  cleans_less = none_done _ c.from_residual.result _ c.from_residual.ensures.1;
+  nothing = none_done _ c.from_residual.result _ c.from_residual.ensures.1;
+  named = none_done _ c.from_residual.result _ c.from_residual.ensures.1;
+  alone = none_done _ c.from_residual.result _ c.from_residual.ensures.1;
+  down = none_done _ c.from_residual.result _ c.from_residual.ensures.1;
+  moments = λ h lo.
+      let old = c.args.self.now in
+      commit_moments (g.R.Rack.slot_count (store_rack old.store)) (named_of old.store) old.meta old.dirty old.batch old.copied c.requires.copies_synced h lo (epoch_of old.store) c.requires.ready.epoch_is c.requires.ready.in_range c.requires.ready.one _ _ c.commit.ensures.any_moment;
+  stands = none_done _ c.from_residual.result _ c.from_residual.ensures.1;
+  filled = none_done _ c.from_residual.result _ c.from_residual.ensures.1;
+  moments_since = λ absent h lo.
+      let old = c.args.self.now in
+      core_since_end g.R.Rack.slot_count g.R.Rack.slot g.R.Rack.told c.args.self.now c.requires.ready absent (g.met.R.Rack.agrees (store_rack c.args.self.now.store)) _ c.commit.ensures.calls h lo _
+      (commit_moments (g.R.Rack.slot_count (store_rack old.store)) (named_of old.store) old.meta old.dirty old.batch old.copied c.requires.copies_synced h lo (epoch_of old.store) c.requires.ready.epoch_is c.requires.ready.in_range c.requires.ready.one _ _ c.commit.ensures.any_moment);
+  since = none_done _ c.from_residual.result _ c.from_residual.ensures.1;
+  filled_since = none_done _ c.from_residual.result _ c.from_residual.ensures.1;
+  committed = none_done _ c.from_residual.result _ c.from_residual.ensures.1;
+  absent = none_done _ c.from_residual.result _ c.from_residual.ensures.1;
+}
 
-pub returns-in_err-lost-clause-moments : goal.returns-in_err-lost-clause-moments
-returns-in_err-lost-clause-moments g c h lo =
-    let old = c.args.self.now in
-    commit_moments (g.R.Rack.slot_count (store_rack old.store)) (named_of old.store) old.meta old.dirty old.batch old.copied c.requires.copies_synced h lo (epoch_of old.store) c.requires.ready.epoch_is c.requires.ready.in_range c.requires.ready.one _ _ c.commit.ensures.any_moment
-
-pub returns-in_err-lose-clause-moments : goal.returns-in_err-lose-clause-moments
-returns-in_err-lose-clause-moments g c h lo =
-    let old = c.args.self.now in
-    commit_moments (g.R.Rack.slot_count (store_rack old.store)) (named_of old.store) old.meta old.dirty old.batch old.copied c.requires.copies_synced h lo (epoch_of old.store) c.requires.ready.epoch_is c.requires.ready.in_range c.requires.ready.one _ _ c.commit.ensures.any_moment
-
-pub returns-in_err-lost-clause-two : goal.returns-in_err-lost-clause-two
-returns-in_err-lost-clause-two g c =
-    let old = c.args.self.now in
-    let slot = g.R.Rack.slot (store_rack old.store) in
-    handed (AreTwoDown (or_else (named_of old.store) (named_out old.meta.out)) slot (g.R.Rack.slot (store_rack c.commit.new.self))) c.from_residual.result _ c.from_residual.ensures.1
-    (two_down (named_of old.store) (λ x. (slot x).power) (disks_of old.store) old.meta c.requires.ready.array_is c.requires.ready.absent c.requires.ready.one slot (g.R.Rack.slot (store_rack c.commit.new.self)) _ c.in_err-lost.ensures.two)
+-- no other disk was out
+pub returns-in_err-lose : goal.returns-in_err-lose
+returns-in_err-lose g c =
+    let both = c.in_err-lose.ensures.two in
+    absurd (both.2 ((c.in_ok-lost.ensures.alone _ both.0).alone _ (is_named both.1)))
 
 module _ (g : Over) (c : In_ok-lose g) where
   abbrev m : Meta
@@ -101,302 +142,122 @@ module _ (g : Over) (c : In_ok-lose g) where
       by None e k = c.requires.ready.one x d was k
       by (Some e) at k = alone_named e x at was ∙ some_is e d k
 
-pub returns-clause-ready : goal.returns-clause-ready
-returns-clause-ready g c =
-    subst (λ (z : Batch). AreSlotsReady (g.R.Rack.slot_count (store_rack c.commit.new.self)) (then g c) (epoch_of c.commit.new.self) (disks_of c.commit.new.self) (named_of c.commit.new.self) c.lose.new.meta (length c.args.self.now.dirty) z) (sym c.clear.ensures)
-    (ready_moved _ _ (then g c) _ _ _ _ _ _ (meta_with_lost (lost g c) (record c.args.self.now.meta { epoch = epoch_of c.args.self.now.store + 1 })) _ _ [] c.commit.ensures.slots c.in_ok-lost.ensures.epoch c.commit.ensures.disks c.in_ok-lost.ensures.named (meta_is g c) (ready_then g c))
+  marked : IsMarkedFrom (record m { epoch = m.epoch + 1 }) c.lose.new.meta
+  marked = record {
+    lost = lost;
+    is = meta_is ∙ ap (λ (z : ℕ). meta_with_lost lost (record c.args.self.now.meta { epoch = z + 1 })) (sym c.requires.ready.epoch_is);
+    alone = alone;
+  }
 
-pub returns-clause-stands : goal.returns-clause-stands
-returns-clause-stands g c h lo =
-    let old = c.args.self.now in
-    commit_stands (g.R.Rack.slot_count (store_rack old.store)) (named_of old.store) old.meta old.dirty old.batch old.copied c.requires.copies_synced h lo (epoch_of old.store) c.requires.ready.epoch_is c.requires.ready.in_range c.requires.ready.one
-    _ _ (slot g c) (then g c) (g.met.R.Rack.agrees (store_rack old.store)) (g.met.R.Rack.agrees (store_rack c.commit.new.self)) (lost g c) (known g c) (λ d is. lost_in_low old.meta c.in_ok-lost.lost d is) (only g c) (alone g c)
-    c.requires.ready.absent (absent_then g c) _ _ _ _ c.commit.ensures.slots c.in_ok-lost.ensures.named (meta_is g c) c.clear.ensures c.commit.ensures.any_moment
-    c.in_ok-lost.ensures.committed
+  moments_then : (h : History) (lo : ℕ) → Ran (g.R.Rack.told (store_rack c.args.self.now.store)) (g.R.Rack.told (store_rack c.commit.new.self)) (CrashTriple (IsCoreHeld g.R.Rack.slot_count c.args.self.now h lo) (CoreStandsFor g.R.Rack.slot_count c.args.self.now h lo) (IsCoreHeld g.R.Rack.slot_count c.args.self.now h lo))
+  moments_then h lo =
+      let old = c.args.self.now in
+      commit_moments (g.R.Rack.slot_count (store_rack old.store)) (named_of old.store) old.meta old.dirty old.batch old.copied c.requires.copies_synced h lo (epoch_of old.store) c.requires.ready.epoch_is c.requires.ready.in_range c.requires.ready.one _ _ c.commit.ensures.any_moment
 
-pub returns-clause-filled : goal.returns-clause-filled
-returns-clause-filled g c h lo =
-    let old = c.args.self.now in
-    commit_filled (g.R.Rack.slot_count (store_rack old.store)) (named_of old.store) old.meta old.dirty old.batch old.copied c.requires.copies_synced h lo (epoch_of old.store) c.requires.ready.epoch_is c.requires.ready.in_range c.requires.ready.one
-    _ _ (slot g c) (then g c) (g.met.R.Rack.agrees (store_rack old.store)) (g.met.R.Rack.agrees (store_rack c.commit.new.self)) (lost g c) (known g c) (λ d is. lost_in_low old.meta c.in_ok-lost.lost d is) (only g c) (alone g c)
-    c.requires.ready.absent (absent_then g c) _ _ _ c.commit.ensures.slots c.in_ok-lost.ensures.named (meta_is g c) c.commit.ensures.any_moment
-    c.in_ok-lost.ensures.committed
+  stands_then : (h : History) (lo : ℕ) → Ran (g.R.Rack.told (store_rack c.args.self.now.store)) (g.R.Rack.told (store_rack c.commit.new.self)) (CrashTriple (IsCoreHeld g.R.Rack.slot_count c.args.self.now h lo) (CoreStandsFor g.R.Rack.slot_count c.args.self.now h lo)
+      (HoldsBetweenCalls (g.R.Rack.slot_count (store_rack c.commit.new.self)) (named_of c.commit.new.self) c.lose.new.meta c.args.self.now.dirty c.clear.new.self c.args.self.now.copied h (length h)))
+  stands_then h lo =
+      let old = c.args.self.now in
+      commit_stands (g.R.Rack.slot_count (store_rack old.store)) (named_of old.store) old.meta old.dirty old.batch old.copied c.requires.copies_synced h lo (epoch_of old.store) c.requires.ready.epoch_is c.requires.ready.in_range c.requires.ready.one
+      _ _ slot then (g.met.R.Rack.agrees (store_rack old.store)) (g.met.R.Rack.agrees (store_rack c.commit.new.self)) lost known (λ d is. lost_in_low old.meta c.in_ok-lost.lost d is) only alone
+      c.requires.ready.absent absent_then _ _ _ _ c.commit.ensures.slots c.in_ok-lost.ensures.named meta_is c.clear.ensures c.commit.ensures.any_moment
+      c.in_ok-lost.ensures.committed
 
-pub returns-clause-serves : goal.returns-clause-serves
-returns-clause-serves g c serves =
-    let old = c.args.self.now in
-    let after : Meta = record old.meta { epoch = epoch_of old.store + 1 } in
-    let low = c.requires.ready.epoch_is in
-    let epoch = c.requires.epoch in
-    let next = ready_next _ (slot g c) (epoch_of old.store) _ _ old.meta _ _ (omega arith) c.requires.ready in
-    subst (λ (z : Option ℕ). CanServe (then g c) z c.lose.new.meta) (sym c.in_ok-lost.ensures.named)
-    (subst (λ (z : Meta). CanServe (then g c) (named_out old.meta.out) z) (sym (meta_is g c))
-    (serve_after _ (slot g c) (then g c) (epoch_of old.store + 1) _ (named_out old.meta.out) after _ [] next c.in_ok-lost.lost (only g c) (alone g c) (alone g c) (λ d is. lost_in_low old.meta c.in_ok-lost.lost d is)
-    (record { spins = serves.spins; large = serves.large; stays = λ d is. is })))
+  filled_then : (h : History) (lo : ℕ) → Ran (g.R.Rack.told (store_rack c.args.self.now.store)) (g.R.Rack.told (store_rack c.commit.new.self)) (CrashTriple (IsCoreHeld g.R.Rack.slot_count c.args.self.now h lo) (CoreStandsFor g.R.Rack.slot_count c.args.self.now h lo)
+      (KeepsFilled (g.R.Rack.slot_count (store_rack c.commit.new.self)) (named_of c.commit.new.self) c.lose.new.meta c.args.self.now.dirty c.args.self.now.copied h (length h) c.lose.new.meta.fill))
+  filled_then h lo =
+      let old = c.args.self.now in
+      commit_filled (g.R.Rack.slot_count (store_rack old.store)) (named_of old.store) old.meta old.dirty old.batch old.copied c.requires.copies_synced h lo (epoch_of old.store) c.requires.ready.epoch_is c.requires.ready.in_range c.requires.ready.one
+      _ _ slot then (g.met.R.Rack.agrees (store_rack old.store)) (g.met.R.Rack.agrees (store_rack c.commit.new.self)) lost known (λ d is. lost_in_low old.meta c.in_ok-lost.lost d is) only alone
+      c.requires.ready.absent absent_then _ _ _ c.commit.ensures.slots c.in_ok-lost.ensures.named meta_is c.commit.ensures.any_moment
+      c.in_ok-lost.ensures.committed
 
-pub returns-clause-serves_again : goal.returns-clause-serves_again
-returns-clause-serves_again g c up =
-    let old = c.args.self.now in
-    let after : Meta = record old.meta { epoch = epoch_of old.store + 1 } in
-    let low = c.requires.ready.epoch_is in
-    let epoch = c.requires.epoch in
-    let next = ready_next _ (slot g c) (epoch_of old.store) _ _ old.meta _ _ (omega arith) c.requires.ready in
-    subst (λ (z : Option ℕ). CanServe (then g c) z c.lose.new.meta) (sym c.in_ok-lost.ensures.named)
-    (subst (λ (z : Meta). CanServe (then g c) (named_out old.meta.out) z) (sym (meta_is g c))
-    (serve_after _ (slot g c) (then g c) (epoch_of old.store + 1) _ (named_out old.meta.out) after _ [] next c.in_ok-lost.lost (only g c) (alone g c) (alone g c) (λ d is. lost_in_low old.meta c.in_ok-lost.lost d is)
-    (record { spins = up.spins; large = up.large; stays = λ d is. is })))
+  absent_after : (d : ℕ) → named_out c.lose.new.meta.out ≡ Some d → (named_of c.commit.new.self ≡ Some d) ⊎ (is_present (then d).power ≡ false)
+  absent_after d is = by lost refl (ap (λ (z : Meta). named_out z.out) (sym meta_is) ∙ is)
+    where
+      by : (o : Option ℕ) → lost ≡ o → named_out (meta_with_lost o (record c.args.self.now.meta { epoch = epoch_of c.args.self.now.store + 1 })).out ≡ Some d
+          → (named_of c.commit.new.self ≡ Some d) ⊎ (is_present (then d).power ≡ false)
+      by None e k = inl (c.in_ok-lost.ensures.named ∙ k)
+      by (Some x) e k = inr (ap is_present (only.gone d (e ∙ k)))
 
-pub returns-clause-setup : goal.returns-clause-setup
-returns-clause-setup g c = ap (λ (z : Meta). z.setup) (meta_is g c) ∙ marked_setup (lost g c) _
-
-pub returns-clause-writes : goal.returns-clause-writes
-returns-clause-writes g c = ap (λ (z : Meta). z.writes) (meta_is g c) ∙ marked_writes (lost g c) _
-
-pub returns-clause-down : goal.returns-clause-down
-returns-clause-down g c =
-    let old = c.args.self.now in
-    down_marked (named_of old.store) old.meta c.in_ok-lost.lost c.lose.new.meta (named_of c.commit.new.self) (slot g c) (then g c) c.requires.ready.one
-    (ap (λ (z : Meta). named_out z.out) (meta_is g c) ∙ marked_out (lost g c) old.meta _) c.in_ok-lost.ensures.lost c.in_ok-lost.ensures.named
-
-pub returns-clause-alone : goal.returns-clause-alone
-returns-clause-alone g c x d was is = known g c x d was (sym (ap (λ (z : Meta). named_out z.out) (meta_is g c) ∙ marked_out (lost g c) c.args.self.now.meta _) ∙ is)
-
-pub returns-clause-cleans_less : goal.returns-clause-cleans_less
-returns-clause-cleans_less g c r d is =
-    let old = c.args.self.now in
-    subst (λ (z : Meta). is_cleaned z old.dirty r d ≡ false) (sym (meta_is g c)) (cleans_marked (lost g c) old.meta (epoch_of old.store + 1) old.dirty r d is)
-
-pub returns-clause-meta : goal.returns-clause-meta
-returns-clause-meta g c = record {
-  lost = lost g c;
-  is = meta_is g c ∙ ap (λ (z : ℕ). meta_with_lost (lost g c) (record c.args.self.now.meta { epoch = z + 1 })) (sym c.requires.ready.epoch_is);
-  alone = alone g c;
+pub returns : goal.returns
+returns g c = record {
+  draft = refl;
+  table = refl;
+  copied = refl;
+  slots = c.commit.ensures.slots;
+  ready =
+      subst (λ (z : Batch). AreSlotsReady (g.R.Rack.slot_count (store_rack c.commit.new.self)) (then g c) (epoch_of c.commit.new.self) (disks_of c.commit.new.self) (named_of c.commit.new.self) c.lose.new.meta (length c.args.self.now.dirty) z) (sym c.clear.ensures)
+      (ready_moved _ _ (then g c) _ _ _ _ _ _ (meta_with_lost (lost g c) (record c.args.self.now.meta { epoch = epoch_of c.args.self.now.store + 1 })) _ _ [] c.commit.ensures.slots c.in_ok-lost.ensures.epoch c.commit.ensures.disks c.in_ok-lost.ensures.named (meta_is g c) (ready_then g c));
+  serves = λ serves.
+      let old = c.args.self.now in
+      let after : Meta = record old.meta { epoch = epoch_of old.store + 1 } in
+      let low = c.requires.ready.epoch_is in
+      let epoch = c.requires.epoch in
+      let next = ready_next _ (slot g c) (epoch_of old.store) _ _ old.meta _ _ (omega arith) c.requires.ready in
+      subst (λ (z : Option ℕ). CanServe (then g c) z c.lose.new.meta) (sym c.in_ok-lost.ensures.named)
+      (subst (λ (z : Meta). CanServe (then g c) (named_out old.meta.out) z) (sym (meta_is g c))
+      (serve_after _ (slot g c) (then g c) (epoch_of old.store + 1) _ (named_out old.meta.out) after _ [] next c.in_ok-lost.lost (only g c) (alone g c) (alone g c) (λ d is. lost_in_low old.meta c.in_ok-lost.lost d is)
+      (record { spins = serves.spins; large = serves.large; stays = λ d is. is })));
+  serves_again = λ up.
+      let old = c.args.self.now in
+      let after : Meta = record old.meta { epoch = epoch_of old.store + 1 } in
+      let low = c.requires.ready.epoch_is in
+      let epoch = c.requires.epoch in
+      let next = ready_next _ (slot g c) (epoch_of old.store) _ _ old.meta _ _ (omega arith) c.requires.ready in
+      subst (λ (z : Option ℕ). CanServe (then g c) z c.lose.new.meta) (sym c.in_ok-lost.ensures.named)
+      (subst (λ (z : Meta). CanServe (then g c) (named_out old.meta.out) z) (sym (meta_is g c))
+      (serve_after _ (slot g c) (then g c) (epoch_of old.store + 1) _ (named_out old.meta.out) after _ [] next c.in_ok-lost.lost (only g c) (alone g c) (alone g c) (λ d is. lost_in_low old.meta c.in_ok-lost.lost d is)
+      (record { spins = up.spins; large = up.large; stays = λ d is. is })));
+  setup = ap (λ (z : Meta). z.setup) (meta_is g c) ∙ marked_setup (lost g c) _;
+  writes = ap (λ (z : Meta). z.writes) (meta_is g c) ∙ marked_writes (lost g c) _;
+  meta = marked g c;
+  spared = c.commit.ensures.powers;
+  still_synced = c.in_ok-lost.ensures.synced;
+  unsynced =
+      let old = c.args.self.now in
+      unsynced_kept g.R.Rack.slot old (record old { store = c.commit.new.self; meta = c.lose.new.meta }) (ap (λ (z : Meta). z.setup) (meta_is g c) ∙ marked_setup (lost g c) _)
+      (gone_marked (record old.meta { epoch = old.meta.epoch + 1 }) c.lose.new.meta (marked g c)) c.commit.ensures.powers refl c.in_ok-lost.ensures.synced;
+  two = tt;
+  tells = tt;
+  calls = calls_milder _ _ (uses_transfer c.args.self.now.meta c.args.self.now.batch) _ _ c.commit.ensures.calls;
+  whole = λ h lo.
+      let old = c.args.self.now in
+      commit_whole (g.R.Rack.slot_count (store_rack old.store)) (named_of old.store) old.meta old.dirty old.batch old.copied c.requires.copies_synced h lo (epoch_of old.store) c.requires.ready.epoch_is c.requires.ready.in_range c.requires.ready.one _ _ c.commit.ensures.any_moment;
+  rest = λ h lo.
+      let old = c.args.self.now in
+      commit_rests (g.R.Rack.slot_count (store_rack old.store)) (named_of old.store) old.meta old.dirty old.batch old.copied c.requires.copies_synced h lo (epoch_of old.store) c.requires.ready.epoch_is c.requires.ready.in_range c.requires.ready.one
+      _ _ (slot g c) (then g c) (g.met.R.Rack.agrees (store_rack old.store)) (g.met.R.Rack.agrees (store_rack c.commit.new.self)) (lost g c) (known g c) (λ d is. lost_in_low old.meta c.in_ok-lost.lost d is) (only g c) (alone g c)
+      c.requires.ready.absent (absent_then g c) c.commit.ensures.any_moment c.in_ok-lost.ensures.committed;
+  marks =
+      let m = c.args.self.now.meta in
+      let low : (d : ℕ) → c.in_ok-lost.lost ≡ Some d → d < m.setup.geometry.disks = (λ d is. subst (λ (z : ℕ). d < z) (sym c.requires.ready.array_is) (c.in_ok-lost.ensures.alone d is).below) in
+      let last = epoch_of c.args.self.now.store in
+      marks_commit m c.lose.new.meta c.in_ok-lost.lost _ _ (last + 1) c.in_ok-lost.ensures.well c.in_ok-lost.ensures.lost
+      (meta_is g c ∙ ap (λ (o : Option ℕ). meta_with_lost o (record m { epoch = last + 1 })) (lost_in_is m c.in_ok-lost.lost low)) low (λ d x is k. c.in_ok-lose.ensures.alone d x is k (low d is));
+  epoch = ap (λ (z : Meta). z.epoch) (meta_is g c) ∙ marked_epoch (lost g c) _ ∙ ap (λ (n : ℕ). n + 1) (sym c.requires.ready.epoch_is);
+  cleans_less = λ r d is.
+      let old = c.args.self.now in
+      subst (λ (z : Meta). is_cleaned z old.dirty r d ≡ false) (sym (meta_is g c)) (cleans_marked (lost g c) old.meta (epoch_of old.store + 1) old.dirty r d is);
+  nothing = c.clear.ensures;
+  named = c.in_ok-lost.ensures.named;
+  alone = λ x d was is. known g c x d was (sym (ap (λ (z : Meta). named_out z.out) (meta_is g c) ∙ marked_out (lost g c) c.args.self.now.meta _) ∙ is);
+  down =
+      let old = c.args.self.now in
+      down_marked (named_of old.store) old.meta c.in_ok-lost.lost c.lose.new.meta (named_of c.commit.new.self) (slot g c) (then g c) c.requires.ready.one
+      (ap (λ (z : Meta). named_out z.out) (meta_is g c) ∙ marked_out (lost g c) old.meta _) c.in_ok-lost.ensures.lost c.in_ok-lost.ensures.named;
+  moments = moments_then g c;
+  stands = stands_then g c;
+  filled = filled_then g c;
+  moments_since = λ absent h lo. core_since_end g.R.Rack.slot_count g.R.Rack.slot g.R.Rack.told c.args.self.now c.requires.ready absent (g.met.R.Rack.agrees (store_rack c.args.self.now.store)) _ c.commit.ensures.calls h lo _ (moments_then g c h lo);
+  since = λ absent h lo. core_since g.R.Rack.slot_count g.R.Rack.slot g.R.Rack.told c.args.self.now c.requires.ready absent (g.met.R.Rack.agrees (store_rack c.args.self.now.store)) _ c.commit.ensures.calls h lo _ _ (stands_then g c h lo);
+  filled_since = λ absent h lo. core_since g.R.Rack.slot_count g.R.Rack.slot g.R.Rack.told c.args.self.now c.requires.ready absent (g.met.R.Rack.agrees (store_rack c.args.self.now.store)) _ c.commit.ensures.calls h lo _ _ (filled_then g c h lo);
+  committed = λ absent h lo.
+      let old = c.args.self.now in
+      core_since g.R.Rack.slot_count g.R.Rack.slot g.R.Rack.told old c.requires.ready absent (g.met.R.Rack.agrees (store_rack old.store)) _ c.commit.ensures.calls h lo _ _
+      (commit_marked (g.R.Rack.slot_count (store_rack old.store)) (named_of old.store) old.meta old.dirty old.batch old.copied c.requires.copies_synced h lo (epoch_of old.store) c.requires.ready.epoch_is c.requires.ready.in_range c.requires.ready.one
+      _ _ (slot g c) (then g c) (g.met.R.Rack.agrees (store_rack old.store)) (g.met.R.Rack.agrees (store_rack c.commit.new.self)) (lost g c) (known g c) (λ d is. lost_in_low old.meta c.in_ok-lost.lost d is) (only g c) (alone g c)
+      c.requires.ready.absent (absent_then g c) _ _ _ c.commit.ensures.slots c.in_ok-lost.ensures.named (meta_is g c) c.commit.ensures.any_moment
+      c.in_ok-lost.ensures.committed);
+  absent = absent_after g c;
 }
-
-pub returns-clause-moments_since : goal.returns-clause-moments_since
-returns-clause-moments_since g c absent h lo = core_since_end g.R.Rack.slot_count g.R.Rack.slot g.R.Rack.told c.args.self.now c.requires.ready absent (g.met.R.Rack.agrees (store_rack c.args.self.now.store)) _ c.commit.ensures.calls h lo _ (returns-clause-moments g c h lo)
-
-pub returns-in_err-lost-clause-moments_since : goal.returns-in_err-lost-clause-moments_since
-returns-in_err-lost-clause-moments_since g c absent h lo = core_since_end g.R.Rack.slot_count g.R.Rack.slot g.R.Rack.told c.args.self.now c.requires.ready absent (g.met.R.Rack.agrees (store_rack c.args.self.now.store)) _ c.commit.ensures.calls h lo _ (returns-in_err-lost-clause-moments g c h lo)
-
-pub returns-in_err-lose-clause-moments_since : goal.returns-in_err-lose-clause-moments_since
-returns-in_err-lose-clause-moments_since g c absent h lo = core_since_end g.R.Rack.slot_count g.R.Rack.slot g.R.Rack.told c.args.self.now c.requires.ready absent (g.met.R.Rack.agrees (store_rack c.args.self.now.store)) _ c.commit.ensures.calls h lo _ (returns-in_err-lose-clause-moments g c h lo)
-
-pub returns-clause-since : goal.returns-clause-since
-returns-clause-since g c absent h lo = core_since g.R.Rack.slot_count g.R.Rack.slot g.R.Rack.told c.args.self.now c.requires.ready absent (g.met.R.Rack.agrees (store_rack c.args.self.now.store)) _ c.commit.ensures.calls h lo _ _ (returns-clause-stands g c h lo)
-
-pub returns-clause-filled_since : goal.returns-clause-filled_since
-returns-clause-filled_since g c absent h lo = core_since g.R.Rack.slot_count g.R.Rack.slot g.R.Rack.told c.args.self.now c.requires.ready absent (g.met.R.Rack.agrees (store_rack c.args.self.now.store)) _ c.commit.ensures.calls h lo _ _ (returns-clause-filled g c h lo)
-
-pub returns-clause-committed : goal.returns-clause-committed
-returns-clause-committed g c absent h lo =
-    let old = c.args.self.now in
-    core_since g.R.Rack.slot_count g.R.Rack.slot g.R.Rack.told old c.requires.ready absent (g.met.R.Rack.agrees (store_rack old.store)) _ c.commit.ensures.calls h lo _ _
-    (commit_marked (g.R.Rack.slot_count (store_rack old.store)) (named_of old.store) old.meta old.dirty old.batch old.copied c.requires.copies_synced h lo (epoch_of old.store) c.requires.ready.epoch_is c.requires.ready.in_range c.requires.ready.one
-    _ _ (slot g c) (then g c) (g.met.R.Rack.agrees (store_rack old.store)) (g.met.R.Rack.agrees (store_rack c.commit.new.self)) (lost g c) (known g c) (λ d is. lost_in_low old.meta c.in_ok-lost.lost d is) (only g c) (alone g c)
-    c.requires.ready.absent (absent_then g c) _ _ _ c.commit.ensures.slots c.in_ok-lost.ensures.named (meta_is g c) c.commit.ensures.any_moment
-    c.in_ok-lost.ensures.committed)
-
-pub returns-clause-absent : goal.returns-clause-absent
-returns-clause-absent g c d is = by (lost g c) refl (ap (λ (z : Meta). named_out z.out) (sym (meta_is g c)) ∙ is)
-  where
-    by : (o : Option ℕ) → lost g c ≡ o → named_out (meta_with_lost o (record c.args.self.now.meta { epoch = epoch_of c.args.self.now.store + 1 })).out ≡ Some d
-        → (named_of c.commit.new.self ≡ Some d) ⊎ (is_present (then g c d).power ≡ false)
-    by None e k = inl (c.in_ok-lost.ensures.named ∙ k)
-    by (Some x) e k = inr (ap is_present ((only g c).gone d (e ∙ k)))
-
-pub returns-clause-calls : goal.returns-clause-calls
-returns-clause-calls g c = calls_milder _ _ (uses_transfer c.args.self.now.meta c.args.self.now.batch) _ _ c.commit.ensures.calls
-
-pub returns-in_err-lost-clause-calls : goal.returns-in_err-lost-clause-calls
-returns-in_err-lost-clause-calls g c = calls_milder _ _ (uses_transfer c.args.self.now.meta c.args.self.now.batch) _ _ c.commit.ensures.calls
-
-pub returns-in_err-lose-clause-calls : goal.returns-in_err-lose-clause-calls
-returns-in_err-lose-clause-calls g c = calls_milder _ _ (uses_transfer c.args.self.now.meta c.args.self.now.batch) _ _ c.commit.ensures.calls
-
-pub returns-clause-whole : goal.returns-clause-whole
-returns-clause-whole g c h lo =
-    let old = c.args.self.now in
-    commit_whole (g.R.Rack.slot_count (store_rack old.store)) (named_of old.store) old.meta old.dirty old.batch old.copied c.requires.copies_synced h lo (epoch_of old.store) c.requires.ready.epoch_is c.requires.ready.in_range c.requires.ready.one _ _ c.commit.ensures.any_moment
-
-pub returns-in_err-lost-clause-whole : goal.returns-in_err-lost-clause-whole
-returns-in_err-lost-clause-whole g c h lo =
-    let old = c.args.self.now in
-    commit_whole (g.R.Rack.slot_count (store_rack old.store)) (named_of old.store) old.meta old.dirty old.batch old.copied c.requires.copies_synced h lo (epoch_of old.store) c.requires.ready.epoch_is c.requires.ready.in_range c.requires.ready.one _ _ c.commit.ensures.any_moment
-
-pub returns-in_err-lose-clause-whole : goal.returns-in_err-lose-clause-whole
-returns-in_err-lose-clause-whole g c h lo =
-    let old = c.args.self.now in
-    commit_whole (g.R.Rack.slot_count (store_rack old.store)) (named_of old.store) old.meta old.dirty old.batch old.copied c.requires.copies_synced h lo (epoch_of old.store) c.requires.ready.epoch_is c.requires.ready.in_range c.requires.ready.one _ _ c.commit.ensures.any_moment
-
-pub returns-clause-marks : goal.returns-clause-marks
-returns-clause-marks g c =
-    let m = c.args.self.now.meta in
-    let low : (d : ℕ) → c.in_ok-lost.lost ≡ Some d → d < m.setup.geometry.disks = (λ d is. subst (λ (z : ℕ). d < z) (sym c.requires.ready.array_is) (c.in_ok-lost.ensures.alone d is).below) in
-    let last = epoch_of c.args.self.now.store in
-    marks_commit m c.lose.new.meta c.in_ok-lost.lost _ _ (last + 1) c.in_ok-lost.ensures.well c.in_ok-lost.ensures.lost
-    (meta_is g c ∙ ap (λ (o : Option ℕ). meta_with_lost o (record m { epoch = last + 1 })) (lost_in_is m c.in_ok-lost.lost low)) low (λ d x is k. c.in_ok-lose.ensures.alone d x is k (low d is))
-
-pub returns-clause-rest : goal.returns-clause-rest
-returns-clause-rest g c h lo =
-    let old = c.args.self.now in
-    commit_rests (g.R.Rack.slot_count (store_rack old.store)) (named_of old.store) old.meta old.dirty old.batch old.copied c.requires.copies_synced h lo (epoch_of old.store) c.requires.ready.epoch_is c.requires.ready.in_range c.requires.ready.one
-    _ _ (slot g c) (then g c) (g.met.R.Rack.agrees (store_rack old.store)) (g.met.R.Rack.agrees (store_rack c.commit.new.self)) (lost g c) (known g c) (λ d is. lost_in_low old.meta c.in_ok-lost.lost d is) (only g c) (alone g c)
-    c.requires.ready.absent (absent_then g c) c.commit.ensures.any_moment c.in_ok-lost.ensures.committed
-
-pub returns-in_err-lost-clause-tells : goal.returns-in_err-lost-clause-tells
-returns-in_err-lost-clause-tells g c =
-    let old = c.args.self.now in
-    let ready = c.requires.ready in
-    handed (λ two. Ran (g.R.Rack.told (store_rack c.args.self.now.store)) (g.R.Rack.told (store_rack c.commit.new.self)) (λ s cs. TellsLosses (or_else (named_of c.args.self.now.store) (named_out c.args.self.now.meta.out)) two cs)) c.from_residual.result _ c.from_residual.ensures.1
-    (c.in_err-lost.ensures.order (or_else (named_of old.store) (named_out old.meta.out)) (commit_only (named_of old.store) (λ e. (g.R.Rack.slot (store_rack old.store) e).power) (disks_of old.store) old.meta ready.array_is ready.absent ready.one))
-
--- no other disk was out
-pub returns-in_err-lose-clause-tells : goal.returns-in_err-lose-clause-tells
-returns-in_err-lose-clause-tells g c =
-    let both = c.in_err-lose.ensures.two in
-    absurd (both.2 ((c.in_ok-lost.ensures.alone _ both.0).alone _ (is_named both.1)))
-
-pub returns-in_err-lost-clause-ready : goal.returns-in_err-lost-clause-ready
-returns-in_err-lost-clause-ready g c = none_done _ c.from_residual.result _ c.from_residual.ensures.1
-
-pub returns-in_err-lose-clause-ready : goal.returns-in_err-lose-clause-ready
-returns-in_err-lose-clause-ready g c = none_done _ c.from_residual-in_err-lose.result _ c.from_residual-in_err-lose.ensures.1
-
-pub returns-in_err-lost-clause-serves : goal.returns-in_err-lost-clause-serves
-returns-in_err-lost-clause-serves g c = none_done _ c.from_residual.result _ c.from_residual.ensures.1
-
-pub returns-in_err-lose-clause-serves : goal.returns-in_err-lose-clause-serves
-returns-in_err-lose-clause-serves g c = none_done _ c.from_residual-in_err-lose.result _ c.from_residual-in_err-lose.ensures.1
-
-pub returns-in_err-lost-clause-serves_again : goal.returns-in_err-lost-clause-serves_again
-returns-in_err-lost-clause-serves_again g c = none_done _ c.from_residual.result _ c.from_residual.ensures.1
-
-pub returns-in_err-lose-clause-serves_again : goal.returns-in_err-lose-clause-serves_again
-returns-in_err-lose-clause-serves_again g c = none_done _ c.from_residual-in_err-lose.result _ c.from_residual-in_err-lose.ensures.1
-
-pub returns-in_err-lost-clause-setup : goal.returns-in_err-lost-clause-setup
-returns-in_err-lost-clause-setup g c = none_done _ c.from_residual.result _ c.from_residual.ensures.1
-
-pub returns-in_err-lose-clause-setup : goal.returns-in_err-lose-clause-setup
-returns-in_err-lose-clause-setup g c = none_done _ c.from_residual-in_err-lose.result _ c.from_residual-in_err-lose.ensures.1
-
-pub returns-in_err-lost-clause-writes : goal.returns-in_err-lost-clause-writes
-returns-in_err-lost-clause-writes g c = none_done _ c.from_residual.result _ c.from_residual.ensures.1
-
-pub returns-in_err-lose-clause-writes : goal.returns-in_err-lose-clause-writes
-returns-in_err-lose-clause-writes g c = none_done _ c.from_residual-in_err-lose.result _ c.from_residual-in_err-lose.ensures.1
-
-pub returns-in_err-lost-clause-meta : goal.returns-in_err-lost-clause-meta
-returns-in_err-lost-clause-meta g c = none_done _ c.from_residual.result _ c.from_residual.ensures.1
-
-pub returns-in_err-lose-clause-meta : goal.returns-in_err-lose-clause-meta
-returns-in_err-lose-clause-meta g c = none_done _ c.from_residual-in_err-lose.result _ c.from_residual-in_err-lose.ensures.1
-
-pub returns-in_err-lost-clause-still_synced : goal.returns-in_err-lost-clause-still_synced
-returns-in_err-lost-clause-still_synced g c = none_done _ c.from_residual.result _ c.from_residual.ensures.1
-
-pub returns-in_err-lose-clause-still_synced : goal.returns-in_err-lose-clause-still_synced
-returns-in_err-lose-clause-still_synced g c = none_done _ c.from_residual-in_err-lose.result _ c.from_residual-in_err-lose.ensures.1
-
-pub returns-in_err-lost-clause-unsynced : goal.returns-in_err-lost-clause-unsynced
-returns-in_err-lost-clause-unsynced g c = none_done _ c.from_residual.result _ c.from_residual.ensures.1
-
-pub returns-in_err-lose-clause-unsynced : goal.returns-in_err-lose-clause-unsynced
-returns-in_err-lose-clause-unsynced g c = none_done _ c.from_residual-in_err-lose.result _ c.from_residual-in_err-lose.ensures.1
-
-pub returns-in_err-lost-clause-rest : goal.returns-in_err-lost-clause-rest
-returns-in_err-lost-clause-rest g c = none_done _ c.from_residual.result _ c.from_residual.ensures.1
-
-pub returns-in_err-lose-clause-rest : goal.returns-in_err-lose-clause-rest
-returns-in_err-lose-clause-rest g c = none_done _ c.from_residual-in_err-lose.result _ c.from_residual-in_err-lose.ensures.1
-
-pub returns-in_err-lost-clause-marks : goal.returns-in_err-lost-clause-marks
-returns-in_err-lost-clause-marks g c = none_done _ c.from_residual.result _ c.from_residual.ensures.1
-
-pub returns-in_err-lose-clause-marks : goal.returns-in_err-lose-clause-marks
-returns-in_err-lose-clause-marks g c = none_done _ c.from_residual-in_err-lose.result _ c.from_residual-in_err-lose.ensures.1
-
-pub returns-in_err-lost-clause-epoch : goal.returns-in_err-lost-clause-epoch
-returns-in_err-lost-clause-epoch g c = none_done _ c.from_residual.result _ c.from_residual.ensures.1
-
-pub returns-in_err-lose-clause-epoch : goal.returns-in_err-lose-clause-epoch
-returns-in_err-lose-clause-epoch g c = none_done _ c.from_residual-in_err-lose.result _ c.from_residual-in_err-lose.ensures.1
-
-pub returns-in_err-lost-clause-cleans_less : goal.returns-in_err-lost-clause-cleans_less
-returns-in_err-lost-clause-cleans_less g c = none_done _ c.from_residual.result _ c.from_residual.ensures.1
-
-pub returns-in_err-lose-clause-cleans_less : goal.returns-in_err-lose-clause-cleans_less
-returns-in_err-lose-clause-cleans_less g c = none_done _ c.from_residual-in_err-lose.result _ c.from_residual-in_err-lose.ensures.1
-
-pub returns-in_err-lost-clause-nothing : goal.returns-in_err-lost-clause-nothing
-returns-in_err-lost-clause-nothing g c = none_done _ c.from_residual.result _ c.from_residual.ensures.1
-
-pub returns-in_err-lose-clause-nothing : goal.returns-in_err-lose-clause-nothing
-returns-in_err-lose-clause-nothing g c = none_done _ c.from_residual-in_err-lose.result _ c.from_residual-in_err-lose.ensures.1
-
-pub returns-in_err-lost-clause-named : goal.returns-in_err-lost-clause-named
-returns-in_err-lost-clause-named g c = none_done _ c.from_residual.result _ c.from_residual.ensures.1
-
-pub returns-in_err-lose-clause-named : goal.returns-in_err-lose-clause-named
-returns-in_err-lose-clause-named g c = none_done _ c.from_residual-in_err-lose.result _ c.from_residual-in_err-lose.ensures.1
-
-pub returns-in_err-lost-clause-alone : goal.returns-in_err-lost-clause-alone
-returns-in_err-lost-clause-alone g c = none_done _ c.from_residual.result _ c.from_residual.ensures.1
-
-pub returns-in_err-lose-clause-alone : goal.returns-in_err-lose-clause-alone
-returns-in_err-lose-clause-alone g c = none_done _ c.from_residual-in_err-lose.result _ c.from_residual-in_err-lose.ensures.1
-
-pub returns-in_err-lost-clause-down : goal.returns-in_err-lost-clause-down
-returns-in_err-lost-clause-down g c = none_done _ c.from_residual.result _ c.from_residual.ensures.1
-
-pub returns-in_err-lose-clause-down : goal.returns-in_err-lose-clause-down
-returns-in_err-lose-clause-down g c = none_done _ c.from_residual-in_err-lose.result _ c.from_residual-in_err-lose.ensures.1
-
-pub returns-in_err-lost-clause-stands : goal.returns-in_err-lost-clause-stands
-returns-in_err-lost-clause-stands g c = none_done _ c.from_residual.result _ c.from_residual.ensures.1
-
-pub returns-in_err-lose-clause-stands : goal.returns-in_err-lose-clause-stands
-returns-in_err-lose-clause-stands g c = none_done _ c.from_residual-in_err-lose.result _ c.from_residual-in_err-lose.ensures.1
-
-pub returns-in_err-lost-clause-filled : goal.returns-in_err-lost-clause-filled
-returns-in_err-lost-clause-filled g c = none_done _ c.from_residual.result _ c.from_residual.ensures.1
-
-pub returns-in_err-lose-clause-filled : goal.returns-in_err-lose-clause-filled
-returns-in_err-lose-clause-filled g c = none_done _ c.from_residual-in_err-lose.result _ c.from_residual-in_err-lose.ensures.1
-
-pub returns-in_err-lost-clause-since : goal.returns-in_err-lost-clause-since
-returns-in_err-lost-clause-since g c = none_done _ c.from_residual.result _ c.from_residual.ensures.1
-
-pub returns-in_err-lose-clause-since : goal.returns-in_err-lose-clause-since
-returns-in_err-lose-clause-since g c = none_done _ c.from_residual-in_err-lose.result _ c.from_residual-in_err-lose.ensures.1
-
-pub returns-in_err-lost-clause-filled_since : goal.returns-in_err-lost-clause-filled_since
-returns-in_err-lost-clause-filled_since g c = none_done _ c.from_residual.result _ c.from_residual.ensures.1
-
-pub returns-in_err-lose-clause-filled_since : goal.returns-in_err-lose-clause-filled_since
-returns-in_err-lose-clause-filled_since g c = none_done _ c.from_residual-in_err-lose.result _ c.from_residual-in_err-lose.ensures.1
-
-pub returns-in_err-lost-clause-committed : goal.returns-in_err-lost-clause-committed
-returns-in_err-lost-clause-committed g c = none_done _ c.from_residual.result _ c.from_residual.ensures.1
-
-pub returns-in_err-lose-clause-committed : goal.returns-in_err-lose-clause-committed
-returns-in_err-lose-clause-committed g c = none_done _ c.from_residual-in_err-lose.result _ c.from_residual-in_err-lose.ensures.1
-
-pub returns-in_err-lost-clause-absent : goal.returns-in_err-lost-clause-absent
-returns-in_err-lost-clause-absent g c = none_done _ c.from_residual.result _ c.from_residual.ensures.1
-
-pub returns-in_err-lose-clause-absent : goal.returns-in_err-lose-clause-absent
-returns-in_err-lose-clause-absent g c = none_done _ c.from_residual-in_err-lose.result _ c.from_residual-in_err-lose.ensures.1
-
-pub returns-clause-two : goal.returns-clause-two
-returns-clause-two g c = tt
-
-pub returns-clause-tells : goal.returns-clause-tells
-returns-clause-tells g c = tt
-
--- no other disk was out
-pub returns-in_err-lose-clause-two : goal.returns-in_err-lose-clause-two
-returns-in_err-lose-clause-two g c =
-    let both = c.in_err-lose.ensures.two in
-    absurd (both.2 ((c.in_ok-lost.ensures.alone _ both.0).alone _ (is_named both.1)))

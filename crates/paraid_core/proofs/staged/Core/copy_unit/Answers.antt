@@ -10,7 +10,7 @@ use Rattle.paraid_core.proofs.StepLemmas.{held_runs_then, leaves_then, runs_then
 use Rattle.paraid_core.proofs.UnitWriteLemmas.{unit_gathered, unit_reads_held}
 use Rattle.paraid_core.proofs.KindLemmas.{calls_then, calls_whole}
 use Rattle.paraid_txn.specs.Commit.{gone_out}
-use Rattle.std.proofs.Common.{inl, None, Some, ap, refl, subst, sym, ◌≡◌}
+use Rattle.std.proofs.Common.{inl, None, Some, ap, refl, subst, sym, ◌≡◌, ◌∙◌}
 use Rattle.paraid_core.proofs.LostMarkLemmas.{marks_read, marks_then}
 use Rattle.paraid_core.proofs.OrderLemmas.{tells_unhurt}
 use Rattle.paraid_rack.specs.Told.{Ran}
@@ -20,10 +20,6 @@ use Rattle.paraid_core.proofs.AfterLemmas.{down_named, handed}
 use Rattle.paraid_image.proofs.LostLemmas.{ran_beside}
 use Rattle.paraid_core.proofs.ErrLemmas.{err_not_ok, none_done, none_done_as}
 use Rattle.paraid_core.proofs.staged.Core.copy_unit.Goals as goal
-
-pub write_unit-requires-clause-ready : goal.write_unit-requires-clause-ready
-write_unit-requires-clause-ready g c =
-    (gathered_leaves g.R.Rack.slot_count g.R.Rack.slot g.R.Rack.told c.args.self.now c.requires.ready c.read_unit.new.store c.in_default.ensures.read c.requires.serves.stays).ready
 
 pub returns-in_default : goal.returns-in_default
 returns-in_default g c = record {
@@ -76,17 +72,17 @@ returns-in_default g c = record {
       (c.write_unit.ensures.moments h lo);
 }
 
-pub write_unit-requires-clause-fresh : goal.write_unit-requires-clause-fresh
-write_unit-requires-clause-fresh g c = c.requires.fresh
-
-pub write_unit-requires-clause-unit : goal.write_unit-requires-clause-unit
-write_unit-requires-clause-unit g c = c.requires.unit
-
-pub write_unit-requires-clause-from : goal.write_unit-requires-clause-from
-write_unit-requires-clause-from g c = c.requires.from
-
-pub write_unit-requires-clause-nothing : goal.write_unit-requires-clause-nothing
-write_unit-requires-clause-nothing g c = c.requires.nothing
+pub write_unit-requires : goal.write_unit-requires
+write_unit-requires g c = record {
+  ready =
+      (gathered_leaves g.R.Rack.slot_count g.R.Rack.slot g.R.Rack.told c.args.self.now c.requires.ready c.read_unit.new.store c.in_default.ensures.read c.requires.serves.stays).ready;
+  still = (gathered_leaves g.R.Rack.slot_count g.R.Rack.slot g.R.Rack.told c.args.self.now c.requires.ready c.read_unit.new.store c.in_default.ensures.read c.requires.serves.stays).still;
+  fresh = c.requires.fresh;
+  unit = c.requires.unit;
+  from = c.requires.from;
+  spins = ap (λ (s : Slot). s.power) (c.in_default.ensures.read.left.others c.args.disk (λ is. let z : None ≡ Some c.args.disk = is in cc)) ∙ c.requires.spins;
+  nothing = c.requires.nothing;
+}
 
 pub returns-in_err-done : goal.returns-in_err-done
 returns-in_err-done g c = record {

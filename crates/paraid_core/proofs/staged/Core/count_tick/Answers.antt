@@ -1,15 +1,15 @@
-use Rattle.std.proofs.Common.{arith, rules}
+use Rattle.std.proofs.Common.{arith, rules, refl}
 use Rattle.paraid_core.proofs.MarkLemmas.{tick_filled, tick_ready, tick_stands}
 use Rattle.paraid_core.proofs.staged.Core.count_tick.Goals as goal
 
 pub returns : goal.returns
 returns g c = record {
   meta = search rules;
-  store = search rules;
-  table = search rules;
-  batch = search rules;
-  copied = search rules;
-  draft = search rules;
+  store = refl;
+  table = refl;
+  batch = refl;
+  copied = refl;
+  draft = refl;
   ready =
       let fits = c.requires.ready.in_range.counters.ticks_fit in
       let is = c.saturating_add-self.ensures in

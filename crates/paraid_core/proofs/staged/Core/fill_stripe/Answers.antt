@@ -1,3 +1,5 @@
+use Rattle.paraid_base.specs.Regions.{IsGear}
+use Rattle.paraid_base.specs.Soft.{stripe_count}
 use Rattle.std.specs.Prelude.{ℕ, ◌+◌, ◌<◌, None}
 use Rattle.std.proofs.Common.{◌∙◌, sym, ap, subst, ◌≡◌, Some, refl}
 use Rattle.paraid_moves.specs.MoveMetas.{copied_block}
@@ -8,7 +10,7 @@ use Rattle.paraid_core.specs.declared.staged.Core.{Core}
 use Rattle.paraid_core.specs.Cores.{CoreStandsFor}
 use Rattle.paraid_core.specs.Fills.{Filled, Filling}
 use Rattle.paraid_core.proofs.AfterLemmas.{handed}
-use Rattle.paraid_core.proofs.FillLemmas.{gather_held, gather_lost_leaves, gather_lost_stands, gathered, gathered_leaves}
+use Rattle.paraid_core.proofs.FillLemmas.{gather_held, gather_lost_leaves, gather_lost_stands, gathered, gathered_leaves, can_read_whole, gear_to}
 use Rattle.paraid_core.proofs.StepLemmas.{held_runs_then, leaves_then, runs_then, two_then}
 use Rattle.paraid_txn.specs.Commit.{gone_out}
 use Rattle.paraid_core.proofs.KindLemmas.{calls_then, calls_whole}
@@ -145,4 +147,27 @@ returns-in_err-lose g c = record {
   failed = λ is. none_done_as _ c.from_residual-in_err-lose.result _ _ c.from_residual-in_err-lose.ensures.1 is;
   lost = λ is. none_done_as _ c.from_residual-in_err-lose.result _ _ c.from_residual-in_err-lose.ensures.1 is;
   moments = λ h lo. gather_held g.R.Rack.slot_count g.R.Rack.slot g.R.Rack.told c.args.self.now c.requires.ready _ c.in-Err.ensures.read.calls c.args.s h lo;
+}
+
+pub gather-requires : goal.gather-requires
+gather-requires g c = record {
+  in_range = c.requires.ready.in_range;
+  gear = subst (IsGear c.args.self.now.meta.setup.geometry) (sym c.to-to.ensures) (gear_to c.args.self.now.meta c.requires.ready.in_range c.requires.shifts);
+  region = subst (λ (z : ℕ). z < c.args.self.now.meta.setup.geometry.disks) (sym c.to-to.ensures) c.requires.region;
+  stripe = subst (λ (z : ℕ). c.args.s < stripe_count c.args.self.now.meta.setup.geometry.disks c.args.self.now.meta.setup.geometry.rows z) (sym c.to-to.ensures) c.requires.stripe;
+  rows = c.requires.ready.rows_are;
+  array = c.requires.ready.array_is;
+  ready = can_read_whole g.R.Rack.slot_count g.R.Rack.slot g.R.Rack.told c.args.self.now c.requires.ready c.requires.serves c.requires.whole;
+}
+
+pub write_members-requires : goal.write_members-requires
+write_members-requires g c = record {
+  ready = (gathered_leaves g.R.Rack.slot_count g.R.Rack.slot g.R.Rack.told c.args.self.now c.requires.ready c.gather.new.store c.in_default.ensures.read c.requires.serves.stays).ready;
+  serves = (gathered_leaves g.R.Rack.slot_count g.R.Rack.slot g.R.Rack.told c.args.self.now c.requires.ready c.gather.new.store c.in_default.ensures.read c.requires.serves.stays).serves c.requires.serves;
+  whole = c.requires.whole;
+  shifts = c.requires.shifts;
+  region = c.requires.region;
+  from = c.requires.from;
+  stripe = c.requires.stripe;
+  nothing = c.requires.nothing;
 }

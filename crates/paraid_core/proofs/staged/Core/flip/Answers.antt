@@ -1,16 +1,18 @@
-use Rattle.std.proofs.Common.{rules}
+use Rattle.std.proofs.Common.{ap}
+use Rattle.paraid_moves.specs.MoveMetas.{meta_flipped_to}
+use Rattle.std.proofs.Common.{rules, refl}
 use Rattle.paraid_txn.specs.Stores.{store_rack}
 use Rattle.paraid_core.proofs.MarkLemmas.{flip_to}
 use Rattle.paraid_core.proofs.staged.Core.flip.Goals as goal
 
 pub returns : goal.returns
 returns g c = record {
-  meta = search rules;
-  store = search rules;
-  table = search rules;
-  batch = search rules;
-  copied = search rules;
-  draft = search rules;
+  meta = ap (meta_flipped_to c.args.self.now.meta) c.to-self.ensures;
+  store = refl;
+  table = refl;
+  batch = refl;
+  copied = refl;
+  draft = refl;
   ready = search rules;
   serves = search rules;
   stands = λ h lo.

@@ -1,5 +1,5 @@
 use Rattle.std.specs.Prelude.{ℕ, ◌/◌}
-use Rattle.std.proofs.Common.{◌≡◌, ◌∙◌, sym, ap, subst, arith, rules}
+use Rattle.std.proofs.Common.{◌≡◌, ◌∙◌, sym, ap, subst, arith, rules, refl}
 use Rattle.paraid_image.specs.Content.{view_by}
 use Rattle.paraid_image.specs.Spot.{View}
 use Rattle.paraid_image.specs.Standing.{contents}
@@ -21,17 +21,17 @@ use Rattle.paraid_core.proofs.staged.Core.mark_cleaned.Goals as goal
 
 pub returns : goal.returns
 returns g c = record {
-  store = search rules;
-  meta = search rules;
-  copied = search rules;
+  store = refl;
+  meta = refl;
+  copied = refl;
   draft = search rules;
   staged = search rules;
-  table = search rules;
+  table = c.clear.ensures.cells;
   ready =
       let old = c.args.self.now in
       subst (λ (z : ℕ). AreSlotsReady (g.R.Rack.slot_count (store_rack old.store)) (g.R.Rack.slot (store_rack old.store)) (epoch_of old.store) (disks_of old.store) (named_of old.store) old.meta z c.take.new.batch) (sym c.clear.ensures.rows)
       (taken_ready _ _ _ _ _ old.meta _ old.batch c.requires.ready c.requires.serves c.take.new.batch _ c.take.ensures);
-  serves = search rules;
+  serves = c.requires.serves;
   marked = λ h lo cells here.
       let old = c.args.self.now in
       let q = c.requires in

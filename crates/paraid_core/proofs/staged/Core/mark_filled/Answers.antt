@@ -1,16 +1,16 @@
-use Rattle.std.proofs.Common.{rules}
+use Rattle.std.proofs.Common.{rules, refl}
 use Rattle.paraid_txn.specs.Stores.{store_rack}
 use Rattle.paraid_core.proofs.MarkLemmas.{mark_stands}
 use Rattle.paraid_core.proofs.staged.Core.mark_filled.Goals as goal
 
 pub returns : goal.returns
 returns g c = record {
-  meta = search rules;
-  store = search rules;
-  table = search rules;
-  batch = search rules;
-  copied = search rules;
-  draft = search rules;
+  meta = refl;
+  store = refl;
+  table = refl;
+  batch = refl;
+  copied = refl;
+  draft = refl;
   ready = search rules;
   serves = search rules;
   stands = λ h lo.

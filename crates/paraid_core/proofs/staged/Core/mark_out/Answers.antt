@@ -1,4 +1,4 @@
-use Rattle.std.proofs.Common.{sym, subst, rules}
+use Rattle.std.proofs.Common.{sym, subst, rules, refl}
 use Rattle.paraid_base.specs.declared.state.Out.TheVariants.{Gone}
 use Rattle.paraid_base.specs.declared.state.Phase.{Phase}
 use Rattle.paraid_txn.specs.Stores.{disks_of, epoch_of, named_of, store_rack}
@@ -12,11 +12,11 @@ use Rattle.paraid_core.proofs.staged.Core.mark_out.Goals as goal
 pub returns : goal.returns
 returns g c = record {
   meta = search rules;
-  store = search rules;
-  table = search rules;
-  batch = search rules;
-  copied = search rules;
-  draft = search rules;
+  store = refl;
+  table = refl;
+  batch = refl;
+  copied = refl;
+  draft = refl;
   ready =
       let q = c.requires in
       let old = c.args.self.now in

@@ -1,4 +1,4 @@
-use Rattle.std.proofs.Common.{rules}
+use Rattle.std.proofs.Common.{rules, refl, rules}
 use Rattle.paraid_image.proofs.OutLemmas.{named_below}
 use Rattle.paraid_core.proofs.UnitCopyLemmas.{rebuilding_named}
 use Rattle.paraid_core.proofs.UnitMarkLemmas.{ready_rebuilt, units_mark_stands}
@@ -7,11 +7,11 @@ use Rattle.paraid_core.proofs.staged.Core.mark_rebuilt.Goals as goal
 pub returns : goal.returns
 returns g c = record {
   meta = search rules;
-  store = search rules;
-  table = search rules;
-  batch = search rules;
-  copied = search rules;
-  draft = search rules;
+  store = refl;
+  table = refl;
+  batch = refl;
+  copied = refl;
+  draft = refl;
   ready =
       let m = c.args.self.now.meta in
       let ready = c.requires.ready in

@@ -1,4 +1,4 @@
-use Rattle.std.proofs.Common.{◌≡◌, ℕ, ◌∙◌, ◌<◌, None, Some, sym, ap, subst, refl, false, inl, inr, rules}
+use Rattle.std.proofs.Common.{◌≡◌, ℕ, ◌∙◌, ◌<◌, None, Some, sym, ap, subst, refl, false, inl, inr}
 use Rattle.std.specs.Prelude.{Option, is_ok}
 use Rattle.paraid_image.specs.Out.{named_out}
 use Rattle.paraid_base.specs.Told.{HasRisen}
@@ -13,6 +13,7 @@ use Rattle.paraid_core.specs.CoreInvariant.{CanServe, HoldsBetweenCalls, lost_in
 use Rattle.paraid_core.proofs.AfterLemmas.{lost_in_there, ready_after, ready_moved, serve_after}
 use Rattle.paraid_core.proofs.CallLemmas.{call_stands}
 use Rattle.paraid_core.specs.Fills.{KeepsFilled}
+use Rattle.paraid_core.specs.Steps.{IsMarkedFrom}
 use Rattle.paraid_core.proofs.LossShiftLemmas.{call_filled, filled_failed}
 use Rattle.paraid_core.proofs.LostDiskLemmas.{keeps_failed}
 use Rattle.paraid_core.proofs.ParkLemmas.{park_done, park_held, parked_ready, parked_serves}
@@ -61,83 +62,23 @@ module _ (g : Over) (c : In_ok-lose g) where
   low_in : (d : ℕ) → lost_in old.meta (Some c.args.disk) ≡ Some d → d < old.meta.setup.geometry.disks
   low_in d is = subst (λ (e : ℕ). e < old.meta.setup.geometry.disks) (some_is c.args.disk d (sym is_lost ∙ is)) c.requires.disk
 
-pub returns-clause-meta : goal.returns-clause-meta
-returns-clause-meta g c = record { lost = Some c.args.disk; is = meta_is g c; alone = λ d x is k. alone g c x k ∙ some_is c.args.disk d is }
-
-pub returns-clause-ready : goal.returns-clause-ready
-returns-clause-ready g c =
-    let park = c.park.ensures in
-    ready_moved _ _ _ _ _ _ _ _ _ (meta_with_lost (lost_in c.args.self.now.meta (Some c.args.disk)) c.args.self.now.meta) _ _ _ park.slots park.same.epoch park.same.disks park.same.named c.in_ok-lose.ensures.marked
-    (ready_after _ _ _ _ _ _ c.args.self.now.meta _ _ c.requires.ready (Some c.args.disk) (only g c) (alone_in g c) (λ d x is k. alone_in g c d x is (c.requires.still x k)) (low_in g c))
-
-pub returns-clause-serves : goal.returns-clause-serves
-returns-clause-serves g c serves =
-    subst (λ (z : Option ℕ). CanServe (g.R.Rack.slot (store_rack c.park.new.self)) z c.lose.new.meta) (sym c.park.ensures.same.named)
-    (subst (λ (z : Meta). CanServe (g.R.Rack.slot (store_rack c.park.new.self)) (named_of c.args.self.now.store) z) (sym c.in_ok-lose.ensures.marked)
-    (serve_after _ _ _ _ _ _ c.args.self.now.meta _ _ c.requires.ready (Some c.args.disk) (only g c) (alone_in g c) (λ d x is k. alone_in g c d x is (c.requires.still x k)) (low_in g c) serves))
-
-pub returns-clause-lost : goal.returns-clause-lost
-returns-clause-lost g c is =
-    let ready = c.requires.ready in
-    let old = c.args.self.now in
-    call_stands g.R.Rack.slot_count g.R.Rack.slot g.R.Rack.told old _ _ c.park.ensures.told (g.met.R.Rack.agrees (store_rack old.store)) _ _ _ _ _ _ c.park.ensures.slots c.park.ensures.same.named
-    (ap (λ (z : Meta). z.setup) (meta_is g c))
-    (λ h lo s agrees k. subst (λ (z : Meta). HoldsBetweenCalls (g.R.Rack.slot_count (store_rack old.store)) (named_of old.store) z old.dirty old.batch old.copied h lo (step (Park c.args.disk (is_ok c.park.result)) s)) (sym (meta_is g c))
-    (keeps_failed _ _ old.meta _ _ _ h lo s (Park c.args.disk (is_ok c.park.result)) ready.in_range c.requires.disk (failed g c) (λ x l gone. ready.absent x l (ap is_present (sym (agrees.power x)) ∙ gone)) (alone g c) c.requires.still k))
-
-pub returns-clause-moments : goal.returns-clause-moments
-returns-clause-moments g c h lo =
-    let q = c.requires in
-    park_held g.R.Rack.slot_count g.R.Rack.slot g.R.Rack.told c.args.self.now _ c.args.disk _ c.park.ensures.told (g.met.R.Rack.agrees (store_rack c.args.self.now.store)) q.spinning q.disk q.past_logs q.past_gear q.past_rise q.not_out h lo
-
-pub returns-clause-lost_filled : goal.returns-clause-lost_filled
-returns-clause-lost_filled g c is =
-    let ready = c.requires.ready in
-    let old = c.args.self.now in
-    call_filled g.R.Rack.slot_count g.R.Rack.slot g.R.Rack.told old _ _ c.park.ensures.told (g.met.R.Rack.agrees (store_rack old.store)) _ _ _ c.park.ensures.slots c.park.ensures.same.named
-    (ap (λ (z : Meta). z.setup) (meta_is g c))
-    (λ h lo s agrees kf. subst (λ (z : Meta). KeepsFilled (g.R.Rack.slot_count (store_rack old.store)) (named_of old.store) z old.dirty old.copied h lo z.fill (step (Park c.args.disk (is_ok c.park.result)) s)) (sym (meta_is g c))
-    (filled_failed _ _ old.meta _ _ h lo s (Park c.args.disk (is_ok c.park.result)) ready.in_range c.requires.disk (failed g c) (λ x l gone. ready.absent x l (ap is_present (sym (agrees.power x)) ∙ gone)) (alone g c) c.requires.still kf))
-
-pub returns-clause-turned : goal.returns-clause-turned
-returns-clause-turned g c =
-    let old = c.args.self.now in
-    only_turns (g.R.Rack.slot (store_rack old.store)) _ c.args.disk _ _ _ c.park.ensures.slot (ap is_present c.requires.spinning) refl refl
-
-pub returns-clause-risen : goal.returns-clause-risen
-returns-clause-risen g c d is =
-    let same : c.args.disk ≡ d = some_is c.args.disk d (ap (λ (z : Meta). named_out z.out) (sym (meta_is g c)) ∙ is) in
-    inr (subst (λ (e : ℕ). HasRisen (g.R.Rack.slot (store_rack c.args.self.now.store) e).faults (g.R.Rack.slot (store_rack c.park.new.self) e).faults) same (c.park.ensures.slot.risen (failed g c)))
-
-pub returns-clause-absent : goal.returns-clause-absent
-returns-clause-absent g c was d is =
-    let same : c.args.disk ≡ d = some_is c.args.disk d (ap (λ (z : Meta). named_out z.out) (sym (meta_is g c)) ∙ is) in
-    inr (ap is_present (ap (λ (e : ℕ). (g.R.Rack.slot (store_rack c.park.new.self) e).power) (sym same) ∙ c.park.ensures.slot.absent (failed g c)))
-
-pub returns-clause-gone : goal.returns-clause-gone
-returns-clause-gone g c is = ap (λ (z : Meta). z.out) (meta_is g c)
-
-pub returns-clause-calls : goal.returns-clause-calls
-returns-clause-calls g c =
-    one_call _ _ _ (is_ok c.park.result) c.park.ensures.told (λ t tells. may_park (now t) (g.R.Rack.slot (store_rack c.args.self.now.store)) c.args.disk (g.met.R.Rack.agrees (store_rack c.args.self.now.store) t tells) c.requires.spinning c.requires.synced)
-
-pub returns-clause-failed : goal.returns-clause-failed
-returns-clause-failed g c is = record { risen = c.park.ensures.slot.risen (failed g c); absent = c.park.ensures.slot.absent (failed g c) }
+  marked : IsMarkedFrom old.meta c.lose.new.meta
+  marked = record { lost = Some c.args.disk; is = meta_is; alone = λ d x is k. alone x k ∙ some_is c.args.disk d is }
 
 pub returns-in_err-lose : goal.returns-in_err-lose
 returns-in_err-lose g c = record {
-  slots = search rules;
-  others = search rules;
+  slots = c.park.ensures.slots;
+  others = c.park.ensures.slot.others;
   parked = λ is. none_done_as _ c.from_residual.result _ _ c.from_residual.ensures.1 is;
   meta = none_done _ c.from_residual.result _ c.from_residual.ensures.1;
   same = λ is. none_done_as _ c.from_residual.result _ _ c.from_residual.ensures.1 is;
   ready = none_done _ c.from_residual.result _ c.from_residual.ensures.1;
   serves = none_done _ c.from_residual.result _ c.from_residual.ensures.1;
-  store = search rules;
-  table = search rules;
-  batch = search rules;
-  copied = search rules;
-  draft = search rules;
+  store = c.park.ensures.same;
+  table = refl;
+  batch = refl;
+  copied = refl;
+  draft = refl;
   unsynced = none_done _ c.from_residual.result _ c.from_residual.ensures.1;
   turned =
       let old = c.args.self.now in
@@ -161,26 +102,11 @@ returns-in_err-lose g c = record {
       park_held g.R.Rack.slot_count g.R.Rack.slot g.R.Rack.told c.args.self.now _ c.args.disk _ c.park.ensures.told (g.met.R.Rack.agrees (store_rack c.args.self.now.store)) q.spinning q.disk q.past_logs q.past_gear q.past_rise q.not_out h lo;
 }
 
-pub returns-clause-same : goal.returns-clause-same
-returns-clause-same g c is = done_not_dropped _ _ is refl
-
-pub returns-clause-done : goal.returns-clause-done
-returns-clause-done g c is = done_not_dropped _ _ is refl
-
-pub returns-clause-parked : goal.returns-clause-parked
-returns-clause-parked g c is = done_not_dropped _ _ is refl
-
-pub returns-clause-two : goal.returns-clause-two
-returns-clause-two g c = tt
-
-pub returns-clause-tells : goal.returns-clause-tells
-returns-clause-tells g c = tt
-
 pub returns-in_default : goal.returns-in_default
 returns-in_default g c = record {
-  slots = search rules;
-  others = search rules;
-  parked = search rules;
+  slots = c.park.ensures.slots;
+  others = c.park.ensures.slot.others;
+  parked = λ is. ap (λ (s : Slot). s.power) (c.park.ensures.slot.done (ap is_ok c.in_default.is));
   meta = record { lost = None; is = refl; alone = λ d x is. let z : None ≡ Some d = is in cc };
   same = λ is. refl;
   ready =
@@ -192,11 +118,11 @@ returns-in_default g c = record {
       let q = c.requires in
       subst (λ (z : Option ℕ). CanServe (g.R.Rack.slot (store_rack c.park.new.self)) z c.args.self.now.meta) (sym c.park.ensures.same.named)
       (parked_serves (g.R.Rack.slot_count (store_rack c.args.self.now.store)) (g.R.Rack.slot (store_rack c.args.self.now.store)) _ 0 0 _ _ 0 c.args.self.now.batch c.args.disk c.park.ensures.slot.others q.past_gear q.past_rise q.not_out serves);
-  store = search rules;
-  table = search rules;
-  batch = search rules;
-  copied = search rules;
-  draft = search rules;
+  store = c.park.ensures.same;
+  table = refl;
+  batch = refl;
+  copied = refl;
+  draft = refl;
   unsynced = λ was d low stays here wet. elim (cases_eq d c.args.disk) [
     | inl is ↦ absurd (false≢true (sym (ap (λ (e : ℕ). (g.R.Rack.slot (store_rack c.park.new.self) e).unsynced) is ∙ ap (λ (s : Slot). s.unsynced) (c.park.ensures.slot.done (ap is_ok c.in_default.is)) ∙ c.requires.synced) ∙ wet))
     | inr apart ↦ was d low stays (ap (λ (s : Slot). is_present s.power) (sym (c.park.ensures.slot.others d apart)) ∙ here) (ap (λ (s : Slot). s.unsynced) (sym (c.park.ensures.slot.others d apart)) ∙ wet)
@@ -226,9 +152,62 @@ returns-in_default g c = record {
       park_held g.R.Rack.slot_count g.R.Rack.slot g.R.Rack.told c.args.self.now _ c.args.disk _ c.park.ensures.told (g.met.R.Rack.agrees (store_rack c.args.self.now.store)) q.spinning q.disk q.past_logs q.past_gear q.past_rise q.not_out h lo;
 }
 
-pub returns-clause-unsynced : goal.returns-clause-unsynced
-returns-clause-unsynced g c was d low stays here wet = elim (cases_eq d c.args.disk) [
-  | inl is ↦ absurd (false≢true (sym (ap (λ (e : ℕ). is_present (g.R.Rack.slot (store_rack c.park.new.self) e).power) is ∙ ap is_present (c.park.ensures.slot.absent (failed g c))) ∙ here))
-  | inr apart ↦ was d (subst (λ (z : Meta). d < z.setup.geometry.disks) (meta_is g c) low) (λ gone. stays (gone_marked c.args.self.now.meta c.lose.new.meta (returns-clause-meta g c) d gone))
-      (ap (λ (s : Slot). is_present s.power) (sym (c.park.ensures.slot.others d apart)) ∙ here) (ap (λ (s : Slot). s.unsynced) (sym (c.park.ensures.slot.others d apart)) ∙ wet)
-]
+pub returns : goal.returns
+returns g c = record {
+  slots = c.park.ensures.slots;
+  others = c.park.ensures.slot.others;
+  parked = λ is. done_not_dropped _ _ is refl;
+  meta = marked g c;
+  same = λ is. done_not_dropped _ _ is refl;
+  ready =
+      let park = c.park.ensures in
+      ready_moved _ _ _ _ _ _ _ _ _ (meta_with_lost (lost_in c.args.self.now.meta (Some c.args.disk)) c.args.self.now.meta) _ _ _ park.slots park.same.epoch park.same.disks park.same.named c.in_ok-lose.ensures.marked
+      (ready_after _ _ _ _ _ _ c.args.self.now.meta _ _ c.requires.ready (Some c.args.disk) (only g c) (alone_in g c) (λ d x is k. alone_in g c d x is (c.requires.still x k)) (low_in g c));
+  serves = λ serves.
+      subst (λ (z : Option ℕ). CanServe (g.R.Rack.slot (store_rack c.park.new.self)) z c.lose.new.meta) (sym c.park.ensures.same.named)
+      (subst (λ (z : Meta). CanServe (g.R.Rack.slot (store_rack c.park.new.self)) (named_of c.args.self.now.store) z) (sym c.in_ok-lose.ensures.marked)
+      (serve_after _ _ _ _ _ _ c.args.self.now.meta _ _ c.requires.ready (Some c.args.disk) (only g c) (alone_in g c) (λ d x is k. alone_in g c d x is (c.requires.still x k)) (low_in g c) serves));
+  store = c.park.ensures.same;
+  table = refl;
+  batch = refl;
+  copied = refl;
+  draft = refl;
+  unsynced = λ was d low stays here wet. elim (cases_eq d c.args.disk) [
+    | inl is ↦ absurd (false≢true (sym (ap (λ (e : ℕ). is_present (g.R.Rack.slot (store_rack c.park.new.self) e).power) is ∙ ap is_present (c.park.ensures.slot.absent (failed g c))) ∙ here))
+    | inr apart ↦ was d (subst (λ (z : Meta). d < z.setup.geometry.disks) (meta_is g c) low) (λ gone. stays (gone_marked c.args.self.now.meta c.lose.new.meta (marked g c) d gone))
+        (ap (λ (s : Slot). is_present s.power) (sym (c.park.ensures.slot.others d apart)) ∙ here) (ap (λ (s : Slot). s.unsynced) (sym (c.park.ensures.slot.others d apart)) ∙ wet)
+  ];
+  turned =
+      let old = c.args.self.now in
+      only_turns (g.R.Rack.slot (store_rack old.store)) _ c.args.disk _ _ _ c.park.ensures.slot (ap is_present c.requires.spinning) refl refl;
+  risen = λ d is.
+      let same : c.args.disk ≡ d = some_is c.args.disk d (ap (λ (z : Meta). named_out z.out) (sym (meta_is g c)) ∙ is) in
+      inr (subst (λ (e : ℕ). HasRisen (g.R.Rack.slot (store_rack c.args.self.now.store) e).faults (g.R.Rack.slot (store_rack c.park.new.self) e).faults) same (c.park.ensures.slot.risen (failed g c)));
+  gone = λ is. ap (λ (z : Meta). z.out) (meta_is g c);
+  failed = λ is. record { risen = c.park.ensures.slot.risen (failed g c); absent = c.park.ensures.slot.absent (failed g c) };
+  absent = λ was d is.
+      let same : c.args.disk ≡ d = some_is c.args.disk d (ap (λ (z : Meta). named_out z.out) (sym (meta_is g c)) ∙ is) in
+      inr (ap is_present (ap (λ (e : ℕ). (g.R.Rack.slot (store_rack c.park.new.self) e).power) (sym same) ∙ c.park.ensures.slot.absent (failed g c)));
+  two = tt;
+  tells = tt;
+  calls =
+      one_call _ _ _ (is_ok c.park.result) c.park.ensures.told (λ t tells. may_park (now t) (g.R.Rack.slot (store_rack c.args.self.now.store)) c.args.disk (g.met.R.Rack.agrees (store_rack c.args.self.now.store) t tells) c.requires.spinning c.requires.synced);
+  done = λ is. done_not_dropped _ _ is refl;
+  lost = λ is.
+      let ready = c.requires.ready in
+      let old = c.args.self.now in
+      call_stands g.R.Rack.slot_count g.R.Rack.slot g.R.Rack.told old _ _ c.park.ensures.told (g.met.R.Rack.agrees (store_rack old.store)) _ _ _ _ _ _ c.park.ensures.slots c.park.ensures.same.named
+      (ap (λ (z : Meta). z.setup) (meta_is g c))
+      (λ h lo s agrees k. subst (λ (z : Meta). HoldsBetweenCalls (g.R.Rack.slot_count (store_rack old.store)) (named_of old.store) z old.dirty old.batch old.copied h lo (step (Park c.args.disk (is_ok c.park.result)) s)) (sym (meta_is g c))
+      (keeps_failed _ _ old.meta _ _ _ h lo s (Park c.args.disk (is_ok c.park.result)) ready.in_range c.requires.disk (failed g c) (λ x l gone. ready.absent x l (ap is_present (sym (agrees.power x)) ∙ gone)) (alone g c) c.requires.still k));
+  lost_filled = λ is.
+      let ready = c.requires.ready in
+      let old = c.args.self.now in
+      call_filled g.R.Rack.slot_count g.R.Rack.slot g.R.Rack.told old _ _ c.park.ensures.told (g.met.R.Rack.agrees (store_rack old.store)) _ _ _ c.park.ensures.slots c.park.ensures.same.named
+      (ap (λ (z : Meta). z.setup) (meta_is g c))
+      (λ h lo s agrees kf. subst (λ (z : Meta). KeepsFilled (g.R.Rack.slot_count (store_rack old.store)) (named_of old.store) z old.dirty old.copied h lo z.fill (step (Park c.args.disk (is_ok c.park.result)) s)) (sym (meta_is g c))
+      (filled_failed _ _ old.meta _ _ h lo s (Park c.args.disk (is_ok c.park.result)) ready.in_range c.requires.disk (failed g c) (λ x l gone. ready.absent x l (ap is_present (sym (agrees.power x)) ∙ gone)) (alone g c) c.requires.still kf));
+  moments = λ h lo.
+      let q = c.requires in
+      park_held g.R.Rack.slot_count g.R.Rack.slot g.R.Rack.told c.args.self.now _ c.args.disk _ c.park.ensures.told (g.met.R.Rack.agrees (store_rack c.args.self.now.store)) q.spinning q.disk q.past_logs q.past_gear q.past_rise q.not_out h lo;
+}

@@ -1,8 +1,9 @@
 use Rattle.std.proofs.Common.{◌≡◌, ℕ, ◌<◌, ◌*◌, ◌-◌, ◌∙◌, sym, ap, subst, length, arith, ◌+◌, Option}
-use Rattle.std.specs.Prelude.{Bool, IsSome, if◌then◌else◌, false}
+use Rattle.std.specs.Prelude.{◌≤◌, Bool, IsSome, if◌then◌else◌, true, false}
 use Rattle.paraid_base.specs.declared.block.Block.{Block}
 use Rattle.paraid_base.specs.Cells.{home_row}
-use Rattle.paraid_base.specs.History.{after_all}
+use Rattle.paraid_base.specs.History.{History, after_all}
+use Rattle.paraid_image.specs.Sides.{Batch}
 use Rattle.paraid_image.specs.Out.{named_out, or_else}
 use Rattle.paraid_rack.specs.Told.{Ran, CrashTriple, Through}
 use Rattle.paraid_record.specs.declared.meta.Meta.{Meta}
@@ -23,7 +24,7 @@ use Rattle.paraid_core.proofs.StepLemmas.{dry_both}
 use Rattle.paraid_core.proofs.KindLemmas.{calls_then, transfer_after, data_after, idle_calls, idle_then}
 use Rattle.paraid_txn.specs.Commit.{gone_out, IsOldOrNew}
 use Rattle.paraid_txn.specs.Uses.{EachCall}
-use Rattle.paraid_core.specs.Calls.{IsTransferCall, IsDataCall}
+use Rattle.paraid_core.specs.Calls.{CommitsWhole, IsTransferCall, IsDataCall}
 use Rattle.paraid_core.proofs.LostMarkLemmas.{marks_then}
 use Rattle.paraid_core.proofs.OldNewLemmas.{whole_then_reads}
 use Rattle.paraid_rack.specs.Trail.{Trail}
@@ -57,152 +58,42 @@ module _ (g : Over) (c : After-clean_in_room g) where
       (c.cleaning-room.ensures.value ∙ ap (λ (z : ℕ). cleaning old.meta old.dirty z c.home-r.result.1) c.home-r.ensures.row
       ∙ ap (λ (z : ℕ). cleaning old.meta old.dirty (home_row old.meta.setup.geometry.disks c.args.block) z) c.home-r.ensures.disk)
 
-pub returns-clause-spared : goal.returns-clause-spared
-returns-clause-spared g c =
-    subst (λ (z : g.row.R.Denot). OnlyLosesSlots (g.R.Rack.slot (core_rack c.args.self.now)) (g.R.Rack.slot z)) (sym (rack_is g c))
-    (spared_then _ _ _ c.in_ok-make_room.ensures.spared c.in_ok-read_only.ensures.spared)
+  names_then : named_of c.clean_in_room.new.self.store ≡ (if read_commits_first (meta_of c.args.self.now) (core_table c.args.self.now) (batch_of c.args.self.now) c.args.block then named_out c.args.self.now.meta.out else named_of c.args.self.now.store)
+  names_then =
+      let old = c.args.self.now in
+      let new = c.clean_in_room.new.self in
+      ap (λ (z : Store g.row.R.Denot g.R.Rack). named_of z) c.clean_in_room.ensures.store ∙ c.in_ok-read_only.ensures.named ∙ c.in_ok-make_room.ensures.names
+      ∙ ap (λ (b : Bool). if b then named_out old.meta.out else named_of old.store) (first_by old.meta old.dirty old.batch c.args.block c.home-r.result.0 c.home-r.result.1 c.cleaning-room.result c.cleaning-room.ensures.value c.home-r.ensures.row c.home-r.ensures.disk)
 
-pub returns-clause-still_synced : goal.returns-clause-still_synced
-returns-clause-still_synced g c =
-    subst (λ (z : g.row.R.Denot). StaySynced (g.R.Rack.slot (core_rack c.args.self.now)) (g.R.Rack.slot z)) (sym (rack_is g c))
-    (dry_both (g.R.Rack.slot (core_rack c.args.self.now)) (g.R.Rack.slot (core_rack c.make_room.new.self)) (g.R.Rack.slot (core_rack c.read_only.new.self)) c.in_ok-make_room.ensures.still_synced c.in_ok-read_only.ensures.still_synced c.in_ok-read_only.ensures.spared)
+  whole_then : read_commits_first (meta_of c.args.self.now) (core_table c.args.self.now) (batch_of c.args.self.now) c.args.block ≡ true → CommitsWhole g.R.Rack.slot_count g.R.Rack.told c.args.self.now c.clean_in_room.new.self
+  whole_then is h lo =
+      let old = c.args.self.now in
+      subst (λ (z : g.row.R.Denot). Ran (g.R.Rack.told (core_rack old)) (g.R.Rack.told z) (λ start calls. (k : CoreStandsFor g.R.Rack.slot_count old h lo start) → Through (IsOldOrNew start k.base (record old.meta { epoch = old.meta.epoch + 1 }) old.batch) start calls)) (sym rack_is)
+      (whole_then_reads (CoreStandsFor g.R.Rack.slot_count old h lo) (λ s k. k.base) (record old.meta { epoch = old.meta.epoch + 1 }) old.batch c.make_room.new.self.meta.setup.geometry.disks (λ s k. k.next.setup)
+      (ap (λ (z : Setup). z.geometry.disks) c.in_ok-make_room.ensures.setup) _ _ _ (c.make_room.ensures.whole (first_by c.args.self.now.meta c.args.self.now.dirty c.args.self.now.batch c.args.block c.home-r.result.0 c.home-r.result.1 c.cleaning-room.result c.cleaning-room.ensures.value c.home-r.ensures.row c.home-r.ensures.disk ∙ is) h lo) c.read_only.ensures.reads)
 
-pub returns-clause-down : goal.returns-clause-down
-returns-clause-down g c =
-    let old = c.args.self.now in
-    let mid = c.read_only.new.self in
-    let new = c.clean_in_room.new.self in
-    subst (λ (z : Store g.row.R.Denot g.R.Rack). IsDownAfter (core_down old) (or_else (named_of z) (named_out new.meta.out)) (g.R.Rack.slot (core_rack old)) (g.R.Rack.slot (store_rack z))) (sym c.clean_in_room.ensures.store)
-    (subst (λ (z : Meta). IsDownAfter (core_down old) (or_else (named_of mid.store) (named_out z.out)) (g.R.Rack.slot (core_rack old)) (g.R.Rack.slot (core_rack mid))) (sym c.clean_in_room.ensures.meta)
-    (down_both (core_down old) (core_down c.make_room.new.self) (core_down mid) _ _ _ c.in_ok-make_room.ensures.down c.in_ok-make_room.ensures.spared c.in_ok-read_only.ensures.down c.in_ok-read_only.ensures.spared))
-
-pub returns-clause-moments : goal.returns-clause-moments
-returns-clause-moments g c h lo =
-    let old = c.args.self.now in
-    let mid = c.make_room.new.self in
-    let first : Bool = commits_first (batch_of old) c.cleaning-room.result in
-    let low : ℕ = if first then length h else lo in
-    subst (λ (z : g.row.R.Denot). Ran (g.R.Rack.told (core_rack old)) (g.R.Rack.told z) (CrashTriple (IsCoreHeld g.R.Rack.slot_count old h lo) (CoreStandsFor g.R.Rack.slot_count old h lo) (IsCoreHeld g.R.Rack.slot_count old h lo))) (sym (rack_is g c))
-    (ended _ _ (IsCoreHeldSinceCommit g.R.Rack.slot_count mid h low) _ _
-    (after_raised (g.R.Rack.slot_count (core_rack old)) _ old.meta.setup.geometry.disks _ (core_down old) (named_of mid.store) (named_of old.store) old.meta old.dirty old.batch old.copied first h lo _
-    (IsCoreHeldSinceCommit g.R.Rack.slot_count mid h low) _ _ _
-    c.in_ok-make_room.ensures.slots (ap (λ (z : Setup). z.geometry.disks) c.in_ok-make_room.ensures.setup) c.in_ok-make_room.ensures.named
-    (c.in_ok-make_room.ensures.stands h lo) (c.in_ok-read_only.ensures.moments_since h low)))
-
-pub returns-clause-stands : goal.returns-clause-stands
-returns-clause-stands g c h lo =
-    let old = c.args.self.now in
-    let mid = c.make_room.new.self in
-    let late = c.read_only.new.self in
-    let new = c.clean_in_room.new.self in
-    let first : Bool = commits_first (batch_of old) c.cleaning-room.result in
-    let low : ℕ = if first then length h else lo in
-    subst (λ (z : g.row.R.Denot). Ran (g.R.Rack.told (core_rack old)) (g.R.Rack.told z) (CrashTriple (IsCoreHeld g.R.Rack.slot_count old h lo) (CoreStandsFor g.R.Rack.slot_count old h lo)
-    (CoreStandsFor g.R.Rack.slot_count new h (if read_commits_first (meta_of old) (core_table old) (batch_of old) c.args.block then length h else lo)))) (sym (rack_is g c))
-    (subst (λ (b : Bool). Ran (g.R.Rack.told (core_rack old)) (g.R.Rack.told (core_rack late)) (CrashTriple (IsCoreHeld g.R.Rack.slot_count old h lo) (CoreStandsFor g.R.Rack.slot_count old h lo)
-    (CoreStandsFor g.R.Rack.slot_count new h (if b then length h else lo)))) (first_is g c)
-    (after_raised (g.R.Rack.slot_count (core_rack old)) _ old.meta.setup.geometry.disks _ (core_down old) (named_of mid.store) (named_of old.store) old.meta old.dirty old.batch old.copied first h lo (CoreStandsFor g.R.Rack.slot_count mid h low)
-    (CoreStandsFor g.R.Rack.slot_count new h low) _ _ _
-    c.in_ok-make_room.ensures.slots (ap (λ (z : Setup). z.geometry.disks) c.in_ok-make_room.ensures.setup) c.in_ok-make_room.ensures.named
-    (c.in_ok-make_room.ensures.stands h lo)
-    (after_clean (IsCoreHeldSinceCommit g.R.Rack.slot_count mid h low) (CoreStandsFor g.R.Rack.slot_count new h low) (CoreStandsFor g.R.Rack.slot_count mid h low) (CoreStandsFor g.R.Rack.slot_count late h low) (◌≡◌ {A = Block} c.read_only.new.into (after_all h c.args.block)) _ _
-    (c.in_ok-read_only.ensures.since h low) (λ t tells a some. c.in_ok-read_only.ensures.value h low t tells a some)
-    (λ t tells v b. c.clean_in_room.ensures.stands h low t tells
-    (cell_read (g.R.Rack.slot_count (core_rack late)) (named_of late.store) late.meta late.dirty late.batch late.copied h low _ c.args.block c.home-r.result.0 c.home-r.result.1 old.meta.setup.geometry.disks c.read_only.new.into b
-    (block_in g c) (disks_are g c) c.home-r.ensures.row c.home-r.ensures.disk v) b))))
-
-pub returns-clause-value : goal.returns-clause-value
-returns-clause-value g c h lo t tells a some =
-    let old = c.args.self.now in
-    let mid = c.make_room.new.self in
-    let first : Bool = commits_first (batch_of old) c.cleaning-room.result in
-    let low : ℕ = if first then length h else lo in
-    after_first (IsCoreHeld g.R.Rack.slot_count old h lo) (CoreStandsFor g.R.Rack.slot_count old h lo) (CoreStandsFor g.R.Rack.slot_count mid h low) _ (◌≡◌ {A = Block} c.read_only.new.into (after_all h c.args.block)) _ _ _
-    (c.in_ok-make_room.ensures.stands h lo) (c.in_ok-read_only.ensures.since h low) (λ u knows b is. c.in_ok-read_only.ensures.value h low u knows b is) t tells a
-    (subst (λ (z : g.row.R.Denot). IsSome (g.R.Rack.told z)) (rack_is g c) some)
-
-pub clean_in_room-requires-clause-kept : goal.clean_in_room-requires-clause-kept
-clean_in_room-requires-clause-kept g c low =
-    let old = c.args.self.now in
-    c.in_ok-read_only.ensures.cleans_less c.home-r.result.0 c.home-r.result.1 (c.in_ok-make_room.ensures.cleans_less c.home-r.result.0 c.home-r.result.1
-    (no_room (is_cleaned old.meta old.dirty c.home-r.result.0 c.home-r.result.1) c.cleaning-room.result c.cleaning-room.ensures.value low))
-
-pub returns-clause-cleaned : goal.returns-clause-cleaned
-returns-clause-cleaned g c =
-    let new = c.clean_in_room.new.self in
-    subst (λ (z : ℕ). is_cleaned new.meta new.dirty (home_row c.args.self.now.meta.setup.geometry.disks c.args.block) z ≡ false) c.home-r.ensures.disk
-    (subst (λ (z : ℕ). is_cleaned new.meta new.dirty z c.home-r.result.1 ≡ false) c.home-r.ensures.row c.clean_in_room.ensures.cleaned)
-
-pub returns-clause-nothing : goal.returns-clause-nothing
-returns-clause-nothing g c is =
-    let old = c.args.self.now in
-    let here = subst (λ (z : ℕ). is_cleaned old.meta old.dirty z c.home-r.result.1 ≡ false) (sym c.home-r.ensures.row)
-    (subst (λ (z : ℕ). is_cleaned old.meta old.dirty (home_row old.meta.setup.geometry.disks c.args.block) z ≡ false) (sym c.home-r.ensures.disk) is) in
-    let none = room_none (is_cleaned old.meta old.dirty c.home-r.result.0 c.home-r.result.1) c.cleaning-room.result c.cleaning-room.ensures.value here in
-    let first = c.in_ok-make_room.ensures.nothing none in
-    let last = c.clean_in_room.ensures.nothing (omega arith) in
-    (last.0 ∙ c.in_ok-read_only.ensures.batch ∙ first.0, last.1 ∙ c.in_ok-read_only.ensures.table ∙ first.1)
-
-pub returns-clause-calls : goal.returns-clause-calls
-returns-clause-calls g c =
-    subst (λ (z : g.row.R.Denot). Ran (g.R.Rack.told (core_rack c.args.self.now)) (g.R.Rack.told z) (EachCall (IsTransferCall c.args.self.now.meta.setup.geometry.disks (gone_out c.args.self.now.meta.out)))) (sym (rack_is g c))
-    (calls_then _ _ (g.R.Rack.told (core_rack c.make_room.new.self)) _ c.make_room.ensures.calls
-    (transfer_after c.args.self.now.meta c.make_room.new.self.meta c.in_ok-make_room.ensures.setup c.in_ok-make_room.ensures.gone _ _ c.read_only.ensures.calls))
-
-pub returns-clause-kept : goal.returns-clause-kept
-returns-clause-kept g c is =
-    let old = c.args.self.now in
-    subst (λ (z : g.row.R.Denot). Ran (g.R.Rack.told (core_rack old)) (g.R.Rack.told z) (EachCall (IsDataCall old.meta.setup.geometry.disks (gone_out old.meta.out)))) (sym (rack_is g c))
-    (subst (λ (z : Option Trail). Ran z (g.R.Rack.told (core_rack c.read_only.new.self)) (EachCall (IsDataCall old.meta.setup.geometry.disks (gone_out old.meta.out)))) (c.make_room.ensures.idle (first_by c.args.self.now.meta c.args.self.now.dirty c.args.self.now.batch c.args.block c.home-r.result.0 c.home-r.result.1 c.cleaning-room.result c.cleaning-room.ensures.value c.home-r.ensures.row c.home-r.ensures.disk ∙ is))
-    (data_after old.meta c.make_room.new.self.meta c.in_ok-make_room.ensures.setup c.in_ok-make_room.ensures.gone _ _ c.read_only.ensures.calls))
-
-pub returns-clause-whole : goal.returns-clause-whole
-returns-clause-whole g c is h lo =
-    let old = c.args.self.now in
-    subst (λ (z : g.row.R.Denot). Ran (g.R.Rack.told (core_rack old)) (g.R.Rack.told z) (λ start calls. (k : CoreStandsFor g.R.Rack.slot_count old h lo start) → Through (IsOldOrNew start k.base (record old.meta { epoch = old.meta.epoch + 1 }) old.batch) start calls)) (sym (rack_is g c))
-    (whole_then_reads (CoreStandsFor g.R.Rack.slot_count old h lo) (λ s k. k.base) (record old.meta { epoch = old.meta.epoch + 1 }) old.batch c.make_room.new.self.meta.setup.geometry.disks (λ s k. k.next.setup)
-    (ap (λ (z : Setup). z.geometry.disks) c.in_ok-make_room.ensures.setup) _ _ _ (c.make_room.ensures.whole (first_by c.args.self.now.meta c.args.self.now.dirty c.args.self.now.batch c.args.block c.home-r.result.0 c.home-r.result.1 c.cleaning-room.result c.cleaning-room.ensures.value c.home-r.ensures.row c.home-r.ensures.disk ∙ is) h lo) c.read_only.ensures.reads)
-
-pub returns-clause-marks : goal.returns-clause-marks
-returns-clause-marks g c =
-    let old = c.args.self.now in
-    let new = c.clean_in_room.new.self in
-    subst (λ (z : g.row.R.Denot). MarksLost (g.R.Rack.slot (core_rack old)) (g.R.Rack.slot z) old.meta new.meta) (sym (rack_is g c))
-    (subst (MarksLost (g.R.Rack.slot (core_rack old)) (g.R.Rack.slot (core_rack c.read_only.new.self)) old.meta) (sym c.clean_in_room.ensures.meta)
-    (marks_then _ _ _ _ _ _ c.in_ok-make_room.ensures.marks c.in_ok-read_only.ensures.marks c.make_room.ensures.spared c.read_only.ensures.spared))
-
-pub returns-clause-names : goal.returns-clause-names
-returns-clause-names g c =
-    let old = c.args.self.now in
-    let new = c.clean_in_room.new.self in
-    ap (λ (z : Store g.row.R.Denot g.R.Rack). named_of z) c.clean_in_room.ensures.store ∙ c.in_ok-read_only.ensures.named ∙ c.in_ok-make_room.ensures.names
-    ∙ ap (λ (b : Bool). if b then named_out old.meta.out else named_of old.store) (first_by old.meta old.dirty old.batch c.args.block c.home-r.result.0 c.home-r.result.1 c.cleaning-room.result c.cleaning-room.ensures.value c.home-r.ensures.row c.home-r.ensures.disk)
-
-pub returns-clause-rest : goal.returns-clause-rest
-returns-clause-rest g c is h lo =
-    let old = c.args.self.now in
-    let new = c.clean_in_room.new.self in
-    let ready = c.clean_in_room.ensures.ready in
-    let names : named_of new.store ≡ named_out old.meta.out = returns-clause-names g c ∙ ap (λ (b : Bool). if b then named_out old.meta.out else named_of old.store) is in
-    let epoch : new.meta.epoch ≡ old.meta.epoch + 1 = (ap (λ (z : Meta). z.epoch) c.clean_in_room.ensures.meta ∙ c.in_ok-read_only.ensures.epoch ∙ c.in_ok-make_room.ensures.epoch ∙ ap (λ (b : Bool). old.meta.epoch + (if b then 1 else 0)) (first_is g c)) ∙ ap (λ (b : Bool). old.meta.epoch + (if b then 1 else 0)) is in
-    rest_ran (CoreStandsFor g.R.Rack.slot_count old h lo) (λ s k. k.base) (record old.meta { epoch = old.meta.epoch + 1 }) old.batch _ _ (named_of new.store) new.meta _ _ new.copied old.copied _ _ (g.R.Rack.slot (core_rack new)) _ _ (g.met.R.Rack.agrees (core_rack new))
-    ready.absent ready.one names (λ s k d is_out. c.requires.serves.stays d (sym k.named_by ∙ is_out)) (λ s k. k.next.setup)
-    (ap (λ (z : Meta). z.setup) c.clean_in_room.ensures.meta ∙ setup_is g c) (λ s k. let was = k.epoch in omega (arith, was, epoch))
-    (c.clean_in_room.ensures.copied ∙ c.in_ok-read_only.ensures.copied ∙ c.in_ok-make_room.ensures.copied) c.requires.synced (returns-clause-whole g c is h lo) (returns-clause-stands g c h lo)
-
-pub returns-clause-bits : goal.returns-clause-bits
-returns-clause-bits g c =
-    cell_of c.clean_in_room.new.self.meta c.read_only.new.self.dirty c.args.self.now.dirty c.clean_in_room.new.self.dirty c.home-r.result.0 _ c.home-r.result.1 _
-    (c.in_ok-read_only.ensures.table ∙ c.in_ok-make_room.ensures.table) c.home-r.ensures.row c.home-r.ensures.disk c.clean_in_room.ensures.bits
-
-pub returns-clause-unsynced : goal.returns-clause-unsynced
-returns-clause-unsynced g c was =
-    let slot = g.R.Rack.slot in
-    let mid = c.make_room.new.self in
-    let next = c.read_only.new.self in
-    let read = c.in_ok-read_only.ensures in
-    unsynced_same slot next c.clean_in_room.new.self c.clean_in_room.ensures.store c.clean_in_room.ensures.meta c.clean_in_room.ensures.copied
-    (unsynced_kept slot mid next read.setup (gone_lost _ _ mid.meta next.meta read.marks) c.read_only.ensures.spared c.read_only.ensures.copied c.read_only.ensures.still_synced (c.in_ok-make_room.ensures.unsynced was))
+  stands_then : (h : History) (lo : ℕ) → Ran (g.R.Rack.told (core_rack c.args.self.now)) (g.R.Rack.told (core_rack c.clean_in_room.new.self)) (CrashTriple (IsCoreHeld g.R.Rack.slot_count c.args.self.now h lo) (CoreStandsFor g.R.Rack.slot_count c.args.self.now h lo)
+      (CoreStandsFor g.R.Rack.slot_count c.clean_in_room.new.self h (if read_commits_first (meta_of c.args.self.now) (core_table c.args.self.now) (batch_of c.args.self.now) c.args.block then length h else lo)))
+  stands_then h lo =
+      let old = c.args.self.now in
+      let mid = c.make_room.new.self in
+      let late = c.read_only.new.self in
+      let new = c.clean_in_room.new.self in
+      let first : Bool = commits_first (batch_of old) c.cleaning-room.result in
+      let low : ℕ = if first then length h else lo in
+      subst (λ (z : g.row.R.Denot). Ran (g.R.Rack.told (core_rack old)) (g.R.Rack.told z) (CrashTriple (IsCoreHeld g.R.Rack.slot_count old h lo) (CoreStandsFor g.R.Rack.slot_count old h lo)
+      (CoreStandsFor g.R.Rack.slot_count new h (if read_commits_first (meta_of old) (core_table old) (batch_of old) c.args.block then length h else lo)))) (sym rack_is)
+      (subst (λ (b : Bool). Ran (g.R.Rack.told (core_rack old)) (g.R.Rack.told (core_rack late)) (CrashTriple (IsCoreHeld g.R.Rack.slot_count old h lo) (CoreStandsFor g.R.Rack.slot_count old h lo)
+      (CoreStandsFor g.R.Rack.slot_count new h (if b then length h else lo)))) first_is
+      (after_raised (g.R.Rack.slot_count (core_rack old)) _ old.meta.setup.geometry.disks _ (core_down old) (named_of mid.store) (named_of old.store) old.meta old.dirty old.batch old.copied first h lo (CoreStandsFor g.R.Rack.slot_count mid h low)
+      (CoreStandsFor g.R.Rack.slot_count new h low) _ _ _
+      c.in_ok-make_room.ensures.slots (ap (λ (z : Setup). z.geometry.disks) c.in_ok-make_room.ensures.setup) c.in_ok-make_room.ensures.named
+      (c.in_ok-make_room.ensures.stands h lo)
+      (after_clean (IsCoreHeldSinceCommit g.R.Rack.slot_count mid h low) (CoreStandsFor g.R.Rack.slot_count new h low) (CoreStandsFor g.R.Rack.slot_count mid h low) (CoreStandsFor g.R.Rack.slot_count late h low) (◌≡◌ {A = Block} c.read_only.new.into (after_all h c.args.block)) _ _
+      (c.in_ok-read_only.ensures.since h low) (λ t tells a some. c.in_ok-read_only.ensures.value h low t tells a some)
+      (λ t tells v b. c.clean_in_room.ensures.stands h low t tells
+      (cell_read (g.R.Rack.slot_count (core_rack late)) (named_of late.store) late.meta late.dirty late.batch late.copied h low _ c.args.block c.home-r.result.0 c.home-r.result.1 old.meta.setup.geometry.disks c.read_only.new.into b
+      block_in disks_are c.home-r.ensures.row c.home-r.ensures.disk v) b))))
 
 pub returns-in_err-make_room : goal.returns-in_err-make_room
 returns-in_err-make_room g c = record {
@@ -289,71 +180,132 @@ returns-in_err-read_only g c = record {
   value = none_done _ c.from_residual-in_err-read_only.result _ c.from_residual-in_err-read_only.ensures.1;
 }
 
-pub returns-clause-ready : goal.returns-clause-ready
-returns-clause-ready g c = c.clean_in_room.ensures.ready
+pub returns : goal.returns
+returns g c = record {
+  draft = c.clean_in_room.ensures.draft;
+  copied = c.clean_in_room.ensures.copied ∙ c.read_only.ensures.copied ∙ c.make_room.ensures.copied;
+  slots = ap (λ (z : g.row.R.Denot). g.R.Rack.slot_count z) (rack_is g c) ∙ c.read_only.ensures.slots ∙ c.make_room.ensures.slots;
+  ready = c.clean_in_room.ensures.ready;
+  serves = c.clean_in_room.ensures.serves;
+  setup = ap (λ (z : Meta). z.setup) c.clean_in_room.ensures.meta ∙ setup_is g c;
+  writes = ap (λ (z : Meta). z.writes) c.clean_in_room.ensures.meta ∙ c.in_ok-read_only.ensures.writes ∙ c.in_ok-make_room.ensures.writes;
+  epoch =
+      let old = c.args.self.now in
+      ap (λ (z : Meta). z.epoch) c.clean_in_room.ensures.meta ∙ c.in_ok-read_only.ensures.epoch ∙ c.in_ok-make_room.ensures.epoch
+      ∙ ap (λ (b : Bool). old.meta.epoch + (if b then 1 else 0)) (first_is g c);
+  cleaned =
+      let new = c.clean_in_room.new.self in
+      subst (λ (z : ℕ). is_cleaned new.meta new.dirty (home_row c.args.self.now.meta.setup.geometry.disks c.args.block) z ≡ false) c.home-r.ensures.disk
+      (subst (λ (z : ℕ). is_cleaned new.meta new.dirty z c.home-r.result.1 ≡ false) c.home-r.ensures.row c.clean_in_room.ensures.cleaned);
+  bits =
+      cell_of c.clean_in_room.new.self.meta c.read_only.new.self.dirty c.args.self.now.dirty c.clean_in_room.new.self.dirty c.home-r.result.0 _ c.home-r.result.1 _
+      (c.in_ok-read_only.ensures.table ∙ c.in_ok-make_room.ensures.table) c.home-r.ensures.row c.home-r.ensures.disk c.clean_in_room.ensures.bits;
+  nothing = λ is.
+      let old = c.args.self.now in
+      let here = subst (λ (z : ℕ). is_cleaned old.meta old.dirty z c.home-r.result.1 ≡ false) (sym c.home-r.ensures.row)
+      (subst (λ (z : ℕ). is_cleaned old.meta old.dirty (home_row old.meta.setup.geometry.disks c.args.block) z ≡ false) (sym c.home-r.ensures.disk) is) in
+      let none = room_none (is_cleaned old.meta old.dirty c.home-r.result.0 c.home-r.result.1) c.cleaning-room.result c.cleaning-room.ensures.value here in
+      let first = c.in_ok-make_room.ensures.nothing none in
+      let last = c.clean_in_room.ensures.nothing (omega arith) in
+      (last.0 ∙ c.in_ok-read_only.ensures.batch ∙ first.0, last.1 ∙ c.in_ok-read_only.ensures.table ∙ first.1);
+  spared =
+      subst (λ (z : g.row.R.Denot). OnlyLosesSlots (g.R.Rack.slot (core_rack c.args.self.now)) (g.R.Rack.slot z)) (sym (rack_is g c))
+      (spared_then _ _ _ c.in_ok-make_room.ensures.spared c.in_ok-read_only.ensures.spared);
+  still_synced =
+      subst (λ (z : g.row.R.Denot). StaySynced (g.R.Rack.slot (core_rack c.args.self.now)) (g.R.Rack.slot z)) (sym (rack_is g c))
+      (dry_both (g.R.Rack.slot (core_rack c.args.self.now)) (g.R.Rack.slot (core_rack c.make_room.new.self)) (g.R.Rack.slot (core_rack c.read_only.new.self)) c.in_ok-make_room.ensures.still_synced c.in_ok-read_only.ensures.still_synced c.in_ok-read_only.ensures.spared);
+  unsynced = λ was.
+      let slot = g.R.Rack.slot in
+      let mid = c.make_room.new.self in
+      let next = c.read_only.new.self in
+      let read = c.in_ok-read_only.ensures in
+      unsynced_same slot next c.clean_in_room.new.self c.clean_in_room.ensures.store c.clean_in_room.ensures.meta c.clean_in_room.ensures.copied
+      (unsynced_kept slot mid next read.setup (gone_lost _ _ mid.meta next.meta read.marks) c.read_only.ensures.spared c.read_only.ensures.copied c.read_only.ensures.still_synced (c.in_ok-make_room.ensures.unsynced was));
+  two = tt;
+  tells = tt;
+  calls =
+      subst (λ (z : g.row.R.Denot). Ran (g.R.Rack.told (core_rack c.args.self.now)) (g.R.Rack.told z) (EachCall (IsTransferCall c.args.self.now.meta.setup.geometry.disks (gone_out c.args.self.now.meta.out)))) (sym (rack_is g c))
+      (calls_then _ _ (g.R.Rack.told (core_rack c.make_room.new.self)) _ c.make_room.ensures.calls
+      (transfer_after c.args.self.now.meta c.make_room.new.self.meta c.in_ok-make_room.ensures.setup c.in_ok-make_room.ensures.gone _ _ c.read_only.ensures.calls));
+  kept = λ is.
+      let old = c.args.self.now in
+      subst (λ (z : g.row.R.Denot). Ran (g.R.Rack.told (core_rack old)) (g.R.Rack.told z) (EachCall (IsDataCall old.meta.setup.geometry.disks (gone_out old.meta.out)))) (sym (rack_is g c))
+      (subst (λ (z : Option Trail). Ran z (g.R.Rack.told (core_rack c.read_only.new.self)) (EachCall (IsDataCall old.meta.setup.geometry.disks (gone_out old.meta.out)))) (c.make_room.ensures.idle (first_by c.args.self.now.meta c.args.self.now.dirty c.args.self.now.batch c.args.block c.home-r.result.0 c.home-r.result.1 c.cleaning-room.result c.cleaning-room.ensures.value c.home-r.ensures.row c.home-r.ensures.disk ∙ is))
+      (data_after old.meta c.make_room.new.self.meta c.in_ok-make_room.ensures.setup c.in_ok-make_room.ensures.gone _ _ c.read_only.ensures.calls));
+  whole = whole_then g c;
+  rest = λ is h lo.
+      let old = c.args.self.now in
+      let new = c.clean_in_room.new.self in
+      let ready = c.clean_in_room.ensures.ready in
+      let names : named_of new.store ≡ named_out old.meta.out = names_then g c ∙ ap (λ (b : Bool). if b then named_out old.meta.out else named_of old.store) is in
+      let epoch : new.meta.epoch ≡ old.meta.epoch + 1 = (ap (λ (z : Meta). z.epoch) c.clean_in_room.ensures.meta ∙ c.in_ok-read_only.ensures.epoch ∙ c.in_ok-make_room.ensures.epoch ∙ ap (λ (b : Bool). old.meta.epoch + (if b then 1 else 0)) (first_is g c)) ∙ ap (λ (b : Bool). old.meta.epoch + (if b then 1 else 0)) is in
+      rest_ran (CoreStandsFor g.R.Rack.slot_count old h lo) (λ s k. k.base) (record old.meta { epoch = old.meta.epoch + 1 }) old.batch _ _ (named_of new.store) new.meta _ _ new.copied old.copied _ _ (g.R.Rack.slot (core_rack new)) _ _ (g.met.R.Rack.agrees (core_rack new))
+      ready.absent ready.one names (λ s k d is_out. c.requires.serves.stays d (sym k.named_by ∙ is_out)) (λ s k. k.next.setup)
+      (ap (λ (z : Meta). z.setup) c.clean_in_room.ensures.meta ∙ setup_is g c) (λ s k. let was = k.epoch in omega (arith, was, epoch))
+      (c.clean_in_room.ensures.copied ∙ c.in_ok-read_only.ensures.copied ∙ c.in_ok-make_room.ensures.copied) c.requires.synced (whole_then g c is h lo) (stands_then g c h lo);
+  names = names_then g c;
+  marks =
+      let old = c.args.self.now in
+      let new = c.clean_in_room.new.self in
+      subst (λ (z : g.row.R.Denot). MarksLost (g.R.Rack.slot (core_rack old)) (g.R.Rack.slot z) old.meta new.meta) (sym (rack_is g c))
+      (subst (MarksLost (g.R.Rack.slot (core_rack old)) (g.R.Rack.slot (core_rack c.read_only.new.self)) old.meta) (sym c.clean_in_room.ensures.meta)
+      (marks_then _ _ _ _ _ _ c.in_ok-make_room.ensures.marks c.in_ok-read_only.ensures.marks c.make_room.ensures.spared c.read_only.ensures.spared));
+  down =
+      let old = c.args.self.now in
+      let mid = c.read_only.new.self in
+      let new = c.clean_in_room.new.self in
+      subst (λ (z : Store g.row.R.Denot g.R.Rack). IsDownAfter (core_down old) (or_else (named_of z) (named_out new.meta.out)) (g.R.Rack.slot (core_rack old)) (g.R.Rack.slot (store_rack z))) (sym c.clean_in_room.ensures.store)
+      (subst (λ (z : Meta). IsDownAfter (core_down old) (or_else (named_of mid.store) (named_out z.out)) (g.R.Rack.slot (core_rack old)) (g.R.Rack.slot (core_rack mid))) (sym c.clean_in_room.ensures.meta)
+      (down_both (core_down old) (core_down c.make_room.new.self) (core_down mid) _ _ _ c.in_ok-make_room.ensures.down c.in_ok-make_room.ensures.spared c.in_ok-read_only.ensures.down c.in_ok-read_only.ensures.spared));
+  moments = λ h lo.
+      let old = c.args.self.now in
+      let mid = c.make_room.new.self in
+      let first : Bool = commits_first (batch_of old) c.cleaning-room.result in
+      let low : ℕ = if first then length h else lo in
+      subst (λ (z : g.row.R.Denot). Ran (g.R.Rack.told (core_rack old)) (g.R.Rack.told z) (CrashTriple (IsCoreHeld g.R.Rack.slot_count old h lo) (CoreStandsFor g.R.Rack.slot_count old h lo) (IsCoreHeld g.R.Rack.slot_count old h lo))) (sym (rack_is g c))
+      (ended _ _ (IsCoreHeldSinceCommit g.R.Rack.slot_count mid h low) _ _
+      (after_raised (g.R.Rack.slot_count (core_rack old)) _ old.meta.setup.geometry.disks _ (core_down old) (named_of mid.store) (named_of old.store) old.meta old.dirty old.batch old.copied first h lo _
+      (IsCoreHeldSinceCommit g.R.Rack.slot_count mid h low) _ _ _
+      c.in_ok-make_room.ensures.slots (ap (λ (z : Setup). z.geometry.disks) c.in_ok-make_room.ensures.setup) c.in_ok-make_room.ensures.named
+      (c.in_ok-make_room.ensures.stands h lo) (c.in_ok-read_only.ensures.moments_since h low)));
+  stands = stands_then g c;
+  value = λ h lo t tells a some.
+      let old = c.args.self.now in
+      let mid = c.make_room.new.self in
+      let first : Bool = commits_first (batch_of old) c.cleaning-room.result in
+      let low : ℕ = if first then length h else lo in
+      after_first (IsCoreHeld g.R.Rack.slot_count old h lo) (CoreStandsFor g.R.Rack.slot_count old h lo) (CoreStandsFor g.R.Rack.slot_count mid h low) _ (◌≡◌ {A = Block} c.read_only.new.into (after_all h c.args.block)) _ _ _
+      (c.in_ok-make_room.ensures.stands h lo) (c.in_ok-read_only.ensures.since h low) (λ u knows b is. c.in_ok-read_only.ensures.value h low u knows b is) t tells a
+      (subst (λ (z : g.row.R.Denot). IsSome (g.R.Rack.told z)) (rack_is g c) some);
+}
 
-pub returns-clause-serves : goal.returns-clause-serves
-returns-clause-serves g c = c.clean_in_room.ensures.serves
+pub make_room-requires : goal.make_room-requires
+make_room-requires g c = record {
+  few = let few = c.cleaning-room.ensures.few in omega (arith, few);
+  ready = c.requires.ready;
+  serves = c.requires.serves;
+  epoch = c.requires.epoch;
+  copies_synced = c.requires.synced;
+}
 
-pub returns-clause-draft : goal.returns-clause-draft
-returns-clause-draft g c = c.clean_in_room.ensures.draft
+pub read_only-requires : goal.read_only-requires
+read_only-requires g c = record {
+  ready = c.in_ok-make_room.ensures.ready;
+  serves = c.in_ok-make_room.ensures.serves;
+  block = subst (λ (z : Setup). c.args.block < z.geometry.rows * (z.geometry.disks - 1)) (sym c.in_ok-make_room.ensures.setup) c.requires.block;
+  no_draft = c.make_room.ensures.draft ∙ c.requires.no_draft;
+}
 
-pub returns-clause-copied : goal.returns-clause-copied
-returns-clause-copied g c = c.clean_in_room.ensures.copied ∙ c.read_only.ensures.copied ∙ c.make_room.ensures.copied
-
-pub returns-clause-slots : goal.returns-clause-slots
-returns-clause-slots g c = ap (λ (z : g.row.R.Denot). g.R.Rack.slot_count z) (rack_is g c) ∙ c.read_only.ensures.slots ∙ c.make_room.ensures.slots
-
-pub returns-clause-setup : goal.returns-clause-setup
-returns-clause-setup g c = ap (λ (z : Meta). z.setup) c.clean_in_room.ensures.meta ∙ setup_is g c
-
-pub returns-clause-writes : goal.returns-clause-writes
-returns-clause-writes g c = ap (λ (z : Meta). z.writes) c.clean_in_room.ensures.meta ∙ c.in_ok-read_only.ensures.writes ∙ c.in_ok-make_room.ensures.writes
-
-pub returns-clause-epoch : goal.returns-clause-epoch
-returns-clause-epoch g c =
-    let old = c.args.self.now in
-    ap (λ (z : Meta). z.epoch) c.clean_in_room.ensures.meta ∙ c.in_ok-read_only.ensures.epoch ∙ c.in_ok-make_room.ensures.epoch
-    ∙ ap (λ (b : Bool). old.meta.epoch + (if b then 1 else 0)) (first_is g c)
-
-pub returns-clause-two : goal.returns-clause-two
-returns-clause-two g c = tt
-
-pub returns-clause-tells : goal.returns-clause-tells
-returns-clause-tells g c = tt
-
-pub make_room-requires-clause-ready : goal.make_room-requires-clause-ready
-make_room-requires-clause-ready g c = c.requires.ready
-
-pub make_room-requires-clause-serves : goal.make_room-requires-clause-serves
-make_room-requires-clause-serves g c = c.requires.serves
-
-pub make_room-requires-clause-copies_synced : goal.make_room-requires-clause-copies_synced
-make_room-requires-clause-copies_synced g c = c.requires.synced
-
-pub read_only-requires-clause-ready : goal.read_only-requires-clause-ready
-read_only-requires-clause-ready g c = c.in_ok-make_room.ensures.ready
-
-pub read_only-requires-clause-serves : goal.read_only-requires-clause-serves
-read_only-requires-clause-serves g c = c.in_ok-make_room.ensures.serves
-
-pub read_only-requires-clause-no_draft : goal.read_only-requires-clause-no_draft
-read_only-requires-clause-no_draft g c = c.make_room.ensures.draft ∙ c.requires.no_draft
-
-pub read_only-requires-clause-block : goal.read_only-requires-clause-block
-read_only-requires-clause-block g c = subst (λ (z : Setup). c.args.block < z.geometry.rows * (z.geometry.disks - 1)) (sym c.in_ok-make_room.ensures.setup) c.requires.block
-
-pub clean_in_room-requires-clause-ready : goal.clean_in_room-requires-clause-ready
-clean_in_room-requires-clause-ready g c = c.in_ok-read_only.ensures.ready
-
-pub clean_in_room-requires-clause-serves : goal.clean_in_room-requires-clause-serves
-clean_in_room-requires-clause-serves g c = c.in_ok-read_only.ensures.serves
-
-pub clean_in_room-requires-clause-no_draft : goal.clean_in_room-requires-clause-no_draft
-clean_in_room-requires-clause-no_draft g c = c.read_only.ensures.draft ∙ c.make_room.ensures.draft ∙ c.requires.no_draft
-
-pub clean_in_room-requires-clause-row : goal.clean_in_room-requires-clause-row
-clean_in_room-requires-clause-row g c = subst (λ (z : Setup). c.home-r.result.0 < z.geometry.rows) (sym (c.in_ok-read_only.ensures.setup ∙ c.in_ok-make_room.ensures.setup)) c.home-r.ensures.row_in
-
-pub clean_in_room-requires-clause-disk : goal.clean_in_room-requires-clause-disk
-clean_in_room-requires-clause-disk g c = subst (λ (z : Setup). c.home-r.result.1 < z.geometry.disks) (sym (c.in_ok-read_only.ensures.setup ∙ c.in_ok-make_room.ensures.setup)) c.home-r.ensures.disk_in
+pub clean_in_room-requires : goal.clean_in_room-requires
+clean_in_room-requires g c = record {
+  ready = c.in_ok-read_only.ensures.ready;
+  serves = c.in_ok-read_only.ensures.serves;
+  no_draft = c.read_only.ensures.draft ∙ c.make_room.ensures.draft ∙ c.requires.no_draft;
+  row = subst (λ (z : Setup). c.home-r.result.0 < z.geometry.rows) (sym (c.in_ok-read_only.ensures.setup ∙ c.in_ok-make_room.ensures.setup)) c.home-r.ensures.row_in;
+  disk = subst (λ (z : Setup). c.home-r.result.1 < z.geometry.disks) (sym (c.in_ok-read_only.ensures.setup ∙ c.in_ok-make_room.ensures.setup)) c.home-r.ensures.disk_in;
+  room = subst (λ (b : Batch). length b + c.cleaning-room.result ≤ 96) (sym c.read_only.ensures.batch) c.in_ok-make_room.ensures.room;
+  kept = λ low.
+      let old = c.args.self.now in
+      c.in_ok-read_only.ensures.cleans_less c.home-r.result.0 c.home-r.result.1 (c.in_ok-make_room.ensures.cleans_less c.home-r.result.0 c.home-r.result.1
+      (no_room (is_cleaned old.meta old.dirty c.home-r.result.0 c.home-r.result.1) c.cleaning-room.result c.cleaning-room.ensures.value low));
+}

@@ -12,7 +12,7 @@ use Rattle.paraid_core.specs.CoreInvariant.{HoldsBetweenCalls, lost_in, meta_wit
 use Rattle.paraid_core.proofs.AfterLemmas.{lost_in_there}
 use Rattle.paraid_core.proofs.CallLemmas.{call_held, call_leaves, call_spared, call_stands, done_only, failed_only, keeps_held}
 use Rattle.paraid_core.proofs.ReadyLemmas.{some_is}
-use Rattle.paraid_core.proofs.UnsyncedLemmas.{marks_read}
+use Rattle.paraid_core.proofs.UnsyncedLemmas.{marks_read, one_dry}
 use Rattle.paraid_core.proofs.LostDiskLemmas.{keeps_failed}
 use Rattle.paraid_core.proofs.StoredLemmas.{keeps_read}
 use Rattle.paraid_core.proofs.KindLemmas.{one_call}
@@ -57,14 +57,14 @@ returns-in_default g c = record {
   same = λ is. refl;
   copied = refl;
   spared = call_spared 8 _ _ _ _ _ _ c.read.ensures.slot refl refl refl;
-  still_synced = search rules;
+  still_synced = one_dry _ _ _ _ _ _ c.read.ensures.slot (λ wet. wet);
   two = tt;
   tells = tt;
   calls = one_call _ _ _ (is_ok c.read.result) c.read.ensures.told (λ t tells. (g.met.R.Rack.agrees (store_rack c.args.self.now.store) t tells).power c.args.disk ∙ c.requires.spins);
   marks = marks_done c.args.self.now.meta _ _ c.args.disk _ _ _ c.read.ensures.slot (record { faults = refl; power = refl; size = refl }) (ap is_ok c.in_default.is);
   gone = λ is. done_not_dropped _ _ refl is;
   failed = λ is. done_not_dropped _ _ refl is;
-  value = search rules;
+  value = λ is. c.in_default.ensures.bytes;
   moments =
       call_held g.R.Rack.slot_count g.R.Rack.slot g.R.Rack.told c.args.self.now _ _ c.read.ensures.told c.requires.disk
       (λ is h lo s k. keeps_held _ _ _ _ _ c.args.self.now.copied h lo _ (keeps_read _ _ _ _ _ _ h lo s _ _ _ is k));
@@ -79,7 +79,7 @@ returns-in_err-lose g c = record {
   same = λ is. none_done_as _ c.from_residual.result _ _ c.from_residual.ensures.1 is;
   copied = refl;
   spared = call_spared 8 _ _ _ _ _ _ c.read.ensures.slot refl refl refl;
-  still_synced = search rules;
+  still_synced = one_dry _ _ _ _ _ _ c.read.ensures.slot (λ wet. wet);
   two =
       let old = c.args.self.now in
       handed _ c.from_residual.result _ c.from_residual.ensures.1
@@ -109,7 +109,7 @@ returns g c = record {
   same = λ is. done_not_dropped _ _ is refl;
   copied = refl;
   spared = call_spared 8 _ _ _ _ _ _ c.read.ensures.slot refl refl refl;
-  still_synced = search rules;
+  still_synced = one_dry _ _ _ _ _ _ c.read.ensures.slot (λ wet. wet);
   two = tt;
   tells = tt;
   calls = one_call _ _ _ (is_ok c.read.result) c.read.ensures.told (λ t tells. (g.met.R.Rack.agrees (store_rack c.args.self.now.store) t tells).power c.args.disk ∙ c.requires.spins);

@@ -1,4 +1,4 @@
-use Rattle.std.proofs.Common.{inl, ◌++◌, ◌≡◌, ℕ, ◌∙◌, Some, None, sym, ap, subst, Option, ◌<◌, rules}
+use Rattle.std.proofs.Common.{inl, ◌++◌, ◌≡◌, ℕ, ◌∙◌, Some, None, sym, ap, subst, Option, ◌<◌, rules, refl}
 use Rattle.paraid_rack.specs.Trail.{now}
 use Rattle.paraid_txn.specs.Stores.{disks_of, named_of, store_rack}
 use Rattle.paraid_core.proofs.ReadsLemmas.{cell_value, knows_named, reads_moments, reads_stand, rows_zero, shows_contents, stripes_zero}
@@ -50,13 +50,13 @@ module _ (g : Over) (c : In_ok-lose g) where
 
 pub returns-in_err-lost : goal.returns-in_err-lost
 returns-in_err-lost g c = record {
-  draft = search rules;
-  copied = search rules;
+  draft = refl;
+  copied = refl;
   slots = search rules;
   ready = none_done _ c.from_residual.result _ c.from_residual.ensures.1;
   serves = none_done _ c.from_residual.result _ c.from_residual.ensures.1;
-  batch = search rules;
-  table = search rules;
+  batch = refl;
+  table = refl;
   cleans_less = none_done _ c.from_residual.result _ c.from_residual.ensures.1;
   setup = none_done _ c.from_residual.result _ c.from_residual.ensures.1;
   writes = none_done _ c.from_residual.result _ c.from_residual.ensures.1;
@@ -93,8 +93,8 @@ returns-in_err-lost g c = record {
 
 pub returns : goal.returns
 returns g c = record {
-  draft = search rules;
-  copied = search rules;
+  draft = refl;
+  copied = refl;
   slots = search rules;
   ready =
       let old = c.args.self.now in
@@ -108,8 +108,8 @@ returns g c = record {
       (subst (λ (z : Meta). CanServe (g.R.Rack.slot (store_rack c.read_cell.new.store)) (named_of old.store) z) (sym c.in_ok-lose.ensures.marked)
       (serve_after _ _ _ _ _ _ old.meta _ _ c.requires.ready c.in_ok-lost.lost (only g c) (none_out g c) (λ d x is was. none_out g c d x is (c.requires.serves.stays x was)) (λ d is. lost_in_low old.meta c.in_ok-lost.lost d is)
       c.requires.serves));
-  batch = search rules;
-  table = search rules;
+  batch = refl;
+  table = refl;
   cleans_less = λ r d is.
       let old = c.args.self.now in
       subst (λ (z : Meta). is_cleaned z old.dirty r d ≡ false) (sym c.in_ok-lose.ensures.marked) (cleans_marked (lost_in old.meta c.in_ok-lost.lost) old.meta old.meta.epoch old.dirty r d is);
@@ -167,13 +167,13 @@ returns g c = record {
 
 pub returns-in_err-lose : goal.returns-in_err-lose
 returns-in_err-lose g c = record {
-  draft = search rules;
-  copied = search rules;
+  draft = refl;
+  copied = refl;
   slots = search rules;
   ready = none_done _ c.from_residual-in_err-lose.result _ c.from_residual-in_err-lose.ensures.1;
   serves = none_done _ c.from_residual-in_err-lose.result _ c.from_residual-in_err-lose.ensures.1;
-  batch = search rules;
-  table = search rules;
+  batch = refl;
+  table = refl;
   cleans_less = none_done _ c.from_residual-in_err-lose.result _ c.from_residual-in_err-lose.ensures.1;
   setup = none_done _ c.from_residual-in_err-lose.result _ c.from_residual-in_err-lose.ensures.1;
   writes = none_done _ c.from_residual-in_err-lose.result _ c.from_residual-in_err-lose.ensures.1;

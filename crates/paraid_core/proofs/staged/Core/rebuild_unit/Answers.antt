@@ -33,29 +33,17 @@ returns-in_err-done g c = record {
   moments = c.copy_unit.ensures.moments;
 }
 
-pub copy_unit-requires-clause-ready : goal.copy_unit-requires-clause-ready
-copy_unit-requires-clause-ready g c = c.requires.ready
-
-pub copy_unit-requires-clause-serves : goal.copy_unit-requires-clause-serves
-copy_unit-requires-clause-serves g c = c.requires.serves
-
-pub copy_unit-requires-clause-no_draft : goal.copy_unit-requires-clause-no_draft
-copy_unit-requires-clause-no_draft g c = c.requires.no_draft
-
-pub copy_unit-requires-clause-from : goal.copy_unit-requires-clause-from
-copy_unit-requires-clause-from g c = c.requires.from
-
-pub copy_unit-requires-clause-nothing : goal.copy_unit-requires-clause-nothing
-copy_unit-requires-clause-nothing g c = c.requires.nothing
-
-pub copy_unit-requires-clause-fresh : goal.copy_unit-requires-clause-fresh
-copy_unit-requires-clause-fresh g c = c.fresh_disk-disk.ensures
-
-pub copy_unit-requires-clause-unit : goal.copy_unit-requires-clause-unit
-copy_unit-requires-clause-unit g c = c.unit_of-unit.ensures
-
-pub copy_unit-requires-clause-spins : goal.copy_unit-requires-clause-spins
-copy_unit-requires-clause-spins g c = c.requires.spins c.fresh_disk-disk.result (rebuilding_named c.args.self.now.meta c.fresh_disk-disk.result c.fresh_disk-disk.ensures)
+pub copy_unit-requires : goal.copy_unit-requires
+copy_unit-requires g c = record {
+  ready = c.requires.ready;
+  serves = c.requires.serves;
+  no_draft = c.requires.no_draft;
+  fresh = c.fresh_disk-disk.ensures;
+  unit = c.unit_of-unit.ensures;
+  from = c.requires.from;
+  spins = c.requires.spins c.fresh_disk-disk.result (rebuilding_named c.args.self.now.meta c.fresh_disk-disk.result c.fresh_disk-disk.ensures);
+  nothing = c.requires.nothing;
+}
 
 pub returns : goal.returns
 returns g c = record {

@@ -1,16 +1,16 @@
-use Rattle.std.proofs.Common.{rules}
+use Rattle.std.proofs.Common.{rules, refl}
 use Rattle.paraid_txn.specs.Stores.{store_rack}
 use Rattle.paraid_core.proofs.RejoinLemmas.{joined_ready, joined_stands, joined_up}
 use Rattle.paraid_core.proofs.staged.Core.rejoin.Goals as goal
 
 pub returns : goal.returns
 returns g c = record {
-  meta = search rules;
-  store = search rules;
-  table = search rules;
-  batch = search rules;
-  copied = search rules;
-  draft = search rules;
+  meta = refl;
+  store = refl;
+  table = refl;
+  batch = refl;
+  copied = refl;
+  draft = refl;
   ready =
       let q = c.requires in
       joined_ready _ _ _ _ _ c.args.self.now.meta _ _ q.rebuilding q.there q.ready;

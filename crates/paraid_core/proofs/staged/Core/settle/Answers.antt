@@ -1,12 +1,13 @@
+use Rattle.paraid_record.specs.declared.meta.Setup.{Setup}
 use Rattle.std.specs.Prelude.{true, false}
-use Rattle.std.proofs.Common.{◌≡◌, ◌∙◌, arith, below_more, refl, inl, rules}
+use Rattle.std.proofs.Common.{◌≡◌, ◌∙◌, arith, below_more, refl, inl, subst, ◌<◌, sym}
 use Rattle.paraid_txn.specs.Losses.{IsSyncedAt}
 use Rattle.paraid_txn.specs.Stores.{store_rack}
 use Rattle.paraid_view.proofs.TwoLemmas.{spared_then}
 use Rattle.paraid_core.specs.CoreInvariant.{is_copied}
 use Rattle.paraid_core.proofs.SettleCellLemmas.{copied_none, copied_then}
 use Rattle.paraid_core.proofs.SettleUnitLemmas.{units_none, units_then}
-use Rattle.paraid_core.proofs.StepLemmas.{dry_both, filled_none, filled_then, still_synced, held_then, leaves_none, leaves_then, stands_none, stands_then, stands_held, two_then}
+use Rattle.paraid_core.proofs.StepLemmas.{dry_both, filled_none, filled_then, still_synced, held_then, leaves_none, leaves_then, stands_none, stands_then, stands_held, two_then, marked_from_setup}
 use Rattle.paraid_core.proofs.KindLemmas.{calls_none, calls_then, copy_syncs_still}
 use Rattle.paraid_core.proofs.LostMarkLemmas.{marks_none, marks_then}
 use Rattle.paraid_core.proofs.OrderLemmas.{core_tells_then, sync_bears}
@@ -86,11 +87,11 @@ returns-in_err-settle_one g c = record {
 
 pub returns : goal.returns
 returns g c = record {
-  leaves = search rules;
-  spared = search rules;
-  still_synced = search rules;
-  synced = search rules;
-  copies_synced = search rules;
+  leaves = c.loop-disk.invariant.leaves;
+  spared = c.loop-disk.invariant.leaves.spared;
+  still_synced = c.loop-disk.invariant.still_synced;
+  synced = λ d low is. let past = c.loop-disk-test.false in c.loop-disk.invariant.synced d (omega (arith, low, past)) is;
+  copies_synced = λ d low. let past = c.loop-disk-test.false in c.loop-disk.invariant.copies_synced d (omega (arith, low, past));
   two = tt;
   tells = tt;
   calls = c.loop-disk.invariant.calls;
@@ -98,14 +99,15 @@ returns g c = record {
   moments =
       let was = c.loop-disk.invariant in
       stands_held g.R.Rack.slot_count g.R.Rack.slot g.R.Rack.told c.args.self.now c.loop-disk.self was.leaves was.stands;
-  stands = search rules;
-  filled = search rules;
-  cells = search rules;
-  rebuilt = search rules;
+  stands = c.loop-disk.invariant.stands;
+  filled = c.loop-disk.invariant.filled;
+  cells = c.loop-disk.invariant.cells;
+  rebuilt = c.loop-disk.invariant.rebuilt;
 }
 
-pub settle_one-requires-clause-ready : goal.settle_one-requires-clause-ready
-settle_one-requires-clause-ready g c = c.loop-disk.invariant.leaves.ready
-
-pub settle_one-requires-clause-still : goal.settle_one-requires-clause-still
-settle_one-requires-clause-still g c = c.loop-disk.invariant.leaves.still
+pub settle_one-requires : goal.settle_one-requires
+settle_one-requires g c = record {
+  ready = c.loop-disk.invariant.leaves.ready;
+  still = c.loop-disk.invariant.leaves.still;
+  disk = subst (λ (z : Setup). c.loop-disk.disk < z.geometry.disks) (sym (marked_from_setup c.args.self.now.meta c.loop-disk.self.meta c.loop-disk.invariant.leaves.meta)) c.loop-disk-test.true;
+}

@@ -1,4 +1,4 @@
-use Rattle.std.proofs.Common.{◌≡◌, ℕ, ◌∙◌, ◌<◌, None, Some, sym, ap, subst, refl, false, inl, inr, rules}
+use Rattle.std.proofs.Common.{◌≡◌, ℕ, ◌∙◌, ◌<◌, None, Some, sym, ap, subst, refl, false, inl, inr}
 use Rattle.std.proofs.lemmas.Bool.{cases_eq, false≢true}
 use Rattle.paraid_base.specs.States.{gone_out}
 use Rattle.std.specs.Prelude.{Option, is_ok}
@@ -64,19 +64,19 @@ module _ (g : Over) (c : In_ok-lose g) where
 
 pub returns-in_err-lose : goal.returns-in_err-lose
 returns-in_err-lose g c = record {
-  slots = search rules;
-  others = search rules;
+  slots = c.spin_up.ensures.slots;
+  others = c.spin_up.ensures.slot.others;
   spins = λ is. none_done_as _ c.from_residual.result _ _ c.from_residual.ensures.1 is;
   size = λ is. none_done_as _ c.from_residual.result _ _ c.from_residual.ensures.1 is;
   meta = none_done _ c.from_residual.result _ c.from_residual.ensures.1;
   same = λ is. none_done_as _ c.from_residual.result _ _ c.from_residual.ensures.1 is;
   ready = none_done _ c.from_residual.result _ c.from_residual.ensures.1;
   serves = none_done _ c.from_residual.result _ c.from_residual.ensures.1;
-  store = search rules;
-  table = search rules;
-  batch = search rules;
-  copied = search rules;
-  draft = search rules;
+  store = c.spin_up.ensures.same;
+  table = refl;
+  batch = refl;
+  copied = refl;
+  draft = refl;
   unsynced = none_done _ c.from_residual.result _ c.from_residual.ensures.1;
   turned =
       let old = c.args.self.now in
@@ -102,8 +102,8 @@ returns-in_err-lose g c = record {
 
 pub returns : goal.returns
 returns g c = record {
-  slots = search rules;
-  others = search rules;
+  slots = c.spin_up.ensures.slots;
+  others = c.spin_up.ensures.slot.others;
   spins = λ is. done_not_dropped _ _ is refl;
   size = λ is. done_not_dropped _ _ is refl;
   meta = record { lost = Some c.args.disk; is = meta_is g c; alone = λ d x is k. alone g c x k ∙ some_is c.args.disk d is };
@@ -118,11 +118,11 @@ returns g c = record {
       (subst (λ (z : Meta). CanServe (g.R.Rack.slot (store_rack c.spin_up.new.self)) (named_of old.store) z) (sym (meta_is g c))
       (lost_serves (g.R.Rack.slot (store_rack old.store)) (g.R.Rack.slot (store_rack c.spin_up.new.self)) (named_of old.store) old.meta c.args.disk up c.spin_up.ensures.slot.others
       (λ x is. c.in_ok-lose.ensures.alone c.args.disk x refl is c.requires.disk) c.requires.still));
-  store = search rules;
-  table = search rules;
-  batch = search rules;
-  copied = search rules;
-  draft = search rules;
+  store = c.spin_up.ensures.same;
+  table = refl;
+  batch = refl;
+  copied = refl;
+  draft = refl;
   unsynced = λ was d low stays here wet.
       let m = c.args.self.now.meta in
       let slot = c.spin_up.ensures.slot in
@@ -169,8 +169,8 @@ returns g c = record {
 
 pub returns-in_default : goal.returns-in_default
 returns-in_default g c = record {
-  slots = search rules;
-  others = search rules;
+  slots = c.spin_up.ensures.slots;
+  others = c.spin_up.ensures.slot.others;
   spins = λ is. ap (λ (s : Slot). s.power) (c.spin_up.ensures.slot.done (ap is_ok c.in_default.is));
   size = λ is. ap (λ (s : Slot). s.size) (c.spin_up.ensures.slot.done (ap is_ok c.in_default.is));
   meta = record { lost = None; is = refl; alone = λ d x is. let z : None ≡ Some d = is in cc };
@@ -186,11 +186,11 @@ returns-in_default g c = record {
       subst (λ (z : Option ℕ). CanServe (g.R.Rack.slot (store_rack c.spin_up.new.self)) z old.meta) (sym c.spin_up.ensures.same.named)
       (up_serves (g.R.Rack.slot (store_rack old.store)) (g.R.Rack.slot (store_rack c.spin_up.new.self)) (named_of old.store) old.meta c.args.disk up c.spin_up.ensures.slot.others
       (ap (λ (s : Slot). s.power) done) (ap (λ (s : Slot). s.size) done) c.requires.still);
-  store = search rules;
-  table = search rules;
-  batch = search rules;
-  copied = search rules;
-  draft = search rules;
+  store = c.spin_up.ensures.same;
+  table = refl;
+  batch = refl;
+  copied = refl;
+  draft = refl;
   -- it was parked, and so it was synced
   unsynced = λ was d low stays here wet. elim (cases_eq d c.args.disk) [
     | inl is ↦ absurd (false≢true (sym (ap (λ (e : ℕ). (g.R.Rack.slot (store_rack c.spin_up.new.self) e).unsynced) is ∙ ap (λ (s : Slot). s.unsynced) (c.spin_up.ensures.slot.done (ap is_ok c.in_default.is))

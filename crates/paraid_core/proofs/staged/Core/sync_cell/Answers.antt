@@ -4,7 +4,7 @@ use Rattle.paraid_core.specs.declared.staged.Core.{Core}
 use Rattle.paraid_core.specs.Cores.{CoreStandsFor}
 use Rattle.paraid_core.specs.CellCopies.{CellsCopied, CopyingCell, copied_with}
 use Rattle.paraid_core.proofs.AfterLemmas.{handed}
-use Rattle.paraid_core.proofs.FillLemmas.{gather_lost_leaves, gathered_leaves}
+use Rattle.paraid_core.proofs.FillLemmas.{gather_lost_leaves, gathered_leaves, can_read_whole}
 use Rattle.paraid_core.proofs.CopyCellLemmas.{cell_gathered, cell_lost, cell_reads_held, disk_in}
 use Rattle.paraid_core.proofs.StepLemmas.{held_runs_then, leaves_then, runs_then, two_then}
 use Rattle.std.proofs.Common.{sym, ap, ◌≡◌, ℕ, ◌<◌, None, Some, refl, subst}
@@ -148,4 +148,26 @@ returns g c = record {
       cell_lost g.R.Rack.slot_count g.R.Rack.slot g.R.Rack.told old q.ready q.whole (g.met.R.Rack.agrees (store_rack old.store)) c.read_value.new.store c.in-Err.lost c.in-Err.ensures.read c.in-Err.ensures.below q.serves.stays c.lose.new.meta c.in_ok-lose.ensures.marked
       (g.met.R.Rack.agrees (store_rack c.read_value.new.store)) (g.met.R.Rack.slots_hold (store_rack c.read_value.new.store)).absent h lo cells;
   moments = λ h lo cells. cell_reads_held g.R.Rack.slot_count g.R.Rack.slot g.R.Rack.told c.args.self.now c.requires.ready _ c.in-Err.ensures.read.calls h lo cells;
+}
+
+pub read_value-requires : goal.read_value-requires
+read_value-requires g c = record {
+  in_range = c.requires.ready.in_range;
+  row = c.requires.row;
+  disk = disk_in c.args.self.now.meta c.args.disk c.requires.ready.in_range c.requires.rises;
+  rows = c.requires.ready.rows_are;
+  array = c.requires.ready.array_is;
+  ready = can_read_whole g.R.Rack.slot_count g.R.Rack.slot g.R.Rack.told c.args.self.now c.requires.ready c.requires.serves c.requires.whole;
+}
+
+pub write_cell-requires : goal.write_cell-requires
+write_cell-requires g c = record {
+  ready = (gathered_leaves g.R.Rack.slot_count g.R.Rack.slot g.R.Rack.told c.args.self.now c.requires.ready c.read_value.new.store c.in_default.ensures.read c.requires.serves.stays).ready;
+  serves = (gathered_leaves g.R.Rack.slot_count g.R.Rack.slot g.R.Rack.told c.args.self.now c.requires.ready c.read_value.new.store c.in_default.ensures.read c.requires.serves.stays).serves c.requires.serves;
+  whole = c.requires.whole;
+  row = c.requires.row;
+  past_gear = c.requires.past_gear;
+  rises = c.requires.rises;
+  dirty = c.requires.dirty;
+  nothing = c.requires.nothing;
 }

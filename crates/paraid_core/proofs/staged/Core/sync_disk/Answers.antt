@@ -1,7 +1,8 @@
 use Rattle.paraid_base.specs.declared.state.Out.TheVariants.{Fresh, Gone, No}
 use Rattle.paraid_image.specs.Mark.{meta_after_loss}
-use Rattle.std.proofs.Common.{◌≡◌, ℕ, ◌∙◌, ◌<◌, Some, None, sym, ap, subst, refl, false, true, rules}
+use Rattle.std.proofs.Common.{◌≡◌, ℕ, ◌∙◌, ◌<◌, Some, None, sym, ap, subst, refl, false, true}
 use Rattle.std.specs.Prelude.{Option, is_ok, slice_set}
+use Rattle.std.proofs.lemmas.Bool.{false≢true}
 use Rattle.paraid_base.specs.Told.{HasRisen}
 use Rattle.paraid_image.specs.Out.{named_out}
 use Rattle.paraid_rack.specs.declared.call.Call.TheVariants.{Sync}
@@ -13,7 +14,7 @@ use Rattle.paraid_core.specs.CoreInvariant.{HoldsBetweenCalls, lost_in, meta_wit
 use Rattle.paraid_core.proofs.AfterLemmas.{lost_in_there}
 use Rattle.paraid_core.proofs.CallLemmas.{call_held, call_leaves, call_spared, call_stands, done_only, failed_only, keeps_held}
 use Rattle.paraid_core.proofs.ReadyLemmas.{some_is}
-use Rattle.paraid_core.proofs.UnsyncedLemmas.{marks_cleared}
+use Rattle.paraid_core.proofs.UnsyncedLemmas.{marks_cleared, one_dry, one_synced}
 use Rattle.paraid_core.proofs.SettleCellLemmas.{sync_copied}
 use Rattle.paraid_core.proofs.SettleUnitLemmas.{sync_units}
 use Rattle.paraid_core.proofs.SettleLemmas.{cleared_at, keeps_synced, keeps_unsynced, sync_filled}
@@ -59,8 +60,8 @@ returns g c = record {
       (call_spared 8 _ _ _ _ _ _ c.sync-answer.ensures.slot refl refl refl)
       (λ d is. subst (λ (e : ℕ). HasRisen (g.R.Rack.slot (store_rack c.args.self.now.store) e).faults (g.R.Rack.slot (store_rack c.sync-answer.new.self) e).faults) (some_is c.args.disk d is) (c.sync-answer.ensures.slot.risen (failed g c))) (marks_cleared _ _ _ _ _ _ c.sync-answer.ensures.slot _ _ refl (cleared_at _ _));
   spared = call_spared 8 _ _ _ _ _ _ c.sync-answer.ensures.slot refl refl refl;
-  still_synced = search rules;
-  synced = search rules;
+  still_synced = one_dry _ _ _ _ _ _ c.sync-answer.ensures.slot (λ wet. absurd (false≢true wet));
+  synced = one_synced _ _ _ _ _ _ c.sync-answer.ensures.slot refl;
   cleared = cleared_at _ _;
   two = tt;
   tells = tt;
@@ -88,8 +89,8 @@ returns-in_default g c = record {
       None (λ d is. cc) (done_only _ _ _ _ _ _ _ c.sync-answer.ensures.slot refl refl (done g c)) (λ d x is. cc) refl
       (call_spared 8 _ _ _ _ _ _ c.sync-answer.ensures.slot refl refl refl) (λ d is. cc) (marks_cleared _ _ _ _ _ _ c.sync-answer.ensures.slot _ _ refl (cleared_at _ _));
   spared = call_spared 8 _ _ _ _ _ _ c.sync-answer.ensures.slot refl refl refl;
-  still_synced = search rules;
-  synced = search rules;
+  still_synced = one_dry _ _ _ _ _ _ c.sync-answer.ensures.slot (λ wet. absurd (false≢true wet));
+  synced = one_synced _ _ _ _ _ _ c.sync-answer.ensures.slot refl;
   cleared = cleared_at _ _;
   two = tt;
   tells = tt;
@@ -119,7 +120,7 @@ pub returns-in_err-lose : goal.returns-in_err-lose
 returns-in_err-lose g c = record {
   leaves = none_done _ c.from_residual.result _ c.from_residual.ensures.1;
   spared = call_spared 8 _ _ _ _ _ _ c.sync-answer.ensures.slot refl refl refl;
-  still_synced = search rules;
+  still_synced = one_dry _ _ _ _ _ _ c.sync-answer.ensures.slot (λ wet. absurd (false≢true wet));
   synced = none_done _ c.from_residual.result _ c.from_residual.ensures.1;
   cleared = cleared_at _ _;
   two =

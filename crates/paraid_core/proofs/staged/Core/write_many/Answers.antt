@@ -1,11 +1,11 @@
 use Rattle.std.proofs.Common.{ℕ, ap, length, ◌+◌, ◌≡◌, ◌∙◌, sym, arith}
-use Rattle.std.specs.Prelude.{Bool, List, ◌*◌, ◌∷◌, ◌++◌, [], if◌then◌else◌}
+use Rattle.std.specs.Prelude.{Bool, true, List, ◌*◌, ◌∷◌, ◌++◌, [], if◌then◌else◌}
 use Rattle.paraid_base.specs.Pairs.{pairs_of}
 use Rattle.paraid_dirty.specs.Table.{is_dirty}
 use Rattle.paraid_plan.specs.WrittenBits.{bits_after_writes}
 use Rattle.paraid_record.specs.declared.meta.Setup.{Setup}
 use Rattle.paraid_txn.specs.Stores.{named_of}
-use Rattle.paraid_core.specs.Cores.{IsCoreHeldSinceCommit, CoreStandsFor, batch_of, core_down, core_rack}
+use Rattle.paraid_core.specs.Cores.{IsCoreHeld, IsCoreHeldSinceCommit, CoreStandsFor, batch_of, core_down, core_rack}
 use Rattle.paraid_core.specs.Room.{commits_first}
 use Rattle.paraid_core.proofs.ChainLemmas.{after_raised, down_both, ended, two_after}
 use Rattle.paraid_core.proofs.KindLemmas.{calls_then, transfer_after, data_after, idle_calls, idle_then}
@@ -16,7 +16,7 @@ use Rattle.paraid_txn.specs.Losses.{AreTwoDown}
 use Rattle.paraid_core.proofs.RestLemmas.{rest_ran}
 use Rattle.paraid_image.specs.Out.{named_out}
 use Rattle.paraid_core.proofs.OrderLemmas.{core_tells_then, transfer_bears}
-use Rattle.paraid_rack.specs.Told.{Ran}
+use Rattle.paraid_rack.specs.Told.{Ran, CrashTriple}
 use Rattle.paraid_txn.specs.Stores.{store_rack}
 use Rattle.paraid_image.specs.Lost.{TellsLosses}
 use Rattle.std.proofs.Common.{subst, ◌-◌, ◌<◌, ◌^◌}
@@ -25,69 +25,11 @@ use Rattle.paraid_base.specs.declared.block.Block.{Block as BlockType}
 use Rattle.paraid_view.proofs.TwoLemmas.{spared_then}
 use Rattle.paraid_core.proofs.StepLemmas.{dry_both}
 use Rattle.paraid_core.proofs.ErrLemmas.{none_done}
+use Rattle.paraid_base.specs.History.{History}
+use Rattle.paraid_core.specs.Calls.{CommitsWhole}
+use Rattle.paraid_core.proofs.staged.Core.write_many.Given.{Over}
 use Rattle.paraid_core.proofs.staged.Core.write_many.Goals as goal
-
-pub returns-clause-moments : goal.returns-clause-moments
-returns-clause-moments g c h lo =
-    let old = c.args.self.now in
-    let mid = c.make_room.new.self in
-    let first : Bool = commits_first (batch_of old) (10 * c.args.pairs.now.count) in
-    let low : ℕ = if first then length h else lo in
-    ended _ _ (IsCoreHeldSinceCommit g.R.Rack.slot_count mid h low) _ _
-    (after_raised (g.R.Rack.slot_count (core_rack old)) _ old.meta.setup.geometry.disks _ (core_down old) (named_of mid.store) (named_of old.store) old.meta old.dirty old.batch old.copied first h lo _
-    (IsCoreHeldSinceCommit g.R.Rack.slot_count mid h low) _ _ _
-    c.in_ok-make_room.ensures.slots (ap (λ (z : Setup). z.geometry.disks) c.in_ok-make_room.ensures.setup) c.in_ok-make_room.ensures.named
-    (c.in_ok-make_room.ensures.stands h lo) (c.in_ok-write_whole.ensures.moments h low))
-
-pub returns-clause-stands : goal.returns-clause-stands
-returns-clause-stands g c h lo =
-    let old = c.args.self.now in
-    let mid = c.make_room.new.self in
-    let new = c.write_whole.new.self in
-    let first : Bool = commits_first (batch_of old) (10 * c.args.pairs.now.count) in
-    let low : ℕ = if first then length h else lo in
-    after_raised (g.R.Rack.slot_count (core_rack old)) _ old.meta.setup.geometry.disks _ (core_down old) (named_of mid.store) (named_of old.store) old.meta old.dirty old.batch old.copied first h lo _
-    (CoreStandsFor g.R.Rack.slot_count new (h ++ pairs_of c.args.pairs.now ∷ []) low) _ _ _
-    c.in_ok-make_room.ensures.slots (ap (λ (z : Setup). z.geometry.disks) c.in_ok-make_room.ensures.setup) c.in_ok-make_room.ensures.named
-    (c.in_ok-make_room.ensures.stands h lo) (c.in_ok-write_whole.ensures.stands h low)
-
-pub returns-clause-calls : goal.returns-clause-calls
-returns-clause-calls g c =
-    calls_then _ _ _ _ c.make_room.ensures.calls
-    (transfer_after c.args.self.now.meta c.make_room.new.self.meta c.in_ok-make_room.ensures.setup c.in_ok-make_room.ensures.gone _ _ c.write_whole.ensures.calls)
-
-pub returns-clause-kept : goal.returns-clause-kept
-returns-clause-kept g c is =
-    idle_then _ _ (g.R.Rack.told (core_rack c.make_room.new.self)) _ (c.make_room.ensures.idle is)
-    (data_after c.args.self.now.meta c.make_room.new.self.meta c.in_ok-make_room.ensures.setup c.in_ok-make_room.ensures.gone _ _ c.write_whole.ensures.calls)
-
-pub returns-clause-whole : goal.returns-clause-whole
-returns-clause-whole g c is h lo =
-    let old = c.args.self.now in
-    whole_then_reads (CoreStandsFor g.R.Rack.slot_count old h lo) (λ s k. k.base) (record old.meta { epoch = old.meta.epoch + 1 }) old.batch c.make_room.new.self.meta.setup.geometry.disks (λ s k. k.next.setup)
-    (ap (λ (z : Setup). z.geometry.disks) c.in_ok-make_room.ensures.setup) _ _ _ (c.make_room.ensures.whole is h lo) c.write_whole.ensures.reads
-
-pub returns-clause-marks : goal.returns-clause-marks
-returns-clause-marks g c = marks_then _ _ _ _ _ _ c.in_ok-make_room.ensures.marks c.in_ok-write_whole.ensures.marks c.make_room.ensures.spared c.write_whole.ensures.spared
-
-pub returns-clause-names : goal.returns-clause-names
-returns-clause-names g c = c.in_ok-write_whole.ensures.named ∙ c.in_ok-make_room.ensures.names
-
-pub returns-clause-rest : goal.returns-clause-rest
-returns-clause-rest g c is h lo =
-    let old = c.args.self.now in
-    let new = c.write_whole.new.self in
-    let first = c.in_ok-make_room.ensures in
-    let then_it = c.in_ok-write_whole.ensures in
-    let names : named_of new.store ≡ named_out old.meta.out = returns-clause-names g c ∙ ap (λ (b : Bool). if b then named_out old.meta.out else named_of old.store) is in
-    let epoch : new.meta.epoch ≡ old.meta.epoch + 1 = then_it.epoch ∙ first.epoch ∙ ap (λ (b : Bool). old.meta.epoch + (if b then 1 else 0)) is in
-    rest_ran (CoreStandsFor g.R.Rack.slot_count old h lo) (λ s k. k.base) (record old.meta { epoch = old.meta.epoch + 1 }) old.batch _ _ (named_of new.store) new.meta _ _ new.copied old.copied _ _ (g.R.Rack.slot (core_rack new)) _ _ (g.met.R.Rack.agrees (core_rack new))
-    then_it.ready.absent then_it.ready.one names (λ s k d is_out. c.requires.serves.stays d (sym k.named_by ∙ is_out)) (λ s k. k.next.setup) (then_it.setup ∙ first.setup) (λ s k. let was = k.epoch in omega (arith, was, epoch))
-    (then_it.copied ∙ first.copied) c.requires.copies_synced (returns-clause-whole g c is h lo) (returns-clause-stands g c h lo)
-
-pub returns-clause-bits : goal.returns-clause-bits
-returns-clause-bits g c =
-    c.in_ok-write_whole.ensures.bits ∙ ap (λ (z : List (List Bool)). bits_after_writes c.write_whole.new.self.meta (pairs_of c.args.pairs.now) (is_dirty z)) c.in_ok-make_room.ensures.table
+use Rattle.paraid_core.proofs.staged.Core.write_many.Goals.{In_ok-write_whole}
 
 pub returns-in_err-make_room : goal.returns-in_err-make_room
 returns-in_err-make_room g c = record {
@@ -116,15 +58,6 @@ returns-in_err-make_room g c = record {
   moments = c.make_room.ensures.moments;
   stands = none_done _ c.from_residual.result _ c.from_residual.ensures.1;
 }
-
-pub returns-clause-copied : goal.returns-clause-copied
-returns-clause-copied g c = c.write_whole.ensures.copied ∙ c.make_room.ensures.copied
-
-pub returns-clause-slots : goal.returns-clause-slots
-returns-clause-slots g c = c.write_whole.ensures.slots ∙ c.make_room.ensures.slots
-
-pub returns-clause-spared : goal.returns-clause-spared
-returns-clause-spared g c = spared_then _ _ _ c.make_room.ensures.spared c.write_whole.ensures.spared
 
 pub returns-in_err-write_whole : goal.returns-in_err-write_whole
 returns-in_err-write_whole g c = record {
@@ -179,65 +112,94 @@ returns-in_err-write_whole g c = record {
   stands = none_done _ c.from_residual-in_err-write_whole.result _ c.from_residual-in_err-write_whole.ensures.1;
 }
 
-pub returns-clause-draft : goal.returns-clause-draft
-returns-clause-draft g c = c.write_whole.ensures.draft
+module _ (g : Over) (c : In_ok-write_whole g) where
+  names_then : named_of c.write_whole.new.self.store ≡ (if commits_first (batch_of c.args.self.now) (10 * c.args.pairs.now.count) then named_out c.args.self.now.meta.out else named_of c.args.self.now.store)
+  names_then = c.in_ok-write_whole.ensures.named ∙ c.in_ok-make_room.ensures.names
 
-pub returns-clause-ready : goal.returns-clause-ready
-returns-clause-ready g c = c.in_ok-write_whole.ensures.ready
+  whole_then : commits_first (batch_of c.args.self.now) (10 * c.args.pairs.now.count) ≡ true → CommitsWhole g.R.Rack.slot_count g.R.Rack.told c.args.self.now c.write_whole.new.self
+  whole_then is h lo =
+      let old = c.args.self.now in
+      whole_then_reads (CoreStandsFor g.R.Rack.slot_count old h lo) (λ s k. k.base) (record old.meta { epoch = old.meta.epoch + 1 }) old.batch c.make_room.new.self.meta.setup.geometry.disks (λ s k. k.next.setup)
+      (ap (λ (z : Setup). z.geometry.disks) c.in_ok-make_room.ensures.setup) _ _ _ (c.make_room.ensures.whole is h lo) c.write_whole.ensures.reads
 
-pub returns-clause-serves : goal.returns-clause-serves
-returns-clause-serves g c = c.in_ok-write_whole.ensures.serves
+  stands_then : (h : History) (lo : ℕ) → Ran (g.R.Rack.told (core_rack c.args.self.now)) (g.R.Rack.told (core_rack c.write_whole.new.self)) (CrashTriple (IsCoreHeld g.R.Rack.slot_count c.args.self.now h lo) (CoreStandsFor g.R.Rack.slot_count c.args.self.now h lo)
+      (CoreStandsFor g.R.Rack.slot_count c.write_whole.new.self (h ++ pairs_of c.args.pairs.now ∷ []) (if commits_first (batch_of c.args.self.now) (10 * c.args.pairs.now.count) then length h else lo)))
+  stands_then h lo =
+      let old = c.args.self.now in
+      let mid = c.make_room.new.self in
+      let new = c.write_whole.new.self in
+      let first : Bool = commits_first (batch_of old) (10 * c.args.pairs.now.count) in
+      let low : ℕ = if first then length h else lo in
+      after_raised (g.R.Rack.slot_count (core_rack old)) _ old.meta.setup.geometry.disks _ (core_down old) (named_of mid.store) (named_of old.store) old.meta old.dirty old.batch old.copied first h lo _
+      (CoreStandsFor g.R.Rack.slot_count new (h ++ pairs_of c.args.pairs.now ∷ []) low) _ _ _
+      c.in_ok-make_room.ensures.slots (ap (λ (z : Setup). z.geometry.disks) c.in_ok-make_room.ensures.setup) c.in_ok-make_room.ensures.named
+      (c.in_ok-make_room.ensures.stands h lo) (c.in_ok-write_whole.ensures.stands h low)
 
-pub returns-clause-setup : goal.returns-clause-setup
-returns-clause-setup g c = c.in_ok-write_whole.ensures.setup ∙ c.in_ok-make_room.ensures.setup
+pub returns : goal.returns
+returns g c = record {
+  draft = c.write_whole.ensures.draft;
+  copied = c.write_whole.ensures.copied ∙ c.make_room.ensures.copied;
+  slots = c.write_whole.ensures.slots ∙ c.make_room.ensures.slots;
+  ready = c.in_ok-write_whole.ensures.ready;
+  serves = c.in_ok-write_whole.ensures.serves;
+  staged = let first = c.in_ok-make_room.ensures.staged in let second = c.in_ok-write_whole.ensures.staged in omega (arith, first, second);
+  bits =
+      c.in_ok-write_whole.ensures.bits ∙ ap (λ (z : List (List Bool)). bits_after_writes c.write_whole.new.self.meta (pairs_of c.args.pairs.now) (is_dirty z)) c.in_ok-make_room.ensures.table;
+  setup = c.in_ok-write_whole.ensures.setup ∙ c.in_ok-make_room.ensures.setup;
+  writes = c.in_ok-write_whole.ensures.writes ∙ ap (λ (n : ℕ). n + 1) c.in_ok-make_room.ensures.writes;
+  epoch = c.in_ok-write_whole.ensures.epoch ∙ c.in_ok-make_room.ensures.epoch;
+  spared = spared_then _ _ _ c.make_room.ensures.spared c.write_whole.ensures.spared;
+  still_synced = dry_both (g.R.Rack.slot (core_rack c.args.self.now)) (g.R.Rack.slot (core_rack c.make_room.new.self)) (g.R.Rack.slot (core_rack c.write_whole.new.self)) c.in_ok-make_room.ensures.still_synced c.write_whole.ensures.still_synced c.write_whole.ensures.spared;
+  unsynced = λ was. c.in_ok-write_whole.ensures.unsynced (c.in_ok-make_room.ensures.unsynced was);
+  two = tt;
+  tells = tt;
+  calls =
+      calls_then _ _ _ _ c.make_room.ensures.calls
+      (transfer_after c.args.self.now.meta c.make_room.new.self.meta c.in_ok-make_room.ensures.setup c.in_ok-make_room.ensures.gone _ _ c.write_whole.ensures.calls);
+  kept = λ is.
+      idle_then _ _ (g.R.Rack.told (core_rack c.make_room.new.self)) _ (c.make_room.ensures.idle is)
+      (data_after c.args.self.now.meta c.make_room.new.self.meta c.in_ok-make_room.ensures.setup c.in_ok-make_room.ensures.gone _ _ c.write_whole.ensures.calls);
+  whole = whole_then g c;
+  rest = λ is h lo.
+      let old = c.args.self.now in
+      let new = c.write_whole.new.self in
+      let first = c.in_ok-make_room.ensures in
+      let then_it = c.in_ok-write_whole.ensures in
+      let names : named_of new.store ≡ named_out old.meta.out = names_then g c ∙ ap (λ (b : Bool). if b then named_out old.meta.out else named_of old.store) is in
+      let epoch : new.meta.epoch ≡ old.meta.epoch + 1 = then_it.epoch ∙ first.epoch ∙ ap (λ (b : Bool). old.meta.epoch + (if b then 1 else 0)) is in
+      rest_ran (CoreStandsFor g.R.Rack.slot_count old h lo) (λ s k. k.base) (record old.meta { epoch = old.meta.epoch + 1 }) old.batch _ _ (named_of new.store) new.meta _ _ new.copied old.copied _ _ (g.R.Rack.slot (core_rack new)) _ _ (g.met.R.Rack.agrees (core_rack new))
+      then_it.ready.absent then_it.ready.one names (λ s k d is_out. c.requires.serves.stays d (sym k.named_by ∙ is_out)) (λ s k. k.next.setup) (then_it.setup ∙ first.setup) (λ s k. let was = k.epoch in omega (arith, was, epoch))
+      (then_it.copied ∙ first.copied) c.requires.copies_synced (whole_then g c is h lo) (stands_then g c h lo);
+  names = names_then g c;
+  marks = marks_then _ _ _ _ _ _ c.in_ok-make_room.ensures.marks c.in_ok-write_whole.ensures.marks c.make_room.ensures.spared c.write_whole.ensures.spared;
+  down = down_both _ _ _ _ _ _ c.in_ok-make_room.ensures.down c.make_room.ensures.spared c.in_ok-write_whole.ensures.down c.write_whole.ensures.spared;
+  moments = λ h lo.
+      let old = c.args.self.now in
+      let mid = c.make_room.new.self in
+      let first : Bool = commits_first (batch_of old) (10 * c.args.pairs.now.count) in
+      let low : ℕ = if first then length h else lo in
+      ended _ _ (IsCoreHeldSinceCommit g.R.Rack.slot_count mid h low) _ _
+      (after_raised (g.R.Rack.slot_count (core_rack old)) _ old.meta.setup.geometry.disks _ (core_down old) (named_of mid.store) (named_of old.store) old.meta old.dirty old.batch old.copied first h lo _
+      (IsCoreHeldSinceCommit g.R.Rack.slot_count mid h low) _ _ _
+      c.in_ok-make_room.ensures.slots (ap (λ (z : Setup). z.geometry.disks) c.in_ok-make_room.ensures.setup) c.in_ok-make_room.ensures.named
+      (c.in_ok-make_room.ensures.stands h lo) (c.in_ok-write_whole.ensures.moments h low));
+  stands = stands_then g c;
+}
 
-pub returns-clause-epoch : goal.returns-clause-epoch
-returns-clause-epoch g c = c.in_ok-write_whole.ensures.epoch ∙ c.in_ok-make_room.ensures.epoch
+pub write_whole-requires : goal.write_whole-requires
+write_whole-requires g c = record {
+  ready = c.in_ok-make_room.ensures.ready;
+  serves = c.in_ok-make_room.ensures.serves;
+  blocks = subst (λ (z : Setup). All (λ (pair : ℕ × BlockType). pair.0 < z.geometry.rows * (z.geometry.disks - 1)) (pairs_of c.args.pairs.now)) (sym c.in_ok-make_room.ensures.setup) c.requires.blocks;
+  room = c.in_ok-make_room.ensures.room;
+  fits = subst (λ (n : ℕ). n + 1 < 2 ^ 64) (sym c.in_ok-make_room.ensures.writes) c.requires.fits;
+}
 
-pub returns-clause-writes : goal.returns-clause-writes
-returns-clause-writes g c = c.in_ok-write_whole.ensures.writes ∙ ap (λ (n : ℕ). n + 1) c.in_ok-make_room.ensures.writes
-
-pub returns-clause-staged : goal.returns-clause-staged
-returns-clause-staged g c = let first = c.in_ok-make_room.ensures.staged in let second = c.in_ok-write_whole.ensures.staged in omega (arith, first, second)
-
-pub returns-clause-still_synced : goal.returns-clause-still_synced
-returns-clause-still_synced g c = dry_both (g.R.Rack.slot (core_rack c.args.self.now)) (g.R.Rack.slot (core_rack c.make_room.new.self)) (g.R.Rack.slot (core_rack c.write_whole.new.self)) c.in_ok-make_room.ensures.still_synced c.write_whole.ensures.still_synced c.write_whole.ensures.spared
-
-pub returns-clause-unsynced : goal.returns-clause-unsynced
-returns-clause-unsynced g c was = c.in_ok-write_whole.ensures.unsynced (c.in_ok-make_room.ensures.unsynced was)
-
-pub returns-clause-two : goal.returns-clause-two
-returns-clause-two g c = tt
-
-pub returns-clause-tells : goal.returns-clause-tells
-returns-clause-tells g c = tt
-
-pub returns-clause-down : goal.returns-clause-down
-returns-clause-down g c = down_both _ _ _ _ _ _ c.in_ok-make_room.ensures.down c.make_room.ensures.spared c.in_ok-write_whole.ensures.down c.write_whole.ensures.spared
-
-pub write_whole-requires-clause-ready : goal.write_whole-requires-clause-ready
-write_whole-requires-clause-ready g c = c.in_ok-make_room.ensures.ready
-
-pub write_whole-requires-clause-serves : goal.write_whole-requires-clause-serves
-write_whole-requires-clause-serves g c = c.in_ok-make_room.ensures.serves
-
-pub write_whole-requires-clause-room : goal.write_whole-requires-clause-room
-write_whole-requires-clause-room g c = c.in_ok-make_room.ensures.room
-
-pub write_whole-requires-clause-blocks : goal.write_whole-requires-clause-blocks
-write_whole-requires-clause-blocks g c = subst (λ (z : Setup). All (λ (pair : ℕ × BlockType). pair.0 < z.geometry.rows * (z.geometry.disks - 1)) (pairs_of c.args.pairs.now)) (sym c.in_ok-make_room.ensures.setup) c.requires.blocks
-
-pub write_whole-requires-clause-fits : goal.write_whole-requires-clause-fits
-write_whole-requires-clause-fits g c = subst (λ (n : ℕ). n + 1 < 2 ^ 64) (sym c.in_ok-make_room.ensures.writes) c.requires.fits
-
-pub make_room-requires-clause-ready : goal.make_room-requires-clause-ready
-make_room-requires-clause-ready g c = c.requires.ready
-
-pub make_room-requires-clause-serves : goal.make_room-requires-clause-serves
-make_room-requires-clause-serves g c = c.requires.serves
-
-pub make_room-requires-clause-epoch : goal.make_room-requires-clause-epoch
-make_room-requires-clause-epoch g c = c.requires.epoch
-
-pub make_room-requires-clause-copies_synced : goal.make_room-requires-clause-copies_synced
-make_room-requires-clause-copies_synced g c = c.requires.copies_synced
+pub make_room-requires : goal.make_room-requires
+make_room-requires g c = record {
+  few = let few = c.args.pairs.now.few in omega (arith, few);
+  ready = c.requires.ready;
+  serves = c.requires.serves;
+  epoch = c.requires.epoch;
+  copies_synced = c.requires.copies_synced;
+}

@@ -160,25 +160,23 @@ returns-in_err-lose g c = record {
       c.write_free-answer.ensures.told q.from _ (record { here = c.mark.ensures.here; others = c.mark.ensures.others }) h lo;
 }
 
-pub place_of_unit-place-requires-clause-in_range : goal.place_of_unit-place-requires-clause-in_range
-place_of_unit-place-requires-clause-in_range g c = c.requires.ready.in_range
+pub place_of_unit-place-requires : goal.place_of_unit-place-requires
+place_of_unit-place-requires g c = record {
+  in_range = c.requires.ready.in_range;
+  unit = c.requires.unit;
+}
 
-pub place_of_unit-place-requires-clause-unit : goal.place_of_unit-place-requires-clause-unit
-place_of_unit-place-requires-clause-unit g c = c.requires.unit
-
-pub write_free-answer-requires-clause-spinning : goal.write_free-answer-requires-clause-spinning
-write_free-answer-requires-clause-spinning g c = c.requires.spins
-
-pub write_free-answer-requires-clause-exists : goal.write_free-answer-requires-clause-exists
-write_free-answer-requires-clause-exists g c =
-    let old = c.args.self.now in
-    let q = c.requires in
-    let low = rebuilding_below g.R.Rack.slot_count g.R.Rack.slot g.R.Rack.told old q.ready (g.met.R.Rack.agrees (store_rack old.store)) q.nothing c.args.number c.args.disk c.args.unit q.fresh q.unit in
-    let enough = q.ready.enough in omega arith
-
-pub write_free-answer-requires-clause-within : goal.write_free-answer-requires-clause-within
-write_free-answer-requires-clause-within g c =
-    let q = c.requires in
-    let within = c.place_of_unit-place.ensures.within in
-    let large = q.ready.fresh_large c.args.disk _ q.fresh (ap is_present q.spins) in
-    omega arith
+pub write_free-answer-requires : goal.write_free-answer-requires
+write_free-answer-requires g c = record {
+  exists =
+      let old = c.args.self.now in
+      let q = c.requires in
+      let low = rebuilding_below g.R.Rack.slot_count g.R.Rack.slot g.R.Rack.told old q.ready (g.met.R.Rack.agrees (store_rack old.store)) q.nothing c.args.number c.args.disk c.args.unit q.fresh q.unit in
+      let enough = q.ready.enough in omega arith;
+  spinning = c.requires.spins;
+  within =
+      let q = c.requires in
+      let within = c.place_of_unit-place.ensures.within in
+      let large = q.ready.fresh_large c.args.disk _ q.fresh (ap is_present q.spins) in
+      omega arith;
+}

@@ -111,24 +111,18 @@ returns-then-done g c = record {
       (CoreStandsFor g.R.Rack.slot_count new (if b then h ++ pairs_of c.args.pairs.now ∷ [] else h) lo))) c.if-done.true (c.in_ok-done.ensures.since h lo);
 }
 
-pub try_write-requires-2-clause-ready : goal.try_write-requires-2-clause-ready
-try_write-requires-2-clause-ready g c = c.in_ok-done.ensures.ready
-
-pub try_write-requires-2-clause-serves : goal.try_write-requires-2-clause-serves
-try_write-requires-2-clause-serves g c = c.in_ok-done.ensures.serves
-
-pub try_write-requires-2-clause-blocks : goal.try_write-requires-2-clause-blocks
-try_write-requires-2-clause-blocks g c = subst (λ (z : Setup). All (λ (pair : ℕ × BlockType). pair.0 < z.geometry.rows * (z.geometry.disks - 1)) (pairs_of c.args.pairs.now)) (sym c.in_ok-done.ensures.setup) c.requires.blocks
-
-pub try_write-requires-2-clause-room : goal.try_write-requires-2-clause-room
-try_write-requires-2-clause-room g c = subst (λ (n : ℕ). n + 10 * c.args.pairs.now.count ≤ 96) (ap length (sym (c.in_ok-done.ensures.dropped c.if-done.false))) c.requires.room
-
-pub try_write-requires-2-clause-fits : goal.try_write-requires-2-clause-fits
-try_write-requires-2-clause-fits g c =
-    let old = c.args.self.now in
-    let first : c.try_write.new.self.meta.writes ≡ old.meta.writes + 0 = c.in_ok-done.ensures.writes ∙ ap (λ (b : Bool). old.meta.writes + (if b then 1 else 0)) c.if-done.false in
-    let fits = c.requires.fits in
-    omega (arith, first, fits)
+pub try_write-requires-2 : goal.try_write-requires-2
+try_write-requires-2 g c = record {
+  ready = c.in_ok-done.ensures.ready;
+  serves = c.in_ok-done.ensures.serves;
+  blocks = subst (λ (z : Setup). All (λ (pair : ℕ × BlockType). pair.0 < z.geometry.rows * (z.geometry.disks - 1)) (pairs_of c.args.pairs.now)) (sym c.in_ok-done.ensures.setup) c.requires.blocks;
+  room = subst (λ (n : ℕ). n + 10 * c.args.pairs.now.count ≤ 96) (ap length (sym (c.in_ok-done.ensures.dropped c.if-done.false))) c.requires.room;
+  fits =
+      let old = c.args.self.now in
+      let first : c.try_write.new.self.meta.writes ≡ old.meta.writes + 0 = c.in_ok-done.ensures.writes ∙ ap (λ (b : Bool). old.meta.writes + (if b then 1 else 0)) c.if-done.false in
+      let fits = c.requires.fits in
+      omega (arith, first, fits);
+}
 
 pub returns-in_err-try_write : goal.returns-in_err-try_write
 returns-in_err-try_write g c = record {
@@ -234,17 +228,11 @@ returns g c = record {
       (CoreStandsFor g.R.Rack.slot_count new (if b then h ++ pairs_of c.args.pairs.now ∷ [] else h) lo))) (again g c) (c.in_ok-try_write.ensures.since h lo));
 }
 
-pub try_write-requires-clause-ready : goal.try_write-requires-clause-ready
-try_write-requires-clause-ready g c = c.requires.ready
-
-pub try_write-requires-clause-serves : goal.try_write-requires-clause-serves
-try_write-requires-clause-serves g c = c.requires.serves
-
-pub try_write-requires-clause-blocks : goal.try_write-requires-clause-blocks
-try_write-requires-clause-blocks g c = c.requires.blocks
-
-pub try_write-requires-clause-room : goal.try_write-requires-clause-room
-try_write-requires-clause-room g c = c.requires.room
-
-pub try_write-requires-clause-fits : goal.try_write-requires-clause-fits
-try_write-requires-clause-fits g c = c.requires.fits
+pub try_write-requires : goal.try_write-requires
+try_write-requires g c = record {
+  ready = c.requires.ready;
+  serves = c.requires.serves;
+  blocks = c.requires.blocks;
+  room = c.requires.room;
+  fits = c.requires.fits;
+}
