@@ -94,8 +94,7 @@ fn look_at_copy<C: Stored>(
     let mut stored = Block::zero();
     core.read_stored(disk, place, &mut stored)?;
     xor_into(sum, &stored);
-    let off = is_copy_off(core, gear, at, disk, &stored)?;
-    Ok(off)
+    is_copy_off(core, gear, at, disk, &stored)
 }
 
 /// Whether a stripe of the region of this gear does not store the values of its cells, or does not sum to zero.

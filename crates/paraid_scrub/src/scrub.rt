@@ -76,10 +76,7 @@ fn is_rebuilt_off<C: Stored>(core: &mut C, at: u32) -> Result<bool, Ending>
     ensures lost { IfErr result (C.loses core.old core.new) }
 {
     match core.meta().out {
-        Out::Fresh { disk, .. } => {
-            let off = is_unit_off(core, disk, at)?;
-            Ok(off)
-        }
+        Out::Fresh { disk, .. } => { is_unit_off(core, disk, at) }
         Out::No => Ok(false),
         Out::Gone { .. } => Ok(false),
     }
@@ -95,26 +92,11 @@ fn is_off<C: Stored>(core: &mut C, kind: Kind, at: u32) -> Result<bool, Ending>
 {
     let meta = core.meta();
     match kind {
-        Kind::Row => {
-            let off = is_row_off(core, at)?;
-            Ok(off)
-        }
-        Kind::Stripe => {
-            let off = is_stripe_off(core, meta.gear, at)?;
-            Ok(off)
-        }
-        Kind::Fill => {
-            let off = is_fill_off(core, meta.phase.to(), at)?;
-            Ok(off)
-        }
-        Kind::Unit => {
-            let off = is_rebuilt_off(core, at)?;
-            Ok(off)
-        }
-        Kind::Mirror => {
-            let off = is_map_off(core, 0, at)?;
-            Ok(off)
-        }
+        Kind::Row => { is_row_off(core, at) }
+        Kind::Stripe => { is_stripe_off(core, meta.gear, at) }
+        Kind::Fill => { is_fill_off(core, meta.phase.to(), at) }
+        Kind::Unit => { is_rebuilt_off(core, at) }
+        Kind::Mirror => { is_map_off(core, 0, at) }
     }
 }
 

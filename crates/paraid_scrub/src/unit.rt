@@ -68,8 +68,7 @@ fn is_rebuilt_stripe_off<C: Stored>(core: &mut C, disk: DiskNo, at: u32) -> Resu
     ensures lost { IfErr result (C.loses core.old core.new) }
 {
     let gear = core.meta().gear;
-    let off = is_stripe_off(core, gear, at)?;
-    Ok(off)
+    is_stripe_off(core, gear, at)
 }
 
 // How many stripes a disk has to get back.
@@ -97,15 +96,12 @@ pub(crate) fn is_unit_off<C: Stored>(core: &mut C, disk: DiskNo, at: u32) -> Res
     let meta = core.meta();
     let rows = meta.setup.geometry.rows();
     if at < rows {
-        let row_off = is_rebuilt_row_off(core, disk, at)?;
-        return Ok(row_off);
+        return is_rebuilt_row_off(core, disk, at);
     }
     let stripes = stripes_of(&meta, disk);
     let past = at - rows;
     if past < stripes {
-        let stripe_off = is_rebuilt_stripe_off(core, disk, past)?;
-        return Ok(stripe_off);
+        return is_rebuilt_stripe_off(core, disk, past);
     }
-    let map_off = is_map_off(core, disk, past - stripes)?;
-    Ok(map_off)
+    is_map_off(core, disk, past - stripes)
 }

@@ -109,12 +109,10 @@ fn read_soft<C: Stored>(
     let meta = core.meta();
     let (stripe, copy) = soft_of(&meta.setup.geometry, meta.gear, row, disk);
     if meta.out.names(copy) {
-        sum_stripe(core, meta.gear, stripe, copy, into)?;
-        return Ok(());
+        return sum_stripe(core, meta.gear, stripe, copy, into);
     }
     let place = soft_place(&meta.setup.geometry, meta.gear, stripe);
-    core.read_stored(copy, place, into)?;
-    Ok(())
+    core.read_stored(copy, place, into)
 }
 
 // The value of a cell of a disk that is not out.
@@ -133,12 +131,10 @@ fn read_near<C: Stored>(
     ensures lost { IfErr result (C.loses core.old core.new) }
 {
     if !is_hard(core, row, disk) {
-        read_soft(core, row, disk, into)?;
-        return Ok(());
+        return read_soft(core, row, disk, into);
     }
     let place = hard_place(&core.meta().setup.geometry, row);
-    core.read_stored(disk, place, into)?;
-    Ok(())
+    core.read_stored(disk, place, into)
 }
 
 // Adds the value of a cell to a sum, unless it is of the disk that is out.
@@ -198,13 +194,10 @@ pub(crate) fn read_value<C: Stored>(
     ensures lost { IfErr result (C.loses core.old core.new) }
 {
     if !core.meta().out.names(disk) {
-        read_near(core, row, disk, into)?;
-        return Ok(());
+        return read_near(core, row, disk, into);
     }
     if is_hard(core, row, disk) {
-        read_far(core, row, disk, into)?;
-        return Ok(());
+        return read_far(core, row, disk, into);
     }
-    read_soft(core, row, disk, into)?;
-    Ok(())
+    read_soft(core, row, disk, into)
 }

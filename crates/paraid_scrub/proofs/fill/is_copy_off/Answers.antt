@@ -1,4 +1,4 @@
-use Rattle.std.proofs.Common.{◌≡◌, ◌≢◌, ◌∙◌, IsTrue, ap, sym, rules}
+use Rattle.std.proofs.Common.{◌≡◌, ◌≢◌, ◌∙◌, IsTrue, ap, sym}
 use Rattle.std.specs.Prelude.{◌↔◌}
 use Rattle.paraid_base.specs.Skips.{place_among, skip}
 use Rattle.paraid_base.specs.Soft.{soft_disk, soft_parity_disk}
@@ -14,7 +14,7 @@ returns-then-disk-parity g c = record {
   shown =
       keeps_none c.args.core.now (g.met.C.Stored.stays c.args.core.now c.requires.usable) c.requires.usable
       (λ v s stored. none_off (parity_right v (g.C.Stored.meta c.args.core.now) (g.met.C.Stored.agrees c.args.core.now v s).0 c.args.gear c.args.at c.args.disk (c.if-disk-parity.true ∙ c.soft_parity-parity.ensures.value)));
-  lost = search rules;
+  lost = tt;
 }
 
 pub returns-in_default : goal.returns-in_default
@@ -24,7 +24,7 @@ returns-in_default g c = record {
       keeps_none c.args.core.now (g.met.C.Stored.stays c.args.core.now c.requires.usable) c.requires.usable
       (λ v s stored. none_off (pad_right v c.meta.result ((g.met.C.Stored.agrees c.args.core.now v s).0 ∙ sym c.meta.ensures.value) c.args.gear c.args.at c.args.disk apart c.index_among.result
       (c.index_among.ensures.value ∙ ap (λ z. place_among z c.args.disk) c.soft_parity-parity.ensures.value) c.in_default.ensures.value));
-  lost = search rules;
+  lost = tt;
 }
 
 pub returns : goal.returns
@@ -39,5 +39,5 @@ returns g c = record {
       (λ v s is stored.
       copy_off v m ((g.met.C.Stored.agrees c.args.core.now v s).0 ∙ sym c.meta.ensures.value) c.args.gear c.args.at c.args.disk c.in-Some.row c.in-Some.home c.in-Some.ensures.row_in c.in-Some.ensures.parked c.in-Some.ensures.disk_in back.0 on
       c.args.stored.now c.read_value.new.into is (stored ∙ ap (λ z. stripe z.setup.geometry v.block c.args.gear c.args.at c.args.disk) (sym c.meta.ensures.value)) c.differs.result c.differs.ensures);
-  lost = search rules;
+  lost = tt;
 }

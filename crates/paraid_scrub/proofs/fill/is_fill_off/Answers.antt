@@ -1,4 +1,4 @@
-use Rattle.std.proofs.Common.{◌≡◌, ◌<◌, ◌+◌, ◌∙◌, ℕ, IsTrue, sym, ap, subst, arith, rules}
+use Rattle.std.proofs.Common.{◌≡◌, ◌<◌, ◌+◌, ◌∙◌, ℕ, IsTrue, sym, ap, subst, arith}
 use Rattle.std.specs.Prelude.{◌↔◌}
 use Rattle.paraid_base.specs.Regions.{IsGear}
 use Rattle.paraid_base.specs.Soft.{stripe_count}
@@ -18,21 +18,16 @@ loop-disk-init g c = record {
   kept = keeps_none c.args.core.now (g.met.C.Stored.stays c.args.core.now c.requires.usable) c.requires.usable (λ v s. (sum_none _ _ c.zero-sum.ensures, none_off (λ x l. absurd (omega (arith, l)))));
 }
 
-pub look_at_copy-requires-clause-usable : goal.look_at_copy-requires-clause-usable
-look_at_copy-requires-clause-usable g c = c.loop-disk.invariant.kept.still
-
-pub look_at_copy-requires-clause-gear : goal.look_at_copy-requires-clause-gear
-look_at_copy-requires-clause-gear g c = subst (λ (z : Meta). IsGear z.setup.geometry c.args.gear) (sym c.loop-disk.invariant.kept.same) c.requires.gear
-
-pub look_at_copy-requires-clause-region : goal.look_at_copy-requires-clause-region
-look_at_copy-requires-clause-region g c = subst (λ (z : Meta). c.args.gear < z.setup.geometry.disks) (sym c.loop-disk.invariant.kept.same) c.requires.region
-
-pub look_at_copy-requires-clause-at : goal.look_at_copy-requires-clause-at
-look_at_copy-requires-clause-at g c =
-    subst (λ (z : Meta). c.args.at < stripe_count z.setup.geometry.disks z.setup.geometry.rows c.args.gear) (sym c.loop-disk.invariant.kept.same) c.requires.at
-
-pub look_at_copy-requires-clause-readable : goal.look_at_copy-requires-clause-readable
-look_at_copy-requires-clause-readable g c = subst (λ (z : Meta). IsReadable z c.loop-disk.disk) (sym c.loop-disk.invariant.kept.same) (c.requires.readable c.loop-disk.disk (omega arith))
+pub look_at_copy-requires : goal.look_at_copy-requires
+look_at_copy-requires g c = record {
+  usable = c.loop-disk.invariant.kept.still;
+  gear = subst (λ (z : Meta). IsGear z.setup.geometry c.args.gear) (sym c.loop-disk.invariant.kept.same) c.requires.gear;
+  region = subst (λ (z : Meta). c.args.gear < z.setup.geometry.disks) (sym c.loop-disk.invariant.kept.same) c.requires.region;
+  at =
+      subst (λ (z : Meta). c.args.at < stripe_count z.setup.geometry.disks z.setup.geometry.rows c.args.gear) (sym c.loop-disk.invariant.kept.same) c.requires.at;
+  disk = c.loop-disk-test.true;
+  readable = subst (λ (z : Meta). IsReadable z c.loop-disk.disk) (sym c.loop-disk.invariant.kept.same) (c.requires.readable c.loop-disk.disk (omega arith));
+}
 
 pub loop-disk-preserved : goal.loop-disk-preserved
 loop-disk-preserved g c =
@@ -61,5 +56,5 @@ returns g c = record {
       let cells = subst (λ (n : ℕ). IsTrue c.loop-disk.off ↔ (((x : ℕ) → x < n → IsCopyRight v c.args.gear c.args.at x) → ⊥)) all is.1 in
       either_off {P = (x : ℕ) → x < c.args.gear → IsCopyRight v c.args.gear c.args.at x} {Q = IsStripeZero v c.args.gear c.args.at} {R = IsFillRight v c.args.gear c.args.at} c.loop-disk.off _ c.either.result cells
       (is_not_zero c.is_zero.result c.loop-disk.sum _ c.is_zero.ensures sum) c.either.ensures (fill_parts v c.args.gear c.args.at) (fill_whole v c.args.gear c.args.at (m.setup.geometry.gears_low c.args.gear c.requires.gear)));
-  lost = search rules;
+  lost = tt;
 }

@@ -1,4 +1,4 @@
-use Rattle.std.proofs.Common.{◌≢◌, ◌-◌, ◌+◌, IsTrue, sym, subst, rules}
+use Rattle.std.proofs.Common.{◌≢◌, ◌-◌, ◌+◌, IsTrue, sym, subst}
 use Rattle.std.specs.Prelude.{◌↔◌}
 use Rattle.paraid_record.specs.declared.meta.Meta.{Meta}
 use Rattle.paraid_image.specs.Standing.{other_log}
@@ -14,5 +14,5 @@ returns g c = record {
   shown =
       keeps_then (λ v. IsTrue c.differs.result ↔ (v.block c.args.disk (100 + c.args.at) ≢ v.block (other_log c.args.disk) (100 + c.args.at))) g.met.C.Stored.then g.met.C.Stored.told c.in_ok-read_stored.ensures.shown c.in_ok-read_stored-2.ensures.shown
       (λ v s first second. differ_as c.differs.result _ _ _ _ c.differs.ensures first second);
-  lost = search rules;
+  lost = tt;
 }

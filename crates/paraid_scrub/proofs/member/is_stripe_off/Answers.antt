@@ -1,4 +1,4 @@
-use Rattle.std.proofs.Common.{◌≢◌, ◌∙◌, IsTrue, not, rules}
+use Rattle.std.proofs.Common.{◌≢◌, ◌∙◌, IsTrue, not}
 use Rattle.std.specs.Prelude.{◌↔◌}
 use Rattle.paraid_base.specs.Sums.{xor_upto}
 use Rattle.paraid_base.specs.Xor.{zero_block}
@@ -7,8 +7,14 @@ use Rattle.paraid_scrub.proofs.CellLemmas.{all_added}
 use Rattle.paraid_scrub.proofs.LookedLemmas.{is_not_zero, keeps_so}
 use Rattle.paraid_scrub.proofs.member.is_stripe_off.Goals as goal
 
-pub sum_stripe-requires-clause-readable : goal.sum_stripe-requires-clause-readable
-sum_stripe-requires-clause-readable g c d l ne = c.requires.readable d l
+pub sum_stripe-requires : goal.sum_stripe-requires
+sum_stripe-requires g c = record {
+  usable = c.requires.usable;
+  gear = c.requires.gear;
+  region = c.requires.region;
+  at = c.requires.at;
+  readable = λ d l ne. c.requires.readable d l;
+}
 
 pub returns : goal.returns
 returns g c = record {
@@ -16,5 +22,5 @@ returns g c = record {
       let m = g.C.Stored.meta c.args.core.now in
       keeps_so (λ v. IsTrue (not c.is_zero.result) ↔ (xor_upto (stripe m.setup.geometry v.block c.args.gear c.args.at) c.args.gear ≢ zero_block)) c.in_ok-sum_stripe.ensures.shown
       (λ v s is. is_not_zero c.is_zero.result c.sum_stripe.new.into _ c.is_zero.ensures (is ∙ all_added (stripe m.setup.geometry v.block c.args.gear c.args.at) c.args.gear));
-  lost = search rules;
+  lost = tt;
 }

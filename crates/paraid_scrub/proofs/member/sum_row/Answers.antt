@@ -1,4 +1,4 @@
-use Rattle.std.proofs.Common.{◌≡◌, ◌<◌, ◌+◌, ◌∙◌, sym, ap, subst, arith, rules}
+use Rattle.std.proofs.Common.{◌≡◌, ◌<◌, ◌+◌, ◌∙◌, sym, ap, subst, arith}
 use Rattle.paraid_base.specs.Sums.{xor_upto}
 use Rattle.paraid_base.specs.Xor.{xor}
 use Rattle.paraid_record.specs.declared.meta.Meta.{Meta}
@@ -11,16 +11,14 @@ loop-disk-init g c = record {
   kept = keeps_none c.args.core.now (g.met.C.Stored.stays c.args.core.now c.requires.usable) c.requires.usable (λ v s. sum_none _ _ c.zero.ensures);
 }
 
-pub read_value-requires-clause-usable : goal.read_value-requires-clause-usable
-read_value-requires-clause-usable g c = c.loop-disk.invariant.kept.still
-
-pub read_value-requires-clause-row : goal.read_value-requires-clause-row
-read_value-requires-clause-row g c = subst (λ (z : Meta). c.args.row < z.setup.geometry.rows) (sym c.loop-disk.invariant.kept.same) c.requires.row
-
-pub read_value-requires-clause-disk : goal.read_value-requires-clause-disk
-read_value-requires-clause-disk g c =
-    let low : c.loop-disk.disk < (g.C.Stored.meta c.args.core.now).setup.geometry.disks = subst (λ (z : Meta). c.loop-disk.disk < z.setup.geometry.disks) c.meta.ensures.value (let e = c.disks-disks.ensures in omega (arith, e)) in
-    subst (λ (z : Meta). c.loop-disk.disk < z.setup.geometry.disks) (sym c.loop-disk.invariant.kept.same) low
+pub read_value-requires : goal.read_value-requires
+read_value-requires g c = record {
+  usable = c.loop-disk.invariant.kept.still;
+  row = subst (λ (z : Meta). c.args.row < z.setup.geometry.rows) (sym c.loop-disk.invariant.kept.same) c.requires.row;
+  disk =
+      let low : c.loop-disk.disk < (g.C.Stored.meta c.args.core.now).setup.geometry.disks = subst (λ (z : Meta). c.loop-disk.disk < z.setup.geometry.disks) c.meta.ensures.value (let e = c.disks-disks.ensures in omega (arith, e)) in
+      subst (λ (z : Meta). c.loop-disk.disk < z.setup.geometry.disks) (sym c.loop-disk.invariant.kept.same) low;
+}
 
 pub loop-disk-preserved : goal.loop-disk-preserved
 loop-disk-preserved g c = record {
@@ -35,5 +33,5 @@ returns g c = record {
       let all : c.loop-disk.disk ≡ m.setup.geometry.disks = (let e = c.disks-disks.ensures in let k : c.loop-disk.disk ≡ c.disks-disks.result = omega arith in k ∙ e ∙ ap (λ (z : Meta). z.setup.geometry.disks) c.meta.ensures.value) in
       keeps_so (λ v. c.loop-disk.into ≡ xor_upto (value v c.args.row) m.setup.geometry.disks) c.loop-disk.invariant.kept
       (λ v s is. is ∙ ap (xor_upto (value v c.args.row)) all);
-  lost = search rules;
+  lost = tt;
 }

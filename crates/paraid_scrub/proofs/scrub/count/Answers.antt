@@ -14,13 +14,13 @@ loop-at-init g c = record {
   few = omega arith;
 }
 
-pub is_off-requires-clause-usable : goal.is_off-requires-clause-usable
-is_off-requires-clause-usable g c = c.loop-at.invariant.kept.still
-
-pub is_off-requires-clause-at : goal.is_off-requires-clause-at
-is_off-requires-clause-at g c =
-    let size : c.members-size.result ≡ total (g.C.Stored.meta c.args.core.now) (named_out (g.C.Stored.meta c.args.core.now).out) c.args.kind = c.members-size.ensures ∙ ap (λ (z : Meta). total z (named_out z.out) c.args.kind) c.meta.ensures.value in
-    subst (λ (z : Meta). c.loop-at.at < total z (named_out z.out) c.args.kind) (sym c.loop-at.invariant.kept.same) (omega (arith, size))
+pub is_off-requires : goal.is_off-requires
+is_off-requires g c = record {
+  usable = c.loop-at.invariant.kept.still;
+  at =
+      let size : c.members-size.result ≡ total (g.C.Stored.meta c.args.core.now) (named_out (g.C.Stored.meta c.args.core.now).out) c.args.kind = c.members-size.ensures ∙ ap (λ (z : Meta). total z (named_out z.out) c.args.kind) c.meta.ensures.value in
+      subst (λ (z : Meta). c.loop-at.at < total z (named_out z.out) c.args.kind) (sym c.loop-at.invariant.kept.same) (omega (arith, size));
+}
 
 pub loop-at-preserved : goal.loop-at-preserved
 loop-at-preserved g c =

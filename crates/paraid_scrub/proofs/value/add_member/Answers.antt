@@ -1,4 +1,5 @@
-use Rattle.std.proofs.Common.{◌≡◌, ◌∙◌, ap, arith, rules}
+use Rattle.paraid_base.specs.Regions.{disk_size}
+use Rattle.std.proofs.Common.{◌≡◌, ◌∙◌, ap, arith, subst, ◌<◌}
 use Rattle.paraid_base.specs.Regions.{soft_place_of}
 use Rattle.paraid_base.specs.Sums.{without}
 use Rattle.paraid_base.specs.Xor.{xor}
@@ -14,7 +15,7 @@ returns-then-disk-skipped g c = record {
       let m = g.C.Stored.meta c.args.core.now in
       keeps_none c.args.core.now (g.met.C.Stored.stays c.args.core.now c.requires.usable) c.requires.usable
       (λ v s. added_none (stripe m.setup.geometry v.block c.args.gear c.args.at) c.args.skipped c.args.disk c.args.sum.now c.if-disk-skipped.true);
-  lost = search rules;
+  lost = tt;
 }
 
 pub returns : goal.returns
@@ -24,11 +25,13 @@ returns g c = record {
       keeps_so (λ v. c.xor_into.new.to ≡ xor c.args.sum.now (without (stripe m.setup.geometry v.block c.args.gear c.args.at) c.args.skipped c.args.disk)) c.in_ok-read_stored.ensures.shown
       (λ v s is. added_one (stripe m.setup.geometry v.block c.args.gear c.args.at) c.args.skipped c.args.disk c.args.sum.now _ _ c.if-disk-skipped.false
       (is ∙ ap (v.block c.args.disk) (c.soft_place-place.ensures.value ∙ ap (λ (z : Meta). soft_place_of z.setup.geometry c.args.gear c.args.at) c.meta.ensures.value)) c.xor_into.ensures);
-  lost = search rules;
+  lost = tt;
 }
 
-pub read_stored-requires-clause-readable : goal.read_stored-requires-clause-readable
-read_stored-requires-clause-readable g c = c.requires.readable c.if-disk-skipped.false
-
-pub read_stored-requires-clause-past_log : goal.read_stored-requires-clause-past_log
-read_stored-requires-clause-past_log g c = let k = c.soft_place-place.ensures.after_hard in omega (arith, k)
+pub read_stored-requires : goal.read_stored-requires
+read_stored-requires g c = record {
+  usable = c.requires.usable;
+  readable = c.requires.readable c.if-disk-skipped.false;
+  past_log = let k = c.soft_place-place.ensures.after_hard in omega (arith, k);
+  within = subst (λ (z : Meta). c.soft_place-place.result < disk_size z.setup.geometry) c.meta.ensures.value c.soft_place-place.ensures.in_size;
+}

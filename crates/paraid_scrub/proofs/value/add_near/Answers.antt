@@ -1,4 +1,4 @@
-use Rattle.std.proofs.Common.{◌≡◌, rules}
+use Rattle.std.proofs.Common.{◌≡◌}
 use Rattle.paraid_base.specs.Sums.{without}
 use Rattle.paraid_base.specs.Xor.{xor}
 use Rattle.paraid_image.specs.Out.{named_out}
@@ -12,16 +12,21 @@ returns-then-disk-out g c = record {
   shown =
       keeps_none c.args.core.now (g.met.C.Stored.stays c.args.core.now c.requires.usable) c.requires.usable
       (λ v s. added_none (near v c.args.row) c.args.out c.args.disk c.args.sum.now c.if-disk-out.true);
-  lost = search rules;
+  lost = tt;
 }
 
-pub read_near-requires-clause-there : goal.read_near-requires-clause-there
-read_near-requires-clause-there g c = not_out (named_out (g.C.Stored.meta c.args.core.now).out) c.args.out c.args.disk c.requires.out c.if-disk-out.false
+pub read_near-requires : goal.read_near-requires
+read_near-requires g c = record {
+  usable = c.requires.usable;
+  row = c.requires.row;
+  disk = c.requires.disk;
+  there = not_out (named_out (g.C.Stored.meta c.args.core.now).out) c.args.out c.args.disk c.requires.out c.if-disk-out.false;
+}
 
 pub returns : goal.returns
 returns g c = record {
   shown =
       keeps_so (λ v. c.xor_into.new.to ≡ xor c.args.sum.now (without (near v c.args.row) c.args.out c.args.disk)) c.in_ok-read_near.ensures.shown
       (λ v s is. added_one (near v c.args.row) c.args.out c.args.disk c.args.sum.now _ _ c.if-disk-out.false is c.xor_into.ensures);
-  lost = search rules;
+  lost = tt;
 }

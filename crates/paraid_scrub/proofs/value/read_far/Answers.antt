@@ -1,4 +1,4 @@
-use Rattle.std.proofs.Common.{◌≡◌, ◌<◌, ◌+◌, ◌∙◌, sym, ap, subst, arith, rules}
+use Rattle.std.proofs.Common.{◌≡◌, ◌<◌, ◌+◌, ◌∙◌, sym, ap, subst, arith}
 use Rattle.paraid_base.specs.Sums.{without, xor_upto}
 use Rattle.paraid_record.specs.declared.meta.Meta.{Meta}
 use Rattle.paraid_image.specs.Out.{named_out}
@@ -12,19 +12,15 @@ loop-disk-init g c = record {
   kept = keeps_none c.args.core.now (g.met.C.Stored.stays c.args.core.now c.requires.usable) c.requires.usable (λ v s. sum_none _ _ c.zero.ensures);
 }
 
-pub add_near-requires-clause-usable : goal.add_near-requires-clause-usable
-add_near-requires-clause-usable g c = c.loop-disk.invariant.kept.still
-
-pub add_near-requires-clause-row : goal.add_near-requires-clause-row
-add_near-requires-clause-row g c = subst (λ (z : Meta). c.args.row < z.setup.geometry.rows) (sym c.loop-disk.invariant.kept.same) c.requires.row
-
-pub add_near-requires-clause-disk : goal.add_near-requires-clause-disk
-add_near-requires-clause-disk g c =
-    let low : c.loop-disk.disk < (g.C.Stored.meta c.args.core.now).setup.geometry.disks = subst (λ (z : Meta). c.loop-disk.disk < z.setup.geometry.disks) c.meta.ensures.value (let e = c.disks-disks.ensures in omega (arith, e)) in
-    subst (λ (z : Meta). c.loop-disk.disk < z.setup.geometry.disks) (sym c.loop-disk.invariant.kept.same) low
-
-pub add_near-requires-clause-out : goal.add_near-requires-clause-out
-add_near-requires-clause-out g c = ap (λ (z : Meta). named_out z.out) c.loop-disk.invariant.kept.same ∙ c.requires.out
+pub add_near-requires : goal.add_near-requires
+add_near-requires g c = record {
+  usable = c.loop-disk.invariant.kept.still;
+  row = subst (λ (z : Meta). c.args.row < z.setup.geometry.rows) (sym c.loop-disk.invariant.kept.same) c.requires.row;
+  disk =
+      let low : c.loop-disk.disk < (g.C.Stored.meta c.args.core.now).setup.geometry.disks = subst (λ (z : Meta). c.loop-disk.disk < z.setup.geometry.disks) c.meta.ensures.value (let e = c.disks-disks.ensures in omega (arith, e)) in
+      subst (λ (z : Meta). c.loop-disk.disk < z.setup.geometry.disks) (sym c.loop-disk.invariant.kept.same) low;
+  out = ap (λ (z : Meta). named_out z.out) c.loop-disk.invariant.kept.same ∙ c.requires.out;
+}
 
 pub loop-disk-preserved : goal.loop-disk-preserved
 loop-disk-preserved g c = record {
@@ -39,5 +35,5 @@ returns g c = record {
       let all : c.loop-disk.disk ≡ m.setup.geometry.disks = (let e = c.disks-disks.ensures in let k : c.loop-disk.disk ≡ c.disks-disks.result = omega arith in k ∙ e ∙ ap (λ (z : Meta). z.setup.geometry.disks) c.meta.ensures.value) in
       keeps_so (λ v. c.loop-disk.into ≡ far v c.args.row c.args.out) c.loop-disk.invariant.kept
       (λ v s is. far_read v m (g.met.C.Stored.agrees c.args.core.now v s).0 c.args.row c.args.out _ (is ∙ ap (xor_upto (without (near v c.args.row) c.args.out)) all));
-  lost = search rules;
+  lost = tt;
 }

@@ -1,4 +1,6 @@
-use Rattle.std.proofs.Common.{◌≡◌, ◌∙◌, sym, ap, subst, arith, inl, rules}
+use Rattle.paraid_base.specs.Regions.{disk_size}
+use Rattle.std.proofs.lemmas.Result.{on_ok_weaker}
+use Rattle.std.proofs.Common.{◌≡◌, ◌∙◌, sym, ap, subst, arith, inl, ◌<◌}
 use Rattle.paraid_base.specs.Sums.{without, xor_upto}
 use Rattle.paraid_record.specs.declared.meta.Meta.{Meta}
 use Rattle.paraid_image.specs.Out.{named_out}
@@ -18,31 +20,33 @@ pub returns-then-names : goal.returns-then-names
 returns-then-names g c = record {
   shown =
       let m = c.meta-meta.result in
-      keeps_so (λ v. c.sum_stripe.new.into ≡ soft_value v c.args.row c.args.disk) c.in_ok-sum_stripe.ensures.shown
+      on_ok_weaker c.sum_stripe.result (λ kept. keeps_so (λ v. c.sum_stripe.new.into ≡ soft_value v c.args.row c.args.disk) kept
       (λ v s is.
       let a = g.met.C.Stored.agrees c.args.core.now v s in
       soft_rest v m (a.0 ∙ sym c.meta-meta.ensures.value) (a.1 ∙ ap (λ (z : Meta). named_out z.out) (sym c.meta-meta.ensures.value)) c.args.row c.args.disk c.soft_of-stripe.result.0 c.soft_of-stripe.result.1 _
       c.soft_of-stripe.ensures.stripe c.soft_of-stripe.ensures.disk (sym c.names.ensures ∙ c.if-names.true)
-      (is ∙ ap (λ (z : Meta). xor_upto (without (stripe z.setup.geometry v.block m.gear c.soft_of-stripe.result.0) c.soft_of-stripe.result.1) m.gear) (sym c.meta-meta.ensures.value)));
-  lost = search rules;
+      (is ∙ ap (λ (z : Meta). xor_upto (without (stripe z.setup.geometry v.block m.gear c.soft_of-stripe.result.0) c.soft_of-stripe.result.1) m.gear) (sym c.meta-meta.ensures.value)))) c.sum_stripe.ensures.shown;
+  lost = c.sum_stripe.ensures.lost;
 }
 
-pub read_stored-requires-clause-readable : goal.read_stored-requires-clause-readable
-read_stored-requires-clause-readable g c =
-    subst (λ (z : Meta). IsReadable z c.soft_of-stripe.result.1) c.meta-meta.ensures.value
-    (powered (inl c.soft_of-stripe.ensures.below) (out_other (named_out c.meta-meta.result.out) c.soft_of-stripe.result.1 (sym c.names.ensures ∙ c.if-names.false)))
-
-pub read_stored-requires-clause-past_log : goal.read_stored-requires-clause-past_log
-read_stored-requires-clause-past_log g c = let k = c.soft_place-place.ensures.after_hard in omega (arith, k)
+pub read_stored-requires : goal.read_stored-requires
+read_stored-requires g c = record {
+  usable = c.requires.usable;
+  readable =
+      subst (λ (z : Meta). IsReadable z c.soft_of-stripe.result.1) c.meta-meta.ensures.value
+      (powered (inl c.soft_of-stripe.ensures.below) (out_other (named_out c.meta-meta.result.out) c.soft_of-stripe.result.1 (sym c.names.ensures ∙ c.if-names.false)));
+  past_log = let k = c.soft_place-place.ensures.after_hard in omega (arith, k);
+  within = subst (λ (z : Meta). c.soft_place-place.result < disk_size z.setup.geometry) c.meta-meta.ensures.value c.soft_place-place.ensures.in_size;
+}
 
 pub returns : goal.returns
 returns g c = record {
   shown =
       let m = c.meta-meta.result in
-      keeps_so (λ v. c.read_stored.new.into ≡ soft_value v c.args.row c.args.disk) c.in_ok-read_stored.ensures.shown
+      on_ok_weaker c.read_stored.result (λ kept. keeps_so (λ v. c.read_stored.new.into ≡ soft_value v c.args.row c.args.disk) kept
       (λ v s is.
       let a = g.met.C.Stored.agrees c.args.core.now v s in
       soft_stored v m (a.0 ∙ sym c.meta-meta.ensures.value) (a.1 ∙ ap (λ (z : Meta). named_out z.out) (sym c.meta-meta.ensures.value)) c.args.row c.args.disk c.soft_of-stripe.result.0 c.soft_of-stripe.result.1 c.soft_place-place.result _
-      c.soft_of-stripe.ensures.stripe c.soft_of-stripe.ensures.disk (sym c.names.ensures ∙ c.if-names.false) c.soft_place-place.ensures.value is);
-  lost = search rules;
+      c.soft_of-stripe.ensures.stripe c.soft_of-stripe.ensures.disk (sym c.names.ensures ∙ c.if-names.false) c.soft_place-place.ensures.value is)) c.read_stored.ensures.shown;
+  lost = c.read_stored.ensures.lost;
 }

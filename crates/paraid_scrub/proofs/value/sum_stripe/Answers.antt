@@ -1,4 +1,4 @@
-use Rattle.std.proofs.Common.{◌≡◌, ◌<◌, ◌+◌, ◌∙◌, sym, ap, subst, arith, rules}
+use Rattle.std.proofs.Common.{◌≡◌, ◌<◌, ◌+◌, ◌∙◌, sym, ap, subst, arith}
 use Rattle.paraid_base.specs.Regions.{IsGear}
 use Rattle.paraid_base.specs.Soft.{stripe_count}
 use Rattle.paraid_base.specs.Sums.{without, xor_upto}
@@ -14,22 +14,16 @@ loop-disk-init g c = record {
   kept = keeps_none c.args.core.now (g.met.C.Stored.stays c.args.core.now c.requires.usable) c.requires.usable (λ v s. sum_none _ _ c.zero.ensures);
 }
 
-pub add_member-requires-clause-usable : goal.add_member-requires-clause-usable
-add_member-requires-clause-usable g c = c.loop-disk.invariant.kept.still
-
-pub add_member-requires-clause-gear : goal.add_member-requires-clause-gear
-add_member-requires-clause-gear g c = subst (λ (z : Meta). IsGear z.setup.geometry c.args.gear) (sym c.loop-disk.invariant.kept.same) c.requires.gear
-
-pub add_member-requires-clause-region : goal.add_member-requires-clause-region
-add_member-requires-clause-region g c = subst (λ (z : Meta). c.args.gear < z.setup.geometry.disks) (sym c.loop-disk.invariant.kept.same) c.requires.region
-
-pub add_member-requires-clause-at : goal.add_member-requires-clause-at
-add_member-requires-clause-at g c =
-    subst (λ (z : Meta). c.args.at < stripe_count z.setup.geometry.disks z.setup.geometry.rows c.args.gear) (sym c.loop-disk.invariant.kept.same) c.requires.at
-
-pub add_member-requires-clause-readable : goal.add_member-requires-clause-readable
-add_member-requires-clause-readable g c ne =
-    subst (λ (z : Meta). IsReadable z c.loop-disk.disk) (sym c.loop-disk.invariant.kept.same) (c.requires.readable c.loop-disk.disk (omega arith) ne)
+pub add_member-requires : goal.add_member-requires
+add_member-requires g c = record {
+  usable = c.loop-disk.invariant.kept.still;
+  gear = subst (λ (z : Meta). IsGear z.setup.geometry c.args.gear) (sym c.loop-disk.invariant.kept.same) c.requires.gear;
+  region = subst (λ (z : Meta). c.args.gear < z.setup.geometry.disks) (sym c.loop-disk.invariant.kept.same) c.requires.region;
+  at =
+      subst (λ (z : Meta). c.args.at < stripe_count z.setup.geometry.disks z.setup.geometry.rows c.args.gear) (sym c.loop-disk.invariant.kept.same) c.requires.at;
+  readable = λ ne.
+      subst (λ (z : Meta). IsReadable z c.loop-disk.disk) (sym c.loop-disk.invariant.kept.same) (c.requires.readable c.loop-disk.disk (omega arith) ne);
+}
 
 pub loop-disk-preserved : goal.loop-disk-preserved
 loop-disk-preserved g c =
@@ -48,5 +42,5 @@ returns g c = record {
       let m = g.C.Stored.meta c.args.core.now in
       keeps_so (λ v. c.loop-disk.into ≡ xor_upto (without (stripe m.setup.geometry v.block c.args.gear c.args.at) c.args.skipped) c.args.gear) c.loop-disk.invariant.kept
       (λ v s is. is ∙ ap (xor_upto (without (stripe m.setup.geometry v.block c.args.gear c.args.at) c.args.skipped)) (omega arith));
-  lost = search rules;
+  lost = tt;
 }
