@@ -13,6 +13,11 @@ pub none_done : {A E : Type 0} (P : Type 0) (r : Result A E) (e : E) → IsErrAn
 none_done P (Ok a) e is = absurd is
 none_done P (Err x) e is = tt
 
+-- what holds in any case holds of a success
+pub on_ok_any : {A E P : Type 0} (r : Result A E) → P → OnOk r P
+on_ok_any (Ok a) p = p
+on_ok_any (Err x) p = tt
+
 pub none_done_as : {A E : Type 0} (P : Type 0) (r : Result A E) (e : E) (a : A) → IsErrAnd r (λ x. x ≡ e) → r ≡ Ok a → P
 none_done_as P (Ok b) e a is ok = absurd is
 none_done_as P (Err x) e a is ok = let z : Err x ≡ Ok a = ok in cc

@@ -127,8 +127,7 @@ impl<R: Rack> Core<R> {
             disk,
             &mut value,
         ) else {
-            let done = self.write_cell(r, disk, &value)?;
-            return Ok(done);
+            return self.write_cell(r, disk, &value);
         };
         lose(&mut self.meta, Some(lost))?;
         Ok(false)

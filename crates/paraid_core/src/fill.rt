@@ -209,8 +209,7 @@ impl<R: Rack> Core<R> {
             s,
             &mut blocks,
         ) else {
-            let done = self.write_members(s, &blocks)?;
-            return Ok(done);
+            return self.write_members(s, &blocks);
         };
         lose(&mut self.meta, Some(disk))?;
         Ok(false)

@@ -82,8 +82,7 @@ impl<R: Rack> Core<R> {
         if self.batch.count() <= 96 - targets {
             return Ok(());
         }
-        self.commit()?;
-        Ok(())
+        self.commit()
     }
 
     // Plans the write, and where a disk fails in that plans it once more without this disk.
@@ -251,7 +250,6 @@ impl<R: Rack> Core<R> {
             (if commits_first (batch_of self.old) 10 then length h else lo)))) }
     {
         let pairs = Pairs::one(block, bytes);
-        self.write_many(&pairs)?;
-        Ok(())
+        self.write_many(&pairs)
     }
 }

@@ -92,8 +92,7 @@ impl<R: Rack> Core<R> {
             self.copied[disk as usize] = false;
             return Ok(());
         }
-        self.sync_disk(disk)?;
-        Ok(())
+        self.sync_disk(disk)
     }
 
     /// Makes all copies last: each disk to which copies went since the last time is synced once, in

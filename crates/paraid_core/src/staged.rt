@@ -201,8 +201,7 @@ impl<R: Rack> Core<R> {
             → IsSome (R.told (core_rack self.new)) → into.new ≡ held_by h block) }
     {
         let (r, d) = home(&self.meta.setup.geometry, block);
-        self.read_value(r, d, into)?;
-        Ok(())
+        self.read_value(r, d, into)
     }
 
     /// Brings all that is staged to the disks, whole or not at all. A disk that fails in it is out

@@ -264,8 +264,7 @@ impl<R: Rack> Core<R> {
             unit,
             &mut block,
         ) else {
-            let done = self.write_unit(disk, number, unit, &block)?;
-            return Ok(done);
+            return self.write_unit(disk, number, unit, &block);
         };
         Err(Two {
             first: disk,
@@ -330,8 +329,7 @@ impl<R: Rack> Core<R> {
         if is_passed(&self.meta, &self.dirty, disk, number, unit) {
             return Ok(true);
         }
-        let done = self.copy_unit(disk, number, unit)?;
-        Ok(done)
+        self.copy_unit(disk, number, unit)
     }
 
     /// Marks the units below `end` of the disk that is rebuilt. They are copied, and each copy is synced.

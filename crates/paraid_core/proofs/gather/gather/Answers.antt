@@ -1,7 +1,7 @@
 use Rattle.paraid_core.proofs.AfterLemmas.{handed}
 use Rattle.paraid_core.proofs.ErrLemmas.{none_done}
 use Rattle.paraid_core.proofs.LeadsLemmas.{read_can}
-use Rattle.std.proofs.Common.{◌++◌, ◌≡◌, ◌≢◌, ◌∙◌, None, sym, ap, arith, inl, inr, below_more, rules, ◌<◌}
+use Rattle.std.proofs.Common.{◌++◌, ◌≡◌, ◌≢◌, ◌∙◌, None, sym, ap, arith, inl, inr, below_more, ◌<◌}
 use Rattle.std.proofs.lemmas.Bool.{cases_eq}
 use Rattle.paraid_base.proofs.SumsLemmas.{others_none}
 use Rattle.paraid_base.specs.Soft.{soft_parity_disk}

@@ -1,6 +1,6 @@
 use Rattle.paraid_txn.specs.Stores.{disks_of}
 use Rattle.paraid_view.proofs.ReadLemmas.{read_none}
-use Rattle.std.proofs.Common.{◌∙◌, sym, ap, None, rules}
+use Rattle.std.proofs.Common.{◌∙◌, sym, ap, None}
 use Rattle.paraid_base.specs.Skips.{place_among}
 use Rattle.paraid_view.specs.Reads.{seen_by}
 use Rattle.paraid_view.proofs.ValueLemmas.{ok_map}

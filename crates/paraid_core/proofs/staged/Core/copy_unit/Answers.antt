@@ -1,3 +1,4 @@
+use Rattle.std.proofs.lemmas.Result.{IfErr-weaker, on_ok_weaker}
 use Rattle.paraid_base.specs.Told.{HasRisen}
 use Rattle.paraid_rack.specs.Slots.{Slot}
 use Rattle.paraid_txn.specs.Stores.{named_of, store_rack}
@@ -13,29 +14,26 @@ use Rattle.paraid_txn.specs.Commit.{gone_out}
 use Rattle.std.proofs.Common.{inl, None, Some, ap, refl, subst, sym, ◌≡◌, ◌∙◌}
 use Rattle.paraid_core.proofs.LostMarkLemmas.{marks_read, marks_then}
 use Rattle.paraid_core.proofs.OrderLemmas.{tells_unhurt}
-use Rattle.paraid_rack.specs.Told.{Ran}
 use Rattle.paraid_image.specs.Out.{named_out}
-use Rattle.paraid_image.specs.Lost.{TellsLosses}
-use Rattle.paraid_core.proofs.AfterLemmas.{down_named, handed}
+use Rattle.paraid_core.proofs.AfterLemmas.{down_named}
 use Rattle.paraid_image.proofs.LostLemmas.{ran_beside}
-use Rattle.paraid_core.proofs.ErrLemmas.{err_not_ok, none_done, none_done_as}
+use Rattle.paraid_core.proofs.ErrLemmas.{err_not_ok}
 use Rattle.paraid_core.proofs.staged.Core.copy_unit.Goals as goal
 
 pub returns-in_default : goal.returns-in_default
 returns-in_default g c = record {
-  leaves =
-      leaves_then g.R.Rack.slot_count g.R.Rack.slot g.R.Rack.told c.args.self.now (record c.args.self.now { store = c.read_unit.new.store })
-      (gathered_leaves g.R.Rack.slot_count g.R.Rack.slot g.R.Rack.told c.args.self.now c.requires.ready c.read_unit.new.store c.in_default.ensures.read c.requires.serves.stays) c.write_unit.new.self c.in_ok-done.ensures.leaves;
-  same = λ is. c.in_ok-done.ensures.same is;
-  spins = λ is. c.in_ok-done.ensures.spins is;
+  leaves = on_ok_weaker c.write_unit.result (λ was_so. leaves_then g.R.Rack.slot_count g.R.Rack.slot g.R.Rack.told c.args.self.now (record c.args.self.now { store = c.read_unit.new.store })
+      (gathered_leaves g.R.Rack.slot_count g.R.Rack.slot g.R.Rack.told c.args.self.now c.requires.ready c.read_unit.new.store c.in_default.ensures.read c.requires.serves.stays) c.write_unit.new.self was_so) c.write_unit.ensures.leaves;
+  same = λ is. c.write_unit.ensures.same is;
+  spins = λ is. c.write_unit.ensures.spins is;
   spared = spared_then (g.R.Rack.slot (store_rack c.args.self.now.store)) (g.R.Rack.slot (store_rack c.read_unit.new.store)) (g.R.Rack.slot (store_rack c.write_unit.new.self.store)) (left_spared _ _ _ c.in_default.ensures.read.left) c.write_unit.ensures.spared;
-  two = tt;
-  tells = tt;
+  two = IfErr-weaker c.write_unit.result _ _ (λ two down. two_then g.R.Rack.slot_count g.R.Rack.slot g.R.Rack.told c.args.self.now (record c.args.self.now { store = c.read_unit.new.store })
+      (gathered_leaves g.R.Rack.slot_count g.R.Rack.slot g.R.Rack.told c.args.self.now c.requires.ready c.read_unit.new.store c.in_default.ensures.read c.requires.serves.stays) c.write_unit.new.self c.write_unit.ensures.spared _ down) c.write_unit.ensures.two;
+  tells = IfErr-weaker c.write_unit.result _ _ (λ two down. tells_unhurt (named_out c.args.self.now.meta.out) _ _ (g.R.Rack.told (store_rack c.read_unit.new.store)) _ c.in_default.ensures.read.first down) c.write_unit.ensures.tells;
   calls = calls_then _ _ (g.R.Rack.told (store_rack c.read_unit.new.store)) _ (calls_whole _ _ _ (sym c.requires.ready.array_is) (ap gone_out c.requires.fresh) _ _ c.in_default.ensures.read.calls) c.write_unit.ensures.calls;
-  marks =
-      let m = c.args.self.now.meta in
+  marks = on_ok_weaker c.write_unit.result (λ was_so. let m = c.args.self.now.meta in
       let left = c.in_default.ensures.read.left in
-      marks_then _ (g.R.Rack.slot (store_rack c.read_unit.new.store)) _ m m _ (marks_read m m None _ _ m.epoch m.writes left refl (λ d is. let z : None ≡ Some d = is in cc) (λ d x is. let z : None ≡ Some d = is in cc)) c.in_ok-done.ensures.marks (left_spared _ _ _ left) c.write_unit.ensures.spared;
+      marks_then _ (g.R.Rack.slot (store_rack c.read_unit.new.store)) _ m m _ (marks_read m m None _ _ m.epoch m.writes left refl (λ d is. let z : None ≡ Some d = is in cc) (λ d x is. let z : None ≡ Some d = is in cc)) was_so (left_spared _ _ _ left) c.write_unit.ensures.spared) c.write_unit.ensures.marks;
   copied = λ is h lo.
       let old = c.args.self.now in
       let mid : Core g.row.R.Denot g.R.Rack = record old { store = c.read_unit.new.store } in
@@ -44,10 +42,10 @@ returns-in_default g c = record {
       (UnitsRebuilt g.R.Rack.slot_count old h lo c.args.number) (CopyingUnit g.R.Rack.slot_count mid h lo c.args.number c.args.disk c.args.unit c.read_unit.new.into) _ h lo
       (unit_gathered g.R.Rack.slot_count g.R.Rack.slot g.R.Rack.told old q.ready (g.met.R.Rack.agrees (store_rack old.store)) q.nothing c.args.number c.args.disk c.args.unit q.fresh q.unit c.read_unit.new.store c.read_unit.new.into c.in_default.ensures.read q.no_draft
       (g.met.R.Rack.agrees (store_rack c.read_unit.new.store)) (g.met.R.Rack.slots_hold (store_rack c.read_unit.new.store)).absent c.in_default.ensures.value h lo)
-      (c.in_ok-done.ensures.copied is h lo);
-  gone = λ is. c.in_ok-done.ensures.gone is;
+      (c.write_unit.ensures.copied is h lo);
+  gone = λ is. c.write_unit.ensures.gone is;
   failed = λ is.
-      let now = c.in_ok-done.ensures.failed is in
+      let now = c.write_unit.ensures.failed is in
       record {
         risen = subst (λ (z : Slot). HasRisen z.faults (g.R.Rack.slot (store_rack c.write_unit.new.self.store) c.args.disk).faults) (c.in_default.ensures.read.left.others c.args.disk (λ k. cc)) now.risen;
         absent = now.absent;
@@ -60,7 +58,7 @@ returns-in_default g c = record {
       (UnitsRebuilt g.R.Rack.slot_count old h lo c.args.number) (CopyingUnit g.R.Rack.slot_count mid h lo c.args.number c.args.disk c.args.unit c.read_unit.new.into) (CoreStandsFor g.R.Rack.slot_count c.write_unit.new.self h lo) h lo
       (unit_gathered g.R.Rack.slot_count g.R.Rack.slot g.R.Rack.told old q.ready (g.met.R.Rack.agrees (store_rack old.store)) q.nothing c.args.number c.args.disk c.args.unit q.fresh q.unit c.read_unit.new.store c.read_unit.new.into c.in_default.ensures.read q.no_draft
       (g.met.R.Rack.agrees (store_rack c.read_unit.new.store)) (g.met.R.Rack.slots_hold (store_rack c.read_unit.new.store)).absent c.in_default.ensures.value h lo)
-      (c.in_ok-done.ensures.lost is h lo);
+      (c.write_unit.ensures.lost is h lo);
   moments = λ h lo.
       let old = c.args.self.now in
       let mid : Core g.row.R.Denot g.R.Rack = record old { store = c.read_unit.new.store } in
@@ -82,36 +80,6 @@ write_unit-requires g c = record {
   from = c.requires.from;
   spins = ap (λ (s : Slot). s.power) (c.in_default.ensures.read.left.others c.args.disk (λ is. let z : None ≡ Some c.args.disk = is in cc)) ∙ c.requires.spins;
   nothing = c.requires.nothing;
-}
-
-pub returns-in_err-done : goal.returns-in_err-done
-returns-in_err-done g c = record {
-  leaves = none_done _ c.from_residual.result _ c.from_residual.ensures.1;
-  same = λ is. none_done_as _ c.from_residual.result _ _ c.from_residual.ensures.1 is;
-  spins = λ is. none_done_as _ c.from_residual.result _ _ c.from_residual.ensures.1 is;
-  spared = spared_then (g.R.Rack.slot (store_rack c.args.self.now.store)) (g.R.Rack.slot (store_rack c.read_unit.new.store)) (g.R.Rack.slot (store_rack c.write_unit.new.self.store)) (left_spared _ _ _ c.in_default.ensures.read.left) c.write_unit.ensures.spared;
-  two =
-      handed _ c.from_residual.result _ c.from_residual.ensures.1
-      (two_then g.R.Rack.slot_count g.R.Rack.slot g.R.Rack.told c.args.self.now (record c.args.self.now { store = c.read_unit.new.store })
-      (gathered_leaves g.R.Rack.slot_count g.R.Rack.slot g.R.Rack.told c.args.self.now c.requires.ready c.read_unit.new.store c.in_default.ensures.read c.requires.serves.stays) c.write_unit.new.self c.write_unit.ensures.spared _ c.in_err-done.ensures.two);
-  tells =
-      handed (λ two. Ran (g.R.Rack.told (store_rack c.args.self.now.store)) (g.R.Rack.told (store_rack c.write_unit.new.self.store)) (λ s cs. TellsLosses (named_out c.args.self.now.meta.out) two cs)) c.from_residual.result _ c.from_residual.ensures.1
-      (tells_unhurt (named_out c.args.self.now.meta.out) _ _ (g.R.Rack.told (store_rack c.read_unit.new.store)) _ c.in_default.ensures.read.first c.in_err-done.ensures.tells);
-  calls = calls_then _ _ (g.R.Rack.told (store_rack c.read_unit.new.store)) _ (calls_whole _ _ _ (sym c.requires.ready.array_is) (ap gone_out c.requires.fresh) _ _ c.in_default.ensures.read.calls) c.write_unit.ensures.calls;
-  marks = none_done _ c.from_residual.result _ c.from_residual.ensures.1;
-  copied = λ is. none_done_as _ c.from_residual.result _ _ c.from_residual.ensures.1 is;
-  gone = λ is. none_done_as _ c.from_residual.result _ _ c.from_residual.ensures.1 is;
-  failed = λ is. none_done_as _ c.from_residual.result _ _ c.from_residual.ensures.1 is;
-  lost = λ is. none_done_as _ c.from_residual.result _ _ c.from_residual.ensures.1 is;
-  moments = λ h lo.
-      let old = c.args.self.now in
-      let mid : Core g.row.R.Denot g.R.Rack = record old { store = c.read_unit.new.store } in
-      let q = c.requires in
-      held_runs_then g.R.Rack.slot_count g.R.Rack.slot g.R.Rack.told old mid (gathered_leaves g.R.Rack.slot_count g.R.Rack.slot g.R.Rack.told old q.ready c.read_unit.new.store c.in_default.ensures.read q.serves.stays) c.write_unit.new.self
-      (UnitsRebuilt g.R.Rack.slot_count old h lo c.args.number) (CopyingUnit g.R.Rack.slot_count mid h lo c.args.number c.args.disk c.args.unit c.read_unit.new.into) h lo
-      (unit_gathered g.R.Rack.slot_count g.R.Rack.slot g.R.Rack.told old q.ready (g.met.R.Rack.agrees (store_rack old.store)) q.nothing c.args.number c.args.disk c.args.unit q.fresh q.unit c.read_unit.new.store c.read_unit.new.into c.in_default.ensures.read q.no_draft
-      (g.met.R.Rack.agrees (store_rack c.read_unit.new.store)) (g.met.R.Rack.slots_hold (store_rack c.read_unit.new.store)).absent c.in_default.ensures.value h lo)
-      (c.write_unit.ensures.moments h lo);
 }
 
 pub returns : goal.returns

@@ -1,3 +1,4 @@
+use Rattle.std.proofs.lemmas.Result.{IfErr-weaker, on_ok_weaker}
 use Rattle.paraid_base.specs.Regions.{IsGear}
 use Rattle.paraid_base.specs.Soft.{stripe_count}
 use Rattle.std.specs.Prelude.{ℕ, ◌+◌, ◌<◌, None}
@@ -24,53 +25,21 @@ use Rattle.paraid_core.proofs.OrderLemmas.{lose_tells}
 use Rattle.paraid_core.proofs.ErrLemmas.{done_not_dropped, none_done, none_done_as, two_lost}
 use Rattle.paraid_core.proofs.staged.Core.fill_stripe.Goals as goal
 
-pub returns-in_err-done : goal.returns-in_err-done
-returns-in_err-done g c = record {
-  leaves = none_done _ c.from_residual.result _ c.from_residual.ensures.1;
-  same = λ is. none_done_as _ c.from_residual.result _ _ c.from_residual.ensures.1 is;
-  spared = spared_then (g.R.Rack.slot (store_rack c.args.self.now.store)) (g.R.Rack.slot (store_rack c.gather.new.store)) (g.R.Rack.slot (store_rack c.write_members.new.self.store)) (left_spared _ _ _ c.in_default.ensures.read.left) c.write_members.ensures.spared;
-  two =
-      handed _ c.from_residual.result _ c.from_residual.ensures.1
-      (two_then g.R.Rack.slot_count g.R.Rack.slot g.R.Rack.told c.args.self.now (record c.args.self.now { store = c.gather.new.store })
-      (gathered_leaves g.R.Rack.slot_count g.R.Rack.slot g.R.Rack.told c.args.self.now c.requires.ready c.gather.new.store c.in_default.ensures.read c.requires.serves.stays) c.write_members.new.self c.write_members.ensures.spared _ c.in_err-done.ensures.two);
-  tells =
-      handed (λ two. Ran (g.R.Rack.told (store_rack c.args.self.now.store)) (g.R.Rack.told (store_rack c.write_members.new.self.store)) (λ s cs. TellsLosses (named_out c.args.self.now.meta.out) two cs)) c.from_residual.result _ c.from_residual.ensures.1
-      (tells_unhurt (named_out c.args.self.now.meta.out) _ _ (g.R.Rack.told (store_rack c.gather.new.store)) _ c.in_default.ensures.read.first c.in_err-done.ensures.tells);
-  calls =
-      let old = c.args.self.now in
-      calls_then _ _ (g.R.Rack.told (store_rack c.gather.new.store)) _ (calls_whole _ _ _ (sym c.requires.ready.array_is) (ap gone_out c.requires.whole) _ _ c.in_default.ensures.read.calls) c.write_members.ensures.calls;
-  marks = none_done _ c.from_residual.result _ c.from_residual.ensures.1;
-  filled = λ is. none_done_as _ c.from_residual.result _ _ c.from_residual.ensures.1 is;
-  failed = λ is. none_done_as _ c.from_residual.result _ _ c.from_residual.ensures.1 is;
-  lost = λ is. none_done_as _ c.from_residual.result _ _ c.from_residual.ensures.1 is;
-  moments = λ h lo.
-      let old = c.args.self.now in
-      let mid : Core g.row.R.Denot g.R.Rack = record old { store = c.gather.new.store } in
-      let q = c.requires in
-      held_runs_then g.R.Rack.slot_count g.R.Rack.slot g.R.Rack.told old mid (gathered_leaves g.R.Rack.slot_count g.R.Rack.slot g.R.Rack.told old q.ready c.gather.new.store c.in_default.ensures.read q.serves.stays) c.write_members.new.self
-      (Filled g.R.Rack.slot_count old h lo c.args.s) (Filling g.R.Rack.slot_count mid h lo c.args.s c.gather.new.blocks 0) h lo
-      (gathered g.R.Rack.slot_count g.R.Rack.slot g.R.Rack.told old q.ready c.gather.new.store c.args.s c.gather.new.blocks c.in_default.ensures.read q.whole q.nothing q.no_draft q.region (g.met.R.Rack.agrees (store_rack old.store))
-      (g.met.R.Rack.agrees (store_rack c.gather.new.store)) (g.met.R.Rack.slots_hold (store_rack c.gather.new.store)).absent
-      (λ f shows some e l. c.in_default.ensures.value f shows some e (subst (λ (z : ℕ). e < z) (sym c.to-to.ensures) l) ∙ ap (λ (z : ℕ). copied_block (seen_by old.meta old.dirty None f) z c.args.s e) c.to-to.ensures) h lo)
-      (c.write_members.ensures.moments h lo);
-}
-
 pub returns-in_default : goal.returns-in_default
 returns-in_default g c = record {
-  leaves =
-      leaves_then g.R.Rack.slot_count g.R.Rack.slot g.R.Rack.told c.args.self.now (record c.args.self.now { store = c.gather.new.store })
-      (gathered_leaves g.R.Rack.slot_count g.R.Rack.slot g.R.Rack.told c.args.self.now c.requires.ready c.gather.new.store c.in_default.ensures.read c.requires.serves.stays) c.write_members.new.self c.in_ok-done.ensures.leaves;
-  same = λ is. c.in_ok-done.ensures.same is;
+  leaves = on_ok_weaker c.write_members.result (λ was_so. leaves_then g.R.Rack.slot_count g.R.Rack.slot g.R.Rack.told c.args.self.now (record c.args.self.now { store = c.gather.new.store })
+      (gathered_leaves g.R.Rack.slot_count g.R.Rack.slot g.R.Rack.told c.args.self.now c.requires.ready c.gather.new.store c.in_default.ensures.read c.requires.serves.stays) c.write_members.new.self was_so) c.write_members.ensures.leaves;
+  same = λ is. c.write_members.ensures.same is;
   spared = spared_then (g.R.Rack.slot (store_rack c.args.self.now.store)) (g.R.Rack.slot (store_rack c.gather.new.store)) (g.R.Rack.slot (store_rack c.write_members.new.self.store)) (left_spared _ _ _ c.in_default.ensures.read.left) c.write_members.ensures.spared;
-  two = tt;
-  tells = tt;
+  two = IfErr-weaker c.write_members.result _ _ (λ two down. two_then g.R.Rack.slot_count g.R.Rack.slot g.R.Rack.told c.args.self.now (record c.args.self.now { store = c.gather.new.store })
+      (gathered_leaves g.R.Rack.slot_count g.R.Rack.slot g.R.Rack.told c.args.self.now c.requires.ready c.gather.new.store c.in_default.ensures.read c.requires.serves.stays) c.write_members.new.self c.write_members.ensures.spared _ down) c.write_members.ensures.two;
+  tells = IfErr-weaker c.write_members.result _ _ (λ two down. tells_unhurt (named_out c.args.self.now.meta.out) _ _ (g.R.Rack.told (store_rack c.gather.new.store)) _ c.in_default.ensures.read.first down) c.write_members.ensures.tells;
   calls =
       let old = c.args.self.now in
       calls_then _ _ (g.R.Rack.told (store_rack c.gather.new.store)) _ (calls_whole _ _ _ (sym c.requires.ready.array_is) (ap gone_out c.requires.whole) _ _ c.in_default.ensures.read.calls) c.write_members.ensures.calls;
-  marks =
-      let m = c.args.self.now.meta in
+  marks = on_ok_weaker c.write_members.result (λ was_so. let m = c.args.self.now.meta in
       let left = c.in_default.ensures.read.left in
-      marks_then _ (g.R.Rack.slot (store_rack c.gather.new.store)) _ m m _ (marks_read m m None _ _ m.epoch m.writes left refl (λ d is. let z : None ≡ Some d = is in cc) (λ d x is. let z : None ≡ Some d = is in cc)) c.in_ok-done.ensures.marks (left_spared _ _ _ left) c.write_members.ensures.spared;
+      marks_then _ (g.R.Rack.slot (store_rack c.gather.new.store)) _ m m _ (marks_read m m None _ _ m.epoch m.writes left refl (λ d is. let z : None ≡ Some d = is in cc) (λ d x is. let z : None ≡ Some d = is in cc)) was_so (left_spared _ _ _ left) c.write_members.ensures.spared) c.write_members.ensures.marks;
   filled = λ is h lo.
       let old = c.args.self.now in
       let mid : Core g.row.R.Denot g.R.Rack = record old { store = c.gather.new.store } in
@@ -80,8 +49,8 @@ returns-in_default g c = record {
       (gathered g.R.Rack.slot_count g.R.Rack.slot g.R.Rack.told old q.ready c.gather.new.store c.args.s c.gather.new.blocks c.in_default.ensures.read q.whole q.nothing q.no_draft q.region (g.met.R.Rack.agrees (store_rack old.store))
       (g.met.R.Rack.agrees (store_rack c.gather.new.store)) (g.met.R.Rack.slots_hold (store_rack c.gather.new.store)).absent
       (λ f shows some e l. c.in_default.ensures.value f shows some e (subst (λ (z : ℕ). e < z) (sym c.to-to.ensures) l) ∙ ap (λ (z : ℕ). copied_block (seen_by old.meta old.dirty None f) z c.args.s e) c.to-to.ensures) h lo)
-      (c.in_ok-done.ensures.filled is h lo);
-  failed = λ is. loses_after _ (g.R.Rack.slot (store_rack c.gather.new.store)) _ c.args.self.now.meta _ (left_spared _ _ _ c.in_default.ensures.read.left) (c.in_ok-done.ensures.failed is);
+      (c.write_members.ensures.filled is h lo);
+  failed = λ is. loses_after _ (g.R.Rack.slot (store_rack c.gather.new.store)) _ c.args.self.now.meta _ (left_spared _ _ _ c.in_default.ensures.read.left) (c.write_members.ensures.failed is);
   lost = λ is h lo.
       let old = c.args.self.now in
       let mid : Core g.row.R.Denot g.R.Rack = record old { store = c.gather.new.store } in
@@ -91,7 +60,7 @@ returns-in_default g c = record {
       (gathered g.R.Rack.slot_count g.R.Rack.slot g.R.Rack.told old q.ready c.gather.new.store c.args.s c.gather.new.blocks c.in_default.ensures.read q.whole q.nothing q.no_draft q.region (g.met.R.Rack.agrees (store_rack old.store))
       (g.met.R.Rack.agrees (store_rack c.gather.new.store)) (g.met.R.Rack.slots_hold (store_rack c.gather.new.store)).absent
       (λ f shows some e l. c.in_default.ensures.value f shows some e (subst (λ (z : ℕ). e < z) (sym c.to-to.ensures) l) ∙ ap (λ (z : ℕ). copied_block (seen_by old.meta old.dirty None f) z c.args.s e) c.to-to.ensures) h lo)
-      (c.in_ok-done.ensures.lost is h lo);
+      (c.write_members.ensures.lost is h lo);
   moments = λ h lo.
       let old = c.args.self.now in
       let mid : Core g.row.R.Denot g.R.Rack = record old { store = c.gather.new.store } in
@@ -131,21 +100,21 @@ returns g c = record {
 
 pub returns-in_err-lose : goal.returns-in_err-lose
 returns-in_err-lose g c = record {
-  leaves = none_done _ c.from_residual-in_err-lose.result _ c.from_residual-in_err-lose.ensures.1;
-  same = λ is. none_done_as _ c.from_residual-in_err-lose.result _ _ c.from_residual-in_err-lose.ensures.1 is;
+  leaves = none_done _ c.from_residual.result _ c.from_residual.ensures.1;
+  same = λ is. none_done_as _ c.from_residual.result _ _ c.from_residual.ensures.1 is;
   spared = left_spared _ _ _ c.in-Err.ensures.read.left;
   two =
       let old = c.args.self.now in
-      handed _ c.from_residual-in_err-lose.result _ c.from_residual-in_err-lose.ensures.1
+      handed _ c.from_residual.result _ c.from_residual.ensures.1
       (two_lost (named_of old.store) (named_out old.meta.out) _ _ c.in-Err.disk _ c.requires.serves.stays (c.in-Err.ensures.read.left.failed _ refl).risen c.in_err-lose.ensures.two);
   tells =
-      handed (λ two. Ran (g.R.Rack.told (store_rack c.args.self.now.store)) (g.R.Rack.told (store_rack c.gather.new.store)) (λ s cs. TellsLosses (named_out c.args.self.now.meta.out) two cs)) c.from_residual-in_err-lose.result _ c.from_residual-in_err-lose.ensures.1
+      handed (λ two. Ran (g.R.Rack.told (store_rack c.args.self.now.store)) (g.R.Rack.told (store_rack c.gather.new.store)) (λ s cs. TellsLosses (named_out c.args.self.now.meta.out) two cs)) c.from_residual.result _ c.from_residual.ensures.1
       (lose_tells (named_out c.args.self.now.meta.out) (Some c.in-Err.disk) _ _ _ c.in_err-lose.ensures.two c.in-Err.ensures.read.first);
   calls = calls_whole _ _ _ (sym c.requires.ready.array_is) (ap gone_out c.requires.whole) _ _ c.in-Err.ensures.read.calls;
-  marks = none_done _ c.from_residual-in_err-lose.result _ c.from_residual-in_err-lose.ensures.1;
-  filled = λ is. none_done_as _ c.from_residual-in_err-lose.result _ _ c.from_residual-in_err-lose.ensures.1 is;
-  failed = λ is. none_done_as _ c.from_residual-in_err-lose.result _ _ c.from_residual-in_err-lose.ensures.1 is;
-  lost = λ is. none_done_as _ c.from_residual-in_err-lose.result _ _ c.from_residual-in_err-lose.ensures.1 is;
+  marks = none_done _ c.from_residual.result _ c.from_residual.ensures.1;
+  filled = λ is. none_done_as _ c.from_residual.result _ _ c.from_residual.ensures.1 is;
+  failed = λ is. none_done_as _ c.from_residual.result _ _ c.from_residual.ensures.1 is;
+  lost = λ is. none_done_as _ c.from_residual.result _ _ c.from_residual.ensures.1 is;
   moments = λ h lo. gather_held g.R.Rack.slot_count g.R.Rack.slot g.R.Rack.told c.args.self.now c.requires.ready _ c.in-Err.ensures.read.calls c.args.s h lo;
 }
 

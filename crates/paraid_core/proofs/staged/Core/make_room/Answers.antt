@@ -1,9 +1,10 @@
-use Rattle.std.proofs.Common.{sym, subst, length, arith, ◌+◌, refl, ◌∙◌, ◌≡◌, rules}
+use Rattle.std.proofs.lemmas.Result.{IfErr-weaker, on_ok_weaker}
+use Rattle.std.proofs.Common.{sym, subst, length, arith, ◌+◌, refl, ◌∙◌, ◌≡◌}
 use Rattle.std.specs.Prelude.{Bool, if◌then◌else◌}
 use Rattle.paraid_image.specs.Out.{named_out, or_else}
 use Rattle.paraid_rack.specs.Told.{Ran, CrashTriple}
 use Rattle.paraid_txn.specs.Stores.{named_of, store_rack}
-use Rattle.paraid_core.specs.Cores.{IsCoreHeld, CoreStandsFor, core_down}
+use Rattle.paraid_core.specs.Cores.{IsCoreHeld, CoreStandsFor}
 use Rattle.paraid_core.proofs.ChainLemmas.{down_same, ended, first_false, keeps_still}
 use Rattle.paraid_core.proofs.ReadsLemmas.{knows_named}
 use Rattle.paraid_core.proofs.KindLemmas.{calls_none, gone_marked, first_true}
@@ -12,12 +13,10 @@ use Rattle.std.proofs.lemmas.Bool.{false≢true}
 use Rattle.std.proofs.Common.{Option, ℕ}
 use Rattle.paraid_core.proofs.OrderLemmas.{down_is_named}
 use Rattle.paraid_image.specs.Lost.{TellsLosses}
-use Rattle.paraid_core.proofs.AfterLemmas.{handed}
+use Rattle.paraid_core.proofs.AfterLemmas.{down_named}
 use Rattle.std.proofs.Common.{◌≤◌, inl}
 use Rattle.paraid_image.specs.Sides.{Batch}
-use Rattle.paraid_txn.specs.Losses.{AreTwoDown}
 use Rattle.paraid_core.specs.Room.{commits_first}
-use Rattle.paraid_core.proofs.ErrLemmas.{none_done}
 use Rattle.paraid_core.proofs.staged.Core.make_room.Goals as goal
 
 pub returns-then-count-targets : goal.returns-then-count-targets
@@ -72,87 +71,48 @@ returns-then-count-targets g c = record {
       (keeps_still (g.R.Rack.slot_count (store_rack old.store)) (named_of old.store) old.meta old.dirty old.batch old.copied h lo (or_else (named_of old.store) (named_out old.meta.out)) (g.R.Rack.told (store_rack old.store)) (knows_named (named_of old.store) (named_out old.meta.out)));
 }
 
-pub returns-in_err-commit : goal.returns-in_err-commit
-returns-in_err-commit g c = record {
-  draft = c.commit.ensures.draft;
-  table = c.commit.ensures.table;
-  copied = c.commit.ensures.copied;
-  slots = c.commit.ensures.slots;
-  ready = none_done _ c.from_residual.result _ c.from_residual.ensures.1;
-  serves = none_done _ c.from_residual.result _ c.from_residual.ensures.1;
-  room = none_done _ c.from_residual.result _ c.from_residual.ensures.1;
-  staged = none_done _ c.from_residual.result _ c.from_residual.ensures.1;
-  cleans_less = none_done _ c.from_residual.result _ c.from_residual.ensures.1;
-  nothing = none_done _ c.from_residual.result _ c.from_residual.ensures.1;
-  setup = none_done _ c.from_residual.result _ c.from_residual.ensures.1;
-  writes = none_done _ c.from_residual.result _ c.from_residual.ensures.1;
-  epoch = none_done _ c.from_residual.result _ c.from_residual.ensures.1;
-  spared = c.commit.ensures.spared;
-  still_synced = none_done _ c.from_residual.result _ c.from_residual.ensures.1;
-  unsynced = none_done _ c.from_residual.result _ c.from_residual.ensures.1;
-  two = handed (AreTwoDown (core_down c.args.self.now) (g.R.Rack.slot (store_rack c.args.self.now.store)) (g.R.Rack.slot (store_rack c.commit.new.self.store))) c.from_residual.result _ c.from_residual.ensures.1 c.in_err-commit.ensures.two;
-  tells =
-      let old = c.args.self.now in
-      handed (λ two. Ran (g.R.Rack.told (store_rack c.args.self.now.store)) (g.R.Rack.told (store_rack c.commit.new.self.store)) (λ s cs. TellsLosses (named_out c.args.self.now.meta.out) two cs)) c.from_residual.result _ c.from_residual.ensures.1
-      (subst (λ (o : Option ℕ). Ran (g.R.Rack.told (store_rack old.store)) (g.R.Rack.told (store_rack c.commit.new.self.store)) (λ s cs. TellsLosses o c.in_err-commit.field-0.0 cs)) (down_is_named (named_of old.store) (named_out old.meta.out) c.requires.serves.stays) c.in_err-commit.ensures.tells);
-  calls = c.commit.ensures.calls;
-  idle = λ is.
-      let value = c.count.ensures.value in
-      let high = c.if-count-targets.false in
-      absurd (false≢true (sym is ∙ first_true c.args.self.now.batch c.args.targets (omega arith)));
-  whole = λ is. c.commit.ensures.whole;
-  marks = none_done _ c.from_residual.result _ c.from_residual.ensures.1;
-  names = none_done _ c.from_residual.result _ c.from_residual.ensures.1;
-  down = none_done _ c.from_residual.result _ c.from_residual.ensures.1;
-  named = none_done _ c.from_residual.result _ c.from_residual.ensures.1;
-  gone = none_done _ c.from_residual.result _ c.from_residual.ensures.1;
-  moments = c.commit.ensures.moments;
-  stands = none_done _ c.from_residual.result _ c.from_residual.ensures.1;
-}
-
 pub returns : goal.returns
 returns g c = record {
   draft = c.commit.ensures.draft;
   table = c.commit.ensures.table;
   copied = c.commit.ensures.copied;
   slots = c.commit.ensures.slots;
-  ready = c.in_ok-commit.ensures.ready;
-  serves = c.in_ok-commit.ensures.serves c.requires.serves;
-  room = subst (λ (b : Batch). length b + c.args.targets ≤ 96) (sym c.in_ok-commit.ensures.nothing) (let few = c.requires.few in omega (arith, few));
-  staged =
-      let old = c.args.self.now in
-      subst (λ (b : Batch). length b ≤ (if commits_first old.batch c.args.targets then 0 else length old.batch)) (sym c.in_ok-commit.ensures.nothing) (omega arith);
-  cleans_less = c.in_ok-commit.ensures.cleans_less;
-  nothing = search rules;
-  setup = c.in_ok-commit.ensures.setup;
-  writes = c.in_ok-commit.ensures.writes;
-  epoch =
-      let old = c.args.self.now in
-      subst (λ (b : Bool). c.commit.new.self.meta.epoch ≡ old.meta.epoch + (if b then 1 else 0)) (sym (first_true c.args.self.now.batch c.args.targets (let value = c.count.ensures.value in let high = c.if-count-targets.false in omega (arith, value, high)))) c.in_ok-commit.ensures.epoch;
+  ready = c.commit.ensures.ready;
+  serves = on_ok_weaker c.commit.result (λ was_so. was_so c.requires.serves) c.commit.ensures.serves;
+  room = on_ok_weaker c.commit.result (λ was_so. subst (λ (b : Batch). length b + c.args.targets ≤ 96) (sym was_so) (let few = c.requires.few in omega (arith, few))) c.commit.ensures.nothing;
+  staged = on_ok_weaker c.commit.result (λ was_so. let old = c.args.self.now in
+      subst (λ (b : Batch). length b ≤ (if commits_first old.batch c.args.targets then 0 else length old.batch)) (sym was_so) (omega arith)) c.commit.ensures.nothing;
+  cleans_less = c.commit.ensures.cleans_less;
+  nothing = on_ok_weaker c.commit.result (λ was_so zero. let few = c.count.ensures.few in let high = c.if-count-targets.false in absurd (omega (arith, few, high, zero))) c.commit.ensures.nothing;
+  setup = c.commit.ensures.setup;
+  writes = c.commit.ensures.writes;
+  epoch = on_ok_weaker c.commit.result (λ was_so. let old = c.args.self.now in
+      subst (λ (b : Bool). c.commit.new.self.meta.epoch ≡ old.meta.epoch + (if b then 1 else 0)) (sym (first_true c.args.self.now.batch c.args.targets (let value = c.count.ensures.value in let high = c.if-count-targets.false in omega (arith, value, high)))) was_so) c.commit.ensures.epoch;
   spared = c.commit.ensures.spared;
-  still_synced = c.in_ok-commit.ensures.still_synced;
-  unsynced = c.in_ok-commit.ensures.unsynced;
-  two = tt;
-  tells = tt;
+  still_synced = c.commit.ensures.still_synced;
+  unsynced = c.commit.ensures.unsynced;
+  two = c.commit.ensures.two;
+  tells =
+      let old = c.args.self.now in
+      IfErr-weaker c.commit.result _ _ (λ two down. subst (λ (o : Option ℕ). Ran (g.R.Rack.told (store_rack old.store)) (g.R.Rack.told (store_rack c.commit.new.self.store)) (λ s cs. TellsLosses o two cs)) (down_is_named (named_of old.store) (named_out old.meta.out) c.requires.serves.stays) down) c.commit.ensures.tells;
   calls = c.commit.ensures.calls;
   idle = λ is.
       let value = c.count.ensures.value in
       let high = c.if-count-targets.false in
       absurd (false≢true (sym is ∙ first_true c.args.self.now.batch c.args.targets (omega arith)));
   whole = λ is. c.commit.ensures.whole;
-  marks = c.in_ok-commit.ensures.marks;
-  names =
-      let old = c.args.self.now in
+  marks = c.commit.ensures.marks;
+  names = on_ok_weaker c.commit.result (λ was_so. let old = c.args.self.now in
       let value = c.count.ensures.value in
       let high = c.if-count-targets.false in
-      subst (λ (b : Bool). named_of c.commit.new.self.store ≡ (if b then named_out old.meta.out else named_of old.store)) (sym (first_true old.batch c.args.targets (omega arith))) c.in_ok-commit.ensures.named;
-  down = c.in_ok-commit.ensures.down;
-  named = search rules;
-  gone = gone_marked (record c.args.self.now.meta { epoch = c.args.self.now.meta.epoch + 1 }) c.commit.new.self.meta c.in_ok-commit.ensures.meta;
+      subst (λ (b : Bool). named_of c.commit.new.self.store ≡ (if b then named_out old.meta.out else named_of old.store)) (sym (first_true old.batch c.args.targets (omega arith))) was_so) c.commit.ensures.named;
+  down = c.commit.ensures.down;
+  named = on_ok_weaker c.commit.result (λ named d is. down_named (named_of c.args.self.now.store) c.args.self.now.meta c.requires.ready.one d (sym named ∙ is)) c.commit.ensures.named;
+  gone = on_ok_weaker c.commit.result (λ was_so. gone_marked (record c.args.self.now.meta { epoch = c.args.self.now.meta.epoch + 1 }) c.commit.new.self.meta was_so) c.commit.ensures.meta;
   moments = c.commit.ensures.moments;
-  stands = λ h lo.
+  stands = on_ok_weaker c.commit.result (λ was_so. λ h lo.
       let old = c.args.self.now in
       let new = c.commit.new.self in
       subst (λ (b : Bool). Ran (g.R.Rack.told (store_rack old.store)) (g.R.Rack.told (store_rack new.store)) (CrashTriple (IsCoreHeld g.R.Rack.slot_count old h lo) (CoreStandsFor g.R.Rack.slot_count old h lo) (CoreStandsFor g.R.Rack.slot_count new h (if b then length h else lo))))
-      (sym (first_true c.args.self.now.batch c.args.targets (let value = c.count.ensures.value in let high = c.if-count-targets.false in omega (arith, value, high)))) (c.in_ok-commit.ensures.stands h lo);
+      (sym (first_true c.args.self.now.batch c.args.targets (let value = c.count.ensures.value in let high = c.if-count-targets.false in omega (arith, value, high)))) (was_so h lo)) c.commit.ensures.stands;
 }

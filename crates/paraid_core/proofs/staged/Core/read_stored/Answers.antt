@@ -1,5 +1,5 @@
 use Rattle.paraid_image.specs.Mark.{meta_after_loss}
-use Rattle.std.proofs.Common.{◌≡◌, ℕ, ◌∙◌, ◌<◌, Some, None, sym, ap, subst, refl, false, true, rules}
+use Rattle.std.proofs.Common.{◌≡◌, ℕ, ◌∙◌, ◌<◌, Some, None, sym, ap, subst, refl, false, true}
 use Rattle.std.specs.Prelude.{Option, is_ok}
 use Rattle.paraid_base.specs.Told.{HasRisen}
 use Rattle.paraid_image.specs.Out.{named_out}

@@ -8,30 +8,11 @@ use Rattle.paraid_core.proofs.UnitWriteLemmas.{unit_passes, unit_stays_held}
 use Rattle.paraid_core.proofs.KindLemmas.{calls_none}
 use Rattle.paraid_txn.specs.Stores.{store_rack}
 use Rattle.paraid_core.proofs.LostMarkLemmas.{marks_none}
-use Rattle.paraid_core.proofs.AfterLemmas.{handed}
-use Rattle.paraid_core.proofs.ErrLemmas.{done_not_dropped, none_done, none_done_as}
+use Rattle.paraid_core.proofs.ErrLemmas.{done_not_dropped}
 use Rattle.paraid_rack.specs.declared.call.Power.TheVariants.{Spinning}
 use Rattle.paraid_core.proofs.StepLemmas.{leaves_none}
 use Rattle.std.proofs.Common.{arith}
 use Rattle.paraid_core.proofs.staged.Core.rebuild_unit.Goals as goal
-
-pub returns-in_err-done : goal.returns-in_err-done
-returns-in_err-done g c = record {
-  leaves = none_done _ c.from_residual.result _ c.from_residual.ensures.1;
-  same = λ is. none_done_as _ c.from_residual.result _ _ c.from_residual.ensures.1 is;
-  spins = λ is. none_done_as _ c.from_residual.result _ _ c.from_residual.ensures.1 is;
-  spared = c.copy_unit.ensures.spared;
-  two = handed _ c.from_residual.result _ c.from_residual.ensures.1 c.in_err-done.ensures.two;
-  tells = handed _ c.from_residual.result _ c.from_residual.ensures.1 c.in_err-done.ensures.tells;
-  calls = c.copy_unit.ensures.calls;
-  marks = none_done _ c.from_residual.result _ c.from_residual.ensures.1;
-  passed = search rules;
-  copied = λ is. none_done_as _ c.from_residual.result _ _ c.from_residual.ensures.1 is;
-  gone = λ is. none_done_as _ c.from_residual.result _ _ c.from_residual.ensures.1 is;
-  failed = λ is. none_done_as _ c.from_residual.result _ _ c.from_residual.ensures.1 is;
-  lost = λ is. none_done_as _ c.from_residual.result _ _ c.from_residual.ensures.1 is;
-  moments = c.copy_unit.ensures.moments;
-}
 
 pub copy_unit-requires : goal.copy_unit-requires
 copy_unit-requires g c = record {
@@ -47,25 +28,25 @@ copy_unit-requires g c = record {
 
 pub returns : goal.returns
 returns g c = record {
-  leaves = c.in_ok-done.ensures.leaves;
-  same = c.in_ok-done.ensures.same;
+  leaves = c.copy_unit.ensures.leaves;
+  same = c.copy_unit.ensures.same;
   spins = λ is d named.
       let same : c.fresh_disk-disk.result ≡ d = some_is c.fresh_disk-disk.result d (sym (rebuilding_named c.args.self.now.meta c.fresh_disk-disk.result c.fresh_disk-disk.ensures) ∙ named) in
-      subst (λ (x : ℕ). (g.R.Rack.slot (store_rack c.copy_unit.new.self.store) x).power ≡ Spinning) same (c.in_ok-done.ensures.spins is);
+      subst (λ (x : ℕ). (g.R.Rack.slot (store_rack c.copy_unit.new.self.store) x).power ≡ Spinning) same (c.copy_unit.ensures.spins is);
   spared = c.copy_unit.ensures.spared;
-  two = tt;
-  tells = tt;
+  two = c.copy_unit.ensures.two;
+  tells = c.copy_unit.ensures.tells;
   calls = c.copy_unit.ensures.calls;
-  marks = c.in_ok-done.ensures.marks;
+  marks = c.copy_unit.ensures.marks;
   passed = search rules;
-  copied = c.in_ok-done.ensures.copied;
+  copied = c.copy_unit.ensures.copied;
   gone = λ is d named.
       let same : c.fresh_disk-disk.result ≡ d = some_is c.fresh_disk-disk.result d (sym (rebuilding_named c.args.self.now.meta c.fresh_disk-disk.result c.fresh_disk-disk.ensures) ∙ named) in
-      subst (λ (x : ℕ). c.copy_unit.new.self.meta ≡ meta_after_loss c.args.self.now.meta x) same (c.in_ok-done.ensures.gone is);
+      subst (λ (x : ℕ). c.copy_unit.new.self.meta ≡ meta_after_loss c.args.self.now.meta x) same (c.copy_unit.ensures.gone is);
   failed = λ is d named.
       let same : c.fresh_disk-disk.result ≡ d = some_is c.fresh_disk-disk.result d (sym (rebuilding_named c.args.self.now.meta c.fresh_disk-disk.result c.fresh_disk-disk.ensures) ∙ named) in
-      subst (λ (x : ℕ). IsLostNow (g.R.Rack.slot (store_rack c.args.self.now.store)) (g.R.Rack.slot (store_rack c.copy_unit.new.self.store)) x) same (c.in_ok-done.ensures.failed is);
-  lost = c.in_ok-done.ensures.lost;
+      subst (λ (x : ℕ). IsLostNow (g.R.Rack.slot (store_rack c.args.self.now.store)) (g.R.Rack.slot (store_rack c.copy_unit.new.self.store)) x) same (c.copy_unit.ensures.failed is);
+  lost = c.copy_unit.ensures.lost;
   moments = c.copy_unit.ensures.moments;
 }
 

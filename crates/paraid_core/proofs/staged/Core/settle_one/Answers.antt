@@ -1,3 +1,4 @@
+use Rattle.std.proofs.lemmas.Result.{on_ok_weaker}
 use Rattle.std.proofs.Common.{◌≢◌, ◌∙◌, refl, sym, inl, rules}
 use Rattle.paraid_rack.specs.declared.call.Power.TheVariants.{Spinning}
 use Rattle.paraid_txn.specs.Stores.{store_rack}
@@ -9,44 +10,25 @@ use Rattle.paraid_core.proofs.UnsyncedLemmas.{marks_idle}
 use Rattle.paraid_core.proofs.KindLemmas.{calls_none, one_is_each}
 use Rattle.paraid_rack.specs.declared.call.Call.TheVariants.{Sync}
 use Rattle.paraid_core.proofs.LostMarkLemmas.{marks_none}
-use Rattle.paraid_core.proofs.AfterLemmas.{handed}
-use Rattle.paraid_core.proofs.ErrLemmas.{none_done}
+use Rattle.paraid_core.proofs.ErrLemmas.{on_ok_any}
 use Rattle.paraid_core.proofs.staged.Core.settle_one.Goals as goal
-
-pub returns-in_err-sync_disk : goal.returns-in_err-sync_disk
-returns-in_err-sync_disk g c = record {
-  leaves = none_done _ c.from_residual.result _ c.from_residual.ensures.1;
-  spared = c.sync_disk.ensures.spared;
-  still_synced = c.sync_disk.ensures.still_synced;
-  synced = none_done _ c.from_residual.result _ c.from_residual.ensures.1;
-  cleared = none_done _ c.from_residual.result _ c.from_residual.ensures.1;
-  two = handed _ c.from_residual.result _ c.from_residual.ensures.1 c.in_err-sync_disk.ensures.two;
-  tells = handed _ c.from_residual.result _ c.from_residual.ensures.1 c.in_err-sync_disk.ensures.tells;
-  calls = one_is_each (λ done. Sync c.args.disk done) _ (λ done. (c.requires.disk, c.if-not-self-disk.false)) _ _ c.sync_disk.ensures.calls;
-  marks = none_done _ c.from_residual.result _ c.from_residual.ensures.1;
-  moments = c.sync_disk.ensures.moments;
-  stands = none_done _ c.from_residual.result _ c.from_residual.ensures.1;
-  filled = none_done _ c.from_residual.result _ c.from_residual.ensures.1;
-  cells = none_done _ c.from_residual.result _ c.from_residual.ensures.1;
-  rebuilt = none_done _ c.from_residual.result _ c.from_residual.ensures.1;
-}
 
 pub returns : goal.returns
 returns g c = record {
-  leaves = c.in_ok-sync_disk.ensures.leaves;
+  leaves = c.sync_disk.ensures.leaves;
   spared = c.sync_disk.ensures.spared;
   still_synced = c.sync_disk.ensures.still_synced;
-  synced = λ is. c.in_ok-sync_disk.ensures.synced;
-  cleared = c.sync_disk.ensures.cleared;
-  two = tt;
-  tells = tt;
+  synced = on_ok_weaker c.sync_disk.result (λ synced is. synced) c.sync_disk.ensures.synced;
+  cleared = on_ok_any c.sync_disk.result c.sync_disk.ensures.cleared;
+  two = c.sync_disk.ensures.two;
+  tells = c.sync_disk.ensures.tells;
   calls = one_is_each (λ done. Sync c.args.disk done) _ (λ done. (c.requires.disk, c.if-not-self-disk.false)) _ _ c.sync_disk.ensures.calls;
-  marks = c.in_ok-sync_disk.ensures.marks;
+  marks = c.sync_disk.ensures.marks;
   moments = c.sync_disk.ensures.moments;
-  stands = c.in_ok-sync_disk.ensures.stands;
-  filled = c.in_ok-sync_disk.ensures.filled;
-  cells = c.in_ok-sync_disk.ensures.cells;
-  rebuilt = c.in_ok-sync_disk.ensures.rebuilt;
+  stands = c.sync_disk.ensures.stands;
+  filled = c.sync_disk.ensures.filled;
+  cells = c.sync_disk.ensures.cells;
+  rebuilt = c.sync_disk.ensures.rebuilt;
 }
 
 pub returns-then-not-self-disk : goal.returns-then-not-self-disk

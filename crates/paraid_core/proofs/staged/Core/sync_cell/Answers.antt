@@ -1,3 +1,4 @@
+use Rattle.std.proofs.lemmas.Result.{IfErr-weaker, on_ok_weaker}
 use Rattle.paraid_txn.specs.Stores.{named_of, store_rack}
 use Rattle.paraid_view.proofs.TwoLemmas.{left_spared, spared_then}
 use Rattle.paraid_core.specs.declared.staged.Core.{Core}
@@ -20,52 +21,21 @@ use Rattle.paraid_core.proofs.OrderLemmas.{lose_tells}
 use Rattle.paraid_core.proofs.ErrLemmas.{done_not_dropped, none_done, none_done_as, two_lost}
 use Rattle.paraid_core.proofs.staged.Core.sync_cell.Goals as goal
 
-pub returns-in_err-done : goal.returns-in_err-done
-returns-in_err-done g c = record {
-  leaves = none_done _ c.from_residual.result _ c.from_residual.ensures.1;
-  same = λ is. none_done_as _ c.from_residual.result _ _ c.from_residual.ensures.1 is;
-  spared = spared_then (g.R.Rack.slot (store_rack c.args.self.now.store)) (g.R.Rack.slot (store_rack c.read_value.new.store)) (g.R.Rack.slot (store_rack c.write_cell.new.self.store)) (left_spared _ _ _ c.in_default.ensures.read.left) c.write_cell.ensures.spared;
-  two =
-      handed _ c.from_residual.result _ c.from_residual.ensures.1
-      (two_then g.R.Rack.slot_count g.R.Rack.slot g.R.Rack.told c.args.self.now (record c.args.self.now { store = c.read_value.new.store })
-      (gathered_leaves g.R.Rack.slot_count g.R.Rack.slot g.R.Rack.told c.args.self.now c.requires.ready c.read_value.new.store c.in_default.ensures.read c.requires.serves.stays) c.write_cell.new.self c.write_cell.ensures.spared _ c.in_err-done.ensures.two);
-  tells =
-      handed (λ two. Ran (g.R.Rack.told (store_rack c.args.self.now.store)) (g.R.Rack.told (store_rack c.write_cell.new.self.store)) (λ s cs. TellsLosses (named_out c.args.self.now.meta.out) two cs)) c.from_residual.result _ c.from_residual.ensures.1
-      (tells_unhurt (named_out c.args.self.now.meta.out) _ _ (g.R.Rack.told (store_rack c.read_value.new.store)) _ c.in_default.ensures.read.first c.in_err-done.ensures.tells);
-  calls =
-      let old = c.args.self.now in
-      calls_then _ _ (g.R.Rack.told (store_rack c.read_value.new.store)) _ (calls_whole _ _ _ (sym c.requires.ready.array_is) (ap gone_out c.requires.whole) _ _ c.in_default.ensures.read.calls) c.write_cell.ensures.calls;
-  marks = none_done _ c.from_residual.result _ c.from_residual.ensures.1;
-  copied = λ is. none_done_as _ c.from_residual.result _ _ c.from_residual.ensures.1 is;
-  failed = λ is. none_done_as _ c.from_residual.result _ _ c.from_residual.ensures.1 is;
-  lost = λ is. none_done_as _ c.from_residual.result _ _ c.from_residual.ensures.1 is;
-  moments = λ h lo cells.
-      let old = c.args.self.now in
-      let mid : Core g.row.R.Denot g.R.Rack = record old { store = c.read_value.new.store } in
-      let q = c.requires in
-      held_runs_then g.R.Rack.slot_count g.R.Rack.slot g.R.Rack.told old mid (gathered_leaves g.R.Rack.slot_count g.R.Rack.slot g.R.Rack.told old q.ready c.read_value.new.store c.in_default.ensures.read q.serves.stays) c.write_cell.new.self
-      (CellsCopied g.R.Rack.slot_count old h lo cells) (CopyingCell g.R.Rack.slot_count mid h lo cells c.args.r c.args.disk c.read_value.new.into) h lo
-      (cell_gathered g.R.Rack.slot_count g.R.Rack.slot g.R.Rack.told old q.ready q.whole (g.met.R.Rack.agrees (store_rack old.store)) q.nothing c.args.r c.args.disk c.read_value.new.store c.read_value.new.into c.in_default.ensures.read q.no_draft
-      (g.met.R.Rack.agrees (store_rack c.read_value.new.store)) (g.met.R.Rack.slots_hold (store_rack c.read_value.new.store)).absent q.row c.in_default.ensures.value h lo cells)
-      (c.write_cell.ensures.moments h lo cells);
-}
-
 pub returns-in_default : goal.returns-in_default
 returns-in_default g c = record {
-  leaves =
-      leaves_then g.R.Rack.slot_count g.R.Rack.slot g.R.Rack.told c.args.self.now (record c.args.self.now { store = c.read_value.new.store })
-      (gathered_leaves g.R.Rack.slot_count g.R.Rack.slot g.R.Rack.told c.args.self.now c.requires.ready c.read_value.new.store c.in_default.ensures.read c.requires.serves.stays) c.write_cell.new.self c.in_ok-done.ensures.leaves;
-  same = λ is. c.in_ok-done.ensures.same is;
+  leaves = on_ok_weaker c.write_cell.result (λ was_so. leaves_then g.R.Rack.slot_count g.R.Rack.slot g.R.Rack.told c.args.self.now (record c.args.self.now { store = c.read_value.new.store })
+      (gathered_leaves g.R.Rack.slot_count g.R.Rack.slot g.R.Rack.told c.args.self.now c.requires.ready c.read_value.new.store c.in_default.ensures.read c.requires.serves.stays) c.write_cell.new.self was_so) c.write_cell.ensures.leaves;
+  same = λ is. c.write_cell.ensures.same is;
   spared = spared_then (g.R.Rack.slot (store_rack c.args.self.now.store)) (g.R.Rack.slot (store_rack c.read_value.new.store)) (g.R.Rack.slot (store_rack c.write_cell.new.self.store)) (left_spared _ _ _ c.in_default.ensures.read.left) c.write_cell.ensures.spared;
-  two = tt;
-  tells = tt;
+  two = IfErr-weaker c.write_cell.result _ _ (λ two down. two_then g.R.Rack.slot_count g.R.Rack.slot g.R.Rack.told c.args.self.now (record c.args.self.now { store = c.read_value.new.store })
+      (gathered_leaves g.R.Rack.slot_count g.R.Rack.slot g.R.Rack.told c.args.self.now c.requires.ready c.read_value.new.store c.in_default.ensures.read c.requires.serves.stays) c.write_cell.new.self c.write_cell.ensures.spared _ down) c.write_cell.ensures.two;
+  tells = IfErr-weaker c.write_cell.result _ _ (λ two down. tells_unhurt (named_out c.args.self.now.meta.out) _ _ (g.R.Rack.told (store_rack c.read_value.new.store)) _ c.in_default.ensures.read.first down) c.write_cell.ensures.tells;
   calls =
       let old = c.args.self.now in
       calls_then _ _ (g.R.Rack.told (store_rack c.read_value.new.store)) _ (calls_whole _ _ _ (sym c.requires.ready.array_is) (ap gone_out c.requires.whole) _ _ c.in_default.ensures.read.calls) c.write_cell.ensures.calls;
-  marks =
-      let m = c.args.self.now.meta in
+  marks = on_ok_weaker c.write_cell.result (λ was_so. let m = c.args.self.now.meta in
       let left = c.in_default.ensures.read.left in
-      marks_then _ (g.R.Rack.slot (store_rack c.read_value.new.store)) _ m m _ (marks_read m m None _ _ m.epoch m.writes left refl (λ d is. let z : None ≡ Some d = is in cc) (λ d x is. let z : None ≡ Some d = is in cc)) c.in_ok-done.ensures.marks (left_spared _ _ _ left) c.write_cell.ensures.spared;
+      marks_then _ (g.R.Rack.slot (store_rack c.read_value.new.store)) _ m m _ (marks_read m m None _ _ m.epoch m.writes left refl (λ d is. let z : None ≡ Some d = is in cc) (λ d x is. let z : None ≡ Some d = is in cc)) was_so (left_spared _ _ _ left) c.write_cell.ensures.spared) c.write_cell.ensures.marks;
   copied = λ is h lo cells.
       let old = c.args.self.now in
       let mid : Core g.row.R.Denot g.R.Rack = record old { store = c.read_value.new.store } in
@@ -75,12 +45,12 @@ returns-in_default g c = record {
       (CellsCopied g.R.Rack.slot_count c.write_cell.new.self h lo (copied_with cells c.args.r c.args.disk)) h lo
       (cell_gathered g.R.Rack.slot_count g.R.Rack.slot g.R.Rack.told old q.ready q.whole (g.met.R.Rack.agrees (store_rack old.store)) q.nothing c.args.r c.args.disk c.read_value.new.store c.read_value.new.into c.in_default.ensures.read q.no_draft
       (g.met.R.Rack.agrees (store_rack c.read_value.new.store)) (g.met.R.Rack.slots_hold (store_rack c.read_value.new.store)).absent q.row c.in_default.ensures.value h lo cells)
-      (c.in_ok-done.ensures.copied is h lo cells);
+      (c.write_cell.ensures.copied is h lo cells);
   failed = λ is. record {
     disk = c.args.disk;
     low = disk_in c.args.self.now.meta c.args.disk c.requires.ready.in_range c.requires.rises;
-    failed = lost_after _ (g.R.Rack.slot (store_rack c.read_value.new.store)) _ c.args.disk (left_spared _ _ _ c.in_default.ensures.read.left) (c.in_ok-done.ensures.failed is);
-    gone = c.in_ok-done.ensures.gone is;
+    failed = lost_after _ (g.R.Rack.slot (store_rack c.read_value.new.store)) _ c.args.disk (left_spared _ _ _ c.in_default.ensures.read.left) (c.write_cell.ensures.failed is);
+    gone = c.write_cell.ensures.gone is;
   };
   lost = λ is h lo cells.
       let old = c.args.self.now in
@@ -91,7 +61,7 @@ returns-in_default g c = record {
       (CoreStandsFor g.R.Rack.slot_count c.write_cell.new.self h lo) h lo
       (cell_gathered g.R.Rack.slot_count g.R.Rack.slot g.R.Rack.told old q.ready q.whole (g.met.R.Rack.agrees (store_rack old.store)) q.nothing c.args.r c.args.disk c.read_value.new.store c.read_value.new.into c.in_default.ensures.read q.no_draft
       (g.met.R.Rack.agrees (store_rack c.read_value.new.store)) (g.met.R.Rack.slots_hold (store_rack c.read_value.new.store)).absent q.row c.in_default.ensures.value h lo cells)
-      (c.in_ok-done.ensures.lost is h lo cells);
+      (c.write_cell.ensures.lost is h lo cells);
   moments = λ h lo cells.
       let old = c.args.self.now in
       let mid : Core g.row.R.Denot g.R.Rack = record old { store = c.read_value.new.store } in
@@ -105,21 +75,21 @@ returns-in_default g c = record {
 
 pub returns-in_err-lose : goal.returns-in_err-lose
 returns-in_err-lose g c = record {
-  leaves = none_done _ c.from_residual-in_err-lose.result _ c.from_residual-in_err-lose.ensures.1;
-  same = λ is. none_done_as _ c.from_residual-in_err-lose.result _ _ c.from_residual-in_err-lose.ensures.1 is;
+  leaves = none_done _ c.from_residual.result _ c.from_residual.ensures.1;
+  same = λ is. none_done_as _ c.from_residual.result _ _ c.from_residual.ensures.1 is;
   spared = left_spared _ _ _ c.in-Err.ensures.read.left;
   two =
       let old = c.args.self.now in
-      handed _ c.from_residual-in_err-lose.result _ c.from_residual-in_err-lose.ensures.1
+      handed _ c.from_residual.result _ c.from_residual.ensures.1
       (two_lost (named_of old.store) (named_out old.meta.out) _ _ c.in-Err.lost _ c.requires.serves.stays (c.in-Err.ensures.read.left.failed _ refl).risen c.in_err-lose.ensures.two);
   tells =
-      handed (λ two. Ran (g.R.Rack.told (store_rack c.args.self.now.store)) (g.R.Rack.told (store_rack c.read_value.new.store)) (λ s cs. TellsLosses (named_out c.args.self.now.meta.out) two cs)) c.from_residual-in_err-lose.result _ c.from_residual-in_err-lose.ensures.1
+      handed (λ two. Ran (g.R.Rack.told (store_rack c.args.self.now.store)) (g.R.Rack.told (store_rack c.read_value.new.store)) (λ s cs. TellsLosses (named_out c.args.self.now.meta.out) two cs)) c.from_residual.result _ c.from_residual.ensures.1
       (lose_tells (named_out c.args.self.now.meta.out) (Some c.in-Err.lost) _ _ _ c.in_err-lose.ensures.two c.in-Err.ensures.read.first);
   calls = calls_whole _ _ _ (sym c.requires.ready.array_is) (ap gone_out c.requires.whole) _ _ c.in-Err.ensures.read.calls;
-  marks = none_done _ c.from_residual-in_err-lose.result _ c.from_residual-in_err-lose.ensures.1;
-  copied = λ is. none_done_as _ c.from_residual-in_err-lose.result _ _ c.from_residual-in_err-lose.ensures.1 is;
-  failed = λ is. none_done_as _ c.from_residual-in_err-lose.result _ _ c.from_residual-in_err-lose.ensures.1 is;
-  lost = λ is. none_done_as _ c.from_residual-in_err-lose.result _ _ c.from_residual-in_err-lose.ensures.1 is;
+  marks = none_done _ c.from_residual.result _ c.from_residual.ensures.1;
+  copied = λ is. none_done_as _ c.from_residual.result _ _ c.from_residual.ensures.1 is;
+  failed = λ is. none_done_as _ c.from_residual.result _ _ c.from_residual.ensures.1 is;
+  lost = λ is. none_done_as _ c.from_residual.result _ _ c.from_residual.ensures.1 is;
   moments = λ h lo cells. cell_reads_held g.R.Rack.slot_count g.R.Rack.slot g.R.Rack.told c.args.self.now c.requires.ready _ c.in-Err.ensures.read.calls h lo cells;
 }
 
