@@ -44,3 +44,12 @@ module _ (batch : Batch) (ts : List Target) (n : ℕ) (lt : n < length ts) (name
     named_more =
         ap targets one_more ∙ targets_more batch (t, b) ∙ ap (λ (l : List Target). l ++ t ∷ []) named
         ∙ ap (λ (x : Target). take n ts ++ x ∷ []) at ∙ sym (take_more ts n no_target lt)
+
+-- all of it
+taken : {A : Type 0} (n : ℕ) (xs : List A) → take n (take n xs) ≡ take n xs
+taken zero xs = refl
+taken (suc n) [] = refl
+taken (suc n) (x ∷ xs) = ap (λ l. x ∷ l) (taken n xs)
+
+pub named_all : (batch : Batch) (count n : ℕ) (ts : List Target) → targets batch ≡ take n (take count ts) → n ≡ count → targets batch ≡ take count ts
+named_all batch count n ts named is = named ∙ ap (λ (k : ℕ). take k (take count ts)) is ∙ taken count ts

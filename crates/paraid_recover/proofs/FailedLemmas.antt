@@ -1,6 +1,6 @@
 -- What reads of log disks leave of the slots, and which calls they are.
-use Rattle.std.specs.Prelude.{◌≡◌, ◌≢◌, ◌⊎◌, ℕ, ◌≤◌, ◌<◌, Bool, true, List, [], ◌∷◌, ◌++◌, ◌+◌, Option, Some, None, Result, Ok, Err, OnOk, IfErr, is_ok}
-use Rattle.std.proofs.Common.{refl, sym, ◌∙◌, ap, subst, arith, inl, inr}
+use Rattle.std.specs.Prelude.{◌≡◌, ◌≢◌, ◌⊎◌, ℕ, ◌≤◌, ◌<◌, Bool, true, false, List, [], ◌∷◌, ◌++◌, ◌+◌, Option, Some, None, Result, Ok, Err, IfErr, is_ok}
+use Rattle.std.proofs.Common.{zero, suc, refl, sym, ◌∙◌, ap, subst, arith, inl, inr}
 use Rattle.std.proofs.lemmas.Bool.{cases_eq, true≢false}
 use Rattle.std.proofs.lemmas.List.{length-append}
 use Rattle.paraid_base.specs.declared.fault.Failed.{Failed}
@@ -18,7 +18,7 @@ use Rattle.paraid_rack.proofs.TrailsLemmas.{Ran-call, Ran-none, Ran-then, extend
 use Rattle.paraid_txn.specs.Losses.{AreFailedOrWell, OnlyLosesSlots, AreTwoDownBeside, IsWell}
 use Rattle.paraid_txn.specs.Uses.{EachCall, IsThisCall, UsesLog}
 use Rattle.paraid_txn.proofs.CommitPartLemmas.{EachCall-milder, ran_milder}
-use Rattle.paraid_recover.specs.HeardSides.{AtMost, IsFailed, ReadsLog, ReadsLogs, gone_pair}
+use Rattle.paraid_recover.specs.HeardSides.{AreBothLost, AtMost, IsFailed, ReadsLog, ReadsLogs, gone_pair}
 
 -- a failure after reads that were done
 pub failed_after : {s t u : ℕ → Slot} {d : ℕ} → AreSameSlots s t → IsFailed t u d → IsFailed s u d
@@ -113,30 +113,28 @@ most_fits n k fits = ran_milder (AtMost n) (AtMost k) (λ s cs few. omega arith)
 well : (old new : ℕ → Slot) (d : ℕ) → new d ≡ old d → IsWell (old d) (new d)
 well old new d same = subst (λ (s : Slot). IsWell (old d) s) (sym same) (record { faults = refl; power = refl; size = refl })
 
-module _ {A : Type 0} (old new : ℕ → Slot) (disk : ℕ) where
-  pub heard_each : (result : Result A Failed) → OnOk result (AreSameSlots old new) → ((d : ℕ) → d ≢ disk → new d ≡ old d) → IfErr result (λ failed. IsFailed old new disk)
-      → AreFailedOrWell old new
-  heard_each (Ok it) same others failed d = inr (well old new d (same d))
-  heard_each (Err e) same others failed d = elim (cases_eq d disk) [
-    | inl is ↦ inl (subst (λ (k : ℕ). HasRisen (old k).faults (new k).faults) (sym is) failed.risen)
+module _ (old new : ℕ → Slot) (disk : ℕ) where
+  pub heard_each : (ok : Bool) → (ok ≡ true → AreSameSlots old new) → ((d : ℕ) → d ≢ disk → new d ≡ old d) → (ok ≡ false → IsFailed old new disk) → AreFailedOrWell old new
+  heard_each true same others failed d = inr (well old new d (same refl d))
+  heard_each false same others failed d = elim (cases_eq d disk) [
+    | inl is ↦ inl (subst (λ (k : ℕ). HasRisen (old k).faults (new k).faults) (sym is) (failed refl).risen)
     | inr not ↦ inr (well old new d (others d not))
   ]
 
-  pub heard_spared : (result : Result A Failed) → OnOk result (AreSameSlots old new) → ((d : ℕ) → d ≢ disk → new d ≡ old d) → IfErr result (λ failed. IsFailed old new disk)
-      → OnlyLosesSlots old new
-  heard_spared (Ok it) same others failed = record {
-    power = λ d there. (well old new d (same d)).power;
-    size = λ d there. (well old new d (same d)).size;
-    no_fall = λ d. (let kept = (well old new d (same d)).faults in omega arith);
+  pub heard_spared : (ok : Bool) → (ok ≡ true → AreSameSlots old new) → ((d : ℕ) → d ≢ disk → new d ≡ old d) → (ok ≡ false → IsFailed old new disk) → OnlyLosesSlots old new
+  heard_spared true same others failed = record {
+    power = λ d there. (well old new d (same refl d)).power;
+    size = λ d there. (well old new d (same refl d)).size;
+    no_fall = λ d. (let kept = (well old new d (same refl d)).faults in omega arith);
   }
-  heard_spared (Err e) same others failed =
+  heard_spared false same others failed =
       let gone : (d : ℕ) → is_present (new d).power ≡ true → d ≢ disk = λ d there is.
-      true≢false (sym there ∙ ap is_present (ap (λ (k : ℕ). (new k).power) is ∙ failed.gone)) in
+      true≢false (sym there ∙ ap is_present (ap (λ (k : ℕ). (new k).power) is ∙ (failed refl).gone)) in
       record {
         power = λ d there. (well old new d (others d (gone d there))).power;
         size = λ d there. (well old new d (others d (gone d there))).size;
         no_fall = λ d. elim (cases_eq d disk) [
-          | inl is ↦ subst (λ (k : ℕ). (old k).faults ≤ (new k).faults) (sym is) failed.later
+          | inl is ↦ subst (λ (k : ℕ). (old k).faults ≤ (new k).faults) (sym is) (failed refl).later
           | inr not ↦ let kept = (well old new d (others d not)).faults in omega arith
         ];
       }
@@ -173,3 +171,34 @@ pub second_gone : (old new : ℕ → Slot) (two : Two) → two ≡ gone_pair (ol
 second_gone old new two is spins first risen =
     subst (λ (t : Two). AreTwoDownBeside (λ e. (old e).power ≡ Absent) old new t) (sym (is ∙ ap gone_pair spins))
     (record { first = first; apart = λ e. omega arith; second = risen })
+
+pub failed_at : {s t u : ℕ → Slot} {d : ℕ} → t d ≡ s d → IsFailed t u d → IsFailed s u d
+failed_at {s} {t} {u} {d} same f = record {
+  risen = subst (λ (x : Slot). HasRisen x.faults (u d).faults) same f.risen;
+  later = subst (λ (x : Slot). x.faults ≤ (u d).faults) same f.later;
+  gone = f.gone;
+}
+
+-- both are lost: log disk 0 has failed, and log disk 1 was absent
+pub lost_beside : (old new : ℕ → Slot) (two : Two) → two ≡ gone_pair (old 1).power → (old 1).power ≡ Absent → (old 0).power ≡ Spinning → IsFailed old new 0 → new 1 ≡ old 1
+    → ((d : ℕ) → 2 ≤ d → new d ≡ old d) → AreBothLost old new two
+lost_beside old new two is gone spun failed same others =
+    subst (AreBothLost old new) (sym (is ∙ ap gone_pair gone))
+    (record { pair = sym (ap gone_pair gone); first = inl gone; spun = spun; failed = failed; gone = both; others = others })
+  where
+    both : (x : ℕ) → x < 2 → (new x).power ≡ Absent
+    both zero low = failed.gone
+    both (suc zero) low = ap (λ (s : Slot). s.power) same ∙ gone
+    both (suc (suc x)) low = absurd (omega arith)
+
+-- or log disk 1 has failed, and log disk 0 was absent or has failed
+pub lost_both : (old new : ℕ → Slot) (two : Two) → two ≡ gone_pair (old 1).power → (old 1).power ≡ Spinning → ((old 0).power ≡ Absent) ⊎ (((old 0).power ≡ Spinning) × IsFailed old new 0)
+    → IsFailed old new 1 → (new 0).power ≡ Absent → ((d : ℕ) → 2 ≤ d → new d ≡ old d) → AreBothLost old new two
+lost_both old new two is spun first failed gone others =
+    subst (AreBothLost old new) (sym (is ∙ ap gone_pair spun))
+    (record { pair = sym (ap gone_pair spun); first = first; spun = spun; failed = failed; gone = both; others = others })
+  where
+    both : (x : ℕ) → x < 2 → (new x).power ≡ Absent
+    both zero low = gone
+    both (suc zero) low = failed.gone
+    both (suc (suc x)) low = absurd (omega arith)

@@ -7,11 +7,12 @@ use Rattle.paraid_base.specs.declared.block.Block.{Block}
 use Rattle.paraid_base.specs.Regions.{disk_size}
 use Rattle.paraid_base.specs.Xor.{zero_block}
 use Rattle.paraid_rack.specs.Disks.{Disks}
+use Rattle.paraid_rack.specs.Slots.{Slot}
 use Rattle.paraid_record.specs.declared.meta.Setup.{Setup}
 use Rattle.paraid_record.specs.Meta.{meta_bytes}
 use Rattle.paraid_record.specs.Range.{IsInRange}
 use Rattle.paraid_image.specs.Sides.{is_open}
-use Rattle.paraid_recover.specs.Attached.{AreFreshDisks, BecomesFormatted, IsMetaWritten}
+use Rattle.paraid_recover.specs.Attached.{AreFreshDisks, BecomesFormatted, IsMetaWritten, fresh_slot}
 use Rattle.paraid_recover.specs.Calls.{AreAttaches, AreFormatCalls, AreMetaCalls, AreMakingCalls}
 use Rattle.paraid_recover.specs.First.{first_meta}
 use Rattle.paraid_rack.specs.Told.{Ran}
@@ -87,3 +88,12 @@ pub reads_and_rest : (force : Bool) (count size : ℕ) {old mid new : Option Tra
 reads_and_rest force count size {old} {mid} {new} =
     ran_then (λ start calls. AreReads calls × (force ≡ true → calls ≡ [])) (λ start calls. AreMakingCalls count size calls) (λ start calls. AreFormatCalls force count size calls)
     (λ s cs ds are makes. record { reads = cs; rest = ds; is = refl; are_reads = are.0; forced = are.1; makes = inr makes }) old mid new
+
+-- the slots after the metas
+pub made_fresh : (count size : ℕ) (a b c e : ℕ → Slot) → ((d : ℕ) → d < count → b d ≡ fresh_slot size (a d)) → c 0 ≡ record (b 0) { unsynced = false } → ((d : ℕ) → d ≢ 0 → c d ≡ b d)
+    → e 1 ≡ record (c 1) { unsynced = false } → ((d : ℕ) → d ≢ 1 → e d ≡ c d) → 2 ≤ count → (d : ℕ) → d < count → e d ≡ fresh_slot size (a d)
+made_fresh count size a b c e fresh first first_others second second_others two zero low = second_others 0 (λ is. omega arith) ∙ first ∙ ap (λ (s : Slot). record s { unsynced = false }) (fresh 0 low)
+made_fresh count size a b c e fresh first first_others second second_others two (suc zero) low =
+    second ∙ ap (λ (s : Slot). record s { unsynced = false }) (first_others 1 (λ is. omega arith) ∙ fresh 1 low)
+made_fresh count size a b c e fresh first first_others second second_others two (suc (suc d)) low =
+    second_others (suc (suc d)) (λ is. omega arith) ∙ first_others (suc (suc d)) (λ is. omega arith) ∙ fresh (suc (suc d)) low

@@ -45,3 +45,6 @@ pub mod EndsLemmas
 pub mod RenewLemmas
 pub mod MountCallsLemmas
 pub mod GoneLemmas
+mod RaisedLemmas
+mod LogReadsLemmas
+mod SyncedLemmas

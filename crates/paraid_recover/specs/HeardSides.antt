@@ -1,11 +1,12 @@
 -- What was read of a log disk, and what its reads leave.
-use Rattle.std.specs.Prelude.{false, ◌≡◌, ◌≢◌, ◌⊎◌, ◌<◌, ◌≤◌, ℕ, List, [], length, Option, Some, None}
+use Rattle.std.specs.Prelude.{Bool, true, false, ◌≡◌, ◌≢◌, ◌⊎◌, ◌<◌, ◌≤◌, ℕ, List, [], length, Option, Some, None}
 use Rattle.paraid_base.specs.declared.fault.Two.{Two}
 use Rattle.paraid_base.specs.Told.{HasRisen}
 use Rattle.paraid_rack.specs.declared.call.Call.{Call}
 use Rattle.paraid_rack.specs.declared.call.Call.TheVariants.{Read, Write, Sync, Park, SpinUp, Attach}
 use Rattle.paraid_rack.specs.declared.call.Power.{Power}
 use Rattle.paraid_rack.specs.declared.call.Power.TheVariants.{Absent, Parked, Spinning}
+use Rattle.paraid_rack.specs.declared.rack.Rack.{Ghosts}
 use Rattle.paraid_rack.specs.Disks.{Disks, is_present, lose}
 use Rattle.paraid_rack.specs.Slots.{AreSameSlots, Slot}
 use Rattle.paraid_rack.specs.Told.{Ran, CrashTriple}
@@ -17,6 +18,7 @@ use Rattle.paraid_recover.specs.declared.hearing.Heard.TheVariants.{Blank, Bad, 
 use Rattle.paraid_image.specs.Sides.{Batch, IsBad, IsSide, Says, is_open, stored_block, targets, Side}
 use Rattle.paraid_image.specs.Sides.Side.{absent, blank, bad, formed}
 use Rattle.paraid_image.specs.Standing.{other_log}
+use Rattle.paraid_txn.specs.Uses.{EachCall}
 
 -- the side of log disk `x` is this, with this batch
 abbrev pub IsHeard : Disks → ℕ → Heard → Batch → Type 0
@@ -107,6 +109,18 @@ ReadsLogs (Attach d size done) = ⊥
 -- at most so many calls
 abbrev pub AtMost : ℕ → Disks → List Call → Type 0
 AtMost n s calls = length calls ≤ n
+
+-- At most `n` reads of the log of log disk `x` were made. All is as it was; or the last one failed, and
+-- the disk is lost by it.
+pub record HasReadLog {R : Type 0} (g : Ghosts R) (x n : ℕ) (old new : R) (ok : Bool) : Type 0 where
+  pub slots : g.slot_count new ≡ g.slot_count old
+  pub others : (d : ℕ) → d ≢ x → g.slot new d ≡ g.slot old d
+  pub same : ok ≡ true → AreSameSlots (g.slot old) (g.slot new)
+  pub unchanged : ok ≡ true → IsUnchanged (g.told old) (g.told new)
+  pub failed : ok ≡ false → IsFailed (g.slot old) (g.slot new) x
+  pub lost : ok ≡ false → IsLosing x (g.told old) (g.told new)
+  pub calls : Ran (g.told old) (g.told new) (EachCall (ReadsLog x))
+  pub few : Ran (g.told old) (g.told new) (AtMost n)
 
 -- No slot has changed; or one log disk that spun has failed, and the other one spins.
 pub data IsOneLost (old new : ℕ → Slot) : Type 0 where

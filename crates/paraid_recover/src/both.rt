@@ -1,10 +1,9 @@
 //! What both log disks say.
-ghost use Rattle.paraid_rack.specs.Slots.{AreSameSlots};
-ghost use Rattle.std.specs.Prelude.{◌≡◌, ◌≢◌, ℕ, ◌<◌, ◌≤◌, [], Some, OnOk, IfErr, IfOk, None, Ok};
+ghost use Rattle.std.specs.Prelude.{◌≡◌, ◌≢◌, ℕ, ◌<◌, ◌≤◌, [], Some, OnOk, IfErr, IfOk, None, Ok, is_ok};
 ghost use Rattle.paraid_rack.specs.declared.call.Power.TheVariants.{Absent, Parked, Spinning};
 ghost use Rattle.paraid_rack.specs.Trail.{Trail, now};
 ghost use Rattle.paraid_rack.specs.Told.{Ran};
-ghost use Rattle.paraid_recover.specs.HeardSides.{AreBothLost, AtMost, IsFailed, IsHeardAt, IsHeardBy, IsInForm, IsLosing, IsOneLost, IsReadLosing, IsReadOnly, IsUnchanged, ReadsLog, ReadsLogs, gone_pair as gone_pair_of};
+ghost use Rattle.paraid_recover.specs.HeardSides.{AreBothLost, AtMost, HasReadLog, IsHeardAt, IsHeardBy, IsInForm, IsOneLost, IsReadLosing, IsReadOnly, ReadsLogs, gone_pair as gone_pair_of};
 ghost use Rattle.paraid_txn.specs.Uses.{EachCall, UsesLog};
 ghost use Rattle.paraid_txn.specs.Losses.{AreFailedOrWell, OnlyLosesSlots, AreTwoDownBeside};
 
@@ -22,21 +21,13 @@ pub fn hear_if_there<R: Rack>(
     requires exists { disk < R.slot_count rack.old }
     requires not_parked { (R.slot rack.old disk).power ≢ Parked }
     requires empty { batch.old ≡ [] }
-    ensures slots { R.slot_count rack.new ≡ R.slot_count rack.old }
-    ensures same { OnOk result (AreSameSlots (R.slot rack.old) (R.slot rack.new)) }
-    ensures others { (d : ℕ) → d ≢ disk → R.slot rack.new d ≡ R.slot rack.old d }
-    ensures unchanged { OnOk result (IsUnchanged (R.told rack.old) (R.told rack.new)) }
+    ensures reads { HasReadLog R.Rack disk 99 rack.old rack.new (is_ok result) }
     ensures heard { IfOk result (λ heard. (t : Trail) → R.told rack.new ≡ Some t
         → IsHeardAt (now t) disk heard batch.new) }
     ensures form { IfOk result (λ heard. IsInForm heard batch.new) }
     ensures power { IfOk result (λ heard. IsHeardBy heard (R.slot rack.new disk).power) }
-    ensures lost { IfErr result (λ failed. IsLosing disk (R.told rack.old) (R.told rack.new)) }
-    ensures absent { IfErr result (λ failed. (R.slot rack.new disk).power ≡ Absent) }
     ensures silent { result ≡ Ok None → (R.slot rack.old disk).power ≡ Absent }
     ensures was { IfErr result (λ failed. (R.slot rack.old disk).power ≡ Spinning) }
-    ensures failed { IfErr result (λ failed. IsFailed (R.slot rack.old) (R.slot rack.new) disk) }
-    ensures calls { Ran (R.told rack.old) (R.told rack.new) (EachCall (ReadsLog disk)) }
-    ensures few { Ran (R.told rack.old) (R.told rack.new) (AtMost 99) }
 {
     if rack.power(disk) == Power::Absent {
         return Ok(None);

@@ -1,62 +1,25 @@
 //! What the log disks say of an array that is there already.
 ghost use Rattle.paraid_rack.specs.Slots.{AreSameSlots};
-ghost use Rattle.std.specs.Prelude.{◌≡◌, ◌≢◌, ◌<◌, ◌≤◌, ℕ, true, false, Some, OnOk, IfErr, IfOk};
+ghost use Rattle.std.specs.Prelude.{◌≡◌, ◌<◌, ◌≤◌, ℕ, true, false, Some, OnOk, IfErr, IfOk, is_ok};
 ghost use Rattle.paraid_rack.specs.declared.call.Power.TheVariants.{Spinning};
 ghost use Rattle.paraid_rack.specs.Trail.{Trail, now};
 ghost use Rattle.paraid_base.specs.Told.{HasRisen};
 ghost use Rattle.paraid_image.specs.Sides.{is_open, stored_block};
 ghost use Rattle.paraid_recover.specs.Calls.{OnlyReadsAndKeeps, OnlyReads};
 ghost use Rattle.paraid_recover.specs.Found.{IsEpochOf, IsGreatestOf, IsMetaOf, greater_of};
+ghost use Rattle.paraid_recover.specs.HeardSides.{HasReadLog};
 
-use paraid_base::{Block, DiskNo, Failed, Place};
+use crate::reads::{opens, read_place};
+use paraid_base::{Block, DiskNo, Failed};
 use paraid_rack::{Power, Rack};
 use paraid_record::{Meta, read_meta, read_targets};
-
-// Whether a gate is open.
-fn opens(gate: &Block) -> bool
-    ensures { result ≡ is_open gate.now }
-{
-    gate.as_slice()[0] != 0
-}
-
-// Reads a block; a place past the size of the disk counts as zeros.
-fn read_place<R: Rack>(
-    rack: &mut R,
-    disk: DiskNo,
-    place: Place,
-    into: &mut Block,
-) -> Result<(), Failed>
-    requires exists { disk < R.slot_count rack.old }
-    requires spinning { (R.slot rack.old disk).power ≡ Spinning }
-    ensures slots { R.slot_count rack.new ≡ R.slot_count rack.old }
-    ensures same { OnOk result (AreSameSlots (R.slot rack.old) (R.slot rack.new)) }
-    ensures others { (d : ℕ) → d ≢ disk → R.slot rack.new d ≡ R.slot rack.old d }
-    ensures reads { OnlyReads (R.told rack.old) (R.told rack.new) }
-    ensures quiet { OnOk result (OnlyReadsAndKeeps (R.told rack.old) (R.told rack.new)) }
-    ensures risen { IfErr result (λ failed. HasRisen (R.slot rack.old disk).faults
-        (R.slot rack.new disk).faults) }
-    ensures block { OnOk result ((t : Trail) → R.told rack.new ≡ Some t
-        → into.new ≡ stored_block (now t) disk place) }
-{
-    if place >= rack.size(disk) {
-        *into = Block::zero();
-        return Ok(());
-    }
-    rack.read(disk, place, into)
-}
 
 // The meta that a log disk says by a closed gate.
 fn hear_closed<R: Rack>(rack: &mut R, disk: DiskNo) -> Result<Option<Meta>, Failed>
     requires exists { disk < R.slot_count rack.old }
     requires spinning { (R.slot rack.old disk).power ≡ Spinning }
     requires shut { (t : Trail) → R.told rack.old ≡ Some t → is_open (stored_block (now t) disk 0) ≡ false }
-    ensures slots { R.slot_count rack.new ≡ R.slot_count rack.old }
-    ensures same { OnOk result (AreSameSlots (R.slot rack.old) (R.slot rack.new)) }
-    ensures others { (d : ℕ) → d ≢ disk → R.slot rack.new d ≡ R.slot rack.old d }
-    ensures reads { OnlyReads (R.told rack.old) (R.told rack.new) }
-    ensures quiet { OnOk result (OnlyReadsAndKeeps (R.told rack.old) (R.told rack.new)) }
-    ensures risen { IfErr result (λ failed. HasRisen (R.slot rack.old disk).faults
-        (R.slot rack.new disk).faults) }
+    ensures reads { HasReadLog R.Rack disk 1 rack.old rack.new (is_ok result) }
     ensures heard { IfOk result (λ meta. (t : Trail) → R.told rack.new ≡ Some t
         → IsMetaOf (now t) disk meta) }
 {
@@ -70,13 +33,7 @@ fn hear_open<R: Rack>(rack: &mut R, disk: DiskNo) -> Result<Option<Meta>, Failed
     requires exists { disk < R.slot_count rack.old }
     requires spinning { (R.slot rack.old disk).power ≡ Spinning }
     requires opened { (t : Trail) → R.told rack.old ≡ Some t → is_open (stored_block (now t) disk 0) ≡ true }
-    ensures slots { R.slot_count rack.new ≡ R.slot_count rack.old }
-    ensures same { OnOk result (AreSameSlots (R.slot rack.old) (R.slot rack.new)) }
-    ensures others { (d : ℕ) → d ≢ disk → R.slot rack.new d ≡ R.slot rack.old d }
-    ensures reads { OnlyReads (R.told rack.old) (R.told rack.new) }
-    ensures quiet { OnOk result (OnlyReadsAndKeeps (R.told rack.old) (R.told rack.new)) }
-    ensures risen { IfErr result (λ failed. HasRisen (R.slot rack.old disk).faults
-        (R.slot rack.new disk).faults) }
+    ensures reads { HasReadLog R.Rack disk 2 rack.old rack.new (is_ok result) }
     ensures heard { IfOk result (λ meta. (t : Trail) → R.told rack.new ≡ Some t
         → IsMetaOf (now t) disk meta) }
 {
@@ -97,24 +54,16 @@ fn hear_open<R: Rack>(rack: &mut R, disk: DiskNo) -> Result<Option<Meta>, Failed
 fn hear<R: Rack>(rack: &mut R, disk: DiskNo) -> Result<Option<Meta>, Failed>
     requires exists { disk < R.slot_count rack.old }
     requires spinning { (R.slot rack.old disk).power ≡ Spinning }
-    ensures slots { R.slot_count rack.new ≡ R.slot_count rack.old }
-    ensures same { OnOk result (AreSameSlots (R.slot rack.old) (R.slot rack.new)) }
-    ensures others { (d : ℕ) → d ≢ disk → R.slot rack.new d ≡ R.slot rack.old d }
-    ensures reads { OnlyReads (R.told rack.old) (R.told rack.new) }
-    ensures quiet { OnOk result (OnlyReadsAndKeeps (R.told rack.old) (R.told rack.new)) }
-    ensures risen { IfErr result (λ failed. HasRisen (R.slot rack.old disk).faults
-        (R.slot rack.new disk).faults) }
+    ensures reads { HasReadLog R.Rack disk 3 rack.old rack.new (is_ok result) }
     ensures heard { IfOk result (λ meta. (t : Trail) → R.told rack.new ≡ Some t
         → IsMetaOf (now t) disk meta) }
 {
     let mut gate = Block::zero();
     read_place(rack, disk, 0, &mut gate)?;
     if opens(&gate) {
-        let meta = hear_open(rack, disk)?;
-        return Ok(meta);
+        return hear_open(rack, disk);
     }
-    let meta = hear_closed(rack, disk)?;
-    Ok(meta)
+    hear_closed(rack, disk)
 }
 
 // Whether a disk does not spin, or has no room for the head of a log.
@@ -130,13 +79,7 @@ fn lacks_log<R: Rack>(rack: &R, disk: DiskNo) -> bool
 // The epoch that a log disk says, if it belongs to an array.
 fn epoch_of<R: Rack>(rack: &mut R, disk: DiskNo) -> Result<Option<u64>, Failed>
     requires log_disk { disk < 2 }
-    ensures slots { R.slot_count rack.new ≡ R.slot_count rack.old }
-    ensures same { OnOk result (AreSameSlots (R.slot rack.old) (R.slot rack.new)) }
-    ensures others { (d : ℕ) → d ≢ disk → R.slot rack.new d ≡ R.slot rack.old d }
-    ensures reads { OnlyReads (R.told rack.old) (R.told rack.new) }
-    ensures quiet { OnOk result (OnlyReadsAndKeeps (R.told rack.old) (R.told rack.new)) }
-    ensures risen { IfErr result (λ failed. HasRisen (R.slot rack.old disk).faults
-        (R.slot rack.new disk).faults) }
+    ensures reads { HasReadLog R.Rack disk 3 rack.old rack.new (is_ok result) }
     ensures heard { IfOk result (λ epoch. (t : Trail) → R.told rack.new ≡ Some t
         → IsEpochOf (now t) disk epoch) }
 {

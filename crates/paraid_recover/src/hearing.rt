@@ -1,16 +1,13 @@
 //! What one log disk says: its gate, its meta, and the batch that is on its way.
-ghost use Rattle.paraid_rack.specs.Slots.{AreSameSlots};
-ghost use Rattle.std.specs.Prelude.{◌≡◌, ◌≢◌, ℕ, ◌<◌, ◌≤◌, true, false, [], length, Some, OnOk, IfErr, IfOk, AllPairs, get_or};
+ghost use Rattle.std.specs.Prelude.{◌≡◌, ◌≢◌, ℕ, ◌<◌, ◌≤◌, true, false, [], length, Some, OnOk, IfOk, AllPairs, get_or, is_ok};
 ghost use Rattle.paraid_base.specs.Xor.{zero_block};
-ghost use Rattle.paraid_rack.specs.declared.call.Power.TheVariants.{Absent, Spinning};
+ghost use Rattle.paraid_rack.specs.declared.call.Power.TheVariants.{Spinning};
 ghost use Rattle.paraid_rack.specs.Trail.{Trail, now};
-ghost use Rattle.paraid_record.specs.Targets.{AreTargets, no_target, targets_of};
-ghost use Rattle.paraid_rack.specs.Told.{Ran};
-ghost use Rattle.paraid_recover.specs.HeardSides.{AtMost, IsFailed, IsHeard, IsInForm, IsLosing, IsUnchanged, ReadsLog};
-ghost use Rattle.paraid_txn.specs.Uses.{EachCall};
+ghost use Rattle.paraid_record.specs.Targets.{no_target, targets_of};
+ghost use Rattle.paraid_recover.specs.HeardSides.{HasReadLog, IsHeard, IsInForm};
 ghost use Rattle.paraid_image.specs.Sides.{AreBlocksLogged, is_open, stored_block, targets};
 
-use crate::reads::read_place;
+use crate::reads::{opens, read_place};
 use paraid_base::{Block, DiskNo, Failed};
 use paraid_rack::Rack;
 use paraid_record::{Meta, Target, Targets, read_meta, read_targets};
@@ -26,13 +23,6 @@ pub enum Heard {
     Formed { gate_open: bool, meta: Meta },
 }
 
-// Whether a gate is open.
-fn opens(gate: &Block) -> bool
-    ensures { result ≡ is_open gate.now }
-{
-    gate.as_slice()[0] != 0
-}
-
 // Whether a block is zeros.
 fn is_zero(block: &Block) -> bool
     ensures yes { result ≡ true → block.now.bytes ≡ zero_block.bytes }
@@ -46,18 +36,10 @@ fn hear_closed<R: Rack>(rack: &mut R, disk: DiskNo) -> Result<Heard, Failed>
     requires exists { disk < R.slot_count rack.old }
     requires spinning { (R.slot rack.old disk).power ≡ Spinning }
     requires shut { (t : Trail) → R.told rack.old ≡ Some t → is_open (stored_block (now t) disk 0) ≡ false }
-    ensures slots { R.slot_count rack.new ≡ R.slot_count rack.old }
-    ensures same { OnOk result (AreSameSlots (R.slot rack.old) (R.slot rack.new)) }
-    ensures others { (d : ℕ) → d ≢ disk → R.slot rack.new d ≡ R.slot rack.old d }
-    ensures unchanged { OnOk result (IsUnchanged (R.told rack.old) (R.told rack.new)) }
+    ensures reads { HasReadLog R.Rack disk 1 rack.old rack.new (is_ok result) }
     ensures heard { IfOk result (λ heard. (t : Trail) → R.told rack.new ≡ Some t
         → IsHeard (now t) disk heard []) }
     ensures form { IfOk result (λ heard. IsInForm (Some heard) []) }
-    ensures lost { IfErr result (λ failed. IsLosing disk (R.told rack.old) (R.told rack.new)) }
-    ensures absent { IfErr result (λ failed. (R.slot rack.new disk).power ≡ Absent) }
-    ensures failed { IfErr result (λ failed. IsFailed (R.slot rack.old) (R.slot rack.new) disk) }
-    ensures calls { Ran (R.told rack.old) (R.told rack.new) (EachCall (ReadsLog disk)) }
-    ensures few { Ran (R.told rack.old) (R.told rack.new) (AtMost 1) }
 {
     let mut block = Block::zero();
     read_place(rack, disk, 1, &mut block)?;
@@ -95,18 +77,10 @@ fn hear_body<R: Rack>(
     requires empty { batch.old ≡ [] }
     requires few { places.now.count ≤ 96 }
     requires distinct { AllPairs (λ a b. a ≢ b) (targets_of places.now) }
-    ensures slots { R.slot_count rack.new ≡ R.slot_count rack.old }
-    ensures same { OnOk result (AreSameSlots (R.slot rack.old) (R.slot rack.new)) }
-    ensures others { (d : ℕ) → d ≢ disk → R.slot rack.new d ≡ R.slot rack.old d }
-    ensures unchanged { OnOk result (IsUnchanged (R.told rack.old) (R.told rack.new)) }
+    ensures reads { HasReadLog R.Rack disk 96 rack.old rack.new (is_ok result) }
     ensures named { OnOk result (targets batch.new ≡ targets_of places.now) }
     ensures logged { OnOk result ((t : Trail) → R.told rack.new ≡ Some t
         → AreBlocksLogged (stored_block (now t) disk) 4 batch.new) }
-    ensures lost { IfErr result (λ failed. IsLosing disk (R.told rack.old) (R.told rack.new)) }
-    ensures absent { IfErr result (λ failed. (R.slot rack.new disk).power ≡ Absent) }
-    ensures failed { IfErr result (λ failed. IsFailed (R.slot rack.old) (R.slot rack.new) disk) }
-    ensures calls { Ran (R.told rack.old) (R.told rack.new) (EachCall (ReadsLog disk)) }
-    ensures few { Ran (R.told rack.old) (R.told rack.new) (AtMost 96) }
 {
     let mut block = Block::zero();
     for at in 0..places.count {
@@ -125,18 +99,10 @@ fn hear_open<R: Rack>(rack: &mut R, disk: DiskNo, batch: &mut Batch) -> Result<H
     requires spinning { (R.slot rack.old disk).power ≡ Spinning }
     requires empty { batch.old ≡ [] }
     requires opened { (t : Trail) → R.told rack.old ≡ Some t → is_open (stored_block (now t) disk 0) ≡ true }
-    ensures slots { R.slot_count rack.new ≡ R.slot_count rack.old }
-    ensures same { OnOk result (AreSameSlots (R.slot rack.old) (R.slot rack.new)) }
-    ensures others { (d : ℕ) → d ≢ disk → R.slot rack.new d ≡ R.slot rack.old d }
-    ensures unchanged { OnOk result (IsUnchanged (R.told rack.old) (R.told rack.new)) }
+    ensures reads { HasReadLog R.Rack disk 98 rack.old rack.new (is_ok result) }
     ensures heard { IfOk result (λ heard. (t : Trail) → R.told rack.new ≡ Some t
         → IsHeard (now t) disk heard batch.new) }
     ensures form { IfOk result (λ heard. IsInForm (Some heard) batch.new) }
-    ensures lost { IfErr result (λ failed. IsLosing disk (R.told rack.old) (R.told rack.new)) }
-    ensures absent { IfErr result (λ failed. (R.slot rack.new disk).power ≡ Absent) }
-    ensures failed { IfErr result (λ failed. IsFailed (R.slot rack.old) (R.slot rack.new) disk) }
-    ensures calls { Ran (R.told rack.old) (R.told rack.new) (EachCall (ReadsLog disk)) }
-    ensures few { Ran (R.told rack.old) (R.told rack.new) (AtMost 98) }
 {
     let mut block = Block::zero();
     let mut list = Block::zero();
@@ -161,18 +127,10 @@ pub fn hear<R: Rack>(rack: &mut R, disk: DiskNo, batch: &mut Batch) -> Result<He
     requires exists { disk < R.slot_count rack.old }
     requires spinning { (R.slot rack.old disk).power ≡ Spinning }
     requires empty { batch.old ≡ [] }
-    ensures slots { R.slot_count rack.new ≡ R.slot_count rack.old }
-    ensures same { OnOk result (AreSameSlots (R.slot rack.old) (R.slot rack.new)) }
-    ensures others { (d : ℕ) → d ≢ disk → R.slot rack.new d ≡ R.slot rack.old d }
-    ensures unchanged { OnOk result (IsUnchanged (R.told rack.old) (R.told rack.new)) }
+    ensures reads { HasReadLog R.Rack disk 99 rack.old rack.new (is_ok result) }
     ensures heard { IfOk result (λ heard. (t : Trail) → R.told rack.new ≡ Some t
         → IsHeard (now t) disk heard batch.new) }
     ensures form { IfOk result (λ heard. IsInForm (Some heard) batch.new) }
-    ensures lost { IfErr result (λ failed. IsLosing disk (R.told rack.old) (R.told rack.new)) }
-    ensures absent { IfErr result (λ failed. (R.slot rack.new disk).power ≡ Absent) }
-    ensures failed { IfErr result (λ failed. IsFailed (R.slot rack.old) (R.slot rack.new) disk) }
-    ensures calls { Ran (R.told rack.old) (R.told rack.new) (EachCall (ReadsLog disk)) }
-    ensures few { Ran (R.told rack.old) (R.told rack.new) (AtMost 99) }
 {
     let mut gate = Block::zero();
     read_place(rack, disk, 0, &mut gate)?;

@@ -1,18 +1,21 @@
-//! Reads of any place of a disk.
-ghost use Rattle.paraid_rack.specs.Slots.{AreSameSlots};
-ghost use Rattle.std.specs.Prelude.{◌≡◌, ℕ, ◌<◌, ◌≤◌, true, false, Some, None, OnOk, IfErr, ◌≢◌};
-ghost use Rattle.paraid_rack.specs.declared.call.Power.TheVariants.{Absent, Spinning};
+//! Reads of the log of a disk.
+ghost use Rattle.std.specs.Prelude.{◌≡◌, ℕ, ◌<◌, Some, OnOk, is_ok};
+ghost use Rattle.paraid_rack.specs.declared.call.Power.TheVariants.{Spinning};
 ghost use Rattle.paraid_rack.specs.Trail.{Trail, now};
-ghost use Rattle.paraid_rack.specs.declared.call.Call.TheVariants.{Read};
-ghost use Rattle.paraid_rack.specs.Told.{Ran};
-ghost use Rattle.paraid_recover.specs.HeardSides.{AtMost, IsFailed, IsLosing, IsUnchanged};
-ghost use Rattle.paraid_txn.specs.Uses.{EachCall, IsThisCall};
-ghost use Rattle.paraid_image.specs.Sides.{stored_block};
+ghost use Rattle.paraid_recover.specs.HeardSides.{HasReadLog};
+ghost use Rattle.paraid_image.specs.Sides.{is_open, stored_block};
 
 use paraid_base::{Block, DiskNo, Failed, Place};
 use paraid_rack::Rack;
 
-/// Reads a block; a place past the size of the disk counts as zeros.
+/// Whether a gate is open.
+pub fn opens(gate: &Block) -> bool
+    ensures { result ≡ is_open gate.now }
+{
+    gate.as_slice()[0] != 0
+}
+
+/// Reads a block of a log; a place past the size of the disk counts as zeros.
 pub fn read_place<R: Rack>(
     rack: &mut R,
     disk: DiskNo,
@@ -21,18 +24,10 @@ pub fn read_place<R: Rack>(
 ) -> Result<(), Failed>
     requires exists { disk < R.slot_count rack.old }
     requires spinning { (R.slot rack.old disk).power ≡ Spinning }
-    ensures slots { R.slot_count rack.new ≡ R.slot_count rack.old }
-    ensures same { OnOk result (AreSameSlots (R.slot rack.old) (R.slot rack.new)) }
-    ensures others { (d : ℕ) → d ≢ disk → R.slot rack.new d ≡ R.slot rack.old d }
-    ensures unchanged { OnOk result (IsUnchanged (R.told rack.old) (R.told rack.new)) }
+    requires low { place < 100 }
+    ensures reads { HasReadLog R.Rack disk 1 rack.old rack.new (is_ok result) }
     ensures block { OnOk result ((t : Trail) → R.told rack.new ≡ Some t
         → into.new ≡ stored_block (now t) disk place) }
-    ensures lost { IfErr result (λ failed. IsLosing disk (R.told rack.old) (R.told rack.new)) }
-    ensures absent { IfErr result (λ failed. (R.slot rack.new disk).power ≡ Absent) }
-    ensures failed { IfErr result (λ failed. IsFailed (R.slot rack.old) (R.slot rack.new) disk) }
-    ensures calls { Ran (R.told rack.old) (R.told rack.new)
-        (EachCall (IsThisCall None disk (λ done. Read disk place done))) }
-    ensures few { Ran (R.told rack.old) (R.told rack.new) (AtMost 1) }
 {
     if place >= rack.size(disk) {
         *into = Block::zero();

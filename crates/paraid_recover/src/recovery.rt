@@ -154,10 +154,7 @@ pub fn mark_out<R: Rack>(store: &mut Store<R>, nothing: &Batch, meta: &Meta) -> 
         → EndsHeld slots x said m old (R.told (store_rack store.new))) }
 {
     let Some(disk) = unmarked(store, meta) else {
-        return match renew(store, nothing, meta) {
-            Ok(stands) => Ok(stands),
-            Err(two) => Err(two),
-        };
+        return renew(store, nothing, meta);
     };
     mark(store, nothing, meta, disk)?;
     Ok(Meta {

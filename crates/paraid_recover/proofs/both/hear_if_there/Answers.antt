@@ -1,19 +1,47 @@
-use Rattle.std.specs.Prelude.{◌≡◌}
-use Rattle.std.proofs.Common.{rules, ap, ◌∙◌}
-use Rattle.paraid_rack.specs.declared.call.Power.TheVariants.{Absent}
+use Rattle.std.specs.Prelude.{true}
+use Rattle.std.specs.Prelude.{◌≡◌, None}
+use Rattle.std.proofs.Common.{rules, refl, ap, ◌∙◌}
+use Rattle.paraid_rack.specs.declared.call.Power.TheVariants.{Absent, Spinning}
 use Rattle.paraid_rack.specs.Disks.{is_present}
-use Rattle.paraid_rack.proofs.TrailsLemmas.{Ran-none}
-use Rattle.paraid_recover.proofs.FailedLemmas.{most_none}
+use Rattle.paraid_rack.specs.Slots.{Slot}
+use Rattle.paraid_recover.proofs.LogReadsLemmas.{log_none, log_raised}
+use Rattle.paraid_recover.proofs.RaisedLemmas.{handed, none_done_as, none_done_if}
 use Rattle.paraid_recover.proofs.both.hear_if_there.Goals as goal
 
-pub returns-then-eq-clause-heard : goal.returns-then-eq-clause-heard
-returns-then-eq-clause-heard g c t tells =
+pub returns-then-eq : goal.returns-then-eq
+returns-then-eq g c =
     let gone : (g.R.Rack.slot c.args.rack.now c.args.disk).power ≡ Absent = search rules in
-    ap is_present ((g.met.R.Rack.agrees _ t tells).power c.args.disk ∙ gone)
+    record {
+      reads = log_none g.R.Rack c.args.disk 99 c.args.rack.now;
+      heard = λ t tells. ap is_present ((g.met.R.Rack.agrees _ t tells).power c.args.disk ∙ gone);
+      form = tt;
+      power = gone;
+      silent = λ is. gone;
+      was = tt;
+    }
 
-pub returns-then-eq-clause-calls : goal.returns-then-eq-clause-calls
-returns-then-eq-clause-calls g c =
-    Ran-none _ (λ s. tt) _
+pub returns-in_err-heard : goal.returns-in_err-heard
+returns-in_err-heard g c =
+    let r = c.from_residual.result in
+    let raised = c.from_residual.ensures.1 in
+    let spins : (g.R.Rack.slot c.args.rack.now c.args.disk).power ≡ Spinning = search rules in
+    record {
+      reads = log_raised g.R.Rack c.args.disk 99 c.args.rack.now c.hear.new.rack r _ raised c.in_err-heard.ensures.reads;
+      heard = none_done_if _ r _ raised;
+      form = none_done_if _ r _ raised;
+      power = none_done_if _ r _ raised;
+      silent = λ is. none_done_as _ r _ None raised is;
+      was = handed (λ failed. (g.R.Rack.slot c.args.rack.now c.args.disk).power ≡ Spinning) r _ raised spins;
+    }
 
-pub returns-then-eq-clause-few : goal.returns-then-eq-clause-few
-returns-then-eq-clause-few g c = most_none 99 _
+pub returns : goal.returns
+returns g c =
+    let spins : (g.R.Rack.slot c.args.rack.now c.args.disk).power ≡ Spinning = search rules in
+    record {
+      reads = c.in_ok-heard.ensures.reads;
+      heard = c.in_ok-heard.ensures.heard;
+      form = c.in_ok-heard.ensures.form;
+      power = ap (λ (s : Slot). s.power) (c.in_ok-heard.ensures.reads.same (refl {a = true}) c.args.disk) ∙ spins;
+      silent = λ is. cc;
+      was = tt;
+    }

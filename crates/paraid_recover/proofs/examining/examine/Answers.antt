@@ -1,10 +1,17 @@
-use Rattle.std.specs.Prelude.{ℕ, IfErr}
+use Rattle.std.specs.Prelude.{ℕ, Err, IfErr}
 use Rattle.std.proofs.Common.{refl, subst}
 use Rattle.std.proofs.lemmas.Result.{IfErr-weaker, IfOk-weaker}
-use Rattle.paraid_recover.proofs.BothLemmas.{one_of_two}
+use Rattle.paraid_rack.proofs.TrailsLemmas.{Ran-none}
+use Rattle.paraid_txn.specs.Resume.{log_state}
+use Rattle.paraid_txn.specs.Uses.{EachCall}
+use Rattle.paraid_recover.specs.HeardSides.{ReadsLogs}
+use Rattle.paraid_recover.proofs.RaisedLemmas.{on_ok_any}
+use Rattle.paraid_recover.proofs.SyncedLemmas.{nothing_failed, nothing_lost}
+use Rattle.paraid_recover.proofs.UnchangedLemmas.{unchanged_none}
+use Rattle.paraid_recover.proofs.BothLemmas.{both_read, one_of_two}
 use Rattle.paraid_recover.proofs.FailedLemmas.{most_none}
 use Rattle.paraid_recover.specs.declared.fault.MountFault.TheVariants.{Worn}
-use Rattle.paraid_recover.specs.Examined.{AreHeard, IsRefused, IsRefusedAsHeard, Logs, logs_of}
+use Rattle.paraid_recover.specs.Examined.{AreHeard, IsRefused, IsRefusedAsHeard, IsServedAsHeard, Logs, logs_of}
 use Rattle.paraid_recover.specs.Examined.IsRefused.{as_heard, by_loss, by_slots}
 use Rattle.paraid_recover.proofs.ExaminedLogLemmas.{heard_stands, if_err_is, worn_stands}
 use Rattle.paraid_recover.proofs.ServedLemmas.{can_resume}
@@ -12,14 +19,21 @@ use Rattle.paraid_recover.proofs.examining.examine.Given.{Over}
 use Rattle.paraid_recover.proofs.examining.examine.Goals as goal
 use Rattle.paraid_recover.proofs.examining.examine.Goals.{After-judge}
 
-pub returns-in-Some-clause-refused : goal.returns-in-Some-clause-refused
-returns-in-Some-clause-refused g c = by_slots c.in-Some.ensures (λ d. refl)
-
-pub returns-in-Err-clause-refused : goal.returns-in-Err-clause-refused
-returns-in-Err-clause-refused g c = by_loss c.in_default.ensures c.in-Err.two c.in-Err.ensures.both refl
-
-pub returns-clause-quiet : goal.returns-clause-quiet
-returns-clause-quiet g c = one_of_two c.in-Ok.ensures.moments
+pub returns-in-Err : goal.returns-in-Err
+returns-in-Err g c = record {
+  slots = c.hear_both.ensures.slots;
+  powers = c.hear_both.ensures.powers;
+  each = c.hear_both.ensures.each;
+  calls = c.hear_both.ensures.reads;
+  few = c.hear_both.ensures.few;
+  quiet = c.in-Err.ensures.refused;
+  one = tt;
+  refused = by_loss c.in_default.ensures c.in-Err.two c.in-Err.ensures.both refl;
+  ok = tt;
+  stands = tt;
+  resumes = tt;
+  worn = λ count is. cc;
+}
 
 -- what was heard
 abbrev logs : (g : Over) (c : After-judge g) → Logs
@@ -42,20 +56,46 @@ refused g c =
     as_heard c.in_default.ensures c.in-Ok.ensures.one (logs g c) (are g c)
     (subst (λ (n : ℕ). IsRefusedAsHeard n (g.R.Rack.slot c.hear_both.new.rack) (logs g c) fault) c.in-Ok.ensures.slots is)) c.judge.ensures.err
 
-pub returns-clause-refused : goal.returns-clause-refused
-returns-clause-refused g c = refused g c
+pub returns : goal.returns
+returns g c = record {
+  slots = c.hear_both.ensures.slots;
+  powers = c.hear_both.ensures.powers;
+  each = c.hear_both.ensures.each;
+  calls = c.hear_both.ensures.reads;
+  few = c.hear_both.ensures.few;
+  quiet = one_of_two c.in-Ok.ensures.moments;
+  one = on_ok_any c.judge.result c.in-Ok.ensures.moments;
+  refused = refused g c;
+  ok =
+      IfOk-weaker c.judge.result _ _ (λ it is. record {
+        readable = c.in_default.ensures;
+        lost = c.in-Ok.ensures.one;
+        logs = logs g c;
+        heard = are g c;
+        served = subst (λ (n : ℕ). IsServedAsHeard n (g.R.Rack.slot c.hear_both.new.rack) (logs g c) it.side (log_state it.gate_open it.meta c.judge.new.batch)) c.in-Ok.ensures.slots is;
+      }) c.judge.ensures.ok;
+  stands =
+      IfOk-weaker c.judge.result _ _ (λ it is. heard_stands _ _ (logs g c) it.side _ (are g c) is.agreed.standing) c.judge.ensures.ok;
+  resumes =
+      IfOk-weaker c.judge.result _ _ (λ it is. can_resume _ _ _ (logs g c) it.side _ (are g c) is) c.judge.ensures.ok;
+  worn = λ count is t tells x said stands.
+      worn_stands _ _ _ _ count (if_err_is _ c.judge.result (Worn count) is (refused g c)) t tells x said stands;
+}
 
-pub returns-clause-stands : goal.returns-clause-stands
-returns-clause-stands g c =
-    IfOk-weaker c.judge.result _ _ (λ it is. heard_stands _ _ (logs g c) it.side _ (are g c) is.agreed.standing) c.judge.ensures.ok
-
-pub returns-clause-resumes : goal.returns-clause-resumes
-returns-clause-resumes g c =
-    IfOk-weaker c.judge.result _ _ (λ it is. can_resume _ _ _ (logs g c) it.side _ (are g c) is) c.judge.ensures.ok
-
-pub returns-clause-worn : goal.returns-clause-worn
-returns-clause-worn g c count is t tells x said stands =
-    worn_stands _ _ _ _ count (if_err_is _ c.judge.result (Worn count) is (refused g c)) t tells x said stands
-
-pub returns-in-Some-clause-few : goal.returns-in-Some-clause-few
-returns-in-Some-clause-few g c = most_none 198 _
+pub returns-in-Some : goal.returns-in-Some
+returns-in-Some g c = record {
+  slots = refl;
+  powers = nothing_lost _;
+  each = nothing_failed _;
+  calls = Ran-none (EachCall ReadsLogs) (λ s. tt) (g.R.Rack.told c.args.rack.now);
+  few = most_none 198 _;
+  quiet = one_of_two (both_read (unchanged_none (g.R.Rack.told c.args.rack.now)) (unchanged_none (g.R.Rack.told c.args.rack.now)));
+  one = tt;
+  refused = by_slots c.in-Some.ensures (λ d. refl);
+  ok = tt;
+  stands = tt;
+  resumes = tt;
+  worn = λ count is.
+      worn_stands _ _ _ _ count
+      (if_err_is (IsRefused (g.R.Rack.slot_count c.args.rack.now) (g.R.Rack.slot c.args.rack.now) (g.R.Rack.slot c.args.rack.now) (g.R.Rack.told c.args.rack.now)) (Err c.in-Some.fault) (Worn count) is (by_slots c.in-Some.ensures (λ d. refl)));
+}

@@ -1,22 +1,55 @@
-use Rattle.std.proofs.Common.{sym, subst}
+use Rattle.std.specs.Prelude.{true, false}
+use Rattle.std.proofs.Common.{arith, refl, sym, ◌∙◌, subst}
 use Rattle.paraid_rack.specs.Disks.{Disks}
 use Rattle.paraid_rack.specs.Trail.{now}
 use Rattle.paraid_recover.specs.Found.{IsEpochOf}
+use Rattle.paraid_recover.proofs.FailedLemmas.{failed_after}
 use Rattle.paraid_recover.proofs.FoundLemmas.{greatest}
-use Rattle.paraid_recover.proofs.ReadsLemmas.{quiet_now, quiet_then, reading_then}
+use Rattle.paraid_recover.proofs.LogReadsLemmas.{quiet_of, reads_of}
+use Rattle.paraid_recover.proofs.ReadsLemmas.{quiet_then, reading_then}
+use Rattle.paraid_recover.proofs.UnchangedLemmas.{unchanged_now}
 use Rattle.paraid_recover.proofs.found.greatest_epoch.Goals as goal
 
-pub returns-in_default-epoch_of-clause-reads : goal.returns-in_default-epoch_of-clause-reads
-returns-in_default-epoch_of-clause-reads g c = reading_then c.epoch_of.ensures.reads c.epoch_of-2.ensures.reads
+pub returns-in_default : goal.returns-in_default
+returns-in_default g c =
+    let first = c.in_default.ensures.reads in
+    record {
+      slots = first.slots;
+      same = tt;
+      others = λ d high. first.others d (λ is. absurd (omega arith));
+      reads = reads_of 0 first.calls;
+      quiet = tt;
+      heard = tt;
+      risen = (first.failed (refl {a = false})).risen;
+    }
 
-pub returns-clause-reads : goal.returns-clause-reads
-returns-clause-reads g c = reading_then c.epoch_of.ensures.reads c.epoch_of-2.ensures.reads
+pub returns-in_default-epoch_of : goal.returns-in_default-epoch_of
+returns-in_default-epoch_of g c =
+    let first = c.in-Ok.ensures.reads in
+    let second = c.in_default-epoch_of.ensures.reads in
+    record {
+      slots = second.slots ∙ first.slots;
+      same = tt;
+      others = λ d high. second.others d (λ is. absurd (omega arith)) ∙ first.others d (λ is. absurd (omega arith));
+      reads = reading_then (reads_of 0 first.calls) (reads_of 1 second.calls);
+      quiet = tt;
+      heard = tt;
+      risen = (failed_after (first.same (refl {a = true})) (second.failed (refl {a = false}))).risen;
+    }
 
-pub returns-clause-quiet : goal.returns-clause-quiet
-returns-clause-quiet g c = quiet_then c.in-Ok.ensures.quiet c.in-Ok-epoch_of.ensures.quiet
-
-pub returns-clause-heard : goal.returns-clause-heard
-returns-clause-heard g c t tells =
-    let u = quiet_now c.in-Ok-epoch_of.ensures.quiet t tells in
-    let first = subst (λ (s : Disks). IsEpochOf s 0 c.in-Ok.first) (sym u.2) (c.in-Ok.ensures.heard u.0 u.1) in
-    rw c.greater.ensures (greatest (now t) c.in-Ok.first c.in-Ok-epoch_of.second first (c.in-Ok-epoch_of.ensures.heard t tells))
+pub returns : goal.returns
+returns g c =
+    let first = c.in-Ok.ensures.reads in
+    let second = c.in-Ok-epoch_of.ensures.reads in
+    record {
+      slots = second.slots ∙ first.slots;
+      same = λ d. second.same (refl {a = true}) d ∙ first.same (refl {a = true}) d;
+      others = λ d high. second.others d (λ is. absurd (omega arith)) ∙ first.others d (λ is. absurd (omega arith));
+      reads = reading_then (reads_of 0 first.calls) (reads_of 1 second.calls);
+      quiet = quiet_then (quiet_of 0 first.calls (first.unchanged (refl {a = true}))) (quiet_of 1 second.calls (second.unchanged (refl {a = true})));
+      heard = λ t tells.
+          let u = unchanged_now (second.unchanged (refl {a = true})) t tells in
+          let was = subst (λ (s : Disks). IsEpochOf s 0 c.in-Ok.first) (sym u.2) (c.in-Ok.ensures.heard u.0 u.1) in
+          rw c.greater.ensures (greatest (now t) c.in-Ok.first c.in-Ok-epoch_of.second was (c.in-Ok-epoch_of.ensures.heard t tells));
+      risen = tt;
+    }

@@ -1,20 +1,51 @@
-use Rattle.paraid_recover.proofs.ReadsLemmas.{quiet_then, reading_then}
+use Rattle.std.specs.Prelude.{false}
+use Rattle.std.specs.Prelude.{true}
+use Rattle.std.specs.Prelude.{is_ok}
+use Rattle.std.proofs.Common.{arith, refl, sym, ◌∙◌, ap}
+use Rattle.paraid_rack.specs.Slots.{Slot}
+use Rattle.paraid_image.specs.Sides.{is_open}
+use Rattle.paraid_recover.proofs.LogReadsLemmas.{log_fits, log_raised, log_then}
+use Rattle.paraid_recover.proofs.RaisedLemmas.{none_done_if}
 use Rattle.paraid_recover.proofs.found.hear.Goals as goal
 
-pub returns-in_err-meta-clause-reads : goal.returns-in_err-meta-clause-reads
-returns-in_err-meta-clause-reads g c = reading_then c.in_ok-read_place.ensures.reads c.in_err-meta.ensures.reads
+pub read_place-requires : goal.read_place-requires
+read_place-requires g c = record { exists = c.requires.exists; spinning = c.requires.spinning; low = omega arith }
 
-pub returns-then-opens-clause-reads : goal.returns-then-opens-clause-reads
-returns-then-opens-clause-reads g c = reading_then c.in_ok-read_place.ensures.reads c.in_ok-meta.ensures.reads
+pub hear_open-requires : goal.hear_open-requires
+hear_open-requires g c =
+    let read = c.in_ok-read_place.ensures.reads in
+    record {
+      exists = (let slots = read.slots in let there = c.requires.exists in omega arith);
+      spinning = ap (λ (s : Slot). s.power) (read.same (refl {a = true}) c.args.disk) ∙ c.requires.spinning;
+      opened = λ t tells. ap is_open (sym (c.in_ok-read_place.ensures.block t tells)) ∙ sym c.opens.ensures ∙ c.if-opens.true;
+    }
 
-pub returns-then-opens-clause-quiet : goal.returns-then-opens-clause-quiet
-returns-then-opens-clause-quiet g c = quiet_then c.in_ok-read_place.ensures.quiet c.in_ok-meta.ensures.quiet
+pub hear_closed-requires : goal.hear_closed-requires
+hear_closed-requires g c =
+    let read = c.in_ok-read_place.ensures.reads in
+    record {
+      exists = (let slots = read.slots in let there = c.requires.exists in omega arith);
+      spinning = ap (λ (s : Slot). s.power) (read.same (refl {a = true}) c.args.disk) ∙ c.requires.spinning;
+      shut = λ t tells. ap is_open (sym (c.in_ok-read_place.ensures.block t tells)) ∙ sym c.opens.ensures ∙ c.if-opens.false;
+    }
 
-pub returns-in_err-meta-2-clause-reads : goal.returns-in_err-meta-2-clause-reads
-returns-in_err-meta-2-clause-reads g c = reading_then c.in_ok-read_place.ensures.reads c.in_err-meta-2.ensures.reads
+pub returns-in_err-read_place : goal.returns-in_err-read_place
+returns-in_err-read_place g c =
+    let r = c.from_residual.result in
+    let raised = c.from_residual.ensures.1 in
+    record {
+      reads = log_raised g.R.Rack c.args.disk 3 c.args.rack.now c.read_place.new.rack r _ raised (log_fits g.R.Rack c.args.disk 1 3 (omega arith) c.args.rack.now c.read_place.new.rack false c.in_err-read_place.ensures.reads);
+      heard = none_done_if _ r _ raised;
+    }
 
-pub returns-clause-reads : goal.returns-clause-reads
-returns-clause-reads g c = reading_then c.in_ok-read_place.ensures.reads c.in_ok-meta-2.ensures.reads
+pub returns-then-opens : goal.returns-then-opens
+returns-then-opens g c = record {
+  reads = log_then g.R.Rack c.args.disk 1 2 3 (omega arith) c.args.rack.now c.read_place.new.rack c.hear_open.new.rack (is_ok c.hear_open.result) c.in_ok-read_place.ensures.reads c.hear_open.ensures.reads;
+  heard = c.hear_open.ensures.heard;
+}
 
-pub returns-clause-quiet : goal.returns-clause-quiet
-returns-clause-quiet g c = quiet_then c.in_ok-read_place.ensures.quiet c.in_ok-meta-2.ensures.quiet
+pub returns : goal.returns
+returns g c = record {
+  reads = log_then g.R.Rack c.args.disk 1 1 3 (omega arith) c.args.rack.now c.read_place.new.rack c.hear_closed.new.rack (is_ok c.hear_closed.result) c.in_ok-read_place.ensures.reads c.hear_closed.ensures.reads;
+  heard = c.hear_closed.ensures.heard;
+}

@@ -1,47 +1,59 @@
-use Rattle.std.proofs.lemmas.Result.{on_ok_weaker}
-use Rattle.paraid_recover.proofs.UnchangedLemmas.{if_err_weaker, losing_then, unchanged_then}
-use Rattle.std.proofs.Common.{arith}
-use Rattle.paraid_recover.specs.HeardSides.{ReadsLog}
-use Rattle.paraid_recover.proofs.FailedLemmas.{calls_then, failed_after, log_calls, most_fits, most_then}
+use Rattle.std.specs.Prelude.{false}
+use Rattle.std.specs.Prelude.{true}
+use Rattle.std.specs.Prelude.{◌≡◌, Some, IfOk, is_ok}
+use Rattle.std.proofs.Common.{arith, refl, sym, subst, ◌∙◌, ap}
+use Rattle.paraid_rack.specs.Trail.{Trail, now}
+use Rattle.paraid_rack.specs.Slots.{Slot}
+use Rattle.paraid_image.specs.Sides.{Batch, is_open}
+use Rattle.paraid_recover.specs.HeardSides.{IsHeard, IsInForm}
+use Rattle.paraid_recover.proofs.LogReadsLemmas.{log_fits, log_raised, log_then}
+use Rattle.paraid_recover.proofs.RaisedLemmas.{none_done_if}
 use Rattle.paraid_recover.proofs.hearing.hear.Goals as goal
 
-pub returns-then-opens-clause-unchanged : goal.returns-then-opens-clause-unchanged
-returns-then-opens-clause-unchanged g c = on_ok_weaker c.hear_open.result (λ u. unchanged_then c.in_ok-read_place.ensures.unchanged u) c.hear_open.ensures.unchanged
+pub read_place-requires : goal.read_place-requires
+read_place-requires g c = record { exists = c.requires.exists; spinning = c.requires.spinning; low = omega arith }
 
-pub returns-then-opens-clause-lost : goal.returns-then-opens-clause-lost
-returns-then-opens-clause-lost g c = if_err_weaker c.hear_open.result (λ u. losing_then c.args.disk c.in_ok-read_place.ensures.unchanged u) c.hear_open.ensures.lost
+pub hear_open-requires : goal.hear_open-requires
+hear_open-requires g c =
+    let read = c.in_ok-read_place.ensures.reads in
+    record {
+      exists = (let slots = read.slots in let there = c.requires.exists in omega arith);
+      spinning = ap (λ (s : Slot). s.power) (read.same (refl {a = true}) c.args.disk) ∙ c.requires.spinning;
+      empty = c.requires.empty;
+      opened = λ t tells. ap is_open (sym (c.in_ok-read_place.ensures.block t tells)) ∙ sym c.opens.ensures ∙ c.if-opens.true;
+    }
 
-pub returns-clause-unchanged : goal.returns-clause-unchanged
-returns-clause-unchanged g c = on_ok_weaker c.hear_closed.result (λ u. unchanged_then c.in_ok-read_place.ensures.unchanged u) c.hear_closed.ensures.unchanged
+pub hear_closed-requires : goal.hear_closed-requires
+hear_closed-requires g c =
+    let read = c.in_ok-read_place.ensures.reads in
+    record {
+      exists = (let slots = read.slots in let there = c.requires.exists in omega arith);
+      spinning = ap (λ (s : Slot). s.power) (read.same (refl {a = true}) c.args.disk) ∙ c.requires.spinning;
+      shut = λ t tells. ap is_open (sym (c.in_ok-read_place.ensures.block t tells)) ∙ sym c.opens.ensures ∙ c.if-opens.false;
+    }
 
-pub returns-clause-lost : goal.returns-clause-lost
-returns-clause-lost g c = if_err_weaker c.hear_closed.result (λ u. losing_then c.args.disk c.in_ok-read_place.ensures.unchanged u) c.hear_closed.ensures.lost
+pub returns-in_err-read_place : goal.returns-in_err-read_place
+returns-in_err-read_place g c =
+    let r = c.from_residual.result in
+    let raised = c.from_residual.ensures.1 in
+    record {
+      reads = log_raised g.R.Rack c.args.disk 99 c.args.rack.now c.read_place.new.rack r _ raised (log_fits g.R.Rack c.args.disk 1 99 (omega arith) c.args.rack.now c.read_place.new.rack false c.in_err-read_place.ensures.reads);
+      heard = none_done_if _ r _ raised;
+      form = none_done_if _ r _ raised;
+    }
 
-pub returns-in_err-read_place-clause-calls : goal.returns-in_err-read_place-clause-calls
-returns-in_err-read_place-clause-calls g c =
-    log_calls (omega arith) c.read_place.ensures.calls
+pub returns-then-opens : goal.returns-then-opens
+returns-then-opens g c = record {
+  reads = log_then g.R.Rack c.args.disk 1 98 99 (omega arith) c.args.rack.now c.read_place.new.rack c.hear_open.new.rack (is_ok c.hear_open.result) c.in_ok-read_place.ensures.reads c.hear_open.ensures.reads;
+  heard = c.hear_open.ensures.heard;
+  form = c.hear_open.ensures.form;
+}
 
-pub returns-then-opens-clause-calls : goal.returns-then-opens-clause-calls
-returns-then-opens-clause-calls g c =
-    calls_then (ReadsLog c.args.disk) (log_calls (omega arith) c.read_place.ensures.calls) c.hear_open.ensures.calls
-
-pub returns-clause-calls : goal.returns-clause-calls
-returns-clause-calls g c =
-    calls_then (ReadsLog c.args.disk) (log_calls (omega arith) c.read_place.ensures.calls) c.hear_closed.ensures.calls
-
-pub returns-then-opens-clause-failed : goal.returns-then-opens-clause-failed
-returns-then-opens-clause-failed g c =
-    if_err_weaker c.hear_open.result (λ f. failed_after c.in_ok-read_place.ensures.same f) c.hear_open.ensures.failed
-
-pub returns-clause-failed : goal.returns-clause-failed
-returns-clause-failed g c =
-    if_err_weaker c.hear_closed.result (λ f. failed_after c.in_ok-read_place.ensures.same f) c.hear_closed.ensures.failed
-
-pub returns-in_err-read_place-clause-few : goal.returns-in_err-read_place-clause-few
-returns-in_err-read_place-clause-few g c = most_fits 1 99 (omega arith) c.read_place.ensures.few
-
-pub returns-then-opens-clause-few : goal.returns-then-opens-clause-few
-returns-then-opens-clause-few g c = most_then 1 98 99 (omega arith) c.read_place.ensures.few c.hear_open.ensures.few
-
-pub returns-clause-few : goal.returns-clause-few
-returns-clause-few g c = most_then 1 1 99 (omega arith) c.read_place.ensures.few c.hear_closed.ensures.few
+pub returns : goal.returns
+returns g c = record {
+  reads = log_then g.R.Rack c.args.disk 1 1 99 (omega arith) c.args.rack.now c.read_place.new.rack c.hear_closed.new.rack (is_ok c.hear_closed.result) c.in_ok-read_place.ensures.reads c.hear_closed.ensures.reads;
+  heard =
+      subst (λ (b : Batch). IfOk c.hear_closed.result (λ heard. (t : Trail) → g.R.Rack.told c.hear_closed.new.rack ≡ Some t → IsHeard (now t) c.args.disk heard b)) (sym c.requires.empty)
+      c.hear_closed.ensures.heard;
+  form = subst (λ (b : Batch). IfOk c.hear_closed.result (λ heard. IsInForm (Some heard) b)) (sym c.requires.empty) c.hear_closed.ensures.form;
+}

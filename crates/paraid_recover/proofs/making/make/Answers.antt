@@ -1,15 +1,18 @@
-use Rattle.std.proofs.Common.{◌∙◌, ap, subst, ◌≡◌, ℕ}
+use Rattle.std.proofs.Common.{◌∙◌, ap, arith, subst, ◌≡◌, ℕ}
 use Rattle.paraid_base.specs.Regions.{disk_size}
 use Rattle.paraid_rack.specs.Disks.{Disks}
 use Rattle.paraid_rack.specs.Told.{Ran}
 use Rattle.paraid_record.specs.Meta.{meta_bytes}
 use Rattle.paraid_record.specs.Range.{IsInRange}
-use Rattle.paraid_recover.specs.Attached.{AreFreshDisks, BecomesFormatted, IsMetaWritten}
+use Rattle.paraid_base.specs.Told.{HasRisen}
+use Rattle.paraid_rack.specs.Slots.{Slot}
+use Rattle.paraid_recover.specs.Attached.{AreFreshDisks, BecomesFormatted, IsMetaWritten, fresh_slot}
 use Rattle.paraid_recover.specs.Calls.{AreAttaches}
 use Rattle.paraid_recover.specs.First.{first_meta}
 use Rattle.paraid_recover.specs.Between.{RanBetween}
+use Rattle.paraid_recover.proofs.RaisedLemmas.{handed, none_done}
 use Rattle.paraid_recover.proofs.AttachLemmas.{led_then}
-use Rattle.paraid_recover.proofs.FormatLemmas.{attaches_and_logs, formatted, only_attaches}
+use Rattle.paraid_recover.proofs.FormatLemmas.{attaches_and_logs, formatted, made_fresh, only_attaches}
 use Rattle.paraid_recover.proofs.LogLemmas.{logging_then}
 use Rattle.paraid_recover.proofs.making.make.Given.{Over}
 use Rattle.paraid_recover.proofs.making.make.Goals as goal
@@ -28,27 +31,58 @@ attached g c =
     subst (λ (n : ℕ). RanBetween (g.R.Rack.told c.args.rack.now) (g.R.Rack.told c.attach_all.new.rack) (AreFreshDisks n (disk_size c.args.setup.now.geometry))) c.disks.ensures
     (subst (λ (z : ℕ). RanBetween (g.R.Rack.told c.args.rack.now) (g.R.Rack.told c.attach_all.new.rack) (AreFreshDisks c.disks.result z)) c.size.ensures c.in_ok-attach_all.ensures.attached)
 
-pub returns-in_err-attach_all-clause-calls : goal.returns-in_err-attach_all-clause-calls
-returns-in_err-attach_all-clause-calls g c = only_attaches _ _ (attaches g (goal.at.returns-in_err-attach_all-clause-calls g c).After-attach_all)
+pub returns-in_err-attach_all : goal.returns-in_err-attach_all
+returns-in_err-attach_all g c = record {
+  slots = c.attach_all.ensures.slots;
+  fresh = none_done _ c.from_residual.result _ c.from_residual.ensures.1;
+  others = λ d high. c.attach_all.ensures.others d (let same = c.disks.ensures in omega arith);
+  formatted = none_done _ c.from_residual.result _ c.from_residual.ensures.1;
+  calls = only_attaches _ _ (attaches g (goal.at.returns-in_err-attach_all g c).After-attach_all);
+  risen = handed (λ d. HasRisen (g.R.Rack.slot c.args.rack.now d).faults (g.R.Rack.slot c.attach_all.new.rack d).faults) c.from_residual.result _ c.from_residual.ensures.1 c.in_err-attach_all.ensures.risen;
+}
 
-pub returns-in_default-clause-calls : goal.returns-in_default-clause-calls
-returns-in_default-clause-calls g c = attaches_and_logs _ _ (attaches g (goal.at.returns-in_default-clause-calls g c).After-attach_all) c.write_log.ensures.calls
+pub returns-in_default : goal.returns-in_default
+returns-in_default g c = record {
+  slots = c.write_log.ensures.slots ∙ c.attach_all.ensures.slots;
+  fresh = tt;
+  others = λ d high. c.write_log.ensures.others d (λ is. let low = c.args.setup.now.geometry.disks_low in omega arith) ∙ c.attach_all.ensures.others d (let same = c.disks.ensures in omega arith);
+  formatted = tt;
+  calls = attaches_and_logs _ _ (attaches g (goal.at.returns-in_default g c).After-attach_all) c.write_log.ensures.calls;
+  risen =
+      subst (λ (s : Slot). HasRisen s.faults (g.R.Rack.slot c.write_log.new.rack 0).faults) (c.in_ok-attach_all.ensures.fresh 0 (let low = c.args.setup.now.geometry.disks_low in let same = c.disks.ensures in omega arith)) c.in_default.ensures.risen;
+}
 
-pub returns-in_default-write_log-clause-calls : goal.returns-in_default-write_log-clause-calls
-returns-in_default-write_log-clause-calls g c =
-    attaches_and_logs _ _ (attaches g (goal.at.returns-in_default-write_log-clause-calls g c).After-attach_all) (logging_then c.write_log.ensures.calls c.write_log-2.ensures.calls)
+pub returns-in_default-write_log : goal.returns-in_default-write_log
+returns-in_default-write_log g c = record {
+  slots = c.write_log-2.ensures.slots ∙ c.write_log.ensures.slots ∙ c.attach_all.ensures.slots;
+  fresh = tt;
+  others = λ d high. c.write_log-2.ensures.others d (λ is. let low = c.args.setup.now.geometry.disks_low in omega arith) ∙ c.write_log.ensures.others d (λ is. let low = c.args.setup.now.geometry.disks_low in omega arith) ∙ c.attach_all.ensures.others d (let same = c.disks.ensures in omega arith);
+  formatted = tt;
+  calls =
+      attaches_and_logs _ _ (attaches g (goal.at.returns-in_default-write_log g c).After-attach_all) (logging_then c.write_log.ensures.calls c.write_log-2.ensures.calls);
+  risen =
+      subst (λ (s : Slot). HasRisen s.faults (g.R.Rack.slot c.write_log-2.new.rack 1).faults)
+      (c.write_log.ensures.others 1 (λ is. omega arith) ∙ c.in_ok-attach_all.ensures.fresh 1 (let low = c.args.setup.now.geometry.disks_low in let same = c.disks.ensures in omega arith)) c.in_default-write_log.ensures.risen;
+}
 
-pub returns-clause-calls : goal.returns-clause-calls
-returns-clause-calls g c = attaches_and_logs _ _ (attaches g (goal.at.returns-clause-calls g c).After-attach_all) (logging_then c.write_log.ensures.calls c.write_log-2.ensures.calls)
-
-pub returns-clause-formatted : goal.returns-clause-formatted
-returns-clause-formatted g c =
-    let setup = c.args.setup.now in
-    let b = c.write_meta.new.into in
-    let is : b.bytes ≡ meta_bytes (first_meta setup) = c.write_meta.ensures ∙ ap meta_bytes c.first_meta.ensures.value in
-    let range : IsInRange (first_meta setup) = subst IsInRange c.first_meta.ensures.value c.first_meta.ensures.range in
-    led_then (AreFreshDisks setup.geometry.disks (disk_size setup.geometry)) (λ (a e : Disks). (m : Disks) × IsMetaWritten 0 b a m × IsMetaWritten 1 b m e)
-    (BecomesFormatted (g.R.Rack.slot_count c.args.rack.now) (first_meta setup))
-    (λ start first end a logs. formatted (g.R.Rack.slot_count c.args.rack.now) setup b is range c.requires.room start first logs.0 end a logs.1 logs.2)
-    _ _ _ (attached g (goal.at.returns-clause-formatted g c).In_ok-attach_all)
-    (led_then (IsMetaWritten 0 b) (IsMetaWritten 1 b) (λ (a e : Disks). (m : Disks) × IsMetaWritten 0 b a m × IsMetaWritten 1 b m e) (λ a m e one two. (m, one, two)) _ _ _ c.in-Ok.ensures.logged c.in-Ok-write_log.ensures.logged)
+pub returns : goal.returns
+returns g c = record {
+  slots = c.write_log-2.ensures.slots ∙ c.write_log.ensures.slots ∙ c.attach_all.ensures.slots;
+  fresh =
+      made_fresh c.args.setup.now.geometry.disks (disk_size c.args.setup.now.geometry) (g.R.Rack.slot c.args.rack.now) (g.R.Rack.slot c.attach_all.new.rack) (g.R.Rack.slot c.write_log.new.rack) (g.R.Rack.slot c.write_log-2.new.rack)
+      (λ d low. c.in_ok-attach_all.ensures.fresh d (let same = c.disks.ensures in omega arith) ∙ ap (λ (z : ℕ). fresh_slot z (g.R.Rack.slot c.args.rack.now d)) c.size.ensures)
+      c.in-Ok.ensures.here c.write_log.ensures.others c.in-Ok-write_log.ensures.here c.write_log-2.ensures.others (let low = c.args.setup.now.geometry.disks_low in omega arith);
+  others = λ d high. c.write_log-2.ensures.others d (λ is. let low = c.args.setup.now.geometry.disks_low in omega arith) ∙ c.write_log.ensures.others d (λ is. let low = c.args.setup.now.geometry.disks_low in omega arith) ∙ c.attach_all.ensures.others d (let same = c.disks.ensures in omega arith);
+  formatted =
+      let setup = c.args.setup.now in
+      let b = c.write_meta.new.into in
+      let is : b.bytes ≡ meta_bytes (first_meta setup) = c.write_meta.ensures ∙ ap meta_bytes c.first_meta.ensures.value in
+      let range : IsInRange (first_meta setup) = subst IsInRange c.first_meta.ensures.value c.first_meta.ensures.range in
+      led_then (AreFreshDisks setup.geometry.disks (disk_size setup.geometry)) (λ (a e : Disks). (m : Disks) × IsMetaWritten 0 b a m × IsMetaWritten 1 b m e)
+      (BecomesFormatted (g.R.Rack.slot_count c.args.rack.now) (first_meta setup))
+      (λ start first end a logs. formatted (g.R.Rack.slot_count c.args.rack.now) setup b is range c.requires.room start first logs.0 end a logs.1 logs.2)
+      _ _ _ (attached g (goal.at.returns g c).In_ok-attach_all)
+      (led_then (IsMetaWritten 0 b) (IsMetaWritten 1 b) (λ (a e : Disks). (m : Disks) × IsMetaWritten 0 b a m × IsMetaWritten 1 b m e) (λ a m e one two. (m, one, two)) _ _ _ c.in-Ok.ensures.logged c.in-Ok-write_log.ensures.logged);
+  calls = attaches_and_logs _ _ (attaches g (goal.at.returns g c).After-attach_all) (logging_then c.write_log.ensures.calls c.write_log-2.ensures.calls);
+  risen = tt;
+}

@@ -19,19 +19,9 @@ use Rattle.paraid_recover.proofs.map.read_map.Goals.{After-read_map_of, After-re
 use Rattle.paraid_recover.proofs.FitLemmas.{each_read, left_well}
 use Rattle.paraid_recover.proofs.map.read_map.Goals as goal
 
-pub returns-in-Ok-clause-read : goal.returns-in-Ok-clause-read
-returns-in-Ok-clause-read g c =
-    read_beside g.R.Rack.slot_count g.R.Rack.slot g.R.Rack.told (disks_of c.args.store.now) (disks_of c.read_map_of.new.store) c.in-Err.lost c.args.store.now c.read_map_of.new.store c.read_map_of-2.new.store
-    c.in-Err.ensures.read.same.disks c.in-Err.ensures.read c.in-Ok.ensures.read
-
-pub returns-in-Ok-clause-shows : goal.returns-in-Ok-clause-shows
-returns-in-Ok-clause-shows g c f shows some =
-    let none : store_out g.R.Rack.slot c.args.store.now ≡ None = sym c.out-out.ensures ∙ c.in_default-out.is in
-    let first : c.in-Err.lost ≡ 0 = c.in-Err.ensures.failed ∙ c.map_disk-disk.ensures ∙ ap map_disk_of c.in_default-out.is in
-    let at : map_disk_of (or_else (store_out g.R.Rack.slot c.args.store.now) (Some c.in-Err.lost)) ≡ 1 =
-    ap (λ (o : Option ℕ). map_disk_of (or_else o (Some c.in-Err.lost))) none ∙ ap (λ (k : ℕ). map_disk_of (Some k)) first in
-    subst (λ (k : ℕ). ShowsMap c.args.meta.now.setup.geometry (f k) (is_dirty c.read_map_of-2.new.table)) (sym at)
-    (c.in-Ok.ensures.shows f (shows_after (disks_of c.args.store.now) _ _ [] f c.in-Err.ensures.read.calls shows) some)
+or_none : (o : Option ℕ) → or_else o None ≡ o
+or_none None = refl
+or_none (Some d) = refl
 
 -- the map is read of another disk than the one that is out
 map_apart : (first : ℕ) → first ≢ map_disk_of (Some first)
@@ -40,31 +30,6 @@ map_apart first is = by (is_out (Some first) 0) refl is
     by : (out : Bool) → is_out (Some first) 0 ≡ out → first ≡ (if out then 1 else 0) → ⊥
     by true out same = false≢true (subst (λ (k : ℕ). is_out (Some k) 0 ≡ true) same out)
     by false out same = false≢true (sym (subst (λ (k : ℕ). is_out (Some k) 0 ≡ false) same out))
-
-pub returns-in-Some-clause-two : goal.returns-in-Some-clause-two
-returns-in-Some-clause-two g c =
-    two_beside g.R.Rack.slot_count g.R.Rack.slot g.R.Rack.told (disks_of c.args.store.now) c.in-Some.first c.in-Err.lost _ c.args.store.now c.read_map_of.new.store
-    (sym c.out-out.ensures ∙ c.in-Some.is) (λ same. map_apart c.in-Some.first (same ∙ c.in-Err.ensures.failed ∙ c.map_disk-disk.ensures ∙ ap map_disk_of c.in-Some.is)) c.in-Err.ensures.read
-
-pub returns-in-Err-read_map_of-clause-two : goal.returns-in-Err-read_map_of-clause-two
-returns-in-Err-read_map_of-clause-two g c =
-    let first : c.in-Err.lost ≡ 0 = c.in-Err.ensures.failed ∙ c.map_disk-disk.ensures ∙ ap map_disk_of c.in_default-out.is in
-    let second = c.in-Err-read_map_of.ensures.failed in
-    let none : store_out g.R.Rack.slot c.args.store.now ≡ None = sym c.out-out.ensures ∙ c.in_default-out.is in
-    two_lost g.R.Rack.slot_count g.R.Rack.slot g.R.Rack.told (disks_of c.args.store.now) (disks_of c.read_map_of.new.store) c.in-Err.lost c.in-Err-read_map_of.second _ c.args.store.now c.read_map_of.new.store c.read_map_of-2.new.store
-    none c.in-Err.ensures.read.same.disks (λ is. absurd (omega arith)) c.in-Err.ensures.read c.in-Err-read_map_of.ensures.read
-
-pub returns-in_default-clause-each : goal.returns-in_default-clause-each
-returns-in_default-clause-each g c = left_well _ _ _ c.in_default.ensures.read.left
-
-pub returns-in-Some-clause-each : goal.returns-in-Some-clause-each
-returns-in-Some-clause-each g c = left_well _ _ _ c.in-Err.ensures.read.left
-
-pub returns-in-Ok-clause-each : goal.returns-in-Ok-clause-each
-returns-in-Ok-clause-each g c = each_read _ _ _ _ _ c.in-Err.ensures.read.left c.in-Ok.ensures.read.left
-
-pub returns-in-Err-read_map_of-clause-each : goal.returns-in-Err-read_map_of-clause-each
-returns-in-Err-read_map_of-clause-each g c = each_read _ _ _ _ _ c.in-Err.ensures.read.left c.in-Err-read_map_of.ensures.read.left
 
 -- the reads of the first log disk
 first_calls : (g : Over) (c : After-read_map_of g)
@@ -89,17 +54,46 @@ both_calls g c =
     (calls_milder (ReadsMapOf geometry 1) (ReadsMap geometry out) _ _
     (λ call reads. of_map geometry out 1 call (omega arith) (λ is. let z : None ≡ Some 1 = sym none ∙ is in cc) reads) c.read_map_of-2.ensures.calls)
 
-pub returns-in_default-clause-calls : goal.returns-in_default-clause-calls
-returns-in_default-clause-calls g c = first_calls g (goal.at.returns-in_default-clause-calls g c).After-read_map_of
+pub returns-in_default : goal.returns-in_default
+returns-in_default g c = record {
+  rows = c.read_map_of.ensures.rows;
+  narrow = c.read_map_of.ensures.narrow;
+  read = c.in_default.ensures.read;
+  each = left_well _ _ _ c.in_default.ensures.read.left;
+  calls = first_calls g (goal.at.returns-in_default g c).After-read_map_of;
+  alone = λ e is. let z : None ≡ Some e = is in cc;
+  two = tt;
+  gone = tt;
+  shows = λ f shows some.
+      subst (λ (k : ℕ). ShowsMap c.args.meta.now.setup.geometry (f k) (is_dirty c.read_map_of.new.table)) (c.map_disk-disk.ensures ∙ ap map_disk_of (c.out-out.ensures ∙ sym (or_none (store_out g.R.Rack.slot c.args.store.now))))
+      (c.in_default.ensures.shows f shows some);
+}
 
-pub returns-in-Some-clause-calls : goal.returns-in-Some-clause-calls
-returns-in-Some-clause-calls g c = first_calls g (goal.at.returns-in-Some-clause-calls g c).After-read_map_of
-
-pub returns-in-Ok-clause-calls : goal.returns-in-Ok-clause-calls
-returns-in-Ok-clause-calls g c = both_calls g (goal.at.returns-in-Ok-clause-calls g c).After-read_map_of-2
-
-pub returns-in-Err-read_map_of-clause-calls : goal.returns-in-Err-read_map_of-clause-calls
-returns-in-Err-read_map_of-clause-calls g c = both_calls g (goal.at.returns-in-Err-read_map_of-clause-calls g c).After-read_map_of-2
+pub returns-in-Ok : goal.returns-in-Ok
+returns-in-Ok g c = record {
+  rows = c.read_map_of-2.ensures.rows ∙ c.read_map_of.ensures.rows;
+  narrow = c.read_map_of-2.ensures.narrow;
+  read =
+      read_beside g.R.Rack.slot_count g.R.Rack.slot g.R.Rack.told (disks_of c.args.store.now) (disks_of c.read_map_of.new.store) c.in-Err.lost c.args.store.now c.read_map_of.new.store c.read_map_of-2.new.store
+      c.in-Err.ensures.read.same.disks c.in-Err.ensures.read c.in-Ok.ensures.read;
+  each = each_read _ _ _ _ _ c.in-Err.ensures.read.left c.in-Ok.ensures.read.left;
+  calls = both_calls g (goal.at.returns-in-Ok g c).After-read_map_of-2;
+  alone = λ e is.
+      let first : c.in-Err.lost ≡ 0 = c.in-Err.ensures.failed ∙ c.map_disk-disk.ensures ∙ ap map_disk_of c.in_default-out.is in
+      let z : Some c.in-Err.lost ≡ Some e = is in
+      let same : c.in-Err.lost ≡ e = cc in
+      let logs = c.requires.logs in
+      (omega arith, sym c.out-out.ensures ∙ c.in_default-out.is);
+  two = tt;
+  gone = tt;
+  shows = λ f shows some.
+      let none : store_out g.R.Rack.slot c.args.store.now ≡ None = sym c.out-out.ensures ∙ c.in_default-out.is in
+      let first : c.in-Err.lost ≡ 0 = c.in-Err.ensures.failed ∙ c.map_disk-disk.ensures ∙ ap map_disk_of c.in_default-out.is in
+      let at : map_disk_of (or_else (store_out g.R.Rack.slot c.args.store.now) (Some c.in-Err.lost)) ≡ 1 =
+      ap (λ (o : Option ℕ). map_disk_of (or_else o (Some c.in-Err.lost))) none ∙ ap (λ (k : ℕ). map_disk_of (Some k)) first in
+      subst (λ (k : ℕ). ShowsMap c.args.meta.now.setup.geometry (f k) (is_dirty c.read_map_of-2.new.table)) (sym at)
+      (c.in-Ok.ensures.shows f (shows_after (disks_of c.args.store.now) _ _ [] f c.in-Err.ensures.read.calls shows) some);
+}
 
 -- a log disk whose map is read is there
 log_there : (g : Over) (c : After-read_map_of g) (x : ℕ) → x < 2 → store_out g.R.Rack.slot c.args.store.now ≢ Some x → is_present (g.R.Rack.slot (store_rack c.args.store.now) x).power ≡ true
@@ -111,29 +105,56 @@ first_there g c lost is =
     subst (λ (x : ℕ). is_present (g.R.Rack.slot (store_rack c.args.store.now) x).power ≡ true) (sym (is ∙ c.map_disk-disk.ensures ∙ ap map_disk_of c.out-out.ensures))
     (log_there g c (map_disk_of (store_out g.R.Rack.slot c.args.store.now)) log.0 log.1)
 
-pub returns-in-Some-clause-gone : goal.returns-in-Some-clause-gone
-returns-in-Some-clause-gone g c =
-    let at = (goal.at.returns-in-Some-clause-gone g c).After-read_map_of in
-    record {
-      first = inl (sym c.out-out.ensures ∙ c.in-Some.is);
-      second = record { there = first_there g at c.in-Err.lost c.in-Err.ensures.failed; absent = (c.in-Err.ensures.read.left.failed c.in-Err.lost refl).absent };
-    }
-
-pub returns-in-Err-read_map_of-clause-gone : goal.returns-in-Err-read_map_of-clause-gone
-returns-in-Err-read_map_of-clause-gone g c =
-    let at = (goal.at.returns-in-Err-read_map_of-clause-gone g c).After-read_map_of in
-    let first : c.in-Err.lost ≡ 0 = c.in-Err.ensures.failed ∙ c.map_disk-disk.ensures ∙ ap map_disk_of c.in_default-out.is in
-    let second : c.in-Err-read_map_of.second ≡ 1 = c.in-Err-read_map_of.ensures.failed in
-    let none : store_out g.R.Rack.slot c.args.store.now ≡ None = sym c.out-out.ensures ∙ c.in_default-out.is in
-    let slot_0 = g.R.Rack.slot (store_rack c.args.store.now) in
-    record {
-      first = inr (record {
-        there = first_there g at c.in-Err.lost c.in-Err.ensures.failed;
-        absent = ap (λ (s : Slot). s.power) (c.in-Err-read_map_of.ensures.read.left.others c.in-Err.lost (λ is. let z : Some c.in-Err-read_map_of.second ≡ Some c.in-Err.lost = is in let y : c.in-Err-read_map_of.second ≡ c.in-Err.lost = cc in absurd (omega arith)))
-            ∙ (c.in-Err.ensures.read.left.failed c.in-Err.lost refl).absent;
-      });
-      second = record {
-        there = subst (λ (x : ℕ). is_present (slot_0 x).power ≡ true) (sym second) (log_there g at 1 (omega arith) (λ is. let z : None ≡ Some 1 = sym none ∙ is in cc));
-        absent = (c.in-Err-read_map_of.ensures.read.left.failed c.in-Err-read_map_of.second refl).absent;
+pub returns-in-Some : goal.returns-in-Some
+returns-in-Some g c = record {
+  rows = c.read_map_of.ensures.rows;
+  narrow = c.read_map_of.ensures.narrow;
+  read = tt;
+  each = left_well _ _ _ c.in-Err.ensures.read.left;
+  calls = first_calls g (goal.at.returns-in-Some g c).After-read_map_of;
+  alone = tt;
+  two =
+      two_beside g.R.Rack.slot_count g.R.Rack.slot g.R.Rack.told (disks_of c.args.store.now) c.in-Some.first c.in-Err.lost _ c.args.store.now c.read_map_of.new.store
+      (sym c.out-out.ensures ∙ c.in-Some.is) (λ same. map_apart c.in-Some.first (same ∙ c.in-Err.ensures.failed ∙ c.map_disk-disk.ensures ∙ ap map_disk_of c.in-Some.is)) c.in-Err.ensures.read;
+  gone =
+      let at = (goal.at.returns-in-Some g c).After-read_map_of in
+      record {
+        first = inl (sym c.out-out.ensures ∙ c.in-Some.is);
+        second = record { there = first_there g at c.in-Err.lost c.in-Err.ensures.failed; absent = (c.in-Err.ensures.read.left.failed c.in-Err.lost refl).absent };
       };
-    }
+  shows = tt;
+}
+
+pub returns-in-Err-read_map_of : goal.returns-in-Err-read_map_of
+returns-in-Err-read_map_of g c = record {
+  rows = c.read_map_of-2.ensures.rows ∙ c.read_map_of.ensures.rows;
+  narrow = c.read_map_of-2.ensures.narrow;
+  read = tt;
+  each = each_read _ _ _ _ _ c.in-Err.ensures.read.left c.in-Err-read_map_of.ensures.read.left;
+  calls = both_calls g (goal.at.returns-in-Err-read_map_of g c).After-read_map_of-2;
+  alone = tt;
+  two =
+      let first : c.in-Err.lost ≡ 0 = c.in-Err.ensures.failed ∙ c.map_disk-disk.ensures ∙ ap map_disk_of c.in_default-out.is in
+      let second = c.in-Err-read_map_of.ensures.failed in
+      let none : store_out g.R.Rack.slot c.args.store.now ≡ None = sym c.out-out.ensures ∙ c.in_default-out.is in
+      two_lost g.R.Rack.slot_count g.R.Rack.slot g.R.Rack.told (disks_of c.args.store.now) (disks_of c.read_map_of.new.store) c.in-Err.lost c.in-Err-read_map_of.second _ c.args.store.now c.read_map_of.new.store c.read_map_of-2.new.store
+      none c.in-Err.ensures.read.same.disks (λ is. absurd (omega arith)) c.in-Err.ensures.read c.in-Err-read_map_of.ensures.read;
+  gone =
+      let at = (goal.at.returns-in-Err-read_map_of g c).After-read_map_of in
+      let first : c.in-Err.lost ≡ 0 = c.in-Err.ensures.failed ∙ c.map_disk-disk.ensures ∙ ap map_disk_of c.in_default-out.is in
+      let second : c.in-Err-read_map_of.second ≡ 1 = c.in-Err-read_map_of.ensures.failed in
+      let none : store_out g.R.Rack.slot c.args.store.now ≡ None = sym c.out-out.ensures ∙ c.in_default-out.is in
+      let slot_0 = g.R.Rack.slot (store_rack c.args.store.now) in
+      record {
+        first = inr (record {
+          there = first_there g at c.in-Err.lost c.in-Err.ensures.failed;
+          absent = ap (λ (s : Slot). s.power) (c.in-Err-read_map_of.ensures.read.left.others c.in-Err.lost (λ is. let z : Some c.in-Err-read_map_of.second ≡ Some c.in-Err.lost = is in let y : c.in-Err-read_map_of.second ≡ c.in-Err.lost = cc in absurd (omega arith)))
+              ∙ (c.in-Err.ensures.read.left.failed c.in-Err.lost refl).absent;
+        });
+        second = record {
+          there = subst (λ (x : ℕ). is_present (slot_0 x).power ≡ true) (sym second) (log_there g at 1 (omega arith) (λ is. let z : None ≡ Some 1 = sym none ∙ is in cc));
+          absent = (c.in-Err-read_map_of.ensures.read.left.failed c.in-Err-read_map_of.second refl).absent;
+        };
+      };
+  shows = tt;
+}

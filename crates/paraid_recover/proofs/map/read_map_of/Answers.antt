@@ -11,6 +11,7 @@ use Rattle.paraid_rack.proofs.TrailsLemmas.{Ran-call, Ran-none}
 use Rattle.paraid_txn.specs.Uses.{EachCall}
 use Rattle.paraid_base.specs.Regions.{map_count}
 use Rattle.paraid_recover.specs.Map.{ReadsMapOf}
+use Rattle.paraid_recover.proofs.RaisedLemmas.{handed, none_done}
 use Rattle.paraid_recover.proofs.MountCallsLemmas.{calls_then}
 use Rattle.paraid_recover.proofs.map.read_map_of.Given.{Over}
 use Rattle.paraid_recover.proofs.map.read_map_of.Goals.{After-read_block}
@@ -77,16 +78,27 @@ loop-j-preserved g c =
       ];
     }
 
-pub returns-in_err-read_block-clause-read : goal.returns-in_err-read_block-clause-read
-returns-in_err-read_block-clause-read g c =
-    let before = c.loop-j.invariant in
-    read_failed g.R.Rack.slot_count g.R.Rack.slot g.R.Rack.told (disks_of c.args.store.now) (disks_of c.loop-j.store) _ _ c.args.store.now c.loop-j.store c.read_block.new.store before.read.same.disks
-    c.from_residual.ensures.1 before.read c.in_err-read_block.ensures.read
+pub returns-in_err-read_block : goal.returns-in_err-read_block
+returns-in_err-read_block g c = record {
+  rows = c.loop-j.invariant.rows;
+  narrow = c.loop-j.invariant.narrow;
+  read =
+      let before = c.loop-j.invariant in
+      read_failed g.R.Rack.slot_count g.R.Rack.slot g.R.Rack.told (disks_of c.args.store.now) (disks_of c.loop-j.store) _ _ c.args.store.now c.loop-j.store c.read_block.new.store before.read.same.disks
+      c.from_residual.ensures.1 before.read c.in_err-read_block.ensures.read;
+  failed = handed (λ e. e ≡ c.args.disk) c.from_residual.result _ c.from_residual.ensures.1 c.in_err-read_block.ensures.failed;
+  calls = more_calls g (goal.at.returns-in_err-read_block g c).After-read_block (let count = c.map_blocks-j-end.ensures in omega arith);
+  shows = none_done _ c.from_residual.result _ c.from_residual.ensures.1;
+}
 
-pub returns-in_err-read_block-clause-calls : goal.returns-in_err-read_block-clause-calls
-returns-in_err-read_block-clause-calls g c = more_calls g (goal.at.returns-in_err-read_block-clause-calls g c).After-read_block (let count = c.map_blocks-j-end.ensures in omega arith)
-
-pub returns-clause-shows : goal.returns-clause-shows
-returns-clause-shows g c f shows some =
-    let it = c.loop-j.invariant in
-    shows_map c.args.geometry.now (f c.args.disk) _ it.narrow (λ q d low disk. it.shows f shows some q d (let count = c.map_blocks-j-end.ensures in let same = c.requires.rows in omega arith) (let same = c.requires.rows in omega arith) disk)
+pub returns : goal.returns
+returns g c = record {
+  rows = c.loop-j.invariant.rows;
+  narrow = c.loop-j.invariant.narrow;
+  read = c.loop-j.invariant.read;
+  failed = tt;
+  calls = c.loop-j.invariant.calls;
+  shows = λ f shows some.
+      let it = c.loop-j.invariant in
+      shows_map c.args.geometry.now (f c.args.disk) _ it.narrow (λ q d low disk. it.shows f shows some q d (let count = c.map_blocks-j-end.ensures in let same = c.requires.rows in omega arith) (let same = c.requires.rows in omega arith) disk);
+}

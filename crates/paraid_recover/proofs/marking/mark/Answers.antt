@@ -33,64 +33,56 @@ each g c =
     (subst (λ (n : Meta). IsWholeOrAbsent (g.R.Rack.told c.args.store.now.rack) (g.R.Rack.told c.commit.new.self.rack) c.args.meta.now n c.args.batch.now) (after_is g c)
     (c.commit.ensures.any_moment c.args.meta.now c.requires.named))
 
-pub returns-clause-held : goal.returns-clause-held
-returns-clause-held g c slots t tells =
-    let at = goal.at.returns-clause-held g c in
-    let m = c.args.meta.now in
-    let d = c.args.disk in
-    let r = commit_moments _ _ m (marked_gone (of_version_two m) d (m.epoch + 1)) [] (each g at.After-commit) t tells in (
-      r.0,
-      r.1,
-      r.2,
-      λ h lo n was down rest held from to downs_start downs.
-          let gone = ap is_present ((g.met.R.Rack.agrees _ r.0 r.1).power d ∙ c.requires.absent) in
-          let range = rest.log.stands.says.log.meta.in_range in
-          let fits = c.requires.can.epoch in
-          let same = c.requires.epoch in
-          let after = marked_in_range (of_version_two m) d (m.epoch + 1) (in_version_two m m.epoch range range.counters.first range.counters.epoch_fits) c.requires.low (omega arith) (omega arith) in
-          let next = is_next slots _ m d (m.epoch + 1) h lo was rest held c.requires.only c.requires.low gone (omega arith) after in
-          mark_held slots _ m d (m.epoch + 1) h lo was rest held c.requires.only c.requires.low gone (omega arith) after _ down downs
-          (downs_start d c.requires.low gone) (r.3 rest next n from to),
-    )
-
-pub returns-clause-committed : goal.returns-clause-committed
-returns-clause-committed g c =
-    let at = goal.at.returns-clause-committed g c in
-    on_ok_weaker c.commit.result (λ commits.
-    subst (λ (n : Meta). EndsCommitted (g.R.Rack.told c.args.store.now.rack) (g.R.Rack.told c.commit.new.self.rack) c.args.meta.now n c.args.batch.now) (after_is g at.After-commit)
-    (commits c.args.meta.now c.requires.named)) c.commit.ensures.committed
-
-pub returns-clause-grows : goal.returns-clause-grows
-returns-clause-grows g c t tells =
-    let at = goal.at.returns-clause-grows g c in
-    let r = each g at.After-commit t tells in
-    record { from = r.from; was = r.was; calls = r.calls; is = r.is; holds = tt }
-
-pub returns-clause-two : goal.returns-clause-two
-returns-clause-two g c =
-    subst (λ (o : Option ℕ). IfErr c.commit.result (AreTwoDownBeside (IsOutOfCommit (λ e. (g.R.Rack.slot c.args.store.now.rack e).power) c.args.store.now.disks c.args.store.now.named o)
-    (g.R.Rack.slot c.args.store.now.rack) (g.R.Rack.slot c.commit.new.self.rack))) (ap (λ (n : Meta). named_out n.out) c.next_marked-next.ensures) c.commit.ensures.two
-
-pub returns-clause-gone : goal.returns-clause-gone
-returns-clause-gone g c =
-    subst (λ (o : Option ℕ). IfErr c.commit.result (AreGoneSince (IsOutOfCommit (λ e. (g.R.Rack.slot c.args.store.now.rack e).power) c.args.store.now.disks c.args.store.now.named o)
-    (g.R.Rack.slot c.args.store.now.rack) (g.R.Rack.slot c.commit.new.self.rack))) (ap (λ (n : Meta). named_out n.out) c.next_marked-next.ensures) c.commit.ensures.gone
-
-pub returns-clause-named : goal.returns-clause-named
-returns-clause-named g c = on_ok_weaker c.commit.result (λ is. is ∙ ap (λ (n : Meta). named_out n.out) c.next_marked-next.ensures) c.commit.ensures.named
-
-pub returns-clause-calls : goal.returns-clause-calls
-returns-clause-calls g c =
-    subst (λ (b : Batch). Ran (g.R.Rack.told c.args.store.now.rack) (g.R.Rack.told c.commit.new.self.rack) (EachCall (Uses (marked_gone (of_version_two c.args.meta.now) c.args.disk c.args.meta.now.epoch) b))) c.requires.empty
-    (subst (λ (n : Meta). Ran (g.R.Rack.told c.args.store.now.rack) (g.R.Rack.told c.commit.new.self.rack) (EachCall (Uses n c.args.batch.now))) c.next_marked-next.ensures c.commit.ensures.calls)
-
-pub returns-clause-one : goal.returns-clause-one
-returns-clause-one g c =
-    let at = goal.at.returns-clause-one g c in
-    let named = ap (λ (n : Meta). named_out n.out) c.next_marked-next.ensures in
-    one_marked c.args.store.now.disks c.args.store.now.named c.args.disk (g.R.Rack.slot c.args.store.now.rack) (g.R.Rack.slot c.commit.new.self.rack)
-    (let low = c.requires.low in let same = c.requires.can.array in omega arith) c.requires.absent c.commit.result c.commit.ensures.well
-    (subst (λ (o : Option ℕ). IfOk c.commit.result (λ lost. (d : ℕ) → lost ≡ Some d → IsAlone c.args.store.now.disks (IsOutOfCommit (λ e. (g.R.Rack.slot c.args.store.now.rack e).power) c.args.store.now.disks c.args.store.now.named o) d)) named c.commit.ensures.alone)
-
-pub returns-clause-moments : goal.returns-clause-moments
-returns-clause-moments g c = each g (goal.at.returns-clause-moments g c).After-commit
+pub returns : goal.returns
+returns g c = record {
+  powers = c.commit.ensures.powers;
+  synced = c.commit.ensures.synced;
+  epoch = c.commit.ensures.epoch;
+  slots = c.commit.ensures.slots;
+  disks = c.commit.ensures.disks;
+  named = on_ok_weaker c.commit.result (λ is. is ∙ ap (λ (n : Meta). named_out n.out) c.next_marked-next.ensures) c.commit.ensures.named;
+  each = c.commit.ensures.each;
+  two =
+      subst (λ (o : Option ℕ). IfErr c.commit.result (AreTwoDownBeside (IsOutOfCommit (λ e. (g.R.Rack.slot c.args.store.now.rack e).power) c.args.store.now.disks c.args.store.now.named o)
+      (g.R.Rack.slot c.args.store.now.rack) (g.R.Rack.slot c.commit.new.self.rack))) (ap (λ (n : Meta). named_out n.out) c.next_marked-next.ensures) c.commit.ensures.two;
+  gone =
+      subst (λ (o : Option ℕ). IfErr c.commit.result (AreGoneSince (IsOutOfCommit (λ e. (g.R.Rack.slot c.args.store.now.rack e).power) c.args.store.now.disks c.args.store.now.named o)
+      (g.R.Rack.slot c.args.store.now.rack) (g.R.Rack.slot c.commit.new.self.rack))) (ap (λ (n : Meta). named_out n.out) c.next_marked-next.ensures) c.commit.ensures.gone;
+  calls =
+      subst (λ (b : Batch). Ran (g.R.Rack.told c.args.store.now.rack) (g.R.Rack.told c.commit.new.self.rack) (EachCall (Uses (marked_gone (of_version_two c.args.meta.now) c.args.disk c.args.meta.now.epoch) b))) c.requires.empty
+      (subst (λ (n : Meta). Ran (g.R.Rack.told c.args.store.now.rack) (g.R.Rack.told c.commit.new.self.rack) (EachCall (Uses n c.args.batch.now))) c.next_marked-next.ensures c.commit.ensures.calls);
+  one =
+      let at = goal.at.returns g c in
+      let named = ap (λ (n : Meta). named_out n.out) c.next_marked-next.ensures in
+      one_marked c.args.store.now.disks c.args.store.now.named c.args.disk (g.R.Rack.slot c.args.store.now.rack) (g.R.Rack.slot c.commit.new.self.rack)
+      (let low = c.requires.low in let same = c.requires.can.array in omega arith) c.requires.absent c.commit.result c.commit.ensures.well
+      (subst (λ (o : Option ℕ). IfOk c.commit.result (λ lost. (d : ℕ) → lost ≡ Some d → IsAlone c.args.store.now.disks (IsOutOfCommit (λ e. (g.R.Rack.slot c.args.store.now.rack e).power) c.args.store.now.disks c.args.store.now.named o) d)) named c.commit.ensures.alone);
+  grows = λ t tells.
+      let at = goal.at.returns g c in
+      let r = each g at.After-commit t tells in
+      record { from = r.from; was = r.was; calls = r.calls; is = r.is; holds = tt };
+  held = λ slots t tells.
+      let at = goal.at.returns g c in
+      let m = c.args.meta.now in
+      let d = c.args.disk in
+      let r = commit_moments _ _ m (marked_gone (of_version_two m) d (m.epoch + 1)) [] (each g at.After-commit) t tells in (
+        r.0,
+        r.1,
+        r.2,
+        λ h lo n was down rest held from to downs_start downs.
+            let gone = ap is_present ((g.met.R.Rack.agrees _ r.0 r.1).power d ∙ c.requires.absent) in
+            let range = rest.log.stands.says.log.meta.in_range in
+            let fits = c.requires.can.epoch in
+            let same = c.requires.epoch in
+            let after = marked_in_range (of_version_two m) d (m.epoch + 1) (in_version_two m m.epoch range range.counters.first range.counters.epoch_fits) c.requires.low (omega arith) (omega arith) in
+            let next = is_next slots _ m d (m.epoch + 1) h lo was rest held c.requires.only c.requires.low gone (omega arith) after in
+            mark_held slots _ m d (m.epoch + 1) h lo was rest held c.requires.only c.requires.low gone (omega arith) after _ down downs
+            (downs_start d c.requires.low gone) (r.3 rest next n from to),
+      );
+  moments = each g (goal.at.returns g c).After-commit;
+  committed =
+      let at = goal.at.returns g c in
+      on_ok_weaker c.commit.result (λ commits.
+      subst (λ (n : Meta). EndsCommitted (g.R.Rack.told c.args.store.now.rack) (g.R.Rack.told c.commit.new.self.rack) c.args.meta.now n c.args.batch.now) (after_is g at.After-commit)
+      (commits c.args.meta.now c.requires.named)) c.commit.ensures.committed;
+}

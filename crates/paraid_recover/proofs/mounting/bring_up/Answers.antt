@@ -34,11 +34,6 @@ use Rattle.paraid_recover.proofs.mounting.bring_up.Goals.{After-raise, After-res
 abbrev said : (g : Over) (c : After-resume g) → LogState
 said g c = log_state c.args.standing.now.gate_open c.args.standing.now.meta c.args.batch
 
-pub returns-in-Err-clause-refused : goal.returns-in-Err-clause-refused
-returns-in-Err-clause-refused g c slots =
-    let at = (goal.at.returns-in-Err-clause-refused g c).After-resume in
-    resumes_held slots c.args.standing.now.side (said g at) (g.R.Rack.told c.args.rack) (g.R.Rack.told c.in-Err.refused.rack) c.in-Err.ensures.refused
-
 pub raise-requires-clause-fit : goal.raise-requires-clause-fit
 raise-requires-clause-fit g c =
     let slot = g.R.Rack.slot (store_rack c.in-Ok.store) in
@@ -55,11 +50,6 @@ resumed g c slots =
     let new = g.R.Rack.told (store_rack c.in-Ok.store) in
     let holds = resumes_held slots x s old new c.in-Ok.ensures.any_moment in
     record { grows = grows {old = old} {new = new} {x = x} {said = s} c.in-Ok.ensures.any_moment; holds = holds; ends = ends_resumed slots x s old new holds c.in-Ok.ensures.ended }
-
-pub returns-in-Ok-raise-clause-holds : goal.returns-in-Ok-raise-clause-holds
-returns-in-Ok-raise-clause-holds g c slots =
-    let at = (goal.at.returns-in-Ok-raise-clause-holds g c).After-raise in
-    c.raise.ensures.holds slots c.args.standing.now.side (log_state c.args.standing.now.gate_open c.args.standing.now.meta c.args.batch) (g.R.Rack.told c.args.rack) refl (resumed g at slots)
 
 -- a disk that is missing once the commit was ended is so at the end
 stays : (g : Over) (c : After-raise g) (m : Meta) → ((d : ℕ) → named_out c.args.standing.now.meta.out ≡ Some d → named_out m.out ≡ Some d) → m.setup ≡ c.args.standing.now.meta.setup
@@ -88,65 +78,11 @@ out_is g c u tells =
     ∙ ap (λ (n : ℕ). or_else (named_out m.out) (first_absent (λ d. (g.R.Rack.slot (store_rack c.in-Ok.store) d).power) n)) c.in-Ok.ensures.disks
     ∙ ap (λ (p : ℕ → Power). or_else (named_out m.out) (first_absent p m.setup.geometry.disks)) power
 
-pub returns-in-Ok-raise-clause-ends : goal.returns-in-Ok-raise-clause-ends
-returns-in-Ok-raise-clause-ends g c =
-    let at = (goal.at.returns-in-Ok-raise-clause-ends g c).After-raise in
-    let x = c.args.standing.now.side in
-    let s = log_state c.args.standing.now.gate_open c.args.standing.now.meta c.args.batch in
-    let old = g.R.Rack.told c.args.rack in
-    let it = c.in-Ok-raise.ensures.ends in (
-      it.0,
-      it.1,
-      it.2,
-      it.5,
-      (it.6.0, it.6.1, mark_later c.args.standing.now.meta it.6.0 old (g.R.Rack.told (store_rack c.in-Ok.store)) (g.R.Rack.told (store_rack c.raise.new.store)) c.in-Ok.ensures.calls it.6.2),
-      λ slots. it.7 slots x s old refl (resumed g at slots),
-      λ slots.
-          shown slots x s it.0 c.raise.new.table (store_out g.R.Rack.slot c.in-Ok.store) (g.R.Rack.slot (store_rack c.raise.new.store)) old (g.R.Rack.told (store_rack c.in-Ok.store)) (g.R.Rack.told (store_rack c.raise.new.store)) (resumed g at slots)
-          (it.7 slots x s old refl (resumed g at slots)) it.3 (c.raise.ensures.rows ∙ c.requires.rows) c.in-Ok-raise.ensures.map (out_is g at) (stays g at it.0 it.4 it.3),
-      it.8,
-      λ slots.
-          keeps_dirty slots x s it.0 old (g.R.Rack.told (store_rack c.in-Ok.store)) (g.R.Rack.told (store_rack c.raise.new.store)) (resumed g at slots) c.in-Ok.ensures.laid
-          (it.7 slots x s old refl (resumed g at slots)) it.3 c.in-Ok-raise.ensures.map.far (stays g at it.0 it.4 it.3),
-      it.9,
-    )
-
-pub returns-in-Err-raise-clause-refused : goal.returns-in-Err-raise-clause-refused
-returns-in-Err-raise-clause-refused g c slots =
-    let at = (goal.at.returns-in-Err-raise-clause-refused g c).After-raise in
-    let s = log_state c.args.standing.now.gate_open c.args.standing.now.meta c.args.batch in
-    subst (λ (r : _). RecoversHeld slots c.args.standing.now.side s (g.R.Rack.told c.args.rack) (g.R.Rack.told r)) (sym c.close.ensures)
-    (c.raise.ensures.holds slots c.args.standing.now.side s (g.R.Rack.told c.args.rack) refl (resumed g at slots))
-
--- the calls are those of a mount
-pub returns-in-Err-clause-refused_allowed : goal.returns-in-Err-clause-refused_allowed
-returns-in-Err-clause-refused_allowed g c = resume_calls c.args.standing.now.meta (g.R.Rack.told c.args.rack) (g.R.Rack.told c.in-Err.refused.rack) c.args.batch c.in-Err.ensures.refused_calls
-
 all_allowed : (g : Over) (c : After-raise g) → OnlyMountCalls c.args.standing.now.meta (g.R.Rack.told c.args.rack) (g.R.Rack.told (store_rack c.raise.new.store))
 all_allowed g c =
     let m = c.args.standing.now.meta in
     let told_1 = g.R.Rack.told (store_rack c.in-Ok.store) in
     mount_then m (g.R.Rack.told c.args.rack) told_1 (g.R.Rack.told (store_rack c.raise.new.store)) (resume_calls m (g.R.Rack.told c.args.rack) told_1 c.args.batch c.in-Ok.ensures.calls) c.raise.ensures.allowed
-
-pub returns-in-Ok-raise-clause-allowed : goal.returns-in-Ok-raise-clause-allowed
-returns-in-Ok-raise-clause-allowed g c = all_allowed g (goal.at.returns-in-Ok-raise-clause-allowed g c).After-raise
-
-pub returns-in-Err-raise-clause-refused_allowed : goal.returns-in-Err-raise-clause-refused_allowed
-returns-in-Err-raise-clause-refused_allowed g c =
-    subst (λ (r : _). OnlyMountCalls c.args.standing.now.meta (g.R.Rack.told c.args.rack) (g.R.Rack.told r)) (sym c.close.ensures) (all_allowed g (goal.at.returns-in-Err-raise-clause-refused_allowed g c).After-raise)
-
--- which meta stands
-pub returns-in-Err-clause-refused_metas : goal.returns-in-Err-clause-refused_metas
-returns-in-Err-clause-refused_metas g c =
-    let s = said g (goal.at.returns-in-Err-clause-refused_metas g c).After-resume in
-    let old = g.R.Rack.told c.args.rack in
-    let new = g.R.Rack.told c.in-Err.refused.rack in
-    record {
-      foreseen = λ slots. resumed_metas slots c.args.standing.now.side s old new c.in-Err.ensures.refused;
-      settled = new;
-      still = commit_still c.args.standing.now.meta c.args.batch old new c.in-Err.ensures.refused_calls;
-      powers = inl refl;
-    }
 
 all_metas : (g : Over) (c : After-raise g)
     → StandsThroughMount c.args.standing.now.side (log_state c.args.standing.now.gate_open c.args.standing.now.meta c.args.batch) (g.R.Rack.told c.args.rack) (g.R.Rack.told (store_rack c.raise.new.store))
@@ -167,71 +103,139 @@ all_metas g c =
       ];
     }
 
-pub returns-in-Ok-raise-clause-metas : goal.returns-in-Ok-raise-clause-metas
-returns-in-Ok-raise-clause-metas g c = all_metas g (goal.at.returns-in-Ok-raise-clause-metas g c).After-raise
+pub returns-in-Err : goal.returns-in-Err
+returns-in-Err g c = record {
+  slots = tt;
+  servable = tt;
+  nothing = tt;
+  two =
+      let m = c.args.standing.now.meta in
+      let k = m.setup.geometry.disks in
+      let a = g.R.Rack.slot c.args.rack in
+      let b = g.R.Rack.slot c.in-Err.refused.rack in
+      let power = (λ (e : ℕ). (a e).power) in
+      let named = named_out m.out in
+      let two = c.in-Err.refused.two in
+      let out_0 = IsOutOfCommit power k named named in (
+        two,
+        refl,
+        two_named k named a b two c.in-Err.ensures.two,
+        gone_beside out_0 (IsOutOfCommit power k named None) a b two (out_named_twice power k named) c.in-Err.ensures.refused_gone,
+      );
+  later = tt;
+  refused_later = c.in-Err.ensures.refused_powers.no_fall;
+  allowed = tt;
+  refused_allowed = resume_calls c.args.standing.now.meta (g.R.Rack.told c.args.rack) (g.R.Rack.told c.in-Err.refused.rack) c.args.batch c.in-Err.ensures.refused_calls;
+  metas = tt;
+  refused_metas =
+      let s = said g (goal.at.returns-in-Err g c).After-resume in
+      let old = g.R.Rack.told c.args.rack in
+      let new = g.R.Rack.told c.in-Err.refused.rack in
+      record {
+        foreseen = λ slots. resumed_metas slots c.args.standing.now.side s old new c.in-Err.ensures.refused;
+        settled = new;
+        still = commit_still c.args.standing.now.meta c.args.batch old new c.in-Err.ensures.refused_calls;
+        powers = inl refl;
+      };
+  holds = tt;
+  refused = λ slots.
+      let at = (goal.at.returns-in-Err g c).After-resume in
+      resumes_held slots c.args.standing.now.side (said g at) (g.R.Rack.told c.args.rack) (g.R.Rack.told c.in-Err.refused.rack) c.in-Err.ensures.refused;
+  ends = tt;
+  map = tt;
+}
 
-pub returns-in-Err-raise-clause-refused_metas : goal.returns-in-Err-raise-clause-refused_metas
-returns-in-Err-raise-clause-refused_metas g c =
-    let s = log_state c.args.standing.now.gate_open c.args.standing.now.meta c.args.batch in
-    subst (λ (r : _). StandsThroughMount c.args.standing.now.side s (g.R.Rack.told c.args.rack) (g.R.Rack.told r)) (sym c.close.ensures) (all_metas g (goal.at.returns-in-Err-raise-clause-refused_metas g c).After-raise)
+pub returns-in-Err-raise : goal.returns-in-Err-raise
+returns-in-Err-raise g c = record {
+  slots = tt;
+  servable = tt;
+  nothing = tt;
+  two =
+      let m = c.args.standing.now.meta in
+      let k = m.setup.geometry.disks in
+      let a = g.R.Rack.slot c.args.rack in
+      let b = g.R.Rack.slot (store_rack c.in-Ok.store) in
+      let d = g.R.Rack.slot (store_rack c.raise.new.store) in
+      let out = IsOutOfCommit (λ e. (a e).power) k (named_out m.out) None in
+      let two = c.in-Err-raise.two in (
+        two,
+        refl,
+        subst (λ (r : _). AreTwoDownBeside out a (g.R.Rack.slot r) two) (sym c.close.ensures) (two_sooner k (named_out m.out) a b d two c.in-Ok.ensures.each c.in-Ok.ensures.powers.no_fall c.raise.ensures.later c.in-Err-raise.ensures.two),
+        subst (λ (r : _). AreGoneSince out a (g.R.Rack.slot r) two) (sym c.close.ensures) (gone_sooner k (named_out m.out) a b d (none_comes a b c.in-Ok.ensures.powers) c.raise.ensures.absent two c.in-Err-raise.ensures.gone),
+      );
+  later = tt;
+  refused_later = λ d.
+      let a = c.in-Ok.ensures.powers.no_fall d in
+      let b = subst (λ (r : _). (g.R.Rack.slot (store_rack c.in-Ok.store) d).faults ≤ (g.R.Rack.slot r d).faults) (sym c.close.ensures) (c.raise.ensures.later d) in
+      omega arith;
+  allowed = tt;
+  refused_allowed =
+      subst (λ (r : _). OnlyMountCalls c.args.standing.now.meta (g.R.Rack.told c.args.rack) (g.R.Rack.told r)) (sym c.close.ensures) (all_allowed g (goal.at.returns-in-Err-raise g c).After-raise);
+  metas = tt;
+  refused_metas =
+      let s = log_state c.args.standing.now.gate_open c.args.standing.now.meta c.args.batch in
+      subst (λ (r : _). StandsThroughMount c.args.standing.now.side s (g.R.Rack.told c.args.rack) (g.R.Rack.told r)) (sym c.close.ensures) (all_metas g (goal.at.returns-in-Err-raise g c).After-raise);
+  holds = tt;
+  refused = λ slots.
+      let at = (goal.at.returns-in-Err-raise g c).After-raise in
+      let s = log_state c.args.standing.now.gate_open c.args.standing.now.meta c.args.batch in
+      subst (λ (r : _). RecoversHeld slots c.args.standing.now.side s (g.R.Rack.told c.args.rack) (g.R.Rack.told r)) (sym c.close.ensures)
+      (c.raise.ensures.holds slots c.args.standing.now.side s (g.R.Rack.told c.args.rack) refl (resumed g at slots));
+  ends = tt;
+  map = tt;
+}
 
--- why it is refused, and which disks are absent since
-pub returns-in-Err-clause-two : goal.returns-in-Err-clause-two
-returns-in-Err-clause-two g c =
-    let m = c.args.standing.now.meta in
-    let k = m.setup.geometry.disks in
-    let a = g.R.Rack.slot c.args.rack in
-    let b = g.R.Rack.slot c.in-Err.refused.rack in
-    let power = (λ (e : ℕ). (a e).power) in
-    let named = named_out m.out in
-    let two = c.in-Err.refused.two in
-    let out_0 = IsOutOfCommit power k named named in (
-      two,
-      refl,
-      two_named k named a b two c.in-Err.ensures.two,
-      gone_beside out_0 (IsOutOfCommit power k named None) a b two (out_named_twice power k named) c.in-Err.ensures.refused_gone,
-    )
-
-pub returns-in-Err-raise-clause-two : goal.returns-in-Err-raise-clause-two
-returns-in-Err-raise-clause-two g c =
-    let m = c.args.standing.now.meta in
-    let k = m.setup.geometry.disks in
-    let a = g.R.Rack.slot c.args.rack in
-    let b = g.R.Rack.slot (store_rack c.in-Ok.store) in
-    let d = g.R.Rack.slot (store_rack c.raise.new.store) in
-    let out = IsOutOfCommit (λ e. (a e).power) k (named_out m.out) None in
-    let two = c.in-Err-raise.two in (
-      two,
-      refl,
-      subst (λ (r : _). AreTwoDownBeside out a (g.R.Rack.slot r) two) (sym c.close.ensures) (two_sooner k (named_out m.out) a b d two c.in-Ok.ensures.each c.in-Ok.ensures.powers.no_fall c.raise.ensures.later c.in-Err-raise.ensures.two),
-      subst (λ (r : _). AreGoneSince out a (g.R.Rack.slot r) two) (sym c.close.ensures) (gone_sooner k (named_out m.out) a b d (none_comes a b c.in-Ok.ensures.powers) c.raise.ensures.absent two c.in-Err-raise.ensures.gone),
-    )
-
--- no count falls
-pub returns-in-Ok-raise-clause-later : goal.returns-in-Ok-raise-clause-later
-returns-in-Ok-raise-clause-later g c d = let a = c.in-Ok.ensures.powers.no_fall d in let b = c.raise.ensures.later d in omega arith
-
-pub returns-in-Err-raise-clause-refused_later : goal.returns-in-Err-raise-clause-refused_later
-returns-in-Err-raise-clause-refused_later g c d =
-    let a = c.in-Ok.ensures.powers.no_fall d in
-    let b = subst (λ (r : _). (g.R.Rack.slot (store_rack c.in-Ok.store) d).faults ≤ (g.R.Rack.slot r d).faults) (sym c.close.ensures) (c.raise.ensures.later d) in
-    omega arith
-
--- the table has the bits of the map
-pub returns-in-Ok-raise-clause-map : goal.returns-in-Ok-raise-clause-map
-returns-in-Ok-raise-clause-map g c =
-    let meta = c.args.standing.now.meta in
-    let it = c.in-Ok-raise.ensures.ends in
-    let m = c.in-Ok-raise.meta in
-    let table = is_dirty c.raise.new.table in
-    let a = g.R.Rack.slot c.args.rack in
-    let b = g.R.Rack.slot (store_rack c.in-Ok.store) in
-    let e = g.R.Rack.slot (store_rack c.raise.new.store) in
-    let told = g.R.Rack.told (store_rack c.raise.new.store) in
-    let out_is : store_out g.R.Rack.slot c.in-Ok.store ≡ or_else (named_out meta.out) (first_absent (λ d. (b d).power) meta.setup.geometry.disks) =
-    ap (λ (o : Option ℕ). or_else o (first_absent (λ d. (b d).power) c.in-Ok.store.disks)) c.in-Ok.ensures.named
-    ∙ ap (λ (n : ℕ). or_else (named_out meta.out) (first_absent (λ d. (b d).power) n)) c.in-Ok.ensures.disks in
-    map_sooner a b e m table told c.in-Ok.ensures.powers
-    (map_served _ _ _ _ _ b e meta m (store_out g.R.Rack.slot c.in-Ok.store) table (g.R.Rack.told (store_rack c.in-Ok.store)) told c.in-Ok-raise.ensures.servable
-    (ap (λ (x : Meta). x.setup) it.2 ∙ loss_setup it.0 it.1 ∙ it.3) c.in-Ok-raise.ensures.map (g.met.R.Rack.agrees (store_rack c.raise.new.store)) out_is c.raise.ensures.absent
-    (λ d name. c.in-Ok-raise.ensures.servable.stays d (it.9.named_by ∙ it.4 d name)) c.in-Ok-raise.ensures.out c.raise.ensures.failed)
+pub returns-in-Ok-raise : goal.returns-in-Ok-raise
+returns-in-Ok-raise g c = record {
+  slots = c.raise.ensures.slots ∙ c.in-Ok.ensures.slots;
+  servable = c.in-Ok-raise.ensures.servable;
+  nothing = c.clear.ensures;
+  two = tt;
+  later = λ d. let a = c.in-Ok.ensures.powers.no_fall d in let b = c.raise.ensures.later d in omega arith;
+  refused_later = tt;
+  allowed = all_allowed g (goal.at.returns-in-Ok-raise g c).After-raise;
+  refused_allowed = tt;
+  metas = all_metas g (goal.at.returns-in-Ok-raise g c).After-raise;
+  refused_metas = tt;
+  holds = λ slots.
+      let at = (goal.at.returns-in-Ok-raise g c).After-raise in
+      c.raise.ensures.holds slots c.args.standing.now.side (log_state c.args.standing.now.gate_open c.args.standing.now.meta c.args.batch) (g.R.Rack.told c.args.rack) refl (resumed g at slots);
+  refused = tt;
+  ends =
+      let at = (goal.at.returns-in-Ok-raise g c).After-raise in
+      let x = c.args.standing.now.side in
+      let s = log_state c.args.standing.now.gate_open c.args.standing.now.meta c.args.batch in
+      let old = g.R.Rack.told c.args.rack in
+      let it = c.in-Ok-raise.ensures.ends in (
+        it.0,
+        it.1,
+        it.2,
+        it.5,
+        (it.6.0, it.6.1, mark_later c.args.standing.now.meta it.6.0 old (g.R.Rack.told (store_rack c.in-Ok.store)) (g.R.Rack.told (store_rack c.raise.new.store)) c.in-Ok.ensures.calls it.6.2),
+        λ slots. it.7 slots x s old refl (resumed g at slots),
+        λ slots.
+            shown slots x s it.0 c.raise.new.table (store_out g.R.Rack.slot c.in-Ok.store) (g.R.Rack.slot (store_rack c.raise.new.store)) old (g.R.Rack.told (store_rack c.in-Ok.store)) (g.R.Rack.told (store_rack c.raise.new.store)) (resumed g at slots)
+            (it.7 slots x s old refl (resumed g at slots)) it.3 (c.raise.ensures.rows ∙ c.requires.rows) c.in-Ok-raise.ensures.map (out_is g at) (stays g at it.0 it.4 it.3),
+        it.8,
+        λ slots.
+            keeps_dirty slots x s it.0 old (g.R.Rack.told (store_rack c.in-Ok.store)) (g.R.Rack.told (store_rack c.raise.new.store)) (resumed g at slots) c.in-Ok.ensures.laid
+            (it.7 slots x s old refl (resumed g at slots)) it.3 c.in-Ok-raise.ensures.map.far (stays g at it.0 it.4 it.3),
+        it.9,
+      );
+  map =
+      let meta = c.args.standing.now.meta in
+      let it = c.in-Ok-raise.ensures.ends in
+      let m = c.in-Ok-raise.meta in
+      let table = is_dirty c.raise.new.table in
+      let a = g.R.Rack.slot c.args.rack in
+      let b = g.R.Rack.slot (store_rack c.in-Ok.store) in
+      let e = g.R.Rack.slot (store_rack c.raise.new.store) in
+      let told = g.R.Rack.told (store_rack c.raise.new.store) in
+      let out_is : store_out g.R.Rack.slot c.in-Ok.store ≡ or_else (named_out meta.out) (first_absent (λ d. (b d).power) meta.setup.geometry.disks) =
+      ap (λ (o : Option ℕ). or_else o (first_absent (λ d. (b d).power) c.in-Ok.store.disks)) c.in-Ok.ensures.named
+      ∙ ap (λ (n : ℕ). or_else (named_out meta.out) (first_absent (λ d. (b d).power) n)) c.in-Ok.ensures.disks in
+      map_sooner a b e m table told c.in-Ok.ensures.powers
+      (map_served _ _ _ _ _ b e meta m (store_out g.R.Rack.slot c.in-Ok.store) table (g.R.Rack.told (store_rack c.in-Ok.store)) told c.in-Ok-raise.ensures.servable
+      (ap (λ (x : Meta). x.setup) it.2 ∙ loss_setup it.0 it.1 ∙ it.3) c.in-Ok-raise.ensures.map (g.met.R.Rack.agrees (store_rack c.raise.new.store)) out_is c.raise.ensures.absent
+      (λ d name. c.in-Ok-raise.ensures.servable.stays d (it.9.named_by ∙ it.4 d name)) c.in-Ok-raise.ensures.out c.raise.ensures.failed);
+}

@@ -1,5 +1,5 @@
 use Rattle.std.specs.Prelude.{ℕ}
-use Rattle.std.proofs.Common.{arith, subst, sym}
+use Rattle.std.proofs.Common.{arith, subst, sym, ◌∙◌}
 use Rattle.paraid_recover.specs.Order.{IsNotRefused}
 use Rattle.paraid_txn.specs.Resume.{log_state}
 use Rattle.paraid_txn.specs.Stores.{store_rack}
@@ -13,8 +13,15 @@ use Rattle.paraid_recover.proofs.mounting.mount.Given.{Over}
 use Rattle.paraid_recover.proofs.mounting.mount.Goals as goal
 use Rattle.paraid_recover.proofs.mounting.mount.Goals.{In-Ok-bring_up}
 
-pub returns-in-Err-clause-refused : goal.returns-in-Err-clause-refused
-returns-in-Err-clause-refused g c = examined c.in-Err.ensures.refused (record { calls = c.examine.ensures.calls; quiet = c.examine.ensures.quiet })
+pub returns-in-Err : goal.returns-in-Err
+returns-in-Err g c = record {
+  slots = tt;
+  servable = tt;
+  nothing = tt;
+  served = tt;
+  refused = examined c.in-Err.ensures.refused (record { calls = c.examine.ensures.calls; quiet = c.examine.ensures.quiet });
+  refused_later = c.examine.ensures.powers.no_fall;
+}
 
 pub bring_up-requires-clause-fit : goal.bring_up-requires-clause-fit
 bring_up-requires-clause-fit g c =
@@ -55,39 +62,50 @@ settled g c =
       cells = ends.8;
     }
 
-pub returns-in-Ok-bring_up-clause-served : goal.returns-in-Ok-bring_up-clause-served
+pub returns-in-Ok-bring_up : goal.returns-in-Ok-bring_up
 unfolding settled
-returns-in-Ok-bring_up-clause-served g c =
-    let s = c.in-Ok-examine.standing in
-    record {
-      side = s.side;
-      said = log_state s.gate_open s.meta c.examine.new.batch;
-      settled = settled g (goal.at.returns-in-Ok-bring_up-clause-served g c).In-Ok-bring_up;
-      under = c.in-Ok-bring_up.ensures.ends.9;
-      read = g.R.Rack.slot c.examine.new.rack;
-      agrees = g.met.R.Rack.agrees c.examine.new.rack;
-      examined = c.in-Ok-examine.ensures.ok;
-      later = λ d. (let a = c.examine.ensures.powers.no_fall d in let b = c.in-Ok-bring_up.ensures.later d in omega arith);
-      map = map_sooner (g.R.Rack.slot c.args.rack) (g.R.Rack.slot c.examine.new.rack) (g.R.Rack.slot (store_rack c.in-Ok-bring_up.mounted.store)) c.in-Ok-bring_up.mounted.meta (is_dirty c.in-Ok-bring_up.mounted.dirty)
-          (g.R.Rack.told (store_rack c.in-Ok-bring_up.mounted.store)) c.examine.ensures.powers c.in-Ok-bring_up.ensures.map;
-    }
+returns-in-Ok-bring_up g c = record {
+  slots = c.in-Ok-bring_up.ensures.slots ∙ c.examine.ensures.slots;
+  servable = c.in-Ok-bring_up.ensures.servable;
+  nothing = c.in-Ok-bring_up.ensures.nothing;
+  served =
+      let s = c.in-Ok-examine.standing in
+      record {
+        side = s.side;
+        said = log_state s.gate_open s.meta c.examine.new.batch;
+        settled = settled g (goal.at.returns-in-Ok-bring_up g c).In-Ok-bring_up;
+        under = c.in-Ok-bring_up.ensures.ends.9;
+        read = g.R.Rack.slot c.examine.new.rack;
+        agrees = g.met.R.Rack.agrees c.examine.new.rack;
+        examined = c.in-Ok-examine.ensures.ok;
+        later = λ d. (let a = c.examine.ensures.powers.no_fall d in let b = c.in-Ok-bring_up.ensures.later d in omega arith);
+        map = map_sooner (g.R.Rack.slot c.args.rack) (g.R.Rack.slot c.examine.new.rack) (g.R.Rack.slot (store_rack c.in-Ok-bring_up.mounted.store)) c.in-Ok-bring_up.mounted.meta (is_dirty c.in-Ok-bring_up.mounted.dirty)
+            (g.R.Rack.told (store_rack c.in-Ok-bring_up.mounted.store)) c.examine.ensures.powers c.in-Ok-bring_up.ensures.map;
+      };
+  refused = tt;
+  refused_later = tt;
+}
 
-pub returns-clause-refused : goal.returns-clause-refused
-returns-clause-refused g c =
-    let s = c.in-Ok-examine.standing in
-    let two = c.in-Err-bring_up.ensures.two in
-    two_down (g.R.Rack.slot c.examine.new.rack) s.side (log_state s.gate_open s.meta c.examine.new.batch) two.0
-    (record {
-      read = g.R.Rack.told c.examine.new.rack;
-      reads = c.in-Ok-examine.ensures.one;
-      first_calls = c.examine.ensures.calls;
-      later_calls = c.in-Err-bring_up.ensures.refused_allowed;
-      calls = reads_then s.meta (g.R.Rack.told c.args.rack) (g.R.Rack.told c.examine.new.rack) (g.R.Rack.told c.in-Err-bring_up.refused.rack) c.examine.ensures.calls c.in-Err-bring_up.ensures.refused_allowed;
-      stands = c.in-Ok-examine.ensures.stands;
-      holds = c.in-Err-bring_up.ensures.refused;
-      metas = c.in-Err-bring_up.ensures.refused_metas;
-    })
-    (g.met.R.Rack.agrees c.examine.new.rack) c.in-Ok-examine.ensures.ok two.1 two.2 two.3
-
-pub returns-clause-refused_later : goal.returns-clause-refused_later
-returns-clause-refused_later g c d = let a = c.examine.ensures.powers.no_fall d in let b = c.in-Err-bring_up.ensures.refused_later d in omega arith
+pub returns : goal.returns
+returns g c = record {
+  slots = tt;
+  servable = tt;
+  nothing = tt;
+  served = tt;
+  refused =
+      let s = c.in-Ok-examine.standing in
+      let two = c.in-Err-bring_up.ensures.two in
+      two_down (g.R.Rack.slot c.examine.new.rack) s.side (log_state s.gate_open s.meta c.examine.new.batch) two.0
+      (record {
+        read = g.R.Rack.told c.examine.new.rack;
+        reads = c.in-Ok-examine.ensures.one;
+        first_calls = c.examine.ensures.calls;
+        later_calls = c.in-Err-bring_up.ensures.refused_allowed;
+        calls = reads_then s.meta (g.R.Rack.told c.args.rack) (g.R.Rack.told c.examine.new.rack) (g.R.Rack.told c.in-Err-bring_up.refused.rack) c.examine.ensures.calls c.in-Err-bring_up.ensures.refused_allowed;
+        stands = c.in-Ok-examine.ensures.stands;
+        holds = c.in-Err-bring_up.ensures.refused;
+        metas = c.in-Err-bring_up.ensures.refused_metas;
+      })
+      (g.met.R.Rack.agrees c.examine.new.rack) c.in-Ok-examine.ensures.ok two.1 two.2 two.3;
+  refused_later = λ d. let a = c.examine.ensures.powers.no_fall d in let b = c.in-Err-bring_up.ensures.refused_later d in omega arith;
+}

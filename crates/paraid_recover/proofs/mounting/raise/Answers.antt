@@ -43,35 +43,6 @@ setup_is g c = let given = c.in-Ok.ensures.given in ap (λ (x : Meta). x.setup) 
 disks_same : (g : Over) (c : After-power_disks g) → c.in-Ok.standing.setup.geometry.disks ≡ c.args.meta.now.setup.geometry.disks
 disks_same g c = ap (λ (s : Setup). s.geometry.disks) (setup_is g c)
 
-pub returns-clause-servable : goal.returns-clause-servable
-returns-clause-servable g c =
-    let at = (goal.at.returns-clause-servable g c).After-power_disks in
-    let m = c.in-Ok.standing in
-    let part = c.in_default.ensures in
-    let a = g.R.Rack.slot (store_rack c.settle.new.store) in
-    let b = g.R.Rack.slot (store_rack c.power_disks.new.store) in
-    let o = to_mark (λ d. (b d).power) m in
-    subst (λ (x : Meta). IsServable (g.R.Rack.slot_count (store_rack c.power_disks.new.store)) b c.power_disks.new.store.epoch c.power_disks.new.store.disks c.power_disks.new.store.named x (length c.settle.new.table)) (sym c.with_loss.ensures)
-    (subst (λ (k : ℕ). IsServable k b c.power_disks.new.store.epoch c.power_disks.new.store.disks c.power_disks.new.store.named (with_loss m o) (length c.settle.new.table)) (sym part.slots)
-    (servable (g.R.Rack.slot_count (store_rack c.settle.new.store)) a b m c.in-Ok.ensures.fit part.turned part.powered (part.one c.in-Ok.ensures.fit.one) o refl
-    c.power_disks.new.store.epoch c.power_disks.new.store.disks (length c.settle.new.table) c.power_disks.new.store.named
-    (disks_same g at ∙ sym (part.same.disks ∙ c.settle.ensures.disks ∙ c.requires.disks)) c.in-Ok.ensures.version
-    (c.in-Ok.ensures.epoch ∙ sym part.same.epoch)
-    (part.same.named ∙ sym c.in-Ok.ensures.named)
-    (c.settle.ensures.rows ∙ c.requires.rows ∙ sym (ap (λ (s : Setup). s.geometry.rows) (setup_is g at)))
-    c.in-Ok.ensures.synced))
-
-pub returns-in-Err-power_disks-clause-two : goal.returns-in-Err-power_disks-clause-two
-returns-in-Err-power_disks-clause-two g c =
-    let at = (goal.at.returns-in-Err-power_disks-clause-two g c).After-power_disks in
-    let meta = c.args.meta.now in
-    let given = c.in-Ok.ensures.given in
-    let b = g.R.Rack.slot (store_rack c.settle.new.store) in
-    let d = g.R.Rack.slot (store_rack c.power_disks.new.store) in
-    two_marked meta given.0 (g.R.Rack.slot (store_rack c.args.store.now)) b d c.settle.ensures.each c.settle.ensures.powers.no_fall (λ x. (c.power_disks.ensures.turned x).later) given.2 c.in-Err-power_disks.two
-    (subst (λ (k : ℕ). AreTwoDownBeside (IsOutOfCommit (λ e. (b e).power) k (named_out (with_mark meta given.0).out) None) b d c.in-Err-power_disks.two) (ap (λ (s : Setup). s.geometry.disks) (disks_marked meta given.0))
-    (subst (λ (x : Meta). AreTwoDownBeside (IsOutOfCommit (λ e. (b e).power) x.setup.geometry.disks (named_out x.out) None) b d c.in-Err-power_disks.two) given.1 c.in-Err-power_disks.ensures.two))
-
 -- who is out as the disks are powered
 who : (g : Over) (c : After-power_disks g) (said : LogState) → said.meta ≡ c.args.meta.now → IsOutAtEnd said c.in-Ok.standing (g.R.Rack.told (store_rack c.settle.new.store))
 who g c said is =
@@ -90,58 +61,11 @@ holds g c slots x said old is r =
     turns_hold slots x said c.in-Ok.standing old (g.R.Rack.told (store_rack c.settle.new.store)) (g.R.Rack.told (store_rack c.power_disks.new.store)) (disks_said g c said is) (who g c said is)
     c.power_disks.ensures.calls (c.settle.ensures.holds slots x said old is r) (c.in-Ok.ensures.ends slots x said old is r)
 
-pub returns-in-Err-power_disks-clause-holds : goal.returns-in-Err-power_disks-clause-holds
-returns-in-Err-power_disks-clause-holds g c = holds g (goal.at.returns-in-Err-power_disks-clause-holds g c).After-power_disks
-
-pub returns-clause-holds : goal.returns-clause-holds
-returns-clause-holds g c = holds g (goal.at.returns-clause-holds g c).After-power_disks
-
 ends : (g : Over) (c : After-power_disks g) (slots x : ℕ) (said : LogState) (old : Option Trail) → said.meta ≡ c.args.meta.now → Recovers slots x said old (g.R.Rack.told (store_rack c.args.store.now))
     → EndsHeld slots x said c.in-Ok.standing old (g.R.Rack.told (store_rack c.power_disks.new.store))
 ends g c slots x said old is r =
     turns_end slots x said c.in-Ok.standing old (g.R.Rack.told (store_rack c.settle.new.store)) (g.R.Rack.told (store_rack c.power_disks.new.store)) (disks_said g c said is) (who g c said is)
     c.power_disks.ensures.calls (c.settle.ensures.holds slots x said old is r) (c.in-Ok.ensures.ends slots x said old is r)
-
-pub returns-clause-ends : goal.returns-clause-ends
-returns-clause-ends g c =
-    let at = (goal.at.returns-clause-ends g c).After-power_disks in
-    let given = c.in-Ok.ensures.given in (
-      c.in-Ok.standing,
-      to_mark (λ d. (g.R.Rack.slot (store_rack c.power_disks.new.store) d).power) c.in-Ok.standing,
-      c.with_loss.ensures,
-      setup_is g at,
-      λ d name. ap (λ (x : Meta). named_out x.out) given.1 ∙ names_stay c.args.meta.now given.0 (λ e is. given.3 e is) d name,
-      c.in-Ok.ensures.version,
-      (
-        given.0,
-        given.1,
-        mark_sooner c.args.meta.now given.0 (g.R.Rack.told (store_rack c.args.store.now)) (g.R.Rack.told (store_rack c.settle.new.store)) (g.R.Rack.told (store_rack c.power_disks.new.store)) given.4
-            c.power_disks.ensures.calls,
-      ),
-      ends g at,
-      λ t tells. mark_by_slots (now t) (g.R.Rack.slot (store_rack c.power_disks.new.store)) c.in-Ok.standing (g.met.R.Rack.agrees (store_rack c.power_disks.new.store) t tells),
-      record { named_by = c.in_default.ensures.same.named ∙ sym c.in-Ok.ensures.named; is = c.with_loss.ensures },
-    )
-
-pub returns-clause-map : goal.returns-clause-map
-returns-clause-map g c =
-    let told_0 = g.R.Rack.told (store_rack c.args.store.now) in
-    let told_1 = g.R.Rack.told (store_rack c.settle.new.store) in
-    let told_2 = g.R.Rack.told (store_rack c.power_disks.new.store) in
-    let b = g.R.Rack.slot (store_rack c.settle.new.store) in
-    let d = g.R.Rack.slot (store_rack c.power_disks.new.store) in
-    map_on c.args.meta.now.setup.geometry (store_out g.R.Rack.slot c.args.store.now) b d (is_dirty c.settle.new.table) told_0 told_1 told_2
-    (stays_absent b d 0 (λ x. (c.power_disks.ensures.turned x).there))
-    (far_ran (IsPowerCall c.in-Ok.standing) told_1 told_2 (turn_far c.in-Ok.standing) c.power_disks.ensures.calls) c.in-Ok.ensures.map
-
--- a disk that is out at the end was named out, or is absent
-pub returns-clause-out : goal.returns-clause-out
-returns-clause-out g c d name =
-    let given = c.in-Ok.ensures.given in
-    let b = g.R.Rack.slot (store_rack c.settle.new.store) in
-    let e = g.R.Rack.slot (store_rack c.power_disks.new.store) in
-    named_or_absent c.args.meta.now c.in-Ok.standing given.0 b e given.1 c.in-Ok.ensures.fit.in_range (λ x is. (given.2 x is).0) (λ x. (c.power_disks.ensures.turned x).there) d
-    (ap (λ (x : Meta). named_out x.out) (sym c.with_loss.ensures) ∙ name)
 
 -- the calls are those of a mount
 allowed : (g : Over) (c : After-power_disks g) → OnlyMountCalls c.args.meta.now (g.R.Rack.told (store_rack c.args.store.now)) (g.R.Rack.told (store_rack c.power_disks.new.store))
@@ -153,12 +77,6 @@ allowed g c =
     mount_then m (g.R.Rack.told (store_rack c.args.store.now)) told_1 told_2 c.settle.ensures.allowed
     (power_calls m told_1 told_2 given.0 (λ d e is. given.3 d is e) (subst (λ (x : Meta). Ran told_1 told_2 (EachCall (IsPowerCall x))) given.1 c.power_disks.ensures.calls))
 
-pub returns-in-Err-power_disks-clause-allowed : goal.returns-in-Err-power_disks-clause-allowed
-returns-in-Err-power_disks-clause-allowed g c = allowed g (goal.at.returns-in-Err-power_disks-clause-allowed g c).After-power_disks
-
-pub returns-clause-allowed : goal.returns-clause-allowed
-returns-clause-allowed g c = allowed g (goal.at.returns-clause-allowed g c).After-power_disks
-
 -- which meta stands at each moment
 metas : (g : Over) (c : After-power_disks g) (slots x : ℕ) (said : LogState) (old : Option Trail) → said.meta ≡ c.args.meta.now → Recovers slots x said old (g.R.Rack.told (store_rack c.args.store.now))
     → StandsInMoments slots x said old (g.R.Rack.told (store_rack c.args.store.now)) → StandsInMoments slots x said old (g.R.Rack.told (store_rack c.power_disks.new.store))
@@ -167,16 +85,6 @@ metas g c slots x said old is r before =
     turns_metas slots x said c.in-Ok.standing old (g.R.Rack.told (store_rack c.settle.new.store)) (g.R.Rack.told (store_rack c.power_disks.new.store)) (disks_said g c said is) (who g c said is)
     c.power_disks.ensures.calls (c.settle.ensures.holds slots x said old is r) (c.in-Ok.ensures.ends slots x said old is r)
     (λ s i. marked given.0 (given.1 ∙ ap (λ (m : Meta). with_mark m given.0) (sym is))) (c.settle.ensures.metas slots x said old is r before)
-
-pub returns-in-Err-power_disks-clause-metas : goal.returns-in-Err-power_disks-clause-metas
-returns-in-Err-power_disks-clause-metas g c = metas g (goal.at.returns-in-Err-power_disks-clause-metas g c).After-power_disks
-
-pub returns-clause-metas : goal.returns-clause-metas
-returns-clause-metas g c = metas g (goal.at.returns-clause-metas g c).After-power_disks
-
--- where the disks begin to be powered
-pub returns-in-Err-clause-split : goal.returns-in-Err-clause-split
-returns-in-Err-clause-split g c = (g.R.Rack.told (store_rack c.settle.new.store), c.settle.ensures.still, inl refl)
 
 powers : (g : Over) (c : After-power_disks g) → (mark : Option ℕ)
     × ((slots x : ℕ) (said : LogState) (old : Option Trail) → said.meta ≡ c.args.meta.now → Recovers slots x said old (g.R.Rack.told (store_rack c.args.store.now))
@@ -192,30 +100,6 @@ powers g c =
       subst (λ (m : Meta). Ran told_1 (g.R.Rack.told (store_rack c.power_disks.new.store)) (EachCall (IsPowerCall m))) given.1 c.power_disks.ensures.calls,
     )
 
-pub returns-in-Err-power_disks-clause-split : goal.returns-in-Err-power_disks-clause-split
-returns-in-Err-power_disks-clause-split g c =
-    (g.R.Rack.told (store_rack c.settle.new.store), c.settle.ensures.still, inr (powers g (goal.at.returns-in-Err-power_disks-clause-split g c).After-power_disks))
-
-pub returns-clause-split : goal.returns-clause-split
-returns-clause-split g c = (g.R.Rack.told (store_rack c.settle.new.store), c.settle.ensures.still, inr (powers g (goal.at.returns-clause-split g c).After-power_disks))
-
--- which disks are absent since, where two are down
-pub returns-in-Err-power_disks-clause-gone : goal.returns-in-Err-power_disks-clause-gone
-returns-in-Err-power_disks-clause-gone g c =
-    let m = c.args.meta.now in
-    let given = c.in-Ok.ensures.given in
-    let a = g.R.Rack.slot (store_rack c.args.store.now) in
-    let b = g.R.Rack.slot (store_rack c.settle.new.store) in
-    let d = g.R.Rack.slot (store_rack c.power_disks.new.store) in
-    let k = m.setup.geometry.disks in
-    let power = (λ (e : ℕ). (b e).power) in
-    let two = c.in-Err-power_disks.two in
-    let marked_is = with_mark m given.0 in
-    gone_sooner k (named_out m.out) a b d (none_comes a b c.settle.ensures.powers) (λ e. stays_absent b d e (λ x. (c.power_disks.ensures.turned x).there)) two
-    (gone_beside (IsOutOfCommit power k (named_out marked_is.out) None) (IsOutOfCommit power k (named_out m.out) None) b d two (out_marked m given.0 power given.2)
-    (subst (λ (x : ℕ). AreGoneSince (IsOutOfCommit power x (named_out marked_is.out) None) b d two) (ap (λ (s : Setup). s.geometry.disks) (disks_marked m given.0))
-    (subst (λ (x : Meta). AreGoneSince (IsOutOfCommit power x.setup.geometry.disks (named_out x.out) None) b d two) given.1 c.in-Err-power_disks.ensures.gone)))
-
 -- the slots once the disks are powered
 later : (g : Over) (c : After-power_disks g) (d : ℕ) → (g.R.Rack.slot (store_rack c.args.store.now) d).faults ≤ (g.R.Rack.slot (store_rack c.power_disks.new.store) d).faults
 later g c d = let first = c.settle.ensures.powers.no_fall d in let second = (c.power_disks.ensures.turned d).later in omega arith
@@ -225,42 +109,6 @@ absent g c d gone =
     let a = g.R.Rack.slot (store_rack c.args.store.now) in
     let b = g.R.Rack.slot (store_rack c.settle.new.store) in
     stays_absent b (g.R.Rack.slot (store_rack c.power_disks.new.store)) d (λ e. (c.power_disks.ensures.turned e).there) (stays_absent a b d (none_comes a b c.settle.ensures.powers) gone)
-
-pub returns-in-Err-clause-later : goal.returns-in-Err-clause-later
-returns-in-Err-clause-later g c = c.settle.ensures.powers.no_fall
-
-pub returns-in-Err-power_disks-clause-later : goal.returns-in-Err-power_disks-clause-later
-returns-in-Err-power_disks-clause-later g c = later g (goal.at.returns-in-Err-power_disks-clause-later g c).After-power_disks
-
-pub returns-clause-later : goal.returns-clause-later
-returns-clause-later g c = later g (goal.at.returns-clause-later g c).After-power_disks
-
-pub returns-in-Err-clause-absent : goal.returns-in-Err-clause-absent
-returns-in-Err-clause-absent g c d gone =
-    let a = g.R.Rack.slot (store_rack c.args.store.now) in
-    let b = g.R.Rack.slot (store_rack c.settle.new.store) in
-    stays_absent a b d (none_comes a b c.settle.ensures.powers) gone
-
-pub returns-in-Err-power_disks-clause-absent : goal.returns-in-Err-power_disks-clause-absent
-returns-in-Err-power_disks-clause-absent g c = absent g (goal.at.returns-in-Err-power_disks-clause-absent g c).After-power_disks
-
-pub returns-clause-absent : goal.returns-clause-absent
-returns-clause-absent g c = absent g (goal.at.returns-clause-absent g c).After-power_disks
-
-pub returns-in-Err-clause-two : goal.returns-in-Err-clause-two
-returns-in-Err-clause-two g c = c.in-Err.ensures.two
-
-pub returns-in-Err-clause-gone : goal.returns-in-Err-clause-gone
-returns-in-Err-clause-gone g c = c.in-Err.ensures.gone
-
-pub returns-in-Err-clause-allowed : goal.returns-in-Err-clause-allowed
-returns-in-Err-clause-allowed g c = c.settle.ensures.allowed
-
-pub returns-in-Err-clause-holds : goal.returns-in-Err-clause-holds
-returns-in-Err-clause-holds g c = c.settle.ensures.holds
-
-pub returns-in-Err-clause-metas : goal.returns-in-Err-clause-metas
-returns-in-Err-clause-metas g c = c.settle.ensures.metas
 
 pub settle-requires : goal.settle-requires
 settle-requires g c = c.requires
@@ -293,11 +141,133 @@ failed a b c m d each before turned gone = split (is_present b.power) refl
     split true here = inr (HasRisen-sooner a.faults b.faults c.faults before (turned.risen here (ap is_present gone)))
     split false off = elim each [ inl risen ↦ inr (HasRisen-later a.faults b.faults c.faults risen turned.later) | inr well ↦ inl (sym well.power ∙ absent_power b.power off) ]
 
-pub returns-in-Err-clause-failed : goal.returns-in-Err-clause-failed
-returns-in-Err-clause-failed g c d gone = elim (c.settle.ensures.each d) [ inl risen ↦ inr risen | inr well ↦ inl (sym well.power ∙ gone) ]
+pub returns-in-Err : goal.returns-in-Err
+returns-in-Err g c = record {
+  rows = c.settle.ensures.rows;
+  narrow = c.settle.ensures.narrow;
+  slots = c.settle.ensures.slots;
+  servable = tt;
+  two = c.in-Err.ensures.two;
+  gone = c.in-Err.ensures.gone;
+  later = c.settle.ensures.powers.no_fall;
+  failed = λ d gone. elim (c.settle.ensures.each d) [ inl risen ↦ inr risen | inr well ↦ inl (sym well.power ∙ gone) ];
+  allowed = c.settle.ensures.allowed;
+  split = (g.R.Rack.told (store_rack c.settle.new.store), c.settle.ensures.still, inl refl);
+  holds = c.settle.ensures.holds;
+  metas = c.settle.ensures.metas;
+  absent = λ d gone.
+      let a = g.R.Rack.slot (store_rack c.args.store.now) in
+      let b = g.R.Rack.slot (store_rack c.settle.new.store) in
+      stays_absent a b d (none_comes a b c.settle.ensures.powers) gone;
+  ends = tt;
+  map = tt;
+  out = tt;
+}
 
-pub returns-in-Err-power_disks-clause-failed : goal.returns-in-Err-power_disks-clause-failed
-returns-in-Err-power_disks-clause-failed g c d gone = failed _ (g.R.Rack.slot (store_rack c.settle.new.store) d) _ c.in-Ok.standing d (c.settle.ensures.each d) (c.settle.ensures.powers.no_fall d) (c.power_disks.ensures.turned d) gone
+pub returns-in-Err-power_disks : goal.returns-in-Err-power_disks
+returns-in-Err-power_disks g c = record {
+  rows = c.settle.ensures.rows;
+  narrow = c.settle.ensures.narrow;
+  slots = c.power_disks.ensures.slots ∙ c.settle.ensures.slots;
+  servable = tt;
+  two =
+      let at = (goal.at.returns-in-Err-power_disks g c).After-power_disks in
+      let meta = c.args.meta.now in
+      let given = c.in-Ok.ensures.given in
+      let b = g.R.Rack.slot (store_rack c.settle.new.store) in
+      let d = g.R.Rack.slot (store_rack c.power_disks.new.store) in
+      two_marked meta given.0 (g.R.Rack.slot (store_rack c.args.store.now)) b d c.settle.ensures.each c.settle.ensures.powers.no_fall (λ x. (c.power_disks.ensures.turned x).later) given.2 c.in-Err-power_disks.two
+      (subst (λ (k : ℕ). AreTwoDownBeside (IsOutOfCommit (λ e. (b e).power) k (named_out (with_mark meta given.0).out) None) b d c.in-Err-power_disks.two) (ap (λ (s : Setup). s.geometry.disks) (disks_marked meta given.0))
+      (subst (λ (x : Meta). AreTwoDownBeside (IsOutOfCommit (λ e. (b e).power) x.setup.geometry.disks (named_out x.out) None) b d c.in-Err-power_disks.two) given.1 c.in-Err-power_disks.ensures.two));
+  gone =
+      let m = c.args.meta.now in
+      let given = c.in-Ok.ensures.given in
+      let a = g.R.Rack.slot (store_rack c.args.store.now) in
+      let b = g.R.Rack.slot (store_rack c.settle.new.store) in
+      let d = g.R.Rack.slot (store_rack c.power_disks.new.store) in
+      let k = m.setup.geometry.disks in
+      let power = (λ (e : ℕ). (b e).power) in
+      let two = c.in-Err-power_disks.two in
+      let marked_is = with_mark m given.0 in
+      gone_sooner k (named_out m.out) a b d (none_comes a b c.settle.ensures.powers) (λ e. stays_absent b d e (λ x. (c.power_disks.ensures.turned x).there)) two
+      (gone_beside (IsOutOfCommit power k (named_out marked_is.out) None) (IsOutOfCommit power k (named_out m.out) None) b d two (out_marked m given.0 power given.2)
+      (subst (λ (x : ℕ). AreGoneSince (IsOutOfCommit power x (named_out marked_is.out) None) b d two) (ap (λ (s : Setup). s.geometry.disks) (disks_marked m given.0))
+      (subst (λ (x : Meta). AreGoneSince (IsOutOfCommit power x.setup.geometry.disks (named_out x.out) None) b d two) given.1 c.in-Err-power_disks.ensures.gone)));
+  later = later g (goal.at.returns-in-Err-power_disks g c).After-power_disks;
+  failed = λ d gone. failed _ (g.R.Rack.slot (store_rack c.settle.new.store) d) _ c.in-Ok.standing d (c.settle.ensures.each d) (c.settle.ensures.powers.no_fall d) (c.power_disks.ensures.turned d) gone;
+  allowed = allowed g (goal.at.returns-in-Err-power_disks g c).After-power_disks;
+  split =
+      (g.R.Rack.told (store_rack c.settle.new.store), c.settle.ensures.still, inr (powers g (goal.at.returns-in-Err-power_disks g c).After-power_disks));
+  holds = holds g (goal.at.returns-in-Err-power_disks g c).After-power_disks;
+  metas = metas g (goal.at.returns-in-Err-power_disks g c).After-power_disks;
+  absent = absent g (goal.at.returns-in-Err-power_disks g c).After-power_disks;
+  ends = tt;
+  map = tt;
+  out = tt;
+}
 
-pub returns-clause-failed : goal.returns-clause-failed
-returns-clause-failed g c d gone = failed _ (g.R.Rack.slot (store_rack c.settle.new.store) d) _ c.in-Ok.standing d (c.settle.ensures.each d) (c.settle.ensures.powers.no_fall d) (c.power_disks.ensures.turned d) gone
+pub returns : goal.returns
+returns g c = record {
+  rows = c.settle.ensures.rows;
+  narrow = c.settle.ensures.narrow;
+  slots = c.power_disks.ensures.slots ∙ c.settle.ensures.slots;
+  servable =
+      let at = (goal.at.returns g c).After-power_disks in
+      let m = c.in-Ok.standing in
+      let part = c.in_default.ensures in
+      let a = g.R.Rack.slot (store_rack c.settle.new.store) in
+      let b = g.R.Rack.slot (store_rack c.power_disks.new.store) in
+      let o = to_mark (λ d. (b d).power) m in
+      subst (λ (x : Meta). IsServable (g.R.Rack.slot_count (store_rack c.power_disks.new.store)) b c.power_disks.new.store.epoch c.power_disks.new.store.disks c.power_disks.new.store.named x (length c.settle.new.table)) (sym c.with_loss.ensures)
+      (subst (λ (k : ℕ). IsServable k b c.power_disks.new.store.epoch c.power_disks.new.store.disks c.power_disks.new.store.named (with_loss m o) (length c.settle.new.table)) (sym part.slots)
+      (servable (g.R.Rack.slot_count (store_rack c.settle.new.store)) a b m c.in-Ok.ensures.fit part.turned part.powered (part.one c.in-Ok.ensures.fit.one) o refl
+      c.power_disks.new.store.epoch c.power_disks.new.store.disks (length c.settle.new.table) c.power_disks.new.store.named
+      (disks_same g at ∙ sym (part.same.disks ∙ c.settle.ensures.disks ∙ c.requires.disks)) c.in-Ok.ensures.version
+      (c.in-Ok.ensures.epoch ∙ sym part.same.epoch)
+      (part.same.named ∙ sym c.in-Ok.ensures.named)
+      (c.settle.ensures.rows ∙ c.requires.rows ∙ sym (ap (λ (s : Setup). s.geometry.rows) (setup_is g at)))
+      c.in-Ok.ensures.synced));
+  two = tt;
+  gone = tt;
+  later = later g (goal.at.returns g c).After-power_disks;
+  failed = λ d gone. failed _ (g.R.Rack.slot (store_rack c.settle.new.store) d) _ c.in-Ok.standing d (c.settle.ensures.each d) (c.settle.ensures.powers.no_fall d) (c.power_disks.ensures.turned d) gone;
+  allowed = allowed g (goal.at.returns g c).After-power_disks;
+  split = (g.R.Rack.told (store_rack c.settle.new.store), c.settle.ensures.still, inr (powers g (goal.at.returns g c).After-power_disks));
+  holds = holds g (goal.at.returns g c).After-power_disks;
+  metas = metas g (goal.at.returns g c).After-power_disks;
+  absent = absent g (goal.at.returns g c).After-power_disks;
+  ends =
+      let at = (goal.at.returns g c).After-power_disks in
+      let given = c.in-Ok.ensures.given in (
+        c.in-Ok.standing,
+        to_mark (λ d. (g.R.Rack.slot (store_rack c.power_disks.new.store) d).power) c.in-Ok.standing,
+        c.with_loss.ensures,
+        setup_is g at,
+        λ d name. ap (λ (x : Meta). named_out x.out) given.1 ∙ names_stay c.args.meta.now given.0 (λ e is. given.3 e is) d name,
+        c.in-Ok.ensures.version,
+        (
+          given.0,
+          given.1,
+          mark_sooner c.args.meta.now given.0 (g.R.Rack.told (store_rack c.args.store.now)) (g.R.Rack.told (store_rack c.settle.new.store)) (g.R.Rack.told (store_rack c.power_disks.new.store)) given.4
+              c.power_disks.ensures.calls,
+        ),
+        ends g at,
+        λ t tells. mark_by_slots (now t) (g.R.Rack.slot (store_rack c.power_disks.new.store)) c.in-Ok.standing (g.met.R.Rack.agrees (store_rack c.power_disks.new.store) t tells),
+        record { named_by = c.in_default.ensures.same.named ∙ sym c.in-Ok.ensures.named; is = c.with_loss.ensures },
+      );
+  map =
+      let told_0 = g.R.Rack.told (store_rack c.args.store.now) in
+      let told_1 = g.R.Rack.told (store_rack c.settle.new.store) in
+      let told_2 = g.R.Rack.told (store_rack c.power_disks.new.store) in
+      let b = g.R.Rack.slot (store_rack c.settle.new.store) in
+      let d = g.R.Rack.slot (store_rack c.power_disks.new.store) in
+      map_on c.args.meta.now.setup.geometry (store_out g.R.Rack.slot c.args.store.now) b d (is_dirty c.settle.new.table) told_0 told_1 told_2
+      (stays_absent b d 0 (λ x. (c.power_disks.ensures.turned x).there))
+      (far_ran (IsPowerCall c.in-Ok.standing) told_1 told_2 (turn_far c.in-Ok.standing) c.power_disks.ensures.calls) c.in-Ok.ensures.map;
+  out = λ d name.
+      let given = c.in-Ok.ensures.given in
+      let b = g.R.Rack.slot (store_rack c.settle.new.store) in
+      let e = g.R.Rack.slot (store_rack c.power_disks.new.store) in
+      named_or_absent c.args.meta.now c.in-Ok.standing given.0 b e given.1 c.in-Ok.ensures.fit.in_range (λ x is. (given.2 x is).0) (λ x. (c.power_disks.ensures.turned x).there) d
+      (ap (λ (x : Meta). named_out x.out) (sym c.with_loss.ensures) ∙ name);
+}

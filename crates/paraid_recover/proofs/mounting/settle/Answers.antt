@@ -12,6 +12,8 @@ use Rattle.paraid_txn.specs.Uses.{EachCall}
 use Rattle.paraid_view.proofs.TwoLemmas.{left_spared}
 use Rattle.paraid_recover.specs.EndOfMount.{IsMarkAtMoment}
 use Rattle.paraid_recover.specs.HeldMoments.{Recovers}
+use Rattle.paraid_recover.specs.Mounted.{AreAllSynced}
+use Rattle.paraid_recover.proofs.SyncedLemmas.{marked_synced}
 use Rattle.paraid_recover.proofs.MarkMomentLemmas.{mark_before, mark_by_slots, mark_later}
 use Rattle.paraid_recover.specs.MountCalls.{OnlyMountCalls}
 use Rattle.paraid_recover.specs.RecoveryMark.{to_mark}
@@ -48,20 +50,6 @@ read_map-requires-clause-ready g c =
 on : (said : LogState) (m : Meta) (n : ℕ) → n ≡ m.setup.geometry.disks → said.meta ≡ m → n ≡ said.meta.setup.geometry.disks
 on said m n is same = is ∙ ap (λ (o : Meta). o.setup.geometry.disks) (sym same)
 
-pub returns-in-Err-clause-each : goal.returns-in-Err-clause-each
-returns-in-Err-clause-each g c = c.read_map.ensures.each
-
-pub returns-in-Err-clause-two : goal.returns-in-Err-clause-two
-returns-in-Err-clause-two g c =
-    let at = goal.at.returns-in-Err-clause-two g c in
-    two_by_out c.args.meta.now.setup.geometry.disks (named_out c.args.meta.now.out) _ _ _ _ (out_by g at.After-read_map) c.in-Err.ensures.two.down
-
-pub returns-in-Err-clause-holds : goal.returns-in-Err-clause-holds
-returns-in-Err-clause-holds g c slots x said old is r =
-    let n_is = on said c.args.meta.now c.args.store.now.disks c.requires.disks is in
-    (quiet_recovers slots x said old (g.R.Rack.told (store_rack c.args.store.now)) (g.R.Rack.told (store_rack c.read_map.new.store))
-    (subst (λ (n : ℕ). Ran (g.R.Rack.told (store_rack c.args.store.now)) (g.R.Rack.told (store_rack c.read_map.new.store)) (EachCall (IsReadOrSync n))) n_is (quiet_reads c.args.store.now.disks _ _ c.in-Err.ensures.two.calls)) r).holds
-
 -- once the map was read
 abbrev slot_0 : (g : Over) (c : After-sync_all g) → ℕ → Slot
 slot_0 g c = g.R.Rack.slot (store_rack c.args.store.now)
@@ -86,22 +74,6 @@ synced_recovers g c slots x said old is r =
     (subst (λ (n : ℕ). Ran told_1 told_2 (EachCall (IsReadOrSync n))) (c.in_default.ensures.read.same.disks ∙ n_is) (quiet_syncs c.read_map.new.store.disks _ _ _ c.sync_all.ensures.calls))
     (quiet_recovers slots x said old told_0 told_1
     (subst (λ (n : ℕ). Ran told_0 told_1 (EachCall (IsReadOrSync n))) n_is (quiet_reads c.args.store.now.disks _ _ c.in_default.ensures.read.calls)) r)
-
-pub returns-in-Err-sync_all-clause-each : goal.returns-in-Err-sync_all-clause-each
-returns-in-Err-sync_all-clause-each g c =
-    let at = goal.at.returns-in-Err-sync_all-clause-each g c in
-    each_then _ _ _ c.read_map.ensures.each c.sync_all.ensures.each (first_spared g at.After-sync_all).no_fall c.sync_all.ensures.powers.no_fall
-
-pub returns-in-Err-sync_all-clause-two : goal.returns-in-Err-sync_all-clause-two
-returns-in-Err-sync_all-clause-two g c =
-    let at = goal.at.returns-in-Err-sync_all-clause-two g c in
-    let same = c.in_default.ensures.read.same in
-    two_sooner c.args.meta.now.setup.geometry.disks (named_out c.args.meta.now.out) _ _ _ _ c.read_map.ensures.each (first_spared g at.After-sync_all).no_fall c.sync_all.ensures.powers.no_fall
-    (rw (← (same.disks ∙ c.requires.disks), ← (same.named ∙ c.requires.named)) c.in-Err-sync_all.ensures.two)
-
-pub returns-in-Err-sync_all-clause-holds : goal.returns-in-Err-sync_all-clause-holds
-returns-in-Err-sync_all-clause-holds g c slots x said old is r =
-    (synced_recovers g (goal.at.returns-in-Err-sync_all-clause-holds g c).After-sync_all slots x said old is r).holds
 
 -- once all disks were synced
 abbrev slot_3 : (g : Over) (c : After-mark_out g) → ℕ → Slot
@@ -158,78 +130,6 @@ marked_then g c =
     (mark_later m mark told_1 told_2 told_3 c.sync_all.ensures.calls
     (mark_before m mark told_2 told_3 (λ u tells. mark_by_slots (now u) (g.R.Rack.slot (store_rack c.sync_all.new.self)) m (g.met.R.Rack.agrees (store_rack c.sync_all.new.self) u tells)) c.mark_out.ensures.calls))
 
-pub returns-in-Ok-clause-given : goal.returns-in-Ok-clause-given
-returns-in-Ok-clause-given g c =
-    let at = goal.at.returns-in-Ok-clause-given g c in (
-      to_mark (λ d. (g.R.Rack.slot (store_rack c.sync_all.new.self) d).power) c.args.meta.now,
-      c.in-Ok.ensures.given,
-      λ d is. marked_absent _ (slot_3 g at.After-mark_out) c.args.meta.now d c.requires.fit.in_range is c.mark_out.ensures.powers,
-      λ d is. (marks _ c.args.meta.now d c.requires.fit.in_range is).2,
-      marked_then g at.After-mark_out,
-    )
-
-pub returns-in-Ok-clause-version : goal.returns-in-Ok-clause-version
-returns-in-Ok-clause-version g c =
-    ap (λ (x : Meta). x.version) c.in-Ok.ensures.given ∙ version_marked c.args.meta.now (to_mark (λ d. (g.R.Rack.slot (store_rack c.sync_all.new.self) d).power) c.args.meta.now) c.requires.fit.in_range
-
-pub returns-in-Ok-clause-fit : goal.returns-in-Ok-clause-fit
-returns-in-Ok-clause-fit g c =
-    let at = (goal.at.returns-in-Ok-clause-fit g c).After-mark_out in
-    let m = c.args.meta.now in
-    let o = to_mark (λ d. (g.R.Rack.slot (store_rack c.sync_all.new.self) d).power) m in
-    let count = c.mark_out.ensures.slots ∙ c.sync_all.ensures.slots ∙ c.in_default.ensures.read.slots in
-    let one = subst (λ (k : ℕ). IsOneOut k (named_out c.in-Ok.marked.out) (slot_3 g at)) (disks_is g at)
-    (c.in-Ok.ensures.one
-    (subst (λ (k : ℕ). IsOneOut k c.sync_all.new.self.named (g.R.Rack.slot (store_rack c.sync_all.new.self))) (sym (disks_is g at))
-    (subst (λ (x : Option ℕ). IsOneOut (n g at) x (g.R.Rack.slot (store_rack c.sync_all.new.self))) (sym (named_is g at)) (one_out g at)))) in
-    subst (λ (k : ℕ). IsFit k (slot_3 g at) c.in-Ok.marked) (sym count)
-    (subst (λ (x : Meta). IsFit (g.R.Rack.slot_count (store_rack c.args.store.now)) (slot_3 g at) x) (sym c.in-Ok.ensures.given)
-    (fit_with_mark _ _ (slot_3 g at) m o refl (fits g at) c.mark_out.ensures.powers c.requires.few
-    (subst (λ (x : Meta). IsOneOut (n g at) (named_out x.out) (slot_3 g at)) c.in-Ok.ensures.given one)))
-
-pub returns-in-Ok-clause-holds : goal.returns-in-Ok-clause-holds
-returns-in-Ok-clause-holds g c slots x said old is r =
-    c.mark_out.ensures.holds slots x said old is (synced_recovers g (goal.at.returns-in-Ok-clause-holds g c).After-sync_all slots x said old is r)
-
-pub returns-in-Ok-clause-ends : goal.returns-in-Ok-clause-ends
-returns-in-Ok-clause-ends g c slots x said old is r =
-    c.in-Ok.ensures.ends slots x said old is (synced_recovers g (goal.at.returns-in-Ok-clause-ends g c).After-sync_all slots x said old is r)
-
-pub returns-in-Err-mark_out-clause-powers : goal.returns-in-Err-mark_out-clause-powers
-returns-in-Err-mark_out-clause-powers g c = spared_both _ _ _ (both_spared g (goal.at.returns-in-Err-mark_out-clause-powers g c).After-mark_out) c.mark_out.ensures.powers
-
-pub returns-in-Err-mark_out-clause-two : goal.returns-in-Err-mark_out-clause-two
-returns-in-Err-mark_out-clause-two g c =
-    let at = (goal.at.returns-in-Err-mark_out-clause-two g c).After-mark_out in
-    let m = c.args.meta.now in
-    two_sooner (n g at) (named_out m.out) _ _ _ _ (both_each g at) (both_spared g at).no_fall c.mark_out.ensures.powers.no_fall
-    (two_at (n g at) _ (named_out m.out) _ (to_mark (λ d. (g.R.Rack.slot (store_rack c.sync_all.new.self) d).power) m) (g.R.Rack.slot (store_rack c.sync_all.new.self)) (slot_3 g at) c.in-Err-mark_out.two
-    (disks_is g at) (named_is g at) (λ d is. let it = marks _ m d c.requires.fit.in_range is in (it.0, it.1)) c.in-Err-mark_out.ensures.two)
-
-pub returns-in-Err-mark_out-clause-holds : goal.returns-in-Err-mark_out-clause-holds
-returns-in-Err-mark_out-clause-holds g c slots x said old is r =
-    c.mark_out.ensures.holds slots x said old is (synced_recovers g (goal.at.returns-in-Err-mark_out-clause-holds g c).After-sync_all slots x said old is r)
-
-pub returns-in-Ok-clause-map : goal.returns-in-Ok-clause-map
-returns-in-Ok-clause-map g c =
-    let told_0 = g.R.Rack.told (store_rack c.args.store.now) in
-    let told_1 = g.R.Rack.told (store_rack c.read_map.new.store) in
-    let told_2 = g.R.Rack.told (store_rack c.sync_all.new.self) in
-    let told_3 = g.R.Rack.told (store_rack c.mark_out.new.store) in
-    let geometry = c.args.meta.now.setup.geometry in
-    let out = store_out g.R.Rack.slot c.args.store.now in
-    let dirty = is_dirty c.read_map.new.table in
-    let n_0 = c.args.store.now.disks in
-    let n_1 = c.read_map.new.store.disks in
-    let n_2 = c.sync_all.new.self.disks in
-    let slot_1 = g.R.Rack.slot (store_rack c.read_map.new.store) in
-    let slot_2 = g.R.Rack.slot (store_rack c.sync_all.new.self) in
-    let slot_3 = g.R.Rack.slot (store_rack c.mark_out.new.store) in
-    map_on geometry out slot_2 slot_3 dirty told_0 told_2 told_3 (stays_absent slot_2 slot_3 0 (none_comes slot_2 slot_3 c.mark_out.ensures.powers)) (far_ran (IsInLog n_2) told_2 told_3 (log_far n_2) c.mark_out.ensures.calls)
-    (map_on geometry out slot_1 slot_2 dirty told_0 told_1 told_2 (stays_absent slot_1 slot_2 0 (none_comes slot_1 slot_2 c.sync_all.ensures.powers)) (far_ran (IsReadOrSync n_1) told_1 told_2 (quiet_far n_1) (quiet_syncs n_1 _ told_1 told_2 c.sync_all.ensures.calls))
-    (map_read geometry out c.in_default.field-0 slot_1 dirty told_0 told_1 (far_ran (IsReadOrSync n_0) told_0 told_1 (quiet_far n_0) (quiet_reads n_0 told_0 told_1 c.in_default.ensures.read.calls))
-    (λ e is. (c.in_default.ensures.alone e is).1) (λ e is. (c.in_default.ensures.read.left.failed e is).absent) c.in_default.ensures.shows))
-
 -- the reads of the map, and the syncs after them, are calls of a mount
 map_allowed : (g : Over) (c : After-read_map g) → OnlyMountCalls c.args.meta.now (g.R.Rack.told (store_rack c.args.store.now)) (g.R.Rack.told (store_rack c.read_map.new.store))
 map_allowed g c =
@@ -249,18 +149,6 @@ all_allowed g c =
     mount_then c.args.meta.now (g.R.Rack.told (store_rack c.args.store.now)) (g.R.Rack.told (store_rack c.sync_all.new.self)) (g.R.Rack.told (store_rack c.mark_out.new.store))
     (sync_allowed g (goal.at.After-mark_out g c).After-sync_all) c.mark_out.ensures.allowed
 
-pub returns-in-Err-clause-allowed : goal.returns-in-Err-clause-allowed
-returns-in-Err-clause-allowed g c = map_allowed g (goal.at.returns-in-Err-clause-allowed g c).After-read_map
-
-pub returns-in-Err-sync_all-clause-allowed : goal.returns-in-Err-sync_all-clause-allowed
-returns-in-Err-sync_all-clause-allowed g c = sync_allowed g (goal.at.returns-in-Err-sync_all-clause-allowed g c).After-sync_all
-
-pub returns-in-Ok-clause-allowed : goal.returns-in-Ok-clause-allowed
-returns-in-Ok-clause-allowed g c = all_allowed g (goal.at.returns-in-Ok-clause-allowed g c).After-mark_out
-
-pub returns-in-Err-mark_out-clause-allowed : goal.returns-in-Err-mark_out-clause-allowed
-returns-in-Err-mark_out-clause-allowed g c = all_allowed g (goal.at.returns-in-Err-mark_out-clause-allowed g c).After-mark_out
-
 -- which meta stands once the map was read
 read_metas : (g : Over) (c : After-read_map g) (slots x : ℕ) (said : LogState) (old : Option Trail) → said.meta ≡ c.args.meta.now
     → Ran (g.R.Rack.told (store_rack c.args.store.now)) (g.R.Rack.told (store_rack c.read_map.new.store)) (EachCall (IsReadOrSync c.args.store.now.disks))
@@ -271,10 +159,6 @@ read_metas g c slots x said old is ran r metas =
     let told_1 = g.R.Rack.told (store_rack c.read_map.new.store) in
     quiet_metas slots x said old told_0 told_1
     (subst (λ (n : ℕ). Ran told_0 told_1 (EachCall (IsReadOrSync n))) (on said c.args.meta.now c.args.store.now.disks c.requires.disks is) ran) r metas
-
-pub returns-in-Err-clause-metas : goal.returns-in-Err-clause-metas
-returns-in-Err-clause-metas g c slots x said old is r metas =
-    read_metas g (goal.at.returns-in-Err-clause-metas g c).After-read_map slots x said old is (quiet_reads c.args.store.now.disks _ _ c.in-Err.ensures.two.calls) r metas
 
 -- and once all disks were synced
 synced_metas : (g : Over) (c : After-sync_all g) (slots x : ℕ) (said : LogState) (old : Option Trail) → said.meta ≡ c.args.meta.now → Recovers slots x said old (g.R.Rack.told (store_rack c.args.store.now))
@@ -290,26 +174,10 @@ synced_metas g c slots x said old is r metas =
     (quiet_recovers slots x said old told_0 told_1 (subst (λ (n : ℕ). Ran told_0 told_1 (EachCall (IsReadOrSync n))) n_is reads) r)
     (read_metas g (goal.at.After-sync_all g c).After-read_map slots x said old is reads r metas)
 
-pub returns-in-Err-sync_all-clause-metas : goal.returns-in-Err-sync_all-clause-metas
-returns-in-Err-sync_all-clause-metas g c = synced_metas g (goal.at.returns-in-Err-sync_all-clause-metas g c).After-sync_all
-
-pub returns-in-Ok-clause-metas : goal.returns-in-Ok-clause-metas
-returns-in-Ok-clause-metas g c slots x said old is r metas =
-    let at = (goal.at.returns-in-Ok-clause-metas g c).After-sync_all in
-    c.mark_out.ensures.metas slots x said old is (synced_recovers g at slots x said old is r) (synced_metas g at slots x said old is r metas)
-
-pub returns-in-Err-mark_out-clause-metas : goal.returns-in-Err-mark_out-clause-metas
-returns-in-Err-mark_out-clause-metas g c slots x said old is r metas =
-    let at = (goal.at.returns-in-Err-mark_out-clause-metas g c).After-sync_all in
-    c.mark_out.ensures.metas slots x said old is (synced_recovers g at slots x said old is r) (synced_metas g at slots x said old is r metas)
-
 -- there are only reads, writes and syncs
 map_still : (g : Over) (c : After-read_map g) → Ran (g.R.Rack.told (store_rack c.args.store.now)) (g.R.Rack.told (store_rack c.read_map.new.store)) (EachCall (IsReadOrSync c.args.store.now.disks))
     → Ran (g.R.Rack.told (store_rack c.args.store.now)) (g.R.Rack.told (store_rack c.read_map.new.store)) (EachCall IsStill)
 map_still g c reads = quiet_still c.args.store.now.disks (g.R.Rack.told (store_rack c.args.store.now)) (g.R.Rack.told (store_rack c.read_map.new.store)) reads
-
-pub returns-in-Err-clause-still : goal.returns-in-Err-clause-still
-returns-in-Err-clause-still g c = map_still g (goal.at.returns-in-Err-clause-still g c).After-read_map (quiet_reads c.args.store.now.disks _ _ c.in-Err.ensures.two.calls)
 
 sync_still : (g : Over) (c : After-sync_all g) → Ran (g.R.Rack.told (store_rack c.args.store.now)) (g.R.Rack.told (store_rack c.sync_all.new.self)) (EachCall IsStill)
 sync_still g c =
@@ -319,110 +187,208 @@ sync_still g c =
     still_then told_0 told_1 told_2 (map_still g (goal.at.After-sync_all g c).After-read_map (quiet_reads c.args.store.now.disks told_0 told_1 c.in_default.ensures.read.calls))
     (quiet_still c.read_map.new.store.disks told_1 told_2 (quiet_syncs c.read_map.new.store.disks _ told_1 told_2 c.sync_all.ensures.calls))
 
-pub returns-in-Err-sync_all-clause-still : goal.returns-in-Err-sync_all-clause-still
-returns-in-Err-sync_all-clause-still g c = sync_still g (goal.at.returns-in-Err-sync_all-clause-still g c).After-sync_all
-
 all_still : (g : Over) (c : After-mark_out g) → Ran (g.R.Rack.told (store_rack c.args.store.now)) (g.R.Rack.told (store_rack c.mark_out.new.store)) (EachCall IsStill)
 all_still g c =
     let told_2 = g.R.Rack.told (store_rack c.sync_all.new.self) in
     let told_3 = g.R.Rack.told (store_rack c.mark_out.new.store) in
     still_then (g.R.Rack.told (store_rack c.args.store.now)) told_2 told_3 (sync_still g (goal.at.After-mark_out g c).After-sync_all) (log_still c.sync_all.new.self.disks told_2 told_3 c.mark_out.ensures.calls)
 
-pub returns-in-Ok-clause-still : goal.returns-in-Ok-clause-still
-returns-in-Ok-clause-still g c = all_still g (goal.at.returns-in-Ok-clause-still g c).After-mark_out
-
-pub returns-in-Err-mark_out-clause-still : goal.returns-in-Err-mark_out-clause-still
-returns-in-Err-mark_out-clause-still g c = all_still g (goal.at.returns-in-Err-mark_out-clause-still g c).After-mark_out
-
 -- which disks are absent since, where two are down
 abbrev out_at : (g : Over) (c : After-read_map g) → (ℕ → Slot) → Option ℕ → ℕ → Type 0
 out_at g c slot mark = IsOutOfCommit (λ e. (slot e).power) c.args.meta.now.setup.geometry.disks (named_out c.args.meta.now.out) mark
-
-pub returns-in-Err-clause-gone : goal.returns-in-Err-clause-gone
-returns-in-Err-clause-gone g c =
-    let at = (goal.at.returns-in-Err-clause-gone g c).After-read_map in
-    let out = store_out g.R.Rack.slot c.args.store.now in
-    let a = g.R.Rack.slot (store_rack c.args.store.now) in
-    gone_beside (λ d. out ≡ Some d) (out_at g at a None) a (g.R.Rack.slot (store_rack c.read_map.new.store)) _
-    (out_by_name (λ d. (a d).power) c.args.meta.now.setup.geometry.disks (named_out c.args.meta.now.out) out (out_by g at)) c.in-Err.ensures.gone
-
-pub returns-in-Err-sync_all-clause-gone : goal.returns-in-Err-sync_all-clause-gone
-returns-in-Err-sync_all-clause-gone g c =
-    let at = (goal.at.returns-in-Err-sync_all-clause-gone g c).After-sync_all in
-    let same = c.in_default.ensures.read.same in
-    let after = none_comes (slot_1 g at) (slot_2 g at) c.sync_all.ensures.powers in
-    let power = (λ (e : ℕ). (slot_1 g at e).power) in
-    let k = c.args.meta.now.setup.geometry.disks in
-    let two = c.in-Err-sync_all.two in
-    gone_sooner k (named_out c.args.meta.now.out) (slot_0 g at) (slot_1 g at) (slot_2 g at)
-    (none_comes (slot_0 g at) (slot_1 g at) (first_spared g at)) (λ d. stays_absent (slot_1 g at) (slot_2 g at) d after) two
-    (subst (λ (o : Option ℕ). AreGoneSince (IsOutOfCommit power k o None) (slot_1 g at) (slot_2 g at) two) (same.named ∙ c.requires.named)
-    (subst (λ (x : ℕ). AreGoneSince (IsOutOfCommit power x c.read_map.new.store.named None) (slot_1 g at) (slot_2 g at) two) (same.disks ∙ c.requires.disks) c.in-Err-sync_all.ensures.gone))
-
-pub returns-in-Err-sync_all-clause-powers : goal.returns-in-Err-sync_all-clause-powers
-returns-in-Err-sync_all-clause-powers g c = spared_both _ _ _ (first_spared g (goal.at.returns-in-Err-sync_all-clause-powers g c).After-sync_all) c.sync_all.ensures.powers
-
-pub returns-in-Err-mark_out-clause-gone : goal.returns-in-Err-mark_out-clause-gone
-returns-in-Err-mark_out-clause-gone g c =
-    let at = (goal.at.returns-in-Err-mark_out-clause-gone g c).After-mark_out in
-    let m = c.args.meta.now in
-    let a = g.R.Rack.slot (store_rack c.args.store.now) in
-    let b = g.R.Rack.slot (store_rack c.sync_all.new.self) in
-    let power = (λ (e : ℕ). (b e).power) in
-    let mark = to_mark power m in
-    let two = c.in-Err-mark_out.two in
-    let after = none_comes b (slot_3 g at) c.mark_out.ensures.powers in
-    gone_sooner (n g at) (named_out m.out) a b (slot_3 g at) (none_comes a b (both_spared g at)) (λ d. stays_absent b (slot_3 g at) d after) two
-    (gone_beside (IsOutOfCommit power (n g at) (named_out m.out) mark) (IsOutOfCommit power (n g at) (named_out m.out) None) b (slot_3 g at) two
-    (out_unmarked power (n g at) (named_out m.out) mark (λ d is. let it = marks power m d c.requires.fit.in_range is in (it.0, it.1)))
-    (subst (λ (o : Option ℕ). AreGoneSince (IsOutOfCommit power (n g at) o mark) b (slot_3 g at) two) (named_is g at)
-    (subst (λ (k : ℕ). AreGoneSince (IsOutOfCommit power k c.sync_all.new.self.named mark) b (slot_3 g at) two) (disks_is g at) c.in-Err-mark_out.ensures.gone)))
 
 -- the slots once a disk was marked
 all_each : (g : Over) (c : After-mark_out g) → AreFailedOrWell (g.R.Rack.slot (store_rack c.args.store.now)) (g.R.Rack.slot (store_rack c.mark_out.new.store))
 all_each g c = each_then _ _ _ (both_each g c) c.mark_out.ensures.each (both_spared g c).no_fall c.mark_out.ensures.powers.no_fall
 
-pub returns-in-Ok-clause-each : goal.returns-in-Ok-clause-each
-returns-in-Ok-clause-each g c = all_each g (goal.at.returns-in-Ok-clause-each g c).After-mark_out
+pub returns-in-Ok : goal.returns-in-Ok
+returns-in-Ok g c = record {
+  rows = c.read_map.ensures.rows;
+  narrow = c.read_map.ensures.narrow;
+  slots = c.mark_out.ensures.slots ∙ c.sync_all.ensures.slots ∙ c.in_default.ensures.read.slots;
+  disks = c.mark_out.ensures.disks ∙ c.sync_all.ensures.same.disks ∙ c.in_default.ensures.read.same.disks;
+  epoch = c.in-Ok.ensures.epoch;
+  named = c.in-Ok.ensures.named;
+  version =
+      ap (λ (x : Meta). x.version) c.in-Ok.ensures.given ∙ version_marked c.args.meta.now (to_mark (λ d. (g.R.Rack.slot (store_rack c.sync_all.new.self) d).power) c.args.meta.now) c.requires.fit.in_range;
+  given =
+      let at = goal.at.returns-in-Ok g c in (
+        to_mark (λ d. (g.R.Rack.slot (store_rack c.sync_all.new.self) d).power) c.args.meta.now,
+        c.in-Ok.ensures.given,
+        λ d is. marked_absent _ (slot_3 g at.After-mark_out) c.args.meta.now d c.requires.fit.in_range is c.mark_out.ensures.powers,
+        λ d is. (marks _ c.args.meta.now d c.requires.fit.in_range is).2,
+        marked_then g at.After-mark_out,
+      );
+  fit =
+      let at = (goal.at.returns-in-Ok g c).After-mark_out in
+      let m = c.args.meta.now in
+      let o = to_mark (λ d. (g.R.Rack.slot (store_rack c.sync_all.new.self) d).power) m in
+      let count = c.mark_out.ensures.slots ∙ c.sync_all.ensures.slots ∙ c.in_default.ensures.read.slots in
+      let one = subst (λ (k : ℕ). IsOneOut k (named_out c.in-Ok.marked.out) (slot_3 g at)) (disks_is g at)
+      (c.in-Ok.ensures.one
+      (subst (λ (k : ℕ). IsOneOut k c.sync_all.new.self.named (g.R.Rack.slot (store_rack c.sync_all.new.self))) (sym (disks_is g at))
+      (subst (λ (x : Option ℕ). IsOneOut (n g at) x (g.R.Rack.slot (store_rack c.sync_all.new.self))) (sym (named_is g at)) (one_out g at)))) in
+      subst (λ (k : ℕ). IsFit k (slot_3 g at) c.in-Ok.marked) (sym count)
+      (subst (λ (x : Meta). IsFit (g.R.Rack.slot_count (store_rack c.args.store.now)) (slot_3 g at) x) (sym c.in-Ok.ensures.given)
+      (fit_with_mark _ _ (slot_3 g at) m o refl (fits g at) c.mark_out.ensures.powers c.requires.few
+      (subst (λ (x : Meta). IsOneOut (n g at) (named_out x.out) (slot_3 g at)) c.in-Ok.ensures.given one)));
+  synced =
+      subst (λ (x : Meta). AreAllSynced x (g.R.Rack.slot (store_rack c.mark_out.new.store))) (sym c.in-Ok.ensures.given)
+      (marked_synced (g.R.Rack.slot (store_rack c.sync_all.new.self)) (g.R.Rack.slot (store_rack c.mark_out.new.store)) c.args.meta.now c.gone.result c.read_map.new.store.disks c.gone.ensures
+      (c.in_default.ensures.read.same.disks ∙ c.requires.disks) c.in_default-sync_all.ensures.synced c.mark_out.ensures.powers c.in-Ok.ensures.synced);
+  powers = spared_both _ _ _ (both_spared g (goal.at.returns-in-Ok g c).After-mark_out) c.mark_out.ensures.powers;
+  each = all_each g (goal.at.returns-in-Ok g c).After-mark_out;
+  two = tt;
+  gone = tt;
+  still = all_still g (goal.at.returns-in-Ok g c).After-mark_out;
+  allowed = all_allowed g (goal.at.returns-in-Ok g c).After-mark_out;
+  holds = λ slots x said old is r.
+      c.mark_out.ensures.holds slots x said old is (synced_recovers g (goal.at.returns-in-Ok g c).After-sync_all slots x said old is r);
+  metas = λ slots x said old is r metas.
+      let at = (goal.at.returns-in-Ok g c).After-sync_all in
+      c.mark_out.ensures.metas slots x said old is (synced_recovers g at slots x said old is r) (synced_metas g at slots x said old is r metas);
+  ends = λ slots x said old is r.
+      c.in-Ok.ensures.ends slots x said old is (synced_recovers g (goal.at.returns-in-Ok g c).After-sync_all slots x said old is r);
+  map =
+      let told_0 = g.R.Rack.told (store_rack c.args.store.now) in
+      let told_1 = g.R.Rack.told (store_rack c.read_map.new.store) in
+      let told_2 = g.R.Rack.told (store_rack c.sync_all.new.self) in
+      let told_3 = g.R.Rack.told (store_rack c.mark_out.new.store) in
+      let geometry = c.args.meta.now.setup.geometry in
+      let out = store_out g.R.Rack.slot c.args.store.now in
+      let dirty = is_dirty c.read_map.new.table in
+      let n_0 = c.args.store.now.disks in
+      let n_1 = c.read_map.new.store.disks in
+      let n_2 = c.sync_all.new.self.disks in
+      let slot_1 = g.R.Rack.slot (store_rack c.read_map.new.store) in
+      let slot_2 = g.R.Rack.slot (store_rack c.sync_all.new.self) in
+      let slot_3 = g.R.Rack.slot (store_rack c.mark_out.new.store) in
+      map_on geometry out slot_2 slot_3 dirty told_0 told_2 told_3 (stays_absent slot_2 slot_3 0 (none_comes slot_2 slot_3 c.mark_out.ensures.powers)) (far_ran (IsInLog n_2) told_2 told_3 (log_far n_2) c.mark_out.ensures.calls)
+      (map_on geometry out slot_1 slot_2 dirty told_0 told_1 told_2 (stays_absent slot_1 slot_2 0 (none_comes slot_1 slot_2 c.sync_all.ensures.powers)) (far_ran (IsReadOrSync n_1) told_1 told_2 (quiet_far n_1) (quiet_syncs n_1 _ told_1 told_2 c.sync_all.ensures.calls))
+      (map_read geometry out c.in_default.field-0 slot_1 dirty told_0 told_1 (far_ran (IsReadOrSync n_0) told_0 told_1 (quiet_far n_0) (quiet_reads n_0 told_0 told_1 c.in_default.ensures.read.calls))
+      (λ e is. (c.in_default.ensures.alone e is).1) (λ e is. (c.in_default.ensures.read.left.failed e is).absent) c.in_default.ensures.shows));
+}
 
-pub returns-in-Err-mark_out-clause-each : goal.returns-in-Err-mark_out-clause-each
-returns-in-Err-mark_out-clause-each g c = all_each g (goal.at.returns-in-Err-mark_out-clause-each g c).After-mark_out
+pub returns-in-Err-mark_out : goal.returns-in-Err-mark_out
+returns-in-Err-mark_out g c = record {
+  rows = c.read_map.ensures.rows;
+  narrow = c.read_map.ensures.narrow;
+  slots = c.mark_out.ensures.slots ∙ c.sync_all.ensures.slots ∙ c.in_default.ensures.read.slots;
+  disks = c.mark_out.ensures.disks ∙ c.sync_all.ensures.same.disks ∙ c.in_default.ensures.read.same.disks;
+  epoch = tt;
+  named = tt;
+  version = tt;
+  given = tt;
+  fit = tt;
+  synced = tt;
+  powers = spared_both _ _ _ (both_spared g (goal.at.returns-in-Err-mark_out g c).After-mark_out) c.mark_out.ensures.powers;
+  each = all_each g (goal.at.returns-in-Err-mark_out g c).After-mark_out;
+  two =
+      let at = (goal.at.returns-in-Err-mark_out g c).After-mark_out in
+      let m = c.args.meta.now in
+      two_sooner (n g at) (named_out m.out) _ _ _ _ (both_each g at) (both_spared g at).no_fall c.mark_out.ensures.powers.no_fall
+      (two_at (n g at) _ (named_out m.out) _ (to_mark (λ d. (g.R.Rack.slot (store_rack c.sync_all.new.self) d).power) m) (g.R.Rack.slot (store_rack c.sync_all.new.self)) (slot_3 g at) c.in-Err-mark_out.two
+      (disks_is g at) (named_is g at) (λ d is. let it = marks _ m d c.requires.fit.in_range is in (it.0, it.1)) c.in-Err-mark_out.ensures.two);
+  gone =
+      let at = (goal.at.returns-in-Err-mark_out g c).After-mark_out in
+      let m = c.args.meta.now in
+      let a = g.R.Rack.slot (store_rack c.args.store.now) in
+      let b = g.R.Rack.slot (store_rack c.sync_all.new.self) in
+      let power = (λ (e : ℕ). (b e).power) in
+      let mark = to_mark power m in
+      let two = c.in-Err-mark_out.two in
+      let after = none_comes b (slot_3 g at) c.mark_out.ensures.powers in
+      gone_sooner (n g at) (named_out m.out) a b (slot_3 g at) (none_comes a b (both_spared g at)) (λ d. stays_absent b (slot_3 g at) d after) two
+      (gone_beside (IsOutOfCommit power (n g at) (named_out m.out) mark) (IsOutOfCommit power (n g at) (named_out m.out) None) b (slot_3 g at) two
+      (out_unmarked power (n g at) (named_out m.out) mark (λ d is. let it = marks power m d c.requires.fit.in_range is in (it.0, it.1)))
+      (subst (λ (o : Option ℕ). AreGoneSince (IsOutOfCommit power (n g at) o mark) b (slot_3 g at) two) (named_is g at)
+      (subst (λ (k : ℕ). AreGoneSince (IsOutOfCommit power k c.sync_all.new.self.named mark) b (slot_3 g at) two) (disks_is g at) c.in-Err-mark_out.ensures.gone)));
+  still = all_still g (goal.at.returns-in-Err-mark_out g c).After-mark_out;
+  allowed = all_allowed g (goal.at.returns-in-Err-mark_out g c).After-mark_out;
+  holds = λ slots x said old is r.
+      c.mark_out.ensures.holds slots x said old is (synced_recovers g (goal.at.returns-in-Err-mark_out g c).After-sync_all slots x said old is r);
+  metas = λ slots x said old is r metas.
+      let at = (goal.at.returns-in-Err-mark_out g c).After-sync_all in
+      c.mark_out.ensures.metas slots x said old is (synced_recovers g at slots x said old is r) (synced_metas g at slots x said old is r metas);
+  ends = tt;
+  map = tt;
+}
 
-pub returns-in-Ok-clause-powers : goal.returns-in-Ok-clause-powers
-returns-in-Ok-clause-powers g c = spared_both _ _ _ (both_spared g (goal.at.returns-in-Ok-clause-powers g c).After-mark_out) c.mark_out.ensures.powers
+pub returns-in-Err-sync_all : goal.returns-in-Err-sync_all
+returns-in-Err-sync_all g c = record {
+  rows = c.read_map.ensures.rows;
+  narrow = c.read_map.ensures.narrow;
+  slots = c.sync_all.ensures.slots ∙ c.in_default.ensures.read.slots;
+  disks = c.sync_all.ensures.same.disks ∙ c.in_default.ensures.read.same.disks;
+  epoch = tt;
+  named = tt;
+  version = tt;
+  given = tt;
+  fit = tt;
+  synced = tt;
+  powers = spared_both _ _ _ (first_spared g (goal.at.returns-in-Err-sync_all g c).After-sync_all) c.sync_all.ensures.powers;
+  each =
+      let at = goal.at.returns-in-Err-sync_all g c in
+      each_then _ _ _ c.read_map.ensures.each c.sync_all.ensures.each (first_spared g at.After-sync_all).no_fall c.sync_all.ensures.powers.no_fall;
+  two =
+      let at = goal.at.returns-in-Err-sync_all g c in
+      let same = c.in_default.ensures.read.same in
+      two_sooner c.args.meta.now.setup.geometry.disks (named_out c.args.meta.now.out) _ _ _ _ c.read_map.ensures.each (first_spared g at.After-sync_all).no_fall c.sync_all.ensures.powers.no_fall
+      (rw (← (same.disks ∙ c.requires.disks), ← (same.named ∙ c.requires.named)) c.in-Err-sync_all.ensures.two);
+  gone =
+      let at = (goal.at.returns-in-Err-sync_all g c).After-sync_all in
+      let same = c.in_default.ensures.read.same in
+      let after = none_comes (slot_1 g at) (slot_2 g at) c.sync_all.ensures.powers in
+      let power = (λ (e : ℕ). (slot_1 g at e).power) in
+      let k = c.args.meta.now.setup.geometry.disks in
+      let two = c.in-Err-sync_all.two in
+      gone_sooner k (named_out c.args.meta.now.out) (slot_0 g at) (slot_1 g at) (slot_2 g at)
+      (none_comes (slot_0 g at) (slot_1 g at) (first_spared g at)) (λ d. stays_absent (slot_1 g at) (slot_2 g at) d after) two
+      (subst (λ (o : Option ℕ). AreGoneSince (IsOutOfCommit power k o None) (slot_1 g at) (slot_2 g at) two) (same.named ∙ c.requires.named)
+      (subst (λ (x : ℕ). AreGoneSince (IsOutOfCommit power x c.read_map.new.store.named None) (slot_1 g at) (slot_2 g at) two) (same.disks ∙ c.requires.disks) c.in-Err-sync_all.ensures.gone));
+  still = sync_still g (goal.at.returns-in-Err-sync_all g c).After-sync_all;
+  allowed = sync_allowed g (goal.at.returns-in-Err-sync_all g c).After-sync_all;
+  holds = λ slots x said old is r.
+      (synced_recovers g (goal.at.returns-in-Err-sync_all g c).After-sync_all slots x said old is r).holds;
+  metas = synced_metas g (goal.at.returns-in-Err-sync_all g c).After-sync_all;
+  ends = tt;
+  map = tt;
+}
 
-pub returns-in-Ok-clause-epoch : goal.returns-in-Ok-clause-epoch
-returns-in-Ok-clause-epoch g c = c.in-Ok.ensures.epoch
-
-pub returns-in-Ok-clause-named : goal.returns-in-Ok-clause-named
-returns-in-Ok-clause-named g c = c.in-Ok.ensures.named
-
-pub returns-in-Ok-clause-slots : goal.returns-in-Ok-clause-slots
-returns-in-Ok-clause-slots g c = c.mark_out.ensures.slots ∙ c.sync_all.ensures.slots ∙ c.in_default.ensures.read.slots
-
-pub returns-in-Err-mark_out-clause-slots : goal.returns-in-Err-mark_out-clause-slots
-returns-in-Err-mark_out-clause-slots g c = c.mark_out.ensures.slots ∙ c.sync_all.ensures.slots ∙ c.in_default.ensures.read.slots
-
-pub returns-in-Err-sync_all-clause-slots : goal.returns-in-Err-sync_all-clause-slots
-returns-in-Err-sync_all-clause-slots g c = c.sync_all.ensures.slots ∙ c.in_default.ensures.read.slots
-
-pub returns-in-Ok-clause-disks : goal.returns-in-Ok-clause-disks
-returns-in-Ok-clause-disks g c = c.mark_out.ensures.disks ∙ c.sync_all.ensures.same.disks ∙ c.in_default.ensures.read.same.disks
-
-pub returns-in-Err-mark_out-clause-disks : goal.returns-in-Err-mark_out-clause-disks
-returns-in-Err-mark_out-clause-disks g c = c.mark_out.ensures.disks ∙ c.sync_all.ensures.same.disks ∙ c.in_default.ensures.read.same.disks
-
-pub returns-in-Err-sync_all-clause-disks : goal.returns-in-Err-sync_all-clause-disks
-returns-in-Err-sync_all-clause-disks g c = c.sync_all.ensures.same.disks ∙ c.in_default.ensures.read.same.disks
-
-pub returns-in-Err-clause-slots : goal.returns-in-Err-clause-slots
-returns-in-Err-clause-slots g c = c.in-Err.ensures.two.slots
-
-pub returns-in-Err-clause-disks : goal.returns-in-Err-clause-disks
-returns-in-Err-clause-disks g c = c.in-Err.ensures.two.same.disks
-
-pub returns-in-Err-clause-powers : goal.returns-in-Err-clause-powers
-returns-in-Err-clause-powers g c = c.in-Err.ensures.two.spared
+pub returns-in-Err : goal.returns-in-Err
+returns-in-Err g c = record {
+  rows = c.read_map.ensures.rows;
+  narrow = c.read_map.ensures.narrow;
+  slots = c.in-Err.ensures.two.slots;
+  disks = c.in-Err.ensures.two.same.disks;
+  epoch = tt;
+  named = tt;
+  version = tt;
+  given = tt;
+  fit = tt;
+  synced = tt;
+  powers = c.in-Err.ensures.two.spared;
+  each = c.read_map.ensures.each;
+  two =
+      let at = goal.at.returns-in-Err g c in
+      two_by_out c.args.meta.now.setup.geometry.disks (named_out c.args.meta.now.out) _ _ _ _ (out_by g at.After-read_map) c.in-Err.ensures.two.down;
+  gone =
+      let at = (goal.at.returns-in-Err g c).After-read_map in
+      let out = store_out g.R.Rack.slot c.args.store.now in
+      let a = g.R.Rack.slot (store_rack c.args.store.now) in
+      gone_beside (λ d. out ≡ Some d) (out_at g at a None) a (g.R.Rack.slot (store_rack c.read_map.new.store)) _
+      (out_by_name (λ d. (a d).power) c.args.meta.now.setup.geometry.disks (named_out c.args.meta.now.out) out (out_by g at)) c.in-Err.ensures.gone;
+  still = map_still g (goal.at.returns-in-Err g c).After-read_map (quiet_reads c.args.store.now.disks _ _ c.in-Err.ensures.two.calls);
+  allowed = map_allowed g (goal.at.returns-in-Err g c).After-read_map;
+  holds = λ slots x said old is r.
+      let n_is = on said c.args.meta.now c.args.store.now.disks c.requires.disks is in
+      (quiet_recovers slots x said old (g.R.Rack.told (store_rack c.args.store.now)) (g.R.Rack.told (store_rack c.read_map.new.store))
+      (subst (λ (n : ℕ). Ran (g.R.Rack.told (store_rack c.args.store.now)) (g.R.Rack.told (store_rack c.read_map.new.store)) (EachCall (IsReadOrSync n))) n_is (quiet_reads c.args.store.now.disks _ _ c.in-Err.ensures.two.calls)) r).holds;
+  metas = λ slots x said old is r metas.
+      read_metas g (goal.at.returns-in-Err g c).After-read_map slots x said old is (quiet_reads c.args.store.now.disks _ _ c.in-Err.ensures.two.calls) r metas;
+  ends = tt;
+  map = tt;
+}
 
 pub mark_out-requires-clause-disks : goal.mark_out-requires-clause-disks
 mark_out-requires-clause-disks g c = c.sync_all.ensures.same.disks ∙ c.in_default.ensures.read.same.disks ∙ c.requires.disks

@@ -1,4 +1,4 @@
-use Rattle.std.specs.Prelude.{◌≡◌, ◌+◌, ℕ, [], Option, Some, None}
+use Rattle.std.specs.Prelude.{◌≡◌, ◌≢◌, ◌+◌, ℕ, [], Option, Some, None}
 use Rattle.std.proofs.Common.{ap, arith, inl, refl, subst, sym, ◌∙◌}
 use Rattle.std.proofs.lemmas.Bool.Decides.{nat_tests}
 use Rattle.paraid_rack.specs.Told.{Ran}
@@ -14,6 +14,10 @@ use Rattle.paraid_recover.specs.HeldMoments.{EndsHeld, Recovers, RecoversHeld}
 use Rattle.paraid_recover.specs.Quiet.{IsInLog}
 use Rattle.paraid_recover.specs.MountCalls.{OnlyMountCalls}
 use Rattle.paraid_recover.specs.RecoveryMark.{of_version_two}
+use Rattle.paraid_recover.proofs.RaisedLemmas.{none_done_if}
+use Rattle.paraid_recover.proofs.SyncedLemmas.{nothing_failed, nothing_lost}
+use Rattle.paraid_recover.proofs.RenewLemmas.{renewed_two}
+use Rattle.paraid_rack.proofs.TrailsLemmas.{Ran-none}
 use Rattle.paraid_recover.proofs.FitLemmas.{two_named}
 use Rattle.paraid_recover.proofs.GoneLemmas.{gone_beside, out_named_twice}
 use Rattle.paraid_recover.proofs.MountCallsLemmas.{no_calls, renew_calls}
@@ -24,14 +28,6 @@ use Rattle.paraid_recover.proofs.RenewLemmas.{after, next_renewed, one_kept, ren
 use Rattle.paraid_recover.proofs.recovery.renew.Given.{Over}
 use Rattle.paraid_recover.proofs.recovery.renew.Goals as goal
 use Rattle.paraid_recover.proofs.recovery.renew.Goals.{After-commit}
-
--- no commit is made
-pub returns-then-meta-ne1-clause-one : goal.returns-then-meta-ne1-clause-one
-returns-then-meta-ne1-clause-one g c one = subst (λ (o : Option ℕ). IsOneOut c.args.store.now.disks o (g.R.Rack.slot c.args.store.now.rack)) c.requires.named one
-
-pub returns-then-meta-ne1-clause-ends : goal.returns-then-meta-ne1-clause-ends
-returns-then-meta-ne1-clause-ends g c slots x said old is recovers =
-    subst (λ (m : Meta). EndsHeld slots x said m old (g.R.Rack.told c.args.store.now.rack)) is recovers.ends
 
 -- the commit
 abbrev told_0 : (g : Over) (c : After-commit g) → Option Trail
@@ -57,77 +53,34 @@ log_calls g c =
     (EachCall-milder (Uses next []) (IsInLog c.args.store.now.disks) (λ call uses. subst (λ (n : ℕ). IsInLog n call) (sym c.requires.disks) (in_log next call uses)))
     (subst (λ (b : Batch). Ran (told_0 g c) (told_1 g c) (EachCall (Uses next b))) c.requires.empty c.commit.ensures.calls)
 
-pub returns-in_err-commit-clause-calls : goal.returns-in_err-commit-clause-calls
-returns-in_err-commit-clause-calls g c = log_calls g (goal.at.returns-in_err-commit-clause-calls g c).After-commit
-
 -- which a mount may make
 allowed : (g : Over) (c : After-commit g) → OnlyMountCalls c.args.meta.now (told_0 g c) (told_1 g c)
 allowed g c =
     renew_calls c.args.meta.now (told_0 g c) (told_1 g c) (subst (λ (b : Batch). Ran (told_0 g c) (told_1 g c) (EachCall (Uses (of_version_two c.args.meta.now) b))) c.requires.empty c.commit.ensures.calls)
 
-pub returns-in_err-commit-clause-allowed : goal.returns-in_err-commit-clause-allowed
-returns-in_err-commit-clause-allowed g c = allowed g (goal.at.returns-in_err-commit-clause-allowed g c).After-commit
-
-pub returns-clause-allowed : goal.returns-clause-allowed
-returns-clause-allowed g c = allowed g (goal.at.returns-clause-allowed g c).After-commit
-
-pub returns-then-meta-ne1-clause-allowed : goal.returns-then-meta-ne1-clause-allowed
-returns-then-meta-ne1-clause-allowed g c = no_calls c.args.meta.now (g.R.Rack.told c.args.store.now.rack)
-
-pub returns-in_err-commit-clause-two : goal.returns-in_err-commit-clause-two
-returns-in_err-commit-clause-two g c =
-    let n = c.args.store.now.disks in
-    let named = c.args.store.now.named in
-    let a = g.R.Rack.slot c.args.store.now.rack in
-    let b = g.R.Rack.slot c.commit.new.self.rack in
-    raised _ _ _ c.from_residual.ensures.1
-    (two_named n named a b c.in_err-commit.field-0.0
-    (subst (λ (o : Option ℕ). AreTwoDownBeside (IsOutOfCommit (λ e. (a e).power) n named o) a b c.in_err-commit.field-0.0) (sym c.requires.named) c.in_err-commit.ensures.two))
-
-pub returns-in_err-commit-clause-gone : goal.returns-in_err-commit-clause-gone
-returns-in_err-commit-clause-gone g c =
-    let n = c.args.store.now.disks in
-    let named = c.args.store.now.named in
-    let a = g.R.Rack.slot c.args.store.now.rack in
-    let b = g.R.Rack.slot c.commit.new.self.rack in
-    let power = (λ (e : ℕ). (a e).power) in
-    raised _ _ _ c.from_residual.ensures.1
-    (gone_beside (IsOutOfCommit power n named named) (IsOutOfCommit power n named None) a b c.in_err-commit.field-0.0 (out_named_twice power n named)
-    (subst (λ (o : Option ℕ). AreGoneSince (IsOutOfCommit power n named o) a b c.in_err-commit.field-0.0) (sym c.requires.named) c.in_err-commit.ensures.gone))
-
-pub returns-in_err-commit-clause-holds : goal.returns-in_err-commit-clause-holds
-returns-in_err-commit-clause-holds g c = holds g (goal.at.returns-in_err-commit-clause-holds g c).After-commit
-
-pub returns-clause-one : goal.returns-clause-one
-returns-clause-one g c one =
-    let n = c.args.store.now.disks in
-    let named = c.args.store.now.named in
-    let a = g.R.Rack.slot c.args.store.now.rack in
-    let b = g.R.Rack.slot c.commit.new.self.rack in
-    let it = c.in_ok-commit in
-    subst (λ (o : Option ℕ). IsOneOut n o b) c.requires.named
-    (one_kept n named it.field-0 a b it.ensures.well
-    (subst (λ (o : Option ℕ). (d : ℕ) → it.field-0 ≡ Some d → IsAlone n (IsOutOfCommit (λ e. (a e).power) n named o) d) (sym c.requires.named) it.ensures.alone) one)
-
-pub returns-clause-calls : goal.returns-clause-calls
-returns-clause-calls g c = log_calls g (goal.at.returns-clause-calls g c).After-commit
-
-pub returns-clause-holds : goal.returns-clause-holds
-returns-clause-holds g c = holds g (goal.at.returns-clause-holds g c).After-commit
-
-pub returns-clause-ends : goal.returns-clause-ends
-returns-clause-ends g c slots x said old is recovers =
-    let at = (goal.at.returns-clause-ends g c).After-commit in
-    let m = c.args.meta.now in
-    let epoch : c.epoch.result ≡ m.epoch + 1 = c.epoch.ensures ∙ c.in_ok-commit.ensures.epoch ∙ ap (λ (k : ℕ). k + 1) c.requires.epoch in
-    let commits : EndsCommitted (told_0 g at) (told_1 g at) m (after m) [] =
-    subst (λ (b : Batch). EndsCommitted (told_0 g at) (told_1 g at) m (after m) b) c.requires.empty
-    (subst (λ (e : ℕ). EndsCommitted (told_0 g at) (told_1 g at) m (record m { version = 2; epoch = e + 1 }) c.args.nothing.now) c.requires.epoch
-    (c.in_ok-commit.ensures.committed m c.requires.named)) in
-    subst (λ (e : ℕ). EndsHeld slots x said (record m { version = 2; epoch = e }) old (told_1 g at)) (sym epoch)
-    (subst (λ (n : Meta). EndsHeld slots x said (after n) old (told_1 g at)) is
-    (renew_ends slots x said old (told_0 g at) (told_1 g at) recovers.holds recovers.ends (whole g at said.meta is)
-    (subst (λ (n : Meta). EndsCommitted (told_0 g at) (told_1 g at) n (after n) []) (sym is) commits)))
+pub returns-then-meta-ne1 : goal.returns-then-meta-ne1
+returns-then-meta-ne1 g c = record {
+  slots = refl;
+  disks = refl;
+  given =
+      let test = c.if-meta-ne1.true in
+      let not : c.args.meta.now.version ≢ 1 = grind (arith, nat_tests, test) in
+      sym (renewed_two c.args.meta.now not);
+  epoch = sym c.requires.epoch;
+  named = sym c.requires.named;
+  powers = nothing_lost _;
+  each = nothing_failed _;
+  synced = λ d there is. inl is;
+  one = λ one. subst (λ (o : Option ℕ). IsOneOut c.args.store.now.disks o (g.R.Rack.slot c.args.store.now.rack)) c.requires.named one;
+  calls = Ran-none (EachCall (IsInLog c.args.store.now.disks)) (λ s. tt) (g.R.Rack.told c.args.store.now.rack);
+  allowed = no_calls c.args.meta.now (g.R.Rack.told c.args.store.now.rack);
+  two = tt;
+  gone = tt;
+  holds = λ slots x said old is recovers. recovers.holds;
+  metas = λ slots x said old is recovers before. before;
+  ends = λ slots x said old is recovers.
+      subst (λ (m : Meta). EndsHeld slots x said m old (g.R.Rack.told c.args.store.now.rack)) is recovers.ends;
+}
 
 -- which meta stands in the commit
 metas : (g : Over) (c : After-commit g) → c.args.meta.now.version ≡ 1 → (slots x : ℕ) (said : LogState) (old : Option Trail) → said.meta ≡ c.args.meta.now → Recovers slots x said old (told_0 g c)
@@ -136,14 +89,85 @@ metas g c one slots x said old is recovers before =
     committed_metas slots x said old (told_0 g c) (told_1 g c) (after said.meta) None (sym (renewed_one said.meta (ap (λ (m : Meta). m.version) is ∙ one))) refl (λ t tells d name. inl name)
     (next_renewed said.meta) before recovers.ends (whole g c said.meta is)
 
-pub returns-in_err-commit-clause-metas : goal.returns-in_err-commit-clause-metas
-returns-in_err-commit-clause-metas g c =
-    let not = c.if-meta-ne1.false in
-    let one : c.args.meta.now.version ≡ 1 = grind (arith, nat_tests, not) in
-    metas g (goal.at.returns-in_err-commit-clause-metas g c).After-commit one
+pub returns-in_err-commit : goal.returns-in_err-commit
+returns-in_err-commit g c = record {
+  slots = c.commit.ensures.slots;
+  disks = c.commit.ensures.disks;
+  given = none_done_if _ c.from_residual.result _ c.from_residual.ensures.1;
+  epoch = none_done_if _ c.from_residual.result _ c.from_residual.ensures.1;
+  named = none_done_if _ c.from_residual.result _ c.from_residual.ensures.1;
+  powers = c.commit.ensures.powers;
+  each = c.commit.ensures.each;
+  synced = none_done_if _ c.from_residual.result _ c.from_residual.ensures.1;
+  one = none_done_if _ c.from_residual.result _ c.from_residual.ensures.1;
+  calls = log_calls g (goal.at.returns-in_err-commit g c).After-commit;
+  allowed = allowed g (goal.at.returns-in_err-commit g c).After-commit;
+  two =
+      let n = c.args.store.now.disks in
+      let named = c.args.store.now.named in
+      let a = g.R.Rack.slot c.args.store.now.rack in
+      let b = g.R.Rack.slot c.commit.new.self.rack in
+      raised _ _ _ c.from_residual.ensures.1
+      (two_named n named a b c.in_err-commit.field-0.0
+      (subst (λ (o : Option ℕ). AreTwoDownBeside (IsOutOfCommit (λ e. (a e).power) n named o) a b c.in_err-commit.field-0.0) (sym c.requires.named) c.in_err-commit.ensures.two));
+  gone =
+      let n = c.args.store.now.disks in
+      let named = c.args.store.now.named in
+      let a = g.R.Rack.slot c.args.store.now.rack in
+      let b = g.R.Rack.slot c.commit.new.self.rack in
+      let power = (λ (e : ℕ). (a e).power) in
+      raised _ _ _ c.from_residual.ensures.1
+      (gone_beside (IsOutOfCommit power n named named) (IsOutOfCommit power n named None) a b c.in_err-commit.field-0.0 (out_named_twice power n named)
+      (subst (λ (o : Option ℕ). AreGoneSince (IsOutOfCommit power n named o) a b c.in_err-commit.field-0.0) (sym c.requires.named) c.in_err-commit.ensures.gone));
+  holds = holds g (goal.at.returns-in_err-commit g c).After-commit;
+  metas =
+      let not = c.if-meta-ne1.false in
+      let one : c.args.meta.now.version ≡ 1 = grind (arith, nat_tests, not) in
+      metas g (goal.at.returns-in_err-commit g c).After-commit one;
+  ends = none_done_if _ c.from_residual.result _ c.from_residual.ensures.1;
+}
 
-pub returns-clause-metas : goal.returns-clause-metas
-returns-clause-metas g c =
-    let not = c.if-meta-ne1.false in
-    let one : c.args.meta.now.version ≡ 1 = grind (arith, nat_tests, not) in
-    metas g (goal.at.returns-clause-metas g c).After-commit one
+pub returns : goal.returns
+returns g c = record {
+  slots = c.commit.ensures.slots;
+  disks = c.commit.ensures.disks;
+  given =
+      let not = c.if-meta-ne1.false in
+      let one : c.args.meta.now.version ≡ 1 = grind (arith, nat_tests, not) in
+      ap (λ (e : ℕ). record c.args.meta.now { version = 2; epoch = e }) (c.epoch.ensures ∙ c.in_ok-commit.ensures.epoch ∙ ap (λ (k : ℕ). k + 1) c.requires.epoch) ∙ sym (renewed_one c.args.meta.now one);
+  epoch = c.epoch.ensures;
+  named = sym c.in_ok-commit.ensures.named;
+  powers = c.commit.ensures.powers;
+  each = c.commit.ensures.each;
+  synced = c.in_ok-commit.ensures.synced;
+  one = λ one.
+      let n = c.args.store.now.disks in
+      let named = c.args.store.now.named in
+      let a = g.R.Rack.slot c.args.store.now.rack in
+      let b = g.R.Rack.slot c.commit.new.self.rack in
+      let it = c.in_ok-commit in
+      subst (λ (o : Option ℕ). IsOneOut n o b) c.requires.named
+      (one_kept n named it.field-0 a b it.ensures.well
+      (subst (λ (o : Option ℕ). (d : ℕ) → it.field-0 ≡ Some d → IsAlone n (IsOutOfCommit (λ e. (a e).power) n named o) d) (sym c.requires.named) it.ensures.alone) one);
+  calls = log_calls g (goal.at.returns g c).After-commit;
+  allowed = allowed g (goal.at.returns g c).After-commit;
+  two = tt;
+  gone = tt;
+  holds = holds g (goal.at.returns g c).After-commit;
+  metas =
+      let not = c.if-meta-ne1.false in
+      let one : c.args.meta.now.version ≡ 1 = grind (arith, nat_tests, not) in
+      metas g (goal.at.returns g c).After-commit one;
+  ends = λ slots x said old is recovers.
+      let at = (goal.at.returns g c).After-commit in
+      let m = c.args.meta.now in
+      let epoch : c.epoch.result ≡ m.epoch + 1 = c.epoch.ensures ∙ c.in_ok-commit.ensures.epoch ∙ ap (λ (k : ℕ). k + 1) c.requires.epoch in
+      let commits : EndsCommitted (told_0 g at) (told_1 g at) m (after m) [] =
+      subst (λ (b : Batch). EndsCommitted (told_0 g at) (told_1 g at) m (after m) b) c.requires.empty
+      (subst (λ (e : ℕ). EndsCommitted (told_0 g at) (told_1 g at) m (record m { version = 2; epoch = e + 1 }) c.args.nothing.now) c.requires.epoch
+      (c.in_ok-commit.ensures.committed m c.requires.named)) in
+      subst (λ (e : ℕ). EndsHeld slots x said (record m { version = 2; epoch = e }) old (told_1 g at)) (sym epoch)
+      (subst (λ (n : Meta). EndsHeld slots x said (after n) old (told_1 g at)) is
+      (renew_ends slots x said old (told_0 g at) (told_1 g at) recovers.holds recovers.ends (whole g at said.meta is)
+      (subst (λ (n : Meta). EndsCommitted (told_0 g at) (told_1 g at) n (after n) []) (sym is) commits)));
+}
