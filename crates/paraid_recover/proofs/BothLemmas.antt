@@ -1,5 +1,5 @@
 -- Both log disks are read, and one of them or both may be lost.
-use Rattle.std.specs.Prelude.{◌≡◌, ◌≢◌, ℕ, false, Option, Some, None, Result, Ok, Err, OnOk, IfOk}
+use Rattle.std.specs.Prelude.{◌≡◌, ◌≢◌, ℕ, false, Option, Some, None, Result, Ok, Err, IfOk}
 use Rattle.std.proofs.Common.{refl, sym, ◌∙◌, ap, subst, inl, inr}
 use Rattle.paraid_rack.specs.Disks.{Disks, is_present, lose}
 use Rattle.paraid_rack.specs.Trail.{Trail, now}
@@ -63,11 +63,6 @@ module _ {old mid new : Option Trail} where
 
 pub one_of_two : {old new : Option Trail} → IsReadOnly old new → IsReadLosing old new
 one_of_two only start = upto (λ s x. inl x) (milder (λ s x. inl x) (only start))
-
--- what is told of an answer that is Ok
-pub ok_is : {A E P : Type 0} (r : Result A E) (a : A) → r ≡ Ok a → OnOk r P → P
-ok_is (Ok b) a is p = p
-ok_is (Err e) a is p = cc
 
 pub if_ok_is : {A E : Type 0} (P : A → Type 0) (r : Result A E) (a : A) → r ≡ Ok a → IfOk r P → P a
 if_ok_is P (Ok b) a is p = let same : b ≡ a = cc in subst P same p

@@ -1,9 +1,8 @@
 -- What reads of log disks leave of the slots, and which calls they are.
-use Rattle.std.specs.Prelude.{◌≡◌, ◌≢◌, ◌⊎◌, ℕ, ◌≤◌, ◌<◌, Bool, true, false, List, [], ◌∷◌, ◌++◌, ◌+◌, Option, Some, None, Result, Ok, Err, IfErr, is_ok}
+use Rattle.std.specs.Prelude.{◌≡◌, ◌≢◌, ◌⊎◌, ℕ, ◌≤◌, ◌<◌, Bool, true, false, List, [], ◌∷◌, ◌++◌, ◌+◌, Option, None}
 use Rattle.std.proofs.Common.{zero, suc, refl, sym, ◌∙◌, ap, subst, arith, inl, inr}
 use Rattle.std.proofs.lemmas.Bool.{cases_eq, true≢false}
 use Rattle.std.proofs.lemmas.List.{length-append}
-use Rattle.paraid_base.specs.declared.fault.Failed.{Failed}
 use Rattle.paraid_base.specs.declared.fault.Two.{Two}
 use Rattle.paraid_base.specs.Told.{HasRisen}
 use Rattle.paraid_base.proofs.ToldLemmas.{HasRisen-later, HasRisen-sooner}
@@ -11,12 +10,12 @@ use Rattle.paraid_rack.specs.declared.call.Call.{Call}
 use Rattle.paraid_rack.specs.declared.call.Call.TheVariants.{Read, Write, Sync, Park, SpinUp, Attach}
 use Rattle.paraid_rack.specs.declared.call.Power.TheVariants.{Absent, Spinning}
 use Rattle.paraid_rack.specs.Disks.{Disks, is_present, step}
-use Rattle.paraid_rack.specs.Slots.{Slot, ChangesOneSlot, AreSameSlots}
+use Rattle.paraid_rack.specs.Slots.{Slot, AreSameSlots}
 use Rattle.paraid_rack.specs.Told.{GrowsByCall, Ran}
-use Rattle.paraid_rack.specs.Trail.{Trail, extend, now, run}
+use Rattle.paraid_rack.specs.Trail.{Trail, extend, run}
 use Rattle.paraid_rack.proofs.TrailsLemmas.{Ran-call, Ran-none, Ran-then, extend-extend}
 use Rattle.paraid_txn.specs.Losses.{AreFailedOrWell, OnlyLosesSlots, AreTwoDownBeside, IsWell}
-use Rattle.paraid_txn.specs.Uses.{EachCall, IsThisCall, UsesLog}
+use Rattle.paraid_txn.specs.Uses.{EachCall, UsesLog}
 use Rattle.paraid_txn.proofs.CommitPartLemmas.{EachCall-milder, ran_milder}
 use Rattle.paraid_recover.specs.HeardSides.{AreBothLost, AtMost, IsFailed, ReadsLog, ReadsLogs, gone_pair}
 
@@ -36,11 +35,6 @@ failed_before {s} {t} {u} {d} same f = record {
   gone = ap (λ (x : Slot). x.power) same ∙ f.gone;
 }
 
-pub read_failed : {old new : ℕ → Slot} {disk : ℕ} {leaves : Slot} {dirt : Bool} (result : Result (Unit {0}) Failed) → ChangesOneSlot old new disk leaves dirt (is_ok result)
-    → IfErr result (λ failed. IsFailed old new disk)
-read_failed (Ok it) touched = tt
-read_failed (Err e) touched = record { risen = touched.risen refl; later = touched.later refl; gone = touched.absent refl }
-
 -- Calls
 
 calls_append : (u : Call → Type 0) (s : Disks) (cs ds : List Call) → EachCall u s cs → EachCall u (run s cs) ds → EachCall u s (cs ++ ds)
@@ -49,19 +43,6 @@ calls_append u s (c ∷ cs) ds first second = (first.0, first.1, calls_append u 
 
 pub calls_then : (u : Call → Type 0) {old mid new : Option Trail} → Ran old mid (EachCall u) → Ran mid new (EachCall u) → Ran old new (EachCall u)
 calls_then u {old} {mid} {new} first second = Ran-then (EachCall u) (calls_append u) old mid new first second
-
-pub read_calls : {old new : Option Trail} {d p : ℕ} {done : Bool} → ((s : Trail) → old ≡ Some s → (now s).power d ≡ Spinning) → GrowsByCall old new (Read d p done)
-    → Ran old new (EachCall (IsThisCall None d (λ done. Read d p done)))
-read_calls {old} {new} {d} {p} {done} spins grows =
-    Ran-call (EachCall (IsThisCall None d (λ done. Read d p done))) old new (Read d p done) grows (λ s is. (spins s is, (none_is_not d, done, refl), tt))
-  where
-    none_is_not : (e : ℕ) → None ≢ Some e
-    none_is_not e = λ is. cc
-
-pub log_calls : {old new : Option Trail} {x p : ℕ} → p < 100 → Ran old new (EachCall (IsThisCall None x (λ done. Read x p done))) → Ran old new (EachCall (ReadsLog x))
-log_calls {old} {new} {x} {p} low ran =
-    ran_milder (EachCall (IsThisCall None x (λ done. Read x p done))) (EachCall (ReadsLog x))
-    (EachCall-milder (IsThisCall None x (λ done. Read x p done)) (ReadsLog x) (λ c is. subst (ReadsLog x) (sym is.2) (refl, low))) ran
 
 pub uses_calls : {old new : Option Trail} {x : ℕ} → x < 2 → Ran old new (EachCall (ReadsLog x)) → Ran old new (EachCall (UsesLog None))
 uses_calls {old} {new} {x} low ran = ran_milder (EachCall (ReadsLog x)) (EachCall (UsesLog None)) (EachCall-milder (ReadsLog x) (UsesLog None) uses) ran

@@ -1,5 +1,5 @@
 -- Reads leave the disks as they are.
-use Rattle.std.specs.Prelude.{◌≡◌, ◌⊎◌, ℕ, ◌≤◌, ◌<◌, ◌+◌, ◌&&◌, nat_lt, Bool, true, false, [], ◌∷◌, ◌++◌, Option, Some, Result, Ok, Err, OnOk, IfErr, is_ok, length, if◌then◌else◌}
+use Rattle.std.specs.Prelude.{◌≡◌, ◌⊎◌, ℕ, ◌≤◌, ◌<◌, ◌+◌, ◌&&◌, nat_lt, Bool, true, false, [], ◌∷◌, ◌++◌, Option, Some, Result, Ok, Err, OnOk, is_ok, length, if◌then◌else◌}
 use Rattle.std.proofs.Common.{refl, sym, ◌∙◌, ap, arith, inl, inr, suc}
 use Rattle.std.proofs.lemmas.Bool.{cases_eq}
 use Rattle.std.proofs.lemmas.Bool.Decides.{nat_tests}
@@ -78,14 +78,6 @@ logged_more log p (v ∷ batch) w logged is =
 
 -- what a read answers
 module _ {E : Type 0} {old new : Option Trail} {d p : ℕ} where
-  pub ok_unchanged : (r : Result (Unit {0}) E) → GrowsByCall old new (Read d p (is_ok r)) → OnOk r (IsUnchanged old new)
-  ok_unchanged (Ok it) grows = unchanged_read grows
-  ok_unchanged (Err e) grows = tt
-
-  pub err_losing : (r : Result (Unit {0}) E) → GrowsByCall old new (Read d p (is_ok r)) → IfErr r (λ failed. IsLosing d old new)
-  err_losing (Ok it) grows = tt
-  err_losing (Err e) grows = losing_read grows
-
   pub ok_block : (b : Block) (r : Result (Unit {0}) E) → GrowsByCall old new (Read d p (is_ok r)) → OnOk r ((t : Trail) → old ≡ Some t → b ≡ (now t).block d p)
       → ((s : Trail) → old ≡ Some s → IsPresent (now s) d × (p < (now s).size d)) → OnOk r ((t : Trail) → new ≡ Some t → b ≡ stored_block (now t) d p)
   ok_block b (Err e) grows bytes there = tt
@@ -98,12 +90,3 @@ module _ {E : Type 0} {old new : Option Trail} {d p : ℕ} where
 pub carried : {old new : Option Trail} (b : Block) (d p : ℕ) → IsUnchanged old new → ((s : Trail) → old ≡ Some s → b ≡ stored_block (now s) d p)
     → (t : Trail) → new ≡ Some t → b ≡ stored_block (now t) d p
 carried b d p same was t tells = let u = unchanged_now same t tells in was u.0 u.1 ∙ ap (λ (s : Disks). stored_block s d p) (sym u.2)
-
--- what is told of a failure, whatever its error
-pub if_any : {A E P : Type 0} (r : Result A E) → P → IfErr r (λ e. P)
-if_any (Ok it) p = tt
-if_any (Err e) p = p
-
-pub if_err_weaker : {A E P Q : Type 0} (r : Result A E) → (P → Q) → IfErr r (λ e. P) → IfErr r (λ e. Q)
-if_err_weaker (Ok it) go p = tt
-if_err_weaker (Err e) go p = go p
