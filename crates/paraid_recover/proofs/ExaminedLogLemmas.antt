@@ -93,6 +93,10 @@ pub not_true : (b : Bool) → not b ≡ true → b ≡ false
 not_true true is = cc
 not_true false is = refl
 
+pub not_false : (b : Bool) → not b ≡ false → b ≡ true
+not_false true is = refl
+not_false false is = cc
+
 -- At odds
 
 module _ (sides : Sides) (a b : Batch) (m n : Meta) (first : sides.first ≡ Some (Formed true m)) (second : sides.second ≡ Some (Formed true n)) where

@@ -1,17 +1,45 @@
 use Rattle.std.specs.Prelude.{ℕ}
-use Rattle.std.proofs.Common.{arith, subst, sym, ◌∙◌}
+use Rattle.std.proofs.Common.{arith, refl, subst, sym, ◌∙◌}
 use Rattle.paraid_recover.specs.Order.{IsNotRefused}
 use Rattle.paraid_txn.specs.Resume.{log_state}
 use Rattle.paraid_txn.specs.Stores.{store_rack}
 use Rattle.paraid_dirty.specs.Table.{is_dirty}
 use Rattle.paraid_recover.specs.Mount.{HasSettled}
-use Rattle.paraid_recover.specs.Mount.IsCauseOfRefusal.{examined, two_down}
+use Rattle.paraid_recover.specs.Mount.IsCauseOfRefusal.{examined, no_memory, two_down}
+use Rattle.paraid_rack.proofs.TrailsLemmas.{Ran-none}
+use Rattle.paraid_txn.specs.Uses.{EachCall}
+use Rattle.paraid_recover.specs.HeardSides.{ReadsLogs}
+use Rattle.paraid_recover.proofs.BothLemmas.{both_read, one_of_two}
+use Rattle.paraid_recover.proofs.UnchangedLemmas.{unchanged_none}
 use Rattle.paraid_recover.proofs.ExaminedLemmas.{fit_examined}
 use Rattle.paraid_recover.proofs.MapServedLemmas.{map_sooner}
 use Rattle.paraid_recover.proofs.MountCallsLemmas.{reads_then}
 use Rattle.paraid_recover.proofs.mounting.mount.Given.{Over}
 use Rattle.paraid_recover.proofs.mounting.mount.Goals as goal
 use Rattle.paraid_recover.proofs.mounting.mount.Goals.{In-Ok-bring_up}
+
+pub returns-in_default : goal.returns-in_default
+returns-in_default g c = record {
+  slots = tt;
+  servable = tt;
+  nothing = tt;
+  served = tt;
+  refused = no_memory refl (record {
+    calls = Ran-none (EachCall ReadsLogs) (λ s. tt) (g.R.Rack.told c.args.rack);
+    quiet = one_of_two (both_read (unchanged_none (g.R.Rack.told c.args.rack)) (unchanged_none (g.R.Rack.told c.args.rack)));
+  });
+  refused_later = λ d. omega arith;
+}
+
+pub returns-in_default-new : goal.returns-in_default-new
+returns-in_default-new g c = record {
+  slots = tt;
+  servable = tt;
+  nothing = tt;
+  served = tt;
+  refused = no_memory refl (record { calls = c.examine.ensures.calls; quiet = c.examine.ensures.quiet });
+  refused_later = c.examine.ensures.powers.no_fall;
+}
 
 pub returns-in-Err : goal.returns-in-Err
 returns-in-Err g c = record {

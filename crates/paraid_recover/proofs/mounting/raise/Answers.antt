@@ -218,7 +218,7 @@ returns g c = record {
       let a = g.R.Rack.slot (store_rack c.settle.new.store) in
       let b = g.R.Rack.slot (store_rack c.power_disks.new.store) in
       let o = to_mark (λ d. (b d).power) m in
-      subst (λ (x : Meta). IsServable (g.R.Rack.slot_count (store_rack c.power_disks.new.store)) b c.power_disks.new.store.epoch c.power_disks.new.store.disks c.power_disks.new.store.named x (length c.settle.new.table)) (sym c.with_loss.ensures)
+      subst (λ (x : Meta). IsServable (g.R.Rack.slot_count (store_rack c.power_disks.new.store)) b c.power_disks.new.store.epoch c.power_disks.new.store.disks c.power_disks.new.store.named x (length c.settle.new.table)) {x = with_loss m o} (sym c.with_loss.ensures)
       (subst (λ (k : ℕ). IsServable k b c.power_disks.new.store.epoch c.power_disks.new.store.disks c.power_disks.new.store.named (with_loss m o) (length c.settle.new.table)) (sym part.slots)
       (servable (g.R.Rack.slot_count (store_rack c.settle.new.store)) a b m c.in-Ok.ensures.fit part.turned part.powered (part.one c.in-Ok.ensures.fit.one) o refl
       c.power_disks.new.store.epoch c.power_disks.new.store.disks (length c.settle.new.table) c.power_disks.new.store.named

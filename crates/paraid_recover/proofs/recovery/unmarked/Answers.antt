@@ -1,5 +1,5 @@
 use Rattle.std.specs.Prelude.{◌≡◌, ℕ, Option, Some, None}
-use Rattle.std.proofs.Common.{sym, ap, ◌∙◌, rules}
+use Rattle.std.proofs.Common.{sym, ap, ◌∙◌}
 use Rattle.paraid_image.specs.Out.{first_absent, named_out, or_else}
 use Rattle.paraid_base.specs.declared.state.Out.{Out}
 use Rattle.paraid_rack.specs.declared.call.Power.{Power}
@@ -22,7 +22,7 @@ returns-in-No g c = record {
       let none : c.args.store.now.named ≡ None = c.requires.named ∙ ap named_out c.in-No.is in
       c.out.ensures ∙ ap (λ (o : Option ℕ). or_else o (first_absent power c.args.store.now.disks)) none
       ∙ ap (first_absent power) c.requires.disks ∙ sym (ap (λ (o : Out). to_mark_by o power c.args.meta.now.setup.geometry.disks) c.in-No.is);
-  only = search rules;
+  only = λ d e is name. let z : None ≡ Some e = sym (ap named_out c.in-No.is) ∙ name in cc;
   absent = λ d is.
       let at = goal.at.returns-in-No g c in
       absent_power _ (first_absent_is _ c.args.store.now.disks d (found g at.After-out d is)).1;
