@@ -10,6 +10,8 @@ use Rattle.paraid_rack.specs.Disks.{is_present}
 use Rattle.paraid_rack.specs.Slots.{Slot}
 use Rattle.paraid_record.specs.declared.meta.Meta.{Meta}
 use Rattle.paraid_record.specs.declared.meta.Setup.{Setup}
+use Rattle.paraid_txn.specs.Ready.{IsLogReady}
+use Rattle.paraid_txn.specs.Uses.{CanSync}
 use Rattle.paraid_txn.specs.Losses.{AreFailedOrWell, IsSyncedAt, OnlyLosesSlots, StaySynced}
 use Rattle.paraid_recover.specs.Mounted.{AreAllSynced}
 use Rattle.paraid_recover.specs.RecoveryMark.{renewed_by, to_mark, to_mark_by, with_mark}
@@ -50,3 +52,25 @@ marked_synced b c m skip k skip_is k_is synced spared stays d low not there = sp
     split : (x : Bool) → (c d).unsynced ≡ x → (c d).unsynced ≡ false
     split false is = is
     split true is = elim (stays d there is) [ inl was ↦ absurd (true≢false (sym was ∙ before)) | inr none ↦ absurd none ]
+
+-- what can be synced and written before slots are lost can be so after it
+module _ (a b : ℕ → Slot) (spared : OnlyLosesSlots a b) where
+  was_there : (d : ℕ) → is_present (b d).power ≡ true → is_present (a d).power ≡ true
+  was_there d here = ap is_present (sym (spared.power d here)) ∙ here
+
+  pub sync_kept : (n k : ℕ) (out skip : Option ℕ) → k ≡ n → skip ≡ out → CanSync n out a → CanSync k skip b
+  sync_kept n k out skip same skips can = record {
+    within = λ d low not spins.
+        let here = ap is_present spins in
+        let size = spared.size d here in
+        let within = can.within d (omega arith) (λ is. not (skips ∙ is)) (sym (spared.power d here) ∙ spins) in
+        omega arith;
+  }
+
+  pub log_kept : (named : Option ℕ) → IsLogReady named a → IsLogReady named b
+  log_kept named log = record {
+    can = λ x low not. record {
+      spins = λ here. spared.power x here ∙ (log.can x low not).spins (was_there x here);
+      within = λ here. let size = spared.size x here in let within = (log.can x low not).within (was_there x here) in omega arith;
+    };
+  }

@@ -34,11 +34,23 @@ use Rattle.paraid_recover.proofs.mounting.bring_up.Goals.{After-raise, After-res
 abbrev said : (g : Over) (c : After-resume g) → LogState
 said g c = log_state c.args.standing.now.gate_open c.args.standing.now.meta c.args.batch
 
-pub raise-requires-clause-fit : goal.raise-requires-clause-fit
-raise-requires-clause-fit g c =
+pub resume-requires : goal.resume-requires
+resume-requires g c = c.requires.can
+
+pub raise-requires : goal.raise-requires
+raise-requires g c =
     let slot = g.R.Rack.slot (store_rack c.in-Ok.store) in
-    subst (λ (k : ℕ). IsFit k slot c.args.standing.now.meta) (sym c.in-Ok.ensures.slots)
-    (fit_stays (g.R.Rack.slot_count c.args.rack) (g.R.Rack.slot c.args.rack) slot c.args.standing.now.meta c.in-Ok.ensures.powers (c.in-Ok.ensures.one c.requires.fit.one) c.requires.fit)
+    record {
+      empty = c.clear.ensures;
+      fit = subst (λ (k : ℕ). IsFit k slot c.args.standing.now.meta) (sym c.in-Ok.ensures.slots)
+          (fit_stays (g.R.Rack.slot_count c.args.rack) (g.R.Rack.slot c.args.rack) slot c.args.standing.now.meta c.in-Ok.ensures.powers (c.in-Ok.ensures.one c.requires.fit.one) c.requires.fit);
+      few = c.requires.few;
+      disks = c.in-Ok.ensures.disks;
+      named = c.in-Ok.ensures.named;
+      epoch = c.in-Ok.ensures.epoch;
+      rows = c.requires.rows;
+      narrow = c.requires.narrow;
+    }
 
 -- what is held once the commit was ended
 resumed : (g : Over) (c : After-raise g) (slots : ℕ)

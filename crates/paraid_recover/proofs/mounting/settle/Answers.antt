@@ -1,5 +1,6 @@
 use Rattle.std.specs.Prelude.{◌≡◌, ℕ, Option, Some, None}
-use Rattle.std.proofs.Common.{ap, refl, subst, sym, ◌∙◌}
+use Rattle.std.proofs.Common.{ap, arith, refl, subst, sym, ◌∙◌}
+use Rattle.paraid_base.specs.States.{gone_out}
 use Rattle.paraid_rack.specs.Slots.{Slot}
 use Rattle.paraid_rack.specs.Told.{Ran}
 use Rattle.paraid_rack.specs.Trail.{Trail, now}
@@ -13,7 +14,7 @@ use Rattle.paraid_view.proofs.TwoLemmas.{left_spared}
 use Rattle.paraid_recover.specs.EndOfMount.{IsMarkAtMoment}
 use Rattle.paraid_recover.specs.HeldMoments.{Recovers}
 use Rattle.paraid_recover.specs.Mounted.{AreAllSynced}
-use Rattle.paraid_recover.proofs.SyncedLemmas.{marked_synced}
+use Rattle.paraid_recover.proofs.SyncedLemmas.{log_kept, marked_synced, sync_kept}
 use Rattle.paraid_recover.proofs.MarkMomentLemmas.{mark_before, mark_by_slots, mark_later}
 use Rattle.paraid_recover.specs.MountCalls.{OnlyMountCalls}
 use Rattle.paraid_recover.specs.RecoveryMark.{to_mark}
@@ -21,7 +22,7 @@ use Rattle.paraid_recover.specs.Mounted.{IsFit}
 use Rattle.paraid_dirty.specs.Table.{is_dirty}
 use Rattle.paraid_recover.specs.Quiet.{IsInLog, IsReadOrSync, IsStill}
 use Rattle.paraid_recover.proofs.FarLemmas.{far_ran, log_far, map_on, map_read, quiet_far}
-use Rattle.paraid_recover.proofs.FitLemmas.{each_then, fit_stays, fit_with_mark, map_ready, marked_absent, marks, one_read, quiet_reads, quiet_syncs, spared_both, two_by_out, two_at, two_sooner}
+use Rattle.paraid_recover.proofs.FitLemmas.{can_sync, log_ready, each_then, fit_stays, fit_with_mark, map_ready, marked_absent, marks, one_read, quiet_reads, quiet_syncs, spared_both, two_by_out, two_at, two_sooner}
 use Rattle.paraid_recover.proofs.GoneLemmas.{gone_beside, gone_sooner, none_comes, out_by_name, out_unmarked, stays_absent}
 use Rattle.paraid_recover.proofs.MountCallsLemmas.{map_calls, mount_then, sync_calls}
 use Rattle.paraid_recover.proofs.RenewLemmas.{version_marked}
@@ -40,11 +41,28 @@ out_by g c =
     ap (λ (o : Option ℕ). or_else o (first_absent (λ d. (g.R.Rack.slot (store_rack c.args.store.now) d).power) c.args.store.now.disks)) c.requires.named
     ∙ ap (λ (n : ℕ). or_else (named_out c.args.meta.now.out) (first_absent (λ d. (g.R.Rack.slot (store_rack c.args.store.now) d).power) n)) c.requires.disks
 
-pub read_map-requires-clause-ready : goal.read_map-requires-clause-ready
-read_map-requires-clause-ready g c =
-    map_ready (g.R.Rack.slot_count (store_rack c.args.store.now)) (g.R.Rack.slot (store_rack c.args.store.now)) c.args.meta.now c.requires.fit (store_out g.R.Rack.slot c.args.store.now)
-    (ap (λ (o : Option ℕ). or_else o (first_absent (λ d. (g.R.Rack.slot (store_rack c.args.store.now) d).power) c.args.store.now.disks)) c.requires.named
-    ∙ ap (λ (n : ℕ). or_else (named_out c.args.meta.now.out) (first_absent (λ d. (g.R.Rack.slot (store_rack c.args.store.now) d).power) n)) c.requires.disks)
+pub read_map-requires : goal.read_map-requires
+read_map-requires g c =
+    let fit = c.requires.fit in
+    let disks = c.requires.disks in
+    record {
+      logs = (let low = c.args.meta.now.setup.geometry.disks_low in omega arith);
+      exists = (let enough = fit.enough in omega arith);
+      ready = map_ready (g.R.Rack.slot_count (store_rack c.args.store.now)) (g.R.Rack.slot (store_rack c.args.store.now)) c.args.meta.now fit (store_out g.R.Rack.slot c.args.store.now)
+          (ap (λ (o : Option ℕ). or_else o (first_absent (λ d. (g.R.Rack.slot (store_rack c.args.store.now) d).power) c.args.store.now.disks)) c.requires.named
+          ∙ ap (λ (n : ℕ). or_else (named_out c.args.meta.now.out) (first_absent (λ d. (g.R.Rack.slot (store_rack c.args.store.now) d).power) n)) disks);
+      rows = c.requires.rows;
+      narrow = c.requires.narrow;
+    }
+
+pub sync_all-requires : goal.sync_all-requires
+sync_all-requires g c =
+    let m = c.args.meta.now in
+    let a = g.R.Rack.slot (store_rack c.args.store.now) in
+    let b = g.R.Rack.slot (store_rack c.read_map.new.store) in
+    let read = c.in_default.ensures.read in
+    sync_kept a b (left_spared c.in_default.field-0 a b read.left) m.setup.geometry.disks c.read_map.new.store.disks (gone_out m.out) c.gone.result (read.same.disks ∙ c.requires.disks) c.gone.ensures
+    (can_sync (g.R.Rack.slot_count (store_rack c.args.store.now)) a m c.requires.fit)
 
 -- reads and syncs after what was recovered
 on : (said : LogState) (m : Meta) (n : ℕ) → n ≡ m.setup.geometry.disks → said.meta ≡ m → n ≡ said.meta.setup.geometry.disks
@@ -390,11 +408,21 @@ returns-in-Err g c = record {
   map = tt;
 }
 
-pub mark_out-requires-clause-disks : goal.mark_out-requires-clause-disks
-mark_out-requires-clause-disks g c = c.sync_all.ensures.same.disks ∙ c.in_default.ensures.read.same.disks ∙ c.requires.disks
-
-pub mark_out-requires-clause-named : goal.mark_out-requires-clause-named
-mark_out-requires-clause-named g c = c.sync_all.ensures.same.named ∙ c.in_default.ensures.read.same.named ∙ c.requires.named
-
-pub mark_out-requires-clause-epoch : goal.mark_out-requires-clause-epoch
-mark_out-requires-clause-epoch g c = c.sync_all.ensures.same.epoch ∙ c.in_default.ensures.read.same.epoch ∙ c.requires.epoch
+pub mark_out-requires : goal.mark_out-requires
+mark_out-requires g c =
+    let m = c.args.meta.now in
+    let a = g.R.Rack.slot (store_rack c.args.store.now) in
+    let b = g.R.Rack.slot (store_rack c.read_map.new.store) in
+    let d = g.R.Rack.slot (store_rack c.sync_all.new.self) in
+    let read = c.in_default.ensures.read in
+    record {
+      empty = c.requires.empty;
+      fresh = c.requires.few;
+      in_range = c.requires.fit.in_range;
+      exists = (let enough = c.requires.fit.enough in let first = read.slots in let second = c.sync_all.ensures.slots in omega arith);
+      disks = c.sync_all.ensures.same.disks ∙ read.same.disks ∙ c.requires.disks;
+      named = c.sync_all.ensures.same.named ∙ read.same.named ∙ c.requires.named;
+      epoch = c.sync_all.ensures.same.epoch ∙ read.same.epoch ∙ c.requires.epoch;
+      log = log_kept a d (spared_both a b d (left_spared c.in_default.field-0 a b read.left) c.sync_all.ensures.powers) (named_out m.out)
+          (log_ready (g.R.Rack.slot_count (store_rack c.args.store.now)) a m c.requires.fit);
+    }

@@ -33,8 +33,11 @@ use Rattle.paraid_recover.proofs.recovery.mark_out.Given.{Over}
 use Rattle.paraid_recover.proofs.recovery.mark_out.Goals as goal
 use Rattle.paraid_recover.proofs.recovery.mark_out.Goals.{After-mark}
 
-pub mark-requires-clause-can : goal.mark-requires-clause-can
-mark-requires-clause-can g c =
+pub unmarked-requires : goal.unmarked-requires
+unmarked-requires g c = record { named = c.requires.named; in_range = c.requires.in_range; exists = c.requires.exists; disks = c.requires.disks }
+
+pub mark-requires : goal.mark-requires
+mark-requires g c =
     let m = c.args.meta.now in
     let d = c.in-Some.disk in
     let only : (e : ℕ) → named_out m.out ≡ Some e → e ≡ d = λ e. c.unmarked.ensures.only d e c.in-Some.is in
@@ -43,12 +46,20 @@ mark-requires-clause-can g c =
     let epoch = c.requires.epoch in
     let fresh = c.requires.fresh in
     record {
-      in_range = marked_in_range (of_version_two m) d m.epoch (in_version_two m m.epoch c.requires.in_range c.requires.in_range.counters.first c.requires.in_range.counters.epoch_fits) (omega arith) c.requires.in_range.counters.first (omega arith);
-      epoch = omega arith;
-      array = sym same;
-      each = subst (λ (b : Batch). All (IsTargetInRange m.setup.geometry) (targets b)) (sym c.requires.empty) (λ k t lt. absurd (omega arith));
-      log = record { can = λ x l not. c.requires.log.can x l (λ e. not (ap (λ (y : ℕ). Some y) (sym (only x e)))) };
-      ready = none_ready _ c.requires.empty _ _ _;
+      empty = c.requires.empty;
+      only = only;
+      low = (omega arith);
+      epoch = epoch;
+      named = c.requires.named;
+      absent = c.unmarked.ensures.absent d c.in-Some.is;
+      can = record {
+        in_range = marked_in_range (of_version_two m) d m.epoch (in_version_two m m.epoch c.requires.in_range c.requires.in_range.counters.first c.requires.in_range.counters.epoch_fits) (omega arith) c.requires.in_range.counters.first (omega arith);
+        epoch = omega arith;
+        array = sym same;
+        each = subst (λ (b : Batch). All (IsTargetInRange m.setup.geometry) (targets b)) (sym c.requires.empty) (λ k t lt. absurd (omega arith));
+        log = record { can = λ x l not. c.requires.log.can x l (λ e. not (ap (λ (y : ℕ). Some y) (sym (only x e)))) };
+        ready = none_ready _ c.requires.empty _ _ _;
+      };
     }
 
 -- the disk that is marked
