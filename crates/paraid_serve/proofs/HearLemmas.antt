@@ -1,5 +1,5 @@
 -- From the lines of a reader to events.
-use Rattle.std.proofs.Common.{◌≡◌, ◌≢◌, ℕ, ◌<◌, List, [], ◌∷◌, ◌++◌, length, Option, Some, Result, Ok, Err, refl, sym, ap, ◌∙◌, inl, inr, arith, length-append}
+use Rattle.std.proofs.Common.{◌≡◌, ◌≢◌, ℕ, ◌+◌, ◌-◌, ◌^◌, ◌<◌, List, [], ◌∷◌, ◌++◌, length, Option, Some, Result, Ok, Err, refl, sym, ap, ◌∙◌, inl, inr, arith, length-append}
 use Rattle.std.proofs.lemmas.List.{append_assoc, append-nil}
 use Rattle.std.proofs.lemmas.Bool.{false≢true}
 use Rattle.paraid_io.specs.Lines.{lines_of, whole_lines, NoNewline}
@@ -66,3 +66,13 @@ heard_long {before} {after} {old} {new} {n} s =
 
 pub heard_fault : {before after : Option (List ℕ)} {old new : Reading} {fault : LineFault} → ReaderStep before after old new (Err fault) → HearsLine before after old new (Err fault)
 heard_fault {before} {after} {old} {new} {fault} s = heard_from s (Err fault) (whole_lines-rest (old.rest ++ s.got) s.answer.0, s.answer.2)
+
+-- a line that is taken leaves less to take
+pub less_to_take : {before after : Option (List ℕ)} {old new : Reading} {event : Event} → HearsLine before after old new (Ok (Some event))
+    → (2 ^ 40 - new.taken) + length new.rest < (2 ^ 40 - old.taken) + length old.rest
+less_to_take {before} {after} {old} {new} {event} h =
+    let shorter = h.says.2.shorter in
+    let size = length-append old.rest h.got in
+    let taken = h.taken in
+    let limit = h.limit in
+    omega arith

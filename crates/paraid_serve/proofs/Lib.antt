@@ -9,3 +9,4 @@ pub mod ExitLemmas
 pub mod QuietLemmas
 pub mod OutcomeLemmas
 pub mod CauseLemmas
+pub mod StatusLemmas

@@ -1,6 +1,8 @@
 use Rattle.std.proofs.Common.{sym, ◌∙◌, arith, refl}
 use Rattle.paraid_trace.specs.Answered.{answer_with}
+use Rattle.paraid_base.proofs.ToldLemmas.{HasRisen-sooner}
 use Rattle.paraid_serve.proofs.GrowsLemmas.{grows_none, grows_then, told_then}
+use Rattle.paraid_serve.proofs.HearLemmas.{less_to_take}
 use Rattle.paraid_serve.proofs.HaltLemmas.{no_event_yet}
 use Rattle.paraid_serve.proofs.Sofar.{sofar_start, sofar_more, ends_well, ends_halted, ends_at_source, ends_too_long, ends_at_sink}
 use Rattle.paraid_serve.proofs.run.session.Goals as goal
@@ -34,46 +36,95 @@ lines-preserved g c =
       sink = omega (arith, i.sink, k.later);
     }
 
-pub returns-in-Err-Source-clause-session : goal.returns-in-Err-Source-clause-session
-returns-in-Err-Source-clause-session g c = ends_at_source c.lines.invariant.sofar c.in-Err-Source.ensures.heard
+pub returns-in-Err-Source : goal.returns-in-Err-Source
+returns-in-Err-Source g c = record {
+  session = ends_at_source c.lines.invariant.sofar c.in-Err-Source.ensures.heard;
+  told = c.lines.invariant.told;
+  setup = c.lines.invariant.setup;
+  going = tt;
+  failed = tt;
+  worn = tt;
+  source = λ is. HasRisen-sooner _ _ _ c.lines.invariant.source (c.in-Err-Source.ensures.cause (cc));
+  sink = λ is. cc;
+  later_source = omega (arith, c.lines.invariant.source, c.in-Err-Source.ensures.later);
+  later_sink = c.lines.invariant.sink;
+}
 
-pub returns-in-Err-TooLong-clause-session : goal.returns-in-Err-TooLong-clause-session
-returns-in-Err-TooLong-clause-session g c = ends_too_long c.lines.invariant.sofar c.in-Err-TooLong.ensures.heard (c.in-Err-TooLong.ensures.too_long c.in-Err-TooLong.field-0-0 (cc))
+pub returns-in-Err-TooLong : goal.returns-in-Err-TooLong
+returns-in-Err-TooLong g c = record {
+  session = ends_too_long c.lines.invariant.sofar c.in-Err-TooLong.ensures.heard (c.in-Err-TooLong.ensures.too_long c.in-Err-TooLong.field-0-0 (cc));
+  told = c.lines.invariant.told;
+  setup = c.lines.invariant.setup;
+  going = tt;
+  failed = tt;
+  worn = tt;
+  source = λ is. cc;
+  sink = λ is. cc;
+  later_source = omega (arith, c.lines.invariant.source, c.in-Err-TooLong.ensures.later);
+  later_sink = c.lines.invariant.sink;
+}
 
-pub returns-in_default-clause-session : goal.returns-in_default-clause-session
-returns-in_default-clause-session g c =
-    let i = c.lines.invariant in
-    let e = c.answer-answered.ensures in
-    let p = c.in_default.ensures.part in
-    let h = rw c.in-Ok-Some.field-0-is at c.in-Ok-Some.ensures.heard in
-    ends_at_sink i.sofar h (answer_with c.answer-answered.result c.answer-answered.new.beside) e.kind _ _ _ _ _ i.slots i.setup (told_then _ _ e.told) e.turn p.0 (rw (c.as_slice.ensures.value, c.reply_with.ensures.value) at p.2)
+pub returns-in_default : goal.returns-in_default
+returns-in_default g c = record {
+  session =
+      let i = c.lines.invariant in
+      let e = c.answer-answered.ensures in
+      let p = c.in_default.ensures.part in
+      let h = rw c.in-Ok-Some.field-0-is at c.in-Ok-Some.ensures.heard in
+      ends_at_sink i.sofar h (answer_with c.answer-answered.result c.answer-answered.new.beside) e.kind _ _ _ _ _ i.slots i.setup (told_then _ _ e.told) e.turn p.0 (rw (c.as_slice.ensures.value, c.reply_with.ensures.value) at p.2);
+  told = grows_then _ _ _ c.lines.invariant.told c.answer-answered.ensures.told;
+  setup = c.answer-answered.ensures.setup ∙ c.lines.invariant.setup;
+  going = tt;
+  failed = tt;
+  worn = tt;
+  source = λ is. cc;
+  sink = λ is. HasRisen-sooner _ _ _ c.lines.invariant.sink c.in_default.ensures.cause;
+  later_source = omega (arith, c.lines.invariant.source, c.in-Ok-Some.ensures.later);
+  later_sink = omega (arith, c.lines.invariant.sink, c.write_all.ensures.later);
+}
 
-pub returns-in-Ok-finish-clause-session : goal.returns-in-Ok-finish-clause-session
-returns-in-Ok-finish-clause-session g c =
-    let i = c.lines.invariant in
-    let f = c.in-Ok-finish.ensures in
-    ends_well i.sofar (rw c.in-Ok-None.field-0-is at c.in-Ok-None.ensures.heard) _ _ _ _ i.slots i.setup (told_then _ _ f.told) c.in-Ok-finish.writes f.turn
+pub returns-in-Ok-finish : goal.returns-in-Ok-finish
+returns-in-Ok-finish g c = record {
+  session =
+      let i = c.lines.invariant in
+      let f = c.in-Ok-finish.ensures in
+      ends_well i.sofar (rw c.in-Ok-None.field-0-is at c.in-Ok-None.ensures.heard) _ _ _ _ i.slots i.setup (told_then _ _ f.told) c.in-Ok-finish.writes f.turn;
+  told = grows_then _ _ _ c.lines.invariant.told c.in-Ok-finish.ensures.told;
+  setup = c.in-Ok-finish.ensures.setup ∙ c.lines.invariant.setup;
+  going = c.in-Ok-finish.ensures.going;
+  failed = tt;
+  worn = tt;
+  source = λ is. cc;
+  sink = λ is. cc;
+  later_source = omega (arith, c.lines.invariant.source, c.in-Ok-None.ensures.later);
+  later_sink = c.lines.invariant.sink;
+}
 
-pub returns-in-Err-clause-session : goal.returns-in-Err-clause-session
-returns-in-Err-clause-session g c =
-    let i = c.lines.invariant in
-    let f = c.in-Err.ensures in
-    ends_halted i.sofar (rw c.in-Ok-None.field-0-is at c.in-Ok-None.ensures.heard) _ _ _ _ i.slots i.setup (told_then _ _ f.told) c.in-Err.halt f.turn
+pub returns-in-Err : goal.returns-in-Err
+returns-in-Err g c = record {
+  session =
+      let i = c.lines.invariant in
+      let f = c.in-Err.ensures in
+      ends_halted i.sofar (rw c.in-Ok-None.field-0-is at c.in-Ok-None.ensures.heard) _ _ _ _ i.slots i.setup (told_then _ _ f.told) c.in-Err.halt f.turn;
+  told = grows_then _ _ _ c.lines.invariant.told c.in-Err.ensures.told;
+  setup = c.in-Err.ensures.setup ∙ c.lines.invariant.setup;
+  going = tt;
+  failed = (c.in-Err.ensures.since (g.A.Serves.slot c.args.array.now) c.lines.invariant.since).lost;
+  worn = c.in-Err.ensures.worn;
+  source = λ is. cc;
+  sink = λ is. cc;
+  later_source = omega (arith, c.lines.invariant.source, c.in-Ok-None.ensures.later);
+  later_sink = c.lines.invariant.sink;
+}
 
-pub returns-in-Err-clause-failed : goal.returns-in-Err-clause-failed
-returns-in-Err-clause-failed g c = (c.in-Err.ensures.since (g.A.Serves.slot c.args.array.now) c.lines.invariant.since).lost
+pub hear-requires : goal.hear-requires
+hear-requires g c = c.lines.invariant.sofar.fault
 
-pub returns-in-Err-Source-clause-told : goal.returns-in-Err-Source-clause-told
-returns-in-Err-Source-clause-told g c = c.lines.invariant.told
+pub answer-answered-requires : goal.answer-answered-requires
+answer-answered-requires g c = record { halt = c.lines.invariant.halt }
 
-pub returns-in-Err-TooLong-clause-told : goal.returns-in-Err-TooLong-clause-told
-returns-in-Err-TooLong-clause-told g c = c.lines.invariant.told
+pub finish-requires : goal.finish-requires
+finish-requires g c = record { halt = c.lines.invariant.halt }
 
-pub returns-in_default-clause-told : goal.returns-in_default-clause-told
-returns-in_default-clause-told g c = grows_then _ _ _ c.lines.invariant.told c.answer-answered.ensures.told
-
-pub returns-in-Ok-finish-clause-told : goal.returns-in-Ok-finish-clause-told
-returns-in-Ok-finish-clause-told g c = grows_then _ _ _ c.lines.invariant.told c.in-Ok-finish.ensures.told
-
-pub returns-in-Err-clause-told : goal.returns-in-Err-clause-told
-returns-in-Err-clause-told g c = grows_then _ _ _ c.lines.invariant.told c.in-Err.ensures.told
+pub lines-smaller : goal.lines-smaller
+lines-smaller g c = less_to_take (rw c.in-Ok-Some.field-0-is at c.in-Ok-Some.ensures.heard)

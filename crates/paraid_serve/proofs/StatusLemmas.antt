@@ -1,0 +1,34 @@
+-- The status that a run ends with, by its last line.
+use Rattle.std.specs.Prelude.{◌≡◌, ◌≢◌, ℕ, ◌≤◌, List, Option}
+use Rattle.std.proofs.Common.{arith, inl, inr, refl, subst, sym, ◌∙◌}
+use Rattle.paraid_base.specs.declared.fault.Halt.{Halt}
+use Rattle.paraid_base.specs.declared.fault.Halt.TheVariants.{Two, Worn}
+use Rattle.paraid_base.specs.Told.{HasRisen}
+use Rattle.paraid_base.proofs.ToldLemmas.{HasRisen-sooner}
+use Rattle.paraid_serve.specs.Ending.{EndsWithLine, status_of_halt}
+use Rattle.paraid_serve.specs.Output.{IsServedStatus}
+
+module _ (before after : Option (List ℕ)) (line : List ℕ) (code status : ℕ) (ends : EndsWithLine before after line code status) where
+  pub served : IsServedStatus code → IsServedStatus status
+  served its = elim ends.whole [
+    | inl four ↦ inr (inr (inl four))
+    | inr all ↦ subst IsServedStatus (sym all.1) its
+  ]
+
+  pub other : (n : ℕ) → n ≢ 4 → n ≢ code → status ≢ n
+  other n not apart is = elim ends.whole [
+    | inl four ↦ not (sym is ∙ four)
+    | inr all ↦ apart (sym is ∙ all.1)
+  ]
+
+-- at 4 the sink has failed in the last line
+pub sink_failed : (code status a b c : ℕ) → (status ≢ code → (status ≡ 4) × HasRisen b c) → code ≢ 4 → a ≤ b → status ≡ 4 → HasRisen a c
+sink_failed code status a b c cause not before four = HasRisen-sooner a b c before (cause (λ is. not (sym is ∙ four))).1
+
+pub halt_served : (halt : Halt) → IsServedStatus (status_of_halt halt)
+halt_served (Two two) = inr (inr (inr (inl refl)))
+halt_served (Worn count) = inr (inr (inr (inr (inr refl))))
+
+pub halt_high : (halt : Halt) (n : ℕ) → n ≤ 4 → n ≢ status_of_halt halt
+halt_high (Two two) n low is = omega arith
+halt_high (Worn count) n low is = omega arith
