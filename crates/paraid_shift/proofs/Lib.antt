@@ -5,5 +5,7 @@ pub mod CopiedLemmas
 pub mod StepsLemmas
 pub mod PowersLemmas
 pub mod MovedLossLemmas
+pub mod OutcomeLemmas
 pub mod LossLemmas
 pub mod WaitLemmas
+pub mod AnswerLemmas

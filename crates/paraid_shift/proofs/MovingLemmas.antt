@@ -109,6 +109,15 @@ clean_done m table clean r d row low high = elim (cases_eq r 0) [
   | inr later ↦ clean.clean r d (inl (omega (arith, later))) low high
 ]
 
+-- so from the first cell on, of a core that is as it was but for the copies
+pub clean_from : (m n : Meta) (table others : List (List Bool)) (r d : ℕ) → n ≡ m → others ≡ table → r ≡ 0 → d ≡ 0 → IsCleanFrom (is_dirty others) r d n.gear (rising_to n.phase) → AreCellsDone m table
+clean_from m n table others r d meta tables row disk clean =
+    clean_done m table
+    (subst (λ (x : ℕ). IsCleanFrom (is_dirty table) 0 x m.gear (rising_to m.phase)) disk
+    (subst (λ (x : ℕ). IsCleanFrom (is_dirty table) x d m.gear (rising_to m.phase)) row
+    (subst (λ (t : List (List Bool)). IsCleanFrom (is_dirty t) r d m.gear (rising_to m.phase)) tables
+    (subst (λ (z : Meta). IsCleanFrom (is_dirty others) r d z.gear (rising_to z.phase)) meta clean))))
+
 -- a group of cells, of a core that is as it was but for the copies
 pub group_same : (m n : Meta) (table others : List (List Bool)) (most units r d : ℕ) → n ≡ m → others ≡ table → IsGroupOf m table most units r d → IsGroupOf n others most units r d
 group_same m n table others most units r d meta tables group =

@@ -2,3 +2,4 @@ pub mod Serving
 pub mod Units
 pub mod Steps
 pub mod Losing
+pub mod Outcomes

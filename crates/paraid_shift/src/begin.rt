@@ -14,6 +14,7 @@ ghost use Rattle.paraid_rack.specs.declared.call.Power.TheVariants.{Parked, Spin
 ghost use Rattle.paraid_rack.specs.Told.{CrashTriple, Ran};
 ghost use Rattle.paraid_record.specs.Range.{AreNextGears, allowed_spins};
 ghost use Rattle.paraid_shift.specs.Losing.{CoreBearsLoss, LosesUp};
+ghost use Rattle.paraid_shift.specs.Outcomes.{CommitsUp, PowersDisks, TellsSecond};
 ghost use Rattle.paraid_shift.specs.Serving.{HasBegunUp, IsComingUp, IsHeldFromRest, IsCoreServing, LeavesArray, RestsInShift, StaysAtRest};
 ghost use Rattle.paraid_shift.specs.Steps.{CoreLosesInSteps, CoreStepsInEvent, MakesPowerCalls, MarksPowered, OpensUp};
 ghost use Rattle.paraid_txn.specs.Losses.{AreTwoDown, OnlyLosesSlots};
@@ -81,24 +82,15 @@ fn raise<R: Rack>(core: &mut Core<R>, disk: DiskNo) -> Result<(), Two>
     requires past_gear { (meta_of core.old).gear ≤ disk }
     requires rises { disk < rising_to (meta_of core.old).phase }
     ensures rising { OnOk result (IsComingUp R.slot_count R.slot core.new (disk + 1)) }
-    ensures absent { OnOk result (IsNamedOrAbsent R.slot core.old → IsNamedOrAbsent R.slot core.new) }
-    ensures leaves { OnOk result (LeavesArray R.slot_count R.slot core.old core.new) }
-    ensures meta { OnOk result (IsMarkedFrom (meta_of core.old) (meta_of core.new)) }
+    ensures powers { OnOk result (PowersDisks R.slot_count R.slot R.told core.old core.new) }
     ensures store { IsSameStore (store_of core.old) (store_of core.new) }
     ensures table { core_table core.new ≡ core_table core.old }
     ensures no_fall { (d : ℕ) → (R.slot (core_rack core.old) d).faults ≤ (R.slot (core_rack core.new) d).faults }
     ensures calls { MakesPowerCalls R.told core.old core.new }
-    ensures lost { OnOk result (MarksPowered (R.slot (core_rack core.new)) (meta_of core.old) (meta_of core.new)) }
-    ensures bears { OnOk result (CoreBearsLoss R.told core.old core.new) }
-    ensures tells { IfErr result (CoreTellsLosses R.told (named_out (meta_of core.old).out) core.old core.new) }
-    ensures up { OnOk result (named_out (meta_of core.new).out ≢ Some disk
-        → (R.slot (core_rack core.new) disk).power ≡ Spinning) }
+    ensures tells { IfErr result (λ two. TellsSecond R.slot R.told core.old core.new two) }
     ensures others { (d : ℕ) → d ≢ disk → R.slot (core_rack core.new) d ≡ R.slot (core_rack core.old) d }
     ensures within { disk < rising_to (meta_of core.old).phase }
-    ensures two { IfErr result (AreTwoDown (core_down core.old)
-        (R.slot (core_rack core.old)) (R.slot (core_rack core.new))) }
     ensures moments { IsHeldFromRest R.slot_count R.told core.old core.new }
-    ensures rests { OnOk result (StaysAtRest R.slot_count R.told core.old core.new) }
 {
     if !is_down(core, disk) {
         return Ok(());
@@ -113,20 +105,14 @@ fn bring_up<R: Rack>(core: &mut Core<R>) -> Result<(), Two>
     requires rising { IsComingUp R.slot_count R.slot core.old (meta_of core.old).gear }
     ensures serving { OnOk result (IsCoreServing R.slot_count R.slot core.new) }
     ensures nothing { OnOk result (batch_of core.new ≡ []) }
-    ensures absent { OnOk result (IsNamedOrAbsent R.slot core.old → IsNamedOrAbsent R.slot core.new) }
-    ensures leaves { OnOk result (LeavesArray R.slot_count R.slot core.old core.new) }
-    ensures meta { OnOk result (IsMarkedFrom (meta_of core.old) (meta_of core.new)) }
+    ensures powers { OnOk result (PowersDisks R.slot_count R.slot R.told core.old core.new) }
     ensures table { core_table core.new ≡ core_table core.old }
     ensures no_fall { (d : ℕ) → (R.slot (core_rack core.old) d).faults ≤ (R.slot (core_rack core.new) d).faults }
     ensures calls { MakesPowerCalls R.told core.old core.new }
-    ensures lost { OnOk result (MarksPowered (R.slot (core_rack core.new)) (meta_of core.old) (meta_of core.new)) }
-    ensures tells { IfErr result (CoreTellsLosses R.told (named_out (meta_of core.old).out) core.old core.new) }
+    ensures tells { IfErr result (λ two. TellsSecond R.slot R.told core.old core.new two) }
     ensures others { OnOk result ((d : ℕ) → (d < (meta_of core.old).gear) ⊎ (rising_to (meta_of core.old).phase ≤ d)
         → R.slot (core_rack core.new) d ≡ R.slot (core_rack core.old) d) }
-    ensures two { IfErr result (AreTwoDown (core_down core.old)
-        (R.slot (core_rack core.old)) (R.slot (core_rack core.new))) }
     ensures moments { IsHeldFromRest R.slot_count R.told core.old core.new }
-    ensures rests { OnOk result (StaysAtRest R.slot_count R.told core.old core.new) }
 {
     let gear = core.meta().gear;
     for disk in gear..core.meta().phase.rising_to() {
@@ -142,24 +128,13 @@ fn commit_up<R: Rack>(core: &mut Core<R>, to: u8) -> Result<(), Two>
     requires whole { (meta_of core.old).out ≡ No }
     requires steady { (meta_of core.old).phase ≡ Steady }
     requires next { AreNextGears (meta_of core.old).setup.geometry (meta_of core.old).gear to }
-    ensures rising { OnOk result (IsComingUp R.slot_count R.slot core.new (meta_of core.new).gear) }
-    ensures absent { OnOk result (IsNamedOrAbsent R.slot core.new) }
-    ensures leaves { OnOk result (LeavesArray R.slot_count R.slot core.old core.new) }
-    ensures meta { OnOk result (HasBegunUp (meta_of core.old) (meta_of core.new) to) }
+    ensures begun { OnOk result (CommitsUp R.slot_count R.slot R.told core.old core.new to) }
     ensures table { core_table core.new ≡ core_table core.old }
-    ensures named { OnOk result (named_of (store_of core.new) ≡ named_of (store_of core.old)) }
     ensures spared { OnlyLosesSlots (R.slot (core_rack core.old)) (R.slot (core_rack core.new)) }
-    ensures opens { OnOk result (OpensUp R.slot_count R.told core.old core.new to) }
     ensures loses { IfErr result (λ two. LosesUp R.slot_count R.told core.old core.new to two) }
-    ensures nothing { OnOk result (batch_of core.new ≡ []) }
-    ensures epoch { OnOk result ((meta_of core.new).epoch ≡ (meta_of core.old).epoch + 1) }
     ensures two { IfErr result (AreTwoDown (core_down core.old)
         (R.slot (core_rack core.old)) (R.slot (core_rack core.new))) }
     ensures moments { IsHeldStill R.slot_count R.told core.old core.new }
-    ensures rests { OnOk result ((h : History) (lo : ℕ)
-        → Ran (R.told (core_rack core.old)) (R.told (core_rack core.new))
-        (CrashTriple (IsCoreHeldSinceCommit R.slot_count core.old h lo) (CoreStandsFor R.slot_count core.old h lo)
-        (RestsInShift R.slot_count core.new h lo))) }
 {
     core.begin_up(to);
     core.commit()?;

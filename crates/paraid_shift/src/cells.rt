@@ -6,6 +6,7 @@ ghost use Rattle.paraid_core.specs.Steps.{IsMarkedFrom, IsNamedOrAbsent, LeavesC
 ghost use Rattle.paraid_core.specs.Calls.{MakesDataCalls};
 ghost use Rattle.paraid_core.specs.Lost.{CoreMarksLost, CoreTellsLosses};
 ghost use Rattle.paraid_image.specs.Out.{named_out};
+ghost use Rattle.paraid_shift.specs.Outcomes.{LosesSecond, MarksGroup, TellsSecond};
 ghost use Rattle.paraid_shift.specs.Serving.{CopiesFromRest, IsCoreServing, IsHeldFromRest, KeepsCopied, LeavesArray, StandsFromRest};
 ghost use Rattle.paraid_shift.specs.Steps.{CoreLosesInSteps};
 ghost use Rattle.paraid_shift.specs.Units.{AreCellsDone, CoreCountsMoved, HasDirtyBefore, IsGroupOf, are_copied_before};
@@ -65,9 +66,7 @@ fn copy_cells<R: Rack>(core: &mut Core<R>, most: u32) -> Result<Option<Group>, T
         IsGroupOf (meta_of core.old) (core_table core.old) most it.count it.row it.disk)) }
     ensures lost { IfOk result (λ group. IfNone group ((meta_of core.new).out ≢ No)) }
     ensures spared { OnlyLosesSlots (R.slot (core_rack core.old)) (R.slot (core_rack core.new)) }
-    ensures two { IfErr result (AreTwoDown (core_down core.old)
-        (R.slot (core_rack core.old)) (R.slot (core_rack core.new))) }
-    ensures tells { IfErr result (CoreTellsLosses R.told (named_out (meta_of core.old).out) core.old core.new) }
+    ensures tells { IfErr result (λ two. TellsSecond R.slot R.told core.old core.new two) }
     ensures calls { MakesDataCalls R.told core.old core.new }
     ensures marks { OnOk result (CoreMarksLost R.slot core.old core.new) }
     ensures copied { IfOk result (λ group. IfSome group (λ it. CopiesFromRest R.slot_count R.told core.old core.new
@@ -164,24 +163,9 @@ pub(crate) fn move_group<R: Rack>(core: &mut Core<R>, most: u32) -> Result<u32, 
     requires serving { IsCoreServing R.slot_count R.slot core.old }
     requires whole { (meta_of core.old).out ≡ No }
     requires nothing { batch_of core.old ≡ [] }
-    ensures serving { OnOk result (IsCoreServing R.slot_count R.slot core.new) }
-    ensures leaves { OnOk result (LeavesArray R.slot_count R.slot core.old core.new) }
-    ensures absent { OnOk result (IsNamedOrAbsent R.slot core.old → IsNamedOrAbsent R.slot core.new) }
-    ensures meta { OnOk result (IsMarkedFrom (meta_of core.old) (meta_of core.new)) }
-    ensures few { IfOk result (λ count. count ≤ most) }
-    ensures moves { IfOk result (λ count. CoreCountsMoved R.slot_count core.old core.new count) }
-    ensures whole { IfOk result (λ count. 0 < count → (meta_of core.new).out ≡ No) }
-    ensures idle { IfOk result (λ count. count ≡ 0 → batch_of core.new ≡ []) }
-    ensures all { IfOk result (λ count. count ≡ 0 → (meta_of core.new).out ≡ No
-        → (most ≡ 0) ⊎ AreCellsDone (meta_of core.new) (core_table core.new)) }
+    ensures marks { IfOk result (λ count. MarksGroup R.slot_count R.slot R.told core.old core.new most count) }
     ensures spared { OnlyLosesSlots (R.slot (core_rack core.old)) (R.slot (core_rack core.new)) }
-    ensures two { IfErr result (AreTwoDown (core_down core.old)
-        (R.slot (core_rack core.old)) (R.slot (core_rack core.new))) }
-    ensures loses { IfErr result (λ two. CoreLosesInSteps R.slot_count R.told core.old core.new 1 two) }
-    ensures calls { MakesDataCalls R.told core.old core.new }
-    ensures marks { OnOk result (CoreMarksLost R.slot core.old core.new) }
-    ensures stands { OnOk result (StandsFromRest R.slot_count R.told core.old core.new) }
-    ensures moments { IsHeldFromRest R.slot_count R.told core.old core.new }
+    ensures loses { IfErr result (λ two. LosesSecond R.slot_count R.slot R.told core.old core.new 1 two) }
 {
     let copied = copy_group(core, most)?;
     let Some(group) = copied else {
@@ -202,9 +186,7 @@ fn copy_group<R: Rack>(core: &mut Core<R>, most: u32) -> Result<Option<Group>, T
         IsGroupOf (meta_of core.new) (core_table core.new) most it.count it.row it.disk)) }
     ensures lost { IfOk result (λ group. IfNone group ((meta_of core.new).out ≢ No)) }
     ensures spared { OnlyLosesSlots (R.slot (core_rack core.old)) (R.slot (core_rack core.new)) }
-    ensures two { IfErr result (AreTwoDown (core_down core.old)
-        (R.slot (core_rack core.old)) (R.slot (core_rack core.new))) }
-    ensures tells { IfErr result (CoreTellsLosses R.told (named_out (meta_of core.old).out) core.old core.new) }
+    ensures tells { IfErr result (λ two. TellsSecond R.slot R.told core.old core.new two) }
     ensures calls { MakesDataCalls R.told core.old core.new }
     ensures marks { OnOk result (CoreMarksLost R.slot core.old core.new) }
     ensures copied { IfOk result (λ group. IfSome group (λ it. CopiesFromRest R.slot_count R.told core.old core.new

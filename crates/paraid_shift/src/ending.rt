@@ -14,6 +14,7 @@ ghost use Rattle.paraid_moves.specs.MoveMetas.{meta_flipped_to};
 ghost use Rattle.paraid_rack.specs.declared.call.Power.TheVariants.{Parked, Spinning};
 ghost use Rattle.paraid_rack.specs.Told.{CrashTriple, Ran};
 ghost use Rattle.paraid_shift.specs.Losing.{CoreBearsLoss, LosesMark};
+ghost use Rattle.paraid_shift.specs.Outcomes.{CommitsGear, PowersDisks, TellsSecond};
 ghost use Rattle.paraid_shift.specs.Serving.{IsHeldFromRest, IsCoreServing, LeavesArray, RestsInShift, StaysAtRest};
 ghost use Rattle.paraid_shift.specs.Steps.{CommitsMark, EndsInSteps, EndsLosing, MakesPowerCalls, MarksPowered};
 ghost use Rattle.paraid_txn.specs.Losses.{AreTwoDown, OnlyLosesSlots};
@@ -51,23 +52,16 @@ fn lower<R: Rack>(core: &mut Core<R>, disk: DiskNo) -> Result<(), Two>
     requires nothing { batch_of core.old ≡ [] }
     ensures serving { OnOk result (IsCoreServing R.slot_count R.slot core.new) }
     ensures nothing { OnOk result (batch_of core.new ≡ []) }
-    ensures absent { OnOk result (IsNamedOrAbsent R.slot core.old → IsNamedOrAbsent R.slot core.new) }
-    ensures leaves { OnOk result (LeavesArray R.slot_count R.slot core.old core.new) }
-    ensures meta { OnOk result (IsMarkedFrom (meta_of core.old) (meta_of core.new)) }
+    ensures powers { OnOk result (PowersDisks R.slot_count R.slot R.told core.old core.new) }
     ensures store { IsSameStore (store_of core.old) (store_of core.new) }
     ensures table { core_table core.new ≡ core_table core.old }
     ensures no_fall { (d : ℕ) → (R.slot (core_rack core.old) d).faults ≤ (R.slot (core_rack core.new) d).faults }
     ensures calls { MakesPowerCalls R.told core.old core.new }
-    ensures lost { OnOk result (MarksPowered (R.slot (core_rack core.new)) (meta_of core.old) (meta_of core.new)) }
-    ensures bears { OnOk result (CoreBearsLoss R.told core.old core.new) }
-    ensures tells { IfErr result (CoreTellsLosses R.told (named_out (meta_of core.old).out) core.old core.new) }
+    ensures tells { IfErr result (λ two. TellsSecond R.slot R.told core.old core.new two) }
     ensures parked { OnOk result (named_out (meta_of core.new).out ≢ Some disk
         → (R.slot (core_rack core.new) disk).power ≡ Parked) }
     ensures others { (d : ℕ) → d ≢ disk → R.slot (core_rack core.new) d ≡ R.slot (core_rack core.old) d }
-    ensures two { IfErr result (AreTwoDown (core_down core.old)
-        (R.slot (core_rack core.old)) (R.slot (core_rack core.new))) }
     ensures moments { IsHeldFromRest R.slot_count R.told core.old core.new }
-    ensures rests { OnOk result (StaysAtRest R.slot_count R.told core.old core.new) }
 {
     if !is_up(core, disk) {
         return Ok(());
@@ -84,22 +78,16 @@ fn park_down<R: Rack>(core: &mut Core<R>, hi: u8) -> Result<(), Two>
     requires nothing { batch_of core.old ≡ [] }
     ensures serving { OnOk result (IsCoreServing R.slot_count R.slot core.new) }
     ensures nothing { OnOk result (batch_of core.new ≡ []) }
-    ensures absent { OnOk result (IsNamedOrAbsent R.slot core.old → IsNamedOrAbsent R.slot core.new) }
-    ensures leaves { OnOk result (LeavesArray R.slot_count R.slot core.old core.new) }
-    ensures meta { OnOk result (IsMarkedFrom (meta_of core.old) (meta_of core.new)) }
+    ensures powers { OnOk result (PowersDisks R.slot_count R.slot R.told core.old core.new) }
     ensures table { core_table core.new ≡ core_table core.old }
     ensures no_fall { (d : ℕ) → (R.slot (core_rack core.old) d).faults ≤ (R.slot (core_rack core.new) d).faults }
     ensures calls { MakesPowerCalls R.told core.old core.new }
-    ensures lost { OnOk result (MarksPowered (R.slot (core_rack core.new)) (meta_of core.old) (meta_of core.new)) }
-    ensures tells { IfErr result (CoreTellsLosses R.told (named_out (meta_of core.old).out) core.old core.new) }
+    ensures tells { IfErr result (λ two. TellsSecond R.slot R.told core.old core.new two) }
     ensures parked { OnOk result ((d : ℕ) → (meta_of core.old).gear ≤ d → d < hi
         → named_out (meta_of core.new).out ≢ Some d → (R.slot (core_rack core.new) d).power ≡ Parked) }
     ensures others { OnOk result ((d : ℕ) → (d < (meta_of core.old).gear) ⊎ (hi ≤ d)
         → R.slot (core_rack core.new) d ≡ R.slot (core_rack core.old) d) }
-    ensures two { IfErr result (AreTwoDown (core_down core.old)
-        (R.slot (core_rack core.old)) (R.slot (core_rack core.new))) }
     ensures moments { IsHeldFromRest R.slot_count R.told core.old core.new }
-    ensures rests { OnOk result (StaysAtRest R.slot_count R.told core.old core.new) }
 {
     for disk in core.meta().gear..hi {
         lower(core, disk)?;
@@ -117,28 +105,14 @@ fn commit_gear<R: Rack>(core: &mut Core<R>) -> Result<(), Two>
         (meta_of core.old).setup.geometry.rows (phase_to (meta_of core.old).phase) }
     requires clean { (r d : ℕ) → r < (meta_of core.old).setup.geometry.rows → (meta_of core.old).gear ≤ d
         → d < phase_to (meta_of core.old).phase → is_dirty (core_table core.old) r d ≡ false }
-    ensures serving { OnOk result (IsCoreServing R.slot_count R.slot core.new) }
-    ensures nothing { OnOk result (batch_of core.new ≡ []) }
-    ensures absent { OnOk result (IsNamedOrAbsent R.slot core.new) }
-    ensures leaves { OnOk result (LeavesArray R.slot_count R.slot core.old core.new) }
-    ensures steady { OnOk result ((meta_of core.new).phase ≡ Steady) }
-    ensures meta { OnOk result (IsMarkedFrom (record (meta_flipped_to (meta_of core.old) (phase_to (meta_of core.old).phase))
-        { epoch = (meta_of core.old).epoch + 1 }) (meta_of core.new)) }
+    ensures ended { OnOk result (CommitsGear R.slot_count R.slot R.told core.old core.new) }
     ensures table { core_table core.new ≡ core_table core.old }
-    ensures named { OnOk result (named_of (store_of core.new) ≡ named_of (store_of core.old)) }
     ensures spared { OnlyLosesSlots (R.slot (core_rack core.old)) (R.slot (core_rack core.new)) }
-    ensures opens { OnOk result (CommitsMark R.slot_count R.told core.old core.new
-        (meta_flipped_to (meta_of core.old) (phase_to (meta_of core.old).phase))) }
     ensures loses { IfErr result (λ two. LosesMark R.slot_count R.told core.old core.new
         (meta_flipped_to (meta_of core.old) (phase_to (meta_of core.old).phase)) two) }
-    ensures epoch { OnOk result ((meta_of core.new).epoch ≡ (meta_of core.old).epoch + 1) }
     ensures two { IfErr result (AreTwoDown (core_down core.old)
         (R.slot (core_rack core.old)) (R.slot (core_rack core.new))) }
     ensures moments { IsHeldStill R.slot_count R.told core.old core.new }
-    ensures rests { OnOk result ((h : History) (lo : ℕ)
-        → Ran (R.told (core_rack core.old)) (R.told (core_rack core.new))
-        (CrashTriple (IsCoreHeldSinceCommit R.slot_count core.old h lo) (CoreStandsFor R.slot_count core.old h lo)
-        (RestsInShift R.slot_count core.new h lo))) }
 {
     core.flip();
     core.commit()?;

@@ -6,6 +6,7 @@ ghost use Rattle.paraid_base.specs.States.{phase_to};
 ghost use Rattle.paraid_image.specs.Out.{named_out};
 ghost use Rattle.paraid_core.specs.Cores.{IsCoreReady, batch_of, core_down, core_rack, core_table, meta_of};
 ghost use Rattle.paraid_core.specs.Steps.{IsMarkedFrom, IsNamedOrAbsent};
+ghost use Rattle.paraid_shift.specs.Outcomes.{CommitsStaged, LosesInCommit, LosesSecond, MovesGroup, StepsOn};
 ghost use Rattle.paraid_shift.specs.Serving.{IsCoreServing, LeavesArray};
 ghost use Rattle.paraid_shift.specs.Steps.{CoreLosesInEvent, CoreLosesInSteps, CoreServesMarked, CoreStepsInEvent, StepsOrWaits};
 ghost use Rattle.paraid_shift.specs.Units.{AreCellsDone, AreCoreUnitsLeft, AreUnitsDone, CoreCountsMoved, MovesUpTo};
@@ -30,26 +31,10 @@ pub struct Moved {
 fn commit<R: Rack>(core: &mut Core<R>) -> Result<(), Two>
     requires serving { IsCoreServing R.slot_count R.slot core.old }
     requires epoch { (meta_of core.old).epoch < 2 ^ 63 }
-    ensures serving { OnOk result (IsCoreServing R.slot_count R.slot core.new) }
-    ensures leaves { OnOk result (LeavesArray R.slot_count R.slot core.old core.new) }
-    ensures nothing { OnOk result (batch_of core.new ≡ []) }
-    ensures epoch { OnOk result ((meta_of core.new).epoch ≡ (meta_of core.old).epoch + 1) }
-    ensures phase { OnOk result ((meta_of core.new).out ≡ No → (meta_of core.new).phase ≡ (meta_of core.old).phase) }
-    ensures absent { OnOk result (IsNamedOrAbsent R.slot core.new) }
-    ensures meta { OnOk result (IsMarkedFrom (record (meta_of core.old) { epoch = (meta_of core.old).epoch + 1 })
-        (meta_of core.new)) }
+    ensures commits { OnOk result (CommitsStaged R.slot_count R.slot R.told core.old core.new) }
     ensures table { core_table core.new ≡ core_table core.old }
-    ensures moves { OnOk result ((meta_of core.old).out ≡ No → CoreCountsMoved R.slot_count core.old core.new 0) }
-    ensures steps { OnOk result (IsNamedOrAbsent R.slot core.old
-        → CoreStepsInEvent R.slot_count R.told core.old core.new 1) }
-    ensures marked { OnOk result (IsNamedOrAbsent R.slot core.old → CoreServesMarked R.slot_count R.told core.old core.new) }
     ensures spared { OnlyLosesSlots (R.slot (core_rack core.old)) (R.slot (core_rack core.new)) }
-    ensures two { IfErr result (AreTwoDown (core_down core.old)
-        (R.slot (core_rack core.old)) (R.slot (core_rack core.new))) }
-    ensures loses { IfErr result (λ two. IsNamedOrAbsent R.slot core.old
-        → CoreLosesInSteps R.slot_count R.told core.old core.new 1 two) }
-    ensures loses_marked { IfErr result (λ two. IsNamedOrAbsent R.slot core.old
-        → CoreLosesInEvent R.slot_count R.told core.old core.new two) }
+    ensures loses { IfErr result (λ two. LosesInCommit R.slot_count R.slot R.told core.old core.new two) }
 {
     core.commit()?;
     Ok(())
@@ -79,8 +64,7 @@ pub fn commit_staged<R: Rack>(core: &mut Core<R>) -> Result<(), Two>
     if core.staged() == 0 {
         return Ok(());
     }
-    commit(core)?;
-    Ok(())
+    commit(core)
 }
 
 // Whether a shift has no unit left, or there is none under way.
@@ -100,20 +84,11 @@ fn step_group<R: Rack>(core: &mut Core<R>, most: u32) -> Result<u32, Two>
     requires whole { (meta_of core.old).out ≡ No }
     requires nothing { batch_of core.old ≡ [] }
     requires epoch { (meta_of core.old).epoch < 2 ^ 63 }
-    ensures serving { OnOk result (IsCoreServing R.slot_count R.slot core.new) }
-    ensures leaves { OnOk result (LeavesArray R.slot_count R.slot core.old core.new) }
-    ensures absent { OnOk result (IsNamedOrAbsent R.slot core.old → IsNamedOrAbsent R.slot core.new) }
-    ensures few { IfOk result (λ count. count ≤ most) }
-    ensures moves { IfOk result (λ count. CoreCountsMoved R.slot_count core.old core.new count) }
-    ensures all { IfOk result (λ count. count ≡ 0 → (meta_of core.new).out ≡ No
-        → (most ≡ 0) ⊎ AreCellsDone (meta_of core.new) (core_table core.new)) }
-    ensures ended { OnOk result (batch_of core.new ≢ [] → AreUnitsDone (meta_of core.new) (core_table core.new)) }
-    ensures steps { OnOk result (CoreStepsInEvent R.slot_count R.told core.old core.new 1) }
-    ensures epoch { OnOk result ((meta_of core.new).epoch ≤ (meta_of core.old).epoch + 1) }
+    ensures steps { IfOk result (λ count. StepsOn R.slot_count R.slot core.old core.new most 1 count
+        (MovesGroup R.slot_count core.old core.new most count)
+        (CoreStepsInEvent R.slot_count R.told core.old core.new 1)) }
     ensures no_fall { (d : ℕ) → (R.slot (core_rack core.old) d).faults ≤ (R.slot (core_rack core.new) d).faults }
-    ensures two { IfErr result (AreTwoDown (core_down core.old)
-        (R.slot (core_rack core.old)) (R.slot (core_rack core.new))) }
-    ensures loses { IfErr result (λ two. CoreLosesInSteps R.slot_count R.told core.old core.new 1 two) }
+    ensures loses { IfErr result (λ two. LosesSecond R.slot_count R.slot R.told core.old core.new 1 two) }
 {
     let count = move_group(core, most)?;
     if count == 0 {
@@ -132,18 +107,11 @@ fn step_cells<R: Rack>(core: &mut Core<R>, most: u32) -> Result<u32, Two>
     requires whole { (meta_of core.old).out ≡ No }
     requires nothing { batch_of core.old ≡ [] }
     requires epoch { (meta_of core.old).epoch + most < 2 ^ 63 }
-    ensures serving { OnOk result (IsCoreServing R.slot_count R.slot core.new) }
-    ensures leaves { OnOk result (LeavesArray R.slot_count R.slot core.old core.new) }
-    ensures absent { OnOk result (IsNamedOrAbsent R.slot core.old → IsNamedOrAbsent R.slot core.new) }
-    ensures few { IfOk result (λ count. count ≤ most) }
-    ensures moves { IfOk result (λ count. MovesUpTo R.slot_count core.old core.new
-        (AreCellsDone (meta_of core.new) (core_table core.new)) most count) }
-    ensures steps { OnOk result (CoreStepsInEvent R.slot_count R.told core.old core.new most) }
-    ensures epoch { OnOk result ((meta_of core.new).epoch ≤ (meta_of core.old).epoch + most) }
+    ensures steps { IfOk result (λ count. StepsOn R.slot_count R.slot core.old core.new most most count
+        (MovesUpTo R.slot_count core.old core.new (AreCellsDone (meta_of core.new) (core_table core.new)) most count)
+        (CoreStepsInEvent R.slot_count R.told core.old core.new most)) }
     ensures no_fall { (d : ℕ) → (R.slot (core_rack core.old) d).faults ≤ (R.slot (core_rack core.new) d).faults }
-    ensures two { IfErr result (AreTwoDown (core_down core.old)
-        (R.slot (core_rack core.old)) (R.slot (core_rack core.new))) }
-    ensures loses { IfErr result (λ two. CoreLosesInSteps R.slot_count R.told core.old core.new most two) }
+    ensures loses { IfErr result (λ two. LosesSecond R.slot_count R.slot R.told core.old core.new most two) }
 {
     let mut moved = 0;
     for at in 0..most {
@@ -191,18 +159,11 @@ fn step_stripes<R: Rack>(core: &mut Core<R>, most: u32) -> Result<u32, Two>
     requires nothing { batch_of core.old ≡ [] }
     requires clean { 0 < most → AreCellsDone (meta_of core.old) (core_table core.old) }
     requires epoch { (meta_of core.old).epoch < 2 ^ 63 }
-    ensures serving { OnOk result (IsCoreServing R.slot_count R.slot core.new) }
-    ensures leaves { OnOk result (LeavesArray R.slot_count R.slot core.old core.new) }
-    ensures absent { OnOk result (IsNamedOrAbsent R.slot core.old → IsNamedOrAbsent R.slot core.new) }
-    ensures few { IfOk result (λ count. count ≤ most) }
-    ensures moves { IfOk result (λ count. MovesUpTo R.slot_count core.old core.new
-        (AreUnitsDone (meta_of core.new) (core_table core.new)) most count) }
-    ensures steps { OnOk result (StepsOrWaits R.slot_count R.told core.old core.new 1) }
-    ensures epoch { OnOk result ((meta_of core.new).epoch ≤ (meta_of core.old).epoch + 1) }
+    ensures steps { IfOk result (λ count. StepsOn R.slot_count R.slot core.old core.new most 1 count
+        (MovesUpTo R.slot_count core.old core.new (AreUnitsDone (meta_of core.new) (core_table core.new)) most count)
+        (StepsOrWaits R.slot_count R.told core.old core.new 1)) }
     ensures no_fall { (d : ℕ) → (R.slot (core_rack core.old) d).faults ≤ (R.slot (core_rack core.new) d).faults }
-    ensures two { IfErr result (AreTwoDown (core_down core.old)
-        (R.slot (core_rack core.old)) (R.slot (core_rack core.new))) }
-    ensures loses { IfErr result (λ two. CoreLosesInSteps R.slot_count R.told core.old core.new 1 two) }
+    ensures loses { IfErr result (λ two. LosesSecond R.slot_count R.slot R.told core.old core.new 1 two) }
 {
     let from = core.meta().fill;
     let end = next_end(core, most);
@@ -226,18 +187,11 @@ fn step_units<R: Rack>(core: &mut Core<R>, most: u32) -> Result<u32, Two>
     requires whole { (meta_of core.old).out ≡ No }
     requires nothing { batch_of core.old ≡ [] }
     requires epoch { (meta_of core.old).epoch + most < 2 ^ 63 }
-    ensures serving { OnOk result (IsCoreServing R.slot_count R.slot core.new) }
-    ensures leaves { OnOk result (LeavesArray R.slot_count R.slot core.old core.new) }
-    ensures absent { OnOk result (IsNamedOrAbsent R.slot core.old → IsNamedOrAbsent R.slot core.new) }
-    ensures few { IfOk result (λ count. count ≤ most) }
-    ensures moves { IfOk result (λ count. MovesUpTo R.slot_count core.old core.new
-        (AreUnitsDone (meta_of core.new) (core_table core.new)) most count) }
-    ensures steps { OnOk result (StepsOrWaits R.slot_count R.told core.old core.new (most + 1)) }
-    ensures epoch { OnOk result ((meta_of core.new).epoch ≤ (meta_of core.old).epoch + most + 1) }
+    ensures steps { IfOk result (λ count. StepsOn R.slot_count R.slot core.old core.new most (most + 1) count
+        (MovesUpTo R.slot_count core.old core.new (AreUnitsDone (meta_of core.new) (core_table core.new)) most count)
+        (StepsOrWaits R.slot_count R.told core.old core.new (most + 1))) }
     ensures no_fall { (d : ℕ) → (R.slot (core_rack core.old) d).faults ≤ (R.slot (core_rack core.new) d).faults }
-    ensures two { IfErr result (AreTwoDown (core_down core.old)
-        (R.slot (core_rack core.old)) (R.slot (core_rack core.new))) }
-    ensures loses { IfErr result (λ two. CoreLosesInSteps R.slot_count R.told core.old core.new (most + 1) two) }
+    ensures loses { IfErr result (λ two. LosesSecond R.slot_count R.slot R.told core.old core.new (most + 1) two) }
 {
     let cells = step_cells(core, most)?;
     let Out::No = core.out() else {
@@ -255,25 +209,18 @@ fn step_whole<R: Rack>(core: &mut Core<R>, most: u32) -> Result<u32, Two>
     requires serving { IsCoreServing R.slot_count R.slot core.old }
     requires nothing { batch_of core.old ≡ [] }
     requires epoch { (meta_of core.old).epoch + most < 2 ^ 63 }
-    ensures serving { OnOk result (IsCoreServing R.slot_count R.slot core.new) }
-    ensures leaves { OnOk result (LeavesArray R.slot_count R.slot core.old core.new) }
-    ensures absent { OnOk result (IsNamedOrAbsent R.slot core.old → IsNamedOrAbsent R.slot core.new) }
-    ensures few { IfOk result (λ count. count ≤ most) }
-    ensures moves { IfOk result (λ count. (meta_of core.old).out ≡ No → MovesUpTo R.slot_count core.old core.new
-        (AreUnitsDone (meta_of core.new) (core_table core.new)) most count) }
+    ensures steps { IfOk result (λ count. StepsOn R.slot_count R.slot core.old core.new most (most + 1) count
+        ((meta_of core.old).out ≡ No → MovesUpTo R.slot_count core.old core.new
+        (AreUnitsDone (meta_of core.new) (core_table core.new)) most count)
+        (StepsOrWaits R.slot_count R.told core.old core.new (most + 1))) }
     ensures idle { IfOk result (λ count. (meta_of core.old).out ≢ No → (count ≡ 0) × (core.new ≡ core.old)) }
-    ensures steps { OnOk result (StepsOrWaits R.slot_count R.told core.old core.new (most + 1)) }
-    ensures epoch { OnOk result ((meta_of core.new).epoch ≤ (meta_of core.old).epoch + most + 1) }
     ensures no_fall { (d : ℕ) → (R.slot (core_rack core.old) d).faults ≤ (R.slot (core_rack core.new) d).faults }
-    ensures two { IfErr result (AreTwoDown (core_down core.old)
-        (R.slot (core_rack core.old)) (R.slot (core_rack core.new))) }
-    ensures loses { IfErr result (λ two. CoreLosesInSteps R.slot_count R.told core.old core.new (most + 1) two) }
+    ensures loses { IfErr result (λ two. LosesSecond R.slot_count R.slot R.told core.old core.new (most + 1) two) }
 {
     let Out::No = core.out() else {
         return Ok(0);
     };
-    let count = step_units(core, most)?;
-    Ok(count)
+    step_units(core, most)
 }
 
 /// How many units of a shift are left.

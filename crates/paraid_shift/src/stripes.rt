@@ -1,5 +1,5 @@
 //! Stripes of the region of the new gear are copied past the log, made to last and marked.
-ghost use Rattle.std.specs.Prelude.{◌≡◌, ◌≢◌, ℕ, ◌+◌, ◌<◌, ◌≤◌, [], true, false, Ok, OnOk, IfErr};
+ghost use Rattle.std.specs.Prelude.{◌≡◌, ◌≢◌, ℕ, ◌+◌, ◌<◌, ◌≤◌, [], true, false, Ok, OnOk, IfOk, IfErr};
 ghost use Rattle.paraid_base.specs.declared.state.Out.TheVariants.{No};
 ghost use Rattle.paraid_base.specs.History.{History};
 ghost use Rattle.paraid_base.specs.Soft.{stripe_count};
@@ -12,6 +12,7 @@ ghost use Rattle.paraid_image.specs.Out.{named_out};
 ghost use Rattle.paraid_core.specs.Steps.{IsMarkedFrom, IsNamedOrAbsent, LeavesCore};
 ghost use Rattle.paraid_moves.specs.MoveMetas.{filled_to};
 ghost use Rattle.paraid_rack.specs.Told.{CrashTriple, Ran};
+ghost use Rattle.paraid_shift.specs.Outcomes.{LosesSecond, MarksStripes, TellsSecond};
 ghost use Rattle.paraid_shift.specs.Serving.{IsHeldFromRest, IsCoreServing, LeavesArray, RestsInShift};
 ghost use Rattle.paraid_shift.specs.Steps.{CoreLosesInSteps, CoreStepsToMark};
 ghost use Rattle.paraid_txn.specs.Losses.{AreTwoDown, OnlyLosesSlots};
@@ -37,9 +38,7 @@ fn fill_stripes<R: Rack>(core: &mut Core<R>, end: u32) -> Result<bool, Two>
     ensures same { result ≡ Ok true → meta_of core.new ≡ meta_of core.old }
     ensures gone { result ≡ Ok false → (meta_of core.new).out ≢ No }
     ensures spared { OnlyLosesSlots (R.slot (core_rack core.old)) (R.slot (core_rack core.new)) }
-    ensures two { IfErr result (AreTwoDown (core_down core.old)
-        (R.slot (core_rack core.old)) (R.slot (core_rack core.new))) }
-    ensures tells { IfErr result (CoreTellsLosses R.told (named_out (meta_of core.old).out) core.old core.new) }
+    ensures tells { IfErr result (λ two. TellsSecond R.slot R.told core.old core.new two) }
     ensures filled { result ≡ Ok true → (h : History) (lo : ℕ)
         → Ran (R.told (core_rack core.old)) (R.told (core_rack core.new))
         (CrashTriple (IsCoreHeldSinceCommit R.slot_count core.old h lo) (RestsInShift R.slot_count core.old h lo)
@@ -73,27 +72,9 @@ pub(crate) fn move_stripes<R: Rack>(core: &mut Core<R>, end: u32) -> Result<bool
     requires stripe { end ≤ stripe_count (meta_of core.old).setup.geometry.disks
         (meta_of core.old).setup.geometry.rows (phase_to (meta_of core.old).phase) }
     requires nothing { batch_of core.old ≡ [] }
-    ensures serving { OnOk result (IsCoreServing R.slot_count R.slot core.new) }
-    ensures leaves { OnOk result (LeavesArray R.slot_count R.slot core.old core.new) }
-    ensures nothing { OnOk result (batch_of core.new ≡ []) }
-    ensures store { OnOk result (IsSameStore (store_of core.old) (store_of core.new)) }
-    ensures table { OnOk result (core_table core.new ≡ core_table core.old) }
-    ensures filled { result ≡ Ok true → meta_of core.new ≡ filled_to (meta_of core.old) end }
-    ensures lost { result ≡ Ok false → IsMarkedFrom (meta_of core.old) (meta_of core.new) }
-    ensures gone { result ≡ Ok false → (meta_of core.new).out ≢ No }
-    ensures absent { OnOk result (IsNamedOrAbsent R.slot core.old → IsNamedOrAbsent R.slot core.new) }
-    ensures waits { result ≡ Ok true → CoreStepsToMark R.slot_count R.told core.old core.new (meta_of core.new) 0 }
+    ensures marks { IfOk result (λ done. MarksStripes R.slot_count R.slot R.told core.old core.new end done) }
     ensures spared { OnlyLosesSlots (R.slot (core_rack core.old)) (R.slot (core_rack core.new)) }
-    ensures two { IfErr result (AreTwoDown (core_down core.old)
-        (R.slot (core_rack core.old)) (R.slot (core_rack core.new))) }
-    ensures loses { IfErr result (λ two. CoreLosesInSteps R.slot_count R.told core.old core.new 1 two) }
-    ensures moments { IsHeldFromRest R.slot_count R.told core.old core.new }
-    ensures calls { MakesDataCalls R.told core.old core.new }
-    ensures marks { result ≡ Ok false → CoreMarksLost R.slot core.old core.new }
-    ensures stands { OnOk result ((h : History) (lo : ℕ)
-        → Ran (R.told (core_rack core.old)) (R.told (core_rack core.new))
-        (CrashTriple (IsCoreHeldSinceCommit R.slot_count core.old h lo) (RestsInShift R.slot_count core.old h lo)
-        (CoreStandsFor R.slot_count core.new h lo))) }
+    ensures loses { IfErr result (λ two. LosesSecond R.slot_count R.slot R.told core.old core.new 1 two) }
 {
     let done = fill_stripes(core, end)?;
     core.settle()?;

@@ -7,87 +7,96 @@ use Rattle.std.proofs.Common.{◌∙◌, ap, subst}
 use Rattle.std.specs.Prelude.{length}
 use Rattle.paraid_base.specs.States.{gone_out}
 use Rattle.paraid_record.specs.declared.meta.Meta.{Meta}
-use Rattle.paraid_txn.specs.Losses.{OnlyLosesSlots}
+use Rattle.std.specs.Prelude.{◌+◌}
+use Rattle.paraid_txn.specs.Losses.{AreTwoDown, OnlyLosesSlots}
+use Rattle.paraid_core.specs.Steps.{IsMarkedFrom}
+use Rattle.paraid_shift.proofs.AnswerLemmas.{none_done}
+use Rattle.paraid_shift.specs.Steps.{CoreLosesInSteps}
 use Rattle.paraid_txn.specs.Stores.{named_of, store_rack}
-use Rattle.paraid_core.specs.Cores.{CoreStandsFor}
+use Rattle.paraid_core.specs.Cores.{CoreStandsFor, core_down}
 use Rattle.paraid_core.specs.Fills.{Filled}
-use Rattle.paraid_shift.proofs.ServingLemmas.{chain, chain_held, copies_still, large_then, none_away, none_known, turns_lost, unsynced_still}
+use Rattle.paraid_shift.proofs.ServingLemmas.{array_marked, leaves_array_then, two_array, chain, chain_held, copies_still, large_then, none_away, none_known, turns_lost, unsynced_still}
 use Rattle.paraid_core.proofs.AfterLemmas.{handed}
 use Rattle.paraid_shift.proofs.LossLemmas.{commit_is_lost, marks_lost}
 use Rattle.paraid_shift.proofs.begin.begin_down.Goals as goal
 
-pub returns-in_err-commit-clause-moments : goal.returns-in_err-commit-clause-moments
-returns-in_err-commit-clause-moments g c h lo =
+pub returns-in_err-commit : goal.returns-in_err-commit
+returns-in_err-commit g c =
     let a = c.args.core.now in
     let b = c.begin_down.new.self in
+    let new = c.commit.new.self in
     let marks = c.begin_down.ensures in
-    chain_held g.R.Rack.slot_count g.R.Rack.told a b (ap (λ (z : _). g.R.Rack.slot_count (store_rack z)) marks.store) (ap (λ (m : Meta). m.setup) marks.meta) (ap named_of marks.store)
-    (CoreStandsFor g.R.Rack.slot_count a h lo) (CoreStandsFor g.R.Rack.slot_count b h lo) h lo _ (marks.stands h lo) (c.commit.ensures.moments_since (none_away g.R.Rack.slot b (ap (λ (m : Meta). m.out) marks.meta ∙ c.requires.whole)) h lo)
+    let all = c.commit.ensures in
+    let from = c.from_residual in
+    let away = none_away g.R.Rack.slot b (ap (λ (m : Meta). m.out) marks.meta ∙ c.requires.whole) in
+    record {
+      serving = none_done _ from.result _ from.ensures.1;
+      absent = none_done _ from.result _ from.ensures.1;
+      leaves = none_done _ from.result _ from.ensures.1;
+      meta = none_done _ from.result _ from.ensures.1;
+      table = all.table ∙ marks.table;
+      nothing = none_done _ from.result _ from.ensures.1;
+      steps = none_done _ from.result _ from.ensures.1;
+      loses = handed (λ two. CoreLosesInSteps g.R.Rack.slot_count g.R.Rack.told a new 1 two) from.result _ from.ensures.1
+          (marks_lost g.R.Rack.slot_count g.R.Rack.slot g.R.Rack.told a b new a.meta 0 _
+          (marks_wait g.R.Rack.slot_count g.R.Rack.slot g.R.Rack.told a a b 0 (core_steps_none g.R.Rack.slot_count g.R.Rack.slot g.R.Rack.told a) marks.store
+          (λ samples served energy. down_mark (service_of g.R.Rack.slot_count a samples served energy) (service_of g.R.Rack.slot_count b samples served energy) (ap (λ (z : _). g.R.Rack.slot_count (store_rack z)) marks.store) (ap named_of marks.store) c.args.to c.requires.whole marks.meta)
+          marks.stands)
+          (commit_is_lost g.R.Rack.slot_count g.R.Rack.slot g.R.Rack.told b new _ all.calls all.whole (all.moments_since away) marks.serves.stays c.in_err-commit.ensures.tells));
+      spared = subst (λ (z : _). OnlyLosesSlots (g.R.Rack.slot (store_rack z)) (g.R.Rack.slot (store_rack new.store))) marks.store all.spared;
+      two = handed (AreTwoDown (core_down a) (g.R.Rack.slot (store_rack a.store)) (g.R.Rack.slot (store_rack new.store))) from.result _ from.ensures.1
+          (two_array g.R.Rack.slot_count g.R.Rack.slot a b new
+          (array_marked g.R.Rack.slot_count g.R.Rack.slot a b marks.store (ap (λ (m : Meta). m.setup) marks.meta) (ap (λ (m : Meta). m.out) marks.meta) (ap (λ (m : Meta). m.writes) marks.meta))
+          all.spared.no_fall _ c.in_err-commit.ensures.two);
+      moments = λ h lo.
+          chain_held g.R.Rack.slot_count g.R.Rack.told a b (ap (λ (z : _). g.R.Rack.slot_count (store_rack z)) marks.store) (ap (λ (m : Meta). m.setup) marks.meta) (ap named_of marks.store)
+          (CoreStandsFor g.R.Rack.slot_count a h lo) (CoreStandsFor g.R.Rack.slot_count b h lo) h lo _ (marks.stands h lo) (all.moments_since away h lo);
+      rests = none_done _ from.result _ from.ensures.1;
+    }
 
-pub returns-clause-serving : goal.returns-clause-serving
-returns-clause-serving g c =
+pub returns : goal.returns
+returns g c =
     let q = c.requires.serving in
     let a = c.args.core.now in
     let b = c.begin_down.new.self in
     let new = c.commit.new.self in
     let marks = c.begin_down.ensures in
+    let all = c.commit.ensures in
     let done = c.in_ok-commit.ensures in
     let setup = done.setup ∙ ap (λ (m : Meta). m.setup) marks.meta in
+    let away = none_away g.R.Rack.slot b (ap (λ (m : Meta). m.out) marks.meta ∙ c.requires.whole) in
+    let spared = subst (λ (z : _). OnlyLosesSlots (g.R.Rack.slot (store_rack z)) (g.R.Rack.slot (store_rack new.store))) marks.store all.spared in
     record {
-      ready = done.ready;
-      serves = done.serves marks.serves;
-      draft = done.draft ∙ marks.draft ∙ q.draft;
-      copies_synced = copies_still g.R.Rack.slot_count g.R.Rack.slot a new q setup (done.copied ∙ marks.copied);
-      unsynced = done.unsynced (unsynced_still g.R.Rack.slot_count g.R.Rack.slot a b q (ap (λ (m : Meta). m.setup) marks.meta) (λ d is. ap (λ (m : Meta). gone_out m.out) marks.meta ∙ is) marks.store marks.copied);
-      large = large_then (g.R.Rack.slot (store_rack a.store)) (g.R.Rack.slot (store_rack new.store)) a.meta new.meta q.large
-          (turns_lost _ _ (subst (λ (z : _). OnlyLosesSlots (g.R.Rack.slot (store_rack z)) (g.R.Rack.slot (store_rack new.store))) marks.store c.commit.ensures.spared)) setup
-          (λ d is. none_known a.meta c.requires.whole d is) done.ready.absent;
+      serving = record {
+        ready = done.ready;
+        serves = done.serves marks.serves;
+        draft = done.draft ∙ marks.draft ∙ q.draft;
+        copies_synced = copies_still g.R.Rack.slot_count g.R.Rack.slot a new q setup (done.copied ∙ marks.copied);
+        unsynced = done.unsynced (unsynced_still g.R.Rack.slot_count g.R.Rack.slot a b q (ap (λ (m : Meta). m.setup) marks.meta) (λ d is. ap (λ (m : Meta). gone_out m.out) marks.meta ∙ is) marks.store marks.copied);
+        large = large_then (g.R.Rack.slot (store_rack a.store)) (g.R.Rack.slot (store_rack new.store)) a.meta new.meta q.large (turns_lost _ _ spared) setup (λ d is. none_known a.meta c.requires.whole d is) done.ready.absent;
+      };
+      absent = done.absent;
+      leaves = leaves_array_then g.R.Rack.slot_count g.R.Rack.slot a b new
+          (array_marked g.R.Rack.slot_count g.R.Rack.slot a b marks.store (ap (λ (m : Meta). m.setup) marks.meta) (ap (λ (m : Meta). m.out) marks.meta) (ap (λ (m : Meta). m.writes) marks.meta))
+          record { slots = all.slots; setup = done.setup; writes = done.writes; turned = turns_lost _ _ all.spared; down = done.down };
+      meta = subst (λ (z : Meta). IsMarkedFrom (record z { epoch = z.epoch + 1 }) new.meta) marks.meta done.meta;
+      table = all.table ∙ marks.table;
+      nothing = done.nothing;
+      steps = marks_committed g.R.Rack.slot_count g.R.Rack.slot g.R.Rack.told a b new a.meta 0
+          (marks_wait g.R.Rack.slot_count g.R.Rack.slot g.R.Rack.told a a b 0 (core_steps_none g.R.Rack.slot_count g.R.Rack.slot g.R.Rack.told a) marks.store
+          (λ samples served energy. down_mark (service_of g.R.Rack.slot_count a samples served energy) (service_of g.R.Rack.slot_count b samples served energy) (ap (λ (z : _). g.R.Rack.slot_count (store_rack z)) marks.store) (ap named_of marks.store) c.args.to c.requires.whole marks.meta)
+          marks.stands)
+          all.slots done.epoch
+          (λ d. down_powers a.meta c.args.to d c.requires.steady ∙ sym (ap (λ (m : Meta). power_by_gear m.gear m.phase d) marks.meta))
+          (commit_is_marked g.R.Rack.slot_count g.R.Rack.slot g.R.Rack.told b new (g.met.R.Rack.agrees (store_rack b.store)) (g.met.R.Rack.agrees (store_rack new.store)) all.slots done.setup done.ready done.marks all.calls all.whole
+          (commit_stands g.R.Rack.slot_count g.R.Rack.slot g.R.Rack.told b new done.nothing (done.filled_since away)));
+      loses = tt;
+      spared = spared;
+      two = tt;
+      moments = λ h lo.
+          chain_held g.R.Rack.slot_count g.R.Rack.told a b (ap (λ (z : _). g.R.Rack.slot_count (store_rack z)) marks.store) (ap (λ (m : Meta). m.setup) marks.meta) (ap named_of marks.store)
+          (CoreStandsFor g.R.Rack.slot_count a h lo) (CoreStandsFor g.R.Rack.slot_count b h lo) h lo _ (marks.stands h lo) (all.moments_since away h lo);
+      rests = λ h lo.
+          chain g.R.Rack.slot_count g.R.Rack.told a b (ap (λ (z : _). g.R.Rack.slot_count (store_rack z)) marks.store) (ap (λ (m : Meta). m.setup) marks.meta) (ap named_of marks.store)
+          (CoreStandsFor g.R.Rack.slot_count a h lo) (CoreStandsFor g.R.Rack.slot_count b h lo) (Filled g.R.Rack.slot_count new h (length h) new.meta.fill) h lo _ (marks.stands h lo) (done.filled_since away h lo);
     }
-
-pub returns-clause-moments : goal.returns-clause-moments
-returns-clause-moments g c h lo =
-    let a = c.args.core.now in
-    let b = c.begin_down.new.self in
-    let marks = c.begin_down.ensures in
-    chain_held g.R.Rack.slot_count g.R.Rack.told a b (ap (λ (z : _). g.R.Rack.slot_count (store_rack z)) marks.store) (ap (λ (m : Meta). m.setup) marks.meta) (ap named_of marks.store)
-    (CoreStandsFor g.R.Rack.slot_count a h lo) (CoreStandsFor g.R.Rack.slot_count b h lo) h lo _ (marks.stands h lo) (c.commit.ensures.moments_since (none_away g.R.Rack.slot b (ap (λ (m : Meta). m.out) marks.meta ∙ c.requires.whole)) h lo)
-
-pub returns-clause-rests : goal.returns-clause-rests
-returns-clause-rests g c h lo =
-    let a = c.args.core.now in
-    let b = c.begin_down.new.self in
-    let marks = c.begin_down.ensures in
-    chain g.R.Rack.slot_count g.R.Rack.told a b (ap (λ (z : _). g.R.Rack.slot_count (store_rack z)) marks.store) (ap (λ (m : Meta). m.setup) marks.meta) (ap named_of marks.store)
-    (CoreStandsFor g.R.Rack.slot_count a h lo) (CoreStandsFor g.R.Rack.slot_count b h lo) (Filled g.R.Rack.slot_count c.commit.new.self h (length h) c.commit.new.self.meta.fill) h lo _ (marks.stands h lo)
-    (c.in_ok-commit.ensures.filled_since (none_away g.R.Rack.slot b (ap (λ (m : Meta). m.out) marks.meta ∙ c.requires.whole)) h lo)
-
-pub returns-clause-steps : goal.returns-clause-steps
-returns-clause-steps g c =
-    let a = c.args.core.now in
-    let b = c.begin_down.new.self in
-    let new = c.commit.new.self in
-    let marks = c.begin_down.ensures in
-    let done = c.in_ok-commit.ensures in
-    let away = none_away g.R.Rack.slot b (ap (λ (m : Meta). m.out) marks.meta ∙ c.requires.whole) in
-    marks_committed g.R.Rack.slot_count g.R.Rack.slot g.R.Rack.told a b new a.meta 0
-    (marks_wait g.R.Rack.slot_count g.R.Rack.slot g.R.Rack.told a a b 0 (core_steps_none g.R.Rack.slot_count g.R.Rack.slot g.R.Rack.told a) marks.store
-    (λ samples served energy. down_mark (service_of g.R.Rack.slot_count a samples served energy) (service_of g.R.Rack.slot_count b samples served energy) (ap (λ (z : _). g.R.Rack.slot_count (store_rack z)) marks.store) (ap named_of marks.store) c.args.to c.requires.whole marks.meta)
-    marks.stands)
-    c.commit.ensures.slots done.epoch
-    (λ d. down_powers a.meta c.args.to d c.requires.steady ∙ sym (ap (λ (m : Meta). power_by_gear m.gear m.phase d) marks.meta))
-    (commit_is_marked g.R.Rack.slot_count g.R.Rack.slot g.R.Rack.told b new (g.met.R.Rack.agrees (store_rack b.store)) (g.met.R.Rack.agrees (store_rack new.store)) c.commit.ensures.slots done.setup done.ready done.marks c.commit.ensures.calls c.commit.ensures.whole
-    (commit_stands g.R.Rack.slot_count g.R.Rack.slot g.R.Rack.told b new done.nothing (done.filled_since away)))
-
-pub returns-in_err-commit-clause-loses : goal.returns-in_err-commit-clause-loses
-returns-in_err-commit-clause-loses g c =
-    let a = c.args.core.now in
-    let b = c.begin_down.new.self in
-    let new = c.commit.new.self in
-    let marks = c.begin_down.ensures in
-    let away = none_away g.R.Rack.slot b (ap (λ (m : Meta). m.out) marks.meta ∙ c.requires.whole) in
-    handed _ c.from_residual.result _ c.from_residual.ensures.1
-    (marks_lost g.R.Rack.slot_count g.R.Rack.slot g.R.Rack.told a b new a.meta 0 _
-    (marks_wait g.R.Rack.slot_count g.R.Rack.slot g.R.Rack.told a a b 0 (core_steps_none g.R.Rack.slot_count g.R.Rack.slot g.R.Rack.told a) marks.store
-    (λ samples served energy. down_mark (service_of g.R.Rack.slot_count a samples served energy) (service_of g.R.Rack.slot_count b samples served energy) (ap (λ (z : _). g.R.Rack.slot_count (store_rack z)) marks.store) (ap named_of marks.store) c.args.to c.requires.whole marks.meta)
-    marks.stands)
-    (commit_is_lost g.R.Rack.slot_count g.R.Rack.slot g.R.Rack.told b new _ c.commit.ensures.calls c.commit.ensures.whole (c.commit.ensures.moments_since away) marks.serves.stays c.in_err-commit.ensures.tells))

@@ -1,5 +1,10 @@
-use Rattle.std.proofs.Common.{ℕ, ◌≤◌}
+use Rattle.std.proofs.Common.{◌+◌, ℕ}
 use Rattle.paraid_core.proofs.AfterLemmas.{handed}
+use Rattle.paraid_shift.proofs.AnswerLemmas.{none_done}
+use Rattle.paraid_core.specs.Cores.{core_down}
+use Rattle.paraid_txn.specs.Losses.{AreTwoDown}
+use Rattle.paraid_shift.specs.Steps.{CoreLosesInSteps}
+use Rattle.paraid_shift.proofs.OutcomeLemmas.{no_fall_then}
 use Rattle.paraid_shift.proofs.ServingLemmas.{leaves_array_then, two_array}
 use Rattle.std.proofs.Common.{◌≡◌, ◌∙◌, refl, ap, arith, sym, inl, inr}
 use Rattle.paraid_base.specs.declared.state.Phase.{Phase}
@@ -18,90 +23,101 @@ use Rattle.paraid_shift.proofs.ServingLemmas.{chain, chain_held, marked_gear, ma
 use Rattle.paraid_shift.proofs.LossLemmas.{powers_are_lost, rise_lost, up_lost}
 use Rattle.paraid_shift.proofs.begin.begin_up.Goals as goal
 
-pub returns-in_err-bring_up-clause-moments : goal.returns-in_err-bring_up-clause-moments
-returns-in_err-bring_up-clause-moments g c h lo =
+pub returns-in_err-commit_up : goal.returns-in_err-commit_up
+returns-in_err-commit_up g c =
     let a = c.args.core.now in
-    let b = c.commit_up.new.core in
-    let was = c.in_ok-commit_up.ensures in
-    chain_held g.R.Rack.slot_count g.R.Rack.told a b was.leaves.slots was.leaves.setup was.named
-    (CoreStandsFor g.R.Rack.slot_count a h lo) (RestsInShift g.R.Rack.slot_count b h lo) h lo _ (was.rests h lo) (c.bring_up.ensures.moments h lo)
+    let new = c.commit_up.new.core in
+    let all = c.commit_up.ensures in
+    let from = c.from_residual in
+    record {
+      serving = none_done _ from.result _ from.ensures.1;
+      absent = none_done _ from.result _ from.ensures.1;
+      leaves = none_done _ from.result _ from.ensures.1;
+      meta = none_done _ from.result _ from.ensures.1;
+      table = all.table;
+      nothing = none_done _ from.result _ from.ensures.1;
+      no_fall = all.spared.no_fall;
+      steps = none_done _ from.result _ from.ensures.1;
+      loses = handed (λ two. CoreLosesInSteps g.R.Rack.slot_count g.R.Rack.told a new 1 two) from.result _ from.ensures.1
+          (up_lost g.R.Rack.slot_count g.R.Rack.slot g.R.Rack.told a new c.args.to _ c.requires.whole c.in_err-commit_up.ensures.loses);
+      two = handed (AreTwoDown (core_down a) (g.R.Rack.slot (store_rack a.store)) (g.R.Rack.slot (store_rack new.store))) from.result _ from.ensures.1 c.in_err-commit_up.ensures.two;
+      moments = all.moments;
+      rests = none_done _ from.result _ from.ensures.1;
+    }
 
-pub returns-clause-meta : goal.returns-clause-meta
-returns-clause-meta g c =
-    let was = c.in_ok-commit_up.ensures.meta in
-    record { spins = was.spins; is = marked_then _ c.commit_up.new.core.meta c.bring_up.new.core.meta was.is c.in_ok-bring_up.ensures.meta; raised = was.raised; others = was.others }
+pub bring_up-requires : goal.bring_up-requires
+bring_up-requires g c = record { rising = c.in_ok-commit_up.ensures.begun.rising }
 
-pub returns-clause-moments : goal.returns-clause-moments
-returns-clause-moments g c h lo =
-    let a = c.args.core.now in
-    let b = c.commit_up.new.core in
-    let was = c.in_ok-commit_up.ensures in
-    chain_held g.R.Rack.slot_count g.R.Rack.told a b was.leaves.slots was.leaves.setup was.named
-    (CoreStandsFor g.R.Rack.slot_count a h lo) (RestsInShift g.R.Rack.slot_count b h lo) h lo _ (was.rests h lo) (c.bring_up.ensures.moments h lo)
-
-pub returns-clause-rests : goal.returns-clause-rests
-returns-clause-rests g c h lo =
-    let a = c.args.core.now in
-    let b = c.commit_up.new.core in
-    let was = c.in_ok-commit_up.ensures in
-    chain g.R.Rack.slot_count g.R.Rack.told a b was.leaves.slots was.leaves.setup was.named
-    (CoreStandsFor g.R.Rack.slot_count a h lo) (RestsInShift g.R.Rack.slot_count b h lo) (RestsInShift g.R.Rack.slot_count c.bring_up.new.core h lo) h lo _ (was.rests h lo) (c.in_ok-bring_up.ensures.rests h lo)
-
-pub returns-clause-steps : goal.returns-clause-steps
-returns-clause-steps g c h lo samples served energy =
+pub returns-in_err-bring_up : goal.returns-in_err-bring_up
+returns-in_err-bring_up g c =
     let a = c.args.core.now in
     let b = c.commit_up.new.core in
     let n = c.bring_up.new.core in
-    let one = c.in_ok-commit_up.ensures in
+    let one = c.in_ok-commit_up.ensures.begun in
+    let all = c.bring_up.ensures in
+    let lost = c.in_err-bring_up.ensures.tells in
+    let from = c.from_residual-in_err-bring_up in
+    record {
+      serving = none_done _ from.result _ from.ensures.1;
+      absent = none_done _ from.result _ from.ensures.1;
+      leaves = none_done _ from.result _ from.ensures.1;
+      meta = none_done _ from.result _ from.ensures.1;
+      table = all.table ∙ c.commit_up.ensures.table;
+      nothing = none_done _ from.result _ from.ensures.1;
+      no_fall = no_fall_then g.R.Rack.slot a b n c.commit_up.ensures.spared.no_fall all.no_fall;
+      steps = none_done _ from.result _ from.ensures.1;
+      loses = handed (λ two. CoreLosesInSteps g.R.Rack.slot_count g.R.Rack.told a n 1 two) from.result _ from.ensures.1
+          (rise_lost g.R.Rack.slot_count g.R.Rack.slot g.R.Rack.told a b n c.args.to _ c.requires.whole one.opens one.leaves.slots one.epoch
+          (powers_are_lost g.R.Rack.slot_count g.R.Rack.slot g.R.Rack.told b n _ one.nothing all.calls all.moments lost.tells));
+      two = handed (AreTwoDown (core_down a) (g.R.Rack.slot (store_rack a.store)) (g.R.Rack.slot (store_rack n.store))) from.result _ from.ensures.1
+          (two_array g.R.Rack.slot_count g.R.Rack.slot a b n one.leaves all.no_fall _ lost.down);
+      moments = λ h lo.
+          chain_held g.R.Rack.slot_count g.R.Rack.told a b one.leaves.slots one.leaves.setup one.named
+          (CoreStandsFor g.R.Rack.slot_count a h lo) (RestsInShift g.R.Rack.slot_count b h lo) h lo _ (one.rests h lo) (all.moments h lo);
+      rests = none_done _ from.result _ from.ensures.1;
+    }
+
+pub returns : goal.returns
+returns g c =
+    let a = c.args.core.now in
+    let b = c.commit_up.new.core in
+    let n = c.bring_up.new.core in
+    let one = c.in_ok-commit_up.ensures.begun in
+    let all = c.bring_up.ensures in
     let two = c.in_ok-bring_up.ensures in
-    let up = one.opens in
-    let to = c.args.to in
-    let m = meta_after_begin a.meta (Up to) up.spins in
-    let k = service_of g.R.Rack.slot_count a samples served energy in
-    let gear : b.meta.gear ≡ a.meta.gear = marked_gear _ b.meta up.marks in
-    let rises : rising_to b.meta.phase ≡ to = rises_same _ b.meta up.marks in
-    let gear_then : n.meta.gear ≡ a.meta.gear = marked_gear b.meta n.meta two.meta ∙ gear in
-    let rises_then : rising_to n.meta.phase ≡ rising_to b.meta.phase = rises_same b.meta n.meta two.meta in
-    let below = c.requires.next.below in
-    up_in_steps (g.R.Rack.told (store_rack a.store)) (g.R.Rack.told (store_rack a.store)) k k (record k { meta = m }) h lo 0 c.requires.whole refl refl (λ t tells holds. up.opens.stands h lo samples served energy t tells holds) to up.spins refl up.raised up.others
-    (g.R.Rack.told (store_rack b.store)) (g.R.Rack.told (store_rack n.store)) (service_of g.R.Rack.slot_count b samples served energy) (service_of g.R.Rack.slot_count n samples served energy) lo (omega arith) one.leaves.slots two.leaves.slots one.epoch
-    (core_steps_none g.R.Rack.slot_count g.R.Rack.slot g.R.Rack.told a h lo samples served energy) (up.opens.serves h lo samples served energy)
-    (turns_are_powers g.R.Rack.slot_count g.R.Rack.slot g.R.Rack.told b n (g.met.R.Rack.agrees (store_rack b.store)) (g.met.R.Rack.agrees (store_rack n.store)) two.serving.ready two.meta two.lost
-    (not_fresh _ n.meta (marked_then _ b.meta n.meta up.marks two.meta) c.requires.whole) a.meta (rising_to b.meta.phase) one.nothing two.nothing c.bring_up.ensures.calls two.rests
-    (λ d low high not. two.serving.serves.spins d (omega (arith, high, rises_then)) not ∙ rising_spins n.meta.gear d n.meta.phase (omega (arith, high, rises_then)))
-    two.others
-    (λ d place. ap (λ (p : Phase). power_by_gear a.meta.gear p d) c.requires.steady ∙ ap (λ (x : ℕ). power_by_gear x Steady d) (sym gear_then)
-    ∙ rising_same n.meta.gear d n.meta.phase (omega (arith, gear_then, rises_then, rises, below)) (elim place [ inl low ↦ inl (omega (arith, low, gear, gear_then)) | inr past ↦ inr (omega (arith, past, rises_then)) ])) h lo samples served energy)
-
-pub returns-in_err-commit_up-clause-loses : goal.returns-in_err-commit_up-clause-loses
-returns-in_err-commit_up-clause-loses g c =
-    handed _ c.from_residual.result _ c.from_residual.ensures.1
-    (up_lost g.R.Rack.slot_count g.R.Rack.slot g.R.Rack.told c.args.core.now c.commit_up.new.core c.args.to _ c.requires.whole c.in_err-commit_up.ensures.loses)
-
-pub returns-in_err-bring_up-clause-loses : goal.returns-in_err-bring_up-clause-loses
-returns-in_err-bring_up-clause-loses g c =
-    let a = c.args.core.now in
-    let b = c.commit_up.new.core in
-    let n = c.bring_up.new.core in
-    let one = c.in_ok-commit_up.ensures in
-    handed _ c.from_residual-in_err-bring_up.result _ c.from_residual-in_err-bring_up.ensures.1
-    (rise_lost g.R.Rack.slot_count g.R.Rack.slot g.R.Rack.told a b n c.args.to _ c.requires.whole one.opens one.leaves.slots one.epoch
-    (powers_are_lost g.R.Rack.slot_count g.R.Rack.slot g.R.Rack.told b n _ one.nothing c.bring_up.ensures.calls c.bring_up.ensures.moments c.in_err-bring_up.ensures.tells))
-
-later : (a b c : ℕ) → a ≤ b → b ≤ c → a ≤ c
-later a b c first second = omega arith
-
-pub returns-in_err-bring_up-clause-no_fall : goal.returns-in_err-bring_up-clause-no_fall
-returns-in_err-bring_up-clause-no_fall g c d = later _ _ _ (c.commit_up.ensures.spared.no_fall d) (c.bring_up.ensures.no_fall d)
-
-pub returns-clause-no_fall : goal.returns-clause-no_fall
-returns-clause-no_fall g c d = later _ _ _ (c.commit_up.ensures.spared.no_fall d) (c.bring_up.ensures.no_fall d)
-
-pub returns-clause-leaves : goal.returns-clause-leaves
-returns-clause-leaves g c =
-    leaves_array_then g.R.Rack.slot_count g.R.Rack.slot c.args.core.now c.commit_up.new.core c.bring_up.new.core c.in_ok-commit_up.ensures.leaves c.in_ok-bring_up.ensures.leaves
-
-pub returns-in_err-bring_up-clause-two : goal.returns-in_err-bring_up-clause-two
-returns-in_err-bring_up-clause-two g c =
-    handed _ c.from_residual-in_err-bring_up.result _ c.from_residual-in_err-bring_up.ensures.1
-    (two_array g.R.Rack.slot_count g.R.Rack.slot c.args.core.now c.commit_up.new.core c.bring_up.new.core c.in_ok-commit_up.ensures.leaves c.bring_up.ensures.no_fall _ c.in_err-bring_up.ensures.two)
+    record {
+      serving = two.serving;
+      absent = two.powers.absent one.absent;
+      leaves = leaves_array_then g.R.Rack.slot_count g.R.Rack.slot a b n one.leaves two.powers.leaves;
+      meta = record { spins = one.meta.spins; is = marked_then _ b.meta n.meta one.meta.is two.powers.meta; raised = one.meta.raised; others = one.meta.others };
+      table = all.table ∙ c.commit_up.ensures.table;
+      nothing = two.nothing;
+      no_fall = no_fall_then g.R.Rack.slot a b n c.commit_up.ensures.spared.no_fall all.no_fall;
+      steps = λ h lo samples served energy.
+          let up = one.opens in
+          let to = c.args.to in
+          let m = meta_after_begin a.meta (Up to) up.spins in
+          let k = service_of g.R.Rack.slot_count a samples served energy in
+          let gear : b.meta.gear ≡ a.meta.gear = marked_gear _ b.meta up.marks in
+          let rises : rising_to b.meta.phase ≡ to = rises_same _ b.meta up.marks in
+          let gear_then : n.meta.gear ≡ a.meta.gear = marked_gear b.meta n.meta two.powers.meta ∙ gear in
+          let rises_then : rising_to n.meta.phase ≡ rising_to b.meta.phase = rises_same b.meta n.meta two.powers.meta in
+          let below = c.requires.next.below in
+          up_in_steps (g.R.Rack.told (store_rack a.store)) (g.R.Rack.told (store_rack a.store)) k k (record k { meta = m }) h lo 0 c.requires.whole refl refl (λ t tells holds. up.opens.stands h lo samples served energy t tells holds) to up.spins refl up.raised up.others
+          (g.R.Rack.told (store_rack b.store)) (g.R.Rack.told (store_rack n.store)) (service_of g.R.Rack.slot_count b samples served energy) (service_of g.R.Rack.slot_count n samples served energy) lo (omega arith) one.leaves.slots two.powers.leaves.slots one.epoch
+          (core_steps_none g.R.Rack.slot_count g.R.Rack.slot g.R.Rack.told a h lo samples served energy) (up.opens.serves h lo samples served energy)
+          (turns_are_powers g.R.Rack.slot_count g.R.Rack.slot g.R.Rack.told b n (g.met.R.Rack.agrees (store_rack b.store)) (g.met.R.Rack.agrees (store_rack n.store)) two.serving.ready two.powers.meta two.powers.lost
+          (not_fresh (record m { epoch = a.meta.epoch + 1 }) n.meta (marked_then (record m { epoch = a.meta.epoch + 1 }) b.meta n.meta up.marks two.powers.meta) c.requires.whole) a.meta (rising_to b.meta.phase) one.nothing two.nothing c.bring_up.ensures.calls two.powers.rests
+          (λ d low high not. two.serving.serves.spins d (omega (arith, high, rises_then)) not ∙ rising_spins n.meta.gear d n.meta.phase (omega (arith, high, rises_then)))
+          two.others
+          (λ d place. ap (λ (p : Phase). power_by_gear a.meta.gear p d) c.requires.steady ∙ ap (λ (x : ℕ). power_by_gear x Steady d) (sym gear_then)
+          ∙ rising_same n.meta.gear d n.meta.phase (omega (arith, gear_then, rises_then, rises, below)) (elim place [ inl low ↦ inl (omega (arith, low, gear, gear_then)) | inr past ↦ inr (omega (arith, past, rises_then)) ])) h lo samples served energy);
+      loses = tt;
+      two = tt;
+      moments = λ h lo.
+          chain_held g.R.Rack.slot_count g.R.Rack.told a b one.leaves.slots one.leaves.setup one.named
+          (CoreStandsFor g.R.Rack.slot_count a h lo) (RestsInShift g.R.Rack.slot_count b h lo) h lo _ (one.rests h lo) (all.moments h lo);
+      rests = λ h lo.
+          chain g.R.Rack.slot_count g.R.Rack.told a b one.leaves.slots one.leaves.setup one.named
+          (CoreStandsFor g.R.Rack.slot_count a h lo) (RestsInShift g.R.Rack.slot_count b h lo) (RestsInShift g.R.Rack.slot_count n h lo) h lo _ (one.rests h lo) (two.powers.rests h lo);
+    }

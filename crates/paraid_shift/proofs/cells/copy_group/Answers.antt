@@ -1,7 +1,7 @@
 use Rattle.paraid_core.proofs.StepLemmas.{unmarked}
 use Rattle.paraid_view.proofs.TwoLemmas.{spared_then}
 use Rattle.paraid_txn.specs.Stores.{store_rack}
-use Rattle.paraid_shift.proofs.MovingLemmas.{group_same}
+use Rattle.paraid_shift.proofs.MovingLemmas.{group_same, out_stays}
 use Rattle.paraid_shift.specs.Units.{IsGroupOf}
 use Rattle.std.proofs.Common.{◌≡◌, ◌<◌, ◌∙◌, sym, subst}
 use Rattle.paraid_base.specs.declared.state.Out.TheVariants.{No}
@@ -9,9 +9,12 @@ use Rattle.paraid_record.specs.declared.meta.Setup.{Setup}
 use Rattle.paraid_core.specs.declared.staged.Core.{Core}
 use Rattle.paraid_core.specs.Calls.{MakesDataCalls}
 use Rattle.paraid_core.specs.CoreInvariant.{AreCopiesSynced}
-use Rattle.paraid_core.specs.Lost.{CoreMarksLost, CoreTellsLosses}
+use Rattle.paraid_core.specs.Lost.{CoreMarksLost}
 use Rattle.paraid_core.specs.Steps.{LeavesCore}
+use Rattle.std.specs.Prelude.{◌≢◌}
 use Rattle.paraid_core.proofs.AfterLemmas.{handed}
+use Rattle.paraid_shift.proofs.AnswerLemmas.{none_done, none_done_if, none_more}
+use Rattle.paraid_shift.specs.Outcomes.{TellsSecond}
 use Rattle.paraid_core.proofs.KindLemmas.{calls_then}
 use Rattle.paraid_core.proofs.LostMarkLemmas.{marks_then}
 use Rattle.paraid_core.proofs.StepLemmas.{leaves_then, marked_from_setup, two_then}
@@ -22,7 +25,6 @@ use Rattle.paraid_shift.proofs.CopiedLemmas.{copies_then, held_from_then, stands
 use Rattle.paraid_shift.proofs.MovingLemmas.{some_more}
 use Rattle.paraid_shift.proofs.ServingLemmas.{serving_left}
 use Rattle.paraid_shift.proofs.cells.copy_group.Given.{Over}
-use Rattle.paraid_image.specs.Out.{named_out}
 use Rattle.paraid_shift.proofs.MovedLossLemmas.{copies_tell_then}
 use Rattle.paraid_shift.proofs.cells.copy_group.Goals as goal
 use Rattle.paraid_shift.proofs.cells.copy_group.Goals.{After-out}
@@ -61,6 +63,62 @@ module _ (g : Over) (c : After-out g) where
   moments : IsHeldFromRest g.R.Rack.slot_count g.R.Rack.told a d
   moments = stands_from_held g.R.Rack.slot_count g.R.Rack.slot g.R.Rack.told a d stands
 
+pub copy_cells-requires : goal.copy_cells-requires
+copy_cells-requires g c = record {
+  ready = c.requires.serving.ready;
+  serves = c.requires.serving.serves;
+  no_draft = c.requires.serving.draft;
+  whole = c.requires.whole;
+  nothing = c.requires.nothing;
+}
+
+pub returns-in_err-copied : goal.returns-in_err-copied
+returns-in_err-copied g c =
+    let call = c.copy_cells.ensures in
+    let from = c.from_residual in
+    record {
+      serving = none_done _ from.result _ from.ensures.1;
+      leaves = none_done _ from.result _ from.ensures.1;
+      whole = none_done_if _ from.result _ from.ensures.1;
+      group = none_done_if _ from.result _ from.ensures.1;
+      lost = none_done_if _ from.result _ from.ensures.1;
+      spared = call.spared;
+      tells = handed (λ two. TellsSecond g.R.Rack.slot g.R.Rack.told c.args.core.now c.copy_cells.new.core two) from.result _ from.ensures.1 c.in_err-copied.ensures.tells;
+      calls = call.calls;
+      marks = none_done _ from.result _ from.ensures.1;
+      copied = none_done_if _ from.result _ from.ensures.1;
+      stands = none_done _ from.result _ from.ensures.1;
+      moments = call.moments;
+    }
+
+pub returns-in_err-settle : goal.returns-in_err-settle
+returns-in_err-settle g c =
+    let a = c.args.core.now in
+    let b = c.copy_cells.new.core in
+    let new = c.settle.new.self in
+    let call = c.copy_cells.ensures in
+    let done = c.in_ok-copied.ensures in
+    let all = c.settle.ensures in
+    let from = c.from_residual-in_err-settle in
+    record {
+      serving = none_done _ from.result _ from.ensures.1;
+      leaves = none_done _ from.result _ from.ensures.1;
+      whole = none_done_if _ from.result _ from.ensures.1;
+      group = none_done_if _ from.result _ from.ensures.1;
+      lost = none_done_if _ from.result _ from.ensures.1;
+      spared = spared_then (g.R.Rack.slot (store_rack a.store)) (g.R.Rack.slot (store_rack b.store)) (g.R.Rack.slot (store_rack new.store)) call.spared all.spared;
+      tells = handed (λ two. TellsSecond g.R.Rack.slot g.R.Rack.told a new two) from.result _ from.ensures.1
+          (record {
+            down = two_then g.R.Rack.slot_count g.R.Rack.slot g.R.Rack.told a b done.leaves new all.spared _ c.in_err-settle.ensures.two;
+            tells = copies_tell_then g.R.Rack.slot_count g.R.Rack.slot g.R.Rack.told g.met.R.Rack.agrees a b new _ c.requires.serving.ready done.marks call.calls c.in_err-settle.ensures.tells;
+          });
+      calls = calls_then _ _ _ _ call.calls (syncs_are_data a.meta b.meta b.copied (marked_from_setup a.meta b.meta done.leaves.meta) c.requires.whole _ _ all.calls);
+      marks = none_done _ from.result _ from.ensures.1;
+      copied = none_done_if _ from.result _ from.ensures.1;
+      stands = none_done _ from.result _ from.ensures.1;
+      moments = held_from_then g.R.Rack.slot_count g.R.Rack.slot g.R.Rack.told a b new done.leaves done.stands all.moments;
+    }
+
 pub returns-in_default : goal.returns-in_default
 returns-in_default g c = record {
   serving = serving g c.before;
@@ -69,7 +127,6 @@ returns-in_default g c = record {
   group = tt;
   lost = λ none. c.in_default.not-No (c.before.out.ensures ∙ none);
   spared = (left g c.before).spared;
-  two = tt;
   tells = tt;
   calls = calls g c.before;
   marks = marks g c.before;
@@ -78,72 +135,28 @@ returns-in_default g c = record {
   moments = moments g c.before;
 }
 
-pub returns-clause-serving : goal.returns-clause-serving
-returns-clause-serving g c = serving g c.before
-
-pub returns-clause-leaves : goal.returns-clause-leaves
-returns-clause-leaves g c = left g c.before
-
-pub returns-clause-calls : goal.returns-clause-calls
-returns-clause-calls g c = calls g c.before
-
-pub returns-clause-marks : goal.returns-clause-marks
-returns-clause-marks g c = marks g c.before
-
-pub returns-clause-stands : goal.returns-clause-stands
-returns-clause-stands g c = stands g c.before
-
-pub returns-clause-moments : goal.returns-clause-moments
-returns-clause-moments g c = moments g c.before
-
-pub returns-in_err-settle-clause-two : goal.returns-in_err-settle-clause-two
-returns-in_err-settle-clause-two g c =
-    handed _ c.from_residual-in_err-settle.result _ c.from_residual-in_err-settle.ensures.1
-    (two_then g.R.Rack.slot_count g.R.Rack.slot g.R.Rack.told c.args.core.now c.copy_cells.new.core c.in_ok-copied.ensures.leaves c.settle.new.self c.settle.ensures.spared _ c.in_err-settle.ensures.two)
-
-pub returns-in_err-settle-clause-calls : goal.returns-in_err-settle-clause-calls
-returns-in_err-settle-clause-calls g c =
+pub returns : goal.returns
+returns g c =
     let a = c.args.core.now in
     let b = c.copy_cells.new.core in
-    calls_then _ _ _ _ c.copy_cells.ensures.calls
-    (syncs_are_data a.meta b.meta b.copied (marked_from_setup a.meta b.meta c.in_ok-copied.ensures.leaves.meta) c.requires.whole _ _ c.settle.ensures.calls)
-
-pub returns-in_err-settle-clause-moments : goal.returns-in_err-settle-clause-moments
-returns-in_err-settle-clause-moments g c =
-    held_from_then g.R.Rack.slot_count g.R.Rack.slot g.R.Rack.told c.args.core.now c.copy_cells.new.core c.settle.new.self c.in_ok-copied.ensures.leaves c.in_ok-copied.ensures.stands c.settle.ensures.moments
-
-pub returns-clause-copied : goal.returns-clause-copied
-returns-clause-copied g c =
-    let a = c.args.core.now in
     let d = c.settle.new.self in
-    let still : d.meta.out ≡ No = sym c.out.ensures ∙ c.in-No.is in
-    some_more _ (λ (it : Group). CopiesFromRest g.R.Rack.slot_count g.R.Rack.told a c.copy_cells.new.core (are_copied_before a.meta it.row it.disk)) (λ (it : Group). CopiesFromRest g.R.Rack.slot_count g.R.Rack.told a d (are_copied_before a.meta it.row it.disk))
-    (λ it was. copies_then g.R.Rack.slot_count g.R.Rack.slot g.R.Rack.told a c.copy_cells.new.core d c.in_ok-copied.ensures.leaves (are_copied_before a.meta it.row it.disk) was (λ h lo. (c.in_ok-settle.ensures.cells still).1 h lo (are_copied_before a.meta it.row it.disk)))
-    c.in_ok-copied.ensures.copied
-
-pub returns-in_err-copied-clause-tells : goal.returns-in_err-copied-clause-tells
-returns-in_err-copied-clause-tells g c =
-    let a = c.args.core.now in
-    handed (CoreTellsLosses g.R.Rack.told (named_out a.meta.out) a c.copy_cells.new.core) c.from_residual.result _ c.from_residual.ensures.1 c.in_err-copied.ensures.tells
-
-pub returns-in_err-settle-clause-tells : goal.returns-in_err-settle-clause-tells
-returns-in_err-settle-clause-tells g c =
-    let a = c.args.core.now in
-    let new = c.settle.new.self in
-    handed (CoreTellsLosses g.R.Rack.told (named_out a.meta.out) a new) c.from_residual-in_err-settle.result _ c.from_residual-in_err-settle.ensures.1
-    (copies_tell_then g.R.Rack.slot_count g.R.Rack.slot g.R.Rack.told g.met.R.Rack.agrees a c.copy_cells.new.core new _ c.requires.serving.ready c.in_ok-copied.ensures.marks c.copy_cells.ensures.calls c.in_err-settle.ensures.tells)
-
-pub returns-in_err-settle-clause-spared : goal.returns-in_err-settle-clause-spared
-returns-in_err-settle-clause-spared g c = spared_then (g.R.Rack.slot (store_rack c.args.core.now.store)) (g.R.Rack.slot (store_rack c.copy_cells.new.core.store)) (g.R.Rack.slot (store_rack c.settle.new.self.store)) c.copy_cells.ensures.spared c.settle.ensures.spared
-
-pub returns-clause-spared : goal.returns-clause-spared
-returns-clause-spared g c = (left g c.before).spared
-
-pub returns-clause-group : goal.returns-clause-group
-returns-clause-group g c =
-    let a = c.args.core.now in
-    let d = c.settle.new.self in
+    let done = c.in_ok-copied.ensures in
     let still : d.meta.out ≡ No = sym c.out.ensures ∙ c.in-No.is in
     let kept = left g c.before in
-    some_more _ (λ (it : Group). IsGroupOf a.meta a.dirty c.args.most it.count it.row it.disk) (λ (it : Group). IsGroupOf d.meta d.dirty c.args.most it.count it.row it.disk)
-    (λ it was. group_same a.meta d.meta a.dirty d.dirty c.args.most it.count it.row it.disk (unmarked a.meta d.meta kept.meta still) kept.table was) c.in_ok-copied.ensures.group
+    record {
+      serving = serving g c.before;
+      leaves = kept;
+      whole = some_more _ _ (λ it. d.meta.out ≡ No) (λ it was. still) done.group;
+      group = some_more _ (λ (it : Group). IsGroupOf a.meta a.dirty c.args.most it.count it.row it.disk) (λ (it : Group). IsGroupOf d.meta d.dirty c.args.most it.count it.row it.disk)
+          (λ it was. group_same a.meta d.meta a.dirty d.dirty c.args.most it.count it.row it.disk (unmarked a.meta d.meta kept.meta still) kept.table was) done.group;
+      lost = none_more _ (b.meta.out ≢ No) (d.meta.out ≢ No) (λ out. out_stays b.meta d.meta c.in_ok-settle.ensures.leaves.meta out) done.lost;
+      spared = kept.spared;
+      tells = tt;
+      calls = calls g c.before;
+      marks = marks g c.before;
+      copied = some_more _ (λ (it : Group). CopiesFromRest g.R.Rack.slot_count g.R.Rack.told a b (are_copied_before a.meta it.row it.disk)) (λ (it : Group). CopiesFromRest g.R.Rack.slot_count g.R.Rack.told a d (are_copied_before a.meta it.row it.disk))
+          (λ it was. copies_then g.R.Rack.slot_count g.R.Rack.slot g.R.Rack.told a b d done.leaves (are_copied_before a.meta it.row it.disk) was (λ h lo. (c.in_ok-settle.ensures.cells still).1 h lo (are_copied_before a.meta it.row it.disk)))
+          done.copied;
+      stands = stands g c.before;
+      moments = moments g c.before;
+    }

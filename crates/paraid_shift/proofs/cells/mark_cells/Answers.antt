@@ -1,4 +1,5 @@
-use Rattle.std.specs.Prelude.{◌≤◌, length}
+use Rattle.std.specs.Prelude.{ℕ, ◌≡◌, ◌<◌, ◌≤◌, length}
+use Rattle.std.proofs.Math.Nat.{le_refl}
 use Rattle.std.proofs.Common.{◌∙◌, refl, sym, ap, subst, arith, inl, inr}
 use Rattle.std.proofs.lemmas.Bool.{cases_eq}
 use Rattle.paraid_record.specs.declared.meta.Meta.{Meta}
@@ -7,6 +8,12 @@ use Rattle.paraid_shift.specs.Units.{CoreCountsMoved, HasDirtyBefore, are_copied
 use Rattle.paraid_shift.proofs.CopiedLemmas.{keeps_none, keeps_then}
 use Rattle.paraid_shift.proofs.MovingLemmas.{core_moves_same, core_moves_so, core_moves_then}
 use Rattle.paraid_shift.proofs.cells.mark_cells.Goals as goal
+
+below : (marked count : ℕ) → marked < count → marked ≤ count
+below marked count low = omega arith
+
+all_marked : (marked count : ℕ) → count ≤ marked → marked ≤ count → marked ≡ count
+all_marked marked count past within = omega arith
 
 pub loop-marked-init : goal.loop-marked-init
 loop-marked-init g c = record {
@@ -35,30 +42,43 @@ loop-marked-preserved g c =
           (subst (λ (m : Meta). KeepsCopied g.R.Rack.slot_count g.R.Rack.told b new (are_copied_before m c.args.group.now.row c.args.group.now.disk)) was.meta one.copied);
     }
 
-pub returns-then-not-mark_one-clause-moves : goal.returns-then-not-mark_one-clause-moves
-returns-then-not-mark_one-clause-moves g c =
-    subst (λ (z : _). CoreCountsMoved g.R.Rack.slot_count c.args.core.now z c.loop-marked.marked) (sym (c.mark_one.ensures.idle c.if-not-mark_one.true)) c.loop-marked.invariant.moves
+pub mark_one-requires : goal.mark_one-requires
+mark_one-requires g c =
+    let was = c.loop-marked.invariant in
+    record { serving = was.serving; whole = ap (λ (m : Meta). m.out) was.meta ∙ c.requires.whole }
 
-pub returns-then-not-mark_one-clause-idle : goal.returns-then-not-mark_one-clause-idle
-returns-then-not-mark_one-clause-idle g c none = c.mark_one.ensures.idle c.if-not-mark_one.true ∙ c.loop-marked.invariant.idle none
+pub returns-then-not-mark_one : goal.returns-then-not-mark_one
+returns-then-not-mark_one g c =
+    let a = c.args.core.now in
+    let was = c.loop-marked.invariant in
+    let one = c.mark_one.ensures in
+    let same = one.idle c.if-not-mark_one.true in
+    record {
+      serving = one.serving;
+      meta = one.meta ∙ was.meta;
+      store = one.store ∙ was.store;
+      few = below _ _ c.loop-marked-test.true;
+      moves = subst (λ (z : _). CoreCountsMoved g.R.Rack.slot_count a z c.loop-marked.marked) (sym same) was.moves;
+      idle = λ none. same ∙ was.idle none;
+      some = λ room few has. elim (cases_eq c.loop-marked.marked 0) [
+        | inl none ↦ absurd (subst (λ (z : _). length z.batch ≤ 94 → HasDirtyBefore z.meta z.dirty c.args.group.now.row c.args.group.now.disk → ⊥) (was.idle none) (one.some c.if-not-mark_one.true) room has)
+        | inr some ↦ omega (arith, some)
+      ];
+      copied = subst (λ (z : _). KeepsCopied g.R.Rack.slot_count g.R.Rack.told a z (are_copied_before a.meta c.args.group.now.row c.args.group.now.disk)) (sym same) was.copied;
+    }
 
-pub returns-then-not-mark_one-clause-some : goal.returns-then-not-mark_one-clause-some
-returns-then-not-mark_one-clause-some g c room few has = elim (cases_eq c.loop-marked.marked 0) [
-  | inl none ↦
-      absurd (subst (λ (z : _). length z.batch ≤ 94 → HasDirtyBefore z.meta z.dirty c.args.group.now.row c.args.group.now.disk → ⊥) (c.loop-marked.invariant.idle none) (c.mark_one.ensures.some c.if-not-mark_one.true) room has)
-  | inr some ↦ omega (arith, some)
-]
-
-pub returns-then-not-mark_one-clause-copied : goal.returns-then-not-mark_one-clause-copied
-returns-then-not-mark_one-clause-copied g c =
-    subst (λ (z : _). KeepsCopied g.R.Rack.slot_count g.R.Rack.told c.args.core.now z (are_copied_before c.args.core.now.meta c.args.group.now.row c.args.group.now.disk)) (sym (c.mark_one.ensures.idle c.if-not-mark_one.true)) c.loop-marked.invariant.copied
-
-pub returns-clause-moves : goal.returns-clause-moves
-returns-clause-moves g c =
-    core_moves_so g.R.Rack.slot_count c.args.core.now c.loop-marked.core c.loop-marked.marked c.args.group.now.count (let test = c.loop-marked-test.false in let end = c.loop-marked.auto.marked-end in omega arith) c.loop-marked.invariant.moves
-
-pub returns-clause-idle : goal.returns-clause-idle
-returns-clause-idle g c none = c.loop-marked.invariant.idle (let test = c.loop-marked-test.false in let end = c.loop-marked.auto.marked-end in omega (arith, none))
-
-pub returns-clause-copied : goal.returns-clause-copied
-returns-clause-copied g c = c.loop-marked.invariant.copied
+pub returns : goal.returns
+returns g c =
+    let a = c.args.core.now in
+    let was = c.loop-marked.invariant in
+    let all = all_marked _ _ c.loop-marked-test.false c.loop-marked.auto.marked-end in
+    record {
+      serving = was.serving;
+      meta = was.meta;
+      store = was.store;
+      few = le_refl _;
+      moves = core_moves_so g.R.Rack.slot_count a c.loop-marked.core c.loop-marked.marked c.args.group.now.count all was.moves;
+      idle = λ none. was.idle (all ∙ none);
+      some = λ room some has. some;
+      copied = was.copied;
+    }

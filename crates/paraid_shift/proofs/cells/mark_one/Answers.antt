@@ -1,21 +1,65 @@
 use Rattle.paraid_shift.proofs.CopiedLemmas.{is_before, keeps_none}
-use Rattle.paraid_shift.proofs.MovingLemmas.{core_cell_moves}
+use Rattle.paraid_shift.proofs.MovingLemmas.{clean_none_before, core_cell_moves, none_before}
+use Rattle.paraid_shift.proofs.ServingLemmas.{serving_marked}
+use Rattle.paraid_shift.proofs.AnswerLemmas.{none_at}
+use Rattle.paraid_record.specs.declared.meta.Meta.{Meta}
+use Rattle.std.specs.Prelude.{◌<◌, ◌≤◌, true, false}
+use Rattle.std.proofs.Common.{ℕ, ◌≡◌, ◌∙◌, ap, arith, refl, sym}
 use Rattle.paraid_shift.proofs.cells.mark_one.Goals as goal
 
-pub returns-then-staged-gt94-clause-copied : goal.returns-then-staged-gt94-clause-copied
-returns-then-staged-gt94-clause-copied g c = keeps_none g.R.Rack.slot_count g.R.Rack.slot g.R.Rack.told c.args.core.now _
+too_many : (n staged : ℕ) → staged ≡ n → 94 < staged → n ≤ 94 → ⊥
+too_many n staged is past room = omega arith
 
-pub returns-in_default-clause-copied : goal.returns-in_default-clause-copied
-returns-in_default-clause-copied g c = keeps_none g.R.Rack.slot_count g.R.Rack.slot g.R.Rack.told c.args.core.now _
+pub returns-then-staged-gt94 : goal.returns-then-staged-gt94
+returns-then-staged-gt94 g c =
+    let a = c.args.core.now in
+    record {
+      serving = c.requires.serving;
+      meta = refl;
+      store = refl;
+      moves = λ is. let z : false ≡ true = is in absurd cc;
+      idle = λ is. refl;
+      some = λ is room has. too_many _ _ c.staged.ensures c.if-staged-gt94.true room;
+      copied = keeps_none g.R.Rack.slot_count g.R.Rack.slot g.R.Rack.told a _;
+    }
 
-pub returns-then-not-is_within-clause-copied : goal.returns-then-not-is_within-clause-copied
-returns-then-not-is_within-clause-copied g c = keeps_none g.R.Rack.slot_count g.R.Rack.slot g.R.Rack.told c.args.core.now _
+pub returns-in_default : goal.returns-in_default
+returns-in_default g c =
+    let a = c.args.core.now in
+    record {
+      serving = c.requires.serving;
+      meta = refl;
+      store = refl;
+      moves = λ is. let z : false ≡ true = is in absurd cc;
+      idle = λ is. refl;
+      some = λ is room has. clean_none_before a.meta a.dirty _ _ (none_at _ _ c.in_default.is c.first_cell.ensures.none) has;
+      copied = keeps_none g.R.Rack.slot_count g.R.Rack.slot g.R.Rack.told a _;
+    }
 
-pub returns-clause-moves : goal.returns-clause-moves
-returns-clause-moves g c is =
-    core_cell_moves g.R.Rack.slot_count c.args.core.now c.mark_cleaned.new.self _ _ c.requires.whole c.mark_cleaned.ensures.meta c.in-Some.ensures.first c.in-Some.ensures.row c.mark_cleaned.ensures.table
+pub returns-then-not-is_within : goal.returns-then-not-is_within
+returns-then-not-is_within g c =
+    let a = c.args.core.now in
+    record {
+      serving = c.requires.serving;
+      meta = refl;
+      store = refl;
+      moves = λ is. let z : false ≡ true = is in absurd cc;
+      idle = λ is. refl;
+      some = λ is room has. none_before a.meta a.dirty _ _ _ _ c.in-Some.ensures.first (c.is_within.ensures.past c.if-not-is_within.true) has;
+      copied = keeps_none g.R.Rack.slot_count g.R.Rack.slot g.R.Rack.told a _;
+    }
 
-pub returns-clause-copied : goal.returns-clause-copied
-returns-clause-copied g c h lo =
+pub returns : goal.returns
+returns g c =
+    let a = c.args.core.now in
     let first = c.in-Some.ensures.first in
-    c.mark_cleaned.ensures.marked h lo _ (is_before c.args.core.now.meta _ _ _ _ first.low first.high (c.is_within.ensures.within c.if-not-is_within.false))
+    let marked = c.mark_cleaned.ensures in
+    record {
+      serving = serving_marked g.R.Rack.slot_count g.R.Rack.slot a c.mark_cleaned.new.self marked.store (ap (λ (m : Meta). m.setup) marked.meta) (ap (λ (m : Meta). m.out) marked.meta) c.requires.serving marked.copied (marked.draft ∙ sym c.requires.serving.draft) marked.ready marked.serves;
+      meta = marked.meta;
+      store = marked.store;
+      moves = λ is. core_cell_moves g.R.Rack.slot_count a c.mark_cleaned.new.self _ _ c.requires.whole marked.meta first c.in-Some.ensures.row marked.table;
+      idle = λ is. let z : true ≡ false = is in absurd cc;
+      some = λ is. let z : true ≡ false = is in absurd cc;
+      copied = λ h lo. marked.marked h lo _ (is_before a.meta _ _ _ _ first.low first.high (c.is_within.ensures.within c.if-not-is_within.false));
+    }

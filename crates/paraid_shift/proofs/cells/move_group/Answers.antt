@@ -1,83 +1,108 @@
 use Rattle.std.specs.Prelude.{◌≤◌, length}
-use Rattle.paraid_shift.specs.Serving.{KeepsCopied}
-use Rattle.std.proofs.Common.{◌∙◌, sym, ap, subst, arith, inl, inr}
+use Rattle.std.proofs.Common.{◌≡◌, ◌∙◌, sym, ap, subst, arith, inl, inr}
 use Rattle.std.proofs.lemmas.Bool.{cases_eq}
+use Rattle.paraid_base.specs.declared.state.Out.TheVariants.{No}
 use Rattle.paraid_record.specs.declared.meta.Meta.{Meta}
+use Rattle.paraid_txn.specs.Stores.{store_rack}
+use Rattle.paraid_core.proofs.AfterLemmas.{handed}
+use Rattle.paraid_shift.proofs.AnswerLemmas.{none_at, none_done_if}
 use Rattle.paraid_core.proofs.StepLemmas.{unmarked}
+use Rattle.paraid_core.specs.Steps.{IsMarkedFrom}
+use Rattle.paraid_shift.specs.Outcomes.{LosesSecond}
+use Rattle.paraid_shift.specs.Serving.{KeepsCopied}
 use Rattle.paraid_shift.specs.Units.{AreCellsDone, are_copied_before}
 use Rattle.paraid_shift.proofs.CopiedLemmas.{copies_stand, copies_then}
-use Rattle.paraid_shift.proofs.MovingLemmas.{core_moves_none, core_moves_so, core_moves_then, some_at}
-use Rattle.paraid_shift.proofs.ServingLemmas.{array_left}
-use Rattle.paraid_core.proofs.AfterLemmas.{handed}
-use Rattle.paraid_shift.specs.Steps.{CoreLosesInSteps}
 use Rattle.paraid_shift.proofs.MovedLossLemmas.{copies_lose}
+use Rattle.paraid_shift.proofs.MovingLemmas.{core_moves_none, core_moves_so, core_moves_then, some_at}
+use Rattle.paraid_shift.proofs.OutcomeLemmas.{calls_marked, le_then, leaves_marked, lost_marked, named_marked, spared_marked}
+use Rattle.paraid_shift.proofs.ServingLemmas.{array_left}
+use Rattle.paraid_shift.proofs.StepsLemmas.{copies_are_steps}
 use Rattle.paraid_shift.proofs.cells.move_group.Goals as goal
 
-pub returns-in_default-clause-leaves : goal.returns-in_default-clause-leaves
-returns-in_default-clause-leaves g c = array_left g.R.Rack.slot_count g.R.Rack.slot c.args.core.now c.copy_group.new.core c.in_ok-copied.ensures.leaves
+pub copy_group-requires : goal.copy_group-requires
+copy_group-requires g c = record { serving = c.requires.serving; whole = c.requires.whole; nothing = c.requires.nothing }
 
-pub returns-in_default-clause-moves : goal.returns-in_default-clause-moves
-returns-in_default-clause-moves g c =
-    let a = c.args.core.now in
-    core_moves_none g.R.Rack.slot_count a c.copy_group.new.core a.meta.epoch c.requires.whole c.in_ok-copied.ensures.leaves.meta c.in_ok-copied.ensures.leaves.table
+pub mark_cells-requires : goal.mark_cells-requires
+mark_cells-requires g c = record { serving = c.in_ok-copied.ensures.serving; whole = some_at _ _ _ c.in-Some.is c.in_ok-copied.ensures.whole }
 
-pub returns-clause-moves : goal.returns-clause-moves
-returns-clause-moves g c =
-    let a = c.args.core.now in
-    let b = c.copy_group.new.core in
-    let left = c.in_ok-copied.ensures.leaves in
-    let same = unmarked a.meta b.meta left.meta (some_at _ _ _ c.in-Some.is c.in_ok-copied.ensures.whole) in
-    core_moves_so g.R.Rack.slot_count a c.mark_cells.new.core _ _ (omega arith)
-    (core_moves_then g.R.Rack.slot_count a b c.mark_cells.new.core 0 c.mark_cells.result (core_moves_none g.R.Rack.slot_count a b a.meta.epoch c.requires.whole left.meta left.table) (some_at _ _ _ c.in-Some.is c.in_ok-copied.ensures.whole) (ap (λ (m : Meta). m.setup) same) c.mark_cells.ensures.moves)
-
-pub returns-clause-all : goal.returns-clause-all
-returns-clause-all g c none whole =
-    let b = c.copy_group.new.core in
-    let group = (some_at _ _ _ c.in-Some.is c.in_ok-copied.ensures.group) in
-    elim (cases_eq c.in-Some.group.count 0) [
-      | inl empty ↦ elim (group.some empty) [
-        | inl few ↦ inl few
-        | inr clean ↦ inr (subst (λ (z : _). AreCellsDone z.meta z.dirty) (sym (c.mark_cells.ensures.idle none)) clean)
-      ]
-      | inr some ↦ absurd (let marked = c.mark_cells.ensures.some (let nothing = c.in_ok-copied.ensures.leaves.batch ∙ c.requires.nothing in subst (λ (l : _). length l ≤ 94) (sym nothing) (omega arith)) (omega arith) (group.before (omega arith)) in omega (arith, marked, none))
-    ]
-
-pub returns-clause-stands : goal.returns-clause-stands
-returns-clause-stands g c =
-    let a = c.args.core.now in
-    let b = c.copy_group.new.core in
-    let left = c.in_ok-copied.ensures.leaves in
-    let same = unmarked a.meta b.meta left.meta (some_at _ _ _ c.in-Some.is c.in_ok-copied.ensures.whole) in
-    copies_stand g.R.Rack.slot_count g.R.Rack.slot g.R.Rack.told a c.mark_cells.new.core (are_copied_before a.meta c.in-Some.group.row c.in-Some.group.disk)
-    (copies_then g.R.Rack.slot_count g.R.Rack.slot g.R.Rack.told a b c.mark_cells.new.core left (are_copied_before a.meta c.in-Some.group.row c.in-Some.group.disk) (some_at _ _ _ c.in-Some.is c.in_ok-copied.ensures.copied)
-    (subst (λ (m : Meta). KeepsCopied g.R.Rack.slot_count g.R.Rack.told b c.mark_cells.new.core (are_copied_before m c.in-Some.group.row c.in-Some.group.disk)) same c.mark_cells.ensures.copied))
-
-pub returns-in_err-copied-clause-loses : goal.returns-in_err-copied-clause-loses
-returns-in_err-copied-clause-loses g c =
+pub returns-in_err-copied : goal.returns-in_err-copied
+returns-in_err-copied g c =
     let a = c.args.core.now in
     let new = c.copy_group.new.core in
-    handed (CoreLosesInSteps g.R.Rack.slot_count g.R.Rack.told a new 1) c.from_residual.result _ c.from_residual.ensures.1
-    (copies_lose g.R.Rack.slot_count g.R.Rack.told a new _ c.requires.nothing c.copy_group.ensures.calls c.copy_group.ensures.moments c.in_err-copied.ensures.tells)
+    let call = c.copy_group.ensures in
+    record {
+      marks = none_done_if _ c.from_residual.result _ c.from_residual.ensures.1;
+      spared = call.spared;
+      loses = handed (λ two. LosesSecond g.R.Rack.slot_count g.R.Rack.slot g.R.Rack.told a new 1 two) c.from_residual.result _ c.from_residual.ensures.1
+          (record {
+            down = c.in_err-copied.ensures.tells.down;
+            loses = copies_lose g.R.Rack.slot_count g.R.Rack.told a new _ c.requires.nothing call.calls call.moments c.in_err-copied.ensures.tells.tells;
+          });
+    }
 
-pub returns-clause-leaves : goal.returns-clause-leaves
-returns-clause-leaves g c =
-    let l = array_left g.R.Rack.slot_count g.R.Rack.slot c.args.core.now c.copy_group.new.core c.in_ok-copied.ensures.leaves in
-    rw (c.mark_cells.ensures.store, c.mark_cells.ensures.meta) record { slots = l.slots; setup = l.setup; writes = l.writes; turned = l.turned; down = l.down }
+pub returns-in_default : goal.returns-in_default
+returns-in_default g c =
+    let a = c.args.core.now in
+    let b = c.copy_group.new.core in
+    let call = c.copy_group.ensures in
+    let done = c.in_ok-copied.ensures in
+    let array = array_left g.R.Rack.slot_count g.R.Rack.slot a b done.leaves in
+    record {
+      marks = record {
+        serving = done.serving;
+        leaves = array;
+        absent = done.leaves.absent;
+        meta = done.leaves.meta;
+        few = omega arith;
+        moves = core_moves_none g.R.Rack.slot_count a b a.meta.epoch c.requires.whole done.leaves.meta done.leaves.table;
+        whole = λ some. absurd (omega arith);
+        idle = λ none. done.leaves.batch ∙ c.requires.nothing;
+        all = λ none whole. absurd (none_at _ _ c.in_default.is done.lost whole);
+        steps = copies_are_steps g.R.Rack.slot_count g.R.Rack.slot g.R.Rack.told a b (g.met.R.Rack.agrees (store_rack a.store)) (g.met.R.Rack.agrees (store_rack b.store)) array.slots array.setup done.serving.ready done.marks
+            c.requires.nothing call.calls done.stands;
+      };
+      spared = call.spared;
+      loses = tt;
+    }
 
-pub returns-clause-absent : goal.returns-clause-absent
-returns-clause-absent g c was = rw (c.mark_cells.ensures.store, c.mark_cells.ensures.meta) (c.in_ok-copied.ensures.leaves.absent was)
-
-pub returns-clause-meta : goal.returns-clause-meta
-returns-clause-meta g c = rw c.mark_cells.ensures.meta c.in_ok-copied.ensures.leaves.meta
-
-pub returns-clause-spared : goal.returns-clause-spared
-returns-clause-spared g c = rw c.mark_cells.ensures.store c.copy_group.ensures.spared
-
-pub returns-clause-calls : goal.returns-clause-calls
-returns-clause-calls g c = rw c.mark_cells.ensures.store c.copy_group.ensures.calls
-
-pub returns-clause-marks : goal.returns-clause-marks
-returns-clause-marks g c = rw (c.mark_cells.ensures.store, c.mark_cells.ensures.meta) c.in_ok-copied.ensures.marks
-
-pub returns-clause-moments : goal.returns-clause-moments
-returns-clause-moments g c = rw c.mark_cells.ensures.store c.copy_group.ensures.moments
+pub returns : goal.returns
+returns g c =
+    let a = c.args.core.now in
+    let b = c.copy_group.new.core in
+    let new = c.mark_cells.new.core in
+    let call = c.copy_group.ensures in
+    let done = c.in_ok-copied.ensures in
+    let left = done.leaves in
+    let marks = c.mark_cells.ensures in
+    let whole : b.meta.out ≡ No = some_at _ _ _ c.in-Some.is done.whole in
+    let group = some_at _ _ _ c.in-Some.is done.group in
+    let cells = are_copied_before a.meta c.in-Some.group.row c.in-Some.group.disk in
+    let same = unmarked a.meta b.meta left.meta whole in
+    let moved = leaves_marked a b new marks.store marks.meta g.R.Rack.slot_count g.R.Rack.slot (array_left g.R.Rack.slot_count g.R.Rack.slot a b left) in
+    record {
+      marks = record {
+        serving = marks.serving;
+        leaves = moved;
+        absent = λ was. named_marked a b new marks.store marks.meta g.R.Rack.slot (left.absent was);
+        meta = subst (IsMarkedFrom a.meta) (sym marks.meta) left.meta;
+        few = le_then _ _ _ marks.few group.few;
+        moves = core_moves_so g.R.Rack.slot_count a new _ _ (omega arith)
+            (core_moves_then g.R.Rack.slot_count a b new 0 c.mark_cells.result (core_moves_none g.R.Rack.slot_count a b a.meta.epoch c.requires.whole left.meta left.table) whole (ap (λ (m : Meta). m.setup) same) marks.moves);
+        whole = λ some. ap (λ (m : Meta). m.out) marks.meta ∙ whole;
+        idle = λ none. ap (λ (z : _). z.batch) (marks.idle none) ∙ left.batch ∙ c.requires.nothing;
+        all = λ none still. elim (cases_eq c.in-Some.group.count 0) [
+          | inl empty ↦ elim (group.some empty) [
+            | inl few ↦ inl few
+            | inr clean ↦ inr (subst (λ (z : _). AreCellsDone z.meta z.dirty) (sym (marks.idle none)) clean)
+          ]
+          | inr some ↦ absurd (let marked = marks.some (subst (λ (l : _). length l ≤ 94) (sym (left.batch ∙ c.requires.nothing)) (omega arith)) (omega arith) (group.before (omega arith)) in omega (arith, marked, none))
+        ];
+        steps = copies_are_steps g.R.Rack.slot_count g.R.Rack.slot g.R.Rack.told a new (g.met.R.Rack.agrees (store_rack a.store)) (g.met.R.Rack.agrees (store_rack new.store))
+            moved.slots moved.setup marks.serving.ready (lost_marked a b new marks.store marks.meta g.R.Rack.slot done.marks) c.requires.nothing (calls_marked a b new marks.store marks.meta g.R.Rack.told call.calls)
+            (copies_stand g.R.Rack.slot_count g.R.Rack.slot g.R.Rack.told a new cells
+            (copies_then g.R.Rack.slot_count g.R.Rack.slot g.R.Rack.told a b new left cells (some_at _ _ _ c.in-Some.is done.copied)
+            (subst (λ (m : Meta). KeepsCopied g.R.Rack.slot_count g.R.Rack.told b new (are_copied_before m c.in-Some.group.row c.in-Some.group.disk)) same marks.copied)));
+      };
+      spared = spared_marked a b new marks.store marks.meta g.R.Rack.slot call.spared;
+      loses = tt;
+    }

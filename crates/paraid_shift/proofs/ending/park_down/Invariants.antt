@@ -2,10 +2,9 @@ use Rattle.std.specs.Prelude.{◌≡◌, ◌≢◌, ℕ, ◌<◌, ◌≤◌, ◌
 use Rattle.paraid_image.specs.Out.{named_out}
 use Rattle.paraid_rack.specs.declared.call.Power.TheVariants.{Parked}
 use Rattle.paraid_txn.specs.Stores.{IsSameStore, store_rack}
-use Rattle.paraid_core.specs.Steps.{IsMarkedFrom, IsNamedOrAbsent}
-use Rattle.paraid_shift.specs.Losing.{CoreBearsLoss}
-use Rattle.paraid_shift.specs.Serving.{IsCoreServing, LeavesArray, StaysAtRest}
-use Rattle.paraid_shift.specs.Steps.{MakesPowerCalls, MarksPowered}
+use Rattle.paraid_shift.specs.Outcomes.{PowersDisks}
+use Rattle.paraid_shift.specs.Serving.{IsCoreServing}
+use Rattle.paraid_shift.specs.Steps.{MakesPowerCalls}
 use Rattle.paraid_shift.proofs.ending.park_down.Given as goal
 
 -- the disks before this one are parked
@@ -13,17 +12,12 @@ abbrev pub invariant-loop-disk : goal.invariant-loop-disk
 invariant-loop-disk g l = record {
   serving : IsCoreServing g.R.Rack.slot_count g.R.Rack.slot l.core;
   nothing : l.core.batch ≡ [];
-  leaves : LeavesArray g.R.Rack.slot_count g.R.Rack.slot l.fn.core l.core;
-  meta : IsMarkedFrom l.fn.core.meta l.core.meta;
+  powers : PowersDisks g.R.Rack.slot_count g.R.Rack.slot g.R.Rack.told l.fn.core l.core;
   store : IsSameStore l.fn.core.store l.core.store;
   table : l.core.dirty ≡ l.fn.core.dirty;
-  absent : IsNamedOrAbsent g.R.Rack.slot l.fn.core → IsNamedOrAbsent g.R.Rack.slot l.core;
   calls : MakesPowerCalls g.R.Rack.told l.fn.core l.core;
-  lost : MarksPowered (g.R.Rack.slot (store_rack l.core.store)) l.fn.core.meta l.core.meta;
-  bears : CoreBearsLoss g.R.Rack.told l.fn.core l.core;
   from : l.fn.core.meta.gear ≤ l.disk;
   until : (d : ℕ) → l.fn.core.meta.gear ≤ d → l.fn.hi ≤ d → l.disk ≤ d;
   parked : (d : ℕ) → l.fn.core.meta.gear ≤ d → d < l.disk → named_out l.core.meta.out ≢ Some d → (g.R.Rack.slot (store_rack l.core.store) d).power ≡ Parked;
   others : (d : ℕ) → (d < l.fn.core.meta.gear) ⊎ (l.disk ≤ d) → g.R.Rack.slot (store_rack l.core.store) d ≡ g.R.Rack.slot (store_rack l.fn.core.store) d;
-  rests : StaysAtRest g.R.Rack.slot_count g.R.Rack.told l.fn.core l.core;
 }

@@ -1,6 +1,5 @@
-use Rattle.std.specs.Prelude.{◌≢◌, ◌+◌, ◌≤◌, []}
-use Rattle.paraid_core.specs.Steps.{IsNamedOrAbsent}
-use Rattle.paraid_shift.specs.Serving.{IsCoreServing, LeavesArray}
+use Rattle.std.specs.Prelude.{◌≢◌, ◌≤◌, []}
+use Rattle.paraid_shift.specs.Outcomes.{ServesOn}
 use Rattle.paraid_shift.specs.Steps.{CoreStepsInEvent}
 use Rattle.paraid_shift.specs.Units.{AreUnitsDone, CoreCountsMoved}
 use Rattle.paraid_shift.proofs.moving.step_cells.Given as goal
@@ -8,10 +7,7 @@ use Rattle.paraid_shift.proofs.moving.step_cells.Given as goal
 -- so many cells are moved
 abbrev pub invariant-loop-at : goal.invariant-loop-at
 invariant-loop-at g l = record {
-  serving : IsCoreServing g.R.Rack.slot_count g.R.Rack.slot l.core;
-  leaves : LeavesArray g.R.Rack.slot_count g.R.Rack.slot l.fn.core l.core;
-  absent : IsNamedOrAbsent g.R.Rack.slot l.fn.core → IsNamedOrAbsent g.R.Rack.slot l.core;
-  epoch : l.core.meta.epoch ≤ l.fn.core.meta.epoch + l.at;
+  serves : ServesOn g.R.Rack.slot_count g.R.Rack.slot l.fn.core l.core l.at;
   few : l.moved ≤ l.fn.most;
   going : l.at ≤ l.moved;
   moves : CoreCountsMoved g.R.Rack.slot_count l.fn.core l.core l.moved;

@@ -1,17 +1,41 @@
-use Rattle.std.specs.Prelude.{◌+◌}
-use Rattle.std.proofs.Common.{arith, inl}
+use Rattle.std.specs.Prelude.{◌+◌, ◌≢◌}
+use Rattle.std.proofs.Common.{◌≡◌, ◌∙◌, arith, inl, refl, sym}
+use Rattle.std.proofs.Math.Nat.{le_refl}
+use Rattle.paraid_base.specs.declared.state.Out.TheVariants.{No}
+use Rattle.paraid_shift.proofs.AnswerLemmas.{if_map}
+use Rattle.paraid_shift.proofs.OutcomeLemmas.{serves_none}
 use Rattle.paraid_shift.proofs.StepsLemmas.{core_steps_none, core_steps_within}
-use Rattle.paraid_core.proofs.AfterLemmas.{handed}
-use Rattle.paraid_shift.specs.Steps.{CoreLosesInSteps}
+use Rattle.paraid_shift.specs.Outcomes.{StepsOn}
+use Rattle.paraid_shift.specs.Steps.{StepsOrWaits}
+use Rattle.paraid_shift.specs.Units.{AreUnitsDone, MovesUpTo}
 use Rattle.paraid_shift.proofs.moving.step_whole.Goals as goal
 
-pub returns-in_default-clause-steps : goal.returns-in_default-clause-steps
-returns-in_default-clause-steps g c =
-    inl (core_steps_within g.R.Rack.slot_count g.R.Rack.slot g.R.Rack.told c.args.core.now c.args.core.now 0 (c.args.most + 1) (omega arith) (core_steps_none g.R.Rack.slot_count g.R.Rack.slot g.R.Rack.told c.args.core.now))
+pub step_units-requires : goal.step_units-requires
+step_units-requires g c = record { serving = c.requires.serving; whole = sym c.out.ensures ∙ c.in-No.is; nothing = c.requires.nothing; epoch = c.requires.epoch }
 
-pub returns-clause-steps : goal.returns-clause-steps
-returns-clause-steps g c = c.in_ok-count.ensures.steps
+pub returns-in_default : goal.returns-in_default
+returns-in_default g c =
+    let a = c.args.core.now in
+    record {
+      steps = record {
+        serves = serves_none g.R.Rack.slot_count g.R.Rack.slot a (c.args.most + 1) c.requires.serving;
+        few = omega arith;
+        moves = λ whole. absurd (c.in_default.not-No (c.out.ensures ∙ whole));
+        steps = inl (core_steps_within g.R.Rack.slot_count g.R.Rack.slot g.R.Rack.told a a 0 (c.args.most + 1) (omega arith) (core_steps_none g.R.Rack.slot_count g.R.Rack.slot g.R.Rack.told a));
+      };
+      idle = λ out. (refl, refl);
+      no_fall = λ d. le_refl _;
+      loses = tt;
+    }
 
-pub returns-in_err-count-clause-loses : goal.returns-in_err-count-clause-loses
-returns-in_err-count-clause-loses g c =
-    handed (CoreLosesInSteps g.R.Rack.slot_count g.R.Rack.told c.args.core.now c.step_units.new.core (c.args.most + 1)) c.from_residual.result _ c.from_residual.ensures.1 c.in_err-count.ensures.loses
+pub returns : goal.returns
+returns g c =
+    let a = c.args.core.now in
+    let b = c.step_units.new.core in
+    let whole : c.args.core.now.meta.out ≡ No = sym c.out.ensures ∙ c.in-No.is in
+    record {
+      steps = if_map {Q = λ count. StepsOn g.R.Rack.slot_count g.R.Rack.slot a b c.args.most (c.args.most + 1) count (a.meta.out ≡ No → MovesUpTo g.R.Rack.slot_count a b (AreUnitsDone b.meta b.dirty) c.args.most count) (StepsOrWaits g.R.Rack.slot_count g.R.Rack.told a b (c.args.most + 1))} _ (λ count k. record { serves = k.serves; few = k.few; moves = λ is. k.moves; steps = k.steps }) c.step_units.ensures.steps;
+      idle = if_map {Q = λ count. a.meta.out ≢ No → (count ≡ 0) × (b ≡ a)} _ (λ count k out. absurd (out whole)) c.step_units.ensures.steps;
+      no_fall = c.step_units.ensures.no_fall;
+      loses = c.step_units.ensures.loses;
+    }
