@@ -1,3 +1,4 @@
+pub mod ResultLemmas
 pub mod ServiceLemmas
 pub mod OutLemmas
 pub mod RefusalLemmas

@@ -1,7 +1,8 @@
 -- What is told after calls is what was told before, longer by some calls.
-use Rattle.std.proofs.Common.{◌≡◌, inl, inr, ℕ, [], List, Option, subst}
+use Rattle.std.proofs.Common.{◌≡◌, ◌≤◌, arith, inl, inr, ℕ, [], List, Option, subst}
 use Rattle.paraid_rack.specs.declared.call.Call.{Call}
 use Rattle.paraid_rack.specs.Disks.{Disks}
+use Rattle.paraid_rack.specs.Slots.{Slot}
 use Rattle.paraid_rack.specs.Told.{Ran}
 use Rattle.paraid_rack.specs.Trail.{Trail}
 use Rattle.paraid_rack.proofs.TrailsLemmas.{Ran-none, Ran-then}
@@ -11,6 +12,7 @@ use Rattle.paraid_txn.specs.Stores.{store_rack}
 use Rattle.paraid_core.specs.declared.staged.Core.{Core}
 use Rattle.paraid_core.specs.Cores.{core_rack}
 use Rattle.paraid_shift.specs.Steps.{StepsOrWaits}
+use Rattle.paraid_array.specs.Service.{MakesCalls}
 
 -- no call
 pub extends_none : (told : Option Trail) → Extends told told
@@ -37,3 +39,24 @@ module _ {R : Type 0} {g : _} (told : R → Option Trail) where
   pub extends_steps : (count : R → ℕ) (a b : Core R g) (most : ℕ) → StepsOrWaits count told a b most → Extends (told (core_rack a)) (told (core_rack b))
   extends_steps count a b most (inl steps) = extends_core a b _ (steps [] 0 [] 0 0)
   extends_steps count a b most (inr (is, waits)) = extends_core a b _ (waits [] 0 [] 0 0)
+
+-- counts of faults that do not fall in two calls
+pub no_fall_then : (a b c : ℕ → Slot) → ((d : ℕ) → (a d).faults ≤ (b d).faults) → ((d : ℕ) → (b d).faults ≤ (c d).faults) → (d : ℕ) → (a d).faults ≤ (c d).faults
+no_fall_then a b c first second d =
+    let one = first d in
+    let two = second d in
+    omega (arith, one, two)
+
+module _ {R : Type 0} {g : _} (slot : R → ℕ → Slot) (told : R → Option Trail) where
+  pub calls_none : (a : Core R g) → MakesCalls slot told a a
+  calls_none a = record { no_fall = λ d. omega arith; grows = extends_none (told (core_rack a)) }
+
+  -- by what is told of them
+  pub calls_told : (a b : Core R g) (Q : Disks → List Call → Type 0) → ((d : ℕ) → (slot (core_rack a) d).faults ≤ (slot (core_rack b) d).faults) → Ran (told (core_rack a)) (told (core_rack b)) Q → MakesCalls slot told a b
+  calls_told a b Q kept ran = record { no_fall = kept; grows = extends_core told a b Q ran }
+
+  pub calls_then : (a b c : Core R g) → MakesCalls slot told a b → MakesCalls slot told b c → MakesCalls slot told a c
+  calls_then a b c first second = record {
+    no_fall = no_fall_then (slot (core_rack a)) (slot (core_rack b)) (slot (core_rack c)) first.no_fall second.no_fall;
+    grows = extends_cores told a b c first.grows second.grows;
+  }

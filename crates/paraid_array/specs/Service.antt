@@ -1,14 +1,16 @@
 -- An array in service.
-use Rattle.std.specs.Prelude.{◌≡◌, ℕ, [], Some}
+use Rattle.std.specs.Prelude.{◌≡◌, ℕ, ◌≤◌, [], Option, Some}
 use Rattle.paraid_rack.specs.declared.call.Power.TheVariants.{Spinning}
 use Rattle.paraid_rack.specs.Slots.{Slot}
+use Rattle.paraid_rack.specs.Trail.{Trail}
+use Rattle.paraid_recover.specs.HeldMoments.{Extends}
 use Rattle.paraid_txn.specs.Stores.{named_of, store_rack}
 use Rattle.paraid_core.specs.declared.staged.Core.{Core}
 use Rattle.paraid_core.specs.CoreInvariant.{AreCopiesSynced}
 use Rattle.paraid_core.specs.Cores.{CanCoreServe, IsCoreReady}
 use Rattle.paraid_core.specs.Steps.{IsNamedOrAbsent}
 use Rattle.paraid_core.specs.Units.{IsRebuilding}
-use Rattle.paraid_shift.specs.Serving.{AreAllLarge}
+use Rattle.paraid_shift.specs.Serving.{AreAllLarge, IsCoreServing, LeavesArray}
 
 -- Over every rack: the core can be read and written, no plan is under way, each copy is synced, and each disk that is
 -- not out has the size of the array.
@@ -24,3 +26,14 @@ pub record IsOutKnown {R : Type 0} {g : _} (slot : R → ℕ → Slot) (core : C
   pub absent : IsNamedOrAbsent slot core
   pub named : (d : ℕ) → IsRebuilding core.meta d → named_of core.store ≡ Some d
   pub spins : (d : ℕ) → IsRebuilding core.meta d → (slot (store_rack core.store) d).power ≡ Spinning
+
+-- What a part of an event leaves that was done: the core serves, the array is as it was, and the disk that is out is known.
+pub record LeavesInService {R : Type 0} {g : _} (count : R → ℕ) (slot : R → ℕ → Slot) (old new : Core R g) : Type 0 where
+  pub serving : IsCoreServing count slot new
+  pub leaves : LeavesArray count slot old new
+  pub known : IsOutKnown slot new
+
+-- What each call keeps, whether it was done or not: no count of faults falls, and what is told is longer by the calls.
+pub record MakesCalls {R : Type 0} {g : _} (slot : R → ℕ → Slot) (told : R → Option Trail) (old new : Core R g) : Type 0 where
+  pub no_fall : (d : ℕ) → (slot (store_rack old.store) d).faults ≤ (slot (store_rack new.store) d).faults
+  pub grows : Extends (told (store_rack old.store)) (told (store_rack new.store))

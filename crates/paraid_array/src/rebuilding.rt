@@ -7,7 +7,7 @@ ghost use Rattle.paraid_base.specs.States.{rebuilt_count};
 ghost use Rattle.paraid_base.specs.Told.{HasRisen};
 ghost use Rattle.paraid_core.specs.Cores.{batch_of, core_down, core_rack, core_table, meta_of, store_of};
 ghost use Rattle.paraid_core.specs.Units.{IsRebuilding};
-ghost use Rattle.paraid_array.specs.Service.{IsOutKnown};
+ghost use Rattle.paraid_array.specs.Service.{IsOutKnown, LeavesInService, MakesCalls};
 ghost use Rattle.paraid_array.specs.TickAnswers.{TellsRebuild, units_unbuilt};
 ghost use Rattle.paraid_array.specs.TickTurns.{CoreComesBack, CoreLosesComing, CoreParksBack};
 ghost use Rattle.paraid_array.specs.Turns.{CoreTickHalts, CoreTicks};
@@ -15,12 +15,11 @@ ghost use Rattle.paraid_event.specs.Service.{service_of};
 ghost use Rattle.paraid_event.specs.Steps.{StepsInEvent};
 ghost use Rattle.paraid_gear.specs.declared.windows.Windows.{Windows as WindowsType};
 ghost use Rattle.paraid_image.specs.Mark.{meta_after_loss};
-ghost use Rattle.paraid_rack.specs.declared.call.Power.TheVariants.{Absent, Spinning};
+ghost use Rattle.paraid_rack.specs.declared.call.Power.TheVariants.{Spinning};
 ghost use Rattle.paraid_rack.specs.Told.{Ran};
-ghost use Rattle.paraid_recover.specs.HeldMoments.{Extends};
 ghost use Rattle.paraid_record.specs.Range.{rebuild_units as units_of_rebuild};
-ghost use Rattle.paraid_shift.specs.Serving.{IsCoreServing, LeavesArray};
-ghost use Rattle.paraid_txn.specs.Losses.{AreTwoDown};
+ghost use Rattle.paraid_shift.specs.Serving.{IsCoreServing};
+ghost use Rattle.paraid_txn.specs.Losses.{AreTwoDown, IsLostNow};
 ghost use Rattle.paraid_txn.specs.Stores.{named_of};
 
 use paraid_base::{DiskNo, TickEvent, Two};
@@ -37,24 +36,17 @@ fn park_back<R: Rack>(core: &mut Core<R>, disk: DiskNo) -> Result<bool, Two>
     requires named { named_of (store_of core.old) ≡ None }
     requires disk { disk < (meta_of core.old).setup.geometry.disks }
     requires spins { (R.slot (core_rack core.old) disk).power ≡ Spinning }
-    ensures serving { OnOk result (IsCoreServing R.slot_count R.slot core.new) }
-    ensures leaves { OnOk result (LeavesArray R.slot_count R.slot core.old core.new) }
-    ensures known { OnOk result (IsOutKnown R.slot core.new) }
-    ensures back { result ≡ Ok true → (meta_of core.new).out ≡ No }
-    ensures gone { result ≡ Ok false → (meta_of core.new).out ≡ Gone disk }
-    ensures failed { result ≡ Ok false
-        → HasRisen (R.slot (core_rack core.old) disk).faults (R.slot (core_rack core.new) disk).faults }
-    ensures away { result ≡ Ok false → (R.slot (core_rack core.new) disk).power ≡ Absent }
+    ensures serves { OnOk result (LeavesInService R.slot_count R.slot core.old core.new) }
+    ensures lost { result ≡ Ok false → IsLostNow (R.slot (core_rack core.old)) (R.slot (core_rack core.new)) disk }
     ensures same { result ≡ Ok true → meta_of core.new ≡ meta_of core.old }
     ensures marked { result ≡ Ok false → meta_of core.new ≡ meta_after_loss (meta_of core.old) disk }
     ensures table { core_table core.new ≡ core_table core.old }
     // In the event of a tick it is the park with which a rebuild ends; no second disk is lost in one call.
     ensures parks { OnOk result (CoreParksBack R.slot_count R.told core.old core.new disk) }
     ensures alone { IfErr result (λ two. R.told (core_rack core.new) ≡ None) }
-    ensures no_fall { (d : ℕ) → (R.slot (core_rack core.old) d).faults ≤ (R.slot (core_rack core.new) d).faults }
+    ensures calls { MakesCalls R.slot R.told core.old core.new }
     ensures two { IfErr result (AreTwoDown (core_down core.old)
         (R.slot (core_rack core.old)) (R.slot (core_rack core.new))) }
-    ensures told { Extends (R.told (core_rack core.old)) (R.told (core_rack core.new)) }
 {
     if disk < core.meta().gear {
         return Ok(true);
@@ -62,11 +54,7 @@ fn park_back<R: Rack>(core: &mut Core<R>, disk: DiskNo) -> Result<bool, Two>
     if disk < core.meta().phase.rising_to() {
         return Ok(true);
     }
-    let parked = core.park(disk)?;
-    if !parked {
-        return Ok(false);
-    }
-    Ok(true)
+    core.park(disk)
 }
 
 // Copies the units that are left, and takes the disk into the array again. False where it was lost in that.
@@ -78,15 +66,9 @@ fn come_back<R: Rack>(core: &mut Core<R>, disk: DiskNo) -> Result<bool, Two>
     requires named { named_of (store_of core.old) ≡ Some disk }
     requires spins { (R.slot (core_rack core.old) disk).power ≡ Spinning }
     requires epoch { (meta_of core.old).epoch < 2 ^ 63 }
-    ensures serving { OnOk result (IsCoreServing R.slot_count R.slot core.new) }
-    ensures leaves { OnOk result (LeavesArray R.slot_count R.slot core.old core.new) }
-    ensures known { OnOk result (IsOutKnown R.slot core.new) }
+    ensures serves { OnOk result (LeavesInService R.slot_count R.slot core.old core.new) }
     ensures few { OnOk result ((meta_of core.new).epoch ≤ (meta_of core.old).epoch + 1) }
-    ensures back { result ≡ Ok true → (meta_of core.new).out ≡ No }
-    ensures gone { result ≡ Ok false → (meta_of core.new).out ≡ Gone disk }
-    ensures failed { result ≡ Ok false
-        → HasRisen (R.slot (core_rack core.old) disk).faults (R.slot (core_rack core.new) disk).faults }
-    ensures away { result ≡ Ok false → (R.slot (core_rack core.new) disk).power ≡ Absent }
+    ensures lost { result ≡ Ok false → IsLostNow (R.slot (core_rack core.old)) (R.slot (core_rack core.new)) disk }
     ensures rejoined { result ≡ Ok true → meta_of core.new ≡ record (meta_of core.old)
         { epoch = (meta_of core.new).epoch; out = No } }
     ensures marked { result ≡ Ok false → meta_of core.new
@@ -95,17 +77,15 @@ fn come_back<R: Rack>(core: &mut Core<R>, disk: DiskNo) -> Result<bool, Two>
     // In the event of a tick these are the calls with which a rebuild ends.
     ensures comes { IfOk result (λ back. CoreComesBack R.slot_count R.told core.old core.new disk back) }
     ensures loses { IfErr result (λ two. CoreLosesComing R.slot_count R.told core.old core.new disk two) }
-    ensures no_fall { (d : ℕ) → (R.slot (core_rack core.old) d).faults ≤ (R.slot (core_rack core.new) d).faults }
+    ensures calls { MakesCalls R.slot R.told core.old core.new }
     ensures two { IfErr result (AreTwoDown (core_down core.old)
         (R.slot (core_rack core.old)) (R.slot (core_rack core.new))) }
-    ensures told { Extends (R.told (core_rack core.old)) (R.told (core_rack core.new)) }
 {
     let copied = finish(core, disk)?;
     if !copied {
         return Ok(false);
     }
-    let back = park_back(core, disk)?;
-    Ok(back)
+    park_back(core, disk)
 }
 
 // Commits what is staged, copies the units that are left, and takes the disk into the array again. False where it was lost
@@ -117,16 +97,12 @@ fn rejoin_disk<R: Rack>(core: &mut Core<R>, disk: DiskNo) -> Result<bool, Two>
     requires named { named_of (store_of core.old) ≡ Some disk }
     requires spins { (R.slot (core_rack core.old) disk).power ≡ Spinning }
     requires epoch { (meta_of core.old).epoch + 1 < 2 ^ 63 }
-    ensures serving { OnOk result (IsCoreServing R.slot_count R.slot core.new) }
-    ensures leaves { OnOk result (LeavesArray R.slot_count R.slot core.old core.new) }
-    ensures known { OnOk result (IsOutKnown R.slot core.new) }
+    ensures serves { OnOk result (LeavesInService R.slot_count R.slot core.old core.new) }
     ensures few { OnOk result ((meta_of core.new).epoch ≤ (meta_of core.old).epoch + 2) }
     ensures back { result ≡ Ok true → (meta_of core.new).out ≡ No }
     ensures marked { result ≡ Ok false → meta_of core.new
         ≡ record (meta_after_loss (meta_of core.old) disk) { epoch = (meta_of core.new).epoch } }
-    ensures failed { result ≡ Ok false
-        → HasRisen (R.slot (core_rack core.old) disk).faults (R.slot (core_rack core.new) disk).faults }
-    ensures away { result ≡ Ok false → (R.slot (core_rack core.new) disk).power ≡ Absent }
+    ensures lost { result ≡ Ok false → IsLostNow (R.slot (core_rack core.old)) (R.slot (core_rack core.new)) disk }
     ensures table { OnOk result (core_table core.new ≡ core_table core.old) }
     // Where it is back, that is a tick of a session, with so many units as were left.
     ensures turn { result ≡ Ok true → (rebuilt : ℕ) (windows : WindowsType) → (meta_of core.old).out ≡ Fresh disk rebuilt
@@ -143,17 +119,15 @@ fn rejoin_disk<R: Rack>(core: &mut Core<R>, disk: DiskNo) -> Result<bool, Two>
         (service_of R.slot_count core.new samples served energy) h lo 2) }
     ensures halts { IfErr result (λ two. (rebuilt : ℕ) (windows : WindowsType) → (meta_of core.old).out ≡ Fresh disk rebuilt
         → CoreTickHalts R.slot_count R.told windows core.old core.new two) }
-    ensures no_fall { (d : ℕ) → (R.slot (core_rack core.old) d).faults ≤ (R.slot (core_rack core.new) d).faults }
+    ensures calls { MakesCalls R.slot R.told core.old core.new }
     ensures two { IfErr result (AreTwoDown (core_down core.old)
         (R.slot (core_rack core.old)) (R.slot (core_rack core.new))) }
-    ensures told { Extends (R.told (core_rack core.old)) (R.told (core_rack core.new)) }
 {
     let there = commit_staged(core, disk)?;
     if !there {
         return Ok(false);
     }
-    let back = come_back(core, disk)?;
-    Ok(back)
+    come_back(core, disk)
 }
 
 // The last tick of a rebuild: what is staged is committed first. False where the disk was lost in it: that it is gone is
@@ -165,9 +139,7 @@ fn end_rebuild<R: Rack>(core: &mut Core<R>, disk: DiskNo) -> Result<bool, Two>
     requires named { named_of (store_of core.old) ≡ Some disk }
     requires spins { (R.slot (core_rack core.old) disk).power ≡ Spinning }
     requires epoch { (meta_of core.old).epoch + 2 < 2 ^ 63 }
-    ensures serving { OnOk result (IsCoreServing R.slot_count R.slot core.new) }
-    ensures leaves { OnOk result (LeavesArray R.slot_count R.slot core.old core.new) }
-    ensures known { OnOk result (IsOutKnown R.slot core.new) }
+    ensures serves { OnOk result (LeavesInService R.slot_count R.slot core.old core.new) }
     ensures back { result ≡ Ok true → (meta_of core.new).out ≡ No }
     ensures gone { result ≡ Ok false → (meta_of core.new).out ≡ Gone disk }
     ensures committed { result ≡ Ok false → named_of (store_of core.new) ≡ Some disk }
@@ -183,10 +155,9 @@ fn end_rebuild<R: Rack>(core: &mut Core<R>, disk: DiskNo) -> Result<bool, Two>
         })) }
     ensures halts { IfErr result (λ two. (rebuilt : ℕ) (windows : WindowsType) → (meta_of core.old).out ≡ Fresh disk rebuilt
         → CoreTickHalts R.slot_count R.told windows core.old core.new two) }
-    ensures no_fall { (d : ℕ) → (R.slot (core_rack core.old) d).faults ≤ (R.slot (core_rack core.new) d).faults }
+    ensures calls { MakesCalls R.slot R.told core.old core.new }
     ensures two { IfErr result (AreTwoDown (core_down core.old)
         (R.slot (core_rack core.old)) (R.slot (core_rack core.new))) }
-    ensures told { Extends (R.told (core_rack core.old)) (R.told (core_rack core.new)) }
 {
     let back = rejoin_disk(core, disk)?;
     if back {
@@ -205,9 +176,7 @@ fn move_units<R: Rack>(core: &mut Core<R>, disk: DiskNo, end: u32) -> Result<boo
     requires from { rebuilt_count (meta_of core.old).out ≤ end }
     requires limit { end ≤ units_of_rebuild (meta_of core.old).setup.geometry (meta_of core.old).gear disk }
     requires epoch { (meta_of core.old).epoch + 2 < 2 ^ 63 }
-    ensures serving { OnOk result (IsCoreServing R.slot_count R.slot core.new) }
-    ensures leaves { OnOk result (LeavesArray R.slot_count R.slot core.old core.new) }
-    ensures known { OnOk result (IsOutKnown R.slot core.new) }
+    ensures serves { OnOk result (LeavesInService R.slot_count R.slot core.old core.new) }
     ensures moved { result ≡ Ok true → (meta_of core.new).out ≡ Fresh disk end }
     ensures gone { result ≡ Ok false → (meta_of core.new).out ≡ Gone disk }
     ensures committed { result ≡ Ok false → named_of (store_of core.new) ≡ Some disk }
@@ -224,16 +193,11 @@ fn move_units<R: Rack>(core: &mut Core<R>, disk: DiskNo, end: u32) -> Result<boo
         })) }
     ensures halts { IfErr result (λ two. (rebuilt : ℕ) (windows : WindowsType) → (meta_of core.old).out ≡ Fresh disk rebuilt
         → CoreTickHalts R.slot_count R.told windows core.old core.new two) }
-    ensures no_fall { (d : ℕ) → (R.slot (core_rack core.old) d).faults ≤ (R.slot (core_rack core.new) d).faults }
+    ensures calls { MakesCalls R.slot R.told core.old core.new }
     ensures two { IfErr result (AreTwoDown (core_down core.old)
         (R.slot (core_rack core.old)) (R.slot (core_rack core.new))) }
-    ensures told { Extends (R.told (core_rack core.old)) (R.told (core_rack core.new)) }
 {
-    let moved = step(core, disk, end)?;
-    if !moved {
-        return Ok(false);
-    }
-    Ok(true)
+    step(core, disk, end)
 }
 
 // The tick of a rebuild: it moves units, and ends the rebuild with the last of them.
@@ -246,14 +210,9 @@ pub(crate) fn rebuild<R: Rack>(
     requires fresh { (meta_of core.old).out ≡ Fresh disk first }
     requires known { IsOutKnown R.slot core.old }
     requires epoch { (meta_of core.old).epoch < 2 ^ 62 }
-    ensures serving { OnOk result (IsCoreServing R.slot_count R.slot core.new) }
-    ensures leaves { OnOk result (LeavesArray R.slot_count R.slot core.old core.new) }
-    ensures known { OnOk result (IsOutKnown R.slot core.new) }
+    ensures serves { OnOk result (LeavesInService R.slot_count R.slot core.old core.new) }
     ensures tells { IfOk result (λ done. TellsRebuild (meta_of core.old) (meta_of core.new) disk first done.0 done.1) }
-    // A disk that is told as rebuilt is back, and one that is told as gone has failed in the tick and is named out by its
-    // last commit.
-    ensures back { IfOk result (λ done. done.1 ≡ Rebuilt disk → (meta_of core.new).out ≡ No) }
-    ensures gone { IfOk result (λ done. done.1 ≡ GoneInTick disk → (meta_of core.new).out ≡ Gone disk) }
+    // A disk that is told as gone has failed in the tick, and is named out by its last commit.
     ensures committed { IfOk result (λ done. done.1 ≡ GoneInTick disk → named_of (store_of core.new) ≡ Some disk) }
     ensures failed { IfOk result (λ done. done.1 ≡ GoneInTick disk
         → HasRisen (R.slot (core_rack core.old) disk).faults (R.slot (core_rack core.new) disk).faults) }
@@ -262,10 +221,9 @@ pub(crate) fn rebuild<R: Rack>(
         (record { gear = (meta_of core.new).gear; moved = done.0; event = done.1 })) }
     ensures halts { IfErr result (λ two. (windows : WindowsType)
         → CoreTickHalts R.slot_count R.told windows core.old core.new two) }
-    ensures no_fall { (d : ℕ) → (R.slot (core_rack core.old) d).faults ≤ (R.slot (core_rack core.new) d).faults }
+    ensures calls { MakesCalls R.slot R.told core.old core.new }
     ensures two { IfErr result (AreTwoDown (core_down core.old)
         (R.slot (core_rack core.old)) (R.slot (core_rack core.new))) }
-    ensures told { Extends (R.told (core_rack core.old)) (R.told (core_rack core.new)) }
 {
     let setup = &core.meta().setup;
     let rate = setup.rate;

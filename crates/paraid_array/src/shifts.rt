@@ -7,7 +7,7 @@ ghost use Rattle.paraid_base.specs.declared.state.Phase.TheVariants.{Steady};
 ghost use Rattle.paraid_core.specs.Cores.{core_down, core_rack, meta_of, store_of};
 ghost use Rattle.paraid_array.specs.declared.fault.ShiftFault.TheVariants.{Ration as Worn};
 ghost use Rattle.paraid_array.specs.Refusals.{IsDownRefused, IsHinderedBy, IsShiftStateOf, IsUpRefused, MayGoDown, MayGoUp};
-ghost use Rattle.paraid_array.specs.Service.{IsOutKnown};
+ghost use Rattle.paraid_array.specs.Service.{IsOutKnown, LeavesInService, MakesCalls};
 ghost use Rattle.paraid_array.specs.TickAnswers.{IsIdleTick, TellsDecision, TellsMove, TellsRebuild};
 ghost use Rattle.paraid_array.specs.TickTurns.{AreUnitsOfTick};
 ghost use Rattle.paraid_array.specs.Turns.{CoreTickHalts, CoreTicks};
@@ -120,28 +120,21 @@ fn move_on<R: Rack>(core: &mut Core<R>) -> Result<(u32, TickEvent), Two>
     requires epoch { (meta_of core.old).epoch < 2 ^ 62 }
     requires whole { (meta_of core.old).out ≡ No }
     requires shifts { (meta_of core.old).phase ≢ Steady }
-    ensures serving { OnOk result (IsCoreServing R.slot_count R.slot core.new) }
+    ensures serves { OnOk result (LeavesInService R.slot_count R.slot core.old core.new) }
     ensures tells { IfOk result (λ done. TellsMove (meta_of core.new) done.1) }
-    ensures leaves { OnOk result (LeavesArray R.slot_count R.slot core.old core.new) }
-    ensures known { OnOk result (IsOutKnown R.slot core.new) }
     // It is a tick of a session.
     ensures turn { IfOk result (λ done. (windows : WindowsType) → CoreTicks R.slot_count R.told windows core.old core.new
         (record { gear = (meta_of core.new).gear; moved = done.0; event = done.1 })) }
     ensures halts { IfErr result (λ two. (windows : WindowsType)
         → CoreTickHalts R.slot_count R.told windows core.old core.new two) }
-    ensures no_fall { (d : ℕ) → (R.slot (core_rack core.old) d).faults ≤ (R.slot (core_rack core.new) d).faults }
+    ensures calls { MakesCalls R.slot R.told core.old core.new }
     ensures two { IfErr result (AreTwoDown (core_down core.old)
         (R.slot (core_rack core.old)) (R.slot (core_rack core.new))) }
-    ensures told { Extends (R.told (core_rack core.old)) (R.told (core_rack core.new)) }
 {
     let units = units_of_tick(core);
     let moved = step(core, units)?;
-    match core.out() {
-        Out::Gone { disk } | Out::Fresh { disk, .. } => return Ok((
-            moved.units,
-            TickEvent::Lost { disk },
-        )),
-        Out::No => {}
+    if let Some(disk) = moved.lost {
+        return Ok((moved.units, TickEvent::Lost { disk }));
     }
     if !is_done(core) {
         return Ok((moved.units, TickEvent::Moving));
@@ -168,22 +161,19 @@ fn decide<R: Rack>(core: &mut Core<R>, windows: &Windows) -> Result<TickEvent, T
     requires lengths { lengths_of windows.now ≡ (meta_of core.old).setup.windows }
     requires steady { (meta_of core.old).phase ≡ Steady }
     requires whole { (meta_of core.old).out ≡ No }
-    ensures serving { OnOk result (IsCoreServing R.slot_count R.slot core.new) }
-    ensures leaves { OnOk result (LeavesArray R.slot_count R.slot core.old core.new) }
+    ensures serves { OnOk result (LeavesInService R.slot_count R.slot core.old core.new) }
     // It begins the shift that the samples ask for, unless a disk is worn.
     ensures tells { IfOk result (λ event. (samples : List ℕ) → HoldLastSamples windows.now samples
         → (s : PowerState) → IsShiftStateOf (meta_of core.old) s
         → TellsDecision (meta_of core.old).setup s (decision (meta_of core.old).setup s.gear samples) event) }
     ensures idle { IfOk result (λ event. IsIdleTick event → core.new ≡ core.old) }
-    ensures known { OnOk result (IsOutKnown R.slot core.new) }
     // It is a tick of a session.
     ensures turn { IfOk result (λ event. CoreTicks R.slot_count R.told windows.now core.old core.new
         (record { gear = (meta_of core.new).gear; moved = 0; event = event })) }
     ensures halts { IfErr result (λ two. CoreTickHalts R.slot_count R.told windows.now core.old core.new two) }
-    ensures no_fall { (d : ℕ) → (R.slot (core_rack core.old) d).faults ≤ (R.slot (core_rack core.new) d).faults }
+    ensures calls { MakesCalls R.slot R.told core.old core.new }
     ensures two { IfErr result (AreTwoDown (core_down core.old)
         (R.slot (core_rack core.old)) (R.slot (core_rack core.new))) }
-    ensures told { Extends (R.told (core_rack core.old)) (R.told (core_rack core.new)) }
 {
     let meta = *core.meta();
     match windows.decide(&meta.setup, meta.gear) {
@@ -247,8 +237,7 @@ pub fn advance<R: Rack>(core: &mut Core<R>, windows: &Windows) -> Result<(u32, T
     match core.out() {
         Out::Gone { .. } => return Ok((0, TickEvent::Waiting)),
         Out::Fresh { disk, rebuilt } => {
-            let done = rebuild(core, disk, rebuilt)?;
-            return Ok(done);
+            return rebuild(core, disk, rebuilt);
         }
         Out::No => {}
     }
@@ -257,9 +246,6 @@ pub fn advance<R: Rack>(core: &mut Core<R>, windows: &Windows) -> Result<(u32, T
             let event = decide(core, windows)?;
             Ok((0, event))
         }
-        Phase::Down { .. } | Phase::Up { .. } => {
-            let done = move_on(core)?;
-            Ok(done)
-        }
+        Phase::Down { .. } | Phase::Up { .. } => move_on(core),
     }
 }

@@ -1,215 +1,182 @@
 use Rattle.std.proofs.Common.{◌≡◌, ◌+◌, sym, ap, subst, refl, arith, Ok, []}
-use Rattle.std.proofs.lemmas.Result.{err_from_is_err_and}
 use Rattle.paraid_base.specs.declared.state.Out.TheVariants.{No}
 use Rattle.paraid_base.specs.declared.state.Phase.TheVariants.{Steady, Up}
 use Rattle.paraid_record.specs.declared.meta.Meta.{Meta}
+use Rattle.paraid_record.specs.Range.{AreNextGears, IsInRange}
 use Rattle.paraid_image.specs.Power.{PowerState}
 use Rattle.paraid_moves.specs.MoveMetas.{meta_after_begin}
 use Rattle.paraid_array.specs.Refusals.{IsUpRefused, IsShiftStateOf, MayGoUp}
 use Rattle.paraid_array.specs.declared.fault.ShiftFault.{ShiftFault}
 use Rattle.paraid_array.specs.declared.asked.Asked.TheVariants.{Refused}
-use Rattle.paraid_array.proofs.AskedLemmas.{core_loses_then, known_marked, up_begun, up_halts, up_lost, up_stays, up_stopped}
+use Rattle.paraid_array.proofs.AskedLemmas.{core_loses_then, up_begun, up_halts, up_lost, up_same, up_stays, up_stopped, known_marked}
 use Rattle.paraid_array.proofs.RefusalLemmas.{up_may_not, up_refused_same}
+use Rattle.paraid_array.proofs.TickTurnLemmas.{marked_then}
 use Rattle.paraid_txn.specs.Stores.{store_rack}
 use Rattle.paraid_core.proofs.AfterLemmas.{handed}
+use Rattle.paraid_array.proofs.ResultLemmas.{none_done, none_done_if}
 use Rattle.paraid_shift.proofs.ServingLemmas.{leaves_array_none, leaves_array_then, none_away, two_array}
-use Rattle.paraid_array.proofs.ToldLemmas.{extends_core, extends_cores, extends_none}
+use Rattle.paraid_array.proofs.ToldLemmas.{extends_core, extends_cores, extends_none, no_fall_then}
 use Rattle.paraid_array.proofs.asked.up.Goals as goal
 
-pub returns-in_err-begin_up-in-Ok-clause-two : goal.returns-in_err-begin_up-in-Ok-clause-two
-returns-in_err-begin_up-in-Ok-clause-two g c =
-    handed _ c.from_residual-in_err-begin_up-in-Ok.result _ c.from_residual-in_err-begin_up-in-Ok.ensures.1
-    (two_array g.R.Rack.slot_count g.R.Rack.slot c.args.core.now c.commit_staged.new.core c.begin_up.new.core c.in_ok-commit_staged.ensures.leaves c.begin_up.ensures.no_fall _ c.in_err-begin_up-in-Ok.ensures.two)
+pub gear_above-requires : goal.gear_above-requires
+gear_above-requires g c = record { in_range = subst (λ (z : Meta). IsInRange z) (sym c.meta.ensures) c.requires.serving.ready.in_range }
 
-pub returns-in_ok-begin_up-in-Ok-clause-leaves : goal.returns-in_ok-begin_up-in-Ok-clause-leaves
-returns-in_ok-begin_up-in-Ok-clause-leaves g c =
-    leaves_array_then g.R.Rack.slot_count g.R.Rack.slot c.args.core.now c.commit_staged.new.core c.begin_up.new.core c.in_ok-commit_staged.ensures.leaves c.in_ok-begin_up-in-Ok.ensures.leaves
+pub returns-in-Err : goal.returns-in-Err
+returns-in-Err g c =
+    let a = c.args.core.now in
+    record {
+      serving = c.requires.serving;
+      leaves = leaves_array_none g.R.Rack.slot_count g.R.Rack.slot a;
+      refused = λ fault s of why.
+          let is = subst (λ (z : Meta). IsShiftStateOf z s) (sym c.meta.ensures) of in
+          let told = subst (λ (z : Meta). IsUpRefused z.setup s c.in-Err.fault) c.meta.ensures (c.in-Err.ensures.refused s is) in
+          (ap (λ (z : ShiftFault). Ok (Refused z)) (up_refused_same a.meta.setup s c.in-Err.fault fault told why), refl);
+      begins = λ to s of may.
+          let is = subst (λ (z : Meta). IsShiftStateOf z s) (sym c.meta.ensures) of in
+          absurd (up_may_not a.meta.setup s to c.in-Err.fault may (subst (λ (z : Meta). IsUpRefused z.setup s c.in-Err.fault) c.meta.ensures (c.in-Err.ensures.refused s is)));
+      known = λ before. before;
+      epoch = omega arith;
+      turn = up_stays g.R.Rack.slot_count g.R.Rack.told a c.in-Err.fault (subst (λ (z : Meta). (s : PowerState) → IsShiftStateOf z s → IsUpRefused z.setup s c.in-Err.fault) c.meta.ensures c.in-Err.ensures.refused);
+      halts = tt;
+      out = λ not. refl;
+      no_fall = λ d. omega arith;
+      two = tt;
+      told = extends_none (g.R.Rack.told (store_rack a.store));
+    }
 
-pub returns-in-Err-clause-refused : goal.returns-in-Err-clause-refused
-returns-in-Err-clause-refused g c fault s of why =
-    let is = subst (λ (z : Meta). IsShiftStateOf z s) (sym c.meta.ensures) of in
-    let told = subst (λ (z : Meta). IsUpRefused z.setup s c.in-Err.fault) c.meta.ensures (c.in-Err.ensures.refused s is) in
-    (ap (λ (z : ShiftFault). Ok (Refused z)) (up_refused_same c.args.core.now.meta.setup s c.in-Err.fault fault told why), refl)
+pub commit_staged-requires : goal.commit_staged-requires
+commit_staged-requires g c = record { serving = c.requires.serving; epoch = let e = c.requires.epoch in omega (arith, e) }
 
-pub returns-in-Err-clause-begins : goal.returns-in-Err-clause-begins
-returns-in-Err-clause-begins g c to s of may =
-    let is = subst (λ (z : Meta). IsShiftStateOf z s) (sym c.meta.ensures) of in
-    absurd (up_may_not c.args.core.now.meta.setup s to c.in-Err.fault may (subst (λ (z : Meta). IsUpRefused z.setup s c.in-Err.fault) c.meta.ensures (c.in-Err.ensures.refused s is)))
-
-pub returns-in-Err-clause-turn : goal.returns-in-Err-clause-turn
-returns-in-Err-clause-turn g c =
-    up_stays g.R.Rack.slot_count g.R.Rack.told c.args.core.now c.in-Err.fault (subst (λ (z : Meta). (s : PowerState) → IsShiftStateOf z s → IsUpRefused z.setup s c.in-Err.fault) c.meta.ensures c.in-Err.ensures.refused)
-
-pub returns-in_err-commit_staged-clause-halts : goal.returns-in_err-commit_staged-clause-halts
-returns-in_err-commit_staged-clause-halts g c =
+pub returns-in_err-commit_staged : goal.returns-in_err-commit_staged
+returns-in_err-commit_staged g c =
     let a = c.args.core.now in
     let m = c.commit_staged.new.core in
     let steady = subst (λ (z : Meta). z.phase ≡ Steady) c.meta.ensures c.in_default.ensures.steady in
     let whole = subst (λ (z : Meta). z.out ≡ No) c.meta.ensures c.in_default.ensures.whole in
-    handed _ c.from_residual.result _ c.from_residual.ensures.1
-    (up_halts g.R.Rack.slot_count g.R.Rack.told a steady whole m c.in_default.field-0 _ 1 (omega arith) (c.in_err-commit_staged.ensures.loses (none_away g.R.Rack.slot a whole))
-    (subst (λ (z : Meta). (s : PowerState) → IsShiftStateOf z s → MayGoUp z.setup s c.in_default.field-0) c.meta.ensures c.in_default.ensures.may))
+    let loses = c.in_err-commit_staged.ensures.loses (none_away g.R.Rack.slot a whole) in
+    record {
+      serving = none_done _ c.from_residual.result _ c.from_residual.ensures.1;
+      leaves = none_done _ c.from_residual.result _ c.from_residual.ensures.1;
+      refused = λ fault s of why.
+          let is = subst (λ (z : Meta). IsShiftStateOf z s) (sym c.meta.ensures) of in
+          absurd (up_may_not c.meta.result.now.setup s c.in_default.field-0 fault (c.in_default.ensures.may s is) (subst (λ (z : Meta). IsUpRefused z.setup s fault) (sym c.meta.ensures) why));
+      begins = none_done_if _ c.from_residual.result _ c.from_residual.ensures.1;
+      known = none_done _ c.from_residual.result _ c.from_residual.ensures.1;
+      epoch = none_done _ c.from_residual.result _ c.from_residual.ensures.1;
+      turn = none_done_if _ c.from_residual.result _ c.from_residual.ensures.1;
+      halts =
+          handed _ c.from_residual.result _ c.from_residual.ensures.1
+          (up_halts g.R.Rack.slot_count g.R.Rack.told a steady whole m c.in_default.field-0 _ 1 (omega arith) loses
+          (subst (λ (z : Meta). (s : PowerState) → IsShiftStateOf z s → MayGoUp z.setup s c.in_default.field-0) c.meta.ensures c.in_default.ensures.may));
+      out = λ not. absurd (not whole);
+      no_fall = c.commit_staged.ensures.no_fall;
+      two = handed _ c.from_residual.result _ c.from_residual.ensures.1 c.in_err-commit_staged.ensures.two;
+      told = extends_core g.R.Rack.told a m _ (loses [] 0 [] 0 0);
+    }
 
-pub returns-in_err-begin_up-in-Ok-clause-halts : goal.returns-in_err-begin_up-in-Ok-clause-halts
-returns-in_err-begin_up-in-Ok-clause-halts g c =
+pub gear_above-requires-2 : goal.gear_above-requires-2
+gear_above-requires-2 g c = record { in_range = subst (λ (z : Meta). IsInRange z) (sym c.meta-2.ensures) c.in_ok-commit_staged.ensures.serving.ready.in_range }
+
+pub begin_up-requires : goal.begin_up-requires
+begin_up-requires g c = record {
+  serving = c.in_ok-commit_staged.ensures.serving;
+  epoch =
+      let e = c.requires.epoch in
+      let f = c.in_ok-commit_staged.ensures.epoch in
+      omega (arith, e, f);
+  whole = subst (λ (z : Meta). z.out ≡ No) c.meta-2.ensures c.in-Ok.ensures.whole;
+  steady = subst (λ (z : Meta). z.phase ≡ Steady) c.meta-2.ensures c.in-Ok.ensures.steady;
+  next = subst (λ (z : Meta). AreNextGears z.setup.geometry z.gear c.in-Ok.to) c.meta-2.ensures c.in-Ok.ensures.next;
+}
+
+pub returns-in_err-begin_up-in-Ok : goal.returns-in_err-begin_up-in-Ok
+returns-in_err-begin_up-in-Ok g c =
     let a = c.args.core.now in
     let m = c.commit_staged.new.core in
-    let steady = subst (λ (z : Meta). z.phase ≡ Steady) c.meta.ensures c.in_default.ensures.steady in
-    let whole = subst (λ (z : Meta). z.out ≡ No) c.meta.ensures c.in_default.ensures.whole in
     let b = c.begin_up.new.core in
-    handed _ c.from_residual-in_err-begin_up-in-Ok.result _ c.from_residual-in_err-begin_up-in-Ok.ensures.1
-    (up_halts g.R.Rack.slot_count g.R.Rack.told a steady whole b c.in_default.field-0 _ (1 + 1) (omega arith)
-    (core_loses_then g.R.Rack.slot_count g.R.Rack.told a m b 1 1 _ (c.in_ok-commit_staged.ensures.steps (none_away g.R.Rack.slot a whole)) c.in_err-begin_up-in-Ok.ensures.loses)
-    (subst (λ (z : Meta). (s : PowerState) → IsShiftStateOf z s → MayGoUp z.setup s c.in_default.field-0) c.meta.ensures c.in_default.ensures.may))
-
-pub returns-in_ok-begin_up-in-Ok-clause-turn : goal.returns-in_ok-begin_up-in-Ok-clause-turn
-returns-in_ok-begin_up-in-Ok-clause-turn g c =
-    let a = c.args.core.now in
-    let m = c.commit_staged.new.core in
     let steady = subst (λ (z : Meta). z.phase ≡ Steady) c.meta.ensures c.in_default.ensures.steady in
     let whole = subst (λ (z : Meta). z.out ≡ No) c.meta.ensures c.in_default.ensures.whole in
+    let steps = c.in_ok-commit_staged.ensures.steps (none_away g.R.Rack.slot a whole) in
+    record {
+      serving = none_done _ c.from_residual-in_err-begin_up-in-Ok.result _ c.from_residual-in_err-begin_up-in-Ok.ensures.1;
+      leaves = none_done _ c.from_residual-in_err-begin_up-in-Ok.result _ c.from_residual-in_err-begin_up-in-Ok.ensures.1;
+      refused = λ fault s of why.
+          let is = subst (λ (z : Meta). IsShiftStateOf z s) (sym c.meta.ensures) of in
+          absurd (up_may_not c.meta.result.now.setup s c.in_default.field-0 fault (c.in_default.ensures.may s is) (subst (λ (z : Meta). IsUpRefused z.setup s fault) (sym c.meta.ensures) why));
+      begins = none_done_if _ c.from_residual-in_err-begin_up-in-Ok.result _ c.from_residual-in_err-begin_up-in-Ok.ensures.1;
+      known = none_done _ c.from_residual-in_err-begin_up-in-Ok.result _ c.from_residual-in_err-begin_up-in-Ok.ensures.1;
+      epoch = none_done _ c.from_residual-in_err-begin_up-in-Ok.result _ c.from_residual-in_err-begin_up-in-Ok.ensures.1;
+      turn = none_done_if _ c.from_residual-in_err-begin_up-in-Ok.result _ c.from_residual-in_err-begin_up-in-Ok.ensures.1;
+      halts =
+          handed _ c.from_residual-in_err-begin_up-in-Ok.result _ c.from_residual-in_err-begin_up-in-Ok.ensures.1
+          (up_halts g.R.Rack.slot_count g.R.Rack.told a steady whole b c.in_default.field-0 _ (1 + 1) (omega arith)
+          (core_loses_then g.R.Rack.slot_count g.R.Rack.told a m b 1 1 _ steps c.in_err-begin_up-in-Ok.ensures.loses)
+          (subst (λ (z : Meta). (s : PowerState) → IsShiftStateOf z s → MayGoUp z.setup s c.in_default.field-0) c.meta.ensures c.in_default.ensures.may));
+      out = λ not. absurd (not whole);
+      no_fall = no_fall_then (g.R.Rack.slot (store_rack a.store)) (g.R.Rack.slot (store_rack m.store)) (g.R.Rack.slot (store_rack b.store)) c.commit_staged.ensures.no_fall c.begin_up.ensures.no_fall;
+      two = handed _ c.from_residual-in_err-begin_up-in-Ok.result _ c.from_residual-in_err-begin_up-in-Ok.ensures.1 (two_array g.R.Rack.slot_count g.R.Rack.slot a m b c.in_ok-commit_staged.ensures.leaves c.begin_up.ensures.no_fall _ c.in_err-begin_up-in-Ok.ensures.two);
+      told = extends_cores g.R.Rack.told a m b (extends_core g.R.Rack.told a m _ (steps [] 0 [] 0 0)) (extends_core g.R.Rack.told m b _ (c.begin_up.ensures.moments [] 0));
+    }
+
+pub returns-in_ok-begin_up-in-Ok : goal.returns-in_ok-begin_up-in-Ok
+returns-in_ok-begin_up-in-Ok g c =
+    let a = c.args.core.now in
+    let m = c.commit_staged.new.core in
     let b = c.begin_up.new.core in
+    let to = c.in-Ok.to in
+    let steady = subst (λ (z : Meta). z.phase ≡ Steady) c.meta.ensures c.in_default.ensures.steady in
+    let whole = subst (λ (z : Meta). z.out ≡ No) c.meta.ensures c.in_default.ensures.whole in
+    let still = subst (λ (z : Meta). z.out ≡ No) c.meta-2.ensures c.in-Ok.ensures.whole in
+    let may = subst (λ (z : Meta). (s : PowerState) → IsShiftStateOf z s → MayGoUp z.setup s c.in-Ok.to) c.meta-2.ensures c.in-Ok.ensures.may in
     let staged = c.in_ok-commit_staged.ensures in
+    let steps = staged.steps (none_away g.R.Rack.slot a whole) in
     let done = c.in_ok-begin_up-in-Ok.ensures in
-    up_begun g.R.Rack.slot_count g.R.Rack.told a steady whole m m.meta.epoch staged.meta c.commit_staged.ensures.table (staged.steps (none_away g.R.Rack.slot a whole)) g.R.Rack.slot b c.in-Ok.to
-    (subst (λ (z : Meta). z.out ≡ No) c.meta-2.ensures c.in-Ok.ensures.whole) done.steps c.begin_up.ensures.table done.serving.copies_synced
-    done.meta staged.serving.ready.in_range.eight done.serving.ready.in_range.eight
-    (subst (λ (z : Meta). (s : PowerState) → IsShiftStateOf z s → MayGoUp z.setup s c.in-Ok.to) c.meta-2.ensures c.in-Ok.ensures.may)
+    record {
+      serving = done.serving;
+      leaves = leaves_array_then g.R.Rack.slot_count g.R.Rack.slot a m b staged.leaves done.leaves;
+      refused = λ fault s of why.
+          let is = subst (λ (z : Meta). IsShiftStateOf z s) (sym c.meta.ensures) of in
+          absurd (up_may_not c.meta.result.now.setup s c.in_default.field-0 fault (c.in_default.ensures.may s is) (subst (λ (z : Meta). IsUpRefused z.setup s fault) (sym c.meta.ensures) why));
+      begins = λ goal s of could. up_same a.meta m.meta m.meta.epoch staged.meta steady whole still s of goal to could may;
+      known = λ before. known_marked g.R.Rack.slot b (record (meta_after_begin m.meta (Up to) done.meta.spins) { epoch = m.meta.epoch + 1 }) still done.meta.is done.absent;
+      epoch =
+          let e = ap (λ (z : Meta). z.epoch) (marked_then (meta_after_begin m.meta (Up to) done.meta.spins) b.meta (m.meta.epoch + 1) done.meta.is) in
+          let f = staged.epoch in
+          omega (arith, e, f);
+      turn =
+          up_begun g.R.Rack.slot_count g.R.Rack.told a steady whole m m.meta.epoch staged.meta c.commit_staged.ensures.table steps g.R.Rack.slot b to
+          still done.steps c.begin_up.ensures.table done.serving.copies_synced
+          done.meta staged.serving.ready.in_range.eight done.serving.ready.in_range.eight may;
+      halts = tt;
+      out = λ not. absurd (not whole);
+      no_fall = no_fall_then (g.R.Rack.slot (store_rack a.store)) (g.R.Rack.slot (store_rack m.store)) (g.R.Rack.slot (store_rack b.store)) c.commit_staged.ensures.no_fall c.begin_up.ensures.no_fall;
+      two = tt;
+      told = extends_cores g.R.Rack.told a m b (extends_core g.R.Rack.told a m _ (steps [] 0 [] 0 0)) (extends_core g.R.Rack.told m b _ (c.begin_up.ensures.moments [] 0));
+    }
 
-pub returns-in_ok-begin_up-in-Ok-clause-known : goal.returns-in_ok-begin_up-in-Ok-clause-known
-returns-in_ok-begin_up-in-Ok-clause-known g c before =
-    let m = c.commit_staged.new.core in
-    let done = c.in_ok-begin_up-in-Ok.ensures in
-    known_marked g.R.Rack.slot c.begin_up.new.core (record (meta_after_begin m.meta (Up c.in-Ok.to) done.meta.spins) { epoch = m.meta.epoch + 1 }) (subst (λ (z : Meta). z.out ≡ No) c.meta-2.ensures c.in-Ok.ensures.whole) done.meta.is done.absent
-
-pub returns-in-Err-gear_above-clause-begins : goal.returns-in-Err-gear_above-clause-begins
-returns-in-Err-gear_above-clause-begins g c to s of may =
+pub returns-in-Err-gear_above : goal.returns-in-Err-gear_above
+returns-in-Err-gear_above g c =
     let a = c.args.core.now in
     let m = c.commit_staged.new.core in
     let steady = subst (λ (z : Meta). z.phase ≡ Steady) c.meta.ensures c.in_default.ensures.steady in
     let whole = subst (λ (z : Meta). z.out ≡ No) c.meta.ensures c.in_default.ensures.whole in
-    up_lost a.meta m.meta m.meta.epoch c.in_ok-commit_staged.ensures.meta steady whole c.in_default.field-0 c.in-Err-gear_above.fault
-    (subst (λ (z : Meta). (s : PowerState) → IsShiftStateOf z s → MayGoUp z.setup s c.in_default.field-0) c.meta.ensures c.in_default.ensures.may)
-    (subst (λ (z : Meta). (s : PowerState) → IsShiftStateOf z s → IsUpRefused z.setup s c.in-Err-gear_above.fault) c.meta-2.ensures c.in-Err-gear_above.ensures.refused)
-
-pub returns-in-Err-gear_above-clause-turn : goal.returns-in-Err-gear_above-clause-turn
-returns-in-Err-gear_above-clause-turn g c =
-    let a = c.args.core.now in
-    let m = c.commit_staged.new.core in
-    let steady = subst (λ (z : Meta). z.phase ≡ Steady) c.meta.ensures c.in_default.ensures.steady in
-    let whole = subst (λ (z : Meta). z.out ≡ No) c.meta.ensures c.in_default.ensures.whole in
     let staged = c.in_ok-commit_staged.ensures in
-    up_stopped g.R.Rack.slot_count g.R.Rack.told a steady whole m m.meta.epoch staged.meta c.commit_staged.ensures.table (staged.steps (none_away g.R.Rack.slot a whole)) c.in_default.field-0 c.in-Err-gear_above.fault staged.serving.copies_synced
-    (subst (λ (z : Meta). (s : PowerState) → IsShiftStateOf z s → MayGoUp z.setup s c.in_default.field-0) c.meta.ensures c.in_default.ensures.may)
-    (subst (λ (z : Meta). (s : PowerState) → IsShiftStateOf z s → IsUpRefused z.setup s c.in-Err-gear_above.fault) c.meta-2.ensures c.in-Err-gear_above.ensures.refused)
-
-pub returns-in_err-commit_staged-clause-told : goal.returns-in_err-commit_staged-clause-told
-returns-in_err-commit_staged-clause-told g c = extends_core g.R.Rack.told c.args.core.now c.commit_staged.new.core _ (c.in_err-commit_staged.ensures.loses (none_away g.R.Rack.slot c.args.core.now (subst (λ (z : Meta). z.out ≡ No) c.meta.ensures c.in_default.ensures.whole)) [] 0 [] 0 0)
-
-pub returns-in_err-begin_up-in-Ok-clause-told : goal.returns-in_err-begin_up-in-Ok-clause-told
-returns-in_err-begin_up-in-Ok-clause-told g c = extends_cores g.R.Rack.told c.args.core.now c.commit_staged.new.core c.begin_up.new.core (extends_core g.R.Rack.told c.args.core.now c.commit_staged.new.core _ (c.in_ok-commit_staged.ensures.steps (none_away g.R.Rack.slot c.args.core.now (subst (λ (z : Meta). z.out ≡ No) c.meta.ensures c.in_default.ensures.whole)) [] 0 [] 0 0)) (extends_core g.R.Rack.told c.commit_staged.new.core c.begin_up.new.core _ (c.begin_up.ensures.moments [] 0))
-
-pub returns-in_ok-begin_up-in-Ok-clause-told : goal.returns-in_ok-begin_up-in-Ok-clause-told
-returns-in_ok-begin_up-in-Ok-clause-told g c = extends_cores g.R.Rack.told c.args.core.now c.commit_staged.new.core c.begin_up.new.core (extends_core g.R.Rack.told c.args.core.now c.commit_staged.new.core _ (c.in_ok-commit_staged.ensures.steps (none_away g.R.Rack.slot c.args.core.now (subst (λ (z : Meta). z.out ≡ No) c.meta.ensures c.in_default.ensures.whole)) [] 0 [] 0 0)) (extends_core g.R.Rack.told c.commit_staged.new.core c.begin_up.new.core _ (c.begin_up.ensures.moments [] 0))
-
-pub returns-in-Err-gear_above-clause-told : goal.returns-in-Err-gear_above-clause-told
-returns-in-Err-gear_above-clause-told g c = extends_core g.R.Rack.told c.args.core.now c.commit_staged.new.core _ (c.in_ok-commit_staged.ensures.steps (none_away g.R.Rack.slot c.args.core.now (subst (λ (z : Meta). z.out ≡ No) c.meta.ensures c.in_default.ensures.whole)) [] 0 [] 0 0)
-
-pub returns-in-Err-clause-serving : goal.returns-in-Err-clause-serving
-returns-in-Err-clause-serving g c = c.requires.serving
-
-pub returns-in-Err-clause-leaves : goal.returns-in-Err-clause-leaves
-returns-in-Err-clause-leaves g c = leaves_array_none g.R.Rack.slot_count g.R.Rack.slot c.args.core.now
-
-pub returns-in-Err-clause-known : goal.returns-in-Err-clause-known
-returns-in-Err-clause-known g c before = before
-
-pub returns-in-Err-clause-out : goal.returns-in-Err-clause-out
-returns-in-Err-clause-out g c not = refl
-
-pub returns-in-Err-clause-told : goal.returns-in-Err-clause-told
-returns-in-Err-clause-told g c = extends_none (g.R.Rack.told (store_rack c.args.core.now.store))
-
-pub returns-in_err-commit_staged-clause-serving : goal.returns-in_err-commit_staged-clause-serving
-returns-in_err-commit_staged-clause-serving g c =
-    let p = err_from_is_err_and c.from_residual.result c.from_residual.ensures.1 in rw p.1 tt
-
-pub returns-in_err-commit_staged-clause-leaves : goal.returns-in_err-commit_staged-clause-leaves
-returns-in_err-commit_staged-clause-leaves g c =
-    let p = err_from_is_err_and c.from_residual.result c.from_residual.ensures.1 in rw p.1 tt
-
-pub returns-in_err-commit_staged-clause-begins : goal.returns-in_err-commit_staged-clause-begins
-returns-in_err-commit_staged-clause-begins g c =
-    let p = err_from_is_err_and c.from_residual.result c.from_residual.ensures.1 in rw p.1 tt
-
-pub returns-in_err-commit_staged-clause-epoch : goal.returns-in_err-commit_staged-clause-epoch
-returns-in_err-commit_staged-clause-epoch g c =
-    let p = err_from_is_err_and c.from_residual.result c.from_residual.ensures.1 in rw p.1 tt
-
-pub returns-in_err-commit_staged-clause-turn : goal.returns-in_err-commit_staged-clause-turn
-returns-in_err-commit_staged-clause-turn g c =
-    let p = err_from_is_err_and c.from_residual.result c.from_residual.ensures.1 in rw p.1 tt
-
-pub returns-in_err-commit_staged-clause-refused : goal.returns-in_err-commit_staged-clause-refused
-returns-in_err-commit_staged-clause-refused g c fault s of why =
-    let is = subst (λ (z : Meta). IsShiftStateOf z s) (sym c.meta.ensures) of in
-    absurd (up_may_not c.meta.result.now.setup s c.in_default.field-0 fault (c.in_default.ensures.may s is) (subst (λ (z : Meta). IsUpRefused z.setup s fault) (sym c.meta.ensures) why))
-
-pub returns-in_err-commit_staged-clause-out : goal.returns-in_err-commit_staged-clause-out
-returns-in_err-commit_staged-clause-out g c not = absurd (not (subst (λ (z : Meta). z.out ≡ No) c.meta.ensures c.in_default.ensures.whole))
-
-pub returns-in_err-begin_up-in-Ok-clause-serving : goal.returns-in_err-begin_up-in-Ok-clause-serving
-returns-in_err-begin_up-in-Ok-clause-serving g c =
-    let p = err_from_is_err_and c.from_residual-in_err-begin_up-in-Ok.result c.from_residual-in_err-begin_up-in-Ok.ensures.1 in rw p.1 tt
-
-pub returns-in_err-begin_up-in-Ok-clause-leaves : goal.returns-in_err-begin_up-in-Ok-clause-leaves
-returns-in_err-begin_up-in-Ok-clause-leaves g c =
-    let p = err_from_is_err_and c.from_residual-in_err-begin_up-in-Ok.result c.from_residual-in_err-begin_up-in-Ok.ensures.1 in rw p.1 tt
-
-pub returns-in_err-begin_up-in-Ok-clause-begins : goal.returns-in_err-begin_up-in-Ok-clause-begins
-returns-in_err-begin_up-in-Ok-clause-begins g c =
-    let p = err_from_is_err_and c.from_residual-in_err-begin_up-in-Ok.result c.from_residual-in_err-begin_up-in-Ok.ensures.1 in rw p.1 tt
-
-pub returns-in_err-begin_up-in-Ok-clause-epoch : goal.returns-in_err-begin_up-in-Ok-clause-epoch
-returns-in_err-begin_up-in-Ok-clause-epoch g c =
-    let p = err_from_is_err_and c.from_residual-in_err-begin_up-in-Ok.result c.from_residual-in_err-begin_up-in-Ok.ensures.1 in rw p.1 tt
-
-pub returns-in_err-begin_up-in-Ok-clause-turn : goal.returns-in_err-begin_up-in-Ok-clause-turn
-returns-in_err-begin_up-in-Ok-clause-turn g c =
-    let p = err_from_is_err_and c.from_residual-in_err-begin_up-in-Ok.result c.from_residual-in_err-begin_up-in-Ok.ensures.1 in rw p.1 tt
-
-pub returns-in_err-begin_up-in-Ok-clause-refused : goal.returns-in_err-begin_up-in-Ok-clause-refused
-returns-in_err-begin_up-in-Ok-clause-refused g c fault s of why =
-    let is = subst (λ (z : Meta). IsShiftStateOf z s) (sym c.meta.ensures) of in
-    absurd (up_may_not c.meta.result.now.setup s c.in_default.field-0 fault (c.in_default.ensures.may s is) (subst (λ (z : Meta). IsUpRefused z.setup s fault) (sym c.meta.ensures) why))
-
-pub returns-in_err-begin_up-in-Ok-clause-out : goal.returns-in_err-begin_up-in-Ok-clause-out
-returns-in_err-begin_up-in-Ok-clause-out g c not = absurd (not (subst (λ (z : Meta). z.out ≡ No) c.meta.ensures c.in_default.ensures.whole))
-
-pub returns-in_ok-begin_up-in-Ok-clause-refused : goal.returns-in_ok-begin_up-in-Ok-clause-refused
-returns-in_ok-begin_up-in-Ok-clause-refused g c fault s of why =
-    let is = subst (λ (z : Meta). IsShiftStateOf z s) (sym c.meta.ensures) of in
-    absurd (up_may_not c.meta.result.now.setup s c.in_default.field-0 fault (c.in_default.ensures.may s is) (subst (λ (z : Meta). IsUpRefused z.setup s fault) (sym c.meta.ensures) why))
-
-pub returns-in_ok-begin_up-in-Ok-clause-out : goal.returns-in_ok-begin_up-in-Ok-clause-out
-returns-in_ok-begin_up-in-Ok-clause-out g c not = absurd (not (subst (λ (z : Meta). z.out ≡ No) c.meta.ensures c.in_default.ensures.whole))
-
-pub returns-in-Err-gear_above-clause-refused : goal.returns-in-Err-gear_above-clause-refused
-returns-in-Err-gear_above-clause-refused g c fault s of why =
-    let is = subst (λ (z : Meta). IsShiftStateOf z s) (sym c.meta.ensures) of in
-    absurd (up_may_not c.meta.result.now.setup s c.in_default.field-0 fault (c.in_default.ensures.may s is) (subst (λ (z : Meta). IsUpRefused z.setup s fault) (sym c.meta.ensures) why))
-
-pub returns-in-Err-gear_above-clause-out : goal.returns-in-Err-gear_above-clause-out
-returns-in-Err-gear_above-clause-out g c not = absurd (not (subst (λ (z : Meta). z.out ≡ No) c.meta.ensures c.in_default.ensures.whole))
-
-pub returns-in_err-commit_staged-clause-two : goal.returns-in_err-commit_staged-clause-two
-returns-in_err-commit_staged-clause-two g c = handed _ c.from_residual.result _ c.from_residual.ensures.1 c.in_err-commit_staged.ensures.two
-
-pub returns-in_ok-begin_up-in-Ok-clause-serving : goal.returns-in_ok-begin_up-in-Ok-clause-serving
-returns-in_ok-begin_up-in-Ok-clause-serving g c = c.in_ok-begin_up-in-Ok.ensures.serving
-
-pub returns-in-Err-gear_above-clause-serving : goal.returns-in-Err-gear_above-clause-serving
-returns-in-Err-gear_above-clause-serving g c = c.in_ok-commit_staged.ensures.serving
-
-pub returns-in-Err-gear_above-clause-leaves : goal.returns-in-Err-gear_above-clause-leaves
-returns-in-Err-gear_above-clause-leaves g c = c.in_ok-commit_staged.ensures.leaves
+    let steps = staged.steps (none_away g.R.Rack.slot a whole) in
+    let could = subst (λ (z : Meta). (s : PowerState) → IsShiftStateOf z s → MayGoUp z.setup s c.in_default.field-0) c.meta.ensures c.in_default.ensures.may in
+    let why = subst (λ (z : Meta). (s : PowerState) → IsShiftStateOf z s → IsUpRefused z.setup s c.in-Err-gear_above.fault) c.meta-2.ensures c.in-Err-gear_above.ensures.refused in
+    record {
+      serving = staged.serving;
+      leaves = staged.leaves;
+      refused = λ fault s of was.
+          let is = subst (λ (z : Meta). IsShiftStateOf z s) (sym c.meta.ensures) of in
+          absurd (up_may_not c.meta.result.now.setup s c.in_default.field-0 fault (c.in_default.ensures.may s is) (subst (λ (z : Meta). IsUpRefused z.setup s fault) (sym c.meta.ensures) was));
+      begins = λ to s of may. up_lost a.meta m.meta m.meta.epoch staged.meta steady whole c.in_default.field-0 c.in-Err-gear_above.fault could why;
+      known = λ before. known_marked g.R.Rack.slot m (record a.meta { epoch = m.meta.epoch }) whole staged.meta (staged.absent before.absent);
+      epoch = let e = staged.epoch in omega (arith, e);
+      turn = up_stopped g.R.Rack.slot_count g.R.Rack.told a steady whole m m.meta.epoch staged.meta c.commit_staged.ensures.table steps c.in_default.field-0 c.in-Err-gear_above.fault staged.serving.copies_synced could why;
+      halts = tt;
+      out = λ not. absurd (not whole);
+      no_fall = c.commit_staged.ensures.no_fall;
+      two = tt;
+      told = extends_core g.R.Rack.told a m _ (steps [] 0 [] 0 0);
+    }

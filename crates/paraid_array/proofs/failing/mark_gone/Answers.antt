@@ -1,75 +1,96 @@
 use Rattle.std.specs.Prelude.{◌+◌}
-use Rattle.std.proofs.Common.{◌∙◌, ap}
+use Rattle.std.proofs.Common.{◌<◌, ◌^◌, ◌∙◌, ap, subst, sym}
 use Rattle.paraid_image.specs.Out.{named_out}
 use Rattle.paraid_record.specs.declared.meta.Meta.{Meta}
+use Rattle.paraid_txn.specs.Losses.{OnlyLosesSlots}
+use Rattle.paraid_txn.specs.Stores.{store_rack}
 use Rattle.paraid_core.proofs.AfterLemmas.{handed}
+use Rattle.paraid_array.proofs.ResultLemmas.{none_done}
 use Rattle.paraid_shift.proofs.ServingLemmas.{copies_kept}
-use Rattle.paraid_array.proofs.OutLemmas.{gone_marked, known_gone}
-use Rattle.paraid_array.proofs.ServiceLemmas.{large_marked, service_then}
+use Rattle.paraid_array.proofs.OutLemmas.{gone_marked, known_gone, two_taken}
+use Rattle.paraid_array.proofs.ServiceLemmas.{large_marked, service_then, unsynced_marked}
 use Rattle.paraid_array.proofs.ToldLemmas.{extends_core, extends_store}
 use Rattle.paraid_array.proofs.TurnLemmas.{can_mark, commits_taken, taken_lost}
 use Rattle.paraid_array.proofs.failing.mark_gone.Goals as goal
 
-pub returns-clause-service : goal.returns-clause-service
-returns-clause-service g c =
+pub mark_out-requires : goal.mark_out-requires
+mark_out-requires g c = record {
+  ready = c.requires.service.ready;
+  still = c.requires.service.serves.stays;
+  disk = c.requires.disk;
+  alone = c.requires.alone;
+}
+
+pub commit-requires : goal.commit-requires
+commit-requires g c =
+    let marks = c.mark_out.ensures in
+    record {
+      ready = marks.ready;
+      epoch = subst (λ (m : Meta). m.epoch < 2 ^ 63) (sym marks.meta) c.requires.epoch;
+      copies_synced = copies_kept c.args.core.now c.mark_out.new.self (ap (λ (m : Meta). m.setup) marks.meta) marks.copied c.requires.service.copies_synced;
+    }
+
+pub returns-in_err-commit : goal.returns-in_err-commit
+returns-in_err-commit g c =
+    let a = c.args.core.now in
+    let b = c.mark_out.new.self in
+    let new = c.commit.new.self in
+    let marks = c.mark_out.ensures in
+    record {
+      service = none_done _ c.from_residual.result _ c.from_residual.ensures.1;
+      setup = none_done _ c.from_residual.result _ c.from_residual.ensures.1;
+      writes = none_done _ c.from_residual.result _ c.from_residual.ensures.1;
+      unsynced = none_done _ c.from_residual.result _ c.from_residual.ensures.1;
+      known = none_done _ c.from_residual.result _ c.from_residual.ensures.1;
+      gone = none_done _ c.from_residual.result _ c.from_residual.ensures.1;
+      table = c.commit.ensures.table ∙ marks.table;
+      slots = c.commit.ensures.slots ∙ ap (λ (z : _). g.R.Rack.slot_count (store_rack z)) marks.store;
+      epoch = none_done _ c.from_residual.result _ c.from_residual.ensures.1;
+      marks = can_mark g.R.Rack.slot_count g.R.Rack.slot g.R.Rack.told g.met.R.Rack.agrees a b c.args.disk marks.store marks.meta marks.table marks.batch marks.copied marks.stands;
+      commits = none_done _ c.from_residual.result _ c.from_residual.ensures.1;
+      loses =
+          handed _ c.from_residual.result _ c.from_residual.ensures.1
+          (taken_lost g.R.Rack.slot_count g.R.Rack.slot g.R.Rack.told g.met.R.Rack.agrees a b c.args.disk marks.store marks.meta marks.table marks.batch marks.copied
+          new c.commit.ensures.calls c.commit.ensures.whole c.commit.ensures.moments (marks.serves c.requires.service.serves) _ c.in_err-commit.ensures.tells);
+      spared = subst (λ (z : _). OnlyLosesSlots (g.R.Rack.slot (store_rack z)) (g.R.Rack.slot (store_rack new.store))) marks.store c.commit.ensures.spared;
+      two = handed _ c.from_residual.result _ c.from_residual.ensures.1 (two_taken g.R.Rack.slot a b new c.args.disk _ marks.store (ap (λ (m : Meta). named_out m.out) marks.meta) c.in_err-commit.ensures.two);
+      told = extends_store g.R.Rack.told a b new marks.store (extends_core g.R.Rack.told b new _ c.commit.ensures.calls);
+    }
+
+pub returns : goal.returns
+returns g c =
     let q = c.requires.service in
     let a = c.args.core.now in
     let b = c.mark_out.new.self in
-    let marks = c.mark_out.ensures in
-    let done = c.in_ok-commit.ensures in
-    service_then g.R.Rack.slot_count g.R.Rack.slot b c.commit.new.self
-    (record {
-      ready = marks.ready;
-      serves = marks.serves q.serves;
-      draft = marks.draft ∙ q.draft;
-      copies_synced = copies_kept a b (ap (λ (m : Meta). m.setup) marks.meta) marks.copied q.copies_synced;
-      large = large_marked g.R.Rack.slot a b marks.store (ap (λ (m : Meta). m.setup) marks.meta) c.args.disk (ap (λ (m : Meta). named_out m.out) marks.meta) c.requires.alone q.large;
-    })
-    done.marks done.setup done.ready (done.serves (marks.serves q.serves)) (done.draft ∙ marks.draft ∙ q.draft) done.copied
-
-pub returns-clause-known : goal.returns-clause-known
-returns-clause-known g c =
-    let b = c.mark_out.new.self in
     let new = c.commit.new.self in
-    let done = c.in_ok-commit.ensures in
-    known_gone g.R.Rack.slot new c.args.disk
-    (gone_marked (record b.meta { epoch = b.meta.epoch + 1 }) new.meta c.args.disk (ap (λ (m : Meta). m.out) c.mark_out.ensures.meta) done.meta) done.absent
-
-pub returns-clause-gone : goal.returns-clause-gone
-returns-clause-gone g c =
-    let b = c.mark_out.new.self in
-    gone_marked (record b.meta { epoch = b.meta.epoch + 1 }) c.commit.new.self.meta c.args.disk (ap (λ (m : Meta). m.out) c.mark_out.ensures.meta) c.in_ok-commit.ensures.meta
-
-pub returns-clause-marks : goal.returns-clause-marks
-returns-clause-marks g c =
-    let marks = c.mark_out.ensures in
-    can_mark g.R.Rack.slot_count g.R.Rack.slot g.R.Rack.told g.met.R.Rack.agrees c.args.core.now c.mark_out.new.self c.args.disk marks.store marks.meta marks.table marks.batch marks.copied marks.stands
-
-pub returns-in_err-commit-clause-marks : goal.returns-in_err-commit-clause-marks
-returns-in_err-commit-clause-marks g c =
-    let marks = c.mark_out.ensures in
-    can_mark g.R.Rack.slot_count g.R.Rack.slot g.R.Rack.told g.met.R.Rack.agrees c.args.core.now c.mark_out.new.self c.args.disk marks.store marks.meta marks.table marks.batch marks.copied marks.stands
-
-pub returns-clause-commits : goal.returns-clause-commits
-returns-clause-commits g c =
     let marks = c.mark_out.ensures in
     let done = c.in_ok-commit.ensures in
-    commits_taken g.R.Rack.slot_count g.R.Rack.slot g.R.Rack.told g.met.R.Rack.agrees c.args.core.now c.mark_out.new.self c.args.disk marks.store marks.meta marks.table marks.batch marks.copied
-    c.commit.new.self c.commit.ensures.calls c.commit.ensures.whole done.stands done.marks done.ready done.setup
-
-pub returns-in_err-commit-clause-loses : goal.returns-in_err-commit-clause-loses
-returns-in_err-commit-clause-loses g c =
-    let marks = c.mark_out.ensures in
-    handed _ c.from_residual.result _ c.from_residual.ensures.1
-    (taken_lost g.R.Rack.slot_count g.R.Rack.slot g.R.Rack.told g.met.R.Rack.agrees c.args.core.now c.mark_out.new.self c.args.disk marks.store marks.meta marks.table marks.batch marks.copied
-    c.commit.new.self c.commit.ensures.calls c.commit.ensures.whole c.commit.ensures.moments (marks.serves c.requires.service.serves) _ c.in_err-commit.ensures.tells)
-
-pub returns-clause-told : goal.returns-clause-told
-returns-clause-told g c =
-    let b = c.mark_out.new.self in
-    extends_store g.R.Rack.told c.args.core.now b c.commit.new.self c.mark_out.ensures.store (extends_core g.R.Rack.told b c.commit.new.self _ c.commit.ensures.calls)
-
-pub returns-in_err-commit-clause-told : goal.returns-in_err-commit-clause-told
-returns-in_err-commit-clause-told g c =
-    let b = c.mark_out.new.self in
-    extends_store g.R.Rack.told c.args.core.now b c.commit.new.self c.mark_out.ensures.store (extends_core g.R.Rack.told b c.commit.new.self _ c.commit.ensures.calls)
+    let gone = gone_marked (record b.meta { epoch = b.meta.epoch + 1 }) new.meta c.args.disk (ap (λ (m : Meta). m.out) marks.meta) done.meta in
+    record {
+      service =
+          service_then g.R.Rack.slot_count g.R.Rack.slot b new
+          (record {
+            ready = marks.ready;
+            serves = marks.serves q.serves;
+            draft = marks.draft ∙ q.draft;
+            copies_synced = copies_kept a b (ap (λ (m : Meta). m.setup) marks.meta) marks.copied q.copies_synced;
+            large = large_marked g.R.Rack.slot a b marks.store (ap (λ (m : Meta). m.setup) marks.meta) c.args.disk (ap (λ (m : Meta). named_out m.out) marks.meta) c.requires.alone q.large;
+          })
+          done.marks done.setup done.ready (done.serves (marks.serves q.serves)) (done.draft ∙ marks.draft ∙ q.draft) done.copied;
+      setup = done.setup ∙ ap (λ (m : Meta). m.setup) marks.meta;
+      writes = done.writes ∙ ap (λ (m : Meta). m.writes) marks.meta;
+      unsynced = λ before. done.unsynced (unsynced_marked g.R.Rack.slot a b c.args.disk marks.store marks.meta marks.copied c.requires.alone before);
+      known = known_gone g.R.Rack.slot new c.args.disk gone done.absent;
+      gone = gone;
+      table = c.commit.ensures.table ∙ marks.table;
+      slots = c.commit.ensures.slots ∙ ap (λ (z : _). g.R.Rack.slot_count (store_rack z)) marks.store;
+      epoch = done.epoch ∙ ap (λ (m : Meta). m.epoch + 1) marks.meta;
+      marks = can_mark g.R.Rack.slot_count g.R.Rack.slot g.R.Rack.told g.met.R.Rack.agrees a b c.args.disk marks.store marks.meta marks.table marks.batch marks.copied marks.stands;
+      commits =
+          commits_taken g.R.Rack.slot_count g.R.Rack.slot g.R.Rack.told g.met.R.Rack.agrees a b c.args.disk marks.store marks.meta marks.table marks.batch marks.copied
+          new c.commit.ensures.calls c.commit.ensures.whole done.stands done.marks done.ready done.setup;
+      loses = tt;
+      spared = subst (λ (z : _). OnlyLosesSlots (g.R.Rack.slot (store_rack z)) (g.R.Rack.slot (store_rack new.store))) marks.store c.commit.ensures.spared;
+      two = tt;
+      told = extends_store g.R.Rack.told a b new marks.store (extends_core g.R.Rack.told b new _ c.commit.ensures.calls);
+    }

@@ -1,14 +1,18 @@
-use Rattle.std.proofs.Common.{◌≡◌, ℕ, ◌<◌, ◌≤◌, Option, None, Some, Ok, ap, arith, refl, sym, subst, ◌∙◌}
+use Rattle.std.proofs.Common.{◌≡◌, ℕ, ◌<◌, ◌≤◌, Option, None, Some, Ok, ap, arith, inl, inr, refl, sym, subst, ◌∙◌}
+use Rattle.std.specs.Prelude.{Result}
 use Rattle.paraid_image.specs.Out.{named_out}
 use Rattle.paraid_record.specs.declared.meta.Meta.{Meta}
+use Rattle.paraid_record.specs.declared.meta.Setup.{Setup}
 use Rattle.paraid_txn.specs.Stores.{store_rack}
 use Rattle.paraid_core.specs.Cores.{core_down}
 use Rattle.paraid_core.proofs.AfterLemmas.{handed}
+use Rattle.paraid_array.proofs.ResultLemmas.{none_done, none_done_as, none_done_if}
+use Rattle.paraid_array.specs.declared.fault.FailFault.{FailFault}
 use Rattle.paraid_array.specs.declared.fault.FailFault.TheVariants.{Out as OutFault}
 use Rattle.paraid_array.proofs.OutLemmas.{two_or, two_taken_then}
 use Rattle.paraid_array.proofs.TurnLemmas.{beside_turn, fail_beside, fail_missing, marked_halts, staged_halts, taken_turn}
 use Rattle.paraid_array.proofs.failing.take_out.Goals.{in-Some-named+else-out-disk, in_default-named}
-use Rattle.paraid_array.proofs.ToldLemmas.{extends_cores, extends_none}
+use Rattle.paraid_array.proofs.ToldLemmas.{extends_cores, extends_none, no_fall_then}
 use Rattle.paraid_array.proofs.failing.take_out.Goals as goal
 
 -- the one disk that is out, or none, is this one
@@ -22,56 +26,148 @@ none_only o disk is e also = let z : None ≡ Some e = sym is ∙ also in absurd
 none_known : {A : Type 0} (o : Option ℕ) (d : ℕ) → o ≡ None → o ≡ Some d → A
 none_known o d none is = let z : None ≡ Some d = sym none ∙ is in absurd cc
 
-pub returns-clause-unsynced : goal.returns-clause-unsynced
-returns-clause-unsynced g c = λ before. c.in_ok-mark_gone.ensures.unsynced (c.in_ok-commit_writes.ensures.unsynced before)
+-- what was refused was not done
+refused_not_done : {A E : Type 0} (r : Result (Option FailFault) E) (f : FailFault) → r ≡ Ok (Some f) → r ≡ Ok None → A
+refused_not_done r f is was = let z : Ok (Some f) ≡ Ok None = sym is ∙ was in absurd cc
 
-pub returns-then-disk-meta-clause-turn : goal.returns-then-disk-meta-clause-turn
-returns-then-disk-meta-clause-turn g c =
-    fail_missing g.R.Rack.slot_count g.R.Rack.told c.args.core.now c.args.disk (subst (λ (m : Meta). m.setup.geometry.disks ≤ c.args.disk) c.meta.ensures c.if-disk-meta.true)
+-- a number is not less than one that it reaches
+not_below : {A : Type 0} (x y : ℕ) → x < y → y ≤ x → A
+not_below x y below past = absurd (omega (arith, below, past))
 
-pub returns-in-Some-clause-turn : goal.returns-in-Some-clause-turn
-returns-in-Some-clause-turn g c =
-    fail_beside g.R.Rack.slot_count g.R.Rack.told c.args.core.now c.args.disk c.in-Some.out (subst (λ (m : Meta). c.args.disk < m.setup.geometry.disks) c.meta.ensures c.if-disk-meta.false)
-    (sym (c.named.ensures ∙ ap named_out c.out.ensures) ∙ c.in-Some.is)
+pub returns-then-disk-meta : goal.returns-then-disk-meta
+returns-then-disk-meta g c =
+    let a = c.args.core.now in
+    let past = subst (λ (m : Meta). m.setup.geometry.disks ≤ c.args.disk) c.meta.ensures c.if-disk-meta.true in
+    record {
+      service = c.requires.service;
+      setup = refl;
+      writes = refl;
+      unsynced = λ unsynced. unsynced;
+      known = λ known. known;
+      no_disk = λ is. (refl, refl);
+      out = λ d below is. not_below c.args.disk a.meta.setup.geometry.disks below past;
+      refused = (refl, past);
+      taken = λ is. refused_not_done _ _ refl is;
+      slots = refl;
+      table = refl;
+      epoch = omega arith;
+      alone = λ none. omega arith;
+      turn = fail_missing g.R.Rack.slot_count g.R.Rack.told a c.args.disk past;
+      halts = tt;
+      no_fall = λ d. omega arith;
+      two = tt;
+      told = extends_none (g.R.Rack.told (store_rack a.store));
+    }
 
-pub returns-in_err-commit_writes-clause-halts : goal.returns-in_err-commit_writes-clause-halts
-returns-in_err-commit_writes-clause-halts g c =
+pub returns-in-Some : goal.returns-in-Some
+returns-in-Some g c =
+    let a = c.args.core.now in
+    let below = subst (λ (m : Meta). c.args.disk < m.setup.geometry.disks) c.meta.ensures c.if-disk-meta.false in
+    let named = sym (c.named.ensures ∙ ap named_out c.out.ensures) ∙ c.in-Some.is in
+    record {
+      service = c.requires.service;
+      setup = refl;
+      writes = refl;
+      unsynced = λ unsynced. unsynced;
+      known = λ known. known;
+      no_disk = λ past. not_below c.args.disk a.meta.setup.geometry.disks below past;
+      out = λ d low is. (ap (λ (e : ℕ). Ok (Some (OutFault e))) (one_only (named_out a.meta.out) d d is refl c.in-Some.out named), refl);
+      refused = (below, inl named);
+      taken = λ is. refused_not_done _ _ refl is;
+      slots = refl;
+      table = refl;
+      epoch = omega arith;
+      alone = λ none. omega arith;
+      turn = fail_beside g.R.Rack.slot_count g.R.Rack.told a c.args.disk c.in-Some.out below named;
+      halts = tt;
+      no_fall = λ d. omega arith;
+      two = tt;
+      told = extends_none (g.R.Rack.told (store_rack a.store));
+    }
+
+pub commit_writes-requires : goal.commit_writes-requires
+commit_writes-requires g c = record { service = c.requires.service; epoch = c.requires.epoch }
+
+pub returns-in_err-commit_writes : goal.returns-in_err-commit_writes
+returns-in_err-commit_writes g c =
+    let a = c.args.core.now in
+    let b = c.commit_writes.new.core in
     let below = subst (λ (m : Meta). c.args.disk < m.setup.geometry.disks) c.meta.ensures c.if-disk-meta.false in
     let none = sym (c.named.ensures ∙ ap named_out c.out.ensures) ∙ c.in_default.is in
-    handed _ c.from_residual.result _ c.from_residual.ensures.1
-    (staged_halts g.R.Rack.slot_count g.R.Rack.told c.args.core.now c.args.disk below none c.commit_writes.new.core _ c.in_err-commit_writes.ensures.loses)
+    record {
+      service = none_done _ c.from_residual.result _ c.from_residual.ensures.1;
+      setup = none_done _ c.from_residual.result _ c.from_residual.ensures.1;
+      writes = none_done _ c.from_residual.result _ c.from_residual.ensures.1;
+      unsynced = none_done _ c.from_residual.result _ c.from_residual.ensures.1;
+      known = none_done _ c.from_residual.result _ c.from_residual.ensures.1;
+      no_disk = λ past. not_below c.args.disk a.meta.setup.geometry.disks below past;
+      out = λ d low is. none_known (named_out a.meta.out) d none is;
+      refused = none_done_if _ c.from_residual.result _ c.from_residual.ensures.1;
+      taken = λ is. none_done_as _ c.from_residual.result _ _ c.from_residual.ensures.1 is;
+      slots = c.commit_writes.ensures.slots;
+      table = c.commit_writes.ensures.table;
+      epoch = none_done _ c.from_residual.result _ c.from_residual.ensures.1;
+      alone = λ empty. none_done _ c.from_residual.result _ c.from_residual.ensures.1;
+      turn = none_done_if _ c.from_residual.result _ c.from_residual.ensures.1;
+      halts = handed _ c.from_residual.result _ c.from_residual.ensures.1 (staged_halts g.R.Rack.slot_count g.R.Rack.told a c.args.disk below none b _ c.in_err-commit_writes.ensures.loses);
+      no_fall = c.commit_writes.ensures.spared.no_fall;
+      two = handed _ c.from_residual.result _ c.from_residual.ensures.1 (two_or (core_down a) c.args.disk _ _ _ c.in_err-commit_writes.ensures.two);
+      told = c.commit_writes.ensures.told;
+    }
 
-pub returns-then-out-disk-clause-turn : goal.returns-then-out-disk-clause-turn
-returns-then-out-disk-clause-turn g c =
+pub returns-then-out-disk : goal.returns-then-out-disk
+returns-then-out-disk g c =
+    let a = c.args.core.now in
+    let b = c.commit_writes.new.core in
     let below = subst (λ (m : Meta). c.args.disk < m.setup.geometry.disks) c.meta.ensures c.if-disk-meta.false in
     let none = sym (c.named.ensures ∙ ap named_out c.out.ensures) ∙ c.in_default.is in
+    let named = sym (c.named-2.ensures ∙ ap named_out c.out-2.ensures) ∙ c.in-Some-named.is in
     let done = c.in_ok-commit_writes.ensures in
-    beside_turn g.R.Rack.slot_count g.R.Rack.told c.args.core.now c.args.disk below none c.commit_writes.new.core c.in-Some-named.out (λ same. c.if-out-disk.true (sym same))
-    (sym (c.named-2.ensures ∙ ap named_out c.out-2.ensures) ∙ c.in-Some-named.is) done.commits c.commit_writes.ensures.slots c.commit_writes.ensures.table done.service.copies_synced done.nothing
+    record {
+      service = done.service;
+      setup = done.setup;
+      writes = done.writes;
+      unsynced = done.unsynced;
+      known = done.known;
+      no_disk = λ past. not_below c.args.disk a.meta.setup.geometry.disks below past;
+      out = λ d low is. none_known (named_out a.meta.out) d none is;
+      refused = (below, inr (none, named, c.if-out-disk.true));
+      taken = λ is. refused_not_done _ _ refl is;
+      slots = c.commit_writes.ensures.slots;
+      table = c.commit_writes.ensures.table;
+      epoch = let e = done.epoch in omega (arith, e);
+      alone = λ empty. done.epoch;
+      turn =
+          beside_turn g.R.Rack.slot_count g.R.Rack.told a c.args.disk below none b c.in-Some-named.out (λ same. c.if-out-disk.true (sym same)) named done.commits c.commit_writes.ensures.slots c.commit_writes.ensures.table
+          done.service.copies_synced done.nothing;
+      halts = tt;
+      no_fall = c.commit_writes.ensures.spared.no_fall;
+      two = tt;
+      told = c.commit_writes.ensures.told;
+    }
 
-pub returns-in_err-mark_gone-clause-halts : goal.returns-in_err-mark_gone-clause-halts
-returns-in_err-mark_gone-clause-halts g c =
+pub mark_gone-requires : goal.mark_gone-requires
+mark_gone-requires g c =
     let m = c.commit_writes.new.core in
-    let below = subst (λ (m : Meta). c.args.disk < m.setup.geometry.disks) c.meta.ensures c.if-disk-meta.false in
-    let none = sym (c.named.ensures ∙ ap named_out c.out.ensures) ∙ c.in_default.is in
+    let staged = c.in_ok-commit_writes.ensures in
     let names = c.named-2.ensures ∙ ap named_out c.out-2.ensures in
-    let alone : (e : ℕ) → named_out m.meta.out ≡ Some e → e ≡ c.args.disk = elim c.match-named-2.branch [
-      | in-Some-named+else-out-disk w ↦ one_only (named_out m.meta.out) w.in-Some-named.out c.args.disk (sym names ∙ w.in-Some-named.is) w.if-out-disk.false
-      | in_default-named w ↦ none_only (named_out m.meta.out) c.args.disk (sym names ∙ w.in_default-named.is)
-    ] in
-    handed _ c.from_residual-in_err-mark_gone.result _ c.from_residual-in_err-mark_gone.ensures.1
-    (marked_halts g.R.Rack.slot_count g.R.Rack.told c.args.core.now c.args.disk below none m c.mark_gone.new.core c.in_ok-commit_writes.ensures.commits c.mark_gone.ensures.marks alone c.commit_writes.ensures.slots _ c.in_err-mark_gone.ensures.loses)
+    record {
+      service = staged.service;
+      epoch =
+          let e = c.requires.epoch in
+          let f = staged.epoch in omega (arith, e, f);
+      disk = subst (λ (z : Setup). c.args.disk < z.geometry.disks) (sym staged.setup) (subst (λ (m : Meta). c.args.disk < m.setup.geometry.disks) c.meta.ensures c.if-disk-meta.false);
+      alone = elim c.match-named-2.branch [
+        | in-Some-named+else-out-disk w ↦ one_only (named_out m.meta.out) w.in-Some-named.out c.args.disk (sym names ∙ w.in-Some-named.is) w.if-out-disk.false
+        | in_default-named w ↦ none_only (named_out m.meta.out) c.args.disk (sym names ∙ w.in_default-named.is)
+      ];
+    }
 
-pub returns-in_err-mark_gone-clause-two : goal.returns-in_err-mark_gone-clause-two
-returns-in_err-mark_gone-clause-two g c =
+pub returns-in_err-mark_gone : goal.returns-in_err-mark_gone
+returns-in_err-mark_gone g c =
     let a = c.args.core.now in
     let m = c.commit_writes.new.core in
-    handed _ c.from_residual-in_err-mark_gone.result _ c.from_residual-in_err-mark_gone.ensures.1
-    (two_taken_then (core_down a) (core_down m) c.args.disk _ _ _ _ c.in_ok-commit_writes.ensures.down c.commit_writes.ensures.spared.no_fall c.mark_gone.ensures.spared.no_fall c.in_err-mark_gone.ensures.two)
-
-pub returns-clause-turn : goal.returns-clause-turn
-returns-clause-turn g c =
-    let m = c.commit_writes.new.core in
+    let b = c.mark_gone.new.core in
     let below = subst (λ (m : Meta). c.args.disk < m.setup.geometry.disks) c.meta.ensures c.if-disk-meta.false in
     let none = sym (c.named.ensures ∙ ap named_out c.out.ensures) ∙ c.in_default.is in
     let names = c.named-2.ensures ∙ ap named_out c.out-2.ensures in
@@ -79,87 +175,67 @@ returns-clause-turn g c =
       | in-Some-named+else-out-disk w ↦ one_only (named_out m.meta.out) w.in-Some-named.out c.args.disk (sym names ∙ w.in-Some-named.is) w.if-out-disk.false
       | in_default-named w ↦ none_only (named_out m.meta.out) c.args.disk (sym names ∙ w.in_default-named.is)
     ] in
+    record {
+      service = none_done _ c.from_residual-in_err-mark_gone.result _ c.from_residual-in_err-mark_gone.ensures.1;
+      setup = none_done _ c.from_residual-in_err-mark_gone.result _ c.from_residual-in_err-mark_gone.ensures.1;
+      writes = none_done _ c.from_residual-in_err-mark_gone.result _ c.from_residual-in_err-mark_gone.ensures.1;
+      unsynced = none_done _ c.from_residual-in_err-mark_gone.result _ c.from_residual-in_err-mark_gone.ensures.1;
+      known = none_done _ c.from_residual-in_err-mark_gone.result _ c.from_residual-in_err-mark_gone.ensures.1;
+      no_disk = λ past. not_below c.args.disk a.meta.setup.geometry.disks below past;
+      out = λ d low is. none_known (named_out a.meta.out) d none is;
+      refused = none_done_if _ c.from_residual-in_err-mark_gone.result _ c.from_residual-in_err-mark_gone.ensures.1;
+      taken = λ is. none_done_as _ c.from_residual-in_err-mark_gone.result _ _ c.from_residual-in_err-mark_gone.ensures.1 is;
+      slots = c.mark_gone.ensures.slots ∙ c.commit_writes.ensures.slots;
+      table = c.mark_gone.ensures.table ∙ c.commit_writes.ensures.table;
+      epoch = none_done _ c.from_residual-in_err-mark_gone.result _ c.from_residual-in_err-mark_gone.ensures.1;
+      alone = λ empty. none_done _ c.from_residual-in_err-mark_gone.result _ c.from_residual-in_err-mark_gone.ensures.1;
+      turn = none_done_if _ c.from_residual-in_err-mark_gone.result _ c.from_residual-in_err-mark_gone.ensures.1;
+      halts =
+          handed _ c.from_residual-in_err-mark_gone.result _ c.from_residual-in_err-mark_gone.ensures.1
+          (marked_halts g.R.Rack.slot_count g.R.Rack.told a c.args.disk below none m b c.in_ok-commit_writes.ensures.commits c.mark_gone.ensures.marks alone c.commit_writes.ensures.slots _ c.in_err-mark_gone.ensures.loses);
+      no_fall = no_fall_then (g.R.Rack.slot (store_rack a.store)) (g.R.Rack.slot (store_rack m.store)) (g.R.Rack.slot (store_rack b.store)) c.commit_writes.ensures.spared.no_fall c.mark_gone.ensures.spared.no_fall;
+      two =
+          handed _ c.from_residual-in_err-mark_gone.result _ c.from_residual-in_err-mark_gone.ensures.1
+          (two_taken_then (core_down a) (core_down m) c.args.disk _ _ _ _ c.in_ok-commit_writes.ensures.down c.commit_writes.ensures.spared.no_fall c.mark_gone.ensures.spared.no_fall c.in_err-mark_gone.ensures.two);
+      told = extends_cores g.R.Rack.told a m b c.commit_writes.ensures.told c.mark_gone.ensures.told;
+    }
+
+pub returns : goal.returns
+returns g c =
+    let a = c.args.core.now in
+    let m = c.commit_writes.new.core in
+    let b = c.mark_gone.new.core in
+    let below = subst (λ (m : Meta). c.args.disk < m.setup.geometry.disks) c.meta.ensures c.if-disk-meta.false in
+    let none = sym (c.named.ensures ∙ ap named_out c.out.ensures) ∙ c.in_default.is in
+    let names = c.named-2.ensures ∙ ap named_out c.out-2.ensures in
+    let alone : (e : ℕ) → named_out m.meta.out ≡ Some e → e ≡ c.args.disk = elim c.match-named-2.branch [
+      | in-Some-named+else-out-disk w ↦ one_only (named_out m.meta.out) w.in-Some-named.out c.args.disk (sym names ∙ w.in-Some-named.is) w.if-out-disk.false
+      | in_default-named w ↦ none_only (named_out m.meta.out) c.args.disk (sym names ∙ w.in_default-named.is)
+    ] in
+    let staged = c.in_ok-commit_writes.ensures in
     let done = c.in_ok-mark_gone.ensures in
-    taken_turn g.R.Rack.slot_count g.R.Rack.told c.args.core.now c.args.disk below none m c.mark_gone.new.core c.in_ok-commit_writes.ensures.commits c.mark_gone.ensures.marks alone c.commit_writes.ensures.slots
-    done.commits done.epoch (c.mark_gone.ensures.slots ∙ c.commit_writes.ensures.slots) (c.mark_gone.ensures.table ∙ c.commit_writes.ensures.table) done.service.copies_synced
-
-pub returns-clause-told : goal.returns-clause-told
-returns-clause-told g c = extends_cores g.R.Rack.told c.args.core.now c.commit_writes.new.core c.mark_gone.new.core c.commit_writes.ensures.told c.mark_gone.ensures.told
-
-pub returns-in_err-mark_gone-clause-told : goal.returns-in_err-mark_gone-clause-told
-returns-in_err-mark_gone-clause-told g c = extends_cores g.R.Rack.told c.args.core.now c.commit_writes.new.core c.mark_gone.new.core c.commit_writes.ensures.told c.mark_gone.ensures.told
-
-pub returns-in_err-commit_writes-clause-no_fall : goal.returns-in_err-commit_writes-clause-no_fall
-returns-in_err-commit_writes-clause-no_fall g c = c.commit_writes.ensures.spared.no_fall
-
-pub returns-then-out-disk-clause-no_fall : goal.returns-then-out-disk-clause-no_fall
-returns-then-out-disk-clause-no_fall g c = c.commit_writes.ensures.spared.no_fall
-
-pub returns-in_err-mark_gone-clause-no_fall : goal.returns-in_err-mark_gone-clause-no_fall
-returns-in_err-mark_gone-clause-no_fall g c d =
-    let one = c.commit_writes.ensures.spared.no_fall d in
-    let two = c.mark_gone.ensures.spared.no_fall d in
-    omega (arith, one, two)
-
-pub returns-clause-no_fall : goal.returns-clause-no_fall
-returns-clause-no_fall g c d =
-    let one = c.commit_writes.ensures.spared.no_fall d in
-    let two = c.mark_gone.ensures.spared.no_fall d in
-    omega (arith, one, two)
-
-pub returns-then-disk-meta-clause-out : goal.returns-then-disk-meta-clause-out
-returns-then-disk-meta-clause-out g c d low is =
-    let high = subst (λ (m : Meta). m.setup.geometry.disks ≤ c.args.disk) c.meta.ensures c.if-disk-meta.true in
-    absurd (omega (arith, high, low))
-
-pub returns-in-Some-clause-out : goal.returns-in-Some-clause-out
-returns-in-Some-clause-out g c d low is =
-    let z : Some c.in-Some.out ≡ Some d = sym (sym (c.named.ensures ∙ ap named_out c.out.ensures) ∙ c.in-Some.is) ∙ is in
-    let one : c.in-Some.out ≡ d = cc in
-    (ap (λ (x : ℕ). Ok (Some (OutFault x))) one, refl)
-
-pub returns-then-disk-meta-clause-told : goal.returns-then-disk-meta-clause-told
-returns-then-disk-meta-clause-told g c = extends_none (g.R.Rack.told (store_rack c.args.core.now.store))
-
-pub returns-in-Some-clause-told : goal.returns-in-Some-clause-told
-returns-in-Some-clause-told g c = extends_none (g.R.Rack.told (store_rack c.args.core.now.store))
-
-pub returns-in-Some-clause-no_disk : goal.returns-in-Some-clause-no_disk
-returns-in-Some-clause-no_disk g c high =
-    let low = subst (λ (m : Meta). c.args.disk < m.setup.geometry.disks) c.meta.ensures c.if-disk-meta.false in
-    absurd (omega (arith, high, low))
-
-pub returns-in_err-commit_writes-clause-no_disk : goal.returns-in_err-commit_writes-clause-no_disk
-returns-in_err-commit_writes-clause-no_disk g c high =
-    let low = subst (λ (m : Meta). c.args.disk < m.setup.geometry.disks) c.meta.ensures c.if-disk-meta.false in
-    absurd (omega (arith, high, low))
-
-pub returns-then-out-disk-clause-no_disk : goal.returns-then-out-disk-clause-no_disk
-returns-then-out-disk-clause-no_disk g c high =
-    let low = subst (λ (m : Meta). c.args.disk < m.setup.geometry.disks) c.meta.ensures c.if-disk-meta.false in
-    absurd (omega (arith, high, low))
-
-pub returns-in_err-mark_gone-clause-no_disk : goal.returns-in_err-mark_gone-clause-no_disk
-returns-in_err-mark_gone-clause-no_disk g c high =
-    let low = subst (λ (m : Meta). c.args.disk < m.setup.geometry.disks) c.meta.ensures c.if-disk-meta.false in
-    absurd (omega (arith, high, low))
-
-pub returns-clause-no_disk : goal.returns-clause-no_disk
-returns-clause-no_disk g c high =
-    let low = subst (λ (m : Meta). c.args.disk < m.setup.geometry.disks) c.meta.ensures c.if-disk-meta.false in
-    absurd (omega (arith, high, low))
-
-pub returns-in_err-commit_writes-clause-out : goal.returns-in_err-commit_writes-clause-out
-returns-in_err-commit_writes-clause-out g c d low is = none_known _ d (sym (c.named.ensures ∙ ap named_out c.out.ensures) ∙ c.in_default.is) is
-
-pub returns-then-out-disk-clause-out : goal.returns-then-out-disk-clause-out
-returns-then-out-disk-clause-out g c d low is = none_known _ d (sym (c.named.ensures ∙ ap named_out c.out.ensures) ∙ c.in_default.is) is
-
-pub returns-in_err-mark_gone-clause-out : goal.returns-in_err-mark_gone-clause-out
-returns-in_err-mark_gone-clause-out g c d low is = none_known _ d (sym (c.named.ensures ∙ ap named_out c.out.ensures) ∙ c.in_default.is) is
-
-pub returns-clause-out : goal.returns-clause-out
-returns-clause-out g c d low is = none_known _ d (sym (c.named.ensures ∙ ap named_out c.out.ensures) ∙ c.in_default.is) is
-
-pub returns-in_err-commit_writes-clause-two : goal.returns-in_err-commit_writes-clause-two
-returns-in_err-commit_writes-clause-two g c = handed _ c.from_residual.result _ c.from_residual.ensures.1 (two_or (core_down c.args.core.now) c.args.disk _ _ _ c.in_err-commit_writes.ensures.two)
+    record {
+      service = done.service;
+      setup = done.setup ∙ staged.setup;
+      writes = done.writes ∙ staged.writes;
+      unsynced = λ before. done.unsynced (staged.unsynced before);
+      known = λ before. done.known;
+      no_disk = λ past. not_below c.args.disk a.meta.setup.geometry.disks below past;
+      out = λ d low is. none_known (named_out a.meta.out) d none is;
+      refused = tt;
+      taken = λ is. (below, none, done.gone);
+      slots = c.mark_gone.ensures.slots ∙ c.commit_writes.ensures.slots;
+      table = c.mark_gone.ensures.table ∙ c.commit_writes.ensures.table;
+      epoch = let e = done.epoch in let f = staged.epoch in omega (arith, e, f);
+      alone = λ empty.
+          let e = done.epoch in
+          let f = ap (λ (z : _). z.meta.epoch) (c.commit_writes.ensures.idle empty) in
+          omega (arith, e, f);
+      turn =
+          taken_turn g.R.Rack.slot_count g.R.Rack.told a c.args.disk below none m b staged.commits c.mark_gone.ensures.marks alone c.commit_writes.ensures.slots
+          done.commits done.epoch (c.mark_gone.ensures.slots ∙ c.commit_writes.ensures.slots) (c.mark_gone.ensures.table ∙ c.commit_writes.ensures.table) done.service.copies_synced;
+      halts = tt;
+      no_fall = no_fall_then (g.R.Rack.slot (store_rack a.store)) (g.R.Rack.slot (store_rack m.store)) (g.R.Rack.slot (store_rack b.store)) c.commit_writes.ensures.spared.no_fall c.mark_gone.ensures.spared.no_fall;
+      two = tt;
+      told = extends_cores g.R.Rack.told a m b c.commit_writes.ensures.told c.mark_gone.ensures.told;
+    }

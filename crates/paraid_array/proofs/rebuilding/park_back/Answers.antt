@@ -1,64 +1,84 @@
-use Rattle.std.proofs.Common.{◌∙◌, ap, arith, Ok}
+use Rattle.std.proofs.Common.{◌≡◌, ◌∙◌, Bool, ap, arith, false, inl, inr, refl, subst, true, Ok}
+use Rattle.std.specs.Prelude.{◌<◌}
 use Rattle.paraid_base.specs.States.{named_out, rising_to}
 use Rattle.paraid_record.specs.declared.meta.Meta.{Meta}
 use Rattle.paraid_rack.specs.Disks.{is_present}
 use Rattle.paraid_txn.specs.Stores.{store_rack}
-use Rattle.paraid_core.proofs.AfterLemmas.{handed}
-use Rattle.paraid_event.specs.RebuildEnds.ParksBack.{fails, parks}
+use Rattle.paraid_event.specs.RebuildEnds.ParksBack.{fails, parks, stays}
+use Rattle.paraid_shift.proofs.ServingLemmas.{leaves_turned}
+use Rattle.paraid_array.specs.Service.{IsOutKnown, LeavesInService}
 use Rattle.paraid_array.proofs.OutLemmas.{known_gone, known_whole}
 use Rattle.paraid_array.proofs.RebuildTurnLemmas.{core_fails, core_parks, lost_marked, park_alone}
-use Rattle.paraid_array.proofs.ToldLemmas.{extends_core}
+use Rattle.paraid_array.proofs.ResultLemmas.{done_not_dropped, either_way, if_err, of_done}
+use Rattle.paraid_array.proofs.ServiceLemmas.{in_service_none, serving_turned}
+use Rattle.paraid_array.proofs.ToldLemmas.{calls_none, calls_told}
 use Rattle.paraid_array.proofs.rebuilding.park_back.Goals as goal
 
-pub returns-then-not-parked-clause-known : goal.returns-then-not-parked-clause-known
-returns-then-not-parked-clause-known g c =
-    let done = c.in_ok-parked.ensures in
-    known_gone g.R.Rack.slot c.park.new.self c.args.disk (done.gone (ap Ok c.if-not-parked.true)) (done.absent (known_whole g.R.Rack.slot c.args.core.now c.requires.whole).absent)
+pub returns-then-disk-meta : goal.returns-then-disk-meta
+returns-then-disk-meta g c = record {
+  serves = in_service_none g.R.Rack.slot_count g.R.Rack.slot c.args.core.now c.requires.serving (known_whole g.R.Rack.slot c.args.core.now c.requires.whole);
+  same = λ is. refl;
+  marked = λ is. done_not_dropped _ _ refl is;
+  lost = λ is. done_not_dropped _ _ refl is;
+  table = refl;
+  parks = λ samples served energy h lo. stays (inl (subst (λ (m : Meta). c.args.disk < m.gear) c.meta.ensures c.if-disk-meta.true)) refl refl;
+  alone = tt;
+  calls = calls_none g.R.Rack.slot g.R.Rack.told c.args.core.now;
+  two = tt;
+}
 
-pub returns-clause-known : goal.returns-clause-known
-returns-clause-known g c =
-    known_whole g.R.Rack.slot c.park.new.self (ap (λ (m : Meta). m.out) (c.in_ok-parked.ensures.same (ap Ok c.if-not-parked.false)) ∙ c.requires.whole)
+pub returns-then-disk-rising_to : goal.returns-then-disk-rising_to
+returns-then-disk-rising_to g c = record {
+  serves = in_service_none g.R.Rack.slot_count g.R.Rack.slot c.args.core.now c.requires.serving (known_whole g.R.Rack.slot c.args.core.now c.requires.whole);
+  same = λ is. refl;
+  marked = λ is. done_not_dropped _ _ refl is;
+  lost = λ is. done_not_dropped _ _ refl is;
+  table = refl;
+  parks = λ samples served energy h lo.
+      let rises = ap (λ (m : Meta). rising_to m.phase) c.meta-2.ensures in
+      let under : c.args.disk < rising_to c.args.core.now.meta.phase = omega (arith, rises) in
+      stays (inr under) refl refl;
+  alone = tt;
+  calls = calls_none g.R.Rack.slot g.R.Rack.told c.args.core.now;
+  two = tt;
+}
 
-pub returns-clause-parks : goal.returns-clause-parks
-returns-clause-parks g c samples served energy h lo =
+pub returns : goal.returns
+returns g c =
     let a = c.args.core.now in
     let b = c.park.new.self in
-    let done = c.in_ok-parked.ensures in
-    let is = ap Ok c.if-not-parked.false in
-    parks (let gear = ap (λ (m : Meta). m.gear) c.meta.ensures in omega (arith, gear)) (let rises = ap (λ (m : Meta). rising_to m.phase) c.meta-2.ensures in omega (arith, rises)) c.park.ensures.slots (done.same is)
-    (core_parks g.R.Rack.slot_count g.R.Rack.told a b c.requires.nothing c.park.ensures.batch c.args.disk c.park.ensures.calls (g.R.Rack.slot (store_rack b.store)) (g.met.R.Rack.agrees (store_rack b.store))
-    (ap is_present (done.parked is)) (done.done is) samples served energy h lo)
-
-pub returns-then-not-parked-clause-parks : goal.returns-then-not-parked-clause-parks
-returns-then-not-parked-clause-parks g c samples served energy h lo =
-    let a = c.args.core.now in
-    let b = c.park.new.self in
-    let done = c.in_ok-parked.ensures in
-    let is = ap Ok c.if-not-parked.true in
-    fails (let gear = ap (λ (m : Meta). m.gear) c.meta.ensures in omega (arith, gear)) (let rises = ap (λ (m : Meta). rising_to m.phase) c.meta-2.ensures in omega (arith, rises)) c.park.ensures.slots (lost_marked a.meta b.meta c.args.disk done.meta c.requires.whole (done.gone is))
-    (core_fails g.R.Rack.slot_count g.R.Rack.told a b c.requires.nothing c.park.ensures.batch c.args.disk c.park.ensures.calls (g.R.Rack.slot (store_rack b.store)) (g.met.R.Rack.agrees (store_rack b.store))
-    (ap is_present (done.failed is).absent) (done.lost is) samples served energy h lo)
-
-pub returns-in_err-parked-clause-alone : goal.returns-in_err-parked-clause-alone
-returns-in_err-parked-clause-alone g c =
-    let a = c.args.core.now in
-    let b = c.park.new.self in
-    handed _ c.from_residual.result _ c.from_residual.ensures.1
-    (park_alone (g.R.Rack.told (store_rack a.store)) (g.R.Rack.told (store_rack b.store)) c.args.disk (named_out a.meta.out) _ (ap named_out c.requires.whole) c.park.ensures.calls c.in_err-parked.ensures.tells)
-
-pub returns-then-not-parked-clause-marked : goal.returns-then-not-parked-clause-marked
-returns-then-not-parked-clause-marked g c is =
-    lost_marked c.args.core.now.meta c.park.new.self.meta c.args.disk c.in_ok-parked.ensures.meta c.requires.whole (c.in_ok-parked.ensures.gone (ap Ok c.if-not-parked.true))
-
-pub returns-clause-told : goal.returns-clause-told
-returns-clause-told g c = extends_core g.R.Rack.told c.args.core.now c.park.new.self _ c.park.ensures.calls
-
-pub returns-then-not-parked-clause-told : goal.returns-then-not-parked-clause-told
-returns-then-not-parked-clause-told g c = extends_core g.R.Rack.told c.args.core.now c.park.new.self _ c.park.ensures.calls
-
-pub returns-in_err-parked-clause-told : goal.returns-in_err-parked-clause-told
-returns-in_err-parked-clause-told g c = extends_core g.R.Rack.told c.args.core.now c.park.new.self _ c.park.ensures.calls
-
-pub returns-then-not-parked-clause-away : goal.returns-then-not-parked-clause-away
-returns-then-not-parked-clause-away g c is =
-    (c.in_ok-parked.ensures.failed (ap Ok c.if-not-parked.true)).absent
+    let d = c.args.disk in
+    let r = c.park.result in
+    let done = c.park.ensures in
+    let left : (back : Bool) → r ≡ Ok back → IsOutKnown g.R.Rack.slot b → LeavesInService g.R.Rack.slot_count g.R.Rack.slot a b = λ back is known. (
+    let marked = of_done _ r back done.meta is in
+    record {
+      serving = serving_turned g.R.Rack.slot_count g.R.Rack.slot a b c.requires.serving marked done.turned done.draft done.copied (of_done _ r back done.ready is) (of_done _ r back done.serves is c.requires.serving.serves)
+          (of_done _ r back done.unsynced is c.requires.serving.unsynced);
+      leaves = leaves_turned g.R.Rack.slot_count g.R.Rack.slot a b done.slots done.store marked done.turned (of_done _ r back done.risen is);
+      known = known;
+    }
+    ) in
+    record {
+      serves =
+          either_way _ r (λ is. left true is (known_whole g.R.Rack.slot b (ap (λ (m : Meta). m.out) (done.same is) ∙ c.requires.whole)))
+          (λ is. left false is (known_gone g.R.Rack.slot b d (done.gone is) (of_done _ r false done.absent is (known_whole g.R.Rack.slot a c.requires.whole).absent)));
+      same = done.same;
+      marked = λ is. lost_marked a.meta b.meta d (of_done _ r false done.meta is) c.requires.whole (done.gone is);
+      lost = done.failed;
+      table = done.table;
+      parks =
+          either_way _ r
+          (λ is samples served energy h lo.
+          parks (let gear = ap (λ (m : Meta). m.gear) c.meta.ensures in omega (arith, gear)) (let rises = ap (λ (m : Meta). rising_to m.phase) c.meta-2.ensures in omega (arith, rises)) done.slots (done.same is)
+          (core_parks g.R.Rack.slot_count g.R.Rack.told a b c.requires.nothing done.batch d done.calls (g.R.Rack.slot (store_rack b.store)) (g.met.R.Rack.agrees (store_rack b.store))
+          (ap is_present (done.parked is)) (done.done is) samples served energy h lo))
+          (λ is samples served energy h lo.
+          fails (let gear = ap (λ (m : Meta). m.gear) c.meta.ensures in omega (arith, gear)) (let rises = ap (λ (m : Meta). rising_to m.phase) c.meta-2.ensures in omega (arith, rises)) done.slots
+          (lost_marked a.meta b.meta d (of_done _ r false done.meta is) c.requires.whole (done.gone is))
+          (core_fails g.R.Rack.slot_count g.R.Rack.told a b c.requires.nothing done.batch d done.calls (g.R.Rack.slot (store_rack b.store)) (g.met.R.Rack.agrees (store_rack b.store))
+          (ap is_present (done.failed is).absent) (done.lost is) samples served energy h lo));
+      alone = if_err _ _ r (λ two tells. park_alone (g.R.Rack.told (store_rack a.store)) (g.R.Rack.told (store_rack b.store)) d (named_out a.meta.out) two (ap named_out c.requires.whole) done.calls tells) done.tells;
+      calls = calls_told g.R.Rack.slot g.R.Rack.told a b _ done.turned.no_fall done.calls;
+      two = done.two;
+    }

@@ -1,51 +1,99 @@
-use Rattle.std.proofs.Common.{ap, inl, inr, Ok, []}
+use Rattle.std.proofs.Common.{◌≡◌, ◌≢◌, ◌∙◌, ap, arith, inl, inr, refl, sym, None, Option, Some, Ok, []}
+use Rattle.std.specs.Prelude.{Result}
+use Rattle.paraid_base.specs.declared.state.Out.TheVariants.{Gone}
 use Rattle.paraid_image.specs.Out.{named_out}
 use Rattle.paraid_record.specs.declared.meta.Meta.{Meta}
 use Rattle.paraid_core.proofs.AfterLemmas.{handed}
+use Rattle.paraid_array.proofs.ResultLemmas.{none_done, none_done_as, none_done_if}
+use Rattle.paraid_array.specs.declared.fault.ReplaceFault.{ReplaceFault}
+use Rattle.paraid_array.specs.declared.fault.ReplaceFault.TheVariants.{NoDisk, NoFresh, NotOut}
 use Rattle.paraid_array.proofs.OutLemmas.{known_fresh, known_gone}
 use Rattle.paraid_array.proofs.TurnLemmas.{replaced_halts, replaced_turn, unreplaced_turn}
 use Rattle.paraid_array.proofs.ToldLemmas.{extends_core}
 use Rattle.paraid_array.proofs.replacing.bring.Goals as goal
 
-pub returns-then-there-clause-turn : goal.returns-then-there-clause-turn
-returns-then-there-clause-turn g c =
-    let done = c.in_ok-there.ensures in
-    replaced_turn g.R.Rack.slot_count g.R.Rack.told c.args.core.now c.begin.new.core c.args.disk c.requires.disk c.requires.out done.event (ap (λ (m : Meta). m.out) (done.fresh (ap Ok c.if-there.true)).is)
+-- it was done or refused, and not for another reason
+done_not_refused : {A E : Type 0} (r : Result (Option ReplaceFault) E) (f : ReplaceFault) → r ≡ Ok None → r ≡ Ok (Some f) → A
+done_not_refused r f is was = let z : Ok None ≡ Ok (Some f) = sym is ∙ was in absurd cc
 
-pub returns-clause-turn : goal.returns-clause-turn
-returns-clause-turn g c =
-    let done = c.in_ok-there.ensures in
-    unreplaced_turn g.R.Rack.slot_count g.R.Rack.told c.args.core.now c.begin.new.core c.args.disk c.requires.disk c.requires.out done.event
-    (elim (done.gone (ap Ok c.if-there.false)) [ inl one ↦ ap (λ (m : Meta). m.out) one.is | inr two ↦ ap (λ (m : Meta). m.out) two.is ])
+fresh_not_none : {E : Type 0} (r : Result (Option ReplaceFault) E) (d e : _) → r ≡ Ok (Some (NoFresh d)) → r ≢ Ok (Some (NoDisk e))
+fresh_not_none r d e is was = let z : Ok (Some (NoFresh d)) ≡ Ok (Some (NoDisk e)) = sym is ∙ was in cc
 
-pub returns-in_err-there-clause-halts : goal.returns-in_err-there-clause-halts
-returns-in_err-there-clause-halts g c =
-    handed _ c.from_residual.result _ c.from_residual.ensures.1
-    (replaced_halts g.R.Rack.slot_count g.R.Rack.told c.args.core.now c.begin.new.core c.args.disk c.requires.disk c.requires.out _ c.in_err-there.ensures.loses)
+fresh_not_out : {E : Type 0} (r : Result (Option ReplaceFault) E) (d e : _) → r ≡ Ok (Some (NoFresh d)) → r ≢ Ok (Some (NotOut e))
+fresh_not_out r d e is was = let z : Ok (Some (NoFresh d)) ≡ Ok (Some (NotOut e)) = sym is ∙ was in cc
 
-pub returns-clause-told : goal.returns-clause-told
-returns-clause-told g c = extends_core g.R.Rack.told c.args.core.now c.begin.new.core _ (c.begin.ensures.moments [] 0)
+pub begin-requires : goal.begin-requires
+begin-requires g c = record {
+  serving = c.requires.serving;
+  absent = c.requires.known.absent;
+  epoch = let e = c.requires.epoch in omega (arith, e);
+  out = c.requires.out;
+}
 
-pub returns-then-there-clause-told : goal.returns-then-there-clause-told
-returns-then-there-clause-told g c = extends_core g.R.Rack.told c.args.core.now c.begin.new.core _ (c.begin.ensures.moments [] 0)
+pub returns-in_err-there : goal.returns-in_err-there
+returns-in_err-there g c = record {
+  serving = none_done _ c.from_residual.result _ c.from_residual.ensures.1;
+  known = none_done _ c.from_residual.result _ c.from_residual.ensures.1;
+  leaves = none_done _ c.from_residual.result _ c.from_residual.ensures.1;
+  fresh = λ is. none_done_as _ c.from_residual.result _ _ c.from_residual.ensures.1 is;
+  gone = λ is. none_done_as _ c.from_residual.result _ _ c.from_residual.ensures.1 is;
+  risen = λ is. none_done_as _ c.from_residual.result _ _ c.from_residual.ensures.1 is;
+  refused = none_done_if _ c.from_residual.result _ c.from_residual.ensures.1;
+  no_disk = λ is. none_done_as _ c.from_residual.result _ _ c.from_residual.ensures.1 is;
+  not_out = λ is. none_done_as _ c.from_residual.result _ _ c.from_residual.ensures.1 is;
+  turn = none_done_if _ c.from_residual.result _ c.from_residual.ensures.1;
+  halts = handed _ c.from_residual.result _ c.from_residual.ensures.1 (replaced_halts g.R.Rack.slot_count g.R.Rack.told c.args.core.now c.begin.new.core c.args.disk c.requires.disk c.requires.out _ c.in_err-there.ensures.loses);
+  later = c.begin.ensures.later;
+  two = handed _ c.from_residual.result _ c.from_residual.ensures.1 c.in_err-there.ensures.two;
+  slots = none_done _ c.from_residual.result _ c.from_residual.ensures.1;
+  told = extends_core g.R.Rack.told c.args.core.now c.begin.new.core _ (c.begin.ensures.moments [] 0);
+}
 
-pub returns-in_err-there-clause-told : goal.returns-in_err-there-clause-told
-returns-in_err-there-clause-told g c = extends_core g.R.Rack.told c.args.core.now c.begin.new.core _ (c.begin.ensures.moments [] 0)
-
-pub returns-then-there-clause-known : goal.returns-then-there-clause-known
-returns-then-there-clause-known g c =
+pub returns-then-there : goal.returns-then-there
+returns-then-there g c =
+    let a = c.args.core.now in
+    let b = c.begin.new.core in
     let done = c.in_ok-there.ensures in
     let is = ap Ok c.if-there.true in
-    known_fresh g.R.Rack.slot c.begin.new.core c.args.disk (ap (λ (m : Meta). named_out m.out) (done.fresh is).is) done.named (done.spins is)
+    record {
+      serving = done.serving;
+      known = known_fresh g.R.Rack.slot b c.args.disk (ap (λ (m : Meta). named_out m.out) (done.fresh is).is) done.named (done.spins is);
+      leaves = done.leaves;
+      fresh = λ was. done.fresh is;
+      gone = λ was. done_not_refused _ _ refl was;
+      risen = λ was. done_not_refused _ _ refl was;
+      refused = tt;
+      no_disk = λ was. done_not_refused _ _ refl was;
+      not_out = λ was. done_not_refused _ _ refl was;
+      turn = replaced_turn g.R.Rack.slot_count g.R.Rack.told a b c.args.disk c.requires.disk c.requires.out done.event (ap (λ (m : Meta). m.out) (done.fresh is).is);
+      halts = tt;
+      later = c.begin.ensures.later;
+      two = tt;
+      slots = done.leaves.slots;
+      told = extends_core g.R.Rack.told a b _ (c.begin.ensures.moments [] 0);
+    }
 
-pub returns-clause-known : goal.returns-clause-known
-returns-clause-known g c =
+pub returns : goal.returns
+returns g c =
+    let a = c.args.core.now in
+    let b = c.begin.new.core in
     let done = c.in_ok-there.ensures in
-    known_gone g.R.Rack.slot c.begin.new.core c.args.disk
-    (elim (done.gone (ap Ok c.if-there.false)) [ inl one ↦ ap (λ (m : Meta). m.out) one.is | inr two ↦ ap (λ (m : Meta). m.out) two.is ]) done.absent
-
-pub returns-clause-gone : goal.returns-clause-gone
-returns-clause-gone g c is = c.in_ok-there.ensures.gone (ap Ok c.if-there.false)
-
-pub returns-clause-risen : goal.returns-clause-risen
-returns-clause-risen g c is = c.in_ok-there.ensures.risen (ap Ok c.if-there.false)
+    let not = ap Ok c.if-there.false in
+    let gone : b.meta.out ≡ Gone c.args.disk = elim (done.gone not) [ inl one ↦ ap (λ (m : Meta). m.out) one.is | inr two ↦ ap (λ (m : Meta). m.out) two.is ] in
+    record {
+      serving = done.serving;
+      known = known_gone g.R.Rack.slot b c.args.disk gone done.absent;
+      leaves = done.leaves;
+      fresh = λ was. done_not_refused _ _ was refl;
+      gone = λ was. done.gone not;
+      risen = λ was. done.risen not;
+      refused = refl;
+      no_disk = fresh_not_none _ _ _ refl;
+      not_out = fresh_not_out _ _ _ refl;
+      turn = unreplaced_turn g.R.Rack.slot_count g.R.Rack.told a b c.args.disk c.requires.disk c.requires.out done.event gone;
+      halts = tt;
+      later = c.begin.ensures.later;
+      two = tt;
+      slots = done.leaves.slots;
+      told = extends_core g.R.Rack.told a b _ (c.begin.ensures.moments [] 0);
+    }

@@ -1,25 +1,52 @@
 use Rattle.std.proofs.Common.{ℕ, Some, None, refl, subst}
 use Rattle.paraid_ration.specs.Ration.{IsFirstUsedUp, IsWithinAllowance}
 use Rattle.paraid_core.proofs.AfterLemmas.{handed}
+use Rattle.paraid_array.proofs.ResultLemmas.{none_done, none_done_if}
 use Rattle.paraid_array.proofs.RefusalLemmas.{down_hindered, down_worn, lowest, may_go_down}
 use Rattle.paraid_array.proofs.shifts.gear_below.Goals as goal
 
-pub returns-in_default-clause-refused : goal.returns-in_default-clause-refused
-returns-in_default-clause-refused c s of = lowest c.args.meta.now s of None refl c.in_default.ensures
+pub returns-in_default : goal.returns-in_default
+returns-in_default c = record {
+  next = tt;
+  steady = tt;
+  whole = tt;
+  spared = tt;
+  may = tt;
+  refused = λ s of. lowest c.args.meta.now s of None refl c.in_default.ensures;
+}
 
-pub returns-in_err-hindrance-clause-refused : goal.returns-in_err-hindrance-clause-refused
-returns-in_err-hindrance-clause-refused c =
-    handed _ c.from_residual.result _ c.from_residual.ensures.1
-    (λ s of. down_hindered c.args.meta.now s of (Some c.in-Some.to) c.in-Some.to _ refl c.in-Some.ensures c.in_err-hindrance.ensures.hinders)
+pub returns-in_err-hindrance : goal.returns-in_err-hindrance
+returns-in_err-hindrance c = record {
+  next = none_done_if _ c.from_residual.result _ c.from_residual.ensures.1;
+  steady = none_done _ c.from_residual.result _ c.from_residual.ensures.1;
+  whole = none_done _ c.from_residual.result _ c.from_residual.ensures.1;
+  spared = none_done_if _ c.from_residual.result _ c.from_residual.ensures.1;
+  may = none_done_if _ c.from_residual.result _ c.from_residual.ensures.1;
+  refused = handed _ c.from_residual.result _ c.from_residual.ensures.1 (λ s of. down_hindered c.args.meta.now s of (Some c.in-Some.to) c.in-Some.to _ refl c.in-Some.ensures c.in_err-hindrance.ensures.hinders);
+}
 
-pub returns-in-Ok-clause-may : goal.returns-in-Ok-clause-may
-returns-in-Ok-clause-may c s of =
+pub returns-in-Ok : goal.returns-in-Ok
+returns-in-Ok c =
     let m = c.args.meta.now in
-    may_go_down m s of (Some c.in-Some.to) c.in-Some.to refl c.in-Some.ensures c.in_ok-hindrance.ensures.steady c.in_ok-hindrance.ensures.whole
-    (subst (λ (z : ℕ). IsWithinAllowance m.spins z c.in-Some.to m.gear) c.allowance-allowed.ensures c.in-Ok.ensures.ok)
+    let within = subst (λ (z : ℕ). IsWithinAllowance m.spins z c.in-Some.to m.gear) c.allowance-allowed.ensures c.in-Ok.ensures.ok in
+    record {
+      next = record { below = c.in-Some.ensures.0; lower_gear = c.in-Some.ensures.1; higher_gear = c.requires.in_range.gear; between = c.in-Some.ensures.2 };
+      steady = c.in_ok-hindrance.ensures.steady;
+      whole = c.in_ok-hindrance.ensures.whole;
+      spared = within.within;
+      may = λ s of. may_go_down m s of (Some c.in-Some.to) c.in-Some.to refl c.in-Some.ensures c.in_ok-hindrance.ensures.steady c.in_ok-hindrance.ensures.whole within;
+      refused = tt;
+    }
 
-pub returns-in-Err-clause-refused : goal.returns-in-Err-clause-refused
-returns-in-Err-clause-refused c s of =
-    let m = c.args.meta.now in
-    down_worn m s of (Some c.in-Some.to) c.in-Some.to c.in-Err.disk refl c.in-Some.ensures c.in_ok-hindrance.ensures.steady c.in_ok-hindrance.ensures.whole
-    (subst (λ (z : ℕ). IsFirstUsedUp m.spins z c.in-Some.to m.gear c.in-Err.disk) c.allowance-allowed.ensures c.in-Err.ensures.err)
+pub returns-in-Err : goal.returns-in-Err
+returns-in-Err c = record {
+  next = tt;
+  steady = tt;
+  whole = tt;
+  spared = tt;
+  may = tt;
+  refused = λ s of.
+      let m = c.args.meta.now in
+      down_worn m s of (Some c.in-Some.to) c.in-Some.to c.in-Err.disk refl c.in-Some.ensures c.in_ok-hindrance.ensures.steady c.in_ok-hindrance.ensures.whole
+      (subst (λ (z : ℕ). IsFirstUsedUp m.spins z c.in-Some.to m.gear c.in-Err.disk) c.allowance-allowed.ensures c.in-Err.ensures.err);
+}

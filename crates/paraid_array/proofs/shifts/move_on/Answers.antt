@@ -2,115 +2,147 @@ use Rattle.std.proofs.Common.{◌+◌, refl, sym, ◌∙◌, subst, []}
 use Rattle.paraid_base.specs.States.{phase_to}
 use Rattle.paraid_moves.specs.MoveMetas.{meta_flipped_to}
 use Rattle.paraid_core.proofs.AfterLemmas.{handed}
+use Rattle.paraid_array.proofs.ResultLemmas.{none_done, none_done_if}
 use Rattle.paraid_event.specs.Service.{service_of}
+use Rattle.paraid_event.proofs.TickStepLemmas.{no_name}
 use Rattle.paraid_shift.specs.Units.{TellsDone}
 use Rattle.paraid_shift.proofs.ServingLemmas.{leaves_array_then, none_away, two_array}
 use Rattle.paraid_array.proofs.OutLemmas.{known_gone, known_whole, steady_marked}
-use Rattle.paraid_array.proofs.TickTurnLemmas.{flip_halts, flipped_told, known_marked, lost_told, moved_gone, moved_shifts, moving_told, out_told, step_halts}
-use Rattle.paraid_array.proofs.ToldLemmas.{extends_core, extends_cores, extends_steps}
+use Rattle.paraid_array.proofs.TickTurnLemmas.{flip_halts, flipped_told, known_marked, lost_told, moved_gone, moved_shifts, moving_told, step_halts}
+use Rattle.paraid_array.proofs.ToldLemmas.{calls_then, calls_told, extends_steps}
 use Rattle.paraid_array.proofs.shifts.move_on.Goals as goal
 
-pub is_done-requires-clause-shifts : goal.is_done-requires-clause-shifts
-is_done-requires-clause-shifts g c =
-    moved_shifts g.R.Rack.slot_count c.args.core.now c.step.new.core c.in_ok-moved.moved.units (c.in_ok-moved.ensures.moves c.requires.whole).moves c.requires.serving.ready.in_range c.requires.shifts (sym c.out.ensures ∙ c.in-No.is)
+pub is_done-requires : goal.is_done-requires
+is_done-requires g c =
+    let moved = c.in_ok-moved.ensures in
+    let whole = no_name c.step.new.core.meta.out (sym moved.lost ∙ c.in_default.is) in
+    record {
+      ready = moved.serving.ready;
+      shifts = moved_shifts g.R.Rack.slot_count c.args.core.now c.step.new.core c.in_ok-moved.moved.units (moved.moves c.requires.whole).moves c.requires.serving.ready.in_range c.requires.shifts whole;
+    }
+
+pub flip-requires-clause-serving : goal.flip-requires-clause-serving
+flip-requires-clause-serving g c = c.in_ok-moved.ensures.serving
+
+pub flip-requires-clause-whole : goal.flip-requires-clause-whole
+flip-requires-clause-whole g c = no_name c.step.new.core.meta.out (sym c.in_ok-moved.ensures.lost ∙ c.in_default.is)
 
 pub flip-requires-clause-shifts : goal.flip-requires-clause-shifts
 flip-requires-clause-shifts g c =
-    moved_shifts g.R.Rack.slot_count c.args.core.now c.step.new.core c.in_ok-moved.moved.units (c.in_ok-moved.ensures.moves c.requires.whole).moves c.requires.serving.ready.in_range c.requires.shifts (sym c.out.ensures ∙ c.in-No.is)
+    moved_shifts g.R.Rack.slot_count c.args.core.now c.step.new.core c.in_ok-moved.moved.units (c.in_ok-moved.ensures.moves c.requires.whole).moves c.requires.serving.ready.in_range c.requires.shifts
+    (no_name c.step.new.core.meta.out (sym c.in_ok-moved.ensures.lost ∙ c.in_default.is))
 
-pub returns-in_err-flip-clause-two : goal.returns-in_err-flip-clause-two
-returns-in_err-flip-clause-two g c =
-    handed _ c.from_residual-in_err-flip.result _ c.from_residual-in_err-flip.ensures.1
-    (two_array g.R.Rack.slot_count g.R.Rack.slot c.args.core.now c.step.new.core c.flip.new.core c.in_ok-moved.ensures.leaves c.flip.ensures.no_fall _ c.in_err-flip.ensures.two)
+pub flip-requires-clause-filled : goal.flip-requires-clause-filled
+flip-requires-clause-filled g c = c.is_done.ensures.filled c.if-not-is_done.false
 
-pub returns-clause-leaves : goal.returns-clause-leaves
-returns-clause-leaves g c =
-    leaves_array_then g.R.Rack.slot_count g.R.Rack.slot c.args.core.now c.step.new.core c.flip.new.core c.in_ok-moved.ensures.leaves c.in_ok-flip.ensures.leaves
+pub flip-requires-clause-clean : goal.flip-requires-clause-clean
+flip-requires-clause-clean g c = c.is_done.ensures.clean c.if-not-is_done.false
 
-pub returns-clause-tells : goal.returns-clause-tells
-returns-clause-tells g c =
-    let b = c.step.new.core.meta in
-    steady_marked (record (meta_flipped_to b (phase_to b.phase)) { epoch = b.epoch + 1 }) c.flip.new.core.meta refl c.in_ok-flip.ensures.meta
-
-pub returns-clause-known : goal.returns-clause-known
-returns-clause-known g c =
-    let b = c.step.new.core.meta in
-    known_marked g.R.Rack.slot (record (meta_flipped_to b (phase_to b.phase)) { epoch = b.epoch + 1 }) c.flip.new.core c.in_ok-flip.ensures.meta (sym c.out.ensures ∙ c.in-No.is) c.in_ok-flip.ensures.absent
-
-pub returns-then-not-is_done-clause-known : goal.returns-then-not-is_done-clause-known
-returns-then-not-is_done-clause-known g c = known_whole g.R.Rack.slot c.step.new.core (sym c.out.ensures ∙ c.in-No.is)
-
-pub returns-in_err-moved-clause-halts : goal.returns-in_err-moved-clause-halts
-returns-in_err-moved-clause-halts g c =
-    handed _ c.from_residual.result _ c.from_residual.ensures.1
-    (λ windows k setup p samples served energy held at fit counts.
-    step_halts g.R.Rack.slot_count g.R.Rack.told c.args.core.now k setup p samples served energy at fit counts c.requires.whole c.requires.shifts c.requires.serving.ready.in_range c.units_of_tick-units.result c.units_of_tick-units.ensures.units
-    c.step.new.core _ (c.in_err-moved.ensures.loses (none_away g.R.Rack.slot c.args.core.now c.requires.whole)))
-
-pub returns-in_err-flip-clause-halts : goal.returns-in_err-flip-clause-halts
-returns-in_err-flip-clause-halts g c =
+pub returns-in_err-moved : goal.returns-in_err-moved
+returns-in_err-moved g c =
     let a = c.args.core.now in
-    let moved = c.in_ok-moved.ensures in
-    handed _ c.from_residual-in_err-flip.result _ c.from_residual-in_err-flip.ensures.1
-    (λ windows k setup p samples served energy held at fit counts.
-    flip_halts g.R.Rack.slot_count g.R.Rack.told a k setup p samples served energy at fit counts c.requires.whole c.requires.shifts c.requires.serving.ready.in_range c.units_of_tick-units.result c.units_of_tick-units.ensures.units
-    c.step.new.core c.in_ok-moved.moved.units (moved.moves c.requires.whole) moved.serving.copies_synced (moved.steps (none_away g.R.Rack.slot a c.requires.whole)) (sym c.out.ensures ∙ c.in-No.is) moved.leaves.setup
-    c.flip.new.core moved.few (c.is_done.ensures.done c.if-not-is_done.false) _ c.in_err-flip.ensures.loses)
+    let loses = c.in_err-moved.ensures.loses (none_away g.R.Rack.slot a c.requires.whole) in
+    record {
+      serves = none_done _ c.from_residual.result _ c.from_residual.ensures.1;
+      tells = none_done_if _ c.from_residual.result _ c.from_residual.ensures.1;
+      turn = none_done_if _ c.from_residual.result _ c.from_residual.ensures.1;
+      halts =
+          handed _ c.from_residual.result _ c.from_residual.ensures.1
+          (λ windows k setup p samples served energy held at fit counts.
+          step_halts g.R.Rack.slot_count g.R.Rack.told a k setup p samples served energy at fit counts c.requires.whole c.requires.shifts c.requires.serving.ready.in_range c.units_of_tick-units.result c.units_of_tick-units.ensures.units
+          c.step.new.core _ loses);
+      calls = calls_told g.R.Rack.slot g.R.Rack.told a c.step.new.core _ c.step.ensures.no_fall (loses [] 0 [] 0 0);
+      two = handed _ c.from_residual.result _ c.from_residual.ensures.1 c.in_err-moved.ensures.two;
+    }
 
-pub returns-then-not-is_done-clause-turn : goal.returns-then-not-is_done-clause-turn
-returns-then-not-is_done-clause-turn g c windows k setup p samples served energy held at fit counts =
+pub returns-in-Some : goal.returns-in-Some
+returns-in-Some g c =
     let a = c.args.core.now in
     let b = c.step.new.core in
     let moved = c.in_ok-moved.ensures in
-    moving_told g.R.Rack.slot_count g.R.Rack.told a k setup p samples served energy at fit counts c.requires.whole c.requires.shifts c.requires.serving.ready.in_range c.units_of_tick-units.result c.units_of_tick-units.ensures.units
-    b c.in_ok-moved.moved.units (moved.moves c.requires.whole) moved.serving.copies_synced (moved.steps (none_away g.R.Rack.slot a c.requires.whole)) (sym c.out.ensures ∙ c.in-No.is) moved.leaves.setup
-    (subst (TellsDone (service_of g.R.Rack.slot_count b samples served energy)) c.if-not-is_done.true (c.is_done.ensures.units samples served energy))
+    let steps = moved.steps (none_away g.R.Rack.slot a c.requires.whole) in
+    let named = sym moved.lost ∙ c.in-Some.is in
+    record {
+      serves = record {
+        serving = moved.serving;
+        leaves = moved.leaves;
+        known = known_gone g.R.Rack.slot b c.in-Some.disk (moved_gone g.R.Rack.slot_count a b c.in_ok-moved.moved.units (moved.moves c.requires.whole).moves c.in-Some.disk named) (moved.absent (none_away g.R.Rack.slot a c.requires.whole));
+      };
+      tells = named;
+      turn = λ windows k setup p samples served energy held at fit counts.
+          lost_told g.R.Rack.slot_count g.R.Rack.told a k setup p samples served energy at fit counts c.requires.whole c.requires.shifts c.requires.serving.ready.in_range c.units_of_tick-units.result c.units_of_tick-units.ensures.units
+          b c.in_ok-moved.moved.units (moved.moves c.requires.whole) moved.serving.copies_synced steps c.in-Some.disk moved.few named;
+      halts = tt;
+      calls = record { no_fall = c.step.ensures.no_fall; grows = extends_steps g.R.Rack.told g.R.Rack.slot_count a b _ steps };
+      two = tt;
+    }
 
-pub returns-clause-turn : goal.returns-clause-turn
-returns-clause-turn g c windows k setup p samples served energy held at fit counts =
+pub returns-then-not-is_done : goal.returns-then-not-is_done
+returns-then-not-is_done g c =
     let a = c.args.core.now in
+    let b = c.step.new.core in
+    let moved = c.in_ok-moved.ensures in
+    let steps = moved.steps (none_away g.R.Rack.slot a c.requires.whole) in
+    let whole = no_name b.meta.out (sym moved.lost ∙ c.in_default.is) in
+    record {
+      serves = record { serving = moved.serving; leaves = moved.leaves; known = known_whole g.R.Rack.slot b whole };
+      tells = whole;
+      turn = λ windows k setup p samples served energy held at fit counts.
+          moving_told g.R.Rack.slot_count g.R.Rack.told a k setup p samples served energy at fit counts c.requires.whole c.requires.shifts c.requires.serving.ready.in_range c.units_of_tick-units.result c.units_of_tick-units.ensures.units
+          b c.in_ok-moved.moved.units (moved.moves c.requires.whole) moved.serving.copies_synced steps whole moved.leaves.setup
+          (subst (TellsDone (service_of g.R.Rack.slot_count b samples served energy)) c.if-not-is_done.true (c.is_done.ensures.units samples served energy));
+      halts = tt;
+      calls = record { no_fall = c.step.ensures.no_fall; grows = extends_steps g.R.Rack.told g.R.Rack.slot_count a b _ steps };
+      two = tt;
+    }
+
+pub returns-in_err-flip : goal.returns-in_err-flip
+returns-in_err-flip g c =
+    let a = c.args.core.now in
+    let b = c.step.new.core in
+    let new = c.flip.new.core in
+    let moved = c.in_ok-moved.ensures in
+    let steps = moved.steps (none_away g.R.Rack.slot a c.requires.whole) in
+    let whole = no_name b.meta.out (sym moved.lost ∙ c.in_default.is) in
+    record {
+      serves = none_done _ c.from_residual-in_err-flip.result _ c.from_residual-in_err-flip.ensures.1;
+      tells = none_done_if _ c.from_residual-in_err-flip.result _ c.from_residual-in_err-flip.ensures.1;
+      turn = none_done_if _ c.from_residual-in_err-flip.result _ c.from_residual-in_err-flip.ensures.1;
+      halts =
+          handed _ c.from_residual-in_err-flip.result _ c.from_residual-in_err-flip.ensures.1
+          (λ windows k setup p samples served energy held at fit counts.
+          flip_halts g.R.Rack.slot_count g.R.Rack.told a k setup p samples served energy at fit counts c.requires.whole c.requires.shifts c.requires.serving.ready.in_range c.units_of_tick-units.result c.units_of_tick-units.ensures.units
+          b c.in_ok-moved.moved.units (moved.moves c.requires.whole) moved.serving.copies_synced steps whole moved.leaves.setup
+          new moved.few (c.is_done.ensures.done c.if-not-is_done.false) _ c.in_err-flip.ensures.loses);
+      calls =
+          calls_then g.R.Rack.slot g.R.Rack.told a b new (record { no_fall = c.step.ensures.no_fall; grows = extends_steps g.R.Rack.told g.R.Rack.slot_count a b _ steps })
+          (calls_told g.R.Rack.slot g.R.Rack.told b new _ c.flip.ensures.no_fall (c.flip.ensures.moments [] 0));
+      two = handed _ c.from_residual-in_err-flip.result _ c.from_residual-in_err-flip.ensures.1 (two_array g.R.Rack.slot_count g.R.Rack.slot a b new moved.leaves c.flip.ensures.no_fall _ c.in_err-flip.ensures.two);
+    }
+
+pub returns : goal.returns
+returns g c =
+    let a = c.args.core.now in
+    let b = c.step.new.core in
+    let new = c.flip.new.core in
     let moved = c.in_ok-moved.ensures in
     let ended = c.in_ok-flip.ensures in
-    flipped_told g.R.Rack.slot_count g.R.Rack.told a k setup p samples served energy at fit counts c.requires.whole c.requires.shifts c.requires.serving.ready.in_range c.units_of_tick-units.result c.units_of_tick-units.ensures.units
-    c.step.new.core c.in_ok-moved.moved.units (moved.moves c.requires.whole) moved.serving.copies_synced (moved.steps (none_away g.R.Rack.slot a c.requires.whole)) (sym c.out.ensures ∙ c.in-No.is) moved.leaves.setup
-    c.flip.new.core moved.few (c.is_done.ensures.done c.if-not-is_done.false) ended.steps ended.meta ended.serving.copies_synced c.flip.ensures.table
-
-pub returns-in-Gone-clause-turn : goal.returns-in-Gone-clause-turn
-returns-in-Gone-clause-turn g c windows k setup p samples served energy held at fit counts =
-    let a = c.args.core.now in
-    let moved = c.in_ok-moved.ensures in
-    lost_told g.R.Rack.slot_count g.R.Rack.told a k setup p samples served energy at fit counts c.requires.whole c.requires.shifts c.requires.serving.ready.in_range c.units_of_tick-units.result c.units_of_tick-units.ensures.units
-    c.step.new.core c.in_ok-moved.moved.units (moved.moves c.requires.whole) moved.serving.copies_synced (moved.steps (none_away g.R.Rack.slot a c.requires.whole)) c.in-Gone.disk moved.few (out_told c.out.result c.step.new.core.meta.out c.in-Gone.disk c.out.ensures c.in-Gone.is)
-
-pub returns-in-Gone-2-clause-known : goal.returns-in-Gone-2-clause-known
-returns-in-Gone-2-clause-known g c =
-    let a = c.args.core.now in
-    let b = c.step.new.core in
-    let moved = c.in_ok-moved.ensures in
-    known_gone g.R.Rack.slot b c.in-Gone.disk (moved_gone g.R.Rack.slot_count a b c.in_ok-moved.moved.units (moved.moves c.requires.whole).moves c.in-Gone.disk (out_told c.out.result c.step.new.core.meta.out c.in-Gone.disk c.out.ensures c.in-Gone.is))
-    (moved.absent (none_away g.R.Rack.slot a c.requires.whole))
-
-pub returns-in-Gone-2-clause-turn : goal.returns-in-Gone-2-clause-turn
-returns-in-Gone-2-clause-turn g c windows k setup p samples served energy held at fit counts =
-    let a = c.args.core.now in
-    let moved = c.in_ok-moved.ensures in
-    lost_told g.R.Rack.slot_count g.R.Rack.told a k setup p samples served energy at fit counts c.requires.whole c.requires.shifts c.requires.serving.ready.in_range c.units_of_tick-units.result c.units_of_tick-units.ensures.units
-    c.step.new.core c.in_ok-moved.moved.units (moved.moves c.requires.whole) moved.serving.copies_synced (moved.steps (none_away g.R.Rack.slot a c.requires.whole)) c.in-Gone.disk moved.few (out_told c.out.result c.step.new.core.meta.out c.in-Gone.disk c.out.ensures c.in-Gone.is)
-
-pub returns-in_err-moved-clause-told : goal.returns-in_err-moved-clause-told
-returns-in_err-moved-clause-told g c = extends_core g.R.Rack.told c.args.core.now c.step.new.core _ (c.in_err-moved.ensures.loses (none_away g.R.Rack.slot c.args.core.now c.requires.whole) [] 0 [] 0 0)
-
-pub returns-in-Gone-clause-told : goal.returns-in-Gone-clause-told
-returns-in-Gone-clause-told g c = extends_steps g.R.Rack.told g.R.Rack.slot_count c.args.core.now c.step.new.core _ (c.in_ok-moved.ensures.steps (none_away g.R.Rack.slot c.args.core.now c.requires.whole))
-
-pub returns-in-Gone-2-clause-told : goal.returns-in-Gone-2-clause-told
-returns-in-Gone-2-clause-told g c = extends_steps g.R.Rack.told g.R.Rack.slot_count c.args.core.now c.step.new.core _ (c.in_ok-moved.ensures.steps (none_away g.R.Rack.slot c.args.core.now c.requires.whole))
-
-pub returns-then-not-is_done-clause-told : goal.returns-then-not-is_done-clause-told
-returns-then-not-is_done-clause-told g c = extends_steps g.R.Rack.told g.R.Rack.slot_count c.args.core.now c.step.new.core _ (c.in_ok-moved.ensures.steps (none_away g.R.Rack.slot c.args.core.now c.requires.whole))
-
-pub returns-in_err-flip-clause-told : goal.returns-in_err-flip-clause-told
-returns-in_err-flip-clause-told g c = extends_cores g.R.Rack.told c.args.core.now c.step.new.core c.flip.new.core (extends_steps g.R.Rack.told g.R.Rack.slot_count c.args.core.now c.step.new.core _ (c.in_ok-moved.ensures.steps (none_away g.R.Rack.slot c.args.core.now c.requires.whole))) (extends_core g.R.Rack.told c.step.new.core c.flip.new.core _ (c.flip.ensures.moments [] 0))
-
-pub returns-clause-told : goal.returns-clause-told
-returns-clause-told g c = extends_cores g.R.Rack.told c.args.core.now c.step.new.core c.flip.new.core (extends_steps g.R.Rack.told g.R.Rack.slot_count c.args.core.now c.step.new.core _ (c.in_ok-moved.ensures.steps (none_away g.R.Rack.slot c.args.core.now c.requires.whole))) (extends_core g.R.Rack.told c.step.new.core c.flip.new.core _ (c.flip.ensures.moments [] 0))
+    let steps = moved.steps (none_away g.R.Rack.slot a c.requires.whole) in
+    let whole = no_name b.meta.out (sym moved.lost ∙ c.in_default.is) in
+    record {
+      serves = record {
+        serving = ended.serving;
+        leaves = leaves_array_then g.R.Rack.slot_count g.R.Rack.slot a b new moved.leaves ended.leaves;
+        known = known_marked g.R.Rack.slot (record (meta_flipped_to b.meta (phase_to b.meta.phase)) { epoch = b.meta.epoch + 1 }) new ended.meta whole ended.absent;
+      };
+      tells = steady_marked (record (meta_flipped_to b.meta (phase_to b.meta.phase)) { epoch = b.meta.epoch + 1 }) new.meta refl ended.meta;
+      turn = λ windows k setup p samples served energy held at fit counts.
+          flipped_told g.R.Rack.slot_count g.R.Rack.told a k setup p samples served energy at fit counts c.requires.whole c.requires.shifts c.requires.serving.ready.in_range c.units_of_tick-units.result c.units_of_tick-units.ensures.units
+          b c.in_ok-moved.moved.units (moved.moves c.requires.whole) moved.serving.copies_synced steps whole moved.leaves.setup
+          new moved.few (c.is_done.ensures.done c.if-not-is_done.false) ended.steps ended.meta ended.serving.copies_synced c.flip.ensures.table;
+      halts = tt;
+      calls =
+          calls_then g.R.Rack.slot g.R.Rack.told a b new (record { no_fall = c.step.ensures.no_fall; grows = extends_steps g.R.Rack.told g.R.Rack.slot_count a b _ steps })
+          (calls_told g.R.Rack.slot g.R.Rack.told b new _ c.flip.ensures.no_fall (c.flip.ensures.moments [] 0));
+      two = tt;
+    }
