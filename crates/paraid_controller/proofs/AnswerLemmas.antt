@@ -21,7 +21,7 @@ use Rattle.paraid_array.specs.DiskRefusals.{IsFailRefused, IsReplaceRefused}
 use Rattle.paraid_array.specs.Turns.{asked_answer, fail_answer, replace_answer}
 use Rattle.paraid_controller.specs.Used.{asked_energy}
 
-same_test : (a b : ℕ) → a ≡ b → (a == b) ≡ true
+pub same_test : (a b : ℕ) → a ≡ b → (a == b) ≡ true
 same_test a b e = grind (e, arith, nat_tests)
 
 -- a disk that is taken out

@@ -14,6 +14,7 @@ pub mod MountLemmas
 pub mod AskedLemmas
 pub mod CountedLemmas
 pub mod CheckLemmas
+pub mod AnswersLemmas
 pub mod CountLemmas
 pub mod SettledLemmas
 pub mod BeginLemmas

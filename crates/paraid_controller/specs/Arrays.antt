@@ -1,5 +1,5 @@
 -- What contracts see of an array, and where it stands in a session.
-use Rattle.std.specs.Prelude.{◌≡◌, ℕ, ◌<◌, Bool, List, [], Option, Some, None}
+use Rattle.std.specs.Prelude.{◌≡◌, ℕ, ◌<◌, true, Bool, List, [], Option, Some, None}
 use Rattle.paraid_base.specs.declared.event.Answer.{Answer}
 use Rattle.paraid_base.specs.declared.event.Event.{Event}
 use Rattle.paraid_base.specs.declared.fault.Halt.{Halt}
@@ -14,7 +14,12 @@ use Rattle.paraid_record.specs.declared.meta.Meta.{Meta}
 use Rattle.paraid_record.specs.declared.meta.Setup.{Setup}
 use Rattle.paraid_core.specs.declared.staged.Core.{Core}
 use Rattle.paraid_core.specs.Cores.{core_rack}
-use Rattle.paraid_session.specs.Turn.{GoesOn, Point}
+use Rattle.paraid_recover.specs.HeldMoments.{Extends}
+use Rattle.paraid_serve.specs.Form.{is_answer_to}
+use Rattle.paraid_serve.specs.Lost.{HaltsByTwoLost}
+use Rattle.paraid_session.specs.Faults.{HaveNotFallen}
+use Rattle.paraid_session.specs.Turn.{GoesOn, Point, halt_told}
+use Rattle.paraid_trace.specs.Replies.{HasFewDisks}
 use Rattle.paraid_event.specs.Counts.{with_counts_of}
 use Rattle.paraid_event.specs.Service.{IsStateOf, service_of}
 use Rattle.paraid_event.specs.Stands.{StandsAt}
@@ -91,6 +96,19 @@ abbrev pub GoesOnByEvent : {R : Type 0} {g : _} → (R → ℕ) → (R → Optio
 GoesOnByEvent count told old new event answer = (p : Point) → ArrayStandsAt count told old p
     → Ran (told_of_array told old) (told_of_array told new)
     (GoesOn (count (core_rack old.core)) old.setup p event answer (ArrayStandsAt count told new))
+
+-- So the array answers an event, over the same slots and with the same setup: what is told is longer by its calls, no count of
+-- faults has fallen, and the answer is of the event's kind and tells the halt, if the event ends its service.
+pub record AnswersEvent {R : Type 0} {g : _} (count : R → ℕ) (slot : R → ℕ → Slot) (told : R → Option Trail) (old new : Array R g) (event : Event) (answer : Answer) : Type 0 where
+  pub turn : GoesOnByEvent count told old new event answer
+  pub grows : Extends (told_of_array told old) (told_of_array told new)
+  pub slots : new.slots ≡ old.slots
+  pub setup : new.setup ≡ old.setup
+  pub halt : halt_of_array new ≡ halt_told answer
+  pub two : HaltsByTwoLost (down_of_array old) event (slot_of_array slot old) (slot_of_array slot new) (halt_of_array new)
+  pub later : HaveNotFallen (slot_of_array slot old) (slot_of_array slot new)
+  pub kind : is_answer_to event answer ≡ true
+  pub few : HasFewDisks answer
 
 -- The dirty cells are then those that this change makes of each state that the array showed, by its meta as it is then.
 abbrev pub ChangesCellsBy : {R : Type 0} {g : _} → (R → ℕ) → Array R g → Array R g → (PowerState → PowerState) → Type 0

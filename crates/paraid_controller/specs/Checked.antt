@@ -1,5 +1,8 @@
 -- What a check of an array counts, where its rack tells its record.
-use Rattle.std.specs.Prelude.{◌≡◌, ℕ, [], Option, Some, IsSome}
+use Rattle.std.specs.Prelude.{◌≡◌, ℕ, [], Option, Some, IsSome, Result, Ok, Err}
+use Rattle.paraid_base.specs.declared.event.Answer.{Answer}
+use Rattle.paraid_base.specs.declared.event.Answer.TheVariants.{Flushed, Halted}
+use Rattle.paraid_base.specs.declared.fault.Halt.{Halt}
 use Rattle.paraid_rack.specs.Slots.{Slot}
 use Rattle.paraid_rack.specs.Trail.{Trail, now}
 use Rattle.paraid_core.specs.declared.staged.Core.{Core}
@@ -9,6 +12,11 @@ use Rattle.paraid_core.specs.Lost.{CoreMarksLost, MakesReads}
 use Rattle.paraid_scrub.specs.Cores.{HasMapBits, core_view}
 use Rattle.paraid_scrub.specs.Counts.{CountsByView}
 use Rattle.paraid_scrub.specs.declared.kind.CheckReport.{CheckReport}
+
+-- A check is a flush of a session: the answer to that, with so many writes.
+abbrev pub answer_to_check : ℕ → Result CheckReport Halt → Answer
+answer_to_check writes (Ok report) = Flushed writes
+answer_to_check writes (Err halt) = Halted halt
 
 -- From a core with nothing staged, whose table has the bits of the map on its disks, the counts are those of its disks.
 abbrev pub CountsDisks : {R : Type 0} {g : _} → (R → ℕ → Slot) → (R → Option Trail) → Core R g → Core R g → CheckReport → Type 0

@@ -19,24 +19,16 @@ use paraid_rack::Rack;
 use paraid_scrub::{CheckReport, check};
 
 impl<R: Rack> Array<R> {
-    ghost use Rattle.paraid_controller.specs.Checked.{CountsCommitted, CountsDisks};
-    ghost use Rattle.paraid_controller.specs.Arrays.{ArrayStandsAt, GoesOnByEvent, core_of_array, down_of_array, end_of_array, halt_of_array, setup_of_array, slot_of_array, slots_of_array, told_of_array};
+    ghost use Rattle.paraid_controller.specs.Checked.{CountsCommitted, CountsDisks, answer_to_check};
+    ghost use Rattle.paraid_controller.specs.Arrays.{AnswersEvent, ArrayStandsAt, core_of_array, down_of_array, end_of_array, halt_of_array, setup_of_array, slot_of_array, slots_of_array, told_of_array};
 
     // Commits all that is staged, and counts what is false.
     fn commit_and_check(&mut self) -> Result<CheckReport, Halt>
         requires going { end_of_array self.old ≡ None }
         requires epoch { (meta_of (core_of_array self.old)).epoch < 2 ^ 62 }
         requires writes { (meta_of (core_of_array self.old)).writes < 2 ^ 62 }
-        ensures turn { OnOk result (GoesOnByEvent R.slot_count R.told self.old self.new FlushEvent (Flushed (meta_of (core_of_array self.old)).writes)) }
-        ensures ended { IfErr result (λ halt. GoesOnByEvent R.slot_count R.told self.old self.new FlushEvent (Halted halt)) }
-        ensures told { Extends (told_of_array R.told self.old) (told_of_array R.told self.new) }
-        ensures slots { slots_of_array self.new ≡ slots_of_array self.old }
-        ensures setup { setup_of_array self.new ≡ setup_of_array self.old }
-        ensures going { OnOk result (halt_of_array self.new ≡ None) }
-        ensures halt { IfErr result (λ halt. halt_of_array self.new ≡ Some halt) }
-        ensures two { HaltsByTwoLost (down_of_array self.old) FlushEvent
-            (slot_of_array R.slot self.old) (slot_of_array R.slot self.new) (halt_of_array self.new) }
-        ensures later { HaveNotFallen (slot_of_array R.slot self.old) (slot_of_array R.slot self.new) }
+        ensures answers { AnswersEvent R.slot_count R.slot R.told self.old self.new FlushEvent
+            (answer_to_check (meta_of (core_of_array self.old)).writes result) }
         ensures sound { IfOk result (λ report. IsSome (told_of_array R.told self.new) → (p : Point)
             → ArrayStandsAt R.slot_count R.told self.old p → report ≡ no_faults) }
         ensures counts { IfOk result (CountsCommitted R.slot R.told (core_of_array self.old) (core_of_array self.new)) }
@@ -58,16 +50,8 @@ impl<R: Rack> Array<R> {
         requires epoch { (meta_of (core_of_array self.old)).epoch < 2 ^ 62 }
         requires writes { (meta_of (core_of_array self.old)).writes < 2 ^ 62 }
         requires nothing { batch_of (core_of_array self.old) ≡ [] }
-        ensures turn { OnOk result (GoesOnByEvent R.slot_count R.told self.old self.new FlushEvent (Flushed (meta_of (core_of_array self.old)).writes)) }
-        ensures ended { IfErr result (λ halt. GoesOnByEvent R.slot_count R.told self.old self.new FlushEvent (Halted halt)) }
-        ensures told { Extends (told_of_array R.told self.old) (told_of_array R.told self.new) }
-        ensures slots { slots_of_array self.new ≡ slots_of_array self.old }
-        ensures setup { setup_of_array self.new ≡ setup_of_array self.old }
-        ensures going { OnOk result (halt_of_array self.new ≡ None) }
-        ensures halt { IfErr result (λ halt. halt_of_array self.new ≡ Some halt) }
-        ensures two { HaltsByTwoLost (down_of_array self.old) FlushEvent
-            (slot_of_array R.slot self.old) (slot_of_array R.slot self.new) (halt_of_array self.new) }
-        ensures later { HaveNotFallen (slot_of_array R.slot self.old) (slot_of_array R.slot self.new) }
+        ensures answers { AnswersEvent R.slot_count R.slot R.told self.old self.new FlushEvent
+            (answer_to_check (meta_of (core_of_array self.old)).writes result) }
         ensures sound { IfOk result (λ report. IsSome (told_of_array R.told self.new) → (p : Point)
             → ArrayStandsAt R.slot_count R.told self.old p → report ≡ no_faults) }
         ensures counts { IfOk result (CountsDisks R.slot R.told (core_of_array self.old) (core_of_array self.new)) }
@@ -88,16 +72,8 @@ impl<R: Rack> Array<R> {
         requires going { end_of_array self.old ≡ None }
         requires epoch { (meta_of (core_of_array self.old)).epoch < 2 ^ 62 }
         requires writes { (meta_of (core_of_array self.old)).writes < 2 ^ 62 }
-        ensures turn { OnOk result (GoesOnByEvent R.slot_count R.told self.old self.new FlushEvent (Flushed (meta_of (core_of_array self.old)).writes)) }
-        ensures ended { IfErr result (λ halt. GoesOnByEvent R.slot_count R.told self.old self.new FlushEvent (Halted halt)) }
-        ensures told { Extends (told_of_array R.told self.old) (told_of_array R.told self.new) }
-        ensures slots { slots_of_array self.new ≡ slots_of_array self.old }
-        ensures setup { setup_of_array self.new ≡ setup_of_array self.old }
-        ensures going { OnOk result (halt_of_array self.new ≡ None) }
-        ensures halt { IfErr result (λ halt. halt_of_array self.new ≡ Some halt) }
-        ensures two { HaltsByTwoLost (down_of_array self.old) FlushEvent
-            (slot_of_array R.slot self.old) (slot_of_array R.slot self.new) (halt_of_array self.new) }
-        ensures later { HaveNotFallen (slot_of_array R.slot self.old) (slot_of_array R.slot self.new) }
+        ensures answers { AnswersEvent R.slot_count R.slot R.told self.old self.new FlushEvent
+            (answer_to_check (meta_of (core_of_array self.old)).writes result) }
         ensures sound { IfOk result (λ report. IsSome (told_of_array R.told self.new) → (p : Point)
             → ArrayStandsAt R.slot_count R.told self.old p → report ≡ no_faults) }
         ensures counts { IfOk result (CountsDisks R.slot R.told (core_of_array self.old) (core_of_array self.new)) }

@@ -1,16 +1,9 @@
 //! Disks of an array that are taken out and replaced.
 ghost use Rattle.std.specs.Prelude.{◌≡◌, ◌<◌, ◌^◌, true, None, IfSome};
-ghost use Rattle.paraid_array.specs.DiskRefusals.{IsFailRefused, IsReplaceRefused};
 ghost use Rattle.paraid_array.specs.Turns.{fail_answer, replace_answer};
 ghost use Rattle.paraid_base.specs.declared.event.Event.TheVariants.{Fail as FailEvent, Replace as ReplaceEvent};
 ghost use Rattle.paraid_core.specs.Cores.{meta_of};
-ghost use Rattle.paraid_recover.specs.HeldMoments.{Extends};
-ghost use Rattle.paraid_serve.specs.Form.{is_answer_to};
-ghost use Rattle.paraid_serve.specs.Lost.{HaltsByTwoLost};
-ghost use Rattle.paraid_session.specs.Faults.{HaveNotFallen};
-ghost use Rattle.paraid_session.specs.Turn.{halt_told};
 ghost use Rattle.paraid_trace.specs.Answered.{answer_of};
-ghost use Rattle.paraid_trace.specs.Replies.{HasFewDisks};
 
 use crate::Array;
 use crate::ended::Ended;
@@ -44,23 +37,14 @@ fn replace_told(disk: DiskNo, refusal: Option<ReplaceFault>) -> Brief
 }
 
 impl<R: Rack> Array<R> {
-    ghost use Rattle.paraid_controller.specs.Arrays.{GoesOnByEvent, core_of_array, down_of_array, end_of_array, halt_of_array, setup_of_array, slot_of_array, slots_of_array, told_of_array};
+    ghost use Rattle.paraid_controller.specs.Arrays.{AnswersEvent, core_of_array, end_of_array, halt_of_array};
 
     // Takes out a disk of the array.
     fn fail_there(&mut self, disk: DiskNo) -> Brief
         requires going { end_of_array self.old ≡ None }
         requires epoch { (meta_of (core_of_array self.old)).epoch < 2 ^ 62 }
         requires writes { (meta_of (core_of_array self.old)).writes < 2 ^ 62 }
-        ensures turn { GoesOnByEvent R.slot_count R.told self.old self.new (FailEvent disk) (answer_of result) }
-        ensures told { Extends (told_of_array R.told self.old) (told_of_array R.told self.new) }
-        ensures slots { slots_of_array self.new ≡ slots_of_array self.old }
-        ensures setup { setup_of_array self.new ≡ setup_of_array self.old }
-        ensures halt { halt_of_array self.new ≡ halt_told (answer_of result) }
-        ensures two { HaltsByTwoLost (down_of_array self.old) (FailEvent disk)
-            (slot_of_array R.slot self.old) (slot_of_array R.slot self.new) (halt_of_array self.new) }
-        ensures later { HaveNotFallen (slot_of_array R.slot self.old) (slot_of_array R.slot self.new) }
-        ensures kind { is_answer_to (FailEvent disk) (answer_of result) ≡ true }
-        ensures few { HasFewDisks (answer_of result) }
+        ensures answers { AnswersEvent R.slot_count R.slot R.told self.old self.new (FailEvent disk) (answer_of result) }
     {
         let gear = self.core.meta().gear;
         match take_out(&mut self.core, disk) {
@@ -78,16 +62,7 @@ impl<R: Rack> Array<R> {
         requires going { end_of_array self.old ≡ None }
         requires epoch { (meta_of (core_of_array self.old)).epoch < 2 ^ 62 }
         requires writes { (meta_of (core_of_array self.old)).writes < 2 ^ 62 }
-        ensures turn { GoesOnByEvent R.slot_count R.told self.old self.new (ReplaceEvent disk) (answer_of result) }
-        ensures told { Extends (told_of_array R.told self.old) (told_of_array R.told self.new) }
-        ensures slots { slots_of_array self.new ≡ slots_of_array self.old }
-        ensures setup { setup_of_array self.new ≡ setup_of_array self.old }
-        ensures halt { halt_of_array self.new ≡ halt_told (answer_of result) }
-        ensures two { HaltsByTwoLost (down_of_array self.old) (ReplaceEvent disk)
-            (slot_of_array R.slot self.old) (slot_of_array R.slot self.new) (halt_of_array self.new) }
-        ensures later { HaveNotFallen (slot_of_array R.slot self.old) (slot_of_array R.slot self.new) }
-        ensures kind { is_answer_to (ReplaceEvent disk) (answer_of result) ≡ true }
-        ensures few { HasFewDisks (answer_of result) }
+        ensures answers { AnswersEvent R.slot_count R.slot R.told self.old self.new (ReplaceEvent disk) (answer_of result) }
     {
         let gear = self.core.meta().gear;
         match replace(&mut self.core, disk) {
@@ -103,16 +78,7 @@ impl<R: Rack> Array<R> {
     /// Answers that a disk is to be taken out.
     pub fn fail(&mut self, disk: u32) -> Brief
         requires going { halt_of_array self.old ≡ None }
-        ensures turn { GoesOnByEvent R.slot_count R.told self.old self.new (FailEvent disk) (answer_of result) }
-        ensures told { Extends (told_of_array R.told self.old) (told_of_array R.told self.new) }
-        ensures slots { slots_of_array self.new ≡ slots_of_array self.old }
-        ensures setup { setup_of_array self.new ≡ setup_of_array self.old }
-        ensures halt { halt_of_array self.new ≡ halt_told (answer_of result) }
-        ensures two { HaltsByTwoLost (down_of_array self.old) (FailEvent disk)
-            (slot_of_array R.slot self.old) (slot_of_array R.slot self.new) (halt_of_array self.new) }
-        ensures later { HaveNotFallen (slot_of_array R.slot self.old) (slot_of_array R.slot self.new) }
-        ensures kind { is_answer_to (FailEvent disk) (answer_of result) ≡ true }
-        ensures few { HasFewDisks (answer_of result) }
+        ensures answers { AnswersEvent R.slot_count R.slot R.told self.old self.new (FailEvent disk) (answer_of result) }
     {
         if let Some(count) = worn(self.core.meta()) {
             return Brief::Halted(self.wear_out(count));
@@ -126,16 +92,7 @@ impl<R: Rack> Array<R> {
     /// Answers that a disk is to be replaced.
     pub fn replace(&mut self, disk: u32) -> Brief
         requires going { halt_of_array self.old ≡ None }
-        ensures turn { GoesOnByEvent R.slot_count R.told self.old self.new (ReplaceEvent disk) (answer_of result) }
-        ensures told { Extends (told_of_array R.told self.old) (told_of_array R.told self.new) }
-        ensures slots { slots_of_array self.new ≡ slots_of_array self.old }
-        ensures setup { setup_of_array self.new ≡ setup_of_array self.old }
-        ensures halt { halt_of_array self.new ≡ halt_told (answer_of result) }
-        ensures two { HaltsByTwoLost (down_of_array self.old) (ReplaceEvent disk)
-            (slot_of_array R.slot self.old) (slot_of_array R.slot self.new) (halt_of_array self.new) }
-        ensures later { HaveNotFallen (slot_of_array R.slot self.old) (slot_of_array R.slot self.new) }
-        ensures kind { is_answer_to (ReplaceEvent disk) (answer_of result) ≡ true }
-        ensures few { HasFewDisks (answer_of result) }
+        ensures answers { AnswersEvent R.slot_count R.slot R.told self.old self.new (ReplaceEvent disk) (answer_of result) }
     {
         if let Some(count) = worn(self.core.meta()) {
             return Brief::Halted(self.wear_out(count));

@@ -2,17 +2,12 @@
 ghost use Rattle.std.specs.Prelude.{◌≡◌, ◌≢◌, ◌*◌, ◌-◌, ◌<◌, ◌≤◌, ◌^◌, max, true, length, None, Some, IfNone, IfSome};
 ghost use Rattle.paraid_base.specs.declared.event.Answer.TheVariants.{Halted};
 ghost use Rattle.paraid_base.specs.declared.event.Event.{Event as EventType};
-ghost use Rattle.paraid_base.specs.declared.event.Event.TheVariants.{Bad as BadEvent, Energy as AskEnergy, State as AskState};
+ghost use Rattle.paraid_base.specs.declared.event.Event.TheVariants.{Energy as AskEnergy, State as AskState};
 ghost use Rattle.paraid_base.specs.declared.fault.Halt.TheVariants.{Worn};
 ghost use Rattle.paraid_image.specs.Out.{named_out};
 ghost use Rattle.paraid_machine.specs.Machine.{block_count, state_status};
-ghost use Rattle.paraid_recover.specs.HeldMoments.{Extends};
-ghost use Rattle.paraid_serve.specs.Form.{is_answer_to};
-ghost use Rattle.paraid_serve.specs.Lost.{HaltsByTwoLost};
-ghost use Rattle.paraid_session.specs.Faults.{HaveNotFallen};
-ghost use Rattle.paraid_session.specs.Turn.{Point, halt_told, may_halt};
+ghost use Rattle.paraid_session.specs.Turn.{Point, may_halt};
 ghost use Rattle.paraid_trace.specs.Answered.{answer_of, answer_with};
-ghost use Rattle.paraid_trace.specs.Replies.{HasFewDisks};
 ghost use Rattle.paraid_core.specs.Cores.{meta_of};
 
 use crate::Array;
@@ -36,7 +31,7 @@ pub(crate) fn worn(meta: &Meta) -> Option<u64>
 
 impl<R: Rack> Array<R> {
     ghost use Rattle.paraid_controller.specs.Lasting.{TellsItsWear};
-    ghost use Rattle.paraid_controller.specs.Arrays.{ArrayStandsAt, GoesOnByEvent, core_of_array, down_of_array, halt_of_array, setup_of_array, slot_of_array, slots_of_array, told_of_array};
+    ghost use Rattle.paraid_controller.specs.Arrays.{AnswersEvent, ArrayStandsAt, core_of_array, down_of_array, halt_of_array, setup_of_array};
 
     /// The halt that each event gives from now on, if it has halted.
     pub fn halt(&self) -> Option<Halt>
@@ -102,10 +97,7 @@ impl<R: Rack> Array<R> {
     /// Tells the state.
     pub(crate) fn tell_state(&self, beside: &mut Beside) -> Answered
         requires going { halt_of_array self.now ≡ None }
-        ensures turn { GoesOnByEvent R.slot_count R.told self.now self.now AskState (answer_with result beside.new) }
-        ensures halt { halt_told (answer_with result beside.new) ≡ None }
-        ensures kind { is_answer_to AskState (answer_with result beside.new) ≡ true }
-        ensures few { HasFewDisks (answer_with result beside.new) }
+        ensures answers { AnswersEvent R.slot_count R.slot R.told self.now self.now AskState (answer_with result beside.new) }
     {
         beside.status = self.status();
         Answered::State {
@@ -116,10 +108,7 @@ impl<R: Rack> Array<R> {
     /// Tells the energy since the mount.
     pub(crate) fn tell_energy(&self) -> Brief
         requires going { halt_of_array self.now ≡ None }
-        ensures turn { GoesOnByEvent R.slot_count R.told self.now self.now AskEnergy (answer_of result) }
-        ensures halt { halt_told (answer_of result) ≡ None }
-        ensures kind { is_answer_to AskEnergy (answer_of result) ≡ true }
-        ensures few { HasFewDisks (answer_of result) }
+        ensures answers { AnswersEvent R.slot_count R.slot R.told self.now self.now AskEnergy (answer_of result) }
     {
         Brief::Energy { total: self.energy }
     }
@@ -129,16 +118,9 @@ impl<R: Rack> Array<R> {
         requires going { halt_of_array self.old ≡ None }
         requires many { 2 ^ 62 ≤ count }
         requires is { count ≡ max (meta_of (core_of_array self.old)).epoch (meta_of (core_of_array self.old)).writes }
-        ensures turn { (event : EventType) → event ≢ BadEvent → may_halt event ≡ true
-            → GoesOnByEvent R.slot_count R.told self.old self.new event (Halted result) }
         ensures core { core_of_array self.new ≡ core_of_array self.old }
-        ensures told { Extends (told_of_array R.told self.old) (told_of_array R.told self.new) }
-        ensures slots { slots_of_array self.new ≡ slots_of_array self.old }
-        ensures setup { setup_of_array self.new ≡ setup_of_array self.old }
-        ensures halt { halt_of_array self.new ≡ Some result }
-        ensures two { (event : EventType) → HaltsByTwoLost (down_of_array self.old) event
-            (slot_of_array R.slot self.old) (slot_of_array R.slot self.new) (halt_of_array self.new) }
-        ensures later { HaveNotFallen (slot_of_array R.slot self.old) (slot_of_array R.slot self.new) }
+        ensures answers { (event : EventType) → may_halt event ≡ true
+            → AnswersEvent R.slot_count R.slot R.told self.old self.new event (Halted result) }
     {
         let gear = self.core.meta().gear;
         let halt = Halt::Worn { count };

@@ -6,13 +6,7 @@ ghost use Rattle.paraid_base.specs.Pairs.{pairs_of};
 ghost use Rattle.paraid_core.specs.Cores.{meta_of};
 ghost use Rattle.paraid_gear.specs.ThreeWindows.{sample_of};
 ghost use Rattle.paraid_machine.specs.Machine.{block_count};
-ghost use Rattle.paraid_recover.specs.HeldMoments.{Extends};
-ghost use Rattle.paraid_serve.specs.Form.{is_answer_to};
-ghost use Rattle.paraid_serve.specs.Lost.{HaltsByTwoLost};
-ghost use Rattle.paraid_session.specs.Faults.{HaveNotFallen};
-ghost use Rattle.paraid_session.specs.Turn.{halt_told};
 ghost use Rattle.paraid_trace.specs.Answered.{answer_of, answer_with};
-ghost use Rattle.paraid_trace.specs.Replies.{HasFewDisks};
 
 use crate::Array;
 use crate::ended::Ended;
@@ -32,7 +26,7 @@ fn one_more(served: u32) -> u32
 }
 
 impl<R: Rack> Array<R> {
-    ghost use Rattle.paraid_controller.specs.Arrays.{GoesOnByEvent, core_of_array, down_of_array, end_of_array, halt_of_array, setup_of_array, slot_of_array, slots_of_array, told_of_array};
+    ghost use Rattle.paraid_controller.specs.Arrays.{AnswersEvent, core_of_array, end_of_array, halt_of_array, setup_of_array};
 
     // Reads a block that there is.
     fn read_there(&mut self, block: BlockNo, beside: &mut Beside) -> Answered
@@ -40,16 +34,7 @@ impl<R: Rack> Array<R> {
         requires epoch { (meta_of (core_of_array self.old)).epoch < 2 ^ 62 }
         requires writes { (meta_of (core_of_array self.old)).writes < 2 ^ 62 }
         requires block { block < block_count (setup_of_array self.old) }
-        ensures turn { GoesOnByEvent R.slot_count R.told self.old self.new (ReadEvent block) (answer_with result beside.new) }
-        ensures told { Extends (told_of_array R.told self.old) (told_of_array R.told self.new) }
-        ensures slots { slots_of_array self.new ≡ slots_of_array self.old }
-        ensures setup { setup_of_array self.new ≡ setup_of_array self.old }
-        ensures halt { halt_of_array self.new ≡ halt_told (answer_with result beside.new) }
-        ensures two { HaltsByTwoLost (down_of_array self.old) (ReadEvent block)
-            (slot_of_array R.slot self.old) (slot_of_array R.slot self.new) (halt_of_array self.new) }
-        ensures later { HaveNotFallen (slot_of_array R.slot self.old) (slot_of_array R.slot self.new) }
-        ensures kind { is_answer_to (ReadEvent block) (answer_with result beside.new) ≡ true }
-        ensures few { HasFewDisks (answer_with result beside.new) }
+        ensures answers { AnswersEvent R.slot_count R.slot R.told self.old self.new (ReadEvent block) (answer_with result beside.new) }
     {
         let gear = self.core.meta().gear;
         match self.core.read(block, &mut beside.bytes) {
@@ -71,16 +56,7 @@ impl<R: Rack> Array<R> {
         requires epoch { (meta_of (core_of_array self.old)).epoch < 2 ^ 62 }
         requires writes { (meta_of (core_of_array self.old)).writes < 2 ^ 62 }
         requires blocks { All (λ (pair : ℕ × BlockType). pair.0 < block_count (setup_of_array self.old)) (pairs_of pairs.now) }
-        ensures turn { GoesOnByEvent R.slot_count R.told self.old self.new (WriteEvent pairs.now) (answer_of result) }
-        ensures told { Extends (told_of_array R.told self.old) (told_of_array R.told self.new) }
-        ensures slots { slots_of_array self.new ≡ slots_of_array self.old }
-        ensures setup { setup_of_array self.new ≡ setup_of_array self.old }
-        ensures halt { halt_of_array self.new ≡ halt_told (answer_of result) }
-        ensures two { HaltsByTwoLost (down_of_array self.old) (WriteEvent pairs.now)
-            (slot_of_array R.slot self.old) (slot_of_array R.slot self.new) (halt_of_array self.new) }
-        ensures later { HaveNotFallen (slot_of_array R.slot self.old) (slot_of_array R.slot self.new) }
-        ensures kind { is_answer_to (WriteEvent pairs.now) (answer_of result) ≡ true }
-        ensures few { HasFewDisks (answer_of result) }
+        ensures answers { AnswersEvent R.slot_count R.slot R.told self.old self.new (WriteEvent pairs.now) (answer_of result) }
     {
         let gear = self.core.meta().gear;
         let writes = self.core.meta().writes;
@@ -100,16 +76,7 @@ impl<R: Rack> Array<R> {
     /// Answers a read, whose bytes stand beside the answer.
     pub fn read(&mut self, block: BlockNo, beside: &mut Beside) -> Answered
         requires going { halt_of_array self.old ≡ None }
-        ensures turn { GoesOnByEvent R.slot_count R.told self.old self.new (ReadEvent block) (answer_with result beside.new) }
-        ensures told { Extends (told_of_array R.told self.old) (told_of_array R.told self.new) }
-        ensures slots { slots_of_array self.new ≡ slots_of_array self.old }
-        ensures setup { setup_of_array self.new ≡ setup_of_array self.old }
-        ensures halt { halt_of_array self.new ≡ halt_told (answer_with result beside.new) }
-        ensures two { HaltsByTwoLost (down_of_array self.old) (ReadEvent block)
-            (slot_of_array R.slot self.old) (slot_of_array R.slot self.new) (halt_of_array self.new) }
-        ensures later { HaveNotFallen (slot_of_array R.slot self.old) (slot_of_array R.slot self.new) }
-        ensures kind { is_answer_to (ReadEvent block) (answer_with result beside.new) ≡ true }
-        ensures few { HasFewDisks (answer_with result beside.new) }
+        ensures answers { AnswersEvent R.slot_count R.slot R.told self.old self.new (ReadEvent block) (answer_with result beside.new) }
     {
         if let Some(count) = worn(self.core.meta()) {
             return Answered::Brief(Brief::Halted(self.wear_out(count)));
@@ -123,16 +90,7 @@ impl<R: Rack> Array<R> {
     /// Answers a write.
     pub fn write(&mut self, pairs: &Pairs) -> Brief
         requires going { halt_of_array self.old ≡ None }
-        ensures turn { GoesOnByEvent R.slot_count R.told self.old self.new (WriteEvent pairs.now) (answer_of result) }
-        ensures told { Extends (told_of_array R.told self.old) (told_of_array R.told self.new) }
-        ensures slots { slots_of_array self.new ≡ slots_of_array self.old }
-        ensures setup { setup_of_array self.new ≡ setup_of_array self.old }
-        ensures halt { halt_of_array self.new ≡ halt_told (answer_of result) }
-        ensures two { HaltsByTwoLost (down_of_array self.old) (WriteEvent pairs.now)
-            (slot_of_array R.slot self.old) (slot_of_array R.slot self.new) (halt_of_array self.new) }
-        ensures later { HaveNotFallen (slot_of_array R.slot self.old) (slot_of_array R.slot self.new) }
-        ensures kind { is_answer_to (WriteEvent pairs.now) (answer_of result) ≡ true }
-        ensures few { HasFewDisks (answer_of result) }
+        ensures answers { AnswersEvent R.slot_count R.slot R.told self.old self.new (WriteEvent pairs.now) (answer_of result) }
     {
         if let Some(count) = worn(self.core.meta()) {
             return Brief::Halted(self.wear_out(count));

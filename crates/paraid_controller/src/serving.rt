@@ -1,14 +1,8 @@
 //! An array answers each event of a session.
 ghost use Rattle.std.specs.Prelude.{◌≡◌, ◌≢◌, true, None};
 ghost use Rattle.paraid_base.specs.declared.event.Event.TheVariants.{Bad as BadEvent, Flush as FlushEvent};
-ghost use Rattle.paraid_recover.specs.HeldMoments.{Extends};
-ghost use Rattle.paraid_serve.specs.Form.{is_answer_to};
-ghost use Rattle.paraid_serve.specs.Lost.{HaltsByTwoLost};
-ghost use Rattle.paraid_session.specs.Faults.{HaveNotFallen};
-ghost use Rattle.paraid_session.specs.Turn.{halt_told};
 ghost use Rattle.paraid_trace.specs.Answered.{answer_of, answer_with};
 ghost use Rattle.paraid_trace.specs.Asked.{event_with};
-ghost use Rattle.paraid_trace.specs.Replies.{HasFewDisks};
 
 use crate::Array;
 use paraid_base::{Halt, Pairs, Status};
@@ -17,21 +11,12 @@ use paraid_serve::Serves;
 use paraid_trace::{Answered, Asked, Beside, Brief};
 
 impl<R: Rack> Array<R> {
-    ghost use Rattle.paraid_controller.specs.Arrays.{GoesOnByEvent, down_of_array, halt_of_array, setup_of_array, slot_of_array, slots_of_array, told_of_array};
+    ghost use Rattle.paraid_controller.specs.Arrays.{AnswersEvent, down_of_array, halt_of_array, setup_of_array, slot_of_array, slots_of_array, told_of_array};
 
     // The answer to a flush.
     fn flush_told(&mut self) -> Brief
         requires going { halt_of_array self.old ≡ None }
-        ensures turn { GoesOnByEvent R.slot_count R.told self.old self.new FlushEvent (answer_of result) }
-        ensures told { Extends (told_of_array R.told self.old) (told_of_array R.told self.new) }
-        ensures slots { slots_of_array self.new ≡ slots_of_array self.old }
-        ensures setup { setup_of_array self.new ≡ setup_of_array self.old }
-        ensures halt { halt_of_array self.new ≡ halt_told (answer_of result) }
-        ensures two { HaltsByTwoLost (down_of_array self.old) FlushEvent
-            (slot_of_array R.slot self.old) (slot_of_array R.slot self.new) (halt_of_array self.new) }
-        ensures later { HaveNotFallen (slot_of_array R.slot self.old) (slot_of_array R.slot self.new) }
-        ensures kind { is_answer_to FlushEvent (answer_of result) ≡ true }
-        ensures few { HasFewDisks (answer_of result) }
+        ensures answers { AnswersEvent R.slot_count R.slot R.told self.old self.new FlushEvent (answer_of result) }
     {
         match self.flush() {
             Ok(writes) => Brief::Flushed { writes },
@@ -59,16 +44,7 @@ impl<R: Rack> Array<R> {
     pub fn answer(&mut self, asked: Asked, pairs: &Pairs, beside: &mut Beside) -> Answered
         requires going { halt_of_array self.old ≡ None }
         requires event { event_with asked pairs.now ≢ BadEvent }
-        ensures turn { GoesOnByEvent R.slot_count R.told self.old self.new (event_with asked pairs.now) (answer_with result beside.new) }
-        ensures told { Extends (told_of_array R.told self.old) (told_of_array R.told self.new) }
-        ensures slots { slots_of_array self.new ≡ slots_of_array self.old }
-        ensures setup { setup_of_array self.new ≡ setup_of_array self.old }
-        ensures halt { halt_of_array self.new ≡ halt_told (answer_with result beside.new) }
-        ensures two { HaltsByTwoLost (down_of_array self.old) (event_with asked pairs.now)
-            (slot_of_array R.slot self.old) (slot_of_array R.slot self.new) (halt_of_array self.new) }
-        ensures later { HaveNotFallen (slot_of_array R.slot self.old) (slot_of_array R.slot self.new) }
-        ensures kind { is_answer_to (event_with asked pairs.now) (answer_with result beside.new) ≡ true }
-        ensures few { HasFewDisks (answer_with result beside.new) }
+        ensures answers { AnswersEvent R.slot_count R.slot R.told self.old self.new (event_with asked pairs.now) (answer_with result beside.new) }
     {
         match asked {
             Asked::Read { block } => self.read(block, beside),

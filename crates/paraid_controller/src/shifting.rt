@@ -4,13 +4,7 @@ ghost use Rattle.paraid_array.specs.Turns.{asked_answer};
 ghost use Rattle.paraid_base.specs.declared.event.Event.TheVariants.{Down as DownEvent, Up as UpEvent};
 ghost use Rattle.paraid_core.specs.Cores.{meta_of};
 ghost use Rattle.paraid_controller.specs.Used.{asked_energy as energy_asked};
-ghost use Rattle.paraid_recover.specs.HeldMoments.{Extends};
-ghost use Rattle.paraid_serve.specs.Form.{is_answer_to};
-ghost use Rattle.paraid_serve.specs.Lost.{HaltsByTwoLost};
-ghost use Rattle.paraid_session.specs.Faults.{HaveNotFallen};
-ghost use Rattle.paraid_session.specs.Turn.{halt_told};
 ghost use Rattle.paraid_trace.specs.Answered.{answer_of};
-ghost use Rattle.paraid_trace.specs.Replies.{HasFewDisks};
 
 use crate::Array;
 use crate::ended::Ended;
@@ -47,23 +41,14 @@ fn asked_energy(setup: &Setup, gear: u8, asked: Asked) -> u64
 }
 
 impl<R: Rack> Array<R> {
-    ghost use Rattle.paraid_controller.specs.Arrays.{GoesOnByEvent, core_of_array, down_of_array, end_of_array, halt_of_array, setup_of_array, slot_of_array, slots_of_array, told_of_array};
+    ghost use Rattle.paraid_controller.specs.Arrays.{AnswersEvent, core_of_array, end_of_array, halt_of_array};
 
     // Asks for a shift up.
     fn up_there(&mut self) -> Brief
         requires going { end_of_array self.old ≡ None }
         requires epoch { (meta_of (core_of_array self.old)).epoch < 2 ^ 62 }
         requires writes { (meta_of (core_of_array self.old)).writes < 2 ^ 62 }
-        ensures turn { GoesOnByEvent R.slot_count R.told self.old self.new UpEvent (answer_of result) }
-        ensures told { Extends (told_of_array R.told self.old) (told_of_array R.told self.new) }
-        ensures slots { slots_of_array self.new ≡ slots_of_array self.old }
-        ensures setup { setup_of_array self.new ≡ setup_of_array self.old }
-        ensures halt { halt_of_array self.new ≡ halt_told (answer_of result) }
-        ensures two { HaltsByTwoLost (down_of_array self.old) UpEvent
-            (slot_of_array R.slot self.old) (slot_of_array R.slot self.new) (halt_of_array self.new) }
-        ensures later { HaveNotFallen (slot_of_array R.slot self.old) (slot_of_array R.slot self.new) }
-        ensures kind { is_answer_to UpEvent (answer_of result) ≡ true }
-        ensures few { HasFewDisks (answer_of result) }
+        ensures answers { AnswersEvent R.slot_count R.slot R.told self.old self.new UpEvent (answer_of result) }
     {
         let gear = self.core.meta().gear;
         match up(&mut self.core) {
@@ -85,16 +70,7 @@ impl<R: Rack> Array<R> {
         requires going { end_of_array self.old ≡ None }
         requires epoch { (meta_of (core_of_array self.old)).epoch < 2 ^ 62 }
         requires writes { (meta_of (core_of_array self.old)).writes < 2 ^ 62 }
-        ensures turn { GoesOnByEvent R.slot_count R.told self.old self.new DownEvent (answer_of result) }
-        ensures told { Extends (told_of_array R.told self.old) (told_of_array R.told self.new) }
-        ensures slots { slots_of_array self.new ≡ slots_of_array self.old }
-        ensures setup { setup_of_array self.new ≡ setup_of_array self.old }
-        ensures halt { halt_of_array self.new ≡ halt_told (answer_of result) }
-        ensures two { HaltsByTwoLost (down_of_array self.old) DownEvent
-            (slot_of_array R.slot self.old) (slot_of_array R.slot self.new) (halt_of_array self.new) }
-        ensures later { HaveNotFallen (slot_of_array R.slot self.old) (slot_of_array R.slot self.new) }
-        ensures kind { is_answer_to DownEvent (answer_of result) ≡ true }
-        ensures few { HasFewDisks (answer_of result) }
+        ensures answers { AnswersEvent R.slot_count R.slot R.told self.old self.new DownEvent (answer_of result) }
     {
         let gear = self.core.meta().gear;
         match down(&mut self.core) {
@@ -114,16 +90,7 @@ impl<R: Rack> Array<R> {
     /// Answers that a shift up is asked for.
     pub fn up(&mut self) -> Brief
         requires going { halt_of_array self.old ≡ None }
-        ensures turn { GoesOnByEvent R.slot_count R.told self.old self.new UpEvent (answer_of result) }
-        ensures told { Extends (told_of_array R.told self.old) (told_of_array R.told self.new) }
-        ensures slots { slots_of_array self.new ≡ slots_of_array self.old }
-        ensures setup { setup_of_array self.new ≡ setup_of_array self.old }
-        ensures halt { halt_of_array self.new ≡ halt_told (answer_of result) }
-        ensures two { HaltsByTwoLost (down_of_array self.old) UpEvent
-            (slot_of_array R.slot self.old) (slot_of_array R.slot self.new) (halt_of_array self.new) }
-        ensures later { HaveNotFallen (slot_of_array R.slot self.old) (slot_of_array R.slot self.new) }
-        ensures kind { is_answer_to UpEvent (answer_of result) ≡ true }
-        ensures few { HasFewDisks (answer_of result) }
+        ensures answers { AnswersEvent R.slot_count R.slot R.told self.old self.new UpEvent (answer_of result) }
     {
         if let Some(count) = worn(self.core.meta()) {
             return Brief::Halted(self.wear_out(count));
@@ -134,16 +101,7 @@ impl<R: Rack> Array<R> {
     /// Answers that a shift down is asked for.
     pub fn down(&mut self) -> Brief
         requires going { halt_of_array self.old ≡ None }
-        ensures turn { GoesOnByEvent R.slot_count R.told self.old self.new DownEvent (answer_of result) }
-        ensures told { Extends (told_of_array R.told self.old) (told_of_array R.told self.new) }
-        ensures slots { slots_of_array self.new ≡ slots_of_array self.old }
-        ensures setup { setup_of_array self.new ≡ setup_of_array self.old }
-        ensures halt { halt_of_array self.new ≡ halt_told (answer_of result) }
-        ensures two { HaltsByTwoLost (down_of_array self.old) DownEvent
-            (slot_of_array R.slot self.old) (slot_of_array R.slot self.new) (halt_of_array self.new) }
-        ensures later { HaveNotFallen (slot_of_array R.slot self.old) (slot_of_array R.slot self.new) }
-        ensures kind { is_answer_to DownEvent (answer_of result) ≡ true }
-        ensures few { HasFewDisks (answer_of result) }
+        ensures answers { AnswersEvent R.slot_count R.slot R.told self.old self.new DownEvent (answer_of result) }
     {
         if let Some(count) = worn(self.core.meta()) {
             return Brief::Halted(self.wear_out(count));

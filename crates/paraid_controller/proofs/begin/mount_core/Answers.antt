@@ -1,14 +1,16 @@
 use Rattle.std.specs.Prelude.{◌<◌, ◌≤◌, length}
-use Rattle.std.proofs.Common.{refl, subst, sym, ◌∙◌}
+use Rattle.std.proofs.Common.{ap, arith, refl, subst, sym, ◌∙◌}
 use Rattle.paraid_record.specs.declared.meta.Meta.{Meta}
 use Rattle.paraid_image.specs.Sides.{Batch}
 use Rattle.paraid_recover.specs.declared.fault.MountFault.TheVariants.{NoMemory}
 use Rattle.paraid_core.specs.CoreInvariant.{AreSlotsReady}
 use Rattle.paraid_core.specs.Cores.{CanCoreServe, IsCoreReady}
+use Rattle.paraid_recover.specs.HeldMoments.{Extends}
 use Rattle.paraid_recover.specs.Mount.IsCauseOfRefusal.{no_memory}
 use Rattle.paraid_recover.specs.Mounted.{IsServable, IsStandingWithLoss}
 use Rattle.paraid_startup.proofs.MountedLemmas.{no_calls, refused_from_each}
 use Rattle.paraid_txn.specs.Stores.{disks_of, epoch_of, named_of, store_rack}
+use Rattle.paraid_array.proofs.ToldLemmas.{extends_none}
 use Rattle.paraid_controller.proofs.BeginLemmas.{begins_large, begins_synced, begun_mounted, begun_servable, begun_stands, begun_under, fresh_known, out_known, powered_by, stands_from_each}
 use Rattle.paraid_controller.proofs.begin.mount_core.Given.{Over}
 use Rattle.paraid_controller.proofs.begin.mount_core.Goals as goal
@@ -40,63 +42,84 @@ ready g c =
 serves : (g : Over) (c : After-begin g) → CanCoreServe g.R.Rack.slot c.begin.result.core
 serves g c = c.a_powered_array_can_begin.ensures.serves _ _ _ _ (powered_by _ _ _ _ _ _ _ (served g c))
 
-pub returns-in-Ok-mount-clause-ready : goal.returns-in-Ok-mount-clause-ready
-returns-in-Ok-mount-clause-ready g c = ready g (goal.at.returns-in-Ok-mount-clause-ready g c).After-begin
+pub returns-in_default : goal.returns-in_default
+returns-in_default g c = record {
+  slots = tt;
+  ready = tt;
+  serves = tt;
+  nothing = tt;
+  draft = tt;
+  copies_synced = tt;
+  large = tt;
+  synced = tt;
+  serving = tt;
+  powered = tt;
+  absent = tt;
+  named = tt;
+  spins = tt;
+  lengths = tt;
+  none = tt;
+  later = tt;
+  refused_later = λ d. omega arith;
+  mounted = tt;
+  grows = tt;
+  stands = tt;
+  refused_grows = extends_none (g.R.Rack.told c.args.rack);
+  cause = no_memory refl (no_calls (g.R.Rack.told c.args.rack));
+  refused = λ began at.
+      refused_from_each (g.R.Rack.slot_count c.args.rack) (g.R.Rack.slot c.args.rack) (g.R.Rack.slot c.args.rack) (g.R.Rack.told c.args.rack) (g.R.Rack.told c.args.rack) NoMemory
+      (g.met.R.Rack.agrees c.args.rack) (g.met.R.Rack.agrees c.args.rack) began at (no_memory refl (no_calls (g.R.Rack.told c.args.rack)));
+}
 
-pub returns-in-Ok-mount-clause-serves : goal.returns-in-Ok-mount-clause-serves
-returns-in-Ok-mount-clause-serves g c = serves g (goal.at.returns-in-Ok-mount-clause-serves g c).After-begin
-
-pub returns-in-Ok-mount-clause-large : goal.returns-in-Ok-mount-clause-large
-returns-in-Ok-mount-clause-large g c = begins_large _ _ _ _ _ _ _ (served g (goal.at.returns-in-Ok-mount-clause-large g c).After-begin)
-
-pub returns-in-Ok-mount-clause-powered : goal.returns-in-Ok-mount-clause-powered
-returns-in-Ok-mount-clause-powered g c = powered_by _ _ _ _ _ _ _ (served g (goal.at.returns-in-Ok-mount-clause-powered g c).After-begin)
-
-pub returns-in-Ok-mount-clause-serving : goal.returns-in-Ok-mount-clause-serving
-returns-in-Ok-mount-clause-serving g c =
-    let at = (goal.at.returns-in-Ok-mount-clause-serving g c).After-begin in
-    let core = c.begin.result.core in
-    let s = served g at in
-    record {
-      ready = ready g at;
-      serves = serves g at;
-      draft = c.begin.ensures.draft ∙ c.in-Ok.ensures.draft;
-      copies_synced = λ d low. c.begin.ensures.copies_synced d (subst (λ (m : Meta). d < m.setup.geometry.disks) c.begin.ensures.meta low);
-      unsynced = λ d low stays here wet. begins_synced _ _ _ _ _ _ _ s core.copied d low stays here wet;
-      large = begins_large _ _ _ _ _ _ _ s;
-    }
-
-pub returns-in-Ok-mount-clause-absent : goal.returns-in-Ok-mount-clause-absent
-returns-in-Ok-mount-clause-absent g c = out_known _ _ _ _ (under g (goal.at.returns-in-Ok-mount-clause-absent g c).After-begin)
-
-pub returns-in-Ok-mount-clause-spins : goal.returns-in-Ok-mount-clause-spins
-returns-in-Ok-mount-clause-spins g c d is =
-    let at = (goal.at.returns-in-Ok-mount-clause-spins g c).After-begin in
-    (served g at).fresh_spins d _ is (fresh_known _ _ _ _ (under g at) d _ is).1
-
-pub returns-in-Ok-mount-clause-stands : goal.returns-in-Ok-mount-clause-stands
-returns-in-Ok-mount-clause-stands g c began at =
-    let it = c.in-Ok-mount.mounted in
-    let told = c.in-Ok-mount.ensures.mounted in
-    let slots = g.R.Rack.slot_count (store_rack it.store) in
-    let setup_copies = c.begin.ensures.copies_synced in
-    begun_stands g.R.Rack.slot_count g.R.Rack.slot g.R.Rack.told c.begin.result.core it.store it.meta it.dirty c.begin.ensures.store c.begin.ensures.meta c.begin.ensures.table
-    (g.R.Rack.slot_count c.args.rack) began (c.begin.ensures.batch ∙ c.in-Ok-mount.ensures.nothing)
-    (stands_from_each (g.R.Rack.slot_count c.args.rack) slots (g.R.Rack.slot c.args.rack) (g.R.Rack.slot (store_rack it.store)) (named_of it.store) it.meta it.dirty c.begin.result.core.copied
-    (g.R.Rack.told c.args.rack) (g.R.Rack.told (store_rack it.store)) told.0 (g.met.R.Rack.agrees (store_rack it.store)) _ _ _ c.in-Ok-mount.ensures.servable setup_copies began c.in-Ok-mount.ensures.slots (told.1 slots began at))
-
-pub returns-in_default-clause-refused : goal.returns-in_default-clause-refused
-returns-in_default-clause-refused g c began at =
-    refused_from_each (g.R.Rack.slot_count c.args.rack) (g.R.Rack.slot c.args.rack) (g.R.Rack.slot c.args.rack) (g.R.Rack.told c.args.rack) (g.R.Rack.told c.args.rack) NoMemory
-    (g.met.R.Rack.agrees c.args.rack) (g.met.R.Rack.agrees c.args.rack) began at (no_memory refl (no_calls (g.R.Rack.told c.args.rack)))
-
-pub returns-in-Ok-mount-clause-later : goal.returns-in-Ok-mount-clause-later
-returns-in-Ok-mount-clause-later g c d =
-    subst (λ (z : _). (g.R.Rack.slot c.args.rack d).faults ≤ (g.R.Rack.slot (store_rack z) d).faults) (sym c.begin.ensures.store) (c.in-Ok-mount.ensures.later d)
-
-pub returns-in-Ok-mount-clause-mounted : goal.returns-in-Ok-mount-clause-mounted
-returns-in-Ok-mount-clause-mounted g c =
-    let it = c.in-Ok-mount.mounted in
-    let done = c.in-Ok-mount.ensures in
-    begun_mounted g.R.Rack.slot_count g.R.Rack.slot g.R.Rack.told c.begin.result.core it.store it.meta it.dirty c.begin.ensures.store c.begin.ensures.meta c.begin.ensures.table
-    (g.R.Rack.slot_count c.args.rack) (g.R.Rack.slot c.args.rack) (g.R.Rack.told c.args.rack) done.slots done.servable done.mounted.0 (λ began. done.mounted.1 (g.R.Rack.slot_count c.args.rack) began)
+pub returns-in-Ok-mount : goal.returns-in-Ok-mount
+returns-in-Ok-mount g c = record {
+  slots = ap (λ (z : _). g.R.Rack.slot_count (store_rack z)) c.begin.ensures.store ∙ c.in-Ok-mount.ensures.slots;
+  ready = ready g (goal.at.returns-in-Ok-mount g c).After-begin;
+  serves = serves g (goal.at.returns-in-Ok-mount g c).After-begin;
+  nothing = c.begin.ensures.batch ∙ c.in-Ok-mount.ensures.nothing;
+  draft = c.begin.ensures.draft ∙ c.in-Ok.ensures.draft;
+  copies_synced = λ d low. c.begin.ensures.copies_synced d (subst (λ (m : Meta). d < m.setup.geometry.disks) c.begin.ensures.meta low);
+  large = begins_large _ _ _ _ _ _ _ (served g (goal.at.returns-in-Ok-mount g c).After-begin);
+  synced = (served g (goal.at.returns-in-Ok-mount g c).After-begin).synced;
+  serving =
+      let at = (goal.at.returns-in-Ok-mount g c).After-begin in
+      let core = c.begin.result.core in
+      let s = served g at in
+      record {
+        ready = ready g at;
+        serves = serves g at;
+        draft = c.begin.ensures.draft ∙ c.in-Ok.ensures.draft;
+        copies_synced = λ d low. c.begin.ensures.copies_synced d (subst (λ (m : Meta). d < m.setup.geometry.disks) c.begin.ensures.meta low);
+        unsynced = λ d low stays here wet. begins_synced _ _ _ _ _ _ _ s core.copied d low stays here wet;
+        large = begins_large _ _ _ _ _ _ _ s;
+      };
+  powered = powered_by _ _ _ _ _ _ _ (served g (goal.at.returns-in-Ok-mount g c).After-begin);
+  absent = out_known _ _ _ _ (under g (goal.at.returns-in-Ok-mount g c).After-begin);
+  named = λ d is. (fresh_known _ _ _ _ (under g (goal.at.returns-in-Ok-mount g c).After-begin) d _ is).0;
+  spins = λ d is.
+      let at = (goal.at.returns-in-Ok-mount g c).After-begin in
+      (served g at).fresh_spins d _ is (fresh_known _ _ _ _ (under g at) d _ is).1;
+  lengths = c.begin.ensures.lengths ∙ ap (λ (m : Meta). m.setup.windows) (sym c.begin.ensures.meta);
+  none = c.begin.ensures.none;
+  later = λ d.
+      subst (λ (z : _). (g.R.Rack.slot c.args.rack d).faults ≤ (g.R.Rack.slot (store_rack z) d).faults) (sym c.begin.ensures.store) (c.in-Ok-mount.ensures.later d);
+  refused_later = tt;
+  mounted =
+      let it = c.in-Ok-mount.mounted in
+      let done = c.in-Ok-mount.ensures in
+      begun_mounted g.R.Rack.slot_count g.R.Rack.slot g.R.Rack.told c.begin.result.core it.store it.meta it.dirty c.begin.ensures.store c.begin.ensures.meta c.begin.ensures.table
+      (g.R.Rack.slot_count c.args.rack) (g.R.Rack.slot c.args.rack) (g.R.Rack.told c.args.rack) done.slots done.servable done.mounted.0 (λ began. done.mounted.1 (g.R.Rack.slot_count c.args.rack) began);
+  grows = subst (λ (z : _). Extends (g.R.Rack.told c.args.rack) (g.R.Rack.told (store_rack z))) (sym c.begin.ensures.store) c.in-Ok-mount.ensures.grows;
+  stands = λ began at.
+      let it = c.in-Ok-mount.mounted in
+      let told = c.in-Ok-mount.ensures.mounted in
+      let slots = g.R.Rack.slot_count (store_rack it.store) in
+      let setup_copies = c.begin.ensures.copies_synced in
+      begun_stands g.R.Rack.slot_count g.R.Rack.slot g.R.Rack.told c.begin.result.core it.store it.meta it.dirty c.begin.ensures.store c.begin.ensures.meta c.begin.ensures.table
+      (g.R.Rack.slot_count c.args.rack) began (c.begin.ensures.batch ∙ c.in-Ok-mount.ensures.nothing)
+      (stands_from_each (g.R.Rack.slot_count c.args.rack) slots (g.R.Rack.slot c.args.rack) (g.R.Rack.slot (store_rack it.store)) (named_of it.store) it.meta it.dirty c.begin.result.core.copied
+      (g.R.Rack.told c.args.rack) (g.R.Rack.told (store_rack it.store)) told.0 (g.met.R.Rack.agrees (store_rack it.store)) _ _ _ c.in-Ok-mount.ensures.servable setup_copies began c.in-Ok-mount.ensures.slots (told.1 slots began at));
+  refused_grows = tt;
+  cause = tt;
+  refused = tt;
+}

@@ -1,5 +1,6 @@
 use Rattle.std.proofs.Common.{ℕ, ◌≤◌, ap, refl, sym, ◌∙◌, subst}
 use Rattle.paraid_core.specs.Cores.{core_rack}
+use Rattle.paraid_recover.specs.HeldMoments.{Extends}
 use Rattle.paraid_gear.specs.ThreeWindows.{lengths_of}
 use Rattle.paraid_controller.specs.Begun.{IsMountedCore}
 use Rattle.paraid_session.specs.Mount.{IsMountedFromEach}
@@ -17,24 +18,41 @@ new-requires g c =
           (record { absent = done.absent; named = done.named; spins = done.spins }) done.lengths refl (done.slots ∙ sym c.slots-slots.ensures);
     }
 
-pub returns-in-Ok-clause-mounted : goal.returns-in-Ok-clause-mounted
-returns-in-Ok-clause-mounted g c began at =
-    let it = c.in-Ok.begun in
-    let done = c.in-Ok.ensures in
-    let made = c.new.ensures in
-    subst (λ (n : ℕ). IsMountedFromEach n c.new.result.setup began (told_of_array g.R.Rack.told c.new.result) (ArrayStandsAt g.R.Rack.slot_count g.R.Rack.told c.new.result)) (sym (made.slots ∙ c.slots-slots.ensures))
-    (stands_mounted g.R.Rack.slot_count g.R.Rack.told it.core c.new.result (g.R.Rack.slot_count c.args.rack) began made.core made.setup (λ p. made.stands p done.none) (done.stands began at))
+pub returns-in-Ok : goal.returns-in-Ok
+returns-in-Ok g c = record {
+  going = c.new.ensures.going;
+  slots = c.new.ensures.slots ∙ c.slots-slots.ensures;
+  later = λ d.
+      subst (λ (k : _). (g.R.Rack.slot c.args.rack d).faults ≤ (g.R.Rack.slot (core_rack k) d).faults) (sym c.new.ensures.core) (c.in-Ok.ensures.later d);
+  refused_later = tt;
+  nothing = ap (λ (k : _). k.batch) c.new.ensures.core ∙ c.in-Ok.ensures.nothing;
+  setup = c.new.ensures.setup ∙ sym (ap (λ (k : _). k.meta.setup) c.new.ensures.core);
+  served =
+      subst (λ (k : _). IsMountedCore g.R.Rack.slot g.R.Rack.told (g.R.Rack.slot_count c.args.rack) (g.R.Rack.slot c.args.rack) (g.R.Rack.told c.args.rack) k) (sym c.new.ensures.core) c.in-Ok.ensures.mounted;
+  grows = subst (λ (k : _). Extends (g.R.Rack.told c.args.rack) (g.R.Rack.told (core_rack k))) (sym c.new.ensures.core) c.in-Ok.ensures.grows;
+  mounted = λ began at.
+      let it = c.in-Ok.begun in
+      let done = c.in-Ok.ensures in
+      let made = c.new.ensures in
+      subst (λ (n : ℕ). IsMountedFromEach n c.new.result.setup began (told_of_array g.R.Rack.told c.new.result) (ArrayStandsAt g.R.Rack.slot_count g.R.Rack.told c.new.result)) (sym (made.slots ∙ c.slots-slots.ensures))
+      (stands_mounted g.R.Rack.slot_count g.R.Rack.told it.core c.new.result (g.R.Rack.slot_count c.args.rack) began made.core made.setup (λ p. made.stands p done.none) (done.stands began at));
+  refused_grows = tt;
+  cause = tt;
+  refused = tt;
+}
 
-pub returns-in-Ok-clause-later : goal.returns-in-Ok-clause-later
-returns-in-Ok-clause-later g c d =
-    subst (λ (k : _). (g.R.Rack.slot c.args.rack d).faults ≤ (g.R.Rack.slot (core_rack k) d).faults) (sym c.new.ensures.core) (c.in-Ok.ensures.later d)
-
-pub returns-in-Ok-clause-nothing : goal.returns-in-Ok-clause-nothing
-returns-in-Ok-clause-nothing g c = ap (λ (k : _). k.batch) c.new.ensures.core ∙ c.in-Ok.ensures.nothing
-
-pub returns-in-Ok-clause-setup : goal.returns-in-Ok-clause-setup
-returns-in-Ok-clause-setup g c = c.new.ensures.setup ∙ sym (ap (λ (k : _). k.meta.setup) c.new.ensures.core)
-
-pub returns-in-Ok-clause-served : goal.returns-in-Ok-clause-served
-returns-in-Ok-clause-served g c =
-    subst (λ (k : _). IsMountedCore g.R.Rack.slot g.R.Rack.told (g.R.Rack.slot_count c.args.rack) (g.R.Rack.slot c.args.rack) (g.R.Rack.told c.args.rack) k) (sym c.new.ensures.core) c.in-Ok.ensures.mounted
+pub returns-in-Err : goal.returns-in-Err
+returns-in-Err g c = record {
+  going = tt;
+  slots = tt;
+  later = tt;
+  refused_later = c.in-Err.ensures.refused_later;
+  nothing = tt;
+  setup = tt;
+  served = tt;
+  grows = tt;
+  mounted = tt;
+  refused_grows = c.in-Err.ensures.refused_grows;
+  cause = c.in-Err.ensures.cause;
+  refused = c.in-Err.ensures.refused;
+}

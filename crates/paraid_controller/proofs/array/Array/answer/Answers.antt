@@ -1,47 +1,38 @@
-use Rattle.paraid_txn.specs.Stores.{store_rack}
-use Rattle.paraid_session.proofs.FaultLemmas.{same_counts}
-use Rattle.paraid_controller.proofs.LossLemmas.{asked_lost}
-use Rattle.paraid_array.proofs.ToldLemmas.{extends_none}
+use Rattle.std.proofs.Common.{ap}
+use Rattle.paraid_trace.specs.Asked.{event_with}
+use Rattle.paraid_trace.specs.declared.asked.Asked.{Asked}
+use Rattle.paraid_controller.proofs.AnswersLemmas.{asked_answers}
 use Rattle.paraid_controller.proofs.array.Array.answer.Goals as goal
 
-pub returns-in-State-clause-later : goal.returns-in-State-clause-later
-returns-in-State-clause-later g c = same_counts (g.R.Rack.slot (store_rack c.args.self.now.core.store))
+pub returns-in-Read : goal.returns-in-Read
+returns-in-Read g c = record { answers = asked_answers g.R.Rack.slot_count g.R.Rack.slot g.R.Rack.told _ _ c.args.asked _ c.args.pairs.now _ c.in-Read.is c.read.ensures.answers }
 
-pub returns-in-Energy-clause-later : goal.returns-in-Energy-clause-later
-returns-in-Energy-clause-later g c = same_counts (g.R.Rack.slot (store_rack c.args.self.now.core.store))
+pub returns-in-Write : goal.returns-in-Write
+returns-in-Write g c = record { answers = asked_answers g.R.Rack.slot_count g.R.Rack.slot g.R.Rack.told _ _ c.args.asked _ c.args.pairs.now _ c.in-Write.is c.write.ensures.answers }
 
-pub returns-in-Bad-clause-later : goal.returns-in-Bad-clause-later
-returns-in-Bad-clause-later g c = same_counts (g.R.Rack.slot (store_rack c.args.self.now.core.store))
+pub returns-in-Flush : goal.returns-in-Flush
+returns-in-Flush g c = record { answers = asked_answers g.R.Rack.slot_count g.R.Rack.slot g.R.Rack.told _ _ c.args.asked _ c.args.pairs.now _ c.in-Flush.is c.flush_told.ensures.answers }
 
-pub returns-in-Read-clause-two : goal.returns-in-Read-clause-two
-returns-in-Read-clause-two g c = asked_lost _ c.args.asked _ c.args.pairs.now _ _ _ c.in-Read.is c.read.ensures.two
+pub returns-in-Tick : goal.returns-in-Tick
+returns-in-Tick g c = record { answers = asked_answers g.R.Rack.slot_count g.R.Rack.slot g.R.Rack.told _ _ c.args.asked _ c.args.pairs.now _ c.in-Tick.is c.tick.ensures.answers }
 
-pub returns-in-Write-clause-two : goal.returns-in-Write-clause-two
-returns-in-Write-clause-two g c = asked_lost _ c.args.asked _ c.args.pairs.now _ _ _ c.in-Write.is c.write.ensures.two
+pub returns-in-Up : goal.returns-in-Up
+returns-in-Up g c = record { answers = asked_answers g.R.Rack.slot_count g.R.Rack.slot g.R.Rack.told _ _ c.args.asked _ c.args.pairs.now _ c.in-Up.is c.up.ensures.answers }
 
-pub returns-in-Flush-clause-two : goal.returns-in-Flush-clause-two
-returns-in-Flush-clause-two g c = asked_lost _ c.args.asked _ c.args.pairs.now _ _ _ c.in-Flush.is c.flush_told.ensures.two
+pub returns-in-Down : goal.returns-in-Down
+returns-in-Down g c = record { answers = asked_answers g.R.Rack.slot_count g.R.Rack.slot g.R.Rack.told _ _ c.args.asked _ c.args.pairs.now _ c.in-Down.is c.down.ensures.answers }
 
-pub returns-in-Tick-clause-two : goal.returns-in-Tick-clause-two
-returns-in-Tick-clause-two g c = asked_lost _ c.args.asked _ c.args.pairs.now _ _ _ c.in-Tick.is c.tick.ensures.two
+pub returns-in-Fail : goal.returns-in-Fail
+returns-in-Fail g c = record { answers = asked_answers g.R.Rack.slot_count g.R.Rack.slot g.R.Rack.told _ _ c.args.asked _ c.args.pairs.now _ c.in-Fail.is c.fail.ensures.answers }
 
-pub returns-in-Up-clause-two : goal.returns-in-Up-clause-two
-returns-in-Up-clause-two g c = asked_lost _ c.args.asked _ c.args.pairs.now _ _ _ c.in-Up.is c.up.ensures.two
+pub returns-in-Replace : goal.returns-in-Replace
+returns-in-Replace g c = record { answers = asked_answers g.R.Rack.slot_count g.R.Rack.slot g.R.Rack.told _ _ c.args.asked _ c.args.pairs.now _ c.in-Replace.is c.replace.ensures.answers }
 
-pub returns-in-Down-clause-two : goal.returns-in-Down-clause-two
-returns-in-Down-clause-two g c = asked_lost _ c.args.asked _ c.args.pairs.now _ _ _ c.in-Down.is c.down.ensures.two
+pub returns-in-State : goal.returns-in-State
+returns-in-State g c = record { answers = asked_answers g.R.Rack.slot_count g.R.Rack.slot g.R.Rack.told _ _ c.args.asked _ c.args.pairs.now _ c.in-State.is c.tell_state.ensures.answers }
 
-pub returns-in-Fail-clause-two : goal.returns-in-Fail-clause-two
-returns-in-Fail-clause-two g c = asked_lost _ c.args.asked _ c.args.pairs.now _ _ _ c.in-Fail.is c.fail.ensures.two
+pub returns-in-Energy : goal.returns-in-Energy
+returns-in-Energy g c = record { answers = asked_answers g.R.Rack.slot_count g.R.Rack.slot g.R.Rack.told _ _ c.args.asked _ c.args.pairs.now _ c.in-Energy.is c.tell_energy.ensures.answers }
 
-pub returns-in-Replace-clause-two : goal.returns-in-Replace-clause-two
-returns-in-Replace-clause-two g c = asked_lost _ c.args.asked _ c.args.pairs.now _ _ _ c.in-Replace.is c.replace.ensures.two
-
-pub returns-in-State-clause-told : goal.returns-in-State-clause-told
-returns-in-State-clause-told g c = extends_none _
-
-pub returns-in-Energy-clause-told : goal.returns-in-Energy-clause-told
-returns-in-Energy-clause-told g c = extends_none _
-
-pub returns-in-Bad-clause-told : goal.returns-in-Bad-clause-told
-returns-in-Bad-clause-told g c = extends_none _
+pub returns-in-Bad : goal.returns-in-Bad
+returns-in-Bad g c = record { answers = absurd (c.requires.event (ap (λ (asked : Asked). event_with asked c.args.pairs.now) c.in-Bad.is)) }

@@ -6,16 +6,23 @@ use Rattle.paraid_controller.specs.Checked.{CountsCommitted, CountsDisks}
 use Rattle.paraid_controller.proofs.CheckLemmas.{unstaged}
 use Rattle.paraid_controller.proofs.array.Array.check_there.Goals as goal
 
-pub returns-clause-counts : goal.returns-clause-counts
-returns-clause-counts g c =
-    unstaged {P = λ (report : CheckReport). CountsDisks g.R.Rack.slot g.R.Rack.told c.args.self.now.core c.commit_and_check.new.self.core report} c.commit_and_check.result
-    (λ report nothing. absurd (false≢true (c.if-is_kept.ensures.kept nothing)))
+pub returns-then-is_kept : goal.returns-then-is_kept
+returns-then-is_kept g c = record {
+  answers = c.check_kept.ensures.answers;
+  sound = c.check_kept.ensures.sound;
+  counts = c.check_kept.ensures.counts;
+  committed =
+      let old = c.args.self.now.core in
+      unstaged {P = λ (report : CheckReport). old.batch ≢ [] → CountsCommitted g.R.Rack.slot g.R.Rack.told old c.check_kept.new.self.core report} c.check_kept.result
+      (λ report staged. absurd (staged (c.if-is_kept.ensures.nothing refl)));
+}
 
-pub returns-then-is_kept-clause-committed : goal.returns-then-is_kept-clause-committed
-returns-then-is_kept-clause-committed g c =
-    let old = c.args.self.now.core in
-    unstaged {P = λ (report : CheckReport). old.batch ≢ [] → CountsCommitted g.R.Rack.slot g.R.Rack.told old c.check_kept.new.self.core report} c.check_kept.result
-    (λ report staged. absurd (staged (c.if-is_kept.ensures.nothing refl)))
-
-pub returns-clause-committed : goal.returns-clause-committed
-returns-clause-committed g c = IfOk-weaker c.commit_and_check.result _ _ (λ report counts staged. counts) c.commit_and_check.ensures.counts
+pub returns : goal.returns
+returns g c = record {
+  answers = c.commit_and_check.ensures.answers;
+  sound = c.commit_and_check.ensures.sound;
+  counts =
+      unstaged {P = λ (report : CheckReport). CountsDisks g.R.Rack.slot g.R.Rack.told c.args.self.now.core c.commit_and_check.new.self.core report} c.commit_and_check.result
+      (λ report nothing. absurd (false≢true (c.if-is_kept.ensures.kept nothing)));
+  committed = IfOk-weaker c.commit_and_check.result _ _ (λ report counts staged. counts) c.commit_and_check.ensures.counts;
+}

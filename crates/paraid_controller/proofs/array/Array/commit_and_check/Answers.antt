@@ -1,3 +1,4 @@
+use Rattle.paraid_controller.specs.Lasting.{halt_of_end}
 use Rattle.std.proofs.Common.{◌≡◌, refl, ap, Some, true}
 use Rattle.paraid_base.specs.declared.fault.Halt.TheVariants.{Two as HaltTwo}
 use Rattle.paraid_record.specs.declared.meta.Meta.{Meta}
@@ -26,43 +27,50 @@ invariant_of-self g c =
       worn = going_wear c.commit_and_count.new.core.meta c.args.self.now.ended c.requires.going;
     }
 
-pub returns-in-Ok-clause-turn : goal.returns-in-Ok-clause-turn
-returns-in-Ok-clause-turn g c =
-    let a = c.args.self.now in
-    let all = c.commit_and_count.ensures in
-    let done = c.in-Ok.ensures in
-    flush_on g.R.Rack.slot_count g.R.Rack.slot g.R.Rack.told g.met.R.Rack.agrees a _ c.requires.going c.requires.epoch c.requires.writes all.calls all.whole
-    a.core.meta.writes refl c.requires.going refl refl refl refl done.stands done.marks done.ready done.setup done.slots done.table
-    (copies_kept a.core c.commit_and_count.new.core done.setup all.copied (a.serving c.requires.going).serving.copies_synced) done.nothing
+pub returns-in-Ok : goal.returns-in-Ok
+returns-in-Ok g c = record {
+  answers = record {
+    turn =
+        let a = c.args.self.now in
+        let all = c.commit_and_count.ensures in
+        let done = c.in-Ok.ensures in
+        flush_on g.R.Rack.slot_count g.R.Rack.slot g.R.Rack.told g.met.R.Rack.agrees a _ c.requires.going c.requires.epoch c.requires.writes all.calls all.whole
+        a.core.meta.writes refl c.requires.going refl refl refl refl done.stands done.marks done.ready done.setup done.slots done.table
+        (copies_kept a.core c.commit_and_count.new.core done.setup all.copied (a.serving c.requires.going).serving.copies_synced) done.nothing;
+    grows = extends_core g.R.Rack.told c.args.self.now.core c.commit_and_count.new.core _ c.commit_and_count.ensures.calls;
+    slots = refl;
+    setup = refl;
+    halt = ap halt_of_end c.requires.going;
+    two = going_lost _ _ _ _ c.args.self.now.ended c.requires.going;
+    later = no_fall_counts (g.R.Rack.slot (store_rack c.args.self.now.core.store)) (g.R.Rack.slot (store_rack c.commit_and_count.new.core.store)) c.commit_and_count.ensures.no_fall;
+    kind = refl;
+    few = tt;
+  };
+  sound = λ some p at.
+      at_point g.R.Rack.slot_count g.R.Rack.told c.args.self.now c.requires.going (c.in-Ok.report ≡ no_faults) (λ h lo t tells stands. c.in-Ok.ensures.sound h lo t tells stands some)
+      (told_before (g.R.Rack.told c.args.self.now.core.store.rack) (g.R.Rack.told c.commit_and_count.new.core.store.rack) _ c.commit_and_count.ensures.calls some) p at;
+  counts = c.in-Ok.ensures.counts;
+}
 
-pub returns-in-Err-clause-ended : goal.returns-in-Err-clause-ended
-returns-in-Err-clause-ended g c =
-    let a = c.args.self.now in
-    let all = c.commit_and_count.ensures in
-    flush_lost g.R.Rack.slot_count g.R.Rack.slot g.R.Rack.told g.met.R.Rack.agrees a _ c.requires.going c.requires.epoch c.requires.writes all.calls all.whole
-    c.in-Err.two refl (ap (λ (m : Meta). Some (end_by (HaltTwo c.in-Err.two) m.gear)) c.meta.ensures) all.moments c.in-Err.ensures.tells
-
-pub returns-in-Ok-clause-told : goal.returns-in-Ok-clause-told
-returns-in-Ok-clause-told g c = extends_core g.R.Rack.told c.args.self.now.core c.commit_and_count.new.core _ c.commit_and_count.ensures.calls
-
-pub returns-in-Err-clause-told : goal.returns-in-Err-clause-told
-returns-in-Err-clause-told g c = extends_core g.R.Rack.told c.args.self.now.core c.commit_and_count.new.core _ c.commit_and_count.ensures.calls
-
-pub returns-in-Ok-clause-two : goal.returns-in-Ok-clause-two
-returns-in-Ok-clause-two g c = going_lost _ _ _ _ c.args.self.now.ended c.requires.going
-
-pub returns-in-Err-clause-two : goal.returns-in-Err-clause-two
-returns-in-Err-clause-two g c =
-    let a = c.args.self.now in
-    two_lost (named_of a.core.store) (named_out a.core.meta.out) (a.serving c.requires.going).serving.serves.stays _ _ _ c.in-Err.two c.in-Err.ensures.two
-
-pub returns-in-Ok-clause-sound : goal.returns-in-Ok-clause-sound
-returns-in-Ok-clause-sound g c some p at =
-    at_point g.R.Rack.slot_count g.R.Rack.told c.args.self.now c.requires.going (c.in-Ok.report ≡ no_faults) (λ h lo t tells stands. c.in-Ok.ensures.sound h lo t tells stands some)
-    (told_before (g.R.Rack.told c.args.self.now.core.store.rack) (g.R.Rack.told c.commit_and_count.new.core.store.rack) _ c.commit_and_count.ensures.calls some) p at
-
-pub returns-in-Ok-clause-later : goal.returns-in-Ok-clause-later
-returns-in-Ok-clause-later g c = no_fall_counts (g.R.Rack.slot (store_rack c.args.self.now.core.store)) (g.R.Rack.slot (store_rack c.commit_and_count.new.core.store)) c.commit_and_count.ensures.no_fall
-
-pub returns-in-Err-clause-later : goal.returns-in-Err-clause-later
-returns-in-Err-clause-later g c = no_fall_counts (g.R.Rack.slot (store_rack c.args.self.now.core.store)) (g.R.Rack.slot (store_rack c.commit_and_count.new.core.store)) c.commit_and_count.ensures.no_fall
+pub returns-in-Err : goal.returns-in-Err
+returns-in-Err g c = record {
+  answers = record {
+    turn =
+        let a = c.args.self.now in
+        let all = c.commit_and_count.ensures in
+        flush_lost g.R.Rack.slot_count g.R.Rack.slot g.R.Rack.told g.met.R.Rack.agrees a _ c.requires.going c.requires.epoch c.requires.writes all.calls all.whole
+        c.in-Err.two refl (ap (λ (m : Meta). Some (end_by (HaltTwo c.in-Err.two) m.gear)) c.meta.ensures) all.moments c.in-Err.ensures.tells;
+    grows = extends_core g.R.Rack.told c.args.self.now.core c.commit_and_count.new.core _ c.commit_and_count.ensures.calls;
+    slots = refl;
+    setup = refl;
+    halt = refl;
+    two =
+        let a = c.args.self.now in
+        two_lost (named_of a.core.store) (named_out a.core.meta.out) (a.serving c.requires.going).serving.serves.stays _ _ _ c.in-Err.two c.in-Err.ensures.two;
+    later = no_fall_counts (g.R.Rack.slot (store_rack c.args.self.now.core.store)) (g.R.Rack.slot (store_rack c.commit_and_count.new.core.store)) c.commit_and_count.ensures.no_fall;
+    kind = refl;
+    few = tt;
+  };
+  sound = tt;
+  counts = tt;
+}

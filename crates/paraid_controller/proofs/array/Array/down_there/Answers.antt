@@ -33,48 +33,51 @@ invariant_of-self g c =
       worn = going_wear c.down.new.core.meta c.args.self.now.ended c.requires.going;
     }
 
-pub returns-in-Ok-clause-turn : goal.returns-in-Ok-clause-turn
-returns-in-Ok-clause-turn g c =
-    let a = c.args.self.now in
-    let x = c.in-Ok.asked in
-    let n = c.meta.result.now.gear in
-    let gear : n ≡ a.core.meta.gear = ap (λ (m : Meta). m.gear) c.meta.ensures in
-    let told = c.asked_told.ensures in
-    let may : MayTellDown x = down_tells a.core.meta c.down.new.core.meta x (λ f s of why. (c.in-Ok.ensures.refused f s of why).0) c.in-Ok.ensures.begins in
-    core_on g.R.Rack.slot_count g.R.Rack.told a _ c.requires.going c.requires.epoch c.requires.writes Down (answer_of c.asked_told.result)
-    (subst (λ (z : Answer). CoreGoesOn g.R.Rack.slot_count g.R.Rack.told a.core c.down.new.core Down z) (sym told)
-    (subst (λ (y : ℕ). CoreGoesOn g.R.Rack.slot_count g.R.Rack.told a.core c.down.new.core Down (asked_answer y x)) (sym gear) c.in-Ok.ensures.turn))
-    (ap halt_told told ∙ down_going n x may) (λ e. let z : Down ≡ Bad = e in cc) c.requires.going refl refl refl
-    (λ s fits. c.saturating_add-self.ensures ∙ ap (λ (y : ℕ). min (a.energy + y) 18446744073709551615) c.asked_energy-used.ensures ∙ asked_used a.setup a.energy s n x ∙ ap (energy_after a.setup a.energy s) (sym told))
+pub returns-in-Ok : goal.returns-in-Ok
+returns-in-Ok g c = record {
+  answers = record {
+    turn =
+        let a = c.args.self.now in
+        let x = c.in-Ok.asked in
+        let n = c.meta.result.now.gear in
+        let gear : n ≡ a.core.meta.gear = ap (λ (m : Meta). m.gear) c.meta.ensures in
+        let told = c.asked_told.ensures in
+        let may : MayTellDown x = down_tells a.core.meta c.down.new.core.meta x (λ f s of why. (c.in-Ok.ensures.refused f s of why).0) c.in-Ok.ensures.begins in
+        core_on g.R.Rack.slot_count g.R.Rack.told a _ c.requires.going c.requires.epoch c.requires.writes Down (answer_of c.asked_told.result)
+        (subst (λ (z : Answer). CoreGoesOn g.R.Rack.slot_count g.R.Rack.told a.core c.down.new.core Down z) (sym told)
+        (subst (λ (y : ℕ). CoreGoesOn g.R.Rack.slot_count g.R.Rack.told a.core c.down.new.core Down (asked_answer y x)) (sym gear) c.in-Ok.ensures.turn))
+        (ap halt_told told ∙ down_going n x may) (λ e. let z : Down ≡ Bad = e in cc) c.requires.going refl refl refl
+        (λ s fits. c.saturating_add-self.ensures ∙ ap (λ (y : ℕ). min (a.energy + y) 18446744073709551615) c.asked_energy-used.ensures ∙ asked_used a.setup a.energy s n x ∙ ap (energy_after a.setup a.energy s) (sym told));
+    grows = c.down.ensures.told;
+    slots = refl;
+    setup = refl;
+    halt =
+        let may : MayTellDown c.in-Ok.asked = down_tells c.args.self.now.core.meta c.down.new.core.meta c.in-Ok.asked (λ f s of why. (c.in-Ok.ensures.refused f s of why).0) c.in-Ok.ensures.begins in
+        ap halt_of_end c.requires.going ∙ sym (ap halt_told c.asked_told.ensures ∙ down_going c.meta.result.now.gear c.in-Ok.asked may);
+    two = going_lost _ _ _ _ c.args.self.now.ended c.requires.going;
+    later = no_fall_counts (g.R.Rack.slot (store_rack c.args.self.now.core.store)) (g.R.Rack.slot (store_rack c.down.new.core.store)) c.down.ensures.no_fall;
+    kind =
+        let may : MayTellDown c.in-Ok.asked = down_tells c.args.self.now.core.meta c.down.new.core.meta c.in-Ok.asked (λ f s of why. (c.in-Ok.ensures.refused f s of why).0) c.in-Ok.ensures.begins in
+        ap (is_answer_to Down) c.asked_told.ensures ∙ down_kind c.meta.result.now.gear c.in-Ok.asked may;
+    few = subst HasFewDisks (sym c.asked_told.ensures) (asked_few c.meta.result.now.gear c.in-Ok.asked);
+  };
+}
 
-pub returns-in-Err-clause-turn : goal.returns-in-Err-clause-turn
-returns-in-Err-clause-turn g c =
-    core_halts g.R.Rack.slot_count g.R.Rack.told c.args.self.now _ c.requires.going c.requires.epoch c.requires.writes Down c.in-Err.two c.in-Err.ensures.halts refl
-    (ap (λ (m : Meta). Some (end_by (HaltTwo c.in-Err.two) m.gear)) c.meta.ensures)
-
-pub returns-in-Ok-clause-halt : goal.returns-in-Ok-clause-halt
-returns-in-Ok-clause-halt g c =
-    let may : MayTellDown c.in-Ok.asked = down_tells c.args.self.now.core.meta c.down.new.core.meta c.in-Ok.asked (λ f s of why. (c.in-Ok.ensures.refused f s of why).0) c.in-Ok.ensures.begins in
-    ap halt_of_end c.requires.going ∙ sym (ap halt_told c.asked_told.ensures ∙ down_going c.meta.result.now.gear c.in-Ok.asked may)
-
-pub returns-in-Ok-clause-kind : goal.returns-in-Ok-clause-kind
-returns-in-Ok-clause-kind g c =
-    let may : MayTellDown c.in-Ok.asked = down_tells c.args.self.now.core.meta c.down.new.core.meta c.in-Ok.asked (λ f s of why. (c.in-Ok.ensures.refused f s of why).0) c.in-Ok.ensures.begins in
-    ap (is_answer_to Down) c.asked_told.ensures ∙ down_kind c.meta.result.now.gear c.in-Ok.asked may
-
-pub returns-in-Ok-clause-few : goal.returns-in-Ok-clause-few
-returns-in-Ok-clause-few g c = subst HasFewDisks (sym c.asked_told.ensures) (asked_few c.meta.result.now.gear c.in-Ok.asked)
-
-pub returns-in-Ok-clause-two : goal.returns-in-Ok-clause-two
-returns-in-Ok-clause-two g c = going_lost _ _ _ _ c.args.self.now.ended c.requires.going
-
-pub returns-in-Err-clause-two : goal.returns-in-Err-clause-two
-returns-in-Err-clause-two g c =
-    let a = c.args.self.now in
-    two_lost (named_of a.core.store) (named_out a.core.meta.out) (a.serving c.requires.going).serving.serves.stays _ _ _ c.in-Err.two c.in-Err.ensures.two
-
-pub returns-in-Ok-clause-later : goal.returns-in-Ok-clause-later
-returns-in-Ok-clause-later g c = no_fall_counts (g.R.Rack.slot (store_rack c.args.self.now.core.store)) (g.R.Rack.slot (store_rack c.down.new.core.store)) c.down.ensures.no_fall
-
-pub returns-in-Err-clause-later : goal.returns-in-Err-clause-later
-returns-in-Err-clause-later g c = no_fall_counts (g.R.Rack.slot (store_rack c.args.self.now.core.store)) (g.R.Rack.slot (store_rack c.down.new.core.store)) c.down.ensures.no_fall
+pub returns-in-Err : goal.returns-in-Err
+returns-in-Err g c = record {
+  answers = record {
+    turn =
+        core_halts g.R.Rack.slot_count g.R.Rack.told c.args.self.now _ c.requires.going c.requires.epoch c.requires.writes Down c.in-Err.two c.in-Err.ensures.halts refl
+        (ap (λ (m : Meta). Some (end_by (HaltTwo c.in-Err.two) m.gear)) c.meta.ensures);
+    grows = c.down.ensures.told;
+    slots = refl;
+    setup = refl;
+    halt = refl;
+    two =
+        let a = c.args.self.now in
+        two_lost (named_of a.core.store) (named_out a.core.meta.out) (a.serving c.requires.going).serving.serves.stays _ _ _ c.in-Err.two c.in-Err.ensures.two;
+    later = no_fall_counts (g.R.Rack.slot (store_rack c.args.self.now.core.store)) (g.R.Rack.slot (store_rack c.down.new.core.store)) c.down.ensures.no_fall;
+    kind = refl;
+    few = tt;
+  };
+}

@@ -1,26 +1,36 @@
-use Rattle.std.proofs.Common.{ℕ, ◌^◌, ◌<◌, ◌≤◌, subst}
+use Rattle.std.specs.Prelude.{max}
+use Rattle.std.proofs.Common.{◌≡◌, ℕ, ◌^◌, ◌<◌, ◌≤◌, refl, subst}
+use Rattle.paraid_base.specs.declared.event.Event.TheVariants.{Read}
+use Rattle.paraid_base.specs.declared.event.Answer.TheVariants.{NoBlock}
 use Rattle.paraid_record.specs.declared.meta.Meta.{Meta}
-use Rattle.paraid_controller.proofs.QuietLemmas.{read_refused}
-use Rattle.paraid_controller.proofs.LossLemmas.{going_lost}
 use Rattle.paraid_controller.proofs.StandLemmas.{none_ended}
-use Rattle.paraid_txn.specs.Stores.{store_rack}
-use Rattle.paraid_session.proofs.FaultLemmas.{same_counts}
-use Rattle.paraid_array.proofs.ToldLemmas.{extends_none}
+use Rattle.paraid_controller.proofs.AnswerLemmas.{same_test}
+use Rattle.paraid_controller.proofs.AnswersLemmas.{quiet_answers}
+use Rattle.paraid_controller.proofs.QuietLemmas.{read_refused}
 use Rattle.paraid_controller.proofs.array.Array.read.Goals as goal
 
-pub returns-then-block-blocks-clause-turn : goal.returns-then-block-blocks-clause-turn
-returns-then-block-blocks-clause-turn g c =
+pub wear_out-requires : goal.wear_out-requires
+wear_out-requires g c =
+    let many = subst (λ (m : Meta). (2 ^ 62 ≤ c.in-Some.count) × (c.in-Some.count ≡ max m.epoch m.writes)) c.meta.ensures c.in-Some.ensures.worn in
+    record { going = c.requires.going; many = many.0; is = many.1 }
+
+pub returns-in-Some : goal.returns-in-Some
+returns-in-Some g c = record { answers = c.wear_out.ensures.answers (Read c.args.block) refl }
+
+pub returns-then-block-blocks : goal.returns-then-block-blocks
+returns-then-block-blocks g c =
+    let a = c.args.self.now in
     let fit = subst (λ (m : Meta). (m.epoch < 2 ^ 62) × (m.writes < 2 ^ 62)) c.meta.ensures c.in_default.ensures.fit in
-    read_refused g.R.Rack.slot_count g.R.Rack.told c.args.self.now c.requires.going fit.0 fit.1 c.args.block (subst (λ (n : ℕ). n ≤ c.args.block) c.blocks-2.ensures.value c.if-block-blocks.true)
+    record {
+      answers =
+          quiet_answers g.R.Rack.slot_count g.R.Rack.slot g.R.Rack.told a (Read c.args.block) (NoBlock c.args.block) c.requires.going
+          (read_refused g.R.Rack.slot_count g.R.Rack.told a c.requires.going fit.0 fit.1 c.args.block (subst (λ (n : ℕ). n ≤ c.args.block) c.blocks-2.ensures.value c.if-block-blocks.true)) refl (same_test c.args.block c.args.block refl) tt;
+    }
 
-pub returns-then-block-blocks-clause-two : goal.returns-then-block-blocks-clause-two
-returns-then-block-blocks-clause-two g c = going_lost _ _ _ _ c.args.self.now.ended (none_ended c.args.self.now.ended c.requires.going)
+pub read_there-requires : goal.read_there-requires
+read_there-requires g c =
+    let fit = subst (λ (m : Meta). (m.epoch < 2 ^ 62) × (m.writes < 2 ^ 62)) c.meta.ensures c.in_default.ensures.fit in
+    record { going = none_ended c.args.self.now.ended c.requires.going; epoch = fit.0; writes = fit.1; block = subst (λ (n : ℕ). c.args.block < n) c.blocks-2.ensures.value c.if-block-blocks.false }
 
-pub returns-then-block-blocks-clause-later : goal.returns-then-block-blocks-clause-later
-returns-then-block-blocks-clause-later g c = same_counts (g.R.Rack.slot (store_rack c.args.self.now.core.store))
-
-pub returns-in-Some-clause-two : goal.returns-in-Some-clause-two
-returns-in-Some-clause-two g c = c.wear_out.ensures.two _
-
-pub returns-then-block-blocks-clause-told : goal.returns-then-block-blocks-clause-told
-returns-then-block-blocks-clause-told g c = extends_none _
+pub returns : goal.returns
+returns g c = record { answers = c.read_there.ensures.answers }

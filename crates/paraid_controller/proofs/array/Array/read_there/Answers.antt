@@ -1,3 +1,5 @@
+use Rattle.paraid_controller.proofs.AnswerLemmas.{same_test}
+use Rattle.paraid_controller.specs.Lasting.{halt_of_end}
 use Rattle.std.proofs.Common.{refl, ap, Some}
 use Rattle.paraid_base.specs.declared.fault.Halt.TheVariants.{Two as HaltTwo}
 use Rattle.paraid_record.specs.declared.meta.Meta.{Meta}
@@ -24,38 +26,44 @@ invariant_of-self g c =
       worn = going_wear c.read.new.self.meta c.args.self.now.ended c.requires.going;
     }
 
-pub returns-in-Ok-clause-turn : goal.returns-in-Ok-clause-turn
-returns-in-Ok-clause-turn g c =
-    let a = c.args.self.now in
-    let all = c.read.ensures in
-    let done = c.in-Ok.ensures in
-    read_on g.R.Rack.slot_count g.R.Rack.slot g.R.Rack.told g.met.R.Rack.agrees a _ c.requires.going c.requires.epoch c.requires.writes (read_commits_first c.args.self.now.core.meta c.args.self.now.core.dirty c.args.self.now.core.batch c.args.block) all.calls all.kept all.whole
-    c.requires.going refl refl c.one_more-self.ensures refl done.marks done.ready done.setup all.slots (copies_kept a.core c.read.new.self done.setup all.copied (a.serving c.requires.going).serving.copies_synced)
-    c.args.block c.read.new.into c.requires.block done.stands done.value (a.serving c.requires.going).same_setup done.bits
+pub returns-in-Ok : goal.returns-in-Ok
+returns-in-Ok g c = record {
+  answers = record {
+    turn =
+        let a = c.args.self.now in
+        let all = c.read.ensures in
+        let done = c.in-Ok.ensures in
+        read_on g.R.Rack.slot_count g.R.Rack.slot g.R.Rack.told g.met.R.Rack.agrees a _ c.requires.going c.requires.epoch c.requires.writes (read_commits_first c.args.self.now.core.meta c.args.self.now.core.dirty c.args.self.now.core.batch c.args.block) all.calls all.kept all.whole
+        c.requires.going refl refl c.one_more-self.ensures refl done.marks done.ready done.setup all.slots (copies_kept a.core c.read.new.self done.setup all.copied (a.serving c.requires.going).serving.copies_synced)
+        c.args.block c.read.new.into c.requires.block done.stands done.value (a.serving c.requires.going).same_setup done.bits;
+    grows = extends_core g.R.Rack.told c.args.self.now.core c.read.new.self _ c.read.ensures.calls;
+    slots = refl;
+    setup = refl;
+    halt = ap halt_of_end c.requires.going;
+    two = going_lost _ _ _ _ c.args.self.now.ended c.requires.going;
+    later = no_fall_counts (g.R.Rack.slot (store_rack c.args.self.now.core.store)) (g.R.Rack.slot (store_rack c.read.new.self.store)) c.read.ensures.spared.no_fall;
+    kind = same_test c.args.block c.args.block refl;
+    few = tt;
+  };
+}
 
-pub returns-in-Err-clause-turn : goal.returns-in-Err-clause-turn
-returns-in-Err-clause-turn g c =
-    let a = c.args.self.now in
-    let all = c.read.ensures in
-    read_lost g.R.Rack.slot_count g.R.Rack.slot g.R.Rack.told g.met.R.Rack.agrees a _ c.requires.going c.requires.epoch c.requires.writes (read_commits_first c.args.self.now.core.meta c.args.self.now.core.dirty c.args.self.now.core.batch c.args.block) all.calls all.kept all.whole
-    c.in-Err.two refl (ap (λ (m : Meta). Some (end_by (HaltTwo c.in-Err.two) m.gear)) c.meta.ensures) all.moments c.in-Err.ensures.tells c.args.block c.requires.block
-
-pub returns-in-Ok-clause-told : goal.returns-in-Ok-clause-told
-returns-in-Ok-clause-told g c = extends_core g.R.Rack.told c.args.self.now.core c.read.new.self _ c.read.ensures.calls
-
-pub returns-in-Err-clause-told : goal.returns-in-Err-clause-told
-returns-in-Err-clause-told g c = extends_core g.R.Rack.told c.args.self.now.core c.read.new.self _ c.read.ensures.calls
-
-pub returns-in-Ok-clause-two : goal.returns-in-Ok-clause-two
-returns-in-Ok-clause-two g c = going_lost _ _ _ _ c.args.self.now.ended c.requires.going
-
-pub returns-in-Err-clause-two : goal.returns-in-Err-clause-two
-returns-in-Err-clause-two g c =
-    let a = c.args.self.now in
-    two_lost (named_of a.core.store) (named_out a.core.meta.out) (a.serving c.requires.going).serving.serves.stays _ _ _ c.in-Err.two c.in-Err.ensures.two
-
-pub returns-in-Ok-clause-later : goal.returns-in-Ok-clause-later
-returns-in-Ok-clause-later g c = no_fall_counts (g.R.Rack.slot (store_rack c.args.self.now.core.store)) (g.R.Rack.slot (store_rack c.read.new.self.store)) c.read.ensures.spared.no_fall
-
-pub returns-in-Err-clause-later : goal.returns-in-Err-clause-later
-returns-in-Err-clause-later g c = no_fall_counts (g.R.Rack.slot (store_rack c.args.self.now.core.store)) (g.R.Rack.slot (store_rack c.read.new.self.store)) c.read.ensures.spared.no_fall
+pub returns-in-Err : goal.returns-in-Err
+returns-in-Err g c = record {
+  answers = record {
+    turn =
+        let a = c.args.self.now in
+        let all = c.read.ensures in
+        read_lost g.R.Rack.slot_count g.R.Rack.slot g.R.Rack.told g.met.R.Rack.agrees a _ c.requires.going c.requires.epoch c.requires.writes (read_commits_first c.args.self.now.core.meta c.args.self.now.core.dirty c.args.self.now.core.batch c.args.block) all.calls all.kept all.whole
+        c.in-Err.two refl (ap (λ (m : Meta). Some (end_by (HaltTwo c.in-Err.two) m.gear)) c.meta.ensures) all.moments c.in-Err.ensures.tells c.args.block c.requires.block;
+    grows = extends_core g.R.Rack.told c.args.self.now.core c.read.new.self _ c.read.ensures.calls;
+    slots = refl;
+    setup = refl;
+    halt = refl;
+    two =
+        let a = c.args.self.now in
+        two_lost (named_of a.core.store) (named_out a.core.meta.out) (a.serving c.requires.going).serving.serves.stays _ _ _ c.in-Err.two c.in-Err.ensures.two;
+    later = no_fall_counts (g.R.Rack.slot (store_rack c.args.self.now.core.store)) (g.R.Rack.slot (store_rack c.read.new.self.store)) c.read.ensures.spared.no_fall;
+    kind = refl;
+    few = tt;
+  };
+}

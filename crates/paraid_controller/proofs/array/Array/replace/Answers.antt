@@ -1,26 +1,36 @@
-use Rattle.std.proofs.Common.{ℕ, ◌^◌, ◌<◌, ◌≤◌, subst}
+use Rattle.std.specs.Prelude.{max}
+use Rattle.std.proofs.Common.{◌≡◌, ℕ, ◌^◌, ◌<◌, ◌≤◌, refl, subst}
+use Rattle.paraid_base.specs.declared.event.Event.TheVariants.{Replace}
+use Rattle.paraid_base.specs.declared.event.Answer.TheVariants.{NoDisk}
 use Rattle.paraid_record.specs.declared.meta.Meta.{Meta}
-use Rattle.paraid_controller.proofs.QuietLemmas.{replace_refused}
-use Rattle.paraid_controller.proofs.LossLemmas.{going_lost}
 use Rattle.paraid_controller.proofs.StandLemmas.{none_ended}
-use Rattle.paraid_txn.specs.Stores.{store_rack}
-use Rattle.paraid_session.proofs.FaultLemmas.{same_counts}
-use Rattle.paraid_array.proofs.ToldLemmas.{extends_none}
+use Rattle.paraid_controller.proofs.AnswerLemmas.{same_test}
+use Rattle.paraid_controller.proofs.AnswersLemmas.{quiet_answers}
+use Rattle.paraid_controller.proofs.QuietLemmas.{replace_refused}
 use Rattle.paraid_controller.proofs.array.Array.replace.Goals as goal
 
-pub returns-then-disk-disks-clause-turn : goal.returns-then-disk-disks-clause-turn
-returns-then-disk-disks-clause-turn g c =
+pub wear_out-requires : goal.wear_out-requires
+wear_out-requires g c =
+    let many = subst (λ (m : Meta). (2 ^ 62 ≤ c.in-Some.count) × (c.in-Some.count ≡ max m.epoch m.writes)) c.meta.ensures c.in-Some.ensures.worn in
+    record { going = c.requires.going; many = many.0; is = many.1 }
+
+pub returns-in-Some : goal.returns-in-Some
+returns-in-Some g c = record { answers = c.wear_out.ensures.answers (Replace c.args.disk) refl }
+
+pub returns-then-disk-disks : goal.returns-then-disk-disks
+returns-then-disk-disks g c =
+    let a = c.args.self.now in
     let fit = subst (λ (m : Meta). (m.epoch < 2 ^ 62) × (m.writes < 2 ^ 62)) c.meta.ensures c.in_default.ensures.fit in
-    replace_refused g.R.Rack.slot_count g.R.Rack.told c.args.self.now c.requires.going fit.0 fit.1 c.args.disk (subst (λ (n : ℕ). n ≤ c.args.disk) c.disks.ensures.value c.if-disk-disks.true)
+    record {
+      answers =
+          quiet_answers g.R.Rack.slot_count g.R.Rack.slot g.R.Rack.told a (Replace c.args.disk) (NoDisk c.args.disk) c.requires.going
+          (replace_refused g.R.Rack.slot_count g.R.Rack.told a c.requires.going fit.0 fit.1 c.args.disk (subst (λ (n : ℕ). n ≤ c.args.disk) c.disks.ensures.value c.if-disk-disks.true)) refl (same_test c.args.disk c.args.disk refl) tt;
+    }
 
-pub returns-then-disk-disks-clause-two : goal.returns-then-disk-disks-clause-two
-returns-then-disk-disks-clause-two g c = going_lost _ _ _ _ c.args.self.now.ended (none_ended c.args.self.now.ended c.requires.going)
+pub replace_there-requires : goal.replace_there-requires
+replace_there-requires g c =
+    let fit = subst (λ (m : Meta). (m.epoch < 2 ^ 62) × (m.writes < 2 ^ 62)) c.meta.ensures c.in_default.ensures.fit in
+    record { going = none_ended c.args.self.now.ended c.requires.going; epoch = fit.0; writes = fit.1 }
 
-pub returns-then-disk-disks-clause-later : goal.returns-then-disk-disks-clause-later
-returns-then-disk-disks-clause-later g c = same_counts (g.R.Rack.slot (store_rack c.args.self.now.core.store))
-
-pub returns-in-Some-clause-two : goal.returns-in-Some-clause-two
-returns-in-Some-clause-two g c = c.wear_out.ensures.two _
-
-pub returns-then-disk-disks-clause-told : goal.returns-then-disk-disks-clause-told
-returns-then-disk-disks-clause-told g c = extends_none _
+pub returns : goal.returns
+returns g c = record { answers = c.replace_there.ensures.answers }

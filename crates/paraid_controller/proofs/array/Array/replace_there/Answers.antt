@@ -36,35 +36,44 @@ invariant_of-self g c =
       worn = going_wear c.replace.new.core.meta c.args.self.now.ended c.requires.going;
     }
 
-pub returns-in-Ok-clause-turn : goal.returns-in-Ok-clause-turn
-returns-in-Ok-clause-turn g c =
-    let a = c.args.self.now in
-    let d = c.args.disk in
-    let r = c.in-Ok.refusal in
-    let told = c.replace_told.ensures in
-    core_on g.R.Rack.slot_count g.R.Rack.told a _ c.requires.going c.requires.epoch c.requires.writes (Replace d) (answer_of c.replace_told.result)
-    (subst (λ (z : Answer). CoreGoesOn g.R.Rack.slot_count g.R.Rack.told a.core c.replace.new.core (Replace d) z) (sym told) c.in-Ok.ensures.turn)
-    (ap halt_told told ∙ replace_going d a.core.meta r c.in-Ok.ensures.refused) (λ e. let z : Replace d ≡ Bad = e in cc) c.requires.going refl refl refl
-    (λ s fits. uses_none a.setup a.energy s (answer_of c.replace_told.result) (ap (energy_of a.setup s) told ∙ replace_uses a.setup s d r) fits)
+pub returns-in-Ok : goal.returns-in-Ok
+returns-in-Ok g c = record {
+  answers = record {
+    turn =
+        let a = c.args.self.now in
+        let d = c.args.disk in
+        let r = c.in-Ok.refusal in
+        let told = c.replace_told.ensures in
+        core_on g.R.Rack.slot_count g.R.Rack.told a _ c.requires.going c.requires.epoch c.requires.writes (Replace d) (answer_of c.replace_told.result)
+        (subst (λ (z : Answer). CoreGoesOn g.R.Rack.slot_count g.R.Rack.told a.core c.replace.new.core (Replace d) z) (sym told) c.in-Ok.ensures.turn)
+        (ap halt_told told ∙ replace_going d a.core.meta r c.in-Ok.ensures.refused) (λ e. let z : Replace d ≡ Bad = e in cc) c.requires.going refl refl refl
+        (λ s fits. uses_none a.setup a.energy s (answer_of c.replace_told.result) (ap (energy_of a.setup s) told ∙ replace_uses a.setup s d r) fits);
+    grows = c.replace.ensures.told;
+    slots = refl;
+    setup = refl;
+    halt = ap halt_of_end c.requires.going ∙ sym (ap halt_told c.replace_told.ensures ∙ replace_going c.args.disk c.args.self.now.core.meta c.in-Ok.refusal c.in-Ok.ensures.refused);
+    two = going_lost _ _ _ _ c.args.self.now.ended c.requires.going;
+    later = c.replace.ensures.later;
+    kind = ap (is_answer_to (Replace c.args.disk)) c.replace_told.ensures ∙ replace_kind c.args.disk c.args.self.now.core.meta c.in-Ok.refusal c.in-Ok.ensures.refused;
+    few = subst HasFewDisks (sym c.replace_told.ensures) (replace_few c.args.disk c.in-Ok.refusal);
+  };
+}
 
-pub returns-in-Err-clause-turn : goal.returns-in-Err-clause-turn
-returns-in-Err-clause-turn g c =
-    core_halts g.R.Rack.slot_count g.R.Rack.told c.args.self.now _ c.requires.going c.requires.epoch c.requires.writes (Replace c.args.disk) c.in-Err.two c.in-Err.ensures.halts refl
-    (ap (λ (m : Meta). Some (end_by (HaltTwo c.in-Err.two) m.gear)) c.meta.ensures)
-
-pub returns-in-Ok-clause-halt : goal.returns-in-Ok-clause-halt
-returns-in-Ok-clause-halt g c = ap halt_of_end c.requires.going ∙ sym (ap halt_told c.replace_told.ensures ∙ replace_going c.args.disk c.args.self.now.core.meta c.in-Ok.refusal c.in-Ok.ensures.refused)
-
-pub returns-in-Ok-clause-kind : goal.returns-in-Ok-clause-kind
-returns-in-Ok-clause-kind g c = ap (is_answer_to (Replace c.args.disk)) c.replace_told.ensures ∙ replace_kind c.args.disk c.args.self.now.core.meta c.in-Ok.refusal c.in-Ok.ensures.refused
-
-pub returns-in-Ok-clause-few : goal.returns-in-Ok-clause-few
-returns-in-Ok-clause-few g c = subst HasFewDisks (sym c.replace_told.ensures) (replace_few c.args.disk c.in-Ok.refusal)
-
-pub returns-in-Ok-clause-two : goal.returns-in-Ok-clause-two
-returns-in-Ok-clause-two g c = going_lost _ _ _ _ c.args.self.now.ended c.requires.going
-
-pub returns-in-Err-clause-two : goal.returns-in-Err-clause-two
-returns-in-Err-clause-two g c =
-    let a = c.args.self.now in
-    two_lost (named_of a.core.store) (named_out a.core.meta.out) (a.serving c.requires.going).serving.serves.stays _ _ _ c.in-Err.two c.in-Err.ensures.two
+pub returns-in-Err : goal.returns-in-Err
+returns-in-Err g c = record {
+  answers = record {
+    turn =
+        core_halts g.R.Rack.slot_count g.R.Rack.told c.args.self.now _ c.requires.going c.requires.epoch c.requires.writes (Replace c.args.disk) c.in-Err.two c.in-Err.ensures.halts refl
+        (ap (λ (m : Meta). Some (end_by (HaltTwo c.in-Err.two) m.gear)) c.meta.ensures);
+    grows = c.replace.ensures.told;
+    slots = refl;
+    setup = refl;
+    halt = refl;
+    two =
+        let a = c.args.self.now in
+        two_lost (named_of a.core.store) (named_out a.core.meta.out) (a.serving c.requires.going).serving.serves.stays _ _ _ c.in-Err.two c.in-Err.ensures.two;
+    later = c.replace.ensures.later;
+    kind = refl;
+    few = tt;
+  };
+}

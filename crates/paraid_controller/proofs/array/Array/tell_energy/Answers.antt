@@ -1,5 +1,13 @@
+use Rattle.std.proofs.Common.{refl}
+use Rattle.paraid_base.specs.declared.event.Answer.TheVariants.{Energy as IsEnergy}
+use Rattle.paraid_base.specs.declared.event.Event.TheVariants.{Energy}
+use Rattle.paraid_controller.proofs.AnswersLemmas.{quiet_answers}
 use Rattle.paraid_controller.proofs.QuietLemmas.{energy_asked}
 use Rattle.paraid_controller.proofs.array.Array.tell_energy.Goals as goal
 
-pub returns-clause-turn : goal.returns-clause-turn
-returns-clause-turn g c = energy_asked g.R.Rack.slot_count g.R.Rack.told c.args.self.now c.requires.going
+pub returns : goal.returns
+returns g c = record {
+  answers =
+      quiet_answers g.R.Rack.slot_count g.R.Rack.slot g.R.Rack.told c.args.self.now Energy (IsEnergy c.args.self.now.energy) c.requires.going
+      (energy_asked g.R.Rack.slot_count g.R.Rack.told c.args.self.now c.requires.going) refl refl tt;
+}

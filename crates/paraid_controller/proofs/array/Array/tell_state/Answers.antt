@@ -1,5 +1,13 @@
+use Rattle.std.proofs.Common.{refl}
+use Rattle.paraid_base.specs.declared.event.Answer.TheVariants.{State as IsState}
+use Rattle.paraid_base.specs.declared.event.Event.TheVariants.{State}
+use Rattle.paraid_controller.proofs.AnswersLemmas.{quiet_answers}
 use Rattle.paraid_controller.proofs.QuietLemmas.{state_told}
 use Rattle.paraid_controller.proofs.array.Array.tell_state.Goals as goal
 
-pub returns-clause-turn : goal.returns-clause-turn
-returns-clause-turn g c = state_told g.R.Rack.slot_count g.R.Rack.told c.args.self.now c.requires.going c.status-beside.result c.disks.result c.disks.ensures.value c.status-beside.ensures.point
+pub returns : goal.returns
+returns g c = record {
+  answers =
+      quiet_answers g.R.Rack.slot_count g.R.Rack.slot g.R.Rack.told c.args.self.now State (IsState c.status-beside.result c.disks.result) c.requires.going
+      (state_told g.R.Rack.slot_count g.R.Rack.told c.args.self.now c.requires.going c.status-beside.result c.disks.result c.disks.ensures.value c.status-beside.ensures.point) refl refl c.disks.ensures.few;
+}

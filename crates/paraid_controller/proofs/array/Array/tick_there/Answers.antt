@@ -1,3 +1,4 @@
+use Rattle.paraid_controller.specs.Lasting.{halt_of_end}
 use Rattle.std.proofs.Common.{refl, sym, ap, ◌∙◌, ◌+◌, ◌^◌, ◌<◌, ◌≤◌, Some, ℕ, min, subst}
 use Rattle.paraid_base.specs.declared.fault.Halt.TheVariants.{Two as HaltTwo}
 use Rattle.paraid_gear.specs.ThreeWindows.{lengths_of}
@@ -60,53 +61,59 @@ invariant_of-self g c =
       worn = going_wear c.advance.new.core.meta c.args.self.now.ended c.requires.going;
     }
 
-pub returns-in-Ok-clause-turn : goal.returns-in-Ok-clause-turn
-returns-in-Ok-clause-turn g c =
-    let a = c.args.self.now in
-    let t = c.count_tick.ensures in
-    ticks_on g.R.Rack.slot_count g.R.Rack.told a _ c.count_tick.new.self c.requires.going c.requires.epoch c.requires.writes t.store t.meta t.table t.batch t.copied c.saturating_add-self.result
-    (λ s gear phase out. c.saturating_add-self.ensures
-    ∙ ap (λ (n : ℕ). min (a.energy + n) 18446744073709551615) (c.energy_of_tick-used.ensures ∙ ap (λ (m : Meta). sum_before (used_by m) m.setup.geometry.disks) c.meta-2.ensures ∙ tick_uses a.core.meta s gear phase out))
-    c.push.ensures.more (report c.meta-in-Ok.result.now.gear c.in-Ok.moved c.in-Ok.event)
-    (subst (λ (m : Meta). CoreTicks g.R.Rack.slot_count g.R.Rack.told c.push.new.self c.count_tick.new.self c.advance.new.core (report m.gear c.in-Ok.moved c.in-Ok.event)) (sym c.meta-in-Ok.ensures) c.in-Ok.ensures.turn)
-    c.requires.going refl refl
-    (c.saturating_add-self-in-Ok.ensures ∙ ap (λ (n : ℕ). min (c.saturating_add-self.result + n) 18446744073709551615)
-    (c.begun_energy-begun.ensures ∙ ap (λ (m : Meta). begun_energy a.setup m.gear c.in-Ok.event) c.meta.ensures))
+pub returns-in-Ok : goal.returns-in-Ok
+returns-in-Ok g c = record {
+  answers = record {
+    turn =
+        let a = c.args.self.now in
+        let t = c.count_tick.ensures in
+        ticks_on g.R.Rack.slot_count g.R.Rack.told a _ c.count_tick.new.self c.requires.going c.requires.epoch c.requires.writes t.store t.meta t.table t.batch t.copied c.saturating_add-self.result
+        (λ s gear phase out. c.saturating_add-self.ensures
+        ∙ ap (λ (n : ℕ). min (a.energy + n) 18446744073709551615) (c.energy_of_tick-used.ensures ∙ ap (λ (m : Meta). sum_before (used_by m) m.setup.geometry.disks) c.meta-2.ensures ∙ tick_uses a.core.meta s gear phase out))
+        c.push.ensures.more (report c.meta-in-Ok.result.now.gear c.in-Ok.moved c.in-Ok.event)
+        (subst (λ (m : Meta). CoreTicks g.R.Rack.slot_count g.R.Rack.told c.push.new.self c.count_tick.new.self c.advance.new.core (report m.gear c.in-Ok.moved c.in-Ok.event)) (sym c.meta-in-Ok.ensures) c.in-Ok.ensures.turn)
+        c.requires.going refl refl
+        (c.saturating_add-self-in-Ok.ensures ∙ ap (λ (n : ℕ). min (c.saturating_add-self.result + n) 18446744073709551615)
+        (c.begun_energy-begun.ensures ∙ ap (λ (m : Meta). begun_energy a.setup m.gear c.in-Ok.event) c.meta.ensures));
+    grows = extends_store g.R.Rack.told c.args.self.now.core c.count_tick.new.self c.advance.new.core c.count_tick.ensures.store c.advance.ensures.told;
+    slots = refl;
+    setup = refl;
+    halt = ap halt_of_end c.requires.going;
+    two = going_lost _ _ _ _ c.args.self.now.ended c.requires.going;
+    later =
+        let new = g.R.Rack.slot (store_rack c.advance.new.core.store) in
+        no_fall_counts (g.R.Rack.slot (store_rack c.args.self.now.core.store)) new (subst (λ (s : Store _ _). (d : ℕ) → (g.R.Rack.slot (store_rack s) d).faults ≤ (new d).faults) c.count_tick.ensures.store c.advance.ensures.no_fall);
+    kind = refl;
+    few = tt;
+  };
+}
 
-pub returns-in-Err-clause-turn : goal.returns-in-Err-clause-turn
-returns-in-Err-clause-turn g c =
-    let a = c.args.self.now in
-    let t = c.count_tick.ensures in
-    tick_halts g.R.Rack.slot_count g.R.Rack.told a _ c.count_tick.new.self c.requires.going c.requires.epoch c.requires.writes t.store t.meta t.table t.batch t.copied c.saturating_add-self.result
-    (λ s gear phase out. c.saturating_add-self.ensures
-    ∙ ap (λ (n : ℕ). min (a.energy + n) 18446744073709551615) (c.energy_of_tick-used.ensures ∙ ap (λ (m : Meta). sum_before (used_by m) m.setup.geometry.disks) c.meta-2.ensures ∙ tick_uses a.core.meta s gear phase out))
-    c.push.ensures.more c.in-Err.two c.in-Err.ensures.halts refl (ap (λ (m : Meta). Some (end_by (HaltTwo c.in-Err.two) m.gear)) c.meta.ensures)
-
-pub returns-in-Ok-clause-two : goal.returns-in-Ok-clause-two
-returns-in-Ok-clause-two g c = going_lost _ _ _ _ c.args.self.now.ended c.requires.going
-
-pub returns-in-Err-clause-two : goal.returns-in-Err-clause-two
-returns-in-Err-clause-two g c =
-    let a = c.args.self.now in
-    let t = c.count_tick.ensures in
-    let new = g.R.Rack.slot (store_rack c.advance.new.core.store) in
-    let counted : AreTwoDown (or_else (named_of a.core.store) (named_out c.count_tick.new.self.meta.out)) (g.R.Rack.slot (store_rack a.core.store)) new c.in-Err.two =
-    subst (λ (s : Store _ _). AreTwoDown (or_else (named_of s) (named_out c.count_tick.new.self.meta.out)) (g.R.Rack.slot (store_rack s)) new c.in-Err.two) t.store c.in-Err.ensures.two in
-    two_lost (named_of a.core.store) (named_out a.core.meta.out) (a.serving c.requires.going).serving.serves.stays _ _ _ c.in-Err.two
-    (subst (λ (m : Meta). AreTwoDown (or_else (named_of a.core.store) (named_out m.out)) (g.R.Rack.slot (store_rack a.core.store)) new c.in-Err.two) t.meta counted)
-
-pub returns-in-Ok-clause-later : goal.returns-in-Ok-clause-later
-returns-in-Ok-clause-later g c =
-    let new = g.R.Rack.slot (store_rack c.advance.new.core.store) in
-    no_fall_counts (g.R.Rack.slot (store_rack c.args.self.now.core.store)) new (subst (λ (s : Store _ _). (d : ℕ) → (g.R.Rack.slot (store_rack s) d).faults ≤ (new d).faults) c.count_tick.ensures.store c.advance.ensures.no_fall)
-
-pub returns-in-Err-clause-later : goal.returns-in-Err-clause-later
-returns-in-Err-clause-later g c =
-    let new = g.R.Rack.slot (store_rack c.advance.new.core.store) in
-    no_fall_counts (g.R.Rack.slot (store_rack c.args.self.now.core.store)) new (subst (λ (s : Store _ _). (d : ℕ) → (g.R.Rack.slot (store_rack s) d).faults ≤ (new d).faults) c.count_tick.ensures.store c.advance.ensures.no_fall)
-
-pub returns-in-Ok-clause-told : goal.returns-in-Ok-clause-told
-returns-in-Ok-clause-told g c = extends_store g.R.Rack.told c.args.self.now.core c.count_tick.new.self c.advance.new.core c.count_tick.ensures.store c.advance.ensures.told
-
-pub returns-in-Err-clause-told : goal.returns-in-Err-clause-told
-returns-in-Err-clause-told g c = extends_store g.R.Rack.told c.args.self.now.core c.count_tick.new.self c.advance.new.core c.count_tick.ensures.store c.advance.ensures.told
+pub returns-in-Err : goal.returns-in-Err
+returns-in-Err g c = record {
+  answers = record {
+    turn =
+        let a = c.args.self.now in
+        let t = c.count_tick.ensures in
+        tick_halts g.R.Rack.slot_count g.R.Rack.told a _ c.count_tick.new.self c.requires.going c.requires.epoch c.requires.writes t.store t.meta t.table t.batch t.copied c.saturating_add-self.result
+        (λ s gear phase out. c.saturating_add-self.ensures
+        ∙ ap (λ (n : ℕ). min (a.energy + n) 18446744073709551615) (c.energy_of_tick-used.ensures ∙ ap (λ (m : Meta). sum_before (used_by m) m.setup.geometry.disks) c.meta-2.ensures ∙ tick_uses a.core.meta s gear phase out))
+        c.push.ensures.more c.in-Err.two c.in-Err.ensures.halts refl (ap (λ (m : Meta). Some (end_by (HaltTwo c.in-Err.two) m.gear)) c.meta.ensures);
+    grows = extends_store g.R.Rack.told c.args.self.now.core c.count_tick.new.self c.advance.new.core c.count_tick.ensures.store c.advance.ensures.told;
+    slots = refl;
+    setup = refl;
+    halt = refl;
+    two =
+        let a = c.args.self.now in
+        let t = c.count_tick.ensures in
+        let new = g.R.Rack.slot (store_rack c.advance.new.core.store) in
+        let counted : AreTwoDown (or_else (named_of a.core.store) (named_out c.count_tick.new.self.meta.out)) (g.R.Rack.slot (store_rack a.core.store)) new c.in-Err.two =
+        subst (λ (s : Store _ _). AreTwoDown (or_else (named_of s) (named_out c.count_tick.new.self.meta.out)) (g.R.Rack.slot (store_rack s)) new c.in-Err.two) t.store c.in-Err.ensures.two in
+        two_lost (named_of a.core.store) (named_out a.core.meta.out) (a.serving c.requires.going).serving.serves.stays _ _ _ c.in-Err.two
+        (subst (λ (m : Meta). AreTwoDown (or_else (named_of a.core.store) (named_out m.out)) (g.R.Rack.slot (store_rack a.core.store)) new c.in-Err.two) t.meta counted);
+    later =
+        let new = g.R.Rack.slot (store_rack c.advance.new.core.store) in
+        no_fall_counts (g.R.Rack.slot (store_rack c.args.self.now.core.store)) new (subst (λ (s : Store _ _). (d : ℕ) → (g.R.Rack.slot (store_rack s) d).faults ≤ (new d).faults) c.count_tick.ensures.store c.advance.ensures.no_fall);
+    kind = refl;
+    few = tt;
+  };
+}

@@ -1,33 +1,43 @@
-use Rattle.std.proofs.Common.{ℕ, ◌^◌, ◌<◌, subst}
+use Rattle.std.specs.Prelude.{max}
+use Rattle.std.proofs.Common.{◌≡◌, ℕ, ◌^◌, ◌<◌, ◌≤◌, refl, subst}
+use Rattle.paraid_base.specs.declared.event.Event.TheVariants.{Write}
+use Rattle.std.specs.Prelude.{All}
 use Rattle.paraid_base.specs.BlockAnswers.{IsFirstMissing}
+use Rattle.paraid_base.specs.declared.block.Block.{Block}
+use Rattle.paraid_base.specs.declared.event.Answer.TheVariants.{NoBlock}
 use Rattle.paraid_base.specs.Pairs.{pairs_of}
 use Rattle.paraid_machine.specs.Machine.{block_count}
 use Rattle.paraid_record.specs.declared.meta.Meta.{Meta}
-use Rattle.paraid_controller.proofs.QuietLemmas.{missing_is, write_refused}
-use Rattle.paraid_controller.proofs.LossLemmas.{going_lost}
 use Rattle.paraid_controller.proofs.StandLemmas.{none_ended}
-use Rattle.paraid_txn.specs.Stores.{store_rack}
-use Rattle.paraid_session.proofs.FaultLemmas.{same_counts}
-use Rattle.paraid_array.proofs.ToldLemmas.{extends_none}
+use Rattle.paraid_controller.proofs.AnswersLemmas.{quiet_answers}
+use Rattle.paraid_controller.proofs.QuietLemmas.{missing_is, write_refused}
 use Rattle.paraid_controller.proofs.array.Array.write.Goals as goal
 
-pub returns-in-Some-missing-clause-turn : goal.returns-in-Some-missing-clause-turn
-returns-in-Some-missing-clause-turn g c =
+pub wear_out-requires : goal.wear_out-requires
+wear_out-requires g c =
+    let many = subst (λ (m : Meta). (2 ^ 62 ≤ c.in-Some.count) × (c.in-Some.count ≡ max m.epoch m.writes)) c.meta.ensures c.in-Some.ensures.worn in
+    record { going = c.requires.going; many = many.0; is = many.1 }
+
+pub returns-in-Some : goal.returns-in-Some
+returns-in-Some g c = record { answers = c.wear_out.ensures.answers (Write c.args.pairs.now) refl }
+
+pub returns-in-Some-missing : goal.returns-in-Some-missing
+returns-in-Some-missing g c =
     let a = c.args.self.now in
     let block = c.in-Some-missing.block in
     let entry = pairs_of c.args.pairs.now in
     let fit = subst (λ (m : Meta). (m.epoch < 2 ^ 62) × (m.writes < 2 ^ 62)) c.meta.ensures c.in_default.ensures.fit in
     let missing = subst (λ (n : ℕ). IsFirstMissing n entry block) c.blocks-2.ensures.value c.in-Some-missing.ensures.some in
-    write_refused g.R.Rack.slot_count g.R.Rack.told a c.requires.going fit.0 fit.1 c.args.pairs.now block (missing_is (block_count a.setup) entry block missing)
+    record {
+      answers =
+          quiet_answers g.R.Rack.slot_count g.R.Rack.slot g.R.Rack.told a (Write c.args.pairs.now) (NoBlock block) c.requires.going
+          (write_refused g.R.Rack.slot_count g.R.Rack.told a c.requires.going fit.0 fit.1 c.args.pairs.now block (missing_is (block_count a.setup) entry block missing)) refl refl tt;
+    }
 
-pub returns-in-Some-missing-clause-two : goal.returns-in-Some-missing-clause-two
-returns-in-Some-missing-clause-two g c = going_lost _ _ _ _ c.args.self.now.ended (none_ended c.args.self.now.ended c.requires.going)
+pub write_there-requires : goal.write_there-requires
+write_there-requires g c =
+    let fit = subst (λ (m : Meta). (m.epoch < 2 ^ 62) × (m.writes < 2 ^ 62)) c.meta.ensures c.in_default.ensures.fit in
+    record { going = none_ended c.args.self.now.ended c.requires.going; epoch = fit.0; writes = fit.1; blocks = subst (λ (n : ℕ). All (λ (pair : ℕ × Block). pair.0 < n) (pairs_of c.args.pairs.now)) c.blocks-2.ensures.value c.in_default-missing.ensures.none }
 
-pub returns-in-Some-missing-clause-later : goal.returns-in-Some-missing-clause-later
-returns-in-Some-missing-clause-later g c = same_counts (g.R.Rack.slot (store_rack c.args.self.now.core.store))
-
-pub returns-in-Some-clause-two : goal.returns-in-Some-clause-two
-returns-in-Some-clause-two g c = c.wear_out.ensures.two _
-
-pub returns-in-Some-missing-clause-told : goal.returns-in-Some-missing-clause-told
-returns-in-Some-missing-clause-told g c = extends_none _
+pub returns : goal.returns
+returns g c = record { answers = c.write_there.ensures.answers }

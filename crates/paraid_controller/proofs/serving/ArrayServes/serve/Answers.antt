@@ -7,9 +7,21 @@ use Rattle.paraid_controller.specs.Arrays.{ArrayStandsAt, told_of_array}
 use Rattle.paraid_controller.specs.Laws.{going_end}
 use Rattle.paraid_controller.proofs.serving.ArrayServes.serve.Goals as goal
 
-pub returns-clause-turn : goal.returns-clause-turn
-returns-clause-turn g c p at =
-    let a = c.args.self.now in
-    let b = c.answer.new.self in
-    subst (λ (n : ℕ). Ran (told_of_array g.R.Rack.told a) (told_of_array g.R.Rack.told b) (GoesOn n a.setup p (event_with c.args.asked c.args.pairs.now) (answer_with c.answer.result c.answer.new.beside) (ArrayStandsAt g.R.Rack.slot_count g.R.Rack.told b)))
-    ((a.serving (going_end a.ended c.requires.going)).same_slots) (c.answer.ensures.turn p at)
+pub returns : goal.returns
+returns g c =
+    let it = c.answer.ensures.answers in
+    record {
+      turn = λ p at.
+          let a = c.args.self.now in
+          let b = c.answer.new.self in
+          subst (λ (n : ℕ). Ran (told_of_array g.R.Rack.told a) (told_of_array g.R.Rack.told b) (GoesOn n a.setup p (event_with c.args.asked c.args.pairs.now) (answer_with c.answer.result c.answer.new.beside) (ArrayStandsAt g.R.Rack.slot_count g.R.Rack.told b)))
+          ((a.serving (going_end a.ended c.requires.going)).same_slots) (it.turn p at);
+      told = it.grows;
+      slots = it.slots;
+      setup = it.setup;
+      halt = it.halt;
+      two = it.two;
+      later = it.later;
+      kind = it.kind;
+      few = it.few;
+    }
