@@ -1,35 +1,277 @@
--- From what a format has done to how it comes out.
-use Rattle.std.proofs.Common.{◌≡◌, ℕ, ◌⊎◌, Bool, List, length, Option, inl, inr}
-use Rattle.paraid_base.specs.Told.{HasRisen}
-use Rattle.paraid_serve.specs.Ending.{EndsWithLine}
-use Rattle.paraid_commands.specs.Outcome.{FormatOutcome, Formats}
-use Rattle.paraid_commands.specs.Outcome.FormatOutcome.{already as for_claim, config as for_config, disk as for_disk, done as made, no_memory as for_memory, source as for_source}
+-- From what a command that mounts has done to how it ends, on a rack that held a history.
+use Rattle.std.proofs.Common.{◌≡◌, ℕ, ◌⊎◌, List, [], ◌∷◌, ◌++◌, length, Option, Some, inl, inr, refl, sym, ap, ◌∙◌, subst, arith, append_assoc}
+use Rattle.std.proofs.lemmas.List.{take_all}
+use Rattle.paraid_base.specs.declared.event.Answer.TheVariants.{Flushed, Halted}
+use Rattle.paraid_base.specs.declared.event.Event.{Event}
+use Rattle.paraid_base.specs.declared.event.Event.TheVariants.{Flush}
+use Rattle.paraid_base.specs.declared.fault.Halt.{Halt}
+use Rattle.paraid_base.specs.History.{History}
+use Rattle.paraid_base.specs.Told.{GrowsByBytes, HasRisen}
+use Rattle.paraid_serve.specs.Ending.{EndsWithLine, halt_line, status_of_halt}
+use Rattle.paraid_io.specs.Lines.{lines_of}
+use Rattle.paraid_image.specs.RunStart.{IsRunStart}
+use Rattle.paraid_image.specs.Sides.{LogState}
+use Rattle.paraid_image.specs.Standing.{Stands}
+use Rattle.paraid_recover.specs.declared.fault.MountFault.{MountFault}
+use Rattle.paraid_recover.specs.declared.fault.MountFault.TheVariants.{NotFormatted, BadLog, BadMeta, Size, Power, Two as TwoDown, Worn, NoMemory}
+use Rattle.paraid_rack.specs.declared.call.Call.{Call}
+use Rattle.paraid_rack.specs.Disks.{Disks}
 use Rattle.paraid_rack.specs.Slots.{Slot}
-use Rattle.paraid_rack.specs.Trail.{Trail}
-use Rattle.paraid_commands.specs.Complete.Completes.{hindered, no_memory, whole}
-use Rattle.paraid_commands.proofs.CompleteLemmas.{told_whole}
-use Rattle.paraid_program.specs.Complete.{CompletesCommand}
-use Rattle.paraid_program.specs.Complete.HindersFormat.{claimed, config, disk, few, sink, source}
-use Rattle.paraid_commands.specs.declared.command.Command.TheVariants.{Format}
+use Rattle.paraid_rack.specs.Trail.{Trail, extend, moments, now}
+use Rattle.paraid_rack.proofs.TrailsLemmas.{extend-extend}
+use Rattle.paraid_record.specs.declared.meta.Setup.{Setup}
+use Rattle.paraid_recover.specs.Mount.{HasOnlyRead, IsCauseOfRefusal}
+use Rattle.paraid_recover.specs.Mount.IsCauseOfRefusal.{examined, no_memory as for_memory, two_down}
+use Rattle.paraid_scrub.specs.Counts.{no_faults}
+use Rattle.paraid_scrub.specs.declared.kind.CheckReport.{CheckReport}
+use Rattle.paraid_session.specs.Mount.{FromRunStart, IsBegun, IsCauseOutsideDisks, IsMountRefused, IsMounted, IsMountedFromEach, IsRefusedFromEach, IsWornOut, start_watch}
+use Rattle.paraid_session.specs.Mount.Refusal.{worn as wear}
+use Rattle.paraid_session.specs.Turn.{Point}
+use Rattle.paraid_session.specs.Watch.{Watch, watch, watch_all}
+use Rattle.paraid_serve.specs.Output.{FollowsFromPoint, OutputText, WritesOutput, begins_with}
+use Rattle.paraid_serve.specs.Output.OutputText.{done as text_done, halted as text_halted, source as text_source, too_long as text_long}
+use Rattle.paraid_serve.specs.Output.WritesOutput.{whole as wrote_whole, last_line as wrote_last, answers as wrote_answers}
+use Rattle.paraid_serve.specs.Stretch.{EndsStretch, Turn, events_in, replies, turn_calls, turn_with}
+use Rattle.paraid_serve.proofs.CauseLemmas.{HaltsAt, MeetsHalt, ends_at_cause}
+use Rattle.paraid_serve.proofs.CauseLemmas.HaltsAt.{lost, worn_out}
+use Rattle.paraid_serve.proofs.StretchLemmas.{some_is}
+use Rattle.paraid_program.specs.Generating.{GenFollows, GenOutput, GenWrote, first_lines, generated_events}
+use Rattle.paraid_machine.specs.Machine.{block_count}
+use Rattle.paraid_program.specs.Generating.GenOutput.{done as gen_done, halted as gen_halted}
+use Rattle.paraid_program.specs.Generating.GenWrote.{whole as gen_whole, last_line as gen_last, before_flush as gen_before, first_line as gen_first}
+use Rattle.paraid_startup.specs.Refusals.{refusal_by_fault}
+use Rattle.paraid_startup.proofs.MountedLemmas.{refused_extends}
+use Rattle.paraid_startup.proofs.ToldLemmas.{began_calls, began_disks, same_trail}
+use Rattle.paraid_program.specs.MountFaults.{mount_fault_status}
+use Rattle.paraid_program.specs.Showing.{BeganAt, IsServedBy, ShowOutcome, Shows}
+use Rattle.paraid_program.specs.Showing.ShowOutcome.{refused as not_shown, shown}
+use Rattle.paraid_program.specs.Complete.{Completes, HeldHistory, Hinders, HindersRun, IsCheckWhole, IsGenWhole, IsRunWhole, IsStatusWhole, TellsLast, down_after_calls}
+use Rattle.paraid_program.specs.Complete.Completes.{hindered, no_memory, whole}
+use Rattle.paraid_program.specs.Complete.Hinders.{double, sink, two, two_in_mount, worn, worn_before}
+use Rattle.paraid_program.specs.Complete.HindersRun.{other, source, too_long}
+use Rattle.paraid_program.specs.Counts.{check_line, check_status}
+use Rattle.paraid_program.specs.Ends.{BeginsAt, ChecksArray, ChecksFromPoint, IsEndOver, MountsAndThen, ServedArray, ServesGenerated, ServesLines, TellsCounts}
+use Rattle.paraid_program.specs.Ends.MountsAndThen.{mounted, refused}
+use Rattle.paraid_program.specs.Ends.TellsCounts.{counted as told_counts, halted as told_halt}
 
-module _ (slots : ℕ) (old new : ℕ → Slot) (before after : Option Trail) (lb l : Option (List ℕ)) (faults_before faults counted count : ℕ) (wb w : Option (List ℕ)) (status : ℕ)
-    (heard : status ≡ 3 → HasRisen faults_before faults) (sunk : status ≡ 4 → HasRisen counted count) where
-  abbrev FormatComes : Bool → Type 0
-  FormatComes force = CompletesCommand slots old new before after lb l faults_before faults counted count wb w status (Format force)
+-- the disks that are down in a watch
+down_is : (w : Watch) (cs : List Call) → (watch_all cs w).down ≡ down_after_calls w.down cs
+down_is w [] = refl
+down_is w (c ∷ cs) = down_is (watch c w) cs
 
-  format_by : (force : Bool) (code : ℕ) (line : List ℕ) → FormatOutcome force slots old new before after lb l faults_before faults code line → (e : EndsWithLine wb w line code status)
-      → (status ≡ 4) ⊎ ((e.count ≡ length line) × (status ≡ code)) → FormatComes force
-  format_by force code line outcome e (inl four) = hindered (sink four (sunk four))
-  format_by force code line (made setup configured is) e (inr all) = whole all.1 (record { setup = setup; configured = configured; made = is; told = told_whole wb w _ _ status e all.0 })
-  format_by force code line (for_source unread untouched) e (inr all) = hindered (source all.1 (heard all.1))
-  format_by force code line (for_memory unread untouched) e (inr all) = no_memory all.1 untouched
-  format_by force code line (for_config fault other unread untouched) e (inr all) = hindered (config all.1 fault other unread)
-  format_by force code line (for_claim setup epoch configured unmade) e (inr all) = hindered (claimed all.1 unmade.cause.0 epoch unmade.cause.2)
-  format_by force code line (for_disk setup d configured unmade) e (inr all) = elim unmade.cause [
-    | inl risen ↦ hindered (disk all.1 d risen)
-    | inr missing ↦ hindered (few all.1 setup configured missing.1)
-  ]
+calls_split : (before rest : List Turn) (t : Turn) → turn_calls (before ++ t ∷ rest) ≡ turn_calls before ++ (t.calls ++ turn_calls rest)
+calls_split [] rest t = refl
+calls_split (b ∷ before) rest t = ap (λ (l : List Call). b.calls ++ l) (calls_split before rest t) ∙ sym (append_assoc b.calls (turn_calls before) (t.calls ++ turn_calls rest))
 
-  -- A format.
-  pub format_comes : (force : Bool) → Formats force slots old new before after lb l faults_before faults wb w status → FormatComes force
-  format_comes force f = format_by force f.code f.line f.outcome f.ends f.ends.whole
+-- a line that was told whole
+pub told_whole : (before after : Option (List ℕ)) (line : List ℕ) (code status : ℕ) (e : EndsWithLine before after line code status) → e.count ≡ length line → TellsLast before after line
+told_whole before after line code status e all = record {
+  text = [];
+  grows = subst (λ (x : List ℕ). GrowsByBytes before after x) (take_all e.count line (omega (arith, all))) e.grows;
+}
+
+-- only reads are made where there is no memory
+only_read : (slots : ℕ) (old new : ℕ → Slot) (before after : Option Trail) → IsCauseOfRefusal slots old new before after NoMemory → HasOnlyRead before after
+only_read slots old new before after (for_memory is only) = only
+only_read slots old new before after (examined is only) = only
+only_read slots old new before after (two_down read x then pair it agrees exam is beside gone) = absurd (let z : NoMemory ≡ TwoDown pair = is in cc)
+
+module _ {slots : ℕ} {before after : Option Trail} (h : HeldHistory slots before after) where
+  -- what holds from each entry holds from this one
+  from_entry : (P : Disks → ℕ → LogState → History → ℕ → Option ℕ → List Call → Type 0) (told : Option Trail) (t : Trail) (cs : List Call) (began : ℕ) → told ≡ Some t → t ≡ extend h.first cs → began ≡ moments h.first
+      → FromRunStart slots began told P → P (now h.first) h.side h.said h.history h.low h.down cs
+  from_entry P told t cs began tells is at each =
+      let d = began_disks t h.first cs began is at in
+      let c = began_calls t h.first cs began is at in
+      let there = each t tells h.history h.low h.down h.side h.said (subst (λ (s : Disks). IsRunStart slots s h.history h.low h.down) (sym d) h.held) (subst (λ (s : Disks). Stands s h.side h.said) (sym d) h.stands) in
+      subst (λ (s : Disks). P s h.side h.said h.history h.low h.down cs) d (subst (P _ h.side h.said h.history h.low h.down) c there)
+
+  module _ (old new : ℕ → Slot) (counted count : ℕ) (wb w : Option (List ℕ)) (status : ℕ) (Whole Hindered : Type 0) (hinder : Hinders h old new counted count wb w status → Hindered) (sunk : status ≡ 4 → HasRisen counted count) where
+    abbrev Comes : Type 0
+    Comes = Completes Whole (HasOnlyRead before after) Hindered status
+
+    sink_failed : status ≡ 4 → Comes
+    sink_failed four = hindered (hinder (sink four (sunk four)))
+
+    module _ (calls : List Call) (split : h.last ≡ extend h.first calls) where
+      by_kind : (fault : MountFault) → IsCauseOfRefusal slots old new before after fault → status ≡ mount_fault_status fault
+          → ((many : ℕ) → refusal_by_fault fault ≡ wear many → IsWornOut (now h.first) calls many) → IsCauseOutsideDisks (refusal_by_fault fault) → Comes
+      by_kind NotFormatted cause is many outside = absurd outside
+      by_kind (BadLog disk) cause is many outside = absurd outside
+      by_kind (BadMeta disk) cause is many outside = absurd outside
+      by_kind (Size disk found needed) cause is many outside = absurd outside
+      by_kind (Power disk) cause is many outside = absurd outside
+      by_kind (TwoDown pair) cause is many outside = absurd outside
+      by_kind (Worn number) cause is many outside = hindered (hinder (worn_before is calls split number (many number refl)))
+      by_kind NoMemory cause is many outside = no_memory is (only_read slots old new before after cause)
+
+      by_fault : (fault : MountFault) → IsCauseOfRefusal slots old new before after fault → status ≡ mount_fault_status fault
+          → IsMountRefused slots (now h.first) h.side h.said h.history h.low h.down calls (refusal_by_fault fault) → Comes
+      by_fault fault cause is m = elim m.ends [
+        | inl both ↦ hindered (hinder (two_in_mount calls split (sym (down_is (start_watch (now h.first) h.down m.mounting.base) calls) ∙ both)))
+        | inr kept ↦ by_kind fault cause is m.worn_out kept.2
+      ]
+
+    -- A mount that is refused.
+    refused_comes : (fault : MountFault) → IsCauseOfRefusal slots old new before after fault → ((began : ℕ) → BeganAt before began → IsRefusedFromEach slots began after (refusal_by_fault fault))
+        → (n m : ℕ) → (status ≡ 4) ⊎ ((n ≡ m) × (status ≡ mount_fault_status fault)) → Comes
+    refused_comes fault cause each n m (inl four) = sink_failed four
+    refused_comes fault cause each n m (inr all) =
+        let g = refused_extends slots old new before after fault cause h.last h.at_last in
+        let from : g.from ≡ h.first = same_trail before g.from h.first g.was h.at_first in
+        let split : h.last ≡ extend h.first g.calls = g.is ∙ ap (λ (u : Trail). extend u g.calls) from in
+        by_fault g.calls split fault cause all.1
+        (from_entry (λ s x said hist lo down calls. IsMountRefused slots s x said hist lo down calls (refusal_by_fault fault)) after h.last g.calls (moments h.first) h.at_last split refl
+        (each (moments h.first) (λ t is. ap moments (same_trail before h.first t h.at_first is))))
+
+    module _ (array : ServedArray) (began : ℕ) (middle : Option Trail) (stood : IsServedBy slots old array.slot before middle array.meta array.dirty) (begins : BeginsAt before middle after began) (over : IsEndOver array.meta.setup old new wb w status) where
+      -- A mount that is served: two disks were down as it ended, or a session began.
+      from_point : (P : Point → Type 0) → IsMountedFromEach slots array.meta.setup began middle P
+          → ((base : ℕ → ℕ) (t : Trail) (cs : List Call) (p : Point) → middle ≡ Some t → t ≡ extend h.first cs → IsBegun slots (now h.first) h.said h.history h.low h.down base cs p
+          → h.said.meta.setup ≡ array.meta.setup → P p → Comes) → Comes
+      from_point P each go =
+          let later = begins.grows h.last h.at_last in
+          let t = later.from in
+          let b = begins.calls t later.was in
+          let from : b.0 ≡ h.first = same_trail before b.0 h.first b.2 h.at_first in
+          let split : t ≡ extend h.first b.1 = b.3 ∙ ap (λ (u : Trail). extend u b.1) from in
+          let all : h.last ≡ extend h.first (b.1 ++ later.calls) = later.is ∙ ap (λ (u : Trail). extend u later.calls) split ∙ extend-extend h.first b.1 later.calls in
+          let m = from_entry (λ s x said hist lo down calls. IsMounted slots s x said hist lo down calls (λ p. (said.meta.setup ≡ array.meta.setup) × P p)) middle t b.1 began later.was split (b.4 ∙ ap moments from) each in
+          elim m.ends [
+            | inl both ↦ hindered (hinder (double b.1 later.calls all (sym (down_is (start_watch (now h.first) h.down m.mounting.base) b.1) ∙ both) array
+                (subst (λ (o : Option Trail). IsServedBy slots old array.slot before o array.meta array.dirty) (later.was ∙ ap Some split) stood) over))
+            | inr begun ↦ go m.mounting.base t b.1 begun.0 later.was split begun.1 begun.2.0 begun.2.1
+          ]
+
+      module _ (base : ℕ → ℕ) (t : Trail) (cs : List Call) (p : Point) (here : middle ≡ Some t) (split : t ≡ extend h.first cs) (starts : IsBegun slots (now h.first) h.said h.history h.low h.down base cs p)
+          (same : h.said.meta.setup ≡ array.meta.setup) where
+        -- the calls of the command, where a session of these turns followed
+        session_calls : (events : List Event) (halt : Halt) (e : EndsStretch slots array.meta.setup middle after p events (Halted halt)) (m : MeetsHalt slots h.said.meta.setup p e.all.turns halt)
+            → h.last ≡ extend h.first (cs ++ (turn_calls m.before ++ (m.turn.calls ++ turn_calls m.rest)))
+        session_calls events halt e m =
+            same_trail after h.last e.all.to h.at_last e.all.is
+            ∙ e.all.calls
+            ∙ ap (λ (u : Trail). extend u (turn_calls e.all.turns)) (same_trail middle e.all.from t e.all.was here ∙ split)
+            ∙ extend-extend h.first cs (turn_calls e.all.turns)
+            ∙ ap (λ (l : List Call). extend h.first (cs ++ l)) (ap turn_calls m.split ∙ calls_split m.before m.rest m.turn)
+
+        at_cause : (turns : List Turn) (halt : Halt) (m : MeetsHalt slots h.said.meta.setup p turns halt) → h.last ≡ extend h.first (cs ++ (turn_calls m.before ++ (m.turn.calls ++ turn_calls m.rest)))
+            → status ≡ status_of_halt halt → HaltsAt slots h.said.meta.setup m.from m.turn m.to halt → Comes
+        at_cause turns halt m calls is (lost pair told l) = hindered (hinder (two (is ∙ ap status_of_halt told) pair
+            (record { base = base; mount = cs; begun = p; begins = starts; turns = m.before; from = m.from; went = m.went; turn = m.turn; to = m.to; here = l; rest = turn_calls m.rest; calls = calls })))
+        at_cause turns halt m calls is (worn_out many told l) = hindered (hinder (worn (is ∙ ap status_of_halt told) many
+            (record { base = base; mount = cs; begun = p; begins = starts; turns = m.before; from = m.from; went = m.went; turn = m.turn; to = m.to; here = l; rest = turn_calls m.rest; calls = calls })))
+
+        -- A session that ends in a halt.
+        halted_comes : (events : List Event) (halt : Halt) → EndsStretch slots array.meta.setup middle after p events (Halted halt) → status ≡ status_of_halt halt → Comes
+        halted_comes events halt e is =
+            let m = subst (λ (u : Setup). MeetsHalt slots u p e.all.turns halt) (sym same) (ends_at_cause slots array.meta.setup middle after p events halt e starts.going) in
+            at_cause e.all.turns halt m (session_calls events halt e m) is m.cause
+
+module _ {slots : ℕ} {before after : Option Trail} (h : HeldHistory slots before after) (old new : ℕ → Slot) (counted count : ℕ) (wb w : Option (List ℕ)) (status : ℕ) (sunk : status ≡ 4 → HasRisen counted count) where
+  -- A run.
+  module _ (heard_faults faults : ℕ) (lb l : Option (List ℕ)) (heard : status ≡ 3 → HasRisen heard_faults faults) where
+    abbrev RunComes : Type 0
+    RunComes = Completes (IsRunWhole l wb w) (HasOnlyRead before after) (HindersRun h old new heard_faults faults counted count lb l wb w status) status
+
+    module _ (array : ServedArray) (began : ℕ) (middle : Option Trail) (stood : IsServedBy slots old array.slot before middle array.meta array.dirty) (begins : BeginsAt before middle after began)
+        (served : ServesLines slots old new after lb l wb w status array began middle) where
+      run_text : (base : ℕ → ℕ) (t : Trail) (cs : List Call) (p : Point) → middle ≡ Some t → t ≡ extend h.first cs → IsBegun slots (now h.first) h.said h.history h.low h.down base cs p → h.said.meta.setup ≡ array.meta.setup
+          → (code : ℕ) (text : List ℕ) → OutputText slots array.meta.setup middle after p served.headline.bytes code text → status ≡ code → GrowsByBytes wb w text → RunComes
+      run_text base t cs p here split starts same code text (text_done writes e) is grows =
+          whole is ((served.headline.all (inl is)).1, writes, record { text = begins_with p ++ replies e.before; grows = grows })
+      run_text base t cs p here split starts same code text (text_halted halt e) is grows =
+          halted_comes h old new counted count wb w status (IsRunWhole l wb w) (HindersRun h old new heard_faults faults counted count lb l wb w status) other sunk array began middle stood begins served.end
+          base t cs p here split starts same (events_in (lines_of served.headline.bytes) ++ Flush ∷ []) halt e is
+      run_text base t cs p here split starts same code text (text_source c) is grows = hindered (source is (heard is))
+      run_text base t cs p here split starts same code text (text_long ten c) is grows = hindered (too_long is served.headline.bytes served.headline.given ten)
+
+      run_wrote : (base : ℕ → ℕ) (t : Trail) (cs : List Call) (p : Point) → middle ≡ Some t → t ≡ extend h.first cs → IsBegun slots (now h.first) h.said h.history h.low h.down base cs p → h.said.meta.setup ≡ array.meta.setup
+          → WritesOutput slots array.meta.setup middle after p served.headline.bytes status served.headline.text → RunComes
+      run_wrote base t cs p here split starts same (wrote_whole out) = run_text base t cs p here split starts same status served.headline.text out refl served.headline.grows
+      run_wrote base t cs p here split starts same (wrote_last four code full rest out front) = hindered (other (sink four (sunk four)))
+      run_wrote base t cs p here split starts same (wrote_answers four lines more rest lines_are c front) = hindered (other (sink four (sunk four)))
+
+    pub run_comes : MountsAndThen slots old new before after wb w status (ServesLines slots old new after lb l wb w status) → RunComes
+    run_comes (refused fault back end) =
+        refused_comes h old new counted count wb w status (IsRunWhole l wb w) (HindersRun h old new heard_faults faults counted count lb l wb w status) other sunk fault back.cause back.refused end.count _ end.whole
+    run_comes (mounted array began middle stood begins served) =
+        from_point h old new counted count wb w status (IsRunWhole l wb w) (HindersRun h old new heard_faults faults counted count lb l wb w status) other sunk array began middle stood begins served.end
+        (FollowsFromPoint slots array.meta.setup middle after served.headline.bytes status served.headline.text) (served.headline.said (some_is after h.last h.at_last))
+        (λ base t cs p here split starts same f. run_wrote array began middle stood begins served base t cs p here split starts same f.wrote)
+
+  -- Generated lines.
+  module _ (number lines : ℕ) where
+    abbrev GenComes : Type 0
+    GenComes = Completes (IsGenWhole wb w) (HasOnlyRead before after) (Hinders h old new counted count wb w status) status
+
+    module _ (array : ServedArray) (began : ℕ) (middle : Option Trail) (stood : IsServedBy slots old array.slot before middle array.meta array.dirty) (begins : BeginsAt before middle after began)
+        (served : ServesGenerated slots old new after wb w number lines status array began middle) where
+      gen_text : (base : ℕ → ℕ) (t : Trail) (cs : List Call) (p : Point) → middle ≡ Some t → t ≡ extend h.first cs → IsBegun slots (now h.first) h.said h.history h.low h.down base cs p → h.said.meta.setup ≡ array.meta.setup
+          → (code : ℕ) (text : List ℕ) → GenOutput slots array.meta.setup middle after p number lines code text → status ≡ code → GrowsByBytes wb w text → GenComes
+      gen_text base t cs p here split starts same code text (gen_done writes e) is grows = whole is (writes, record { text = first_lines p lines e.lines.turns e.lines.end; grows = grows })
+      gen_text base t cs p here split starts same code text (gen_halted halt e) is grows =
+          halted_comes h old new counted count wb w status (IsGenWhole wb w) (Hinders h old new counted count wb w status) (λ z. z) sunk array began middle stood begins served.end
+          base t cs p here split starts same (generated_events number (block_count array.meta.setup) lines ++ Flush ∷ []) halt
+          (record { all = e.all; before = e.lines.turns; last = turn_with Flush (Halted halt) e.calls; split = e.turns; answered = refl }) is
+
+      gen_wrote : (base : ℕ → ℕ) (t : Trail) (cs : List Call) (p : Point) → middle ≡ Some t → t ≡ extend h.first cs → IsBegun slots (now h.first) h.said h.history h.low h.down base cs p → h.said.meta.setup ≡ array.meta.setup
+          → GenWrote slots array.meta.setup middle after p number lines status served.headline.text → GenComes
+      gen_wrote base t cs p here split starts same (gen_whole out) = gen_text base t cs p here split starts same status served.headline.text out refl served.headline.grows
+      gen_wrote base t cs p here split starts same (gen_last four code full rest out front) = hindered (sink four (sunk four))
+      gen_wrote base t cs p here split starts same (gen_before four c rest front) = hindered (sink four (sunk four))
+      gen_wrote base t cs p here split starts same (gen_first four same_told rest front) = hindered (sink four (sunk four))
+
+    pub gen_comes : MountsAndThen slots old new before after wb w status (ServesGenerated slots old new after wb w number lines status) → GenComes
+    gen_comes (refused fault back end) =
+        refused_comes h old new counted count wb w status (IsGenWhole wb w) (Hinders h old new counted count wb w status) (λ z. z) sunk fault back.cause back.refused end.count _ end.whole
+    gen_comes (mounted array began middle stood begins served) =
+        from_point h old new counted count wb w status (IsGenWhole wb w) (Hinders h old new counted count wb w status) (λ z. z) sunk array began middle stood begins served.end
+        (GenFollows slots array.meta.setup middle after number lines status served.headline.text) (served.headline.said (some_is after h.last h.at_last))
+        (λ base t cs p here split starts same f. gen_wrote array began middle stood begins served base t cs p here split starts same f.wrote)
+
+  -- A check.
+  abbrev CheckComes : Type 0
+  CheckComes = Completes (IsCheckWhole wb w) (HasOnlyRead before after) (Hinders h old new counted count wb w status) status
+
+  module _ (array : ServedArray) (began : ℕ) (middle : Option Trail) (stood : IsServedBy slots old array.slot before middle array.meta array.dirty) (begins : BeginsAt before middle after began) (over : IsEndOver array.meta.setup old new wb w status) where
+    check_from : (P : Point → Type 0) → IsMountedFromEach slots array.meta.setup began middle P
+        → ((base : ℕ → ℕ) (t : Trail) (cs : List Call) (p : Point) → middle ≡ Some t → t ≡ extend h.first cs → IsBegun slots (now h.first) h.said h.history h.low h.down base cs p
+        → h.said.meta.setup ≡ array.meta.setup → P p → CheckComes) → CheckComes
+    check_from = from_point h old new counted count wb w status (IsCheckWhole wb w) (Hinders h old new counted count wb w status) (λ z. z) sunk array began middle stood begins over
+
+    counted_by : (report : CheckReport) (e : EndsWithLine wb w (check_line report) (check_status report) status) → (status ≡ 4) ⊎ ((e.count ≡ length (check_line report)) × (status ≡ check_status report))
+        → IsMountedFromEach slots array.meta.setup began middle (λ p. (report ≡ no_faults) × ChecksFromPoint slots array.meta.setup middle after (Flushed (length p.history)) p) → CheckComes
+    counted_by report e (inl four) each = hindered (sink four (sunk four))
+    counted_by report e (inr all) each = check_from (λ p. (report ≡ no_faults) × ChecksFromPoint slots array.meta.setup middle after (Flushed (length p.history)) p) each
+        (λ base t cs p here split starts same f. whole (all.1 ∙ ap check_status f.0)
+        (subst (λ (r : CheckReport). TellsLast wb w (check_line r)) f.0 (told_whole wb w (check_line report) (check_status report) status e all.0)))
+
+    halted_so : (halt : Halt) (e : EndsWithLine wb w (halt_line halt) (status_of_halt halt) status) → (status ≡ 4) ⊎ ((e.count ≡ length (halt_line halt)) × (status ≡ status_of_halt halt))
+        → IsMountedFromEach slots array.meta.setup began middle (ChecksFromPoint slots array.meta.setup middle after (Halted halt)) → CheckComes
+    halted_so halt e (inl four) each = hindered (sink four (sunk four))
+    halted_so halt e (inr all) each = check_from (ChecksFromPoint slots array.meta.setup middle after (Halted halt)) each
+        (λ base t cs p here split starts same f. halted_comes h old new counted count wb w status (IsCheckWhole wb w) (Hinders h old new counted count wb w status) (λ z. z) sunk array began middle stood begins over
+        base t cs p here split starts same (Flush ∷ []) halt f.flush all.1)
+
+    check_told : {Q : CheckReport → Type 0} → TellsCounts slots array.meta.setup began middle after wb w status Q → CheckComes
+    check_told (told_counts report e counts each) = counted_by report e e.whole (each (some_is after h.last h.at_last))
+    check_told (told_halt halt e each) = halted_so halt e e.whole (each (some_is after h.last h.at_last))
+
+  pub check_comes : MountsAndThen slots old new before after wb w status (ChecksArray slots old new after wb w status) → CheckComes
+  check_comes (refused fault back end) =
+      refused_comes h old new counted count wb w status (IsCheckWhole wb w) (Hinders h old new counted count wb w status) (λ z. z) sunk fault back.cause back.refused end.count _ end.whole
+  check_comes (mounted array began middle stood begins checked) = check_told array began middle stood begins checked.end checked.told
+
+  -- The state.
+  abbrev StatusComes : Type 0
+  StatusComes = Completes (IsStatusWhole wb w) (HasOnlyRead before after) (Hinders h old new counted count wb w status) status
+
+  status_by : (code : ℕ) (lines : List ℕ) → ShowOutcome slots old new before after code lines → (e : EndsWithLine wb w lines code status) → (status ≡ 4) ⊎ ((e.count ≡ length lines) × (status ≡ code)) → StatusComes
+  status_by code lines outcome e (inl four) = hindered (sink four (sunk four))
+  status_by code lines (shown meta dirty served) e (inr all) = whole all.1 (meta, dirty, told_whole wb w _ _ status e all.0)
+  status_by code lines (not_shown fault cause each) e (inr all) =
+      refused_comes h old new counted count wb w status (IsStatusWhole wb w) (Hinders h old new counted count wb w status) (λ z. z) sunk fault cause each e.count _ (inr all)
+
+  pub status_comes : Shows slots old new before after wb w status → StatusComes
+  status_comes s = status_by s.code s.lines s.outcome s.ends s.ends.whole

@@ -1,51 +1,113 @@
--- How a run ends well, and which status a mount that is refused does not have.
-use Rattle.std.proofs.Common.{◌≡◌, ℕ, ◌⊎◌, List, length, Option, inl, inr, arith}
-use Rattle.paraid_base.specs.Told.{AtEnd}
-use Rattle.paraid_serve.specs.Ending.{EndsWithLine}
+-- From what a mounted array does to what the program does.
+use Rattle.std.proofs.Common.{◌≡◌, ℕ, ◌⊎◌, List, length, Option, Some, None, inl, inr, ap, sym, subst}
 use Rattle.paraid_recover.specs.declared.fault.MountFault.{MountFault}
 use Rattle.paraid_recover.specs.declared.fault.MountFault.TheVariants.{NotFormatted, BadLog, BadMeta, Size, Power, Two as TwoDown, Worn, NoMemory}
 use Rattle.paraid_rack.specs.Slots.{Slot}
-use Rattle.paraid_rack.specs.Trail.{Trail}
-use Rattle.paraid_commands.specs.MountFaults.{mount_fault_status}
-use Rattle.paraid_commands.specs.Ends.{IsStatusOfCheck, IsStatusOfGen, MountsAndThen, ServesLines}
-use Rattle.paraid_commands.specs.Ends.MountsAndThen.{mounted, refused}
+use Rattle.paraid_rack.specs.Trail.{Trail, moments}
+use Rattle.paraid_record.specs.declared.meta.Setup.{Setup}
+use Rattle.paraid_session.specs.Faults.{HaveNotFallen}
+use Rattle.paraid_serve.specs.Ending.{EndsWithLine}
+use Rattle.paraid_serve.specs.Calls.{IsNotDouble}
+use Rattle.paraid_serve.specs.Lost.{NamesTwoLost, TellsWear}
+use Rattle.paraid_serve.specs.Output.{Headline, IsServedStatus}
+use Rattle.paraid_serve.proofs.HaltLemmas.{names_since}
+use Rattle.paraid_program.specs.Generating.{GenHeadline, IsGenStatus}
+use Rattle.paraid_recover.specs.HeldMoments.{Extends}
+use Rattle.paraid_program.specs.MountFaults.{mount_fault_status}
+use Rattle.paraid_program.specs.Showing.{BeganAt}
+use Rattle.paraid_program.specs.Ends.{BeginsAt, IsEndOver, IsStatusOfGen, IsStatusOfRun, ServedArray, ServesGenerated, ServesLines}
 
-not_done : (fault : MountFault) (status : ℕ) → status ≡ mount_fault_status fault → status ≡ 0 → ⊥
-not_done NotFormatted status is zero = omega (arith, is, zero)
-not_done (BadLog disk) status is zero = omega (arith, is, zero)
-not_done (BadMeta disk) status is zero = omega (arith, is, zero)
-not_done (Size disk found needed) status is zero = omega (arith, is, zero)
-not_done (Power disk) status is zero = omega (arith, is, zero)
-not_done (TwoDown two) status is zero = omega (arith, is, zero)
-not_done (Worn count) status is zero = omega (arith, is, zero)
-not_done NoMemory status is zero = omega (arith, is, zero)
+-- the moment at which a record ends, or the first one where none is told
+abbrev pub end_moment : Option Trail → ℕ
+end_moment None = 0
+end_moment (Some t) = moments t
 
-refused_so : (fault : MountFault) (status n m : ℕ) → (status ≡ 4) ⊎ ((n ≡ m) × (status ≡ mount_fault_status fault)) → status ≡ 0 → ⊥
-refused_so fault status n m (inl four) zero = omega (arith, four, zero)
-refused_so fault status n m (inr all) zero = not_done fault status all.1 zero
+pub began_at_end : (before : Option Trail) → BeganAt before (end_moment before)
+began_at_end before t is = ap end_moment is
 
-refused_not : (fault : MountFault) (before after : Option (List ℕ)) (line : List ℕ) (status : ℕ) → EndsWithLine before after line (mount_fault_status fault) status → status ≡ 0 → ⊥
-refused_not fault before after line status end zero = refused_so fault status end.count (length line) end.whole zero
+pub begins_at_end : (before middle final after : Option Trail) → Extends before middle → after ≡ final → Extends middle final → BeginsAt before middle after (end_moment before)
+begins_at_end before middle final after grows same later = record {
+  calls = λ t tells. let r = grows t tells in (r.from, r.calls, r.was, r.is, ap end_moment r.was);
+  grows = subst (λ (o : Option Trail). Extends middle o) (sym same) later;
+}
 
--- a run that ends well has taken all of the source
-pub taken_all : (slots : ℕ) (old new first now : ℕ → Slot) (before after final : Option Trail) (left_before left written_before written before_lines after_lines : Option (List ℕ)) (status : ℕ)
-    → MountsAndThen slots old new before after written_before written status (ServesLines slots first now final left_before left before_lines after_lines status) → status ≡ 0 → AtEnd left
-taken_all slots old new first now before after final left_before left written_before written before_lines after_lines status (refused fault back end) zero = absurd (refused_not fault written_before written _ status end zero)
-taken_all slots old new first now before after final left_before left written_before written before_lines after_lines status (mounted array began middle stood begins served) zero = (served.headline.all (inl zero)).1
+-- The slots that an array hands back are those that it had, and no count fell in its mount.
+pub end_over : (setup : Setup) (old first now slot : ℕ → Slot) (w x : Option (List ℕ)) (status : ℕ) → slot ≡ now → HaveNotFallen old first → (status ≡ 0 → IsNotDouble setup now) → (status ≡ 5 → NamesTwoLost first now w x)
+    → (status ≡ 12 → TellsWear w x) → IsEndOver setup old slot w x status
+end_over setup old first now slot w x status same later present two worn = record {
+  present = λ zero. subst (IsNotDouble setup) (sym same) (present zero);
+  two = λ five. subst (λ (z : ℕ → Slot). NamesTwoLost old z w x) (sym same) (names_since old first now w x later (two five));
+  worn = worn;
+}
 
-pub not_read : (status : ℕ) → IsStatusOfGen status → status ≡ 3 → ⊥
-not_read status (inl z) three = omega (arith, z, three)
-not_read status (inr (inl z)) three = omega (arith, z, three)
-not_read status (inr (inr (inl z))) three = omega (arith, z, three)
-not_read status (inr (inr (inr (inl z)))) three = omega (arith, z, three)
-not_read status (inr (inr (inr (inr (inl z))))) three = omega (arith, z, three)
-not_read status (inr (inr (inr (inr (inr z))))) three = omega (arith, z, three)
+module _ (slots slots_now : ℕ) (setup : Setup) (array : ServedArray) (old slot : ℕ → Slot) (began : ℕ) (middle final after : Option Trail) (w x : Option (List ℕ)) (status : ℕ) (e : slots_now ≡ slots) (same : setup ≡ array.meta.setup) (f : after ≡ final)
+    (end : IsEndOver setup old slot w x status) where
+  pub headline_over : (l m : Option (List ℕ)) → Headline slots_now setup began middle final l m w x status → ServesLines slots old slot after l m w x status array began middle
+  headline_over l m h = record {
+    headline = subst (λ (z : Setup). Headline slots z began middle after l m w x status) same
+        (subst (λ (k : ℕ). Headline k setup began middle after l m w x status) e (subst (λ (t : Option Trail). Headline slots_now setup began middle t l m w x status) (sym f) h));
+    end = subst (λ (z : Setup). IsEndOver z old slot w x status) same end;
+  }
 
-pub check_not_read : (status : ℕ) → IsStatusOfCheck status → status ≡ 3 → ⊥
-check_not_read status (inl z) three = omega (arith, z, three)
-check_not_read status (inr (inl z)) three = omega (arith, z, three)
-check_not_read status (inr (inr (inl z))) three = omega (arith, z, three)
-check_not_read status (inr (inr (inr (inl z)))) three = omega (arith, z, three)
-check_not_read status (inr (inr (inr (inr (inl z))))) three = omega (arith, z, three)
-check_not_read status (inr (inr (inr (inr (inr (inl z)))))) three = omega (arith, z, three)
-check_not_read status (inr (inr (inr (inr (inr (inr z)))))) three = omega (arith, z, three)
+  pub generated_over : (number count : ℕ) → GenHeadline slots_now setup began middle final w x number count status → ServesGenerated slots old slot after w x number count status array began middle
+  generated_over number count h = record {
+    headline = subst (λ (z : Setup). GenHeadline slots z began middle after w x number count status) same
+        (subst (λ (k : ℕ). GenHeadline k setup began middle after w x number count status) e (subst (λ (t : Option Trail). GenHeadline slots_now setup began middle t w x number count status) (sym f) h));
+    end = subst (λ (z : Setup). IsEndOver z old slot w x status) same end;
+  }
+
+-- the statuses of a run are those of a session, and those of a mount that is refused
+pub run_status : (status : ℕ) → IsServedStatus status → IsStatusOfRun status
+run_status status (inl z) = inl z
+run_status status (inr (inl z)) = inr (inl z)
+run_status status (inr (inr (inl z))) = inr (inr (inl z))
+run_status status (inr (inr (inr (inl z)))) = inr (inr (inr (inl z)))
+run_status status (inr (inr (inr (inr (inl z))))) = inr (inr (inr (inr (inr (inr (inl z))))))
+run_status status (inr (inr (inr (inr (inr z))))) = inr (inr (inr (inr (inr (inr (inr z))))))
+
+pub generate_status : (status : ℕ) → IsGenStatus status → IsStatusOfGen status
+generate_status status (inl z) = inl z
+generate_status status (inr (inl z)) = inr (inl z)
+generate_status status (inr (inr (inl z))) = inr (inr (inl z))
+generate_status status (inr (inr (inr z))) = inr (inr (inr (inr (inr z))))
+
+-- the statuses of a mount that is refused, or 4 where the sink has failed
+abbrev pub IsRefusedStatus : ℕ → Type 0
+IsRefusedStatus status = (status ≡ 4) ⊎ (status ≡ 5) ⊎ (status ≡ 6) ⊎ (status ≡ 7) ⊎ (status ≡ 12)
+
+fault_status : (fault : MountFault) (status : ℕ) → status ≡ mount_fault_status fault → IsRefusedStatus status
+fault_status NotFormatted status is = inr (inr (inl is))
+fault_status (BadLog disk) status is = inr (inr (inl is))
+fault_status (BadMeta disk) status is = inr (inr (inl is))
+fault_status (Size disk found needed) status is = inr (inr (inl is))
+fault_status (Power disk) status is = inr (inr (inl is))
+fault_status (TwoDown two) status is = inr (inl is)
+fault_status (Worn count) status is = inr (inr (inr (inr is)))
+fault_status NoMemory status is = inr (inr (inr (inl is)))
+
+refused_so : (fault : MountFault) (status n m : ℕ) → (status ≡ 4) ⊎ ((n ≡ m) × (status ≡ mount_fault_status fault)) → IsRefusedStatus status
+refused_so fault status n m (inl four) = inl four
+refused_so fault status n m (inr all) = fault_status fault status all.1
+
+pub refused_status : (fault : MountFault) (before after : Option (List ℕ)) (line : List ℕ) (status : ℕ) → EndsWithLine before after line (mount_fault_status fault) status → IsRefusedStatus status
+refused_status fault before after line status end = refused_so fault status end.count (length line) end.whole
+
+run_refused : (status : ℕ) → IsRefusedStatus status → IsStatusOfRun status
+run_refused status (inl z) = inr (inr (inl z))
+run_refused status (inr (inl z)) = inr (inr (inr (inl z)))
+run_refused status (inr (inr (inl z))) = inr (inr (inr (inr (inl z))))
+run_refused status (inr (inr (inr (inl z)))) = inr (inr (inr (inr (inr (inl z)))))
+run_refused status (inr (inr (inr (inr z)))) = inr (inr (inr (inr (inr (inr (inr z))))))
+
+generate_refused : (status : ℕ) → IsRefusedStatus status → IsStatusOfGen status
+generate_refused status (inl z) = inr (inl z)
+generate_refused status (inr (inl z)) = inr (inr (inl z))
+generate_refused status (inr (inr (inl z))) = inr (inr (inr (inl z)))
+generate_refused status (inr (inr (inr (inl z)))) = inr (inr (inr (inr (inl z))))
+generate_refused status (inr (inr (inr (inr z)))) = inr (inr (inr (inr (inr z))))
+
+pub run_is_refused : (fault : MountFault) (before after : Option (List ℕ)) (line : List ℕ) (status : ℕ) → EndsWithLine before after line (mount_fault_status fault) status → IsStatusOfRun status
+run_is_refused fault before after line status end = run_refused status (refused_status fault before after line status end)
+
+pub generate_is_refused : (fault : MountFault) (before after : Option (List ℕ)) (line : List ℕ) (status : ℕ) → EndsWithLine before after line (mount_fault_status fault) status → IsStatusOfGen status
+generate_is_refused fault before after line status end = generate_refused status (refused_status fault before after line status end)

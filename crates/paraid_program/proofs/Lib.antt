@@ -1,3 +1,15 @@
 pub mod WordLemmas
+pub mod ReadingLemmas
+pub mod MadeLemmas
+pub mod OutcomeLemmas
+pub mod TallyLemmas
+pub mod GenLemmas
+pub mod LineLemmas
+pub mod ShowLemmas
 pub mod EndLemmas
+pub mod TellLemmas
+pub mod CheckLemmas
 pub mod CompleteLemmas
+pub mod AskedLemmas
+pub mod TakenLemmas
+pub mod FormatLemmas

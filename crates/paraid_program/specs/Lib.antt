@@ -1,2 +1,17 @@
+pub mod Words
+pub mod Commands
+pub mod Lines
+pub mod Reading
+pub mod Outcome
+pub mod Tally
+pub mod Generating
+pub mod Telling
+pub mod CountedLines
+pub mod States
+pub mod MountFaults
+pub mod Showing
+pub mod Counts
 pub mod Ends
 pub mod Complete
+pub mod CommandDoes
+pub mod CommandCompletes

@@ -1,8 +1,8 @@
 //! The arrays with gears that the program makes of a rack.
 ghost use Rattle.paraid_controller.specs.Arrays.{HasNothingStaged, dirty_of_array, meta_of_array, slot_of_array};
 
+use crate::outside::Outside;
 use paraid_base::Halt;
-use paraid_commands::outside::Outside;
 use paraid_controller::{Array, mount_array};
 use paraid_rack::Rack;
 use paraid_recover::MountRefused;

@@ -1,13 +1,47 @@
-//! The program over any source, sink and rack: it makes an array with gears of the disks of a rack,
-//! tells its state, and answers a trace or generated lines with it.
+//! The program over any source, sink and rack: which command the words of the command line ask for,
+//! and what each of them does.
+//!
+//! `format` reads a configuration from a source and makes an array of the disks of a rack; `status`
+//! mounts one and tells its state; `run`, `gen` and `check` mount one and answer with it. Each tells
+//! how it came out in its last line and a status. The commands stand over anything that mounts an
+//! array (`Outside`); `Arrays` mounts arrays with gears.
 //!
 //! The contract of `paraid` says what is written at each status, what the disks then hold, and which
 //! losses a status has for its cause.
 #![tactic(auto)]
 
 mod arrays;
+mod command;
+mod fault;
+mod format;
+mod format_text;
+mod generate;
+mod law;
+mod lines;
+pub mod mounted;
+pub mod outside;
+mod read;
+mod refusal;
+mod report;
+mod state;
+mod status;
+mod tally;
 mod top;
+mod words;
 
 pub use arrays::Arrays;
-pub use paraid_commands::outside::Ended;
+pub use command::{Choice, Command};
+pub use fault::{mount_fault_status, mount_fault_text};
+pub use format::format_array;
+pub use format_text::{config_text, refusal_status, refusal_text};
+pub use generate::{serve_generated, serve_generated_mounted};
+pub use law::a_mounted_array_is_told_as_its_first_point;
+pub use outside::Ended;
+pub use read::{read_all, read_setup};
+pub use refusal::Refusal;
+pub use report::{check_status, check_text};
+pub use state::{status_of, tell_state};
+pub use status::show_state;
+pub use tally::Tally;
 pub use top::paraid;
+pub use words::read_words;

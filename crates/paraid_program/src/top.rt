@@ -1,16 +1,20 @@
 ghost use Rattle.std.specs.Prelude.{◌≡◌, ◌≤◌, map, string_bytes};
 ghost use Rattle.paraid_base.specs.Told.{AtEnd, HasRisen};
 ghost use Rattle.paraid_serve.specs.Ending.{EndsWithLine};
-ghost use Rattle.paraid_commands.specs.Outcome.{Formats, IsFormatStatus};
-ghost use Rattle.paraid_commands.specs.Ends.{ChecksArray, IsStatusOfCheck, IsStatusOfGen, IsStatusOfRun, MountsAndThen, ServesGenerated, ServesLines};
-ghost use Rattle.paraid_commands.specs.Words.{AskFor, usage_line};
-ghost use Rattle.paraid_program.specs.Complete.{CompletesCommand};
-ghost use Rattle.paraid_program.specs.Ends.{DoesCommand, TakesSource};
-ghost use Rattle.paraid_commands.specs.declared.command.Command.{Command as CommandType};
+ghost use Rattle.paraid_program.specs.Outcome.{Formats, IsFormatStatus};
+ghost use Rattle.paraid_program.specs.Ends.{ChecksArray, IsStatusOfCheck, IsStatusOfGen, IsStatusOfRun, MountsAndThen, ServesGenerated, ServesLines};
+ghost use Rattle.paraid_program.specs.Words.{AskFor, usage_line};
+ghost use Rattle.paraid_program.specs.CommandCompletes.{CompletesCommand};
+ghost use Rattle.paraid_program.specs.CommandDoes.{DoesCommand, TakesSource};
+ghost use Rattle.paraid_program.specs.declared.command.Command.{Command as CommandType};
 
 use crate::arrays::Arrays;
-use paraid_commands::outside::Ended;
-use paraid_commands::{Command, format_array, mounted, read_words, show_state};
+use crate::command::Command;
+use crate::format::format_array;
+use crate::mounted;
+use crate::outside::Ended;
+use crate::status::show_state;
+use crate::words::read_words;
 use paraid_controller::Array;
 use paraid_io::{Sink, Source};
 use paraid_rack::Rack;

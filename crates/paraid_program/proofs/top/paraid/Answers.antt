@@ -1,11 +1,11 @@
 use Rattle.std.proofs.Common.{◌≡◌, ap, ◌∙◌, Some}
-use Rattle.paraid_commands.specs.declared.command.Command.TheVariants.{Format, Run, Status, Check, Gen}
-use Rattle.paraid_commands.proofs.CompleteLemmas.{check_comes, gen_comes, run_comes, status_comes}
-use Rattle.paraid_program.proofs.CompleteLemmas.{format_comes}
-use Rattle.paraid_program.proofs.EndLemmas.{check_not_read, not_read}
-use Rattle.paraid_program.proofs.WordLemmas.{asks, does_it, nothing_asked}
-use Rattle.paraid_program.specs.Ends.{TakesSource}
-use Rattle.paraid_commands.specs.declared.command.Command.{Command}
+use Rattle.paraid_program.specs.declared.command.Command.TheVariants.{Format, Run, Status, Check, Gen}
+use Rattle.paraid_program.proofs.CompleteLemmas.{check_comes, gen_comes, run_comes, status_comes}
+use Rattle.paraid_program.proofs.FormatLemmas.{format_comes}
+use Rattle.paraid_program.proofs.TakenLemmas.{check_not_read, not_read}
+use Rattle.paraid_program.proofs.AskedLemmas.{asks, does_it, nothing_asked}
+use Rattle.paraid_program.specs.CommandDoes.{TakesSource}
+use Rattle.paraid_program.specs.declared.command.Command.{Command}
 use Rattle.paraid_program.proofs.top.paraid.Given.{Over}
 use Rattle.paraid_program.proofs.top.paraid.Goals as goal
 use Rattle.paraid_program.proofs.top.paraid.Goals.{In-Some-Check, In-Some-Format, In-Some-Gen, In-Some-Run, In-Some-Status}

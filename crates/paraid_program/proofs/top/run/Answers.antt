@@ -1,4 +1,4 @@
-use Rattle.paraid_program.proofs.EndLemmas.{taken_all}
+use Rattle.paraid_program.proofs.TakenLemmas.{taken_all}
 use Rattle.paraid_program.proofs.top.run.Goals as goal
 
 pub returns-clause-end : goal.returns-clause-end

@@ -1,0 +1,159 @@
+-- Several lines, of which the last may be written in part.
+use Rattle.std.proofs.Common.{◌≡◌, ℕ, ◌+◌, ◌≤◌, List, ◌++◌, length, take, drop, Option, IsSome, refl, sym, ap, ◌∙◌, inl, inr, arith, subst, length-append, take-append-drop}
+use Rattle.std.proofs.lemmas.List.{append_assoc, take-append-le, take_all}
+use Rattle.std.proofs.Math.Seq.{take-append-add}
+use Rattle.paraid_base.specs.declared.event.Answer.{Answer}
+use Rattle.paraid_base.specs.declared.event.Answer.TheVariants.{Flushed, Halted}
+use Rattle.paraid_base.specs.declared.event.Event.TheVariants.{Flush}
+use Rattle.paraid_base.specs.declared.fault.Halt.{Halt}
+use Rattle.paraid_base.specs.Told.{GrowsByBytes}
+use Rattle.paraid_base.proofs.ToldLemmas.{GrowsByBytes-then}
+use Rattle.paraid_rack.specs.Told.{Ran}
+use Rattle.paraid_rack.specs.Trail.{Trail}
+use Rattle.paraid_record.specs.declared.meta.Setup.{Setup}
+use Rattle.paraid_base.specs.declared.event.Answer.TheVariants.{State as IsState}
+use Rattle.paraid_base.specs.declared.state.Status.{Status}
+use Rattle.paraid_machine.specs.Machine.{state_status as told_status}
+use Rattle.paraid_trace.specs.Replies.{reply_of}
+use Rattle.paraid_session.specs.Mount.{IsMountedFromEach}
+use Rattle.paraid_serve.specs.Ending.{EndsWithLine, end_line, halt_line, mount_line, status_of_halt}
+use Rattle.paraid_serve.specs.Output.{begins_with}
+use Rattle.paraid_session.specs.Turn.{GoesOn, Point}
+use Rattle.paraid_serve.proofs.ExitLemmas.{stretch_leaves}
+use Rattle.paraid_session.proofs.MountLemmas.{IsMountedFromEach-follows}
+use Rattle.paraid_program.specs.declared.tally.Tally.{Tally}
+use Rattle.paraid_program.specs.Generating.{Flushes, GenFollows, GenHeadline, GenOutput, GenRun, GenWrote, first_lines, summary, summary_of}
+use Rattle.paraid_program.specs.Generating.GenOutput.{done, halted}
+use Rattle.paraid_program.specs.Generating.GenWrote.{before_flush, first_line, last_line, whole}
+use Rattle.paraid_program.specs.CountedLines.{CountsLines}
+use Rattle.paraid_program.specs.Tally.{empty_tally, tally_of}
+use Rattle.paraid_program.specs.Telling.{state_line, state_lines}
+use Rattle.paraid_program.proofs.GenLemmas.{flushes}
+
+take-two : (n : ℕ) (xs ys : List ℕ) → take (length xs + n) (xs ++ ys) ≡ xs ++ take n ys
+take-two n xs ys = take-append-add xs ys n
+
+take-first : (n : ℕ) (xs ys : List ℕ) → n ≤ length xs → take n (xs ++ ys) ≡ take n xs
+take-first n xs ys p = take-append-le n xs ys p
+
+-- one line, and then the last one
+ends_two : (a b c : Option (List ℕ)) (x y : List ℕ) (code status : ℕ) → GrowsByBytes a b x → EndsWithLine b c y code status → EndsWithLine a c (x ++ y) code status
+ends_two a b c x y code status g e = record {
+  count = length x + e.count;
+  within = omega (arith, e.within, length-append x y);
+  grows = subst (λ (t : List ℕ). GrowsByBytes a c t) (sym (take-two e.count x y)) (GrowsByBytes-then a b c x (take e.count y) g e.grows);
+  whole = elim e.whole [
+    | inl four ↦ inl four
+    | inr all ↦ inr (omega (arith, all.0, length-append x y), all.1)
+  ];
+}
+
+ends_part : (a b : Option (List ℕ)) (x y : List ℕ) (code : ℕ) → (n : ℕ) × (n ≤ length x) × GrowsByBytes a b (take n x) → EndsWithLine a b (x ++ y) code 4
+ends_part a b x y code part = record {
+  count = part.0;
+  within = omega (arith, part.1, length-append x y);
+  grows = subst (λ (t : List ℕ). GrowsByBytes a b t) (sym (take-first part.0 x y part.1)) part.2;
+  whole = inl refl;
+}
+
+mount_is : (p : Point) (writes gear : ℕ) → writes ≡ length p.history → gear ≡ p.state.gear → mount_line writes gear ≡ begins_with p
+mount_is p writes gear e f = ap (λ (w : ℕ). mount_line w gear) e ∙ ap (λ (g : ℕ). mount_line (length p.history) g) f
+
+pub state_line_is : (setup : Setup) (p : Point) (status : Status) (disks : ℕ) → status ≡ told_status setup (length p.history) p.state → disks ≡ setup.geometry.disks → reply_of (IsState status disks) ≡ state_line setup p
+state_line_is setup p status disks e f = rw (e, f) refl
+
+-- the two lines of `status`
+pub state_told : (setup : Setup) (p : Point) (a b c : Option (List ℕ)) (writes gear : ℕ) (line : List ℕ) (status : ℕ) → writes ≡ length p.history → gear ≡ p.state.gear → line ≡ state_line setup p
+    → GrowsByBytes a b (mount_line writes gear) → EndsWithLine b c line 0 status → EndsWithLine a c (state_lines setup p) 0 status
+state_told setup p a b c writes gear line status e f is g end =
+    subst (λ (x : List ℕ). EndsWithLine a c (x ++ state_line setup p) 0 status) (mount_is p writes gear e f)
+    (subst (λ (y : List ℕ). EndsWithLine a c (mount_line writes gear ++ y) 0 status) is (ends_two a b c (mount_line writes gear) line 0 status g end))
+
+pub state_cut : (setup : Setup) (p : Point) (a b : Option (List ℕ)) (writes gear : ℕ) → writes ≡ length p.history → gear ≡ p.state.gear
+    → (n : ℕ) × (n ≤ length (mount_line writes gear)) × GrowsByBytes a b (take n (mount_line writes gear)) → EndsWithLine a b (state_lines setup p) 0 4
+state_cut setup p a b writes gear e f part =
+    subst (λ (x : List ℕ). EndsWithLine a b (x ++ state_line setup p) 0 4) (mount_is p writes gear e f) (ends_part a b (mount_line writes gear) (state_line setup p) 0 part)
+
+wrote_last : (slots : ℕ) (setup : Setup) (start final : Option Trail) (p : Point) (number count : ℕ) (text line : List ℕ) (before after : Option (List ℕ)) (code status : ℕ) → GenOutput slots setup start final p number count code (text ++ line)
+    → (e : EndsWithLine before after line code status) → GenWrote slots setup start final p number count status (text ++ take e.count line)
+wrote_last slots setup start final p number count text line before after code status out e = elim e.whole [
+  | inl four ↦ last_line four code (text ++ line) (drop e.count line) out
+      (ap (λ x. text ++ x) (sym (take-append-drop e.count line)) ∙ sym (append_assoc text (take e.count line) (drop e.count line)))
+  | inr all ↦ whole (subst (λ (k : ℕ). GenOutput slots setup start final p number count k (text ++ take e.count line)) (sym all.1)
+      (subst (λ (x : List ℕ). GenOutput slots setup start final p number count code (text ++ x)) (sym (taken e.count line all.0)) out))
+]
+  where
+    taken : (n : ℕ) (line : List ℕ) → n ≡ length line → take n line ≡ line
+    taken n line is = take_all n line (omega (arith, is))
+
+-- the sink failed at the first line
+pub no_line_run : (slots : ℕ) (setup : Setup) (stood : Point → Type 0) (told : Option Trail) (first second : Option (List ℕ)) (writes gear number count : ℕ) → ((p : Point) → stood p → writes ≡ length p.history) → ((p : Point) → stood p → gear ≡ p.state.gear)
+    → (n : ℕ) × (n ≤ length (mount_line writes gear)) × GrowsByBytes first second (take n (mount_line writes gear)) → GenRun slots setup stood told told first second number count 4
+no_line_run slots setup stood told first second writes gear number count counts in_gear part = record {
+  text = take part.0 (mount_line writes gear);
+  grows = part.2;
+  wrote = λ t p at_p. first_line refl refl (drop part.0 (mount_line writes gear))
+      (sym (mount_is p writes gear (counts p at_p) (in_gear p at_p)) ∙ sym (take-append-drop part.0 (mount_line writes gear)));
+}
+
+module _ (slots : ℕ) (setup : Setup) (stood : Point → Type 0) (start middle : Option Trail) (first second third : Option (List ℕ)) (writes gear number count : ℕ) (counts : (p : Point) → stood p → writes ≡ length p.history) (in_gear : (p : Point) → stood p → gear ≡ p.state.gear) (tally : Tally) (stands : Point → Type 0) (counted : IsSome middle → (p : Point) → stood p → CountsLines slots setup start middle p number count tally stands) (gear_now energy : ℕ) (in_gear_now : (q : Point) → stands q → gear_now ≡ q.state.gear) (used : (q : Point) → stands q → energy ≡ q.energy) (head : GrowsByBytes first second (mount_line writes gear)) where
+  summary_is : (p : Point) (c : CountsLines slots setup start middle p number count tally stands) → summary count tally gear_now energy ≡ summary_of count c.all.turns c.all.end
+  summary_is p c =
+      ap (λ (t : Tally). summary count t gear_now energy) c.counts
+      ∙ ap (λ (g : ℕ). summary count (tally_of empty_tally c.all.turns) g energy) (in_gear_now c.all.end c.stands)
+      ∙ ap (λ (n : ℕ). summary count (tally_of empty_tally c.all.turns) c.all.end.state.gear n) (used c.all.end c.stands)
+
+  lines_are : (p : Point) → stood p → (c : CountsLines slots setup start middle p number count tally stands) → mount_line writes gear ++ summary count tally gear_now energy ≡ first_lines p count c.all.turns c.all.end
+  lines_are p at_p c = ap (λ x. x ++ summary count tally gear_now energy) (mount_is p writes gear (counts p at_p) (in_gear p at_p)) ∙ ap (λ x. begins_with p ++ x) (summary_is p c)
+
+  -- the sink failed within the summary
+  pub no_summary_run : (n : ℕ) × (n ≤ length (summary count tally gear_now energy)) × GrowsByBytes second third (take n (summary count tally gear_now energy)) → GenRun slots setup stood start middle first third number count 4
+  no_summary_run part =
+      let all = summary count tally gear_now energy in
+      record {
+        text = mount_line writes gear ++ take part.0 all;
+        grows = GrowsByBytes-then first second third (mount_line writes gear) (take part.0 all) head part.2;
+        wrote = λ t p at_p.
+            let c = counted t p at_p in
+            before_flush refl c.all (drop part.0 all)
+            (sym (lines_are p at_p c) ∙ ap (λ x. mount_line writes gear ++ x) (sym (take-append-drop part.0 all)) ∙ sym (append_assoc (mount_line writes gear) (take part.0 all) (drop part.0 all)));
+      }
+
+  module _ (told_lines : GrowsByBytes second third (summary count tally gear_now energy)) (final : Option Trail) (last : Option (List ℕ)) (new_stood : Point → Type 0) (slots_now : ℕ) (setup_now : Setup) (same_slots : slots_now ≡ slots) (same_setup : setup_now ≡ setup) (tells : IsSome final → IsSome middle) (status : ℕ) where
+    ends : (answer : Answer) (line : List ℕ) (code : ℕ) → ((q : Point) → stands q → Ran middle final (GoesOn slots_now setup_now q Flush answer new_stood))
+        → EndsWithLine third last line code status
+        → ((p : Point) (e : Flushes slots setup start final p number count answer) → GenOutput slots setup start final p number count code (first_lines p count e.lines.turns e.lines.end ++ line))
+        → GenRun slots setup stood start final first last number count status
+    ends answer line code goes end out =
+        let text = mount_line writes gear ++ summary count tally gear_now energy in
+        record {
+          text = text ++ take end.count line;
+          grows = GrowsByBytes-then first third last text (take end.count line) (GrowsByBytes-then first second third (mount_line writes gear) (summary count tally gear_now energy) head told_lines) end.grows;
+          wrote = λ t p at_p.
+              let c = counted (tells t) p at_p in
+              let f = flushes c answer final new_stood slots_now setup_now same_slots same_setup goes t in
+              subst (λ (x : List ℕ). GenWrote slots setup start final p number count status (x ++ take end.count line)) (sym (lines_are p at_p c))
+              (wrote_last slots setup start final p number count (first_lines p count c.all.turns c.all.end) line third last code status
+              (out p (record { middle = middle; lines = c.all; all = f.all; calls = f.calls; turns = f.turns })) end);
+        }
+
+    pub done_gen : (kept : ℕ) → ((q : Point) → stands q → Ran middle final (GoesOn slots_now setup_now q Flush (Flushed kept) new_stood)) → EndsWithLine third last (end_line kept) 0 status
+        → GenRun slots setup stood start final first last number count status
+    done_gen kept goes end = ends (Flushed kept) (end_line kept) 0 goes end (λ p e. done kept e)
+
+    pub halted_gen : (halt : Halt) → ((q : Point) → stands q → Ran middle final (GoesOn slots_now setup_now q Flush (Halted halt) new_stood)) → EndsWithLine third last (halt_line halt) (status_of_halt halt) status
+        → GenRun slots setup stood start final first last number count status
+    halted_gen halt goes end = ends (Halted halt) (halt_line halt) (status_of_halt halt) goes end (λ p e. halted halt e)
+
+pub gen_headline : (slots : ℕ) (setup : Setup) (began : ℕ) (stood : Point → Type 0) (start final : Option Trail) (written_before written : Option (List ℕ)) (number count status : ℕ)
+    → IsMountedFromEach slots setup began start stood → GenRun slots setup stood start final written_before written number count status
+    → GenHeadline slots setup began start final written_before written number count status
+gen_headline slots setup began stood start final written_before written number count status mounted r = record {
+  text = r.text;
+  grows = r.grows;
+  said = λ t. IsMountedFromEach-follows slots setup began start stood (GenFollows slots setup start final number count status r.text)
+      (λ p mark here at_p. record {
+        wrote = r.wrote t p at_p;
+        left = λ events c. stretch_leaves slots setup start final p events c mark (here c.from c.was);
+      }) mounted;
+}

@@ -1,0 +1,73 @@
+use Rattle.std.proofs.Common.{rules}
+use Rattle.paraid_base.proofs.ToldLemmas.{GrowsByBytes-then}
+use Rattle.paraid_serve.proofs.GrowsLemmas.{grows_none, grows_then, told_then}
+use Rattle.paraid_serve.proofs.HaltLemmas.{names_two, no_event_yet, tells_wear}
+use Rattle.paraid_program.proofs.LineLemmas.{done_gen, halted_gen, no_line_run, no_summary_run}
+use Rattle.paraid_program.proofs.generate.serve_generated.Goals as goal
+
+pub returns-in_default-write_all : goal.returns-in_default-write_all
+returns-in_default-write_all g c = record {
+  run = no_summary_run _ _ _ _ _ _ _ _ c.writes.result c.gear.result _ _ (c.writes.ensures c.requires.going) c.gear.ensures _ _ c.answer_lines-tally.ensures.counted c.gear-2.result c.energy.result c.gear-2.ensures c.energy.ensures
+      (rw (c.as_slice.ensures.value, c.mount_text.ensures) at c.in-Ok.ensures.grows)
+      (rw (c.as_slice-2.ensures.value, c.summary_text.ensures) at c.in_default-write_all.ensures.part);
+  told = search rules;
+  status = search rules;
+  present = search rules;
+  two = search rules;
+  worn = search rules;
+  sink = search rules;
+}
+
+pub returns-in_default : goal.returns-in_default
+returns-in_default g c = record {
+  run = no_line_run _ _ _ _ _ _ c.writes.result c.gear.result _ _ (c.writes.ensures c.requires.going) c.gear.ensures (rw (c.as_slice.ensures.value, c.mount_text.ensures) at c.in_default.ensures.part);
+  told = grows_none _;
+  status = search rules;
+  present = search rules;
+  two = search rules;
+  worn = search rules;
+  sink = search rules;
+}
+
+pub returns-in-Ok-finish : goal.returns-in-Ok-finish
+returns-in-Ok-finish g c = record {
+  run =
+      let a = c.answer_lines-tally.ensures in
+      let f = c.in-Ok-finish.ensures in
+      done_gen _ _ _ _ _ _ _ _ c.writes.result c.gear.result _ _ (c.writes.ensures c.requires.going) c.gear.ensures _ _ a.counted c.gear-2.result c.energy.result c.gear-2.ensures c.energy.ensures
+      (rw (c.as_slice.ensures.value, c.mount_text.ensures) at c.in-Ok.ensures.grows)
+      (rw (c.as_slice-2.ensures.value, c.summary_text.ensures) at c.in-Ok-write_all.ensures.grows)
+      _ _ _ _ _ a.slots a.setup (told_then _ _ f.told) _ c.in-Ok-finish.writes f.turn
+      (rw (c.as_slice-in-Ok-finish.ensures.value, c.end_text.ensures) at c.last.ensures.ends);
+  told = grows_then _ _ _ c.answer_lines-tally.ensures.told c.in-Ok-finish.ensures.told;
+  status = search rules;
+  present = search rules;
+  two = search rules;
+  worn = search rules;
+  sink = search rules;
+}
+
+pub returns-in-Err : goal.returns-in-Err
+returns-in-Err g c = record {
+  run =
+      let a = c.answer_lines-tally.ensures in
+      let f = c.in-Err.ensures in
+      halted_gen _ _ _ _ _ _ _ _ c.writes.result c.gear.result _ _ (c.writes.ensures c.requires.going) c.gear.ensures _ _ a.counted c.gear-2.result c.energy.result c.gear-2.ensures c.energy.ensures
+      (rw (c.as_slice.ensures.value, c.mount_text.ensures) at c.in-Ok.ensures.grows)
+      (rw (c.as_slice-2.ensures.value, c.summary_text.ensures) at c.in-Ok-write_all.ensures.grows)
+      _ _ _ _ _ a.slots a.setup (told_then _ _ f.told) _ c.in-Err.halt f.turn
+      (rw (c.as_slice-in-Err.ensures.value, c.reply.ensures.value, c.halt_status.ensures) at c.last-in-Err.ensures.ends);
+  told = grows_then _ _ _ c.answer_lines-tally.ensures.told c.in-Err.ensures.told;
+  status = search rules;
+  present = search rules;
+  two = λ five.
+      let start = g.A.Serves.slot c.args.array.now in
+      names_two start _ c.in-Err.halt _ _ _ _ _ (c.in-Err.ensures.since start (c.answer_lines-tally.ensures.since start (no_event_yet start _ c.requires.going))).lost
+      (GrowsByBytes-then _ _ _ _ _ (rw (c.as_slice.ensures.value, c.mount_text.ensures) at c.in-Ok.ensures.grows) (rw (c.as_slice-2.ensures.value, c.summary_text.ensures) at c.in-Ok-write_all.ensures.grows))
+      (rw (c.as_slice-in-Err.ensures.value, c.reply.ensures.value, c.halt_status.ensures) at c.last-in-Err.ensures.ends) five;
+  worn = λ twelve.
+      tells_wear c.in-Err.halt _ _ _ _ _ c.in-Err.ensures.worn
+      (GrowsByBytes-then _ _ _ _ _ (rw (c.as_slice.ensures.value, c.mount_text.ensures) at c.in-Ok.ensures.grows) (rw (c.as_slice-2.ensures.value, c.summary_text.ensures) at c.in-Ok-write_all.ensures.grows))
+      (rw (c.as_slice-in-Err.ensures.value, c.reply.ensures.value, c.halt_status.ensures) at c.last-in-Err.ensures.ends) twelve;
+  sink = search rules;
+}

@@ -1,0 +1,14 @@
+use Rattle.std.proofs.Common.{rules}
+use Rattle.paraid_program.proofs.LineLemmas.{gen_headline}
+use Rattle.paraid_program.proofs.generate.serve_generated_mounted.Goals as goal
+
+pub returns : goal.returns
+returns g c = record {
+  headline = λ began mounted. gen_headline _ _ _ _ _ _ _ _ _ _ _ mounted c.serve_generated.ensures.run;
+  told = search rules;
+  status = search rules;
+  present = search rules;
+  two = search rules;
+  worn = search rules;
+  sink = search rules;
+}

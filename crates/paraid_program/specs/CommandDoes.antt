@@ -1,0 +1,31 @@
+-- How the program may end, over every source, sink and rack.
+use Rattle.std.specs.Prelude.{ℕ, List, Option}
+use Rattle.paraid_program.specs.Outcome.{Formats}
+use Rattle.paraid_rack.specs.Slots.{Slot}
+use Rattle.paraid_rack.specs.Trail.{Trail}
+use Rattle.paraid_program.specs.Showing.{Shows}
+use Rattle.paraid_program.specs.Ends.{ChecksArray, IsStatusOfCheck, IsStatusOfGen, IsStatusOfRun, MountsAndThen, ServesGenerated, ServesLines}
+use Rattle.paraid_program.specs.declared.command.Command.{Command}
+use Rattle.paraid_program.specs.declared.command.Command.TheVariants.{Format, Run, Status, Check, Gen}
+
+-- What the program does on a command: by the number of slots, the slots before and after it, the records
+-- of the rack, what is left of the source, its faults, what was written, and the status.
+abbrev pub DoesCommand : ℕ → (ℕ → Slot) → (ℕ → Slot) → Option Trail → Option Trail → Option (List ℕ) → Option (List ℕ) → ℕ → ℕ → Option (List ℕ) → Option (List ℕ) → ℕ → Command → Type 0
+DoesCommand slots old new before after left_before left faults_before faults written_before written status (Format force) =
+    Formats force slots old new before after left_before left faults_before faults written_before written status
+DoesCommand slots old new before after left_before left faults_before faults written_before written status Run =
+    MountsAndThen slots old new before after written_before written status (ServesLines slots old new after left_before left written_before written status) × IsStatusOfRun status
+DoesCommand slots old new before after left_before left faults_before faults written_before written status Status =
+    Shows slots old new before after written_before written status
+DoesCommand slots old new before after left_before left faults_before faults written_before written status Check =
+    MountsAndThen slots old new before after written_before written status (ChecksArray slots old new after written_before written status) × IsStatusOfCheck status
+DoesCommand slots old new before after left_before left faults_before faults written_before written status (Gen number lines) =
+    MountsAndThen slots old new before after written_before written status (ServesGenerated slots old new after written_before written number lines status) × IsStatusOfGen status
+
+-- a command that takes the source
+abbrev pub TakesSource : Command → Type 0
+TakesSource (Format force) = Unit {0}
+TakesSource Run = Unit {0}
+TakesSource Status = ⊥
+TakesSource Check = ⊥
+TakesSource (Gen number lines) = ⊥

@@ -1,0 +1,94 @@
+-- How a format comes out, by its status.
+use Rattle.std.specs.Prelude.{◌≡◌, ◌≢◌, ℕ, ◌<◌, ◌≤◌, ◌⊎◌, ◌++◌, Bool, false, List, [], Option, Some, None, codes, decimal}
+use Rattle.paraid_base.specs.Regions.{disk_size}
+use Rattle.paraid_config.specs.declared.fault.ConfigFault.{ConfigFault}
+use Rattle.paraid_config.specs.declared.fault.ConfigFault.TheVariants.{NoMemory}
+use Rattle.paraid_serve.specs.Ending.{EndsWithLine}
+use Rattle.paraid_recover.specs.Attached.{fresh_slot}
+use Rattle.paraid_recover.specs.Calls.{AreFormatCalls}
+use Rattle.paraid_recover.specs.First.{first_meta}
+use Rattle.paraid_recover.specs.Found.{IsUnclaimed}
+use Rattle.paraid_recover.specs.Between.{RanBetween}
+use Rattle.paraid_recover.specs.FormatRefusals.{IsFormatRefusal}
+use Rattle.paraid_recover.specs.declared.format_fault.FormatFault.{FormatFault}
+use Rattle.paraid_recover.specs.declared.format_fault.FormatFault.TheVariants.{AlreadyFormatted, Disk}
+use Rattle.paraid_image.specs.RunStart.{IsRunStart}
+use Rattle.paraid_image.specs.Formatted.{IsFormatted}
+use Rattle.paraid_rack.specs.Disks.{Disks}
+use Rattle.paraid_rack.specs.Slots.{Slot}
+use Rattle.paraid_rack.specs.Told.{Ran}
+use Rattle.paraid_rack.specs.Trail.{Trail, now}
+use Rattle.paraid_record.specs.declared.meta.Setup.{Setup}
+use Rattle.paraid_program.specs.Lines.{config_line, formatted_line}
+use Rattle.paraid_program.specs.Reading.{IsConfigured, IsUnread}
+use Rattle.paraid_program.specs.declared.refusal.Refusal.{Refusal}
+use Rattle.paraid_program.specs.declared.refusal.Refusal.TheVariants.{Source, Config, Format}
+
+-- no call was made on the rack
+pub record IsUntouched (old new : ℕ → Slot) (told told_now : Option Trail) : Type 0 where
+  pub slots : (d : ℕ) → new d ≡ old d
+  pub calls : told_now ≡ told
+
+-- The disks are those of an array that holds no write, and a run can begin there.
+pub record IsEmptyArray (slots : ℕ) (setup : Setup) (s : Disks) : Type 0 where
+  pub formatted : IsFormatted slots s (first_meta setup)
+  pub entry : IsRunStart slots s [] 0 None
+
+-- Where nothing was loose past the disks of the array, they are now those of one that holds no write.
+abbrev pub BecomesEmpty : ℕ → Setup → Disks → Disks → Type 0
+BecomesEmpty slots setup start s = ((d p : ℕ) → setup.geometry.disks ≤ d → start.loose d p ≡ false) → IsEmptyArray slots setup s
+
+-- a new array was made of the first slots
+pub record IsArrayMade (force : Bool) (slots : ℕ) (old new : ℕ → Slot) (told told_now : Option Trail) (setup : Setup) : Type 0 where
+  pub enough : setup.geometry.disks ≤ slots
+  -- each of its disks is a fresh one of exactly the size that it needs, and no other slot was touched
+  pub fresh : (d : ℕ) → d < setup.geometry.disks → new d ≡ fresh_slot (disk_size setup.geometry) (old d)
+  pub others : (d : ℕ) → setup.geometry.disks ≤ d → new d ≡ old d
+  -- without force no log disk said that it belonged to an array
+  pub free : force ≡ false → RanBetween told told_now (λ start s. IsUnclaimed start)
+  pub calls : Ran told told_now (λ start calls. AreFormatCalls force setup.geometry.disks (disk_size setup.geometry) calls)
+  pub synced : (t : Trail) → told_now ≡ Some t → (d p : ℕ) → d < setup.geometry.disks → (now t).loose d p ≡ false
+  pub empty : RanBetween told told_now (BecomesEmpty slots setup)
+
+-- no array was made, though the setup is known
+pub record IsArrayUnmade (force : Bool) (slots : ℕ) (old new : ℕ → Slot) (told told_now : Option Trail) (setup : Setup) (fault : FormatFault) : Type 0 where
+  pub cause : IsFormatRefusal force setup.geometry.disks slots old new told told_now fault
+  pub others : (d : ℕ) → setup.geometry.disks ≤ d → new d ≡ old d
+  pub calls : Ran told told_now (λ start calls. AreFormatCalls force setup.geometry.disks (disk_size setup.geometry) calls)
+
+-- How a format came out that met no fault of the sink: its status, and the line that tells it.
+pub data FormatOutcome (force : Bool) (slots : ℕ) (old new : ℕ → Slot) (told told_now : Option Trail) (before after : Option (List ℕ)) (faults faults_now : ℕ) : ℕ → List ℕ → Type 0 where
+  -- the source gave its end, and the array that it describes was made
+  done : (setup : Setup) → IsConfigured before after setup → IsArrayMade force slots old new told told_now setup
+      → FormatOutcome force slots old new told told_now before after faults faults_now 0 (formatted_line setup)
+  source : IsUnread before after faults faults_now Source → IsUntouched old new told told_now
+      → FormatOutcome force slots old new told told_now before after faults faults_now 3 (codes "source\n")
+  no_memory : IsUnread before after faults faults_now (Config NoMemory) → IsUntouched old new told told_now
+      → FormatOutcome force slots old new told told_now before after faults faults_now 7 (codes "nomemory\n")
+  config : (fault : ConfigFault) → fault ≢ NoMemory → IsUnread before after faults faults_now (Config fault) → IsUntouched old new told told_now
+      → FormatOutcome force slots old new told told_now before after faults faults_now 8 (config_line fault)
+  -- a log disk belongs to an array, and only reads were made
+  already : (setup : Setup) (epoch : ℕ) → IsConfigured before after setup → IsArrayUnmade force slots old new told told_now setup (AlreadyFormatted epoch)
+      → FormatOutcome force slots old new told told_now before after faults faults_now 9 (codes "already " ++ decimal epoch ++ codes "\n")
+  -- the disk has failed; or it is the number of slots, the array needs more, and only reads were made
+  disk : (setup : Setup) (d : ℕ) → IsConfigured before after setup → IsArrayUnmade force slots old new told told_now setup (Disk d)
+      → FormatOutcome force slots old new told told_now before after faults faults_now 11 (codes "disk " ++ decimal d ++ codes "\n")
+
+-- A format came out so, and its line was told; at 4 only a first part of it was.
+pub record Formats (force : Bool) (slots : ℕ) (old new : ℕ → Slot) (told told_now : Option Trail) (before after : Option (List ℕ)) (faults faults_now : ℕ) (written_before written : Option (List ℕ)) (status : ℕ) : Type 0 where
+  pub code : ℕ
+  pub line : List ℕ
+  pub outcome : FormatOutcome force slots old new told told_now before after faults faults_now code line
+  pub ends : EndsWithLine written_before written line code status
+
+-- why no array was made
+abbrev pub IsRefusalCause : Bool → ℕ → (ℕ → Slot) → (ℕ → Slot) → Option Trail → Option Trail → Option (List ℕ) → Option (List ℕ) → ℕ → ℕ → Refusal → Type 0
+IsRefusalCause force slots old new told told_now before after faults faults_now Source = IsUnread before after faults faults_now Source × IsUntouched old new told told_now
+IsRefusalCause force slots old new told told_now before after faults faults_now (Config fault) =
+    IsUnread before after faults faults_now (Config fault) × IsUntouched old new told told_now
+IsRefusalCause force slots old new told told_now before after faults faults_now (Format fault) =
+    (setup : Setup) × IsConfigured before after setup × IsArrayUnmade force slots old new told told_now setup fault
+
+-- the statuses of a format
+abbrev pub IsFormatStatus : ℕ → Type 0
+IsFormatStatus status = (status ≡ 0) ⊎ (status ≡ 3) ⊎ (status ≡ 4) ⊎ (status ≡ 7) ⊎ (status ≡ 8) ⊎ (status ≡ 9) ⊎ (status ≡ 11)

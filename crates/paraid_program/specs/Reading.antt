@@ -1,0 +1,35 @@
+-- What was taken of a source for a configuration.
+use Rattle.std.specs.Prelude.{ℕ, ◌<◌, ◌≤◌, List, length, Option}
+use Rattle.paraid_base.specs.Told.{AtEnd, Gives, HasRisen}
+use Rattle.paraid_config.specs.Config.{IsConfigurationOf, IsConfigRefusal}
+use Rattle.paraid_config.specs.declared.fault.ConfigFault.{ConfigFault}
+use Rattle.paraid_config.specs.declared.fault.ConfigFault.TheVariants.{Long, NoMemory}
+use Rattle.paraid_record.specs.declared.meta.Setup.{Setup}
+use Rattle.paraid_program.specs.declared.refusal.Refusal.{Refusal}
+use Rattle.paraid_program.specs.declared.refusal.Refusal.TheVariants.{Source, Config, Format}
+
+-- The source gave these bytes and its end, and they are the configuration of this setup.
+pub record IsConfigured (before after : Option (List ℕ)) (setup : Setup) : Type 0 where
+  pub bytes : List ℕ
+  pub given : Gives before after bytes
+  pub end : AtEnd after
+  pub says : IsConfigurationOf bytes setup
+
+-- Why these bytes are no configuration: they are more than one may have; or they are all that the
+-- source had, and they are refused. Memory may be wanted as long as they are few.
+abbrev pub IsMisread : List ℕ → Option (List ℕ) → ConfigFault → Type 0
+IsMisread bytes after Long = 65536 < length bytes
+IsMisread bytes after NoMemory = length bytes ≤ 65536
+IsMisread bytes after fault = AtEnd after × IsConfigRefusal bytes fault
+
+-- why nothing was read from these bytes
+abbrev pub IsReadCause : List ℕ → Option (List ℕ) → ℕ → ℕ → Refusal → Type 0
+IsReadCause bytes after faults faults_now Source = HasRisen faults faults_now
+IsReadCause bytes after faults faults_now (Config fault) = IsMisread bytes after fault
+IsReadCause bytes after faults faults_now (Format fault) = ⊥
+
+-- The source gave these bytes, and no setup was read.
+pub record IsUnread (before after : Option (List ℕ)) (faults faults_now : ℕ) (refusal : Refusal) : Type 0 where
+  pub bytes : List ℕ
+  pub given : Gives before after bytes
+  pub cause : IsReadCause bytes after faults faults_now refusal

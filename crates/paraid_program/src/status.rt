@@ -1,0 +1,45 @@
+//! The command `status`: mounts an array and tells its state in two lines, or why it was not mounted.
+ghost use Rattle.std.specs.Prelude.{◌≡◌};
+ghost use Rattle.paraid_base.specs.Told.{HasRisen};
+ghost use Rattle.paraid_program.specs.Showing.{IsShowStatus, Shows};
+
+use crate::fault::tell_refusal;
+use crate::outside::Ended;
+use crate::state::tell_state;
+use paraid_io::Sink;
+use paraid_rack::Rack;
+use paraid_recover::{MountRefused, Mounted};
+use paraid_startup::mount;
+use std::alloc::Global;
+
+/// Mounts an array, and tells its state or why it was not mounted.
+///
+/// The statuses are 0, the state was told; 4, the sink has failed; 5, two disks are down; 6, the
+/// disks in the slots make no array; 7, there was no memory; and 12, the array takes no more.
+pub fn show_state<K: Sink, R: Rack>(alloc: Global, sink: &mut K, rack: R) -> Ended<R>
+    ensures shows { Shows (R.slot_count rack) (R.slot rack) (R.slot result.rack) (R.told rack)
+        (R.told result.rack) (K.written sink.old) (K.written sink.new) result.status }
+    ensures status { IsShowStatus result.status }
+    ensures sink { result.status ≡ 4 → HasRisen (K.faults sink.old) (K.faults sink.new) }
+{
+    match mount(alloc, rack) {
+        Ok(
+            Mounted {
+                store,
+                meta,
+                dirty,
+                ..
+            },
+        ) => {
+            let status = tell_state(sink, &meta, &dirty);
+            Ended {
+                status,
+                rack: store.close(),
+            }
+        }
+        Err(MountRefused { fault, rack }) => Ended {
+            status: tell_refusal(sink, fault),
+            rack,
+        },
+    }
+}
