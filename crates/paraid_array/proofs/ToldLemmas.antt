@@ -7,7 +7,7 @@ use Rattle.paraid_rack.specs.Told.{Ran}
 use Rattle.paraid_rack.specs.Trail.{Trail}
 use Rattle.paraid_rack.proofs.TrailsLemmas.{Ran-none, Ran-then}
 use Rattle.paraid_recover.specs.HeldMoments.{Extends}
-use Rattle.paraid_startup.proofs.MountedLemmas.{ran_extends}
+use Rattle.paraid_recover.proofs.MountedLemmas.{ran_extends}
 use Rattle.paraid_txn.specs.Stores.{store_rack}
 use Rattle.paraid_core.specs.declared.staged.Core.{Core}
 use Rattle.paraid_core.specs.Cores.{core_rack}

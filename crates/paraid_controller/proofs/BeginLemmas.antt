@@ -31,8 +31,8 @@ use Rattle.paraid_txn.specs.declared.store.Store.{Store}
 use Rattle.paraid_txn.specs.Stores.{disks_of, epoch_of, named_of, store_rack}
 use Rattle.paraid_session.specs.Turn.{IsMark, Point}
 use Rattle.paraid_session.proofs.MountLemmas.{IsMountedFromEach-follows}
-use Rattle.paraid_startup.specs.First.{IsFirstPoint, first_point}
-use Rattle.paraid_startup.proofs.ToldLemmas.{same_trail}
+use Rattle.paraid_recover.specs.FirstPoint.{IsFirstPoint, first_point}
+use Rattle.paraid_recover.proofs.ToldLemmas.{same_trail}
 use Rattle.paraid_event.specs.First.{BeginsService}
 use Rattle.paraid_event.specs.Service.{Service}
 use Rattle.paraid_event.specs.Stands.{StandsAt}

@@ -10,7 +10,7 @@ use Rattle.paraid_recover.specs.Mount.{HasMounted}
 use Rattle.paraid_recover.specs.Mounted.{IsServable}
 use Rattle.paraid_session.specs.Mount.{IsMountedFromEach}
 use Rattle.paraid_session.specs.Turn.{Point}
-use Rattle.paraid_startup.specs.First.{IsFirstPoint}
+use Rattle.paraid_recover.specs.FirstPoint.{IsFirstPoint}
 use Rattle.paraid_txn.specs.Stores.{disks_of, epoch_of, named_of}
 use Rattle.paraid_event.specs.Service.{Service, service_of}
 use Rattle.paraid_event.specs.Stands.{StandsAt}

@@ -15,15 +15,14 @@ ghost use Rattle.paraid_recover.specs.Mounted.{AreAllSynced};
 ghost use Rattle.paraid_controller.specs.Begun.{IsMountedCore, StandsBegun};
 ghost use Rattle.paraid_session.specs.Mount.{IsMountedFromEach, IsRefusedFromEach};
 ghost use Rattle.paraid_shift.specs.Serving.{AreAllLarge, IsCoreServing};
-ghost use Rattle.paraid_startup.specs.Refusals.{refusal_by_fault};
+ghost use Rattle.paraid_recover.specs.StartRefusals.{refusal_by_fault};
 ghost use Rattle.paraid_txn.specs.Stores.{named_of};
 
 use paraid_base::NoMemory;
 use paraid_core::{Changes, Core, a_powered_array_can_begin};
 use paraid_gear::Windows;
 use paraid_rack::Rack;
-use paraid_recover::{MountFault, MountRefused, Mounted};
-use paraid_startup::mount;
+use paraid_recover::{MountFault, MountRefused, Mounted, mount};
 use paraid_view::Draft;
 use std::alloc::Global;
 

@@ -5,7 +5,7 @@ ghost use Rattle.paraid_recover.specs.HeldMoments.{Extends};
 ghost use Rattle.paraid_recover.specs.Mount.{IsCauseOfRefusal};
 ghost use Rattle.paraid_controller.specs.Begun.{IsMountedCore};
 ghost use Rattle.paraid_session.specs.Mount.{IsMountedFromEach, IsRefusedFromEach};
-ghost use Rattle.paraid_startup.specs.Refusals.{refusal_by_fault};
+ghost use Rattle.paraid_recover.specs.StartRefusals.{refusal_by_fault};
 ghost use Rattle.paraid_controller.specs.Arrays.{ArrayStandsAt, HasNothingStaged, core_of_array, halt_of_array, meta_of_array, setup_of_array, slot_of_array, slots_of_array, told_of_array};
 
 use crate::Array;

@@ -27,8 +27,8 @@ use Rattle.paraid_core.proofs.AttachStoodLemmas.{attach_base, attach_stood}
 use Rattle.paraid_machine.specs.Moves.{with_spins, without_spin_ups}
 use Rattle.paraid_moves.specs.MoveMetas.{meta_with_out}
 use Rattle.paraid_session.specs.Watch.{Bounds, Down, Each, HoldsWhileServing, IsAllowed, IsHeldWhileServing, IsServing, IsWithinBounds, Watch, awaited_after, fails_on, only, watch, watch_all}
-use Rattle.paraid_startup.proofs.DownLemmas.{in_absent, in_stays}
-use Rattle.paraid_startup.proofs.SpinsLemmas.{same_used}
+use Rattle.paraid_recover.proofs.DownLemmas.{in_absent, in_stays}
+use Rattle.paraid_recover.proofs.SpinsLemmas.{same_used}
 use Rattle.paraid_txn.specs.Uses.{EachCall}
 use Rattle.paraid_event.proofs.ApartLemmas.{no_one}
 use Rattle.paraid_event.specs.Marks.{ArePoweredByGear}

@@ -21,12 +21,12 @@ use Rattle.paraid_core.specs.Calls.{IsDataCall, IsPastLog, IsTransfer, IsTransfe
 use Rattle.paraid_core.specs.CoreInvariant.{IsHeldWithOneMissing}
 use Rattle.paraid_session.specs.Watch.{Bounds, Each, HoldsWhileServing, IsAllowed, IsHeldWhileServing, IsServing, Watch, watch, watch_all}
 use Rattle.paraid_session.proofs.LayerLemmas.{IsHeldMissing, IsIn, each_both, each_held, each_map}
-use Rattle.paraid_startup.specs.Calls.{IsSpinUpRecorded}
-use Rattle.paraid_startup.specs.Recorded.{IsStill, IsWithinBoundsAt, StaysWithin, StaysWithinAt}
-use Rattle.paraid_startup.proofs.CallsLemmas.{each_map as each_call_map}
-use Rattle.paraid_startup.proofs.DownLemmas.{in_absent, in_stays, several_in}
-use Rattle.paraid_startup.proofs.SpinsLemmas.{looked_power}
-use Rattle.paraid_startup.proofs.StillLemmas.{each_still}
+use Rattle.paraid_recover.specs.StartCalls.{IsSpinUpRecorded}
+use Rattle.paraid_recover.specs.RecordedSpins.{IsStill, IsWithinBoundsAt, StaysWithin, StaysWithinAt}
+use Rattle.paraid_recover.proofs.CallsLemmas.{each_map as each_call_map}
+use Rattle.paraid_recover.proofs.DownLemmas.{in_absent, in_stays, several_in}
+use Rattle.paraid_recover.proofs.SpinsLemmas.{looked_power}
+use Rattle.paraid_recover.proofs.StartStillLemmas.{each_still}
 use Rattle.paraid_txn.specs.Commit.{ImageStandsFor, IsEitherMissing, IsOldOrNew, IsOneMissing}
 use Rattle.paraid_txn.specs.Uses.{EachCall}
 use Rattle.paraid_event.specs.Service.{Service}

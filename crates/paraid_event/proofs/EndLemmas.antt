@@ -21,9 +21,9 @@ use Rattle.paraid_image.proofs.FailedCallLemmas.{failed_is_loss}
 use Rattle.paraid_core.specs.Calls.{IsDataCall, IsTransferCall}
 use Rattle.paraid_session.specs.Watch.{Down, IsServing, Watch, down_from_out, fails_on, nobody, only, several, watch, watch_all, with_down}
 use Rattle.paraid_session.proofs.LayerLemmas.{IsIn}
-use Rattle.paraid_startup.proofs.DownLemmas.{watched_disks}
+use Rattle.paraid_recover.proofs.DownLemmas.{watched_disks}
 use Rattle.paraid_txn.specs.Commit.{IsOldOrNew}
-use Rattle.paraid_startup.proofs.SpinsLemmas.{same_used}
+use Rattle.paraid_recover.proofs.SpinsLemmas.{same_used}
 use Rattle.paraid_txn.specs.Uses.{EachCall}
 use Rattle.paraid_event.proofs.ApartLemmas.{no_one}
 use Rattle.paraid_event.specs.Marks.{IsMarkedBy}

@@ -35,8 +35,8 @@ use Rattle.paraid_session.specs.Turn.{GoesOn, IsMark, Point, bounds_at, point_we
 use Rattle.paraid_session.specs.Turn.IsTurn.{answered}
 use Rattle.paraid_session.specs.Watch.{Bounds, Down, Each, HoldsWhileServing, IsAllowed, IsServing, Watch, attach_count, down_from_out, fails_on, first_lost, only, watch_all, with_down}
 use Rattle.paraid_session.proofs.LayerLemmas.{IsIn, first_fails}
-use Rattle.paraid_startup.proofs.BaseLemmas.{each_append}
-use Rattle.paraid_startup.proofs.DownLemmas.{in_stays, watched_disks}
+use Rattle.paraid_recover.proofs.BaseLemmas.{each_append}
+use Rattle.paraid_recover.proofs.DownLemmas.{in_stays, watched_disks}
 use Rattle.paraid_event.proofs.ApartLemmas.{fail_not_bad, gone_not_fresh, no_one}
 use Rattle.paraid_event.specs.Fails.{TakesOut}
 use Rattle.paraid_event.specs.Marks.{ArePoweredByGear, IsMarkedBy, ShowsMeta}

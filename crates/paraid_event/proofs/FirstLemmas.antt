@@ -23,9 +23,9 @@ use Rattle.paraid_recover.specs.RecoveryMark.{to_mark}
 use Rattle.paraid_session.specs.Turn.{Point}
 use Rattle.paraid_session.specs.Watch.{down_from_out}
 use Rattle.paraid_session.proofs.LayerLemmas.{IsIn}
-use Rattle.paraid_startup.specs.First.{first_point}
-use Rattle.paraid_startup.proofs.FirstLemmas.{loss_shown}
-use Rattle.paraid_startup.proofs.RestLemmas.{rest_only}
+use Rattle.paraid_recover.specs.FirstPoint.{first_point}
+use Rattle.paraid_recover.proofs.FirstLemmas.{loss_shown}
+use Rattle.paraid_recover.proofs.RestLemmas.{rest_only}
 use Rattle.paraid_event.proofs.ApartLemmas.{gone_not_fresh, no_one, none_not_fresh}
 use Rattle.paraid_event.specs.First.{BeginsService}
 use Rattle.paraid_event.specs.Marks.{ArePoweredByGear, ShowsMeta}

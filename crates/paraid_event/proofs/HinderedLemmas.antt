@@ -33,7 +33,7 @@ use Rattle.paraid_event.specs.Stands.{StandsAt}
 use Rattle.paraid_event.proofs.EventLemmas.{told_turn}
 use Rattle.paraid_event.proofs.MarksLemmas.{newly_named}
 use Rattle.paraid_event.proofs.TurnLemmas.{absent_named, lost_named, marks, state_after, state_then, turn_by}
-use Rattle.paraid_startup.proofs.DownLemmas.{watched_disks}
+use Rattle.paraid_recover.proofs.DownLemmas.{watched_disks}
 
 same_counts : (k k_then : Service) → CountsFlushed k k_then → (s : PowerState) → IsStateOf (with_counts_of k_then k) s → IsStateOf k_then s
 same_counts k k_then counts s of = record {

@@ -32,7 +32,7 @@ use Rattle.paraid_session.specs.Turn.{GoesOn, Point, bounds_at, point_wear}
 use Rattle.paraid_session.specs.Turn.IsTurn.{again, answered, bad}
 use Rattle.paraid_session.specs.Watch.{HoldsWhileServing, IsServing, down_from_out}
 use Rattle.paraid_session.specs.Resting.{watch_at}
-use Rattle.paraid_startup.proofs.RestLemmas.{rest_only}
+use Rattle.paraid_recover.proofs.RestLemmas.{rest_only}
 use Rattle.paraid_event.proofs.ApartLemmas.{tick_not_bad}
 use Rattle.paraid_event.specs.Service.{IsStateOf, Service}
 use Rattle.paraid_event.specs.Stands.{ServiceStandsFor, StandsAt, StandsIn}

@@ -28,8 +28,8 @@ use Rattle.paraid_image.proofs.StandingLemmas.{Stands-same}
 use Rattle.paraid_moves.specs.Copying.{IsCopying}
 use Rattle.paraid_moves.proofs.CopyCommitLemmas.{rest_from_copying}
 use Rattle.paraid_core.specs.Calls.{IsPastLog}
-use Rattle.paraid_startup.proofs.RestLemmas.{out_by_name}
-use Rattle.paraid_startup.proofs.SetupLemmas.{self_at}
+use Rattle.paraid_recover.proofs.RestLemmas.{out_by_name}
+use Rattle.paraid_recover.proofs.SetupLemmas.{self_at}
 
 -- The log of disk `x` is as it was, where the disk is there: what was not loose is so still, and is the same.
 pub record IsLogHeld (s t : Disks) (x : ℕ) : Type 0 where

@@ -16,9 +16,9 @@ use Rattle.paraid_machine.specs.Moves.{after_loss}
 use Rattle.paraid_core.specs.Calls.{IsDataCall, IsTransferCall}
 use Rattle.paraid_session.specs.Watch.{Bounds, Each, HoldsWhileServing, IsAllowed, IsServing, Watch, attach_count, fails_on, first_lost, watch_all}
 use Rattle.paraid_session.proofs.LayerLemmas.{IsIn, absent_failed, fails_first, first_fails}
-use Rattle.paraid_startup.specs.Recorded.{StaysWithinAt}
-use Rattle.paraid_startup.proofs.CallsLemmas.{each_map as each_call_map}
-use Rattle.paraid_startup.proofs.DownLemmas.{watched_disks}
+use Rattle.paraid_recover.specs.RecordedSpins.{StaysWithinAt}
+use Rattle.paraid_recover.proofs.CallsLemmas.{each_map as each_call_map}
+use Rattle.paraid_recover.proofs.DownLemmas.{watched_disks}
 use Rattle.paraid_txn.specs.Uses.{EachCall}
 use Rattle.paraid_event.proofs.ApartLemmas.{no_one}
 use Rattle.paraid_event.specs.Marks.{ArePoweredByGear, IsMarkedBy, ShowsMeta}

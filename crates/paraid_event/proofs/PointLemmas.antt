@@ -17,8 +17,8 @@ use Rattle.paraid_moves.proofs.RunLemmas.{copies_held}
 use Rattle.paraid_session.specs.Turn.{IsMark, Point, bounds_at}
 use Rattle.paraid_session.specs.Watch.{IsHeldWhileServing, IsWithinBounds, down_from_out}
 use Rattle.paraid_session.specs.Resting.{IsResting}
-use Rattle.paraid_startup.proofs.RestLemmas.{rest_only}
-use Rattle.paraid_startup.proofs.SpinsLemmas.{looked_power, same_used}
+use Rattle.paraid_recover.proofs.RestLemmas.{rest_only}
+use Rattle.paraid_recover.proofs.SpinsLemmas.{looked_power, same_used}
 use Rattle.paraid_event.specs.Service.{Service}
 use Rattle.paraid_event.specs.Stands.{StandsAt}
 use Rattle.paraid_event.proofs.MarksLemmas.{gone_is_named, named_state, powers_of, state_shown}

@@ -36,11 +36,11 @@ use Rattle.paraid_machine.specs.Moves.{after_loss}
 use Rattle.paraid_recover.specs.Powers.{IsPowerCall}
 use Rattle.paraid_session.specs.Watch.{Bounds, Down, Each, HoldsWhileServing, IsAllowed, IsHeldWhileServing, IsServing, Watch, attach_count, awaited_after, fails_on, first_lost, nobody, only, several, watch, watch_all, with_down}
 use Rattle.paraid_session.proofs.LayerLemmas.{IsHeldMissing, IsIn, absent_failed, each_both, each_held, each_map, fails_first, first_fails}
-use Rattle.paraid_startup.specs.Calls.{IsSpinUpRecorded}
-use Rattle.paraid_startup.specs.Recorded.{AreSpinUpsRecorded, HasRecord, OnlyStands, StaysWithin}
-use Rattle.paraid_startup.proofs.CallsLemmas.{each_map as each_call_map}
-use Rattle.paraid_startup.proofs.DownLemmas.{in_absent, in_stays, watched_disks}
-use Rattle.paraid_startup.proofs.SpinsLemmas.{each_recorded, one_recorded, serving_by}
+use Rattle.paraid_recover.specs.StartCalls.{IsSpinUpRecorded}
+use Rattle.paraid_recover.specs.RecordedSpins.{AreSpinUpsRecorded, HasRecord, OnlyStands, StaysWithin}
+use Rattle.paraid_recover.proofs.CallsLemmas.{each_map as each_call_map}
+use Rattle.paraid_recover.proofs.DownLemmas.{in_absent, in_stays, watched_disks}
+use Rattle.paraid_recover.proofs.SpinsLemmas.{each_recorded, one_recorded, serving_by}
 use Rattle.paraid_txn.specs.Uses.{EachCall}
 use Rattle.paraid_event.proofs.ApartLemmas.{no_one}
 use Rattle.paraid_event.specs.Marks.{ArePoweredByGear, IsMarkedBy, ShowsMeta}

@@ -23,7 +23,7 @@ use Rattle.paraid_session.specs.Turn.IsTurn.{answered}
 use Rattle.paraid_session.specs.Watch.{Bounds, Each, HoldsWhileServing, IsAllowed, IsServing, Watch, down_from_out, fails_on, first_lost, watch, watch_all}
 use Rattle.paraid_session.proofs.LayerLemmas.{first_fails}
 use Rattle.paraid_session.specs.Resting.{watch_at}
-use Rattle.paraid_startup.proofs.DownLemmas.{watched_disks}
+use Rattle.paraid_recover.proofs.DownLemmas.{watched_disks}
 use Rattle.paraid_event.proofs.ApartLemmas.{no_one, tick_not_bad}
 use Rattle.paraid_event.specs.RebuildEnds.{MarksRejoined}
 use Rattle.paraid_event.specs.RebuildTicks.{CountsRebuild}

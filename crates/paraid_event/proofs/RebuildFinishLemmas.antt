@@ -27,7 +27,7 @@ use Rattle.paraid_moves.specs.MoveMetas.{meta_with_out}
 use Rattle.paraid_session.specs.Turn.{GoesOn, Point, point_wear}
 use Rattle.paraid_session.specs.Watch.{Bounds, HoldsWhileServing, Watch, attach_count, awaited_after, watch, watch_all}
 use Rattle.paraid_session.specs.Resting.{watch_at}
-use Rattle.paraid_startup.proofs.DownLemmas.{watched_disks}
+use Rattle.paraid_recover.proofs.DownLemmas.{watched_disks}
 use Rattle.paraid_event.proofs.ApartLemmas.{no_one}
 use Rattle.paraid_event.specs.Marks.{ShowsMeta}
 use Rattle.paraid_event.specs.Parts.{LosesInEvent, ServesEvent}

@@ -21,11 +21,11 @@ use Rattle.paraid_core.specs.Calls.{IsDataCall, IsTransferCall}
 use Rattle.paraid_moves.specs.MoveMetas.{meta_with_out}
 use Rattle.paraid_session.specs.Watch.{Bounds, Each, HoldsWhileServing, IsAllowed, IsServing, Watch, attach_count, fails_on, watch_all}
 use Rattle.paraid_session.proofs.LayerLemmas.{IsIn}
-use Rattle.paraid_startup.specs.Recorded.{StaysWithinAt}
-use Rattle.paraid_startup.proofs.BaseLemmas.{each_append}
-use Rattle.paraid_startup.proofs.CallsLemmas.{each_map as each_call_map}
-use Rattle.paraid_startup.proofs.DownLemmas.{watched_disks}
-use Rattle.paraid_startup.proofs.SpinsLemmas.{same_used}
+use Rattle.paraid_recover.specs.RecordedSpins.{StaysWithinAt}
+use Rattle.paraid_recover.proofs.BaseLemmas.{each_append}
+use Rattle.paraid_recover.proofs.CallsLemmas.{each_map as each_call_map}
+use Rattle.paraid_recover.proofs.DownLemmas.{watched_disks}
+use Rattle.paraid_recover.proofs.SpinsLemmas.{same_used}
 use Rattle.paraid_txn.specs.Commit.{IsOldOrNew}
 use Rattle.paraid_rack.specs.Told.{Through}
 use Rattle.paraid_txn.specs.Uses.{EachCall}

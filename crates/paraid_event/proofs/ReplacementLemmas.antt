@@ -46,8 +46,8 @@ use Rattle.paraid_session.specs.Turn.IsTurn.{answered}
 use Rattle.paraid_session.specs.Watch.{Bounds, Down, Each, HoldsWhileServing, IsAllowed, IsServing, Watch, attach_count, down_from_out, fails_on, first_lost, only, watch, watch_all}
 use Rattle.paraid_session.proofs.LayerLemmas.{absent_failed, fails_first, first_fails}
 use Rattle.paraid_session.specs.Resting.{watch_at}
-use Rattle.paraid_startup.proofs.BaseLemmas.{each_append}
-use Rattle.paraid_startup.proofs.DownLemmas.{watched_disks}
+use Rattle.paraid_recover.proofs.BaseLemmas.{each_append}
+use Rattle.paraid_recover.proofs.DownLemmas.{watched_disks}
 use Rattle.paraid_event.proofs.ApartLemmas.{gone_not_fresh, no_one, replace_not_bad}
 use Rattle.paraid_event.specs.Lost.{TellsTwo}
 use Rattle.paraid_event.specs.Marks.{ArePoweredByGear, IsMarkedBy, ShowsMeta}

@@ -18,7 +18,7 @@ use Rattle.paraid_core.specs.CoreInvariant.{IsHeldWithOneMissing}
 use Rattle.paraid_session.specs.Turn.{GoesOn, LosesSecondDisk, Point, point_wear}
 use Rattle.paraid_session.specs.Turn.IsTurn.{two as second_loss}
 use Rattle.paraid_session.specs.Watch.{Watch, only, watch, watch_all}
-use Rattle.paraid_startup.proofs.DownLemmas.{watched_disks}
+use Rattle.paraid_recover.proofs.DownLemmas.{watched_disks}
 use Rattle.paraid_event.proofs.ApartLemmas.{gone_not_fresh, replace_not_bad}
 use Rattle.paraid_event.specs.Lost.{IsHaltedFrom, TellsTwo}
 use Rattle.paraid_event.specs.Parts.{AreEventCalls, LosesInEvent, ServesEvent}

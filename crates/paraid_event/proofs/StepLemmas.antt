@@ -15,8 +15,8 @@ use Rattle.paraid_core.specs.Calls.{IsDataCall}
 use Rattle.paraid_core.proofs.CallLemmas.{keeps_held}
 use Rattle.paraid_session.specs.Watch.{Bounds, Down, Each, HoldsWhileServing, IsAllowed, IsServing, Watch, fails_on, first_lost, nobody, only, several, watch_all}
 use Rattle.paraid_session.proofs.LayerLemmas.{IsIn, absent_failed, fails_first, first_fails}
-use Rattle.paraid_startup.proofs.BaseLemmas.{each_append}
-use Rattle.paraid_startup.proofs.DownLemmas.{watched_disks}
+use Rattle.paraid_recover.proofs.BaseLemmas.{each_append}
+use Rattle.paraid_recover.proofs.DownLemmas.{watched_disks}
 use Rattle.paraid_txn.specs.Uses.{EachCall}
 use Rattle.paraid_event.proofs.ApartLemmas.{no_one}
 use Rattle.paraid_event.specs.Lost.{TellsTwo}

@@ -15,7 +15,7 @@ use Rattle.paraid_image.specs.Power.{power_by_gear}
 use Rattle.paraid_core.specs.Calls.{IsDataCall}
 use Rattle.paraid_session.specs.Watch.{IsServing, Watch, awaited_after, first_lost, watch, watch_all}
 use Rattle.paraid_session.proofs.LayerLemmas.{absent_failed, fails_first, first_fails}
-use Rattle.paraid_startup.proofs.DownLemmas.{watched_disks}
+use Rattle.paraid_recover.proofs.DownLemmas.{watched_disks}
 use Rattle.paraid_txn.specs.Uses.{EachCall}
 use Rattle.paraid_event.proofs.ApartLemmas.{no_one}
 use Rattle.paraid_event.specs.Lost.{TellsTwo}

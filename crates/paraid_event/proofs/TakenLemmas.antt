@@ -35,8 +35,8 @@ use Rattle.paraid_session.specs.Turn.IsSecondLossGear.{same}
 use Rattle.paraid_session.specs.Turn.IsTurn.{two as second_loss}
 use Rattle.paraid_session.specs.Watch.{Bounds, Down, Each, HoldsWhileServing, IsAllowed, IsHeldWhileServing, Watch, attach_count, before_loss, down_from_out, fails_on, first_lost, nobody, only, several, watch_all, with_down}
 use Rattle.paraid_session.proofs.LayerLemmas.{absent_failed, each_map, first_fails}
-use Rattle.paraid_startup.proofs.BaseLemmas.{each_append}
-use Rattle.paraid_startup.proofs.DownLemmas.{in_stays, watched_disks}
+use Rattle.paraid_recover.proofs.BaseLemmas.{each_append}
+use Rattle.paraid_recover.proofs.DownLemmas.{in_stays, watched_disks}
 use Rattle.paraid_event.proofs.ApartLemmas.{fail_not_bad, no_one}
 use Rattle.paraid_event.specs.Lost.{IsHaltedFrom, TellsTwo}
 use Rattle.paraid_event.specs.Marked.{MarksTakenOut}

@@ -39,7 +39,7 @@ use Rattle.paraid_session.specs.Turn.IsSecondLossGear.{same}
 use Rattle.paraid_session.specs.Turn.IsTurn.{answered, two as second_loss}
 use Rattle.paraid_session.specs.Watch.{Bounds, Down as DownDisks, Each, HoldsWhileServing, IsAllowed, IsServing, Watch, down_from_out, first_lost, nobody, only, several, watch_all}
 use Rattle.paraid_session.specs.Resting.{watch_at}
-use Rattle.paraid_startup.proofs.DownLemmas.{watched_disks}
+use Rattle.paraid_recover.proofs.DownLemmas.{watched_disks}
 use Rattle.paraid_event.proofs.ApartLemmas.{no_one, tick_not_bad}
 use Rattle.paraid_event.specs.Lost.{TellsTwo}
 use Rattle.paraid_event.specs.Marks.{ArePoweredByGear, ShowsMeta}

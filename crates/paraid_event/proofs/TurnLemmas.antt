@@ -40,9 +40,9 @@ use Rattle.paraid_session.specs.Turn.IsTurn.{answered}
 use Rattle.paraid_session.specs.Watch.{Bounds, Down, Each, HoldsWhileServing, IsAllowed, IsHeldWhileServing, IsServing, Watch, attach_count, down_from_out, first_lost, nobody, only, several, watch_all}
 use Rattle.paraid_session.proofs.LayerLemmas.{IsIn, absent_failed, each_map, fails_first, first_fails}
 use Rattle.paraid_session.specs.Resting.{watch_at}
-use Rattle.paraid_startup.specs.Recorded.{StaysWithinAt}
-use Rattle.paraid_startup.proofs.CallsLemmas.{each_map as each_call_map}
-use Rattle.paraid_startup.proofs.DownLemmas.{watched_disks}
+use Rattle.paraid_recover.specs.RecordedSpins.{StaysWithinAt}
+use Rattle.paraid_recover.proofs.CallsLemmas.{each_map as each_call_map}
+use Rattle.paraid_recover.proofs.DownLemmas.{watched_disks}
 use Rattle.paraid_txn.specs.Uses.{EachCall}
 use Rattle.paraid_event.proofs.ApartLemmas.{no_one}
 use Rattle.paraid_event.specs.Marks.{ArePoweredByGear, IsMarkedBy, ShowsMeta}

@@ -4,7 +4,7 @@ ghost use Rattle.paraid_base.specs.History.{History};
 ghost use Rattle.paraid_rack.specs.Disks.{Disks};
 ghost use Rattle.paraid_rack.specs.Trail.{Trail, now};
 ghost use Rattle.paraid_record.specs.declared.meta.Meta.{Meta as MetaType};
-ghost use Rattle.paraid_startup.specs.First.{first_point};
+ghost use Rattle.paraid_recover.specs.FirstPoint.{first_point};
 ghost use Rattle.paraid_event.specs.First.{BeginsService};
 ghost use Rattle.paraid_event.specs.Service.{Service};
 ghost use Rattle.paraid_event.specs.Stands.{StandsAt};

@@ -39,9 +39,9 @@ use Rattle.paraid_program.specs.Generating.{GenFollows, GenOutput, GenWrote, fir
 use Rattle.paraid_machine.specs.Machine.{block_count}
 use Rattle.paraid_program.specs.Generating.GenOutput.{done as gen_done, halted as gen_halted}
 use Rattle.paraid_program.specs.Generating.GenWrote.{whole as gen_whole, last_line as gen_last, before_flush as gen_before, first_line as gen_first}
-use Rattle.paraid_startup.specs.Refusals.{refusal_by_fault}
-use Rattle.paraid_startup.proofs.MountedLemmas.{refused_extends}
-use Rattle.paraid_startup.proofs.ToldLemmas.{began_calls, began_disks, same_trail}
+use Rattle.paraid_recover.specs.StartRefusals.{refusal_by_fault}
+use Rattle.paraid_recover.proofs.MountedLemmas.{refused_extends}
+use Rattle.paraid_recover.proofs.ToldLemmas.{began_calls, began_disks, same_trail}
 use Rattle.paraid_program.specs.MountFaults.{mount_fault_status}
 use Rattle.paraid_program.specs.Showing.{BeganAt, IsServedBy, ShowOutcome, Shows}
 use Rattle.paraid_program.specs.Showing.ShowOutcome.{refused as not_shown, shown}

@@ -25,8 +25,8 @@ use Rattle.paraid_program.specs.Telling.{state_lines}
 use Rattle.paraid_recover.specs.Mounted.{with_loss}
 use Rattle.paraid_recover.specs.RecoveryMark.{to_mark}
 use Rattle.paraid_session.specs.Turn.{IsMark, Point}
-use Rattle.paraid_startup.specs.First.{IsFirstPoint, first_point}
-use Rattle.paraid_startup.proofs.FirstLemmas.{loss_shown}
+use Rattle.paraid_recover.specs.FirstPoint.{IsFirstPoint, first_point}
+use Rattle.paraid_recover.proofs.FirstLemmas.{loss_shown}
 use Rattle.paraid_program.specs.States.{shown_status, status_lines}
 use Rattle.paraid_trace.specs.Replies.{reply_of}
 

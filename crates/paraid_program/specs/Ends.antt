@@ -25,7 +25,7 @@ use Rattle.paraid_recover.specs.declared.fault.MountFault.{MountFault}
 use Rattle.paraid_recover.specs.HeldMoments.{Extends}
 use Rattle.paraid_recover.specs.Map.{HasBitsOf}
 use Rattle.paraid_recover.specs.Mount.{IsCauseOfRefusal}
-use Rattle.paraid_startup.specs.Refusals.{refusal_by_fault}
+use Rattle.paraid_recover.specs.StartRefusals.{refusal_by_fault}
 use Rattle.paraid_program.specs.Showing.{BeganAt, IsServedBy}
 use Rattle.paraid_program.specs.MountFaults.{mount_fault_line, mount_fault_status}
 use Rattle.paraid_program.specs.Counts.{check_line, check_status}

@@ -8,8 +8,8 @@ use Rattle.paraid_record.specs.declared.meta.Meta.{Meta}
 use Rattle.paraid_recover.specs.Mount.{HasMounted, IsCauseOfRefusal}
 use Rattle.paraid_recover.specs.Mounted.{IsServable}
 use Rattle.paraid_session.specs.Mount.{IsMountedFromEach, IsRefusedFromEach}
-use Rattle.paraid_startup.specs.First.{IsFirstPoint}
-use Rattle.paraid_startup.specs.Refusals.{refusal_by_fault}
+use Rattle.paraid_recover.specs.FirstPoint.{IsFirstPoint}
+use Rattle.paraid_recover.specs.StartRefusals.{refusal_by_fault}
 use Rattle.paraid_program.specs.MountFaults.{mount_fault_line, mount_fault_status}
 use Rattle.paraid_program.specs.States.{status_lines}
 

@@ -6,7 +6,7 @@ ghost use Rattle.paraid_image.specs.Sides.{LogState};
 ghost use Rattle.paraid_recover.specs.Mount.{HasSettled};
 ghost use Rattle.paraid_session.specs.Turn.{IsMark, Point};
 ghost use Rattle.paraid_program.specs.Telling.{state_lines};
-ghost use Rattle.paraid_startup.specs.First.{IsFirstPoint};
+ghost use Rattle.paraid_recover.specs.FirstPoint.{IsFirstPoint};
 ghost use Rattle.paraid_program.specs.States.{status_lines};
 
 /// What is told of a mounted array by its meta and its table is what is told of the point at which its

@@ -8,8 +8,7 @@ use crate::outside::Ended;
 use crate::state::tell_state;
 use paraid_io::Sink;
 use paraid_rack::Rack;
-use paraid_recover::{MountRefused, Mounted};
-use paraid_startup::mount;
+use paraid_recover::{MountRefused, Mounted, mount};
 use std::alloc::Global;
 
 /// Mounts an array, and tells its state or why it was not mounted.

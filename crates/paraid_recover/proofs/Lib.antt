@@ -48,3 +48,28 @@ pub mod GoneLemmas
 mod RaisedLemmas
 mod LogReadsLemmas
 mod SyncedLemmas
+pub mod CallsLemmas
+pub mod DownLemmas
+pub mod StartReadsLemmas
+pub mod SetupLemmas
+pub mod FirstLemmas
+pub mod SpinsLemmas
+pub mod PartsLemmas
+pub mod BaseLemmas
+pub mod RestLemmas
+pub mod BeginsLemmas
+pub mod StartStillLemmas
+pub mod BasedLemmas
+pub mod BeganLemmas
+pub mod MayLoseLemmas
+pub mod StoryLemmas
+pub mod LostLemmas
+pub mod ReadDirtyLemmas
+pub mod StartServedLemmas
+pub mod ReadWithinLemmas
+pub mod ForeseenLemmas
+pub mod WithinLemmas
+pub mod PiecesLemmas
+pub mod RefusedLemmas
+pub mod ToldLemmas
+pub mod MountedLemmas

@@ -20,3 +20,9 @@ pub mod EndOfMount
 pub mod StandingMetas
 pub mod Mount
 pub mod MountCalls
+pub mod StartCalls
+pub mod StartHeld
+pub mod FirstPoint
+pub mod RecordedSpins
+pub mod StartParts
+pub mod StartRefusals

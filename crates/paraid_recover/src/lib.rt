@@ -5,7 +5,7 @@
 //! chooses the one that stands and tests what refuses a mount. `mount` then ends a commit that a stop
 //! broke off, reads the dirty map, syncs all disks, marks one that is absent and powers the others by
 //! the gear. Each moment of a mount holds what was held, whichever one disk fails; the laws say so of
-//! each step.
+//! each step, and that a mount is what a session asks of one.
 #![tactic(auto)]
 
 mod alike;
@@ -22,6 +22,7 @@ mod lacking;
 mod law;
 mod law_of_reads;
 mod law_of_refusals;
+mod law_of_starts;
 mod log;
 mod making;
 mod map;
@@ -35,6 +36,7 @@ mod refusal;
 mod sides;
 mod sizes;
 mod standing;
+mod starting;
 mod wear;
 
 pub use both::{Sides, hear_both, hear_if_there};
@@ -54,10 +56,19 @@ pub use law_of_refusals::{
     a_mount_is_refused_by_one_cause, a_mount_is_refused_or_goes_on,
     what_is_held_is_refused_for_wear,
 };
+pub use law_of_starts::{
+    a_fallback_was_foreseen, a_mount_ends_at_a_mark, a_mount_is_told_from_where_it_began,
+    a_mount_is_what_a_session_asks, a_mount_with_a_loss_begins_with_the_state_after_it,
+    a_mount_without_a_log_disk_begins_with_the_state_left,
+    a_quiet_mount_begins_with_the_state_shown, a_recovery_spins_no_disk_up,
+    a_run_begins_with_a_base, calls_of_a_mount_are_allowed, failed_calls_bring_down_what_is_absent,
+    one_meta_stands_at_rest, powers_keep_to_what_is_recorded, reads_hold_what_was_held,
+    reads_keep_the_setup, what_is_foreseen_is_within_bounds,
+};
 pub use making::{first_meta, format};
 pub use map::read_map;
 pub use marking::{mark, marked};
-pub use mounting::{MountRefused, Mounted, mount};
+pub use mounting::{MountRefused, Mounted};
 pub use power::first_asleep;
 pub use powers::power_disks;
 pub use recovery::mark_out;
@@ -65,4 +76,5 @@ pub use refusal::refusal_by;
 pub use sides::refusal_by_sides;
 pub use sizes::first_small;
 pub use standing::Standing;
+pub use starting::mount;
 pub use wear::worn_count;

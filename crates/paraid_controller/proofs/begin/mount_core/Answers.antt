@@ -8,7 +8,7 @@ use Rattle.paraid_core.specs.Cores.{CanCoreServe, IsCoreReady}
 use Rattle.paraid_recover.specs.HeldMoments.{Extends}
 use Rattle.paraid_recover.specs.Mount.IsCauseOfRefusal.{no_memory}
 use Rattle.paraid_recover.specs.Mounted.{IsServable, IsStandingWithLoss}
-use Rattle.paraid_startup.proofs.MountedLemmas.{no_calls, refused_from_each}
+use Rattle.paraid_recover.proofs.MountedLemmas.{no_calls, refused_from_each}
 use Rattle.paraid_txn.specs.Stores.{disks_of, epoch_of, named_of, store_rack}
 use Rattle.paraid_array.proofs.ToldLemmas.{extends_none}
 use Rattle.paraid_controller.proofs.BeginLemmas.{begins_large, begins_synced, begun_mounted, begun_servable, begun_stands, begun_under, fresh_known, out_known, powered_by, stands_from_each}

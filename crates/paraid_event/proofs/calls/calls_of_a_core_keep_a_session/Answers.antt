@@ -1,5 +1,5 @@
 use Rattle.paraid_base.specs.States.{gone_out}
-use Rattle.paraid_startup.proofs.CallsLemmas.{each_map}
+use Rattle.paraid_recover.proofs.CallsLemmas.{each_map}
 use Rattle.paraid_event.proofs.ChainLemmas.{commit_within, data_transfer, data_within, transfer_each}
 use Rattle.paraid_event.proofs.calls.calls_of_a_core_keep_a_session.Goals as goal
 

@@ -1,5 +1,5 @@
 use Rattle.paraid_session.specs.Watch.{HoldsWhileServing, IsAllowed}
-use Rattle.paraid_startup.proofs.BaseLemmas.{each_append}
+use Rattle.paraid_recover.proofs.BaseLemmas.{each_append}
 use Rattle.paraid_event.proofs.calls.parts_of_an_event_follow_each_other.Goals as goal
 
 pub returns : goal.returns
