@@ -146,6 +146,14 @@ but_lost a b c disk others spared = record {
   no_fall = λ d apart. let later = spared.no_fall d in let e = ap (λ (s : Slot). s.faults) (others d apart) in omega arith;
 }
 
+-- so after calls that lose disks alone
+pub but_then : (a b c : ℕ → Slot) (disk : ℕ) → OnlyLosesSlots a b → OnlyLosesBut b c disk → OnlyLosesBut a c disk
+but_then a b c disk first second = record {
+  power = λ d apart there. second.power d apart there ∙ first.power d (ap is_present (sym (second.power d apart there)) ∙ there);
+  size = λ d apart there. second.size d apart there ∙ first.size d (ap is_present (sym (second.power d apart there)) ∙ there);
+  no_fall = λ d apart. let one = first.no_fall d in let two = second.no_fall d apart in omega arith;
+}
+
 pub lost_none : (a : ℕ → Slot) → OnlyLosesSlots a a
 lost_none a = record { power = λ d here. refl; size = λ d here. refl; no_fall = λ d. omega arith }
 

@@ -129,6 +129,5 @@ pub fn finish<R: Rack>(core: &mut Core<R>, disk: DiskNo) -> Result<bool, Two>
         (service_of R.slot_count core.old samples served energy) h lo disk two) }
 {
     let end = rebuild_units(&core.meta().setup.geometry, core.meta().gear, disk);
-    let joined = conclude(core, disk, end)?;
-    Ok(joined)
+    conclude(core, disk, end)
 }

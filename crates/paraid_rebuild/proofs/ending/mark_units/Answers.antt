@@ -28,37 +28,11 @@ use Rattle.paraid_rebuild.proofs.StepEventLemmas.{marked_serves, units_marked}
 use Rattle.paraid_rebuild.proofs.MovedLemmas.{gone_away}
 use Rattle.paraid_rebuild.proofs.LossLemmas.{LosesMark, commit_lost, tells_by}
 use Rattle.paraid_rebuild.proofs.ending.mark_units.Goals as goal
+use Rattle.std.specs.Prelude.{true, false, Ok}
+use Rattle.paraid_shift.proofs.AnswerLemmas.{none_done, none_done_as}
 
-pub returns-in_err-commit-clause-moments : goal.returns-in_err-commit-clause-moments
-returns-in_err-commit-clause-moments g c h lo =
-    let a = c.args.core.now in
-    let b = c.mark_rebuilt.new.self in
-    let new = c.commit.new.self in
-    let marks = c.mark_rebuilt.ensures in
-    let was : named_out a.meta.out ≡ Some c.args.disk = ap named_out c.requires.fresh in
-    let is_meta = marks.meta c.args.disk was in
-    let out : b.meta.out ≡ Fresh c.args.disk c.args.end = ap (λ (m : Meta). m.out) is_meta in
-    let setup : b.meta.setup ≡ a.meta.setup = ap (λ (m : Meta). m.setup) is_meta in
-    let named : named_of b.store ≡ Some c.args.disk = ap named_of marks.store ∙ c.requires.named in
-    let away : IsNamedOrAbsent g.R.Rack.slot b = (λ x is. inl (named ∙ sym (ap named_out out) ∙ is)) in
-    chain_held g.R.Rack.slot_count g.R.Rack.told a b (ap (λ (z : _). g.R.Rack.slot_count (store_rack z)) marks.store) setup (ap named_of marks.store)
-    (UnitsRebuilt g.R.Rack.slot_count a h lo c.args.end) (CoreStandsFor g.R.Rack.slot_count b h lo) h lo _ (marks.stands h lo) (c.commit.ensures.moments_since away h lo)
-
-pub returns-in_err-commit-clause-spared : goal.returns-in_err-commit-clause-spared
-returns-in_err-commit-clause-spared g c =
-    let a = c.args.core.now in
-    let b = c.mark_rebuilt.new.self in
-    let new = c.commit.new.self in
-    let marks = c.mark_rebuilt.ensures in
-    let was : named_out a.meta.out ≡ Some c.args.disk = ap named_out c.requires.fresh in
-    let is_meta = marks.meta c.args.disk was in
-    let out : b.meta.out ≡ Fresh c.args.disk c.args.end = ap (λ (m : Meta). m.out) is_meta in
-    let setup : b.meta.setup ≡ a.meta.setup = ap (λ (m : Meta). m.setup) is_meta in
-    let named : named_of b.store ≡ Some c.args.disk = ap named_of marks.store ∙ c.requires.named in
-    subst (λ (z : _). OnlyLosesSlots (g.R.Rack.slot (store_rack z)) (g.R.Rack.slot (store_rack new.store))) marks.store c.commit.ensures.spared
-
-pub returns-in_err-commit-clause-two : goal.returns-in_err-commit-clause-two
-returns-in_err-commit-clause-two g c =
+pub returns-in_err-commit : goal.returns-in_err-commit
+returns-in_err-commit g c =
     let a = c.args.core.now in
     let b = c.mark_rebuilt.new.self in
     let new = c.commit.new.self in
@@ -69,39 +43,51 @@ returns-in_err-commit-clause-two g c =
     let setup : b.meta.setup ≡ a.meta.setup = ap (λ (m : Meta). m.setup) is_meta in
     let named : named_of b.store ≡ Some c.args.disk = ap named_of marks.store ∙ c.requires.named in
     let down : core_down b ≡ core_down a = ap (λ (o : Option ℕ). or_else o (named_out b.meta.out)) named ∙ sym (ap (λ (o : Option ℕ). or_else o (named_out a.meta.out)) c.requires.named) in
-    handed _ c.from_residual.result _ c.from_residual.ensures.1
-    (two_marked g.R.Rack.slot a b new _ marks.store down c.in_err-commit.ensures.two)
-
-pub returns-then-is_gone-clause-moments : goal.returns-then-is_gone-clause-moments
-returns-then-is_gone-clause-moments g c h lo =
-    let a = c.args.core.now in
-    let b = c.mark_rebuilt.new.self in
-    let new = c.commit.new.self in
-    let marks = c.mark_rebuilt.ensures in
-    let was : named_out a.meta.out ≡ Some c.args.disk = ap named_out c.requires.fresh in
-    let is_meta = marks.meta c.args.disk was in
-    let out : b.meta.out ≡ Fresh c.args.disk c.args.end = ap (λ (m : Meta). m.out) is_meta in
-    let setup : b.meta.setup ≡ a.meta.setup = ap (λ (m : Meta). m.setup) is_meta in
-    let named : named_of b.store ≡ Some c.args.disk = ap named_of marks.store ∙ c.requires.named in
     let away : IsNamedOrAbsent g.R.Rack.slot b = (λ x is. inl (named ∙ sym (ap named_out out) ∙ is)) in
-    chain_held g.R.Rack.slot_count g.R.Rack.told a b (ap (λ (z : _). g.R.Rack.slot_count (store_rack z)) marks.store) setup (ap named_of marks.store)
-    (UnitsRebuilt g.R.Rack.slot_count a h lo c.args.end) (CoreStandsFor g.R.Rack.slot_count b h lo) h lo _ (marks.stands h lo) (c.commit.ensures.moments_since away h lo)
+    let from = c.from_residual in
+    record {
+      serving = none_done _ from.result _ from.ensures.1;
+      nothing = none_done _ from.result _ from.ensures.1;
+      absent = none_done _ from.result _ from.ensures.1;
+      named = none_done _ from.result _ from.ensures.1;
+      slots = c.commit.ensures.slots ∙ ap (λ (z : _). g.R.Rack.slot_count (store_rack z)) marks.store;
+      marked = λ is. none_done_as _ from.result _ _ from.ensures.1 is;
+      epoch = none_done _ from.result _ from.ensures.1;
+      spins = λ is. none_done_as _ from.result _ _ from.ensures.1 is;
+      gone = λ is. none_done_as _ from.result _ _ from.ensures.1 is;
+      failed = λ is. none_done_as _ from.result _ _ from.ensures.1 is;
+      away = λ is. none_done_as _ from.result _ _ from.ensures.1 is;
+      table = c.commit.ensures.table ∙ marks.table;
+      spared = subst (λ (z : _). OnlyLosesSlots (g.R.Rack.slot (store_rack z)) (g.R.Rack.slot (store_rack new.store))) marks.store c.commit.ensures.spared;
+      two =
+          handed _ from.result _ from.ensures.1
+          (two_marked g.R.Rack.slot a b new _ marks.store down c.in_err-commit.ensures.two);
+      moments = λ h lo.
+          chain_held g.R.Rack.slot_count g.R.Rack.told a b (ap (λ (z : _). g.R.Rack.slot_count (store_rack z)) marks.store) setup (ap named_of marks.store)
+          (UnitsRebuilt g.R.Rack.slot_count a h lo c.args.end) (CoreStandsFor g.R.Rack.slot_count b h lo) h lo _ (marks.stands h lo) (c.commit.ensures.moments_since away h lo);
+      rests = none_done _ from.result _ from.ensures.1;
+      event = none_done _ from.result _ from.ensures.1;
+      loses =
+          let down : core_down b ≡ named_out b.meta.out = ap (λ (o : Option ℕ). or_else o (named_out b.meta.out)) named ∙ sym (ap named_out out) in
+          handed (LosesMark g.R.Rack.slot_count g.R.Rack.told a new c.args.end) from.result _ from.ensures.1
+          (λ samples served energy h lo.
+          let k = service_of g.R.Rack.slot_count a samples served energy in
+          let j = service_of g.R.Rack.slot_count b samples served energy in (
+            j,
+            record {
+              mark = units_marked k j c.args.disk (rebuilt_count a.meta.out) c.args.end
+                  (same_service g.R.Rack.slot_count a b samples served energy (meta_with_out a.meta (Fresh c.args.disk c.args.end)) (ap (λ (z : _). g.R.Rack.slot_count (store_rack z)) marks.store) (ap named_of marks.store) is_meta marks.table marks.batch marks.copied)
+                  c.requires.fresh c.requires.serving.ready.in_range;
+              stands = λ t tells copied. still_told (IsCoreHeldSinceCommit g.R.Rack.slot_count a h lo) (UnitsRebuilt g.R.Rack.slot_count a h lo c.args.end) (CoreStandsFor g.R.Rack.slot_count b h lo) (g.R.Rack.told (store_rack a.store)) (g.R.Rack.told (store_rack b.store))
+                  (ap (λ (z : _). g.R.Rack.told (store_rack z)) marks.store) (marks.stands h lo) t tells copied;
+              ran = commit_lost (g.R.Rack.told (store_rack b.store)) (g.R.Rack.told (store_rack new.store)) j h lo _ (g.R.Rack.told (store_rack a.store)) (ap (λ (z : _). g.R.Rack.told (store_rack z)) marks.store)
+                  c.commit.ensures.calls (c.commit.ensures.moments_since away h lo) (c.commit.ensures.whole h lo) (tells_by (g.R.Rack.told (store_rack b.store)) (g.R.Rack.told (store_rack new.store)) (core_down b) (named_out b.meta.out) _ down c.in_err-commit.ensures.tells);
+            },
+          ));
+    }
 
-pub returns-then-is_gone-clause-spared : goal.returns-then-is_gone-clause-spared
-returns-then-is_gone-clause-spared g c =
-    let a = c.args.core.now in
-    let b = c.mark_rebuilt.new.self in
-    let new = c.commit.new.self in
-    let marks = c.mark_rebuilt.ensures in
-    let was : named_out a.meta.out ≡ Some c.args.disk = ap named_out c.requires.fresh in
-    let is_meta = marks.meta c.args.disk was in
-    let out : b.meta.out ≡ Fresh c.args.disk c.args.end = ap (λ (m : Meta). m.out) is_meta in
-    let setup : b.meta.setup ≡ a.meta.setup = ap (λ (m : Meta). m.setup) is_meta in
-    let named : named_of b.store ≡ Some c.args.disk = ap named_of marks.store ∙ c.requires.named in
-    subst (λ (z : _). OnlyLosesSlots (g.R.Rack.slot (store_rack z)) (g.R.Rack.slot (store_rack new.store))) marks.store c.commit.ensures.spared
-
-pub returns-then-is_gone-clause-serving : goal.returns-then-is_gone-clause-serving
-returns-then-is_gone-clause-serving g c =
+pub returns-then-is_gone : goal.returns-then-is_gone
+returns-then-is_gone g c =
     let a = c.args.core.now in
     let b = c.mark_rebuilt.new.self in
     let new = c.commit.new.self in
@@ -112,82 +98,71 @@ returns-then-is_gone-clause-serving g c =
     let setup : b.meta.setup ≡ a.meta.setup = ap (λ (m : Meta). m.setup) is_meta in
     let named : named_of b.store ≡ Some c.args.disk = ap named_of marks.store ∙ c.requires.named in
     let done = c.in_ok-commit.ensures in
-    serving_then g.R.Rack.slot_count g.R.Rack.slot a new c.requires.serving done.ready (done.serves (marks.serves c.requires.serving.serves))
-    (done.unsynced (unsynced_still g.R.Rack.slot_count g.R.Rack.slot a b c.requires.serving setup (λ d is. let z : None ≡ Some d = sym (ap gone_out c.requires.fresh) ∙ is in cc) marks.store marks.copied)) (done.draft ∙ marks.draft) (done.copied ∙ marks.copied) (done.setup ∙ setup)
-    (λ d is. marked_named _ new.meta done.meta d (ap named_out out ∙ sym was ∙ is))
-    (λ d not there. c.commit.ensures.spared.size d there ∙ ap (λ (z : _). (g.R.Rack.slot (store_rack z) d).size) marks.store)
-
-pub returns-then-is_gone-clause-epoch : goal.returns-then-is_gone-clause-epoch
-returns-then-is_gone-clause-epoch g c =
-    let a = c.args.core.now in
-    let b = c.mark_rebuilt.new.self in
-    let new = c.commit.new.self in
-    let marks = c.mark_rebuilt.ensures in
-    let was : named_out a.meta.out ≡ Some c.args.disk = ap named_out c.requires.fresh in
-    let is_meta = marks.meta c.args.disk was in
-    let out : b.meta.out ≡ Fresh c.args.disk c.args.end = ap (λ (m : Meta). m.out) is_meta in
-    let setup : b.meta.setup ≡ a.meta.setup = ap (λ (m : Meta). m.setup) is_meta in
-    let named : named_of b.store ≡ Some c.args.disk = ap named_of marks.store ∙ c.requires.named in
-    c.in_ok-commit.ensures.epoch ∙ ap (λ (m : Meta). m.epoch + 1) is_meta
-
-pub returns-then-is_gone-clause-named : goal.returns-then-is_gone-clause-named
-returns-then-is_gone-clause-named g c =
-    let a = c.args.core.now in
-    let b = c.mark_rebuilt.new.self in
-    let new = c.commit.new.self in
-    let marks = c.mark_rebuilt.ensures in
-    let was : named_out a.meta.out ≡ Some c.args.disk = ap named_out c.requires.fresh in
-    let is_meta = marks.meta c.args.disk was in
-    let out : b.meta.out ≡ Fresh c.args.disk c.args.end = ap (λ (m : Meta). m.out) is_meta in
-    let setup : b.meta.setup ≡ a.meta.setup = ap (λ (m : Meta). m.setup) is_meta in
-    let named : named_of b.store ≡ Some c.args.disk = ap named_of marks.store ∙ c.requires.named in
-    c.in_ok-commit.ensures.named ∙ ap named_out out
-
-pub returns-then-is_gone-clause-rests : goal.returns-then-is_gone-clause-rests
-returns-then-is_gone-clause-rests g c h lo =
-    let a = c.args.core.now in
-    let b = c.mark_rebuilt.new.self in
-    let new = c.commit.new.self in
-    let marks = c.mark_rebuilt.ensures in
-    let was : named_out a.meta.out ≡ Some c.args.disk = ap named_out c.requires.fresh in
-    let is_meta = marks.meta c.args.disk was in
-    let out : b.meta.out ≡ Fresh c.args.disk c.args.end = ap (λ (m : Meta). m.out) is_meta in
-    let setup : b.meta.setup ≡ a.meta.setup = ap (λ (m : Meta). m.setup) is_meta in
-    let named : named_of b.store ≡ Some c.args.disk = ap named_of marks.store ∙ c.requires.named in
     let away : IsNamedOrAbsent g.R.Rack.slot b = (λ x is. inl (named ∙ sym (ap named_out out) ∙ is)) in
-    chain g.R.Rack.slot_count g.R.Rack.told a b (ap (λ (z : _). g.R.Rack.slot_count (store_rack z)) marks.store) setup (ap named_of marks.store)
-    (UnitsRebuilt g.R.Rack.slot_count a h lo c.args.end) (CoreStandsFor g.R.Rack.slot_count b h lo) (RestsInShift g.R.Rack.slot_count new h lo) h lo _ (marks.stands h lo) (lowered g.R.Rack.slot_count b new (IsCoreHeldSinceCommit g.R.Rack.slot_count b h lo) h lo _ _ (c.in_ok-commit.ensures.filled_since away h lo))
+    let new_setup : new.meta.setup ≡ b.meta.setup = c.in_ok-commit.ensures.setup in
+    let ready = c.in_ok-commit.ensures.ready in
+    let lost = c.in_ok-commit.ensures.marks in
+    let there : is_present (g.R.Rack.slot (store_rack b.store) c.args.disk).power ≡ true = ap (λ (z : _). is_present (g.R.Rack.slot (store_rack z) c.args.disk).power) marks.store ∙ ap is_present c.requires.spins in
+    record {
+      serving =
+          serving_then g.R.Rack.slot_count g.R.Rack.slot a new c.requires.serving done.ready (done.serves (marks.serves c.requires.serving.serves))
+          (done.unsynced (unsynced_still g.R.Rack.slot_count g.R.Rack.slot a b c.requires.serving setup (λ d is. let z : None ≡ Some d = sym (ap gone_out c.requires.fresh) ∙ is in cc) marks.store marks.copied)) (done.draft ∙ marks.draft) (done.copied ∙ marks.copied) (done.setup ∙ setup)
+          (λ d is. marked_named _ new.meta done.meta d (ap named_out out ∙ sym was ∙ is))
+          (λ d not there. c.commit.ensures.spared.size d there ∙ ap (λ (z : _). (g.R.Rack.slot (store_rack z) d).size) marks.store);
+      nothing = c.in_ok-commit.ensures.nothing;
+      absent = c.in_ok-commit.ensures.absent;
+      named = c.in_ok-commit.ensures.named ∙ ap named_out out;
+      slots = c.commit.ensures.slots ∙ ap (λ (z : _). g.R.Rack.slot_count (store_rack z)) marks.store;
+      marked = λ is. let z : Ok false ≡ Ok true = is in cc;
+      epoch = c.in_ok-commit.ensures.epoch ∙ ap (λ (m : Meta). m.epoch + 1) is_meta;
+      spins = λ is. let z : Ok false ≡ Ok true = is in cc;
+      gone = λ is.
+          marked_lost _ new.meta c.args.disk (ap named_out out) (ap gone_out out) c.in_ok-commit.ensures.meta (c.is_gone.ensures.gone c.if-is_gone.true)
+          ∙ ap (λ (m : Meta). meta_after_loss (record m { epoch = m.epoch + 1 }) c.args.disk) is_meta;
+      failed = λ is.
+          subst (λ (z : _). HasRisen (g.R.Rack.slot (store_rack z) c.args.disk).faults (g.R.Rack.slot (store_rack new.store) c.args.disk).faults) marks.store
+          (gone_failed (g.R.Rack.slot (store_rack b.store)) (g.R.Rack.slot (store_rack new.store)) b.meta new.meta c.args.disk (ap named_out out) (ap gone_out out) c.in_ok-commit.ensures.marks (c.is_gone.ensures.gone c.if-is_gone.true));
+      away = λ is.
+          let out : b.meta.out ≡ Fresh c.args.disk c.args.end = ap (λ (m : Meta). m.out) (c.mark_rebuilt.ensures.meta c.args.disk was) in
+          gone_away (g.R.Rack.slot (store_rack b.store)) (g.R.Rack.slot (store_rack new.store)) b.meta new.meta c.args.disk (ap named_out out) (ap gone_out out) c.in_ok-commit.ensures.marks (c.is_gone.ensures.gone c.if-is_gone.true);
+      table = c.commit.ensures.table ∙ marks.table;
+      spared = subst (λ (z : _). OnlyLosesSlots (g.R.Rack.slot (store_rack z)) (g.R.Rack.slot (store_rack new.store))) marks.store c.commit.ensures.spared;
+      two = tt;
+      moments = λ h lo.
+          chain_held g.R.Rack.slot_count g.R.Rack.told a b (ap (λ (z : _). g.R.Rack.slot_count (store_rack z)) marks.store) setup (ap named_of marks.store)
+          (UnitsRebuilt g.R.Rack.slot_count a h lo c.args.end) (CoreStandsFor g.R.Rack.slot_count b h lo) h lo _ (marks.stands h lo) (c.commit.ensures.moments_since away h lo);
+      rests = λ h lo.
+          chain g.R.Rack.slot_count g.R.Rack.told a b (ap (λ (z : _). g.R.Rack.slot_count (store_rack z)) marks.store) setup (ap named_of marks.store)
+          (UnitsRebuilt g.R.Rack.slot_count a h lo c.args.end) (CoreStandsFor g.R.Rack.slot_count b h lo) (RestsInShift g.R.Rack.slot_count new h lo) h lo _ (marks.stands h lo) (lowered g.R.Rack.slot_count b new (IsCoreHeldSinceCommit g.R.Rack.slot_count b h lo) h lo _ _ (c.in_ok-commit.ensures.filled_since away h lo));
+      event = λ samples served energy h lo.
+          let k = service_of g.R.Rack.slot_count a samples served energy in
+          let j = service_of g.R.Rack.slot_count b samples served energy in
+          let k_then = service_of g.R.Rack.slot_count new samples served energy in (
+            j,
+            record {
+              mark = units_marked k j c.args.disk (rebuilt_count a.meta.out) c.args.end
+                  (same_service g.R.Rack.slot_count a b samples served energy (meta_with_out a.meta (Fresh c.args.disk c.args.end)) (ap (λ (z : _). g.R.Rack.slot_count (store_rack z)) marks.store) (ap named_of marks.store) is_meta marks.table marks.batch marks.copied)
+                  c.requires.fresh c.requires.serving.ready.in_range;
+              stands = λ t tells copied. still_told (IsCoreHeldSinceCommit g.R.Rack.slot_count a h lo) (UnitsRebuilt g.R.Rack.slot_count a h lo c.args.end) (CoreStandsFor g.R.Rack.slot_count b h lo) (g.R.Rack.told (store_rack a.store)) (g.R.Rack.told (store_rack b.store))
+                  (ap (λ (z : _). g.R.Rack.told (store_rack z)) marks.store) (marks.stands h lo) t tells copied;
+              ran = subst (λ (z : _). Ran (g.R.Rack.told (store_rack z)) (g.R.Rack.told (store_rack new.store)) (ServesMarked j k_then h lo (length h))) marks.store
+                  (marked_serves (g.R.Rack.told (store_rack b.store)) (g.R.Rack.told (store_rack new.store)) j k_then h lo
+                  (commit_told (g.R.Rack.told (store_rack b.store)) (g.R.Rack.told (store_rack new.store)) j k_then h lo c.commit.ensures.calls (c.in_ok-commit.ensures.since away h lo) (c.commit.ensures.whole h lo)
+                  (marked_told (g.R.Rack.told (store_rack new.store)) (g.R.Rack.slot (store_rack b.store)) (g.R.Rack.slot (store_rack new.store)) (g.met.R.Rack.agrees (store_rack new.store)) b.meta new.meta lost
+                  (λ x low absent. ready.absent x (subst (λ (z : Setup). x < z.geometry.disks) (sym new_setup) low) absent)
+                  (fresh_stays (g.R.Rack.slot (store_rack b.store)) (g.R.Rack.slot (store_rack new.store)) b.meta new.meta lost
+                  (named_there (g.R.Rack.slot (store_rack b.store)) b.meta c.args.disk c.args.end out there)))));
+              epoch = c.in_ok-commit.ensures.epoch;
+              slots = c.commit.ensures.slots;
+              gear = ap (λ (m : Meta). m.gear) is_meta;
+              phase = ap (λ (m : Meta). m.phase) is_meta;
+            },
+          );
+      loses = tt;
+    }
 
-pub returns-clause-moments : goal.returns-clause-moments
-returns-clause-moments g c h lo =
-    let a = c.args.core.now in
-    let b = c.mark_rebuilt.new.self in
-    let new = c.commit.new.self in
-    let marks = c.mark_rebuilt.ensures in
-    let was : named_out a.meta.out ≡ Some c.args.disk = ap named_out c.requires.fresh in
-    let is_meta = marks.meta c.args.disk was in
-    let out : b.meta.out ≡ Fresh c.args.disk c.args.end = ap (λ (m : Meta). m.out) is_meta in
-    let setup : b.meta.setup ≡ a.meta.setup = ap (λ (m : Meta). m.setup) is_meta in
-    let named : named_of b.store ≡ Some c.args.disk = ap named_of marks.store ∙ c.requires.named in
-    let away : IsNamedOrAbsent g.R.Rack.slot b = (λ x is. inl (named ∙ sym (ap named_out out) ∙ is)) in
-    chain_held g.R.Rack.slot_count g.R.Rack.told a b (ap (λ (z : _). g.R.Rack.slot_count (store_rack z)) marks.store) setup (ap named_of marks.store)
-    (UnitsRebuilt g.R.Rack.slot_count a h lo c.args.end) (CoreStandsFor g.R.Rack.slot_count b h lo) h lo _ (marks.stands h lo) (c.commit.ensures.moments_since away h lo)
-
-pub returns-clause-spared : goal.returns-clause-spared
-returns-clause-spared g c =
-    let a = c.args.core.now in
-    let b = c.mark_rebuilt.new.self in
-    let new = c.commit.new.self in
-    let marks = c.mark_rebuilt.ensures in
-    let was : named_out a.meta.out ≡ Some c.args.disk = ap named_out c.requires.fresh in
-    let is_meta = marks.meta c.args.disk was in
-    let out : b.meta.out ≡ Fresh c.args.disk c.args.end = ap (λ (m : Meta). m.out) is_meta in
-    let setup : b.meta.setup ≡ a.meta.setup = ap (λ (m : Meta). m.setup) is_meta in
-    let named : named_of b.store ≡ Some c.args.disk = ap named_of marks.store ∙ c.requires.named in
-    subst (λ (z : _). OnlyLosesSlots (g.R.Rack.slot (store_rack z)) (g.R.Rack.slot (store_rack new.store))) marks.store c.commit.ensures.spared
-
-pub returns-clause-serving : goal.returns-clause-serving
-returns-clause-serving g c =
+pub returns : goal.returns
+returns g c =
     let a = c.args.core.now in
     let b = c.mark_rebuilt.new.self in
     let new = c.commit.new.self in
@@ -198,218 +173,61 @@ returns-clause-serving g c =
     let setup : b.meta.setup ≡ a.meta.setup = ap (λ (m : Meta). m.setup) is_meta in
     let named : named_of b.store ≡ Some c.args.disk = ap named_of marks.store ∙ c.requires.named in
     let done = c.in_ok-commit.ensures in
-    serving_then g.R.Rack.slot_count g.R.Rack.slot a new c.requires.serving done.ready (done.serves (marks.serves c.requires.serving.serves))
-    (done.unsynced (unsynced_still g.R.Rack.slot_count g.R.Rack.slot a b c.requires.serving setup (λ d is. let z : None ≡ Some d = sym (ap gone_out c.requires.fresh) ∙ is in cc) marks.store marks.copied)) (done.draft ∙ marks.draft) (done.copied ∙ marks.copied) (done.setup ∙ setup)
-    (λ d is. marked_named _ new.meta done.meta d (ap named_out out ∙ sym was ∙ is))
-    (λ d not there. c.commit.ensures.spared.size d there ∙ ap (λ (z : _). (g.R.Rack.slot (store_rack z) d).size) marks.store)
-
-pub returns-clause-epoch : goal.returns-clause-epoch
-returns-clause-epoch g c =
-    let a = c.args.core.now in
-    let b = c.mark_rebuilt.new.self in
-    let new = c.commit.new.self in
-    let marks = c.mark_rebuilt.ensures in
-    let was : named_out a.meta.out ≡ Some c.args.disk = ap named_out c.requires.fresh in
-    let is_meta = marks.meta c.args.disk was in
-    let out : b.meta.out ≡ Fresh c.args.disk c.args.end = ap (λ (m : Meta). m.out) is_meta in
-    let setup : b.meta.setup ≡ a.meta.setup = ap (λ (m : Meta). m.setup) is_meta in
-    let named : named_of b.store ≡ Some c.args.disk = ap named_of marks.store ∙ c.requires.named in
-    c.in_ok-commit.ensures.epoch ∙ ap (λ (m : Meta). m.epoch + 1) is_meta
-
-pub returns-clause-named : goal.returns-clause-named
-returns-clause-named g c =
-    let a = c.args.core.now in
-    let b = c.mark_rebuilt.new.self in
-    let new = c.commit.new.self in
-    let marks = c.mark_rebuilt.ensures in
-    let was : named_out a.meta.out ≡ Some c.args.disk = ap named_out c.requires.fresh in
-    let is_meta = marks.meta c.args.disk was in
-    let out : b.meta.out ≡ Fresh c.args.disk c.args.end = ap (λ (m : Meta). m.out) is_meta in
-    let setup : b.meta.setup ≡ a.meta.setup = ap (λ (m : Meta). m.setup) is_meta in
-    let named : named_of b.store ≡ Some c.args.disk = ap named_of marks.store ∙ c.requires.named in
-    c.in_ok-commit.ensures.named ∙ ap named_out out
-
-pub returns-clause-rests : goal.returns-clause-rests
-returns-clause-rests g c h lo =
-    let a = c.args.core.now in
-    let b = c.mark_rebuilt.new.self in
-    let new = c.commit.new.self in
-    let marks = c.mark_rebuilt.ensures in
-    let was : named_out a.meta.out ≡ Some c.args.disk = ap named_out c.requires.fresh in
-    let is_meta = marks.meta c.args.disk was in
-    let out : b.meta.out ≡ Fresh c.args.disk c.args.end = ap (λ (m : Meta). m.out) is_meta in
-    let setup : b.meta.setup ≡ a.meta.setup = ap (λ (m : Meta). m.setup) is_meta in
-    let named : named_of b.store ≡ Some c.args.disk = ap named_of marks.store ∙ c.requires.named in
     let away : IsNamedOrAbsent g.R.Rack.slot b = (λ x is. inl (named ∙ sym (ap named_out out) ∙ is)) in
-    chain g.R.Rack.slot_count g.R.Rack.told a b (ap (λ (z : _). g.R.Rack.slot_count (store_rack z)) marks.store) setup (ap named_of marks.store)
-    (UnitsRebuilt g.R.Rack.slot_count a h lo c.args.end) (CoreStandsFor g.R.Rack.slot_count b h lo) (RestsInShift g.R.Rack.slot_count new h lo) h lo _ (marks.stands h lo) (lowered g.R.Rack.slot_count b new (IsCoreHeldSinceCommit g.R.Rack.slot_count b h lo) h lo _ _ (c.in_ok-commit.ensures.filled_since away h lo))
-
-pub returns-then-is_gone-clause-gone : goal.returns-then-is_gone-clause-gone
-returns-then-is_gone-clause-gone g c is =
-    let a = c.args.core.now in
-    let b = c.mark_rebuilt.new.self in
-    let new = c.commit.new.self in
-    let marks = c.mark_rebuilt.ensures in
-    let was : named_out a.meta.out ≡ Some c.args.disk = ap named_out c.requires.fresh in
-    let is_meta = marks.meta c.args.disk was in
-    let out : b.meta.out ≡ Fresh c.args.disk c.args.end = ap (λ (m : Meta). m.out) is_meta in
-    let setup : b.meta.setup ≡ a.meta.setup = ap (λ (m : Meta). m.setup) is_meta in
-    let named : named_of b.store ≡ Some c.args.disk = ap named_of marks.store ∙ c.requires.named in
-    marked_lost _ new.meta c.args.disk (ap named_out out) (ap gone_out out) c.in_ok-commit.ensures.meta (c.is_gone.ensures.gone c.if-is_gone.true)
-    ∙ ap (λ (m : Meta). meta_after_loss (record m { epoch = m.epoch + 1 }) c.args.disk) is_meta
-
-pub returns-then-is_gone-clause-failed : goal.returns-then-is_gone-clause-failed
-returns-then-is_gone-clause-failed g c is =
-    let a = c.args.core.now in
-    let b = c.mark_rebuilt.new.self in
-    let new = c.commit.new.self in
-    let marks = c.mark_rebuilt.ensures in
-    let was : named_out a.meta.out ≡ Some c.args.disk = ap named_out c.requires.fresh in
-    let is_meta = marks.meta c.args.disk was in
-    let out : b.meta.out ≡ Fresh c.args.disk c.args.end = ap (λ (m : Meta). m.out) is_meta in
-    let setup : b.meta.setup ≡ a.meta.setup = ap (λ (m : Meta). m.setup) is_meta in
-    let named : named_of b.store ≡ Some c.args.disk = ap named_of marks.store ∙ c.requires.named in
-    subst (λ (z : _). HasRisen (g.R.Rack.slot (store_rack z) c.args.disk).faults (g.R.Rack.slot (store_rack new.store) c.args.disk).faults) marks.store
-    (gone_failed (g.R.Rack.slot (store_rack b.store)) (g.R.Rack.slot (store_rack new.store)) b.meta new.meta c.args.disk (ap named_out out) (ap gone_out out) c.in_ok-commit.ensures.marks (c.is_gone.ensures.gone c.if-is_gone.true))
-
-pub returns-clause-marked : goal.returns-clause-marked
-returns-clause-marked g c is =
-    let a = c.args.core.now in
-    let b = c.mark_rebuilt.new.self in
-    let new = c.commit.new.self in
-    let marks = c.mark_rebuilt.ensures in
-    let was : named_out a.meta.out ≡ Some c.args.disk = ap named_out c.requires.fresh in
-    let is_meta = marks.meta c.args.disk was in
-    let out : b.meta.out ≡ Fresh c.args.disk c.args.end = ap (λ (m : Meta). m.out) is_meta in
-    let setup : b.meta.setup ≡ a.meta.setup = ap (λ (m : Meta). m.setup) is_meta in
-    let named : named_of b.store ≡ Some c.args.disk = ap named_of marks.store ∙ c.requires.named in
-    marked_back _ new.meta c.in_ok-commit.ensures.meta (c.is_gone.ensures.back c.if-is_gone.false) ∙ ap (λ (m : Meta). record m { epoch = m.epoch + 1 }) is_meta
-
-pub returns-clause-spins : goal.returns-clause-spins
-returns-clause-spins g c is =
-    let a = c.args.core.now in
-    let b = c.mark_rebuilt.new.self in
-    let new = c.commit.new.self in
-    let marks = c.mark_rebuilt.ensures in
-    let was : named_out a.meta.out ≡ Some c.args.disk = ap named_out c.requires.fresh in
-    let is_meta = marks.meta c.args.disk was in
-    let out : b.meta.out ≡ Fresh c.args.disk c.args.end = ap (λ (m : Meta). m.out) is_meta in
-    let setup : b.meta.setup ≡ a.meta.setup = ap (λ (m : Meta). m.setup) is_meta in
-    let named : named_of b.store ≡ Some c.args.disk = ap named_of marks.store ∙ c.requires.named in
-    (back_well (g.R.Rack.slot (store_rack b.store)) (g.R.Rack.slot (store_rack new.store)) b.meta new.meta c.args.disk c.in_ok-commit.ensures.marks (c.is_gone.ensures.back c.if-is_gone.false)).0
-    ∙ ap (λ (z : _). (g.R.Rack.slot (store_rack z) c.args.disk).power) marks.store ∙ c.requires.spins
-
-pub returns-then-is_gone-clause-event : goal.returns-then-is_gone-clause-event
-returns-then-is_gone-clause-event g c samples served energy h lo =
-    let a = c.args.core.now in
-    let b = c.mark_rebuilt.new.self in
-    let new = c.commit.new.self in
-    let marks = c.mark_rebuilt.ensures in
-    let was : named_out a.meta.out ≡ Some c.args.disk = ap named_out c.requires.fresh in
-    let is_meta = marks.meta c.args.disk was in
-    let out : b.meta.out ≡ Fresh c.args.disk c.args.end = ap (λ (m : Meta). m.out) is_meta in
-    let named : named_of b.store ≡ Some c.args.disk = ap named_of marks.store ∙ c.requires.named in
-    let away : IsNamedOrAbsent g.R.Rack.slot b = (λ x is. inl (named ∙ sym (ap named_out out) ∙ is)) in
-    let k = service_of g.R.Rack.slot_count a samples served energy in
-    let j = service_of g.R.Rack.slot_count b samples served energy in
-    let k_then = service_of g.R.Rack.slot_count new samples served energy in
     let new_setup : new.meta.setup ≡ b.meta.setup = c.in_ok-commit.ensures.setup in
     let ready = c.in_ok-commit.ensures.ready in
     let lost = c.in_ok-commit.ensures.marks in
-    let there : is_present (g.R.Rack.slot (store_rack b.store) c.args.disk).power ≡ true = ap (λ (z : _). is_present (g.R.Rack.slot (store_rack z) c.args.disk).power) marks.store ∙ ap is_present c.requires.spins in (
-      j,
-      record {
-        mark = units_marked k j c.args.disk (rebuilt_count a.meta.out) c.args.end
-            (same_service g.R.Rack.slot_count a b samples served energy (meta_with_out a.meta (Fresh c.args.disk c.args.end)) (ap (λ (z : _). g.R.Rack.slot_count (store_rack z)) marks.store) (ap named_of marks.store) is_meta marks.table marks.batch marks.copied)
-            c.requires.fresh c.requires.serving.ready.in_range;
-        stands = λ t tells copied. still_told (IsCoreHeldSinceCommit g.R.Rack.slot_count a h lo) (UnitsRebuilt g.R.Rack.slot_count a h lo c.args.end) (CoreStandsFor g.R.Rack.slot_count b h lo) (g.R.Rack.told (store_rack a.store)) (g.R.Rack.told (store_rack b.store))
-            (ap (λ (z : _). g.R.Rack.told (store_rack z)) marks.store) (marks.stands h lo) t tells copied;
-        ran = subst (λ (z : _). Ran (g.R.Rack.told (store_rack z)) (g.R.Rack.told (store_rack new.store)) (ServesMarked j k_then h lo (length h))) marks.store
-            (marked_serves (g.R.Rack.told (store_rack b.store)) (g.R.Rack.told (store_rack new.store)) j k_then h lo
-            (commit_told (g.R.Rack.told (store_rack b.store)) (g.R.Rack.told (store_rack new.store)) j k_then h lo c.commit.ensures.calls (c.in_ok-commit.ensures.since away h lo) (c.commit.ensures.whole h lo)
-            (marked_told (g.R.Rack.told (store_rack new.store)) (g.R.Rack.slot (store_rack b.store)) (g.R.Rack.slot (store_rack new.store)) (g.met.R.Rack.agrees (store_rack new.store)) b.meta new.meta lost
-            (λ x low absent. ready.absent x (subst (λ (z : Setup). x < z.geometry.disks) (sym new_setup) low) absent)
-            (fresh_stays (g.R.Rack.slot (store_rack b.store)) (g.R.Rack.slot (store_rack new.store)) b.meta new.meta lost
-            (named_there (g.R.Rack.slot (store_rack b.store)) b.meta c.args.disk c.args.end out there)))));
-        epoch = c.in_ok-commit.ensures.epoch;
-        slots = c.commit.ensures.slots;
-        gear = ap (λ (m : Meta). m.gear) is_meta;
-        phase = ap (λ (m : Meta). m.phase) is_meta;
-      },
-    )
-
-pub returns-clause-event : goal.returns-clause-event
-returns-clause-event g c samples served energy h lo =
-    let a = c.args.core.now in
-    let b = c.mark_rebuilt.new.self in
-    let new = c.commit.new.self in
-    let marks = c.mark_rebuilt.ensures in
-    let was : named_out a.meta.out ≡ Some c.args.disk = ap named_out c.requires.fresh in
-    let is_meta = marks.meta c.args.disk was in
-    let out : b.meta.out ≡ Fresh c.args.disk c.args.end = ap (λ (m : Meta). m.out) is_meta in
-    let named : named_of b.store ≡ Some c.args.disk = ap named_of marks.store ∙ c.requires.named in
-    let away : IsNamedOrAbsent g.R.Rack.slot b = (λ x is. inl (named ∙ sym (ap named_out out) ∙ is)) in
-    let k = service_of g.R.Rack.slot_count a samples served energy in
-    let j = service_of g.R.Rack.slot_count b samples served energy in
-    let k_then = service_of g.R.Rack.slot_count new samples served energy in
-    let new_setup : new.meta.setup ≡ b.meta.setup = c.in_ok-commit.ensures.setup in
-    let ready = c.in_ok-commit.ensures.ready in
-    let lost = c.in_ok-commit.ensures.marks in
-    let there : is_present (g.R.Rack.slot (store_rack b.store) c.args.disk).power ≡ true = ap (λ (z : _). is_present (g.R.Rack.slot (store_rack z) c.args.disk).power) marks.store ∙ ap is_present c.requires.spins in (
-      j,
-      record {
-        mark = units_marked k j c.args.disk (rebuilt_count a.meta.out) c.args.end
-            (same_service g.R.Rack.slot_count a b samples served energy (meta_with_out a.meta (Fresh c.args.disk c.args.end)) (ap (λ (z : _). g.R.Rack.slot_count (store_rack z)) marks.store) (ap named_of marks.store) is_meta marks.table marks.batch marks.copied)
-            c.requires.fresh c.requires.serving.ready.in_range;
-        stands = λ t tells copied. still_told (IsCoreHeldSinceCommit g.R.Rack.slot_count a h lo) (UnitsRebuilt g.R.Rack.slot_count a h lo c.args.end) (CoreStandsFor g.R.Rack.slot_count b h lo) (g.R.Rack.told (store_rack a.store)) (g.R.Rack.told (store_rack b.store))
-            (ap (λ (z : _). g.R.Rack.told (store_rack z)) marks.store) (marks.stands h lo) t tells copied;
-        ran = subst (λ (z : _). Ran (g.R.Rack.told (store_rack z)) (g.R.Rack.told (store_rack new.store)) (ServesMarked j k_then h lo (length h))) marks.store
-            (marked_serves (g.R.Rack.told (store_rack b.store)) (g.R.Rack.told (store_rack new.store)) j k_then h lo
-            (commit_told (g.R.Rack.told (store_rack b.store)) (g.R.Rack.told (store_rack new.store)) j k_then h lo c.commit.ensures.calls (c.in_ok-commit.ensures.since away h lo) (c.commit.ensures.whole h lo)
-            (marked_told (g.R.Rack.told (store_rack new.store)) (g.R.Rack.slot (store_rack b.store)) (g.R.Rack.slot (store_rack new.store)) (g.met.R.Rack.agrees (store_rack new.store)) b.meta new.meta lost
-            (λ x low absent. ready.absent x (subst (λ (z : Setup). x < z.geometry.disks) (sym new_setup) low) absent)
-            (fresh_stays (g.R.Rack.slot (store_rack b.store)) (g.R.Rack.slot (store_rack new.store)) b.meta new.meta lost
-            (named_there (g.R.Rack.slot (store_rack b.store)) b.meta c.args.disk c.args.end out there)))));
-        epoch = c.in_ok-commit.ensures.epoch;
-        slots = c.commit.ensures.slots;
-        gear = ap (λ (m : Meta). m.gear) is_meta;
-        phase = ap (λ (m : Meta). m.phase) is_meta;
-      },
-    )
-
-pub returns-then-is_gone-clause-away : goal.returns-then-is_gone-clause-away
-returns-then-is_gone-clause-away g c is =
-    let a = c.args.core.now in
-    let b = c.mark_rebuilt.new.self in
-    let new = c.commit.new.self in
-    let was : named_out a.meta.out ≡ Some c.args.disk = ap named_out c.requires.fresh in
-    let out : b.meta.out ≡ Fresh c.args.disk c.args.end = ap (λ (m : Meta). m.out) (c.mark_rebuilt.ensures.meta c.args.disk was) in
-    gone_away (g.R.Rack.slot (store_rack b.store)) (g.R.Rack.slot (store_rack new.store)) b.meta new.meta c.args.disk (ap named_out out) (ap gone_out out) c.in_ok-commit.ensures.marks (c.is_gone.ensures.gone c.if-is_gone.true)
-
-pub returns-in_err-commit-clause-loses : goal.returns-in_err-commit-clause-loses
-returns-in_err-commit-clause-loses g c =
-    let a = c.args.core.now in
-    let b = c.mark_rebuilt.new.self in
-    let new = c.commit.new.self in
-    let marks = c.mark_rebuilt.ensures in
-    let was : named_out a.meta.out ≡ Some c.args.disk = ap named_out c.requires.fresh in
-    let is_meta = marks.meta c.args.disk was in
-    let out : b.meta.out ≡ Fresh c.args.disk c.args.end = ap (λ (m : Meta). m.out) is_meta in
-    let named : named_of b.store ≡ Some c.args.disk = ap named_of marks.store ∙ c.requires.named in
-    let away : IsNamedOrAbsent g.R.Rack.slot b = (λ x is. inl (named ∙ sym (ap named_out out) ∙ is)) in
-    let down : core_down b ≡ named_out b.meta.out = ap (λ (o : Option ℕ). or_else o (named_out b.meta.out)) named ∙ sym (ap named_out out) in
-    handed (LosesMark g.R.Rack.slot_count g.R.Rack.told a new c.args.end) c.from_residual.result _ c.from_residual.ensures.1
-    (λ samples served energy h lo.
-    let k = service_of g.R.Rack.slot_count a samples served energy in
-    let j = service_of g.R.Rack.slot_count b samples served energy in (
-      j,
-      record {
-        mark = units_marked k j c.args.disk (rebuilt_count a.meta.out) c.args.end
-            (same_service g.R.Rack.slot_count a b samples served energy (meta_with_out a.meta (Fresh c.args.disk c.args.end)) (ap (λ (z : _). g.R.Rack.slot_count (store_rack z)) marks.store) (ap named_of marks.store) is_meta marks.table marks.batch marks.copied)
-            c.requires.fresh c.requires.serving.ready.in_range;
-        stands = λ t tells copied. still_told (IsCoreHeldSinceCommit g.R.Rack.slot_count a h lo) (UnitsRebuilt g.R.Rack.slot_count a h lo c.args.end) (CoreStandsFor g.R.Rack.slot_count b h lo) (g.R.Rack.told (store_rack a.store)) (g.R.Rack.told (store_rack b.store))
-            (ap (λ (z : _). g.R.Rack.told (store_rack z)) marks.store) (marks.stands h lo) t tells copied;
-        ran = commit_lost (g.R.Rack.told (store_rack b.store)) (g.R.Rack.told (store_rack new.store)) j h lo _ (g.R.Rack.told (store_rack a.store)) (ap (λ (z : _). g.R.Rack.told (store_rack z)) marks.store)
-            c.commit.ensures.calls (c.commit.ensures.moments_since away h lo) (c.commit.ensures.whole h lo) (tells_by (g.R.Rack.told (store_rack b.store)) (g.R.Rack.told (store_rack new.store)) (core_down b) (named_out b.meta.out) _ down c.in_err-commit.ensures.tells);
-      },
-    ))
+    let there : is_present (g.R.Rack.slot (store_rack b.store) c.args.disk).power ≡ true = ap (λ (z : _). is_present (g.R.Rack.slot (store_rack z) c.args.disk).power) marks.store ∙ ap is_present c.requires.spins in
+    record {
+      serving =
+          serving_then g.R.Rack.slot_count g.R.Rack.slot a new c.requires.serving done.ready (done.serves (marks.serves c.requires.serving.serves))
+          (done.unsynced (unsynced_still g.R.Rack.slot_count g.R.Rack.slot a b c.requires.serving setup (λ d is. let z : None ≡ Some d = sym (ap gone_out c.requires.fresh) ∙ is in cc) marks.store marks.copied)) (done.draft ∙ marks.draft) (done.copied ∙ marks.copied) (done.setup ∙ setup)
+          (λ d is. marked_named _ new.meta done.meta d (ap named_out out ∙ sym was ∙ is))
+          (λ d not there. c.commit.ensures.spared.size d there ∙ ap (λ (z : _). (g.R.Rack.slot (store_rack z) d).size) marks.store);
+      nothing = c.in_ok-commit.ensures.nothing;
+      absent = c.in_ok-commit.ensures.absent;
+      named = c.in_ok-commit.ensures.named ∙ ap named_out out;
+      slots = c.commit.ensures.slots ∙ ap (λ (z : _). g.R.Rack.slot_count (store_rack z)) marks.store;
+      marked = λ is. marked_back _ new.meta c.in_ok-commit.ensures.meta (c.is_gone.ensures.back c.if-is_gone.false) ∙ ap (λ (m : Meta). record m { epoch = m.epoch + 1 }) is_meta;
+      epoch = c.in_ok-commit.ensures.epoch ∙ ap (λ (m : Meta). m.epoch + 1) is_meta;
+      spins = λ is.
+          (back_well (g.R.Rack.slot (store_rack b.store)) (g.R.Rack.slot (store_rack new.store)) b.meta new.meta c.args.disk c.in_ok-commit.ensures.marks (c.is_gone.ensures.back c.if-is_gone.false)).0
+          ∙ ap (λ (z : _). (g.R.Rack.slot (store_rack z) c.args.disk).power) marks.store ∙ c.requires.spins;
+      gone = λ is. let z : Ok true ≡ Ok false = is in cc;
+      failed = λ is. let z : Ok true ≡ Ok false = is in cc;
+      away = λ is. let z : Ok true ≡ Ok false = is in cc;
+      table = c.commit.ensures.table ∙ marks.table;
+      spared = subst (λ (z : _). OnlyLosesSlots (g.R.Rack.slot (store_rack z)) (g.R.Rack.slot (store_rack new.store))) marks.store c.commit.ensures.spared;
+      two = tt;
+      moments = λ h lo.
+          chain_held g.R.Rack.slot_count g.R.Rack.told a b (ap (λ (z : _). g.R.Rack.slot_count (store_rack z)) marks.store) setup (ap named_of marks.store)
+          (UnitsRebuilt g.R.Rack.slot_count a h lo c.args.end) (CoreStandsFor g.R.Rack.slot_count b h lo) h lo _ (marks.stands h lo) (c.commit.ensures.moments_since away h lo);
+      rests = λ h lo.
+          chain g.R.Rack.slot_count g.R.Rack.told a b (ap (λ (z : _). g.R.Rack.slot_count (store_rack z)) marks.store) setup (ap named_of marks.store)
+          (UnitsRebuilt g.R.Rack.slot_count a h lo c.args.end) (CoreStandsFor g.R.Rack.slot_count b h lo) (RestsInShift g.R.Rack.slot_count new h lo) h lo _ (marks.stands h lo) (lowered g.R.Rack.slot_count b new (IsCoreHeldSinceCommit g.R.Rack.slot_count b h lo) h lo _ _ (c.in_ok-commit.ensures.filled_since away h lo));
+      event = λ samples served energy h lo.
+          let k = service_of g.R.Rack.slot_count a samples served energy in
+          let j = service_of g.R.Rack.slot_count b samples served energy in
+          let k_then = service_of g.R.Rack.slot_count new samples served energy in (
+            j,
+            record {
+              mark = units_marked k j c.args.disk (rebuilt_count a.meta.out) c.args.end
+                  (same_service g.R.Rack.slot_count a b samples served energy (meta_with_out a.meta (Fresh c.args.disk c.args.end)) (ap (λ (z : _). g.R.Rack.slot_count (store_rack z)) marks.store) (ap named_of marks.store) is_meta marks.table marks.batch marks.copied)
+                  c.requires.fresh c.requires.serving.ready.in_range;
+              stands = λ t tells copied. still_told (IsCoreHeldSinceCommit g.R.Rack.slot_count a h lo) (UnitsRebuilt g.R.Rack.slot_count a h lo c.args.end) (CoreStandsFor g.R.Rack.slot_count b h lo) (g.R.Rack.told (store_rack a.store)) (g.R.Rack.told (store_rack b.store))
+                  (ap (λ (z : _). g.R.Rack.told (store_rack z)) marks.store) (marks.stands h lo) t tells copied;
+              ran = subst (λ (z : _). Ran (g.R.Rack.told (store_rack z)) (g.R.Rack.told (store_rack new.store)) (ServesMarked j k_then h lo (length h))) marks.store
+                  (marked_serves (g.R.Rack.told (store_rack b.store)) (g.R.Rack.told (store_rack new.store)) j k_then h lo
+                  (commit_told (g.R.Rack.told (store_rack b.store)) (g.R.Rack.told (store_rack new.store)) j k_then h lo c.commit.ensures.calls (c.in_ok-commit.ensures.since away h lo) (c.commit.ensures.whole h lo)
+                  (marked_told (g.R.Rack.told (store_rack new.store)) (g.R.Rack.slot (store_rack b.store)) (g.R.Rack.slot (store_rack new.store)) (g.met.R.Rack.agrees (store_rack new.store)) b.meta new.meta lost
+                  (λ x low absent. ready.absent x (subst (λ (z : Setup). x < z.geometry.disks) (sym new_setup) low) absent)
+                  (fresh_stays (g.R.Rack.slot (store_rack b.store)) (g.R.Rack.slot (store_rack new.store)) b.meta new.meta lost
+                  (named_there (g.R.Rack.slot (store_rack b.store)) b.meta c.args.disk c.args.end out there)))));
+              epoch = c.in_ok-commit.ensures.epoch;
+              slots = c.commit.ensures.slots;
+              gear = ap (λ (m : Meta). m.gear) is_meta;
+              phase = ap (λ (m : Meta). m.phase) is_meta;
+            },
+          );
+      loses = tt;
+    }

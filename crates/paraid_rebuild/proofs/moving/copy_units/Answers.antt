@@ -21,6 +21,8 @@ use Rattle.paraid_image.specs.Lost.{TellsLosses}
 use Rattle.paraid_txn.specs.Uses.{EachCall}
 use Rattle.paraid_rebuild.proofs.LossLemmas.{tells_later}
 use Rattle.paraid_rebuild.proofs.moving.copy_units.Goals as goal
+use Rattle.std.specs.Prelude.{true, false, Ok}
+use Rattle.paraid_shift.proofs.AnswerLemmas.{none_done, none_done_as}
 
 pub loop-number-init : goal.loop-number-init
 loop-number-init g c =
@@ -33,51 +35,6 @@ loop-number-init g c =
       calls = calls_none (IsDataCall a.meta.setup.geometry.disks (gone_out a.meta.out)) (g.R.Rack.told (store_rack a.store));
       copied = λ h lo. runs_none g.R.Rack.slot_count g.R.Rack.slot g.R.Rack.told a (UnitsRebuilt g.R.Rack.slot_count c.args.core.now h lo c.args.first) h lo (λ s kr. kr.keeps);
     }
-
-pub returns-in_err-done-clause-spared : goal.returns-in_err-done-clause-spared
-returns-in_err-done-clause-spared g c =
-    spared_then (g.R.Rack.slot (store_rack c.args.core.now.store)) (g.R.Rack.slot (store_rack c.loop-number.core.store)) (g.R.Rack.slot (store_rack c.rebuild_unit.new.self.store)) c.loop-number.invariant.leaves.spared c.rebuild_unit.ensures.spared
-
-pub returns-in_err-done-clause-two : goal.returns-in_err-done-clause-two
-returns-in_err-done-clause-two g c =
-    handed _ c.from_residual.result _ c.from_residual.ensures.1
-    (two_then g.R.Rack.slot_count g.R.Rack.slot g.R.Rack.told c.args.core.now c.loop-number.core c.loop-number.invariant.leaves c.rebuild_unit.new.self c.rebuild_unit.ensures.spared _ c.in_err-done.ensures.two)
-
-pub returns-in_err-done-clause-moments : goal.returns-in_err-done-clause-moments
-returns-in_err-done-clause-moments g c h lo =
-    let was = c.loop-number.invariant in
-    held_runs_then g.R.Rack.slot_count g.R.Rack.slot g.R.Rack.told c.args.core.now c.loop-number.core was.leaves c.rebuild_unit.new.self (UnitsRebuilt g.R.Rack.slot_count c.args.core.now h lo c.args.first) (UnitsRebuilt g.R.Rack.slot_count c.loop-number.core h lo c.loop-number.number) h lo (was.copied h lo) (c.rebuild_unit.ensures.moments h lo)
-
-pub returns-then-not-done-clause-leaves : goal.returns-then-not-done-clause-leaves
-returns-then-not-done-clause-leaves g c =
-    leaves_then g.R.Rack.slot_count g.R.Rack.slot g.R.Rack.told c.args.core.now c.loop-number.core c.loop-number.invariant.leaves c.rebuild_unit.new.self c.in_ok-done.ensures.leaves
-
-pub returns-then-not-done-clause-spared : goal.returns-then-not-done-clause-spared
-returns-then-not-done-clause-spared g c =
-    spared_then (g.R.Rack.slot (store_rack c.args.core.now.store)) (g.R.Rack.slot (store_rack c.loop-number.core.store)) (g.R.Rack.slot (store_rack c.rebuild_unit.new.self.store)) c.loop-number.invariant.leaves.spared c.rebuild_unit.ensures.spared
-
-pub returns-then-not-done-clause-stands : goal.returns-then-not-done-clause-stands
-returns-then-not-done-clause-stands g c h lo =
-    let was = c.loop-number.invariant in
-    runs_then g.R.Rack.slot_count g.R.Rack.slot g.R.Rack.told c.args.core.now c.loop-number.core was.leaves c.rebuild_unit.new.self (UnitsRebuilt g.R.Rack.slot_count c.args.core.now h lo c.args.first) (UnitsRebuilt g.R.Rack.slot_count c.loop-number.core h lo c.loop-number.number) (CoreStandsFor g.R.Rack.slot_count c.rebuild_unit.new.self h lo) h lo (was.copied h lo)
-    (c.in_ok-done.ensures.lost (ap Ok c.if-not-done.true) h lo)
-
-pub returns-then-not-done-clause-moments : goal.returns-then-not-done-clause-moments
-returns-then-not-done-clause-moments g c h lo =
-    let was = c.loop-number.invariant in
-    held_runs_then g.R.Rack.slot_count g.R.Rack.slot g.R.Rack.told c.args.core.now c.loop-number.core was.leaves c.rebuild_unit.new.self (UnitsRebuilt g.R.Rack.slot_count c.args.core.now h lo c.args.first) (UnitsRebuilt g.R.Rack.slot_count c.loop-number.core h lo c.loop-number.number) h lo (was.copied h lo) (c.rebuild_unit.ensures.moments h lo)
-
-pub returns-then-not-done-clause-gone : goal.returns-then-not-done-clause-gone
-returns-then-not-done-clause-gone g c is =
-    let was = c.loop-number.invariant in
-    let named : named_out c.loop-number.core.meta.out ≡ Some c.args.disk = ap (λ (m : Meta). named_out m.out) was.meta ∙ ap named_out c.requires.fresh in
-    c.in_ok-done.ensures.gone (ap Ok c.if-not-done.true) c.args.disk named ∙ ap (λ (m : Meta). meta_after_loss m c.args.disk) was.meta
-
-pub returns-then-not-done-clause-failed : goal.returns-then-not-done-clause-failed
-returns-then-not-done-clause-failed g c is =
-    let was = c.loop-number.invariant in
-    let named : named_out c.loop-number.core.meta.out ≡ Some c.args.disk = ap (λ (m : Meta). named_out m.out) was.meta ∙ ap named_out c.requires.fresh in
-    HasRisen-sooner _ _ _ (was.leaves.spared.no_fall c.args.disk) (c.in_ok-done.ensures.failed (ap Ok c.if-not-done.true) c.args.disk named).risen
 
 pub loop-number-preserved : goal.loop-number-preserved
 loop-number-preserved g c =
@@ -96,46 +53,75 @@ loop-number-preserved g c =
           (UnitsRebuilt g.R.Rack.slot_count c.rebuild_unit.new.self h lo (c.loop-number.number + 1)) h lo (was.copied h lo) (call.copied (ap Ok done) h lo);
     }
 
-pub returns-clause-copied : goal.returns-clause-copied
-returns-clause-copied g c is h lo =
+pub returns-in_err-done : goal.returns-in_err-done
+returns-in_err-done g c =
     let was = c.loop-number.invariant in
-    let l = c.loop-number.core in
-    let all : c.loop-number.number ≡ c.args.end = (let low = c.requires.order in let test = c.loop-number-test.false in let end = c.loop-number.auto.number-end in omega arith) in
-    subst (λ (z : ℕ). Ran (g.R.Rack.told (store_rack c.args.core.now.store)) (g.R.Rack.told (store_rack l.store)) (CrashTriple (IsCoreHeldSinceCommit g.R.Rack.slot_count c.args.core.now h lo) (UnitsRebuilt g.R.Rack.slot_count c.args.core.now h lo c.args.first) (UnitsRebuilt g.R.Rack.slot_count l h lo z))) all (was.copied h lo)
-
-pub returns-clause-stands : goal.returns-clause-stands
-returns-clause-stands g c h lo =
-    let was = c.loop-number.invariant in
-    let l = c.loop-number.core in
-    weaker _ _ _ (UnitsRebuilt g.R.Rack.slot_count l h lo c.loop-number.number) (CoreStandsFor g.R.Rack.slot_count l h lo) _ _ (λ s k. k)
-    (λ s kf. subst (λ (z : _). HoldsBetweenCalls (g.R.Rack.slot_count (store_rack l.store)) (named_of l.store) l.meta l.dirty z l.copied h lo s) (sym (was.leaves.batch ∙ c.requires.nothing)) kf.keeps) (was.copied h lo)
-
-pub returns-clause-moments : goal.returns-clause-moments
-returns-clause-moments g c h lo =
-    runs_end g.R.Rack.slot_count g.R.Rack.slot g.R.Rack.told c.args.core.now _ _ _ h lo (c.loop-number.invariant.copied h lo)
-
-pub returns-in_err-done-clause-calls : goal.returns-in_err-done-clause-calls
-returns-in_err-done-clause-calls g c =
-    let was = c.loop-number.invariant in
-    data_then c.args.core.now.meta c.loop-number.core.meta was.meta (g.R.Rack.told (store_rack c.args.core.now.store)) (g.R.Rack.told (store_rack c.loop-number.core.store)) (g.R.Rack.told (store_rack c.rebuild_unit.new.self.store)) was.calls c.rebuild_unit.ensures.calls
-
-pub returns-then-not-done-clause-calls : goal.returns-then-not-done-clause-calls
-returns-then-not-done-clause-calls g c =
-    let was = c.loop-number.invariant in
-    data_then c.args.core.now.meta c.loop-number.core.meta was.meta (g.R.Rack.told (store_rack c.args.core.now.store)) (g.R.Rack.told (store_rack c.loop-number.core.store)) (g.R.Rack.told (store_rack c.rebuild_unit.new.self.store)) was.calls c.rebuild_unit.ensures.calls
-
-pub returns-then-not-done-clause-away : goal.returns-then-not-done-clause-away
-returns-then-not-done-clause-away g c is =
-    let was = c.loop-number.invariant in
-    let named : named_out c.loop-number.core.meta.out ≡ Some c.args.disk = ap (λ (m : Meta). named_out m.out) was.meta ∙ ap named_out c.requires.fresh in
-    (c.in_ok-done.ensures.failed (ap Ok c.if-not-done.true) c.args.disk named).absent
-
-pub returns-in_err-done-clause-tells : goal.returns-in_err-done-clause-tells
-returns-in_err-done-clause-tells g c =
     let a = c.args.core.now in
     let l = c.loop-number.core in
     let new = c.rebuild_unit.new.self in
+    let from = c.from_residual in
+    record {
+      leaves = none_done _ from.result _ from.ensures.1;
+      same = λ is. none_done_as _ from.result _ _ from.ensures.1 is;
+      spins = λ is. none_done_as _ from.result _ _ from.ensures.1 is;
+      gone = λ is. none_done_as _ from.result _ _ from.ensures.1 is;
+      failed = λ is. none_done_as _ from.result _ _ from.ensures.1 is;
+      away = λ is. none_done_as _ from.result _ _ from.ensures.1 is;
+      spared = spared_then (g.R.Rack.slot (store_rack c.args.core.now.store)) (g.R.Rack.slot (store_rack c.loop-number.core.store)) (g.R.Rack.slot (store_rack c.rebuild_unit.new.self.store)) c.loop-number.invariant.leaves.spared c.rebuild_unit.ensures.spared;
+      calls = data_then c.args.core.now.meta c.loop-number.core.meta was.meta (g.R.Rack.told (store_rack c.args.core.now.store)) (g.R.Rack.told (store_rack c.loop-number.core.store)) (g.R.Rack.told (store_rack c.rebuild_unit.new.self.store)) was.calls c.rebuild_unit.ensures.calls;
+      two =
+          handed _ from.result _ from.ensures.1
+          (two_then g.R.Rack.slot_count g.R.Rack.slot g.R.Rack.told c.args.core.now c.loop-number.core c.loop-number.invariant.leaves c.rebuild_unit.new.self c.rebuild_unit.ensures.spared _ c.in_err-done.ensures.two);
+      tells =
+          handed (λ two. Ran (g.R.Rack.told (store_rack a.store)) (g.R.Rack.told (store_rack new.store)) (λ s cs. TellsLosses (named_out a.meta.out) two cs)) from.result _ from.ensures.1
+          (tells_later (EachCall (IsDataCall a.meta.setup.geometry.disks (gone_out a.meta.out))) (g.R.Rack.told (store_rack a.store)) (g.R.Rack.told (store_rack l.store)) (g.R.Rack.told (store_rack new.store)) (named_out a.meta.out) (named_out l.meta.out) c.args.disk _
+          (ap named_out c.requires.fresh) (ap (λ (m : Meta). named_out m.out) was.meta ∙ ap named_out c.requires.fresh) was.calls c.in_err-done.ensures.tells);
+      copied = λ is. none_done_as _ from.result _ _ from.ensures.1 is;
+      stands = none_done _ from.result _ from.ensures.1;
+      moments = λ h lo. held_runs_then g.R.Rack.slot_count g.R.Rack.slot g.R.Rack.told c.args.core.now c.loop-number.core was.leaves c.rebuild_unit.new.self (UnitsRebuilt g.R.Rack.slot_count c.args.core.now h lo c.args.first) (UnitsRebuilt g.R.Rack.slot_count c.loop-number.core h lo c.loop-number.number) h lo (was.copied h lo) (c.rebuild_unit.ensures.moments h lo);
+    }
+
+pub returns-then-not-done : goal.returns-then-not-done
+returns-then-not-done g c =
     let was = c.loop-number.invariant in
-    handed (λ two. Ran (g.R.Rack.told (store_rack a.store)) (g.R.Rack.told (store_rack new.store)) (λ s cs. TellsLosses (named_out a.meta.out) two cs)) c.from_residual.result _ c.from_residual.ensures.1
-    (tells_later (EachCall (IsDataCall a.meta.setup.geometry.disks (gone_out a.meta.out))) (g.R.Rack.told (store_rack a.store)) (g.R.Rack.told (store_rack l.store)) (g.R.Rack.told (store_rack new.store)) (named_out a.meta.out) (named_out l.meta.out) c.args.disk _
-    (ap named_out c.requires.fresh) (ap (λ (m : Meta). named_out m.out) was.meta ∙ ap named_out c.requires.fresh) was.calls c.in_err-done.ensures.tells)
+    let named : named_out c.loop-number.core.meta.out ≡ Some c.args.disk = ap (λ (m : Meta). named_out m.out) was.meta ∙ ap named_out c.requires.fresh in
+    record {
+      leaves = leaves_then g.R.Rack.slot_count g.R.Rack.slot g.R.Rack.told c.args.core.now c.loop-number.core c.loop-number.invariant.leaves c.rebuild_unit.new.self c.in_ok-done.ensures.leaves;
+      same = λ is. let z : Ok false ≡ Ok true = is in cc;
+      spins = λ is. let z : Ok false ≡ Ok true = is in cc;
+      gone = λ is. c.in_ok-done.ensures.gone (ap Ok c.if-not-done.true) c.args.disk named ∙ ap (λ (m : Meta). meta_after_loss m c.args.disk) was.meta;
+      failed = λ is. HasRisen-sooner _ _ _ (was.leaves.spared.no_fall c.args.disk) (c.in_ok-done.ensures.failed (ap Ok c.if-not-done.true) c.args.disk named).risen;
+      away = λ is. (c.in_ok-done.ensures.failed (ap Ok c.if-not-done.true) c.args.disk named).absent;
+      spared = spared_then (g.R.Rack.slot (store_rack c.args.core.now.store)) (g.R.Rack.slot (store_rack c.loop-number.core.store)) (g.R.Rack.slot (store_rack c.rebuild_unit.new.self.store)) c.loop-number.invariant.leaves.spared c.rebuild_unit.ensures.spared;
+      calls = data_then c.args.core.now.meta c.loop-number.core.meta was.meta (g.R.Rack.told (store_rack c.args.core.now.store)) (g.R.Rack.told (store_rack c.loop-number.core.store)) (g.R.Rack.told (store_rack c.rebuild_unit.new.self.store)) was.calls c.rebuild_unit.ensures.calls;
+      two = tt;
+      tells = tt;
+      copied = λ is. let z : Ok false ≡ Ok true = is in cc;
+      stands = λ h lo.
+          runs_then g.R.Rack.slot_count g.R.Rack.slot g.R.Rack.told c.args.core.now c.loop-number.core was.leaves c.rebuild_unit.new.self (UnitsRebuilt g.R.Rack.slot_count c.args.core.now h lo c.args.first) (UnitsRebuilt g.R.Rack.slot_count c.loop-number.core h lo c.loop-number.number) (CoreStandsFor g.R.Rack.slot_count c.rebuild_unit.new.self h lo) h lo (was.copied h lo)
+          (c.in_ok-done.ensures.lost (ap Ok c.if-not-done.true) h lo);
+      moments = λ h lo. held_runs_then g.R.Rack.slot_count g.R.Rack.slot g.R.Rack.told c.args.core.now c.loop-number.core was.leaves c.rebuild_unit.new.self (UnitsRebuilt g.R.Rack.slot_count c.args.core.now h lo c.args.first) (UnitsRebuilt g.R.Rack.slot_count c.loop-number.core h lo c.loop-number.number) h lo (was.copied h lo) (c.rebuild_unit.ensures.moments h lo);
+    }
+
+pub returns : goal.returns
+returns g c =
+    let was = c.loop-number.invariant in
+    let l = c.loop-number.core in
+    let all : c.loop-number.number ≡ c.args.end = (let low = c.requires.order in let test = c.loop-number-test.false in let end = c.loop-number.auto.number-end in omega arith) in
+    record {
+      leaves = was.leaves;
+      same = λ is. was.meta;
+      spins = λ is. was.spins;
+      gone = λ is. let z : Ok true ≡ Ok false = is in cc;
+      failed = λ is. let z : Ok true ≡ Ok false = is in cc;
+      away = λ is. let z : Ok true ≡ Ok false = is in cc;
+      spared = was.leaves.spared;
+      calls = was.calls;
+      two = tt;
+      tells = tt;
+      copied = λ is h lo. subst (λ (z : ℕ). Ran (g.R.Rack.told (store_rack c.args.core.now.store)) (g.R.Rack.told (store_rack l.store)) (CrashTriple (IsCoreHeldSinceCommit g.R.Rack.slot_count c.args.core.now h lo) (UnitsRebuilt g.R.Rack.slot_count c.args.core.now h lo c.args.first) (UnitsRebuilt g.R.Rack.slot_count l h lo z))) all (was.copied h lo);
+      stands = λ h lo.
+          weaker _ _ _ (UnitsRebuilt g.R.Rack.slot_count l h lo c.loop-number.number) (CoreStandsFor g.R.Rack.slot_count l h lo) _ _ (λ s k. k)
+          (λ s kf. subst (λ (z : _). HoldsBetweenCalls (g.R.Rack.slot_count (store_rack l.store)) (named_of l.store) l.meta l.dirty z l.copied h lo s) (sym (was.leaves.batch ∙ c.requires.nothing)) kf.keeps) (was.copied h lo);
+      moments = λ h lo. runs_end g.R.Rack.slot_count g.R.Rack.slot g.R.Rack.told c.args.core.now _ _ _ h lo (c.loop-number.invariant.copied h lo);
+    }

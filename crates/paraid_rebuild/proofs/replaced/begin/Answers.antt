@@ -16,106 +16,146 @@ use Rattle.paraid_event.specs.Replacements.LosesReplaced.{second}
 use Rattle.paraid_rebuild.proofs.LossLemmas.{LosesBegun}
 use Rattle.paraid_session.proofs.FaultLemmas.{counts_then, no_fall_counts}
 use Rattle.paraid_rebuild.proofs.replaced.begin.Goals as goal
+use Rattle.std.specs.Prelude.{◌+◌, ◌<◌, ◌^◌}
+use Rattle.std.proofs.Common.{inl, inr, subst}
+use Rattle.paraid_base.proofs.ToldLemmas.{HasRisen-sooner}
+use Rattle.paraid_base.specs.Regions.{disk_size}
+use Rattle.paraid_base.specs.declared.state.Out.{Out}
+use Rattle.paraid_rebuild.specs.Replacing.{IsReplacedFrom}
+use Rattle.paraid_rebuild.proofs.ReplacingLemmas.{but_then}
+use Rattle.paraid_shift.proofs.AnswerLemmas.{none_done, none_done_as}
 
-pub returns-clause-fresh : goal.returns-clause-fresh
-returns-clause-fresh g c is =
-    replaced_then c.args.core.now.meta c.commit_gone.new.core.meta c.bring_fresh.new.core.meta c.args.disk (Fresh c.args.disk 0) c.in_ok-commit_gone.ensures.meta (c.in_ok-there.ensures.fresh is)
-
-pub returns-in_err-there-clause-moments : goal.returns-in_err-there-clause-moments
-returns-in_err-there-clause-moments g c h lo =
-    let a = c.args.core.now in
-    let b = c.commit_gone.new.core in
-    let new = c.bring_fresh.new.core in
+pub bring_fresh-requires : goal.bring_fresh-requires
+bring_fresh-requires g c =
     let was = c.in_ok-commit_gone.ensures in
-    let down : core_down b ≡ Some c.args.disk = ap (λ (o : Option ℕ). or_else o (named_out b.meta.out)) was.named in
-    let known : core_down a ≡ Some c.args.disk = down_named (named_of a.store) a.meta c.requires.serving.ready.one c.args.disk c.requires.out in
-    ended (IsCoreHeld g.R.Rack.slot_count a h lo) (CoreStandsFor g.R.Rack.slot_count a h lo) (IsCoreHeld g.R.Rack.slot_count b h (length h)) _ _
-    (after _ _ _ _ (core_down a) (core_down b) h was.slots (ap (λ (m : Meta). m.setup.geometry.disks) was.meta.is) (λ x is. known ∙ sym down ∙ is) lo
-    (CoreStandsFor g.R.Rack.slot_count a h lo) (CoreCommitted g.R.Rack.slot_count b h (length h) (Gone c.args.disk)) (IsCoreHeld g.R.Rack.slot_count b h (length h)) _ _ _
-    (λ s k. keeps_low _ _ _ _ _ _ h lo s k) (was.committed h lo) (c.bring_fresh.ensures.moments h (length h)))
-
-pub returns-clause-moments : goal.returns-clause-moments
-returns-clause-moments g c h lo =
-    let a = c.args.core.now in
-    let b = c.commit_gone.new.core in
-    let new = c.bring_fresh.new.core in
-    let was = c.in_ok-commit_gone.ensures in
-    let down : core_down b ≡ Some c.args.disk = ap (λ (o : Option ℕ). or_else o (named_out b.meta.out)) was.named in
-    let known : core_down a ≡ Some c.args.disk = down_named (named_of a.store) a.meta c.requires.serving.ready.one c.args.disk c.requires.out in
-    ended (IsCoreHeld g.R.Rack.slot_count a h lo) (CoreStandsFor g.R.Rack.slot_count a h lo) (IsCoreHeld g.R.Rack.slot_count b h (length h)) _ _
-    (after _ _ _ _ (core_down a) (core_down b) h was.slots (ap (λ (m : Meta). m.setup.geometry.disks) was.meta.is) (λ x is. known ∙ sym down ∙ is) lo
-    (CoreStandsFor g.R.Rack.slot_count a h lo) (CoreCommitted g.R.Rack.slot_count b h (length h) (Gone c.args.disk)) (IsCoreHeld g.R.Rack.slot_count b h (length h)) _ _ _
-    (λ s k. keeps_low _ _ _ _ _ _ h lo s k) (was.committed h lo) (c.bring_fresh.ensures.moments h (length h)))
-
-pub returns-clause-stands : goal.returns-clause-stands
-returns-clause-stands g c h lo =
-    let a = c.args.core.now in
-    let b = c.commit_gone.new.core in
-    let new = c.bring_fresh.new.core in
-    let was = c.in_ok-commit_gone.ensures in
-    let down : core_down b ≡ Some c.args.disk = ap (λ (o : Option ℕ). or_else o (named_out b.meta.out)) was.named in
-    let known : core_down a ≡ Some c.args.disk = down_named (named_of a.store) a.meta c.requires.serving.ready.one c.args.disk c.requires.out in
-    after _ _ _ _ (core_down a) (core_down b) h was.slots (ap (λ (m : Meta). m.setup.geometry.disks) was.meta.is) (λ x is. known ∙ sym down ∙ is) lo
-    (CoreStandsFor g.R.Rack.slot_count a h lo) (CoreCommitted g.R.Rack.slot_count b h (length h) (Gone c.args.disk)) (CoreStandsFor g.R.Rack.slot_count new h (length h)) _ _ _
-    (λ s k. keeps_low _ _ _ _ _ _ h lo s k) (was.committed h lo) (c.in_ok-there.ensures.stands h)
-
-pub returns-clause-committed : goal.returns-clause-committed
-returns-clause-committed g c is h lo =
-    let a = c.args.core.now in
-    let b = c.commit_gone.new.core in
-    let new = c.bring_fresh.new.core in
-    let was = c.in_ok-commit_gone.ensures in
-    let down : core_down b ≡ Some c.args.disk = ap (λ (o : Option ℕ). or_else o (named_out b.meta.out)) was.named in
-    let known : core_down a ≡ Some c.args.disk = down_named (named_of a.store) a.meta c.requires.serving.ready.one c.args.disk c.requires.out in
-    after _ _ _ _ (core_down a) (core_down b) h was.slots (ap (λ (m : Meta). m.setup.geometry.disks) was.meta.is) (λ x is. known ∙ sym down ∙ is) lo
-    (CoreStandsFor g.R.Rack.slot_count a h lo) (CoreCommitted g.R.Rack.slot_count b h (length h) (Gone c.args.disk)) (CoreCommitted g.R.Rack.slot_count new h (length h) (Fresh c.args.disk 0)) _ _ _
-    (λ s k. keeps_low _ _ _ _ _ _ h lo s k) (was.committed h lo) (c.in_ok-there.ensures.committed is h)
-
-pub returns-clause-event : goal.returns-clause-event
-returns-clause-event g c samples served energy h lo =
-    let b = c.commit_gone.new.core in
-    let one = c.in_ok-commit_gone.ensures.event samples served energy h lo in
     record {
-      mid = g.R.Rack.told (store_rack b.store);
-      marked = one.0;
-      committed = service_of g.R.Rack.slot_count b samples served energy;
-      commits = one.1;
-      brings = c.in_ok-there.ensures.event samples served energy h lo;
+      serving = was.serving;
+      epoch = subst (λ (e : ℕ). e < 2 ^ 63) (sym (ap (λ (m : Meta). m.epoch) was.meta.is)) c.requires.epoch;
+      gone = ap (λ (m : Meta). m.out) was.meta.is;
+      named = was.named;
+      nothing = was.nothing;
     }
 
-pub returns-in_err-there-clause-loses : goal.returns-in_err-there-clause-loses
-returns-in_err-there-clause-loses g c =
-    let a = c.args.core.now in
-    let b = c.commit_gone.new.core in
-    let new = c.bring_fresh.new.core in
-    handed (LosesBegun g.R.Rack.slot_count g.R.Rack.told a new c.args.disk) c.from_residual-in_err-there.result _ c.from_residual-in_err-there.ensures.1
-    (λ samples served energy h lo.
-    let one = c.in_ok-commit_gone.ensures.event samples served energy h lo in
-    let fresh = c.in_err-there.ensures.loses samples served energy h lo in
-    second (g.R.Rack.told (store_rack b.store)) fresh.attached one.0 (service_of g.R.Rack.slot_count b samples served energy) one.1 fresh.attach fresh.ran)
+pub returns-in_err-commit_gone : goal.returns-in_err-commit_gone
+returns-in_err-commit_gone g c =
+    let from = c.from_residual in
+    record {
+      serving = none_done _ from.result _ from.ensures.1;
+      absent = none_done _ from.result _ from.ensures.1;
+      nothing = none_done _ from.result _ from.ensures.1;
+      leaves = none_done _ from.result _ from.ensures.1;
+      fresh = λ is. none_done_as _ from.result _ _ from.ensures.1 is;
+      gone = λ is. none_done_as _ from.result _ _ from.ensures.1 is;
+      risen = λ is. none_done_as _ from.result _ _ from.ensures.1 is;
+      spins = λ is. none_done_as _ from.result _ _ from.ensures.1 is;
+      size = λ is. none_done_as _ from.result _ _ from.ensures.1 is;
+      table = c.commit_gone.ensures.table;
+      named = none_done _ from.result _ from.ensures.1;
+      later = no_fall_counts (g.R.Rack.slot (store_rack c.args.core.now.store)) (g.R.Rack.slot (store_rack c.commit_gone.new.core.store)) c.commit_gone.ensures.spared.no_fall;
+      two = handed _ from.result _ from.ensures.1 c.in_err-commit_gone.ensures.two;
+      moments = c.commit_gone.ensures.moments;
+      stands = none_done _ from.result _ from.ensures.1;
+      committed = λ is. none_done_as _ from.result _ _ from.ensures.1 is;
+      event = none_done _ from.result _ from.ensures.1;
+      loses = handed _ from.result _ from.ensures.1 c.in_err-commit_gone.ensures.loses;
+    }
 
-pub returns-in_err-commit_gone-clause-later : goal.returns-in_err-commit_gone-clause-later
-returns-in_err-commit_gone-clause-later g c = no_fall_counts (g.R.Rack.slot (store_rack c.args.core.now.store)) (g.R.Rack.slot (store_rack c.commit_gone.new.core.store)) c.commit_gone.ensures.spared.no_fall
-
-pub returns-in_err-there-clause-later : goal.returns-in_err-there-clause-later
-returns-in_err-there-clause-later g c =
+pub returns-in_err-there : goal.returns-in_err-there
+returns-in_err-there g c =
     let old = g.R.Rack.slot (store_rack c.args.core.now.store) in
     let mid = g.R.Rack.slot (store_rack c.commit_gone.new.core.store) in
-    counts_then old mid (g.R.Rack.slot (store_rack c.bring_fresh.new.core.store)) (no_fall_counts old mid c.commit_gone.ensures.spared.no_fall) c.bring_fresh.ensures.later
-
-pub returns-clause-later : goal.returns-clause-later
-returns-clause-later g c =
-    let old = g.R.Rack.slot (store_rack c.args.core.now.store) in
-    let mid = g.R.Rack.slot (store_rack c.commit_gone.new.core.store) in
-    counts_then old mid (g.R.Rack.slot (store_rack c.bring_fresh.new.core.store)) (no_fall_counts old mid c.commit_gone.ensures.spared.no_fall) c.bring_fresh.ensures.later
-
-pub returns-in_err-there-clause-two : goal.returns-in_err-there-clause-two
-returns-in_err-there-clause-two g c =
     let a = c.args.core.now in
     let b = c.commit_gone.new.core in
     let new = c.bring_fresh.new.core in
     let was = c.in_ok-commit_gone.ensures in
     let down : core_down b ≡ Some c.args.disk = ap (λ (o : Option ℕ). or_else o (named_out b.meta.out)) was.named in
     let known : core_down a ≡ Some c.args.disk = down_named (named_of a.store) a.meta c.requires.serving.ready.one c.args.disk c.requires.out in
-    handed _ c.from_residual-in_err-there.result _ c.from_residual-in_err-there.ensures.1
-    (two_since (core_down a) (core_down b) (g.R.Rack.slot (store_rack a.store)) (g.R.Rack.slot (store_rack b.store)) (g.R.Rack.slot (store_rack new.store)) _ (down ∙ sym known) c.commit_gone.ensures.spared.no_fall c.in_err-there.ensures.two)
+    let from = c.from_residual-in_err-there in
+    record {
+      serving = none_done _ from.result _ from.ensures.1;
+      absent = none_done _ from.result _ from.ensures.1;
+      nothing = none_done _ from.result _ from.ensures.1;
+      leaves = none_done _ from.result _ from.ensures.1;
+      fresh = λ is. none_done_as _ from.result _ _ from.ensures.1 is;
+      gone = λ is. none_done_as _ from.result _ _ from.ensures.1 is;
+      risen = λ is. none_done_as _ from.result _ _ from.ensures.1 is;
+      spins = λ is. none_done_as _ from.result _ _ from.ensures.1 is;
+      size = λ is. none_done_as _ from.result _ _ from.ensures.1 is;
+      table = c.bring_fresh.ensures.table ∙ c.commit_gone.ensures.table;
+      named = none_done _ from.result _ from.ensures.1;
+      later = counts_then old mid (g.R.Rack.slot (store_rack c.bring_fresh.new.core.store)) (no_fall_counts old mid c.commit_gone.ensures.spared.no_fall) c.bring_fresh.ensures.later;
+      two =
+          handed _ from.result _ from.ensures.1
+          (two_since (core_down a) (core_down b) (g.R.Rack.slot (store_rack a.store)) (g.R.Rack.slot (store_rack b.store)) (g.R.Rack.slot (store_rack new.store)) _ (down ∙ sym known) c.commit_gone.ensures.spared.no_fall c.in_err-there.ensures.two);
+      moments = λ h lo.
+          ended (IsCoreHeld g.R.Rack.slot_count a h lo) (CoreStandsFor g.R.Rack.slot_count a h lo) (IsCoreHeld g.R.Rack.slot_count b h (length h)) _ _
+          (after _ _ _ _ (core_down a) (core_down b) h was.slots (ap (λ (m : Meta). m.setup.geometry.disks) was.meta.is) (λ x is. known ∙ sym down ∙ is) lo
+          (CoreStandsFor g.R.Rack.slot_count a h lo) (CoreCommitted g.R.Rack.slot_count b h (length h) (Gone c.args.disk)) (IsCoreHeld g.R.Rack.slot_count b h (length h)) _ _ _
+          (λ s k. keeps_low _ _ _ _ _ _ h lo s k) (was.committed h lo) (c.bring_fresh.ensures.moments h (length h)));
+      stands = none_done _ from.result _ from.ensures.1;
+      committed = λ is. none_done_as _ from.result _ _ from.ensures.1 is;
+      event = none_done _ from.result _ from.ensures.1;
+      loses =
+          handed (LosesBegun g.R.Rack.slot_count g.R.Rack.told a new c.args.disk) from.result _ from.ensures.1
+          (λ samples served energy h lo.
+          let one = c.in_ok-commit_gone.ensures.event samples served energy h lo in
+          let fresh = c.in_err-there.ensures.loses samples served energy h lo in
+          second (g.R.Rack.told (store_rack b.store)) fresh.attached one.0 (service_of g.R.Rack.slot_count b samples served energy) one.1 fresh.attach fresh.ran);
+    }
+
+pub returns : goal.returns
+returns g c =
+    let old = g.R.Rack.slot (store_rack c.args.core.now.store) in
+    let mid = g.R.Rack.slot (store_rack c.commit_gone.new.core.store) in
+    let a = c.args.core.now in
+    let b = c.commit_gone.new.core in
+    let new = c.bring_fresh.new.core in
+    let was = c.in_ok-commit_gone.ensures in
+    let down : core_down b ≡ Some c.args.disk = ap (λ (o : Option ℕ). or_else o (named_out b.meta.out)) was.named in
+    let known : core_down a ≡ Some c.args.disk = down_named (named_of a.store) a.meta c.requires.serving.ready.one c.args.disk c.requires.out in
+    record {
+      serving = c.in_ok-there.ensures.serving;
+      absent = c.in_ok-there.ensures.absent;
+      nothing = c.in_ok-there.ensures.nothing;
+      leaves = record {
+        slots = c.in_ok-there.ensures.leaves.slots ∙ was.slots;
+        setup = c.in_ok-there.ensures.leaves.setup ∙ ap (λ (m : Meta). m.setup) was.meta.is;
+        writes = c.in_ok-there.ensures.leaves.writes ∙ ap (λ (m : Meta). m.writes) was.meta.is;
+        spared = but_then (g.R.Rack.slot (store_rack a.store)) (g.R.Rack.slot (store_rack b.store)) (g.R.Rack.slot (store_rack new.store)) c.args.disk c.commit_gone.ensures.spared c.in_ok-there.ensures.leaves.spared;
+      };
+      fresh = λ is. replaced_then c.args.core.now.meta c.commit_gone.new.core.meta c.bring_fresh.new.core.meta c.args.disk (Fresh c.args.disk 0) c.in_ok-commit_gone.ensures.meta (c.in_ok-there.ensures.fresh is);
+      gone = λ is. elim (c.in_ok-there.ensures.gone is) [
+        | inl same ↦ inl (subst (λ (m : Meta). IsReplacedFrom a.meta m c.args.disk 1 (Gone c.args.disk)) (sym same) was.meta)
+        | inr next ↦ inr (replaced_then a.meta b.meta new.meta c.args.disk (Gone c.args.disk) was.meta (next ∙ ap (λ (o : Out). record b.meta { epoch = b.meta.epoch + 1; out = o }) (ap (λ (m : Meta). m.out) was.meta.is)))
+      ];
+      risen = λ is. HasRisen-sooner _ _ _ (c.commit_gone.ensures.spared.no_fall c.args.disk) (c.in_ok-there.ensures.risen is);
+      spins = c.in_ok-there.ensures.spins;
+      size = λ is. c.in_ok-there.ensures.size is ∙ ap (λ (m : Meta). disk_size m.setup.geometry) was.meta.is;
+      table = c.bring_fresh.ensures.table ∙ c.commit_gone.ensures.table;
+      named = c.in_ok-there.ensures.named;
+      later = counts_then old mid (g.R.Rack.slot (store_rack c.bring_fresh.new.core.store)) (no_fall_counts old mid c.commit_gone.ensures.spared.no_fall) c.bring_fresh.ensures.later;
+      two = tt;
+      moments = λ h lo.
+          ended (IsCoreHeld g.R.Rack.slot_count a h lo) (CoreStandsFor g.R.Rack.slot_count a h lo) (IsCoreHeld g.R.Rack.slot_count b h (length h)) _ _
+          (after _ _ _ _ (core_down a) (core_down b) h was.slots (ap (λ (m : Meta). m.setup.geometry.disks) was.meta.is) (λ x is. known ∙ sym down ∙ is) lo
+          (CoreStandsFor g.R.Rack.slot_count a h lo) (CoreCommitted g.R.Rack.slot_count b h (length h) (Gone c.args.disk)) (IsCoreHeld g.R.Rack.slot_count b h (length h)) _ _ _
+          (λ s k. keeps_low _ _ _ _ _ _ h lo s k) (was.committed h lo) (c.bring_fresh.ensures.moments h (length h)));
+      stands = λ h lo.
+          after _ _ _ _ (core_down a) (core_down b) h was.slots (ap (λ (m : Meta). m.setup.geometry.disks) was.meta.is) (λ x is. known ∙ sym down ∙ is) lo
+          (CoreStandsFor g.R.Rack.slot_count a h lo) (CoreCommitted g.R.Rack.slot_count b h (length h) (Gone c.args.disk)) (CoreStandsFor g.R.Rack.slot_count new h (length h)) _ _ _
+          (λ s k. keeps_low _ _ _ _ _ _ h lo s k) (was.committed h lo) (c.in_ok-there.ensures.stands h);
+      committed = λ is h lo.
+          after _ _ _ _ (core_down a) (core_down b) h was.slots (ap (λ (m : Meta). m.setup.geometry.disks) was.meta.is) (λ x is. known ∙ sym down ∙ is) lo
+          (CoreStandsFor g.R.Rack.slot_count a h lo) (CoreCommitted g.R.Rack.slot_count b h (length h) (Gone c.args.disk)) (CoreCommitted g.R.Rack.slot_count new h (length h) (Fresh c.args.disk 0)) _ _ _
+          (λ s k. keeps_low _ _ _ _ _ _ h lo s k) (was.committed h lo) (c.in_ok-there.ensures.committed is h);
+      event = λ samples served energy h lo.
+          let one = c.in_ok-commit_gone.ensures.event samples served energy h lo in
+          record {
+            mid = g.R.Rack.told (store_rack b.store);
+            marked = one.0;
+            committed = service_of g.R.Rack.slot_count b samples served energy;
+            commits = one.1;
+            brings = c.in_ok-there.ensures.event samples served energy h lo;
+          };
+      loses = tt;
+    }

@@ -32,45 +32,61 @@ use Rattle.paraid_rebuild.proofs.LossLemmas.{LosesBrought, commit_lost_fresh, te
 use Rattle.paraid_session.proofs.FaultLemmas.{counts_then, no_fall_counts}
 use Rattle.paraid_rebuild.proofs.CountLemmas.{attached_counts, failed_counts}
 use Rattle.paraid_rebuild.proofs.replaced.bring_fresh.Goals as goal
+use Rattle.std.specs.Prelude.{true, false, Ok}
+use Rattle.paraid_shift.proofs.AnswerLemmas.{none_done, none_done_as}
 
-pub returns-then-not-attach-clause-leaves : goal.returns-then-not-attach-clause-leaves
-returns-then-not-attach-clause-leaves g c =
+pub returns-then-not-attach : goal.returns-then-not-attach
+returns-then-not-attach g c =
     let a = c.args.core.now in
     let b = c.attach.new.self in
     let meta = c.attach.ensures.same c.if-not-attach.true in
+    let it = c.attach.ensures in
     record {
-      slots = c.attach.ensures.slots;
-      setup = ap (λ (m : Meta). m.setup) meta;
-      writes = ap (λ (m : Meta). m.writes) meta;
-      spared = but_lost (g.R.Rack.slot (store_rack a.store)) (g.R.Rack.slot (store_rack b.store)) (g.R.Rack.slot (store_rack b.store)) c.args.disk c.attach.ensures.others (lost_none (g.R.Rack.slot (store_rack b.store)));
+      serving =
+          serving_then g.R.Rack.slot_count g.R.Rack.slot a b c.requires.serving c.attach.ensures.ready (c.attach.ensures.serves c.requires.serving.serves) (c.attach.ensures.unsynced c.requires.serving.unsynced) c.attach.ensures.draft c.attach.ensures.copied
+          (ap (λ (m : Meta). m.setup) meta) (λ d is. ap (λ (m : Meta). named_out m.out) meta ∙ is)
+          (λ d not there. ap (λ (s : Slot). s.size) (c.attach.ensures.others d (λ is. not (ap (λ (m : Meta). named_out m.out) meta ∙ ap named_out c.requires.gone ∙ ap Some (sym is)))));
+      absent = it.absent;
+      nothing = it.batch ∙ c.requires.nothing;
+      leaves =
+          record {
+            slots = c.attach.ensures.slots;
+            setup = ap (λ (m : Meta). m.setup) meta;
+            writes = ap (λ (m : Meta). m.writes) meta;
+            spared = but_lost (g.R.Rack.slot (store_rack a.store)) (g.R.Rack.slot (store_rack b.store)) (g.R.Rack.slot (store_rack b.store)) c.args.disk c.attach.ensures.others (lost_none (g.R.Rack.slot (store_rack b.store)));
+          };
+      fresh = λ is. let z : Ok false ≡ Ok true = is in cc;
+      gone = λ is. inl (it.same c.if-not-attach.true);
+      risen = λ is. (it.lost c.if-not-attach.true).risen;
+      spins = λ is. let z : Ok false ≡ Ok true = is in cc;
+      size = λ is. let z : Ok false ≡ Ok true = is in cc;
+      table = it.table;
+      named = it.store.named ∙ c.requires.named;
+      later = failed_counts (g.R.Rack.slot (store_rack c.args.core.now.store)) (g.R.Rack.slot (store_rack c.attach.new.self.store)) c.args.disk c.attach.ensures.others (c.attach.ensures.lost c.if-not-attach.true).risen;
+      two = tt;
+      moments = λ h lo.
+          ended (IsCoreHeld g.R.Rack.slot_count a h lo) (CoreCommitted g.R.Rack.slot_count a h lo (Gone c.args.disk)) (CoreStandsFor g.R.Rack.slot_count b h lo) _ _
+          (beside _ _ _ _ (core_down a) (named_of a.store) h refl refl (λ x is. knows_named (named_of a.store) (named_out a.meta.out) x is) lo (CoreCommitted g.R.Rack.slot_count a h lo (Gone c.args.disk)) (CoreStandsFor g.R.Rack.slot_count b h lo) _ _
+          (c.attach.ensures.stands h lo));
+      stands = λ h.
+          beside _ _ _ _ (core_down a) (named_of a.store) h refl refl (λ x is. knows_named (named_of a.store) (named_out a.meta.out) x is) (length h) (CoreCommitted g.R.Rack.slot_count a h (length h) (Gone c.args.disk)) (CoreStandsFor g.R.Rack.slot_count b h (length h)) _ _
+          (c.attach.ensures.stands h (length h));
+      committed = λ is. let z : Ok false ≡ Ok true = is in cc;
+      event = λ samples served energy h lo.
+          let k = service_of g.R.Rack.slot_count a samples served energy in
+          let k_then = service_of g.R.Rack.slot_count b samples served energy in
+          let equal : k_then ≡ k = same_service g.R.Rack.slot_count a b samples served energy a.meta it.slots it.store.named (it.same c.if-not-attach.true) it.table it.batch it.copied in
+          failed equal (subst (λ (y : Service). Ran (g.R.Rack.told (store_rack a.store)) (g.R.Rack.told (store_rack b.store)) (AttachesInEvent k y h lo c.args.disk false)) equal
+          (attach_told (g.R.Rack.told (store_rack a.store)) (g.R.Rack.told (store_rack b.store)) k k_then h lo c.args.disk false (g.R.Rack.slot (store_rack b.store)) (g.met.R.Rack.agrees (store_rack b.store))
+          (ap is_present (it.lost c.if-not-attach.true).absent) it.calls (it.stands h lo)));
+      loses = tt;
     }
 
-pub returns-then-not-attach-clause-moments : goal.returns-then-not-attach-clause-moments
-returns-then-not-attach-clause-moments g c h lo =
-    let a = c.args.core.now in
-    let b = c.attach.new.self in
-    ended (IsCoreHeld g.R.Rack.slot_count a h lo) (CoreCommitted g.R.Rack.slot_count a h lo (Gone c.args.disk)) (CoreStandsFor g.R.Rack.slot_count b h lo) _ _
-    (beside _ _ _ _ (core_down a) (named_of a.store) h refl refl (λ x is. knows_named (named_of a.store) (named_out a.meta.out) x is) lo (CoreCommitted g.R.Rack.slot_count a h lo (Gone c.args.disk)) (CoreStandsFor g.R.Rack.slot_count b h lo) _ _
-    (c.attach.ensures.stands h lo))
-
-pub returns-then-not-attach-clause-stands : goal.returns-then-not-attach-clause-stands
-returns-then-not-attach-clause-stands g c h =
-    let a = c.args.core.now in
-    let b = c.attach.new.self in
-    beside _ _ _ _ (core_down a) (named_of a.store) h refl refl (λ x is. knows_named (named_of a.store) (named_out a.meta.out) x is) (length h) (CoreCommitted g.R.Rack.slot_count a h (length h) (Gone c.args.disk)) (CoreStandsFor g.R.Rack.slot_count b h (length h)) _ _
-    (c.attach.ensures.stands h (length h))
-
-pub returns-then-not-attach-clause-serving : goal.returns-then-not-attach-clause-serving
-returns-then-not-attach-clause-serving g c =
-    let a = c.args.core.now in
-    let b = c.attach.new.self in
-    let meta = c.attach.ensures.same c.if-not-attach.true in
-    serving_then g.R.Rack.slot_count g.R.Rack.slot a b c.requires.serving c.attach.ensures.ready (c.attach.ensures.serves c.requires.serving.serves) (c.attach.ensures.unsynced c.requires.serving.unsynced) c.attach.ensures.draft c.attach.ensures.copied
-    (ap (λ (m : Meta). m.setup) meta) (λ d is. ap (λ (m : Meta). named_out m.out) meta ∙ is)
-    (λ d not there. ap (λ (s : Slot). s.size) (c.attach.ensures.others d (λ is. not (ap (λ (m : Meta). named_out m.out) meta ∙ ap named_out c.requires.gone ∙ ap Some (sym is)))))
-
-pub returns-in_err-commit-clause-two : goal.returns-in_err-commit-clause-two
-returns-in_err-commit-clause-two g c =
+pub returns-in_err-commit : goal.returns-in_err-commit
+returns-in_err-commit g c =
+    let old = g.R.Rack.slot (store_rack c.args.core.now.store) in
+    let mid = g.R.Rack.slot (store_rack c.attach.new.self.store) in
+    let new = g.R.Rack.slot (store_rack c.commit.new.self.store) in
     let a = c.args.core.now in
     let b = c.attach.new.self in
     let here : c.attach.result ≡ true = c.if-not-attach.false in
@@ -79,148 +95,58 @@ returns-in_err-commit-clause-two g c =
     let setup : b.meta.setup ≡ a.meta.setup = ap (λ (m : Meta). m.setup) fresh in
     let same = c.attach.ensures.store in
     let down : core_down b ≡ core_down a = ap (λ (o : Option ℕ). or_else o (named_out b.meta.out)) (same.named ∙ c.requires.named) ∙ sym (ap (λ (o : Option ℕ). or_else o (named_out a.meta.out)) c.requires.named) in
-    handed _ c.from_residual.result _ c.from_residual.ensures.1
-    (two_since (core_down a) (core_down b) (g.R.Rack.slot (store_rack a.store)) (g.R.Rack.slot (store_rack b.store)) (g.R.Rack.slot (store_rack c.commit.new.self.store)) _ down
-    (λ d. elim (cases_eq d c.args.disk) [
-      | inl is ↦ let e = ap (λ (s : Slot). s.faults) (c.attach.ensures.attached here) in subst (λ (x : ℕ). (g.R.Rack.slot (store_rack a.store) x).faults ≤ (g.R.Rack.slot (store_rack b.store) x).faults) (sym is) (omega arith)
-      | inr apart ↦ let e = ap (λ (s : Slot). s.faults) (c.attach.ensures.others d apart) in omega arith
-    ]) c.in_err-commit.ensures.two)
-
-pub returns-in_err-commit-clause-moments : goal.returns-in_err-commit-clause-moments
-returns-in_err-commit-clause-moments g c h lo =
-    let a = c.args.core.now in
-    let b = c.attach.new.self in
-    let here : c.attach.result ≡ true = c.if-not-attach.false in
-    let fresh = c.attach.ensures.fresh here in
-    let out : b.meta.out ≡ Fresh c.args.disk 0 = ap (λ (m : Meta). m.out) fresh in
-    let setup : b.meta.setup ≡ a.meta.setup = ap (λ (m : Meta). m.setup) fresh in
-    let same = c.attach.ensures.store in
-    ended (IsCoreHeld g.R.Rack.slot_count a h lo) (CoreCommitted g.R.Rack.slot_count a h lo (Gone c.args.disk)) (IsCoreHeldSinceCommit g.R.Rack.slot_count a h lo) _ _
-    (beside _ _ _ _ (core_down a) (named_of a.store) h refl refl (λ x is. knows_named (named_of a.store) (named_out a.meta.out) x is) lo (CoreCommitted g.R.Rack.slot_count a h lo (Gone c.args.disk)) (IsCoreHeldSinceCommit g.R.Rack.slot_count a h lo) _ _
-    (chain_held g.R.Rack.slot_count g.R.Rack.told a b c.attach.ensures.slots setup same.named (CoreCommitted g.R.Rack.slot_count a h lo (Gone c.args.disk)) (CoreStandsFor g.R.Rack.slot_count b h lo) h lo _ (c.attach.ensures.stands h lo) (c.commit.ensures.moments_since c.attach.ensures.absent h lo)))
-
-pub returns-then-is_gone-clause-serving : goal.returns-then-is_gone-clause-serving
-returns-then-is_gone-clause-serving g c =
-    let a = c.args.core.now in
-    let b = c.attach.new.self in
-    let new = c.commit.new.self in
-    let here : c.attach.result ≡ true = c.if-not-attach.false in
-    let fresh = c.attach.ensures.fresh here in
-    let out : b.meta.out ≡ Fresh c.args.disk 0 = ap (λ (m : Meta). m.out) fresh in
-    let setup : b.meta.setup ≡ a.meta.setup = ap (λ (m : Meta). m.setup) fresh in
-    let same = c.attach.ensures.store in
-    let marked = c.in_ok-commit.ensures.meta in
-    serving_then g.R.Rack.slot_count g.R.Rack.slot a new c.requires.serving c.in_ok-commit.ensures.ready (c.in_ok-commit.ensures.serves (c.attach.ensures.serves c.requires.serving.serves))
-    (c.in_ok-commit.ensures.unsynced (c.attach.ensures.unsynced c.requires.serving.unsynced)) (c.in_ok-commit.ensures.draft ∙ c.attach.ensures.draft) (c.in_ok-commit.ensures.copied ∙ c.attach.ensures.copied)
-    (c.in_ok-commit.ensures.setup ∙ setup)
-    (λ d is. marked_named _ new.meta marked d (ap named_out out ∙ sym (ap named_out c.requires.gone) ∙ is))
-    (λ d not there. c.commit.ensures.spared.size d there ∙ ap (λ (s : Slot). s.size) (c.attach.ensures.others d (λ is. not (marked_named _ new.meta marked d (ap named_out out ∙ ap Some (sym is))))))
-
-pub returns-then-is_gone-clause-leaves : goal.returns-then-is_gone-clause-leaves
-returns-then-is_gone-clause-leaves g c =
-    let a = c.args.core.now in
-    let b = c.attach.new.self in
-    let new = c.commit.new.self in
-    let here : c.attach.result ≡ true = c.if-not-attach.false in
-    let fresh = c.attach.ensures.fresh here in
-    let out : b.meta.out ≡ Fresh c.args.disk 0 = ap (λ (m : Meta). m.out) fresh in
-    let setup : b.meta.setup ≡ a.meta.setup = ap (λ (m : Meta). m.setup) fresh in
-    let same = c.attach.ensures.store in
+    let it = c.attach.ensures in
+    let named : named_of b.store ≡ Some c.args.disk = it.store.named ∙ c.requires.named in
+    let spins : is_present (g.R.Rack.slot (store_rack b.store) c.args.disk).power ≡ true = ap (λ (s : Slot). is_present s.power) (it.attached here) in
+    let from = c.from_residual in
     record {
-      slots = c.in_ok-commit.ensures.slots ∙ c.attach.ensures.slots;
-      setup = c.in_ok-commit.ensures.setup ∙ setup;
-      writes = c.in_ok-commit.ensures.writes ∙ ap (λ (m : Meta). m.writes) fresh;
-      spared = but_lost (g.R.Rack.slot (store_rack a.store)) (g.R.Rack.slot (store_rack b.store)) (g.R.Rack.slot (store_rack new.store)) c.args.disk c.attach.ensures.others c.commit.ensures.spared;
+      serving = none_done _ from.result _ from.ensures.1;
+      absent = none_done _ from.result _ from.ensures.1;
+      nothing = none_done _ from.result _ from.ensures.1;
+      leaves = none_done _ from.result _ from.ensures.1;
+      fresh = λ is. none_done_as _ from.result _ _ from.ensures.1 is;
+      gone = λ is. none_done_as _ from.result _ _ from.ensures.1 is;
+      risen = λ is. none_done_as _ from.result _ _ from.ensures.1 is;
+      spins = λ is. none_done_as _ from.result _ _ from.ensures.1 is;
+      size = λ is. none_done_as _ from.result _ _ from.ensures.1 is;
+      table = c.commit.ensures.table ∙ c.attach.ensures.table;
+      named = none_done _ from.result _ from.ensures.1;
+      later = counts_then old mid new (attached_counts old mid c.args.disk c.attach.ensures.others (ap (λ (s : Slot). s.faults) (c.attach.ensures.attached c.if-not-attach.false))) (no_fall_counts mid new c.commit.ensures.spared.no_fall);
+      two =
+          handed _ from.result _ from.ensures.1
+          (two_since (core_down a) (core_down b) (g.R.Rack.slot (store_rack a.store)) (g.R.Rack.slot (store_rack b.store)) (g.R.Rack.slot (store_rack c.commit.new.self.store)) _ down
+          (λ d. elim (cases_eq d c.args.disk) [
+            | inl is ↦ let e = ap (λ (s : Slot). s.faults) (c.attach.ensures.attached here) in subst (λ (x : ℕ). (g.R.Rack.slot (store_rack a.store) x).faults ≤ (g.R.Rack.slot (store_rack b.store) x).faults) (sym is) (omega arith)
+            | inr apart ↦ let e = ap (λ (s : Slot). s.faults) (c.attach.ensures.others d apart) in omega arith
+          ]) c.in_err-commit.ensures.two);
+      moments = λ h lo.
+          ended (IsCoreHeld g.R.Rack.slot_count a h lo) (CoreCommitted g.R.Rack.slot_count a h lo (Gone c.args.disk)) (IsCoreHeldSinceCommit g.R.Rack.slot_count a h lo) _ _
+          (beside _ _ _ _ (core_down a) (named_of a.store) h refl refl (λ x is. knows_named (named_of a.store) (named_out a.meta.out) x is) lo (CoreCommitted g.R.Rack.slot_count a h lo (Gone c.args.disk)) (IsCoreHeldSinceCommit g.R.Rack.slot_count a h lo) _ _
+          (chain_held g.R.Rack.slot_count g.R.Rack.told a b c.attach.ensures.slots setup same.named (CoreCommitted g.R.Rack.slot_count a h lo (Gone c.args.disk)) (CoreStandsFor g.R.Rack.slot_count b h lo) h lo _ (c.attach.ensures.stands h lo) (c.commit.ensures.moments_since c.attach.ensures.absent h lo)));
+      stands = none_done _ from.result _ from.ensures.1;
+      committed = λ is. none_done_as _ from.result _ _ from.ensures.1 is;
+      event = none_done _ from.result _ from.ensures.1;
+      loses =
+          let new = c.commit.new.self in
+          let fresh = it.fresh here in
+          let out : named_out b.meta.out ≡ Some c.args.disk = ap (λ (m : Meta). named_out m.out) fresh in
+          let down : core_down b ≡ named_out b.meta.out = ap (λ (o : Option ℕ). or_else o (named_out b.meta.out)) named ∙ sym out in
+          handed (LosesBrought g.R.Rack.slot_count g.R.Rack.told a new c.args.disk) from.result _ from.ensures.1
+          (λ samples served energy h lo.
+          let k = service_of g.R.Rack.slot_count a samples served energy in
+          let k_fresh = service_of g.R.Rack.slot_count b samples served energy in
+          let equal : k_fresh ≡ with_fresh k c.args.disk = same_service g.R.Rack.slot_count a b samples served energy (meta_with_out a.meta (Fresh c.args.disk 0)) it.slots it.store.named fresh it.table it.batch it.copied in
+          record {
+            attached = g.R.Rack.told (store_rack b.store);
+            attach = subst (λ (y : Service). Ran (g.R.Rack.told (store_rack a.store)) (g.R.Rack.told (store_rack b.store)) (AttachesInEvent k y h lo c.args.disk true)) equal
+                (attach_told (g.R.Rack.told (store_rack a.store)) (g.R.Rack.told (store_rack b.store)) k k_fresh h lo c.args.disk true (g.R.Rack.slot (store_rack b.store)) (g.met.R.Rack.agrees (store_rack b.store)) spins it.calls (it.stands h lo));
+            ran = commit_lost_fresh (g.R.Rack.told (store_rack b.store)) (g.R.Rack.told (store_rack new.store)) k_fresh h lo _ (with_fresh k c.args.disk) equal
+                c.commit.ensures.calls (c.commit.ensures.moments_since it.absent h lo) (c.commit.ensures.whole h lo) (tells_by (g.R.Rack.told (store_rack b.store)) (g.R.Rack.told (store_rack new.store)) (core_down b) (named_out b.meta.out) _ down c.in_err-commit.ensures.tells);
+          });
     }
 
-pub returns-then-is_gone-clause-moments : goal.returns-then-is_gone-clause-moments
-returns-then-is_gone-clause-moments g c h lo =
-    let a = c.args.core.now in
-    let b = c.attach.new.self in
-    let here : c.attach.result ≡ true = c.if-not-attach.false in
-    let fresh = c.attach.ensures.fresh here in
-    let out : b.meta.out ≡ Fresh c.args.disk 0 = ap (λ (m : Meta). m.out) fresh in
-    let setup : b.meta.setup ≡ a.meta.setup = ap (λ (m : Meta). m.setup) fresh in
-    let same = c.attach.ensures.store in
-    ended (IsCoreHeld g.R.Rack.slot_count a h lo) (CoreCommitted g.R.Rack.slot_count a h lo (Gone c.args.disk)) (IsCoreHeldSinceCommit g.R.Rack.slot_count a h lo) _ _
-    (beside _ _ _ _ (core_down a) (named_of a.store) h refl refl (λ x is. knows_named (named_of a.store) (named_out a.meta.out) x is) lo (CoreCommitted g.R.Rack.slot_count a h lo (Gone c.args.disk)) (IsCoreHeldSinceCommit g.R.Rack.slot_count a h lo) _ _
-    (chain_held g.R.Rack.slot_count g.R.Rack.told a b c.attach.ensures.slots setup same.named (CoreCommitted g.R.Rack.slot_count a h lo (Gone c.args.disk)) (CoreStandsFor g.R.Rack.slot_count b h lo) h lo _ (c.attach.ensures.stands h lo) (c.commit.ensures.moments_since c.attach.ensures.absent h lo)))
-
-pub returns-then-is_gone-clause-stands : goal.returns-then-is_gone-clause-stands
-returns-then-is_gone-clause-stands g c h =
-    let a = c.args.core.now in
-    let b = c.attach.new.self in
-    let new = c.commit.new.self in
-    let here : c.attach.result ≡ true = c.if-not-attach.false in
-    let fresh = c.attach.ensures.fresh here in
-    let out : b.meta.out ≡ Fresh c.args.disk 0 = ap (λ (m : Meta). m.out) fresh in
-    let setup : b.meta.setup ≡ a.meta.setup = ap (λ (m : Meta). m.setup) fresh in
-    let same = c.attach.ensures.store in
-    beside _ _ _ _ (core_down a) (named_of a.store) h refl refl (λ x is. knows_named (named_of a.store) (named_out a.meta.out) x is) (length h) (CoreCommitted g.R.Rack.slot_count a h (length h) (Gone c.args.disk)) (CoreStandsFor g.R.Rack.slot_count new h (length h)) _ _
-    (chain g.R.Rack.slot_count g.R.Rack.told a b c.attach.ensures.slots setup same.named (CoreCommitted g.R.Rack.slot_count a h (length h) (Gone c.args.disk)) (CoreStandsFor g.R.Rack.slot_count b h (length h)) (CoreStandsFor g.R.Rack.slot_count new h (length h)) h (length h) _ (c.attach.ensures.stands h (length h)) (c.in_ok-commit.ensures.since c.attach.ensures.absent h (length h)))
-
-pub returns-clause-serving : goal.returns-clause-serving
-returns-clause-serving g c =
-    let a = c.args.core.now in
-    let b = c.attach.new.self in
-    let new = c.commit.new.self in
-    let here : c.attach.result ≡ true = c.if-not-attach.false in
-    let fresh = c.attach.ensures.fresh here in
-    let out : b.meta.out ≡ Fresh c.args.disk 0 = ap (λ (m : Meta). m.out) fresh in
-    let setup : b.meta.setup ≡ a.meta.setup = ap (λ (m : Meta). m.setup) fresh in
-    let same = c.attach.ensures.store in
-    let marked = c.in_ok-commit.ensures.meta in
-    serving_then g.R.Rack.slot_count g.R.Rack.slot a new c.requires.serving c.in_ok-commit.ensures.ready (c.in_ok-commit.ensures.serves (c.attach.ensures.serves c.requires.serving.serves))
-    (c.in_ok-commit.ensures.unsynced (c.attach.ensures.unsynced c.requires.serving.unsynced)) (c.in_ok-commit.ensures.draft ∙ c.attach.ensures.draft) (c.in_ok-commit.ensures.copied ∙ c.attach.ensures.copied)
-    (c.in_ok-commit.ensures.setup ∙ setup)
-    (λ d is. marked_named _ new.meta marked d (ap named_out out ∙ sym (ap named_out c.requires.gone) ∙ is))
-    (λ d not there. c.commit.ensures.spared.size d there ∙ ap (λ (s : Slot). s.size) (c.attach.ensures.others d (λ is. not (marked_named _ new.meta marked d (ap named_out out ∙ ap Some (sym is))))))
-
-pub returns-clause-leaves : goal.returns-clause-leaves
-returns-clause-leaves g c =
-    let a = c.args.core.now in
-    let b = c.attach.new.self in
-    let new = c.commit.new.self in
-    let here : c.attach.result ≡ true = c.if-not-attach.false in
-    let fresh = c.attach.ensures.fresh here in
-    let out : b.meta.out ≡ Fresh c.args.disk 0 = ap (λ (m : Meta). m.out) fresh in
-    let setup : b.meta.setup ≡ a.meta.setup = ap (λ (m : Meta). m.setup) fresh in
-    let same = c.attach.ensures.store in
-    record {
-      slots = c.in_ok-commit.ensures.slots ∙ c.attach.ensures.slots;
-      setup = c.in_ok-commit.ensures.setup ∙ setup;
-      writes = c.in_ok-commit.ensures.writes ∙ ap (λ (m : Meta). m.writes) fresh;
-      spared = but_lost (g.R.Rack.slot (store_rack a.store)) (g.R.Rack.slot (store_rack b.store)) (g.R.Rack.slot (store_rack new.store)) c.args.disk c.attach.ensures.others c.commit.ensures.spared;
-    }
-
-pub returns-clause-moments : goal.returns-clause-moments
-returns-clause-moments g c h lo =
-    let a = c.args.core.now in
-    let b = c.attach.new.self in
-    let here : c.attach.result ≡ true = c.if-not-attach.false in
-    let fresh = c.attach.ensures.fresh here in
-    let out : b.meta.out ≡ Fresh c.args.disk 0 = ap (λ (m : Meta). m.out) fresh in
-    let setup : b.meta.setup ≡ a.meta.setup = ap (λ (m : Meta). m.setup) fresh in
-    let same = c.attach.ensures.store in
-    ended (IsCoreHeld g.R.Rack.slot_count a h lo) (CoreCommitted g.R.Rack.slot_count a h lo (Gone c.args.disk)) (IsCoreHeldSinceCommit g.R.Rack.slot_count a h lo) _ _
-    (beside _ _ _ _ (core_down a) (named_of a.store) h refl refl (λ x is. knows_named (named_of a.store) (named_out a.meta.out) x is) lo (CoreCommitted g.R.Rack.slot_count a h lo (Gone c.args.disk)) (IsCoreHeldSinceCommit g.R.Rack.slot_count a h lo) _ _
-    (chain_held g.R.Rack.slot_count g.R.Rack.told a b c.attach.ensures.slots setup same.named (CoreCommitted g.R.Rack.slot_count a h lo (Gone c.args.disk)) (CoreStandsFor g.R.Rack.slot_count b h lo) h lo _ (c.attach.ensures.stands h lo) (c.commit.ensures.moments_since c.attach.ensures.absent h lo)))
-
-pub returns-clause-stands : goal.returns-clause-stands
-returns-clause-stands g c h =
-    let a = c.args.core.now in
-    let b = c.attach.new.self in
-    let new = c.commit.new.self in
-    let here : c.attach.result ≡ true = c.if-not-attach.false in
-    let fresh = c.attach.ensures.fresh here in
-    let out : b.meta.out ≡ Fresh c.args.disk 0 = ap (λ (m : Meta). m.out) fresh in
-    let setup : b.meta.setup ≡ a.meta.setup = ap (λ (m : Meta). m.setup) fresh in
-    let same = c.attach.ensures.store in
-    beside _ _ _ _ (core_down a) (named_of a.store) h refl refl (λ x is. knows_named (named_of a.store) (named_out a.meta.out) x is) (length h) (CoreCommitted g.R.Rack.slot_count a h (length h) (Gone c.args.disk)) (CoreStandsFor g.R.Rack.slot_count new h (length h)) _ _
-    (chain g.R.Rack.slot_count g.R.Rack.told a b c.attach.ensures.slots setup same.named (CoreCommitted g.R.Rack.slot_count a h (length h) (Gone c.args.disk)) (CoreStandsFor g.R.Rack.slot_count b h (length h)) (CoreStandsFor g.R.Rack.slot_count new h (length h)) h (length h) _ (c.attach.ensures.stands h (length h)) (c.in_ok-commit.ensures.since c.attach.ensures.absent h (length h)))
-
-pub returns-then-is_gone-clause-gone : goal.returns-then-is_gone-clause-gone
-returns-then-is_gone-clause-gone g c is =
+pub returns-then-is_gone : goal.returns-then-is_gone
+returns-then-is_gone g c =
     let a = c.args.core.now in
     let b = c.attach.new.self in
     let new = c.commit.new.self in
@@ -231,24 +157,74 @@ returns-then-is_gone-clause-gone g c is =
     let same = c.attach.ensures.store in
     let marked = c.in_ok-commit.ensures.meta in
     let lost = marked_lost _ new.meta c.args.disk (ap named_out out) (ap gone_out out) marked (c.is_gone.ensures.gone c.if-is_gone.true) in
-    inr (lost ∙ ap (λ (m : Meta). meta_after_loss (record m { epoch = m.epoch + 1 }) c.args.disk) fresh ∙ ap (λ (m : Meta). record m { epoch = m.epoch + 1 }) (gone_settled a.meta c.args.disk c.requires.serving.ready.in_range c.requires.gone))
-
-pub returns-then-is_gone-clause-risen : goal.returns-then-is_gone-clause-risen
-returns-then-is_gone-clause-risen g c is =
-    let a = c.args.core.now in
-    let b = c.attach.new.self in
-    let new = c.commit.new.self in
-    let here : c.attach.result ≡ true = c.if-not-attach.false in
-    let fresh = c.attach.ensures.fresh here in
-    let out : b.meta.out ≡ Fresh c.args.disk 0 = ap (λ (m : Meta). m.out) fresh in
-    let setup : b.meta.setup ≡ a.meta.setup = ap (λ (m : Meta). m.setup) fresh in
-    let same = c.attach.ensures.store in
     let faults = ap (λ (s : Slot). s.faults) (c.attach.ensures.attached here) in
-    subst (λ (x : ℕ). HasRisen x (g.R.Rack.slot (store_rack new.store) c.args.disk).faults) faults
-    (gone_failed (g.R.Rack.slot (store_rack b.store)) (g.R.Rack.slot (store_rack new.store)) b.meta new.meta c.args.disk (ap named_out out) (ap gone_out out) c.in_ok-commit.ensures.marks (c.is_gone.ensures.gone c.if-is_gone.true))
+    let old = g.R.Rack.slot (store_rack c.args.core.now.store) in
+    let mid = g.R.Rack.slot (store_rack c.attach.new.self.store) in
+    let it = c.attach.ensures in
+    let spins : is_present (g.R.Rack.slot (store_rack b.store) c.args.disk).power ≡ true = ap (λ (s : Slot). is_present s.power) (it.attached here) in
+    let ready = c.in_ok-commit.ensures.ready in
+    let new_setup : new.meta.setup ≡ b.meta.setup = c.in_ok-commit.ensures.setup in
+    record {
+      serving =
+          serving_then g.R.Rack.slot_count g.R.Rack.slot a new c.requires.serving c.in_ok-commit.ensures.ready (c.in_ok-commit.ensures.serves (c.attach.ensures.serves c.requires.serving.serves))
+          (c.in_ok-commit.ensures.unsynced (c.attach.ensures.unsynced c.requires.serving.unsynced)) (c.in_ok-commit.ensures.draft ∙ c.attach.ensures.draft) (c.in_ok-commit.ensures.copied ∙ c.attach.ensures.copied)
+          (c.in_ok-commit.ensures.setup ∙ setup)
+          (λ d is. marked_named _ new.meta marked d (ap named_out out ∙ sym (ap named_out c.requires.gone) ∙ is))
+          (λ d not there. c.commit.ensures.spared.size d there ∙ ap (λ (s : Slot). s.size) (c.attach.ensures.others d (λ is. not (marked_named _ new.meta marked d (ap named_out out ∙ ap Some (sym is))))));
+      absent = c.in_ok-commit.ensures.absent;
+      nothing = c.in_ok-commit.ensures.nothing;
+      leaves =
+          record {
+            slots = c.in_ok-commit.ensures.slots ∙ c.attach.ensures.slots;
+            setup = c.in_ok-commit.ensures.setup ∙ setup;
+            writes = c.in_ok-commit.ensures.writes ∙ ap (λ (m : Meta). m.writes) fresh;
+            spared = but_lost (g.R.Rack.slot (store_rack a.store)) (g.R.Rack.slot (store_rack b.store)) (g.R.Rack.slot (store_rack new.store)) c.args.disk c.attach.ensures.others c.commit.ensures.spared;
+          };
+      fresh = λ is. let z : Ok false ≡ Ok true = is in cc;
+      gone = λ is. inr (lost ∙ ap (λ (m : Meta). meta_after_loss (record m { epoch = m.epoch + 1 }) c.args.disk) fresh ∙ ap (λ (m : Meta). record m { epoch = m.epoch + 1 }) (gone_settled a.meta c.args.disk c.requires.serving.ready.in_range c.requires.gone));
+      risen = λ is.
+          subst (λ (x : ℕ). HasRisen x (g.R.Rack.slot (store_rack new.store) c.args.disk).faults) faults
+          (gone_failed (g.R.Rack.slot (store_rack b.store)) (g.R.Rack.slot (store_rack new.store)) b.meta new.meta c.args.disk (ap named_out out) (ap gone_out out) c.in_ok-commit.ensures.marks (c.is_gone.ensures.gone c.if-is_gone.true));
+      spins = λ is. let z : Ok false ≡ Ok true = is in cc;
+      size = λ is. let z : Ok false ≡ Ok true = is in cc;
+      table = c.commit.ensures.table ∙ c.attach.ensures.table;
+      named = c.in_ok-commit.ensures.named ∙ ap named_out out;
+      later =
+          let new = g.R.Rack.slot (store_rack c.commit.new.self.store) in
+          counts_then old mid new (attached_counts old mid c.args.disk c.attach.ensures.others (ap (λ (s : Slot). s.faults) (c.attach.ensures.attached c.if-not-attach.false))) (no_fall_counts mid new c.commit.ensures.spared.no_fall);
+      two = tt;
+      moments = λ h lo.
+          ended (IsCoreHeld g.R.Rack.slot_count a h lo) (CoreCommitted g.R.Rack.slot_count a h lo (Gone c.args.disk)) (IsCoreHeldSinceCommit g.R.Rack.slot_count a h lo) _ _
+          (beside _ _ _ _ (core_down a) (named_of a.store) h refl refl (λ x is. knows_named (named_of a.store) (named_out a.meta.out) x is) lo (CoreCommitted g.R.Rack.slot_count a h lo (Gone c.args.disk)) (IsCoreHeldSinceCommit g.R.Rack.slot_count a h lo) _ _
+          (chain_held g.R.Rack.slot_count g.R.Rack.told a b c.attach.ensures.slots setup same.named (CoreCommitted g.R.Rack.slot_count a h lo (Gone c.args.disk)) (CoreStandsFor g.R.Rack.slot_count b h lo) h lo _ (c.attach.ensures.stands h lo) (c.commit.ensures.moments_since c.attach.ensures.absent h lo)));
+      stands = λ h.
+          beside _ _ _ _ (core_down a) (named_of a.store) h refl refl (λ x is. knows_named (named_of a.store) (named_out a.meta.out) x is) (length h) (CoreCommitted g.R.Rack.slot_count a h (length h) (Gone c.args.disk)) (CoreStandsFor g.R.Rack.slot_count new h (length h)) _ _
+          (chain g.R.Rack.slot_count g.R.Rack.told a b c.attach.ensures.slots setup same.named (CoreCommitted g.R.Rack.slot_count a h (length h) (Gone c.args.disk)) (CoreStandsFor g.R.Rack.slot_count b h (length h)) (CoreStandsFor g.R.Rack.slot_count new h (length h)) h (length h) _ (c.attach.ensures.stands h (length h)) (c.in_ok-commit.ensures.since c.attach.ensures.absent h (length h)));
+      committed = λ is. let z : Ok false ≡ Ok true = is in cc;
+      event = λ samples served energy h lo.
+          let fresh = it.fresh here in
+          let k = service_of g.R.Rack.slot_count a samples served energy in
+          let k_fresh = service_of g.R.Rack.slot_count b samples served energy in
+          let k_then = service_of g.R.Rack.slot_count new samples served energy in
+          let equal : k_fresh ≡ with_fresh k c.args.disk = same_service g.R.Rack.slot_count a b samples served energy (meta_with_out a.meta (Fresh c.args.disk 0)) it.slots it.store.named fresh it.table it.batch it.copied in
+          came (record {
+            attached = g.R.Rack.told (store_rack b.store);
+            attach = subst (λ (y : Service). Ran (g.R.Rack.told (store_rack a.store)) (g.R.Rack.told (store_rack b.store)) (AttachesInEvent k y h lo c.args.disk true)) equal
+                (attach_told (g.R.Rack.told (store_rack a.store)) (g.R.Rack.told (store_rack b.store)) k k_fresh h lo c.args.disk true (g.R.Rack.slot (store_rack b.store)) (g.met.R.Rack.agrees (store_rack b.store)) spins it.calls (it.stands h lo));
+            ran = subst (λ (y : Service). Ran (g.R.Rack.told (store_rack b.store)) (g.R.Rack.told (store_rack new.store)) (ServesEvent y k_then h lo h (length h))) equal
+                (commit_told (g.R.Rack.told (store_rack b.store)) (g.R.Rack.told (store_rack new.store)) k_fresh k_then h lo c.commit.ensures.calls (c.in_ok-commit.ensures.since it.absent h lo) (c.commit.ensures.whole h lo)
+                (marked_told (g.R.Rack.told (store_rack new.store)) (g.R.Rack.slot (store_rack b.store)) (g.R.Rack.slot (store_rack new.store)) (g.met.R.Rack.agrees (store_rack new.store)) b.meta new.meta c.in_ok-commit.ensures.marks
+                (λ x low absent. ready.absent x (subst (λ (z : Setup). x < z.geometry.disks) (sym new_setup) low) absent)
+                (fresh_stays (g.R.Rack.slot (store_rack b.store)) (g.R.Rack.slot (store_rack new.store)) b.meta new.meta c.in_ok-commit.ensures.marks
+                (λ x u out. fresh_there (g.R.Rack.slot (store_rack b.store)) c.args.disk x u spins (sym (ap (λ (m : Meta). m.out) fresh) ∙ out)))));
+            ends = subst (λ (y : Service). CommitsAll y k_then) equal
+                (commits_all g.R.Rack.slot_count b new samples served energy (copies_kept a b setup it.copied c.requires.serving.copies_synced) c.commit.ensures.slots new_setup c.in_ok-commit.ensures.epoch c.in_ok-commit.ensures.nothing c.commit.ensures.table c.commit.ensures.copied);
+          });
+      loses = tt;
+    }
 
-pub returns-clause-fresh : goal.returns-clause-fresh
-returns-clause-fresh g c is =
+pub returns : goal.returns
+returns g c =
     let a = c.args.core.now in
     let b = c.attach.new.self in
     let new = c.commit.new.self in
@@ -258,168 +234,74 @@ returns-clause-fresh g c is =
     let setup : b.meta.setup ≡ a.meta.setup = ap (λ (m : Meta). m.setup) fresh in
     let same = c.attach.ensures.store in
     let marked = c.in_ok-commit.ensures.meta in
-    marked_back _ new.meta marked (c.is_gone.ensures.back c.if-is_gone.false) ∙ ap (λ (m : Meta). record m { epoch = m.epoch + 1 }) fresh
-
-pub returns-clause-spins : goal.returns-clause-spins
-returns-clause-spins g c is =
-    let a = c.args.core.now in
-    let b = c.attach.new.self in
-    let new = c.commit.new.self in
-    let here : c.attach.result ≡ true = c.if-not-attach.false in
-    let fresh = c.attach.ensures.fresh here in
-    let out : b.meta.out ≡ Fresh c.args.disk 0 = ap (λ (m : Meta). m.out) fresh in
-    let setup : b.meta.setup ≡ a.meta.setup = ap (λ (m : Meta). m.setup) fresh in
-    let same = c.attach.ensures.store in
-    (back_well (g.R.Rack.slot (store_rack b.store)) (g.R.Rack.slot (store_rack new.store)) b.meta new.meta c.args.disk c.in_ok-commit.ensures.marks (c.is_gone.ensures.back c.if-is_gone.false)).0
-    ∙ ap (λ (s : Slot). s.power) (c.attach.ensures.attached here)
-
-pub returns-clause-size : goal.returns-clause-size
-returns-clause-size g c is =
-    let a = c.args.core.now in
-    let b = c.attach.new.self in
-    let new = c.commit.new.self in
-    let here : c.attach.result ≡ true = c.if-not-attach.false in
-    let fresh = c.attach.ensures.fresh here in
-    let out : b.meta.out ≡ Fresh c.args.disk 0 = ap (λ (m : Meta). m.out) fresh in
-    let setup : b.meta.setup ≡ a.meta.setup = ap (λ (m : Meta). m.setup) fresh in
-    let same = c.attach.ensures.store in
-    (back_well (g.R.Rack.slot (store_rack b.store)) (g.R.Rack.slot (store_rack new.store)) b.meta new.meta c.args.disk c.in_ok-commit.ensures.marks (c.is_gone.ensures.back c.if-is_gone.false)).1
-    ∙ ap (λ (s : Slot). s.size) (c.attach.ensures.attached here)
-
-pub returns-clause-committed : goal.returns-clause-committed
-returns-clause-committed g c is h =
-    let a = c.args.core.now in
-    let b = c.attach.new.self in
-    let new = c.commit.new.self in
-    let here : c.attach.result ≡ true = c.if-not-attach.false in
-    let fresh = c.attach.ensures.fresh here in
-    let out : b.meta.out ≡ Fresh c.args.disk 0 = ap (λ (m : Meta). m.out) fresh in
-    let setup : b.meta.setup ≡ a.meta.setup = ap (λ (m : Meta). m.setup) fresh in
-    let same = c.attach.ensures.store in
-    let last =
-    subst (λ (o : Out). Ran (g.R.Rack.told (store_rack b.store)) (g.R.Rack.told (store_rack new.store)) (CrashTriple (IsCoreHeldSinceCommit g.R.Rack.slot_count b h (length h)) (CoreStandsFor g.R.Rack.slot_count b h (length h)) (CoreCommitted g.R.Rack.slot_count new h (length h) o))) out
-    (c.in_ok-commit.ensures.committed c.attach.ensures.absent h (length h)) in
-    beside _ _ _ _ (core_down a) (named_of a.store) h refl refl (λ x is. knows_named (named_of a.store) (named_out a.meta.out) x is) (length h) (CoreCommitted g.R.Rack.slot_count a h (length h) (Gone c.args.disk)) (CoreCommitted g.R.Rack.slot_count new h (length h) (Fresh c.args.disk 0)) _ _
-    (chain g.R.Rack.slot_count g.R.Rack.told a b c.attach.ensures.slots setup same.named (CoreCommitted g.R.Rack.slot_count a h (length h) (Gone c.args.disk)) (CoreStandsFor g.R.Rack.slot_count b h (length h)) (CoreCommitted g.R.Rack.slot_count new h (length h) (Fresh c.args.disk 0)) h (length h) _ (c.attach.ensures.stands h (length h)) (last))
-
-pub returns-then-not-attach-clause-event : goal.returns-then-not-attach-clause-event
-returns-then-not-attach-clause-event g c samples served energy h lo =
-    let a = c.args.core.now in
-    let b = c.attach.new.self in
+    let old = g.R.Rack.slot (store_rack c.args.core.now.store) in
+    let mid = g.R.Rack.slot (store_rack c.attach.new.self.store) in
     let it = c.attach.ensures in
-    let k = service_of g.R.Rack.slot_count a samples served energy in
-    let k_then = service_of g.R.Rack.slot_count b samples served energy in
-    let equal : k_then ≡ k = same_service g.R.Rack.slot_count a b samples served energy a.meta it.slots it.store.named (it.same c.if-not-attach.true) it.table it.batch it.copied in
-    failed equal (subst (λ (y : Service). Ran (g.R.Rack.told (store_rack a.store)) (g.R.Rack.told (store_rack b.store)) (AttachesInEvent k y h lo c.args.disk false)) equal
-    (attach_told (g.R.Rack.told (store_rack a.store)) (g.R.Rack.told (store_rack b.store)) k k_then h lo c.args.disk false (g.R.Rack.slot (store_rack b.store)) (g.met.R.Rack.agrees (store_rack b.store))
-    (ap is_present (it.lost c.if-not-attach.true).absent) it.calls (it.stands h lo)))
-
-pub returns-then-is_gone-clause-event : goal.returns-then-is_gone-clause-event
-returns-then-is_gone-clause-event g c samples served energy h lo =
-    let a = c.args.core.now in
-    let b = c.attach.new.self in
-    let new = c.commit.new.self in
-    let it = c.attach.ensures in
-    let here : c.attach.result ≡ true = c.if-not-attach.false in
-    let fresh = it.fresh here in
-    let setup : b.meta.setup ≡ a.meta.setup = ap (λ (m : Meta). m.setup) fresh in
-    let k = service_of g.R.Rack.slot_count a samples served energy in
-    let k_fresh = service_of g.R.Rack.slot_count b samples served energy in
-    let k_then = service_of g.R.Rack.slot_count new samples served energy in
-    let equal : k_fresh ≡ with_fresh k c.args.disk = same_service g.R.Rack.slot_count a b samples served energy (meta_with_out a.meta (Fresh c.args.disk 0)) it.slots it.store.named fresh it.table it.batch it.copied in
     let spins : is_present (g.R.Rack.slot (store_rack b.store) c.args.disk).power ≡ true = ap (λ (s : Slot). is_present s.power) (it.attached here) in
     let ready = c.in_ok-commit.ensures.ready in
     let new_setup : new.meta.setup ≡ b.meta.setup = c.in_ok-commit.ensures.setup in
-    came (record {
-      attached = g.R.Rack.told (store_rack b.store);
-      attach = subst (λ (y : Service). Ran (g.R.Rack.told (store_rack a.store)) (g.R.Rack.told (store_rack b.store)) (AttachesInEvent k y h lo c.args.disk true)) equal
-          (attach_told (g.R.Rack.told (store_rack a.store)) (g.R.Rack.told (store_rack b.store)) k k_fresh h lo c.args.disk true (g.R.Rack.slot (store_rack b.store)) (g.met.R.Rack.agrees (store_rack b.store)) spins it.calls (it.stands h lo));
-      ran = subst (λ (y : Service). Ran (g.R.Rack.told (store_rack b.store)) (g.R.Rack.told (store_rack new.store)) (ServesEvent y k_then h lo h (length h))) equal
-          (commit_told (g.R.Rack.told (store_rack b.store)) (g.R.Rack.told (store_rack new.store)) k_fresh k_then h lo c.commit.ensures.calls (c.in_ok-commit.ensures.since it.absent h lo) (c.commit.ensures.whole h lo)
-          (marked_told (g.R.Rack.told (store_rack new.store)) (g.R.Rack.slot (store_rack b.store)) (g.R.Rack.slot (store_rack new.store)) (g.met.R.Rack.agrees (store_rack new.store)) b.meta new.meta c.in_ok-commit.ensures.marks
-          (λ x low absent. ready.absent x (subst (λ (z : Setup). x < z.geometry.disks) (sym new_setup) low) absent)
-          (fresh_stays (g.R.Rack.slot (store_rack b.store)) (g.R.Rack.slot (store_rack new.store)) b.meta new.meta c.in_ok-commit.ensures.marks
-          (λ x u out. fresh_there (g.R.Rack.slot (store_rack b.store)) c.args.disk x u spins (sym (ap (λ (m : Meta). m.out) fresh) ∙ out)))));
-      ends = subst (λ (y : Service). CommitsAll y k_then) equal
-          (commits_all g.R.Rack.slot_count b new samples served energy (copies_kept a b setup it.copied c.requires.serving.copies_synced) c.commit.ensures.slots new_setup c.in_ok-commit.ensures.epoch c.in_ok-commit.ensures.nothing c.commit.ensures.table c.commit.ensures.copied);
-    })
-
-pub returns-clause-event : goal.returns-clause-event
-returns-clause-event g c samples served energy h lo =
-    let a = c.args.core.now in
-    let b = c.attach.new.self in
-    let new = c.commit.new.self in
-    let it = c.attach.ensures in
-    let here : c.attach.result ≡ true = c.if-not-attach.false in
-    let fresh = it.fresh here in
-    let setup : b.meta.setup ≡ a.meta.setup = ap (λ (m : Meta). m.setup) fresh in
-    let k = service_of g.R.Rack.slot_count a samples served energy in
-    let k_fresh = service_of g.R.Rack.slot_count b samples served energy in
-    let k_then = service_of g.R.Rack.slot_count new samples served energy in
-    let equal : k_fresh ≡ with_fresh k c.args.disk = same_service g.R.Rack.slot_count a b samples served energy (meta_with_out a.meta (Fresh c.args.disk 0)) it.slots it.store.named fresh it.table it.batch it.copied in
-    let spins : is_present (g.R.Rack.slot (store_rack b.store) c.args.disk).power ≡ true = ap (λ (s : Slot). is_present s.power) (it.attached here) in
-    let ready = c.in_ok-commit.ensures.ready in
-    let new_setup : new.meta.setup ≡ b.meta.setup = c.in_ok-commit.ensures.setup in
-    came (record {
-      attached = g.R.Rack.told (store_rack b.store);
-      attach = subst (λ (y : Service). Ran (g.R.Rack.told (store_rack a.store)) (g.R.Rack.told (store_rack b.store)) (AttachesInEvent k y h lo c.args.disk true)) equal
-          (attach_told (g.R.Rack.told (store_rack a.store)) (g.R.Rack.told (store_rack b.store)) k k_fresh h lo c.args.disk true (g.R.Rack.slot (store_rack b.store)) (g.met.R.Rack.agrees (store_rack b.store)) spins it.calls (it.stands h lo));
-      ran = subst (λ (y : Service). Ran (g.R.Rack.told (store_rack b.store)) (g.R.Rack.told (store_rack new.store)) (ServesEvent y k_then h lo h (length h))) equal
-          (commit_told (g.R.Rack.told (store_rack b.store)) (g.R.Rack.told (store_rack new.store)) k_fresh k_then h lo c.commit.ensures.calls (c.in_ok-commit.ensures.since it.absent h lo) (c.commit.ensures.whole h lo)
-          (marked_told (g.R.Rack.told (store_rack new.store)) (g.R.Rack.slot (store_rack b.store)) (g.R.Rack.slot (store_rack new.store)) (g.met.R.Rack.agrees (store_rack new.store)) b.meta new.meta c.in_ok-commit.ensures.marks
-          (λ x low absent. ready.absent x (subst (λ (z : Setup). x < z.geometry.disks) (sym new_setup) low) absent)
-          (fresh_stays (g.R.Rack.slot (store_rack b.store)) (g.R.Rack.slot (store_rack new.store)) b.meta new.meta c.in_ok-commit.ensures.marks
-          (λ x u out. fresh_there (g.R.Rack.slot (store_rack b.store)) c.args.disk x u spins (sym (ap (λ (m : Meta). m.out) fresh) ∙ out)))));
-      ends = subst (λ (y : Service). CommitsAll y k_then) equal
-          (commits_all g.R.Rack.slot_count b new samples served energy (copies_kept a b setup it.copied c.requires.serving.copies_synced) c.commit.ensures.slots new_setup c.in_ok-commit.ensures.epoch c.in_ok-commit.ensures.nothing c.commit.ensures.table c.commit.ensures.copied);
-    })
-
-pub returns-in_err-commit-clause-loses : goal.returns-in_err-commit-clause-loses
-returns-in_err-commit-clause-loses g c =
-    let a = c.args.core.now in
-    let b = c.attach.new.self in
-    let new = c.commit.new.self in
-    let here : c.attach.result ≡ true = c.if-not-attach.false in
-    let it = c.attach.ensures in
-    let fresh = it.fresh here in
-    let named : named_of b.store ≡ Some c.args.disk = it.store.named ∙ c.requires.named in
-    let out : named_out b.meta.out ≡ Some c.args.disk = ap (λ (m : Meta). named_out m.out) fresh in
-    let down : core_down b ≡ named_out b.meta.out = ap (λ (o : Option ℕ). or_else o (named_out b.meta.out)) named ∙ sym out in
-    let spins : is_present (g.R.Rack.slot (store_rack b.store) c.args.disk).power ≡ true = ap (λ (s : Slot). is_present s.power) (it.attached here) in
-    handed (LosesBrought g.R.Rack.slot_count g.R.Rack.told a new c.args.disk) c.from_residual.result _ c.from_residual.ensures.1
-    (λ samples served energy h lo.
-    let k = service_of g.R.Rack.slot_count a samples served energy in
-    let k_fresh = service_of g.R.Rack.slot_count b samples served energy in
-    let equal : k_fresh ≡ with_fresh k c.args.disk = same_service g.R.Rack.slot_count a b samples served energy (meta_with_out a.meta (Fresh c.args.disk 0)) it.slots it.store.named fresh it.table it.batch it.copied in
     record {
-      attached = g.R.Rack.told (store_rack b.store);
-      attach = subst (λ (y : Service). Ran (g.R.Rack.told (store_rack a.store)) (g.R.Rack.told (store_rack b.store)) (AttachesInEvent k y h lo c.args.disk true)) equal
-          (attach_told (g.R.Rack.told (store_rack a.store)) (g.R.Rack.told (store_rack b.store)) k k_fresh h lo c.args.disk true (g.R.Rack.slot (store_rack b.store)) (g.met.R.Rack.agrees (store_rack b.store)) spins it.calls (it.stands h lo));
-      ran = commit_lost_fresh (g.R.Rack.told (store_rack b.store)) (g.R.Rack.told (store_rack new.store)) k_fresh h lo _ (with_fresh k c.args.disk) equal
-          c.commit.ensures.calls (c.commit.ensures.moments_since it.absent h lo) (c.commit.ensures.whole h lo) (tells_by (g.R.Rack.told (store_rack b.store)) (g.R.Rack.told (store_rack new.store)) (core_down b) (named_out b.meta.out) _ down c.in_err-commit.ensures.tells);
-    })
-
-pub returns-then-not-attach-clause-later : goal.returns-then-not-attach-clause-later
-returns-then-not-attach-clause-later g c =
-    failed_counts (g.R.Rack.slot (store_rack c.args.core.now.store)) (g.R.Rack.slot (store_rack c.attach.new.self.store)) c.args.disk c.attach.ensures.others (c.attach.ensures.lost c.if-not-attach.true).risen
-
-pub returns-in_err-commit-clause-later : goal.returns-in_err-commit-clause-later
-returns-in_err-commit-clause-later g c =
-    let old = g.R.Rack.slot (store_rack c.args.core.now.store) in
-    let mid = g.R.Rack.slot (store_rack c.attach.new.self.store) in
-    let new = g.R.Rack.slot (store_rack c.commit.new.self.store) in
-    counts_then old mid new (attached_counts old mid c.args.disk c.attach.ensures.others (ap (λ (s : Slot). s.faults) (c.attach.ensures.attached c.if-not-attach.false))) (no_fall_counts mid new c.commit.ensures.spared.no_fall)
-
-pub returns-then-is_gone-clause-later : goal.returns-then-is_gone-clause-later
-returns-then-is_gone-clause-later g c =
-    let old = g.R.Rack.slot (store_rack c.args.core.now.store) in
-    let mid = g.R.Rack.slot (store_rack c.attach.new.self.store) in
-    let new = g.R.Rack.slot (store_rack c.commit.new.self.store) in
-    counts_then old mid new (attached_counts old mid c.args.disk c.attach.ensures.others (ap (λ (s : Slot). s.faults) (c.attach.ensures.attached c.if-not-attach.false))) (no_fall_counts mid new c.commit.ensures.spared.no_fall)
-
-pub returns-clause-later : goal.returns-clause-later
-returns-clause-later g c =
-    let old = g.R.Rack.slot (store_rack c.args.core.now.store) in
-    let mid = g.R.Rack.slot (store_rack c.attach.new.self.store) in
-    let new = g.R.Rack.slot (store_rack c.commit.new.self.store) in
-    counts_then old mid new (attached_counts old mid c.args.disk c.attach.ensures.others (ap (λ (s : Slot). s.faults) (c.attach.ensures.attached c.if-not-attach.false))) (no_fall_counts mid new c.commit.ensures.spared.no_fall)
+      serving =
+          serving_then g.R.Rack.slot_count g.R.Rack.slot a new c.requires.serving c.in_ok-commit.ensures.ready (c.in_ok-commit.ensures.serves (c.attach.ensures.serves c.requires.serving.serves))
+          (c.in_ok-commit.ensures.unsynced (c.attach.ensures.unsynced c.requires.serving.unsynced)) (c.in_ok-commit.ensures.draft ∙ c.attach.ensures.draft) (c.in_ok-commit.ensures.copied ∙ c.attach.ensures.copied)
+          (c.in_ok-commit.ensures.setup ∙ setup)
+          (λ d is. marked_named _ new.meta marked d (ap named_out out ∙ sym (ap named_out c.requires.gone) ∙ is))
+          (λ d not there. c.commit.ensures.spared.size d there ∙ ap (λ (s : Slot). s.size) (c.attach.ensures.others d (λ is. not (marked_named _ new.meta marked d (ap named_out out ∙ ap Some (sym is))))));
+      absent = c.in_ok-commit.ensures.absent;
+      nothing = c.in_ok-commit.ensures.nothing;
+      leaves =
+          record {
+            slots = c.in_ok-commit.ensures.slots ∙ c.attach.ensures.slots;
+            setup = c.in_ok-commit.ensures.setup ∙ setup;
+            writes = c.in_ok-commit.ensures.writes ∙ ap (λ (m : Meta). m.writes) fresh;
+            spared = but_lost (g.R.Rack.slot (store_rack a.store)) (g.R.Rack.slot (store_rack b.store)) (g.R.Rack.slot (store_rack new.store)) c.args.disk c.attach.ensures.others c.commit.ensures.spared;
+          };
+      fresh = λ is. marked_back _ new.meta marked (c.is_gone.ensures.back c.if-is_gone.false) ∙ ap (λ (m : Meta). record m { epoch = m.epoch + 1 }) fresh;
+      gone = λ is. let z : Ok true ≡ Ok false = is in cc;
+      risen = λ is. let z : Ok true ≡ Ok false = is in cc;
+      spins = λ is.
+          (back_well (g.R.Rack.slot (store_rack b.store)) (g.R.Rack.slot (store_rack new.store)) b.meta new.meta c.args.disk c.in_ok-commit.ensures.marks (c.is_gone.ensures.back c.if-is_gone.false)).0
+          ∙ ap (λ (s : Slot). s.power) (c.attach.ensures.attached here);
+      size = λ is.
+          (back_well (g.R.Rack.slot (store_rack b.store)) (g.R.Rack.slot (store_rack new.store)) b.meta new.meta c.args.disk c.in_ok-commit.ensures.marks (c.is_gone.ensures.back c.if-is_gone.false)).1
+          ∙ ap (λ (s : Slot). s.size) (c.attach.ensures.attached here);
+      table = c.commit.ensures.table ∙ c.attach.ensures.table;
+      named = c.in_ok-commit.ensures.named ∙ ap named_out out;
+      later =
+          let new = g.R.Rack.slot (store_rack c.commit.new.self.store) in
+          counts_then old mid new (attached_counts old mid c.args.disk c.attach.ensures.others (ap (λ (s : Slot). s.faults) (c.attach.ensures.attached c.if-not-attach.false))) (no_fall_counts mid new c.commit.ensures.spared.no_fall);
+      two = tt;
+      moments = λ h lo.
+          ended (IsCoreHeld g.R.Rack.slot_count a h lo) (CoreCommitted g.R.Rack.slot_count a h lo (Gone c.args.disk)) (IsCoreHeldSinceCommit g.R.Rack.slot_count a h lo) _ _
+          (beside _ _ _ _ (core_down a) (named_of a.store) h refl refl (λ x is. knows_named (named_of a.store) (named_out a.meta.out) x is) lo (CoreCommitted g.R.Rack.slot_count a h lo (Gone c.args.disk)) (IsCoreHeldSinceCommit g.R.Rack.slot_count a h lo) _ _
+          (chain_held g.R.Rack.slot_count g.R.Rack.told a b c.attach.ensures.slots setup same.named (CoreCommitted g.R.Rack.slot_count a h lo (Gone c.args.disk)) (CoreStandsFor g.R.Rack.slot_count b h lo) h lo _ (c.attach.ensures.stands h lo) (c.commit.ensures.moments_since c.attach.ensures.absent h lo)));
+      stands = λ h.
+          beside _ _ _ _ (core_down a) (named_of a.store) h refl refl (λ x is. knows_named (named_of a.store) (named_out a.meta.out) x is) (length h) (CoreCommitted g.R.Rack.slot_count a h (length h) (Gone c.args.disk)) (CoreStandsFor g.R.Rack.slot_count new h (length h)) _ _
+          (chain g.R.Rack.slot_count g.R.Rack.told a b c.attach.ensures.slots setup same.named (CoreCommitted g.R.Rack.slot_count a h (length h) (Gone c.args.disk)) (CoreStandsFor g.R.Rack.slot_count b h (length h)) (CoreStandsFor g.R.Rack.slot_count new h (length h)) h (length h) _ (c.attach.ensures.stands h (length h)) (c.in_ok-commit.ensures.since c.attach.ensures.absent h (length h)));
+      committed = λ is h.
+          let last =
+          subst (λ (o : Out). Ran (g.R.Rack.told (store_rack b.store)) (g.R.Rack.told (store_rack new.store)) (CrashTriple (IsCoreHeldSinceCommit g.R.Rack.slot_count b h (length h)) (CoreStandsFor g.R.Rack.slot_count b h (length h)) (CoreCommitted g.R.Rack.slot_count new h (length h) o))) out
+          (c.in_ok-commit.ensures.committed c.attach.ensures.absent h (length h)) in
+          beside _ _ _ _ (core_down a) (named_of a.store) h refl refl (λ x is. knows_named (named_of a.store) (named_out a.meta.out) x is) (length h) (CoreCommitted g.R.Rack.slot_count a h (length h) (Gone c.args.disk)) (CoreCommitted g.R.Rack.slot_count new h (length h) (Fresh c.args.disk 0)) _ _
+          (chain g.R.Rack.slot_count g.R.Rack.told a b c.attach.ensures.slots setup same.named (CoreCommitted g.R.Rack.slot_count a h (length h) (Gone c.args.disk)) (CoreStandsFor g.R.Rack.slot_count b h (length h)) (CoreCommitted g.R.Rack.slot_count new h (length h) (Fresh c.args.disk 0)) h (length h) _ (c.attach.ensures.stands h (length h)) (last));
+      event = λ samples served energy h lo.
+          let fresh = it.fresh here in
+          let k = service_of g.R.Rack.slot_count a samples served energy in
+          let k_fresh = service_of g.R.Rack.slot_count b samples served energy in
+          let k_then = service_of g.R.Rack.slot_count new samples served energy in
+          let equal : k_fresh ≡ with_fresh k c.args.disk = same_service g.R.Rack.slot_count a b samples served energy (meta_with_out a.meta (Fresh c.args.disk 0)) it.slots it.store.named fresh it.table it.batch it.copied in
+          came (record {
+            attached = g.R.Rack.told (store_rack b.store);
+            attach = subst (λ (y : Service). Ran (g.R.Rack.told (store_rack a.store)) (g.R.Rack.told (store_rack b.store)) (AttachesInEvent k y h lo c.args.disk true)) equal
+                (attach_told (g.R.Rack.told (store_rack a.store)) (g.R.Rack.told (store_rack b.store)) k k_fresh h lo c.args.disk true (g.R.Rack.slot (store_rack b.store)) (g.met.R.Rack.agrees (store_rack b.store)) spins it.calls (it.stands h lo));
+            ran = subst (λ (y : Service). Ran (g.R.Rack.told (store_rack b.store)) (g.R.Rack.told (store_rack new.store)) (ServesEvent y k_then h lo h (length h))) equal
+                (commit_told (g.R.Rack.told (store_rack b.store)) (g.R.Rack.told (store_rack new.store)) k_fresh k_then h lo c.commit.ensures.calls (c.in_ok-commit.ensures.since it.absent h lo) (c.commit.ensures.whole h lo)
+                (marked_told (g.R.Rack.told (store_rack new.store)) (g.R.Rack.slot (store_rack b.store)) (g.R.Rack.slot (store_rack new.store)) (g.met.R.Rack.agrees (store_rack new.store)) b.meta new.meta c.in_ok-commit.ensures.marks
+                (λ x low absent. ready.absent x (subst (λ (z : Setup). x < z.geometry.disks) (sym new_setup) low) absent)
+                (fresh_stays (g.R.Rack.slot (store_rack b.store)) (g.R.Rack.slot (store_rack new.store)) b.meta new.meta c.in_ok-commit.ensures.marks
+                (λ x u out. fresh_there (g.R.Rack.slot (store_rack b.store)) c.args.disk x u spins (sym (ap (λ (m : Meta). m.out) fresh) ∙ out)))));
+            ends = subst (λ (y : Service). CommitsAll y k_then) equal
+                (commits_all g.R.Rack.slot_count b new samples served energy (copies_kept a b setup it.copied c.requires.serving.copies_synced) c.commit.ensures.slots new_setup c.in_ok-commit.ensures.epoch c.in_ok-commit.ensures.nothing c.commit.ensures.table c.commit.ensures.copied);
+          });
+      loses = tt;
+    }
