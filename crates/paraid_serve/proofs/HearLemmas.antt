@@ -1,15 +1,17 @@
 -- From the lines of a reader to events.
-use Rattle.std.proofs.Common.{◌≡◌, ◌≢◌, ℕ, ◌+◌, ◌-◌, ◌^◌, ◌<◌, List, [], ◌∷◌, ◌++◌, length, Option, Some, Result, Ok, Err, refl, sym, ap, ◌∙◌, inl, inr, arith, length-append}
+use Rattle.std.proofs.Common.{◌≡◌, ◌≢◌, ℕ, ◌+◌, ◌-◌, ◌^◌, ◌<◌, List, [], ◌∷◌, ◌++◌, length, Option, None, Some, Result, Ok, Err, refl, sym, ap, ◌∙◌, inl, inr, arith, length-append}
 use Rattle.std.proofs.lemmas.List.{append_assoc, append-nil}
 use Rattle.std.proofs.lemmas.Bool.{false≢true}
 use Rattle.paraid_io.specs.Lines.{lines_of, whole_lines, NoNewline}
-use Rattle.paraid_io.specs.Reading.{Reading, CutsOff, ReaderStep}
+use Rattle.paraid_io.specs.Reading.{HasCause, Reading, CutsOff, ReaderStep}
 use Rattle.paraid_io.specs.declared.line.Line.{Line}
-use Rattle.paraid_io.specs.declared.line.Line.TheVariants.{Whole, Long}
+use Rattle.paraid_io.specs.declared.line.Line.TheVariants.{End, Whole, Long}
 use Rattle.paraid_io.specs.declared.line.LineFault.{LineFault}
+use Rattle.paraid_io.specs.declared.line.LineFault.TheVariants.{Source, TooLong}
 use Rattle.paraid_io.proofs.LineLemmas.{lines_of-cut, lines_of-last, whole_lines-cut, whole_lines-rest}
 use Rattle.paraid_trace.specs.LineEvents.{event_of}
 use Rattle.paraid_trace.proofs.LineLemmas.{event_of-long}
+use Rattle.paraid_base.specs.Told.{HasRisen}
 use Rattle.paraid_base.specs.declared.event.Event.{Event}
 use Rattle.paraid_base.specs.declared.event.Event.TheVariants.{Bad}
 use Rattle.paraid_serve.specs.Heard.{IsNextLine, HearsLine, IsHeardEvent}
@@ -76,3 +78,16 @@ less_to_take {before} {after} {old} {new} {event} h =
     let taken = h.taken in
     let limit = h.limit in
     omega arith
+
+pub heard_end : {before after : Option (List ℕ)} {old new : Reading} → ReaderStep before after old new (Ok End) → HearsLine before after old new (Ok None)
+heard_end {before} {after} {old} {new} s = heard_from s (Ok None) s.answer
+
+-- why a fault came
+module _ {A : Type 0} where
+  pub risen_by : (fault : LineFault) (new : Reading) (before now : ℕ) → HasCause (Err fault) new before now → ◌≡◌ {A = Result A LineFault} (Err fault) (Err Source) → HasRisen before now
+  risen_by Source new before now cause is = cause.0
+  risen_by (TooLong n) new before now cause is = cc
+
+  pub taken_by : (fault : LineFault) (new : Reading) (before now n : ℕ) → HasCause (Err fault) new before now → ◌≡◌ {A = Result A LineFault} (Err fault) (Err (TooLong n)) → new.taken ≡ 2 ^ 40
+  taken_by Source new before now n cause is = cc
+  taken_by (TooLong m) new before now n cause is = cause.1

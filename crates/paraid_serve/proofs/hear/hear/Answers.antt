@@ -1,13 +1,40 @@
-use Rattle.paraid_serve.proofs.HearLemmas.{heard_whole, heard_long, heard_fault}
+use Rattle.paraid_serve.proofs.HearLemmas.{heard_end, heard_whole, heard_long, heard_fault, risen_by, taken_by}
 use Rattle.paraid_serve.proofs.hear.hear.Goals as goal
 
-pub returns-in-Ok-Whole-clause-heard : goal.returns-in-Ok-Whole-clause-heard
-returns-in-Ok-Whole-clause-heard g c =
-    let e = rw c.line.ensures at c.read_line.ensures.value in
-    heard_whole (rw c.in-Ok-Whole.field-0-is at (c.in-Ok-Whole.ensures.step c.requires)) e
+pub returns-in-Ok-Whole : goal.returns-in-Ok-Whole
+returns-in-Ok-Whole g c = record {
+  heard =
+      let e = rw c.line.ensures at c.read_line.ensures.value in
+      heard_whole (rw c.in-Ok-Whole.field-0-is at (c.in-Ok-Whole.ensures.step c.requires)) e;
+  goes_on = c.in-Ok-Whole.ensures.cause c.requires;
+  later = c.next.ensures.later;
+  cause = λ is. cc;
+  too_long = λ n is. cc;
+}
 
-pub returns-in-Ok-Long-clause-heard : goal.returns-in-Ok-Long-clause-heard
-returns-in-Ok-Long-clause-heard g c = heard_long (rw c.in-Ok-Long.field-0-is at (c.in-Ok-Long.ensures.step c.requires))
+pub returns-in-Ok-Long : goal.returns-in-Ok-Long
+returns-in-Ok-Long g c = record {
+  heard = heard_long (rw c.in-Ok-Long.field-0-is at (c.in-Ok-Long.ensures.step c.requires));
+  goes_on = c.in-Ok-Long.ensures.cause c.requires;
+  later = c.next.ensures.later;
+  cause = λ is. cc;
+  too_long = λ n is. cc;
+}
 
-pub returns-in-Err-clause-heard : goal.returns-in-Err-clause-heard
-returns-in-Err-clause-heard g c = heard_fault (c.in-Err.ensures.step c.requires)
+pub returns-in-Err : goal.returns-in-Err
+returns-in-Err g c = record {
+  heard = heard_fault (c.in-Err.ensures.step c.requires);
+  goes_on = tt;
+  later = c.next.ensures.later;
+  cause = risen_by c.in-Err.fault _ _ _ (c.in-Err.ensures.cause c.requires);
+  too_long = λ n. taken_by c.in-Err.fault _ _ _ n (c.in-Err.ensures.cause c.requires);
+}
+
+pub returns-in-Ok-End : goal.returns-in-Ok-End
+returns-in-Ok-End g c = record {
+  heard = heard_end (rw c.in-Ok-End.field-0-is at (c.in-Ok-End.ensures.step c.requires));
+  goes_on = c.in-Ok-End.ensures.cause c.requires;
+  later = c.next.ensures.later;
+  cause = λ is. cc;
+  too_long = λ n is. cc;
+}
