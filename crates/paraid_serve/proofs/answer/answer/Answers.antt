@@ -1,4 +1,5 @@
-use Rattle.std.proofs.Common.{refl, sym, ◌∙◌, subst}
+use Rattle.std.proofs.Common.{◌≡◌, true, refl, sym, ◌∙◌, subst}
+use Rattle.paraid_serve.specs.Form.{is_answer_to}
 use Rattle.paraid_trace.specs.Asked.{event_with}
 use Rattle.paraid_trace.specs.declared.asked.Asked.{Asked}
 use Rattle.paraid_base.specs.declared.event.Answer.TheVariants.{Bad as IsBad}
@@ -10,14 +11,20 @@ use Rattle.paraid_serve.proofs.HaltLemmas.{served_more}
 use Rattle.paraid_serve.proofs.StretchLemmas.{bad_turn, again_turn}
 use Rattle.paraid_serve.proofs.answer.answer.Goals as goal
 
-pub returns-in-Bad-clause-turn : goal.returns-in-Bad-clause-turn
-returns-in-Bad-clause-turn g c p stands =
-    let told = g.A.Serves.told c.args.array.now in
-    subst (λ (a : Asked). Ran told told (GoesOn (g.A.Serves.slots c.args.array.now) (g.A.Serves.setup c.args.array.now) p (event_with a c.args.pairs.now) IsBad (g.A.Serves.stands c.args.array.now)))
-    (sym c.in-Bad.is) (bad_turn _ _ told p _ stands)
-
-pub returns-in-Bad-clause-told : goal.returns-in-Bad-clause-told
-returns-in-Bad-clause-told g c = grows_none _
+pub returns-in-Bad : goal.returns-in-Bad
+returns-in-Bad g c = record {
+  turn = λ p stands.
+      let told = g.A.Serves.told c.args.array.now in
+      subst (λ (a : Asked). Ran told told (GoesOn (g.A.Serves.slots c.args.array.now) (g.A.Serves.setup c.args.array.now) p (event_with a c.args.pairs.now) IsBad (g.A.Serves.stands c.args.array.now)))
+      (sym c.in-Bad.is) (bad_turn _ _ told p _ stands);
+  told = grows_none _;
+  slots = refl;
+  setup = refl;
+  halt = c.requires.halt;
+  since = λ start s. s;
+  kind = subst (λ (a : Asked). is_answer_to (event_with a c.args.pairs.now) IsBad ≡ true) (sym c.in-Bad.is) refl;
+  few = tt;
+}
 
 pub returns-in-Some : goal.returns-in-Some
 returns-in-Some g c =
@@ -34,5 +41,14 @@ returns-in-Some g c =
       few = tt;
     }
 
-pub returns-clause-since : goal.returns-clause-since
-returns-clause-since g c start s = served_more start _ _ _ _ _ _ c.serve-answered.ensures.two c.serve-answered.ensures.later s
+pub returns : goal.returns
+returns g c = record {
+  turn = c.serve-answered.ensures.turn;
+  told = c.serve-answered.ensures.told;
+  slots = c.serve-answered.ensures.slots;
+  setup = c.serve-answered.ensures.setup;
+  halt = c.halt_in.ensures c.serve-answered.new.beside ∙ sym c.serve-answered.ensures.halt;
+  since = λ start s. served_more start _ _ _ _ _ _ c.serve-answered.ensures.two c.serve-answered.ensures.later s;
+  kind = c.serve-answered.ensures.kind;
+  few = c.serve-answered.ensures.few;
+}

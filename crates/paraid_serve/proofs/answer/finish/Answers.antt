@@ -21,8 +21,24 @@ returns-in-Some g c = record {
   worn = subst HaltsByWear (sym c.requires.halt ∙ c.in-Some.is) (g.met.A.Serves.worn c.args.array.now);
 }
 
-pub returns-in-Err-clause-since : goal.returns-in-Err-clause-since
-returns-in-Err-clause-since g c start s = subst (λ (o : Option Halt). HasServedSince start (g.A.Serves.slot c.flush.new.self) o) c.in-Err.ensures.halt (served_more start _ _ _ _ _ _ c.flush.ensures.two c.flush.ensures.later s)
+pub returns-in-Err : goal.returns-in-Err
+returns-in-Err g c = record {
+  turn = c.in-Err.ensures.turn;
+  told = c.in-Err.ensures.told;
+  slots = c.in-Err.ensures.slots;
+  setup = c.in-Err.ensures.setup;
+  going = tt;
+  since = λ start s. subst (λ (o : Option Halt). HasServedSince start (g.A.Serves.slot c.flush.new.self) o) c.in-Err.ensures.halt (served_more start _ _ _ _ _ _ c.flush.ensures.two c.flush.ensures.later s);
+  worn = subst HaltsByWear c.in-Err.ensures.halt (g.met.A.Serves.worn c.flush.new.self);
+}
 
-pub returns-in-Err-clause-worn : goal.returns-in-Err-clause-worn
-returns-in-Err-clause-worn g c = subst HaltsByWear c.in-Err.ensures.halt (g.met.A.Serves.worn c.flush.new.self)
+pub returns-in-Ok : goal.returns-in-Ok
+returns-in-Ok g c = record {
+  turn = c.in-Ok.ensures.turn;
+  told = c.in-Ok.ensures.told;
+  slots = c.in-Ok.ensures.slots;
+  setup = c.in-Ok.ensures.setup;
+  going = c.in-Ok.ensures.halt;
+  since = tt;
+  worn = tt;
+}
