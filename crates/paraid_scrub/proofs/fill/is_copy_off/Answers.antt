@@ -1,4 +1,7 @@
-use Rattle.std.proofs.Common.{◌≡◌, ◌≢◌, ◌∙◌, IsTrue, ap, sym}
+use Rattle.paraid_base.specs.Regions.{IsGear}
+use Rattle.paraid_base.specs.Soft.{stripe_count}
+use Rattle.paraid_record.specs.declared.meta.Meta.{Meta}
+use Rattle.std.proofs.Common.{◌≡◌, ◌≢◌, ◌∙◌, IsTrue, ap, sym, subst, ◌<◌}
 use Rattle.std.specs.Prelude.{◌↔◌}
 use Rattle.paraid_base.specs.Skips.{place_among, skip}
 use Rattle.paraid_base.specs.Soft.{soft_disk, soft_parity_disk}
@@ -40,4 +43,18 @@ returns g c = record {
       copy_off v m ((g.met.C.Stored.agrees c.args.core.now v s).0 ∙ sym c.meta.ensures.value) c.args.gear c.args.at c.args.disk c.in-Some.row c.in-Some.home c.in-Some.ensures.row_in c.in-Some.ensures.parked c.in-Some.ensures.disk_in back.0 on
       c.args.stored.now c.read_value.new.into is (stored ∙ ap (λ z. stripe z.setup.geometry v.block c.args.gear c.args.at c.args.disk) (sym c.meta.ensures.value)) c.differs.result c.differs.ensures);
   lost = tt;
+}
+
+pub soft_parity-parity-requires : goal.soft_parity-parity-requires
+soft_parity-parity-requires g c = record {
+  gear = subst (λ (z : Meta). IsGear z.setup.geometry c.args.gear) (sym c.meta.ensures.value) c.requires.gear;
+  region = subst (λ (z : Meta). c.args.gear < z.setup.geometry.disks) (sym c.meta.ensures.value) c.requires.region;
+  stripe_in = subst (λ (z : Meta). c.args.at < stripe_count z.setup.geometry.disks z.setup.geometry.rows c.args.gear) (sym c.meta.ensures.value) c.requires.at;
+}
+
+pub read_value-requires : goal.read_value-requires
+read_value-requires g c = record {
+  usable = c.requires.usable;
+  row = subst (λ (z : Meta). c.in-Some.row < z.setup.geometry.rows) c.meta.ensures.value c.in-Some.ensures.row_in;
+  disk = subst (λ (z : Meta). c.in-Some.home < z.setup.geometry.disks) c.meta.ensures.value c.in-Some.ensures.disk_in;
 }

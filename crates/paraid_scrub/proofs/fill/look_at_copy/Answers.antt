@@ -1,3 +1,5 @@
+use Rattle.paraid_base.specs.Regions.{IsGear}
+use Rattle.paraid_base.specs.Soft.{stripe_count}
 use Rattle.paraid_base.specs.Regions.{disk_size}
 use Rattle.std.proofs.lemmas.Result.{IfErr-weaker, IfOk-weaker}
 use Rattle.std.proofs.Common.{◌≡◌, ◌<◌, ◌∙◌, IsTrue, sym, ap, subst, arith}
@@ -39,4 +41,11 @@ returns g c = record {
       let stored = is ∙ ap (v.block c.args.disk) (c.soft_place-place.ensures.value ∙ ap (λ (z : Meta). soft_place_of z.setup.geometry c.args.gear c.args.at) c.meta.ensures.value) in
       (c.xor_into.ensures ∙ ap (xor c.args.sum.now) stored, off (stored ∙ ap (λ (z : Meta). stripe z.setup.geometry v.block c.args.gear c.args.at c.args.disk) (sym read.same))))) c.is_copy_off.ensures.shown;
   lost = IfErr-weaker c.is_copy_off.result _ _ (λ e lost. g.met.C.Stored.then_lost _ _ _ e c.in_ok-read_stored.ensures.shown.goes lost) c.is_copy_off.ensures.lost;
+}
+
+pub soft_place-place-requires : goal.soft_place-place-requires
+soft_place-place-requires g c = record {
+  gear = subst (λ (z : Meta). IsGear z.setup.geometry c.args.gear) (sym c.meta.ensures.value) c.requires.gear;
+  region = subst (λ (z : Meta). c.args.gear < z.setup.geometry.disks) (sym c.meta.ensures.value) c.requires.region;
+  stripe_in = subst (λ (z : Meta). c.args.at < stripe_count z.setup.geometry.disks z.setup.geometry.rows c.args.gear) (sym c.meta.ensures.value) c.requires.at;
 }

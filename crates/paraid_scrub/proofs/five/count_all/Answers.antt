@@ -1,4 +1,5 @@
-use Rattle.std.proofs.Common.{sym, ◌∙◌, rules}
+use Rattle.paraid_core.proofs.ErrLemmas.{none_done_if}
+use Rattle.std.proofs.Common.{sym, ◌∙◌}
 use Rattle.std.proofs.lemmas.Bool.{false≢true}
 use Rattle.paraid_core.proofs.AfterLemmas.{handed}
 use Rattle.paraid_scrub.proofs.LookedLemmas.{keeps_chain}
@@ -10,7 +11,7 @@ pub returns-then-not-rows : goal.returns-then-not-rows
 returns-then-not-rows g c = record {
   kept = λ whole. absurd (false≢true (sym c.so_far.ensures.whole ∙ whole));
   ended = λ not. c.in_ok-rows.ensures.ended (was_not_whole _ c.if-not-rows.true);
-  two = search rules;
+  two = tt;
   counts = λ v s0 t1. counts_1 v c.in_ok-rows.rows.found c.in_ok-rows.rows.whole (c.in_ok-rows.ensures.counts v s0 t1) c.so_far.result.report c.so_far.ensures.rows c.so_far.ensures.stripes c.so_far.ensures.fill c.so_far.ensures.units c.so_far.ensures.mirrors c.so_far.result.whole (λ l. false≢true (sym c.so_far.ensures.whole ∙ l));
 }
 
@@ -18,7 +19,7 @@ pub returns-then-not-stripes : goal.returns-then-not-stripes
 returns-then-not-stripes g c = record {
   kept = λ whole. absurd (false≢true (sym c.so_far-then-not-stripes.ensures.whole ∙ whole));
   ended = λ not. g.met.C.Stored.then_lost _ _ _ Lost (c.in_ok-rows.ensures.kept (was_whole _ c.if-not-rows.false)).goes (c.in_ok-stripes.ensures.ended (was_not_whole _ c.if-not-stripes.true));
-  two = search rules;
+  two = tt;
   counts = λ v s0 t2.
       let t1 = g.met.C.Stored.told_lost _ _ Lost (c.in_ok-stripes.ensures.ended (was_not_whole _ c.if-not-stripes.true)) t2 in
       let s1 = ((c.in_ok-rows.ensures.kept (was_whole _ c.if-not-rows.false)).shown v s0 t1).0 in
@@ -29,7 +30,7 @@ pub returns-then-not-fill : goal.returns-then-not-fill
 returns-then-not-fill g c = record {
   kept = λ whole. absurd (false≢true (sym c.so_far-then-not-fill.ensures.whole ∙ whole));
   ended = λ not. g.met.C.Stored.then_lost _ _ _ Lost (c.in_ok-rows.ensures.kept (was_whole _ c.if-not-rows.false)).goes (g.met.C.Stored.then_lost _ _ _ Lost (c.in_ok-stripes.ensures.kept (was_whole _ c.if-not-stripes.false)).goes (c.in_ok-fill.ensures.ended (was_not_whole _ c.if-not-fill.true)));
-  two = search rules;
+  two = tt;
   counts = λ v s0 t3.
       let t2 = g.met.C.Stored.told_lost _ _ Lost (c.in_ok-fill.ensures.ended (was_not_whole _ c.if-not-fill.true)) t3 in
       let t1 = g.met.C.Stored.told _ _ (c.in_ok-stripes.ensures.kept (was_whole _ c.if-not-stripes.false)).goes t2 in
@@ -42,7 +43,7 @@ pub returns-then-not-units : goal.returns-then-not-units
 returns-then-not-units g c = record {
   kept = λ whole. absurd (false≢true (sym c.so_far-then-not-units.ensures.whole ∙ whole));
   ended = λ not. g.met.C.Stored.then_lost _ _ _ Lost (c.in_ok-rows.ensures.kept (was_whole _ c.if-not-rows.false)).goes (g.met.C.Stored.then_lost _ _ _ Lost (c.in_ok-stripes.ensures.kept (was_whole _ c.if-not-stripes.false)).goes (g.met.C.Stored.then_lost _ _ _ Lost (c.in_ok-fill.ensures.kept (was_whole _ c.if-not-fill.false)).goes (c.in_ok-units.ensures.ended (was_not_whole _ c.if-not-units.true))));
-  two = search rules;
+  two = tt;
   counts = λ v s0 t4.
       let t3 = g.met.C.Stored.told_lost _ _ Lost (c.in_ok-units.ensures.ended (was_not_whole _ c.if-not-units.true)) t4 in
       let t2 = g.met.C.Stored.told _ _ (c.in_ok-fill.ensures.kept (was_whole _ c.if-not-fill.false)).goes t3 in
@@ -57,7 +58,7 @@ pub returns : goal.returns
 returns g c = record {
   kept = λ whole. keeps_chain g.met.C.Stored.then g.met.C.Stored.told (c.in_ok-rows.ensures.kept (was_whole _ c.if-not-rows.false)) (keeps_chain g.met.C.Stored.then g.met.C.Stored.told (c.in_ok-stripes.ensures.kept (was_whole _ c.if-not-stripes.false)) (keeps_chain g.met.C.Stored.then g.met.C.Stored.told (c.in_ok-fill.ensures.kept (was_whole _ c.if-not-fill.false)) (keeps_chain g.met.C.Stored.then g.met.C.Stored.told (c.in_ok-units.ensures.kept (was_whole _ c.if-not-units.false)) (c.in_ok-mirrors.ensures.kept (sym c.so_far-2.ensures.whole ∙ whole)))));
   ended = λ not. g.met.C.Stored.then_lost _ _ _ Lost (c.in_ok-rows.ensures.kept (was_whole _ c.if-not-rows.false)).goes (g.met.C.Stored.then_lost _ _ _ Lost (c.in_ok-stripes.ensures.kept (was_whole _ c.if-not-stripes.false)).goes (g.met.C.Stored.then_lost _ _ _ Lost (c.in_ok-fill.ensures.kept (was_whole _ c.if-not-fill.false)).goes (g.met.C.Stored.then_lost _ _ _ Lost (c.in_ok-units.ensures.kept (was_whole _ c.if-not-units.false)).goes (c.in_ok-mirrors.ensures.ended (sym c.so_far-2.ensures.whole ∙ not)))));
-  two = search rules;
+  two = tt;
   counts = λ v s0 t5.
       let t4 = told_by c.in_ok-mirrors.mirrors.whole (λ w. g.met.C.Stored.told _ _ (c.in_ok-mirrors.ensures.kept w).goes t5) (λ n. g.met.C.Stored.told_lost _ _ Lost (c.in_ok-mirrors.ensures.ended n) t5) in
       let t3 = g.met.C.Stored.told _ _ (c.in_ok-units.ensures.kept (was_whole _ c.if-not-units.false)).goes t4 in
@@ -72,40 +73,63 @@ returns g c = record {
 
 pub returns-in_err-stripes : goal.returns-in_err-stripes
 returns-in_err-stripes g c = record {
-  kept = search rules;
-  ended = search rules;
+  kept = none_done_if _ c.from_residual-in_err-stripes.result _ c.from_residual-in_err-stripes.ensures.1;
+  ended = none_done_if _ c.from_residual-in_err-stripes.result _ c.from_residual-in_err-stripes.ensures.1;
   two =
       handed _ c.from_residual-in_err-stripes.result _ c.from_residual-in_err-stripes.ensures.1
       (g.met.C.Stored.then_lost _ _ _ _ (c.in_ok-rows.ensures.kept (was_whole _ c.if-not-rows.false)).goes c.in_err-stripes.ensures.two);
-  counts = search rules;
+  counts = none_done_if _ c.from_residual-in_err-stripes.result _ c.from_residual-in_err-stripes.ensures.1;
 }
 
 pub returns-in_err-fill : goal.returns-in_err-fill
 returns-in_err-fill g c = record {
-  kept = search rules;
-  ended = search rules;
+  kept = none_done_if _ c.from_residual-in_err-fill.result _ c.from_residual-in_err-fill.ensures.1;
+  ended = none_done_if _ c.from_residual-in_err-fill.result _ c.from_residual-in_err-fill.ensures.1;
   two =
       handed _ c.from_residual-in_err-fill.result _ c.from_residual-in_err-fill.ensures.1
       (g.met.C.Stored.then_lost _ _ _ _ (c.in_ok-rows.ensures.kept (was_whole _ c.if-not-rows.false)).goes (g.met.C.Stored.then_lost _ _ _ _ (c.in_ok-stripes.ensures.kept (was_whole _ c.if-not-stripes.false)).goes c.in_err-fill.ensures.two));
-  counts = search rules;
+  counts = none_done_if _ c.from_residual-in_err-fill.result _ c.from_residual-in_err-fill.ensures.1;
 }
 
 pub returns-in_err-units : goal.returns-in_err-units
 returns-in_err-units g c = record {
-  kept = search rules;
-  ended = search rules;
+  kept = none_done_if _ c.from_residual-in_err-units.result _ c.from_residual-in_err-units.ensures.1;
+  ended = none_done_if _ c.from_residual-in_err-units.result _ c.from_residual-in_err-units.ensures.1;
   two =
       handed _ c.from_residual-in_err-units.result _ c.from_residual-in_err-units.ensures.1
       (g.met.C.Stored.then_lost _ _ _ _ (c.in_ok-rows.ensures.kept (was_whole _ c.if-not-rows.false)).goes (g.met.C.Stored.then_lost _ _ _ _ (c.in_ok-stripes.ensures.kept (was_whole _ c.if-not-stripes.false)).goes (g.met.C.Stored.then_lost _ _ _ _ (c.in_ok-fill.ensures.kept (was_whole _ c.if-not-fill.false)).goes c.in_err-units.ensures.two)));
-  counts = search rules;
+  counts = none_done_if _ c.from_residual-in_err-units.result _ c.from_residual-in_err-units.ensures.1;
 }
 
 pub returns-in_err-mirrors : goal.returns-in_err-mirrors
 returns-in_err-mirrors g c = record {
-  kept = search rules;
-  ended = search rules;
+  kept = none_done_if _ c.from_residual-in_err-mirrors.result _ c.from_residual-in_err-mirrors.ensures.1;
+  ended = none_done_if _ c.from_residual-in_err-mirrors.result _ c.from_residual-in_err-mirrors.ensures.1;
   two =
       handed _ c.from_residual-in_err-mirrors.result _ c.from_residual-in_err-mirrors.ensures.1
       (g.met.C.Stored.then_lost _ _ _ _ (c.in_ok-rows.ensures.kept (was_whole _ c.if-not-rows.false)).goes (g.met.C.Stored.then_lost _ _ _ _ (c.in_ok-stripes.ensures.kept (was_whole _ c.if-not-stripes.false)).goes (g.met.C.Stored.then_lost _ _ _ _ (c.in_ok-fill.ensures.kept (was_whole _ c.if-not-fill.false)).goes (g.met.C.Stored.then_lost _ _ _ _ (c.in_ok-units.ensures.kept (was_whole _ c.if-not-units.false)).goes c.in_err-mirrors.ensures.two))));
-  counts = search rules;
+  counts = none_done_if _ c.from_residual-in_err-mirrors.result _ c.from_residual-in_err-mirrors.ensures.1;
 }
+
+pub returns-in_err-rows : goal.returns-in_err-rows
+returns-in_err-rows g c = record {
+  kept = none_done_if _ c.from_residual.result _ c.from_residual.ensures.1;
+  ended = none_done_if _ c.from_residual.result _ c.from_residual.ensures.1;
+  two = handed _ c.from_residual.result _ c.from_residual.ensures.1 c.in_err-rows.ensures.two;
+  counts = none_done_if _ c.from_residual.result _ c.from_residual.ensures.1;
+}
+
+pub count-requires : goal.count-requires
+count-requires g c = record { usable = c.requires.usable }
+
+pub count-requires-2 : goal.count-requires-2
+count-requires-2 g c = record { usable = (c.in_ok-rows.ensures.kept (was_whole _ c.if-not-rows.false)).still }
+
+pub count-requires-3 : goal.count-requires-3
+count-requires-3 g c = record { usable = (c.in_ok-stripes.ensures.kept (was_whole _ c.if-not-stripes.false)).still }
+
+pub count-requires-4 : goal.count-requires-4
+count-requires-4 g c = record { usable = (c.in_ok-fill.ensures.kept (was_whole _ c.if-not-fill.false)).still }
+
+pub count-requires-5 : goal.count-requires-5
+count-requires-5 g c = record { usable = (c.in_ok-units.ensures.kept (was_whole _ c.if-not-units.false)).still }

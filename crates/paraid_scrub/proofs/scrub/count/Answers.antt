@@ -1,4 +1,5 @@
-use Rattle.std.proofs.Common.{◌≡◌, ◌<◌, ◌+◌, ◌∙◌, arith, sym, ap, subst, rules}
+use Rattle.std.proofs.lemmas.Bool.{false≢true, true≢false}
+use Rattle.std.proofs.Common.{◌≡◌, ◌<◌, ◌+◌, ◌∙◌, arith, sym, ap, subst}
 use Rattle.std.specs.Prelude.{ℕ, Option}
 use Rattle.paraid_record.specs.declared.meta.Meta.{Meta}
 use Rattle.paraid_image.specs.Out.{named_out}
@@ -34,8 +35,8 @@ loop-at-preserved g c =
 pub returns : goal.returns
 returns g c = record {
   kept = λ whole. keeps_shows c.loop-at.invariant.kept;
-  ended = search rules;
-  two = search rules;
+  ended = λ not. absurd (true≢false not);
+  two = tt;
   counts = λ v s tells.
       let a = g.met.C.Stored.agrees c.args.core.now v s in
       let all : c.loop-at.at ≡ c.members-size.result = omega arith in
@@ -52,9 +53,9 @@ overflow_add-found g c =
 
 pub returns-in-Err-Lost : goal.returns-in-Err-Lost
 returns-in-Err-Lost g c = record {
-  kept = search rules;
+  kept = λ whole. absurd (false≢true whole);
   ended = λ not. g.met.C.Stored.then_lost _ _ _ Lost c.loop-at.invariant.kept.goes (subst (g.C.Stored.loses c.loop-at.core c.is_off.new.core) c.in-Err-Lost.field-0-is c.in-Err-Lost.ensures.lost);
-  two = search rules;
+  two = tt;
   counts = λ v s tells.
       let a = g.met.C.Stored.agrees c.args.core.now v s in
       let size : c.members-size.result ≡ total v.meta v.out c.args.kind = c.members-size.ensures ∙ ap (λ (z : Meta). total z (named_out z.out) c.args.kind) (c.meta.ensures.value ∙ sym a.0) ∙ ap (λ (o : Option ℕ). total v.meta o c.args.kind) (ap (λ (z : Meta). named_out z.out) a.0 ∙ sym a.1) in

@@ -1,5 +1,7 @@
+use Rattle.paraid_base.specs.Regions.{IsGear}
+use Rattle.paraid_base.specs.Soft.{stripe_count}
 use Rattle.paraid_base.specs.Regions.{disk_size}
-use Rattle.std.proofs.Common.{◌≡◌, ◌∙◌, ap, arith, subst, ◌<◌}
+use Rattle.std.proofs.Common.{◌≡◌, ◌∙◌, ap, arith, subst, ◌<◌, sym}
 use Rattle.paraid_base.specs.Regions.{soft_place_of}
 use Rattle.paraid_base.specs.Sums.{without}
 use Rattle.paraid_base.specs.Xor.{xor}
@@ -34,4 +36,11 @@ read_stored-requires g c = record {
   readable = c.requires.readable c.if-disk-skipped.false;
   past_log = let k = c.soft_place-place.ensures.after_hard in omega (arith, k);
   within = subst (λ (z : Meta). c.soft_place-place.result < disk_size z.setup.geometry) c.meta.ensures.value c.soft_place-place.ensures.in_size;
+}
+
+pub soft_place-place-requires : goal.soft_place-place-requires
+soft_place-place-requires g c = record {
+  gear = subst (λ (z : Meta). IsGear z.setup.geometry c.args.gear) (sym c.meta.ensures.value) c.requires.gear;
+  region = subst (λ (z : Meta). c.args.gear < z.setup.geometry.disks) (sym c.meta.ensures.value) c.requires.region;
+  stripe_in = subst (λ (z : Meta). c.args.at < stripe_count z.setup.geometry.disks z.setup.geometry.rows c.args.gear) (sym c.meta.ensures.value) c.requires.at;
 }
