@@ -54,7 +54,7 @@ gear_to m range low = by m.phase range.phase low
     by (Up to) is none = is.higher_gear
 
 -- the disks below the new gear are powered
-to_powered : (m : Meta) (d : ℕ) → IsInRange m → d < phase_to m.phase → (d < m.gear) ⊎ (d < rising_to m.phase)
+pub to_powered : (m : Meta) (d : ℕ) → IsInRange m → d < phase_to m.phase → (d < m.gear) ⊎ (d < rising_to m.phase)
 to_powered m d range low = by m.phase range.phase low
   where
     by : (p : Phase) → IsPhaseInRange m.setup.geometry m.gear p → d < phase_to p → (d < m.gear) ⊎ (d < rising_to p)
@@ -95,6 +95,14 @@ module _ {R : Type 0} {g : _} (count : R → ℕ) (slot : R → ℕ → Slot) (t
     where
       none : (d : ℕ) → named_out m.out ≢ Some d
       none d is = let z : None ≡ Some d = ap named_out (sym all_in) ∙ is in cc
+
+  -- so they can where the disk that is named out is left out
+  pub can_read_beside : CanCoreServe slot old → (out : Option ℕ) → named_out m.out ≡ out → CanRead (count (store_rack old.store)) (slot (store_rack old.store)) m out
+  can_read_beside serves out is = record {
+    enough = ready.enough;
+    spins = λ d low not. elim low [ inl l ↦ ready.spins d l (λ here. not (sym is ∙ here)) | inr l ↦ serves.spins d l (λ here. not (sym is ∙ here)) ];
+    large = λ d low not. elim low [ inl l ↦ ready.large d l (λ here. not (sym is ∙ here)) | inr l ↦ serves.large d l (λ here. not (sym is ∙ here)) ];
+  }
 
   abbrev was : ℕ → Slot
   was = slot (store_rack old.store)

@@ -6,9 +6,9 @@ use Rattle.paraid_view.proofs.TwoLemmas.{left_spared, spared_then}
 use Rattle.paraid_core.specs.declared.staged.Core.{Core}
 use Rattle.paraid_core.specs.Cores.{CoreStandsFor}
 use Rattle.paraid_core.specs.Units.{CopyingUnit, UnitsRebuilt}
-use Rattle.paraid_core.proofs.FillLemmas.{gathered_leaves}
+use Rattle.paraid_core.proofs.FillLemmas.{gathered_leaves, can_read_beside}
 use Rattle.paraid_core.proofs.StepLemmas.{held_runs_then, leaves_then, runs_then, two_then}
-use Rattle.paraid_core.proofs.UnitWriteLemmas.{unit_gathered, unit_reads_held}
+use Rattle.paraid_core.proofs.UnitWriteLemmas.{unit_gathered, unit_reads_held, rebuilding_below}
 use Rattle.paraid_core.proofs.KindLemmas.{calls_then, calls_whole}
 use Rattle.paraid_txn.specs.Commit.{gone_out}
 use Rattle.std.proofs.Common.{inl, None, Some, ap, refl, subst, sym, ◌≡◌, ◌∙◌}
@@ -104,4 +104,14 @@ returns g c = record {
   failed = λ is. err_not_ok _ _ _ is;
   lost = λ is. err_not_ok _ _ _ is;
   moments = λ h lo. unit_reads_held g.R.Rack.slot_count g.R.Rack.slot g.R.Rack.told c.args.self.now c.requires.ready _ c.in-Err.ensures.read.calls c.args.number h lo;
+}
+
+pub read_unit-requires : goal.read_unit-requires
+read_unit-requires g c = record {
+  in_range = c.requires.ready.in_range;
+  disk = rebuilding_below g.R.Rack.slot_count g.R.Rack.slot g.R.Rack.told c.args.self.now c.requires.ready (g.met.R.Rack.agrees (store_rack c.args.self.now.store)) c.requires.nothing c.args.number c.args.disk c.args.unit c.requires.fresh c.requires.unit;
+  unit = c.requires.unit;
+  rows = c.requires.ready.rows_are;
+  array = c.requires.ready.array_is;
+  ready = can_read_beside g.R.Rack.slot_count g.R.Rack.slot g.R.Rack.told c.args.self.now c.requires.ready c.requires.serves (Some c.args.disk) (ap named_out c.requires.fresh);
 }

@@ -1,4 +1,4 @@
-use Rattle.std.proofs.Common.{◌≡◌, ℕ, ◌∙◌, ◌<◌, None, Some, sym, ap, subst, refl, false, inl, inr}
+use Rattle.std.proofs.Common.{◌≡◌, ℕ, ◌∙◌, ◌<◌, None, Some, sym, ap, subst, refl, false, inl, inr, arith}
 use Rattle.std.specs.Prelude.{Option, is_ok}
 use Rattle.paraid_image.specs.Out.{named_out}
 use Rattle.paraid_base.specs.Told.{HasRisen}
@@ -210,4 +210,11 @@ returns g c = record {
   moments = λ h lo.
       let q = c.requires in
       park_held g.R.Rack.slot_count g.R.Rack.slot g.R.Rack.told c.args.self.now _ c.args.disk _ c.park.ensures.told (g.met.R.Rack.agrees (store_rack c.args.self.now.store)) q.spinning q.disk q.past_logs q.past_gear q.past_rise q.not_out h lo;
+}
+
+pub park-requires : goal.park-requires
+park-requires g c = record {
+  exists = let low = c.requires.disk in let enough = c.requires.ready.enough in omega (arith, low, enough);
+  spinning = c.requires.spinning;
+  synced = c.requires.synced;
 }

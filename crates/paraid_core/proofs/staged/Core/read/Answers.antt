@@ -309,3 +309,9 @@ clean_in_room-requires g c = record {
       c.in_ok-read_only.ensures.cleans_less c.home-r.result.0 c.home-r.result.1 (c.in_ok-make_room.ensures.cleans_less c.home-r.result.0 c.home-r.result.1
       (no_room (is_cleaned old.meta old.dirty c.home-r.result.0 c.home-r.result.1) c.cleaning-room.result c.cleaning-room.ensures.value low));
 }
+
+pub cleaning-room-requires : goal.cleaning-room-requires
+cleaning-room-requires g c = record {
+  row = subst (λ (n : ℕ). c.home-r.result.0 < n) (sym c.requires.ready.rows_are) c.home-r.ensures.row_in;
+  disk = let low = c.home-r.ensures.disk_in in let high = c.args.self.now.meta.setup.geometry.disks_high in omega (arith, low, high);
+}

@@ -35,3 +35,12 @@ returns g c = record {
       block_read (g.R.Rack.slot_count (store_rack old.store)) (named_of old.store) old.meta old.dirty old.batch old.copied h lo (now t) keeps c.args.block c.home-r.result.0 c.home-r.result.1 _ c.requires.block c.home-r.ensures.row c.home-r.ensures.disk
       (was_so h lo t tells keeps some)) c.read_value.ensures.value;
 }
+
+pub read_value-requires : goal.read_value-requires
+read_value-requires g c = record {
+  ready = c.requires.ready;
+  serves = c.requires.serves;
+  row = c.home-r.ensures.row_in;
+  disk = c.home-r.ensures.disk_in;
+  no_draft = c.requires.no_draft;
+}

@@ -1,5 +1,5 @@
 use Rattle.paraid_image.specs.Mark.{meta_after_loss}
-use Rattle.std.proofs.Common.{◌≡◌, ℕ, ◌∙◌, ◌<◌, Some, None, sym, ap, subst, refl, false, true}
+use Rattle.std.proofs.Common.{◌≡◌, ℕ, ◌∙◌, ◌<◌, Some, None, sym, ap, subst, refl, false, true, arith}
 use Rattle.std.specs.Prelude.{Option, is_ok}
 use Rattle.paraid_base.specs.Told.{HasRisen}
 use Rattle.paraid_image.specs.Out.{named_out}
@@ -126,4 +126,11 @@ returns g c = record {
       (ap (λ (z : Meta). z.setup) (meta_is g c))
       (λ h lo s agrees k. subst (λ (z : Meta). HoldsBetweenCalls (g.R.Rack.slot_count (store_rack c.args.self.now.store)) (named_of c.args.self.now.store) z c.args.self.now.dirty c.args.self.now.batch c.args.self.now.copied h lo (step (Read c.args.disk c.args.place (is_ok c.read.result)) s)) (sym (meta_is g c))
       (keeps_failed _ _ c.args.self.now.meta _ _ _ h lo s (Read c.args.disk c.args.place (is_ok c.read.result)) ready.in_range c.requires.disk (failed g c) (λ x l gone. ready.absent x l (ap is_present (sym (agrees.power x)) ∙ gone)) (alone g c) c.requires.still k));
+}
+
+pub read-requires : goal.read-requires
+read-requires g c = record {
+  exists = let low = c.requires.disk in let enough = c.requires.ready.enough in omega (arith, low, enough);
+  spinning = c.requires.spins;
+  within = c.requires.within;
 }

@@ -87,3 +87,11 @@ returns-then-not-is_spinning g c = record {
             (λ t x p tells here copies_synced h lo k. idle_unmarked _ _ (g.met.R.Rack.slots_hold (store_rack c.args.self.now.store)) _ (g.met.R.Rack.agrees (store_rack c.args.self.now.store) t tells) _ _ _ _ _ _ _ h lo _ (cleared_at _ _) idle k x p here copies_synced),
       );
 }
+
+pub sync_disk-requires : goal.sync_disk-requires
+sync_disk-requires g c = record {
+  ready = c.requires.ready;
+  still = c.requires.still;
+  disk = c.requires.disk;
+  spins = sym c.power.ensures ∙ c.is_spinning.ensures.spins c.if-not-is_spinning.false;
+}

@@ -1,4 +1,4 @@
-use Rattle.std.proofs.Common.{◌≡◌, ℕ, ◌∙◌, ◌<◌, None, Some, sym, ap, subst, refl, false, inl, inr}
+use Rattle.std.proofs.Common.{◌≡◌, ℕ, ◌∙◌, ◌<◌, None, Some, sym, ap, subst, refl, false, inl, inr, arith}
 use Rattle.std.proofs.lemmas.Bool.{cases_eq, false≢true}
 use Rattle.paraid_base.specs.States.{gone_out}
 use Rattle.std.specs.Prelude.{Option, is_ok}
@@ -220,4 +220,10 @@ returns-in_default g c = record {
   moments = λ h lo.
       let q = c.requires in
       spin_held g.R.Rack.slot_count g.R.Rack.slot g.R.Rack.told c.args.self.now _ c.args.disk _ c.spin_up.ensures.told (g.met.R.Rack.agrees (store_rack c.args.self.now.store)) q.parked q.disk h lo;
+}
+
+pub spin_up-requires : goal.spin_up-requires
+spin_up-requires g c = record {
+  exists = let low = c.requires.disk in let enough = c.requires.ready.enough in omega (arith, low, enough);
+  parked = c.requires.parked;
 }

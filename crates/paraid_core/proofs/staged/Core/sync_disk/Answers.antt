@@ -1,6 +1,6 @@
 use Rattle.paraid_base.specs.declared.state.Out.TheVariants.{Fresh, Gone, No}
 use Rattle.paraid_image.specs.Mark.{meta_after_loss}
-use Rattle.std.proofs.Common.{◌≡◌, ℕ, ◌∙◌, ◌<◌, Some, None, sym, ap, subst, refl, false, true}
+use Rattle.std.proofs.Common.{◌≡◌, ℕ, ◌∙◌, ◌<◌, Some, None, sym, ap, subst, refl, false, true, arith}
 use Rattle.std.specs.Prelude.{Option, is_ok, slice_set}
 use Rattle.std.proofs.lemmas.Bool.{false≢true}
 use Rattle.paraid_base.specs.Told.{HasRisen}
@@ -138,4 +138,10 @@ returns-in_err-lose g c = record {
   filled = none_done _ c.from_residual.result _ c.from_residual.ensures.1;
   cells = none_done _ c.from_residual.result _ c.from_residual.ensures.1;
   rebuilt = none_done _ c.from_residual.result _ c.from_residual.ensures.1;
+}
+
+pub sync-answer-requires : goal.sync-answer-requires
+sync-answer-requires g c = record {
+  exists = let low = c.requires.disk in let enough = c.requires.ready.enough in omega (arith, low, enough);
+  spinning = c.requires.spins;
 }

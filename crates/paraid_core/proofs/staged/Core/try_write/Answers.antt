@@ -9,7 +9,7 @@ use Rattle.std.specs.Prelude.{◌^◌, ◌++◌, ◌∷◌, [], false}
 use Rattle.paraid_image.specs.Sides.{Batch}
 use Rattle.paraid_rack.specs.Disks.{is_present}
 use Rattle.paraid_core.specs.declared.staged.Core.{Core}
-use Rattle.paraid_core.specs.Taken.{IsTakenIn}
+use Rattle.paraid_core.specs.Taken.{IsTakenIn, AreApart}
 use Rattle.paraid_core.proofs.AcceptLemmas.{accepted_ready, accepted_stands}
 use Rattle.paraid_core.proofs.AfterLemmas.{marked_setup, marked_writes}
 use Rattle.paraid_core.proofs.BitsLemmas.{bits_counted}
@@ -232,4 +232,17 @@ returns-in_err-lose g c = record {
   stands = none_done_if _ c.from_residual.result _ c.from_residual.ensures.1;
   moments_since = λ h lo. try_moments g.R.Rack.slot_count g.R.Rack.slot g.R.Rack.told c.args.self.now c.draft_writes.new.self c.draft_writes.ensures.leads c.requires.ready h lo;
   since = none_done_if _ c.from_residual.result _ c.from_residual.ensures.1;
+}
+
+pub draft_writes-requires : goal.draft_writes-requires
+draft_writes-requires g c = record {
+  ready = c.requires.ready;
+  serves = c.requires.serves;
+  blocks = c.requires.blocks;
+}
+
+pub take-requires : goal.take-requires
+take-requires g c = record {
+  room = let same = ap length c.draft_writes.ensures.leads.batch in let few = not_err c.draft_writes.result _ (sym c.is_err.ensures.value ∙ c.if-is_err.false) c.draft_writes.ensures.few in let room = c.requires.room in omega (arith, same, few, room);
+  apart = subst AreApart (sym c.draft_writes.ensures.leads.batch) c.requires.ready.apart;
 }

@@ -1,6 +1,8 @@
+use Rattle.std.proofs.lemmas.List.Elements.{All-cons, All-nil}
+use Rattle.paraid_base.specs.declared.block.Block.{Block}
 use Rattle.std.proofs.lemmas.Result.{on_ok_weaker}
-use Rattle.std.proofs.Common.{ℕ, ap, length, ◌+◌, ◌*◌, ◌≤◌, ◌≡◌, ◌∙◌, subst}
-use Rattle.std.specs.Prelude.{◌∷◌, ◌++◌, [], if◌then◌else◌, true, false}
+use Rattle.std.proofs.Common.{ℕ, ap, length, ◌+◌, ◌*◌, ◌≤◌, ◌≡◌, ◌∙◌, subst, sym, ◌<◌}
+use Rattle.std.specs.Prelude.{◌∷◌, ◌++◌, [], if◌then◌else◌, true, false, All}
 use Rattle.paraid_base.specs.History.{Entry}
 use Rattle.paraid_dirty.specs.Table.{is_dirty}
 use Rattle.paraid_image.specs.Out.{named_out}
@@ -8,7 +10,7 @@ use Rattle.paraid_plan.specs.WrittenBits.{bits_after_writes}
 use Rattle.paraid_rack.specs.Told.{Ran, CrashTriple}
 use Rattle.paraid_txn.specs.Stores.{named_of}
 use Rattle.paraid_core.specs.Calls.{MakesDataCalls, CommitsWhole, RestsCommitted}
-use Rattle.paraid_core.specs.Cores.{IsCoreHeld, CoreStandsFor, batch_of, core_rack}
+use Rattle.paraid_core.specs.Cores.{IsCoreHeld, CoreStandsFor, batch_of, core_rack, core_block_count}
 use Rattle.paraid_core.specs.Room.{commits_first}
 use Rattle.paraid_core.proofs.staged.Core.write.Goals as goal
 
@@ -48,4 +50,14 @@ returns g c = record {
       (subst (λ (e : Entry). Ran (g.R.Rack.told (core_rack old)) (g.R.Rack.told (core_rack new)) (CrashTriple (IsCoreHeld g.R.Rack.slot_count old h lo) (CoreStandsFor g.R.Rack.slot_count old h lo)
       (CoreStandsFor g.R.Rack.slot_count new (h ++ e ∷ []) (if commits_first (batch_of old) (10 * c.one-pairs.result.count) then length h else lo)))) c.one-pairs.ensures.pairs
       (was_so h lo))) c.write_many.ensures.stands;
+}
+
+pub write_many-requires : goal.write_many-requires
+write_many-requires g c = record {
+  ready = c.requires.ready;
+  serves = c.requires.serves;
+  blocks = subst (λ (e : Entry). All (λ (pair : ℕ × Block). pair.0 < core_block_count c.args.self.now) e) (sym c.one-pairs.ensures.pairs) (All-cons (λ (pair : ℕ × Block). pair.0 < core_block_count c.args.self.now) (c.args.block, c.args.bytes.now) [] c.requires.block (All-nil (λ (pair : ℕ × Block). pair.0 < core_block_count c.args.self.now)));
+  epoch = c.requires.epoch;
+  copies_synced = c.requires.copies_synced;
+  fits = c.requires.fits;
 }

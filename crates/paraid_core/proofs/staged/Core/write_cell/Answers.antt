@@ -149,3 +149,10 @@ returns-in_err-lose g c = record {
       cell_held g.R.Rack.slot_count g.R.Rack.slot g.R.Rack.told c.args.self.now q.ready q.whole (g.met.R.Rack.agrees (store_rack c.args.self.now.store)) q.nothing c.args.r c.args.disk _ c.args.block.now c.hard_place-place.result c.hard_place-place.ensures.value _
       c.write_free-answer.ensures.told q.serves.stays q.row (disk_in c.args.self.now.meta c.args.disk q.ready.in_range q.rises) q.past_gear q.dirty _ (record { here = c.mark.ensures.here; others = c.mark.ensures.others }) h lo cells;
 }
+
+pub write_free-answer-requires : goal.write_free-answer-requires
+write_free-answer-requires g c = record {
+  exists = let low = disk_in c.args.self.now.meta c.args.disk c.requires.ready.in_range c.requires.rises in let enough = c.requires.ready.enough in omega (arith, low, enough);
+  spinning = c.requires.serves.spins c.args.disk c.requires.rises (λ named. let z : None ≡ Some c.args.disk = ap named_out (sym c.requires.whole) ∙ named in cc);
+  within = let large = c.requires.serves.large c.args.disk c.requires.rises (λ named. let z : None ≡ Some c.args.disk = ap named_out (sym c.requires.whole) ∙ named in cc) in let fits = hard_place_below c.args.self.now.meta.setup.geometry c.args.r c.requires.row in let place = c.hard_place-place.ensures.value in omega (arith, large, fits, place);
+}

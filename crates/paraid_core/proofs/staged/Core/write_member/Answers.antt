@@ -137,3 +137,10 @@ returns-in_err-lose g c = record {
       member_held g.R.Rack.slot_count g.R.Rack.slot g.R.Rack.told c.args.self.now _ c.args.s c.args.disk c.args.place c.args.block.now _ c.write_free-answer.ensures.told (g.met.R.Rack.agrees (store_rack c.args.self.now.store))
       q.ready.absent q.ready.in_range q.whole q.shifts q.from q.stripe q.disk _ (record { here = c.mark.ensures.here; others = c.mark.ensures.others }) q.place h lo;
 }
+
+pub write_free-answer-requires : goal.write_free-answer-requires
+write_free-answer-requires g c = record {
+  exists = let low = c.requires.disk in let enough = c.requires.ready.enough in omega (arith, low, enough);
+  spinning = c.requires.spins;
+  within = c.requires.within;
+}

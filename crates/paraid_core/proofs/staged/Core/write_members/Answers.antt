@@ -1,5 +1,7 @@
+use Rattle.paraid_base.specs.Regions.{IsGear, disk_size, soft_place_of}
+use Rattle.paraid_core.proofs.FillLemmas.{can_read_whole, to_powered, gear_to}
 use Rattle.std.specs.Prelude.{ℕ, ◌+◌}
-use Rattle.std.proofs.Common.{◌≡◌, ◌<◌, ◌∙◌, sym, ap, subst, refl, arith, Ok}
+use Rattle.std.proofs.Common.{◌≡◌, ◌<◌, ◌∙◌, sym, ap, subst, refl, arith, Ok, ◌≤◌, None, Some}
 use Rattle.paraid_base.specs.States.{phase_to}
 use Rattle.paraid_base.specs.Soft.{stripe_count}
 use Rattle.paraid_record.specs.declared.meta.Meta.{Meta}
@@ -127,18 +129,26 @@ returns g c = record {
   moments = λ h lo. runs_end g.R.Rack.slot_count g.R.Rack.slot g.R.Rack.told c.args.self.now _ _ _ h lo (c.loop-disk.invariant.written h lo);
 }
 
-pub write_member-requires-clause-ready : goal.write_member-requires-clause-ready
-write_member-requires-clause-ready g c = c.loop-disk.invariant.leaves.ready
+pub write_member-requires : goal.write_member-requires
+write_member-requires g c = record {
+  ready = c.loop-disk.invariant.leaves.ready;
+  still = c.loop-disk.invariant.leaves.still;
+  whole = ap (λ (z : Meta). z.out) c.loop-disk.invariant.meta ∙ c.requires.whole;
+  shifts = subst (λ (z : Meta). 0 < phase_to z.phase) (sym c.loop-disk.invariant.meta) c.requires.shifts;
+  region = subst (λ (z : Meta). phase_to z.phase < z.setup.geometry.disks) (sym c.loop-disk.invariant.meta) c.requires.region;
+  from = subst (λ (z : Meta). z.fill ≤ c.args.s) (sym c.loop-disk.invariant.meta) c.requires.from;
+  stripe =
+      subst (λ (z : Meta). c.args.s < stripe_count z.setup.geometry.disks z.setup.geometry.rows (phase_to z.phase)) (sym c.loop-disk.invariant.meta) c.requires.stripe;
+  nothing = c.loop-disk.invariant.leaves.batch ∙ c.requires.nothing;
+  disk = let to = c.to-to.ensures in let same = ap (λ (z : Meta). phase_to z.phase) c.loop-disk.invariant.meta in let test = c.loop-disk-test.true in let region = subst (λ (z : Meta). phase_to z.phase < z.setup.geometry.disks) (sym c.loop-disk.invariant.meta) c.requires.region in omega (arith, to, same, test, region);
+  spins = (can_read_whole g.R.Rack.slot_count g.R.Rack.slot g.R.Rack.told c.loop-disk.self c.loop-disk.invariant.leaves.ready (c.loop-disk.invariant.leaves.serves c.requires.serves) (ap (λ (z : Meta). z.out) c.loop-disk.invariant.meta ∙ c.requires.whole)).spins c.loop-disk.disk (to_powered c.loop-disk.self.meta c.loop-disk.disk c.loop-disk.invariant.leaves.ready.in_range (let to = c.to-to.ensures in let same = ap (λ (z : Meta). phase_to z.phase) c.loop-disk.invariant.meta in let test = c.loop-disk-test.true in omega (arith, to, same, test))) (λ is. let z : None ≡ Some c.loop-disk.disk = is in cc);
+  place = c.soft_place-place.ensures.value ∙ ap (λ (z : ℕ). soft_place_of c.args.self.now.meta.setup.geometry z c.args.s) c.to-to.ensures ∙ ap (λ (z : Meta). soft_place_of z.setup.geometry (phase_to z.phase) c.args.s) (sym c.loop-disk.invariant.meta);
+  within = let large = (can_read_whole g.R.Rack.slot_count g.R.Rack.slot g.R.Rack.told c.loop-disk.self c.loop-disk.invariant.leaves.ready (c.loop-disk.invariant.leaves.serves c.requires.serves) (ap (λ (z : Meta). z.out) c.loop-disk.invariant.meta ∙ c.requires.whole)).large c.loop-disk.disk (to_powered c.loop-disk.self.meta c.loop-disk.disk c.loop-disk.invariant.leaves.ready.in_range (let to = c.to-to.ensures in let same = ap (λ (z : Meta). phase_to z.phase) c.loop-disk.invariant.meta in let test = c.loop-disk-test.true in omega (arith, to, same, test))) (λ is. let z : None ≡ Some c.loop-disk.disk = is in cc) in let fits = subst (λ (z : Meta). c.soft_place-place.result < disk_size z.setup.geometry) (sym c.loop-disk.invariant.meta) c.soft_place-place.ensures.in_size in omega (arith, large, fits);
+}
 
-pub write_member-requires-clause-still : goal.write_member-requires-clause-still
-write_member-requires-clause-still g c = c.loop-disk.invariant.leaves.still
-
-pub write_member-requires-clause-shifts : goal.write_member-requires-clause-shifts
-write_member-requires-clause-shifts g c = subst (λ (z : Meta). 0 < phase_to z.phase) (sym c.loop-disk.invariant.meta) c.requires.shifts
-
-pub write_member-requires-clause-region : goal.write_member-requires-clause-region
-write_member-requires-clause-region g c = subst (λ (z : Meta). phase_to z.phase < z.setup.geometry.disks) (sym c.loop-disk.invariant.meta) c.requires.region
-
-pub write_member-requires-clause-stripe : goal.write_member-requires-clause-stripe
-write_member-requires-clause-stripe g c =
-    subst (λ (z : Meta). c.args.s < stripe_count z.setup.geometry.disks z.setup.geometry.rows (phase_to z.phase)) (sym c.loop-disk.invariant.meta) c.requires.stripe
+pub soft_place-place-requires : goal.soft_place-place-requires
+soft_place-place-requires g c = record {
+  gear = subst (IsGear c.args.self.now.meta.setup.geometry) (sym c.to-to.ensures) (gear_to c.args.self.now.meta c.requires.ready.in_range c.requires.shifts);
+  region = subst (λ (z : ℕ). z < c.args.self.now.meta.setup.geometry.disks) (sym c.to-to.ensures) c.requires.region;
+  stripe_in = subst (λ (z : ℕ). c.args.s < stripe_count c.args.self.now.meta.setup.geometry.disks c.args.self.now.meta.setup.geometry.rows z) (sym c.to-to.ensures) c.requires.stripe;
+}
