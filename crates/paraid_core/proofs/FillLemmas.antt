@@ -97,12 +97,15 @@ module _ {R : Type 0} {g : _} (count : R → ℕ) (slot : R → ℕ → Slot) (t
       none d is = let z : None ≡ Some d = ap named_out (sym all_in) ∙ is in cc
 
   -- so they can where the disk that is named out is left out
-  pub can_read_beside : CanCoreServe slot old → (out : Option ℕ) → named_out m.out ≡ out → CanRead (count (store_rack old.store)) (slot (store_rack old.store)) m out
-  can_read_beside serves out is = record {
+  pub can_read_but : CanCoreServe slot old → (out : Option ℕ) → ((d : ℕ) → named_out m.out ≡ Some d → out ≡ Some d) → CanRead (count (store_rack old.store)) (slot (store_rack old.store)) m out
+  can_read_but serves out is = record {
     enough = ready.enough;
-    spins = λ d low not. elim low [ inl l ↦ ready.spins d l (λ here. not (sym is ∙ here)) | inr l ↦ serves.spins d l (λ here. not (sym is ∙ here)) ];
-    large = λ d low not. elim low [ inl l ↦ ready.large d l (λ here. not (sym is ∙ here)) | inr l ↦ serves.large d l (λ here. not (sym is ∙ here)) ];
+    spins = λ d low not. elim low [ inl l ↦ ready.spins d l (λ here. not (is d here)) | inr l ↦ serves.spins d l (λ here. not (is d here)) ];
+    large = λ d low not. elim low [ inl l ↦ ready.large d l (λ here. not (is d here)) | inr l ↦ serves.large d l (λ here. not (is d here)) ];
   }
+
+  pub can_read_beside : CanCoreServe slot old → (out : Option ℕ) → named_out m.out ≡ out → CanRead (count (store_rack old.store)) (slot (store_rack old.store)) m out
+  can_read_beside serves out is = can_read_but serves out (λ d here. sym is ∙ here)
 
   abbrev was : ℕ → Slot
   was = slot (store_rack old.store)

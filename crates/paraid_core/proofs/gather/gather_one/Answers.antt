@@ -1,6 +1,6 @@
 use Rattle.paraid_txn.specs.Stores.{disks_of}
 use Rattle.paraid_view.proofs.ReadLemmas.{read_none}
-use Rattle.std.proofs.Common.{◌∙◌, None, sym, rules}
+use Rattle.std.proofs.Common.{◌∙◌, None, sym, rules, arith}
 use Rattle.paraid_base.proofs.SumsLemmas.{others_read, others_skip}
 use Rattle.paraid_base.specs.Soft.{soft_parity_disk}
 use Rattle.paraid_moves.specs.MoveMetas.{copies}
@@ -56,3 +56,6 @@ read_copy-requires g c = record {
   array = c.requires.array;
   ready = c.requires.ready;
 }
+
+pub put-requires : goal.put-requires
+put-requires g c = let low = c.requires.disk in let below = c.requires.region in let high = c.args.meta.now.setup.geometry.disks_high in omega (arith, low, below, high)

@@ -47,3 +47,13 @@ cell_at-requires g c = record {
   stripe_in = c.requires.stripe;
   index_in = c.index_among-index.ensures.low;
 }
+
+pub read_value-requires : goal.read_value-requires
+read_value-requires g c = record {
+  in_range = c.requires.in_range;
+  row = c.in-Some.ensures.row_in;
+  disk = c.in-Some.ensures.disk_in;
+  rows = c.requires.rows;
+  array = c.requires.array;
+  ready = c.requires.ready;
+}

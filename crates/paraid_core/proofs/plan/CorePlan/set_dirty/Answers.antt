@@ -1,4 +1,4 @@
-use Rattle.std.proofs.Common.{◌<◌, length, arith}
+use Rattle.std.proofs.Common.{◌<◌, length, arith, subst, sym, ℕ}
 use Rattle.paraid_dirty.specs.Table.{is_dirty}
 use Rattle.paraid_plan.specs.WriteTargets.{overlaid_blocks}
 use Rattle.paraid_txn.specs.Stores.{store_rack}
@@ -39,3 +39,18 @@ returns-clause-leads g c =
       over = stay.over;
       below = stay.below;
     }
+
+pub has-was-requires : goal.has-was-requires
+has-was-requires g c = record {
+  row = (subst (λ (n : ℕ). c.args.r < n) (sym c.requires.serves.rows) c.requires.row);
+  disk = let low = c.requires.disk in let high = c.args.m.now.setup.geometry.disks_high in omega (arith, low, high);
+}
+
+pub turn-requires : goal.turn-requires
+turn-requires g c = record {
+  row = (subst (λ (n : ℕ). c.args.r < n) (sym c.requires.serves.rows) c.requires.row);
+  disk = let low = c.requires.disk in let high = c.args.m.now.setup.geometry.disks_high in omega (arith, low, high);
+}
+
+pub push-requires : goal.push-requires
+push-requires g c = c.requires.few

@@ -1,5 +1,5 @@
 use Rattle.std.specs.Prelude.{◌≡◌, ◌≢◌, ℕ, ◌<◌, Some, None}
-use Rattle.std.proofs.Common.{◌∙◌, ap, refl, subst, sym}
+use Rattle.std.proofs.Common.{◌∙◌, ap, refl, subst, sym, arith}
 use Rattle.paraid_dirty.specs.Table.{is_dirty}
 use Rattle.paraid_image.specs.Standing.{Contents}
 use Rattle.paraid_plan.specs.WriteTargets.{overlaid_blocks}
@@ -49,4 +49,13 @@ returns-in_default g c = record {
       let serves = c.requires.serves in
       leads_read g.R.Rack.slot_count g.R.Rack.slot g.R.Rack.told old serves.whole c.read_laid.new.store None c.in_default.ensures.read (c.read_laid.ensures.off (named_out old.meta.out) (λ is. c.requires.not_out (serves.out ∙ is))) (λ e is. cc) old.failed
       serves.whole;
+}
+
+pub read_laid-requires : goal.read_laid-requires
+read_laid-requires g c = record {
+  exists = let low = c.requires.disk in let enough = c.requires.serves.ready.enough in omega (arith, low, enough);
+  below = let low = c.requires.disk in let array = c.requires.serves.array in omega (arith, low, array);
+  spinning = c.requires.serves.ready.spins c.args.disk c.requires.powered c.requires.not_out;
+  within = let large = c.requires.serves.ready.large c.args.disk c.requires.powered c.requires.not_out in let low = c.requires.place in omega (arith, large, low);
+  past_log = c.requires.past_log;
 }

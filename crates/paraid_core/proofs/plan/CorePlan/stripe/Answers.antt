@@ -4,7 +4,7 @@ use Rattle.paraid_dirty.specs.Table.{is_dirty}
 use Rattle.paraid_image.specs.Standing.{Contents}
 use Rattle.paraid_plan.specs.WriteTargets.{overlaid_blocks, stripe_block_now}
 use Rattle.paraid_txn.specs.Stores.{disks_of, store_rack}
-use Rattle.paraid_view.specs.Reads.{seen_by}
+use Rattle.paraid_view.specs.Reads.{seen_by, CanRead}
 use Rattle.paraid_core.specs.Plans.{base_of}
 use Rattle.paraid_core.proofs.PlanLemmas.{base_same, desk_same, shows_desk}
 use Rattle.paraid_image.specs.Out.{named_out}
@@ -52,4 +52,13 @@ returns-in_default g c = record {
       let serves = c.requires.serves in
       leads_read g.R.Rack.slot_count g.R.Rack.slot g.R.Rack.told old serves.whole c.read_stripe.new.store None c.in_default.ensures.read
       (off_same (named_out old.meta.out) c.named-out.result _ _ (sym serves.out ∙ sym c.named-out.ensures) c.read_stripe.ensures.off) (λ e is. cc) old.failed serves.whole;
+}
+
+pub read_stripe-requires : goal.read_stripe-requires
+read_stripe-requires g c = record {
+  in_range = c.requires.in_range;
+  stripe = c.requires.stripe;
+  disk = c.requires.disk;
+  array = c.requires.serves.array;
+  ready = subst (λ (o : Option ℕ). CanRead (g.R.Rack.slot_count (store_rack c.args.self.now.store)) (g.R.Rack.slot (store_rack c.args.self.now.store)) c.args.m.now o) (sym c.named-out.ensures) c.requires.serves.ready;
 }

@@ -5,7 +5,7 @@ use Rattle.paraid_image.specs.Standing.{Contents}
 use Rattle.paraid_plan.specs.WriteTargets.{overlaid_blocks}
 use Rattle.paraid_image.specs.Value.{value}
 use Rattle.paraid_txn.specs.Stores.{disks_of, store_rack}
-use Rattle.paraid_view.specs.Reads.{seen_by}
+use Rattle.paraid_view.specs.Reads.{seen_by, CanRead}
 use Rattle.paraid_core.specs.Plans.{base_of}
 use Rattle.paraid_core.proofs.PlanLemmas.{base_same, desk_same, shows_desk}
 use Rattle.std.proofs.Common.{None, sym}
@@ -54,4 +54,14 @@ returns-in_default g c = record {
       let serves = c.requires.serves in
       leads_read g.R.Rack.slot_count g.R.Rack.slot g.R.Rack.told old serves.whole c.read_value.new.store None c.in_default.ensures.read
       (off_same (named_out old.meta.out) c.named-out.result _ _ (sym serves.out ∙ sym c.named-out.ensures) c.read_value.ensures.off) (λ e is. cc) old.failed serves.whole;
+}
+
+pub read_value-requires : goal.read_value-requires
+read_value-requires g c = record {
+  in_range = c.requires.in_range;
+  row = c.requires.row;
+  disk = c.requires.disk;
+  rows = c.requires.serves.rows;
+  array = c.requires.serves.array;
+  ready = subst (λ (o : Option ℕ). CanRead (g.R.Rack.slot_count (store_rack c.args.self.now.store)) (g.R.Rack.slot (store_rack c.args.self.now.store)) c.args.m.now o) (sym c.named-out.ensures) c.requires.serves.ready;
 }

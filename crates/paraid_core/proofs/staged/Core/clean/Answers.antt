@@ -1,4 +1,4 @@
-use Rattle.std.proofs.Common.{◌≡◌, ℕ, ◌∙◌, false, refl, sym, ap, subst, rules}
+use Rattle.std.proofs.Common.{◌≡◌, ℕ, ◌∙◌, false, refl, sym, ap, subst, rules, arith, ◌<◌}
 use Rattle.paraid_dirty.specs.Table.{is_dirty}
 use Rattle.paraid_plan.proofs.LayLemmas.{changed_at}
 use Rattle.paraid_image.specs.Content.{view_by}
@@ -42,4 +42,13 @@ returns g c = record {
       (λ d l gone. c.requires.ready.absent d l (ap is_present (sym ((g.met.R.Rack.agrees (store_rack old.store) t tells).power d)) ∙ gone)) k c.args.r c.args.d c.requires.row c.requires.disk c.requires.rises c.requires.whole map
       c.clear.ensures.cells c.map_block.ensures draft_is
       (c.take.ensures.laid_same (subst (ArePlaced m) (sym {b = sync_targets v c.args.r c.args.d map} draft_is) (sync_placed v c.args.r c.args.d map c.requires.ready.in_range c.requires.row c.requires.disk c.requires.rises c.requires.whole))) c.take.ensures.grows;
+}
+
+pub hard_place-requires : goal.hard_place-requires
+hard_place-requires g c = c.requires.row
+
+pub clear-requires : goal.clear-requires
+clear-requires g c = record {
+  row = subst (λ (n : ℕ). c.args.r < n) (sym c.requires.ready.rows_are) c.requires.row;
+  disk = let low = c.requires.disk in let high = c.args.self.now.meta.setup.geometry.disks_high in omega (arith, low, high);
 }

@@ -1,6 +1,6 @@
 use Rattle.paraid_record.specs.declared.meta.Meta.{Meta}
 use Rattle.paraid_core.specs.Cleaning.{CleansCell}
-use Rattle.std.proofs.Common.{◌∙◌, arith, refl, rules, sym, subst}
+use Rattle.std.proofs.Common.{◌∙◌, arith, refl, rules, sym, subst, ℕ, ◌<◌}
 use Rattle.paraid_core.proofs.BitsLemmas.{cell_cleaned, cell_kept}
 use Rattle.paraid_core.proofs.staged.Core.clean_in_room.Goals as goal
 
@@ -50,4 +50,10 @@ returns g c = record {
   ready = c.clean.ensures.ready;
   serves = c.clean.ensures.serves;
   stands = c.clean.ensures.stands;
+}
+
+pub cleans-requires : goal.cleans-requires
+cleans-requires g c = record {
+  row = subst (λ (n : ℕ). c.args.r < n) (sym c.requires.ready.rows_are) c.requires.row;
+  disk = let low = c.requires.disk in let high = c.args.self.now.meta.setup.geometry.disks_high in omega (arith, low, high);
 }

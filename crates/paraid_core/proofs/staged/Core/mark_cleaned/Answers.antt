@@ -1,5 +1,5 @@
 use Rattle.std.specs.Prelude.{ℕ, ◌/◌}
-use Rattle.std.proofs.Common.{◌≡◌, ◌∙◌, sym, ap, subst, arith, rules, refl}
+use Rattle.std.proofs.Common.{◌≡◌, ◌∙◌, sym, ap, subst, arith, rules, refl, ◌<◌}
 use Rattle.paraid_image.specs.Content.{view_by}
 use Rattle.paraid_image.specs.Spot.{View}
 use Rattle.paraid_image.specs.Standing.{contents}
@@ -47,4 +47,10 @@ returns g c = record {
       (λ d l gone. q.ready.absent d l (ap is_present (sym ((g.met.R.Rack.agrees (store_rack old.store) t tells).power d)) ∙ gone)) k c.args.r c.args.d q.row (disk_in m c.args.d q.ready.in_range q.rises) q.rises q.dirty here map
       c.clear.ensures.cells c.map_block.ensures draft_is
       (c.take.ensures.laid_same (subst (ArePlaced m) (sym {b = map_targets m (c.args.r / 512) map} draft_is) (map_placed v q.ready.in_range (c.args.r / 512) map (omega arith)))) c.take.ensures.grows);
+}
+
+pub clear-requires : goal.clear-requires
+clear-requires g c = record {
+  row = subst (λ (n : ℕ). c.args.r < n) (sym c.requires.ready.rows_are) c.requires.row;
+  disk = let low = disk_in c.args.self.now.meta c.args.d c.requires.ready.in_range c.requires.rises in let high = c.args.self.now.meta.setup.geometry.disks_high in omega (arith, low, high);
 }

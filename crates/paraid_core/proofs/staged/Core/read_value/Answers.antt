@@ -1,3 +1,4 @@
+use Rattle.paraid_core.proofs.FillLemmas.{can_read_but}
 use Rattle.std.proofs.Common.{inl, ◌++◌, ◌≡◌, ℕ, ◌∙◌, Some, None, sym, ap, subst, Option, ◌<◌, rules, refl}
 use Rattle.paraid_rack.specs.Trail.{now}
 use Rattle.paraid_txn.specs.Stores.{disks_of, named_of, store_rack}
@@ -204,4 +205,14 @@ returns-in_err-lose g c = record {
       reads_moments (g.R.Rack.slot_count (store_rack old.store)) (named_of old.store) old.meta old.dirty old.batch old.copied h lo (named_of old.store) (λ d is. is) (disks_of old.store) _ _ (sym c.requires.ready.array_is) c.in_ok-lost.ensures.read.calls;
   since = none_done _ c.from_residual-in_err-lose.result _ c.from_residual-in_err-lose.ensures.1;
   value = none_done _ c.from_residual-in_err-lose.result _ c.from_residual-in_err-lose.ensures.1;
+}
+
+pub read_cell-requires : goal.read_cell-requires
+read_cell-requires g c = record {
+  in_range = c.requires.ready.in_range;
+  row = c.requires.row;
+  disk = c.requires.disk;
+  rows = c.requires.ready.rows_are;
+  array = c.requires.ready.array_is;
+  ready = can_read_but g.R.Rack.slot_count g.R.Rack.slot g.R.Rack.told c.args.self.now c.requires.ready c.requires.serves (out_disk (λ e. (g.R.Rack.slot (store_rack c.args.self.now.store) e).power) c.args.self.now.meta) (named_is_out (λ e. (g.R.Rack.slot (store_rack c.args.self.now.store) e).power) c.args.self.now.meta);
 }

@@ -70,3 +70,15 @@ returns-then-is_passed g c = record {
   lost = λ is. done_not_dropped _ _ refl is;
   moments = λ h lo. unit_stays_held g.R.Rack.slot_count g.R.Rack.told c.args.self.now c.args.number h lo;
 }
+
+pub fresh_disk-disk-requires : goal.fresh_disk-disk-requires
+fresh_disk-disk-requires g c = record {
+  out = c.requires.out;
+  back = c.requires.back;
+}
+
+pub unit_of-unit-requires : goal.unit_of-unit-requires
+unit_of-unit-requires g c = record {
+  in_range = c.requires.ready.in_range;
+  number = c.requires.unit c.fresh_disk-disk.result (rebuilding_named c.args.self.now.meta c.fresh_disk-disk.result c.fresh_disk-disk.ensures);
+}

@@ -1,5 +1,5 @@
 use Rattle.std.proofs.lemmas.Result.{on_ok_weaker}
-use Rattle.std.proofs.Common.{◌≢◌, ◌∙◌, refl, sym, inl, rules}
+use Rattle.std.proofs.Common.{◌≢◌, ◌∙◌, refl, sym, inl, rules, arith}
 use Rattle.paraid_rack.specs.declared.call.Power.TheVariants.{Spinning}
 use Rattle.paraid_txn.specs.Stores.{store_rack}
 use Rattle.paraid_core.proofs.SettleCellLemmas.{copied_marked, copied_none}
@@ -95,3 +95,6 @@ sync_disk-requires g c = record {
   disk = c.requires.disk;
   spins = sym c.power.ensures ∙ c.is_spinning.ensures.spins c.if-not-is_spinning.false;
 }
+
+pub power-requires : goal.power-requires
+power-requires g c = let low = c.requires.disk in let enough = c.requires.ready.enough in omega (arith, low, enough)

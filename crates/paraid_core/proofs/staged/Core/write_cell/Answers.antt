@@ -156,3 +156,6 @@ write_free-answer-requires g c = record {
   spinning = c.requires.serves.spins c.args.disk c.requires.rises (λ named. let z : None ≡ Some c.args.disk = ap named_out (sym c.requires.whole) ∙ named in cc);
   within = let large = c.requires.serves.large c.args.disk c.requires.rises (λ named. let z : None ≡ Some c.args.disk = ap named_out (sym c.requires.whole) ∙ named in cc) in let fits = hard_place_below c.args.self.now.meta.setup.geometry c.args.r c.requires.row in let place = c.hard_place-place.ensures.value in omega (arith, large, fits, place);
 }
+
+pub hard_place-place-requires : goal.hard_place-place-requires
+hard_place-place-requires g c = c.requires.row
