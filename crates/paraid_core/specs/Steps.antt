@@ -12,7 +12,7 @@ use Rattle.paraid_image.specs.Out.{named_out}
 use Rattle.paraid_txn.specs.Losses.{OnlyLosesSlots}
 use Rattle.paraid_txn.specs.Stores.{IsSameStore, named_of, store_rack}
 use Rattle.paraid_core.specs.Cores.{IsCoreHeldSinceCommit, IsCoreReady, CanCoreServe, CoreStandsFor}
-use Rattle.paraid_core.specs.CoreInvariant.{is_copied, meta_with_lost}
+use Rattle.paraid_core.specs.CoreInvariant.{is_copied, lost_in, meta_with_lost}
 use Rattle.paraid_core.specs.declared.staged.Core.{Core}
 
 -- the meta is as it was, but for the marks of a disk that was lost while no other one was out
@@ -20,6 +20,11 @@ pub record IsMarkedFrom (m new : Meta) : Type 0 where
   pub lost : Option ℕ
   pub is : new ≡ meta_with_lost lost m
   pub alone : (d x : ℕ) → lost ≡ Some d → named_out m.out ≡ Some x → x ≡ d
+
+-- this disk was lost, and no other one is out
+pub record IsPutOut (m new : Meta) (disk : ℕ) : Type 0 where
+  pub marked : new ≡ meta_with_lost (lost_in m (Some disk)) m
+  pub alone : (d x : ℕ) → Some disk ≡ Some d → named_out m.out ≡ Some x → d < m.setup.geometry.disks → x ≡ d
 
 -- the disk that the last commit names out is out still
 abbrev pub IsStillOut : Option ℕ → Meta → Type 0

@@ -17,7 +17,7 @@ ghost use Rattle.paraid_image.specs.Out.{named_out as named_out_of};
 ghost use Rattle.paraid_core.specs.Lost.{CoreLosesDisk, CoreMarksLost, CoreTellsLosses};
 
 use crate::fill::mark;
-use crate::staged::{Core, lose};
+use crate::staged::{Core, put_out};
 use paraid_base::{Block, DiskNo, Row, Two};
 use paraid_layout::hard_place;
 use paraid_rack::Rack;
@@ -70,8 +70,7 @@ impl<R: Rack> Core<R> {
         let Err(_) = answer else {
             return Ok(true);
         };
-        lose(&mut self.meta, Some(disk))?;
-        Ok(false)
+        put_out(&mut self.meta, disk)
     }
 
     /// Copies the value of a dirty cell of a disk that comes up past the log to its hard place, with one
@@ -129,8 +128,7 @@ impl<R: Rack> Core<R> {
         ) else {
             return self.write_cell(r, disk, &value);
         };
-        lose(&mut self.meta, Some(lost))?;
-        Ok(false)
+        put_out(&mut self.meta, lost)
     }
 }
 

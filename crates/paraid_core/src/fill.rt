@@ -19,7 +19,7 @@ ghost use Rattle.paraid_image.specs.Out.{named_out as named_out_of};
 ghost use Rattle.paraid_core.specs.Lost.{CoreLosesDisk, CoreMarksLost, CoreTellsLosses};
 
 use crate::gather::gather;
-use crate::staged::{Core, lose};
+use crate::staged::{Core, put_out};
 use paraid_base::{Block, DiskNo, Place, Two};
 use paraid_layout::soft_place;
 use paraid_rack::Rack;
@@ -95,8 +95,7 @@ impl<R: Rack> Core<R> {
         let Err(_) = answer else {
             return Ok(true);
         };
-        lose(&mut self.meta, Some(disk))?;
-        Ok(false)
+        put_out(&mut self.meta, disk)
     }
 
     // Writes the blocks of stripe `s` in ascending order of disks. False where a disk was lost.
@@ -211,7 +210,6 @@ impl<R: Rack> Core<R> {
         ) else {
             return self.write_members(s, &blocks);
         };
-        lose(&mut self.meta, Some(disk))?;
-        Ok(false)
+        put_out(&mut self.meta, disk)
     }
 }

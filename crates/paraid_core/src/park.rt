@@ -16,7 +16,7 @@ ghost use Rattle.paraid_core.specs.Lost.{CoreTellsLosses};
 ghost use Rattle.paraid_core.specs.Calls.{MakesOneCall};
 ghost use Rattle.paraid_rack.specs.declared.call.Call.TheVariants.{Park, SpinUp};
 
-use crate::staged::{Core, lose};
+use crate::staged::{Core, put_out};
 use paraid_base::{DiskNo, Two};
 use paraid_rack::Rack;
 
@@ -83,8 +83,7 @@ impl<R: Rack> Core<R> {
         let Err(_) = self.store.park(disk) else {
             return Ok(true);
         };
-        lose(&mut self.meta, Some(disk))?;
-        Ok(false)
+        put_out(&mut self.meta, disk)
     }
 
     /// Spins up a disk of the gear that a shift up goes to, while nothing is staged. True once it
@@ -148,7 +147,6 @@ impl<R: Rack> Core<R> {
         let Err(_) = self.store.spin_up(disk) else {
             return Ok(true);
         };
-        lose(&mut self.meta, Some(disk))?;
-        Ok(false)
+        put_out(&mut self.meta, disk)
     }
 }

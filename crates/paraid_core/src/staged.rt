@@ -1,4 +1,4 @@
-ghost use Rattle.std.specs.Prelude.{◌≡◌, ◌≢◌, ℕ, ◌+◌, ◌-◌, ◌^◌, ◌<◌, ◌≤◌, [], length, Option, Some, None, OnOk, IfErr, IsSome, false};
+ghost use Rattle.std.specs.Prelude.{◌≡◌, ◌≢◌, ℕ, ◌+◌, ◌-◌, ◌^◌, ◌<◌, ◌≤◌, [], length, Option, Some, None, Ok, OnOk, IfErr, IsSome, true, false};
 ghost use Rattle.paraid_base.specs.History.{History, after_all as held_by};
 ghost use Rattle.paraid_rack.specs.Told.{Ran, CrashTriple};
 ghost use Rattle.paraid_rack.specs.Trail.{Trail, now};
@@ -8,7 +8,7 @@ ghost use Rattle.paraid_txn.specs.Stores.{IsSameStore, disks_of, epoch_of, named
 ghost use Rattle.paraid_core.specs.Steps.{AreUnsyncedCopied};
 ghost use Rattle.paraid_core.specs.Fills.{Filled};
 ghost use Rattle.paraid_core.specs.Replaced.{CoreCommitted, HaveComeUp};
-ghost use Rattle.paraid_core.specs.Steps.{IsMarkedFrom, IsNamedOrAbsent};
+ghost use Rattle.paraid_core.specs.Steps.{IsMarkedFrom, IsNamedOrAbsent, IsPutOut};
 ghost use Rattle.paraid_core.specs.CoreInvariant.{AreCopiesSynced, lost_in, meta_with_lost};
 ghost use Rattle.paraid_image.specs.Out.{named_out as named_out_of};
 ghost use Rattle.paraid_core.specs.Calls.{CommitsWhole, MakesDataCalls, MakesTransferCalls, RestsCommitted};
@@ -64,6 +64,17 @@ pub(crate) fn lose(meta: &mut Meta, lost: Option<DiskNo>) -> Result<(), Two>
         ..*meta
     };
     Ok(())
+}
+
+// A disk has failed, and what was asked of it is not done: it is out from now on, unless another one is.
+pub(crate) fn put_out(meta: &mut Meta, disk: DiskNo) -> Result<bool, Two>
+    ensures never { result ≡ Ok true → ⊥ }
+    ensures out { OnOk result (IsPutOut meta.old meta.new disk) }
+    ensures two { IfErr result (λ two. (Some disk ≡ Some two.second)
+        × (named_out_of meta.old.out ≡ Some two.first) × (two.first ≢ two.second)) }
+{
+    lose(meta, Some(disk))?;
+    Ok(false)
 }
 
 impl<R: Rack> Core<R> {

@@ -26,7 +26,7 @@ ghost use Rattle.paraid_core.specs.Calls.{MakesDataCalls};
 ghost use Rattle.paraid_core.specs.Lost.{CoreMarksLost, CoreTellsLosses};
 
 use crate::fill::mark;
-use crate::staged::{Core, lose};
+use crate::staged::{Core, put_out};
 use paraid_base::{Block, DiskNo, Out, Place, Two};
 use paraid_dirty::DirtyTable;
 use paraid_layout::{hard_place, soft_place};
@@ -210,8 +210,7 @@ impl<R: Rack> Core<R> {
         let Err(_) = answer else {
             return Ok(true);
         };
-        lose(&mut self.meta, Some(disk))?;
-        Ok(false)
+        put_out(&mut self.meta, disk)
     }
 
     // Reads what a unit stores, and writes it.

@@ -16,7 +16,7 @@ ghost use Rattle.paraid_rack.specs.declared.call.Call.TheVariants.{Read};
 ghost use Rattle.paraid_image.specs.Out.{named_out as named_out_of};
 ghost use Rattle.paraid_core.specs.Lost.{CoreMarksLost, CoreTellsLosses, MakesReads};
 
-use crate::staged::{Core, lose};
+use crate::staged::{Core, lose, put_out};
 use paraid_base::{Block, DiskNo, Place, Row, Two};
 use paraid_rack::Rack;
 use paraid_view::read_cell;
@@ -129,7 +129,6 @@ impl<R: Rack> Core<R> {
         let Err(_) = self.store.read(disk, place, into) else {
             return Ok(true);
         };
-        lose(&mut self.meta, Some(disk))?;
-        Ok(false)
+        put_out(&mut self.meta, disk)
     }
 }

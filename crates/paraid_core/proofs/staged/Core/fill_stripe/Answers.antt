@@ -1,3 +1,5 @@
+use Rattle.std.proofs.lemmas.Result.{IfErr-weaker, IfOk-at_ok, on_ok_weaker}
+use Rattle.paraid_core.specs.Steps.{IsPutOut}
 use Rattle.std.proofs.lemmas.Result.{IfErr-weaker, on_ok_weaker}
 use Rattle.paraid_base.specs.Regions.{IsGear}
 use Rattle.paraid_base.specs.Soft.{stripe_count}
@@ -75,46 +77,26 @@ returns-in_default g c = record {
 
 pub returns : goal.returns
 returns g c = record {
-  leaves =
-      gather_lost_leaves g.R.Rack.slot_count g.R.Rack.slot g.R.Rack.told c.args.self.now c.requires.ready c.gather.new.store c.in-Err.disk c.in-Err.ensures.read c.in-Err.ensures.below c.requires.whole c.requires.serves.stays c.lose.new.meta
-      c.in_ok-lose.ensures.marked;
-  same = λ is. done_not_dropped _ _ is refl;
-  spared = left_spared _ _ _ c.in-Err.ensures.read.left;
-  two = tt;
-  tells = tt;
-  calls = calls_whole _ _ _ (sym c.requires.ready.array_is) (ap gone_out c.requires.whole) _ _ c.in-Err.ensures.read.calls;
-  marks =
-      let m = c.args.self.now.meta in
-      let low : (d : ℕ) → Some c.in-Err.disk ≡ Some d → d < m.setup.geometry.disks =
-      (λ d is. subst (λ (z : ℕ). z < m.setup.geometry.disks) (some_is c.in-Err.disk d is) (subst (λ (z : ℕ). c.in-Err.disk < z) (sym c.requires.ready.array_is) c.in-Err.ensures.below)) in
-      marks_read m c.lose.new.meta (Some c.in-Err.disk) _ _ m.epoch m.writes c.in-Err.ensures.read.left c.in_ok-lose.ensures.marked low (λ d x is k. c.in_ok-lose.ensures.alone d x is k (low d is));
-  filled = λ is. done_not_dropped _ _ is refl;
-  failed = λ is.
-      loses_read c.args.self.now.meta c.lose.new.meta c.in-Err.disk _ _ c.in-Err.ensures.read.left c.in_ok-lose.ensures.marked
-      (subst (λ (z : ℕ). c.in-Err.disk < z) (sym c.requires.ready.array_is) c.in-Err.ensures.below);
-  lost = λ is h lo.
-      gather_lost_stands g.R.Rack.slot_count g.R.Rack.slot g.R.Rack.told c.args.self.now c.requires.ready c.gather.new.store c.in-Err.disk c.in-Err.ensures.read c.in-Err.ensures.below c.requires.whole c.requires.serves.stays c.lose.new.meta
-      c.in_ok-lose.ensures.marked c.requires.nothing (g.met.R.Rack.agrees (store_rack c.args.self.now.store)) (g.met.R.Rack.agrees (store_rack c.gather.new.store)) (g.met.R.Rack.slots_hold (store_rack c.gather.new.store)).absent c.args.s h lo;
-  moments = λ h lo. gather_held g.R.Rack.slot_count g.R.Rack.slot g.R.Rack.told c.args.self.now c.requires.ready _ c.in-Err.ensures.read.calls c.args.s h lo;
-}
-
-pub returns-in_err-lose : goal.returns-in_err-lose
-returns-in_err-lose g c = record {
-  leaves = none_done _ c.from_residual.result _ c.from_residual.ensures.1;
-  same = λ is. none_done_as _ c.from_residual.result _ _ c.from_residual.ensures.1 is;
+  leaves = on_ok_weaker c.put_out.result (λ put. gather_lost_leaves g.R.Rack.slot_count g.R.Rack.slot g.R.Rack.told c.args.self.now c.requires.ready c.gather.new.store c.in-Err.disk c.in-Err.ensures.read c.in-Err.ensures.below c.requires.whole c.requires.serves.stays c.put_out.new.meta
+      put.marked) c.put_out.ensures.out;
+  same = λ is. absurd (c.put_out.ensures.never is);
   spared = left_spared _ _ _ c.in-Err.ensures.read.left;
   two =
       let old = c.args.self.now in
-      handed _ c.from_residual.result _ c.from_residual.ensures.1
-      (two_lost (named_of old.store) (named_out old.meta.out) _ _ c.in-Err.disk _ c.requires.serves.stays (c.in-Err.ensures.read.left.failed _ refl).risen c.in_err-lose.ensures.two);
-  tells =
-      handed (λ two. Ran (g.R.Rack.told (store_rack c.args.self.now.store)) (g.R.Rack.told (store_rack c.gather.new.store)) (λ s cs. TellsLosses (named_out c.args.self.now.meta.out) two cs)) c.from_residual.result _ c.from_residual.ensures.1
-      (lose_tells (named_out c.args.self.now.meta.out) (Some c.in-Err.disk) _ _ _ c.in_err-lose.ensures.two c.in-Err.ensures.read.first);
+      IfErr-weaker c.put_out.result _ _ (λ two down. two_lost (named_of old.store) (named_out old.meta.out) _ _ c.in-Err.disk _ c.requires.serves.stays (c.in-Err.ensures.read.left.failed _ refl).risen down) c.put_out.ensures.two;
+  tells = IfErr-weaker c.put_out.result _ _ (λ two down. lose_tells (named_out c.args.self.now.meta.out) (Some c.in-Err.disk) _ _ _ down c.in-Err.ensures.read.first) c.put_out.ensures.two;
   calls = calls_whole _ _ _ (sym c.requires.ready.array_is) (ap gone_out c.requires.whole) _ _ c.in-Err.ensures.read.calls;
-  marks = none_done _ c.from_residual.result _ c.from_residual.ensures.1;
-  filled = λ is. none_done_as _ c.from_residual.result _ _ c.from_residual.ensures.1 is;
-  failed = λ is. none_done_as _ c.from_residual.result _ _ c.from_residual.ensures.1 is;
-  lost = λ is. none_done_as _ c.from_residual.result _ _ c.from_residual.ensures.1 is;
+  marks = on_ok_weaker c.put_out.result (λ put. let m = c.args.self.now.meta in
+      let low : (d : ℕ) → Some c.in-Err.disk ≡ Some d → d < m.setup.geometry.disks =
+      (λ d is. subst (λ (z : ℕ). z < m.setup.geometry.disks) (some_is c.in-Err.disk d is) (subst (λ (z : ℕ). c.in-Err.disk < z) (sym c.requires.ready.array_is) c.in-Err.ensures.below)) in
+      marks_read m c.put_out.new.meta (Some c.in-Err.disk) _ _ m.epoch m.writes c.in-Err.ensures.read.left put.marked low (λ d x is k. put.alone d x is k (low d is))) c.put_out.ensures.out;
+  filled = λ is. absurd (c.put_out.ensures.never is);
+  failed = λ is. let put : IsPutOut c.args.self.now.meta c.put_out.new.meta c.in-Err.disk = IfOk-at_ok _ is c.put_out.ensures.out in
+      loses_read c.args.self.now.meta c.put_out.new.meta c.in-Err.disk _ _ c.in-Err.ensures.read.left put.marked
+      (subst (λ (z : ℕ). c.in-Err.disk < z) (sym c.requires.ready.array_is) c.in-Err.ensures.below);
+  lost = λ is h lo. let put : IsPutOut c.args.self.now.meta c.put_out.new.meta c.in-Err.disk = IfOk-at_ok _ is c.put_out.ensures.out in
+      gather_lost_stands g.R.Rack.slot_count g.R.Rack.slot g.R.Rack.told c.args.self.now c.requires.ready c.gather.new.store c.in-Err.disk c.in-Err.ensures.read c.in-Err.ensures.below c.requires.whole c.requires.serves.stays c.put_out.new.meta
+      put.marked c.requires.nothing (g.met.R.Rack.agrees (store_rack c.args.self.now.store)) (g.met.R.Rack.agrees (store_rack c.gather.new.store)) (g.met.R.Rack.slots_hold (store_rack c.gather.new.store)).absent c.args.s h lo;
   moments = λ h lo. gather_held g.R.Rack.slot_count g.R.Rack.slot g.R.Rack.told c.args.self.now c.requires.ready _ c.in-Err.ensures.read.calls c.args.s h lo;
 }
 

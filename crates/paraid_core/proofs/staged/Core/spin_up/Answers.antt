@@ -1,3 +1,5 @@
+use Rattle.std.proofs.lemmas.Result.{IfErr-weaker, IfOk-at_ok, on_ok_weaker}
+use Rattle.paraid_core.specs.Steps.{IsPutOut}
 use Rattle.std.proofs.Common.{◌≡◌, ℕ, ◌∙◌, ◌<◌, None, Some, sym, ap, subst, refl, false, inl, inr, arith}
 use Rattle.std.proofs.lemmas.Bool.{cases_eq, false≢true}
 use Rattle.paraid_base.specs.States.{gone_out}
@@ -30,10 +32,10 @@ use Rattle.paraid_core.proofs.TurnLemmas.{only_turns}
 use Rattle.paraid_core.proofs.UnsyncedLemmas.{gone_still}
 use Rattle.paraid_core.proofs.staged.Core.spin_up.Goals as goal
 use Rattle.paraid_core.proofs.ErrLemmas.{done_not_dropped, none_done, none_done_as, two_lost}
-use Rattle.paraid_core.proofs.staged.Core.spin_up.Goals.{In_ok-lose}
+use Rattle.paraid_core.proofs.staged.Core.spin_up.Goals.{After-put_out}
 
 -- it failed, and no other disk is out
-module _ (g : Over) (c : In_ok-lose g) where
+module _ (g : Over) (c : After-put_out g) (put : IsPutOut c.args.self.now.meta c.put_out.new.meta c.args.disk) where
   abbrev old : Core g.row.R.Denot g.R.Rack
   old = c.args.self.now
 
@@ -43,11 +45,11 @@ module _ (g : Over) (c : In_ok-lose g) where
   is_lost : lost_in old.meta (Some c.args.disk) ≡ Some c.args.disk
   is_lost = lost_in_there old.meta (Some c.args.disk) c.args.disk c.requires.disk refl
 
-  meta_is : c.lose.new.meta ≡ meta_after_loss old.meta c.args.disk
-  meta_is = c.in_ok-lose.ensures.marked ∙ ap (λ (o : Option ℕ). meta_with_lost o old.meta) is_lost
+  meta_is : c.put_out.new.meta ≡ meta_after_loss old.meta c.args.disk
+  meta_is = put.marked ∙ ap (λ (o : Option ℕ). meta_with_lost o old.meta) is_lost
 
   alone : (x : ℕ) → named_out old.meta.out ≡ Some x → x ≡ c.args.disk
-  alone x is = c.in_ok-lose.ensures.alone c.args.disk x refl is c.requires.disk
+  alone x is = put.alone c.args.disk x refl is c.requires.disk
 
   only : IsLostOnly old.meta.setup.geometry.disks (lost_in old.meta (Some c.args.disk)) (g.R.Rack.slot (store_rack old.store)) (g.R.Rack.slot (store_rack c.spin_up.new.self))
   only = subst (λ (o : Option ℕ). IsLostOnly old.meta.setup.geometry.disks o (g.R.Rack.slot (store_rack old.store)) (g.R.Rack.slot (store_rack c.spin_up.new.self))) (sym is_lost) (record {
@@ -62,106 +64,69 @@ module _ (g : Over) (c : In_ok-lose g) where
   low_in : (d : ℕ) → lost_in old.meta (Some c.args.disk) ≡ Some d → d < old.meta.setup.geometry.disks
   low_in d is = subst (λ (e : ℕ). e < old.meta.setup.geometry.disks) (some_is c.args.disk d (sym is_lost ∙ is)) c.requires.disk
 
-pub returns-in_err-lose : goal.returns-in_err-lose
-returns-in_err-lose g c = record {
-  slots = c.spin_up.ensures.slots;
-  others = c.spin_up.ensures.slot.others;
-  spins = λ is. none_done_as _ c.from_residual.result _ _ c.from_residual.ensures.1 is;
-  size = λ is. none_done_as _ c.from_residual.result _ _ c.from_residual.ensures.1 is;
-  meta = none_done _ c.from_residual.result _ c.from_residual.ensures.1;
-  same = λ is. none_done_as _ c.from_residual.result _ _ c.from_residual.ensures.1 is;
-  ready = none_done _ c.from_residual.result _ c.from_residual.ensures.1;
-  serves = none_done _ c.from_residual.result _ c.from_residual.ensures.1;
-  store = c.spin_up.ensures.same;
-  table = refl;
-  batch = refl;
-  copied = refl;
-  draft = refl;
-  unsynced = none_done _ c.from_residual.result _ c.from_residual.ensures.1;
-  turned =
-      let old = c.args.self.now in
-      only_turns (g.R.Rack.slot (store_rack old.store)) _ c.args.disk _ _ _ c.spin_up.ensures.slot (ap is_present c.requires.parked) refl refl;
-  risen = none_done _ c.from_residual.result _ c.from_residual.ensures.1;
-  gone = λ is. none_done_as _ c.from_residual.result _ _ c.from_residual.ensures.1 is;
-  failed = λ is. none_done_as _ c.from_residual.result _ _ c.from_residual.ensures.1 is;
-  absent = none_done _ c.from_residual.result _ c.from_residual.ensures.1;
-  two =
-      let old = c.args.self.now in
-      handed _ c.from_residual.result _ c.from_residual.ensures.1 (two_lost (named_of old.store) (named_out old.meta.out) _ _ c.args.disk _ c.requires.still (c.spin_up.ensures.slot.risen (ap is_ok c.in-Err.is)) c.in_err-lose.ensures.two);
-  tells =
-      handed (λ two. Ran (g.R.Rack.told (store_rack c.args.self.now.store)) (g.R.Rack.told (store_rack c.spin_up.new.self)) (λ s cs. TellsLosses (named_out c.args.self.now.meta.out) two cs)) c.from_residual.result _ c.from_residual.ensures.1
-      (call_tells (named_out c.args.self.now.meta.out) _ (SpinUp c.args.disk (is_ok c.spin_up.result)) _ _ c.spin_up.ensures.told (ap is_ok c.in-Err.is) c.in_err-lose.ensures.two);
-  calls = one_call _ _ _ (is_ok c.spin_up.result) c.spin_up.ensures.told (λ t tells. (g.met.R.Rack.agrees (store_rack c.args.self.now.store) t tells).power c.args.disk ∙ c.requires.parked);
-  done = λ is. none_done_as _ c.from_residual.result _ _ c.from_residual.ensures.1 is;
-  lost = λ is. none_done_as _ c.from_residual.result _ _ c.from_residual.ensures.1 is;
-  lost_filled = λ is. none_done_as _ c.from_residual.result _ _ c.from_residual.ensures.1 is;
-  moments = λ h lo.
-      let q = c.requires in
-      spin_held g.R.Rack.slot_count g.R.Rack.slot g.R.Rack.told c.args.self.now _ c.args.disk _ c.spin_up.ensures.told (g.met.R.Rack.agrees (store_rack c.args.self.now.store)) q.parked q.disk h lo;
-}
-
 pub returns : goal.returns
 returns g c = record {
   slots = c.spin_up.ensures.slots;
   others = c.spin_up.ensures.slot.others;
-  spins = λ is. done_not_dropped _ _ is refl;
-  size = λ is. done_not_dropped _ _ is refl;
-  meta = record { lost = Some c.args.disk; is = meta_is g c; alone = λ d x is k. alone g c x k ∙ some_is c.args.disk d is };
-  same = λ is. done_not_dropped _ _ is refl;
-  ready =
-      let spin = c.spin_up.ensures in
-      ready_moved _ _ _ _ _ _ _ _ _ (meta_with_lost (lost_in c.args.self.now.meta (Some c.args.disk)) c.args.self.now.meta) _ _ _ spin.slots spin.same.epoch spin.same.disks spin.same.named c.in_ok-lose.ensures.marked
-      (ready_after _ _ _ _ _ _ c.args.self.now.meta _ _ c.requires.ready (Some c.args.disk) (only g c) (alone_in g c) (λ d x is k. alone_in g c d x is (c.requires.still x k)) (low_in g c));
-  serves = λ up.
+  spins = λ is. absurd (c.put_out.ensures.never is);
+  size = λ is. absurd (c.put_out.ensures.never is);
+  meta = on_ok_weaker c.put_out.result (λ put. record { lost = Some c.args.disk; is = meta_is g c put; alone = λ d x is k. alone g c put x k ∙ some_is c.args.disk d is }) c.put_out.ensures.out;
+  same = λ is. absurd (c.put_out.ensures.never is);
+  ready = on_ok_weaker c.put_out.result (λ put. let spin = c.spin_up.ensures in
+      ready_moved _ _ _ _ _ _ _ _ _ (meta_with_lost (lost_in c.args.self.now.meta (Some c.args.disk)) c.args.self.now.meta) _ _ _ spin.slots spin.same.epoch spin.same.disks spin.same.named put.marked
+      (ready_after _ _ _ _ _ _ c.args.self.now.meta _ _ c.requires.ready (Some c.args.disk) (only g c put) (alone_in g c put) (λ d x is k. alone_in g c put d x is (c.requires.still x k)) (low_in g c put))) c.put_out.ensures.out;
+  serves = on_ok_weaker c.put_out.result (λ put. λ up.
       let old = c.args.self.now in
-      subst (λ (z : Option ℕ). CanServe (g.R.Rack.slot (store_rack c.spin_up.new.self)) z c.lose.new.meta) (sym c.spin_up.ensures.same.named)
-      (subst (λ (z : Meta). CanServe (g.R.Rack.slot (store_rack c.spin_up.new.self)) (named_of old.store) z) (sym (meta_is g c))
+      subst (λ (z : Option ℕ). CanServe (g.R.Rack.slot (store_rack c.spin_up.new.self)) z c.put_out.new.meta) (sym c.spin_up.ensures.same.named)
+      (subst (λ (z : Meta). CanServe (g.R.Rack.slot (store_rack c.spin_up.new.self)) (named_of old.store) z) (sym (meta_is g c put))
       (lost_serves (g.R.Rack.slot (store_rack old.store)) (g.R.Rack.slot (store_rack c.spin_up.new.self)) (named_of old.store) old.meta c.args.disk up c.spin_up.ensures.slot.others
-      (λ x is. c.in_ok-lose.ensures.alone c.args.disk x refl is c.requires.disk) c.requires.still));
+      (λ x is. put.alone c.args.disk x refl is c.requires.disk) c.requires.still))) c.put_out.ensures.out;
   store = c.spin_up.ensures.same;
   table = refl;
   batch = refl;
   copied = refl;
   draft = refl;
-  unsynced = λ was d low stays here wet.
+  unsynced = on_ok_weaker c.put_out.result (λ put. λ was d low stays here wet.
       let m = c.args.self.now.meta in
       let slot = c.spin_up.ensures.slot in
       elim (cases_eq d c.args.disk) [
-        | inl is ↦ absurd (false≢true (sym (ap is_present (ap (λ (e : ℕ). (g.R.Rack.slot (store_rack c.spin_up.new.self) e).power) is ∙ slot.absent (failed g c))) ∙ here))
+        | inl is ↦ absurd (false≢true (sym (ap is_present (ap (λ (e : ℕ). (g.R.Rack.slot (store_rack c.spin_up.new.self) e).power) is ∙ slot.absent (failed g c put))) ∙ here))
         | inr apart ↦
-            was d (subst (λ (n : Meta). d < n.setup.geometry.disks) (meta_is g c) low)
-            (λ is. stays (ap (λ (n : Meta). gone_out n.out) (meta_is g c) ∙ gone_still m (Some c.args.disk) (λ e x k named. alone g c x named ∙ some_is c.args.disk e k) d is))
+            was d (subst (λ (n : Meta). d < n.setup.geometry.disks) (meta_is g c put) low)
+            (λ is. stays (ap (λ (n : Meta). gone_out n.out) (meta_is g c put) ∙ gone_still m (Some c.args.disk) (λ e x k named. alone g c put x named ∙ some_is c.args.disk e k) d is))
             (ap (λ (s : Slot). is_present s.power) (sym (slot.others d apart)) ∙ here) (ap (λ (s : Slot). s.unsynced) (sym (slot.others d apart)) ∙ wet)
-      ];
+      ]) c.put_out.ensures.out;
   turned =
       let old = c.args.self.now in
       only_turns (g.R.Rack.slot (store_rack old.store)) _ c.args.disk _ _ _ c.spin_up.ensures.slot (ap is_present c.requires.parked) refl refl;
-  risen = λ d is.
-      let same : c.args.disk ≡ d = some_is c.args.disk d (ap (λ (z : Meta). named_out z.out) (sym (meta_is g c)) ∙ is) in
-      inr (subst (λ (e : ℕ). HasRisen (g.R.Rack.slot (store_rack c.args.self.now.store) e).faults (g.R.Rack.slot (store_rack c.spin_up.new.self) e).faults) same (c.spin_up.ensures.slot.risen (failed g c)));
-  gone = λ is. ap (λ (z : Meta). z.out) (meta_is g c);
-  failed = λ is. record { risen = c.spin_up.ensures.slot.risen (failed g c); absent = c.spin_up.ensures.slot.absent (failed g c) };
-  absent = λ was d is.
-      let same : c.args.disk ≡ d = some_is c.args.disk d (ap (λ (z : Meta). named_out z.out) (sym (meta_is g c)) ∙ is) in
-      inr (ap is_present (ap (λ (e : ℕ). (g.R.Rack.slot (store_rack c.spin_up.new.self) e).power) (sym same) ∙ c.spin_up.ensures.slot.absent (failed g c)));
-  two = tt;
-  tells = tt;
+  risen = on_ok_weaker c.put_out.result (λ put. λ d is.
+      let same : c.args.disk ≡ d = some_is c.args.disk d (ap (λ (z : Meta). named_out z.out) (sym (meta_is g c put)) ∙ is) in
+      inr (subst (λ (e : ℕ). HasRisen (g.R.Rack.slot (store_rack c.args.self.now.store) e).faults (g.R.Rack.slot (store_rack c.spin_up.new.self) e).faults) same (c.spin_up.ensures.slot.risen (failed g c put)))) c.put_out.ensures.out;
+  gone = λ is. let put : IsPutOut c.args.self.now.meta c.put_out.new.meta c.args.disk = IfOk-at_ok _ is c.put_out.ensures.out in ap (λ (z : Meta). z.out) (meta_is g c put);
+  failed = λ is. let put : IsPutOut c.args.self.now.meta c.put_out.new.meta c.args.disk = IfOk-at_ok _ is c.put_out.ensures.out in record { risen = c.spin_up.ensures.slot.risen (failed g c put); absent = c.spin_up.ensures.slot.absent (failed g c put) };
+  absent = on_ok_weaker c.put_out.result (λ put. λ was d is.
+      let same : c.args.disk ≡ d = some_is c.args.disk d (ap (λ (z : Meta). named_out z.out) (sym (meta_is g c put)) ∙ is) in
+      inr (ap is_present (ap (λ (e : ℕ). (g.R.Rack.slot (store_rack c.spin_up.new.self) e).power) (sym same) ∙ c.spin_up.ensures.slot.absent (failed g c put)))) c.put_out.ensures.out;
+  two =
+      let old = c.args.self.now in
+      IfErr-weaker c.put_out.result _ _ (λ two down. two_lost (named_of old.store) (named_out old.meta.out) _ _ c.args.disk _ c.requires.still (c.spin_up.ensures.slot.risen (ap is_ok c.in-Err.is)) down) c.put_out.ensures.two;
+  tells = IfErr-weaker c.put_out.result _ _ (λ two down. call_tells (named_out c.args.self.now.meta.out) _ (SpinUp c.args.disk (is_ok c.spin_up.result)) _ _ c.spin_up.ensures.told (ap is_ok c.in-Err.is) down) c.put_out.ensures.two;
   calls = one_call _ _ _ (is_ok c.spin_up.result) c.spin_up.ensures.told (λ t tells. (g.met.R.Rack.agrees (store_rack c.args.self.now.store) t tells).power c.args.disk ∙ c.requires.parked);
-  done = λ is. done_not_dropped _ _ is refl;
-  lost = λ is.
+  done = λ is. absurd (c.put_out.ensures.never is);
+  lost = λ is. let put : IsPutOut c.args.self.now.meta c.put_out.new.meta c.args.disk = IfOk-at_ok _ is c.put_out.ensures.out in
       let ready = c.requires.ready in
       let old = c.args.self.now in
       call_stands g.R.Rack.slot_count g.R.Rack.slot g.R.Rack.told old _ _ c.spin_up.ensures.told (g.met.R.Rack.agrees (store_rack old.store)) _ _ _ _ _ _ c.spin_up.ensures.slots c.spin_up.ensures.same.named
-      (ap (λ (z : Meta). z.setup) (meta_is g c))
-      (λ h lo s agrees k. subst (λ (z : Meta). HoldsBetweenCalls (g.R.Rack.slot_count (store_rack old.store)) (named_of old.store) z old.dirty old.batch old.copied h lo (step (SpinUp c.args.disk (is_ok c.spin_up.result)) s)) (sym (meta_is g c))
-      (keeps_failed _ _ old.meta _ _ _ h lo s (SpinUp c.args.disk (is_ok c.spin_up.result)) ready.in_range c.requires.disk (failed g c) (λ x l gone. ready.absent x l (ap is_present (sym (agrees.power x)) ∙ gone)) (alone g c) c.requires.still k));
-  lost_filled = λ is.
+      (ap (λ (z : Meta). z.setup) (meta_is g c put))
+      (λ h lo s agrees k. subst (λ (z : Meta). HoldsBetweenCalls (g.R.Rack.slot_count (store_rack old.store)) (named_of old.store) z old.dirty old.batch old.copied h lo (step (SpinUp c.args.disk (is_ok c.spin_up.result)) s)) (sym (meta_is g c put))
+      (keeps_failed _ _ old.meta _ _ _ h lo s (SpinUp c.args.disk (is_ok c.spin_up.result)) ready.in_range c.requires.disk (failed g c put) (λ x l gone. ready.absent x l (ap is_present (sym (agrees.power x)) ∙ gone)) (alone g c put) c.requires.still k));
+  lost_filled = λ is. let put : IsPutOut c.args.self.now.meta c.put_out.new.meta c.args.disk = IfOk-at_ok _ is c.put_out.ensures.out in
       let ready = c.requires.ready in
       let old = c.args.self.now in
       call_filled g.R.Rack.slot_count g.R.Rack.slot g.R.Rack.told old _ _ c.spin_up.ensures.told (g.met.R.Rack.agrees (store_rack old.store)) _ _ _ c.spin_up.ensures.slots c.spin_up.ensures.same.named
-      (ap (λ (z : Meta). z.setup) (meta_is g c))
-      (λ h lo s agrees kf. subst (λ (z : Meta). KeepsFilled (g.R.Rack.slot_count (store_rack old.store)) (named_of old.store) z old.dirty old.copied h lo z.fill (step (SpinUp c.args.disk (is_ok c.spin_up.result)) s)) (sym (meta_is g c))
-      (filled_failed _ _ old.meta _ _ h lo s (SpinUp c.args.disk (is_ok c.spin_up.result)) ready.in_range c.requires.disk (failed g c) (λ x l gone. ready.absent x l (ap is_present (sym (agrees.power x)) ∙ gone)) (alone g c) c.requires.still kf));
+      (ap (λ (z : Meta). z.setup) (meta_is g c put))
+      (λ h lo s agrees kf. subst (λ (z : Meta). KeepsFilled (g.R.Rack.slot_count (store_rack old.store)) (named_of old.store) z old.dirty old.copied h lo z.fill (step (SpinUp c.args.disk (is_ok c.spin_up.result)) s)) (sym (meta_is g c put))
+      (filled_failed _ _ old.meta _ _ h lo s (SpinUp c.args.disk (is_ok c.spin_up.result)) ready.in_range c.requires.disk (failed g c put) (λ x l gone. ready.absent x l (ap is_present (sym (agrees.power x)) ∙ gone)) (alone g c put) c.requires.still kf));
   moments = λ h lo.
       let q = c.requires in
       spin_held g.R.Rack.slot_count g.R.Rack.slot g.R.Rack.told c.args.self.now _ c.args.disk _ c.spin_up.ensures.told (g.met.R.Rack.agrees (store_rack c.args.self.now.store)) q.parked q.disk h lo;

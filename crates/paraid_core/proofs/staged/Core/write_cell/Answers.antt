@@ -1,3 +1,5 @@
+use Rattle.std.proofs.lemmas.Result.{IfErr-weaker, IfOk-at_ok, on_ok_weaker}
+use Rattle.paraid_core.specs.Steps.{IsPutOut}
 use Rattle.paraid_image.specs.Mark.{meta_after_loss}
 use Rattle.std.proofs.Common.{arith, ◌≡◌, ◌≢◌, ℕ, ◌∙◌, ◌<◌, Some, None, sym, ap, subst, refl, false}
 use Rattle.std.specs.Prelude.{Option, is_ok}
@@ -28,10 +30,10 @@ use Rattle.paraid_core.proofs.AfterLemmas.{handed}
 use Rattle.paraid_core.proofs.staged.Core.write_cell.Given.{Over}
 use Rattle.paraid_core.proofs.staged.Core.write_cell.Goals as goal
 use Rattle.paraid_core.proofs.ErrLemmas.{done_not_dropped, none_done, none_done_as, two_lost}
-use Rattle.paraid_core.proofs.staged.Core.write_cell.Goals.{In_ok-lose}
+use Rattle.paraid_core.proofs.staged.Core.write_cell.Goals.{After-put_out}
 
 -- it failed, and no other disk is out
-module _ (g : Over) (c : In_ok-lose g) where
+module _ (g : Over) (c : After-put_out g) (put : IsPutOut c.args.self.now.meta c.put_out.new.meta c.args.disk) where
   abbrev old : Core g.row.R.Denot g.R.Rack
   old = c.args.self.now
 
@@ -41,24 +43,25 @@ module _ (g : Over) (c : In_ok-lose g) where
   is_lost : lost_in old.meta (Some c.args.disk) ≡ Some c.args.disk
   is_lost = lost_in_there old.meta (Some c.args.disk) c.args.disk (disk_in c.args.self.now.meta c.args.disk c.requires.ready.in_range c.requires.rises) refl
 
-  meta_is : c.lose.new.meta ≡ meta_after_loss old.meta c.args.disk
-  meta_is = c.in_ok-lose.ensures.marked ∙ ap (λ (o : Option ℕ). meta_with_lost o old.meta) is_lost
+  meta_is : c.put_out.new.meta ≡ meta_after_loss old.meta c.args.disk
+  meta_is = put.marked ∙ ap (λ (o : Option ℕ). meta_with_lost o old.meta) is_lost
 
   alone : (x : ℕ) → named_out old.meta.out ≡ Some x → x ≡ c.args.disk
-  alone x is = c.in_ok-lose.ensures.alone c.args.disk x refl is (disk_in c.args.self.now.meta c.args.disk c.requires.ready.in_range c.requires.rises)
+  alone x is = put.alone c.args.disk x refl is (disk_in c.args.self.now.meta c.args.disk c.requires.ready.in_range c.requires.rises)
 
 pub returns : goal.returns
 returns g c = record {
-  leaves =
-      call_leaves g.R.Rack.slot_count g.R.Rack.slot c.args.self.now _ c.requires.ready c.requires.serves.stays c.write_free-answer.ensures.slots c.write_free-answer.ensures.same refl refl refl
+  leaves = on_ok_weaker c.put_out.result (λ put. call_leaves g.R.Rack.slot_count g.R.Rack.slot c.args.self.now _ c.requires.ready c.requires.serves.stays c.write_free-answer.ensures.slots c.write_free-answer.ensures.same refl refl refl
       (Some c.args.disk) (λ d is. subst (λ (e : ℕ). e < c.args.self.now.meta.setup.geometry.disks) (some_is c.args.disk d is) (disk_in c.args.self.now.meta c.args.disk c.requires.ready.in_range c.requires.rises))
-      (failed_only _ _ _ _ _ _ _ c.write_free-answer.ensures.slot refl refl (failed g c)) (λ d x is k. alone g c x k ∙ some_is c.args.disk d is) (meta_is g c)
+      (failed_only _ _ _ _ _ _ _ c.write_free-answer.ensures.slot refl refl (failed g c put)) (λ d x is k. alone g c put x k ∙ some_is c.args.disk d is) (meta_is g c put)
       (call_spared 8 _ _ _ _ _ _ c.write_free-answer.ensures.slot refl refl refl)
-      (λ d is. subst (λ (e : ℕ). HasRisen (g.R.Rack.slot (store_rack c.args.self.now.store) e).faults (g.R.Rack.slot (store_rack c.write_free-answer.new.self) e).faults) (some_is c.args.disk d is) (c.write_free-answer.ensures.slot.risen (failed g c))) (marks_written _ _ _ _ _ _ c.write_free-answer.ensures.slot _ _ (record { here = c.mark.ensures.here; others = c.mark.ensures.others }));
-  same = λ is. done_not_dropped _ _ is refl;
+      (λ d is. subst (λ (e : ℕ). HasRisen (g.R.Rack.slot (store_rack c.args.self.now.store) e).faults (g.R.Rack.slot (store_rack c.write_free-answer.new.self) e).faults) (some_is c.args.disk d is) (c.write_free-answer.ensures.slot.risen (failed g c put))) (marks_written _ _ _ _ _ _ c.write_free-answer.ensures.slot _ _ (record { here = c.mark.ensures.here; others = c.mark.ensures.others }))) c.put_out.ensures.out;
+  same = λ is. absurd (c.put_out.ensures.never is);
   spared = call_spared 8 _ _ _ _ _ _ c.write_free-answer.ensures.slot refl refl refl;
-  two = tt;
-  tells = tt;
+  two =
+      let old = c.args.self.now in
+      IfErr-weaker c.put_out.result _ _ (λ two down. two_lost (named_of old.store) (named_out old.meta.out) _ _ c.args.disk _ c.requires.serves.stays (c.write_free-answer.ensures.slot.risen (ap is_ok c.in-Err.is)) down) c.put_out.ensures.two;
+  tells = IfErr-weaker c.put_out.result _ _ (λ two down. call_tells (named_out c.args.self.now.meta.out) _ (Write c.args.disk c.hard_place-place.result c.args.block.now (is_ok c.write_free-answer.result)) _ _ c.write_free-answer.ensures.told (ap is_ok c.in-Err.is) down) c.put_out.ensures.two;
   calls =
       let q = c.requires in
       let m = c.args.self.now.meta in
@@ -66,18 +69,18 @@ returns g c = record {
       let far = c.hard_place-place.ensures.after_map in
       written_calls _ _ c.args.disk c.hard_place-place.result c.args.block.now (is_ok c.write_free-answer.result) _ _ c.write_free-answer.ensures.told (disk_in m c.args.disk q.ready.in_range q.rises)
       (λ gone. in_all (gone_named m.out c.args.disk gone)) (omega (arith, far)) (λ t tells. (g.met.R.Rack.agrees (store_rack c.args.self.now.store) t tells).power c.args.disk ∙ q.serves.spins c.args.disk q.rises in_all);
-  marks = marks_failed c.args.self.now.meta c.lose.new.meta _ _ c.args.disk _ _ _ c.write_free-answer.ensures.slot (failed g c) (meta_is g c) (disk_in c.args.self.now.meta c.args.disk c.requires.ready.in_range c.requires.rises) (λ x k. c.in_ok-lose.ensures.alone c.args.disk x refl k (disk_in c.args.self.now.meta c.args.disk c.requires.ready.in_range c.requires.rises));
-  copied = λ is. done_not_dropped _ _ is refl;
-  gone = λ is. meta_is g c;
-  failed = λ is. record { risen = c.write_free-answer.ensures.slot.risen (failed g c); absent = c.write_free-answer.ensures.slot.absent (failed g c) };
-  lost = λ is h lo cells.
+  marks = on_ok_weaker c.put_out.result (λ put. marks_failed c.args.self.now.meta c.put_out.new.meta _ _ c.args.disk _ _ _ c.write_free-answer.ensures.slot (failed g c put) (meta_is g c put) (disk_in c.args.self.now.meta c.args.disk c.requires.ready.in_range c.requires.rises) (λ x k. put.alone c.args.disk x refl k (disk_in c.args.self.now.meta c.args.disk c.requires.ready.in_range c.requires.rises))) c.put_out.ensures.out;
+  copied = λ is. absurd (c.put_out.ensures.never is);
+  gone = λ is. let put : IsPutOut c.args.self.now.meta c.put_out.new.meta c.args.disk = IfOk-at_ok _ is c.put_out.ensures.out in meta_is g c put;
+  failed = λ is. let put : IsPutOut c.args.self.now.meta c.put_out.new.meta c.args.disk = IfOk-at_ok _ is c.put_out.ensures.out in record { risen = c.write_free-answer.ensures.slot.risen (failed g c put); absent = c.write_free-answer.ensures.slot.absent (failed g c put) };
+  lost = λ is h lo cells. let put : IsPutOut c.args.self.now.meta c.put_out.new.meta c.args.disk = IfOk-at_ok _ is c.put_out.ensures.out in
       let old = c.args.self.now in
       let ready = c.requires.ready in
       weaker (IsCoreHeldSinceCommit g.R.Rack.slot_count old h lo) (CoreStandsFor g.R.Rack.slot_count old h lo) (CopyingCell g.R.Rack.slot_count old h lo cells c.args.r c.args.disk c.args.block.now) _ _ _ _ (λ s k. k.before.keeps) (λ s k. k)
       (call_stands g.R.Rack.slot_count g.R.Rack.slot g.R.Rack.told old _ _ c.write_free-answer.ensures.told (g.met.R.Rack.agrees (store_rack old.store)) _ _ _ _ _ _ c.write_free-answer.ensures.slots c.write_free-answer.ensures.same.named
-      (ap (λ (z : Meta). z.setup) (meta_is g c))
-      (λ h lo s agrees k. subst (λ (z : Meta). HoldsBetweenCalls (g.R.Rack.slot_count (store_rack old.store)) (named_of old.store) z old.dirty old.batch (c.mark.new.copied) h lo (step (Write c.args.disk c.hard_place-place.result c.args.block.now (is_ok c.write_free-answer.result)) s)) (sym (meta_is g c))
-      (keeps_unwritten _ _ _ _ _ _ _ h lo s _ _ _ (record { here = c.mark.ensures.here; others = c.mark.ensures.others }) _ (failed g c) ready.in_range (disk_in old.meta c.args.disk ready.in_range c.requires.rises) (λ x l gone. ready.absent x l (ap is_present (sym (agrees.power x)) ∙ gone)) (alone g c) c.requires.serves.stays k)) h lo);
+      (ap (λ (z : Meta). z.setup) (meta_is g c put))
+      (λ h lo s agrees k. subst (λ (z : Meta). HoldsBetweenCalls (g.R.Rack.slot_count (store_rack old.store)) (named_of old.store) z old.dirty old.batch (c.mark.new.copied) h lo (step (Write c.args.disk c.hard_place-place.result c.args.block.now (is_ok c.write_free-answer.result)) s)) (sym (meta_is g c put))
+      (keeps_unwritten _ _ _ _ _ _ _ h lo s _ _ _ (record { here = c.mark.ensures.here; others = c.mark.ensures.others }) _ (failed g c put) ready.in_range (disk_in old.meta c.args.disk ready.in_range c.requires.rises) (λ x l gone. ready.absent x l (ap is_present (sym (agrees.power x)) ∙ gone)) (alone g c put) c.requires.serves.stays k)) h lo);
   moments = λ h lo cells.
       let q = c.requires in
       cell_held g.R.Rack.slot_count g.R.Rack.slot g.R.Rack.told c.args.self.now q.ready q.whole (g.met.R.Rack.agrees (store_rack c.args.self.now.store)) q.nothing c.args.r c.args.disk _ c.args.block.now c.hard_place-place.result c.hard_place-place.ensures.value _
@@ -114,36 +117,6 @@ returns-in_default g c = record {
   gone = λ is. done_not_dropped _ _ refl is;
   failed = λ is. done_not_dropped _ _ refl is;
   lost = λ is. done_not_dropped _ _ refl is;
-  moments = λ h lo cells.
-      let q = c.requires in
-      cell_held g.R.Rack.slot_count g.R.Rack.slot g.R.Rack.told c.args.self.now q.ready q.whole (g.met.R.Rack.agrees (store_rack c.args.self.now.store)) q.nothing c.args.r c.args.disk _ c.args.block.now c.hard_place-place.result c.hard_place-place.ensures.value _
-      c.write_free-answer.ensures.told q.serves.stays q.row (disk_in c.args.self.now.meta c.args.disk q.ready.in_range q.rises) q.past_gear q.dirty _ (record { here = c.mark.ensures.here; others = c.mark.ensures.others }) h lo cells;
-}
-
-pub returns-in_err-lose : goal.returns-in_err-lose
-returns-in_err-lose g c = record {
-  leaves = none_done _ c.from_residual.result _ c.from_residual.ensures.1;
-  same = λ is. none_done_as _ c.from_residual.result _ _ c.from_residual.ensures.1 is;
-  spared = call_spared 8 _ _ _ _ _ _ c.write_free-answer.ensures.slot refl refl refl;
-  two =
-      let old = c.args.self.now in
-      handed _ c.from_residual.result _ c.from_residual.ensures.1
-      (two_lost (named_of old.store) (named_out old.meta.out) _ _ c.args.disk _ c.requires.serves.stays (c.write_free-answer.ensures.slot.risen (ap is_ok c.in-Err.is)) c.in_err-lose.ensures.two);
-  tells =
-      handed (λ two. Ran (g.R.Rack.told (store_rack c.args.self.now.store)) (g.R.Rack.told (store_rack c.write_free-answer.new.self)) (λ s cs. TellsLosses (named_out c.args.self.now.meta.out) two cs)) c.from_residual.result _ c.from_residual.ensures.1
-      (call_tells (named_out c.args.self.now.meta.out) _ (Write c.args.disk c.hard_place-place.result c.args.block.now (is_ok c.write_free-answer.result)) _ _ c.write_free-answer.ensures.told (ap is_ok c.in-Err.is) c.in_err-lose.ensures.two);
-  calls =
-      let q = c.requires in
-      let m = c.args.self.now.meta in
-      let in_all : named_out m.out ≢ Some c.args.disk = (λ named. let z : None ≡ Some c.args.disk = ap named_out (sym q.whole) ∙ named in cc) in
-      let far = c.hard_place-place.ensures.after_map in
-      written_calls _ _ c.args.disk c.hard_place-place.result c.args.block.now (is_ok c.write_free-answer.result) _ _ c.write_free-answer.ensures.told (disk_in m c.args.disk q.ready.in_range q.rises)
-      (λ gone. in_all (gone_named m.out c.args.disk gone)) (omega (arith, far)) (λ t tells. (g.met.R.Rack.agrees (store_rack c.args.self.now.store) t tells).power c.args.disk ∙ q.serves.spins c.args.disk q.rises in_all);
-  marks = none_done _ c.from_residual.result _ c.from_residual.ensures.1;
-  copied = λ is. none_done_as _ c.from_residual.result _ _ c.from_residual.ensures.1 is;
-  gone = λ is. none_done_as _ c.from_residual.result _ _ c.from_residual.ensures.1 is;
-  failed = λ is. none_done_as _ c.from_residual.result _ _ c.from_residual.ensures.1 is;
-  lost = λ is. none_done_as _ c.from_residual.result _ _ c.from_residual.ensures.1 is;
   moments = λ h lo cells.
       let q = c.requires in
       cell_held g.R.Rack.slot_count g.R.Rack.slot g.R.Rack.told c.args.self.now q.ready q.whole (g.met.R.Rack.agrees (store_rack c.args.self.now.store)) q.nothing c.args.r c.args.disk _ c.args.block.now c.hard_place-place.result c.hard_place-place.ensures.value _
