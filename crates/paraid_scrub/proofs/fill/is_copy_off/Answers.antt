@@ -1,3 +1,5 @@
+use Rattle.paraid_core.proofs.AfterLemmas.{handed}
+use Rattle.paraid_core.proofs.ErrLemmas.{none_done_if}
 use Rattle.paraid_base.specs.Regions.{IsGear}
 use Rattle.paraid_base.specs.Soft.{stripe_count}
 use Rattle.paraid_record.specs.declared.meta.Meta.{Meta}
@@ -57,4 +59,10 @@ read_value-requires g c = record {
   usable = c.requires.usable;
   row = subst (λ (z : Meta). c.in-Some.row < z.setup.geometry.rows) c.meta.ensures.value c.in-Some.ensures.row_in;
   disk = subst (λ (z : Meta). c.in-Some.home < z.setup.geometry.disks) c.meta.ensures.value c.in-Some.ensures.disk_in;
+}
+
+pub returns-in_err-read_value : goal.returns-in_err-read_value
+returns-in_err-read_value g c = record {
+  shown = none_done_if _ c.from_residual.result _ c.from_residual.ensures.1;
+  lost = handed (g.C.Stored.loses c.args.core.now c.read_value.new.core) c.from_residual.result _ c.from_residual.ensures.1 c.in_err-read_value.ensures.lost;
 }

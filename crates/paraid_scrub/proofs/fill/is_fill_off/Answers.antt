@@ -1,3 +1,5 @@
+use Rattle.paraid_core.proofs.AfterLemmas.{handed}
+use Rattle.paraid_core.proofs.ErrLemmas.{none_done_if}
 use Rattle.std.proofs.Common.{◌≡◌, ◌<◌, ◌+◌, ◌∙◌, ℕ, IsTrue, sym, ap, subst, arith}
 use Rattle.std.specs.Prelude.{◌↔◌}
 use Rattle.paraid_base.specs.Regions.{IsGear}
@@ -57,4 +59,10 @@ returns g c = record {
       either_off {P = (x : ℕ) → x < c.args.gear → IsCopyRight v c.args.gear c.args.at x} {Q = IsStripeZero v c.args.gear c.args.at} {R = IsFillRight v c.args.gear c.args.at} c.loop-disk.off _ c.either.result cells
       (is_not_zero c.is_zero.result c.loop-disk.sum _ c.is_zero.ensures sum) c.either.ensures (fill_parts v c.args.gear c.args.at) (fill_whole v c.args.gear c.args.at (m.setup.geometry.gears_low c.args.gear c.requires.gear)));
   lost = tt;
+}
+
+pub returns-in_err-look_at_copy : goal.returns-in_err-look_at_copy
+returns-in_err-look_at_copy g c = record {
+  shown = none_done_if _ c.from_residual.result _ c.from_residual.ensures.1;
+  lost = handed (g.C.Stored.loses c.args.core.now c.look_at_copy.new.core) c.from_residual.result _ c.from_residual.ensures.1 (g.met.C.Stored.then_lost _ _ _ _ c.loop-disk.invariant.kept.goes c.in_err-look_at_copy.ensures.lost);
 }

@@ -1,3 +1,5 @@
+use Rattle.paraid_core.proofs.AfterLemmas.{handed}
+use Rattle.paraid_core.proofs.ErrLemmas.{none_done}
 use Rattle.std.proofs.Common.{◌≡◌, ◌<◌, ◌+◌, ◌∙◌, sym, ap, subst, arith}
 use Rattle.paraid_base.specs.Sums.{xor_upto}
 use Rattle.paraid_base.specs.Xor.{xor}
@@ -34,4 +36,10 @@ returns g c = record {
       keeps_so (λ v. c.loop-disk.into ≡ xor_upto (value v c.args.row) m.setup.geometry.disks) c.loop-disk.invariant.kept
       (λ v s is. is ∙ ap (xor_upto (value v c.args.row)) all);
   lost = tt;
+}
+
+pub returns-in_err-read_value : goal.returns-in_err-read_value
+returns-in_err-read_value g c = record {
+  shown = none_done _ c.from_residual.result _ c.from_residual.ensures.1;
+  lost = handed (g.C.Stored.loses c.args.core.now c.read_value.new.core) c.from_residual.result _ c.from_residual.ensures.1 (g.met.C.Stored.then_lost _ _ _ _ c.loop-disk.invariant.kept.goes c.in_err-read_value.ensures.lost);
 }

@@ -1,6 +1,9 @@
+use Rattle.paraid_base.proofs.RegionsLemmas.{hard_place_below}
+use Rattle.paraid_core.proofs.AfterLemmas.{handed}
+use Rattle.paraid_core.proofs.ErrLemmas.{none_done_if}
 use Rattle.std.proofs.Common.{◌≡◌, ◌≤◌, ◌<◌, ◌∙◌, IsTrue, false, sym, ap, subst, arith}
 use Rattle.std.specs.Prelude.{◌↔◌}
-use Rattle.paraid_base.specs.Regions.{hard_place_of}
+use Rattle.paraid_base.specs.Regions.{hard_place_of, disk_size}
 use Rattle.paraid_record.specs.declared.meta.Meta.{Meta}
 use Rattle.paraid_image.specs.Value.{value}
 use Rattle.paraid_scrub.proofs.LookedLemmas.{keeps_none, keeps_then}
@@ -15,8 +18,13 @@ returns-then-is_copy_alone g c = record {
   lost = tt;
 }
 
-pub read_stored-requires-clause-past_log : goal.read_stored-requires-clause-past_log
-read_stored-requires-clause-past_log g c = let k = c.hard_place-place.ensures.after_map in omega (arith, k)
+pub read_stored-requires : goal.read_stored-requires
+read_stored-requires g c = record {
+  usable = c.requires.usable;
+  readable = c.requires.readable;
+  past_log = let k = c.hard_place-place.ensures.after_map in omega (arith, k);
+  within = subst (λ (z : Meta). c.hard_place-place.result < disk_size z.setup.geometry) c.meta.ensures.value (let fits = hard_place_below c.meta.result.setup.geometry c.args.row (subst (λ (z : Meta). c.args.row < z.setup.geometry.rows) (sym c.meta.ensures.value) c.requires.row) in let is = c.hard_place-place.ensures.value in omega (arith, fits, is));
+}
 
 pub read_value-requires : goal.read_value-requires
 read_value-requires g c = record {
@@ -35,3 +43,18 @@ returns g c = record {
       (stored ∙ ap (v.block c.args.disk) (c.hard_place-place.ensures.value ∙ ap (λ (z : Meta). hard_place_of z.setup.geometry c.args.row) c.meta.ensures.value)) read c.differs.ensures);
   lost = tt;
 }
+
+pub returns-in_err-read_stored : goal.returns-in_err-read_stored
+returns-in_err-read_stored g c = record {
+  shown = none_done_if _ c.from_residual.result _ c.from_residual.ensures.1;
+  lost = handed (g.C.Stored.loses c.args.core.now c.read_stored.new.self) c.from_residual.result _ c.from_residual.ensures.1 c.in_err-read_stored.ensures.lost;
+}
+
+pub returns-in_err-read_value : goal.returns-in_err-read_value
+returns-in_err-read_value g c = record {
+  shown = none_done_if _ c.from_residual-in_err-read_value.result _ c.from_residual-in_err-read_value.ensures.1;
+  lost = handed (g.C.Stored.loses c.args.core.now c.read_value.new.core) c.from_residual-in_err-read_value.result _ c.from_residual-in_err-read_value.ensures.1 (g.met.C.Stored.then_lost _ _ _ _ c.in_ok-read_stored.ensures.shown.goes c.in_err-read_value.ensures.lost);
+}
+
+pub hard_place-place-requires : goal.hard_place-place-requires
+hard_place-place-requires g c = subst (λ (z : Meta). c.args.row < z.setup.geometry.rows) (sym c.meta.ensures.value) c.requires.row

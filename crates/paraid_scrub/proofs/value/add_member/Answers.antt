@@ -1,3 +1,5 @@
+use Rattle.paraid_core.proofs.AfterLemmas.{handed}
+use Rattle.paraid_core.proofs.ErrLemmas.{none_done}
 use Rattle.paraid_base.specs.Regions.{IsGear}
 use Rattle.paraid_base.specs.Soft.{stripe_count}
 use Rattle.paraid_base.specs.Regions.{disk_size}
@@ -43,4 +45,10 @@ soft_place-place-requires g c = record {
   gear = subst (λ (z : Meta). IsGear z.setup.geometry c.args.gear) (sym c.meta.ensures.value) c.requires.gear;
   region = subst (λ (z : Meta). c.args.gear < z.setup.geometry.disks) (sym c.meta.ensures.value) c.requires.region;
   stripe_in = subst (λ (z : Meta). c.args.at < stripe_count z.setup.geometry.disks z.setup.geometry.rows c.args.gear) (sym c.meta.ensures.value) c.requires.at;
+}
+
+pub returns-in_err-read_stored : goal.returns-in_err-read_stored
+returns-in_err-read_stored g c = record {
+  shown = none_done _ c.from_residual.result _ c.from_residual.ensures.1;
+  lost = handed (g.C.Stored.loses c.args.core.now c.read_stored.new.self) c.from_residual.result _ c.from_residual.ensures.1 c.in_err-read_stored.ensures.lost;
 }

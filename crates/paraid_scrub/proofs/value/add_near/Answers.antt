@@ -1,3 +1,5 @@
+use Rattle.paraid_core.proofs.AfterLemmas.{handed}
+use Rattle.paraid_core.proofs.ErrLemmas.{none_done}
 use Rattle.std.proofs.Common.{◌≡◌}
 use Rattle.paraid_base.specs.Sums.{without}
 use Rattle.paraid_base.specs.Xor.{xor}
@@ -29,4 +31,10 @@ returns g c = record {
       keeps_so (λ v. c.xor_into.new.to ≡ xor c.args.sum.now (without (near v c.args.row) c.args.out c.args.disk)) c.in_ok-read_near.ensures.shown
       (λ v s is. added_one (near v c.args.row) c.args.out c.args.disk c.args.sum.now _ _ c.if-disk-out.false is c.xor_into.ensures);
   lost = tt;
+}
+
+pub returns-in_err-read_near : goal.returns-in_err-read_near
+returns-in_err-read_near g c = record {
+  shown = none_done _ c.from_residual.result _ c.from_residual.ensures.1;
+  lost = handed (g.C.Stored.loses c.args.core.now c.read_near.new.core) c.from_residual.result _ c.from_residual.ensures.1 c.in_err-read_near.ensures.lost;
 }

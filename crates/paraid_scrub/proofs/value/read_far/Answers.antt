@@ -1,3 +1,5 @@
+use Rattle.paraid_core.proofs.AfterLemmas.{handed}
+use Rattle.paraid_core.proofs.ErrLemmas.{none_done}
 use Rattle.std.proofs.Common.{◌≡◌, ◌<◌, ◌+◌, ◌∙◌, sym, ap, subst, arith}
 use Rattle.paraid_base.specs.Sums.{without, xor_upto}
 use Rattle.paraid_record.specs.declared.meta.Meta.{Meta}
@@ -36,4 +38,10 @@ returns g c = record {
       keeps_so (λ v. c.loop-disk.into ≡ far v c.args.row c.args.out) c.loop-disk.invariant.kept
       (λ v s is. far_read v m (g.met.C.Stored.agrees c.args.core.now v s).0 c.args.row c.args.out _ (is ∙ ap (xor_upto (without (near v c.args.row) c.args.out)) all));
   lost = tt;
+}
+
+pub returns-in_err-add_near : goal.returns-in_err-add_near
+returns-in_err-add_near g c = record {
+  shown = none_done _ c.from_residual.result _ c.from_residual.ensures.1;
+  lost = handed (g.C.Stored.loses c.args.core.now c.add_near.new.core) c.from_residual.result _ c.from_residual.ensures.1 (g.met.C.Stored.then_lost _ _ _ _ c.loop-disk.invariant.kept.goes c.in_err-add_near.ensures.lost);
 }

@@ -67,3 +67,10 @@ returns g c = record {
       value_soft v m a.0 a.1 c.args.row c.args.disk _ (sym (c.is_hard.ensures.value v s) ∙ c.if-is_hard.false) is)) c.read_soft.ensures.shown;
   lost = c.read_soft.ensures.lost;
 }
+
+pub is_hard-requires : goal.is_hard-requires
+is_hard-requires g c = record {
+  usable = c.requires.usable;
+  row = c.requires.row;
+  disk = c.requires.disk;
+}

@@ -1,3 +1,5 @@
+use Rattle.paraid_core.proofs.AfterLemmas.{handed}
+use Rattle.paraid_core.proofs.ErrLemmas.{none_done}
 use Rattle.std.proofs.Common.{◌≡◌, ◌<◌, ◌+◌, ◌∙◌, sym, ap, subst, arith}
 use Rattle.paraid_base.specs.Regions.{IsGear}
 use Rattle.paraid_base.specs.Soft.{stripe_count}
@@ -43,4 +45,10 @@ returns g c = record {
       keeps_so (λ v. c.loop-disk.into ≡ xor_upto (without (stripe m.setup.geometry v.block c.args.gear c.args.at) c.args.skipped) c.args.gear) c.loop-disk.invariant.kept
       (λ v s is. is ∙ ap (xor_upto (without (stripe m.setup.geometry v.block c.args.gear c.args.at) c.args.skipped)) (omega arith));
   lost = tt;
+}
+
+pub returns-in_err-add_member : goal.returns-in_err-add_member
+returns-in_err-add_member g c = record {
+  shown = none_done _ c.from_residual.result _ c.from_residual.ensures.1;
+  lost = handed (g.C.Stored.loses c.args.core.now c.add_member.new.core) c.from_residual.result _ c.from_residual.ensures.1 (g.met.C.Stored.then_lost _ _ _ _ c.loop-disk.invariant.kept.goes c.in_err-add_member.ensures.lost);
 }
