@@ -1,9 +1,12 @@
 -- A call that failed has nothing to say of a success.
 use Rattle.std.proofs.Common.{ℕ, sym, ◌∙◌, subst, inl, Option, Some}
-use Rattle.std.specs.Prelude.{◌≡◌, ◌≢◌, Bool, true, false, Result, Ok, Err, OnOk, IfOk, IsErrAnd}
+use Rattle.std.specs.Prelude.{◌≡◌, ◌≢◌, ◌<◌, Bool, true, false, Result, Ok, Err, OnOk, IfOk, IsErrAnd}
 use Rattle.paraid_base.specs.declared.fault.Two.{Two}
 use Rattle.paraid_base.specs.Told.{HasRisen}
-use Rattle.paraid_image.specs.Out.{or_else}
+use Rattle.paraid_record.specs.declared.meta.Meta.{Meta}
+use Rattle.paraid_image.specs.Out.{named_out, or_else}
+use Rattle.paraid_core.specs.CoreInvariant.{lost_in, meta_with_lost}
+use Rattle.paraid_core.specs.Steps.{IsPutOut}
 use Rattle.paraid_rack.specs.Slots.{Slot}
 use Rattle.paraid_txn.specs.Losses.{AreTwoDown}
 use Rattle.paraid_core.proofs.OrderLemmas.{down_is_named}
@@ -17,6 +20,11 @@ none_done P (Err x) e is = tt
 pub on_ok_any : {A E P : Type 0} (r : Result A E) → P → OnOk r P
 on_ok_any (Ok a) p = p
 on_ok_any (Err x) p = tt
+
+pub both_put : {A E : Type 0} (r : Result A E) (m new : Meta) (lost : Option ℕ) → OnOk r (new ≡ meta_with_lost (lost_in m lost) m) → OnOk r ((d x : ℕ) → lost ≡ Some d → named_out m.out ≡ Some x → d < m.setup.geometry.disks → x ≡ d)
+    → OnOk r (IsPutOut m new lost)
+both_put (Ok a) m new lost marked alone = record { marked = marked; alone = alone }
+both_put (Err x) m new lost marked alone = tt
 
 pub none_done_as : {A E : Type 0} (P : Type 0) (r : Result A E) (e : E) (a : A) → IsErrAnd r (λ x. x ≡ e) → r ≡ Ok a → P
 none_done_as P (Ok b) e a is ok = absurd is

@@ -21,10 +21,10 @@ pub record IsMarkedFrom (m new : Meta) : Type 0 where
   pub is : new ≡ meta_with_lost lost m
   pub alone : (d x : ℕ) → lost ≡ Some d → named_out m.out ≡ Some x → x ≡ d
 
--- this disk was lost, and no other one is out
-pub record IsPutOut (m new : Meta) (disk : ℕ) : Type 0 where
-  pub marked : new ≡ meta_with_lost (lost_in m (Some disk)) m
-  pub alone : (d x : ℕ) → Some disk ≡ Some d → named_out m.out ≡ Some x → d < m.setup.geometry.disks → x ≡ d
+-- this disk was lost, or none, and no other one is out
+pub record IsPutOut (m new : Meta) (lost : Option ℕ) : Type 0 where
+  pub marked : new ≡ meta_with_lost (lost_in m lost) m
+  pub alone : (d x : ℕ) → lost ≡ Some d → named_out m.out ≡ Some x → d < m.setup.geometry.disks → x ≡ d
 
 -- the disk that the last commit names out is out still
 abbrev pub IsStillOut : Option ℕ → Meta → Type 0

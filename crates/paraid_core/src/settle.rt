@@ -59,8 +59,7 @@ impl<R: Rack> Core<R> {
         let Err(_) = answer else {
             return Ok(());
         };
-        lose(&mut self.meta, Some(disk))?;
-        Ok(())
+        lose(&mut self.meta, Some(disk))
     }
 
     // Syncs a disk if copies went to it; one that does not spin has nothing that is unsynced.

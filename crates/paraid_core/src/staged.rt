@@ -69,7 +69,7 @@ pub(crate) fn lose(meta: &mut Meta, lost: Option<DiskNo>) -> Result<(), Two>
 // A disk has failed, and what was asked of it is not done: it is out from now on, unless another one is.
 pub(crate) fn put_out(meta: &mut Meta, disk: DiskNo) -> Result<bool, Two>
     ensures never { result ≡ Ok true → ⊥ }
-    ensures out { OnOk result (IsPutOut meta.old meta.new disk) }
+    ensures out { OnOk result (IsPutOut meta.old meta.new (Some disk)) }
     ensures two { IfErr result (λ two. (Some disk ≡ Some two.second)
         × (named_out_of meta.old.out ≡ Some two.first) × (two.first ≢ two.second)) }
 {

@@ -95,8 +95,7 @@ impl<R: Rack> Core<R> {
             d,
             into,
         )?;
-        lose(&mut self.meta, lost)?;
-        Ok(())
+        lose(&mut self.meta, lost)
     }
 
     /// Reads the block that is stored at a place of a disk that spins, while nothing is staged. True once it is

@@ -91,10 +91,10 @@ returns g c = record {
       (λ d is. subst (λ (z : ℕ). z < m.setup.geometry.disks) (some_is c.in-Err.disk d is) (subst (λ (z : ℕ). c.in-Err.disk < z) (sym c.requires.ready.array_is) c.in-Err.ensures.below)) in
       marks_read m c.put_out.new.meta (Some c.in-Err.disk) _ _ m.epoch m.writes c.in-Err.ensures.read.left put.marked low (λ d x is k. put.alone d x is k (low d is))) c.put_out.ensures.out;
   filled = λ is. absurd (c.put_out.ensures.never is);
-  failed = λ is. let put : IsPutOut c.args.self.now.meta c.put_out.new.meta c.in-Err.disk = IfOk-at_ok _ is c.put_out.ensures.out in
+  failed = λ is. let put : IsPutOut c.args.self.now.meta c.put_out.new.meta (Some c.in-Err.disk) = IfOk-at_ok _ is c.put_out.ensures.out in
       loses_read c.args.self.now.meta c.put_out.new.meta c.in-Err.disk _ _ c.in-Err.ensures.read.left put.marked
       (subst (λ (z : ℕ). c.in-Err.disk < z) (sym c.requires.ready.array_is) c.in-Err.ensures.below);
-  lost = λ is h lo. let put : IsPutOut c.args.self.now.meta c.put_out.new.meta c.in-Err.disk = IfOk-at_ok _ is c.put_out.ensures.out in
+  lost = λ is h lo. let put : IsPutOut c.args.self.now.meta c.put_out.new.meta (Some c.in-Err.disk) = IfOk-at_ok _ is c.put_out.ensures.out in
       gather_lost_stands g.R.Rack.slot_count g.R.Rack.slot g.R.Rack.told c.args.self.now c.requires.ready c.gather.new.store c.in-Err.disk c.in-Err.ensures.read c.in-Err.ensures.below c.requires.whole c.requires.serves.stays c.put_out.new.meta
       put.marked c.requires.nothing (g.met.R.Rack.agrees (store_rack c.args.self.now.store)) (g.met.R.Rack.agrees (store_rack c.gather.new.store)) (g.met.R.Rack.slots_hold (store_rack c.gather.new.store)).absent c.args.s h lo;
   moments = λ h lo. gather_held g.R.Rack.slot_count g.R.Rack.slot g.R.Rack.told c.args.self.now c.requires.ready _ c.in-Err.ensures.read.calls c.args.s h lo;

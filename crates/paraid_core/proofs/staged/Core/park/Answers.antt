@@ -35,7 +35,7 @@ use Rattle.paraid_core.proofs.ErrLemmas.{done_not_dropped, none_done, none_done_
 use Rattle.paraid_core.proofs.staged.Core.park.Goals.{After-put_out}
 
 -- it failed, and no other disk is out
-module _ (g : Over) (c : After-put_out g) (put : IsPutOut c.args.self.now.meta c.put_out.new.meta c.args.disk) where
+module _ (g : Over) (c : After-put_out g) (put : IsPutOut c.args.self.now.meta c.put_out.new.meta (Some c.args.disk)) where
   abbrev old : Core g.row.R.Denot g.R.Rack
   old = c.args.self.now
 
@@ -147,8 +147,8 @@ returns g c = record {
   risen = on_ok_weaker c.put_out.result (λ put. λ d is.
       let same : c.args.disk ≡ d = some_is c.args.disk d (ap (λ (z : Meta). named_out z.out) (sym (meta_is g c put)) ∙ is) in
       inr (subst (λ (e : ℕ). HasRisen (g.R.Rack.slot (store_rack c.args.self.now.store) e).faults (g.R.Rack.slot (store_rack c.park.new.self) e).faults) same (c.park.ensures.slot.risen (failed g c put)))) c.put_out.ensures.out;
-  gone = λ is. let put : IsPutOut c.args.self.now.meta c.put_out.new.meta c.args.disk = IfOk-at_ok _ is c.put_out.ensures.out in ap (λ (z : Meta). z.out) (meta_is g c put);
-  failed = λ is. let put : IsPutOut c.args.self.now.meta c.put_out.new.meta c.args.disk = IfOk-at_ok _ is c.put_out.ensures.out in record { risen = c.park.ensures.slot.risen (failed g c put); absent = c.park.ensures.slot.absent (failed g c put) };
+  gone = λ is. let put : IsPutOut c.args.self.now.meta c.put_out.new.meta (Some c.args.disk) = IfOk-at_ok _ is c.put_out.ensures.out in ap (λ (z : Meta). z.out) (meta_is g c put);
+  failed = λ is. let put : IsPutOut c.args.self.now.meta c.put_out.new.meta (Some c.args.disk) = IfOk-at_ok _ is c.put_out.ensures.out in record { risen = c.park.ensures.slot.risen (failed g c put); absent = c.park.ensures.slot.absent (failed g c put) };
   absent = on_ok_weaker c.put_out.result (λ put. λ was d is.
       let same : c.args.disk ≡ d = some_is c.args.disk d (ap (λ (z : Meta). named_out z.out) (sym (meta_is g c put)) ∙ is) in
       inr (ap is_present (ap (λ (e : ℕ). (g.R.Rack.slot (store_rack c.park.new.self) e).power) (sym same) ∙ c.park.ensures.slot.absent (failed g c put)))) c.put_out.ensures.out;
@@ -159,14 +159,14 @@ returns g c = record {
   calls =
       one_call _ _ _ (is_ok c.park.result) c.park.ensures.told (λ t tells. may_park (now t) (g.R.Rack.slot (store_rack c.args.self.now.store)) c.args.disk (g.met.R.Rack.agrees (store_rack c.args.self.now.store) t tells) c.requires.spinning c.requires.synced);
   done = λ is. absurd (c.put_out.ensures.never is);
-  lost = λ is. let put : IsPutOut c.args.self.now.meta c.put_out.new.meta c.args.disk = IfOk-at_ok _ is c.put_out.ensures.out in
+  lost = λ is. let put : IsPutOut c.args.self.now.meta c.put_out.new.meta (Some c.args.disk) = IfOk-at_ok _ is c.put_out.ensures.out in
       let ready = c.requires.ready in
       let old = c.args.self.now in
       call_stands g.R.Rack.slot_count g.R.Rack.slot g.R.Rack.told old _ _ c.park.ensures.told (g.met.R.Rack.agrees (store_rack old.store)) _ _ _ _ _ _ c.park.ensures.slots c.park.ensures.same.named
       (ap (λ (z : Meta). z.setup) (meta_is g c put))
       (λ h lo s agrees k. subst (λ (z : Meta). HoldsBetweenCalls (g.R.Rack.slot_count (store_rack old.store)) (named_of old.store) z old.dirty old.batch old.copied h lo (step (Park c.args.disk (is_ok c.park.result)) s)) (sym (meta_is g c put))
       (keeps_failed _ _ old.meta _ _ _ h lo s (Park c.args.disk (is_ok c.park.result)) ready.in_range c.requires.disk (failed g c put) (λ x l gone. ready.absent x l (ap is_present (sym (agrees.power x)) ∙ gone)) (alone g c put) c.requires.still k));
-  lost_filled = λ is. let put : IsPutOut c.args.self.now.meta c.put_out.new.meta c.args.disk = IfOk-at_ok _ is c.put_out.ensures.out in
+  lost_filled = λ is. let put : IsPutOut c.args.self.now.meta c.put_out.new.meta (Some c.args.disk) = IfOk-at_ok _ is c.put_out.ensures.out in
       let ready = c.requires.ready in
       let old = c.args.self.now in
       call_filled g.R.Rack.slot_count g.R.Rack.slot g.R.Rack.told old _ _ c.park.ensures.told (g.met.R.Rack.agrees (store_rack old.store)) _ _ _ c.park.ensures.slots c.park.ensures.same.named

@@ -34,7 +34,7 @@ module _ (g : Over) (c : In_default g) where
   done = ap is_ok c.in_default.is
 
 -- it failed, and no other disk is out
-module _ (g : Over) (c : After-put_out g) (put : IsPutOut c.args.self.now.meta c.put_out.new.meta c.args.disk) where
+module _ (g : Over) (c : After-put_out g) (put : IsPutOut c.args.self.now.meta c.put_out.new.meta (Some c.args.disk)) where
   abbrev old : Core g.row.R.Denot g.R.Rack
   old = c.args.self.now
 
@@ -92,8 +92,8 @@ returns g c = record {
   tells = IfErr-weaker c.put_out.result _ _ (λ two down. call_tells (named_out c.args.self.now.meta.out) _ (Read c.args.disk c.args.place (is_ok c.read.result)) _ _ c.read.ensures.told (ap is_ok c.in-Err.is) down) c.put_out.ensures.two;
   calls = one_call _ _ _ (is_ok c.read.result) c.read.ensures.told (λ t tells. (g.met.R.Rack.agrees (store_rack c.args.self.now.store) t tells).power c.args.disk ∙ c.requires.spins);
   marks = on_ok_weaker c.put_out.result (λ put. marks_failed c.args.self.now.meta c.put_out.new.meta _ _ c.args.disk _ _ _ c.read.ensures.slot (failed g c put) (meta_is g c put) c.requires.disk (λ x k. put.alone c.args.disk x refl k c.requires.disk)) c.put_out.ensures.out;
-  gone = λ is. let put : IsPutOut c.args.self.now.meta c.put_out.new.meta c.args.disk = IfOk-at_ok _ is c.put_out.ensures.out in meta_is g c put;
-  failed = λ is. let put : IsPutOut c.args.self.now.meta c.put_out.new.meta c.args.disk = IfOk-at_ok _ is c.put_out.ensures.out in record { risen = c.read.ensures.slot.risen (failed g c put); absent = c.read.ensures.slot.absent (failed g c put) };
+  gone = λ is. let put : IsPutOut c.args.self.now.meta c.put_out.new.meta (Some c.args.disk) = IfOk-at_ok _ is c.put_out.ensures.out in meta_is g c put;
+  failed = λ is. let put : IsPutOut c.args.self.now.meta c.put_out.new.meta (Some c.args.disk) = IfOk-at_ok _ is c.put_out.ensures.out in record { risen = c.read.ensures.slot.risen (failed g c put); absent = c.read.ensures.slot.absent (failed g c put) };
   value = λ is. absurd (c.put_out.ensures.never is);
   moments =
       call_held g.R.Rack.slot_count g.R.Rack.slot g.R.Rack.told c.args.self.now _ _ c.read.ensures.told c.requires.disk

@@ -1,3 +1,4 @@
+use Rattle.std.proofs.lemmas.Result.{IfErr-weaker, on_ok_weaker}
 use Rattle.paraid_core.proofs.FillLemmas.{can_read_but}
 use Rattle.std.proofs.Common.{inl, ◌++◌, ◌≡◌, ℕ, ◌∙◌, Some, None, sym, ap, subst, Option, ◌<◌, rules, refl}
 use Rattle.paraid_rack.specs.Trail.{now}
@@ -26,11 +27,11 @@ use Rattle.paraid_rack.specs.Told.{Ran}
 use Rattle.paraid_image.specs.Lost.{TellsLosses}
 use Rattle.paraid_core.proofs.staged.Core.read_value.Given.{Over}
 use Rattle.paraid_core.proofs.staged.Core.read_value.Goals as goal
-use Rattle.paraid_core.proofs.ErrLemmas.{none_done}
-use Rattle.paraid_core.proofs.staged.Core.read_value.Goals.{In_ok-lose}
+use Rattle.paraid_core.proofs.ErrLemmas.{both_put, none_done}
+use Rattle.paraid_core.proofs.staged.Core.read_value.Goals.{After-lose}
 
 -- what was lost is the one disk that is out
-module _ (g : Over) (c : In_ok-lose g) where
+module _ (g : Over) (c : After-lose g) where
   abbrev m : Meta
   m = c.args.self.now.meta
 
@@ -97,64 +98,62 @@ returns g c = record {
   draft = refl;
   copied = refl;
   slots = search rules;
-  ready =
-      let old = c.args.self.now in
+  ready = on_ok_weaker c.lose.result (λ put. let old = c.args.self.now in
       let read = c.in_ok-lost.ensures.read in
-      ready_moved _ _ _ _ _ _ _ _ _ (meta_with_lost (lost_in old.meta c.in_ok-lost.lost) old.meta) _ _ _ read.slots read.same.epoch read.same.disks read.same.named c.in_ok-lose.ensures.marked
-      (ready_after _ _ _ _ _ _ old.meta _ _ c.requires.ready c.in_ok-lost.lost (only g c) (none_out g c) (λ d x is was. none_out g c d x is (c.requires.serves.stays x was)) (λ d is. lost_in_low old.meta c.in_ok-lost.lost d is));
-  serves =
-      let old = c.args.self.now in
+      ready_moved _ _ _ _ _ _ _ _ _ (meta_with_lost (lost_in old.meta c.in_ok-lost.lost) old.meta) _ _ _ read.slots read.same.epoch read.same.disks read.same.named put.marked
+      (ready_after _ _ _ _ _ _ old.meta _ _ c.requires.ready c.in_ok-lost.lost (only g c) (none_out g c) (λ d x is was. none_out g c d x is (c.requires.serves.stays x was)) (λ d is. lost_in_low old.meta c.in_ok-lost.lost d is))) (both_put c.lose.result c.args.self.now.meta c.lose.new.meta c.in_ok-lost.lost c.lose.ensures.marked c.lose.ensures.alone);
+  serves = on_ok_weaker c.lose.result (λ put. let old = c.args.self.now in
       let read = c.in_ok-lost.ensures.read in
       subst (λ (z : Option ℕ). CanServe (g.R.Rack.slot (store_rack c.read_cell.new.store)) z c.lose.new.meta) (sym read.same.named)
-      (subst (λ (z : Meta). CanServe (g.R.Rack.slot (store_rack c.read_cell.new.store)) (named_of old.store) z) (sym c.in_ok-lose.ensures.marked)
+      (subst (λ (z : Meta). CanServe (g.R.Rack.slot (store_rack c.read_cell.new.store)) (named_of old.store) z) (sym put.marked)
       (serve_after _ _ _ _ _ _ old.meta _ _ c.requires.ready c.in_ok-lost.lost (only g c) (none_out g c) (λ d x is was. none_out g c d x is (c.requires.serves.stays x was)) (λ d is. lost_in_low old.meta c.in_ok-lost.lost d is)
-      c.requires.serves));
+      c.requires.serves))) (both_put c.lose.result c.args.self.now.meta c.lose.new.meta c.in_ok-lost.lost c.lose.ensures.marked c.lose.ensures.alone);
   batch = refl;
   table = refl;
-  cleans_less = λ r d is.
+  cleans_less = on_ok_weaker c.lose.result (λ put. λ r d is.
       let old = c.args.self.now in
-      subst (λ (z : Meta). is_cleaned z old.dirty r d ≡ false) (sym c.in_ok-lose.ensures.marked) (cleans_marked (lost_in old.meta c.in_ok-lost.lost) old.meta old.meta.epoch old.dirty r d is);
-  setup = ap (λ (z : Meta). z.setup) c.in_ok-lose.ensures.marked ∙ marked_setup (lost_in c.args.self.now.meta c.in_ok-lost.lost) c.args.self.now.meta;
-  writes = ap (λ (z : Meta). z.writes) c.in_ok-lose.ensures.marked ∙ marked_writes (lost_in c.args.self.now.meta c.in_ok-lost.lost) c.args.self.now.meta;
-  epoch = ap (λ (z : Meta). z.epoch) c.in_ok-lose.ensures.marked ∙ marked_epoch (lost_in c.args.self.now.meta c.in_ok-lost.lost) c.args.self.now.meta;
-  down =
-      let old = c.args.self.now in
+      subst (λ (z : Meta). is_cleaned z old.dirty r d ≡ false) (sym put.marked) (cleans_marked (lost_in old.meta c.in_ok-lost.lost) old.meta old.meta.epoch old.dirty r d is)) (both_put c.lose.result c.args.self.now.meta c.lose.new.meta c.in_ok-lost.lost c.lose.ensures.marked c.lose.ensures.alone);
+  setup = on_ok_weaker c.lose.result (λ put. ap (λ (z : Meta). z.setup) put.marked ∙ marked_setup (lost_in c.args.self.now.meta c.in_ok-lost.lost) c.args.self.now.meta) (both_put c.lose.result c.args.self.now.meta c.lose.new.meta c.in_ok-lost.lost c.lose.ensures.marked c.lose.ensures.alone);
+  writes = on_ok_weaker c.lose.result (λ put. ap (λ (z : Meta). z.writes) put.marked ∙ marked_writes (lost_in c.args.self.now.meta c.in_ok-lost.lost) c.args.self.now.meta) (both_put c.lose.result c.args.self.now.meta c.lose.new.meta c.in_ok-lost.lost c.lose.ensures.marked c.lose.ensures.alone);
+  epoch = on_ok_weaker c.lose.result (λ put. ap (λ (z : Meta). z.epoch) put.marked ∙ marked_epoch (lost_in c.args.self.now.meta c.in_ok-lost.lost) c.args.self.now.meta) (both_put c.lose.result c.args.self.now.meta c.lose.new.meta c.in_ok-lost.lost c.lose.ensures.marked c.lose.ensures.alone);
+  down = on_ok_weaker c.lose.result (λ put. let old = c.args.self.now in
       let read = c.in_ok-lost.ensures.read in
       down_read (named_of old.store) old.meta c.in_ok-lost.lost c.lose.new.meta (named_of c.read_cell.new.store) _ _ c.requires.ready.one
-      (ap (λ (z : Meta). named_out z.out) c.in_ok-lose.ensures.marked) read.left.failed read.same.named;
+      (ap (λ (z : Meta). named_out z.out) put.marked) read.left.failed read.same.named) (both_put c.lose.result c.args.self.now.meta c.lose.new.meta c.in_ok-lost.lost c.lose.ensures.marked c.lose.ensures.alone);
   spared = left_spared c.in_ok-lost.lost _ _ c.in_ok-lost.ensures.read.left;
   still_synced = search rules;
-  two = tt;
-  tells = tt;
+  two =
+      let old = c.args.self.now in
+      IfErr-weaker c.lose.result _ _ (λ two both. record { first = inl (down_named (named_of old.store) old.meta c.requires.ready.one _ both.1); apart = both.2; second = (c.in_ok-lost.ensures.read.left.failed _ both.0).risen }) c.lose.ensures.two;
+  tells = IfErr-weaker c.lose.result _ _ (λ two down. lose_tells (named_out c.args.self.now.meta.out) c.in_ok-lost.lost _ _ _ down c.in_ok-lost.ensures.read.first) c.lose.ensures.two;
   calls =
       let old = c.args.self.now in
       calls_off _ _ _ _ (sym c.requires.ready.array_is) (λ d is. out_named (λ x. (g.R.Rack.slot (store_rack old.store) x).power) old.meta d (gone_named old.meta.out d is)) _ _ c.in_ok-lost.ensures.read.calls c.read_cell.ensures.off;
   reads = reads_of _ _ (sym c.requires.ready.array_is) _ _ c.in_ok-lost.ensures.read.calls;
-  marks =
-      let m = c.args.self.now.meta in
-      marks_read m c.lose.new.meta c.in_ok-lost.lost _ _ m.epoch m.writes c.in_ok-lost.ensures.read.left c.in_ok-lose.ensures.marked (low g c) (λ d x is k. c.in_ok-lose.ensures.alone d x is k (low g c d is));
+  marks = on_ok_weaker c.lose.result (λ put. let m = c.args.self.now.meta in
+      marks_read m c.lose.new.meta c.in_ok-lost.lost _ _ m.epoch m.writes c.in_ok-lost.ensures.read.left put.marked (low g c) (λ d x is k. put.alone d x is k (low g c d is))) (both_put c.lose.result c.args.self.now.meta c.lose.new.meta c.in_ok-lost.lost c.lose.ensures.marked c.lose.ensures.alone);
   named = c.in_ok-lost.ensures.read.same.named;
   moments = λ h lo.
       let old = c.args.self.now in
       reads_moments (g.R.Rack.slot_count (store_rack old.store)) (named_of old.store) old.meta old.dirty old.batch old.copied h lo (or_else (named_of old.store) (named_out old.meta.out)) (knows_named (named_of old.store) (named_out old.meta.out)) (disks_of old.store) _ _ (sym c.requires.ready.array_is) c.in_ok-lost.ensures.read.calls;
-  stands = λ h lo.
+  stands = on_ok_weaker c.lose.result (λ put. λ h lo.
       let old = c.args.self.now in
       let read = c.in_ok-lost.ensures in
       reads_stand (g.R.Rack.slot_count (store_rack old.store)) (named_of old.store) old.meta old.dirty old.batch old.copied h lo (or_else (named_of old.store) (named_out old.meta.out)) (knows_named (named_of old.store) (named_out old.meta.out)) (disks_of old.store) _ _ (g.R.Rack.slot (store_rack old.store)) (g.R.Rack.slot (store_rack c.read_cell.new.store))
       c.in_ok-lost.lost c.requires.ready.in_range (sym c.requires.ready.array_is) (g.met.R.Rack.agrees (store_rack old.store)) (g.met.R.Rack.agrees (store_rack c.read_cell.new.store)) read.read.left
       (g.met.R.Rack.slots_hold (store_rack c.read_cell.new.store)).absent (λ d is. subst (λ (z : ℕ). d < z) (sym c.requires.ready.array_is) (read.below d is)) (λ d is. read.one d is) c.requires.serves.stays
-      _ _ _ read.read.slots read.read.same.named c.in_ok-lose.ensures.marked read.read.calls;
+      _ _ _ read.read.slots read.read.same.named put.marked read.read.calls) (both_put c.lose.result c.args.self.now.meta c.lose.new.meta c.in_ok-lost.lost c.lose.ensures.marked c.lose.ensures.alone);
   moments_since = λ h lo.
       let old = c.args.self.now in
       reads_moments (g.R.Rack.slot_count (store_rack old.store)) (named_of old.store) old.meta old.dirty old.batch old.copied h lo (named_of old.store) (λ d is. is) (disks_of old.store) _ _ (sym c.requires.ready.array_is) c.in_ok-lost.ensures.read.calls;
-  since = λ h lo.
+  since = on_ok_weaker c.lose.result (λ put. λ h lo.
       let old = c.args.self.now in
       let read = c.in_ok-lost.ensures in
       reads_stand (g.R.Rack.slot_count (store_rack old.store)) (named_of old.store) old.meta old.dirty old.batch old.copied h lo (named_of old.store) (λ d is. is) (disks_of old.store) _ _ (g.R.Rack.slot (store_rack old.store)) (g.R.Rack.slot (store_rack c.read_cell.new.store))
       c.in_ok-lost.lost c.requires.ready.in_range (sym c.requires.ready.array_is) (g.met.R.Rack.agrees (store_rack old.store)) (g.met.R.Rack.agrees (store_rack c.read_cell.new.store)) read.read.left
       (g.met.R.Rack.slots_hold (store_rack c.read_cell.new.store)).absent (λ d is. subst (λ (z : ℕ). d < z) (sym c.requires.ready.array_is) (read.below d is)) (λ d is. read.one d is) c.requires.serves.stays
-      _ _ _ read.read.slots read.read.same.named c.in_ok-lose.ensures.marked read.read.calls;
-  value = λ h lo t tells keeps some.
+      _ _ _ read.read.slots read.read.same.named put.marked read.read.calls) (both_put c.lose.result c.args.self.now.meta c.lose.new.meta c.in_ok-lost.lost c.lose.ensures.marked c.lose.ensures.alone);
+  value = on_ok_weaker c.lose.result (λ put. λ h lo t tells keeps some.
       let old = c.args.self.now in
       let slots : ℕ = g.R.Rack.slot_count (store_rack old.store) in
       let agrees = g.met.R.Rack.agrees (store_rack old.store) t tells in
@@ -163,48 +162,7 @@ returns g c = record {
       cell_value slots (named_of old.store) old.meta old.dirty old.batch old.copied h lo (now t) keeps p powers c.args.r c.args.d _ c.requires.row
       (c.in_ok-lost.ensures.value (contents (now t) old.batch)
       (subst (λ (z : Batch). ShowsContents (g.R.Rack.told (store_rack old.store)) z (contents (now t) old.batch)) (sym (ap (λ (z : Batch). old.batch ++ z) c.requires.no_draft ∙ append-nil old.batch)) (shows_contents _ old.batch t tells)) some
-      (rows_zero slots (named_of old.store) old.meta old.dirty old.batch old.copied h lo (now t) keeps p powers) (stripes_zero slots (named_of old.store) old.meta old.dirty old.batch old.copied h lo (now t) keeps p powers));
-}
-
-pub returns-in_err-lose : goal.returns-in_err-lose
-returns-in_err-lose g c = record {
-  draft = refl;
-  copied = refl;
-  slots = search rules;
-  ready = none_done _ c.from_residual-in_err-lose.result _ c.from_residual-in_err-lose.ensures.1;
-  serves = none_done _ c.from_residual-in_err-lose.result _ c.from_residual-in_err-lose.ensures.1;
-  batch = refl;
-  table = refl;
-  cleans_less = none_done _ c.from_residual-in_err-lose.result _ c.from_residual-in_err-lose.ensures.1;
-  setup = none_done _ c.from_residual-in_err-lose.result _ c.from_residual-in_err-lose.ensures.1;
-  writes = none_done _ c.from_residual-in_err-lose.result _ c.from_residual-in_err-lose.ensures.1;
-  epoch = none_done _ c.from_residual-in_err-lose.result _ c.from_residual-in_err-lose.ensures.1;
-  down = none_done _ c.from_residual-in_err-lose.result _ c.from_residual-in_err-lose.ensures.1;
-  spared = left_spared _ _ _ c.in_ok-lost.ensures.read.left;
-  still_synced = left_synced _ _ _ c.in_ok-lost.ensures.read.left;
-  two =
-      let old = c.args.self.now in
-      let both = c.in_err-lose.ensures.two in
-      handed (AreTwoDown (or_else (named_of old.store) (named_out old.meta.out)) (g.R.Rack.slot (store_rack old.store)) (g.R.Rack.slot (store_rack c.read_cell.new.store))) c.from_residual-in_err-lose.result _ c.from_residual-in_err-lose.ensures.1
-      (record { first = inl (down_named (named_of old.store) old.meta c.requires.ready.one _ both.1); apart = both.2; second = (c.in_ok-lost.ensures.read.left.failed _ both.0).risen });
-  tells =
-      handed (λ two. Ran (g.R.Rack.told (store_rack c.args.self.now.store)) (g.R.Rack.told (store_rack c.read_cell.new.store)) (λ s cs. TellsLosses (named_out c.args.self.now.meta.out) two cs)) c.from_residual-in_err-lose.result _ c.from_residual-in_err-lose.ensures.1
-      (lose_tells (named_out c.args.self.now.meta.out) c.in_ok-lost.lost _ _ _ c.in_err-lose.ensures.two c.in_ok-lost.ensures.read.first);
-  calls =
-      let old = c.args.self.now in
-      calls_off _ _ _ _ (sym c.requires.ready.array_is) (λ d is. out_named (λ x. (g.R.Rack.slot (store_rack old.store) x).power) old.meta d (gone_named old.meta.out d is)) _ _ c.in_ok-lost.ensures.read.calls c.read_cell.ensures.off;
-  reads = reads_of _ _ (sym c.requires.ready.array_is) _ _ c.in_ok-lost.ensures.read.calls;
-  marks = none_done _ c.from_residual-in_err-lose.result _ c.from_residual-in_err-lose.ensures.1;
-  named = c.in_ok-lost.ensures.read.same.named;
-  moments = λ h lo.
-      let old = c.args.self.now in
-      reads_moments (g.R.Rack.slot_count (store_rack old.store)) (named_of old.store) old.meta old.dirty old.batch old.copied h lo (or_else (named_of old.store) (named_out old.meta.out)) (knows_named (named_of old.store) (named_out old.meta.out)) (disks_of old.store) _ _ (sym c.requires.ready.array_is) c.in_ok-lost.ensures.read.calls;
-  stands = none_done _ c.from_residual-in_err-lose.result _ c.from_residual-in_err-lose.ensures.1;
-  moments_since = λ h lo.
-      let old = c.args.self.now in
-      reads_moments (g.R.Rack.slot_count (store_rack old.store)) (named_of old.store) old.meta old.dirty old.batch old.copied h lo (named_of old.store) (λ d is. is) (disks_of old.store) _ _ (sym c.requires.ready.array_is) c.in_ok-lost.ensures.read.calls;
-  since = none_done _ c.from_residual-in_err-lose.result _ c.from_residual-in_err-lose.ensures.1;
-  value = none_done _ c.from_residual-in_err-lose.result _ c.from_residual-in_err-lose.ensures.1;
+      (rows_zero slots (named_of old.store) old.meta old.dirty old.batch old.copied h lo (now t) keeps p powers) (stripes_zero slots (named_of old.store) old.meta old.dirty old.batch old.copied h lo (now t) keeps p powers))) (both_put c.lose.result c.args.self.now.meta c.lose.new.meta c.in_ok-lost.lost c.lose.ensures.marked c.lose.ensures.alone);
 }
 
 pub read_cell-requires : goal.read_cell-requires

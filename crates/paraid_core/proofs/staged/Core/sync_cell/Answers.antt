@@ -91,10 +91,10 @@ returns g c = record {
       (λ d is. subst (λ (z : ℕ). z < m.setup.geometry.disks) (some_is c.in-Err.lost d is) (subst (λ (z : ℕ). c.in-Err.lost < z) (sym c.requires.ready.array_is) c.in-Err.ensures.below)) in
       marks_read m c.put_out.new.meta (Some c.in-Err.lost) _ _ m.epoch m.writes c.in-Err.ensures.read.left put.marked low (λ d x is k. put.alone d x is k (low d is))) c.put_out.ensures.out;
   copied = λ is. absurd (c.put_out.ensures.never is);
-  failed = λ is. let put : IsPutOut c.args.self.now.meta c.put_out.new.meta c.in-Err.lost = IfOk-at_ok _ is c.put_out.ensures.out in
+  failed = λ is. let put : IsPutOut c.args.self.now.meta c.put_out.new.meta (Some c.in-Err.lost) = IfOk-at_ok _ is c.put_out.ensures.out in
       loses_read c.args.self.now.meta c.put_out.new.meta c.in-Err.lost _ _ c.in-Err.ensures.read.left put.marked
       (subst (λ (z : ℕ). c.in-Err.lost < z) (sym c.requires.ready.array_is) c.in-Err.ensures.below);
-  lost = λ is h lo cells. let put : IsPutOut c.args.self.now.meta c.put_out.new.meta c.in-Err.lost = IfOk-at_ok _ is c.put_out.ensures.out in
+  lost = λ is h lo cells. let put : IsPutOut c.args.self.now.meta c.put_out.new.meta (Some c.in-Err.lost) = IfOk-at_ok _ is c.put_out.ensures.out in
       let old = c.args.self.now in
       let q = c.requires in
       cell_lost g.R.Rack.slot_count g.R.Rack.slot g.R.Rack.told old q.ready q.whole (g.met.R.Rack.agrees (store_rack old.store)) c.read_value.new.store c.in-Err.lost c.in-Err.ensures.read c.in-Err.ensures.below q.serves.stays c.put_out.new.meta put.marked

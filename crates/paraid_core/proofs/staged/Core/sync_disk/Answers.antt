@@ -1,3 +1,5 @@
+use Rattle.std.proofs.lemmas.Result.{IfErr-weaker, on_ok_weaker}
+use Rattle.paraid_core.specs.Steps.{IsPutOut}
 use Rattle.paraid_base.specs.declared.state.Out.TheVariants.{Fresh, Gone, No}
 use Rattle.paraid_image.specs.Mark.{meta_after_loss}
 use Rattle.std.proofs.Common.{◌≡◌, ℕ, ◌∙◌, ◌<◌, Some, None, sym, ap, subst, refl, false, true, arith}
@@ -26,8 +28,8 @@ use Rattle.paraid_image.specs.Lost.{TellsLosses}
 use Rattle.paraid_core.proofs.AfterLemmas.{handed}
 use Rattle.paraid_core.proofs.staged.Core.sync_disk.Given.{Over}
 use Rattle.paraid_core.proofs.staged.Core.sync_disk.Goals as goal
-use Rattle.paraid_core.proofs.ErrLemmas.{none_done, two_lost}
-use Rattle.paraid_core.proofs.staged.Core.sync_disk.Goals.{In_default, In_ok-lose}
+use Rattle.paraid_core.proofs.ErrLemmas.{both_put, none_done, two_lost}
+use Rattle.paraid_core.proofs.staged.Core.sync_disk.Goals.{After-lose, In_default}
 
 -- it was done
 module _ (g : Over) (c : In_default g) where
@@ -35,7 +37,7 @@ module _ (g : Over) (c : In_default g) where
   done = ap is_ok c.in_default.is
 
 -- it failed, and no other disk is out
-module _ (g : Over) (c : In_ok-lose g) where
+module _ (g : Over) (c : After-lose g) (put : IsPutOut c.args.self.now.meta c.lose.new.meta (Some c.args.disk)) where
   abbrev old : Core g.row.R.Denot g.R.Rack
   old = c.args.self.now
 
@@ -46,40 +48,40 @@ module _ (g : Over) (c : In_ok-lose g) where
   is_lost = lost_in_there old.meta (Some c.args.disk) c.args.disk c.requires.disk refl
 
   meta_is : c.lose.new.meta ≡ meta_after_loss old.meta c.args.disk
-  meta_is = c.in_ok-lose.ensures.marked ∙ ap (λ (o : Option ℕ). meta_with_lost o old.meta) is_lost
+  meta_is = put.marked ∙ ap (λ (o : Option ℕ). meta_with_lost o old.meta) is_lost
 
   alone : (x : ℕ) → named_out old.meta.out ≡ Some x → x ≡ c.args.disk
-  alone x is = c.in_ok-lose.ensures.alone c.args.disk x refl is c.requires.disk
+  alone x is = put.alone c.args.disk x refl is c.requires.disk
 
 pub returns : goal.returns
 returns g c = record {
-  leaves =
-      call_leaves g.R.Rack.slot_count g.R.Rack.slot c.args.self.now _ c.requires.ready c.requires.still c.sync-answer.ensures.slots c.sync-answer.ensures.same refl refl refl
+  leaves = on_ok_weaker c.lose.result (λ put. call_leaves g.R.Rack.slot_count g.R.Rack.slot c.args.self.now _ c.requires.ready c.requires.still c.sync-answer.ensures.slots c.sync-answer.ensures.same refl refl refl
       (Some c.args.disk) (λ d is. subst (λ (e : ℕ). e < c.args.self.now.meta.setup.geometry.disks) (some_is c.args.disk d is) c.requires.disk)
-      (failed_only _ _ _ _ _ _ _ c.sync-answer.ensures.slot refl refl (failed g c)) (λ d x is k. alone g c x k ∙ some_is c.args.disk d is) (meta_is g c)
+      (failed_only _ _ _ _ _ _ _ c.sync-answer.ensures.slot refl refl (failed g c put)) (λ d x is k. alone g c put x k ∙ some_is c.args.disk d is) (meta_is g c put)
       (call_spared 8 _ _ _ _ _ _ c.sync-answer.ensures.slot refl refl refl)
-      (λ d is. subst (λ (e : ℕ). HasRisen (g.R.Rack.slot (store_rack c.args.self.now.store) e).faults (g.R.Rack.slot (store_rack c.sync-answer.new.self) e).faults) (some_is c.args.disk d is) (c.sync-answer.ensures.slot.risen (failed g c))) (marks_cleared _ _ _ _ _ _ c.sync-answer.ensures.slot _ _ refl (cleared_at _ _));
+      (λ d is. subst (λ (e : ℕ). HasRisen (g.R.Rack.slot (store_rack c.args.self.now.store) e).faults (g.R.Rack.slot (store_rack c.sync-answer.new.self) e).faults) (some_is c.args.disk d is) (c.sync-answer.ensures.slot.risen (failed g c put))) (marks_cleared _ _ _ _ _ _ c.sync-answer.ensures.slot _ _ refl (cleared_at _ _))) (both_put c.lose.result c.args.self.now.meta c.lose.new.meta (Some c.args.disk) c.lose.ensures.marked c.lose.ensures.alone);
   spared = call_spared 8 _ _ _ _ _ _ c.sync-answer.ensures.slot refl refl refl;
   still_synced = one_dry _ _ _ _ _ _ c.sync-answer.ensures.slot (λ wet. absurd (false≢true wet));
-  synced = one_synced _ _ _ _ _ _ c.sync-answer.ensures.slot refl;
+  synced = on_ok_weaker c.lose.result (λ put. one_synced _ _ _ _ _ _ c.sync-answer.ensures.slot refl) (both_put c.lose.result c.args.self.now.meta c.lose.new.meta (Some c.args.disk) c.lose.ensures.marked c.lose.ensures.alone);
   cleared = cleared_at _ _;
-  two = tt;
-  tells = tt;
+  two =
+      let old = c.args.self.now in
+      IfErr-weaker c.lose.result _ _ (λ two down. two_lost (named_of old.store) (named_out old.meta.out) _ _ c.args.disk _ c.requires.still (c.sync-answer.ensures.slot.risen (ap is_ok c.in-Err.is)) down) c.lose.ensures.two;
+  tells = IfErr-weaker c.lose.result _ _ (λ two down. call_tells (named_out c.args.self.now.meta.out) _ (Sync c.args.disk (is_ok c.sync-answer.result)) _ _ c.sync-answer.ensures.told (ap is_ok c.in-Err.is) down) c.lose.ensures.two;
   calls = one_call _ _ _ (is_ok c.sync-answer.result) c.sync-answer.ensures.told (λ t tells. (g.met.R.Rack.agrees (store_rack c.args.self.now.store) t tells).power c.args.disk ∙ c.requires.spins);
-  marks = marks_failed c.args.self.now.meta c.lose.new.meta _ _ c.args.disk _ _ _ c.sync-answer.ensures.slot (failed g c) (meta_is g c) c.requires.disk (λ x k. c.in_ok-lose.ensures.alone c.args.disk x refl k c.requires.disk);
+  marks = on_ok_weaker c.lose.result (λ put. marks_failed c.args.self.now.meta c.lose.new.meta _ _ c.args.disk _ _ _ c.sync-answer.ensures.slot (failed g c put) (meta_is g c put) c.requires.disk (λ x k. put.alone c.args.disk x refl k c.requires.disk)) (both_put c.lose.result c.args.self.now.meta c.lose.new.meta (Some c.args.disk) c.lose.ensures.marked c.lose.ensures.alone);
   moments =
       call_held g.R.Rack.slot_count g.R.Rack.slot g.R.Rack.told c.args.self.now _ _ c.sync-answer.ensures.told c.requires.disk
       (λ is h lo s k. keeps_held _ _ _ _ _ (slice_set c.args.self.now.copied c.args.disk false) h lo _ (keeps_synced _ _ _ _ _ _ _ h lo s _ (cleared_at _ _) k _ is));
-  stands =
-      let ready = c.requires.ready in
+  stands = on_ok_weaker c.lose.result (λ put. let ready = c.requires.ready in
       call_stands g.R.Rack.slot_count g.R.Rack.slot g.R.Rack.told c.args.self.now _ _ c.sync-answer.ensures.told (g.met.R.Rack.agrees (store_rack c.args.self.now.store)) _ _ _ _ _ _ c.sync-answer.ensures.slots c.sync-answer.ensures.same.named
-      (ap (λ (z : Meta). z.setup) (meta_is g c))
-      (λ h lo s agrees k. subst (λ (z : Meta). HoldsBetweenCalls (g.R.Rack.slot_count (store_rack c.args.self.now.store)) (named_of c.args.self.now.store) z c.args.self.now.dirty c.args.self.now.batch (slice_set c.args.self.now.copied c.args.disk false) h lo (step (Sync c.args.disk (is_ok c.sync-answer.result)) s)) (sym (meta_is g c))
-      (keeps_unsynced _ _ _ _ _ _ _ h lo s _ (cleared_at _ _) k _ (failed g c) ready.in_range c.requires.disk (λ x l gone. ready.absent x l (ap is_present (sym (agrees.power x)) ∙ gone)) (alone g c) c.requires.still));
+      (ap (λ (z : Meta). z.setup) (meta_is g c put))
+      (λ h lo s agrees k. subst (λ (z : Meta). HoldsBetweenCalls (g.R.Rack.slot_count (store_rack c.args.self.now.store)) (named_of c.args.self.now.store) z c.args.self.now.dirty c.args.self.now.batch (slice_set c.args.self.now.copied c.args.disk false) h lo (step (Sync c.args.disk (is_ok c.sync-answer.result)) s)) (sym (meta_is g c put))
+      (keeps_unsynced _ _ _ _ _ _ _ h lo s _ (cleared_at _ _) k _ (failed g c put) ready.in_range c.requires.disk (λ x l gone. ready.absent x l (ap is_present (sym (agrees.power x)) ∙ gone)) (alone g c put) c.requires.still))) (both_put c.lose.result c.args.self.now.meta c.lose.new.meta (Some c.args.disk) c.lose.ensures.marked c.lose.ensures.alone);
   -- that disk is out
-  filled = λ whole. let z : Gone c.args.disk ≡ No = ap (λ (m : Meta). m.out) (sym (meta_is g c)) ∙ whole in absurd cc;
-  cells = λ whole. let z : Gone c.args.disk ≡ No = ap (λ (m : Meta). m.out) (sym (meta_is g c)) ∙ whole in absurd cc;
-  rebuilt = λ d units fresh. let z : Gone c.args.disk ≡ Fresh d units = ap (λ (m : Meta). m.out) (sym (meta_is g c)) ∙ fresh in absurd cc;
+  filled = on_ok_weaker c.lose.result (λ put. λ whole. let z : Gone c.args.disk ≡ No = ap (λ (m : Meta). m.out) (sym (meta_is g c put)) ∙ whole in absurd cc) (both_put c.lose.result c.args.self.now.meta c.lose.new.meta (Some c.args.disk) c.lose.ensures.marked c.lose.ensures.alone);
+  cells = on_ok_weaker c.lose.result (λ put. λ whole. let z : Gone c.args.disk ≡ No = ap (λ (m : Meta). m.out) (sym (meta_is g c put)) ∙ whole in absurd cc) (both_put c.lose.result c.args.self.now.meta c.lose.new.meta (Some c.args.disk) c.lose.ensures.marked c.lose.ensures.alone);
+  rebuilt = on_ok_weaker c.lose.result (λ put. λ d units fresh. let z : Gone c.args.disk ≡ Fresh d units = ap (λ (m : Meta). m.out) (sym (meta_is g c put)) ∙ fresh in absurd cc) (both_put c.lose.result c.args.self.now.meta c.lose.new.meta (Some c.args.disk) c.lose.ensures.marked c.lose.ensures.alone);
 }
 
 pub returns-in_default : goal.returns-in_default
@@ -114,30 +116,6 @@ returns-in_default g c = record {
     refl,
     λ h lo end. sync_units g.R.Rack.slot_count g.R.Rack.told c.args.self.now _ _ c.args.disk _ c.sync-answer.ensures.told (cleared_at _ _) (done g c) _ _ c.sync-answer.ensures.slots c.sync-answer.ensures.same.named h lo end,
   );
-}
-
-pub returns-in_err-lose : goal.returns-in_err-lose
-returns-in_err-lose g c = record {
-  leaves = none_done _ c.from_residual.result _ c.from_residual.ensures.1;
-  spared = call_spared 8 _ _ _ _ _ _ c.sync-answer.ensures.slot refl refl refl;
-  still_synced = one_dry _ _ _ _ _ _ c.sync-answer.ensures.slot (λ wet. absurd (false≢true wet));
-  synced = none_done _ c.from_residual.result _ c.from_residual.ensures.1;
-  cleared = cleared_at _ _;
-  two =
-      let old = c.args.self.now in
-      handed _ c.from_residual.result _ c.from_residual.ensures.1 (two_lost (named_of old.store) (named_out old.meta.out) _ _ c.args.disk _ c.requires.still (c.sync-answer.ensures.slot.risen (ap is_ok c.in-Err.is)) c.in_err-lose.ensures.two);
-  tells =
-      handed (λ two. Ran (g.R.Rack.told (store_rack c.args.self.now.store)) (g.R.Rack.told (store_rack c.sync-answer.new.self)) (λ s cs. TellsLosses (named_out c.args.self.now.meta.out) two cs)) c.from_residual.result _ c.from_residual.ensures.1
-      (call_tells (named_out c.args.self.now.meta.out) _ (Sync c.args.disk (is_ok c.sync-answer.result)) _ _ c.sync-answer.ensures.told (ap is_ok c.in-Err.is) c.in_err-lose.ensures.two);
-  calls = one_call _ _ _ (is_ok c.sync-answer.result) c.sync-answer.ensures.told (λ t tells. (g.met.R.Rack.agrees (store_rack c.args.self.now.store) t tells).power c.args.disk ∙ c.requires.spins);
-  marks = none_done _ c.from_residual.result _ c.from_residual.ensures.1;
-  moments =
-      call_held g.R.Rack.slot_count g.R.Rack.slot g.R.Rack.told c.args.self.now _ _ c.sync-answer.ensures.told c.requires.disk
-      (λ is h lo s k. keeps_held _ _ _ _ _ (slice_set c.args.self.now.copied c.args.disk false) h lo _ (keeps_synced _ _ _ _ _ _ _ h lo s _ (cleared_at _ _) k _ is));
-  stands = none_done _ c.from_residual.result _ c.from_residual.ensures.1;
-  filled = none_done _ c.from_residual.result _ c.from_residual.ensures.1;
-  cells = none_done _ c.from_residual.result _ c.from_residual.ensures.1;
-  rebuilt = none_done _ c.from_residual.result _ c.from_residual.ensures.1;
 }
 
 pub sync-answer-requires : goal.sync-answer-requires

@@ -33,7 +33,7 @@ use Rattle.paraid_core.proofs.ErrLemmas.{done_not_dropped, none_done, none_done_
 use Rattle.paraid_core.proofs.staged.Core.write_cell.Goals.{After-put_out}
 
 -- it failed, and no other disk is out
-module _ (g : Over) (c : After-put_out g) (put : IsPutOut c.args.self.now.meta c.put_out.new.meta c.args.disk) where
+module _ (g : Over) (c : After-put_out g) (put : IsPutOut c.args.self.now.meta c.put_out.new.meta (Some c.args.disk)) where
   abbrev old : Core g.row.R.Denot g.R.Rack
   old = c.args.self.now
 
@@ -71,9 +71,9 @@ returns g c = record {
       (λ gone. in_all (gone_named m.out c.args.disk gone)) (omega (arith, far)) (λ t tells. (g.met.R.Rack.agrees (store_rack c.args.self.now.store) t tells).power c.args.disk ∙ q.serves.spins c.args.disk q.rises in_all);
   marks = on_ok_weaker c.put_out.result (λ put. marks_failed c.args.self.now.meta c.put_out.new.meta _ _ c.args.disk _ _ _ c.write_free-answer.ensures.slot (failed g c put) (meta_is g c put) (disk_in c.args.self.now.meta c.args.disk c.requires.ready.in_range c.requires.rises) (λ x k. put.alone c.args.disk x refl k (disk_in c.args.self.now.meta c.args.disk c.requires.ready.in_range c.requires.rises))) c.put_out.ensures.out;
   copied = λ is. absurd (c.put_out.ensures.never is);
-  gone = λ is. let put : IsPutOut c.args.self.now.meta c.put_out.new.meta c.args.disk = IfOk-at_ok _ is c.put_out.ensures.out in meta_is g c put;
-  failed = λ is. let put : IsPutOut c.args.self.now.meta c.put_out.new.meta c.args.disk = IfOk-at_ok _ is c.put_out.ensures.out in record { risen = c.write_free-answer.ensures.slot.risen (failed g c put); absent = c.write_free-answer.ensures.slot.absent (failed g c put) };
-  lost = λ is h lo cells. let put : IsPutOut c.args.self.now.meta c.put_out.new.meta c.args.disk = IfOk-at_ok _ is c.put_out.ensures.out in
+  gone = λ is. let put : IsPutOut c.args.self.now.meta c.put_out.new.meta (Some c.args.disk) = IfOk-at_ok _ is c.put_out.ensures.out in meta_is g c put;
+  failed = λ is. let put : IsPutOut c.args.self.now.meta c.put_out.new.meta (Some c.args.disk) = IfOk-at_ok _ is c.put_out.ensures.out in record { risen = c.write_free-answer.ensures.slot.risen (failed g c put); absent = c.write_free-answer.ensures.slot.absent (failed g c put) };
+  lost = λ is h lo cells. let put : IsPutOut c.args.self.now.meta c.put_out.new.meta (Some c.args.disk) = IfOk-at_ok _ is c.put_out.ensures.out in
       let old = c.args.self.now in
       let ready = c.requires.ready in
       weaker (IsCoreHeldSinceCommit g.R.Rack.slot_count old h lo) (CoreStandsFor g.R.Rack.slot_count old h lo) (CopyingCell g.R.Rack.slot_count old h lo cells c.args.r c.args.disk c.args.block.now) _ _ _ _ (λ s k. k.before.keeps) (λ s k. k)

@@ -28,7 +28,7 @@ use Rattle.paraid_core.proofs.ErrLemmas.{done_not_dropped, none_done, none_done_
 use Rattle.paraid_core.proofs.staged.Core.write_member.Goals.{After-put_out}
 
 -- it failed, and no other disk is out
-module _ (g : Over) (c : After-put_out g) (put : IsPutOut c.args.self.now.meta c.put_out.new.meta c.args.disk) where
+module _ (g : Over) (c : After-put_out g) (put : IsPutOut c.args.self.now.meta c.put_out.new.meta (Some c.args.disk)) where
   abbrev old : Core g.row.R.Denot g.R.Rack
   old = c.args.self.now
 
@@ -97,9 +97,9 @@ returns g c = record {
       (λ gone. in_all (gone_named m.out c.args.disk gone)) (omega (arith, at)) (λ t tells. (g.met.R.Rack.agrees (store_rack c.args.self.now.store) t tells).power c.args.disk ∙ q.spins);
   marks = on_ok_weaker c.put_out.result (λ put. marks_failed c.args.self.now.meta c.put_out.new.meta _ _ c.args.disk _ _ _ c.write_free-answer.ensures.slot (failed g c put) (meta_is g c put) c.requires.disk (λ x k. put.alone c.args.disk x refl k c.requires.disk)) c.put_out.ensures.out;
   written = λ is. absurd (c.put_out.ensures.never is);
-  gone = λ is. let put : IsPutOut c.args.self.now.meta c.put_out.new.meta c.args.disk = IfOk-at_ok _ is c.put_out.ensures.out in meta_is g c put;
-  failed = λ is. let put : IsPutOut c.args.self.now.meta c.put_out.new.meta c.args.disk = IfOk-at_ok _ is c.put_out.ensures.out in record { risen = c.write_free-answer.ensures.slot.risen (failed g c put); absent = c.write_free-answer.ensures.slot.absent (failed g c put) };
-  lost = λ is. let put : IsPutOut c.args.self.now.meta c.put_out.new.meta c.args.disk = IfOk-at_ok _ is c.put_out.ensures.out in
+  gone = λ is. let put : IsPutOut c.args.self.now.meta c.put_out.new.meta (Some c.args.disk) = IfOk-at_ok _ is c.put_out.ensures.out in meta_is g c put;
+  failed = λ is. let put : IsPutOut c.args.self.now.meta c.put_out.new.meta (Some c.args.disk) = IfOk-at_ok _ is c.put_out.ensures.out in record { risen = c.write_free-answer.ensures.slot.risen (failed g c put); absent = c.write_free-answer.ensures.slot.absent (failed g c put) };
+  lost = λ is. let put : IsPutOut c.args.self.now.meta c.put_out.new.meta (Some c.args.disk) = IfOk-at_ok _ is c.put_out.ensures.out in
       let ready = c.requires.ready in
       call_stands g.R.Rack.slot_count g.R.Rack.slot g.R.Rack.told c.args.self.now _ _ c.write_free-answer.ensures.told (g.met.R.Rack.agrees (store_rack c.args.self.now.store)) _ _ _ _ _ _ c.write_free-answer.ensures.slots c.write_free-answer.ensures.same.named
       (ap (λ (z : Meta). z.setup) (meta_is g c put))

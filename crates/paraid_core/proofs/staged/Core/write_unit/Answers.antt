@@ -34,7 +34,7 @@ use Rattle.paraid_core.proofs.ErrLemmas.{done_not_dropped, none_done, none_done_
 use Rattle.paraid_core.proofs.staged.Core.write_unit.Goals.{After-put_out}
 
 -- it failed, and no other disk is out
-module _ (g : Over) (c : After-put_out g) (put : IsPutOut c.args.self.now.meta c.put_out.new.meta c.args.disk) where
+module _ (g : Over) (c : After-put_out g) (put : IsPutOut c.args.self.now.meta c.put_out.new.meta (Some c.args.disk)) where
   abbrev old : Core g.row.R.Denot g.R.Rack
   old = c.args.self.now
 
@@ -113,9 +113,9 @@ returns g c = record {
       (λ t tells. (g.met.R.Rack.agrees (store_rack c.args.self.now.store) t tells).power c.args.disk ∙ q.spins);
   marks = on_ok_weaker c.put_out.result (λ put. marks_failed c.args.self.now.meta c.put_out.new.meta _ _ c.args.disk _ _ _ c.write_free-answer.ensures.slot (failed g c put) (meta_is g c put) (low g c put) (λ x k. put.alone c.args.disk x refl k (low g c put))) c.put_out.ensures.out;
   copied = λ is. absurd (c.put_out.ensures.never is);
-  gone = λ is. let put : IsPutOut c.args.self.now.meta c.put_out.new.meta c.args.disk = IfOk-at_ok _ is c.put_out.ensures.out in meta_is g c put;
-  failed = λ is. let put : IsPutOut c.args.self.now.meta c.put_out.new.meta c.args.disk = IfOk-at_ok _ is c.put_out.ensures.out in record { risen = c.write_free-answer.ensures.slot.risen (failed g c put); absent = c.write_free-answer.ensures.slot.absent (failed g c put) };
-  lost = λ is h lo. let put : IsPutOut c.args.self.now.meta c.put_out.new.meta c.args.disk = IfOk-at_ok _ is c.put_out.ensures.out in
+  gone = λ is. let put : IsPutOut c.args.self.now.meta c.put_out.new.meta (Some c.args.disk) = IfOk-at_ok _ is c.put_out.ensures.out in meta_is g c put;
+  failed = λ is. let put : IsPutOut c.args.self.now.meta c.put_out.new.meta (Some c.args.disk) = IfOk-at_ok _ is c.put_out.ensures.out in record { risen = c.write_free-answer.ensures.slot.risen (failed g c put); absent = c.write_free-answer.ensures.slot.absent (failed g c put) };
+  lost = λ is h lo. let put : IsPutOut c.args.self.now.meta c.put_out.new.meta (Some c.args.disk) = IfOk-at_ok _ is c.put_out.ensures.out in
       let old = c.args.self.now in
       let ready = c.requires.ready in
       weaker (IsCoreHeldSinceCommit g.R.Rack.slot_count old h lo) (CoreStandsFor g.R.Rack.slot_count old h lo) (CopyingUnit g.R.Rack.slot_count old h lo c.args.number c.args.disk c.args.unit c.args.block.now) _ _ _ _
