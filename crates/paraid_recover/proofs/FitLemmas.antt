@@ -108,7 +108,7 @@ fit_marked count slot m d epoch fit only range one = record {
 }
 
 -- the log and the map end before the size of a disk
-big : (m : Meta) → 99 + map_count m.setup.geometry < disk_size m.setup.geometry
+pub big : (m : Meta) → 99 + map_count m.setup.geometry < disk_size m.setup.geometry
 big m = let low = m.setup.geometry.rows_low in omega arith
 
 -- a log disk that is not out is there

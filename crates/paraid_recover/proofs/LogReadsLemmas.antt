@@ -1,12 +1,13 @@
 -- Reads of the log of a log disk, one after the other.
-use Rattle.std.specs.Prelude.{◌≡◌, ℕ, ◌+◌, ◌<◌, ◌≤◌, Bool, true, false, List, [], ◌∷◌, Option, Some, Result, Ok, Err, IsErrAnd, is_ok}
+use Rattle.std.specs.Prelude.{◌≡◌, ◌≢◌, ℕ, ◌+◌, ◌<◌, ◌≤◌, Bool, true, false, List, [], ◌∷◌, Option, Some, Result, Ok, Err, IsErrAnd, is_ok}
 use Rattle.std.proofs.Common.{refl, sym, ◌∙◌, ap, subst, arith, inl, inr}
 use Rattle.std.proofs.lemmas.Bool.{cases_eq, true≢false}
 use Rattle.paraid_base.specs.declared.geometry.Geometry.{Geometry}
 use Rattle.paraid_rack.specs.Calls.{AreReads}
 use Rattle.paraid_rack.specs.declared.call.Call.{Call}
 use Rattle.paraid_rack.specs.declared.call.Call.TheVariants.{Read, Write, Sync, Park, SpinUp, Attach}
-use Rattle.paraid_rack.specs.declared.call.Power.TheVariants.{Spinning}
+use Rattle.paraid_rack.specs.declared.call.Power.{Power}
+use Rattle.paraid_rack.specs.declared.call.Power.TheVariants.{Absent, Parked, Spinning}
 use Rattle.paraid_rack.specs.declared.rack.Rack.{Ghosts}
 use Rattle.paraid_rack.specs.Disks.{Disks, step}
 use Rattle.paraid_rack.specs.Slots.{ChangesOneSlot}
@@ -107,3 +108,9 @@ quiet_of {old} {new} x calls same t tells =
 
 pub empty_targets : (g : Geometry) → AreTargets g []
 empty_targets g = record { few = omega arith; each = λ k t lt. absurd (omega arith); distinct = λ i j t lt within. absurd (omega arith) }
+
+-- a disk that is there and not parked spins
+pub spins_by : (p : Power) → p ≢ Absent → p ≢ Parked → p ≡ Spinning
+spins_by Absent here awake = absurd (here refl)
+spins_by Parked here awake = absurd (awake refl)
+spins_by Spinning here awake = refl

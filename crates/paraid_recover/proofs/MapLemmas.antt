@@ -1,5 +1,5 @@
 -- Cells of a table that are changed one by one.
-use Rattle.std.specs.Prelude.{◌≡◌, ◌≢◌, ℕ, ◌+◌, ◌/◌, ◌%◌, ◌<◌, ◌==◌, Bool, slice_index}
+use Rattle.std.specs.Prelude.{◌≡◌, ◌≢◌, ℕ, ◌+◌, ◌/◌, ◌%◌, ◌<◌, ◌==◌, Bool, slice_index, Some, None}
 use Rattle.std.proofs.Common.{arith, ap, sym, ◌∙◌, inl, inr}
 use Rattle.std.proofs.lemmas.Bool.{cases_lt}
 use Rattle.std.proofs.lemmas.Bool.Decides.{nat_tests}
@@ -25,3 +25,13 @@ shows_map g blocks dirty narrow shows r d low = elim (cases_lt d 8) [
   | inl here ↦ shows r d low here
   | inr past ↦ narrow r d past ∙ sym (ap (λ (n : ℕ). n == 1) (bit_at_above (slice_index (blocks (100 + r / 512)).bytes (r % 512)) 8 d ((blocks (100 + r / 512)).small (r % 512)) past))
 ]
+
+-- the disks of both reads
+pub some_is : {d e : ℕ} → Some d ≡ Some e → d ≡ e
+some_is is = cc
+
+pub none_is_not : {d : ℕ} → None ≡ Some d → ⊥
+none_is_not is = cc
+
+pub first_apart : {d e : ℕ} → d ≡ 0 → e ≡ 1 → d ≢ e
+first_apart zero one is = omega (arith, zero, one, is)

@@ -1,11 +1,12 @@
 -- What is synced once a disk was marked.
-use Rattle.std.specs.Prelude.{◌≡◌, ◌≢◌, ℕ, ◌<◌, ◌==◌, Bool, true, false, Option, Some, None}
+use Rattle.std.specs.Prelude.{◌≡◌, ◌≢◌, ℕ, ◌<◌, ◌==◌, Bool, true, false, Option, Some, None, if◌then◌else◌}
 use Rattle.std.proofs.Common.{ap, arith, inl, inr, refl, sym, ◌∙◌}
 use Rattle.std.proofs.lemmas.Bool.{true≢false}
 use Rattle.paraid_base.specs.declared.state.Out.{Out}
 use Rattle.paraid_base.specs.declared.state.Out.TheVariants.{No, Gone, Fresh}
 use Rattle.paraid_base.specs.States.{gone_out}
 use Rattle.paraid_rack.specs.declared.call.Power.{Power}
+use Rattle.paraid_rack.specs.declared.call.Power.TheVariants.{Absent, Parked, Spinning}
 use Rattle.paraid_rack.specs.Disks.{is_present}
 use Rattle.paraid_rack.specs.Slots.{Slot}
 use Rattle.paraid_record.specs.declared.meta.Meta.{Meta}
@@ -74,3 +75,16 @@ module _ (a b : ℕ → Slot) (spared : OnlyLosesSlots a b) where
       within = λ here. let size = spared.size x here in let within = (log.can x low not).within (was_there x here) in omega arith;
     };
   }
+
+-- whether a disk that is being rebuilt is to be marked
+there_by : (p : Power) → p ≢ Absent → is_present p ≡ true
+there_by Absent here = absurd (here refl)
+there_by Parked here = refl
+there_by Spinning here = refl
+
+module _ (power : ℕ → Power) (m : Meta) (d rebuilt : ℕ) (is : m.out ≡ Fresh d rebuilt) where
+  pub fresh_gone : power d ≡ Absent → Some d ≡ to_mark power m
+  fresh_gone gone = sym (ap (λ (o : Out). to_mark_by o power m.setup.geometry.disks) is ∙ ap (λ (p : Power). if is_present p then None else Some d) gone)
+
+  pub fresh_there : power d ≢ Absent → None ≡ to_mark power m
+  fresh_there here = sym (ap (λ (o : Out). to_mark_by o power m.setup.geometry.disks) is ∙ ap (λ (b : Bool). if b then None else Some d) (there_by (power d) here))

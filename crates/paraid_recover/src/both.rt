@@ -29,7 +29,7 @@ pub fn hear_if_there<R: Rack>(
     ensures silent { result ≡ Ok None → (R.slot rack.old disk).power ≡ Absent }
     ensures was { IfErr result (λ failed. (R.slot rack.old disk).power ≡ Spinning) }
 {
-    if rack.power(disk) == Power::Absent {
+    if let Power::Absent = rack.power(disk) {
         return Ok(None);
     }
     let heard = hear(rack, disk, batch)?;

@@ -30,10 +30,7 @@ fn spin_up_one<R: Rack>(store: &mut Store<R>, meta: &Meta, disk: DiskNo) -> Resu
     if !is_to_spin(meta, disk) {
         return Ok(());
     }
-    match store.spin_up(disk) {
-        Ok(()) => Ok(()),
-        Err(lost) => Err(lost),
-    }
+    store.spin_up(disk)
 }
 
 // A spinning disk is parked, unless it is to spin.
@@ -48,10 +45,7 @@ fn park_one<R: Rack>(store: &mut Store<R>, meta: &Meta, disk: DiskNo) -> Result<
     if is_to_spin(meta, disk) {
         return Ok(());
     }
-    match store.park(disk) {
-        Ok(()) => Ok(()),
-        Err(lost) => Err(lost),
-    }
+    store.park(disk)
 }
 
 // One disk, unless it is out.

@@ -38,12 +38,10 @@ pub(crate) fn unmarked<R: Rack>(store: &Store<R>, meta: &Meta) -> Option<DiskNo>
     match meta.out {
         Out::No => store.out(),
         Out::Gone { .. } => None,
-        Out::Fresh { disk, .. } => {
-            if store.power(disk) == Power::Absent {
-                return Some(disk);
-            }
-            None
-        }
+        Out::Fresh { disk, .. } => match store.power(disk) {
+            Power::Absent => Some(disk),
+            _ => None,
+        },
     }
 }
 

@@ -12,11 +12,37 @@ use Rattle.paraid_recover.specs.First.{first_meta}
 use Rattle.paraid_recover.specs.Between.{RanBetween}
 use Rattle.paraid_recover.proofs.RaisedLemmas.{handed, none_done}
 use Rattle.paraid_recover.proofs.AttachLemmas.{led_then}
+use Rattle.paraid_recover.proofs.FitLemmas.{big}
 use Rattle.paraid_recover.proofs.FormatLemmas.{attaches_and_logs, formatted, made_fresh, only_attaches}
 use Rattle.paraid_recover.proofs.LogLemmas.{logging_then}
 use Rattle.paraid_recover.proofs.making.make.Given.{Over}
 use Rattle.paraid_recover.proofs.making.make.Goals as goal
 use Rattle.paraid_recover.proofs.making.make.Goals.{After-attach_all, In_ok-attach_all}
+
+pub attach_all-requires : goal.attach_all-requires
+attach_all-requires g c = (let same = c.disks.ensures in let room = c.requires.room in omega arith)
+
+pub write_log-requires : goal.write_log-requires
+write_log-requires g c =
+    let low = c.args.setup.now.geometry.disks_low in
+    let is = c.in_ok-attach_all.ensures.fresh 0 (let same = c.disks.ensures in omega arith) in
+    record {
+      log_disk = omega arith;
+      exists = (let slots = c.attach_all.ensures.slots in let room = c.requires.room in omega arith);
+      spinning = ap (λ (s : Slot). s.power) is;
+      large = (let size = ap (λ (s : Slot). s.size) is ∙ c.size.ensures in let end = big (first_meta c.args.setup.now) in omega arith);
+    }
+
+pub write_log-requires-2 : goal.write_log-requires-2
+write_log-requires-2 g c =
+    let low = c.args.setup.now.geometry.disks_low in
+    let is = c.write_log.ensures.others 1 (λ e. omega arith) ∙ c.in_ok-attach_all.ensures.fresh 1 (let same = c.disks.ensures in omega arith) in
+    record {
+      log_disk = omega arith;
+      exists = (let more = c.write_log.ensures.slots in let slots = c.attach_all.ensures.slots in let room = c.requires.room in omega arith);
+      spinning = ap (λ (s : Slot). s.power) is;
+      large = (let size = ap (λ (s : Slot). s.size) is ∙ c.size.ensures in let end = big (first_meta c.args.setup.now) in omega arith);
+    }
 
 -- what was attached, by the numbers of the setup
 attaches : (g : Over) (c : After-attach_all g)

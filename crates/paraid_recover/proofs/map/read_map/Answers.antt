@@ -12,6 +12,7 @@ use Rattle.paraid_rack.specs.Slots.{Slot}
 use Rattle.paraid_rack.specs.Told.{Ran}
 use Rattle.paraid_txn.specs.Uses.{EachCall}
 use Rattle.paraid_recover.specs.Map.{ReadsMap, ReadsMapOf, ShowsMap}
+use Rattle.paraid_recover.proofs.MapLemmas.{first_apart, none_is_not, some_is}
 use Rattle.paraid_recover.proofs.MapEndLemmas.{map_disk_in}
 use Rattle.paraid_recover.proofs.MountCallsLemmas.{calls_milder, calls_then, of_map}
 use Rattle.paraid_recover.proofs.map.read_map.Given.{Over}
@@ -22,6 +23,40 @@ use Rattle.paraid_recover.proofs.map.read_map.Goals as goal
 or_none : (o : Option ℕ) → or_else o None ≡ o
 or_none None = refl
 or_none (Some d) = refl
+
+pub read_map_of-requires : goal.read_map_of-requires
+read_map_of-requires g c =
+    let out = store_out g.R.Rack.slot c.args.store.now in
+    let log = map_disk_in out in
+    let is : c.map_disk-disk.result ≡ map_disk_of out = c.map_disk-disk.ensures ∙ ap map_disk_of c.out-out.ensures in
+    let low : c.map_disk-disk.result < 2 = subst (λ (x : ℕ). x < 2) (sym is) log.0 in
+    let ready = c.requires.ready c.map_disk-disk.result low (λ at. log.1 (at ∙ ap Some is)) in
+    let logs = c.requires.logs in
+    record {
+      exists = (let there = c.requires.exists in omega arith);
+      below = omega arith;
+      spinning = ready.0;
+      large = ready.1;
+      rows = c.requires.rows;
+      narrow = c.requires.narrow;
+    }
+
+pub read_map_of-requires-2 : goal.read_map_of-requires-2
+read_map_of-requires-2 g c =
+    let none : store_out g.R.Rack.slot c.args.store.now ≡ None = sym c.out-out.ensures ∙ c.in_default-out.is in
+    let first : c.in-Err.lost ≡ 0 = c.in-Err.ensures.failed ∙ c.map_disk-disk.ensures ∙ ap map_disk_of c.in_default-out.is in
+    let ready = c.requires.ready 1 (omega arith) (λ at. none_is_not (sym none ∙ at)) in
+    let read = c.in-Err.ensures.read in
+    let same = read.left.others 1 (λ at. first_apart first refl (some_is at)) in
+    let logs = c.requires.logs in
+    record {
+      exists = (let slots = read.slots in let there = c.requires.exists in omega arith);
+      below = (let disks = read.same.disks in omega arith);
+      spinning = ap (λ (s : Slot). s.power) same ∙ ready.0;
+      large = (let size = ap (λ (s : Slot). s.size) same in let large = ready.1 in omega arith);
+      rows = c.read_map_of.ensures.rows ∙ c.requires.rows;
+      narrow = c.read_map_of.ensures.narrow;
+    }
 
 -- the map is read of another disk than the one that is out
 map_apart : (first : ℕ) → first ≢ map_disk_of (Some first)
@@ -52,7 +87,7 @@ both_calls g c =
     calls_then (ReadsMap geometry out) (g.R.Rack.told (store_rack c.args.store.now)) (g.R.Rack.told (store_rack c.read_map_of.new.store)) (g.R.Rack.told (store_rack c.read_map_of-2.new.store))
     (first_calls g (goal.at.After-read_map_of-2 g c).After-read_map_of)
     (calls_milder (ReadsMapOf geometry 1) (ReadsMap geometry out) _ _
-    (λ call reads. of_map geometry out 1 call (omega arith) (λ is. let z : None ≡ Some 1 = sym none ∙ is in cc) reads) c.read_map_of-2.ensures.calls)
+    (λ call reads. of_map geometry out 1 call (omega arith) (λ is. none_is_not (sym none ∙ is)) reads) c.read_map_of-2.ensures.calls)
 
 pub returns-in_default : goal.returns-in_default
 returns-in_default g c = record {
@@ -61,7 +96,7 @@ returns-in_default g c = record {
   read = c.in_default.ensures.read;
   each = left_well _ _ _ c.in_default.ensures.read.left;
   calls = first_calls g (goal.at.returns-in_default g c).After-read_map_of;
-  alone = λ e is. let z : None ≡ Some e = is in cc;
+  alone = λ e is. absurd (none_is_not is);
   two = tt;
   gone = tt;
   shows = λ f shows some.
@@ -80,8 +115,7 @@ returns-in-Ok g c = record {
   calls = both_calls g (goal.at.returns-in-Ok g c).After-read_map_of-2;
   alone = λ e is.
       let first : c.in-Err.lost ≡ 0 = c.in-Err.ensures.failed ∙ c.map_disk-disk.ensures ∙ ap map_disk_of c.in_default-out.is in
-      let z : Some c.in-Err.lost ≡ Some e = is in
-      let same : c.in-Err.lost ≡ e = cc in
+      let same = some_is is in
       let logs = c.requires.logs in
       (omega arith, sym c.out-out.ensures ∙ c.in_default-out.is);
   two = tt;
@@ -138,7 +172,7 @@ returns-in-Err-read_map_of g c = record {
       let second = c.in-Err-read_map_of.ensures.failed in
       let none : store_out g.R.Rack.slot c.args.store.now ≡ None = sym c.out-out.ensures ∙ c.in_default-out.is in
       two_lost g.R.Rack.slot_count g.R.Rack.slot g.R.Rack.told (disks_of c.args.store.now) (disks_of c.read_map_of.new.store) c.in-Err.lost c.in-Err-read_map_of.second _ c.args.store.now c.read_map_of.new.store c.read_map_of-2.new.store
-      none c.in-Err.ensures.read.same.disks (λ is. absurd (omega arith)) c.in-Err.ensures.read c.in-Err-read_map_of.ensures.read;
+      none c.in-Err.ensures.read.same.disks (first_apart first second) c.in-Err.ensures.read c.in-Err-read_map_of.ensures.read;
   gone =
       let at = (goal.at.returns-in-Err-read_map_of g c).After-read_map_of in
       let first : c.in-Err.lost ≡ 0 = c.in-Err.ensures.failed ∙ c.map_disk-disk.ensures ∙ ap map_disk_of c.in_default-out.is in
@@ -148,11 +182,11 @@ returns-in-Err-read_map_of g c = record {
       record {
         first = inr (record {
           there = first_there g at c.in-Err.lost c.in-Err.ensures.failed;
-          absent = ap (λ (s : Slot). s.power) (c.in-Err-read_map_of.ensures.read.left.others c.in-Err.lost (λ is. let z : Some c.in-Err-read_map_of.second ≡ Some c.in-Err.lost = is in let y : c.in-Err-read_map_of.second ≡ c.in-Err.lost = cc in absurd (omega arith)))
+          absent = ap (λ (s : Slot). s.power) (c.in-Err-read_map_of.ensures.read.left.others c.in-Err.lost (λ is. first_apart first second (sym (some_is is))))
               ∙ (c.in-Err.ensures.read.left.failed c.in-Err.lost refl).absent;
         });
         second = record {
-          there = subst (λ (x : ℕ). is_present (slot_0 x).power ≡ true) (sym second) (log_there g at 1 (omega arith) (λ is. let z : None ≡ Some 1 = sym none ∙ is in cc));
+          there = subst (λ (x : ℕ). is_present (slot_0 x).power ≡ true) (sym second) (log_there g at 1 (omega arith) (λ is. none_is_not (sym none ∙ is)));
           absent = (c.in-Err-read_map_of.ensures.read.left.failed c.in-Err-read_map_of.second refl).absent;
         };
       };

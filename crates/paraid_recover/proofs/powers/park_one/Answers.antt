@@ -1,4 +1,4 @@
-use Rattle.std.specs.Prelude.{◌≡◌, Bool, false, Ok, Err}
+use Rattle.std.specs.Prelude.{◌≡◌, Bool, false}
 use Rattle.std.proofs.Common.{ap, refl, sym, ◌∙◌}
 use Rattle.paraid_rack.specs.declared.call.Call.TheVariants.{Park}
 use Rattle.paraid_rack.specs.declared.call.Power.TheVariants.{Parked}
@@ -13,24 +13,12 @@ use Rattle.paraid_recover.proofs.powers.park_one.Goals.{After-park}
 rests : (g : Over) (c : After-park g) → is_to_spin c.args.meta.now c.args.disk ≡ false
 rests g c = sym c.is_to_spin.ensures ∙ c.if-is_to_spin.false
 
-pub returns-in-Ok : goal.returns-in-Ok
-returns-in-Ok g c =
-    let at = goal.at.returns-in-Ok g c in
-    let call = c.in-Ok.ensures in
+pub returns : goal.returns
+returns g c =
+    let at = goal.at.returns g c in
+    let call = c.park.ensures in
     let not = to_spin_not c.args.meta.now c.args.disk (rests g at.After-park) in
-    turned_call g.R.Rack c.args.meta.now c.args.disk c.args.store.now c.park.new.self (λ (done : Bool). Park c.args.disk done) Parked (Ok tt) call.slots call.same call.slot call.told
-    (λ done. (c.requires.low, not.0, not.1, c.requires.in_use))
-    (λ s done tells.
-    let agrees = g.met.R.Rack.agrees (store_rack c.args.store.now) s tells in
-    (agrees.power c.args.disk ∙ c.requires.spinning, none_loose _ _ c.args.disk agrees c.requires.synced))
-    (ap is_present c.requires.spinning) refl not.2 c.requires.in_use call.lost
-
-pub returns-in-Err : goal.returns-in-Err
-returns-in-Err g c =
-    let at = goal.at.returns-in-Err g c in
-    let call = c.in-Err.ensures in
-    let not = to_spin_not c.args.meta.now c.args.disk (rests g at.After-park) in
-    turned_call g.R.Rack c.args.meta.now c.args.disk c.args.store.now c.park.new.self (λ (done : Bool). Park c.args.disk done) Parked (Err c.in-Err.lost) call.slots call.same call.slot call.told
+    turned_call g.R.Rack c.args.meta.now c.args.disk c.args.store.now c.park.new.self (λ (done : Bool). Park c.args.disk done) Parked c.park.result call.slots call.same call.slot call.told
     (λ done. (c.requires.low, not.0, not.1, c.requires.in_use))
     (λ s done tells.
     let agrees = g.met.R.Rack.agrees (store_rack c.args.store.now) s tells in

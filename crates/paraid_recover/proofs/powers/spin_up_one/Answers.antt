@@ -1,4 +1,4 @@
-use Rattle.std.specs.Prelude.{◌≡◌, Bool, true, Ok, Err}
+use Rattle.std.specs.Prelude.{◌≡◌, Bool, true}
 use Rattle.std.proofs.Common.{ap, refl, sym, ◌∙◌}
 use Rattle.paraid_rack.specs.declared.call.Call.TheVariants.{SpinUp}
 use Rattle.paraid_rack.specs.declared.call.Power.TheVariants.{Spinning}
@@ -13,22 +13,12 @@ use Rattle.paraid_recover.proofs.powers.spin_up_one.Goals.{After-spin_up}
 spins : (g : Over) (c : After-spin_up g) → is_to_spin c.args.meta.now c.args.disk ≡ true
 spins g c = sym c.is_to_spin.ensures ∙ c.if-not-is_to_spin.false
 
-pub returns-in-Ok : goal.returns-in-Ok
-returns-in-Ok g c =
-    let at = goal.at.returns-in-Ok g c in
-    let call = c.in-Ok.ensures in
+pub returns : goal.returns
+returns g c =
+    let at = goal.at.returns g c in
+    let call = c.spin_up.ensures in
     let up = to_spin_up c.args.meta.now c.args.disk (spins g at.After-spin_up) c.requires.high in
-    turned_call g.R.Rack c.args.meta.now c.args.disk c.args.store.now c.spin_up.new.self (λ (done : Bool). SpinUp c.args.disk done) Spinning (Ok tt) call.slots call.same call.slot call.told
-    (λ done. (c.requires.low, c.requires.high, up.0, c.requires.in_use))
-    (λ s done tells. (g.met.R.Rack.agrees (store_rack c.args.store.now) s tells).power c.args.disk ∙ c.requires.parked)
-    (ap is_present c.requires.parked) refl up.1 c.requires.in_use call.lost
-
-pub returns-in-Err : goal.returns-in-Err
-returns-in-Err g c =
-    let at = goal.at.returns-in-Err g c in
-    let call = c.in-Err.ensures in
-    let up = to_spin_up c.args.meta.now c.args.disk (spins g at.After-spin_up) c.requires.high in
-    turned_call g.R.Rack c.args.meta.now c.args.disk c.args.store.now c.spin_up.new.self (λ (done : Bool). SpinUp c.args.disk done) Spinning (Err c.in-Err.lost) call.slots call.same call.slot call.told
+    turned_call g.R.Rack c.args.meta.now c.args.disk c.args.store.now c.spin_up.new.self (λ (done : Bool). SpinUp c.args.disk done) Spinning c.spin_up.result call.slots call.same call.slot call.told
     (λ done. (c.requires.low, c.requires.high, up.0, c.requires.in_use))
     (λ s done tells. (g.met.R.Rack.agrees (store_rack c.args.store.now) s tells).power c.args.disk ∙ c.requires.parked)
     (ap is_present c.requires.parked) refl up.1 c.requires.in_use call.lost

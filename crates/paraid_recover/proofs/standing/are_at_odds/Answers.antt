@@ -1,6 +1,6 @@
-use Rattle.std.specs.Prelude.{◌≢◌, ℕ, Option, Some}
+use Rattle.std.specs.Prelude.{◌≢◌, ℕ, true, Option, Some}
 use Rattle.std.proofs.Common.{inl, inr, subst, sym, ◌∙◌}
-use Rattle.paraid_recover.proofs.ExaminedLogLemmas.{are_at_odds, not_at_odds, not_false, not_true, open_side}
+use Rattle.paraid_recover.proofs.ExaminedLogLemmas.{are_at_odds, heard_in_range, not_at_odds, not_false, not_true, open_side}
 use Rattle.paraid_recover.proofs.standing.are_at_odds.Goals as goal
 
 pub returns-in_default : goal.returns-in_default
@@ -42,4 +42,10 @@ returns c = record {
   no = λ is.
       not_at_odds c.args.sides.now c.args.first.now c.args.second.now _ _ c.in-Some.ensures c.in-Some-open_meta.ensures (c.is_same_meta.ensures.yes c.if-not-is_same_meta.false)
       (c.is_same_batch.ensures.yes (not_false _ is));
+}
+
+pub is_same_meta-requires : goal.is_same_meta-requires
+is_same_meta-requires c = record {
+  first = heard_in_range c.args.sides.now.first c.args.first.now true c.in-Some.meta c.in-Some.ensures c.requires.first_form;
+  second = heard_in_range c.args.sides.now.second c.args.second.now true c.in-Some-open_meta.other c.in-Some-open_meta.ensures c.requires.second_form;
 }
