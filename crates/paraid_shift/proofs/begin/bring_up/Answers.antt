@@ -12,6 +12,7 @@ use Rattle.paraid_core.proofs.AfterLemmas.{handed, rise_high}
 use Rattle.paraid_shift.proofs.AnswerLemmas.{none_done}
 use Rattle.paraid_shift.specs.Outcomes.{TellsSecond}
 use Rattle.paraid_shift.proofs.OutcomeLemmas.{no_fall_then, powers_none, powers_tell, powers_then}
+use Rattle.paraid_shift.proofs.ServingLemmas.{marked_gear}
 use Rattle.paraid_shift.proofs.begin.bring_up.Goals as goal
 
 pub loop-disk-init : goal.loop-disk-init
@@ -106,4 +107,26 @@ returns g c =
         ]
       ];
       moments = λ h lo. runs_end g.R.Rack.slot_count g.R.Rack.slot g.R.Rack.told a _ (RestsInShift g.R.Rack.slot_count a h lo) (RestsInShift g.R.Rack.slot_count b h lo) h lo (was.powers.rests h lo);
+    }
+
+rising_on : (disk end : ℕ) (m n p : Meta) → disk < end → end ≡ rising_to p.phase → p ≡ m → rising_to n.phase ≡ rising_to m.phase → disk < rising_to n.phase
+rising_on disk end m n p low is same rises = let also = ap (λ (z : Meta). rising_to z.phase) same in omega arith
+
+lower_than : (disk rises disks : ℕ) → disk < rises → rises ≤ disks → disk < disks
+lower_than disk rises disks low high = omega arith
+
+past_gear : (was gear disk : ℕ) → gear ≡ was → was ≤ disk → gear ≤ disk
+past_gear was gear disk is from = omega arith
+
+pub raise-requires : goal.raise-requires
+raise-requires g c =
+    let a = c.args.core.now in
+    let b = c.loop-disk.core in
+    let was = c.loop-disk.invariant in
+    let rises = rising_on _ _ a.meta b.meta _ c.loop-disk-test.true c.rising_to-disk-end.ensures c.meta-2.ensures (rises_same a.meta b.meta was.powers.meta) in
+    record {
+      rising = was.rising;
+      disk = lower_than _ _ _ rises (rise_high b.meta.setup.geometry b.meta.gear b.meta.phase was.rising.ready.in_range.phase);
+      past_gear = past_gear _ _ _ (marked_gear a.meta b.meta was.powers.meta) was.from;
+      rises = rises;
     }

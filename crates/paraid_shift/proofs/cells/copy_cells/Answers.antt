@@ -184,3 +184,20 @@ loop-at-preserved g c =
       copied = copied_at g.R.Rack.slot_count g.R.Rack.slot g.R.Rack.told a new _ _ _ _ more.row more.disk
           (copies_more g.R.Rack.slot_count g.R.Rack.slot g.R.Rack.told a b new was.leaves _ _ _ _ was.meta call.leaves.table first was.copied (call.copied (ap Ok c.if-not-done.false)));
     }
+
+pub sync_cell-requires : goal.sync_cell-requires
+sync_cell-requires g c =
+    let was = c.loop-at.invariant in
+    let q = c.requires in
+    let first = c.in-Some.ensures.first in
+    record {
+      ready = was.leaves.ready;
+      serves = was.leaves.serves q.serves;
+      no_draft = was.leaves.draft ∙ q.no_draft;
+      whole = ap (λ (m : Meta). m.out) was.meta ∙ q.whole;
+      row = c.in-Some.ensures.row;
+      past_gear = first.low;
+      rises = first.high;
+      dirty = first.is;
+      nothing = was.leaves.batch ∙ q.nothing;
+    }

@@ -160,3 +160,6 @@ returns g c =
       stands = stands g c.before;
       moments = moments g c.before;
     }
+
+pub settle-requires : goal.settle-requires
+settle-requires g c = record { ready = c.in_ok-copied.ensures.leaves.ready; still = c.in_ok-copied.ensures.leaves.still }

@@ -19,6 +19,9 @@ use Rattle.paraid_shift.proofs.OutcomeLemmas.{no_fall_then}
 use Rattle.paraid_shift.specs.Serving.{RestsInShift}
 use Rattle.paraid_shift.proofs.ServingLemmas.{chain, chain_held, leaves_array_then, marked_gear, marked_steady, marked_then, two_array}
 use Rattle.paraid_shift.proofs.LossLemmas.{flip_lost, park_lost, powers_are_lost}
+use Rattle.std.specs.Prelude.{◌≤◌}
+use Rattle.paraid_record.specs.declared.meta.Setup.{Setup}
+use Rattle.paraid_core.proofs.AfterLemmas.{gear_high}
 use Rattle.paraid_shift.proofs.ending.flip.Goals as goal
 
 pub returns-in_err-commit_gear : goal.returns-in_err-commit_gear
@@ -113,4 +116,18 @@ returns g c =
       rests = λ h lo.
           chain g.R.Rack.slot_count g.R.Rack.told a b one.leaves.slots one.leaves.setup one.named
           (CoreStandsFor g.R.Rack.slot_count a h lo) (RestsInShift g.R.Rack.slot_count b h lo) (RestsInShift g.R.Rack.slot_count n h lo) h lo _ (one.rests h lo) (two.powers.rests h lo);
+    }
+
+within : (hi gear disks now : ℕ) → hi ≡ gear → gear ≤ disks → now ≡ disks → hi ≤ now
+within hi gear disks now is high same = omega arith
+
+pub park_down-requires : goal.park_down-requires
+park_down-requires g c =
+    let a = c.args.core.now in
+    let one = c.in_ok-commit_gear.ensures.ended in
+    record {
+      serving = one.serving;
+      steady = one.steady;
+      high = within _ _ _ _ (ap (λ (m : Meta). m.gear) c.meta.ensures) (gear_high a.meta c.requires.serving.ready.in_range) (ap (λ (z : Setup). z.geometry.disks) one.leaves.setup);
+      nothing = one.nothing;
     }

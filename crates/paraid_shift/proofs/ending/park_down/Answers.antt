@@ -14,6 +14,10 @@ use Rattle.paraid_shift.proofs.OutcomeLemmas.{no_fall_then, powers_none, powers_
 use Rattle.paraid_core.proofs.StepLemmas.{runs_end}
 use Rattle.paraid_shift.specs.Serving.{RestsInShift}
 use Rattle.paraid_shift.proofs.ServingLemmas.{chain_held, marked_named, same_none, same_then}
+use Rattle.std.specs.Prelude.{◌<◌, ◌≤◌}
+use Rattle.std.proofs.Common.{◌≡◌}
+use Rattle.paraid_record.specs.declared.meta.Setup.{Setup}
+use Rattle.paraid_shift.proofs.ServingLemmas.{marked_gear, marked_steady}
 use Rattle.paraid_shift.proofs.ending.park_down.Goals as goal
 
 pub loop-disk-init : goal.loop-disk-init
@@ -106,4 +110,23 @@ returns g c =
         ]
       ];
       moments = λ h lo. runs_end g.R.Rack.slot_count g.R.Rack.slot g.R.Rack.told a _ (RestsInShift g.R.Rack.slot_count a h lo) (RestsInShift g.R.Rack.slot_count b h lo) h lo (was.powers.rests h lo);
+    }
+
+lower_than : (disk hi disks now : ℕ) → disk < hi → hi ≤ disks → now ≡ disks → disk < now
+lower_than disk hi disks now low high same = omega arith
+
+past_gear : (was gear disk : ℕ) → gear ≡ was → was ≤ disk → gear ≤ disk
+past_gear was gear disk is from = omega arith
+
+pub lower-requires : goal.lower-requires
+lower-requires g c =
+    let a = c.args.core.now in
+    let b = c.loop-disk.core in
+    let was = c.loop-disk.invariant in
+    record {
+      serving = was.serving;
+      steady = marked_steady a.meta b.meta was.powers.meta c.requires.steady;
+      disk = lower_than _ _ _ _ c.loop-disk-test.true c.requires.high (ap (λ (z : Setup). z.geometry.disks) was.powers.leaves.setup);
+      past_gear = past_gear _ _ _ (marked_gear a.meta b.meta was.powers.meta) was.from;
+      nothing = was.nothing;
     }

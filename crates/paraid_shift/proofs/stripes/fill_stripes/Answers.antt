@@ -18,6 +18,9 @@ use Rattle.paraid_core.proofs.StepLemmas.{held_runs_then, leaves_none, leaves_th
 use Rattle.paraid_shift.specs.Serving.{RestsInShift}
 use Rattle.paraid_image.specs.Out.{named_out}
 use Rattle.paraid_shift.proofs.MovedLossLemmas.{copies_tell_then}
+use Rattle.std.proofs.Common.{◌<◌, ◌≤◌}
+use Rattle.paraid_base.specs.Soft.{stripe_count}
+use Rattle.paraid_base.specs.States.{phase_to}
 use Rattle.paraid_shift.proofs.stripes.fill_stripes.Goals as goal
 
 pub loop-s-init : goal.loop-s-init
@@ -124,4 +127,24 @@ returns g c =
       moments = λ h lo. runs_end g.R.Rack.slot_count g.R.Rack.slot g.R.Rack.told a _ _ _ h lo (was.filled h lo);
       calls = was.calls;
       marks = was.marks;
+    }
+
+lower_than : (s end count : ℕ) → s < end → end ≤ count → s < count
+lower_than s end count low within = omega arith
+
+pub fill_stripe-requires : goal.fill_stripe-requires
+fill_stripe-requires g c =
+    let was = c.loop-s.invariant in
+    let q = c.requires in
+    let back = sym was.meta in
+    record {
+      ready = was.leaves.ready;
+      serves = was.leaves.serves q.serves;
+      no_draft = was.leaves.draft ∙ q.no_draft;
+      whole = ap (λ (m : Meta). m.out) was.meta ∙ q.whole;
+      shifts = subst (λ (m : Meta). 0 < phase_to m.phase) back q.shifts;
+      region = subst (λ (m : Meta). phase_to m.phase < m.setup.geometry.disks) back q.region;
+      from = subst (λ (m : Meta). m.fill ≤ c.loop-s.s) back was.from;
+      stripe = subst (λ (m : Meta). c.loop-s.s < stripe_count m.setup.geometry.disks m.setup.geometry.rows (phase_to m.phase)) back (lower_than _ _ _ c.loop-s-test.true q.stripe);
+      nothing = was.leaves.batch ∙ q.nothing;
     }

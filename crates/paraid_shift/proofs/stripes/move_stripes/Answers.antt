@@ -200,3 +200,6 @@ returns g c =
       spared = subst (λ (z : _). OnlyLosesSlots (g.R.Rack.slot (store_rack a.store)) (g.R.Rack.slot (store_rack z))) (sym marked.store) l.spared;
       loses = tt;
     }
+
+pub settle-requires : goal.settle-requires
+settle-requires g c = record { ready = c.in_ok-done.ensures.leaves.ready; still = c.in_ok-done.ensures.leaves.still }
