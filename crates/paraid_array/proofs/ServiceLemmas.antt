@@ -1,6 +1,7 @@
+use Rattle.std.proofs.lemmas.Bool.{cases_Bool, false≢true}
 -- What keeps an array in service.
-use Rattle.std.specs.Prelude.{◌≡◌, ◌≢◌, ℕ, ◌<◌, Bool, List, [], Option, Some, None}
-use Rattle.std.proofs.Common.{refl, sym, ◌∙◌, ap, subst, arith}
+use Rattle.std.specs.Prelude.{◌≡◌, ◌≢◌, ℕ, ◌<◌, Bool, List, [], Option, Some, None, true, false}
+use Rattle.std.proofs.Common.{refl, sym, ◌∙◌, ap, subst, arith, inl, inr}
 use Rattle.paraid_base.specs.declared.state.Out.{Out}
 use Rattle.paraid_base.specs.declared.state.Out.TheVariants.{Fresh, Gone, No}
 use Rattle.paraid_base.specs.Regions.{disk_size}
@@ -36,6 +37,10 @@ large_lost old new m m_then marks setup large d low not =
     by None is e = ap (λ (z : Meta). named_out z.out) marks.is ∙ ap (λ (o : Option ℕ). named_out (meta_with_lost o m).out) e ∙ is
     by (Some x) is e = ap (λ (z : Meta). named_out z.out) marks.is ∙ ap (λ (o : Option ℕ). named_out (meta_with_lost o m).out) e ∙ ap Some (sym (marks.alone x d e is))
 
+-- where no disk is out none is gone
+pub none_gone : (o : Out) (d : ℕ) → o ≡ No → gone_out o ≢ Some d
+none_gone o d whole is = let z : None ≡ Some d = sym (ap gone_out whole) ∙ is in cc
+
 module _ {R : Type 0} {g : _} (count : R → ℕ) (slot : R → ℕ → Slot) where
   -- after a call
   pub service_then : (a b : Core R g) → IsInService count slot a → CoreMarksLost slot a b → b.meta.setup ≡ a.meta.setup → IsCoreReady count slot b → CanCoreServe slot b → b.draft ≡ [] → b.copied ≡ a.copied → IsInService count slot b
@@ -58,6 +63,13 @@ module _ {R : Type 0} {g : _} (count : R → ℕ) (slot : R → ℕ → Slot) wh
     unsynced = unsynced;
     large = large_then (slot (store_rack a.store)) (slot (store_rack b.store)) a.meta b.meta q.large turned (marked_from_setup a.meta b.meta marked) (marked_named a.meta b.meta marked) ready.absent;
   }
+
+  -- a disk that is there and not gone is synced
+  pub synced_disk : (a : Core R g) → IsCoreServing count slot a → (d : ℕ) → d < a.meta.setup.geometry.disks → gone_out a.meta.out ≢ Some d → is_present (slot (store_rack a.store) d).power ≡ true → (slot (store_rack a.store) d).unsynced ≡ false
+  synced_disk a q d low stays here = elim (cases_Bool (slot (store_rack a.store) d).unsynced) [
+    | inl wet ↦ absurd (false≢true (sym (q.copies_synced d low) ∙ q.unsynced d low stays here wet))
+    | inr dry ↦ dry
+  ]
 
   -- nothing is done
   pub in_service_none : (a : Core R g) → IsCoreServing count slot a → IsOutKnown slot a → LeavesInService count slot a a

@@ -1,5 +1,6 @@
+use Rattle.std.specs.Prelude.{◌≤◌, ◌^◌, max}
 -- Two disks that are lost in an event, and what tells no wear.
-use Rattle.std.proofs.Common.{◌≡◌, ℕ, ◌⊎◌, inl, inr, Option, Some, None, sym, subst}
+use Rattle.std.proofs.Common.{◌≡◌, ℕ, ◌⊎◌, inl, inr, Option, Some, None, sym, subst, ◌∙◌}
 use Rattle.paraid_base.specs.declared.event.Event.{Event}
 use Rattle.paraid_base.specs.declared.event.Event.TheVariants.{Fail}
 use Rattle.paraid_base.specs.declared.fault.Halt.{Halt}
@@ -42,6 +43,17 @@ going_wear m o going = subst (λ (z : Option Ended). TellsItsWear m (halt_of_end
 -- and two lost disks tell none
 pub two_wear : (m : Meta) (x : Two) → TellsItsWear m (Some (HaltTwo x))
 two_wear m x count is = let z : Some (HaltTwo x) ≡ Some (Worn count) = is in absurd cc
+
+-- what is worn tells its wear
+pub worn_wear : (m : Meta) (count : ℕ) → 2 ^ 62 ≤ count → count ≡ max m.epoch m.writes → TellsItsWear m (Some (Worn count))
+worn_wear m count many made n is =
+    let z : Some (Worn count) ≡ Some (Worn n) = is in
+    let same : count ≡ n = cc in
+    (subst (λ (x : ℕ). 2 ^ 62 ≤ x) same many, sym same ∙ made)
+
+-- what has ended does not go on
+pub ended_not_none : {A : Type 0} (ended : Ended) → Some ended ≡ None → A
+ended_not_none ended is = let z : Some ended ≡ None = is in absurd cc
 
 -- the disk that is down by the last commit or the meta is out by the meta
 known_out : (named out : Option ℕ) → ((d : ℕ) → named ≡ Some d → out ≡ Some d) → (x : ℕ) → or_else named out ≡ Some x → out ≡ Some x

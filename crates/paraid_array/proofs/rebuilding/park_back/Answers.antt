@@ -1,16 +1,16 @@
-use Rattle.std.proofs.Common.{◌≡◌, ◌∙◌, Bool, ap, arith, false, inl, inr, refl, subst, true, Ok}
+use Rattle.std.proofs.Common.{◌≡◌, ◌∙◌, Bool, ap, arith, false, inl, inr, refl, subst, true, Ok, ◌≤◌}
 use Rattle.std.specs.Prelude.{◌<◌}
 use Rattle.paraid_base.specs.States.{named_out, rising_to}
 use Rattle.paraid_record.specs.declared.meta.Meta.{Meta}
 use Rattle.paraid_rack.specs.Disks.{is_present}
 use Rattle.paraid_txn.specs.Stores.{store_rack}
 use Rattle.paraid_event.specs.RebuildEnds.ParksBack.{fails, parks, stays}
-use Rattle.paraid_shift.proofs.ServingLemmas.{leaves_turned}
+use Rattle.paraid_shift.proofs.ServingLemmas.{leaves_turned, none_known}
 use Rattle.paraid_array.specs.Service.{IsOutKnown, LeavesInService}
 use Rattle.paraid_array.proofs.OutLemmas.{known_gone, known_whole}
 use Rattle.paraid_array.proofs.RebuildTurnLemmas.{core_fails, core_parks, lost_marked, park_alone}
 use Rattle.paraid_array.proofs.ResultLemmas.{done_not_dropped, either_way, if_err, of_done}
-use Rattle.paraid_array.proofs.ServiceLemmas.{in_service_none, serving_turned}
+use Rattle.paraid_array.proofs.ServiceLemmas.{in_service_none, serving_turned, none_gone, synced_disk}
 use Rattle.paraid_array.proofs.ToldLemmas.{calls_none, calls_told}
 use Rattle.paraid_array.proofs.rebuilding.park_back.Goals as goal
 
@@ -42,6 +42,25 @@ returns-then-disk-rising_to g c = record {
   calls = calls_none g.R.Rack.slot g.R.Rack.told c.args.core.now;
   two = tt;
 }
+
+pub park-requires : goal.park-requires
+park-requires g c =
+    let a = c.args.core.now in
+    let q = c.requires.serving in
+    let gear : a.meta.gear ≤ c.args.disk = subst (λ (m : Meta). m.gear ≤ c.args.disk) c.meta.ensures c.if-disk-meta.false in
+    let low = a.meta.setup.geometry.gears_low a.meta.gear q.ready.in_range.gear in
+    record {
+      ready = q.ready;
+      still = q.serves.stays;
+      disk = c.requires.disk;
+      past_logs = omega (arith, gear, low);
+      past_gear = gear;
+      past_rise = let rises = ap (λ (m : Meta). rising_to m.phase) c.meta-2.ensures in omega (arith, rises);
+      not_out = λ is. none_known a.meta c.requires.whole c.args.disk is;
+      spinning = c.requires.spins;
+      synced = synced_disk g.R.Rack.slot_count g.R.Rack.slot a q c.args.disk c.requires.disk (none_gone a.meta.out c.args.disk c.requires.whole) (ap is_present c.requires.spins);
+      nothing = c.requires.nothing;
+    }
 
 pub returns : goal.returns
 returns g c =

@@ -1,5 +1,10 @@
+use Rattle.paraid_record.specs.Range.{IsOutInRange, rebuild_units}
+use Rattle.paraid_core.specs.Units.{IsRebuilding}
+use Rattle.paraid_base.specs.States.{rebuilt_count}
+use Rattle.paraid_base.specs.declared.state.Out.{Out}
+use Rattle.paraid_base.specs.declared.state.Out.TheVariants.{Fresh}
 use Rattle.std.specs.Prelude.{◌+◌, if◌then◌else◌}
-use Rattle.std.proofs.Common.{◌≡◌, ◌≤◌, ◌<◌, ℕ, Bool, Ok, refl, sym, ap, subst, arith}
+use Rattle.std.proofs.Common.{◌≡◌, ◌≤◌, ◌<◌, ℕ, Bool, Ok, refl, sym, ap, subst, arith, ◌∙◌}
 use Rattle.paraid_base.specs.declared.state.TickEvent.TheVariants.{Gone as GoneAgain, Moving, Rebuilt}
 use Rattle.paraid_record.specs.declared.meta.Meta.{Meta}
 use Rattle.paraid_core.proofs.AfterLemmas.{handed}
@@ -15,6 +20,36 @@ moving_not_gone d is = absurd cc
 
 back_not_gone : {A : Type 0} (d e : ℕ) → Rebuilt d ≡ GoneAgain e → A
 back_not_gone d e is = absurd cc
+
+pub move_units-requires : goal.move_units-requires
+move_units-requires g c =
+    let a = c.args.core.now in
+    let fresh : IsRebuilding a.meta c.args.disk = c.requires.fresh ∙ ap (λ (n : ℕ). Fresh c.args.disk n) (sym (ap rebuilt_count c.requires.fresh)) in
+    record {
+      serving = c.requires.serving;
+      fresh = fresh;
+      named = c.requires.known.named c.args.disk fresh;
+      spins = c.requires.known.spins c.args.disk fresh;
+      from = let n = ap rebuilt_count c.requires.fresh in omega (arith, n);
+      limit =
+          let full = c.rebuild_units.ensures ∙ ap (λ (z : Meta). rebuild_units z.setup.geometry c.meta-2.result.now.gear c.args.disk) c.meta.ensures ∙ ap (λ (z : Meta). rebuild_units a.meta.setup.geometry z.gear c.args.disk) c.meta-2.ensures in
+          let l = c.if-rate-left.true in
+          omega (arith, full, l);
+      epoch = let e = c.requires.epoch in omega (arith, e);
+    }
+
+pub end_rebuild-requires : goal.end_rebuild-requires
+end_rebuild-requires g c =
+    let a = c.args.core.now in
+    let fresh : IsRebuilding a.meta c.args.disk = c.requires.fresh ∙ ap (λ (n : ℕ). Fresh c.args.disk n) (sym (ap rebuilt_count c.requires.fresh)) in
+    record {
+      serving = c.requires.serving;
+      fresh = fresh;
+      disk = (subst (λ (o : Out). IsOutInRange a.meta.setup.geometry a.meta.gear o) c.requires.fresh c.requires.serving.ready.in_range.out).0;
+      named = c.requires.known.named c.args.disk fresh;
+      spins = c.requires.known.spins c.args.disk fresh;
+      epoch = let e = c.requires.epoch in omega (arith, e);
+    }
 
 pub returns-in_err-moved : goal.returns-in_err-moved
 returns-in_err-moved g c = record {

@@ -154,6 +154,14 @@ returns-in_ok-event-in-Steady g c =
       told = c.decide.ensures.calls.grows;
     }
 
+pub move_on-requires : goal.move_on-requires
+move_on-requires g c = record {
+  serving = c.requires.serving;
+  epoch = c.requires.epoch;
+  whole = sym c.out.ensures ∙ c.in-No.is;
+  shifts = λ steady. shifting _ c.in-Down.is (ap (λ (m : Meta). m.phase) c.meta.ensures ∙ steady);
+}
+
 pub returns-in-Down : goal.returns-in-Down
 returns-in-Down g c =
     let a = c.args.core.now in

@@ -1,9 +1,10 @@
+use Rattle.paraid_base.specs.Regions.{IsGear}
 use Rattle.std.proofs.Common.{ℕ, ◌<◌, ◌≤◌, refl, sym, ◌∙◌, ap, arith, subst, []}
 use Rattle.std.specs.Prelude.{slice_index}
 use Rattle.paraid_base.specs.declared.state.TickEvent.TheVariants.{Begun, Steady as SteadyTick}
 use Rattle.paraid_gear.specs.Decision.{decision}
 use Rattle.paraid_record.specs.declared.meta.Meta.{Meta}
-use Rattle.paraid_record.specs.Range.{AreNextGears, allowed_spins}
+use Rattle.paraid_record.specs.Range.{AreNextGears, allowed_spins, IsInRange}
 use Rattle.paraid_core.proofs.AfterLemmas.{handed}
 use Rattle.paraid_array.proofs.ResultLemmas.{none_done, none_done_if}
 use Rattle.paraid_machine.specs.Moves.{state_with_tick}
@@ -16,6 +17,18 @@ use Rattle.paraid_array.proofs.ServiceLemmas.{in_service_none}
 use Rattle.paraid_array.proofs.TickTurnLemmas.{down_halts, down_told, known_marked, shift_shown, stays_told, up_halts, up_told, worn_told}
 use Rattle.paraid_array.proofs.ToldLemmas.{calls_none, calls_told}
 use Rattle.paraid_array.proofs.shifts.decide.Goals as goal
+
+pub decide-requires : goal.decide-requires
+decide-requires g c = record {
+  lengths = c.requires.lengths ∙ ap (λ (z : Meta). z.setup.windows) (sym c.meta.ensures);
+  gear = subst (λ (z : Meta). IsGear z.setup.geometry z.gear) (sym c.meta.ensures) c.requires.serving.ready.in_range.gear;
+}
+
+pub gear_above-requires : goal.gear_above-requires
+gear_above-requires g c = record { in_range = subst (λ (z : Meta). IsInRange z) (sym c.meta.ensures) c.requires.serving.ready.in_range }
+
+pub gear_below-requires : goal.gear_below-requires
+gear_below-requires g c = record { in_range = subst (λ (z : Meta). IsInRange z) (sym c.meta.ensures) c.requires.serving.ready.in_range }
 
 pub returns-in-Stay : goal.returns-in-Stay
 returns-in-Stay g c =

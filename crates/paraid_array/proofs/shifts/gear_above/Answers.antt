@@ -4,6 +4,9 @@ use Rattle.paraid_array.proofs.ResultLemmas.{none_done, none_done_if}
 use Rattle.paraid_array.proofs.RefusalLemmas.{highest, may_go_up, up_hindered}
 use Rattle.paraid_array.proofs.shifts.gear_above.Goals as goal
 
+pub higher-requires : goal.higher-requires
+higher-requires c = c.args.meta.now.setup.geometry.gears_high c.args.meta.now.gear c.requires.in_range.gear
+
 pub returns-in_default : goal.returns-in_default
 returns-in_default c = record {
   next = tt;

@@ -5,6 +5,9 @@ use Rattle.paraid_array.proofs.ResultLemmas.{none_done, none_done_if}
 use Rattle.paraid_array.proofs.RefusalLemmas.{down_hindered, down_worn, lowest, may_go_down}
 use Rattle.paraid_array.proofs.shifts.gear_below.Goals as goal
 
+pub lower-requires : goal.lower-requires
+lower-requires c = c.args.meta.now.setup.geometry.gears_high c.args.meta.now.gear c.requires.in_range.gear
+
 pub returns-in_default : goal.returns-in_default
 returns-in_default c = record {
   next = tt;

@@ -1,4 +1,4 @@
-use Rattle.std.proofs.Common.{◌+◌, refl, sym, ◌∙◌, subst, []}
+use Rattle.std.proofs.Common.{◌+◌, refl, sym, ◌∙◌, subst, [], arith}
 use Rattle.paraid_base.specs.States.{phase_to}
 use Rattle.paraid_moves.specs.MoveMetas.{meta_flipped_to}
 use Rattle.paraid_core.proofs.AfterLemmas.{handed}
@@ -11,6 +11,12 @@ use Rattle.paraid_array.proofs.OutLemmas.{known_gone, known_whole, steady_marked
 use Rattle.paraid_array.proofs.TickTurnLemmas.{flip_halts, flipped_told, known_marked, lost_told, moved_gone, moved_shifts, moving_told, step_halts}
 use Rattle.paraid_array.proofs.ToldLemmas.{calls_then, calls_told, extends_steps}
 use Rattle.paraid_array.proofs.shifts.move_on.Goals as goal
+
+pub units_of_tick-units-requires : goal.units_of_tick-units-requires
+units_of_tick-units-requires g c = record { serving = c.requires.serving }
+
+pub step-requires : goal.step-requires
+step-requires g c = record { serving = c.requires.serving; epoch = let e = c.requires.epoch in omega (arith, e) }
 
 pub is_done-requires : goal.is_done-requires
 is_done-requires g c =

@@ -18,7 +18,7 @@ use Rattle.paraid_core.proofs.OldNewLemmas.{whole_then_reads}
 use Rattle.paraid_core.proofs.OrderLemmas.{core_tells_then, down_is_named, transfer_bears}
 use Rattle.paraid_core.proofs.UnsyncedLemmas.{gone_lost}
 use Rattle.paraid_controller.proofs.CheckLemmas.{counts_by, failed_one}
-use Rattle.paraid_controller.proofs.CountLemmas.{counts_all, counts_none, was_down}
+use Rattle.paraid_controller.proofs.CountLemmas.{counts_all, counts_none, was_down, spins_then}
 use Rattle.paraid_controller.specs.Checked.{CountsCommitted}
 use Rattle.paraid_scrub.specs.Cores.{core_view}
 use Rattle.paraid_scrub.specs.Counts.{no_faults}
@@ -81,6 +81,19 @@ returns-then-is_other g c = record {
       subst (λ (r : CheckReport). CountsCommitted g.R.Rack.slot g.R.Rack.told c.args.core.now c.commit.new.self r) (sym c.nothing_counted.ensures)
       (counts_none g.R.Rack.slot g.R.Rack.told c.args.core.now c.commit.new.self done.nothing c.commit.ensures.table done.marks c.commit.ensures.calls (λ same. c.if-is_other.ensures refl (c.out.ensures ∙ same ∙ sym c.out-out.ensures)));
 }
+
+pub check-requires : goal.check-requires
+check-requires g c =
+    let old = c.args.core.now in
+    let mid = c.commit.new.self in
+    let first = c.in_ok-commit.ensures in
+    record {
+      ready = first.ready;
+      serves = first.serves c.requires.serves;
+      no_draft = c.commit.ensures.draft ∙ c.requires.no_draft;
+      nothing = first.nothing;
+      fresh = spins_then (g.R.Rack.slot (core_rack old)) (g.R.Rack.slot (core_rack mid)) old.meta mid.meta first.marks c.requires.fresh;
+    }
 
 pub returns-in_err-checked : goal.returns-in_err-checked
 returns-in_err-checked g c = record {

@@ -4,6 +4,36 @@ use Rattle.paraid_trace.specs.declared.asked.Asked.{Asked}
 use Rattle.paraid_controller.proofs.AnswersLemmas.{asked_answers}
 use Rattle.paraid_controller.proofs.array.Array.answer.Goals as goal
 
+pub read-requires : goal.read-requires
+read-requires g c = record { going = c.requires.going }
+
+pub write-requires : goal.write-requires
+write-requires g c = record { going = c.requires.going }
+
+pub flush_told-requires : goal.flush_told-requires
+flush_told-requires g c = record { going = c.requires.going }
+
+pub tick-requires : goal.tick-requires
+tick-requires g c = record { going = c.requires.going }
+
+pub up-requires : goal.up-requires
+up-requires g c = record { going = c.requires.going }
+
+pub down-requires : goal.down-requires
+down-requires g c = record { going = c.requires.going }
+
+pub fail-requires : goal.fail-requires
+fail-requires g c = record { going = c.requires.going }
+
+pub replace-requires : goal.replace-requires
+replace-requires g c = record { going = c.requires.going }
+
+pub tell_state-requires : goal.tell_state-requires
+tell_state-requires g c = record { going = c.requires.going }
+
+pub tell_energy-requires : goal.tell_energy-requires
+tell_energy-requires g c = record { going = c.requires.going }
+
 pub returns-in-Read : goal.returns-in-Read
 returns-in-Read g c = record { answers = asked_answers g.R.Rack.slot_count g.R.Rack.slot g.R.Rack.told _ _ c.args.asked _ c.args.pairs.now _ c.in-Read.is c.read.ensures.answers }
 

@@ -11,12 +11,17 @@ use Rattle.paraid_scrub.specs.Cores.{core_view}
 use Rattle.paraid_controller.proofs.CheckLemmas.{at_point, count_lost, count_on, counts_by, failed_one}
 use Rattle.paraid_controller.proofs.CoreLemmas.{serving_then}
 use Rattle.paraid_controller.proofs.StandLemmas.{end_by, told_before}
-use Rattle.paraid_controller.proofs.LossLemmas.{going_lost, going_wear, two_lost}
+use Rattle.paraid_controller.proofs.LossLemmas.{going_lost, going_wear, two_lost, ended_not_none, two_wear}
 use Rattle.paraid_image.specs.Out.{named_out}
 use Rattle.paraid_txn.specs.Stores.{named_of, store_rack}
 use Rattle.paraid_session.proofs.FaultLemmas.{no_fall_counts}
 use Rattle.paraid_array.proofs.ToldLemmas.{extends_core}
 use Rattle.paraid_controller.proofs.array.Array.check_kept.Goals as goal
+
+pub check-requires : goal.check-requires
+check-requires g c =
+    let q = c.args.self.now.serving c.requires.going in
+    record { ready = q.serving.ready; serves = q.serving.serves; no_draft = q.serving.draft; nothing = c.requires.nothing; fresh = q.spins }
 
 pub invariant_of-self : goal.invariant_of-self
 invariant_of-self g c =
@@ -78,3 +83,6 @@ returns-in-Err g c = record {
   sound = tt;
   counts = tt;
 }
+
+pub invariant_of-self-in-Err : goal.invariant_of-self-in-Err
+invariant_of-self-in-Err g c = record { serving = λ e. ended_not_none _ e; worn = two_wear c.check.new.core.meta c.in-Err.two }

@@ -6,6 +6,12 @@ use Rattle.paraid_controller.specs.Checked.{CountsCommitted, CountsDisks}
 use Rattle.paraid_controller.proofs.CheckLemmas.{unstaged}
 use Rattle.paraid_controller.proofs.array.Array.check_there.Goals as goal
 
+pub check_kept-requires : goal.check_kept-requires
+check_kept-requires g c = record { going = c.requires.going; epoch = c.requires.epoch; writes = c.requires.writes; nothing = c.if-is_kept.ensures.nothing refl }
+
+pub commit_and_check-requires : goal.commit_and_check-requires
+commit_and_check-requires g c = record { going = c.requires.going; epoch = c.requires.epoch; writes = c.requires.writes }
+
 pub returns-then-is_kept : goal.returns-then-is_kept
 returns-then-is_kept g c = record {
   answers = c.check_kept.ensures.answers;

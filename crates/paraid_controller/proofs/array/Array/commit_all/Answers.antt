@@ -1,5 +1,5 @@
 use Rattle.paraid_controller.specs.Lasting.{halt_of_end}
-use Rattle.std.proofs.Common.{refl, ap, ◌∙◌, Some, true}
+use Rattle.std.proofs.Common.{refl, ap, ◌∙◌, Some, true, arith}
 use Rattle.paraid_base.specs.declared.fault.Halt.TheVariants.{Two as HaltTwo}
 use Rattle.paraid_record.specs.declared.meta.Meta.{Meta}
 use Rattle.paraid_gear.specs.ThreeWindows.{lengths_of}
@@ -7,12 +7,17 @@ use Rattle.paraid_shift.proofs.ServingLemmas.{copies_kept}
 use Rattle.paraid_controller.proofs.CoreLemmas.{serving_then, tells_by_down}
 use Rattle.paraid_controller.proofs.FlushLemmas.{flush_lost, flush_on}
 use Rattle.paraid_controller.proofs.StandLemmas.{end_by}
-use Rattle.paraid_controller.proofs.LossLemmas.{going_lost, going_wear, two_lost}
+use Rattle.paraid_controller.proofs.LossLemmas.{going_lost, going_wear, two_lost, ended_not_none, two_wear}
 use Rattle.paraid_image.specs.Out.{named_out}
 use Rattle.paraid_txn.specs.Stores.{named_of, store_rack}
 use Rattle.paraid_session.proofs.FaultLemmas.{no_fall_counts}
 use Rattle.paraid_array.proofs.ToldLemmas.{extends_core}
 use Rattle.paraid_controller.proofs.array.Array.commit_all.Goals as goal
+
+pub commit-requires : goal.commit-requires
+commit-requires g c =
+    let q = (c.args.self.now.serving c.requires.going).serving in
+    record { ready = q.ready; epoch = let e = c.requires.epoch in omega (arith, e); copies_synced = q.copies_synced }
 
 pub invariant_of-self : goal.invariant_of-self
 invariant_of-self g c =
@@ -67,3 +72,6 @@ returns-in-Err g c = record {
     few = tt;
   };
 }
+
+pub invariant_of-self-in-Err : goal.invariant_of-self-in-Err
+invariant_of-self-in-Err g c = record { serving = λ e. ended_not_none _ e; worn = two_wear c.commit.new.self.meta c.in-Err.two }

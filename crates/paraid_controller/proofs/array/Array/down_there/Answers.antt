@@ -17,11 +17,14 @@ use Rattle.paraid_controller.proofs.CoreLemmas.{known_of, serving_of}
 use Rattle.paraid_controller.proofs.EnergyLemmas.{asked_used}
 use Rattle.paraid_controller.proofs.StandLemmas.{end_by}
 use Rattle.paraid_controller.proofs.TurnLemmas.{core_halts, core_on}
-use Rattle.paraid_controller.proofs.LossLemmas.{going_lost, going_wear, two_lost}
+use Rattle.paraid_controller.proofs.LossLemmas.{going_lost, going_wear, two_lost, ended_not_none, two_wear}
 use Rattle.paraid_image.specs.Out.{named_out}
 use Rattle.paraid_txn.specs.Stores.{named_of, store_rack}
 use Rattle.paraid_session.proofs.FaultLemmas.{no_fall_counts}
 use Rattle.paraid_controller.proofs.array.Array.down_there.Goals as goal
+
+pub down-requires : goal.down-requires
+down-requires g c = record { serving = (c.args.self.now.serving c.requires.going).serving; epoch = c.requires.epoch }
 
 pub invariant_of-self : goal.invariant_of-self
 invariant_of-self g c =
@@ -81,3 +84,6 @@ returns-in-Err g c = record {
     few = tt;
   };
 }
+
+pub invariant_of-self-in-Err : goal.invariant_of-self-in-Err
+invariant_of-self-in-Err g c = record { serving = λ e. ended_not_none _ e; worn = two_wear c.down.new.core.meta c.in-Err.two }

@@ -17,16 +17,16 @@ use Rattle.paraid_controller.proofs.CoreLemmas.{known_of, serving_of}
 use Rattle.paraid_controller.proofs.EnergyLemmas.{uses_none}
 use Rattle.paraid_controller.proofs.StandLemmas.{end_by}
 use Rattle.paraid_controller.proofs.TurnLemmas.{core_halts, core_on}
-use Rattle.paraid_controller.proofs.LossLemmas.{going_lost, going_wear, taken_lost}
+use Rattle.paraid_controller.proofs.LossLemmas.{going_lost, going_wear, taken_lost, ended_not_none, two_wear}
 use Rattle.paraid_image.specs.Out.{named_out}
 use Rattle.paraid_txn.specs.Stores.{named_of, store_rack}
 use Rattle.paraid_session.proofs.FaultLemmas.{no_fall_counts}
 use Rattle.paraid_controller.proofs.array.Array.fail_there.Goals as goal
 
-pub take_out-requires-clause-service : goal.take_out-requires-clause-service
-take_out-requires-clause-service g c =
+pub take_out-requires : goal.take_out-requires
+take_out-requires g c =
     let a = c.args.self.now in
-    serving_service g.R.Rack.slot_count g.R.Rack.slot a.core (a.serving c.requires.going).serving
+    record { service = serving_service g.R.Rack.slot_count g.R.Rack.slot a.core (a.serving c.requires.going).serving; epoch = c.requires.epoch }
 
 pub invariant_of-self : goal.invariant_of-self
 invariant_of-self g c =
@@ -80,3 +80,6 @@ returns-in-Err g c = record {
     few = tt;
   };
 }
+
+pub invariant_of-self-in-Err : goal.invariant_of-self-in-Err
+invariant_of-self-in-Err g c = record { serving = λ e. ended_not_none _ e; worn = two_wear c.take_out.new.core.meta c.in-Err.two }

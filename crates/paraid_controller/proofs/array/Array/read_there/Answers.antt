@@ -1,6 +1,8 @@
+use Rattle.paraid_record.specs.declared.meta.Setup.{Setup}
+use Rattle.paraid_machine.specs.Machine.{block_count}
 use Rattle.paraid_controller.proofs.AnswerLemmas.{same_test}
 use Rattle.paraid_controller.specs.Lasting.{halt_of_end}
-use Rattle.std.proofs.Common.{refl, ap, Some}
+use Rattle.std.proofs.Common.{refl, ap, Some, ◌<◌, arith, subst, sym}
 use Rattle.paraid_base.specs.declared.fault.Halt.TheVariants.{Two as HaltTwo}
 use Rattle.paraid_record.specs.declared.meta.Meta.{Meta}
 use Rattle.paraid_gear.specs.ThreeWindows.{lengths_of}
@@ -9,12 +11,24 @@ use Rattle.paraid_shift.proofs.ServingLemmas.{copies_kept}
 use Rattle.paraid_controller.proofs.CoreLemmas.{serving_then}
 use Rattle.paraid_controller.proofs.RequestLemmas.{read_lost, read_on}
 use Rattle.paraid_controller.proofs.StandLemmas.{end_by}
-use Rattle.paraid_controller.proofs.LossLemmas.{going_lost, going_wear, two_lost}
+use Rattle.paraid_controller.proofs.LossLemmas.{going_lost, going_wear, two_lost, ended_not_none, two_wear}
 use Rattle.paraid_image.specs.Out.{named_out}
 use Rattle.paraid_txn.specs.Stores.{named_of, store_rack}
 use Rattle.paraid_session.proofs.FaultLemmas.{no_fall_counts}
 use Rattle.paraid_array.proofs.ToldLemmas.{extends_core}
 use Rattle.paraid_controller.proofs.array.Array.read_there.Goals as goal
+
+pub read-requires : goal.read-requires
+read-requires g c =
+    let q = c.args.self.now.serving c.requires.going in
+    record {
+      ready = q.serving.ready;
+      serves = q.serving.serves;
+      block = subst (λ (z : Setup). c.args.block < block_count z) (sym q.same_setup) c.requires.block;
+      no_draft = q.serving.draft;
+      epoch = let e = c.requires.epoch in omega (arith, e);
+      synced = q.serving.copies_synced;
+    }
 
 pub invariant_of-self : goal.invariant_of-self
 invariant_of-self g c =
@@ -67,3 +81,6 @@ returns-in-Err g c = record {
     few = tt;
   };
 }
+
+pub invariant_of-self-in-Err : goal.invariant_of-self-in-Err
+invariant_of-self-in-Err g c = record { serving = λ e. ended_not_none _ e; worn = two_wear c.read.new.self.meta c.in-Err.two }

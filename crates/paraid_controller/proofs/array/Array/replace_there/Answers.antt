@@ -16,15 +16,16 @@ use Rattle.paraid_controller.proofs.CoreLemmas.{known_of, serving_of}
 use Rattle.paraid_controller.proofs.EnergyLemmas.{uses_none}
 use Rattle.paraid_controller.proofs.StandLemmas.{end_by}
 use Rattle.paraid_controller.proofs.TurnLemmas.{core_halts, core_on}
-use Rattle.paraid_controller.proofs.LossLemmas.{going_lost, going_wear, two_lost}
+use Rattle.paraid_controller.proofs.LossLemmas.{going_lost, going_wear, two_lost, ended_not_none, two_wear}
 use Rattle.paraid_image.specs.Out.{named_out}
 use Rattle.paraid_txn.specs.Stores.{named_of}
 use Rattle.paraid_controller.proofs.array.Array.replace_there.Goals as goal
 
-pub replace-requires-clause-known : goal.replace-requires-clause-known
-replace-requires-clause-known g c =
+pub replace-requires : goal.replace-requires
+replace-requires g c =
     let a = c.args.self.now in
-    known_of g.R.Rack.slot_count g.R.Rack.slot a.core (lengths_of a.windows) a.setup a.slots (a.serving c.requires.going)
+    let q = a.serving c.requires.going in
+    record { serving = q.serving; known = known_of g.R.Rack.slot_count g.R.Rack.slot a.core (lengths_of a.windows) a.setup a.slots q; epoch = c.requires.epoch }
 
 pub invariant_of-self : goal.invariant_of-self
 invariant_of-self g c =
@@ -77,3 +78,6 @@ returns-in-Err g c = record {
     few = tt;
   };
 }
+
+pub invariant_of-self-in-Err : goal.invariant_of-self-in-Err
+invariant_of-self-in-Err g c = record { serving = λ e. ended_not_none _ e; worn = two_wear c.replace.new.core.meta c.in-Err.two }

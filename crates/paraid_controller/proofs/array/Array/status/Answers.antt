@@ -1,4 +1,4 @@
-use Rattle.std.proofs.Common.{◌≡◌, ◌∙◌, Bool, List, length, subst, ap}
+use Rattle.std.proofs.Common.{◌≡◌, ◌∙◌, Bool, List, length, subst, ap, arith}
 use Rattle.paraid_record.specs.declared.meta.Setup.{Setup}
 use Rattle.paraid_dirty.specs.Table.{dirty_count, is_dirty}
 use Rattle.paraid_controller.proofs.QuietLemmas.{status_is}
@@ -6,6 +6,17 @@ use Rattle.paraid_controller.proofs.StandLemmas.{none_ended}
 use Rattle.paraid_image.specs.Out.{named_out}
 use Rattle.paraid_record.specs.declared.meta.Meta.{Meta}
 use Rattle.paraid_controller.proofs.array.Array.status.Goals as goal
+
+pub count-requires : goal.count-requires
+count-requires g c =
+    let a = c.args.self.now in
+    let q = a.serving (none_ended a.ended c.requires.going) in
+    let high = a.core.meta.setup.geometry.gears_high a.core.meta.gear q.serving.ready.in_range.gear in
+    let eight = a.setup.geometry.disks_high in
+    let gear = ap (λ (m : Meta). m.gear) c.meta-meta.ensures in
+    let disks = c.disks.ensures in
+    let same = ap (λ (z : Setup). z.geometry.disks) q.same_setup in
+    record { order = omega (arith, high, gear, disks, same); high = omega (arith, eight, disks) }
 
 pub returns : goal.returns
 returns g c = record {

@@ -5,6 +5,9 @@ use Rattle.paraid_controller.proofs.AnswersLemmas.{quiet_answers}
 use Rattle.paraid_controller.proofs.QuietLemmas.{state_told}
 use Rattle.paraid_controller.proofs.array.Array.tell_state.Goals as goal
 
+pub status-beside-requires : goal.status-beside-requires
+status-beside-requires g c = record { going = c.requires.going }
+
 pub returns : goal.returns
 returns g c = record {
   answers =

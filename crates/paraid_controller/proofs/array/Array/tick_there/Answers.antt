@@ -19,7 +19,7 @@ use Rattle.paraid_controller.proofs.CountedLemmas.{known_counted, serving_counte
 use Rattle.paraid_controller.proofs.EnergyLemmas.{tick_uses}
 use Rattle.paraid_controller.proofs.StandLemmas.{end_by}
 use Rattle.paraid_controller.proofs.TickLemmas.{tick_halts, ticks_on}
-use Rattle.paraid_controller.proofs.LossLemmas.{going_lost, going_wear, two_lost}
+use Rattle.paraid_controller.proofs.LossLemmas.{going_lost, going_wear, two_lost, ended_not_none, two_wear}
 use Rattle.paraid_session.proofs.FaultLemmas.{no_fall_counts}
 use Rattle.paraid_array.proofs.ToldLemmas.{extends_store}
 use Rattle.paraid_controller.proofs.array.Array.tick_there.Goals as goal
@@ -28,26 +28,20 @@ use Rattle.paraid_controller.proofs.array.Array.tick_there.Goals as goal
 abbrev report : ℕ → ℕ → TickEvent → GearReport
 report gear moved event = record { gear = gear; moved = moved; event = event }
 
-pub advance-requires-clause-serving : goal.advance-requires-clause-serving
-advance-requires-clause-serving g c =
+pub count_tick-requires : goal.count_tick-requires
+count_tick-requires g c = record { ready = (c.args.self.now.serving c.requires.going).serving.ready }
+
+pub advance-requires : goal.advance-requires
+advance-requires g c =
     let a = c.args.self.now in
     let q = a.serving c.requires.going in
     let t = c.count_tick.ensures in
-    serving_counted g.R.Rack.slot_count g.R.Rack.slot a.core c.count_tick.new.self t.store t.meta q.serving t.ready (t.serves q.serving.serves) t.draft t.copied
-
-pub advance-requires-clause-known : goal.advance-requires-clause-known
-advance-requires-clause-known g c =
-    let a = c.args.self.now in
-    let t = c.count_tick.ensures in
-    known_counted g.R.Rack.slot_count g.R.Rack.slot a.core c.count_tick.new.self t.store t.meta (known_of g.R.Rack.slot_count g.R.Rack.slot a.core (lengths_of a.windows) a.setup a.slots (a.serving c.requires.going))
-
-pub advance-requires-clause-epoch : goal.advance-requires-clause-epoch
-advance-requires-clause-epoch g c = subst (λ (m : Meta). m.epoch < 2 ^ 62) (sym c.count_tick.ensures.meta) c.requires.epoch
-
-pub advance-requires-clause-lengths : goal.advance-requires-clause-lengths
-advance-requires-clause-lengths g c =
-    let q = c.args.self.now.serving c.requires.going in
-    c.push.ensures.lengths ∙ q.windows ∙ ap (λ (z : Setup). z.windows) (sym q.same_setup) ∙ ap (λ (m : Meta). m.setup.windows) (sym c.count_tick.ensures.meta)
+    record {
+      serving = serving_counted g.R.Rack.slot_count g.R.Rack.slot a.core c.count_tick.new.self t.store t.meta q.serving t.ready (t.serves q.serving.serves) t.draft t.copied;
+      epoch = subst (λ (m : Meta). m.epoch < 2 ^ 62) (sym t.meta) c.requires.epoch;
+      known = known_counted g.R.Rack.slot_count g.R.Rack.slot a.core c.count_tick.new.self t.store t.meta (known_of g.R.Rack.slot_count g.R.Rack.slot a.core (lengths_of a.windows) a.setup a.slots q);
+      lengths = c.push.ensures.lengths ∙ q.windows ∙ ap (λ (z : Setup). z.windows) (sym q.same_setup) ∙ ap (λ (m : Meta). m.setup.windows) (sym t.meta);
+    }
 
 pub invariant_of-self : goal.invariant_of-self
 invariant_of-self g c =
@@ -117,3 +111,6 @@ returns-in-Err g c = record {
     few = tt;
   };
 }
+
+pub invariant_of-self-in-Err : goal.invariant_of-self-in-Err
+invariant_of-self-in-Err g c = record { serving = λ e. ended_not_none _ e; worn = two_wear c.advance.new.core.meta c.in-Err.two }

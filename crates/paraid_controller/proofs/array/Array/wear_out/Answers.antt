@@ -2,7 +2,7 @@ use Rattle.std.proofs.Common.{refl, ap, Some}
 use Rattle.paraid_base.specs.declared.fault.Halt.TheVariants.{Worn}
 use Rattle.paraid_record.specs.declared.meta.Meta.{Meta}
 use Rattle.paraid_controller.proofs.AnswersLemmas.{halted_kind, may_not_bad}
-use Rattle.paraid_controller.proofs.LossLemmas.{worn_lost}
+use Rattle.paraid_controller.proofs.LossLemmas.{worn_lost, ended_not_none, worn_wear}
 use Rattle.paraid_controller.proofs.StandLemmas.{end_by, worn_on}
 use Rattle.paraid_txn.specs.Stores.{store_rack}
 use Rattle.paraid_session.proofs.FaultLemmas.{same_counts}
@@ -26,3 +26,6 @@ returns g c = record {
     few = tt;
   };
 }
+
+pub invariant_of-self : goal.invariant_of-self
+invariant_of-self g c = record { serving = λ e. ended_not_none _ e; worn = worn_wear c.args.self.now.core.meta c.args.count c.requires.many c.requires.is }

@@ -1,5 +1,10 @@
+use Rattle.paraid_record.specs.declared.meta.Setup.{Setup}
+use Rattle.paraid_machine.specs.Machine.{block_count}
+use Rattle.paraid_base.specs.Pairs.{pairs_of}
+use Rattle.paraid_base.specs.declared.block.Block.{Block}
+use Rattle.std.specs.Prelude.{All}
 use Rattle.paraid_controller.specs.Lasting.{halt_of_end}
-use Rattle.std.proofs.Common.{refl, ap, ◌+◌, ◌*◌, Some}
+use Rattle.std.proofs.Common.{refl, ap, ◌+◌, ◌*◌, Some, ℕ, ◌<◌, ◌^◌, arith, subst, sym}
 use Rattle.paraid_base.specs.declared.fault.Halt.TheVariants.{Two as HaltTwo}
 use Rattle.paraid_record.specs.declared.meta.Meta.{Meta}
 use Rattle.paraid_gear.specs.ThreeWindows.{lengths_of}
@@ -8,12 +13,24 @@ use Rattle.paraid_shift.proofs.ServingLemmas.{copies_kept}
 use Rattle.paraid_controller.proofs.CoreLemmas.{serving_then}
 use Rattle.paraid_controller.proofs.RequestLemmas.{write_lost, write_on}
 use Rattle.paraid_controller.proofs.StandLemmas.{end_by}
-use Rattle.paraid_controller.proofs.LossLemmas.{going_lost, going_wear, two_lost}
+use Rattle.paraid_controller.proofs.LossLemmas.{going_lost, going_wear, two_lost, ended_not_none, two_wear}
 use Rattle.paraid_image.specs.Out.{named_out}
 use Rattle.paraid_txn.specs.Stores.{named_of, store_rack}
 use Rattle.paraid_session.proofs.FaultLemmas.{no_fall_counts}
 use Rattle.paraid_array.proofs.ToldLemmas.{extends_core}
 use Rattle.paraid_controller.proofs.array.Array.write_there.Goals as goal
+
+pub write_many-requires : goal.write_many-requires
+write_many-requires g c =
+    let q = c.args.self.now.serving c.requires.going in
+    record {
+      ready = q.serving.ready;
+      serves = q.serving.serves;
+      blocks = subst (λ (z : Setup). All (λ (pair : ℕ × Block). pair.0 < block_count z) (pairs_of c.args.pairs.now)) (sym q.same_setup) c.requires.blocks;
+      epoch = let e = c.requires.epoch in omega (arith, e);
+      copies_synced = q.serving.copies_synced;
+      fits = let w = c.requires.writes in omega (arith, w);
+    }
 
 pub invariant_of-self : goal.invariant_of-self
 invariant_of-self g c =
@@ -66,3 +83,9 @@ returns-in-Err g c = record {
     few = tt;
   };
 }
+
+pub invariant_of-self-in-Err : goal.invariant_of-self-in-Err
+invariant_of-self-in-Err g c = record { serving = λ e. ended_not_none _ e; worn = two_wear c.write_many.new.self.meta c.in-Err.two }
+
+pub overflow_add-result : goal.overflow_add-result
+overflow_add-result g c = let w = subst (λ (m : Meta). m.writes < 2 ^ 62) (sym c.meta-2.ensures) c.requires.writes in omega (arith, w)

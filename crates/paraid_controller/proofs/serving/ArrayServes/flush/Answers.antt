@@ -8,6 +8,9 @@ use Rattle.paraid_controller.specs.Laws.{going_end}
 use Rattle.paraid_controller.proofs.AnswersLemmas.{flush_halts}
 use Rattle.paraid_controller.proofs.serving.ArrayServes.flush.Goals as goal
 
+pub flush-requires : goal.flush-requires
+flush-requires g c = record { going = c.requires.going }
+
 pub returns : goal.returns
 returns g c =
     let it = c.flush.ensures.answers in

@@ -7,6 +7,9 @@ use Rattle.paraid_controller.specs.Arrays.{ArrayStandsAt, told_of_array}
 use Rattle.paraid_controller.specs.Laws.{going_end}
 use Rattle.paraid_controller.proofs.serving.ArrayServes.serve.Goals as goal
 
+pub answer-requires : goal.answer-requires
+answer-requires g c = record { going = c.requires.going; event = c.requires.event }
+
 pub returns : goal.returns
 returns g c =
     let it = c.answer.ensures.answers in
