@@ -123,3 +123,33 @@ returns-in-Ok-mount g c = record {
   cause = tt;
   refused = tt;
 }
+
+pub begin-requires : goal.begin-requires
+begin-requires g c = record { in_range = c.in-Ok-mount.ensures.servable.fit.in_range }
+
+pub returns-in-Err : goal.returns-in-Err
+returns-in-Err g c = record {
+  slots = tt;
+  ready = tt;
+  serves = tt;
+  nothing = tt;
+  draft = tt;
+  copies_synced = tt;
+  large = tt;
+  synced = tt;
+  serving = tt;
+  powered = tt;
+  absent = tt;
+  named = tt;
+  spins = tt;
+  lengths = tt;
+  none = tt;
+  later = tt;
+  refused_later = c.in-Err.ensures.refused_later;
+  mounted = tt;
+  grows = tt;
+  stands = tt;
+  refused_grows = c.in-Err.ensures.refused_grows;
+  cause = c.in-Err.ensures.cause;
+  refused = c.in-Err.ensures.refused;
+}

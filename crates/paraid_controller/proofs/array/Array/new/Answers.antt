@@ -1,4 +1,4 @@
-use Rattle.std.proofs.Common.{[], refl, sym, subst}
+use Rattle.std.proofs.Common.{[], ap, refl, sym, subst}
 use Rattle.paraid_record.specs.declared.meta.Meta.{Meta}
 use Rattle.paraid_core.specs.Cores.{core_rack}
 use Rattle.paraid_event.specs.Service.{service_of}
@@ -6,7 +6,13 @@ use Rattle.paraid_event.specs.Stands.{StandsAt}
 use Rattle.paraid_controller.proofs.FirstLemmas.{begins_at}
 use Rattle.paraid_controller.proofs.array.Array.new.Goals as goal
 
-pub returns-clause-stands : goal.returns-clause-stands
-returns-clause-stands g c p windows at =
-    begins_at g.R.Rack.slot_count g.R.Rack.told _ refl refl refl windows p
-    (subst (λ (m : Meta). StandsAt (g.R.Rack.told (core_rack c.args.core)) (service_of g.R.Rack.slot_count c.args.core [] 0 0) m.setup p) (sym c.meta.ensures) at)
+pub returns : goal.returns
+returns g c = record {
+  core = refl;
+  setup = ap (λ (m : Meta). m.setup) c.meta.ensures;
+  slots = refl;
+  going = refl;
+  stands = λ p windows at.
+      begins_at g.R.Rack.slot_count g.R.Rack.told _ refl refl refl windows p
+      (subst (λ (m : Meta). StandsAt (g.R.Rack.told (core_rack c.args.core)) (service_of g.R.Rack.slot_count c.args.core [] 0 0) m.setup p) (sym c.meta.ensures) at);
+}
