@@ -1,5 +1,7 @@
 pub mod RankLemmas
 pub mod RowLemmas
+pub mod RoomLemmas
+pub mod LoweredLemmas
 pub mod GearStepLemmas
 pub mod OnwardLemmas
 pub mod CertificateLemmas

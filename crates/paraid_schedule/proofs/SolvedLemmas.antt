@@ -1,6 +1,7 @@
 -- How relaxed rows of bounds are right and met
 use Rattle.std.proofs.Common.{◌≡◌, ◌⊎◌, ℕ, zero, suc, ◌+◌, ◌-◌, ◌<◌, ◌≤◌, List, slice_index, min, inl, inr, refl, sym, ◌∙◌, ap, arith}
 use Rattle.std.proofs.lemmas.Bool.{cases_lt}
+use Rattle.paraid_base.specs.declared.geometry.Geometry.{Geometry}
 use Rattle.paraid_base.specs.Regions.{IsGear}
 use Rattle.paraid_record.specs.declared.meta.Setup.{Setup}
 use Rattle.paraid_record.specs.Range.{AreNextGears}
@@ -145,3 +146,8 @@ solved_served s demanded ups one two three four t a is served cleared stay fall 
                 ]
           ];
     }
+
+-- a row whose bounds are all cleared
+pub cleared_row : (g : Geometry) (ups : ℕ) (bounds : List ℕ) (t a at : ℕ) → at ≡ row_start g ups t a → ((j : ℕ) → j < ups + 1 → slice_index bounds (at + j) ≡ no_bound)
+    → (left : ℕ) → left ≤ ups → bound g ups bounds t a left ≡ no_bound
+cleared_row g ups bounds t a at here cleared left few = rw here at (cleared left (omega arith))

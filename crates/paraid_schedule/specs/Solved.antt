@@ -33,6 +33,12 @@ abbrev pub DifferInRow : Geometry → ℕ → ℕ → ℕ → List ℕ → List 
 DifferInRow g ups t a old new =
     (k : ℕ) → (k < row_start g ups t a) ⊎ (row_start g ups t a + (ups + 1) ≤ k) → slice_index new k ≡ slice_index old k
 
+-- the bounds of one period and gear are lowered to what the permitted steps of a kind cost, and no others differ
+pub record AreLoweredBy (kind : ℕ → Type 0) (s : Setup) (ups t a : ℕ) (old new : List ℕ) : Type 0 where
+  pub least : (left : ℕ) → left ≤ ups → IsLeastCostAfter kind s ups old t a left (bound s.geometry ups old t a left) (bound s.geometry ups new t a left)
+  pub same : DifferInRow s.geometry ups t a old new
+  pub most : (k : ℕ) → slice_index new k ≤ no_bound
+
 -- the bounds of a period
 abbrev pub AreSameIn : Geometry → ℕ → ℕ → List ℕ → List ℕ → Type 0
 AreSameIn g ups t old new = (a left : ℕ) → IsGear g a → left ≤ ups → bound g ups new t a left ≡ bound g ups old t a left

@@ -6,7 +6,7 @@ ghost use Rattle.paraid_record.specs.Range.{AreNextGears};
 ghost use Rattle.paraid_schedule.specs.Schedule.{IsDemand, IsSchedule, IsGearStep, GearServes, rise, rises};
 ghost use Rattle.paraid_schedule.specs.Cost.{period_cost as price_of_period, step_cost as price_of_step, schedule_cost, spin_ups};
 ghost use Rattle.paraid_schedule.specs.Bounds.{no_bound, row_start, bound_count, gear_count, rank, bound, onward, HasRow, AreRight, IsRightAt};
-ghost use Rattle.paraid_schedule.specs.Solved.{IsLeastCostAfter, IsMetBy, IsSolvedAt, AreSolvedFrom, DifferInRow, AreSameIn, IsWalk};
+ghost use Rattle.paraid_schedule.specs.Solved.{AreLoweredBy, IsMetBy, IsSolvedAt, AreSolvedFrom, DifferInRow, AreSameIn, IsWalk};
 ghost use Rattle.paraid_schedule.specs.Plan.{IsCertified, IsLeastCost, IsPlanFault};
 
 use crate::{Plan, PlanFault};
@@ -140,41 +140,32 @@ fn relax(bounds: &mut [u64], at: usize, next: usize, cost: u64, count: usize)
     }
 }
 
-/// Lowers the bounds of a period and gear to what staying in the gear costs.
-fn relax_by_stay(setup: &Setup, ups: u16, bounds: &mut [u64], t: usize, a: u8)
-    requires { HasRow setup.now.geometry ups bounds.old t a }
-    ensures least { (left : ℕ) → left ≤ ups → IsLeastCostAfter (λ b. b ≡ a) setup.now ups bounds.old t a left
-        (bound setup.now.geometry ups bounds.old t a left) (bound setup.now.geometry ups bounds.new t a left) }
-    ensures same { DifferInRow setup.now.geometry ups t a bounds.old bounds.new }
-    ensures most { (k : ℕ) → slice_index bounds.new k ≤ no_bound }
+/// Lowers the bounds of a period and gear to what a step costs to gear `b`, which is not above it.
+fn relax_to(setup: &Setup, ups: u16, bounds: &mut [u64], t: usize, a: u8, b: u8)
+    requires row { HasRow setup.now.geometry ups bounds.old t a }
+    requires gear { IsGear setup.now.geometry b }
+    requires low { b ≤ a }
+    ensures { AreLoweredBy (λ e. e ≡ b) setup.now ups t a bounds.old bounds.new }
 {
     let at = place(&setup.geometry, ups, t, a);
-    let next = place(&setup.geometry, ups, t + 1, a);
+    let next = place(&setup.geometry, ups, t + 1, b);
     relax(bounds, at, next, period_cost(setup, a), ups as usize + 1);
 }
 
 /// Lowers them to what a step to the next lower gear costs.
 fn relax_by_fall(setup: &Setup, ups: u16, bounds: &mut [u64], t: usize, a: u8)
     requires { HasRow setup.now.geometry ups bounds.old t a }
-    ensures least { (left : ℕ) → left ≤ ups → IsLeastCostAfter (λ b. AreNextGears setup.now.geometry b a) setup.now ups bounds.old t a left
-        (bound setup.now.geometry ups bounds.old t a left) (bound setup.now.geometry ups bounds.new t a left) }
-    ensures same { DifferInRow setup.now.geometry ups t a bounds.old bounds.new }
-    ensures most { (k : ℕ) → slice_index bounds.new k ≤ no_bound }
+    ensures { AreLoweredBy (λ b. AreNextGears setup.now.geometry b a) setup.now ups t a bounds.old bounds.new }
 {
     if let Some(b) = setup.geometry.lower(a) {
-        let at = place(&setup.geometry, ups, t, a);
-        let next = place(&setup.geometry, ups, t + 1, b);
-        relax(bounds, at, next, period_cost(setup, a), ups as usize + 1);
+        relax_to(setup, ups, bounds, t, a, b);
     }
 }
 
 /// Lowers them to what a step to the next higher gear costs, where one is left.
 fn relax_by_rise(setup: &Setup, ups: u16, bounds: &mut [u64], t: usize, a: u8)
     requires { HasRow setup.now.geometry ups bounds.old t a }
-    ensures least { (left : ℕ) → left ≤ ups → IsLeastCostAfter (λ b. AreNextGears setup.now.geometry a b) setup.now ups bounds.old t a left
-        (bound setup.now.geometry ups bounds.old t a left) (bound setup.now.geometry ups bounds.new t a left) }
-    ensures same { DifferInRow setup.now.geometry ups t a bounds.old bounds.new }
-    ensures most { (k : ℕ) → slice_index bounds.new k ≤ no_bound }
+    ensures { AreLoweredBy (λ b. AreNextGears setup.now.geometry a b) setup.now ups t a bounds.old bounds.new }
 {
     if let Some(b) = setup.geometry.higher(a) {
         let at = place(&setup.geometry, ups, t, a);
@@ -195,7 +186,7 @@ fn solve_gear(setup: &Setup, demanded: u32, ups: u16, bounds: &mut [u64], t: usi
     if !serves(setup, demanded, a) {
         return;
     }
-    relax_by_stay(setup, ups, bounds, t, a);
+    relax_to(setup, ups, bounds, t, a, a);
     relax_by_fall(setup, ups, bounds, t, a);
     relax_by_rise(setup, ups, bounds, t, a);
 }
