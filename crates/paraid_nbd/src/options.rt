@@ -1,9 +1,9 @@
 //! The options that a client asks for before it reads and writes.
-ghost use Rattle.std.specs.Prelude.{◌≡◌, ◌↔◌, ◌+◌, ◌≤◌, ◌<◌, ◌++◌, length, take, IfOk, IfErr, OnOk, IsTrue, [], if◌then◌else◌, replicate};
+ghost use Rattle.std.specs.Prelude.{◌≡◌, ◌↔◌, ◌+◌, ◌≤◌, ◌<◌, ◌++◌, ℕ, List, length, take, IfOk, IfErr, OnOk, IsTrue, [], if◌then◌else◌, replicate};
 ghost use Rattle.paraid_base.specs.Told.{GrowsByBytes};
 ghost use Rattle.paraid_nbd.specs.Handshake.{greeting, IsUnsent, TakesFlags, StopsFlags, TakesOption, StopsOption, TakesChoice, StopsChoice, AnswersOption, EndsOption, BeginsTransmission, EndsEarly};
 ghost use Rattle.paraid_nbd.specs.Numbers.{number_bytes};
-ghost use Rattle.paraid_nbd.specs.Options.{IsChoice, ack, chooses, kind_reply, option_kind, reply_to};
+ghost use Rattle.paraid_nbd.specs.Options.{IsChoice, IsOptionMagic, ack, chooses, kind_reply, option_kind, reply_to};
 ghost use Rattle.paraid_nbd.specs.Taking.{Takes, Lacks};
 
 use crate::NbdEnd;
@@ -163,11 +163,11 @@ fn option<S: Source, K: Sink>(
     }
 }
 
-// Takes an option, and gives its number.
+// Takes the number before an option.
 #[tactic(auto, unfolding(crate::specs::Numbers::number))]
-fn take_option<S: Source>(source: &mut S, input: &mut Input) -> Result<u32, NbdEnd>
-    ensures takes { IfOk result (λ n. TakesOption (S.left source.old) (S.left source.new)
-        input.old.taken input.new.taken n) }
+fn take_magic<S: Source>(source: &mut S, input: &mut Input) -> Result<(), NbdEnd>
+    ensures takes { OnOk result ((magic : List ℕ) × IsOptionMagic magic
+        × Takes (S.left source.old) (S.left source.new) input.old.taken input.new.taken magic) }
     ensures stops { IfErr result (λ e. StopsOption (S.left source.old) (S.left source.new)
         input.old.taken input.new.taken
         (S.faults source.old) (S.faults source.new) e) }
@@ -179,12 +179,26 @@ fn take_option<S: Source>(source: &mut S, input: &mut Input) -> Result<u32, NbdE
     if BigEndian::read_u64(&magic) != HAVE_OPTION {
         return Err(NbdEnd::Protocol { at });
     }
+    Ok(())
+}
+
+// Takes an option, and gives its number.
+#[tactic(auto, unfolding(crate::specs::Numbers::number))]
+fn take_option<S: Source>(source: &mut S, input: &mut Input) -> Result<u32, NbdEnd>
+    ensures takes { IfOk result (λ n. TakesOption (S.left source.old) (S.left source.new)
+        input.old.taken input.new.taken n) }
+    ensures stops { IfErr result (λ e. StopsOption (S.left source.old) (S.left source.new)
+        input.old.taken input.new.taken
+        (S.faults source.old) (S.faults source.new) e) }
+    ensures later { S.faults source.old ≤ S.faults source.new }
+{
+    take_magic(source, input)?;
     let at = input.taken + 4;
     let mut head = [0; 8];
     input.fill(source, &mut head)?;
     let number = BigEndian::read_u32(&head);
     let length = BigEndian::read_u32(&head[4..]);
-    if is_choosing(kind_of(number)) {
+    if is_choosing(number) {
         take_choice(source, input, length, at)?;
         return Ok(number);
     }
@@ -192,11 +206,11 @@ fn take_option<S: Source>(source: &mut S, input: &mut Input) -> Result<u32, NbdE
     Ok(number)
 }
 
-// Whether it names an export and asks for information.
-fn is_choosing(kind: OptionKind) -> bool
-    ensures { result ≡ chooses kind }
+// Whether the option of this number names an export and asks for information.
+fn is_choosing(number: u32) -> bool
+    ensures { result ≡ chooses (option_kind number) }
 {
-    matches!(kind, OptionKind::Info | OptionKind::Go)
+    matches!(kind_of(number), OptionKind::Info | OptionKind::Go)
 }
 
 // Takes the content of an option that names an export. Its length stands at this place.
