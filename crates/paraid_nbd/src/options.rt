@@ -3,7 +3,7 @@ ghost use Rattle.std.specs.Prelude.{◌≡◌, ◌↔◌, ◌+◌, ◌≤◌, �
 ghost use Rattle.paraid_base.specs.Told.{GrowsByBytes};
 ghost use Rattle.paraid_nbd.specs.Handshake.{greeting, IsUnsent, TakesFlags, StopsFlags, TakesOption, StopsOption, TakesChoice, StopsChoice, AnswersOption, EndsOption, BeginsTransmission, EndsEarly};
 ghost use Rattle.paraid_nbd.specs.Numbers.{number_bytes};
-ghost use Rattle.paraid_nbd.specs.Options.{IsChoice, IsOptionMagic, ack, chooses, kind_reply, option_kind, reply_to};
+ghost use Rattle.paraid_nbd.specs.Options.{IsChoice, IsOptionMagic, ack, chooses, kind_reply, option_kind, option_length, option_number, reply_to};
 ghost use Rattle.paraid_nbd.specs.Taking.{Takes, Lacks};
 
 use crate::NbdEnd;
@@ -182,8 +182,24 @@ fn take_magic<S: Source>(source: &mut S, input: &mut Input) -> Result<(), NbdEnd
     Ok(())
 }
 
-// Takes an option, and gives its number.
+// Takes the number of an option and the length of its content.
 #[tactic(auto, unfolding(crate::specs::Numbers::number))]
+fn take_head<S: Source>(source: &mut S, input: &mut Input) -> Result<(u32, u32), NbdEnd>
+    ensures takes { IfOk result (λ r. (head : List ℕ) × (length head ≡ 8)
+        × (option_number head ≡ r.0) × (r.1 ≡ option_length head)
+        × Takes (S.left source.old) (S.left source.new) input.old.taken input.new.taken head) }
+    ensures lacks { IfErr result (λ e. Lacks (S.left source.old) (S.left source.new)
+        input.old.taken input.new.taken 8 (S.faults source.old) (S.faults source.new) e) }
+    ensures later { S.faults source.old ≤ S.faults source.new }
+{
+    let mut head = [0; 8];
+    input.fill(source, &mut head)?;
+    let number = BigEndian::read_u32(&head);
+    let length = BigEndian::read_u32(&head[4..]);
+    Ok((number, length))
+}
+
+// Takes an option, and gives its number.
 fn take_option<S: Source>(source: &mut S, input: &mut Input) -> Result<u32, NbdEnd>
     ensures takes { IfOk result (λ n. TakesOption (S.left source.old) (S.left source.new)
         input.old.taken input.new.taken n) }
@@ -194,10 +210,7 @@ fn take_option<S: Source>(source: &mut S, input: &mut Input) -> Result<u32, NbdE
 {
     take_magic(source, input)?;
     let at = input.taken + 4;
-    let mut head = [0; 8];
-    input.fill(source, &mut head)?;
-    let number = BigEndian::read_u32(&head);
-    let length = BigEndian::read_u32(&head[4..]);
+    let (number, length) = take_head(source, input)?;
     if is_choosing(number) {
         take_choice(source, input, length, at)?;
         return Ok(number);

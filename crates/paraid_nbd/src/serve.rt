@@ -1,10 +1,10 @@
 //! The service: the options, and then one request after the other.
 ghost use Rattle.std.specs.Prelude.{◌≡◌, ◌≢◌, ◌*◌, ◌+◌, ◌^◌, ◌≤◌, ◌<◌, ◌++◌, ℕ, List, [], length, take, min, IfOk, IfErr, OnOk, IsTrue};
 ghost use Rattle.paraid_nbd.specs.Export.{ForEachState};
-ghost use Rattle.paraid_nbd.specs.Requests.{content_length, outcome_of, reply_head};
+ghost use Rattle.paraid_nbd.specs.Requests.{IsRequestMagic, content_length, outcome_of, reply_head};
 ghost use Rattle.paraid_nbd.specs.Performing.{Fills, Performs, TakesContent, said_with};
 ghost use Rattle.paraid_nbd.specs.Service.{EndsRequest, Serves, Service, StopsRequest, TakesHead, Transmits};
-ghost use Rattle.paraid_nbd.specs.Taking.{Lacks};
+ghost use Rattle.paraid_nbd.specs.Taking.{Lacks, Takes};
 ghost use Rattle.paraid_nbd.specs.Handshake.{IsUnsent};
 ghost use Rattle.paraid_base.specs.Told.{GrowsByBytes};
 
@@ -103,9 +103,10 @@ fn serve_request<B: Blocks, S: Source, K: Sink>(
     reply(sink, &request, outcome, content)
 }
 
-// Takes a request up to the bytes to write.
-fn take_request<S: Source>(source: &mut S, input: &mut Input) -> Result<Request, NbdEnd>
-    ensures takes { IfOk result (λ r. TakesHead (S.left source.old) (S.left source.new) input.old.taken input.new.taken r) }
+// Takes the number before a request.
+fn take_magic<S: Source>(source: &mut S, input: &mut Input) -> Result<(), NbdEnd>
+    ensures takes { OnOk result ((magic : List ℕ) × IsRequestMagic magic
+        × Takes (S.left source.old) (S.left source.new) input.old.taken input.new.taken magic) }
     ensures stops { IfErr result (λ e. StopsRequest (S.left source.old) (S.left source.new) input.old.taken input.new.taken
         (S.faults source.old) (S.faults source.new) e) }
     ensures later { S.faults source.old ≤ S.faults source.new }
@@ -116,6 +117,17 @@ fn take_request<S: Source>(source: &mut S, input: &mut Input) -> Result<Request,
     if BigEndian::read_u32(&magic) != REQUEST {
         return Err(NbdEnd::Protocol { at });
     }
+    Ok(())
+}
+
+// Takes a request up to the bytes to write.
+fn take_request<S: Source>(source: &mut S, input: &mut Input) -> Result<Request, NbdEnd>
+    ensures takes { IfOk result (λ r. TakesHead (S.left source.old) (S.left source.new) input.old.taken input.new.taken r) }
+    ensures stops { IfErr result (λ e. StopsRequest (S.left source.old) (S.left source.new) input.old.taken input.new.taken
+        (S.faults source.old) (S.faults source.new) e) }
+    ensures later { S.faults source.old ≤ S.faults source.new }
+{
+    take_magic(source, input)?;
     let mut head = [0; 24];
     input.fill(source, &mut head)?;
     let request = Request::from_bytes(&head);
@@ -142,19 +154,38 @@ fn take_content<S: Source>(
         (content_length request.now.command request.now.length) (S.faults source.old) (S.faults source.new) e) }
     ensures later { S.faults source.old ≤ S.faults source.new }
 {
-    let length = request.length as usize;
     match (request.command, outcome) {
-        (Command::Write, Outcome::Done) => {
-            input.fill(source, &mut buffer[..length])?;
-            Ok(length)
-        }
-        (Command::Write, _) => {
-            input.skip(source, request.length)?;
-            Ok(0)
-        }
-        (Command::Read, Outcome::Done) => Ok(length),
+        (Command::Write, _) => take_written(source, input, request, outcome, size, buffer),
+        (Command::Read, Outcome::Done) => Ok(request.length as usize),
         _ => Ok(0),
     }
+}
+
+// The same of a request to write.
+fn take_written<S: Source>(
+    source: &mut S,
+    input: &mut Input,
+    request: &Request,
+    outcome: Outcome,
+    size: u64,
+    buffer: &mut [u8],
+) -> Result<usize, NbdEnd>
+    requires command { request.now.command ≡ Command.Write }
+    requires outcome { outcome ≡ outcome_of size request.now }
+    requires room { length buffer.old ≡ min size 33554432 }
+    ensures takes { IfOk result (λ n. TakesContent (S.left source.old) (S.left source.new) input.old.taken input.new.taken
+        request.now outcome n buffer.new) }
+    ensures lacks { IfErr result (λ e. Lacks (S.left source.old) (S.left source.new) input.old.taken input.new.taken
+        (content_length request.now.command request.now.length) (S.faults source.old) (S.faults source.new) e) }
+    ensures later { S.faults source.old ≤ S.faults source.new }
+{
+    let Outcome::Done = outcome else {
+        input.skip(source, request.length)?;
+        return Ok(0);
+    };
+    let length = request.length as usize;
+    input.fill(source, &mut buffer[..length])?;
+    Ok(length)
 }
 
 // Does what is asked for, unless it cannot be.

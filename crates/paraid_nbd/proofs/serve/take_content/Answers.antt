@@ -1,17 +1,14 @@
-use Rattle.std.proofs.Common.{◌≡◌, ◌≢◌, ◌+◌, ◌≤◌, ◌∙◌, ℕ, List, [], ◌++◌, Option, length, arith, refl, rules, sym, length-append}
+use Rattle.std.proofs.Common.{◌≡◌, ◌≢◌, ◌+◌, ◌≤◌, ◌∙◌, ℕ, [], arith, refl, sym}
 use Rattle.std.specs.Prelude.{min}
-use Rattle.std.proofs.lemmas.List.{length-take-le, take-append-le, take_all}
-use Rattle.std.proofs.lemmas.Result.{err_from_is_err_and}
 use Rattle.paraid_nbd.specs.declared.request.Command.{Command}
 use Rattle.paraid_nbd.specs.declared.request.Command.TheVariants.{Read, Write, Disconnect, Flush, Unknown}
 use Rattle.paraid_nbd.specs.declared.request.Outcome.{Outcome}
 use Rattle.paraid_nbd.specs.declared.request.Outcome.TheVariants.{Done, Halted, Invalid, NoSpace}
-use Rattle.paraid_nbd.specs.Performing.{TakesContent, part_length}
+use Rattle.paraid_nbd.specs.Performing.{part_length}
 use Rattle.paraid_nbd.specs.Requests.{content_length}
 use Rattle.paraid_nbd.specs.declared.request.Request.{Request}
-use Rattle.paraid_nbd.specs.Taking.{Takes}
-use Rattle.paraid_nbd.proofs.ServiceLemmas.{read_fits, write_fits}
-use Rattle.paraid_nbd.proofs.TakingLemmas.{Lacks-of, Takes-none, later_none}
+use Rattle.paraid_nbd.proofs.ServiceLemmas.{read_fits}
+use Rattle.paraid_nbd.proofs.TakingLemmas.{Takes-none, later_none}
 use Rattle.paraid_nbd.proofs.serve.take_content.Goals as goal
 
 -- a request that is not done is about nothing of the buffer
@@ -47,15 +44,11 @@ content_other Unknown n no_write = refl
 fits_buffer : (size n : ℕ) (r : Request) → n ≡ min size 33554432 → (r.offset + r.length ≤ size) × (r.length ≤ 33554432) → r.length ≤ n
 fits_buffer size n r room fits = omega (arith, room, fits.0, fits.1)
 
-written_content : {a b : Option (List ℕ)} {i j : ℕ} (r : Request) (o : Outcome) (got rest : List ℕ) → r.command ≡ Write → o ≡ Done → length got ≡ r.length → Takes a b i j got
-    → TakesContent a b i j r o r.length (got ++ rest)
-written_content r o got rest write done many takes = record {
-  content = got;
-  whole = many ∙ rw write refl;
-  takes = takes;
-  part = rw (write, done) refl;
-  within = omega (arith, many, length-append got rest);
-  held = λ w d. take-append-le r.length got rest (omega (arith, many)) ∙ take_all r.length got (omega (arith, many));
+pub returns-in-Write-default : goal.returns-in-Write-default
+returns-in-Write-default g c = record {
+  takes = c.take_written.ensures.takes;
+  lacks = c.take_written.ensures.lacks;
+  later = c.take_written.ensures.later;
 }
 
 pub returns-in_default : goal.returns-in_default
@@ -88,65 +81,6 @@ returns-in_default-2 g c =
       };
       lacks = tt;
       later = later_none _;
-    }
-
-pub returns-in_err-skip-in-Write-default : goal.returns-in_err-skip-in-Write-default
-returns-in_err-skip-in-Write-default g c =
-    let p = err_from_is_err_and c.from_residual-in_err-skip-in-Write-default.result c.from_residual-in_err-skip-in-Write-default.ensures.1 in
-    let r = c.args.request.now in
-    let whole : r.length ≡ content_length r.command r.length = rw c.in-Write-default.is-0 refl in
-    record {
-      takes = rw p.1 tt;
-      lacks = rw (p.1, p.2) (Lacks-of _ _ whole c.in_err-skip-in-Write-default.ensures.lacks);
-      later = c.in_err-skip-in-Write-default.ensures.later;
-    }
-
-pub slice_bounds-fill-end-in-Write-Done : goal.slice_bounds-fill-end-in-Write-Done
-slice_bounds-fill-end-in-Write-Done g c =
-    let r = c.args.request.now in
-    let fits = write_fits c.args.size r c.in-Write-Done.is-0 (sym c.requires.outcome ∙ c.in-Write-Done.is-1) in
-    sym (length-take-le _ _ (fits_buffer c.args.size _ r c.requires.room fits))
-
-pub returns-in_err-fill-in-Write-Done : goal.returns-in_err-fill-in-Write-Done
-returns-in_err-fill-in-Write-Done g c =
-    let p = err_from_is_err_and c.from_residual.result c.from_residual.ensures.1 in
-    let r = c.args.request.now in
-    let fits = write_fits c.args.size r c.in-Write-Done.is-0 (sym c.requires.outcome ∙ c.in-Write-Done.is-1) in
-    let many = length-take-le _ _ (fits_buffer c.args.size _ r c.requires.room fits) in
-    let whole : r.length ≡ content_length r.command r.length = rw c.in-Write-Done.is-0 refl in
-    record {
-      takes = rw p.1 tt;
-      lacks = rw (p.1, p.2) (Lacks-of _ _ (many ∙ whole) c.in_err-fill-in-Write-Done.ensures.lacks);
-      later = c.in_err-fill-in-Write-Done.ensures.later;
-    }
-
-pub returns-in_ok-fill-in-Write-Done : goal.returns-in_ok-fill-in-Write-Done
-returns-in_ok-fill-in-Write-Done g c =
-    let r = c.args.request.now in
-    let fits = write_fits c.args.size r c.in-Write-Done.is-0 (sym c.requires.outcome ∙ c.in-Write-Done.is-1) in
-    let many = length-take-le _ _ (fits_buffer c.args.size _ r c.requires.room fits) in
-    record {
-      takes = written_content r c.args.outcome c.fill.new.into _ c.in-Write-Done.is-0 c.in-Write-Done.is-1 (c.fill.auto.into ∙ many) c.in_ok-fill-in-Write-Done.ensures.takes;
-      lacks = tt;
-      later = c.in_ok-fill-in-Write-Done.ensures.later;
-    }
-
-pub returns-in_ok-skip-in-Write-default : goal.returns-in_ok-skip-in-Write-default
-returns-in_ok-skip-in-Write-default g c =
-    let r = c.args.request.now in
-    let other : c.args.outcome ≢ Done = search rules in
-    let t = c.in_ok-skip-in-Write-default.ensures.takes in
-    record {
-      takes = record {
-        content = t.0;
-        whole = t.1 ∙ rw c.in-Write-default.is-0 refl;
-        takes = t.2;
-        part = sym (part_undone r.command c.args.outcome r.length other);
-        within = omega arith;
-        held = λ w d. absurd (other d);
-      };
-      lacks = tt;
-      later = c.in_ok-skip-in-Write-default.ensures.later;
     }
 
 pub returns-in-Read-Done : goal.returns-in-Read-Done
