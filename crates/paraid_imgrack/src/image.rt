@@ -216,15 +216,21 @@ fn whole_blocks(length: u64) -> u32
 /// A fresh image of zeros. Until it is whole on the disk, the sidecar tells of no disk.
 fn make_image<F: Files<File = File>>(files: &F, names: &Names, size: u32) -> io::Result<File> {
     names.store(files, Power::Absent)?;
+    let file = create_image(files, names.image.as_str(), size)?;
+    names.store(files, Power::Spinning)?;
+    Ok(file)
+}
+
+/// A file of so many blocks of zeros, which the disk has when it returns.
+fn create_image<F: Files<File = File>>(files: &F, name: &str, size: u32) -> io::Result<File> {
     let file = OpenOptions::new()
         .read(true)
         .write(true)
         .create(true)
         .truncate(true)
-        .open(files, names.image.as_str())?;
+        .open(files, name)?;
     file.set_len(offset(size))?;
     file.sync_all()?;
-    names.store(files, Power::Spinning)?;
     Ok(file)
 }
 

@@ -53,9 +53,7 @@ impl Names {
 
     /// Replaces the sidecar by one of this power. When it returns, the disk has the new one.
     pub(crate) fn store<F: Files<File = File>>(&self, files: &F, power: Power) -> io::Result<()> {
-        let mut file = fs::create(files, self.next.as_str())?;
-        file.write_all(text(power).as_bytes())?;
-        file.sync_all()?;
+        write_new(files, self.next.as_str(), text(power))?;
         fs::rename(files, self.next.as_str(), self.sidecar.as_str())?;
         sync_folder(files)
     }
@@ -69,6 +67,13 @@ impl Names {
             let _ = overwrite(files, self.sidecar.as_str(), "failed   \n");
         }
     }
+}
+
+/// Makes a file of this text. When it returns, the disk has it.
+fn write_new<F: Files<File = File>>(files: &F, name: &str, text: &str) -> io::Result<()> {
+    let mut file = fs::create(files, name)?;
+    file.write_all(text.as_bytes())?;
+    file.sync_all()
 }
 
 /// The text of a sidecar, which is the power's word on a line.
