@@ -1,5 +1,5 @@
 /// What a stop leaves in each block that was written since its disk was last synced or attached.
-#[derive(Clone, Copy, Debug)]
+#[derive(Clone, Copy)]
 pub enum Pick {
     /// What it held then.
     Old,
