@@ -298,7 +298,6 @@ impl<R: Rack> Core<R> {
         let lost = self.store.commit(&self.batch, &self.meta)?;
         self.meta.epoch = self.store.epoch();
         self.batch.clear();
-        lose(&mut self.meta, lost)?;
-        Ok(())
+        lose(&mut self.meta, lost)
     }
 }

@@ -1,4 +1,6 @@
-use Rattle.std.proofs.Common.{◌≡◌, ℕ, ◌+◌, ◌∙◌, Some, None, sym, ap, subst, Option, ◌<◌}
+use Rattle.std.proofs.lemmas.Result.{IfErr-weaker, on_ok_weaker}
+use Rattle.paraid_core.specs.Steps.{IsPutOut}
+use Rattle.std.proofs.Common.{◌≡◌, ℕ, ◌+◌, ◌∙◌, Some, None, sym, ap, subst, Option, ◌<◌, OnOk}
 use Rattle.paraid_txn.specs.Stores.{disks_of, epoch_of, named_of, store_rack}
 use Rattle.paraid_record.specs.declared.meta.Meta.{Meta}
 use Rattle.paraid_core.proofs.CommitLemmas.{commit_filled, commit_marked, commit_moments, commit_stands, commit_whole, commit_rests}
@@ -30,8 +32,8 @@ use Rattle.paraid_rack.specs.Told.{Ran, CrashTriple}
 use Rattle.paraid_image.specs.Lost.{TellsLosses}
 use Rattle.paraid_core.proofs.staged.Core.commit.Given.{Over}
 use Rattle.paraid_core.proofs.staged.Core.commit.Goals as goal
-use Rattle.paraid_core.proofs.ErrLemmas.{none_done}
-use Rattle.paraid_core.proofs.staged.Core.commit.Goals.{In_ok-lose}
+use Rattle.paraid_core.proofs.ErrLemmas.{both_put, none_done, on_ok_any}
+use Rattle.paraid_core.proofs.staged.Core.commit.Goals.{After-lose}
 
 pub returns-in_err-lost : goal.returns-in_err-lost
 returns-in_err-lost g c = record {
@@ -85,13 +87,17 @@ returns-in_err-lost g c = record {
   absent = none_done _ c.from_residual.result _ c.from_residual.ensures.1;
 }
 
--- no other disk was out
-pub returns-in_err-lose : goal.returns-in_err-lose
-returns-in_err-lose g c =
-    let both = c.in_err-lose.ensures.two in
-    absurd (both.2 ((c.in_ok-lost.ensures.alone _ both.0).alone _ (is_named both.1)))
+module _ (g : Over) (c : After-lose g) where
+  -- what marking the lost disk does where it succeeds
+  puts : OnOk c.lose.result (IsPutOut (record c.args.self.now.meta { epoch = c.epoch-self.result }) c.lose.new.meta c.in_ok-lost.lost)
+  puts = both_put c.lose.result (record c.args.self.now.meta { epoch = c.epoch-self.result }) c.lose.new.meta c.in_ok-lost.lost c.lose.ensures.marked c.lose.ensures.alone
 
-module _ (g : Over) (c : In_ok-lose g) where
+  moments_then : (h : History) (lo : ℕ) → Ran (g.R.Rack.told (store_rack c.args.self.now.store)) (g.R.Rack.told (store_rack c.commit.new.self)) (CrashTriple (IsCoreHeld g.R.Rack.slot_count c.args.self.now h lo) (CoreStandsFor g.R.Rack.slot_count c.args.self.now h lo) (IsCoreHeld g.R.Rack.slot_count c.args.self.now h lo))
+  moments_then h lo =
+      let old = c.args.self.now in
+      commit_moments (g.R.Rack.slot_count (store_rack old.store)) (named_of old.store) old.meta old.dirty old.batch old.copied c.requires.copies_synced h lo (epoch_of old.store) c.requires.ready.epoch_is c.requires.ready.in_range c.requires.ready.one _ _ c.commit.ensures.any_moment
+
+module _ (g : Over) (c : After-lose g) (put : IsPutOut (record c.args.self.now.meta { epoch = c.epoch-self.result }) c.lose.new.meta c.in_ok-lost.lost) where
   abbrev m : Meta
   m = c.args.self.now.meta
 
@@ -111,10 +117,10 @@ module _ (g : Over) (c : In_ok-lose g) where
   only = commit_lost_only m c.in_ok-lost.lost slot then c.in_ok-lost.ensures.well c.in_ok-lost.ensures.lost
 
   alone : (d x : ℕ) → lost ≡ Some d → named_out m.out ≡ Some x → x ≡ d
-  alone d x is k = c.in_ok-lose.ensures.alone d x (lost_in_was m c.in_ok-lost.lost d is) k (lost_in_low m c.in_ok-lost.lost d is)
+  alone d x is k = put.alone d x (lost_in_was m c.in_ok-lost.lost d is) k (lost_in_low m c.in_ok-lost.lost d is)
 
   meta_is : c.lose.new.meta ≡ meta_with_lost lost (record m { epoch = last + 1 })
-  meta_is = c.in_ok-lose.ensures.marked ∙ ap (λ (z : ℕ). meta_with_lost (lost_in (record m { epoch = z }) c.in_ok-lost.lost) (record m { epoch = z })) (c.epoch-self.ensures ∙ c.in_ok-lost.ensures.epoch)
+  meta_is = put.marked ∙ ap (λ (z : ℕ). meta_with_lost (lost_in (record m { epoch = z }) c.in_ok-lost.lost) (record m { epoch = z })) (c.epoch-self.ensures ∙ c.in_ok-lost.ensures.epoch)
 
   ready_then : AreSlotsReady (g.R.Rack.slot_count (store_rack c.args.self.now.store)) then (last + 1) (disks_of c.args.self.now.store) (named_out m.out) (meta_with_lost lost (record m { epoch = last + 1 })) (length c.args.self.now.dirty) []
   ready_then =
@@ -149,11 +155,6 @@ module _ (g : Over) (c : In_ok-lose g) where
     alone = alone;
   }
 
-  moments_then : (h : History) (lo : ℕ) → Ran (g.R.Rack.told (store_rack c.args.self.now.store)) (g.R.Rack.told (store_rack c.commit.new.self)) (CrashTriple (IsCoreHeld g.R.Rack.slot_count c.args.self.now h lo) (CoreStandsFor g.R.Rack.slot_count c.args.self.now h lo) (IsCoreHeld g.R.Rack.slot_count c.args.self.now h lo))
-  moments_then h lo =
-      let old = c.args.self.now in
-      commit_moments (g.R.Rack.slot_count (store_rack old.store)) (named_of old.store) old.meta old.dirty old.batch old.copied c.requires.copies_synced h lo (epoch_of old.store) c.requires.ready.epoch_is c.requires.ready.in_range c.requires.ready.one _ _ c.commit.ensures.any_moment
-
   stands_then : (h : History) (lo : ℕ) → Ran (g.R.Rack.told (store_rack c.args.self.now.store)) (g.R.Rack.told (store_rack c.commit.new.self)) (CrashTriple (IsCoreHeld g.R.Rack.slot_count c.args.self.now h lo) (CoreStandsFor g.R.Rack.slot_count c.args.self.now h lo)
       (HoldsBetweenCalls (g.R.Rack.slot_count (store_rack c.commit.new.self)) (named_of c.commit.new.self) c.lose.new.meta c.args.self.now.dirty c.clear.new.self c.args.self.now.copied h (length h)))
   stands_then h lo =
@@ -186,78 +187,74 @@ returns g c = record {
   table = refl;
   copied = refl;
   slots = c.commit.ensures.slots;
-  ready =
-      subst (λ (z : Batch). AreSlotsReady (g.R.Rack.slot_count (store_rack c.commit.new.self)) (then g c) (epoch_of c.commit.new.self) (disks_of c.commit.new.self) (named_of c.commit.new.self) c.lose.new.meta (length c.args.self.now.dirty) z) (sym c.clear.ensures)
-      (ready_moved _ _ (then g c) _ _ _ _ _ _ (meta_with_lost (lost g c) (record c.args.self.now.meta { epoch = epoch_of c.args.self.now.store + 1 })) _ _ [] c.commit.ensures.slots c.in_ok-lost.ensures.epoch c.commit.ensures.disks c.in_ok-lost.ensures.named (meta_is g c) (ready_then g c));
-  serves = λ serves.
+  ready = on_ok_weaker c.lose.result (λ put. subst (λ (z : Batch). AreSlotsReady (g.R.Rack.slot_count (store_rack c.commit.new.self)) (then g c put) (epoch_of c.commit.new.self) (disks_of c.commit.new.self) (named_of c.commit.new.self) c.lose.new.meta (length c.args.self.now.dirty) z) (sym c.clear.ensures)
+      (ready_moved _ _ (then g c put) _ _ _ _ _ _ (meta_with_lost (lost g c put) (record c.args.self.now.meta { epoch = epoch_of c.args.self.now.store + 1 })) _ _ [] c.commit.ensures.slots c.in_ok-lost.ensures.epoch c.commit.ensures.disks c.in_ok-lost.ensures.named (meta_is g c put) (ready_then g c put))) (puts g c);
+  serves = on_ok_weaker c.lose.result (λ put. λ serves.
       let old = c.args.self.now in
       let after : Meta = record old.meta { epoch = epoch_of old.store + 1 } in
       let low = c.requires.ready.epoch_is in
       let epoch = c.requires.epoch in
-      let next = ready_next _ (slot g c) (epoch_of old.store) _ _ old.meta _ _ (omega arith) c.requires.ready in
-      subst (λ (z : Option ℕ). CanServe (then g c) z c.lose.new.meta) (sym c.in_ok-lost.ensures.named)
-      (subst (λ (z : Meta). CanServe (then g c) (named_out old.meta.out) z) (sym (meta_is g c))
-      (serve_after _ (slot g c) (then g c) (epoch_of old.store + 1) _ (named_out old.meta.out) after _ [] next c.in_ok-lost.lost (only g c) (alone g c) (alone g c) (λ d is. lost_in_low old.meta c.in_ok-lost.lost d is)
-      (record { spins = serves.spins; large = serves.large; stays = λ d is. is })));
-  serves_again = λ up.
+      let next = ready_next _ (slot g c put) (epoch_of old.store) _ _ old.meta _ _ (omega arith) c.requires.ready in
+      subst (λ (z : Option ℕ). CanServe (then g c put) z c.lose.new.meta) (sym c.in_ok-lost.ensures.named)
+      (subst (λ (z : Meta). CanServe (then g c put) (named_out old.meta.out) z) (sym (meta_is g c put))
+      (serve_after _ (slot g c put) (then g c put) (epoch_of old.store + 1) _ (named_out old.meta.out) after _ [] next c.in_ok-lost.lost (only g c put) (alone g c put) (alone g c put) (λ d is. lost_in_low old.meta c.in_ok-lost.lost d is)
+      (record { spins = serves.spins; large = serves.large; stays = λ d is. is })))) (puts g c);
+  serves_again = on_ok_weaker c.lose.result (λ put. λ up.
       let old = c.args.self.now in
       let after : Meta = record old.meta { epoch = epoch_of old.store + 1 } in
       let low = c.requires.ready.epoch_is in
       let epoch = c.requires.epoch in
-      let next = ready_next _ (slot g c) (epoch_of old.store) _ _ old.meta _ _ (omega arith) c.requires.ready in
-      subst (λ (z : Option ℕ). CanServe (then g c) z c.lose.new.meta) (sym c.in_ok-lost.ensures.named)
-      (subst (λ (z : Meta). CanServe (then g c) (named_out old.meta.out) z) (sym (meta_is g c))
-      (serve_after _ (slot g c) (then g c) (epoch_of old.store + 1) _ (named_out old.meta.out) after _ [] next c.in_ok-lost.lost (only g c) (alone g c) (alone g c) (λ d is. lost_in_low old.meta c.in_ok-lost.lost d is)
-      (record { spins = up.spins; large = up.large; stays = λ d is. is })));
-  setup = ap (λ (z : Meta). z.setup) (meta_is g c) ∙ marked_setup (lost g c) _;
-  writes = ap (λ (z : Meta). z.writes) (meta_is g c) ∙ marked_writes (lost g c) _;
-  meta = marked g c;
+      let next = ready_next _ (slot g c put) (epoch_of old.store) _ _ old.meta _ _ (omega arith) c.requires.ready in
+      subst (λ (z : Option ℕ). CanServe (then g c put) z c.lose.new.meta) (sym c.in_ok-lost.ensures.named)
+      (subst (λ (z : Meta). CanServe (then g c put) (named_out old.meta.out) z) (sym (meta_is g c put))
+      (serve_after _ (slot g c put) (then g c put) (epoch_of old.store + 1) _ (named_out old.meta.out) after _ [] next c.in_ok-lost.lost (only g c put) (alone g c put) (alone g c put) (λ d is. lost_in_low old.meta c.in_ok-lost.lost d is)
+      (record { spins = up.spins; large = up.large; stays = λ d is. is })))) (puts g c);
+  setup = on_ok_weaker c.lose.result (λ put. ap (λ (z : Meta). z.setup) (meta_is g c put) ∙ marked_setup (lost g c put) _) (puts g c);
+  writes = on_ok_weaker c.lose.result (λ put. ap (λ (z : Meta). z.writes) (meta_is g c put) ∙ marked_writes (lost g c put) _) (puts g c);
+  meta = on_ok_weaker c.lose.result (λ put. marked g c put) (puts g c);
   spared = c.commit.ensures.powers;
-  still_synced = c.in_ok-lost.ensures.synced;
-  unsynced =
-      let old = c.args.self.now in
-      unsynced_kept g.R.Rack.slot old (record old { store = c.commit.new.self; meta = c.lose.new.meta }) (ap (λ (z : Meta). z.setup) (meta_is g c) ∙ marked_setup (lost g c) _)
-      (gone_marked (record old.meta { epoch = old.meta.epoch + 1 }) c.lose.new.meta (marked g c)) c.commit.ensures.powers refl c.in_ok-lost.ensures.synced;
-  two = tt;
-  tells = tt;
+  still_synced = on_ok_any c.lose.result c.in_ok-lost.ensures.synced;
+  unsynced = on_ok_weaker c.lose.result (λ put. let old = c.args.self.now in
+      unsynced_kept g.R.Rack.slot old (record old { store = c.commit.new.self; meta = c.lose.new.meta }) (ap (λ (z : Meta). z.setup) (meta_is g c put) ∙ marked_setup (lost g c put) _)
+      (gone_marked (record old.meta { epoch = old.meta.epoch + 1 }) c.lose.new.meta (marked g c put)) c.commit.ensures.powers refl c.in_ok-lost.ensures.synced) (puts g c);
+  two = IfErr-weaker c.lose.result _ _ (λ two both. absurd (both.2 ((c.in_ok-lost.ensures.alone _ both.0).alone _ (is_named both.1)))) c.lose.ensures.two;
+  tells = IfErr-weaker c.lose.result _ _ (λ two both. absurd (both.2 ((c.in_ok-lost.ensures.alone _ both.0).alone _ (is_named both.1)))) c.lose.ensures.two;
   calls = calls_milder _ _ (uses_transfer c.args.self.now.meta c.args.self.now.batch) _ _ c.commit.ensures.calls;
   whole = λ h lo.
       let old = c.args.self.now in
       commit_whole (g.R.Rack.slot_count (store_rack old.store)) (named_of old.store) old.meta old.dirty old.batch old.copied c.requires.copies_synced h lo (epoch_of old.store) c.requires.ready.epoch_is c.requires.ready.in_range c.requires.ready.one _ _ c.commit.ensures.any_moment;
-  rest = λ h lo.
+  rest = on_ok_weaker c.lose.result (λ put. λ h lo.
       let old = c.args.self.now in
       commit_rests (g.R.Rack.slot_count (store_rack old.store)) (named_of old.store) old.meta old.dirty old.batch old.copied c.requires.copies_synced h lo (epoch_of old.store) c.requires.ready.epoch_is c.requires.ready.in_range c.requires.ready.one
-      _ _ (slot g c) (then g c) (g.met.R.Rack.agrees (store_rack old.store)) (g.met.R.Rack.agrees (store_rack c.commit.new.self)) (lost g c) (known g c) (λ d is. lost_in_low old.meta c.in_ok-lost.lost d is) (only g c) (alone g c)
-      c.requires.ready.absent (absent_then g c) c.commit.ensures.any_moment c.in_ok-lost.ensures.committed;
-  marks =
-      let m = c.args.self.now.meta in
+      _ _ (slot g c put) (then g c put) (g.met.R.Rack.agrees (store_rack old.store)) (g.met.R.Rack.agrees (store_rack c.commit.new.self)) (lost g c put) (known g c put) (λ d is. lost_in_low old.meta c.in_ok-lost.lost d is) (only g c put) (alone g c put)
+      c.requires.ready.absent (absent_then g c put) c.commit.ensures.any_moment c.in_ok-lost.ensures.committed) (puts g c);
+  marks = on_ok_weaker c.lose.result (λ put. let m = c.args.self.now.meta in
       let low : (d : ℕ) → c.in_ok-lost.lost ≡ Some d → d < m.setup.geometry.disks = (λ d is. subst (λ (z : ℕ). d < z) (sym c.requires.ready.array_is) (c.in_ok-lost.ensures.alone d is).below) in
       let last = epoch_of c.args.self.now.store in
       marks_commit m c.lose.new.meta c.in_ok-lost.lost _ _ (last + 1) c.in_ok-lost.ensures.well c.in_ok-lost.ensures.lost
-      (meta_is g c ∙ ap (λ (o : Option ℕ). meta_with_lost o (record m { epoch = last + 1 })) (lost_in_is m c.in_ok-lost.lost low)) low (λ d x is k. c.in_ok-lose.ensures.alone d x is k (low d is));
-  epoch = ap (λ (z : Meta). z.epoch) (meta_is g c) ∙ marked_epoch (lost g c) _ ∙ ap (λ (n : ℕ). n + 1) (sym c.requires.ready.epoch_is);
-  cleans_less = λ r d is.
+      (meta_is g c put ∙ ap (λ (o : Option ℕ). meta_with_lost o (record m { epoch = last + 1 })) (lost_in_is m c.in_ok-lost.lost low)) low (λ d x is k. put.alone d x is k (low d is))) (puts g c);
+  epoch = on_ok_weaker c.lose.result (λ put. ap (λ (z : Meta). z.epoch) (meta_is g c put) ∙ marked_epoch (lost g c put) _ ∙ ap (λ (n : ℕ). n + 1) (sym c.requires.ready.epoch_is)) (puts g c);
+  cleans_less = on_ok_weaker c.lose.result (λ put. λ r d is.
       let old = c.args.self.now in
-      subst (λ (z : Meta). is_cleaned z old.dirty r d ≡ false) (sym (meta_is g c)) (cleans_marked (lost g c) old.meta (epoch_of old.store + 1) old.dirty r d is);
-  nothing = c.clear.ensures;
-  named = c.in_ok-lost.ensures.named;
-  alone = λ x d was is. known g c x d was (sym (ap (λ (z : Meta). named_out z.out) (meta_is g c) ∙ marked_out (lost g c) c.args.self.now.meta _) ∙ is);
-  down =
-      let old = c.args.self.now in
-      down_marked (named_of old.store) old.meta c.in_ok-lost.lost c.lose.new.meta (named_of c.commit.new.self) (slot g c) (then g c) c.requires.ready.one
-      (ap (λ (z : Meta). named_out z.out) (meta_is g c) ∙ marked_out (lost g c) old.meta _) c.in_ok-lost.ensures.lost c.in_ok-lost.ensures.named;
+      subst (λ (z : Meta). is_cleaned z old.dirty r d ≡ false) (sym (meta_is g c put)) (cleans_marked (lost g c put) old.meta (epoch_of old.store + 1) old.dirty r d is)) (puts g c);
+  nothing = on_ok_any c.lose.result c.clear.ensures;
+  named = on_ok_any c.lose.result c.in_ok-lost.ensures.named;
+  alone = on_ok_weaker c.lose.result (λ put. λ x d was is. known g c put x d was (sym (ap (λ (z : Meta). named_out z.out) (meta_is g c put) ∙ marked_out (lost g c put) c.args.self.now.meta _) ∙ is)) (puts g c);
+  down = on_ok_weaker c.lose.result (λ put. let old = c.args.self.now in
+      down_marked (named_of old.store) old.meta c.in_ok-lost.lost c.lose.new.meta (named_of c.commit.new.self) (slot g c put) (then g c put) c.requires.ready.one
+      (ap (λ (z : Meta). named_out z.out) (meta_is g c put) ∙ marked_out (lost g c put) old.meta _) c.in_ok-lost.ensures.lost c.in_ok-lost.ensures.named) (puts g c);
   moments = moments_then g c;
-  stands = stands_then g c;
-  filled = filled_then g c;
+  stands = on_ok_weaker c.lose.result (λ put. stands_then g c put) (puts g c);
+  filled = on_ok_weaker c.lose.result (λ put. filled_then g c put) (puts g c);
   moments_since = λ absent h lo. core_since_end g.R.Rack.slot_count g.R.Rack.slot g.R.Rack.told c.args.self.now c.requires.ready absent (g.met.R.Rack.agrees (store_rack c.args.self.now.store)) _ c.commit.ensures.calls h lo _ (moments_then g c h lo);
-  since = λ absent h lo. core_since g.R.Rack.slot_count g.R.Rack.slot g.R.Rack.told c.args.self.now c.requires.ready absent (g.met.R.Rack.agrees (store_rack c.args.self.now.store)) _ c.commit.ensures.calls h lo _ _ (stands_then g c h lo);
-  filled_since = λ absent h lo. core_since g.R.Rack.slot_count g.R.Rack.slot g.R.Rack.told c.args.self.now c.requires.ready absent (g.met.R.Rack.agrees (store_rack c.args.self.now.store)) _ c.commit.ensures.calls h lo _ _ (filled_then g c h lo);
-  committed = λ absent h lo.
+  since = on_ok_weaker c.lose.result (λ put. λ absent h lo. core_since g.R.Rack.slot_count g.R.Rack.slot g.R.Rack.told c.args.self.now c.requires.ready absent (g.met.R.Rack.agrees (store_rack c.args.self.now.store)) _ c.commit.ensures.calls h lo _ _ (stands_then g c put h lo)) (puts g c);
+  filled_since = on_ok_weaker c.lose.result (λ put. λ absent h lo. core_since g.R.Rack.slot_count g.R.Rack.slot g.R.Rack.told c.args.self.now c.requires.ready absent (g.met.R.Rack.agrees (store_rack c.args.self.now.store)) _ c.commit.ensures.calls h lo _ _ (filled_then g c put h lo)) (puts g c);
+  committed = on_ok_weaker c.lose.result (λ put. λ absent h lo.
       let old = c.args.self.now in
       core_since g.R.Rack.slot_count g.R.Rack.slot g.R.Rack.told old c.requires.ready absent (g.met.R.Rack.agrees (store_rack old.store)) _ c.commit.ensures.calls h lo _ _
       (commit_marked (g.R.Rack.slot_count (store_rack old.store)) (named_of old.store) old.meta old.dirty old.batch old.copied c.requires.copies_synced h lo (epoch_of old.store) c.requires.ready.epoch_is c.requires.ready.in_range c.requires.ready.one
-      _ _ (slot g c) (then g c) (g.met.R.Rack.agrees (store_rack old.store)) (g.met.R.Rack.agrees (store_rack c.commit.new.self)) (lost g c) (known g c) (λ d is. lost_in_low old.meta c.in_ok-lost.lost d is) (only g c) (alone g c)
-      c.requires.ready.absent (absent_then g c) _ _ _ c.commit.ensures.slots c.in_ok-lost.ensures.named (meta_is g c) c.commit.ensures.any_moment
-      c.in_ok-lost.ensures.committed);
-  absent = absent_after g c;
+      _ _ (slot g c put) (then g c put) (g.met.R.Rack.agrees (store_rack old.store)) (g.met.R.Rack.agrees (store_rack c.commit.new.self)) (lost g c put) (known g c put) (λ d is. lost_in_low old.meta c.in_ok-lost.lost d is) (only g c put) (alone g c put)
+      c.requires.ready.absent (absent_then g c put) _ _ _ c.commit.ensures.slots c.in_ok-lost.ensures.named (meta_is g c put) c.commit.ensures.any_moment
+      c.in_ok-lost.ensures.committed)) (puts g c);
+  absent = on_ok_weaker c.lose.result (λ put. absent_after g c put) (puts g c);
 }
