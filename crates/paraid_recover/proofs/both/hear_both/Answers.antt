@@ -18,6 +18,9 @@ use Rattle.paraid_recover.proofs.both.hear_both.Given.{Over}
 use Rattle.paraid_recover.proofs.both.hear_both.Goals as goal
 use Rattle.paraid_recover.proofs.both.hear_both.Goals.{After-hear_if_there-second}
 
+pub hear_if_there-first-requires : goal.hear_if_there-first-requires
+hear_if_there-first-requires g c = record { exists = (let there = c.requires.exists in omega arith); not_parked = c.requires.first; empty = c.requires.first_empty }
+
 pub hear_if_there-second-requires : goal.hear_if_there-second-requires
 hear_if_there-second-requires g c =
     let first = c.hear_if_there-first.ensures.reads in

@@ -1,5 +1,7 @@
 use Rattle.std.specs.Prelude.{ℕ, Err, IfErr}
-use Rattle.std.proofs.Common.{refl, subst}
+use Rattle.std.proofs.Common.{arith, ap, refl, subst, sym, ◌∙◌}
+use Rattle.std.proofs.lemmas.Bool.{true≢false}
+use Rattle.paraid_rack.specs.Disks.{is_parked}
 use Rattle.std.proofs.lemmas.Result.{IfErr-weaker, IfOk-weaker}
 use Rattle.paraid_rack.proofs.TrailsLemmas.{Ran-none}
 use Rattle.paraid_txn.specs.Resume.{log_state}
@@ -99,3 +101,17 @@ returns-in-Some g c = record {
       worn_stands _ _ _ _ count
       (if_err_is (IsRefused (g.R.Rack.slot_count c.args.rack.now) (g.R.Rack.slot c.args.rack.now) (g.R.Rack.slot c.args.rack.now) (g.R.Rack.told c.args.rack.now)) (Err c.in-Some.fault) (Worn count) is (by_slots c.in-Some.ensures (λ d. refl)));
 }
+
+pub hear_both-requires : goal.hear_both-requires
+hear_both-requires g c =
+    let readable = c.in_default.ensures in
+    record {
+      exists = readable.1;
+      first = λ parked. true≢false (sym (ap is_parked parked) ∙ readable.0 0 (omega arith));
+      second = λ parked. true≢false (sym (ap is_parked parked) ∙ readable.0 1 (omega arith));
+      first_empty = c.clear.ensures;
+      second_empty = c.clear-2.ensures;
+    }
+
+pub judge-requires : goal.judge-requires
+judge-requires g c = record { first_form = c.in-Ok.ensures.first_form; second_form = c.in-Ok.ensures.second_form }

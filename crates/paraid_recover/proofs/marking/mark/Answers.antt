@@ -3,7 +3,8 @@ use Rattle.paraid_rack.specs.Told.{Ran}
 use Rattle.paraid_image.specs.Out.{named_out}
 use Rattle.paraid_txn.specs.Losses.{AreGoneSince, IsAlone, IsOutOfCommit, AreTwoDownBeside}
 use Rattle.paraid_txn.specs.Uses.{EachCall, Uses}
-use Rattle.std.proofs.Common.{arith, ap, subst, ◌∙◌}
+use Rattle.std.proofs.Common.{arith, ap, subst, sym, ◌∙◌}
+use Rattle.paraid_txn.specs.Ready.{CanCommit}
 use Rattle.paraid_rack.specs.Disks.{is_present}
 use Rattle.paraid_record.specs.declared.meta.Meta.{Meta}
 use Rattle.paraid_txn.specs.Commit.{EndsCommitted, IsWholeOrAbsent}
@@ -32,6 +33,11 @@ each g c =
     subst (λ (b : Batch). IsWholeOrAbsent (g.R.Rack.told c.args.store.now.rack) (g.R.Rack.told c.commit.new.self.rack) c.args.meta.now (marked_gone (of_version_two c.args.meta.now) c.args.disk (c.args.meta.now.epoch + 1)) b) c.requires.empty
     (subst (λ (n : Meta). IsWholeOrAbsent (g.R.Rack.told c.args.store.now.rack) (g.R.Rack.told c.commit.new.self.rack) c.args.meta.now n c.args.batch.now) (after_is g c)
     (c.commit.ensures.any_moment c.args.meta.now c.requires.named))
+
+pub commit-requires : goal.commit-requires
+commit-requires g c =
+    subst (λ (n : Meta). CanCommit c.args.store.now.epoch c.args.store.now.disks (g.R.Rack.slot_count c.args.store.now.rack) (g.R.Rack.slot c.args.store.now.rack) c.args.batch.now n) (sym c.next_marked-next.ensures)
+    c.requires.can
 
 pub returns : goal.returns
 returns g c = record {
