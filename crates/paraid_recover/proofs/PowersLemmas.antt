@@ -362,6 +362,9 @@ to_spin_not m d is = (grind (arith, nat_tests), grind (arith, nat_tests), sym (a
 pub to_spin_up : (m : Meta) (d : ℕ) → is_to_spin m d ≡ true → m.gear ≤ d → (d < rising_to m.phase) × (Spinning ≡ power_by_gear m.gear m.phase d)
 to_spin_up m d is high = (grind (arith, nat_tests), sym (ap (λ (b : Bool). if b then Spinning else Parked) is))
 
+pub to_spin_is : (m : Meta) (d : ℕ) → is_to_spin m d ≡ true → Spinning ≡ power_by_gear m.gear m.phase d
+to_spin_is m d is = sym (ap (λ (b : Bool). if b then Spinning else Parked) is)
+
 -- a disk of which nothing is unsynced has no loose block
 pub none_loose : (s : Disks) (slot : ℕ → Slot) (d : ℕ) → Agrees s slot → (slot d).unsynced ≡ false → (p : ℕ) → s.loose d p ≡ false
 none_loose s slot d agrees synced p = split (s.loose d p) refl

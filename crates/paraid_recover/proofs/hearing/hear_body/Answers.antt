@@ -84,3 +84,6 @@ loop-at-init g c = record {
   named = ap targets c.requires.empty;
   logged = λ t tells. subst (AreBlocksLogged (stored_block (now t) c.args.disk) 4) (sym c.requires.empty) tt;
 }
+
+pub target_at-target-requires : goal.target_at-target-requires
+target_at-target-requires g c = record { low = c.loop-at-test.true; few = c.requires.few }

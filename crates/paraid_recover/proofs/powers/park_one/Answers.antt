@@ -5,10 +5,17 @@ use Rattle.paraid_rack.specs.declared.call.Power.TheVariants.{Parked}
 use Rattle.paraid_rack.specs.Disks.{is_present}
 use Rattle.paraid_txn.specs.Stores.{store_rack}
 use Rattle.paraid_recover.specs.Powers.{is_to_spin}
-use Rattle.paraid_recover.proofs.PowersLemmas.{none_loose, to_spin_not, turned_call}
+use Rattle.paraid_recover.proofs.PowersLemmas.{none_loose, to_spin_is, to_spin_not, turned_call, turned_none}
 use Rattle.paraid_recover.proofs.powers.park_one.Given.{Over}
 use Rattle.paraid_recover.proofs.powers.park_one.Goals as goal
 use Rattle.paraid_recover.proofs.powers.park_one.Goals.{After-park}
+
+pub park-requires : goal.park-requires
+park-requires g c = record { exists = c.requires.exists; spinning = c.requires.spinning; synced = c.requires.synced }
+
+pub returns-then-is_to_spin : goal.returns-then-is_to_spin
+returns-then-is_to_spin g c =
+    turned_none g.R.Rack c.args.meta.now c.args.disk c.args.store.now (λ not here. c.requires.spinning ∙ to_spin_is c.args.meta.now c.args.disk (sym c.is_to_spin.ensures ∙ c.if-is_to_spin.true))
 
 rests : (g : Over) (c : After-park g) → is_to_spin c.args.meta.now c.args.disk ≡ false
 rests g c = sym c.is_to_spin.ensures ∙ c.if-is_to_spin.false
