@@ -13,7 +13,6 @@ ghost use Rattle.paraid_session.specs.Turn.{GoesOn, Point};
 use crate::Array;
 use crate::counting::commit_and_count;
 use crate::ended::Ended;
-use crate::refusing::worn;
 use paraid_base::Halt;
 use paraid_rack::Rack;
 use paraid_scrub::{CheckReport, check};
@@ -117,7 +116,7 @@ impl<R: Rack> Array<R> {
         ensures committed { IfOk result (λ report. batch_of (core_of_array self.old) ≢ []
             → CountsCommitted R.slot R.told (core_of_array self.old) (core_of_array self.new) report) }
     {
-        if let Some(count) = worn(self.core.meta()) {
+        if let Some(count) = self.worn() {
             let halt = self.wear_out(count);
             return Err(halt);
         }

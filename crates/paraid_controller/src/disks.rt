@@ -7,7 +7,6 @@ ghost use Rattle.paraid_trace.specs.Answered.{answer_of};
 
 use crate::Array;
 use crate::ended::Ended;
-use crate::refusing::worn;
 use paraid_array::{FailFault, ReplaceFault, replace, take_out};
 use paraid_base::{DiskNo, Halt};
 use paraid_rack::Rack;
@@ -80,7 +79,7 @@ impl<R: Rack> Array<R> {
         requires going { halt_of_array self.old ≡ None }
         ensures answers { AnswersEvent R.slot_count R.slot R.told self.old self.new (FailEvent disk) (answer_of result) }
     {
-        if let Some(count) = worn(self.core.meta()) {
+        if let Some(count) = self.worn() {
             return Brief::Halted(self.wear_out(count));
         }
         if disk >= self.disks() as u32 {
@@ -94,7 +93,7 @@ impl<R: Rack> Array<R> {
         requires going { halt_of_array self.old ≡ None }
         ensures answers { AnswersEvent R.slot_count R.slot R.told self.old self.new (ReplaceEvent disk) (answer_of result) }
     {
-        if let Some(count) = worn(self.core.meta()) {
+        if let Some(count) = self.worn() {
             return Brief::Halted(self.wear_out(count));
         }
         if disk >= self.disks() as u32 {

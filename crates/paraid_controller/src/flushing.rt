@@ -6,7 +6,6 @@ ghost use Rattle.paraid_core.specs.Cores.{batch_of, meta_of};
 
 use crate::Array;
 use crate::ended::Ended;
-use crate::refusing::worn;
 use paraid_base::Halt;
 use paraid_rack::Rack;
 
@@ -46,7 +45,7 @@ impl<R: Rack> Array<R> {
         ensures idle { batch_of (core_of_array self.old) ≡ [] → core_of_array self.new ≡ core_of_array self.old }
         ensures answers { AnswersEvent R.slot_count R.slot R.told self.old self.new FlushEvent (answer_to_flush result) }
     {
-        if let Some(count) = worn(self.core.meta()) {
+        if let Some(count) = self.worn() {
             let halt = self.wear_out(count);
             return Err(halt);
         }

@@ -14,20 +14,10 @@ use crate::Array;
 use crate::ended::Ended;
 use paraid_base::{Halt, Status};
 use paraid_rack::Rack;
-use paraid_record::Meta;
 use paraid_trace::{Answered, Beside, Brief};
 
 /// An array that has made so many commits or writes takes no more.
 const WORN: u64 = 1 << 62;
-
-// How many commits or writes were made, the greater of the two, where the array takes no more.
-pub(crate) fn worn(meta: &Meta) -> Option<u64>
-    ensures worn { IfSome result (λ count. (2 ^ 62 ≤ count) × (count ≡ max meta.now.epoch meta.now.writes)) }
-    ensures fit { IfNone result ((meta.now.epoch < 2 ^ 62) × (meta.now.writes < 2 ^ 62)) }
-{
-    let count = meta.epoch.max(meta.writes);
-    if count >= WORN { Some(count) } else { None }
-}
 
 impl<R: Rack> Array<R> {
     ghost use Rattle.paraid_controller.specs.Lasting.{TellsItsWear};
@@ -111,6 +101,18 @@ impl<R: Rack> Array<R> {
         ensures answers { AnswersEvent R.slot_count R.slot R.told self.now self.now AskEnergy (answer_of result) }
     {
         Brief::Energy { total: self.energy }
+    }
+
+    // How many commits or writes were made, the greater of the two, where it takes no more.
+    pub(crate) fn worn(&self) -> Option<u64>
+        ensures worn { IfSome result (λ count. (2 ^ 62 ≤ count)
+            × (count ≡ max (meta_of (core_of_array self.now)).epoch (meta_of (core_of_array self.now)).writes)) }
+        ensures fit { IfNone result (((meta_of (core_of_array self.now)).epoch < 2 ^ 62)
+            × ((meta_of (core_of_array self.now)).writes < 2 ^ 62)) }
+    {
+        let meta = self.core.meta();
+        let count = meta.epoch.max(meta.writes);
+        if count >= WORN { Some(count) } else { None }
     }
 
     // Ends the service of an array that takes no more.

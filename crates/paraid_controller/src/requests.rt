@@ -10,7 +10,6 @@ ghost use Rattle.paraid_trace.specs.Answered.{answer_of, answer_with};
 
 use crate::Array;
 use crate::ended::Ended;
-use crate::refusing::worn;
 use paraid_base::{BlockNo, Halt, Pairs};
 use paraid_rack::Rack;
 use paraid_trace::{Answered, Beside, Brief};
@@ -78,7 +77,7 @@ impl<R: Rack> Array<R> {
         requires going { halt_of_array self.old ≡ None }
         ensures answers { AnswersEvent R.slot_count R.slot R.told self.old self.new (ReadEvent block) (answer_with result beside.new) }
     {
-        if let Some(count) = worn(self.core.meta()) {
+        if let Some(count) = self.worn() {
             return Answered::Brief(Brief::Halted(self.wear_out(count)));
         }
         if block >= self.blocks() {
@@ -92,7 +91,7 @@ impl<R: Rack> Array<R> {
         requires going { halt_of_array self.old ≡ None }
         ensures answers { AnswersEvent R.slot_count R.slot R.told self.old self.new (WriteEvent pairs.now) (answer_of result) }
     {
-        if let Some(count) = worn(self.core.meta()) {
+        if let Some(count) = self.worn() {
             return Brief::Halted(self.wear_out(count));
         }
         if let Some(block) = pairs.missing(self.blocks()) {

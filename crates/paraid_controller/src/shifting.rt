@@ -9,7 +9,6 @@ ghost use Rattle.paraid_trace.specs.Answered.{answer_of};
 use crate::Array;
 use crate::ended::Ended;
 use crate::energy::spin_up_energy;
-use crate::refusing::worn;
 use paraid_array::{Asked, ShiftFault, down, up};
 use paraid_base::Halt;
 use paraid_rack::Rack;
@@ -92,7 +91,7 @@ impl<R: Rack> Array<R> {
         requires going { halt_of_array self.old ≡ None }
         ensures answers { AnswersEvent R.slot_count R.slot R.told self.old self.new UpEvent (answer_of result) }
     {
-        if let Some(count) = worn(self.core.meta()) {
+        if let Some(count) = self.worn() {
             return Brief::Halted(self.wear_out(count));
         }
         self.up_there()
@@ -103,7 +102,7 @@ impl<R: Rack> Array<R> {
         requires going { halt_of_array self.old ≡ None }
         ensures answers { AnswersEvent R.slot_count R.slot R.told self.old self.new DownEvent (answer_of result) }
     {
-        if let Some(count) = worn(self.core.meta()) {
+        if let Some(count) = self.worn() {
             return Brief::Halted(self.wear_out(count));
         }
         self.down_there()

@@ -7,7 +7,6 @@ ghost use Rattle.paraid_trace.specs.Answered.{answer_of};
 use crate::Array;
 use crate::ended::Ended;
 use crate::energy::{begun_energy, energy_of_tick};
-use crate::refusing::worn;
 use paraid_array::advance;
 use paraid_base::{GearReport, Halt};
 use paraid_rack::Rack;
@@ -52,7 +51,7 @@ impl<R: Rack> Array<R> {
         requires going { halt_of_array self.old ≡ None }
         ensures answers { AnswersEvent R.slot_count R.slot R.told self.old self.new TickEvent (answer_of result) }
     {
-        if let Some(count) = worn(self.core.meta()) {
+        if let Some(count) = self.worn() {
             return Brief::Halted(self.wear_out(count));
         }
         self.tick_there()

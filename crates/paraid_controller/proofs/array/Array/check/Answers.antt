@@ -1,9 +1,7 @@
-use Rattle.std.specs.Prelude.{max}
-use Rattle.std.proofs.Common.{◌≡◌, ◌^◌, ◌<◌, ◌≤◌, refl, subst}
+use Rattle.std.proofs.Common.{refl}
 use Rattle.std.proofs.lemmas.Result.{IfErr-weaker, on_ok_weaker}
 use Rattle.paraid_base.specs.declared.event.Answer.TheVariants.{Halted}
 use Rattle.paraid_base.specs.declared.event.Event.TheVariants.{Flush}
-use Rattle.paraid_record.specs.declared.meta.Meta.{Meta}
 use Rattle.paraid_controller.proofs.AnswersLemmas.{check_ended, check_going, check_halt, check_turn}
 use Rattle.paraid_controller.proofs.CheckLemmas.{flushed_all}
 use Rattle.paraid_controller.proofs.StandLemmas.{none_ended, over_slots}
@@ -11,7 +9,7 @@ use Rattle.paraid_controller.proofs.array.Array.check.Goals as goal
 
 pub wear_out-halt-requires : goal.wear_out-halt-requires
 wear_out-halt-requires g c =
-    let many = subst (λ (m : Meta). (2 ^ 62 ≤ c.in-Some.count) × (c.in-Some.count ≡ max m.epoch m.writes)) c.meta.ensures c.in-Some.ensures.worn in
+    let many = c.in-Some.ensures.worn in
     record { going = c.requires.going; many = many.0; is = many.1 }
 
 pub returns-in-Some : goal.returns-in-Some
@@ -35,7 +33,7 @@ returns-in-Some g c =
 
 pub check_there-requires : goal.check_there-requires
 check_there-requires g c =
-    let fit = subst (λ (m : Meta). (m.epoch < 2 ^ 62) × (m.writes < 2 ^ 62)) c.meta.ensures c.in_default.ensures.fit in
+    let fit = c.in_default.ensures.fit in
     record { going = none_ended c.args.self.now.ended c.requires.going; epoch = fit.0; writes = fit.1 }
 
 pub returns : goal.returns

@@ -1,8 +1,6 @@
-use Rattle.std.specs.Prelude.{max}
-use Rattle.std.proofs.Common.{◌≡◌, ℕ, ◌^◌, ◌<◌, ◌≤◌, refl, subst}
+use Rattle.std.proofs.Common.{ℕ, ◌≤◌, refl, subst}
 use Rattle.paraid_base.specs.declared.event.Event.TheVariants.{Fail}
 use Rattle.paraid_base.specs.declared.event.Answer.TheVariants.{NoDisk}
-use Rattle.paraid_record.specs.declared.meta.Meta.{Meta}
 use Rattle.paraid_controller.proofs.StandLemmas.{none_ended}
 use Rattle.paraid_controller.proofs.AnswerLemmas.{same_test}
 use Rattle.paraid_controller.proofs.AnswersLemmas.{quiet_answers}
@@ -11,7 +9,7 @@ use Rattle.paraid_controller.proofs.array.Array.fail.Goals as goal
 
 pub wear_out-requires : goal.wear_out-requires
 wear_out-requires g c =
-    let many = subst (λ (m : Meta). (2 ^ 62 ≤ c.in-Some.count) × (c.in-Some.count ≡ max m.epoch m.writes)) c.meta.ensures c.in-Some.ensures.worn in
+    let many = c.in-Some.ensures.worn in
     record { going = c.requires.going; many = many.0; is = many.1 }
 
 pub returns-in-Some : goal.returns-in-Some
@@ -20,7 +18,7 @@ returns-in-Some g c = record { answers = c.wear_out.ensures.answers (Fail c.args
 pub returns-then-disk-disks : goal.returns-then-disk-disks
 returns-then-disk-disks g c =
     let a = c.args.self.now in
-    let fit = subst (λ (m : Meta). (m.epoch < 2 ^ 62) × (m.writes < 2 ^ 62)) c.meta.ensures c.in_default.ensures.fit in
+    let fit = c.in_default.ensures.fit in
     record {
       answers =
           quiet_answers g.R.Rack.slot_count g.R.Rack.slot g.R.Rack.told a (Fail c.args.disk) (NoDisk c.args.disk) c.requires.going
@@ -29,7 +27,7 @@ returns-then-disk-disks g c =
 
 pub fail_there-requires : goal.fail_there-requires
 fail_there-requires g c =
-    let fit = subst (λ (m : Meta). (m.epoch < 2 ^ 62) × (m.writes < 2 ^ 62)) c.meta.ensures c.in_default.ensures.fit in
+    let fit = c.in_default.ensures.fit in
     record { going = none_ended c.args.self.now.ended c.requires.going; epoch = fit.0; writes = fit.1 }
 
 pub returns : goal.returns

@@ -1,5 +1,4 @@
-use Rattle.std.specs.Prelude.{max}
-use Rattle.std.proofs.Common.{◌≡◌, ◌^◌, ◌<◌, ◌≤◌, refl, ap, subst}
+use Rattle.std.proofs.Common.{refl, ap}
 use Rattle.std.proofs.lemmas.Bool.{false≢true}
 use Rattle.paraid_base.specs.declared.event.Answer.TheVariants.{Flushed}
 use Rattle.paraid_base.specs.declared.event.Event.TheVariants.{Flush}
@@ -11,7 +10,7 @@ use Rattle.paraid_controller.proofs.array.Array.flush.Goals as goal
 
 pub wear_out-halt-requires : goal.wear_out-halt-requires
 wear_out-halt-requires g c =
-    let many = subst (λ (m : Meta). (2 ^ 62 ≤ c.in-Some.count) × (c.in-Some.count ≡ max m.epoch m.writes)) c.meta.ensures c.in-Some.ensures.worn in
+    let many = c.in-Some.ensures.worn in
     record { going = c.requires.going; many = many.0; is = many.1 }
 
 pub returns-in-Some : goal.returns-in-Some
@@ -21,18 +20,18 @@ pub returns-then-is_kept : goal.returns-then-is_kept
 returns-then-is_kept g c =
     let a = c.args.self.now in
     let going = none_ended a.ended c.requires.going in
-    let fit = subst (λ (m : Meta). (m.epoch < 2 ^ 62) × (m.writes < 2 ^ 62)) c.meta.ensures c.in_default.ensures.fit in
+    let fit = c.in_default.ensures.fit in
     record {
       idle = λ nothing. refl;
       answers =
-          quiet_answers g.R.Rack.slot_count g.R.Rack.slot g.R.Rack.told a Flush (Flushed c.meta-then-is_kept.result.now.writes) c.requires.going
-          (flush_kept g.R.Rack.slot_count g.R.Rack.slot g.R.Rack.told g.met.R.Rack.agrees a going fit.0 fit.1 (a.serving going).serving.ready (a.serving going).serving.copies_synced (c.if-is_kept.ensures.nothing refl) _ (ap (λ (m : Meta). m.writes) c.meta-then-is_kept.ensures))
+          quiet_answers g.R.Rack.slot_count g.R.Rack.slot g.R.Rack.told a Flush (Flushed c.meta.result.now.writes) c.requires.going
+          (flush_kept g.R.Rack.slot_count g.R.Rack.slot g.R.Rack.told g.met.R.Rack.agrees a going fit.0 fit.1 (a.serving going).serving.ready (a.serving going).serving.copies_synced (c.if-is_kept.ensures.nothing refl) _ (ap (λ (m : Meta). m.writes) c.meta.ensures))
           refl refl tt;
     }
 
 pub commit_all-requires : goal.commit_all-requires
 commit_all-requires g c =
-    let fit = subst (λ (m : Meta). (m.epoch < 2 ^ 62) × (m.writes < 2 ^ 62)) c.meta.ensures c.in_default.ensures.fit in
+    let fit = c.in_default.ensures.fit in
     record { going = none_ended c.args.self.now.ended c.requires.going; epoch = fit.0; writes = fit.1 }
 
 pub returns : goal.returns

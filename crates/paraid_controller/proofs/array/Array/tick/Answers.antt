@@ -1,13 +1,11 @@
-use Rattle.std.specs.Prelude.{max}
-use Rattle.std.proofs.Common.{◌≡◌, ◌^◌, ◌<◌, ◌≤◌, refl, subst}
+use Rattle.std.proofs.Common.{refl}
 use Rattle.paraid_base.specs.declared.event.Event.TheVariants.{Tick}
-use Rattle.paraid_record.specs.declared.meta.Meta.{Meta}
 use Rattle.paraid_controller.proofs.StandLemmas.{none_ended}
 use Rattle.paraid_controller.proofs.array.Array.tick.Goals as goal
 
 pub wear_out-requires : goal.wear_out-requires
 wear_out-requires g c =
-    let many = subst (λ (m : Meta). (2 ^ 62 ≤ c.in-Some.count) × (c.in-Some.count ≡ max m.epoch m.writes)) c.meta.ensures c.in-Some.ensures.worn in
+    let many = c.in-Some.ensures.worn in
     record { going = c.requires.going; many = many.0; is = many.1 }
 
 pub returns-in-Some : goal.returns-in-Some
@@ -15,7 +13,7 @@ returns-in-Some g c = record { answers = c.wear_out.ensures.answers Tick refl }
 
 pub tick_there-requires : goal.tick_there-requires
 tick_there-requires g c =
-    let fit = subst (λ (m : Meta). (m.epoch < 2 ^ 62) × (m.writes < 2 ^ 62)) c.meta.ensures c.in_default.ensures.fit in
+    let fit = c.in_default.ensures.fit in
     record { going = none_ended c.args.self.now.ended c.requires.going; epoch = fit.0; writes = fit.1 }
 
 pub returns : goal.returns

@@ -1,5 +1,4 @@
-use Rattle.std.specs.Prelude.{max}
-use Rattle.std.proofs.Common.{◌≡◌, ℕ, ◌^◌, ◌<◌, ◌≤◌, refl, subst}
+use Rattle.std.proofs.Common.{ℕ, ◌<◌, refl, subst}
 use Rattle.paraid_base.specs.declared.event.Event.TheVariants.{Write}
 use Rattle.std.specs.Prelude.{All}
 use Rattle.paraid_base.specs.BlockAnswers.{IsFirstMissing}
@@ -7,7 +6,6 @@ use Rattle.paraid_base.specs.declared.block.Block.{Block}
 use Rattle.paraid_base.specs.declared.event.Answer.TheVariants.{NoBlock}
 use Rattle.paraid_base.specs.Pairs.{pairs_of}
 use Rattle.paraid_machine.specs.Machine.{block_count}
-use Rattle.paraid_record.specs.declared.meta.Meta.{Meta}
 use Rattle.paraid_controller.proofs.StandLemmas.{none_ended}
 use Rattle.paraid_controller.proofs.AnswersLemmas.{quiet_answers}
 use Rattle.paraid_controller.proofs.QuietLemmas.{missing_is, write_refused}
@@ -15,7 +13,7 @@ use Rattle.paraid_controller.proofs.array.Array.write.Goals as goal
 
 pub wear_out-requires : goal.wear_out-requires
 wear_out-requires g c =
-    let many = subst (λ (m : Meta). (2 ^ 62 ≤ c.in-Some.count) × (c.in-Some.count ≡ max m.epoch m.writes)) c.meta.ensures c.in-Some.ensures.worn in
+    let many = c.in-Some.ensures.worn in
     record { going = c.requires.going; many = many.0; is = many.1 }
 
 pub returns-in-Some : goal.returns-in-Some
@@ -26,7 +24,7 @@ returns-in-Some-missing g c =
     let a = c.args.self.now in
     let block = c.in-Some-missing.block in
     let entry = pairs_of c.args.pairs.now in
-    let fit = subst (λ (m : Meta). (m.epoch < 2 ^ 62) × (m.writes < 2 ^ 62)) c.meta.ensures c.in_default.ensures.fit in
+    let fit = c.in_default.ensures.fit in
     let missing = subst (λ (n : ℕ). IsFirstMissing n entry block) c.blocks-2.ensures.value c.in-Some-missing.ensures.some in
     record {
       answers =
@@ -36,7 +34,7 @@ returns-in-Some-missing g c =
 
 pub write_there-requires : goal.write_there-requires
 write_there-requires g c =
-    let fit = subst (λ (m : Meta). (m.epoch < 2 ^ 62) × (m.writes < 2 ^ 62)) c.meta.ensures c.in_default.ensures.fit in
+    let fit = c.in_default.ensures.fit in
     record { going = none_ended c.args.self.now.ended c.requires.going; epoch = fit.0; writes = fit.1; blocks = subst (λ (n : ℕ). All (λ (pair : ℕ × Block). pair.0 < n) (pairs_of c.args.pairs.now)) c.blocks-2.ensures.value c.in_default-missing.ensures.none }
 
 pub returns : goal.returns
