@@ -1,5 +1,6 @@
 pub mod RankLemmas
 pub mod RowLemmas
+pub mod NumberLemmas
 pub mod RoomLemmas
 pub mod LoweredLemmas
 pub mod GearStepLemmas
@@ -7,6 +8,7 @@ pub mod OnwardLemmas
 pub mod CertificateLemmas
 pub mod EnergyLemmas
 pub mod SolvedLemmas
+pub mod ExitLemmas
 pub mod WalkLemmas
 pub mod TestLemmas
 pub mod LoadLemmas

@@ -1,9 +1,11 @@
 -- What a period and gear that have their row of bounds give: places within the table, and figures that fit
-use Rattle.std.proofs.Common.{◌≡◌, ℕ, ◌+◌, ◌^◌, ◌<◌, ◌≤◌, List, length, slice_index, subst, sym, arith, Fits, w64}
+use Rattle.std.proofs.Common.{◌≡◌, ℕ, ◌+◌, ◌-◌, ◌^◌, ◌<◌, ◌≤◌, List, length, slice_index, subst, sym, arith, Fits, w64}
 use Rattle.paraid_base.specs.declared.geometry.Geometry.{Geometry}
 use Rattle.paraid_base.specs.Regions.{IsGear}
-use Rattle.paraid_schedule.specs.Bounds.{no_bound, row_start, bound_count, HasRow}
-use Rattle.paraid_schedule.proofs.RowLemmas.{row_start-end, rows-periods}
+use Rattle.paraid_record.specs.declared.meta.Setup.{Setup}
+use Rattle.paraid_schedule.specs.Schedule.{rise}
+use Rattle.paraid_schedule.specs.Bounds.{no_bound, row_start, bound_count, HasRow, AreRight}
+use Rattle.paraid_schedule.proofs.RowLemmas.{row_start-end, rows-periods, bound_count-more}
 
 pub gear_low : (g : Geometry) (a : ℕ) → IsGear g a → a ≤ 9
 gear_low g a is = omega (arith, g.gears_high a is, g.disks_high)
@@ -68,3 +70,41 @@ module _ (g : Geometry) (ups : ℕ) (bounds : List ℕ) (t a : ℕ) (row : HasRo
     room = subst (λ (n : ℕ). bound_count g ups (t + 1) ≤ n) (sym same) row.room;
     most = most;
   }
+
+-- where the bounds are right, each period has its rows
+pub HasRow-right : (s : Setup) (demand : List ℕ) (ups : ℕ) (bounds : List ℕ) (t a : ℕ) → AreRight s demand ups bounds → length demand ≤ 1024 → ups ≤ 256 → t < length demand → IsGear s.geometry a → HasRow s.geometry ups bounds t a
+HasRow-right s demand ups bounds t a right most few low is = record {
+  few = few;
+  period = omega (arith, low, most);
+  gear = is;
+  room = subst (λ (n : ℕ). bound_count s.geometry ups (t + 1) ≤ n) (sym right.count) (bound_count-more s.geometry ups (t + 1) (length demand) (omega (arith, low)));
+  most = right.most;
+}
+
+-- the period before `t`
+pub last_low : (t n : ℕ) → 1 ≤ t → t < n → t - 1 < n
+last_low t n some low = omega (arith, some, low)
+
+pub last_next : (t n : ℕ) → 1 ≤ t → n ≡ t → t - 1 + 1 ≡ n
+last_next t n some is = omega (arith, some, is)
+
+pub count_low : (t n m : ℕ) → m ≡ t → t < n → m < n
+count_low t n m is low = omega (arith, is, low)
+
+pub count_more : (t n m : ℕ) → m ≡ t → n ≡ m + 1 → n ≡ t + 1
+count_more t n m is next = omega (arith, is, next)
+
+pub ended : (t n m : ℕ) → m ≡ t → t ≤ n → n ≤ t → m ≡ n
+ended t n m is low high = omega (arith, is, low, high)
+
+pub left_after_rise : (a b left now : ℕ) → a < b → now ≡ left - 1 → now ≡ left - rise a b
+left_after_rise a b left now low is = omega (arith, low, is)
+
+pub left_after : (a b left now : ℕ) → b ≤ a → now ≡ left → now ≡ left - rise a b
+left_after a b left now high is = omega (arith, high, is)
+
+pub left_low : (left by now ups : ℕ) → now ≡ left - by → left ≤ ups → now ≤ ups
+left_low left by now ups is few = omega (arith, is, few)
+
+pub none_low : (n : ℕ) → 0 ≤ n
+none_low n = omega arith

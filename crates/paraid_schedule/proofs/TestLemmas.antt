@@ -92,3 +92,14 @@ module _ (s : Setup) (demanded ups : ℕ) (bounds : List ℕ) (t a : ℕ) where
 
   pub right_rise : GearServes s demanded a → IsRightAt s demanded ups bounds t a → AllowsRise
   right_rise served right left b few up room = right.steps served left b few (inr (inr up)) room
+
+-- a fall, or staying in the gear, is what the bound says where the figures are equal
+pub level_is_met : (s : Setup) (ups : ℕ) (bounds : List ℕ) (t a b left at next cost : ℕ) → b ≤ a → at ≡ row_start s.geometry ups t a → next ≡ row_start s.geometry ups (t + 1) b → cost ≡ period_cost s a
+    → cost + slice_index bounds (next + left) ≡ slice_index bounds (at + left) → IsMetBy s ups bounds t a left b
+level_is_met s ups bounds t a b left at next cost low here there price is =
+    rw (onward-fall s ups bounds t a left b low, ← here, ← there, ← price) (sym is)
+
+pub level_not_met : (s : Setup) (ups : ℕ) (bounds : List ℕ) (t a b left at next cost : ℕ) → b ≤ a → at ≡ row_start s.geometry ups t a → next ≡ row_start s.geometry ups (t + 1) b → cost ≡ period_cost s a
+    → (cost + slice_index bounds (next + left) ≡ slice_index bounds (at + left) → ⊥) → IsMetBy s ups bounds t a left b → ⊥
+level_not_met s ups bounds t a b left at next cost low here there price not met =
+    not (let value = rw (onward-fall s ups bounds t a left b low, ← here, ← there, ← price) at met in sym value)

@@ -1,11 +1,15 @@
-use Rattle.std.proofs.Common.{◌≡◌, ◌+◌, ◌-◌, [], ◌∷◌, ◌++◌, length, arith, ◌∙◌, ap}
+use Rattle.std.proofs.Common.{◌≡◌, ◌-◌, [], ◌∷◌, ◌++◌, length, arith, ◌∙◌, ap}
+use Rattle.std.proofs.Math.Nat.{le_refl}
 use Rattle.std.proofs.lemmas.List.{length-append}
-use Rattle.paraid_schedule.proofs.RowLemmas.{bound_count-more}
 use Rattle.paraid_schedule.specs.Schedule.{rise}
 use Rattle.paraid_schedule.proofs.GearStepLemmas.{step_gear}
-use Rattle.paraid_schedule.proofs.WalkLemmas.{IsWalk-start, walk-some, walk-more, walk-cost}
+use Rattle.paraid_schedule.proofs.RoomLemmas.{HasRow-right, last_low, last_next, count_low, count_more, ended, left_after_rise, left_after, left_low, none_low}
+use Rattle.paraid_schedule.proofs.WalkLemmas.{IsWalk-start, walk-some, walk-more, walk-schedule, walk-cost}
 use Rattle.paraid_schedule.proofs.planner.follow.Goals.{then-next-gear, else-next-gear}
 use Rattle.paraid_schedule.proofs.planner.follow.Goals as goal
+
+pub returns-in_default : goal.returns-in_default
+returns-in_default c = record { schedule = tt; cost = tt }
 
 pub loop-t-init : goal.loop-t-init
 loop-t-init c =
@@ -15,49 +19,62 @@ loop-t-init c =
       walk = rw items (IsWalk-start s c.args.demand.now c.args.ups c.args.bounds.now);
       count = ap length items;
       gear = s.geometry.last;
-      left_few = omega arith;
+      left_few = le_refl c.args.ups;
+      small = omega arith;
     }
 
-pub next_gear-next-requires-clause-row : goal.next_gear-next-requires-clause-row
-next_gear-next-requires-clause-row c =
-    let g = c.args.setup.now.geometry in
+pub next_gear-next-requires : goal.next_gear-next-requires
+next_gear-next-requires c =
+    let s = c.args.setup.now in
+    let t = c.loop-t.t in
+    let now = c.loop-t.invariant in
+    let low = last_low t (length c.args.demand.now) c.loop-t.auto.t c.loop-t-test.true in
     record {
-      few = c.requires.ups;
-      period = omega (arith, c.requires.demand.few);
-      gear = c.loop-t.invariant.gear;
-      room = omega (arith, c.requires.right.count, bound_count-more g c.args.ups (c.loop-t.t - 1 + 1) (length c.args.demand.now) (omega arith));
-      most = c.requires.right.most;
+      row = HasRow-right s c.args.demand.now c.args.ups c.args.bounds.now (t - 1) c.loop-t.gear c.requires.right c.requires.demand.few c.requires.ups low now.gear;
+      left = now.left_few;
+      solved = c.requires.solved (t - 1) (none_low (t - 1)) low c.loop-t.gear now.gear;
+      some =
+          walk-some s c.args.demand.now c.args.ups c.args.bounds.now c.requires.right c.loop-t.gears.items c.loop-t.gear c.loop-t.left (t - 1)
+          c.requires.demand now.small now.walk (last_next t (length c.loop-t.gears.items) c.loop-t.auto.t now.count);
     }
 
-pub next_gear-next-requires-clause-solved : goal.next_gear-next-requires-clause-solved
-next_gear-next-requires-clause-solved c = c.requires.solved (c.loop-t.t - 1) (omega arith) (omega arith) c.loop-t.gear c.loop-t.invariant.gear
-
-pub next_gear-next-requires-clause-some : goal.next_gear-next-requires-clause-some
-next_gear-next-requires-clause-some c =
-    walk-some c.args.setup.now c.args.demand.now c.args.ups c.args.bounds.now c.requires.right c.loop-t.gears.items c.loop-t.gear c.loop-t.left (c.loop-t.t - 1)
-    c.requires.demand (omega arith) c.loop-t.invariant.walk (omega (arith, c.loop-t.invariant.count))
+pub returns-in_default-push : goal.returns-in_default-push
+returns-in_default-push c = record { schedule = tt; cost = tt }
 
 pub loop-t-preserved : goal.loop-t-preserved
 loop-t-preserved c =
     let s = c.args.setup.now in
+    let t = c.loop-t.t in
+    let now = c.loop-t.invariant in
     let gears = c.loop-t.gears.items in
     let next = c.next_gear-next.result in
     let met = c.next_gear-next.ensures in
-    let count = c.loop-t.invariant.count in
-    let is = step_gear s.geometry c.loop-t.gear next c.loop-t.invariant.gear met.step in
+    let is = step_gear s.geometry c.loop-t.gear next now.gear met.step in
     let items : c.push-in-loop-t.new.self.items ≡ gears ++ next ∷ [] = c.in-Ok-push.ensures.items in
     let left : c.if-next-gear.left ≡ c.loop-t.left - rise c.loop-t.gear next =
-    elim c.if-next-gear.branch [ then-next-gear w ↦ omega arith | else-next-gear w ↦ omega arith ] in
+    elim c.if-next-gear.branch [
+      | then-next-gear w ↦ left_after_rise c.loop-t.gear next c.loop-t.left c.if-next-gear.left w.if-next-gear.true w.left-is
+      | else-next-gear w ↦ left_after c.loop-t.gear next c.loop-t.left c.if-next-gear.left w.if-next-gear.false w.left-is
+    ] in
     record {
       walk = rw items
-          (walk-more s c.args.demand.now c.args.ups c.args.bounds.now c.requires.right gears c.loop-t.gear c.loop-t.left (c.loop-t.t - 1) next c.if-next-gear.left
-          c.requires.demand (omega arith) c.loop-t.invariant.walk (omega (arith, count)) (omega (arith, count)) is met.step met.permitted left c.loop-t.invariant.left_few met.met);
-      count = ap length items ∙ omega (arith, count, length-append gears (next ∷ []));
+          (walk-more s c.args.demand.now c.args.ups c.args.bounds.now c.requires.right gears c.loop-t.gear c.loop-t.left (t - 1) next c.if-next-gear.left
+          c.requires.demand now.small now.walk (last_next t (length gears) c.loop-t.auto.t now.count) (count_low t (length c.args.demand.now) (length gears) now.count c.loop-t-test.true)
+          is met.step met.permitted left now.left_few met.met);
+      count = count_more t _ (length gears) now.count (ap length items ∙ length-append gears (next ∷ []));
       gear = is;
-      left_few = omega arith;
+      left_few = left_low c.loop-t.left (rise c.loop-t.gear next) c.if-next-gear.left c.args.ups left now.left_few;
+      small = now.small;
     }
 
-pub returns-clause-cost : goal.returns-clause-cost
-returns-clause-cost c =
-    walk-cost c.args.setup.now c.args.demand.now c.args.ups c.args.bounds.now c.requires.right c.requires.demand (omega arith) c.requires.solved c.loop-t.gears.items c.loop-t.gear c.loop-t.left
-    c.loop-t.invariant.gear c.loop-t.invariant.walk (omega (arith, c.loop-t.invariant.count))
+pub returns : goal.returns
+returns c =
+    let s = c.args.setup.now in
+    let now = c.loop-t.invariant in
+    let periods = ended c.loop-t.t (length c.args.demand.now) (length c.loop-t.gears.items) now.count (c.loop-t.auto.t-end c.requires.demand.some) c.loop-t-test.false in
+    record {
+      schedule = walk-schedule s c.args.demand.now c.args.ups c.args.bounds.now c.requires.right c.loop-t.gears.items c.loop-t.gear c.loop-t.left now.walk periods;
+      cost =
+          walk-cost s c.args.demand.now c.args.ups c.args.bounds.now c.requires.right c.requires.demand now.small c.requires.solved c.loop-t.gears.items c.loop-t.gear c.loop-t.left
+          now.gear now.walk periods;
+    }

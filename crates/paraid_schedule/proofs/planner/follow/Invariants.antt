@@ -1,4 +1,4 @@
-use Rattle.std.proofs.Common.{◌≡◌, ◌≤◌, length}
+use Rattle.std.proofs.Common.{◌≡◌, ◌^◌, ◌<◌, ◌≤◌, length}
 use Rattle.paraid_base.specs.Regions.{IsGear}
 use Rattle.paraid_schedule.specs.Solved.{IsWalk}
 use Rattle.paraid_schedule.proofs.planner.follow.Given as goal
@@ -9,4 +9,5 @@ invariant-loop-t l = record {
   count : length l.gears.items ≡ l.t;
   gear : IsGear l.setup.geometry l.gear;
   left_few : l.left ≤ l.ups;
+  small : l.setup.spinning_mj < 2 ^ 32;
 }
