@@ -38,3 +38,16 @@ spun_up_total s old new from to disks figures is same room few small =
     let total_here : new.total ≡ old.total + disks * s.spinup_mj = omega arith in
     let small_here : disks * s.spinup_mj ≤ 2 ^ 40 = omega arith in
     rw (← same) (total_here, small_here)
+
+-- what has been counted before period `t` leaves room
+pub counted_room : (total t n : ℕ) → total ≤ t * 2 ^ 41 → t ≤ n → n ≤ 1024 → total < 2 ^ 60
+counted_room total t n small low few = omega (arith, small, low, few)
+
+pub counted_room-after : (total then t n : ℕ) → then ≤ total + 2 ^ 40 → total ≤ t * 2 ^ 41 → t ≤ n → n ≤ 1024 → then < 2 ^ 60
+counted_room-after total then t n more small low few = omega (arith, more, small, low, few)
+
+pub counted_small : (total then last t : ℕ) → total ≤ t * 2 ^ 41 → then ≤ total + 2 ^ 40 → last ≤ then + 2 ^ 40 → last ≤ (t + 1) * 2 ^ 41
+counted_small total then last t small more again = omega (arith, small, more, again)
+
+pub counted_more : (total then last before after period step : ℕ) → total ≡ before → then ≡ total + period → last ≡ then + step → after ≡ before + (period + step) → last ≡ after
+counted_more total then last before after period step is first second whole = omega (arith, is, first, second, whole)

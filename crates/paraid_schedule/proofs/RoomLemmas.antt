@@ -40,6 +40,9 @@ rise_apart at ups next low = omega arith
 pub rise_within : (next ups n : ℕ) → next + (ups + 1) ≤ n → next + ups ≤ n
 rise_within next ups n low = omega arith
 
+pub rise_before : (at ups n : ℕ) → at + (ups + 1) ≤ n → at + 1 + ups ≤ n
+rise_before at ups n low = omega arith
+
 pub at_within : (at left ups n : ℕ) → at + (ups + 1) ≤ n → left ≤ ups → at + left < n
 at_within at left ups n low few = omega arith
 
@@ -108,3 +111,9 @@ left_low left by now ups is few = omega (arith, is, few)
 
 pub none_low : (n : ℕ) → 0 ≤ n
 none_low n = omega arith
+
+pub lower_low : (t n : ℕ) → t < n → t ≤ n
+lower_low t n low = omega (arith, low)
+
+pub last_within : (n : ℕ) → 1 ≤ n → n - 1 < n
+last_within n some = omega (arith, some)

@@ -1,15 +1,36 @@
-use Rattle.std.proofs.Common.{◌+◌, arith}
-use Rattle.paraid_schedule.proofs.RowLemmas.{row_start-end}
+use Rattle.paraid_schedule.proofs.RoomLemmas.{gear_low, period_low, period_next, period_fits, ups_fit, cost_low, row_within, next_within}
 use Rattle.paraid_schedule.proofs.OnwardLemmas.{allow_stay}
 use Rattle.paraid_schedule.proofs.check.allow_a_stay.Goals as goal
 
-pub are_within-requires-clause-at : goal.are_within-requires-clause-at
-are_within-requires-clause-at c =
-    omega (arith, c.row-at.ensures.value, row_start-end c.args.setup.now.geometry c.args.ups c.args.t (c.args.t + 1) c.args.a c.requires.gear (omega arith))
+pub row-at-requires : goal.row-at-requires
+row-at-requires c =
+    let row = c.requires in
+    record { ups = row.few; period = period_low c.args.t row.period; gear = gear_low c.args.setup.now.geometry c.args.a row.gear }
 
-pub are_within-requires-clause-next : goal.are_within-requires-clause-next
-are_within-requires-clause-next c =
-    omega (arith, c.row-next.ensures.value, row_start-end c.args.setup.now.geometry c.args.ups (c.args.t + 1) (c.args.t + 1) c.args.a c.requires.gear (omega arith))
+pub overflow_add-t : goal.overflow_add-t
+overflow_add-t c = period_fits c.args.t c.requires.period
+
+pub row-next-requires : goal.row-next-requires
+row-next-requires c =
+    let row = c.requires in
+    record { ups = row.few; period = period_next c.args.t row.period; gear = gear_low c.args.setup.now.geometry c.args.a c.requires.gear }
+
+pub period_of-requires : goal.period_of-requires
+period_of-requires c = c.args.setup.now.geometry.gears_high c.args.a c.requires.gear
+
+pub overflow_add-ups : goal.overflow_add-ups
+overflow_add-ups c = ups_fit c.args.ups c.requires.few
+
+pub are_within-requires : goal.are_within-requires
+are_within-requires c =
+    let g = c.args.setup.now.geometry in
+    let row = c.requires in
+    record {
+      at = row_within g c.args.ups c.args.bounds.now c.args.t c.args.a row c.row-at.result c.row-at.ensures.value;
+      next = next_within g c.args.ups c.args.bounds.now c.args.t c.args.a row c.args.a c.row-next.result c.requires.gear c.row-next.ensures.value;
+      most = row.most;
+      cost = cost_low c.period_of.result c.period_of.ensures.small;
+    }
 
 pub returns : goal.returns
 returns c =

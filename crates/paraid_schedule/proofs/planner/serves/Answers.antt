@@ -1,6 +1,10 @@
-use Rattle.std.proofs.Common.{arith}
-use Rattle.paraid_schedule.proofs.LoadLemmas.{product_fits, load_fits}
+use Rattle.std.proofs.Common.{inl, arith}
+use Rattle.std.proofs.lemmas.Bool.{eq-eqb}
+use Rattle.paraid_schedule.proofs.LoadLemmas.{product_fits, load_fits, demand_fits, served_test}
 use Rattle.paraid_schedule.proofs.planner.serves.Goals as goal
+
+pub overflow_mul-result : goal.overflow_mul-result
+overflow_mul-result c = demand_fits c.args.demanded (omega arith)
 
 pub overflow_mul-result-else-gear-setup : goal.overflow_mul-result-else-gear-setup
 overflow_mul-result-else-gear-setup c =
@@ -11,3 +15,9 @@ pub overflow_mul-result-else-gear-setup-2 : goal.overflow_mul-result-else-gear-s
 overflow_mul-result-else-gear-setup-2 c =
     let s = c.args.setup.now in
     load_fits s.up s.service c.args.gear (omega arith) (omega arith) (omega arith)
+
+pub returns-then-gear-setup : goal.returns-then-gear-setup
+returns-then-gear-setup c = (λ _. inl c.if-gear-setup.true, λ _. eq-eqb _ _ c.if-gear-setup.true)
+
+pub returns-else-gear-setup : goal.returns-else-gear-setup
+returns-else-gear-setup c = served_test c.args.setup.now c.args.demanded c.args.gear c.if-gear-setup.false

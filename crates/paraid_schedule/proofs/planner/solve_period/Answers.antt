@@ -1,5 +1,6 @@
-use Rattle.std.proofs.Common.{◌≡◌, ◌+◌, arith, inl, inr, sym, ◌∙◌, slice_index_or, true, false}
+use Rattle.std.proofs.Common.{◌≡◌, ℕ, ◌+◌, ◌≤◌, arith, inl, inr, sym, subst, ◌∙◌, slice_index_or, true, false}
 use Rattle.paraid_base.specs.Regions.{IsGear}
+use Rattle.paraid_schedule.specs.Bounds.{bound_count}
 use Rattle.std.proofs.lemmas.Bool.{cases_lt}
 use Rattle.paraid_schedule.proofs.SolvedLemmas.{later_same, gears_same, IsSolvedAt-same}
 use Rattle.paraid_schedule.proofs.planner.solve_period.Goals.{then-is_gear, else-is_gear}
@@ -44,3 +45,12 @@ loop-a-preserved c =
             most = c.loop-a.invariant.most;
           }
     ]
+
+pub solve_gear-requires : goal.solve_gear-requires
+solve_gear-requires c = record {
+  few = c.requires.ups;
+  period = c.requires.period;
+  gear = sym c.is_gear.ensures ∙ c.if-is_gear.true;
+  room = subst (λ (n : ℕ). bound_count c.args.setup.now.geometry c.args.ups (c.args.t + 1) ≤ n) (sym c.loop-a.auto.bounds) c.requires.room;
+  most = c.loop-a.invariant.most;
+}

@@ -4,9 +4,13 @@ use Rattle.std.proofs.lemmas.Bool.{cases_lt}
 use Rattle.paraid_schedule.proofs.SolvedLemmas.{IsSolvedAt-same}
 use Rattle.paraid_schedule.proofs.planner.solve_periods.Goals as goal
 
-pub solve_period-requires-clause-room : goal.solve_period-requires-clause-room
-solve_period-requires-clause-room c =
-    omega (arith, c.requires.count, bound_count-more c.args.setup.now.geometry c.args.ups (c.loop-t.t - 1 + 1) (length c.args.demand.now) (omega arith))
+pub solve_period-requires : goal.solve_period-requires
+solve_period-requires c = record {
+  ups = c.requires.ups;
+  period = omega (arith, c.requires.periods);
+  room = omega (arith, c.requires.count, bound_count-more c.args.setup.now.geometry c.args.ups (c.loop-t.t - 1 + 1) (length c.args.demand.now) (omega arith));
+  most = c.loop-t.invariant.most;
+}
 
 pub loop-t-preserved : goal.loop-t-preserved
 loop-t-preserved c =
@@ -25,5 +29,7 @@ loop-t-preserved c =
       most = c.solve_period.ensures.most;
     }
 
-pub returns-clause-solved : goal.returns-clause-solved
-returns-clause-solved c = λ t from low a is. c.loop-t.invariant.solved t (omega arith) low a is
+pub returns : goal.returns
+returns c =
+    let now = c.loop-t.invariant in
+    record { count = c.loop-t.auto.bounds ∙ c.requires.count; most = now.most; end = now.end; solved = λ t from low a is. now.solved t (omega arith) low a is }
