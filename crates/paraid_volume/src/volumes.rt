@@ -380,6 +380,36 @@ impl<B: Blocks> Volumes<B> {
         }
     }
 
+    // The id of a new volume of this name and so many extents.
+    fn new_id(&self, name: &Name, extents: u32) -> Result<u8, VolFault>
+        ensures fault { IfErr result (IsCreateFault (B.block_count (device_of self.now))
+            (volume_table self.now) (halted_of self.now) name.now extents) }
+        ensures halt { vol_halt_in result ≡ halted_of self.now }
+        ensures fresh { OnOk result (IsNew (volume_table self.now) name.now) }
+        ensures some { OnOk result (0 < extents) }
+        ensures room { OnOk result (extents ≤ extents_owned (owner_in (volume_table self.now)) 0
+            (count_of (B.block_count (device_of self.now)))) }
+        ensures id { IfOk result (IsLeastFree (volume_table self.now)) }
+    {
+        if let Some(halt) = self.halt {
+            return Err(VolFault::Halt(halt));
+        }
+        if let Some(id) = self.table.find(name) {
+            return Err(VolFault::Exists { id });
+        }
+        if extents == 0 {
+            return Err(VolFault::NoExtents);
+        }
+        let Some(id) = self.table.free_id() else {
+            return Err(VolFault::Names);
+        };
+        let free = self.free();
+        if free < extents {
+            return Err(VolFault::Space { free });
+        }
+        Ok(id)
+    }
+
     /// Makes a volume of so many extents, of zeros. Ok gives its id.
     pub fn create(&mut self, name: &Name, extents: u32) -> Result<u8, VolFault>
         ensures fault { IfErr result (IsCreateFault (B.block_count (device_of self.old))
@@ -416,22 +446,7 @@ impl<B: Blocks> Volumes<B> {
             → HasLived (VolumesStandFor (DeviceHolds B.stands B.kept from) self.new) (B.block_count (device_of self.old)) start
             (log ++ (CreateCall (letter_of name.now) extents, Refused fault) ∷ [])) }
     {
-        if let Some(halt) = self.halt {
-            return Err(VolFault::Halt(halt));
-        }
-        if let Some(id) = self.table.find(name) {
-            return Err(VolFault::Exists { id });
-        }
-        if extents == 0 {
-            return Err(VolFault::NoExtents);
-        }
-        let Some(id) = self.table.free_id() else {
-            return Err(VolFault::Names);
-        };
-        let free = self.free();
-        if free < extents {
-            return Err(VolFault::Space { free });
-        }
+        let id = self.new_id(name, extents)?;
         let next = self.table.with(id, name, extents, self.extents);
         match make(
             &mut self.blocks,

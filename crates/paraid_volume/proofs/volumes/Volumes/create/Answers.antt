@@ -1,6 +1,6 @@
 use Rattle.paraid_base.specs.declared.fault.Halt.{Halt}
 use Rattle.paraid_volume.proofs.DeviceLemmas.{DeviceGoesOn-none, KeepsMore-none}
-use Rattle.std.proofs.Common.{◌≡◌, ◌≢◌, ℕ, ◌+◌, ◌<◌, ◌≤◌, ◌^◌, ◌∙◌, ◌++◌, ◌∷◌, [], length, take, ◌*◌, ◌-◌, refl, sym, ap, subst, arith, Option, Some}
+use Rattle.std.proofs.Common.{◌≡◌, ℕ, ◌+◌, ◌<◌, ◌≤◌, ◌^◌, ◌∙◌, ◌++◌, ◌∷◌, [], length, take, ◌*◌, ◌-◌, refl, sym, ap, subst, arith, Option, Some}
 use Rattle.std.proofs.Math.Nat.{mul-div-le}
 use Rattle.std.proofs.lemmas.List.{take_all}
 use Rattle.paraid_base.specs.History.{History, after_all}
@@ -8,20 +8,19 @@ use Rattle.paraid_volume.specs.Device.{InExtent}
 use Rattle.paraid_volume.specs.Laid.{IsWith}
 use Rattle.paraid_volume.specs.TableBlocks.{in_table}
 use Rattle.paraid_volume.specs.Tables.{IsSameTable, IsVolumeTable, extent_count, extent_size, extents_owned, owner_in}
-use Rattle.paraid_volume.specs.Values.{device_of}
+use Rattle.std.specs.Prelude.{IfErr}
+use Rattle.std.proofs.lemmas.Result.{IfErr-weaker, err_from_is_err_and}
+use Rattle.paraid_volume.specs.Faults.{IsCreateFault}
+use Rattle.paraid_volume.specs.Values.{device_of, halted_of, volume_table}
 use Rattle.paraid_volume.proofs.CreateLemmas.{inside_moved, shows_new, shows_still, with_moved, with_table}
 use Rattle.paraid_volume.proofs.ExtentLemmas.{back, extents_few, same_live, same_name, same_owned, same_owner, extent_some}
 use Rattle.paraid_volume.proofs.LaidLemmas.{laid_rest, laid_table}
 use Rattle.paraid_volume.specs.NameValues.{letter_of}
 use Rattle.std.proofs.Common.{None}
-use Rattle.paraid_volume.specs.declared.fault.VolFault.TheVariants.{Exists, NoExtents, Names, Space}
 use Rattle.paraid_volume.specs.Lives.{create}
 use Rattle.paraid_volume.proofs.OneCallLemmas.{lived_create, lived_refused}
 use Rattle.paraid_volume.proofs.RefusalLemmas.{create_refused, free_is, least_unnamed, unused}
 use Rattle.paraid_volume.proofs.volumes.Volumes.create.Goals as goal
-
-positive : (n : ℕ) → n ≢ 0 → 1 ≤ n
-positive n not = omega (arith, not)
 
 not_below : (n k : ℕ) → 6 + n ≤ k → k < 6 → ⊥
 not_below n k low l = omega (arith, low, l)
@@ -46,22 +45,19 @@ invariant_of-self g c =
     let v = c.args.self.now in
     let count = g.B.Blocks.block_count (device_of v) in
     let size = c.make.ensures.went.size in
-    let id = c.in-Some-free_id.id in
-    let least = c.in-Some-free_id.ensures.some in
+    let id = c.in_ok-id.id in
+    let least = c.in_ok-id.ensures.id in
     let old = in_table v.table in
     let next = in_table c.with-next.result in
     let with = subst (λ (n : ℕ). IsWith id c.args.name.now c.args.extents n old next) v.counted c.with-next.ensures in
-    let none = c.if-extents-eq0.false in
-    let room = c.if-free-extents.false in
-    let free = c.free-free.ensures in
     record {
       large = subst (λ (n : ℕ). 7 ≤ n) (sym size) v.large;
       fits = subst (λ (n : ℕ). n < 2 ^ 32) (sym size) v.fits;
       sized = v.sized ∙ ap extent_size (sym size);
       counted = v.counted ∙ ap extent_count (sym size);
       valid = subst (λ (n : ℕ). IsVolumeTable n next) (sym size)
-          (with_table count id c.args.extents c.args.name.now old next v.large v.valid least.low least.high least.free (positive _ none) (subst (λ (n : ℕ). c.args.extents ≤ n) free room) c.in_default-find.ensures.none with);
-      halted = c.in-Ok.ensures.halt ∙ sym c.in_default.is;
+          (with_table count id c.args.extents c.args.name.now old next v.large v.valid least.low least.high least.free (c.in_ok-id.ensures.some) c.in_ok-id.ensures.room c.in_ok-id.ensures.fresh with);
+      halted = c.in-Ok.ensures.halt ∙ c.in_ok-id.ensures.halt;
     }
 
 pub invariant_of-self-in-Err : goal.invariant_of-self-in-Err
@@ -81,16 +77,15 @@ pub returns-in-Ok-clause-makes : goal.returns-in-Ok-clause-makes
 returns-in-Ok-clause-makes g c = λ from h s stands shows tells.
     let v = c.args.self.now in
     let count = g.B.Blocks.block_count (device_of v) in
-    let id = c.in-Some-free_id.id in
+    let id = c.in_ok-id.id in
     let n = c.args.extents in
     let text = c.args.name.now in
-    let least = c.in-Some-free_id.ensures.some in
+    let least = c.in_ok-id.ensures.id in
     let old = in_table v.table in
     let next = in_table c.with-next.result in
-    let with : IsWith c.in-Some-free_id.id c.args.name.now c.args.extents (extent_count count) old next =
+    let with : IsWith c.in_ok-id.id c.args.name.now c.args.extents (extent_count count) old next =
     subst (λ (m : ℕ). IsWith id c.args.name.now c.args.extents m old next) v.counted c.with-next.ensures in
-    let none = c.if-extents-eq0.false in
-    let some : 1 ≤ c.args.extents = positive _ none in
+    let some : 1 ≤ c.args.extents = c.in_ok-id.ensures.some in
     let made = c.in-Ok.ensures.makes from h stands.0 tells in
     let mid = h ++ made.more in
     let new = (h ++ made.more) ++ made.entry ∷ [] in
@@ -110,11 +105,9 @@ returns-in-Ok-clause-makes g c = λ from h s stands shows tells.
     (λ e l. sym (same_owner next (after_all new) same e (few_of e _ _ l refl few))) inside in
     let free = λ (live : _). least.free (same_live (after_all h) old (back old (after_all h) stands.1) id live) in
     let fresh = λ (i : ℕ) (live : _) (named : _).
-    c.in_default-find.ensures.none i (same_live (after_all h) old (back old (after_all h) stands.1) i live) (λ k l. named k l ∙ sym (same_name old (after_all h) stands.1 i k)) in
-    let refused = c.if-free-extents.false in
-    let number = c.free-free.ensures in
+    c.in_ok-id.ensures.fresh i (same_live (after_all h) old (back old (after_all h) stands.1) i live) (λ k l. named k l ∙ sym (same_name old (after_all h) stands.1 i k)) in
     let owned_same = same_owned old (after_all h) stands.1 0 (extent_count count) few in
-    let room : c.args.extents ≤ extents_owned (owner_in (after_all h)) 0 (extent_count count) = subst (λ (n : ℕ). c.args.extents ≤ n) (number ∙ owned_same) refused in
+    let room : c.args.extents ≤ extents_owned (owner_in (after_all h)) 0 (extent_count count) = subst (λ (n : ℕ). c.args.extents ≤ n) owned_same c.in_ok-id.ensures.room in
     record {
       more = made.more;
       entry = made.entry;
@@ -130,115 +123,38 @@ returns-in-Ok-clause-makes g c = λ from h s stands shows tells.
 pub returns-in-Ok-clause-lived : goal.returns-in-Ok-clause-lived
 returns-in-Ok-clause-lived g c = λ from start log lived tells.
     let v = c.args.self.now in
-    let none = c.if-extents-eq0.false in
-    let refused = c.if-free-extents.false in
-    let number = c.free-free.ensures in
-    lived_create _ _ _ start log lived (letter_of c.args.name.now) c.args.extents c.in-Some-free_id.id (record { field = c.args.name.now.field; some = c.args.name.now.some })
-    (positive _ none)
+    lived_create _ _ _ start log lived (letter_of c.args.name.now) c.args.extents c.in_ok-id.id (record { field = c.args.name.now.field; some = c.args.name.now.some })
+    (c.in_ok-id.ensures.some)
     (λ h s stands shows.
     let free = free_is _ (in_table v.table) (after_all h) s stands.1 shows v.large in (
-      unused _ (in_table v.table) (after_all h) s stands.1 shows c.args.name.now c.in_default-find.ensures.none,
-      least_unnamed _ (in_table v.table) (after_all h) s stands.1 shows c.in-Some-free_id.id c.in-Some-free_id.ensures.some,
-      subst (λ (n : ℕ). c.args.extents ≤ n) (number ∙ sym free) refused,
+      unused _ (in_table v.table) (after_all h) s stands.1 shows c.args.name.now c.in_ok-id.ensures.fresh,
+      least_unnamed _ (in_table v.table) (after_all h) s stands.1 shows c.in_ok-id.id c.in_ok-id.ensures.id,
+      subst (λ (n : ℕ). c.args.extents ≤ n) (sym free) c.in_ok-id.ensures.room,
     ))
     (λ h s stands shows. returns-in-Ok-clause-makes g c from h s stands shows tells)
 
-pub returns-in-Some-find : goal.returns-in-Some-find
-returns-in-Some-find g c = record {
-  fault = c.in-Some-find.ensures.some;
-  fresh = tt;
-  some = tt;
-  room = tt;
-  halt = c.in_default.is;
-  went = DeviceGoesOn-none _ _ _ _ _;
-  grown = KeepsMore-none _ _ _ _;
-  refused = refl;
-  id = tt;
-  makes = tt;
-  stands = λ none from h stands tells. stands;
-  lived = tt;
-  lived_refused = λ none from start log lived tells.
-      lived_refused _ _ _ start log lived (create (letter_of c.args.name.now) c.args.extents) (Exists c.in-Some-find.id) (λ h stands. stands)
-      (λ h s stands shows. create_refused _ (in_table c.args.self.now.table) (after_all h) s stands.1 shows c.args.self.now.large None refl c.args.name.now c.args.extents (Exists c.in-Some-find.id)
-      c.in-Some-find.ensures.some);
-}
-
-pub returns-then-extents-eq0 : goal.returns-then-extents-eq0
-returns-then-extents-eq0 g c = record {
-  fault = (c.in_default-find.ensures.none, c.if-extents-eq0.true);
-  fresh = tt;
-  some = tt;
-  room = tt;
-  halt = c.in_default.is;
-  went = DeviceGoesOn-none _ _ _ _ _;
-  grown = KeepsMore-none _ _ _ _;
-  refused = refl;
-  id = tt;
-  makes = tt;
-  stands = λ none from h stands tells. stands;
-  lived = tt;
-  lived_refused = λ none from start log lived tells.
-      lived_refused _ _ _ start log lived (create (letter_of c.args.name.now) c.args.extents) NoExtents (λ h stands. stands)
-      (λ h s stands shows. create_refused _ (in_table c.args.self.now.table) (after_all h) s stands.1 shows c.args.self.now.large None refl c.args.name.now c.args.extents NoExtents
-      (c.in_default-find.ensures.none, c.if-extents-eq0.true));
-}
-
-pub returns-in_default-free_id : goal.returns-in_default-free_id
-returns-in_default-free_id g c = record {
-  fault = (c.in_default-find.ensures.none, positive _ c.if-extents-eq0.false, c.in_default-free_id.ensures.none);
-  fresh = tt;
-  some = tt;
-  room = tt;
-  halt = c.in_default.is;
-  went = DeviceGoesOn-none _ _ _ _ _;
-  grown = KeepsMore-none _ _ _ _;
-  refused = refl;
-  id = tt;
-  makes = tt;
-  stands = λ none from h stands tells. stands;
-  lived = tt;
-  lived_refused = λ none from start log lived tells.
-      lived_refused _ _ _ start log lived (create (letter_of c.args.name.now) c.args.extents) Names (λ h stands. stands)
-      (λ h s stands shows. create_refused _ (in_table c.args.self.now.table) (after_all h) s stands.1 shows c.args.self.now.large None refl c.args.name.now c.args.extents Names
-      (c.in_default-find.ensures.none, positive _ c.if-extents-eq0.false, c.in_default-free_id.ensures.none));
-}
-
-pub returns-then-free-extents : goal.returns-then-free-extents
-returns-then-free-extents g c = record {
-  fault = (c.in_default-find.ensures.none, (c.in-Some-free_id.id, c.in-Some-free_id.ensures.some), c.free-free.ensures, c.if-free-extents.true);
-  fresh = tt;
-  some = tt;
-  room = tt;
-  halt = c.in_default.is;
-  went = DeviceGoesOn-none _ _ _ _ _;
-  grown = KeepsMore-none _ _ _ _;
-  refused = refl;
-  id = tt;
-  makes = tt;
-  stands = λ none from h stands tells. stands;
-  lived = tt;
-  lived_refused = λ none from start log lived tells.
-      lived_refused _ _ _ start log lived (create (letter_of c.args.name.now) c.args.extents) (Space c.free-free.result) (λ h stands. stands)
-      (λ h s stands shows. create_refused _ (in_table c.args.self.now.table) (after_all h) s stands.1 shows c.args.self.now.large None refl c.args.name.now c.args.extents (Space c.free-free.result)
-      (c.in_default-find.ensures.none, (c.in-Some-free_id.id, c.in-Some-free_id.ensures.some), c.free-free.ensures, c.if-free-extents.true));
-}
-
-pub returns-in-Some : goal.returns-in-Some
-returns-in-Some g c = record {
-  fault = c.in-Some.is;
-  fresh = tt;
-  some = tt;
-  room = tt;
-  halt = c.in-Some.is;
-  went = DeviceGoesOn-none _ _ _ _ _;
-  grown = KeepsMore-none _ _ _ _;
-  refused = refl;
-  id = tt;
-  makes = tt;
-  stands = λ none from h stands tells. stands;
-  lived = tt;
-  lived_refused = λ none. absurd (halts _ (sym c.in-Some.is ∙ none));
-}
+pub returns-in_err-id : goal.returns-in_err-id
+returns-in_err-id g c =
+    let v = c.args.self.now in
+    let p = err_from_is_err_and c.from_residual.result c.from_residual.ensures.1 in
+    let due : IfErr c.from_residual.result (IsCreateFault (g.B.Blocks.block_count (device_of v)) (volume_table v) (halted_of v) c.args.name.now c.args.extents) = rw (p.1, p.2) c.in_err-id.ensures.fault in
+    record {
+      fault = due;
+      fresh = rw p.1 tt;
+      some = rw p.1 tt;
+      room = rw p.1 tt;
+      halt = rw (p.1, p.2) (sym c.in_err-id.ensures.halt);
+      went = DeviceGoesOn-none _ _ _ _ _;
+      grown = KeepsMore-none _ _ _ _;
+      refused = rw p.1 refl;
+      id = rw p.1 tt;
+      makes = rw p.1 tt;
+      stands = rw p.1 (λ none from h stands tells. stands);
+      lived = rw p.1 tt;
+      lived_refused = IfErr-weaker c.from_residual.result _ _
+          (λ fault is none from start log lived tells. lived_refused _ _ _ start log lived (create (letter_of c.args.name.now) c.args.extents) fault (λ h stands. stands)
+          (λ h s stands shows. create_refused _ (in_table v.table) (after_all h) s stands.1 shows v.large (halted_of v) none c.args.name.now c.args.extents fault is)) due;
+    }
 
 pub returns-in-Err : goal.returns-in-Err
 returns-in-Err g c = record {
@@ -258,7 +174,7 @@ returns-in-Err g c = record {
 }
 
 pub returns-in-Ok-clause-halt : goal.returns-in-Ok-clause-halt
-returns-in-Ok-clause-halt g c = c.in_default.is
+returns-in-Ok-clause-halt g c = sym c.in_ok-id.ensures.halt
 
 pub returns-in-Ok-clause-fault : goal.returns-in-Ok-clause-fault
 returns-in-Ok-clause-fault g c = tt
@@ -273,16 +189,16 @@ pub returns-in-Ok-clause-lived_refused : goal.returns-in-Ok-clause-lived_refused
 returns-in-Ok-clause-lived_refused g c = tt
 
 pub returns-in-Ok-clause-fresh : goal.returns-in-Ok-clause-fresh
-returns-in-Ok-clause-fresh g c = c.in_default-find.ensures.none
+returns-in-Ok-clause-fresh g c = c.in_ok-id.ensures.fresh
 
 pub returns-in-Ok-clause-some : goal.returns-in-Ok-clause-some
-returns-in-Ok-clause-some g c = positive _ c.if-extents-eq0.false
+returns-in-Ok-clause-some g c = c.in_ok-id.ensures.some
 
 pub returns-in-Ok-clause-room : goal.returns-in-Ok-clause-room
-returns-in-Ok-clause-room g c = subst (λ (n : ℕ). c.args.extents ≤ n) c.free-free.ensures c.if-free-extents.false
+returns-in-Ok-clause-room g c = c.in_ok-id.ensures.room
 
 pub returns-in-Ok-clause-id : goal.returns-in-Ok-clause-id
-returns-in-Ok-clause-id g c = c.in-Some-free_id.ensures.some
+returns-in-Ok-clause-id g c = c.in_ok-id.ensures.id
 
 pub returns-in-Ok-clause-went : goal.returns-in-Ok-clause-went
 returns-in-Ok-clause-went g c = c.make.ensures.went
@@ -292,13 +208,13 @@ returns-in-Ok-clause-grown g c = c.make.ensures.grown
 
 pub with-next-requires : goal.with-next-requires
 with-next-requires g c = record {
-  id = (c.in-Some-free_id.ensures.some.low, c.in-Some-free_id.ensures.some.high);
+  id = (c.in_ok-id.ensures.id.low, c.in_ok-id.ensures.id.high);
   few = subst (λ (n : ℕ). n ≤ 2048) (sym c.args.self.now.counted) (extents_few _ c.args.self.now.large);
 }
 
 pub make-requires : goal.make-requires
 make-requires g c = record {
-  none = c.args.self.now.halted ∙ c.in_default.is;
+  none = c.args.self.now.halted ∙ sym c.in_ok-id.ensures.halt;
   large = c.args.self.now.large;
   size = subst (λ (n : ℕ). 1 ≤ n) (sym c.args.self.now.sized) (extent_some _ c.args.self.now.large);
   few = subst (λ (n : ℕ). n ≤ 2048) (sym c.args.self.now.counted) (extents_few _ c.args.self.now.large);
