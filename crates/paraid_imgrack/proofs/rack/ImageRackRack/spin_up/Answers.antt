@@ -1,9 +1,18 @@
-use Rattle.std.proofs.Common.{false}
+use Rattle.std.proofs.Common.{false, ap, sym, ◌∙◌}
 use Rattle.paraid_rack.specs.declared.call.Power.TheVariants.{Spinning}
 use Rattle.paraid_rack.specs.Slots.{Slot}
-use Rattle.paraid_imgrack.proofs.ImagesLemmas.{touched_at}
+use Rattle.std.proofs.lemmas.List.{length-set}
+use Rattle.paraid_imgrack.specs.Laws.{nothing_told}
+use Rattle.paraid_imgrack.proofs.ImagesLemmas.{image_slot_at-get_or, touched_at}
 use Rattle.paraid_imgrack.proofs.rack.ImageRackRack.spin_up.Goals as goal
 
-pub returns-clause-slot : goal.returns-clause-slot
-returns-clause-slot g c = touched_at c.args.self.now.images.items c.args.disk c.index_mut.result.now _
-    (λ (s : Slot). record s { power = Spinning }) (λ (s : Slot). false) _ c.requires.exists c.index_mut.ensures.value c.spin_up.ensures
+pub returns : goal.returns
+returns g c = record {
+  slots = length-set _ _ _;
+  slot = touched_at c.args.self.now.images.items c.args.disk c.index_mut.result.now _
+      (λ (s : Slot). record s { power = Spinning }) (λ (s : Slot). false) _ c.requires.exists c.index_mut.ensures.value c.spin_up.ensures;
+  told = λ t e. nothing_told t e;
+}
+
+pub spin_up-requires : goal.spin_up-requires
+spin_up-requires g c = ap (λ (s : Slot). s.power) (sym (image_slot_at-get_or c.args.self.now.images.items c.args.disk c.index_mut.result.now c.requires.exists c.index_mut.ensures.value)) ∙ c.requires.parked
