@@ -7,9 +7,9 @@ use Rattle.paraid_volume.proofs.device.clear_block.Goals as goal
 
 pub returns-in-Ok : goal.returns-in-Ok
 returns-in-Ok g c = record {
-  went = search rules;
+  went = record { size = c.write.ensures.size; later = c.write.ensures.later; cause = c.write.ensures.cause; again = c.write.ensures.again; told = c.write.ensures.told };
   grown = KeepsMore-one _ _ _ _ _ _ _ c.write.ensures.events tt;
-  halt = search rules;
+  halt = c.in-Ok.ensures.halt;
   clears = λ from h stands tells.
       cleared_one _ h c.args.at c.zero.result c.zero.ensures
       (holds_write g.B.Blocks.stands g.B.Blocks.kept from c.args.device.now c.write.new.self h (single_pair c.args.at c.zero.result) ((c.args.at, c.zero.result) ∷ []) c.in-Ok.field-0 (λ s. (c.in-Ok.ensures.history h s tells).1) (λ events k. c.in-Ok.ensures.events events k tells) (pairs_of-one c.args.at c.zero.result) stands);
@@ -17,8 +17,8 @@ returns-in-Ok g c = record {
 
 pub returns-in-Err-Halt : goal.returns-in-Err-Halt
 returns-in-Err-Halt g c = record {
-  went = search rules;
+  went = record { size = c.write.ensures.size; later = c.write.ensures.later; cause = c.write.ensures.cause; again = c.write.ensures.again; told = c.write.ensures.told };
   grown = KeepsMore-one _ _ _ _ _ _ _ c.write.ensures.events tt;
   halt = search rules;
-  clears = search rules;
+  clears = tt;
 }

@@ -7,19 +7,19 @@ use Rattle.paraid_volume.proofs.device.read_block.Goals as goal
 
 pub returns-in-Err-Halt : goal.returns-in-Err-Halt
 returns-in-Err-Halt g c = record {
-  went = search rules;
+  went = record { size = c.read.ensures.size; later = c.read.ensures.later; cause = c.read.ensures.cause; again = c.read.ensures.again; told = c.read.ensures.told };
   grown = KeepsMore-one _ _ _ _ _ _ _ c.read.ensures.events tt;
   halt = search rules;
-  keeps = search rules;
-  read = search rules;
-  rest = search rules;
+  keeps = tt;
+  read = tt;
+  rest = λ k not. refl;
 }
 
 pub returns-in-Ok : goal.returns-in-Ok
 returns-in-Ok g c = record {
-  went = search rules;
+  went = record { size = c.read.ensures.size; later = c.read.ensures.later; cause = c.read.ensures.cause; again = c.read.ensures.again; told = c.read.ensures.told };
   grown = KeepsMore-one _ _ _ _ _ _ _ c.read.ensures.events tt;
-  halt = search rules;
+  halt = c.in-Ok.ensures.halt;
   keeps = λ from h stands tells.
       holds_same g.B.Blocks.stands g.B.Blocks.kept from c.args.device.now c.read.new.self h (Read c.args.at) (Value c.args.at c.read.new.into) (λ s. c.in-Ok.ensures.history h s tells) (λ events k. c.in-Ok.ensures.events events k tells) refl stands;
   read = search rules;

@@ -18,17 +18,17 @@ unreachable-requires g c =
 
 pub returns-in-Err-Halt : goal.returns-in-Err-Halt
 returns-in-Err-Halt g c = record {
-  went = search rules;
+  went = record { size = c.write_many.ensures.size; later = c.write_many.ensures.later; cause = c.write_many.ensures.cause; again = c.write_many.ensures.again; told = c.write_many.ensures.told };
   grown = KeepsMore-one _ _ _ _ _ _ _ c.write_many.ensures.events tt;
   halt = search rules;
-  adds = search rules;
+  adds = tt;
 }
 
 pub returns-in-Ok : goal.returns-in-Ok
 returns-in-Ok g c = record {
-  went = search rules;
+  went = record { size = c.write_many.ensures.size; later = c.write_many.ensures.later; cause = c.write_many.ensures.cause; again = c.write_many.ensures.again; told = c.write_many.ensures.told };
   grown = KeepsMore-one _ _ _ _ _ _ _ c.write_many.ensures.events tt;
-  halt = search rules;
+  halt = c.in-Ok.ensures.halt;
   adds = λ from h stands tells.
       holds_write g.B.Blocks.stands g.B.Blocks.kept from c.args.device.now c.write_many.new.self h c.args.pairs.now (pairs_of c.args.pairs.now) c.in-Ok.field-0 (λ s. (c.in-Ok.ensures.history h s tells).1) (λ events k. c.in-Ok.ensures.events events k tells) refl stands;
 }

@@ -3,7 +3,9 @@ use Rattle.paraid_base.specs.declared.event.Answer.TheVariants.{Flushed}
 use Rattle.paraid_volume.specs.Values.{device_of}
 use Rattle.paraid_volume.proofs.OneCallLemmas.{lived_flush}
 use Rattle.paraid_volume.proofs.DeviceLemmas.{DeviceGoesOn-none, KeepsMore-none, KeepsMore-one, holds_same, holds_stands}
-use Rattle.std.proofs.Common.{refl}
+use Rattle.std.proofs.Common.{ℕ, ◌≤◌, ◌<◌, ◌^◌, ◌∙◌, ap, refl, subst, sym}
+use Rattle.paraid_volume.specs.TableBlocks.{in_table}
+use Rattle.paraid_volume.specs.Tables.{IsVolumeTable, extent_count, extent_size}
 use Rattle.paraid_volume.proofs.volumes.Volumes.flush.Goals as goal
 
 pub returns-in-Ok-clause-stands : goal.returns-in-Ok-clause-stands
@@ -53,3 +55,35 @@ returns-in-Ok-clause-halt g c = c.in_default.is
 
 pub returns-in-Ok-clause-table : goal.returns-in-Ok-clause-table
 returns-in-Ok-clause-table g c = refl
+
+pub invariant_of-self : goal.invariant_of-self
+invariant_of-self g c =
+    let v = c.args.self.now in
+    let size = c.flush.ensures.size in
+    record {
+      large = subst (λ (n : ℕ). 7 ≤ n) (sym size) v.large;
+      fits = subst (λ (n : ℕ). n < 2 ^ 32) (sym size) v.fits;
+      sized = v.sized ∙ ap extent_size (sym size);
+      counted = v.counted ∙ ap extent_count (sym size);
+      valid = subst (λ (n : ℕ). IsVolumeTable n (in_table v.table)) (sym size) v.valid;
+      halted = c.in-Ok.ensures.halt ∙ sym c.in_default.is;
+    }
+
+pub invariant_of-self-in-Err : goal.invariant_of-self-in-Err
+invariant_of-self-in-Err g c =
+    let v = c.args.self.now in
+    let size = c.flush.ensures.size in
+    record {
+      large = subst (λ (n : ℕ). 7 ≤ n) (sym size) v.large;
+      fits = subst (λ (n : ℕ). n < 2 ^ 32) (sym size) v.fits;
+      sized = v.sized ∙ ap extent_size (sym size);
+      counted = v.counted ∙ ap extent_count (sym size);
+      valid = subst (λ (n : ℕ). IsVolumeTable n (in_table v.table)) (sym size) v.valid;
+      halted = c.in-Err.ensures.halt;
+    }
+
+pub returns-in-Ok-clause-went : goal.returns-in-Ok-clause-went
+returns-in-Ok-clause-went g c = record { size = c.flush.ensures.size; later = c.flush.ensures.later; cause = c.flush.ensures.cause; again = c.flush.ensures.again; told = c.flush.ensures.told }
+
+pub returns-in-Ok-clause-event : goal.returns-in-Ok-clause-event
+returns-in-Ok-clause-event g c = λ events kept tells. c.in-Ok.ensures.events events kept tells

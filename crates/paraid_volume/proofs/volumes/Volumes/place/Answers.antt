@@ -1,4 +1,5 @@
-use Rattle.std.proofs.Common.{◌≡◌, ℕ, ◌<◌, ◌≤◌, ◌+◌, ◌*◌, ◌^◌, ◌%◌, ◌/◌, Fits, w32, refl, sym, ap, arith, subst, rules}
+use Rattle.std.proofs.Common.{◌≡◌, ℕ, ◌<◌, ◌≤◌, ◌+◌, ◌*◌, ◌^◌, ◌%◌, ◌/◌, Fits, w32, refl, sym, ap, arith, subst, ◌∙◌}
+use Rattle.std.proofs.lemmas.Bool.{false≢true}
 use Rattle.std.proofs.Math.Nat.{mul-div-le}
 use Rattle.std.proofs.lemmas.Nat.{mul-le}
 use Rattle.paraid_base.specs.declared.block.Block.{Block}
@@ -53,8 +54,8 @@ extent-requires g c = let v = c.args.self.now in subst (λ (n : ℕ). n ≤ 2048
 
 pub returns-in-Some-extent : goal.returns-in-Some-extent
 returns-in-Some-extent g c = record {
-  fault = search rules;
-  halt = search rules;
+  fault = tt;
+  halt = sym c.in_default.is;
   ok =
       let v = c.args.self.now in
       let found = c.in-Some-extent.ensures.some in
@@ -69,9 +70,25 @@ returns-in-None g c = record {
   fault =
       let v = c.args.self.now in
       (refl, c.is_live.ensures.0 c.if-not-is_live.false, past_end _ _ _ c.args.block c.args.id (owner_in (in_table v.table)) v.sized v.counted c.in-None.ensures.none);
-  halt = search rules;
-  ok = search rules;
-  below = search rules;
+  halt = sym c.in_default.is;
+  ok = tt;
+  below = tt;
+}
+
+pub returns-in-Some : goal.returns-in-Some
+returns-in-Some g c = record {
+  fault = c.in-Some.is;
+  halt = sym c.in-Some.is;
+  ok = tt;
+  below = tt;
+}
+
+pub returns-then-not-is_live : goal.returns-then-not-is_live
+returns-then-not-is_live g c = record {
+  fault = (refl, λ live. false≢true (sym c.if-not-is_live.true ∙ c.is_live.ensures.1 live));
+  halt = sym c.in_default.is;
+  ok = tt;
+  below = tt;
 }
 
 pub overflow_mul-result : goal.overflow_mul-result
