@@ -1,10 +1,11 @@
 -- The status that a run ends with, by its last line.
-use Rattle.std.specs.Prelude.{◌≡◌, ◌≢◌, ℕ, ◌≤◌, List, Option}
+use Rattle.std.specs.Prelude.{◌≡◌, ◌≢◌, ℕ, ◌≤◌, List, Option, Result, Ok, Err}
 use Rattle.std.proofs.Common.{arith, inl, inr, refl, subst, sym, ◌∙◌}
 use Rattle.paraid_base.specs.declared.fault.Halt.{Halt}
 use Rattle.paraid_base.specs.declared.fault.Halt.TheVariants.{Two, Worn}
 use Rattle.paraid_base.specs.Told.{HasRisen}
 use Rattle.paraid_base.proofs.ToldLemmas.{HasRisen-sooner}
+use Rattle.paraid_serve.specs.declared.stop.Stop.TheVariants.{Source, TooLong, Sink, Halt as Halts}
 use Rattle.paraid_serve.specs.Ending.{EndsWithLine, status_of_halt}
 use Rattle.paraid_serve.specs.Output.{IsServedStatus}
 
@@ -32,3 +33,33 @@ halt_served (Worn count) = inr (inr (inr (inr (inr refl))))
 pub halt_high : (halt : Halt) (n : ℕ) → n ≤ 4 → n ≢ status_of_halt halt
 halt_high (Two two) n low is = omega arith
 halt_high (Worn count) n low is = omega arith
+
+-- counts do not fall from part to part
+pub not_fallen : (a b c : ℕ) → a ≤ b → b ≤ c → a ≤ c
+not_fallen a b c first second = omega arith
+
+-- answers that differ
+module _ {A E : Type 0} where
+  pub ok_not_err : {a : A} {e : E} → ◌≡◌ {A = Result A E} (Ok a) (Err e) → ⊥
+  ok_not_err is = cc
+
+  pub err_is : {e f : E} → ◌≡◌ {A = Result A E} (Err e) (Err f) → e ≡ f
+  err_is is = cc
+
+pub source_not_sink : Source ≢ Sink
+source_not_sink is = cc
+
+pub too_long_not_source : TooLong ≢ Source
+too_long_not_source is = cc
+
+pub too_long_not_sink : TooLong ≢ Sink
+too_long_not_sink is = cc
+
+pub sink_not_source : Sink ≢ Source
+sink_not_source is = cc
+
+pub halt_not_source : (halt : Halt) → Halts halt ≢ Source
+halt_not_source halt is = cc
+
+pub halt_not_sink : (halt : Halt) → Halts halt ≢ Sink
+halt_not_sink halt is = cc

@@ -1,3 +1,4 @@
+use Rattle.paraid_serve.proofs.StatusLemmas.{ok_not_err}
 use Rattle.paraid_serve.proofs.HearLemmas.{heard_end, heard_whole, heard_long, heard_fault, risen_by, taken_by}
 use Rattle.paraid_serve.proofs.hear.hear.Goals as goal
 
@@ -8,8 +9,8 @@ returns-in-Ok-Whole g c = record {
       heard_whole (rw c.in-Ok-Whole.field-0-is at (c.in-Ok-Whole.ensures.step c.requires)) e;
   goes_on = c.in-Ok-Whole.ensures.cause c.requires;
   later = c.next.ensures.later;
-  cause = λ is. cc;
-  too_long = λ n is. cc;
+  cause = λ is. absurd (ok_not_err is);
+  too_long = λ n is. absurd (ok_not_err is);
 }
 
 pub returns-in-Ok-Long : goal.returns-in-Ok-Long
@@ -17,8 +18,8 @@ returns-in-Ok-Long g c = record {
   heard = heard_long (rw c.in-Ok-Long.field-0-is at (c.in-Ok-Long.ensures.step c.requires));
   goes_on = c.in-Ok-Long.ensures.cause c.requires;
   later = c.next.ensures.later;
-  cause = λ is. cc;
-  too_long = λ n is. cc;
+  cause = λ is. absurd (ok_not_err is);
+  too_long = λ n is. absurd (ok_not_err is);
 }
 
 pub returns-in-Err : goal.returns-in-Err
@@ -35,6 +36,6 @@ returns-in-Ok-End g c = record {
   heard = heard_end (rw c.in-Ok-End.field-0-is at (c.in-Ok-End.ensures.step c.requires));
   goes_on = c.in-Ok-End.ensures.cause c.requires;
   later = c.next.ensures.later;
-  cause = λ is. cc;
-  too_long = λ n is. cc;
+  cause = λ is. absurd (ok_not_err is);
+  too_long = λ n is. absurd (ok_not_err is);
 }

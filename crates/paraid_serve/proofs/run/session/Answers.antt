@@ -1,9 +1,11 @@
-use Rattle.std.proofs.Common.{sym, ◌∙◌, arith, refl}
+use Rattle.std.specs.Prelude.{Err}
+use Rattle.std.proofs.Common.{ap, sym, ◌∙◌, arith, refl}
 use Rattle.paraid_trace.specs.Answered.{answer_with}
 use Rattle.paraid_base.proofs.ToldLemmas.{HasRisen-sooner}
 use Rattle.paraid_serve.proofs.GrowsLemmas.{grows_none, grows_then, told_then}
 use Rattle.paraid_serve.proofs.HearLemmas.{less_to_take}
 use Rattle.paraid_serve.proofs.HaltLemmas.{no_event_yet}
+use Rattle.paraid_serve.proofs.StatusLemmas.{err_is, halt_not_sink, halt_not_source, not_fallen, ok_not_err, sink_not_source, source_not_sink, too_long_not_sink, too_long_not_source}
 use Rattle.paraid_serve.proofs.Sofar.{sofar_start, sofar_more, ends_well, ends_halted, ends_at_source, ends_too_long, ends_at_sink}
 use Rattle.paraid_serve.proofs.run.session.Goals as goal
 
@@ -32,8 +34,8 @@ lines-preserved g c =
       setup = e.setup ∙ i.setup;
       halt = e.halt;
       since = e.since (g.A.Serves.slot c.args.array.now) i.since;
-      source = omega (arith, i.source, c.in-Ok-Some.ensures.later);
-      sink = omega (arith, i.sink, k.later);
+      source = not_fallen _ _ _ i.source c.in-Ok-Some.ensures.later;
+      sink = not_fallen _ _ _ i.sink k.later;
     }
 
 pub returns-in-Err-Source : goal.returns-in-Err-Source
@@ -44,23 +46,23 @@ returns-in-Err-Source g c = record {
   going = tt;
   failed = tt;
   worn = tt;
-  source = λ is. HasRisen-sooner _ _ _ c.lines.invariant.source (c.in-Err-Source.ensures.cause (cc));
-  sink = λ is. cc;
-  later_source = omega (arith, c.lines.invariant.source, c.in-Err-Source.ensures.later);
+  source = λ is. HasRisen-sooner _ _ _ c.lines.invariant.source (c.in-Err-Source.ensures.cause (ap Err c.in-Err-Source.field-0-is));
+  sink = λ is. absurd (source_not_sink (err_is is));
+  later_source = not_fallen _ _ _ c.lines.invariant.source c.in-Err-Source.ensures.later;
   later_sink = c.lines.invariant.sink;
 }
 
 pub returns-in-Err-TooLong : goal.returns-in-Err-TooLong
 returns-in-Err-TooLong g c = record {
-  session = ends_too_long c.lines.invariant.sofar c.in-Err-TooLong.ensures.heard (c.in-Err-TooLong.ensures.too_long c.in-Err-TooLong.field-0-0 (cc));
+  session = ends_too_long c.lines.invariant.sofar c.in-Err-TooLong.ensures.heard (c.in-Err-TooLong.ensures.too_long c.in-Err-TooLong.field-0-0 (ap Err c.in-Err-TooLong.field-0-is));
   told = c.lines.invariant.told;
   setup = c.lines.invariant.setup;
   going = tt;
   failed = tt;
   worn = tt;
-  source = λ is. cc;
-  sink = λ is. cc;
-  later_source = omega (arith, c.lines.invariant.source, c.in-Err-TooLong.ensures.later);
+  source = λ is. absurd (too_long_not_source (err_is is));
+  sink = λ is. absurd (too_long_not_sink (err_is is));
+  later_source = not_fallen _ _ _ c.lines.invariant.source c.in-Err-TooLong.ensures.later;
   later_sink = c.lines.invariant.sink;
 }
 
@@ -77,10 +79,10 @@ returns-in_default g c = record {
   going = tt;
   failed = tt;
   worn = tt;
-  source = λ is. cc;
+  source = λ is. absurd (sink_not_source (err_is is));
   sink = λ is. HasRisen-sooner _ _ _ c.lines.invariant.sink c.in_default.ensures.cause;
-  later_source = omega (arith, c.lines.invariant.source, c.in-Ok-Some.ensures.later);
-  later_sink = omega (arith, c.lines.invariant.sink, c.write_all.ensures.later);
+  later_source = not_fallen _ _ _ c.lines.invariant.source c.in-Ok-Some.ensures.later;
+  later_sink = not_fallen _ _ _ c.lines.invariant.sink c.write_all.ensures.later;
 }
 
 pub returns-in-Ok-finish : goal.returns-in-Ok-finish
@@ -94,9 +96,9 @@ returns-in-Ok-finish g c = record {
   going = c.in-Ok-finish.ensures.going;
   failed = tt;
   worn = tt;
-  source = λ is. cc;
-  sink = λ is. cc;
-  later_source = omega (arith, c.lines.invariant.source, c.in-Ok-None.ensures.later);
+  source = λ is. absurd (ok_not_err is);
+  sink = λ is. absurd (ok_not_err is);
+  later_source = not_fallen _ _ _ c.lines.invariant.source c.in-Ok-None.ensures.later;
   later_sink = c.lines.invariant.sink;
 }
 
@@ -111,9 +113,9 @@ returns-in-Err g c = record {
   going = tt;
   failed = (c.in-Err.ensures.since (g.A.Serves.slot c.args.array.now) c.lines.invariant.since).lost;
   worn = c.in-Err.ensures.worn;
-  source = λ is. cc;
-  sink = λ is. cc;
-  later_source = omega (arith, c.lines.invariant.source, c.in-Ok-None.ensures.later);
+  source = λ is. absurd (halt_not_source c.in-Err.halt (err_is is));
+  sink = λ is. absurd (halt_not_sink c.in-Err.halt (err_is is));
+  later_source = not_fallen _ _ _ c.lines.invariant.source c.in-Ok-None.ensures.later;
   later_sink = c.lines.invariant.sink;
 }
 

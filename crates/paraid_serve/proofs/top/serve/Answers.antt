@@ -1,11 +1,12 @@
-use Rattle.std.proofs.Common.{arith, inl, inr, refl, subst, sym, ◌∙◌}
+use Rattle.std.specs.Prelude.{Err}
+use Rattle.std.proofs.Common.{ap, arith, inl, inr, refl, subst, sym, ◌∙◌}
 use Rattle.paraid_base.proofs.ToldLemmas.{GrowsByBytes-then, HasRisen-sooner}
 use Rattle.paraid_record.specs.declared.meta.Setup.{Setup}
 use Rattle.paraid_serve.specs.Calls.{IsNotDouble}
 use Rattle.paraid_serve.specs.Output.{IsServedStatus}
 use Rattle.paraid_serve.proofs.GrowsLemmas.{grows_none}
 use Rattle.paraid_serve.proofs.HaltLemmas.{names_two, tells_wear}
-use Rattle.paraid_serve.proofs.StatusLemmas.{halt_high, halt_served, other, served, sink_failed}
+use Rattle.paraid_serve.proofs.StatusLemmas.{not_fallen, halt_high, halt_served, other, served, sink_failed}
 use Rattle.paraid_serve.proofs.TopLemmas.{done_run, halted_run, source_run, too_long_run, sink_run, no_mount_run}
 use Rattle.paraid_serve.proofs.top.serve.Goals as goal
 
@@ -19,7 +20,7 @@ returns-in-Ok-session g c = record {
   two = λ is. absurd (other _ _ _ _ _ c.last.ensures.ends 5 (λ e. omega arith) (λ e. omega arith) is);
   worn = λ is. absurd (other _ _ _ _ _ c.last.ensures.ends 12 (λ e. omega arith) (λ e. omega arith) is);
   source = λ is. absurd (other _ _ _ _ _ c.last.ensures.ends 3 (λ e. omega arith) (λ e. omega arith) is);
-  sink = λ is. sink_failed _ _ _ _ _ c.last.ensures.cause (λ e. omega arith) (omega (arith, c.write_all.ensures.later, c.session.ensures.later_sink)) is;
+  sink = λ is. sink_failed _ _ _ _ _ c.last.ensures.cause (λ e. omega arith) (not_fallen _ _ _ c.write_all.ensures.later c.session.ensures.later_sink) is;
 }
 
 pub returns-in-Err-Source : goal.returns-in-Err-Source
@@ -31,8 +32,8 @@ returns-in-Err-Source g c = record {
   present = λ is. absurd (other _ _ _ _ _ c.last-in-Err-Source.ensures.ends 0 (λ e. omega arith) (λ e. omega arith) is);
   two = λ is. absurd (other _ _ _ _ _ c.last-in-Err-Source.ensures.ends 5 (λ e. omega arith) (λ e. omega arith) is);
   worn = λ is. absurd (other _ _ _ _ _ c.last-in-Err-Source.ensures.ends 12 (λ e. omega arith) (λ e. omega arith) is);
-  source = λ is. c.in-Err-Source.ensures.source (cc);
-  sink = λ is. sink_failed _ _ _ _ _ c.last-in-Err-Source.ensures.cause (λ e. omega arith) (omega (arith, c.write_all.ensures.later, c.session.ensures.later_sink)) is;
+  source = λ is. c.in-Err-Source.ensures.source (ap Err c.in-Err-Source.field-0-is);
+  sink = λ is. sink_failed _ _ _ _ _ c.last-in-Err-Source.ensures.cause (λ e. omega arith) (not_fallen _ _ _ c.write_all.ensures.later c.session.ensures.later_sink) is;
 }
 
 pub returns-in-Err-TooLong : goal.returns-in-Err-TooLong
@@ -45,7 +46,7 @@ returns-in-Err-TooLong g c = record {
   two = λ is. absurd (other _ _ _ _ _ c.last-in-Err-TooLong.ensures.ends 5 (λ e. omega arith) (λ e. omega arith) is);
   worn = λ is. absurd (other _ _ _ _ _ c.last-in-Err-TooLong.ensures.ends 12 (λ e. omega arith) (λ e. omega arith) is);
   source = λ is. absurd (other _ _ _ _ _ c.last-in-Err-TooLong.ensures.ends 3 (λ e. omega arith) (λ e. omega arith) is);
-  sink = λ is. sink_failed _ _ _ _ _ c.last-in-Err-TooLong.ensures.cause (λ e. omega arith) (omega (arith, c.write_all.ensures.later, c.session.ensures.later_sink)) is;
+  sink = λ is. sink_failed _ _ _ _ _ c.last-in-Err-TooLong.ensures.cause (λ e. omega arith) (not_fallen _ _ _ c.write_all.ensures.later c.session.ensures.later_sink) is;
 }
 
 pub returns-in-Err-Sink : goal.returns-in-Err-Sink
@@ -58,7 +59,7 @@ returns-in-Err-Sink g c = record {
   two = λ is. absurd (omega (arith, is));
   worn = λ is. absurd (omega (arith, is));
   source = λ is. absurd (omega (arith, is));
-  sink = λ is. HasRisen-sooner _ _ _ c.write_all.ensures.later (c.in-Err-Sink.ensures.sink (cc));
+  sink = λ is. HasRisen-sooner _ _ _ c.write_all.ensures.later (c.in-Err-Sink.ensures.sink (ap Err c.in-Err-Sink.field-0-is));
 }
 
 pub returns-in-Err-Halt : goal.returns-in-Err-Halt
@@ -80,7 +81,7 @@ returns-in-Err-Halt g c = record {
       (GrowsByBytes-then _ _ _ _ _ (rw (c.as_slice.ensures.value, c.mount_text.ensures) at c.in-Ok.ensures.grows) session.grows)
       (rw (c.as_slice-in-Err-Halt.ensures.value, c.reply.ensures.value, c.halt_status.ensures) at c.last-in-Err-Halt.ensures.ends) twelve;
   source = λ is. absurd (other _ _ _ _ _ c.last-in-Err-Halt.ensures.ends 3 (λ e. omega arith) (λ e. halt_high c.in-Err-Halt.halt 3 (omega arith) (e ∙ c.halt_status.ensures)) is);
-  sink = λ is. sink_failed _ _ _ _ _ c.last-in-Err-Halt.ensures.cause (λ e. halt_high c.in-Err-Halt.halt 4 (omega arith) (sym e ∙ c.halt_status.ensures)) (omega (arith, c.write_all.ensures.later, c.session.ensures.later_sink)) is;
+  sink = λ is. sink_failed _ _ _ _ _ c.last-in-Err-Halt.ensures.cause (λ e. halt_high c.in-Err-Halt.halt 4 (omega arith) (sym e ∙ c.halt_status.ensures)) (not_fallen _ _ _ c.write_all.ensures.later c.session.ensures.later_sink) is;
 }
 
 pub returns-in_default : goal.returns-in_default
