@@ -1,6 +1,6 @@
 -- What a `?` hands on of a call that failed.
 use Rattle.std.proofs.Common.{sym, subst}
-use Rattle.std.specs.Prelude.{◌≡◌, Result, Ok, Err, OnOk, IfOk, IfErr, IsErrAnd}
+use Rattle.std.specs.Prelude.{◌≡◌, Option, Some, None, Result, Ok, Err, OnOk, IfOk, IfErr, IsErrAnd}
 
 pub none_done : {A E : Type 0} (P : Type 0) (r : Result A E) (e : E) → IsErrAnd r (λ x. x ≡ e) → OnOk r P
 none_done P (Ok a) e is = absurd is
@@ -22,3 +22,6 @@ handed P (Err x) e is p = subst P (sym is) p
 pub on_ok_any : {A E P : Type 0} (r : Result A E) → P → OnOk r P
 on_ok_any (Ok a) p = p
 on_ok_any (Err e) p = tt
+
+pub some_not_none : {A E : Type 0} {a : A} → ◌≡◌ {A = Result (Option A) E} (Ok (Some a)) (Ok None) → ⊥
+some_not_none is = cc

@@ -6,7 +6,7 @@ use Rattle.paraid_rack.specs.Disks.{is_present}
 use Rattle.paraid_rack.specs.Slots.{Slot}
 use Rattle.paraid_recover.proofs.LogReadsLemmas.{log_none, log_raised}
 use Rattle.paraid_recover.proofs.LogReadsLemmas.{spins_by}
-use Rattle.paraid_recover.proofs.RaisedLemmas.{handed, none_done_as, none_done_if}
+use Rattle.paraid_recover.proofs.RaisedLemmas.{some_not_none, handed, none_done_as, none_done_if}
 use Rattle.paraid_recover.proofs.both.hear_if_there.Goals as goal
 
 pub hear-requires : goal.hear-requires
@@ -50,6 +50,6 @@ returns g c =
       heard = c.in_ok-heard.ensures.heard;
       form = c.in_ok-heard.ensures.form;
       power = ap (λ (s : Slot). s.power) (c.in_ok-heard.ensures.reads.same (refl {a = true}) c.args.disk) ∙ spins;
-      silent = λ is. cc;
+      silent = λ is. absurd (some_not_none is);
       was = tt;
     }

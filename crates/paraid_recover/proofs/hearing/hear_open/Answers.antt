@@ -1,3 +1,4 @@
+use Rattle.std.proofs.lemmas.Bool.{true≢false}
 use Rattle.std.specs.Prelude.{false}
 use Rattle.std.specs.Prelude.{true}
 use Rattle.std.proofs.Common.{arith, refl, sym, ◌∙◌, ap, subst, ◌≡◌, Some}
@@ -128,6 +129,6 @@ returns g c =
       form = (
         c.in-Some.ensures.some.0,
         subst (λ (ts : List Target). AreTargets c.in-Some.meta.setup.geometry ts) (sym c.in_ok-hear_body.ensures.named) c.in-Some-read_targets.ensures.some.0,
-        λ is. cc,
+        λ is. absurd (true≢false is),
       );
     }
